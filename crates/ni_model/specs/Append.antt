@@ -1,0 +1,165 @@
+-- Appending an entry, with the unexpected headers that it takes, and searching them (Portals 4.3, list entries and searching).
+use Rattle.std.specs.Prelude.{ℕ, Bool, ◌||◌, not, nat_le, ◌+◌, List, Option, Some, None, [], ◌∷◌, ◌++◌, if◌then◌else◌, length, sum_by, is_some, slice_set}
+use Rattle.ptl_types.specs.declared.handles.Handle.{Handle}
+use Rattle.ptl_types.specs.declared.handles.Count.{Count}
+use Rattle.ptl_types.specs.declared.entries.Entry.{Entry}
+use Rattle.ptl_types.specs.declared.entries.List.{List as Place}
+use Rattle.ptl_types.specs.declared.entries.List.TheVariants.{Priority, Overflow}
+use Rattle.ptl_types.specs.declared.entries.UnexpectedHeader.{UnexpectedHeader}
+use Rattle.ptl_types.specs.declared.events.EventKind.{EventKind}
+use Rattle.ptl_types.specs.declared.events.EventKind.TheVariants.{Search}
+use Rattle.ptl_types.specs.declared.calls.Appended.{Appended}
+use Rattle.ptl_types.specs.declared.calls.Appended.TheVariants.{Linked as IsLinked, Consumed}
+use Rattle.ptl_types.specs.declared.calls.NiFault.{NiFault}
+use Rattle.ptl_types.specs.declared.calls.NiFault.TheVariants.{Stale, NoSpace, OutOfRegion}
+use Rattle.ptl_types.specs.Handles.{top}
+use Rattle.ni_model.specs.declared.Linked.{Linked}
+use Rattle.ni_model.specs.declared.Noted.{Noted}
+use Rattle.ni_model.specs.Tables.{Table, handle, where_set, is_live_or_none}
+use Rattle.ni_model.specs.Counts.{successes, counted}
+use Rattle.ni_model.specs.Queues.{Waiting, raised}
+use Rattle.ni_model.specs.Lists.{Index, index_at, queue_of, with_list, is_linked_at, entries_in}
+use Rattle.ni_model.specs.Headers.{oldest, without_oldest, found_in, left_in, names_entry}
+use Rattle.ni_model.specs.Events.{header_event, kind_taken, link_event, free_event, missed_event}
+use Rattle.ni_model.specs.Arrive.{Side, Parts, parts}
+
+-- ---- refusals, the lowest number first
+
+-- the fault, where the test fails; else what comes later
+abbrev pub need : Bool → NiFault → Option NiFault → Option NiFault
+need test fault later = if test then later else Some fault
+
+abbrev pub is_allocated : ℕ → Side → Bool
+is_allocated pt s = is_some (index_at pt s.indices)
+
+abbrev pub linked_count : Side → ℕ
+linked_count s = sum_by entries_in s.indices
+
+-- a part that reaches past the end
+abbrev pub is_within : ℕ → ℕ → ℕ → Bool
+is_within start size end = nat_le (start + size) end
+
+abbrev pub append_fault : ℕ → Entry → Parts → Option NiFault
+append_fault pt e p =
+    need (is_allocated pt p.side) Stale
+    (need (is_live_or_none e.ct p.cts) Stale
+    (need (not (nat_le p.side.limit (linked_count p.side) || nat_le top p.side.given)) NoSpace
+    (need (is_within e.start e.length (length p.region)) OutOfRegion None)))
+
+-- ---- the entry is linked at the end of its list
+
+abbrev pub next_handle : ℕ → Side → Handle
+next_handle slot s = handle slot s.given
+
+abbrev pub fresh : Handle → Entry → Linked
+fresh me e = record { handle = me; running = 0; entry = e }
+
+abbrev pub linked_at : Place → Linked → Option Index → Option Index
+linked_at place x None = None
+linked_at place x (Some i) = Some (with_list place (λ xs. xs ++ x ∷ []) i)
+
+abbrev pub link_side : ℕ → ℕ → Place → Entry → Side → Side
+link_side slot pt place e s = record s { indices = slice_set s.indices pt (linked_at place (fresh (next_handle slot s) e) (index_at pt s.indices)); given = s.given + 1 }
+
+abbrev pub queue_at : ℕ → Side → Option Handle
+queue_at pt s = queue_of (index_at pt s.indices)
+
+abbrev pub link_entry : ℕ → ℕ → Place → Entry → Parts → Parts
+link_entry slot pt place e p = record p { side = link_side slot pt place e p.side; eqs = raised (queue_at pt p.side) (link_event pt e.match_bits) p.eqs }
+
+-- ---- headers go
+
+-- the overflow entry that the header a names is free: it is unlinked, and none of the headers that are left names it
+abbrev pub frees : Side → List Noted → Noted → Bool
+frees s left a = not (is_linked_at Overflow a.header.entry (index_at a.pt s.indices) || names_entry a.header.entry left)
+
+-- the event of a header that goes, and directly after it the freeing of its entry
+abbrev pub gone_raised : EventKind → Side → List Noted → Noted → Table Waiting → Table Waiting
+gone_raised kind s left a eqs =
+    let told = raised (queue_at a.pt s) (header_event kind a) eqs in
+    if frees s left a then raised (queue_at a.pt s) (free_event a.pt) told else told
+
+-- found headers go one after the other, while those in `stay` stay
+abbrev pub each_gone : Side → List Noted → List Noted → Table Waiting → Table Waiting
+each_gone s stay [] eqs = eqs
+each_gone s stay (a ∷ found) eqs = each_gone s stay found (gone_raised (kind_taken a.header.header.kind) s (stay ++ found) a eqs)
+
+-- one count for each header that is taken
+abbrev pub each_counted : Option Handle → List Noted → Table Count → Table Count
+each_counted ct [] cts = cts
+each_counted ct (a ∷ found) cts = each_counted ct found (counted ct (successes 1) cts)
+
+abbrev pub overflow_counter : Entry → Option Handle
+overflow_counter e = where_set e.count_overflow e.ct
+
+abbrev pub with_noted : List Noted → Side → Side
+with_noted hs s = record s { headers = record s.headers { noted = hs } }
+
+-- a persistent entry takes all found headers, in order of arrival
+abbrev pub take_all : ℕ → Entry → Parts → Parts
+take_all pt e p =
+    parts
+    (with_noted (left_in pt e p.side.headers.noted) p.side)
+    p.region
+    (each_counted (overflow_counter e) (found_in pt e p.side.headers.noted) p.cts)
+    (each_gone p.side (left_in pt e p.side.headers.noted) (found_in pt e p.side.headers.noted) p.eqs)
+
+-- a use-once entry takes the oldest
+abbrev pub take_oldest : ℕ → Entry → Noted → Parts → Parts
+take_oldest pt e a p =
+    parts
+    (with_noted (without_oldest pt e p.side.headers.noted) p.side)
+    p.region
+    (counted (overflow_counter e) (successes 1) p.cts)
+    (gone_raised (kind_taken a.header.header.kind) p.side (without_oldest pt e p.side.headers.noted) a p.eqs)
+
+-- ---- the append, where it isn't refused; `slot` is the slot that the new handle gets
+
+pub record Appends : Type 0 where
+  pub parts : Parts
+  pub appended : Appended
+  pub counted : Option Handle
+
+-- the counter that rose: that of the entry, where a header was taken
+abbrev pub counted_by : Entry → List Noted → Option Handle
+counted_by e [] = None
+counted_by e (a ∷ hs) = overflow_counter e
+
+abbrev pub linked_as : ℕ → ℕ → Place → Entry → List Noted → Parts → Appends
+linked_as slot pt place e found p = record { parts = link_entry slot pt place e p; appended = IsLinked (next_handle slot p.side); counted = counted_by e found }
+
+abbrev pub append_once : ℕ → ℕ → Entry → Parts → Option Noted → Appends
+append_once slot pt e p None = linked_as slot pt Priority e [] p
+append_once slot pt e p (Some a) = record { parts = take_oldest pt e a p; appended = Consumed a.header; counted = overflow_counter e }
+
+abbrev pub append_priority : ℕ → ℕ → Entry → Parts → Appends
+append_priority slot pt e p =
+    if e.use_once
+    then append_once slot pt e p (oldest pt e p.side.headers.noted)
+    else linked_as slot pt Priority e (found_in pt e p.side.headers.noted) (take_all pt e p)
+
+unfoldable pub append : ℕ → ℕ → Place → Entry → Parts → Appends
+append slot pt Priority e p = append_priority slot pt e p
+append slot pt Overflow e p = linked_as slot pt Overflow e [] p
+
+-- ---- the search finds the oldest header alone, whether the entry is use-once or persistent, and deletes it where asked
+
+pub record Searched : Type 0 where
+  pub parts : Parts
+  pub found : Option UnexpectedHeader
+
+abbrev pub search_fault : ℕ → Parts → Option NiFault
+search_fault pt p = need (is_allocated pt p.side) Stale None
+
+abbrev pub found_header : ℕ → Entry → Bool → Noted → Parts → Parts
+found_header pt e delete a p =
+    if delete
+    then record p { side = with_noted (without_oldest pt e p.side.headers.noted) p.side; eqs = gone_raised Search p.side (without_oldest pt e p.side.headers.noted) a p.eqs }
+    else record p { eqs = raised (queue_at pt p.side) (header_event Search a) p.eqs }
+
+abbrev pub searched_at : ℕ → Entry → Bool → Parts → Option Noted → Searched
+searched_at pt e delete p None = record { parts = record p { eqs = raised (queue_at pt p.side) (missed_event pt e.match_bits) p.eqs }; found = None }
+searched_at pt e delete p (Some a) = record { parts = found_header pt e delete a p; found = Some a.header }
+
+unfoldable pub search : ℕ → Entry → Bool → Parts → Searched
+search pt e delete p = searched_at pt e delete p (oldest pt e p.side.headers.noted)

@@ -1,0 +1,226 @@
+-- What a request does at its target: an entry is chosen and judged, and then five effects that don't look at one another
+-- (Portals 4.3, matching, overflow lists and the operations at the target).
+use Rattle.std.specs.Prelude.{ℕ, Bool, true, false, ◌&&◌, ◌||◌, ◌==◌, nat_lt, ◌+◌, ◌-◌, ◌/◌, ◌%◌, List, Option, Some, None, [], ◌∷◌, ◌++◌, min, if◌then◌else◌, length, find, take, slice_set}
+use Rattle.ptl_types.specs.declared.handles.Handle.{Handle}
+use Rattle.ptl_types.specs.declared.handles.Count.{Count}
+use Rattle.ptl_types.specs.declared.elements.ElemType.{ElemType}
+use Rattle.ptl_types.specs.declared.elements.AtomicOp.{AtomicOp}
+use Rattle.ptl_types.specs.declared.elements.SwapOp.{SwapOp}
+use Rattle.ptl_types.specs.declared.headers.Header.{Header}
+use Rattle.ptl_types.specs.declared.headers.MessageKind.{MessageKind}
+use Rattle.ptl_types.specs.declared.headers.MessageKind.TheVariants.{Put, Atomic, FetchAtomic, Swap, Ack as AckKind, Reply}
+use Rattle.ptl_types.specs.declared.headers.AckRequest.TheVariants.{NoAck}
+use Rattle.ptl_types.specs.declared.entries.List.{List as Place}
+use Rattle.ptl_types.specs.declared.entries.List.TheVariants.{Priority, Overflow as InOverflow}
+use Rattle.ptl_types.specs.declared.calls.Outcome.{Outcome}
+use Rattle.ptl_types.specs.declared.calls.Outcome.TheVariants.{Matched, Overflow, Dropped, Violation}
+use Rattle.ptl_types.specs.Operations.{bytes_of, swapped}
+use Rattle.ptl_types.specs.Elements.{by_element, combined, part, written}
+use Rattle.ptl_types.specs.Kinds.{is_put_or_atomic, is_no_ack, has_elements}
+use Rattle.ptl_types.specs.Messages.{Sent, message}
+use Rattle.ni_model.specs.declared.Linked.{Linked}
+use Rattle.ni_model.specs.declared.Found.{Found}
+use Rattle.ni_model.specs.declared.Arrived.{Arrived}
+use Rattle.ni_model.specs.Tables.{Table, where_set}
+use Rattle.ni_model.specs.Counts.{successes, counted}
+use Rattle.ni_model.specs.Queues.{Waiting, raised}
+use Rattle.ni_model.specs.Lists.{Index, index_at, queue_of, offset_in, space_in, fits, unlinked, advanced, with_list}
+use Rattle.ni_model.specs.Headers.{Held, no_room, allows}
+use Rattle.ni_model.specs.Events.{message_event, unlink_event, kind_delivered}
+
+-- ---- choose: the first of the priority entries that fits, else, for a put or an atomic, the first of the overflow entries
+
+abbrev pub or_else : {A : Type 0} → Option A → Option A → Option A
+or_else None y = y
+or_else (Some x) y = Some x
+
+abbrev pub as_found : Place → Option Linked → Option Found
+as_found place None = None
+as_found place (Some x) = Some (record { list = place; linked = x })
+
+abbrev pub choose : Header → Index → Option Found
+choose h i = or_else (as_found Priority (find (fits h) i.priority)) (if is_put_or_atomic h.kind then as_found InOverflow (find (fits h) i.overflow) else None)
+
+abbrev pub chosen_at : Header → Option Index → Option Found
+chosen_at h None = None
+chosen_at h (Some i) = choose h i
+
+-- none where the portal table index isn't allocated
+abbrev pub chosen : Header → List (Option Index) → Option Found
+chosen h is = chosen_at h (index_at h.pt is)
+
+-- ---- how much is delivered, and where
+
+-- atomics and swaps come in whole elements
+abbrev pub whole : MessageKind → ElemType → ℕ → ℕ
+whole kind ty n = if has_elements kind then n - n % bytes_of ty else n
+
+abbrev pub delivered : Linked → Header → ℕ
+delivered x h = whole h.kind h.ty (min h.length (space_in x h))
+
+-- the first byte; 0 where nothing is delivered
+abbrev pub place : Linked → Header → ℕ
+place x h = if delivered x h == 0 then 0 else x.entry.start + offset_in x h
+
+-- the bytes that stood there, which a get reads and a fetching operation gives back
+abbrev pub old_bytes : Linked → Header → List ℕ → List ℕ
+old_bytes x h memory = part (place x h) (delivered x h) memory
+
+-- ---- 1. memory
+
+abbrev pub combined_by : Option AtomicOp → ElemType → List ℕ → List ℕ → List ℕ
+combined_by None ty old new = old
+combined_by (Some o) ty old new = combined o ty old new
+
+abbrev pub swapped_by : Option SwapOp → Header → List ℕ → List ℕ → List ℕ
+swapped_by None h old new = old
+swapped_by (Some s) h old new = by_element (swapped s h.ty h.operand) (bytes_of h.ty) (length old / bytes_of h.ty) old new
+
+-- the bytes that an operation writes over the old ones
+abbrev pub new_bytes : MessageKind → Header → List ℕ → List ℕ → List ℕ
+new_bytes Atomic h old new = combined_by h.op h.ty old new
+new_bytes FetchAtomic h old new = combined_by h.op h.ty old new
+new_bytes Swap h old new = swapped_by h.swap h old new
+new_bytes _ h old new = new
+
+abbrev pub writes : MessageKind → Bool
+writes Put = true
+writes Atomic = true
+writes FetchAtomic = true
+writes Swap = true
+writes _ = false
+
+-- a get writes nothing
+abbrev pub memory_after : Linked → Sent → List ℕ → List ℕ
+memory_after x m memory =
+    if writes m.header.kind
+    then written (place x m.header) (new_bytes m.header.kind m.header (old_bytes x m.header memory) (take (delivered x m.header) m.bytes)) memory
+    else memory
+
+-- ---- 2. counting events: one success for each message delivered, in either list
+
+abbrev pub counter_of : Linked → Option Handle
+counter_of x = where_set x.entry.count_comm x.entry.ct
+
+abbrev pub counts_after : Linked → Table Count → Table Count
+counts_after x cts = counted (counter_of x) (successes 1) cts
+
+-- ---- 3. entries
+
+abbrev pub running_after : Linked → Header → ℕ
+running_after x h = x.running + delivered x h
+
+-- a use-once entry goes with its first message, a locally managed one where less than `min_free` is left
+abbrev pub is_over : Linked → Header → Bool
+is_over x h = x.entry.use_once || (x.entry.manage_local && nat_lt (x.entry.length - running_after x h) x.entry.min_free)
+
+-- a persistent entry that isn't locally managed stays as it is
+abbrev pub entries_after : Linked → Header → List Linked → List Linked
+entries_after x h xs =
+    if is_over x h then unlinked x.handle xs
+    else (if x.entry.manage_local then advanced x.handle (running_after x h) xs else xs)
+
+abbrev pub settled : Found → Header → Index → Index
+settled f h i = with_list f.list (entries_after f.linked h) i
+
+abbrev pub settled_at : Found → Header → Option Index → Option Index
+settled_at f h None = None
+settled_at f h (Some i) = Some (settled f h i)
+
+abbrev pub indices_after : Found → Header → List (Option Index) → List (Option Index)
+indices_after f h is = slice_set is h.pt (settled_at f h (index_at h.pt is))
+
+-- ---- 4. unexpected headers: a message in the overflow list leaves one
+
+abbrev pub headers_after : Found → Header → Held → Held
+headers_after f h hs =
+    elim f.list [
+      | Priority ↦ hs
+      | InOverflow ↦ record hs { noted = hs.noted ++ (record { pt = h.pt; header = record { entry = f.linked.handle; place = place f.linked h; delivered = delivered f.linked h; header = h } }) ∷ [] }
+    ]
+
+-- ---- 5. events: the message's, in the priority list alone, and then the unlinking's
+
+abbrev pub delivery_raised : Found → Header → Option Handle → Table Waiting → Table Waiting
+delivery_raised f h eq eqs = elim f.list [ Priority ↦ raised eq (message_event (kind_delivered h.kind) h (delivered f.linked h) (place f.linked h)) eqs | InOverflow ↦ eqs ]
+
+abbrev pub events_after : Found → Header → Option Handle → Table Waiting → Table Waiting
+events_after f h eq eqs =
+    if is_over f.linked h then raised eq (unlink_event h.pt f.linked.entry.match_bits) (delivery_raised f h eq eqs) else delivery_raised f h eq eqs
+
+-- ---- the answer: an acknowledgement where a put or an atomic asked for one, else a reply
+
+-- the message's header with the ranks exchanged
+abbrev pub ack_header : Bool → ℕ → Header → Header
+ack_header ok count h = record h { kind = AckKind; source = h.target; target = h.source; offset = 0; length = if ok then count else 0; op = None; swap = None; operand = 0; ok = ok }
+
+abbrev pub reply_header : Bool → ℕ → Header → Header
+reply_header ok count h = record h { kind = Reply; source = h.target; target = h.source; offset = 0; length = if ok then count else 0; op = None; swap = None; operand = 0; ack = NoAck; ok = ok }
+
+abbrev pub answer : Bool → ℕ → List ℕ → Header → Option Sent
+answer ok count bytes h =
+    if is_put_or_atomic h.kind
+    then (if is_no_ack h.ack then None else Some (message (ack_header ok count h) []))
+    else Some (message (reply_header ok count h) (if ok then bytes else []))
+
+-- ---- a request
+
+-- what belongs to a target: its rank, how many entries may be linked, the indices by number, the stamps given to entries, the headers
+pub record Side : Type 0 where
+  pub rank : ℕ
+  pub limit : ℕ
+  pub indices : List (Option Index)
+  pub given : ℕ
+  pub headers : Held
+
+-- and with it what is handed to a target: the region, the counting events and the event queues
+pub record Parts : Type 0 where
+  pub side : Side
+  pub region : List ℕ
+  pub cts : Table Count
+  pub eqs : Table Waiting
+
+abbrev pub parts : Side → List ℕ → Table Count → Table Waiting → Parts
+parts side region cts eqs = record { side = side; region = region; cts = cts; eqs = eqs }
+
+pub record Received : Type 0 where
+  pub parts : Parts
+  pub arrived : Arrived
+
+abbrev pub received : Parts → Arrived → Received
+received p a = record { parts = p; arrived = a }
+
+abbrev pub refused : Outcome → Header → Arrived
+refused outcome h = record { outcome = outcome; answer = answer false 0 [] h; counted = None }
+
+abbrev pub outcome_in : Place → Outcome
+outcome_in Priority = Matched
+outcome_in InOverflow = Overflow
+
+abbrev pub is_overflow : Place → Bool
+is_overflow Priority = false
+is_overflow InOverflow = true
+
+abbrev pub side_after : Found → Header → Side → Side
+side_after f h s = record s { indices = indices_after f h s.indices; headers = headers_after f h s.headers }
+
+abbrev pub accepted : Parts → Sent → Found → Received
+accepted p m f =
+    received
+    (parts
+    (side_after f m.header p.side)
+    (memory_after f.linked m p.region)
+    (counts_after f.linked p.cts)
+    (events_after f m.header (queue_of (index_at m.header.pt p.side.indices)) p.eqs))
+    (record { outcome = outcome_in f.list; answer = answer true (delivered f.linked m.header) (old_bytes f.linked m.header p.region) m.header; counted = counter_of f.linked })
+
+-- the first match ends the search: it must allow the operation, and in the overflow list there must be room for the header
+abbrev pub judged : Parts → Sent → Option Found → Received
+judged p m None = received p (refused Dropped m.header)
+judged p m (Some f) =
+    if allows f.linked.entry m.header.kind
+    then (if is_overflow f.list && no_room p.side.headers then received p (refused Dropped m.header) else accepted p m f)
+    else received p (refused Violation m.header)
+
+unfoldable pub request : Parts → Sent → Received
+request p m = judged p m (chosen m.header p.side.indices)

@@ -1,0 +1,58 @@
+-- The unexpected headers of an interface, oldest first, and which of them an entry finds (Portals 4.3, unexpected messages).
+use Rattle.std.specs.Prelude.{ℕ, Bool, false, ◌==◌, ◌&&◌, ◌||◌, not, nat_le, List, [], ◌∷◌, filter, length, Option, if◌then◌else◌, find}
+use Rattle.ptl_types.specs.declared.handles.Handle.{Handle}
+use Rattle.ptl_types.specs.declared.entries.Entry.{Entry}
+use Rattle.ptl_types.specs.declared.headers.MessageKind.{MessageKind}
+use Rattle.ptl_types.specs.declared.headers.MessageKind.TheVariants.{Put, Get, Atomic}
+use Rattle.ptl_types.specs.Handles.{same_handle}
+use Rattle.ptl_types.specs.Matching.{is_match}
+use Rattle.ni_model.specs.declared.Noted.{Noted}
+
+-- the headers of all portal table indices together, and how many there may be
+pub record Held : Type 0 where
+  pub noted : List Noted
+  pub limit : ℕ
+
+abbrev pub held : List Noted → ℕ → Held
+held noted limit = record { noted = noted; limit = limit }
+
+abbrev pub no_room : Held → Bool
+no_room hs = nat_le hs.limit (length hs.noted)
+
+-- the operations that an entry allows: a fetching atomic or a swap reads and writes
+abbrev pub allows : Entry → MessageKind → Bool
+allows e Put = e.allow_put
+allows e Atomic = e.allow_put
+allows e Get = e.allow_get
+allows e _ = e.allow_put && e.allow_get
+
+-- the header is of this index, and the entry matches it and allows its operation; lengths aren't looked at
+abbrev pub finds : ℕ → Entry → Noted → Bool
+finds pt e a = (a.pt == pt) && (is_match e a.header.header && allows e a.header.header.kind)
+
+abbrev pub oldest : ℕ → Entry → List Noted → Option Noted
+oldest pt e hs = find (finds pt e) hs
+
+-- the headers without the oldest that is found
+abbrev pub without_oldest : ℕ → Entry → List Noted → List Noted
+without_oldest pt e [] = []
+without_oldest pt e (a ∷ hs) = if finds pt e a then hs else a ∷ without_oldest pt e hs
+
+-- the headers that are found, in order of arrival, and those that aren't
+abbrev pub found_in : ℕ → Entry → List Noted → List Noted
+found_in pt e hs = filter (finds pt e) hs
+
+abbrev pub left_in : ℕ → Entry → List Noted → List Noted
+left_in pt e hs = filter (λ a. not (finds pt e a)) hs
+
+-- a header lies in this entry's memory
+abbrev pub names_entry : Handle → List Noted → Bool
+names_entry me [] = false
+names_entry me (a ∷ hs) = same_handle a.header.entry me || names_entry me hs
+
+-- the headers of one index
+abbrev pub is_of : ℕ → Noted → Bool
+is_of pt a = a.pt == pt
+
+abbrev pub headers_of : ℕ → List Noted → List Noted
+headers_of pt hs = filter (is_of pt) hs

@@ -1,0 +1,15 @@
+pub mod Tables
+pub mod Counts
+pub mod Queues
+pub mod Lists
+pub mod Headers
+pub mod Events
+pub mod Arrive
+pub mod Answers
+pub mod Starts
+pub mod State
+pub mod Ready
+pub mod Append
+pub mod Refusals
+pub mod Calls
+pub mod Conditions

@@ -1,0 +1,197 @@
+-- When each call of an interface is refused, the lowest number first (Portals 4.3, return codes).
+use Rattle.std.specs.Prelude.{ℕ, Bool, true, false, ◌&&◌, ◌||◌, not, nat_lt, nat_le, ◌-◌, ◌^◌, List, [], ◌∷◌, Option, Some, None, length}
+use Rattle.ptl_types.specs.declared.handles.Handle.{Handle}
+use Rattle.ptl_types.specs.declared.handles.Count.{Count}
+use Rattle.ptl_types.specs.declared.entries.Descriptor.{Descriptor}
+use Rattle.ptl_types.specs.declared.calls.NiFault.{NiFault}
+use Rattle.ptl_types.specs.declared.calls.NiFault.TheVariants.{Stale, NoSpace, OutOfRegion, InUse, CountFull}
+use Rattle.ptl_types.specs.declared.calls.PutArgs.{PutArgs}
+use Rattle.ptl_types.specs.declared.calls.GetArgs.{GetArgs}
+use Rattle.ptl_types.specs.declared.calls.Deed.{Deed}
+use Rattle.ptl_types.specs.declared.calls.Deed.TheVariants.{Put, Get, Atomic, FetchAtomic, Swap, Inc, Set}
+use Rattle.ptl_types.specs.Handles.{same_handle}
+use Rattle.ni_model.specs.declared.Bound.{Bound}
+use Rattle.ni_model.specs.declared.Linked.{Linked}
+use Rattle.ni_model.specs.Tables.{Table, Live, lookup, is_live, is_live_or_none, is_full, names}
+use Rattle.ni_model.specs.Counts.{passes_end, plus}
+use Rattle.ni_model.specs.Queues.{Waiting}
+use Rattle.ni_model.specs.Lists.{Index, index_at, is_linked, entries_in}
+use Rattle.ni_model.specs.Headers.{names_entry, headers_of}
+use Rattle.ni_model.specs.Arrive.{Side}
+use Rattle.ni_model.specs.Append.{need, is_allocated, is_within}
+use Rattle.ni_model.specs.State.{Posted, Operations}
+
+-- ---- portal table indices
+
+abbrev pub pt_alloc_fault : ℕ → Option Handle → Side → Table Waiting → Option NiFault
+pt_alloc_fault pt eq s eqs =
+    need (is_live_or_none eq eqs) Stale
+    (need (nat_lt pt (length s.indices)) NoSpace
+    (need (not (is_allocated pt s)) InUse None))
+
+-- one of its lists holds an entry, or a header of it waits
+abbrev pub holds_something : ℕ → Side → Bool
+holds_something pt s = nat_lt 0 (entries_in (index_at pt s.indices)) || nat_lt 0 (length (headers_of pt s.headers.noted))
+
+abbrev pub pt_free_fault : ℕ → Side → Option NiFault
+pt_free_fault pt s = need (is_allocated pt s) Stale (need (not (holds_something pt s)) InUse None)
+
+-- ---- match entries
+
+abbrev pub is_linked_in : Handle → Option Index → Bool
+is_linked_in me None = false
+is_linked_in me (Some i) = is_linked me i.priority || is_linked me i.overflow
+
+abbrev pub is_linked_anywhere : Handle → List (Option Index) → Bool
+is_linked_anywhere me [] = false
+is_linked_anywhere me (i ∷ is) = is_linked_in me i || is_linked_anywhere me is
+
+-- a header lies in its memory
+abbrev pub unlink_fault : Handle → Side → Option NiFault
+unlink_fault me s = need (is_linked_anywhere me s.indices) Stale (need (not (names_entry me s.headers.noted)) InUse None)
+
+-- ---- counting events and event queues
+
+abbrev pub entry_names_ct : Handle → List Linked → Bool
+entry_names_ct ct [] = false
+entry_names_ct ct (x ∷ xs) = names x.entry.ct ct || entry_names_ct ct xs
+
+abbrev pub index_names_ct : Handle → List (Option Index) → Bool
+index_names_ct ct [] = false
+index_names_ct ct (None ∷ is) = index_names_ct ct is
+index_names_ct ct (Some i ∷ is) = (entry_names_ct ct i.priority || entry_names_ct ct i.overflow) || index_names_ct ct is
+
+abbrev pub index_names_eq : Handle → List (Option Index) → Bool
+index_names_eq eq [] = false
+index_names_eq eq (None ∷ is) = index_names_eq eq is
+index_names_eq eq (Some i ∷ is) = names i.eq eq || index_names_eq eq is
+
+abbrev pub md_names_ct : Handle → List (Live Bound) → Bool
+md_names_ct ct [] = false
+md_names_ct ct (x ∷ xs) = names x.value.md.ct ct || md_names_ct ct xs
+
+abbrev pub md_names_eq : Handle → List (Live Bound) → Bool
+md_names_eq eq [] = false
+md_names_eq eq (x ∷ xs) = names x.value.md.eq eq || md_names_eq eq xs
+
+-- a triggered operation names the counter that it waits on and the one that it counts on
+abbrev pub deed_names_ct : Handle → Deed → Bool
+deed_names_ct ct (Inc h by) = same_handle h ct
+deed_names_ct ct (Set h to) = same_handle h ct
+deed_names_ct ct _ = false
+
+abbrev pub operation_names_ct : Handle → List Posted → Bool
+operation_names_ct ct [] = false
+operation_names_ct ct (p ∷ ps) = (same_handle p.ct ct || deed_names_ct ct p.deed) || operation_names_ct ct ps
+
+abbrev pub deed_names_md : Handle → Deed → Bool
+deed_names_md md (Put a) = same_handle a.md md
+deed_names_md md (Get g) = same_handle g.md md
+deed_names_md md (Atomic a op ty) = same_handle a.md md
+deed_names_md md (FetchAtomic g a op ty) = same_handle g.md md || same_handle a.md md
+deed_names_md md (Swap g a op ty operand) = same_handle g.md md || same_handle a.md md
+deed_names_md md _ = false
+
+abbrev pub operation_names_md : Handle → List Posted → Bool
+operation_names_md md [] = false
+operation_names_md md (p ∷ ps) = deed_names_md md p.deed || operation_names_md md ps
+
+abbrev pub ct_free_fault : Handle → Table Count → List (Option Index) → Table Bound → Operations → Option NiFault
+ct_free_fault ct cts indices mds ops =
+    need (is_live ct cts) Stale
+    (need (not (md_names_ct ct mds.live || (index_names_ct ct indices || operation_names_ct ct ops.waiting))) InUse None)
+
+abbrev pub eq_free_fault : Handle → Table Waiting → List (Option Index) → Table Bound → Option NiFault
+eq_free_fault eq eqs indices mds =
+    need (is_live eq eqs) Stale (need (not (index_names_eq eq indices || md_names_eq eq mds.live)) InUse None)
+
+-- a count of the host's that passes the counter's end
+abbrev pub ct_set_fault : Handle → Count → Table Count → Option NiFault
+ct_set_fault ct to cts = need (is_live ct cts) Stale (need (not (passes_end to)) CountFull None)
+
+abbrev pub inc_passes : Option Count → Count → Bool
+inc_passes None by = false
+inc_passes (Some c) by = passes_end (plus by c)
+
+abbrev pub ct_inc_fault : Handle → Count → Table Count → Option NiFault
+ct_inc_fault ct by cts = need (is_live ct cts) Stale (need (not (inc_passes (lookup ct cts.live) by)) CountFull None)
+
+-- a table that has no room, of counters and of queues
+abbrev pub alloc_fault : {A : Type 0} → Table A → Option NiFault
+alloc_fault t = need (not (is_full t)) NoSpace None
+
+-- the call names something that isn't live
+abbrev pub stale_fault : {A : Type 0} → Handle → Table A → Option NiFault
+stale_fault h t = need (is_live h t) Stale None
+
+-- ---- memory descriptors
+
+abbrev pub bind_fault : Descriptor → ℕ → Table Count → Table Waiting → Table Bound → Option NiFault
+bind_fault md size cts eqs mds =
+    need (is_live_or_none md.eq eqs && is_live_or_none md.ct cts) Stale
+    (need (not (is_full mds)) NoSpace
+    (need (is_within md.start md.length size) OutOfRegion None))
+
+abbrev pub awaits_something : Option Bound → Bool
+awaits_something None = false
+awaits_something (Some b) = nat_lt 0 b.awaits
+
+-- the descriptor's own refusals: whether an operation names it is looked at beside
+abbrev pub release_fault : Handle → Table Bound → Operations → Option NiFault
+release_fault md mds ops =
+    need (is_live md mds) Stale
+    (need (not (operation_names_md md ops.waiting || awaits_something (lookup md mds.live))) InUse None)
+
+-- ---- starts and triggered operations
+
+-- the part named lies in the descriptor
+abbrev pub holds_part : Option Bound → ℕ → ℕ → Bool
+holds_part None at n = false
+holds_part (Some b) at n = is_within at n b.md.length
+
+abbrev pub deed_is_live : Deed → Table Bound → Bool
+deed_is_live (Put a) mds = is_live a.md mds
+deed_is_live (Get g) mds = is_live g.md mds
+deed_is_live (Atomic a op ty) mds = is_live a.md mds
+deed_is_live (FetchAtomic g a op ty) mds = is_live g.md mds && is_live a.md mds
+deed_is_live (Swap g a op ty operand) mds = is_live g.md mds && is_live a.md mds
+deed_is_live _ mds = true
+
+abbrev pub put_fits : PutArgs → Table Bound → Bool
+put_fits a mds = holds_part (lookup a.md mds.live) a.local_offset a.length
+
+abbrev pub get_fits : GetArgs → Table Bound → Bool
+get_fits g mds = holds_part (lookup g.md mds.live) g.local_offset g.length
+
+abbrev pub deed_fits : Deed → Table Bound → Bool
+deed_fits (Put a) mds = put_fits a mds
+deed_fits (Get g) mds = get_fits g mds
+deed_fits (Atomic a op ty) mds = put_fits a mds
+deed_fits (FetchAtomic g a op ty) mds = get_fits g mds && put_fits a mds
+deed_fits (Swap g a op ty operand) mds = get_fits g mds && put_fits a mds
+deed_fits _ mds = true
+
+-- the refusals of a start that an initiator finds
+abbrev pub deed_fault : Deed → Table Bound → Option NiFault
+deed_fault d mds = need (deed_is_live d mds) Stale (need (deed_fits d mds) OutOfRegion None)
+
+abbrev pub counts_on_live : Deed → Table Count → Bool
+counts_on_live (Inc ct by) cts = is_live ct cts
+counts_on_live (Set ct to) cts = is_live ct cts
+counts_on_live _ cts = true
+
+abbrev pub deed_passes : Deed → Bool
+deed_passes (Inc ct by) = passes_end by
+deed_passes (Set ct to) = passes_end to
+deed_passes _ = false
+
+-- the limit waits, or the numbers are used up
+abbrev pub no_number : Operations → Bool
+no_number ops = nat_le ops.limit (length ops.waiting) || nat_le (2 ^ 32 - 1) ops.given
+
+abbrev pub triggered_fault : Deed → Handle → Table Count → Table Bound → Operations → Option NiFault
+triggered_fault d ct cts mds ops =
+    need (is_live ct cts && (counts_on_live d cts && deed_is_live d mds)) Stale
+    (need (not (no_number ops)) NoSpace
+    (need (deed_fits d mds) OutOfRegion
+    (need (not (deed_passes d)) CountFull None)))
