@@ -12,6 +12,8 @@ mod handles;
 mod headers;
 mod matching;
 mod message;
+#[cfg(test)]
+mod tests;
 
 pub use bytes::Bytes;
 pub use calls::{Appended, Deed, Delivered, EqGot, GetArgs, Limits, NiFault, Outcome, PutArgs};
