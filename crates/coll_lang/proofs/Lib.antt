@@ -1,0 +1,6 @@
+pub mod Reading
+pub mod Data
+pub mod Spells
+pub mod Bytes
+pub mod Written
+pub mod Kept

@@ -1,0 +1,17 @@
+-- What a description keeps.
+use Rattle.std.specs.Prelude.{◌≡◌, ℕ, List, Ok}
+use Rattle.coll_lang.specs.Outline.{Outline, Given, Program}
+use Rattle.coll_lang.specs.FirstForm.{read}
+use Rattle.coll_lang.specs.Spelling.{text}
+
+-- its text is accepted: reading it gives the description
+pub record IsAccepted (d : Program) : Type 0 where
+  pub reads : read (text d) ≡ Ok d
+
+-- What a text describes has that text as its one spelling.
+abbrev pub OneSpelling : Type 0
+OneSpelling = (bytes : List ℕ) (d : Program) → read bytes ≡ Ok d → bytes ≡ text d
+
+-- it is the shape of a description whose text is accepted
+abbrev pub IsAcceptedShape : Outline → Type 0
+IsAcceptedShape shape = ∥ ((given : Given) × IsAccepted (record { shape = shape; inputs = given })) ∥₁

@@ -1,0 +1,11 @@
+pub mod Words
+pub mod Outline
+pub mod Answers
+pub mod Verdicts
+pub mod FirstForm
+pub mod States
+pub mod Elements
+pub mod Spelling
+pub mod Meaning
+pub mod Accepted
+pub mod OneBroadcast

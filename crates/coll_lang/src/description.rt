@@ -1,0 +1,200 @@
+//! A description: a shape, and the values of its inputs.
+
+ghost use Rattle.std.specs.Prelude.{◌≡◌, ◌<◌, IfOk};
+ghost use Rattle.coll_lang.specs.Outline.{list_of};
+ghost use Rattle.coll_lang.specs.FirstForm.{described};
+ghost use Rattle.coll_lang.specs.States.{past};
+ghost use Rattle.coll_lang.specs.Accepted.{IsAccepted};
+ghost use Rattle.coll_lang.specs.OneBroadcast.{IsOneBroadcast};
+
+use crate::lists::RankList;
+use crate::reader::Reader;
+use crate::types::{Buffer, CollStep, Spread};
+use ptl_types::{ElemType, Rank};
+use std::alloc::{AllocError, Global};
+use std::marker::Model;
+
+/// A description without the values of its inputs. It keeps that it is the shape of a description whose text is accepted.
+#[derive(Drop)]
+pub struct Shape {
+    ranks: u32,
+    remote: bool,
+    buffers: Vec<Buffer>,
+    inputs: u32,
+    steps: Vec<CollStep>,
+    prints: Vec<u32>,
+}
+
+impl Model for Shape {
+    ghost use Rattle.coll_lang.specs.Outline.{Outline};
+    ghost use Rattle.coll_lang.specs.Accepted.{IsAcceptedShape};
+
+    ghost Value = { Outline };
+
+    ghost view = { λ s. record { ranks = s.ranks; remote = s.remote; buffers = s.buffers.items; inputs = s.inputs; steps = s.steps.items; prints = s.prints.items } };
+
+    ghost invariant = { λ s. IsAcceptedShape (record { ranks = s.ranks; remote = s.remote; buffers = s.buffers.items; inputs = s.inputs; steps = s.steps.items; prints = s.prints.items }) };
+}
+
+impl Shape {
+    /// How many ranks the job has.
+    pub fn ranks(&self) -> u32
+        ensures { result ≡ self.now.ranks }
+    {
+        self.ranks
+    }
+
+    /// Whether completion also waits for every acknowledgement (`complete remote`).
+    pub fn remote(&self) -> bool
+        ensures { result ≡ self.now.remote }
+    {
+        self.remote
+    }
+
+    /// The buffers in the order in which the text names them, the inputs first.
+    pub fn buffers(&self) -> &[Buffer]
+        ensures { result.now ≡ self.now.buffers }
+    {
+        self.buffers.as_slice()
+    }
+
+    /// How many of the buffers are inputs.
+    pub fn input_count(&self) -> u32
+        ensures { result ≡ self.now.inputs }
+    {
+        self.inputs
+    }
+
+    /// The steps in order.
+    pub fn steps(&self) -> &[CollStep]
+        ensures { result.now ≡ self.now.steps }
+    {
+        self.steps.as_slice()
+    }
+
+    /// The numbers of the buffers that are printed, in order.
+    pub fn prints(&self) -> &[u32]
+        ensures { result.now ≡ self.now.prints }
+    {
+        self.prints.as_slice()
+    }
+}
+
+/// The values of the inputs: for each input one list a rank.
+#[derive(Drop)]
+pub struct Inputs {
+    ranks: u32,
+    inputs: u32,
+    lists: Vec<RankList>,
+}
+
+impl Model for Inputs {
+    ghost use Rattle.std.specs.Prelude.{◌≡◌, ◌*◌, vec_len};
+    ghost use Rattle.coll_lang.specs.Outline.{Given};
+
+    ghost Value = { Given };
+
+    ghost view = { λ i. record { ranks = i.ranks; inputs = i.inputs; lists = i.lists.items } };
+
+    ghost invariant = { λ i. vec_len i.lists ≡ i.inputs * i.ranks };
+}
+
+impl Inputs {
+    /// The list of an input at a rank, as bytes: its elements in order, each little-endian.
+    pub fn list(&self, input: u32, r: Rank) -> &[u8]
+        requires input { input < self.now.inputs }
+        requires rank { r < self.now.ranks }
+        ensures { result.now ≡ list_of self.now input r }
+    {
+        self.lists[input as usize * self.ranks as usize + r as usize].as_slice()
+    }
+}
+
+/// What a text describes. It keeps that its text is accepted: reading the text of its one spelling gives it again.
+#[derive(Drop)]
+pub struct Description {
+    shape: Shape,
+    inputs: Inputs,
+}
+
+impl Model for Description {
+    ghost use Rattle.coll_lang.specs.Outline.{Program};
+    ghost use Rattle.coll_lang.specs.Accepted.{IsAccepted};
+
+    ghost Value = { Program };
+
+    ghost view = { λ d. record { shape = d.shape; inputs = d.inputs } };
+
+    ghost invariant = { λ d. IsAccepted (record { shape = d.shape; inputs = d.inputs }) };
+}
+
+impl Description {
+    /// The description that the lines say, where its text is accepted.
+    pub(crate) fn of(alloc: Global, reader: Reader) -> Result<Description, AllocError>
+        requires accepted { IsAccepted (described (past reader)) }
+        requires form { IsOneBroadcast (described (past reader)) }
+        ensures { IfOk result (λ d. d ≡ described (past reader)) }
+    {
+        let ranks = reader.ranks;
+        let spread = Spread::Even(u64::from(reader.count));
+        let ty = ElemType::U8;
+        let mut buffers = Vec::new(alloc);
+        let mut steps = Vec::new(alloc);
+        buffers.push(Buffer {
+            name: reader.a,
+            ty,
+            spread,
+        })?;
+        buffers.push(Buffer {
+            name: reader.b,
+            ty,
+            spread,
+        })?;
+        steps.push(CollStep::Broadcast {
+            root: reader.root,
+            a: 0,
+            b: 1,
+        })?;
+        let prints = reader.prints;
+        Ok(Description {
+            shape: Shape {
+                ranks,
+                remote: false,
+                buffers,
+                inputs: 1,
+                steps,
+                prints,
+            },
+            inputs: Inputs {
+                ranks,
+                inputs: 1,
+                lists: reader.given,
+            },
+        })
+    }
+
+    /// What is described, without the values of the inputs.
+    pub fn shape(&self) -> &Shape
+        ensures shape { result.now ≡ self.now.shape }
+        ensures accepted { IsAccepted self.now }
+    {
+        &self.shape
+    }
+
+    /// The values of the inputs.
+    pub fn inputs(&self) -> &Inputs
+        ensures inputs { result.now ≡ self.now.inputs }
+        ensures accepted { IsAccepted self.now }
+    {
+        &self.inputs
+    }
+
+    /// Both parts: the inputs are those of the shape.
+    pub fn into_parts(self) -> (Shape, Inputs)
+        ensures shape { result.0 ≡ self.shape }
+        ensures inputs { result.1 ≡ self.inputs }
+        ensures accepted { IsAccepted self }
+    {
+        (self.shape, self.inputs)
+    }
+}
