@@ -1,20 +1,8 @@
--- What an event queue holds (Portals 4.3, event queues).
-use Rattle.std.specs.Prelude.{◌≡◌, ℕ, Bool, true, false, List, [], ◌∷◌, ◌++◌, length, nat_lt, if◌then◌else◌}
-use Rattle.ptl_types.specs.declared.events.Event.{Event}
+-- What an event queue holds (Portals 4.3, event queues): the model's words, and a take as a relation.
+use Rattle.std.specs.Prelude.{◌≡◌, true, false, [], ◌∷◌}
 use Rattle.ptl_types.specs.declared.calls.EqGot.{EqGot}
 use Rattle.ptl_types.specs.declared.calls.EqGot.TheVariants.{Got, Empty, Dropped}
-
-pub record Waiting : Type 0 where
-  pub room : ℕ
-  pub events : List Event
-  pub lost : Bool
-
-abbrev pub queue : ℕ → List Event → Bool → Waiting
-queue room events lost = record { room = room; events = events; lost = lost }
-
--- behind the others, or lost where the queue is full
-abbrev pub with_event : Event → Waiting → Waiting
-with_event e q = if nat_lt (length q.events) q.room then record q { events = q.events ++ e ∷ [] } else record q { lost = true }
+pub use Rattle.ni_model.specs.Queues.{Waiting, queue, add_event as with_event}
 
 -- the queue, the answer of a `take`, and the queue after it: the oldest event, unless one was lost
 abbrev pub Takes : Waiting → EqGot → Waiting → Type 0
