@@ -2,7 +2,7 @@
 #![tactic(auto)]
 
 ghost use Rattle.std.specs.Prelude.{◌≡◌, ◌≤◌, ◌+◌, ◌<◌, ◌^◌, ◌↔◌, IsOk, OnOk, OnErr};
-ghost use Rattle.counters.specs.Counters.{bumped, raised};
+ghost use Rattle.ni_model.specs.Counts.{bump as bumped, plus};
 
 use ptl_types::Count;
 use std::marker::Model;
@@ -81,7 +81,7 @@ impl Counter {
     /// Adds both numbers. It is refused where the sum would pass 2^64 - 1; the counter is then as it was.
     pub fn inc(&mut self, by: Count) -> Result<(), CountFull>
         ensures fits { IsOk result ↔ (self.old.success + by.success + (self.old.failure + by.failure) < 2 ^ 64) }
-        ensures ok { OnOk result (self.new ≡ raised by self.old) }
+        ensures ok { OnOk result (self.new ≡ plus by self.old) }
         ensures err { OnErr result (self.new ≡ self.old) }
     {
         let success = self.success.checked_add(by.success).ok_or(CountFull)?;

@@ -2,7 +2,7 @@
 #![tactic(auto)]
 
 ghost use Rattle.std.specs.Prelude.{◌≡◌, [], false, IfOk};
-ghost use Rattle.event_queues.specs.Queues.{with_event, queue, Takes};
+ghost use Rattle.ni_model.specs.Queues.{add_event, queue, taken_from, after_take};
 
 use circular_buffer::HeapCircularBuffer;
 use ptl_types::{EqGot, Event, NoMemory};
@@ -21,7 +21,7 @@ pub struct Queue {
 }
 
 impl Model for Queue {
-    ghost use Rattle.event_queues.specs.Queues.{Waiting, queue};
+    ghost use Rattle.ni_model.specs.Queues.{Waiting, queue};
 
     ghost Value = { Waiting };
 
@@ -41,7 +41,7 @@ impl Queue {
 
     /// Adds the event behind the others. Where the queue is full it is this event that is lost.
     pub fn add(&mut self, event: Event)
-        ensures { self.new ≡ with_event event self.old }
+        ensures { self.new ≡ add_event event self.old }
     {
         if self.ring.try_push_back(event).is_err() {
             self.lost = true;
@@ -51,7 +51,8 @@ impl Queue {
     /// `Dropped`, and no event, where one was lost since the last call; else the oldest event, which leaves the queue; else
     /// `Empty`.
     pub fn take(&mut self) -> EqGot
-        ensures { Takes self.old result self.new }
+        ensures answer { result ≡ taken_from self.old }
+        ensures rest { self.new ≡ after_take self.old }
     {
         if self.lost {
             self.lost = false;

@@ -1,0 +1,4 @@
+pub mod Growth
+pub mod Removal
+pub mod Slots
+pub mod StoreLemmas
