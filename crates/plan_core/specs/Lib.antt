@@ -1,0 +1,7 @@
+pub mod Members
+pub mod Plan
+pub mod Values
+pub mod Sound
+pub mod Places
+pub mod Combining
+pub mod Growth
