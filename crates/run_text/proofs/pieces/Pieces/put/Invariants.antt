@@ -1,0 +1,13 @@
+use Rattle.std.proofs.Common.{◌++◌, ◌<◌, ◌≤◌, length, vec_len, vec_capacity}
+use Rattle.run_text.specs.Putting.{Takes}
+use Rattle.run_text.proofs.pieces.Pieces.put.Given as goal
+
+abbrev pub invariant-loop-rest : goal.invariant-loop-rest
+invariant-loop-rest g l = record {
+  taken : Takes (g.K.Sink.outflow l.fn.sink) (g.K.Sink.outflow l.sink) (l.fn.self ++ l.list) (l.self-inside.held.items ++ l.rest);
+  short : vec_len l.self-inside.held < 65536;
+  room : 65536 ≤ vec_capacity l.self-inside.held;
+}
+
+abbrev pub decreases-loop-rest : goal.decreases-loop-rest
+decreases-loop-rest g l = length l.rest

@@ -1,0 +1,8 @@
+//! Texts, line by line, in pieces of a fixed size, to any sink.
+#![tactic(auto)]
+
+mod lines;
+mod pieces;
+
+pub use lines::{refusal_line, rest_line, result_line};
+pub use pieces::{PIECE, Pieces};
