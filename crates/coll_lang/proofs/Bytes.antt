@@ -1,11 +1,10 @@
 -- The elements of a list of u8 are its bytes.
-use Rattle.std.proofs.Common.{◌≡◌, ℕ, zero, suc, ◌+◌, ◌*◌, ◌/◌, ◌%◌, ◌<◌, List, [], ◌∷◌, ◌++◌, length, map, refl, sym, ap, ◌∙◌, arith}
+use Rattle.std.proofs.Common.{◌≡◌, ℕ, zero, suc, ◌+◌, ◌*◌, ◌/◌, ◌%◌, ◌<◌, List, [], ◌∷◌, ◌++◌, length, map, refl, ap, ◌∙◌, arith}
 use Rattle.std.specs.Prelude.{All}
 use Rattle.std.specs.List.{flat_map, AllByRecursion}
 use Rattle.std.specs.Fmt.{decimal}
 use Rattle.std.proofs.lemmas.List.Elements.{recursion_from_All}
 use Rattle.ptl_types.specs.declared.elements.ElemType.TheVariants.{U8}
-use Rattle.ptl_types.specs.Elements.{pattern, little_endian}
 use Rattle.coll_text.specs.Text.{line}
 use Rattle.coll_lang.specs.Elements.{first_elements, elements, bytes_of_list}
 use Rattle.coll_lang.specs.Spelling.{data_text}

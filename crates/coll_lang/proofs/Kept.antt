@@ -1,16 +1,14 @@
 -- What is kept of a description that was read.
-use Rattle.std.proofs.Common.{◌≡◌, ℕ, ◌≤◌, List, length, Result, Ok, Err, Bool, false, cond, refl, sym, ap, ◌∙◌, arith}
+use Rattle.std.proofs.Common.{◌≡◌, ℕ, ◌≤◌, List, length, Result, Ok, Err, false, refl, sym, ap, ◌∙◌, arith}
 use Rattle.std.specs.Prelude.{nat_lt, IfOk}
 use Rattle.std.proofs.lemmas.Bool.Decides.{nat_tests}
 use Rattle.coll_text.specs.Text.{lines}
 use Rattle.coll_lang.specs.Outline.{Program}
-use Rattle.coll_lang.specs.FirstForm.{Past, read, read_from, nothing, described, program_in}
+use Rattle.coll_lang.specs.FirstForm.{Past, read, read_from, nothing, described}
 use Rattle.coll_lang.specs.Spelling.{text}
 use Rattle.coll_lang.specs.Accepted.{IsAccepted}
 use Rattle.coll_lang.specs.OneBroadcast.{IsOneBroadcast}
 use Rattle.coll_lang.specs.Verdicts.{Reads}
-use Rattle.coll_lang.specs.declared.fault.Refusal.{Refusal}
-use Rattle.coll_lang.specs.declared.fault.Refusal.TheVariants.{TooLong}
 use Rattle.coll_lang.specs.declared.fault.ParseFault.{ParseFault}
 use Rattle.coll_lang.proofs.Written.{one_spelling, one_broadcast}
 

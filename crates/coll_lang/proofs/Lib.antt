@@ -4,3 +4,4 @@ pub mod Spells
 pub mod Bytes
 pub mod Written
 pub mod Kept
+pub mod OneBroadcast

@@ -1,6 +1,6 @@
 -- What a line of the first form says: its words are spelled so, and its numbers are in range.
-use Rattle.std.proofs.Common.{◌≡◌, ℕ, suc, ◌-◌, ◌<◌, ◌≤◌, ◌^◌, List, [], ◌∷◌, length, Option, Some, None, Bool, true, false, cond, ◌&&◌, not, refl, sym, ap, ◌∙◌, arith, map, codes, subst}
-use Rattle.std.specs.Prelude.{option_map, option_and_then, nat_le, ◌==◌, All}
+use Rattle.std.proofs.Common.{◌≡◌, ℕ, suc, ◌-◌, ◌<◌, ◌≤◌, List, [], ◌∷◌, length, Some, None, Bool, true, false, cond, ◌&&◌, not, refl, sym, ap, ◌∙◌, arith, map, codes, subst}
+use Rattle.std.specs.Prelude.{option_map, ◌==◌, All}
 use Rattle.std.specs.Str.{bytes_eq}
 use Rattle.std.specs.Fmt.{decimal}
 use Rattle.std.proofs.lemmas.Bool.Decides.{nat_tests}

@@ -1,6 +1,6 @@
 -- A text that is read is what is written of its description, and what it says is of the first form.
-use Rattle.std.proofs.Common.{◌≡◌, ℕ, zero, suc, ◌+◌, ◌-◌, ◌*◌, ◌<◌, ◌≤◌, List, [], ◌∷◌, ◌++◌, length, take, drop, Option, Some, None, Result, Ok, Err, Bool, true, false, cond, refl, sym, ap, ◌∙◌, arith, length-append, map, codes, subst, append_assoc, inl, inr, ◌⊎◌}
-use Rattle.std.specs.Prelude.{option_map, nat_lt, All, IfOk}
+use Rattle.std.proofs.Common.{◌≡◌, ℕ, zero, suc, ◌+◌, ◌-◌, ◌<◌, ◌≤◌, List, [], ◌∷◌, ◌++◌, length, take, Option, Some, None, Result, Ok, Err, Bool, true, false, cond, refl, sym, ap, ◌∙◌, arith, length-append, map, codes, subst, append_assoc, inl, inr, ◌⊎◌}
+use Rattle.std.specs.Prelude.{option_map, nat_lt, All}
 use Rattle.std.specs.List.{flat_map, join_with_byte, AllByRecursion}
 use Rattle.std.specs.Str.{bytes_eq}
 use Rattle.std.specs.Fmt.{decimal}
@@ -12,12 +12,11 @@ use Rattle.std.proofs.lemmas.Grind.{flat_map-append}
 use Rattle.coll_text.specs.Text.{lines, words, line, is_name, is_empty}
 use Rattle.coll_text.proofs.Spelled.{same, mapped, chosen, rejoined}
 use Rattle.coll_lang.specs.FirstForm.{Past, ranks_in, input_in, data_line, data_due, step_in, print_in, line_at, judge, or_bad_line, is_finished, read_from, nothing, numbered, read, described, program_in}
-use Rattle.coll_lang.specs.Spelling.{text, data_text, steps_text, prints_text}
+use Rattle.coll_lang.specs.Spelling.{text, data_text, prints_text}
 use Rattle.coll_lang.specs.Outline.{Program, name_at}
-use Rattle.coll_lang.specs.Accepted.{OneSpelling, IsAccepted}
+use Rattle.coll_lang.specs.Accepted.{OneSpelling}
 use Rattle.coll_lang.specs.OneBroadcast.{IsOneBroadcast, even_bytes}
 use Rattle.coll_lang.specs.declared.types.Buffer.{Buffer}
-use Rattle.coll_lang.specs.declared.types.CollStep.TheVariants.{Broadcast}
 use Rattle.coll_lang.specs.declared.stage.Stage.{Stage}
 use Rattle.coll_lang.specs.declared.stage.Stage.TheVariants.{Version, Ranks, Input, Data, Step, Prints, Finished}
 use Rattle.coll_lang.specs.declared.fault.Refusal.{Refusal}

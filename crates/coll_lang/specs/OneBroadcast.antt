@@ -1,8 +1,8 @@
 -- A description of the first form: one input of bytes, one broadcast of it, and prints of either buffer.
-use Rattle.std.specs.Prelude.{◌≡◌, ℕ, ◌<◌, ◌≤◌, List, [], ◌∷◌, length, Bool, false, true, All}
+use Rattle.std.specs.Prelude.{◌≡◌, ℕ, ◌<◌, ◌≤◌, List, [], ◌∷◌, length, false, true, All}
 use Rattle.coll_text.specs.Text.{is_name}
 use Rattle.ptl_types.specs.declared.elements.ElemType.TheVariants.{U8}
-use Rattle.coll_lang.specs.Outline.{Outline, Given, Program, length_of}
+use Rattle.coll_lang.specs.Outline.{Outline, Program, length_of}
 use Rattle.coll_lang.specs.declared.types.Buffer.{Buffer}
 use Rattle.coll_lang.specs.declared.types.Spread.TheVariants.{Even}
 use Rattle.coll_lang.specs.declared.types.CollStep.{CollStep}

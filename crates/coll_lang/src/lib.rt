@@ -10,6 +10,8 @@ mod lists;
 mod reader;
 mod stage;
 mod take;
+#[cfg(test)]
+mod tests;
 mod types;
 mod whole;
 
