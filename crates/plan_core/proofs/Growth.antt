@@ -15,7 +15,7 @@ use Rattle.plan_core.specs.declared.LinkKind.TheVariants.{Bump, Put}
 use Rattle.plan_core.proofs.Lists.{each, each-append}
 use Rattle.plan_core.proofs.Links.{from_to-In, in_links-In}
 use Rattle.plan_core.proofs.Values.{step, value-eq}
-use Rattle.plan_core.proofs.Bytes.{part_all, written_all}
+use Rattle.op_laws.proofs.Bytes.{part_all, written_all}
 
 cell-grow : (p q : Plan) → Grows p q → (c : ℕ) → c < length p.cells → cell q c ≡ cell p c
 cell-grow p q g c h = ap (λ cs. get_or cs c no_cell) g.cells ∙ get_or_append_left p.cells g.more_cells no_cell c h

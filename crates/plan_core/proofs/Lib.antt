@@ -1,5 +1,4 @@
 pub mod Lists
-pub mod Bytes
 pub mod Links
 pub mod Values
 pub mod Growth

@@ -12,7 +12,7 @@ use Rattle.plan_core.specs.Sound.{AreInputsOf, SoundLink, SoundPlan}
 use Rattle.plan_core.specs.Values.{Inputs, blank, carried_of, due, initial, input_bytes, is_input, land, land_all, next_value, value, values}
 use Rattle.plan_core.proofs.Lists.{each}
 use Rattle.plan_core.proofs.Links.{Lands, in_links-In, length-land}
-use Rattle.plan_core.proofs.Bytes.{length-part, length-repeated}
+use Rattle.op_laws.proofs.Bytes.{length-part, length-repeated}
 
 length-values : (p : Plan) (inputs : Inputs) (n : ℕ) → length (values p inputs n) ≡ n
 length-values p inputs zero = refl

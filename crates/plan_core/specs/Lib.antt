@@ -3,5 +3,4 @@ pub mod Plan
 pub mod Values
 pub mod Sound
 pub mod Places
-pub mod Combining
 pub mod Growth

@@ -1,0 +1,4 @@
+pub mod Bytes
+pub mod Swaps
+pub mod OpLaws
+pub mod Starts

@@ -1,0 +1,5 @@
+pub mod Works
+pub mod Reached
+pub mod Central
+pub mod Ancestors
+pub mod Rounds

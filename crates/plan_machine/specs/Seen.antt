@@ -1,0 +1,71 @@
+-- The machine of a plan: what one rank has seen, without messages, handles or match bits.
+use Rattle.std.specs.Prelude.{ℕ, Bool, true, false, ◌&&◌, ◌||◌, not, ◌==◌, ◌+◌, List, [], ◌∷◌, ◌++◌, if◌then◌else◌, map, count_by}
+use Rattle.ptl_types.specs.declared.handles.Count.{Count}
+use Rattle.ni_model.specs.Counts.{successes}
+use Rattle.plan_core.specs.Plan.{Plan, link, own, out_links, is_bump}
+use Rattle.plan_core.specs.Values.{land}
+
+-- a link's message came, with these bytes
+pub record Came : Type 0 where
+  pub link : ℕ
+  pub bytes : List ℕ
+
+-- an operation of a rank: along a link, or the telling of a cell to the done counter
+pub data Work : Type 0 where
+  Along : (l : ℕ) → Work
+  Tell : (c : ℕ) → Work
+
+-- whether it has started, what came, what was fired, its counter of what is done, how many answers it awaits, and what came that is none of the plan's
+pub record Seen : Type 0 where
+  pub started : Bool
+  pub came : List Came  -- in order of arrival
+  pub fired : List Work  -- the newest first
+  pub done : Count  -- the done counter
+  pub awaits : ℕ  -- how many answers the descriptor awaits
+  pub strays : ℕ
+
+abbrev pub nothing_seen : Seen
+nothing_seen = record { started = false; came = []; fired = []; done = successes 0; awaits = 0; strays = 0 }
+
+abbrev pub is_same_work : Work → Work → Bool
+is_same_work (Along l) (Along m) = l == m
+is_same_work (Tell c) (Tell d) = c == d
+is_same_work _ _ = false
+
+abbrev pub was_fired : List Work → Work → Bool
+was_fired [] w = false
+was_fired (v ∷ vs) w = is_same_work v w || was_fired vs w
+
+-- the cell that an operation waits for
+abbrev pub cell_of : Plan → Work → ℕ
+cell_of p (Along l) = (link p l).source
+cell_of p (Tell c) = c
+
+-- the operations of rank r: its links, and then the telling of its cells
+abbrev pub works : Plan → ℕ → List Work
+works p r = map Along (out_links p r) ++ map Tell (own p r)
+
+-- the bytes of cell c, changed by what came to it, in order of arrival
+abbrev pub content : Plan → List Came → ℕ → List ℕ → List ℕ
+content p [] c x = x
+content p (a ∷ later) c x = content p later c (if (link p a.link).target == c then land p a.link a.bytes x else x)
+
+-- a firing that raises the counter of cell c
+abbrev pub bumps : Plan → ℕ → Work → Bool
+bumps p c (Along l) = is_bump (link p l).kind && ((link p l).target == c)
+bumps p c (Tell d) = false
+
+abbrev pub sends : Plan → Work → Bool
+sends p (Along l) = not (is_bump (link p l).kind)
+sends p (Tell c) = false
+
+abbrev pub tells : Work → Bool
+tells (Along l) = false
+tells (Tell c) = true
+
+abbrev pub to_cell : Plan → ℕ → Came → Bool
+to_cell p c a = (link p a.link).target == c
+
+-- the counter of cell c of rank r
+abbrev pub reached_count : Plan → Seen → ℕ → ℕ → ℕ
+reached_count p g r c = (if (c == r) && g.started then 1 else 0) + (count_by (to_cell p c) g.came + count_by (bumps p c) g.fired)
