@@ -1,16 +1,17 @@
--- The ten operations: partial results may be joined in any order.
-use Rattle.std.proofs.Common.{ℕ, Bool, true, false, cond, not, ◌&&◌, ◌||◌, ◌+◌, ◌*◌, ◌%◌, ◌^◌, ◌≡◌, ◌<◌, refl, ap, ◌∙◌, sym, arith, mod-lt, pow_pos, bit_and, bit_or, bit_xor, min, max, nat_le, lit<, if◌then◌else◌, le-leb, leb-false, leb-true, mul_right_comm, lt_of_le_of_lt}
+-- The ten operations on bit patterns: partial results may be combined in any order, and the starting value changes none of them.
+use Rattle.std.proofs.Common.{◌/◌, ◌-◌, mod-eq_of_lt, add_comm, mul_comm, ℕ, Bool, true, false, cond, not, ◌&&◌, ◌||◌, ◌+◌, ◌*◌, ◌%◌, ◌≡◌, ◌<◌, refl, ap, ◌∙◌, sym, arith, mod-lt, pow_pos, bit_and, bit_or, bit_xor, min, max, nat_le, lit<, if◌then◌else◌, le-leb, leb-false, leb-true, mul_right_comm, lt_of_le_of_lt}
 use Rattle.std.specs.Int.{bit_at}
 use Rattle.std.proofs.lemmas.Bool.{false_from_ne_true}
-use Rattle.std.proofs.lemmas.Nat.Bits.{bit_at_xor, bit_at_and, bit_at_or, same_from_bits}
-use Rattle.std.proofs.lemmas.Nat.{xor_lt, or_lt, and_le_l, mul-mod_first}
+use Rattle.std.proofs.lemmas.Nat.Bits.{bit_at-zero, bit_at_xor, bit_at_and, bit_at_or, same_from_bits}
+use Rattle.std.proofs.lemmas.Nat.{xor_lt, or_lt, and_le_l, mul-mod_first, or_comm, and_comm, xor_comm, and_mask}
 use native.Mathlib.Nat.{mod-add-mod}
 use Rattle.ptl_types.specs.declared.elements.AtomicOp.{AtomicOp}
 use Rattle.ptl_types.specs.declared.elements.ElemType.{ElemType}
-use Rattle.ptl_types.specs.declared.elements.AtomicOp.TheVariants.{Band, Bor, Bxor, Land, Lor, Lxor, Max, Min, Prod, Sum}
-use Rattle.ptl_types.specs.declared.elements.ElemType.TheVariants.{I16, I32, I64, I8, U16, U32, U64, U8}
-use Rattle.ptl_types.specs.Operations.{bytes_of, isnt_zero, one_if, op, order_key, span}
+use Rattle.ptl_types.specs.declared.elements.AtomicOp.TheVariants.{Min, Max, Sum, Prod, Lor, Land, Bor, Band, Lxor, Bxor}
+use Rattle.ptl_types.specs.declared.elements.ElemType.TheVariants.{U8, I8, U16, I16, U32, I32, U64, I64}
+use Rattle.ptl_types.specs.Operations.{op, start_value, span, bytes_of, order_key, one_if, isnt_zero}
 use Rattle.op_laws.proofs.Swaps.{OpSwaps}
+use Rattle.op_laws.specs.Laws.{Swaps, Commutes, Associates, Starts, Stays, Absorbs, IsClosed, StartsInRange}
 
 -- sums and products
 add_swaps : (x a b m : ℕ) → ((x + a) % m + b) % m ≡ ((x + b) % m + a) % m
@@ -131,53 +132,82 @@ key_one I64 x y h i e = omega arith
 pub span-pos : (ty : ElemType) → 0 < span ty
 span-pos ty = pow_pos (8 * bytes_of ty)
 
+span-one : (ty : ElemType) → 1 < span ty
+span-one U8 = lit< tt
+span-one I8 = lit< tt
+span-one U16 = lit< tt
+span-one I16 = lit< tt
+span-one U32 = lit< tt
+span-one I32 = lit< tt
+span-one U64 = lit< tt
+span-one I64 = lit< tt
+
 one_if-lt : (b : Bool) (ty : ElemType) → one_if b < span ty
-one_if-lt b U8 = at b
-  where
-    at : (b : Bool) → one_if b < 2 ^ 8
-    at true = lit< tt
-    at false = lit< tt
-one_if-lt b I8 = one_if-lt' b
-  where
-    one_if-lt' : (b : Bool) → one_if b < 2 ^ 8
-    one_if-lt' true = lit< tt
-    one_if-lt' false = lit< tt
-one_if-lt b U16 = at b
-  where
-    at : (b : Bool) → one_if b < 2 ^ 16
-    at true = lit< tt
-    at false = lit< tt
-one_if-lt b I16 = at b
-  where
-    at : (b : Bool) → one_if b < 2 ^ 16
-    at true = lit< tt
-    at false = lit< tt
-one_if-lt b U32 = at b
-  where
-    at : (b : Bool) → one_if b < 2 ^ 32
-    at true = lit< tt
-    at false = lit< tt
-one_if-lt b I32 = at b
-  where
-    at : (b : Bool) → one_if b < 2 ^ 32
-    at true = lit< tt
-    at false = lit< tt
-one_if-lt b U64 = at b
-  where
-    at : (b : Bool) → one_if b < 2 ^ 64
-    at true = lit< tt
-    at false = lit< tt
-one_if-lt b I64 = at b
-  where
-    at : (b : Bool) → one_if b < 2 ^ 64
-    at true = lit< tt
-    at false = lit< tt
+one_if-lt true ty = span-one ty
+one_if-lt false ty = span-pos ty
 
 pick-lt : (b : Bool) (x y n : ℕ) → x < n → y < n → cond b x y < n
 pick-lt true x y n h i = h
 pick-lt false x y n h i = i
 
-pub op-below : (o : AtomicOp) (ty : ElemType) (x a : ℕ) → x < span ty → a < span ty → op o ty x a < span ty
+-- ---- the ends of a type's order
+pub least_key : (ty : ElemType) → start_value Min ty < span ty
+least_key U8 = lit< tt
+least_key I8 = lit< tt
+least_key U16 = lit< tt
+least_key I16 = lit< tt
+least_key U32 = lit< tt
+least_key I32 = lit< tt
+least_key U64 = lit< tt
+least_key I64 = lit< tt
+
+pub most_key : (ty : ElemType) → start_value Max ty < span ty
+most_key U8 = lit< tt
+most_key I8 = lit< tt
+most_key U16 = lit< tt
+most_key I16 = lit< tt
+most_key U32 = lit< tt
+most_key I32 = lit< tt
+most_key U64 = lit< tt
+most_key I64 = lit< tt
+
+key-lt : (ty : ElemType) (y : ℕ) → y < span ty → order_key ty y < span ty
+key-lt U8 y h = h
+key-lt U16 y h = h
+key-lt U32 y h = h
+key-lt U64 y h = h
+key-lt I8 y h = mod-lt (y + span I8 / 2) (span-pos I8)
+key-lt I16 y h = mod-lt (y + span I16 / 2) (span-pos I16)
+key-lt I32 y h = mod-lt (y + span I32 / 2) (span-pos I32)
+key-lt I64 y h = mod-lt (y + span I64 / 2) (span-pos I64)
+
+greatest : (ty : ElemType) → order_key ty (start_value Min ty) + 1 ≡ span ty
+greatest U8 = refl
+greatest I8 = refl
+greatest U16 = refl
+greatest I16 = refl
+greatest U32 = refl
+greatest I32 = refl
+greatest U64 = refl
+greatest I64 = refl
+
+least : (ty : ElemType) → order_key ty (start_value Max ty) ≡ 0
+least U8 = refl
+least I8 = refl
+least U16 = refl
+least I16 = refl
+least U32 = refl
+least I32 = refl
+least U64 = refl
+least I64 = refl
+
+mod-mod_zero : (y n : ℕ) → y < n → (y + 0) % n ≡ y
+mod-mod_zero y n h = ap (λ v. v % n) (let q : y + 0 ≡ y = omega arith in q) ∙ mod-eq_of_lt h
+
+mod-times_one : (y n : ℕ) → y < n → (y * 1) % n ≡ y
+mod-times_one y n h = ap (λ v. v % n) (let q : y * 1 ≡ y = omega arith in q) ∙ mod-eq_of_lt h
+
+pub op-below : (o : AtomicOp) → IsClosed o
 op-below Min ty x a h i = pick-lt (nat_le (order_key ty x) (order_key ty a)) x a (span ty) h i
 op-below Max ty x a h i = pick-lt (nat_le (order_key ty x) (order_key ty a)) a x (span ty) i h
 op-below Sum ty x a h i = mod-lt (x + a) (span-pos ty)
@@ -189,17 +219,149 @@ op-below Band ty x a h i = lt_of_le_of_lt (and_le_l x a) h
 op-below Lxor ty x a h i = one_if-lt (differ (isnt_zero x) (isnt_zero a)) ty
 op-below Bxor ty x a h i = xor_lt (8 * bytes_of ty) x a h i
 
-op-swaps : (o : AtomicOp) (ty : ElemType) (x a b : ℕ) → x < span ty → a < span ty → b < span ty → op o ty (op o ty x a) b ≡ op o ty (op o ty x b) a
-op-swaps Min ty x a b h i j = lesser_swaps (order_key ty) x a b (key_one ty x a h i) (key_one ty x b h j) (key_one ty a b i j)
-op-swaps Max ty x a b h i j = greater_swaps (order_key ty) x a b (key_one ty x a h i) (key_one ty x b h j) (key_one ty a b i j)
-op-swaps Sum ty x a b h i j = add_swaps x a b (span ty)
-op-swaps Prod ty x a b h i j = mul_swaps x a b (span ty)
-op-swaps Lor ty x a b h i j = logic_swaps (λ p q. p || q) lor3 x a b
-op-swaps Land ty x a b h i j = logic_swaps (λ p q. p && q) land3 x a b
-op-swaps Bor ty x a b h i j = or_swaps x a b
-op-swaps Band ty x a b h i j = and_swaps x a b
-op-swaps Lxor ty x a b h i j = logic_swaps differ lxor3 x a b
-op-swaps Bxor ty x a b h i j = xor_swaps x a b
+pub swaps : (o : AtomicOp) → Swaps o
+swaps Min ty x a b h i j = lesser_swaps (order_key ty) x a b (key_one ty x a h i) (key_one ty x b h j) (key_one ty a b i j)
+swaps Max ty x a b h i j = greater_swaps (order_key ty) x a b (key_one ty x a h i) (key_one ty x b h j) (key_one ty a b i j)
+swaps Sum ty x a b h i j = add_swaps x a b (span ty)
+swaps Prod ty x a b h i j = mul_swaps x a b (span ty)
+swaps Lor ty x a b h i j = logic_swaps (λ p q. p || q) lor3 x a b
+swaps Land ty x a b h i j = logic_swaps (λ p q. p && q) land3 x a b
+swaps Bor ty x a b h i j = or_swaps x a b
+swaps Band ty x a b h i j = and_swaps x a b
+swaps Lxor ty x a b h i j = logic_swaps differ lxor3 x a b
+swaps Bxor ty x a b h i j = xor_swaps x a b
 
 pub op_laws : OpSwaps
-op_laws = record { swaps = op-swaps; below = op-below }
+op_laws = record { swaps = swaps; below = op-below }
+
+-- ---- in either order
+lesser-comm : (k : ℕ → ℕ) (x y : ℕ) → (k x ≡ k y → x ≡ y) → lesser k x y ≡ lesser k y x
+lesser-comm k x y same = at (nat_le (k x) (k y)) (nat_le (k y) (k x)) refl refl
+  where
+    at : (s t : Bool) → nat_le (k x) (k y) ≡ s → nat_le (k y) (k x) ≡ t → cond s x y ≡ cond t y x
+    at true true e f = same (let i = leb-true _ _ e in let j = leb-true _ _ f in omega arith)
+    at true false e f = refl
+    at false true e f = refl
+    at false false e f = absurd (let i = leb-false _ _ e in let j = leb-false _ _ f in omega arith)
+
+greater-comm : (k : ℕ → ℕ) (x y : ℕ) → (k x ≡ k y → x ≡ y) → greater k x y ≡ greater k y x
+greater-comm k x y same = at (nat_le (k x) (k y)) (nat_le (k y) (k x)) refl refl
+  where
+    at : (s t : Bool) → nat_le (k x) (k y) ≡ s → nat_le (k y) (k x) ≡ t → cond s y x ≡ cond t x y
+    at true true e f = sym (same (let i = leb-true _ _ e in let j = leb-true _ _ f in omega arith))
+    at true false e f = refl
+    at false true e f = refl
+    at false false e f = absurd (let i = leb-false _ _ e in let j = leb-false _ _ f in omega arith)
+
+lor-comm : (p q : Bool) → (p || q) ≡ (q || p)
+lor-comm true true = refl
+lor-comm true false = refl
+lor-comm false true = refl
+lor-comm false false = refl
+
+land-comm : (p q : Bool) → (p && q) ≡ (q && p)
+land-comm true true = refl
+land-comm true false = refl
+land-comm false true = refl
+land-comm false false = refl
+
+lxor-comm : (p q : Bool) → differ p q ≡ differ q p
+lxor-comm true true = refl
+lxor-comm true false = refl
+lxor-comm false true = refl
+lxor-comm false false = refl
+
+pub commutes : (o : AtomicOp) → Commutes o
+commutes Min ty x y h i = lesser-comm (order_key ty) x y (key_one ty x y h i)
+commutes Max ty x y h i = greater-comm (order_key ty) x y (key_one ty x y h i)
+commutes Sum ty x y h i = ap (λ v. v % span ty) (add_comm x y)
+commutes Prod ty x y h i = ap (λ v. v % span ty) (mul_comm x y)
+commutes Lor ty x y h i = ap one_if (lor-comm (isnt_zero x) (isnt_zero y))
+commutes Land ty x y h i = ap one_if (land-comm (isnt_zero x) (isnt_zero y))
+commutes Bor ty x y h i = or_comm x y
+commutes Band ty x y h i = and_comm x y
+commutes Lxor ty x y h i = ap one_if (lxor-comm (isnt_zero x) (isnt_zero y))
+commutes Bxor ty x y h i = xor_comm x y
+
+pub associates : (o : AtomicOp) → Associates o
+associates o ty x y z h i j =
+    ap (λ v. op o ty v z) (commutes o ty x y h i)
+    ∙ swaps o ty y x z i h j
+    ∙ commutes o ty (op o ty y z) x (op-below o ty y z i j) h
+
+-- ---- the starting value
+pub start-lt : (o : AtomicOp) → StartsInRange o
+start-lt Min ty = least_key ty
+start-lt Max ty = most_key ty
+start-lt Sum ty = span-pos ty
+start-lt Prod ty = span-one ty
+start-lt Lor ty = span-pos ty
+start-lt Land ty = span-one ty
+start-lt Bor ty = span-pos ty
+start-lt Band ty = omega (arith, span-pos ty)
+start-lt Lxor ty = span-pos ty
+start-lt Bxor ty = span-pos ty
+
+-- a pattern and the starting value give the pattern: of the logical operations, where it is 0 or 1
+pub min_stays : (ty : ElemType) (y : ℕ) → y < span ty → op Min ty y (start_value Min ty) ≡ y
+min_stays ty y h = at (nat_le (order_key ty y) (order_key ty (start_value Min ty))) refl
+  where
+    at : (s : Bool) → nat_le (order_key ty y) (order_key ty (start_value Min ty)) ≡ s → cond s y (start_value Min ty) ≡ y
+    at true e = refl
+    at false e = let n = leb-false _ _ e in let k = greatest ty in let l = key-lt ty y h in absurd (omega (arith, n, k, l))
+
+pub max_stays : (ty : ElemType) (y : ℕ) → y < span ty → op Max ty y (start_value Max ty) ≡ y
+max_stays ty y h = at (nat_le (order_key ty y) (order_key ty (start_value Max ty))) refl
+  where
+    at : (s : Bool) → nat_le (order_key ty y) (order_key ty (start_value Max ty)) ≡ s → cond s (start_value Max ty) y ≡ y
+    at false e = refl
+    at true e = let n = leb-true _ _ e in let k = least ty in key_one ty (start_value Max ty) y (most_key ty) h (omega (arith, n, k))
+
+or-zero : (y : ℕ) → bit_or y 0 ≡ y
+or-zero y = same_from_bits _ _ (λ i. bit_at_or y 0 i ∙ (let z = bit_at-zero i in omega (arith, z)))
+
+xor-zero : (y : ℕ) → bit_xor y 0 ≡ y
+xor-zero y = same_from_bits _ _ (λ i. bit_at_xor y 0 i ∙ (let z = bit_at-zero i in let l : bit_at y i < 2 = mod-lt _ (lit< tt) in omega (arith, z, l)))
+
+lor-false : (b : Bool) → (isnt_zero (one_if b) || false) ≡ b
+lor-false true = refl
+lor-false false = refl
+
+land-true : (b : Bool) → (isnt_zero (one_if b) && true) ≡ b
+land-true true = refl
+land-true false = refl
+
+lxor-false : (b : Bool) → differ (isnt_zero (one_if b)) false ≡ b
+lxor-false true = refl
+lxor-false false = refl
+
+pub stays : (o : AtomicOp) → Stays o
+stays Min ty x a h i = min_stays ty (op Min ty x a) (op-below Min ty x a h i)
+stays Max ty x a h i = max_stays ty (op Max ty x a) (op-below Max ty x a h i)
+stays Sum ty x a h i = mod-mod_zero ((x + a) % span ty) (span ty) (mod-lt (x + a) (span-pos ty))
+stays Prod ty x a h i = mod-times_one ((x * a) % span ty) (span ty) (mod-lt (x * a) (span-pos ty))
+stays Lor ty x a h i = ap one_if (lor-false (isnt_zero x || isnt_zero a))
+stays Land ty x a h i = ap one_if (land-true (isnt_zero x && isnt_zero a))
+stays Bor ty x a h i = or-zero (bit_or x a)
+stays Band ty x a h i = and_mask (bit_and x a) (8 * bytes_of ty) ∙ mod-eq_of_lt (op-below Band ty x a h i)
+stays Lxor ty x a h i = ap one_if (lxor-false (differ (isnt_zero x) (isnt_zero a)))
+stays Bxor ty x a h i = xor-zero (bit_xor x a)
+
+pub starts : (o : AtomicOp) → Starts o
+starts Min ty = min_stays ty (start_value Min ty) (least_key ty)
+starts Max ty = max_stays ty (start_value Max ty) (most_key ty)
+starts Sum ty = mod-mod_zero 0 (span ty) (span-pos ty)
+starts Prod ty = mod-times_one 1 (span ty) (span-one ty)
+starts Lor ty = refl
+starts Land ty = refl
+starts Bor ty = refl
+starts Band ty = and_mask (span ty - 1) (8 * bytes_of ty) ∙ mod-eq_of_lt (start-lt Band ty)
+starts Lxor ty = refl
+starts Bxor ty = refl
+
+pub absorbs : (o : AtomicOp) → Absorbs o
+absorbs o ty x d h i =
+    let e = start-lt o ty in
+    ap (λ v. op o ty x v) (commutes o ty (start_value o ty) d e i)
+    ∙ sym (associates o ty x d (start_value o ty) h i e)
+    ∙ stays o ty x d h i
