@@ -1,0 +1,162 @@
+//! The unexpected headers of an interface, in the order of arrival (Portals 4.3, unexpected messages).
+#![tactic(auto)]
+
+ghost use Rattle.std.specs.Prelude.{◌≡◌, ◌<◌, ◌++◌, ◌∷◌, [], ◌↔◌, IsTrue, IfOk, IfNone, IfSome, Some, None, slice_index_or, remove, length, option_copied};
+ghost use Rattle.ni_model.specs.declared.Noted.{Noted as Header};
+ghost use Rattle.ni_model.specs.Headers.{held, allows as allowed_by, finds as found_by, oldest, without_oldest, names_entry, headers_of, no_room};
+ghost use Rattle.unexpected.specs.Places.{noted as as_noted, header_at};
+
+use ni_model::Noted;
+use ptl_types::{Entry, Handle, MessageKind, NoMemory, UnexpectedHeader, matches};
+use std::alloc::Global;
+use std::marker::Model;
+
+#[cfg(test)]
+mod tests;
+
+/// Whether the entry allows an operation of this kind: a put or an atomic needs `allow_put`, a get `allow_get`, and a
+/// fetch-atomic or a swap both.
+pub fn allows(entry: &Entry, kind: MessageKind) -> bool
+    ensures { result ≡ allowed_by entry.now kind }
+{
+    match kind {
+        MessageKind::Put | MessageKind::Atomic => entry.allow_put,
+        MessageKind::Get => entry.allow_get,
+        _ => entry.allow_put && entry.allow_get,
+    }
+}
+
+fn finds(noted: &Noted, pt: u32, entry: &Entry) -> bool
+    ensures { result ≡ found_by pt entry.now noted.now }
+{
+    noted.pt == pt
+        && matches(entry, &noted.header.header)
+        && allows(entry, noted.header.header.kind)
+}
+
+fn place_of(noted: &[Noted], pt: u32, entry: &Entry) -> Option<usize>
+    ensures none { IfNone result ((oldest pt entry.now noted.now ≡ None) × (without_oldest pt entry.now noted.now ≡ noted.now)) }
+    ensures within { IfSome result (λ i. i < length noted.now) }
+    ensures some { IfSome result (λ i. (d : Header) → (oldest pt entry.now noted.now ≡ Some (slice_index_or noted.now i d)) × (without_oldest pt entry.now noted.now ≡ remove noted.now i)) }
+{
+    for (i, x) in noted.iter().enumerate() {
+        if finds(x, pt, entry) {
+            return Some(i);
+        }
+    }
+    None
+}
+
+fn first_found(noted: &[Noted], pt: u32, entry: &Entry) -> Option<Noted>
+    ensures { result ≡ oldest pt entry.now noted.now }
+{
+    for x in noted {
+        if finds(x, pt, entry) {
+            return Some(*x);
+        }
+    }
+    None
+}
+
+fn some_lies_in(noted: &[Noted], entry: Handle) -> bool
+    ensures { result ≡ names_entry entry noted.now }
+{
+    for x in noted {
+        if x.header.entry.is(entry) {
+            return true;
+        }
+    }
+    false
+}
+
+fn number_of(noted: &[Noted], pt: u32, i: u32) -> Option<&UnexpectedHeader>
+    ensures { option_copied result ≡ header_at pt i noted.now }
+{
+    let mut left = i;
+    for x in noted {
+        if x.pt == pt {
+            if left == 0 {
+                return Some(&x.header);
+            }
+            left -= 1;
+        }
+    }
+    None
+}
+
+/// The headers of all portal table indices of an interface. Their value is the headers, oldest first, and how many there
+/// may be.
+#[derive(Drop)]
+pub struct Headers {
+    noted: Vec<Noted>,
+    limit: u32,
+}
+
+impl Model for Headers {
+    ghost use Rattle.std.specs.Prelude.{◌≤◌, vec_capacity};
+    ghost use Rattle.ni_model.specs.Headers.{Held, held};
+
+    ghost Value = { Held };
+
+    ghost view = { λ h. held h.noted.items h.limit };
+
+    ghost invariant = { λ h. h.limit ≤ vec_capacity h.noted };
+}
+
+impl Headers {
+    /// No headers, with the room of the limit. No later call takes memory.
+    pub fn open(alloc: Global, limit: u32) -> Result<Headers, NoMemory>
+        ensures { IfOk result (λ h. h ≡ held [] limit) }
+    {
+        match Vec::with_capacity(alloc, limit as usize) {
+            Ok(noted) => Ok(Headers { noted, limit }),
+            Err(_) => Err(NoMemory),
+        }
+    }
+
+    /// Whether as many headers wait as the limit allows.
+    pub fn is_full(&self) -> bool
+        ensures { result ≡ no_room self.now }
+    {
+        self.limit as usize <= self.noted.len()
+    }
+
+    /// Adds a header of this portal table index, the youngest.
+    pub fn add(&mut self, pt: u32, header: UnexpectedHeader)
+        requires { length self.old.noted < self.old.limit }
+        ensures { self.new ≡ held (self.old.noted ++ as_noted pt header ∷ []) self.old.limit }
+    {
+        self.noted.push_reserved(Noted { pt, header });
+    }
+
+    /// Takes out the oldest header of this index that the entry matches and allows; `None` exactly where there is none.
+    /// Lengths aren't looked at.
+    pub fn take_oldest(&mut self, pt: u32, entry: &Entry) -> Option<Noted>
+        ensures oldest { result ≡ oldest pt entry.now self.old.noted }
+        ensures rest { self.new ≡ held (without_oldest pt entry.now self.old.noted) self.old.limit }
+    {
+        let at = place_of(&self.noted, pt, entry)?;
+        Some(self.noted.remove(at))
+    }
+
+    /// The oldest header of this index that the entry matches and allows, which stays.
+    pub fn search(&self, pt: u32, entry: &Entry) -> Option<Noted>
+        ensures { result ≡ oldest pt entry.now self.now.noted }
+    {
+        first_found(&self.noted, pt, entry)
+    }
+
+    /// Whether the bytes of a header lie in this entry's memory.
+    pub fn names(&self, entry: Handle) -> bool
+        ensures { result ≡ names_entry entry self.now.noted }
+    {
+        some_lies_in(&self.noted, entry)
+    }
+
+    /// Header number i of an index in the order of arrival, from 0; `None` exactly where the index has no more than i.
+    pub fn at(&self, pt: u32, i: u32) -> Option<&UnexpectedHeader>
+        ensures { option_copied result ≡ header_at pt i self.now.noted }
+    {
+        number_of(&self.noted, pt, i)
+    }
+}

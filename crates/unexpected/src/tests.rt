@@ -1,0 +1,84 @@
+//! Headers are taken in the order of arrival.
+
+use crate::Headers;
+use ptl_types::{AckRequest, ElemType, Entry, Handle, Header, MessageKind, UnexpectedHeader};
+use std::test::Fail;
+
+fn put(match_bits: u64, place: u64) -> UnexpectedHeader {
+    UnexpectedHeader {
+        entry: Handle { slot: 0, stamp: 0 },
+        place,
+        delivered: 1,
+        header: Header {
+            kind: MessageKind::Put,
+            source: 1,
+            target: 0,
+            pt: 1,
+            match_bits,
+            offset: 0,
+            length: 1,
+            hdr_data: 0,
+            op: None,
+            swap: None,
+            ty: ElemType::U8,
+            operand: 0,
+            ack: AckRequest::NoAck,
+            home: None,
+            home_offset: 0,
+            ok: true,
+        },
+    }
+}
+
+fn entry(match_bits: u64) -> Entry {
+    Entry {
+        start: 0,
+        length: 1,
+        ct: None,
+        match_id: None,
+        match_bits,
+        ignore_bits: 0,
+        min_free: 0,
+        allow_put: true,
+        allow_get: false,
+        use_once: true,
+        manage_local: false,
+        no_truncate: false,
+        count_comm: false,
+        count_overflow: false,
+    }
+}
+
+#[test]
+fn the_oldest_that_matches_is_taken(rt: HostRuntime) -> Result<(), Fail> {
+    let mut headers = Headers::open(rt.alloc(), 2)?;
+    assert!(rt; headers.at(1, 0).is_none());
+    for place in 0..2 {
+        if !headers.is_full() {
+            headers.add(1, put(5, place));
+        }
+    }
+    assert!(rt; headers.is_full());
+    assert_eq!(rt; headers.at(1, 1).map(|header| header.place), Some(1));
+    assert!(rt; headers.at(0, 0).is_none());
+    assert!(rt; headers.names(Handle { slot: 0, stamp: 0 }));
+    assert!(rt; headers.search(1, &entry(6)).is_none());
+    assert_eq!(rt;
+        headers.search(1, &entry(5)).map(|noted| noted.header.place),
+        Some(0)
+    );
+    assert_eq!(rt;
+        headers
+            .take_oldest(1, &entry(5))
+            .map(|noted| noted.header.place),
+        Some(0)
+    );
+    assert_eq!(rt;
+        headers
+            .take_oldest(1, &entry(5))
+            .map(|noted| noted.header.place),
+        Some(1)
+    );
+    assert!(rt; headers.take_oldest(1, &entry(5)).is_none());
+    Ok(())
+}
