@@ -1,5 +1,5 @@
 -- What an acknowledgement or a reply does where it comes home (Portals 4.3, acknowledgements and replies).
-use Rattle.std.specs.Prelude.{ℕ, Bool, ◌&&◌, ◌||◌, not, nat_lt, nat_le, ◌+◌, ◌-◌, List, Option, Some, None, if◌then◌else◌}
+use Rattle.std.specs.Prelude.{ℕ, Bool, false, [], ◌∷◌, ◌&&◌, ◌||◌, not, nat_lt, nat_le, ◌+◌, ◌-◌, List, Option, Some, None, if◌then◌else◌}
 use Rattle.ptl_types.specs.declared.handles.Handle.{Handle}
 use Rattle.ptl_types.specs.declared.handles.Count.{Count}
 use Rattle.ptl_types.specs.declared.headers.Header.{Header}
@@ -8,7 +8,7 @@ use Rattle.ptl_types.specs.declared.calls.Outcome.TheVariants.{Answered, Dropped
 use Rattle.ptl_types.specs.Elements.{written}
 use Rattle.ptl_types.specs.Messages.{Sent}
 use Rattle.ni_model.specs.declared.Bound.{Bound}
-use Rattle.ni_model.specs.Tables.{Table, lookup, changed, where_set}
+use Rattle.ni_model.specs.Tables.{Table, Live, lookup, changed, where_set}
 use Rattle.ni_model.specs.Counts.{successes, failures, counted}
 use Rattle.ni_model.specs.Queues.{Waiting, raised}
 use Rattle.ni_model.specs.Events.{is_reply, asks_event, answer_event}
@@ -76,3 +76,8 @@ answered_at p m (Some b) = if is_due m.header b then came_home p m b else lost_a
 
 unfoldable pub answered : Home → Sent → Returned
 answered p m = answered_at p m (bound_at m.header.home p.mds)
+
+-- some live descriptor awaits an answer
+abbrev pub is_awaited : List (Live Bound) → Bool
+is_awaited [] = false
+is_awaited (x ∷ xs) = nat_lt 0 x.value.awaits || is_awaited xs

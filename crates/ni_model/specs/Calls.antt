@@ -61,16 +61,22 @@ write_memory start bytes s = record s { memory = written start bytes s.memory }
 abbrev pub new_index : Option Handle → Index
 new_index eq = record { eq = eq; priority = []; overflow = [] }
 
+abbrev pub with_index : ℕ → Option Handle → State → State
+with_index pt eq s = record s { indices = slice_set s.indices pt (Some (new_index eq)) }
+
 abbrev pub pt_alloc : ℕ → Option Handle → State → Done (Result (Unit {0}) NiFault)
-pt_alloc pt eq s = ends_by (pt_alloc_fault pt eq (side_of s) s.eqs) s (record s { indices = slice_set s.indices pt (Some (new_index eq)) }) tt
+pt_alloc pt eq s = ends_by (pt_alloc_fault pt eq (side_of s) s.eqs) s (with_index pt eq s) tt
 
 abbrev pub pt_free : ℕ → State → Done (Result (Unit {0}) NiFault)
 pt_free pt s = ends_by (pt_free_fault pt (side_of s)) s (record s { indices = slice_set s.indices pt None }) tt
 
 -- ---- counting events
 
+abbrev pub with_counter : ℕ → State → State
+with_counter slot s = record s { cts = with_new slot (successes 0) s.cts }
+
 abbrev pub ct_alloc : ℕ → State → Done (Result Handle NiFault)
-ct_alloc slot s = ends_by (alloc_fault s.cts) s (record s { cts = with_new slot (successes 0) s.cts }) (handle slot s.cts.given)
+ct_alloc slot s = ends_by (alloc_fault s.cts) s (with_counter slot s) (handle slot s.cts.given)
 
 abbrev pub ct_free : Handle → State → Done (Result (Unit {0}) NiFault)
 ct_free ct s = ends_by (ct_free_fault ct s.cts s.indices s.mds s.pending) s (record s { cts = without ct s.cts }) tt
@@ -113,8 +119,11 @@ eq_get eq s = eq_get_at eq s (lookup eq s.eqs.live)
 abbrev pub bound : Descriptor → Bound
 bound md = record { md = md; awaits = 0 }
 
+abbrev pub with_bound : ℕ → Descriptor → State → State
+with_bound slot md s = record s { mds = with_new slot (bound md) s.mds }
+
 abbrev pub md_bind : ℕ → Descriptor → State → Done (Result Handle NiFault)
-md_bind slot md s = ends_by (bind_fault md (length s.memory) s.cts s.eqs s.mds) s (record s { mds = with_new slot (bound md) s.mds }) (handle slot s.mds.given)
+md_bind slot md s = ends_by (bind_fault md (length s.memory) s.cts s.eqs s.mds) s (with_bound slot md s) (handle slot s.mds.given)
 
 abbrev pub md_release : Handle → State → Done (Result (Unit {0}) NiFault)
 md_release md s = ends_by (release_fault md s.mds s.pending) s (record s { mds = without md s.mds }) tt
@@ -157,9 +166,11 @@ start d s =
     ends_by (deed_fault d s.mds) s (with_home r.home s) r.message
 
 -- answers the operation's number
+abbrev pub with_operation : Deed → Handle → ℕ → State → State
+with_operation d ct threshold s = record s { pending = with_posted d ct threshold s.pending }
+
 abbrev pub triggered : Deed → Handle → ℕ → State → Done (Result ℕ NiFault)
-triggered d ct threshold s =
-    ends_by (triggered_fault d ct s.cts s.mds s.pending) s (record s { pending = with_posted d ct threshold s.pending }) s.pending.given
+triggered d ct threshold s = ends_by (triggered_fault d ct s.cts s.mds s.pending) s (with_operation d ct threshold s) s.pending.given
 
 -- `ready` answers some ready operation, and none exactly where there is none
 abbrev pub AnswersReady : State → Option ℕ → Type 0
