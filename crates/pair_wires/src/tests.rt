@@ -1,0 +1,191 @@
+//! A full wire, an empty wire, what is left at the closing, and two threads.
+
+ghost use Rattle.std.specs.Prelude.{◌≡◌, ◌+◌, ◌≤◌, ◌<◌, [], length};
+ghost use Rattle.ptl_types.specs.declared.headers.Lane.TheVariants.{Request};
+ghost use Rattle.ptl_types.specs.Kinds.{lane_of};
+ghost use Rattle.pair_wires.specs.Bounds.{KeepsBounds};
+ghost use Rattle.pair_wires.specs.Wires.{IsOutOf, IsInOf};
+
+use crate::{Bounds, InEnd, OutEnd, PlainLane, Wire};
+use ptl_types::{AckRequest, Bytes, ElemType, Header, Lane, Message, MessageKind};
+use std::alloc::Global;
+use std::sync::Wait;
+use std::test::*;
+use std::thread;
+use std::thread::Threads;
+
+// Requests without bytes from rank 0 to rank 1.
+fn requests(messages: u32) -> Bounds
+    ensures { result ≡ record { source = 0; target = 1; lane = Request; messages = messages; bytes = 0 } }
+{
+    Bounds {
+        source: 0,
+        target: 1,
+        lane: Lane::Request,
+        messages,
+        bytes: 0,
+    }
+}
+
+// A put without bytes, with this number as its header data.
+fn put(alloc: Global, number: u64) -> Message
+    ensures travels { (result.header.source ≡ 0) × (result.header.target ≡ 1) × (lane_of result.header.kind ≡ Request) }
+    ensures bytes { result.bytes ≡ [] }
+{
+    let header = Header {
+        kind: MessageKind::Put,
+        source: 0,
+        target: 1,
+        pt: 0,
+        match_bits: 5,
+        offset: 0,
+        length: 0,
+        hdr_data: number,
+        op: None,
+        swap: None,
+        ty: ElemType::U8,
+        operand: 0,
+        ack: AckRequest::NoAck,
+        home: None,
+        home_offset: 0,
+        ok: true,
+    };
+    Message::new(header, Bytes::empty(alloc))
+}
+
+// Sends a put with this number. Where it comes back, its number.
+fn send<R: Wait>(rt: &R, alloc: Global, wire: &Wire, out: &mut OutEnd, number: u64) -> Option<u64>
+    requires wire { IsOutOf wire.now out.old }
+    requires lane { wire.now.bounds ≡ record { source = 0; target = 1; lane = Request; messages = wire.now.bounds.messages; bytes = 0 } }
+    requires kept { KeepsBounds wire.now.bounds out.old.sent }
+    requires room { length out.old.sent < wire.now.bounds.messages }
+    ensures wire { IsOutOf wire.now out.new }
+    ensures kept { KeepsBounds wire.now.bounds out.new.sent }
+    ensures count { length out.new.sent ≤ length out.old.sent + 1 }
+{
+    match wire.push(rt, out, put(alloc, number)) {
+        Ok(()) => None,
+        Err(back) => Some(back.header().hdr_data),
+    }
+}
+
+// Receives a message, and answers its number.
+fn receive<R: Wait>(rt: &R, wire: &Wire, into: &mut InEnd) -> Option<u64>
+    requires { IsInOf wire.now into.old }
+    ensures { IsInOf wire.now into.new }
+{
+    wire.pop(rt, into).map(|message| message.header().hdr_data)
+}
+
+// The number of a lane's oldest message, which leaves it.
+fn oldest(lane: &mut PlainLane) -> Option<u64> {
+    lane.pop_front().map(|message| message.header().hdr_data)
+}
+
+#[test]
+fn a_full_wire_gives_the_message_back(rt: HostRuntime) -> Result<(), Fail> {
+    let (wire, mut out, mut into) = Wire::open(rt.alloc(), 2, requests(3))?;
+    let first = send(&rt, rt.alloc(), &wire, &mut out, 1);
+    let second = send(&rt, rt.alloc(), &wire, &mut out, 2);
+    let third = send(&rt, rt.alloc(), &wire, &mut out, 3);
+    assert_eq!(rt; [first, second, third], [None, None, Some(3)]);
+    let first = receive(&rt, &wire, &mut into);
+    let second = receive(&rt, &wire, &mut into);
+    let third = receive(&rt, &wire, &mut into);
+    assert_eq!(rt; [first, second, third], [Some(1), Some(2), None]);
+    Ok(())
+}
+
+#[test]
+fn what_a_wire_holds_goes_behind_what_the_lane_holds(rt: HostRuntime) -> Result<(), Fail> {
+    let (wire, mut out, mut into) = Wire::open(rt.alloc(), 3, requests(3))?;
+    let mut rest = PlainLane::open(rt.alloc(), 4)?;
+    rest.push_back(put(rt.alloc(), 7));
+    let first = send(&rt, rt.alloc(), &wire, &mut out, 1);
+    let second = send(&rt, rt.alloc(), &wire, &mut out, 2);
+    let third = send(&rt, rt.alloc(), &wire, &mut out, 3);
+    assert_eq!(rt; [first, second, third], [None, None, None]);
+    assert_eq!(rt; receive(&rt, &wire, &mut into), Some(1));
+    wire.close(&rt, out, into, &mut rest);
+    assert_eq!(rt; rest.len(), 3);
+    let moved = [oldest(&mut rest), oldest(&mut rest), oldest(&mut rest)];
+    assert_eq!(rt; moved, [Some(7), Some(2), Some(3)]);
+    assert_eq!(rt; oldest(&mut rest), None);
+    Ok(())
+}
+
+// Sends puts with the numbers below the count, whatever comes back.
+fn send_all<R: Wait>(rt: &R, alloc: Global, wire: &Wire, out: OutEnd, count: u32) -> OutEnd
+    requires wire { IsOutOf wire.now out × (out.sent ≡ []) }
+    requires lane { wire.now.bounds ≡ record { source = 0; target = 1; lane = Request; messages = wire.now.bounds.messages; bytes = 0 } }
+    requires room { count ≤ wire.now.bounds.messages }
+    ensures { IsOutOf wire.now result }
+{
+    let mut out = out;
+    for number in 0..count {
+        let _ = send(rt, alloc, wire, &mut out, number as u64);
+    }
+    out
+}
+
+// Receives until the count is reached or a number comes out of order, and answers how many came in order.
+fn receive_all<R: Wait>(rt: &R, wire: &Wire, into: InEnd, count: u64) -> (InEnd, u64)
+    requires { IsInOf wire.now into }
+    ensures { IsInOf wire.now result.0 }
+{
+    let mut into = into;
+    let mut received = 0;
+    for _ in rt.forever() {
+        if received >= count {
+            break;
+        }
+        match receive(rt, wire, &mut into) {
+            Some(number) => {
+                if number != received {
+                    break;
+                }
+                received += 1;
+            }
+            None => thread::yield_now(),
+        }
+    }
+    (into, received)
+}
+
+fn move_between_threads<R: Threads + Wait + Sync>(
+    rt: &R,
+    alloc: Global,
+    wire: Wire,
+    out: OutEnd,
+    into: InEnd,
+    rest: &mut PlainLane,
+) -> u64
+    requires wire { IsOutOf wire out × (out.sent ≡ []) × IsInOf wire into }
+    requires lane { wire.bounds ≡ record { source = 0; target = 1; lane = Request; messages = 1000; bytes = 0 } }
+    requires room { (rest.old.messages ≡ []) × (wire.capacity ≤ rest.old.capacity) }
+{
+    let shared = &wire;
+    let (out, (into, received)) = thread::join(
+        rt,
+        move ||
+            requires { IsOutOf shared.now out × (out.sent ≡ []) × (shared.now.bounds ≡ record { source = 0; target = 1; lane = Request; messages = 1000; bytes = 0 }) }
+            ensures { IsOutOf shared.entry.now result }
+        { send_all(rt, alloc, shared, out, 1000) },
+        move ||
+            requires { IsInOf shared.now into }
+            ensures { IsInOf shared.entry.now result.0 }
+        { receive_all(rt, shared, into, 1000) },
+    );
+    wire.close(rt, out, into, rest);
+    received
+}
+
+#[test]
+fn a_thousand_messages_between_two_threads(rt: HostRuntime) -> Result<(), Fail> {
+    let (wire, out, into) = Wire::open(rt.alloc(), 1000, requests(1000))?;
+    let mut rest = PlainLane::open(rt.alloc(), 1000)?;
+    let received = move_between_threads(&rt, rt.alloc(), wire, out, into, &mut rest);
+    assert_eq!(rt; received, 1000);
+    assert_eq!(rt; rest.len(), 0);
+    Ok(())
+}

@@ -1,0 +1,150 @@
+//! A wire from one rank to another, over a queue under a rule.
+
+ghost use Rattle.std.specs.Prelude.{◌≡◌, true, ◌+◌, ◌≤◌, ◌<◌, [], ◌∷◌, ◌++◌, List, length, IfOk, IfErr, OnOk, IfSome, IfNone};
+ghost use Rattle.ptl_types.specs.Messages.{Sent};
+ghost use Rattle.crossbeam_queue.specs.Passes.{view, IsPassOf};
+ghost use Rattle.pair_wires.specs.Wires.{IsOutOf, IsInOf, Opens, raised};
+ghost use Rattle.pair_wires.specs.Bounds.{KeepsBounds};
+ghost use Rattle.pair_wires.specs.Rules.{Drains};
+ghost use Rattle.pair_wires.specs.Lanes.{plain};
+
+use crate::bounds::Bounds;
+use crate::ends::{InEnd, OutEnd};
+use crate::lane::PlainLane;
+use crate::rule::{DrainStep, EndView, FromEnds, IntoEnds, PopStep, PushStep, WireRule, Within};
+use crossbeam_queue::{Pass, RuledArrayQueue};
+use ptl_types::{Message, NoMemory};
+use std::alloc::Global;
+use std::marker::{Brand, Model};
+use std::sync::Wait;
+
+type Line = RuledArrayQueue<Message, EndView, WireRule>;
+
+/// A wire. Threads share it by reference, and each of its two ends has one user at a time.
+///
+/// It stands for its own identity, its bounds and its capacity in messages. Messages come out in the order in which they
+/// went in.
+#[derive(Drop)]
+pub struct Wire {
+    line: Line,
+    bounds: Bounds,
+}
+
+impl Model for Wire {
+    ghost use Rattle.crossbeam_queue.specs.Passes.{ruled_capacity};
+    ghost use Rattle.pair_wires.specs.Wires.{WireState};
+
+    ghost Value = { WireState };
+
+    ghost view = { λ w. record { id = w.line.table.shared.table_id; bounds = w.bounds; capacity = ruled_capacity w.line } };
+}
+
+fn risen(count: u64) -> u64
+    ensures { result ≡ raised count }
+{
+    count.saturating_add(1)
+}
+
+// The oldest message of a queue whose two ends became one pass goes to the end of a lane.
+fn move_one<R: Wait>(rt: &R, line: &Line, pass: &mut Pass<Message, EndView>, rest: &mut PlainLane)
+    requires pass { IsPassOf line.now pass.old × ((view pass.old).pushes ≡ true) × ((view pass.old).pops ≡ true) }
+    requires some { length (view pass.old).received < length (view pass.old).sent }
+    requires room { length rest.old.messages < rest.old.capacity }
+    ensures pass { IsPassOf line.now pass.new }
+    ensures moved { (m : Sent) × Drains (view pass.old) m (view pass.new) × (rest.new ≡ plain (rest.old.messages ++ m ∷ []) rest.old.capacity) }
+{
+    let Some(message) = line.pop_as::<DrainStep, R>(rt, pass) else {
+        unreachable!()
+    };
+    rest.push_back(message);
+}
+
+impl Wire {
+    fn open_within<J: Within>(
+        alloc: Global,
+        capacity: u32,
+        bounds: Bounds,
+    ) -> Result<(Wire, OutEnd, InEnd), NoMemory>
+        requires capacity { 0 < capacity }
+        requires bounds { J.bounds ≡ bounds }
+        ensures { IfOk result (λ r. Opens capacity bounds r.0 r.1 r.2) }
+    {
+        let Ok((line, mut pass)) = Line::ruled(alloc, capacity as usize) else {
+            return Err(NoMemory);
+        };
+        let other = line.another::<IntoEnds<J>>(&mut pass);
+        let out = OutEnd { pass, refused: 0 };
+        let into = InEnd {
+            pass: other,
+            empty: 0,
+        };
+        Ok((Wire { line, bounds }, out, into))
+    }
+
+    /// A wire that holds at most `capacity` messages, with its two ends. Later calls take no memory.
+    pub fn open(
+        alloc: Global,
+        capacity: u32,
+        bounds: Bounds,
+    ) -> Result<(Wire, OutEnd, InEnd), NoMemory>
+        requires { 0 < capacity }
+        ensures { IfOk result (λ r. Opens capacity bounds r.0 r.1 r.2) }
+    {
+        Wire::open_within::<Brand>(alloc, capacity, bounds)
+    }
+
+    /// Sends a message behind all that was sent. It may wait inside the queue, and never for room.
+    ///
+    /// `Err` gives the message back, only where the wire was full at this call's own step: so never before as many were sent
+    /// as the wire holds. Then nothing was sent, and the count of refused pushes rose.
+    pub fn push<R: Wait>(&self, rt: &R, end: &mut OutEnd, message: Message) -> Result<(), Message>
+        requires wire { IsOutOf self.now end.old }
+        requires bounds { KeepsBounds self.now.bounds (end.old.sent ++ message ∷ []) }
+        ensures wire { IsOutOf self.now end.new }
+        ensures pushed { OnOk result ((end.new.sent ≡ end.old.sent ++ message ∷ []) × (end.new.refused ≡ end.old.refused)) }
+        ensures full { IfErr result (λ m. (m ≡ message) × (end.new.sent ≡ end.old.sent) × (end.new.refused ≡ raised end.old.refused)) }
+        ensures only_when_full { IfErr result (λ _. self.now.capacity ≤ length end.old.sent) }
+    {
+        let pushed = self.line.push_as::<PushStep, R>(rt, &mut end.pass, message);
+        if pushed.is_err() {
+            end.refused = risen(end.refused);
+        }
+        pushed
+    }
+
+    /// Receives the oldest message. It may wait inside the queue, and never for a message.
+    ///
+    /// `None` only where the wire was empty at this call's own step. Then nothing was received, and the count of empty pops
+    /// rose.
+    pub fn pop<R: Wait>(&self, rt: &R, end: &mut InEnd) -> Option<Message>
+        requires { IsInOf self.now end.old }
+        ensures wire { IsInOf self.now end.new }
+        ensures popped { IfSome result (λ m. (end.new.received ≡ end.old.received ++ m ∷ []) × (end.new.empty ≡ end.old.empty)) }
+        ensures bounds { IfSome result (λ _. KeepsBounds self.now.bounds end.new.received) }
+        ensures empty { IfNone result ((end.new.received ≡ end.old.received) × (end.new.empty ≡ raised end.old.empty)) }
+    {
+        let popped = self.line.pop_as::<PopStep, R>(rt, &mut end.pass);
+        if popped.is_none() {
+            end.empty = risen(end.empty);
+        }
+        popped
+    }
+
+    /// Ends the wire. What it holds goes, oldest first, to the end of the lane. It may wait inside the queue.
+    pub fn close<R: Wait>(self, rt: &R, out: OutEnd, into: InEnd, rest: &mut PlainLane)
+        requires ends { IsOutOf self out × IsInOf self into }
+        requires room { length rest.old.messages + self.capacity ≤ rest.old.capacity }
+        ensures held { (held : List Sent) × (rest.new.messages ≡ rest.old.messages ++ held) × (out.sent ≡ into.received ++ held) }
+        ensures capacity { rest.new.capacity ≡ rest.old.capacity }
+        ensures bounds { KeepsBounds self.bounds out.sent }
+    {
+        let Wire { line, .. } = self;
+        let OutEnd { mut pass, .. } = out;
+        let InEnd { pass: other, .. } = into;
+        line.absorb::<FromEnds>(&mut pass, other);
+        let count = line.len_as::<DrainStep, R>(rt, &mut pass);
+        for _ in 0..count {
+            move_one(rt, &line, &mut pass, rest);
+        }
+    }
+}
