@@ -1,0 +1,11 @@
+pub mod Origin
+pub mod Once
+pub mod Simulate
+pub mod Traffic
+pub mod SentOnce
+pub mod FromCut
+pub mod Laws
+pub mod FromRest
+pub mod Due
+pub mod Waves
+pub mod Moments

@@ -1,0 +1,5 @@
+pub mod History
+pub mod Cut
+pub mod Moment
+pub mod Wave
+pub mod Barrier
