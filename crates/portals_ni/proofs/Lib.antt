@@ -1,3 +1,5 @@
-pub mod Naming
-pub mod Keeping
-pub mod Due
+pub mod Rising
+pub mod Named
+pub mod Kept
+pub mod Chosen
+pub mod Quiet

@@ -1,8 +1,3 @@
-pub mod Tables
-pub mod State
-pub mod Triggered
-pub mod Arrival
-pub mod Starts
-pub mod Calls
-pub mod Kept
+pub mod Plain
+pub mod Waiting
 pub mod Sound

@@ -1,17 +1,18 @@
 -- What an interface keeps.
-use Rattle.std.specs.Prelude.{◌≡◌, ◌≤◌, length, All, vec_len, vec_capacity}
-use Rattle.portals_ni.specs.declared.nic.Nic.TheInside.{Inside}
-use Rattle.portals_ni.specs.Kept.{HasPartsIn, IsBoundIn, IsSourced}
+use Rattle.std.specs.Prelude.{◌≡◌, ◌≤◌, ℕ, List, Option, true, false, length, sum_by, All}
+use Rattle.ni_model.specs.declared.Bound.{Bound}
+use Rattle.ni_model.specs.Tables.{Table}
+use Rattle.ni_model.specs.Lists.{Index, entries_in}
+use Rattle.ni_model.specs.State.{Posted}
+use Rattle.ni_model.specs.Calls.{entry_slot}
+use Rattle.ni_model.specs.Conditions.{HasPartsIn, IsBoundIn}
+use Rattle.ni_model.specs.Refusals.{deed_fits}
 
-pub record IsSound (n : Inside) : Type 0 where
-  -- the parts of entries and descriptors lie in the region, and what is to be sent lies in a live descriptor
-  pub entries : All (HasPartsIn (length n.region.items)) n.indices.items
-  pub bound : All (IsBoundIn (length n.region.items)) n.mds.items
-  pub sourced : All (IsSourced n.mds.items) n.pending.items
-  -- nothing was taken out of these tables, and they have room up to their limits
-  pub cts : vec_len n.cts ≡ n.given.cts
-  pub cts_room : n.limits.cts ≤ vec_capacity n.cts
-  pub mds : vec_len n.mds ≡ n.given.mds
-  pub mds_room : n.limits.mds ≤ vec_capacity n.mds
-  pub few_pending : vec_len n.pending ≤ n.limits.triggered
-  pub pending_room : n.limits.triggered ≤ vec_capacity n.pending
+pub record IsSound (memory : List ℕ) (indices : List (Option Index)) (given : ℕ) (mds : Table Bound) (waiting : List Posted) : Type 0 where
+  -- the parts of entries and descriptors lie in the region, and what a pending operation sends lies in its descriptor
+  pub entries : All (HasPartsIn (length memory)) indices
+  pub bound : All (λ x. IsBoundIn (length memory) x.value) mds.live
+  pub sourced : All (λ p. deed_fits p.deed mds ≡ true) waiting
+  -- nothing was unlinked: as many entries are linked as stamps were given, under the slots below
+  pub linked : sum_by entries_in indices ≡ given
+  pub slots : (slot : ℕ) → given ≤ slot → entry_slot indices slot ≡ false

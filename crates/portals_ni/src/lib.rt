@@ -1,15 +1,15 @@
-//! One network interface with the behaviour of Portals 4.3, over plain lists: counting events, memory descriptors,
-//! persistent match entries in priority lists, and triggered puts.
+//! One network interface with the behaviour of Portals 4.3, over plain lists of entries and operations: counting events,
+//! memory descriptors, persistent match entries in priority lists, and triggered puts.
 //!
-//! This is its first form. What the full interface refuses by name, a caller has to see to here; only want of memory is
-//! answered.
+//! This is its first form. Its contracts are the model's words for the calls; what the full interface refuses by name, and
+//! what isn't built yet, are conditions here, and only want of memory is answered.
 #![tactic(auto)]
 
-mod lists;
+mod arrival;
+mod index;
 mod nic;
 mod pending;
 mod starts;
-mod tables;
 
 pub use nic::Nic;
 pub use ptl_types::{Appended, Deed, Delivered, Limits, NiFault, Outcome, PutArgs};

@@ -1,20 +1,25 @@
 //! The interface itself.
 
-ghost use Rattle.std.specs.Prelude.{◌≡◌, ◌<◌, ◌≤◌, ◌+◌, ◌-◌, ◌^◌, ◌==◌, ℕ, false, true, [], Some, None, Ok, Err, length, vec_capacity, replicate, slice_index_or, slice_set, IsTrue, IsSome, IfSome, IfNone, IfOk, OnOk, OnErr, IsOk, IfErr};
+ghost use Rattle.std.specs.Prelude.{◌≡◌, ◌<◌, ◌≤◌, ◌+◌, false, true, Some, None, Ok, length, replicate, IsTrue, IfOk, IfErr, OnOk, OnErr};
 ghost use Rattle.ptl_types.specs.declared.headers.MessageKind.TheVariants.{Put as PutKind};
 ghost use Rattle.ptl_types.specs.declared.headers.AckRequest.TheVariants.{NoAck};
-ghost use Rattle.portals_ni.specs.State.{opened};
-ghost use Rattle.portals_ni.specs.Tables.{lookup, next_handle};
-ghost use Rattle.portals_ni.specs.Calls.{pt_allocated, appended, grown, linked as linked_as, ct_allocated, ct_raised, md_bound, posted, CanRise, IsLiveIfNamed};
-ghost use Rattle.portals_ni.specs.Triggered.{is_ready as ready_in};
-ghost use Rattle.portals_ni.specs.Starts.{IsFired, IsPlainPut};
-ghost use Rattle.portals_ni.specs.Arrival.{IsDelivered, index_at, memory_after, one_more, arrival};
-ghost use Rattle.portals_ni.specs.Kept.{IsPartIn, bytes_read};
+ghost use Rattle.ni_model.specs.State.{opened, side_of, parts_of, target, delivers};
+ghost use Rattle.ni_model.specs.Tables.{has_slot};
+ghost use Rattle.ni_model.specs.Ready.{is_ready, fired, fires};
+ghost use Rattle.ni_model.specs.Append.{append_fault};
+ghost use Rattle.ni_model.specs.Refusals.{pt_alloc_fault, alloc_fault, ct_inc_fault, bind_fault, triggered_fault};
+ghost use Rattle.ni_model.specs.Conditions.{MayStart};
+ghost use Rattle.ni_model.specs.Calls.{ends, Makes, MayLackMemory, entry_slot, AnswersReady, pt_alloc as pt_alloc_of, ct_alloc as ct_alloc_of, ct_get as ct_get_of, ct_inc as ct_inc_of, md_bind as md_bind_of, me_append as me_append_of, triggered as triggered_of};
+ghost use Rattle.portals_ni.specs.Plain.{IsPlainEntry, IsPlainPut};
 
-use crate::lists::{Linked, PriorityList, chosen_in, delivered};
-use crate::pending::{Operation, Pending, first_due, has_due, place_in};
-use crate::starts::{count_start, put_message};
-use crate::tables::{Given, Live, count_one, find_live, raise};
+use crate::arrival::{message_counter, write_part};
+use crate::index::{Index, append_to, chosen_in};
+use crate::pending::Waiting;
+use crate::starts::{count_one, put_message, start_counter};
+use counters::Counter;
+use handle_store::Store;
+use memory_desc::Region;
+use ni_model::{Bound, Linked};
 use ptl_types::{
     Appended, Bytes, Count, Deed, Delivered, Descriptor, Entry, Handle, Limits, List, Message,
     NiFault, NoMemory, Outcome, Rank,
@@ -29,18 +34,21 @@ pub struct Nic {
     rank: Rank,
     ranks: u32,
     limits: Limits,
-    region: Vec<u8>,
-    indices: Vec<Option<PriorityList>>,
-    cts: Vec<Live<Count>>,
-    mds: Vec<Live<Descriptor>>,
-    pending: Vec<Pending>,
-    given: Given,
+    region: Region,
+    indices: Vec<Option<Index>>,
+    entries_given: u64,
+    cts: Store<Counter>,
+    mds: Store<Bound>,
+    pending: Waiting,
     drops: u64,
     violations: u64,
 }
 
 impl Model for Nic {
-    ghost use Rattle.portals_ni.specs.State.{State};
+    ghost use Rattle.std.specs.Prelude.{[]};
+    ghost use Rattle.ni_model.specs.State.{State};
+    ghost use Rattle.ni_model.specs.Headers.{held};
+    ghost use Rattle.ni_model.specs.Tables.{no_things};
 
     ghost Value = { State };
 
@@ -50,84 +58,39 @@ impl Model for Nic {
       rank = n.rank;
       ranks = n.ranks;
       limits = n.limits;
-      memory = n.region.items;
+      memory = n.region;
       indices = n.indices.items;
-      cts = n.cts.items;
-      mds = n.mds.items;
-      pending = n.pending.items;
-      given = n.given;
+      entries_given = n.entries_given;
+      headers = held [] n.limits.unexpected;
+      cts = n.cts;
+      eqs = no_things n.limits.eqs;
+      mds = n.mds;
+      pending = n.pending;
       drops = n.drops;
       violations = n.violations;
     } };
 
-    ghost invariant = { IsSound };
+    ghost invariant = { λ n. IsSound n.region n.indices.items n.entries_given n.mds n.pending.waiting };
 }
 
-fn with_room<T: Drop>(alloc: Global, room: u32) -> Result<Vec<T>, NoMemory>
-    ensures empty { IfOk result (λ v. v.items ≡ []) }
-    ensures room { IfOk result (λ v. room ≤ vec_capacity v) }
-{
-    match Vec::with_capacity(alloc, room as usize) {
-        Ok(empty) => Ok(empty),
-        Err(_) => Err(NoMemory),
-    }
-}
-
-fn empty_indices(alloc: Global, pts: u32) -> Result<Vec<Option<PriorityList>>, NoMemory>
+fn empty_indices(alloc: Global, pts: u32) -> Result<Vec<Option<Index>>, NoMemory>
     ensures { IfOk result (λ v. v.items ≡ replicate pts None) }
 {
-    let mut indices = with_room(alloc, pts)?;
-    for _i in 0..pts {
-        indices.push_reserved(None);
-    }
-    Ok(indices)
-}
-
-fn append_to(indices: &mut [Option<PriorityList>], pt: u32, linked: Linked) -> Result<(), NoMemory>
-    requires { IsSome (index_at pt indices.old) }
-    ensures ok { OnOk result (indices.new ≡ slice_set indices.old pt (grown linked (index_at pt indices.old))) }
-    ensures err { OnErr result (indices.new ≡ indices.old) }
-{
-    let at = pt as usize;
-    if at < indices.len() {
-        return append_in(&mut indices[at], linked);
-    }
-    Ok(())
-}
-
-fn append_in(list: &mut Option<PriorityList>, linked: Linked) -> Result<(), NoMemory>
-    ensures ok { OnOk result (list.new ≡ grown linked list.old) }
-    ensures err { OnErr result (list.new ≡ list.old) }
-{
-    match list {
-        Some(entries) => entries.append(linked),
-        None => Ok(()),
-    }
-}
-
-fn raise_register(register: u64) -> u64
-    ensures { result ≡ one_more register }
-{
-    register.saturating_add(1)
-}
-
-/// Writes what is delivered of the message to the entry's part of the region.
-fn write_part(region: &mut [u8], linked: &Linked, message: &Message)
-    requires part { IsPartIn (length region.old) linked.now }
-    requires put { message.now.header.kind ≡ PutKind }
-    ensures { region.new ≡ memory_after linked.now message.now region.old }
-{
-    let count = delivered(linked, message.header()) as usize;
-    if count > 0 {
-        let from = (linked.entry.start + message.header().offset) as usize;
-        region[from..from + count].copy_from_slice(&message.bytes().as_slice()[..count]);
+    match Vec::with_capacity(alloc, pts as usize) {
+        Ok(mut indices) => {
+            for _i in 0..pts {
+                indices.push_reserved(None);
+            }
+            Ok(indices)
+        }
+        Err(_) => Err(NoMemory),
     }
 }
 
 impl Nic {
     /// Opens an interface of this rank among so many, with these limits, over a region of memory. It has no portal table
-    /// index, descriptor, entry, counting event or pending operation, and both status registers are 0. The memory of the
-    /// tables is taken here.
+    /// index, descriptor, entry, counting event, queue, header or pending operation, and both status registers are 0. The
+    /// memory of the tables is taken here.
     pub fn open(
         alloc: Global,
         rank: Rank,
@@ -139,25 +102,20 @@ impl Nic {
         ensures { IfOk result (λ nic. nic ≡ opened rank ranks limits region.list) }
     {
         let indices = empty_indices(alloc, limits.pts)?;
-        let cts = with_room(alloc, limits.cts)?;
-        let mds = with_room(alloc, limits.mds)?;
-        let pending = with_room(alloc, limits.triggered)?;
+        let cts = Store::open(alloc, limits.cts)?;
+        let mds = Store::open(alloc, limits.mds)?;
+        let pending = Waiting::open(alloc, limits.triggered)?;
         Ok(Nic {
             alloc,
             rank,
             ranks,
             limits,
-            region: region.into_vec(),
+            region: Region::new(region),
             indices,
+            entries_given: 0,
             cts,
             mds,
             pending,
-            given: Given {
-                cts: 0,
-                mds: 0,
-                entries: 0,
-                numbers: 0,
-            },
             drops: 0,
             violations: 0,
         })
@@ -186,114 +144,89 @@ impl Nic {
 
     /// How many triggered operations are pending.
     pub fn pending(&self) -> u32
-        ensures { result ≡ length self.now.pending }
+        ensures { result ≡ length self.now.pending.waiting }
     {
-        let _limit = self.limits.triggered;
-        self.pending.len() as u32
+        self.pending.len()
     }
 
-    /// Allocates a portal table index, with an empty priority list. Conditions: no queue is named, the index is below the
-    /// limit, and it isn't allocated.
+    /// Allocates a portal table index. Conditions: nothing refuses it, and no event queue is named.
     pub fn pt_alloc(&mut self, index: u32, eq: Option<Handle>) -> Result<(), NiFault>
         requires no_queue { eq ≡ None }
-        requires below { index < self.old.limits.pts }
-        requires free { index_at index self.old.indices ≡ None }
-        ensures ok { result ≡ Ok tt }
-        ensures state { self.new ≡ pt_allocated index self.old }
+        requires unrefused { pt_alloc_fault index eq (side_of self.old) self.old.eqs ≡ None }
+        ensures { ends self.new result ≡ pt_alloc_of index eq self.old }
     {
         let at = index as usize;
         if at < self.indices.len() {
-            self.indices[at] = Some(PriorityList::new(self.alloc));
+            self.indices[at] = Some(Index::new(self.alloc));
         }
         Ok(())
     }
 
-    /// Allocates a counting event at 0, 0 and answers its handle. Condition: fewer than the limit are allocated.
+    /// Allocates a counting event at 0, 0 and answers its handle. Condition: nothing refuses it.
     pub fn ct_alloc(&mut self) -> Result<Handle, NiFault>
-        requires { self.old.given.cts < self.old.limits.cts }
-        ensures handle { result ≡ Ok (next_handle self.old.given.cts) }
-        ensures state { self.new ≡ ct_allocated self.old }
+        requires { alloc_fault self.old.cts ≡ None }
+        ensures { Makes (λ slot. has_slot slot self.old.cts.live) (λ slot. ct_alloc_of slot self.old) (ends self.new result) }
     {
-        let handle = Handle {
-            slot: self.given.cts as u32,
-            stamp: self.given.cts,
-        };
-        self.cts.push_reserved(Live {
-            handle,
-            value: Count {
-                success: 0,
-                failure: 0,
-            },
-        });
-        self.given.cts += 1;
-        Ok(handle)
+        match self.cts.insert(Counter::new()) {
+            Ok(handle) => Ok(handle),
+            Err(_) => Err(NiFault::NoSpace),
+        }
     }
 
-    /// What a counting event holds. Condition: it is live.
+    /// What a counting event holds; `Stale` exactly where it isn't live.
     pub fn ct_get(&self, ct: Handle) -> Result<Count, NiFault>
-        requires { IsSome (lookup ct self.now.cts) }
-        ensures live { IsOk result }
-        ensures count { IfOk result (λ count. lookup ct self.now.cts ≡ Some count) }
+        ensures { result ≡ ct_get_of ct self.now }
     {
-        match find_live(&self.cts, ct) {
-            Some(count) => Ok(count),
+        match self.cts.get(ct) {
+            Some(counter) => Ok(counter.count()),
             None => Err(NiFault::Stale),
         }
     }
 
-    /// Raises a counting event. Conditions: it is live, and its sum stays at most 2^64 - 1.
+    /// Raises a counting event. Condition: nothing refuses it.
     pub fn ct_inc(&mut self, ct: Handle, by: Count) -> Result<(), NiFault>
-        requires { CanRise by (lookup ct self.old.cts) }
-        ensures ok { result ≡ Ok tt }
-        ensures state { self.new ≡ ct_raised ct by self.old }
+        requires { ct_inc_fault ct by self.old.cts ≡ None }
+        ensures { ends self.new result ≡ ct_inc_of ct by self.old }
     {
-        raise(&mut self.cts, ct, by);
-        Ok(())
+        match self.cts.get_mut(ct) {
+            Some(counter) => counter.inc(by).map_err(|_| NiFault::CountFull),
+            None => Err(NiFault::Stale),
+        }
     }
 
-    /// Binds a memory descriptor and answers its handle. Conditions: no queue is named, a counting event that is named is
-    /// live, fewer than the limit are bound, and its part lies in the region.
+    /// Binds a memory descriptor and answers its handle. Condition: nothing refuses it.
     pub fn md_bind(&mut self, md: Descriptor) -> Result<Handle, NiFault>
-        requires no_queue { md.eq ≡ None }
-        requires live { IsLiveIfNamed md.ct self.old.cts }
-        requires space { self.old.given.mds < self.old.limits.mds }
-        requires within { md.start + md.length ≤ length self.old.memory }
-        ensures handle { result ≡ Ok (next_handle self.old.given.mds) }
-        ensures state { self.new ≡ md_bound md self.old }
+        requires { bind_fault md (length self.old.memory) self.old.cts self.old.eqs self.old.mds ≡ None }
+        ensures { Makes (λ slot. has_slot slot self.old.mds.live) (λ slot. md_bind_of slot md self.old) (ends self.new result) }
     {
-        let handle = Handle {
-            slot: self.given.mds as u32,
-            stamp: self.given.mds,
-        };
-        self.mds.push_reserved(Live { handle, value: md });
-        self.given.mds += 1;
-        Ok(handle)
+        match self.mds.insert(Bound { md, awaits: 0 }) {
+            Ok(handle) => Ok(handle),
+            Err(_) => Err(NiFault::NoSpace),
+        }
     }
 
-    /// Appends a match entry to an index's priority list and answers its handle; for want of memory nothing changes.
-    /// Conditions: the list is the priority list, the entry is persistent and takes the offset of the message, the index
-    /// is allocated, a counting event that is named is live, fewer entries than the limit are linked, and the entry's part
-    /// lies in the region.
+    /// Appends a match entry and answers its handle; for want of memory nothing changes. Conditions: the list is the priority
+    /// list, the entry is persistent and takes the offset of the message, and nothing refuses it.
     pub fn me_append(&mut self, pt: u32, list: List, entry: Entry) -> Result<Appended, NiFault>
         requires priority { list ≡ List.Priority }
-        requires persistent { entry.use_once ≡ false }
-        requires unmanaged { entry.manage_local ≡ false }
-        requires allocated { IsSome (index_at pt self.old.indices) }
-        requires live { IsLiveIfNamed entry.ct self.old.cts }
-        requires space { self.old.given.entries < self.old.limits.entries }
-        requires within { entry.start + entry.length ≤ length self.old.memory }
-        ensures handle { IfOk result (λ answer. answer ≡ Appended.Linked (next_handle self.old.given.entries)) }
-        ensures state { OnOk result (self.new ≡ appended pt entry self.old) }
+        requires plain { IsPlainEntry entry }
+        requires unrefused { append_fault pt entry (parts_of self.old) ≡ None }
+        ensures made { OnOk result (Makes (entry_slot self.old.indices) (λ slot. me_append_of slot pt list entry self.old) (ends self.new result)) }
         ensures err { IfErr result (λ fault. fault ≡ NiFault.NoMemory) }
         ensures unchanged { OnErr result (self.new ≡ self.old) }
     {
         let handle = Handle {
-            slot: self.given.entries as u32,
-            stamp: self.given.entries,
+            slot: self.entries_given as u32,
+            stamp: self.entries_given,
         };
-        match append_to(&mut self.indices, pt, Linked { handle, entry }) {
+        let linked = Linked {
+            handle,
+            running: 0,
+            entry,
+        };
+        match append_to(&mut self.indices, pt, linked) {
             Ok(()) => {
-                self.given.entries += 1;
+                self.entries_given += 1;
                 Ok(Appended::Linked(handle))
             }
             Err(NoMemory) => Err(NiFault::NoMemory),
@@ -301,72 +234,49 @@ impl Nic {
     }
 
     /// Posts a triggered put on a counting event with a threshold and answers its number, counted up from 0; for want of
-    /// memory nothing changes. The buffer for its bytes is taken here, and they are read when it fires. Conditions: the
-    /// deed is a put without an acknowledgement, its target is a rank of the job, its length is within the limit and its
-    /// part within its descriptor, which is live, as is the counting event; fewer operations than the limit are pending,
-    /// and fewer than 2^32 - 1 numbers were given.
+    /// memory nothing changes. The buffer for its bytes is taken here, and they are read when it fires. Conditions: the deed
+    /// is a put without an acknowledgement that may start, and nothing refuses it.
     pub fn triggered(&mut self, deed: Deed, ct: Handle, threshold: u64) -> Result<u32, NiFault>
-        requires put { IsPlainPut self.old deed }
-        requires live { IsSome (lookup ct self.old.cts) }
-        requires space { length self.old.pending < self.old.limits.triggered }
-        requires numbers { self.old.given.numbers < 2 ^ 32 - 1 }
-        ensures number { IfOk result (λ number. number ≡ self.old.given.numbers) }
-        ensures state { OnOk result (self.new ≡ posted deed ct threshold self.old) }
-        ensures err { IfErr result (λ fault. fault ≡ NiFault.NoMemory) }
-        ensures unchanged { OnErr result (self.new ≡ self.old) }
+        requires put { IsPlainPut deed }
+        requires startable { MayStart deed self.old.ranks self.old.limits }
+        requires unrefused { triggered_fault deed ct self.old.cts self.old.mds self.old.pending ≡ None }
+        ensures { MayLackMemory (triggered_of deed ct threshold self.old) self.old (ends self.new result) }
     {
-        let buffer = match Bytes::with_room(self.alloc, bytes_of(&deed)) {
-            Ok(buffer) => buffer,
-            Err(_) => return Err(NiFault::NoMemory),
+        let Deed::Put(args) = deed else {
+            unreachable!()
         };
-        let number = self.given.numbers;
-        let operation = Operation {
-            number,
-            deed,
-            ct,
-            threshold,
-        };
-        self.pending.push_reserved(Pending::new(operation, buffer));
-        self.given.numbers += 1;
-        Ok(number)
+        match Bytes::with_room(self.alloc, args.length) {
+            Ok(buffer) => Ok(self.pending.post(args, ct, threshold, buffer)),
+            Err(NoMemory) => Err(NiFault::NoMemory),
+        }
     }
 
     /// Whether the operation of this number is pending and its counting event has reached its threshold.
     pub fn is_ready(&self, number: u32) -> bool
-        ensures { result ≡ ready_in self.now number }
+        ensures { result ≡ is_ready self.now number }
     {
-        has_due(&self.pending, &self.cts, number)
+        self.pending.is_ready(&self.cts, number)
     }
 
-    /// The number of an operation that is ready.
-    #[tactic(auto, using(crate::proofs::Due::dues))]
+    /// The number of an operation that is ready; `None` exactly where none is.
     pub fn ready(&self) -> Option<u32>
-        ensures some { IfSome result (λ number. IsTrue (ready_in self.now number)) }
-        ensures none { IfNone result ((number : ℕ) → ready_in self.now number ≡ false) }
+        ensures { AnswersReady self.now result }
     {
-        match first_due(&self.pending, &self.cts) {
-            Some(operation) => Some(operation.number),
-            None => None,
-        }
+        self.pending.ready(&self.cts)
     }
 
+    #[tactic(auto, unfolding(ni_model::specs::Ready::fired, ni_model::specs::Starts::started))]
     /// Fires a ready operation: it leaves the pending ones, its bytes are read, and the message is the caller's to send.
     /// Condition: it is ready.
     pub fn fire(&mut self, number: u32) -> Option<Message>
-        requires { IsTrue (ready_in self.old number) }
-        ensures { IsFired self.old number result self.new }
+        requires { IsTrue (is_ready self.old number) }
+        ensures { fires self.new result ≡ fired self.old number }
     {
-        let at = place_in(&self.pending, number)?;
-        let (operation, buffer) = self.pending.remove(at).into_parts();
-        match operation.deed {
-            Deed::Put(args) => {
-                let message = put_message(self.rank, &args, &self.mds, &self.region, buffer);
-                let md = find_live(&self.mds, args.md);
-                count_start(&mut self.cts, md);
-                Some(message)
-            }
-            _ => None,
-        }
+        let (args, buffer) = self.pending.take(number)?;
+        let message = put_message(self.rank, &args, &self.mds, &self.region, buffer);
+        let ct = start_counter(&self.mds, args.md);
+        count_one(&mut self.cts, ct);
+        Some(message)
     }
 
     /// Handles a message that arrived. Conditions: it is a put for this rank that asks for no acknowledgement.
@@ -374,7 +284,7 @@ impl Nic {
         requires put { message.header.kind ≡ PutKind }
         requires no_ack { message.header.ack ≡ NoAck }
         requires here { message.header.target ≡ self.old.rank }
-        ensures { IsDelivered self.old message result self.new }
+        ensures { record { state = self.new; delivered = result } ≡ target self.old message }
     {
         Delivered {
             outcome: self.take(&message),
@@ -382,32 +292,22 @@ impl Nic {
         }
     }
 
+    #[tactic(auto, unfolding(ni_model::specs::State::target, ni_model::specs::Arrive::request))]
     fn take(&mut self, message: &Message) -> Outcome
         requires put { message.now.header.kind ≡ PutKind }
-        ensures state { self.new ≡ (arrival self.old message.now).state }
-        ensures outcome { result ≡ (arrival self.old message.now).outcome }
+        requires no_ack { message.now.header.ack ≡ NoAck }
+        ensures { delivers self.new result None ≡ target self.old message.now }
     {
         let Some(linked) = chosen_in(&self.indices, message.header()) else {
-            self.drops = raise_register(self.drops);
+            self.drops = self.drops.saturating_add(1);
             return Outcome::Dropped;
         };
         if !linked.entry.allow_put {
-            self.violations = raise_register(self.violations);
+            self.violations = self.violations.saturating_add(1);
             return Outcome::Violation;
         }
         write_part(&mut self.region, &linked, message);
-        if linked.entry.count_comm {
-            count_one(&mut self.cts, linked.entry.ct);
-        }
+        count_one(&mut self.cts, message_counter(&linked));
         Outcome::Matched
-    }
-}
-
-fn bytes_of(deed: &Deed) -> u64
-    ensures { result ≡ bytes_read deed.now }
-{
-    match deed {
-        Deed::Put(args) => args.length,
-        _ => 0,
     }
 }

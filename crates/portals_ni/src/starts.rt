@@ -1,18 +1,27 @@
 //! How a put starts.
 
-ghost use Rattle.std.specs.Prelude.{◌≡◌, ◌≤◌, ◌+◌, List, length, All};
+ghost use Rattle.std.specs.Prelude.{◌≡◌, ◌≤◌, None, length, true, All};
+ghost use Rattle.ptl_types.specs.declared.headers.AckRequest.TheVariants.{NoAck};
+ghost use Rattle.ptl_types.specs.declared.headers.MessageKind.TheVariants.{Put as PutKind};
+ghost use Rattle.ptl_types.specs.declared.elements.ElemType.TheVariants.{U8};
 ghost use Rattle.ptl_types.specs.Messages.{message};
-ghost use Rattle.portals_ni.specs.Tables.{lookup};
-ghost use Rattle.portals_ni.specs.Starts.{put_header as header_of, sent_bytes, start_counted, IsWithin};
-ghost use Rattle.portals_ni.specs.Kept.{IsBoundIn};
+ghost use Rattle.ni_model.specs.Tables.{lookup};
+ghost use Rattle.ni_model.specs.Counts.{successes, counted};
+ghost use Rattle.ni_model.specs.Starts.{put_header as header_of, bytes_at, send_counter};
+ghost use Rattle.ni_model.specs.Conditions.{IsBoundIn};
+ghost use Rattle.ni_model.specs.Refusals.{put_fits};
 
-use crate::tables::{Live, count_one, find_live};
+use counters::Counter;
+use handle_store::Store;
+use memory_desc::Region;
+use ni_model::Bound;
 use ptl_types::{
-    AckRequest, Bytes, Count, Descriptor, ElemType, Header, Message, MessageKind, PutArgs, Rank,
+    AckRequest, Bytes, Count, ElemType, Handle, Header, Message, MessageKind, PutArgs, Rank,
 };
 
 fn put_header(rank: Rank, args: &PutArgs) -> Header
-    ensures { result ≡ header_of rank args.now }
+    requires { args.now.ack ≡ NoAck }
+    ensures { result ≡ header_of rank PutKind args.now None U8 }
 {
     Header {
         kind: MessageKind::Put,
@@ -34,34 +43,63 @@ fn put_header(rank: Rank, args: &PutArgs) -> Header
     }
 }
 
+/// Reads the bytes of a put from the region into the buffer.
+fn read_bytes(args: &PutArgs, mds: &Store<Bound>, region: &Region, mut buffer: Bytes) -> Bytes
+    requires fits { put_fits args.now mds.now ≡ true }
+    requires bound { All (λ x. IsBoundIn (length region.now) x.value) mds.now.live }
+    requires room { args.now.length ≤ buffer.room }
+    ensures bytes { result.list ≡ bytes_at (lookup args.now.md mds.now.live) args.now.local_offset args.now.length region.now }
+    ensures all { length result.list ≡ args.now.length }
+{
+    let _size = region.len();
+    match mds.get(args.md) {
+        Some(bound) => {
+            let from = bound.md.start + args.local_offset;
+            region.read_into(from, &mut buffer, args.length);
+            buffer
+        }
+        None => buffer,
+    }
+}
+
 /// The message of a put: its bytes are read from the region into the buffer.
 pub fn put_message(
     rank: Rank,
     args: &PutArgs,
-    mds: &[Live<Descriptor>],
-    region: &[u8],
-    mut buffer: Bytes,
+    mds: &Store<Bound>,
+    region: &Region,
+    buffer: Bytes,
 ) -> Message
-    requires within { IsWithin args.now (lookup args.now.md mds.now) }
-    requires bound { All (IsBoundIn (length region.now)) mds.now }
+    requires no_ack { args.now.ack ≡ NoAck }
+    requires fits { put_fits args.now mds.now ≡ true }
+    requires bound { All (λ x. IsBoundIn (length region.now) x.value) mds.now.live }
     requires room { args.now.length ≤ buffer.room }
-    ensures { result ≡ message (header_of rank args.now) (sent_bytes args.now (lookup args.now.md mds.now) region.now) }
+    ensures { result ≡ message (header_of rank PutKind args.now None U8) (bytes_at (lookup args.now.md mds.now.live) args.now.local_offset args.now.length region.now) }
 {
-    let _size = region.len();
-    if let Some(md) = find_live(mds, args.md) {
-        let from = (md.start + args.local_offset) as usize;
-        buffer.fill(&region[from..from + args.length as usize]);
-    }
-    Message::new(put_header(rank, args), buffer)
+    let bytes = read_bytes(args, mds, region, buffer);
+    Message::new(put_header(rank, args), bytes)
 }
 
-/// Counts the start, where the descriptor counts its starts.
-pub fn count_start(cts: &mut [Live<Count>], md: Option<Descriptor>)
-    ensures { cts.new ≡ start_counted md cts.old }
+/// Counts one success on the counting event that is named, if one is.
+pub fn count_one(cts: &mut Store<Counter>, ct: Option<Handle>)
+    ensures { cts.new ≡ counted ct (successes 1) cts.old }
 {
-    if let Some(descriptor) = md {
-        if descriptor.count_send {
-            count_one(cts, descriptor.ct);
+    if let Some(handle) = ct {
+        if let Some(counter) = cts.get_mut(handle) {
+            counter.bump(Count {
+                success: 1,
+                failure: 0,
+            });
         }
+    }
+}
+
+/// The counting event on which a descriptor counts its starts.
+pub fn start_counter(mds: &Store<Bound>, md: Handle) -> Option<Handle>
+    ensures { result ≡ send_counter (lookup md mds.now.live) }
+{
+    match mds.get(md) {
+        Some(bound) if bound.md.count_send => bound.md.ct,
+        _ => None,
     }
 }
