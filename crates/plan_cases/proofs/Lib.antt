@@ -1,0 +1,3 @@
+pub mod Broadcast
+pub mod Orders
+pub mod Example
