@@ -4,7 +4,7 @@ use Rattle.ptl_types.specs.declared.entries.List.TheVariants.{Priority, Overflow
 use Rattle.ptl_types.specs.declared.entries.UnexpectedHeader.{UnexpectedHeader}
 use Rattle.ptl_types.specs.declared.events.Event.{Event}
 use Rattle.ptl_types.specs.declared.events.EventKind.{EventKind}
-use Rattle.ptl_types.specs.declared.events.EventKind.TheVariants.{PutOverflow, Link, AutoUnlink, AutoFree, Search}
+use Rattle.ptl_types.specs.declared.events.EventKind.TheVariants.{Put as PutEvent, PutOverflow, Link, AutoUnlink, AutoFree, Search}
 use Rattle.ptl_types.specs.declared.elements.ElemType.TheVariants.{U8}
 use Rattle.ptl_types.specs.declared.elements.AtomicOp.TheVariants.{Sum}
 use Rattle.ptl_types.specs.declared.calls.Appended.{Appended}
@@ -75,6 +75,11 @@ order_of_events : kinds (append_once (append_once (append_once filled).state).st
 unfolding target request append
 order_of_events = refl
 
+-- a taken header's event says where its bytes lie
+taken_says : events (append_once filled).state ≡ record { kind = Link; source = 0; pt = 1; match_bits = 5; hdr_data = 0; requested = 0; delivered = 0; place = 0; ok = true } ∷ record { kind = AutoUnlink; source = 0; pt = 1; match_bits = 5; hdr_data = 0; requested = 0; delivered = 0; place = 0; ok = true } ∷ record { kind = PutOverflow; source = 1; pt = 1; match_bits = 5; hdr_data = 77; requested = 3; delivered = 3; place = 0; ok = true } ∷ []
+unfolding target request append
+taken_says = refl
+
 -- a persistent entry takes both at once: each header's event, then the freeing, then the link
 abbrev append_all : State
 append_all = (me_append 0 1 Priority (entry 8 4) filled).state
@@ -138,6 +143,22 @@ two_kinds = (target (target (me_append 0 0 InOverflow (local 0 (entry 0 8)) new)
 atomic_first : place_of (me_append 0 0 Priority (once (entry 8 4)) two_kinds).answer ≡ 1 ∷ 0 ∷ 1 ∷ []
 unfolding target request append
 atomic_first = refl
+
+-- ---- a message delivered to a priority entry is told with all that it says, and the unlinking behind it
+abbrev put_event : Event
+put_event = record { kind = PutEvent; source = 1; pt = 1; match_bits = 5; hdr_data = 77; requested = 3; delivered = 2; place = 5; ok = true }
+
+delivery_is_told : kinds (target (me_append 0 1 Priority (once (entry 4 3)) (told 8)).state (put_at 1 1 (1 ∷ 2 ∷ 3 ∷ []))).state ≡ Link ∷ PutEvent ∷ AutoUnlink ∷ []
+unfolding target request append
+delivery_is_told = refl
+
+told_whole : (target (me_append 0 1 Priority (entry 4 3) (told 8)).state (put_at 1 1 (1 ∷ 2 ∷ 3 ∷ []))).state.memory ≡ 0 ∷ 0 ∷ 0 ∷ 0 ∷ 0 ∷ 1 ∷ 2 ∷ replicate 9 0
+unfolding target request append
+told_whole = refl
+
+event_says : events (target (me_append 0 1 Priority (entry 4 3) (told 8)).state (put_at 1 1 (1 ∷ 2 ∷ 3 ∷ []))).state ≡ record { kind = Link; source = 0; pt = 1; match_bits = 5; hdr_data = 0; requested = 0; delivered = 0; place = 0; ok = true } ∷ put_event ∷ []
+unfolding target request append
+event_says = refl
 
 -- ---- a queue of room 1: the event that finds it full is the one that is lost
 abbrev two_links : State
