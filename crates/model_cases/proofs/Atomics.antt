@@ -56,6 +56,11 @@ masked_gives_the_old : answers (target (one_entry 0 1 (144 ∷ [])) (swap 0 Mswa
 unfolding target request append
 masked_gives_the_old = refl
 
+-- bits of the operand beyond the element name none of its bits
+masked_beyond : (target (one_entry 0 1 (144 ∷ [])) (swap 0 Mswap U8 256 (255 ∷ []))).state.memory ≡ 144 ∷ replicate 15 0
+unfolding target request append
+masked_beyond = refl
+
 plain_swap : (target (one_entry 0 1 (144 ∷ [])) (swap 0 Swap U8 0 (3 ∷ []))).state.memory ≡ 3 ∷ replicate 15 0
 unfolding target request append
 plain_swap = refl

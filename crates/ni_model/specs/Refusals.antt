@@ -136,7 +136,7 @@ abbrev pub awaits_something : Option Bound → Bool
 awaits_something None = false
 awaits_something (Some b) = nat_lt 0 b.awaits
 
--- the descriptor's own refusals: whether an operation names it is looked at beside
+-- a descriptor is in use where a pending operation names it or it awaits an answer
 abbrev pub release_fault : Handle → Table Bound → Operations → Option NiFault
 release_fault md mds ops =
     need (is_live md mds) Stale

@@ -68,4 +68,4 @@ start_value Bxor ty = 0
 abbrev pub swapped : SwapOp → ElemType → ℕ → ℕ → ℕ → ℕ
 swapped Swap ty operand old new = new
 swapped Cswap ty operand old new = if old == operand then new else old
-swapped Mswap ty operand old new = bit_or (bit_and old (span ty - 1 - operand)) (bit_and new operand)
+swapped Mswap ty operand old new = bit_or (bit_and old (span ty - 1 - operand % span ty)) (bit_and new operand)
