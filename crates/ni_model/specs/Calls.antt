@@ -128,6 +128,14 @@ md_bind slot md s = ends_by (bind_fault md (length s.memory) s.cts s.eqs s.mds) 
 abbrev pub md_release : Handle → State → Done (Result (Unit {0}) NiFault)
 md_release md s = ends_by (release_fault md s.mds s.pending) s (record s { mds = without md s.mds }) tt
 
+-- how many answers a descriptor awaits
+abbrev pub awaits_of : Option Bound → Result ℕ NiFault
+awaits_of None = Err Stale
+awaits_of (Some b) = Ok b.awaits
+
+abbrev pub awaits : Handle → State → Result ℕ NiFault
+awaits md s = awaits_of (lookup md s.mds.live)
+
 -- ---- match entries
 
 abbrev pub me_append : ℕ → ℕ → Place → Entry → State → Done (Result Appended NiFault)

@@ -136,7 +136,11 @@ abbrev pub awaits_something : Option Bound → Bool
 awaits_something None = false
 awaits_something (Some b) = nat_lt 0 b.awaits
 
--- a descriptor is in use where a pending operation names it or it awaits an answer
+-- what the descriptors alone refuse: it awaits an answer
+abbrev pub own_release_fault : Handle → Table Bound → Option NiFault
+own_release_fault md mds = need (is_live md mds) Stale (need (not (awaits_something (lookup md mds.live))) InUse None)
+
+-- and beside that: a triggered operation names it
 abbrev pub release_fault : Handle → Table Bound → Operations → Option NiFault
 release_fault md mds ops =
     need (is_live md mds) Stale

@@ -48,7 +48,7 @@ pub record IsStill (p : Plan) (inputs : Inputs) (w : ℕ → Run) (held : Lanes)
 -- no step is possible under a window: what stands in the way of each enabled one
 pub record IsStuck (p : Plan) (inputs : Inputs) (w : ℕ → Run) (held : Lanes) (window : ℕ) : Type 0 where
   pub started : (r : ℕ) → r < p.ranks → 0 < count_by is_start (w r).history
-  -- a ready operation sends, and its lane is full
+  -- an operation is ready only at a rank that has a full request lane
   pub full : (r t : ℕ) → r < p.ranks → is_ready (end_of p inputs w r) t ≡ true → (d : ℕ) × (d < p.ranks) × (window ≤ length (held r d Request))
   pub no_answer : (s d : ℕ) → s < p.ranks → d < p.ranks → held s d Answer ≡ []
   -- the answer lane of a request that waits is full
