@@ -1,2 +1,4 @@
 pub mod Cutting
 pub mod Spelled
+pub mod Data
+pub mod DataSpelled

@@ -1,2 +1,5 @@
 pub mod Text
 pub mod Cuts
+pub mod Elements
+pub mod Values
+pub mod Answers

@@ -1,12 +1,14 @@
-//! Lines, words, numbers and names in bytes, with no meaning yet.
+//! Lines, words, numbers, names and values in bytes, with no meaning yet.
 //!
-//! A text is cut at each LF (0x0A) and a line at each space (0x20). Nothing here takes memory.
+//! A text is cut at each LF (0x0A) and a line at each space (0x20). Only the values of a data line take memory.
 #![tactic(auto)]
 
 mod names;
 mod numerals;
 mod splitting;
+mod values;
 
 pub use names::{is, is_name};
 pub use numerals::{Number, number_at, number_between};
 pub use splitting::{Words, cut};
+pub use values::{Flaw, ValuesFault, data_line, push_value, value_of};
