@@ -1,14 +1,10 @@
 -- The elements of a list of u8 are its bytes.
 use Rattle.std.proofs.Common.{◌≡◌, ℕ, zero, suc, ◌+◌, ◌*◌, ◌/◌, ◌%◌, ◌<◌, List, [], ◌∷◌, ◌++◌, length, map, refl, ap, ◌∙◌, arith}
 use Rattle.std.specs.Prelude.{All}
-use Rattle.std.specs.List.{flat_map, AllByRecursion}
-use Rattle.std.specs.Fmt.{decimal}
+use Rattle.std.specs.List.{AllByRecursion}
 use Rattle.std.proofs.lemmas.List.Elements.{recursion_from_All}
 use Rattle.ptl_types.specs.declared.elements.ElemType.TheVariants.{U8}
-use Rattle.coll_text.specs.Text.{line}
-use Rattle.coll_lang.specs.Elements.{first_elements, elements, bytes_of_list}
-use Rattle.coll_lang.specs.Spelling.{data_text}
-use Rattle.coll_lang.specs.OneBroadcast.{even_bytes}
+use Rattle.coll_text.specs.Elements.{first_elements, elements, bytes_of_list}
 
 one_byte : (b : ℕ) → b < 256 → b % 256 + 256 * 0 ≡ b
 one_byte b lt = omega arith
@@ -34,15 +30,3 @@ bytes_back (b ∷ bs) h = ap (λ x. x ∷ bytes_of_list U8 bs) (byte b h.0) ∙ 
 -- the bytes of elements of u8 are they themselves
 pub bytes_of_bytes : (bs : List ℕ) → All (λ b. b < 256) bs → bytes_of_list U8 bs ≡ bs
 bytes_of_bytes bs h = bytes_back bs (recursion_from_All (λ b. b < 256) bs h)
-
-data_each : (name : List ℕ) (count : ℕ) (lists : List (List ℕ)) → AllByRecursion (λ l. All (λ b. b < 256) l) lists
-    → flat_map (data_text (even_bytes name count)) lists ≡ flat_map (λ values. line (map decimal values)) lists
-data_each name count [] h = refl
-data_each name count (l ∷ ls) h =
-    ap (λ (x : List ℕ). line (map decimal x) ++ flat_map (data_text (even_bytes name count)) ls) (elements_of_bytes l h.0)
-    ∙ ap (λ (x : List ℕ). line (map decimal l) ++ x) (data_each name count ls h.1)
-
--- data lines of u8 are the bytes in decimal
-pub data_texts : (name : List ℕ) (count : ℕ) (lists : List (List ℕ)) → All (λ l. All (λ b. b < 256) l) lists
-    → flat_map (data_text (even_bytes name count)) lists ≡ flat_map (λ values. line (map decimal values)) lists
-data_texts name count lists h = data_each name count lists (recursion_from_All (λ l. All (λ b. b < 256) l) lists h)

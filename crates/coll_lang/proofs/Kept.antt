@@ -1,33 +1,68 @@
 -- What is kept of a description that was read.
-use Rattle.std.proofs.Common.{◌≡◌, ℕ, ◌≤◌, List, length, Result, Ok, Err, false, refl, sym, ap, ◌∙◌, arith}
+use Rattle.std.proofs.Common.{◌≡◌, ℕ, ◌*◌, ◌≤◌, List, length, take, Result, Ok, Err, false, refl, sym, ap, ◌∙◌, arith}
 use Rattle.std.specs.Prelude.{nat_lt, IfOk}
 use Rattle.std.proofs.lemmas.Bool.Decides.{nat_tests}
+use Rattle.std.proofs.lemmas.List.{length-take-le}
 use Rattle.coll_text.specs.Text.{lines}
 use Rattle.coll_lang.specs.Outline.{Program}
-use Rattle.coll_lang.specs.FirstForm.{Past, read, read_from, nothing, described}
+use Rattle.coll_lang.specs.Language.{Past, read, read_by, read_from, nothing, described}
+use Rattle.coll_lang.specs.FirstForm as first
+use Rattle.coll_lang.specs.Extents.{judged, after}
 use Rattle.coll_lang.specs.Spelling.{text}
 use Rattle.coll_lang.specs.Accepted.{IsAccepted}
+use Rattle.coll_lang.specs.WellFormed.{IsWellFormed, IsWellGiven}
 use Rattle.coll_lang.specs.OneBroadcast.{IsOneBroadcast}
 use Rattle.coll_lang.specs.Verdicts.{Reads}
 use Rattle.coll_lang.specs.declared.fault.ParseFault.{ParseFault}
-use Rattle.coll_lang.proofs.Written.{one_spelling, one_broadcast}
+use Rattle.coll_lang.specs.declared.whole.Extent.{Extent}
+use Rattle.coll_lang.specs.declared.whole.Extent.TheVariants as extents
+use Rattle.coll_lang.proofs.AllLines.{one_spelling, well_formed, well_given}
+use Rattle.coll_lang.proofs.Built.{built_is_read, built_form}
+use Rattle.coll_lang.proofs.InputLists.{lists_of_all}
 
 within : (n : ℕ) → n ≤ 1048576 → nat_lt 1048576 n ≡ false
 within n le = grind (arith, nat_tests)
 
 -- what all lines say is what the text is read as
-pub read_is : (bytes : List ℕ) (final : Past) → length bytes ≤ 1048576 → read_from nothing 1 (lines bytes) ≡ Ok final → read bytes ≡ Ok (described final)
-unfolding read
-read_is bytes final le h = rw (within (length bytes) le, h) refl
+read_is : (e : Extent) (bytes : List ℕ) (final : Past) → length bytes ≤ 1048576 → read_from (judged e) (after e) nothing 1 (lines bytes) ≡ Ok final → read_by (judged e) (after e) bytes ≡ Ok (described final)
+unfolding read_by
+read_is e bytes final le h = rw (within (length bytes) le, h) refl
+
+-- however much is read, the whole language reads it alike
+read_alike : (e : Extent) (bytes : List ℕ) (d : Program) → read_by (judged e) (after e) bytes ≡ Ok d → read bytes ≡ Ok d
+read_alike extents.All bytes d h = h
+read_alike extents.Built bytes d h = built_is_read bytes d h
 
 -- what was read is accepted
 pub accepted : (bytes : List ℕ) (d : Program) → read bytes ≡ Ok d → IsAccepted d
 accepted bytes d h = record { reads = ap read (sym (one_spelling bytes d h)) ∙ h }
 
--- what is accepted is of the first form
-pub form_of : (d : Program) → IsAccepted d → IsOneBroadcast d
-form_of d h = one_broadcast (text d) d h.reads
+-- what is accepted is well formed
+pub well_formed_of : (d : Program) → IsAccepted d → IsWellFormed d.shape
+well_formed_of d h = well_formed (text d) d h.reads
 
-pub form_in : (bytes : List ℕ) (r : Result Program ParseFault) → Reads (λ d. d) r (read bytes) → IfOk r (λ d. IsOneBroadcast d)
-form_in bytes (Ok d) h = one_broadcast bytes d h
+pub well_given_of : (d : Program) → IsAccepted d → IsWellGiven d
+well_given_of d h = well_given (text d) d h.reads
+
+-- what a reader must show of what its lines say
+pub record IsKept (past : Past) : Type 0 where
+  pub accepted : IsAccepted (described past)
+  pub lists : length past.given ≡ past.inputs * past.ranks
+
+pub kept : (e : Extent) (bytes : List ℕ) (final : Past) → length bytes ≤ 1048576 → read_from (judged e) (after e) nothing 1 (lines bytes) ≡ Ok final → IsKept final
+kept e bytes final le h =
+    let reads = read_alike e bytes (described final) (read_is e bytes final le h) in
+    let formed = well_formed bytes (described final) reads in
+    let given = well_given bytes (described final) reads in
+    record {
+      accepted = accepted bytes (described final) reads;
+      lists = lists_of_all final.ranks (take final.inputs final.buffers) final.given given.filled ∙ ap (λ n. n * final.ranks) (length-take-le final.inputs final.buffers formed.inputs_first);
+    }
+
+pub form_in : (bytes : List ℕ) (r : Result Program ParseFault) → Reads (λ d. d) r (first.read bytes) → IfOk r (λ d. IsOneBroadcast d)
+form_in bytes (Ok d) h = built_form bytes d h
 form_in bytes (Err e) h = tt
+
+pub spelled_in : (bytes : List ℕ) (r : Result Program ParseFault) → Reads (λ d. d) r (read bytes) → IfOk r (λ d. bytes ≡ text d)
+spelled_in bytes (Ok d) h = one_spelling bytes d h
+spelled_in bytes (Err e) h = tt

@@ -1,7 +1,13 @@
 pub mod Reading
-pub mod Data
-pub mod Spells
+pub mod Rows
+pub mod FormSaid
+pub mod Stays
+pub mod InputLists
+pub mod Sound
+pub mod SoundData
+pub mod SoundSteps
+pub mod AllLines
+pub mod Built
 pub mod Bytes
-pub mod Written
-pub mod Kept
 pub mod OneBroadcast
+pub mod Kept

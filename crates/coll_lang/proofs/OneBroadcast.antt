@@ -6,7 +6,7 @@ use Rattle.std.proofs.lemmas.List.{take_all}
 use Rattle.std.proofs.lemmas.List.Elements.{recursion_from_All}
 use Rattle.ptl_types.specs.declared.elements.ElemType.TheVariants.{U8}
 use Rattle.coll_lang.specs.Outline.{Program, type_at}
-use Rattle.coll_lang.specs.Elements.{elements}
+use Rattle.coll_text.specs.Elements.{elements}
 use Rattle.coll_lang.specs.Meaning.{Ranks, buffers, list_at, inputs_of, after_steps}
 use Rattle.coll_lang.specs.OneBroadcast.{IsOneBroadcast, even_bytes, root_in, count_of, first_name, second_name}
 use Rattle.coll_lang.specs.declared.types.Buffer.{Buffer}

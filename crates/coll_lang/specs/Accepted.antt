@@ -1,8 +1,9 @@
 -- What a description keeps.
 use Rattle.std.specs.Prelude.{◌≡◌, ℕ, List, Ok}
 use Rattle.coll_lang.specs.Outline.{Outline, Given, Program}
-use Rattle.coll_lang.specs.FirstForm.{read}
+use Rattle.coll_lang.specs.Language.{read}
 use Rattle.coll_lang.specs.Spelling.{text}
+use Rattle.coll_lang.specs.WellFormed.{IsWellFormed, IsWellGiven}
 
 -- its text is accepted: reading it gives the description
 pub record IsAccepted (d : Program) : Type 0 where
@@ -15,3 +16,7 @@ OneSpelling = (bytes : List ℕ) (d : Program) → read bytes ≡ Ok d → bytes
 -- it is the shape of a description whose text is accepted
 abbrev pub IsAcceptedShape : Outline → Type 0
 IsAcceptedShape shape = ∥ ((given : Given) × IsAccepted (record { shape = shape; inputs = given })) ∥₁
+
+-- what is accepted is well formed, and has the values that its shape asks
+abbrev pub AcceptedIsWellFormed : Type 0
+AcceptedIsWellFormed = (d : Program) → IsAccepted d → IsWellFormed d.shape × IsWellGiven d

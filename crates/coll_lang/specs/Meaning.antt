@@ -4,7 +4,7 @@ use Rattle.std.specs.List.{flat_map, concat}
 use Rattle.ptl_types.specs.declared.elements.ElemType.{ElemType}
 use Rattle.ptl_types.specs.declared.elements.AtomicOp.{AtomicOp}
 use Rattle.ptl_types.specs.Operations.{op, start_value}
-use Rattle.coll_lang.specs.Elements.{elements}
+use Rattle.coll_text.specs.Elements.{elements}
 use Rattle.coll_lang.specs.Outline.{Program, name_at, type_at}
 use Rattle.coll_lang.specs.declared.types.Buffer.{Buffer}
 use Rattle.coll_lang.specs.declared.types.CollStep.{CollStep}

@@ -3,10 +3,11 @@ use Rattle.std.specs.Prelude.{◌≡◌, ℕ, ◌<◌, ◌≤◌, List, [], ◌�
 use Rattle.coll_text.specs.Text.{is_name}
 use Rattle.ptl_types.specs.declared.elements.ElemType.TheVariants.{U8}
 use Rattle.coll_lang.specs.Outline.{Outline, Program, length_of}
+use Rattle.coll_lang.specs.Steps.{root_of}
 use Rattle.coll_lang.specs.declared.types.Buffer.{Buffer}
 use Rattle.coll_lang.specs.declared.types.Spread.TheVariants.{Even}
 use Rattle.coll_lang.specs.declared.types.CollStep.{CollStep}
-use Rattle.coll_lang.specs.declared.types.CollStep.TheVariants.{Barrier, Broadcast, Reduce, Allreduce, Gather, Allgather, Alltoall, Scan}
+use Rattle.coll_lang.specs.declared.types.CollStep.TheVariants.{Broadcast}
 
 -- bytes, as many at each rank
 abbrev pub even_bytes : List ℕ → ℕ → Buffer
@@ -24,17 +25,6 @@ second_name (b ∷ bs) = first_name bs
 abbrev pub first_length : List Buffer → ℕ
 first_length [] = 0
 first_length (b ∷ bs) = length_of b.spread
-
--- the root of a step, 0 where it has none
-abbrev pub root_of : CollStep → ℕ
-root_of Barrier = 0
-root_of (Broadcast root a b) = root
-root_of (Reduce root op a b) = root
-root_of (Allreduce op a b) = 0
-root_of (Gather root a b) = root
-root_of (Allgather a b) = 0
-root_of (Alltoall a b) = 0
-root_of (Scan op a b) = 0
 
 abbrev pub first_root : List CollStep → ℕ
 first_root [] = 0

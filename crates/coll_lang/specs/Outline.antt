@@ -1,5 +1,5 @@
 -- What a description says, apart from how it is kept.
-use Rattle.std.specs.Prelude.{ℕ, zero, suc, ◌+◌, ◌*◌, List, [], ◌∷◌, Bool, slice_index_or}
+use Rattle.std.specs.Prelude.{ℕ, ◌+◌, ◌*◌, List, [], Bool, slice_index_or}
 use Rattle.ptl_types.specs.declared.elements.ElemType.{ElemType}
 use Rattle.ptl_types.specs.declared.elements.ElemType.TheVariants.{U8}
 use Rattle.coll_lang.specs.declared.types.Buffer.{Buffer}
@@ -40,13 +40,18 @@ abbrev pub length_of : Spread → ℕ
 length_of (Even len) = len
 length_of (Only rank len) = len
 
--- the name and the type of a buffer by its number
+-- a buffer by its number, and its name, type and spread
+abbrev pub no_buffer : Buffer
+no_buffer = record { name = []; ty = U8; spread = Even 0 }
+
+abbrev pub buffer_at : List Buffer → ℕ → Buffer
+buffer_at buffers i = slice_index_or buffers i no_buffer
+
 abbrev pub name_at : List Buffer → ℕ → List ℕ
-name_at [] i = []
-name_at (b ∷ bs) zero = b.name
-name_at (b ∷ bs) (suc i) = name_at bs i
+name_at buffers i = (buffer_at buffers i).name
 
 abbrev pub type_at : List Buffer → ℕ → ElemType
-type_at [] i = U8
-type_at (b ∷ bs) zero = b.ty
-type_at (b ∷ bs) (suc i) = type_at bs i
+type_at buffers i = (buffer_at buffers i).ty
+
+abbrev pub spread_at : List Buffer → ℕ → Spread
+spread_at buffers i = (buffer_at buffers i).spread

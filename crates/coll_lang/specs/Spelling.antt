@@ -4,7 +4,7 @@ use Rattle.std.specs.List.{flat_map}
 use Rattle.std.specs.Fmt.{decimal}
 use Rattle.coll_text.specs.Text.{line}
 use Rattle.coll_lang.specs.Words.{type_word, op_word}
-use Rattle.coll_lang.specs.Elements.{elements, value_word}
+use Rattle.coll_text.specs.Elements.{elements, value_word}
 use Rattle.coll_lang.specs.Outline.{Program, length_of, name_at}
 use Rattle.coll_lang.specs.declared.types.Buffer.{Buffer}
 use Rattle.coll_lang.specs.declared.types.CollStep.{CollStep}

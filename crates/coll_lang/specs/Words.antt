@@ -5,12 +5,24 @@ use Rattle.ptl_types.specs.declared.elements.ElemType.TheVariants as types
 use Rattle.ptl_types.specs.declared.elements.AtomicOp.{AtomicOp}
 use Rattle.ptl_types.specs.declared.elements.AtomicOp.TheVariants as ops
 use Rattle.coll_lang.specs.declared.fault.Refusal.{Refusal}
-use Rattle.coll_lang.specs.declared.fault.Refusal.TheVariants.{TooLong, BadLine, Unended}
+use Rattle.coll_lang.specs.declared.fault.Refusal.TheVariants.{TooLong, BadByte, BadHeader, BadRanks, BadLine, BadNumber, NameTaken, UnknownBuffer, BadRoot, WrongShape, TooMany, TooLarge, Unended, AfterEnd, BadOrder}
 
 abbrev pub refusal_word : Refusal → List ℕ
 refusal_word TooLong = codes "TooLong"
+refusal_word BadByte = codes "BadByte"
+refusal_word BadHeader = codes "BadHeader"
+refusal_word BadRanks = codes "BadRanks"
 refusal_word BadLine = codes "BadLine"
+refusal_word BadNumber = codes "BadNumber"
+refusal_word NameTaken = codes "NameTaken"
+refusal_word UnknownBuffer = codes "UnknownBuffer"
+refusal_word BadRoot = codes "BadRoot"
+refusal_word WrongShape = codes "WrongShape"
+refusal_word TooMany = codes "TooMany"
+refusal_word TooLarge = codes "TooLarge"
 refusal_word Unended = codes "Unended"
+refusal_word AfterEnd = codes "AfterEnd"
+refusal_word BadOrder = codes "BadOrder"
 
 abbrev pub type_word : ElemType → List ℕ
 type_word types.U8 = codes "u8"

@@ -1,17 +1,15 @@
 //! A description: a shape, and the values of its inputs.
 
-ghost use Rattle.std.specs.Prelude.{◌≡◌, ◌<◌, IfOk};
+ghost use Rattle.std.specs.Prelude.{◌≡◌, ◌<◌, ◌*◌, length};
 ghost use Rattle.coll_lang.specs.Outline.{list_of};
-ghost use Rattle.coll_lang.specs.FirstForm.{described};
+ghost use Rattle.coll_lang.specs.Language.{described};
 ghost use Rattle.coll_lang.specs.States.{past};
 ghost use Rattle.coll_lang.specs.Accepted.{IsAccepted};
-ghost use Rattle.coll_lang.specs.OneBroadcast.{IsOneBroadcast};
 
 use crate::lists::RankList;
 use crate::reader::Reader;
-use crate::types::{Buffer, CollStep, Spread};
-use ptl_types::{ElemType, Rank};
-use std::alloc::{AllocError, Global};
+use crate::types::{Buffer, CollStep};
+use ptl_types::Rank;
 use std::marker::Model;
 
 /// A description without the values of its inputs. It keeps that it is the shape of a description whose text is accepted.
@@ -129,48 +127,29 @@ impl Model for Description {
 }
 
 impl Description {
-    /// The description that the lines say, where its text is accepted.
-    pub(crate) fn of(alloc: Global, reader: Reader) -> Result<Description, AllocError>
+    /// The description that the lines say, where its text is accepted. It takes no memory.
+    pub(crate) fn of(reader: Reader) -> Description
         requires accepted { IsAccepted (described (past reader)) }
-        requires form { IsOneBroadcast (described (past reader)) }
-        ensures { IfOk result (λ d. d ≡ described (past reader)) }
+        requires lists { length reader.given.items ≡ reader.inputs * reader.ranks }
+        ensures { result ≡ described (past reader) }
     {
         let ranks = reader.ranks;
-        let spread = Spread::Even(u64::from(reader.count));
-        let ty = ElemType::U8;
-        let mut buffers = Vec::new(alloc);
-        let mut steps = Vec::new(alloc);
-        buffers.push(Buffer {
-            name: reader.a,
-            ty,
-            spread,
-        })?;
-        buffers.push(Buffer {
-            name: reader.b,
-            ty,
-            spread,
-        })?;
-        steps.push(CollStep::Broadcast {
-            root: reader.root,
-            a: 0,
-            b: 1,
-        })?;
-        let prints = reader.prints;
-        Ok(Description {
+        let inputs = reader.inputs;
+        Description {
             shape: Shape {
                 ranks,
-                remote: false,
-                buffers,
-                inputs: 1,
-                steps,
-                prints,
+                remote: reader.remote,
+                buffers: reader.buffers,
+                inputs,
+                steps: reader.steps,
+                prints: reader.prints,
             },
             inputs: Inputs {
                 ranks,
-                inputs: 1,
+                inputs,
                 lists: reader.given,
             },
-        })
+        }
     }
 
     /// What is described, without the values of the inputs.

@@ -12,10 +12,34 @@ use std::alloc::{AllocError, AllocFailed};
 pub enum Refusal {
     /// The text has more than 1,048,576 bytes.
     TooLong,
-    /// The line breaks the form in any other way, or bytes follow the line `end`.
+    /// The line holds a byte that isn't allowed: one below 0x20 or above 0x7E.
+    BadByte,
+    /// Line 1 isn't `coll 1`.
+    BadHeader,
+    /// Line 2 isn't `ranks N` with N from 1 to 64.
+    BadRanks,
+    /// The line's first word may not stand here, or its words are too few, too many, empty or of the wrong kind.
     BadLine,
+    /// COUNT isn't from 1 to 4096, ROOT isn't a number, or a value isn't one of its type.
+    BadNumber,
+    /// The new name is a buffer already.
+    NameTaken,
+    /// The name that is read or printed is no buffer.
+    UnknownBuffer,
+    /// ROOT is N or greater.
+    BadRoot,
+    /// The buffer that the step reads hasn't the shape that the step needs.
+    WrongShape,
+    /// This is the 65th step, the 129th buffer or the 129th print.
+    TooMany,
+    /// The new buffer has more than 16,777,216 elements at some rank, or the prints so far have more over all ranks.
+    TooLarge,
     /// A line is still due, and the rest of the text has no LF.
     Unended,
+    /// Bytes follow the last line.
+    AfterEnd,
+    /// An order line is malformed.
+    BadOrder,
 }
 
 impl Refusal {
@@ -25,8 +49,20 @@ impl Refusal {
     {
         match self {
             Refusal::TooLong => "TooLong",
+            Refusal::BadByte => "BadByte",
+            Refusal::BadHeader => "BadHeader",
+            Refusal::BadRanks => "BadRanks",
             Refusal::BadLine => "BadLine",
+            Refusal::BadNumber => "BadNumber",
+            Refusal::NameTaken => "NameTaken",
+            Refusal::UnknownBuffer => "UnknownBuffer",
+            Refusal::BadRoot => "BadRoot",
+            Refusal::WrongShape => "WrongShape",
+            Refusal::TooMany => "TooMany",
+            Refusal::TooLarge => "TooLarge",
             Refusal::Unended => "Unended",
+            Refusal::AfterEnd => "AfterEnd",
+            Refusal::BadOrder => "BadOrder",
         }
     }
 }

@@ -1,11 +1,13 @@
 //! The description language: which collective operations a job of N ranks makes, on which values, and which buffers
-//! are printed.
-//!
-//! What is read now is the first form: one input of bytes, one broadcast of it, and prints.
+//! are printed. A text is read whole, or refused at its first line that breaks a rule; a description has one spelling
+//! and one meaning.
 #![tactic(auto)]
 
+mod buffers;
 mod description;
 mod fault;
+mod first_form;
+mod forms;
 mod lists;
 mod reader;
 mod stage;
@@ -19,4 +21,4 @@ pub use description::{Description, Inputs, Shape};
 pub use fault::{ParseFault, Refusal};
 pub use lists::{Name, Text};
 pub use types::{Buffer, CollStep, Spread};
-pub use whole::parse;
+pub use whole::{one_spelling, parse, parse_all, refused_by_the_table, well_formed};

@@ -1,6 +1,6 @@
 //! Lists of bytes that contracts see as lists.
 
-ghost use Rattle.std.specs.Prelude.{◌≡◌, List, ℕ, [], IfOk};
+ghost use Rattle.std.specs.Prelude.{◌≡◌, List, ℕ, IfOk};
 
 use std::alloc::{AllocError, Global};
 use std::marker::Model;
@@ -18,15 +18,6 @@ impl Model for Name {
 }
 
 impl Name {
-    /// No bytes, which is no name yet.
-    pub(crate) fn empty(alloc: Global) -> Name
-        ensures { result ≡ [] }
-    {
-        Name {
-            bytes: Vec::new(alloc),
-        }
-    }
-
     /// A copy of the bytes.
     pub(crate) fn copied(alloc: Global, bytes: &[u8]) -> Result<Name, AllocError>
         ensures { IfOk result (λ n. n ≡ bytes.now) }

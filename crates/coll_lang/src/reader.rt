@@ -1,9 +1,12 @@
 //! Line by line, what the lines so far say.
 
-ghost use Rattle.std.specs.Prelude.{◌≤◌};
+ghost use Rattle.std.specs.Prelude.{◌≤◌, vec_len, All};
+ghost use Rattle.coll_lang.specs.Language.{most_elements};
+ghost use Rattle.coll_lang.specs.Outline.{length_of};
 
-use crate::lists::{Name, RankList};
+use crate::lists::RankList;
 use crate::stage::Stage;
+use crate::types::{Buffer, CollStep};
 use std::alloc::Global;
 
 /// What the lines so far say.
@@ -12,11 +15,17 @@ pub struct Reader {
     pub alloc: Global,
     pub stage: Stage,
     pub ranks: u32,
-    pub a: Name,
-    pub count: u32,
+    pub remote: bool,
+    pub buffers: Vec<Buffer>,
+    pub inputs: u32,
     pub given: Vec<RankList>,
-    pub root: u32,
-    pub b: Name,
+    pub steps: Vec<CollStep>,
     pub prints: Vec<u32>,
+    pub printed: u64,
     ghost some_ranks: { 1 ≤ ranks },
+    ghost few_ranks: { ranks ≤ 64 },
+    ghost few_buffers: { vec_len buffers ≤ 128 },
+    ghost few_inputs: { inputs ≤ vec_len buffers },
+    ghost little_printed: { printed ≤ most_elements },
+    ghost small: { All (λ b. length_of b.spread ≤ most_elements) buffers.items },
 }

@@ -1,24 +1,41 @@
 //! Taking one line.
 
-ghost use Rattle.std.specs.Prelude.{◌≡◌, ◌≤◌, IfSome, IfOk, option_map};
+ghost use Rattle.std.specs.Prelude.{◌≡◌, ◌≤◌, IfSome};
+ghost use Rattle.std.specs.List.{list_all};
 ghost use Rattle.coll_lang.specs.States.{past, Takes};
+ghost use Rattle.coll_lang.specs.Seen.{form, now};
 ghost use Rattle.coll_text.specs.Text.{words};
-ghost use Rattle.coll_lang.specs.FirstForm.{ranks_in, input_in, data_due, data_line, step_in, print_in, print_line, or_bad_line, judge};
+ghost use Rattle.coll_lang.specs.Language.{ranks_in, input_line, barrier_line, step_line, print_line, form_line, values_line, later_line, line_at, judge, may_stand, data_due, is_allowed, unless_flawed};
+ghost use Rattle.coll_lang.specs.Answers.{Gives};
+ghost use Rattle.coll_text.specs.Values.{data_line};
 
+use crate::buffers::{
+    buffer_named, elements_of, is_taken, length_of, rank_of, spread_after, step_of,
+};
 use crate::fault::{LineFault, Refusal};
+use crate::forms::{Line, StepLine, line_of};
 use crate::lists::{Name, RankList};
 use crate::reader::Reader;
 use crate::stage::Stage;
-use coll_text::{Words, is, is_name, number_between};
-use std::alloc::{AllocError, Global};
+use crate::types::{Buffer, CollStep, Spread};
+use coll_text::{Flaw, ValuesFault, Words, data_line, is, number_between};
+use ptl_types::ElemType;
+use std::alloc::Global;
+
+const MOST_BUFFERS: usize = 128;
+
+const MOST_STEPS: usize = 64;
 
 const MOST_PRINTS: usize = 128;
 
+const MOST_ELEMENTS: u64 = 16_777_216;
+
 /// `ranks N`
-#[tactic(auto, unfolding(crate::specs::FirstForm::ranks_in))]
+#[tactic(auto, unfolding(crate::specs::Language::ranks_in))]
 fn ranks_in(line: &[u8]) -> Option<u32>
     ensures value { result ≡ ranks_in (words line.now) }
     ensures least { IfSome result (λ n. 1 ≤ n) }
+    ensures most { IfSome result (λ n. n ≤ 64) }
 {
     let mut words = Words::of(line);
     let key = words.next()?;
@@ -29,156 +46,216 @@ fn ranks_in(line: &[u8]) -> Option<u32>
     number_between(1, 64, number)
 }
 
-/// The name and the count in `input A u8 COUNT`.
-#[tactic(auto, unfolding(crate::specs::FirstForm::input_in))]
-fn input_in(line: &[u8]) -> Option<(&[u8], u32)>
-    ensures { option_map (λ i. (i.0.now, i.1)) result ≡ input_in (words line.now) }
+fn may_stand(stage: Stage, line: &Line) -> bool
+    ensures { result ≡ may_stand stage (form line.now) }
 {
-    let mut words = Words::of(line);
-    let key = words.next()?;
-    let name = words.next()?;
-    let ty = words.next()?;
-    let count = words.next()?;
-    if words.next().is_some() || !is(key, b"input") || !is_name(name) || !is(ty, b"u8") {
-        return None;
-    }
-    Some((name, number_between(1, 4096, count)?))
-}
-
-/// The root and the name B in `broadcast ROOT A B`.
-#[tactic(auto, unfolding(crate::specs::FirstForm::step_in))]
-fn step_in<'a>(ranks: u32, input: &[u8], line: &'a [u8]) -> Option<(u32, &'a [u8])>
-    requires { 1 ≤ ranks }
-    ensures { option_map (λ s. (s.0, s.1.now)) result ≡ step_in ranks input.now (words line.now) }
-{
-    let mut words = Words::of(line);
-    let key = words.next()?;
-    let root = words.next()?;
-    let a = words.next()?;
-    let b = words.next()?;
-    if words.next().is_some() || !is(key, b"broadcast") {
-        return None;
-    }
-    if !is(a, input) || !is_name(b) || is(b, input) {
-        return None;
-    }
-    Some((number_between(0, ranks - 1, root)?, b))
-}
-
-/// The number of the buffer in `print NAME`.
-#[tactic(auto, unfolding(crate::specs::FirstForm::print_in))]
-fn print_in(a: &[u8], b: &[u8], line: &[u8]) -> Option<u32>
-    ensures { result ≡ print_in a.now b.now (words line.now) }
-{
-    let mut words = Words::of(line);
-    let key = words.next()?;
-    let name = words.next()?;
-    if words.next().is_some() || !is(key, b"print") {
-        return None;
-    }
-    if is(name, a) {
-        Some(0)
-    } else if is(name, b) {
-        Some(1)
-    } else {
-        None
+    match stage {
+        Stage::Options => true,
+        Stage::Inputs => !matches!(line, Line::Complete),
+        Stage::Steps => !matches!(line, Line::Complete | Line::Input { .. }),
+        Stage::Prints => matches!(line, Line::Print(_) | Line::End),
+        Stage::Version | Stage::Ranks | Stage::Data { .. } | Stage::Finished => false,
     }
 }
 
-/// The values of a data line. `Ok(None)`: it isn't one.
-#[tactic(auto, using(crate::proofs::Data::begins, crate::proofs::Data::takes, crate::proofs::Data::stops, crate::proofs::Data::stops_past_count, crate::proofs::Data::ends_short, crate::proofs::Data::ends))]
-fn data_line(alloc: Global, count: u32, line: &[u8]) -> Result<Option<RankList>, AllocError>
-    ensures { IfOk result (λ values. values ≡ data_line count (words line.now)) }
-{
-    let mut values = Vec::new(alloc);
-    let mut left = count;
-    let mut words = Words::of(line);
-    while let Some(word) = words.next() {
-        let Some(value) = number_between(0, 255, word) else {
-            return Ok(None);
-        };
-        if left == 0 {
-            return Ok(None);
-        }
-        left -= 1;
-        values.push(value as u8)?;
-    }
-    if left != 0 {
-        return Ok(None);
-    }
-    Ok(Some(RankList::of(values)))
-}
-
-fn data_due(left: u32) -> Stage
-    ensures { result ≡ data_due left }
+fn data_due(left: u32, ty: ElemType, count: u32) -> Stage
+    ensures { result ≡ data_due left ty count }
 {
     if left == 0 {
-        Stage::Step
+        Stage::Inputs
     } else {
-        Stage::Data(left)
+        Stage::Data { left, ty, count }
     }
 }
 
-fn print_line(reader: &mut Reader, line: &[u8]) -> Result<(), LineFault>
-    ensures { Takes result reader.new (or_bad_line (print_line (past reader.old) line.now)) }
+/// `input NAME TYPE COUNT`
+#[tactic(auto, unfolding(crate::specs::Language::input_line))]
+fn input_line(reader: &mut Reader, name: &[u8], ty: ElemType, count: &[u8]) -> Result<(), LineFault>
+    ensures { Takes result reader.new (input_line (past reader.old) name.now ty count.now) }
 {
-    if is(line, b"end") {
-        reader.stage = Stage::Finished;
-        return Ok(());
-    }
-    if reader.prints.len() >= MOST_PRINTS {
-        return Err(LineFault::Refused(Refusal::BadLine));
-    }
-    let Some(number) = print_in(reader.a.as_slice(), reader.b.as_slice(), line) else {
-        return Err(LineFault::Refused(Refusal::BadLine));
+    let Some(count) = number_between(1, 4096, count) else {
+        return Err(LineFault::Refused(Refusal::BadNumber));
     };
+    if is_taken(reader.buffers.as_slice(), name) {
+        return Err(LineFault::Refused(Refusal::NameTaken));
+    }
+    if reader.buffers.len() >= MOST_BUFFERS {
+        return Err(LineFault::Refused(Refusal::TooMany));
+    }
+    let name = Name::copied(reader.alloc, name)?;
+    let spread = Spread::Even(u64::from(count));
+    reader.buffers.push(Buffer { name, ty, spread })?;
+    reader.inputs += 1;
+    reader.stage = data_due(reader.ranks, ty, count);
+    Ok(())
+}
+
+#[tactic(auto, unfolding(crate::specs::Language::barrier_line))]
+fn barrier_line(reader: &mut Reader) -> Result<(), LineFault>
+    ensures { Takes result reader.new (barrier_line (past reader.old)) }
+{
+    if reader.steps.len() >= MOST_STEPS {
+        return Err(LineFault::Refused(Refusal::TooMany));
+    }
+    reader.steps.push(CollStep::Barrier)?;
+    reader.stage = Stage::Steps;
+    Ok(())
+}
+
+/// A step from one buffer to a new one.
+#[tactic(auto, unfolding(crate::specs::Language::step_line))]
+fn step_line(reader: &mut Reader, step: StepLine) -> Result<(), LineFault>
+    ensures { Takes result reader.new (step_line (past reader.old) (now step.entry.root) step.entry.kind step.entry.a.now step.entry.b.now) }
+{
+    let rank = rank_of(reader.ranks, step.root)?;
+    if is_taken(reader.buffers.as_slice(), step.b) {
+        return Err(LineFault::Refused(Refusal::NameTaken));
+    }
+    let Some((a, ty, spread)) = buffer_named(reader.buffers.as_slice(), step.a) else {
+        return Err(LineFault::Refused(Refusal::UnknownBuffer));
+    };
+    let Some(root) = rank else {
+        return Err(LineFault::Refused(Refusal::BadRoot));
+    };
+    let b = reader.buffers.len() as u32;
+    let new = step_of(step.kind, root, a, b);
+    let Some(spread) = spread_after(reader.ranks, new, spread) else {
+        return Err(LineFault::Refused(Refusal::WrongShape));
+    };
+    if reader.steps.len() >= MOST_STEPS || reader.buffers.len() >= MOST_BUFFERS {
+        return Err(LineFault::Refused(Refusal::TooMany));
+    }
+    if length_of(spread) > MOST_ELEMENTS {
+        return Err(LineFault::Refused(Refusal::TooLarge));
+    }
+    let name = Name::copied(reader.alloc, step.b)?;
+    reader.buffers.push(Buffer { name, ty, spread })?;
+    reader.steps.push(new)?;
+    reader.stage = Stage::Steps;
+    Ok(())
+}
+
+#[tactic(auto, unfolding(crate::specs::Language::print_line))]
+fn print_line(reader: &mut Reader, name: &[u8]) -> Result<(), LineFault>
+    ensures { Takes result reader.new (print_line (past reader.old) name.now) }
+{
+    let Some((number, _, spread)) = buffer_named(reader.buffers.as_slice(), name) else {
+        return Err(LineFault::Refused(Refusal::UnknownBuffer));
+    };
+    if reader.prints.len() >= MOST_PRINTS {
+        return Err(LineFault::Refused(Refusal::TooMany));
+    }
+    let printed = reader.printed + elements_of(reader.ranks, spread);
+    if printed > MOST_ELEMENTS {
+        return Err(LineFault::Refused(Refusal::TooLarge));
+    }
     reader.prints.push(number)?;
+    reader.printed = printed;
     reader.stage = Stage::Prints;
     Ok(())
 }
 
-/// Takes one line, judged by the lines before it. After an `Err` the reader is given up.
-#[tactic(auto, unfolding(crate::specs::FirstForm::judge, crate::specs::FirstForm::line_at))]
-pub fn take_line(reader: &mut Reader, line: &[u8]) -> Result<(), LineFault>
-    ensures { Takes result reader.new (judge (past reader.old) line.now) }
+/// A line behind the first two that may stand where it does.
+#[tactic(auto, unfolding(crate::specs::Language::form_line))]
+fn form_line(reader: &mut Reader, line: Line) -> Result<(), LineFault>
+    ensures { Takes result reader.new (form_line (past reader.old) (form line.entry)) }
+{
+    match line {
+        Line::Complete => {
+            reader.stage = Stage::Inputs;
+            reader.remote = true;
+            Ok(())
+        }
+        Line::Input { name, ty, count } => input_line(reader, name, ty, count),
+        Line::Barrier => barrier_line(reader),
+        Line::Step(step) => step_line(reader, step),
+        Line::Print(name) => print_line(reader, name),
+        Line::End => {
+            reader.stage = Stage::Finished;
+            Ok(())
+        }
+    }
+}
+
+/// The values of a data line.
+fn values_of(alloc: Global, ty: ElemType, count: u32, line: &[u8]) -> Result<RankList, LineFault>
+    ensures { Gives (λ list. list) result (unless_flawed (data_line ty count (words line.now))) }
+{
+    match data_line(alloc, ty, u64::from(count), line) {
+        Ok(bytes) => Ok(RankList::of(bytes)),
+        Err(ValuesFault::Flawed(Flaw::Malformed)) => Err(LineFault::Refused(Refusal::BadLine)),
+        Err(ValuesFault::Flawed(Flaw::NoValue)) => Err(LineFault::Refused(Refusal::BadNumber)),
+        Err(ValuesFault::NoMemory) => Err(LineFault::NoMemory),
+    }
+}
+
+/// A data line.
+#[tactic(auto, unfolding(crate::specs::Language::values_line))]
+fn values_line(
+    reader: &mut Reader,
+    left: u32,
+    ty: ElemType,
+    count: u32,
+    line: &[u8],
+) -> Result<(), LineFault>
+    ensures { Takes result reader.new (values_line (past reader.old) left ty count line.now) }
+{
+    let values = values_of(reader.alloc, ty, count, line)?;
+    reader.given.push(values)?;
+    reader.stage = data_due(left.saturating_sub(1), ty, count);
+    Ok(())
+}
+
+#[tactic(auto, unfolding(crate::specs::Language::later_line))]
+fn later_line(reader: &mut Reader, line: &[u8]) -> Result<(), LineFault>
+    ensures { Takes result reader.new (later_line (past reader.old) line.now) }
+{
+    let Some(line) = line_of(line) else {
+        return Err(LineFault::Refused(Refusal::BadLine));
+    };
+    if !may_stand(reader.stage, &line) {
+        return Err(LineFault::Refused(Refusal::BadLine));
+    }
+    form_line(reader, line)
+}
+
+#[tactic(auto, unfolding(crate::specs::Language::line_at))]
+fn line_at(reader: &mut Reader, line: &[u8]) -> Result<(), LineFault>
+    ensures { Takes result reader.new (line_at reader.old.stage (past reader.old) line.now) }
 {
     match reader.stage {
         Stage::Version if is(line, b"coll 1") => {
             reader.stage = Stage::Ranks;
-            return Ok(());
+            Ok(())
         }
-        Stage::Ranks => {
-            if let Some(ranks) = ranks_in(line) {
-                reader.stage = Stage::Input;
+        Stage::Version => Err(LineFault::Refused(Refusal::BadHeader)),
+        Stage::Ranks => match ranks_in(line) {
+            Some(ranks) => {
+                reader.stage = Stage::Options;
                 reader.ranks = ranks;
-                return Ok(());
+                Ok(())
             }
-        }
-        Stage::Input => {
-            if let Some((name, count)) = input_in(line) {
-                reader.a = Name::copied(reader.alloc, name)?;
-                reader.count = count;
-                reader.stage = data_due(reader.ranks);
-                return Ok(());
-            }
-        }
-        Stage::Data(left) => {
-            if let Some(values) = data_line(reader.alloc, reader.count, line)? {
-                reader.given.push(values)?;
-                reader.stage = data_due(left.saturating_sub(1));
-                return Ok(());
-            }
-        }
-        Stage::Step => {
-            if let Some((root, name)) = step_in(reader.ranks, reader.a.as_slice(), line) {
-                reader.b = Name::copied(reader.alloc, name)?;
-                reader.root = root;
-                reader.stage = Stage::Prints;
-                return Ok(());
-            }
-        }
-        Stage::Prints => return print_line(reader, line),
-        Stage::Version | Stage::Finished => {}
+            None => Err(LineFault::Refused(Refusal::BadRanks)),
+        },
+        Stage::Data { left, ty, count } => values_line(reader, left, ty, count, line),
+        Stage::Options | Stage::Inputs | Stage::Steps | Stage::Prints => later_line(reader, line),
+        Stage::Finished => Err(LineFault::Refused(Refusal::AfterEnd)),
     }
-    Err(LineFault::Refused(Refusal::BadLine))
+}
+
+fn are_allowed(line: &[u8]) -> bool
+    ensures { result ≡ list_all is_allowed line.now }
+{
+    line.iter().all(|b| matches!(*b, b' '..=b'~'))
+}
+
+/// Takes one line, judged by the lines before it. After an `Err` the reader is given up.
+#[tactic(auto, unfolding(crate::specs::Language::judge))]
+pub fn take_line(reader: &mut Reader, line: &[u8]) -> Result<(), LineFault>
+    ensures { Takes result reader.new (judge (past reader.old) line.now) }
+{
+    if !are_allowed(line) {
+        return Err(LineFault::Refused(Refusal::BadByte));
+    }
+    line_at(reader, line)
 }

@@ -2,14 +2,20 @@
 
 ghost use Rattle.std.specs.Prelude.{◌≡◌, ◌≤◌, length, IfOk};
 ghost use Rattle.coll_text.specs.Text.{lines};
-ghost use Rattle.coll_lang.specs.FirstForm.{nothing, read, read_from, is_finished, described};
-ghost use Rattle.coll_lang.specs.States.{past};
+ghost use Rattle.coll_lang.specs.Language.{nothing, read, read_by, read_from, judge, is_finished};
+ghost use Rattle.coll_lang.specs.Extents.{judged, after};
+ghost use Rattle.coll_lang.specs.FirstForm as first;
+ghost use Rattle.coll_lang.specs.States.{past, Takes};
 ghost use Rattle.coll_lang.specs.Verdicts.{Reads, fault_at};
 ghost use Rattle.coll_lang.specs.OneBroadcast.{IsOneBroadcast};
+ghost use Rattle.coll_lang.specs.Spelling.{text};
+ghost use Rattle.coll_lang.specs.Accepted.{OneSpelling, AcceptedIsWellFormed};
+ghost use Rattle.coll_lang.specs.Table.{ByTheTable};
+ghost use Rattle.coll_lang.specs.declared.whole.Extent.TheVariants.{All, Built};
 
 use crate::description::Description;
 use crate::fault::{LineFault, ParseFault, Refusal};
-use crate::lists::Name;
+use crate::first_form::first_line;
 use crate::reader::Reader;
 use crate::stage::Stage;
 use crate::take::take_line;
@@ -18,6 +24,15 @@ use std::alloc::Global;
 
 const LONGEST: usize = 1_048_576;
 
+/// How much of the language is read.
+#[derive(Clone, Copy, Debug, PartialEq, Eq)]
+enum Extent {
+    /// All of it.
+    All,
+    /// What can be run so far.
+    Built,
+}
+
 fn new_reader(alloc: Global) -> Reader
     ensures { past result ≡ nothing }
 {
@@ -25,12 +40,13 @@ fn new_reader(alloc: Global) -> Reader
         alloc,
         stage: Stage::Version,
         ranks: 1,
-        a: Name::empty(alloc),
-        count: 0,
+        remote: false,
+        buffers: Vec::new(alloc),
+        inputs: 0,
         given: Vec::new(alloc),
-        root: 0,
-        b: Name::empty(alloc),
+        steps: Vec::new(alloc),
         prints: Vec::new(alloc),
+        printed: 0,
     }
 }
 
@@ -40,29 +56,47 @@ fn is_finished(stage: Stage) -> bool
     matches!(stage, Stage::Finished)
 }
 
+fn take(extent: Extent, reader: &mut Reader, line: &[u8]) -> Result<(), LineFault>
+    ensures { Takes result reader.new (judged extent (past reader.old) line.now) }
+{
+    match extent {
+        Extent::All => take_line(reader, line),
+        Extent::Built => first_line(reader, line),
+    }
+}
+
+fn after(extent: Extent) -> Refusal
+    ensures { result ≡ after extent }
+{
+    match extent {
+        Extent::All => Refusal::AfterEnd,
+        Extent::Built => Refusal::BadLine,
+    }
+}
+
 /// What the lines say, taken one after the other.
 #[tactic(auto, using(crate::proofs::Reading::goes_on, crate::proofs::Reading::breaks_off))]
-fn read_lines(alloc: Global, bytes: &[u8]) -> Result<Reader, ParseFault>
+fn read_lines(alloc: Global, extent: Extent, bytes: &[u8]) -> Result<Reader, ParseFault>
     requires { length bytes.now ≤ 1048576 }
-    ensures { Reads past result (read_from nothing 1 (lines bytes.now)) }
+    ensures { Reads past result (read_from (judged extent) (after extent) nothing 1 (lines bytes.now)) }
 {
     let mut reader = new_reader(alloc);
     let mut rest = bytes;
     let mut number = 1u32;
     while !is_finished(reader.stage) {
-        let (line, Some(after)) = cut(rest, b'\n') else {
+        let (line, Some(behind)) = cut(rest, b'\n') else {
             return Err(refused(number, Refusal::Unended));
         };
-        if let Err(fault) = take_line(&mut reader, line) {
+        if let Err(fault) = take(extent, &mut reader, line) {
             return Err(fault_at(number, fault));
         }
-        rest = after;
+        rest = behind;
         number += 1;
     }
     if rest.is_empty() {
         Ok(reader)
     } else {
-        Err(refused(number, Refusal::BadLine))
+        Err(refused(number, after(extent)))
     }
 }
 
@@ -81,27 +115,57 @@ fn refused(line: u32, name: Refusal) -> ParseFault
     ParseFault::Refused { line, name }
 }
 
-#[tactic(auto, unfolding(crate::specs::FirstForm::read))]
-fn parsed(alloc: Global, bytes: &[u8]) -> Result<Description, ParseFault>
-    ensures { Reads (λ d. d) result (read bytes.now) }
+#[tactic(auto, unfolding(crate::specs::Language::read_by))]
+fn parsed(alloc: Global, extent: Extent, bytes: &[u8]) -> Result<Description, ParseFault>
+    ensures { Reads (λ d. d) result (read_by (judged extent) (after extent) bytes.now) }
 {
     if bytes.len() > LONGEST {
         return Err(refused(0, Refusal::TooLong));
     }
-    let reader = read_lines(alloc, bytes)?;
-    Ok(Description::of(alloc, reader)?)
+    let reader = read_lines(alloc, extent, bytes)?;
+    Ok(Description::of(reader))
 }
 
-/// Reads a description of the first form in one pass.
+/// Reads a description of the whole language in one pass.
+///
+/// # Errors
+///
+/// The first refusal of the text with its line, or that there was no memory for the description.
+pub fn parse_all(alloc: Global, bytes: &[u8]) -> Result<Description, ParseFault>
+    // Unless memory runs out, it is what reading gives, both ways.
+    ensures exact { Reads (λ d. d) result (read bytes.now) }
+    // What is read has the text as its one spelling.
+    ensures spelled { IfOk result (λ d. bytes.now ≡ text d) }
+{
+    parsed(alloc, Extent::All, bytes)
+}
+
+/// Reads a description that can be run so far: one input of bytes, one broadcast of it, and prints. Every other line is
+/// refused as BadLine.
 ///
 /// # Errors
 ///
 /// The first refusal of the text with its line, or that there was no memory for the description.
 pub fn parse(alloc: Global, bytes: &[u8]) -> Result<Description, ParseFault>
     // Unless memory runs out, it is what reading gives, both ways.
-    ensures exact { Reads (λ d. d) result (read bytes.now) }
+    ensures exact { Reads (λ d. d) result (first.read bytes.now) }
     // What is read is one broadcast of bytes.
     ensures form { IfOk result (λ d. IsOneBroadcast d) }
 {
-    parsed(alloc, bytes)
+    parsed(alloc, Extent::Built, bytes)
 }
+
+/// A text that describes something has one spelling.
+pub fn one_spelling()
+    ensures { OneSpelling }
+{}
+
+/// What a description says is well formed: this is what the crates above may rest on.
+pub fn well_formed()
+    ensures { AcceptedIsWellFormed }
+{}
+
+/// A line is refused by the first row of the table that holds of it.
+pub fn refused_by_the_table()
+    ensures { ByTheTable }
+{}

@@ -1,0 +1,5 @@
+use Rattle.coll_lang.proofs.Kept.{spelled_in}
+use Rattle.coll_lang.proofs.whole.parse_all.Goals as goal
+
+pub returns-clause-spelled : goal.returns-clause-spelled
+returns-clause-spelled c = spelled_in c.args.bytes.now c.parsed.result c.parsed.ensures
