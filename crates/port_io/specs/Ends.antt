@@ -12,9 +12,9 @@ pub record Outflow : Type 0 where
   pub faults : ℕ
   pub finishes : ℕ
 
--- these bytes went from the front of what was left
+-- These bytes went from the front of what was left. A source that tells goes on to tell, and one that doesn't never does.
 abbrev pub GivesFront : Option (List ℕ) → Option (List ℕ) → List ℕ → Type 0
-GivesFront None new bytes = Unit {0}
+GivesFront None new bytes = new ≡ None
 GivesFront (Some rest) None bytes = ⊥
 GivesFront (Some rest) (Some left) bytes = rest ≡ bytes ++ left
 

@@ -2,12 +2,12 @@
 use Rattle.std.proofs.Common.{ℕ, ◌≡◌, ◌≤◌, ◌<◌, List, [], ◌++◌, Option, Some, None, Result, Ok, Err, refl, sym, ◌∙◌, ap, subst, append_assoc, take, drop, arith, inl, inr}
 use Rattle.std.proofs.lemmas.List.{append-nil, take-append-drop}
 use Rattle.port_io.specs.declared.ends.Failed.{Failed}
-use Rattle.port_io.specs.Counts.{Rose}
+use Rattle.port_io.specs.Counts.{raised, Rose}
 use Rattle.port_io.specs.Ends.{Outflow, Appends}
 use Rattle.std.specs.Result.{IsErr}
 use Rattle.std.specs.List.{flat_map}
-use Rattle.std.proofs.Common.{length, get_or, ◌+◌, add-one, drop-cons}
-use Rattle.run_text.specs.Putting.{Takes, FailsWithin, Puts}
+use Rattle.std.proofs.Common.{length, get_or, ◌+◌, ◌%◌, add-one, drop-cons}
+use Rattle.run_text.specs.Putting.{Takes, FailsWithin, Puts, EndsWith}
 
 pub Appends-nothing : (told : Option (List ℕ)) → Appends told told []
 Appends-nothing None = refl
@@ -128,3 +128,20 @@ Puts-stops a b h i list (Err failed) exit fails = fails
 -- the same for a list made of parts, from part n on
 pub flat_map-drop : {X : Type 0} (f : X → List ℕ) (xs : List X) (n : ℕ) (d : X) → n < length xs → flat_map f (drop n xs) ≡ f (get_or xs n d) ++ flat_map f (drop (n + 1) xs)
 flat_map-drop f xs n d in_range = rw (add-one, drop-cons xs n d) refl
+
+-- the end of a text whose beginning was taken
+pub EndsWith-then : (a b c : Outflow) (text rest : List ℕ) (r : Result (Unit {0}) Failed) → Takes a b text rest → EndsWith b c rest r → EndsWith a c text r
+EndsWith-then a b c text rest (Ok done) first ends = record {
+  appended = subst (λ xs. Appends a.taken c.taken xs) (sym first.whole) (Appends-then a.taken b.taken c.taken first.out rest first.appended ends.appended);
+  faults = let before = first.faults in let after = ends.faults in omega arith;
+  finishes = ends.finishes ∙ ap (λ n. raised n) first.finishes;
+}
+EndsWith-then a b c text rest (Err failed) first fails = Fails-then a b c text rest first fails
+
+pub EndsWith-stops : (a b : Outflow) (text : List ℕ) (r : Result (Unit {0}) Failed) → IsErr r → FailsWithin a b text → EndsWith a b text r
+EndsWith-stops a b text (Ok done) exit fails = absurd (cc)
+EndsWith-stops a b text (Err failed) exit fails = fails
+
+-- a whole piece more leaves as much over
+pub left_over : (less more : ℕ) → more ≡ 65536 + less → less % 65536 ≡ more % 65536
+left_over less more whole = omega arith

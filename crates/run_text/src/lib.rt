@@ -5,4 +5,4 @@ mod lines;
 mod pieces;
 
 pub use lines::{refusal_line, rest_line, result_line};
-pub use pieces::{PIECE, Pieces};
+pub use pieces::{PIECE, Pieces, write_short};

@@ -1,6 +1,6 @@
 //! A text in pieces.
 
-ghost use Rattle.std.specs.Prelude.{◌≡◌, ◌+◌, ◌≤◌, [], length, vec_len, vec_capacity, IfOk};
+ghost use Rattle.std.specs.Prelude.{◌≡◌, ◌+◌, ◌%◌, ◌≤◌, [], length, vec_len, vec_capacity, IfOk, OnOk};
 ghost use Rattle.run_text.specs.Putting.{Puts, EndsWith};
 
 use port_io::{Failed, Sink};
@@ -55,6 +55,17 @@ fn write_piece<K: Sink>(held: &mut Vec<u8>, sink: &mut K, list: &[u8]) -> Result
     written
 }
 
+/// Writes a text that fits one piece, and finishes the sink once. It takes no memory.
+///
+/// At `Failed` the count of the sink's faults rose, and a beginning of the text stands.
+pub fn write_short<K: Sink>(sink: &mut K, text: &[u8]) -> Result<(), Failed>
+    requires { length text.now ≤ 65536 }
+    ensures { EndsWith (K.outflow sink.old) (K.outflow sink.new) text.now result }
+{
+    write_all(sink, text)?;
+    sink.finish()
+}
+
 impl Pieces {
     /// Nothing held back, and room for a whole piece.
     pub fn open(alloc: Global) -> Result<Pieces, NoMemory>
@@ -69,7 +80,9 @@ impl Pieces {
     /// Adds the list to the text, and writes each piece that is full. At `Failed` the count of the sink's faults rose, and
     /// a beginning of the text stands.
     pub fn put<K: Sink>(&mut self, sink: &mut K, list: &[u8]) -> Result<(), Failed>
-        ensures { Puts (K.outflow sink.old) (K.outflow sink.new) self.old self.new list.now result }
+        // What is held back is what fills no piece.
+        ensures held { OnOk result (length self.new ≡ (length self.old + length list.now) % 65536) }
+        ensures puts { Puts (K.outflow sink.old) (K.outflow sink.new) self.old self.new list.now result }
     {
         let mut rest = list;
         while rest.len() >= PIECE - self.held.len() {
@@ -86,9 +99,8 @@ impl Pieces {
         ensures ends { EndsWith (K.outflow sink.old) (K.outflow sink.new) self.old result }
         ensures nothing { self.new ≡ [] }
     {
-        let written = write_all(sink, self.held.as_slice());
+        let written = write_short(sink, self.held.as_slice());
         self.held.clear();
-        written?;
-        sink.finish()
+        written
     }
 }

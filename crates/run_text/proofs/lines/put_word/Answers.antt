@@ -3,7 +3,7 @@ use Rattle.run_text.proofs.Taking.{Puts-exit, Puts-then}
 use Rattle.run_text.proofs.lines.put_word.Goals as goal
 
 pub returns-in_err-put : goal.returns-in_err-put
-returns-in_err-put g c = Puts-exit _ _ _ _ (32 ∷ []) _ _ c.from_residual.ensures.0 c.in_err-put.ensures
+returns-in_err-put g c = Puts-exit _ _ _ _ (32 ∷ []) _ _ c.from_residual.ensures.0 c.in_err-put.ensures.puts
 
 pub returns : goal.returns
-returns g c = Puts-then _ _ _ _ _ _ (32 ∷ []) _ _ c.in_ok-put.ensures c.put-2.ensures
+returns g c = Puts-then _ _ _ _ _ _ (32 ∷ []) _ _ c.in_ok-put.ensures.puts c.put-2.ensures.puts
