@@ -75,4 +75,15 @@ impl Region {
         let from = start as usize;
         self.bytes[from..from + list.len()].copy_from_slice(list);
     }
+
+    /// Exchanges the part from `start` on with the list. Nothing else of the region changes.
+    pub fn exchange(&mut self, start: u64, list: &mut [u8])
+        requires { start + length list.old ≤ length self.old }
+        ensures region { self.new ≡ written start list.old self.old }
+        ensures list { list.new ≡ part start (length list.old) self.old }
+    {
+        let from = start as usize;
+        let size = list.len();
+        self.bytes[from..from + size].swap_with_slice(list);
+    }
 }

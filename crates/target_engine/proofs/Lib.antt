@@ -1,0 +1,4 @@
+pub mod Exchanging
+pub mod Swapping
+pub mod Views
+pub mod Within

@@ -1,0 +1,42 @@
+-- The chosen entry's part lies in the region.
+use Rattle.std.proofs.Common.{subst, ◌≡◌, ℕ, zero, suc, Bool, true, false, List, [], ◌∷◌, Option, Some, None, find, if◌then◌else◌, refl, get_or}
+use Rattle.std.specs.Prelude.{All}
+use Rattle.std.proofs.lemmas.List.Elements.{All-head, All-tail}
+use Rattle.ptl_types.specs.declared.headers.Header.{Header}
+use Rattle.ptl_types.specs.declared.entries.List.TheVariants.{Priority, Overflow}
+use Rattle.ni_model.specs.Lists.{fits, Index, index_at}
+use Rattle.ni_model.specs.declared.Linked.{Linked}
+use Rattle.ptl_types.specs.Kinds.{is_put_or_atomic}
+use Rattle.ni_model.specs.Arrive.{chosen, chosen_at, as_found, or_else}
+use Rattle.ni_model.specs.Conditions.{IsPartIn, HasPartsIn}
+use Rattle.ni_model.specs.declared.Found.{Found}
+
+pub find_has : {A : Type 0} (P : A → Type 0) (p : A → Bool) (xs : List A) (x : A) → All P xs → find p xs ≡ Some x → P x
+find_has P p [] x all e = cc
+find_has P p (y ∷ ys) x all e =
+    elim (p y) as (λ b. (if b then Some y else find p ys) ≡ Some x → P x) [
+      | true ↦ λ is. let g : y ≡ x = cc in subst P g (All-head P y ys all)
+      | false ↦ λ is. find_has P p ys x (All-tail P y ys all) is
+    ] e
+
+pub at_has : {A : Type 0} (P : A → Type 0) (xs : List A) (i : ℕ) (d : A) → All P xs → P d → P (get_or xs i d)
+at_has P [] i d all e = e
+at_has P (x ∷ xs) zero d all e = All-head P x xs all
+at_has P (x ∷ xs) (suc i) d all e = at_has P xs i d (All-tail P x xs all) e
+
+pub either_has : (n : ℕ) (a b : Option Linked) (f : Found) → ((x : Linked) → a ≡ Some x → IsPartIn n x) → ((x : Linked) → b ≡ Some x → IsPartIn n x) → or_else (as_found Priority a) (as_found Overflow b) ≡ Some f → IsPartIn n f.linked
+either_has n None None f pa pb e = cc
+either_has n None (Some y) f pa pb e = let g : y ≡ f.linked = cc in subst (IsPartIn n) g (pb y refl)
+either_has n (Some x) b f pa pb e = let g : x ≡ f.linked = cc in subst (IsPartIn n) g (pa x refl)
+
+pub cases_has : (n : ℕ) (t : Bool) (a b : Option Linked) (f : Found) → ((x : Linked) → a ≡ Some x → IsPartIn n x) → ((x : Linked) → b ≡ Some x → IsPartIn n x) → or_else (as_found Priority a) (if t then as_found Overflow b else None) ≡ Some f → IsPartIn n f.linked
+cases_has n true a b f pa pb e = either_has n a b f pa pb e
+cases_has n false a b f pa pb e = either_has n a None f pa (λ x is. cc) e
+
+pub chosen_at-within : (n : ℕ) (h : Header) (o : Option Index) (f : Found) → HasPartsIn n o → chosen_at h o ≡ Some f → IsPartIn n f.linked
+chosen_at-within n h None f has e = cc
+chosen_at-within n h (Some i) f has e =
+    cases_has n (is_put_or_atomic h.kind) (find (fits h) i.priority) (find (fits h) i.overflow) f (λ x is. find_has (IsPartIn n) (fits h) i.priority x has.0 is) (λ x is. find_has (IsPartIn n) (fits h) i.overflow x has.1 is) e
+
+pub chosen-within : (n : ℕ) (h : Header) (is : List (Option Index)) (f : Found) → All (HasPartsIn n) is → chosen h is ≡ Some f → IsPartIn n f.linked
+chosen-within n h is f all e = chosen_at-within n h (index_at h.pt is) f (at_has (HasPartsIn n) is h.pt None all tt) e

@@ -1,0 +1,86 @@
+//! Acknowledgements and replies.
+
+ghost use Rattle.std.specs.Prelude.{◌≡◌, [], None, Some, true, false, length as size, if◌then◌else◌};
+ghost use Rattle.ptl_types.specs.Messages.{message as sent};
+ghost use Rattle.ptl_types.specs.Kinds.{is_no_ack};
+ghost use Rattle.ni_model.specs.Arrive.{ack_header as ack_of, reply_header as reply_of, answer as answer_of, refused as refused_of};
+
+use crate::measures::is_put_or_atomic;
+use ni_model::Arrived;
+use ptl_types::{AckRequest, Bytes, Header, Message, MessageKind, Outcome};
+
+fn ack_header(ok: bool, count: u64, header: &Header) -> Header
+    ensures { result ≡ ack_of ok count header.now }
+{
+    Header {
+        kind: MessageKind::Ack,
+        source: header.target,
+        target: header.source,
+        offset: 0,
+        length: if ok { count } else { 0 },
+        op: None,
+        swap: None,
+        operand: 0,
+        ok,
+        ..*header
+    }
+}
+
+fn reply_header(ok: bool, count: u64, header: &Header) -> Header
+    ensures { result ≡ reply_of ok count header.now }
+{
+    Header {
+        kind: MessageKind::Reply,
+        source: header.target,
+        target: header.source,
+        offset: 0,
+        length: if ok { count } else { 0 },
+        op: None,
+        swap: None,
+        operand: 0,
+        ack: AckRequest::NoAck,
+        ok,
+        ..*header
+    }
+}
+
+/// The acknowledgement, where one was asked for. It has no bytes.
+pub fn acknowledge(ok: bool, count: u64, header: &Header, mut bytes: Bytes) -> Option<Message>
+    ensures { result ≡ (if is_no_ack header.now.ack then None else Some (sent (ack_of ok count header.now) [])) }
+{
+    bytes.clear();
+    match header.ack {
+        AckRequest::NoAck => None,
+        _ => Some(Message::new(ack_header(ok, count, header), bytes)),
+    }
+}
+
+/// The reply with these bytes.
+pub fn reply(header: &Header, count: u64, bytes: Bytes) -> Message
+    requires { size bytes.list ≡ count }
+    ensures { result ≡ sent (reply_of true count header.now) bytes.list }
+{
+    Message::new(reply_header(true, count, header), bytes)
+}
+
+fn refusal(message: Message) -> Option<Message>
+    ensures { result ≡ answer_of false 0 [] message.header }
+{
+    let (header, mut bytes) = message.into_parts();
+    if is_put_or_atomic(header.kind) {
+        return acknowledge(false, 0, &header, bytes);
+    }
+    bytes.clear();
+    Some(Message::new(reply_header(false, 0, &header), bytes))
+}
+
+/// A message that wasn't delivered.
+pub fn refused(outcome: Outcome, message: Message) -> Arrived
+    ensures { result ≡ refused_of outcome message.header }
+{
+    Arrived {
+        outcome,
+        answer: refusal(message),
+        counted: None,
+    }
+}

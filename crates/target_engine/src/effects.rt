@@ -1,0 +1,50 @@
+//! Counting and raising events where a counting event or an event queue is named.
+
+ghost use Rattle.std.specs.Prelude.{◌≡◌};
+ghost use Rattle.ni_model.specs.Tables.{where_set as set_by};
+ghost use Rattle.ni_model.specs.Counts.{counted, successes as success_of};
+ghost use Rattle.ni_model.specs.Queues.{raised};
+
+use counters::Counter;
+use event_queues::Queue;
+use handle_store::Store;
+use ptl_types::{Count, Event, Handle};
+
+/// The handle, where the flag is set.
+pub fn where_set(flag: bool, handle: Option<Handle>) -> Option<Handle>
+    ensures { result ≡ set_by flag handle }
+{
+    if flag { handle } else { None }
+}
+
+/// That many successes.
+pub fn successes(success: u64) -> Count
+    ensures { result ≡ success_of success }
+{
+    Count {
+        success,
+        failure: 0,
+    }
+}
+
+/// Counts on this counting event, where one is named.
+pub fn count(cts: &mut Store<Counter>, ct: Option<Handle>, by: Count)
+    ensures { cts.new ≡ counted ct by cts.old }
+{
+    if let Some(h) = ct {
+        if let Some(counter) = cts.get_mut(h) {
+            counter.bump(by);
+        }
+    }
+}
+
+/// Adds the event to this queue, where one is named.
+pub fn raise(eqs: &mut Store<Queue>, eq: Option<Handle>, event: Event)
+    ensures { eqs.new ≡ raised eq event eqs.old }
+{
+    if let Some(h) = eq {
+        if let Some(queue) = eqs.get_mut(h) {
+            queue.add(event);
+        }
+    }
+}

@@ -1,0 +1,88 @@
+//! The events that a message raises at its target.
+
+ghost use Rattle.std.specs.Prelude.{◌≡◌, ◌+◌, ◌<◌, ◌^◌};
+ghost use Rattle.ni_model.specs.Events.{kind_delivered as kind_of, message_event as event_of, entry_event as entry_event_of};
+ghost use Rattle.ni_model.specs.Arrive.{delivery_raised, events_after};
+
+use crate::effects::raise;
+use crate::measures::{delivered, is_over, place};
+use event_queues::Queue;
+use handle_store::Store;
+use ni_model::Found;
+use ptl_types::{Event, EventKind, Handle, Header, List, MessageKind};
+
+fn kind_delivered(kind: MessageKind) -> EventKind
+    ensures { result ≡ kind_of kind }
+{
+    match kind {
+        MessageKind::Put => EventKind::Put,
+        MessageKind::Get => EventKind::Get,
+        MessageKind::Atomic => EventKind::Atomic,
+        _ => EventKind::FetchAtomic,
+    }
+}
+
+/// The event of a message, or of its unexpected header.
+pub fn message_event(kind: EventKind, header: &Header, delivered: u64, place: u64) -> Event
+    ensures { result ≡ event_of kind header.now delivered place }
+{
+    Event {
+        kind,
+        source: header.source,
+        pt: header.pt,
+        match_bits: header.match_bits,
+        hdr_data: header.hdr_data,
+        requested: header.length,
+        delivered,
+        place,
+        ok: true,
+    }
+}
+
+/// The event of an entry.
+pub fn entry_event(kind: EventKind, pt: u32, match_bits: u64, ok: bool) -> Event
+    ensures { result ≡ entry_event_of kind pt match_bits ok }
+{
+    Event {
+        kind,
+        source: 0,
+        pt,
+        match_bits,
+        hdr_data: 0,
+        requested: 0,
+        delivered: 0,
+        place: 0,
+        ok,
+    }
+}
+
+fn raise_delivery(eqs: &mut Store<Queue>, eq: Option<Handle>, found: &Found, header: &Header)
+    requires { found.now.linked.entry.start + found.now.linked.entry.length < 2 ^ 64 }
+    ensures { eqs.new ≡ delivery_raised found.now header.now eq eqs.old }
+{
+    if let List::Priority = found.list {
+        let count = delivered(&found.linked, header);
+        let at = place(&found.linked, header);
+        raise(
+            eqs,
+            eq,
+            message_event(kind_delivered(header.kind), header, count, at),
+        );
+    }
+}
+
+/// The message's event, in the priority list alone, and then the unlinking's.
+pub fn raise_events(eqs: &mut Store<Queue>, eq: Option<Handle>, found: &Found, header: &Header)
+    requires { found.now.linked.entry.start + found.now.linked.entry.length < 2 ^ 64 }
+    ensures { eqs.new ≡ events_after found.now header.now eq eqs.old }
+{
+    raise_delivery(eqs, eq, found, header);
+    if is_over(&found.linked, header) {
+        let bits = found.linked.entry.match_bits;
+        raise(
+            eqs,
+            eq,
+            entry_event(EventKind::AutoUnlink, header.pt, bits, true),
+        );
+    }
+}

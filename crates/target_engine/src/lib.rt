@@ -1,0 +1,14 @@
+//! The target's side of an interface: what a request does where it arrives, and the calls that append, unlink and search
+//! (Portals 4.3, matching, overflow lists and the operations at the target).
+#![tactic(auto, unfolding(ni_model::specs::Arrive::request))]
+
+mod answers;
+pub mod effects;
+mod events;
+mod exchange;
+mod index;
+mod measures;
+mod swap;
+mod target;
+
+pub use target::Target;

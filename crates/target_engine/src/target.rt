@@ -1,0 +1,180 @@
+//! The target.
+
+ghost use Rattle.std.specs.Prelude.{◌≡◌, ◌+◌, ◌<◌, ◌^◌, [], None, false, IfOk, option_copied, length, All, replicate};
+ghost use Rattle.ptl_types.specs.Kinds.{is_answer};
+ghost use Rattle.ni_model.specs.Headers.{held};
+ghost use Rattle.ni_model.specs.Arrive.{parts, received, request as request_of, accepted, counts_after, headers_after, is_overflow as overflows, outcome_in as outcome_of};
+ghost use Rattle.ni_model.specs.Conditions.{IsPartIn, HasPartsIn, HasRoom};
+ghost use Rattle.unexpected.specs.Places.{header_at};
+ghost use Rattle.target_engine.specs.Sides.{side};
+
+use crate::answers::refused;
+use crate::effects::{count, successes, where_set};
+use crate::events::raise_events;
+use crate::exchange::exchange;
+use crate::index::{Index, chosen_in, queue_at, settle_at};
+use crate::measures::{delivered, place};
+use counters::Counter;
+use event_queues::Queue;
+use handle_store::Store;
+use memory_desc::Region;
+use ni_model::{Arrived, Found, Linked};
+use ptl_types::{Header, Limits, List, Message, NoMemory, Outcome, Rank, UnexpectedHeader};
+use std::alloc::Global;
+use std::marker::Model;
+use unexpected::{Headers, allows};
+
+fn count_message(cts: &mut Store<Counter>, linked: &Linked)
+    ensures { cts.new ≡ counts_after linked.now cts.old }
+{
+    let ct = where_set(linked.entry.count_comm, linked.entry.ct);
+    count(cts, ct, successes(1));
+}
+
+fn note_header(headers: &mut Headers, found: &Found, header: &Header)
+    requires room { HasRoom found.now.list headers.old }
+    requires part { found.now.linked.entry.start + found.now.linked.entry.length < 2 ^ 64 }
+    ensures { headers.new ≡ headers_after found.now header.now headers.old }
+{
+    if let List::Overflow = found.list {
+        headers.add(
+            header.pt,
+            UnexpectedHeader {
+                entry: found.linked.handle,
+                place: place(&found.linked, header),
+                delivered: delivered(&found.linked, header),
+                header: *header,
+            },
+        );
+    }
+}
+
+fn is_overflow(list: List) -> bool
+    ensures { result ≡ overflows list }
+{
+    match list {
+        List::Priority => false,
+        List::Overflow => true,
+    }
+}
+
+fn outcome_in(list: List) -> Outcome
+    ensures { result ≡ outcome_of list }
+{
+    match list {
+        List::Priority => Outcome::Matched,
+        List::Overflow => Outcome::Overflow,
+    }
+}
+
+/// A target: its rank, its portal table indices, and the headers that wait. Its value is the model's `Side`.
+#[derive(Drop)]
+pub struct Target {
+    rank: Rank,
+    limit: u32,
+    indices: Vec<Option<Index>>,
+    given: u64,
+    headers: Headers,
+}
+
+impl Model for Target {
+    ghost use Rattle.ni_model.specs.Arrive.{Side};
+    ghost use Rattle.target_engine.specs.Sides.{side};
+
+    ghost Value = { Side };
+
+    ghost view = { λ t. side t.rank t.limit t.indices.items t.given t.headers };
+}
+
+fn empty_indices(alloc: Global, pts: u32) -> Result<Vec<Option<Index>>, NoMemory>
+    ensures { IfOk result (λ v. v.items ≡ replicate pts None) }
+{
+    match Vec::with_capacity(alloc, pts as usize) {
+        Ok(mut indices) => {
+            for _i in 0..pts {
+                indices.push_reserved(None);
+            }
+            Ok(indices)
+        }
+        Err(_) => Err(NoMemory),
+    }
+}
+
+impl Target {
+    /// A target of this rank with no index allocated, no entry linked and no header. It has the room of its limits.
+    pub fn open(alloc: Global, rank: Rank, limits: &Limits) -> Result<Target, NoMemory>
+        ensures { IfOk result (λ t. t ≡ side rank limits.now.entries (replicate limits.now.pts None) 0 (held [] limits.now.unexpected)) }
+    {
+        let indices = empty_indices(alloc, limits.pts)?;
+        let headers = Headers::open(alloc, limits.unexpected)?;
+        Ok(Target {
+            rank,
+            limit: limits.entries,
+            indices,
+            given: 0,
+            headers,
+        })
+    }
+
+    /// Header number i of an index in the order of arrival, from 0; `None` exactly where the index has no more than i.
+    pub fn header(&self, pt: u32, i: u32) -> Option<&UnexpectedHeader>
+        ensures { option_copied result ≡ header_at pt i self.now.headers.noted }
+    {
+        self.headers.at(pt, i)
+    }
+
+    /// What a request does here, but for the two registers: its outcome, its answer, and the counting event that rose. The
+    /// answer uses the message's own bytes, so that nothing takes memory.
+    pub fn request(
+        &mut self,
+        region: &mut Region,
+        cts: &mut Store<Counter>,
+        eqs: &mut Store<Queue>,
+        message: Message,
+    ) -> Arrived
+        requires request { is_answer message.header.kind ≡ false }
+        requires inside { All (HasPartsIn (length region.old)) self.old.indices }
+        ensures { received (parts self.new region.new cts.new eqs.new) result ≡ request_of (parts self.old region.old cts.old eqs.old) message }
+    {
+        let header = *message.header();
+        let found = match chosen_in(&self.indices, &header) {
+            Some(found) => found,
+            None => return refused(Outcome::Dropped, message),
+        };
+        if !allows(&found.linked.entry, header.kind) {
+            return refused(Outcome::Violation, message);
+        }
+        if is_overflow(found.list) && self.headers.is_full() {
+            return refused(Outcome::Dropped, message);
+        }
+        self.accept(region, cts, eqs, message, &found)
+    }
+
+    fn accept(
+        &mut self,
+        region: &mut Region,
+        cts: &mut Store<Counter>,
+        eqs: &mut Store<Queue>,
+        message: Message,
+        found: &Found,
+    ) -> Arrived
+        requires request { is_answer message.header.kind ≡ false }
+        requires part { IsPartIn (length region.old) found.now.linked }
+        requires room { HasRoom found.now.list self.old.headers }
+        ensures { received (parts self.new region.new cts.new eqs.new) result ≡ accepted (parts self.old region.old cts.old eqs.old) message found.now }
+    {
+        let _size = region.len();
+        let header = *message.header();
+        let eq = queue_at(&self.indices, header.pt);
+        let answer = exchange(region, &found.linked, message);
+        count_message(cts, &found.linked);
+        note_header(&mut self.headers, found, &header);
+        settle_at(&mut self.indices, found, &header);
+        raise_events(eqs, eq, found, &header);
+        Arrived {
+            outcome: outcome_in(found.list),
+            answer,
+            counted: where_set(found.linked.entry.count_comm, found.linked.entry.ct),
+        }
+    }
+}
