@@ -222,3 +222,17 @@ acknowledged = refl
 refused_acknowledgement : is_ok_answer (target forbidden (asking CtAck (7 ∷ 8 ∷ []))).delivered.answer ≡ false
 unfolding target request append
 refused_acknowledgement = refl
+
+-- a message in the priority list leaves no header
+priority_leaves_none : (target (persistent (entry 0 4)) (put (7 ∷ []))).state.headers.noted ≡ []
+unfolding target request append
+priority_leaves_none = refl
+
+-- and one that is dropped or a violation changes nothing but a register
+dropped_changes_one : (target (persistent (entry 0 4)) (put_at 1 0 (7 ∷ []))).state ≡ record (persistent (entry 0 4)) { drops = 1 }
+unfolding target request append
+dropped_changes_one = refl
+
+violation_changes_one : (target forbidden (put (7 ∷ []))).state ≡ record forbidden { violations = 1 }
+unfolding target request append
+violation_changes_one = refl

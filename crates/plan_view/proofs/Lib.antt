@@ -3,3 +3,4 @@ pub mod MatchBits
 pub mod StepFire
 pub mod StepArrive
 pub mod Installed
+pub mod Unrefused

@@ -26,14 +26,23 @@ abbrev pub operations_all : Plan → Slots → List Work → State → State
 operations_all p k [] s = s
 operations_all p k (w ∷ ws) s = operations_all p k ws (with_operation (deed_of p k w) (cell_ct p k (cell_of p w)) (cell p (cell_of p w)).needs s)
 
--- portal table index 0, the done counter, a counter for each own cell, the whole region as a descriptor, an entry for each own cell,
--- and the operations: along each link of the rank, and the telling of each own cell
+-- ---- the interface after so many of the calls, in their order
+
+-- opened with the cells' initial bytes
+abbrev pub fresh : Plan → Inputs → ℕ → State
+fresh p inputs r = opened r p.ranks (limits_of no_annex p r) (flat_map (initial p inputs) (own p r))
+
+-- portal table index 0, the done counter, and a counter for each of these cells
+abbrev pub counted_for : Plan → Inputs → Slots → ℕ → List ℕ → State
+counted_for p inputs k r cs = counters_all k cs (with_counter (k.ct 0) (with_index 0 None (fresh p inputs r)))
+
+-- then the whole region as a descriptor, and an entry for each of these cells
+abbrev pub entered_for : Plan → Inputs → Slots → ℕ → List ℕ → State
+entered_for p inputs k r cs = entries_all p k cs (with_bound k.md (descriptor_of no_annex p k r) (counted_for p inputs k r (own p r)))
+
+-- then these operations: along each link of the rank, and the telling of each own cell
+abbrev pub triggered_for : Plan → Inputs → Slots → ℕ → List Work → State
+triggered_for p inputs k r ws = operations_all p k ws (entered_for p inputs k r (own p r))
+
 abbrev pub after_calls : Plan → Inputs → Slots → ℕ → State
-after_calls p inputs k r =
-    operations_all p k (works p r)
-    (entries_all p k (own p r)
-    (with_bound k.md (descriptor_of no_annex p k r)
-    (counters_all k (own p r)
-    (with_counter (k.ct 0)
-    (with_index 0 None
-    (opened r p.ranks (limits_of no_annex p r) (flat_map (initial p inputs) (own p r))))))))
+after_calls p inputs k r = triggered_for p inputs k r (works p r)
