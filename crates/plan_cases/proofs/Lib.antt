@@ -1,3 +1,4 @@
 pub mod Broadcast
 pub mod Orders
 pub mod Example
+pub mod Reduction

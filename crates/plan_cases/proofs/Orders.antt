@@ -16,7 +16,7 @@ use Rattle.ni_model.specs.Tables.{lookup}
 use Rattle.plan_core.specs.declared.Cell.{Cell}
 use Rattle.plan_core.specs.declared.Link.{Link}
 use Rattle.plan_core.specs.declared.LinkKind.TheVariants.{Put}
-use Rattle.plan_core.specs.Plan.{Plan}
+use Rattle.plan_core.specs.Plan.{Plan, link}
 use Rattle.plan_machine.specs.Seen.{works}
 use Rattle.plan_machine.specs.Seen.Work.{Along, Tell}
 use Rattle.plan_view.specs.Install.{install, link_message, cell_ct, done_ct}
@@ -24,6 +24,11 @@ use Rattle.plan_view.specs.Calls.{after_calls}
 use Rattle.plan_cuts.specs.History.{Beginning, go_up, Local, Legal, state, sent, got}
 use Rattle.plan_cuts.specs.History.Local.{Start, Receive, Fire}
 use Rattle.plan_cases.proofs.Broadcast.{bump_link, slots}
+use Rattle.std.proofs.Common.{zero, suc, inl, inr, arith, lit≤}
+use Rattle.std.specs.Prelude.{◌+◌, ◌*◌, ◌^◌, ◌%◌, ◌<◌}
+use Rattle.plan_core.specs.Members.{In}
+use Rattle.plan_core.specs.Plan.{in_links}
+use Rattle.plan_machine.specs.Rounds.{Comes, IsRounds}
 
 abbrev on : ℕ → ℕ → Cell
 on r k = record { rank = r; ty = U8; op = None; length = 0; needs = k }
@@ -130,3 +135,32 @@ no_second_start l = let q : true ≡ false = l.1.0 in cc
 -- ---- a product of two elements of sixteen bits wraps: 300 times 300 is 24464
 product : combined Prod I16 (combined Prod I16 (starting Prod I16 2) (44 ∷ 1 ∷ [])) (44 ∷ 1 ∷ []) ≡ 144 ∷ 95 ∷ []
 product = refl
+
+-- ---- the barrier of two ranks is one of one round
+abbrev round : ℕ → ℕ → ℕ
+round k r = 2 + 2 * k + r
+
+comes_by : (l b c : ℕ) → In l (in_links two c) → (link two l).source ≡ b → Comes two b c
+comes_by l b c i e = record { l = l; into = i; from = e }
+
+one_round : IsRounds two 2 1 round
+one_round = record {
+  stays = λ k r h i. stay k r h i;
+  comes = λ k m r h i j e. come k m r h i j e;
+  enough = lit≤ tt;
+}
+  where
+    stay : (k r : ℕ) → k < 1 → r < 2 → Comes two (round k r) (round (suc k) r)
+    stay zero zero h i = comes_by 2 2 4 (inl refl) refl
+    stay zero (suc zero) h i = comes_by 4 3 5 (inl refl) refl
+    stay zero (suc (suc r)) h i = absurd (omega arith)
+    stay (suc k) r h i = absurd (omega arith)
+
+    come : (k m r : ℕ) → k < 1 → m < 2 → r < 2 → (m + 2 ^ k) % 2 ≡ r → Comes two (round k m) (round (suc k) r)
+    come zero zero zero h i j e = cc
+    come zero zero (suc zero) h i j e = comes_by 5 2 5 (inr (inl refl)) refl
+    come zero (suc zero) zero h i j e = comes_by 3 3 4 (inr (inl refl)) refl
+    come zero (suc zero) (suc zero) h i j e = cc
+    come zero m (suc (suc r)) h i j e = absurd (omega arith)
+    come zero (suc (suc m)) r h i j e = absurd (omega arith)
+    come (suc k) m r h i j e = absurd (omega arith)
