@@ -1,7 +1,7 @@
 //! Counting and raising events where a counting event or an event queue is named.
 
 ghost use Rattle.std.specs.Prelude.{◌≡◌};
-ghost use Rattle.ni_model.specs.Tables.{where_set as set_by};
+ghost use Rattle.ni_model.specs.Tables.{where_set as set_by, is_live_or_none as lives};
 ghost use Rattle.ni_model.specs.Counts.{counted, successes as success_of};
 ghost use Rattle.ni_model.specs.Queues.{raised};
 
@@ -15,6 +15,16 @@ pub fn where_set(flag: bool, handle: Option<Handle>) -> Option<Handle>
     ensures { result ≡ set_by flag handle }
 {
     if flag { handle } else { None }
+}
+
+/// Whether the thing that is named, if any, is live.
+pub fn is_live_or_none<T>(things: &Store<T>, handle: Option<Handle>) -> bool
+    ensures { result ≡ lives handle things.now }
+{
+    match handle {
+        Some(h) => things.is_live(h),
+        None => true,
+    }
 }
 
 /// That many successes.

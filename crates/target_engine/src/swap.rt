@@ -1,6 +1,6 @@
 //! The swaps, on one element.
 
-ghost use Rattle.std.specs.Prelude.{◌≡◌, ◌+◌, ◌-◌, ◌*◌, ◌/◌, ◌≤◌, ◌<◌, ◌^◌, length};
+ghost use Rattle.std.specs.Prelude.{◌≡◌, ◌+◌, ◌-◌, ◌*◌, ◌/◌, ◌%◌, ◌≤◌, ◌<◌, ◌^◌, length};
 ghost use Rattle.ptl_types.specs.Elements.{pattern, little_endian, by_element};
 ghost use Rattle.ptl_types.specs.Operations.{bytes_of, span, swapped as swapped_of};
 
@@ -30,13 +30,26 @@ fn mask(ty: ElemType) -> u64
     }
 }
 
+/// The bits of an operand that name bits of an element.
+fn element_bits(ty: ElemType, operand: u64) -> u64
+    ensures value { result ≡ operand % span ty }
+    ensures small { result < span ty }
+{
+    match ty {
+        ElemType::U8 | ElemType::I8 => operand % 0x100,
+        ElemType::U16 | ElemType::I16 => operand % 0x1_0000,
+        ElemType::U32 | ElemType::I32 => operand % 0x1_0000_0000,
+        ElemType::U64 | ElemType::I64 => operand,
+    }
+}
+
 fn swapped(op: SwapOp, ty: ElemType, operand: u64, old: u64, new: u64) -> u64
     ensures { result ≡ swapped_of op ty operand old new }
 {
     match op {
         SwapOp::Swap => new,
         SwapOp::Cswap => { if old == operand { new } else { old } }
-        SwapOp::Mswap => old & mask(ty).saturating_sub(operand) | new & operand,
+        SwapOp::Mswap => old & (mask(ty) - element_bits(ty, operand)) | new & operand,
     }
 }
 
