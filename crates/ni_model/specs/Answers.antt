@@ -20,9 +20,11 @@ pub record Home : Type 0 where
   pub cts : Table Count
   pub eqs : Table Waiting
 
+-- these four together
 abbrev pub home : Table Bound → List ℕ → Table Count → Table Waiting → Home
 home mds region cts eqs = record { mds = mds; region = region; cts = cts; eqs = eqs }
 
+-- what is left behind an answer: the parts, the outcome, and the counting event that rose
 pub record Returned : Type 0 where
   pub home : Home
   pub outcome : Outcome
@@ -45,6 +47,7 @@ memory_home b m memory = if is_reply m.header.kind && m.header.ok then written (
 abbrev pub one_answer : Bool → Count
 one_answer ok = if ok then successes 1 else failures 1
 
+-- the counting event of the descriptor, where it counts answers of this kind
 abbrev pub counter_home : Header → Bound → Option Handle
 counter_home h b = where_set (if is_reply h.kind then b.md.count_reply else b.md.count_ack) b.md.ct
 
@@ -52,13 +55,16 @@ counter_home h b = where_set (if is_reply h.kind then b.md.count_reply else b.md
 abbrev pub events_home : Header → Bound → Table Waiting → Table Waiting
 events_home h b eqs = if is_reply h.kind || asks_event h.ack then raised b.md.eq (answer_event b h) eqs else eqs
 
+-- one answer fewer is awaited
 abbrev pub one_less : Bound → Bound
 one_less b = record b { awaits = b.awaits - 1 }
 
+-- at the descriptor that the message names
 abbrev pub awaits_less : Option Handle → Table Bound → Table Bound
 awaits_less None mds = mds
 awaits_less (Some h) mds = changed h one_less mds
 
+-- an answer that is due: memory, count, event, and one answer fewer to come
 abbrev pub came_home : Home → Sent → Bound → Returned
 came_home p m b = record {
   home = home (awaits_less m.header.home p.mds) (memory_home b m p.region) (counted (counter_home m.header b) (one_answer m.header.ok) p.cts) (events_home m.header b p.eqs);
@@ -70,10 +76,12 @@ came_home p m b = record {
 abbrev pub lost_answer : Home → Returned
 lost_answer p = record { home = p; outcome = Dropped; counted = None }
 
+-- by the descriptor that it names, if any
 abbrev pub answered_at : Home → Sent → Option Bound → Returned
 answered_at p m None = lost_answer p
 answered_at p m (Some b) = if is_due m.header b then came_home p m b else lost_answer p
 
+-- an acknowledgement or a reply at the initiator
 unfoldable pub answered : Home → Sent → Returned
 answered p m = answered_at p m (bound_at m.header.home p.mds)
 

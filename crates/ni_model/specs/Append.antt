@@ -29,9 +29,11 @@ use Rattle.ni_model.specs.Arrive.{Side, Parts, parts}
 abbrev pub need : Bool → NiFault → Option NiFault → Option NiFault
 need test fault later = if test then later else Some fault
 
+-- the portal table index is allocated
 abbrev pub is_allocated : ℕ → Side → Bool
 is_allocated pt s = is_some (index_at pt s.indices)
 
+-- the entries that are linked, over all indices
 abbrev pub linked_count : Side → ℕ
 linked_count s = sum_by entries_in s.indices
 
@@ -39,6 +41,7 @@ linked_count s = sum_by entries_in s.indices
 abbrev pub is_within : ℕ → ℕ → ℕ → Bool
 is_within start size end = nat_le (start + size) end
 
+-- an append is refused: index or counter not live, no room or stamp, a part past the region
 abbrev pub append_fault : ℕ → Entry → Parts → Option NiFault
 append_fault pt e p =
     need (is_allocated pt p.side) Stale
@@ -48,22 +51,28 @@ append_fault pt e p =
 
 -- ---- the entry is linked at the end of its list
 
+-- the handle of the next entry
 abbrev pub next_handle : ℕ → Side → Handle
 next_handle slot s = handle slot s.given
 
+-- an entry as it is linked, with nothing taken yet
 abbrev pub fresh : Handle → Entry → Linked
 fresh me e = record { handle = me; running = 0; entry = e }
 
+-- an entry at the end of a list of the index
 abbrev pub linked_at : Place → Linked → Option Index → Option Index
 linked_at place x None = None
 linked_at place x (Some i) = Some (with_list place (λ xs. xs ++ x ∷ []) i)
 
+-- the target with one entry more
 abbrev pub link_side : ℕ → ℕ → Place → Entry → Side → Side
 link_side slot pt place e s = record s { indices = slice_set s.indices pt (linked_at place (fresh (next_handle slot s) e) (index_at pt s.indices)); given = s.given + 1 }
 
+-- the event queue of an index, if it has one
 abbrev pub queue_at : ℕ → Side → Option Handle
 queue_at pt s = queue_of (index_at pt s.indices)
 
+-- the linking, told by Link
 abbrev pub link_entry : ℕ → ℕ → Place → Entry → Parts → Parts
 link_entry slot pt place e p = record p { side = link_side slot pt place e p.side; eqs = raised (queue_at pt p.side) (link_event pt e.match_bits) p.eqs }
 
@@ -89,9 +98,11 @@ abbrev pub each_counted : Option Handle → List Noted → Table Count → Table
 each_counted ct [] cts = cts
 each_counted ct (a ∷ found) cts = each_counted ct found (counted ct (successes 1) cts)
 
+-- the counting event of an entry that counts the headers it takes
 abbrev pub overflow_counter : Entry → Option Handle
 overflow_counter e = where_set e.count_overflow e.ct
 
+-- the target with these headers
 abbrev pub with_noted : List Noted → Side → Side
 with_noted hs s = record s { headers = record s.headers { noted = hs } }
 
@@ -115,6 +126,7 @@ take_oldest pt e a p =
 
 -- ---- the append, where it isn't refused; `slot` is the slot that the new handle gets
 
+-- what is left behind an append: the parts, the answer, and the counting event that rose
 pub record Appends : Type 0 where
   pub parts : Parts
   pub appended : Appended
@@ -125,41 +137,50 @@ abbrev pub counted_by : Entry → List Noted → Option Handle
 counted_by e [] = None
 counted_by e (a ∷ hs) = overflow_counter e
 
+-- the entry is linked, behind the headers that it took
 abbrev pub linked_as : ℕ → ℕ → Place → Entry → List Noted → Parts → Appends
 linked_as slot pt place e found p = record { parts = link_entry slot pt place e p; appended = IsLinked (next_handle slot p.side); counted = counted_by e found }
 
+-- a use-once entry takes the oldest header, else it is linked
 abbrev pub append_once : ℕ → ℕ → Entry → Parts → Option Noted → Appends
 append_once slot pt e p None = linked_as slot pt Priority e [] p
 append_once slot pt e p (Some a) = record { parts = take_oldest pt e a p; appended = Consumed a.header; counted = overflow_counter e }
 
+-- to the priority list: by whether it is use-once or persistent
 abbrev pub append_priority : ℕ → ℕ → Entry → Parts → Appends
 append_priority slot pt e p =
     if e.use_once
     then append_once slot pt e p (oldest pt e p.side.headers.noted)
     else linked_as slot pt Priority e (found_in pt e p.side.headers.noted) (take_all pt e p)
 
+-- to either list; an overflow entry takes no header
 unfoldable pub append : ℕ → ℕ → Place → Entry → Parts → Appends
 append slot pt Priority e p = append_priority slot pt e p
 append slot pt Overflow e p = linked_as slot pt Overflow e [] p
 
 -- ---- the search finds the oldest header alone, whether the entry is use-once or persistent, and deletes it where asked
 
+-- what is left behind a search, and the header that was found
 pub record Searched : Type 0 where
   pub parts : Parts
   pub found : Option UnexpectedHeader
 
+-- a search is refused where the index is not allocated
 abbrev pub search_fault : ℕ → Parts → Option NiFault
 search_fault pt p = need (is_allocated pt p.side) Stale None
 
+-- the header that a search found is told, and goes where it is to be deleted
 abbrev pub found_header : ℕ → Entry → Bool → Noted → Parts → Parts
 found_header pt e delete a p =
     if delete
     then record p { side = with_noted (without_oldest pt e p.side.headers.noted) p.side; eqs = gone_raised Search p.side (without_oldest pt e p.side.headers.noted) a p.eqs }
     else record p { eqs = raised (queue_at pt p.side) (header_event Search a) p.eqs }
 
+-- by what was found
 abbrev pub searched_at : ℕ → Entry → Bool → Parts → Option Noted → Searched
 searched_at pt e delete p None = record { parts = record p { eqs = raised (queue_at pt p.side) (missed_event pt e.match_bits) p.eqs }; found = None }
 searched_at pt e delete p (Some a) = record { parts = found_header pt e delete a p; found = Some a.header }
 
+-- a search of the headers of an index
 unfoldable pub search : ℕ → Entry → Bool → Parts → Searched
 search pt e delete p = searched_at pt e delete p (oldest pt e p.side.headers.noted)

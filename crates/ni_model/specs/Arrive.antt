@@ -30,17 +30,21 @@ use Rattle.ni_model.specs.Events.{message_event, unlink_event, kind_delivered}
 
 -- ---- choose: the first of the priority entries that fits, else, for a put or an atomic, the first of the overflow entries
 
+-- the first of two, where there is one
 abbrev pub or_else : {A : Type 0} → Option A → Option A → Option A
 or_else None y = y
 or_else (Some x) y = Some x
 
+-- an entry with the list that it stands in
 abbrev pub as_found : Place → Option Linked → Option Found
 as_found place None = None
 as_found place (Some x) = Some (record { list = place; linked = x })
 
+-- in an allocated index
 abbrev pub choose : Header → Index → Option Found
 choose h i = or_else (as_found Priority (find (fits h) i.priority)) (if is_put_or_atomic h.kind then as_found InOverflow (find (fits h) i.overflow) else None)
 
+-- none in an index that is not allocated
 abbrev pub chosen_at : Header → Option Index → Option Found
 chosen_at h None = None
 chosen_at h (Some i) = choose h i
@@ -55,6 +59,7 @@ chosen h is = chosen_at h (index_at h.pt is)
 abbrev pub whole : MessageKind → ElemType → ℕ → ℕ
 whole kind ty n = if has_elements kind then n - n % bytes_of ty else n
 
+-- the delivered length
 abbrev pub delivered : Linked → Header → ℕ
 delivered x h = whole h.kind h.ty (min h.length (space_in x h))
 
@@ -68,10 +73,12 @@ old_bytes x h memory = part (place x h) (delivered x h) memory
 
 -- ---- 1. memory
 
+-- by the operation that the header names
 abbrev pub combined_by : Option AtomicOp → ElemType → List ℕ → List ℕ → List ℕ
 combined_by None ty old new = old
 combined_by (Some o) ty old new = combined o ty old new
 
+-- by the swap that the header names, element by element
 abbrev pub swapped_by : Option SwapOp → Header → List ℕ → List ℕ → List ℕ
 swapped_by None h old new = old
 swapped_by (Some s) h old new = by_element (swapped s h.ty h.operand) (bytes_of h.ty) (length old / bytes_of h.ty) old new
@@ -83,6 +90,7 @@ new_bytes FetchAtomic h old new = combined_by h.op h.ty old new
 new_bytes Swap h old new = swapped_by h.swap h old new
 new_bytes _ h old new = new
 
+-- the operations that write at the target
 abbrev pub writes : MessageKind → Bool
 writes Put = true
 writes Atomic = true
@@ -99,14 +107,17 @@ memory_after x m memory =
 
 -- ---- 2. counting events: one success for each message delivered, in either list
 
+-- the counting event of an entry that counts communication
 abbrev pub counter_of : Linked → Option Handle
 counter_of x = where_set x.entry.count_comm x.entry.ct
 
+-- one success
 abbrev pub counts_after : Linked → Table Count → Table Count
 counts_after x cts = counted (counter_of x) (successes 1) cts
 
 -- ---- 3. entries
 
+-- the running offset grows by the delivered length
 abbrev pub running_after : Linked → Header → ℕ
 running_after x h = x.running + delivered x h
 
@@ -120,18 +131,22 @@ entries_after x h xs =
     if is_over x h then unlinked x.handle xs
     else (if x.entry.manage_local then advanced x.handle (running_after x h) xs else xs)
 
+-- the entry in its list
 abbrev pub settled : Found → Header → Index → Index
 settled f h i = with_list f.list (entries_after f.linked h) i
 
+-- in an allocated index
 abbrev pub settled_at : Found → Header → Option Index → Option Index
 settled_at f h None = None
 settled_at f h (Some i) = Some (settled f h i)
 
+-- the portal table, in which one list of one index may have changed
 abbrev pub indices_after : Found → Header → List (Option Index) → List (Option Index)
 indices_after f h is = slice_set is h.pt (settled_at f h (index_at h.pt is))
 
 -- ---- 4. unexpected headers: a message in the overflow list leaves one
 
+-- the headers, with that of an overflow delivery at the end
 abbrev pub headers_after : Found → Header → Held → Held
 headers_after f h hs =
     elim f.list [
@@ -141,9 +156,11 @@ headers_after f h hs =
 
 -- ---- 5. events: the message's, in the priority list alone, and then the unlinking's
 
+-- the event of a delivery to a priority entry
 abbrev pub delivery_raised : Found → Header → Option Handle → Table Waiting → Table Waiting
 delivery_raised f h eq eqs = elim f.list [ Priority ↦ raised eq (message_event (kind_delivered h.kind) h (delivered f.linked h) (place f.linked h)) eqs | InOverflow ↦ eqs ]
 
+-- and behind it that of the unlinking
 abbrev pub events_after : Found → Header → Option Handle → Table Waiting → Table Waiting
 events_after f h eq eqs =
     if is_over f.linked h then raised eq (unlink_event h.pt f.linked.entry.match_bits) (delivery_raised f h eq eqs) else delivery_raised f h eq eqs
@@ -154,9 +171,11 @@ events_after f h eq eqs =
 abbrev pub ack_header : Bool → ℕ → Header → Header
 ack_header ok count h = record h { kind = AckKind; source = h.target; target = h.source; offset = 0; length = if ok then count else 0; op = None; swap = None; operand = 0; ok = ok }
 
+-- a reply asks for no acknowledgement
 abbrev pub reply_header : Bool → ℕ → Header → Header
 reply_header ok count h = record h { kind = Reply; source = h.target; target = h.source; offset = 0; length = if ok then count else 0; op = None; swap = None; operand = 0; ack = NoAck; ok = ok }
 
+-- by the operation, and by what the message asked for
 abbrev pub answer : Bool → ℕ → List ℕ → Header → Option Sent
 answer ok count bytes h =
     if is_put_or_atomic h.kind
@@ -180,30 +199,38 @@ pub record Parts : Type 0 where
   pub cts : Table Count
   pub eqs : Table Waiting
 
+-- these four together
 abbrev pub parts : Side → List ℕ → Table Count → Table Waiting → Parts
 parts side region cts eqs = record { side = side; region = region; cts = cts; eqs = eqs }
 
+-- what is left behind a request: the parts, and what became of it
 pub record Received : Type 0 where
   pub parts : Parts
   pub arrived : Arrived
 
+-- both together
 abbrev pub received : Parts → Arrived → Received
 received p a = record { parts = p; arrived = a }
 
+-- a message that is dropped or a violation: its answer is not ok
 abbrev pub refused : Outcome → Header → Arrived
 refused outcome h = record { outcome = outcome; answer = answer false 0 [] h; counted = None }
 
+-- the outcome of a delivery
 abbrev pub outcome_in : Place → Outcome
 outcome_in Priority = Matched
 outcome_in InOverflow = Overflow
 
+-- the overflow list
 abbrev pub is_overflow : Place → Bool
 is_overflow Priority = false
 is_overflow InOverflow = true
 
+-- the target behind a delivery
 abbrev pub side_after : Found → Header → Side → Side
 side_after f h s = record s { indices = indices_after f h s.indices; headers = headers_after f h s.headers }
 
+-- a delivery: the five effects and the answer
 abbrev pub accepted : Parts → Sent → Found → Received
 accepted p m f =
     received
@@ -222,5 +249,6 @@ judged p m (Some f) =
     then (if is_overflow f.list && no_room p.side.headers then received p (refused Dropped m.header) else accepted p m f)
     else received p (refused Violation m.header)
 
+-- a put, get, atomic, fetching atomic or swap at its target
 unfoldable pub request : Parts → Sent → Received
 request p m = judged p m (chosen m.header p.side.indices)

@@ -27,10 +27,12 @@ use Rattle.ni_model.specs.Refusals.{pt_alloc_fault, pt_free_fault, unlink_fault,
 
 -- ---- how a call ends
 
+-- the state and the answer behind a call
 pub record Done (A : Type 0) : Type 0 where
   pub state : State
   pub answer : A
 
+-- both together
 abbrev pub ends : {A : Type 0} → State → A → Done A
 ends s x = record { state = s; answer = x }
 
@@ -58,39 +60,50 @@ write_memory start bytes s = record s { memory = written start bytes s.memory }
 
 -- ---- portal table indices
 
+-- an index with empty lists
 abbrev pub new_index : Option Handle → Index
 new_index eq = record { eq = eq; priority = []; overflow = [] }
 
+-- an index more
 abbrev pub with_index : ℕ → Option Handle → State → State
 with_index pt eq s = record s { indices = slice_set s.indices pt (Some (new_index eq)) }
 
+-- PtlPTAlloc, at an index that is asked for
 abbrev pub pt_alloc : ℕ → Option Handle → State → Done (Result (Unit {0}) NiFault)
 pt_alloc pt eq s = ends_by (pt_alloc_fault pt eq (side_of s) s.eqs) s (with_index pt eq s) tt
 
+-- PtlPTFree
 abbrev pub pt_free : ℕ → State → Done (Result (Unit {0}) NiFault)
 pt_free pt s = ends_by (pt_free_fault pt (side_of s)) s (record s { indices = slice_set s.indices pt None }) tt
 
 -- ---- counting events
 
+-- a counting event more
 abbrev pub with_counter : ℕ → State → State
 with_counter slot s = record s { cts = with_new slot (successes 0) s.cts }
 
+-- PtlCTAlloc
 abbrev pub ct_alloc : ℕ → State → Done (Result Handle NiFault)
 ct_alloc slot s = ends_by (alloc_fault s.cts) s (with_counter slot s) (handle slot s.cts.given)
 
+-- PtlCTFree
 abbrev pub ct_free : Handle → State → Done (Result (Unit {0}) NiFault)
 ct_free ct s = ends_by (ct_free_fault ct s.cts s.indices s.mds s.pending) s (record s { cts = without ct s.cts }) tt
 
+-- the thing, or Stale where it is not live
 abbrev pub found_or_stale : {A : Type 0} → Option A → Result A NiFault
 found_or_stale None = Err Stale
 found_or_stale (Some x) = Ok x
 
+-- PtlCTGet
 abbrev pub ct_get : Handle → State → Result Count NiFault
 ct_get ct s = found_or_stale (lookup ct s.cts.live)
 
+-- PtlCTSet
 abbrev pub ct_set : Handle → Count → State → Done (Result (Unit {0}) NiFault)
 ct_set ct to s = ends_by (ct_set_fault ct to s.cts) s (record s { cts = changed ct (λ (c : Count). to) s.cts }) tt
 
+-- PtlCTInc
 abbrev pub ct_inc : Handle → Count → State → Done (Result (Unit {0}) NiFault)
 ct_inc ct by s = ends_by (ct_inc_fault ct by s.cts) s (record s { cts = changed ct (plus by) s.cts }) tt
 
@@ -104,27 +117,34 @@ ct_cancel ct s = ends_by (stale_fault ct s.cts) s (record s { pending = cancelle
 abbrev pub eq_alloc : ℕ → ℕ → State → Done (Result Handle NiFault)
 eq_alloc slot room s = ends_by (alloc_fault s.eqs) s (record s { eqs = with_new slot (queue room [] false) s.eqs }) (handle slot s.eqs.given)
 
+-- PtlEQFree
 abbrev pub eq_free : Handle → State → Done (Result (Unit {0}) NiFault)
 eq_free eq s = ends_by (eq_free_fault eq s.eqs s.indices s.mds) s (record s { eqs = without eq s.eqs }) tt
 
+-- by the queue, where it is live
 abbrev pub eq_get_at : Handle → State → Option Waiting → Done (Result EqGot NiFault)
 eq_get_at eq s None = ends s (Err Stale)
 eq_get_at eq s (Some q) = ends (record s { eqs = changed eq after_take s.eqs }) (Ok (taken_from q))
 
+-- PtlEQGet
 abbrev pub eq_get : Handle → State → Done (Result EqGot NiFault)
 eq_get eq s = eq_get_at eq s (lookup eq s.eqs.live)
 
 -- ---- memory descriptors
 
+-- a descriptor that awaits nothing
 abbrev pub bound : Descriptor → Bound
 bound md = record { md = md; awaits = 0 }
 
+-- a descriptor more
 abbrev pub with_bound : ℕ → Descriptor → State → State
 with_bound slot md s = record s { mds = with_new slot (bound md) s.mds }
 
+-- PtlMDBind
 abbrev pub md_bind : ℕ → Descriptor → State → Done (Result Handle NiFault)
 md_bind slot md s = ends_by (bind_fault md (length s.memory) s.cts s.eqs s.mds) s (with_bound slot md s) (handle slot s.mds.given)
 
+-- PtlMDRelease
 abbrev pub md_release : Handle → State → Done (Result (Unit {0}) NiFault)
 md_release md s = ends_by (release_fault md s.mds s.pending) s (record s { mds = without md s.mds }) tt
 
@@ -133,28 +153,34 @@ abbrev pub awaits_of : Option Bound → Result ℕ NiFault
 awaits_of None = Err Stale
 awaits_of (Some b) = Ok b.awaits
 
+-- Stale where the descriptor is not live
 abbrev pub awaits : Handle → State → Result ℕ NiFault
 awaits md s = awaits_of (lookup md s.mds.live)
 
 -- ---- match entries
 
+-- PtlMEAppend
 abbrev pub me_append : ℕ → ℕ → Place → Entry → State → Done (Result Appended NiFault)
 me_append slot pt place e s =
     let a = append slot pt place e (parts_of s) in
     ends_by (append_fault pt e (parts_of s)) s (with_parts a.parts s) a.appended
 
+-- an index without this entry
 abbrev pub unlinked_in : Handle → Option Index → Option Index
 unlinked_in me None = None
 unlinked_in me (Some i) = Some (record i { priority = unlinked me i.priority; overflow = unlinked me i.overflow })
 
+-- PtlMEUnlink
 abbrev pub me_unlink : Handle → State → Done (Result (Unit {0}) NiFault)
 me_unlink me s = ends_by (unlink_fault me (side_of s)) s (record s { indices = map (unlinked_in me) s.indices }) tt
 
+-- PtlMESearch
 abbrev pub me_search : ℕ → Entry → Bool → State → Done (Result (Option UnexpectedHeader) NiFault)
 me_search pt e delete s =
     let r = search pt e delete (parts_of s) in
     ends_by (search_fault pt (parts_of s)) s (with_parts r.parts s) r.found
 
+-- an entry of this list has the slot
 abbrev pub slot_in : ℕ → List Linked → Bool
 slot_in slot [] = false
 slot_in slot (x ∷ xs) = (x.handle.slot == slot) || slot_in slot xs
@@ -177,6 +203,7 @@ start d s =
 abbrev pub with_operation : Deed → Handle → ℕ → State → State
 with_operation d ct threshold s = record s { pending = with_posted d ct threshold s.pending }
 
+-- the triggered forms of the operations and of PtlCTInc and PtlCTSet
 abbrev pub triggered : Deed → Handle → ℕ → State → Done (Result ℕ NiFault)
 triggered d ct threshold s = ends_by (triggered_fault d ct s.cts s.mds s.pending) s (with_operation d ct threshold s) s.pending.given
 

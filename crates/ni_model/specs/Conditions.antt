@@ -23,6 +23,7 @@ pub record MayGo (target length ranks most : ℕ) : Type 0 where
   pub target_known : target < ranks
   pub short : length ≤ most
 
+-- whole elements, within the limit of atomics
 pub record MayCombine (ty : ElemType) (length most : ℕ) : Type 0 where
   pub whole : length % bytes_of ty ≡ 0
   pub few : length ≤ most
@@ -51,6 +52,7 @@ MayStart _ ranks l = Unit {0}
 abbrev pub IsPartIn : ℕ → Linked → Type 0
 IsPartIn size x = x.entry.start + x.entry.length ≤ size
 
+-- the parts of all entries of an index do
 abbrev pub HasPartsIn : ℕ → Option Index → Type 0
 HasPartsIn size None = Unit {0}
 HasPartsIn size (Some i) = All (IsPartIn size) i.priority × All (IsPartIn size) i.overflow

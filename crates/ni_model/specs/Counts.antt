@@ -5,12 +5,15 @@ use Rattle.ptl_types.specs.declared.handles.Count.{Count}
 use Rattle.ptl_types.specs.Handles.{top}
 use Rattle.ni_model.specs.Tables.{Table, changed}
 
+-- n successes
 abbrev pub successes : ℕ → Count
 successes n = record { success = n; failure = 0 }
 
+-- n failures
 abbrev pub failures : ℕ → Count
 failures n = record { success = 0; failure = n }
 
+-- what a threshold is compared with
 abbrev pub total : Count → ℕ
 total c = c.success + c.failure
 
@@ -24,6 +27,7 @@ bump by c =
 abbrev pub passes_end : Count → Bool
 passes_end c = nat_lt top (total c)
 
+-- both numbers added
 abbrev pub plus : Count → Count → Count
 plus by c = record { success = c.success + by.success; failure = c.failure + by.failure }
 

@@ -31,15 +31,19 @@ abbrev pub kind_taken : MessageKind → EventKind
 kind_taken Put = PutOverflow
 kind_taken _ = AtomicOverflow
 
+-- an event of an unexpected header
 abbrev pub header_event : EventKind → Noted → Event
 header_event kind a = message_event kind a.header.header a.header.delivered a.header.place
 
+-- an entry is linked
 abbrev pub link_event : ℕ → ℕ → Event
 link_event pt match_bits = entry_event Link pt match_bits true
 
+-- an entry is unlinked by a message
 abbrev pub unlink_event : ℕ → ℕ → Event
 unlink_event pt match_bits = entry_event AutoUnlink pt match_bits true
 
+-- an unlinked overflow entry holds no header any more
 abbrev pub free_event : ℕ → Event
 free_event pt = entry_event AutoFree pt 0 true
 
@@ -51,10 +55,12 @@ missed_event pt match_bits = entry_event Search pt match_bits false
 abbrev pub send_event : Header → Event
 send_event h = message_event Send h 0 0
 
+-- a reply
 abbrev pub is_reply : MessageKind → Bool
 is_reply Reply = true
 is_reply _ = false
 
+-- an acknowledgement with an event was asked for
 abbrev pub asks_event : AckRequest → Bool
 asks_event Ack = true
 asks_event _ = false

@@ -13,9 +13,11 @@ pub record Held : Type 0 where
   pub noted : List Noted
   pub limit : ℕ
 
+-- both together
 abbrev pub held : List Noted → ℕ → Held
 held noted limit = record { noted = noted; limit = limit }
 
+-- as many headers as there may be
 abbrev pub no_room : Held → Bool
 no_room hs = nat_le hs.limit (length hs.noted)
 
@@ -30,6 +32,7 @@ allows e _ = e.allow_put && e.allow_get
 abbrev pub finds : ℕ → Entry → Noted → Bool
 finds pt e a = (a.pt == pt) && (is_match e a.header.header && allows e a.header.header.kind)
 
+-- the oldest header that the entry finds
 abbrev pub oldest : ℕ → Entry → List Noted → Option Noted
 oldest pt e hs = find (finds pt e) hs
 
@@ -42,6 +45,7 @@ without_oldest pt e (a ∷ hs) = if finds pt e a then hs else a ∷ without_olde
 abbrev pub found_in : ℕ → Entry → List Noted → List Noted
 found_in pt e hs = filter (finds pt e) hs
 
+-- the headers that it does not find
 abbrev pub left_in : ℕ → Entry → List Noted → List Noted
 left_in pt e hs = filter (λ a. not (finds pt e a)) hs
 
@@ -54,5 +58,6 @@ names_entry me (a ∷ hs) = same_handle a.header.entry me || names_entry me hs
 abbrev pub is_of : ℕ → Noted → Bool
 is_of pt a = a.pt == pt
 
+-- in order of arrival
 abbrev pub headers_of : ℕ → List Noted → List Noted
 headers_of pt hs = filter (is_of pt) hs

@@ -14,9 +14,11 @@ pub record Index : Type 0 where
   pub priority : List Linked
   pub overflow : List Linked
 
+-- the index of this number, where it is allocated
 abbrev pub index_at : ℕ → List (Option Index) → Option Index
 index_at pt is = slice_index_or is pt None
 
+-- its event queue, if it has one
 abbrev pub queue_of : Option Index → Option Handle
 queue_of None = None
 queue_of (Some i) = i.eq
@@ -33,15 +35,19 @@ space_in x h = x.entry.length - offset_in x h
 abbrev pub fits : Header → Linked → Bool
 fits h x = is_match x.entry h && (not x.entry.no_truncate || nat_le h.length (space_in x h))
 
+-- the list without the entry of this handle
 abbrev pub unlinked : Handle → List Linked → List Linked
 unlinked me xs = filter (λ x. not (same_handle x.handle me)) xs
 
+-- the running offset of the entry of this handle
 abbrev pub advance_one : Handle → ℕ → Linked → Linked
 advance_one me to x = if same_handle x.handle me then record x { running = to } else x
 
+-- in a list
 abbrev pub advanced : Handle → ℕ → List Linked → List Linked
 advanced me to xs = map (advance_one me to) xs
 
+-- the list holds the entry of this handle
 abbrev pub is_linked : Handle → List Linked → Bool
 is_linked me [] = false
 is_linked me (x ∷ xs) = same_handle x.handle me || is_linked me xs
@@ -51,6 +57,7 @@ abbrev pub list_of : Place → Index → List Linked
 list_of Priority i = i.priority
 list_of Overflow i = i.overflow
 
+-- the index with one list changed
 abbrev pub with_list : Place → (List Linked → List Linked) → Index → Index
 with_list Priority f i = record i { priority = f i.priority }
 with_list Overflow f i = record i { overflow = f i.overflow }
@@ -60,6 +67,7 @@ abbrev pub entries_in : Option Index → ℕ
 entries_in None = 0
 entries_in (Some i) = length i.priority + length i.overflow
 
+-- in a list of an allocated index
 abbrev pub is_linked_at : Place → Handle → Option Index → Bool
 is_linked_at place me None = false
 is_linked_at place me (Some i) = is_linked me (list_of place i)

@@ -6,11 +6,13 @@ use Rattle.ptl_types.specs.declared.calls.EqGot.{EqGot}
 use Rattle.ptl_types.specs.declared.calls.EqGot.TheVariants.{Got, Empty, Dropped as Lost}
 use Rattle.ni_model.specs.Tables.{Table, changed}
 
+-- the room, the events that wait, and whether one was lost
 pub record Waiting : Type 0 where
   pub room : ℕ
   pub events : List Event
   pub lost : Bool
 
+-- the three together
 abbrev pub queue : ℕ → List Event → Bool → Waiting
 queue room events lost = record { room = room; events = events; lost = lost }
 
@@ -23,13 +25,16 @@ abbrev pub first_event : List Event → EqGot
 first_event [] = Empty
 first_event (e ∷ es) = Got e
 
+-- the events behind the oldest
 abbrev pub later_events : List Event → List Event
 later_events [] = []
 later_events (e ∷ es) = es
 
+-- what a get answers
 abbrev pub taken_from : Waiting → EqGot
 taken_from q = if q.lost then Lost else first_event q.events
 
+-- the queue behind a get
 abbrev pub after_take : Waiting → Waiting
 after_take q = if q.lost then record q { lost = false } else record q { events = later_events q.events }
 

@@ -11,6 +11,7 @@ use Rattle.ni_model.specs.Counts.{total, counted}
 use Rattle.ni_model.specs.Starts.{started}
 use Rattle.ni_model.specs.State.{State, Posted, Operations, home_of, with_home}
 
+-- the operation of this number
 abbrev pub is_number : ℕ → Posted → Bool
 is_number t p = p.number == t
 
@@ -23,6 +24,7 @@ abbrev pub is_reached : Option Count → ℕ → Bool
 is_reached None threshold = false
 is_reached (Some c) threshold = nat_le threshold (total c)
 
+-- by the counting event that it waits on
 abbrev pub is_ready_op : Table Count → Option Posted → Bool
 is_ready_op cts None = false
 is_ready_op cts (Some p) = is_reached (lookup p.ct cts.live) p.threshold
@@ -35,13 +37,16 @@ is_ready s t = is_ready_op s.cts (posted_at t s.pending)
 abbrev pub with_posted : Deed → Handle → ℕ → Operations → Operations
 with_posted deed ct threshold ops = record ops { waiting = ops.waiting ++ (record { number = ops.given; deed = deed; ct = ct; threshold = threshold }) ∷ []; given = ops.given + 1 }
 
+-- the operations without the one of this number
 abbrev pub without_number : ℕ → Operations → Operations
 without_number t ops = record ops { waiting = filter (λ p. not (is_number t p)) ops.waiting }
 
+-- the state and the message behind a firing
 pub record Fires : Type 0 where
   pub state : State
   pub message : Option Sent
 
+-- both together
 abbrev pub fires : State → Option Sent → Fires
 fires s message = record { state = s; message = message }
 
@@ -51,6 +56,7 @@ done s (Inc ct by) = fires (record s { cts = counted (Some ct) by s.cts }) None
 done s (Set ct to) = fires (record s { cts = changed ct (λ (c : Count). to) s.cts }) None
 done s d = let r = started s.rank (home_of s) d in fires (with_home r.home s) r.message
 
+-- where it waits
 abbrev pub fired_op : State → Option Posted → Fires
 fired_op s None = fires s None
 fired_op s (Some p) = done (record s { pending = without_number p.number s.pending }) p.deed
@@ -61,8 +67,10 @@ fired s t = fired_op s (posted_at t s.pending)
 
 -- ---- what the waiting operations name
 
+-- the operation waits on this counting event
 abbrev pub waits_on : Handle → Posted → Bool
 waits_on ct p = same_handle p.ct ct
 
+-- the operations that do not
 abbrev pub cancelled : Handle → Operations → Operations
 cancelled ct ops = record ops { waiting = filter (λ p. not (waits_on ct p)) ops.waiting }

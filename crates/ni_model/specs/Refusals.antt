@@ -23,6 +23,7 @@ use Rattle.ni_model.specs.State.{Posted, Operations}
 
 -- ---- portal table indices
 
+-- the queue is not live, the index is past the limit, the index is allocated
 abbrev pub pt_alloc_fault : ℕ → Option Handle → Side → Table Waiting → Option NiFault
 pt_alloc_fault pt eq s eqs =
     need (is_live_or_none eq eqs) Stale
@@ -33,15 +34,18 @@ pt_alloc_fault pt eq s eqs =
 abbrev pub holds_something : ℕ → Side → Bool
 holds_something pt s = nat_lt 0 (entries_in (index_at pt s.indices)) || nat_lt 0 (length (headers_of pt s.headers.noted))
 
+-- not allocated, in use
 abbrev pub pt_free_fault : ℕ → Side → Option NiFault
 pt_free_fault pt s = need (is_allocated pt s) Stale (need (not (holds_something pt s)) InUse None)
 
 -- ---- match entries
 
+-- the index holds the entry of this handle, in either list
 abbrev pub is_linked_in : Handle → Option Index → Bool
 is_linked_in me None = false
 is_linked_in me (Some i) = is_linked me i.priority || is_linked me i.overflow
 
+-- some index does
 abbrev pub is_linked_anywhere : Handle → List (Option Index) → Bool
 is_linked_anywhere me [] = false
 is_linked_anywhere me (i ∷ is) = is_linked_in me i || is_linked_anywhere me is
@@ -52,24 +56,29 @@ unlink_fault me s = need (is_linked_anywhere me s.indices) Stale (need (not (nam
 
 -- ---- counting events and event queues
 
+-- an entry of the list names the counting event
 abbrev pub entry_names_ct : Handle → List Linked → Bool
 entry_names_ct ct [] = false
 entry_names_ct ct (x ∷ xs) = names x.entry.ct ct || entry_names_ct ct xs
 
+-- an entry of some index does
 abbrev pub index_names_ct : Handle → List (Option Index) → Bool
 index_names_ct ct [] = false
 index_names_ct ct (None ∷ is) = index_names_ct ct is
 index_names_ct ct (Some i ∷ is) = (entry_names_ct ct i.priority || entry_names_ct ct i.overflow) || index_names_ct ct is
 
+-- an index names the event queue
 abbrev pub index_names_eq : Handle → List (Option Index) → Bool
 index_names_eq eq [] = false
 index_names_eq eq (None ∷ is) = index_names_eq eq is
 index_names_eq eq (Some i ∷ is) = names i.eq eq || index_names_eq eq is
 
+-- a descriptor names the counting event
 abbrev pub md_names_ct : Handle → List (Live Bound) → Bool
 md_names_ct ct [] = false
 md_names_ct ct (x ∷ xs) = names x.value.md.ct ct || md_names_ct ct xs
 
+-- a descriptor names the event queue
 abbrev pub md_names_eq : Handle → List (Live Bound) → Bool
 md_names_eq eq [] = false
 md_names_eq eq (x ∷ xs) = names x.value.md.eq eq || md_names_eq eq xs
@@ -80,10 +89,12 @@ deed_names_ct ct (Inc h by) = same_handle h ct
 deed_names_ct ct (Set h to) = same_handle h ct
 deed_names_ct ct _ = false
 
+-- a triggered operation names the counting event
 abbrev pub operation_names_ct : Handle → List Posted → Bool
 operation_names_ct ct [] = false
 operation_names_ct ct (p ∷ ps) = (same_handle p.ct ct || deed_names_ct ct p.deed) || operation_names_ct ct ps
 
+-- a deed names the descriptor
 abbrev pub deed_names_md : Handle → Deed → Bool
 deed_names_md md (Put a) = same_handle a.md md
 deed_names_md md (Get g) = same_handle g.md md
@@ -92,15 +103,18 @@ deed_names_md md (FetchAtomic g a op ty) = same_handle g.md md || same_handle a.
 deed_names_md md (Swap g a op ty operand) = same_handle g.md md || same_handle a.md md
 deed_names_md md _ = false
 
+-- a triggered operation does
 abbrev pub operation_names_md : Handle → List Posted → Bool
 operation_names_md md [] = false
 operation_names_md md (p ∷ ps) = deed_names_md md p.deed || operation_names_md md ps
 
+-- not live, in use
 abbrev pub ct_free_fault : Handle → Table Count → List (Option Index) → Table Bound → Operations → Option NiFault
 ct_free_fault ct cts indices mds ops =
     need (is_live ct cts) Stale
     (need (not (md_names_ct ct mds.live || (index_names_ct ct indices || operation_names_ct ct ops.waiting))) InUse None)
 
+-- not live, in use
 abbrev pub eq_free_fault : Handle → Table Waiting → List (Option Index) → Table Bound → Option NiFault
 eq_free_fault eq eqs indices mds =
     need (is_live eq eqs) Stale (need (not (index_names_eq eq indices || md_names_eq eq mds.live)) InUse None)
@@ -109,10 +123,12 @@ eq_free_fault eq eqs indices mds =
 abbrev pub ct_set_fault : Handle → Count → Table Count → Option NiFault
 ct_set_fault ct to cts = need (is_live ct cts) Stale (need (not (passes_end to)) CountFull None)
 
+-- the new sum would pass the end
 abbrev pub inc_passes : Option Count → Count → Bool
 inc_passes None by = false
 inc_passes (Some c) by = passes_end (plus by c)
 
+-- not live, past the end
 abbrev pub ct_inc_fault : Handle → Count → Table Count → Option NiFault
 ct_inc_fault ct by cts = need (is_live ct cts) Stale (need (not (inc_passes (lookup ct cts.live) by)) CountFull None)
 
@@ -126,12 +142,14 @@ stale_fault h t = need (is_live h t) Stale None
 
 -- ---- memory descriptors
 
+-- queue or counter not live, no room or stamp, a part past the region
 abbrev pub bind_fault : Descriptor → ℕ → Table Count → Table Waiting → Table Bound → Option NiFault
 bind_fault md size cts eqs mds =
     need (is_live_or_none md.eq eqs && is_live_or_none md.ct cts) Stale
     (need (not (is_full mds)) NoSpace
     (need (is_within md.start md.length size) OutOfRegion None))
 
+-- the descriptor awaits an answer
 abbrev pub awaits_something : Option Bound → Bool
 awaits_something None = false
 awaits_something (Some b) = nat_lt 0 b.awaits
@@ -153,6 +171,7 @@ abbrev pub holds_part : Option Bound → ℕ → ℕ → Bool
 holds_part None at n = false
 holds_part (Some b) at n = is_within at n b.md.length
 
+-- the descriptors that a deed names are live
 abbrev pub deed_is_live : Deed → Table Bound → Bool
 deed_is_live (Put a) mds = is_live a.md mds
 deed_is_live (Get g) mds = is_live g.md mds
@@ -161,12 +180,15 @@ deed_is_live (FetchAtomic g a op ty) mds = is_live g.md mds && is_live a.md mds
 deed_is_live (Swap g a op ty operand) mds = is_live g.md mds && is_live a.md mds
 deed_is_live _ mds = true
 
+-- the put arguments lie in their descriptor
 abbrev pub put_fits : PutArgs → Table Bound → Bool
 put_fits a mds = holds_part (lookup a.md mds.live) a.local_offset a.length
 
+-- the get arguments in theirs
 abbrev pub get_fits : GetArgs → Table Bound → Bool
 get_fits g mds = holds_part (lookup g.md mds.live) g.local_offset g.length
 
+-- all that a deed names does
 abbrev pub deed_fits : Deed → Table Bound → Bool
 deed_fits (Put a) mds = put_fits a mds
 deed_fits (Get g) mds = get_fits g mds
@@ -179,11 +201,13 @@ deed_fits _ mds = true
 abbrev pub deed_fault : Deed → Table Bound → Option NiFault
 deed_fault d mds = need (deed_is_live d mds) Stale (need (deed_fits d mds) OutOfRegion None)
 
+-- the counting event that an increment or a set names is live
 abbrev pub counts_on_live : Deed → Table Count → Bool
 counts_on_live (Inc ct by) cts = is_live ct cts
 counts_on_live (Set ct to) cts = is_live ct cts
 counts_on_live _ cts = true
 
+-- its two numbers together pass the end
 abbrev pub deed_passes : Deed → Bool
 deed_passes (Inc ct by) = passes_end by
 deed_passes (Set ct to) = passes_end to
@@ -193,6 +217,7 @@ deed_passes _ = false
 abbrev pub no_number : Operations → Bool
 no_number ops = nat_le ops.limit (length ops.waiting) || nat_le (2 ^ 32 - 1) ops.given
 
+-- not live, no room or number, a part past the descriptor, past the end
 abbrev pub triggered_fault : Deed → Handle → Table Count → Table Bound → Operations → Option NiFault
 triggered_fault d ct cts mds ops =
     need (is_live ct cts && (counts_on_live d cts && deed_is_live d mds)) Stale

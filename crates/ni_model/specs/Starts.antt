@@ -100,6 +100,7 @@ header_of rank (Set ct to) = None
 
 -- ---- bytes: the put arguments' part of their descriptor, none for a get
 
+-- the put arguments of a deed, if it has some
 abbrev pub put_args : Deed → Option PutArgs
 put_args (Put a) = Some a
 put_args (Atomic a op ty) = Some a
@@ -107,15 +108,18 @@ put_args (FetchAtomic g a op ty) = Some a
 put_args (Swap g a sw ty operand) = Some a
 put_args _ = None
 
+-- a part of the descriptor in the region
 abbrev pub bytes_at : Option Bound → ℕ → ℕ → List ℕ → List ℕ
 bytes_at None at n memory = []
 bytes_at (Some b) at n memory = part (b.md.start + at) n memory
 
+-- the bytes that a start sends
 abbrev pub bytes_read : Home → Deed → List ℕ
 bytes_read p d = elim (put_args d) [ Some a ↦ bytes_at (lookup a.md p.mds.live) a.local_offset a.length p.region | None ↦ [] ]
 
 -- ---- what a start does: it counts and tells on the descriptor of the put arguments (of a get on its own), and the home awaits an answer
 
+-- the descriptor that the start counts and tells on
 abbrev pub counted_on : Deed → Option Handle
 counted_on (Put a) = Some a.md
 counted_on (Get g) = Some g.md
@@ -124,21 +128,26 @@ counted_on (FetchAtomic g a op ty) = Some a.md
 counted_on (Swap g a sw ty operand) = Some a.md
 counted_on _ = None
 
+-- its counting event, where it counts sends
 abbrev pub send_counter : Option Bound → Option Handle
 send_counter None = None
 send_counter (Some b) = where_set b.md.count_send b.md.ct
 
+-- its event queue, if it has one
 abbrev pub send_queue : Option Bound → Option Handle
 send_queue None = None
 send_queue (Some b) = b.md.eq
 
+-- one answer more is awaited
 abbrev pub one_awaited : Bound → Bound
 one_awaited b = record b { awaits = one_more b.awaits }
 
+-- at the home of the answer, if there is to be one
 abbrev pub awaits_more : Option Handle → Table Bound → Table Bound
 awaits_more None mds = mds
 awaits_more (Some h) mds = changed h one_awaited mds
 
+-- the initiator behind a start
 abbrev pub sent_from : Home → Deed → Header → Home
 sent_from p d h =
     home
@@ -147,14 +156,17 @@ sent_from p d h =
     (counted (send_counter (bound_at (counted_on d) p.mds)) (successes 1) p.cts)
     (raised (send_queue (bound_at (counted_on d) p.mds)) (send_event h) p.eqs)
 
+-- what is left behind a start: the parts, the message, and the counting event that rose
 pub record Started : Type 0 where
   pub home : Home
   pub message : Option Sent
   pub counted : Option Handle
 
+-- none of a deed that sends nothing
 abbrev pub started_by : Home → Deed → Option Header → Started
 started_by p d None = record { home = p; message = None; counted = None }
 started_by p d (Some h) = record { home = sent_from p d h; message = Some (message h (bytes_read p d)); counted = send_counter (bound_at (counted_on d) p.mds) }
 
+-- a start at rank `rank`
 unfoldable pub started : ℕ → Home → Deed → Started
 started rank p d = started_by p d (header_of rank d)

@@ -67,48 +67,61 @@ opened rank ranks limits region = record {
 
 -- ---- the target's part of a state and the initiator's
 
+-- what a target has of its own
 abbrev pub side_of : State → Side
 side_of s = record { rank = s.rank; limit = s.limits.entries; indices = s.indices; given = s.entries_given; headers = s.headers }
 
+-- and with it what it is handed
 abbrev pub parts_of : State → Parts
 parts_of s = parts (side_of s) s.memory s.cts s.eqs
 
+-- the state with these parts
 abbrev pub with_parts : Parts → State → State
 with_parts p s = record s { memory = p.region; indices = p.side.indices; entries_given = p.side.given; headers = p.side.headers; cts = p.cts; eqs = p.eqs }
 
+-- what an initiator has, and what it is handed
 abbrev pub home_of : State → Home
 home_of s = home s.mds s.memory s.cts s.eqs
 
+-- the state with these parts
 abbrev pub with_home : Home → State → State
 with_home p s = record s { memory = p.region; cts = p.cts; eqs = p.eqs; mds = p.mds }
 
 -- ---- the two registers (Portals 4.3, status registers)
 
+-- messages dropped
 abbrev pub drops_after : Outcome → ℕ → ℕ
 drops_after Dropped n = one_more n
 drops_after _ n = n
 
+-- operations that an entry did not allow
 abbrev pub violations_after : Outcome → ℕ → ℕ
 violations_after Violation n = one_more n
 violations_after _ n = n
 
+-- both, by the outcome
 abbrev pub noted : Outcome → State → State
 noted outcome s = record s { drops = drops_after outcome s.drops; violations = violations_after outcome s.violations }
 
 -- ---- a message arrives
 
+-- the state behind a message, the outcome and the answer
 pub record Delivers : Type 0 where
   pub state : State
   pub delivered : Delivered
 
+-- the three together
 abbrev pub delivers : State → Outcome → Option Sent → Delivers
 delivers s outcome answer = record { state = s; delivered = record { outcome = outcome; answer = answer } }
 
+-- behind a request
 abbrev pub after_request : State → Received → Delivers
 after_request s r = delivers (noted r.arrived.outcome (with_parts r.parts s)) r.arrived.outcome r.arrived.answer
 
+-- behind an answer
 abbrev pub after_answer : State → Returned → Delivers
 after_answer s r = delivers (noted r.outcome (with_home r.home s)) r.outcome None
 
+-- any message that comes to this interface
 unfoldable pub target : State → Sent → Delivers
 target s m = if is_answer m.header.kind then after_answer s (answered (home_of s) m) else after_request s (request (parts_of s) m)

@@ -14,6 +14,7 @@ pub record Table (A : Type 0) : Type 0 where
   pub given : ℕ
   pub limit : ℕ
 
+-- a slot and a stamp
 abbrev pub handle : ℕ → ℕ → Handle
 handle slot stamp = record { slot = slot; stamp = stamp }
 
@@ -31,12 +32,15 @@ module _ {A : Type 0} where
   abbrev pub change_one : Handle → (A → A) → Live A → Live A
   change_one h f x = record { handle = x.handle; value = if same_handle x.handle h then f x.value else x.value }
 
+  -- in a list of live things
   abbrev pub change : Handle → (A → A) → List (Live A) → List (Live A)
   change h f xs = map (change_one h f) xs
 
+  -- in a table
   abbrev pub changed : Handle → (A → A) → Table A → Table A
   changed h f t = record t { live = change h f t.live }
 
+  -- the handle names a live thing
   abbrev pub is_live : Handle → Table A → Bool
   is_live h t = is_some (lookup h t.live)
 
@@ -44,6 +48,7 @@ module _ {A : Type 0} where
   abbrev pub with_new : ℕ → A → Table A → Table A
   with_new slot w t = record t { live = t.live ++ (record { handle = handle slot t.given; value = w }) ∷ []; given = t.given + 1 }
 
+  -- the thing of this handle gone
   abbrev pub without : Handle → Table A → Table A
   without h t = record t { live = filter (λ x. not (same_handle x.handle h)) t.live }
 

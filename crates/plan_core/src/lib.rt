@@ -55,16 +55,21 @@ pub struct Link {
 /// What a cell holds in the end: its initial bytes, changed by its links in the order of their numbers, each with what its
 /// source holds in the end. It has the cell's length.
 pub fn values_of_cells()
-    ensures equation { (plan : Plan) (inputs : Inputs) → ((l : ℕ) → l < length plan.links → SoundLink plan l) → (c : ℕ) →
-        value plan inputs c ≡ land_all plan (due plan inputs) (in_links plan c) (initial plan inputs c) }
-    ensures size { (plan : Plan) (inputs : Inputs) → SoundPlan plan (length inputs) → AreInputsOf plan inputs → (c : ℕ) → c < length plan.cells →
+    ensures equation { (plan : Plan) (inputs : Inputs) → ((l : ℕ) → l < length plan.links →
+        SoundLink plan l) → (c : ℕ) →
+        value plan inputs c ≡
+        land_all plan (due plan inputs) (in_links plan c) (initial plan inputs c) }
+    ensures size { (plan : Plan) (inputs : Inputs) → SoundPlan plan (length inputs) →
+        AreInputsOf plan inputs → (c : ℕ) → c < length plan.cells →
         length (value plan inputs c) ≡ (cell plan c).length }
 {}
 
 /// A plan that grows by cells, and by links to these, keeps the links and the values of the cells that it had.
 pub fn values_stay()
-    ensures links { (plan later : Plan) → Grows plan later → (c : ℕ) → c < length plan.cells → in_links later c ≡ in_links plan c }
+    ensures links { (plan later : Plan) → Grows plan later → (c : ℕ) → c < length plan.cells →
+        in_links later c ≡ in_links plan c }
     ensures values { (plan later : Plan) (inputs : Inputs) → Grows plan later →
-        ((l : ℕ) → l < length plan.links → SoundLink plan l) → ((l : ℕ) → l < length later.links → SoundLink later l) →
+        ((l : ℕ) → l < length plan.links → SoundLink plan l) → ((l : ℕ) → l < length later.links →
+        SoundLink later l) →
         (c : ℕ) → c < length plan.cells → value later inputs c ≡ value plan inputs c }
 {}

@@ -20,6 +20,7 @@ use Rattle.plan_cuts.specs.History.Local.{Receive}
 abbrev pub is_stray : Sent → Bool
 is_stray m = is_put_or_atomic m.header.kind && (is_no_ack m.header.ack && not (m.header.match_bits / 2 ^ 48 % 2 ^ 16 == 1))
 
+-- without the strays
 abbrev pub owned : List Sent → List Sent
 owned ms = filter (λ m. not (is_stray m)) ms
 
@@ -32,32 +33,44 @@ pub record Run : Type 0 where
   pub slots : Slots
   pub history : List Local
 
+-- the start of rank r
 abbrev pub start_of : Plan → Run → ℕ → Beginning
 start_of p k r = go_up (cell_ct p k.slots r)
 
+-- the interface of rank r at the end of its history
 abbrev pub end_of : Plan → Inputs → (ℕ → Run) → ℕ → State
 end_of p inputs w r = state (start_of p (w r) r) (install p inputs (w r).slots r) (w r).history
 
+-- what rank s sent to rank d on a lane
 abbrev pub sent_by : Plan → Inputs → (ℕ → Run) → ℕ → ℕ → Lane → List Sent
 sent_by p inputs w s d lane = sent (start_of p (w s) s) (install p inputs (w s).slots s) (w s).history d lane
 
+-- what rank d received from rank s on a lane, strays left out
 abbrev pub got_by : (ℕ → Run) → ℕ → ℕ → Lane → List Sent
 got_by w d s lane = owned (got (w d).history s lane)
 
+-- the bytes of cell c, in the memory of its rank
+abbrev pub cell_bytes : Plan → Inputs → (ℕ → Run) → ℕ → List ℕ
+cell_bytes p inputs w c = part (start_in p (own p (cell p c).rank) c) (cell p c).length (end_of p inputs w (cell p c).rank).memory
+
+-- a consistent cut of processes with first-in first-out channels: what was received is the beginning of what was sent
 pub record IsCut (p : Plan) (inputs : Inputs) (w : ℕ → Run) : Type 0 where
   pub legal : (r : ℕ) → r < p.ranks → Legal (start_of p (w r) r) false (install p inputs (w r).slots r) (w r).history
   pub known : (r s : ℕ) (lane : Lane) → r < p.ranks → p.ranks ≤ s → got (w r).history s lane ≡ []
   pub lanes : (s d : ℕ) (lane : Lane) → s < p.ranks → d < p.ranks → IsPrefixOf (got_by w d s lane) (sent_by p inputs w s d lane)
 
+-- all have started, nothing is on its way, and no operation is ready
 pub record IsAtRest (p : Plan) (inputs : Inputs) (w : ℕ → Run) : Type 0 where
   pub started : (r : ℕ) → r < p.ranks → 0 < count_by is_start (w r).history
   pub empty : (s d : ℕ) (lane : Lane) → s < p.ranks → d < p.ranks → got_by w d s lane ≡ sent_by p inputs w s d lane
   pub idle : (r t : ℕ) → r < p.ranks → is_ready (end_of p inputs w r) t ≡ false
 
+-- the receipt of a stray
 abbrev pub is_received_stray : Local → Bool
 is_received_stray (Receive s lane m) = is_stray m
 is_received_stray _ = false
 
+-- rank r is complete: all told, nothing pending, only strays dropped, and every cell holds its value
 pub record IsComplete (p : Plan) (inputs : Inputs) (w : ℕ → Run) (r : ℕ) : Type 0 where
   pub done : lookup (done_ct (w r).slots) (end_of p inputs w r).cts.live ≡ Some (successes (done_threshold p r))
   pub none_pending : (end_of p inputs w r).pending.waiting ≡ []

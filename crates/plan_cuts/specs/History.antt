@@ -40,10 +40,12 @@ made_by s Start = None
 made_by s (Receive source lane m) = (target s m).delivered.answer
 made_by s (Fire t) = (fired s t).message
 
+-- the state behind a history
 abbrev pub state : Beginning → State → List Local → State
 state go s [] = s
 state go s (e ∷ es) = state go (after go s e) es
 
+-- one message more, if there is one
 abbrev pub and_then : Option Sent → List Sent → List Sent
 and_then None ms = ms
 and_then (Some m) ms = m ∷ ms
@@ -69,10 +71,12 @@ May started s Start = started ≡ false
 May started s (Receive source lane m) = (m.header.source ≡ source) × (m.header.target ≡ s.rank) × IsTrue (is_lane lane m.header.kind) × IsKept m × IsDue s lane m
 May started s (Fire t) = IsTrue (is_ready s t)
 
+-- a start
 abbrev pub is_start : Local → Bool
 is_start Start = true
 is_start _ = false
 
+-- the firing of operation t
 abbrev pub is_fire : ℕ → Local → Bool
 is_fire t (Fire u) = u == t
 is_fire t _ = false
@@ -86,9 +90,11 @@ Legal go started s (e ∷ es) = May started s e × Legal go (started || is_start
 abbrev pub is_for : ℕ → Lane → Sent → Bool
 is_for d lane m = (m.header.target == d) && is_lane lane m.header.kind
 
+-- in order
 abbrev pub sent : Beginning → State → List Local → ℕ → Lane → List Sent
 sent go s h d lane = filter (is_for d lane) (made go s h)
 
+-- one lane
 abbrev pub same_lane : Lane → Lane → Bool
 same_lane Request Request = true
 same_lane Answer Answer = true

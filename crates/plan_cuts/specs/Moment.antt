@@ -10,9 +10,11 @@ use Rattle.plan_cuts.specs.History.Local.{Fire, Receive, Start}
 use Rattle.plan_cuts.specs.Cut.{IsCut, Run, end_of, got_by, sent_by}
 use Rattle.plan_core.specs.Values.{Inputs}
 
+-- the messages that are on their way, from rank to rank on a lane, oldest first
 abbrev pub Lanes : Type 0
 Lanes = ℕ → ℕ → Lane → List Sent
 
+-- one step more
 abbrev pub longer : Run → Local → Run
 longer k e = record { slots = k.slots; history = k.history ++ e ∷ [] }
 

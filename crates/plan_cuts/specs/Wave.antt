@@ -17,5 +17,6 @@ pub record IsWave (p : Plan) (inputs : Inputs) (v w : ℕ → Run) : Type 0 wher
   pub idle : (r t : ℕ) → r < p.ranks → is_ready (end_of p inputs v r) t ≡ false
   pub balanced : (s d : ℕ) (lane : Lane) → s < p.ranks → d < p.ranks → length (got (v d).history s lane) ≡ length (sent_by p inputs v s d lane)
 
+-- no rank received a stray
 abbrev pub HasNoStray : (ℕ → Run) → Type 0
 HasNoStray w = (r s : ℕ) (lane : Lane) (m : Sent) → In m (got (w r).history s lane) → is_stray m ≡ false

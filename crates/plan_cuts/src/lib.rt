@@ -4,19 +4,17 @@
 
 ghost use Rattle.std.specs.Prelude.{ℕ, Bool, ◌<◌, ◌≤◌, ◌≡◌, ◌↔◌, count_by, IsTrue, List, [], ◌∷◌, ◌++◌, length};
 ghost use Rattle.ptl_types.specs.declared.headers.Lane.TheVariants.{Answer};
-ghost use Rattle.ptl_types.specs.Elements.{part};
 ghost use Rattle.ptl_types.specs.Messages.{Sent};
 ghost use Rattle.ni_model.specs.Ready.{is_ready};
 ghost use Rattle.ni_model.specs.State.{State};
-ghost use Rattle.plan_core.specs.Places.{start_in};
-ghost use Rattle.plan_core.specs.Plan.{Plan, cell, own};
+ghost use Rattle.plan_core.specs.Plan.{Plan, cell};
 ghost use Rattle.plan_core.specs.Sound.{SoundPlan, AreInputsOf};
 ghost use Rattle.plan_core.specs.Values.{Inputs, value};
 ghost use Rattle.plan_machine.specs.Machine.{Leads};
 ghost use Rattle.plan_machine.specs.Rounds.{IsRounds};
 ghost use Rattle.plan_view.specs.Install.{Slots};
 ghost use Rattle.plan_cuts.specs.Barrier.{IsBarrierKept};
-ghost use Rattle.plan_cuts.specs.Cut.{Run, IsCut, IsAtRest, IsComplete, CounterReached, end_of, got_by, sent_by};
+ghost use Rattle.plan_cuts.specs.Cut.{Run, IsCut, IsAtRest, IsComplete, CounterReached, cell_bytes, end_of, got_by, sent_by};
 ghost use Rattle.plan_cuts.specs.History.{Beginning, Local, Legal, IsDue, is_fire, state};
 ghost use Rattle.plan_cuts.specs.History.Local.{Fire};
 ghost use Rattle.plan_cuts.specs.Moment.{Lanes, IsStep, IsMoment, IsStill, IsStuck};
@@ -26,7 +24,8 @@ ghost use Rattle.plan_cuts.specs.Wave.{IsWave, HasNoStray};
 /// stands at its threshold, nothing is pending, only strays were dropped, and every cell holds its value.
 pub fn rest_gives_completion()
     ensures { (plan : Plan) (inputs : Inputs) (world : ℕ → Run) →
-        SoundPlan plan (length inputs) → AreInputsOf plan inputs → IsCut plan inputs world → IsAtRest plan inputs world →
+        SoundPlan plan (length inputs) → AreInputsOf plan inputs → IsCut plan inputs world →
+        IsAtRest plan inputs world →
         (r : ℕ) → r < plan.ranks → IsComplete plan inputs world r }
 {}
 
@@ -36,17 +35,19 @@ pub fn reached_cells()
     ensures value { (plan : Plan) (inputs : Inputs) (world : ℕ → Run) →
         SoundPlan plan (length inputs) → AreInputsOf plan inputs → IsCut plan inputs world →
         (c : ℕ) → c < length plan.cells → CounterReached plan inputs world c →
-        part (start_in plan (own plan (cell plan c).rank) c) (cell plan c).length (end_of plan inputs world (cell plan c).rank).memory ≡ value plan inputs c }
+        cell_bytes plan inputs world c ≡ value plan inputs c }
     ensures ancestors { (plan : Plan) (inputs : Inputs) (world : ℕ → Run) →
         SoundPlan plan (length inputs) → AreInputsOf plan inputs → IsCut plan inputs world →
-        (b c : ℕ) → b < length plan.cells → c < length plan.cells → Leads plan b c → CounterReached plan inputs world c → CounterReached plan inputs world b }
+        (b c : ℕ) → b < length plan.cells → c < length plan.cells → Leads plan b c →
+        CounterReached plan inputs world c → CounterReached plan inputs world b }
 {}
 
 /// In every cut a dissemination barrier is kept: if one rank has passed it, every rank has entered it.
 pub fn barriers_hold()
     ensures { (plan : Plan) (inputs : Inputs) (world : ℕ → Run) (rounds : ℕ) (round : ℕ → ℕ → ℕ) →
         SoundPlan plan (length inputs) → AreInputsOf plan inputs → IsCut plan inputs world →
-        IsRounds plan plan.ranks rounds round → ((k r : ℕ) → k ≤ rounds → r < plan.ranks → round k r < length plan.cells) →
+        IsRounds plan plan.ranks rounds round → ((k r : ℕ) → k ≤ rounds → r < plan.ranks →
+        round k r < length plan.cells) →
         IsBarrierKept plan inputs world round rounds }
 {}
 
@@ -63,7 +64,8 @@ pub fn next_answer()
 pub fn firings()
     ensures once { (t : ℕ) (go : Beginning) (begun : Bool) (from : State) (history : List Local) →
         Legal go begun from history → count_by (is_fire t) history ≤ 1 }
-    ensures ready { (t : ℕ) (go : Beginning) (begun : Bool) (from : State) (front later : List Local) →
+    ensures ready { (t : ℕ) (go : Beginning) (begun : Bool) (from : State)
+        (front later : List Local) →
         Legal go begun from (front ++ Fire t ∷ later) → IsTrue (is_ready (state go from front) t) }
 {}
 
@@ -73,28 +75,34 @@ pub fn each_moment()
     ensures first { (plan : Plan) (inputs : Inputs) (slots : ℕ → Slots) →
         IsMoment plan inputs (λ r. record { slots = slots r; history = [] }) (λ s d lane. []) }
     ensures next { (plan : Plan) (inputs : Inputs) (world next : ℕ → Run) (held later : Lanes) →
-        SoundPlan plan (length inputs) → AreInputsOf plan inputs → IsMoment plan inputs world held → IsStep plan inputs world held next later →
+        SoundPlan plan (length inputs) → AreInputsOf plan inputs →
+        IsMoment plan inputs world held → IsStep plan inputs world held next later →
         IsMoment plan inputs next later }
-    ensures rest { (plan : Plan) (inputs : Inputs) (world : ℕ → Run) (held : Lanes) → IsMoment plan inputs world held →
+    ensures rest { (plan : Plan) (inputs : Inputs) (world : ℕ → Run) (held : Lanes) →
+        IsMoment plan inputs world held →
         (IsAtRest plan inputs world ↔ IsStill plan inputs world held) }
 {}
 
 /// Under a window of at least one message a moment at which no step is possible is at rest.
 pub fn windows()
     ensures { (plan : Plan) (inputs : Inputs) (world : ℕ → Run) (held : Lanes) (window : ℕ) →
-        0 < window → IsMoment plan inputs world held → IsStuck plan inputs world held window → IsAtRest plan inputs world }
+        0 < window → IsMoment plan inputs world held → IsStuck plan inputs world held window →
+        IsAtRest plan inputs world }
 {}
 
 /// Fronts of the histories of a cut without strays, which one wave of probes finds started, idle and with as much received as
 /// sent on each lane, are a cut at rest, and are the whole histories.
 pub fn one_wave()
     ensures cut { (plan : Plan) (inputs : Inputs) (fronts world : ℕ → Run) →
-        SoundPlan plan (length inputs) → AreInputsOf plan inputs → IsCut plan inputs world → HasNoStray world → IsWave plan inputs fronts world →
+        SoundPlan plan (length inputs) → AreInputsOf plan inputs → IsCut plan inputs world →
+        HasNoStray world → IsWave plan inputs fronts world →
         IsCut plan inputs fronts }
     ensures rest { (plan : Plan) (inputs : Inputs) (fronts world : ℕ → Run) →
-        SoundPlan plan (length inputs) → AreInputsOf plan inputs → IsCut plan inputs world → HasNoStray world → IsWave plan inputs fronts world →
+        SoundPlan plan (length inputs) → AreInputsOf plan inputs → IsCut plan inputs world →
+        HasNoStray world → IsWave plan inputs fronts world →
         IsAtRest plan inputs fronts }
     ensures whole { (plan : Plan) (inputs : Inputs) (fronts world : ℕ → Run) →
-        SoundPlan plan (length inputs) → AreInputsOf plan inputs → IsCut plan inputs world → HasNoStray world → IsWave plan inputs fronts world →
+        SoundPlan plan (length inputs) → AreInputsOf plan inputs → IsCut plan inputs world →
+        HasNoStray world → IsWave plan inputs fronts world →
         (r : ℕ) → r < plan.ranks → (fronts r).history ≡ (world r).history }
 {}

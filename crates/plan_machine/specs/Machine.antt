@@ -7,6 +7,7 @@ use Rattle.plan_core.specs.Values.{Inputs, carried_of, initial}
 use Rattle.plan_machine.specs.Seen.{Came, Seen, Work, cell_of, content, nothing_seen, reached_count, was_fired, works}
 use Rattle.plan_machine.specs.Seen.Work.{Along, Tell}
 
+-- a start, the arrival of what a link carries, a firing, an acknowledgement, a message of another job
 pub data Move : Type 0 where
   Began : Move
   Took : (l : ℕ) (bytes : List ℕ) → Move
@@ -14,6 +15,7 @@ pub data Move : Type 0 where
   Heard : (ok : Bool) → Move
   Strayed : Move
 
+-- what link l brought
 abbrev pub came : ℕ → List ℕ → Came
 came l bytes = record { link = l; bytes = bytes }
 
@@ -22,6 +24,7 @@ abbrev pub note_work : Plan → Seen → Work → Seen
 note_work p g (Along l) = record g { fired = Along l ∷ g.fired; awaits = if is_bump (link p l).kind then g.awaits else (if p.remote then one_more g.awaits else g.awaits) }
 note_work p g (Tell c) = record g { fired = Tell c ∷ g.fired; done = bump (successes 1) g.done }
 
+-- what was seen behind a move
 abbrev pub note : Plan → Seen → Move → Seen
 note p g Began = record g { started = true }
 note p g (Took l bytes) = record g { came = g.came ++ came l bytes ∷ [] }
@@ -29,6 +32,7 @@ note p g (Did w) = note_work p g w
 note p g (Heard ok) = record g { done = if p.remote then bump (if ok then successes 1 else failures 1) g.done else g.done; awaits = g.awaits - 1 }
 note p g Strayed = record g { strays = suc g.strays }
 
+-- and behind a list of moves
 abbrev pub seen : Plan → Seen → List Move → Seen
 seen p g [] = g
 seen p g (e ∷ es) = seen p (note p g e) es
@@ -37,10 +41,12 @@ seen p g (e ∷ es) = seen p (note p g e) es
 abbrev pub sending : Plan → Inputs → Seen → ℕ → Came
 sending p inputs g l = came l (carried_of p (content p g.came (link p l).source (initial p inputs (link p l).source)) l)
 
+-- what a move sends
 abbrev pub out_of : Plan → Inputs → Seen → Move → List Came
 out_of p inputs g (Did (Along l)) = if is_bump (link p l).kind then [] else sending p inputs g l ∷ []
 out_of p inputs g _ = []
 
+-- and a list of moves
 abbrev pub outs : Plan → Inputs → Seen → List Move → List Came
 outs p inputs g [] = []
 outs p inputs g (e ∷ es) = out_of p inputs g e ++ outs p inputs (note p g e) es
@@ -51,10 +57,12 @@ MayMove p r g (Did w) = In w (works p r) × (was_fired g.fired w ≡ false) × (
 MayMove p r g Began = g.started ≡ false
 MayMove p r g _ = Unit {0}
 
+-- each move may be made where it stands
 abbrev pub Moves : Plan → ℕ → Seen → List Move → Type 0
 Moves p r g [] = Unit {0}
 Moves p r g (e ∷ es) = MayMove p r g e × Moves p r (note p g e) es
 
+-- the number of the link
 abbrev pub link_of : Came → ℕ
 link_of a = a.link
 
@@ -63,17 +71,21 @@ pub record Proper (p : Plan) (r : ℕ) (g : Seen) : Type 0 where
   pub links : (a : Came) → In a g.came → (a.link < length p.links) × ((is_bump (link p a.link).kind) ≡ false) × ((cell p (link p a.link).target).rank ≡ r)
   pub once : Distinct (map link_of g.came)
 
+-- what rank r has seen at the end of its moves
 abbrev pub all_seen : Plan → (ℕ → List Move) → ℕ → Seen
 all_seen p ms r = seen p nothing_seen (ms r)
 
+-- the rank that fires link l
 abbrev pub source_rank : Plan → ℕ → ℕ
 source_rank p l = (cell p (link p l).source).rank
 
+-- a consistent cut: each rank makes moves that it may make, and what came was sent
 pub record IsMachineCut (p : Plan) (inputs : Inputs) (ms : ℕ → List Move) : Type 0 where
   pub moves : (r : ℕ) → r < p.ranks → Moves p r nothing_seen (ms r)
   pub proper : (r : ℕ) → r < p.ranks → Proper p r (all_seen p ms r)
   pub made : (r : ℕ) (a : Came) → r < p.ranks → In a (all_seen p ms r).came → In a (outs p inputs nothing_seen (ms (source_rank p a.link)))
 
+-- each rank has started, what was sent came, and what has reached its needs was fired
 pub record IsMachineRest (p : Plan) (inputs : Inputs) (ms : ℕ → List Move) : Type 0 where
   pub started : (r : ℕ) → r < p.ranks → (all_seen p ms r).started ≡ true
   pub taken : (r : ℕ) (a : Came) → r < p.ranks → In a (outs p inputs nothing_seen (ms r)) → In a (all_seen p ms (cell p (link p a.link).target).rank).came

@@ -24,14 +24,17 @@ pub record Seen : Type 0 where
   pub awaits : ℕ  -- how many answers the descriptor awaits
   pub strays : ℕ
 
+-- at the beginning
 abbrev pub nothing_seen : Seen
 nothing_seen = record { started = false; came = []; fired = []; done = successes 0; awaits = 0; strays = 0 }
 
+-- one operation
 abbrev pub is_same_work : Work → Work → Bool
 is_same_work (Along l) (Along m) = l == m
 is_same_work (Tell c) (Tell d) = c == d
 is_same_work _ _ = false
 
+-- it is among those that were fired
 abbrev pub was_fired : List Work → Work → Bool
 was_fired [] w = false
 was_fired (v ∷ vs) w = is_same_work v w || was_fired vs w
@@ -55,14 +58,17 @@ abbrev pub bumps : Plan → ℕ → Work → Bool
 bumps p c (Along l) = is_bump (link p l).kind && ((link p l).target == c)
 bumps p c (Tell d) = false
 
+-- an operation that sends
 abbrev pub sends : Plan → Work → Bool
 sends p (Along l) = not (is_bump (link p l).kind)
 sends p (Tell c) = false
 
+-- an operation that tells a cell
 abbrev pub tells : Work → Bool
 tells (Along l) = false
 tells (Tell c) = true
 
+-- what came to cell c
 abbrev pub to_cell : Plan → ℕ → Came → Bool
 to_cell p c a = (link p a.link).target == c
 

@@ -14,14 +14,17 @@ use Rattle.plan_view.specs.Install.{no_annex, Slots, limits_of, descriptor_of, c
 abbrev pub with_entry : ℕ → Entry → State → State
 with_entry slot e s = with_parts (append slot 0 Priority e (parts_of s)).parts s
 
+-- a counting event for each of these cells
 abbrev pub counters_all : Slots → List ℕ → State → State
 counters_all k [] s = s
 counters_all k (c ∷ cs) s = counters_all k cs (with_counter (k.ct s.cts.given) s)
 
+-- an entry for each of these cells
 abbrev pub entries_all : Plan → Slots → List ℕ → State → State
 entries_all p k [] s = s
 entries_all p k (c ∷ cs) s = entries_all p k cs (with_entry (k.me s.entries_given) (cell_entry no_annex p k c) s)
 
+-- these triggered operations
 abbrev pub operations_all : Plan → Slots → List Work → State → State
 operations_all p k [] s = s
 operations_all p k (w ∷ ws) s = operations_all p k ws (with_operation (deed_of p k w) (cell_ct p k (cell_of p w)) (cell p (cell_of p w)).needs s)
@@ -44,5 +47,6 @@ entered_for p inputs k r cs = entries_all p k cs (with_bound k.md (descriptor_of
 abbrev pub triggered_for : Plan → Inputs → Slots → ℕ → List Work → State
 triggered_for p inputs k r ws = operations_all p k ws (entered_for p inputs k r (own p r))
 
+-- all of them
 abbrev pub after_calls : Plan → Inputs → Slots → ℕ → State
 after_calls p inputs k r = triggered_for p inputs k r (works p r)

@@ -38,9 +38,11 @@ pub record Slots : Type 0 where
   pub me : ℕ → ℕ
   pub md : ℕ
 
+-- the done counter is the first made
 abbrev pub done_ct : Slots → Handle
 done_ct s = handle (s.ct 0) 0
 
+-- the counters of the cells come behind it, in their order
 abbrev pub cell_ct : Plan → Slots → ℕ → Handle
 cell_ct p s c = handle (s.ct (suc (place_in (own p (cell p c).rank) c))) (suc (place_in (own p (cell p c).rank) c))
 
@@ -53,6 +55,7 @@ pub record Annex : Type 0 where
   pub unexpected : ℕ
   pub counts : Bool
 
+-- nothing beside the cells
 abbrev pub no_annex : Annex
 no_annex = record { tail = []; behind = 0; before = []; unexpected = 0; counts = false }
 
@@ -60,12 +63,15 @@ no_annex = record { tail = []; behind = 0; before = []; unexpected = 0; counts =
 abbrev pub me_stamp : Annex → Plan → ℕ → ℕ
 me_stamp annex p c = length annex.before + place_in (own p (cell p c).rank) c
 
+-- the entry of cell c
 abbrev pub cell_me : Annex → Plan → Slots → ℕ → Handle
 cell_me annex p s c = handle (s.me (me_stamp annex p c)) (me_stamp annex p c)
 
+-- the one descriptor
 abbrev pub the_md : Slots → Handle
 the_md s = handle s.md 0
 
+-- the number of an operation in the match bits
 abbrev pub op_number : AtomicOp → ℕ
 op_number Min = 0
 op_number Max = 1
@@ -78,6 +84,7 @@ op_number Band = 7
 op_number Lxor = 8
 op_number Bxor = 9
 
+-- the number of a type
 abbrev pub type_number : ElemType → ℕ
 type_number U8 = 0
 type_number I8 = 1
@@ -88,6 +95,7 @@ type_number I32 = 5
 type_number U64 = 6
 type_number I64 = 7
 
+-- 0 for what is put, else by operation and type
 abbrev pub class_of : Option AtomicOp → ElemType → ℕ
 class_of None ty = 0
 class_of (Some o) ty = 1 + 8 * op_number o + type_number ty
@@ -96,9 +104,11 @@ class_of (Some o) ty = 1 + 8 * op_number o + type_number ty
 abbrev pub bits_above : ℕ → ℕ → ℕ
 bits_above class c = (1 * 2 ^ 8 + class) * 2 ^ 24 + c
 
+-- what an entry of cell c matches
 abbrev pub cell_bits : Plan → ℕ → ℕ
 cell_bits p c = bits_above (class_of (cell p c).op (cell p c).ty) c
 
+-- the match entry of cell c: its part, its counter, its class and number, whoever sends
 abbrev pub cell_entry : Annex → Plan → Slots → ℕ → Entry
 cell_entry annex p s c = record {
   start = start_in p (own p (cell p c).rank) c;
@@ -117,11 +127,13 @@ cell_entry annex p s c = record {
   count_overflow = annex.counts;
 }
 
+-- as it is linked
 abbrev pub entry_of : Annex → Plan → Slots → ℕ → Linked
 entry_of annex p s c = record { handle = cell_me annex p s c; running = 0; entry = cell_entry annex p s c }
 
 -- ---- operations
 
+-- the put arguments of link l
 abbrev pub send_args : Plan → Slots → ℕ → PutArgs
 send_args p s l = record {
   md = the_md s;
@@ -135,10 +147,12 @@ send_args p s l = record {
   hdr_data = l;
 }
 
+-- a put, or an atomic where the target has an operation
 abbrev pub send_deed : Plan → Slots → ℕ → Option AtomicOp → Deed
 send_deed p s l None = PutDeed (send_args p s l)
 send_deed p s l (Some o) = AtomicDeed (send_args p s l) o (cell p (link p l).target).ty
 
+-- what an operation of the plan does
 abbrev pub deed_of : Plan → Slots → Work → Deed
 deed_of p s (Along l) = if is_bump (link p l).kind then IncDeed (cell_ct p s (link p l).target) (successes 1) else send_deed p s l (cell p (link p l).target).op
 deed_of p s (Tell c) = IncDeed (done_ct s) (successes 1)
@@ -148,13 +162,16 @@ abbrev pub kind_for : Option AtomicOp → MessageKind
 kind_for None = PutKind
 kind_for (Some o) = AtomicKind
 
+-- a put has bytes
 abbrev pub type_for : Option AtomicOp → ElemType → ElemType
 type_for None ty = U8
 type_for (Some o) ty = ty
 
+-- as its start makes it
 abbrev pub link_header : Plan → Slots → ℕ → Header
 link_header p s l = put_header (cell p (link p l).source).rank (kind_for (cell p (link p l).target).op) (send_args p s l) (cell p (link p l).target).op (type_for (cell p (link p l).target).op (cell p (link p l).target).ty)
 
+-- with the bytes that it carries
 abbrev pub link_message : Plan → Slots → ℕ → List ℕ → Sent
 link_message p s l bytes = message (link_header p s l) bytes
 
@@ -162,6 +179,7 @@ link_message p s l bytes = message (link_header p s l) bytes
 abbrev pub ack_message : Plan → Slots → ℕ → Sent
 ack_message p s l = message (record (ack_header true (link p l).length (link_header p s l)) { ack = CtAck }) []
 
+-- none where the plan is not remote
 abbrev pub ack_of : Plan → Slots → ℕ → Option Sent
 ack_of p s l = if p.remote then Some (ack_message p s l) else None
 
@@ -170,15 +188,18 @@ abbrev pub number_of : Plan → ℕ → Work → ℕ
 number_of p r (Along l) = place_in (out_links p r) l
 number_of p r (Tell c) = length (out_links p r) + place_in (own p r) c
 
+-- a triggered operation of the plan: its number, its deed, its counter and its needs
 abbrev pub operation : Plan → Slots → ℕ → Work → Posted
 operation p s r w = record { number = number_of p r w; deed = deed_of p s w; ct = cell_ct p s (cell_of p w); threshold = (cell p (cell_of p w)).needs }
 
 -- ---- the interface
 
+-- the longest of these links
 abbrev pub longest : Plan → List ℕ → ℕ
 longest p [] = 0
 longest p (l ∷ ls) = max (link p l).length (longest p ls)
 
+-- the limits that the interface is opened with
 abbrev pub limits_of : Annex → Plan → ℕ → Limits
 limits_of annex p r = record {
   entries = length annex.before + length (own p r);
@@ -193,12 +214,15 @@ limits_of annex p r = record {
   fetch_atomic = 0;
 }
 
+-- the bytes of all cells of the rank
 abbrev pub region_length : Plan → ℕ → ℕ
 region_length p r = sum_by (λ c. (cell p c).length) (own p r)
 
+-- the whole region; it counts acknowledgements where the plan is remote
 abbrev pub descriptor_of : Annex → Plan → Slots → ℕ → Descriptor
 descriptor_of annex p s r = record { start = 0; length = region_length p r + annex.behind; eq = None; ct = if p.remote then Some (done_ct s) else None; count_send = false; count_reply = false; count_ack = p.remote }
 
+-- the counting event of cell c
 abbrev pub counter_of : Plan → Slots → ℕ → Seen → ℕ → Live Count
 counter_of p s r g c = record { handle = cell_ct p s c; value = successes (min (reached_count p g r c) top) }
 
@@ -206,6 +230,7 @@ counter_of p s r g c = record { handle = cell_ct p s c; value = successes (min (
 abbrev pub md_of : Annex → Plan → Slots → ℕ → ℕ → Bound
 md_of annex p s r n = record { md = descriptor_of annex p s r; awaits = n }
 
+-- the table of descriptors
 abbrev pub mds_of : Annex → Plan → Slots → ℕ → ℕ → Table Bound
 mds_of annex p s r n = record { live = record { handle = the_md s; value = md_of annex p s r n } ∷ []; given = 1; limit = 1 }
 
@@ -235,5 +260,6 @@ raise_go go s = record s { cts = changed go (bump (successes 1)) s.cts }
 abbrev pub install : Plan → Inputs → Slots → ℕ → State
 install p inputs s r = view no_annex p inputs s r nothing_seen
 
+-- where the done counter stands when all is done: one for each cell, and where the plan is remote one for each message
 abbrev pub done_threshold : Plan → ℕ → ℕ
 done_threshold p r = length (own p r) + (if p.remote then count_by (λ l. not (is_bump (link p l).kind)) (out_links p r) else 0)

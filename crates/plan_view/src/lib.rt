@@ -31,54 +31,78 @@ pub fn installation()
 
 /// None of the calls that install a sound plan is refused: neither the first, nor any later one behind those before it.
 pub fn installation_is_accepted()
-    ensures index { (plan : Plan) (inputs : Inputs) (r : ℕ) → pt_alloc_fault 0 None (side_of (fresh plan inputs r)) (fresh plan inputs r).eqs ≡ None }
-    ensures done_counter { (plan : Plan) (inputs : Inputs) (r : ℕ) → alloc_fault (with_index 0 None (fresh plan inputs r)).cts ≡ None }
+    ensures index { (plan : Plan) (inputs : Inputs) (r : ℕ) →
+        pt_alloc_fault 0 None (side_of (fresh plan inputs r)) (fresh plan inputs r).eqs ≡ None }
+    ensures done_counter { (plan : Plan) (inputs : Inputs) (r : ℕ) →
+        alloc_fault (with_index 0 None (fresh plan inputs r)).cts ≡ None }
     ensures counter { (plan : Plan) (inputs : Inputs) (slots : Slots) (r : ℕ) (front : List ℕ) →
-        SoundPlan plan (length inputs) → length front < length (own plan r) → alloc_fault (counted_for plan inputs slots r front).cts ≡ None }
-    ensures descriptor { (plan : Plan) (inputs : Inputs) (slots : Slots) (r : ℕ) → SoundPlan plan (length inputs) → AreInputsOf plan inputs →
-        (let s = counted_for plan inputs slots r (own plan r) in bind_fault (descriptor_of no_annex plan slots r) (length s.memory) s.cts s.eqs s.mds ≡ None) }
-    ensures entry { (plan : Plan) (inputs : Inputs) (slots : Slots) (r : ℕ) (front : List ℕ) (c : ℕ) (back : List ℕ) →
+        SoundPlan plan (length inputs) → length front < length (own plan r) →
+        alloc_fault (counted_for plan inputs slots r front).cts ≡ None }
+    ensures descriptor { (plan : Plan) (inputs : Inputs) (slots : Slots) (r : ℕ) →
+        SoundPlan plan (length inputs) → AreInputsOf plan inputs →
+        (let s = counted_for plan inputs slots r (own plan r) in
+        bind_fault (descriptor_of no_annex plan slots r) (length s.memory) s.cts s.eqs s.mds ≡
+        None) }
+    ensures entry { (plan : Plan) (inputs : Inputs) (slots : Slots) (r : ℕ) (front : List ℕ)
+        (c : ℕ) (back : List ℕ) →
         SoundPlan plan (length inputs) → AreInputsOf plan inputs → own plan r ≡ front ++ c ∷ back →
-        append_fault 0 (cell_entry no_annex plan slots c) (parts_of (entered_for plan inputs slots r front)) ≡ None }
-    ensures operation { (plan : Plan) (inputs : Inputs) (slots : Slots) (r : ℕ) (front : List Work) (w : Work) (back : List Work) →
-        SoundPlan plan (length inputs) → AreInputsOf plan inputs → works plan r ≡ front ++ w ∷ back →
-        (let s = triggered_for plan inputs slots r front in triggered_fault (deed_of plan slots w) (cell_ct plan slots (cell_of plan w)) s.cts s.mds s.pending ≡ None) }
+        append_fault 0 (cell_entry no_annex plan slots c) (parts_of (entered_for plan inputs slots r front)) ≡
+        None }
+    ensures operation { (plan : Plan) (inputs : Inputs) (slots : Slots) (r : ℕ)
+        (front : List Work) (w : Work) (back : List Work) →
+        SoundPlan plan (length inputs) → AreInputsOf plan inputs →
+        works plan r ≡ front ++ w ∷ back →
+        (let s = triggered_for plan inputs slots r front in
+        triggered_fault (deed_of plan slots w) (cell_ct plan slots (cell_of plan w)) s.cts s.mds s.pending ≡
+        None) }
 {}
 
 /// A start raises the go counter: the machine's rank has begun.
 pub fn start_begins()
-    ensures { (annex : Annex) (plan : Plan) (inputs : Inputs) (slots : Slots) (r : ℕ) (seen : Seen) →
+    ensures { (annex : Annex) (plan : Plan) (inputs : Inputs) (slots : Slots) (r : ℕ)
+        (seen : Seen) →
         SoundPlan plan (length inputs) → r < plan.ranks → seen.started ≡ false →
-        raise_go (cell_ct plan slots r) (view annex plan inputs slots r seen) ≡ view annex plan inputs slots r (note plan seen Began) }
+        raise_go (cell_ct plan slots r) (view annex plan inputs slots r seen) ≡
+        view annex plan inputs slots r (note plan seen Began) }
 {}
 
 /// An operation that is ready is one of the rank's that wasn't fired; its firing makes its message and is noted.
 pub fn firing_does()
-    ensures { (annex : Annex) (plan : Plan) (inputs : Inputs) (slots : Slots) (r : ℕ) (seen : Seen) (t : ℕ) →
-        SoundPlan plan (length inputs) → Sized plan inputs seen → is_ready (view annex plan inputs slots r seen) t ≡ true →
+    ensures { (annex : Annex) (plan : Plan) (inputs : Inputs) (slots : Slots) (r : ℕ)
+        (seen : Seen) (t : ℕ) →
+        SoundPlan plan (length inputs) → Sized plan inputs seen →
+        is_ready (view annex plan inputs slots r seen) t ≡ true →
         (w : Work) × In w (works plan r) × (was_fired seen.fired w ≡ false) ×
-        (fired (view annex plan inputs slots r seen) t ≡ fires (view annex plan inputs slots r (note_work plan seen w)) (sent_message plan inputs slots seen w)) }
+        (fired (view annex plan inputs slots r seen) t ≡
+        fires (view annex plan inputs slots r (note_work plan seen w)) (sent_message plan inputs slots seen w)) }
 {}
 
 /// A link's message is matched, lands as the link says, counts, and is acknowledged where the plan is remote.
 pub fn message_lands()
-    ensures { (annex : Annex) (plan : Plan) (inputs : Inputs) (slots theirs : Slots) (r l : ℕ) (seen : Seen) (bytes : List ℕ) →
-        IsQuiet annex → SoundPlan plan (length inputs) → IsLinkHere plan r l → Sized plan inputs seen → length bytes ≡ (link plan l).length →
+    ensures { (annex : Annex) (plan : Plan) (inputs : Inputs) (slots theirs : Slots) (r l : ℕ)
+        (seen : Seen) (bytes : List ℕ) →
+        IsQuiet annex → SoundPlan plan (length inputs) → IsLinkHere plan r l →
+        Sized plan inputs seen → length bytes ≡ (link plan l).length →
         target (view annex plan inputs slots r seen) (link_message plan theirs l bytes) ≡
         delivers (view annex plan inputs slots r (note plan seen (Took l bytes))) Matched (ack_of plan theirs l) }
 {}
 
 /// A put or an atomic of another job is dropped: the drop register rises, and nothing else changes.
 pub fn stray_is_dropped()
-    ensures { (annex : Annex) (plan : Plan) (inputs : Inputs) (slots : Slots) (r : ℕ) (seen : Seen) (m : Sent) →
-        IsQuiet annex → SoundPlan plan (length inputs) → is_put_or_atomic m.header.kind ≡ true → is_no_ack m.header.ack ≡ true →
+    ensures { (annex : Annex) (plan : Plan) (inputs : Inputs) (slots : Slots) (r : ℕ)
+        (seen : Seen) (m : Sent) →
+        IsQuiet annex → SoundPlan plan (length inputs) → is_put_or_atomic m.header.kind ≡ true →
+        is_no_ack m.header.ack ≡ true →
         (m.header.match_bits / 2 ^ 48 % 2 ^ 16 == 1) ≡ false →
-        target (view annex plan inputs slots r seen) m ≡ delivers (view annex plan inputs slots r (note plan seen Strayed)) Dropped None }
+        target (view annex plan inputs slots r seen) m ≡
+        delivers (view annex plan inputs slots r (note plan seen Strayed)) Dropped None }
 {}
 
 /// An acknowledgement that is awaited counts on the done counter.
 pub fn acknowledgement_counts()
-    ensures { (annex : Annex) (plan : Plan) (inputs : Inputs) (slots : Slots) (r : ℕ) (seen : Seen) (m : Sent) →
+    ensures { (annex : Annex) (plan : Plan) (inputs : Inputs) (slots : Slots) (r : ℕ)
+        (seen : Seen) (m : Sent) →
         IsAckHere slots m → IsTrue (is_awaited (view annex plan inputs slots r seen).mds.live) →
-        target (view annex plan inputs slots r seen) m ≡ delivers (view annex plan inputs slots r (note plan seen (Heard m.header.ok))) Answered None }
+        target (view annex plan inputs slots r seen) m ≡
+        delivers (view annex plan inputs slots r (note plan seen (Heard m.header.ok))) Answered None }
 {}
