@@ -1,0 +1,4 @@
+pub mod Forms
+pub mod Runs
+pub mod Worlds
+pub mod Cells
