@@ -1,0 +1,4 @@
+pub mod Views
+pub mod Rules
+pub mod States
+pub mod Hands
