@@ -1,18 +1,17 @@
 -- A text that is read is what is written of its description, and what it says is well formed.
-use Rattle.std.proofs.Common.{◌≡◌, ℕ, zero, suc, ◌+◌, ◌*◌, ◌<◌, ◌≤◌, List, [], ◌∷◌, ◌++◌, length, take, Option, Some, None, Result, Ok, Err, Bool, true, false, cond, not, refl, sym, ap, ◌∙◌, arith, codes, subst, append_assoc, inl, inr, ◌⊎◌}
-use Rattle.std.specs.Prelude.{nat_lt, nat_le, All}
+use Rattle.std.proofs.Common.{◌≡◌, ℕ, ◌+◌, ◌<◌, ◌≤◌, List, [], ◌∷◌, ◌++◌, length, take, Some, Result, Ok, Err, Bool, true, false, cond, not, refl, sym, ap, ◌∙◌, arith, codes, subst, append_assoc, inl, inr, ◌⊎◌}
+use Rattle.std.specs.Prelude.{nat_lt}
 use Rattle.std.specs.List.{list_all, join_with_byte}
 use Rattle.std.specs.Str.{bytes_eq}
 use Rattle.std.specs.Fmt.{decimal}
 use Rattle.std.proofs.lemmas.List.Splits.{join_with_byte-slice_split}
 use Rattle.std.proofs.lemmas.List.{append-nil}
 use Rattle.std.proofs.lemmas.List.Elements.{All-nil}
-use Rattle.ptl_types.specs.declared.elements.ElemType.{ElemType}
 use Rattle.coll_text.specs.Text.{lines, words, line, is_empty, is_name, number_between}
 use Rattle.coll_text.proofs.Spelled.{same, chosen, rejoined, in_range, between_spelled}
 use Rattle.coll_lang.specs.Outline.{Program, length_of}
 use Rattle.coll_lang.specs.Forms.{Form, complete, input, barrier, step, print, last, form_of}
-use Rattle.coll_lang.specs.Language.{Past, or_refuse, refuse, ranks_in, may_stand, form_line, later_line, line_at, judge, is_allowed, is_finished, numbered, read_from, nothing, most_elements, described, program_in, read_by, read}
+use Rattle.coll_lang.specs.Language.{Past, ranks_in, may_stand, form_line, later_line, line_at, judge, is_allowed, is_finished, numbered, read_from, nothing, most_elements, described, program_in, read_by, read}
 use Rattle.coll_lang.specs.Spelling.{text, head_text, remote_text, inputs_text, steps_text, prints_text}
 use Rattle.coll_lang.specs.Accepted.{OneSpelling}
 use Rattle.coll_lang.specs.WellFormed.{IsInput, StepFits, IsWellFormed, IsWellGiven, Filled}
@@ -22,7 +21,7 @@ use Rattle.coll_lang.specs.declared.stage.Stage.TheVariants.{Version, Ranks, Opt
 use Rattle.coll_lang.specs.declared.fault.Refusal.{Refusal}
 use Rattle.coll_lang.specs.declared.fault.Refusal.TheVariants.{BadByte, BadHeader, BadRanks, BadLine, Unended, AfterEnd, TooLong}
 use Rattle.coll_lang.proofs.FormSaid.{Fits, form_words, form_said}
-use Rattle.coll_lang.proofs.Sound.{body, Formed, AtInputs, AtSteps, AtPrints, Sound, written, Goes, some_of, ok_of, passed, ok_is, all_taken, complete_goes, input_goes}
+use Rattle.coll_lang.proofs.Sound.{body, Formed, AtInputs, AtSteps, AtPrints, Sound, written, Goes, some_of, passed, ok_is, all_taken, complete_goes, input_goes}
 use Rattle.coll_lang.proofs.SoundData.{data_goes, barrier_goes, print_goes, last_goes}
 use Rattle.coll_lang.proofs.SoundSteps.{step_goes}
 use Rattle.coll_lang.proofs.Reading.{not_empty}
@@ -119,15 +118,28 @@ begins past n eb ei eg es ep er some few = rw (eb, ei, eg, es, ep, er) (empty n 
   where
     empty : (n printed : ℕ) → 1 ≤ n → n ≤ 64
         → let next : Past = record { stage = Options; ranks = n; remote = false; buffers = []; inputs = 0; given = []; steps = []; prints = []; printed = printed } in Sound Options next × (body next ≡ head_text n)
-    empty n printed some few = ((record {
-      some_ranks = some; few_ranks = few; few_buffers = omega arith; few_steps = omega arith; few_prints = omega arith; inputs_first = omega arith;
-      inputs_fit = All-nil IsInput;
-      names = All-nil (λ b. is_name b.name ≡ true);
-      small = All-nil (λ b. length_of b.spread ≤ most_elements);
-      steps_fit = All-nil (StepFits n []);
-      in_order = refl;
-      prints_fit = All-nil (λ i. i < 0);
-    }, record { counted = refl; filled = refl; no_steps = refl; no_prints = refl }, refl, refl), append-nil (head_text n))
+    empty n printed some few = (
+      (
+        record {
+          some_ranks = some;
+          few_ranks = few;
+          few_buffers = omega arith;
+          few_steps = omega arith;
+          few_prints = omega arith;
+          inputs_first = omega arith;
+          inputs_fit = All-nil IsInput;
+          names = All-nil (λ b. is_name b.name ≡ true);
+          small = All-nil (λ b. length_of b.spread ≤ most_elements);
+          steps_fit = All-nil (StepFits n []);
+          in_order = refl;
+          prints_fit = All-nil (λ i. i < 0);
+        },
+        record { counted = refl; filled = refl; no_steps = refl; no_prints = refl },
+        refl,
+        refl,
+      ),
+      append-nil (head_text n),
+    )
 
 chosen_ok : (b : Bool) (x : Past) (name : Refusal) (y : Past) → (let r : Result Past Refusal = cond b (Ok x) (Err name) in r ≡ Ok y) → (b ≡ true) × (x ≡ y)
 chosen_ok true x name y h = (refl, ok_is x y h)

@@ -1,33 +1,32 @@
 -- What can be run so far is read as the whole language reads it, and is one broadcast of bytes.
-use Rattle.std.proofs.Common.{◌≡◌, ℕ, zero, suc, ◌+◌, ◌-◌, ◌*◌, ◌<◌, ◌≤◌, List, [], ◌∷◌, ◌++◌, length, take, drop, Option, Some, None, Result, Ok, Err, Bool, true, false, cond, ◌&&◌, not, refl, sym, ap, ◌∙◌, arith, subst, inl, inr, ◌⊎◌}
+use Rattle.std.proofs.Common.{◌≡◌, ℕ, suc, ◌+◌, ◌-◌, ◌*◌, ◌<◌, ◌≤◌, List, [], ◌∷◌, length, take, drop, Some, Result, Ok, Err, Bool, true, false, cond, ◌&&◌, not, refl, sym, ap, ◌∙◌, arith, subst}
 use Rattle.std.specs.Prelude.{nat_lt, ◌==◌, All}
 use Rattle.std.proofs.lemmas.Bool.Decides.{nat_tests}
 use Rattle.std.proofs.lemmas.List.{take_all}
 use Rattle.ptl_types.specs.declared.elements.ElemType.{ElemType}
 use Rattle.ptl_types.specs.declared.elements.ElemType.TheVariants.{U8, I8, U16, I16, U32, I32, U64, I64}
 use Rattle.ptl_types.specs.Operations.{bytes_of}
-use Rattle.coll_text.specs.Text.{lines, is_empty, is_name}
+use Rattle.coll_text.specs.Text.{lines, is_empty}
 use Rattle.coll_text.proofs.Spelled.{both}
 use Rattle.coll_lang.specs.Outline.{Program, length_of, type_at, spread_at}
 use Rattle.coll_lang.specs.Steps.{spread_after}
 use Rattle.coll_lang.specs.Language.{Past, judge, is_finished, numbered, read_from, read_by, nothing, described, program_in, read}
 use Rattle.coll_lang.specs.FirstForm as first
 use Rattle.coll_lang.specs.FirstForm.{is_byte, first_is_bytes, is_broadcast, one_broadcast, one_input, is_built, if_built, first_line}
-use Rattle.coll_lang.specs.WellFormed.{IsInput, StepFits, results, numbers_from, IsListOf, Filled}
+use Rattle.coll_lang.specs.WellFormed.{IsInput, StepFits, results, numbers_from, IsListOf}
 use Rattle.coll_lang.specs.OneBroadcast.{IsOneBroadcast, even_bytes}
 use Rattle.coll_lang.specs.declared.types.Buffer.{Buffer}
 use Rattle.coll_lang.specs.declared.types.Spread.{Spread}
 use Rattle.coll_lang.specs.declared.types.Spread.TheVariants.{Even}
 use Rattle.coll_lang.specs.declared.types.CollStep.{CollStep}
 use Rattle.coll_lang.specs.declared.types.CollStep.TheVariants.{Barrier, Broadcast, Reduce, Allreduce, Gather, Allgather, Alltoall, Scan}
-use Rattle.coll_lang.specs.declared.stage.Stage.{Stage}
 use Rattle.coll_lang.specs.declared.stage.Stage.TheVariants.{Finished}
 use Rattle.coll_lang.specs.declared.fault.Refusal.{Refusal}
 use Rattle.coll_lang.specs.declared.fault.Refusal.TheVariants.{BadLine, Unended, AfterEnd, TooLong}
 use Rattle.coll_lang.proofs.Stays.{All-then}
 use Rattle.coll_lang.proofs.InputLists.{length-drop}
 use Rattle.coll_lang.proofs.Sound.{Formed, AtPrints, Sound}
-use Rattle.coll_lang.proofs.AllLines.{all_go, finished_is, described_by, unlimited}
+use Rattle.coll_lang.proofs.AllLines.{all_go, finished_is, described_by}
 
 -- a line that is taken here is taken by the whole language, and what it says can be run
 line_built : (r : Result Past Refusal) (next : Past) → if_built r ≡ Ok next → (r ≡ Ok next) × (is_built next.stage next ≡ true)
@@ -129,7 +128,7 @@ fixed past x y s = record { stage = past.stage; ranks = past.ranks; remote = fal
 fixed_is : (past : Past) (x y : Buffer) (s : CollStep) → past.remote ≡ false → past.buffers ≡ x ∷ y ∷ [] → past.inputs ≡ 1 → past.steps ≡ s ∷ [] → past ≡ fixed past x y s
 fixed_is past x y s er eb ei es =
     let with : Bool → List Buffer → ℕ → List CollStep → Past =
-      λ m bs i ss. record { stage = past.stage; ranks = past.ranks; remote = m; buffers = bs; inputs = i; given = past.given; steps = ss; prints = past.prints; printed = past.printed } in
+    λ m bs i ss. record { stage = past.stage; ranks = past.ranks; remote = m; buffers = bs; inputs = i; given = past.given; steps = ss; prints = past.prints; printed = past.printed } in
     ap (λ m. with m past.buffers past.inputs past.steps) er ∙ ap (λ bs. with false bs past.inputs past.steps) eb ∙ ap (λ i. with false (x ∷ y ∷ []) i past.steps) ei ∙ ap (λ ss. with false (x ∷ y ∷ []) 1 ss) es
 
 lists_are : (ranks : ℕ) (lists : List (List ℕ)) → ranks ≤ length lists → drop ranks lists ≡ [] → length lists ≡ ranks
@@ -149,7 +148,7 @@ fixed_form past x y root a b f g byte is_one =
     let is_none : a ≡ 0 = omega (arith, earlier, is_one) in
     let y_type : y.ty ≡ U8 = ap (type_at bs) (sym is_one) ∙ step.same_type refl ∙ ap (type_at bs) is_none ∙ byte in
     let y_spread : y.spread ≡ Even n =
-      sym (some_is (Even n) y.spread (sym (ap (spread_after past.ranks (Broadcast root a b)) (ap (spread_at bs) is_none ∙ input.even)) ∙ step.spread refl ∙ ap (λ i. Some (spread_at bs i)) is_one)) in
+    sym (some_is (Even n) y.spread (sym (ap (spread_after past.ranks (Broadcast root a b)) (ap (spread_at bs) is_none ∙ input.even)) ∙ step.spread refl ∙ ap (λ i. Some (spread_at bs i)) is_one)) in
     let all : take past.ranks past.given ≡ past.given = take_all past.ranks past.given (equal_le (length past.given) past.ranks (lists_are past.ranks past.given g.0 g.2)) in
     let lists : All (IsListOf x) past.given = subst (λ (l : List (List ℕ)). All (IsListOf x) l) all g.1 in
     record {

@@ -64,9 +64,11 @@ fills ranks left [] c lists x lt is h =
 fills ranks left (b ∷ bs) c lists x lt is h =
     let e = h.0 in
     let l = longer lists x in
-    let take_is = take_front ranks lists x h.0 in
-    (omega (arith, e, l), subst (λ (l : List (List ℕ)). All (IsListOf b) l) (sym take_is) h.1,
-      subst (λ (l : List (List ℕ)). Filling ranks (left - 1) bs c l) (sym (drop_front ranks lists x h.0)) (fills ranks left bs c (drop ranks lists) x lt is h.2))
+    let take_is = take_front ranks lists x h.0 in (
+      omega (arith, e, l),
+      subst (λ (l : List (List ℕ)). All (IsListOf b) l) (sym take_is) h.1,
+      subst (λ (l : List (List ℕ)). Filling ranks (left - 1) bs c l) (sym (drop_front ranks lists x h.0)) (fills ranks left bs c (drop ranks lists) x lt is h.2),
+    )
 
 -- a data line stands behind the others of the newest input
 pub one_data_line : (ranks left : ℕ) (bs : List Buffer) (c : Buffer) (lists : List (List ℕ)) (x : List ℕ) → 0 < left → Filling ranks left bs c lists

@@ -11,3 +11,4 @@ pub mod Built
 pub mod Bytes
 pub mod OneBroadcast
 pub mod Kept
+pub mod Printed

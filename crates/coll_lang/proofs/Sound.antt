@@ -1,42 +1,28 @@
 -- What the lines so far say is well formed, and they are what is written of it. One line more keeps both.
-use Rattle.std.proofs.Common.{◌≡◌, ℕ, zero, suc, ◌+◌, ◌-◌, ◌*◌, ◌<◌, ◌≤◌, List, [], ◌∷◌, ◌++◌, length, take, Option, Some, None, Result, Ok, Err, Bool, true, false, cond, not, refl, sym, ap, ◌∙◌, arith, map, codes, subst, append_assoc, length-append}
-use Rattle.std.specs.Prelude.{nat_lt, nat_le, is_some, All}
-use Rattle.std.specs.List.{flat_map}
-use Rattle.std.specs.Fmt.{decimal}
+use Rattle.std.proofs.Common.{◌≡◌, ℕ, zero, suc, ◌+◌, ◌-◌, ◌<◌, ◌≤◌, List, [], ◌∷◌, ◌++◌, length, take, Option, Some, None, Result, Ok, Err, Bool, true, false, refl, sym, ap, ◌∙◌, arith, codes, subst, append_assoc, length-append}
+use Rattle.std.specs.Prelude.{nat_lt, nat_le, All}
 use Rattle.std.proofs.lemmas.Bool.Decides.{nat_tests}
-use Rattle.std.proofs.lemmas.List.{append-nil, take_all, take-append-le}
+use Rattle.std.proofs.lemmas.List.{append-nil, take_all}
 use Rattle.std.proofs.lemmas.List.Elements.{All-nil}
-use Rattle.std.proofs.lemmas.Grind.{flat_map-append}
 use Rattle.ptl_types.specs.declared.elements.ElemType.{ElemType}
-use Rattle.ptl_types.specs.Operations.{bytes_of}
-use Rattle.coll_text.specs.Text.{words, line, is_name, number_of, number_between}
-use Rattle.coll_text.specs.Elements.{elements, value_word}
-use Rattle.coll_text.specs.Values.{data_line}
-use Rattle.coll_text.specs.declared.values.Flaw.{Flaw}
-use Rattle.coll_text.specs.declared.values.Flaw.TheVariants.{Malformed, NoValue}
-use Rattle.coll_text.proofs.Spelled.{in_range, between_spelled, number_spelled, rejoined}
-use Rattle.coll_text.proofs.DataSpelled.{data_said}
+use Rattle.coll_text.specs.Text.{line, is_name, number_between}
+use Rattle.coll_text.proofs.Spelled.{in_range, between_spelled}
 use Rattle.coll_lang.specs.Words.{type_word}
-use Rattle.coll_lang.specs.Outline.{Outline, Program, length_of, buffer_at, name_at, type_at, spread_at}
-use Rattle.coll_lang.specs.Steps.{step_of, spread_after, source_of, result_of, root_of, makes, elements_of}
-use Rattle.coll_lang.specs.Forms.{Form, complete, input, barrier, step, print, last, has_root, form_of}
-use Rattle.coll_lang.specs.Language.{Past, ◌>>=◌, refuse, or_refuse, is_taken, buffer_named, rank_of, data_due, most_elements, input_line, barrier_line, step_line, print_line, form_line, values_line, unless_flawed, may_stand, described}
-use Rattle.coll_lang.specs.Spelling.{head_text, remote_text, input_text, data_text, inputs_text, step_words, steps_text, prints_text}
-use Rattle.coll_lang.specs.WellFormed.{IsInput, StepFits, results, numbers_from, IsWellFormed, IsListOf, Filled}
+use Rattle.coll_lang.specs.Outline.{length_of}
+use Rattle.coll_lang.specs.Forms.{complete, input}
+use Rattle.coll_lang.specs.Language.{Past, ◌>>=◌, refuse, or_refuse, is_taken, data_due, most_elements, input_line, described}
+use Rattle.coll_lang.specs.Spelling.{head_text, remote_text, input_text, inputs_text, steps_text, prints_text}
+use Rattle.coll_lang.specs.WellFormed.{IsInput, StepFits, results, numbers_from, IsWellFormed, Filled}
 use Rattle.coll_lang.specs.declared.types.Buffer.{Buffer}
-use Rattle.coll_lang.specs.declared.types.Spread.{Spread}
 use Rattle.coll_lang.specs.declared.types.Spread.TheVariants.{Even}
 use Rattle.coll_lang.specs.declared.types.CollStep.{CollStep}
-use Rattle.coll_lang.specs.declared.types.CollStep.TheVariants.{Barrier}
-use Rattle.coll_lang.specs.declared.forms.StepKind.{StepKind}
-use Rattle.coll_lang.specs.declared.forms.StepKind.TheVariants as kinds
 use Rattle.coll_lang.specs.declared.stage.Stage.{Stage}
 use Rattle.coll_lang.specs.declared.stage.Stage.TheVariants.{Version, Ranks, Options, Inputs, Data, Steps, Prints, Finished}
 use Rattle.coll_lang.specs.declared.fault.Refusal.{Refusal}
-use Rattle.coll_lang.specs.declared.fault.Refusal.TheVariants.{BadLine, BadNumber, NameTaken, UnknownBuffer, BadRoot, WrongShape, TooMany, TooLarge}
-use Rattle.coll_lang.proofs.FormSaid.{Fits, root_words, key_of, form_words}
-use Rattle.coll_lang.proofs.Stays.{All-push, All-then, buffer_stays, buffer_new, steps_stay, fit_stays, results_more, in_order_more, found}
-use Rattle.coll_lang.proofs.InputLists.{Filling, one_input, starts_filling, is_filled, fills, one_data_line}
+use Rattle.coll_lang.specs.declared.fault.Refusal.TheVariants.{BadNumber, NameTaken, TooMany}
+use Rattle.coll_lang.proofs.FormSaid.{form_words}
+use Rattle.coll_lang.proofs.Stays.{All-push}
+use Rattle.coll_lang.proofs.InputLists.{Filling, one_input, starts_filling}
 
 -- what is written of the lines so far, behind the first two
 abbrev pub body : Past → List ℕ
@@ -168,10 +154,23 @@ behind_prints h m i s p x = simp append_assoc
 pub complete_goes : (past : Past) → Formed past → AtInputs past → past.buffers ≡ [] → past.remote ≡ false
     → Goes (body past) (record past { stage = Inputs; remote = true }) (line (form_words complete))
 complete_goes past f a empty plain = record {
-  sound = (record {
-    some_ranks = f.some_ranks; few_ranks = f.few_ranks; few_buffers = f.few_buffers; few_steps = f.few_steps; few_prints = f.few_prints; inputs_first = f.inputs_first;
-    inputs_fit = f.inputs_fit; names = f.names; small = f.small; steps_fit = f.steps_fit; in_order = f.in_order; prints_fit = f.prints_fit;
-  }, record { counted = a.counted; filled = a.filled; no_steps = a.no_steps; no_prints = a.no_prints });
+  sound = (
+    record {
+      some_ranks = f.some_ranks;
+      few_ranks = f.few_ranks;
+      few_buffers = f.few_buffers;
+      few_steps = f.few_steps;
+      few_prints = f.few_prints;
+      inputs_first = f.inputs_first;
+      inputs_fit = f.inputs_fit;
+      names = f.names;
+      small = f.small;
+      steps_fit = f.steps_fit;
+      in_order = f.in_order;
+      prints_fit = f.prints_fit;
+    },
+    record { counted = a.counted; filled = a.filled; no_steps = a.no_steps; no_prints = a.no_prints },
+  );
   written_is = behind_remote (head_text past.ranks) (line (form_words complete)) (remote_text past.remote) (inputs_text past.ranks (take past.inputs past.buffers) past.given) (steps_text past.buffers past.steps) (prints_text past.buffers past.prints)
       (ap remote_text plain) (no_inputs_text past.ranks past.inputs past.buffers past.given empty) (no_steps_text past.buffers past.steps a.no_steps) (no_prints_text past.buffers past.prints a.no_prints);
 }
@@ -192,7 +191,10 @@ input_formed past stage c f a free named is =
     let l = one_longer past.buffers c in
     let small = is.small in
     record {
-      some_ranks = f.some_ranks; few_ranks = f.few_ranks; few_steps = f.few_steps; few_prints = f.few_prints;
+      some_ranks = f.some_ranks;
+      few_ranks = f.few_ranks;
+      few_steps = f.few_steps;
+      few_prints = f.few_prints;
       few_buffers = omega (arith, free, l);
       inputs_first = omega (arith, counted, l);
       inputs_fit = subst (λ (bs : List Buffer). All IsInput bs) (sym (all_taken (past.buffers ++ c ∷ []) (past.inputs + 1) (omega (arith, counted, l))))
@@ -219,16 +221,26 @@ input_goes past next name ty count f a named h =
     let l = one_longer past.buffers c in
     subst (λ p. Goes (body past) p (line (form_words (input name ty count)))) (ok_is after next full.1) (record {
       sound = due_sound past.ranks ty n.0 after formed
-          (λ due. record { earlier = past.buffers; newest = c; are = refl; type_is = refl; spread_is = refl; filling = starts_filling past.ranks past.buffers c past.given a.filled; due = due;
-            counted = omega (arith, counted, l); no_steps = a.no_steps; no_prints = a.no_prints })
+          (λ due. record {
+            earlier = past.buffers;
+            newest = c;
+            are = refl;
+            type_is = refl;
+            spread_is = refl;
+            filling = starts_filling past.ranks past.buffers c past.given a.filled;
+            due = due;
+            counted = omega (arith, counted, l);
+            no_steps = a.no_steps;
+            no_prints = a.no_prints;
+          })
           (λ e. absurd (no_ranks past.ranks f.some_ranks e));
       written_is = due_written past.ranks ty n.0 after
           ∙ ap (λ (x : List ℕ). head_text past.ranks ++ (remote_text past.remote ++ (x ++ (steps_text (past.buffers ++ c ∷ []) past.steps ++ prints_text (past.buffers ++ c ∷ []) past.prints))))
-            (ap (λ (bs : List Buffer). inputs_text past.ranks bs past.given) (all_taken (past.buffers ++ c ∷ []) (past.inputs + 1) (omega (arith, counted, l)))
-            ∙ one_input past.ranks past.buffers c past.given a.filled
-            ∙ ap (λ (bs : List Buffer). inputs_text past.ranks bs past.given ++ input_text c) (sym (all_taken past.buffers past.inputs counted)))
+          (ap (λ (bs : List Buffer). inputs_text past.ranks bs past.given) (all_taken (past.buffers ++ c ∷ []) (past.inputs + 1) (omega (arith, counted, l)))
+          ∙ one_input past.ranks past.buffers c past.given a.filled
+          ∙ ap (λ (bs : List Buffer). inputs_text past.ranks bs past.given ++ input_text c) (sym (all_taken past.buffers past.inputs counted)))
           ∙ behind_inputs (head_text past.ranks) (remote_text past.remote) (inputs_text past.ranks (take past.inputs past.buffers) past.given) (input_text c) (steps_text past.buffers past.steps) (prints_text past.buffers past.prints) (steps_text (past.buffers ++ c ∷ []) past.steps) (prints_text (past.buffers ++ c ∷ []) past.prints)
-            (no_steps_text past.buffers past.steps a.no_steps) (no_prints_text past.buffers past.prints a.no_prints) (no_steps_text (past.buffers ++ c ∷ []) past.steps a.no_steps) (no_prints_text (past.buffers ++ c ∷ []) past.prints a.no_prints)
+          (no_steps_text past.buffers past.steps a.no_steps) (no_prints_text past.buffers past.prints a.no_prints) (no_steps_text (past.buffers ++ c ∷ []) past.steps a.no_steps) (no_prints_text (past.buffers ++ c ∷ []) past.prints a.no_prints)
           ∙ ap (λ (x : List ℕ). body past ++ line (codes "input" ∷ name ∷ type_word ty ∷ x ∷ [])) (sym (between_spelled 1 4096 n.0 count (omega arith) n.1));
     })
   where

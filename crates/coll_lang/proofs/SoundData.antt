@@ -1,43 +1,33 @@
 -- A data line, a barrier, a print and the last line keep what the lines say well formed and written.
-use Rattle.std.proofs.Common.{◌≡◌, ℕ, zero, suc, ◌+◌, ◌-◌, ◌*◌, ◌<◌, ◌≤◌, List, [], ◌∷◌, ◌++◌, length, take, Option, Some, None, Result, Ok, Err, Bool, true, false, cond, not, refl, sym, ap, ◌∙◌, arith, map, codes, subst, append_assoc, length-append}
-use Rattle.std.specs.Prelude.{nat_lt, nat_le, is_some, All}
-use Rattle.std.specs.List.{flat_map}
-use Rattle.std.specs.Fmt.{decimal}
-use Rattle.std.proofs.lemmas.Bool.Decides.{nat_tests}
-use Rattle.std.proofs.lemmas.List.{append-nil, take_all, take-append-le}
-use Rattle.std.proofs.lemmas.List.Elements.{All-nil}
+use Rattle.std.proofs.Common.{◌≡◌, ℕ, ◌+◌, ◌-◌, ◌*◌, ◌<◌, ◌≤◌, List, [], ◌∷◌, ◌++◌, length, take, Result, Ok, Err, true, false, refl, sym, ap, ◌∙◌, arith, map, codes, subst}
+use Rattle.std.specs.Prelude.{nat_lt, nat_le, All}
+use Rattle.std.proofs.lemmas.List.{append-nil}
 use Rattle.std.proofs.lemmas.Grind.{flat_map-append}
 use Rattle.ptl_types.specs.declared.elements.ElemType.{ElemType}
 use Rattle.ptl_types.specs.Operations.{bytes_of}
-use Rattle.coll_text.specs.Text.{words, line, is_name, number_of, number_between}
+use Rattle.coll_text.specs.Text.{words, line}
 use Rattle.coll_text.specs.Elements.{elements, value_word}
 use Rattle.coll_text.specs.Values.{data_line}
 use Rattle.coll_text.specs.declared.values.Flaw.{Flaw}
 use Rattle.coll_text.specs.declared.values.Flaw.TheVariants.{Malformed, NoValue}
-use Rattle.coll_text.proofs.Spelled.{in_range, between_spelled, number_spelled, rejoined}
+use Rattle.coll_text.proofs.Spelled.{rejoined}
 use Rattle.coll_text.proofs.DataSpelled.{data_said}
-use Rattle.coll_lang.specs.Words.{type_word}
-use Rattle.coll_lang.specs.Outline.{Outline, Program, length_of, buffer_at, name_at, type_at, spread_at}
-use Rattle.coll_lang.specs.Steps.{step_of, spread_after, source_of, result_of, root_of, makes, elements_of}
-use Rattle.coll_lang.specs.Forms.{Form, complete, input, barrier, step, print, last, has_root, form_of}
-use Rattle.coll_lang.specs.Language.{Past, ◌>>=◌, refuse, or_refuse, is_taken, buffer_named, rank_of, data_due, most_elements, input_line, barrier_line, step_line, print_line, form_line, values_line, unless_flawed, may_stand, described}
-use Rattle.coll_lang.specs.Spelling.{head_text, remote_text, input_text, data_text, inputs_text, step_words, steps_text, prints_text}
-use Rattle.coll_lang.specs.WellFormed.{IsInput, StepFits, results, numbers_from, IsWellFormed, IsListOf, Filled}
+use Rattle.coll_lang.specs.Outline.{length_of, name_at}
+use Rattle.coll_lang.specs.Steps.{elements_of}
+use Rattle.coll_lang.specs.Forms.{barrier, print, last}
+use Rattle.coll_lang.specs.Language.{Past, buffer_named, data_due, most_elements, barrier_line, print_line, values_line, unless_flawed}
+use Rattle.coll_lang.specs.Spelling.{head_text, remote_text, data_text, inputs_text, step_words, steps_text, prints_text}
+use Rattle.coll_lang.specs.WellFormed.{StepFits, results, IsListOf, Filled}
 use Rattle.coll_lang.specs.declared.types.Buffer.{Buffer}
 use Rattle.coll_lang.specs.declared.types.Spread.{Spread}
 use Rattle.coll_lang.specs.declared.types.Spread.TheVariants.{Even}
-use Rattle.coll_lang.specs.declared.types.CollStep.{CollStep}
 use Rattle.coll_lang.specs.declared.types.CollStep.TheVariants.{Barrier}
-use Rattle.coll_lang.specs.declared.forms.StepKind.{StepKind}
-use Rattle.coll_lang.specs.declared.forms.StepKind.TheVariants as kinds
-use Rattle.coll_lang.specs.declared.stage.Stage.{Stage}
-use Rattle.coll_lang.specs.declared.stage.Stage.TheVariants.{Version, Ranks, Options, Inputs, Data, Steps, Prints, Finished}
-use Rattle.coll_lang.specs.declared.fault.Refusal.{Refusal}
-use Rattle.coll_lang.specs.declared.fault.Refusal.TheVariants.{BadLine, BadNumber, NameTaken, UnknownBuffer, BadRoot, WrongShape, TooMany, TooLarge}
-use Rattle.coll_lang.proofs.FormSaid.{Fits, root_words, key_of, form_words}
-use Rattle.coll_lang.proofs.Stays.{All-push, All-then, buffer_stays, buffer_new, steps_stay, fit_stays, results_more, in_order_more, found}
-use Rattle.coll_lang.proofs.InputLists.{Filling, one_input, starts_filling, is_filled, fills, one_data_line}
-use Rattle.coll_lang.proofs.Sound.{body, Formed, AtInputs, AtData, AtSteps, AtPrints, Sound, written, Goes, ok_of, some_of, passed, ok_is, room, not_above, one_longer, none, no_steps_text, no_prints_text, all_taken, behind_inputs, behind_steps, behind_prints, due_sound, due_written}
+use Rattle.coll_lang.specs.declared.stage.Stage.TheVariants.{Steps, Prints, Finished}
+use Rattle.coll_lang.specs.declared.fault.Refusal.TheVariants.{UnknownBuffer, TooMany, TooLarge}
+use Rattle.coll_lang.proofs.FormSaid.{form_words}
+use Rattle.coll_lang.proofs.Stays.{All-push, results_more, found}
+use Rattle.coll_lang.proofs.InputLists.{Filling, is_filled, fills, one_data_line}
+use Rattle.coll_lang.proofs.Sound.{body, Formed, AtData, AtSteps, AtPrints, Goes, ok_of, some_of, passed, ok_is, room, one_longer, no_steps_text, no_prints_text, all_taken, behind_inputs, behind_steps, behind_prints, due_sound, due_written}
 
 unflawed : (r : Result (List ℕ) Flaw) (x : List ℕ) → unless_flawed r ≡ Ok x → r ≡ Ok x
 unflawed (Ok y) x h = ap (λ (x : List ℕ). Ok x) (same_list y x h)
@@ -74,7 +64,7 @@ data_goes past next left ty count l f d h =
       written_is = due_written (left - 1) ty count after
           ∙ ap (λ (x : List ℕ). head_text past.ranks ++ (remote_text past.remote ++ (x ++ (steps_text past.buffers past.steps ++ prints_text past.buffers past.prints)))) (one_more d.earlier d.newest past.given b.0 d.are d.counted d.due d.filling)
           ∙ behind_inputs (head_text past.ranks) (remote_text past.remote) (inputs_text past.ranks (take past.inputs past.buffers) past.given) (data_text d.newest b.0) (steps_text past.buffers past.steps) (prints_text past.buffers past.prints) (steps_text past.buffers past.steps) (prints_text past.buffers past.prints)
-            (no_steps_text past.buffers past.steps d.no_steps) (no_prints_text past.buffers past.prints d.no_prints) (no_steps_text past.buffers past.steps d.no_steps) (no_prints_text past.buffers past.prints d.no_prints)
+          (no_steps_text past.buffers past.steps d.no_steps) (no_prints_text past.buffers past.prints d.no_prints) (no_steps_text past.buffers past.steps d.no_steps) (no_prints_text past.buffers past.prints d.no_prints)
           ∙ ap (λ (t : ElemType). body past ++ line (map (value_word t) (elements t b.0))) d.type_is
           ∙ ap (λ (x : List ℕ). body past ++ x) (sym (rejoined l (map (value_word ty) (elements ty b.0)) said.spelled));
     })
@@ -99,17 +89,27 @@ barrier_goes past next f a h =
     let free = room 64 (length past.steps) t.0 in
     let l = one_longer past.steps Barrier in
     subst (λ p. Goes (body past) p (line (form_words barrier))) (ok_is after next t.1) (record {
-      sound = (record {
-        some_ranks = f.some_ranks; few_ranks = f.few_ranks; few_buffers = f.few_buffers; few_prints = f.few_prints; inputs_first = f.inputs_first;
-        inputs_fit = f.inputs_fit; names = f.names; small = f.small; prints_fit = f.prints_fit;
-        few_steps = omega (arith, free, l);
-        steps_fit = All-push (StepFits past.ranks past.buffers) past.steps Barrier f.steps_fit (barrier_fits past.ranks past.buffers f.some_ranks);
-        in_order = results_more past.steps Barrier ∙ append-nil (results past.steps) ∙ f.in_order;
-      }, record { filled = a.filled; no_prints = a.no_prints });
+      sound = (
+        record {
+          some_ranks = f.some_ranks;
+          few_ranks = f.few_ranks;
+          few_buffers = f.few_buffers;
+          few_prints = f.few_prints;
+          inputs_first = f.inputs_first;
+          inputs_fit = f.inputs_fit;
+          names = f.names;
+          small = f.small;
+          prints_fit = f.prints_fit;
+          few_steps = omega (arith, free, l);
+          steps_fit = All-push (StepFits past.ranks past.buffers) past.steps Barrier f.steps_fit (barrier_fits past.ranks past.buffers f.some_ranks);
+          in_order = results_more past.steps Barrier ∙ append-nil (results past.steps) ∙ f.in_order;
+        },
+        record { filled = a.filled; no_prints = a.no_prints },
+      );
       written_is = ap (λ (x : List ℕ). head_text past.ranks ++ (remote_text past.remote ++ (inputs_text past.ranks (take past.inputs past.buffers) past.given ++ (x ++ prints_text past.buffers past.prints))))
-            (flat_map-append (λ s. line (step_words past.buffers s)) past.steps (Barrier ∷ []) ∙ ap (λ (x : List ℕ). steps_text past.buffers past.steps ++ x) (append-nil (line (codes "barrier" ∷ []))))
+          (flat_map-append (λ s. line (step_words past.buffers s)) past.steps (Barrier ∷ []) ∙ ap (λ (x : List ℕ). steps_text past.buffers past.steps ++ x) (append-nil (line (codes "barrier" ∷ []))))
           ∙ behind_steps (head_text past.ranks) (remote_text past.remote) (inputs_text past.ranks (take past.inputs past.buffers) past.given) (steps_text past.buffers past.steps) (line (codes "barrier" ∷ [])) (prints_text past.buffers past.prints) (prints_text past.buffers past.prints)
-            (no_prints_text past.buffers past.prints a.no_prints) (no_prints_text past.buffers past.prints a.no_prints);
+          (no_prints_text past.buffers past.prints a.no_prints) (no_prints_text past.buffers past.prints a.no_prints);
     })
 
 -- `print NAME`
@@ -125,14 +125,25 @@ print_goes past next name f a h =
     let free = room 128 (length past.prints) full.0 in
     let l = one_longer past.prints i in
     subst (λ p. Goes (body past) p (line (form_words (print name)))) (ok_is after next large.1) (record {
-      sound = (record {
-        some_ranks = f.some_ranks; few_ranks = f.few_ranks; few_buffers = f.few_buffers; few_steps = f.few_steps; inputs_first = f.inputs_first;
-        inputs_fit = f.inputs_fit; names = f.names; small = f.small; steps_fit = f.steps_fit; in_order = f.in_order;
-        few_prints = omega (arith, free, l);
-        prints_fit = All-push (λ i. i < length past.buffers) past.prints i f.prints_fit is.there;
-      }, a);
+      sound = (
+        record {
+          some_ranks = f.some_ranks;
+          few_ranks = f.few_ranks;
+          few_buffers = f.few_buffers;
+          few_steps = f.few_steps;
+          inputs_first = f.inputs_first;
+          inputs_fit = f.inputs_fit;
+          names = f.names;
+          small = f.small;
+          steps_fit = f.steps_fit;
+          in_order = f.in_order;
+          few_prints = omega (arith, free, l);
+          prints_fit = All-push (λ i. i < length past.buffers) past.prints i f.prints_fit is.there;
+        },
+        a,
+      );
       written_is = ap (λ (x : List ℕ). head_text past.ranks ++ (remote_text past.remote ++ (inputs_text past.ranks (take past.inputs past.buffers) past.given ++ (steps_text past.buffers past.steps ++ x))))
-            (flat_map-append (λ i. line (codes "print" ∷ name_at past.buffers i ∷ [])) past.prints (i ∷ []) ∙ ap (λ (x : List ℕ). prints_text past.buffers past.prints ++ x) (append-nil (line (codes "print" ∷ name_at past.buffers i ∷ []))))
+          (flat_map-append (λ i. line (codes "print" ∷ name_at past.buffers i ∷ [])) past.prints (i ∷ []) ∙ ap (λ (x : List ℕ). prints_text past.buffers past.prints ++ x) (append-nil (line (codes "print" ∷ name_at past.buffers i ∷ []))))
           ∙ behind_prints (head_text past.ranks) (remote_text past.remote) (inputs_text past.ranks (take past.inputs past.buffers) past.given) (steps_text past.buffers past.steps) (prints_text past.buffers past.prints) (line (codes "print" ∷ name_at past.buffers i ∷ []))
           ∙ ap (λ (x : List ℕ). body past ++ line (codes "print" ∷ x ∷ [])) is.named;
     })

@@ -1,43 +1,28 @@
 -- A step keeps what the lines say well formed and written.
-use Rattle.std.proofs.Common.{◌≡◌, ℕ, zero, suc, ◌+◌, ◌-◌, ◌*◌, ◌<◌, ◌≤◌, List, [], ◌∷◌, ◌++◌, length, take, Option, Some, None, Result, Ok, Err, Bool, true, false, cond, not, refl, sym, ap, ◌∙◌, arith, map, codes, subst, append_assoc, length-append}
+use Rattle.std.proofs.Common.{◌≡◌, ℕ, ◌<◌, ◌≤◌, List, [], ◌∷◌, ◌++◌, length, take, Option, Some, None, Result, Ok, Bool, true, false, cond, refl, sym, ap, ◌∙◌, arith, subst}
 use Rattle.std.specs.Prelude.{nat_lt, nat_le, is_some, All}
-use Rattle.std.specs.List.{flat_map}
 use Rattle.std.specs.Fmt.{decimal}
 use Rattle.std.proofs.lemmas.Bool.Decides.{nat_tests}
-use Rattle.std.proofs.lemmas.List.{append-nil, take_all, take-append-le}
-use Rattle.std.proofs.lemmas.List.Elements.{All-nil}
+use Rattle.std.proofs.lemmas.List.{append-nil, take-append-le}
 use Rattle.std.proofs.lemmas.Grind.{flat_map-append}
-use Rattle.ptl_types.specs.declared.elements.ElemType.{ElemType}
-use Rattle.ptl_types.specs.Operations.{bytes_of}
-use Rattle.coll_text.specs.Text.{words, line, is_name, number_of, number_between}
-use Rattle.coll_text.specs.Elements.{elements, value_word}
-use Rattle.coll_text.specs.Values.{data_line}
-use Rattle.coll_text.specs.declared.values.Flaw.{Flaw}
-use Rattle.coll_text.specs.declared.values.Flaw.TheVariants.{Malformed, NoValue}
-use Rattle.coll_text.proofs.Spelled.{in_range, between_spelled, number_spelled, rejoined}
-use Rattle.coll_text.proofs.DataSpelled.{data_said}
-use Rattle.coll_lang.specs.Words.{type_word}
-use Rattle.coll_lang.specs.Outline.{Outline, Program, length_of, buffer_at, name_at, type_at, spread_at}
-use Rattle.coll_lang.specs.Steps.{step_of, spread_after, source_of, result_of, root_of, makes, elements_of}
-use Rattle.coll_lang.specs.Forms.{Form, complete, input, barrier, step, print, last, has_root, form_of}
-use Rattle.coll_lang.specs.Language.{Past, ◌>>=◌, refuse, or_refuse, is_taken, buffer_named, rank_of, data_due, most_elements, input_line, barrier_line, step_line, print_line, form_line, values_line, unless_flawed, may_stand, described}
-use Rattle.coll_lang.specs.Spelling.{head_text, remote_text, input_text, data_text, inputs_text, step_words, steps_text, prints_text}
-use Rattle.coll_lang.specs.WellFormed.{IsInput, StepFits, results, numbers_from, IsWellFormed, IsListOf, Filled}
+use Rattle.coll_text.specs.Text.{line, is_name, number_of}
+use Rattle.coll_text.proofs.Spelled.{number_spelled}
+use Rattle.coll_lang.specs.Outline.{length_of, name_at, type_at, spread_at}
+use Rattle.coll_lang.specs.Steps.{step_of, spread_after, source_of, result_of, root_of, makes}
+use Rattle.coll_lang.specs.Forms.{step, has_root}
+use Rattle.coll_lang.specs.Language.{Past, is_taken, buffer_named, rank_of, most_elements, step_line}
+use Rattle.coll_lang.specs.Spelling.{head_text, remote_text, inputs_text, step_words, steps_text, prints_text}
+use Rattle.coll_lang.specs.WellFormed.{IsInput, StepFits, Filled}
 use Rattle.coll_lang.specs.declared.types.Buffer.{Buffer}
-use Rattle.coll_lang.specs.declared.types.Spread.{Spread}
-use Rattle.coll_lang.specs.declared.types.Spread.TheVariants.{Even}
 use Rattle.coll_lang.specs.declared.types.CollStep.{CollStep}
-use Rattle.coll_lang.specs.declared.types.CollStep.TheVariants.{Barrier}
 use Rattle.coll_lang.specs.declared.forms.StepKind.{StepKind}
 use Rattle.coll_lang.specs.declared.forms.StepKind.TheVariants as kinds
-use Rattle.coll_lang.specs.declared.stage.Stage.{Stage}
-use Rattle.coll_lang.specs.declared.stage.Stage.TheVariants.{Version, Ranks, Options, Inputs, Data, Steps, Prints, Finished}
+use Rattle.coll_lang.specs.declared.stage.Stage.TheVariants.{Steps}
 use Rattle.coll_lang.specs.declared.fault.Refusal.{Refusal}
-use Rattle.coll_lang.specs.declared.fault.Refusal.TheVariants.{BadLine, BadNumber, NameTaken, UnknownBuffer, BadRoot, WrongShape, TooMany, TooLarge}
-use Rattle.coll_lang.proofs.FormSaid.{Fits, root_words, key_of, form_words}
-use Rattle.coll_lang.proofs.Stays.{All-push, All-then, buffer_stays, buffer_new, steps_stay, fit_stays, results_more, in_order_more, found}
-use Rattle.coll_lang.proofs.InputLists.{Filling, one_input, starts_filling, is_filled, fills, one_data_line}
-use Rattle.coll_lang.proofs.Sound.{body, Formed, AtInputs, AtData, AtSteps, AtPrints, Sound, written, Goes, ok_of, some_of, passed, ok_is, room, not_above, one_longer, none, no_steps_text, no_prints_text, all_taken, behind_inputs, behind_steps, behind_prints, due_sound, due_written}
+use Rattle.coll_lang.specs.declared.fault.Refusal.TheVariants.{BadNumber, NameTaken, UnknownBuffer, BadRoot, WrongShape, TooMany, TooLarge}
+use Rattle.coll_lang.proofs.FormSaid.{root_words, key_of, form_words}
+use Rattle.coll_lang.proofs.Stays.{All-push, All-then, buffer_stays, buffer_new, steps_stay, fit_stays, in_order_more, found}
+use Rattle.coll_lang.proofs.Sound.{body, Formed, AtSteps, Goes, ok_of, some_of, passed, ok_is, room, not_above, one_longer, none, no_prints_text, behind_steps}
 
 -- the word of the root, where the kind has one
 abbrev rooted : StepKind → ℕ → List (List ℕ)
@@ -117,7 +102,9 @@ step_formed past c s f a free few named small makes_one res fits =
     let m = one_longer past.steps s in
     let first = f.inputs_first in
     record {
-      some_ranks = f.some_ranks; few_ranks = f.few_ranks; few_prints = f.few_prints;
+      some_ranks = f.some_ranks;
+      few_ranks = f.few_ranks;
+      few_prints = f.few_prints;
       few_buffers = omega (arith, free, l);
       few_steps = omega (arith, few, m);
       inputs_first = omega (arith, first, l);
@@ -137,10 +124,10 @@ step_written past c s f a =
     let bs = past.buffers ++ c ∷ [] in
     ap (λ (x : List Buffer). head_text past.ranks ++ (remote_text past.remote ++ (inputs_text past.ranks x past.given ++ (steps_text bs (past.steps ++ s ∷ []) ++ prints_text bs past.prints)))) (take-append-le past.inputs past.buffers (c ∷ []) f.inputs_first)
     ∙ ap (λ (x : List ℕ). head_text past.ranks ++ (remote_text past.remote ++ (inputs_text past.ranks (take past.inputs past.buffers) past.given ++ (x ++ prints_text bs past.prints))))
-      (flat_map-append (λ s. line (step_words bs s)) past.steps (s ∷ []) ∙ ap (λ (x : List ℕ). steps_text bs past.steps ++ x) (append-nil (line (step_words bs s)))
-        ∙ ap (λ (x : List ℕ). x ++ line (step_words bs s)) (steps_stay past.ranks past.buffers c past.steps f.steps_fit))
+    (flat_map-append (λ s. line (step_words bs s)) past.steps (s ∷ []) ∙ ap (λ (x : List ℕ). steps_text bs past.steps ++ x) (append-nil (line (step_words bs s)))
+    ∙ ap (λ (x : List ℕ). x ++ line (step_words bs s)) (steps_stay past.ranks past.buffers c past.steps f.steps_fit))
     ∙ behind_steps (head_text past.ranks) (remote_text past.remote) (inputs_text past.ranks (take past.inputs past.buffers) past.given) (steps_text past.buffers past.steps) (line (step_words bs s)) (prints_text past.buffers past.prints) (prints_text bs past.prints)
-      (no_prints_text past.buffers past.prints a.no_prints) (no_prints_text bs past.prints a.no_prints)
+    (no_prints_text past.buffers past.prints a.no_prints) (no_prints_text bs past.prints a.no_prints)
 
 pub step_goes : (past next : Past) (root : Option (List ℕ)) (kind : StepKind) (a b : List ℕ) → Formed past → AtSteps past → (is_some root ≡ has_root (key_of kind)) × (is_name b ≡ true)
     → step_line past root kind a b ≡ Ok next → Goes (body past) next (line (form_words (step root kind a b)))
@@ -163,12 +150,14 @@ step_goes past next root kind a b f at fits h =
     let after : Past = record past { stage = Steps; buffers = past.buffers ++ c ∷ []; steps = past.steps ++ s ∷ [] } in
     let new = new_fits past.ranks past.buffers c s from.0.0 about.root about.source about.result is.there (sym is.type_is) (ap (spread_after past.ranks s) is.spread_is ∙ spread.1) in
     subst (λ p. Goes (body past) p (line (form_words (step root kind a b)))) (ok_is after next large.1) (record {
-      sound = (step_formed past c s f at (room 128 (length past.buffers) full.0) (room 64 (length past.steps) few.0) fits.1 (not_above most_elements (length_of spread.0) large.0) about.makes_one about.result new,
+      sound = (
+        step_formed past c s f at (room 128 (length past.buffers) full.0) (room 64 (length past.steps) few.0) fits.1 (not_above most_elements (length_of spread.0) large.0) about.makes_one about.result new,
         record {
           filled = subst (λ (bs : List Buffer). Filled past.ranks bs past.given) (sym (take-append-le past.inputs past.buffers (c ∷ []) f.inputs_first)) at.filled;
           no_prints = at.no_prints;
-        });
+        },
+      );
       written_is = step_written past c s f at
           ∙ ap (λ (x : List (List ℕ)). body past ++ line x)
-            (words_of_step (past.buffers ++ c ∷ []) kind r.0 from.0.0 n root a b (ap (λ (x : Buffer). x.name) (buffer_stays past.buffers c from.0.0 is.there) ∙ is.named) (ap (λ (x : Buffer). x.name) (buffer_new past.buffers c)) said.words_are);
+          (words_of_step (past.buffers ++ c ∷ []) kind r.0 from.0.0 n root a b (ap (λ (x : Buffer). x.name) (buffer_stays past.buffers c from.0.0 is.there) ∙ is.named) (ap (λ (x : Buffer). x.name) (buffer_new past.buffers c)) said.words_are);
     })

@@ -1,5 +1,5 @@
 -- What a line is by its words, wherever it stands.
-use Rattle.std.specs.Prelude.{ℕ, List, [], ◌∷◌, length, Option, Some, None, Bool, ◌&&◌, ◌||◌, not, ◌==◌, if◌then◌else◌, codes, option_and_then, option_map}
+use Rattle.std.specs.Prelude.{ℕ, List, [], ◌∷◌, Option, Some, None, Bool, ◌&&◌, ◌||◌, not, if◌then◌else◌, codes, option_and_then, option_map}
 use Rattle.std.specs.Str.{bytes_eq}
 use Rattle.coll_text.specs.Text.{is_name, is_empty}
 use Rattle.ptl_types.specs.declared.elements.ElemType.{ElemType}

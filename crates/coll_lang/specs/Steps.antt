@@ -1,6 +1,5 @@
 -- What a step reads and makes (MPI's collective communication).
 use Rattle.std.specs.Prelude.{ℕ, ◌*◌, ◌%◌, Option, Some, None, Bool, true, false, ◌==◌, if◌then◌else◌}
-use Rattle.ptl_types.specs.declared.elements.AtomicOp.{AtomicOp}
 use Rattle.coll_lang.specs.declared.types.Spread.{Spread}
 use Rattle.coll_lang.specs.declared.types.Spread.TheVariants.{Even, Only}
 use Rattle.coll_lang.specs.declared.types.CollStep.{CollStep}

@@ -98,6 +98,13 @@ impl Model for Inputs {
 }
 
 impl Inputs {
+    /// All lists, input by input and rank by rank.
+    pub(crate) fn lists(&self) -> &[RankList]
+        ensures { result.now ≡ self.now.lists }
+    {
+        self.lists.as_slice()
+    }
+
     /// The list of an input at a rank, as bytes: its elements in order, each little-endian.
     pub fn list(&self, input: u32, r: Rank) -> &[u8]
         requires input { input < self.now.inputs }

@@ -1,11 +1,13 @@
 //! What no clause says: whole texts and their answers, from outside.
 
-use crate::{ParseFault, parse};
+use crate::{Description, ParseFault, parse, parse_all, print};
 use std::test::Fail;
 
+const ONE: &[u8] = b"coll 1\nranks 1\ninput a u8 1\n7\nbroadcast 0 a b\nprint b\nend\n";
+
 /// The line and the name of a refusal; nothing where the text is accepted.
-fn refusal(rt: &HostRuntime, text: &[u8]) -> Option<(u32, &'static str)> {
-    match parse(rt.alloc(), text) {
+fn answer(read: Result<Description, ParseFault>) -> Option<(u32, &'static str)> {
+    match read {
         Ok(_) => None,
         Err(ParseFault::Refused { line, name }) => Some((line, name.word())),
         Err(ParseFault::NoMemory) => Some((0, "NoMemory")),
@@ -13,12 +15,9 @@ fn refusal(rt: &HostRuntime, text: &[u8]) -> Option<(u32, &'static str)> {
 }
 
 #[test]
-fn first_forms_answers(rt: HostRuntime) {
-    let cases: [(&[u8], Option<(u32, &'static str)>); 12] = [
-        (
-            b"coll 1\nranks 1\ninput a u8 1\n7\nbroadcast 0 a b\nprint b\nend\n",
-            None,
-        ),
+fn what_runs_so_far(rt: HostRuntime) {
+    let cases: [(&[u8], Option<(u32, &'static str)>); 14] = [
+        (ONE, None),
         (
             b"coll 1\nranks 3\ninput a u8 1\n5\n6\n9\nbroadcast 2 a b\nprint b\nprint a\nend\n",
             None,
@@ -38,16 +37,18 @@ fn first_forms_answers(rt: HostRuntime) {
         (b"", Some((1, "Unended"))),
         (b"coll 2\nranks 1\n", Some((1, "BadLine"))),
         (b"coll 1\nranks 65\n", Some((2, "BadLine"))),
+        (b"coll 1\nranks 1\ncomplete remote\n", Some((3, "BadLine"))),
         (
             b"coll 1\nranks 1\ninput a u8 1\n256\n",
             Some((4, "BadLine")),
         ),
-        (
-            b"coll 1\nranks 1\ninput a u8 1\n007\n",
-            Some((4, "BadLine")),
-        ),
+        (b"coll 1\nranks 1\ninput a u16 1\n7\n", Some((3, "BadLine"))),
         (
             b"coll 1\nranks 1\ninput a u8 1\n7\nbroadcast 1 a b\n",
+            Some((5, "BadLine")),
+        ),
+        (
+            b"coll 1\nranks 1\ninput a u8 1\n7\nend\n",
             Some((5, "BadLine")),
         ),
         (
@@ -56,15 +57,208 @@ fn first_forms_answers(rt: HostRuntime) {
         ),
     ];
     for (text, wanted) in cases.iter() {
-        assert_eq!(rt; refusal(&rt, text), *wanted);
+        assert_eq!(rt; answer(parse(rt.alloc(), text)), *wanted);
     }
 }
 
 #[test]
-fn one_byte_too_many(rt: HostRuntime) -> Result<(), Fail> {
+fn refusals_of_lines(rt: HostRuntime) {
+    let cases: [(&[u8], u32, &'static str); 40] = [
+        (b"", 1, "Unended"),
+        (b"coll 1", 1, "Unended"),
+        (b"coll 1\r\n", 1, "BadByte"),
+        (b"coll 3\nranks 1\n", 1, "BadHeader"),
+        (b"coll  1\nranks 1\n", 1, "BadHeader"),
+        (b"coll 1\nranks\t1\n", 2, "BadByte"),
+        (b"coll 1\nranks 0\n", 2, "BadRanks"),
+        (b"coll 1\nranks 65\n", 2, "BadRanks"),
+        (b"coll 1\nranks 01\n", 2, "BadRanks"),
+        (b"coll 1\nranks 1 \n", 2, "BadRanks"),
+        (b"coll 1\nranks 1\n\x7f\n", 3, "BadByte"),
+        (b"coll 1\nranks 1\n\n", 3, "BadLine"),
+        (b"coll 1\nranks 1\ncomplete\n", 3, "BadLine"),
+        (b"coll 1\nranks 1\ninput a u8 1 \n", 3, "BadLine"),
+        (b"coll 1\nranks 1\ninput a\tu8 1\n", 3, "BadByte"),
+        (b"coll 1\nranks 1\ninput A u8 1\n", 3, "BadLine"),
+        (b"coll 1\nranks 1\ninput a u7 1\n", 3, "BadLine"),
+        (
+            b"coll 1\nranks 1\ninput abcdefghijklmnopq u8 1\n",
+            3,
+            "BadLine",
+        ),
+        (b"coll 1\nranks 1\ninput a u8 0\n", 3, "BadNumber"),
+        (b"coll 1\nranks 1\ninput a u8 4097\n", 3, "BadNumber"),
+        (b"coll 1\nranks 1\ninput a u8 \n", 3, "BadLine"),
+        (b"coll 1\nranks 1\nprint a\n", 3, "UnknownBuffer"),
+        (b"coll 1\nranks 1\ninput a u8 1\n\n", 4, "BadLine"),
+        (b"coll 1\nranks 1\ninput a u8 1\n7 8\n", 4, "BadLine"),
+        (b"coll 1\nranks 1\ninput a u8 1\n007\n", 4, "BadNumber"),
+        (
+            b"coll 1\nranks 1\ninput a u8 1\ncomplete remote\n7\n",
+            4,
+            "BadLine",
+        ),
+        (
+            b"coll 1\nranks 1\ninput a u8 1\n7\ncomplete remote\n",
+            5,
+            "BadLine",
+        ),
+        (
+            b"coll 1\nranks 1\ninput a u8 1\n7\ninput a i8 1\n",
+            5,
+            "NameTaken",
+        ),
+        (
+            b"coll 1\nranks 1\ninput a u8 1\n7\nbroadcast 0 a a\n",
+            5,
+            "NameTaken",
+        ),
+        (
+            b"coll 1\nranks 1\ninput a u8 1\n7\nbroadcast 0 c c\n",
+            5,
+            "UnknownBuffer",
+        ),
+        (
+            b"coll 1\nranks 1\ninput a u8 1\n7\nbroadcast 1 a b\n",
+            5,
+            "BadRoot",
+        ),
+        (
+            b"coll 1\nranks 1\ninput a u8 1\n7\nbroadcast x a b\n",
+            5,
+            "BadNumber",
+        ),
+        (
+            b"coll 1\nranks 1\ninput a u8 1\n7\nbroadcast  a b\n",
+            5,
+            "BadLine",
+        ),
+        (
+            b"coll 1\nranks 1\ninput a u8 1\n7\nbroadcast 1111111111111111111111111111111111111111 a b\n",
+            5,
+            "BadRoot",
+        ),
+        (
+            b"coll 1\nranks 1\ninput a u8 1\n7\nreduce 0 mean a b\n",
+            5,
+            "BadLine",
+        ),
+        (
+            b"coll 1\nranks 1\ninput a u8 1\n7\nprint a\nbarrier\n",
+            6,
+            "BadLine",
+        ),
+        (
+            b"coll 1\nranks 2\ninput a u8 3\n1 2 3\n4 5 6\nalltoall a b\nend\n",
+            6,
+            "WrongShape",
+        ),
+        (
+            b"coll 1\nranks 3\ninput a u8 1\n1\n2\n3\nreduce 1 sum a b\nbroadcast 0 b c\n",
+            8,
+            "WrongShape",
+        ),
+        (b"coll 1\nranks 1\nend\nend\n", 4, "AfterEnd"),
+        (b"coll 1\nranks 1\nend\nx", 4, "AfterEnd"),
+    ];
+    for (text, line, name) in cases.iter() {
+        assert_eq!(rt; answer(parse_all(rt.alloc(), text)), Some((*line, *name)));
+    }
+}
+
+#[test]
+fn a_text_is_printed_as_it_was_read(rt: HostRuntime) -> Result<(), Fail> {
+    let texts: [&[u8]; 6] = [
+        ONE,
+        b"coll 1\nranks 1\ncomplete remote\ninput a u8 1\n7\nbroadcast 0 a b\nprint b\nend\n",
+        b"coll 1\nranks 4\nbarrier\nend\n",
+        b"coll 1\nranks 3\ninput a i8 1\n-128\n127\n0\nreduce 1 min a b\nbroadcast 1 b c\nprint c\nend\n",
+        b"coll 1\nranks 2\ninput a i64 2\n-9223372036854775808 9223372036854775807\n0 -1\nscan max a b\nallreduce lxor b c\nend\n",
+        b"coll 1\nranks 2\ninput a u64 1\n18446744073709551615\n0\ninput end u16 2\n1 65535\n3 4\ngather 1 a g\nallgather a h\nalltoall end k\nprint end\nprint k\nend\n",
+    ];
+    for text in texts.iter() {
+        let Ok(d) = parse_all(rt.alloc(), text) else {
+            panic!(rt; "refused")
+        };
+        let Ok(printed) = print(rt.alloc(), &d) else {
+            panic!(rt; "no memory")
+        };
+        assert_eq!(rt; printed.as_slice(), *text);
+    }
+    Ok(())
+}
+
+/// The head, so many times the line, and the last line.
+fn repeated(rt: &HostRuntime, head: &[u8], line: &[u8], times: u32) -> Result<Vec<u8>, Fail> {
+    let mut text = Vec::from_slice(rt.alloc(), head)?;
+    for _ in 0..times {
+        text.extend_from_slice(line)?;
+    }
+    text.extend_from_slice(b"end\n")?;
+    Ok(text)
+}
+
+#[test]
+fn one_more_than_the_most(rt: HostRuntime) -> Result<(), Fail> {
+    let steps = b"coll 1\nranks 1\n";
+    let prints = b"coll 1\nranks 1\ninput a u8 1\n7\n";
+    let text = repeated(&rt, steps, b"barrier\n", 64)?;
+    assert_eq!(rt; answer(parse_all(rt.alloc(), &text)), None);
+    let text = repeated(&rt, steps, b"barrier\n", 65)?;
+    assert_eq!(rt; answer(parse_all(rt.alloc(), &text)), Some((67, "TooMany")));
+    let text = repeated(&rt, prints, b"print a\n", 128)?;
+    assert_eq!(rt; answer(parse_all(rt.alloc(), &text)), None);
+    let text = repeated(&rt, prints, b"print a\n", 129)?;
+    assert_eq!(rt;
+        answer(parse_all(rt.alloc(), &text)),
+        Some((133, "TooMany"))
+    );
     let text = vec![in rt.alloc(); b'\n'; 1_048_577]?;
-    assert_eq!(rt; refusal(&rt, &text), Some((0, "TooLong")));
-    assert_eq!(rt; refusal(&rt, &text[1..]), Some((1, "BadLine")));
+    assert_eq!(rt; answer(parse_all(rt.alloc(), &text)), Some((0, "TooLong")));
+    assert_eq!(rt;
+        answer(parse_all(rt.alloc(), &text[1..])),
+        Some((1, "BadHeader"))
+    );
+    Ok(())
+}
+
+#[test]
+fn values_at_the_ends_of_their_types(rt: HostRuntime) -> Result<(), Fail> {
+    let cases: [(&str, &str, &str, &str, &str); 8] = [
+        ("u8", "0", "255", "-1", "256"),
+        ("i8", "-128", "127", "-129", "128"),
+        ("u16", "0", "65535", "-1", "65536"),
+        ("i16", "-32768", "32767", "-32769", "32768"),
+        ("u32", "0", "4294967295", "-0", "4294967296"),
+        ("i32", "-2147483648", "2147483647", "-0", "2147483648"),
+        (
+            "u64",
+            "0",
+            "18446744073709551615",
+            "00",
+            "18446744073709551616",
+        ),
+        (
+            "i64",
+            "-9223372036854775808",
+            "9223372036854775807",
+            "-9223372036854775809",
+            "9223372036854775808",
+        ),
+    ];
+    for (ty, least, greatest, below, above) in cases.iter() {
+        let good = format!(in rt.alloc();
+            "coll 1\nranks 1\ninput a {ty} 2\n{least} {greatest}\nend\n"
+        )?;
+        assert_eq!(rt; answer(parse_all(rt.alloc(), good.as_bytes())), None);
+        for bad in [below, above].iter() {
+            let text = format!(in rt.alloc(); "coll 1\nranks 1\ninput a {ty} 1\n{bad}\nend\n")?;
+            assert_eq!(rt;
+                answer(parse_all(rt.alloc(), text.as_bytes())),
+                Some((4, "BadNumber"))
+            );
+        }
+    }
     Ok(())
 }
 

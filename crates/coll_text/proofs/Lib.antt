@@ -2,3 +2,4 @@ pub mod Cutting
 pub mod Spelled
 pub mod Data
 pub mod DataSpelled
+pub mod Writes

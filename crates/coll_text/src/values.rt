@@ -48,7 +48,8 @@ impl<T: Drop> From<AllocFailed<T>> for ValuesFault {
     }
 }
 
-fn half(ty: ElemType) -> u64
+/// Half of the bit patterns.
+pub(crate) fn half(ty: ElemType) -> u64
     ensures { result ≡ half ty }
 {
     match ty {
@@ -59,7 +60,8 @@ fn half(ty: ElemType) -> u64
     }
 }
 
-fn is_signed(ty: ElemType) -> bool
+/// Whether the type is signed.
+pub(crate) fn is_signed(ty: ElemType) -> bool
     ensures { result ≡ is_signed ty }
 {
     matches!(

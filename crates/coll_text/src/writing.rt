@@ -1,0 +1,111 @@
+//! Writing words, numbers, values and lines.
+
+ghost use Rattle.std.specs.Prelude.{◌≡◌, ◌∷◌, ◌++◌, ◌<◌, ◌≤◌, ◌^◌, map, length, OnOk};
+ghost use Rattle.std.specs.List.{flat_map};
+ghost use Rattle.std.specs.Fmt.{decimal};
+ghost use Rattle.ptl_types.specs.Operations.{span};
+ghost use Rattle.ptl_types.specs.Elements.{pattern};
+ghost use Rattle.coll_text.specs.Text.{line};
+ghost use Rattle.coll_text.specs.Elements.{elements, value_word};
+
+use crate::values::{half, is_signed};
+use itoa::Buffer;
+use ptl_types::ElemType;
+use std::alloc::AllocError;
+
+/// Adds a space and a word, for each word.
+fn push_spaced(out: &mut Vec<u8>, words: &[&[u8]]) -> Result<(), AllocError>
+    ensures { OnOk result (out.new.items ≡ out.old.items ++ flat_map (λ w. 32 ∷ w.now) words.now) }
+{
+    for word in words {
+        out.push(b' ')?;
+        out.extend_from_slice(word)?;
+    }
+    Ok(())
+}
+
+/// Adds a line: the words, parted by one space, and LF.
+///
+/// # Errors
+///
+/// There was no memory; a beginning of the line may stand.
+pub fn push_line(out: &mut Vec<u8>, words: &[&[u8]]) -> Result<(), AllocError>
+    ensures { OnOk result (out.new.items ≡ out.old.items ++ line (map (λ w. w.now) words.now)) }
+{
+    let Some((first, others)) = words.split_first() else {
+        out.push(b'\n')?;
+        return Ok(());
+    };
+    out.extend_from_slice(first)?;
+    push_spaced(out, others)?;
+    out.push(b'\n')?;
+    Ok(())
+}
+
+/// Adds the decimal of a number.
+fn push_number(out: &mut Vec<u8>, n: u64) -> Result<(), AllocError>
+    ensures { OnOk result (out.new.items ≡ out.old.items ++ decimal n) }
+{
+    let mut buffer = Buffer::new();
+    out.extend_from_slice(buffer.format(n).as_bytes())
+}
+
+/// Adds the word of a value, from its bit pattern.
+fn push_value_word(out: &mut Vec<u8>, ty: ElemType, n: u64) -> Result<(), AllocError>
+    requires { n < span ty }
+    ensures { OnOk result (out.new.items ≡ out.old.items ++ value_word ty n) }
+{
+    if is_signed(ty) && n >= half(ty) {
+        out.push(b'-')?;
+        push_number(out, half(ty) - (n - half(ty)))
+    } else {
+        push_number(out, n)
+    }
+}
+
+/// The bit pattern of an element of so many bytes.
+fn pattern_of(bytes: &[u8]) -> u64
+    requires { length bytes.now ≤ 8 }
+    ensures value { result ≡ pattern bytes.now }
+    ensures fits { result < 256 ^ length bytes.now }
+{
+    let Some((first, others)) = bytes.split_first() else {
+        return 0;
+    };
+    u64::from(*first) + 256 * pattern_of(others)
+}
+
+/// Adds a space and the word of an element, for each element.
+fn push_spaced_values(out: &mut Vec<u8>, ty: ElemType, bytes: &[u8]) -> Result<(), AllocError>
+    ensures { OnOk result (out.new.items ≡ out.old.items ++ flat_map (λ x. 32 ∷ value_word ty x) (elements ty bytes.now)) }
+{
+    let size = ty.size() as usize;
+    let mut rest = bytes;
+    while rest.len() >= size {
+        let (element, behind) = rest.split_at(size);
+        out.push(b' ')?;
+        push_value_word(out, ty, pattern_of(element))?;
+        rest = behind;
+    }
+    Ok(())
+}
+
+/// Adds a data line: the values of the elements, parted by one space, and LF.
+///
+/// # Errors
+///
+/// There was no memory; a beginning of the line may stand.
+pub fn push_data_line(out: &mut Vec<u8>, ty: ElemType, bytes: &[u8]) -> Result<(), AllocError>
+    ensures { OnOk result (out.new.items ≡ out.old.items ++ line (map (value_word ty) (elements ty bytes.now))) }
+{
+    let size = ty.size() as usize;
+    if bytes.len() < size {
+        out.push(b'\n')?;
+        return Ok(());
+    }
+    let (element, behind) = bytes.split_at(size);
+    push_value_word(out, ty, pattern_of(element))?;
+    push_spaced_values(out, ty, behind)?;
+    out.push(b'\n')?;
+    Ok(())
+}
