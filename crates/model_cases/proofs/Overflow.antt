@@ -162,7 +162,7 @@ event_says = refl
 
 -- ---- a queue of room 1: the event that finds it full is the one that is lost
 abbrev two_links : State
-two_links = (me_append 1 1 Priority (entry 4 4) (me_append 0 1 Priority (entry 0 4) (told 1)).state).state
+two_links = (me_append 1 1 Priority (record (entry 4 4) { match_bits = 6 }) (me_append 0 1 Priority (entry 0 4) (told 1)).state).state
 
 lost_is_told : (eq_get first two_links).answer ≡ Ok Lost
 unfolding append
