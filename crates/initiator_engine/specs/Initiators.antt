@@ -1,0 +1,104 @@
+-- What an initiator is seen as, and what its calls ask for and answer.
+use Rattle.std.specs.Prelude.{ℕ, Bool, true, false, not, ◌≤◌, List, [], Option, Some, None, Result, Ok, Err, All, length}
+use Rattle.ptl_types.specs.declared.handles.Handle.{Handle}
+use Rattle.ptl_types.specs.declared.calls.Limits.{Limits}
+use Rattle.ptl_types.specs.declared.calls.NiFault.{NiFault}
+use Rattle.ptl_types.specs.declared.calls.NiFault.TheVariants.{Stale, InUse}
+use Rattle.ptl_types.specs.declared.calls.Outcome.{Outcome}
+use Rattle.ptl_types.specs.declared.calls.PutArgs.{PutArgs}
+use Rattle.ptl_types.specs.declared.calls.Deed.{Deed}
+use Rattle.ptl_types.specs.declared.calls.Deed.TheVariants.{Put, Get, Atomic, FetchAtomic, Swap, Inc, Set}
+use Rattle.ptl_types.specs.Messages.{Sent}
+use Rattle.ni_model.specs.declared.Bound.{Bound}
+use Rattle.ni_model.specs.Tables.{Table, Live, lookup, is_live}
+use Rattle.ptl_types.specs.declared.handles.Count.{Count}
+use Rattle.ptl_types.specs.declared.headers.Header.{Header}
+use Rattle.ni_model.specs.Counts.{counted, successes}
+use Rattle.ni_model.specs.Queues.{Waiting, raised}
+use Rattle.ni_model.specs.Events.{send_event}
+use Rattle.ni_model.specs.Answers.{Home, Returned, bound_at}
+use Rattle.ni_model.specs.Starts.{Started, bytes_at, awaits_more, send_counter, send_queue, counted_on}
+use Rattle.ni_model.specs.Append.{need}
+use Rattle.ni_model.specs.Refusals.{put_fits, awaits_something}
+use Rattle.ni_model.specs.Conditions.{IsBoundIn}
+
+-- its rank, the number of ranks, its limits, and the memory descriptors with the answers that each awaits
+pub record Initiating : Type 0 where
+  pub rank : ℕ
+  pub ranks : ℕ
+  pub limits : Limits
+  pub mds : Table Bound
+
+abbrev pub initiating : ℕ → ℕ → Limits → Table Bound → Initiating
+initiating rank ranks limits mds = record { rank = rank; ranks = ranks; limits = limits; mds = mds }
+
+abbrev pub with_mds : Table Bound → Initiating → Initiating
+with_mds mds i = record i { mds = mds }
+
+-- every descriptor's part lies in the region
+abbrev pub AreBoundIn : ℕ → Table Bound → Type 0
+AreBoundIn size mds = All (λ (x : Live Bound). IsBoundIn size x.value) mds.live
+
+abbrev pub by_fault : Option NiFault → Result (Unit {0}) NiFault
+by_fault None = Ok tt
+by_fault (Some fault) = Err fault
+
+-- the descriptor's own refusals of its release: whether an operation names it is looked at beside
+abbrev pub own_release_fault : Handle → Table Bound → Option NiFault
+own_release_fault md mds = need (is_live md mds) Stale (need (not (awaits_something (lookup md mds.live))) InUse None)
+
+abbrev pub awaits_of : Option Bound → Result ℕ NiFault
+awaits_of None = Err Stale
+awaits_of (Some b) = Ok b.awaits
+
+-- the deed starts an operation; the others count
+abbrev pub is_start : Deed → Bool
+is_start (Inc ct by) = false
+is_start (Set ct to) = false
+is_start _ = true
+
+-- the room that a start needs: for the bytes that it sends, and of a get for the reply
+abbrev pub room_for : Deed → ℕ
+room_for (Put a) = a.length
+room_for (Get g) = g.length
+room_for (Atomic a op ty) = a.length
+room_for (FetchAtomic g a op ty) = a.length
+room_for (Swap g a op ty operand) = a.length
+room_for _ = 0
+
+-- the part that put arguments name, where there are some
+abbrev pub args_fit : Option PutArgs → Table Bound → Bool
+args_fit None mds = true
+args_fit (Some a) mds = put_fits a mds
+
+abbrev pub args_length : Option PutArgs → ℕ
+args_length None = 0
+args_length (Some a) = a.length
+
+abbrev pub args_bytes : Option PutArgs → Table Bound → List ℕ → List ℕ
+args_bytes None mds memory = []
+args_bytes (Some a) mds memory = bytes_at (lookup a.md mds.live) a.local_offset a.length memory
+
+abbrev pub has_started : Home → Sent → Option Handle → Started
+has_started home message counted = record { home = home; message = Some message; counted = counted }
+
+abbrev pub has_returned : Home → Outcome → Option Handle → Returned
+has_returned home outcome counted = record { home = home; outcome = outcome; counted = counted }
+
+-- what a start does to the descriptors, the counting events and the queues
+pub record Sending : Type 0 where
+  pub mds : Table Bound
+  pub cts : Table Count
+  pub eqs : Table Waiting
+  pub counted : Option Handle
+
+abbrev pub sent_as : Table Bound → Table Count → Table Waiting → Option Handle → Sending
+sent_as mds cts eqs counted = record { mds = mds; cts = cts; eqs = eqs; counted = counted }
+
+abbrev pub sent_by : Table Bound → Table Count → Table Waiting → Deed → Header → Sending
+sent_by mds cts eqs d h =
+    sent_as
+    (awaits_more h.home mds)
+    (counted (send_counter (bound_at (counted_on d) mds)) (successes 1) cts)
+    (raised (send_queue (bound_at (counted_on d) mds)) (send_event h) eqs)
+    (send_counter (bound_at (counted_on d) mds))

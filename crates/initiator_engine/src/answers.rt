@@ -1,0 +1,146 @@
+//! Acknowledgements and replies that come home.
+
+ghost use Rattle.std.specs.Prelude.{◌≡◌, ◌+◌, ◌≤◌, true, length};
+ghost use Rattle.ni_model.specs.Events.{is_reply as replies, asks_event as asks, answer_event as event_of};
+ghost use Rattle.ni_model.specs.Answers.{bound_at, is_due as due, memory_home, one_answer as count_of_answer, counter_home as counter_of, events_home, awaits_less};
+ghost use Rattle.ni_model.specs.Conditions.{IsBoundIn};
+
+use event_queues::Queue;
+use handle_store::Store;
+use memory_desc::Region;
+use ni_model::Bound;
+use ptl_types::{AckRequest, Count, Event, EventKind, Handle, Header, Message, MessageKind};
+use target_engine::effects::{raise, where_set};
+
+fn is_reply(kind: MessageKind) -> bool
+    ensures { result ≡ replies kind }
+{
+    matches!(kind, MessageKind::Reply)
+}
+
+fn asks_event(ack: AckRequest) -> bool
+    ensures { result ≡ asks ack }
+{
+    matches!(ack, AckRequest::Ack)
+}
+
+/// The live descriptor that a message names.
+pub fn bound_of(mds: &Store<Bound>, home: Option<Handle>) -> Option<Bound>
+    ensures { result ≡ bound_at home mds.now }
+{
+    match home {
+        Some(h) => mds.get(h).copied(),
+        None => None,
+    }
+}
+
+/// Whether the descriptor awaits an answer, and the bytes of a reply that is ok fit it.
+pub fn is_due(header: &Header, bound: &Bound) -> bool
+    ensures { result ≡ due header.now bound.now }
+{
+    let fits = match header.home_offset.checked_add(header.length) {
+        Some(end) => end <= bound.md.length,
+        None => false,
+    };
+    let _length = bound.md.length;
+    bound.awaits > 0 && (!(is_reply(header.kind) && header.ok) || fits)
+}
+
+/// A reply that is ok writes its bytes where the operation said.
+pub fn bring(region: &mut Region, bound: &Bound, message: &Message)
+    requires part { IsBoundIn (length region.old) bound.now }
+    requires due { due message.now.header bound.now ≡ true }
+    ensures { region.new ≡ memory_home bound.now message.now region.old }
+{
+    let _size = region.len();
+    let header = message.header();
+    if is_reply(header.kind) && header.ok {
+        let bytes = message.bytes();
+        region.write(bound.md.start + header.home_offset, bytes.as_slice());
+    }
+}
+
+/// A failure where the answer isn't ok.
+pub fn one_answer(ok: bool) -> Count
+    ensures { result ≡ count_of_answer ok }
+{
+    if ok {
+        Count {
+            success: 1,
+            failure: 0,
+        }
+    } else {
+        Count {
+            success: 0,
+            failure: 1,
+        }
+    }
+}
+
+/// The counting event that an answer counts on.
+pub fn counter_home(header: &Header, bound: &Bound) -> Option<Handle>
+    ensures { result ≡ counter_of header.now bound.now }
+{
+    let counts = if is_reply(header.kind) {
+        bound.md.count_reply
+    } else {
+        bound.md.count_ack
+    };
+    where_set(counts, bound.md.ct)
+}
+
+fn place_home(header: &Header, bound: &Bound) -> u64
+    requires due { due header.now bound.now ≡ true }
+    requires part { bound.now.md.start + bound.now.md.length ≤ 18446744073709551615 }
+    ensures { result ≡ (event_of bound.now header.now).place }
+{
+    if is_reply(header.kind) && header.ok && header.length > 0 {
+        bound.md.start + header.home_offset
+    } else {
+        0
+    }
+}
+
+fn answer_event(header: &Header, bound: &Bound) -> Event
+    requires due { due header.now bound.now ≡ true }
+    requires part { bound.now.md.start + bound.now.md.length ≤ 18446744073709551615 }
+    ensures { result ≡ event_of bound.now header.now }
+{
+    Event {
+        kind: if is_reply(header.kind) {
+            EventKind::Reply
+        } else {
+            EventKind::Ack
+        },
+        source: header.source,
+        pt: header.pt,
+        match_bits: header.match_bits,
+        hdr_data: header.hdr_data,
+        requested: 0,
+        delivered: header.length,
+        place: place_home(header, bound),
+        ok: header.ok,
+    }
+}
+
+/// A reply raises its event, and an acknowledgement where one was asked for.
+pub fn raise_answer(eqs: &mut Store<Queue>, header: &Header, bound: &Bound)
+    requires due { due header.now bound.now ≡ true }
+    requires part { bound.now.md.start + bound.now.md.length ≤ 18446744073709551615 }
+    ensures { eqs.new ≡ events_home header.now bound.now eqs.old }
+{
+    if is_reply(header.kind) || asks_event(header.ack) {
+        raise(eqs, bound.md.eq, answer_event(header, bound));
+    }
+}
+
+/// The descriptor awaits one answer less.
+pub fn await_less(mds: &mut Store<Bound>, home: Option<Handle>)
+    ensures { mds.new ≡ awaits_less home mds.old }
+{
+    if let Some(h) = home {
+        if let Some(bound) = mds.get_mut(h) {
+            bound.awaits = bound.awaits.saturating_sub(1);
+        }
+    }
+}

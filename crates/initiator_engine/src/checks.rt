@@ -1,0 +1,77 @@
+//! Whether the descriptors of a deed are live and hold the parts that it names.
+
+ghost use Rattle.std.specs.Prelude.{◌≡◌};
+ghost use Rattle.ni_model.specs.Tables.{is_live as lives};
+ghost use Rattle.ni_model.specs.Refusals.{holds_part as holds_it, put_fits as put_fit, get_fits as get_fit, deed_is_live as deed_lives, deed_fits as deed_fit};
+
+use crate::answers::bound_of;
+use handle_store::Store;
+use ni_model::Bound;
+use ptl_types::{Deed, GetArgs, Handle, PutArgs};
+
+/// Whether the descriptor is live.
+pub fn is_live(mds: &Store<Bound>, md: Handle) -> bool
+    ensures { result ≡ lives md mds.now }
+{
+    bound_of(mds, Some(md)).is_some()
+}
+
+fn holds_part(bound: Option<Bound>, at: u64, n: u64) -> bool
+    ensures { result ≡ holds_it bound at n }
+{
+    match bound {
+        Some(bound) => match at.checked_add(n) {
+            Some(end) => end <= bound.md.length,
+            None => false,
+        },
+        None => false,
+    }
+}
+
+fn put_fits(mds: &Store<Bound>, args: &PutArgs) -> bool
+    ensures { result ≡ put_fit args.now mds.now }
+{
+    holds_part(
+        bound_of(mds, Some(args.md)),
+        args.local_offset,
+        args.length,
+    )
+}
+
+fn get_fits(mds: &Store<Bound>, args: &GetArgs) -> bool
+    ensures { result ≡ get_fit args.now mds.now }
+{
+    holds_part(
+        bound_of(mds, Some(args.md)),
+        args.local_offset,
+        args.length,
+    )
+}
+
+/// Whether the descriptors that a deed names are live.
+pub fn deed_is_live(mds: &Store<Bound>, deed: &Deed) -> bool
+    ensures { result ≡ deed_lives deed.now mds.now }
+{
+    match deed {
+        Deed::Put(args) => is_live(mds, args.md),
+        Deed::Get(args) => is_live(mds, args.md),
+        Deed::Atomic(args, _, _) => is_live(mds, args.md),
+        Deed::FetchAtomic(back, args, _, _) => is_live(mds, back.md) && is_live(mds, args.md),
+        Deed::Swap(back, args, _, _, _) => is_live(mds, back.md) && is_live(mds, args.md),
+        _ => true,
+    }
+}
+
+/// Whether the parts that a deed names lie in their descriptors.
+pub fn deed_fits(mds: &Store<Bound>, deed: &Deed) -> bool
+    ensures { result ≡ deed_fit deed.now mds.now }
+{
+    match deed {
+        Deed::Put(args) => put_fits(mds, args),
+        Deed::Get(args) => get_fits(mds, args),
+        Deed::Atomic(args, _, _) => put_fits(mds, args),
+        Deed::FetchAtomic(back, args, _, _) => get_fits(mds, back) && put_fits(mds, args),
+        Deed::Swap(back, args, _, _, _) => get_fits(mds, back) && put_fits(mds, args),
+        _ => true,
+    }
+}

@@ -1,0 +1,159 @@
+//! The header of each start.
+
+ghost use Rattle.std.specs.Prelude.{◌≡◌};
+ghost use Rattle.ni_model.specs.Starts.{put_header as put_of, get_header as get_of, fetch_header as fetch_of, header_of as header_by, put_args as args_of, counted_on as counted_by};
+
+use ptl_types::{
+    AckRequest, AtomicOp, Deed, ElemType, GetArgs, Handle, Header, MessageKind, PutArgs, Rank, SwapOp,
+};
+
+fn put_header(
+    rank: Rank,
+    kind: MessageKind,
+    args: &PutArgs,
+    op: Option<AtomicOp>,
+    ty: ElemType,
+) -> Header
+    ensures { result ≡ put_of rank kind args.now op ty }
+{
+    Header {
+        kind,
+        source: rank,
+        target: args.target,
+        pt: args.pt,
+        match_bits: args.match_bits,
+        offset: args.remote_offset,
+        length: args.length,
+        hdr_data: args.hdr_data,
+        op,
+        swap: None,
+        ty,
+        operand: 0,
+        ack: args.ack,
+        home: match args.ack {
+            AckRequest::NoAck => None,
+            _ => Some(args.md),
+        },
+        home_offset: 0,
+        ok: true,
+    }
+}
+
+fn get_header(rank: Rank, args: &GetArgs) -> Header
+    ensures { result ≡ get_of rank args.now }
+{
+    Header {
+        kind: MessageKind::Get,
+        source: rank,
+        target: args.target,
+        pt: args.pt,
+        match_bits: args.match_bits,
+        offset: args.remote_offset,
+        length: args.length,
+        hdr_data: 0,
+        op: None,
+        swap: None,
+        ty: ElemType::U8,
+        operand: 0,
+        ack: AckRequest::NoAck,
+        home: Some(args.md),
+        home_offset: args.local_offset,
+        ok: true,
+    }
+}
+
+/// The reply goes to the place of the get arguments, the rest is of the put arguments.
+fn fetch_atomic_header(
+    rank: Rank,
+    back: &GetArgs,
+    args: &PutArgs,
+    op: AtomicOp,
+    ty: ElemType,
+) -> Header
+    ensures { result ≡ fetch_of rank MessageKind.FetchAtomic back.now args.now (Some op) None ty 0 }
+{
+    Header {
+        kind: MessageKind::FetchAtomic,
+        op: Some(op),
+        ty,
+        hdr_data: args.hdr_data,
+        target: args.target,
+        pt: args.pt,
+        match_bits: args.match_bits,
+        offset: args.remote_offset,
+        length: args.length,
+        ..get_header(rank, back)
+    }
+}
+
+fn swap_header(
+    rank: Rank,
+    back: &GetArgs,
+    args: &PutArgs,
+    op: SwapOp,
+    ty: ElemType,
+    operand: u64,
+) -> Header
+    ensures { result ≡ fetch_of rank MessageKind.Swap back.now args.now None (Some op) ty operand }
+{
+    Header {
+        kind: MessageKind::Swap,
+        swap: Some(op),
+        ty,
+        operand,
+        hdr_data: args.hdr_data,
+        target: args.target,
+        pt: args.pt,
+        match_bits: args.match_bits,
+        offset: args.remote_offset,
+        length: args.length,
+        ..get_header(rank, back)
+    }
+}
+
+/// The header of a deed that starts an operation; none of one that counts.
+pub fn header_of(rank: Rank, deed: &Deed) -> Option<Header>
+    ensures { result ≡ header_by rank deed.now }
+{
+    match deed {
+        Deed::Put(args) => Some(put_header(rank, MessageKind::Put, args, None, ElemType::U8)),
+        Deed::Get(args) => Some(get_header(rank, args)),
+        Deed::Atomic(args, op, ty) => {
+            Some(put_header(rank, MessageKind::Atomic, args, Some(*op), *ty))
+        }
+        Deed::FetchAtomic(back, args, op, ty) => {
+            Some(fetch_atomic_header(rank, back, args, *op, *ty))
+        }
+        Deed::Swap(back, args, op, ty, operand) => {
+            Some(swap_header(rank, back, args, *op, *ty, *operand))
+        }
+        _ => None,
+    }
+}
+
+/// The arguments of what the deed sends.
+pub fn put_args(deed: &Deed) -> Option<PutArgs>
+    ensures { result ≡ args_of deed.now }
+{
+    match deed {
+        Deed::Put(args) => Some(*args),
+        Deed::Atomic(args, _, _) => Some(*args),
+        Deed::FetchAtomic(_, args, _, _) => Some(*args),
+        Deed::Swap(_, args, _, _, _) => Some(*args),
+        _ => None,
+    }
+}
+
+/// The descriptor that the start counts on and tells.
+pub fn counted_on(deed: &Deed) -> Option<Handle>
+    ensures { result ≡ counted_by deed.now }
+{
+    match deed {
+        Deed::Put(args) => Some(args.md),
+        Deed::Get(args) => Some(args.md),
+        Deed::Atomic(args, _, _) => Some(args.md),
+        Deed::FetchAtomic(_, args, _, _) => Some(args.md),
+        Deed::Swap(_, args, _, _, _) => Some(args.md),
+        _ => None,
+    }
+}

@@ -1,0 +1,217 @@
+//! The initiator.
+
+ghost use Rattle.std.specs.Prelude.{◌≡◌, ◌≤◌, ◌+◌, true, false, Some, None, IfOk, IfErr, OnErr, length};
+ghost use Rattle.ni_model.specs.Tables.{no_things, lookup, with_new, without, has_slot, handle, is_live as lives};
+ghost use Rattle.ni_model.specs.Calls.{bound as as_bound};
+ghost use Rattle.ni_model.specs.Answers.{home, answered};
+ghost use Rattle.ni_model.specs.Starts.{started};
+ghost use Rattle.ni_model.specs.Refusals.{bind_fault, deed_fault};
+ghost use Rattle.ni_model.specs.Conditions.{MayStart};
+ghost use Rattle.initiator_engine.specs.Initiators.{sent_as, sent_by, initiating, with_mds, AreBoundIn, by_fault, own_release_fault, awaits_of, is_start, room_for, has_started, has_returned};
+
+use crate::answers::{await_less, bound_of, bring, counter_home, is_due, one_answer, raise_answer};
+use crate::checks::{deed_fits, deed_is_live, is_live};
+use crate::headers::{counted_on, header_of, put_args};
+use crate::starts::{await_more, read_bytes, send_counter, send_event, send_queue};
+use counters::Counter;
+use event_queues::Queue;
+use handle_store::Store;
+use memory_desc::Region;
+use ni_model::Bound;
+use ptl_types::{
+    Bytes, Deed, Descriptor, Handle, Header, Limits, Message, NiFault, NoMemory, Outcome, Rank,
+};
+use std::alloc::Global;
+use std::marker::Model;
+use target_engine::effects::{count, is_live_or_none, raise, successes};
+
+/// An initiator. Its value is its rank, the number of ranks, its limits, and its memory descriptors with the answers that
+/// each awaits.
+#[derive(Drop)]
+pub struct Initiator {
+    rank: Rank,
+    ranks: u32,
+    limits: Limits,
+    mds: Store<Bound>,
+}
+
+impl Model for Initiator {
+    ghost use Rattle.initiator_engine.specs.Initiators.{Initiating, initiating};
+
+    ghost Value = { Initiating };
+
+    ghost view = { λ i. initiating i.rank i.ranks i.limits i.mds };
+}
+
+fn started_with(
+    mds: &mut Store<Bound>,
+    cts: &mut Store<Counter>,
+    eqs: &mut Store<Queue>,
+    deed: &Deed,
+    header: &Header,
+) -> Option<Handle>
+    ensures { sent_as mds.new cts.new eqs.new result ≡ sent_by mds.old cts.old eqs.old deed.now header.now }
+{
+    let bound = bound_of(mds, counted_on(deed));
+    let ct = send_counter(bound);
+    await_more(mds, header.home);
+    count(cts, ct, successes(1));
+    raise(eqs, send_queue(bound), send_event(header));
+    ct
+}
+
+impl Initiator {
+    /// An initiator of this rank among so many, with no descriptor bound. It has the room of its limits.
+    pub fn open(
+        alloc: Global,
+        rank: Rank,
+        ranks: u32,
+        limits: &Limits,
+    ) -> Result<Initiator, NoMemory>
+        ensures { IfOk result (λ i. i ≡ initiating rank ranks limits.now (no_things limits.now.mds)) }
+    {
+        let mds = Store::open(alloc, limits.mds)?;
+        Ok(Initiator {
+            rank,
+            ranks,
+            limits: *limits,
+            mds,
+        })
+    }
+
+    /// Binds a memory descriptor (Portals 4.3, binding memory descriptors). `Stale` where its queue or its counting event
+    /// isn't live, `NoSpace` where the limit is bound or all stamps were given, `OutOfRegion` where its part reaches past
+    /// the region. A refused call changes nothing.
+    pub fn bind(
+        &mut self,
+        region: &Region,
+        cts: &Store<Counter>,
+        eqs: &Store<Queue>,
+        md: Descriptor,
+    ) -> Result<Handle, NiFault>
+        ensures err { IfErr result (λ fault. bind_fault md (length region.now) cts.now eqs.now self.old.mds ≡ Some fault) }
+        ensures unchanged { OnErr result (self.new ≡ self.old) }
+        ensures ok { IfOk result (λ h. bind_fault md (length region.now) cts.now eqs.now self.old.mds ≡ None) }
+        ensures stamp { IfOk result (λ h. h ≡ handle h.slot self.old.mds.given) }
+        ensures free { IfOk result (λ h. has_slot h.slot self.old.mds.live ≡ false) }
+        ensures bound { IfOk result (λ h. self.new ≡ with_mds (with_new h.slot (as_bound md) self.old.mds) self.old) }
+    {
+        if !(is_live_or_none(eqs, md.eq) && is_live_or_none(cts, md.ct)) {
+            return Err(NiFault::Stale);
+        }
+        if self.mds.is_full() {
+            return Err(NiFault::NoSpace);
+        }
+        if !region.fits(md.start, md.length) {
+            return Err(NiFault::OutOfRegion);
+        }
+        match self.mds.insert(Bound { md, awaits: 0 }) {
+            Ok(handle) => Ok(handle),
+            Err(_) => Err(NiFault::NoSpace),
+        }
+    }
+
+    /// Releases a descriptor. `Stale` where it isn't bound, `InUse` where it awaits an answer; a refused call changes
+    /// nothing. Whether a pending operation names it is for the caller to look at.
+    pub fn release(&mut self, md: Handle) -> Result<(), NiFault>
+        ensures answer { result ≡ by_fault (own_release_fault md self.old.mds) }
+        ensures unchanged { OnErr result (self.new ≡ self.old) }
+        ensures released { IfOk result (λ _. self.new ≡ with_mds (without md self.old.mds) self.old) }
+    {
+        match bound_of(&self.mds, Some(md)) {
+            None => Err(NiFault::Stale),
+            Some(bound) if bound.awaits > 0 => Err(NiFault::InUse),
+            Some(_) => {
+                let _ = self.mds.remove(md);
+                Ok(())
+            }
+        }
+    }
+
+    /// Whether the descriptor is bound.
+    pub fn is_bound(&self, md: Handle) -> bool
+        ensures { result ≡ lives md self.now.mds }
+    {
+        is_live(&self.mds, md)
+    }
+
+    /// How many answers the descriptor awaits; `Stale` where it isn't bound.
+    pub fn awaits(&self, md: Handle) -> Result<u64, NiFault>
+        ensures { result ≡ awaits_of (lookup md self.now.mds.live) }
+    {
+        match bound_of(&self.mds, Some(md)) {
+            Some(bound) => Ok(bound.awaits),
+            None => Err(NiFault::Stale),
+        }
+    }
+
+    /// Whether the deed may start as far as its descriptors go: `Stale` where one of them isn't bound, `OutOfRegion` where a
+    /// part that it names reaches past its descriptor.
+    pub fn check(&self, deed: &Deed) -> Result<(), NiFault>
+        ensures { result ≡ by_fault (deed_fault deed.now self.now.mds) }
+    {
+        if !deed_is_live(&self.mds, deed) {
+            return Err(NiFault::Stale);
+        }
+        if !deed_fits(&self.mds, deed) {
+            return Err(NiFault::OutOfRegion);
+        }
+        Ok(())
+    }
+
+    /// Starts an operation: the message that is the caller's to send, and the counting event that rose. The bytes are read
+    /// now, into the room that is brought; a get's reply will use that room.
+    #[tactic(auto, using(crate::proofs::Starting::starting), unfolding(ni_model::specs::Starts::started))]
+    pub fn start(
+        &mut self,
+        region: &Region,
+        cts: &mut Store<Counter>,
+        eqs: &mut Store<Queue>,
+        deed: &Deed,
+        room: Bytes,
+    ) -> (Message, Option<Handle>)
+        requires start { is_start deed.now ≡ true }
+        requires may { MayStart deed.now self.old.ranks self.old.limits }
+        requires checked { deed_fault deed.now self.old.mds ≡ None }
+        requires room { room_for deed.now ≤ room.room }
+        requires inside { AreBoundIn (length region.now) self.old.mds }
+        ensures started { has_started (home self.new.mds region.now cts.new eqs.new) result.0 result.1 ≡ started self.old.rank (home self.old.mds region.now cts.old eqs.old) deed.now }
+        ensures rest { self.new ≡ with_mds self.new.mds self.old }
+    {
+        let header = match header_of(self.rank, deed) {
+            Some(header) => header,
+            None => unreachable!(),
+        };
+        let bytes = read_bytes(region, &self.mds, put_args(deed), room);
+        let message = Message::new(header, bytes);
+        let counted = started_with(&mut self.mds, cts, eqs, deed, &header);
+        (message, counted)
+    }
+
+    /// What an acknowledgement or a reply does where it comes home, but for the drop register: whether it was awaited, and
+    /// the counting event that rose. One that wasn't awaited changes nothing.
+    pub fn answer(
+        &mut self,
+        region: &mut Region,
+        cts: &mut Store<Counter>,
+        eqs: &mut Store<Queue>,
+        message: Message,
+    ) -> (Outcome, Option<Handle>)
+        requires { AreBoundIn (length region.old) self.old.mds }
+        ensures answered { has_returned (home self.new.mds region.new cts.new eqs.new) result.0 result.1 ≡ answered (home self.old.mds region.old cts.old eqs.old) message }
+        ensures rest { self.new ≡ with_mds self.new.mds self.old }
+    {
+        let _size = region.len();
+        let header = *message.header();
+        let bound = match bound_of(&self.mds, header.home) {
+            Some(bound) if is_due(&header, &bound) => bound,
+            _ => return (Outcome::Dropped, None),
+        };
+        bring(region, &bound, &message);
+        let ct = counter_home(&header, &bound);
+        count(cts, ct, one_answer(header.ok));
+        raise_answer(eqs, &header, &bound);
+        await_less(&mut self.mds, header.home);
+        (Outcome::Answered, ct)
+    }
+}

@@ -1,0 +1,83 @@
+//! What a start sends, counts and tells.
+
+ghost use Rattle.std.specs.Prelude.{◌≡◌, ◌≤◌, true, length};
+ghost use Rattle.ni_model.specs.Starts.{send_counter as send_counter_of, send_queue as send_queue_of, awaits_more};
+ghost use Rattle.ni_model.specs.Events.{send_event as event_of};
+ghost use Rattle.initiator_engine.specs.Initiators.{AreBoundIn, args_fit, args_length, args_bytes};
+
+use crate::answers::bound_of;
+use handle_store::Store;
+use memory_desc::Region;
+use ni_model::Bound;
+use ptl_types::{Bytes, Event, EventKind, Handle, Header, PutArgs};
+use target_engine::effects::where_set;
+
+/// The bytes that are sent, in the room that was brought.
+pub fn read_bytes(
+    region: &Region,
+    mds: &Store<Bound>,
+    args: Option<PutArgs>,
+    mut room: Bytes,
+) -> Bytes
+    requires inside { AreBoundIn (length region.now) mds.now }
+    requires fits { args_fit args mds.now ≡ true }
+    requires room { args_length args ≤ room.room }
+    ensures list { result.list ≡ args_bytes args mds.now region.now }
+    ensures length { length result.list ≡ args_length args }
+    ensures room { result.room ≡ room.room }
+{
+    let _size = region.len();
+    room.clear();
+    if let Some(args) = args {
+        if let Some(bound) = bound_of(mds, Some(args.md)) {
+            let from = bound.md.start + args.local_offset;
+            region.read_into(from, &mut room, args.length);
+        }
+    }
+    room
+}
+
+pub fn send_counter(bound: Option<Bound>) -> Option<Handle>
+    ensures { result ≡ send_counter_of bound }
+{
+    match bound {
+        Some(bound) => where_set(bound.md.count_send, bound.md.ct),
+        None => None,
+    }
+}
+
+pub fn send_queue(bound: Option<Bound>) -> Option<Handle>
+    ensures { result ≡ send_queue_of bound }
+{
+    match bound {
+        Some(bound) => bound.md.eq,
+        None => None,
+    }
+}
+
+pub fn send_event(header: &Header) -> Event
+    ensures { result ≡ event_of header.now }
+{
+    Event {
+        kind: EventKind::Send,
+        source: header.source,
+        pt: header.pt,
+        match_bits: header.match_bits,
+        hdr_data: header.hdr_data,
+        requested: header.length,
+        delivered: 0,
+        place: 0,
+        ok: true,
+    }
+}
+
+/// The descriptor awaits one answer more.
+pub fn await_more(mds: &mut Store<Bound>, home: Option<Handle>)
+    ensures { mds.new ≡ awaits_more home mds.old }
+{
+    if let Some(h) = home {
+        if let Some(bound) = mds.get_mut(h) {
+            bound.awaits = bound.awaits.saturating_add(1);
+        }
+    }
+}

@@ -1,0 +1,103 @@
+//! A put with an acknowledgement, and a get whose reply is written home.
+
+use crate::Initiator;
+use counters::Counter;
+use event_queues::Queue;
+use handle_store::Store;
+use memory_desc::Region;
+use ptl_types::{
+    AckRequest, Bytes, Deed, Descriptor, ElemType, GetArgs, Handle, Header, Limits, Message,
+    MessageKind, NiFault, Outcome, PutArgs,
+};
+use std::test::Fail;
+
+const LIMITS: Limits = Limits {
+    entries: 1,
+    unexpected: 1,
+    mds: 1,
+    cts: 1,
+    eqs: 1,
+    pts: 1,
+    triggered: 1,
+    msg: 8,
+    atomic: 8,
+    fetch_atomic: 8,
+};
+
+const DESCRIPTOR: Descriptor = Descriptor {
+    start: 1,
+    length: 3,
+    eq: None,
+    ct: None,
+    count_send: false,
+    count_reply: false,
+    count_ack: false,
+};
+
+fn answer_of(kind: MessageKind, home: Handle, length: u64) -> Header {
+    Header {
+        kind,
+        source: 1,
+        target: 0,
+        pt: 0,
+        match_bits: 5,
+        offset: 0,
+        length,
+        hdr_data: 0,
+        op: None,
+        swap: None,
+        ty: ElemType::U8,
+        operand: 0,
+        ack: AckRequest::CtAck,
+        home: Some(home),
+        home_offset: 1,
+        ok: true,
+    }
+}
+
+#[test]
+fn a_descriptor_awaits_its_acknowledgement_once(rt: HostRuntime) -> Result<(), Fail> {
+    let mut region = Region::new(Bytes::of(rt.alloc(), &[9, 1, 2, 3, 9])?);
+    let mut cts: Store<Counter> = Store::open(rt.alloc(), 1)?;
+    let mut eqs: Store<Queue> = Store::open(rt.alloc(), 1)?;
+    let mut initiator = Initiator::open(rt.alloc(), 0, 2, &LIMITS)?;
+    let past_the_end = Descriptor {
+        length: 5,
+        ..DESCRIPTOR
+    };
+    assert_eq!(rt; initiator.bind(&region, &cts, &eqs, past_the_end), Err(NiFault::OutOfRegion));
+    let md = Handle { slot: 0, stamp: 0 };
+    assert_eq!(rt; initiator.bind(&region, &cts, &eqs, DESCRIPTOR), Ok(md));
+    assert_eq!(rt; initiator.bind(&region, &cts, &eqs, DESCRIPTOR), Err(NiFault::NoSpace));
+    let deed = Deed::Put(PutArgs {
+        md,
+        local_offset: 1,
+        length: 3,
+        ack: AckRequest::CtAck,
+        target: 1,
+        pt: 0,
+        match_bits: 5,
+        remote_offset: 0,
+        hdr_data: 0,
+    });
+    assert_eq!(rt; initiator.check(&deed), Err(NiFault::OutOfRegion));
+    assert_eq!(rt; initiator.awaits(md), Ok(0));
+    let stray = Message::new(answer_of(MessageKind::Ack, md, 0), Bytes::empty(rt.alloc()));
+    let (outcome, counted) = initiator.answer(&mut region, &mut cts, &mut eqs, stray);
+    assert_eq!(rt; outcome, Outcome::Dropped);
+    assert!(rt; counted.is_none());
+    let get = Deed::Get(GetArgs {
+        md,
+        local_offset: 1,
+        length: 2,
+        target: 1,
+        pt: 0,
+        match_bits: 5,
+        remote_offset: 0,
+    });
+    assert_eq!(rt; initiator.check(&get), Ok(()));
+    assert_eq!(rt; initiator.release(md), Ok(()));
+    assert_eq!(rt; initiator.release(md), Err(NiFault::Stale));
+    assert_eq!(rt; initiator.check(&get), Err(NiFault::Stale));
+    Ok(())
+}
