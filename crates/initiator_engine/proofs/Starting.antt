@@ -1,8 +1,8 @@
 -- A start that is allowed has a header, its parts fit, and what it sends belongs together.
-use Rattle.std.proofs.Common.{◌≡◌, ℕ, ◌+◌, ◌%◌, ◌≤◌, Bool, true, false, ◌&&◌, List, length, Option, Some, None, is_some, IsTrue, refl, subst, arith}
+use Rattle.std.proofs.Common.{◌≡◌, ℕ, ◌%◌, ◌≤◌, Bool, true, false, ◌&&◌, List, length, Option, Some, None, is_some, refl, subst, arith}
 use Rattle.std.proofs.Math.Nat.{mod_self}
 use Rattle.ptl_types.specs.declared.headers.Header.{Header}
-use Rattle.ptl_types.specs.declared.headers.MessageKind.TheVariants.{Put as PutKind, Get as GetKind, Atomic as AtomicKind, FetchAtomic as FetchAtomicKind, Swap as SwapKind}
+use Rattle.ptl_types.specs.declared.headers.MessageKind.TheVariants.{Put as PutKind, Atomic as AtomicKind, FetchAtomic as FetchAtomicKind, Swap as SwapKind}
 use Rattle.ptl_types.specs.declared.elements.ElemType.TheVariants.{U8}
 use Rattle.ptl_types.specs.declared.calls.Limits.{Limits}
 use Rattle.ptl_types.specs.declared.calls.NiFault.{NiFault}

@@ -1,16 +1,15 @@
 -- What an initiator is seen as, and what its calls ask for and answer.
-use Rattle.std.specs.Prelude.{ℕ, Bool, true, false, not, ◌≤◌, List, [], Option, Some, None, Result, Ok, Err, All, length}
+use Rattle.std.specs.Prelude.{ℕ, Bool, true, false, List, [], Option, Some, None, Result, Ok, Err, All}
 use Rattle.ptl_types.specs.declared.handles.Handle.{Handle}
 use Rattle.ptl_types.specs.declared.calls.Limits.{Limits}
 use Rattle.ptl_types.specs.declared.calls.NiFault.{NiFault}
-use Rattle.ptl_types.specs.declared.calls.NiFault.TheVariants.{Stale, InUse}
 use Rattle.ptl_types.specs.declared.calls.Outcome.{Outcome}
 use Rattle.ptl_types.specs.declared.calls.PutArgs.{PutArgs}
 use Rattle.ptl_types.specs.declared.calls.Deed.{Deed}
 use Rattle.ptl_types.specs.declared.calls.Deed.TheVariants.{Put, Get, Atomic, FetchAtomic, Swap, Inc, Set}
 use Rattle.ptl_types.specs.Messages.{Sent}
 use Rattle.ni_model.specs.declared.Bound.{Bound}
-use Rattle.ni_model.specs.Tables.{Table, Live, lookup, is_live}
+use Rattle.ni_model.specs.Tables.{Table, Live, lookup}
 use Rattle.ptl_types.specs.declared.handles.Count.{Count}
 use Rattle.ptl_types.specs.declared.headers.Header.{Header}
 use Rattle.ni_model.specs.Counts.{counted, successes}
@@ -18,8 +17,7 @@ use Rattle.ni_model.specs.Queues.{Waiting, raised}
 use Rattle.ni_model.specs.Events.{send_event}
 use Rattle.ni_model.specs.Answers.{Home, Returned, bound_at}
 use Rattle.ni_model.specs.Starts.{Started, bytes_at, awaits_more, send_counter, send_queue, counted_on}
-use Rattle.ni_model.specs.Append.{need}
-use Rattle.ni_model.specs.Refusals.{put_fits, awaits_something}
+use Rattle.ni_model.specs.Refusals.{put_fits}
 use Rattle.ni_model.specs.Conditions.{IsBoundIn}
 
 -- its rank, the number of ranks, its limits, and the memory descriptors with the answers that each awaits
@@ -42,14 +40,6 @@ AreBoundIn size mds = All (λ (x : Live Bound). IsBoundIn size x.value) mds.live
 abbrev pub by_fault : Option NiFault → Result (Unit {0}) NiFault
 by_fault None = Ok tt
 by_fault (Some fault) = Err fault
-
--- the descriptor's own refusals of its release: whether an operation names it is looked at beside
-abbrev pub own_release_fault : Handle → Table Bound → Option NiFault
-own_release_fault md mds = need (is_live md mds) Stale (need (not (awaits_something (lookup md mds.live))) InUse None)
-
-abbrev pub awaits_of : Option Bound → Result ℕ NiFault
-awaits_of None = Err Stale
-awaits_of (Some b) = Ok b.awaits
 
 -- the deed starts an operation; the others count
 abbrev pub is_start : Deed → Bool

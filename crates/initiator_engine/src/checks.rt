@@ -31,21 +31,13 @@ fn holds_part(bound: Option<Bound>, at: u64, n: u64) -> bool
 fn put_fits(mds: &Store<Bound>, args: &PutArgs) -> bool
     ensures { result ≡ put_fit args.now mds.now }
 {
-    holds_part(
-        bound_of(mds, Some(args.md)),
-        args.local_offset,
-        args.length,
-    )
+    holds_part(bound_of(mds, Some(args.md)), args.local_offset, args.length)
 }
 
 fn get_fits(mds: &Store<Bound>, args: &GetArgs) -> bool
     ensures { result ≡ get_fit args.now mds.now }
 {
-    holds_part(
-        bound_of(mds, Some(args.md)),
-        args.local_offset,
-        args.length,
-    )
+    holds_part(bound_of(mds, Some(args.md)), args.local_offset, args.length)
 }
 
 /// Whether the descriptors that a deed names are live.

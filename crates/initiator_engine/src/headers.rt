@@ -4,7 +4,8 @@ ghost use Rattle.std.specs.Prelude.{◌≡◌};
 ghost use Rattle.ni_model.specs.Starts.{put_header as put_of, get_header as get_of, fetch_header as fetch_of, header_of as header_by, put_args as args_of, counted_on as counted_by};
 
 use ptl_types::{
-    AckRequest, AtomicOp, Deed, ElemType, GetArgs, Handle, Header, MessageKind, PutArgs, Rank, SwapOp,
+    AckRequest, AtomicOp, Deed, ElemType, GetArgs, Handle, Header, MessageKind, PutArgs, Rank,
+    SwapOp,
 };
 
 fn put_header(

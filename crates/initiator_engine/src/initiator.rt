@@ -2,12 +2,12 @@
 
 ghost use Rattle.std.specs.Prelude.{◌≡◌, ◌≤◌, ◌+◌, true, false, Some, None, IfOk, IfErr, OnErr, length};
 ghost use Rattle.ni_model.specs.Tables.{no_things, lookup, with_new, without, has_slot, handle, is_live as lives};
-ghost use Rattle.ni_model.specs.Calls.{bound as as_bound};
+ghost use Rattle.ni_model.specs.Calls.{bound as as_bound, awaits_of};
 ghost use Rattle.ni_model.specs.Answers.{home, answered};
 ghost use Rattle.ni_model.specs.Starts.{started};
-ghost use Rattle.ni_model.specs.Refusals.{bind_fault, deed_fault};
+ghost use Rattle.ni_model.specs.Refusals.{bind_fault, deed_fault, own_release_fault};
 ghost use Rattle.ni_model.specs.Conditions.{MayStart};
-ghost use Rattle.initiator_engine.specs.Initiators.{sent_as, sent_by, initiating, with_mds, AreBoundIn, by_fault, own_release_fault, awaits_of, is_start, room_for, has_started, has_returned};
+ghost use Rattle.initiator_engine.specs.Initiators.{sent_as, sent_by, initiating, with_mds, AreBoundIn, by_fault, is_start, room_for, has_started, has_returned};
 
 use crate::answers::{await_less, bound_of, bring, counter_home, is_due, one_answer, raise_answer};
 use crate::checks::{deed_fits, deed_is_live, is_live};

@@ -65,10 +65,16 @@ fn a_descriptor_awaits_its_acknowledgement_once(rt: HostRuntime) -> Result<(), F
         length: 5,
         ..DESCRIPTOR
     };
-    assert_eq!(rt; initiator.bind(&region, &cts, &eqs, past_the_end), Err(NiFault::OutOfRegion));
+    assert_eq!(rt;
+        initiator.bind(&region, &cts, &eqs, past_the_end),
+        Err(NiFault::OutOfRegion)
+    );
     let md = Handle { slot: 0, stamp: 0 };
     assert_eq!(rt; initiator.bind(&region, &cts, &eqs, DESCRIPTOR), Ok(md));
-    assert_eq!(rt; initiator.bind(&region, &cts, &eqs, DESCRIPTOR), Err(NiFault::NoSpace));
+    assert_eq!(rt;
+        initiator.bind(&region, &cts, &eqs, DESCRIPTOR),
+        Err(NiFault::NoSpace)
+    );
     let deed = Deed::Put(PutArgs {
         md,
         local_offset: 1,

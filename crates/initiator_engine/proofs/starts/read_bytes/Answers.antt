@@ -1,4 +1,4 @@
-use Rattle.std.proofs.Common.{◌≡◌, ◌+◌, ◌≤◌, true, Some, length, sym, ◌∙◌, arith}
+use Rattle.std.proofs.Common.{◌≡◌, ◌+◌, ◌≤◌, true, length, sym, ◌∙◌, arith}
 use Rattle.op_laws.proofs.Bytes.{length-part}
 use Rattle.ni_model.specs.Refusals.{put_fits}
 use Rattle.initiator_engine.proofs.Bounds.{part-fits}

@@ -1,7 +1,6 @@
-use Rattle.std.proofs.Common.{◌≡◌, ◌≤◌, Some, length, sym, ap, ◌∙◌}
+use Rattle.std.proofs.Common.{◌≡◌, ◌≤◌, Some, length, sym, ◌∙◌}
 use Rattle.ni_model.specs.Starts.{header_of, put_args}
-use Rattle.ni_model.specs.Conditions.{MayStart}
-use Rattle.initiator_engine.specs.Initiators.{Initiating, args_length, room_for}
+use Rattle.initiator_engine.specs.Initiators.{args_length, room_for}
 use Rattle.initiator_engine.proofs.Starting.{start-fills}
 use Rattle.initiator_engine.proofs.initiator.Initiator.start.Goals as goal
 
