@@ -1,5 +1,5 @@
 -- Every moment of an interleaving is a cut.
-use Rattle.std.proofs.Common.{ℕ, suc, Bool, true, false, cond, not, ◌&&◌, ◌||◌, ◌≡◌, ◌<◌, ◌≤◌, ◌==◌, List, [], ◌∷◌, ◌++◌, refl, length, ap, ap₂, ◌∙◌, sym, subst, inl, inr, filter, Option, Some, None, if◌then◌else◌, arith, count_by, eq-eqb, eqb-true, append-nil, append_assoc}
+use Rattle.std.proofs.Common.{zero, suc, ℕ, suc, Bool, true, false, cond, not, ◌&&◌, ◌||◌, ◌≡◌, ◌<◌, ◌≤◌, ◌==◌, List, [], ◌∷◌, ◌++◌, refl, length, ap, ap₂, ◌∙◌, sym, subst, inl, inr, filter, Option, Some, None, if◌then◌else◌, arith, count_by, eq-eqb, eqb-true, append-nil, append_assoc}
 use Rattle.std.proofs.lemmas.Bool.{cases_Bool, cases_eq, and_parts, ne_eqb}
 use Rattle.std.proofs.lemmas.List.Elements.{filter-append}
 use Rattle.ptl_types.specs.declared.headers.Header.{Header}
@@ -22,14 +22,14 @@ use Rattle.ni_model.specs.Conditions.{IsKept}
 use Rattle.ptl_types.specs.Messages.{bytes_due}
 use Rattle.plan_cuts.specs.History.Local.{Fire, Receive, Start}
 use Rattle.plan_cuts.specs.Cut.{IsAtRest, IsCut, Run, end_of, got_by, is_stray, owned, sent_by, start_of}
-use Rattle.ni_model.specs.Ready.{is_ready}
-use Rattle.plan_cuts.specs.Moment.{IsEnabled, IsMoment, IsStep, IsStill, IsStuck, Lanes, longer}
+use Rattle.ni_model.specs.Ready.{is_ready, fired}
+use Rattle.plan_cuts.specs.Moment.{IsEnabled, IsMoment, IsStep, IsStill, IsStuck, Lanes, longer, HasWindow}
 use Rattle.plan_core.proofs.Lists.{In-append_left, In-append_right, In-filter_cases, In-map_cases, count-cons}
 use Rattle.plan_core.proofs.Links.{out_links-In}
 use Rattle.plan_core.proofs.Values.{length-due, length-value}
 use Rattle.plan_machine.proofs.Central.{all_good, ours_nothing, outs_good}
 use Rattle.plan_cuts.proofs.Simulate.{link-no_stray}
-use Rattle.plan_cuts.proofs.Origin.{ack_with, Reply, legal_got, made_from}
+use Rattle.plan_cuts.proofs.Origin.{ack_with, Reply, legal_got, made_from, IsOf, after_of, fired_link}
 use Rattle.plan_cuts.proofs.Traffic.{as_message, goes_to, outs_are}
 use Rattle.plan_cuts.proofs.FromCut.{installed_of, machine_cut, moves_at, sent_requests, simulation, stray_request}
 use Rattle.plan_cuts.proofs.Due.{next_answer_due, sent_ack}
@@ -249,27 +249,50 @@ rest_still p inputs w held m h = record {
   idle = h.idle;
 }
 
+-- an operation that sends goes to a rank
+target_known : (p : Plan) (inputs : Inputs) → SoundPlan p (length inputs) → (w : ℕ → Run) (r t : ℕ) (m : Sent) → (fired (end_of p inputs w r) t).message ≡ Some m → m.header.target < p.ranks
+target_known p inputs sound w r t m e =
+    let k = fired_link p (w r).slots r t (end_of p inputs w r) m (state_of (start_of p (w r) r) (w r).history (install p inputs (w r).slots r) (installed_of p inputs (w r).slots r)) e in
+    let q = out_links-In p r k.l k.out in
+    subst (λ n. n < p.ranks) (sym (ap (λ (h : Header). h.target) k.header)) (sound.ranks_known (link p k.l).target (sound.links_sound k.l q.0).cells)
+  where
+    state_of : (go : Beginning) (es : List Local) (v : State) → IsOf p (w r).slots r v → IsOf p (w r).slots r (state go v es)
+    state_of go [] v h = h
+    state_of go (x ∷ es) v h = state_of go es (after go v x) (after_of p (w r).slots r go v x h)
+
 -- under a window of at least one message, a moment at which no step is possible is one at which none is enabled
-pub stuck_still : (p : Plan) (inputs : Inputs) (w : ℕ → Run) (held : Lanes) (window : ℕ) → 0 < window → IsStuck p inputs w held window → IsStill p inputs w held
-stuck_still p inputs w held window some h = record {
-  started = h.started;
+pub stuck_still : (p : Plan) (inputs : Inputs) → SoundPlan p (length inputs) → (w : ℕ → Run) (held : Lanes) (window : ℕ) → 0 < window → IsStuck p inputs w held window → IsStill p inputs w held
+stuck_still p inputs sound w held window some stuck = record {
+  started = λ r hr. more (count_by is_start (w r).history) (λ e. stuck r Start hr e tt tt);
   empty = λ s d lane hs hd. empty s d lane hs hd;
   idle = λ r t hr. elim (cases_Bool (is_ready (end_of p inputs w r) t)) [
     | inr e ↦ e
-    | inl e ↦ (let k = h.full r t hr e in let z = ap length (requests r k.0 hr k.1) in let m = k.2 in absurd (omega (arith, z, m)))
+    | inl e ↦ absurd (stuck r (Fire t) hr e tt (goes r t hr (fired (end_of p inputs w r) t).message refl))
   ];
 }
   where
+    more : (n : ℕ) → (n ≡ 0 → ⊥) → 0 < n
+    more zero h = absurd (h refl)
+    more (suc n) h = omega arith
+
+    answers : (s d : ℕ) → s < p.ranks → d < p.ranks → held s d Answer ≡ []
+    answers s d hs hd = at (held s d Answer) refl
+      where
+        at : (ms : List Sent) → held s d Answer ≡ ms → ms ≡ []
+        at [] e = refl
+        at (m ∷ later) e = absurd (stuck d (Receive s Answer m) hd hs (later, e) tt)
+
     requests : (s d : ℕ) → s < p.ranks → d < p.ranks → held s d Request ≡ []
     requests s d hs hd = at (held s d Request) refl
       where
-        not_nil : {m : Sent} {ms : List Sent} → m ∷ ms ≡ [] → ⊥
-        not_nil e = cc
-
         at : (ms : List Sent) → held s d Request ≡ ms → ms ≡ []
         at [] e = refl
-        at (m ∷ ms) e = absurd (let k = h.blocked s d hs hd (λ q. not_nil (sym e ∙ q)) in let z = ap length (h.no_answer d s hd hs) in omega (arith, k, z))
+        at (m ∷ later) e = absurd (stuck d (Receive s Request m) hd hs (later, e) (let z = ap length (answers d s hd hs) in omega (arith, z, some)))
+
+    goes : (r t : ℕ) → r < p.ranks → (o : Option Sent) → (fired (end_of p inputs w r) t).message ≡ o → HasWindow held window r o
+    goes r t hr None e = tt
+    goes r t hr (Some m) e = let z = ap length (requests r m.header.target hr (target_known p inputs sound w r t m e)) in omega (arith, z, some)
 
     empty : (s d : ℕ) (lane : Lane) → s < p.ranks → d < p.ranks → held s d lane ≡ []
     empty s d Request hs hd = requests s d hs hd
-    empty s d Answer hs hd = h.no_answer s d hs hd
+    empty s d Answer hs hd = answers s d hs hd

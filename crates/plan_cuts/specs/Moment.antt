@@ -1,10 +1,10 @@
 -- Interleavings: histories and lanes, and one step of one rank.
-use Rattle.std.specs.Prelude.{ℕ, false, ◌==◌, ◌<◌, ◌≡◌, List, [], ◌∷◌, ◌++◌, if◌then◌else◌, filter, count_by, IsTrue, ◌≤◌, length, true}
+use Rattle.std.specs.Prelude.{ℕ, Option, Some, None, false, ◌==◌, ◌<◌, ◌≡◌, List, [], ◌∷◌, ◌++◌, if◌then◌else◌, filter, count_by, IsTrue, length}
 use Rattle.ptl_types.specs.Messages.{Sent}
 use Rattle.ptl_types.specs.declared.headers.Lane.{Lane}
 use Rattle.ptl_types.specs.declared.headers.Lane.TheVariants.{Answer, Request}
 use Rattle.plan_core.specs.Plan.{Plan}
-use Rattle.ni_model.specs.Ready.{is_ready}
+use Rattle.ni_model.specs.Ready.{fired, is_ready}
 use Rattle.plan_cuts.specs.History.{Local, and_then, got, is_for, is_start, made_by}
 use Rattle.plan_cuts.specs.History.Local.{Fire, Receive, Start}
 use Rattle.plan_cuts.specs.Cut.{IsCut, Run, end_of, got_by, sent_by}
@@ -47,11 +47,26 @@ pub record IsStill (p : Plan) (inputs : Inputs) (w : ℕ → Run) (held : Lanes)
   pub empty : (s d : ℕ) (lane : Lane) → s < p.ranks → d < p.ranks → held s d lane ≡ []
   pub idle : (r t : ℕ) → r < p.ranks → is_ready (end_of p inputs w r) t ≡ false
 
--- no step is possible under a window: what stands in the way of each enabled one
-pub record IsStuck (p : Plan) (inputs : Inputs) (w : ℕ → Run) (held : Lanes) (window : ℕ) : Type 0 where
-  pub started : (r : ℕ) → r < p.ranks → 0 < count_by is_start (w r).history
-  -- an operation is ready only at a rank that has a full request lane
-  pub full : (r t : ℕ) → r < p.ranks → is_ready (end_of p inputs w r) t ≡ true → (d : ℕ) × (d < p.ranks) × (window ≤ length (held r d Request))
-  pub no_answer : (s d : ℕ) → s < p.ranks → d < p.ranks → held s d Answer ≡ []
-  -- the answer lane of a request that waits is full
-  pub blocked : (s d : ℕ) → s < p.ranks → d < p.ranks → (held s d Request ≡ [] → ⊥) → window ≤ length (held d s Answer)
+-- ---- windows: how many messages a lane may hold
+
+-- the step takes the first message of its lane
+abbrev pub IsOffered : Lanes → ℕ → Local → Type 0
+IsOffered held r (Receive s lane m) = (later : List Sent) × (held s r lane ≡ m ∷ later)
+IsOffered held r _ = Unit {0}
+
+-- the message, if there is one, finds room on the request lane to its target
+abbrev pub HasWindow : Lanes → ℕ → ℕ → Option Sent → Type 0
+HasWindow held window r None = Unit {0}
+HasWindow held window r (Some m) = length (held r m.header.target Request) < window
+
+-- an enabled step is possible under a window: a start, a receipt of an answer; a firing whose message finds room; a receipt of a
+-- request whose answer would find room
+abbrev pub IsPossible : Plan → Inputs → (ℕ → Run) → Lanes → ℕ → ℕ → Local → Type 0
+IsPossible p inputs w held window r Start = Unit {0}
+IsPossible p inputs w held window r (Fire t) = HasWindow held window r (fired (end_of p inputs w r) t).message
+IsPossible p inputs w held window r (Receive s Answer m) = Unit {0}
+IsPossible p inputs w held window r (Receive s Request m) = length (held r s Answer) < window
+
+-- no enabled step is possible
+abbrev pub IsStuck : Plan → Inputs → (ℕ → Run) → Lanes → ℕ → Type 0
+IsStuck p inputs w held window = (r : ℕ) (e : Local) → r < p.ranks → IsEnabled p inputs w r e → IsOffered held r e → IsPossible p inputs w held window r e → ⊥

@@ -86,7 +86,8 @@ pub fn each_moment()
 /// Under a window of at least one message a moment at which no step is possible is at rest.
 pub fn windows()
     ensures { (plan : Plan) (inputs : Inputs) (world : ℕ → Run) (held : Lanes) (window : ℕ) →
-        0 < window → IsMoment plan inputs world held → IsStuck plan inputs world held window →
+        SoundPlan plan (length inputs) → 0 < window → IsMoment plan inputs world held →
+        IsStuck plan inputs world held window →
         IsAtRest plan inputs world }
 {}
 
