@@ -3,6 +3,8 @@
 
 mod lines;
 mod pieces;
+#[cfg(test)]
+mod tests;
 
 pub use lines::{refusal_line, rest_line, result_line};
 pub use pieces::{PIECE, Pieces, write_short};

@@ -1,0 +1,88 @@
+//! The ends over the system's traits, and the ends in memory.
+
+use crate::{
+    Failed, IoTurn, IoTurns, MemorySink, MemorySource, Sink, Source, StdSink, StdSource, SureSink,
+    SureSource,
+};
+use ptl_types::Bytes;
+use std::io;
+use std::io::{Read, Write};
+use std::test::Fail;
+
+/// A reader that is broken, and a writer that takes nothing.
+#[derive(Drop)]
+struct Broken;
+
+impl Read for Broken {
+    fn read(&mut self, _buf: &mut [u8]) -> io::Result<usize> {
+        Err(io::Error::from(io::ErrorKind::BrokenPipe))
+    }
+}
+
+impl Write for Broken {
+    fn write(&mut self, _buf: &[u8]) -> io::Result<usize> {
+        Ok(0)
+    }
+
+    fn flush(&mut self) -> io::Result<()> {
+        Err(io::Error::from(io::ErrorKind::BrokenPipe))
+    }
+}
+
+#[test]
+fn a_source_over_a_reader(rt: HostRuntime) {
+    let mut into = [0u8; 4];
+    let mut source = StdSource::new(b"abc".as_slice());
+    assert_eq!(rt; source.read(&mut into), Ok(3));
+    assert_eq!(rt; into.as_slice(), b"abc\0".as_slice());
+    assert_eq!(rt; source.read(&mut into), Ok(0));
+    assert_eq!(rt; StdSource::new(Broken).read(&mut into), Err(Failed));
+}
+
+#[test]
+fn a_sink_over_a_writer(rt: HostRuntime) {
+    let mut sink = StdSink::new(io::sink());
+    assert_eq!(rt; sink.write(b"abc"), Ok(3));
+    assert_eq!(rt; sink.finish(), Ok(()));
+    let mut broken = StdSink::new(Broken);
+    assert_eq!(rt; broken.write(b"abc"), Err(Failed));
+    assert_eq!(rt; broken.write(b""), Ok(0));
+    assert_eq!(rt; broken.finish(), Err(Failed));
+}
+
+#[test]
+fn ends_that_never_fail(rt: HostRuntime) -> Result<(), Fail> {
+    let alloc = rt.alloc();
+    let mut into = [0u8; 2];
+    let mut source = SureSource::new(Bytes::of(alloc, b"abc")?);
+    assert_eq!(rt; source.read(&mut into), Ok(2));
+    assert_eq!(rt; source.read(&mut into), Ok(1));
+    assert_eq!(rt; into, [b'c', b'b']);
+    let mut sink = SureSink::with_room(alloc, 4)?;
+    assert_eq!(rt; sink.write(b"abcdef"), Ok(6));
+    assert_eq!(rt; sink.as_slice(), b"abcd".as_slice());
+    assert_eq!(rt; sink.more(), 2);
+    assert_eq!(rt; sink.finish(), Ok(()));
+    assert_eq!(rt; sink.finishes(), 1);
+    Ok(())
+}
+
+#[test]
+fn ends_that_follow_a_script(rt: HostRuntime) -> Result<(), Fail> {
+    let alloc = rt.alloc();
+    let mut into = [0u8; 4];
+    let mut turns = IoTurns::new(alloc);
+    turns.add(IoTurn::Take(1))?;
+    turns.add(IoTurn::Fail)?;
+    let mut source = MemorySource::new(Bytes::of(alloc, b"abc")?, turns);
+    assert_eq!(rt; source.read(&mut into), Ok(1));
+    assert_eq!(rt; source.read(&mut into), Err(Failed));
+    assert_eq!(rt; source.read(&mut into), Ok(2));
+    let mut sink = MemorySink::new(alloc, IoTurns::new(alloc));
+    assert_eq!(rt; sink.write(b"a"), Err(Failed));
+    assert_eq!(rt; sink.faults(), 1);
+    assert_eq!(rt; sink.finish(), Ok(()));
+    assert_eq!(rt; sink.finishes(), 1);
+    assert!(rt; sink.as_slice().is_empty());
+    Ok(())
+}
