@@ -1,0 +1,4 @@
+pub mod Answered
+pub mod Due
+pub mod ReadText
+pub mod Written
