@@ -10,6 +10,8 @@ mod index;
 mod nic;
 mod pending;
 mod starts;
+#[cfg(test)]
+mod tests;
 
 pub use nic::Nic;
 pub use ptl_types::{Appended, Deed, Delivered, Limits, NiFault, Outcome, PutArgs};

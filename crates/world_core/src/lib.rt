@@ -10,4 +10,7 @@ mod root;
 mod setting;
 mod world;
 
+#[cfg(test)]
+mod tests;
+
 pub use world::World;
