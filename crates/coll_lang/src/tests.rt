@@ -62,8 +62,8 @@ fn what_runs_so_far(rt: HostRuntime) {
 }
 
 #[test]
-fn refusals_of_lines(rt: HostRuntime) {
-    let cases: [(&[u8], u32, &'static str); 40] = [
+fn refusals_of_the_first_lines(rt: HostRuntime) {
+    let cases: [(&[u8], u32, &'static str); 10] = [
         (b"", 1, "Unended"),
         (b"coll 1", 1, "Unended"),
         (b"coll 1\r\n", 1, "BadByte"),
@@ -74,6 +74,15 @@ fn refusals_of_lines(rt: HostRuntime) {
         (b"coll 1\nranks 65\n", 2, "BadRanks"),
         (b"coll 1\nranks 01\n", 2, "BadRanks"),
         (b"coll 1\nranks 1 \n", 2, "BadRanks"),
+    ];
+    for (text, line, name) in cases.iter() {
+        assert_eq!(rt; answer(parse_all(rt.alloc(), text)), Some((*line, *name)));
+    }
+}
+
+#[test]
+fn refusals_of_inputs(rt: HostRuntime) {
+    let cases: [(&[u8], u32, &'static str); 10] = [
         (b"coll 1\nranks 1\n\x7f\n", 3, "BadByte"),
         (b"coll 1\nranks 1\n\n", 3, "BadLine"),
         (b"coll 1\nranks 1\ncomplete\n", 3, "BadLine"),
@@ -88,6 +97,15 @@ fn refusals_of_lines(rt: HostRuntime) {
         ),
         (b"coll 1\nranks 1\ninput a u8 0\n", 3, "BadNumber"),
         (b"coll 1\nranks 1\ninput a u8 4097\n", 3, "BadNumber"),
+    ];
+    for (text, line, name) in cases.iter() {
+        assert_eq!(rt; answer(parse_all(rt.alloc(), text)), Some((*line, *name)));
+    }
+}
+
+#[test]
+fn refusals_of_data_lines_and_names(rt: HostRuntime) {
+    let cases: [(&[u8], u32, &'static str); 10] = [
         (b"coll 1\nranks 1\ninput a u8 \n", 3, "BadLine"),
         (b"coll 1\nranks 1\nprint a\n", 3, "UnknownBuffer"),
         (b"coll 1\nranks 1\ninput a u8 1\n\n", 4, "BadLine"),
@@ -118,6 +136,15 @@ fn refusals_of_lines(rt: HostRuntime) {
             5,
             "UnknownBuffer",
         ),
+    ];
+    for (text, line, name) in cases.iter() {
+        assert_eq!(rt; answer(parse_all(rt.alloc(), text)), Some((*line, *name)));
+    }
+}
+
+#[test]
+fn refusals_of_steps_and_of_the_end(rt: HostRuntime) {
+    let cases: [(&[u8], u32, &'static str); 10] = [
         (
             b"coll 1\nranks 1\ninput a u8 1\n7\nbroadcast 1 a b\n",
             5,
@@ -222,42 +249,54 @@ fn one_more_than_the_most(rt: HostRuntime) -> Result<(), Fail> {
     Ok(())
 }
 
+/// The answer to a text of one value of that type.
+fn value_answer(
+    rt: &HostRuntime,
+    ty: &str,
+    value: &str,
+) -> Result<Option<(u32, &'static str)>, Fail> {
+    let text = format!(in rt.alloc(); "coll 1\nranks 1\ninput a {ty} 1\n{value}\nend\n")?;
+    Ok(answer(parse_all(rt.alloc(), text.as_bytes())))
+}
+
 #[test]
-fn values_at_the_ends_of_their_types(rt: HostRuntime) -> Result<(), Fail> {
-    let cases: [(&str, &str, &str, &str, &str); 8] = [
-        ("u8", "0", "255", "-1", "256"),
-        ("i8", "-128", "127", "-129", "128"),
-        ("u16", "0", "65535", "-1", "65536"),
-        ("i16", "-32768", "32767", "-32769", "32768"),
-        ("u32", "0", "4294967295", "-0", "4294967296"),
-        ("i32", "-2147483648", "2147483647", "-0", "2147483648"),
-        (
-            "u64",
-            "0",
-            "18446744073709551615",
-            "00",
-            "18446744073709551616",
-        ),
-        (
-            "i64",
-            "-9223372036854775808",
-            "9223372036854775807",
-            "-9223372036854775809",
-            "9223372036854775808",
-        ),
+fn least_and_greatest_values(rt: HostRuntime) -> Result<(), Fail> {
+    let cases = [
+        ("u8", "0"),
+        ("u8", "255"),
+        ("i8", "-128"),
+        ("i8", "127"),
+        ("u16", "65535"),
+        ("i16", "-32768"),
+        ("u32", "4294967295"),
+        ("i32", "-2147483648"),
+        ("u64", "18446744073709551615"),
+        ("i64", "-9223372036854775808"),
+        ("i64", "9223372036854775807"),
     ];
-    for (ty, least, greatest, below, above) in cases.iter() {
-        let good = format!(in rt.alloc();
-            "coll 1\nranks 1\ninput a {ty} 2\n{least} {greatest}\nend\n"
-        )?;
-        assert_eq!(rt; answer(parse_all(rt.alloc(), good.as_bytes())), None);
-        for bad in [below, above].iter() {
-            let text = format!(in rt.alloc(); "coll 1\nranks 1\ninput a {ty} 1\n{bad}\nend\n")?;
-            assert_eq!(rt;
-                answer(parse_all(rt.alloc(), text.as_bytes())),
-                Some((4, "BadNumber"))
-            );
-        }
+    for (ty, value) in cases.iter() {
+        assert_eq!(rt; value_answer(&rt, ty, value)?, None);
+    }
+    Ok(())
+}
+
+#[test]
+fn values_past_the_ends(rt: HostRuntime) -> Result<(), Fail> {
+    let cases = [
+        ("u8", "-1"),
+        ("u8", "256"),
+        ("i8", "-129"),
+        ("i8", "128"),
+        ("u16", "65536"),
+        ("i16", "32768"),
+        ("i32", "-0"),
+        ("u32", "4294967296"),
+        ("u64", "18446744073709551616"),
+        ("i64", "9223372036854775808"),
+        ("i64", "-9223372036854775809"),
+    ];
+    for (ty, value) in cases.iter() {
+        assert_eq!(rt; value_answer(&rt, ty, value)?, Some((4, "BadNumber")));
     }
     Ok(())
 }
