@@ -2,7 +2,7 @@
 #![tactic(auto)]
 
 ghost use Rattle.std.specs.Prelude.{◌≡◌, ◌<◌, ◌++◌, ◌∷◌, [], ◌||◌, ◌↔◌, Some, None, IsTrue, IfOk, IfSome, IfNone, length, vec_capacity, find as first_that};
-ghost use Rattle.ni_model.specs.Lists.{fits as fits_it, offset_in as offset_of, space_in as space_of, unlinked, advance_one, advanced};
+ghost use Rattle.ni_model.specs.Lists.{fits as fits_it, offset_in as offset_of, space_in as space_of, is_linked as holds, unlinked, advance_one, advanced};
 ghost use Rattle.ni_model.specs.Append.{fresh};
 ghost use Rattle.ni_model.specs.Refusals.{entry_names_ct};
 ghost use Rattle.match_lists.specs.Lists.{both, entries, with_entries, first_fit as first_of, is_named, linked_as};
@@ -75,6 +75,17 @@ fn some_names(linked: &[Linked], ct: Handle) -> bool
             if named.is(ct) {
                 return true;
             }
+        }
+    }
+    false
+}
+
+fn some_is(linked: &[Linked], handle: Handle) -> bool
+    ensures { result ≡ holds handle linked.now }
+{
+    for x in linked {
+        if x.handle.is(handle) {
+            return true;
         }
     }
     false
@@ -232,6 +243,16 @@ impl Lists {
         match list {
             List::Priority => advance_in(&mut self.priority, handle, to),
             List::Overflow => advance_in(&mut self.overflow, handle, to),
+        }
+    }
+
+    /// Whether the entry of this handle is linked in one of the lists.
+    pub fn is_linked(&self, list: List, handle: Handle) -> bool
+        ensures { result ≡ holds handle (entries list self.now) }
+    {
+        match list {
+            List::Priority => some_is(&self.priority, handle),
+            List::Overflow => some_is(&self.overflow, handle),
         }
     }
 

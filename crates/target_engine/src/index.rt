@@ -1,13 +1,13 @@
 //! A portal table index.
 
-ghost use Rattle.std.specs.Prelude.{◌≡◌};
+ghost use Rattle.std.specs.Prelude.{◌≡◌, Some, nat_lt};
 ghost use Rattle.ni_model.specs.Arrive.{choose, chosen, settled, settled_at, indices_after};
-ghost use Rattle.ni_model.specs.Lists.{queue_of, index_at};
+ghost use Rattle.ni_model.specs.Lists.{queue_of, index_at, entries_in, is_linked};
 
 use crate::measures::{is_over, is_put_or_atomic, running_after};
 use match_lists::Lists;
 use ni_model::Found;
-use ptl_types::{Handle, Header};
+use ptl_types::{Handle, Header, List};
 use std::marker::Model;
 
 /// An allocated index: its event queue and its two lists.
@@ -37,6 +37,18 @@ impl Index {
         ensures { result ≡ self.now.eq }
     {
         self.eq
+    }
+
+    pub fn holds_entries(&self) -> bool
+        ensures { result ≡ nat_lt 0 (entries_in (Some self.now)) }
+    {
+        self.lists.len(List::Priority) > 0 || self.lists.len(List::Overflow) > 0
+    }
+
+    pub fn is_in_overflow(&self, entry: Handle) -> bool
+        ensures { result ≡ is_linked entry self.now.overflow }
+    {
+        self.lists.is_linked(List::Overflow, entry)
     }
 
     #[tactic(auto, using(crate::proofs::Views::index_views))]

@@ -71,10 +71,10 @@ fn outcome_in(list: List) -> Outcome
 #[derive(Drop)]
 pub struct Target {
     rank: Rank,
-    limit: u32,
-    indices: Vec<Option<Index>>,
+    pub(crate) limit: u32,
+    pub(crate) indices: Vec<Option<Index>>,
     given: u64,
-    headers: Headers,
+    pub(crate) headers: Headers,
 }
 
 impl Model for Target {

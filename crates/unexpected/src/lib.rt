@@ -1,7 +1,7 @@
 //! The unexpected headers of an interface, in the order of arrival (Portals 4.3, unexpected messages).
 #![tactic(auto)]
 
-ghost use Rattle.std.specs.Prelude.{◌≡◌, ◌<◌, ◌++◌, ◌∷◌, [], ◌↔◌, IsTrue, IfOk, IfNone, IfSome, Some, None, slice_index_or, remove, length, option_copied};
+ghost use Rattle.std.specs.Prelude.{◌≡◌, ◌<◌, ◌++◌, ◌∷◌, [], ◌↔◌, IsTrue, IfOk, IfNone, IfSome, Some, None, slice_index_or, remove, length, nat_lt, option_copied};
 ghost use Rattle.ni_model.specs.declared.Noted.{Noted as Header};
 ghost use Rattle.ni_model.specs.Headers.{held, allows as allowed_by, finds as found_by, oldest, without_oldest, names_entry, headers_of, no_room};
 ghost use Rattle.unexpected.specs.Places.{noted as as_noted, header_at};
@@ -63,6 +63,17 @@ fn some_lies_in(noted: &[Noted], entry: Handle) -> bool
 {
     for x in noted {
         if x.header.entry.is(entry) {
+            return true;
+        }
+    }
+    false
+}
+
+fn some_is_of(noted: &[Noted], pt: u32) -> bool
+    ensures { result ≡ nat_lt 0 (length (headers_of pt noted.now)) }
+{
+    for x in noted {
+        if x.pt == pt {
             return true;
         }
     }
@@ -134,6 +145,7 @@ impl Headers {
     pub fn take_oldest(&mut self, pt: u32, entry: &Entry) -> Option<Noted>
         ensures oldest { result ≡ oldest pt entry.now self.old.noted }
         ensures rest { self.new ≡ held (without_oldest pt entry.now self.old.noted) self.old.limit }
+        ensures none { IfNone result (self.new ≡ self.old) }
     {
         let at = place_of(&self.noted, pt, entry)?;
         Some(self.noted.remove(at))
@@ -151,6 +163,13 @@ impl Headers {
         ensures { result ≡ names_entry entry self.now.noted }
     {
         some_lies_in(&self.noted, entry)
+    }
+
+    /// Whether a header of this index waits.
+    pub fn waits_at(&self, pt: u32) -> bool
+        ensures { result ≡ nat_lt 0 (length (headers_of pt self.now.noted)) }
+    {
+        some_is_of(&self.noted, pt)
     }
 
     /// Header number i of an index in the order of arrival, from 0; `None` exactly where the index has no more than i.

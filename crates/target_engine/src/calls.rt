@@ -1,0 +1,193 @@
+//! The calls of a target that its host makes: allocating and freeing a portal table index, and searching the headers.
+
+ghost use Rattle.std.specs.Prelude.{◌≡◌, ℕ, List, true, false, None, Some, OnOk, OnErr, IfOk, IfErr, is_some, nat_lt, slice_set};
+ghost use Rattle.ptl_types.specs.declared.handles.Count.{Count};
+ghost use Rattle.ni_model.specs.Tables.{Table};
+ghost use Rattle.ni_model.specs.Lists.{index_at, is_linked_at, entries_in};
+ghost use Rattle.ni_model.specs.Events.{header_event as event_of, missed_event as missed_of};
+ghost use Rattle.ni_model.specs.Arrive.{parts};
+ghost use Rattle.ni_model.specs.Calls.{new_index};
+ghost use Rattle.ni_model.specs.Refusals.{pt_alloc_fault, pt_free_fault};
+ghost use Rattle.ni_model.specs.Append.{gone_raised, is_allocated as allocated, search as search_of};
+ghost use Rattle.target_engine.specs.Sides.{side, FailsBy, has_searched};
+
+use crate::effects::{is_live_or_none, raise};
+use crate::events::{entry_event, message_event};
+use crate::index::{Index, queue_at};
+use crate::target::Target;
+use event_queues::Queue;
+use handle_store::Store;
+use match_lists::Lists;
+use ni_model::Noted;
+use ptl_types::{Entry, Event, EventKind, Handle, List as Place, NiFault, UnexpectedHeader};
+use std::alloc::Global;
+use unexpected::Headers;
+
+fn is_allocated(indices: &[Option<Index>], pt: u32) -> bool
+    ensures { result ≡ is_some (index_at pt indices.now) }
+{
+    match indices.get(pt as usize) {
+        Some(Some(_)) => true,
+        _ => false,
+    }
+}
+
+fn holds_entries(indices: &[Option<Index>], pt: u32) -> bool
+    ensures { result ≡ nat_lt 0 (entries_in (index_at pt indices.now)) }
+{
+    match indices.get(pt as usize) {
+        Some(Some(index)) => index.holds_entries(),
+        _ => false,
+    }
+}
+
+fn is_in_overflow(indices: &[Option<Index>], pt: u32, entry: Handle) -> bool
+    ensures { result ≡ is_linked_at Place.Overflow entry (index_at pt indices.now) }
+{
+    match indices.get(pt as usize) {
+        Some(Some(index)) => index.is_in_overflow(entry),
+        _ => false,
+    }
+}
+
+fn header_event(kind: EventKind, noted: &Noted) -> Event
+    ensures { result ≡ event_of kind noted.now }
+{
+    let header = &noted.header;
+    message_event(kind, &header.header, header.delivered, header.place)
+}
+
+/// A search that finds nothing.
+fn missed_event(pt: u32, entry: &Entry) -> Event
+    ensures { result ≡ missed_of pt entry.now.match_bits }
+{
+    entry_event(EventKind::Search, pt, entry.match_bits, false)
+}
+
+/// The event of a header that went, and directly after it the freeing of its entry, where that isn't linked and none of
+/// the headers that are left lies in it.
+fn raise_gone(
+    indices: &[Option<Index>],
+    left: &Headers,
+    eqs: &mut Store<Queue>,
+    kind: EventKind,
+    noted: &Noted,
+)
+    ensures { eqs.new ≡ gone_raised kind (side 0 0 indices.now 0 left.now) left.now.noted noted.now eqs.old }
+{
+    let eq = queue_at(indices, noted.pt);
+    raise(eqs, eq, header_event(kind, noted));
+    let entry = noted.header.entry;
+    if !(is_in_overflow(indices, noted.pt, entry) || left.names(entry)) {
+        raise(eqs, eq, entry_event(EventKind::AutoFree, noted.pt, 0, true));
+    }
+}
+
+impl Target {
+    /// Allocates a portal table index with its event queue, if any (Portals 4.3, portal table). `Stale` where the queue
+    /// isn't live, `NoSpace` where the index is past the limit, `InUse` where it is allocated, `NoMemory` for its lists. A
+    /// refused call changes nothing.
+    pub fn pt_alloc(
+        &mut self,
+        alloc: Global,
+        eqs: &Store<Queue>,
+        index: u32,
+        eq: Option<Handle>,
+    ) -> Result<(), NiFault>
+        ensures err { IfErr result (λ fault. FailsBy (pt_alloc_fault index eq self.old eqs.now) fault) }
+        ensures unchanged { OnErr result (self.new ≡ self.old) }
+        ensures ok { OnOk result (pt_alloc_fault index eq self.old eqs.now ≡ None) }
+        ensures allocated { OnOk result (self.new ≡ record self.old { indices = slice_set self.old.indices index (Some (new_index eq)) }) }
+    {
+        if !is_live_or_none(eqs, eq) {
+            return Err(NiFault::Stale);
+        }
+        let at = index as usize;
+        if at >= self.indices.len() {
+            return Err(NiFault::NoSpace);
+        }
+        if is_allocated(&self.indices, index) {
+            return Err(NiFault::InUse);
+        }
+        match Lists::open(alloc, self.limit) {
+            Ok(lists) => {
+                self.indices[at] = Some(Index { eq, lists });
+                Ok(())
+            }
+            Err(_) => Err(NiFault::NoMemory),
+        }
+    }
+
+    /// Frees a portal table index. `Stale` where it isn't allocated, `InUse` where one of its lists holds an entry or a
+    /// header of it waits. A refused call changes nothing.
+    pub fn pt_free(&mut self, index: u32) -> Result<(), NiFault>
+        ensures err { IfErr result (λ fault. pt_free_fault index self.old ≡ Some fault) }
+        ensures unchanged { OnErr result (self.new ≡ self.old) }
+        ensures ok { OnOk result (pt_free_fault index self.old ≡ None) }
+        ensures freed { OnOk result (self.new ≡ record self.old { indices = slice_set self.old.indices index None }) }
+    {
+        if !is_allocated(&self.indices, index) {
+            return Err(NiFault::Stale);
+        }
+        if holds_entries(&self.indices, index) || self.headers.waits_at(index) {
+            return Err(NiFault::InUse);
+        }
+        let at = index as usize;
+        if at < self.indices.len() {
+            self.indices[at] = None;
+        }
+        Ok(())
+    }
+
+    /// Looks for the oldest header of an index that the entry matches and allows, whether the entry is use-once or not, and
+    /// deletes it where asked (Portals 4.3, searching). `Stale` where the index isn't allocated; nothing changes then.
+    pub fn search(
+        &mut self,
+        eqs: &mut Store<Queue>,
+        pt: u32,
+        entry: &Entry,
+        delete: bool,
+    ) -> Result<Option<UnexpectedHeader>, NiFault>
+        ensures err { IfErr result (λ fault. (fault ≡ NiFault.Stale) × (allocated pt self.old ≡ false)) }
+        ensures unchanged { OnErr result ((self.new ≡ self.old) × (eqs.new ≡ eqs.old)) }
+        ensures ok { OnOk result (allocated pt self.old ≡ true) }
+        ensures searched { IfOk result (λ found. (region : List ℕ) (cts : Table Count) → has_searched (parts self.new region cts eqs.new) found ≡ search_of pt entry.now delete (parts self.old region cts eqs.old)) }
+    {
+        if !is_allocated(&self.indices, pt) {
+            return Err(NiFault::Stale);
+        }
+        if delete {
+            return Ok(self.delete_oldest(eqs, pt, entry));
+        }
+        let eq = queue_at(&self.indices, pt);
+        let noted = match self.headers.search(pt, entry) {
+            Some(noted) => noted,
+            None => {
+                raise(eqs, eq, missed_event(pt, entry));
+                return Ok(None);
+            }
+        };
+        raise(eqs, eq, header_event(EventKind::Search, &noted));
+        Ok(Some(noted.header))
+    }
+
+    fn delete_oldest(
+        &mut self,
+        eqs: &mut Store<Queue>,
+        pt: u32,
+        entry: &Entry,
+    ) -> Option<UnexpectedHeader>
+        ensures { (region : List ℕ) (cts : Table Count) → has_searched (parts self.new region cts eqs.new) result ≡ search_of pt entry.now true (parts self.old region cts eqs.old) }
+    {
+        let eq = queue_at(&self.indices, pt);
+        let noted = match self.headers.take_oldest(pt, entry) {
+            Some(noted) => noted,
+            None => {
+                raise(eqs, eq, missed_event(pt, entry));
+                return None;
+            }
+        };
+        raise_gone(&self.indices, &self.headers, eqs, EventKind::Search, &noted);
+        Some(noted.header)
+    }
+}
