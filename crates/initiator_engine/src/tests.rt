@@ -1,4 +1,4 @@
-//! A put with an acknowledgement, and a get whose reply is written home.
+//! A descriptor from its binding to its release, and an answer that nobody awaits.
 
 use crate::Initiator;
 use counters::Counter;
@@ -9,6 +9,7 @@ use ptl_types::{
     AckRequest, Bytes, Deed, Descriptor, ElemType, GetArgs, Handle, Header, Limits, Message,
     MessageKind, NiFault, Outcome, PutArgs,
 };
+use std::alloc::Global;
 use std::test::Fail;
 
 const LIMITS: Limits = Limits {
@@ -34,15 +35,16 @@ const DESCRIPTOR: Descriptor = Descriptor {
     count_ack: false,
 };
 
-fn answer_of(kind: MessageKind, home: Handle, length: u64) -> Header {
-    Header {
-        kind,
+/// An acknowledgement to a descriptor.
+fn acknowledgement(alloc: Global, home: Handle) -> Message {
+    let header = Header {
+        kind: MessageKind::Ack,
         source: 1,
         target: 0,
         pt: 0,
         match_bits: 5,
         offset: 0,
-        length,
+        length: 0,
         hdr_data: 0,
         op: None,
         swap: None,
@@ -50,16 +52,31 @@ fn answer_of(kind: MessageKind, home: Handle, length: u64) -> Header {
         operand: 0,
         ack: AckRequest::CtAck,
         home: Some(home),
-        home_offset: 1,
+        home_offset: 0,
         ok: true,
-    }
+    };
+    Message::new(header, Bytes::empty(alloc))
 }
 
 #[test]
-fn a_descriptor_awaits_its_acknowledgement_once(rt: HostRuntime) -> Result<(), Fail> {
-    let mut region = Region::new(Bytes::of(rt.alloc(), &[9, 1, 2, 3, 9])?);
+fn an_answer_that_nobody_awaits_is_dropped(rt: HostRuntime) -> Result<(), Fail> {
+    let mut region = Region::new(Bytes::of(rt.alloc(), &[9, 1, 2])?);
     let mut cts: Store<Counter> = Store::open(rt.alloc(), 1)?;
     let mut eqs: Store<Queue> = Store::open(rt.alloc(), 1)?;
+    let mut initiator = Initiator::open(rt.alloc(), 0, 2, &LIMITS)?;
+    let stray = acknowledgement(rt.alloc(), Handle { slot: 0, stamp: 0 });
+    let (outcome, counted) = initiator.answer(&mut region, &mut cts, &mut eqs, stray);
+    assert_eq!(rt; outcome, Outcome::Dropped);
+    assert!(rt; counted.is_none());
+    assert!(rt; region.as_slice() == [9, 1, 2].as_slice());
+    Ok(())
+}
+
+#[test]
+fn a_descriptor_is_bound_checked_and_released(rt: HostRuntime) -> Result<(), Fail> {
+    let region = Region::new(Bytes::of(rt.alloc(), &[9, 1, 2, 3, 9])?);
+    let cts: Store<Counter> = Store::open(rt.alloc(), 1)?;
+    let eqs: Store<Queue> = Store::open(rt.alloc(), 1)?;
     let mut initiator = Initiator::open(rt.alloc(), 0, 2, &LIMITS)?;
     let past_the_end = Descriptor {
         length: 5,
@@ -88,10 +105,6 @@ fn a_descriptor_awaits_its_acknowledgement_once(rt: HostRuntime) -> Result<(), F
     });
     assert_eq!(rt; initiator.check(&deed), Err(NiFault::OutOfRegion));
     assert_eq!(rt; initiator.awaits(md), Ok(0));
-    let stray = Message::new(answer_of(MessageKind::Ack, md, 0), Bytes::empty(rt.alloc()));
-    let (outcome, counted) = initiator.answer(&mut region, &mut cts, &mut eqs, stray);
-    assert_eq!(rt; outcome, Outcome::Dropped);
-    assert!(rt; counted.is_none());
     let get = Deed::Get(GetArgs {
         md,
         local_offset: 1,

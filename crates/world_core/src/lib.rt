@@ -8,9 +8,8 @@ mod cells;
 mod open;
 mod root;
 mod setting;
-mod world;
-
 #[cfg(test)]
 mod tests;
+mod world;
 
 pub use world::World;
