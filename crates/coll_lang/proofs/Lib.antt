@@ -12,3 +12,4 @@ pub mod Bytes
 pub mod OneBroadcast
 pub mod Kept
 pub mod Printed
+pub mod ShapeLaw

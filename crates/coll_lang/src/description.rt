@@ -5,6 +5,7 @@ ghost use Rattle.coll_lang.specs.Outline.{list_of};
 ghost use Rattle.coll_lang.specs.Language.{described};
 ghost use Rattle.coll_lang.specs.States.{past};
 ghost use Rattle.coll_lang.specs.Accepted.{IsAccepted};
+ghost use Rattle.coll_lang.specs.WellFormed.{IsWellFormed};
 
 use crate::lists::RankList;
 use crate::reader::Reader;
@@ -65,7 +66,9 @@ impl Shape {
 
     /// The steps in order.
     pub fn steps(&self) -> &[CollStep]
-        ensures { result.now ≡ self.now.steps }
+        ensures steps { result.now ≡ self.now.steps }
+        // This holds of every shape.
+        ensures well_formed { IsWellFormed self.now }
     {
         self.steps.as_slice()
     }
