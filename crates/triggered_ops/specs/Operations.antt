@@ -1,0 +1,114 @@
+-- The triggered operations that wait, each with the sum of its counting event that it was last told (Portals 4.3, triggered operations).
+use Rattle.std.specs.Prelude.{ℕ, Bool, false, ◌==◌, ◌||◌, not, nat_le, ◌+◌, ◌-◌, ◌^◌, ◌<◌, ◌≤◌, List, [], ◌∷◌, ◌++◌, length, map, filter, find, Option, Some, None, All, AllPairs, if◌then◌else◌}
+use Rattle.ptl_types.specs.declared.handles.Handle.{Handle}
+use Rattle.ptl_types.specs.declared.calls.Deed.{Deed}
+use Rattle.ptl_types.specs.Handles.{same_handle}
+use Rattle.ni_model.specs.State as model
+
+-- an operation that waits on ct; its counter was last told to stand at `told`, success and failure together
+pub record Operation (D : Type 0) : Type 0 where
+  pub number : ℕ
+  pub deed : D
+  pub ct : Handle
+  pub threshold : ℕ
+  pub told : ℕ
+
+-- those that wait, by rising number; how many numbers were given, and how many may wait
+pub record Operations (D : Type 0) : Type 0 where
+  pub waiting : List (Operation D)
+  pub given : ℕ
+  pub limit : ℕ
+
+module _ {D : Type 0} where
+  -- none, and none was posted
+  abbrev pub no_operations : ℕ → Operations D
+  no_operations limit = record { waiting = []; given = 0; limit = limit }
+
+  -- as many wait as may, or the numbers are used up
+  abbrev pub is_full : Operations D → Bool
+  is_full ops = nat_le ops.limit (length ops.waiting) || nat_le (2 ^ 32 - 1) ops.given
+
+  -- ---- one operation
+
+  -- the operation of this number
+  abbrev pub is_number : ℕ → Operation D → Bool
+  is_number t p = p.number == t
+
+  -- it waits on this counting event
+  abbrev pub waits_on : Handle → Operation D → Bool
+  waits_on ct p = same_handle p.ct ct
+
+  -- the sum that it was told is at least its threshold
+  abbrev pub is_due : Operation D → Bool
+  is_due p = nat_le p.threshold p.told
+
+  -- its deed, its counting event and its threshold
+  abbrev pub shown : Operation D → D × Handle × ℕ
+  shown p = (p.deed, p.ct, p.threshold)
+
+  -- the same behind its number
+  abbrev pub numbered : Operation D → ℕ × D × Handle × ℕ
+  numbered p = (p.number, p.deed, p.ct, p.threshold)
+
+  -- its deed
+  abbrev pub deed_of : Operation D → D
+  deed_of p = p.deed
+
+  -- ---- among those that wait
+
+  -- operation t, where it waits
+  abbrev pub operation_at : ℕ → Operations D → Option (Operation D)
+  operation_at t ops = find (is_number t) ops.waiting
+
+  -- what doesn't wait isn't due
+  abbrev pub is_due_op : Option (Operation D) → Bool
+  is_due_op None = false
+  is_due_op (Some p) = is_due p
+
+  -- operation t waits, and the sum that it was told is at least its threshold
+  abbrev pub is_ready : ℕ → Operations D → Bool
+  is_ready t ops = is_due_op (operation_at t ops)
+
+  -- ---- what the calls make of them
+
+  -- one operation more, the newest; it was told 0
+  abbrev pub with_posted : D → Handle → ℕ → Operations D → Operations D
+  with_posted deed ct threshold ops = record ops { waiting = ops.waiting ++ (record { number = ops.given; deed = deed; ct = ct; threshold = threshold; told = 0 }) ∷ []; given = ops.given + 1 }
+
+  -- an operation that waits on ct is told this sum
+  abbrev pub told_one : Handle → ℕ → Operation D → Operation D
+  told_one ct sum p = record p { told = if waits_on ct p then sum else p.told }
+
+  -- each that waits on ct
+  abbrev pub told : Handle → ℕ → Operations D → Operations D
+  told ct sum ops = record ops { waiting = map (told_one ct sum) ops.waiting }
+
+  -- the operations without the one of this number
+  abbrev pub without_number : ℕ → Operations D → Operations D
+  without_number t ops = record ops { waiting = filter (λ p. not (is_number t p)) ops.waiting }
+
+  -- the operations that wait on ct
+  abbrev pub waiting_on : Handle → Operations D → List (Operation D)
+  waiting_on ct ops = filter (waits_on ct) ops.waiting
+
+  -- the operations that don't
+  abbrev pub cancelled : Handle → Operations D → Operations D
+  cancelled ct ops = record ops { waiting = filter (λ p. not (waits_on ct p)) ops.waiting }
+
+  -- ---- what always holds of them
+
+  -- the numbers rise and were given, and no more wait than may
+  pub record IsKept (ops : Operations D) : Type 0 where
+    pub rising : AllPairs (λ p q. p.number < q.number) ops.waiting
+    pub were_given : All (λ p. p.number < ops.given) ops.waiting
+    pub limited : length ops.waiting ≤ ops.limit
+    pub numbers : ops.given < 2 ^ 32
+
+  -- ---- as the interface's state has them, where `f` tells what an operation does
+
+  -- without the sum
+  abbrev pub posted : (D → Deed) → Operation D → model.Posted
+  posted f p = record { number = p.number; deed = f p.deed; ct = p.ct; threshold = p.threshold }
+
+  abbrev pub posted_all : (D → Deed) → Operations D → model.Operations
+  posted_all f ops = record { waiting = map (posted f) ops.waiting; given = ops.given; limit = ops.limit }

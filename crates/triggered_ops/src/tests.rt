@@ -1,0 +1,72 @@
+//! Pending operations from the first post to the last firing.
+
+use crate::Pending;
+use ptl_types::Handle;
+use std::test::Fail;
+
+const GO: Handle = Handle { slot: 0, stamp: 4 };
+
+const AGAIN: Handle = Handle { slot: 0, stamp: 5 };
+
+#[test]
+fn none_pends_at_first(rt: HostRuntime) -> Result<(), Fail> {
+    let mut pending = Pending::<u8>::open(rt.alloc(), 2)?;
+    assert_eq!(rt; pending.len(), 0);
+    assert_eq!(rt; pending.given(), 0);
+    assert!(rt; !pending.is_full());
+    assert_eq!(rt; pending.ready(), None);
+    assert!(rt; pending.get(0).is_none());
+    assert!(rt; pending.at(0).is_none());
+    assert!(rt; pending.next(0).is_none());
+    assert_eq!(rt; pending.take(0), None);
+    assert_eq!(rt; pending.cancel(GO), 0);
+    Ok(())
+}
+
+#[test]
+fn an_operation_is_ready_while_its_sum_is_at_its_threshold(rt: HostRuntime) -> Result<(), Fail> {
+    let mut pending = Pending::open(rt.alloc(), 2)?;
+    assert_eq!(rt; pending.post(7u8, GO, 2), Ok(0));
+    assert_eq!(rt; pending.post(8, AGAIN, 2), Ok(1));
+    assert!(rt; pending.is_full());
+    pending.reached(GO, 3);
+    assert_eq!(rt; pending.ready(), Some(0));
+    assert!(rt; pending.is_ready(0));
+    assert!(rt; !pending.is_ready(1));
+    pending.reached(GO, 1);
+    assert_eq!(rt; pending.ready(), None);
+    pending.reached(GO, 2);
+    assert_eq!(rt; pending.ready(), Some(0));
+    assert_eq!(rt; pending.take(0), Some(7));
+    assert_eq!(rt; pending.ready(), None);
+    assert_eq!(rt; pending.len(), 1);
+    assert_eq!(rt; pending.post(9, GO, 0), Ok(2));
+    assert_eq!(rt; pending.ready(), Some(2));
+    assert_eq!(rt; pending.given(), 3);
+    Ok(())
+}
+
+#[test]
+fn a_walk_passes_those_that_were_cancelled(rt: HostRuntime) -> Result<(), Fail> {
+    let mut pending = Pending::open(rt.alloc(), 3)?;
+    assert_eq!(rt; pending.post(7u8, GO, 1), Ok(0));
+    assert_eq!(rt; pending.post(8, AGAIN, 1), Ok(1));
+    assert_eq!(rt; pending.post(9, GO, 1), Ok(2));
+    pending.reached(AGAIN, 1);
+    pending.reached(GO, 1);
+    assert_eq!(rt; pending.cancel(AGAIN), 1);
+    let numbers = [pending.next(0), pending.next(1), pending.next(3)].map(|found| found.map(
+        |p| p.0,
+    ));
+    assert_eq!(rt; numbers, [Some(0), Some(2), None]);
+    assert_eq!(rt;
+        pending.at(1).map(|p| (p.0, *p.1, p.2, p.3)),
+        Some((2, 9, GO, 1))
+    );
+    assert_eq!(rt; pending.get(2).map(|p| (*p.0, p.1, p.2)), Some((9, GO, 1)));
+    assert!(rt; !pending.is_ready(1));
+    assert!(rt; pending.is_ready(2));
+    assert_eq!(rt; pending.cancel(GO), 2);
+    assert_eq!(rt; pending.len(), 0);
+    Ok(())
+}
