@@ -13,3 +13,5 @@ pub mod OneBroadcast
 pub mod Kept
 pub mod Printed
 pub mod ShapeLaw
+pub mod GeneratedText
+pub mod GeneratedLists

@@ -16,3 +16,4 @@ pub mod Spelling
 pub mod Meaning
 pub mod Accepted
 pub mod OneBroadcast
+pub mod Generated

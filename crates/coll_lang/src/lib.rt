@@ -8,6 +8,9 @@ mod description;
 mod fault;
 mod first_form;
 mod forms;
+#[cfg(test)]
+mod generated_tests;
+mod generating;
 mod lists;
 mod printing;
 mod reader;
@@ -20,6 +23,7 @@ mod whole;
 
 pub use description::{Description, Inputs, Shape};
 pub use fault::{ParseFault, Refusal};
+pub use generating::generated;
 pub use lists::{Name, Text};
 pub use printing::print;
 pub use types::{Buffer, CollStep, Spread};

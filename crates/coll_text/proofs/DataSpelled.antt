@@ -18,7 +18,7 @@ use Rattle.coll_text.specs.Values.{too_large, unsigned_of, negative_of, value_of
 use Rattle.coll_text.specs.declared.values.Flaw.TheVariants.{Malformed}
 use Rattle.coll_text.proofs.Spelled.{both, chosen, mapped, then, number_spelled}
 
-spans : (ty : ElemType) → span ty ≤ 2 ^ 64
+pub spans : (ty : ElemType) → span ty ≤ 2 ^ 64
 spans types.U8 = omega arith
 spans types.I8 = omega arith
 spans types.U16 = omega arith

@@ -3,3 +3,4 @@ pub mod Spelled
 pub mod Data
 pub mod DataSpelled
 pub mod Writes
+pub mod ReadBack

@@ -12,7 +12,7 @@ use Rattle.std.proofs.lemmas.List.Splits.{join_with_byte-slice_split}
 use Rattle.coll_text.specs.Text.{words, line, is_digit, is_number, with_digits, number_of, number_between}
 
 -- our numbers are std's
-numerals : IsNumeralModel (λ ds. list_all is_digit ds ≡ true) (with_digits 0)
+pub numerals : IsNumeralModel (λ ds. list_all is_digit ds ≡ true) (with_digits 0)
 numerals = numerals_by_fold _ (search rules) with_digits (search rules)
 
 pub both : (a b : Bool) → (a && b) ≡ true → (a ≡ true) × (b ≡ true)
