@@ -11,7 +11,7 @@ use Rattle.coll_text.specs.Text.{lines, words, line, is_empty, is_name, number_b
 use Rattle.coll_text.proofs.Spelled.{same, chosen, rejoined, in_range, between_spelled}
 use Rattle.coll_lang.specs.Outline.{Program, length_of}
 use Rattle.coll_lang.specs.Forms.{Form, complete, input, barrier, step, print, last, form_of}
-use Rattle.coll_lang.specs.Language.{Past, ranks_in, may_stand, form_line, later_line, line_at, judge, is_allowed, is_finished, numbered, read_from, nothing, most_elements, described, program_in, read_by, read}
+use Rattle.coll_lang.specs.Language.{Past, ranks_in, may_stand, form_line, later_line, line_at, judge, is_allowed, is_finished, numbered, read_from, nothing, most_elements, described, program_in, read_by, read_up_to}
 use Rattle.coll_lang.specs.Spelling.{text, head_text, remote_text, inputs_text, steps_text, prints_text}
 use Rattle.coll_lang.specs.Accepted.{OneSpelling}
 use Rattle.coll_lang.specs.WellFormed.{IsInput, StepFits, IsWellFormed, IsWellGiven, Filled}
@@ -114,11 +114,11 @@ ranks_said (key ∷ w ∷ v ∷ ws) n h = cc
 -- nothing is said yet but the number of ranks
 begins : (past : Past) (n : ℕ) → past.buffers ≡ [] → past.inputs ≡ 0 → past.given ≡ [] → past.steps ≡ [] → past.prints ≡ [] → past.remote ≡ false → 1 ≤ n → n ≤ 64
     → let next : Past = record past { stage = Options; ranks = n } in Sound Options next × (body next ≡ head_text n)
-begins past n eb ei eg es ep er some few = rw (eb, ei, eg, es, ep, er) (empty n past.printed some few)
+begins past n eb ei eg es ep er some few = rw (eb, ei, eg, es, ep, er) (empty n past.printed past.most_printed some few)
   where
-    empty : (n printed : ℕ) → 1 ≤ n → n ≤ 64
-        → let next : Past = record { stage = Options; ranks = n; remote = false; buffers = []; inputs = 0; given = []; steps = []; prints = []; printed = printed } in Sound Options next × (body next ≡ head_text n)
-    empty n printed some few = (
+    empty : (n printed most : ℕ) → 1 ≤ n → n ≤ 64
+        → let next : Past = record { stage = Options; ranks = n; remote = false; buffers = []; inputs = 0; given = []; steps = []; prints = []; printed = printed; most_printed = most } in Sound Options next × (body next ≡ head_text n)
+    empty n printed most some few = (
       (
         record {
           some_ranks = some;
@@ -269,11 +269,11 @@ pub record Whole (bytes : List ℕ) (d : Program) : Type 0 where
   pub filled : AtPrints final
   pub written_is : bytes ≡ text (described final)
 
-pub whole : (bytes : List ℕ) (d : Program) → read bytes ≡ Ok d → Whole bytes d
+pub whole : (most : ℕ) (bytes : List ℕ) (d : Program) → read_up_to most bytes ≡ Ok d → Whole bytes d
 unfolding read_by
-whole bytes d h =
-    let f = described_by (read_from judge AfterEnd nothing 1 (lines bytes)) d (unlimited (nat_lt 1048576 (length bytes)) (0, TooLong) (program_in (read_from judge AfterEnd nothing 1 (lines bytes))) d h) in
-    let e = all_go nothing f.0 1 (lines bytes) (refl, refl, refl, refl, refl, refl) f.1 in
+whole most bytes d h =
+    let f = described_by (read_from judge AfterEnd (nothing most) 1 (lines bytes)) d (unlimited (nat_lt 1048576 (length bytes)) (0, TooLong) (program_in (read_from judge AfterEnd (nothing most) 1 (lines bytes))) d h) in
+    let e = all_go (nothing most) f.0 1 (lines bytes) (refl, refl, refl, refl, refl, refl) f.1 in
     let done : f.0.stage ≡ Finished = finished_is f.0.stage e.done in
     let sound : Sound Finished f.0 = subst (λ s. Sound s f.0) done e.sound in
     record {
@@ -284,11 +284,14 @@ whole bytes d h =
       written_is = sym (join_with_byte-slice_split 10 bytes) ∙ sym e.written_is ∙ ap (λ (s : Stage). written s f.0) done ∙ text_is f.0;
     }
 
+pub spelled : (most : ℕ) (bytes : List ℕ) (d : Program) → read_up_to most bytes ≡ Ok d → bytes ≡ text d
+spelled most bytes d h = let w = whole most bytes d h in w.written_is ∙ ap text w.is
+
 pub one_spelling : OneSpelling
-one_spelling bytes d h = let w = whole bytes d h in w.written_is ∙ ap text w.is
+one_spelling = spelled most_elements
 
-pub well_formed : (bytes : List ℕ) (d : Program) → read bytes ≡ Ok d → IsWellFormed d.shape
-well_formed bytes d h = let w = whole bytes d h in subst (λ (d : Program). IsWellFormed d.shape) w.is w.formed
+pub well_formed : (most : ℕ) (bytes : List ℕ) (d : Program) → read_up_to most bytes ≡ Ok d → IsWellFormed d.shape
+well_formed most bytes d h = let w = whole most bytes d h in subst (λ (d : Program). IsWellFormed d.shape) w.is w.formed
 
-pub well_given : (bytes : List ℕ) (d : Program) → read bytes ≡ Ok d → IsWellGiven d
-well_given bytes d h = let w = whole bytes d h in subst IsWellGiven w.is (record { given_ranks = refl; given_inputs = refl; filled = w.filled })
+pub well_given : (most : ℕ) (bytes : List ℕ) (d : Program) → read_up_to most bytes ≡ Ok d → IsWellGiven d
+well_given most bytes d h = let w = whole most bytes d h in subst IsWellGiven w.is (record { given_ranks = refl; given_inputs = refl; filled = w.filled })

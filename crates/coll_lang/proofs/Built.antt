@@ -10,9 +10,9 @@ use Rattle.coll_text.specs.Text.{lines, is_empty}
 use Rattle.coll_text.proofs.Spelled.{both}
 use Rattle.coll_lang.specs.Outline.{Program, length_of, type_at, spread_at}
 use Rattle.coll_lang.specs.Steps.{spread_after}
-use Rattle.coll_lang.specs.Language.{Past, judge, is_finished, numbered, read_from, read_by, nothing, described, program_in, read}
+use Rattle.coll_lang.specs.Language.{Past, judge, is_finished, numbered, read_from, read_by, read_up_to, nothing, described, program_in}
 use Rattle.coll_lang.specs.FirstForm as first
-use Rattle.coll_lang.specs.FirstForm.{is_byte, first_is_bytes, is_broadcast, one_broadcast, one_input, is_built, if_built, first_line}
+use Rattle.coll_lang.specs.FirstForm.{all_prints, is_byte, first_is_bytes, is_broadcast, one_broadcast, one_input, is_built, if_built, first_line}
 use Rattle.coll_lang.specs.WellFormed.{IsInput, StepFits, results, numbers_from, IsListOf}
 use Rattle.coll_lang.specs.OneBroadcast.{IsOneBroadcast, even_bytes}
 use Rattle.coll_lang.specs.declared.types.Buffer.{Buffer}
@@ -123,12 +123,12 @@ even_is b n et es = ap (λ (t : ElemType). let c : Buffer = record { name = b.na
 
 -- the past with the parts that are fixed
 abbrev fixed : Past → Buffer → Buffer → CollStep → Past
-fixed past x y s = record { stage = past.stage; ranks = past.ranks; remote = false; buffers = x ∷ y ∷ []; inputs = 1; given = past.given; steps = s ∷ []; prints = past.prints; printed = past.printed }
+fixed past x y s = record { stage = past.stage; ranks = past.ranks; remote = false; buffers = x ∷ y ∷ []; inputs = 1; given = past.given; steps = s ∷ []; prints = past.prints; printed = past.printed; most_printed = past.most_printed }
 
 fixed_is : (past : Past) (x y : Buffer) (s : CollStep) → past.remote ≡ false → past.buffers ≡ x ∷ y ∷ [] → past.inputs ≡ 1 → past.steps ≡ s ∷ [] → past ≡ fixed past x y s
 fixed_is past x y s er eb ei es =
     let with : Bool → List Buffer → ℕ → List CollStep → Past =
-    λ m bs i ss. record { stage = past.stage; ranks = past.ranks; remote = m; buffers = bs; inputs = i; given = past.given; steps = ss; prints = past.prints; printed = past.printed } in
+    λ m bs i ss. record { stage = past.stage; ranks = past.ranks; remote = m; buffers = bs; inputs = i; given = past.given; steps = ss; prints = past.prints; printed = past.printed; most_printed = past.most_printed } in
     ap (λ m. with m past.buffers past.inputs past.steps) er ∙ ap (λ bs. with false bs past.inputs past.steps) eb ∙ ap (λ i. with false (x ∷ y ∷ []) i past.steps) ei ∙ ap (λ ss. with false (x ∷ y ∷ []) 1 ss) es
 
 lists_are : (ranks : ℕ) (lists : List (List ℕ)) → ranks ≤ length lists → drop ranks lists ≡ [] → length lists ≡ ranks
@@ -205,16 +205,16 @@ form_of past f g h =
 
 -- what the whole of a text that can be run comes to
 record BuiltText (bytes : List ℕ) (d : Program) : Type 0 where
-  reads : read bytes ≡ Ok d
+  reads : read_up_to all_prints bytes ≡ Ok d
   form : IsOneBroadcast d
 
 built_text : (bytes : List ℕ) (d : Program) → first.read bytes ≡ Ok d → BuiltText bytes d
 unfolding read_by
 built_text bytes d h =
-    let limit = short (nat_lt 1048576 (length bytes)) (program_in (read_from first_line BadLine nothing 1 (lines bytes))) d h in
-    let f = described_by (read_from first_line BadLine nothing 1 (lines bytes)) d limit.1 in
-    let b = built_goes nothing f.0 1 (lines bytes) refl f.1 in
-    let e = all_go nothing f.0 1 (lines bytes) (refl, refl, refl, refl, refl, refl) b.0 in
+    let limit = short (nat_lt 1048576 (length bytes)) (program_in (read_from first_line BadLine (nothing all_prints) 1 (lines bytes))) d h in
+    let f = described_by (read_from first_line BadLine (nothing all_prints) 1 (lines bytes)) d limit.1 in
+    let b = built_goes (nothing all_prints) f.0 1 (lines bytes) refl f.1 in
+    let e = all_go (nothing all_prints) f.0 1 (lines bytes) (refl, refl, refl, refl, refl, refl) b.0 in
     let done : f.0.stage ≡ Finished = finished_is f.0.stage e.done in
     let sound : Sound Finished f.0 = subst (λ s. Sound s f.0) done e.sound in
     record {
@@ -226,8 +226,8 @@ built_text bytes d h =
     short true r d h = cc
     short false r d h = (refl, h)
 
--- what can be run is read alike by the whole language
-pub built_is_read : (bytes : List ℕ) (d : Program) → first.read bytes ≡ Ok d → read bytes ≡ Ok d
+-- what can be run is read alike by the whole language, but for the limit on printed elements
+pub built_is_read : (bytes : List ℕ) (d : Program) → first.read bytes ≡ Ok d → read_up_to all_prints bytes ≡ Ok d
 built_is_read bytes d h = (built_text bytes d h).reads
 
 pub built_form : (bytes : List ℕ) (d : Program) → first.read bytes ≡ Ok d → IsOneBroadcast d

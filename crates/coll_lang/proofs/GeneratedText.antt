@@ -15,7 +15,7 @@ use Rattle.coll_text.specs.Values.{too_large, data_line}
 use Rattle.coll_text.proofs.ReadBack.{passes_too, none_is, digits_are, line_of, joined_passes, values_line_read}
 use Rattle.coll_lang.specs.Outline.{Program}
 use Rattle.coll_lang.specs.Forms.{kind_in, root_in, names_in, step_in, input_in, print_in, form_of}
-use Rattle.coll_lang.specs.Language.{Past, nothing, judge, line_at, later_line, form_line, input_line, barrier_line, step_line, print_line, values_line, buffer_named, ranks_in, read_from, is_allowed, is_finished, data_due, described}
+use Rattle.coll_lang.specs.Language.{Past, nothing, most_elements, judge, line_at, later_line, form_line, input_line, barrier_line, step_line, print_line, values_line, buffer_named, ranks_in, read_from, is_allowed, is_finished, data_due, described}
 use Rattle.coll_lang.specs.Accepted.{IsAccepted}
 use Rattle.coll_lang.specs.Generated.{value_at, rank_elements, all_elements, even_words, generated_shape, generated}
 use Rattle.coll_lang.specs.declared.types.Buffer.{Buffer}
@@ -115,10 +115,14 @@ rows_short (row ∷ rows) h =
     let both = length-append (row_line row ++ 10 ∷ []) (rows_text rows) in
     omega (arith, h.0.0, short, more, one, both)
 
+-- what is said before the first line
+abbrev start : Past
+start = nothing most_elements
+
 -- what the lines say at each stage
 abbrev said : Stage → List Buffer → List CollStep → List ℕ → ℕ → List (List ℕ) → Past
 said stage buffers steps prints printed given =
-    record { stage = stage; ranks = 64; remote = false; buffers = buffers; inputs = 1; given = given; steps = steps; prints = prints; printed = printed }
+    record { stage = stage; ranks = 64; remote = false; buffers = buffers; inputs = 1; given = given; steps = steps; prints = prints; printed = printed; most_printed = most_elements }
 
 abbrev a : Buffer
 a = even_words (codes "a") 64
@@ -146,13 +150,13 @@ rows_lead (row ∷ rows) given h =
 abbrev head : List ℕ
 head = (codes "coll 1" ++ 10 ∷ []) ++ ((codes "ranks 64" ++ 10 ∷ []) ++ (codes "input a u32 64" ++ 10 ∷ []))
 
-head_leads : Leads nothing (filling 64 []) head
+head_leads : Leads start (filling 64 []) head
 unfolding judge line_at later_line ranks_in form_of input_in form_line input_line
 head_leads =
-    let first : Past = record nothing { stage = Ranks } in
-    let second : Past = record nothing { stage = Options; ranks = 64 } in
-    then nothing first (filling 64 []) (codes "coll 1" ++ 10 ∷ []) ((codes "ranks 64" ++ 10 ∷ []) ++ (codes "input a u32 64" ++ 10 ∷ []))
-    (one_line nothing first (codes "coll 1") refl refl refl)
+    let first : Past = record start { stage = Ranks } in
+    let second : Past = record start { stage = Options; ranks = 64 } in
+    then start first (filling 64 []) (codes "coll 1" ++ 10 ∷ []) ((codes "ranks 64" ++ 10 ∷ []) ++ (codes "input a u32 64" ++ 10 ∷ []))
+    (one_line start first (codes "coll 1") refl refl refl)
     (then first second (filling 64 []) (codes "ranks 64" ++ 10 ∷ []) (codes "input a u32 64" ++ 10 ∷ [])
     (one_line first second (codes "ranks 64") refl refl refl)
     (one_line second (filling 64 []) (codes "input a u32 64") refl refl refl))
@@ -259,11 +263,11 @@ whole k = head ++ (rows_text (all_elements k) ++ (steps_lines ++ last_lines))
 abbrev given_of : ℕ → List (List ℕ)
 given_of k = map (bytes_of_list U32) (all_elements k)
 
-whole_leads : (k : ℕ) → Leads nothing (all_said (given_of k)) (whole k)
+whole_leads : (k : ℕ) → Leads start (all_said (given_of k)) (whole k)
 unfolding whole
 whole_leads k =
     let given = given_of k in
-    then nothing (filling 64 []) (all_said given) head (rows_text (all_elements k) ++ (steps_lines ++ last_lines)) head_leads
+    then start (filling 64 []) (all_said given) head (rows_text (all_elements k) ++ (steps_lines ++ last_lines)) head_leads
     (then (filling 64 []) (none_said given) (all_said given) (rows_text (all_elements k)) (steps_lines ++ last_lines)
     (subst (λ n. Leads (filling n []) (none_said given) (rows_text (all_elements k))) (rows_count k) (rows_lead (all_elements k) [] (rows_are k)))
     (then (none_said given) (five_said given) (all_said given) steps_lines last_lines (steps_lead given) (last_lead given)))
@@ -282,9 +286,9 @@ ends : (given : List (List ℕ)) (k : ℕ) → read_from judge AfterEnd (all_sai
 unfolding read_from
 ends given k = refl
 
-reads_whole : (k : ℕ) → read_from judge AfterEnd nothing 1 (lines (whole k)) ≡ Ok (all_said (given_of k))
+reads_whole : (k : ℕ) → read_from judge AfterEnd start 1 (lines (whole k)) ≡ Ok (all_said (given_of k))
 reads_whole k =
-    ap (λ (x : List ℕ). read_from judge AfterEnd nothing 1 (lines x)) (sym (append-nil (whole k)))
+    ap (λ (x : List ℕ). read_from judge AfterEnd start 1 (lines x)) (sym (append-nil (whole k)))
     ∙ whole_leads k (all_said (given_of k)) [] (ends (given_of k)) 1
 
 -- the generated description is accepted

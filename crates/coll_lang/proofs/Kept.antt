@@ -1,61 +1,84 @@
 -- What is kept of a description that was read.
-use Rattle.std.proofs.Common.{◌≡◌, ℕ, ◌*◌, ◌≤◌, List, length, take, Result, Ok, Err, false, refl, sym, ap, ◌∙◌, arith}
-use Rattle.std.specs.Prelude.{nat_lt, IfOk}
+use Rattle.std.proofs.Common.{◌≡◌, ℕ, ◌*◌, ◌≤◌, List, length, take, Result, Ok, Err, false, refl, sym, ap, ◌∙◌, arith, inl, inr}
+use Rattle.std.specs.Prelude.{nat_lt, IfOk, ◌⊎◌}
+use Rattle.std.proofs.Math.Logic.{∥∥₁_elim}
 use Rattle.std.proofs.lemmas.Bool.Decides.{nat_tests}
 use Rattle.std.proofs.lemmas.List.{length-take-le}
 use Rattle.coll_text.specs.Text.{lines}
-use Rattle.coll_lang.specs.Outline.{Program}
-use Rattle.coll_lang.specs.Language.{Past, read, read_by, read_from, nothing, described}
+use Rattle.coll_lang.specs.Outline.{Outline, Program}
+use Rattle.coll_lang.specs.Language.{Past, read, read_by, read_up_to, read_from, nothing, described, most_elements}
 use Rattle.coll_lang.specs.FirstForm as first
-use Rattle.coll_lang.specs.Extents.{judged, after}
+use Rattle.coll_lang.specs.FirstForm.{all_prints}
+use Rattle.coll_lang.specs.Extents.{judged, most_printed_of, after}
 use Rattle.coll_lang.specs.Spelling.{text}
-use Rattle.coll_lang.specs.Accepted.{IsAccepted}
+use Rattle.coll_lang.specs.Accepted.{IsAccepted, IsAcceptedShape}
 use Rattle.coll_lang.specs.WellFormed.{IsWellFormed, IsWellGiven}
 use Rattle.coll_lang.specs.OneBroadcast.{IsOneBroadcast}
 use Rattle.coll_lang.specs.Verdicts.{Reads}
 use Rattle.coll_lang.specs.declared.fault.ParseFault.{ParseFault}
 use Rattle.coll_lang.specs.declared.whole.Extent.{Extent}
 use Rattle.coll_lang.specs.declared.whole.Extent.TheVariants as extents
-use Rattle.coll_lang.proofs.AllLines.{one_spelling, well_formed, well_given}
+use Rattle.coll_lang.proofs.AllLines.{spelled, one_spelling, well_formed, well_given}
 use Rattle.coll_lang.proofs.Built.{built_is_read, built_form}
 use Rattle.coll_lang.proofs.InputLists.{lists_of_all}
+use Rattle.coll_lang.proofs.Props.{well_formed_prop, well_given_prop}
 
 within : (n : ℕ) → n ≤ 1048576 → nat_lt 1048576 n ≡ false
 within n le = grind (arith, nat_tests)
 
 -- what all lines say is what the text is read as
-read_is : (e : Extent) (bytes : List ℕ) (final : Past) → length bytes ≤ 1048576 → read_from (judged e) (after e) nothing 1 (lines bytes) ≡ Ok final → read_by (judged e) (after e) bytes ≡ Ok (described final)
+read_is : (e : Extent) (bytes : List ℕ) (final : Past) → length bytes ≤ 1048576 → read_from (judged e) (after e) (nothing (most_printed_of e)) 1 (lines bytes) ≡ Ok final → read_by (most_printed_of e) (judged e) (after e) bytes ≡ Ok (described final)
 unfolding read_by
 read_is e bytes final le h = rw (within (length bytes) le, h) refl
 
--- however much is read, the whole language reads it alike
-read_alike : (e : Extent) (bytes : List ℕ) (d : Program) → read_by (judged e) (after e) bytes ≡ Ok d → read bytes ≡ Ok d
+-- however much is read, the whole language reads it alike with the same limit
+read_alike : (e : Extent) (bytes : List ℕ) (d : Program) → read_by (most_printed_of e) (judged e) (after e) bytes ≡ Ok d → read_up_to (most_printed_of e) bytes ≡ Ok d
 read_alike extents.All bytes d h = h
 read_alike extents.Built bytes d h = built_is_read bytes d h
 
--- what was read is accepted
+-- what was read is read again from its spelling
+again : (most : ℕ) (bytes : List ℕ) (d : Program) → read_up_to most bytes ≡ Ok d → read_up_to most (text d) ≡ Ok d
+again most bytes d h = ap (read_up_to most) (sym (spelled most bytes d h)) ∙ h
+
+-- what the whole language reads is accepted
 pub accepted : (bytes : List ℕ) (d : Program) → read bytes ≡ Ok d → IsAccepted d
-accepted bytes d h = record { reads = ap read (sym (one_spelling bytes d h)) ∙ h }
+accepted bytes d h = record { reads = ∣ inl (again most_elements bytes d h) ∣₁ }
+
+accepted_by : (e : Extent) (bytes : List ℕ) (d : Program) → read_up_to (most_printed_of e) bytes ≡ Ok d → IsAccepted d
+accepted_by extents.All bytes d h = accepted bytes d h
+accepted_by extents.Built bytes d h = record { reads = ∣ inr (again all_prints bytes d h) ∣₁ }
 
 -- what is accepted is well formed
 pub well_formed_of : (d : Program) → IsAccepted d → IsWellFormed d.shape
-well_formed_of d h = well_formed (text d) d h.reads
+well_formed_of d h = ∥∥₁_elim h.reads (well_formed_prop d.shape) either
+  where
+    either : (read (text d) ≡ Ok d) ⊎ (read_up_to all_prints (text d) ≡ Ok d) → IsWellFormed d.shape
+    either (inl r) = well_formed most_elements (text d) d r
+    either (inr r) = well_formed all_prints (text d) d r
 
 pub well_given_of : (d : Program) → IsAccepted d → IsWellGiven d
-well_given_of d h = well_given (text d) d h.reads
+well_given_of d h = ∥∥₁_elim h.reads (well_given_prop d) either
+  where
+    either : (read (text d) ≡ Ok d) ⊎ (read_up_to all_prints (text d) ≡ Ok d) → IsWellGiven d
+    either (inl r) = well_given most_elements (text d) d r
+    either (inr r) = well_given all_prints (text d) d r
+
+-- a shape is well formed, since it is that of some description whose text is accepted
+pub shape_law : (s : Outline) → IsAcceptedShape s → IsWellFormed s
+shape_law s h = ∥∥₁_elim h (well_formed_prop s) (λ g. well_formed_of (record { shape = s; inputs = g.0 }) g.1)
 
 -- what a reader must show of what its lines say
 pub record IsKept (past : Past) : Type 0 where
   pub accepted : IsAccepted (described past)
   pub lists : length past.given ≡ past.inputs * past.ranks
 
-pub kept : (e : Extent) (bytes : List ℕ) (final : Past) → length bytes ≤ 1048576 → read_from (judged e) (after e) nothing 1 (lines bytes) ≡ Ok final → IsKept final
+pub kept : (e : Extent) (bytes : List ℕ) (final : Past) → length bytes ≤ 1048576 → read_from (judged e) (after e) (nothing (most_printed_of e)) 1 (lines bytes) ≡ Ok final → IsKept final
 kept e bytes final le h =
     let reads = read_alike e bytes (described final) (read_is e bytes final le h) in
-    let formed = well_formed bytes (described final) reads in
-    let given = well_given bytes (described final) reads in
+    let formed = well_formed (most_printed_of e) bytes (described final) reads in
+    let given = well_given (most_printed_of e) bytes (described final) reads in
     record {
-      accepted = accepted bytes (described final) reads;
+      accepted = accepted_by e bytes (described final) reads;
       lists = lists_of_all final.ranks (take final.inputs final.buffers) final.given given.filled ∙ ap (λ n. n * final.ranks) (length-take-le final.inputs final.buffers formed.inputs_first);
     }
 

@@ -10,8 +10,8 @@ pub mod AllLines
 pub mod Built
 pub mod Bytes
 pub mod OneBroadcast
+pub mod Props
 pub mod Kept
 pub mod Printed
-pub mod ShapeLaw
 pub mod GeneratedText
 pub mod GeneratedLists

@@ -74,5 +74,5 @@ by_the_table past (input name ty count) = inputs (number_between 1 4096 count) (
 by_the_table past barrier = barriers (nat_le 64 (length past.steps)) _
 by_the_table past (step None kind a b) = rootless (is_taken past.buffers b) (buffer_named past.buffers a) (λ from. spread_after past.ranks (step_of kind 0 from.0 (length past.buffers)) from.2) (nat_le 64 (length past.steps)) (nat_le 128 (length past.buffers)) _
 by_the_table past (step (Some word) kind a b) = rooted past.ranks (number_of word) (is_taken past.buffers b) (buffer_named past.buffers a) (λ from r. spread_after past.ranks (step_of kind r from.0 (length past.buffers)) from.2) (nat_le 64 (length past.steps)) (nat_le 128 (length past.buffers)) _
-by_the_table past (print name) = prints (buffer_named past.buffers name) (nat_le 128 (length past.prints)) (λ from. nat_lt most_elements (past.printed + elements_of past.ranks from.2)) _
+by_the_table past (print name) = prints (buffer_named past.buffers name) (nat_le 128 (length past.prints)) (λ from. nat_lt past.most_printed (past.printed + elements_of past.ranks from.2)) _
 by_the_table past last = refl

@@ -15,7 +15,7 @@ use Rattle.coll_text.proofs.DataSpelled.{data_said}
 use Rattle.coll_lang.specs.Outline.{length_of, name_at}
 use Rattle.coll_lang.specs.Steps.{elements_of}
 use Rattle.coll_lang.specs.Forms.{barrier, print, last}
-use Rattle.coll_lang.specs.Language.{Past, buffer_named, data_due, most_elements, barrier_line, print_line, values_line, unless_flawed}
+use Rattle.coll_lang.specs.Language.{Past, buffer_named, data_due, barrier_line, print_line, values_line, unless_flawed}
 use Rattle.coll_lang.specs.Spelling.{head_text, remote_text, data_text, inputs_text, step_words, steps_text, prints_text}
 use Rattle.coll_lang.specs.WellFormed.{StepFits, results, IsListOf, Filled}
 use Rattle.coll_lang.specs.declared.types.Buffer.{Buffer}
@@ -118,7 +118,7 @@ unfolding print_line
 print_goes past next name f a h =
     let from = some_of UnknownBuffer (buffer_named past.buffers name) _ next h in
     let full = passed (nat_le 128 (length past.prints)) TooMany _ next from.2 in
-    let large = passed (nat_lt most_elements (past.printed + elements_of past.ranks from.0.2)) TooLarge _ next full.1 in
+    let large = passed (nat_lt past.most_printed (past.printed + elements_of past.ranks from.0.2)) TooLarge _ next full.1 in
     let is = found past.buffers name from.0 from.1 in
     let i = from.0.0 in
     let after : Past = record past { stage = Prints; prints = past.prints ++ i ∷ []; printed = past.printed + elements_of past.ranks from.0.2 } in

@@ -1,13 +1,15 @@
 -- What a description keeps.
-use Rattle.std.specs.Prelude.{◌≡◌, ℕ, List, Ok}
+use Rattle.std.specs.Prelude.{◌≡◌, ℕ, List, Ok, ◌⊎◌}
 use Rattle.coll_lang.specs.Outline.{Outline, Given, Program}
-use Rattle.coll_lang.specs.Language.{read}
+use Rattle.coll_lang.specs.Language.{read_up_to, read}
+use Rattle.coll_lang.specs.FirstForm.{all_prints}
 use Rattle.coll_lang.specs.Spelling.{text}
 use Rattle.coll_lang.specs.WellFormed.{IsWellFormed, IsWellGiven}
 
--- its text is accepted: reading it gives the description
+-- its text is accepted: reading it gives the description, with the limit on printed elements of the whole language or
+-- with that of what can be run so far
 pub record IsAccepted (d : Program) : Type 0 where
-  pub reads : read (text d) ≡ Ok d
+  pub reads : ∥ ((read (text d) ≡ Ok d) ⊎ (read_up_to all_prints (text d) ≡ Ok d)) ∥₁
 
 -- What a text describes has that text as its one spelling.
 abbrev pub OneSpelling : Type 0

@@ -1,7 +1,7 @@
 -- How much of the language is read.
 use Rattle.std.specs.Prelude.{ℕ, List, Result}
-use Rattle.coll_lang.specs.Language.{Past, judge}
-use Rattle.coll_lang.specs.FirstForm.{first_line}
+use Rattle.coll_lang.specs.Language.{Past, most_elements, judge}
+use Rattle.coll_lang.specs.FirstForm.{all_prints, first_line}
 use Rattle.coll_lang.specs.declared.whole.Extent.{Extent}
 use Rattle.coll_lang.specs.declared.whole.Extent.TheVariants.{All, Built}
 use Rattle.coll_lang.specs.declared.fault.Refusal.{Refusal}
@@ -11,6 +11,11 @@ use Rattle.coll_lang.specs.declared.fault.Refusal.TheVariants.{BadLine, AfterEnd
 abbrev pub judged : Extent → Past → List ℕ → Result Past Refusal
 judged All = judge
 judged Built = first_line
+
+-- how many elements all prints together may have
+abbrev pub most_printed_of : Extent → ℕ
+most_printed_of All = most_elements
+most_printed_of Built = all_prints
 
 -- how bytes behind the last line are refused
 abbrev pub after : Extent → Refusal

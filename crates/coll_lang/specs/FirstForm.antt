@@ -66,6 +66,10 @@ if_built (Ok next) = if is_built next.stage next then Ok next else Err BadLine
 unfoldable pub first_line : Past → List ℕ → Result Past Refusal
 first_line past line = if_built (judge past line)
 
+-- 128 prints of 64 times 4096 elements: no print of this form has more
+abbrev pub all_prints : ℕ
+all_prints = 33554432
+
 -- What a text describes, where it can be run, or its first refusal with its line.
 abbrev pub read : List ℕ → Result Program (ℕ × Refusal)
-read = read_by first_line BadLine
+read = read_by all_prints first_line BadLine

@@ -34,11 +34,12 @@ pub record Past : Type 0 where
   pub steps : List CollStep
   -- the numbers of the buffers that are printed
   pub prints : List ℕ
-  -- the elements of all prints, over all ranks
+  -- the elements of all prints, over all ranks, and the most that they may be
   pub printed : ℕ
+  pub most_printed : ℕ
 
-abbrev pub nothing : Past
-nothing = record { stage = Version; ranks = 1; remote = false; buffers = []; inputs = 0; given = []; steps = []; prints = []; printed = 0 }
+abbrev pub nothing : ℕ → Past
+nothing most = record { stage = Version; ranks = 1; remote = false; buffers = []; inputs = 0; given = []; steps = []; prints = []; printed = 0; most_printed = most }
 
 infixl 10 ◌>>=◌
 abbrev pub ◌>>=◌ : {A B : Type 0} → Result A Refusal → (A → Result B Refusal) → Result B Refusal
@@ -146,7 +147,7 @@ unfoldable pub print_line : Past → List ℕ → Result Past Refusal
 print_line past name = do
   from ← or_refuse UnknownBuffer (buffer_named past.buffers name)
   _ ← refuse (nat_le 128 (length past.prints)) TooMany
-  _ ← refuse (nat_lt most_elements (past.printed + elements_of past.ranks from.2)) TooLarge
+  _ ← refuse (nat_lt past.most_printed (past.printed + elements_of past.ranks from.2)) TooLarge
   Ok (record past { stage = Prints; prints = past.prints ++ from.0 ∷ []; printed = past.printed + elements_of past.ranks from.2 })
 
 -- a line behind the first two that may stand where it does
@@ -225,10 +226,13 @@ abbrev pub program_in : Result Past (ℕ × Refusal) → Result Program (ℕ × 
 program_in (Ok past) = Ok (described past)
 program_in (Err refusal) = Err refusal
 
--- a text of at most a mebibyte, read line by line
-unfoldable pub read_by : (Past → List ℕ → Result Past Refusal) → Refusal → List ℕ → Result Program (ℕ × Refusal)
-read_by judged after bytes = if nat_lt 1048576 (length bytes) then Err (0, TooLong) else program_in (read_from judged after nothing 1 (lines bytes))
+-- a text of at most a mebibyte, read line by line, whose prints have at most so many elements
+unfoldable pub read_by : ℕ → (Past → List ℕ → Result Past Refusal) → Refusal → List ℕ → Result Program (ℕ × Refusal)
+read_by most judged after bytes = if nat_lt 1048576 (length bytes) then Err (0, TooLong) else program_in (read_from judged after (nothing most) 1 (lines bytes))
+
+abbrev pub read_up_to : ℕ → List ℕ → Result Program (ℕ × Refusal)
+read_up_to most = read_by most judge AfterEnd
 
 -- What a text describes, or its first refusal with its line.
 abbrev pub read : List ℕ → Result Program (ℕ × Refusal)
-read = read_by judge AfterEnd
+read = read_up_to most_elements

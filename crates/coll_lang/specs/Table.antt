@@ -48,7 +48,7 @@ rows past (step root kind a b) =
 rows past (print name) =
     (UnknownBuffer, is_none (buffer_named past.buffers name))
     ∷ (TooMany, nat_le 128 (length past.prints))
-    ∷ (TooLarge, holds_of (λ from. nat_lt most_elements (past.printed + elements_of past.ranks from.2)) (buffer_named past.buffers name)) ∷ []
+    ∷ (TooLarge, holds_of (λ from. nat_lt past.most_printed (past.printed + elements_of past.ranks from.2)) (buffer_named past.buffers name)) ∷ []
 rows past last = []
 
 -- the first row that holds

@@ -20,6 +20,7 @@ fn buffer_number(buffers: &[Buffer], name: &[u8]) -> Option<usize>
     buffers.iter().position(|b| is(b.name.as_slice(), name))
 }
 
+/// Whether a buffer has the name.
 pub fn is_taken(buffers: &[Buffer], name: &[u8]) -> bool
     ensures { result ≡ is_taken buffers.now name.now }
 {
@@ -54,6 +55,7 @@ pub fn rank_of(ranks: u32, root: Option<&[u8]>) -> Result<Option<Rank>, LineFaul
     }
 }
 
+/// A buffer that the root alone holds; with one rank it is even.
 fn at_root(ranks: u32, root: Rank, len: u64) -> Spread
     ensures { result ≡ at_root ranks root len }
 {

@@ -118,7 +118,8 @@ impl Inputs {
     }
 }
 
-/// What a text describes. It keeps that its text is accepted: reading the text of its one spelling gives it again.
+/// What a text describes. It keeps that its text is accepted: reading its one spelling gives it again, with the limit on
+/// printed elements that it was read with.
 #[derive(Drop)]
 pub struct Description {
     shape: Shape,

@@ -11,6 +11,7 @@ use crate::take::take_line;
 use crate::types::{Buffer, CollStep};
 use ptl_types::ElemType;
 
+/// Whether the first buffer is there and has bytes.
 fn first_is_bytes(buffers: &[Buffer]) -> bool
     ensures { result ≡ first_is_bytes buffers.now }
 {

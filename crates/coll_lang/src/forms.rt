@@ -45,6 +45,7 @@ pub struct StepLine<'a> {
     pub b: &'a [u8],
 }
 
+/// TYPE
 fn type_of(word: &[u8]) -> Option<ElemType>
     ensures { result ≡ type_of word.now }
 {
@@ -69,6 +70,7 @@ fn type_of(word: &[u8]) -> Option<ElemType>
     }
 }
 
+/// OP
 fn op_of(word: &[u8]) -> Option<AtomicOp>
     ensures { result ≡ op_of word.now }
 {
@@ -97,6 +99,7 @@ fn op_of(word: &[u8]) -> Option<AtomicOp>
     }
 }
 
+/// OP as the next word.
 fn op_in(words: &mut Words) -> Option<AtomicOp>
     ensures some { IfSome result (λ op. op_in (words_in words.old) ≡ Some (op, words_in words.new)) }
     ensures none { IfNone result (op_in (words_in words.old) ≡ None) }
@@ -104,12 +107,14 @@ fn op_in(words: &mut Words) -> Option<AtomicOp>
     op_of(words.next()?)
 }
 
+/// Whether the step of this first word names a root.
 fn has_root(key: &[u8]) -> bool
     ensures { result ≡ has_root key.now }
 {
     is(key, b"broadcast") || is(key, b"reduce") || is(key, b"gather")
 }
 
+/// The kind of a step, by its first word and its OP.
 #[tactic(auto, unfolding(crate::specs::Forms::kind_in))]
 fn kind_in(key: &[u8], words: &mut Words) -> Option<StepKind>
     ensures some { IfSome result (λ kind. kind_in key.now (words_in words.old) ≡ Some (kind, words_in words.new)) }
@@ -151,6 +156,7 @@ fn root_in<'a>(key: &[u8], words: &mut Words<'a>) -> Option<Option<&'a [u8]>>
     }
 }
 
+/// A and B, the last two words of a step.
 #[tactic(auto, unfolding(crate::specs::Forms::names_in))]
 fn names_in<'a>(mut words: Words<'a>) -> Option<(&'a [u8], &'a [u8])>
     ensures { option_map (λ names. (names.0.now, names.1.now)) result ≡ names_in (words_in words.entry) }
@@ -163,6 +169,7 @@ fn names_in<'a>(mut words: Words<'a>) -> Option<(&'a [u8], &'a [u8])>
     Some((a, b))
 }
 
+/// The words of a step behind its first.
 #[tactic(auto, unfolding(crate::specs::Forms::step_in))]
 fn step_in<'a>(key: &[u8], mut words: Words<'a>) -> Option<Line<'a>>
     ensures { option_map form result ≡ step_in key.now (words_in words.entry) }
@@ -173,6 +180,7 @@ fn step_in<'a>(key: &[u8], mut words: Words<'a>) -> Option<Line<'a>>
     Some(Line::Step(StepLine { root, kind, a, b }))
 }
 
+/// The words of an input line behind its first.
 #[tactic(auto, unfolding(crate::specs::Forms::input_in))]
 fn input_in<'a>(mut words: Words<'a>) -> Option<Line<'a>>
     ensures { option_map form result ≡ input_in (words_in words.entry) }
@@ -187,6 +195,7 @@ fn input_in<'a>(mut words: Words<'a>) -> Option<Line<'a>>
     Some(Line::Input { name, ty, count })
 }
 
+/// The words of a print behind its first.
 #[tactic(auto, unfolding(crate::specs::Forms::print_in))]
 fn print_in<'a>(mut words: Words<'a>) -> Option<Line<'a>>
     ensures { option_map form result ≡ print_in (words_in words.entry) }
@@ -198,6 +207,7 @@ fn print_in<'a>(mut words: Words<'a>) -> Option<Line<'a>>
     Some(Line::Print(name))
 }
 
+/// The word behind `complete`.
 #[tactic(auto, unfolding(crate::specs::Forms::complete_in))]
 fn complete_in<'a>(mut words: Words<'a>) -> Option<Line<'a>>
     ensures { option_map form result ≡ complete_in (words_in words.entry) }
@@ -209,6 +219,7 @@ fn complete_in<'a>(mut words: Words<'a>) -> Option<Line<'a>>
     Some(Line::Complete)
 }
 
+/// A line of one word.
 fn alone<'a>(line: Line<'a>, mut words: Words<'a>) -> Option<Line<'a>>
     ensures { option_map form result ≡ alone (form line.entry) (words_in words.entry) }
 {

@@ -17,6 +17,7 @@ use itoa::Buffer as Digits;
 use ptl_types::{AtomicOp, ElemType, NoMemory};
 use std::alloc::{AllocError, Global};
 
+/// TYPE
 fn type_word(ty: ElemType) -> &'static [u8]
     ensures { result.now ≡ type_word ty }
 {
@@ -32,6 +33,7 @@ fn type_word(ty: ElemType) -> &'static [u8]
     }
 }
 
+/// OP
 fn op_word(op: AtomicOp) -> &'static [u8]
     ensures { result.now ≡ op_word op }
 {
@@ -59,6 +61,7 @@ fn name_at(buffers: &[Buffer], i: u32) -> &[u8]
     }
 }
 
+/// The lines 1 and 2.
 fn print_head(out: &mut Vec<u8>, ranks: u32) -> Result<(), AllocError>
     ensures { OnOk result (out.new.items ≡ out.old.items ++ head_text ranks) }
 {
@@ -67,6 +70,7 @@ fn print_head(out: &mut Vec<u8>, ranks: u32) -> Result<(), AllocError>
     push_line(out, &[b"ranks", digits.format(ranks).as_bytes()])
 }
 
+/// `complete remote`, where it stands.
 fn print_remote(out: &mut Vec<u8>, remote: bool) -> Result<(), AllocError>
     ensures { OnOk result (out.new.items ≡ out.old.items ++ remote_text remote) }
 {
@@ -103,6 +107,7 @@ fn push_five<'a>(
     push_line(out, &[key, second, third, fourth, fifth])
 }
 
+/// The line of an input.
 fn print_input(out: &mut Vec<u8>, buffer: &Buffer) -> Result<(), AllocError>
     ensures { OnOk result (out.new.items ≡ out.old.items ++ input_text buffer.now) }
 {
@@ -146,6 +151,7 @@ fn print_inputs(
     Ok(())
 }
 
+/// The line of a step.
 fn print_step(out: &mut Vec<u8>, buffers: &[Buffer], step: CollStep) -> Result<(), AllocError>
     ensures { OnOk result (out.new.items ≡ out.old.items ++ line (step_words buffers.now step)) }
 {
@@ -200,6 +206,7 @@ fn print_step(out: &mut Vec<u8>, buffers: &[Buffer], step: CollStep) -> Result<(
     }
 }
 
+/// The lines of all steps.
 fn print_steps(out: &mut Vec<u8>, buffers: &[Buffer], steps: &[CollStep]) -> Result<(), AllocError>
     ensures { OnOk result (out.new.items ≡ out.old.items ++ steps_text buffers.now steps.now) }
 {
@@ -209,6 +216,7 @@ fn print_steps(out: &mut Vec<u8>, buffers: &[Buffer], steps: &[CollStep]) -> Res
     Ok(())
 }
 
+/// The lines of all prints.
 fn print_prints(out: &mut Vec<u8>, buffers: &[Buffer], prints: &[u32]) -> Result<(), AllocError>
     ensures { OnOk result (out.new.items ≡ out.old.items ++ prints_text buffers.now prints.now) }
 {
@@ -239,7 +247,7 @@ fn print_all(out: &mut Vec<u8>, d: &Description) -> Result<(), AllocError>
     Ok(())
 }
 
-/// The one spelling of a description: the text that `parse_all` reads as it.
+/// The one spelling of a description: the text that is read as it.
 ///
 /// # Errors
 ///

@@ -2,12 +2,19 @@
 
 ghost use Rattle.std.specs.Prelude.{◌≤◌, vec_len, All};
 ghost use Rattle.coll_lang.specs.Language.{most_elements};
+ghost use Rattle.coll_lang.specs.FirstForm.{all_prints};
 ghost use Rattle.coll_lang.specs.Outline.{length_of};
 
 use crate::lists::RankList;
 use crate::stage::Stage;
 use crate::types::{Buffer, CollStep};
 use std::alloc::Global;
+
+/// The most elements that all prints together may have, over all ranks.
+pub const MOST_PRINTED: u64 = 16_777_216;
+
+/// The same where only what runs so far is read: 128 prints of 64 times 4096 elements.
+pub const ALL_PRINTS: u64 = 33_554_432;
 
 /// What the lines so far say.
 #[derive(Drop)]
@@ -22,10 +29,13 @@ pub struct Reader {
     pub steps: Vec<CollStep>,
     pub prints: Vec<u32>,
     pub printed: u64,
+    /// The most elements that all prints together may have.
+    pub most_printed: u64,
     ghost some_ranks: { 1 ≤ ranks },
     ghost few_ranks: { ranks ≤ 64 },
     ghost few_buffers: { vec_len buffers ≤ 128 },
     ghost few_inputs: { inputs ≤ vec_len buffers },
-    ghost little_printed: { printed ≤ most_elements },
+    ghost little_printed: { printed ≤ most_printed },
+    ghost at_most: { most_printed ≤ all_prints },
     ghost small: { All (λ b. length_of b.spread ≤ most_elements) buffers.items },
 }

@@ -46,6 +46,7 @@ fn ranks_in(line: &[u8]) -> Option<u32>
     number_between(1, 64, number)
 }
 
+/// Whether such a line may stand at this stage.
 fn may_stand(stage: Stage, line: &Line) -> bool
     ensures { result ≡ may_stand stage (form line.now) }
 {
@@ -58,6 +59,7 @@ fn may_stand(stage: Stage, line: &Line) -> bool
     }
 }
 
+/// The stage where this many data lines are still due.
 fn data_due(left: u32, ty: ElemType, count: u32) -> Stage
     ensures { result ≡ data_due left ty count }
 {
@@ -90,6 +92,7 @@ fn input_line(reader: &mut Reader, name: &[u8], ty: ElemType, count: &[u8]) -> R
     Ok(())
 }
 
+/// `barrier`
 #[tactic(auto, unfolding(crate::specs::Language::barrier_line))]
 fn barrier_line(reader: &mut Reader) -> Result<(), LineFault>
     ensures { Takes result reader.new (barrier_line (past reader.old)) }
@@ -135,6 +138,7 @@ fn step_line(reader: &mut Reader, step: StepLine) -> Result<(), LineFault>
     Ok(())
 }
 
+/// `print NAME`
 #[tactic(auto, unfolding(crate::specs::Language::print_line))]
 fn print_line(reader: &mut Reader, name: &[u8]) -> Result<(), LineFault>
     ensures { Takes result reader.new (print_line (past reader.old) name.now) }
@@ -146,7 +150,7 @@ fn print_line(reader: &mut Reader, name: &[u8]) -> Result<(), LineFault>
         return Err(LineFault::Refused(Refusal::TooMany));
     }
     let printed = reader.printed + elements_of(reader.ranks, spread);
-    if printed > MOST_ELEMENTS {
+    if printed > reader.most_printed {
         return Err(LineFault::Refused(Refusal::TooLarge));
     }
     reader.prints.push(number)?;
@@ -206,6 +210,7 @@ fn values_line(
     Ok(())
 }
 
+/// A line behind the first two that is no data line.
 #[tactic(auto, unfolding(crate::specs::Language::later_line))]
 fn later_line(reader: &mut Reader, line: &[u8]) -> Result<(), LineFault>
     ensures { Takes result reader.new (later_line (past reader.old) line.now) }
@@ -219,6 +224,7 @@ fn later_line(reader: &mut Reader, line: &[u8]) -> Result<(), LineFault>
     form_line(reader, line)
 }
 
+/// A line of allowed bytes, by the stage.
 #[tactic(auto, unfolding(crate::specs::Language::line_at))]
 fn line_at(reader: &mut Reader, line: &[u8]) -> Result<(), LineFault>
     ensures { Takes result reader.new (line_at reader.old.stage (past reader.old) line.now) }
@@ -243,6 +249,7 @@ fn line_at(reader: &mut Reader, line: &[u8]) -> Result<(), LineFault>
     }
 }
 
+/// Whether each byte of the line is one from 0x20 to 0x7E.
 fn are_allowed(line: &[u8]) -> bool
     ensures { result ≡ list_all is_allowed line.now }
 {

@@ -3,7 +3,7 @@
 ghost use Rattle.std.specs.Prelude.{◌≡◌, ◌≤◌, length, IfOk};
 ghost use Rattle.coll_text.specs.Text.{lines};
 ghost use Rattle.coll_lang.specs.Language.{nothing, read, read_by, read_from, judge, is_finished};
-ghost use Rattle.coll_lang.specs.Extents.{judged, after};
+ghost use Rattle.coll_lang.specs.Extents.{judged, most_printed_of, after};
 ghost use Rattle.coll_lang.specs.FirstForm as first;
 ghost use Rattle.coll_lang.specs.States.{past, Takes};
 ghost use Rattle.coll_lang.specs.Verdicts.{Reads, fault_at};
@@ -16,7 +16,7 @@ ghost use Rattle.coll_lang.specs.declared.whole.Extent.TheVariants.{All, Built};
 use crate::description::Description;
 use crate::fault::{LineFault, ParseFault, Refusal};
 use crate::first_form::first_line;
-use crate::reader::Reader;
+use crate::reader::{ALL_PRINTS, MOST_PRINTED, Reader};
 use crate::stage::Stage;
 use crate::take::take_line;
 use coll_text::cut;
@@ -33,8 +33,21 @@ enum Extent {
     Built,
 }
 
-fn new_reader(alloc: Global) -> Reader
-    ensures { past result ≡ nothing }
+/// How many elements all prints together may have.
+fn most_printed_of(extent: Extent) -> u64
+    ensures value { result ≡ most_printed_of extent }
+    ensures most { result ≤ first.all_prints }
+{
+    match extent {
+        Extent::All => MOST_PRINTED,
+        Extent::Built => ALL_PRINTS,
+    }
+}
+
+/// A reader that no line was given yet.
+fn new_reader(alloc: Global, most_printed: u64) -> Reader
+    requires { most_printed ≤ first.all_prints }
+    ensures { past result ≡ nothing most_printed }
 {
     Reader {
         alloc,
@@ -47,15 +60,18 @@ fn new_reader(alloc: Global) -> Reader
         steps: Vec::new(alloc),
         prints: Vec::new(alloc),
         printed: 0,
+        most_printed,
     }
 }
 
+/// Whether no line is due.
 fn is_finished(stage: Stage) -> bool
     ensures { result ≡ is_finished stage }
 {
     matches!(stage, Stage::Finished)
 }
 
+/// Takes one line, as the extent judges it.
 fn take(extent: Extent, reader: &mut Reader, line: &[u8]) -> Result<(), LineFault>
     ensures { Takes result reader.new (judged extent (past reader.old) line.now) }
 {
@@ -65,6 +81,7 @@ fn take(extent: Extent, reader: &mut Reader, line: &[u8]) -> Result<(), LineFaul
     }
 }
 
+/// How bytes behind the last line are refused.
 fn after(extent: Extent) -> Refusal
     ensures { result ≡ after extent }
 {
@@ -78,9 +95,9 @@ fn after(extent: Extent) -> Refusal
 #[tactic(auto, using(crate::proofs::Reading::goes_on, crate::proofs::Reading::breaks_off))]
 fn read_lines(alloc: Global, extent: Extent, bytes: &[u8]) -> Result<Reader, ParseFault>
     requires { length bytes.now ≤ 1048576 }
-    ensures { Reads past result (read_from (judged extent) (after extent) nothing 1 (lines bytes.now)) }
+    ensures { Reads past result (read_from (judged extent) (after extent) (nothing (most_printed_of extent)) 1 (lines bytes.now)) }
 {
-    let mut reader = new_reader(alloc);
+    let mut reader = new_reader(alloc, most_printed_of(extent));
     let mut rest = bytes;
     let mut number = 1u32;
     while !is_finished(reader.stage) {
@@ -100,6 +117,7 @@ fn read_lines(alloc: Global, extent: Extent, bytes: &[u8]) -> Result<Reader, Par
     }
 }
 
+/// A line's fault, with its number.
 fn fault_at(line: u32, fault: LineFault) -> ParseFault
     ensures { result ≡ fault_at line fault }
 {
@@ -109,15 +127,17 @@ fn fault_at(line: u32, fault: LineFault) -> ParseFault
     }
 }
 
+/// The refusal of a line.
 fn refused(line: u32, name: Refusal) -> ParseFault
     ensures { result ≡ ParseFault.Refused line name }
 {
     ParseFault::Refused { line, name }
 }
 
+/// What a text describes, or its first refusal.
 #[tactic(auto, unfolding(crate::specs::Language::read_by))]
 fn parsed(alloc: Global, extent: Extent, bytes: &[u8]) -> Result<Description, ParseFault>
-    ensures { Reads (λ d. d) result (read_by (judged extent) (after extent) bytes.now) }
+    ensures { Reads (λ d. d) result (read_by (most_printed_of extent) (judged extent) (after extent) bytes.now) }
 {
     if bytes.len() > LONGEST {
         return Err(refused(0, Refusal::TooLong));
@@ -141,7 +161,8 @@ pub fn parse_all(alloc: Global, bytes: &[u8]) -> Result<Description, ParseFault>
 }
 
 /// Reads a description that can be run so far: one input of bytes, one broadcast of it, and prints. Every other line is
-/// refused as BadLine.
+/// refused as BadLine. All prints together may have 33,554,432 elements, which is as many as 128 prints of 4096 bytes on 64
+/// ranks have, so no print is refused for it; `parse_all` has half of that.
 ///
 /// # Errors
 ///

@@ -1,6 +1,5 @@
--- A shape is well formed, since it is that of some description whose text is accepted.
-use Rattle.std.proofs.Common.{◌≡◌, ℕ, ◌<◌, List, Option, cond, refl}
-use Rattle.std.proofs.Math.Logic.{∥∥₁_elim}
+-- Well formed and well given are facts that hold in one way.
+use Rattle.std.proofs.Common.{◌≡◌, ℕ, ◌<◌, List, [], ◌∷◌, Option, cond, refl, drop}
 use Rattle.std.proofs.Math.Bridge.{le_prop}
 use Rattle.std.proofs.Math.Bool.{Bool-set}
 use Rattle.std.specs.Prelude.{◌==◌}
@@ -8,14 +7,12 @@ use Rattle.std.specs.Coded.{Coded, code_by, coded×, coded_ℕ, coded_option, co
 use base.Stored.{Coded-set}
 use Rattle.ptl_types.specs.declared.elements.ElemType.{ElemType}
 use Rattle.ptl_types.specs.declared.elements.ElemType.TheVariants.{U8, I8, U16, I16, U32, I32, U64, I64}
-use Rattle.coll_lang.specs.Outline.{Outline}
-use Rattle.coll_lang.specs.Accepted.{IsAcceptedShape}
-use Rattle.coll_lang.specs.WellFormed.{IsInput, StepFits, IsWellFormed}
+use Rattle.coll_lang.specs.Outline.{Outline, Program}
+use Rattle.coll_lang.specs.WellFormed.{IsInput, StepFits, IsWellFormed, IsListOf, Filled, IsWellGiven}
 use Rattle.coll_lang.specs.declared.types.Buffer.{Buffer}
 use Rattle.coll_lang.specs.declared.types.Spread.{Spread}
 use Rattle.coll_lang.specs.declared.types.Spread.TheVariants.{Even, Only}
 use Rattle.coll_lang.specs.declared.types.CollStep.{CollStep}
-use Rattle.coll_lang.proofs.Kept.{well_formed_of}
 
 lt_prop : {a b : ℕ} → IsProp (a < b)
 lt_prop = le_prop
@@ -77,8 +74,21 @@ is_input_prop b = hlevel (le_prop, spread_set)
 step_fits_prop : (ranks : ℕ) (bs : List Buffer) (s : CollStep) → IsProp (StepFits ranks bs s)
 step_fits_prop ranks bs s = hlevel (le_prop, lt_prop, spreads_set, types_set)
 
-well_formed_prop : (s : Outline) → IsProp (IsWellFormed s)
+pub well_formed_prop : (s : Outline) → IsProp (IsWellFormed s)
 well_formed_prop s = hlevel (le_prop, lt_prop, Bool-set, numbers_set, is_input_prop, step_fits_prop)
 
-pub shape_law : (s : Outline) → IsAcceptedShape s → IsWellFormed s
-shape_law s h = ∥∥₁_elim h (well_formed_prop s) (λ g. well_formed_of (record { shape = s; inputs = g.0 }) g.1)
+lists_set : IsSet (List (List ℕ))
+lists_set = Coded-set (coded_list (coded_list coded_ℕ))
+
+number_set : IsSet ℕ
+number_set = Coded-set coded_ℕ
+
+is_list_prop : (b : Buffer) (l : List ℕ) → IsProp (IsListOf b l)
+is_list_prop b l = hlevel (le_prop, lt_prop, number_set)
+
+filled_prop : (ranks : ℕ) (bs : List Buffer) (lists : List (List ℕ)) → IsProp (Filled ranks bs lists)
+filled_prop ranks [] lists = lists_set lists []
+filled_prop ranks (b ∷ bs) lists = hlevel (le_prop, is_list_prop, filled_prop ranks bs (drop ranks lists))
+
+pub well_given_prop : (d : Program) → IsProp (IsWellGiven d)
+well_given_prop d = hlevel (number_set, filled_prop)

@@ -1,0 +1,21 @@
+//! Whole texts of the description language, and what reading them answers: the limits, the least and greatest values, and
+//! each refusal at each kind of line, with expected values by hand. They stand in the tests.
+#![tactic(auto)]
+
+ghost use Rattle.std.specs.Prelude.{◌≡◌, true};
+
+#[cfg(test)]
+mod limits;
+#[cfg(test)]
+mod refusals;
+#[cfg(test)]
+mod texts;
+#[cfg(test)]
+mod values;
+
+/// The cases stand in the tests. This function is there so that the crate has one.
+pub fn cases_stand() -> bool
+    ensures { result ≡ true }
+{
+    true
+}
