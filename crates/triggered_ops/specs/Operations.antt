@@ -71,6 +71,10 @@ module _ {D : Type 0} where
 
   -- ---- what the calls make of them
 
+  -- an operation that is told this sum
+  abbrev pub with_told : ℕ → Operation D → Operation D
+  with_told sum p = record p { told = sum }
+
   -- one operation more, the newest; it was told 0
   abbrev pub with_posted : D → Handle → ℕ → Operations D → Operations D
   with_posted deed ct threshold ops = record ops { waiting = ops.waiting ++ (record { number = ops.given; deed = deed; ct = ct; threshold = threshold; told = 0 }) ∷ []; given = ops.given + 1 }

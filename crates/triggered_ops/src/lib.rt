@@ -2,49 +2,48 @@
 #![tactic(auto)]
 
 ghost use Rattle.std.specs.Prelude.{◌≡◌, ◌≤◌, ◌<◌, ◌^◌, ◌-◌, ℕ, true, false, Some, None, All, IfSome, IfNone, IfOk, OnOk, OnErr, length, slice_get, option_map};
-ghost use Rattle.std.specs.Prelude.{slice_index_or, map, filter, not, find as first_that};
-ghost use Rattle.triggered_ops.specs.declared.Held.{Held as Holding};
-ghost use Rattle.triggered_ops.specs.Layout.{operation, number_of, is_from};
-ghost use Rattle.triggered_ops.specs.Operations.{is_number, is_due, told_one, waits_on};
 ghost use Rattle.triggered_ops.specs.Operations.{no_operations, is_full, operation_at, is_ready, shown, numbered, deed_of, with_posted, told, without_number, waiting_on, cancelled, IsKept};
 
-use ptl_types::{Handle, NoMemory};
-use std::alloc::Global;
-use std::marker::Model;
-
+mod held;
+mod index;
+mod parts;
 #[cfg(test)]
 mod tests;
 
-#[derive(Drop)]
-struct Held<D> {
-    deed: D,
-    ct: Handle,
-    threshold: u64,
-    told: u64,
-}
+use crate::held::Held;
+use ptl_types::{Handle, NoMemory};
+use std::alloc::Global;
+use std::collections::{BTreeMap, BTreeSet};
+use std::marker::Model;
 
 /// The operations that wait, each with a number, a deed of the caller's, its counting event and its threshold. Its value is the
 /// list of them by rising number, with the sum that each was last told, how many numbers were given, and how many may wait.
+///
+/// With n that wait, `ready` takes a constant number of steps, and `post`, `is_ready`, `get`, `next` and `take` the order of
+/// log n; `reached` and `cancel` take as many for each operation that waits on that counting event, and touch no other.
 #[derive(Drop)]
 pub struct Pending<D> {
-    waiting: Vec<(u32, Held<D>)>,
+    operations: BTreeMap<u32, Held<D>>,
+    index: BTreeSet<(u32, u64, u32)>,
+    due: Vec<u32>,
     given: u32,
     limit: u32,
 }
 
 impl<D> Model for Pending<D> {
-    ghost use Rattle.triggered_ops.specs.Operations.{Operations, IsKept};
+    ghost use Rattle.std.specs.Prelude.{vec_capacity};
+    ghost use Rattle.triggered_ops.specs.Operations.{Operations};
     ghost use Rattle.triggered_ops.specs.Codes.{operations_code};
 
     ghost Value = { Operations D };
 
     ghost coded = { operations_code D.code };
 
-    ghost use Rattle.triggered_ops.specs.Layout.{operations_of};
+    ghost use Rattle.triggered_ops.specs.Layout.{operations_of, IsLaid};
 
-    ghost view = { λ p. operations_of p.waiting.items p.given p.limit };
+    ghost view = { λ p. operations_of p.operations.entries p.given p.limit };
 
-    ghost invariant = { λ p. IsKept (operations_of p.waiting.items p.given p.limit) };
+    ghost invariant = { λ p. IsLaid p.operations p.index p.due.items (vec_capacity p.due) p.given p.limit };
 }
 
 impl<D> Pending<D> {
@@ -53,8 +52,7 @@ impl<D> Pending<D> {
         ensures len { result ≡ length self.now.waiting }
         ensures kept { IsKept self.now }
     {
-        let _limit = self.limit;
-        self.waiting.len() as u32
+        self.operations.len() as u32
     }
 
     /// How many numbers were given; the next is this one.
@@ -68,14 +66,14 @@ impl<D> Pending<D> {
     pub fn is_full(&self) -> bool
         ensures { result ≡ is_full self.now }
     {
-        self.waiting.len() >= self.limit as usize || self.given == u32::MAX
+        self.operations.len() >= self.limit as usize || self.given == u32::MAX
     }
 
     /// Tells a counting event's sum, success and failure together, to the operations that wait on it.
     pub fn reached(&mut self, ct: Handle, sum: u64)
         ensures { self.new ≡ told ct sum self.old }
     {
-        tell_all(&mut self.waiting, ct, sum);
+        parts::tell_all(&mut self.operations, &self.index, &mut self.due, ct, sum);
     }
 
     /// The number of an operation whose told sum is at least its threshold; `None` exactly where there is none. Which of
@@ -84,15 +82,15 @@ impl<D> Pending<D> {
         ensures some { IfSome result (λ t. is_ready t self.now ≡ true) }
         ensures none { IfNone result ((t : ℕ) → is_ready t self.now ≡ false) }
     {
-        first_due(&self.waiting)
+        self.due.first().copied()
     }
 
     /// Whether the operation of this number waits and its told sum is at least its threshold.
     pub fn is_ready(&self, number: u32) -> bool
         ensures { result ≡ is_ready number self.now }
     {
-        match place_of(&self.waiting, number) {
-            Some(at) => self.waiting[at].1.threshold <= self.waiting[at].1.told,
+        match self.operations.get(&number) {
+            Some(held) => held.threshold <= held.told,
             None => false,
         }
     }
@@ -102,9 +100,10 @@ impl<D> Pending<D> {
         ensures found { IfSome result (λ p. option_map shown (operation_at number self.now) ≡ Some (p.0.now, p.1, p.2)) }
         ensures none { IfNone result (operation_at number self.now ≡ None) }
     {
-        let at = place_of(&self.waiting, number)?;
-        let held = &self.waiting[at].1;
-        Some((&held.deed, held.ct, held.threshold))
+        match self.operations.get(&number) {
+            Some(held) => Some((&held.deed, held.ct, held.threshold)),
+            None => None,
+        }
     }
 
     /// The number, deed, counting event and threshold of the operation at place `i` by rising number, from 0; `None` exactly
@@ -113,8 +112,10 @@ impl<D> Pending<D> {
         ensures found { IfSome result (λ p. option_map numbered (slice_get self.now.waiting i) ≡ Some (p.0, p.1.now, p.2, p.3)) }
         ensures none { IfNone result (length self.now.waiting ≤ i) }
     {
-        let (number, held) = self.waiting.get(i as usize)?;
-        Some((*number, &held.deed, held.ct, held.threshold))
+        match self.operations.iter().nth(i as usize) {
+            Some((number, held)) => Some((*number, &held.deed, held.ct, held.threshold)),
+            None => None,
+        }
     }
 
     /// The operation of the lowest number that is at least `from`, as `at` shows it; `None` exactly where there is none. So a
@@ -128,11 +129,8 @@ impl<D> Pending<D> {
         ensures none { IfNone result (All (λ q. q.number < from) self.now.waiting) }
         ensures numbers { self.now.given < 2 ^ 32 }
     {
-        match first_from(&self.waiting, from) {
-            Some(at) => {
-                let (number, held) = &self.waiting[at];
-                Some((*number, &held.deed, held.ct, held.threshold))
-            }
+        match self.operations.range(from..).next() {
+            Some((number, held)) => Some((*number, &held.deed, held.ct, held.threshold)),
             None => None,
         }
     }
@@ -144,13 +142,7 @@ impl<D> Pending<D> {
         ensures rest { self.new ≡ without_number number self.old }
         ensures none { IfNone result (self.new ≡ self.old) }
     {
-        match place_of(&self.waiting, number) {
-            Some(at) => {
-                let (_, held) = self.waiting.remove(at);
-                Some(held.deed)
-            }
-            None => None,
-        }
+        parts::take_out(&mut self.operations, &mut self.index, &mut self.due, number)
     }
 }
 
@@ -160,8 +152,10 @@ impl<D: Drop> Pending<D> {
         ensures { IfOk result (λ p. p ≡ no_operations limit) }
     {
         match Vec::with_capacity(alloc, limit as usize) {
-            Ok(waiting) => Ok(Pending {
-                waiting,
+            Ok(due) => Ok(Pending {
+                operations: BTreeMap::new(alloc),
+                index: BTreeSet::new(alloc),
+                due,
                 given: 0,
                 limit,
             }),
@@ -184,13 +178,20 @@ impl<D: Drop> Pending<D> {
             ct,
             threshold,
             told: 0,
+            place: None,
         };
-        match self.waiting.push((number, held)) {
+        match parts::post(
+            &mut self.operations,
+            &mut self.index,
+            &mut self.due,
+            number,
+            held,
+        ) {
             Ok(()) => {
                 self.given += 1;
                 Ok(number)
             }
-            Err(_) => Err(NoMemory),
+            Err(fault) => Err(fault),
         }
     }
 
@@ -199,67 +200,8 @@ impl<D: Drop> Pending<D> {
         ensures number { result ≡ length (waiting_on ct self.old) }
         ensures rest { self.new ≡ cancelled ct self.old }
     {
-        let before = self.waiting.len();
-        drop_all(&mut self.waiting, ct);
-        (before - self.waiting.len()) as u32
+        let before = self.operations.len();
+        parts::drop_all(&mut self.operations, &mut self.index, &mut self.due, ct);
+        (before - self.operations.len()) as u32
     }
-}
-
-fn tell<D>(entry: &mut (u32, Held<D>), ct: Handle, sum: u64)
-    ensures { operation entry.new ≡ told_one ct sum (operation entry.old) }
-{
-    if entry.1.ct.is(ct) {
-        entry.1.told = sum;
-    }
-}
-
-fn tell_all<D>(waiting: &mut [(u32, Held<D>)], ct: Handle, sum: u64)
-    ensures { map operation waiting.new ≡ map (told_one ct sum) (map operation waiting.old) }
-{
-    for x in waiting.iter_mut() {
-        tell(x, ct, sum);
-    }
-}
-
-fn first_due<D>(waiting: &[(u32, Held<D>)]) -> Option<u32>
-    ensures { result ≡ option_map number_of (first_that is_due (map operation waiting.now)) }
-{
-    for (number, held) in waiting {
-        if held.threshold <= held.told {
-            return Some(*number);
-        }
-    }
-    None
-}
-
-fn place_of<D>(waiting: &[(u32, Held<D>)], number: u32) -> Option<usize>
-    ensures none { IfNone result (first_that (is_number number) (map operation waiting.now) ≡ None) }
-    ensures within { IfSome result (λ i. i < length waiting.now) }
-    ensures some { IfSome result (λ i. (d : ℕ × Holding D) → first_that (is_number number) (map operation waiting.now) ≡ Some (operation (slice_index_or waiting.now i d))) }
-{
-    for (i, x) in waiting.iter().enumerate() {
-        if x.0 == number {
-            return Some(i);
-        }
-    }
-    None
-}
-
-fn first_from<D>(waiting: &[(u32, Held<D>)], from: u32) -> Option<usize>
-    ensures none { IfNone result (first_that (is_from from) (map operation waiting.now) ≡ None) }
-    ensures within { IfSome result (λ i. i < length waiting.now) }
-    ensures some { IfSome result (λ i. (d : ℕ × Holding D) → first_that (is_from from) (map operation waiting.now) ≡ Some (operation (slice_index_or waiting.now i d))) }
-{
-    for (i, x) in waiting.iter().enumerate() {
-        if x.0 >= from {
-            return Some(i);
-        }
-    }
-    None
-}
-
-fn drop_all<D: Drop>(waiting: &mut Vec<(u32, Held<D>)>, ct: Handle)
-    ensures { map operation waiting.new.items ≡ filter (λ p. not (waits_on ct p)) (map operation waiting.old.items) }
-{
-    waiting.retain(|x| !x.1.ct.is(ct));
 }

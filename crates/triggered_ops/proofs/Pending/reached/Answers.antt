@@ -1,8 +1,16 @@
-use Rattle.std.proofs.Common.{◌∙◌, length, ap, sym}
+use Rattle.std.proofs.Common.{◌<◌, arith}
 use Rattle.triggered_ops.proofs.Rising.{IsKept-told}
-use Rattle.triggered_ops.proofs.Steps.{whole}
+use Rattle.triggered_ops.proofs.Views.{below-given, waiting-told, indexed-told, laid}
 use Rattle.triggered_ops.proofs.Pending.reached.Goals as goal
+
+pub tell_all-requires-clause-below : goal.tell_all-requires-clause-below
+tell_all-requires-clause-below g c = λ t some. let lt : t < c.self.inside.given = below-given c.self.inside.operations c.self.inside.given c.self.inside.limit c.self.invariant.kept t some in omega (arith, lt, c.self.invariant.kept.numbers)
 
 pub invariant_of-self : goal.invariant_of-self
 invariant_of-self g c =
-    rw (whole _ c.tell_all.new.waiting _ (c.tell_all.auto.waiting ∙ ap length c.deref_mut.ensures.value) (sym (ap length c.deref_mut.ensures.value) ∙ c.deref_mut.ensures.len), c.tell_all.ensures, c.deref_mut.ensures.value) (IsKept-told _ c.args.ct c.args.sum c.self.invariant)
+    laid c.tell_all.new.operations _ _ _ _ c.self.inside.given c.self.inside.limit _
+    (waiting-told c.self.inside.operations c.tell_all.new.operations c.self.inside.given c.self.inside.limit c.args.ct c.args.sum c.self.invariant.kept c.tell_all.ensures.ordered c.tell_all.ensures.found)
+    (IsKept-told _ c.args.ct c.args.sum c.self.invariant.kept) c.tell_all.ensures.ordered (indexed-told c.self.inside.operations c.tell_all.new.operations c.self.inside.index c.args.ct c.args.sum c.self.invariant.indexed c.tell_all.ensures.found) c.tell_all.ensures.listed c.tell_all.ensures.are_due c.tell_all.ensures.room c.self.invariant.enough c.self.invariant.small
+
+pub returns : goal.returns
+returns g c = rw (← c.self.view_is) (waiting-told c.self.inside.operations c.tell_all.new.operations c.self.inside.given c.self.inside.limit c.args.ct c.args.sum c.self.invariant.kept c.tell_all.ensures.ordered c.tell_all.ensures.found)

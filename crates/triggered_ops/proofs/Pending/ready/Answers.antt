@@ -1,10 +1,10 @@
-use Rattle.std.proofs.Common.{refl, map}
-use Rattle.triggered_ops.specs.Layout.{operation}
-use Rattle.triggered_ops.proofs.Rising.{ready-some, ready-none}
+use Rattle.triggered_ops.proofs.Views.{ready-first, ready-none}
 use Rattle.triggered_ops.proofs.Pending.ready.Goals as goal
 
 pub returns-clause-some : goal.returns-clause-some
-returns-clause-some g c = rw (c.first_due.ensures, c.deref.ensures.value, ← c.self.view_is) (ready-some (map operation c.self.inside.waiting.items) _ c.self.invariant.rising refl)
+returns-clause-some g c =
+    rw (c.copied.ensures, c.first.ensures.value, c.deref.ensures.value) (ready-first c.self.inside.operations c.self.inside.given c.self.inside.limit c.args.self.now c.self.inside.due.items c.self.view_is c.self.invariant.listed c.self.invariant.are_due)
 
 pub returns-clause-none : goal.returns-clause-none
-returns-clause-none g c = rw (c.first_due.ensures, c.deref.ensures.value, ← c.self.view_is) (ready-none (map operation c.self.inside.waiting.items) _ refl)
+returns-clause-none g c =
+    rw (c.copied.ensures, c.first.ensures.value, c.deref.ensures.value) (ready-none c.self.inside.operations c.self.inside.given c.self.inside.limit c.args.self.now c.self.inside.due.items c.self.view_is c.self.invariant.listed c.self.invariant.are_due)

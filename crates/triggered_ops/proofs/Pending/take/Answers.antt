@@ -1,15 +1,24 @@
-use Rattle.std.proofs.Common.{sym, refl}
-use Rattle.triggered_ops.proofs.Rising.{IsKept-filter, without-absent}
-use Rattle.triggered_ops.proofs.Steps.{without-taken}
+use Rattle.std.proofs.Common.{◌∙◌, ap, sym}
+use Rattle.std.specs.Prelude.{option_map}
+use Rattle.triggered_ops.specs.Operations.{deed_of}
+use Rattle.triggered_ops.proofs.Rising.{IsKept-filter}
+use Rattle.triggered_ops.proofs.Views.{read-op, waiting-without, laid, take-none}
 use Rattle.triggered_ops.proofs.Pending.take.Goals as goal
-
-pub returns-in-None-clause-rest : goal.returns-in-None-clause-rest
-returns-in-None-clause-rest g c = sym (without-absent c.args.number c.args.self.now (rw (← c.self.view_is) (rw c.deref.ensures.value at c.in-None.ensures.none)))
 
 pub invariant_of-self : goal.invariant_of-self
 invariant_of-self g c =
-    rw (c.remove-held.ensures.items, without-taken c.args.number c.self.inside.waiting.items _ c.in-Some.at c.remove-held.result c.self.invariant.rising c.deref.ensures.value c.in-Some.ensures.within (c.in-Some.ensures.some c.remove-held.result)) (IsKept-filter _ _ c.self.invariant)
+    laid c.take_out.new.operations _ _ _ _ c.self.inside.given c.self.inside.limit _
+    (waiting-without c.self.inside.operations c.take_out.new.operations c.self.inside.given c.self.inside.limit c.args.number c.self.invariant.kept c.take_out.ensures.ordered c.take_out.ensures.found)
+    (IsKept-filter _ _ c.self.invariant.kept) c.take_out.ensures.ordered c.take_out.ensures.indexed c.take_out.ensures.listed c.take_out.ensures.are_due c.take_out.ensures.room c.self.invariant.enough c.self.invariant.small
 
-pub returns-in-Some-clause-rest : goal.returns-in-Some-clause-rest
-returns-in-Some-clause-rest g c =
-    rw (← c.self.view_is, c.remove-held.ensures.items, without-taken c.args.number c.self.inside.waiting.items _ c.in-Some.at c.remove-held.result c.self.invariant.rising c.deref.ensures.value c.in-Some.ensures.within (c.in-Some.ensures.some c.remove-held.result)) refl
+pub returns-clause-value : goal.returns-clause-value
+returns-clause-value g c = c.take_out.ensures.value ∙ ap (option_map deed_of) (sym (read-op c.self.inside.operations c.self.inside.given c.self.inside.limit c.args.self.now c.self.view_is c.args.number))
+
+pub returns-clause-rest : goal.returns-clause-rest
+returns-clause-rest g c = rw (← c.self.view_is) (waiting-without c.self.inside.operations c.take_out.new.operations c.self.inside.given c.self.inside.limit c.args.number c.self.invariant.kept c.take_out.ensures.ordered c.take_out.ensures.found)
+
+pub returns-clause-none : goal.returns-clause-none
+returns-clause-none g c =
+    take-none c.args.number c.args.self.now _ c.take_out.result
+    (c.take_out.ensures.value ∙ ap (option_map deed_of) (sym (read-op c.self.inside.operations c.self.inside.given c.self.inside.limit c.args.self.now c.self.view_is c.args.number)))
+    (rw (← c.self.view_is) (waiting-without c.self.inside.operations c.take_out.new.operations c.self.inside.given c.self.inside.limit c.args.number c.self.invariant.kept c.take_out.ensures.ordered c.take_out.ensures.found))

@@ -1,0 +1,175 @@
+-- What the calls over the parts make of the whole: from what stands under each number to the list of those that wait.
+use Rattle.std.proofs.Common.{◌≡◌, ℕ, ◌+◌, ◌^◌, ◌<◌, ◌≤◌, ◌==◌, ◌&&◌, true, false, not, nat_le, List, [], ◌∷◌, ◌++◌, Option, Some, None, IsSome, is_some, find, filter, length, map, if◌then◌else◌, refl, ap, sym, subst, arith, ◌∙◌}
+use Rattle.std.specs.Prelude.{AllPairs, option_map, IfSome, IfNone}
+use Rattle.std.specs.Ordering.{nat_cmp, is_le, MatchOrdering}
+use Rattle.std.specs.declared.cmp.Ordering.TheVariants.{Less, Equal, Greater}
+use Rattle.std.specs.declared.ops.Bound.TheVariants.{Included, Unbounded}
+use Rattle.std.specs.List.{slice_get}
+use Rattle.std.specs.BTreeMap.{BTreeMap, get, IsOrdered}
+use Rattle.std.specs.BTreeSet.{BTreeSet}
+use Rattle.std.specs.BTreeMap.Range.{range_contains, entries_between}
+use Rattle.std.proofs.lemmas.Bool.Decides.{nat_tests}
+use Rattle.std.proofs.lemmas.Cmp.{ranked}
+use Rattle.std.proofs.lemmas.List.{length-map}
+use Rattle.std.proofs.lemmas.Option.{slice_get-map}
+use Rattle.std.proofs.lemmas.List.Filters.{length-filter_both}
+use Rattle.ptl_types.specs.declared.handles.Handle.{Handle}
+use Rattle.triggered_ops.specs.declared.held.Held.{Held}
+use Rattle.triggered_ops.specs.Layout.{operation, operations_of, found_at, place_at, is_from, without_those, Key, IsListed, AreDue, IsIndexed, IsLaid, waits_in}
+use Rattle.triggered_ops.specs.Operations.{Operation, Operations, IsKept, is_number, is_due_op, operation_at, told, told_one, waits_on, waiting_on, with_posted, without_number, cancelled, deed_of, numbered}
+use Rattle.triggered_ops.proofs.Found.{find-found, rising-sorted, same_rising, find-posted, find-told, find-without, find-cancelled}
+use Rattle.triggered_ops.proofs.Rising.{Rises, IsKept-told, IsKept-filter, found_number, find_has, without-absent}
+
+-- a key at least a
+pub in_range : (a q : ℕ) → range_contains nat_cmp (Included a) Unbounded q ≡ nat_le a q
+in_range a q =
+    elim (nat_cmp a q) as (λ o. MatchOrdering o (a < q) (a ≡ q) (q < a) → (is_le o && true) ≡ nat_le a q) [
+      | Less ↦ λ lt. grind (arith, nat_tests)
+      | Equal ↦ λ same. grind (arith, nat_tests)
+      | Greater ↦ λ gt. grind (arith, nat_tests)
+    ] (ranked a q (nat_cmp a q) refl)
+
+module _ {D : Type 0} where
+  -- ---- one operation
+  pub read-op : (m : BTreeMap ℕ (Held D)) (given limit : ℕ) (ops : Operations D) → operations_of m.entries given limit ≡ ops → (t : ℕ) → operation_at t ops ≡ found_at m t
+  read-op m given limit ops is t = rw (← is) (find-found m t)
+
+  pub found-held : (m : BTreeMap ℕ (Held D)) (t : ℕ) (h : Held D) → Some h ≡ get nat_cmp m t → found_at m t ≡ Some (operation (t, h))
+  found-held m t h e = sym (ap (option_map (λ h. operation (t, h))) e)
+
+  pub found-none : (m : BTreeMap ℕ (Held D)) (t : ℕ) → None ≡ get nat_cmp m t → found_at m t ≡ None
+  found-none m t e = sym (ap (option_map (λ h. operation (t, h))) e)
+
+  pub below-found : (ops : Operations D) (t : ℕ) (p : Operation D) → IsKept ops → operation_at t ops ≡ Some p → t < ops.given
+  below-found ops t p kept e =
+      let number : p.number ≡ t = found_number t ops.waiting p e in
+      let lt : p.number < ops.given = find_has (λ (q : Operation D). q.number < ops.given) (is_number t) ops.waiting p kept.were_given e in
+      omega arith
+
+  pub below-given : (m : BTreeMap ℕ (Held D)) (given limit : ℕ) → IsKept (operations_of m.entries given limit) → (t : ℕ) → IsSome (found_at m t) → t < given
+  below-given m given limit kept t some = split (found_at m t) refl some
+    where
+      split : (o : Option (Operation D)) → found_at m t ≡ o → IsSome o → t < given
+      split None e here = cc
+      split (Some p) e here = below-found (operations_of m.entries given limit) t p kept (find-found m t ∙ e)
+
+  pub none-at-given : (m : BTreeMap ℕ (Held D)) (given limit : ℕ) → IsKept (operations_of m.entries given limit) → found_at m given ≡ None
+  none-at-given m given limit kept = split (found_at m given) refl
+    where
+      split : (o : Option (Operation D)) → found_at m given ≡ o → o ≡ None
+      split None e = refl
+      split (Some p) e = let lt : given < given = below-found (operations_of m.entries given limit) given p kept (find-found m given ∙ e) in absurd (omega arith)
+
+  -- ---- the list behind a call
+  pub waiting-is : (n : BTreeMap ℕ (Held D)) (ps : List (Operation D)) → IsOrdered nat_cmp n → AllPairs Rises ps → ((t : ℕ) → found_at n t ≡ find (is_number t) ps) → map operation n.entries ≡ ps
+  waiting-is n ps ordered rising same = same_rising (map operation n.entries) ps (rising-sorted n.entries ordered) rising (λ t. find-found n t ∙ same t)
+
+  pub waiting-posted : (m n : BTreeMap ℕ (Held D)) (given limit : ℕ) (h : Held D) → h.told ≡ 0 → IsKept (with_posted h.deed h.ct h.threshold (operations_of m.entries given limit)) → IsKept (operations_of m.entries given limit) → IsOrdered nat_cmp n → ((t : ℕ) → found_at n t ≡ (if t == given then Some (operation (given, h)) else found_at m t)) → operations_of n.entries (given + 1) limit ≡ with_posted h.deed h.ct h.threshold (operations_of m.entries given limit)
+  waiting-posted m n given limit h unheard more kept ordered found =
+      let p : Operation D = record { number = given; deed = h.deed; ct = h.ct; threshold = h.threshold; told = 0 } in
+      let same : operation (given, h) ≡ p = rw unheard refl in
+      let e : map operation n.entries ≡ map operation m.entries ++ p ∷ [] = waiting-is n (map operation m.entries ++ p ∷ []) ordered more.rising (λ t.
+      let a : find (is_number t) (map operation m.entries ++ p ∷ []) ≡ (if t == given then Some p else find (is_number t) (map operation m.entries)) = find-posted (map operation m.entries) p t kept.were_given in
+      found t ∙ rw (same, ← find-found m t) (sym a)) in
+      rw e refl
+
+  pub waiting-told : (m n : BTreeMap ℕ (Held D)) (given limit : ℕ) (ct : Handle) (sum : ℕ) → IsKept (operations_of m.entries given limit) → IsOrdered nat_cmp n → ((t : ℕ) → found_at n t ≡ option_map (told_one ct sum) (found_at m t)) → operations_of n.entries given limit ≡ told ct sum (operations_of m.entries given limit)
+  waiting-told m n given limit ct sum kept ordered found =
+      let e : map operation n.entries ≡ map (told_one ct sum) (map operation m.entries) = waiting-is n (map (told_one ct sum) (map operation m.entries)) ordered (IsKept-told (operations_of m.entries given limit) ct sum kept).rising
+      (λ t. found t ∙ ap (option_map (told_one ct sum)) (sym (find-found m t)) ∙ sym (find-told ct sum (map operation m.entries) t)) in
+      rw e refl
+
+  pub waiting-without : (m n : BTreeMap ℕ (Held D)) (given limit k : ℕ) → IsKept (operations_of m.entries given limit) → IsOrdered nat_cmp n → ((t : ℕ) → found_at n t ≡ (if t == k then None else found_at m t)) → operations_of n.entries given limit ≡ without_number k (operations_of m.entries given limit)
+  waiting-without m n given limit k kept ordered found =
+      let e : map operation n.entries ≡ filter (λ p. not (is_number k p)) (map operation m.entries) = waiting-is n (filter (λ p. not (is_number k p)) (map operation m.entries)) ordered (IsKept-filter (operations_of m.entries given limit) (λ p. not (is_number k p)) kept).rising
+      (λ t. found t ∙ rw (← find-found m t) (sym (find-without k (map operation m.entries) t))) in
+      rw e refl
+
+  pub waiting-cancelled : (m n : BTreeMap ℕ (Held D)) (given limit : ℕ) (ct : Handle) → IsKept (operations_of m.entries given limit) → IsOrdered nat_cmp n → ((t : ℕ) → found_at n t ≡ without_those ct (found_at m t)) → operations_of n.entries given limit ≡ cancelled ct (operations_of m.entries given limit)
+  waiting-cancelled m n given limit ct kept ordered found =
+      let e : map operation n.entries ≡ filter (λ p. not (waits_on ct p)) (map operation m.entries) = waiting-is n (filter (λ p. not (waits_on ct p)) (map operation m.entries)) ordered (IsKept-filter (operations_of m.entries given limit) (λ p. not (waits_on ct p)) kept).rising
+      (λ t. found t ∙ ap (without_those ct) (sym (find-found m t)) ∙ sym (find-cancelled ct (map operation m.entries) t kept.rising)) in
+      rw e refl
+
+  -- those that wait on ct, and the others
+  pub length-both : (m n : BTreeMap ℕ (Held D)) (given limit : ℕ) (ops : Operations D) (ct : Handle) → operations_of m.entries given limit ≡ ops → operations_of n.entries given limit ≡ cancelled ct (operations_of m.entries given limit) → length (waiting_on ct ops) + length n.entries ≡ length m.entries
+  length-both m n given limit ops ct is e =
+      let b = length-filter_both (waits_on ct) (λ p. not (waits_on ct p)) (λ _. refl) (map operation m.entries) in
+      let k : length (map operation n.entries) ≡ length (filter (λ p. not (waits_on ct p)) (map operation m.entries)) = ap (λ (o : Operations D). length o.waiting) e in
+      rw (← is) (omega (arith, b, k, length-map m.entries operation, length-map n.entries operation))
+
+  -- ---- which are due
+  pub ready-first : (m : BTreeMap ℕ (Held D)) (given limit : ℕ) (ops : Operations D) (due : List ℕ) → operations_of m.entries given limit ≡ ops → IsListed (place_at m) due → AreDue m → IfSome (slice_get due 0) (λ t. is_due_op (operation_at t ops) ≡ true)
+  ready-first m given limit ops [] is listed are = tt
+  ready-first m given limit ops (d ∷ ds) is listed are =
+      let placed : is_some (place_at m d) ≡ true = ap is_some (listed.places 0 (omega arith)) in
+      ap is_due_op (read-op m given limit ops is d) ∙ sym (are d) ∙ placed
+
+  pub ready-none : (m : BTreeMap ℕ (Held D)) (given limit : ℕ) (ops : Operations D) (due : List ℕ) → operations_of m.entries given limit ≡ ops → IsListed (place_at m) due → AreDue m → IfNone (slice_get due 0) ((t : ℕ) → is_due_op (operation_at t ops) ≡ false)
+  ready-none m given limit ops [] is listed are = λ t. ap is_due_op (read-op m given limit ops is t) ∙ sym (are t) ∙ unplaced t (place_at m t) refl
+    where
+      unplaced : (t : ℕ) (o : Option ℕ) → place_at m t ≡ o → is_some o ≡ false
+      unplaced t None e = refl
+      unplaced t (Some i) e = let lt = (listed.numbers t i e).0 in absurd (omega (arith, lt))
+  ready-none m given limit ops (d ∷ ds) is listed are = tt
+
+  -- ---- the first from a number on
+  pub first-between : (a : ℕ) (es : List (ℕ × Held D)) (e : ℕ × Held D) (rest : List (ℕ × Held D)) → entries_between nat_cmp (Included a) Unbounded es ≡ e ∷ rest → find (is_from a) (map operation es) ≡ Some (operation e)
+  first-between a [] e rest is = cc
+  first-between a (x ∷ xs) e rest is =
+      elim (nat_le a x.0) as (λ b. range_contains nat_cmp (Included a) Unbounded x.0 ≡ b → (if b then Some (operation x) else find (is_from a) (map operation xs)) ≡ Some (operation e)) [
+        | true ↦ λ here. let f : x ∷ entries_between nat_cmp (Included a) Unbounded xs ≡ e ∷ rest = rw here at is in ap (λ y. Some (operation y)) (first-same x e _ rest f)
+        | false ↦ λ not_here. first-between a xs e rest (rw not_here at is)
+      ] (in_range a x.0)
+    where
+      first-same : (x y : ℕ × Held D) (xs ys : List (ℕ × Held D)) → x ∷ xs ≡ y ∷ ys → x ≡ y
+      first-same x y xs ys e = cc
+
+  pub none-between : (a : ℕ) (es : List (ℕ × Held D)) → entries_between nat_cmp (Included a) Unbounded es ≡ [] → find (is_from a) (map operation es) ≡ None
+  none-between a [] is = refl
+  none-between a (x ∷ xs) is =
+      elim (nat_le a x.0) as (λ b. range_contains nat_cmp (Included a) Unbounded x.0 ≡ b → (if b then Some (operation x) else find (is_from a) (map operation xs)) ≡ None) [
+        | true ↦ λ here. let f : x ∷ entries_between nat_cmp (Included a) Unbounded xs ≡ [] = rw here at is in cc
+        | false ↦ λ not_here. none-between a xs (rw not_here at is)
+      ] (in_range a x.0)
+
+  -- ---- the parts behind a call, and the whole
+  pub laid : (n : BTreeMap ℕ (Held D)) (index : BTreeSet Key) (due : List ℕ) (room room' given limit : ℕ) (ops : Operations D) → operations_of n.entries given limit ≡ ops → IsKept ops → IsOrdered nat_cmp n → IsIndexed n index → IsListed (place_at n) due → AreDue n → room' ≡ room → limit ≤ room → limit < 2 ^ 32 → IsLaid n index due room' given limit
+  laid n index due room room' given limit ops is kept ordered indexed listed are same enough small = record {
+    kept = rw is kept;
+    ordered = ordered;
+    indexed = indexed;
+    listed = listed;
+    are_due = are;
+    enough = rw same enough;
+    small = small;
+  }
+
+  -- what isn't there leaves nothing out
+  pub take-none : (t : ℕ) (old new : Operations D) (result : Option D) → result ≡ option_map deed_of (operation_at t old) → new ≡ without_number t old → IfNone result (new ≡ old)
+  take-none t old new (Some d) value rest = tt
+  take-none t old new None value rest = rest ∙ without-absent t old (absent (operation_at t old) value)
+    where
+      absent : (o : Option (Operation D)) → None ≡ option_map deed_of o → o ≡ None
+      absent None e = refl
+      absent (Some p) e = cc
+
+  pub kept-view : (es : List (ℕ × Held D)) (given limit : ℕ) (ops : Operations D) → operations_of es given limit ≡ ops → IsKept (operations_of es given limit) → IsKept ops
+  kept-view es given limit ops is kept = subst (λ (o : Operations D). IsKept o) is kept
+
+  pub first-from : (a : ℕ) (es : List (ℕ × Held D)) (given limit : ℕ) (ops : Operations D) (e : ℕ × Held D) (rest : List (ℕ × Held D)) → operations_of es given limit ≡ ops → entries_between nat_cmp (Included a) Unbounded es ≡ e ∷ rest → find (is_from a) ops.waiting ≡ Some (operation e)
+  first-from a es given limit ops e rest view is = rw (← view) (first-between a es e rest is)
+
+  pub none-from : (a : ℕ) (es : List (ℕ × Held D)) (given limit : ℕ) (ops : Operations D) → operations_of es given limit ≡ ops → entries_between nat_cmp (Included a) Unbounded es ≡ [] → find (is_from a) ops.waiting ≡ None
+  none-from a es given limit ops view is = rw (← view) (none-between a es is)
+
+  -- what is told keeps its counting event
+  pub indexed-told : (m n : BTreeMap ℕ (Held D)) (index : BTreeSet Key) (ct : Handle) (sum : ℕ) → IsIndexed m index → ((t : ℕ) → found_at n t ≡ option_map (told_one ct sum) (found_at m t)) → IsIndexed n index
+  indexed-told m n index ct sum indexed found = λ slot stamp t. indexed slot stamp t ∙ sym (ap (waits_in (record { slot = slot; stamp = stamp })) (found t) ∙ still (record { slot = slot; stamp = stamp }) (found_at m t))
+    where
+      still : (h : Handle) (o : Option (Operation D)) → waits_in h (option_map (told_one ct sum) o) ≡ waits_in h o
+      still h None = refl
+      still h (Some p) = refl
+
+  pub shown-at : (es : List (ℕ × Held D)) (given limit : ℕ) (ops : Operations D) (i : ℕ) (e : ℕ × Held D) → operations_of es given limit ≡ ops → Some e ≡ slice_get es i → option_map numbered (slice_get ops.waiting i) ≡ Some (numbered (operation e))
+  shown-at es given limit ops i e view is = rw (← view, slice_get-map operation es i, ← is) refl
