@@ -37,12 +37,16 @@ fn steps_and_prints(rt: HostRuntime) -> Result<(), Fail> {
     Ok(())
 }
 
-/// What the whole language answers to so many inputs on one rank.
-fn inputs(alloc: Global, count: u32) -> Result<Answer, Fail> {
+/// What the whole language answers to so many inputs and so many steps on one rank.
+fn inputs_and_steps(alloc: Global, inputs: u32, steps: u32) -> Result<Answer, Fail> {
     let mut text = Vec::from_slice(alloc, b"coll 1\nranks 1\n")?;
-    for i in 0..count {
+    for i in 0..inputs {
         let input = format!(in alloc; "input a{i} u8 1\n7\n")?;
         text.extend_from_slice(input.as_bytes())?;
+    }
+    for i in 0..steps {
+        let step = format!(in alloc; "broadcast 0 a0 b{i}\n")?;
+        text.extend_from_slice(step.as_bytes())?;
     }
     text.extend_from_slice(b"end\n")?;
     Ok(answer(parse_all(alloc, &text)))
@@ -50,8 +54,16 @@ fn inputs(alloc: Global, count: u32) -> Result<Answer, Fail> {
 
 #[test]
 fn buffers(rt: HostRuntime) -> Result<(), Fail> {
-    assert_eq!(rt; inputs(rt.alloc(), 128)?, None);
-    assert_eq!(rt; inputs(rt.alloc(), 129)?, Some((259, "TooMany")));
+    let cases: [(u32, u32, Answer); 4] = [
+        (128, 0, None),
+        (129, 0, Some((259, "TooMany"))),
+        (64, 64, None),
+        (65, 64, Some((196, "TooMany"))),
+    ];
+    for (inputs, steps, wanted) in cases.iter() {
+        let answer = inputs_and_steps(rt.alloc(), *inputs, *steps)?;
+        assert_eq!(rt; answer, *wanted, "at {inputs}");
+    }
     Ok(())
 }
 
