@@ -1,18 +1,16 @@
 -- What holds for the text that was read holds for the bytes of the source.
-use Rattle.std.proofs.Common.{◌≡◌, ◌≢◌, ℕ, ◌≤◌, List, [], length, drop, Option, Some, None, Result, Ok, Err, refl, sym, ◌∙◌, ap, subst}
+use Rattle.std.proofs.Common.{◌≡◌, ◌≢◌, ℕ, ◌≤◌, List, [], length, drop, Option, Some, None, Result, Ok, Err, refl, sym, ◌∙◌, subst}
 use Rattle.port_io.specs.Counts.{Rose}
 use Rattle.port_io.specs.Ends.{Inflow, Outflow}
-use Rattle.coll_lang.specs.declared.fault.Refusal.TheVariants.{TooLong}
 use Rattle.coll_lang.specs.declared.fault.Refusal.{Refusal}
 use Rattle.coll_lang.specs.FirstForm.{read}
 use Rattle.coll_lang.specs.Outline.{Program}
 use Rattle.world_core.specs.Worlds.{WorldState}
 use Rattle.portals_top.specs.declared.status.Status.{Status}
 use Rattle.portals_top.specs.declared.status.Status.TheVariants.{Done, Usage, Refused, ReadFault, WriteFault, NoMemory}
-use Rattle.portals_top.specs.declared.words.Command.{Command}
 use Rattle.portals_top.specs.declared.words.Command.TheVariants.{Once}
-use Rattle.portals_top.specs.Due.{Due, due, due_of, unread}
-use Rattle.portals_top.specs.Answered.{IsTold, MayAnswer, Stands, Leaves, RanText, IsRan, HandsBack, Answered}
+use Rattle.portals_top.specs.Due.{due, due_of}
+use Rattle.portals_top.specs.Answered.{IsTold, MayAnswer, Stands, Leaves, IsRan, HandsBack, Answered}
 use Rattle.portals_top.specs.Written.{Written}
 use Rattle.portals_top.proofs.Told.{Told, told-any, short-read}
 

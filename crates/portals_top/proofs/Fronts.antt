@@ -1,5 +1,5 @@
 -- Reads one after the other.
-use Rattle.std.proofs.Common.{◌≡◌, List, ℕ, [], ◌++◌, Option, Some, None, refl, sym, ◌∙◌, ap, append_assoc}
+use Rattle.std.proofs.Common.{List, ℕ, [], ◌++◌, Option, Some, None, refl, sym, ◌∙◌, ap, append_assoc}
 use Rattle.port_io.specs.Ends.{GivesFront, IsAtEnd}
 
 pub GivesFront-nothing : (told : Option (List ℕ)) → GivesFront told told []

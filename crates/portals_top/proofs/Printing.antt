@@ -1,5 +1,5 @@
 -- The lines of a buffer, rank by rank.
-use Rattle.std.proofs.Common.{◌≡◌, ℕ, zero, suc, ◌+◌, ◌-◌, ◌<◌, ◌≤◌, List, [], ◌∷◌, ◌++◌, length, get_or, replicate, refl, sym, ◌∙◌, ap, subst, arith}
+use Rattle.std.proofs.Common.{◌≡◌, ℕ, zero, suc, ◌+◌, ◌-◌, ◌<◌, ◌≤◌, List, [], ◌∷◌, ◌++◌, length, get_or, replicate, refl, sym, ◌∙◌, ap, arith}
 use Rattle.coll_lang.specs.Outline.{Program, name_at, type_at, list_of}
 use Rattle.std.specs.List.{flat_map}
 use Rattle.ptl_types.specs.declared.elements.ElemType.TheVariants.{U8}

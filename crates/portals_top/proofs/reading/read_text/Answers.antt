@@ -1,4 +1,4 @@
-use Rattle.std.proofs.Common.{◌≡◌, [], length, take, subst, arith, rules}
+use Rattle.std.proofs.Common.{◌≡◌, [], take, subst, arith, rules}
 use Rattle.port_io.specs.Ends.{GivesFront}
 use Rattle.run_text.proofs.Taking.{Rose-later}
 use Rattle.portals_top.proofs.Fronts.{GivesFront-nothing, GivesFront-then, IsAtEnd-stays}

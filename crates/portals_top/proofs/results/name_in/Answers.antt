@@ -1,4 +1,4 @@
-use Rattle.std.proofs.Common.{length, ap, ◌∙◌, sym, arith, ◌<◌, ◌≡◌}
+use Rattle.std.proofs.Common.{length, ap, ◌∙◌, ◌<◌, ◌≡◌}
 use Rattle.coll_lang.specs.Outline.{name_at}
 use Rattle.portals_top.proofs.Printing.{name_at-is}
 use Rattle.portals_top.proofs.results.name_in.Goals as goal

@@ -1,4 +1,4 @@
-use Rattle.std.proofs.Common.{◌≡◌, ◌++◌, drop}
+use Rattle.std.proofs.Common.{◌++◌, drop}
 use Rattle.std.specs.List.{flat_map}
 use Rattle.run_text.specs.Putting.{Takes}
 use Rattle.portals_top.proofs.Printing.{buffer_lines}

@@ -1,4 +1,4 @@
-use Rattle.std.proofs.Common.{◌≡◌, ◌<◌, ◌+◌, ◌-◌, ◌++◌, List, ℕ, ◌∙◌, sym, ap, subst, arith}
+use Rattle.std.proofs.Common.{◌≡◌, ◌+◌, ◌-◌, ◌++◌, ◌∙◌, ap, subst, arith}
 use Rattle.run_text.specs.Lines.{result_line}
 use Rattle.run_text.specs.Putting.{Takes, FailsWithin}
 use Rattle.run_text.proofs.Taking.{Takes-next, Fails-next, Puts-stops}

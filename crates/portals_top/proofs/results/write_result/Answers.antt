@@ -1,6 +1,6 @@
 use Rattle.std.proofs.Common.{◌++◌}
 use Rattle.std.specs.List.{flat_map}
-use Rattle.run_text.specs.Lines.{rest_line, result_text}
+use Rattle.run_text.specs.Lines.{rest_line}
 use Rattle.run_text.proofs.Taking.{Takes-more, Takes-then, Fails-more, Fails-then, EndsWith-then, EndsWith-stops}
 use Rattle.portals_top.proofs.Printing.{buffer_lines, lines-meaning}
 use Rattle.portals_top.proofs.results.write_result.Goals as goal

@@ -1,4 +1,4 @@
-use Rattle.std.proofs.Common.{◌≡◌, List, ℕ, Err}
+use Rattle.std.proofs.Common.{◌≡◌, Err}
 use Rattle.coll_lang.specs.FirstForm.{read}
 use Rattle.portals_top.proofs.top.answer.Goals as goal
 

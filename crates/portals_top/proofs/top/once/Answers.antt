@@ -1,4 +1,3 @@
-use Rattle.std.proofs.Common.{refl}
 use Rattle.portals_top.proofs.Told.{told-read}
 use Rattle.portals_top.proofs.Answering.{answered-read, answered-failed, answered-no_memory}
 use Rattle.portals_top.proofs.top.once.Goals as goal
