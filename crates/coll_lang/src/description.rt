@@ -101,8 +101,8 @@ impl Model for Inputs {
 }
 
 impl Inputs {
-    /// All lists, input by input and rank by rank.
-    pub(crate) fn lists(&self) -> &[RankList]
+    /// All lists, input by input and in each input rank by rank.
+    pub fn lists(&self) -> &[RankList]
         ensures { result.now ≡ self.now.lists }
     {
         self.lists.as_slice()

@@ -24,7 +24,7 @@ mod whole;
 pub use description::{Description, Inputs, Shape};
 pub use fault::{ParseFault, Refusal};
 pub use generating::generated;
-pub use lists::{Name, Text};
+pub use lists::{Name, RankList, Text};
 pub use printing::print;
 pub use types::{Buffer, CollStep, Spread};
 pub use whole::{one_spelling, parse, parse_all, refused_by_the_table, well_formed};

@@ -63,8 +63,8 @@ fn push_value_word(out: &mut Vec<u8>, ty: ElemType, n: u64) -> Result<(), AllocE
     }
 }
 
-/// The bit pattern of an element of so many bytes.
-fn pattern_of(bytes: &[u8]) -> u64
+/// The bit pattern of an element of so many bytes, lowest first.
+pub fn pattern_of(bytes: &[u8]) -> u64
     requires { length bytes.now ≤ 8 }
     ensures value { result ≡ pattern bytes.now }
     ensures fits { result < 256 ^ length bytes.now }
