@@ -1,4 +1,7 @@
+pub mod Counting
 pub mod Exchanging
+pub mod Kept
+pub mod Placed
 pub mod Swapping
 pub mod Views
 pub mod Within

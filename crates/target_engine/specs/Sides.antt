@@ -3,15 +3,10 @@ use Rattle.std.specs.Prelude.{ℕ, ◌≡◌, List, Option, Some, None}
 use Rattle.ptl_types.specs.declared.calls.NiFault.{NiFault}
 use Rattle.ptl_types.specs.declared.calls.NiFault.TheVariants.{NoMemory}
 use Rattle.ptl_types.specs.declared.entries.UnexpectedHeader.{UnexpectedHeader}
-use Rattle.ptl_types.specs.declared.handles.Handle.{Handle}
-use Rattle.match_lists.specs.Lists.{Both}
 use Rattle.ni_model.specs.Lists.{Index}
 use Rattle.ni_model.specs.Headers.{Held}
 use Rattle.ni_model.specs.Arrive.{Side, Parts}
 use Rattle.ni_model.specs.Append.{Searched}
-
-abbrev pub index : Option Handle → Both → Index
-index eq b = record { eq = eq; priority = b.priority; overflow = b.overflow }
 
 abbrev pub side : ℕ → ℕ → List (Option Index) → ℕ → Held → Side
 side rank limit indices given headers = record { rank = rank; limit = limit; indices = indices; given = given; headers = headers }

@@ -9,11 +9,12 @@ ghost use Rattle.ni_model.specs.Arrive.{parts};
 ghost use Rattle.ni_model.specs.Calls.{new_index};
 ghost use Rattle.ni_model.specs.Refusals.{pt_alloc_fault, pt_free_fault};
 ghost use Rattle.ni_model.specs.Append.{gone_raised, is_allocated as allocated, search as search_of};
+ghost use Rattle.target_engine.specs.Shelves.{seen_in};
 ghost use Rattle.target_engine.specs.Sides.{side, FailsBy, has_searched};
 
 use crate::effects::{is_live_or_none, raise};
 use crate::events::{entry_event, message_event};
-use crate::index::{Index, queue_at};
+use crate::index::{Index, put, queue_at, shelf_at};
 use crate::target::Target;
 use event_queues::Queue;
 use handle_store::Store;
@@ -23,30 +24,27 @@ use ptl_types::{Entry, Event, EventKind, Handle, List as Place, NiFault, Unexpec
 use std::alloc::Global;
 use unexpected::Headers;
 
-fn is_allocated(indices: &[Option<Index>], pt: u32) -> bool
-    ensures { result ≡ is_some (index_at pt indices.now) }
+pub fn is_allocated(indices: &[Option<Index>], pt: u32) -> bool
+    ensures { result ≡ is_some (index_at pt (seen_in indices.now)) }
 {
-    match indices.get(pt as usize) {
-        Some(Some(_)) => true,
-        _ => false,
-    }
+    shelf_at(indices, pt).is_some()
 }
 
 fn holds_entries(indices: &[Option<Index>], pt: u32) -> bool
-    ensures { result ≡ nat_lt 0 (entries_in (index_at pt indices.now)) }
+    ensures { result ≡ nat_lt 0 (entries_in (index_at pt (seen_in indices.now))) }
 {
-    match indices.get(pt as usize) {
-        Some(Some(index)) => index.holds_entries(),
-        _ => false,
+    match shelf_at(indices, pt) {
+        Some(shelf) => shelf.holds_entries(),
+        None => false,
     }
 }
 
 fn is_in_overflow(indices: &[Option<Index>], pt: u32, entry: Handle) -> bool
-    ensures { result ≡ is_linked_at Place.Overflow entry (index_at pt indices.now) }
+    ensures { result ≡ is_linked_at Place.Overflow entry (index_at pt (seen_in indices.now)) }
 {
-    match indices.get(pt as usize) {
-        Some(Some(index)) => index.is_in_overflow(entry),
-        _ => false,
+    match shelf_at(indices, pt) {
+        Some(shelf) => shelf.is_in_overflow(entry),
+        None => false,
     }
 }
 
@@ -73,7 +71,7 @@ fn raise_gone(
     kind: EventKind,
     noted: &Noted,
 )
-    ensures { eqs.new ≡ gone_raised kind (side 0 0 indices.now 0 left.now) left.now.noted noted.now eqs.old }
+    ensures { eqs.new ≡ gone_raised kind (side 0 0 (seen_in indices.now) 0 left.now) left.now.noted noted.now eqs.old }
 {
     let eq = queue_at(indices, noted.pt);
     raise(eqs, eq, header_event(kind, noted));
@@ -102,8 +100,7 @@ impl Target {
         if !is_live_or_none(eqs, eq) {
             return Err(NiFault::Stale);
         }
-        let at = index as usize;
-        if at >= self.indices.len() {
+        if index as usize >= self.indices.len() {
             return Err(NiFault::NoSpace);
         }
         if is_allocated(&self.indices, index) {
@@ -111,7 +108,7 @@ impl Target {
         }
         match Lists::open(alloc, self.limit) {
             Ok(lists) => {
-                self.indices[at] = Some(Index { eq, lists });
+                put(&mut self.indices, index, Some(Index { eq, lists }));
                 Ok(())
             }
             Err(_) => Err(NiFault::NoMemory),
@@ -132,10 +129,7 @@ impl Target {
         if holds_entries(&self.indices, index) || self.headers.waits_at(index) {
             return Err(NiFault::InUse);
         }
-        let at = index as usize;
-        if at < self.indices.len() {
-            self.indices[at] = None;
-        }
+        put(&mut self.indices, index, None);
         Ok(())
     }
 

@@ -11,5 +11,6 @@ mod index;
 mod measures;
 mod swap;
 mod target;
+mod unlinks;
 
 pub use target::Target;

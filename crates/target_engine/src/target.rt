@@ -1,11 +1,13 @@
 //! The target.
 
-ghost use Rattle.std.specs.Prelude.{◌≡◌, ◌+◌, ◌<◌, ◌^◌, [], None, false, IfOk, option_copied, length, All, replicate};
+ghost use Rattle.std.specs.Prelude.{◌≡◌, ◌+◌, ◌<◌, ◌^◌, [], None, true, false, IfOk, option_copied, length, All, replicate};
 ghost use Rattle.ptl_types.specs.Kinds.{is_answer};
 ghost use Rattle.ni_model.specs.Headers.{held};
 ghost use Rattle.ni_model.specs.Arrive.{parts, received, request as request_of, accepted, counts_after, headers_after, is_overflow as overflows, outcome_in as outcome_of};
 ghost use Rattle.ni_model.specs.Conditions.{IsPartIn, HasPartsIn, HasRoom};
+ghost use Rattle.ni_model.specs.Lists.{index_at, is_linked_at};
 ghost use Rattle.unexpected.specs.Places.{header_at};
+ghost use Rattle.target_engine.specs.Shelves.{places_after};
 ghost use Rattle.target_engine.specs.Sides.{side};
 
 use crate::answers::refused;
@@ -13,7 +15,7 @@ use crate::effects::{count, successes, where_set};
 use crate::events::raise_events;
 use crate::exchange::exchange;
 use crate::index::{Index, chosen_in, queue_at, settle_at};
-use crate::measures::{delivered, place};
+use crate::measures::{delivered, is_over, place};
 use counters::Counter;
 use event_queues::Queue;
 use handle_store::Store;
@@ -67,13 +69,23 @@ fn outcome_in(list: List) -> Outcome
     }
 }
 
-/// A target: its rank, its portal table indices, and the headers that wait. Its value is the model's `Side`.
+/// The handle of an entry that a message unlinks goes.
+fn forget(places: &mut Store<u32>, found: &Found, header: &Header)
+    ensures { places.new ≡ places_after found.now header.now places.old }
+{
+    if is_over(&found.linked, header) {
+        let _ = places.remove(found.linked.handle);
+    }
+}
+
+/// A target: its rank, its portal table indices, and the headers that wait. Its value is the model's `Side`. `places` has
+/// the handle of each linked entry, with the number of the index that holds it.
 #[derive(Drop)]
 pub struct Target {
     rank: Rank,
     pub(crate) limit: u32,
     pub(crate) indices: Vec<Option<Index>>,
-    given: u64,
+    pub(crate) places: Store<u32>,
     pub(crate) headers: Headers,
 }
 
@@ -83,7 +95,11 @@ impl Model for Target {
 
     ghost Value = { Side };
 
-    ghost view = { λ t. side t.rank t.limit t.indices.items t.given t.headers };
+    ghost use Rattle.target_engine.specs.Shelves.{seen_in, IsKept};
+
+    ghost view = { λ t. side t.rank t.limit (seen_in t.indices.items) t.places.given t.headers };
+
+    ghost invariant = { λ t. IsKept t.limit t.indices.items t.places };
 }
 
 fn empty_indices(alloc: Global, pts: u32) -> Result<Vec<Option<Index>>, NoMemory>
@@ -106,12 +122,13 @@ impl Target {
         ensures { IfOk result (λ t. t ≡ side rank limits.now.entries (replicate limits.now.pts None) 0 (held [] limits.now.unexpected)) }
     {
         let indices = empty_indices(alloc, limits.pts)?;
+        let places = Store::open(alloc, limits.entries)?;
         let headers = Headers::open(alloc, limits.unexpected)?;
         Ok(Target {
             rank,
             limit: limits.entries,
             indices,
-            given: 0,
+            places,
             headers,
         })
     }
@@ -161,6 +178,7 @@ impl Target {
         requires request { is_answer message.header.kind ≡ false }
         requires part { IsPartIn (length region.old) found.now.linked }
         requires room { HasRoom found.now.list self.old.headers }
+        requires there { is_linked_at found.now.list found.now.linked.handle (index_at message.header.pt self.old.indices) ≡ true }
         ensures { received (parts self.new region.new cts.new eqs.new) result ≡ accepted (parts self.old region.old cts.old eqs.old) message found.now }
     {
         let _size = region.len();
@@ -170,6 +188,7 @@ impl Target {
         count_message(cts, &found.linked);
         note_header(&mut self.headers, found, &header);
         settle_at(&mut self.indices, found, &header);
+        forget(&mut self.places, found, &header);
         raise_events(eqs, eq, found, &header);
         Arrived {
             outcome: outcome_in(found.list),

@@ -1,9 +1,9 @@
 //! The unexpected headers of an interface, in the order of arrival (Portals 4.3, unexpected messages).
 #![tactic(auto)]
 
-ghost use Rattle.std.specs.Prelude.{◌≡◌, ◌<◌, ◌++◌, ◌∷◌, [], ◌↔◌, IsTrue, IfOk, IfNone, IfSome, Some, None, slice_index_or, remove, length, nat_lt, option_copied};
+ghost use Rattle.std.specs.Prelude.{◌≡◌, ◌<◌, ◌++◌, ◌∷◌, [], ◌↔◌, IsTrue, IfOk, vec_capacity, IfNone, IfSome, Some, None, slice_index_or, remove, length, nat_lt, option_copied};
 ghost use Rattle.ni_model.specs.declared.Noted.{Noted as Header};
-ghost use Rattle.ni_model.specs.Headers.{held, allows as allowed_by, finds as found_by, oldest, without_oldest, names_entry, headers_of, no_room};
+ghost use Rattle.ni_model.specs.Headers.{held, allows as allowed_by, finds as found_by, oldest, without_oldest, names_entry, headers_of, no_room, found_in, left_in};
 ghost use Rattle.unexpected.specs.Places.{noted as as_noted, header_at};
 
 use ni_model::Noted;
@@ -26,7 +26,8 @@ pub fn allows(entry: &Entry, kind: MessageKind) -> bool
     }
 }
 
-fn finds(noted: &Noted, pt: u32, entry: &Entry) -> bool
+/// Whether the header is one of this index that the entry matches and allows. Lengths aren't looked at.
+pub fn finds(noted: &Noted, pt: u32, entry: &Entry) -> bool
     ensures { result ≡ found_by pt entry.now noted.now }
 {
     noted.pt == pt
@@ -67,6 +68,37 @@ fn some_lies_in(noted: &[Noted], entry: Handle) -> bool
         }
     }
     false
+}
+
+/// Whether the bytes of a header that the entry finds lie in the memory of the entry `me`.
+pub fn found_names(noted: &[Noted], pt: u32, entry: &Entry, me: Handle) -> bool
+    ensures { result ≡ names_entry me (found_in pt entry.now noted.now) }
+{
+    for x in noted {
+        if finds(x, pt, entry) && x.header.entry.is(me) {
+            return true;
+        }
+    }
+    false
+}
+
+/// Whether the bytes of a header that the entry doesn't find lie in the memory of the entry `me`.
+pub fn left_names(noted: &[Noted], pt: u32, entry: &Entry, me: Handle) -> bool
+    ensures { result ≡ names_entry me (left_in pt entry.now noted.now) }
+{
+    for x in noted {
+        if !finds(x, pt, entry) && x.header.entry.is(me) {
+            return true;
+        }
+    }
+    false
+}
+
+fn drop_found(noted: &mut Vec<Noted>, pt: u32, entry: &Entry)
+    ensures left { noted.new.items ≡ left_in pt entry.now noted.old.items }
+    ensures room { vec_capacity noted.new ≡ vec_capacity noted.old }
+{
+    noted.retain(|x| !finds(x, pt, entry));
 }
 
 fn some_is_of(noted: &[Noted], pt: u32) -> bool
@@ -156,6 +188,20 @@ impl Headers {
         ensures { result ≡ oldest pt entry.now self.now.noted }
     {
         first_found(&self.noted, pt, entry)
+    }
+
+    /// All headers, oldest first.
+    pub fn as_slice(&self) -> &[Noted]
+        ensures { result.now ≡ self.now.noted }
+    {
+        self.noted.as_slice()
+    }
+
+    /// Takes out all headers of this index that the entry matches and allows, in one pass. The others keep their order.
+    pub fn drop_found(&mut self, pt: u32, entry: &Entry)
+        ensures { self.new ≡ held (left_in pt entry.now self.old.noted) self.old.limit }
+    {
+        drop_found(&mut self.noted, pt, entry);
     }
 
     /// Whether the bytes of a header lie in this entry's memory.

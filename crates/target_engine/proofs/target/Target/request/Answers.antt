@@ -1,10 +1,17 @@
 use Rattle.std.proofs.Common.{◌≡◌, Some, length, ap, sym, ◌∙◌}
 use Rattle.ni_model.specs.Arrive.{chosen}
-use Rattle.target_engine.proofs.Within.{chosen-within}
+use Rattle.target_engine.specs.Shelves.{seen_in}
+use Rattle.target_engine.proofs.Within.{chosen-within, chosen-linked}
 use Rattle.target_engine.proofs.target.Target.request.Goals as goal
 
 pub accept-requires-clause-part : goal.accept-requires-clause-part
 accept-requires-clause-part c =
-    let at : c.deref.result.now ≡ c.args.self.now.indices = c.deref.ensures.value ∙ ap (λ s. s.indices) c.self.view_is in
+    let at : seen_in c.deref.result.now ≡ c.args.self.now.indices = ap seen_in c.deref.ensures.value ∙ ap (λ s. s.indices) c.self.view_is in
     let e : chosen c.header.result.now c.args.self.now.indices ≡ Some c.in-Some.found = rw (← at) (sym c.chosen_in.ensures ∙ c.in-Some.is) in
     chosen-within (length c.args.region.now) c.header.result.now c.args.self.now.indices c.in-Some.found c.requires.inside e
+
+pub accept-requires-clause-there : goal.accept-requires-clause-there
+accept-requires-clause-there c =
+    let at : seen_in c.deref.result.now ≡ c.args.self.now.indices = ap seen_in c.deref.ensures.value ∙ ap (λ s. s.indices) c.self.view_is in
+    let e : chosen c.header.result.now c.args.self.now.indices ≡ Some c.in-Some.found = rw (← at) (sym c.chosen_in.ensures ∙ c.in-Some.is) in
+    rw (← c.header.ensures) (chosen-linked c.header.result.now c.args.self.now.indices c.in-Some.found e)

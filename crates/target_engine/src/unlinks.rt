@@ -1,0 +1,74 @@
+//! Unlinking an entry, and whether an entry or an index names something.
+
+ghost use Rattle.std.specs.Prelude.{◌≡◌, None, Some, IfErr, OnErr, OnOk, map};
+ghost use Rattle.ni_model.specs.Calls.{unlinked_in};
+ghost use Rattle.ni_model.specs.Refusals.{unlink_fault, index_names_ct, index_names_eq};
+ghost use Rattle.target_engine.specs.Shelves.{seen_in};
+
+use crate::index::{Index, unlink_at};
+use crate::target::Target;
+use ptl_types::{Handle, NiFault};
+
+fn some_names_ct(indices: &[Option<Index>], ct: Handle) -> bool
+    ensures { result ≡ index_names_ct ct (seen_in indices.now) }
+{
+    for slot in indices {
+        if let Some(shelf) = slot {
+            if shelf.lists.names_ct(ct) {
+                return true;
+            }
+        }
+    }
+    false
+}
+
+fn some_names_eq(indices: &[Option<Index>], eq: Handle) -> bool
+    ensures { result ≡ index_names_eq eq (seen_in indices.now) }
+{
+    for slot in indices {
+        if let Some(shelf) = slot {
+            if let Some(named) = shelf.eq {
+                if named.is(eq) {
+                    return true;
+                }
+            }
+        }
+    }
+    false
+}
+
+impl Target {
+    /// Unlinks a match entry (Portals 4.3, list entries). `Stale` where it isn't linked, `InUse` where the bytes of an
+    /// unexpected header lie in its memory. A refused call changes nothing. No event tells of it.
+    pub fn unlink(&mut self, me: Handle) -> Result<(), NiFault>
+        ensures err { IfErr result (λ fault. unlink_fault me self.old ≡ Some fault) }
+        ensures unchanged { OnErr result (self.new ≡ self.old) }
+        ensures ok { OnOk result (unlink_fault me self.old ≡ None) }
+        ensures unlinked { OnOk result (self.new ≡ record self.old { indices = map (unlinked_in me) self.old.indices }) }
+    {
+        let pt = match self.places.get(me) {
+            Some(pt) => *pt,
+            None => return Err(NiFault::Stale),
+        };
+        if self.headers.names(me) {
+            return Err(NiFault::InUse);
+        }
+        unlink_at(&mut self.indices, pt, me);
+        let _ = self.places.remove(me);
+        Ok(())
+    }
+
+    /// Whether a linked entry names the counting event.
+    pub fn names_ct(&self, ct: Handle) -> bool
+        ensures { result ≡ index_names_ct ct self.now.indices }
+    {
+        some_names_ct(&self.indices, ct)
+    }
+
+    /// Whether a portal table index has the event queue.
+    pub fn names_eq(&self, eq: Handle) -> bool
+        ensures { result ≡ index_names_eq eq self.now.indices }
+    {
+        some_names_eq(&self.indices, eq)
+    }
+}
