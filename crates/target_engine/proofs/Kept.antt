@@ -1,6 +1,7 @@
 -- What a target keeps of its indices and its places, through each call.
 use Rattle.std.proofs.Common.{◌≡◌, ℕ, zero, suc, ◌+◌, ◌<◌, true, false, List, ◌∷◌, ◌++◌, Option, Some, None, take, drop, length, get_or, if◌then◌else◌, replicate, refl, ap, arith, nat_lt, map, subst, sym, ◌∙◌}
-use Rattle.std.specs.Prelude.{All, slice_set, is_some}
+use Rattle.std.specs.Prelude.{All, slice_set, is_some, sum_by, nat_le, ◌||◌}
+use Rattle.ptl_types.specs.Handles.{top}
 use Rattle.std.proofs.lemmas.Bool.Decides.{nat_tests}
 use Rattle.std.proofs.Math.Seq.{take-append_seam}
 use Rattle.std.proofs.lemmas.List.Elements.{All-cons, All-nil}
@@ -10,7 +11,7 @@ use Rattle.ptl_types.specs.declared.entries.Entry.{Entry}
 use Rattle.ptl_types.specs.declared.entries.List.{List as Place}
 use Rattle.ptl_types.specs.declared.entries.List.TheVariants.{Priority, Overflow}
 use Rattle.ni_model.specs.declared.Found.{Found}
-use Rattle.ni_model.specs.Tables.{Table, lookup, has_slot, handle, with_new, without, no_things}
+use Rattle.ni_model.specs.Tables.{Table, lookup, has_slot, handle, with_new, without, no_things, is_full}
 use Rattle.ni_model.specs.Lists.{Index, index_at, is_linked_at, entries_in}
 use Rattle.ni_model.specs.Arrive.{is_over, indices_after}
 use Rattle.ni_model.specs.Append.{fresh, linked_at}
@@ -80,3 +81,7 @@ none-in (Some i) e = cc
 
 pub no-entries : (n : ℕ) → nat_lt 0 n ≡ false → n ≡ 0
 no-entries n e = grind (arith, nat_tests)
+
+-- the table of places is full where the target is
+pub full-kept : (most : ℕ) (is : List (Option Shelf)) (t : Table ℕ) → IsKept most is t → is_full t ≡ (nat_le most (sum_by entries_in (seen_in is)) || nat_le top t.given)
+full-kept most is t k = rw (placed-count (seen_in is) t k.placed, ← k.limit) refl

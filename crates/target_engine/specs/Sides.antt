@@ -1,12 +1,22 @@
 -- What a target is seen as, and how its parts make up the model's.
-use Rattle.std.specs.Prelude.{ℕ, ◌≡◌, List, Option, Some, None}
+use Rattle.std.specs.Prelude.{ℕ, ◌≡◌, Bool, false, if◌then◌else◌, List, Option, Some, None}
+use Rattle.ptl_types.specs.declared.handles.Handle.{Handle}
+use Rattle.ptl_types.specs.declared.entries.Entry.{Entry}
+use Rattle.ptl_types.specs.declared.entries.List.{List as Place}
+use Rattle.ptl_types.specs.declared.calls.Appended.{Appended}
 use Rattle.ptl_types.specs.declared.calls.NiFault.{NiFault}
 use Rattle.ptl_types.specs.declared.calls.NiFault.TheVariants.{NoMemory}
 use Rattle.ptl_types.specs.declared.entries.UnexpectedHeader.{UnexpectedHeader}
-use Rattle.ni_model.specs.Lists.{Index}
+use Rattle.ptl_types.specs.declared.events.EventKind.{EventKind}
+use Rattle.ni_model.specs.declared.Noted.{Noted}
+use Rattle.ni_model.specs.Tables.{Table}
+use Rattle.ni_model.specs.Queues.{Waiting, raised}
+use Rattle.ni_model.specs.Events.{header_event, free_event}
+use Rattle.ni_model.specs.Lists.{Index, index_at, queue_of}
 use Rattle.ni_model.specs.Headers.{Held}
 use Rattle.ni_model.specs.Arrive.{Side, Parts}
-use Rattle.ni_model.specs.Append.{Searched}
+use Rattle.ni_model.specs.Append.{Appends, Searched, append}
+use Rattle.ni_model.specs.Calls.{entry_slot}
 
 abbrev pub side : ℕ → ℕ → List (Option Index) → ℕ → Held → Side
 side rank limit indices given headers = record { rank = rank; limit = limit; indices = indices; given = given; headers = headers }
@@ -18,3 +28,18 @@ FailsBy (Some first) fault = fault ≡ first
 
 abbrev pub has_searched : Parts → Option UnexpectedHeader → Searched
 has_searched p found = record { parts = p; found = found }
+
+-- the event of a header that goes, and directly after it the freeing of its entry, where it is free
+abbrev pub told_gone : EventKind → List (Option Index) → Bool → Noted → Table Waiting → Table Waiting
+told_gone kind is freed a eqs =
+    let told = raised (queue_of (index_at a.pt is)) (header_event kind a) eqs in
+    if freed then raised (queue_of (index_at a.pt is)) (free_event a.pt) told else told
+
+abbrev pub has_appended : Parts → Appended → Option Handle → Appends
+has_appended p appended counted = record { parts = p; appended = appended; counted = counted }
+
+-- the append, with some slot that no linked entry has
+pub record AppendsSome (pt : ℕ) (place : Place) (e : Entry) (old : Parts) (end : Appends) : Type 0 where
+  pub slot : ℕ
+  pub free : entry_slot old.side.indices slot ≡ false
+  pub ended : end ≡ append slot pt place e old

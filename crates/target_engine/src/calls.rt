@@ -3,26 +3,25 @@
 ghost use Rattle.std.specs.Prelude.{◌≡◌, ℕ, List, true, false, None, Some, OnOk, OnErr, IfOk, IfErr, is_some, nat_lt, slice_set};
 ghost use Rattle.ptl_types.specs.declared.handles.Count.{Count};
 ghost use Rattle.ni_model.specs.Tables.{Table};
-ghost use Rattle.ni_model.specs.Lists.{index_at, is_linked_at, entries_in};
-ghost use Rattle.ni_model.specs.Events.{header_event as event_of, missed_event as missed_of};
+ghost use Rattle.ni_model.specs.Lists.{index_at, entries_in};
+ghost use Rattle.ni_model.specs.Events.{missed_event as missed_of};
 ghost use Rattle.ni_model.specs.Arrive.{parts};
 ghost use Rattle.ni_model.specs.Calls.{new_index};
 ghost use Rattle.ni_model.specs.Refusals.{pt_alloc_fault, pt_free_fault};
-ghost use Rattle.ni_model.specs.Append.{gone_raised, is_allocated as allocated, search as search_of};
+ghost use Rattle.ni_model.specs.Append.{is_allocated as allocated, search as search_of};
 ghost use Rattle.target_engine.specs.Shelves.{seen_in};
-ghost use Rattle.target_engine.specs.Sides.{side, FailsBy, has_searched};
+ghost use Rattle.target_engine.specs.Sides.{FailsBy, has_searched};
 
 use crate::effects::{is_live_or_none, raise};
-use crate::events::{entry_event, message_event};
+use crate::events::entry_event;
+use crate::gone::{frees, header_event, raise_gone};
 use crate::index::{Index, put, queue_at, shelf_at};
 use crate::target::Target;
 use event_queues::Queue;
 use handle_store::Store;
 use match_lists::Lists;
-use ni_model::Noted;
-use ptl_types::{Entry, Event, EventKind, Handle, List as Place, NiFault, UnexpectedHeader};
+use ptl_types::{Entry, Event, EventKind, Handle, NiFault, UnexpectedHeader};
 use std::alloc::Global;
-use unexpected::Headers;
 
 pub fn is_allocated(indices: &[Option<Index>], pt: u32) -> bool
     ensures { result ≡ is_some (index_at pt (seen_in indices.now)) }
@@ -39,46 +38,11 @@ fn holds_entries(indices: &[Option<Index>], pt: u32) -> bool
     }
 }
 
-fn is_in_overflow(indices: &[Option<Index>], pt: u32, entry: Handle) -> bool
-    ensures { result ≡ is_linked_at Place.Overflow entry (index_at pt (seen_in indices.now)) }
-{
-    match shelf_at(indices, pt) {
-        Some(shelf) => shelf.is_in_overflow(entry),
-        None => false,
-    }
-}
-
-fn header_event(kind: EventKind, noted: &Noted) -> Event
-    ensures { result ≡ event_of kind noted.now }
-{
-    let header = &noted.header;
-    message_event(kind, &header.header, header.delivered, header.place)
-}
-
 /// A search that finds nothing.
 fn missed_event(pt: u32, entry: &Entry) -> Event
     ensures { result ≡ missed_of pt entry.now.match_bits }
 {
     entry_event(EventKind::Search, pt, entry.match_bits, false)
-}
-
-/// The event of a header that went, and directly after it the freeing of its entry, where that isn't linked and none of
-/// the headers that are left lies in it.
-fn raise_gone(
-    indices: &[Option<Index>],
-    left: &Headers,
-    eqs: &mut Store<Queue>,
-    kind: EventKind,
-    noted: &Noted,
-)
-    ensures { eqs.new ≡ gone_raised kind (side 0 0 (seen_in indices.now) 0 left.now) left.now.noted noted.now eqs.old }
-{
-    let eq = queue_at(indices, noted.pt);
-    raise(eqs, eq, header_event(kind, noted));
-    let entry = noted.header.entry;
-    if !(is_in_overflow(indices, noted.pt, entry) || left.names(entry)) {
-        raise(eqs, eq, entry_event(EventKind::AutoFree, noted.pt, 0, true));
-    }
 }
 
 impl Target {
@@ -181,7 +145,8 @@ impl Target {
                 return None;
             }
         };
-        raise_gone(&self.indices, &self.headers, eqs, EventKind::Search, &noted);
+        let freed = frees(&self.indices, &self.headers, &noted);
+        raise_gone(&self.indices, eqs, EventKind::Search, &noted, freed);
         Some(noted.header)
     }
 }

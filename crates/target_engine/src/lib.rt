@@ -1,16 +1,20 @@
 //! The target's side of an interface: what a request does where it arrives, and the calls that append, unlink and search
 //! (Portals 4.3, matching, overflow lists and the operations at the target).
-#![tactic(auto, unfolding(ni_model::specs::Arrive::request, ni_model::specs::Append::search))]
+#![tactic(auto, unfolding(ni_model::specs::Arrive::request, ni_model::specs::Append::append, ni_model::specs::Append::search))]
 
 mod answers;
+mod appends;
 mod calls;
 pub mod effects;
 mod events;
 mod exchange;
+mod gone;
 mod index;
 mod measures;
 mod swap;
 mod target;
+#[cfg(test)]
+mod tests;
 mod unlinks;
 
 pub use target::Target;

@@ -1,0 +1,171 @@
+//! Appending an entry, with the unexpected headers that it takes.
+
+ghost use Rattle.std.specs.Prelude.{◌≡◌, ◌||◌, ℕ, List, true, false, None, Some, OnOk, OnErr, IfOk, IfErr, nat_le};
+ghost use Rattle.ptl_types.specs.Handles.{top};
+ghost use Rattle.ni_model.specs.Headers.{found_in, left_in};
+ghost use Rattle.ni_model.specs.Arrive.{parts};
+ghost use Rattle.ni_model.specs.Queues.{raised};
+ghost use Rattle.ni_model.specs.Events.{link_event};
+ghost use Rattle.ni_model.specs.Calls.{entry_slot};
+ghost use Rattle.ni_model.specs.Append.{append_fault, is_allocated as allocated, linked_count, next_handle, link_side, queue_at as queue_of_index, overflow_counter as counter_of, each_counted, each_gone, with_noted, counted_by as counts_by};
+ghost use Rattle.target_engine.specs.Sides.{has_appended, AppendsSome};
+
+use crate::calls::is_allocated;
+use crate::effects::{count, is_live_or_none, raise, successes, where_set};
+use crate::events::entry_event;
+use crate::gone::{frees, kind_taken, raise_gone, raise_taken};
+use crate::index::{link_at, queue_at};
+use crate::target::Target;
+use counters::Counter;
+use event_queues::Queue;
+use handle_store::Store;
+use memory_desc::Region;
+use ni_model::Noted;
+use ptl_types::{Appended, Entry, EventKind, Handle, List as Place, NiFault};
+use unexpected::{Headers, finds};
+
+fn overflow_counter(entry: &Entry) -> Option<Handle>
+    ensures { result ≡ counter_of entry.now }
+{
+    where_set(entry.count_overflow, entry.ct)
+}
+
+/// One success for each header that the entry takes.
+fn count_taken(cts: &mut Store<Counter>, noted: &[Noted], pt: u32, entry: &Entry)
+    ensures { cts.new ≡ each_counted (counter_of entry.now) (found_in pt entry.now noted.now) cts.old }
+{
+    let ct = overflow_counter(entry);
+    for x in noted {
+        if finds(x, pt, entry) {
+            count(cts, ct, successes(1));
+        }
+    }
+}
+
+/// The counting event that rises where the entry takes all headers that it finds.
+fn counted_by(headers: &Headers, pt: u32, entry: &Entry) -> Option<Handle>
+    ensures { result ≡ counts_by entry.now (found_in pt entry.now headers.now.noted) }
+{
+    match headers.search(pt, entry) {
+        Some(_) => overflow_counter(entry),
+        None => None,
+    }
+}
+
+impl Target {
+    /// Whether no further entry can be linked: as many as the limit are, or all stamps were given.
+    fn is_full(&self) -> bool
+        ensures { result ≡ (nat_le self.now.limit (linked_count self.now) || nat_le top self.now.given) }
+    {
+        self.places.is_full()
+    }
+
+    /// Links an entry at the end of a list, and tells so.
+    fn link(&mut self, eqs: &mut Store<Queue>, pt: u32, list: Place, entry: Entry) -> Handle
+        requires index { allocated pt self.old ≡ true }
+        requires room { (nat_le self.old.limit (linked_count self.old) || nat_le top self.old.given) ≡ false }
+        ensures named { result ≡ next_handle result.slot self.old }
+        ensures free { entry_slot self.old.indices result.slot ≡ false }
+        ensures linked { self.new ≡ link_side result.slot pt list entry self.old }
+        ensures told { eqs.new ≡ raised (queue_of_index pt self.old) (link_event pt entry.match_bits) eqs.old }
+    {
+        let me = match self.places.insert(pt) {
+            Ok(me) => me,
+            Err(_) => unreachable!(),
+        };
+        link_at(&mut self.indices, pt, list, me, entry);
+        let eq = queue_at(&self.indices, pt);
+        raise(
+            eqs,
+            eq,
+            entry_event(EventKind::Link, pt, entry.match_bits, true),
+        );
+        me
+    }
+
+    /// A persistent entry takes all headers that it finds, in order of arrival. Answers the counting event that rose.
+    fn take_all(
+        &mut self,
+        cts: &mut Store<Counter>,
+        eqs: &mut Store<Queue>,
+        pt: u32,
+        entry: &Entry,
+    ) -> Option<Handle>
+        ensures left { self.new ≡ with_noted (left_in pt entry.now self.old.headers.noted) self.old }
+        ensures counts { cts.new ≡ each_counted (counter_of entry.now) (found_in pt entry.now self.old.headers.noted) cts.old }
+        ensures events { eqs.new ≡ each_gone self.old (left_in pt entry.now self.old.headers.noted) (found_in pt entry.now self.old.headers.noted) eqs.old }
+        ensures counted { result ≡ counts_by entry.now (found_in pt entry.now self.old.headers.noted) }
+    {
+        let counted = counted_by(&self.headers, pt, entry);
+        count_taken(cts, self.headers.as_slice(), pt, entry);
+        raise_taken(&self.indices, self.headers.as_slice(), eqs, pt, entry);
+        self.headers.drop_found(pt, entry);
+        counted
+    }
+
+    /// A use-once entry takes the oldest header that it finds, else it is linked.
+    fn append_once(
+        &mut self,
+        cts: &mut Store<Counter>,
+        eqs: &mut Store<Queue>,
+        pt: u32,
+        entry: Entry,
+    ) -> (Appended, Option<Handle>)
+        requires index { allocated pt self.old ≡ true }
+        requires room { (nat_le self.old.limit (linked_count self.old) || nat_le top self.old.given) ≡ false }
+        requires once { entry.use_once ≡ true }
+        ensures { (region : List ℕ) → AppendsSome pt Place.Priority entry (parts self.old region cts.old eqs.old) (has_appended (parts self.new region cts.new eqs.new) result.0 result.1) }
+    {
+        let noted = match self.headers.take_oldest(pt, &entry) {
+            Some(noted) => noted,
+            None => {
+                let me = self.link(eqs, pt, Place::Priority, entry);
+                return (Appended::Linked(me), None);
+            }
+        };
+        let ct = overflow_counter(&entry);
+        count(cts, ct, successes(1));
+        let freed = frees(&self.indices, &self.headers, &noted);
+        let kind = kind_taken(noted.header.header.kind);
+        raise_gone(&self.indices, eqs, kind, &noted, freed);
+        (Appended::Consumed(noted.header), ct)
+    }
+
+    /// Appends an entry to one of the lists of an index (Portals 4.3, appending list entries). To the priority list, a
+    /// use-once entry takes the oldest header that it finds and isn't linked; a persistent one takes all that it finds, and
+    /// is then linked. Answers too the counting event that rose. `Stale` where the index isn't allocated or the counting
+    /// event isn't live, `NoSpace` where the limit is linked or all stamps were given, also where a header would be taken,
+    /// `OutOfRegion` where the entry's part reaches past the region. A refused call changes nothing. It takes no memory.
+    pub fn append(
+        &mut self,
+        region: &Region,
+        cts: &mut Store<Counter>,
+        eqs: &mut Store<Queue>,
+        pt: u32,
+        list: Place,
+        entry: Entry,
+    ) -> Result<(Appended, Option<Handle>), NiFault>
+        ensures err { IfErr result (λ fault. append_fault pt entry (parts self.old region.now cts.old eqs.old) ≡ Some fault) }
+        ensures unchanged { OnErr result ((self.new ≡ self.old) × (cts.new ≡ cts.old) × (eqs.new ≡ eqs.old)) }
+        ensures ok { OnOk result (append_fault pt entry (parts self.old region.now cts.old eqs.old) ≡ None) }
+        ensures appended { IfOk result (λ r. AppendsSome pt list entry (parts self.old region.now cts.old eqs.old) (has_appended (parts self.new region.now cts.new eqs.new) r.0 r.1)) }
+    {
+        if !is_allocated(&self.indices, pt) || !is_live_or_none(cts, entry.ct) {
+            return Err(NiFault::Stale);
+        }
+        if self.is_full() {
+            return Err(NiFault::NoSpace);
+        }
+        if !region.fits(entry.start, entry.length) {
+            return Err(NiFault::OutOfRegion);
+        }
+        match list {
+            Place::Overflow => Ok((Appended::Linked(self.link(eqs, pt, list, entry)), None)),
+            Place::Priority if entry.use_once => Ok(self.append_once(cts, eqs, pt, entry)),
+            Place::Priority => {
+                let counted = self.take_all(cts, eqs, pt, &entry);
+                Ok((Appended::Linked(self.link(eqs, pt, list, entry)), counted))
+            }
+        }
+    }
+}
