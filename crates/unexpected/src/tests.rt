@@ -1,6 +1,6 @@
 //! Headers are taken in the order of arrival.
 
-use crate::Headers;
+use crate::{Headers, found_names, left_names};
 use ptl_types::{AckRequest, ElemType, Entry, Handle, Header, MessageKind, UnexpectedHeader};
 use std::test::Fail;
 
@@ -80,5 +80,23 @@ fn the_oldest_that_matches_is_taken(rt: HostRuntime) -> Result<(), Fail> {
         Some(1)
     );
     assert!(rt; headers.take_oldest(1, &entry(5)).is_none());
+    Ok(())
+}
+
+#[test]
+fn all_that_an_entry_finds_go_at_once(rt: HostRuntime) -> Result<(), Fail> {
+    let mut headers = Headers::open(rt.alloc(), 2)?;
+    let me = Handle { slot: 0, stamp: 0 };
+    for (match_bits, place) in [(6, 0), (5, 1)] {
+        if !headers.is_full() {
+            headers.add(1, put(match_bits, place));
+        }
+    }
+    assert!(rt; found_names(headers.as_slice(), 1, &entry(5), me));
+    assert!(rt; left_names(headers.as_slice(), 1, &entry(5), me));
+    headers.drop_found(1, &entry(5));
+    assert!(rt; !found_names(headers.as_slice(), 1, &entry(5), me));
+    assert_eq!(rt; headers.at(1, 0).map(|header| header.place), Some(0));
+    assert!(rt; headers.at(1, 1).is_none());
     Ok(())
 }
