@@ -27,9 +27,11 @@ pub record Initiating : Type 0 where
   pub limits : Limits
   pub mds : Table Bound
 
+-- the four together
 abbrev pub initiating : ℕ → ℕ → Limits → Table Bound → Initiating
 initiating rank ranks limits mds = record { rank = rank; ranks = ranks; limits = limits; mds = mds }
 
+-- the same with these descriptors
 abbrev pub with_mds : Table Bound → Initiating → Initiating
 with_mds mds i = record i { mds = mds }
 
@@ -37,6 +39,7 @@ with_mds mds i = record i { mds = mds }
 abbrev pub AreBoundIn : ℕ → Table Bound → Type 0
 AreBoundIn size mds = All (λ (x : Live Bound). IsBoundIn size x.value) mds.live
 
+-- refused by a fault, where there is one
 abbrev pub by_fault : Option NiFault → Result (Unit {0}) NiFault
 by_fault None = Ok tt
 by_fault (Some fault) = Err fault
@@ -61,17 +64,21 @@ abbrev pub args_fit : Option PutArgs → Table Bound → Bool
 args_fit None mds = true
 args_fit (Some a) mds = put_fits a mds
 
+-- how many bytes are sent; none where there are no put arguments
 abbrev pub args_length : Option PutArgs → ℕ
 args_length None = 0
 args_length (Some a) = a.length
 
+-- the bytes that are sent, as the region has them
 abbrev pub args_bytes : Option PutArgs → Table Bound → List ℕ → List ℕ
 args_bytes None mds memory = []
 args_bytes (Some a) mds memory = bytes_at (lookup a.md mds.live) a.local_offset a.length memory
 
+-- a start that sent this message, as `started` has it
 abbrev pub has_started : Home → Sent → Option Handle → Started
 has_started home message counted = record { home = home; message = Some message; counted = counted }
 
+-- an answer that came home, as `answered` has it
 abbrev pub has_returned : Home → Outcome → Option Handle → Returned
 has_returned home outcome counted = record { home = home; outcome = outcome; counted = counted }
 
@@ -82,9 +89,11 @@ pub record Sending : Type 0 where
   pub eqs : Table Waiting
   pub counted : Option Handle
 
+-- the four together
 abbrev pub sent_as : Table Bound → Table Count → Table Waiting → Option Handle → Sending
 sent_as mds cts eqs counted = record { mds = mds; cts = cts; eqs = eqs; counted = counted }
 
+-- one answer more is awaited, and the start is counted and told
 abbrev pub sent_by : Table Bound → Table Count → Table Waiting → Deed → Header → Sending
 sent_by mds cts eqs d h =
     sent_as

@@ -12,12 +12,14 @@ use ni_model::Bound;
 use ptl_types::{AckRequest, Count, Event, EventKind, Handle, Header, Message, MessageKind};
 use target_engine::effects::{raise, where_set};
 
+/// Whether the answer is a reply, to a get, fetch-atomic or swap, and not an acknowledgement.
 fn is_reply(kind: MessageKind) -> bool
     ensures { result ≡ replies kind }
 {
     matches!(kind, MessageKind::Reply)
 }
 
+/// Whether an acknowledgement raises an event: where one was asked for, and not a count alone.
 fn asks_event(ack: AckRequest) -> bool
     ensures { result ≡ asks ack }
 {
@@ -89,6 +91,7 @@ pub fn counter_home(header: &Header, bound: &Bound) -> Option<Handle>
     where_set(counts, bound.md.ct)
 }
 
+/// The first byte that a reply wrote, in bytes of the region; 0 where it wrote none.
 fn place_home(header: &Header, bound: &Bound) -> u64
     requires due { due header.now bound.now ≡ true }
     requires part { bound.now.md.start + bound.now.md.length ≤ 18446744073709551615 }
@@ -101,6 +104,7 @@ fn place_home(header: &Header, bound: &Bound) -> u64
     }
 }
 
+/// The event of an answer that comes home (Portals 4.3, event types).
 fn answer_event(header: &Header, bound: &Bound) -> Event
     requires due { due header.now bound.now ≡ true }
     requires part { bound.now.md.start + bound.now.md.length ≤ 18446744073709551615 }

@@ -16,6 +16,7 @@ pub fn is_live(mds: &Store<Bound>, md: Handle) -> bool
     bound_of(mds, Some(md)).is_some()
 }
 
+/// Whether `n` bytes from `at` on lie in a live descriptor.
 fn holds_part(bound: Option<Bound>, at: u64, n: u64) -> bool
     ensures { result ≡ holds_it bound at n }
 {
@@ -28,12 +29,14 @@ fn holds_part(bound: Option<Bound>, at: u64, n: u64) -> bool
     }
 }
 
+/// Whether the bytes to be sent lie in their descriptor.
 fn put_fits(mds: &Store<Bound>, args: &PutArgs) -> bool
     ensures { result ≡ put_fit args.now mds.now }
 {
     holds_part(bound_of(mds, Some(args.md)), args.local_offset, args.length)
 }
 
+/// Whether the bytes that a reply brings lie in their descriptor.
 fn get_fits(mds: &Store<Bound>, args: &GetArgs) -> bool
     ensures { result ≡ get_fit args.now mds.now }
 {

@@ -8,6 +8,7 @@ use ptl_types::{
     SwapOp,
 };
 
+/// The header of a put or of an atomic operation.
 fn put_header(
     rank: Rank,
     kind: MessageKind,
@@ -40,6 +41,7 @@ fn put_header(
     }
 }
 
+/// The header of a get.
 fn get_header(rank: Rank, args: &GetArgs) -> Header
     ensures { result ≡ get_of rank args.now }
 {
@@ -87,6 +89,7 @@ fn fetch_atomic_header(
     }
 }
 
+/// The same as of a fetch-atomic, with a swap's operation and operand.
 fn swap_header(
     rank: Rank,
     back: &GetArgs,

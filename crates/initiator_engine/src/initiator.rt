@@ -43,6 +43,7 @@ impl Model for Initiator {
     ghost view = { λ i. initiating i.rank i.ranks i.limits i.mds };
 }
 
+/// What a start does to the descriptors, the counting events and the queues; the counting event that rose.
 fn started_with(
     mds: &mut Store<Bound>,
     cts: &mut Store<Counter>,

@@ -37,6 +37,7 @@ pub fn read_bytes(
     room
 }
 
+/// The counting event that a start counts on, where its descriptor counts sends.
 pub fn send_counter(bound: Option<Bound>) -> Option<Handle>
     ensures { result ≡ send_counter_of bound }
 {
@@ -46,6 +47,7 @@ pub fn send_counter(bound: Option<Bound>) -> Option<Handle>
     }
 }
 
+/// The event queue that a start tells.
 pub fn send_queue(bound: Option<Bound>) -> Option<Handle>
     ensures { result ≡ send_queue_of bound }
 {
@@ -55,6 +57,7 @@ pub fn send_queue(bound: Option<Bound>) -> Option<Handle>
     }
 }
 
+/// The event of a start: its bytes were read, so its room may be used again (Portals 4.3, event types).
 pub fn send_event(header: &Header) -> Event
     ensures { result ≡ event_of header.now }
 {
