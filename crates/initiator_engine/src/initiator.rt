@@ -80,6 +80,27 @@ impl Initiator {
         })
     }
 
+    /// The rank that its messages come from.
+    pub fn rank(&self) -> Rank
+        ensures { result ≡ self.now.rank }
+    {
+        self.rank
+    }
+
+    /// How many ranks there are.
+    pub fn ranks(&self) -> u32
+        ensures { result ≡ self.now.ranks }
+    {
+        self.ranks
+    }
+
+    /// Its limits.
+    pub fn limits(&self) -> &Limits
+        ensures { result.now ≡ self.now.limits }
+    {
+        &self.limits
+    }
+
     /// Binds a memory descriptor (Portals 4.3, binding memory descriptors). `Stale` where its queue or its counting event
     /// isn't live, `NoSpace` where the limit is bound or all stamps were given, `OutOfRegion` where its part reaches past
     /// the region. A refused call changes nothing.

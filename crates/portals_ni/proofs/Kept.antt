@@ -1,153 +1,210 @@
--- What an interface keeps, through the growth of its tables and lists.
-use Rattle.std.proofs.Common.{◌≡◌, ◌≢◌, ℕ, zero, suc, ◌+◌, ◌-◌, min, ◌<◌, ◌≤◌, true, false, ◌==◌, List, [], ◌∷◌, ◌++◌, Option, Some, None, length, set, get_or, if◌then◌else◌, is_some, replicate, refl, arith, length-append, length-take, length-drop}
-use Rattle.std.specs.Prelude.{All, remove, slice_set, sum_by}
-use Rattle.std.proofs.lemmas.List.Elements.{All-push, All-weaker, All-append, All-take, All-drop, All-set, All-nil, All-replicate}
-use Rattle.std.proofs.lemmas.List.Sums.{sum_by-set, sum_by-cons}
+-- What an interface keeps, through each of its calls.
+use Rattle.std.proofs.Common.{◌≡◌, ℕ, ◌+◌, ◌≤◌, Bool, true, false, not, ◌&&◌, Result, Ok, Err, List, [], ◌∷◌, ◌++◌, Option, Some, None, length, filter, is_some, refl, sym, subst, ap, ◌∙◌, arith}
+use Rattle.std.specs.Prelude.{All, map, option_map, IfOk, OnErr, OnOk}
 use Rattle.std.proofs.lemmas.Bool.Decides.{nat_tests}
-use Rattle.std.proofs.Common.{take, drop}
-use Rattle.ptl_types.specs.declared.entries.List.TheVariants.{Priority}
-use Rattle.ptl_types.specs.declared.headers.MessageKind.TheVariants.{Put as PutKind}
-use Rattle.ptl_types.specs.Elements.{written}
-use Rattle.ptl_types.specs.Messages.{Sent}
-use Rattle.ni_model.specs.declared.Linked.{Linked}
+use Rattle.std.proofs.lemmas.List.Elements.{All-weaker, All-filter, All-nil, All-push}
+use Rattle.ptl_types.specs.declared.handles.Handle.{Handle}
+use Rattle.ptl_types.specs.declared.handles.Count.{Count}
+use Rattle.ptl_types.specs.declared.calls.Limits.{Limits}
+use Rattle.ptl_types.specs.declared.entries.Descriptor.{Descriptor}
+use Rattle.ptl_types.specs.declared.entries.Entry.{Entry}
+use Rattle.ptl_types.specs.declared.entries.UnexpectedHeader.{UnexpectedHeader}
+use Rattle.ptl_types.specs.declared.calls.NiFault.{NiFault}
+use Rattle.ptl_types.specs.declared.calls.Deed.{Deed}
+use Rattle.ptl_types.specs.declared.calls.Deed.TheVariants.{Put, Get, Atomic, FetchAtomic, Swap, Inc, Set}
 use Rattle.ni_model.specs.declared.Bound.{Bound}
-use Rattle.ni_model.specs.Tables.{Live, Table, with_new}
-use Rattle.ni_model.specs.Lists.{Index, index_at, entries_in}
-use Rattle.ni_model.specs.State.{Posted}
-use Rattle.ni_model.specs.Append.{linked_at}
-use Rattle.ni_model.specs.Arrive.{memory_after}
-use Rattle.portals_ni.specs.Plain.{IsPlain}
-use Rattle.portals_ni.specs.Sound.{IsSound}
-use Rattle.ni_model.specs.Calls.{slot_in, entry_slot, new_index}
-use Rattle.ni_model.specs.Conditions.{IsPartIn, HasPartsIn, IsBoundIn}
-use Rattle.ni_model.specs.Refusals.{deed_fits}
-use Rattle.portals_ni.proofs.Named.{deed_fits-push}
-
-pub All-remove : {X : Type 0} (P : X → Type 0) → (xs : List X) (i : ℕ) → All P xs → All P (remove xs i)
-All-remove P xs i all = All-append P (take i xs) (drop (suc i) xs) (All-take P i xs all) (All-drop P (suc i) xs all)
-
-pub sourced-push : (mds : Table Bound) (slot : ℕ) (w : Bound) (ps : List Posted) → All (λ p. deed_fits p.deed mds ≡ true) ps → All (λ p. deed_fits p.deed (with_new slot w mds) ≡ true) ps
-sourced-push mds slot w ps all = All-weaker (λ (p : Posted). deed_fits p.deed mds ≡ true) (λ (p : Posted). deed_fits p.deed (with_new slot w mds) ≡ true) (λ p e. deed_fits-push p.deed mds slot w e) ps all
-
-pub bound-push : (n : ℕ) (xs : List (Live Bound)) (x : Live Bound) → All (λ y. IsBoundIn n y.value) xs → IsBoundIn n x.value → All (λ y. IsBoundIn n y.value) (xs ++ x ∷ [])
-bound-push n xs x all is = All-push (λ (y : Live Bound). IsBoundIn n y.value) xs x all is
-
--- ---- portal table indices
-
-pub linked_at-parts : (n : ℕ) (x : Linked) (o : Option Index) → IsPartIn n x → HasPartsIn n o → HasPartsIn n (linked_at Priority x o)
-linked_at-parts n x None part has = tt
-linked_at-parts n x (Some i) part has = (All-push (IsPartIn n) i.priority x has.0 part, has.1)
-
-pub index_at-parts : (n : ℕ) (pt : ℕ) (is : List (Option Index)) → All (HasPartsIn n) is → HasPartsIn n (index_at pt is)
-index_at-parts n pt [] all = tt
-index_at-parts n zero (o ∷ is) all = all 0 None (omega arith)
-index_at-parts n (suc pt) (o ∷ is) all = index_at-parts n pt is (λ k d lt. all (suc k) d (omega arith))
-
-pub entries-append : (n : ℕ) (pt : ℕ) (x : Linked) (is : List (Option Index)) → IsPartIn n x → All (HasPartsIn n) is → All (HasPartsIn n) (slice_set is pt (linked_at Priority x (index_at pt is)))
-entries-append n pt x is part all = All-set (HasPartsIn n) is pt (linked_at Priority x (index_at pt is)) (linked_at-parts n x (index_at pt is) part (index_at-parts n pt is all)) all
-
-pub entries-new : (n : ℕ) (pt : ℕ) (is : List (Option Index)) → All (HasPartsIn n) is → All (HasPartsIn n) (slice_set is pt (Some (new_index None)))
-entries-new n pt is all = All-set (HasPartsIn n) is pt (Some (new_index None)) (All-nil (IsPartIn n), All-nil (IsPartIn n)) all
-
-pub entries_in-linked : (x : Linked) (o : Option Index) → is_some o ≡ true → entries_in (linked_at Priority x o) ≡ entries_in o + 1
-entries_in-linked x None e = cc
-entries_in-linked x (Some i) e = omega (arith, length-append i.priority (x ∷ []))
-
-pub allocated-within : (pt : ℕ) (is : List (Option Index)) → is_some (index_at pt is) ≡ true → pt < length is
-allocated-within pt [] e = cc
-allocated-within zero (o ∷ is) e = omega arith
-allocated-within (suc pt) (o ∷ is) e = let lt = allocated-within pt is e in omega arith
-
-pub sum-append : (pt : ℕ) (x : Linked) (is : List (Option Index)) → is_some (index_at pt is) ≡ true → sum_by entries_in (slice_set is pt (linked_at Priority x (index_at pt is))) ≡ sum_by entries_in is + 1
-sum-append pt x is e =
-    let lt : pt < length is = allocated-within pt is e in
-    let one : entries_in (linked_at Priority x (index_at pt is)) ≡ entries_in (index_at pt is) + 1 = entries_in-linked x (index_at pt is) e in
-    let sums : sum_by entries_in (set is pt (linked_at Priority x (index_at pt is))) + entries_in (get_or is pt None) ≡ sum_by entries_in is + entries_in (linked_at Priority x (index_at pt is)) = sum_by-set entries_in is pt (linked_at Priority x (index_at pt is)) None lt in
-    omega arith
-
-pub sum-new : (pt : ℕ) (is : List (Option Index)) → pt < length is → index_at pt is ≡ None → sum_by entries_in (slice_set is pt (Some (new_index None))) ≡ sum_by entries_in is
-sum-new pt is lt e =
-    let none : entries_in (index_at pt is) ≡ 0 = rw e refl in
-    let sums : sum_by entries_in (set is pt (Some (new_index None))) + entries_in (get_or is pt None) ≡ sum_by entries_in is + 0 = sum_by-set entries_in is pt (Some (new_index None)) None lt in
-    omega arith
-
--- ---- slots
-
-pub slot_in-push : (slot : ℕ) (x : Linked) (xs : List Linked) → slot_in slot xs ≡ false → x.handle.slot ≢ slot → slot_in slot (xs ++ x ∷ []) ≡ false
-slot_in-push slot x [] e ne = grind (arith, nat_tests)
-slot_in-push slot x (y ∷ ys) e ne = grind (arith, slot_in-push slot x ys)
-
-pub slots-append : (pt slot : ℕ) (x : Linked) (is : List (Option Index)) → entry_slot is slot ≡ false → x.handle.slot ≢ slot → entry_slot (slice_set is pt (linked_at Priority x (index_at pt is))) slot ≡ false
-slots-append pt slot x [] e ne = refl
-slots-append zero slot x (None ∷ is) e ne = e
-slots-append zero slot x (Some i ∷ is) e ne = grind (arith, slot_in-push slot x i.priority)
-slots-append (suc pt) slot x (None ∷ is) e ne = slots-append pt slot x is e ne
-slots-append (suc pt) slot x (Some i ∷ is) e ne = grind (arith, slots-append pt slot x is)
-
-pub slots-new : (pt slot : ℕ) (is : List (Option Index)) → entry_slot is slot ≡ false → index_at pt is ≡ None → entry_slot (slice_set is pt (Some (new_index None))) slot ≡ false
-slots-new pt slot [] e none = refl
-slots-new zero slot (None ∷ is) e none = e
-slots-new zero slot (Some i ∷ is) e none = cc
-slots-new (suc pt) slot (None ∷ is) e none = slots-new pt slot is e none
-slots-new (suc pt) slot (Some i ∷ is) e none = grind (arith, slots-new pt slot is)
-
--- ---- the region
-
-pub length-written : (at : ℕ) (bs xs : List ℕ) → at + length bs ≤ length xs → length (written at bs xs) ≡ length xs
-length-written at bs xs le = simp (length-append, length-take, length-drop) (omega arith)
-
-pub length-cut : (start size offset count : ℕ) (bs r : List ℕ) → start + size ≤ length r → length (written (if min count (size - offset) == 0 then 0 else start + offset) (take (min count (size - offset)) bs) r) ≡ length r
-length-cut start size offset count bs r part =
-    length-written (if min count (size - offset) == 0 then 0 else start + offset) (take (min count (size - offset)) bs) r (grind (arith, nat_tests, length-take))
-
-pub length-memory : (x : Linked) (m : Sent) (r : List ℕ) → m.header.kind ≡ PutKind → IsPlain x → IsPartIn (length r) x → length (memory_after x m r) ≡ length r
-length-memory x m r kind plain part = rw (kind, plain.unmanaged) (length-cut x.entry.start x.entry.length m.header.offset m.header.length m.bytes r part)
-
--- ---- the whole
-
-pub bound-grows : (r : List ℕ) (is : List (Option Index)) (g : ℕ) (mds : Table Bound) (ps : List Posted) (slot : ℕ) (w : Bound) → IsSound r is g mds ps → IsBoundIn (length r) w → IsSound r is g (with_new slot w mds) ps
-bound-grows r is g mds ps slot w kept part = record {
-  entries = kept.entries;
-  bound = bound-push (length r) mds.live _ kept.bound part;
-  sourced = sourced-push mds slot w ps kept.sourced;
-  linked = kept.linked;
-  slots = kept.slots;
-}
-
-pub sum-replicate : (n : ℕ) → sum_by entries_in (replicate n None) ≡ 0
-sum-replicate zero = refl
-sum-replicate (suc n) = rw (sum_by-cons entries_in None (replicate n None), sum-replicate n) refl
-
-pub slots-replicate : (n slot : ℕ) → entry_slot (replicate n None) slot ≡ false
-slots-replicate zero slot = refl
-slots-replicate (suc n) slot = slots-replicate n slot
+use Rattle.ni_model.specs.Tables.{Table, lookup, no_things, with_new, is_live_or_none, is_full}
+use Rattle.ni_model.specs.Append.{Searched, need, search, is_within}
+use Rattle.ni_model.specs.Calls.{bound}
+use Rattle.ni_model.specs.Refusals.{bind_fault, triggered_fault, deed_passes}
+use Rattle.ni_model.specs.State.{Operations as Posts}
+use Rattle.ptl_types.specs.Filled.{Filled}
+use Rattle.ni_model.specs.Counts.{total}
+use Rattle.ni_model.specs.Queues.{Waiting}
+use Rattle.ni_model.specs.Headers.{held}
+use Rattle.ni_model.specs.Arrive.{Side, Parts, parts}
+use Rattle.ni_model.specs.Answers.{Home, home}
+use Rattle.ni_model.specs.Conditions.{HasPartsIn, IsBoundIn, MayStart}
+use Rattle.initiator_engine.specs.Initiators.{Initiating, initiating, with_mds, AreBoundIn, room_for}
+use Rattle.target_engine.specs.Sides.{side, has_searched}
+use Rattle.triggered_ops.specs.Operations.{Operation, Operations, no_operations, is_number, waits_on, with_posted, without_number, cancelled}
+use Rattle.portals_ni.specs.declared.armed.Armed.{Armed}
+use Rattle.portals_ni.specs.Answers.{deed_counts, deed_counter}
+use Rattle.portals_ni.specs.Pendings.{told_by}
+use Rattle.portals_ni.specs.Sound.{IsArmed, IsTold, IsSound}
+use Rattle.portals_ni.proofs.Counts.{ChangesAt, changes-none, changes-one, changes-counted, changes-new}
+use Rattle.portals_ni.proofs.Parts.{none-parts}
+use Rattle.portals_ni.proofs.Targets.{Keeps, search-keeps}
+use Rattle.portals_ni.proofs.Homes.{HoldsOn, skips_none, skips-none, fits-on, holds-push, bound-push, KeepsHome}
+use Rattle.portals_ni.proofs.Told.{all-told, deeds-told_by}
+use Rattle.portals_ni.proofs.Firing.{post-told}
+use Rattle.std.specs.Prelude.{replicate}
 
 -- a new interface
-pub opened-sound : (r : List ℕ) (pts : ℕ) (mds : Table Bound) (ps : List Posted) → mds.live ≡ [] → ps ≡ [] → IsSound r (replicate pts None) 0 mds ps
-opened-sound r pts mds ps none nothing = record {
-  entries = All-replicate (HasPartsIn (length r)) pts None tt;
-  bound = rw none (All-nil (λ (x : Live Bound). IsBoundIn (length r) x.value));
-  sourced = rw nothing (All-nil (λ (p : Posted). deed_fits p.deed mds ≡ true));
-  linked = sum-replicate pts;
-  slots = λ slot le. slots-replicate pts slot;
+pub opened-sound : (rank ranks : ℕ) (limits : Limits) (memory : List ℕ) → IsSound (side rank limits.entries (replicate limits.pts None) 0 (held [] limits.unexpected)) memory (no_things limits.cts) (initiating rank ranks limits (no_things limits.mds)) (no_operations limits.triggered)
+opened-sound rank ranks limits memory = record {
+  rank = refl;
+  limit = refl;
+  parts = none-parts (length memory) limits.pts;
+  bound = λ k d lt. absurd (omega arith);
+  armed = λ k d lt. absurd (omega arith);
+  told = λ k d lt. absurd (omega arith);
 }
 
--- an index more
-pub allocated-sound : (r : List ℕ) (is : List (Option Index)) (g pt : ℕ) (mds : Table Bound) (ps : List Posted) → IsSound r is g mds ps → pt < length is → index_at pt is ≡ None → IsSound r (slice_set is pt (Some (new_index None))) g mds ps
-allocated-sound r is g pt mds ps kept within free = record {
-  entries = entries-new (length r) pt is kept.entries;
-  bound = kept.bound;
-  sourced = kept.sourced;
-  linked = rw (sum-new pt is within free) kept.linked;
-  slots = λ slot le. slots-new pt slot is (kept.slots slot le) free;
+-- what was armed stays so where the descriptors hold what they held
+pub still-armed : (old new : Table Bound) (ranks : ℕ) (limits : Limits) (ws : List (Operation Armed)) → HoldsOn skips_none old new → All (λ w. IsArmed old ranks limits w.deed) ws → All (λ w. IsArmed new ranks limits w.deed) ws
+still-armed old new ranks limits ws holds all =
+    All-weaker (λ (w : Operation Armed). IsArmed old ranks limits w.deed) (λ (w : Operation Armed). IsArmed new ranks limits w.deed)
+    (λ w is. record { fits = fits-on skips_none old new w.deed.deed holds (skips-none w.deed.deed) is.fits; may = is.may; room = is.room; counts = is.counts })
+    ws all
+
+-- the target changed, and a counting event
+pub target-sound : (t u : Side) (r s : List ℕ) (c d : Table Count) (e f : Table Waiting) (i : Initiating) (ops : Operations Armed) (ct : Option Handle) → IsSound t r c i ops → Keeps (parts t r c e) (parts u s d f) ct → IsSound u s d i (told_by ct d ops)
+target-sound t u r s c d e f i ops ct is keeps = record {
+  rank = is.rank ∙ sym keeps.rank;
+  limit = is.limit ∙ sym keeps.limit;
+  parts = rw keeps.size keeps.parts;
+  bound = rw keeps.size is.bound;
+  armed = deeds-told_by (IsArmed i.mds i.ranks i.limits) ct d ops is.armed;
+  told = all-told ct c d ops keeps.counts is.told;
 }
 
--- an entry more
-pub appended-sound : (r : List ℕ) (is : List (Option Index)) (g pt : ℕ) (x : Linked) (mds : Table Bound) (ps : List Posted) → IsSound r is g mds ps → is_some (index_at pt is) ≡ true → IsPartIn (length r) x → x.handle.slot ≡ g → IsSound r (slice_set is pt (linked_at Priority x (index_at pt is))) (g + 1) mds ps
-appended-sound r is g pt x mds ps kept allocated part slot = record {
-  entries = entries-append (length r) pt x is part kept.entries;
-  bound = kept.bound;
-  sourced = kept.sourced;
-  linked = rw (sum-append pt x is allocated, kept.linked) refl;
-  slots = λ s le. slots-append pt s x is (kept.slots s (omega arith)) (λ e. absurd (omega arith));
+-- the initiator's descriptors changed, and a counting event
+pub home-sound : (t : Side) (r s : List ℕ) (c d : Table Count) (e f : Table Waiting) (i : Initiating) (mds : Table Bound) (ops : Operations Armed) (ct : Option Handle) → IsSound t r c i ops → KeepsHome (home i.mds r c e) (home mds s d f) ct → IsSound t s d (with_mds mds i) (told_by ct d ops)
+home-sound t r s c d e f i mds ops ct is keeps = record {
+  rank = is.rank;
+  limit = is.limit;
+  parts = rw keeps.size is.parts;
+  bound = rw keeps.size keeps.bound;
+  armed = deeds-told_by (IsArmed mds i.ranks i.limits) ct d ops (still-armed i.mds mds i.ranks i.limits ops.waiting keeps.holds is.armed);
+  told = all-told ct c d ops keeps.counts is.told;
 }
+
+-- a counting event alone changed
+pub count-sound : (t : Side) (r : List ℕ) (c d : Table Count) (i : Initiating) (ops : Operations Armed) (ct : Option Handle) → IsSound t r c i ops → ChangesAt ct c d → IsSound t r d i (told_by ct d ops)
+count-sound t r c d i ops ct is changes = record {
+  rank = is.rank;
+  limit = is.limit;
+  parts = is.parts;
+  bound = is.bound;
+  armed = deeds-told_by (IsArmed i.mds i.ranks i.limits) ct d ops is.armed;
+  told = all-told ct c d ops changes is.told;
+}
+
+-- some operations are gone
+pub fewer-sound : (t : Side) (r : List ℕ) (c : Table Count) (i : Initiating) (ops left : Operations Armed) → IsSound t r c i ops → ((P : Operation Armed → Type 0) → All P ops.waiting → All P left.waiting) → IsSound t r c i left
+fewer-sound t r c i ops left is fewer = record {
+  rank = is.rank;
+  limit = is.limit;
+  parts = is.parts;
+  bound = is.bound;
+  armed = fewer (λ w. IsArmed i.mds i.ranks i.limits w.deed) is.armed;
+  told = fewer (IsTold c) is.told;
+}
+
+need-later : (t : Bool) (f : NiFault) (later : Option NiFault) → need t f later ≡ None → later ≡ None
+need-later true f later e = e
+need-later false f later e = cc
+
+need-test : (t : Bool) (f : NiFault) (later : Option NiFault) → need t f later ≡ None → t ≡ true
+need-test true f later e = refl
+need-test false f later e = cc
+
+within-le : (start size n : ℕ) → is_within start size n ≡ true → start + size ≤ n
+within-le start size n e = grind (arith, nat_tests)
+
+-- what isn't refused lies in the region
+pub unrefused-bound : (md : Descriptor) (size : ℕ) (c : Table Count) (e : Table Waiting) (mds : Table Bound) → bind_fault md size c e mds ≡ None → IsBoundIn size (bound md)
+unrefused-bound md size c e mds none = within-le md.start md.length size (need-test _ _ _ (need-later _ _ _ (need-later _ _ _ none)))
+
+-- a counting event more
+pub made-sound : (t : Side) (r : List ℕ) (c k : Table Count) (i : Initiating) (ops : Operations Armed) (w : Count) (res : Result Handle NiFault) → IsSound t r c i ops → OnErr res (k ≡ c) → IfOk res (λ h. k ≡ with_new h.slot w c) → IsSound t r k i ops
+made-sound t r c k i ops w (Ok h) is unchanged made =
+    rw made (record { rank = is.rank; limit = is.limit; parts = is.parts; bound = is.bound; armed = is.armed; told = all-told None c (with_new h.slot w c) ops (changes-new None h.slot w c) is.told })
+made-sound t r c k i ops w (Err fault) is unchanged made = rw unchanged is
+
+-- a descriptor more
+pub bound-sound : (t : Side) (r : List ℕ) (c : Table Count) (e : Table Waiting) (i j : Initiating) (ops : Operations Armed) (md : Descriptor) (res : Result Handle NiFault) → IsSound t r c i ops → OnErr res (j ≡ i) → IfOk res (λ h. bind_fault md (length r) c e i.mds ≡ None) → IfOk res (λ h. j ≡ with_mds (with_new h.slot (bound md) i.mds) i) → IsSound t r c j ops
+bound-sound t r c e i j ops md (Ok h) is unchanged ok made =
+    rw made (record {
+      rank = is.rank;
+      limit = is.limit;
+      parts = is.parts;
+      bound = bound-push (length r) h.slot (bound md) i.mds is.bound (unrefused-bound md (length r) c e i.mds ok);
+      armed = still-armed i.mds (with_new h.slot (bound md) i.mds) i.ranks i.limits ops.waiting (holds-push h.slot (bound md) i.mds) is.armed;
+      told = is.told;
+    })
+bound-sound t r c e i j ops md (Err fault) is unchanged ok made = rw unchanged is
+
+-- an operation more, which is told at once
+pub post-sound : (t : Side) (r : List ℕ) (c : Table Count) (i : Initiating) (ops : Operations Armed) (a : Armed) (ct : Handle) (threshold : ℕ) (count : Count) → IsSound t r c i ops → IsArmed i.mds i.ranks i.limits a → lookup ct c.live ≡ Some count → IsSound t r c i (told_by (Some ct) c (with_posted a ct threshold ops))
+post-sound t r c i ops a ct threshold count is armed live = record {
+  rank = is.rank;
+  limit = is.limit;
+  parts = is.parts;
+  bound = is.bound;
+  armed = deeds-told_by (IsArmed i.mds i.ranks i.limits) (Some ct) c (with_posted a ct threshold ops) (All-push (λ (w : Operation Armed). IsArmed i.mds i.ranks i.limits w.deed) ops.waiting _ is.armed armed);
+  told = post-told ct count c ops a threshold live is.told;
+}
+
+-- ---- the counting event of a deed that counts
+pub changes-deed : (d : Deed) (cts : Table Count) → ChangesAt (deed_counter d) cts (deed_counts d cts)
+changes-deed (Put a) cts = changes-none None cts
+changes-deed (Get g) cts = changes-none None cts
+changes-deed (Atomic a op ty) cts = changes-none None cts
+changes-deed (FetchAtomic g a op ty) cts = changes-none None cts
+changes-deed (Swap g a op ty operand) cts = changes-none None cts
+changes-deed (Inc ct by) cts = changes-counted (Some ct) by cts
+changes-deed (Set ct to) cts = changes-one ct (λ c. to) cts
+
+-- an operation less
+pub taken-sound : (t : Side) (r : List ℕ) (c : Table Count) (i : Initiating) (ops : Operations Armed) (n : ℕ) → IsSound t r c i ops → IsSound t r c i (without_number n ops)
+taken-sound t r c i ops n is = fewer-sound t r c i ops (without_number n ops) is (λ P all. All-filter (λ w. not (is_number n w)) P ops.waiting all)
+
+-- those that wait on a counting event less
+pub cancelled-sound : (t : Side) (r : List ℕ) (c : Table Count) (i : Initiating) (ops : Operations Armed) (ct : Handle) → IsSound t r c i ops → IsSound t r c i (cancelled ct ops)
+cancelled-sound t r c i ops ct is = fewer-sound t r c i ops (cancelled ct ops) is (λ P all. All-filter (λ w. not (waits_on ct w)) P ops.waiting all)
+
+-- a target in which headers may be gone
+pub searched-sound : (t u : Side) (r : List ℕ) (c : Table Count) (e f : Table Waiting) (i : Initiating) (ops : Operations Armed) (pt : ℕ) (en : Entry) (delete : Bool) (res : Result (Option UnexpectedHeader) NiFault) → IsSound t r c i ops → OnErr res ((u ≡ t) × (f ≡ e)) → IfOk res (λ found. has_searched (parts u r c f) found ≡ search pt en delete (parts t r c e)) → IsSound u r c i ops
+searched-sound t u r c e f i ops pt en delete (Ok found) is unchanged searched =
+    let keeps : Keeps (parts t r c e) (parts u r c f) None = subst (λ (s : Searched). Keeps (parts t r c e) s.parts None) (sym searched) (search-keeps pt en delete (parts t r c e) is.parts) in
+    record { rank = is.rank ∙ sym keeps.rank; limit = is.limit ∙ sym keeps.limit; parts = keeps.parts; bound = is.bound; armed = is.armed; told = is.told }
+searched-sound t u r c e f i ops pt en delete (Err fault) is unchanged searched = rw unchanged.0 is
+
+-- the rank and the limit of a target behind a search
+pub search-rank : (t u : Side) (r : List ℕ) (c : Table Count) (e f : Table Waiting) (pt : ℕ) (en : Entry) (delete : Bool) (res : Result (Option UnexpectedHeader) NiFault) → All (HasPartsIn (length r)) t.indices → IfOk res (λ found. has_searched (parts u r c f) found ≡ search pt en delete (parts t r c e)) → OnOk res ((u.rank ≡ t.rank) × (u.limit ≡ t.limit))
+search-rank t u r c e f pt en delete (Ok found) all searched =
+    let keeps : Keeps (parts t r c e) (parts u r c f) None = subst (λ (s : Searched). Keeps (parts t r c e) s.parts None) (sym searched) (search-keeps pt en delete (parts t r c e) all) in
+    (keeps.rank, keeps.limit)
+search-rank t u r c e f pt en delete (Err fault) all searched = tt
+
+-- ---- what a triggered operation that isn't refused has
+there : {A : Type 0} (o : Option A) → is_some o ≡ true → (x : A) × (o ≡ Some x)
+there None e = cc
+there (Some x) e = (x, refl)
+
+and-left : (a b : Bool) → a && b ≡ true → a ≡ true
+and-left true b e = refl
+and-left false b e = cc
+
+not-false : (b : Bool) → not b ≡ true → b ≡ false
+not-false true e = cc
+not-false false e = refl
+
+-- the limit of entries, which the target has, is no limit of a start
+pub may-start : (d : Deed) (ranks n : ℕ) (l : Limits) → l.entries ≡ n → MayStart d ranks (record l { entries = n }) → MayStart d ranks l
+may-start d ranks n l e may = let P : ℕ → Type 0 = λ x. MayStart d ranks (record l { entries = x }) in subst P (sym e) may
+
+pub posts-armed : (d : Deed) (ct : Handle) (cts : Table Count) (mds : Table Bound) (ops : Posts) (ranks : ℕ) (limits : Limits) (room : Filled) → triggered_fault d ct cts mds ops ≡ None → MayStart d ranks limits → room_for d ≤ room.room → IsArmed mds ranks limits (record { deed = d; room = room })
+posts-armed d ct cts mds ops ranks limits room none may fits =
+    let later = need-later _ _ _ (need-later _ _ _ none) in
+    record {
+      fits = need-test _ _ _ later;
+      may = may;
+      room = fits;
+      counts = not-false (deed_passes d) (need-test _ _ _ (need-later _ _ _ later));
+    }
+
+pub posts-live : (d : Deed) (ct : Handle) (cts : Table Count) (mds : Table Bound) (ops : Posts) → triggered_fault d ct cts mds ops ≡ None → (c : Count) × (lookup ct cts.live ≡ Some c)
+posts-live d ct cts mds ops none = there (lookup ct cts.live) (and-left _ _ (need-test _ _ _ none))

@@ -1,5 +1,10 @@
-pub mod Rising
-pub mod Named
+pub mod Counts
+pub mod Parts
+pub mod Targets
+pub mod Told
+pub mod Homes
 pub mod Kept
-pub mod Chosen
-pub mod Quiet
+pub mod Ends
+pub mod Firing
+pub mod Walks
+pub mod Equations

@@ -1,3 +1,3 @@
-pub mod Plain
-pub mod Waiting
+pub mod Pendings
 pub mod Sound
+pub mod Answers

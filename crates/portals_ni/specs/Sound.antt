@@ -1,18 +1,56 @@
--- What an interface keeps.
-use Rattle.std.specs.Prelude.{◌≡◌, ◌≤◌, ℕ, List, Option, true, false, length, sum_by, All}
+-- What is seen of an interface, and what it keeps.
+use Rattle.std.specs.Prelude.{◌≡◌, ◌≤◌, ℕ, true, false, List, length, Some, option_map, All}
+use Rattle.ptl_types.specs.declared.handles.Count.{Count}
+use Rattle.ptl_types.specs.declared.calls.Limits.{Limits}
 use Rattle.ni_model.specs.declared.Bound.{Bound}
-use Rattle.ni_model.specs.Tables.{Table}
-use Rattle.ni_model.specs.Lists.{Index, entries_in}
-use Rattle.ni_model.specs.State.{Posted}
-use Rattle.ni_model.specs.Calls.{entry_slot}
-use Rattle.ni_model.specs.Conditions.{HasPartsIn, IsBoundIn}
-use Rattle.ni_model.specs.Refusals.{deed_fits}
+use Rattle.ni_model.specs.Tables.{Table, lookup}
+use Rattle.ni_model.specs.Counts.{total}
+use Rattle.ni_model.specs.Queues.{Waiting}
+use Rattle.ni_model.specs.Arrive.{Side}
+use Rattle.ni_model.specs.Conditions.{HasPartsIn, MayStart}
+use Rattle.ni_model.specs.Refusals.{deed_fits, deed_passes}
+use Rattle.ni_model.specs.State.{State}
+use Rattle.initiator_engine.specs.Initiators.{Initiating, AreBoundIn, room_for}
+use Rattle.triggered_ops.specs.Operations.{Operation, Operations, posted_all}
+use Rattle.portals_ni.specs.declared.armed.Armed.{Armed}
+use Rattle.portals_ni.specs.Pendings.{deed_in}
 
-pub record IsSound (memory : List ℕ) (indices : List (Option Index)) (given : ℕ) (mds : Table Bound) (waiting : List Posted) : Type 0 where
-  -- the parts of entries and descriptors lie in the region, and what a pending operation sends lies in its descriptor
-  pub entries : All (HasPartsIn (length memory)) indices
-  pub bound : All (λ x. IsBoundIn (length memory) x.value) mds.live
-  pub sourced : All (λ p. deed_fits p.deed mds ≡ true) waiting
-  -- nothing was unlinked: as many entries are linked as stamps were given, under the slots below
-  pub linked : sum_by entries_in indices ≡ given
-  pub slots : (slot : ℕ) → given ≤ slot → entry_slot indices slot ≡ false
+-- the model's state of the parts: of the pending operations, not what they were told, nor their room
+abbrev pub state_of : Side → List ℕ → Table Count → Table Waiting → Initiating → Operations Armed → ℕ → ℕ → State
+state_of t memory cts eqs i ops drops violations = record {
+  rank = t.rank;
+  ranks = i.ranks;
+  limits = record i.limits { entries = t.limit };
+  memory = memory;
+  indices = t.indices;
+  entries_given = t.given;
+  headers = t.headers;
+  cts = cts;
+  eqs = eqs;
+  mds = i.mds;
+  pending = posted_all deed_in ops;
+  drops = drops;
+  violations = violations;
+}
+
+-- a pending operation may start, what it names lies in its descriptors, its bytes have room, and what it sets fits a counter
+pub record IsArmed (mds : Table Bound) (ranks : ℕ) (limits : Limits) (a : Armed) : Type 0 where
+  pub fits : deed_fits a.deed mds ≡ true
+  pub may : MayStart a.deed ranks limits
+  pub room : room_for a.deed ≤ a.room.room
+  pub counts : deed_passes a.deed ≡ false
+
+-- its counting event is live and stands at the sum that it was last told
+abbrev pub IsTold : Table Count → Operation Armed → Type 0
+IsTold cts w = option_map total (lookup w.ct cts.live) ≡ Some w.told
+
+pub record IsSound (t : Side) (memory : List ℕ) (cts : Table Count) (i : Initiating) (ops : Operations Armed) : Type 0 where
+  -- both engines have the same rank and limits
+  pub rank : i.rank ≡ t.rank
+  pub limit : i.limits.entries ≡ t.limit
+  -- the parts of entries and descriptors lie in the region
+  pub parts : All (HasPartsIn (length memory)) t.indices
+  pub bound : AreBoundIn (length memory) i.mds
+  -- every pending operation can be fired, and knows how far its counting event is
+  pub armed : All (λ w. IsArmed i.mds i.ranks i.limits w.deed) ops.waiting
+  pub told : All (IsTold cts) ops.waiting

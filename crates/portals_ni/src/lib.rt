@@ -1,17 +1,23 @@
-//! One network interface with the behaviour of Portals 4.3, over plain lists of entries and operations: counting events,
-//! memory descriptors, persistent match entries in priority lists, and triggered puts.
+//! One network interface with the behaviour of Portals 4.3: portal table indices with match entries and unexpected headers,
+//! counting events, event queues, memory descriptors, triggered operations, and the five operations with their answers.
 //!
-//! This is its first form. Its contracts are the model's words for the calls; what the full interface refuses by name, and
-//! what isn't built yet, are conditions here, and only want of memory is answered.
+//! `Nic` stands on the two engines: `target_engine` for what arrives and `initiator_engine` for what starts and comes home. It
+//! adds the tables that both share, the triggered operations, and the two status registers. Each call is the model's word for
+//! it (`ni_model`), refusals included: the lowest fault that holds is answered, and a refused call changes nothing.
 #![tactic(auto)]
 
-mod arrival;
-mod index;
+mod armed;
+mod arrivals;
+mod counting;
+mod entries;
+mod fires;
+mod named;
 mod nic;
-mod pending;
+mod queues;
 mod starts;
-#[cfg(test)]
-mod tests;
+mod tables;
 
 pub use nic::Nic;
-pub use ptl_types::{Appended, Deed, Delivered, Limits, NiFault, Outcome, PutArgs};
+pub use ptl_types::{
+    Appended, Deed, Delivered, EqGot, GetArgs, Limits, NiFault, Outcome, PutArgs,
+};

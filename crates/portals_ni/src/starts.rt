@@ -1,105 +1,201 @@
-//! How a put starts.
+//! The starts of operations, and triggered operations (Portals 4.3, data movement operations and triggered operations).
 
-ghost use Rattle.std.specs.Prelude.{◌≡◌, ◌≤◌, None, length, true, All};
-ghost use Rattle.ptl_types.specs.declared.headers.AckRequest.TheVariants.{NoAck};
-ghost use Rattle.ptl_types.specs.declared.headers.MessageKind.TheVariants.{Put as PutKind};
-ghost use Rattle.ptl_types.specs.declared.elements.ElemType.TheVariants.{U8};
-ghost use Rattle.ptl_types.specs.Messages.{message};
-ghost use Rattle.ni_model.specs.Tables.{lookup};
-ghost use Rattle.ni_model.specs.Counts.{successes, counted};
-ghost use Rattle.ni_model.specs.Starts.{put_header as header_of, bytes_at, send_counter};
-ghost use Rattle.ni_model.specs.Conditions.{IsBoundIn};
-ghost use Rattle.ni_model.specs.Refusals.{put_fits};
+ghost use Rattle.std.specs.Prelude.{◌≡◌, ◌&&◌, ◌||◌, true, false};
+ghost use Rattle.ptl_types.specs.declared.calls.Deed.TheVariants.{Put, Get, Atomic, FetchAtomic, Swap};
+ghost use Rattle.ni_model.specs.Counts.{passes_end as passes};
+ghost use Rattle.ni_model.specs.Tables.{is_live as lives};
+ghost use Rattle.ni_model.specs.Conditions.{MayStart};
+ghost use Rattle.ni_model.specs.Refusals.{counts_on_live as counts_live, deed_passes as deed_past, triggered_fault};
+ghost use Rattle.ni_model.specs.Calls.{ends, MayLackMemory, start as start_of, triggered as triggered_of};
+ghost use Rattle.initiator_engine.specs.Initiators.{by_fault, is_start as starts, room_for as room_of};
+ghost use Rattle.triggered_ops.specs.Operations.{posted_all};
+ghost use Rattle.portals_ni.specs.Pendings.{deed_in};
+ghost use Rattle.portals_ni.specs.Answers.{as_started};
 
+use crate::armed::{Armed, tell};
+use crate::nic::Nic;
 use counters::Counter;
 use handle_store::Store;
-use memory_desc::Region;
-use ni_model::Bound;
+use initiator_engine::Initiator;
 use ptl_types::{
-    AckRequest, Bytes, Count, ElemType, Handle, Header, Message, MessageKind, PutArgs, Rank,
+    AtomicOp, Bytes, Count, Deed, ElemType, GetArgs, Handle, Message, NiFault, PutArgs, SwapOp,
 };
+use triggered_ops::Pending;
 
-fn put_header(rank: Rank, args: &PutArgs) -> Header
-    requires { args.now.ack ≡ NoAck }
-    ensures { result ≡ header_of rank PutKind args.now None U8 }
+/// Whether the deed starts an operation; the others count.
+pub fn is_start(deed: &Deed) -> bool
+    ensures { result ≡ starts deed.now }
 {
-    Header {
-        kind: MessageKind::Put,
-        source: rank,
-        target: args.target,
-        pt: args.pt,
-        match_bits: args.match_bits,
-        offset: args.remote_offset,
-        length: args.length,
-        hdr_data: args.hdr_data,
-        op: None,
-        swap: None,
-        ty: ElemType::U8,
-        operand: 0,
-        ack: AckRequest::NoAck,
-        home: None,
-        home_offset: 0,
-        ok: true,
+    !matches!(deed, Deed::Inc(_, _) | Deed::Set(_, _))
+}
+
+/// The room that a start needs: for the bytes that it sends, and of a get for the reply.
+fn room_for(deed: &Deed) -> u64
+    ensures { result ≡ room_of deed.now }
+{
+    match deed {
+        Deed::Put(args) => args.length,
+        Deed::Get(args) => args.length,
+        Deed::Atomic(args, _, _) => args.length,
+        Deed::FetchAtomic(_, args, _, _) => args.length,
+        Deed::Swap(_, args, _, _, _) => args.length,
+        _ => 0,
     }
 }
 
-/// Reads the bytes of a put from the region into the buffer.
-fn read_bytes(args: &PutArgs, mds: &Store<Bound>, region: &Region, mut buffer: Bytes) -> Bytes
-    requires fits { put_fits args.now mds.now ≡ true }
-    requires bound { All (λ x. IsBoundIn (length region.now) x.value) mds.now.live }
-    requires room { args.now.length ≤ buffer.room }
-    ensures bytes { result.list ≡ bytes_at (lookup args.now.md mds.now.live) args.now.local_offset args.now.length region.now }
-    ensures all { length result.list ≡ args.now.length }
+/// Whether the counting event that an increment or a set names is live.
+fn counts_on_live(cts: &Store<Counter>, deed: &Deed) -> bool
+    ensures { result ≡ counts_live deed.now cts.now }
 {
-    let _size = region.len();
-    match mds.get(args.md) {
-        Some(bound) => {
-            let from = bound.md.start + args.local_offset;
-            region.read_into(from, &mut buffer, args.length);
-            buffer
+    match deed {
+        Deed::Inc(ct, _) => cts.is_live(*ct),
+        Deed::Set(ct, _) => cts.is_live(*ct),
+        _ => true,
+    }
+}
+
+/// Whether both numbers together pass the end of a counting event.
+fn passes_end(count: &Count) -> bool
+    ensures { result ≡ passes count.now }
+{
+    count.success.checked_add(count.failure).is_none()
+}
+
+/// Whether the numbers of an increment or a set do.
+fn deed_passes(deed: &Deed) -> bool
+    ensures { result ≡ deed_past deed.now }
+{
+    match deed {
+        Deed::Inc(_, by) => passes_end(by),
+        Deed::Set(_, to) => passes_end(to),
+        _ => false,
+    }
+}
+
+/// What refuses a triggered operation.
+fn check_triggered(
+    cts: &Store<Counter>,
+    initiator: &Initiator,
+    pending: &Pending<Armed>,
+    deed: &Deed,
+    ct: Handle,
+) -> Result<(), NiFault>
+    ensures { result ≡ by_fault (triggered_fault deed.now ct cts.now initiator.now.mds (posted_all deed_in pending.now)) }
+{
+    let checked = initiator.check(deed);
+    if !(cts.is_live(ct) && counts_on_live(cts, deed)) {
+        return Err(NiFault::Stale);
+    }
+    if let Err(NiFault::Stale) = checked {
+        return Err(NiFault::Stale);
+    }
+    if pending.is_full() {
+        return Err(NiFault::NoSpace);
+    }
+    checked?;
+    if deed_passes(deed) {
+        return Err(NiFault::CountFull);
+    }
+    Ok(())
+}
+
+impl Nic {
+    /// Starts a put: the message is the caller's to send (Portals 4.3, put). `Stale` where the descriptor isn't bound,
+    /// `OutOfRegion` where the part reaches past its end, `NoMemory` for the bytes. Conditions: the target is a rank, and the
+    /// length is within the limit.
+    pub fn put(&mut self, args: PutArgs) -> Result<Message, NiFault>
+        requires { MayStart (Put args) self.old.ranks self.old.limits }
+        ensures { MayLackMemory (start_of (Put args) self.old) self.old (ends self.new (as_started result)) }
+    {
+        self.start(&Deed::Put(args))
+    }
+
+    /// Starts a get, whose message brings room for the reply (Portals 4.3, get). Refusals and conditions are those of a put.
+    pub fn get(&mut self, args: GetArgs) -> Result<Message, NiFault>
+        requires { MayStart (Get args) self.old.ranks self.old.limits }
+        ensures { MayLackMemory (start_of (Get args) self.old) self.old (ends self.new (as_started result)) }
+    {
+        self.start(&Deed::Get(args))
+    }
+
+    /// Starts an atomic (Portals 4.3, atomic). Refusals and conditions are those of a put, and beside them the length is of
+    /// whole elements and within the limit of atomics.
+    pub fn atomic(&mut self, args: PutArgs, op: AtomicOp, ty: ElemType) -> Result<Message, NiFault>
+        requires { MayStart (Atomic args op ty) self.old.ranks self.old.limits }
+        ensures { MayLackMemory (start_of (Atomic args op ty) self.old) self.old (ends self.new (as_started result)) }
+    {
+        self.start(&Deed::Atomic(args, op, ty))
+    }
+
+    /// Starts a fetch-atomic: `back` says where the old elements go (Portals 4.3, fetch-atomic). Refusals are those of a put,
+    /// for both descriptors. Conditions: those of an atomic with the limit of fetch-atomics, both arguments agree, and no
+    /// acknowledgement is asked for.
+    pub fn fetch_atomic(
+        &mut self,
+        back: GetArgs,
+        args: PutArgs,
+        op: AtomicOp,
+        ty: ElemType,
+    ) -> Result<Message, NiFault>
+        requires { MayStart (FetchAtomic back args op ty) self.old.ranks self.old.limits }
+        ensures { MayLackMemory (start_of (FetchAtomic back args op ty) self.old) self.old (ends self.new (as_started result)) }
+    {
+        self.start(&Deed::FetchAtomic(back, args, op, ty))
+    }
+
+    /// Starts a swap of one element, with its operand as a bit pattern (Portals 4.3, swap). Refusals are those of a
+    /// fetch-atomic. Conditions: the length is one element's, both arguments agree, and no acknowledgement is asked for.
+    pub fn swap(
+        &mut self,
+        back: GetArgs,
+        args: PutArgs,
+        op: SwapOp,
+        ty: ElemType,
+        operand: u64,
+    ) -> Result<Message, NiFault>
+        requires { MayStart (Swap back args op ty operand) self.old.ranks self.old.limits }
+        ensures { MayLackMemory (start_of (Swap back args op ty operand) self.old) self.old (ends self.new (as_started result)) }
+    {
+        self.start(&Deed::Swap(back, args, op, ty, operand))
+    }
+
+    fn start(&mut self, deed: &Deed) -> Result<Message, NiFault>
+        requires start { starts deed.now ≡ true }
+        requires may { MayStart deed.now self.old.ranks self.old.limits }
+        ensures { MayLackMemory (start_of deed.now self.old) self.old (ends self.new (as_started result)) }
+    {
+        self.initiator.check(deed)?;
+        let room = match Bytes::with_room(self.alloc, room_for(deed)) {
+            Ok(room) => room,
+            Err(_) => return Err(NiFault::NoMemory),
+        };
+        let (message, counted) =
+            self.initiator
+                .start(&self.region, &mut self.cts, &mut self.eqs, deed, room);
+        tell(&mut self.pending, &self.cts, counted);
+        Ok(message)
+    }
+
+    /// Posts a triggered operation on a counting event with a threshold, and answers its number, counted up from 0. Its bytes
+    /// are read when it fires, into room that is taken here. `Stale` where the counting event or a thing that the deed names
+    /// isn't live, `NoSpace` where as many as the limit are pending or all 2^32 - 1 numbers were given, `OutOfRegion` as in a
+    /// put, `CountFull` where the two numbers of an increment or a set together pass 2^64 - 1, `NoMemory`. Conditions: those of
+    /// the plain operation.
+    pub fn triggered(&mut self, deed: Deed, ct: Handle, threshold: u64) -> Result<u32, NiFault>
+        requires { MayStart deed self.old.ranks self.old.limits }
+        ensures { MayLackMemory (triggered_of deed ct threshold self.old) self.old (ends self.new result) }
+    {
+        check_triggered(&self.cts, &self.initiator, &self.pending, &deed, ct)?;
+        let room = match Bytes::with_room(self.alloc, room_for(&deed)) {
+            Ok(room) => room,
+            Err(_) => return Err(NiFault::NoMemory),
+        };
+        match self.pending.post(Armed { deed, room }, ct, threshold) {
+            Ok(number) => {
+                tell(&mut self.pending, &self.cts, Some(ct));
+                Ok(number)
+            }
+            Err(_) => Err(NiFault::NoMemory),
         }
-        None => buffer,
-    }
-}
-
-/// The message of a put: its bytes are read from the region into the buffer.
-pub fn put_message(
-    rank: Rank,
-    args: &PutArgs,
-    mds: &Store<Bound>,
-    region: &Region,
-    buffer: Bytes,
-) -> Message
-    requires no_ack { args.now.ack ≡ NoAck }
-    requires fits { put_fits args.now mds.now ≡ true }
-    requires bound { All (λ x. IsBoundIn (length region.now) x.value) mds.now.live }
-    requires room { args.now.length ≤ buffer.room }
-    ensures { result ≡ message (header_of rank PutKind args.now None U8) (bytes_at (lookup args.now.md mds.now.live) args.now.local_offset args.now.length region.now) }
-{
-    let bytes = read_bytes(args, mds, region, buffer);
-    Message::new(put_header(rank, args), bytes)
-}
-
-/// Counts one success on the counting event that is named, if one is.
-pub fn count_one(cts: &mut Store<Counter>, ct: Option<Handle>)
-    ensures { cts.new ≡ counted ct (successes 1) cts.old }
-{
-    if let Some(handle) = ct {
-        if let Some(counter) = cts.get_mut(handle) {
-            counter.bump(Count {
-                success: 1,
-                failure: 0,
-            });
-        }
-    }
-}
-
-/// The counting event on which a descriptor counts its starts.
-pub fn start_counter(mds: &Store<Bound>, md: Handle) -> Option<Handle>
-    ensures { result ≡ send_counter (lookup md mds.now.live) }
-{
-    match mds.get(md) {
-        Some(bound) if bound.md.count_send => bound.md.ct,
-        _ => None,
     }
 }

@@ -1,14 +1,14 @@
-use Rattle.std.proofs.Common.{◌≤◌, ◌+◌, length, subst, sym}
-use Rattle.ni_model.specs.State.{State}
-use Rattle.portals_ni.proofs.Kept.{bound-grows}
-use Rattle.portals_ni.proofs.Quiet.{bind-within}
+use Rattle.portals_ni.proofs.Equations.{bind-makes}
+use Rattle.portals_ni.proofs.Kept.{bound-sound}
 use Rattle.portals_ni.proofs.nic.Nic.md_bind.Goals as goal
-use Rattle.portals_ni.proofs.nic.Nic.md_bind.Goals.{in-Ok, in-Err}
 
 pub invariant_of-self : goal.invariant_of-self
 invariant_of-self c =
-    let part : c.args.md.start + c.args.md.length ≤ length c.self.inside.region = subst (λ (s : State). c.args.md.start + c.args.md.length ≤ length s.memory) (sym c.self.view_is) (bind-within c.args.self.now c.args.md c.requires) in
-    elim c.match-insert.branch [
-      | in-Ok w ↦ rw w.in-Ok.ensures.ok (bound-grows _ _ _ _ _ _ _ c.self.invariant part)
-      | in-Err w ↦ rw w.in-Err.ensures.err.1 c.self.invariant
-    ]
+    let n = c.self.inside in
+    bound-sound n.target n.region n.cts n.eqs n.initiator c.bind.new.self n.pending c.args.md c.bind.result c.self.invariant c.bind.ensures.unchanged c.bind.ensures.ok c.bind.ensures.bound
+
+pub returns : goal.returns
+returns c =
+    let n = c.self.inside in
+    let made = c.bind.ensures in
+    rw (← c.self.view_is) (bind-makes n.target n.region n.cts n.eqs n.initiator n.pending n.drops n.violations c.args.md c.bind.new.self c.bind.result made.err made.unchanged made.ok made.stamp made.free made.bound)

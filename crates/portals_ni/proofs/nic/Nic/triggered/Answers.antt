@@ -1,15 +1,47 @@
-use Rattle.std.proofs.Common.{◌≡◌, None, subst, sym}
-use Rattle.ni_model.specs.State.{State}
+use Rattle.std.proofs.Common.{◌≡◌, ◌≤◌, Some, None, refl, sym, ap, subst, ◌∙◌, arith}
+use Rattle.std.proofs.lemmas.Result.{err_from_is_err_and}
 use Rattle.ni_model.specs.Refusals.{triggered_fault}
-use Rattle.portals_ni.proofs.Quiet.{enough-none, lacking-none}
+use Rattle.ni_model.specs.Conditions.{MayStart}
+use Rattle.ni_model.specs.State.{State}
+use Rattle.initiator_engine.specs.Initiators.{room_for}
+use Rattle.triggered_ops.specs.Operations.{posted_all, with_posted}
+use Rattle.portals_ni.specs.declared.armed.Armed.{Armed}
+use Rattle.portals_ni.specs.Pendings.{deed_in, told_by}
+use Rattle.portals_ni.specs.Sound.{IsSound}
+use Rattle.portals_ni.proofs.Kept.{post-sound, posts-armed, posts-live, may-start}
+use Rattle.portals_ni.proofs.Ends.{no-fault, fault-is, enough-refused, lacks}
+use Rattle.portals_ni.proofs.Equations.{post-may}
 use Rattle.portals_ni.proofs.nic.Nic.triggered.Goals as goal
 
-pub returns-in-Ok : goal.returns-in-Ok
-returns-in-Ok c =
-    rw (← c.self.view_is, c.post.ensures.posted, c.post.ensures.number, ← c.in-Put.is)
-    (enough-none _ _ _ _ (subst (λ (s : State). triggered_fault c.args.deed c.args.ct s.cts s.mds s.pending ≡ None) (sym c.self.view_is) c.requires.unrefused))
+pub returns-in_err-check_triggered : goal.returns-in_err-check_triggered
+returns-in_err-check_triggered c =
+    let p = err_from_is_err_and c.from_residual.result c.from_residual.ensures.1 in
+    rw (p.1, p.2, ← c.self.view_is) (enough-refused _ _ _ _ _ (fault-is _ _ (sym c.check_triggered.ensures ∙ c.in_err-check_triggered.was)))
 
 pub returns-in-Err : goal.returns-in-Err
-returns-in-Err c =
-    rw (← c.self.view_is)
-    (lacking-none _ _ _ _ (subst (λ (s : State). triggered_fault c.args.deed c.args.ct s.cts s.mds s.pending ≡ None) (sym c.self.view_is) c.requires.unrefused))
+returns-in-Err c = rw (← c.self.view_is) (lacks _ _ _ _ (no-fault _ (sym c.check_triggered.ensures ∙ c.in_ok-check_triggered.was)))
+
+pub invariant_of-self : goal.invariant_of-self
+invariant_of-self c =
+    let n = c.self.inside in
+    let armed : Armed = record { deed = c.args.deed; room = c.in-Ok.room } in
+    let none : triggered_fault c.args.deed c.args.ct n.cts n.initiator.mds (posted_all deed_in n.pending) ≡ None = no-fault _ (sym c.check_triggered.ensures ∙ c.in_ok-check_triggered.was) in
+    let may : MayStart c.args.deed n.initiator.ranks n.initiator.limits = may-start c.args.deed n.initiator.ranks n.target.limit n.initiator.limits c.self.invariant.limit (subst (λ (s : State). MayStart c.args.deed s.ranks s.limits) (sym c.self.view_is) c.requires) in
+    let room : room_for c.args.deed ≤ c.in-Ok.room.room = rw (c.in-Ok.ensures, c.room_for.ensures) (omega arith) in
+    let live = posts-live c.args.deed c.args.ct n.cts n.initiator.mds (posted_all deed_in n.pending) none in
+    let told : c.tell.new.pending ≡ told_by (Some c.args.ct) n.cts (with_posted armed c.args.ct c.args.threshold n.pending) = c.tell.ensures ∙ ap (told_by (Some c.args.ct) n.cts) c.in-Ok-post.ensures.ok in
+    subst (IsSound n.target n.region n.cts n.initiator) (sym told)
+    (post-sound n.target n.region n.cts n.initiator n.pending armed c.args.ct c.args.threshold live.0 c.self.invariant (posts-armed c.args.deed c.args.ct n.cts n.initiator.mds (posted_all deed_in n.pending) n.initiator.ranks n.initiator.limits c.in-Ok.room none may room) live.1)
+
+pub returns-in-Ok-post : goal.returns-in-Ok-post
+returns-in-Ok-post c =
+    let n = c.self.inside in
+    let armed : Armed = record { deed = c.args.deed; room = c.in-Ok.room } in
+    let none : triggered_fault c.args.deed c.args.ct n.cts n.initiator.mds (posted_all deed_in n.pending) ≡ None = no-fault _ (sym c.check_triggered.ensures ∙ c.in_ok-check_triggered.was) in
+    let told : c.tell.new.pending ≡ told_by (Some c.args.ct) n.cts (with_posted armed c.args.ct c.args.threshold n.pending) = c.tell.ensures ∙ ap (told_by (Some c.args.ct) n.cts) c.in-Ok-post.ensures.ok in
+    rw (← c.self.view_is) (post-may n.target n.region n.cts n.eqs n.initiator n.pending n.drops n.violations c.args.deed c.args.ct c.args.threshold c.in-Ok-post.number armed c.tell.new.pending none refl c.in-Ok-post.ensures.number told)
+
+pub returns-in-Err-post : goal.returns-in-Err-post
+returns-in-Err-post c =
+    let n = c.self.inside in
+    rw (c.in-Err-post.ensures.err, ← c.self.view_is) (lacks _ _ _ _ (no-fault _ (sym c.check_triggered.ensures ∙ c.in_ok-check_triggered.was)))

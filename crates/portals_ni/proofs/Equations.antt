@@ -1,0 +1,186 @@
+-- How each call ends, from what its parts did.
+use Rattle.std.proofs.Common.{◌≡◌, ℕ, Bool, true, false, not, List, [], Option, Some, None, Result, Ok, Err, IsSome, IsTrue, ◌↔◌, is_some, length, refl, sym, subst, ap, ◌∙◌}
+use Rattle.std.specs.Prelude.{All, IfOk, IfErr, OnErr, OnOk, IfSome, IfNone, option_map}
+use Rattle.std.proofs.lemmas.List.Elements.{All-filter}
+use Rattle.ptl_types.specs.declared.handles.Handle.{Handle}
+use Rattle.ptl_types.specs.declared.handles.Count.{Count}
+use Rattle.ptl_types.specs.declared.entries.Entry.{Entry}
+use Rattle.ptl_types.specs.declared.entries.Descriptor.{Descriptor}
+use Rattle.ptl_types.specs.declared.entries.UnexpectedHeader.{UnexpectedHeader}
+use Rattle.ptl_types.specs.declared.calls.NiFault.{NiFault}
+use Rattle.ptl_types.specs.declared.calls.NiFault.TheVariants.{NoSpace, NoMemory, Stale}
+use Rattle.ptl_types.specs.declared.calls.Outcome.{Outcome}
+use Rattle.ptl_types.specs.declared.calls.EqGot.{EqGot}
+use Rattle.ptl_types.specs.declared.calls.Deed.{Deed}
+use Rattle.ptl_types.specs.Messages.{Sent}
+use Rattle.ni_model.specs.declared.Arrived.{Arrived}
+use Rattle.ni_model.specs.Tables.{Table, lookup, changed, has_slot, handle, with_new, is_full}
+use Rattle.ni_model.specs.Counts.{plus, successes}
+use Rattle.ni_model.specs.Queues.{Waiting, queue, after_take}
+use Rattle.ni_model.specs.Arrive.{Side, Parts, parts, received, request}
+use Rattle.ni_model.specs.Answers.{home, answered}
+use Rattle.ni_model.specs.Starts.{started}
+use Rattle.ni_model.specs.Append.{is_allocated, search}
+use Rattle.ni_model.specs.State.{State, parts_of, with_parts, home_of, with_home, drops_after, violations_after, after_request, after_answer}
+use Rattle.ni_model.specs.Ready.{fires, fired}
+use Rattle.ni_model.specs.Refusals.{pt_alloc_fault, ct_set_fault, ct_inc_fault, alloc_fault, bind_fault, deed_fault, triggered_fault}
+use Rattle.ni_model.specs.Calls.{ends, Makes, MayLackMemory, enough, lacking, AnswersReady, new_index, bound, ct_alloc, ct_set, ct_inc, ct_cancel, eq_alloc, eq_get, md_bind, me_search, pt_alloc, start, triggered}
+use Rattle.handle_store.proofs.StoreLemmas.{change-absent}
+use Rattle.initiator_engine.specs.Initiators.{Initiating, with_mds, is_start, has_started, has_returned}
+use Rattle.target_engine.specs.Sides.{FailsBy, has_searched}
+use Rattle.triggered_ops.specs.Operations.{Operations, deed_of, operation_at, is_ready, with_posted, without_number, waiting_on, cancelled, posted_all}
+use Rattle.std.specs.Prelude.{slice_set}
+use Rattle.portals_ni.specs.declared.armed.Armed.{Armed}
+use Rattle.portals_ni.specs.Answers.{MakesIfMemory, event_taken, deed_counts}
+use Rattle.portals_ni.specs.Pendings.{deed_in, told_by}
+use Rattle.portals_ni.specs.Sound.{IsTold, state_of}
+use Rattle.portals_ni.proofs.Ends.{ends-done, ends-refused, enough-done, fails-by, free_slot, is-free}
+use Rattle.portals_ni.proofs.Firing.{posted-cancelled, length-waiting, posted-push, ready-is, fired-is, done-start, done-count}
+use Rattle.portals_ni.proofs.Told.{posted-told_by}
+
+-- what was told is forgotten
+pub told-forgotten : (ct : Option Handle) (c : Table Count) (ops left : Operations Armed) → left ≡ told_by ct c ops → posted_all deed_in left ≡ posted_all deed_in ops
+told-forgotten ct c ops left e = ap (posted_all deed_in) e ∙ posted-told_by ct c ops
+
+live-true : {A : Type 0} (b : Bool) (o : Option A) → (IsTrue b ↔ IsSome o) → b ≡ true → is_some o ≡ true
+live-true true None r e = cc (r.0 refl)
+live-true true (Some x) r e = refl
+live-true false o r e = cc
+
+not-full : {A : Type 0} (t : Table A) → is_full t ≡ false → alloc_fault t ≡ None
+not-full t e = rw e refl
+
+module _ (t : Side) (r : List ℕ) (c : Table Count) (e : Table Waiting) (i : Initiating) (ops : Operations Armed) (d v : ℕ) where
+  abbrev pub before : State
+  before = state_of t r c e i ops d v
+
+  -- ---- the engines' parts
+
+  pub home-state : (j : Initiating) (s : List ℕ) (k : Table Count) (f : Table Waiting) (left : Operations Armed) (ct : Option Handle) → j ≡ with_mds j.mds i → left ≡ told_by ct k ops → state_of t s k f j left d v ≡ with_home (home j.mds s k f) before
+  home-state j s k f left ct rest told =
+      let ranks : j.ranks ≡ i.ranks = ap (λ (x : Initiating). x.ranks) rest in
+      let limits : j.limits ≡ i.limits = ap (λ (x : Initiating). x.limits) rest in
+      rw (told-forgotten ct k ops left told, ranks, limits) refl
+
+  pub target-state : (u : Side) (s : List ℕ) (k : Table Count) (f : Table Waiting) (left : Operations Armed) (ct : Option Handle) → u.rank ≡ t.rank → u.limit ≡ t.limit → left ≡ told_by ct k ops → state_of u s k f i left d v ≡ with_parts (parts u s k f) before
+  target-state u s k f left ct rank limit told = rw (told-forgotten ct k ops left told, rank, limit) refl
+
+  -- ---- counting events
+
+  pub set-ends : (ct : Handle) (to : Count) (k : Table Count) (left : Operations Armed) → ct_set_fault ct to c ≡ None → k ≡ changed ct (λ (x : Count). to) c → left ≡ told_by (Some ct) k ops → ends (state_of t r k e i left d v) (Ok tt) ≡ ct_set ct to before
+  set-ends ct to k left none is told = rw (told-forgotten (Some ct) k ops left told, is) (ends-done _ _ _ _ none)
+
+  pub inc-ends : (ct : Handle) (by : Count) (k : Table Count) (left : Operations Armed) → ct_inc_fault ct by c ≡ None → k ≡ changed ct (plus by) c → left ≡ told_by (Some ct) k ops → ends (state_of t r k e i left d v) (Ok tt) ≡ ct_inc ct by before
+  inc-ends ct by k left none is told = rw (told-forgotten (Some ct) k ops left told, is) (ends-done _ _ _ _ none)
+
+  pub cancel-ends : (ct : Handle) (n : ℕ) (left : Operations Armed) (live : Bool) → (IsTrue live ↔ IsSome (lookup ct c.live)) → live ≡ true → n ≡ length (waiting_on ct ops) → left ≡ cancelled ct ops → ends (state_of t r c e i left d v) (Ok n) ≡ ct_cancel ct before
+  cancel-ends ct n left live is lives number gone =
+      rw (gone, number, posted-cancelled ct ops, length-waiting ct ops, live-true live (lookup ct c.live) is lives) refl
+
+  pub alloc-makes : (w : Count) (k : Table Count) (res : Result Handle NiFault) → w ≡ successes 0 → IfErr res (λ fault. alloc_fault c ≡ Some fault) → OnErr res (k ≡ c) → IfOk res (λ h. alloc_fault c ≡ None) → IfOk res (λ h. h ≡ handle h.slot c.given) → IfOk res (λ h. has_slot h.slot c.live ≡ false) → IfOk res (λ h. k ≡ with_new h.slot w c) → Makes (λ slot. has_slot slot c.live) (λ slot. ct_alloc slot before) (ends (state_of t r k e i ops d v) res)
+  alloc-makes w k (Ok h) zero err unchanged ok stamp free made = record {
+    slot = h.slot;
+    free = free;
+    ended = ap (λ x. ends (state_of t r k e i ops d v) (Ok x)) stamp ∙ rw (made, zero) (ends-done _ _ _ _ ok);
+  }
+  alloc-makes w k (Err fault) zero err unchanged ok stamp free made = record {
+    slot = free_slot c.live;
+    free = is-free c.live;
+    ended = rw unchanged (ends-refused _ _ _ _ _ err);
+  }
+
+  -- ---- event queues
+
+  pub queue-makes : (room : ℕ) (q : Waiting) (f : Table Waiting) (res : Result Handle NiFault) → q ≡ queue room [] false → IfErr res (λ fault. alloc_fault e ≡ Some fault) → OnErr res (f ≡ e) → IfOk res (λ h. alloc_fault e ≡ None) → IfOk res (λ h. h ≡ handle h.slot e.given) → IfOk res (λ h. has_slot h.slot e.live ≡ false) → IfOk res (λ h. f ≡ with_new h.slot q e) → MakesIfMemory (λ slot. has_slot slot e.live) (λ slot. eq_alloc slot room before) before (ends (state_of t r c f i ops d v) res)
+  queue-makes room q f (Ok h) empty err unchanged ok stamp free made = record {
+    slot = h.slot;
+    free = free;
+    ended = subst (λ x. MayLackMemory (eq_alloc h.slot room before) before x) (sym (ap (λ x. ends (state_of t r c f i ops d v) (Ok x)) stamp ∙ rw (made, empty) (ends-done _ _ _ _ ok))) enough;
+  }
+  queue-makes room q f (Err fault) empty err unchanged ok stamp free made = record {
+    slot = free_slot e.live;
+    free = is-free e.live;
+    ended = rw (unchanged, err) enough;
+  }
+
+  pub queue-full : (room : ℕ) → is_full e ≡ true → MakesIfMemory (λ slot. has_slot slot e.live) (λ slot. eq_alloc slot room before) before (ends before (Err NoSpace))
+  queue-full room full = record { slot = free_slot e.live; free = is-free e.live; ended = rw full enough }
+
+  pub queue-lacks : (room : ℕ) → is_full e ≡ false → MakesIfMemory (λ slot. has_slot slot e.live) (λ slot. eq_alloc slot room before) before (ends before (Err NoMemory))
+  queue-lacks room full = record { slot = free_slot e.live; free = is-free e.live; ended = rw full (lacking refl) }
+
+  pub event-ends : (eq : Handle) (res : Result EqGot NiFault) (f : Table Waiting) (o : Option Waiting) → lookup eq e.live ≡ o → res ≡ event_taken o → f ≡ changed eq after_take e → ends (state_of t r c f i ops d v) res ≡ eq_get eq before
+  event-ends eq res f None found is rest = rw (found, is, rest, change-absent after_take eq e.live found) refl
+  event-ends eq res f (Some q) found is rest = rw (found, is, rest) refl
+
+  -- ---- memory descriptors
+
+  pub bind-makes : (md : Descriptor) (j : Initiating) (res : Result Handle NiFault) → IfErr res (λ fault. bind_fault md (length r) c e i.mds ≡ Some fault) → OnErr res (j ≡ i) → IfOk res (λ h. bind_fault md (length r) c e i.mds ≡ None) → IfOk res (λ h. h ≡ handle h.slot i.mds.given) → IfOk res (λ h. has_slot h.slot i.mds.live ≡ false) → IfOk res (λ h. j ≡ with_mds (with_new h.slot (bound md) i.mds) i) → Makes (λ slot. has_slot slot i.mds.live) (λ slot. md_bind slot md before) (ends (state_of t r c e j ops d v) res)
+  bind-makes md j (Ok h) err unchanged ok stamp free made = record {
+    slot = h.slot;
+    free = free;
+    ended = ap (λ x. ends (state_of t r c e j ops d v) (Ok x)) stamp ∙ rw made (ends-done _ _ _ _ ok);
+  }
+  bind-makes md j (Err fault) err unchanged ok stamp free made = record {
+    slot = free_slot i.mds.live;
+    free = is-free i.mds.live;
+    ended = rw unchanged (ends-refused _ _ _ _ _ err);
+  }
+
+  -- ---- portal table indices
+
+  pub pt-ends : (pt : ℕ) (eq : Option Handle) (u : Side) (res : Result (Unit {0}) NiFault) → IfErr res (FailsBy (pt_alloc_fault pt eq t e)) → OnErr res (u ≡ t) → OnOk res (pt_alloc_fault pt eq t e ≡ None) → OnOk res (u ≡ record t { indices = slice_set t.indices pt (Some (new_index eq)) }) → MayLackMemory (pt_alloc pt eq before) before (ends (state_of u r c e i ops d v) res)
+  pt-ends pt eq u (Ok x) err unchanged ok made = rw made (enough-done _ _ _ _ ok)
+  pt-ends pt eq u (Err fault) err unchanged ok made = rw unchanged (fails-by _ fault _ _ _ err)
+
+  pub search-ends : (pt : ℕ) (en : Entry) (delete : Bool) (u : Side) (f : Table Waiting) (res : Result (Option UnexpectedHeader) NiFault) → IfErr res (λ fault. (fault ≡ Stale) × (is_allocated pt t ≡ false)) → OnErr res ((u ≡ t) × (f ≡ e)) → OnOk res (is_allocated pt t ≡ true) → OnOk res (u.rank ≡ t.rank) → OnOk res (u.limit ≡ t.limit) → IfOk res (λ found. has_searched (parts u r c f) found ≡ search pt en delete (parts t r c e)) → ends (state_of u r c f i ops d v) res ≡ me_search pt en delete before
+  search-ends pt en delete u f (Ok found) err unchanged ok rank limit is = rw (ok, ← is, rank, limit) refl
+  search-ends pt en delete u f (Err fault) err unchanged ok rank limit is = rw (err.0, err.1, unchanged.0, unchanged.1) refl
+
+  -- ---- starts
+
+  pub start-ends : (deed : Deed) (j : Initiating) (k : Table Count) (f : Table Waiting) (left : Operations Armed) (m : Sent) (ct : Option Handle) → deed_fault deed i.mds ≡ None → i.rank ≡ t.rank → has_started (home j.mds r k f) m ct ≡ started i.rank (home i.mds r c e) deed → j ≡ with_mds j.mds i → left ≡ told_by ct k ops → ends (state_of t r k f j left d v) (Ok (Some m)) ≡ start deed before
+  start-ends deed j k f left m ct none rank is rest told =
+      let same : has_started (home j.mds r k f) m ct ≡ started t.rank (home i.mds r c e) deed = is ∙ ap (λ n. started n (home i.mds r c e) deed) rank in
+      rw (none, ← same, home-state j r k f left ct rest told) refl
+
+  pub post-ends : (deed : Deed) (ct : Handle) (threshold n : ℕ) (a : Armed) (left : Operations Armed) → triggered_fault deed ct c i.mds (posted_all deed_in ops) ≡ None → a.deed ≡ deed → n ≡ ops.given → left ≡ told_by (Some ct) c (with_posted a ct threshold ops) → ends (state_of t r c e i left d v) (Ok n) ≡ triggered deed ct threshold before
+  post-ends deed ct threshold n a left none is number told =
+      rw (none, told-forgotten (Some ct) c (with_posted a ct threshold ops) left told, posted-push a ct threshold ops, is, number) refl
+
+  pub start-may : (deed : Deed) (j : Initiating) (k : Table Count) (f : Table Waiting) (left : Operations Armed) (m : Sent) (ct : Option Handle) → deed_fault deed i.mds ≡ None → i.rank ≡ t.rank → has_started (home j.mds r k f) m ct ≡ started i.rank (home i.mds r c e) deed → j ≡ with_mds j.mds i → left ≡ told_by ct k ops → MayLackMemory (start deed before) before (ends (state_of t r k f j left d v) (Ok (Some m)))
+  start-may deed j k f left m ct none rank is rest told = subst (λ x. MayLackMemory (start deed before) before x) (sym (start-ends deed j k f left m ct none rank is rest told)) enough
+
+  pub post-may : (deed : Deed) (ct : Handle) (threshold n : ℕ) (a : Armed) (left : Operations Armed) → triggered_fault deed ct c i.mds (posted_all deed_in ops) ≡ None → a.deed ≡ deed → n ≡ ops.given → left ≡ told_by (Some ct) c (with_posted a ct threshold ops) → MayLackMemory (triggered deed ct threshold before) before (ends (state_of t r c e i left d v) (Ok n))
+  post-may deed ct threshold n a left none is number told = subst (λ x. MayLackMemory (triggered deed ct threshold before) before x) (sym (post-ends deed ct threshold n a left none is number told)) enough
+
+  -- ---- arrivals
+
+  pub answer-ends : (m : Sent) (j : Initiating) (s : List ℕ) (k : Table Count) (f : Table Waiting) (left : Operations Armed) (outcome : Outcome) (ct : Option Handle) (d' v' : ℕ) → has_returned (home j.mds s k f) outcome ct ≡ answered (home i.mds r c e) m → j ≡ with_mds j.mds i → left ≡ told_by ct k ops → d' ≡ drops_after outcome d → v' ≡ violations_after outcome v → record { state = state_of t s k f j left d' v'; delivered = record { outcome = outcome; answer = None } } ≡ after_answer before (answered (home_of before) m)
+  answer-ends m j s k f left outcome ct d' v' is rest told drops violations =
+      let ranks : j.ranks ≡ i.ranks = ap (λ (x : Initiating). x.ranks) rest in
+      let limits : j.limits ≡ i.limits = ap (λ (x : Initiating). x.limits) rest in
+      rw (← is, drops, violations, told-forgotten ct k ops left told, ranks, limits) refl
+
+  pub request-ends : (m : Sent) (u : Side) (s : List ℕ) (k : Table Count) (f : Table Waiting) (left : Operations Armed) (a : Arrived) (d' v' : ℕ) → received (parts u s k f) a ≡ request (parts t r c e) m → u.rank ≡ t.rank → u.limit ≡ t.limit → left ≡ told_by a.counted k ops → d' ≡ drops_after a.outcome d → v' ≡ violations_after a.outcome v → record { state = state_of u s k f i left d' v'; delivered = record { outcome = a.outcome; answer = a.answer } } ≡ after_request before (request (parts_of before) m)
+  request-ends m u s k f left a d' v' is rank limit told drops violations =
+      rw (← is, drops, violations, told-forgotten a.counted k ops left told, rank, limit) refl
+
+  -- ---- triggered operations
+
+  pub ready-answers : (o : Option ℕ) → All (IsTold c) ops.waiting → IfSome o (λ n. is_ready n ops ≡ true) → IfNone o ((n : ℕ) → is_ready n ops ≡ false) → AnswersReady before o
+  ready-answers None told some none = λ n. ready-is n c ops told ∙ none n
+  ready-answers (Some n) told some none = rw (ready-is n c ops told, some) refl
+
+  pub fire-counts : (n : ℕ) (a : Armed) (k : Table Count) (between left : Operations Armed) (ct : Option Handle) → option_map deed_of (operation_at n ops) ≡ Some a → is_start a.deed ≡ false → between ≡ without_number n ops → k ≡ deed_counts a.deed c → left ≡ told_by ct k between → fires (state_of t r k e i left d v) None ≡ fired before n
+  fire-counts n a k between left ct is counts gone made told =
+      let done_of = fired-is before n ops a refl is in
+      rw (done_of, done-count (state_of t r c e i (without_number n ops) d v) a.deed counts, told-forgotten ct k between left told, gone, made) refl
+
+  pub fire-starts : (n : ℕ) (a : Armed) (j : Initiating) (k : Table Count) (f : Table Waiting) (between left : Operations Armed) (m : Sent) (ct : Option Handle) → option_map deed_of (operation_at n ops) ≡ Some a → is_start a.deed ≡ true → between ≡ without_number n ops → i.rank ≡ t.rank → has_started (home j.mds r k f) m ct ≡ started i.rank (home i.mds r c e) a.deed → j ≡ with_mds j.mds i → left ≡ told_by ct k between → fires (state_of t r k f j left d v) (Some m) ≡ fired before n
+  fire-starts n a j k f between left m ct is starts gone rank sent rest told =
+      let done_of = fired-is before n ops a refl is in
+      let same : has_started (home j.mds r k f) m ct ≡ started t.rank (home i.mds r c e) a.deed = sent ∙ ap (λ x. started x (home i.mds r c e) a.deed) rank in
+      let ranks : j.ranks ≡ i.ranks = ap (λ (x : Initiating). x.ranks) rest in
+      let limits : j.limits ≡ i.limits = ap (λ (x : Initiating). x.limits) rest in
+      rw (done_of, done-start (state_of t r c e i (without_number n ops) d v) a.deed starts, ← same, told-forgotten ct k between left told, gone, ranks, limits) refl

@@ -1,0 +1,106 @@
+-- The pending operations know how far their counting events are.
+use Rattle.std.proofs.Common.{◌≡◌, ℕ, ◌==◌, Bool, true, false, List, [], ◌∷◌, Option, Some, None, is_some, if◌then◌else◌, refl, sym, ap, subst, ◌∙◌, arith}
+use Rattle.std.specs.Prelude.{All, map, option_map}
+use Rattle.std.proofs.lemmas.Bool.Decides.{nat_tests}
+use Rattle.std.proofs.lemmas.List.Elements.{All-head, All-tail, All-cons, All-nil}
+use Rattle.ptl_types.specs.declared.handles.Handle.{Handle}
+use Rattle.ptl_types.specs.declared.handles.Count.{Count}
+use Rattle.ptl_types.specs.declared.calls.Deed.{Deed}
+use Rattle.ptl_types.specs.Handles.{same_handle}
+use Rattle.ni_model.specs.Tables.{Table, lookup, names}
+use Rattle.ni_model.specs.Counts.{total}
+use Rattle.ni_model.specs.State.{Posted}
+use Rattle.handle_store.proofs.StoreLemmas.{same_by_parts}
+use Rattle.triggered_ops.specs.Operations.{Operation, Operations, told_one, told, posted, posted_all}
+use Rattle.portals_ni.specs.declared.armed.Armed.{Armed}
+use Rattle.portals_ni.specs.Pendings.{deed_in, tell_at, told_by}
+use Rattle.portals_ni.specs.Sound.{IsTold}
+use Rattle.portals_ni.proofs.Counts.{ChangesAt}
+
+pub same-is : (a b : Handle) → same_handle a b ≡ true → a ≡ b
+same-is a b e =
+    let stamp : a.stamp ≡ b.stamp = grind (arith, nat_tests) in
+    let slot : a.slot ≡ b.slot = grind (arith, nat_tests) in
+    same_by_parts b a.slot a.stamp slot stamp
+
+pub same-sym : (a b : Handle) → same_handle a b ≡ same_handle b a
+same-sym a b = grind (arith, nat_tests)
+
+some-there : {A B : Type 0} (f : A → B) (o : Option A) (v : B) → option_map f o ≡ Some v → is_some o ≡ true
+some-there f None v e = cc
+some-there f (Some x) v e = refl
+
+-- what was told of a counter that did not change
+stays : (ct : Option Handle) (old new : Table Count) (w : Operation Armed) → ChangesAt ct old new → IsTold old w → names ct w.ct ≡ false → IsTold new w
+stays ct old new w changes is apart = ap (option_map total) (changes.others w.ct apart (some-there total (lookup w.ct old.live) w.told is)) ∙ is
+
+-- what is told of the one that did
+anew : (h : Handle) (c : Count) (old new : Table Count) (w : Operation Armed) → ChangesAt (Some h) old new → lookup h new.live ≡ Some c → IsTold old w → IsTold new (told_one h (total c) w)
+anew h c old new w changes now is =
+    elim (same_handle w.ct h) as (λ b. same_handle w.ct h ≡ b → IsTold new (record w { told = if b then total c else w.told })) [
+      | true ↦ λ same. let e : w.ct ≡ h = same-is w.ct h same in ap (λ k. option_map total (lookup k new.live)) e ∙ ap (option_map total) now
+      | false ↦ λ apart. stays (Some h) old new w changes is (same-sym h w.ct ∙ apart)
+    ] refl
+
+gone : (h : Handle) (old new : Table Count) (w : Operation Armed) → ChangesAt (Some h) old new → lookup h new.live ≡ None → IsTold old w → IsTold new w
+gone h old new w changes now is =
+    elim (same_handle h w.ct) as (λ b. same_handle h w.ct ≡ b → IsTold new w) [
+      | true ↦ λ same.
+          let e : h ≡ w.ct = same-is h w.ct same in
+          let live : is_some (lookup w.ct new.live) ≡ true = changes.live w.ct (some-there total (lookup w.ct old.live) w.told is) in
+          let none : lookup w.ct new.live ≡ None = ap (λ k. lookup k new.live) (sym e) ∙ now in
+          cc
+      | false ↦ λ apart. stays (Some h) old new w changes is apart
+    ] refl
+
+each-none : (old new : Table Count) (ws : List (Operation Armed)) → ChangesAt None old new → All (IsTold old) ws → All (IsTold new) ws
+each-none old new [] changes all = All-nil (IsTold new)
+each-none old new (w ∷ ws) changes all = All-cons (IsTold new) w ws (stays None old new w changes (All-head (IsTold old) w ws all) refl) (each-none old new ws changes (All-tail (IsTold old) w ws all))
+
+each-gone : (h : Handle) (old new : Table Count) (ws : List (Operation Armed)) → ChangesAt (Some h) old new → lookup h new.live ≡ None → All (IsTold old) ws → All (IsTold new) ws
+each-gone h old new [] changes now all = All-nil (IsTold new)
+each-gone h old new (w ∷ ws) changes now all = All-cons (IsTold new) w ws (gone h old new w changes now (All-head (IsTold old) w ws all)) (each-gone h old new ws changes now (All-tail (IsTold old) w ws all))
+
+each-anew : (h : Handle) (c : Count) (old new : Table Count) (ws : List (Operation Armed)) → ChangesAt (Some h) old new → lookup h new.live ≡ Some c → All (IsTold old) ws → All (IsTold new) (map (told_one h (total c)) ws)
+each-anew h c old new [] changes now all = All-nil (IsTold new)
+each-anew h c old new (w ∷ ws) changes now all =
+    All-cons (IsTold new) (told_one h (total c) w) (map (told_one h (total c)) ws) (anew h c old new w changes now (All-head (IsTold old) w ws all)) (each-anew h c old new ws changes now (All-tail (IsTold old) w ws all))
+
+at-told : (h : Handle) (o : Option Count) (old new : Table Count) (ops : Operations Armed) → ChangesAt (Some h) old new → lookup h new.live ≡ o → All (IsTold old) ops.waiting → All (IsTold new) (tell_at h o ops).waiting
+at-told h None old new ops changes now all = each-gone h old new ops.waiting changes now all
+at-told h (Some c) old new ops changes now all = each-anew h c old new ops.waiting changes now all
+
+-- a counter's change, told to those that wait on it
+pub all-told : (ct : Option Handle) (old new : Table Count) (ops : Operations Armed) → ChangesAt ct old new → All (IsTold old) ops.waiting → All (IsTold new) (told_by ct new ops).waiting
+all-told None old new ops changes all = each-none old new ops.waiting changes all
+all-told (Some h) old new ops changes all = at-told h (lookup h new.live) old new ops changes refl all
+
+-- ---- telling changes nothing else
+
+posted-told : (h : Handle) (sum : ℕ) (ws : List (Operation Armed)) → map (posted deed_in) (map (told_one h sum) ws) ≡ map (posted deed_in) ws
+posted-told h sum [] = refl
+posted-told h sum (w ∷ ws) = rw (posted-told h sum ws) refl
+
+pub posted-tell_at : (h : Handle) (o : Option Count) (ops : Operations Armed) → posted_all deed_in (tell_at h o ops) ≡ posted_all deed_in ops
+posted-tell_at h None ops = refl
+posted-tell_at h (Some c) ops = rw (posted-told h (total c) ops.waiting) refl
+
+pub posted-told_by : (ct : Option Handle) (cts : Table Count) (ops : Operations Armed) → posted_all deed_in (told_by ct cts ops) ≡ posted_all deed_in ops
+posted-told_by None cts ops = refl
+posted-told_by (Some h) cts ops = posted-tell_at h (lookup h cts.live) ops
+
+-- the deeds stay, and what holds of each
+deeds-told : (P : Armed → Type 0) (h : Handle) (sum : ℕ) (ws : List (Operation Armed)) → All (λ w. P w.deed) ws → All (λ w. P w.deed) (map (told_one h sum) ws)
+deeds-told P h sum [] all = all
+deeds-told P h sum (w ∷ ws) all =
+    All-cons (λ (x : Operation Armed). P x.deed) (told_one h sum w) (map (told_one h sum) ws)
+    (All-head (λ (x : Operation Armed). P x.deed) w ws all)
+    (deeds-told P h sum ws (All-tail (λ (x : Operation Armed). P x.deed) w ws all))
+
+deeds-tell_at : (P : Armed → Type 0) (h : Handle) (o : Option Count) (ops : Operations Armed) → All (λ w. P w.deed) ops.waiting → All (λ w. P w.deed) (tell_at h o ops).waiting
+deeds-tell_at P h None ops all = all
+deeds-tell_at P h (Some c) ops all = deeds-told P h (total c) ops.waiting all
+
+pub deeds-told_by : (P : Armed → Type 0) (ct : Option Handle) (cts : Table Count) (ops : Operations Armed) → All (λ w. P w.deed) ops.waiting → All (λ w. P w.deed) (told_by ct cts ops).waiting
+deeds-told_by P None cts ops all = all
+deeds-told_by P (Some h) cts ops all = deeds-tell_at P h (lookup h cts.live) ops all

@@ -1,0 +1,13 @@
+use Rattle.portals_ni.proofs.Equations.{cancel-ends}
+use Rattle.portals_ni.proofs.Kept.{cancelled-sound}
+use Rattle.portals_ni.proofs.nic.Nic.ct_cancel.Goals as goal
+
+pub invariant_of-self : goal.invariant_of-self
+invariant_of-self c =
+    let n = c.self.inside in
+    rw c.cancel.ensures.rest (cancelled-sound n.target n.region n.cts n.initiator n.pending c.args.ct c.self.invariant)
+
+pub returns : goal.returns
+returns c =
+    let n = c.self.inside in
+    rw (← c.self.view_is) (cancel-ends n.target n.region n.cts n.eqs n.initiator n.pending n.drops n.violations c.args.ct c.cancel.result c.cancel.new.self c.is_live.result c.is_live.ensures c.if-not-is_live.false c.cancel.ensures.number c.cancel.ensures.rest)

@@ -1,0 +1,22 @@
+-- What the pending operations of an interface wait with, and what they are told.
+use Rattle.std.specs.Prelude.{Option, Some, None}
+use Rattle.ptl_types.specs.declared.handles.Handle.{Handle}
+use Rattle.ptl_types.specs.declared.handles.Count.{Count}
+use Rattle.ptl_types.specs.declared.calls.Deed.{Deed}
+use Rattle.ni_model.specs.Tables.{Table, lookup}
+use Rattle.ni_model.specs.Counts.{total}
+use Rattle.triggered_ops.specs.Operations.{Operations, told}
+use Rattle.portals_ni.specs.declared.armed.Armed.{Armed}
+
+-- the deed of a pending operation
+abbrev pub deed_in : Armed → Deed
+deed_in a = a.deed
+
+-- the sum of a counting event is told to the operations that wait on it, where it is live
+abbrev pub tell_at : Handle → Option Count → Operations Armed → Operations Armed
+tell_at h None ops = ops
+tell_at h (Some c) ops = told h (total c) ops
+
+abbrev pub told_by : Option Handle → Table Count → Operations Armed → Operations Armed
+told_by None cts ops = ops
+told_by (Some h) cts ops = tell_at h (lookup h cts.live) ops

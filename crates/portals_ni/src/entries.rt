@@ -1,0 +1,57 @@
+//! Portal table indices, match entries and memory descriptors (Portals 4.3, portal table, match list entries, memory
+//! descriptors).
+
+ghost use Rattle.std.specs.Prelude.{◌≡◌};
+ghost use Rattle.ni_model.specs.Tables.{has_slot};
+ghost use Rattle.ni_model.specs.Calls.{ends, Makes, MayLackMemory, entry_slot, pt_alloc as pt_alloc_of, pt_free as pt_free_of, me_append as me_append_of, me_unlink as me_unlink_of, me_search as me_search_of, md_bind as md_bind_of, awaits as awaits_of};
+
+use crate::nic::Nic;
+use ptl_types::{Appended, Descriptor, Entry, Handle, List, NiFault, UnexpectedHeader};
+
+impl Nic {
+    /// Allocates a portal table index, with an event queue or none. `Stale` where the queue isn't allocated, `NoSpace` where
+    /// the index is past the limit, `InUse` where it is allocated already, `NoMemory` for its lists.
+    pub fn pt_alloc(&mut self, index: u32, eq: Option<Handle>) -> Result<(), NiFault>
+        ensures { MayLackMemory (pt_alloc_of index eq self.old) self.old (ends self.new result) }
+    {
+        self.target.pt_alloc(self.alloc, &self.eqs, index, eq)
+    }
+
+    /// Frees a portal table index. `Stale` where it isn't allocated, `InUse` where one of its lists holds an entry or a header
+    /// of it waits.
+    pub fn pt_free(&mut self, index: u32) -> Result<(), NiFault>
+        ensures { ends self.new result ≡ pt_free_of index self.old }
+    {
+        self.target.pt_free(index)
+    }
+
+    /// Looks for the oldest unexpected header of an index that the entry matches and allows, whether the entry is use-once or
+    /// not, and deletes it where asked (Portals 4.3, searching). `None` exactly where there is none, `Stale` exactly where the
+    /// index isn't allocated.
+    pub fn me_search(
+        &mut self,
+        pt: u32,
+        entry: &Entry,
+        delete: bool,
+    ) -> Result<Option<UnexpectedHeader>, NiFault>
+        ensures { ends self.new result ≡ me_search_of pt entry.now delete self.old }
+    {
+        self.target.search(&mut self.eqs, pt, entry, delete)
+    }
+
+    /// Binds a memory descriptor and answers its handle. `Stale` where its queue or its counting event isn't allocated,
+    /// `NoSpace` where as many as the limit are bound or all 2^64 - 1 stamps were given, `OutOfRegion` where its part reaches
+    /// past the region.
+    pub fn md_bind(&mut self, md: Descriptor) -> Result<Handle, NiFault>
+        ensures { Makes (λ slot. has_slot slot self.old.mds.live) (λ slot. md_bind_of slot md self.old) (ends self.new result) }
+    {
+        self.initiator.bind(&self.region, &self.cts, &self.eqs, md)
+    }
+
+    /// How many answers a descriptor awaits; `Stale` exactly where it isn't bound.
+    pub fn awaits(&self, md: Handle) -> Result<u64, NiFault>
+        ensures { result ≡ awaits_of md self.now }
+    {
+        self.initiator.awaits(md)
+    }
+}
