@@ -1,7 +1,7 @@
 //! A table of live things of an interface, each under a handle of its slot and its stamp.
 #![tactic(auto)]
 
-ghost use Rattle.std.specs.Prelude.{◌≡◌, ◌<◌, ◌↔◌, Some, IsSome, IsErr, IsTrue, IfSome, IfNone, IfOk, IfErr, false, length, option_copied};
+ghost use Rattle.std.specs.Prelude.{◌≡◌, ◌<◌, ◌↔◌, Some, IsSome, IsErr, IsTrue, IfSome, IfNone, IfOk, IfErr, false, length, option_copied, All};
 ghost use Rattle.std.specs.Option.{option_copied_mut};
 ghost use Rattle.std.specs.Borrow.{sem};
 ghost use Rattle.ptl_types.specs.declared.handles.Handle.{Handle as NamedBy};
@@ -107,6 +107,7 @@ impl<T> Store<T> {
         // No other live handle has that slot, and the slot is below the limit.
         ensures alone { (h : NamedBy) → h.slot ≡ slot → IsSome (lookup h self.now.live) → IfSome result (λ p. p.0 ≡ h) }
         ensures below { IsSome result → slot < self.now.limit }
+        ensures only { IfSome result (λ p. All (λ x. x.handle.slot ≡ slot → x.value ≡ p.1.now) self.now.live) }
     {
         match self.slab.get(slot as usize) {
             Some(held) => Some((
@@ -118,6 +119,14 @@ impl<T> Store<T> {
             )),
             None => None,
         }
+    }
+
+    /// How many slots there are: every live thing has a slot below this number, which is the limit.
+    pub fn slots(&self) -> u32
+        ensures slots { result ≡ self.now.limit }
+        ensures below { All (λ x. x.handle.slot < result) self.now.live }
+    {
+        self.limit
     }
 
     /// The thing of a handle, to be changed in place; `None` exactly where the handle isn't live. Nothing else changes.

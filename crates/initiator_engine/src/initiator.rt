@@ -5,13 +5,14 @@ ghost use Rattle.ni_model.specs.Tables.{no_things, lookup, with_new, without, ha
 ghost use Rattle.ni_model.specs.Calls.{bound as as_bound, awaits_of};
 ghost use Rattle.ni_model.specs.Answers.{home, answered};
 ghost use Rattle.ni_model.specs.Starts.{started};
-ghost use Rattle.ni_model.specs.Refusals.{bind_fault, deed_fault, own_release_fault};
+ghost use Rattle.ni_model.specs.Refusals.{bind_fault, deed_fault, own_release_fault, md_names_ct, md_names_eq};
 ghost use Rattle.ni_model.specs.Conditions.{MayStart};
 ghost use Rattle.initiator_engine.specs.Initiators.{sent_as, sent_by, initiating, with_mds, AreBoundIn, by_fault, is_start, room_for, has_started, has_returned};
 
 use crate::answers::{await_less, bound_of, bring, counter_home, is_due, one_answer, raise_answer};
 use crate::checks::{deed_fits, deed_is_live, is_live};
 use crate::headers::{counted_on, header_of, put_args};
+use crate::named::{some_names_ct, some_names_eq};
 use crate::starts::{await_more, read_bytes, send_counter, send_event, send_queue};
 use counters::Counter;
 use event_queues::Queue;
@@ -165,6 +166,20 @@ impl Initiator {
             Some(bound) => Ok(bound.awaits),
             None => Err(NiFault::Stale),
         }
+    }
+
+    /// Whether a descriptor names the counting event.
+    pub fn names_ct(&self, ct: Handle) -> bool
+        ensures { result ≡ md_names_ct ct self.now.mds.live }
+    {
+        some_names_ct(&self.mds, ct)
+    }
+
+    /// Whether a descriptor names the event queue.
+    pub fn names_eq(&self, eq: Handle) -> bool
+        ensures { result ≡ md_names_eq eq self.now.mds.live }
+    {
+        some_names_eq(&self.mds, eq)
     }
 
     /// Whether the deed may start as far as its descriptors go: `Stale` where one of them isn't bound, `OutOfRegion` where a

@@ -6,6 +6,7 @@ mod answers;
 mod checks;
 mod headers;
 mod initiator;
+mod named;
 mod starts;
 #[cfg(test)]
 mod tests;

@@ -1,12 +1,14 @@
 -- How each call ends, from what its parts did.
 use Rattle.std.proofs.Common.{◌≡◌, ℕ, Bool, true, false, not, List, [], Option, Some, None, Result, Ok, Err, IsSome, IsTrue, ◌↔◌, is_some, length, refl, sym, subst, ap, ◌∙◌}
-use Rattle.std.specs.Prelude.{All, IfOk, IfErr, OnErr, OnOk, IfSome, IfNone, option_map}
+use Rattle.std.specs.Prelude.{All, IfOk, IfErr, OnErr, OnOk, IfSome, IfNone, option_map, map}
 use Rattle.std.proofs.lemmas.List.Elements.{All-filter}
 use Rattle.ptl_types.specs.declared.handles.Handle.{Handle}
 use Rattle.ptl_types.specs.declared.handles.Count.{Count}
 use Rattle.ptl_types.specs.declared.entries.Entry.{Entry}
 use Rattle.ptl_types.specs.declared.entries.Descriptor.{Descriptor}
 use Rattle.ptl_types.specs.declared.entries.UnexpectedHeader.{UnexpectedHeader}
+use Rattle.ptl_types.specs.declared.entries.List.{List as Place}
+use Rattle.ptl_types.specs.declared.calls.Appended.{Appended}
 use Rattle.ptl_types.specs.declared.calls.NiFault.{NiFault}
 use Rattle.ptl_types.specs.declared.calls.NiFault.TheVariants.{NoSpace, NoMemory, Stale}
 use Rattle.ptl_types.specs.declared.calls.Outcome.{Outcome}
@@ -14,27 +16,27 @@ use Rattle.ptl_types.specs.declared.calls.EqGot.{EqGot}
 use Rattle.ptl_types.specs.declared.calls.Deed.{Deed}
 use Rattle.ptl_types.specs.Messages.{Sent}
 use Rattle.ni_model.specs.declared.Arrived.{Arrived}
-use Rattle.ni_model.specs.Tables.{Table, lookup, changed, has_slot, handle, with_new, is_full}
+use Rattle.ni_model.specs.Tables.{Table, lookup, changed, has_slot, handle, with_new, without, is_full}
 use Rattle.ni_model.specs.Counts.{plus, successes}
 use Rattle.ni_model.specs.Queues.{Waiting, queue, after_take}
 use Rattle.ni_model.specs.Arrive.{Side, Parts, parts, received, request}
 use Rattle.ni_model.specs.Answers.{home, answered}
 use Rattle.ni_model.specs.Starts.{started}
-use Rattle.ni_model.specs.Append.{is_allocated, search}
+use Rattle.ni_model.specs.Append.{append_fault, is_allocated, search}
 use Rattle.ni_model.specs.State.{State, parts_of, with_parts, home_of, with_home, drops_after, violations_after, after_request, after_answer}
 use Rattle.ni_model.specs.Ready.{fires, fired}
-use Rattle.ni_model.specs.Refusals.{pt_alloc_fault, ct_set_fault, ct_inc_fault, alloc_fault, bind_fault, deed_fault, triggered_fault}
-use Rattle.ni_model.specs.Calls.{ends, Makes, MayLackMemory, enough, lacking, AnswersReady, new_index, bound, ct_alloc, ct_set, ct_inc, ct_cancel, eq_alloc, eq_get, md_bind, me_search, pt_alloc, start, triggered}
+use Rattle.ni_model.specs.Refusals.{pt_alloc_fault, ct_set_fault, ct_inc_fault, alloc_fault, unlink_fault, bind_fault, deed_fault, triggered_fault, md_names_ct, md_names_eq, index_names_ct, index_names_eq, operation_names_ct}
+use Rattle.ni_model.specs.Calls.{ends, Makes, MayLackMemory, enough, lacking, AnswersReady, new_index, bound, ct_alloc, ct_free, eq_free, ct_set, ct_inc, ct_cancel, eq_alloc, eq_get, md_bind, entry_slot, unlinked_in, me_append, me_unlink, me_search, pt_alloc, start, triggered}
 use Rattle.handle_store.proofs.StoreLemmas.{change-absent}
 use Rattle.initiator_engine.specs.Initiators.{Initiating, with_mds, is_start, has_started, has_returned}
-use Rattle.target_engine.specs.Sides.{FailsBy, has_searched}
+use Rattle.target_engine.specs.Sides.{FailsBy, has_searched, has_appended, AppendsSome}
 use Rattle.triggered_ops.specs.Operations.{Operations, deed_of, operation_at, is_ready, with_posted, without_number, waiting_on, cancelled, posted_all}
 use Rattle.std.specs.Prelude.{slice_set}
 use Rattle.portals_ni.specs.declared.armed.Armed.{Armed}
 use Rattle.portals_ni.specs.Answers.{MakesIfMemory, event_taken, deed_counts}
 use Rattle.portals_ni.specs.Pendings.{deed_in, told_by}
 use Rattle.portals_ni.specs.Sound.{IsTold, state_of}
-use Rattle.portals_ni.proofs.Ends.{ends-done, ends-refused, enough-done, fails-by, free_slot, is-free}
+use Rattle.portals_ni.proofs.Ends.{ends-done, ends-refused, enough-done, fails-by, free_slot, is-free, free_entry_slot, entry-is-free}
 use Rattle.portals_ni.proofs.Firing.{posted-cancelled, length-waiting, posted-push, ready-is, fired-is, done-start, done-count}
 use Rattle.portals_ni.proofs.Told.{posted-told_by}
 
@@ -89,6 +91,9 @@ module _ (t : Side) (r : List ℕ) (c : Table Count) (e : Table Waiting) (i : In
     ended = rw unchanged (ends-refused _ _ _ _ _ err);
   }
 
+  pub free-ends : (ct : Handle) (k : Table Count) (live : Bool) → (IsTrue live ↔ IsSome (lookup ct c.live)) → live ≡ true → md_names_ct ct i.mds.live ≡ false → index_names_ct ct t.indices ≡ false → operation_names_ct ct (posted_all deed_in ops).waiting ≡ false → k ≡ without ct c → ends (state_of t r k e i ops d v) (Ok tt) ≡ ct_free ct before
+  free-ends ct k live is lives mds entries waiting gone = rw (gone, live-true live (lookup ct c.live) is lives, mds, entries, waiting) refl
+
   -- ---- event queues
 
   pub queue-makes : (room : ℕ) (q : Waiting) (f : Table Waiting) (res : Result Handle NiFault) → q ≡ queue room [] false → IfErr res (λ fault. alloc_fault e ≡ Some fault) → OnErr res (f ≡ e) → IfOk res (λ h. alloc_fault e ≡ None) → IfOk res (λ h. h ≡ handle h.slot e.given) → IfOk res (λ h. has_slot h.slot e.live ≡ false) → IfOk res (λ h. f ≡ with_new h.slot q e) → MakesIfMemory (λ slot. has_slot slot e.live) (λ slot. eq_alloc slot room before) before (ends (state_of t r c f i ops d v) res)
@@ -113,6 +118,9 @@ module _ (t : Side) (r : List ℕ) (c : Table Count) (e : Table Waiting) (i : In
   event-ends eq res f None found is rest = rw (found, is, rest, change-absent after_take eq e.live found) refl
   event-ends eq res f (Some q) found is rest = rw (found, is, rest) refl
 
+  pub unqueue-ends : (eq : Handle) (f : Table Waiting) (live : Bool) → (IsTrue live ↔ IsSome (lookup eq e.live)) → live ≡ true → index_names_eq eq t.indices ≡ false → md_names_eq eq i.mds.live ≡ false → f ≡ without eq e → ends (state_of t r c f i ops d v) (Ok tt) ≡ eq_free eq before
+  unqueue-ends eq f live is lives entries mds gone = rw (gone, live-true live (lookup eq e.live) is lives, entries, mds) refl
+
   -- ---- memory descriptors
 
   pub bind-makes : (md : Descriptor) (j : Initiating) (res : Result Handle NiFault) → IfErr res (λ fault. bind_fault md (length r) c e i.mds ≡ Some fault) → OnErr res (j ≡ i) → IfOk res (λ h. bind_fault md (length r) c e i.mds ≡ None) → IfOk res (λ h. h ≡ handle h.slot i.mds.given) → IfOk res (λ h. has_slot h.slot i.mds.live ≡ false) → IfOk res (λ h. j ≡ with_mds (with_new h.slot (bound md) i.mds) i) → Makes (λ slot. has_slot slot i.mds.live) (λ slot. md_bind slot md before) (ends (state_of t r c e j ops d v) res)
@@ -136,6 +144,20 @@ module _ (t : Side) (r : List ℕ) (c : Table Count) (e : Table Waiting) (i : In
   pub search-ends : (pt : ℕ) (en : Entry) (delete : Bool) (u : Side) (f : Table Waiting) (res : Result (Option UnexpectedHeader) NiFault) → IfErr res (λ fault. (fault ≡ Stale) × (is_allocated pt t ≡ false)) → OnErr res ((u ≡ t) × (f ≡ e)) → OnOk res (is_allocated pt t ≡ true) → OnOk res (u.rank ≡ t.rank) → OnOk res (u.limit ≡ t.limit) → IfOk res (λ found. has_searched (parts u r c f) found ≡ search pt en delete (parts t r c e)) → ends (state_of u r c f i ops d v) res ≡ me_search pt en delete before
   search-ends pt en delete u f (Ok found) err unchanged ok rank limit is = rw (ok, ← is, rank, limit) refl
   search-ends pt en delete u f (Err fault) err unchanged ok rank limit is = rw (err.0, err.1, unchanged.0, unchanged.1) refl
+
+  pub append-makes : (pt : ℕ) (place : Place) (en : Entry) (u : Side) (k : Table Count) (f : Table Waiting) (left : Operations Armed) (answer : Appended) (ct : Option Handle) → append_fault pt en (parts t r c e) ≡ None → AppendsSome pt place en (parts t r c e) (has_appended (parts u r k f) answer ct) → u.rank ≡ t.rank → u.limit ≡ t.limit → left ≡ told_by ct k ops → Makes (entry_slot t.indices) (λ slot. me_append slot pt place en before) (ends (state_of u r k f i left d v) (Ok answer))
+  append-makes pt place en u k f left answer ct none is rank limit told = record {
+    slot = is.slot;
+    free = is.free;
+    ended = rw (none, ← is.ended, told-forgotten ct k ops left told, rank, limit) refl;
+  }
+
+  pub append-refused : (pt : ℕ) (place : Place) (en : Entry) (fault : NiFault) → append_fault pt en (parts t r c e) ≡ Some fault → Makes (entry_slot t.indices) (λ slot. me_append slot pt place en before) (ends before (Err fault))
+  append-refused pt place en fault is = record { slot = free_entry_slot t.indices; free = entry-is-free t.indices; ended = rw is refl }
+
+  pub unlink-ends : (me : Handle) (u : Side) (res : Result (Unit {0}) NiFault) → IfErr res (λ fault. unlink_fault me t ≡ Some fault) → OnErr res (u ≡ t) → OnOk res (unlink_fault me t ≡ None) → OnOk res (u ≡ record t { indices = map (unlinked_in me) t.indices }) → ends (state_of u r c e i ops d v) res ≡ me_unlink me before
+  unlink-ends me u (Ok x) err unchanged ok made = rw made (ends-done _ _ _ _ ok)
+  unlink-ends me u (Err fault) err unchanged ok made = rw unchanged (ends-refused _ _ _ _ _ err)
 
   -- ---- starts
 

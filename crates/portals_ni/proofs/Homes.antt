@@ -241,11 +241,11 @@ at-keeps p m None all kept found = same-home p None all
 at-keeps p m (Some b) all kept found =
     elim (is_due m.header b) as (λ t. is_due m.header b ≡ t → KeepsHome p (if t then came_home p m b else lost_answer p).home (if t then came_home p m b else lost_answer p).counted) [
       | true ↦ λ due. record {
-          size = length-home b m p.region kept (bound_has (IsBoundIn (length p.region)) m.header.home p.mds b all found) due;
-          bound = less-bound (length p.region) m.header.home p.mds all;
-          holds = less-holds m.header.home p.mds;
-          counts = changes-counted (counter_home m.header b) (one_answer m.header.ok) p.cts;
-        }
+        size = length-home b m p.region kept (bound_has (IsBoundIn (length p.region)) m.header.home p.mds b all found) due;
+        bound = less-bound (length p.region) m.header.home p.mds all;
+        holds = less-holds m.header.home p.mds;
+        counts = changes-counted (counter_home m.header b) (one_answer m.header.ok) p.cts;
+      }
       | false ↦ λ due. same-home p None all
     ] refl
 

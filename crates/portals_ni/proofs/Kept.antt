@@ -1,5 +1,5 @@
 -- What an interface keeps, through each of its calls.
-use Rattle.std.proofs.Common.{◌≡◌, ℕ, ◌+◌, ◌≤◌, Bool, true, false, not, ◌&&◌, Result, Ok, Err, List, [], ◌∷◌, ◌++◌, Option, Some, None, length, filter, is_some, refl, sym, subst, ap, ◌∙◌, arith}
+use Rattle.std.proofs.Common.{◌≡◌, ℕ, ◌+◌, ◌≤◌, Bool, true, false, not, ◌&&◌, ◌||◌, nat_le, Result, Ok, Err, List, [], ◌∷◌, ◌++◌, Option, Some, None, length, filter, is_some, refl, sym, subst, ap, ◌∙◌, arith}
 use Rattle.std.specs.Prelude.{All, map, option_map, IfOk, OnErr, OnOk}
 use Rattle.std.proofs.lemmas.Bool.Decides.{nat_tests}
 use Rattle.std.proofs.lemmas.List.Elements.{All-weaker, All-filter, All-nil, All-push}
@@ -10,12 +10,16 @@ use Rattle.ptl_types.specs.declared.entries.Descriptor.{Descriptor}
 use Rattle.ptl_types.specs.declared.entries.Entry.{Entry}
 use Rattle.ptl_types.specs.declared.entries.UnexpectedHeader.{UnexpectedHeader}
 use Rattle.ptl_types.specs.declared.calls.NiFault.{NiFault}
+use Rattle.ptl_types.specs.declared.calls.NiFault.TheVariants.{Stale, NoSpace, OutOfRegion}
+use Rattle.ptl_types.specs.Handles.{top}
 use Rattle.ptl_types.specs.declared.calls.Deed.{Deed}
 use Rattle.ptl_types.specs.declared.calls.Deed.TheVariants.{Put, Get, Atomic, FetchAtomic, Swap, Inc, Set}
 use Rattle.ni_model.specs.declared.Bound.{Bound}
 use Rattle.ni_model.specs.Tables.{Table, lookup, no_things, with_new, is_live_or_none, is_full}
-use Rattle.ni_model.specs.Append.{Searched, need, search, is_within}
-use Rattle.ni_model.specs.Calls.{bound}
+use Rattle.ptl_types.specs.declared.entries.List.{List as Place}
+use Rattle.ptl_types.specs.declared.calls.Appended.{Appended}
+use Rattle.ni_model.specs.Append.{Searched, need, search, is_within, is_allocated, linked_count, append_fault}
+use Rattle.ni_model.specs.Calls.{bound, unlinked_in}
 use Rattle.ni_model.specs.Refusals.{bind_fault, triggered_fault, deed_passes}
 use Rattle.ni_model.specs.State.{Operations as Posts}
 use Rattle.ptl_types.specs.Filled.{Filled}
@@ -26,15 +30,15 @@ use Rattle.ni_model.specs.Arrive.{Side, Parts, parts}
 use Rattle.ni_model.specs.Answers.{Home, home}
 use Rattle.ni_model.specs.Conditions.{HasPartsIn, IsBoundIn, MayStart}
 use Rattle.initiator_engine.specs.Initiators.{Initiating, initiating, with_mds, AreBoundIn, room_for}
-use Rattle.target_engine.specs.Sides.{side, has_searched}
+use Rattle.target_engine.specs.Sides.{side, has_searched, has_appended, AppendsSome}
 use Rattle.triggered_ops.specs.Operations.{Operation, Operations, no_operations, is_number, waits_on, with_posted, without_number, cancelled}
 use Rattle.portals_ni.specs.declared.armed.Armed.{Armed}
 use Rattle.portals_ni.specs.Answers.{deed_counts, deed_counter}
 use Rattle.portals_ni.specs.Pendings.{told_by}
 use Rattle.portals_ni.specs.Sound.{IsArmed, IsTold, IsSound}
 use Rattle.portals_ni.proofs.Counts.{ChangesAt, changes-none, changes-one, changes-counted, changes-new}
-use Rattle.portals_ni.proofs.Parts.{none-parts}
-use Rattle.portals_ni.proofs.Targets.{Keeps, search-keeps}
+use Rattle.portals_ni.proofs.Parts.{none-parts, unlink-parts}
+use Rattle.portals_ni.proofs.Targets.{Keeps, search-keeps, AppendKeeps, append-keeps}
 use Rattle.portals_ni.proofs.Homes.{HoldsOn, skips_none, skips-none, fits-on, holds-push, bound-push, KeepsHome}
 use Rattle.portals_ni.proofs.Told.{all-told, deeds-told_by}
 use Rattle.portals_ni.proofs.Firing.{post-told}
@@ -208,3 +212,25 @@ posts-armed d ct cts mds ops ranks limits room none may fits =
 
 pub posts-live : (d : Deed) (ct : Handle) (cts : Table Count) (mds : Table Bound) (ops : Posts) → triggered_fault d ct cts mds ops ≡ None → (c : Count) × (lookup ct cts.live ≡ Some c)
 posts-live d ct cts mds ops none = there (lookup ct cts.live) (and-left _ _ (need-test _ _ _ none))
+
+-- ---- entries
+
+append-le : (pt : ℕ) (e : Entry) (p : Parts) → append_fault pt e p ≡ None → e.start + e.length ≤ length p.region
+append-le pt e p none =
+    let within : Bool = is_within e.start e.length (length p.region) in
+    let full : Bool = nat_le p.side.limit (linked_count p.side) || nat_le top p.side.given in
+    let live : need (is_live_or_none e.ct p.cts) Stale (need (not full) NoSpace (need within OutOfRegion None)) ≡ None = need-later (is_allocated pt p.side) Stale _ none in
+    let room : need (not full) NoSpace (need within OutOfRegion None) ≡ None = need-later (is_live_or_none e.ct p.cts) Stale _ live in
+    let part : need within OutOfRegion None ≡ None = need-later (not full) NoSpace _ room in
+    within-le e.start e.length (length p.region) (need-test within OutOfRegion None part)
+
+-- a target behind an append
+pub appended-keeps : (pt : ℕ) (place : Place) (en : Entry) (p q : Parts) (answer : Appended) (ct : Option Handle) → All (HasPartsIn (length p.region)) p.side.indices → append_fault pt en p ≡ None → AppendsSome pt place en p (has_appended q answer ct) → Keeps p q ct
+appended-keeps pt place en p q answer ct all none is =
+    subst (AppendKeeps p) (sym is.ended) (append-keeps is.slot pt place en p all (append-le pt en p none))
+
+-- one entry fewer
+pub unlinked-sound : (t u : Side) (r : List ℕ) (c : Table Count) (i : Initiating) (ops : Operations Armed) (me : Handle) (res : Result (Unit {0}) NiFault) → IsSound t r c i ops → OnErr res (u ≡ t) → OnOk res (u ≡ record t { indices = map (unlinked_in me) t.indices }) → IsSound u r c i ops
+unlinked-sound t u r c i ops me (Ok x) is unchanged made =
+    rw made (record { rank = is.rank; limit = is.limit; parts = unlink-parts (length r) me t.indices is.parts; bound = is.bound; armed = is.armed; told = is.told })
+unlinked-sound t u r c i ops me (Err fault) is unchanged made = rw unchanged is

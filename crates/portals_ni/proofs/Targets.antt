@@ -76,7 +76,6 @@ linked-keeps slot pt place e p found all part = record {
   counts = changes-none (counted_by e found) p.cts;
 }
 
-
 taken-keeps : (slot pt : ℕ) (e : Entry) (p : Parts) (found : List Noted) → found ≡ found_in pt e p.side.headers.noted → All (HasPartsIn (length p.region)) p.side.indices → e.start + e.length ≤ length p.region → AppendKeeps p (linked_as slot pt Priority e found (take_all pt e p))
 taken-keeps slot pt e p [] is all part = record {
   size = refl;

@@ -52,9 +52,9 @@ impl Nic {
         requires { is_answer message.header.kind ≡ false }
         ensures { record { state = self.new; delivered = result } ≡ after_request self.old (request (parts_of self.old) message) }
     {
-        let arrived =
-            self.target
-                .request(&mut self.region, &mut self.cts, &mut self.eqs, message);
+        let arrived = self
+            .target
+            .request(&mut self.region, &mut self.cts, &mut self.eqs, message);
         tell(&mut self.pending, &self.cts, arrived.counted);
         self.drops = raise_drops(self.drops, arrived.outcome);
         self.violations = raise_violations(self.violations, arrived.outcome);
@@ -68,9 +68,9 @@ impl Nic {
         ensures { record { state = self.new; delivered = result } ≡ after_answer self.old (answered (home_of self.old) message) }
     {
         let _bytes = message.bytes();
-        let (outcome, counted) =
-            self.initiator
-                .answer(&mut self.region, &mut self.cts, &mut self.eqs, message);
+        let (outcome, counted) = self
+            .initiator
+            .answer(&mut self.region, &mut self.cts, &mut self.eqs, message);
         tell(&mut self.pending, &self.cts, counted);
         self.drops = raise_drops(self.drops, outcome);
         self.violations = raise_violations(self.violations, outcome);

@@ -5,6 +5,7 @@ ghost use Rattle.std.specs.Prelude.{◌≡◌};
 ghost use Rattle.ni_model.specs.Tables.{has_slot};
 ghost use Rattle.ni_model.specs.Calls.{ends, Makes, MayLackMemory, entry_slot, pt_alloc as pt_alloc_of, pt_free as pt_free_of, me_append as me_append_of, me_unlink as me_unlink_of, me_search as me_search_of, md_bind as md_bind_of, awaits as awaits_of};
 
+use crate::armed::tell;
 use crate::nic::Nic;
 use ptl_types::{Appended, Descriptor, Entry, Handle, List, NiFault, UnexpectedHeader};
 
@@ -23,6 +24,33 @@ impl Nic {
         ensures { ends self.new result ≡ pt_free_of index self.old }
     {
         self.target.pt_free(index)
+    }
+
+    /// Appends a match entry to a list of an index (Portals 4.3, match list entries). To the priority list, a use-once entry
+    /// takes the oldest unexpected header that it matches and allows, and isn't linked then; a persistent one takes all of them
+    /// and is linked. To the overflow list it is linked. `Stale` where the index isn't allocated or the entry's counting event
+    /// isn't, `NoSpace` where as many entries as the limit are linked or all 2^64 - 1 stamps were given, `OutOfRegion` where its
+    /// part reaches past the region.
+    pub fn me_append(&mut self, pt: u32, list: List, entry: Entry) -> Result<Appended, NiFault>
+        ensures { Makes (entry_slot self.old.indices) (λ slot. me_append_of slot pt list entry self.old) (ends self.new result) }
+    {
+        let (appended, counted) = self.target.append(
+            &self.region,
+            &mut self.cts,
+            &mut self.eqs,
+            pt,
+            list,
+            entry,
+        )?;
+        tell(&mut self.pending, &self.cts, counted);
+        Ok(appended)
+    }
+
+    /// Unlinks a match entry. `Stale` where it isn't linked, `InUse` where an unexpected header lies in its memory.
+    pub fn me_unlink(&mut self, me: Handle) -> Result<(), NiFault>
+        ensures { ends self.new result ≡ me_unlink_of me self.old }
+    {
+        self.target.unlink(me)
     }
 
     /// Looks for the oldest unexpected header of an index that the entry matches and allows, whether the entry is use-once or

@@ -62,9 +62,9 @@ impl Nic {
             tell(&mut self.pending, &self.cts, counted);
             return None;
         }
-        let (message, counted) =
-            self.initiator
-                .start(&self.region, &mut self.cts, &mut self.eqs, &deed, room);
+        let (message, counted) = self
+            .initiator
+            .start(&self.region, &mut self.cts, &mut self.eqs, &deed, room);
         tell(&mut self.pending, &self.cts, counted);
         Some(message)
     }

@@ -18,6 +18,4 @@ mod starts;
 mod tables;
 
 pub use nic::Nic;
-pub use ptl_types::{
-    Appended, Deed, Delivered, EqGot, GetArgs, Limits, NiFault, Outcome, PutArgs,
-};
+pub use ptl_types::{Appended, Deed, Delivered, EqGot, GetArgs, Limits, NiFault, Outcome, PutArgs};

@@ -3,7 +3,7 @@
 ghost use Rattle.std.specs.Prelude.{◌≡◌, ◌||◌};
 ghost use Rattle.ptl_types.specs.Handles.{same_handle};
 ghost use Rattle.ni_model.specs.Refusals.{deed_names_ct as deed_counts_on, deed_names_md as deed_uses, operation_names_md, operation_names_ct};
-ghost use Rattle.ni_model.specs.Calls.{ends, md_release as md_release_of};
+ghost use Rattle.ni_model.specs.Calls.{ends, ct_free as ct_free_of, eq_free as eq_free_of, md_release as md_release_of};
 ghost use Rattle.triggered_ops.specs.Operations.{posted_all};
 ghost use Rattle.portals_ni.specs.Pendings.{deed_in};
 
@@ -73,6 +73,36 @@ fn names_ct(pending: &Pending<Armed>, ct: Handle) -> bool
 }
 
 impl Nic {
+    /// Frees a counting event. `Stale` where it isn't allocated, `InUse` where a descriptor, a linked entry or a pending
+    /// operation names it.
+    pub fn ct_free(&mut self, ct: Handle) -> Result<(), NiFault>
+        ensures { ends self.new result ≡ ct_free_of ct self.old }
+    {
+        if !self.cts.is_live(ct) {
+            return Err(NiFault::Stale);
+        }
+        if self.initiator.names_ct(ct) || self.target.names_ct(ct) || names_ct(&self.pending, ct) {
+            return Err(NiFault::InUse);
+        }
+        let _ = self.cts.remove(ct);
+        Ok(())
+    }
+
+    /// Frees an event queue, with the events that wait in it. `Stale` where it isn't allocated, `InUse` where a portal table
+    /// index or a descriptor names it.
+    pub fn eq_free(&mut self, eq: Handle) -> Result<(), NiFault>
+        ensures { ends self.new result ≡ eq_free_of eq self.old }
+    {
+        if !self.eqs.is_live(eq) {
+            return Err(NiFault::Stale);
+        }
+        if self.target.names_eq(eq) || self.initiator.names_eq(eq) {
+            return Err(NiFault::InUse);
+        }
+        let _ = self.eqs.remove(eq);
+        Ok(())
+    }
+
     /// Releases a memory descriptor. `Stale` where it isn't bound, `InUse` where a pending operation names it or it awaits an
     /// answer.
     pub fn md_release(&mut self, md: Handle) -> Result<(), NiFault>

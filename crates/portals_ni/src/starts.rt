@@ -169,9 +169,9 @@ impl Nic {
             Ok(room) => room,
             Err(_) => return Err(NiFault::NoMemory),
         };
-        let (message, counted) =
-            self.initiator
-                .start(&self.region, &mut self.cts, &mut self.eqs, deed, room);
+        let (message, counted) = self
+            .initiator
+            .start(&self.region, &mut self.cts, &mut self.eqs, deed, room);
         tell(&mut self.pending, &self.cts, counted);
         Ok(message)
     }

@@ -1,3 +1,4 @@
+pub mod Quiet
 pub mod Handles
 pub mod CellBytes
 pub mod Steps

@@ -17,8 +17,7 @@ use Rattle.ni_model.specs.Lists.{index_at}
 use Rattle.ni_model.specs.Headers.{held}
 use Rattle.ni_model.specs.Append.{append_fault, linked_at, fresh}
 use Rattle.ni_model.specs.Calls.{Done, ends, Makes, entry_slot, me_append}
-use Rattle.portals_ni.specs.Plain.{IsPlainEntry}
-use Rattle.portals_ni.proofs.Quiet.{me_append-plain}
+use Rattle.world_core.proofs.Quiet.{IsPlainEntry, me_append-plain}
 use Rattle.ni_model.specs.Refusals.{triggered_fault}
 use Rattle.world_core.specs.declared.setting.Setting.{Setting}
 use Rattle.world_core.specs.Forms.{put_args, put_to, puts_from, named, input_bound, posted_below}

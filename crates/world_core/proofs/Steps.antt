@@ -15,7 +15,7 @@ use Rattle.ni_model.specs.State.{Posted, target, delivers}
 use Rattle.ni_model.specs.Ready.{is_number, is_ready, posted_at, fires, fired}
 use Rattle.ni_model.specs.Calls.{ct_inc}
 use Rattle.ni_model.specs.Refusals.{ct_inc_fault}
-use Rattle.portals_ni.proofs.Quiet.{fired-put, target-matched}
+use Rattle.world_core.proofs.Quiet.{fired-put, target-matched}
 use Rattle.world_core.specs.declared.setting.Setting.{Setting}
 use Rattle.world_core.specs.declared.setting.Seat.{Seat}
 use Rattle.world_core.specs.Forms.{put_args, put_to, puts_from, cell_linked, cts_of, form}

@@ -1,6 +1,6 @@
 //! The world and its run.
 
-ghost use Rattle.std.specs.Prelude.{◌≡◌, ◌<◌, ℕ, IsTrue, IfOk, None, ◌^◌, length};
+ghost use Rattle.std.specs.Prelude.{◌≡◌, ◌<◌, ℕ, IsTrue, IfOk, None, false, ◌^◌, length};
 ghost use Rattle.coll_lang.specs.Outline.{Program};
 ghost use Rattle.coll_lang.specs.OneBroadcast.{IsOneBroadcast};
 ghost use Rattle.ni_model.specs.Ready.{is_ready, fired};
@@ -69,7 +69,8 @@ impl World {
     /// No later call takes memory.
     pub fn open(alloc: Global, d: &Description) -> Result<World, NoMemory>
         requires { IsOneBroadcast d.now }
-        ensures { IfOk result (IsWorldOf d.now) }
+        ensures opened { IfOk result (IsWorldOf d.now) }
+        ensures unrun { IfOk result (λ w. w.at_rest ≡ false) }
     {
         let ranks = d.shape().ranks();
         let root = root_of(d.shape());

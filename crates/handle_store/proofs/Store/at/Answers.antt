@@ -2,7 +2,7 @@ use Rattle.std.proofs.Common.{◌≡◌, Some, None, is_some, arith, refl, ap, s
 use Rattle.std.proofs.lemmas.Bool.Decides.{nat_tests}
 use Rattle.slab.specs.Slab.{get}
 use Rattle.handle_store.proofs.StoreLemmas.{lookup-read, held_in, there_live, same_by_parts, stamp_at}
-use Rattle.handle_store.proofs.Slots.{has_slot-table}
+use Rattle.handle_store.proofs.Slots.{has_slot-table, only-table}
 use Rattle.handle_store.proofs.Store.at.Goals as goal
 
 pub returns-in-Some-clause-found : goal.returns-in-Some-clause-found
@@ -21,3 +21,8 @@ pub returns-in-None-clause-none : goal.returns-in-None-clause-none
 returns-in-None-clause-none g c =
     let at : get c.self.inside.slab c.args.slot ≡ None = grind (arith, c.get.ensures, c.in-None.is) in
     has_slot-table c.args.slot c.self.inside.slab c.self.inside.given c.self.inside.limit c.args.self.now c.self.view_is ∙ ap is_some at
+
+pub returns-in-Some-clause-only : goal.returns-in-Some-clause-only
+returns-in-Some-clause-only g c =
+    let at : get c.self.inside.slab c.args.slot ≡ Some c.in-Some.held.now = grind (arith, c.get.ensures, c.in-Some.is) in
+    only-table c.self.inside.slab c.self.inside.given c.self.inside.limit c.args.slot c.args.self.now c.in-Some.held.now c.self.view_is at

@@ -7,8 +7,8 @@ use Rattle.world_core.specs.Worlds.{IsWorldOf}
 use Rattle.world_core.proofs.Worlds.{rooted, world-opened}
 use Rattle.world_core.proofs.world.World.open.Goals as goal
 
-pub returns : goal.returns
-returns c =
+pub returns-clause-opened : goal.returns-clause-opened
+returns-clause-opened c =
     let d = c.args.d.now in
     let s = c.in_ok-setting.setting in
     let nics = c.in_ok-nics.nics.items in

@@ -1,0 +1,46 @@
+//! Which counting events and event queues the descriptors name.
+
+ghost use Rattle.std.specs.Prelude.{◌≡◌};
+ghost use Rattle.ni_model.specs.Tables.{names as names_it};
+ghost use Rattle.ni_model.specs.Refusals.{md_names_ct, md_names_eq};
+
+use handle_store::Store;
+use ni_model::Bound;
+use ptl_types::Handle;
+
+fn names(named: Option<Handle>, handle: Handle) -> bool
+    ensures { result ≡ names_it named handle }
+{
+    match named {
+        Some(h) => h.is(handle),
+        None => false,
+    }
+}
+
+/// Whether a descriptor names the counting event. It goes through the slots of the table.
+pub fn some_names_ct(mds: &Store<Bound>, ct: Handle) -> bool
+    ensures { result ≡ md_names_ct ct mds.now.live }
+{
+    for slot in 0..mds.slots() {
+        if let Some((_, bound)) = mds.at(slot) {
+            if names(bound.md.ct, ct) {
+                return true;
+            }
+        }
+    }
+    false
+}
+
+/// Whether a descriptor names the event queue. It goes through the slots of the table.
+pub fn some_names_eq(mds: &Store<Bound>, eq: Handle) -> bool
+    ensures { result ≡ md_names_eq eq mds.now.live }
+{
+    for slot in 0..mds.slots() {
+        if let Some((_, bound)) = mds.at(slot) {
+            if names(bound.md.eq, eq) {
+                return true;
+            }
+        }
+    }
+    false
+}
