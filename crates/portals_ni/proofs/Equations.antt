@@ -152,8 +152,8 @@ module _ (t : Side) (r : List ℕ) (c : Table Count) (e : Table Waiting) (i : In
     ended = rw (none, ← is.ended, told-forgotten ct k ops left told, rank, limit) refl;
   }
 
-  pub append-refused : (pt : ℕ) (place : Place) (en : Entry) (fault : NiFault) → append_fault pt en (parts t r c e) ≡ Some fault → Makes (entry_slot t.indices) (λ slot. me_append slot pt place en before) (ends before (Err fault))
-  append-refused pt place en fault is = record { slot = free_entry_slot t.indices; free = entry-is-free t.indices; ended = rw is refl }
+  pub append-refused : (pt : ℕ) (place : Place) (en : Entry) (u : Side) (k : Table Count) (f : Table Waiting) (fault : NiFault) → append_fault pt en (parts t r c e) ≡ Some fault → (u ≡ t) × (k ≡ c) × (f ≡ e) → Makes (entry_slot t.indices) (λ slot. me_append slot pt place en before) (ends (state_of u r k f i ops d v) (Err fault))
+  append-refused pt place en u k f fault is same = rw (same.0, same.1, same.2) (record { slot = free_entry_slot t.indices; free = entry-is-free t.indices; ended = rw is refl })
 
   pub unlink-ends : (me : Handle) (u : Side) (res : Result (Unit {0}) NiFault) → IfErr res (λ fault. unlink_fault me t ≡ Some fault) → OnErr res (u ≡ t) → OnOk res (unlink_fault me t ≡ None) → OnOk res (u ≡ record t { indices = map (unlinked_in me) t.indices }) → ends (state_of u r c e i ops d v) res ≡ me_unlink me before
   unlink-ends me u (Ok x) err unchanged ok made = rw made (ends-done _ _ _ _ ok)

@@ -9,14 +9,20 @@ pub invariant_of-self-2 : goal.invariant_of-self-2
 invariant_of-self-2 c =
     let n = c.self.inside in
     let new = c.append.new in
-    let ct = c.in_ok-append.field-0.1 in
-    let keeps : Keeps (parts n.target n.region n.cts n.eqs) (parts new.self n.region new.cts new.eqs) ct = appended-keeps c.args.pt c.args.list c.args.entry (parts n.target n.region n.cts n.eqs) (parts new.self n.region new.cts new.eqs) c.in_ok-append.field-0.0 ct c.self.invariant.parts c.in_ok-append.ensures.ok c.in_ok-append.ensures.appended in
+    let ct = c.in_ok-appended.counted in
+    let keeps : Keeps (parts n.target n.region n.cts n.eqs) (parts new.self n.region new.cts new.eqs) ct = appended-keeps c.args.pt c.args.list c.args.entry (parts n.target n.region n.cts n.eqs) (parts new.self n.region new.cts new.eqs) c.in_ok-appended.appended ct c.self.invariant.parts c.in_ok-appended.ensures.ok c.in_ok-appended.ensures.appended in
     rw c.tell.ensures (target-sound n.target new.self n.region n.region n.cts new.cts n.eqs new.eqs n.initiator n.pending ct c.self.invariant keeps)
 
 pub returns : goal.returns
 returns c =
     let n = c.self.inside in
     let new = c.append.new in
-    let ct = c.in_ok-append.field-0.1 in
-    let keeps : Keeps (parts n.target n.region n.cts n.eqs) (parts new.self n.region new.cts new.eqs) ct = appended-keeps c.args.pt c.args.list c.args.entry (parts n.target n.region n.cts n.eqs) (parts new.self n.region new.cts new.eqs) c.in_ok-append.field-0.0 ct c.self.invariant.parts c.in_ok-append.ensures.ok c.in_ok-append.ensures.appended in
-    rw (← c.self.view_is) (append-makes n.target n.region n.cts n.eqs n.initiator n.pending n.drops n.violations c.args.pt c.args.list c.args.entry new.self new.cts new.eqs c.tell.new.pending c.in_ok-append.field-0.0 ct c.in_ok-append.ensures.ok c.in_ok-append.ensures.appended keeps.rank keeps.limit c.tell.ensures)
+    let ct = c.in_ok-appended.counted in
+    let keeps : Keeps (parts n.target n.region n.cts n.eqs) (parts new.self n.region new.cts new.eqs) ct = appended-keeps c.args.pt c.args.list c.args.entry (parts n.target n.region n.cts n.eqs) (parts new.self n.region new.cts new.eqs) c.in_ok-appended.appended ct c.self.invariant.parts c.in_ok-appended.ensures.ok c.in_ok-appended.ensures.appended in
+    rw (← c.self.view_is) (append-makes n.target n.region n.cts n.eqs n.initiator n.pending n.drops n.violations c.args.pt c.args.list c.args.entry new.self new.cts new.eqs c.tell.new.pending c.in_ok-appended.appended ct c.in_ok-appended.ensures.ok c.in_ok-appended.ensures.appended keeps.rank keeps.limit c.tell.ensures)
+
+pub returns-in_err-appended : goal.returns-in_err-appended
+returns-in_err-appended c =
+    let n = c.self.inside in
+    let p = err_from_is_err_and c.from_residual.result c.from_residual.ensures.1 in
+    rw (p.1, p.2, ← c.self.view_is) (append-refused n.target n.region n.cts n.eqs n.initiator n.pending n.drops n.violations c.args.pt c.args.list c.args.entry c.append.new.self c.append.new.cts c.append.new.eqs c.in_err-appended.field-0.0 c.in_err-appended.ensures.err c.in_err-appended.ensures.unchanged)
