@@ -9,7 +9,9 @@ use Rattle.ptl_types.specs.Operations.{bytes_of}
 use Rattle.ptl_types.specs.Elements.{pattern}
 use Rattle.coll_text.specs.Elements.{elements}
 use Rattle.coll_text.proofs.Writes.{first_of}
-use Rattle.coll_lang.specs.Meaning.{Ranks, each_from, only_at, exchanged, folded, folded_from, pairwise}
+use Rattle.coll_lang.specs.declared.types.Buffer.{Buffer}
+use Rattle.coll_meaning.specs.Printing.{printed_at}
+use Rattle.coll_lang.specs.Meaning.{Ranks, Printed, each_from, only_at, exchanged, folded, folded_from, pairwise}
 
 -- one more
 pub each_more : {A : Type 0} (f : ℕ → A) (n : ℕ) → each_from 0 n f ++ f n ∷ [] ≡ each_from 0 (n + 1) f
@@ -81,3 +83,6 @@ element_more ty out rest le =
 pub fold_more : (f : ℕ → ℕ → ℕ) (so_far x : List ℕ) (lists : Ranks) (i : ℕ) → i < length lists → x ≡ get_or lists i x → folded_from f (pairwise f so_far x) (drop (i + 1) lists) ≡ folded_from f so_far (drop i lists)
 fold_more f so_far x lists i lt is =
     ap (λ (y : List ℕ). folded_from f (pairwise f so_far y) (drop (i + 1) lists)) is ∙ sym (at_drop_more (λ (ls : Ranks). folded_from f so_far ls) lists i x lt)
+
+pub print_more : (out : List Printed) (bs : List Buffer) (held : List Ranks) (i r : ℕ) → (out ++ each_from 0 r (printed_at bs held i)) ++ printed_at bs held i r ∷ [] ≡ out ++ each_from 0 (r + 1) (printed_at bs held i)
+print_more out bs held i r = append_assoc out (each_from 0 r (printed_at bs held i)) (printed_at bs held i r ∷ []) ∙ ap (λ (xs : List Printed). out ++ xs) (each_more (printed_at bs held i) r)

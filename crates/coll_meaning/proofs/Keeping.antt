@@ -36,11 +36,11 @@ one_more bs held made fits new j =
     past : (held : List Ranks) (made : Ranks) (j : ℕ) → length held < j → length (held ++ made ∷ []) ≤ j
     past held made j gt = let l = length-append held (made ∷ []) in omega (arith, l)
 
-record Next (held b : ℕ) (rest : List ℕ) (all : ℕ) : Type 0 where
-  is : b ≡ held
-  others : rest ≡ numbers_from (held + 1) (all - (held + 1))
+pub record Next (held b : ℕ) (rest : List ℕ) (all : ℕ) : Type 0 where
+  pub is : b ≡ held
+  pub others : rest ≡ numbers_from (held + 1) (all - (held + 1))
 
-next_number : (held all b : ℕ) (rest : List ℕ) → b ∷ rest ≡ numbers_from held (all - held) → Next held b rest all
+pub next_number : (held all b : ℕ) (rest : List ℕ) → b ∷ rest ≡ numbers_from held (all - held) → Next held b rest all
 next_number held all b rest h = go (all - held) refl h
   where
     go : (n : ℕ) → n ≡ all - held → b ∷ rest ≡ numbers_from held n → Next held b rest all
@@ -79,7 +79,7 @@ keeps_on ranks bs held step steps k = go step (made_fits ranks (type_at bs) (ran
     go (Alltoall a b) new k = makes_next ranks bs held (Alltoall a b) steps _ refl new.0 k
     go (Scan o a b) new k = makes_next ranks bs held (Scan o a b) steps _ refl new.0 k
 
-length-inputs : (ranks : ℕ) (bs : List Buffer) (lists : Ranks) → length (inputs_of ranks bs lists) ≡ length bs
+pub length-inputs : (ranks : ℕ) (bs : List Buffer) (lists : Ranks) → length (inputs_of ranks bs lists) ≡ length bs
 length-inputs ranks [] lists = refl
 length-inputs ranks (b ∷ bs) lists = ap suc (length-inputs ranks bs (drop ranks lists))
 

@@ -6,6 +6,7 @@ mod folds;
 mod lists;
 mod meaning;
 mod moves;
+mod printed;
 mod reductions;
 mod steps;
 #[cfg(test)]
@@ -13,3 +14,4 @@ mod tests;
 
 pub use lists::Buffers;
 pub use meaning::buffers_of;
+pub use printed::{PrintedList, meaning_of};

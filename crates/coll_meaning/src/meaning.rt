@@ -3,6 +3,7 @@
 ghost use Rattle.std.specs.Prelude.{◌≡◌, ◌≤◌, length, map, IfOk};
 ghost use Rattle.coll_text.specs.Elements.{elements};
 ghost use Rattle.coll_lang.specs.Meaning.{inputs_of, buffers};
+ghost use Rattle.coll_meaning.specs.Shaped.{FollowsShape};
 
 use crate::lists::{Buffers, Held, RankValues};
 use crate::steps::take_step;
@@ -58,7 +59,8 @@ fn inputs_of(
 
 /// The inputs, and then what each step adds.
 fn all_buffers(alloc: Global, d: &Description) -> Result<Vec<Held>, AllocError>
-    ensures { IfOk result (λ held. held.items ≡ buffers d.now) }
+    ensures value { IfOk result (λ held. held.items ≡ buffers d.now) }
+    ensures shaped { IfOk result (λ held. FollowsShape d.now.shape held.items) }
 {
     let shape = d.shape();
     let ranks = shape.ranks();
@@ -78,7 +80,9 @@ fn all_buffers(alloc: Global, d: &Description) -> Result<Vec<Held>, AllocError>
 ///
 /// There was no memory for the lists.
 pub fn buffers_of(alloc: Global, d: &Description) -> Result<Buffers, NoMemory>
-    ensures { IfOk result (λ held. held ≡ buffers d.now) }
+    ensures value { IfOk result (λ held. held ≡ buffers d.now) }
+    // There are as many buffers as the shape has, and each rank's list is as long as its buffer's spread says.
+    ensures shaped { IfOk result (λ held. FollowsShape d.now.shape held) }
 {
     match all_buffers(alloc, d) {
         Ok(held) => Ok(Buffers::of(held)),

@@ -30,7 +30,7 @@ fn source_of(step: CollStep) -> u32
 }
 
 /// The type of a buffer by its number. Bytes where there is no such buffer.
-fn type_at(buffers: &[Buffer], i: u32) -> ElemType
+pub fn type_at(buffers: &[Buffer], i: u32) -> ElemType
     ensures { result ≡ type_at buffers.now i }
 {
     match buffers.get(i as usize) {

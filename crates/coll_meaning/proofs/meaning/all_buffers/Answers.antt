@@ -1,6 +1,11 @@
-use Rattle.std.proofs.Common.{refl, ◌∙◌, arith}
+use Rattle.std.proofs.Common.{◌≡◌, List, refl, sym, subst, ◌∙◌, arith}
+use Rattle.std.proofs.lemmas.List.{at_drop_all}
+use Rattle.coll_lang.specs.declared.types.CollStep.{CollStep}
+use Rattle.coll_lang.proofs.Kept.{well_formed_of, well_given_of}
+use Rattle.coll_meaning.specs.Shaped.{FollowsShape}
+use Rattle.coll_meaning.proofs.Following.{follows}
 use Rattle.coll_lang.specs.Outline.{type_at}
-use Rattle.coll_lang.specs.Meaning.{buffers}
+use Rattle.coll_lang.specs.Meaning.{Ranks, after_steps, buffers}
 use Rattle.coll_lang.proofs.Printed.{take_least}
 use Rattle.coll_meaning.proofs.Keeping.{keeps_start, keeps_more, after_more}
 use Rattle.coll_meaning.proofs.meaning.all_buffers.Goals as goal
@@ -21,3 +26,12 @@ loop-step-preserved c =
       whole = rw c.in_ok-take_step.ensures (after_more c.ranks-ranks.result (type_at c.buffers-buffers.result.now) held steps c.loop-step.step-index (omega arith) ∙ c.loop-step.invariant.whole);
       keeps = rw c.in_ok-take_step.ensures (keeps_more c.ranks-ranks.result c.buffers-buffers.result.now held steps c.loop-step.step-index (omega arith) c.loop-step.invariant.keeps);
     }
+
+pub returns-clause-shaped : goal.returns-clause-shaped
+returns-clause-shaped c =
+    let d = c.args.d.now in
+    let accepted = c.shape-shape.ensures.accepted in
+    let types = type_at c.buffers-buffers.result.now in
+    let value : c.loop-step.held.items ≡ buffers d =
+    sym (at_drop_all (λ (ss : List CollStep). after_steps c.ranks-ranks.result types c.loop-step.held.items ss) c.steps-steps.result.now c.loop-step.step-index (omega arith)) ∙ c.loop-step.invariant.whole in
+    subst (λ (held : List Ranks). FollowsShape d.shape held) (sym value) (follows d (well_formed_of d accepted) (well_given_of d accepted))
