@@ -13,10 +13,15 @@ use std::collections::BTreeMap;
 /// An operation without its number.
 #[derive(Drop)]
 pub struct Held<D> {
+    /// What it does when it fires.
     pub deed: D,
+    /// The counting event that it waits on.
     pub ct: Handle,
+    /// The sum from which on it is due.
     pub threshold: u64,
+    /// The sum that it was last told, 0 at first.
     pub told: u64,
+    /// Its place in the list of those that are due, where it is due.
     pub place: Option<usize>,
 }
 

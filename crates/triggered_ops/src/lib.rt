@@ -20,7 +20,8 @@ use std::marker::Model;
 /// list of them by rising number, with the sum that each was last told, how many numbers were given, and how many may wait.
 ///
 /// With n that wait, `ready` takes a constant number of steps, and `post`, `is_ready`, `get`, `next` and `take` the order of
-/// log n; `reached` and `cancel` take as many for each operation that waits on that counting event, and touch no other.
+/// log n; `reached` and `cancel` take as many for each operation that waits on that counting event, and touch no other. `at`
+/// passes over the operations before its place.
 #[derive(Drop)]
 pub struct Pending<D> {
     operations: BTreeMap<u32, Held<D>>,
