@@ -77,7 +77,7 @@ all-told (Some h) old new ops changes all = at-told h (lookup h new.live) old ne
 
 -- ---- telling changes nothing else
 
-posted-told : (h : Handle) (sum : ℕ) (ws : List (Operation Armed)) → map (posted deed_in) (map (told_one h sum) ws) ≡ map (posted deed_in) ws
+pub posted-told : (h : Handle) (sum : ℕ) (ws : List (Operation Armed)) → map (posted deed_in) (map (told_one h sum) ws) ≡ map (posted deed_in) ws
 posted-told h sum [] = refl
 posted-told h sum (w ∷ ws) = rw (posted-told h sum ws) refl
 
@@ -90,7 +90,7 @@ posted-told_by None cts ops = refl
 posted-told_by (Some h) cts ops = posted-tell_at h (lookup h cts.live) ops
 
 -- the deeds stay, and what holds of each
-deeds-told : (P : Armed → Type 0) (h : Handle) (sum : ℕ) (ws : List (Operation Armed)) → All (λ w. P w.deed) ws → All (λ w. P w.deed) (map (told_one h sum) ws)
+pub deeds-told : (P : Armed → Type 0) (h : Handle) (sum : ℕ) (ws : List (Operation Armed)) → All (λ w. P w.deed) ws → All (λ w. P w.deed) (map (told_one h sum) ws)
 deeds-told P h sum [] all = all
 deeds-told P h sum (w ∷ ws) all =
     All-cons (λ (x : Operation Armed). P x.deed) (told_one h sum w) (map (told_one h sum) ws)

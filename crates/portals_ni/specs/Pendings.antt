@@ -1,5 +1,5 @@
 -- What the pending operations of an interface wait with, and what they are told.
-use Rattle.std.specs.Prelude.{Option, Some, None}
+use Rattle.std.specs.Prelude.{nat_lt, Option, Some, None, if◌then◌else◌}
 use Rattle.ptl_types.specs.declared.handles.Handle.{Handle}
 use Rattle.ptl_types.specs.declared.handles.Count.{Count}
 use Rattle.ptl_types.specs.declared.calls.Deed.{Deed}
@@ -20,3 +20,11 @@ tell_at h (Some c) ops = told h (total c) ops
 abbrev pub told_by : Option Handle → Table Count → Operations Armed → Operations Armed
 told_by None cts ops = ops
 told_by (Some h) cts ops = tell_at h (lookup h cts.live) ops
+
+-- to the newest operation, which was told 0: where the sum is 0 nothing is left to tell
+abbrev pub tell_anew : Handle → Option Count → Operations Armed → Operations Armed
+tell_anew h None ops = ops
+tell_anew h (Some c) ops = if nat_lt 0 (total c) then told h (total c) ops else ops
+
+abbrev pub told_anew : Handle → Table Count → Operations Armed → Operations Armed
+told_anew h cts ops = tell_anew h (lookup h cts.live) ops

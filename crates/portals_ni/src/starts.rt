@@ -12,7 +12,7 @@ ghost use Rattle.triggered_ops.specs.Operations.{posted_all};
 ghost use Rattle.portals_ni.specs.Pendings.{deed_in};
 ghost use Rattle.portals_ni.specs.Answers.{as_started};
 
-use crate::armed::{Armed, tell};
+use crate::armed::{Armed, tell, tell_anew};
 use crate::nic::Nic;
 use counters::Counter;
 use handle_store::Store;
@@ -192,7 +192,7 @@ impl Nic {
         };
         match self.pending.post(Armed { deed, room }, ct, threshold) {
             Ok(number) => {
-                tell(&mut self.pending, &self.cts, Some(ct));
+                tell_anew(&mut self.pending, &self.cts, ct);
                 Ok(number)
             }
             Err(_) => Err(NiFault::NoMemory),
