@@ -7,8 +7,9 @@ use handle_store::Store;
 use memory_desc::Region;
 use ptl_types::{
     AckRequest, Appended, Bytes, ElemType, Entry, EqGot, EventKind, Handle, Header, Limits, List,
-    Message, MessageKind, NiFault, Outcome, UnexpectedHeader,
+    Message, MessageKind, NiFault, NoMemory, Outcome, UnexpectedHeader,
 };
+use std::alloc::Global;
 use std::test::Fail;
 
 const LIMITS: Limits = Limits {
@@ -62,126 +63,140 @@ const PUT: Header = Header {
 
 const DEAD: Handle = Handle { slot: 0, stamp: 7 };
 
+/// A target with what is handed to it. Its calls tell the prover nothing, so that a test is proved line by line.
+#[derive(Drop)]
+struct Host {
+    region: Region,
+    cts: Store<Counter>,
+    eqs: Store<Queue>,
+    target: Target,
+}
+
+impl Host {
+    fn open(alloc: Global) -> Result<Host, NoMemory> {
+        Ok(Host {
+            region: Region::new(Bytes::of(alloc, &[0, 0, 0, 0])?),
+            cts: Store::open(alloc, 1)?,
+            eqs: Store::open(alloc, 1)?,
+            target: Target::open(alloc, 0, &LIMITS)?,
+        })
+    }
+
+    fn open_queue(&mut self, alloc: Global) -> Option<Handle> {
+        let queue = Queue::open(alloc, 8).ok()?;
+        self.eqs.insert(queue).ok()
+    }
+
+    fn pt_alloc(&mut self, alloc: Global, index: u32, eq: Option<Handle>) -> Result<(), NiFault> {
+        self.target.pt_alloc(alloc, &self.eqs, index, eq)
+    }
+
+    fn append(&mut self, list: List, entry: Entry) -> Result<(Appended, Option<Handle>), NiFault> {
+        self.target
+            .append(&self.region, &mut self.cts, &mut self.eqs, 0, list, entry)
+    }
+
+    fn search(&mut self, delete: bool) -> Result<Option<UnexpectedHeader>, NiFault> {
+        self.target.search(&mut self.eqs, 0, &ENTRY, delete)
+    }
+
+    /// Leaves a header of this length at index 0.
+    fn leave_header(&mut self, entry: Handle, length: u64) {
+        let header = Header { length, ..PUT };
+        if !self.target.headers.is_full() {
+            self.target.headers.add(
+                0,
+                UnexpectedHeader {
+                    entry,
+                    place: 0,
+                    delivered: length,
+                    header,
+                },
+            );
+        }
+    }
+
+    /// The kind of the oldest event of a queue.
+    fn next_kind(&mut self, eq: Handle) -> Option<EventKind> {
+        match self.eqs.get_mut(eq)?.take() {
+            EqGot::Got(event) => Some(event.kind),
+            _ => None,
+        }
+    }
+}
+
 #[test]
 fn indices_come_and_go(rt: HostRuntime) -> Result<(), Fail> {
-    let eqs: Store<Queue> = Store::open(rt.alloc(), 1)?;
-    let mut target = Target::open(rt.alloc(), 0, &LIMITS)?;
     let alloc = rt.alloc();
-    assert_eq!(rt; target.pt_free(0), Err(NiFault::Stale));
-    assert_eq!(rt;
-        target.pt_alloc(alloc, &eqs, 0, Some(DEAD)),
-        Err(NiFault::Stale)
-    );
-    assert_eq!(rt;
-        target.pt_alloc(alloc, &eqs, 2, None),
-        Err(NiFault::NoSpace)
-    );
-    assert_eq!(rt; target.pt_alloc(alloc, &eqs, 0, None), Ok(()));
-    assert_eq!(rt; target.pt_alloc(alloc, &eqs, 0, None), Err(NiFault::InUse));
-    assert!(rt; !target.names_eq(DEAD));
-    assert_eq!(rt; target.pt_free(0), Ok(()));
+    let mut host = Host::open(alloc)?;
+    assert_eq!(rt; host.target.pt_free(0), Err(NiFault::Stale));
+    assert_eq!(rt; host.pt_alloc(alloc, 0, Some(DEAD)), Err(NiFault::Stale));
+    assert_eq!(rt; host.pt_alloc(alloc, 2, None), Err(NiFault::NoSpace));
+    assert_eq!(rt; host.pt_alloc(alloc, 0, None), Ok(()));
+    assert_eq!(rt; host.pt_alloc(alloc, 0, None), Err(NiFault::InUse));
+    assert!(rt; !host.target.names_eq(DEAD));
+    assert_eq!(rt; host.target.pt_free(0), Ok(()));
     Ok(())
 }
 
 #[test]
 fn entries_come_and_go(rt: HostRuntime) -> Result<(), Fail> {
-    let region = Region::new(Bytes::of(rt.alloc(), &[0, 0, 0, 0])?);
-    let mut cts: Store<Counter> = Store::open(rt.alloc(), 1)?;
-    let mut eqs: Store<Queue> = Store::open(rt.alloc(), 1)?;
-    let mut target = Target::open(rt.alloc(), 0, &LIMITS)?;
+    let mut host = Host::open(rt.alloc())?;
     let list = List::Priority;
-    let stale = target.append(&region, &mut cts, &mut eqs, 0, list, ENTRY);
-    assert_eq!(rt; stale, Err(NiFault::Stale));
-    assert_eq!(rt; target.pt_alloc(rt.alloc(), &eqs, 0, None), Ok(()));
+    assert_eq!(rt; host.append(list, ENTRY), Err(NiFault::Stale));
+    assert_eq!(rt; host.pt_alloc(rt.alloc(), 0, None), Ok(()));
     let uncounted = Entry {
         ct: Some(DEAD),
         ..ENTRY
     };
-    let stale = target.append(&region, &mut cts, &mut eqs, 0, list, uncounted);
-    assert_eq!(rt; stale, Err(NiFault::Stale));
+    assert_eq!(rt; host.append(list, uncounted), Err(NiFault::Stale));
     let past_the_end = Entry { start: 1, ..ENTRY };
-    let outside = target.append(&region, &mut cts, &mut eqs, 0, list, past_the_end);
-    assert_eq!(rt; outside, Err(NiFault::OutOfRegion));
+    assert_eq!(rt; host.append(list, past_the_end), Err(NiFault::OutOfRegion));
     let first = Handle { slot: 0, stamp: 0 };
-    let linked = target.append(&region, &mut cts, &mut eqs, 0, list, ENTRY);
-    assert_eq!(rt; linked, Ok((Appended::Linked(first), None)));
-    let linked = target.append(&region, &mut cts, &mut eqs, 0, List::Overflow, ENTRY);
-    assert!(rt; linked.is_ok());
-    let full = target.append(&region, &mut cts, &mut eqs, 0, list, past_the_end);
-    assert_eq!(rt; full, Err(NiFault::NoSpace));
-    assert!(rt; !target.names_ct(DEAD));
-    assert_eq!(rt; target.pt_free(0), Err(NiFault::InUse));
-    assert_eq!(rt; target.unlink(first), Ok(()));
-    assert_eq!(rt; target.unlink(first), Err(NiFault::Stale));
+    assert_eq!(rt;
+        host.append(list, ENTRY),
+        Ok((Appended::Linked(first), None))
+    );
+    assert!(rt; host.append(List::Overflow, ENTRY).is_ok());
+    assert_eq!(rt; host.append(list, past_the_end), Err(NiFault::NoSpace));
+    assert!(rt; !host.target.names_ct(DEAD));
+    assert_eq!(rt; host.target.pt_free(0), Err(NiFault::InUse));
+    assert_eq!(rt; host.target.unlink(first), Ok(()));
+    assert_eq!(rt; host.target.unlink(first), Err(NiFault::Stale));
     Ok(())
-}
-
-/// The kind of the oldest event of a queue.
-fn next_kind(eqs: &mut Store<Queue>, eq: Handle) -> Option<EventKind> {
-    match eqs.get_mut(eq)?.take() {
-        EqGot::Got(event) => Some(event.kind),
-        _ => None,
-    }
-}
-
-/// Leaves a header of this length at index 0.
-fn leave_header(target: &mut Target, entry: Handle, length: u64) {
-    let header = Header { length, ..PUT };
-    if !target.headers.is_full() {
-        target.headers.add(
-            0,
-            UnexpectedHeader {
-                entry,
-                place: 0,
-                delivered: length,
-                header,
-            },
-        );
-    }
 }
 
 #[test]
 fn headers_are_searched_and_taken(rt: HostRuntime) -> Result<(), Fail> {
-    let region = Region::new(Bytes::of(rt.alloc(), &[0, 0, 0, 0])?);
-    let mut cts: Store<Counter> = Store::open(rt.alloc(), 1)?;
-    let mut eqs: Store<Queue> = Store::open(rt.alloc(), 1)?;
-    let queue = Queue::open(rt.alloc(), 8)?;
-    let eq = eqs.insert(queue).ok().ok_or("a queue has room")?;
-    let mut target = Target::open(rt.alloc(), 0, &LIMITS)?;
-    assert_eq!(rt;
-        target.search(&mut eqs, 0, &ENTRY, false),
-        Err(NiFault::Stale)
-    );
-    assert_eq!(rt; target.pt_alloc(rt.alloc(), &eqs, 0, Some(eq)), Ok(()));
-    assert!(rt; target.names_eq(eq));
+    let mut host = Host::open(rt.alloc())?;
+    assert_eq!(rt; host.search(false), Err(NiFault::Stale));
+    let eq = host.open_queue(rt.alloc()).ok_or("a queue has room")?;
+    assert_eq!(rt; host.pt_alloc(rt.alloc(), 0, Some(eq)), Ok(()));
+    assert!(rt; host.target.names_eq(eq));
     let over = Handle { slot: 0, stamp: 0 };
-    let linked = target.append(&region, &mut cts, &mut eqs, 0, List::Overflow, ENTRY);
+    let linked = host.append(List::Overflow, ENTRY);
     assert_eq!(rt; linked, Ok((Appended::Linked(over), None)));
-    leave_header(&mut target, over, 1);
-    leave_header(&mut target, over, 2);
-    assert_eq!(rt; target.unlink(over), Err(NiFault::InUse));
-    assert_eq!(rt; target.header(0, 1).map(|header| header.delivered), Some(2));
-    let found = target.search(&mut eqs, 0, &ENTRY, false)?;
+    host.leave_header(over, 1);
+    host.leave_header(over, 2);
+    assert_eq!(rt; host.target.unlink(over), Err(NiFault::InUse));
+    let length = host.target.header(0, 1).map(|header| header.delivered);
+    assert_eq!(rt; length, Some(2));
+    let found = host.search(false)?;
     assert_eq!(rt; found.map(|header| header.delivered), Some(1));
     let once = Entry {
         use_once: true,
         ..ENTRY
     };
-    let taken = target.append(&region, &mut cts, &mut eqs, 0, List::Priority, once);
+    let taken = host.append(List::Priority, once);
     assert!(rt; matches!(taken, Ok((Appended::Consumed(_), None))));
-    let linked = target.append(&region, &mut cts, &mut eqs, 0, List::Priority, ENTRY);
+    let linked = host.append(List::Priority, ENTRY);
     assert!(rt; matches!(linked, Ok((Appended::Linked(_), None))));
-    assert!(rt; target.header(0, 0).is_none());
-    let told = [
-        EventKind::Link,
-        EventKind::Search,
-        EventKind::PutOverflow,
-        EventKind::PutOverflow,
-        EventKind::Link,
-    ];
-    for kind in told {
-        assert_eq!(rt; next_kind(&mut eqs, eq), Some(kind));
-    }
+    assert!(rt; host.target.header(0, 0).is_none());
+    assert_eq!(rt; host.next_kind(eq), Some(EventKind::Link));
+    assert_eq!(rt; host.next_kind(eq), Some(EventKind::Search));
+    assert_eq!(rt; host.next_kind(eq), Some(EventKind::PutOverflow));
+    assert_eq!(rt; host.next_kind(eq), Some(EventKind::PutOverflow));
+    assert_eq!(rt; host.next_kind(eq), Some(EventKind::Link));
     Ok(())
 }
 
