@@ -16,9 +16,11 @@ pub record Both : Type 0 where
   pub overflow : List Linked
   pub limit : ℕ
 
+-- the three together
 abbrev pub both : List Linked → List Linked → ℕ → Both
 both priority overflow limit = record { priority = priority; overflow = overflow; limit = limit }
 
+-- one of the lists
 abbrev pub entries : Place → Both → List Linked
 entries Priority b = b.priority
 entries Overflow b = b.overflow
@@ -32,6 +34,7 @@ with_entries Overflow f b = record b { overflow = f b.overflow }
 abbrev pub first_fit : Header → Bool → Both → Option Found
 first_fit h overflow b = or_else (as_found Priority (find (fits h) b.priority)) (if overflow then as_found Overflow (find (fits h) b.overflow) else None)
 
+-- the entry of this handle
 abbrev pub is_named : Handle → Linked → Bool
 is_named me x = same_handle x.handle me
 

@@ -45,6 +45,7 @@ pub fn fits(linked: &Linked, header: &Header) -> bool
         && (!linked.entry.no_truncate || header.length <= space_in(linked, header))
 }
 
+/// The first entry of a list that takes the message.
 fn first_fit(linked: &[Linked], header: &Header) -> Option<Linked>
     ensures { result ≡ first_that (fits_it header.now) linked.now }
 {
@@ -56,6 +57,7 @@ fn first_fit(linked: &[Linked], header: &Header) -> Option<Linked>
     None
 }
 
+/// The entry of this handle in a list.
 fn first_named(linked: &[Linked], handle: Handle) -> Option<Linked>
     ensures { result ≡ first_that (is_named handle) linked.now }
 {
@@ -67,6 +69,7 @@ fn first_named(linked: &[Linked], handle: Handle) -> Option<Linked>
     None
 }
 
+/// Whether an entry of a list names the counting event.
 fn some_names(linked: &[Linked], ct: Handle) -> bool
     ensures { result ≡ entry_names_ct ct linked.now }
 {
@@ -80,6 +83,7 @@ fn some_names(linked: &[Linked], ct: Handle) -> bool
     false
 }
 
+/// Whether a list holds the entry of this handle.
 fn some_is(linked: &[Linked], handle: Handle) -> bool
     ensures { result ≡ holds handle linked.now }
 {
@@ -91,6 +95,7 @@ fn some_is(linked: &[Linked], handle: Handle) -> bool
     false
 }
 
+/// Sets the running offset, in bytes, where it is the entry of this handle.
 fn advance_to(linked: &mut Linked, handle: Handle, to: u64)
     ensures { linked.new ≡ advance_one handle to linked.old }
 {
@@ -99,6 +104,7 @@ fn advance_to(linked: &mut Linked, handle: Handle, to: u64)
     }
 }
 
+/// Sets the running offset, in bytes, of the entry of this handle in a list.
 fn advance_in(linked: &mut [Linked], handle: Handle, to: u64)
     ensures { linked.new ≡ advanced handle to linked.old }
 {
@@ -107,6 +113,7 @@ fn advance_in(linked: &mut [Linked], handle: Handle, to: u64)
     }
 }
 
+/// Takes the entry of this handle out of a list.
 fn unlink_in(linked: &mut Vec<Linked>, handle: Handle)
     ensures entries { linked.new.items ≡ unlinked handle linked.old.items }
     ensures room { vec_capacity linked.new ≡ vec_capacity linked.old }

@@ -13,6 +13,7 @@ use Rattle.ni_model.specs.Arrive.{is_over}
 use Rattle.ni_model.specs.Lists.{Index}
 use Rattle.target_engine.specs.declared.index.Index.{Index as Shelf}
 
+-- an index of the model, from its queue and its lists
 abbrev pub index : Option Handle → Both → Index
 index eq b = record { eq = eq; priority = b.priority; overflow = b.overflow }
 
@@ -21,10 +22,12 @@ abbrev pub seen : Option Shelf → Option Index
 seen None = None
 seen (Some i) = Some (index i.eq i.lists)
 
+-- what a look-up lends
 abbrev pub seen_ref : Option (Bor Shelf) → Option Index
 seen_ref None = None
 seen_ref (Some i) = Some (index i.now.eq i.now.lists)
 
+-- the portal table
 abbrev pub seen_in : List (Option Shelf) → List (Option Index)
 seen_in is = map seen is
 
@@ -60,6 +63,7 @@ abbrev pub live_by : (Handle → ℕ → Bool) → List (Live ℕ) → ℕ
 live_by p [] = 0
 live_by p (x ∷ xs) = (if p x.handle x.value then 1 else 0) + live_by p xs
 
+-- this handle, at any index
 abbrev pub is_handle : Handle → Handle → ℕ → Bool
 is_handle h x k = same_handle x h
 

@@ -18,6 +18,7 @@ use Rattle.ni_model.specs.Arrive.{Side, Parts}
 use Rattle.ni_model.specs.Append.{Appends, Searched, append}
 use Rattle.ni_model.specs.Calls.{entry_slot}
 
+-- a target: its rank, how many entries may be linked, its indices, the stamps given to entries, its headers
 abbrev pub side : ℕ → ℕ → List (Option Index) → ℕ → Held → Side
 side rank limit indices given headers = record { rank = rank; limit = limit; indices = indices; given = given; headers = headers }
 
@@ -26,6 +27,7 @@ abbrev pub FailsBy : Option NiFault → NiFault → Type 0
 FailsBy None fault = fault ≡ NoMemory
 FailsBy (Some first) fault = fault ≡ first
 
+-- what a search leaves, and the header that it found
 abbrev pub has_searched : Parts → Option UnexpectedHeader → Searched
 has_searched p found = record { parts = p; found = found }
 
@@ -35,6 +37,7 @@ told_gone kind is freed a eqs =
     let told = raised (queue_of (index_at a.pt is)) (header_event kind a) eqs in
     if freed then raised (queue_of (index_at a.pt is)) (free_event a.pt) told else told
 
+-- what an append leaves, its answer, and the counting event that rose
 abbrev pub has_appended : Parts → Appended → Option Handle → Appends
 has_appended p appended counted = record { parts = p; appended = appended; counted = counted }
 

@@ -9,6 +9,7 @@ use crate::measures::is_put_or_atomic;
 use ni_model::Arrived;
 use ptl_types::{AckRequest, Bytes, Header, Message, MessageKind, Outcome};
 
+/// The header of the acknowledgement: the message's with the ranks exchanged.
 fn ack_header(ok: bool, count: u64, header: &Header) -> Header
     ensures { result ≡ ack_of ok count header.now }
 {
@@ -26,6 +27,7 @@ fn ack_header(ok: bool, count: u64, header: &Header) -> Header
     }
 }
 
+/// The header of the reply; it asks for no acknowledgement.
 fn reply_header(ok: bool, count: u64, header: &Header) -> Header
     ensures { result ≡ reply_of ok count header.now }
 {
@@ -63,6 +65,7 @@ pub fn reply(header: &Header, count: u64, bytes: Bytes) -> Message
     Message::new(reply_header(true, count, header), bytes)
 }
 
+/// The answer, not ok, to a message that wasn't delivered, where it asked for one.
 fn refusal(message: Message) -> Option<Message>
     ensures { result ≡ answer_of false 0 [] message.header }
 {

@@ -24,6 +24,7 @@ use ni_model::Noted;
 use ptl_types::{Appended, Entry, EventKind, Handle, List as Place, NiFault};
 use unexpected::{Headers, finds};
 
+/// The counting event of an entry that counts the headers that it takes.
 fn overflow_counter(entry: &Entry) -> Option<Handle>
     ensures { result ≡ counter_of entry.now }
 {

@@ -23,12 +23,14 @@ use match_lists::Lists;
 use ptl_types::{Entry, Event, EventKind, Handle, NiFault, UnexpectedHeader};
 use std::alloc::Global;
 
+/// Whether the index is within the limit and allocated.
 pub fn is_allocated(indices: &[Option<Index>], pt: u32) -> bool
     ensures { result ≡ is_some (index_at pt (seen_in indices.now)) }
 {
     shelf_at(indices, pt).is_some()
 }
 
+/// Whether one of its lists holds an entry.
 fn holds_entries(indices: &[Option<Index>], pt: u32) -> bool
     ensures { result ≡ nat_lt 0 (entries_in (index_at pt (seen_in indices.now))) }
 {
@@ -129,6 +131,7 @@ impl Target {
         Ok(Some(noted.header))
     }
 
+    /// Takes out the oldest header that the entry finds, and tells of it.
     fn delete_oldest(
         &mut self,
         eqs: &mut Store<Queue>,

@@ -11,6 +11,7 @@ use handle_store::Store;
 use ni_model::Found;
 use ptl_types::{Event, EventKind, Handle, Header, List, MessageKind};
 
+/// The event of a message that a priority entry took; a swap is told as a fetch-atomic.
 fn kind_delivered(kind: MessageKind) -> EventKind
     ensures { result ≡ kind_of kind }
 {
@@ -56,6 +57,7 @@ pub fn entry_event(kind: EventKind, pt: u32, match_bits: u64, ok: bool) -> Event
     }
 }
 
+/// The message's event, where it went to the priority list.
 fn raise_delivery(eqs: &mut Store<Queue>, eq: Option<Handle>, found: &Found, header: &Header)
     requires { found.now.linked.entry.start + found.now.linked.entry.length < 2 ^ 64 }
     ensures { eqs.new ≡ delivery_raised found.now header.now eq eqs.old }

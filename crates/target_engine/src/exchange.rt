@@ -16,6 +16,7 @@ use memory_desc::Region;
 use ni_model::Linked;
 use ptl_types::{Bytes, Header, Message, MessageKind};
 
+/// A put writes the bytes that are delivered.
 fn write_put(region: &mut Region, linked: &Linked, message: &Message)
     requires part { IsPartIn (length region.old) linked.now }
     requires put { message.now.header.kind ≡ MessageKind.Put }
@@ -105,6 +106,7 @@ fn exchange_part(region: &mut Region, linked: &Linked, header: &Header, bytes: B
     items
 }
 
+/// An atomic, a fetch-atomic or a swap: the region's elements become new ones, and the old ones are answered where asked.
 fn exchange_elements(region: &mut Region, linked: &Linked, message: Message) -> Option<Message>
     requires part { IsPartIn (length region.old) linked.now }
     requires elements { has_elements message.header.kind ≡ true }

@@ -17,6 +17,7 @@ use ni_model::Noted;
 use ptl_types::{Entry, Event, EventKind, Handle, List as Place, MessageKind};
 use unexpected::{Headers, finds, found_names, left_names};
 
+/// Whether the overflow list of this index holds the entry.
 fn is_in_overflow(indices: &[Option<Index>], pt: u32, entry: Handle) -> bool
     ensures { result ≡ is_linked_at Place.Overflow entry (index_at pt (seen_in indices.now)) }
 {

@@ -15,29 +15,35 @@ use ptl_types::{Entry, Handle, Header, List};
 /// An allocated index: its event queue and its two lists.
 #[derive(Drop)]
 pub struct Index {
+    /// Its event queue, if it has one.
     pub eq: Option<Handle>,
+    /// Its priority list and its overflow list.
     pub lists: Lists,
 }
 
 impl Index {
+    /// The entry that takes the message; the overflow list is for puts and atomics alone.
     pub fn choose(&self, header: &Header) -> Option<Found>
         ensures { result ≡ choose header.now (index self.now.eq self.now.lists) }
     {
         self.lists.find(header, is_put_or_atomic(header.kind))
     }
 
+    /// Whether one of its lists holds an entry.
     pub fn holds_entries(&self) -> bool
         ensures { result ≡ nat_lt 0 (entries_in (Some (index self.now.eq self.now.lists))) }
     {
         self.lists.len(List::Priority) > 0 || self.lists.len(List::Overflow) > 0
     }
 
+    /// Whether its overflow list holds the entry.
     pub fn is_in_overflow(&self, entry: Handle) -> bool
         ensures { result ≡ is_linked entry self.now.lists.overflow }
     {
         self.lists.is_linked(List::Overflow, entry)
     }
 
+    /// What becomes of the entry that took the message: unlinked, advanced or left as it is.
     #[tactic(auto, using(crate::proofs::Views::index_views))]
     fn settle(&mut self, found: &Found, header: &Header)
         ensures after { index self.new.eq self.new.lists ≡ settled found.now header.now (index self.old.eq self.old.lists) }
@@ -64,6 +70,7 @@ pub fn shelf_at(indices: &[Option<Index>], pt: u32) -> Option<&Index>
     }
 }
 
+/// The entry that takes the message, with its list; `None` also where the index isn't allocated.
 pub fn chosen_in(indices: &[Option<Index>], header: &Header) -> Option<Found>
     ensures { result ≡ chosen header.now (seen_in indices.now) }
 {
@@ -73,6 +80,7 @@ pub fn chosen_in(indices: &[Option<Index>], header: &Header) -> Option<Found>
     }
 }
 
+/// The event queue of this index, if it has one.
 pub fn queue_at(indices: &[Option<Index>], pt: u32) -> Option<Handle>
     ensures { result ≡ queue_of (index_at pt (seen_in indices.now)) }
 {
@@ -82,6 +90,7 @@ pub fn queue_at(indices: &[Option<Index>], pt: u32) -> Option<Handle>
     }
 }
 
+/// The same, where the index is allocated.
 fn settle_slot(slot: &mut Option<Index>, found: &Found, header: &Header)
     ensures after { seen slot.new ≡ settled_at found.now header.now (seen slot.old) }
     ensures rooms { (limit : ℕ) → HasRooms limit slot.old → HasRooms limit slot.new }
@@ -115,6 +124,7 @@ pub fn put(indices: &mut [Option<Index>], pt: u32, index: Option<Index>)
     }
 }
 
+/// Links an entry at the end of a list, where the index is allocated.
 #[tactic(auto, using(crate::proofs::Views::linking))]
 fn link_slot(slot: &mut Option<Index>, list: List, handle: Handle, entry: Entry)
     requires { MayLink list slot.old }
@@ -139,6 +149,7 @@ pub fn link_at(indices: &mut [Option<Index>], pt: u32, list: List, handle: Handl
     }
 }
 
+/// Unlinks an entry from both lists, where the index is allocated.
 fn unlink_slot(slot: &mut Option<Index>, me: Handle)
     ensures after { seen slot.new ≡ unlinked_in me (seen slot.old) }
     ensures rooms { (limit : ℕ) → HasRooms limit slot.old → HasRooms limit slot.new }

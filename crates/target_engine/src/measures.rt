@@ -9,12 +9,14 @@ use ni_model::Linked;
 use ptl_types::{ElemType, Header, MessageKind};
 use std::cmp;
 
+/// The operations that may go to the overflow list.
 pub fn is_put_or_atomic(kind: MessageKind) -> bool
     ensures { result ≡ puts kind }
 {
     matches!(kind, MessageKind::Put | MessageKind::Atomic)
 }
 
+/// The operations on elements.
 pub fn has_elements(kind: MessageKind) -> bool
     ensures { result ≡ elements kind }
 {
@@ -24,6 +26,7 @@ pub fn has_elements(kind: MessageKind) -> bool
     )
 }
 
+/// The bytes of whole elements, for the operations on elements.
 fn whole(kind: MessageKind, ty: ElemType, n: u64) -> u64
     ensures { result ≡ whole_of kind ty n }
 {

@@ -43,6 +43,7 @@ fn element_bits(ty: ElemType, operand: u64) -> u64
     }
 }
 
+/// The bit pattern that a swap writes over `old`, where `new` came.
 fn swapped(op: SwapOp, ty: ElemType, operand: u64, old: u64, new: u64) -> u64
     ensures { result ≡ swapped_of op ty operand old new }
 {

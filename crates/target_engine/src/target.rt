@@ -26,6 +26,7 @@ use std::alloc::Global;
 use std::marker::Model;
 use unexpected::{Headers, allows};
 
+/// One success on the entry's counting event, where it counts communication.
 fn count_message(cts: &mut Store<Counter>, linked: &Linked)
     ensures { cts.new ≡ counts_after linked.now cts.old }
 {
@@ -33,6 +34,7 @@ fn count_message(cts: &mut Store<Counter>, linked: &Linked)
     count(cts, ct, successes(1));
 }
 
+/// A message in the overflow list leaves its header.
 fn note_header(headers: &mut Headers, found: &Found, header: &Header)
     requires room { HasRoom found.now.list headers.old }
     requires part { found.now.linked.entry.start + found.now.linked.entry.length < 2 ^ 64 }
@@ -51,6 +53,7 @@ fn note_header(headers: &mut Headers, found: &Found, header: &Header)
     }
 }
 
+/// Whether it is the overflow list.
 fn is_overflow(list: List) -> bool
     ensures { result ≡ overflows list }
 {
@@ -60,6 +63,7 @@ fn is_overflow(list: List) -> bool
     }
 }
 
+/// The outcome of a delivery to this list.
 fn outcome_in(list: List) -> Outcome
     ensures { result ≡ outcome_of list }
 {
@@ -102,6 +106,7 @@ impl Model for Target {
     ghost invariant = { λ t. IsKept t.limit t.indices.items t.places };
 }
 
+/// As many places for indices as the limit, none of them allocated.
 fn empty_indices(alloc: Global, pts: u32) -> Result<Vec<Option<Index>>, NoMemory>
     ensures { IfOk result (λ v. v.items ≡ replicate pts None) }
 {
@@ -167,6 +172,7 @@ impl Target {
         self.accept(region, cts, eqs, message, &found)
     }
 
+    /// The delivery to the entry that was found: memory, count, header, entry, events and the answer.
     fn accept(
         &mut self,
         region: &mut Region,

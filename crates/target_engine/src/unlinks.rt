@@ -9,6 +9,7 @@ use crate::index::{Index, unlink_at};
 use crate::target::Target;
 use ptl_types::{Handle, NiFault};
 
+/// Whether an entry of some index names the counting event.
 fn some_names_ct(indices: &[Option<Index>], ct: Handle) -> bool
     ensures { result ≡ index_names_ct ct (seen_in indices.now) }
 {
@@ -22,6 +23,7 @@ fn some_names_ct(indices: &[Option<Index>], ct: Handle) -> bool
     false
 }
 
+/// Whether some index has the event queue.
 fn some_names_eq(indices: &[Option<Index>], eq: Handle) -> bool
     ensures { result ≡ index_names_eq eq (seen_in indices.now) }
 {

@@ -35,6 +35,7 @@ pub fn finds(noted: &Noted, pt: u32, entry: &Entry) -> bool
         && allows(entry, noted.header.header.kind)
 }
 
+/// The place of the oldest header that the entry finds, counted from the oldest of all.
 fn place_of(noted: &[Noted], pt: u32, entry: &Entry) -> Option<usize>
     ensures none { IfNone result ((oldest pt entry.now noted.now ≡ None) × (without_oldest pt entry.now noted.now ≡ noted.now)) }
     ensures within { IfSome result (λ i. i < length noted.now) }
@@ -48,6 +49,7 @@ fn place_of(noted: &[Noted], pt: u32, entry: &Entry) -> Option<usize>
     None
 }
 
+/// The oldest header that the entry finds.
 fn first_found(noted: &[Noted], pt: u32, entry: &Entry) -> Option<Noted>
     ensures { result ≡ oldest pt entry.now noted.now }
 {
@@ -59,6 +61,7 @@ fn first_found(noted: &[Noted], pt: u32, entry: &Entry) -> Option<Noted>
     None
 }
 
+/// Whether the bytes of a header lie in the memory of this entry.
 fn some_lies_in(noted: &[Noted], entry: Handle) -> bool
     ensures { result ≡ names_entry entry noted.now }
 {
@@ -94,6 +97,7 @@ pub fn left_names(noted: &[Noted], pt: u32, entry: &Entry, me: Handle) -> bool
     false
 }
 
+/// Takes out all headers that the entry finds.
 fn drop_found(noted: &mut Vec<Noted>, pt: u32, entry: &Entry)
     ensures left { noted.new.items ≡ left_in pt entry.now noted.old.items }
     ensures room { vec_capacity noted.new ≡ vec_capacity noted.old }
@@ -101,6 +105,7 @@ fn drop_found(noted: &mut Vec<Noted>, pt: u32, entry: &Entry)
     noted.retain(|x| !finds(x, pt, entry));
 }
 
+/// Whether a header of this index is among them.
 fn some_is_of(noted: &[Noted], pt: u32) -> bool
     ensures { result ≡ nat_lt 0 (length (headers_of pt noted.now)) }
 {
@@ -112,6 +117,7 @@ fn some_is_of(noted: &[Noted], pt: u32) -> bool
     false
 }
 
+/// Header number i of an index, from 0.
 fn number_of(noted: &[Noted], pt: u32, i: u32) -> Option<&UnexpectedHeader>
     ensures { option_copied result ≡ header_at pt i noted.now }
 {
