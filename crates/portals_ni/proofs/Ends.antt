@@ -1,6 +1,5 @@
 -- How a call ends, by the fault that it finds.
-use Rattle.std.proofs.Common.{◌≡◌, ℕ, Bool, true, false, ◌==◌, ◌||◌, suc, ◌+◌, ◌≤◌, List, [], ◌∷◌, Option, Some, None, Result, Ok, Err, is_ok, refl, arith}
-use Rattle.std.specs.Prelude.{IsTrue}
+use Rattle.std.proofs.Common.{◌≡◌, ℕ, false, suc, ◌+◌, ◌≤◌, List, [], ◌∷◌, Option, Some, None, Ok, Err, refl, arith}
 use Rattle.std.proofs.lemmas.Bool.Decides.{nat_tests}
 use Rattle.ptl_types.specs.declared.calls.NiFault.{NiFault}
 use Rattle.ptl_types.specs.declared.calls.NiFault.TheVariants.{NoMemory}
@@ -8,7 +7,7 @@ use Rattle.ni_model.specs.declared.Linked.{Linked}
 use Rattle.ni_model.specs.Tables.{Live, has_slot}
 use Rattle.ni_model.specs.Lists.{Index}
 use Rattle.ni_model.specs.State.{State}
-use Rattle.ni_model.specs.Calls.{Done, ends, ends_by, MayLackMemory, enough, lacking, slot_in, entry_slot}
+use Rattle.ni_model.specs.Calls.{ends, ends_by, MayLackMemory, enough, lacking, slot_in, entry_slot}
 use Rattle.initiator_engine.specs.Initiators.{by_fault}
 use Rattle.target_engine.specs.Sides.{FailsBy}
 

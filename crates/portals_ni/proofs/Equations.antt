@@ -1,7 +1,6 @@
 -- How each call ends, from what its parts did.
-use Rattle.std.proofs.Common.{◌≡◌, ℕ, Bool, true, false, not, List, [], Option, Some, None, Result, Ok, Err, IsSome, IsTrue, ◌↔◌, is_some, length, refl, sym, subst, ap, ◌∙◌}
+use Rattle.std.proofs.Common.{◌≡◌, ℕ, Bool, true, false, List, [], Option, Some, None, Result, Ok, Err, IsSome, IsTrue, ◌↔◌, is_some, length, refl, sym, subst, ap, ◌∙◌}
 use Rattle.std.specs.Prelude.{All, IfOk, IfErr, OnErr, OnOk, IfSome, IfNone, option_map, map}
-use Rattle.std.proofs.lemmas.List.Elements.{All-filter}
 use Rattle.ptl_types.specs.declared.handles.Handle.{Handle}
 use Rattle.ptl_types.specs.declared.handles.Count.{Count}
 use Rattle.ptl_types.specs.declared.entries.Entry.{Entry}
@@ -19,7 +18,7 @@ use Rattle.ni_model.specs.declared.Arrived.{Arrived}
 use Rattle.ni_model.specs.Tables.{Table, lookup, changed, has_slot, handle, with_new, without, is_full}
 use Rattle.ni_model.specs.Counts.{plus, successes}
 use Rattle.ni_model.specs.Queues.{Waiting, queue, after_take}
-use Rattle.ni_model.specs.Arrive.{Side, Parts, parts, received, request}
+use Rattle.ni_model.specs.Arrive.{Side, parts, received, request}
 use Rattle.ni_model.specs.Answers.{home, answered}
 use Rattle.ni_model.specs.Starts.{started}
 use Rattle.ni_model.specs.Append.{append_fault, is_allocated, search}

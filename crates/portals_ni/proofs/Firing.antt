@@ -1,5 +1,5 @@
 -- The pending operations as the model has them: which are ready, and what firing one does.
-use Rattle.std.proofs.Common.{◌≡◌, ℕ, ◌+◌, ◌==◌, Bool, true, false, not, nat_lt, List, [], ◌∷◌, ◌++◌, Option, Some, None, nat_le, length, find, filter, if◌then◌else◌, refl, sym, subst, ap, ◌∙◌, arith}
+use Rattle.std.proofs.Common.{◌≡◌, ℕ, ◌==◌, Bool, true, false, not, nat_lt, List, [], ◌∷◌, ◌++◌, Option, Some, None, nat_le, length, find, filter, if◌then◌else◌, refl, sym, subst, ap, ◌∙◌, arith}
 use Rattle.std.specs.Prelude.{All, map, option_map}
 use Rattle.std.proofs.lemmas.Bool.Decides.{nat_tests}
 use Rattle.std.proofs.lemmas.List.Elements.{All-head, All-tail, All-cons, All-push, All-nil}
@@ -15,7 +15,7 @@ use Rattle.ni_model.specs.Counts.{total}
 use Rattle.ni_model.specs.State.{State, Posted, home_of, with_home}
 use Rattle.ni_model.specs.Ready as model
 use Rattle.ni_model.specs.Ready.{is_reached, is_ready_op, Fires, fires, done, fired_op, fired}
-use Rattle.ni_model.specs.Starts.{Started, started}
+use Rattle.ni_model.specs.Starts.{started}
 use Rattle.ni_model.specs.Refusals.{no_number}
 use Rattle.target_engine.proofs.Within.{find_has}
 use Rattle.initiator_engine.specs.Initiators.{is_start}

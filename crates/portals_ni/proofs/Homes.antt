@@ -1,6 +1,6 @@
 -- What a start, an answer, a binding and a release leave of what an interface keeps.
-use Rattle.std.proofs.Common.{◌≡◌, ℕ, ◌+◌, ◌≤◌, Bool, true, false, not, ◌&&◌, ◌||◌, List, [], ◌∷◌, ◌++◌, Option, Some, None, nat_le, nat_lt, length, filter, is_some, if◌then◌else◌, refl, sym, subst, ◌∙◌, arith}
-use Rattle.std.specs.Prelude.{All, map}
+use Rattle.std.proofs.Common.{◌≡◌, ℕ, ◌+◌, ◌≤◌, Bool, true, false, not, ◌&&◌, ◌||◌, List, [], ◌∷◌, Option, Some, None, nat_le, nat_lt, length, is_some, if◌then◌else◌, refl, subst, ◌∙◌, arith}
+use Rattle.std.specs.Prelude.{All}
 use Rattle.std.proofs.lemmas.Bool.Decides.{nat_tests}
 use Rattle.std.proofs.lemmas.List.Elements.{All-head, All-tail, All-cons, All-push, All-filter}
 use Rattle.op_laws.proofs.Bytes.{length-written}
@@ -10,7 +10,6 @@ use Rattle.ptl_types.specs.declared.headers.MessageKind.{MessageKind}
 use Rattle.ptl_types.specs.declared.headers.MessageKind.TheVariants.{Reply}
 use Rattle.ptl_types.specs.declared.calls.PutArgs.{PutArgs}
 use Rattle.ptl_types.specs.declared.calls.GetArgs.{GetArgs}
-use Rattle.ptl_types.specs.declared.calls.NiFault.TheVariants.{Stale, OutOfRegion}
 use Rattle.ptl_types.specs.declared.calls.Deed.{Deed}
 use Rattle.ptl_types.specs.declared.calls.Deed.TheVariants.{Put, Get, Atomic, FetchAtomic, Swap, Inc, Set}
 use Rattle.ptl_types.specs.Handles.{same_handle}
@@ -20,8 +19,8 @@ use Rattle.ni_model.specs.declared.Bound.{Bound}
 use Rattle.ni_model.specs.Tables.{Live, Table, lookup, change, change_one, changed, is_live, with_new, without}
 use Rattle.ni_model.specs.Counts.{successes}
 use Rattle.ni_model.specs.Events.{is_reply}
-use Rattle.ni_model.specs.Answers.{Home, home, bound_at, is_due, memory_home, one_answer, counter_home, one_less, awaits_less, came_home, lost_answer, answered_at, answered}
-use Rattle.ni_model.specs.Starts.{header_of, one_awaited, awaits_more, sent_from, send_counter, counted_on, started_by, started}
+use Rattle.ni_model.specs.Answers.{Home, bound_at, is_due, memory_home, one_answer, counter_home, one_less, awaits_less, came_home, lost_answer, answered_at, answered}
+use Rattle.ni_model.specs.Starts.{header_of, one_awaited, awaits_more, send_counter, counted_on, started_by, started}
 use Rattle.ni_model.specs.Conditions.{IsBoundIn, IsKept}
 use Rattle.ni_model.specs.Refusals.{holds_part, deed_is_live, put_fits, get_fits, deed_fits, deed_fault, deed_names_md}
 use Rattle.initiator_engine.specs.Initiators.{AreBoundIn}

@@ -1,8 +1,8 @@
 -- What an interface keeps, through each of its calls.
-use Rattle.std.proofs.Common.{◌≡◌, ℕ, ◌+◌, ◌≤◌, Bool, true, false, not, ◌&&◌, ◌||◌, nat_le, Result, Ok, Err, List, [], ◌∷◌, ◌++◌, Option, Some, None, length, filter, is_some, refl, sym, subst, ap, ◌∙◌, arith}
-use Rattle.std.specs.Prelude.{All, map, option_map, IfOk, OnErr, OnOk}
+use Rattle.std.proofs.Common.{◌≡◌, ℕ, ◌+◌, ◌≤◌, Bool, true, false, not, ◌&&◌, ◌||◌, nat_le, Result, Ok, Err, List, [], Option, Some, None, length, is_some, refl, sym, subst, ◌∙◌, arith}
+use Rattle.std.specs.Prelude.{All, map, IfOk, OnErr, OnOk}
 use Rattle.std.proofs.lemmas.Bool.Decides.{nat_tests}
-use Rattle.std.proofs.lemmas.List.Elements.{All-weaker, All-filter, All-nil, All-push}
+use Rattle.std.proofs.lemmas.List.Elements.{All-weaker, All-filter, All-push}
 use Rattle.ptl_types.specs.declared.handles.Handle.{Handle}
 use Rattle.ptl_types.specs.declared.handles.Count.{Count}
 use Rattle.ptl_types.specs.declared.calls.Limits.{Limits}
@@ -15,7 +15,7 @@ use Rattle.ptl_types.specs.Handles.{top}
 use Rattle.ptl_types.specs.declared.calls.Deed.{Deed}
 use Rattle.ptl_types.specs.declared.calls.Deed.TheVariants.{Put, Get, Atomic, FetchAtomic, Swap, Inc, Set}
 use Rattle.ni_model.specs.declared.Bound.{Bound}
-use Rattle.ni_model.specs.Tables.{Table, lookup, no_things, with_new, is_live_or_none, is_full}
+use Rattle.ni_model.specs.Tables.{Table, lookup, no_things, with_new, is_live_or_none}
 use Rattle.ptl_types.specs.declared.entries.List.{List as Place}
 use Rattle.ptl_types.specs.declared.calls.Appended.{Appended}
 use Rattle.ni_model.specs.Append.{Searched, need, search, is_within, is_allocated, linked_count, append_fault}
@@ -23,13 +23,12 @@ use Rattle.ni_model.specs.Calls.{bound, unlinked_in}
 use Rattle.ni_model.specs.Refusals.{bind_fault, triggered_fault, deed_passes}
 use Rattle.ni_model.specs.State.{Operations as Posts}
 use Rattle.ptl_types.specs.Filled.{Filled}
-use Rattle.ni_model.specs.Counts.{total}
 use Rattle.ni_model.specs.Queues.{Waiting}
 use Rattle.ni_model.specs.Headers.{held}
 use Rattle.ni_model.specs.Arrive.{Side, Parts, parts}
-use Rattle.ni_model.specs.Answers.{Home, home}
+use Rattle.ni_model.specs.Answers.{home}
 use Rattle.ni_model.specs.Conditions.{HasPartsIn, IsBoundIn, MayStart}
-use Rattle.initiator_engine.specs.Initiators.{Initiating, initiating, with_mds, AreBoundIn, room_for}
+use Rattle.initiator_engine.specs.Initiators.{Initiating, initiating, with_mds, room_for}
 use Rattle.target_engine.specs.Sides.{side, has_searched, has_appended, AppendsSome}
 use Rattle.triggered_ops.specs.Operations.{Operation, Operations, no_operations, is_number, waits_on, with_posted, without_number, cancelled}
 use Rattle.portals_ni.specs.declared.armed.Armed.{Armed}

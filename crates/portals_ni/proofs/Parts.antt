@@ -1,5 +1,5 @@
 -- Entries' parts stay in the region, through each change of the entries and of the region.
-use Rattle.std.proofs.Common.{◌≡◌, ℕ, zero, suc, ◌+◌, ◌*◌, ◌/◌, ◌%◌, ◌<◌, ◌≤◌, Bool, true, false, not, List, [], ◌∷◌, ◌++◌, Option, Some, None, take, length, min, if◌then◌else◌, refl, arith, div-add-mod'}
+use Rattle.std.proofs.Common.{◌≡◌, ℕ, ◌+◌, ◌/◌, ◌≤◌, true, false, not, List, [], ◌∷◌, Option, Some, None, take, length, if◌then◌else◌, refl, arith, div-add-mod'}
 use Rattle.std.specs.Prelude.{All, map, replicate, slice_set}
 use Rattle.std.proofs.lemmas.List.{length-take}
 use Rattle.std.proofs.lemmas.List.Elements.{All-head, All-tail, All-cons, All-push, All-nil, All-filter, All-set, All-replicate}

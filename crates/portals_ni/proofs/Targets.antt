@@ -11,9 +11,8 @@ use Rattle.ni_model.specs.declared.Found.{Found}
 use Rattle.ni_model.specs.declared.Noted.{Noted}
 use Rattle.ni_model.specs.Counts.{successes}
 use Rattle.ni_model.specs.Headers.{allows, no_room, oldest, found_in}
-use Rattle.ni_model.specs.Lists.{index_at}
 use Rattle.ni_model.specs.Arrive.{Parts, Received, received, refused, request, judged, accepted, chosen, is_overflow, counter_of}
-use Rattle.ni_model.specs.Append.{Appends, Searched, append, append_priority, append_once, linked_as, link_entry, take_all, take_oldest, overflow_counter, counted_by, fresh, next_handle, search, searched_at, found_header}
+use Rattle.ni_model.specs.Append.{Appends, append, append_once, linked_as, take_all, overflow_counter, counted_by, fresh, next_handle, search, searched_at, found_header}
 use Rattle.ni_model.specs.Conditions.{IsPartIn, HasPartsIn}
 use Rattle.target_engine.proofs.Within.{chosen-within}
 use Rattle.portals_ni.proofs.Counts.{ChangesAt, changes-none, changes-counted, changes-each}

@@ -1,17 +1,15 @@
 -- The pending operations know how far their counting events are.
-use Rattle.std.proofs.Common.{◌≡◌, ℕ, ◌==◌, Bool, true, false, List, [], ◌∷◌, Option, Some, None, is_some, if◌then◌else◌, refl, sym, ap, subst, ◌∙◌, arith}
+use Rattle.std.proofs.Common.{◌≡◌, ℕ, true, false, List, [], ◌∷◌, Option, Some, None, is_some, if◌then◌else◌, refl, sym, ap, ◌∙◌, arith}
 use Rattle.std.specs.Prelude.{All, map, option_map}
 use Rattle.std.proofs.lemmas.Bool.Decides.{nat_tests}
 use Rattle.std.proofs.lemmas.List.Elements.{All-head, All-tail, All-cons, All-nil}
 use Rattle.ptl_types.specs.declared.handles.Handle.{Handle}
 use Rattle.ptl_types.specs.declared.handles.Count.{Count}
-use Rattle.ptl_types.specs.declared.calls.Deed.{Deed}
 use Rattle.ptl_types.specs.Handles.{same_handle}
 use Rattle.ni_model.specs.Tables.{Table, lookup, names}
 use Rattle.ni_model.specs.Counts.{total}
-use Rattle.ni_model.specs.State.{Posted}
 use Rattle.handle_store.proofs.StoreLemmas.{same_by_parts}
-use Rattle.triggered_ops.specs.Operations.{Operation, Operations, told_one, told, posted, posted_all}
+use Rattle.triggered_ops.specs.Operations.{Operation, Operations, told_one, posted, posted_all}
 use Rattle.portals_ni.specs.declared.armed.Armed.{Armed}
 use Rattle.portals_ni.specs.Pendings.{deed_in, tell_at, told_by}
 use Rattle.portals_ni.specs.Sound.{IsTold}

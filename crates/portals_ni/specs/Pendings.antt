@@ -17,6 +17,7 @@ abbrev pub tell_at : Handle → Option Count → Operations Armed → Operations
 tell_at h None ops = ops
 tell_at h (Some c) ops = told h (total c) ops
 
+-- the same of the counting event that rose, if one did
 abbrev pub told_by : Option Handle → Table Count → Operations Armed → Operations Armed
 told_by None cts ops = ops
 told_by (Some h) cts ops = tell_at h (lookup h cts.live) ops
@@ -26,5 +27,6 @@ abbrev pub tell_anew : Handle → Option Count → Operations Armed → Operatio
 tell_anew h None ops = ops
 tell_anew h (Some c) ops = if nat_lt 0 (total c) then told h (total c) ops else ops
 
+-- by the counting event in its table
 abbrev pub told_anew : Handle → Table Count → Operations Armed → Operations Armed
 told_anew h cts ops = tell_anew h (lookup h cts.live) ops

@@ -44,6 +44,7 @@ pub record IsArmed (mds : Table Bound) (ranks : ℕ) (limits : Limits) (a : Arme
 abbrev pub IsTold : Table Count → Operation Armed → Type 0
 IsTold cts w = option_map total (lookup w.ct cts.live) ≡ Some w.told
 
+-- what an interface keeps of its parts, and so what each of its calls may rely on
 pub record IsSound (t : Side) (memory : List ℕ) (cts : Table Count) (i : Initiating) (ops : Operations Armed) : Type 0 where
   -- both engines have the same rank and limits
   pub rank : i.rank ≡ t.rank

@@ -31,12 +31,12 @@ fn raise_violations(violations: u64, outcome: Outcome) -> u64
 }
 
 impl Nic {
-    #[tactic(auto, unfolding(ni_model::specs::State::target))]
     /// Handles a message that arrived (Portals 4.3, matching, overflow lists, acknowledgements and replies). The outcome is
     /// `Matched` in the priority list, `Overflow` in the overflow list, `Violation` where the first match doesn't allow the
     /// operation, `Answered` for an acknowledgement or a reply that was awaited, and else `Dropped`. The answer is there where
     /// the message asked for one, and uses the message's own bytes, so that this takes no memory. Condition: the message is
     /// for this rank.
+    #[tactic(auto, unfolding(ni_model::specs::State::target))]
     pub fn deliver(&mut self, message: Message) -> Delivered
         requires { message.header.target ≡ self.old.rank }
         ensures { record { state = self.new; delivered = result } ≡ target self.old message }
@@ -48,6 +48,7 @@ impl Nic {
         }
     }
 
+    /// A request at its target: the engine's parts change, and the counting event that rose is told to the pending operations.
     fn take_request(&mut self, message: Message) -> Delivered
         requires { is_answer message.header.kind ≡ false }
         ensures { record { state = self.new; delivered = result } ≡ after_request self.old (request (parts_of self.old) message) }
@@ -64,6 +65,7 @@ impl Nic {
         }
     }
 
+    /// An acknowledgement or a reply that comes home.
     fn take_answer(&mut self, message: Message) -> Delivered
         ensures { record { state = self.new; delivered = result } ≡ after_answer self.old (answered (home_of self.old) message) }
     {

@@ -159,6 +159,7 @@ impl Nic {
         self.start(&Deed::Swap(back, args, op, ty, operand))
     }
 
+    /// Starts what the deed says, with room for its bytes.
     fn start(&mut self, deed: &Deed) -> Result<Message, NiFault>
         requires start { starts deed.now ≡ true }
         requires may { MayStart deed.now self.old.ranks self.old.limits }

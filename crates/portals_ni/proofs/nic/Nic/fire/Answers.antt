@@ -1,13 +1,10 @@
-use Rattle.std.proofs.Common.{◌≡◌, ◌≤◌, true, false, Some, None, sym, subst, ◌∙◌}
-use Rattle.std.specs.Prelude.{option_map}
+use Rattle.std.proofs.Common.{◌≡◌, true, false, sym, subst, ◌∙◌}
 use Rattle.ni_model.specs.Answers.{home}
 use Rattle.ni_model.specs.Ready.{is_ready}
 use Rattle.ni_model.specs.Starts.{Started}
-use Rattle.initiator_engine.specs.Initiators.{is_start, room_for}
-use Rattle.triggered_ops.specs.Operations.{deed_of, operation_at}
-use Rattle.portals_ni.specs.Answers.{deed_counts}
+use Rattle.initiator_engine.specs.Initiators.{is_start}
 use Rattle.portals_ni.specs.Pendings.{told_by}
-use Rattle.portals_ni.specs.Sound.{IsArmed, IsSound}
+use Rattle.portals_ni.specs.Sound.{IsSound}
 use Rattle.portals_ni.proofs.Counts.{ChangesAt}
 use Rattle.portals_ni.proofs.Equations.{fire-counts, fire-starts}
 use Rattle.portals_ni.proofs.Firing.{ready-none, taken-armed}

@@ -1,4 +1,4 @@
-use Rattle.std.proofs.Common.{◌≡◌, length, sym, ap, subst, ◌∙◌}
+use Rattle.std.proofs.Common.{length, sym, ap, subst, ◌∙◌}
 use Rattle.ni_model.specs.Answers.{Returned, home}
 use Rattle.ni_model.specs.Conditions.{IsKept}
 use Rattle.portals_ni.specs.Pendings.{told_by}
