@@ -1,5 +1,5 @@
 -- Where there are no event queues, no headers and plain entries alone, the other effects of a call are none.
-use Rattle.std.proofs.Common.{◌≡◌, ℕ, Bool, true, false, ◌==◌, ◌+◌, List, [], ◌∷◌, Option, Some, None, Ok, Err, find, if◌then◌else◌, refl, sym, ap, ◌∙◌, arith}
+use Rattle.std.proofs.Common.{◌≡◌, ℕ, Bool, true, false, ◌==◌, ◌+◌, List, [], ◌∷◌, Option, Some, None, Ok, find, if◌then◌else◌, refl, sym, ap, ◌∙◌, arith}
 use Rattle.std.specs.Prelude.{option_map, slice_set}
 use Rattle.std.proofs.lemmas.List.{set-get_or}
 use Rattle.std.proofs.lemmas.Bool.Decides.{nat_tests}
@@ -15,14 +15,12 @@ use Rattle.ptl_types.specs.declared.entries.List.TheVariants.{Priority}
 use Rattle.ptl_types.specs.declared.calls.PutArgs.{PutArgs}
 use Rattle.ptl_types.specs.declared.calls.Deed.TheVariants.{Put}
 use Rattle.ptl_types.specs.declared.calls.NiFault.{NiFault}
-use Rattle.ptl_types.specs.declared.calls.NiFault.TheVariants.{Stale, NoSpace, OutOfRegion, InUse, NoMemory}
 use Rattle.ptl_types.specs.declared.calls.Appended.TheVariants.{Linked as IsLinked}
-use Rattle.ptl_types.specs.declared.entries.Descriptor.{Descriptor}
 use Rattle.ptl_types.specs.declared.calls.Outcome.TheVariants.{Matched}
 use Rattle.ptl_types.specs.Kinds.{is_answer}
 use Rattle.ptl_types.specs.Messages.{Sent, message}
 use Rattle.ni_model.specs.declared.Linked.{Linked}
-use Rattle.ni_model.specs.Tables.{Table, no_things, lookup, handle, is_live_or_none, is_full}
+use Rattle.ni_model.specs.Tables.{Table, no_things, lookup, handle}
 use Rattle.ni_model.specs.Counts.{successes, counted}
 use Rattle.ni_model.specs.Queues.{Waiting, raised}
 use Rattle.ni_model.specs.Lists.{Index, index_at, queue_of}
@@ -30,11 +28,10 @@ use Rattle.ni_model.specs.Headers.{allows, held}
 use Rattle.ni_model.specs.Answers.{Home}
 use Rattle.ni_model.specs.Arrive.{entries_after, settled_at, indices_after, is_over, events_after, answer, chosen, memory_after, counts_after, counter_of, delivered, old_bytes, Parts, accepted, received, request}
 use Rattle.ni_model.specs.Starts.{put_header, bytes_at, send_counter, send_queue, started}
-use Rattle.ni_model.specs.State.{State, Posted, parts_of, with_parts, side_of, home_of, after_request, target, delivers}
+use Rattle.ni_model.specs.State.{State, Posted, parts_of, with_parts, home_of, after_request, target, delivers}
 use Rattle.ni_model.specs.Ready.{is_number, posted_at, without_number, fires, fired_op, fired}
-use Rattle.ni_model.specs.Append.{need, append_fault, append, link_side, linked_at, fresh, next_handle, queue_at}
-use Rattle.ni_model.specs.Refusals.{pt_alloc_fault, bind_fault}
-use Rattle.ni_model.specs.Calls.{ends, ends_by, MayLackMemory, enough, lacking, me_append}
+use Rattle.ni_model.specs.Append.{append_fault, append, link_side, linked_at, fresh, next_handle, queue_at}
+use Rattle.ni_model.specs.Calls.{ends, ends_by, me_append}
 
 -- an entry that stays linked and takes the message's offset
 pub record IsPlainEntry (e : Entry) : Type 0 where
