@@ -176,7 +176,7 @@ taken : (k : ℕ) (r : Result Past Refusal) (f : Past → Result Past (ℕ × Re
 taken k (Err e) f final h = cc
 taken k (Ok next) f final h = (next, refl, h)
 
-allowed : (b : Bool) (r : Result Past Refusal) (next : Past) → cond b r (Err BadByte) ≡ Ok next → r ≡ Ok next
+pub allowed : (b : Bool) (r : Result Past Refusal) (next : Past) → cond b r (Err BadByte) ≡ Ok next → r ≡ Ok next
 allowed true r next h = h
 allowed false r next h = cc
 

@@ -29,7 +29,7 @@ use Rattle.coll_lang.proofs.Sound.{Formed, AtPrints, Sound}
 use Rattle.coll_lang.proofs.AllLines.{all_go, finished_is, described_by}
 
 -- a line that is taken here is taken by the whole language, and what it says can be run
-line_built : (r : Result Past Refusal) (next : Past) → if_built r ≡ Ok next → (r ≡ Ok next) × (is_built next.stage next ≡ true)
+pub line_built : (r : Result Past Refusal) (next : Past) → if_built r ≡ Ok next → (r ≡ Ok next) × (is_built next.stage next ≡ true)
 line_built (Err name) next h = cc
 line_built (Ok past) next h = go (is_built past.stage past) refl h
   where
@@ -181,8 +181,8 @@ fixed_form past x y root a b f g byte is_one =
     times_one : (n : ℕ) → n * 1 ≡ n
     times_one n = omega arith
 
-form_of : (past : Past) → Formed past → AtPrints past → is_built Finished past ≡ true → IsOneBroadcast (described past)
-form_of past f g h =
+pub broadcast_of : (past : Past) → Formed past → AtPrints past → is_built Finished past ≡ true → IsOneBroadcast (described past)
+broadcast_of past f g h =
     let b = both (one_input past) (one_broadcast past.steps) h in
     let i = both (not past.remote && past.inputs == 1) (first_is_bytes past.buffers) b.0 in
     let j = both (not past.remote) (past.inputs == 1) i.0 in
@@ -219,7 +219,7 @@ built_text bytes d h =
     let sound : Sound Finished f.0 = subst (λ s. Sound s f.0) done e.sound in
     record {
       reads = rw (limit.0, b.0) (ap (λ (d : Program). Ok d) f.2);
-      form = subst IsOneBroadcast f.2 (form_of f.0 sound.0 sound.1 (subst (λ s. is_built s f.0 ≡ true) done b.1));
+      form = subst IsOneBroadcast f.2 (broadcast_of f.0 sound.0 sound.1 (subst (λ s. is_built s f.0 ≡ true) done b.1));
     }
   where
     short : (b : Bool) (r : Result Program (ℕ × Refusal)) (d : Program) → cond b (Err (0, TooLong)) r ≡ Ok d → (b ≡ false) × (r ≡ Ok d)

@@ -8,6 +8,7 @@ pub mod SoundData
 pub mod SoundSteps
 pub mod AllLines
 pub mod Built
+pub mod HigherLimit
 pub mod Bytes
 pub mod OneBroadcast
 pub mod Props

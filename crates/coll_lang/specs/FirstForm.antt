@@ -1,5 +1,5 @@
 -- What can be run so far: one input of bytes, one broadcast of it, and prints. Every other line is refused as BadLine.
-use Rattle.std.specs.Prelude.{ℕ, List, [], ◌∷◌, Result, Ok, Err, Bool, true, false, ◌&&◌, not, ◌==◌, if◌then◌else◌}
+use Rattle.std.specs.Prelude.{◌≡◌, ◌≤◌, ℕ, List, [], ◌∷◌, Result, Ok, Err, Bool, true, false, ◌&&◌, not, ◌==◌, if◌then◌else◌}
 use Rattle.ptl_types.specs.declared.elements.ElemType.{ElemType}
 use Rattle.ptl_types.specs.declared.elements.ElemType.TheVariants.{U8, I8, U16, I16, U32, I32, U64, I64}
 use Rattle.coll_lang.specs.Outline.{Program}
@@ -66,10 +66,14 @@ if_built (Ok next) = if is_built next.stage next then Ok next else Err BadLine
 unfoldable pub first_line : Past → List ℕ → Result Past Refusal
 first_line past line = if_built (judge past line)
 
--- 128 prints of 64 times 4096 elements: no print of this form has more
+-- 128 prints of 64 times 4096 elements
 abbrev pub all_prints : ℕ
 all_prints = 33554432
 
 -- What a text describes, where it can be run, or its first refusal with its line.
 abbrev pub read : List ℕ → Result Program (ℕ × Refusal)
 read = read_by all_prints first_line BadLine
+
+-- No print of this form is refused for its elements: with a higher limit each text is read alike.
+abbrev pub NoPrintIsTooLarge : Type 0
+NoPrintIsTooLarge = (most : ℕ) (bytes : List ℕ) → all_prints ≤ most → read_by most first_line BadLine bytes ≡ read bytes

@@ -27,4 +27,6 @@ pub use generating::generated;
 pub use lists::{Name, RankList, Text};
 pub use printing::print;
 pub use types::{Buffer, CollStep, Spread};
-pub use whole::{one_spelling, parse, parse_all, refused_by_the_table, well_formed};
+pub use whole::{
+    no_print_is_too_large, one_spelling, parse, parse_all, refused_by_the_table, well_formed,
+};

@@ -186,6 +186,11 @@ pub fn well_formed()
     ensures { AcceptedIsWellFormed }
 {}
 
+/// No print of what runs so far is refused for its elements: with a higher limit each text is read alike.
+pub fn no_print_is_too_large()
+    ensures { first.NoPrintIsTooLarge }
+{}
+
 /// A line is refused by the first row of the table that holds of it.
 pub fn refused_by_the_table()
     ensures { ByTheTable }

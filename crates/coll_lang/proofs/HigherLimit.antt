@@ -1,0 +1,264 @@
+-- A higher limit on printed elements changes nothing where what can be run so far is read.
+use Rattle.std.proofs.Common.{◌≡◌, ℕ, ◌+◌, ◌*◌, ◌<◌, ◌≤◌, List, [], ◌∷◌, length, Option, Some, None, Result, Ok, Err, Bool, true, false, cond, not, refl, sym, ap, ◌∙◌, arith, codes, subst}
+use Rattle.std.specs.Prelude.{nat_lt, nat_le, All}
+use Rattle.std.specs.List.{list_all}
+use Rattle.std.specs.Str.{bytes_eq}
+use Rattle.std.proofs.lemmas.Bool.Decides.{nat_tests}
+use Rattle.std.proofs.lemmas.List.Elements.{All-nil, All-cons}
+use Rattle.ptl_types.specs.declared.elements.ElemType.{ElemType}
+use Rattle.coll_text.specs.Text.{lines, words, is_empty, number_between}
+use Rattle.coll_text.specs.Values.{data_line}
+use Rattle.coll_lang.specs.Outline.{Program, no_buffer, length_of}
+use Rattle.coll_lang.specs.Steps.{step_of, spread_after, elements_of}
+use Rattle.coll_lang.specs.Forms.{Form, complete, input, barrier, step, print, last, form_of}
+use Rattle.coll_lang.specs.Language.{Past, ◌>>=◌, refuse, or_refuse, nothing, most_elements, ranks_in, may_stand, is_allowed, buffer_named, is_taken, rank_of, input_line, barrier_line, step_line, print_line, form_line, unless_flawed, values_line, later_line, line_at, judge, is_finished, numbered, read_from, described, program_in, read_by}
+use Rattle.coll_lang.specs.FirstForm.{is_built, if_built, first_line, all_prints, NoPrintIsTooLarge}
+use Rattle.coll_lang.specs.WellFormed.{IsInput}
+use Rattle.coll_lang.specs.OneBroadcast.{even_bytes, count_of, first_name, second_name}
+use Rattle.coll_lang.specs.declared.types.Buffer.{Buffer}
+use Rattle.coll_lang.specs.declared.types.Spread.{Spread}
+use Rattle.coll_lang.specs.declared.types.Spread.TheVariants.{Even, Only}
+use Rattle.coll_lang.specs.declared.forms.StepKind.{StepKind}
+use Rattle.coll_lang.specs.declared.stage.Stage.{Stage}
+use Rattle.coll_lang.specs.declared.stage.Stage.TheVariants.{Version, Ranks, Options, Inputs, Data, Steps, Prints, Finished}
+use Rattle.coll_lang.specs.declared.fault.Refusal.{Refusal}
+use Rattle.coll_lang.specs.declared.fault.Refusal.TheVariants.{TooLong, BadByte, BadHeader, BadRanks, BadLine, BadNumber, NameTaken, UnknownBuffer, BadRoot, WrongShape, TooMany, TooLarge, Unended}
+use Rattle.coll_lang.proofs.Stays.{All-then, found}
+use Rattle.coll_lang.proofs.Sound.{Formed, AtPrints, Sound, room, one_longer, none, all_taken}
+use Rattle.coll_lang.proofs.AllLines.{allowed, line_goes}
+use Rattle.coll_lang.proofs.Built.{line_built, broadcast_of}
+
+-- the same with another limit
+abbrev raised : ℕ → Past → Past
+raised most past = record past { most_printed = most }
+
+-- as much is printed as so many prints of 64 times 4096 elements may have
+record Little (past : Past) : Type 0 where
+  printed : past.printed ≤ 262144 * length past.prints
+  limit : past.most_printed ≡ all_prints
+
+-- two answers that are alike but for the limit, or two refusals
+abbrev Kin : ℕ → Result Past Refusal → Result Past Refusal → Type 0
+Kin most (Ok p) (Ok q) = (p ≡ raised most q) × Little q
+Kin most (Err e) (Err f) = Unit {0}
+Kin most (Ok p) (Err f) = ⊥
+Kin most (Err e) (Ok q) = ⊥
+
+kin_or : {A : Type 0} (most : ℕ) (name : Refusal) (o : Option A) (f g : A → Result Past Refusal) → ((x : A) → o ≡ Some x → Kin most (f x) (g x)) → Kin most (or_refuse name o >>= f) (or_refuse name o >>= g)
+kin_or most name None f g h = tt
+kin_or most name (Some x) f g h = h x refl
+
+kin_refuse : (most : ℕ) (b : Bool) (name : Refusal) (f g : Unit {0} → Result Past Refusal) → (b ≡ false → Kin most (f tt) (g tt)) → Kin most (refuse b name >>= f) (refuse b name >>= g)
+kin_refuse most true name f g h = tt
+kin_refuse most false name f g h = h refl
+
+kin_then : {A : Type 0} (most : ℕ) (r : Result A Refusal) (f g : A → Result Past Refusal) → ((x : A) → Kin most (f x) (g x)) → Kin most (r >>= f) (r >>= g)
+kin_then most (Ok x) f g h = h x
+kin_then most (Err e) f g h = tt
+
+-- two tests that both pass
+kin_passed : (most : ℕ) (b c : Bool) (name : Refusal) (f g : Unit {0} → Result Past Refusal) → b ≡ false → c ≡ false → Kin most (f tt) (g tt) → Kin most (refuse b name >>= f) (refuse c name >>= g)
+kin_passed most false false name f g d e h = h
+kin_passed most true c name f g d e h = cc
+kin_passed most false true name f g d e h = cc
+
+kin_if : (most : ℕ) (b : Bool) (name : Refusal) (r s : Result Past Refusal) → Kin most r s → Kin most (cond b r (Err name)) (cond b s (Err name))
+kin_if most true name r s h = h
+kin_if most false name r s h = tt
+
+input_kin : (most : ℕ) (past : Past) (name : List ℕ) (ty : ElemType) (count : List ℕ) → Little past → Kin most (input_line (raised most past) name ty count) (input_line past name ty count)
+unfolding input_line
+input_kin most past name ty count l =
+    kin_or most BadNumber (number_between 1 4096 count) _ _ (λ len _.
+    kin_refuse most (is_taken past.buffers name) NameTaken _ _ (λ _.
+    kin_refuse most (nat_le 128 (length past.buffers)) TooMany _ _ (λ _. (refl, record { printed = l.printed; limit = l.limit }))))
+
+barrier_kin : (most : ℕ) (past : Past) → Little past → Kin most (barrier_line (raised most past)) (barrier_line past)
+unfolding barrier_line
+barrier_kin most past l = kin_refuse most (nat_le 64 (length past.steps)) TooMany _ _ (λ _. (refl, record { printed = l.printed; limit = l.limit }))
+
+step_kin : (most : ℕ) (past : Past) (root : Option (List ℕ)) (kind : StepKind) (a b : List ℕ) → Little past → Kin most (step_line (raised most past) root kind a b) (step_line past root kind a b)
+unfolding step_line
+step_kin most past root kind a b l =
+    kin_then most (rank_of past.ranks root) _ _ (λ rank.
+    kin_refuse most (is_taken past.buffers b) NameTaken _ _ (λ _.
+    kin_or most UnknownBuffer (buffer_named past.buffers a) _ _ (λ from _.
+    kin_or most BadRoot rank _ _ (λ r _.
+    kin_or most WrongShape (spread_after past.ranks (step_of kind r from.0 (length past.buffers)) from.2) _ _ (λ spread _.
+    kin_refuse most (nat_le 64 (length past.steps)) TooMany _ _ (λ _.
+    kin_refuse most (nat_le 128 (length past.buffers)) TooMany _ _ (λ _.
+    kin_refuse most (nat_lt most_elements (length_of spread)) TooLarge _ _ (λ _. (refl, record { printed = l.printed; limit = l.limit })))))))))
+
+-- each buffer is as small as an input
+abbrev Small : List Buffer → Type 0
+Small bs = All (λ b. length_of b.spread ≤ 4096) bs
+
+few_elements : (ranks : ℕ) (s : Spread) → ranks ≤ 64 → length_of s ≤ 4096 → elements_of ranks s ≤ 262144
+few_elements ranks (Even len) few small = product len ranks small few
+  where
+    product : (len ranks : ℕ) → len ≤ 4096 → ranks ≤ 64 → len * ranks ≤ 262144
+    product len ranks small few = grind arith
+few_elements ranks (Only rank len) few small = omega arith
+
+not_above : (most n : ℕ) → n ≤ most → nat_lt most n ≡ false
+not_above most n le = grind (arith, nat_tests)
+
+-- one print more
+room_for : (prints printed n : ℕ) → prints < 128 → printed ≤ 262144 * prints → n ≤ 262144 → (printed + n ≤ all_prints) × (printed + n ≤ 262144 * (prints + 1))
+room_for prints printed n free little le = (omega arith, omega arith)
+
+print_kin : (most : ℕ) (past : Past) (name : List ℕ) → all_prints ≤ most → Little past → past.ranks ≤ 64 → Small past.buffers → Kin most (print_line (raised most past) name) (print_line past name)
+unfolding print_line
+print_kin most past name le l few small =
+    kin_or most UnknownBuffer (buffer_named past.buffers name) _ _ (λ from is.
+    kin_refuse most (nat_le 128 (length past.prints)) TooMany _ _ (λ full.
+    let at = found past.buffers name from is in
+    let short : length_of from.2 ≤ 4096 = subst (λ s. length_of s ≤ 4096) at.spread_is (small from.0 no_buffer at.there) in
+    let more = room_for (length past.prints) past.printed (elements_of past.ranks from.2) (room 128 (length past.prints) full) l.printed (few_elements past.ranks from.2 few short) in
+    let fits : past.printed + elements_of past.ranks from.2 ≤ all_prints = more.0 in
+    let longer = one_longer past.prints from.0 in
+    kin_passed most (nat_lt most (past.printed + elements_of past.ranks from.2)) (nat_lt past.most_printed (past.printed + elements_of past.ranks from.2)) TooLarge _ _
+    (not_above most (past.printed + elements_of past.ranks from.2) (omega (arith, fits, le)))
+    (ap (λ n. nat_lt n (past.printed + elements_of past.ranks from.2)) l.limit ∙ not_above all_prints (past.printed + elements_of past.ranks from.2) fits)
+    (refl, record { printed = rw longer more.1; limit = l.limit })))
+
+form_kin : (most : ℕ) (past : Past) (form : Form) → all_prints ≤ most → Little past → past.ranks ≤ 64 → Small past.buffers → Kin most (form_line (raised most past) form) (form_line past form)
+unfolding form_line
+form_kin most past complete le l few small = (refl, record { printed = l.printed; limit = l.limit })
+form_kin most past (input name ty count) le l few small = input_kin most past name ty count l
+form_kin most past barrier le l few small = barrier_kin most past l
+form_kin most past (step root kind a b) le l few small = step_kin most past root kind a b l
+form_kin most past (print name) le l few small = print_kin most past name le l few small
+form_kin most past last le l few small = (refl, record { printed = l.printed; limit = l.limit })
+
+later_kin : (most : ℕ) (past : Past) (line : List ℕ) → all_prints ≤ most → Little past → past.ranks ≤ 64 → Small past.buffers → Kin most (later_line (raised most past) line) (later_line past line)
+unfolding later_line
+later_kin most past line le l few small =
+    kin_or most BadLine (form_of (words line)) _ _ (λ form _. kin_refuse most (not (may_stand past.stage form)) BadLine _ _ (λ _. form_kin most past form le l few small))
+
+data_kin : (most : ℕ) (past : Past) (left : ℕ) (ty : ElemType) (count : ℕ) (line : List ℕ) → Little past → Kin most (values_line (raised most past) left ty count line) (values_line past left ty count line)
+unfolding values_line
+data_kin most past left ty count line l = kin_then most (unless_flawed (data_line ty count (words line))) _ _ (λ bytes. (refl, record { printed = l.printed; limit = l.limit }))
+
+-- the buffers are inputs, or one input and what is broadcast of it
+small_inputs : (past : Past) → Formed past → past.inputs ≡ length past.buffers → Small past.buffers
+small_inputs past f counted =
+    All-then IsInput (λ b. length_of b.spread ≤ 4096) past.buffers (λ b is. is.small) (subst (λ (bs : List Buffer). All IsInput bs) (all_taken past.buffers past.inputs counted) f.inputs_fit)
+
+small_two : (a b : List ℕ) (n : ℕ) → n ≤ 4096 → Small (even_bytes a n ∷ even_bytes b n ∷ [])
+small_two a b n le =
+    let P : Buffer → Type 0 = λ b. length_of b.spread ≤ 4096 in
+    All-cons P (even_bytes a n) (even_bytes b n ∷ []) le (All-cons P (even_bytes b n) [] le (All-nil P))
+
+small_built : (past : Past) → Formed past → AtPrints past → is_built Finished past ≡ true → Small past.buffers
+small_built past f g h =
+    let form = broadcast_of past f g h in
+    subst (λ (bs : List Buffer). Small bs) (sym form.two_buffers) (small_two (first_name past.buffers) (second_name past.buffers) (count_of (described past).shape) form.small_count)
+
+line_kin : (stage : Stage) (most : ℕ) (past : Past) (line : List ℕ) → Sound stage past → is_built stage past ≡ true → all_prints ≤ most → Little past → Kin most (line_at stage (raised most past) line) (line_at stage past line)
+unfolding line_at
+line_kin Version most past line s b le l = kin_if most (bytes_eq line (codes "coll 1")) BadHeader _ _ (refl, record { printed = l.printed; limit = l.limit })
+line_kin Ranks most past line s b le l = kin_or most BadRanks (ranks_in (words line)) _ _ (λ n _. (refl, record { printed = l.printed; limit = l.limit }))
+line_kin Options most past line s b le l = later_kin most past line le l s.0.few_ranks (none (λ b. length_of b.spread ≤ 4096) past.buffers s.2)
+line_kin Inputs most past line s b le l = later_kin most past line le l s.0.few_ranks (small_inputs past s.0 s.1.counted)
+line_kin (Data left ty count) most past line s b le l = data_kin most past left ty count line l
+line_kin Steps most past line s b le l = later_kin most past line le l s.0.few_ranks (small_built past s.0 s.1.filled b)
+line_kin Prints most past line s b le l = later_kin most past line le l s.0.few_ranks (small_built past s.0 s.1 b)
+line_kin Finished most past line s b le l = tt
+
+-- what holds of the lines so far
+record Held (past : Past) : Type 0 where
+  sound : Sound past.stage past
+  built : is_built past.stage past ≡ true
+  little : Little past
+
+judge_kin : (most : ℕ) (past : Past) (line : List ℕ) → all_prints ≤ most → Held past → Kin most (judge (raised most past) line) (judge past line)
+unfolding judge
+judge_kin most past line le h = kin_if most (list_all is_allowed line) BadByte _ _ (line_kin past.stage most past line h.sound h.built le h.little)
+
+abbrev raised_ok : ℕ → Result Past Refusal → Result Past Refusal
+raised_ok most (Ok p) = Ok (raised most p)
+raised_ok most (Err e) = Err e
+
+built_raised : (stage : Stage) (most : ℕ) (past : Past) → is_built stage (raised most past) ≡ is_built stage past
+built_raised Version most past = refl
+built_raised Ranks most past = refl
+built_raised Options most past = refl
+built_raised Inputs most past = refl
+built_raised (Data left ty count) most past = refl
+built_raised Steps most past = refl
+built_raised Prints most past = refl
+built_raised Finished most past = refl
+
+built_alike : (most : ℕ) (r s : Result Past Refusal) → Kin most r s → if_built r ≡ raised_ok most (if_built s)
+built_alike most (Ok p) (Ok q) k = ap (λ (p : Past). if_built (Ok p)) k.0 ∙ rw (built_raised q.stage most q) (go (is_built q.stage q))
+  where
+    go : (b : Bool) → (let r : Result Past Refusal = cond b (Ok (raised most q)) (Err BadLine) in r ≡ raised_ok most (cond b (Ok q) (Err BadLine)))
+    go true = refl
+    go false = refl
+built_alike most (Err e) (Err f) k = refl
+built_alike most (Ok p) (Err f) k = absurd k
+built_alike most (Err e) (Ok q) k = absurd k
+
+little_of : (most : ℕ) (r s : Result Past Refusal) (next : Past) → Kin most r s → s ≡ Ok next → Little next
+little_of most (Ok p) (Ok q) next k e = subst Little (same_past q next e) k.1
+  where
+    same_past : (x y : Past) → (let r : Result Past Refusal = Ok x in r ≡ Ok y) → x ≡ y
+    same_past x y h = cc
+little_of most (Err e) (Err f) next k h = cc
+little_of most (Ok p) (Err f) next k e = absurd k
+little_of most (Err e) (Ok q) next k h = absurd k
+
+held_next : (past next : Past) (line : List ℕ) → Held past → first_line past line ≡ Ok next → Held next
+unfolding first_line judge
+held_next past next line h taken =
+    let one = line_built (judge past line) next taken in
+    record {
+      sound = (line_goes past.stage past next line refl h.sound (allowed (list_all is_allowed line) (line_at past.stage past line) next one.0)).sound;
+      built = one.1;
+      little = little_of all_prints (judge (raised all_prints past) line) (judge past line) next (judge_kin all_prints past line (omega arith) h) one.0;
+    }
+
+-- a whole reading
+abbrev raised_end : ℕ → Result Past (ℕ × Refusal) → Result Past (ℕ × Refusal)
+raised_end most (Ok p) = Ok (raised most p)
+raised_end most (Err e) = Err e
+
+numbered_alike : (most k : ℕ) (r : Result Past Refusal) (f : Past → Result Past (ℕ × Refusal)) → ((next : Past) → r ≡ Ok next → f (raised most next) ≡ raised_end most (f next))
+    → numbered k (raised_ok most r) f ≡ raised_end most (numbered k r f)
+numbered_alike most k (Ok next) f h = h next refl
+numbered_alike most k (Err e) f h = refl
+
+end_alike : (most : ℕ) (b c : Bool) (past : Past) (e f : ℕ × Refusal)
+    → (let r : Result Past (ℕ × Refusal) = cond b (cond c (Ok (raised most past)) (Err e)) (Err f) in r ≡ raised_end most (cond b (cond c (Ok past) (Err e)) (Err f)))
+end_alike most true true past e f = refl
+end_alike most true false past e f = refl
+end_alike most false c past e f = refl
+
+going_alike : (most : ℕ) (b : Bool) (e : ℕ × Refusal) (r s : Result Past (ℕ × Refusal)) → r ≡ raised_end most s → (let w : Result Past (ℕ × Refusal) = cond b (Err e) r in w ≡ raised_end most (cond b (Err e) s))
+going_alike most true e r s h = refl
+going_alike most false e r s h = h
+
+first_alike : (most : ℕ) (past : Past) (line : List ℕ) → all_prints ≤ most → Held past → first_line (raised most past) line ≡ raised_ok most (first_line past line)
+unfolding first_line
+first_alike most past line le h = built_alike most (judge (raised most past) line) (judge past line) (judge_kin most past line le h)
+
+alike : (most : ℕ) (past : Past) (k : ℕ) (pieces : List (List ℕ)) → all_prints ≤ most → Held past → read_from first_line BadLine (raised most past) k pieces ≡ raised_end most (read_from first_line BadLine past k pieces)
+unfolding read_from
+alike most past k [] le h = refl
+alike most past k (piece ∷ []) le h = end_alike most (is_finished past.stage) (is_empty piece) past (k, BadLine) (k, Unended)
+alike most past k (l ∷ piece ∷ pieces) le h =
+    going_alike most (is_finished past.stage) (k, BadLine) _ _
+    (ap (λ (r : Result Past Refusal). numbered k r (λ next. read_from first_line BadLine next (k + 1) (piece ∷ pieces))) (first_alike most past l le h)
+    ∙ numbered_alike most k (first_line past l) (λ next. read_from first_line BadLine next (k + 1) (piece ∷ pieces)) (λ next taken. alike most next (k + 1) (piece ∷ pieces) le (held_next past next l h taken)))
+
+described_alike : (most : ℕ) (r : Result Past (ℕ × Refusal)) → program_in (raised_end most r) ≡ program_in r
+described_alike most (Ok p) = refl
+described_alike most (Err e) = refl
+
+pub no_print_is_too_large : NoPrintIsTooLarge
+unfolding read_by
+no_print_is_too_large most bytes le =
+    ap (λ (r : Result Program (ℕ × Refusal)). cond (nat_lt 1048576 (length bytes)) (Err (0, TooLong)) r)
+    (ap program_in (alike most (nothing all_prints) 1 (lines bytes) le (record { sound = (refl, refl, refl, refl, refl, refl); built = refl; little = record { printed = omega arith; limit = refl } }))
+    ∙ described_alike most (read_from first_line BadLine (nothing all_prints) 1 (lines bytes)))
