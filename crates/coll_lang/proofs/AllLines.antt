@@ -284,11 +284,8 @@ whole most bytes d h =
       written_is = sym (join_with_byte-slice_split 10 bytes) ∙ sym e.written_is ∙ ap (λ (s : Stage). written s f.0) done ∙ text_is f.0;
     }
 
-pub spelled : (most : ℕ) (bytes : List ℕ) (d : Program) → read_up_to most bytes ≡ Ok d → bytes ≡ text d
-spelled most bytes d h = let w = whole most bytes d h in w.written_is ∙ ap text w.is
-
 pub one_spelling : OneSpelling
-one_spelling = spelled most_elements
+one_spelling most bytes d h = let w = whole most bytes d h in w.written_is ∙ ap text w.is
 
 pub well_formed : (most : ℕ) (bytes : List ℕ) (d : Program) → read_up_to most bytes ≡ Ok d → IsWellFormed d.shape
 well_formed most bytes d h = let w = whole most bytes d h in subst (λ (d : Program). IsWellFormed d.shape) w.is w.formed

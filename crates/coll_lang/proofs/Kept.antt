@@ -18,7 +18,7 @@ use Rattle.coll_lang.specs.Verdicts.{Reads}
 use Rattle.coll_lang.specs.declared.fault.ParseFault.{ParseFault}
 use Rattle.coll_lang.specs.declared.whole.Extent.{Extent}
 use Rattle.coll_lang.specs.declared.whole.Extent.TheVariants as extents
-use Rattle.coll_lang.proofs.AllLines.{spelled, one_spelling, well_formed, well_given}
+use Rattle.coll_lang.proofs.AllLines.{one_spelling, well_formed, well_given}
 use Rattle.coll_lang.proofs.Built.{built_is_read, built_form}
 use Rattle.coll_lang.proofs.InputLists.{lists_of_all}
 use Rattle.coll_lang.proofs.Props.{well_formed_prop, well_given_prop}
@@ -38,30 +38,33 @@ read_alike extents.Built bytes d h = built_is_read bytes d h
 
 -- what was read is read again from its spelling
 again : (most : ℕ) (bytes : List ℕ) (d : Program) → read_up_to most bytes ≡ Ok d → read_up_to most (text d) ≡ Ok d
-again most bytes d h = ap (read_up_to most) (sym (spelled most bytes d h)) ∙ h
+again most bytes d h = ap (read_up_to most) (sym (one_spelling most bytes d h)) ∙ h
+
+built_spelled : (bytes : List ℕ) (d : Program) → first.read bytes ≡ Ok d → bytes ≡ text d
+built_spelled bytes d h = one_spelling all_prints bytes d (built_is_read bytes d h)
 
 -- what the whole language reads is accepted
 pub accepted : (bytes : List ℕ) (d : Program) → read bytes ≡ Ok d → IsAccepted d
 accepted bytes d h = record { reads = ∣ inl (again most_elements bytes d h) ∣₁ }
 
-accepted_by : (e : Extent) (bytes : List ℕ) (d : Program) → read_up_to (most_printed_of e) bytes ≡ Ok d → IsAccepted d
+accepted_by : (e : Extent) (bytes : List ℕ) (d : Program) → read_by (most_printed_of e) (judged e) (after e) bytes ≡ Ok d → IsAccepted d
 accepted_by extents.All bytes d h = accepted bytes d h
-accepted_by extents.Built bytes d h = record { reads = ∣ inr (again all_prints bytes d h) ∣₁ }
+accepted_by extents.Built bytes d h = record { reads = ∣ inr (ap first.read (sym (built_spelled bytes d h)) ∙ h) ∣₁ }
 
 -- what is accepted is well formed
 pub well_formed_of : (d : Program) → IsAccepted d → IsWellFormed d.shape
 well_formed_of d h = ∥∥₁_elim h.reads (well_formed_prop d.shape) either
   where
-    either : (read (text d) ≡ Ok d) ⊎ (read_up_to all_prints (text d) ≡ Ok d) → IsWellFormed d.shape
+    either : (read (text d) ≡ Ok d) ⊎ (first.read (text d) ≡ Ok d) → IsWellFormed d.shape
     either (inl r) = well_formed most_elements (text d) d r
-    either (inr r) = well_formed all_prints (text d) d r
+    either (inr r) = well_formed all_prints (text d) d (built_is_read (text d) d r)
 
 pub well_given_of : (d : Program) → IsAccepted d → IsWellGiven d
 well_given_of d h = ∥∥₁_elim h.reads (well_given_prop d) either
   where
-    either : (read (text d) ≡ Ok d) ⊎ (read_up_to all_prints (text d) ≡ Ok d) → IsWellGiven d
+    either : (read (text d) ≡ Ok d) ⊎ (first.read (text d) ≡ Ok d) → IsWellGiven d
     either (inl r) = well_given most_elements (text d) d r
-    either (inr r) = well_given all_prints (text d) d r
+    either (inr r) = well_given all_prints (text d) d (built_is_read (text d) d r)
 
 -- a shape is well formed, since it is that of some description whose text is accepted
 pub shape_law : (s : Outline) → IsAcceptedShape s → IsWellFormed s
@@ -74,11 +77,12 @@ pub record IsKept (past : Past) : Type 0 where
 
 pub kept : (e : Extent) (bytes : List ℕ) (final : Past) → length bytes ≤ 1048576 → read_from (judged e) (after e) (nothing (most_printed_of e)) 1 (lines bytes) ≡ Ok final → IsKept final
 kept e bytes final le h =
-    let reads = read_alike e bytes (described final) (read_is e bytes final le h) in
+    let read_so = read_is e bytes final le h in
+    let reads = read_alike e bytes (described final) read_so in
     let formed = well_formed (most_printed_of e) bytes (described final) reads in
     let given = well_given (most_printed_of e) bytes (described final) reads in
     record {
-      accepted = accepted_by e bytes (described final) reads;
+      accepted = accepted_by e bytes (described final) read_so;
       lists = lists_of_all final.ranks (take final.inputs final.buffers) final.given given.filled ∙ ap (λ n. n * final.ranks) (length-take-le final.inputs final.buffers formed.inputs_first);
     }
 
@@ -87,5 +91,9 @@ form_in bytes (Ok d) h = built_form bytes d h
 form_in bytes (Err e) h = tt
 
 pub spelled_in : (bytes : List ℕ) (r : Result Program ParseFault) → Reads (λ d. d) r (read bytes) → IfOk r (λ d. bytes ≡ text d)
-spelled_in bytes (Ok d) h = one_spelling bytes d h
+spelled_in bytes (Ok d) h = one_spelling most_elements bytes d h
 spelled_in bytes (Err e) h = tt
+
+pub built_spelled_in : (bytes : List ℕ) (r : Result Program ParseFault) → Reads (λ d. d) r (first.read bytes) → IfOk r (λ d. bytes ≡ text d)
+built_spelled_in bytes (Ok d) h = built_spelled bytes d h
+built_spelled_in bytes (Err e) h = tt

@@ -2,18 +2,17 @@
 use Rattle.std.specs.Prelude.{◌≡◌, ℕ, List, Ok, ◌⊎◌}
 use Rattle.coll_lang.specs.Outline.{Outline, Given, Program}
 use Rattle.coll_lang.specs.Language.{read_up_to, read}
-use Rattle.coll_lang.specs.FirstForm.{all_prints}
+use Rattle.coll_lang.specs.FirstForm as first
 use Rattle.coll_lang.specs.Spelling.{text}
 use Rattle.coll_lang.specs.WellFormed.{IsWellFormed, IsWellGiven}
 
--- its text is accepted: reading it gives the description, with the limit on printed elements of the whole language or
--- with that of what can be run so far
+-- its text is accepted: reading it gives the description, by the whole language or by what can be run so far
 pub record IsAccepted (d : Program) : Type 0 where
-  pub reads : ∥ ((read (text d) ≡ Ok d) ⊎ (read_up_to all_prints (text d) ≡ Ok d)) ∥₁
+  pub reads : ∥ ((read (text d) ≡ Ok d) ⊎ (first.read (text d) ≡ Ok d)) ∥₁
 
--- What a text describes has that text as its one spelling.
+-- What a text describes has that text as its one spelling, with whatever limit on printed elements it is read.
 abbrev pub OneSpelling : Type 0
-OneSpelling = (bytes : List ℕ) (d : Program) → read bytes ≡ Ok d → bytes ≡ text d
+OneSpelling = (most : ℕ) (bytes : List ℕ) (d : Program) → read_up_to most bytes ≡ Ok d → bytes ≡ text d
 
 -- it is the shape of a description whose text is accepted
 abbrev pub IsAcceptedShape : Outline → Type 0

@@ -118,8 +118,8 @@ impl Inputs {
     }
 }
 
-/// What a text describes. It keeps that its text is accepted: reading its one spelling gives it again, with the limit on
-/// printed elements that it was read with.
+/// What a text describes. It keeps that its text is accepted: reading its one spelling gives it again, by `parse_all` or
+/// by `parse`.
 #[derive(Drop)]
 pub struct Description {
     shape: Shape,

@@ -170,13 +170,15 @@ pub fn parse_all(alloc: Global, bytes: &[u8]) -> Result<Description, ParseFault>
 pub fn parse(alloc: Global, bytes: &[u8]) -> Result<Description, ParseFault>
     // Unless memory runs out, it is what reading gives, both ways.
     ensures exact { Reads (λ d. d) result (first.read bytes.now) }
+    // What is read has the text as its one spelling.
+    ensures spelled { IfOk result (λ d. bytes.now ≡ text d) }
     // What is read is one broadcast of bytes.
     ensures form { IfOk result (λ d. IsOneBroadcast d) }
 {
     parsed(alloc, Extent::Built, bytes)
 }
 
-/// A text that describes something has one spelling.
+/// A text that describes something has one spelling, with whatever limit on printed elements it is read.
 pub fn one_spelling()
     ensures { OneSpelling }
 {}
