@@ -96,7 +96,9 @@ fn parts_of_a_description(rt: HostRuntime) {
     assert_eq!(rt; shape.steps().len(), 1);
     assert_eq!(rt; shape.prints(), [1].as_slice());
     assert_eq!(rt; inputs.list(0, 1), [3, 4].as_slice());
-    for buffer in shape.buffers() {
-        assert_eq!(rt; buffer.name.as_slice().len(), 1);
-    }
+    let [first, second] = shape.buffers() else {
+        panic!(rt; "not two buffers")
+    };
+    assert_eq!(rt; first.name.as_slice(), b"a".as_slice());
+    assert_eq!(rt; second.name.as_slice(), b"b".as_slice());
 }

@@ -13,7 +13,7 @@ mod texts;
 #[cfg(test)]
 mod values;
 
-/// The cases stand in the tests. This function is there so that the crate has one.
+/// Not a call: the cases stand in the tests, and a crate has a function.
 pub fn cases_stand() -> bool
     ensures { result ≡ true }
 {

@@ -1,7 +1,6 @@
 //! Exactly the most of each quantity, and one more.
 
-use crate::texts::{Answer, add_data, add_lines, answer, most_bytes};
-use coll_lang::{parse, parse_all};
+use crate::texts::{Answer, add_data, add_lines, first_answer, most_bytes, whole_answer};
 use std::alloc::Global;
 use std::test::Fail;
 
@@ -10,7 +9,7 @@ fn repeated(alloc: Global, head: &[u8], line: &[u8], times: u32) -> Result<Answe
     let mut text = Vec::from_slice(alloc, head)?;
     add_lines(&mut text, line, times)?;
     text.extend_from_slice(b"end\n")?;
-    Ok(answer(parse_all(alloc, &text)))
+    Ok(whole_answer(alloc, &text))
 }
 
 #[test]
@@ -49,7 +48,7 @@ fn inputs_and_steps(alloc: Global, inputs: u32, steps: u32) -> Result<Answer, Fa
         text.extend_from_slice(step.as_bytes())?;
     }
     text.extend_from_slice(b"end\n")?;
-    Ok(answer(parse_all(alloc, &text)))
+    Ok(whole_answer(alloc, &text))
 }
 
 #[test]
@@ -82,17 +81,17 @@ fn long_text(alloc: Global, name: &str) -> Result<Vec<u8>, Fail> {
 fn bytes_of_a_text(rt: HostRuntime) -> Result<(), Fail> {
     let most = long_text(rt.alloc(), "thirteen_char")?;
     assert_eq!(rt; most.len(), 1_048_576);
-    assert_eq!(rt; answer(parse_all(rt.alloc(), &most)), None);
+    assert_eq!(rt; whole_answer(rt.alloc(), &most), None);
     let more = long_text(rt.alloc(), "fourteen_chars")?;
     assert_eq!(rt; more.len(), 1_048_577);
-    assert_eq!(rt; answer(parse_all(rt.alloc(), &more)), Some((0, "TooLong")));
-    assert_eq!(rt; answer(parse(rt.alloc(), &more)), Some((0, "TooLong")));
+    assert_eq!(rt; whole_answer(rt.alloc(), &more), Some((0, "TooLong")));
+    assert_eq!(rt; first_answer(rt.alloc(), &more), Some((0, "TooLong")));
     Ok(())
 }
 
 #[test]
 fn elements_of_a_buffer_and_of_all_prints(rt: HostRuntime) -> Result<(), Fail> {
-    let cases: [(&[u8], Answer); 6] = [
+    let cases: [(&[u8], Answer); 7] = [
         (b"allgather a b\nallgather b c\nend\n", None),
         (
             b"allgather a b\nallgather b c\nallgather c d\nend\n",
@@ -100,6 +99,10 @@ fn elements_of_a_buffer_and_of_all_prints(rt: HostRuntime) -> Result<(), Fail> {
         ),
         (
             b"allgather a b\nallgather b c\ngather 63 c d\nend\n",
+            Some((70, "TooLarge")),
+        ),
+        (
+            b"allgather a b\nprint b\nprint b\nend\n",
             Some((70, "TooLarge")),
         ),
         (b"allgather a b\ngather 63 b c\nprint c\nend\n", None),
@@ -115,8 +118,21 @@ fn elements_of_a_buffer_and_of_all_prints(rt: HostRuntime) -> Result<(), Fail> {
     for (lines, wanted) in cases.iter() {
         let mut text = most_bytes(rt.alloc())?;
         text.extend_from_slice(lines)?;
-        assert_eq!(rt; answer(parse_all(rt.alloc(), &text)), *wanted);
+        assert_eq!(rt; whole_answer(rt.alloc(), &text), *wanted);
     }
+    Ok(())
+}
+
+/// 61 allgathers on 64 ranks are accepted by the reader.
+#[test]
+fn many_allgathers(rt: HostRuntime) -> Result<(), Fail> {
+    let mut text = most_bytes(rt.alloc())?;
+    for i in 0..61 {
+        let step = format!(in rt.alloc(); "allgather a b{i}\n")?;
+        text.extend_from_slice(step.as_bytes())?;
+    }
+    text.extend_from_slice(b"end\n")?;
+    assert_eq!(rt; whole_answer(rt.alloc(), &text), None);
     Ok(())
 }
 
@@ -139,8 +155,8 @@ fn what_runs_so_far_may_print_all(rt: HostRuntime) -> Result<(), Fail> {
     ];
     for (times, so_far, whole) in cases.iter() {
         let text = printed(rt.alloc(), *times)?;
-        assert_eq!(rt; answer(parse(rt.alloc(), &text)), *so_far, "at {times}");
-        assert_eq!(rt; answer(parse_all(rt.alloc(), &text)), *whole, "at {times}");
+        assert_eq!(rt; first_answer(rt.alloc(), &text), *so_far, "at {times}");
+        assert_eq!(rt; whole_answer(rt.alloc(), &text), *whole, "at {times}");
     }
     Ok(())
 }

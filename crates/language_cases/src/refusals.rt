@@ -1,7 +1,6 @@
 //! Each refusal at each kind of line where it can stand.
 
-use crate::texts::{Answer, answer};
-use coll_lang::parse_all;
+use crate::texts::{Answer, whole_answer};
 use std::alloc::Global;
 use std::test::Fail;
 
@@ -10,6 +9,9 @@ const JOB: &[u8] = b"coll 1\nranks 1\n";
 
 /// The lines 1 to 3; a data line of two values is due.
 const INPUT: &[u8] = b"coll 1\nranks 1\ninput a u8 2\n";
+
+/// The same with one value.
+const ONE_VALUE: &[u8] = b"coll 1\nranks 1\ninput a u8 1\n";
 
 /// The lines 1 to 6: `a` has three bytes at each of two ranks, and `r` is held by rank 1 alone.
 const STEP: &[u8] = b"coll 1\nranks 2\ninput a u8 3\n1 2 3\n4 5 6\nreduce 1 sum a r\n";
@@ -22,7 +24,7 @@ fn line_answer(alloc: Global, head: &[u8], line: &[u8]) -> Result<Answer, Fail> 
     let mut text = Vec::from_slice(alloc, head)?;
     text.extend_from_slice(line)?;
     text.extend_from_slice(b"\nend\n")?;
-    Ok(answer(parse_all(alloc, &text)))
+    Ok(whole_answer(alloc, &text))
 }
 
 #[test]
@@ -41,14 +43,16 @@ fn the_first_two_lines(rt: HostRuntime) {
         (b"coll 1\nend\n", 2, "BadRanks"),
     ];
     for (text, line, name) in cases.iter() {
-        assert_eq!(rt; answer(parse_all(rt.alloc(), text)), Some((*line, *name)));
+        assert_eq!(rt; whole_answer(rt.alloc(), text), Some((*line, *name)));
     }
 }
 
 #[test]
 fn where_an_input_may_stand(rt: HostRuntime) -> Result<(), Fail> {
-    let cases: [(&[u8], &'static str); 14] = [
+    let cases: [(&[u8], &'static str); 16] = [
         (b"\x7f", "BadByte"),
+        (b"complete\tremote", "BadByte"),
+        (b"input a u8", "BadLine"),
         (b"input a\tu8 1", "BadByte"),
         (b"", "BadLine"),
         (b"complete", "BadLine"),
@@ -92,7 +96,8 @@ fn data_lines(rt: HostRuntime) -> Result<(), Fail> {
 
 #[test]
 fn behind_data_lines_and_prints(rt: HostRuntime) -> Result<(), Fail> {
-    let cases: [(&[u8], &[u8], u32, &'static str); 9] = [
+    let cases: [(&[u8], &[u8], u32, &'static str); 14] = [
+        (ONE_VALUE, b"complete remote", 4, "BadLine"),
         (INPUT, b"7 8\ncomplete remote", 5, "BadLine"),
         (INPUT, b"7 8\n7 8", 5, "BadLine"),
         (INPUT, b"7 8\ninput a i8 1", 5, "NameTaken"),
@@ -100,6 +105,10 @@ fn behind_data_lines_and_prints(rt: HostRuntime) -> Result<(), Fail> {
         (PRINT, b"input c u8 1", 6, "BadLine"),
         (PRINT, b"barrier", 6, "BadLine"),
         (PRINT, b"broadcast 0 a b", 6, "BadLine"),
+        (PRINT, b"print", 6, "BadLine"),
+        (PRINT, b"print a b", 6, "BadLine"),
+        (PRINT, b"print A", 6, "BadLine"),
+        (PRINT, b"print a ", 6, "BadLine"),
         (PRINT, b"print c", 6, "UnknownBuffer"),
         (PRINT, b"print\x80", 6, "BadByte"),
     ];
@@ -187,7 +196,8 @@ fn roots_and_shapes(rt: HostRuntime) -> Result<(), Fail> {
 
 #[test]
 fn the_last_line(rt: HostRuntime) {
-    let cases: [(&[u8], u32, &'static str); 6] = [
+    let cases: [(&[u8], u32, &'static str); 7] = [
+        (b"coll 1\nranks 1\nend\t\n", 3, "BadByte"),
         (b"coll 1\nranks 1\nend \n", 3, "BadLine"),
         (b"coll 1\nranks 1\nend x\n", 3, "BadLine"),
         (b"coll 1\nranks 1\nEnd\n", 3, "BadLine"),
@@ -196,7 +206,7 @@ fn the_last_line(rt: HostRuntime) {
         (b"coll 1\nranks 1\nend\n\t", 4, "AfterEnd"),
     ];
     for (text, line, name) in cases.iter() {
-        assert_eq!(rt; answer(parse_all(rt.alloc(), text)), Some((*line, *name)));
+        assert_eq!(rt; whole_answer(rt.alloc(), text), Some((*line, *name)));
     }
 }
 
@@ -217,7 +227,7 @@ fn every_part_of_a_text_is_unended(rt: HostRuntime) {
     for length in 0..text.len() {
         let part = &text[..length];
         let due = ended_lines(part).saturating_add(1);
-        assert_eq!(rt; answer(parse_all(rt.alloc(), part)), Some((due, "Unended")));
+        assert_eq!(rt; whole_answer(rt.alloc(), part), Some((due, "Unended")));
     }
-    assert_eq!(rt; answer(parse_all(rt.alloc(), text)), None);
+    assert_eq!(rt; whole_answer(rt.alloc(), text), None);
 }

@@ -1,18 +1,36 @@
 //! How the tests write texts and name answers.
 
-use coll_lang::{Description, ParseFault};
+use coll_lang::{ParseFault, parse, parse_all, print};
 use std::alloc::Global;
 use std::test::Fail;
 
 /// The line and the name of a refusal; nothing where the text is accepted.
 pub type Answer = Option<(u32, &'static str)>;
 
-/// The answer of a reading.
-pub fn answer(read: Result<Description, ParseFault>) -> Answer {
-    match read {
+/// The line and the name of a refusal.
+fn refusal(fault: ParseFault) -> (u32, &'static str) {
+    match fault {
+        ParseFault::Refused { line, name } => (line, name.word()),
+        ParseFault::NoMemory => (0, "NoMemory"),
+    }
+}
+
+/// What the whole language answers. An accepted text has to be printed back.
+pub fn whole_answer(alloc: Global, text: &[u8]) -> Answer {
+    match parse_all(alloc, text) {
+        Ok(d) => match print(alloc, &d) {
+            Ok(printed) if printed.as_slice() == text => None,
+            _ => Some((0, "printed otherwise")),
+        },
+        Err(fault) => Some(refusal(fault)),
+    }
+}
+
+/// What is answered where only what runs so far is read.
+pub fn first_answer(alloc: Global, text: &[u8]) -> Answer {
+    match parse(alloc, text) {
         Ok(_) => None,
-        Err(ParseFault::Refused { line, name }) => Some((line, name.word())),
-        Err(ParseFault::NoMemory) => Some((0, "NoMemory")),
+        Err(fault) => Some(refusal(fault)),
     }
 }
 
