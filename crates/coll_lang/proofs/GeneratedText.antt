@@ -1,6 +1,5 @@
 -- The generated description is accepted: its text is read line by line, and gives it.
 use Rattle.std.proofs.Common.{◌≡◌, ℕ, suc, ◌+◌, ◌-◌, ◌*◌, ◌%◌, ◌<◌, ◌≤◌, List, [], ◌∷◌, ◌++◌, length, Ok, true, false, refl, sym, ap, ◌∙◌, arith, codes, subst, map, append_assoc, length-append}
-use Rattle.std.specs.Prelude.{◌==◌}
 use Rattle.std.specs.List.{list_all, flat_map, join_with_byte, range_with_len, AllByRecursion}
 use Rattle.std.specs.Fmt.{decimal}
 use Rattle.std.proofs.lemmas.Bool.Decides.{nat_tests}
@@ -12,10 +11,11 @@ use Rattle.ptl_types.specs.declared.elements.AtomicOp.TheVariants.{Sum, Max}
 use Rattle.coll_text.specs.Text.{lines, words, is_digit}
 use Rattle.coll_text.specs.Elements.{bytes_of_list}
 use Rattle.coll_text.specs.Values.{too_large, data_line}
-use Rattle.coll_text.proofs.ReadBack.{passes_too, none_is, digits_are, line_of, joined_passes, values_line_read}
+use Rattle.coll_text.proofs.ReadBack.{passes_too, digits_are, joined_passes, values_line_read}
 use Rattle.coll_lang.specs.Outline.{Program}
 use Rattle.coll_lang.specs.Forms.{kind_in, root_in, names_in, step_in, input_in, print_in, form_of}
-use Rattle.coll_lang.specs.Language.{Past, nothing, most_elements, judge, line_at, later_line, form_line, input_line, barrier_line, step_line, print_line, values_line, buffer_named, ranks_in, read_from, is_allowed, is_finished, data_due, described}
+use Rattle.coll_lang.specs.Language.{Past, nothing, most_elements, judge, line_at, later_line, form_line, input_line, barrier_line, step_line, print_line, values_line, buffer_named, ranks_in, read_from, read, is_allowed, data_due, described}
+use Rattle.coll_lang.specs.Spelling.{text}
 use Rattle.coll_lang.specs.Accepted.{IsAccepted}
 use Rattle.coll_lang.specs.Generated.{value_at, rank_elements, all_elements, even_words, generated_shape, generated}
 use Rattle.coll_lang.specs.declared.types.Buffer.{Buffer}
@@ -25,28 +25,8 @@ use Rattle.coll_lang.specs.declared.stage.Stage.{Stage}
 use Rattle.coll_lang.specs.declared.stage.Stage.TheVariants.{Ranks, Options, Inputs, Steps, Prints, Finished}
 use Rattle.coll_lang.specs.declared.fault.Refusal.TheVariants.{AfterEnd}
 use Rattle.coll_lang.specs.declared.whole.Extent.TheVariants as extents
-use Rattle.coll_lang.proofs.Reading.{goes_on}
-use Rattle.coll_lang.proofs.Kept.{IsKept, kept}
-
--- the lines of `bytes` lead from what is said before them to what is said after them, whatever follows
-abbrev Leads : Past → Past → List ℕ → Type 0
-Leads past next bytes = (final : Past) (rest : List ℕ) → ((k : ℕ) → read_from judge AfterEnd next k (lines rest) ≡ Ok final) → (k : ℕ) → read_from judge AfterEnd past k (lines (bytes ++ rest)) ≡ Ok final
-
-no_break : (b : ℕ) → is_allowed b ≡ true → b == 10 ≡ false
-no_break b h = grind (arith, nat_tests)
-
--- one line
-one_line : (past next : Past) (l : List ℕ) → is_finished past.stage ≡ false → list_all is_allowed l ≡ true → judge past l ≡ Ok next → Leads past next (l ++ 10 ∷ [])
-one_line past next l going allowed taken = λ final rest h k.
-    ap (λ (x : List ℕ). read_from judge AfterEnd past k (lines x)) (append_assoc l (10 ∷ []) rest)
-    ∙ ap (read_from judge AfterEnd past k) (line_of l rest (none_is is_allowed 10 l no_break allowed))
-    ∙ goes_on judge AfterEnd past next k l rest going taken
-    ∙ h (k + 1)
-
--- lines behind lines
-then : (past mid next : Past) (x y : List ℕ) → Leads past mid x → Leads mid next y → Leads past next (x ++ y)
-then past mid next x y f g = λ final rest h k.
-    ap (λ (z : List ℕ). read_from judge AfterEnd past k (lines z)) (append_assoc x y rest) ∙ f final (y ++ rest) (g final rest h) k
+use Rattle.coll_lang.proofs.Leading.{Leads, one_line, then}
+use Rattle.coll_lang.proofs.Kept.{IsKept, kept, reads_again}
 
 -- one rank's elements
 abbrev IsRow : List ℕ → Type 0
@@ -294,6 +274,10 @@ reads_whole k =
 -- the generated description is accepted
 pub generated_accepted : (k : ℕ) → IsAccepted (generated k)
 generated_accepted k = (kept extents.All (whole k) (all_said (given_of k)) (whole_short k) (reads_whole k)).accepted
+
+-- and its own text is read as it by the whole language
+pub generated_reads : (k : ℕ) → read (text (generated k)) ≡ Ok (generated k)
+generated_reads k = reads_again (whole k) (all_said (given_of k)) (whole_short k) (reads_whole k)
 
 -- what says it may be kept as a description
 pub generated_kept : (past : Past) (k : ℕ) → described past ≡ generated k → IsKept past

@@ -6,7 +6,8 @@ use Rattle.std.proofs.lemmas.Bool.Decides.{nat_tests}
 use Rattle.std.proofs.lemmas.List.{length-take-le}
 use Rattle.coll_text.specs.Text.{lines}
 use Rattle.coll_lang.specs.Outline.{Outline, Program}
-use Rattle.coll_lang.specs.Language.{Past, read, read_by, read_up_to, read_from, nothing, described, most_elements}
+use Rattle.coll_lang.specs.declared.fault.Refusal.TheVariants.{AfterEnd}
+use Rattle.coll_lang.specs.Language.{Past, judge, read, read_by, read_up_to, read_from, nothing, described, most_elements}
 use Rattle.coll_lang.specs.FirstForm as first
 use Rattle.coll_lang.specs.FirstForm.{all_prints}
 use Rattle.coll_lang.specs.Extents.{judged, most_printed_of, after}
@@ -42,6 +43,10 @@ again most bytes d h = ap (read_up_to most) (sym (one_spelling most bytes d h)) 
 
 built_spelled : (bytes : List ℕ) (d : Program) → first.read bytes ≡ Ok d → bytes ≡ text d
 built_spelled bytes d h = one_spelling all_prints bytes d (built_is_read bytes d h)
+
+-- the same of lines that the whole language reads
+pub reads_again : (bytes : List ℕ) (final : Past) → length bytes ≤ 1048576 → read_from judge AfterEnd (nothing most_elements) 1 (lines bytes) ≡ Ok final → read (text (described final)) ≡ Ok (described final)
+reads_again bytes final le h = again most_elements bytes (described final) (read_is extents.All bytes final le h)
 
 -- what the whole language reads is accepted
 pub accepted : (bytes : List ℕ) (d : Program) → read bytes ≡ Ok d → IsAccepted d

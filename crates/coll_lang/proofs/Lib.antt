@@ -16,3 +16,6 @@ pub mod Kept
 pub mod Printed
 pub mod GeneratedText
 pub mod GeneratedLists
+pub mod Leading
+pub mod FormsBack
+pub mod TextBack

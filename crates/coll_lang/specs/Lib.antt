@@ -17,3 +17,4 @@ pub mod Meaning
 pub mod Accepted
 pub mod OneBroadcast
 pub mod Generated
+pub mod Readable

@@ -4,7 +4,8 @@ ghost use Rattle.std.specs.Prelude.{◌≡◌, ◌+◌, ◌*◌, ◌<◌, IfOk, 
 ghost use Rattle.std.specs.List.{range_with_len};
 ghost use Rattle.ptl_types.specs.declared.elements.ElemType.TheVariants.{U32};
 ghost use Rattle.coll_text.specs.Elements.{bytes_of_list};
-ghost use Rattle.coll_lang.specs.Language.{described};
+ghost use Rattle.coll_lang.specs.Language.{described, read};
+ghost use Rattle.coll_lang.specs.Spelling.{text};
 ghost use Rattle.coll_lang.specs.States.{past};
 ghost use Rattle.coll_lang.specs.Generated.{value_at, rank_elements, all_elements, even_words, generated_shape, generated};
 
@@ -128,14 +129,16 @@ fn generated_reader(alloc: Global, k: u32) -> Result<Reader, AllocError>
 
 /// The description with which large runs are made: 64 ranks with an input `a` of 64 u32, whose value at rank r and place
 /// i is (k * (r + 1) + i) modulo 65,536; then `allreduce sum a b`, `scan max a c`, `allgather a d`, `alltoall a e` and
-/// `barrier`; then prints of a, b, c, d and e in this order.
+/// `barrier`; then prints of a, b, c, d and e in this order. The number k is below 65,536.
 ///
 /// # Errors
 ///
 /// There was no memory for the description.
 pub fn generated(alloc: Global, k: u32) -> Result<Description, NoMemory>
     requires { k < 65536 }
-    ensures { IfOk result (λ d. d ≡ generated k) }
+    ensures value { IfOk result (λ d. d ≡ generated k) }
+    // Its one spelling is read as it by the whole language.
+    ensures accepted { IfOk result (λ d. read (text d) ≡ Ok d) }
 {
     match generated_reader(alloc, k) {
         Ok(reader) => Ok(Description::of(reader)),

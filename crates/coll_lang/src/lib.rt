@@ -13,6 +13,7 @@ mod generated_tests;
 mod generating;
 mod lists;
 mod printing;
+mod readable;
 mod reader;
 mod stage;
 mod take;
@@ -26,6 +27,7 @@ pub use fault::{ParseFault, Refusal};
 pub use generating::generated;
 pub use lists::{Name, RankList, Text};
 pub use printing::print;
+pub use readable::reads_back;
 pub use types::{Buffer, CollStep, Spread};
 pub use whole::{
     no_print_is_too_large, one_spelling, parse, parse_all, refused_by_the_table, well_formed,

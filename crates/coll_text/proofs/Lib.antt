@@ -4,3 +4,4 @@ pub mod Data
 pub mod DataSpelled
 pub mod Writes
 pub mod ReadBack
+pub mod WordsBack
