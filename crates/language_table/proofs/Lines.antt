@@ -1,0 +1,160 @@
+-- A line is judged by the rows.
+use Rattle.std.proofs.Common.{◌≡◌, ℕ, ◌*◌, ◌%◌, List, [], ◌∷◌, ◌++◌, length, Option, Some, None, Result, Ok, Err, Bool, true, false, ◌&&◌, ◌||◌, not, cond, refl, ap, ◌∙◌, subst, codes}
+use Rattle.std.specs.Prelude.{◌==◌, nat_lt, nat_le, is_none, option_and_then, option_map}
+use Rattle.std.specs.List.{list_all, list_any}
+use Rattle.std.specs.Str.{bytes_eq}
+use Rattle.ptl_types.specs.declared.elements.ElemType.{ElemType}
+use Rattle.ptl_types.specs.Operations.{bytes_of}
+use Rattle.ptl_types.specs.Elements.{little_endian}
+use Rattle.coll_text.specs.Text.{words, number_between, is_empty}
+use Rattle.coll_text.specs.Values.{value_of, all_values, or_no_value, data_line}
+use Rattle.coll_text.specs.declared.values.Flaw.TheVariants.{Malformed}
+use Rattle.coll_lang.specs.Forms.{Form, complete, input, barrier, step, print, last, form_of}
+use Rattle.coll_lang.specs.Outline.{length_of}
+use Rattle.coll_lang.specs.Steps.{step_of, spread_after}
+use Rattle.coll_lang.specs.Language.{Past, ◌>>=◌, refuse, or_refuse, is_allowed, ranks_in, may_stand, is_taken, buffer_named, most_elements, unless_flawed, form_line, values_line, later_line, line_at, judge, is_finished}
+use Rattle.coll_lang.specs.Table.{first_row, refusal_in, holds_of, root_number, is_past_last}
+use Rattle.coll_lang.specs.Table as table
+use Rattle.coll_lang.proofs.Rows.{by_the_table}
+use Rattle.coll_lang.specs.declared.types.Spread.{Spread}
+use Rattle.coll_lang.specs.declared.types.Spread.TheVariants.{Even, Only}
+use Rattle.coll_lang.specs.declared.forms.StepKind.{StepKind}
+use Rattle.coll_lang.specs.declared.forms.StepKind.TheVariants.{Broadcast, Reduce, Allreduce, Gather, Allgather, Alltoall, Scan}
+use Rattle.coll_lang.specs.declared.stage.Stage.{Stage}
+use Rattle.coll_lang.specs.declared.stage.Stage.TheVariants.{Version, Ranks, Options, Inputs, Data, Steps, Prints, Finished}
+use Rattle.coll_lang.specs.declared.fault.Refusal.{Refusal}
+use Rattle.coll_lang.specs.declared.fault.Refusal.TheVariants.{BadByte, BadHeader, BadRanks, BadLine, BadNumber, NameTaken, UnknownBuffer, BadRoot, WrongShape, TooMany, TooLarge}
+use Rattle.language_table.specs.Rows.{said, wrong, standing, kind_at, misshapen, length_made, rows_of, ByTheRows}
+
+-- the last rows of a step, by what it makes
+ends : Bool → Option Spread → Option Refusal
+ends full made = first_row ((WrongShape, is_none made) ∷ (TooMany, full) ∷ (TooLarge, holds_of (λ s. nat_lt most_elements (length_of s)) made) ∷ [])
+
+-- the same by the shape of what it reads
+by_shape : Bool → Bool → ℕ → Option Refusal
+by_shape full bad len = first_row ((WrongShape, bad) ∷ (TooMany, full) ∷ (TooLarge, nat_lt most_elements len) ∷ [])
+
+-- what the root alone holds is as long
+at_the_root : (full one : Bool) (root len : ℕ) → ends full (Some (cond one (Even len) (Only root len))) ≡ by_shape full false len
+unfolding ends by_shape
+at_the_root full true root len = refl
+at_the_root full false root len = refl
+
+made_if : (full b : Bool) (len : ℕ) → ends full (cond b (Some (Even len)) None) ≡ by_shape full (not b) len
+unfolding ends by_shape
+made_if full true len = refl
+made_if full false len = refl
+
+shapes : (ranks : ℕ) (kind : StepKind) (r i l : ℕ) (full : Bool) (s : Spread) → ends full (spread_after ranks (step_of kind r i l) s) ≡ by_shape full (misshapen ranks kind r s) (length_made ranks kind (length_of s))
+unfolding ends by_shape
+shapes ranks Broadcast r i l full (Even len) = refl
+shapes ranks Broadcast r i l full (Only rank len) = made_if full (rank == r) len
+shapes ranks (Reduce op) r i l full (Even len) = at_the_root full (ranks == 1) r len
+shapes ranks (Reduce op) r i l full (Only rank len) = refl
+shapes ranks (Allreduce op) r i l full (Even len) = refl
+shapes ranks (Allreduce op) r i l full (Only rank len) = refl
+shapes ranks Gather r i l full (Even len) = at_the_root full (ranks == 1) r (len * ranks)
+shapes ranks Gather r i l full (Only rank len) = refl
+shapes ranks Allgather r i l full (Even len) = refl
+shapes ranks Allgather r i l full (Only rank len) = refl
+shapes ranks Alltoall r i l full (Even len) = made_if full (len % ranks == 0) len
+shapes ranks Alltoall r i l full (Only rank len) = refl
+shapes ranks (Scan op) r i l full (Even len) = refl
+shapes ranks (Scan op) r i l full (Only rank len) = refl
+
+-- a step, by its words
+steps : (ranks : ℕ) (kind : StepKind) (number : Option ℕ) (taken : Bool) (from : Option (ℕ × ElemType × Spread)) (late full : Bool) (l : ℕ)
+    → first_row ((BadNumber, is_none number) ∷ (NameTaken, taken) ∷ (UnknownBuffer, is_none from) ∷ (BadRoot, late)
+    ∷ (WrongShape, is_none (option_and_then (λ f. option_and_then (λ r. spread_after ranks (step_of kind r f.0 l) f.2) number) from)) ∷ (TooMany, full)
+    ∷ (TooLarge, holds_of (λ s. nat_lt most_elements (length_of s)) (option_and_then (λ f. option_and_then (λ r. spread_after ranks (step_of kind r f.0 l) f.2) number) from)) ∷ [])
+    ≡ first_row ((BadNumber, is_none number) ∷ (NameTaken, taken) ∷ (UnknownBuffer, is_none from) ∷ (BadRoot, late)
+    ∷ (WrongShape, holds_of (λ f. holds_of (λ r. misshapen ranks kind r f.2) number) from) ∷ (TooMany, full)
+    ∷ (TooLarge, holds_of (λ f. nat_lt most_elements (length_made ranks kind (length_of f.2))) from) ∷ [])
+unfolding ends by_shape
+steps ranks kind None taken from late full l = refl
+steps ranks kind (Some r) true from late full l = refl
+steps ranks kind (Some r) false None late full l = refl
+steps ranks kind (Some r) false (Some f) true full l = refl
+steps ranks kind (Some r) false (Some f) false full l = shapes ranks kind r f.0 l full f.2
+
+forms : (past : Past) (form : Form) → first_row (table.rows past form) ≡ first_row (rows_of past.most_printed past (said form))
+forms past complete = refl
+forms past (input name ty count) = open_end (is_none (number_between 1 4096 count)) (is_taken past.buffers name) (nat_le 128 (length past.buffers))
+  where
+    open_end : (a b c : Bool) → first_row ((BadNumber, a) ∷ (NameTaken, b) ∷ (TooMany, c) ∷ []) ≡ first_row ((BadNumber, a) ∷ (NameTaken, b) ∷ (UnknownBuffer, false) ∷ (BadRoot, false) ∷ (WrongShape, false) ∷ (TooMany, c) ∷ (TooLarge, false) ∷ [])
+    open_end a b c = refl
+forms past barrier = refl
+forms past (step root kind a b) = steps past.ranks kind (root_number root) (is_taken past.buffers b) (buffer_named past.buffers a) (is_past_last past.ranks root) (nat_le 64 (length past.steps) || nat_le 128 (length past.buffers)) (length past.buffers)
+forms past (print name) = refl
+forms past last = refl
+
+by_form : (past : Past) (form : Form) → refusal_in (form_line past form) ≡ first_row (rows_of past.most_printed past (said form))
+by_form past form = by_the_table past form ∙ forms past form
+
+-- a line that says something, if that may stand here
+if_it_stands : (past : Past) (form : Form) (b : Bool)
+    → refusal_in (refuse (not b) BadLine >>= λ _. form_line past form) ≡ first_row (rows_of past.most_printed past (cond b (said form) wrong))
+if_it_stands past form true = by_form past form
+if_it_stands past form false = refl
+
+stands : (past : Past) (stage : Stage) (form : Option Form)
+    → refusal_in (or_refuse BadLine form >>= λ f. refuse (not (may_stand stage f)) BadLine >>= λ _. form_line past f) ≡ first_row (rows_of past.most_printed past (standing stage form))
+stands past stage None = refl
+stands past stage (Some form) = if_it_stands past form (may_stand stage form)
+
+later : (past : Past) (stage : Stage) (line : List ℕ) → past.stage ≡ stage → refusal_in (later_line past line) ≡ first_row (rows_of past.most_printed past (standing stage (form_of (words line))))
+unfolding later_line
+later past stage line at = subst (λ s. refusal_in (later_line past line) ≡ first_row (rows_of past.most_printed past (standing s (form_of (words line))))) at (stands past past.stage (form_of (words line)))
+
+-- all words are values, or one is none
+values_there : (ty : ElemType) (ws : List (List ℕ)) → is_none (all_values ty ws) ≡ list_any (λ w. is_none (value_of ty w)) ws
+values_there ty [] = refl
+values_there ty (w ∷ ws) = one (value_of ty w) (all_values ty ws) (list_any (λ w. is_none (value_of ty w)) ws) (values_there ty ws)
+  where
+    one : (n : Option ℕ) (more : Option (List ℕ)) (none : Bool) → is_none more ≡ none
+        → is_none (option_and_then (λ n. option_map (λ more. little_endian (bytes_of ty) n ++ more) more) n) ≡ (is_none n || none)
+    one None more none h = refl
+    one (Some n) None none h = h
+    one (Some n) (Some bytes) none h = h
+
+values_end : {A : Type 0} (counted empty : Bool) (bytes : Option (List ℕ)) (next : List ℕ → A)
+    → refusal_in (unless_flawed (cond (counted && not empty) (or_no_value bytes) (Err Malformed)) >>= λ b. Ok (next b)) ≡ first_row ((BadLine, not counted || empty) ∷ (BadNumber, is_none bytes) ∷ [])
+values_end false empty bytes next = refl
+values_end true true bytes next = refl
+values_end true false None next = refl
+values_end true false (Some b) next = refl
+
+-- a data line
+data_lines : (past : Past) (left : ℕ) (ty : ElemType) (count : ℕ) (line : List ℕ)
+    → refusal_in (values_line past left ty count line) ≡ first_row ((BadLine, not (length (words line) == count) || list_any is_empty (words line)) ∷ (BadNumber, list_any (λ w. is_none (value_of ty w)) (words line)) ∷ [])
+unfolding values_line data_line
+data_lines past left ty count line =
+    values_end (length (words line) == count) (list_any is_empty (words line)) (all_values ty (words line)) _
+    ∙ ap (λ (b : Bool). first_row ((BadLine, not (length (words line) == count) || list_any is_empty (words line)) ∷ (BadNumber, b) ∷ [])) (values_there ty (words line))
+
+header : {A : Type 0} (b : Bool) (next : A) → (let r : Result A Refusal = cond b (Ok next) (Err BadHeader) in refusal_in r ≡ first_row ((BadHeader, not b) ∷ []))
+header true next = refl
+header false next = refl
+
+ranks_end : {A : Type 0} (n : Option ℕ) (next : ℕ → A) → refusal_in (or_refuse BadRanks n >>= λ n. Ok (next n)) ≡ first_row ((BadRanks, is_none n) ∷ [])
+ranks_end None next = refl
+ranks_end (Some n) next = refl
+
+at : (stage : Stage) (past : Past) (line : List ℕ) → past.stage ≡ stage → is_finished stage ≡ false → refusal_in (line_at stage past line) ≡ first_row (rows_of past.most_printed past (kind_at stage line))
+unfolding line_at
+at Version past line e due = header (bytes_eq line (codes "coll 1")) _
+at Ranks past line e due = ranks_end (ranks_in (words line)) _
+at (Data left ty count) past line e due = data_lines past left ty count line
+at Options past line e due = later past Options line e
+at Inputs past line e due = later past Inputs line e
+at Steps past line e due = later past Steps line e
+at Prints past line e due = later past Prints line e
+at Finished past line e due = cc
+
+pub by_the_rows : ByTheRows
+unfolding judge
+by_the_rows past line due = bytes (list_all is_allowed line) (line_at past.stage past line) (rows_of past.most_printed past (kind_at past.stage line)) (at past.stage past line refl due)
+  where
+    bytes : (b : Bool) (r : Result Past Refusal) (others : List (Refusal × Bool)) → refusal_in r ≡ first_row others → refusal_in (cond b r (Err BadByte)) ≡ first_row ((BadByte, not b) ∷ others)
+    bytes true r others h = h
+    bytes false r others h = refl
