@@ -1,17 +1,17 @@
 -- A line is judged by the rows.
-use Rattle.std.proofs.Common.{◌≡◌, ℕ, ◌*◌, ◌%◌, List, [], ◌∷◌, ◌++◌, length, Option, Some, None, Result, Ok, Err, Bool, true, false, ◌&&◌, ◌||◌, not, cond, refl, ap, ◌∙◌, subst, codes}
+use Rattle.std.proofs.Common.{◌≡◌, ℕ, ◌+◌, ◌*◌, ◌%◌, List, [], ◌∷◌, ◌++◌, length, Option, Some, None, Result, Ok, Err, Bool, true, false, ◌&&◌, ◌||◌, not, cond, refl, ap, ◌∙◌, subst, codes}
 use Rattle.std.specs.Prelude.{◌==◌, nat_lt, nat_le, is_none, option_and_then, option_map}
 use Rattle.std.specs.List.{list_all, list_any}
 use Rattle.std.specs.Str.{bytes_eq}
 use Rattle.ptl_types.specs.declared.elements.ElemType.{ElemType}
 use Rattle.ptl_types.specs.Operations.{bytes_of}
 use Rattle.ptl_types.specs.Elements.{little_endian}
-use Rattle.coll_text.specs.Text.{words, number_between, is_empty}
+use Rattle.coll_text.specs.Text.{words, is_empty}
 use Rattle.coll_text.specs.Values.{value_of, all_values, or_no_value, data_line}
 use Rattle.coll_text.specs.declared.values.Flaw.TheVariants.{Malformed}
 use Rattle.coll_lang.specs.Forms.{Form, complete, input, barrier, step, print, last, form_of}
 use Rattle.coll_lang.specs.Outline.{length_of}
-use Rattle.coll_lang.specs.Steps.{step_of, spread_after}
+use Rattle.coll_lang.specs.Steps.{elements_of, step_of, spread_after}
 use Rattle.coll_lang.specs.Language.{Past, ◌>>=◌, refuse, or_refuse, is_allowed, ranks_in, may_stand, is_taken, buffer_named, most_elements, unless_flawed, form_line, values_line, later_line, line_at, judge, is_finished}
 use Rattle.coll_lang.specs.Table.{first_row, refusal_in, holds_of, root_number, is_past_last}
 use Rattle.coll_lang.specs.Table as table
@@ -24,7 +24,7 @@ use Rattle.coll_lang.specs.declared.stage.Stage.{Stage}
 use Rattle.coll_lang.specs.declared.stage.Stage.TheVariants.{Version, Ranks, Options, Inputs, Data, Steps, Prints, Finished}
 use Rattle.coll_lang.specs.declared.fault.Refusal.{Refusal}
 use Rattle.coll_lang.specs.declared.fault.Refusal.TheVariants.{BadByte, BadHeader, BadRanks, BadLine, BadNumber, NameTaken, UnknownBuffer, BadRoot, WrongShape, TooMany, TooLarge}
-use Rattle.language_table.specs.Rows.{said, wrong, standing, kind_at, misshapen, length_made, rows_of, ByTheRows}
+use Rattle.language_table.specs.Rows.{Counts, printed_in, said, wrong, standing, kind_at, misshapen, length_made, rows_of, ByTheRows}
 
 -- the last rows of a step, by what it makes
 ends : Bool → Option Spread → Option Refusal
@@ -77,34 +77,42 @@ steps ranks kind (Some r) false None late full l = refl
 steps ranks kind (Some r) false (Some f) true full l = refl
 steps ranks kind (Some r) false (Some f) false full l = shapes ranks kind r f.0 l full f.2
 
-forms : (past : Past) (form : Form) → first_row (table.rows past form) ≡ first_row (rows_of past.most_printed past (said form))
-forms past complete = refl
-forms past (input name ty count) = open_end (is_none (number_between 1 4096 count)) (is_taken past.buffers name) (nat_le 128 (length past.buffers))
+-- a print, with the elements so far and the most as they are said
+prints : (most : ℕ) (past : Past) (from : Option (ℕ × ElemType × Spread)) → Counts most past
+    → first_row ((UnknownBuffer, is_none from) ∷ (TooMany, nat_le 128 (length past.prints)) ∷ (TooLarge, holds_of (λ f. nat_lt past.most_printed (past.printed + elements_of past.ranks f.2)) from) ∷ [])
+    ≡ first_row ((UnknownBuffer, is_none from) ∷ (TooMany, nat_le 128 (length past.prints)) ∷ (TooLarge, holds_of (λ f. nat_lt most (printed_in past + elements_of past.ranks f.2)) from) ∷ [])
+prints most past from counts = alike past.most_printed most past.printed (printed_in past) counts.limit counts.counted
   where
-    open_end : (a b c : Bool) → first_row ((BadNumber, a) ∷ (NameTaken, b) ∷ (TooMany, c) ∷ []) ≡ first_row ((BadNumber, a) ∷ (NameTaken, b) ∷ (UnknownBuffer, false) ∷ (BadRoot, false) ∷ (WrongShape, false) ∷ (TooMany, c) ∷ (TooLarge, false) ∷ [])
-    open_end a b c = refl
-forms past barrier = refl
-forms past (step root kind a b) = steps past.ranks kind (root_number root) (is_taken past.buffers b) (buffer_named past.buffers a) (is_past_last past.ranks root) (nat_le 64 (length past.steps) || nat_le 128 (length past.buffers)) (length past.buffers)
-forms past (print name) = refl
-forms past last = refl
+    alike : (l m p q : ℕ) → l ≡ m → p ≡ q
+        → first_row ((UnknownBuffer, is_none from) ∷ (TooMany, nat_le 128 (length past.prints)) ∷ (TooLarge, holds_of (λ f. nat_lt l (p + elements_of past.ranks f.2)) from) ∷ [])
+        ≡ first_row ((UnknownBuffer, is_none from) ∷ (TooMany, nat_le 128 (length past.prints)) ∷ (TooLarge, holds_of (λ f. nat_lt m (q + elements_of past.ranks f.2)) from) ∷ [])
+    alike l m p q e f = rw (e, f) refl
 
-by_form : (past : Past) (form : Form) → refusal_in (form_line past form) ≡ first_row (rows_of past.most_printed past (said form))
-by_form past form = by_the_table past form ∙ forms past form
+forms : (most : ℕ) (past : Past) (form : Form) → Counts most past → first_row (table.rows past form) ≡ first_row (rows_of most past (said form))
+forms most past complete counts = refl
+forms most past (input name ty count) counts = refl
+forms most past barrier counts = refl
+forms most past (step root kind a b) counts = steps past.ranks kind (root_number root) (is_taken past.buffers b) (buffer_named past.buffers a) (is_past_last past.ranks root) (nat_le 64 (length past.steps) || nat_le 128 (length past.buffers)) (length past.buffers)
+forms most past (print name) counts = prints most past (buffer_named past.buffers name) counts
+forms most past last counts = refl
+
+by_form : (most : ℕ) (past : Past) (form : Form) → Counts most past → refusal_in (form_line past form) ≡ first_row (rows_of most past (said form))
+by_form most past form counts = by_the_table past form ∙ forms most past form counts
 
 -- a line that says something, if that may stand here
-if_it_stands : (past : Past) (form : Form) (b : Bool)
-    → refusal_in (refuse (not b) BadLine >>= λ _. form_line past form) ≡ first_row (rows_of past.most_printed past (cond b (said form) wrong))
-if_it_stands past form true = by_form past form
-if_it_stands past form false = refl
+if_it_stands : (most : ℕ) (past : Past) (form : Form) (b : Bool) → Counts most past
+    → refusal_in (refuse (not b) BadLine >>= λ _. form_line past form) ≡ first_row (rows_of most past (cond b (said form) wrong))
+if_it_stands most past form true counts = by_form most past form counts
+if_it_stands most past form false counts = refl
 
-stands : (past : Past) (stage : Stage) (form : Option Form)
-    → refusal_in (or_refuse BadLine form >>= λ f. refuse (not (may_stand stage f)) BadLine >>= λ _. form_line past f) ≡ first_row (rows_of past.most_printed past (standing stage form))
-stands past stage None = refl
-stands past stage (Some form) = if_it_stands past form (may_stand stage form)
+stands : (most : ℕ) (past : Past) (stage : Stage) (form : Option Form) → Counts most past
+    → refusal_in (or_refuse BadLine form >>= λ f. refuse (not (may_stand stage f)) BadLine >>= λ _. form_line past f) ≡ first_row (rows_of most past (standing stage form))
+stands most past stage None counts = refl
+stands most past stage (Some form) counts = if_it_stands most past form (may_stand stage form) counts
 
-later : (past : Past) (stage : Stage) (line : List ℕ) → past.stage ≡ stage → refusal_in (later_line past line) ≡ first_row (rows_of past.most_printed past (standing stage (form_of (words line))))
+later : (most : ℕ) (past : Past) (stage : Stage) (line : List ℕ) → Counts most past → past.stage ≡ stage → refusal_in (later_line past line) ≡ first_row (rows_of most past (standing stage (form_of (words line))))
 unfolding later_line
-later past stage line at = subst (λ s. refusal_in (later_line past line) ≡ first_row (rows_of past.most_printed past (standing s (form_of (words line))))) at (stands past past.stage (form_of (words line)))
+later most past stage line counts at = subst (λ s. refusal_in (later_line past line) ≡ first_row (rows_of most past (standing s (form_of (words line))))) at (stands most past past.stage (form_of (words line)) counts)
 
 -- all words are values, or one is none
 values_there : (ty : ElemType) (ws : List (List ℕ)) → is_none (all_values ty ws) ≡ list_any (λ w. is_none (value_of ty w)) ws
@@ -140,20 +148,20 @@ ranks_end : {A : Type 0} (n : Option ℕ) (next : ℕ → A) → refusal_in (or_
 ranks_end None next = refl
 ranks_end (Some n) next = refl
 
-at : (stage : Stage) (past : Past) (line : List ℕ) → past.stage ≡ stage → is_finished stage ≡ false → refusal_in (line_at stage past line) ≡ first_row (rows_of past.most_printed past (kind_at stage line))
+at : (most : ℕ) (stage : Stage) (past : Past) (line : List ℕ) → Counts most past → past.stage ≡ stage → is_finished stage ≡ false → refusal_in (line_at stage past line) ≡ first_row (rows_of most past (kind_at stage line))
 unfolding line_at
-at Version past line e due = header (bytes_eq line (codes "coll 1")) _
-at Ranks past line e due = ranks_end (ranks_in (words line)) _
-at (Data left ty count) past line e due = data_lines past left ty count line
-at Options past line e due = later past Options line e
-at Inputs past line e due = later past Inputs line e
-at Steps past line e due = later past Steps line e
-at Prints past line e due = later past Prints line e
-at Finished past line e due = cc
+at most Version past line counts e due = header (bytes_eq line (codes "coll 1")) _
+at most Ranks past line counts e due = ranks_end (ranks_in (words line)) _
+at most (Data left ty count) past line counts e due = data_lines past left ty count line
+at most Options past line counts e due = later most past Options line counts e
+at most Inputs past line counts e due = later most past Inputs line counts e
+at most Steps past line counts e due = later most past Steps line counts e
+at most Prints past line counts e due = later most past Prints line counts e
+at most Finished past line counts e due = cc
 
 pub by_the_rows : ByTheRows
 unfolding judge
-by_the_rows past line due = bytes (list_all is_allowed line) (line_at past.stage past line) (rows_of past.most_printed past (kind_at past.stage line)) (at past.stage past line refl due)
+by_the_rows most past line counts due = bytes (list_all is_allowed line) (line_at past.stage past line) (rows_of most past (kind_at past.stage line)) (at most past.stage past line counts refl due)
   where
     bytes : (b : Bool) (r : Result Past Refusal) (others : List (Refusal × Bool)) → refusal_in r ≡ first_row others → refusal_in (cond b r (Err BadByte)) ≡ first_row ((BadByte, not b) ∷ others)
     bytes true r others h = h

@@ -1,10 +1,17 @@
 //! The table of refusals as laws over whole lines and whole texts: which rows hold of a line, given the lines before it, in
-//! the order of their numbers, and that the lowest one counts.
+//! the order of their numbers, and that the lowest line counts, and on it the lowest row.
 #![tactic(auto)]
 
 ghost use Rattle.language_table.specs.Rows.{ByTheRows};
+ghost use Rattle.language_table.specs.Texts.{LinesCount, TextsByTheRows};
 
-/// A line that is due is refused by the first row that holds of it, and taken where none does.
+/// A line that is due is refused by the first row that holds of it, and taken where none does, behind all that lines may say.
 pub fn refused_by_the_rows()
-    ensures { ByTheRows }
+    ensures rows { ByTheRows }
+    ensures counted { LinesCount }
+{}
+
+/// A text is refused exactly where a row holds: TooLong first, then the row of the lowest line, then the lowest row.
+pub fn texts_refused_by_the_rows()
+    ensures { TextsByTheRows }
 {}
