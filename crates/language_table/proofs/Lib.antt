@@ -1,3 +1,4 @@
 pub mod Lines
 pub mod Counting
 pub mod Texts
+pub mod Grammar

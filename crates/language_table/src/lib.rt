@@ -2,6 +2,7 @@
 //! the order of their numbers, and that the lowest line counts, and on it the lowest row.
 #![tactic(auto)]
 
+ghost use Rattle.language_table.specs.Grammar.{WordsByTheTable};
 ghost use Rattle.language_table.specs.Rows.{ByTheRows};
 ghost use Rattle.language_table.specs.Texts.{LinesCount, TextsByTheRows};
 
@@ -14,4 +15,10 @@ pub fn refused_by_the_rows()
 /// A text is refused exactly where a row holds: TooLong first, then the row of the lowest line, then the lowest row.
 pub fn texts_refused_by_the_rows()
     ensures { TextsByTheRows }
+{}
+
+/// Behind the first two lines, words are taken for a line exactly where they are one of the table of lines that may stand
+/// there; a data line has no such words.
+pub fn words_by_the_table()
+    ensures { WordsByTheTable }
 {}
