@@ -15,7 +15,7 @@ use Rattle.coll_lang.specs.declared.stage.Stage.{Stage}
 use Rattle.coll_lang.specs.declared.stage.Stage.TheVariants.{Version, Ranks, Options, Inputs, Data, Steps, Prints, Finished}
 use Rattle.language_table.specs.Grammar.{Place, name, type, op, number, remote, all_fit, first_part, may_be, WordsByTheTable}
 
-way : (b : Bool) → (b ≡ true) ⊎ (b ≡ false)
+pub way : (b : Bool) → (b ≡ true) ⊎ (b ≡ false)
 way true = inl refl
 way false = inr refl
 
@@ -259,12 +259,25 @@ unfolding form_of step_in kind_in root_in
 another key e0 e1 e2 e3 e4 e5 e6 e7 e8 e9 e10 e11 stage [] = rw (e0, e1, e2, e3, e4, e5, e6, e7, e8, e9, e10, e11) refl
 another key e0 e1 e2 e3 e4 e5 e6 e7 e8 e9 e10 e11 stage (w ∷ ws) = rw (e0, e1, e2, e3, e4, e5, e6, e7, e8, e9, e10, e11) refl
 
-found : (key word : List ℕ) → By word → bytes_eq key word ≡ true → By key
-found key word by e = subst By (sym (same key word e)) by
+-- the first word is that one, or it isn't
+either : (key word : List ℕ) → By word → (bytes_eq key word ≡ false → By key) → By key
+either key word by others = elim (way (bytes_eq key word)) [ inl e ↦ subst By (sym (same key word e)) by | inr e ↦ others e ]
 
 by_key : (key : List ℕ) → By key
 by_key key =
-    elim (way (bytes_eq key (codes "complete"))) [ inl e ↦ found key (codes "complete") by_complete e | inr e0 ↦ elim (way (bytes_eq key (codes "input"))) [ inl e ↦ found key (codes "input") by_input e | inr e1 ↦ elim (way (bytes_eq key (codes "barrier"))) [ inl e ↦ found key (codes "barrier") by_barrier e | inr e2 ↦ elim (way (bytes_eq key (codes "broadcast"))) [ inl e ↦ found key (codes "broadcast") by_broadcast e | inr e3 ↦ elim (way (bytes_eq key (codes "reduce"))) [ inl e ↦ found key (codes "reduce") by_reduce e | inr e4 ↦ elim (way (bytes_eq key (codes "allreduce"))) [ inl e ↦ found key (codes "allreduce") by_allreduce e | inr e5 ↦ elim (way (bytes_eq key (codes "gather"))) [ inl e ↦ found key (codes "gather") by_gather e | inr e6 ↦ elim (way (bytes_eq key (codes "allgather"))) [ inl e ↦ found key (codes "allgather") by_allgather e | inr e7 ↦ elim (way (bytes_eq key (codes "alltoall"))) [ inl e ↦ found key (codes "alltoall") by_alltoall e | inr e8 ↦ elim (way (bytes_eq key (codes "scan"))) [ inl e ↦ found key (codes "scan") by_scan e | inr e9 ↦ elim (way (bytes_eq key (codes "print"))) [ inl e ↦ found key (codes "print") by_print e | inr e10 ↦ elim (way (bytes_eq key (codes "end"))) [ inl e ↦ found key (codes "end") by_end e | inr e11 ↦ another key e0 e1 e2 e3 e4 e5 e6 e7 e8 e9 e10 e11 ] ] ] ] ] ] ] ] ] ] ] ]
+    either key (codes "complete") by_complete (λ e0.
+    either key (codes "input") by_input (λ e1.
+    either key (codes "barrier") by_barrier (λ e2.
+    either key (codes "broadcast") by_broadcast (λ e3.
+    either key (codes "reduce") by_reduce (λ e4.
+    either key (codes "allreduce") by_allreduce (λ e5.
+    either key (codes "gather") by_gather (λ e6.
+    either key (codes "allgather") by_allgather (λ e7.
+    either key (codes "alltoall") by_alltoall (λ e8.
+    either key (codes "scan") by_scan (λ e9.
+    either key (codes "print") by_print (λ e10.
+    either key (codes "end") by_end (λ e11.
+    another key e0 e1 e2 e3 e4 e5 e6 e7 e8 e9 e10 e11))))))))))))
 
 pub words_by_the_table : WordsByTheTable
 unfolding form_of

@@ -24,7 +24,9 @@ use Rattle.coll_lang.specs.declared.stage.Stage.{Stage}
 use Rattle.coll_lang.specs.declared.stage.Stage.TheVariants.{Version, Ranks, Options, Inputs, Data, Steps, Prints, Finished}
 use Rattle.coll_lang.specs.declared.fault.Refusal.{Refusal}
 use Rattle.coll_lang.specs.declared.fault.Refusal.TheVariants.{BadByte, BadHeader, BadRanks, BadLine, BadNumber, NameTaken, UnknownBuffer, BadRoot, WrongShape, TooMany, TooLarge}
-use Rattle.language_table.specs.Rows.{Counts, printed_in, said, wrong, standing, kind_at, misshapen, length_made, rows_of, ByTheRows}
+use Rattle.language_table.specs.Grammar.{may_be}
+use Rattle.language_table.specs.Rows.{Counts, printed_in, other, no_number, name_taken, unknown_buffer, bad_root, wrong_shape, too_many, too_large, kind_at, misshapen, length_made, rows_of, ByTheRows}
+use Rattle.language_table.proofs.Grammar.{words_by_the_table}
 
 -- the last rows of a step, by what it makes
 ends : Bool → Option Spread → Option Refusal
@@ -88,7 +90,19 @@ prints most past from counts = alike past.most_printed most past.printed (printe
         ≡ first_row ((UnknownBuffer, is_none from) ∷ (TooMany, nat_le 128 (length past.prints)) ∷ (TooLarge, holds_of (λ f. nat_lt m (q + elements_of past.ranks f.2)) from) ∷ [])
     alike l m p q e f = rw (e, f) refl
 
-forms : (most : ℕ) (past : Past) (form : Form) → Counts most past → first_row (table.rows past form) ≡ first_row (rows_of most past (said form))
+-- the rows of a line behind the first two that is no data line
+abbrev others : ℕ → Past → Bool → Option Form → List (Refusal × Bool)
+others most past right form =
+    (BadLine, not right)
+    ∷ (BadNumber, holds_of no_number form)
+    ∷ (NameTaken, holds_of (name_taken past) form)
+    ∷ (UnknownBuffer, holds_of (unknown_buffer past) form)
+    ∷ (BadRoot, holds_of (bad_root past) form)
+    ∷ (WrongShape, holds_of (wrong_shape past) form)
+    ∷ (TooMany, holds_of (too_many past) form)
+    ∷ (TooLarge, holds_of (too_large most past) form) ∷ []
+
+forms : (most : ℕ) (past : Past) (form : Form) → Counts most past → first_row (table.rows past form) ≡ first_row (others most past true (Some form))
 forms most past complete counts = refl
 forms most past (input name ty count) counts = refl
 forms most past barrier counts = refl
@@ -96,23 +110,22 @@ forms most past (step root kind a b) counts = steps past.ranks kind (root_number
 forms most past (print name) counts = prints most past (buffer_named past.buffers name) counts
 forms most past last counts = refl
 
-by_form : (most : ℕ) (past : Past) (form : Form) → Counts most past → refusal_in (form_line past form) ≡ first_row (rows_of most past (said form))
-by_form most past form counts = by_the_table past form ∙ forms most past form counts
-
 -- a line that says something, if that may stand here
 if_it_stands : (most : ℕ) (past : Past) (form : Form) (b : Bool) → Counts most past
-    → refusal_in (refuse (not b) BadLine >>= λ _. form_line past form) ≡ first_row (rows_of most past (cond b (said form) wrong))
-if_it_stands most past form true counts = by_form most past form counts
+    → refusal_in (refuse (not b) BadLine >>= λ _. form_line past form) ≡ first_row (others most past b (Some form))
+if_it_stands most past form true counts = by_the_table past form ∙ forms most past form counts
 if_it_stands most past form false counts = refl
 
-stands : (most : ℕ) (past : Past) (stage : Stage) (form : Option Form) → Counts most past
-    → refusal_in (or_refuse BadLine form >>= λ f. refuse (not (may_stand stage f)) BadLine >>= λ _. form_line past f) ≡ first_row (rows_of most past (standing stage form))
-stands most past stage None counts = refl
-stands most past stage (Some form) counts = if_it_stands most past form (may_stand stage form) counts
+stands : (most : ℕ) (past : Past) (stage : Stage) (form : Option Form) (right : Bool) → Counts most past → holds_of (may_stand stage) form ≡ right
+    → refusal_in (or_refuse BadLine form >>= λ f. refuse (not (may_stand stage f)) BadLine >>= λ _. form_line past f) ≡ first_row (others most past right form)
+stands most past stage None right counts e = subst (λ r. Some BadLine ≡ first_row (others most past r None)) e refl
+stands most past stage (Some form) right counts e =
+    subst (λ r. refusal_in (refuse (not (may_stand stage form)) BadLine >>= λ _. form_line past form) ≡ first_row (others most past r (Some form))) e (if_it_stands most past form (may_stand stage form) counts)
 
-later : (most : ℕ) (past : Past) (stage : Stage) (line : List ℕ) → Counts most past → past.stage ≡ stage → refusal_in (later_line past line) ≡ first_row (rows_of most past (standing stage (form_of (words line))))
+later : (most : ℕ) (past : Past) (stage : Stage) (line : List ℕ) → Counts most past → past.stage ≡ stage → refusal_in (later_line past line) ≡ first_row (rows_of most past (other stage (words line)))
 unfolding later_line
-later most past stage line counts at = subst (λ s. refusal_in (later_line past line) ≡ first_row (rows_of most past (standing s (form_of (words line))))) at (stands most past past.stage (form_of (words line)) counts)
+later most past stage line counts at =
+    stands most past past.stage (form_of (words line)) (may_be stage (words line)) counts (ap (λ s. holds_of (may_stand s) (form_of (words line))) at ∙ words_by_the_table stage (words line))
 
 -- all words are values, or one is none
 values_there : (ty : ElemType) (ws : List (List ℕ)) → is_none (all_values ty ws) ≡ list_any (λ w. is_none (value_of ty w)) ws

@@ -11,14 +11,12 @@ use Rattle.coll_lang.specs.declared.stage.Stage.{Stage}
 use Rattle.coll_lang.specs.declared.stage.Stage.TheVariants.{Version, Ranks, Options, Inputs, Data, Steps, Prints, Finished}
 use Rattle.coll_lang.specs.declared.fault.Refusal.{Refusal}
 use Rattle.coll_lang.specs.declared.fault.Refusal.TheVariants.{TooLong, BadByte, Unended, AfterEnd}
+use Rattle.coll_lang.proofs.Sound.{not_above}
 use Rattle.language_table.specs.Rows.{rows}
 use Rattle.language_table.specs.Texts.{said_by, rows_in, IsRefusedAt, IsFirstRefusal, TextsByTheRows}
+use Rattle.language_table.proofs.Grammar.{way}
 use Rattle.language_table.proofs.Lines.{by_the_rows}
 use Rattle.language_table.proofs.Counting.{Held, held_on, held_first}
-
-way : (b : Bool) → (b ≡ true) ⊎ (b ≡ false)
-way true = inl refl
-way false = inr refl
 
 answered : (r : Result Past Refusal) → ((next : Past) × (r ≡ Ok next)) ⊎ ((name : Refusal) × (r ≡ Err name))
 answered (Ok next) = inl (next, refl)
@@ -198,9 +196,6 @@ too_long k name h = (sym (ap line_in h), same_name (sym (ap name_in h)))
 above : (n : ℕ) → nat_lt 1048576 n ≡ true → 1048576 < n
 above n h = grind (arith, nat_tests)
 
-not_above : (n : ℕ) → nat_lt 1048576 n ≡ false → n ≤ 1048576
-not_above n h = grind (arith, nat_tests)
-
 is_above : (n : ℕ) → 1048576 < n → nat_lt 1048576 n ≡ true
 is_above n h = grind (arith, nat_tests)
 
@@ -217,7 +212,7 @@ there : (most : ℕ) (bytes : List ℕ) (k : ℕ) (name : Refusal) → read_up_t
 unfolding read_by
 there most bytes k name h = elim (way (nat_lt 1048576 (length bytes))) [
   | inl long ↦ inl ((above (length bytes) long, (too_long k name (sym (rw long refl) ∙ h)).0, (too_long k name (sym (rw long refl) ∙ h)).1))
-  | inr short ↦ inr ((not_above (length bytes) short, reading most bytes k name (program_refused (read_from judge AfterEnd (nothing most) 1 (lines bytes)) k name (sym (rw short refl) ∙ h))))
+  | inr short ↦ inr ((not_above 1048576 (length bytes) short, reading most bytes k name (program_refused (read_from judge AfterEnd (nothing most) 1 (lines bytes)) k name (sym (rw short refl) ∙ h))))
 ]
 
 back : (most : ℕ) (bytes : List ℕ) (k : ℕ) (name : Refusal) → IsFirstRefusal most bytes k name → read_up_to most bytes ≡ Err (k, name)

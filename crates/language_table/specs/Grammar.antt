@@ -48,7 +48,8 @@ table =
     ∷ (codes "print", 3, name ∷ [])
     ∷ (codes "end", 3, []) ∷ []
 
--- the first part whose lines may stand at this stage: those of the parts behind it may too
+-- The first part whose lines may stand at this stage; those of the parts behind it may too. Part 4 has none: there another line
+-- is due, or none is.
 abbrev pub first_part : Stage → ℕ
 first_part Options = 0
 first_part Inputs = 1
@@ -64,6 +65,6 @@ abbrev pub may_be : Stage → List (List ℕ) → Bool
 may_be stage [] = false
 may_be stage (key ∷ ws) = list_any (λ line. bytes_eq key line.0 && (all_fit line.2 ws && nat_le (first_part stage) line.1)) table
 
--- Words say what may stand here exactly where they are a line of the table that may.
+-- The words of a line say what may stand here exactly where they are those of a line of the table that may.
 abbrev pub WordsByTheTable : Type 0
 WordsByTheTable = (stage : Stage) (ws : List (List ℕ)) → holds_of (may_stand stage) (form_of ws) ≡ may_be stage ws

@@ -1,5 +1,5 @@
 -- The table of refusals: for each row a test that is true exactly where the row holds of a line, given the lines before it.
-use Rattle.std.specs.Prelude.{◌≡◌, ℕ, ◌+◌, ◌*◌, ◌%◌, List, [], ◌∷◌, length, Option, Some, None, Bool, true, false, ◌||◌, not, ◌==◌, nat_lt, nat_le, is_none, if◌then◌else◌, codes}
+use Rattle.std.specs.Prelude.{◌≡◌, ℕ, ◌+◌, ◌*◌, ◌%◌, List, [], ◌∷◌, length, Option, None, Bool, true, false, ◌||◌, not, ◌==◌, nat_lt, nat_le, is_none, codes}
 use Rattle.std.specs.List.{list_all, list_any, sum_by}
 use Rattle.std.specs.Str.{bytes_eq}
 use Rattle.ptl_types.specs.declared.elements.ElemType.{ElemType}
@@ -8,7 +8,7 @@ use Rattle.coll_text.specs.Values.{value_of}
 use Rattle.coll_lang.specs.Forms.{Form, complete, input, barrier, step, print, last, form_of}
 use Rattle.coll_lang.specs.Outline.{length_of, spread_at}
 use Rattle.coll_lang.specs.Steps.{elements_of}
-use Rattle.coll_lang.specs.Language.{Past, is_allowed, ranks_in, may_stand, is_taken, buffer_named, most_elements, is_finished, judge}
+use Rattle.coll_lang.specs.Language.{Past, is_allowed, ranks_in, is_taken, buffer_named, most_elements, is_finished, judge}
 use Rattle.coll_lang.specs.Table.{holds_of, root_number, is_past_last, first_row, refusal_in}
 use Rattle.coll_lang.specs.declared.types.Spread.{Spread}
 use Rattle.coll_lang.specs.declared.types.Spread.TheVariants.{Even, Only}
@@ -17,76 +17,70 @@ use Rattle.coll_lang.specs.declared.forms.StepKind.TheVariants.{Broadcast, Reduc
 use Rattle.coll_lang.specs.declared.stage.Stage.{Stage}
 use Rattle.coll_lang.specs.declared.stage.Stage.TheVariants.{Version, Ranks, Options, Inputs, Data, Steps, Prints, Finished}
 use Rattle.coll_lang.specs.declared.fault.Refusal.{Refusal}
+use Rattle.language_table.specs.Grammar.{may_be}
 use Rattle.coll_lang.specs.declared.fault.Refusal.TheVariants.{BadByte, BadHeader, BadRanks, BadLine, BadNumber, NameTaken, UnknownBuffer, BadRoot, WrongShape, TooMany, TooLarge}
 
--- What a line is where it stands: line 1; line 2 with its words; a data line of so many values with its words; another
--- line whose words say what may stand there; or one whose words don't.
+-- What a line is where it stands: line 1; line 2 by its words; a data line of so many values by its words; or another by
+-- its words.
 pub data Kind : Type 0 where
   first : (line : List ℕ) → Kind
   second : (words : List (List ℕ)) → Kind
   values : (ty : ElemType) (count : ℕ) (words : List (List ℕ)) → Kind
-  said : (form : Form) → Kind
-  wrong : Kind
-
--- a line behind the first two that is no data line
-abbrev pub standing : Stage → Option Form → Kind
-standing stage None = wrong
-standing stage (Some form) = if may_stand stage form then said form else wrong
+  other : (stage : Stage) (words : List (List ℕ)) → Kind
 
 abbrev pub kind_at : Stage → List ℕ → Kind
 kind_at Version line = first line
 kind_at Ranks line = second (words line)
 kind_at (Data left ty count) line = values ty count (words line)
-kind_at Options line = standing Options (form_of (words line))
-kind_at Inputs line = standing Inputs (form_of (words line))
-kind_at Steps line = standing Steps (form_of (words line))
-kind_at Prints line = standing Prints (form_of (words line))
-kind_at Finished line = wrong
+kind_at Options line = other Options (words line)
+kind_at Inputs line = other Inputs (words line)
+kind_at Steps line = other Steps (words line)
+kind_at Prints line = other Prints (words line)
+kind_at Finished line = other Finished (words line)
 
 -- line 1 isn't `coll 1`
 abbrev pub bad_header : Kind → Bool
 bad_header (first line) = not (bytes_eq line (codes "coll 1"))
 bad_header (second ws) = false
 bad_header (values ty count ws) = false
-bad_header (said form) = false
-bad_header wrong = false
+bad_header (other stage ws) = false
 
 -- line 2 isn't `ranks N` with N from 1 to 64
 abbrev pub bad_ranks : Kind → Bool
 bad_ranks (first line) = false
 bad_ranks (second ws) = is_none (ranks_in ws)
 bad_ranks (values ty count ws) = false
-bad_ranks (said form) = false
-bad_ranks wrong = false
+bad_ranks (other stage ws) = false
 
--- the words say nothing that may stand here; on a data line: they aren't as many as are due, or one is empty
+-- the words aren't a line that may stand here; on a data line: they aren't as many as are due, or one is empty
 abbrev pub bad_line : Kind → Bool
 bad_line (first line) = false
 bad_line (second ws) = false
 bad_line (values ty count ws) = not (length ws == count) || list_any is_empty ws
-bad_line (said form) = false
-bad_line wrong = true
+bad_line (other stage ws) = not (may_be stage ws)
 
--- COUNT isn't from 1 to 4096, ROOT is no number, or a word of a data line is no value of its type
-abbrev pub bad_number : Kind → Bool
-bad_number (first line) = false
-bad_number (second ws) = false
-bad_number (values ty count ws) = list_any (λ w. is_none (value_of ty w)) ws
-bad_number (said complete) = false
-bad_number (said (input name ty count)) = is_none (number_between 1 4096 count)
-bad_number (said barrier) = false
-bad_number (said (step root kind a b)) = is_none (root_number root)
-bad_number (said (print name)) = false
-bad_number (said last) = false
-bad_number wrong = false
-
--- what a line that may stand here says, where it says something
+-- what the words say, with numbers still as words
 abbrev pub form_in : Kind → Option Form
 form_in (first line) = None
 form_in (second ws) = None
 form_in (values ty count ws) = None
-form_in (said form) = Some form
-form_in wrong = None
+form_in (other stage ws) = form_of ws
+
+-- COUNT isn't from 1 to 4096, or ROOT is no number
+abbrev pub no_number : Form → Bool
+no_number complete = false
+no_number (input name ty count) = is_none (number_between 1 4096 count)
+no_number barrier = false
+no_number (step root kind a b) = is_none (root_number root)
+no_number (print name) = false
+no_number last = false
+
+-- the same, or a word of a data line is no value of its type
+abbrev pub bad_number : Kind → Bool
+bad_number (first line) = false
+bad_number (second ws) = false
+bad_number (values ty count ws) = list_any (λ w. is_none (value_of ty w)) ws
+bad_number (other stage ws) = holds_of no_number (form_of ws)
 
 -- the new name is a buffer already
 abbrev pub name_taken : Past → Form → Bool

@@ -6,19 +6,21 @@ ghost use Rattle.language_table.specs.Grammar.{WordsByTheTable};
 ghost use Rattle.language_table.specs.Rows.{ByTheRows};
 ghost use Rattle.language_table.specs.Texts.{LinesCount, TextsByTheRows};
 
-/// A line that is due is refused by the first row that holds of it, and taken where none does, behind all that lines may say.
+/// A line that is due is refused by the first row that holds of it, and taken where none does. This stands wherever the
+/// earlier lines' prints are counted, as they are behind all lines that are taken from the first one on.
 pub fn refused_by_the_rows()
     ensures rows { ByTheRows }
     ensures counted { LinesCount }
 {}
 
-/// A text is refused exactly where a row holds: TooLong first, then the row of the lowest line, then the lowest row.
+/// A text is refused exactly where a row holds: TooLong first, with the line 0, then the lowest line, counted from 1, and on it
+/// the lowest row. A line that is due but has no LF is Unended, and bytes behind the last line are AfterEnd, with the line
+/// behind it.
 pub fn texts_refused_by_the_rows()
     ensures { TextsByTheRows }
 {}
 
-/// Behind the first two lines, words are taken for a line exactly where they are one of the table of lines that may stand
-/// there; a data line has no such words.
+/// The words of a line say what may stand there exactly where they are those of a line of the table that may.
 pub fn words_by_the_table()
     ensures { WordsByTheTable }
 {}
