@@ -50,7 +50,7 @@ abbrev pub is_linked_anywhere : Handle → List (Option Index) → Bool
 is_linked_anywhere me [] = false
 is_linked_anywhere me (i ∷ is) = is_linked_in me i || is_linked_anywhere me is
 
--- a header lies in its memory
+-- it is not linked, or a header lies in its memory
 abbrev pub unlink_fault : Handle → Side → Option NiFault
 unlink_fault me s = need (is_linked_anywhere me s.indices) Stale (need (not (names_entry me s.headers.noted)) InUse None)
 

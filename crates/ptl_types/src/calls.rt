@@ -22,7 +22,7 @@ pub struct Limits {
     pub pts: u32,
     /// Triggered operations pending at a time.
     pub triggered: u32,
-    /// The longest put or get, in bytes.
+    /// The longest operation of any kind, in bytes.
     pub msg: u64,
     /// The longest atomic, in bytes.
     pub atomic: u64,
@@ -39,7 +39,7 @@ pub enum NiFault {
     NoSpace = 2,
     /// A part reaches past the end of the region or of the descriptor.
     OutOfRegion = 3,
-    /// The thing is still named by another one, or the index is allocated already.
+    /// The thing is still named by another one or awaits an answer, or the index is allocated already.
     InUse = 4,
     /// A counting event's success and failure would together pass 2^64 - 1.
     CountFull = 5,

@@ -7,13 +7,13 @@ use crate::Rank;
 pub enum EventKind {
     /// A put was delivered to a priority entry.
     Put,
-    /// An append took or found the header of a put.
+    /// An append took the header of a put.
     PutOverflow,
     /// A get was delivered.
     Get,
     /// An atomic was delivered to a priority entry.
     Atomic,
-    /// An append took or found the header of an atomic.
+    /// An append took the header of an atomic.
     AtomicOverflow,
     /// A fetch-atomic or a swap was delivered.
     FetchAtomic,
@@ -27,7 +27,7 @@ pub enum EventKind {
     Link,
     /// An entry was unlinked by a message.
     AutoUnlink,
-    /// The last header of an unlinked overflow entry was taken.
+    /// The last header of an unlinked overflow entry was taken or deleted.
     AutoFree,
     /// A search of the unexpected headers ended.
     Search,

@@ -91,7 +91,7 @@ pub struct Header {
     pub swap: Option<SwapOp>,
     /// The type of the elements; `U8` in a put and a get.
     pub ty: ElemType,
-    /// The operand of a swap, a bit pattern; else 0.
+    /// The operand that a swap was given; else 0.
     pub operand: u64,
     /// What acknowledgement is asked for.
     pub ack: AckRequest,
