@@ -4,14 +4,14 @@
 ghost use Rattle.std.specs.Prelude.{◌≡◌, ◌<◌, ◌≤◌, ◌+◌, ◌*◌, ◌/◌, ◌%◌, length};
 ghost use Rattle.ptl_types.specs.Elements.{combined, little_endian, repeated, starting, written};
 ghost use Rattle.lane_ops.specs.Places.{combined_at};
-ghost use Rattle.ptl_types.specs.Operations.{op, bytes_of, span, start_value};
+ghost use Rattle.ptl_types.specs.Operations.{op, bytes_of, span};
 
 use crate::elements::{
     Element, Signed8, Signed16, Signed32, Signed64, Unsigned8, Unsigned16, Unsigned32, Unsigned64,
 };
 use crate::operations::{
     BitwiseAnd, BitwiseOr, BitwiseXor, Combine, LogicalAnd, LogicalOr, LogicalXor, Maximum,
-    Minimum, Product, Sum,
+    Minimum, Product, Sum, start_value,
 };
 use ptl_types::{AtomicOp, ElemType};
 
@@ -117,28 +117,10 @@ fn fill_as(ty: ElemType, into: &mut [u8], x: u64)
     }
 }
 
-fn start_of(op: AtomicOp, ty: ElemType) -> u64
-    ensures value { result ≡ start_value op ty }
-    ensures pattern { result < span ty }
-{
-    match op {
-        AtomicOp::Min => Minimum.start(ty),
-        AtomicOp::Max => Maximum.start(ty),
-        AtomicOp::Sum => Sum.start(ty),
-        AtomicOp::Prod => Product.start(ty),
-        AtomicOp::Lor => LogicalOr.start(ty),
-        AtomicOp::Land => LogicalAnd.start(ty),
-        AtomicOp::Bor => BitwiseOr.start(ty),
-        AtomicOp::Band => BitwiseAnd.start(ty),
-        AtomicOp::Lxor => LogicalXor.start(ty),
-        AtomicOp::Bxor => BitwiseXor.start(ty),
-    }
-}
-
 /// Writes the operation's starting value in each element of `into`, a list of whole elements of the type, little-endian.
 pub fn start_values(op: AtomicOp, ty: ElemType, into: &mut [u8])
     requires { length into.old % bytes_of ty ≡ 0 }
     ensures { into.new ≡ starting op ty (length into.old) }
 {
-    fill_as(ty, into, start_of(op, ty));
+    fill_as(ty, into, start_value(op, ty));
 }

@@ -13,5 +13,5 @@ mod tests;
 pub use bytes::{combine, start_values};
 pub use operations::{
     BitwiseAnd, BitwiseOr, BitwiseXor, Combine, LogicalAnd, LogicalOr, LogicalXor, Maximum,
-    Minimum, Product, Sum,
+    Minimum, Product, Sum, combine_elements, start_value,
 };

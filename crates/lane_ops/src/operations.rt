@@ -7,7 +7,7 @@ ghost use Rattle.op_laws.proofs.OpLaws.{swaps, commutes, associates, starts, sta
 ghost use Rattle.ptl_types.specs.declared.elements.AtomicOp.{AtomicOp as Operation};
 ghost use Rattle.ptl_types.specs.declared.elements.AtomicOp.TheVariants.{Min as MinOp, Max as MaxOp, Sum as SumOp, Prod as ProdOp, Lor as LorOp, Land as LandOp, Bor as BorOp, Band as BandOp, Lxor as LxorOp, Bxor as BxorOp};
 
-use ptl_types::ElemType;
+use ptl_types::{AtomicOp, ElemType};
 
 /// An atomic operation. An element is its bit pattern, a number below 2 to the type's width; a signed one is two's
 /// complement. Each implementation proves that partial results may be combined in any order, beginning with the starting
@@ -393,4 +393,43 @@ impl Combine for BitwiseXor {
     ghost values_stay = { stays BxorOp };
 
     ghost start_is_absorbed = { absorbs BxorOp };
+}
+
+/// The operation of two elements, each its bit pattern.
+pub fn combine_elements(operation: AtomicOp, ty: ElemType, x: u64, y: u64) -> u64
+    requires patterns { (x < span ty) × (y < span ty) }
+    ensures value { result ≡ op operation ty x y }
+    ensures pattern { result < span ty }
+{
+    match operation {
+        AtomicOp::Min => Minimum.op(ty, x, y),
+        AtomicOp::Max => Maximum.op(ty, x, y),
+        AtomicOp::Sum => Sum.op(ty, x, y),
+        AtomicOp::Prod => Product.op(ty, x, y),
+        AtomicOp::Lor => LogicalOr.op(ty, x, y),
+        AtomicOp::Land => LogicalAnd.op(ty, x, y),
+        AtomicOp::Bor => BitwiseOr.op(ty, x, y),
+        AtomicOp::Band => BitwiseAnd.op(ty, x, y),
+        AtomicOp::Lxor => LogicalXor.op(ty, x, y),
+        AtomicOp::Bxor => BitwiseXor.op(ty, x, y),
+    }
+}
+
+/// The value that a reduction by the operation begins with, as a bit pattern.
+pub fn start_value(operation: AtomicOp, ty: ElemType) -> u64
+    ensures value { result ≡ start_value operation ty }
+    ensures pattern { result < span ty }
+{
+    match operation {
+        AtomicOp::Min => Minimum.start(ty),
+        AtomicOp::Max => Maximum.start(ty),
+        AtomicOp::Sum => Sum.start(ty),
+        AtomicOp::Prod => Product.start(ty),
+        AtomicOp::Lor => LogicalOr.start(ty),
+        AtomicOp::Land => LogicalAnd.start(ty),
+        AtomicOp::Bor => BitwiseOr.start(ty),
+        AtomicOp::Band => BitwiseAnd.start(ty),
+        AtomicOp::Lxor => LogicalXor.start(ty),
+        AtomicOp::Bxor => BitwiseXor.start(ty),
+    }
 }

@@ -3,7 +3,7 @@
 //! one three places on.
 
 use crate::edges::{BAND, BOR, BXOR, LAND, LOR, LXOR, MAX, MIN, PROD, Row, SUM, edges};
-use crate::{combine, start_values};
+use crate::{combine, combine_elements, start_value, start_values};
 use ptl_types::{AtomicOp, ElemType};
 
 #[test]
@@ -23,6 +23,15 @@ fn bytes_are_combined_in_place(rt: HostRuntime) {
     let mut start = [7, 7];
     start_values(AtomicOp::Max, ElemType::I16, &mut start);
     assert!(rt; start == [0, 0x80]);
+}
+
+#[test]
+fn elements_are_combined(rt: HostRuntime) {
+    assert!(rt; combine_elements(AtomicOp::Sum, ElemType::U8, 200, 100) == 44);
+    assert!(rt; combine_elements(AtomicOp::Min, ElemType::I8, 0x80, 0x7f) == 0x80);
+    assert!(rt; combine_elements(AtomicOp::Land, ElemType::U16, 2, 1) == 1);
+    assert!(rt; start_value(AtomicOp::Max, ElemType::I16) == 0x8000);
+    assert!(rt; start_value(AtomicOp::Prod, ElemType::U64) == 1);
 }
 
 /// What the operation makes of two elements, through their bytes.
