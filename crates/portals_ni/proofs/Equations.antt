@@ -33,10 +33,10 @@ use Rattle.triggered_ops.specs.Operations.{Operations, deed_of, operation_at, is
 use Rattle.std.specs.Prelude.{slice_set}
 use Rattle.portals_ni.specs.declared.armed.Armed.{Armed}
 use Rattle.portals_ni.specs.Answers.{MakesIfMemory, event_taken, deed_counts}
-use Rattle.portals_ni.specs.Pendings.{deed_in, told_by, told_anew}
+use Rattle.portals_ni.specs.Pendings.{deed_in, told_by, told_new}
 use Rattle.portals_ni.specs.Sound.{IsTold, state_of}
 use Rattle.portals_ni.proofs.Ends.{ends-done, ends-refused, enough-done, fails-by, free_slot, is-free, free_entry_slot, entry-is-free}
-use Rattle.portals_ni.proofs.Firing.{anew-forgotten, posted-cancelled, length-waiting, posted-push, ready-is, fired-is, done-start, done-count}
+use Rattle.portals_ni.proofs.Firing.{new-forgotten, posted-cancelled, length-waiting, posted-push, ready-is, fired-is, done-start, done-count}
 use Rattle.portals_ni.proofs.Told.{posted-told_by}
 
 -- what was told is forgotten
@@ -165,14 +165,14 @@ module _ (t : Side) (r : List ℕ) (c : Table Count) (e : Table Waiting) (i : In
       let same : has_started (home j.mds r k f) m ct ≡ started t.rank (home i.mds r c e) deed = is ∙ ap (λ n. started n (home i.mds r c e) deed) rank in
       rw (none, ← same, home-state j r k f left ct rest told) refl
 
-  pub post-ends : (deed : Deed) (ct : Handle) (threshold n : ℕ) (a : Armed) (left : Operations Armed) → triggered_fault deed ct c i.mds (posted_all deed_in ops) ≡ None → a.deed ≡ deed → n ≡ ops.given → left ≡ told_anew ct c (with_posted a ct threshold ops) → ends (state_of t r c e i left d v) (Ok n) ≡ triggered deed ct threshold before
+  pub post-ends : (deed : Deed) (ct : Handle) (threshold n : ℕ) (a : Armed) (left : Operations Armed) → triggered_fault deed ct c i.mds (posted_all deed_in ops) ≡ None → a.deed ≡ deed → n ≡ ops.given → left ≡ told_new n ct c (with_posted a ct threshold ops) → ends (state_of t r c e i left d v) (Ok n) ≡ triggered deed ct threshold before
   post-ends deed ct threshold n a left none is number told =
-      rw (none, anew-forgotten ct c (with_posted a ct threshold ops) left told, posted-push a ct threshold ops, is, number) refl
+      rw (none, new-forgotten n ct c (with_posted a ct threshold ops) left told, posted-push a ct threshold ops, is, number) refl
 
   pub start-may : (deed : Deed) (j : Initiating) (k : Table Count) (f : Table Waiting) (left : Operations Armed) (m : Sent) (ct : Option Handle) → deed_fault deed i.mds ≡ None → i.rank ≡ t.rank → has_started (home j.mds r k f) m ct ≡ started i.rank (home i.mds r c e) deed → j ≡ with_mds j.mds i → left ≡ told_by ct k ops → MayLackMemory (start deed before) before (ends (state_of t r k f j left d v) (Ok (Some m)))
   start-may deed j k f left m ct none rank is rest told = subst (λ x. MayLackMemory (start deed before) before x) (sym (start-ends deed j k f left m ct none rank is rest told)) enough
 
-  pub post-may : (deed : Deed) (ct : Handle) (threshold n : ℕ) (a : Armed) (left : Operations Armed) → triggered_fault deed ct c i.mds (posted_all deed_in ops) ≡ None → a.deed ≡ deed → n ≡ ops.given → left ≡ told_anew ct c (with_posted a ct threshold ops) → MayLackMemory (triggered deed ct threshold before) before (ends (state_of t r c e i left d v) (Ok n))
+  pub post-may : (deed : Deed) (ct : Handle) (threshold n : ℕ) (a : Armed) (left : Operations Armed) → triggered_fault deed ct c i.mds (posted_all deed_in ops) ≡ None → a.deed ≡ deed → n ≡ ops.given → left ≡ told_new n ct c (with_posted a ct threshold ops) → MayLackMemory (triggered deed ct threshold before) before (ends (state_of t r c e i left d v) (Ok n))
   post-may deed ct threshold n a left none is number told = subst (λ x. MayLackMemory (triggered deed ct threshold before) before x) (sym (post-ends deed ct threshold n a left none is number told)) enough
 
   -- ---- arrivals

@@ -1,6 +1,7 @@
 -- The pending operations as the model has them: which are ready, and what firing one does.
 use Rattle.std.proofs.Common.{◌≡◌, ℕ, ◌==◌, Bool, true, false, not, nat_lt, List, [], ◌∷◌, ◌++◌, Option, Some, None, nat_le, length, find, filter, if◌then◌else◌, refl, sym, subst, ap, ◌∙◌, arith}
 use Rattle.std.specs.Prelude.{All, map, option_map}
+use Rattle.std.proofs.lemmas.Bool.{eq-eqb}
 use Rattle.std.proofs.lemmas.Bool.Decides.{nat_tests}
 use Rattle.std.proofs.lemmas.List.Elements.{All-head, All-tail, All-cons, All-push, All-nil}
 use Rattle.ptl_types.specs.declared.handles.Handle.{Handle}
@@ -19,12 +20,12 @@ use Rattle.ni_model.specs.Starts.{started}
 use Rattle.ni_model.specs.Refusals.{no_number}
 use Rattle.target_engine.proofs.Within.{find_has}
 use Rattle.initiator_engine.specs.Initiators.{is_start}
-use Rattle.triggered_ops.specs.Operations.{Operation, Operations, is_full, is_number, waits_on, deed_of, operation_at, is_due_op, is_ready, with_posted, told_one, told, without_number, waiting_on, cancelled, posted, posted_all}
+use Rattle.triggered_ops.specs.Operations.{Operation, Operations, is_full, is_number, waits_on, deed_of, operation_at, is_due_op, is_ready, with_posted, told_if, without_number, waiting_on, cancelled, posted, posted_all}
 use Rattle.portals_ni.specs.declared.armed.Armed.{Armed}
 use Rattle.portals_ni.specs.Answers.{deed_counts}
-use Rattle.portals_ni.specs.Pendings.{deed_in, tell_anew, told_anew}
+use Rattle.portals_ni.specs.Pendings.{deed_in, tell_new, told_new}
 use Rattle.portals_ni.specs.Sound.{IsArmed, IsTold}
-use Rattle.portals_ni.proofs.Told.{same-is, posted-told, deeds-told}
+use Rattle.portals_ni.proofs.Told.{posted-told, deeds-told}
 
 abbrev pub Op : Type 0
 Op = Operation Armed
@@ -149,54 +150,30 @@ done-count s (Set ct to) is = refl
 
 -- ---- an operation more, which is told at once
 
-eqb-self : (n : ℕ) → (n == n) ≡ true
-eqb-self n = grind (arith, nat_tests)
+-- those before it have other numbers
+newest-told : (t sum : ℕ) (ws : List Op) (w : Op) → find (is_number t) ws ≡ None → w.number ≡ t → map (told_if (is_number t) sum) (ws ++ w ∷ []) ≡ ws ++ (record w { told = sum }) ∷ []
+newest-told t sum [] w none same = let is : (w.number == t) ≡ true = eq-eqb w.number t same in rw is refl
+newest-told t sum (v ∷ vs) w none same =
+    elim (v.number == t) as (λ b. (if b then Some v else find (is_number t) vs) ≡ None → (record v { told = if b then sum else v.told }) ∷ map (told_if (is_number t) sum) (vs ++ w ∷ []) ≡ v ∷ (vs ++ (record w { told = sum }) ∷ [])) [
+      | true ↦ λ is. cc
+      | false ↦ λ is. ap (λ xs. v ∷ xs) (newest-told t sum vs w is same)
+    ] none
 
-pub same-self : (h : Handle) → same_handle h h ≡ true
-same-self h = rw (eqb-self h.stamp, eqb-self h.slot) refl
+pub post-told : (ct : Handle) (c : Count) (cts : Table Count) (ops : Ops) (a : Armed) (threshold : ℕ) → lookup ct cts.live ≡ Some c → operation_at ops.given ops ≡ None → All (IsTold cts) ops.waiting → All (IsTold cts) (told_new ops.given ct cts (with_posted a ct threshold ops)).waiting
+post-told ct c cts ops a threshold now fresh all =
+    rw now (rw (newest-told ops.given (total c) ops.waiting (record { number = ops.given; deed = a; ct = ct; threshold = threshold; told = 0 }) fresh refl) (All-push (IsTold cts) ops.waiting _ all (ap (option_map total) now)))
 
-retold : (ct : Handle) (c : Count) (cts : Table Count) (w : Op) → lookup ct cts.live ≡ Some c → IsTold cts w → IsTold cts (told_one ct (total c) w)
-retold ct c cts w now is =
-    elim (same_handle w.ct ct) as (λ b. same_handle w.ct ct ≡ b → IsTold cts (record w { told = if b then total c else w.told })) [
-      | true ↦ λ same. let e : w.ct ≡ ct = same-is w.ct ct same in ap (λ k. option_map total (lookup k cts.live)) e ∙ ap (option_map total) now
-      | false ↦ λ apart. is
-    ] refl
+-- it is told, and nothing else changes
+new-at : (t : ℕ) (o : Option Count) (ops : Ops) → posted_all deed_in (tell_new t o ops) ≡ posted_all deed_in ops
+new-at t None ops = refl
+new-at t (Some c) ops = rw (posted-told (is_number t) (total c) ops.waiting) refl
 
-new-told : (ct : Handle) (c : Count) (cts : Table Count) (a : Armed) (number threshold : ℕ) → lookup ct cts.live ≡ Some c → IsTold cts (told_one ct (total c) (record { number = number; deed = a; ct = ct; threshold = threshold; told = 0 }))
-new-told ct c cts a number threshold now = rw (same-self ct) (ap (option_map total) now)
+pub new-forgotten : (t : ℕ) (h : Handle) (cts : Table Count) (ops left : Ops) → left ≡ told_new t h cts ops → posted_all deed_in left ≡ posted_all deed_in ops
+new-forgotten t h cts ops left e = ap (posted_all deed_in) e ∙ new-at t (lookup h cts.live) ops
 
-all-retold : (ct : Handle) (c : Count) (cts : Table Count) (ws : List Op) (a : Armed) (number threshold : ℕ) → lookup ct cts.live ≡ Some c → All (IsTold cts) ws → All (IsTold cts) (map (told_one ct (total c)) (ws ++ (record { number = number; deed = a; ct = ct; threshold = threshold; told = 0 }) ∷ []))
-all-retold ct c cts [] a number threshold now all = All-cons (IsTold cts) _ [] (new-told ct c cts a number threshold now) (All-nil (IsTold cts))
-all-retold ct c cts (w ∷ ws) a number threshold now all =
-    All-cons (IsTold cts) (told_one ct (total c) w) _ (retold ct c cts w now (All-head (IsTold cts) w ws all)) (all-retold ct c cts ws a number threshold now (All-tail (IsTold cts) w ws all))
+deeds-at : (P : Armed → Type 0) (t : ℕ) (o : Option Count) (ops : Ops) → All (λ w. P w.deed) ops.waiting → All (λ w. P w.deed) (tell_new t o ops).waiting
+deeds-at P t None ops all = all
+deeds-at P t (Some c) ops all = deeds-told P (is_number t) (total c) ops.waiting all
 
--- where the sum is 0 the new one knows it
-zero-told : (ct : Handle) (c : Count) (cts : Table Count) (ws : List Op) (a : Armed) (number threshold : ℕ) → lookup ct cts.live ≡ Some c → total c ≡ 0 → All (IsTold cts) ws → All (IsTold cts) (ws ++ (record { number = number; deed = a; ct = ct; threshold = threshold; told = 0 }) ∷ [])
-zero-told ct c cts ws a number threshold now none all = All-push (IsTold cts) ws _ all (ap (option_map total) now ∙ ap (λ (n : ℕ). Some n) none)
-
-pub post-told : (ct : Handle) (c : Count) (cts : Table Count) (ops : Ops) (a : Armed) (threshold : ℕ) → lookup ct cts.live ≡ Some c → All (IsTold cts) ops.waiting → All (IsTold cts) (told_anew ct cts (with_posted a ct threshold ops)).waiting
-post-told ct c cts ops a threshold now all =
-    rw now
-    (elim (nat_lt 0 (total c)) as (λ b. nat_lt 0 (total c) ≡ b → All (IsTold cts) (if b then told ct (total c) (with_posted a ct threshold ops) else with_posted a ct threshold ops).waiting) [
-      | true ↦ λ is. all-retold ct c cts ops.waiting a ops.given threshold now all
-      | false ↦ λ is. let none : total c ≡ 0 = grind (arith, nat_tests) in zero-told ct c cts ops.waiting a ops.given threshold now none all
-    ] refl)
-
--- the new operation is told, and nothing else changes
-anew : {A : Type 0} (f : Ops → A) (h : Handle) (o : Option Count) (ops : Ops) → ((sum : ℕ) → f (told h sum ops) ≡ f ops) → f (tell_anew h o ops) ≡ f ops
-anew f h None ops same = refl
-anew f h (Some c) ops same = elim (nat_lt 0 (total c)) as (λ b. f (if b then told h (total c) ops else ops) ≡ f ops) [ true ↦ same (total c) | false ↦ refl ]
-
-pub anew-forgotten : (h : Handle) (cts : Table Count) (ops left : Ops) → left ≡ told_anew h cts ops → posted_all deed_in left ≡ posted_all deed_in ops
-anew-forgotten h cts ops left e = ap (posted_all deed_in) e ∙ anew (posted_all deed_in) h (lookup h cts.live) ops (λ sum. rw (posted-told h sum ops.waiting) refl)
-
-deeds-at : (P : Armed → Type 0) (h : Handle) (o : Option Count) (ops : Ops) → All (λ w. P w.deed) ops.waiting → All (λ w. P w.deed) (tell_anew h o ops).waiting
-deeds-at P h None ops all = all
-deeds-at P h (Some c) ops all =
-    elim (nat_lt 0 (total c)) as (λ b. All (λ w. P w.deed) (if b then told h (total c) ops else ops).waiting) [
-      | true ↦ deeds-told P h (total c) ops.waiting all
-      | false ↦ all
-    ]
-
-pub deeds-anew : (P : Armed → Type 0) (h : Handle) (cts : Table Count) (ops : Ops) → All (λ w. P w.deed) ops.waiting → All (λ w. P w.deed) (told_anew h cts ops).waiting
-deeds-anew P h cts ops all = deeds-at P h (lookup h cts.live) ops all
+pub deeds-new : (P : Armed → Type 0) (t : ℕ) (h : Handle) (cts : Table Count) (ops : Ops) → All (λ w. P w.deed) ops.waiting → All (λ w. P w.deed) (told_new t h cts ops).waiting
+deeds-new P t h cts ops all = deeds-at P t (lookup h cts.live) ops all

@@ -30,17 +30,17 @@ use Rattle.ni_model.specs.Answers.{home}
 use Rattle.ni_model.specs.Conditions.{HasPartsIn, IsBoundIn, MayStart}
 use Rattle.initiator_engine.specs.Initiators.{Initiating, initiating, with_mds, room_for}
 use Rattle.target_engine.specs.Sides.{side, has_searched, has_appended, AppendsSome}
-use Rattle.triggered_ops.specs.Operations.{Operation, Operations, no_operations, is_number, waits_on, with_posted, without_number, cancelled}
+use Rattle.triggered_ops.specs.Operations.{Operation, Operations, no_operations, operation_at, is_number, waits_on, with_posted, without_number, cancelled}
 use Rattle.portals_ni.specs.declared.armed.Armed.{Armed}
 use Rattle.portals_ni.specs.Answers.{deed_counts, deed_counter}
-use Rattle.portals_ni.specs.Pendings.{told_by, told_anew}
+use Rattle.portals_ni.specs.Pendings.{told_by, told_new}
 use Rattle.portals_ni.specs.Sound.{IsArmed, IsTold, IsSound}
 use Rattle.portals_ni.proofs.Counts.{ChangesAt, changes-none, changes-one, changes-counted, changes-new}
 use Rattle.portals_ni.proofs.Parts.{none-parts, unlink-parts}
 use Rattle.portals_ni.proofs.Targets.{Keeps, search-keeps, AppendKeeps, append-keeps}
 use Rattle.portals_ni.proofs.Homes.{HoldsOn, skips_none, skips-none, fits-on, holds-push, bound-push, KeepsHome}
 use Rattle.portals_ni.proofs.Told.{all-told, deeds-told_by}
-use Rattle.portals_ni.proofs.Firing.{post-told, deeds-anew}
+use Rattle.portals_ni.proofs.Firing.{post-told, deeds-new}
 use Rattle.std.specs.Prelude.{replicate}
 
 -- a new interface
@@ -140,14 +140,14 @@ bound-sound t r c e i j ops md (Ok h) is unchanged ok made =
 bound-sound t r c e i j ops md (Err fault) is unchanged ok made = rw unchanged is
 
 -- an operation more, which is told at once
-pub post-sound : (t : Side) (r : List ℕ) (c : Table Count) (i : Initiating) (ops : Operations Armed) (a : Armed) (ct : Handle) (threshold : ℕ) (count : Count) → IsSound t r c i ops → IsArmed i.mds i.ranks i.limits a → lookup ct c.live ≡ Some count → IsSound t r c i (told_anew ct c (with_posted a ct threshold ops))
-post-sound t r c i ops a ct threshold count is armed live = record {
+pub post-sound : (t : Side) (r : List ℕ) (c : Table Count) (i : Initiating) (ops : Operations Armed) (a : Armed) (ct : Handle) (threshold : ℕ) (count : Count) → IsSound t r c i ops → IsArmed i.mds i.ranks i.limits a → lookup ct c.live ≡ Some count → operation_at ops.given ops ≡ None → IsSound t r c i (told_new ops.given ct c (with_posted a ct threshold ops))
+post-sound t r c i ops a ct threshold count is armed live fresh = record {
   rank = is.rank;
   limit = is.limit;
   parts = is.parts;
   bound = is.bound;
-  armed = deeds-anew (IsArmed i.mds i.ranks i.limits) ct c (with_posted a ct threshold ops) (All-push (λ (w : Operation Armed). IsArmed i.mds i.ranks i.limits w.deed) ops.waiting _ is.armed armed);
-  told = post-told ct count c ops a threshold live is.told;
+  armed = deeds-new (IsArmed i.mds i.ranks i.limits) ops.given ct c (with_posted a ct threshold ops) (All-push (λ (w : Operation Armed). IsArmed i.mds i.ranks i.limits w.deed) ops.waiting _ is.armed armed);
+  told = post-told ct count c ops a threshold live fresh is.told;
 }
 
 -- ---- the counting event of a deed that counts

@@ -1,5 +1,5 @@
 -- The pending operations know how far their counting events are.
-use Rattle.std.proofs.Common.{◌≡◌, ℕ, true, false, List, [], ◌∷◌, Option, Some, None, is_some, if◌then◌else◌, refl, sym, ap, ◌∙◌, arith}
+use Rattle.std.proofs.Common.{◌≡◌, ℕ, Bool, true, false, List, [], ◌∷◌, Option, Some, None, is_some, if◌then◌else◌, refl, sym, ap, ◌∙◌, arith}
 use Rattle.std.specs.Prelude.{All, map, option_map}
 use Rattle.std.proofs.lemmas.Bool.Decides.{nat_tests}
 use Rattle.std.proofs.lemmas.List.Elements.{All-head, All-tail, All-cons, All-nil}
@@ -9,7 +9,7 @@ use Rattle.ptl_types.specs.Handles.{same_handle}
 use Rattle.ni_model.specs.Tables.{Table, lookup, names}
 use Rattle.ni_model.specs.Counts.{total}
 use Rattle.handle_store.proofs.StoreLemmas.{same_by_parts}
-use Rattle.triggered_ops.specs.Operations.{Operation, Operations, told_one, posted, posted_all}
+use Rattle.triggered_ops.specs.Operations.{Operation, Operations, waits_on, told_if, posted, posted_all}
 use Rattle.portals_ni.specs.declared.armed.Armed.{Armed}
 use Rattle.portals_ni.specs.Pendings.{deed_in, tell_at, told_by}
 use Rattle.portals_ni.specs.Sound.{IsTold}
@@ -33,7 +33,7 @@ stays : (ct : Option Handle) (old new : Table Count) (w : Operation Armed) → C
 stays ct old new w changes is apart = ap (option_map total) (changes.others w.ct apart (some-there total (lookup w.ct old.live) w.told is)) ∙ is
 
 -- what is told of the one that did
-anew : (h : Handle) (c : Count) (old new : Table Count) (w : Operation Armed) → ChangesAt (Some h) old new → lookup h new.live ≡ Some c → IsTold old w → IsTold new (told_one h (total c) w)
+anew : (h : Handle) (c : Count) (old new : Table Count) (w : Operation Armed) → ChangesAt (Some h) old new → lookup h new.live ≡ Some c → IsTold old w → IsTold new (told_if (waits_on h) (total c) w)
 anew h c old new w changes now is =
     elim (same_handle w.ct h) as (λ b. same_handle w.ct h ≡ b → IsTold new (record w { told = if b then total c else w.told })) [
       | true ↦ λ same. let e : w.ct ≡ h = same-is w.ct h same in ap (λ k. option_map total (lookup k new.live)) e ∙ ap (option_map total) now
@@ -59,10 +59,10 @@ each-gone : (h : Handle) (old new : Table Count) (ws : List (Operation Armed)) �
 each-gone h old new [] changes now all = All-nil (IsTold new)
 each-gone h old new (w ∷ ws) changes now all = All-cons (IsTold new) w ws (gone h old new w changes now (All-head (IsTold old) w ws all)) (each-gone h old new ws changes now (All-tail (IsTold old) w ws all))
 
-each-anew : (h : Handle) (c : Count) (old new : Table Count) (ws : List (Operation Armed)) → ChangesAt (Some h) old new → lookup h new.live ≡ Some c → All (IsTold old) ws → All (IsTold new) (map (told_one h (total c)) ws)
+each-anew : (h : Handle) (c : Count) (old new : Table Count) (ws : List (Operation Armed)) → ChangesAt (Some h) old new → lookup h new.live ≡ Some c → All (IsTold old) ws → All (IsTold new) (map (told_if (waits_on h) (total c)) ws)
 each-anew h c old new [] changes now all = All-nil (IsTold new)
 each-anew h c old new (w ∷ ws) changes now all =
-    All-cons (IsTold new) (told_one h (total c) w) (map (told_one h (total c)) ws) (anew h c old new w changes now (All-head (IsTold old) w ws all)) (each-anew h c old new ws changes now (All-tail (IsTold old) w ws all))
+    All-cons (IsTold new) (told_if (waits_on h) (total c) w) (map (told_if (waits_on h) (total c)) ws) (anew h c old new w changes now (All-head (IsTold old) w ws all)) (each-anew h c old new ws changes now (All-tail (IsTold old) w ws all))
 
 at-told : (h : Handle) (o : Option Count) (old new : Table Count) (ops : Operations Armed) → ChangesAt (Some h) old new → lookup h new.live ≡ o → All (IsTold old) ops.waiting → All (IsTold new) (tell_at h o ops).waiting
 at-told h None old new ops changes now all = each-gone h old new ops.waiting changes now all
@@ -75,29 +75,29 @@ all-told (Some h) old new ops changes all = at-told h (lookup h new.live) old ne
 
 -- ---- telling changes nothing else
 
-pub posted-told : (h : Handle) (sum : ℕ) (ws : List (Operation Armed)) → map (posted deed_in) (map (told_one h sum) ws) ≡ map (posted deed_in) ws
-posted-told h sum [] = refl
-posted-told h sum (w ∷ ws) = rw (posted-told h sum ws) refl
+pub posted-told : (test : Operation Armed → Bool) (sum : ℕ) (ws : List (Operation Armed)) → map (posted deed_in) (map (told_if test sum) ws) ≡ map (posted deed_in) ws
+posted-told test sum [] = refl
+posted-told test sum (w ∷ ws) = rw (posted-told test sum ws) refl
 
 pub posted-tell_at : (h : Handle) (o : Option Count) (ops : Operations Armed) → posted_all deed_in (tell_at h o ops) ≡ posted_all deed_in ops
 posted-tell_at h None ops = refl
-posted-tell_at h (Some c) ops = rw (posted-told h (total c) ops.waiting) refl
+posted-tell_at h (Some c) ops = rw (posted-told (waits_on h) (total c) ops.waiting) refl
 
 pub posted-told_by : (ct : Option Handle) (cts : Table Count) (ops : Operations Armed) → posted_all deed_in (told_by ct cts ops) ≡ posted_all deed_in ops
 posted-told_by None cts ops = refl
 posted-told_by (Some h) cts ops = posted-tell_at h (lookup h cts.live) ops
 
 -- the deeds stay, and what holds of each
-pub deeds-told : (P : Armed → Type 0) (h : Handle) (sum : ℕ) (ws : List (Operation Armed)) → All (λ w. P w.deed) ws → All (λ w. P w.deed) (map (told_one h sum) ws)
-deeds-told P h sum [] all = all
-deeds-told P h sum (w ∷ ws) all =
-    All-cons (λ (x : Operation Armed). P x.deed) (told_one h sum w) (map (told_one h sum) ws)
+pub deeds-told : (P : Armed → Type 0) (test : Operation Armed → Bool) (sum : ℕ) (ws : List (Operation Armed)) → All (λ w. P w.deed) ws → All (λ w. P w.deed) (map (told_if test sum) ws)
+deeds-told P test sum [] all = all
+deeds-told P test sum (w ∷ ws) all =
+    All-cons (λ (x : Operation Armed). P x.deed) (told_if test sum w) (map (told_if test sum) ws)
     (All-head (λ (x : Operation Armed). P x.deed) w ws all)
-    (deeds-told P h sum ws (All-tail (λ (x : Operation Armed). P x.deed) w ws all))
+    (deeds-told P test sum ws (All-tail (λ (x : Operation Armed). P x.deed) w ws all))
 
 deeds-tell_at : (P : Armed → Type 0) (h : Handle) (o : Option Count) (ops : Operations Armed) → All (λ w. P w.deed) ops.waiting → All (λ w. P w.deed) (tell_at h o ops).waiting
 deeds-tell_at P h None ops all = all
-deeds-tell_at P h (Some c) ops all = deeds-told P h (total c) ops.waiting all
+deeds-tell_at P h (Some c) ops all = deeds-told P (waits_on h) (total c) ops.waiting all
 
 pub deeds-told_by : (P : Armed → Type 0) (ct : Option Handle) (cts : Table Count) (ops : Operations Armed) → All (λ w. P w.deed) ops.waiting → All (λ w. P w.deed) (told_by ct cts ops).waiting
 deeds-told_by P None cts ops all = all

@@ -1,11 +1,11 @@
 -- What the pending operations of an interface wait with, and what they are told.
-use Rattle.std.specs.Prelude.{nat_lt, Option, Some, None, if◌then◌else◌}
+use Rattle.std.specs.Prelude.{ℕ, Option, Some, None}
 use Rattle.ptl_types.specs.declared.handles.Handle.{Handle}
 use Rattle.ptl_types.specs.declared.handles.Count.{Count}
 use Rattle.ptl_types.specs.declared.calls.Deed.{Deed}
 use Rattle.ni_model.specs.Tables.{Table, lookup}
 use Rattle.ni_model.specs.Counts.{total}
-use Rattle.triggered_ops.specs.Operations.{Operations, told}
+use Rattle.triggered_ops.specs.Operations.{Operations, told, told_one}
 use Rattle.portals_ni.specs.declared.armed.Armed.{Armed}
 
 -- the deed of a pending operation
@@ -22,11 +22,11 @@ abbrev pub told_by : Option Handle → Table Count → Operations Armed → Oper
 told_by None cts ops = ops
 told_by (Some h) cts ops = tell_at h (lookup h cts.live) ops
 
--- to the newest operation, which was told 0: where the sum is 0 nothing is left to tell
-abbrev pub tell_anew : Handle → Option Count → Operations Armed → Operations Armed
-tell_anew h None ops = ops
-tell_anew h (Some c) ops = if nat_lt 0 (total c) then told h (total c) ops else ops
+-- the operation of this number alone is told the sum of a counting event, where that is live
+abbrev pub tell_new : ℕ → Option Count → Operations Armed → Operations Armed
+tell_new t None ops = ops
+tell_new t (Some c) ops = told_one t (total c) ops
 
 -- by the counting event in its table
-abbrev pub told_anew : Handle → Table Count → Operations Armed → Operations Armed
-told_anew h cts ops = tell_anew h (lookup h cts.live) ops
+abbrev pub told_new : ℕ → Handle → Table Count → Operations Armed → Operations Armed
+told_new t h cts ops = tell_new t (lookup h cts.live) ops

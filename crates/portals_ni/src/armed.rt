@@ -1,7 +1,7 @@
 //! What a pending operation waits with, and how it learns how far its counting event is.
 
 ghost use Rattle.std.specs.Prelude.{◌≡◌};
-ghost use Rattle.portals_ni.specs.Pendings.{told_by, told_anew};
+ghost use Rattle.portals_ni.specs.Pendings.{told_by, told_new};
 
 use counters::Counter;
 use handle_store::Store;
@@ -29,16 +29,12 @@ pub fn tell(pending: &mut Pending<Armed>, cts: &Store<Counter>, ct: Option<Handl
     }
 }
 
-/// Tells how far a counting event is where an operation was just posted on it. Every other one knows, and where the sum is 0
-/// so does the new one: then none is gone through.
-pub fn tell_anew(pending: &mut Pending<Armed>, cts: &Store<Counter>, ct: Handle)
-    ensures { pending.new ≡ told_anew ct cts.now pending.old }
+/// Tells the operation of this number, which was just posted on a counting event, how far that is. Every other one knows.
+pub fn tell_new(pending: &mut Pending<Armed>, cts: &Store<Counter>, ct: Handle, number: u32)
+    ensures { pending.new ≡ told_new number ct cts.now pending.old }
 {
     if let Some(counter) = cts.get(ct) {
         let count = counter.count();
-        let sum = count.success + count.failure;
-        if sum > 0 {
-            pending.reached(ct, sum);
-        }
+        pending.tell(number, count.success + count.failure);
     }
 }

@@ -12,7 +12,7 @@ ghost use Rattle.triggered_ops.specs.Operations.{posted_all};
 ghost use Rattle.portals_ni.specs.Pendings.{deed_in};
 ghost use Rattle.portals_ni.specs.Answers.{as_started};
 
-use crate::armed::{Armed, tell, tell_anew};
+use crate::armed::{Armed, tell, tell_new};
 use crate::nic::Nic;
 use counters::Counter;
 use handle_store::Store;
@@ -193,7 +193,7 @@ impl Nic {
         };
         match self.pending.post(Armed { deed, room }, ct, threshold) {
             Ok(number) => {
-                tell_anew(&mut self.pending, &self.cts, ct);
+                tell_new(&mut self.pending, &self.cts, ct, number);
                 Ok(number)
             }
             Err(_) => Err(NiFault::NoMemory),

@@ -9,8 +9,8 @@ use Rattle.std.proofs.lemmas.Bool.Decides.{nat_tests}
 use Rattle.std.proofs.lemmas.Cmp.{ranked}
 use Rattle.ptl_types.specs.declared.handles.Handle.{Handle}
 use Rattle.triggered_ops.specs.declared.held.Held.{Held}
-use Rattle.triggered_ops.specs.Layout.{operation, found_at, place_at, place_in, waits_in, without_those}
-use Rattle.triggered_ops.specs.Operations.{Operation, told_one, with_told, deed_of}
+use Rattle.triggered_ops.specs.Layout.{operation, found_at, place_at, place_in, with_told, waits_in, without_those}
+use Rattle.triggered_ops.specs.Operations.{Operation, is_number, waits_on, told_if, deed_of}
 
 pub number_eq : (a b : ℕ) → is_eq (nat_cmp a b) ≡ (a == b)
 number_eq a b =
@@ -62,21 +62,33 @@ module _ {D : Type 0} where
       not_some (Some x) e = cc
 
   -- ---- told a sum
-  pub told-others : (ct : Handle) (sum : ℕ) (o : Option (Operation D)) → waits_in ct o ≡ false → option_map (told_one ct sum) o ≡ o
+  told-number : (k sum : ℕ) (t : ℕ) (o : Option (Held D)) → (if t == k then option_map (with_told sum) (option_map (λ h. operation (t, h)) o) else option_map (λ h. operation (t, h)) o) ≡ option_map (told_if (is_number k) sum) (option_map (λ h. operation (t, h)) o)
+  told-number k sum t None = let none : Option (Operation D) = None in elim (t == k) as (λ b. (if b then none else none) ≡ none) [ true ↦ refl | false ↦ refl ]
+  told-number k sum t (Some h) =
+      elim (t == k) as (λ b. (if b then Some (with_told sum (operation (t, h))) else Some (operation (t, h))) ≡ Some (record (operation (t, h)) { told = if b then sum else h.told })) [
+        | true ↦ refl
+        | false ↦ refl
+      ]
+
+  -- one operation alone
+  pub told-alone : (m n : BTreeMap ℕ (Held D)) (k sum : ℕ) → ((t : ℕ) → found_at n t ≡ (if t == k then option_map (with_told sum) (found_at m t) else found_at m t)) → (t : ℕ) → found_at n t ≡ option_map (told_if (is_number k) sum) (found_at m t)
+  told-alone m n k sum is t = is t ∙ told-number k sum t (get nat_cmp m t)
+
+  pub told-others : (ct : Handle) (sum : ℕ) (o : Option (Operation D)) → waits_in ct o ≡ false → option_map (told_if (waits_on ct) sum) o ≡ o
   told-others ct sum None e = refl
   told-others ct sum (Some p) e = rw e refl
 
-  pub told-mine : (ct : Handle) (sum : ℕ) (o : Option (Operation D)) → waits_in ct o ≡ true → option_map (with_told sum) o ≡ option_map (told_one ct sum) o
+  pub told-mine : (ct : Handle) (sum : ℕ) (o : Option (Operation D)) → waits_in ct o ≡ true → option_map (with_told sum) o ≡ option_map (told_if (waits_on ct) sum) o
   told-mine ct sum None e = refl
   told-mine ct sum (Some p) e = rw e refl
 
   -- those below a number were told
   abbrev pub ToldBelow : Handle → ℕ → ℕ → (ℕ → Option (Operation D)) → (ℕ → Option (Operation D)) → Type 0
-  ToldBelow ct sum from f0 f = (t : ℕ) → f t ≡ (if nat_lt t from then option_map (told_one ct sum) (f0 t) else f0 t)
+  ToldBelow ct sum from f0 f = (t : ℕ) → f t ≡ (if nat_lt t from then option_map (told_if (waits_on ct) sum) (f0 t) else f0 t)
 
   pub told-step : (ct : Handle) (sum : ℕ) (f0 f g : ℕ → Option (Operation D)) (from n : ℕ) → ToldBelow ct sum from f0 f → ((t : ℕ) → g t ≡ (if t == n then option_map (with_told sum) (f t) else f t)) → from ≤ n → waits_in ct (f0 n) ≡ true → ((t : ℕ) → from ≤ t → t < n → waits_in ct (f0 t) ≡ false) → ToldBelow ct sum (n + 1) f0 g
   told-step ct sum f0 f g from n so_far is le waits others t =
-      let told = option_map (told_one ct sum) (f0 t) in
+      let told = option_map (told_if (waits_on ct) sum) (f0 t) in
       ⊎_elim
       (λ lt.
       let ne : t ≡ n → ⊥ = λ e. omega arith in
@@ -100,9 +112,9 @@ module _ {D : Type 0} where
       (cases_eq t n))
       (cases_lt t n)
 
-  pub told-end : (ct : Handle) (sum : ℕ) (f0 f : ℕ → Option (Operation D)) (from : ℕ) → ToldBelow ct sum from f0 f → ((t : ℕ) → from ≤ t → waits_in ct (f0 t) ≡ false) → (t : ℕ) → f t ≡ option_map (told_one ct sum) (f0 t)
+  pub told-end : (ct : Handle) (sum : ℕ) (f0 f : ℕ → Option (Operation D)) (from : ℕ) → ToldBelow ct sum from f0 f → ((t : ℕ) → from ≤ t → waits_in ct (f0 t) ≡ false) → (t : ℕ) → f t ≡ option_map (told_if (waits_on ct) sum) (f0 t)
   told-end ct sum f0 f from so_far others t =
-      let told = option_map (told_one ct sum) (f0 t) in
+      let told = option_map (told_if (waits_on ct) sum) (f0 t) in
       ⊎_elim
       (λ low. so_far t ∙ if_yes (nat_lt t from) told (f0 t) (lt-ltb t from low))
       (λ high. so_far t ∙ if_no (nat_lt t from) told (f0 t) (le-ltb t from high) ∙ sym (told-others ct sum (f0 t) (others t high)))

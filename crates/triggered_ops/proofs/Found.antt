@@ -16,7 +16,7 @@ use Rattle.std.proofs.lemmas.Map.Keys.{sorted_head, sorted_tail}
 use Rattle.ptl_types.specs.declared.handles.Handle.{Handle}
 use Rattle.triggered_ops.specs.declared.held.Held.{Held}
 use Rattle.triggered_ops.specs.Layout.{operation, found_at, without_those}
-use Rattle.triggered_ops.specs.Operations.{Operation, is_number, told_one, waits_on}
+use Rattle.triggered_ops.specs.Operations.{Operation, is_number, told_if, waits_on}
 use Rattle.triggered_ops.proofs.Changes.{number_eq}
 use Rattle.triggered_ops.proofs.Rising.{Rises, pairs-head, pairs-tail, find_has, is_number-same, is_number-later}
 
@@ -101,12 +101,12 @@ module _ {D : Type 0} where
       (λ ne. rw (ne_eqb q.number t ne) rest)
       (cases_eq q.number t)
 
-  pub find-told : (ct : Handle) (sum : ℕ) (ps : List (Operation D)) (t : ℕ) → find (is_number t) (map (told_one ct sum) ps) ≡ option_map (told_one ct sum) (find (is_number t) ps)
-  find-told ct sum [] t = refl
-  find-told ct sum (p ∷ ps) t =
-      elim (is_number t p) as (λ b. (if b then Some (told_one ct sum p) else find (is_number t) (map (told_one ct sum) ps)) ≡ option_map (told_one ct sum) (if b then Some p else find (is_number t) ps)) [
+  pub find-told : (test : Operation D → Bool) (sum : ℕ) (ps : List (Operation D)) (t : ℕ) → find (is_number t) (map (told_if test sum) ps) ≡ option_map (told_if test sum) (find (is_number t) ps)
+  find-told test sum [] t = refl
+  find-told test sum (p ∷ ps) t =
+      elim (is_number t p) as (λ b. (if b then Some (told_if test sum p) else find (is_number t) (map (told_if test sum) ps)) ≡ option_map (told_if test sum) (if b then Some p else find (is_number t) ps)) [
         | true ↦ refl
-        | false ↦ find-told ct sum ps t
+        | false ↦ find-told test sum ps t
       ]
 
   pub find-without : (n : ℕ) (ps : List (Operation D)) (t : ℕ) → find (is_number t) (filter (λ p. not (is_number n p)) ps) ≡ (if t == n then None else find (is_number t) ps)

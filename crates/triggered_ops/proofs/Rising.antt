@@ -9,7 +9,7 @@ use Rattle.std.proofs.lemmas.List.Quantifiers.{all_pairs_push}
 use Rattle.std.proofs.lemmas.List.Kept.{AllPairs-cons, AllPairs-filter}
 use Rattle.ptl_types.specs.declared.handles.Handle.{Handle}
 use Rattle.triggered_ops.specs.Layout.{is_from, number_of}
-use Rattle.triggered_ops.specs.Operations.{Operation, Operations, IsKept, is_number, is_due, is_due_op, operation_at, numbered, told, told_one, with_posted, without_number}
+use Rattle.triggered_ops.specs.Operations.{Operation, Operations, IsKept, is_number, is_due, is_due_op, operation_at, numbered, told_if, told_where, with_posted, without_number}
 
 -- ---- lists
 module _ {X : Type 0} where
@@ -65,11 +65,11 @@ module _ {D : Type 0} where
     numbers = omega arith;
   }
 
-  pub IsKept-told : (ops : Operations D) (ct : Handle) (sum : ℕ) → IsKept ops → IsKept (told ct sum ops)
-  IsKept-told ops ct sum kept = record {
-    rising = AllPairs-map Rises (told_one ct sum) ops.waiting kept.rising;
-    were_given = All-map (λ (p : Operation D). p.number < ops.given) (told_one ct sum) ops.waiting kept.were_given;
-    limited = omega (arith, length-map ops.waiting (told_one ct sum), kept.limited);
+  pub IsKept-told : (ops : Operations D) (test : Operation D → Bool) (sum : ℕ) → IsKept ops → IsKept (told_where test sum ops)
+  IsKept-told ops test sum kept = record {
+    rising = AllPairs-map Rises (told_if test sum) ops.waiting kept.rising;
+    were_given = All-map (λ (p : Operation D). p.number < ops.given) (told_if test sum) ops.waiting kept.were_given;
+    limited = omega (arith, length-map ops.waiting (told_if test sum), kept.limited);
     numbers = kept.numbers;
   }
 

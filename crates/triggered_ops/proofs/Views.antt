@@ -1,5 +1,5 @@
 -- What the calls over the parts make of the whole: from what stands under each number to the list of those that wait.
-use Rattle.std.proofs.Common.{◌≡◌, ℕ, ◌+◌, ◌^◌, ◌<◌, ◌≤◌, ◌==◌, ◌&&◌, true, false, not, nat_le, List, [], ◌∷◌, ◌++◌, Option, Some, None, IsSome, is_some, find, filter, length, map, if◌then◌else◌, refl, ap, sym, subst, arith, ◌∙◌}
+use Rattle.std.proofs.Common.{◌≡◌, ℕ, ◌+◌, ◌^◌, ◌<◌, ◌≤◌, ◌==◌, ◌&&◌, Bool, true, false, not, nat_le, List, [], ◌∷◌, ◌++◌, Option, Some, None, IsSome, is_some, find, filter, length, map, if◌then◌else◌, refl, ap, sym, subst, arith, ◌∙◌}
 use Rattle.std.specs.Prelude.{AllPairs, option_map, IfSome, IfNone}
 use Rattle.std.specs.Ordering.{nat_cmp, is_le, MatchOrdering}
 use Rattle.std.specs.declared.cmp.Ordering.TheVariants.{Less, Equal, Greater}
@@ -16,7 +16,7 @@ use Rattle.std.proofs.lemmas.List.Filters.{length-filter_both}
 use Rattle.ptl_types.specs.declared.handles.Handle.{Handle}
 use Rattle.triggered_ops.specs.declared.held.Held.{Held}
 use Rattle.triggered_ops.specs.Layout.{operation, operations_of, found_at, place_at, is_from, without_those, Key, IsListed, AreDue, IsIndexed, IsLaid, waits_in}
-use Rattle.triggered_ops.specs.Operations.{Operation, Operations, IsKept, is_number, is_due_op, operation_at, told, told_one, waits_on, waiting_on, with_posted, without_number, cancelled, deed_of, numbered}
+use Rattle.triggered_ops.specs.Operations.{Operation, Operations, IsKept, is_number, is_due_op, operation_at, told_if, told_where, waits_on, waiting_on, with_posted, without_number, cancelled, deed_of, numbered}
 use Rattle.triggered_ops.proofs.Found.{find-found, rising-sorted, same_rising, find-posted, find-told, find-without, find-cancelled}
 use Rattle.triggered_ops.proofs.Rising.{Rises, IsKept-told, IsKept-filter, found_number, find_has, without-absent}
 
@@ -73,10 +73,10 @@ module _ {D : Type 0} where
       found t ∙ rw (same, ← find-found m t) (sym a)) in
       rw e refl
 
-  pub waiting-told : (m n : BTreeMap ℕ (Held D)) (given limit : ℕ) (ct : Handle) (sum : ℕ) → IsKept (operations_of m.entries given limit) → IsOrdered nat_cmp n → ((t : ℕ) → found_at n t ≡ option_map (told_one ct sum) (found_at m t)) → operations_of n.entries given limit ≡ told ct sum (operations_of m.entries given limit)
-  waiting-told m n given limit ct sum kept ordered found =
-      let e : map operation n.entries ≡ map (told_one ct sum) (map operation m.entries) = waiting-is n (map (told_one ct sum) (map operation m.entries)) ordered (IsKept-told (operations_of m.entries given limit) ct sum kept).rising
-      (λ t. found t ∙ ap (option_map (told_one ct sum)) (sym (find-found m t)) ∙ sym (find-told ct sum (map operation m.entries) t)) in
+  pub waiting-told : (m n : BTreeMap ℕ (Held D)) (given limit : ℕ) (test : Operation D → Bool) (sum : ℕ) → IsKept (operations_of m.entries given limit) → IsOrdered nat_cmp n → ((t : ℕ) → found_at n t ≡ option_map (told_if test sum) (found_at m t)) → operations_of n.entries given limit ≡ told_where test sum (operations_of m.entries given limit)
+  waiting-told m n given limit test sum kept ordered found =
+      let e : map operation n.entries ≡ map (told_if test sum) (map operation m.entries) = waiting-is n (map (told_if test sum) (map operation m.entries)) ordered (IsKept-told (operations_of m.entries given limit) test sum kept).rising
+      (λ t. found t ∙ ap (option_map (told_if test sum)) (sym (find-found m t)) ∙ sym (find-told test sum (map operation m.entries) t)) in
       rw e refl
 
   pub waiting-without : (m n : BTreeMap ℕ (Held D)) (given limit k : ℕ) → IsKept (operations_of m.entries given limit) → IsOrdered nat_cmp n → ((t : ℕ) → found_at n t ≡ (if t == k then None else found_at m t)) → operations_of n.entries given limit ≡ without_number k (operations_of m.entries given limit)
@@ -164,10 +164,10 @@ module _ {D : Type 0} where
   none-from a es given limit ops view is = rw (← view) (none-between a es is)
 
   -- what is told keeps its counting event
-  pub indexed-told : (m n : BTreeMap ℕ (Held D)) (index : BTreeSet Key) (ct : Handle) (sum : ℕ) → IsIndexed m index → ((t : ℕ) → found_at n t ≡ option_map (told_one ct sum) (found_at m t)) → IsIndexed n index
-  indexed-told m n index ct sum indexed found = λ slot stamp t. indexed slot stamp t ∙ sym (ap (waits_in (record { slot = slot; stamp = stamp })) (found t) ∙ still (record { slot = slot; stamp = stamp }) (found_at m t))
+  pub indexed-told : (m n : BTreeMap ℕ (Held D)) (index : BTreeSet Key) (test : Operation D → Bool) (sum : ℕ) → IsIndexed m index → ((t : ℕ) → found_at n t ≡ option_map (told_if test sum) (found_at m t)) → IsIndexed n index
+  indexed-told m n index test sum indexed found = λ slot stamp t. indexed slot stamp t ∙ sym (ap (waits_in (record { slot = slot; stamp = stamp })) (found t) ∙ still (record { slot = slot; stamp = stamp }) (found_at m t))
     where
-      still : (h : Handle) (o : Option (Operation D)) → waits_in h (option_map (told_one ct sum) o) ≡ waits_in h o
+      still : (h : Handle) (o : Option (Operation D)) → waits_in h (option_map (told_if test sum) o) ≡ waits_in h o
       still h None = refl
       still h (Some p) = refl
 

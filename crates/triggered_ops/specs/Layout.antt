@@ -33,6 +33,10 @@ module _ {D : Type 0} where
   abbrev pub number_of : Operation D → ℕ
   number_of p = p.number
 
+  -- an operation that is told this sum
+  abbrev pub with_told : ℕ → Operation D → Operation D
+  with_told sum p = record p { told = sum }
+
   abbrev pub is_from : ℕ → Operation D → Bool
   is_from n p = nat_le n p.number
 

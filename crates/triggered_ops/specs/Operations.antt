@@ -71,21 +71,25 @@ module _ {D : Type 0} where
 
   -- ---- what the calls make of them
 
-  -- an operation that is told this sum
-  abbrev pub with_told : ℕ → Operation D → Operation D
-  with_told sum p = record p { told = sum }
-
   -- one operation more, the newest; it was told 0
   abbrev pub with_posted : D → Handle → ℕ → Operations D → Operations D
   with_posted deed ct threshold ops = record ops { waiting = ops.waiting ++ (record { number = ops.given; deed = deed; ct = ct; threshold = threshold; told = 0 }) ∷ []; given = ops.given + 1 }
 
-  -- an operation that waits on ct is told this sum
-  abbrev pub told_one : Handle → ℕ → Operation D → Operation D
-  told_one ct sum p = record p { told = if waits_on ct p then sum else p.told }
+  -- an operation that passes a test is told this sum
+  abbrev pub told_if : (Operation D → Bool) → ℕ → Operation D → Operation D
+  told_if test sum p = record p { told = if test p then sum else p.told }
+
+  -- those that pass it
+  abbrev pub told_where : (Operation D → Bool) → ℕ → Operations D → Operations D
+  told_where test sum ops = record ops { waiting = map (told_if test sum) ops.waiting }
 
   -- each that waits on ct
   abbrev pub told : Handle → ℕ → Operations D → Operations D
-  told ct sum ops = record ops { waiting = map (told_one ct sum) ops.waiting }
+  told ct sum ops = told_where (waits_on ct) sum ops
+
+  -- the operation of this number alone
+  abbrev pub told_one : ℕ → ℕ → Operations D → Operations D
+  told_one t sum ops = told_where (is_number t) sum ops
 
   -- the operations without the one of this number
   abbrev pub without_number : ℕ → Operations D → Operations D

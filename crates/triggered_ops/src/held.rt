@@ -4,8 +4,8 @@
 ghost use Rattle.std.specs.Prelude.{◌≡◌, ◌<◌, ◌≤◌, ◌==◌, ℕ, Bool, true, false, Some, None, IsSome, is_some, nat_le, length, if◌then◌else◌, vec_len, vec_capacity, option_map};
 ghost use Rattle.std.specs.Ordering.{nat_cmp};
 ghost use Rattle.std.specs.BTreeMap.{get, IsOrdered, btree_map_len};
-ghost use Rattle.triggered_ops.specs.Operations.{is_due_op, with_told};
-ghost use Rattle.triggered_ops.specs.Layout.{found_at, place_at, IsListed, AreDue};
+ghost use Rattle.triggered_ops.specs.Operations.{is_due_op};
+ghost use Rattle.triggered_ops.specs.Layout.{found_at, place_at, with_told, IsListed, AreDue};
 
 use ptl_types::Handle;
 use std::collections::BTreeMap;
@@ -38,13 +38,13 @@ fn put_place<D>(operations: &mut BTreeMap<u32, Held<D>>, number: u32, place: Opt
     }
 }
 
-/// Tells an operation a sum, and answers whether it is due then and what its place is.
+/// Tells an operation a sum, where it waits, and answers whether it is due then and what its place is.
 fn put_told<D>(
     operations: &mut BTreeMap<u32, Held<D>>,
     number: u32,
     sum: u64,
 ) -> (bool, Option<usize>)
-    requires { IsSome (get nat_cmp operations.old number) }
+    requires { IsOrdered nat_cmp operations.old }
     ensures found { (t : ℕ) → found_at operations.new t ≡ (if t == number then option_map (with_told sum) (found_at operations.old t) else found_at operations.old t) }
     ensures place { (t : ℕ) → place_at operations.new t ≡ place_at operations.old t }
     ensures due { result.0 ≡ is_due_op (found_at operations.new number) }
@@ -57,7 +57,7 @@ fn put_told<D>(
             held.told = sum;
             (held.threshold <= sum, held.place)
         }
-        None => unreachable!(),
+        None => (false, None),
     }
 }
 
@@ -118,9 +118,9 @@ pub fn unlist<D>(operations: &mut BTreeMap<u32, Held<D>>, due: &mut Vec<u32>, nu
     }
 }
 
-/// Tells an operation a sum, and lists it exactly where it is due.
+/// Tells an operation a sum, where it waits, and lists it exactly where it is due.
 pub fn tell<D>(operations: &mut BTreeMap<u32, Held<D>>, due: &mut Vec<u32>, number: u32, sum: u64)
-    requires here { IsSome (get nat_cmp operations.old number) }
+    requires ordered { IsOrdered nat_cmp operations.old }
     requires listed { IsListed (place_at operations.old) due.old.items }
     requires are_due { AreDue operations.old }
     requires room { btree_map_len operations.old ≤ vec_capacity due.old }

@@ -2,7 +2,7 @@
 #![tactic(auto)]
 
 ghost use Rattle.std.specs.Prelude.{◌≡◌, ◌≤◌, ◌<◌, ◌^◌, ◌-◌, ℕ, true, false, Some, None, All, IfSome, IfNone, IfOk, OnOk, OnErr, length, slice_get, option_map};
-ghost use Rattle.triggered_ops.specs.Operations.{no_operations, is_full, operation_at, is_ready, shown, numbered, deed_of, with_posted, told, without_number, waiting_on, cancelled, IsKept};
+ghost use Rattle.triggered_ops.specs.Operations.{no_operations, is_full, operation_at, is_ready, shown, numbered, deed_of, with_posted, told, told_one, without_number, waiting_on, cancelled, IsKept};
 
 mod held;
 mod index;
@@ -19,8 +19,8 @@ use std::marker::Model;
 /// The operations that wait, each with a number, a deed of the caller's, its counting event and its threshold. Its value is the
 /// list of them by rising number, with the sum that each was last told, how many numbers were given, and how many may wait.
 ///
-/// With n that wait, `ready` takes a constant number of steps, and `post`, `is_ready`, `get`, `next` and `take` the order of
-/// log n; `reached` and `cancel` take as many for each operation that waits on that counting event, and touch no other. `at`
+/// With n that wait, `ready` takes a constant number of steps, and `post`, `tell`, `is_ready`, `get`, `next` and `take` the order
+/// of log n; `reached` and `cancel` take as many for each operation that waits on that counting event, and touch no other. `at`
 /// passes over the operations before its place.
 #[derive(Drop)]
 pub struct Pending<D> {
@@ -75,6 +75,13 @@ impl<D> Pending<D> {
         ensures { self.new ≡ told ct sum self.old }
     {
         parts::tell_all(&mut self.operations, &self.index, &mut self.due, ct, sum);
+    }
+
+    /// Tells a sum to the operation of this number alone; nothing changes where it doesn't wait.
+    pub fn tell(&mut self, number: u32, sum: u64)
+        ensures { self.new ≡ told_one number sum self.old }
+    {
+        held::tell(&mut self.operations, &mut self.due, number, sum);
     }
 
     /// The number of an operation whose told sum is at least its threshold; `None` exactly where there is none. Which of
@@ -164,12 +171,13 @@ impl<D: Drop> Pending<D> {
         }
     }
 
-    /// Posts an operation and answers its number; it was told 0. Where memory is wanting the deed is dropped and nothing else
+    /// Posts an operation and answers its number, which none that waits has; it was told 0. Where memory is wanting the deed is dropped and nothing else
     /// changes.
     pub fn post(&mut self, deed: D, ct: Handle, threshold: u64) -> Result<u32, NoMemory>
         requires room { length self.old.waiting < self.old.limit }
         requires numbers { self.old.given < 2 ^ 32 - 1 }
         ensures number { IfOk result (λ t. t ≡ self.old.given) }
+        ensures fresh { IfOk result (λ t. operation_at t self.old ≡ None) }
         ensures ok { OnOk result (self.new ≡ with_posted deed ct threshold self.old) }
         ensures err { OnErr result (self.new ≡ self.old) }
     {

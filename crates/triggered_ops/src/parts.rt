@@ -4,7 +4,7 @@
 ghost use Rattle.std.specs.Prelude.{◌≡◌, ◌<◌, ◌==◌, ◌+◌, ◌-◌, ◌^◌, ◌≤◌, ℕ, Some, None, IsSome, is_some, OnOk, OnErr, if◌then◌else◌, vec_capacity, option_map};
 ghost use Rattle.std.specs.Ordering.{nat_cmp};
 ghost use Rattle.std.specs.BTreeMap.{IsOrdered, btree_map_len};
-ghost use Rattle.triggered_ops.specs.Operations.{deed_of, told_one};
+ghost use Rattle.triggered_ops.specs.Operations.{deed_of, told_if, waits_on};
 ghost use Rattle.triggered_ops.specs.Layout.{operation, found_at, place_at, without_those, IsListed, AreDue, IsIndexed};
 
 use crate::held::{Held, list, tell, unlist};
@@ -126,7 +126,7 @@ pub fn tell_all<D>(
     requires below { (t : ℕ) → IsSome (found_at operations.old t) → t < 2 ^ 32 - 1 }
     ensures listed { IsListed (place_at operations.new) due.new.items }
     ensures are_due { AreDue operations.new }
-    ensures found { (t : ℕ) → found_at operations.new t ≡ option_map (told_one ct sum) (found_at operations.old t) }
+    ensures found { (t : ℕ) → found_at operations.new t ≡ option_map (told_if (waits_on ct) sum) (found_at operations.old t) }
     ensures room { vec_capacity due.new ≡ vec_capacity due.old }
     ensures ordered { IsOrdered nat_cmp operations.new }
 {

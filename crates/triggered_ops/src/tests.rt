@@ -35,8 +35,10 @@ fn an_operation_is_ready_while_its_sum_is_at_its_threshold(rt: HostRuntime) -> R
     assert!(rt; !pending.is_ready(1));
     pending.reached(GO, 1);
     assert_eq!(rt; pending.ready(), None);
-    pending.reached(GO, 2);
+    pending.tell(0, 2);
+    pending.tell(2, 2);
     assert_eq!(rt; pending.ready(), Some(0));
+    assert!(rt; !pending.is_ready(1));
     assert_eq!(rt; pending.take(0), Some(7));
     assert_eq!(rt; pending.ready(), None);
     assert_eq!(rt; pending.len(), 1);

@@ -1,4 +1,5 @@
 use Rattle.std.proofs.Common.{◌<◌, arith}
+use Rattle.triggered_ops.specs.Operations.{waits_on}
 use Rattle.triggered_ops.proofs.Rising.{IsKept-told}
 use Rattle.triggered_ops.proofs.Views.{below-given, waiting-told, indexed-told, laid}
 use Rattle.triggered_ops.proofs.Pending.reached.Goals as goal
@@ -9,8 +10,8 @@ tell_all-requires-clause-below g c = λ t some. let lt : t < c.self.inside.given
 pub invariant_of-self : goal.invariant_of-self
 invariant_of-self g c =
     laid c.tell_all.new.operations _ _ _ _ c.self.inside.given c.self.inside.limit _
-    (waiting-told c.self.inside.operations c.tell_all.new.operations c.self.inside.given c.self.inside.limit c.args.ct c.args.sum c.self.invariant.kept c.tell_all.ensures.ordered c.tell_all.ensures.found)
-    (IsKept-told _ c.args.ct c.args.sum c.self.invariant.kept) c.tell_all.ensures.ordered (indexed-told c.self.inside.operations c.tell_all.new.operations c.self.inside.index c.args.ct c.args.sum c.self.invariant.indexed c.tell_all.ensures.found) c.tell_all.ensures.listed c.tell_all.ensures.are_due c.tell_all.ensures.room c.self.invariant.enough c.self.invariant.small
+    (waiting-told c.self.inside.operations c.tell_all.new.operations c.self.inside.given c.self.inside.limit (waits_on c.args.ct) c.args.sum c.self.invariant.kept c.tell_all.ensures.ordered c.tell_all.ensures.found)
+    (IsKept-told _ (waits_on c.args.ct) c.args.sum c.self.invariant.kept) c.tell_all.ensures.ordered (indexed-told c.self.inside.operations c.tell_all.new.operations c.self.inside.index (waits_on c.args.ct) c.args.sum c.self.invariant.indexed c.tell_all.ensures.found) c.tell_all.ensures.listed c.tell_all.ensures.are_due c.tell_all.ensures.room c.self.invariant.enough c.self.invariant.small
 
 pub returns : goal.returns
-returns g c = rw (← c.self.view_is) (waiting-told c.self.inside.operations c.tell_all.new.operations c.self.inside.given c.self.inside.limit c.args.ct c.args.sum c.self.invariant.kept c.tell_all.ensures.ordered c.tell_all.ensures.found)
+returns g c = rw (← c.self.view_is) (waiting-told c.self.inside.operations c.tell_all.new.operations c.self.inside.given c.self.inside.limit (waits_on c.args.ct) c.args.sum c.self.invariant.kept c.tell_all.ensures.ordered c.tell_all.ensures.found)

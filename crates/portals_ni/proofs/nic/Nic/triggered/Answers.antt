@@ -1,12 +1,12 @@
-use Rattle.std.proofs.Common.{◌≡◌, ◌≤◌, None, refl, sym, ap, subst, ◌∙◌, arith}
+use Rattle.std.proofs.Common.{◌≡◌, ℕ, ◌≤◌, None, refl, sym, ap, subst, ◌∙◌, arith}
 use Rattle.std.proofs.lemmas.Result.{err_from_is_err_and}
 use Rattle.ni_model.specs.Refusals.{triggered_fault}
 use Rattle.ni_model.specs.Conditions.{MayStart}
 use Rattle.ni_model.specs.State.{State}
 use Rattle.initiator_engine.specs.Initiators.{room_for}
-use Rattle.triggered_ops.specs.Operations.{posted_all, with_posted}
+use Rattle.triggered_ops.specs.Operations.{posted_all, operation_at, with_posted}
 use Rattle.portals_ni.specs.declared.armed.Armed.{Armed}
-use Rattle.portals_ni.specs.Pendings.{deed_in, told_anew}
+use Rattle.portals_ni.specs.Pendings.{deed_in, told_new}
 use Rattle.portals_ni.specs.Sound.{IsSound}
 use Rattle.portals_ni.proofs.Kept.{post-sound, posts-armed, posts-live, may-start}
 use Rattle.portals_ni.proofs.Ends.{no-fault, fault-is, enough-refused, lacks}
@@ -29,17 +29,18 @@ invariant_of-self c =
     let may : MayStart c.args.deed n.initiator.ranks n.initiator.limits = may-start c.args.deed n.initiator.ranks n.target.limit n.initiator.limits c.self.invariant.limit (subst (λ (s : State). MayStart c.args.deed s.ranks s.limits) (sym c.self.view_is) c.requires) in
     let room : room_for c.args.deed ≤ c.in-Ok.room.room = rw (c.in-Ok.ensures, c.room_for.ensures) (omega arith) in
     let live = posts-live c.args.deed c.args.ct n.cts n.initiator.mds (posted_all deed_in n.pending) none in
-    let told : c.tell_anew.new.pending ≡ told_anew c.args.ct n.cts (with_posted armed c.args.ct c.args.threshold n.pending) = c.tell_anew.ensures ∙ ap (told_anew c.args.ct n.cts) c.in-Ok-post.ensures.ok in
+    let told : c.tell_new.new.pending ≡ told_new n.pending.given c.args.ct n.cts (with_posted armed c.args.ct c.args.threshold n.pending) = c.tell_new.ensures ∙ rw (c.in-Ok-post.ensures.number, c.in-Ok-post.ensures.ok) refl in
+    let fresh : operation_at n.pending.given n.pending ≡ None = subst (λ (t : ℕ). operation_at t n.pending ≡ None) c.in-Ok-post.ensures.number c.in-Ok-post.ensures.fresh in
     subst (IsSound n.target n.region n.cts n.initiator) (sym told)
-    (post-sound n.target n.region n.cts n.initiator n.pending armed c.args.ct c.args.threshold live.0 c.self.invariant (posts-armed c.args.deed c.args.ct n.cts n.initiator.mds (posted_all deed_in n.pending) n.initiator.ranks n.initiator.limits c.in-Ok.room none may room) live.1)
+    (post-sound n.target n.region n.cts n.initiator n.pending armed c.args.ct c.args.threshold live.0 c.self.invariant (posts-armed c.args.deed c.args.ct n.cts n.initiator.mds (posted_all deed_in n.pending) n.initiator.ranks n.initiator.limits c.in-Ok.room none may room) live.1 fresh)
 
 pub returns-in-Ok-post : goal.returns-in-Ok-post
 returns-in-Ok-post c =
     let n = c.self.inside in
     let armed : Armed = record { deed = c.args.deed; room = c.in-Ok.room } in
     let none : triggered_fault c.args.deed c.args.ct n.cts n.initiator.mds (posted_all deed_in n.pending) ≡ None = no-fault _ (sym c.check_triggered.ensures ∙ c.in_ok-check_triggered.was) in
-    let told : c.tell_anew.new.pending ≡ told_anew c.args.ct n.cts (with_posted armed c.args.ct c.args.threshold n.pending) = c.tell_anew.ensures ∙ ap (told_anew c.args.ct n.cts) c.in-Ok-post.ensures.ok in
-    rw (← c.self.view_is) (post-may n.target n.region n.cts n.eqs n.initiator n.pending n.drops n.violations c.args.deed c.args.ct c.args.threshold c.in-Ok-post.number armed c.tell_anew.new.pending none refl c.in-Ok-post.ensures.number told)
+    let told : c.tell_new.new.pending ≡ told_new c.in-Ok-post.number c.args.ct n.cts (with_posted armed c.args.ct c.args.threshold n.pending) = c.tell_new.ensures ∙ ap (told_new c.in-Ok-post.number c.args.ct n.cts) c.in-Ok-post.ensures.ok in
+    rw (← c.self.view_is) (post-may n.target n.region n.cts n.eqs n.initiator n.pending n.drops n.violations c.args.deed c.args.ct c.args.threshold c.in-Ok-post.number armed c.tell_new.new.pending none refl c.in-Ok-post.ensures.number told)
 
 pub returns-in-Err-post : goal.returns-in-Err-post
 returns-in-Err-post c =
