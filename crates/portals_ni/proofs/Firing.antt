@@ -1,21 +1,20 @@
 -- The pending operations as the model has them: which are ready, and what firing one does.
-use Rattle.std.proofs.Common.{◌≡◌, ℕ, ◌==◌, Bool, true, false, not, nat_lt, List, [], ◌∷◌, ◌++◌, Option, Some, None, nat_le, length, find, filter, if◌then◌else◌, refl, sym, subst, ap, ◌∙◌, arith}
+use Rattle.std.proofs.Common.{◌≡◌, ℕ, ◌==◌, Bool, true, false, not, List, [], ◌∷◌, ◌++◌, Option, Some, None, nat_le, length, find, filter, if◌then◌else◌, refl, sym, subst, ap, ◌∙◌, arith}
 use Rattle.std.specs.Prelude.{All, map, option_map}
 use Rattle.std.proofs.lemmas.Bool.{eq-eqb}
 use Rattle.std.proofs.lemmas.Bool.Decides.{nat_tests}
-use Rattle.std.proofs.lemmas.List.Elements.{All-head, All-tail, All-cons, All-push, All-nil}
+use Rattle.std.proofs.lemmas.List.Elements.{All-push}
 use Rattle.ptl_types.specs.declared.handles.Handle.{Handle}
 use Rattle.ptl_types.specs.declared.handles.Count.{Count}
 use Rattle.ptl_types.specs.declared.calls.Limits.{Limits}
 use Rattle.ptl_types.specs.declared.calls.Deed.{Deed}
 use Rattle.ptl_types.specs.declared.calls.Deed.TheVariants.{Put, Get, Atomic, FetchAtomic, Swap, Inc, Set}
-use Rattle.ptl_types.specs.Handles.{same_handle}
 use Rattle.ni_model.specs.declared.Bound.{Bound}
 use Rattle.ni_model.specs.Tables.{Table, lookup}
 use Rattle.ni_model.specs.Counts.{total}
 use Rattle.ni_model.specs.State.{State, Posted, home_of, with_home}
 use Rattle.ni_model.specs.Ready as model
-use Rattle.ni_model.specs.Ready.{is_reached, is_ready_op, Fires, fires, done, fired_op, fired}
+use Rattle.ni_model.specs.Ready.{is_reached, is_ready_op, fires, done, fired_op, fired}
 use Rattle.ni_model.specs.Starts.{started}
 use Rattle.ni_model.specs.Refusals.{no_number}
 use Rattle.target_engine.proofs.Within.{find_has}
