@@ -62,7 +62,7 @@ fn combine_as<C: Combine>(operation: &C, ty: ElemType, into: &mut [u8], with: &[
 pub fn combine(op: AtomicOp, ty: ElemType, into: &mut [u8], with: &[u8])
     requires same { length into.old ≡ length with.now }
     requires whole { length into.old % bytes_of ty ≡ 0 }
-    ensures { into.new ≡ combined op ty into.old with.now }
+    ensures does { into.new ≡ combined op ty into.old with.now }
 {
     match op {
         AtomicOp::Min => combine_as(&Minimum, ty, into, with),
@@ -119,8 +119,8 @@ fn fill_as(ty: ElemType, into: &mut [u8], x: u64)
 
 /// Writes the operation's starting value in each element of `into`, a list of whole elements of the type, little-endian.
 pub fn start_values(op: AtomicOp, ty: ElemType, into: &mut [u8])
-    requires { length into.old % bytes_of ty ≡ 0 }
-    ensures { into.new ≡ starting op ty (length into.old) }
+    requires whole { length into.old % bytes_of ty ≡ 0 }
+    ensures does { into.new ≡ starting op ty (length into.old) }
 {
     fill_as(ty, into, start_value(op, ty));
 }

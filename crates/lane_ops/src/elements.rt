@@ -47,6 +47,7 @@ fn read_two(bytes: &[u8]) -> u64
     ensures value { result ≡ pattern (take 2 bytes.now) }
     ensures pattern { result < 2 ^ 16 }
 {
+    // A byte that is read brings its bound to the proof.
     let _bytes = [bytes[0], bytes[1]];
     u64::from(LittleEndian::read_u16(bytes))
 }
@@ -100,6 +101,34 @@ fn write_eight(bytes: &mut [u8], x: u64)
     ensures { bytes.new ≡ little_endian 8 x ++ drop 8 bytes.old }
 {
     LittleEndian::write_u64(bytes, x);
+}
+
+/// The first element of the bytes, as its bit pattern; the bytes are little-endian.
+pub fn read_pattern(ty: ElemType, bytes: &[u8]) -> u64
+    requires room { bytes_of ty ≤ length bytes.now }
+    ensures value { result ≡ pattern (take (bytes_of ty) bytes.now) }
+    ensures pattern { result < span ty }
+{
+    match ty {
+        ElemType::U8 | ElemType::I8 => read_one(bytes),
+        ElemType::U16 | ElemType::I16 => read_two(bytes),
+        ElemType::U32 | ElemType::I32 => read_four(bytes),
+        ElemType::U64 | ElemType::I64 => read_eight(bytes),
+    }
+}
+
+/// Overwrites the first element of the bytes with a bit pattern, little-endian.
+pub fn write_pattern(ty: ElemType, bytes: &mut [u8], x: u64)
+    requires room { bytes_of ty ≤ length bytes.old }
+    requires pattern { x < span ty }
+    ensures does { bytes.new ≡ little_endian (bytes_of ty) x ++ drop (bytes_of ty) bytes.old }
+{
+    match ty {
+        ElemType::U8 | ElemType::I8 => write_one(bytes, x),
+        ElemType::U16 | ElemType::I16 => write_two(bytes, x),
+        ElemType::U32 | ElemType::I32 => write_four(bytes, x),
+        ElemType::U64 | ElemType::I64 => write_eight(bytes, x),
+    }
 }
 
 /// Elements of the type `U8`.

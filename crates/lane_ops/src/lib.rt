@@ -11,6 +11,7 @@ mod operations;
 mod tests;
 
 pub use bytes::{combine, start_values};
+pub use elements::{read_pattern, write_pattern};
 pub use operations::{
     BitwiseAnd, BitwiseOr, BitwiseXor, Combine, LogicalAnd, LogicalOr, LogicalXor, Maximum,
     Minimum, Product, Sum, combine_elements, start_value,
