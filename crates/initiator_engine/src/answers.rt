@@ -10,7 +10,7 @@ use handle_store::Store;
 use memory_desc::Region;
 use ni_model::Bound;
 use ptl_types::{AckRequest, Count, Event, EventKind, Handle, Header, Message, MessageKind};
-use target_engine::effects::{raise, where_set};
+use event_delivery::{raise, where_set};
 
 /// Whether the answer is a reply, to a get, fetch-atomic or swap, and not an acknowledgement.
 fn is_reply(kind: MessageKind) -> bool

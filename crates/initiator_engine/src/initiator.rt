@@ -24,7 +24,7 @@ use ptl_types::{
 };
 use std::alloc::Global;
 use std::marker::Model;
-use target_engine::effects::{count, is_live_or_none, raise, successes};
+use event_delivery::{count, is_live_or_none, raise, successes};
 
 /// An initiator. Its value is its rank, the number of ranks, its limits, and its memory descriptors with the answers that
 /// each awaits.

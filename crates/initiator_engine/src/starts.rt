@@ -10,7 +10,7 @@ use handle_store::Store;
 use memory_desc::Region;
 use ni_model::Bound;
 use ptl_types::{Bytes, Event, EventKind, Handle, Header, PutArgs};
-use target_engine::effects::where_set;
+use event_delivery::where_set;
 
 /// The bytes that are sent, in the room that was brought.
 pub fn read_bytes(

@@ -13,7 +13,7 @@ use crate::starts::is_start;
 use counters::Counter;
 use handle_store::Store;
 use ptl_types::{Deed, Handle, Message};
-use target_engine::effects::count;
+use event_delivery::count;
 
 /// What an increment or a set does: the counting event that it names.
 fn count_deed(cts: &mut Store<Counter>, deed: &Deed) -> Option<Handle>

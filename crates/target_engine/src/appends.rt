@@ -11,7 +11,7 @@ ghost use Rattle.ni_model.specs.Append.{append_fault, is_allocated as allocated,
 ghost use Rattle.target_engine.specs.Sides.{has_appended, AppendsSome};
 
 use crate::calls::is_allocated;
-use crate::effects::{count, is_live_or_none, raise, successes, where_set};
+use event_delivery::{count, is_live_or_none, raise, successes, where_set};
 use crate::events::entry_event;
 use crate::gone::{frees, kind_taken, raise_gone, raise_taken};
 use crate::index::{link_at, queue_at};

@@ -12,7 +12,7 @@ ghost use Rattle.ni_model.specs.Append.{is_allocated as allocated, search as sea
 ghost use Rattle.target_engine.specs.Shelves.{seen_in};
 ghost use Rattle.target_engine.specs.Sides.{FailsBy, has_searched};
 
-use crate::effects::{is_live_or_none, raise};
+use event_delivery::{is_live_or_none, raise};
 use crate::events::entry_event;
 use crate::gone::{frees, header_event, raise_gone};
 use crate::index::{Index, put, queue_at, shelf_at};

@@ -8,7 +8,7 @@ ghost use Rattle.ni_model.specs.Append.{frees as is_freed, each_gone};
 ghost use Rattle.target_engine.specs.Shelves.{seen_in};
 ghost use Rattle.target_engine.specs.Sides.{side, told_gone};
 
-use crate::effects::raise;
+use event_delivery::raise;
 use crate::events::{entry_event, message_event};
 use crate::index::{Index, queue_at, shelf_at};
 use event_queues::Queue;

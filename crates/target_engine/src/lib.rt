@@ -5,7 +5,6 @@
 mod answers;
 mod appends;
 mod calls;
-pub mod effects;
 mod events;
 mod exchange;
 mod gone;

@@ -11,7 +11,7 @@ ghost use Rattle.target_engine.specs.Shelves.{places_after};
 ghost use Rattle.target_engine.specs.Sides.{side};
 
 use crate::answers::refused;
-use crate::effects::{count, successes, where_set};
+use event_delivery::{count, successes, where_set};
 use crate::events::raise_events;
 use crate::exchange::exchange;
 use crate::index::{Index, chosen_in, queue_at, settle_at};

@@ -1,4 +1,6 @@
-//! Counting and raising events where a counting event or an event queue is named.
+//! What a message or a start counts and tells: a count on the counting event that is named, an event in the event queue that
+//! is named, and nothing where none is (Portals 4.3, lightweight counting events and event queues).
+#![tactic(auto)]
 
 ghost use Rattle.std.specs.Prelude.{◌≡◌};
 ghost use Rattle.ni_model.specs.Tables.{where_set as set_by, is_live_or_none as lives};
@@ -10,14 +12,17 @@ use event_queues::Queue;
 use handle_store::Store;
 use ptl_types::{Count, Event, Handle};
 
-/// The handle, where the flag is set.
+#[cfg(test)]
+mod tests;
+
+/// The handle, where the flag is set: the counting event of an entry or a descriptor, where it counts events of one kind.
 pub fn where_set(flag: bool, handle: Option<Handle>) -> Option<Handle>
     ensures { result ≡ set_by flag handle }
 {
     if flag { handle } else { None }
 }
 
-/// Whether the thing that is named, if any, is live.
+/// Whether the thing that is named, if any, is live. An absent handle names nothing, and nothing is missing then.
 pub fn is_live_or_none<T>(things: &Store<T>, handle: Option<Handle>) -> bool
     ensures { result ≡ lives handle things.now }
 {
@@ -27,7 +32,7 @@ pub fn is_live_or_none<T>(things: &Store<T>, handle: Option<Handle>) -> bool
     }
 }
 
-/// That many successes.
+/// That many successes, and no failure.
 pub fn successes(success: u64) -> Count
     ensures { result ≡ success_of success }
 {
@@ -37,7 +42,8 @@ pub fn successes(success: u64) -> Count
     }
 }
 
-/// Counts on this counting event, where one is named.
+/// Counts on this counting event, where one is named. It stops at the end of the counter, successes first. A handle that isn't
+/// live changes nothing.
 pub fn count(cts: &mut Store<Counter>, ct: Option<Handle>, by: Count)
     ensures { cts.new ≡ counted ct by cts.old }
 {
@@ -48,7 +54,8 @@ pub fn count(cts: &mut Store<Counter>, ct: Option<Handle>, by: Count)
     }
 }
 
-/// Adds the event to this queue, where one is named.
+/// Adds the event to this event queue, where one is named. Where the queue is full it is this event that is lost. A handle that
+/// isn't live changes nothing.
 pub fn raise(eqs: &mut Store<Queue>, eq: Option<Handle>, event: Event)
     ensures { eqs.new ≡ raised eq event eqs.old }
 {

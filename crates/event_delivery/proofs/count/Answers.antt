@@ -1,5 +1,5 @@
 use Rattle.ni_model.specs.Counts.{bump}
-use Rattle.target_engine.proofs.effects.count.Goals as goal
+use Rattle.event_delivery.proofs.count.Goals as goal
 
 pub returns-in-Some-get_mut : goal.returns-in-Some-get_mut
 returns-in-Some-get_mut c = rw (c.in-Some.is, c.bump.ensures, c.in-Some-get_mut.ensures.once (bump c.args.by))

@@ -1,0 +1,49 @@
+//! A count and an event reach what is named, and nothing where none is.
+
+use crate::{count, is_live_or_none, raise, successes, where_set};
+use counters::Counter;
+use event_queues::Queue;
+use handle_store::Store;
+use ptl_types::{EqGot, Event, EventKind, Handle};
+use std::test::Fail;
+
+const EVENT: Event = Event {
+    kind: EventKind::Put,
+    source: 1,
+    pt: 0,
+    match_bits: 5,
+    hdr_data: 0,
+    requested: 1,
+    delivered: 1,
+    place: 0,
+    ok: true,
+};
+
+const FIRST: Handle = Handle { slot: 0, stamp: 0 };
+
+#[test]
+fn what_is_named_counts(rt: HostRuntime) -> Result<(), Fail> {
+    let mut cts = Store::open(rt.alloc(), 1)?;
+    assert!(rt; cts.insert(Counter::new()).is_ok());
+    count(&mut cts, where_set(true, Some(FIRST)), successes(2));
+    count(&mut cts, where_set(false, Some(FIRST)), successes(1));
+    let counted = cts.get(FIRST).map(|counter| counter.count());
+    assert_eq!(rt; counted, Some(successes(2)));
+    assert!(rt; is_live_or_none(&cts, None));
+    Ok(())
+}
+
+#[test]
+fn what_is_named_is_told(rt: HostRuntime) -> Result<(), Fail> {
+    let alloc = rt.alloc();
+    let mut eqs = Store::open(alloc, 1)?;
+    let queue = Queue::open(alloc, 2)?;
+    assert!(rt; eqs.insert(queue).is_ok());
+    raise(&mut eqs, Some(FIRST), EVENT);
+    raise(&mut eqs, None, EVENT);
+    if let Some(queue) = eqs.get_mut(FIRST) {
+        assert_eq!(rt; queue.take(), EqGot::Got(EVENT));
+        assert_eq!(rt; queue.take(), EqGot::Empty);
+    }
+    Ok(())
+}
