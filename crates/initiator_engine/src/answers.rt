@@ -5,12 +5,12 @@ ghost use Rattle.ni_model.specs.Events.{is_reply as replies, asks_event as asks,
 ghost use Rattle.ni_model.specs.Answers.{bound_at, is_due as due, memory_home, one_answer as count_of_answer, counter_home as counter_of, events_home, awaits_less};
 ghost use Rattle.ni_model.specs.Conditions.{IsBoundIn};
 
+use event_delivery::{raise, where_set};
 use event_queues::Queue;
 use handle_store::Store;
 use memory_desc::Region;
 use ni_model::Bound;
 use ptl_types::{AckRequest, Count, Event, EventKind, Handle, Header, Message, MessageKind};
-use event_delivery::{raise, where_set};
 
 /// Whether the answer is a reply, to a get, fetch-atomic or swap, and not an acknowledgement.
 fn is_reply(kind: MessageKind) -> bool

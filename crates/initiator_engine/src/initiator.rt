@@ -15,6 +15,7 @@ use crate::headers::{counted_on, header_of, put_args};
 use crate::named::{some_names_ct, some_names_eq};
 use crate::starts::{await_more, read_bytes, send_counter, send_event, send_queue};
 use counters::Counter;
+use event_delivery::{count, is_live_or_none, raise, successes};
 use event_queues::Queue;
 use handle_store::Store;
 use memory_desc::Region;
@@ -24,7 +25,6 @@ use ptl_types::{
 };
 use std::alloc::Global;
 use std::marker::Model;
-use event_delivery::{count, is_live_or_none, raise, successes};
 
 /// An initiator. Its value is its rank, the number of ranks, its limits, and its memory descriptors with the answers that
 /// each awaits.

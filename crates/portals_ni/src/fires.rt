@@ -11,9 +11,9 @@ use crate::counting::set_counter;
 use crate::nic::Nic;
 use crate::starts::is_start;
 use counters::Counter;
+use event_delivery::count;
 use handle_store::Store;
 use ptl_types::{Deed, Handle, Message};
-use event_delivery::count;
 
 /// What an increment or a set does: the counting event that it names.
 fn count_deed(cts: &mut Store<Counter>, deed: &Deed) -> Option<Handle>

@@ -11,12 +11,12 @@ ghost use Rattle.ni_model.specs.Append.{append_fault, is_allocated as allocated,
 ghost use Rattle.target_engine.specs.Sides.{has_appended, AppendsSome};
 
 use crate::calls::is_allocated;
-use event_delivery::{count, is_live_or_none, raise, successes, where_set};
 use crate::events::entry_event;
 use crate::gone::{frees, kind_taken, raise_gone, raise_taken};
 use crate::index::{link_at, queue_at};
 use crate::target::Target;
 use counters::Counter;
+use event_delivery::{count, is_live_or_none, raise, successes, where_set};
 use event_queues::Queue;
 use handle_store::Store;
 use memory_desc::Region;

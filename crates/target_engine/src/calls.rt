@@ -12,11 +12,11 @@ ghost use Rattle.ni_model.specs.Append.{is_allocated as allocated, search as sea
 ghost use Rattle.target_engine.specs.Shelves.{seen_in};
 ghost use Rattle.target_engine.specs.Sides.{FailsBy, has_searched};
 
-use event_delivery::{is_live_or_none, raise};
 use crate::events::entry_event;
 use crate::gone::{frees, header_event, raise_gone};
 use crate::index::{Index, put, queue_at, shelf_at};
 use crate::target::Target;
+use event_delivery::{is_live_or_none, raise};
 use event_queues::Queue;
 use handle_store::Store;
 use match_lists::Lists;

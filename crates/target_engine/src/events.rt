@@ -4,8 +4,8 @@ ghost use Rattle.std.specs.Prelude.{◌≡◌, ◌+◌, ◌<◌, ◌^◌};
 ghost use Rattle.ni_model.specs.Events.{kind_delivered as kind_of, message_event as event_of, entry_event as entry_event_of};
 ghost use Rattle.ni_model.specs.Arrive.{delivery_raised, events_after};
 
-use event_delivery::raise;
 use crate::measures::{delivered, is_over, place};
+use event_delivery::raise;
 use event_queues::Queue;
 use handle_store::Store;
 use ni_model::Found;

@@ -8,9 +8,9 @@ ghost use Rattle.ni_model.specs.Append.{frees as is_freed, each_gone};
 ghost use Rattle.target_engine.specs.Shelves.{seen_in};
 ghost use Rattle.target_engine.specs.Sides.{side, told_gone};
 
-use event_delivery::raise;
 use crate::events::{entry_event, message_event};
 use crate::index::{Index, queue_at, shelf_at};
+use event_delivery::raise;
 use event_queues::Queue;
 use handle_store::Store;
 use ni_model::Noted;

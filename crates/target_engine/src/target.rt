@@ -11,12 +11,12 @@ ghost use Rattle.target_engine.specs.Shelves.{places_after};
 ghost use Rattle.target_engine.specs.Sides.{side};
 
 use crate::answers::refused;
-use event_delivery::{count, successes, where_set};
 use crate::events::raise_events;
 use crate::exchange::exchange;
 use crate::index::{Index, chosen_in, queue_at, settle_at};
 use crate::measures::{delivered, is_over, place};
 use counters::Counter;
+use event_delivery::{count, successes, where_set};
 use event_queues::Queue;
 use handle_store::Store;
 use memory_desc::Region;
