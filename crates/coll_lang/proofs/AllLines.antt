@@ -13,18 +13,19 @@ use Rattle.coll_lang.specs.Outline.{Program, length_of}
 use Rattle.coll_lang.specs.Forms.{Form, complete, input, barrier, step, print, last, form_of}
 use Rattle.coll_lang.specs.Language.{Past, ranks_in, may_stand, form_line, later_line, line_at, judge, is_allowed, is_finished, numbered, read_from, nothing, most_elements, described, program_in, read_by, read_up_to}
 use Rattle.coll_lang.specs.Spelling.{text, head_text, remote_text, inputs_text, steps_text, prints_text}
-use Rattle.coll_lang.specs.Accepted.{OneSpelling}
-use Rattle.coll_lang.specs.WellFormed.{IsInput, StepFits, IsWellFormed, IsWellGiven, Filled}
+use Rattle.coll_lang.specs.Readable.{IsReadable}
+use Rattle.coll_lang.specs.WellFormed.{IsInput, StepFits, Filled}
 use Rattle.coll_lang.specs.declared.types.Buffer.{Buffer}
 use Rattle.coll_lang.specs.declared.stage.Stage.{Stage}
 use Rattle.coll_lang.specs.declared.stage.Stage.TheVariants.{Version, Ranks, Options, Inputs, Data, Steps, Prints, Finished}
 use Rattle.coll_lang.specs.declared.fault.Refusal.{Refusal}
 use Rattle.coll_lang.specs.declared.fault.Refusal.TheVariants.{BadByte, BadHeader, BadRanks, BadLine, Unended, AfterEnd, TooLong}
 use Rattle.coll_lang.proofs.FormSaid.{Fits, form_words, form_said}
-use Rattle.coll_lang.proofs.Sound.{body, Formed, AtInputs, AtSteps, AtPrints, Sound, written, Goes, some_of, passed, ok_is, all_taken, complete_goes, input_goes}
+use Rattle.coll_lang.proofs.Sound.{body, Formed, AtInputs, AtSteps, AtPrints, Sound, written, Goes, some_of, passed, ok_is, not_above, all_taken, complete_goes, input_goes}
 use Rattle.coll_lang.proofs.SoundData.{data_goes, barrier_goes, print_goes, last_goes}
 use Rattle.coll_lang.proofs.SoundSteps.{step_goes}
 use Rattle.coll_lang.proofs.Reading.{not_empty}
+use Rattle.coll_lang.proofs.Counting.{Held, held_first, held_all}
 
 never : {A : Type 0} → false ≡ true → A
 never e = absurd (clash e)
@@ -129,6 +130,7 @@ begins past n eb ei eg es ep er some few = rw (eb, ei, eg, es, ep, er) (empty n 
           inputs_first = omega arith;
           inputs_fit = All-nil IsInput;
           names = All-nil (λ b. is_name b.name ≡ true);
+          distinct = λ i j li lj e. absurd (no_number i li);
           small = All-nil (λ b. length_of b.spread ≤ most_elements);
           steps_fit = All-nil (StepFits n []);
           in_order = refl;
@@ -140,6 +142,9 @@ begins past n eb ei eg es ep er some few = rw (eb, ei, eg, es, ep, er) (empty n 
       ),
       append-nil (head_text n),
     )
+      where
+        no_number : (i : ℕ) → i < 0 → ⊥
+        no_number i lt = omega arith
 
 chosen_ok : (b : Bool) (x : Past) (name : Refusal) (y : Past) → (let r : Result Past Refusal = cond b (Ok x) (Err name) in r ≡ Ok y) → (b ≡ true) × (x ≡ y)
 chosen_ok true x name y h = (refl, ok_is x y h)
@@ -250,9 +255,9 @@ described_by (Ok final) d h = (final, refl, same_d (described final) d h)
     same_d x y h = cc
 described_by (Err e) d h = cc
 
-pub unlimited : (b : Bool) (e : ℕ × Refusal) (r : Result Program (ℕ × Refusal)) (d : Program) → cond b (Err e) r ≡ Ok d → r ≡ Ok d
+unlimited : (b : Bool) (e : ℕ × Refusal) (r : Result Program (ℕ × Refusal)) (d : Program) → cond b (Err e) r ≡ Ok d → (b ≡ false) × (r ≡ Ok d)
 unlimited true e r d h = cc
-unlimited false e r d h = h
+unlimited false e r d h = (refl, h)
 
 text_end : (h m i s p e : List ℕ) → (h ++ (m ++ (i ++ (s ++ p)))) ++ e ≡ h ++ (m ++ (i ++ (s ++ (p ++ e))))
 text_end h m i s p e = simp append_assoc
@@ -262,17 +267,20 @@ unfolding text
 text_is past = text_end (head_text past.ranks) (remote_text past.remote) (inputs_text past.ranks (take past.inputs past.buffers) past.given) (steps_text past.buffers past.steps) (prints_text past.buffers past.prints) (line (codes "end" ∷ []))
 
 -- what a text that is read comes to
-pub record Whole (bytes : List ℕ) (d : Program) : Type 0 where
+pub record Whole (most : ℕ) (bytes : List ℕ) (d : Program) : Type 0 where
   pub final : Past
   pub is : described final ≡ d
   pub formed : Formed final
   pub filled : AtPrints final
+  pub held : Held most final
+  pub short : length bytes ≤ 1048576
   pub written_is : bytes ≡ text (described final)
 
-pub whole : (most : ℕ) (bytes : List ℕ) (d : Program) → read_up_to most bytes ≡ Ok d → Whole bytes d
+pub whole : (most : ℕ) (bytes : List ℕ) (d : Program) → read_up_to most bytes ≡ Ok d → Whole most bytes d
 unfolding read_by
 whole most bytes d h =
-    let f = described_by (read_from judge AfterEnd (nothing most) 1 (lines bytes)) d (unlimited (nat_lt 1048576 (length bytes)) (0, TooLong) (program_in (read_from judge AfterEnd (nothing most) 1 (lines bytes))) d h) in
+    let limit = unlimited (nat_lt 1048576 (length bytes)) (0, TooLong) (program_in (read_from judge AfterEnd (nothing most) 1 (lines bytes))) d h in
+    let f = described_by (read_from judge AfterEnd (nothing most) 1 (lines bytes)) d limit.1 in
     let e = all_go (nothing most) f.0 1 (lines bytes) (refl, refl, refl, refl, refl, refl) f.1 in
     let done : f.0.stage ≡ Finished = finished_is f.0.stage e.done in
     let sound : Sound Finished f.0 = subst (λ s. Sound s f.0) done e.sound in
@@ -281,14 +289,22 @@ whole most bytes d h =
       is = f.2;
       formed = sound.0;
       filled = sound.1;
+      held = held_all most (nothing most) f.0 1 (lines bytes) (held_first most) f.1;
+      short = not_above 1048576 (length bytes) limit.0;
       written_is = sym (join_with_byte-slice_split 10 bytes) ∙ sym e.written_is ∙ ap (λ (s : Stage). written s f.0) done ∙ text_is f.0;
     }
 
-pub one_spelling : OneSpelling
+pub one_spelling : (most : ℕ) (bytes : List ℕ) (d : Program) → read_up_to most bytes ≡ Ok d → bytes ≡ text d
 one_spelling most bytes d h = let w = whole most bytes d h in w.written_is ∙ ap text w.is
 
-pub well_formed : (most : ℕ) (bytes : List ℕ) (d : Program) → read_up_to most bytes ≡ Ok d → IsWellFormed d.shape
-well_formed most bytes d h = let w = whole most bytes d h in subst (λ (d : Program). IsWellFormed d.shape) w.is w.formed
-
-pub well_given : (most : ℕ) (bytes : List ℕ) (d : Program) → read_up_to most bytes ≡ Ok d → IsWellGiven d
-well_given most bytes d h = let w = whole most bytes d h in subst IsWellGiven w.is (record { given_ranks = refl; given_inputs = refl; filled = w.filled })
+-- what is read is readable
+pub readable : (most : ℕ) (bytes : List ℕ) (d : Program) → read_up_to most bytes ≡ Ok d → IsReadable most d
+readable most bytes d h =
+    let w = whole most bytes d h in
+    let counts = w.held.counts in
+    subst (IsReadable most) w.is (record {
+      formed = w.formed;
+      given = record { given_ranks = refl; given_inputs = refl; filled = w.filled };
+      few_printed = subst (λ n. n ≤ most) counts.counted counts.within;
+      short = subst (λ (x : List ℕ). length x ≤ 1048576) w.written_is w.short;
+    })

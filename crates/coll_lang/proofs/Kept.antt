@@ -14,15 +14,16 @@ use Rattle.coll_lang.specs.Extents.{judged, most_printed_of, after}
 use Rattle.coll_lang.specs.Spelling.{text}
 use Rattle.coll_lang.specs.Accepted.{IsAccepted, IsAcceptedShape}
 use Rattle.coll_lang.specs.WellFormed.{IsWellFormed, IsWellGiven}
+use Rattle.coll_lang.specs.Readable.{IsReadable}
 use Rattle.coll_lang.specs.OneBroadcast.{IsOneBroadcast}
 use Rattle.coll_lang.specs.Verdicts.{Reads}
 use Rattle.coll_lang.specs.declared.fault.ParseFault.{ParseFault}
 use Rattle.coll_lang.specs.declared.whole.Extent.{Extent}
 use Rattle.coll_lang.specs.declared.whole.Extent.TheVariants as extents
-use Rattle.coll_lang.proofs.AllLines.{one_spelling, well_formed, well_given}
+use Rattle.coll_lang.proofs.AllLines.{one_spelling, readable}
 use Rattle.coll_lang.proofs.Built.{built_is_read, built_form}
 use Rattle.coll_lang.proofs.InputLists.{lists_of_all}
-use Rattle.coll_lang.proofs.Props.{well_formed_prop, well_given_prop}
+use Rattle.coll_lang.proofs.Props.{well_formed_prop, readable_prop}
 
 within : (n : ℕ) → n ≤ 1048576 → nat_lt 1048576 n ≡ false
 within n le = grind (arith, nat_tests)
@@ -56,20 +57,22 @@ accepted_by : (e : Extent) (bytes : List ℕ) (d : Program) → read_by (most_pr
 accepted_by extents.All bytes d h = accepted bytes d h
 accepted_by extents.Built bytes d h = record { reads = ∣ inr (ap first.read (sym (built_spelled bytes d h)) ∙ h) ∣₁ }
 
--- what is accepted is well formed
-pub well_formed_of : (d : Program) → IsAccepted d → IsWellFormed d.shape
-well_formed_of d h = ∥∥₁_elim h.reads (well_formed_prop d.shape) either
+-- what is accepted is readable
+raised : (d : Program) → IsReadable most_elements d → IsReadable all_prints d
+raised d r = let few = r.few_printed in record { formed = r.formed; given = r.given; few_printed = omega (arith, few); short = r.short }
+
+pub readable_of : (d : Program) → IsAccepted d → IsReadable all_prints d
+readable_of d h = ∥∥₁_elim h.reads (readable_prop all_prints d) either
   where
-    either : (read (text d) ≡ Ok d) ⊎ (first.read (text d) ≡ Ok d) → IsWellFormed d.shape
-    either (inl r) = well_formed most_elements (text d) d r
-    either (inr r) = well_formed all_prints (text d) d (built_is_read (text d) d r)
+    either : (read (text d) ≡ Ok d) ⊎ (first.read (text d) ≡ Ok d) → IsReadable all_prints d
+    either (inl r) = raised d (readable most_elements (text d) d r)
+    either (inr r) = readable all_prints (text d) d (built_is_read (text d) d r)
+
+pub well_formed_of : (d : Program) → IsAccepted d → IsWellFormed d.shape
+well_formed_of d h = (readable_of d h).formed
 
 pub well_given_of : (d : Program) → IsAccepted d → IsWellGiven d
-well_given_of d h = ∥∥₁_elim h.reads (well_given_prop d) either
-  where
-    either : (read (text d) ≡ Ok d) ⊎ (first.read (text d) ≡ Ok d) → IsWellGiven d
-    either (inl r) = well_given most_elements (text d) d r
-    either (inr r) = well_given all_prints (text d) d (built_is_read (text d) d r)
+well_given_of d h = (readable_of d h).given
 
 -- a shape is well formed, since it is that of some description whose text is accepted
 pub shape_law : (s : Outline) → IsAcceptedShape s → IsWellFormed s
@@ -84,11 +87,10 @@ pub kept : (e : Extent) (bytes : List ℕ) (final : Past) → length bytes ≤ 1
 kept e bytes final le h =
     let read_so = read_is e bytes final le h in
     let reads = read_alike e bytes (described final) read_so in
-    let formed = well_formed (most_printed_of e) bytes (described final) reads in
-    let given = well_given (most_printed_of e) bytes (described final) reads in
+    let is = readable (most_printed_of e) bytes (described final) reads in
     record {
       accepted = accepted_by e bytes (described final) read_so;
-      lists = lists_of_all final.ranks (take final.inputs final.buffers) final.given given.filled ∙ ap (λ n. n * final.ranks) (length-take-le final.inputs final.buffers formed.inputs_first);
+      lists = lists_of_all final.ranks (take final.inputs final.buffers) final.given is.given.filled ∙ ap (λ n. n * final.ranks) (length-take-le final.inputs final.buffers is.formed.inputs_first);
     }
 
 pub form_in : (bytes : List ℕ) (r : Result Program ParseFault) → Reads (λ d. d) r (first.read bytes) → IfOk r (λ d. IsOneBroadcast d)
@@ -102,3 +104,11 @@ spelled_in bytes (Err e) h = tt
 pub built_spelled_in : (bytes : List ℕ) (r : Result Program ParseFault) → Reads (λ d. d) r (first.read bytes) → IfOk r (λ d. bytes ≡ text d)
 built_spelled_in bytes (Ok d) h = built_spelled bytes d h
 built_spelled_in bytes (Err e) h = tt
+
+pub readable_in : (bytes : List ℕ) (r : Result Program ParseFault) → Reads (λ d. d) r (read bytes) → IfOk r (λ d. IsReadable most_elements d)
+readable_in bytes (Ok d) h = readable most_elements bytes d h
+readable_in bytes (Err e) h = tt
+
+pub built_readable_in : (bytes : List ℕ) (r : Result Program ParseFault) → Reads (λ d. d) r (first.read bytes) → IfOk r (λ d. IsReadable all_prints d)
+built_readable_in bytes (Ok d) h = readable all_prints bytes d (built_is_read bytes d h)
+built_readable_in bytes (Err e) h = tt

@@ -6,6 +6,7 @@ pub mod InputLists
 pub mod Sound
 pub mod SoundData
 pub mod SoundSteps
+pub mod Counting
 pub mod AllLines
 pub mod Built
 pub mod HigherLimit

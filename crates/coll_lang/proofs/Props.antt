@@ -1,4 +1,4 @@
--- Well formed and well given are facts that hold in one way.
+-- Well formed, well given and readable are facts that hold in one way.
 use Rattle.std.proofs.Common.{◌≡◌, ℕ, ◌<◌, List, [], ◌∷◌, Option, cond, refl, drop}
 use Rattle.std.proofs.Math.Bridge.{le_prop}
 use Rattle.std.proofs.Math.Bool.{Bool-set}
@@ -8,7 +8,8 @@ use base.Stored.{Coded-set}
 use Rattle.ptl_types.specs.declared.elements.ElemType.{ElemType}
 use Rattle.ptl_types.specs.declared.elements.ElemType.TheVariants.{U8, I8, U16, I16, U32, I32, U64, I64}
 use Rattle.coll_lang.specs.Outline.{Outline, Program}
-use Rattle.coll_lang.specs.WellFormed.{IsInput, StepFits, IsWellFormed, IsListOf, Filled, IsWellGiven}
+use Rattle.coll_lang.specs.WellFormed.{Distinct, IsInput, StepFits, IsWellFormed, IsListOf, Filled, IsWellGiven}
+use Rattle.coll_lang.specs.Readable.{IsReadable}
 use Rattle.coll_lang.specs.declared.types.Buffer.{Buffer}
 use Rattle.coll_lang.specs.declared.types.Spread.{Spread}
 use Rattle.coll_lang.specs.declared.types.Spread.TheVariants.{Even, Only}
@@ -74,14 +75,17 @@ is_input_prop b = hlevel (le_prop, spread_set)
 step_fits_prop : (ranks : ℕ) (bs : List Buffer) (s : CollStep) → IsProp (StepFits ranks bs s)
 step_fits_prop ranks bs s = hlevel (le_prop, lt_prop, spreads_set, types_set)
 
+number_set : IsSet ℕ
+number_set = Coded-set coded_ℕ
+
+distinct_prop : (bs : List Buffer) → IsProp (Distinct bs)
+distinct_prop bs = hlevel number_set
+
 pub well_formed_prop : (s : Outline) → IsProp (IsWellFormed s)
-well_formed_prop s = hlevel (le_prop, lt_prop, Bool-set, numbers_set, is_input_prop, step_fits_prop)
+well_formed_prop s = hlevel (le_prop, lt_prop, Bool-set, numbers_set, distinct_prop, is_input_prop, step_fits_prop)
 
 lists_set : IsSet (List (List ℕ))
 lists_set = Coded-set (coded_list (coded_list coded_ℕ))
-
-number_set : IsSet ℕ
-number_set = Coded-set coded_ℕ
 
 is_list_prop : (b : Buffer) (l : List ℕ) → IsProp (IsListOf b l)
 is_list_prop b l = hlevel (le_prop, lt_prop, number_set)
@@ -92,3 +96,6 @@ filled_prop ranks (b ∷ bs) lists = hlevel (le_prop, is_list_prop, filled_prop 
 
 pub well_given_prop : (d : Program) → IsProp (IsWellGiven d)
 well_given_prop d = hlevel (number_set, filled_prop)
+
+pub readable_prop : (most : ℕ) (d : Program) → IsProp (IsReadable most d)
+readable_prop most d = hlevel (le_prop, well_formed_prop, well_given_prop)

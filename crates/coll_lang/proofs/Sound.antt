@@ -21,7 +21,7 @@ use Rattle.coll_lang.specs.declared.stage.Stage.TheVariants.{Version, Ranks, Opt
 use Rattle.coll_lang.specs.declared.fault.Refusal.{Refusal}
 use Rattle.coll_lang.specs.declared.fault.Refusal.TheVariants.{BadNumber, NameTaken, TooMany}
 use Rattle.coll_lang.proofs.FormSaid.{form_words}
-use Rattle.coll_lang.proofs.Stays.{All-push}
+use Rattle.coll_lang.proofs.Stays.{All-push, distinct_more}
 use Rattle.coll_lang.proofs.InputLists.{Filling, one_input, starts_filling}
 
 -- what is written of the lines so far, behind the first two
@@ -164,6 +164,7 @@ complete_goes past f a empty plain = record {
       inputs_first = f.inputs_first;
       inputs_fit = f.inputs_fit;
       names = f.names;
+      distinct = f.distinct;
       small = f.small;
       steps_fit = f.steps_fit;
       in_order = f.in_order;
@@ -184,9 +185,9 @@ pub due_written : (left : ℕ) (ty : ElemType) (count : ℕ) (past : Past) → w
 due_written zero ty count past = refl
 due_written (suc left) ty count past = refl
 
-input_formed : (past : Past) (stage : Stage) (c : Buffer) → Formed past → AtInputs past → length past.buffers < 128 → is_name c.name ≡ true → IsInput c
+input_formed : (past : Past) (stage : Stage) (c : Buffer) → Formed past → AtInputs past → length past.buffers < 128 → is_name c.name ≡ true → is_taken past.buffers c.name ≡ false → IsInput c
     → Formed (record past { stage = stage; buffers = past.buffers ++ c ∷ []; inputs = past.inputs + 1 })
-input_formed past stage c f a free named is =
+input_formed past stage c f a free named fresh is =
     let counted = a.counted in
     let l = one_longer past.buffers c in
     let small = is.small in
@@ -200,6 +201,7 @@ input_formed past stage c f a free named is =
       inputs_fit = subst (λ (bs : List Buffer). All IsInput bs) (sym (all_taken (past.buffers ++ c ∷ []) (past.inputs + 1) (omega (arith, counted, l))))
           (All-push IsInput past.buffers c (subst (λ (bs : List Buffer). All IsInput bs) (all_taken past.buffers past.inputs counted) f.inputs_fit) is);
       names = All-push (λ b. is_name b.name ≡ true) past.buffers c f.names named;
+      distinct = distinct_more past.buffers c f.distinct fresh;
       small = All-push (λ b. length_of b.spread ≤ most_elements) past.buffers c f.small (omega (arith, small));
       steps_fit = none (StepFits past.ranks (past.buffers ++ c ∷ [])) past.steps a.no_steps;
       in_order = no_results past.steps (past.inputs + 1) (length (past.buffers ++ c ∷ []) - (past.inputs + 1)) a.no_steps (omega (arith, counted, l));
@@ -216,7 +218,7 @@ input_goes past next name ty count f a named h =
     let range = in_range 1 4096 n.0 count n.1 in
     let c : Buffer = record { name = name; ty = ty; spread = Even n.0 } in
     let after : Past = record past { stage = data_due past.ranks ty n.0; buffers = past.buffers ++ c ∷ []; inputs = past.inputs + 1 } in
-    let formed = input_formed past (data_due past.ranks ty n.0) c f a (room 128 (length past.buffers) full.0) named (record { even = refl; some = range.least; small = range.most }) in
+    let formed = input_formed past (data_due past.ranks ty n.0) c f a (room 128 (length past.buffers) full.0) named t.0 (record { even = refl; some = range.least; small = range.most }) in
     let counted = a.counted in
     let l = one_longer past.buffers c in
     subst (λ p. Goes (body past) p (line (form_words (input name ty count)))) (ok_is after next full.1) (record {

@@ -21,7 +21,7 @@ use Rattle.coll_lang.specs.declared.stage.Stage.TheVariants.{Steps}
 use Rattle.coll_lang.specs.declared.fault.Refusal.{Refusal}
 use Rattle.coll_lang.specs.declared.fault.Refusal.TheVariants.{BadNumber, NameTaken, UnknownBuffer, BadRoot, WrongShape, TooMany, TooLarge}
 use Rattle.coll_lang.proofs.FormSaid.{root_words, key_of, form_words}
-use Rattle.coll_lang.proofs.Stays.{All-push, All-then, buffer_stays, buffer_new, steps_stay, fit_stays, in_order_more, found}
+use Rattle.coll_lang.proofs.Stays.{All-push, All-then, distinct_more, buffer_stays, buffer_new, steps_stay, fit_stays, in_order_more, found}
 use Rattle.coll_lang.proofs.Sound.{body, Formed, AtSteps, Goes, ok_of, some_of, passed, ok_is, room, not_above, one_longer, none, no_prints_text, behind_steps}
 
 -- the word of the root, where the kind has one
@@ -94,10 +94,10 @@ new_fits ranks bs c s from root src res there ty spread = record {
       ∙ ap (λ (b : Buffer). Some b.spread) (sym (buffer_new bs c)) ∙ ap (λ i. Some (spread_at (bs ++ c ∷ []) i)) (sym res);
 }
 
-step_formed : (past : Past) (c : Buffer) (s : CollStep) → Formed past → AtSteps past → length past.buffers < 128 → length past.steps < 64 → is_name c.name ≡ true → length_of c.spread ≤ most_elements
+step_formed : (past : Past) (c : Buffer) (s : CollStep) → Formed past → AtSteps past → length past.buffers < 128 → length past.steps < 64 → is_name c.name ≡ true → is_taken past.buffers c.name ≡ false → length_of c.spread ≤ most_elements
     → makes s ≡ true → result_of s ≡ length past.buffers → StepFits past.ranks (past.buffers ++ c ∷ []) s
     → Formed (record past { stage = Steps; buffers = past.buffers ++ c ∷ []; steps = past.steps ++ s ∷ [] })
-step_formed past c s f a free few named small makes_one res fits =
+step_formed past c s f a free few named fresh small makes_one res fits =
     let l = one_longer past.buffers c in
     let m = one_longer past.steps s in
     let first = f.inputs_first in
@@ -110,6 +110,7 @@ step_formed past c s f a free few named small makes_one res fits =
       inputs_first = omega (arith, first, l);
       inputs_fit = subst (λ (bs : List Buffer). All IsInput bs) (sym (take-append-le past.inputs past.buffers (c ∷ []) first)) f.inputs_fit;
       names = All-push (λ b. is_name b.name ≡ true) past.buffers c f.names named;
+      distinct = distinct_more past.buffers c f.distinct fresh;
       small = All-push (λ b. length_of b.spread ≤ most_elements) past.buffers c f.small small;
       steps_fit = All-push (StepFits past.ranks (past.buffers ++ c ∷ [])) past.steps s
           (All-then (StepFits past.ranks past.buffers) (StepFits past.ranks (past.buffers ++ c ∷ [])) past.steps (fit_stays past.ranks past.buffers c) f.steps_fit) fits;
@@ -151,7 +152,7 @@ step_goes past next root kind a b f at fits h =
     let new = new_fits past.ranks past.buffers c s from.0.0 about.root about.source about.result is.there (sym is.type_is) (ap (spread_after past.ranks s) is.spread_is ∙ spread.1) in
     subst (λ p. Goes (body past) p (line (form_words (step root kind a b)))) (ok_is after next large.1) (record {
       sound = (
-        step_formed past c s f at (room 128 (length past.buffers) full.0) (room 64 (length past.steps) few.0) fits.1 (not_above most_elements (length_of spread.0) large.0) about.makes_one about.result new,
+        step_formed past c s f at (room 128 (length past.buffers) full.0) (room 64 (length past.steps) few.0) fits.1 t.0 (not_above most_elements (length_of spread.0) large.0) about.makes_one about.result new,
         record {
           filled = subst (λ (bs : List Buffer). Filled past.ranks bs past.given) (sym (take-append-le past.inputs past.buffers (c ∷ []) f.inputs_first)) at.filled;
           no_prints = at.no_prints;

@@ -1,13 +1,16 @@
 -- What stays when a buffer is added behind the others.
-use Rattle.std.proofs.Common.{◌≡◌, ℕ, zero, suc, ◌+◌, ◌-◌, ◌<◌, ◌≤◌, List, [], ◌∷◌, ◌++◌, length, Some, true, false, cond, refl, sym, ap, ◌∙◌, arith, codes, subst, length-append}
-use Rattle.std.specs.Prelude.{option_map, All}
-use Rattle.std.specs.List.{slice_get, AllByRecursion}
+use Rattle.std.proofs.Common.{◌≡◌, ℕ, zero, suc, ◌+◌, ◌-◌, ◌<◌, ◌≤◌, List, [], ◌∷◌, ◌++◌, length, Option, Some, None, Bool, true, false, cond, refl, sym, ap, ◌∙◌, arith, codes, subst, inl, inr, ◌⊎◌, length-append}
+use Rattle.std.specs.Prelude.{option_map, is_some, nat_lt, All}
+use Rattle.std.specs.List.{slice_get, position_or_len, AllByRecursion}
 use Rattle.std.specs.Str.{bytes_eq}
 use Rattle.std.specs.Fmt.{decimal}
 use Rattle.std.proofs.lemmas.List.{get_or_append_left}
 use Rattle.std.proofs.Math.Seq.{get_or-append_seam}
 use Rattle.std.proofs.lemmas.List.Elements.{All-nil, All-cons, All-append, recursion_from_All}
+use Rattle.std.proofs.lemmas.Bool.Decides.{nat_tests}
 use Rattle.std.proofs.lemmas.List.Quantifiers.{position-Some}
+use Rattle.std.proofs.lemmas.List.Sums.{fails_before_first}
+use Rattle.std.proofs.lemmas.Slice.Eq.{bytes_eq-Decides}
 use Rattle.std.proofs.lemmas.Option.{get_or_from_slice_get}
 use Rattle.ptl_types.specs.declared.elements.ElemType.{ElemType}
 use Rattle.coll_text.specs.Text.{line}
@@ -15,9 +18,9 @@ use Rattle.coll_text.proofs.Spelled.{mapped, then, same}
 use Rattle.coll_lang.specs.Words.{op_word}
 use Rattle.coll_lang.specs.Outline.{no_buffer, buffer_at, name_at, type_at, spread_at}
 use Rattle.coll_lang.specs.Steps.{spread_after, source_of, result_of, makes}
-use Rattle.coll_lang.specs.Language.{buffer_number, buffer_named}
+use Rattle.coll_lang.specs.Language.{buffer_number, buffer_named, is_taken}
 use Rattle.coll_lang.specs.Spelling.{step_words, steps_text}
-use Rattle.coll_lang.specs.WellFormed.{StepFits, results, numbers_from}
+use Rattle.coll_lang.specs.WellFormed.{Distinct, StepFits, results, numbers_from}
 use Rattle.coll_lang.specs.declared.types.Buffer.{Buffer}
 use Rattle.coll_lang.specs.declared.types.Spread.{Spread}
 use Rattle.coll_lang.specs.declared.types.CollStep.{CollStep}
@@ -67,6 +70,49 @@ steps_stay_each ranks bs c (s ∷ ss) h =
 -- the lines of earlier steps stay
 pub steps_stay : (ranks : ℕ) (bs : List Buffer) (c : Buffer) (ss : List CollStep) → All (StepFits ranks bs) ss → steps_text (bs ++ c ∷ []) ss ≡ steps_text bs ss
 steps_stay ranks bs c ss h = steps_stay_each ranks bs c ss (recursion_from_All (StepFits ranks bs) ss h)
+
+-- a name that isn't taken is that of no buffer
+not_named : (bs : List Buffer) (name : List ℕ) → is_taken bs name ≡ false → (i : ℕ) → i < length bs → name_at bs i ≡ name → ⊥
+not_named bs name fresh i lt e =
+    let p : Buffer → Bool = λ b. bytes_eq b.name name in
+    let first = position_or_len p bs in
+    let past : length bs ≤ first = none_first first (length bs) (passes_none (nat_lt first (length bs)) first fresh) in
+    clash (bytes_eq (name_at bs i) name) ((bytes_eq-Decides (name_at bs i) name).1 e) (fails_before_first p bs i no_buffer (omega (arith, past, lt)))
+  where
+    passes_none : (b : Bool) (n : ℕ) → is_some (let o : Option ℕ = cond b (Some n) None in o) ≡ false → b ≡ false
+    passes_none true n h = cc
+    passes_none false n h = refl
+
+    none_first : (n m : ℕ) → nat_lt n m ≡ false → m ≤ n
+    none_first n m h = grind (arith, nat_tests)
+
+    clash : (b : Bool) → b ≡ true → b ≡ false → ⊥
+    clash b t f = cc
+
+-- one more buffer with a name that isn't taken
+pub distinct_more : (bs : List Buffer) (c : Buffer) → Distinct bs → is_taken bs c.name ≡ false → Distinct (bs ++ c ∷ [])
+distinct_more bs c d fresh i j li lj e = elim (place i li) [
+  | inl in_bs ↦ elim (place j lj) [
+    | inl jn_bs ↦ d i j in_bs jn_bs (sym (old i in_bs) ∙ e ∙ old j jn_bs)
+    | inr last ↦ absurd (not_named bs c.name fresh i in_bs (sym (old i in_bs) ∙ e ∙ new j last))
+  ]
+  | inr first ↦ elim (place j lj) [
+    | inl jn_bs ↦ absurd (not_named bs c.name fresh j jn_bs (sym (old j jn_bs) ∙ sym e ∙ new i first))
+    | inr last ↦ first ∙ sym last
+  ]
+]
+  where
+    split : (i n m : ℕ) → m ≡ n + 1 → i < m → (i < n) ⊎ (i ≡ n)
+    split i n m l lt = grind arith
+
+    place : (i : ℕ) → i < length (bs ++ c ∷ []) → (i < length bs) ⊎ (i ≡ length bs)
+    place i lt = split i (length bs) (length (bs ++ c ∷ [])) (longer bs c) lt
+
+    old : (i : ℕ) → i < length bs → name_at (bs ++ c ∷ []) i ≡ name_at bs i
+    old i lt = ap (λ (b : Buffer). b.name) (buffer_stays bs c i lt)
+
+    new : (i : ℕ) → i ≡ length bs → name_at (bs ++ c ∷ []) i ≡ c.name
+    new i e = ap (name_at (bs ++ c ∷ [])) e ∙ ap (λ (b : Buffer). b.name) (buffer_new bs c)
 
 -- earlier steps still fit
 pub fit_stays : (ranks : ℕ) (bs : List Buffer) (c : Buffer) (s : CollStep) → StepFits ranks bs s → StepFits ranks (bs ++ c ∷ []) s

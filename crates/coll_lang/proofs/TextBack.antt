@@ -7,7 +7,7 @@ use Rattle.std.specs.Fmt.{decimal}
 use Rattle.std.proofs.lemmas.Bool.Decides.{nat_tests}
 use Rattle.std.proofs.lemmas.List.{append-nil, get_or_append_left, length-take-le, take-append-drop}
 use Rattle.std.proofs.lemmas.List.Elements.{recursion_from_All}
-use Rattle.std.proofs.lemmas.List.Sums.{position_or_len_is}
+use Rattle.std.proofs.lemmas.List.Sums.{position_or_len_is, sum_by-cons}
 use Rattle.std.proofs.lemmas.Option.{slice_get-get_or}
 use Rattle.std.proofs.lemmas.Slice.Eq.{bytes_eq-Decides}
 use Rattle.std.proofs.Math.Seq.{get_or-append_seam}
@@ -20,11 +20,11 @@ use Rattle.coll_text.proofs.WordsBack.{is_solid, number_solid, data_read, elemen
 use Rattle.coll_lang.specs.Outline.{Program, length_of, no_buffer, buffer_at, name_at, type_at, spread_at}
 use Rattle.coll_lang.specs.Steps.{step_of, spread_after, elements_of, result_of, makes}
 use Rattle.coll_lang.specs.Forms.{complete, input, barrier, step, print, last, form_of}
-use Rattle.coll_lang.specs.Language.{Past, nothing, judge, line_at, form_line, input_line, barrier_line, step_line, print_line, values_line, buffer_number, buffer_named, is_taken, rank_of, ranks_in, read_from, read_by, is_allowed, data_due, most_elements, described}
+use Rattle.coll_lang.specs.Language.{Past, nothing, judge, line_at, form_line, input_line, barrier_line, step_line, print_line, values_line, buffer_number, buffer_named, is_taken, rank_of, ranks_in, read_from, read_by, read_up_to, is_allowed, data_due, most_elements, described}
 use Rattle.coll_lang.specs.Words.{type_word, op_word}
 use Rattle.coll_lang.specs.Spelling.{text, head_text, remote_text, input_text, data_text, inputs_text, step_words, steps_text, prints_text}
-use Rattle.coll_lang.specs.WellFormed.{IsInput, StepFits, IsListOf, Filled, results, numbers_from}
-use Rattle.coll_lang.specs.Readable.{Distinct, printed_in, IsReadable, ReadsBack}
+use Rattle.coll_lang.specs.WellFormed.{Distinct, IsInput, StepFits, IsListOf, Filled, results, numbers_from}
+use Rattle.coll_lang.specs.Readable.{printed_in, IsReadable}
 use Rattle.coll_lang.specs.declared.types.Buffer.{Buffer}
 use Rattle.coll_lang.specs.declared.types.Spread.{Spread}
 use Rattle.coll_lang.specs.declared.types.Spread.TheVariants.{Even}
@@ -443,22 +443,22 @@ prints_lead ranks remote all inputs given steps most sh distinct stage before []
     no_more n = omega arith
 prints_lead ranks remote all inputs given steps most sh distinct stage before (i ∷ prints) printed wider f few le =
     let own = elements_of ranks (spread_at all i) in
+    let others = printed_in ranks all prints in
+    let both : printed_in ranks all (i ∷ prints) ≡ own + others = sum_by-cons (λ i. elements_of ranks (spread_at all i)) i prints in
     let k = length-append before (i ∷ []) in
     let past = said stage ranks remote all inputs given steps before printed most in
     let mid = said Prints ranks remote all inputs given steps (before ++ i ∷ []) (printed + own) most in
     let name = name_is all i sh.names f.0 in
     let found = named all all [] (record { are = sym (append-nil all); distinct = distinct }) i f.0 in
     led_first past mid (line (codes "print" ∷ name_at all i ∷ [])) (prints_text all prints)
-    (λ s. said s ranks remote all inputs given steps ((before ++ i ∷ []) ++ prints) ((printed + own) + printed_in ranks all prints) most) (λ s. said s ranks remote all inputs given steps (before ++ i ∷ prints) (printed + (own + printed_in ranks all prints)) most) Prints
+    (λ s. said s ranks remote all inputs given steps ((before ++ i ∷ []) ++ prints) ((printed + own) + others) most) (λ s. said s ranks remote all inputs given steps (before ++ i ∷ prints) (printed + printed_in ranks all (i ∷ prints)) most) Prints
     (form_leads past mid (print (name_at all i)) (codes "print") (name_at all i ∷ []) (refl, (name_solid (name_at all i) name, tt)) (print_back (name_at all i) name) (wider (print (name_at all i)) refl)
-    (print_taken past (name_at all i) i (type_at all i) (spread_at all i) found (omega (arith, few)) (first_of printed own (printed_in ranks all prints) most le)))
-    (prints_lead ranks remote all inputs given steps most sh distinct Prints (before ++ i ∷ []) prints (printed + own) (wider_self Prints) f.1 (omega (arith, few, k)) (subst (λ n. n ≤ most) (sums printed own (printed_in ranks all prints)) le))
-    (λ s. ap (λ (ps : List ℕ). said s ranks remote all inputs given steps ps ((printed + own) + printed_in ranks all prints) most) (append_assoc before (i ∷ []) prints) ∙ ap (λ n. said s ranks remote all inputs given steps (before ++ i ∷ prints) n most) (sym (sums printed own (printed_in ranks all prints))))
+    (print_taken past (name_at all i) i (type_at all i) (spread_at all i) found (omega (arith, few)) (omega (arith, le, both))))
+    (prints_lead ranks remote all inputs given steps most sh distinct Prints (before ++ i ∷ []) prints (printed + own) (wider_self Prints) f.1 (omega (arith, few, k)) (omega (arith, le, both)))
+    (λ s. ap (λ (ps : List ℕ). said s ranks remote all inputs given steps ps ((printed + own) + others) most) (append_assoc before (i ∷ []) prints)
+    ∙ ap (λ n. said s ranks remote all inputs given steps (before ++ i ∷ prints) n most) (sums printed own others ∙ ap (λ n. printed + n) (sym both)))
   where
-    first_of : (a b c most : ℕ) → a + (b + c) ≤ most → a + b ≤ most
-    first_of a b c most le = omega arith
-
-    sums : (a b c : ℕ) → a + (b + c) ≡ (a + b) + c
+    sums : (a b c : ℕ) → (a + b) + c ≡ a + (b + c)
     sums a b c = omega arith
 
 -- data lines
@@ -613,8 +613,8 @@ behind_head most d r =
     let lists = d.inputs.lists in
     let sh : Shaped ranks all = record { few_ranks = f.few_ranks; few = f.few_buffers; names = f.names; small = f.small } in
     let whole : all ≡ own ++ others = sym (take-append-drop d.shape.inputs all) in
-    let p0 : Parts all [] (own ++ others) = record { are = whole; distinct = r.distinct } in
-    let p : Parts all own others = record { are = whole; distinct = r.distinct } in
+    let p0 : Parts all [] (own ++ others) = record { are = whole; distinct = f.distinct } in
+    let p : Parts all own others = record { are = whole; distinct = f.distinct } in
     let count : length own ≡ d.shape.inputs = length-take-le d.shape.inputs all f.inputs_first in
     let order : results d.shape.steps ≡ numbers_from (length own) (length others) = f.in_order ∙ ap (λ n. numbers_from n (length all - n)) (sym count) ∙ ap (numbers_from (length own)) (left (length all) (length own) (length others) (longer all own others whole)) in
     let fit = recursion_from_All (StepFits ranks all) d.shape.steps f.steps_fit in
@@ -631,7 +631,7 @@ behind_head most d r =
     (λ s. said s ranks d.shape.remote all n lists d.shape.steps [] 0 most) (λ s. finished most d) Steps Finished (steps_lead ranks d.shape.remote n lists most all sh s own others [] d.shape.steps (λ form h. w form (inputs_wider form h)) p fit order (omega (arith, few_steps)))
     (λ s w. led_then (said s ranks d.shape.remote all n lists d.shape.steps [] 0 most) (prints_text all d.shape.prints) end_text
     (λ s. said s ranks d.shape.remote all n lists d.shape.steps d.shape.prints (0 + printed_in ranks all d.shape.prints) most) (λ s. finished most d) Prints Finished
-    (prints_lead ranks d.shape.remote all n lists d.shape.steps most sh r.distinct s [] d.shape.prints 0 (λ form h. w form (steps_wider form h)) (recursion_from_All (λ i. i < length all) d.shape.prints f.prints_fit) (omega (arith, few_prints)) (omega (arith, few_printed)))
+    (prints_lead ranks d.shape.remote all n lists d.shape.steps most sh f.distinct s [] d.shape.prints 0 (λ form h. w form (steps_wider form h)) (recursion_from_All (λ i. i < length all) d.shape.prints f.prints_fit) (omega (arith, few_prints)) (omega (arith, few_printed)))
     (λ s w. last_led s ranks d.shape.remote all n lists d.shape.steps d.shape.prints (0 + printed_in ranks all d.shape.prints) most w))))
   where
     left : (n i m : ℕ) → n ≡ i + m → n - i ≡ m
@@ -651,7 +651,7 @@ described_is most d r =
     none_more n = omega arith
 
 -- the text of what is readable is read as it
-pub reads_back : ReadsBack
+pub reads_back : (most : ℕ) (d : Program) → IsReadable most d → read_up_to most (text d) ≡ Ok d
 unfolding read_by text
 reads_back most d r =
     let f = r.formed in

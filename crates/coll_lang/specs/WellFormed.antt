@@ -2,7 +2,7 @@
 use Rattle.std.specs.Prelude.{◌≡◌, ℕ, zero, suc, ◌+◌, ◌-◌, ◌*◌, ◌<◌, ◌≤◌, List, [], ◌∷◌, length, take, drop, Some, true, All, if◌then◌else◌}
 use Rattle.ptl_types.specs.Operations.{bytes_of}
 use Rattle.coll_text.specs.Text.{is_name}
-use Rattle.coll_lang.specs.Outline.{Outline, Program, length_of, type_at, spread_at}
+use Rattle.coll_lang.specs.Outline.{Outline, Program, length_of, name_at, type_at, spread_at}
 use Rattle.coll_lang.specs.Steps.{spread_after, source_of, result_of, root_of, makes}
 use Rattle.coll_lang.specs.Language.{most_elements}
 use Rattle.coll_lang.specs.declared.types.Buffer.{Buffer}
@@ -23,6 +23,10 @@ pub record StepFits (ranks : ℕ) (buffers : List Buffer) (step : CollStep) : Ty
   pub same_type : makes step ≡ true → type_at buffers (result_of step) ≡ type_at buffers (source_of step)
   pub spread : makes step ≡ true → spread_after ranks step (spread_at buffers (source_of step)) ≡ Some (spread_at buffers (result_of step))
 
+-- no two buffers have one name
+abbrev pub Distinct : List Buffer → Type 0
+Distinct bs = (i j : ℕ) → i < length bs → j < length bs → name_at bs i ≡ name_at bs j → i ≡ j
+
 -- the numbers of the buffers that the steps make
 abbrev pub results : List CollStep → List ℕ
 results [] = []
@@ -42,6 +46,7 @@ pub record IsWellFormed (shape : Outline) : Type 0 where
   pub inputs_first : shape.inputs ≤ length shape.buffers
   pub inputs_fit : All IsInput (take shape.inputs shape.buffers)
   pub names : All (λ b. is_name b.name ≡ true) shape.buffers
+  pub distinct : Distinct shape.buffers
   pub small : All (λ b. length_of b.spread ≤ most_elements) shape.buffers
   pub steps_fit : All (StepFits shape.ranks shape.buffers) shape.steps
   -- the steps make the buffers behind the inputs, one after the other

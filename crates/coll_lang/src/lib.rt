@@ -27,8 +27,6 @@ pub use fault::{ParseFault, Refusal};
 pub use generating::generated;
 pub use lists::{Name, RankList, Text};
 pub use printing::print;
-pub use readable::reads_back;
+pub use readable::{accepted_is_readable, reads_exactly};
 pub use types::{Buffer, CollStep, Spread};
-pub use whole::{
-    no_print_is_too_large, one_spelling, parse, parse_all, refused_by_the_table, well_formed,
-};
+pub use whole::{no_print_is_too_large, parse, parse_all, refused_by_the_table};

@@ -2,14 +2,14 @@
 
 ghost use Rattle.std.specs.Prelude.{◌≡◌, ◌≤◌, length, IfOk};
 ghost use Rattle.coll_text.specs.Text.{lines};
-ghost use Rattle.coll_lang.specs.Language.{nothing, read, read_by, read_from, judge, is_finished};
+ghost use Rattle.coll_lang.specs.Language.{nothing, read, read_by, read_from, judge, is_finished, most_elements};
 ghost use Rattle.coll_lang.specs.Extents.{judged, most_printed_of, after};
 ghost use Rattle.coll_lang.specs.FirstForm as first;
 ghost use Rattle.coll_lang.specs.States.{past, Takes};
 ghost use Rattle.coll_lang.specs.Verdicts.{Reads, fault_at};
 ghost use Rattle.coll_lang.specs.OneBroadcast.{IsOneBroadcast};
 ghost use Rattle.coll_lang.specs.Spelling.{text};
-ghost use Rattle.coll_lang.specs.Accepted.{OneSpelling, AcceptedIsWellFormed};
+ghost use Rattle.coll_lang.specs.Readable.{IsReadable};
 ghost use Rattle.coll_lang.specs.Table.{ByTheTable};
 ghost use Rattle.coll_lang.specs.declared.whole.Extent.TheVariants.{All, Built};
 
@@ -156,6 +156,7 @@ pub fn parse_all(alloc: Global, bytes: &[u8]) -> Result<Description, ParseFault>
     ensures exact { Reads (λ d. d) result (read bytes.now) }
     // What is read has the text as its one spelling.
     ensures spelled { IfOk result (λ d. bytes.now ≡ text d) }
+    ensures readable { IfOk result (λ d. IsReadable most_elements d) }
 {
     parsed(alloc, Extent::All, bytes)
 }
@@ -172,21 +173,12 @@ pub fn parse(alloc: Global, bytes: &[u8]) -> Result<Description, ParseFault>
     ensures exact { Reads (λ d. d) result (first.read bytes.now) }
     // What is read has the text as its one spelling.
     ensures spelled { IfOk result (λ d. bytes.now ≡ text d) }
+    ensures readable { IfOk result (λ d. IsReadable first.all_prints d) }
     // What is read is one broadcast of bytes.
     ensures form { IfOk result (λ d. IsOneBroadcast d) }
 {
     parsed(alloc, Extent::Built, bytes)
 }
-
-/// A text that describes something has one spelling, with whatever limit on printed elements it is read.
-pub fn one_spelling()
-    ensures { OneSpelling }
-{}
-
-/// What a description says is well formed: this is what the crates above may rest on.
-pub fn well_formed()
-    ensures { AcceptedIsWellFormed }
-{}
 
 /// No print of what runs so far is refused for its elements: with a higher limit each text is read alike.
 pub fn no_print_is_too_large()

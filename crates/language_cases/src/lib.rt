@@ -12,6 +12,8 @@ mod refusals;
 mod texts;
 #[cfg(test)]
 mod values;
+#[cfg(test)]
+mod worked;
 
 /// Not a call: the cases stand in the tests, and a crate has a function.
 pub fn cases_stand() -> bool

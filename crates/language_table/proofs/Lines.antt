@@ -25,7 +25,8 @@ use Rattle.coll_lang.specs.declared.stage.Stage.TheVariants.{Version, Ranks, Opt
 use Rattle.coll_lang.specs.declared.fault.Refusal.{Refusal}
 use Rattle.coll_lang.specs.declared.fault.Refusal.TheVariants.{BadByte, BadHeader, BadRanks, BadLine, BadNumber, NameTaken, UnknownBuffer, BadRoot, WrongShape, TooMany, TooLarge}
 use Rattle.language_table.specs.Grammar.{may_be}
-use Rattle.language_table.specs.Rows.{Counts, printed_in, other, no_number, name_taken, unknown_buffer, bad_root, wrong_shape, too_many, too_large, kind_at, misshapen, length_made, rows_of, ByTheRows}
+use Rattle.coll_lang.specs.Readable.{printed_in}
+use Rattle.language_table.specs.Rows.{Counts, other, no_number, name_taken, unknown_buffer, bad_root, wrong_shape, too_many, too_large, kind_at, misshapen, length_made, rows_of, ByTheRows}
 use Rattle.language_table.proofs.Grammar.{words_by_the_table}
 
 -- the last rows of a step, by what it makes
@@ -82,8 +83,8 @@ steps ranks kind (Some r) false (Some f) false full l = shapes ranks kind r f.0 
 -- a print, with the elements so far and the most as they are said
 prints : (most : ℕ) (past : Past) (from : Option (ℕ × ElemType × Spread)) → Counts most past
     → first_row ((UnknownBuffer, is_none from) ∷ (TooMany, nat_le 128 (length past.prints)) ∷ (TooLarge, holds_of (λ f. nat_lt past.most_printed (past.printed + elements_of past.ranks f.2)) from) ∷ [])
-    ≡ first_row ((UnknownBuffer, is_none from) ∷ (TooMany, nat_le 128 (length past.prints)) ∷ (TooLarge, holds_of (λ f. nat_lt most (printed_in past + elements_of past.ranks f.2)) from) ∷ [])
-prints most past from counts = alike past.most_printed most past.printed (printed_in past) counts.limit counts.counted
+    ≡ first_row ((UnknownBuffer, is_none from) ∷ (TooMany, nat_le 128 (length past.prints)) ∷ (TooLarge, holds_of (λ f. nat_lt most (printed_in past.ranks past.buffers past.prints + elements_of past.ranks f.2)) from) ∷ [])
+prints most past from counts = alike past.most_printed most past.printed (printed_in past.ranks past.buffers past.prints) counts.limit counts.counted
   where
     alike : (l m p q : ℕ) → l ≡ m → p ≡ q
         → first_row ((UnknownBuffer, is_none from) ∷ (TooMany, nat_le 128 (length past.prints)) ∷ (TooLarge, holds_of (λ f. nat_lt l (p + elements_of past.ranks f.2)) from) ∷ [])

@@ -12,11 +12,12 @@ use Rattle.coll_lang.specs.declared.stage.Stage.TheVariants.{Version, Ranks, Opt
 use Rattle.coll_lang.specs.declared.fault.Refusal.{Refusal}
 use Rattle.coll_lang.specs.declared.fault.Refusal.TheVariants.{TooLong, BadByte, Unended, AfterEnd}
 use Rattle.coll_lang.proofs.Sound.{not_above}
+use Rattle.coll_lang.proofs.Counting.{Held, held_on, held_first}
 use Rattle.language_table.specs.Rows.{rows}
 use Rattle.language_table.specs.Texts.{said_by, rows_in, IsRefusedAt, IsFirstRefusal, TextsByTheRows}
 use Rattle.language_table.proofs.Grammar.{way}
 use Rattle.language_table.proofs.Lines.{by_the_rows}
-use Rattle.language_table.proofs.Counting.{Held, held_on, held_first}
+use Rattle.language_table.proofs.Counting.{counts_of}
 
 answered : (r : Result Past Refusal) → ((next : Past) × (r ≡ Ok next)) ⊎ ((name : Refusal) × (r ≡ Err name))
 answered (Ok next) = inl (next, refl)
@@ -103,7 +104,7 @@ finds most past piece (other ∷ pieces) k j name held h = elim (way (is_finishe
     | inr fault ↦
         let r : refused k fault.0 ≡ refused j name = sym (rw (going, fault.1) refl) ∙ h in
         here most past piece (other ∷ pieces) k j name (ap line_in r)
-        (rw going (sym (by_the_rows most past piece held.counts going) ∙ ap refusal_in fault.1 ∙ ap name_in r))
+        (rw going (sym (by_the_rows most past piece (counts_of most past held) going) ∙ ap refusal_in fault.1 ∙ ap name_in r))
   ]
 ]
   where
@@ -128,7 +129,7 @@ line_refused most past piece other pieces k j name held e h = elim (way (is_fini
   | inl done ↦ rw done (over (sym (rw done refl) ∙ h))
   | inr going ↦
       let r : first_row (rows most past piece) ≡ Some name = sym (rw going refl) ∙ h in
-      let named : judge past piece ≡ Err name = name_is (judge past piece) name (by_the_rows most past piece held.counts going ∙ r) in
+      let named : judge past piece ≡ Err name = name_is (judge past piece) name (by_the_rows most past piece (counts_of most past held) going ∙ r) in
       rw (going, named) (ap (λ k. refused k name) (sym e))
 ]
   where

@@ -1,14 +1,15 @@
 -- The table of refusals: for each row a test that is true exactly where the row holds of a line, given the lines before it.
 use Rattle.std.specs.Prelude.{◌≡◌, ℕ, ◌+◌, ◌*◌, ◌%◌, List, [], ◌∷◌, length, Option, None, Bool, true, false, ◌||◌, not, ◌==◌, nat_lt, nat_le, is_none, codes}
-use Rattle.std.specs.List.{list_all, list_any, sum_by}
+use Rattle.std.specs.List.{list_all, list_any}
 use Rattle.std.specs.Str.{bytes_eq}
 use Rattle.ptl_types.specs.declared.elements.ElemType.{ElemType}
 use Rattle.coll_text.specs.Text.{words, number_between, is_empty}
 use Rattle.coll_text.specs.Values.{value_of}
 use Rattle.coll_lang.specs.Forms.{Form, complete, input, barrier, step, print, last, form_of}
-use Rattle.coll_lang.specs.Outline.{length_of, spread_at}
+use Rattle.coll_lang.specs.Outline.{length_of}
 use Rattle.coll_lang.specs.Steps.{elements_of}
 use Rattle.coll_lang.specs.Language.{Past, is_allowed, ranks_in, is_taken, buffer_named, most_elements, is_finished, judge}
+use Rattle.coll_lang.specs.Readable.{printed_in}
 use Rattle.coll_lang.specs.Table.{holds_of, root_number, is_past_last, first_row, refusal_in}
 use Rattle.coll_lang.specs.declared.types.Spread.{Spread}
 use Rattle.coll_lang.specs.declared.types.Spread.TheVariants.{Even, Only}
@@ -153,17 +154,13 @@ length_made ranks Allgather len = len * ranks
 length_made ranks Alltoall len = len
 length_made ranks (Scan op) len = len
 
--- the elements of the prints so far, over all ranks
-abbrev pub printed_in : Past → ℕ
-printed_in past = sum_by (λ i. elements_of past.ranks (spread_at past.buffers i)) past.prints
-
 -- the new buffer has more than 16,777,216 elements at some rank, or the prints up to this one have more than `most`
 abbrev pub too_large : ℕ → Past → Form → Bool
 too_large most past complete = false
 too_large most past (input name ty count) = false
 too_large most past barrier = false
 too_large most past (step root kind a b) = holds_of (λ from. nat_lt most_elements (length_made past.ranks kind (length_of from.2))) (buffer_named past.buffers a)
-too_large most past (print name) = holds_of (λ from. nat_lt most (printed_in past + elements_of past.ranks from.2)) (buffer_named past.buffers name)
+too_large most past (print name) = holds_of (λ from. nat_lt most (printed_in past.ranks past.buffers past.prints + elements_of past.ranks from.2)) (buffer_named past.buffers name)
 too_large most past last = false
 
 -- the rows of a line of such a kind in the order of their numbers
@@ -187,7 +184,7 @@ rows most past line = (BadByte, not (list_all is_allowed line)) ∷ rows_of most
 -- what is said so far tells the elements of its prints and the most that they may be
 pub record Counts (most : ℕ) (past : Past) : Type 0 where
   pub limit : past.most_printed ≡ most
-  pub counted : past.printed ≡ printed_in past
+  pub counted : past.printed ≡ printed_in past.ranks past.buffers past.prints
 
 -- A line that is due is refused by the first row that holds of it, and taken where none does.
 abbrev pub ByTheRows : Type 0
