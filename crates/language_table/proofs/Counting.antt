@@ -1,5 +1,5 @@
 -- Lines keep the elements of the prints so far, and the most that they may be.
-use Rattle.std.proofs.Common.{◌≡◌, ℕ, List, [], ◌∷◌, Option, Some, Result, Ok, Err, refl, subst}
+use Rattle.std.proofs.Common.{◌≡◌, ℕ, List, [], ◌∷◌, Some, Result, Ok, Err, refl, subst}
 use Rattle.std.specs.Prelude.{option_and_then}
 use Rattle.coll_lang.specs.Language.{Past, nothing, judge}
 use Rattle.coll_lang.specs.declared.fault.Refusal.{Refusal}
