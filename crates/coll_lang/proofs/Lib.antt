@@ -1,5 +1,4 @@
 pub mod Reading
-pub mod Rows
 pub mod FormSaid
 pub mod Stays
 pub mod InputLists

@@ -1,12 +1,12 @@
 -- What can be run so far: one input of bytes, one broadcast of it, and prints. Every other line is refused as BadLine.
 use Rattle.std.specs.Prelude.{◌≡◌, ◌≤◌, ℕ, List, [], ◌∷◌, Result, Ok, Err, Bool, true, false, ◌&&◌, not, ◌==◌, if◌then◌else◌}
 use Rattle.ptl_types.specs.declared.elements.ElemType.{ElemType}
-use Rattle.ptl_types.specs.declared.elements.ElemType.TheVariants.{U8, I8, U16, I16, U32, I32, U64, I64}
+use Rattle.ptl_types.specs.declared.elements.ElemType.TheVariants.{U8}
 use Rattle.coll_lang.specs.Outline.{Program}
 use Rattle.coll_lang.specs.Language.{Past, judge, read_by}
 use Rattle.coll_lang.specs.declared.types.Buffer.{Buffer}
 use Rattle.coll_lang.specs.declared.types.CollStep.{CollStep}
-use Rattle.coll_lang.specs.declared.types.CollStep.TheVariants.{Barrier, Broadcast, Reduce, Allreduce, Gather, Allgather, Alltoall, Scan}
+use Rattle.coll_lang.specs.declared.types.CollStep.TheVariants.{Broadcast}
 use Rattle.coll_lang.specs.declared.stage.Stage.{Stage}
 use Rattle.coll_lang.specs.declared.stage.Stage.TheVariants.{Version, Ranks, Options, Inputs, Data, Steps, Prints, Finished}
 use Rattle.coll_lang.specs.declared.fault.Refusal.{Refusal}
@@ -14,13 +14,7 @@ use Rattle.coll_lang.specs.declared.fault.Refusal.TheVariants.{BadLine}
 
 abbrev pub is_byte : ElemType → Bool
 is_byte U8 = true
-is_byte I8 = false
-is_byte U16 = false
-is_byte I16 = false
-is_byte U32 = false
-is_byte I32 = false
-is_byte U64 = false
-is_byte I64 = false
+is_byte _ = false
 
 -- the first buffer is there, and its elements are bytes
 abbrev pub first_is_bytes : List Buffer → Bool
@@ -28,20 +22,13 @@ first_is_bytes [] = false
 first_is_bytes (b ∷ bs) = is_byte b.ty
 
 abbrev pub is_broadcast : CollStep → Bool
-is_broadcast Barrier = false
 is_broadcast (Broadcast root a b) = true
-is_broadcast (Reduce root op a b) = false
-is_broadcast (Allreduce op a b) = false
-is_broadcast (Gather root a b) = false
-is_broadcast (Allgather a b) = false
-is_broadcast (Alltoall a b) = false
-is_broadcast (Scan op a b) = false
+is_broadcast _ = false
 
 -- one broadcast, and no other step
 abbrev pub one_broadcast : List CollStep → Bool
-one_broadcast [] = false
 one_broadcast (step ∷ []) = is_broadcast step
-one_broadcast (step ∷ other ∷ steps) = false
+one_broadcast _ = false
 
 -- one input of bytes
 abbrev pub one_input : Past → Bool

@@ -70,29 +70,16 @@ ranks_in (key ∷ n ∷ w ∷ ws) = None
 
 -- whether such a line may stand at this stage
 abbrev pub may_stand : Stage → Form → Bool
-may_stand Options form = true
+may_stand Options _ = true
 may_stand Inputs complete = false
-may_stand Inputs (input name ty count) = true
-may_stand Inputs barrier = true
-may_stand Inputs (step root kind a b) = true
-may_stand Inputs (print name) = true
-may_stand Inputs last = true
+may_stand Inputs _ = true
 may_stand Steps complete = false
 may_stand Steps (input name ty count) = false
-may_stand Steps barrier = true
-may_stand Steps (step root kind a b) = true
-may_stand Steps (print name) = true
-may_stand Steps last = true
-may_stand Prints complete = false
-may_stand Prints (input name ty count) = false
-may_stand Prints barrier = false
-may_stand Prints (step root kind a b) = false
+may_stand Steps _ = true
 may_stand Prints (print name) = true
 may_stand Prints last = true
-may_stand Version form = false
-may_stand Ranks form = false
-may_stand (Data left ty count) form = false
-may_stand Finished form = false
+may_stand Prints _ = false
+may_stand _ _ = false
 
 -- the number of the buffer of that name
 abbrev pub buffer_number : List Buffer → List ℕ → Option ℕ
@@ -193,13 +180,7 @@ judge past line = if list_all is_allowed line then line_at past.stage past line 
 
 abbrev pub is_finished : Stage → Bool
 is_finished Finished = true
-is_finished Version = false
-is_finished Ranks = false
-is_finished Options = false
-is_finished Inputs = false
-is_finished (Data left ty count) = false
-is_finished Steps = false
-is_finished Prints = false
+is_finished _ = false
 
 -- a refusal of a line has the line's number
 abbrev pub numbered : {A B : Type 0} → ℕ → Result A Refusal → (A → Result B (ℕ × Refusal)) → Result B (ℕ × Refusal)

@@ -7,7 +7,6 @@ pub mod Verdicts
 pub mod Forms
 pub mod Language
 pub mod WellFormed
-pub mod Table
 pub mod FirstForm
 pub mod Extents
 pub mod States

@@ -67,7 +67,7 @@ impl Shape {
     /// The steps in order.
     pub fn steps(&self) -> &[CollStep]
         ensures steps { result.now ≡ self.now.steps }
-        // This holds of every shape.
+        // This holds of every shape, whichever call tells it.
         ensures well_formed { IsWellFormed self.now }
     {
         self.steps.as_slice()

@@ -12,40 +12,60 @@ use ptl_types::{AtomicOp, ElemType};
 /// What a step does, with its operation.
 #[derive(Clone, Copy, Debug, PartialEq, Eq)]
 pub enum StepKind {
+    /// `broadcast`
     Broadcast,
+    /// `reduce`
     Reduce(AtomicOp),
+    /// `allreduce`
     Allreduce(AtomicOp),
+    /// `gather`
     Gather,
+    /// `allgather`
     Allgather,
+    /// `alltoall`
     Alltoall,
+    /// `scan`
     Scan(AtomicOp),
 }
 
 /// A line behind the first two. Numbers are still words.
 #[derive(Clone, Copy)]
 pub enum Line<'a> {
+    /// `complete remote`
     Complete,
+    /// `input NAME TYPE COUNT`
     Input {
+        /// The new buffer's name.
         name: &'a [u8],
+        /// The type of its elements.
         ty: ElemType,
+        /// The word of COUNT, which isn't empty.
         count: &'a [u8],
     },
+    /// `barrier`
     Barrier,
+    /// A step that makes a buffer.
     Step(StepLine<'a>),
+    /// `print NAME`, with the name.
     Print(&'a [u8]),
+    /// `end`
     End,
 }
 
 /// A step from buffer a to a new buffer b.
 #[derive(Clone, Copy)]
 pub struct StepLine<'a> {
+    /// The word of ROOT, which isn't empty, where the kind has one.
     pub root: Option<&'a [u8]>,
+    /// What the step does.
     pub kind: StepKind,
+    /// The name of the buffer that is read.
     pub a: &'a [u8],
+    /// The name of the buffer that is made.
     pub b: &'a [u8],
 }
 
-/// TYPE
+/// The type that TYPE names.
 fn type_of(word: &[u8]) -> Option<ElemType>
     ensures { result ≡ type_of word.now }
 {
@@ -70,7 +90,7 @@ fn type_of(word: &[u8]) -> Option<ElemType>
     }
 }
 
-/// OP
+/// The operation that OP names.
 fn op_of(word: &[u8]) -> Option<AtomicOp>
     ensures { result ≡ op_of word.now }
 {

@@ -29,4 +29,4 @@ pub use lists::{Name, RankList, Text};
 pub use printing::print;
 pub use readable::{accepted_is_readable, reads_exactly};
 pub use types::{Buffer, CollStep, Spread};
-pub use whole::{no_print_is_too_large, parse, parse_all, refused_by_the_table};
+pub use whole::{no_print_is_too_large, parse, parse_all};

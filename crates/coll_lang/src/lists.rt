@@ -5,7 +5,8 @@ ghost use Rattle.std.specs.Prelude.{◌≡◌, List, ℕ, IfOk};
 use std::alloc::{AllocError, Global};
 use std::marker::Model;
 
-/// The name of a buffer: 1 to 16 bytes of `a` to `z`, `0` to `9` and `_`, the first a letter.
+/// The bytes of a buffer's name. A shape keeps that each of its buffers has a name of the language (`Shape::steps` tells
+/// it): 1 to 16 bytes of `a` to `z`, `0` to `9` and `_`, the first a letter.
 #[derive(Debug, Drop)]
 pub struct Name {
     bytes: Vec<u8>,

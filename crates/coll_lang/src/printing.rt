@@ -2,6 +2,7 @@
 
 ghost use Rattle.std.specs.Prelude.{◌≡◌, [], ◌∷◌, ◌++◌, map, IfOk, OnOk};
 ghost use Rattle.std.specs.List.{flat_map};
+ghost use Rattle.std.specs.Fmt.{decimal};
 ghost use Rattle.coll_text.specs.Text.{line};
 ghost use Rattle.coll_text.specs.Elements.{elements, value_word};
 ghost use Rattle.coll_lang.specs.Words.{type_word, op_word};
@@ -14,10 +15,10 @@ use crate::lists::{RankList, Text};
 use crate::types::{Buffer, CollStep};
 use coll_text::{push_data_line, push_line};
 use itoa::Buffer as Digits;
-use ptl_types::{AtomicOp, ElemType, NoMemory};
+use ptl_types::{AtomicOp, ElemType, NoMemory, Rank};
 use std::alloc::{AllocError, Global};
 
-/// TYPE
+/// The type as it is written.
 fn type_word(ty: ElemType) -> &'static [u8]
     ensures { result.now ≡ type_word ty }
 {
@@ -33,7 +34,7 @@ fn type_word(ty: ElemType) -> &'static [u8]
     }
 }
 
-/// OP
+/// The operation as it is written.
 fn op_word(op: AtomicOp) -> &'static [u8]
     ensures { result.now ≡ op_word op }
 {
@@ -151,24 +152,32 @@ fn print_inputs(
     Ok(())
 }
 
+/// A line of a step's first word, its root and two names.
+fn print_rooted(
+    out: &mut Vec<u8>,
+    key: &[u8],
+    root: Rank,
+    a: &[u8],
+    b: &[u8],
+) -> Result<(), AllocError>
+    ensures { OnOk result (out.new.items ≡ out.old.items ++ line (key.now ∷ decimal root ∷ a.now ∷ b.now ∷ [])) }
+{
+    let mut digits = Digits::new();
+    push_four(out, key, digits.format(root).as_bytes(), a, b)
+}
+
 /// The line of a step.
 fn print_step(out: &mut Vec<u8>, buffers: &[Buffer], step: CollStep) -> Result<(), AllocError>
     ensures { OnOk result (out.new.items ≡ out.old.items ++ line (step_words buffers.now step)) }
 {
-    let mut digits = Digits::new();
     match step {
         CollStep::Barrier => push_line(out, &[b"barrier"]),
         CollStep::Broadcast { root, a, b } => {
-            let root = digits.format(root).as_bytes();
-            push_four(
-                out,
-                b"broadcast",
-                root,
-                name_at(buffers, a),
-                name_at(buffers, b),
-            )
+            let (a, b) = (name_at(buffers, a), name_at(buffers, b));
+            print_rooted(out, b"broadcast", root, a, b)
         }
         CollStep::Reduce { root, op, a, b } => {
+            let mut digits = Digits::new();
             let root = digits.format(root).as_bytes();
             let (a, b) = (name_at(buffers, a), name_at(buffers, b));
             push_five(out, b"reduce", root, op_word(op), a, b)
@@ -178,14 +187,8 @@ fn print_step(out: &mut Vec<u8>, buffers: &[Buffer], step: CollStep) -> Result<(
             push_four(out, b"allreduce", op_word(op), a, b)
         }
         CollStep::Gather { root, a, b } => {
-            let root = digits.format(root).as_bytes();
-            push_four(
-                out,
-                b"gather",
-                root,
-                name_at(buffers, a),
-                name_at(buffers, b),
-            )
+            let (a, b) = (name_at(buffers, a), name_at(buffers, b));
+            print_rooted(out, b"gather", root, a, b)
         }
         CollStep::Allgather { a, b } => {
             push_line(

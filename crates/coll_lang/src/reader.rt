@@ -19,15 +19,25 @@ pub const ALL_PRINTS: u64 = 33_554_432;
 /// What the lines so far say.
 #[derive(Drop)]
 pub struct Reader {
+    /// Where its lists take memory.
     pub alloc: Global,
+    /// Which lines may come next.
     pub stage: Stage,
+    /// How many ranks the job has; 1 until line 2 is taken.
     pub ranks: u32,
+    /// Whether `complete remote` was there.
     pub remote: bool,
+    /// The buffers in the order of their lines.
     pub buffers: Vec<Buffer>,
+    /// How many of the buffers are inputs.
     pub inputs: u32,
+    /// The bytes of each data line in order.
     pub given: Vec<RankList>,
+    /// The steps in order.
     pub steps: Vec<CollStep>,
+    /// The numbers of the buffers that are printed, in order.
     pub prints: Vec<u32>,
+    /// The elements of all prints so far, over all ranks.
     pub printed: u64,
     /// The most elements that all prints together may have.
     pub most_printed: u64,

@@ -10,7 +10,6 @@ ghost use Rattle.coll_lang.specs.Verdicts.{Reads, fault_at};
 ghost use Rattle.coll_lang.specs.OneBroadcast.{IsOneBroadcast};
 ghost use Rattle.coll_lang.specs.Spelling.{text};
 ghost use Rattle.coll_lang.specs.Readable.{IsReadable};
-ghost use Rattle.coll_lang.specs.Table.{ByTheTable};
 ghost use Rattle.coll_lang.specs.declared.whole.Extent.TheVariants.{All, Built};
 
 use crate::description::Description;
@@ -183,9 +182,4 @@ pub fn parse(alloc: Global, bytes: &[u8]) -> Result<Description, ParseFault>
 /// No print of what runs so far is refused for its elements: with a higher limit each text is read alike.
 pub fn no_print_is_too_large()
     ensures { first.NoPrintIsTooLarge }
-{}
-
-/// A line is refused by the first row of the table that holds of it.
-pub fn refused_by_the_table()
-    ensures { ByTheTable }
 {}

@@ -8,7 +8,7 @@ use Rattle.coll_text.specs.Text.{is_name, is_empty}
 use Rattle.coll_text.proofs.Spelled.{same}
 use Rattle.coll_lang.specs.Forms.{Form, complete, input, barrier, step, print, last, type_of, op_of, op_in, kind_in, root_in, names_in, step_in, input_in, print_in, alone, complete_in, form_of}
 use Rattle.coll_lang.specs.Language.{may_stand}
-use Rattle.coll_lang.specs.Table.{holds_of}
+use Rattle.language_table.specs.Table.{holds_of}
 use Rattle.coll_lang.specs.declared.forms.StepKind.{StepKind}
 use Rattle.coll_lang.specs.declared.forms.StepKind.TheVariants as kinds
 use Rattle.coll_lang.specs.declared.stage.Stage.{Stage}

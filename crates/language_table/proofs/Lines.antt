@@ -13,9 +13,9 @@ use Rattle.coll_lang.specs.Forms.{Form, complete, input, barrier, step, print, l
 use Rattle.coll_lang.specs.Outline.{length_of}
 use Rattle.coll_lang.specs.Steps.{elements_of, step_of, spread_after}
 use Rattle.coll_lang.specs.Language.{Past, ◌>>=◌, refuse, or_refuse, is_allowed, ranks_in, may_stand, is_taken, buffer_named, most_elements, unless_flawed, form_line, values_line, later_line, line_at, judge, is_finished}
-use Rattle.coll_lang.specs.Table.{first_row, refusal_in, holds_of, root_number, is_past_last}
-use Rattle.coll_lang.specs.Table as table
-use Rattle.coll_lang.proofs.Rows.{by_the_table}
+use Rattle.language_table.specs.Table.{first_row, refusal_in, holds_of, root_number, is_past_last}
+use Rattle.language_table.proofs.Forms as by_form
+use Rattle.language_table.proofs.Forms.{by_the_table}
 use Rattle.coll_lang.specs.declared.types.Spread.{Spread}
 use Rattle.coll_lang.specs.declared.types.Spread.TheVariants.{Even, Only}
 use Rattle.coll_lang.specs.declared.forms.StepKind.{StepKind}
@@ -103,7 +103,7 @@ others most past right form =
     ∷ (TooMany, holds_of (too_many past) form)
     ∷ (TooLarge, holds_of (too_large most past) form) ∷ []
 
-forms : (most : ℕ) (past : Past) (form : Form) → Counts most past → first_row (table.rows past form) ≡ first_row (others most past true (Some form))
+forms : (most : ℕ) (past : Past) (form : Form) → Counts most past → first_row (by_form.rows past form) ≡ first_row (others most past true (Some form))
 forms most past complete counts = refl
 forms most past (input name ty count) counts = refl
 forms most past barrier counts = refl

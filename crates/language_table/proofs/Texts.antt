@@ -6,7 +6,7 @@ use Rattle.std.proofs.lemmas.Bool.Decides.{nat_tests}
 use Rattle.coll_text.specs.Text.{lines, is_empty}
 use Rattle.coll_lang.specs.Outline.{Program}
 use Rattle.coll_lang.specs.Language.{Past, nothing, is_allowed, line_at, judge, is_finished, read_from, program_in, read_by, read_up_to}
-use Rattle.coll_lang.specs.Table.{first_row, refusal_in}
+use Rattle.language_table.specs.Table.{first_row, refusal_in}
 use Rattle.coll_lang.specs.declared.stage.Stage.{Stage}
 use Rattle.coll_lang.specs.declared.stage.Stage.TheVariants.{Version, Ranks, Options, Inputs, Data, Steps, Prints, Finished}
 use Rattle.coll_lang.specs.declared.fault.Refusal.{Refusal}

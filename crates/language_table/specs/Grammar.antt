@@ -5,7 +5,7 @@ use Rattle.std.specs.Str.{bytes_eq}
 use Rattle.coll_text.specs.Text.{is_name, is_empty}
 use Rattle.coll_lang.specs.Forms.{type_of, op_of, form_of}
 use Rattle.coll_lang.specs.Language.{may_stand}
-use Rattle.coll_lang.specs.Table.{holds_of}
+use Rattle.language_table.specs.Table.{holds_of}
 use Rattle.coll_lang.specs.declared.stage.Stage.{Stage}
 use Rattle.coll_lang.specs.declared.stage.Stage.TheVariants.{Version, Ranks, Options, Inputs, Data, Steps, Prints, Finished}
 

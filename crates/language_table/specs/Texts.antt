@@ -2,7 +2,7 @@
 use Rattle.std.specs.Prelude.{◌≡◌, ◌≤◌, ◌<◌, ◌↔◌, ℕ, ◌+◌, List, [], ◌∷◌, ◌++◌, length, Option, Some, None, Result, Ok, Err, Bool, true, not, if◌then◌else◌, option_and_then, ◌⊎◌}
 use Rattle.coll_text.specs.Text.{lines, is_empty}
 use Rattle.coll_lang.specs.Language.{Past, nothing, judge, is_finished, read_up_to}
-use Rattle.coll_lang.specs.Table.{first_row}
+use Rattle.language_table.specs.Table.{first_row}
 use Rattle.coll_lang.specs.declared.fault.Refusal.{Refusal}
 use Rattle.coll_lang.specs.declared.fault.Refusal.TheVariants.{TooLong, Unended, AfterEnd}
 use Rattle.language_table.specs.Rows.{Counts, rows}

@@ -1,15 +1,43 @@
--- A line is judged by the table.
-use Rattle.std.proofs.Common.{◌≡◌, ℕ, ◌+◌, [], ◌∷◌, length, Option, Some, None, Ok, Bool, true, false, ◌||◌, not, cond, refl, arith}
+-- A line's form is judged by rows, of which the lowest that holds counts.
+use Rattle.std.proofs.Common.{◌≡◌, ℕ, ◌+◌, List, [], ◌∷◌, length, Option, Some, None, Ok, Bool, true, false, ◌||◌, not, cond, refl, arith}
 use Rattle.std.specs.Prelude.{nat_lt, nat_le, is_none, option_and_then}
 use Rattle.std.proofs.lemmas.Bool.Decides.{nat_tests}
 use Rattle.coll_text.specs.Text.{number_of, number_between}
 use Rattle.coll_lang.specs.Outline.{length_of}
 use Rattle.coll_lang.specs.Steps.{step_of, spread_after, elements_of}
-use Rattle.coll_lang.specs.Forms.{complete, input, barrier, step, print, last}
-use Rattle.coll_lang.specs.Language.{◌>>=◌, refuse, or_refuse, is_taken, buffer_named, most_elements, input_line, barrier_line, step_line, print_line, form_line}
-use Rattle.coll_lang.specs.Table.{first_row, refusal_in, holds_of, ByTheTable}
+use Rattle.coll_lang.specs.Forms.{Form, complete, input, barrier, step, print, last}
+use Rattle.coll_lang.specs.Language.{Past, ◌>>=◌, refuse, or_refuse, is_taken, buffer_named, most_elements, input_line, barrier_line, step_line, print_line, form_line}
 use Rattle.coll_lang.specs.declared.types.Spread.{Spread}
+use Rattle.coll_lang.specs.declared.forms.StepKind.{StepKind}
+use Rattle.coll_lang.specs.declared.fault.Refusal.{Refusal}
 use Rattle.coll_lang.specs.declared.fault.Refusal.TheVariants.{BadNumber, NameTaken, UnknownBuffer, BadRoot, WrongShape, TooMany, TooLarge}
+use Rattle.language_table.specs.Table.{first_row, refusal_in, holds_of, root_number, is_past_last}
+
+-- what the step makes, where A, ROOT and the shape are right
+abbrev pub made_of : Past → Option (List ℕ) → StepKind → List ℕ → Option Spread
+made_of past root kind a = option_and_then (λ from. option_and_then (λ r. spread_after past.ranks (step_of kind r from.0 (length past.buffers)) from.2) (root_number root)) (buffer_named past.buffers a)
+
+-- the rows in order, each with whether it holds of a line that may stand where it does
+abbrev pub rows : Past → Form → List (Refusal × Bool)
+rows past complete = []
+rows past (input name ty count) =
+    (BadNumber, is_none (number_between 1 4096 count))
+    ∷ (NameTaken, is_taken past.buffers name)
+    ∷ (TooMany, nat_le 128 (length past.buffers)) ∷ []
+rows past barrier = (TooMany, nat_le 64 (length past.steps)) ∷ []
+rows past (step root kind a b) =
+    (BadNumber, is_none (root_number root))
+    ∷ (NameTaken, is_taken past.buffers b)
+    ∷ (UnknownBuffer, is_none (buffer_named past.buffers a))
+    ∷ (BadRoot, is_past_last past.ranks root)
+    ∷ (WrongShape, is_none (made_of past root kind a))
+    ∷ (TooMany, nat_le 64 (length past.steps) || nat_le 128 (length past.buffers))
+    ∷ (TooLarge, holds_of (λ s. nat_lt most_elements (length_of s)) (made_of past root kind a)) ∷ []
+rows past (print name) =
+    (UnknownBuffer, is_none (buffer_named past.buffers name))
+    ∷ (TooMany, nat_le 128 (length past.prints))
+    ∷ (TooLarge, holds_of (λ from. nat_lt past.most_printed (past.printed + elements_of past.ranks from.2)) (buffer_named past.buffers name)) ∷ []
+rows past last = []
 
 -- inputs: a count, a new name, room
 inputs : {A : Type 0} (count : Option ℕ) (taken full : Bool) (next : ℕ → A)
@@ -67,7 +95,8 @@ rooted ranks (Some n) false (Some f) making steps buffers next =
     ≡ first_row ((BadRoot, not b) ∷ (WrongShape, is_none (making f n)) ∷ (TooMany, steps || buffers) ∷ (TooLarge, holds_of (λ s. nat_lt most_elements (length_of s)) (making f n)) ∷ []))
     [ true ↦ ends (making f n) steps buffers (next f n) | false ↦ refl ])
 
-pub by_the_table : ByTheTable
+-- a line is refused by the first row that holds of it, and taken where none does
+pub by_the_table : (past : Past) (form : Form) → refusal_in (form_line past form) ≡ first_row (rows past form)
 unfolding form_line input_line barrier_line step_line print_line
 by_the_table past complete = refl
 by_the_table past (input name ty count) = inputs (number_between 1 4096 count) (is_taken past.buffers name) (nat_le 128 (length past.buffers)) _
