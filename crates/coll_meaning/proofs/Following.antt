@@ -6,10 +6,9 @@ use Rattle.std.proofs.lemmas.Bool.{cases_order}
 use Rattle.std.proofs.lemmas.List.{append-nil, get_or_append_left, get_or-take, length-take-le, length-map, get_or-map}
 use Rattle.std.proofs.lemmas.List.Elements.{recursion_from_All}
 use Rattle.std.proofs.Math.Seq.{get_or-append_seam}
-use Rattle.ptl_types.specs.declared.elements.ElemType.{ElemType}
-use Rattle.ptl_types.specs.declared.elements.ElemType.TheVariants as types
 use Rattle.ptl_types.specs.Operations.{bytes_of}
-use Rattle.coll_text.specs.Elements.{first_elements, elements}
+use Rattle.coll_text.specs.Elements.{elements}
+use Rattle.coll_text.proofs.Writes.{elements_count}
 use Rattle.coll_lang.specs.Outline.{Program, length_of, no_buffer, type_at, spread_at}
 use Rattle.coll_lang.specs.Steps.{source_of, result_of, makes}
 use Rattle.coll_lang.specs.WellFormed.{IsInput, IsWellFormed, IsWellGiven, IsListOf, Filled, results, numbers_from}
@@ -21,25 +20,6 @@ use Rattle.coll_lang.specs.declared.types.CollStep.TheVariants.{Barrier, Broadca
 use Rattle.coll_meaning.specs.Shaped.{HasSpread, FollowsShape}
 use Rattle.coll_meaning.proofs.Measuring.{made_long}
 use Rattle.coll_meaning.proofs.Keeping.{Keeps, next_number, keeps_start, keeps_on, length-inputs}
-
--- the elements of bytes
-first_count : (w n : ℕ) (bytes : List ℕ) → length (first_elements w n bytes) ≡ n
-first_count w zero bytes = refl
-first_count w (suc n) bytes = ap suc (first_count w n (drop w bytes))
-
-whole : (ty : ElemType) (n m : ℕ) → m ≡ n * bytes_of ty → m / bytes_of ty ≡ n
-whole types.U8 n m e = omega arith
-whole types.I8 n m e = omega arith
-whole types.U16 n m e = omega arith
-whole types.I16 n m e = omega arith
-whole types.U32 n m e = omega arith
-whole types.I32 n m e = omega arith
-whole types.U64 n m e = omega arith
-whole types.I64 n m e = omega arith
-
-elements_count : (ty : ElemType) (n : ℕ) (bytes : List ℕ) → length bytes ≡ n * bytes_of ty → length (elements ty bytes) ≡ n
-unfolding elements
-elements_count ty n bytes e = first_count (bytes_of ty) (length bytes / bytes_of ty) bytes ∙ whole ty n (length bytes) e
 
 input_long : (ranks : ℕ) (b : Buffer) (lists : Ranks) → IsInput b → ranks ≤ length lists → All (IsListOf b) (take ranks lists) → HasSpread ranks b.spread (map (elements b.ty) (take ranks lists))
 input_long ranks b lists i le all =

@@ -1,37 +1,28 @@
 -- Lists made rank by rank and element by element.
-use Rattle.std.proofs.Common.{◌≡◌, ℕ, zero, suc, ◌+◌, ◌*◌, ◌/◌, ◌<◌, ◌≤◌, List, [], ◌∷◌, ◌++◌, length, take, drop, get_or, min, cond, refl, sym, ap, ◌∙◌, arith, append_assoc}
+use Rattle.std.proofs.Common.{◌≡◌, ℕ, zero, suc, ◌+◌, ◌*◌, ◌/◌, ◌<◌, ◌≤◌, List, [], ◌∷◌, ◌++◌, length, take, drop, get_or, min, cond, replicate, refl, sym, ap, ◌∙◌, arith, append_assoc}
 use Rattle.std.specs.Prelude.{◌==◌}
 use Rattle.std.proofs.lemmas.List.{at_drop_more, length-drop}
 use Rattle.std.proofs.Math.Nat.{mul-le-mul_right, div-mul-le_self}
 use Rattle.ptl_types.specs.declared.elements.ElemType.{ElemType}
 use Rattle.ptl_types.specs.declared.elements.AtomicOp.{AtomicOp}
-use Rattle.ptl_types.specs.Operations.{bytes_of}
+use Rattle.ptl_types.specs.Operations.{bytes_of, op, start_value}
 use Rattle.ptl_types.specs.Elements.{pattern}
 use Rattle.coll_text.specs.Elements.{elements}
 use Rattle.coll_text.proofs.Writes.{first_of}
 use Rattle.coll_lang.specs.declared.types.Buffer.{Buffer}
 use Rattle.coll_meaning.specs.Printing.{printed_at}
-use Rattle.coll_lang.specs.Meaning.{Ranks, Printed, each_from, only_at, exchanged, folded, folded_from, pairwise}
+use Rattle.coll_lang.specs.Meaning.{Ranks, Printed, each_from, list_at, only_at, exchanged, folded, folded_from, pairwise}
 
 -- one more
 pub each_more : {A : Type 0} (f : ℕ → A) (n : ℕ) → each_from 0 n f ++ f n ∷ [] ≡ each_from 0 (n + 1) f
-each_more f n = sym (rw (plus_one n) (go f 0 n ∙ ap (λ m. each_from 0 n f ++ f m ∷ []) (from_none n)))
+each_more f n =
+    let count : n + 1 ≡ suc n = omega arith in
+    let from_none : 0 + n ≡ n = omega arith in
+    sym (rw count (rw from_none at (go f 0 n)))
   where
-    plus_one : (n : ℕ) → n + 1 ≡ suc n
-    plus_one n = omega arith
-
-    from_none : (n : ℕ) → 0 + n ≡ n
-    from_none n = omega arith
-
     go : {A : Type 0} (f : ℕ → A) (first n : ℕ) → each_from first (suc n) f ≡ each_from first n f ++ f (first + n) ∷ []
-    go f first zero = ap (λ m. f m ∷ []) (plus_none first)
-      where
-        plus_none : (first : ℕ) → first ≡ first + 0
-        plus_none first = omega arith
-    go f first (suc n) = ap (λ x. f first ∷ x) (go f (first + 1) n ∙ ap (λ m. each_from (first + 1) n f ++ f m ∷ []) (shift first n))
-      where
-        shift : (first n : ℕ) → first + 1 + n ≡ first + suc n
-        shift first n = omega arith
+    go f first zero = let none : first + 0 ≡ first = omega arith in rw none refl
+    go f first (suc n) = let moved : first + 1 + n ≡ first + suc n = omega arith in ap (λ x. f first ∷ x) (rw moved at (go f (first + 1) n))
 
 pub only_more : (root : ℕ) (list : List ℕ) (r : ℕ) → only_at r root list ++ cond (r == root) list [] ∷ [] ≡ only_at (r + 1) root list
 only_more root list r = each_more (λ r. cond (r == root) list []) r
@@ -42,6 +33,28 @@ exchange_more ranks lists r = each_more (exchanged ranks lists) r
 pub scan_more : (o : AtomicOp) (ty : ElemType) (lists : Ranks) (r : ℕ)
     → each_from 0 r (λ r. folded o ty (take (r + 1) lists)) ++ folded o ty (take (r + 1) lists) ∷ [] ≡ each_from 0 (r + 1) (λ r. folded o ty (take (r + 1) lists))
 scan_more o ty lists r = each_more (λ r. folded o ty (take (r + 1) lists)) r
+
+-- the fold of one rank more
+fold_next : (f : ℕ → ℕ → ℕ) (start : List ℕ) (lists : Ranks) (r : ℕ) → folded_from f start (take (suc r) lists) ≡ folded_from f (folded_from f start (take r lists)) (take 1 (drop r lists))
+fold_next f start [] zero = refl
+fold_next f start [] (suc r) = refl
+fold_next f start (x ∷ xs) zero = refl
+fold_next f start (x ∷ xs) (suc r) = fold_next f (pairwise f start x) xs r
+
+pub prefix_next : (f : ℕ → ℕ → ℕ) (start so_far : List ℕ) (lists : Ranks) (r : ℕ) → so_far ≡ folded_from f start (take r lists) → folded_from f so_far (take 1 (drop r lists)) ≡ folded_from f start (take (r + 1) lists)
+prefix_next f start so_far lists r e =
+    let one : r + 1 ≡ suc r = omega arith in
+    rw (e, one) (sym (fold_next f start lists r))
+
+pub prefix_folded : (o : AtomicOp) (ty : ElemType) (lists : Ranks) (r : ℕ) → folded_from (op o ty) (replicate (length (list_at lists 0)) (start_value o ty)) (take (r + 1) lists) ≡ folded o ty (take (r + 1) lists)
+prefix_folded o ty lists r = ap (λ (n : ℕ). folded_from (op o ty) (replicate n (start_value o ty)) (take (r + 1) lists)) (sym (first_stays lists r))
+  where
+    first_stays : (lists : Ranks) (r : ℕ) → length (list_at (take (r + 1) lists) 0) ≡ length (list_at lists 0)
+    first_stays lists r = let one : r + 1 ≡ suc r = omega arith in rw one (go lists r)
+      where
+        go : (lists : Ranks) (r : ℕ) → length (list_at (take (suc r) lists) 0) ≡ length (list_at lists 0)
+        go [] r = refl
+        go (x ∷ xs) r = refl
 
 -- one pair more
 pub pair_more : (f : ℕ → ℕ → ℕ) (out xs ys : List ℕ) (i : ℕ) → i < length xs → i < length ys

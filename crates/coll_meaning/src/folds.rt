@@ -1,66 +1,26 @@
 //! Lists combined element by element.
 
-ghost use Rattle.std.specs.Prelude.{◌≡◌, ◌<◌, length, IfOk, replicate};
-ghost use Rattle.ptl_types.specs.Operations.{op, start_value, span};
-ghost use Rattle.coll_lang.specs.Meaning.{pairwise, folded, list_at};
+ghost use Rattle.std.specs.Prelude.{◌≡◌, length, IfOk, replicate, take, drop};
+ghost use Rattle.ptl_types.specs.Operations.{op, start_value};
+ghost use Rattle.coll_lang.specs.Meaning.{pairwise, folded, folded_from};
 ghost use Rattle.coll_meaning.specs.Patterns.{ArePatterns, Fit};
 
 use crate::lists::{RankValues, list_at};
-use lane_ops::{
-    BitwiseAnd, BitwiseOr, BitwiseXor, Combine, LogicalAnd, LogicalOr, LogicalXor, Maximum,
-    Minimum, Product, Sum,
-};
-use ptl_types::{AtomicOp, ElemType};
+use lane_ops::{combine_elements, start_value};
+use ptl_types::{AtomicOp, ElemType, Rank};
 use std::alloc::{AllocError, Global};
 
-/// The operation of two bit patterns.
-fn op_of(operation: AtomicOp, ty: ElemType, x: u64, y: u64) -> u64
-    requires first { x < span ty }
-    requires second { y < span ty }
-    ensures { result ≡ op operation ty x y }
-{
-    match operation {
-        AtomicOp::Min => Minimum.op(ty, x, y),
-        AtomicOp::Max => Maximum.op(ty, x, y),
-        AtomicOp::Sum => Sum.op(ty, x, y),
-        AtomicOp::Prod => Product.op(ty, x, y),
-        AtomicOp::Lor => LogicalOr.op(ty, x, y),
-        AtomicOp::Land => LogicalAnd.op(ty, x, y),
-        AtomicOp::Bor => BitwiseOr.op(ty, x, y),
-        AtomicOp::Band => BitwiseAnd.op(ty, x, y),
-        AtomicOp::Lxor => LogicalXor.op(ty, x, y),
-        AtomicOp::Bxor => BitwiseXor.op(ty, x, y),
-    }
-}
-
-/// The value that a reduction begins with.
-fn start_of(operation: AtomicOp, ty: ElemType) -> u64
-    ensures { result ≡ start_value operation ty }
-{
-    match operation {
-        AtomicOp::Min => Minimum.start(ty),
-        AtomicOp::Max => Maximum.start(ty),
-        AtomicOp::Sum => Sum.start(ty),
-        AtomicOp::Prod => Product.start(ty),
-        AtomicOp::Lor => LogicalOr.start(ty),
-        AtomicOp::Land => LogicalAnd.start(ty),
-        AtomicOp::Bor => BitwiseOr.start(ty),
-        AtomicOp::Band => BitwiseAnd.start(ty),
-        AtomicOp::Lxor => LogicalXor.start(ty),
-        AtomicOp::Bxor => BitwiseXor.start(ty),
-    }
-}
-
 /// So many starting values.
-fn starting(
+pub fn starting(
     alloc: Global,
     operation: AtomicOp,
     ty: ElemType,
     width: usize,
 ) -> Result<RankValues, AllocError>
-    ensures { IfOk result (λ list. list ≡ replicate width (start_value operation ty)) }
+    ensures value { IfOk result (λ list. list ≡ replicate width (start_value operation ty)) }
+    ensures fits { IfOk result (λ list. ArePatterns ty list) }
 {
-    let start = start_of(operation, ty);
+    let start = start_value(operation, ty);
     let mut values = Vec::new(alloc);
     for _ in 0..width {
         values.push(start)?;
@@ -78,13 +38,34 @@ fn pairwise(
 ) -> Result<RankValues, AllocError>
     requires first { ArePatterns ty xs.now }
     requires second { ArePatterns ty ys.now }
-    ensures { IfOk result (λ list. list ≡ pairwise (op operation ty) xs.now ys.now) }
+    ensures value { IfOk result (λ list. list ≡ pairwise (op operation ty) xs.now ys.now) }
+    ensures fits { IfOk result (λ list. ArePatterns ty list) }
 {
     let mut values = Vec::new(alloc);
     for i in 0..xs.len().min(ys.len()) {
-        values.push(op_of(operation, ty, xs[i], ys[i]))?;
+        values.push(combine_elements(operation, ty, xs[i], ys[i]))?;
     }
     Ok(RankValues::of(values))
+}
+
+/// The fold so far, combined with the list of rank r, where there is one.
+pub fn with_rank(
+    alloc: Global,
+    operation: AtomicOp,
+    ty: ElemType,
+    so_far: &[u64],
+    lists: &[RankValues],
+    r: Rank,
+) -> Result<RankValues, AllocError>
+    requires so_far { ArePatterns ty so_far.now }
+    requires lists { Fit ty lists.now }
+    ensures value { IfOk result (λ list. list ≡ folded_from (op operation ty) so_far.now (take 1 (drop r lists.now))) }
+    ensures fits { IfOk result (λ list. ArePatterns ty list) }
+{
+    match lists.get(r as usize) {
+        Some(list) => pairwise(alloc, operation, ty, so_far, list.as_slice()),
+        None => RankValues::copied(alloc, so_far),
+    }
 }
 
 /// The elementwise fold of the lists in rank order, from the starting value on.

@@ -8,7 +8,7 @@ ghost use Rattle.coll_meaning.specs.Shaped.{FollowsShape};
 use crate::lists::{Buffers, Held, RankValues};
 use crate::steps::take_step;
 use coll_lang::{Buffer, Description, RankList};
-use coll_text::pattern_of;
+use lane_ops::read_pattern;
 use ptl_types::{ElemType, NoMemory};
 use std::alloc::{AllocError, Global};
 
@@ -21,7 +21,7 @@ fn elements(alloc: Global, ty: ElemType, bytes: &[u8]) -> Result<RankValues, All
     let mut rest = bytes;
     while rest.len() >= size {
         let (element, behind) = rest.split_at(size);
-        values.push(pattern_of(element))?;
+        values.push(read_pattern(ty, element))?;
         rest = behind;
     }
     Ok(RankValues::of(values))

@@ -4,8 +4,8 @@ ghost use Rattle.std.specs.Prelude.{◌≡◌, ◌+◌, take, replicate, IfOk};
 ghost use Rattle.coll_lang.specs.Meaning.{only_at, each_from, folded};
 ghost use Rattle.coll_meaning.specs.Patterns.{Fit};
 
-use crate::folds::folded;
-use crate::lists::{Held, RankValues};
+use crate::folds::{folded, starting, with_rank};
+use crate::lists::{Held, RankValues, list_at};
 use crate::moves::{everywhere, only_at};
 use ptl_types::{AtomicOp, ElemType, Rank};
 use std::alloc::{AllocError, Global};
@@ -41,21 +41,6 @@ pub fn all_reduced(
     everywhere(alloc, ranks, list.as_slice())
 }
 
-/// The fold of the lists of ranks 0 to r.
-fn folded_up_to(
-    alloc: Global,
-    operation: AtomicOp,
-    ty: ElemType,
-    lists: &[RankValues],
-    r: Rank,
-) -> Result<RankValues, AllocError>
-    requires { Fit ty lists.now }
-    ensures { IfOk result (λ list. list ≡ folded operation ty (take (r + 1) lists.now)) }
-{
-    let count = lists.len().min(r as usize + 1);
-    folded(alloc, operation, ty, &lists[..count])
-}
-
 /// Rank r gets the fold of the lists of ranks 0 to r (MPI scan).
 pub fn scanned(
     alloc: Global,
@@ -68,8 +53,11 @@ pub fn scanned(
     ensures { IfOk result (λ held. held ≡ each_from 0 ranks (λ r. folded operation ty (take (r + 1) lists.now))) }
 {
     let mut made = Vec::new(alloc);
+    let mut so_far = starting(alloc, operation, ty, list_at(lists, 0).len())?;
     for r in 0..ranks {
-        made.push(folded_up_to(alloc, operation, ty, lists, r)?)?;
+        let fold = with_rank(alloc, operation, ty, so_far.as_slice(), lists, r)?;
+        made.push(RankValues::copied(alloc, fold.as_slice())?)?;
+        so_far = fold;
     }
     Ok(Held::of(made))
 }

@@ -1,22 +1,19 @@
-use Rattle.std.proofs.Common.{◌≡◌, ◌∙◌, length, subst, sym, refl, arith}
+use Rattle.std.proofs.Common.{◌≡◌, ◌∙◌, refl, arith}
 use Rattle.ptl_types.specs.Operations.{op}
 use Rattle.coll_lang.specs.Meaning.{pairwise}
-use Rattle.coll_meaning.specs.Patterns.{ArePatterns}
 use Rattle.coll_meaning.proofs.Growing.{fold_more}
-use Rattle.coll_meaning.proofs.Fitting.{starts_fit, combined_fits}
 use Rattle.coll_meaning.proofs.folds.folded.Goals as goal
 
 pub loop-list-init : goal.loop-list-init
 loop-list-init c = record {
-  whole = rw (c.in_ok-so_far.ensures, c.list_at-width.ensures) refl;
-  patterns = subst (ArePatterns c.args.ty) (sym c.in_ok-so_far.ensures) (starts_fit c.args.operation c.args.ty (length c.list_at-width.result.now));
+  whole = rw (c.in_ok-so_far.ensures.value, c.list_at-width.ensures) refl;
+  patterns = c.in_ok-so_far.ensures.fits;
 }
 
 pub loop-list-preserved : goal.loop-list-preserved
 loop-list-preserved c =
-    let made : c.in_ok-so_far-2.so_far ≡ pairwise (op c.args.operation c.args.ty) c.loop-list.so_far c.list-item.result = rw (c.as_slice.ensures, c.as_slice-in-loop-list.ensures) at c.in_ok-so_far-2.ensures in
-    let own : ArePatterns c.args.ty c.list-item.result = subst (ArePatterns c.args.ty) (sym c.list-item.is) (c.requires c.loop-list.list-index c.list-item.result (omega arith)) in
+    let made : c.in_ok-so_far-2.so_far ≡ pairwise (op c.args.operation c.args.ty) c.loop-list.so_far c.list-item.result = rw (c.as_slice.ensures, c.as_slice-in-loop-list.ensures) at c.in_ok-so_far-2.ensures.value in
     record {
       whole = rw made (fold_more (op c.args.operation c.args.ty) c.loop-list.so_far c.list-item.result c.args.lists.now c.loop-list.list-index (omega arith) c.list-item.is ∙ c.loop-list.invariant.whole);
-      patterns = combined_fits c.args.operation c.args.ty c.loop-list.so_far c.list-item.result c.in_ok-so_far-2.so_far made c.loop-list.invariant.patterns own;
+      patterns = c.in_ok-so_far-2.ensures.fits;
     }
