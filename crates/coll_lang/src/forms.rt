@@ -2,7 +2,6 @@
 
 ghost use Rattle.std.specs.Prelude.{◌≡◌, option_map, IfSome, IfNone, Some, None};
 ghost use Rattle.coll_text.specs.Text.{words};
-ghost use Rattle.coll_text.specs.Cuts.{words_in};
 ghost use Rattle.coll_lang.specs.Forms.{type_of, op_of, op_in, has_root, kind_in, root_in, names_in, step_in, input_in, print_in, complete_in, form_of, alone};
 ghost use Rattle.coll_lang.specs.Seen.{form, now};
 
@@ -121,8 +120,8 @@ fn op_of(word: &[u8]) -> Option<AtomicOp>
 
 /// OP as the next word.
 fn op_in(words: &mut Words) -> Option<AtomicOp>
-    ensures some { IfSome result (λ op. op_in (words_in words.old) ≡ Some (op, words_in words.new)) }
-    ensures none { IfNone result (op_in (words_in words.old) ≡ None) }
+    ensures some { IfSome result (λ op. op_in words.old ≡ Some (op, words.new)) }
+    ensures none { IfNone result (op_in words.old ≡ None) }
 {
     op_of(words.next()?)
 }
@@ -137,8 +136,8 @@ fn has_root(key: &[u8]) -> bool
 /// The kind of a step, by its first word and its OP.
 #[tactic(auto, unfolding(crate::specs::Forms::kind_in))]
 fn kind_in(key: &[u8], words: &mut Words) -> Option<StepKind>
-    ensures some { IfSome result (λ kind. kind_in key.now (words_in words.old) ≡ Some (kind, words_in words.new)) }
-    ensures none { IfNone result (kind_in key.now (words_in words.old) ≡ None) }
+    ensures some { IfSome result (λ kind. kind_in key.now words.old ≡ Some (kind, words.new)) }
+    ensures none { IfNone result (kind_in key.now words.old ≡ None) }
 {
     if is(key, b"broadcast") {
         Some(StepKind::Broadcast)
@@ -162,8 +161,8 @@ fn kind_in(key: &[u8], words: &mut Words) -> Option<StepKind>
 /// The word of the root, where the step has one. `None`: it is missing.
 #[tactic(auto, unfolding(crate::specs::Forms::root_in))]
 fn root_in<'a>(key: &[u8], words: &mut Words<'a>) -> Option<Option<&'a [u8]>>
-    ensures some { IfSome result (λ root. root_in key.now (words_in words.old) ≡ Some (now root, words_in words.new)) }
-    ensures none { IfNone result (root_in key.now (words_in words.old) ≡ None) }
+    ensures some { IfSome result (λ root. root_in key.now words.old ≡ Some (now root, words.new)) }
+    ensures none { IfNone result (root_in key.now words.old ≡ None) }
 {
     if !has_root(key) {
         return Some(None);
@@ -179,7 +178,7 @@ fn root_in<'a>(key: &[u8], words: &mut Words<'a>) -> Option<Option<&'a [u8]>>
 /// A and B, the last two words of a step.
 #[tactic(auto, unfolding(crate::specs::Forms::names_in))]
 fn names_in<'a>(mut words: Words<'a>) -> Option<(&'a [u8], &'a [u8])>
-    ensures { option_map (λ names. (names.0.now, names.1.now)) result ≡ names_in (words_in words.entry) }
+    ensures { option_map (λ names. (names.0.now, names.1.now)) result ≡ names_in words.entry }
 {
     let a = words.next()?;
     let b = words.next()?;
@@ -192,7 +191,7 @@ fn names_in<'a>(mut words: Words<'a>) -> Option<(&'a [u8], &'a [u8])>
 /// The words of a step behind its first.
 #[tactic(auto, unfolding(crate::specs::Forms::step_in))]
 fn step_in<'a>(key: &[u8], mut words: Words<'a>) -> Option<Line<'a>>
-    ensures { option_map form result ≡ step_in key.now (words_in words.entry) }
+    ensures { option_map form result ≡ step_in key.now words.entry }
 {
     let root = root_in(key, &mut words)?;
     let kind = kind_in(key, &mut words)?;
@@ -203,7 +202,7 @@ fn step_in<'a>(key: &[u8], mut words: Words<'a>) -> Option<Line<'a>>
 /// The words of an input line behind its first.
 #[tactic(auto, unfolding(crate::specs::Forms::input_in))]
 fn input_in<'a>(mut words: Words<'a>) -> Option<Line<'a>>
-    ensures { option_map form result ≡ input_in (words_in words.entry) }
+    ensures { option_map form result ≡ input_in words.entry }
 {
     let name = words.next()?;
     let ty = words.next()?;
@@ -218,7 +217,7 @@ fn input_in<'a>(mut words: Words<'a>) -> Option<Line<'a>>
 /// The words of a print behind its first.
 #[tactic(auto, unfolding(crate::specs::Forms::print_in))]
 fn print_in<'a>(mut words: Words<'a>) -> Option<Line<'a>>
-    ensures { option_map form result ≡ print_in (words_in words.entry) }
+    ensures { option_map form result ≡ print_in words.entry }
 {
     let name = words.next()?;
     if words.next().is_some() || !is_name(name) {
@@ -230,7 +229,7 @@ fn print_in<'a>(mut words: Words<'a>) -> Option<Line<'a>>
 /// The word behind `complete`.
 #[tactic(auto, unfolding(crate::specs::Forms::complete_in))]
 fn complete_in<'a>(mut words: Words<'a>) -> Option<Line<'a>>
-    ensures { option_map form result ≡ complete_in (words_in words.entry) }
+    ensures { option_map form result ≡ complete_in words.entry }
 {
     let word = words.next()?;
     if words.next().is_some() || !is(word, b"remote") {
@@ -241,7 +240,7 @@ fn complete_in<'a>(mut words: Words<'a>) -> Option<Line<'a>>
 
 /// A line of one word.
 fn alone<'a>(line: Line<'a>, mut words: Words<'a>) -> Option<Line<'a>>
-    ensures { option_map form result ≡ alone (form line.entry) (words_in words.entry) }
+    ensures { option_map form result ≡ alone (form line.entry) words.entry }
 {
     match words.next() {
         None => Some(line),

@@ -16,6 +16,7 @@ use Rattle.coll_text.specs.Text.{number_of, is_empty}
 use Rattle.coll_text.specs.Elements.{half, value_word, first_elements, elements}
 use Rattle.coll_text.specs.Values.{too_large, unsigned_of, negative_of, value_of, all_values, or_no_value, data_line}
 use Rattle.coll_text.specs.declared.values.Flaw.TheVariants.{Malformed}
+use Rattle.coll_text.proofs.Writes.{whole_elements}
 use Rattle.coll_text.proofs.Spelled.{both, chosen, mapped, then, number_spelled}
 
 pub spans : (ty : ElemType) → span ty ≤ 2 ^ 64
@@ -170,16 +171,6 @@ words_said ty (w ∷ ws) bytes h =
         once_more n size = grind arith
 
 -- so many elements of a size
-whole : (ty : ElemType) (n m : ℕ) → m ≡ n * bytes_of ty → m / bytes_of ty ≡ n
-whole types.U8 n m e = omega arith
-whole types.I8 n m e = omega arith
-whole types.U16 n m e = omega arith
-whole types.I16 n m e = omega arith
-whole types.U32 n m e = omega arith
-whole types.I32 n m e = omega arith
-whole types.U64 n m e = omega arith
-whole types.I64 n m e = omega arith
-
 pub record DataSaid (ty : ElemType) (count : ℕ) (ws : List (List ℕ)) (bytes : List ℕ) : Type 0 where
   pub spelled : ws ≡ map (value_word ty) (elements ty bytes)
   pub each : length bytes ≡ count * bytes_of ty
@@ -193,7 +184,7 @@ data_said ty count ws bytes h =
     let n : length ws ≡ count = is_eq (length ws) count q.0 in
     let s = words_said ty ws bytes p.1 in
     record {
-      spelled = s.spelled ∙ ap (λ n. map (value_word ty) (first_elements (bytes_of ty) n bytes)) (sym (whole ty (length ws) (length bytes) s.each));
+      spelled = s.spelled ∙ ap (λ n. map (value_word ty) (first_elements (bytes_of ty) n bytes)) (sym (whole_elements ty (length ws) (length bytes) s.each));
       each = s.each ∙ ap (λ n. n * bytes_of ty) n;
       small = s.small;
     }

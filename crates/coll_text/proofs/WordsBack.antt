@@ -18,6 +18,7 @@ use Rattle.coll_text.specs.Values.{negative_of, value_of, all_values, or_no_valu
 use Rattle.coll_text.specs.declared.values.Flaw.TheVariants.{Malformed}
 use Rattle.coll_text.proofs.Spelled.{both}
 use Rattle.coll_text.proofs.DataSpelled.{spans}
+use Rattle.coll_text.proofs.Writes.{whole_elements, first_count}
 use Rattle.coll_text.proofs.ReadBack.{passes_too, none_is, digits_are, number_read, value_read, words_of_joined}
 
 -- a byte that is seen: no space, and no end of a line
@@ -178,29 +179,15 @@ first_back w (suc n) bytes e h =
     behind : (w m : ℕ) (bytes : List ℕ) → length bytes ≡ w + m → length (drop w bytes) ≡ m
     behind w m bytes e = grind (arith, common_steps)
 
-first_count : (w n : ℕ) (bytes : List ℕ) → length (first_elements w n bytes) ≡ n
-first_count w zero bytes = refl
-first_count w (suc n) bytes = ap suc (first_count w n (drop w bytes))
-
 first_small : (ty : ElemType) (n : ℕ) (bytes : List ℕ) → AllByRecursion (λ v. v < span ty) (first_elements (bytes_of ty) n bytes)
 first_small ty zero bytes = tt
 first_small ty (suc n) bytes = (subst (λ s. pattern (take (bytes_of ty) bytes) < s) (sym (span-is ty)) (pattern-lt (bytes_of ty) bytes), first_small ty n (drop (bytes_of ty) bytes))
-
-whole : (ty : ElemType) (n m : ℕ) → m ≡ n * bytes_of ty → m / bytes_of ty ≡ n
-whole types.U8 n m e = omega arith
-whole types.I8 n m e = omega arith
-whole types.U16 n m e = omega arith
-whole types.I16 n m e = omega arith
-whole types.U32 n m e = omega arith
-whole types.I32 n m e = omega arith
-whole types.U64 n m e = omega arith
-whole types.I64 n m e = omega arith
 
 -- the line of a list is read as it, and every byte of it is seen or a space
 pub data_read : (ty : ElemType) (count : ℕ) (bytes : List ℕ) → 1 ≤ count → length bytes ≡ count * bytes_of ty → All (λ b. b < 256) bytes → data_line ty count (words (join_with_byte 32 (map (value_word ty) (elements ty bytes)))) ≡ Ok bytes
 unfolding elements
 data_read ty count bytes some e h =
-    let n : length bytes / bytes_of ty ≡ count = whole ty count (length bytes) e in
+    let n : length bytes / bytes_of ty ≡ count = whole_elements ty count (length bytes) e in
     line_read ty count (first_elements (bytes_of ty) (length bytes / bytes_of ty) bytes) (first_small ty (length bytes / bytes_of ty) bytes) (first_count (bytes_of ty) (length bytes / bytes_of ty) bytes ∙ n) some
     ∙ ap (λ (x : List ℕ). Ok x) (ap (λ m. flat_map (little_endian (bytes_of ty)) (first_elements (bytes_of ty) m bytes)) n ∙ first_back (bytes_of ty) count bytes e h)
 

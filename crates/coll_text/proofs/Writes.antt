@@ -1,11 +1,12 @@
 -- Lines and elements, written word by word.
-use Rattle.std.proofs.Common.{◌≡◌, ℕ, zero, suc, ◌+◌, ◌-◌, ◌*◌, ◌/◌, ◌<◌, ◌≤◌, ◌^◌, List, [], ◌∷◌, ◌++◌, length, take, drop, get_or, map, sym, ap, ◌∙◌, arith, append_assoc}
+use Rattle.std.proofs.Common.{◌≡◌, ℕ, zero, suc, ◌+◌, ◌-◌, ◌*◌, ◌/◌, ◌<◌, ◌≤◌, ◌^◌, List, [], ◌∷◌, ◌++◌, length, take, drop, get_or, map, refl, sym, ap, ◌∙◌, arith, add-one, append_assoc, mul-div_cancel}
 use Rattle.std.specs.List.{flat_map, join_with_byte}
 use Rattle.std.proofs.lemmas.List.{append-nil}
 use Rattle.std.proofs.lemmas.List.Folds.{flat_map-map}
 use Rattle.std.proofs.lemmas.Grind.{common_steps}
+use Rattle.std.proofs.Math.Nat.{div-eq-sub-div, div-eq_of_lt}
+use Rattle.op_laws.proofs.Bytes.{bytes-pos}
 use Rattle.ptl_types.specs.declared.elements.ElemType.{ElemType}
-use Rattle.ptl_types.specs.declared.elements.ElemType.TheVariants as types
 use Rattle.ptl_types.specs.Operations.{bytes_of}
 use Rattle.ptl_types.specs.Elements.{pattern}
 use Rattle.coll_text.specs.Elements.{first_elements, elements, value_word}
@@ -15,38 +16,24 @@ pub join_spaced : (x : List ℕ) (xs : List (List ℕ)) → join_with_byte 32 (x
 join_spaced x [] = sym (append-nil x)
 join_spaced x (y ∷ xs) = ap (λ rest. x ++ (32 ∷ rest)) (join_spaced y xs)
 
--- a number of at most seven bytes leaves room for one byte more
-pub one_byte_more : (n r b : ℕ) → n ≤ 7 → r < 256 ^ n → b < 256 → (256 * r < 2 ^ 64) × (b + 256 * r < 2 ^ 64) × (b + 256 * r < 256 ^ suc n)
-one_byte_more zero r b le lt lb = (omega arith, omega arith, omega arith)
-one_byte_more (suc zero) r b le lt lb = (omega arith, omega arith, omega arith)
-one_byte_more (suc (suc zero)) r b le lt lb = (omega arith, omega arith, omega arith)
-one_byte_more (suc (suc (suc zero))) r b le lt lb = (omega arith, omega arith, omega arith)
-one_byte_more (suc (suc (suc (suc zero)))) r b le lt lb = (omega arith, omega arith, omega arith)
-one_byte_more (suc (suc (suc (suc (suc zero))))) r b le lt lb = (omega arith, omega arith, omega arith)
-one_byte_more (suc (suc (suc (suc (suc (suc zero)))))) r b le lt lb = (omega arith, omega arith, omega arith)
-one_byte_more (suc (suc (suc (suc (suc (suc (suc zero))))))) r b le lt lb = (omega arith, omega arith, omega arith)
-one_byte_more (suc (suc (suc (suc (suc (suc (suc (suc n)))))))) r b le lt lb = absurd (omega arith)
-
 -- the first element, and those behind it
 fewer : (ty : ElemType) (n : ℕ) → bytes_of ty ≤ n → n / bytes_of ty ≡ suc ((n - bytes_of ty) / bytes_of ty)
-fewer types.U8 n le = omega arith
-fewer types.I8 n le = omega arith
-fewer types.U16 n le = omega arith
-fewer types.I16 n le = omega arith
-fewer types.U32 n le = omega arith
-fewer types.I32 n le = omega arith
-fewer types.U64 n le = omega arith
-fewer types.I64 n le = omega arith
+fewer ty n le = div-eq-sub-div (bytes-pos ty) le ∙ add-one ((n - bytes_of ty) / bytes_of ty)
 
 none_left : (ty : ElemType) (n : ℕ) → n < bytes_of ty → n / bytes_of ty ≡ 0
-none_left types.U8 n lt = omega arith
-none_left types.I8 n lt = omega arith
-none_left types.U16 n lt = omega arith
-none_left types.I16 n lt = omega arith
-none_left types.U32 n lt = omega arith
-none_left types.I32 n lt = omega arith
-none_left types.U64 n lt = omega arith
-none_left types.I64 n lt = omega arith
+none_left ty n lt = div-eq_of_lt lt
+
+-- bytes of n elements hold n of them
+pub whole_elements : (ty : ElemType) (n m : ℕ) → m ≡ n * bytes_of ty → m / bytes_of ty ≡ n
+whole_elements ty n m e = ap (λ (k : ℕ). k / bytes_of ty) e ∙ mul-div_cancel n (bytes-pos ty)
+
+pub first_count : (w n : ℕ) (bytes : List ℕ) → length (first_elements w n bytes) ≡ n
+first_count w zero bytes = refl
+first_count w (suc n) bytes = ap suc (first_count w n (drop w bytes))
+
+pub elements_count : (ty : ElemType) (n : ℕ) (bytes : List ℕ) → length bytes ≡ n * bytes_of ty → length (elements ty bytes) ≡ n
+unfolding elements
+elements_count ty n bytes e = first_count (bytes_of ty) (length bytes / bytes_of ty) bytes ∙ whole_elements ty n (length bytes) e
 
 shorter : (n : ℕ) (bytes : List ℕ) → n ≤ length bytes → length bytes - n ≡ length (drop n bytes)
 shorter n bytes le = grind (arith, common_steps)

@@ -2,9 +2,7 @@
 use denote.Ref.{Bor}
 use Rattle.std.specs.Prelude.{◌≡◌, ℕ, ◌≤◌, ◌^◌, List, [], Option, Some, None, ◌==◌, IsSomeAnd, if◌then◌else◌}
 use Rattle.std.specs.List.{slice_split, list_all}
-use Rattle.std.specs.Option.{option_copied}
-use Rattle.coll_text.specs.Text.{words_left, is_digit, with_digits}
-use Rattle.coll_text.specs.declared.splitting.Words.{Words}
+use Rattle.coll_text.specs.Text.{is_digit, with_digits}
 use Rattle.coll_text.specs.declared.numerals.Number.{Number}
 use Rattle.coll_text.specs.declared.numerals.Number.TheVariants.{Malformed, Huge, Small}
 
@@ -12,9 +10,6 @@ use Rattle.coll_text.specs.declared.numerals.Number.TheVariants.{Malformed, Huge
 abbrev pub parts_behind : ℕ → Option (Bor (List ℕ)) → List (List ℕ)
 parts_behind separator None = []
 parts_behind separator (Some rest) = slice_split (λ b. b == separator) rest.now
-
-abbrev pub words_in : Words → List (List ℕ)
-words_in w = words_left (option_copied w.left)
 
 -- the word is that number, or is none, or one too large to hold
 abbrev pub ReadsNumber : Number → Option ℕ → Type 0

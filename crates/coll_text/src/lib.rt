@@ -6,6 +6,8 @@
 mod names;
 mod numerals;
 mod splitting;
+#[cfg(test)]
+mod tests;
 mod values;
 mod writing;
 
@@ -13,4 +15,4 @@ pub use names::{is, is_name};
 pub use numerals::{Number, number_at, number_between};
 pub use splitting::{Words, cut};
 pub use values::{Flaw, ValuesFault, data_line, push_value, value_of};
-pub use writing::{pattern_of, push_data_line, push_line};
+pub use writing::{push_data_line, push_line};

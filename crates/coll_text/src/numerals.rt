@@ -19,7 +19,7 @@ pub enum Number {
 
 /// Reads a word as a number: `0`, or a digit from 1 to 9 followed by digits.
 pub fn number_at(word: &[u8]) -> Number
-    ensures { ReadsNumber result (number_of word.now) }
+    ensures told { ReadsNumber result (number_of word.now) }
 {
     let Some((first, others)) = word.split_first() else {
         return Number::Malformed;

@@ -1,10 +1,13 @@
 //! Cutting bytes at a separator.
 
-ghost use Rattle.std.specs.Prelude.{◌≡◌, ◌∷◌, ◌==◌, ◌<◌, length, IfSome};
+ghost use Rattle.std.specs.Prelude.{◌≡◌, ◌∷◌, ◌==◌, ◌<◌, List, ℕ, length, IfSome};
 ghost use Rattle.std.specs.List.{slice_split, position};
+ghost use Rattle.std.specs.Option.{option_copied};
 ghost use Rattle.std.specs.Iterator.{YieldsFirstRef, item_count};
-ghost use Rattle.coll_text.specs.Text.{words};
-ghost use Rattle.coll_text.specs.Cuts.{parts_behind, words_in};
+ghost use Rattle.coll_text.specs.Text.{words, words_left};
+ghost use Rattle.coll_text.specs.Cuts.{parts_behind};
+
+use std::marker::Model;
 
 /// Where the first separator stands.
 fn find(bytes: &[u8], separator: u8) -> Option<usize>
@@ -30,10 +33,16 @@ pub struct Words<'a> {
     left: Option<&'a [u8]>,
 }
 
+impl<'a> Model for Words<'a> {
+    ghost Value = { List (List ℕ) };
+
+    ghost view = { λ w. words_left (option_copied w.left) };
+}
+
 impl<'a> Words<'a> {
     /// All words of a line, which stands without its LF.
     pub fn of(line: &'a [u8]) -> Words<'a>
-        ensures { words_in result ≡ words line.now }
+        ensures makes { result ≡ words line.now }
     {
         Words { left: Some(line) }
     }
@@ -42,9 +51,9 @@ impl<'a> Words<'a> {
 impl<'a> Iterator for Words<'a> {
     type Item = &'a [u8];
 
-    ghost next_gives = { YieldsFirstRef words_in };
+    ghost next_gives = { YieldsFirstRef (λ words. words) };
 
-    ghost remaining = { item_count words_in };
+    ghost remaining = { item_count (λ words. words) };
 
     fn next(&mut self) -> Option<&'a [u8]> {
         let (word, rest) = cut(self.left?, b' ');

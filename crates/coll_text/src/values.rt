@@ -1,6 +1,6 @@
 //! Values of the element types, and data lines.
 
-ghost use Rattle.std.specs.Prelude.{◌≡◌, ◌+◌, ◌<◌, ◌++◌, OnOk, IfSome, MatchResult, Ok};
+ghost use Rattle.std.specs.Prelude.{◌≡◌, ◌+◌, ◌<◌, ◌++◌, OnOk, OnErr, IfSome, MatchResult, Ok};
 ghost use Rattle.ptl_types.specs.Operations.{span, bytes_of, is_signed};
 ghost use Rattle.ptl_types.specs.Elements.{little_endian};
 ghost use Rattle.coll_text.specs.Text.{words};
@@ -11,6 +11,7 @@ ghost use Rattle.coll_text.specs.declared.values.ValuesFault.TheVariants.{NoMemo
 
 use crate::numerals::{Number, number_at};
 use crate::splitting::Words;
+use lane_ops::write_pattern;
 use ptl_types::ElemType;
 use std::alloc::{AllocError, AllocFailed, Global};
 
@@ -121,17 +122,19 @@ pub fn value_of(ty: ElemType, word: &[u8]) -> Option<u64>
     }
 }
 
-/// Adds the bytes of an element, lowest first.
+/// Adds the bytes of an element, lowest first, from its bit pattern.
+///
+/// # Errors
+///
+/// There was no memory; nothing was added.
 pub fn push_value(out: &mut Vec<u8>, ty: ElemType, n: u64) -> Result<(), AllocError>
-    requires { n < span ty }
-    ensures { OnOk result (out.new.items ≡ out.old.items ++ little_endian (bytes_of ty) n) }
+    requires pattern { n < span ty }
+    ensures added { OnOk result (out.new.items ≡ out.old.items ++ little_endian (bytes_of ty) n) }
+    ensures unchanged { OnErr result (out.new.items ≡ out.old.items) }
 {
-    match ty {
-        ElemType::U8 | ElemType::I8 => out.extend_from_slice(&(n as u8).to_le_bytes()),
-        ElemType::U16 | ElemType::I16 => out.extend_from_slice(&(n as u16).to_le_bytes()),
-        ElemType::U32 | ElemType::I32 => out.extend_from_slice(&(n as u32).to_le_bytes()),
-        ElemType::U64 | ElemType::I64 => out.extend_from_slice(&n.to_le_bytes()),
-    }
+    let mut bytes = [0; 8];
+    write_pattern(ty, &mut bytes, n);
+    out.extend_from_slice(&bytes[..ty.size() as usize])
 }
 
 /// Reads a data line of so many values: their bytes in order.
@@ -146,7 +149,7 @@ pub fn data_line(
     count: u64,
     line: &[u8],
 ) -> Result<Vec<u8>, ValuesFault>
-    ensures { let read = data_line ty count (words line.now) in MatchResult result (λ bytes. read ≡ Ok bytes.items) (λ fault. Fails fault read) }
+    ensures told { let read = data_line ty count (words line.now) in MatchResult result (λ bytes. read ≡ Ok bytes.items) (λ fault. Fails fault read) }
 {
     let mut out = Vec::new(alloc);
     let mut left = count;

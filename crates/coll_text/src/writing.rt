@@ -4,12 +4,12 @@ ghost use Rattle.std.specs.Prelude.{◌≡◌, ◌∷◌, ◌++◌, ◌<◌, ◌
 ghost use Rattle.std.specs.List.{flat_map};
 ghost use Rattle.std.specs.Fmt.{decimal};
 ghost use Rattle.ptl_types.specs.Operations.{span};
-ghost use Rattle.ptl_types.specs.Elements.{pattern};
 ghost use Rattle.coll_text.specs.Text.{line};
 ghost use Rattle.coll_text.specs.Elements.{elements, value_word};
 
 use crate::values::{half, is_signed};
 use itoa::Buffer;
+use lane_ops::read_pattern;
 use ptl_types::ElemType;
 use std::alloc::AllocError;
 
@@ -30,7 +30,7 @@ fn push_spaced(out: &mut Vec<u8>, words: &[&[u8]]) -> Result<(), AllocError>
 ///
 /// There was no memory; a beginning of the line may stand.
 pub fn push_line(out: &mut Vec<u8>, words: &[&[u8]]) -> Result<(), AllocError>
-    ensures { OnOk result (out.new.items ≡ out.old.items ++ line (map (λ w. w.now) words.now)) }
+    ensures added { OnOk result (out.new.items ≡ out.old.items ++ line (map (λ w. w.now) words.now)) }
 {
     let Some((first, others)) = words.split_first() else {
         out.push(b'\n')?;
@@ -63,18 +63,6 @@ fn push_value_word(out: &mut Vec<u8>, ty: ElemType, n: u64) -> Result<(), AllocE
     }
 }
 
-/// The bit pattern of an element of so many bytes, lowest first.
-pub fn pattern_of(bytes: &[u8]) -> u64
-    requires { length bytes.now ≤ 8 }
-    ensures value { result ≡ pattern bytes.now }
-    ensures fits { result < 256 ^ length bytes.now }
-{
-    let Some((first, others)) = bytes.split_first() else {
-        return 0;
-    };
-    u64::from(*first) + 256 * pattern_of(others)
-}
-
 /// Adds a space and the word of an element, for each element.
 fn push_spaced_values(out: &mut Vec<u8>, ty: ElemType, bytes: &[u8]) -> Result<(), AllocError>
     ensures { OnOk result (out.new.items ≡ out.old.items ++ flat_map (λ x. 32 ∷ value_word ty x) (elements ty bytes.now)) }
@@ -84,7 +72,7 @@ fn push_spaced_values(out: &mut Vec<u8>, ty: ElemType, bytes: &[u8]) -> Result<(
     while rest.len() >= size {
         let (element, behind) = rest.split_at(size);
         out.push(b' ')?;
-        push_value_word(out, ty, pattern_of(element))?;
+        push_value_word(out, ty, read_pattern(ty, element))?;
         rest = behind;
     }
     Ok(())
@@ -96,7 +84,7 @@ fn push_spaced_values(out: &mut Vec<u8>, ty: ElemType, bytes: &[u8]) -> Result<(
 ///
 /// There was no memory; a beginning of the line may stand.
 pub fn push_data_line(out: &mut Vec<u8>, ty: ElemType, bytes: &[u8]) -> Result<(), AllocError>
-    ensures { OnOk result (out.new.items ≡ out.old.items ++ line (map (value_word ty) (elements ty bytes.now))) }
+    ensures added { OnOk result (out.new.items ≡ out.old.items ++ line (map (value_word ty) (elements ty bytes.now))) }
 {
     let size = ty.size() as usize;
     if bytes.len() < size {
@@ -104,7 +92,7 @@ pub fn push_data_line(out: &mut Vec<u8>, ty: ElemType, bytes: &[u8]) -> Result<(
         return Ok(());
     }
     let (element, behind) = bytes.split_at(size);
-    push_value_word(out, ty, pattern_of(element))?;
+    push_value_word(out, ty, read_pattern(ty, element))?;
     push_spaced_values(out, ty, behind)?;
     out.push(b'\n')?;
     Ok(())

@@ -1,0 +1,229 @@
+//! Words, values, lines and names whose readings were found by hand.
+
+use crate::{
+    Flaw, Number, ValuesFault, Words, cut, data_line, is, is_name, number_at, number_between,
+    push_data_line, push_line, push_value, value_of,
+};
+use ptl_types::ElemType;
+use std::alloc::AllocError;
+
+#[test]
+fn numbers_have_one_spelling(rt: HostRuntime) {
+    let rows: [(&[u8], Number); 15] = [
+        (b"0", Number::Small(0)),
+        (b"7", Number::Small(7)),
+        (b"10", Number::Small(10)),
+        (
+            b"18446744073709551615",
+            Number::Small(0xffff_ffff_ffff_ffff),
+        ),
+        (b"18446744073709551616", Number::Huge),
+        (b"1000000000000000000000000000000000000000", Number::Huge),
+        (
+            b"0000000000000000000000000000000000000001",
+            Number::Malformed,
+        ),
+        (b"007", Number::Malformed),
+        (b"00", Number::Malformed),
+        (b"-0", Number::Malformed),
+        (b"+1", Number::Malformed),
+        (b"1a", Number::Malformed),
+        (b"1\r", Number::Malformed),
+        (b" 1", Number::Malformed),
+        (b"", Number::Malformed),
+    ];
+    for (word, number) in rows {
+        assert!(rt; number_at(word) == number);
+    }
+    assert!(rt; number_between(1, 64, b"1") == Some(1));
+    assert!(rt; number_between(1, 64, b"64") == Some(64));
+    assert!(rt; number_between(1, 64, b"65") == None);
+    assert!(rt; number_between(1, 64, b"0") == None);
+    assert!(rt; number_between(1, 64, b"064") == None);
+    assert!(rt; number_between(0, 64, b"18446744073709551616") == None);
+}
+
+/// Least and greatest values, and the values one past each.
+static EDGES: [(ElemType, &[u8], Option<u64>); 32] = [
+    (ElemType::U8, b"0", Some(0)),
+    (ElemType::U8, b"255", Some(0xff)),
+    (ElemType::U8, b"-1", None),
+    (ElemType::U8, b"256", None),
+    (ElemType::I8, b"-128", Some(0x80)),
+    (ElemType::I8, b"127", Some(0x7f)),
+    (ElemType::I8, b"-129", None),
+    (ElemType::I8, b"128", None),
+    (ElemType::U16, b"0", Some(0)),
+    (ElemType::U16, b"65535", Some(0xffff)),
+    (ElemType::U16, b"-1", None),
+    (ElemType::U16, b"65536", None),
+    (ElemType::I16, b"-32768", Some(0x8000)),
+    (ElemType::I16, b"32767", Some(0x7fff)),
+    (ElemType::I16, b"-32769", None),
+    (ElemType::I16, b"32768", None),
+    (ElemType::U32, b"0", Some(0)),
+    (ElemType::U32, b"4294967295", Some(0xffff_ffff)),
+    (ElemType::U32, b"-1", None),
+    (ElemType::U32, b"4294967296", None),
+    (ElemType::I32, b"-2147483648", Some(0x8000_0000)),
+    (ElemType::I32, b"2147483647", Some(0x7fff_ffff)),
+    (ElemType::I32, b"-2147483649", None),
+    (ElemType::I32, b"2147483648", None),
+    (ElemType::U64, b"0", Some(0)),
+    (
+        ElemType::U64,
+        b"18446744073709551615",
+        Some(0xffff_ffff_ffff_ffff),
+    ),
+    (ElemType::U64, b"-1", None),
+    (ElemType::U64, b"18446744073709551616", None),
+    (
+        ElemType::I64,
+        b"-9223372036854775808",
+        Some(0x8000_0000_0000_0000),
+    ),
+    (
+        ElemType::I64,
+        b"9223372036854775807",
+        Some(0x7fff_ffff_ffff_ffff),
+    ),
+    (ElemType::I64, b"-9223372036854775809", None),
+    (ElemType::I64, b"9223372036854775808", None),
+];
+
+/// Words that are values of no type.
+static NO_VALUES: [&[u8]; 11] = [
+    b"",
+    b"-",
+    b"-0",
+    b"007",
+    b"-007",
+    b"+1",
+    b"--1",
+    b"1\r",
+    b"1.0",
+    b"1000000000000000000000000000000000000000",
+    b"-1000000000000000000000000000000000000000",
+];
+
+#[test]
+fn values_end_at_the_least_and_the_greatest(rt: HostRuntime) {
+    for (ty, word, pattern) in EDGES {
+        assert!(rt; value_of(ty, word) == pattern);
+        for none in NO_VALUES {
+            assert!(rt; value_of(ty, none) == None);
+        }
+    }
+    assert!(rt; value_of(ElemType::I8, b"-1") == Some(0xff));
+    assert!(rt; value_of(ElemType::I64, b"-1") == Some(0xffff_ffff_ffff_ffff));
+}
+
+/// Whether the line holds so many values of the type, and their bytes are these, or it has that flaw.
+fn reads_as(
+    rt: &impl AllocGlobal,
+    ty: ElemType,
+    count: u64,
+    line: &[u8],
+    wanted: Result<&[u8], Flaw>,
+) -> bool {
+    match (data_line(rt.alloc(), ty, count, line), wanted) {
+        (Ok(bytes), Ok(wanted)) => bytes.as_slice() == wanted,
+        (Err(ValuesFault::Flawed(flaw)), Err(wanted)) => flaw == wanted,
+        _ => false,
+    }
+}
+
+#[test]
+fn a_data_line_has_just_the_values_that_are_due(rt: HostRuntime) {
+    let rows: [(ElemType, u64, &[u8], Result<&[u8], Flaw>); 19] = [
+        (ElemType::U8, 3, b"1 2 3", Ok(&[1, 2, 3])),
+        (ElemType::I16, 2, b"-1 258", Ok(&[0xff, 0xff, 2, 1])),
+        (ElemType::U32, 1, b"16909060", Ok(&[4, 3, 2, 1])),
+        (
+            ElemType::I64,
+            1,
+            b"-2",
+            Ok(&[0xfe, 0xff, 0xff, 0xff, 0xff, 0xff, 0xff, 0xff]),
+        ),
+        (ElemType::U8, 2, b"1 2 3", Err(Flaw::Malformed)),
+        (ElemType::U8, 4, b"1 2 3", Err(Flaw::Malformed)),
+        (ElemType::U8, 2, b"1  2", Err(Flaw::Malformed)),
+        (ElemType::U8, 3, b"1  2", Err(Flaw::Malformed)),
+        (ElemType::U8, 2, b"1 2 ", Err(Flaw::Malformed)),
+        (ElemType::U8, 3, b"1 2 ", Err(Flaw::Malformed)),
+        (ElemType::U8, 1, b" 1", Err(Flaw::Malformed)),
+        (ElemType::U8, 2, b" 1", Err(Flaw::Malformed)),
+        (ElemType::U8, 0, b"", Err(Flaw::Malformed)),
+        (ElemType::U8, 1, b"", Err(Flaw::Malformed)),
+        (ElemType::U8, 1, b"1\r", Err(Flaw::NoValue)),
+        (ElemType::U8, 2, b"1 256", Err(Flaw::NoValue)),
+        (ElemType::U8, 2, b"007 1", Err(Flaw::NoValue)),
+        (ElemType::U8, 2, b"256", Err(Flaw::Malformed)),
+        (ElemType::U8, 3, b"256  1", Err(Flaw::Malformed)),
+    ];
+    for (ty, count, line, wanted) in rows {
+        assert!(rt; reads_as(&rt, ty, count, line, wanted));
+    }
+}
+
+#[test]
+fn lines_are_cut(rt: HostRuntime) {
+    let rows: [(&[u8], &[u8], Option<&[u8]>); 5] = [
+        (b"ab", b"ab", None),
+        (b"ab\n", b"ab", Some(b"")),
+        (b"\n\n", b"", Some(b"\n")),
+        (b"a\r\nb", b"a\r", Some(b"b")),
+        (b"", b"", None),
+    ];
+    for (bytes, line, rest) in rows {
+        let (first, behind) = cut(bytes, b'\n');
+        assert!(rt; first == line);
+        assert!(rt; behind == rest);
+    }
+    let words: [&[u8]; 4] = [b"a", b"", b"b", b""];
+    let mut read = Words::of(b"a  b ");
+    for word in words {
+        assert!(rt; read.next() == Some(word));
+    }
+    assert!(rt; read.next() == None);
+}
+
+#[test]
+fn names_have_1_to_16_bytes_and_begin_with_a_letter(rt: HostRuntime) {
+    let taken: [&[u8]; 4] = [b"a", b"z9", b"a_b_0", b"abcdefghijklmno0"];
+    for word in taken {
+        assert!(rt; is_name(word));
+    }
+    let refused: [&[u8]; 7] = [
+        b"",
+        b"9a",
+        b"_a",
+        b"A",
+        b"a-b",
+        b"a\r",
+        b"abcdefghijklmno01",
+    ];
+    for word in refused {
+        assert!(rt; !is_name(word));
+    }
+    assert!(rt; is(b"end", b"end") && !is(b"end ", b"end"));
+}
+
+#[test]
+fn lines_are_written(rt: HostRuntime) -> Result<(), AllocError> {
+    let mut out = Vec::new(rt.alloc());
+    push_line(&mut out, &[b"print", b"a"])?;
+    push_line(&mut out, &[])?;
+    push_data_line(&mut out, ElemType::I8, &[0x80, 0x7f, 0])?;
+    push_data_line(&mut out, ElemType::U16, &[1, 1])?;
+    push_data_line(&mut out, ElemType::I64, &[0, 0, 0, 0, 0, 0, 0, 0x80])?;
+    push_data_line(&mut out, ElemType::U32, &[])?;
+    assert!(rt;
+        out.as_slice() == b"print a\n\n-128 127 0\n257\n-9223372036854775808\n\n".as_slice()
+    );
+    let mut bytes = Vec::new(rt.alloc());
+    push_value(&mut bytes, ElemType::U32, 0x0102_0304)?;
+    push_value(&mut bytes, ElemType::I8, 0xff)?;
+    assert!(rt; bytes.as_slice() == [4, 3, 2, 1, 0xff].as_slice());
+    Ok(())
+}
