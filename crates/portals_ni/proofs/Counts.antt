@@ -1,6 +1,6 @@
 -- Which counting events a change leaves as they are.
 use Rattle.std.proofs.Common.{◌≡◌, ℕ, true, false, List, [], ◌∷◌, ◌++◌, Option, Some, None, Result, Ok, Err, is_some, not, filter, if◌then◌else◌, refl, ◌∙◌, arith}
-use Rattle.std.specs.Prelude.{OnOk, OnErr}
+use Rattle.std.specs.Prelude.{OnOk, OnErr, option_map}
 use Rattle.std.proofs.lemmas.Bool.Decides.{nat_tests}
 use Rattle.ptl_types.specs.declared.handles.Handle.{Handle}
 use Rattle.ptl_types.specs.declared.handles.Count.{Count}
@@ -22,6 +22,9 @@ use Rattle.ni_model.specs.Append.{each_counted}
 pub same-apart : (x h k : Handle) → same_handle x k ≡ true → same_handle h k ≡ false → same_handle x h ≡ false
 same-apart x h k there apart = grind (arith, nat_tests)
 
+same-too : (x k h : Handle) → same_handle k h ≡ true → same_handle x h ≡ false → same_handle x k ≡ false
+same-too x k h same apart = grind (arith, nat_tests)
+
 -- ---- a thing that is changed stays live, and the others stay as they are
 
 module _ {A : Type 0} where
@@ -37,6 +40,14 @@ module _ {A : Type 0} where
   lookup-change k h f [] apart = refl
   lookup-change k h f (x ∷ xs) apart = grind (arith, same-apart x.handle h k, lookup-change k h f xs apart)
 
+  pub lookup-changed : (h : Handle) (f : A → A) (xs : List (Live A)) → lookup h (change h f xs) ≡ option_map f (lookup h xs)
+  lookup-changed h f [] = refl
+  lookup-changed h f (x ∷ xs) =
+      elim (same_handle x.handle h) as (λ b. (if b then Some (if b then f x.value else x.value) else lookup h (change h f xs)) ≡ option_map f (if b then Some x.value else lookup h xs)) [
+        | true ↦ refl
+        | false ↦ lookup-changed h f xs
+      ]
+
   pub lookup-push : (k : Handle) (x : Live A) (xs : List (Live A)) → is_some (lookup k xs) ≡ true → lookup k (xs ++ x ∷ []) ≡ lookup k xs
   lookup-push k x [] live = cc
   lookup-push k x (y ∷ ys) live =
@@ -48,6 +59,10 @@ module _ {A : Type 0} where
   pub lookup-without : (k h : Handle) (xs : List (Live A)) → same_handle k h ≡ false → lookup k (filter (λ (x : Live A). not (same_handle x.handle h)) xs) ≡ lookup k xs
   lookup-without k h [] apart = refl
   lookup-without k h (x ∷ xs) apart = grind (arith, same-apart x.handle k h, lookup-without k h xs apart)
+
+  pub lookup-gone : (k h : Handle) (xs : List (Live A)) → same_handle k h ≡ true → lookup k (filter (λ (x : Live A). not (same_handle x.handle h)) xs) ≡ None
+  lookup-gone k h [] same = refl
+  lookup-gone k h (x ∷ xs) same = grind (arith, same-too x.handle k h, lookup-gone k h xs same)
 
   pub live-push : (k : Handle) (x : Live A) (xs : List (Live A)) → is_some (lookup k xs) ≡ true → is_some (lookup k (xs ++ x ∷ [])) ≡ true
   live-push k x xs live = rw (lookup-push k x xs live) live

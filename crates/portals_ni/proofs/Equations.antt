@@ -23,8 +23,8 @@ use Rattle.ni_model.specs.Answers.{home, answered}
 use Rattle.ni_model.specs.Starts.{started}
 use Rattle.ni_model.specs.Append.{append_fault, is_allocated, search}
 use Rattle.ni_model.specs.State.{State, parts_of, with_parts, home_of, with_home, drops_after, violations_after, after_request, after_answer}
-use Rattle.ni_model.specs.Ready.{fires, fired}
-use Rattle.ni_model.specs.Refusals.{pt_alloc_fault, ct_set_fault, ct_inc_fault, alloc_fault, unlink_fault, bind_fault, deed_fault, triggered_fault, md_names_ct, md_names_eq, index_names_ct, index_names_eq, operation_names_ct}
+use Rattle.ni_model.specs.Ready.{Fires, fires, fired}
+use Rattle.ni_model.specs.Refusals.{pt_alloc_fault, ct_set_fault, ct_inc_fault, alloc_fault, unlink_fault, bind_fault, deed_fault, deed_passes, triggered_fault, md_names_ct, md_names_eq, index_names_ct, index_names_eq, operation_names_ct}
 use Rattle.ni_model.specs.Calls.{ends, Makes, MayLackMemory, enough, lacking, AnswersReady, new_index, bound, ct_alloc, ct_free, eq_free, ct_set, ct_inc, ct_cancel, eq_alloc, eq_get, md_bind, entry_slot, unlinked_in, me_append, me_unlink, me_search, pt_alloc, start, triggered}
 use Rattle.handle_store.proofs.StoreLemmas.{change-absent}
 use Rattle.initiator_engine.specs.Initiators.{Initiating, with_mds, is_start, has_started, has_returned}
@@ -34,9 +34,10 @@ use Rattle.std.specs.Prelude.{slice_set}
 use Rattle.portals_ni.specs.declared.armed.Armed.{Armed}
 use Rattle.portals_ni.specs.Answers.{MakesIfMemory, event_taken, deed_counts}
 use Rattle.portals_ni.specs.Pendings.{deed_in, told_by, told_new}
-use Rattle.portals_ni.specs.Sound.{IsTold, state_of}
+use Rattle.portals_ni.specs.Sound.{IsTold, Stands, state_of}
 use Rattle.portals_ni.proofs.Ends.{ends-done, ends-refused, enough-done, fails-by, free_slot, is-free, free_entry_slot, entry-is-free}
-use Rattle.portals_ni.proofs.Firing.{new-forgotten, posted-cancelled, length-waiting, posted-push, ready-is, fired-is, done-start, done-count}
+use Rattle.portals_ni.proofs.Firing.{new-forgotten, posted-cancelled, length-waiting, posted-push, posted-without, ready-is, fired-is, done-start, done-count}
+use Rattle.portals_ni.proofs.Stands.{fewer-stands, done-stands}
 use Rattle.portals_ni.proofs.Told.{posted-told_by}
 
 -- what was told is forgotten
@@ -205,3 +206,10 @@ module _ (t : Side) (r : List ℕ) (c : Table Count) (e : Table Waiting) (i : In
       let ranks : j.ranks ≡ i.ranks = ap (λ (x : Initiating). x.ranks) rest in
       let limits : j.limits ≡ i.limits = ap (λ (x : Initiating). x.limits) rest in
       rw (done_of, done-start (state_of t r c e i (without_number n ops) d v) a.deed starts, ← same, told-forgotten ct k between left told, gone, ranks, limits) refl
+
+  -- ---- what a firing leaves of the limits, the sums and the live names
+
+  pub fired-stands : (n : ℕ) (a : Armed) → option_map deed_of (operation_at n ops) ≡ Some a → deed_passes a.deed ≡ false → Stands before → Stands (fired before n).state
+  fired-stands n a is fits stands =
+      let left : Stands (state_of t r c e i (without_number n ops) d v) = rw (posted-without n ops) (fewer-stands n before stands) in
+      subst (λ (f : Fires). Stands f.state) (sym (fired-is before n ops a refl is)) (done-stands (state_of t r c e i (without_number n ops) d v) a.deed fits left)

@@ -112,7 +112,7 @@ skips-md md (Swap g a op ty operand) = refl
 skips-md md (Inc ct by) = refl
 skips-md md (Set ct to) = refl
 
-neither : (a b : Bool) → a || b ≡ false → (a ≡ false) × (b ≡ false)
+pub neither : (a b : Bool) → a || b ≡ false → (a ≡ false) × (b ≡ false)
 neither true b e = cc
 neither false true e = cc
 neither false false e = (refl, refl)
@@ -175,10 +175,10 @@ pub record KeepsHome (p q : Home) (ct : Option Handle) : Type 0 where
 same-home : (p : Home) (ct : Option Handle) → AreBoundIn (length p.region) p.mds → KeepsHome p p ct
 same-home p ct all = record { size = refl; bound = all; holds = λ k at n apart holds. holds; counts = changes-none ct p.cts }
 
-keeps-awaited : KeepsMd one_awaited
+pub keeps-awaited : KeepsMd one_awaited
 keeps-awaited b = refl
 
-keeps-less : KeepsMd one_less
+pub keeps-less : KeepsMd one_less
 keeps-less b = refl
 
 more-bound : (n : ℕ) (h : Option Handle) (mds : Table Bound) → AreBoundIn n mds → AreBoundIn n (awaits_more h mds)

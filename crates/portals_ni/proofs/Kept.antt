@@ -1,8 +1,8 @@
 -- What an interface keeps, through each of its calls.
 use Rattle.std.proofs.Common.{◌≡◌, ℕ, ◌+◌, ◌≤◌, Bool, true, false, not, ◌&&◌, ◌||◌, nat_le, Result, Ok, Err, List, [], Option, Some, None, length, is_some, refl, sym, subst, ◌∙◌, arith}
-use Rattle.std.specs.Prelude.{All, map, IfOk, OnErr, OnOk}
+use Rattle.std.specs.Prelude.{All, map, slice_set, IfOk, OnErr, OnOk}
 use Rattle.std.proofs.lemmas.Bool.Decides.{nat_tests}
-use Rattle.std.proofs.lemmas.List.Elements.{All-weaker, All-filter, All-push}
+use Rattle.std.proofs.lemmas.List.Elements.{All-weaker, All-filter, All-push, All-set}
 use Rattle.ptl_types.specs.declared.handles.Handle.{Handle}
 use Rattle.ptl_types.specs.declared.handles.Count.{Count}
 use Rattle.ptl_types.specs.declared.calls.Limits.{Limits}
@@ -24,6 +24,7 @@ use Rattle.ni_model.specs.Refusals.{bind_fault, triggered_fault, deed_passes}
 use Rattle.ni_model.specs.State.{Operations as Posts}
 use Rattle.ptl_types.specs.Filled.{Filled}
 use Rattle.ni_model.specs.Queues.{Waiting}
+use Rattle.ni_model.specs.Lists.{Index}
 use Rattle.ni_model.specs.Headers.{held}
 use Rattle.ni_model.specs.Arrive.{Side, Parts, parts}
 use Rattle.ni_model.specs.Answers.{home}
@@ -105,11 +106,11 @@ fewer-sound t r c i ops left is fewer = record {
   told = fewer (IsTold c) is.told;
 }
 
-need-later : (t : Bool) (f : NiFault) (later : Option NiFault) → need t f later ≡ None → later ≡ None
+pub need-later : (t : Bool) (f : NiFault) (later : Option NiFault) → need t f later ≡ None → later ≡ None
 need-later true f later e = e
 need-later false f later e = cc
 
-need-test : (t : Bool) (f : NiFault) (later : Option NiFault) → need t f later ≡ None → t ≡ true
+pub need-test : (t : Bool) (f : NiFault) (later : Option NiFault) → need t f later ≡ None → t ≡ true
 need-test true f later e = refl
 need-test false f later e = cc
 
@@ -187,11 +188,15 @@ there : {A : Type 0} (o : Option A) → is_some o ≡ true → (x : A) × (o ≡
 there None e = cc
 there (Some x) e = (x, refl)
 
-and-left : (a b : Bool) → a && b ≡ true → a ≡ true
+pub and-left : (a b : Bool) → a && b ≡ true → a ≡ true
 and-left true b e = refl
 and-left false b e = cc
 
-not-false : (b : Bool) → not b ≡ true → b ≡ false
+pub and-right : (a b : Bool) → a && b ≡ true → b ≡ true
+and-right true b e = e
+and-right false b e = cc
+
+pub not-false : (b : Bool) → not b ≡ true → b ≡ false
 not-false true e = cc
 not-false false e = refl
 
@@ -227,6 +232,12 @@ append-le pt e p none =
 pub appended-keeps : (pt : ℕ) (place : Place) (en : Entry) (p q : Parts) (answer : Appended) (ct : Option Handle) → All (HasPartsIn (length p.region)) p.side.indices → append_fault pt en p ≡ None → AppendsSome pt place en p (has_appended q answer ct) → Keeps p q ct
 appended-keeps pt place en p q answer ct all none is =
     subst (AppendKeeps p) (sym is.ended) (append-keeps is.slot pt place en p all (append-le pt en p none))
+
+-- an index that changed, and has its entries' parts in the region
+pub indices-sound : (t u : Side) (r : List ℕ) (c : Table Count) (i : Initiating) (ops : Operations Armed) (pt : ℕ) (o : Option Index) (res : Result (Unit {0}) NiFault) → HasPartsIn (length r) o → IsSound t r c i ops → OnErr res (u ≡ t) → OnOk res (u ≡ record t { indices = slice_set t.indices pt o }) → IsSound u r c i ops
+indices-sound t u r c i ops pt o (Ok x) has is unchanged made =
+    rw made (record { rank = is.rank; limit = is.limit; parts = All-set (HasPartsIn (length r)) t.indices pt o has is.parts; bound = is.bound; armed = is.armed; told = is.told })
+indices-sound t u r c i ops pt o (Err fault) has is unchanged made = rw unchanged is
 
 -- one entry fewer
 pub unlinked-sound : (t u : Side) (r : List ℕ) (c : Table Count) (i : Initiating) (ops : Operations Armed) (me : Handle) (res : Result (Unit {0}) NiFault) → IsSound t r c i ops → OnErr res (u ≡ t) → OnOk res (u ≡ record t { indices = map (unlinked_in me) t.indices }) → IsSound u r c i ops

@@ -8,3 +8,8 @@ pub mod Ends
 pub mod Firing
 pub mod Walks
 pub mod Equations
+pub mod Steady
+pub mod Leads
+pub mod Stands
+pub mod Freed
+pub mod Lasting

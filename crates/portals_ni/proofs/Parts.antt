@@ -1,8 +1,8 @@
--- Entries' parts stay in the region, through each change of the entries and of the region.
+-- What holds of each linked entry through each change of the entries, as that its part lies in the region; the region keeps its length.
 use Rattle.std.proofs.Common.{◌≡◌, ℕ, ◌+◌, ◌/◌, ◌≤◌, true, false, not, List, [], ◌∷◌, Option, Some, None, take, length, if◌then◌else◌, refl, arith, div-add-mod'}
 use Rattle.std.specs.Prelude.{All, map, replicate, slice_set}
 use Rattle.std.proofs.lemmas.List.{length-take}
-use Rattle.std.proofs.lemmas.List.Elements.{All-head, All-tail, All-cons, All-push, All-nil, All-filter, All-set, All-replicate}
+use Rattle.std.proofs.lemmas.List.Elements.{All-push, All-nil, All-filter, All-map, All-set, All-replicate, All-weaker}
 use Rattle.op_laws.proofs.Bytes.{length-written, length-by_element}
 use Rattle.ptl_types.specs.declared.handles.Handle.{Handle}
 use Rattle.ptl_types.specs.declared.headers.Header.{Header}
@@ -26,6 +26,7 @@ use Rattle.ni_model.specs.Calls.{new_index, unlinked_in}
 use Rattle.ni_model.specs.Conditions.{IsPartIn, HasPartsIn}
 use Rattle.target_engine.proofs.Exchanging.{place-within}
 use Rattle.target_engine.proofs.Within.{at_has}
+use Rattle.portals_ni.specs.Lasting.{HasEntries}
 
 -- ---- the region keeps its length
 
@@ -65,65 +66,102 @@ length-memory x m r part =
       | false ↦ refl
     ]
 
--- ---- the entries of one list
+-- ---- the entries of one list, and what holds of each of them
 
-advance-part : (n : ℕ) (me : Handle) (to : ℕ) (x : Linked) → IsPartIn n x → IsPartIn n (advance_one me to x)
-advance-part n me to x is = elim (same_handle x.handle me) as (λ b. IsPartIn n (if b then record x { running = to } else x)) [ true ↦ is | false ↦ is ]
+-- what holds of an entry wherever its running offset stands
+abbrev pub StaysAt : (Linked → Type 0) → Type 0
+StaysAt P = (x : Linked) (to : ℕ) → P x → P (record x { running = to })
 
-advanced-parts : (n : ℕ) (me : Handle) (to : ℕ) (xs : List Linked) → All (IsPartIn n) xs → All (IsPartIn n) (advanced me to xs)
-advanced-parts n me to [] all = all
-advanced-parts n me to (x ∷ xs) all = All-cons (IsPartIn n) (advance_one me to x) (advanced me to xs) (advance-part n me to x (All-head (IsPartIn n) x xs all)) (advanced-parts n me to xs (All-tail (IsPartIn n) x xs all))
+advanced-one : (P : Linked → Type 0) → StaysAt P → (me : Handle) (to : ℕ) (x : Linked) → P x → P (advance_one me to x)
+advanced-one P stays me to x is = elim (same_handle x.handle me) as (λ b. P (if b then record x { running = to } else x)) [ true ↦ stays x to is | false ↦ is ]
 
-entries-parts : (n : ℕ) (x : Linked) (h : Header) (xs : List Linked) → All (IsPartIn n) xs → All (IsPartIn n) (entries_after x h xs)
-entries-parts n x h xs all =
-    elim (is_over x h) as (λ b. All (IsPartIn n) (if b then unlinked x.handle xs else (if x.entry.manage_local then advanced x.handle (running_after x h) xs else xs))) [
-      | true ↦ All-filter (λ y. not (same_handle y.handle x.handle)) (IsPartIn n) xs all
-      | false ↦ elim x.entry.manage_local as (λ b. All (IsPartIn n) (if b then advanced x.handle (running_after x h) xs else xs)) [
-        | true ↦ advanced-parts n x.handle (running_after x h) xs all
+advanced-all : (P : Linked → Type 0) → StaysAt P → (me : Handle) (to : ℕ) (xs : List Linked) → All P xs → All P (advanced me to xs)
+advanced-all P stays me to xs all = All-map P (advance_one me to) xs (All-weaker P (λ x. P (advance_one me to x)) (λ x is. advanced-one P stays me to x is) xs all)
+
+entries-all : (P : Linked → Type 0) → StaysAt P → (x : Linked) (h : Header) (xs : List Linked) → All P xs → All P (entries_after x h xs)
+entries-all P stays x h xs all =
+    elim (is_over x h) as (λ b. All P (if b then unlinked x.handle xs else (if x.entry.manage_local then advanced x.handle (running_after x h) xs else xs))) [
+      | true ↦ All-filter (λ y. not (same_handle y.handle x.handle)) P xs all
+      | false ↦ elim x.entry.manage_local as (λ b. All P (if b then advanced x.handle (running_after x h) xs else xs)) [
+        | true ↦ advanced-all P stays x.handle (running_after x h) xs all
         | false ↦ all
       ]
     ]
 
--- ---- those of all indices
+-- ---- those of an index
 
-pub at-parts : (n pt : ℕ) (is : List (Option Index)) → All (HasPartsIn n) is → HasPartsIn n (index_at pt is)
-at-parts n pt is all = at_has (HasPartsIn n) is pt None all tt
-
-settled-parts : (n : ℕ) (f : Found) (h : Header) (o : Option Index) → HasPartsIn n o → HasPartsIn n (settled_at f h o)
-settled-parts n f h None has = tt
-settled-parts n f h (Some i) has =
-    elim f.list as (λ l. HasPartsIn n (Some (settled (record f { list = l }) h i))) [
-      | Priority ↦ (entries-parts n f.linked h i.priority has.0, has.1)
-      | Overflow ↦ (has.0, entries-parts n f.linked h i.overflow has.1)
+settled-entries : (P : Linked → Type 0) → StaysAt P → (f : Found) (h : Header) (o : Option Index) → HasEntries P o → HasEntries P (settled_at f h o)
+settled-entries P stays f h None has = tt
+settled-entries P stays f h (Some i) has =
+    elim f.list as (λ l. HasEntries P (Some (settled (record f { list = l }) h i))) [
+      | Priority ↦ (entries-all P stays f.linked h i.priority has.0, has.1)
+      | Overflow ↦ (has.0, entries-all P stays f.linked h i.overflow has.1)
     ]
 
-pub indices-parts : (n : ℕ) (f : Found) (h : Header) (is : List (Option Index)) → All (HasPartsIn n) is → All (HasPartsIn n) (indices_after f h is)
-indices-parts n f h is all = All-set (HasPartsIn n) is h.pt (settled_at f h (index_at h.pt is)) (settled-parts n f h (index_at h.pt is) (at-parts n h.pt is all)) all
+linked-entries : (P : Linked → Type 0) (place : Place) (x : Linked) (o : Option Index) → P x → HasEntries P o → HasEntries P (linked_at place x o)
+linked-entries P place x None is has = tt
+linked-entries P Priority x (Some i) is has = (All-push P i.priority x has.0 is, has.1)
+linked-entries P Overflow x (Some i) is has = (has.0, All-push P i.overflow x has.1 is)
 
-linked-parts : (n : ℕ) (place : Place) (x : Linked) (o : Option Index) → IsPartIn n x → HasPartsIn n o → HasPartsIn n (linked_at place x o)
-linked-parts n place x None is has = tt
-linked-parts n Priority x (Some i) is has = (All-push (IsPartIn n) i.priority x has.0 is, has.1)
-linked-parts n Overflow x (Some i) is has = (has.0, All-push (IsPartIn n) i.overflow x has.1 is)
+unlinked-entries : (P : Linked → Type 0) (me : Handle) (o : Option Index) → HasEntries P o → HasEntries P (unlinked_in me o)
+unlinked-entries P me None has = tt
+unlinked-entries P me (Some i) has = (All-filter (λ y. not (same_handle y.handle me)) P i.priority has.0, All-filter (λ y. not (same_handle y.handle me)) P i.overflow has.1)
 
--- one entry more
-pub append-parts : (n pt : ℕ) (place : Place) (x : Linked) (is : List (Option Index)) → IsPartIn n x → All (HasPartsIn n) is → All (HasPartsIn n) (slice_set is pt (linked_at place x (index_at pt is)))
-append-parts n pt place x is part all = All-set (HasPartsIn n) is pt (linked_at place x (index_at pt is)) (linked-parts n place x (index_at pt is) part (at-parts n pt is all)) all
+-- ---- those of all indices
+
+at-entries : (P : Linked → Type 0) (pt : ℕ) (is : List (Option Index)) → All (HasEntries P) is → HasEntries P (index_at pt is)
+at-entries P pt is all = at_has (HasEntries P) is pt None all tt
+
+-- behind a request
+pub indices-entries : (P : Linked → Type 0) → StaysAt P → (f : Found) (h : Header) (is : List (Option Index)) → All (HasEntries P) is → All (HasEntries P) (indices_after f h is)
+indices-entries P stays f h is all = All-set (HasEntries P) is h.pt (settled_at f h (index_at h.pt is)) (settled-entries P stays f h (index_at h.pt is) (at-entries P h.pt is all)) all
+
+-- one entry more, and one fewer
+pub append-entries : (P : Linked → Type 0) (pt : ℕ) (place : Place) (x : Linked) (is : List (Option Index)) → P x → All (HasEntries P) is → All (HasEntries P) (slice_set is pt (linked_at place x (index_at pt is)))
+append-entries P pt place x is new all = All-set (HasEntries P) is pt (linked_at place x (index_at pt is)) (linked-entries P place x (index_at pt is) new (at-entries P pt is all)) all
+
+pub unlink-entries : (P : Linked → Type 0) (me : Handle) (is : List (Option Index)) → All (HasEntries P) is → All (HasEntries P) (map (unlinked_in me) is)
+unlink-entries P me is all = All-map (HasEntries P) (unlinked_in me) is (All-weaker (HasEntries P) (λ o. HasEntries P (unlinked_in me o)) (λ o has. unlinked-entries P me o has) is all)
 
 -- one index more, and one fewer
-pub new-parts : (n pt : ℕ) (eq : Option Handle) (is : List (Option Index)) → All (HasPartsIn n) is → All (HasPartsIn n) (slice_set is pt (Some (new_index eq)))
-new-parts n pt eq is all = All-set (HasPartsIn n) is pt (Some (new_index eq)) (All-nil (IsPartIn n), All-nil (IsPartIn n)) all
+pub new-entries : (P : Linked → Type 0) (pt : ℕ) (eq : Option Handle) (is : List (Option Index)) → All (HasEntries P) is → All (HasEntries P) (slice_set is pt (Some (new_index eq)))
+new-entries P pt eq is all = All-set (HasEntries P) is pt (Some (new_index eq)) (All-nil P, All-nil P) all
 
-pub freed-parts : (n pt : ℕ) (is : List (Option Index)) → All (HasPartsIn n) is → All (HasPartsIn n) (slice_set is pt None)
-freed-parts n pt is all = All-set (HasPartsIn n) is pt None tt all
+pub freed-entries : (P : Linked → Type 0) (pt : ℕ) (is : List (Option Index)) → All (HasEntries P) is → All (HasEntries P) (slice_set is pt None)
+freed-entries P pt is all = All-set (HasEntries P) is pt None tt all
 
-unlinked-parts : (n : ℕ) (me : Handle) (o : Option Index) → HasPartsIn n o → HasPartsIn n (unlinked_in me o)
-unlinked-parts n me None has = tt
-unlinked-parts n me (Some i) has = (All-filter (λ y. not (same_handle y.handle me)) (IsPartIn n) i.priority has.0, All-filter (λ y. not (same_handle y.handle me)) (IsPartIn n) i.overflow has.1)
+pub none-entries : (P : Linked → Type 0) (pts : ℕ) → All (HasEntries P) (replicate pts None)
+none-entries P pts = All-replicate (HasEntries P) pts None tt
 
--- one entry fewer
+-- what follows for each entry
+pub weaker-entries : (P Q : Linked → Type 0) → ((x : Linked) → P x → Q x) → (o : Option Index) → HasEntries P o → HasEntries Q o
+weaker-entries P Q weaker None has = tt
+weaker-entries P Q weaker (Some i) has = (All-weaker P Q weaker i.priority has.0, All-weaker P Q weaker i.overflow has.1)
+
+-- ---- parts in the region
+
+one-from : (n : ℕ) (o : Option Index) → HasPartsIn n o → HasEntries (IsPartIn n) o
+one-from n None has = tt
+one-from n (Some i) has = has
+
+one-to : (n : ℕ) (o : Option Index) → HasEntries (IsPartIn n) o → HasPartsIn n o
+one-to n None has = tt
+one-to n (Some i) has = has
+
+from : (n : ℕ) (is : List (Option Index)) → All (HasPartsIn n) is → All (HasEntries (IsPartIn n)) is
+from n is all = All-weaker (HasPartsIn n) (HasEntries (IsPartIn n)) (one-from n) is all
+
+to : (n : ℕ) (is : List (Option Index)) → All (HasEntries (IsPartIn n)) is → All (HasPartsIn n) is
+to n is all = All-weaker (HasEntries (IsPartIn n)) (HasPartsIn n) (one-to n) is all
+
+pub indices-parts : (n : ℕ) (f : Found) (h : Header) (is : List (Option Index)) → All (HasPartsIn n) is → All (HasPartsIn n) (indices_after f h is)
+indices-parts n f h is all = to n (indices_after f h is) (indices-entries (IsPartIn n) (λ x at is. is) f h is (from n is all))
+
+pub append-parts : (n pt : ℕ) (place : Place) (x : Linked) (is : List (Option Index)) → IsPartIn n x → All (HasPartsIn n) is → All (HasPartsIn n) (slice_set is pt (linked_at place x (index_at pt is)))
+append-parts n pt place x is part all = to n (slice_set is pt (linked_at place x (index_at pt is))) (append-entries (IsPartIn n) pt place x is part (from n is all))
+
 pub unlink-parts : (n : ℕ) (me : Handle) (is : List (Option Index)) → All (HasPartsIn n) is → All (HasPartsIn n) (map (unlinked_in me) is)
-unlink-parts n me [] all = all
-unlink-parts n me (o ∷ is) all = All-cons (HasPartsIn n) (unlinked_in me o) (map (unlinked_in me) is) (unlinked-parts n me o (All-head (HasPartsIn n) o is all)) (unlink-parts n me is (All-tail (HasPartsIn n) o is all))
+unlink-parts n me is all = to n (map (unlinked_in me) is) (unlink-entries (IsPartIn n) me is (from n is all))
 
 pub none-parts : (n pts : ℕ) → All (HasPartsIn n) (replicate pts None)
-none-parts n pts = All-replicate (HasPartsIn n) pts None tt
+none-parts n pts = to n (replicate pts None) (none-entries (IsPartIn n) pts)

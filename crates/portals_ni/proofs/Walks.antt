@@ -19,7 +19,7 @@ use Rattle.portals_ni.specs.declared.armed.Armed.{Armed}
 use Rattle.portals_ni.specs.Pendings.{deed_in}
 use Rattle.portals_ni.specs.Sound.{IsArmed, IsTold, IsSound}
 use Rattle.portals_ni.proofs.Counts.{lookup-without}
-use Rattle.portals_ni.proofs.Homes.{fits-on, holds-without, skips-md, bound-without}
+use Rattle.portals_ni.proofs.Homes.{neither, fits-on, holds-without, skips-md, bound-without}
 
 -- a test of what an operation names
 abbrev pub Test : Type 0
@@ -101,11 +101,6 @@ ct-named ct [] = refl
 ct-named ct (w ∷ ws) = rw (ct-named ct ws) refl
 
 -- ---- what none of them names may go
-
-neither : (a b : Bool) → a || b ≡ false → (a ≡ false) × (b ≡ false)
-neither true b e = cc
-neither false true e = cc
-neither false false e = (refl, refl)
 
 armed-without : (md : Handle) (mds : Table Bound) (ranks : ℕ) (limits : Limits) (ws : List (Operation Armed)) → operation_names_md md (map (posted deed_in) ws) ≡ false → All (λ w. IsArmed mds ranks limits w.deed) ws → All (λ w. IsArmed (without md mds) ranks limits w.deed) ws
 armed-without md mds ranks limits [] none all = All-nil (λ (w : Operation Armed). IsArmed (without md mds) ranks limits w.deed)

@@ -1,3 +1,4 @@
 pub mod Pendings
+pub mod Lasting
 pub mod Sound
 pub mod Answers

@@ -14,6 +14,7 @@ use Rattle.initiator_engine.specs.Initiators.{Initiating, AreBoundIn, room_for}
 use Rattle.triggered_ops.specs.Operations.{Operation, Operations, posted_all}
 use Rattle.portals_ni.specs.declared.armed.Armed.{Armed}
 use Rattle.portals_ni.specs.Pendings.{deed_in}
+use Rattle.portals_ni.specs.Lasting.{HasLimits, SumsFit, NamesLive}
 
 -- the model's state of the parts: of the pending operations, not what they were told, nor their room
 abbrev pub state_of : Side → List ℕ → Table Count → Table Waiting → Initiating → Operations Armed → ℕ → ℕ → State
@@ -55,3 +56,17 @@ pub record IsSound (t : Side) (memory : List ℕ) (cts : Table Count) (i : Initi
   -- every pending operation can be fired, and knows how far its counting event is
   pub armed : All (λ w. IsArmed i.mds i.ranks i.limits w.deed) ops.waiting
   pub told : All (IsTold cts) ops.waiting
+
+-- and of its whole state
+pub record Stands (s : State) : Type 0 where
+  -- each table has its limit
+  pub limits : HasLimits s
+  -- the sums of counting events are within the range
+  pub sums : SumsFit s.cts
+  -- what is named is live
+  pub names : NamesLive s
+
+-- both
+pub record IsWhole (t : Side) (memory : List ℕ) (cts : Table Count) (eqs : Table Waiting) (i : Initiating) (ops : Operations Armed) (drops violations : ℕ) : Type 0 where
+  pub sound : IsSound t memory cts i ops
+  pub stands : Stands (state_of t memory cts eqs i ops drops violations)

@@ -3,6 +3,7 @@
 ghost use Rattle.std.specs.Prelude.{◌≡◌, ◌<◌, ◌≤◌, ◌+◌, IfOk, length};
 ghost use Rattle.ni_model.specs.State.{opened};
 ghost use Rattle.ni_model.specs.Calls.{write_memory as memory_written};
+ghost use Rattle.portals_ni.specs.Lasting.{HasLimits, Lasts};
 
 use crate::armed::Armed;
 use counters::Counter;
@@ -35,11 +36,11 @@ impl Model for Nic {
 
     ghost Value = { State };
 
-    ghost use Rattle.portals_ni.specs.Sound.{IsSound, state_of};
+    ghost use Rattle.portals_ni.specs.Sound.{IsWhole, state_of};
 
     ghost view = { λ n. state_of n.target n.region n.cts n.eqs n.initiator n.pending n.drops n.violations };
 
-    ghost invariant = { λ n. IsSound n.target n.region n.cts n.initiator n.pending };
+    ghost invariant = { λ n. IsWhole n.target n.region n.cts n.eqs n.initiator n.pending n.drops n.violations };
 }
 
 impl Nic {
@@ -89,9 +90,10 @@ impl Nic {
         self.initiator.ranks()
     }
 
-    /// The actual limits, which are those that were asked for.
+    /// The actual limits, which are those that were asked for, and stand in each table.
     pub fn limits(&self) -> &Limits
-        ensures { result.now ≡ self.now.limits }
+        ensures told { result.now ≡ self.now.limits }
+        ensures stand { HasLimits self.now }
     {
         self.initiator.limits()
     }
@@ -126,9 +128,11 @@ impl Nic {
         self.violations
     }
 
-    /// How many triggered operations are pending.
+    /// How many triggered operations are pending. `kept` is what holds of an interface whatever calls were made: a caller has it
+    /// without following them.
     pub fn pending(&self) -> u32
-        ensures { result ≡ length self.now.pending.waiting }
+        ensures count { result ≡ length self.now.pending.waiting }
+        ensures kept { Lasts self.now }
     {
         self.pending.len()
     }

@@ -11,6 +11,7 @@ use Rattle.portals_ni.specs.Sound.{IsSound}
 use Rattle.portals_ni.proofs.Kept.{post-sound, posts-armed, posts-live, may-start}
 use Rattle.portals_ni.proofs.Ends.{no-fault, fault-is, enough-refused, lacks}
 use Rattle.portals_ni.proofs.Equations.{post-may}
+use Rattle.portals_ni.proofs.Stands.{may-stands, triggered-stands}
 use Rattle.portals_ni.proofs.nic.Nic.triggered.Goals as goal
 
 pub returns-in_err-check_triggered : goal.returns-in_err-check_triggered
@@ -26,13 +27,16 @@ invariant_of-self c =
     let n = c.self.inside in
     let armed : Armed = record { deed = c.args.deed; room = c.in-Ok.room } in
     let none : triggered_fault c.args.deed c.args.ct n.cts n.initiator.mds (posted_all deed_in n.pending) ≡ None = no-fault _ (sym c.check_triggered.ensures ∙ c.in_ok-check_triggered.was) in
-    let may : MayStart c.args.deed n.initiator.ranks n.initiator.limits = may-start c.args.deed n.initiator.ranks n.target.limit n.initiator.limits c.self.invariant.limit (subst (λ (s : State). MayStart c.args.deed s.ranks s.limits) (sym c.self.view_is) c.requires) in
+    let may : MayStart c.args.deed n.initiator.ranks n.initiator.limits = may-start c.args.deed n.initiator.ranks n.target.limit n.initiator.limits c.self.invariant.sound.limit (subst (λ (s : State). MayStart c.args.deed s.ranks s.limits) (sym c.self.view_is) c.requires) in
     let room : room_for c.args.deed ≤ c.in-Ok.room.room = rw (c.in-Ok.ensures, c.room_for.ensures) (omega arith) in
     let live = posts-live c.args.deed c.args.ct n.cts n.initiator.mds (posted_all deed_in n.pending) none in
     let told : c.tell_new.new.pending ≡ told_new n.pending.given c.args.ct n.cts (with_posted armed c.args.ct c.args.threshold n.pending) = c.tell_new.ensures ∙ rw (c.in-Ok-post.ensures.number, c.in-Ok-post.ensures.ok) refl in
     let fresh : operation_at n.pending.given n.pending ≡ None = subst (λ (t : ℕ). operation_at t n.pending ≡ None) c.in-Ok-post.ensures.number c.in-Ok-post.ensures.fresh in
-    subst (IsSound n.target n.region n.cts n.initiator) (sym told)
-    (post-sound n.target n.region n.cts n.initiator n.pending armed c.args.ct c.args.threshold live.0 c.self.invariant (posts-armed c.args.deed c.args.ct n.cts n.initiator.mds (posted_all deed_in n.pending) n.initiator.ranks n.initiator.limits c.in-Ok.room none may room) live.1 fresh)
+    let may-be = post-may n.target n.region n.cts n.eqs n.initiator n.pending n.drops n.violations c.args.deed c.args.ct c.args.threshold n.pending.given armed c.tell_new.new.pending none refl refl told in
+    record {
+      sound = subst (IsSound n.target n.region n.cts n.initiator) (sym told) (post-sound n.target n.region n.cts n.initiator n.pending armed c.args.ct c.args.threshold live.0 c.self.invariant.sound (posts-armed c.args.deed c.args.ct n.cts n.initiator.mds (posted_all deed_in n.pending) n.initiator.ranks n.initiator.limits c.in-Ok.room none may room) live.1 fresh);
+      stands = may-stands _ _ _ _ may-be c.self.invariant.stands (triggered-stands c.args.deed c.args.ct c.args.threshold _ c.self.invariant.stands);
+    }
 
 pub returns-in-Ok-post : goal.returns-in-Ok-post
 returns-in-Ok-post c =
