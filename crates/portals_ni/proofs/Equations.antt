@@ -22,7 +22,7 @@ use Rattle.ni_model.specs.Arrive.{Side, parts, received, request}
 use Rattle.ni_model.specs.Answers.{home, answered}
 use Rattle.ni_model.specs.Starts.{started}
 use Rattle.ni_model.specs.Append.{append_fault, is_allocated, search}
-use Rattle.ni_model.specs.State.{State, parts_of, with_parts, home_of, with_home, drops_after, violations_after, after_request, after_answer}
+use Rattle.ni_model.specs.State.{State, parts_of, home_of, with_home, drops_after, violations_after, after_request, after_answer}
 use Rattle.ni_model.specs.Ready.{Fires, fires, fired}
 use Rattle.ni_model.specs.Refusals.{pt_alloc_fault, ct_set_fault, ct_inc_fault, alloc_fault, unlink_fault, bind_fault, deed_fault, deed_passes, triggered_fault, md_names_ct, md_names_eq, index_names_ct, index_names_eq, operation_names_ct}
 use Rattle.ni_model.specs.Calls.{ends, Makes, MayLackMemory, enough, lacking, AnswersReady, new_index, bound, ct_alloc, ct_free, eq_free, ct_set, ct_inc, ct_cancel, eq_alloc, eq_get, md_bind, entry_slot, unlinked_in, me_append, me_unlink, me_search, pt_alloc, start, triggered}
@@ -63,9 +63,6 @@ module _ (t : Side) (r : List ℕ) (c : Table Count) (e : Table Waiting) (i : In
       let ranks : j.ranks ≡ i.ranks = ap (λ (x : Initiating). x.ranks) rest in
       let limits : j.limits ≡ i.limits = ap (λ (x : Initiating). x.limits) rest in
       rw (told-forgotten ct k ops left told, ranks, limits) refl
-
-  pub target-state : (u : Side) (s : List ℕ) (k : Table Count) (f : Table Waiting) (left : Operations Armed) (ct : Option Handle) → u.rank ≡ t.rank → u.limit ≡ t.limit → left ≡ told_by ct k ops → state_of u s k f i left d v ≡ with_parts (parts u s k f) before
-  target-state u s k f left ct rank limit told = rw (told-forgotten ct k ops left told, rank, limit) refl
 
   -- ---- counting events
 

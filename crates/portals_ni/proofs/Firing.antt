@@ -16,10 +16,9 @@ use Rattle.ni_model.specs.State.{State, Posted, home_of, with_home}
 use Rattle.ni_model.specs.Ready as model
 use Rattle.ni_model.specs.Ready.{is_reached, is_ready_op, fires, done, fired_op, fired}
 use Rattle.ni_model.specs.Starts.{started}
-use Rattle.ni_model.specs.Refusals.{no_number}
 use Rattle.target_engine.proofs.Within.{find_has}
 use Rattle.initiator_engine.specs.Initiators.{is_start}
-use Rattle.triggered_ops.specs.Operations.{Operation, Operations, is_full, is_number, waits_on, deed_of, operation_at, is_due_op, is_ready, with_posted, told_if, without_number, waiting_on, cancelled, posted, posted_all}
+use Rattle.triggered_ops.specs.Operations.{Operation, Operations, is_number, waits_on, deed_of, operation_at, is_due_op, is_ready, with_posted, told_if, without_number, waiting_on, cancelled, posted, posted_all}
 use Rattle.portals_ni.specs.declared.armed.Armed.{Armed}
 use Rattle.portals_ni.specs.Answers.{deed_counts}
 use Rattle.portals_ni.specs.Pendings.{deed_in, tell_new, told_new}
@@ -70,9 +69,6 @@ map-push (v ∷ ws) w = rw (map-push ws w) refl
 
 pub posted-push : (a : Armed) (ct : Handle) (threshold : ℕ) (ops : Ops) → posted_all deed_in (with_posted a ct threshold ops) ≡ model.with_posted a.deed ct threshold (posted_all deed_in ops)
 posted-push a ct threshold ops = rw (map-push ops.waiting _) refl
-
-pub full-is : (ops : Ops) → is_full ops ≡ no_number (posted_all deed_in ops)
-full-is ops = rw (length-posted ops.waiting) refl
 
 -- ---- readiness
 

@@ -1,5 +1,5 @@
 -- What an interface keeps, through each of its calls.
-use Rattle.std.proofs.Common.{◌≡◌, ℕ, ◌+◌, ◌≤◌, Bool, true, false, not, ◌&&◌, ◌||◌, nat_le, Result, Ok, Err, List, [], Option, Some, None, length, is_some, refl, sym, subst, ◌∙◌, arith}
+use Rattle.std.proofs.Common.{◌≡◌, ℕ, ◌+◌, ◌≤◌, Bool, true, false, not, ◌&&◌, ◌||◌, nat_le, Result, Ok, Err, List, Option, Some, None, length, is_some, refl, sym, subst, ◌∙◌, arith}
 use Rattle.std.specs.Prelude.{All, map, slice_set, IfOk, OnErr, OnOk}
 use Rattle.std.proofs.lemmas.Bool.Decides.{nat_tests}
 use Rattle.std.proofs.lemmas.List.Elements.{All-weaker, All-filter, All-push, All-set}
@@ -15,7 +15,7 @@ use Rattle.ptl_types.specs.Handles.{top}
 use Rattle.ptl_types.specs.declared.calls.Deed.{Deed}
 use Rattle.ptl_types.specs.declared.calls.Deed.TheVariants.{Put, Get, Atomic, FetchAtomic, Swap, Inc, Set}
 use Rattle.ni_model.specs.declared.Bound.{Bound}
-use Rattle.ni_model.specs.Tables.{Table, lookup, no_things, with_new, is_live_or_none}
+use Rattle.ni_model.specs.Tables.{Table, lookup, with_new, is_live_or_none}
 use Rattle.ptl_types.specs.declared.entries.List.{List as Place}
 use Rattle.ptl_types.specs.declared.calls.Appended.{Appended}
 use Rattle.ni_model.specs.Append.{Searched, need, search, is_within, is_allocated, linked_count, append_fault}
@@ -25,35 +25,22 @@ use Rattle.ni_model.specs.State.{Operations as Posts}
 use Rattle.ptl_types.specs.Filled.{Filled}
 use Rattle.ni_model.specs.Queues.{Waiting}
 use Rattle.ni_model.specs.Lists.{Index}
-use Rattle.ni_model.specs.Headers.{held}
 use Rattle.ni_model.specs.Arrive.{Side, Parts, parts}
 use Rattle.ni_model.specs.Answers.{home}
 use Rattle.ni_model.specs.Conditions.{HasPartsIn, IsBoundIn, MayStart}
-use Rattle.initiator_engine.specs.Initiators.{Initiating, initiating, with_mds, room_for}
-use Rattle.target_engine.specs.Sides.{side, has_searched, has_appended, AppendsSome}
-use Rattle.triggered_ops.specs.Operations.{Operation, Operations, no_operations, operation_at, is_number, waits_on, with_posted, without_number, cancelled}
+use Rattle.initiator_engine.specs.Initiators.{Initiating, with_mds, room_for}
+use Rattle.target_engine.specs.Sides.{has_searched, has_appended, AppendsSome}
+use Rattle.triggered_ops.specs.Operations.{Operation, Operations, operation_at, is_number, waits_on, with_posted, without_number, cancelled}
 use Rattle.portals_ni.specs.declared.armed.Armed.{Armed}
 use Rattle.portals_ni.specs.Answers.{deed_counts, deed_counter}
 use Rattle.portals_ni.specs.Pendings.{told_by, told_new}
 use Rattle.portals_ni.specs.Sound.{IsArmed, IsTold, IsSound}
 use Rattle.portals_ni.proofs.Counts.{ChangesAt, changes-none, changes-one, changes-counted, changes-new}
-use Rattle.portals_ni.proofs.Parts.{none-parts, unlink-parts}
+use Rattle.portals_ni.proofs.Parts.{unlink-parts}
 use Rattle.portals_ni.proofs.Targets.{Keeps, search-keeps, AppendKeeps, append-keeps}
 use Rattle.portals_ni.proofs.Homes.{HoldsOn, skips_none, skips-none, fits-on, holds-push, bound-push, KeepsHome}
 use Rattle.portals_ni.proofs.Told.{all-told, deeds-told_by}
 use Rattle.portals_ni.proofs.Firing.{post-told, deeds-new}
-use Rattle.std.specs.Prelude.{replicate}
-
--- a new interface
-pub opened-sound : (rank ranks : ℕ) (limits : Limits) (memory : List ℕ) → IsSound (side rank limits.entries (replicate limits.pts None) 0 (held [] limits.unexpected)) memory (no_things limits.cts) (initiating rank ranks limits (no_things limits.mds)) (no_operations limits.triggered)
-opened-sound rank ranks limits memory = record {
-  rank = refl;
-  limit = refl;
-  parts = none-parts (length memory) limits.pts;
-  bound = λ k d lt. absurd (omega arith);
-  armed = λ k d lt. absurd (omega arith);
-  told = λ k d lt. absurd (omega arith);
-}
 
 -- what was armed stays so where the descriptors hold what they held
 pub still-armed : (old new : Table Bound) (ranks : ℕ) (limits : Limits) (ws : List (Operation Armed)) → HoldsOn skips_none old new → All (λ w. IsArmed old ranks limits w.deed) ws → All (λ w. IsArmed new ranks limits w.deed) ws

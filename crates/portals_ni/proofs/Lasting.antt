@@ -1,6 +1,5 @@
 -- What an interface tells of its state, from what it keeps of its parts.
-use Rattle.std.proofs.Common.{◌≡◌, ◌<◌, ◌≤◌, ℕ, List, subst}
-use Rattle.std.specs.Prelude.{All, AllPairs, map}
+use Rattle.std.proofs.Common.{◌≡◌, ◌<◌, ℕ, List, subst}
 use Rattle.std.proofs.lemmas.List.Elements.{All-map, All-weaker}
 use Rattle.ptl_types.specs.declared.handles.Count.{Count}
 use Rattle.ptl_types.specs.declared.calls.Limits.{Limits}

@@ -1,5 +1,5 @@
 -- What one state leads to another by: limits stay, what is live stays live, sums fit, and what is named anew is live.
-use Rattle.std.proofs.Common.{◌≡◌, ℕ, ◌&&◌, ◌||◌, Bool, true, false, List, [], ◌∷◌, Option, Some, None, length, if◌then◌else◌, refl, sym, ap, ◌∙◌}
+use Rattle.std.proofs.Common.{◌≡◌, ℕ, ◌&&◌, ◌||◌, Bool, true, false, List, [], Option, Some, None, length, if◌then◌else◌, refl, sym, ap, ◌∙◌}
 use Rattle.std.specs.Prelude.{All, slice_set}
 use Rattle.std.proofs.lemmas.List.{length-set}
 use Rattle.std.proofs.lemmas.List.Elements.{All-map, All-set, All-weaker}
@@ -11,7 +11,6 @@ use Rattle.ptl_types.specs.declared.entries.List.TheVariants.{Priority, Overflow
 use Rattle.ptl_types.specs.declared.events.EventKind.TheVariants.{Search}
 use Rattle.ptl_types.specs.declared.calls.Limits.{Limits}
 use Rattle.ptl_types.specs.declared.calls.Deed.{Deed}
-use Rattle.ptl_types.specs.declared.calls.Outcome.{Outcome}
 use Rattle.ptl_types.specs.declared.calls.Outcome.TheVariants.{Dropped, Violation}
 use Rattle.ptl_types.specs.declared.handles.Count.{Count}
 use Rattle.ptl_types.specs.Handles.{same_handle}
@@ -21,17 +20,16 @@ use Rattle.ni_model.specs.declared.Found.{Found}
 use Rattle.ni_model.specs.declared.Linked.{Linked}
 use Rattle.ni_model.specs.declared.Noted.{Noted}
 use Rattle.ni_model.specs.Tables.{Live, Table, change_one, changed, is_live_or_none}
-use Rattle.ni_model.specs.Counts.{successes, counted}
+use Rattle.ni_model.specs.Counts.{successes}
 use Rattle.ni_model.specs.Queues.{Waiting, raised}
 use Rattle.ni_model.specs.Lists.{Index, index_at, queue_of}
 use Rattle.ni_model.specs.Headers.{Held, allows, no_room, oldest, found_in, left_in, without_oldest}
 use Rattle.ni_model.specs.Events.{message_event, unlink_event, kind_delivered, link_event, header_event, kind_taken, missed_event, is_reply, asks_event, answer_event, send_event}
-use Rattle.ni_model.specs.Arrive.{Parts, parts, Received, received, refused, request, judged, accepted, chosen, is_overflow, is_over, counter_of, delivered, place, settled_at, settled, headers_after, delivery_raised, events_after}
+use Rattle.ni_model.specs.Arrive.{Parts, Received, received, refused, request, judged, accepted, chosen, is_overflow, is_over, counter_of, delivered, place, settled_at, settled, headers_after, delivery_raised, events_after}
 use Rattle.ni_model.specs.Answers.{Home, Returned, answered, answered_at, bound_at, came_home, lost_answer, is_due, counter_home, one_answer, awaits_less, one_less, events_home}
-use Rattle.ni_model.specs.Starts.{Started, started, started_by, header_of, awaits_more, one_awaited, send_counter, send_queue, counted_on}
-use Rattle.ni_model.specs.Append.{Appends, append, append_once, linked_as, linked_at, fresh, next_handle, queue_at, take_all, with_noted, overflow_counter, gone_raised, Searched, search, searched_at, found_header}
-use Rattle.ni_model.specs.Calls.{unlinked_in}
-use Rattle.ni_model.specs.State.{State, parts_of, with_parts, home_of, with_home, noted}
+use Rattle.ni_model.specs.Starts.{started, started_by, header_of, awaits_more, one_awaited, send_counter, send_queue, counted_on}
+use Rattle.ni_model.specs.Append.{Appends, append, append_once, linked_as, linked_at, fresh, next_handle, queue_at, take_all, overflow_counter, search, searched_at, found_header}
+use Rattle.ni_model.specs.State.{State, parts_of, with_parts, home_of, with_home}
 use Rattle.target_engine.proofs.Within.{at_has}
 use Rattle.portals_ni.specs.Lasting.{HasEntries, EntryIsLive, QueueIsLive, BoundIsLive, OperationIsLive}
 use Rattle.portals_ni.specs.Sound.{Stands}

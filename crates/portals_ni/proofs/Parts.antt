@@ -1,8 +1,8 @@
 -- What holds of each linked entry through each change of the entries, as that its part lies in the region; the region keeps its length.
-use Rattle.std.proofs.Common.{◌≡◌, ℕ, ◌+◌, ◌/◌, ◌≤◌, true, false, not, List, [], ◌∷◌, Option, Some, None, take, length, if◌then◌else◌, refl, arith, div-add-mod'}
-use Rattle.std.specs.Prelude.{All, map, replicate, slice_set}
+use Rattle.std.proofs.Common.{◌≡◌, ℕ, ◌+◌, ◌/◌, ◌≤◌, true, false, not, List, Option, Some, None, take, length, if◌then◌else◌, refl, arith, div-add-mod'}
+use Rattle.std.specs.Prelude.{All, map, slice_set}
 use Rattle.std.proofs.lemmas.List.{length-take}
-use Rattle.std.proofs.lemmas.List.Elements.{All-push, All-nil, All-filter, All-map, All-set, All-replicate, All-weaker}
+use Rattle.std.proofs.lemmas.List.Elements.{All-push, All-nil, All-filter, All-map, All-set, All-weaker}
 use Rattle.op_laws.proofs.Bytes.{length-written, length-by_element}
 use Rattle.ptl_types.specs.declared.handles.Handle.{Handle}
 use Rattle.ptl_types.specs.declared.headers.Header.{Header}
@@ -130,9 +130,6 @@ new-entries P pt eq is all = All-set (HasEntries P) is pt (Some (new_index eq)) 
 pub freed-entries : (P : Linked → Type 0) (pt : ℕ) (is : List (Option Index)) → All (HasEntries P) is → All (HasEntries P) (slice_set is pt None)
 freed-entries P pt is all = All-set (HasEntries P) is pt None tt all
 
-pub none-entries : (P : Linked → Type 0) (pts : ℕ) → All (HasEntries P) (replicate pts None)
-none-entries P pts = All-replicate (HasEntries P) pts None tt
-
 -- what follows for each entry
 pub weaker-entries : (P Q : Linked → Type 0) → ((x : Linked) → P x → Q x) → (o : Option Index) → HasEntries P o → HasEntries Q o
 weaker-entries P Q weaker None has = tt
@@ -162,6 +159,3 @@ append-parts n pt place x is part all = to n (slice_set is pt (linked_at place x
 
 pub unlink-parts : (n : ℕ) (me : Handle) (is : List (Option Index)) → All (HasPartsIn n) is → All (HasPartsIn n) (map (unlinked_in me) is)
 unlink-parts n me is all = to n (map (unlinked_in me) is) (unlink-entries (IsPartIn n) me is (from n is all))
-
-pub none-parts : (n pts : ℕ) → All (HasPartsIn n) (replicate pts None)
-none-parts n pts = to n (replicate pts None) (none-entries (IsPartIn n) pts)

@@ -1,15 +1,14 @@
 -- What each call leaves of the limits, the sums and the live names of a state, as the model has the call.
-use Rattle.std.proofs.Common.{◌≡◌, ℕ, ◌≤◌, ◌&&◌, ◌||◌, Bool, true, false, not, List, [], ◌∷◌, Option, Some, None, Result, Ok, Err, length, refl, sym, ap, subst, ◌∙◌, arith}
+use Rattle.std.proofs.Common.{◌≡◌, ℕ, ◌≤◌, ◌&&◌, Bool, true, false, not, List, [], Option, Some, None, Result, Ok, Err, length, refl, sym, ap, subst, ◌∙◌, arith}
 use Rattle.std.specs.Prelude.{All, OnErr, OnOk, IfOk, map, slice_set}
 use Rattle.std.proofs.lemmas.Bool.Decides.{nat_tests}
-use Rattle.std.proofs.lemmas.List.{length-set, length-map, length-replicate}
-use Rattle.std.proofs.lemmas.List.Elements.{All-nil, All-push, All-filter, All-map, All-set, All-replicate, All-weaker}
+use Rattle.std.proofs.lemmas.List.{length-set, length-map}
+use Rattle.std.proofs.lemmas.List.Elements.{All-push, All-filter, All-map, All-set, All-weaker}
 use Rattle.ptl_types.specs.declared.handles.Handle.{Handle}
 use Rattle.ptl_types.specs.declared.handles.Count.{Count}
 use Rattle.ptl_types.specs.declared.entries.Entry.{Entry}
 use Rattle.ptl_types.specs.declared.entries.Descriptor.{Descriptor}
 use Rattle.ptl_types.specs.declared.entries.List.{List as Place}
-use Rattle.ptl_types.specs.declared.calls.Limits.{Limits}
 use Rattle.ptl_types.specs.declared.calls.NiFault.{NiFault}
 use Rattle.ptl_types.specs.declared.calls.Deed.{Deed}
 use Rattle.ptl_types.specs.declared.calls.Deed.TheVariants.{Put, Get, Atomic, FetchAtomic, Swap, Inc, Set}
@@ -26,18 +25,18 @@ use Rattle.ni_model.specs.Arrive.{Side, request}
 use Rattle.ni_model.specs.Answers.{answered}
 use Rattle.ni_model.specs.Starts.{started}
 use Rattle.ni_model.specs.Append.{append}
-use Rattle.ni_model.specs.State.{State, Operations, Delivers, opened, parts_of, with_parts, home_of, with_home, noted, after_request, after_answer}
+use Rattle.ni_model.specs.State.{State, Operations, Delivers, parts_of, with_parts, home_of, with_home, noted, after_request, after_answer}
 use Rattle.ni_model.specs.Ready.{Fires, fires, with_posted, without_number, is_number, cancelled, waits_on, done}
 use Rattle.ni_model.specs.Refusals.{inc_passes, counts_on_live, deed_is_live, deed_passes}
 use Rattle.ni_model.specs.Append.{search}
-use Rattle.ni_model.specs.Calls.{Done, ends, ends_by, Makes, MayLackMemory, enough, lacking, with_index, new_index, with_counter, with_bound, with_operation, bound, unlinked_in, pt_alloc, ct_alloc, ct_set, ct_inc, ct_cancel, eq_alloc, eq_get, eq_get_at, md_bind, me_append, me_unlink, me_search, start, triggered, write_memory}
+use Rattle.ni_model.specs.Calls.{Done, ends, ends_by, Makes, MayLackMemory, enough, lacking, with_index, new_index, with_counter, with_bound, with_operation, bound, unlinked_in, pt_alloc, ct_alloc, ct_set, ct_inc, ct_cancel, eq_alloc, eq_get, eq_get_at, md_bind, me_append, me_unlink, me_search, start, triggered}
 use Rattle.initiator_engine.specs.Initiators.{Initiating, with_mds}
 use Rattle.portals_ni.specs.Answers.{MakesIfMemory}
 use Rattle.portals_ni.specs.Lasting.{HasEntries, EntryIsLive, QueueIsLive, BoundIsLive, OperationIsLive}
 use Rattle.portals_ni.specs.Sound.{Stands, state_of}
 use Rattle.portals_ni.proofs.Firing.{Ops}
 use Rattle.portals_ni.proofs.Kept.{need-test, need-later, and-left, and-right, not-false}
-use Rattle.portals_ni.proofs.Parts.{new-entries, freed-entries, unlink-entries, none-entries}
+use Rattle.portals_ni.proofs.Parts.{new-entries, freed-entries, unlink-entries}
 use Rattle.portals_ni.proofs.Steady.{Grows, grows-same, grows-changed, grows-new, CountsOn, counts-same, counts-changed, counts-counted, counts-new}
 use Rattle.portals_ni.proofs.Leads.{Leads, leads-stands, parts-lead, home-lead, request-lead, append-lead, search-lead, started-lead, answered-lead}
 
@@ -152,7 +151,7 @@ operations-lead s ops limit live = record {
   operations_live = live;
 }
 
--- the registers and the region don't matter
+-- the registers don't matter
 noted-lead : (s q : State) (o : Outcome) → Leads s q → Leads s (noted o q)
 noted-lead s q o leads = record {
   limits = leads.limits;
@@ -166,35 +165,6 @@ noted-lead s q o leads = record {
   indices_live = leads.indices_live;
   bounds_live = leads.bounds_live;
   operations_live = leads.operations_live;
-}
-
-pub written-stands : (s : State) (at : ℕ) (bytes : List ℕ) → Stands s → Stands (write_memory at bytes s)
-written-stands s at bytes is = leads-stands s (write_memory at bytes s) (record {
-  limits = refl;
-  indices = refl;
-  headers = refl;
-  descriptors = refl;
-  operations = refl;
-  counts = counts-same s.cts;
-  queues = grows-same s.eqs;
-  entries_live = λ all. all;
-  indices_live = λ all. all;
-  bounds_live = λ all. all;
-  operations_live = λ all. all;
-}) is
-
--- ---- a new interface
-
-pub opened-stands : (rank ranks : ℕ) (limits : Limits) (memory : List ℕ) → Stands (opened rank ranks limits memory)
-opened-stands rank ranks limits memory = record {
-  limits = record { indices = length-replicate limits.pts None; headers = refl; counting_events = refl; queues = refl; descriptors = refl; operations = refl };
-  sums = λ ct c e. cc;
-  names = record {
-    entries = none-entries (EntryIsLive (opened rank ranks limits memory).cts) limits.pts;
-    indices = All-replicate (QueueIsLive (opened rank ranks limits memory).eqs) limits.pts None refl;
-    descriptors = λ k d lt. absurd (omega arith);
-    operations = λ k d lt. absurd (omega arith);
-  };
 }
 
 -- ---- portal table indices

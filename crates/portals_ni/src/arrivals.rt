@@ -69,6 +69,7 @@ impl Nic {
     fn take_answer(&mut self, message: Message) -> Delivered
         ensures { record { state = self.new; delivered = result } ≡ after_answer self.old (answered (home_of self.old) message) }
     {
+        // What a message keeps of its bytes comes to the proof by this call.
         let _bytes = message.bytes();
         let (outcome, counted) = self
             .initiator

@@ -11,7 +11,7 @@ use ptl_types::{Appended, Descriptor, Entry, Handle, List, NiFault, UnexpectedHe
 
 impl Nic {
     /// Allocates a portal table index, with an event queue or none. `Stale` where the queue isn't allocated, `NoSpace` where
-    /// the index is past the limit, `InUse` where it is allocated already, `NoMemory` for its lists.
+    /// the index is at or past the limit, `InUse` where it is allocated already, `NoMemory` for its lists.
     pub fn pt_alloc(&mut self, index: u32, eq: Option<Handle>) -> Result<(), NiFault>
         ensures { MayLackMemory (pt_alloc_of index eq self.old) self.old (ends self.new result) }
     {

@@ -100,9 +100,10 @@ fn check_triggered(
 }
 
 impl Nic {
-    /// Starts a put: the message is the caller's to send (Portals 4.3, put). `Stale` where the descriptor isn't bound,
-    /// `OutOfRegion` where the part reaches past its end, `NoMemory` for the bytes. Conditions: the target is a rank, and the
-    /// length is within the limit.
+    /// Starts a put: the message is the caller's to send (Portals 4.3, put). The descriptor counts one success where it counts
+    /// sends, raises Send where it has a queue, and awaits one answer more where an acknowledgement is asked for. `Stale` where
+    /// the descriptor isn't bound, `OutOfRegion` where the part reaches past its end, `NoMemory` for the bytes. Conditions: the
+    /// target is a rank, and the length is within the limit.
     pub fn put(&mut self, args: PutArgs) -> Result<Message, NiFault>
         requires { MayStart (Put args) self.old.ranks self.old.limits }
         ensures { MayLackMemory (start_of (Put args) self.old) self.old (ends self.new (as_started result)) }
@@ -110,7 +111,8 @@ impl Nic {
         self.start(&Deed::Put(args))
     }
 
-    /// Starts a get, whose message brings room for the reply (Portals 4.3, get). Refusals and conditions are those of a put.
+    /// Starts a get, whose message brings room for the reply (Portals 4.3, get). The descriptor counts and raises Send as in a
+    /// put, and awaits the reply. Refusals and conditions are those of a put.
     pub fn get(&mut self, args: GetArgs) -> Result<Message, NiFault>
         requires { MayStart (Get args) self.old.ranks self.old.limits }
         ensures { MayLackMemory (start_of (Get args) self.old) self.old (ends self.new (as_started result)) }
@@ -118,8 +120,8 @@ impl Nic {
         self.start(&Deed::Get(args))
     }
 
-    /// Starts an atomic (Portals 4.3, atomic). Refusals and conditions are those of a put, and beside them the length is of
-    /// whole elements and within the limit of atomics.
+    /// Starts an atomic (Portals 4.3, atomic). It counts, raises and awaits as a put does. Refusals and conditions are those of
+    /// a put, and beside them the length is of whole elements and within the limit of atomics.
     pub fn atomic(&mut self, args: PutArgs, op: AtomicOp, ty: ElemType) -> Result<Message, NiFault>
         requires { MayStart (Atomic args op ty) self.old.ranks self.old.limits }
         ensures { MayLackMemory (start_of (Atomic args op ty) self.old) self.old (ends self.new (as_started result)) }
@@ -127,8 +129,8 @@ impl Nic {
         self.start(&Deed::Atomic(args, op, ty))
     }
 
-    /// Starts a fetch-atomic: `back` says where the old elements go (Portals 4.3, fetch-atomic). Refusals are those of a put,
-    /// for both descriptors. Conditions: those of an atomic with the limit of fetch-atomics, both arguments agree, and no
+    /// Starts a fetch-atomic: `back` says where the old elements go (Portals 4.3, fetch-atomic). The descriptor of `args` counts
+    /// and raises Send, that of `back` awaits the reply. Refusals are those of a put, for both descriptors. Conditions: those of an atomic with the limit of fetch-atomics, both arguments agree, and no
     /// acknowledgement is asked for.
     pub fn fetch_atomic(
         &mut self,
@@ -143,8 +145,8 @@ impl Nic {
         self.start(&Deed::FetchAtomic(back, args, op, ty))
     }
 
-    /// Starts a swap of one element, with its operand as a bit pattern (Portals 4.3, swap). Refusals are those of a
-    /// fetch-atomic. Conditions: the length is one element's, both arguments agree, and no acknowledgement is asked for.
+    /// Starts a swap of one element, with its operand as a bit pattern (Portals 4.3, swap). It counts, raises and awaits as a
+    /// fetch-atomic does. Refusals are those of a fetch-atomic. Conditions: the length is one element's, both arguments agree, and no acknowledgement is asked for.
     pub fn swap(
         &mut self,
         back: GetArgs,
@@ -178,7 +180,7 @@ impl Nic {
     }
 
     /// Posts a triggered operation on a counting event with a threshold, and answers its number, counted up from 0. Its bytes
-    /// are read when it fires, into room that is taken here. `Stale` where the counting event or a thing that the deed names
+    /// are read when it fires, into room that is taken here, and from its firing on its home awaits an answer. `Stale` where the counting event or a thing that the deed names
     /// isn't live, `NoSpace` where as many as the limit are pending or all 2^32 - 1 numbers were given, `OutOfRegion` as in a
     /// put, `CountFull` where the two numbers of an increment or a set together pass 2^64 - 1, `NoMemory`. Conditions: those of
     /// the plain operation.

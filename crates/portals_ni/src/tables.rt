@@ -16,9 +16,6 @@ pub fn make<T: Drop>(things: &mut Store<T>, value: T) -> Result<Handle, NiFault>
     ensures free { IfOk result (λ h. has_slot h.slot things.old.live ≡ false) }
     ensures made { IfOk result (λ h. things.new ≡ with_new h.slot value things.old) }
 {
-    if things.is_full() {
-        return Err(NiFault::NoSpace);
-    }
     match things.insert(value) {
         Ok(handle) => Ok(handle),
         Err(_) => Err(NiFault::NoSpace),
