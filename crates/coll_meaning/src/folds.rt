@@ -5,7 +5,7 @@ ghost use Rattle.ptl_types.specs.Operations.{op, start_value};
 ghost use Rattle.coll_lang.specs.Meaning.{pairwise, folded, folded_from};
 ghost use Rattle.coll_meaning.specs.Patterns.{ArePatterns, Fit};
 
-use crate::lists::{RankValues, list_at};
+use crate::lists::{Listed, RankValues, copied, list_at};
 use lane_ops::{combine_elements, start_value};
 use ptl_types::{AtomicOp, ElemType, Rank};
 use std::alloc::{AllocError, Global};
@@ -25,7 +25,7 @@ pub fn starting(
     for _ in 0..width {
         values.push(start)?;
     }
-    Ok(RankValues::of(values))
+    Ok(Listed::of(values))
 }
 
 /// Each element of the first list combined with the one of the second at its place.
@@ -45,7 +45,7 @@ fn pairwise(
     for i in 0..xs.len().min(ys.len()) {
         values.push(combine_elements(operation, ty, xs[i], ys[i]))?;
     }
-    Ok(RankValues::of(values))
+    Ok(Listed::of(values))
 }
 
 /// The fold so far, combined with the list of rank r, where there is one.
@@ -64,7 +64,7 @@ pub fn with_rank(
 {
     match lists.get(r as usize) {
         Some(list) => pairwise(alloc, operation, ty, so_far, list.as_slice()),
-        None => RankValues::copied(alloc, so_far),
+        None => copied(alloc, so_far),
     }
 }
 

@@ -7,69 +7,45 @@ use ptl_types::Rank;
 use std::alloc::{AllocError, Global};
 use std::marker::Model;
 
-/// One rank's list of a buffer: its elements in order, as bit patterns.
+/// A list that contracts see as its elements in order.
 #[derive(Debug, Drop)]
-pub struct RankValues {
-    values: Vec<u64>,
+pub struct Listed<T> {
+    elements: Vec<T>,
 }
 
-impl Model for RankValues {
-    ghost Value = { List ℕ };
+impl<T> Model for Listed<T> {
+    ghost Value = { List T };
 
-    ghost view = { λ l. l.values.items };
+    ghost view = { λ l. l.elements.items };
 }
 
-impl RankValues {
+impl<T> Listed<T> {
     /// The list of these elements. It takes no memory.
-    pub fn of(values: Vec<u64>) -> RankValues
-        ensures { result ≡ values.items }
+    pub fn of(elements: Vec<T>) -> Listed<T>
+        ensures { result ≡ elements.items }
     {
-        RankValues { values }
-    }
-
-    /// A copy of the elements.
-    pub fn copied(alloc: Global, values: &[u64]) -> Result<RankValues, AllocError>
-        ensures { IfOk result (λ list. list ≡ values.now) }
-    {
-        Ok(RankValues {
-            values: Vec::from_slice(alloc, values)?,
-        })
+        Listed { elements }
     }
 
     /// The elements.
-    pub fn as_slice(&self) -> &[u64]
+    pub fn as_slice(&self) -> &[T]
         ensures { result.now ≡ self.now }
     {
-        self.values.as_slice()
+        self.elements.as_slice()
     }
 }
+
+/// One rank's list of a buffer: its elements as bit patterns.
+pub type RankValues = Listed<u64>;
 
 /// A buffer: each rank's list, in rank order.
-#[derive(Debug, Drop)]
-pub struct Held {
-    lists: Vec<RankValues>,
-}
+pub type RankLists = Listed<RankValues>;
 
-impl Model for Held {
-    ghost Value = { List (List ℕ) };
-
-    ghost view = { λ h. h.lists.items };
-}
-
-impl Held {
-    /// The buffer of these lists. It takes no memory.
-    pub fn of(lists: Vec<RankValues>) -> Held
-        ensures { result ≡ lists.items }
-    {
-        Held { lists }
-    }
-
-    /// The ranks' lists.
-    pub fn lists(&self) -> &[RankValues]
-        ensures { result.now ≡ self.now }
-    {
-        self.lists.as_slice()
-    }
+/// A copy of a rank's list.
+pub fn copied(alloc: Global, values: &[u64]) -> Result<RankValues, AllocError>
+    ensures { IfOk result (λ list. list ≡ values.now) }
+{
+    Ok(Listed::of(Vec::from_slice(alloc, values)?))
 }
 
 /// The list at a rank, which is empty where there is no such rank.
@@ -83,11 +59,11 @@ pub fn list_at(lists: &[RankValues], r: Rank) -> &[u64]
 }
 
 /// The lists of a buffer by its number; none where there is no such buffer.
-pub fn lists_at(held: &[Held], i: u32) -> &[RankValues]
+pub fn lists_at(held: &[RankLists], i: u32) -> &[RankValues]
     ensures { result.now ≡ ranks_at held.now i }
 {
     match held.get(i as usize) {
-        Some(buffer) => buffer.lists(),
+        Some(buffer) => buffer.as_slice(),
         None => &[],
     }
 }
@@ -95,7 +71,7 @@ pub fn lists_at(held: &[Held], i: u32) -> &[RankValues]
 /// The buffers of a description by their numbers, the inputs first: of each the ranks' lists in rank order.
 #[derive(Debug, Drop)]
 pub struct Buffers {
-    held: Vec<Held>,
+    held: Vec<RankLists>,
 }
 
 impl Model for Buffers {
@@ -106,7 +82,7 @@ impl Model for Buffers {
 
 impl Buffers {
     /// These buffers. It takes no memory.
-    pub(crate) fn of(held: Vec<Held>) -> Buffers
+    pub(crate) fn of(held: Vec<RankLists>) -> Buffers
         ensures { result ≡ held.items }
     {
         Buffers { held }
@@ -114,7 +90,7 @@ impl Buffers {
 
     /// How many buffers there are.
     pub fn count(&self) -> usize
-        ensures { result ≡ length self.now }
+        ensures told { result ≡ length self.now }
     {
         self.held.len()
     }
@@ -122,7 +98,7 @@ impl Buffers {
     /// The elements of a buffer at a rank, as bit patterns: numbers below 2 to the type's width, a signed value in two's
     /// complement. The list is empty where there is no such buffer or no such rank.
     pub fn list(&self, buffer: u32, r: Rank) -> &[u64]
-        ensures { result.now ≡ list_at (ranks_at self.now buffer) r }
+        ensures told { result.now ≡ list_at (ranks_at self.now buffer) r }
     {
         list_at(lists_at(self.held.as_slice(), buffer), r)
     }

@@ -5,7 +5,7 @@ ghost use Rattle.coll_text.specs.Elements.{elements};
 ghost use Rattle.coll_lang.specs.Meaning.{inputs_of, buffers};
 ghost use Rattle.coll_meaning.specs.Shaped.{FollowsShape};
 
-use crate::lists::{Buffers, Held, RankValues};
+use crate::lists::{Buffers, Listed, RankLists, RankValues};
 use crate::steps::take_step;
 use coll_lang::{Buffer, Description, RankList};
 use lane_ops::read_pattern;
@@ -24,18 +24,18 @@ fn elements(alloc: Global, ty: ElemType, bytes: &[u8]) -> Result<RankValues, All
         values.push(read_pattern(ty, element))?;
         rest = behind;
     }
-    Ok(RankValues::of(values))
+    Ok(Listed::of(values))
 }
 
 /// An input of the ranks' bytes.
-fn input_of(alloc: Global, ty: ElemType, lists: &[RankList]) -> Result<Held, AllocError>
+fn input_of(alloc: Global, ty: ElemType, lists: &[RankList]) -> Result<RankLists, AllocError>
     ensures { IfOk result (λ held. held ≡ map (elements ty) lists.now) }
 {
     let mut made = Vec::new(alloc);
     for list in lists {
         made.push(elements(alloc, ty, list.as_slice())?)?;
     }
-    Ok(Held::of(made))
+    Ok(Listed::of(made))
 }
 
 /// All inputs, whose bytes stand one after the other, input by input and rank by rank.
@@ -44,7 +44,7 @@ fn inputs_of(
     ranks: u32,
     buffers: &[Buffer],
     lists: &[RankList],
-) -> Result<Vec<Held>, AllocError>
+) -> Result<Vec<RankLists>, AllocError>
     ensures { IfOk result (λ held. held.items ≡ inputs_of ranks buffers.now lists.now) }
 {
     let mut held = Vec::new(alloc);
@@ -58,7 +58,7 @@ fn inputs_of(
 }
 
 /// The inputs, and then what each step adds.
-fn all_buffers(alloc: Global, d: &Description) -> Result<Vec<Held>, AllocError>
+fn all_buffers(alloc: Global, d: &Description) -> Result<Vec<RankLists>, AllocError>
     ensures value { IfOk result (λ held. held.items ≡ buffers d.now) }
     ensures shaped { IfOk result (λ held. FollowsShape d.now.shape held.items) }
 {

@@ -4,19 +4,19 @@ ghost use Rattle.std.specs.Prelude.{◌≡◌, ◌<◌, ◌/◌, ◌==◌, [], l
 ghost use Rattle.std.specs.List.{concat};
 ghost use Rattle.coll_lang.specs.Meaning.{only_at, block, exchanged, each_from, list_at};
 
-use crate::lists::{Held, RankValues, list_at};
+use crate::lists::{Listed, RankLists, RankValues, copied, list_at};
 use ptl_types::Rank;
 use std::alloc::{AllocError, Global};
 
 /// The list at each of so many ranks.
-pub fn everywhere(alloc: Global, ranks: u32, list: &[u64]) -> Result<Held, AllocError>
+pub fn everywhere(alloc: Global, ranks: u32, list: &[u64]) -> Result<RankLists, AllocError>
     ensures { IfOk result (λ held. held ≡ replicate ranks list.now) }
 {
     let mut lists = Vec::new(alloc);
     for _ in 0..ranks {
-        lists.push(RankValues::copied(alloc, list)?)?;
+        lists.push(copied(alloc, list)?)?;
     }
-    Ok(Held::of(lists))
+    Ok(Listed::of(lists))
 }
 
 /// Every rank gets the root's list (MPI broadcast).
@@ -25,7 +25,7 @@ pub fn broadcast(
     ranks: u32,
     root: Rank,
     lists: &[RankValues],
-) -> Result<Held, AllocError>
+) -> Result<RankLists, AllocError>
     ensures { IfOk result (λ held. held ≡ replicate ranks (list_at lists.now root)) }
 {
     everywhere(alloc, ranks, list_at(lists, root))
@@ -36,21 +36,21 @@ fn if_root(alloc: Global, root: Rank, list: &[u64], r: Rank) -> Result<RankValue
     ensures { IfOk result (λ own. own ≡ (if r == root then list.now else [])) }
 {
     if r == root {
-        RankValues::copied(alloc, list)
+        copied(alloc, list)
     } else {
-        RankValues::copied(alloc, &[])
+        copied(alloc, &[])
     }
 }
 
 /// The list at the root alone.
-pub fn only_at(alloc: Global, ranks: u32, root: Rank, list: &[u64]) -> Result<Held, AllocError>
+pub fn only_at(alloc: Global, ranks: u32, root: Rank, list: &[u64]) -> Result<RankLists, AllocError>
     ensures { IfOk result (λ held. held ≡ only_at ranks root list.now) }
 {
     let mut lists = Vec::new(alloc);
     for r in 0..ranks {
         lists.push(if_root(alloc, root, list, r)?)?;
     }
-    Ok(Held::of(lists))
+    Ok(Listed::of(lists))
 }
 
 /// All lists, one after the other in rank order.
@@ -61,7 +61,7 @@ fn in_a_row(alloc: Global, lists: &[RankValues]) -> Result<RankValues, AllocErro
     for list in lists {
         values.extend_from_slice(list.as_slice())?;
     }
-    Ok(RankValues::of(values))
+    Ok(Listed::of(values))
 }
 
 /// The root alone gets all lists, one after the other in rank order (MPI gather).
@@ -70,7 +70,7 @@ pub fn gathered(
     ranks: u32,
     root: Rank,
     lists: &[RankValues],
-) -> Result<Held, AllocError>
+) -> Result<RankLists, AllocError>
     ensures { IfOk result (λ held. held ≡ only_at ranks root (concat lists.now)) }
 {
     let list = in_a_row(alloc, lists)?;
@@ -78,7 +78,11 @@ pub fn gathered(
 }
 
 /// Every rank gets all lists, one after the other in rank order (MPI allgather).
-pub fn all_gathered(alloc: Global, ranks: u32, lists: &[RankValues]) -> Result<Held, AllocError>
+pub fn all_gathered(
+    alloc: Global,
+    ranks: u32,
+    lists: &[RankValues],
+) -> Result<RankLists, AllocError>
     ensures { IfOk result (λ held. held ≡ replicate ranks (concat lists.now)) }
 {
     let list = in_a_row(alloc, lists)?;
@@ -109,16 +113,20 @@ fn exchanged(
     for list in lists {
         values.extend_from_slice(block(list.as_slice(), ranks, r))?;
     }
-    Ok(RankValues::of(values))
+    Ok(Listed::of(values))
 }
 
 /// Rank r gets block r of each list (MPI alltoall).
-pub fn all_exchanged(alloc: Global, ranks: u32, lists: &[RankValues]) -> Result<Held, AllocError>
+pub fn all_exchanged(
+    alloc: Global,
+    ranks: u32,
+    lists: &[RankValues],
+) -> Result<RankLists, AllocError>
     ensures { IfOk result (λ held. held ≡ each_from 0 ranks (exchanged ranks lists.now)) }
 {
     let mut made = Vec::new(alloc);
     for r in 0..ranks {
         made.push(exchanged(alloc, ranks, lists, r)?)?;
     }
-    Ok(Held::of(made))
+    Ok(Listed::of(made))
 }

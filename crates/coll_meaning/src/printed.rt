@@ -6,7 +6,7 @@ ghost use Rattle.coll_lang.specs.Outline.{name_at};
 ghost use Rattle.coll_lang.specs.Meaning.{each_from, meaning};
 ghost use Rattle.coll_meaning.specs.Printing.{printed_at};
 
-use crate::lists::{Buffers, RankValues};
+use crate::lists::{Buffers, RankValues, copied};
 use crate::meaning::buffers_of;
 use crate::steps::type_at;
 use coll_lang::{Buffer, Description};
@@ -34,28 +34,28 @@ impl Model for PrintedList {
 impl PrintedList {
     /// The name of the buffer.
     pub fn name(&self) -> &[u8]
-        ensures { result.now ≡ self.now.name }
+        ensures told { result.now ≡ self.now.name }
     {
         self.name.as_slice()
     }
 
     /// The rank that holds the list.
     pub fn rank(&self) -> Rank
-        ensures { result ≡ self.now.rank }
+        ensures told { result ≡ self.now.rank }
     {
         self.rank
     }
 
     /// The type of the elements.
     pub fn ty(&self) -> ElemType
-        ensures { result ≡ self.now.ty }
+        ensures told { result ≡ self.now.ty }
     {
         self.ty
     }
 
     /// The elements in order, as bit patterns.
     pub fn list(&self) -> &[u64]
-        ensures { result.now ≡ self.now.list }
+        ensures told { result.now ≡ self.now.list }
     {
         self.values.as_slice()
     }
@@ -85,7 +85,7 @@ fn printed_at(
         name: Vec::from_slice(alloc, name_at(buffers, i))?,
         rank: r,
         ty: type_at(buffers, i),
-        values: RankValues::copied(alloc, held.list(i, r))?,
+        values: copied(alloc, held.list(i, r))?,
     })
 }
 
@@ -129,7 +129,7 @@ fn all_printed(
 ///
 /// There was no memory for the lists.
 pub fn meaning_of(alloc: Global, d: &Description) -> Result<Vec<PrintedList>, NoMemory>
-    ensures { IfOk result (λ lists. lists.items ≡ meaning d.now) }
+    ensures value { IfOk result (λ lists. lists.items ≡ meaning d.now) }
 {
     let held = buffers_of(alloc, d)?;
     let shape = d.shape();

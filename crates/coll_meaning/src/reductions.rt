@@ -5,7 +5,7 @@ ghost use Rattle.coll_lang.specs.Meaning.{only_at, each_from, folded};
 ghost use Rattle.coll_meaning.specs.Patterns.{Fit};
 
 use crate::folds::{folded, starting, with_rank};
-use crate::lists::{Held, RankValues, list_at};
+use crate::lists::{Listed, RankLists, RankValues, copied, list_at};
 use crate::moves::{everywhere, only_at};
 use ptl_types::{AtomicOp, ElemType, Rank};
 use std::alloc::{AllocError, Global};
@@ -18,7 +18,7 @@ pub fn reduced(
     operation: AtomicOp,
     ty: ElemType,
     lists: &[RankValues],
-) -> Result<Held, AllocError>
+) -> Result<RankLists, AllocError>
     requires { Fit ty lists.now }
     ensures { IfOk result (λ held. held ≡ only_at ranks root (folded operation ty lists.now)) }
 {
@@ -33,7 +33,7 @@ pub fn all_reduced(
     operation: AtomicOp,
     ty: ElemType,
     lists: &[RankValues],
-) -> Result<Held, AllocError>
+) -> Result<RankLists, AllocError>
     requires { Fit ty lists.now }
     ensures { IfOk result (λ held. held ≡ replicate ranks (folded operation ty lists.now)) }
 {
@@ -48,7 +48,7 @@ pub fn scanned(
     operation: AtomicOp,
     ty: ElemType,
     lists: &[RankValues],
-) -> Result<Held, AllocError>
+) -> Result<RankLists, AllocError>
     requires { Fit ty lists.now }
     ensures { IfOk result (λ held. held ≡ each_from 0 ranks (λ r. folded operation ty (take (r + 1) lists.now))) }
 {
@@ -56,8 +56,8 @@ pub fn scanned(
     let mut so_far = starting(alloc, operation, ty, list_at(lists, 0).len())?;
     for r in 0..ranks {
         let fold = with_rank(alloc, operation, ty, so_far.as_slice(), lists, r)?;
-        made.push(RankValues::copied(alloc, fold.as_slice())?)?;
+        made.push(copied(alloc, fold.as_slice())?)?;
         so_far = fold;
     }
-    Ok(Held::of(made))
+    Ok(Listed::of(made))
 }

@@ -6,7 +6,7 @@ ghost use Rattle.coll_lang.specs.Steps.{source_of};
 ghost use Rattle.coll_lang.specs.Meaning.{made_by, ranks_at};
 ghost use Rattle.coll_meaning.specs.Patterns.{Fit};
 
-use crate::lists::{Held, RankValues, lists_at};
+use crate::lists::{RankLists, RankValues, lists_at};
 use crate::moves::{all_exchanged, all_gathered, broadcast, gathered};
 use crate::reductions::{all_reduced, reduced, scanned};
 use coll_lang::{Buffer, CollStep};
@@ -46,7 +46,7 @@ fn made_of(
     ty: ElemType,
     from: &[RankValues],
     step: CollStep,
-) -> Result<Option<Held>, AllocError>
+) -> Result<Option<RankLists>, AllocError>
     requires { Fit ty from.now }
     ensures { IfOk result (λ made. option_to_list made ≡ made_by ranks (λ _. ty) (λ _. from.now) step) }
 {
@@ -68,7 +68,7 @@ pub fn take_step(
     alloc: Global,
     ranks: u32,
     buffers: &[Buffer],
-    held: &mut Vec<Held>,
+    held: &mut Vec<RankLists>,
     step: CollStep,
 ) -> Result<(), AllocError>
     requires { Fit (type_at buffers.now (source_of step)) (ranks_at held.old.items (source_of step)) }
