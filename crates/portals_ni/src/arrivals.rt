@@ -39,7 +39,7 @@ impl Nic {
     #[tactic(auto, unfolding(ni_model::specs::State::target))]
     pub fn deliver(&mut self, message: Message) -> Delivered
         requires { message.header.target ≡ self.old.rank }
-        ensures { record { state = self.new; delivered = result } ≡ target self.old message }
+        ensures does { record { state = self.new; delivered = result } ≡ target self.old message }
     {
         if message.header().kind.is_answer() {
             self.take_answer(message)

@@ -49,14 +49,14 @@ impl Nic {
     /// Allocates a counting event at 0, 0 and answers its handle. `NoSpace` where as many as the limit are allocated or all
     /// 2^64 - 1 stamps were given.
     pub fn ct_alloc(&mut self) -> Result<Handle, NiFault>
-        ensures { Makes (λ slot. has_slot slot self.old.cts.live) (λ slot. ct_alloc_of slot self.old) (ends self.new result) }
+        ensures makes { Makes (λ slot. has_slot slot self.old.cts.live) (λ slot. ct_alloc_of slot self.old) (ends self.new result) }
     {
         make(&mut self.cts, Counter::new())
     }
 
     /// What a counting event holds; `Stale` exactly where it isn't allocated.
     pub fn ct_get(&self, ct: Handle) -> Result<Count, NiFault>
-        ensures { result ≡ ct_get_of ct self.now }
+        ensures told { result ≡ ct_get_of ct self.now }
     {
         match self.cts.get(ct) {
             Some(counter) => Ok(counter.count()),
@@ -67,7 +67,7 @@ impl Nic {
     /// A counting event holds these numbers from now on. `Stale` where it isn't allocated, `CountFull` where together they
     /// pass 2^64 - 1.
     pub fn ct_set(&mut self, ct: Handle, to: Count) -> Result<(), NiFault>
-        ensures { ends self.new result ≡ ct_set_of ct to self.old }
+        ensures does { ends self.new result ≡ ct_set_of ct to self.old }
     {
         set_counter(&mut self.cts, ct, to)?;
         tell(&mut self.pending, &self.cts, Some(ct));
@@ -77,7 +77,7 @@ impl Nic {
     /// Adds both numbers to a counting event's. `Stale` where it isn't allocated, `CountFull` where together they would pass
     /// 2^64 - 1.
     pub fn ct_inc(&mut self, ct: Handle, by: Count) -> Result<(), NiFault>
-        ensures { ends self.new result ≡ ct_inc_of ct by self.old }
+        ensures does { ends self.new result ≡ ct_inc_of ct by self.old }
     {
         add_counter(&mut self.cts, ct, by)?;
         tell(&mut self.pending, &self.cts, Some(ct));
@@ -87,7 +87,7 @@ impl Nic {
     /// Removes every pending operation that waits on a counting event, and answers how many they were; `Stale` exactly where
     /// it isn't allocated.
     pub fn ct_cancel(&mut self, ct: Handle) -> Result<u32, NiFault>
-        ensures { ends self.new result ≡ ct_cancel_of ct self.old }
+        ensures does { ends self.new result ≡ ct_cancel_of ct self.old }
     {
         if !self.cts.is_live(ct) {
             return Err(NiFault::Stale);

@@ -13,7 +13,7 @@ impl Nic {
     /// Allocates a portal table index, with an event queue or none. `Stale` where the queue isn't allocated, `NoSpace` where
     /// the index is at or past the limit, `InUse` where it is allocated already, `NoMemory` for its lists.
     pub fn pt_alloc(&mut self, index: u32, eq: Option<Handle>) -> Result<(), NiFault>
-        ensures { MayLackMemory (pt_alloc_of index eq self.old) self.old (ends self.new result) }
+        ensures does { MayLackMemory (pt_alloc_of index eq self.old) self.old (ends self.new result) }
     {
         self.target.pt_alloc(self.alloc, &self.eqs, index, eq)
     }
@@ -21,7 +21,7 @@ impl Nic {
     /// Frees a portal table index. `Stale` where it isn't allocated, `InUse` where one of its lists holds an entry or a header
     /// of it waits.
     pub fn pt_free(&mut self, index: u32) -> Result<(), NiFault>
-        ensures { ends self.new result ≡ pt_free_of index self.old }
+        ensures does { ends self.new result ≡ pt_free_of index self.old }
     {
         self.target.pt_free(index)
     }
@@ -32,7 +32,7 @@ impl Nic {
     /// isn't, `NoSpace` where as many entries as the limit are linked or all 2^64 - 1 stamps were given, `OutOfRegion` where its
     /// part reaches past the region.
     pub fn me_append(&mut self, pt: u32, list: List, entry: Entry) -> Result<Appended, NiFault>
-        ensures { Makes (entry_slot self.old.indices) (λ slot. me_append_of slot pt list entry self.old) (ends self.new result) }
+        ensures makes { Makes (entry_slot self.old.indices) (λ slot. me_append_of slot pt list entry self.old) (ends self.new result) }
     {
         let (appended, counted) = self.target.append(
             &self.region,
@@ -48,7 +48,7 @@ impl Nic {
 
     /// Unlinks a match entry. `Stale` where it isn't linked, `InUse` where an unexpected header lies in its memory.
     pub fn me_unlink(&mut self, me: Handle) -> Result<(), NiFault>
-        ensures { ends self.new result ≡ me_unlink_of me self.old }
+        ensures does { ends self.new result ≡ me_unlink_of me self.old }
     {
         self.target.unlink(me)
     }
@@ -62,7 +62,7 @@ impl Nic {
         entry: &Entry,
         delete: bool,
     ) -> Result<Option<UnexpectedHeader>, NiFault>
-        ensures { ends self.new result ≡ me_search_of pt entry.now delete self.old }
+        ensures does { ends self.new result ≡ me_search_of pt entry.now delete self.old }
     {
         self.target.search(&mut self.eqs, pt, entry, delete)
     }
@@ -71,14 +71,14 @@ impl Nic {
     /// `NoSpace` where as many as the limit are bound or all 2^64 - 1 stamps were given, `OutOfRegion` where its part reaches
     /// past the region.
     pub fn md_bind(&mut self, md: Descriptor) -> Result<Handle, NiFault>
-        ensures { Makes (λ slot. has_slot slot self.old.mds.live) (λ slot. md_bind_of slot md self.old) (ends self.new result) }
+        ensures makes { Makes (λ slot. has_slot slot self.old.mds.live) (λ slot. md_bind_of slot md self.old) (ends self.new result) }
     {
         self.initiator.bind(&self.region, &self.cts, &self.eqs, md)
     }
 
     /// How many answers a descriptor awaits; `Stale` exactly where it isn't bound.
     pub fn awaits(&self, md: Handle) -> Result<u64, NiFault>
-        ensures { result ≡ awaits_of md self.now }
+        ensures told { result ≡ awaits_of md self.now }
     {
         self.initiator.awaits(md)
     }

@@ -38,14 +38,14 @@ impl Nic {
     /// Whether the operation of this number is pending and its counting event's success and failure together have reached its
     /// threshold.
     pub fn is_ready(&self, number: u32) -> bool
-        ensures { result ≡ is_ready self.now number }
+        ensures told { result ≡ is_ready self.now number }
     {
         self.pending.is_ready(number)
     }
 
     /// The number of an operation that is ready; `None` exactly where none is. Which of them it is stays open.
     pub fn ready(&self) -> Option<u32>
-        ensures { AnswersReady self.now result }
+        ensures told { AnswersReady self.now result }
     {
         self.pending.ready()
     }
@@ -54,7 +54,7 @@ impl Nic {
     /// caller's to send; `None` exactly for an increment or a set. It takes no memory. Condition: it is ready.
     pub fn fire(&mut self, number: u32) -> Option<Message>
         requires { IsTrue (is_ready self.old number) }
-        ensures { fires self.new result ≡ fired self.old number }
+        ensures does { fires self.new result ≡ fired self.old number }
     {
         let Armed { deed, room } = self.pending.take(number)?;
         if !is_start(&deed) {

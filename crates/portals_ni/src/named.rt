@@ -76,7 +76,7 @@ impl Nic {
     /// Frees a counting event. `Stale` where it isn't allocated, `InUse` where a descriptor, a linked entry or a pending
     /// operation names it.
     pub fn ct_free(&mut self, ct: Handle) -> Result<(), NiFault>
-        ensures { ends self.new result ≡ ct_free_of ct self.old }
+        ensures does { ends self.new result ≡ ct_free_of ct self.old }
     {
         if !self.cts.is_live(ct) {
             return Err(NiFault::Stale);
@@ -91,7 +91,7 @@ impl Nic {
     /// Frees an event queue, with the events that wait in it. `Stale` where it isn't allocated, `InUse` where a portal table
     /// index or a descriptor names it.
     pub fn eq_free(&mut self, eq: Handle) -> Result<(), NiFault>
-        ensures { ends self.new result ≡ eq_free_of eq self.old }
+        ensures does { ends self.new result ≡ eq_free_of eq self.old }
     {
         if !self.eqs.is_live(eq) {
             return Err(NiFault::Stale);
@@ -106,7 +106,7 @@ impl Nic {
     /// Releases a memory descriptor. `Stale` where it isn't bound, `InUse` where a pending operation names it or it awaits an
     /// answer.
     pub fn md_release(&mut self, md: Handle) -> Result<(), NiFault>
-        ensures { ends self.new result ≡ md_release_of md self.old }
+        ensures does { ends self.new result ≡ md_release_of md self.old }
     {
         if !self.initiator.is_bound(md) {
             return Err(NiFault::Stale);

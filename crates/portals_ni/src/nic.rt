@@ -56,7 +56,7 @@ impl Nic {
         region: Bytes,
     ) -> Result<Nic, NoMemory>
         requires { rank < ranks }
-        ensures { IfOk result (λ nic. nic ≡ opened rank ranks limits region.list) }
+        ensures makes { IfOk result (λ nic. nic ≡ opened rank ranks limits region.list) }
     {
         let target = Target::open(alloc, rank, &limits)?;
         let initiator = Initiator::open(alloc, rank, ranks, &limits)?;
@@ -78,14 +78,14 @@ impl Nic {
 
     /// Its rank, by which others address it.
     pub fn rank(&self) -> Rank
-        ensures { result ≡ self.now.rank }
+        ensures told { result ≡ self.now.rank }
     {
         self.initiator.rank()
     }
 
     /// How many ranks there are.
     pub fn ranks(&self) -> u32
-        ensures { result ≡ self.now.ranks }
+        ensures told { result ≡ self.now.ranks }
     {
         self.initiator.ranks()
     }
@@ -100,7 +100,7 @@ impl Nic {
 
     /// All bytes of the region.
     pub fn memory(&self) -> &[u8]
-        ensures { result.now ≡ self.now.memory }
+        ensures told { result.now ≡ self.now.memory }
     {
         self.region.as_slice()
     }
@@ -108,7 +108,7 @@ impl Nic {
     /// The host writes bytes from `start` on. Condition: they lie in the region. Nothing else changes.
     pub fn write_memory(&mut self, start: u64, bytes: &[u8])
         requires { start + length bytes.now ≤ length self.old.memory }
-        ensures { self.new ≡ memory_written start bytes.now self.old }
+        ensures does { self.new ≡ memory_written start bytes.now self.old }
     {
         self.region.write(start, bytes);
     }
@@ -116,14 +116,14 @@ impl Nic {
     /// The drop register (Portals 4.3, status registers): messages that no entry took, and answers that weren't awaited or
     /// didn't fit. It stops at 2^64 - 1.
     pub fn drops(&self) -> u64
-        ensures { result ≡ self.now.drops }
+        ensures told { result ≡ self.now.drops }
     {
         self.drops
     }
 
     /// The violation register: messages that their entry didn't allow. It stops at 2^64 - 1.
     pub fn violations(&self) -> u64
-        ensures { result ≡ self.now.violations }
+        ensures told { result ≡ self.now.violations }
     {
         self.violations
     }
@@ -131,7 +131,7 @@ impl Nic {
     /// How many triggered operations are pending. `kept` is what holds of an interface whatever calls were made: a caller has it
     /// without following them.
     pub fn pending(&self) -> u32
-        ensures count { result ≡ length self.now.pending.waiting }
+        ensures told { result ≡ length self.now.pending.waiting }
         ensures kept { Lasts self.now }
     {
         self.pending.len()

@@ -28,7 +28,7 @@ impl Nic {
     /// limit are allocated or all 2^64 - 1 stamps were given, `NoMemory` for its room. Condition: the room is at least 1.
     pub fn eq_alloc(&mut self, room: u32) -> Result<Handle, NiFault>
         requires { 1 ≤ room }
-        ensures { MakesIfMemory (λ slot. has_slot slot self.old.eqs.live) (λ slot. eq_alloc_of slot room self.old) self.old (ends self.new result) }
+        ensures makes { MakesIfMemory (λ slot. has_slot slot self.old.eqs.live) (λ slot. eq_alloc_of slot room self.old) self.old (ends self.new result) }
     {
         if self.eqs.is_full() {
             return Err(NiFault::NoSpace);
@@ -44,7 +44,7 @@ impl Nic {
     /// this queue or, before any, since its making; else `Empty` where it holds none. `Stale` exactly where the queue isn't
     /// allocated.
     pub fn eq_get(&mut self, eq: Handle) -> Result<EqGot, NiFault>
-        ensures { ends self.new result ≡ eq_get_of eq self.old }
+        ensures does { ends self.new result ≡ eq_get_of eq self.old }
     {
         take_event(&mut self.eqs, eq)
     }

@@ -106,7 +106,7 @@ impl Nic {
     /// target is a rank, and the length is within the limit.
     pub fn put(&mut self, args: PutArgs) -> Result<Message, NiFault>
         requires { MayStart (Put args) self.old.ranks self.old.limits }
-        ensures { MayLackMemory (start_of (Put args) self.old) self.old (ends self.new (as_started result)) }
+        ensures does { MayLackMemory (start_of (Put args) self.old) self.old (ends self.new (as_started result)) }
     {
         self.start(&Deed::Put(args))
     }
@@ -115,7 +115,7 @@ impl Nic {
     /// put, and awaits the reply. Refusals and conditions are those of a put.
     pub fn get(&mut self, args: GetArgs) -> Result<Message, NiFault>
         requires { MayStart (Get args) self.old.ranks self.old.limits }
-        ensures { MayLackMemory (start_of (Get args) self.old) self.old (ends self.new (as_started result)) }
+        ensures does { MayLackMemory (start_of (Get args) self.old) self.old (ends self.new (as_started result)) }
     {
         self.start(&Deed::Get(args))
     }
@@ -124,7 +124,7 @@ impl Nic {
     /// a put, and beside them the length is of whole elements and within the limit of atomics.
     pub fn atomic(&mut self, args: PutArgs, op: AtomicOp, ty: ElemType) -> Result<Message, NiFault>
         requires { MayStart (Atomic args op ty) self.old.ranks self.old.limits }
-        ensures { MayLackMemory (start_of (Atomic args op ty) self.old) self.old (ends self.new (as_started result)) }
+        ensures does { MayLackMemory (start_of (Atomic args op ty) self.old) self.old (ends self.new (as_started result)) }
     {
         self.start(&Deed::Atomic(args, op, ty))
     }
@@ -140,7 +140,7 @@ impl Nic {
         ty: ElemType,
     ) -> Result<Message, NiFault>
         requires { MayStart (FetchAtomic back args op ty) self.old.ranks self.old.limits }
-        ensures { MayLackMemory (start_of (FetchAtomic back args op ty) self.old) self.old (ends self.new (as_started result)) }
+        ensures does { MayLackMemory (start_of (FetchAtomic back args op ty) self.old) self.old (ends self.new (as_started result)) }
     {
         self.start(&Deed::FetchAtomic(back, args, op, ty))
     }
@@ -156,7 +156,7 @@ impl Nic {
         operand: u64,
     ) -> Result<Message, NiFault>
         requires { MayStart (Swap back args op ty operand) self.old.ranks self.old.limits }
-        ensures { MayLackMemory (start_of (Swap back args op ty operand) self.old) self.old (ends self.new (as_started result)) }
+        ensures does { MayLackMemory (start_of (Swap back args op ty operand) self.old) self.old (ends self.new (as_started result)) }
     {
         self.start(&Deed::Swap(back, args, op, ty, operand))
     }
@@ -186,7 +186,7 @@ impl Nic {
     /// the plain operation.
     pub fn triggered(&mut self, deed: Deed, ct: Handle, threshold: u64) -> Result<u32, NiFault>
         requires { MayStart deed self.old.ranks self.old.limits }
-        ensures { MayLackMemory (triggered_of deed ct threshold self.old) self.old (ends self.new result) }
+        ensures does { MayLackMemory (triggered_of deed ct threshold self.old) self.old (ends self.new result) }
     {
         check_triggered(&self.cts, &self.initiator, &self.pending, &deed, ct)?;
         let room = match Bytes::with_room(self.alloc, room_for(&deed)) {

@@ -58,28 +58,28 @@ impl<D> Pending<D> {
 
     /// How many numbers were given; the next is this one.
     pub fn given(&self) -> u32
-        ensures { result ≡ self.now.given }
+        ensures told { result ≡ self.now.given }
     {
         self.given
     }
 
     /// Whether none can be posted: as many wait as may, or all 2^32 - 1 numbers were given.
     pub fn is_full(&self) -> bool
-        ensures { result ≡ is_full self.now }
+        ensures told { result ≡ is_full self.now }
     {
         self.operations.len() >= self.limit as usize || self.given == u32::MAX
     }
 
     /// Tells a counting event's sum, success and failure together, to the operations that wait on it.
     pub fn reached(&mut self, ct: Handle, sum: u64)
-        ensures { self.new ≡ told ct sum self.old }
+        ensures does { self.new ≡ told ct sum self.old }
     {
         parts::tell_all(&mut self.operations, &self.index, &mut self.due, ct, sum);
     }
 
     /// Tells a sum to the operation of this number alone; nothing changes where it doesn't wait.
     pub fn tell(&mut self, number: u32, sum: u64)
-        ensures { self.new ≡ told_one number sum self.old }
+        ensures does { self.new ≡ told_one number sum self.old }
     {
         held::tell(&mut self.operations, &mut self.due, number, sum);
     }
@@ -95,7 +95,7 @@ impl<D> Pending<D> {
 
     /// Whether the operation of this number waits and its told sum is at least its threshold.
     pub fn is_ready(&self, number: u32) -> bool
-        ensures { result ≡ is_ready number self.now }
+        ensures told { result ≡ is_ready number self.now }
     {
         match self.operations.get(&number) {
             Some(held) => held.threshold <= held.told,
@@ -157,7 +157,7 @@ impl<D> Pending<D> {
 impl<D: Drop> Pending<D> {
     /// None, with numbers from 0; `limit` may wait at a time.
     pub fn open(alloc: Global, limit: u32) -> Result<Pending<D>, NoMemory>
-        ensures { IfOk result (λ p. p ≡ no_operations limit) }
+        ensures makes { IfOk result (λ p. p ≡ no_operations limit) }
     {
         match Vec::with_capacity(alloc, limit as usize) {
             Ok(due) => Ok(Pending {

@@ -14,4 +14,5 @@ invariant_of-self g c =
     (IsKept-told _ (waits_on c.args.ct) c.args.sum c.self.invariant.kept) c.tell_all.ensures.ordered (indexed-told c.self.inside.operations c.tell_all.new.operations c.self.inside.index (waits_on c.args.ct) c.args.sum c.self.invariant.indexed c.tell_all.ensures.found) c.tell_all.ensures.listed c.tell_all.ensures.are_due c.tell_all.ensures.room c.self.invariant.enough c.self.invariant.small
 
 pub returns : goal.returns
-returns g c = rw (← c.self.view_is) (waiting-told c.self.inside.operations c.tell_all.new.operations c.self.inside.given c.self.inside.limit (waits_on c.args.ct) c.args.sum c.self.invariant.kept c.tell_all.ensures.ordered c.tell_all.ensures.found)
+returns g c =
+    record { does = rw (← c.self.view_is) (waiting-told c.self.inside.operations c.tell_all.new.operations c.self.inside.given c.self.inside.limit (waits_on c.args.ct) c.args.sum c.self.invariant.kept c.tell_all.ensures.ordered c.tell_all.ensures.found) }

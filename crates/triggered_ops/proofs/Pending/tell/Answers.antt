@@ -18,4 +18,4 @@ pub returns : goal.returns
 returns g c =
     let m = c.self.inside.operations in
     let n = c.tell.new.operations in
-    rw (← c.self.view_is) (waiting-told m n c.self.inside.given c.self.inside.limit (is_number c.args.number) c.args.sum c.self.invariant.kept c.tell.ensures.ordered (told-alone m n c.args.number c.args.sum c.tell.ensures.found))
+    record { does = rw (← c.self.view_is) (waiting-told m n c.self.inside.given c.self.inside.limit (is_number c.args.number) c.args.sum c.self.invariant.kept c.tell.ensures.ordered (told-alone m n c.args.number c.args.sum c.tell.ensures.found)) }

@@ -15,4 +15,4 @@ pub returns : goal.returns
 returns c =
     let n = c.self.inside in
     let made = c.make.ensures in
-    rw (← c.self.view_is) (alloc-makes n.target n.region n.cts n.eqs n.initiator n.pending n.drops n.violations c.new.result c.make.new.things c.make.result c.new.ensures made.err made.unchanged made.ok made.stamp made.free made.made)
+    record { makes = rw (← c.self.view_is) (alloc-makes n.target n.region n.cts n.eqs n.initiator n.pending n.drops n.violations c.new.result c.make.new.things c.make.result c.new.ensures made.err made.unchanged made.ok made.stamp made.free made.made) }

@@ -21,4 +21,4 @@ pub returns : goal.returns
 returns c =
     let n = c.self.inside in
     let none : ct_inc_fault c.args.ct c.args.by n.cts ≡ None = no-fault _ (sym c.add_counter.ensures.answer ∙ c.in_ok-add_counter.was) in
-    rw (← c.self.view_is) (inc-ends n.target n.region n.cts n.eqs n.initiator n.pending n.drops n.violations c.args.ct c.args.by c.add_counter.new.cts c.tell.new.pending none c.in_ok-add_counter.ensures.ok c.tell.ensures)
+    record { does = rw (← c.self.view_is) (inc-ends n.target n.region n.cts n.eqs n.initiator n.pending n.drops n.violations c.args.ct c.args.by c.add_counter.new.cts c.tell.new.pending none c.in_ok-add_counter.ensures.ok c.tell.ensures) }

@@ -21,4 +21,4 @@ pub returns : goal.returns
 returns c =
     let n = c.self.inside in
     let none : ct_set_fault c.args.ct c.args.to n.cts ≡ None = no-fault _ (sym c.set_counter.ensures.answer ∙ c.in_ok-set_counter.was) in
-    rw (← c.self.view_is) (set-ends n.target n.region n.cts n.eqs n.initiator n.pending n.drops n.violations c.args.ct c.args.to c.set_counter.new.cts c.tell.new.pending none c.in_ok-set_counter.ensures.ok c.tell.ensures)
+    record { does = rw (← c.self.view_is) (set-ends n.target n.region n.cts n.eqs n.initiator n.pending n.drops n.violations c.args.ct c.args.to c.set_counter.new.cts c.tell.new.pending none c.in_ok-set_counter.ensures.ok c.tell.ensures) }

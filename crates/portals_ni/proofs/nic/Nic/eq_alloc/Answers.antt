@@ -8,19 +8,19 @@ pub returns-then-is_full : goal.returns-then-is_full
 returns-then-is_full c =
     let n = c.self.inside in
     let full : is_full n.eqs ≡ true = sym c.is_full.ensures ∙ c.if-is_full.true in
-    rw (← c.self.view_is) (queue-full n.target n.region n.cts n.eqs n.initiator n.pending n.drops n.violations c.args.room full)
+    record { makes = rw (← c.self.view_is) (queue-full n.target n.region n.cts n.eqs n.initiator n.pending n.drops n.violations c.args.room full) }
 
 pub returns-in-Err : goal.returns-in-Err
 returns-in-Err c =
     let n = c.self.inside in
     let full : is_full n.eqs ≡ false = sym c.is_full.ensures ∙ c.if-is_full.false in
-    rw (← c.self.view_is) (queue-lacks n.target n.region n.cts n.eqs n.initiator n.pending n.drops n.violations c.args.room full)
+    record { makes = rw (← c.self.view_is) (queue-lacks n.target n.region n.cts n.eqs n.initiator n.pending n.drops n.violations c.args.room full) }
 
 pub returns : goal.returns
 returns c =
     let n = c.self.inside in
     let made = c.make.ensures in
-    rw (← c.self.view_is) (queue-makes n.target n.region n.cts n.eqs n.initiator n.pending n.drops n.violations c.args.room c.in-Ok.queue c.make.new.things c.make.result c.in-Ok.ensures made.err made.unchanged made.ok made.stamp made.free made.made)
+    record { makes = rw (← c.self.view_is) (queue-makes n.target n.region n.cts n.eqs n.initiator n.pending n.drops n.violations c.args.room c.in-Ok.queue c.make.new.things c.make.result c.in-Ok.ensures made.err made.unchanged made.ok made.stamp made.free made.made) }
 
 pub invariant_of-self : goal.invariant_of-self
 invariant_of-self c =

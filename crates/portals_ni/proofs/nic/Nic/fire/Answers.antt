@@ -17,7 +17,7 @@ pub returns-in_err-deed : goal.returns-in_err-deed
 returns-in_err-deed c =
     let n = c.self.inside in
     let none : is_ready c.args.self.now c.args.number ≡ false = rw (← c.self.view_is) (ready-none c.args.number n.cts n.pending c.self.invariant.sound.told (sym c.take.ensures.value ∙ c.in_err-deed.was)) in
-    cc (c.requires, none)
+    record { does = cc (c.requires, none) }
 
 pub count_deed-counted-requires : goal.count_deed-counted-requires
 count_deed-counted-requires c =
@@ -40,7 +40,7 @@ pub returns-then-not-is_start : goal.returns-then-not-is_start
 returns-then-not-is_start c =
     let n = c.self.inside in
     let counts : is_start c.in_ok-deed.field-0.deed ≡ false = sym c.is_start.ensures ∙ c.if-not-is_start.true in
-    rw (← c.self.view_is) (fire-counts n.target n.region n.cts n.eqs n.initiator n.pending n.drops n.violations c.args.number c.in_ok-deed.field-0 c.count_deed-counted.new.cts c.take.new.self c.tell.new.pending c.count_deed-counted.result (sym c.take.ensures.value ∙ c.in_ok-deed.was) counts c.take.ensures.rest c.count_deed-counted.ensures.counts c.tell.ensures)
+    record { does = rw (← c.self.view_is) (fire-counts n.target n.region n.cts n.eqs n.initiator n.pending n.drops n.violations c.args.number c.in_ok-deed.field-0 c.count_deed-counted.new.cts c.take.new.self c.tell.new.pending c.count_deed-counted.result (sym c.take.ensures.value ∙ c.in_ok-deed.was) counts c.take.ensures.rest c.count_deed-counted.ensures.counts c.tell.ensures) }
 
 pub start-message-requires-clause-may : goal.start-message-requires-clause-may
 start-message-requires-clause-may c =
@@ -78,4 +78,4 @@ returns c =
     let n = c.self.inside in
     let new = c.start-message.new in
     let starts : is_start c.in_ok-deed.field-0.deed ≡ true = sym c.is_start.ensures ∙ c.if-not-is_start.false in
-    rw (← c.self.view_is) (fire-starts n.target n.region n.cts n.eqs n.initiator n.pending n.drops n.violations c.args.number c.in_ok-deed.field-0 new.self new.cts new.eqs c.take.new.self c.tell-2.new.pending c.start-message.result.0 c.start-message.result.1 (sym c.take.ensures.value ∙ c.in_ok-deed.was) starts c.take.ensures.rest c.self.invariant.sound.rank c.start-message.ensures.started c.start-message.ensures.rest c.tell-2.ensures)
+    record { does = rw (← c.self.view_is) (fire-starts n.target n.region n.cts n.eqs n.initiator n.pending n.drops n.violations c.args.number c.in_ok-deed.field-0 new.self new.cts new.eqs c.take.new.self c.tell-2.new.pending c.start-message.result.0 c.start-message.result.1 (sym c.take.ensures.value ∙ c.in_ok-deed.was) starts c.take.ensures.rest c.self.invariant.sound.rank c.start-message.ensures.started c.start-message.ensures.rest c.tell-2.ensures) }

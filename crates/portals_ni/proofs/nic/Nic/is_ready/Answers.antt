@@ -3,4 +3,5 @@ use Rattle.portals_ni.proofs.Firing.{ready-is}
 use Rattle.portals_ni.proofs.nic.Nic.is_ready.Goals as goal
 
 pub returns : goal.returns
-returns c = rw (← c.self.view_is, c.is_ready.ensures) (sym (ready-is c.args.number c.self.inside.cts c.self.inside.pending c.self.invariant.sound.told))
+returns c =
+    record { told = rw (← c.self.view_is, c.is_ready.ensures.told) (sym (ready-is c.args.number c.self.inside.cts c.self.inside.pending c.self.invariant.sound.told)) }

@@ -15,4 +15,4 @@ pub returns : goal.returns
 returns c =
     let n = c.self.inside in
     let made = c.bind.ensures in
-    rw (← c.self.view_is) (bind-makes n.target n.region n.cts n.eqs n.initiator n.pending n.drops n.violations c.args.md c.bind.new.self c.bind.result made.err made.unchanged made.ok made.stamp made.free made.bound)
+    record { makes = rw (← c.self.view_is) (bind-makes n.target n.region n.cts n.eqs n.initiator n.pending n.drops n.violations c.args.md c.bind.new.self c.bind.result made.err made.unchanged made.ok made.stamp made.free made.bound) }

@@ -17,10 +17,11 @@ use Rattle.portals_ni.proofs.nic.Nic.triggered.Goals as goal
 pub returns-in_err-check_triggered : goal.returns-in_err-check_triggered
 returns-in_err-check_triggered c =
     let p = err_from_is_err_and c.from_residual.result c.from_residual.ensures.1 in
-    rw (p.1, p.2, ← c.self.view_is) (enough-refused _ _ _ _ _ (fault-is _ _ (sym c.check_triggered.ensures ∙ c.in_err-check_triggered.was)))
+    record { does = rw (p.1, p.2, ← c.self.view_is) (enough-refused _ _ _ _ _ (fault-is _ _ (sym c.check_triggered.ensures ∙ c.in_err-check_triggered.was))) }
 
 pub returns-in-Err : goal.returns-in-Err
-returns-in-Err c = rw (← c.self.view_is) (lacks _ _ _ _ (no-fault _ (sym c.check_triggered.ensures ∙ c.in_ok-check_triggered.was)))
+returns-in-Err c =
+    record { does = rw (← c.self.view_is) (lacks _ _ _ _ (no-fault _ (sym c.check_triggered.ensures ∙ c.in_ok-check_triggered.was))) }
 
 pub invariant_of-self : goal.invariant_of-self
 invariant_of-self c =
@@ -44,9 +45,9 @@ returns-in-Ok-post c =
     let armed : Armed = record { deed = c.args.deed; room = c.in-Ok.room } in
     let none : triggered_fault c.args.deed c.args.ct n.cts n.initiator.mds (posted_all deed_in n.pending) ≡ None = no-fault _ (sym c.check_triggered.ensures ∙ c.in_ok-check_triggered.was) in
     let told : c.tell_new.new.pending ≡ told_new c.in-Ok-post.number c.args.ct n.cts (with_posted armed c.args.ct c.args.threshold n.pending) = c.tell_new.ensures ∙ ap (told_new c.in-Ok-post.number c.args.ct n.cts) c.in-Ok-post.ensures.ok in
-    rw (← c.self.view_is) (post-may n.target n.region n.cts n.eqs n.initiator n.pending n.drops n.violations c.args.deed c.args.ct c.args.threshold c.in-Ok-post.number armed c.tell_new.new.pending none refl c.in-Ok-post.ensures.number told)
+    record { does = rw (← c.self.view_is) (post-may n.target n.region n.cts n.eqs n.initiator n.pending n.drops n.violations c.args.deed c.args.ct c.args.threshold c.in-Ok-post.number armed c.tell_new.new.pending none refl c.in-Ok-post.ensures.number told) }
 
 pub returns-in-Err-post : goal.returns-in-Err-post
 returns-in-Err-post c =
     let n = c.self.inside in
-    rw (c.in-Err-post.ensures.err, ← c.self.view_is) (lacks _ _ _ _ (no-fault _ (sym c.check_triggered.ensures ∙ c.in_ok-check_triggered.was)))
+    record { does = rw (c.in-Err-post.ensures.err, ← c.self.view_is) (lacks _ _ _ _ (no-fault _ (sym c.check_triggered.ensures ∙ c.in_ok-check_triggered.was))) }
