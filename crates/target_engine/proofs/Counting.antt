@@ -1,4 +1,4 @@
--- Counting the linked entries, and the live handles of a table of places, by a test of handle and index.
+-- Counting the linked entries by a test of handle and index.
 use Rattle.std.proofs.Common.{◌≡◌, ℕ, zero, suc, ◌+◌, ◌<◌, ◌≤◌, Bool, true, false, not, ◌||◌, ◌&&◌, List, [], ◌∷◌, ◌++◌, Option, Some, None, map, filter, length, get_or, set, if◌then◌else◌, nat_lt, nat_eq, refl, ap, ◌∙◌, arith, zero-add}
 use Rattle.std.specs.Prelude.{sum_by, is_some}
 use Rattle.std.proofs.lemmas.List.Sums.{sum_by-cons}
@@ -6,11 +6,10 @@ use Rattle.std.proofs.lemmas.Bool.Decides.{nat_tests}
 use Rattle.ptl_types.specs.declared.handles.Handle.{Handle}
 use Rattle.ptl_types.specs.Handles.{same_handle}
 use Rattle.ni_model.specs.declared.Linked.{Linked}
-use Rattle.ni_model.specs.Tables.{Live, lookup, has_slot}
 use Rattle.ni_model.specs.Lists.{Index, entries_in, is_linked, unlinked, advance_one, advanced}
 use Rattle.ni_model.specs.Refusals.{is_linked_in, is_linked_anywhere}
 use Rattle.ni_model.specs.Calls.{slot_in, entry_slot, unlinked_in}
-use Rattle.target_engine.specs.Shelves.{entries_by, index_by, linked_by, live_by, is_handle}
+use Rattle.target_engine.specs.Shelves.{entries_by, index_by, linked_by}
 
 -- ---- tests of a handle and an index
 
@@ -19,6 +18,10 @@ Test = Handle → ℕ → Bool
 
 abbrev pub any_handle : Handle → ℕ → Bool
 any_handle x k = true
+
+-- this handle, at any index
+abbrev pub is_handle : Handle → Handle → ℕ → Bool
+is_handle h x k = same_handle x h
 
 abbrev pub is_slot : ℕ → Handle → ℕ → Bool
 is_slot s x k = nat_eq x.slot s
@@ -33,7 +36,7 @@ elsewhere me pt x k = same_handle x me && not (nat_eq k pt)
 
 -- ---- a search is a count
 
-or-one : (b r : Bool) (n : ℕ) → r ≡ nat_lt 0 n → (b || r) ≡ nat_lt 0 ((if b then 1 else 0) + n)
+pub or-one : (b r : Bool) (n : ℕ) → r ≡ nat_lt 0 n → (b || r) ≡ nat_lt 0 ((if b then 1 else 0) + n)
 or-one true r n e = grind (arith, nat_tests)
 or-one false r n e = rw zero-add e
 
@@ -61,18 +64,6 @@ entry_slot-count s k [] = refl
 entry_slot-count s k (None ∷ is) = rw zero-add (entry_slot-count s (k + 1) is)
 entry_slot-count s k (Some i ∷ is) = or-sum _ _ _ _ (or-sum _ _ _ _ (slot_in-count s k i.priority) (slot_in-count s k i.overflow)) (entry_slot-count s (k + 1) is)
 
-pub has_slot-count : (s : ℕ) (xs : List (Live ℕ)) → has_slot s xs ≡ nat_lt 0 (live_by (is_slot s) xs)
-has_slot-count s [] = refl
-has_slot-count s (x ∷ xs) = or-one (nat_eq x.handle.slot s) _ _ (has_slot-count s xs)
-
-some-or : (b : Bool) (v : ℕ) (o : Option ℕ) → is_some (if b then Some v else o) ≡ (b || is_some o)
-some-or true v o = refl
-some-or false v o = refl
-
-pub lookup-count : (h : Handle) (xs : List (Live ℕ)) → is_some (lookup h xs) ≡ nat_lt 0 (live_by (is_handle h) xs)
-lookup-count h [] = refl
-lookup-count h (x ∷ xs) = some-or (same_handle x.handle h) x.value (lookup h xs) ∙ or-one (same_handle x.handle h) _ _ (lookup-count h xs)
-
 -- ---- how many there are
 
 entries-all : (k : ℕ) (xs : List Linked) → entries_by any_handle k xs ≡ length xs
@@ -86,29 +77,6 @@ index-all k (Some i) = omega (arith, entries-all k i.priority, entries-all k i.o
 pub linked-all : (k : ℕ) (is : List (Option Index)) → linked_by any_handle k is ≡ sum_by entries_in is
 linked-all k [] = refl
 linked-all k (o ∷ is) = omega (arith, index-all k o, linked-all (k + 1) is, sum_by-cons entries_in o is)
-
-pub live-all : (xs : List (Live ℕ)) → live_by any_handle xs ≡ length xs
-live-all [] = refl
-live-all (x ∷ xs) = omega (arith, live-all xs)
-
--- ---- fewer pass a narrower test
-
-Narrows : (Handle → ℕ → Bool) → (Handle → ℕ → Bool) → Type 0
-Narrows p q = (x : Handle) (k : ℕ) → p x k ≡ true → q x k ≡ true
-
-one-le : (a b : Bool) (m n : ℕ) → (a ≡ true → b ≡ true) → m ≤ n → (if a then 1 else 0) + m ≤ (if b then 1 else 0) + n
-one-le true true m n i le = omega arith
-one-le true false m n i le = let e : false ≡ true = i refl in cc
-one-le false true m n i le = omega arith
-one-le false false m n i le = omega arith
-
-pub live-le : (p q : Handle → ℕ → Bool) (xs : List (Live ℕ)) → ((x : Handle) (k : ℕ) → p x k ≡ true → q x k ≡ true) → live_by p xs ≤ live_by q xs
-live-le p q [] i = omega arith
-live-le p q (x ∷ xs) i = one-le (p x.handle x.value) (q x.handle x.value) _ _ (i x.handle x.value) (live-le p q xs i)
-
-pub and-left : (a b : Bool) → (a && b) ≡ true → a ≡ true
-and-left true b e = refl
-and-left false b e = e
 
 -- ---- lists without a handle
 
@@ -134,24 +102,11 @@ pub linked-unlinked : (me : Handle) (p : Handle → ℕ → Bool) (k : ℕ) (is 
 linked-unlinked me p k [] = refl
 linked-unlinked me p k (o ∷ is) = rw (index-unlinked me p k o, linked-unlinked me p (k + 1) is) refl
 
-pub live-without : (me : Handle) (p : Handle → ℕ → Bool) (xs : List (Live ℕ)) → live_by p (filter (λ x. not (same_handle x.handle me)) xs) ≡ live_by (but me p) xs
-live-without me p [] = refl
-live-without me p (x ∷ xs) =
-    let rest : List (Live ℕ) = filter (λ y. not (same_handle y.handle me)) xs in
-    elim (same_handle x.handle me) as (λ s. live_by p (if not s then x ∷ rest else rest) ≡ (if p x.handle x.value && not s then 1 else 0) + live_by (but me p) xs) [
-      | true ↦ one-but (p x.handle x.value) true _ _ (live-without me p xs)
-      | false ↦ one-but (p x.handle x.value) false _ _ (live-without me p xs)
-    ]
-
 -- ---- lists with one more
 
 pub entries-push : (p : Handle → ℕ → Bool) (k : ℕ) (xs : List Linked) (x : Linked) → entries_by p k (xs ++ x ∷ []) ≡ entries_by p k xs + (if p x.handle k then 1 else 0)
 entries-push p k [] x = omega arith
 entries-push p k (y ∷ ys) x = omega (arith, entries-push p k ys x)
-
-pub live-push : (p : Handle → ℕ → Bool) (xs : List (Live ℕ)) (x : Live ℕ) → live_by p (xs ++ x ∷ []) ≡ live_by p xs + (if p x.handle x.value then 1 else 0)
-live-push p [] x = omega arith
-live-push p (y ∷ ys) x = omega (arith, live-push p ys x)
 
 -- ---- a running offset moves
 

@@ -1,8 +1,11 @@
 pub mod Counting
 pub mod Exchanging
+pub mod Headers
 pub mod Kept
 pub mod Naming
 pub mod Placed
+pub mod Records
 pub mod Swapping
+pub mod Taking
 pub mod Views
 pub mod Within

@@ -1,4 +1,4 @@
--- What a list of headers names, and whether an entry finds some.
+-- Whether an entry finds some header.
 use Rattle.std.proofs.Common.{◌≡◌, ℕ, Bool, true, false, ◌||◌, List, [], ◌∷◌, ◌++◌, Some, None, if◌then◌else◌, refl, ap, ◌∙◌}
 use Rattle.ptl_types.specs.declared.handles.Handle.{Handle}
 use Rattle.ptl_types.specs.declared.entries.Entry.{Entry}
@@ -6,16 +6,6 @@ use Rattle.ptl_types.specs.Handles.{same_handle}
 use Rattle.ni_model.specs.declared.Noted.{Noted}
 use Rattle.ni_model.specs.Headers.{names_entry, finds, oldest, found_in}
 use Rattle.ni_model.specs.Append.{counted_by, overflow_counter}
-
-or-assoc : (a b c : Bool) → (a || (b || c)) ≡ ((a || b) || c)
-or-assoc true b c = refl
-or-assoc false b c = refl
-
-pub names-append : (me : Handle) (xs ys : List Noted) → names_entry me (xs ++ ys) ≡ (names_entry me xs || names_entry me ys)
-names-append me [] ys = refl
-names-append me (x ∷ xs) ys = ap (λ r. same_handle x.header.entry me || r) (names-append me xs ys) ∙ or-assoc (same_handle x.header.entry me) (names_entry me xs) (names_entry me ys)
-
-pub ruleset naming = (names-append)
 
 -- a counting event rises where some header is found, which is where there is an oldest
 pub counted-some : (e : Entry) (pt : ℕ) (hs : List Noted) (a : Noted) → oldest pt e hs ≡ Some a → counted_by e (found_in pt e hs) ≡ overflow_counter e

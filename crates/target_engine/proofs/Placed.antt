@@ -1,5 +1,5 @@
--- The table of places and the linked entries agree, before and after each call.
-use Rattle.std.proofs.Common.{◌≡◌, ℕ, zero, suc, ◌+◌, ◌<◌, ◌≤◌, Bool, true, false, not, ◌||◌, ◌&&◌, List, [], ◌∷◌, Option, Some, None, map, length, get_or, set, if◌then◌else◌, nat_lt, nat_eq, refl, sym, ap, ◌∙◌, arith, replicate}
+-- The records and the linked entries and headers agree, before and after each call.
+use Rattle.std.proofs.Common.{◌≡◌, ℕ, zero, suc, ◌+◌, ◌-◌, ◌<◌, ◌≤◌, Bool, true, false, not, ◌||◌, ◌&&◌, List, [], ◌∷◌, ◌++◌, Option, Some, None, map, length, get_or, set, if◌then◌else◌, nat_lt, nat_le, nat_eq, refl, sym, ap, ◌∙◌, arith, replicate}
 use Rattle.std.specs.Prelude.{sum_by, is_some, slice_set}
 use Rattle.std.proofs.lemmas.List.Sums.{get_or-le-sum_by}
 use Rattle.std.proofs.lemmas.List.{get_or_past}
@@ -12,50 +12,228 @@ use Rattle.ptl_types.specs.declared.entries.List.TheVariants.{Priority, Overflow
 use Rattle.ptl_types.specs.Handles.{same_handle}
 use Rattle.ni_model.specs.declared.Linked.{Linked}
 use Rattle.ni_model.specs.declared.Found.{Found}
-use Rattle.ni_model.specs.Tables.{Live, Table, lookup, has_slot, handle, with_new, without, no_things}
+use Rattle.ni_model.specs.declared.Noted.{Noted}
+use Rattle.ni_model.specs.Tables.{Live, Table, lookup, has_slot, handle, with_new, no_things}
 use Rattle.ni_model.specs.Lists.{Index, index_at, entries_in, is_linked, is_linked_at, unlinked, advanced, with_list}
+use Rattle.ni_model.specs.Headers.{names_entry}
 use Rattle.ni_model.specs.Arrive.{is_over, running_after, entries_after, settled_at, indices_after}
 use Rattle.ni_model.specs.Refusals.{is_linked_anywhere}
 use Rattle.ni_model.specs.Append.{fresh, linked_at}
 use Rattle.ni_model.specs.Calls.{slot_in, entry_slot, unlinked_in}
-use Rattle.target_engine.specs.Shelves.{entries_by, index_by, linked_by, live_by, is_handle, ArePlaced, places_after}
-use Rattle.target_engine.proofs.Counting.{any_handle, is_slot, but, elsewhere, is_linked_anywhere-count, entry_slot-count, has_slot-count, lookup-count, linked-all, live-all, live-le, and-left, linked-unlinked, live-without, entries-push, live-push, entries-advanced, linked-set, linked-same, linked-split, unlinked-none, map-at}
+use Rattle.target_engine.specs.declared.places.Placed.{Placed}
+use Rattle.target_engine.specs.Shelves.{entries_by, index_by, linked_by, noted_by, sum_of, named_as, linked_as, headers_as, idle_as, is_idle, is_on, where_on, headers_in, frees_at, one_more, one_fewer, not_linked, placed_anew, changed_by, placed_by, places_after, linked_after, ArePlaced}
+use Rattle.target_engine.proofs.Counting.{any_handle, is_handle, is_slot, but, elsewhere, is_linked_anywhere-count, entry_slot-count, linked-all, linked-unlinked, entries-push, entries-advanced, linked-set, linked-same, linked-split, unlinked-none, map-at}
+use Rattle.target_engine.proofs.Headers.{is_entry, names-count, noted-all, noted-append}
+use Rattle.target_engine.proofs.Records.{one_if, same-self, number_at, sum-split, but-zero, but-same, sum-push, sum-anew, named-anew, busy-anew}
 
--- ---- what the table tells of the entries
+-- ---- what the records tell of the entries and of the headers
 
-pub placed-anywhere : (h : Handle) (is : List (Option Index)) (t : Table ℕ) → ArePlaced is t → is_linked_anywhere h is ≡ is_some (lookup h t.live)
-placed-anywhere h is t a = is_linked_anywhere-count h 0 is ∙ ap (λ n. nat_lt 0 n) (a.same (is_handle h)) ∙ sym (lookup-count h t.live)
+-- of one entry
+there-alone : (f : Handle → Placed → ℕ) (me : Handle) (is : List (Option Index)) (hs : List Noted) (t : Table Placed) → ArePlaced is hs t → ((h : Handle) (v : Placed) → same_handle h me ≡ false → f h v ≡ 0) → sum_of f t.live ≡ number_at f me (lookup me t.live)
+there-alone f me is hs t a none = omega (arith, sum-split me f t.live (a.once me), but-zero me f t.live none)
 
-pub placed-count : (is : List (Option Index)) (t : Table ℕ) → ArePlaced is t → sum_by entries_in is ≡ length t.live
-placed-count is t a = sym (linked-all 0 is) ∙ a.same any_handle ∙ live-all t.live
+apart-linked : (b s : Bool) → s ≡ false → one_if (b && s) ≡ 0
+apart-linked true s e = rw e refl
+apart-linked false s e = refl
 
-pub placed-slot : (s : ℕ) (is : List (Option Index)) (t : Table ℕ) → ArePlaced is t → entry_slot is s ≡ has_slot s t.live
-placed-slot s is t a = entry_slot-count s 0 is ∙ ap (λ n. nat_lt 0 n) (a.same (is_slot s)) ∙ sym (has_slot-count s t.live)
+on-number : (me : Handle) (o : Option Placed) → nat_lt 0 (number_at (linked_as (is_handle me)) me o) ≡ is_on o
+on-number me None = refl
+on-number me (Some v) = rw (same-self me) (elim v.linked as (λ b. nat_lt 0 (if b && true then 1 else 0) ≡ b) [ true ↦ refl | false ↦ refl ])
+
+pub placed-anywhere : (me : Handle) (is : List (Option Index)) (hs : List Noted) (t : Table Placed) → ArePlaced is hs t → is_linked_anywhere me is ≡ is_on (lookup me t.live)
+placed-anywhere me is hs t a =
+    is_linked_anywhere-count me 0 is
+    ∙ ap (λ n. nat_lt 0 n) (a.same (is_handle me) ∙ there-alone (linked_as (is_handle me)) me is hs t a (λ h v e. apart-linked v.linked (same_handle h me) e))
+    ∙ on-number me (lookup me t.live)
+
+pub on-none : (o : Option Placed) → where_on o ≡ None → is_on o ≡ false
+on-none None e = refl
+on-none (Some v) e = elim v.linked as (λ b. (if b then Some v else None) ≡ None → b ≡ false) [ true ↦ λ f. cc | false ↦ λ f. refl ] e
+
+pub on-here : (o : Option Placed) (w : Placed) → where_on o ≡ Some w → (o ≡ Some w) × (w.linked ≡ true)
+on-here None w e = cc
+on-here (Some v) w e =
+    elim v.linked as (λ b. v.linked ≡ b → (if b then Some v else None) ≡ Some w → (Some v ≡ Some w) × (w.linked ≡ true)) [
+      | true ↦ λ l f. let g : v ≡ w = cc in (f, ap (λ (x : Placed). x.linked) (sym g) ∙ l)
+      | false ↦ λ l f. cc
+    ] refl e
+
+headers-number : (me : Handle) (o : Option Placed) → number_at (headers_as (is_entry me)) me o ≡ headers_in o
+headers-number me None = refl
+headers-number me (Some v) = rw (same-self me) refl
+
+pub placed-headers : (me : Handle) (is : List (Option Index)) (hs : List Noted) (t : Table Placed) → ArePlaced is hs t → noted_by (is_entry me) hs ≡ headers_in (lookup me t.live)
+placed-headers me is hs t a =
+    a.lies (is_entry me) ∙ there-alone (headers_as (is_entry me)) me is hs t a (λ h v e. rw e refl) ∙ headers-number me (lookup me t.live)
+
+pub placed-names : (me : Handle) (is : List (Option Index)) (hs : List Noted) (t : Table Placed) → ArePlaced is hs t → names_entry me hs ≡ nat_lt 0 (headers_in (lookup me t.live))
+placed-names me is hs t a = names-count me hs ∙ ap (λ n. nat_lt 0 n) (placed-headers me is hs t a)
+
+slot-unlinked : (s : ℕ) (xs : List (Live Placed)) → has_slot s xs ≡ false → sum_of (linked_as (is_slot s)) xs ≡ 0
+slot-unlinked s [] e = refl
+slot-unlinked s (x ∷ xs) e =
+    elim (nat_eq x.handle.slot s) as (λ b. (b || has_slot s xs) ≡ false → (if x.value.linked && b then 1 else 0) + sum_of (linked_as (is_slot s)) xs ≡ 0) [
+      | true ↦ λ f. cc
+      | false ↦ λ f. omega (arith, apart-linked x.value.linked false refl, slot-unlinked s xs f)
+    ] e
+
+pub placed-slot : (s : ℕ) (is : List (Option Index)) (hs : List Noted) (t : Table Placed) → ArePlaced is hs t → has_slot s t.live ≡ false → entry_slot is s ≡ false
+placed-slot s is hs t a free = entry_slot-count s 0 is ∙ ap (λ n. nat_lt 0 n) (a.same (is_slot s) ∙ slot-unlinked s t.live free)
+
+-- ---- there is room for a record of each linked entry and of each in which a header lies
+
+needed : (v : Placed) → one_if (is_idle v) ≡ 0 → 1 ≤ one_if (v.linked && true) + v.headers
+needed v e =
+    elim v.linked as (λ b. one_if (not b && nat_eq v.headers 0) ≡ 0 → 1 ≤ one_if (b && true) + v.headers) [
+      | true ↦ λ f. omega arith
+      | false ↦ λ f. elim (nat_eq v.headers 0) as (λ z. nat_eq v.headers 0 ≡ z → one_if z ≡ 0 → 1 ≤ 0 + v.headers) [
+        | true ↦ λ z g. absurd (omega arith)
+        | false ↦ λ z g. grind (arith, nat_tests)
+      ] refl f
+    ] e
+
+live-few : (xs : List (Live Placed)) → sum_of idle_as xs ≡ 0 → length xs ≤ sum_of (linked_as any_handle) xs + sum_of (headers_as (λ h. true)) xs
+live-few [] e = omega arith
+live-few (x ∷ xs) e = omega (arith, live-few xs (omega arith), needed x.value (omega arith))
+
+pub placed-few : (is : List (Option Index)) (hs : List Noted) (t : Table Placed) → ArePlaced is hs t → length t.live ≤ sum_by entries_in is + length hs
+placed-few is hs t a = omega (arith, live-few t.live a.busy, a.same any_handle, a.lies (λ h. true), linked-all 0 is, noted-all hs)
+
+-- ---- a record is put in the place of the old one
+
+fits-linked : (p : Handle → ℕ → Bool) (me : Handle) (v : Placed) → is_idle v ≡ true → linked_as p me v ≡ 0
+fits-linked p me v e =
+    elim v.linked as (λ b. (not b && nat_eq v.headers 0) ≡ true → (if b && p me v.pt then 1 else 0) ≡ 0) [
+      | true ↦ λ f. cc
+      | false ↦ λ f. refl
+    ] e
+
+fits-headers : (p : Handle → Bool) (me : Handle) (v : Placed) → is_idle v ≡ true → headers_as p me v ≡ 0
+fits-headers p me v e =
+    let none : v.headers ≡ 0 = elim v.linked as (λ b. (not b && nat_eq v.headers 0) ≡ true → v.headers ≡ 0) [
+      | true ↦ λ f. cc
+      | false ↦ λ f. grind (arith, nat_tests)
+    ] e in
+    elim (p me) as (λ b. (if b then v.headers else 0) ≡ 0) [ true ↦ none | false ↦ refl ]
+
+placed-anew : (me : Handle) (w v : Placed) (is ks : List (Option Index)) (hs gs : List Noted) (t : Table Placed) → ArePlaced is hs t → lookup me t.live ≡ Some w → ((p : Handle → ℕ → Bool) → linked_by p 0 ks + linked_as p me w ≡ linked_by p 0 is + linked_as p me v) → ((p : Handle → Bool) → noted_by p gs + headers_as p me w ≡ noted_by p hs + headers_as p me v) → ArePlaced ks gs (placed_anew me v t)
+placed-anew me w v is ks hs gs t a at linked lies = record {
+  same = λ p.
+      let s = rw at at (sum-split me (linked_as p) t.live (a.once me)) in
+      let n = sum-anew me (linked_as p) t w v (a.once me) at (fits-linked p me v) in
+      omega (arith, s, n, a.same p, linked p);
+  lies = λ p.
+      let s = rw at at (sum-split me (headers_as p) t.live (a.once me)) in
+      let n = sum-anew me (headers_as p) t w v (a.once me) at (fits-headers p me v) in
+      omega (arith, s, n, a.lies p, lies p);
+  once = λ h. omega (arith, named-anew h me v t, a.once h);
+  busy = busy-anew me t w v (a.once me) at a.busy;
+}
+
+-- ---- a header comes or goes
+
+one-header : (p : Handle → Bool) (me : Handle) (v : Placed) → (if p me then 1 else 0) + headers_as p me v ≡ headers_as p me (one_more v)
+one-header p me v = elim (p me) as (λ b. (if b then 1 else 0) + (if b then v.headers else 0) ≡ (if b then v.headers + 1 else 0)) [ true ↦ omega arith | false ↦ refl ]
+
+pub placed-more : (a : Noted) (w : Placed) (is : List (Option Index)) (hs : List Noted) (t : Table Placed) → ArePlaced is hs t → lookup a.header.entry t.live ≡ Some w → ArePlaced is (hs ++ a ∷ []) (placed_by a.header.entry one_more t)
+placed-more a w is hs t p at =
+    rw at
+    (placed-anew a.header.entry w (one_more w) is is hs (hs ++ a ∷ []) t p at (λ q. refl)
+    (λ q. omega (arith, noted-append q hs (a ∷ []), one-header q a.header.entry w)))
+
+less-header : (p : Handle → Bool) (me : Handle) (v : Placed) → 1 ≤ v.headers → (if p me then 1 else 0) + headers_as p me (one_fewer v) ≡ headers_as p me v
+less-header p me v le = elim (p me) as (λ b. (if b then 1 else 0) + (if b then v.headers - 1 else 0) ≡ (if b then v.headers else 0)) [ true ↦ omega arith | false ↦ refl ]
+
+-- the headers with one more of this entry
+abbrev pub HasOneOf : Handle → List Noted → List Noted → Type 0
+HasOneOf me hs left = (p : Handle → Bool) → noted_by p hs ≡ (if p me then 1 else 0) + noted_by p left
+
+one-there : (me : Handle) (is : List (Option Index)) (hs left : List Noted) (t : Table Placed) → ArePlaced is hs t → HasOneOf me hs left → headers_in (lookup me t.live) ≡ 1 + noted_by (is_entry me) left
+one-there me is hs left t a one =
+    let o = rw (same-self me) at (one (is_entry me)) in
+    omega (arith, placed-headers me is hs t a, o)
+
+fewer-by : (me : Handle) (is : List (Option Index)) (hs left : List Noted) (t : Table Placed) (o : Option Placed) → ArePlaced is hs t → HasOneOf me hs left → lookup me t.live ≡ o → 1 ≤ headers_in o → ArePlaced is left (changed_by me one_fewer o t)
+fewer-by me is hs left t None a one at le = absurd (omega arith)
+fewer-by me is hs left t (Some w) a one at le =
+    placed-anew me w (one_fewer w) is is hs left t a at (λ p. refl) (λ p. omega (arith, one p, less-header p me w le))
+
+pub placed-fewer : (me : Handle) (is : List (Option Index)) (hs left : List Noted) (t : Table Placed) → ArePlaced is hs t → HasOneOf me hs left → ArePlaced is left (placed_by me one_fewer t)
+placed-fewer me is hs left t a one = fewer-by me is hs left t (lookup me t.live) a one refl (omega (arith, one-there me is hs left t a one))
+
+last-one : (n : ℕ) → nat_le (1 + n) 1 ≡ not (nat_lt 0 n)
+last-one n = grind (arith, nat_tests)
+
+both-not : (a b : Bool) → (not a && not b) ≡ not (b || a)
+both-not true true = refl
+both-not true false = refl
+both-not false true = refl
+both-not false false = refl
+
+-- what the record tells of the entry's freeing
+pub placed-frees : (gone : Noted) (is : List (Option Index)) (hs left : List Noted) (t : Table Placed) → ArePlaced is hs t → HasOneOf gone.header.entry hs left → frees_at is t gone ≡ not (is_linked_at Overflow gone.header.entry (index_at gone.pt is) || names_entry gone.header.entry left)
+placed-frees gone is hs left t a one =
+    let me : Handle = gone.header.entry in
+    let n : nat_le (headers_in (lookup me t.live)) 1 ≡ not (names_entry me left) =
+    ap (λ k. nat_le k 1) (one-there me is hs left t a one) ∙ last-one (noted_by (is_entry me) left) ∙ ap not (sym (names-count me left)) in
+    rw n (both-not (names_entry me left) (is_linked_at Overflow me (index_at gone.pt is)))
+
+-- other headers that lie in the same entries
+pub placed-noted : (is : List (Option Index)) (hs gs : List Noted) (t : Table Placed) → ArePlaced is hs t → ((p : Handle → Bool) → noted_by p gs ≡ noted_by p hs) → ArePlaced is gs t
+placed-noted is hs gs t a e = record { same = a.same; lies = λ p. e p ∙ a.lies p; once = a.once; busy = a.busy }
 
 -- ---- an entry at its place
 
-live-there : (me : Handle) (pt : ℕ) (xs : List (Live ℕ)) → lookup me xs ≡ Some pt → live_by (is_handle me) xs ≤ 1 → live_by (elsewhere me pt) xs ≡ 0
-live-there me pt [] e one = refl
-live-there me pt (x ∷ xs) e one =
-    elim (same_handle x.handle me) as (λ s. (if s then Some x.value else lookup me xs) ≡ Some pt → (if s then 1 else 0) + live_by (is_handle me) xs ≤ 1 → (if s && not (nat_eq x.value pt) then 1 else 0) + live_by (elsewhere me pt) xs ≡ 0) [
-      | true ↦ λ is le.
-          let v : x.value ≡ pt = cc in
-          let t : nat_eq x.value pt ≡ true = grind (arith, nat_tests) in
-          let n : live_by (elsewhere me pt) xs ≤ live_by (is_handle me) xs = live-le (elsewhere me pt) (is_handle me) xs (λ y k p. and-left _ _ p) in
-          rw t (omega arith)
-      | false ↦ λ is le. let r = live-there me pt xs is (omega arith) in omega (arith, r)
-    ] e one
+there-zero : (b : Bool) (n : ℕ) → one_if (b && (true && not (nat_eq n n))) ≡ 0
+there-zero b n = let e : nat_eq n n ≡ true = grind (arith, nat_tests) in rw e (elim b as (λ c. one_if (c && false) ≡ 0) [ true ↦ refl | false ↦ refl ])
 
-pub unlinked-at : (me : Handle) (pt : ℕ) (is : List (Option Index)) (t : Table ℕ) → ArePlaced is t → lookup me t.live ≡ Some pt → map (unlinked_in me) is ≡ set is pt (unlinked_in me (get_or is pt None))
-unlinked-at me pt is t a e = map-at me pt 0 pt is (omega arith) (a.same (elsewhere me pt) ∙ live-there me pt t.live e (a.once me))
+apart-elsewhere : (b s c : Bool) → s ≡ false → one_if (b && (s && c)) ≡ 0
+apart-elsewhere true s c e = rw e refl
+apart-elsewhere false s c e = refl
 
--- ---- an entry goes
+pub unlinked-at : (me : Handle) (w : Placed) (is : List (Option Index)) (hs : List Noted) (t : Table Placed) → ArePlaced is hs t → lookup me t.live ≡ Some w → map (unlinked_in me) is ≡ set is w.pt (unlinked_in me (get_or is w.pt None))
+unlinked-at me w is hs t a at =
+    let n = rw at at (there-alone (linked_as (elsewhere me w.pt)) me is hs t a (λ h v e. apart-elsewhere v.linked (same_handle h me) (not (nat_eq v.pt w.pt)) e)) in
+    let z : linked_as (elsewhere me w.pt) me w ≡ 0 = rw (same-self me) (there-zero w.linked w.pt) in
+    map-at me w.pt 0 w.pt is (omega arith) (a.same (elsewhere me w.pt) ∙ n ∙ z)
 
-pub placed-without : (me : Handle) (is : List (Option Index)) (t : Table ℕ) → ArePlaced is t → ArePlaced (map (unlinked_in me) is) (without me t)
-placed-without me is t a = record {
-  same = λ p. linked-unlinked me p 0 is ∙ a.same (but me p) ∙ sym (live-without me p t.live);
-  once = λ h. let e = live-without me (is_handle h) t.live in let le = live-le (but me (is_handle h)) (is_handle h) t.live (λ y k p. and-left _ _ p) in omega (arith, e, le, a.once h);
-}
+-- ---- an entry is unlinked
+
+apart-but : (b q s : Bool) → s ≡ false → one_if (b && (q && not s)) ≡ one_if (b && q)
+apart-but b true s e = rw e refl
+apart-but b false s e = refl
+
+off-zero : (b q : Bool) → one_if (b && (q && false)) ≡ 0
+off-zero true true = refl
+off-zero true false = refl
+off-zero false q = refl
+
+off-sum : (me : Handle) (w : Placed) (p : Handle → ℕ → Bool) (is : List (Option Index)) (hs : List Noted) (t : Table Placed) → ArePlaced is hs t → lookup me t.live ≡ Some w → linked_by p 0 (map (unlinked_in me) is) + linked_as p me w ≡ linked_by p 0 is
+off-sum me w p is hs t a at =
+    let s = rw at at (sum-split me (linked_as p) t.live (a.once me)) in
+    let b = rw at at (sum-split me (linked_as (but me p)) t.live (a.once me)) in
+    let e = but-same me (linked_as (but me p)) (linked_as p) t.live (λ h v f. apart-but v.linked (p h v.pt) (same_handle h me) f) in
+    let z : linked_as (but me p) me w ≡ 0 = rw (same-self me) (off-zero w.linked (p me w.pt)) in
+    omega (arith, linked-unlinked me p 0 is, a.same (but me p), a.same p, s, b, e, z)
+
+pub placed-unlinked : (me : Handle) (w : Placed) (is : List (Option Index)) (hs : List Noted) (t : Table Placed) → ArePlaced is hs t → lookup me t.live ≡ Some w → ArePlaced (map (unlinked_in me) is) hs (placed_by me not_linked t)
+placed-unlinked me w is hs t a at =
+    rw at
+    (placed-anew me w (not_linked w) is (map (unlinked_in me) is) hs hs t a at (λ p. omega (arith, off-sum me w p is hs t a at)) (λ p. refl))
+
+-- one entry fewer is linked then
+pub one-off : (me : Handle) (w : Placed) (is : List (Option Index)) (hs : List Noted) (t : Table Placed) → ArePlaced is hs t → lookup me t.live ≡ Some w → w.linked ≡ true → sum_by entries_in (map (unlinked_in me) is) + 1 ≡ sum_by entries_in is
+one-off me w is hs t a at on =
+    let e : linked_as any_handle me w ≡ 1 = rw on refl in
+    omega (arith, off-sum me w any_handle is hs t a at, linked-all 0 is, linked-all 0 (map (unlinked_in me) is), e)
+
+on-some : (o : Option Placed) → is_on o ≡ true → (w : Placed) × (o ≡ Some w) × (w.linked ≡ true)
+on-some None e = cc
+on-some (Some w) e = (w, refl, e)
+
+-- the record of an entry that is linked
+pub placed-on : (me : Handle) (is : List (Option Index)) (hs : List Noted) (t : Table Placed) → ArePlaced is hs t → is_linked_anywhere me is ≡ true → (w : Placed) × (lookup me t.live ≡ Some w) × (w.linked ≡ true)
+placed-on me is hs t a e = on-some (lookup me t.live) (sym (placed-anywhere me is hs t a) ∙ e)
 
 -- ---- an entry goes by a message
 
@@ -93,16 +271,30 @@ over-at : (f : Found) (h : Header) (k : ℕ) (o : Option Index) → is_over f.li
 over-at f h k None over e one = refl
 over-at f h k (Some i) over e one = ap (λ (j : Index). Some j) (list-over f.list f.linked h i over) ∙ sym (one-list f.list f.linked.handle k i e one)
 
-pub settled-over : (f : Found) (h : Header) (is : List (Option Index)) (t : Table ℕ) → ArePlaced is t → is_linked_at f.list f.linked.handle (index_at h.pt is) ≡ true → is_over f.linked h ≡ true → indices_after f h is ≡ map (unlinked_in f.linked.handle) is
-settled-over f h is t a e over =
+number-few : (me : Handle) (o : Option Placed) → number_at (linked_as (is_handle me)) me o ≤ 1
+number-few me None = omega arith
+number-few me (Some v) = elim (v.linked && same_handle me me) as (λ b. (if b then 1 else 0) ≤ 1) [ true ↦ omega arith | false ↦ omega arith ]
+
+few-at : (me : Handle) (pt : ℕ) (is : List (Option Index)) (hs : List Noted) (t : Table Placed) → ArePlaced is hs t → linked_by (is_handle me) 0 is ≤ 1
+few-at me pt is hs t a = omega (arith, a.same (is_handle me), there-alone (linked_as (is_handle me)) me is hs t a (λ h v e. apart-linked v.linked (same_handle h me) e), number-few me (lookup me t.live))
+
+pub settled-over : (f : Found) (h : Header) (is : List (Option Index)) (hs : List Noted) (t : Table Placed) → ArePlaced is hs t → is_linked_at f.list f.linked.handle (index_at h.pt is) ≡ true → is_over f.linked h ≡ true → indices_after f h is ≡ map (unlinked_in f.linked.handle) is
+settled-over f h is hs t a e over =
     let me : Handle = f.linked.handle in
     let here = linked_at-some f.list me h.pt (get_or is h.pt None) e in
     let split = linked-split me h.pt 0 h.pt is (omega arith) in
-    let all : linked_by (is_handle me) 0 is ≡ live_by (is_handle me) t.live = a.same (is_handle me) in
-    let one = a.once me in
+    let one = few-at me h.pt is hs t a in
     let none : linked_by (elsewhere me h.pt) 0 is ≡ 0 = omega arith in
     let few : index_by (is_handle me) h.pt (get_or is h.pt None) ≤ 1 = omega arith in
     ap (λ o. set is h.pt o) (over-at f h h.pt (get_or is h.pt None) over e few) ∙ sym (map-at me h.pt 0 h.pt is (omega arith) none)
+
+-- an entry in a list of an index is linked
+pub linked-anywhere : (place : Place) (me : Handle) (pt : ℕ) (is : List (Option Index)) → is_linked_at place me (index_at pt is) ≡ true → is_linked_anywhere me is ≡ true
+linked-anywhere place me pt is e =
+    let here = linked_at-some place me pt (get_or is pt None) e in
+    let split = linked-split me pt 0 pt is (omega arith) in
+    let some : 0 < linked_by (is_handle me) 0 is = omega arith in
+    is_linked_anywhere-count me 0 is ∙ grind (arith, nat_tests)
 
 entries-stay : (x : Linked) (h : Header) (p : Handle → ℕ → Bool) (k : ℕ) (xs : List Linked) → is_over x h ≡ false → entries_by p k (entries_after x h xs) ≡ entries_by p k xs
 entries-stay x h p k xs over =
@@ -121,17 +313,34 @@ index-stays f h p k None over = refl
 index-stays f h p k (Some i) over = list-stays f.list f.linked h p k i over
 
 -- where the handles of an index stay, so do all
-pub placed-same : (pt : ℕ) (is : List (Option Index)) (t : Table ℕ) (o : Option Index) → ArePlaced is t → ((p : Handle → ℕ → Bool) → index_by p pt o ≡ index_by p pt (get_or is pt None)) → ArePlaced (set is pt o) t
-placed-same pt is t o a e = record {
+pub placed-same : (pt : ℕ) (is : List (Option Index)) (hs : List Noted) (t : Table Placed) (o : Option Index) → ArePlaced is hs t → ((p : Handle → ℕ → Bool) → index_by p pt o ≡ index_by p pt (get_or is pt None)) → ArePlaced (set is pt o) hs t
+placed-same pt is hs t o a e = record {
   same = λ p. let z : 0 + pt ≡ pt = omega arith in linked-same p 0 pt is o (rw z (e p)) ∙ a.same p;
+  lies = a.lies;
   once = a.once;
+  busy = a.busy;
 }
 
-pub placed-settled : (f : Found) (h : Header) (is : List (Option Index)) (t : Table ℕ) → ArePlaced is t → is_linked_at f.list f.linked.handle (index_at h.pt is) ≡ true → ArePlaced (indices_after f h is) (places_after f h t)
-placed-settled f h is t a e =
-    elim (is_over f.linked h) as (λ b. is_over f.linked h ≡ b → ArePlaced (indices_after f h is) (if b then without f.linked.handle t else t)) [
-      | true ↦ λ over. rw (settled-over f h is t a e over) (placed-without f.linked.handle is t a)
-      | false ↦ λ over. placed-same h.pt is t (settled_at f h (get_or is h.pt None)) a (λ p. index-stays f h p h.pt (get_or is h.pt None) over)
+-- as many entries are linked then
+pub same-many : (pt : ℕ) (is : List (Option Index)) (o : Option Index) → ((p : Handle → ℕ → Bool) → index_by p pt o ≡ index_by p pt (get_or is pt None)) → sum_by entries_in (set is pt o) ≡ sum_by entries_in is
+same-many pt is o e =
+    let z : 0 + pt ≡ pt = omega arith in
+    sym (linked-all 0 (set is pt o)) ∙ linked-same any_handle 0 pt is o (rw z (e any_handle)) ∙ linked-all 0 is
+
+pub placed-settled : (f : Found) (h : Header) (is : List (Option Index)) (hs : List Noted) (t : Table Placed) → ArePlaced is hs t → is_linked_at f.list f.linked.handle (index_at h.pt is) ≡ true → ArePlaced (indices_after f h is) hs (places_after f h t)
+placed-settled f h is hs t a e =
+    let w = placed-on f.linked.handle is hs t a (linked-anywhere f.list f.linked.handle h.pt is e) in
+    elim (is_over f.linked h) as (λ b. is_over f.linked h ≡ b → ArePlaced (indices_after f h is) hs (if b then placed_by f.linked.handle not_linked t else t)) [
+      | true ↦ λ over. rw (settled-over f h is hs t a e over) (placed-unlinked f.linked.handle w.0 is hs t a w.1)
+      | false ↦ λ over. placed-same h.pt is hs t (settled_at f h (get_or is h.pt None)) a (λ p. index-stays f h p h.pt (get_or is h.pt None) over)
+    ] refl
+
+pub many-settled : (f : Found) (h : Header) (is : List (Option Index)) (hs : List Noted) (t : Table Placed) → ArePlaced is hs t → is_linked_at f.list f.linked.handle (index_at h.pt is) ≡ true → linked_after f h (sum_by entries_in is) ≡ sum_by entries_in (indices_after f h is)
+many-settled f h is hs t a e =
+    let w = placed-on f.linked.handle is hs t a (linked-anywhere f.list f.linked.handle h.pt is e) in
+    elim (is_over f.linked h) as (λ b. is_over f.linked h ≡ b → (if b then sum_by entries_in is - 1 else sum_by entries_in is) ≡ sum_by entries_in (indices_after f h is)) [
+      | true ↦ λ over. rw (settled-over f h is hs t a e over) (omega (arith, one-off f.linked.handle w.0 is hs t a w.1 w.2))
+      | false ↦ λ over. sym (same-many h.pt is (settled_at f h (get_or is h.pt None)) (λ p. index-stays f h p h.pt (get_or is h.pt None) over))
     ] refl
 
 -- ---- an entry comes
@@ -145,42 +354,60 @@ index-push : (place : Place) (p : Handle → ℕ → Bool) (k : ℕ) (i : Index)
 index-push Priority p k i x = omega (arith, entries-push p k i.priority x)
 index-push Overflow p k i x = omega (arith, entries-push p k i.overflow x)
 
-slot-none : (g : Handle) (s : ℕ) (xs : List (Live ℕ)) → has_slot s xs ≡ false → g.slot ≡ s → live_by (is_handle g) xs ≡ 0
+slot-none : (g : Handle) (s : ℕ) (xs : List (Live Placed)) → has_slot s xs ≡ false → g.slot ≡ s → sum_of (named_as g) xs ≡ 0
 slot-none g s [] e is = refl
 slot-none g s (x ∷ xs) e is =
-    elim (nat_eq x.handle.slot s) as (λ b. nat_eq x.handle.slot s ≡ b → (b || has_slot s xs) ≡ false → (if same_handle x.handle g then 1 else 0) + live_by (is_handle g) xs ≡ 0) [
+    elim (nat_eq x.handle.slot s) as (λ b. nat_eq x.handle.slot s ≡ b → (b || has_slot s xs) ≡ false → (if same_handle x.handle g then 1 else 0) + sum_of (named_as g) xs ≡ 0) [
       | true ↦ λ f n. cc
       | false ↦ λ f n. let h : same_handle x.handle g ≡ false = grind (arith, nat_tests) in rw (h, slot-none g s xs n is) refl
     ] refl e
 
-once-more : (slot pt : ℕ) (t : Table ℕ) (g : Handle) → has_slot slot t.live ≡ false → live_by (is_handle g) t.live ≤ 1 → live_by (is_handle g) (with_new slot pt t).live ≤ 1
+-- the record of an entry that is linked now
+abbrev pub fresh_at : ℕ → Placed
+fresh_at pt = record { pt = pt; linked = true; headers = 0 }
+
+once-more : (slot pt : ℕ) (t : Table Placed) (g : Handle) → has_slot slot t.live ≡ false → sum_of (named_as g) t.live ≤ 1 → sum_of (named_as g) (with_new slot (fresh_at pt) t).live ≤ 1
 once-more slot pt t g free one =
     let h : Handle = handle slot t.given in
-    let e = live-push (is_handle g) t.live (record { handle = h; value = pt }) in
-    elim (same_handle h g) as (λ b. same_handle h g ≡ b → live_by (is_handle g) (with_new slot pt t).live ≡ live_by (is_handle g) t.live + (if b then 1 else 0) → live_by (is_handle g) (with_new slot pt t).live ≤ 1) [
+    let e = sum-push (named_as g) t.live (record { handle = h; value = fresh_at pt }) in
+    elim (same_handle h g) as (λ b. same_handle h g ≡ b → sum_of (named_as g) (with_new slot (fresh_at pt) t).live ≡ sum_of (named_as g) t.live + (if b then 1 else 0) → sum_of (named_as g) (with_new slot (fresh_at pt) t).live ≤ 1) [
       | true ↦ λ s f. let same : g.slot ≡ slot = grind (arith, nat_tests) in omega (arith, slot-none g slot t.live free same)
       | false ↦ λ s f. omega arith
     ] refl e
 
-placed-linked_at : (slot pt : ℕ) (place : Place) (entry : Entry) (i : Index) (is : List (Option Index)) (t : Table ℕ) → ArePlaced is t → index_at pt is ≡ Some i → has_slot slot t.live ≡ false → ArePlaced (slice_set is pt (linked_at place (fresh (handle slot t.given) entry) (index_at pt is))) (with_new slot pt t)
-placed-linked_at slot pt place entry i is t a e free =
-    let x : Linked = fresh (handle slot t.given) entry in
+linked-more : (slot pt given : ℕ) (place : Place) (entry : Entry) (i : Index) (is : List (Option Index)) (p : Handle → ℕ → Bool) → index_at pt is ≡ Some i → linked_by p 0 (slice_set is pt (linked_at place (fresh (handle slot given) entry) (index_at pt is))) ≡ linked_by p 0 is + (if p (handle slot given) pt then 1 else 0)
+linked-more slot pt given place entry i is p e =
+    let x : Linked = fresh (handle slot given) entry in
+    let z : 0 + pt ≡ pt = omega arith in
+    let s = rw (z, e) at (linked-set p 0 pt is (linked_at place x (get_or is pt None)) (some-below is pt i e)) in
+    let g = index-push place p pt i x in
+    rw e (omega arith)
+
+none-lies : (p : Handle → Bool) (h : Handle) (pt : ℕ) → headers_as p h (fresh_at pt) ≡ 0
+none-lies p h pt = elim (p h) as (λ b. (if b then (fresh_at pt).headers else 0) ≡ 0) [ true ↦ refl | false ↦ refl ]
+
+placed-linked_at : (slot pt : ℕ) (place : Place) (entry : Entry) (i : Index) (is : List (Option Index)) (hs : List Noted) (t : Table Placed) → ArePlaced is hs t → index_at pt is ≡ Some i → has_slot slot t.live ≡ false → ArePlaced (slice_set is pt (linked_at place (fresh (handle slot t.given) entry) (index_at pt is))) hs (with_new slot (fresh_at pt) t)
+placed-linked_at slot pt place entry i is hs t a e free =
+    let x : Live Placed = record { handle = handle slot t.given; value = fresh_at pt } in
     record {
-      same = λ p.
-          let z : 0 + pt ≡ pt = omega arith in
-          let s = rw (z, e) at (linked-set p 0 pt is (linked_at place x (get_or is pt None)) (some-below is pt i e)) in
-          let g = index-push place p pt i x in
-          let l = live-push p t.live (record { handle = handle slot t.given; value = pt }) in
-          rw e (omega (arith, a.same p));
+      same = λ p. omega (arith, linked-more slot pt t.given place entry i is p e, sum-push (linked_as p) t.live x, a.same p);
+      lies = λ p. omega (arith, sum-push (headers_as p) t.live x, none-lies p x.handle pt, a.lies p);
       once = λ g. once-more slot pt t g free (a.once g);
+      busy = omega (arith, sum-push idle_as t.live x, a.busy);
     }
 
 some-index : (o : Option Index) → is_some o ≡ true → (i : Index) × (o ≡ Some i)
 some-index None e = cc
 some-index (Some i) e = (i, refl)
 
-pub placed-linked : (slot pt : ℕ) (place : Place) (entry : Entry) (is : List (Option Index)) (t : Table ℕ) → ArePlaced is t → is_some (index_at pt is) ≡ true → has_slot slot t.live ≡ false → ArePlaced (slice_set is pt (linked_at place (fresh (handle slot t.given) entry) (index_at pt is))) (with_new slot pt t)
-placed-linked slot pt place entry is t a there free = let i = some-index (index_at pt is) there in placed-linked_at slot pt place entry i.0 is t a i.1 free
+pub placed-linked : (slot pt : ℕ) (place : Place) (entry : Entry) (is : List (Option Index)) (hs : List Noted) (t : Table Placed) → ArePlaced is hs t → is_some (index_at pt is) ≡ true → has_slot slot t.live ≡ false → ArePlaced (slice_set is pt (linked_at place (fresh (handle slot t.given) entry) (index_at pt is))) hs (with_new slot (fresh_at pt) t)
+placed-linked slot pt place entry is hs t a there free = let i = some-index (index_at pt is) there in placed-linked_at slot pt place entry i.0 is hs t a i.1 free
+
+pub many-linked : (slot pt given : ℕ) (place : Place) (entry : Entry) (is : List (Option Index)) → is_some (index_at pt is) ≡ true → sum_by entries_in (slice_set is pt (linked_at place (fresh (handle slot given) entry) (index_at pt is))) ≡ sum_by entries_in is + 1
+many-linked slot pt given place entry is there =
+    let i = some-index (index_at pt is) there in
+    let ks : List (Option Index) = slice_set is pt (linked_at place (fresh (handle slot given) entry) (index_at pt is)) in
+    omega (arith, linked-more slot pt given place entry i.0 is any_handle i.1, linked-all 0 is, linked-all 0 ks)
 
 -- ---- an index comes or goes
 
@@ -188,20 +415,26 @@ none-by : (p : Handle → ℕ → Bool) (k : ℕ) (xs : List Linked) → length 
 none-by p k [] e = refl
 none-by p k (x ∷ xs) e = absurd (omega arith)
 
-pub empty-by : (p : Handle → ℕ → Bool) (k : ℕ) (o : Option Index) → entries_in o ≡ 0 → index_by p k o ≡ 0
+empty-by : (p : Handle → ℕ → Bool) (k : ℕ) (o : Option Index) → entries_in o ≡ 0 → index_by p k o ≡ 0
 empty-by p k None e = refl
 empty-by p k (Some i) e = omega (arith, none-by p k i.priority (omega arith), none-by p k i.overflow (omega arith))
 
 -- an index without entries in the place of one without entries
-pub placed-empty : (pt : ℕ) (is : List (Option Index)) (t : Table ℕ) (o : Option Index) → ArePlaced is t → entries_in o ≡ 0 → entries_in (index_at pt is) ≡ 0 → ArePlaced (set is pt o) t
-placed-empty pt is t o a none was = placed-same pt is t o a (λ p. empty-by p pt o none ∙ sym (empty-by p pt (index_at pt is) was))
+pub placed-empty : (pt : ℕ) (is : List (Option Index)) (hs : List Noted) (t : Table Placed) (o : Option Index) → ArePlaced is hs t → entries_in o ≡ 0 → entries_in (index_at pt is) ≡ 0 → ArePlaced (set is pt o) hs t
+placed-empty pt is hs t o a none was = placed-same pt is hs t o a (λ p. empty-by p pt o none ∙ sym (empty-by p pt (index_at pt is) was))
+
+pub many-empty : (pt : ℕ) (is : List (Option Index)) (o : Option Index) → entries_in o ≡ 0 → entries_in (index_at pt is) ≡ 0 → sum_by entries_in (set is pt o) ≡ sum_by entries_in is
+many-empty pt is o none was = same-many pt is o (λ p. empty-by p pt o none ∙ sym (empty-by p pt (index_at pt is) was))
 
 none-linked : (p : Handle → ℕ → Bool) (k n : ℕ) → linked_by p k (replicate n None) ≡ 0
 none-linked p k zero = refl
 none-linked p k (suc n) = omega (arith, none-linked p (k + 1) n)
 
-pub placed-none : (n limit : ℕ) → ArePlaced (replicate n None) (no_things limit)
-placed-none n limit = record { same = λ p. none-linked p 0 n; once = λ h. omega arith }
+pub placed-none : (n limit : ℕ) → ArePlaced (replicate n None) [] (no_things limit)
+placed-none n limit = record { same = λ p. none-linked p 0 n; lies = λ p. refl; once = λ h. omega arith; busy = refl }
+
+pub many-none : (n : ℕ) → sum_by entries_in (replicate n None) ≡ 0
+many-none n = sym (linked-all 0 (replicate n None)) ∙ none-linked any_handle 0 n
 
 -- ---- some slot is free
 

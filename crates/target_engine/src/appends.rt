@@ -14,6 +14,7 @@ use crate::calls::is_allocated;
 use crate::events::entry_event;
 use crate::gone::{frees, kind_taken, raise_gone, raise_taken};
 use crate::index::{link_at, queue_at};
+use crate::places::Placed;
 use crate::target::Target;
 use counters::Counter;
 use event_delivery::{count, is_live_or_none, raise, successes, where_set};
@@ -58,7 +59,7 @@ impl Target {
     fn is_full(&self) -> bool
         ensures { result ≡ (nat_le self.now.limit (linked_count self.now) || nat_le top self.now.given) }
     {
-        self.places.is_full()
+        self.linked >= self.limit || self.places.is_full()
     }
 
     /// Links an entry at the end of a list, and tells so.
@@ -70,10 +71,16 @@ impl Target {
         ensures linked { self.new ≡ link_side result.slot pt list entry self.old }
         ensures told { eqs.new ≡ raised (queue_of_index pt self.old) (link_event pt entry.match_bits) eqs.old }
     {
-        let me = match self.places.insert(pt) {
+        let record = Placed {
+            pt,
+            linked: true,
+            headers: 0,
+        };
+        let me = match self.places.insert(record) {
             Ok(me) => me,
             Err(_) => unreachable!(),
         };
+        self.linked += 1;
         link_at(&mut self.indices, pt, list, me, entry);
         let eq = queue_at(&self.indices, pt);
         raise(
@@ -99,7 +106,8 @@ impl Target {
     {
         let counted = counted_by(&self.headers, pt, entry);
         count_taken(cts, self.headers.as_slice(), pt, entry);
-        raise_taken(&self.indices, self.headers.as_slice(), eqs, pt, entry);
+        let noted = self.headers.as_slice();
+        raise_taken(&self.indices, &mut self.places, noted, eqs, pt, entry);
         self.headers.drop_found(pt, entry);
         counted
     }
@@ -126,7 +134,7 @@ impl Target {
         };
         let ct = overflow_counter(&entry);
         count(cts, ct, successes(1));
-        let freed = frees(&self.indices, &self.headers, &noted);
+        let freed = frees(&self.indices, &mut self.places, &noted);
         let kind = kind_taken(noted.header.header.kind);
         raise_gone(&self.indices, eqs, kind, &noted, freed);
         (Appended::Consumed(noted.header), ct)

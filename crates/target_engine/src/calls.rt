@@ -148,7 +148,7 @@ impl Target {
                 return None;
             }
         };
-        let freed = frees(&self.indices, &self.headers, &noted);
+        let freed = frees(&self.indices, &mut self.places, &noted);
         raise_gone(&self.indices, eqs, EventKind::Search, &noted, freed);
         Some(noted.header)
     }

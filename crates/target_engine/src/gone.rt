@@ -1,24 +1,25 @@
 //! What tells that an unexpected header went, and that the entry in which it lay is free.
 
-ghost use Rattle.std.specs.Prelude.{◌≡◌, [], ◌++◌};
+ghost use Rattle.std.specs.Prelude.{◌≡◌, []};
 ghost use Rattle.ni_model.specs.Lists.{index_at, is_linked_at};
 ghost use Rattle.ni_model.specs.Headers.{held, found_in, left_in};
 ghost use Rattle.ni_model.specs.Events.{header_event as event_of, kind_taken as kind_of};
-ghost use Rattle.ni_model.specs.Append.{frees as is_freed, each_gone};
-ghost use Rattle.target_engine.specs.Shelves.{seen_in};
+ghost use Rattle.ni_model.specs.Append.{each_gone};
+ghost use Rattle.target_engine.specs.Shelves.{seen_in, ArePlaced, frees_at, placed_by, one_fewer};
 ghost use Rattle.target_engine.specs.Sides.{side, told_gone};
 
 use crate::events::{entry_event, message_event};
 use crate::index::{Index, queue_at, shelf_at};
+use crate::places::{Placed, drop_header, headers_of};
 use event_delivery::raise;
 use event_queues::Queue;
 use handle_store::Store;
 use ni_model::Noted;
 use ptl_types::{Entry, Event, EventKind, Handle, List as Place, MessageKind};
-use unexpected::{Headers, finds, found_names, left_names};
+use unexpected::finds;
 
 /// Whether the overflow list of this index holds the entry.
-fn is_in_overflow(indices: &[Option<Index>], pt: u32, entry: Handle) -> bool
+pub fn is_in_overflow(indices: &[Option<Index>], pt: u32, entry: Handle) -> bool
     ensures { result ≡ is_linked_at Place.Overflow entry (index_at pt (seen_in indices.now)) }
 {
     match shelf_at(indices, pt) {
@@ -45,30 +46,16 @@ pub fn kind_taken(kind: MessageKind) -> EventKind
     }
 }
 
-/// Whether the entry of a header that went isn't linked, and none of the headers that are left lies in it.
-pub fn frees(indices: &[Option<Index>], left: &Headers, gone: &Noted) -> bool
-    ensures { result ≡ is_freed (side 0 0 (seen_in indices.now) 0 left.now) left.now.noted gone.now }
+/// Counts a header that goes out of the record of its entry. Whether the entry is free: it was the last that lay there, and the
+/// entry isn't linked.
+pub fn frees(indices: &[Option<Index>], places: &mut Store<Placed>, gone: &Noted) -> bool
+    ensures freed { result ≡ frees_at (seen_in indices.now) places.old gone.now }
+    ensures counted { places.new ≡ placed_by gone.now.header.entry one_fewer places.old }
 {
     let entry = gone.header.entry;
-    !(is_in_overflow(indices, gone.pt, entry) || left.names(entry))
-}
-
-/// The same, where all headers that `entry` doesn't find are left, and of those that it finds the ones in `later`.
-#[tactic(auto, using(crate::proofs::Naming::naming))]
-fn frees_among(
-    indices: &[Option<Index>],
-    noted: &[Noted],
-    later: &[Noted],
-    pt: u32,
-    entry: &Entry,
-    gone: &Noted,
-) -> bool
-    ensures { result ≡ is_freed (side 0 0 (seen_in indices.now) 0 (held [] 0)) (left_in pt entry.now noted.now ++ found_in pt entry.now later.now) gone.now }
-{
-    let me = gone.header.entry;
-    !(is_in_overflow(indices, gone.pt, me)
-        || left_names(noted, pt, entry, me)
-        || found_names(later, pt, entry, me))
+    let last = headers_of(places, entry) <= 1;
+    drop_header(places, entry);
+    last && !is_in_overflow(indices, gone.pt, entry)
 }
 
 /// The event of a header that went, and directly after it the freeing of its entry, where it is free.
@@ -88,19 +75,24 @@ pub fn raise_gone(
     }
 }
 
-/// Tells of all headers that an entry takes, oldest first.
+/// Tells of all headers that an entry takes, oldest first, and counts each out of the record of its entry.
 pub fn raise_taken(
     indices: &[Option<Index>],
+    places: &mut Store<Placed>,
     noted: &[Noted],
     eqs: &mut Store<Queue>,
     pt: u32,
     entry: &Entry,
 )
-    ensures { eqs.new ≡ each_gone (side 0 0 (seen_in indices.now) 0 (held [] 0)) (left_in pt entry.now noted.now) (found_in pt entry.now noted.now) eqs.old }
+    requires { ArePlaced (seen_in indices.now) noted.now places.old }
+    ensures placed { ArePlaced (seen_in indices.now) (left_in pt entry.now noted.now) places.new }
+    ensures given { places.new.given ≡ places.old.given }
+    ensures limit { places.new.limit ≡ places.old.limit }
+    ensures told { eqs.new ≡ each_gone (side 0 0 (seen_in indices.now) 0 (held [] 0)) (left_in pt entry.now noted.now) (found_in pt entry.now noted.now) eqs.old }
 {
-    for (i, x) in noted.iter().enumerate() {
+    for x in noted {
         if finds(x, pt, entry) {
-            let freed = frees_among(indices, noted, &noted[i + 1..], pt, entry, x);
+            let freed = frees(indices, places, x);
             raise_gone(indices, eqs, kind_taken(x.header.header.kind), x, freed);
         }
     }

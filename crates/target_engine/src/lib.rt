@@ -10,6 +10,7 @@ mod exchange;
 mod gone;
 mod index;
 mod measures;
+mod places;
 mod swap;
 mod target;
 #[cfg(test)]

@@ -3,18 +3,20 @@
 ghost use Rattle.std.specs.Prelude.{◌≡◌, ◌+◌, ◌<◌, ◌^◌, [], None, true, false, IfOk, option_copied, length, All, replicate};
 ghost use Rattle.ptl_types.specs.Kinds.{is_answer};
 ghost use Rattle.ni_model.specs.Headers.{held};
-ghost use Rattle.ni_model.specs.Arrive.{parts, received, request as request_of, accepted, counts_after, headers_after, is_overflow as overflows, outcome_in as outcome_of};
+ghost use Rattle.ni_model.specs.Arrive.{parts, received, request as request_of, accepted, counts_after, headers_after, indices_after, is_overflow as overflows, outcome_in as outcome_of};
 ghost use Rattle.ni_model.specs.Conditions.{IsPartIn, HasPartsIn, HasRoom};
 ghost use Rattle.ni_model.specs.Lists.{index_at, is_linked_at};
 ghost use Rattle.unexpected.specs.Places.{header_at};
-ghost use Rattle.target_engine.specs.Shelves.{places_after};
+ghost use Rattle.ni_model.specs.Tables.{lookup};
+ghost use Rattle.target_engine.specs.Shelves.{headers_in, noted_places};
 ghost use Rattle.target_engine.specs.Sides.{side};
 
 use crate::answers::refused;
 use crate::events::raise_events;
 use crate::exchange::exchange;
 use crate::index::{Index, chosen_in, queue_at, settle_at};
-use crate::measures::{delivered, is_over, place};
+use crate::measures::{delivered, place};
+use crate::places::{Placed, add_header, forget};
 use counters::Counter;
 use event_delivery::{count, successes, where_set};
 use event_queues::Queue;
@@ -34,11 +36,13 @@ fn count_message(cts: &mut Store<Counter>, linked: &Linked)
     count(cts, ct, successes(1));
 }
 
-/// A message in the overflow list leaves its header.
-fn note_header(headers: &mut Headers, found: &Found, header: &Header)
+/// A message in the overflow list leaves its header, and its entry counts it.
+fn note_header(headers: &mut Headers, places: &mut Store<Placed>, found: &Found, header: &Header)
     requires room { HasRoom found.now.list headers.old }
     requires part { found.now.linked.entry.start + found.now.linked.entry.length < 2 ^ 64 }
-    ensures { headers.new ≡ headers_after found.now header.now headers.old }
+    requires few { headers_in (lookup found.now.linked.handle places.old.live) < 2 ^ 32 }
+    ensures headers { headers.new ≡ headers_after found.now header.now headers.old }
+    ensures places { places.new ≡ noted_places found.now places.old }
 {
     if let List::Overflow = found.list {
         headers.add(
@@ -50,6 +54,7 @@ fn note_header(headers: &mut Headers, found: &Found, header: &Header)
                 header: *header,
             },
         );
+        add_header(places, found.linked.handle);
     }
 }
 
@@ -73,23 +78,15 @@ fn outcome_in(list: List) -> Outcome
     }
 }
 
-/// The handle of an entry that a message unlinks goes.
-fn forget(places: &mut Store<u32>, found: &Found, header: &Header)
-    ensures { places.new ≡ places_after found.now header.now places.old }
-{
-    if is_over(&found.linked, header) {
-        let _ = places.remove(found.linked.handle);
-    }
-}
-
-/// A target: its rank, its portal table indices, and the headers that wait. Its value is the model's `Side`. `places` has
-/// the handle of each linked entry, with the number of the index that holds it.
+/// A target: its rank, its portal table indices, and the headers that wait. Its value is the model's `Side`. `places` has a
+/// record of each entry that is linked, or in whose memory headers lie; `linked` counts those that are linked.
 #[derive(Drop)]
 pub struct Target {
     rank: Rank,
     pub(crate) limit: u32,
     pub(crate) indices: Vec<Option<Index>>,
-    pub(crate) places: Store<u32>,
+    pub(crate) linked: u32,
+    pub(crate) places: Store<Placed>,
     pub(crate) headers: Headers,
 }
 
@@ -103,7 +100,7 @@ impl Model for Target {
 
     ghost view = { λ t. side t.rank t.limit (seen_in t.indices.items) t.places.given t.headers };
 
-    ghost invariant = { λ t. IsKept t.limit t.indices.items t.places };
+    ghost invariant = { λ t. IsKept t.limit t.indices.items t.linked t.places t.headers };
 }
 
 /// As many places for indices as the limit, none of them allocated.
@@ -121,18 +118,30 @@ fn empty_indices(alloc: Global, pts: u32) -> Result<Vec<Option<Index>>, NoMemory
     }
 }
 
+/// How many records there may be: of the entries that are linked, and of those in whose memory a header lies.
+fn records(limits: &Limits) -> Result<u32, NoMemory>
+    ensures records { IfOk result (λ n. n ≡ limits.now.entries + limits.now.unexpected) }
+    ensures small { IfOk result (λ _. limits.now.unexpected < 2 ^ 32) }
+{
+    match limits.entries.checked_add(limits.unexpected) {
+        Some(records) => Ok(records),
+        None => Err(NoMemory),
+    }
+}
+
 impl Target {
     /// A target of this rank with no index allocated, no entry linked and no header. It has the room of its limits.
     pub fn open(alloc: Global, rank: Rank, limits: &Limits) -> Result<Target, NoMemory>
         ensures { IfOk result (λ t. t ≡ side rank limits.now.entries (replicate limits.now.pts None) 0 (held [] limits.now.unexpected)) }
     {
         let indices = empty_indices(alloc, limits.pts)?;
-        let places = Store::open(alloc, limits.entries)?;
+        let places = Store::open(alloc, records(limits)?)?;
         let headers = Headers::open(alloc, limits.unexpected)?;
         Ok(Target {
             rank,
             limit: limits.entries,
             indices,
+            linked: 0,
             places,
             headers,
         })
@@ -172,6 +181,25 @@ impl Target {
         self.accept(region, cts, eqs, message, &found)
     }
 
+    /// A message in the overflow list leaves its header.
+    pub(crate) fn note(&mut self, found: &Found, header: &Header)
+        requires room { HasRoom found.now.list self.old.headers }
+        requires part { found.now.linked.entry.start + found.now.linked.entry.length < 2 ^ 64 }
+        requires there { is_linked_at found.now.list found.now.linked.handle (index_at header.now.pt self.old.indices) ≡ true }
+        ensures { self.new ≡ record self.old { headers = headers_after found.now header.now self.old.headers } }
+    {
+        note_header(&mut self.headers, &mut self.places, found, header);
+    }
+
+    /// What becomes of the entry that took the message.
+    fn settle(&mut self, found: &Found, header: &Header)
+        requires { is_linked_at found.now.list found.now.linked.handle (index_at header.now.pt self.old.indices) ≡ true }
+        ensures { self.new ≡ record self.old { indices = indices_after found.now header.now self.old.indices } }
+    {
+        settle_at(&mut self.indices, found, header);
+        forget(&mut self.places, &mut self.linked, found, header);
+    }
+
     /// The delivery to the entry that was found: memory, count, header, entry, events and the answer.
     fn accept(
         &mut self,
@@ -192,9 +220,8 @@ impl Target {
         let eq = queue_at(&self.indices, header.pt);
         let answer = exchange(region, &found.linked, message);
         count_message(cts, &found.linked);
-        note_header(&mut self.headers, found, &header);
-        settle_at(&mut self.indices, found, &header);
-        forget(&mut self.places, found, &header);
+        self.note(found, &header);
+        self.settle(found, &header);
         raise_events(eqs, eq, found, &header);
         Arrived {
             outcome: outcome_in(found.list),

@@ -1,10 +1,12 @@
 //! Each call of a target once, and each of its refusals.
 
 use crate::Target;
+use crate::gone::is_in_overflow;
 use counters::Counter;
 use event_queues::Queue;
 use handle_store::Store;
 use memory_desc::Region;
+use ni_model::{Found, Linked};
 use ptl_types::{
     AckRequest, Appended, Bytes, ElemType, Entry, EqGot, EventKind, Handle, Header, Limits, List,
     Message, MessageKind, NiFault, NoMemory, Outcome, UnexpectedHeader,
@@ -100,19 +102,19 @@ impl Host {
         self.target.search(&mut self.eqs, 0, &ENTRY, delete)
     }
 
-    /// Leaves a header of this length at index 0.
+    /// Leaves a header of this length in the overflow entry, at index 0.
     fn leave_header(&mut self, entry: Handle, length: u64) {
         let header = Header { length, ..PUT };
-        if !self.target.headers.is_full() {
-            self.target.headers.add(
-                0,
-                UnexpectedHeader {
-                    entry,
-                    place: 0,
-                    delivered: length,
-                    header,
-                },
-            );
+        let found = Found {
+            list: List::Overflow,
+            linked: Linked {
+                handle: entry,
+                running: 0,
+                entry: ENTRY,
+            },
+        };
+        if !self.target.headers.is_full() && is_in_overflow(&self.target.indices, 0, entry) {
+            self.target.note(&found, &header);
         }
     }
 

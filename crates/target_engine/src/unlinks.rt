@@ -6,6 +6,7 @@ ghost use Rattle.ni_model.specs.Refusals.{unlink_fault, index_names_ct, index_na
 ghost use Rattle.target_engine.specs.Shelves.{seen_in};
 
 use crate::index::{Index, unlink_at};
+use crate::places::{linked_record, unlink_place};
 use crate::target::Target;
 use ptl_types::{Handle, NiFault};
 
@@ -48,15 +49,16 @@ impl Target {
         ensures ok { OnOk result (unlink_fault me self.old ≡ None) }
         ensures unlinked { OnOk result (self.new ≡ record self.old { indices = map (unlinked_in me) self.old.indices }) }
     {
-        let pt = match self.places.get(me) {
-            Some(pt) => *pt,
+        let placed = match linked_record(&self.places, me) {
+            Some(placed) => placed,
             None => return Err(NiFault::Stale),
         };
-        if self.headers.names(me) {
+        if placed.headers > 0 {
             return Err(NiFault::InUse);
         }
-        unlink_at(&mut self.indices, pt, me);
-        let _ = self.places.remove(me);
+        unlink_at(&mut self.indices, placed.pt, me);
+        unlink_place(&mut self.places, me);
+        self.linked = self.linked.saturating_sub(1);
         Ok(())
     }
 

@@ -3,7 +3,7 @@
 
 ghost use Rattle.std.specs.Prelude.{◌≡◌, ◌<◌, ◌++◌, ◌∷◌, [], ◌↔◌, IsTrue, IfOk, vec_capacity, IfNone, IfSome, Some, None, slice_index_or, remove, length, nat_lt, option_copied};
 ghost use Rattle.ni_model.specs.declared.Noted.{Noted as Header};
-ghost use Rattle.ni_model.specs.Headers.{held, allows as allowed_by, finds as found_by, oldest, without_oldest, names_entry, headers_of, no_room, found_in, left_in};
+ghost use Rattle.ni_model.specs.Headers.{held, allows as allowed_by, finds as found_by, oldest, without_oldest, names_entry, headers_of, no_room, left_in};
 ghost use Rattle.unexpected.specs.Places.{noted as as_noted, header_at};
 
 use ni_model::Noted;
@@ -67,30 +67,6 @@ fn some_lies_in(noted: &[Noted], entry: Handle) -> bool
 {
     for x in noted {
         if x.header.entry.is(entry) {
-            return true;
-        }
-    }
-    false
-}
-
-/// Whether the bytes of a header that the entry finds lie in the memory of the entry `me`.
-pub fn found_names(noted: &[Noted], pt: u32, entry: &Entry, me: Handle) -> bool
-    ensures { result ≡ names_entry me (found_in pt entry.now noted.now) }
-{
-    for x in noted {
-        if finds(x, pt, entry) && x.header.entry.is(me) {
-            return true;
-        }
-    }
-    false
-}
-
-/// Whether the bytes of a header that the entry doesn't find lie in the memory of the entry `me`.
-pub fn left_names(noted: &[Noted], pt: u32, entry: &Entry, me: Handle) -> bool
-    ensures { result ≡ names_entry me (left_in pt entry.now noted.now) }
-{
-    for x in noted {
-        if !finds(x, pt, entry) && x.header.entry.is(me) {
             return true;
         }
     }

@@ -1,6 +1,6 @@
 //! Headers are taken in the order of arrival.
 
-use crate::{Headers, found_names, left_names};
+use crate::Headers;
 use ptl_types::{AckRequest, ElemType, Entry, Handle, Header, MessageKind, UnexpectedHeader};
 use std::test::Fail;
 
@@ -92,10 +92,9 @@ fn all_that_an_entry_finds_go_at_once(rt: HostRuntime) -> Result<(), Fail> {
             headers.add(1, put(match_bits, place));
         }
     }
-    assert!(rt; found_names(headers.as_slice(), 1, &entry(5), me));
-    assert!(rt; left_names(headers.as_slice(), 1, &entry(5), me));
     headers.drop_found(1, &entry(5));
-    assert!(rt; !found_names(headers.as_slice(), 1, &entry(5), me));
+    assert!(rt; headers.names(me));
+    assert_eq!(rt; headers.as_slice().len(), 1);
     assert_eq!(rt; headers.at(1, 0).map(|header| header.place), Some(0));
     assert!(rt; headers.at(1, 1).is_none());
     Ok(())

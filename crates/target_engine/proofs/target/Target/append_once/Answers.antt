@@ -3,11 +3,18 @@ use Rattle.ptl_types.specs.declared.entries.Entry.{Entry}
 use Rattle.ni_model.specs.Arrive.{Parts, parts}
 use Rattle.ni_model.specs.Headers.{oldest}
 use Rattle.ni_model.specs.Append.{append, append_once, append_priority}
+use Rattle.target_engine.proofs.Kept.{kept-fewer, kept-frees}
 use Rattle.target_engine.proofs.Placed.{free_slot}
+use Rattle.target_engine.proofs.Records.{given-by}
 use Rattle.target_engine.proofs.target.Target.append_once.Goals as goal
 
 by-once : (slot pt : ℕ) (e : Entry) (p : Parts) → e.use_once ≡ true → append_once slot pt e p (oldest pt e p.side.headers.noted) ≡ append_priority slot pt e p
 by-once slot pt e p u = rw u refl
+
+pub invariant_of-self-2 : goal.invariant_of-self-2
+invariant_of-self-2 c =
+    let o : oldest c.args.pt c.args.entry c.self.inside.headers.noted ≡ Some c.in-Some.noted = sym c.take_oldest.ensures.oldest ∙ c.in-Some.is in
+    kept-fewer c.self.inside.limit c.self.inside.linked c.args.pt c.args.entry c.in-Some.noted c.self.inside.indices.items c.self.inside.places c.frees-freed.new.places c.self.inside.headers c.take_oldest.new.self c.self.invariant o c.take_oldest.ensures.rest c.frees-freed.ensures.counted
 
 pub returns : goal.returns
 unfolding append
@@ -15,10 +22,11 @@ returns c =
     λ region.
     let s = free_slot c.args.self.now.indices in
     let o : oldest c.args.pt c.args.entry c.self.inside.headers.noted ≡ Some c.in-Some.noted = sym c.take_oldest.ensures.oldest ∙ c.in-Some.is in
+    let freed = kept-frees c.self.inside.limit c.self.inside.linked c.args.pt c.args.entry c.in-Some.noted c.self.inside.indices.items c.self.inside.places c.self.inside.headers c.self.invariant o in
     record {
       slot = s.0;
       free = s.1;
       ended =
           rw (← by-once s.0 c.args.pt c.args.entry (parts c.args.self.now region c.args.cts.now c.args.eqs.now) c.requires.once)
-          (rw (← c.self.view_is, o, c.count.ensures, c.raise_gone.ensures, c.frees-freed.ensures, c.kind_taken-kind.ensures, c.overflow_counter-ct.ensures, c.successes.ensures, c.deref.ensures.value, c.deref-2.ensures.value, c.take_oldest.ensures.rest) refl);
+          (rw (← c.self.view_is, o, c.count.ensures, c.raise_gone.ensures, c.frees-freed.ensures.freed, c.frees-freed.ensures.counted, given-by, c.kind_taken-kind.ensures, c.overflow_counter-ct.ensures, c.successes.ensures, c.deref.ensures.value, c.deref-2.ensures.value, c.take_oldest.ensures.rest, freed) refl);
     }

@@ -1,6 +1,6 @@
 use Rattle.std.proofs.Common.{◌∙◌}
-use Rattle.target_engine.proofs.Kept.{full-kept}
+use Rattle.target_engine.proofs.Kept.{full-where}
 use Rattle.target_engine.proofs.target.Target.is_full.Goals as goal
 
-pub returns : goal.returns
-returns c = rw (← c.self.view_is) (c.is_full.ensures ∙ full-kept c.self.inside.limit c.self.inside.indices.items c.self.inside.places c.self.invariant)
+pub returns-else-self : goal.returns-else-self
+returns-else-self c = rw (← c.self.view_is) (c.is_full.ensures ∙ full-where c.self.inside.limit c.self.inside.linked c.self.inside.indices.items c.self.inside.places c.self.inside.headers c.self.invariant c.if-self.false)

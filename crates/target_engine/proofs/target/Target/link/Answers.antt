@@ -1,23 +1,24 @@
-use Rattle.std.proofs.Common.{◌≡◌, true, false, refl, ap, ◌∙◌}
-use Rattle.std.specs.Prelude.{is_some}
+use Rattle.std.proofs.Common.{◌≡◌, true, false, refl, ap, sym, subst, ◌∙◌}
+use Rattle.std.specs.Prelude.{is_some, sum_by, nat_le, ◌||◌}
+use Rattle.ptl_types.specs.Handles.{top}
 use Rattle.ni_model.specs.Tables.{handle, is_full}
-use Rattle.ni_model.specs.Lists.{index_at}
+use Rattle.ni_model.specs.Lists.{index_at, entries_in}
 use Rattle.ni_model.specs.Append.{is_allocated}
 use Rattle.target_engine.specs.Shelves.{seen_in}
-use Rattle.target_engine.proofs.Kept.{full-kept, kept-linked}
+use Rattle.target_engine.proofs.Kept.{full-kept, or-right, linked-few, kept-linked}
 use Rattle.target_engine.proofs.Placed.{placed-slot}
 use Rattle.target_engine.proofs.target.Target.link.Goals as goal
 
 pub unreachable-requires : goal.unreachable-requires
 unreachable-requires c =
     let full : is_full c.self.inside.places ≡ true = c.in-Err.ensures.full.0 refl in
-    let not_full : is_full c.self.inside.places ≡ false = full-kept c.self.inside.limit c.self.inside.indices.items c.self.inside.places c.self.invariant ∙ rw (← c.self.view_is) at c.requires.room in
+    let not_full : is_full c.self.inside.places ≡ false = or-right _ _ (full-kept c.self.inside.limit c.self.inside.linked c.self.inside.indices.items c.self.inside.places c.self.inside.headers c.self.invariant ∙ rw (← c.self.view_is) at c.requires.room) in
     cc
 
 pub invariant_of-self : goal.invariant_of-self
 invariant_of-self c =
     let there : is_some (index_at c.args.pt (seen_in c.self.inside.indices.items)) ≡ true = ap (is_allocated c.args.pt) c.self.view_is ∙ c.requires.index in
-    kept-linked c.self.inside.limit c.self.inside.indices.len c.args.pt c.in-Ok.me.slot c.args.list c.args.entry c.in-Ok.me c.self.inside.indices.items c.deref_mut.result.now c.link_at.new.indices c.self.inside.places c.insert.new.self c.self.invariant c.deref_mut.ensures.value (c.link_at.auto.indices ∙ c.deref_mut.ensures.len) c.link_at.ensures.after c.link_at.ensures.rooms c.in-Ok.ensures.ok (ap (λ n. handle c.in-Ok.me.slot n) c.in-Ok.ensures.stamp) there c.in-Ok.ensures.free
+    kept-linked c.self.inside.limit c.self.inside.indices.len c.args.pt c.in-Ok.me.slot c.self.inside.linked c.args.list c.args.entry c.in-Ok.me c.self.inside.indices.items c.deref_mut.result.now c.link_at.new.indices c.self.inside.places c.insert.new.self c.self.inside.headers c.self.invariant c.deref_mut.ensures.value (c.link_at.auto.indices ∙ c.deref_mut.ensures.len) c.link_at.ensures.after c.link_at.ensures.rooms c.in-Ok.ensures.ok (ap (λ n. handle c.in-Ok.me.slot n) c.in-Ok.ensures.stamp) there c.in-Ok.ensures.free
 
 pub returns-clause-free : goal.returns-clause-free
-returns-clause-free c = rw (← c.self.view_is) (placed-slot c.in-Ok.me.slot (seen_in c.self.inside.indices.items) c.self.inside.places c.self.invariant.placed ∙ c.in-Ok.ensures.free)
+returns-clause-free c = rw (← c.self.view_is) (placed-slot c.in-Ok.me.slot (seen_in c.self.inside.indices.items) c.self.inside.headers.noted c.self.inside.places c.self.invariant.placed c.in-Ok.ensures.free)
