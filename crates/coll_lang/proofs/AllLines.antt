@@ -34,64 +34,64 @@ never e = absurd (clash e)
     clash e = cc
 
 -- a line where prints may stand
-prints_go : (past next : Past) (form : Form) → Formed past → AtPrints past → may_stand Prints form ≡ true → form_line past form ≡ Ok next → Goes (body past) next (line (form_words form))
+prints_go : (most : ℕ) (past next : Past) (form : Form) → Formed past → AtPrints past → may_stand Prints form ≡ true → form_line most past form ≡ Ok next → Goes (body past) next (line (form_words form))
 unfolding form_line
-prints_go past next complete f a m h = never m
-prints_go past next (input name ty count) f a m h = never m
-prints_go past next barrier f a m h = never m
-prints_go past next (step root kind x y) f a m h = never m
-prints_go past next (print name) f a m h = print_goes past next name f a h
-prints_go past next last f a m h = subst (λ p. Goes (body past) p (line (form_words last))) (ok_is (record past { stage = Finished }) next h) (last_goes past f a)
+prints_go most past next complete f a m h = never m
+prints_go most past next (input name ty count) f a m h = never m
+prints_go most past next barrier f a m h = never m
+prints_go most past next (step root kind x y) f a m h = never m
+prints_go most past next (print name) f a m h = print_goes most past next name f a h
+prints_go most past next last f a m h = subst (λ p. Goes (body past) p (line (form_words last))) (ok_is (record past { stage = Finished }) next h) (last_goes past f a)
 
 -- a line where steps may stand too
-steps_go : (past next : Past) (form : Form) → Formed past → AtSteps past → Fits form → may_stand Steps form ≡ true → form_line past form ≡ Ok next → Goes (body past) next (line (form_words form))
+steps_go : (most : ℕ) (past next : Past) (form : Form) → Formed past → AtSteps past → Fits form → may_stand Steps form ≡ true → form_line most past form ≡ Ok next → Goes (body past) next (line (form_words form))
 unfolding form_line
-steps_go past next complete f a fits m h = never m
-steps_go past next (input name ty count) f a fits m h = never m
-steps_go past next barrier f a fits m h = barrier_goes past next f a h
-steps_go past next (step root kind x y) f a fits m h = step_goes past next root kind x y f a fits h
-steps_go past next (print name) f a fits m h = print_goes past next name f a.filled h
-steps_go past next last f a fits m h = prints_go past next last f a.filled refl h
+steps_go most past next complete f a fits m h = never m
+steps_go most past next (input name ty count) f a fits m h = never m
+steps_go most past next barrier f a fits m h = barrier_goes past next f a h
+steps_go most past next (step root kind x y) f a fits m h = step_goes past next root kind x y f a fits h
+steps_go most past next (print name) f a fits m h = print_goes most past next name f a.filled h
+steps_go most past next last f a fits m h = prints_go most past next last f a.filled refl h
 
 at_steps : (past : Past) → AtInputs past → AtSteps past
 at_steps past a = record { filled = subst (λ (bs : List Buffer). Filled past.ranks bs past.given) (sym (all_taken past.buffers past.inputs a.counted)) a.filled; no_prints = a.no_prints }
 
 -- a line where inputs may stand too
-inputs_go : (past next : Past) (form : Form) → Formed past → AtInputs past → Fits form → may_stand Inputs form ≡ true → form_line past form ≡ Ok next → Goes (body past) next (line (form_words form))
+inputs_go : (most : ℕ) (past next : Past) (form : Form) → Formed past → AtInputs past → Fits form → may_stand Inputs form ≡ true → form_line most past form ≡ Ok next → Goes (body past) next (line (form_words form))
 unfolding form_line
-inputs_go past next complete f a fits m h = never m
-inputs_go past next (input name ty count) f a fits m h = input_goes past next name ty count f a fits h
-inputs_go past next barrier f a fits m h = steps_go past next barrier f (at_steps past a) fits refl h
-inputs_go past next (step root kind x y) f a fits m h = steps_go past next (step root kind x y) f (at_steps past a) fits refl h
-inputs_go past next (print name) f a fits m h = steps_go past next (print name) f (at_steps past a) fits refl h
-inputs_go past next last f a fits m h = steps_go past next last f (at_steps past a) fits refl h
+inputs_go most past next complete f a fits m h = never m
+inputs_go most past next (input name ty count) f a fits m h = input_goes past next name ty count f a fits h
+inputs_go most past next barrier f a fits m h = steps_go most past next barrier f (at_steps past a) fits refl h
+inputs_go most past next (step root kind x y) f a fits m h = steps_go most past next (step root kind x y) f (at_steps past a) fits refl h
+inputs_go most past next (print name) f a fits m h = steps_go most past next (print name) f (at_steps past a) fits refl h
+inputs_go most past next last f a fits m h = steps_go most past next last f (at_steps past a) fits refl h
 
 -- line 3
-options_go : (past next : Past) (form : Form) → Formed past → AtInputs past → past.buffers ≡ [] → past.remote ≡ false → Fits form → form_line past form ≡ Ok next → Goes (body past) next (line (form_words form))
+options_go : (most : ℕ) (past next : Past) (form : Form) → Formed past → AtInputs past → past.buffers ≡ [] → past.remote ≡ false → Fits form → form_line most past form ≡ Ok next → Goes (body past) next (line (form_words form))
 unfolding form_line
-options_go past next complete f a empty plain fits h =
+options_go most past next complete f a empty plain fits h =
     subst (λ p. Goes (body past) p (line (form_words complete))) (ok_is (record past { stage = Inputs; remote = true }) next h) (complete_goes past f a empty plain)
-options_go past next (input name ty count) f a empty plain fits h = inputs_go past next (input name ty count) f a fits refl h
-options_go past next barrier f a empty plain fits h = inputs_go past next barrier f a fits refl h
-options_go past next (step root kind x y) f a empty plain fits h = inputs_go past next (step root kind x y) f a fits refl h
-options_go past next (print name) f a empty plain fits h = inputs_go past next (print name) f a fits refl h
-options_go past next last f a empty plain fits h = inputs_go past next last f a fits refl h
+options_go most past next (input name ty count) f a empty plain fits h = inputs_go most past next (input name ty count) f a fits refl h
+options_go most past next barrier f a empty plain fits h = inputs_go most past next barrier f a fits refl h
+options_go most past next (step root kind x y) f a empty plain fits h = inputs_go most past next (step root kind x y) f a fits refl h
+options_go most past next (print name) f a empty plain fits h = inputs_go most past next (print name) f a fits refl h
+options_go most past next last f a empty plain fits h = inputs_go most past next last f a fits refl h
 
 stands : (b : Bool) → not b ≡ false → b ≡ true
 stands true h = refl
 stands false h = cc
 
 -- a line behind the first two is its form, which may stand there
-pub record FormOf (past next : Past) (l : List ℕ) : Type 0 where
+pub record FormOf (most : ℕ) (past next : Past) (l : List ℕ) : Type 0 where
   pub form : Form
   pub fits : Fits form
   pub spelled : l ++ 10 ∷ [] ≡ line (form_words form)
   pub stands : may_stand past.stage form ≡ true
-  pub goes : form_line past form ≡ Ok next
+  pub goes : form_line most past form ≡ Ok next
 
-later : (past next : Past) (l : List ℕ) → later_line past l ≡ Ok next → FormOf past next l
+later : (most : ℕ) (past next : Past) (l : List ℕ) → later_line most past l ≡ Ok next → FormOf most past next l
 unfolding later_line
-later past next l h =
+later most past next l h =
     let f = some_of BadLine (form_of (words l)) _ next h in
     let m = passed (not (may_stand past.stage f.0)) BadLine _ next f.2 in
     let said = form_said (words l) f.0 f.1 in
@@ -115,11 +115,11 @@ ranks_said (key ∷ w ∷ v ∷ ws) n h = cc
 -- nothing is said yet but the number of ranks
 begins : (past : Past) (n : ℕ) → past.buffers ≡ [] → past.inputs ≡ 0 → past.given ≡ [] → past.steps ≡ [] → past.prints ≡ [] → past.remote ≡ false → 1 ≤ n → n ≤ 64
     → let next : Past = record past { stage = Options; ranks = n } in Sound Options next × (body next ≡ head_text n)
-begins past n eb ei eg es ep er some few = rw (eb, ei, eg, es, ep, er) (empty n past.printed past.most_printed some few)
+begins past n eb ei eg es ep er some few = rw (eb, ei, eg, es, ep, er) (empty n past.printed some few)
   where
-    empty : (n printed most : ℕ) → 1 ≤ n → n ≤ 64
-        → let next : Past = record { stage = Options; ranks = n; remote = false; buffers = []; inputs = 0; given = []; steps = []; prints = []; printed = printed; most_printed = most } in Sound Options next × (body next ≡ head_text n)
-    empty n printed most some few = (
+    empty : (n printed : ℕ) → 1 ≤ n → n ≤ 64
+        → let next : Past = record { stage = Options; ranks = n; remote = false; buffers = []; inputs = 0; given = []; steps = []; prints = []; printed = printed } in Sound Options next × (body next ≡ head_text n)
+    empty n printed some few = (
       (
         record {
           some_ranks = some;
@@ -151,31 +151,31 @@ chosen_ok true x name y h = (refl, ok_is x y h)
 chosen_ok false x name y h = cc
 
 -- a line more keeps what holds
-pub line_goes : (stage : Stage) (past next : Past) (l : List ℕ) → past.stage ≡ stage → Sound stage past → line_at stage past l ≡ Ok next → Goes (written stage past) next (l ++ 10 ∷ [])
+pub line_goes : (most : ℕ) (stage : Stage) (past next : Past) (l : List ℕ) → past.stage ≡ stage → Sound stage past → line_at most stage past l ≡ Ok next → Goes (written stage past) next (l ++ 10 ∷ [])
 unfolding line_at
-line_goes Version past next l at s h =
+line_goes most Version past next l at s h =
     let p = chosen_ok (bytes_eq l (codes "coll 1")) (record past { stage = Ranks }) BadHeader next h in
     subst (λ n. Goes [] n (l ++ 10 ∷ [])) p.1 (record { sound = s; written_is = sym (ap (λ (x : List ℕ). x ++ 10 ∷ []) (same l (codes "coll 1") p.0)) })
-line_goes Ranks past next l at s h =
+line_goes most Ranks past next l at s h =
     let r = some_of BadRanks (ranks_in (words l)) _ next h in
     let said = ranks_said (words l) r.0 r.1 in
     let b = begins past r.0 s.0 s.1 s.2 s.3 s.4 s.5 said.some said.few in
     subst (λ n. Goes (line (codes "coll" ∷ codes "1" ∷ [])) n (l ++ 10 ∷ [])) (ok_is (record past { stage = Options; ranks = r.0 }) next r.2)
     (record { sound = b.0; written_is = b.1 ∙ ap (λ (x : List ℕ). line (codes "coll" ∷ codes "1" ∷ []) ++ x) (sym (rejoined l (codes "ranks" ∷ decimal r.0 ∷ []) said.spelled)) })
-line_goes Options past next l at s h =
-    let f = later past next l h in
-    subst (λ (x : List ℕ). Goes (body past) next x) (sym f.spelled) (options_go past next f.form s.0 s.1 s.2 s.3 f.fits f.goes)
-line_goes Inputs past next l at s h =
-    let f = later past next l h in
-    subst (λ (x : List ℕ). Goes (body past) next x) (sym f.spelled) (inputs_go past next f.form s.0 s.1 f.fits (ap (λ t. may_stand t f.form) (sym at) ∙ f.stands) f.goes)
-line_goes (Data left ty count) past next l at s h = data_goes past next left ty count l s.0 s.1 h
-line_goes Steps past next l at s h =
-    let f = later past next l h in
-    subst (λ (x : List ℕ). Goes (body past) next x) (sym f.spelled) (steps_go past next f.form s.0 s.1 f.fits (ap (λ t. may_stand t f.form) (sym at) ∙ f.stands) f.goes)
-line_goes Prints past next l at s h =
-    let f = later past next l h in
-    subst (λ (x : List ℕ). Goes (body past) next x) (sym f.spelled) (prints_go past next f.form s.0 s.1 (ap (λ t. may_stand t f.form) (sym at) ∙ f.stands) f.goes)
-line_goes Finished past next l at s h = cc
+line_goes most Options past next l at s h =
+    let f = later most past next l h in
+    subst (λ (x : List ℕ). Goes (body past) next x) (sym f.spelled) (options_go most past next f.form s.0 s.1 s.2 s.3 f.fits f.goes)
+line_goes most Inputs past next l at s h =
+    let f = later most past next l h in
+    subst (λ (x : List ℕ). Goes (body past) next x) (sym f.spelled) (inputs_go most past next f.form s.0 s.1 f.fits (ap (λ t. may_stand t f.form) (sym at) ∙ f.stands) f.goes)
+line_goes most (Data left ty count) past next l at s h = data_goes past next left ty count l s.0 s.1 h
+line_goes most Steps past next l at s h =
+    let f = later most past next l h in
+    subst (λ (x : List ℕ). Goes (body past) next x) (sym f.spelled) (steps_go most past next f.form s.0 s.1 f.fits (ap (λ t. may_stand t f.form) (sym at) ∙ f.stands) f.goes)
+line_goes most Prints past next l at s h =
+    let f = later most past next l h in
+    subst (λ (x : List ℕ). Goes (body past) next x) (sym f.spelled) (prints_go most past next f.form s.0 s.1 (ap (λ t. may_stand t f.form) (sym at) ∙ f.stands) f.goes)
+line_goes most Finished past next l at s h = cc
 
 taken : (k : ℕ) (r : Result Past Refusal) (f : Past → Result Past (ℕ × Refusal)) (final : Past) → numbered k r f ≡ Ok final → (next : Past) × (r ≡ Ok next) × (f next ≡ Ok final)
 taken k (Err e) f final h = cc
@@ -219,22 +219,22 @@ last_piece past final k (b ∷ piece) sound done h =
 assoc : (w l j : List ℕ) → (w ++ (l ++ 10 ∷ [])) ++ j ≡ w ++ (l ++ 10 ∷ j)
 assoc w l j = simp append_assoc
 
-pub all_go : (past final : Past) (k : ℕ) (pieces : List (List ℕ)) → Sound past.stage past → read_from judge AfterEnd past k pieces ≡ Ok final
+pub all_go : (most : ℕ) (past final : Past) (k : ℕ) (pieces : List (List ℕ)) → Sound past.stage past → read_from (judge most) AfterEnd past k pieces ≡ Ok final
     → Ends past final (join_with_byte 10 pieces)
 unfolding read_from judge
-all_go past final k [] sound h = cc
-all_go past final k (piece ∷ []) sound h =
+all_go most past final k [] sound h = cc
+all_go most past final k (piece ∷ []) sound h =
     elim (chosen_way (is_finished past.stage) (cond (is_empty piece) (accepted past) (refusal k AfterEnd)) (refusal k Unended) final h) [
       | inl p ↦ last_piece past final k piece sound p.0 p.1
       | inr p ↦ clash k Unended final p.1
     ]
-all_go past final k (l ∷ piece ∷ pieces) sound h =
-    elim (chosen_way (is_finished past.stage) (refusal k AfterEnd) (numbered k (judge past l) (λ next. read_from judge AfterEnd next (k + 1) (piece ∷ pieces))) final h) [
+all_go most past final k (l ∷ piece ∷ pieces) sound h =
+    elim (chosen_way (is_finished past.stage) (refusal k AfterEnd) (numbered k (judge most past l) (λ next. read_from (judge most) AfterEnd next (k + 1) (piece ∷ pieces))) final h) [
       | inl p ↦ clash k AfterEnd final p.1
       | inr p ↦
-          let t = taken k (judge past l) (λ next. read_from judge AfterEnd next (k + 1) (piece ∷ pieces)) final p.1 in
-          let one = line_goes past.stage past t.0 l refl sound (allowed (list_all is_allowed l) (line_at past.stage past l) t.0 t.1) in
-          let rest = all_go t.0 final (k + 1) (piece ∷ pieces) one.sound t.2 in
+          let t = taken k (judge most past l) (λ next. read_from (judge most) AfterEnd next (k + 1) (piece ∷ pieces)) final p.1 in
+          let one = line_goes most past.stage past t.0 l refl sound (allowed (list_all is_allowed l) (line_at most past.stage past l) t.0 t.1) in
+          let rest = all_go most t.0 final (k + 1) (piece ∷ pieces) one.sound t.2 in
           record { done = rest.done; sound = rest.sound; written_is = rest.written_is ∙ ap (λ (x : List ℕ). x ++ join_with_byte 10 (piece ∷ pieces)) one.written_is ∙ assoc (written past.stage past) l (join_with_byte 10 (piece ∷ pieces)) }
     ]
 
@@ -279,9 +279,9 @@ pub record Whole (most : ℕ) (bytes : List ℕ) (d : Program) : Type 0 where
 pub whole : (most : ℕ) (bytes : List ℕ) (d : Program) → read_up_to most bytes ≡ Ok d → Whole most bytes d
 unfolding read_by
 whole most bytes d h =
-    let limit = unlimited (nat_lt 1048576 (length bytes)) (0, TooLong) (program_in (read_from judge AfterEnd (nothing most) 1 (lines bytes))) d h in
-    let f = described_by (read_from judge AfterEnd (nothing most) 1 (lines bytes)) d limit.1 in
-    let e = all_go (nothing most) f.0 1 (lines bytes) (refl, refl, refl, refl, refl, refl) f.1 in
+    let limit = unlimited (nat_lt 1048576 (length bytes)) (0, TooLong) (program_in (read_from (judge most) AfterEnd nothing 1 (lines bytes))) d h in
+    let f = described_by (read_from (judge most) AfterEnd nothing 1 (lines bytes)) d limit.1 in
+    let e = all_go most nothing f.0 1 (lines bytes) (refl, refl, refl, refl, refl, refl) f.1 in
     let done : f.0.stage ≡ Finished = finished_is f.0.stage e.done in
     let sound : Sound Finished f.0 = subst (λ s. Sound s f.0) done e.sound in
     record {
@@ -289,7 +289,7 @@ whole most bytes d h =
       is = f.2;
       formed = sound.0;
       filled = sound.1;
-      held = held_all most (nothing most) f.0 1 (lines bytes) (held_first most) f.1;
+      held = held_all most nothing f.0 1 (lines bytes) (held_first most) f.1;
       short = not_above 1048576 (length bytes) limit.0;
       written_is = sym (join_with_byte-slice_split 10 bytes) ∙ sym e.written_is ∙ ap (λ (s : Stage). written s f.0) done ∙ text_is f.0;
     }

@@ -57,17 +57,17 @@ going : (b : Bool) (k : ℕ) (r : Result Past (ℕ × Refusal)) (final : Past) �
 going true k r final h = cc
 going false k r final h = (refl, h)
 
-built_goes : (past final : Past) (k : ℕ) (pieces : List (List ℕ)) → is_built past.stage past ≡ true → read_from first_line BadLine past k pieces ≡ Ok final
-    → (read_from judge AfterEnd past k pieces ≡ Ok final) × (is_built final.stage final ≡ true)
+built_goes : (past final : Past) (k : ℕ) (pieces : List (List ℕ)) → is_built past.stage past ≡ true → read_from (first_line all_prints) BadLine past k pieces ≡ Ok final
+    → (read_from (judge all_prints) AfterEnd past k pieces ≡ Ok final) × (is_built final.stage final ≡ true)
 unfolding read_from first_line
 built_goes past final k [] b h = cc
 built_goes past final k (piece ∷ []) b h =
     let p = last_piece (is_finished past.stage) (is_empty piece) past final k h in
     (p.0, subst (λ (p : Past). is_built p.stage p ≡ true) p.1 b)
 built_goes past final k (l ∷ piece ∷ pieces) b h =
-    let g = going (is_finished past.stage) k (numbered k (first_line past l) (λ next. read_from first_line BadLine next (k + 1) (piece ∷ pieces))) final h in
-    let t = taken k (first_line past l) (λ next. read_from first_line BadLine next (k + 1) (piece ∷ pieces)) final g.1 in
-    let one = line_built (judge past l) t.0 t.1 in
+    let g = going (is_finished past.stage) k (numbered k (first_line all_prints past l) (λ next. read_from (first_line all_prints) BadLine next (k + 1) (piece ∷ pieces))) final h in
+    let t = taken k (first_line all_prints past l) (λ next. read_from (first_line all_prints) BadLine next (k + 1) (piece ∷ pieces)) final g.1 in
+    let one = line_built (judge all_prints past l) t.0 t.1 in
     let rest = built_goes t.0 final (k + 1) (piece ∷ pieces) one.1 t.2 in
     (rw (g.0, one.0) rest.0, rest.1)
 
@@ -123,12 +123,12 @@ even_is b n et es = ap (λ (t : ElemType). let c : Buffer = record { name = b.na
 
 -- the past with the parts that are fixed
 abbrev fixed : Past → Buffer → Buffer → CollStep → Past
-fixed past x y s = record { stage = past.stage; ranks = past.ranks; remote = false; buffers = x ∷ y ∷ []; inputs = 1; given = past.given; steps = s ∷ []; prints = past.prints; printed = past.printed; most_printed = past.most_printed }
+fixed past x y s = record { stage = past.stage; ranks = past.ranks; remote = false; buffers = x ∷ y ∷ []; inputs = 1; given = past.given; steps = s ∷ []; prints = past.prints; printed = past.printed }
 
 fixed_is : (past : Past) (x y : Buffer) (s : CollStep) → past.remote ≡ false → past.buffers ≡ x ∷ y ∷ [] → past.inputs ≡ 1 → past.steps ≡ s ∷ [] → past ≡ fixed past x y s
 fixed_is past x y s er eb ei es =
     let with : Bool → List Buffer → ℕ → List CollStep → Past =
-    λ m bs i ss. record { stage = past.stage; ranks = past.ranks; remote = m; buffers = bs; inputs = i; given = past.given; steps = ss; prints = past.prints; printed = past.printed; most_printed = past.most_printed } in
+    λ m bs i ss. record { stage = past.stage; ranks = past.ranks; remote = m; buffers = bs; inputs = i; given = past.given; steps = ss; prints = past.prints; printed = past.printed } in
     ap (λ m. with m past.buffers past.inputs past.steps) er ∙ ap (λ bs. with false bs past.inputs past.steps) eb ∙ ap (λ i. with false (x ∷ y ∷ []) i past.steps) ei ∙ ap (λ ss. with false (x ∷ y ∷ []) 1 ss) es
 
 lists_are : (ranks : ℕ) (lists : List (List ℕ)) → ranks ≤ length lists → drop ranks lists ≡ [] → length lists ≡ ranks
@@ -211,10 +211,10 @@ record BuiltText (bytes : List ℕ) (d : Program) : Type 0 where
 built_text : (bytes : List ℕ) (d : Program) → first.read bytes ≡ Ok d → BuiltText bytes d
 unfolding read_by
 built_text bytes d h =
-    let limit = short (nat_lt 1048576 (length bytes)) (program_in (read_from first_line BadLine (nothing all_prints) 1 (lines bytes))) d h in
-    let f = described_by (read_from first_line BadLine (nothing all_prints) 1 (lines bytes)) d limit.1 in
-    let b = built_goes (nothing all_prints) f.0 1 (lines bytes) refl f.1 in
-    let e = all_go (nothing all_prints) f.0 1 (lines bytes) (refl, refl, refl, refl, refl, refl) b.0 in
+    let limit = short (nat_lt 1048576 (length bytes)) (program_in (read_from (first_line all_prints) BadLine nothing 1 (lines bytes))) d h in
+    let f = described_by (read_from (first_line all_prints) BadLine nothing 1 (lines bytes)) d limit.1 in
+    let b = built_goes nothing f.0 1 (lines bytes) refl f.1 in
+    let e = all_go all_prints nothing f.0 1 (lines bytes) (refl, refl, refl, refl, refl, refl) b.0 in
     let done : f.0.stage ≡ Finished = finished_is f.0.stage e.done in
     let sound : Sound Finished f.0 = subst (λ s. Sound s f.0) done e.sound in
     record {

@@ -33,7 +33,6 @@ Before Prints prints = Unit {0}
 Before Finished prints = Unit {0}
 
 pub record Counted (most : ℕ) (past : Past) : Type 0 where
-  pub limit : past.most_printed ≡ most
   pub counted : past.printed ≡ printed_in past.ranks past.buffers past.prints
   pub within : past.printed ≤ most
 
@@ -82,11 +81,11 @@ inputs_held most past name ty count c e =
     of_or most BadNumber (number_between 1 4096 count) _ (λ len _.
     of_refuse most (is_taken past.buffers name) NameTaken _ (λ _.
     of_refuse most (nat_le 128 (length past.buffers)) TooMany _ (λ _.
-    record { counts = record { limit = c.limit; counted = still_none most past past.ranks _ c e; within = c.within }; before = due_before past.ranks ty len past.prints e })))
+    record { counts = record { counted = still_none most past past.ranks _ c e; within = c.within }; before = due_before past.ranks ty len past.prints e })))
 
 barriers_held : (most : ℕ) (past : Past) → Counted most past → past.prints ≡ [] → Of most (barrier_line past)
 unfolding barrier_line
-barriers_held most past c e = of_refuse most (nat_le 64 (length past.steps)) TooMany _ (λ _. record { counts = record { limit = c.limit; counted = c.counted; within = c.within }; before = e })
+barriers_held most past c e = of_refuse most (nat_le 64 (length past.steps)) TooMany _ (λ _. record { counts = record { counted = c.counted; within = c.within }; before = e })
 
 steps_held : (most : ℕ) (past : Past) (root : Option (List ℕ)) (kind : StepKind) (a b : List ℕ) → Counted most past → past.prints ≡ [] → Of most (step_line past root kind a b)
 unfolding step_line
@@ -99,33 +98,32 @@ steps_held most past root kind a b c e =
     of_refuse most (nat_le 64 (length past.steps)) TooMany _ (λ _.
     of_refuse most (nat_le 128 (length past.buffers)) TooMany _ (λ _.
     of_refuse most (nat_lt most_elements (length_of spread)) TooLarge _ (λ _.
-    record { counts = record { limit = c.limit; counted = still_none most past past.ranks _ c e; within = c.within }; before = e }))))))))
+    record { counts = record { counted = still_none most past past.ranks _ c e; within = c.within }; before = e }))))))))
 
-prints_held : (most : ℕ) (past : Past) (name : List ℕ) → Counted most past → Of most (print_line past name)
+prints_held : (most : ℕ) (past : Past) (name : List ℕ) → Counted most past → Of most (print_line most past name)
 unfolding print_line
 prints_held most past name c =
     of_or most UnknownBuffer (buffer_named past.buffers name) _ (λ from is.
     of_refuse most (nat_le 128 (length past.prints)) TooMany _ (λ _.
-    of_refuse most (nat_lt past.most_printed (past.printed + elements_of past.ranks from.2)) TooLarge _ (λ fits.
+    of_refuse most (nat_lt most (past.printed + elements_of past.ranks from.2)) TooLarge _ (λ fits.
     record {
       counts = record {
-        limit = c.limit;
         counted = ap (λ n. n + elements_of past.ranks from.2) c.counted
             ∙ ap (λ n. printed_in past.ranks past.buffers past.prints + n) (sym (ap (elements_of past.ranks) (found past.buffers name from is).spread_is))
             ∙ sym (sum_by_push (λ i. elements_of past.ranks (spread_at past.buffers i)) past.prints from.0);
-        within = subst (λ n. past.printed + elements_of past.ranks from.2 ≤ n) c.limit (not_above past.most_printed (past.printed + elements_of past.ranks from.2) fits);
+        within = not_above most (past.printed + elements_of past.ranks from.2) fits;
       };
       before = tt;
     })))
 
-lasts_held : (most : ℕ) (past : Past) → Counted most past → Of most (form_line past last)
+lasts_held : (most : ℕ) (past : Past) → Counted most past → Of most (form_line most past last)
 unfolding form_line
-lasts_held most past c = record { counts = record { limit = c.limit; counted = c.counted; within = c.within }; before = tt }
+lasts_held most past c = record { counts = record { counted = c.counted; within = c.within }; before = tt }
 
 -- where no print has stood
-forms_held : (most : ℕ) (past : Past) (form : Form) → Counted most past → past.prints ≡ [] → Of most (form_line past form)
+forms_held : (most : ℕ) (past : Past) (form : Form) → Counted most past → past.prints ≡ [] → Of most (form_line most past form)
 unfolding form_line
-forms_held most past complete c e = record { counts = record { limit = c.limit; counted = c.counted; within = c.within }; before = e }
+forms_held most past complete c e = record { counts = record { counted = c.counted; within = c.within }; before = e }
 forms_held most past (input name ty count) c e = inputs_held most past name ty count c e
 forms_held most past barrier c e = barriers_held most past c e
 forms_held most past (step root kind a b) c e = steps_held most past root kind a b c e
@@ -139,7 +137,7 @@ never e = absurd (clash e)
     clash e = cc
 
 -- where prints may have stood
-late_held : (most : ℕ) (past : Past) (form : Form) → Counted most past → not (may_stand Prints form) ≡ false → Of most (form_line past form)
+late_held : (most : ℕ) (past : Past) (form : Form) → Counted most past → not (may_stand Prints form) ≡ false → Of most (form_line most past form)
 unfolding form_line
 late_held most past complete c e = never e
 late_held most past (input name ty count) c e = never e
@@ -148,23 +146,23 @@ late_held most past (step root kind a b) c e = never e
 late_held most past (print name) c e = prints_held most past name c
 late_held most past last c e = lasts_held most past c
 
-early : (most : ℕ) (past : Past) (line : List ℕ) → Counted most past → past.prints ≡ [] → Of most (later_line past line)
+early : (most : ℕ) (past : Past) (line : List ℕ) → Counted most past → past.prints ≡ [] → Of most (later_line most past line)
 unfolding later_line
 early most past line c e = of_or most BadLine (form_of (words line)) _ (λ form _. of_refuse most (not (may_stand past.stage form)) BadLine _ (λ _. forms_held most past form c e))
 
-late : (most : ℕ) (past : Past) (line : List ℕ) → Counted most past → past.stage ≡ Prints → Of most (later_line past line)
+late : (most : ℕ) (past : Past) (line : List ℕ) → Counted most past → past.stage ≡ Prints → Of most (later_line most past line)
 unfolding later_line
 late most past line c at = of_or most BadLine (form_of (words line)) _ (λ form _. of_refuse most (not (may_stand past.stage form)) BadLine _ (λ stands. late_held most past form c (sym (ap (λ (s : Stage). not (may_stand s form)) at) ∙ stands)))
 
 values_held : (most : ℕ) (past : Past) (left : ℕ) (ty : ElemType) (count : ℕ) (line : List ℕ) → Counted most past → past.prints ≡ [] → Of most (values_line past left ty count line)
 unfolding values_line
 values_held most past left ty count line c e =
-    of_then most (unless_flawed (data_line ty count (words line))) _ (λ bytes. record { counts = record { limit = c.limit; counted = c.counted; within = c.within }; before = due_before _ ty count past.prints e })
+    of_then most (unless_flawed (data_line ty count (words line))) _ (λ bytes. record { counts = record { counted = c.counted; within = c.within }; before = due_before _ ty count past.prints e })
 
-at_held : (most : ℕ) (stage : Stage) (past : Past) (line : List ℕ) → past.stage ≡ stage → Counted most past → Before stage past.prints → Of most (line_at stage past line)
+at_held : (most : ℕ) (stage : Stage) (past : Past) (line : List ℕ) → past.stage ≡ stage → Counted most past → Before stage past.prints → Of most (line_at most stage past line)
 unfolding line_at
-at_held most Version past line at c e = of_if most (bytes_eq line (codes "coll 1")) BadHeader _ (record { counts = record { limit = c.limit; counted = c.counted; within = c.within }; before = e })
-at_held most Ranks past line at c e = of_or most BadRanks (ranks_in (words line)) _ (λ n _. record { counts = record { limit = c.limit; counted = still_none most past n past.buffers c e; within = c.within }; before = e })
+at_held most Version past line at c e = of_if most (bytes_eq line (codes "coll 1")) BadHeader _ (record { counts = record { counted = c.counted; within = c.within }; before = e })
+at_held most Ranks past line at c e = of_or most BadRanks (ranks_in (words line)) _ (λ n _. record { counts = record { counted = still_none most past n past.buffers c e; within = c.within }; before = e })
 at_held most Options past line at c e = early most past line c e
 at_held most Inputs past line at c e = early most past line c e
 at_held most (Data left ty count) past line at c e = values_held most past left ty count line c e
@@ -172,22 +170,22 @@ at_held most Steps past line at c e = early most past line c e
 at_held most Prints past line at c e = late most past line c at
 at_held most Finished past line at c e = tt
 
-judge_held : (most : ℕ) (past : Past) (line : List ℕ) → Held most past → Of most (judge past line)
+judge_held : (most : ℕ) (past : Past) (line : List ℕ) → Held most past → Of most (judge most past line)
 unfolding judge
-judge_held most past line h = of_if most (list_all is_allowed line) BadByte (line_at past.stage past line) (at_held most past.stage past line refl h.counts h.before)
+judge_held most past line h = of_if most (list_all is_allowed line) BadByte (line_at most past.stage past line) (at_held most past.stage past line refl h.counts h.before)
 
 held_at : (most : ℕ) (r : Result Past Refusal) (next : Past) → Of most r → r ≡ Ok next → Held most next
 held_at most r next h e = subst (Of most) e h
 
 -- a line that is taken
-pub held_on : (most : ℕ) (past next : Past) (line : List ℕ) → Held most past → judge past line ≡ Ok next → Held most next
-held_on most past next line h e = held_at most (judge past line) next (judge_held most past line h) e
+pub held_on : (most : ℕ) (past next : Past) (line : List ℕ) → Held most past → judge most past line ≡ Ok next → Held most next
+held_on most past next line h e = held_at most (judge most past line) next (judge_held most past line h) e
 
-pub held_first : (most : ℕ) → Held most (nothing most)
-held_first most = record { counts = record { limit = refl; counted = refl; within = omega arith }; before = refl }
+pub held_first : (most : ℕ) → Held most nothing
+held_first most = record { counts = record { counted = refl; within = omega arith }; before = refl }
 
 -- all lines, where the last one is taken too
-pub held_all : (most : ℕ) (past final : Past) (k : ℕ) (pieces : List (List ℕ)) → Held most past → read_from judge AfterEnd past k pieces ≡ Ok final → Held most final
+pub held_all : (most : ℕ) (past final : Past) (k : ℕ) (pieces : List (List ℕ)) → Held most past → read_from (judge most) AfterEnd past k pieces ≡ Ok final → Held most final
 unfolding read_from
 held_all most past final k [] held h = cc
 held_all most past final k (piece ∷ []) held h = subst (Held most) (last_is (is_finished past.stage) (is_empty piece) h) held
@@ -197,9 +195,9 @@ held_all most past final k (piece ∷ []) held h = subst (Held most) (last_is (i
     last_is true false h = cc
     last_is false empty h = cc
 held_all most past final k (line ∷ piece ∷ pieces) held h =
-    going (is_finished past.stage) (judge past line) (judge_held most past line held) (λ next held h. held_all most next final (k + 1) (piece ∷ pieces) held h) h
+    going (is_finished past.stage) (judge most past line) (judge_held most past line held) (λ next held h. held_all most next final (k + 1) (piece ∷ pieces) held h) h
   where
-    going : (done : Bool) (r : Result Past Refusal) → Of most r → ((next : Past) → Held most next → read_from judge AfterEnd next (k + 1) (piece ∷ pieces) ≡ Ok final → Held most final) → cond done (refused k AfterEnd) (numbered k r (λ next. read_from judge AfterEnd next (k + 1) (piece ∷ pieces))) ≡ Ok final → Held most final
+    going : (done : Bool) (r : Result Past Refusal) → Of most r → ((next : Past) → Held most next → read_from (judge most) AfterEnd next (k + 1) (piece ∷ pieces) ≡ Ok final → Held most final) → cond done (refused k AfterEnd) (numbered k r (λ next. read_from (judge most) AfterEnd next (k + 1) (piece ∷ pieces))) ≡ Ok final → Held most final
     going true r o f h = cc
     going false (Err name) o f h = cc
     going false (Ok next) o f h = f next o h

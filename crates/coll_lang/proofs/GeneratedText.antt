@@ -97,12 +97,12 @@ rows_short (row ∷ rows) h =
 
 -- what is said before the first line
 abbrev start : Past
-start = nothing most_elements
+start = nothing
 
 -- what the lines say at each stage
 abbrev said : Stage → List Buffer → List CollStep → List ℕ → ℕ → List (List ℕ) → Past
 said stage buffers steps prints printed given =
-    record { stage = stage; ranks = 64; remote = false; buffers = buffers; inputs = 1; given = given; steps = steps; prints = prints; printed = printed; most_printed = most_elements }
+    record { stage = stage; ranks = 64; remote = false; buffers = buffers; inputs = 1; given = given; steps = steps; prints = prints; printed = printed }
 
 abbrev a : Buffer
 a = even_words (codes "a") 64
@@ -112,34 +112,34 @@ abbrev filling : ℕ → List (List ℕ) → Past
 filling left given = said (data_due left U32 64) (a ∷ []) [] [] 0 given
 
 -- the data lines
-row_judged : (left : ℕ) (row : List ℕ) (given : List (List ℕ)) → IsRow row → judge (filling (suc left) given) (row_line row) ≡ Ok (filling left (given ++ bytes_of_list U32 row ∷ []))
+row_judged : (left : ℕ) (row : List ℕ) (given : List (List ℕ)) → IsRow row → judge most_elements (filling (suc left) given) (row_line row) ≡ Ok (filling left (given ++ bytes_of_list U32 row ∷ []))
 unfolding judge line_at values_line
 row_judged left row given h = rw (row_allowed row h, row_read row h, less left) refl
   where
     less : (n : ℕ) → suc n - 1 ≡ n
     less n = omega arith
 
-rows_lead : (rows : List (List ℕ)) (given : List (List ℕ)) → AllByRecursion IsRow rows → Leads (filling (length rows) given) (filling 0 (given ++ map (bytes_of_list U32) rows)) (rows_text rows)
-rows_lead [] given h = λ final rest ends k. ap (λ (g : List (List ℕ)). read_from judge AfterEnd (filling 0 g) k (lines rest)) (sym (append-nil given)) ∙ ends k
+rows_lead : (rows : List (List ℕ)) (given : List (List ℕ)) → AllByRecursion IsRow rows → Leads most_elements (filling (length rows) given) (filling 0 (given ++ map (bytes_of_list U32) rows)) (rows_text rows)
+rows_lead [] given h = λ final rest ends k. ap (λ (g : List (List ℕ)). read_from (judge most_elements) AfterEnd (filling 0 g) k (lines rest)) (sym (append-nil given)) ∙ ends k
 rows_lead (row ∷ rows) given h =
-    then (filling (suc (length rows)) given) (filling (length rows) (given ++ bytes_of_list U32 row ∷ [])) (filling 0 (given ++ bytes_of_list U32 row ∷ map (bytes_of_list U32) rows)) (row_line row ++ 10 ∷ []) (rows_text rows)
-    (one_line (filling (suc (length rows)) given) (filling (length rows) (given ++ bytes_of_list U32 row ∷ [])) (row_line row) refl (row_allowed row h.0) (row_judged (length rows) row given h.0))
-    (subst (λ (g : List (List ℕ)). Leads (filling (length rows) (given ++ bytes_of_list U32 row ∷ [])) (filling 0 g) (rows_text rows)) (append_assoc given (bytes_of_list U32 row ∷ []) (map (bytes_of_list U32) rows)) (rows_lead rows (given ++ bytes_of_list U32 row ∷ []) h.1))
+    then most_elements (filling (suc (length rows)) given) (filling (length rows) (given ++ bytes_of_list U32 row ∷ [])) (filling 0 (given ++ bytes_of_list U32 row ∷ map (bytes_of_list U32) rows)) (row_line row ++ 10 ∷ []) (rows_text rows)
+    (one_line most_elements (filling (suc (length rows)) given) (filling (length rows) (given ++ bytes_of_list U32 row ∷ [])) (row_line row) refl (row_allowed row h.0) (row_judged (length rows) row given h.0))
+    (subst (λ (g : List (List ℕ)). Leads most_elements (filling (length rows) (given ++ bytes_of_list U32 row ∷ [])) (filling 0 g) (rows_text rows)) (append_assoc given (bytes_of_list U32 row ∷ []) (map (bytes_of_list U32) rows)) (rows_lead rows (given ++ bytes_of_list U32 row ∷ []) h.1))
 
 -- the lines before the data lines
 abbrev head : List ℕ
 head = (codes "coll 1" ++ 10 ∷ []) ++ ((codes "ranks 64" ++ 10 ∷ []) ++ (codes "input a u32 64" ++ 10 ∷ []))
 
-head_leads : Leads start (filling 64 []) head
+head_leads : Leads most_elements start (filling 64 []) head
 unfolding judge line_at later_line ranks_in form_of input_in form_line input_line
 head_leads =
     let first : Past = record start { stage = Ranks } in
     let second : Past = record start { stage = Options; ranks = 64 } in
-    then start first (filling 64 []) (codes "coll 1" ++ 10 ∷ []) ((codes "ranks 64" ++ 10 ∷ []) ++ (codes "input a u32 64" ++ 10 ∷ []))
-    (one_line start first (codes "coll 1") refl refl refl)
-    (then first second (filling 64 []) (codes "ranks 64" ++ 10 ∷ []) (codes "input a u32 64" ++ 10 ∷ [])
-    (one_line first second (codes "ranks 64") refl refl refl)
-    (one_line second (filling 64 []) (codes "input a u32 64") refl refl refl))
+    then most_elements start first (filling 64 []) (codes "coll 1" ++ 10 ∷ []) ((codes "ranks 64" ++ 10 ∷ []) ++ (codes "input a u32 64" ++ 10 ∷ []))
+    (one_line most_elements start first (codes "coll 1") refl refl refl)
+    (then most_elements first second (filling 64 []) (codes "ranks 64" ++ 10 ∷ []) (codes "input a u32 64" ++ 10 ∷ [])
+    (one_line most_elements first second (codes "ranks 64") refl refl refl)
+    (one_line most_elements second (filling 64 []) (codes "input a u32 64") refl refl refl))
 
 -- the buffers and the steps, one after the other
 abbrev b : Buffer
@@ -196,14 +196,14 @@ from_scan = ended (codes "scan max a c") ++ from_allgather
 abbrev steps_lines : List ℕ
 steps_lines = ended (codes "allreduce sum a b") ++ from_scan
 
-steps_lead : (given : List (List ℕ)) → Leads (none_said given) (five_said given) steps_lines
+steps_lead : (given : List (List ℕ)) → Leads most_elements (none_said given) (five_said given) steps_lines
 unfolding judge line_at later_line form_of step_in root_in kind_in names_in form_line step_line buffer_named barrier_line
 steps_lead given =
-    then (none_said given) (one_said given) (five_said given) (ended (codes "allreduce sum a b")) from_scan (one_line (none_said given) (one_said given) (codes "allreduce sum a b") refl refl refl)
-    (then (one_said given) (two_said given) (five_said given) (ended (codes "scan max a c")) from_allgather (one_line (one_said given) (two_said given) (codes "scan max a c") refl refl refl)
-    (then (two_said given) (three_said given) (five_said given) (ended (codes "allgather a d")) from_alltoall (one_line (two_said given) (three_said given) (codes "allgather a d") refl refl refl)
-    (then (three_said given) (four_said given) (five_said given) (ended (codes "alltoall a e")) (ended (codes "barrier")) (one_line (three_said given) (four_said given) (codes "alltoall a e") refl refl refl)
-    (one_line (four_said given) (five_said given) (codes "barrier") refl refl refl))))
+    then most_elements (none_said given) (one_said given) (five_said given) (ended (codes "allreduce sum a b")) from_scan (one_line most_elements (none_said given) (one_said given) (codes "allreduce sum a b") refl refl refl)
+    (then most_elements (one_said given) (two_said given) (five_said given) (ended (codes "scan max a c")) from_allgather (one_line most_elements (one_said given) (two_said given) (codes "scan max a c") refl refl refl)
+    (then most_elements (two_said given) (three_said given) (five_said given) (ended (codes "allgather a d")) from_alltoall (one_line most_elements (two_said given) (three_said given) (codes "allgather a d") refl refl refl)
+    (then most_elements (three_said given) (four_said given) (five_said given) (ended (codes "alltoall a e")) (ended (codes "barrier")) (one_line most_elements (three_said given) (four_said given) (codes "alltoall a e") refl refl refl)
+    (one_line most_elements (four_said given) (five_said given) (codes "barrier") refl refl refl))))
 
 -- those of the prints, and the last one
 abbrev from_print_e : List ℕ
@@ -221,7 +221,7 @@ from_print_b = ended (codes "print b") ++ from_print_c
 abbrev last_lines : List ℕ
 last_lines = ended (codes "print a") ++ from_print_b
 
-last_lead : (given : List (List ℕ)) → Leads (five_said given) (all_said given) last_lines
+last_lead : (given : List (List ℕ)) → Leads most_elements (five_said given) (all_said given) last_lines
 unfolding judge line_at later_line form_of print_in form_line print_line buffer_named
 last_lead given =
     let first = printing Prints (0 ∷ []) 4096 given in
@@ -229,12 +229,12 @@ last_lead given =
     let third = printing Prints (0 ∷ 1 ∷ 2 ∷ []) 12288 given in
     let fourth = printing Prints (0 ∷ 1 ∷ 2 ∷ 3 ∷ []) 274432 given in
     let fifth = printing Prints generated_shape.prints 278528 given in
-    then (five_said given) first (all_said given) (ended (codes "print a")) from_print_b (one_line (five_said given) first (codes "print a") refl refl refl)
-    (then first second (all_said given) (ended (codes "print b")) from_print_c (one_line first second (codes "print b") refl refl refl)
-    (then second third (all_said given) (ended (codes "print c")) from_print_d (one_line second third (codes "print c") refl refl refl)
-    (then third fourth (all_said given) (ended (codes "print d")) from_print_e (one_line third fourth (codes "print d") refl refl refl)
-    (then fourth fifth (all_said given) (ended (codes "print e")) (ended (codes "end")) (one_line fourth fifth (codes "print e") refl refl refl)
-    (one_line fifth (all_said given) (codes "end") refl refl refl)))))
+    then most_elements (five_said given) first (all_said given) (ended (codes "print a")) from_print_b (one_line most_elements (five_said given) first (codes "print a") refl refl refl)
+    (then most_elements first second (all_said given) (ended (codes "print b")) from_print_c (one_line most_elements first second (codes "print b") refl refl refl)
+    (then most_elements second third (all_said given) (ended (codes "print c")) from_print_d (one_line most_elements second third (codes "print c") refl refl refl)
+    (then most_elements third fourth (all_said given) (ended (codes "print d")) from_print_e (one_line most_elements third fourth (codes "print d") refl refl refl)
+    (then most_elements fourth fifth (all_said given) (ended (codes "print e")) (ended (codes "end")) (one_line most_elements fourth fifth (codes "print e") refl refl refl)
+    (one_line most_elements fifth (all_said given) (codes "end") refl refl refl)))))
 
 -- the whole text
 unfoldable whole : ℕ → List ℕ
@@ -243,14 +243,14 @@ whole k = head ++ (rows_text (all_elements k) ++ (steps_lines ++ last_lines))
 abbrev given_of : ℕ → List (List ℕ)
 given_of k = map (bytes_of_list U32) (all_elements k)
 
-whole_leads : (k : ℕ) → Leads start (all_said (given_of k)) (whole k)
+whole_leads : (k : ℕ) → Leads most_elements start (all_said (given_of k)) (whole k)
 unfolding whole
 whole_leads k =
     let given = given_of k in
-    then start (filling 64 []) (all_said given) head (rows_text (all_elements k) ++ (steps_lines ++ last_lines)) head_leads
-    (then (filling 64 []) (none_said given) (all_said given) (rows_text (all_elements k)) (steps_lines ++ last_lines)
-    (subst (λ n. Leads (filling n []) (none_said given) (rows_text (all_elements k))) (rows_count k) (rows_lead (all_elements k) [] (rows_are k)))
-    (then (none_said given) (five_said given) (all_said given) steps_lines last_lines (steps_lead given) (last_lead given)))
+    then most_elements start (filling 64 []) (all_said given) head (rows_text (all_elements k) ++ (steps_lines ++ last_lines)) head_leads
+    (then most_elements (filling 64 []) (none_said given) (all_said given) (rows_text (all_elements k)) (steps_lines ++ last_lines)
+    (subst (λ n. Leads most_elements (filling n []) (none_said given) (rows_text (all_elements k))) (rows_count k) (rows_lead (all_elements k) [] (rows_are k)))
+    (then most_elements (none_said given) (five_said given) (all_said given) steps_lines last_lines (steps_lead given) (last_lead given)))
 
 whole_short : (k : ℕ) → length (whole k) ≤ 1048576
 unfolding whole
@@ -262,13 +262,13 @@ whole_short k =
     let inner = length-append rows (steps_lines ++ last_lines) in
     omega (arith, short, count, outer, inner)
 
-ends : (given : List (List ℕ)) (k : ℕ) → read_from judge AfterEnd (all_said given) k (lines []) ≡ Ok (all_said given)
+ends : (given : List (List ℕ)) (k : ℕ) → read_from (judge most_elements) AfterEnd (all_said given) k (lines []) ≡ Ok (all_said given)
 unfolding read_from
 ends given k = refl
 
-reads_whole : (k : ℕ) → read_from judge AfterEnd start 1 (lines (whole k)) ≡ Ok (all_said (given_of k))
+reads_whole : (k : ℕ) → read_from (judge most_elements) AfterEnd start 1 (lines (whole k)) ≡ Ok (all_said (given_of k))
 reads_whole k =
-    ap (λ (x : List ℕ). read_from judge AfterEnd start 1 (lines x)) (sym (append-nil (whole k)))
+    ap (λ (x : List ℕ). read_from (judge most_elements) AfterEnd start 1 (lines x)) (sym (append-nil (whole k)))
     ∙ whole_leads k (all_said (given_of k)) [] (ends (given_of k)) 1
 
 -- the generated description is accepted

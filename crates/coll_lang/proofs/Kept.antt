@@ -10,7 +10,7 @@ use Rattle.coll_lang.specs.declared.fault.Refusal.TheVariants.{AfterEnd}
 use Rattle.coll_lang.specs.Language.{Past, judge, read, read_by, read_up_to, read_from, nothing, described, most_elements}
 use Rattle.coll_lang.specs.FirstForm as first
 use Rattle.coll_lang.specs.FirstForm.{all_prints}
-use Rattle.coll_lang.specs.Extents.{judged, most_printed_of, after}
+use Rattle.coll_lang.specs.Extents.{judged, after}
 use Rattle.coll_lang.specs.Spelling.{text}
 use Rattle.coll_lang.specs.Accepted.{IsAccepted, IsAcceptedShape}
 use Rattle.coll_lang.specs.WellFormed.{IsWellFormed, IsWellGiven}
@@ -29,12 +29,17 @@ within : (n : ℕ) → n ≤ 1048576 → nat_lt 1048576 n ≡ false
 within n le = grind (arith, nat_tests)
 
 -- what all lines say is what the text is read as
-read_is : (e : Extent) (bytes : List ℕ) (final : Past) → length bytes ≤ 1048576 → read_from (judged e) (after e) (nothing (most_printed_of e)) 1 (lines bytes) ≡ Ok final → read_by (most_printed_of e) (judged e) (after e) bytes ≡ Ok (described final)
+read_is : (e : Extent) (bytes : List ℕ) (final : Past) → length bytes ≤ 1048576 → read_from (judged e) (after e) nothing 1 (lines bytes) ≡ Ok final → read_by (judged e) (after e) bytes ≡ Ok (described final)
 unfolding read_by
 read_is e bytes final le h = rw (within (length bytes) le, h) refl
 
+-- how many elements all prints together may have
+abbrev most_of : Extent → ℕ
+most_of extents.All = most_elements
+most_of extents.Built = all_prints
+
 -- however much is read, the whole language reads it alike with the same limit
-read_alike : (e : Extent) (bytes : List ℕ) (d : Program) → read_by (most_printed_of e) (judged e) (after e) bytes ≡ Ok d → read_up_to (most_printed_of e) bytes ≡ Ok d
+read_alike : (e : Extent) (bytes : List ℕ) (d : Program) → read_by (judged e) (after e) bytes ≡ Ok d → read_up_to (most_of e) bytes ≡ Ok d
 read_alike extents.All bytes d h = h
 read_alike extents.Built bytes d h = built_is_read bytes d h
 
@@ -46,14 +51,14 @@ built_spelled : (bytes : List ℕ) (d : Program) → first.read bytes ≡ Ok d �
 built_spelled bytes d h = one_spelling all_prints bytes d (built_is_read bytes d h)
 
 -- the same of lines that the whole language reads
-pub reads_again : (bytes : List ℕ) (final : Past) → length bytes ≤ 1048576 → read_from judge AfterEnd (nothing most_elements) 1 (lines bytes) ≡ Ok final → read (text (described final)) ≡ Ok (described final)
+pub reads_again : (bytes : List ℕ) (final : Past) → length bytes ≤ 1048576 → read_from (judge most_elements) AfterEnd nothing 1 (lines bytes) ≡ Ok final → read (text (described final)) ≡ Ok (described final)
 reads_again bytes final le h = again most_elements bytes (described final) (read_is extents.All bytes final le h)
 
 -- what the whole language reads is accepted
 pub accepted : (bytes : List ℕ) (d : Program) → read bytes ≡ Ok d → IsAccepted d
 accepted bytes d h = record { reads = ∣ inl (again most_elements bytes d h) ∣₁ }
 
-accepted_by : (e : Extent) (bytes : List ℕ) (d : Program) → read_by (most_printed_of e) (judged e) (after e) bytes ≡ Ok d → IsAccepted d
+accepted_by : (e : Extent) (bytes : List ℕ) (d : Program) → read_by (judged e) (after e) bytes ≡ Ok d → IsAccepted d
 accepted_by extents.All bytes d h = accepted bytes d h
 accepted_by extents.Built bytes d h = record { reads = ∣ inr (ap first.read (sym (built_spelled bytes d h)) ∙ h) ∣₁ }
 
@@ -83,11 +88,11 @@ pub record IsKept (past : Past) : Type 0 where
   pub accepted : IsAccepted (described past)
   pub lists : length past.given ≡ past.inputs * past.ranks
 
-pub kept : (e : Extent) (bytes : List ℕ) (final : Past) → length bytes ≤ 1048576 → read_from (judged e) (after e) (nothing (most_printed_of e)) 1 (lines bytes) ≡ Ok final → IsKept final
+pub kept : (e : Extent) (bytes : List ℕ) (final : Past) → length bytes ≤ 1048576 → read_from (judged e) (after e) nothing 1 (lines bytes) ≡ Ok final → IsKept final
 kept e bytes final le h =
     let read_so = read_is e bytes final le h in
     let reads = read_alike e bytes (described final) read_so in
-    let is = readable (most_printed_of e) bytes (described final) reads in
+    let is = readable (most_of e) bytes (described final) reads in
     record {
       accepted = accepted_by e bytes (described final) read_so;
       lists = lists_of_all final.ranks (take final.inputs final.buffers) final.given is.given.filled ∙ ap (λ n. n * final.ranks) (length-take-le final.inputs final.buffers is.formed.inputs_first);

@@ -14,24 +14,24 @@ use Rattle.coll_lang.specs.declared.fault.Refusal.TheVariants.{AfterEnd}
 use Rattle.coll_lang.proofs.Reading.{goes_on}
 
 -- whatever follows
-abbrev pub Leads : Past → Past → List ℕ → Type 0
-Leads past next bytes = (final : Past) (rest : List ℕ) → ((k : ℕ) → read_from judge AfterEnd next k (lines rest) ≡ Ok final) → (k : ℕ) → read_from judge AfterEnd past k (lines (bytes ++ rest)) ≡ Ok final
+abbrev pub Leads : ℕ → Past → Past → List ℕ → Type 0
+Leads most past next bytes = (final : Past) (rest : List ℕ) → ((k : ℕ) → read_from (judge most) AfterEnd next k (lines rest) ≡ Ok final) → (k : ℕ) → read_from (judge most) AfterEnd past k (lines (bytes ++ rest)) ≡ Ok final
 
 no_break : (b : ℕ) → is_allowed b ≡ true → b == 10 ≡ false
 no_break b h = grind (arith, nat_tests)
 
 -- one line
-pub one_line : (past next : Past) (l : List ℕ) → is_finished past.stage ≡ false → list_all is_allowed l ≡ true → judge past l ≡ Ok next → Leads past next (l ++ 10 ∷ [])
-one_line past next l going allowed taken = λ final rest h k.
-    ap (λ (x : List ℕ). read_from judge AfterEnd past k (lines x)) (append_assoc l (10 ∷ []) rest)
-    ∙ ap (read_from judge AfterEnd past k) (line_of l rest (none_is is_allowed 10 l no_break allowed))
-    ∙ goes_on judge AfterEnd past next k l rest going taken
+pub one_line : (most : ℕ) (past next : Past) (l : List ℕ) → is_finished past.stage ≡ false → list_all is_allowed l ≡ true → judge most past l ≡ Ok next → Leads most past next (l ++ 10 ∷ [])
+one_line most past next l going allowed taken = λ final rest h k.
+    ap (λ (x : List ℕ). read_from (judge most) AfterEnd past k (lines x)) (append_assoc l (10 ∷ []) rest)
+    ∙ ap (read_from (judge most) AfterEnd past k) (line_of l rest (none_is is_allowed 10 l no_break allowed))
+    ∙ goes_on (judge most) AfterEnd past next k l rest going taken
     ∙ h (k + 1)
 
 -- lines behind lines
-pub then : (past mid next : Past) (x y : List ℕ) → Leads past mid x → Leads mid next y → Leads past next (x ++ y)
-then past mid next x y f g = λ final rest h k.
-    ap (λ (z : List ℕ). read_from judge AfterEnd past k (lines z)) (append_assoc x y rest) ∙ f final (y ++ rest) (g final rest h) k
+pub then : (most : ℕ) (past mid next : Past) (x y : List ℕ) → Leads most past mid x → Leads most mid next y → Leads most past next (x ++ y)
+then most past mid next x y f g = λ final rest h k.
+    ap (λ (z : List ℕ). read_from (judge most) AfterEnd past k (lines z)) (append_assoc x y rest) ∙ f final (y ++ rest) (g final rest h) k
 
 -- words of seen bytes
 pub solid_allowed : (ws : List (List ℕ)) → AllByRecursion (λ w. list_all is_solid w ≡ true) ws → list_all is_allowed (join_with_byte 32 ws) ≡ true
@@ -54,24 +54,24 @@ never e = absurd (clash e)
     clash : false ≡ true → ⊥
     clash e = cc
 
-at_later : (stage : Stage) (past : Past) (l : List ℕ) (form : Form) → may_stand stage form ≡ true → line_at stage past l ≡ later_line past l
+at_later : (most : ℕ) (stage : Stage) (past : Past) (l : List ℕ) (form : Form) → may_stand stage form ≡ true → line_at most stage past l ≡ later_line most past l
 unfolding line_at
-at_later Version past l form h = never h
-at_later Ranks past l form h = never h
-at_later Options past l form h = refl
-at_later Inputs past l form h = refl
-at_later (Data left ty count) past l form h = never h
-at_later Steps past l form h = refl
-at_later Prints past l form h = refl
-at_later Finished past l form h = never h
+at_later most Version past l form h = never h
+at_later most Ranks past l form h = never h
+at_later most Options past l form h = refl
+at_later most Inputs past l form h = refl
+at_later most (Data left ty count) past l form h = never h
+at_later most Steps past l form h = refl
+at_later most Prints past l form h = refl
+at_later most Finished past l form h = never h
 
-later_taken : (past next : Past) (l : List ℕ) (form : Form) → form_of (words l) ≡ Some form → may_stand past.stage form ≡ true → form_line past form ≡ Ok next → later_line past l ≡ Ok next
+later_taken : (most : ℕ) (past next : Past) (l : List ℕ) (form : Form) → form_of (words l) ≡ Some form → may_stand past.stage form ≡ true → form_line most past form ≡ Ok next → later_line most past l ≡ Ok next
 unfolding later_line
-later_taken past next l form is stands taken = rw (is, stands) taken
+later_taken most past next l form is stands taken = rw (is, stands) taken
 
-judged_by : (past next : Past) (l : List ℕ) (form : Form) → list_all is_allowed l ≡ true → form_of (words l) ≡ Some form → may_stand past.stage form ≡ true → form_line past form ≡ Ok next → judge past l ≡ Ok next
+judged_by : (most : ℕ) (past next : Past) (l : List ℕ) (form : Form) → list_all is_allowed l ≡ true → form_of (words l) ≡ Some form → may_stand past.stage form ≡ true → form_line most past form ≡ Ok next → judge most past l ≡ Ok next
 unfolding judge
-judged_by past next l form allowed is stands taken = rw allowed (at_later past.stage past l form stands ∙ later_taken past next l form is stands taken)
+judged_by most past next l form allowed is stands taken = rw allowed (at_later most past.stage past l form stands ∙ later_taken most past next l form is stands taken)
 
 goes : (stage : Stage) (form : Form) → may_stand stage form ≡ true → is_finished stage ≡ false
 goes Version form h = refl
@@ -83,10 +83,10 @@ goes Steps form h = refl
 goes Prints form h = refl
 goes Finished form h = never h
 
-pub form_leads : (past next : Past) (form : Form) (w : List ℕ) (ws : List (List ℕ)) → AllByRecursion (λ w. list_all is_solid w ≡ true) (w ∷ ws) → form_of (w ∷ ws) ≡ Some form → may_stand past.stage form ≡ true → form_line past form ≡ Ok next → Leads past next (line (w ∷ ws))
-form_leads past next form w ws solid is stands taken =
+pub form_leads : (most : ℕ) (past next : Past) (form : Form) (w : List ℕ) (ws : List (List ℕ)) → AllByRecursion (λ w. list_all is_solid w ≡ true) (w ∷ ws) → form_of (w ∷ ws) ≡ Some form → may_stand past.stage form ≡ true → form_line most past form ≡ Ok next → Leads most past next (line (w ∷ ws))
+form_leads most past next form w ws solid is stands taken =
     let allowed = solid_allowed (w ∷ ws) solid in
-    one_line past next (join_with_byte 32 (w ∷ ws)) (goes past.stage form stands) allowed (judged_by past next (join_with_byte 32 (w ∷ ws)) form allowed (ap form_of (solid_words w ws solid) ∙ is) stands taken)
+    one_line most past next (join_with_byte 32 (w ∷ ws)) (goes past.stage form stands) allowed (judged_by most past next (join_with_byte 32 (w ∷ ws)) form allowed (ap form_of (solid_words w ws solid) ∙ is) stands taken)
 
 -- a stage at which all may stand that may stand at another
 abbrev pub Wider : Stage → Stage → Type 0

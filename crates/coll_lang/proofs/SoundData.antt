@@ -114,12 +114,12 @@ barrier_goes past next f a h =
     })
 
 -- `print NAME`
-pub print_goes : (past next : Past) (name : List ℕ) → Formed past → AtPrints past → print_line past name ≡ Ok next → Goes (body past) next (line (form_words (print name)))
+pub print_goes : (most : ℕ) (past next : Past) (name : List ℕ) → Formed past → AtPrints past → print_line most past name ≡ Ok next → Goes (body past) next (line (form_words (print name)))
 unfolding print_line
-print_goes past next name f a h =
+print_goes most past next name f a h =
     let from = some_of UnknownBuffer (buffer_named past.buffers name) _ next h in
     let full = passed (nat_le 128 (length past.prints)) TooMany _ next from.2 in
-    let large = passed (nat_lt past.most_printed (past.printed + elements_of past.ranks from.0.2)) TooLarge _ next full.1 in
+    let large = passed (nat_lt most (past.printed + elements_of past.ranks from.0.2)) TooLarge _ next full.1 in
     let is = found past.buffers name from.0 from.1 in
     let i = from.0.0 in
     let after : Past = record past { stage = Prints; prints = past.prints ++ i ∷ []; printed = past.printed + elements_of past.ranks from.0.2 } in

@@ -39,9 +39,9 @@ use Rattle.coll_lang.proofs.Leading.{Leads, one_line, then, solid_allowed, solid
 use Rattle.coll_lang.proofs.FormsBack.{name_solid, type_solid, op_solid, number_full, between_read, input_back, print_back, broadcast_back, reduce_back, allreduce_back, gather_back, allgather_back, alltoall_back, scan_back, barrier_back, last_back, complete_back}
 
 -- what is said at a stage
-abbrev said : Stage → ℕ → Bool → List Buffer → ℕ → List (List ℕ) → List CollStep → List ℕ → ℕ → ℕ → Past
-said stage ranks remote buffers inputs given steps prints printed most =
-    record { stage = stage; ranks = ranks; remote = remote; buffers = buffers; inputs = inputs; given = given; steps = steps; prints = prints; printed = printed; most_printed = most }
+abbrev said : Stage → ℕ → Bool → List Buffer → ℕ → List (List ℕ) → List CollStep → List ℕ → ℕ → Past
+said stage ranks remote buffers inputs given steps prints printed =
+    record { stage = stage; ranks = ranks; remote = remote; buffers = buffers; inputs = inputs; given = given; steps = steps; prints = prints; printed = printed }
 
 -- tests
 isnt_above : (n most : ℕ) → n ≤ most → nat_lt most n ≡ false
@@ -114,22 +114,22 @@ next_parts : (all done rest : List Buffer) (c : Buffer) → Parts all done (c �
 next_parts all done rest c p = record { are = p.are ∙ sym (append_assoc done (c ∷ []) rest); distinct = p.distinct }
 
 -- what lines lead to, at some stage that allows so much
-record Led (past : Past) (bytes : List ℕ) (next : Stage → Past) (wide : Stage) : Type 0 where
+record Led (most : ℕ) (past : Past) (bytes : List ℕ) (next : Stage → Past) (wide : Stage) : Type 0 where
   stage : Stage
   wider : Wider stage wide
-  leads : Leads past (next stage) bytes
+  leads : Leads most past (next stage) bytes
 
-led_none : (past : Past) (next : Stage → Past) (wide : Stage) → Wider past.stage wide → past ≡ next past.stage → Led past [] next wide
-led_none past next wide wider e = record { stage = past.stage; wider = wider; leads = λ final rest h k. ap (λ (p : Past). read_from judge AfterEnd p k (lines rest)) e ∙ h k }
+led_none : (most : ℕ) (past : Past) (next : Stage → Past) (wide : Stage) → Wider past.stage wide → past ≡ next past.stage → Led most past [] next wide
+led_none most past next wide wider e = record { stage = past.stage; wider = wider; leads = λ final rest h k. ap (λ (p : Past). read_from (judge most) AfterEnd p k (lines rest)) e ∙ h k }
 
-led_first : (past mid : Past) (x y : List ℕ) (made next : Stage → Past) (wide : Stage) → Leads past mid x → Led mid y made wide → ((s : Stage) → made s ≡ next s) → Led past (x ++ y) next wide
-led_first past mid x y made next wide f l e =
-    record { stage = l.stage; wider = l.wider; leads = then past mid (next l.stage) x y f (subst (λ (p : Past). Leads mid p y) (e l.stage) l.leads) }
+led_first : (most : ℕ) (past mid : Past) (x y : List ℕ) (made next : Stage → Past) (wide : Stage) → Leads most past mid x → Led most mid y made wide → ((s : Stage) → made s ≡ next s) → Led most past (x ++ y) next wide
+led_first most past mid x y made next wide f l e =
+    record { stage = l.stage; wider = l.wider; leads = then most past mid (next l.stage) x y f (subst (λ (p : Past). Leads most mid p y) (e l.stage) l.leads) }
 
-led_then : (past : Past) (x y : List ℕ) (mid next : Stage → Past) (wide narrow : Stage) → Led past x mid wide → ((s : Stage) → Wider s wide → Led (mid s) y next narrow) → Led past (x ++ y) next narrow
-led_then past x y mid next wide narrow l f =
+led_then : (most : ℕ) (past : Past) (x y : List ℕ) (mid next : Stage → Past) (wide narrow : Stage) → Led most past x mid wide → ((s : Stage) → Wider s wide → Led most (mid s) y next narrow) → Led most past (x ++ y) next narrow
+led_then most past x y mid next wide narrow l f =
     let g = f l.stage l.wider in
-    record { stage = g.stage; wider = g.wider; leads = then past (mid l.stage) (next g.stage) x y l.leads g.leads }
+    record { stage = g.stage; wider = g.wider; leads = then most past (mid l.stage) (next g.stage) x y l.leads g.leads }
 
 -- steps
 rooted : (ranks r : ℕ) → r < ranks → ranks ≤ 64 → rank_of ranks (Some (decimal r)) ≡ Ok (Some r)
@@ -138,11 +138,11 @@ rooted ranks r lt few =
     let t = is_below r ranks lt in
     rw (n, t) refl
 
-step_taken : (past : Past) (root : Option (List ℕ)) (kind : StepKind) (r a : ℕ) (an : List ℕ) (spread : Spread) (c : Buffer) → rank_of past.ranks root ≡ Ok (Some r) → is_taken past.buffers c.name ≡ false → buffer_named past.buffers an ≡ Some (a, c.ty, spread)
+step_taken : (most : ℕ) (past : Past) (root : Option (List ℕ)) (kind : StepKind) (r a : ℕ) (an : List ℕ) (spread : Spread) (c : Buffer) → rank_of past.ranks root ≡ Ok (Some r) → is_taken past.buffers c.name ≡ false → buffer_named past.buffers an ≡ Some (a, c.ty, spread)
     → spread_after past.ranks (step_of kind r a (length past.buffers)) spread ≡ Some c.spread → length past.steps < 64 → length past.buffers < 128 → length_of c.spread ≤ most_elements
-    → form_line past (step root kind an c.name) ≡ Ok (record past { stage = Steps; buffers = past.buffers ++ c ∷ []; steps = past.steps ++ step_of kind r a (length past.buffers) ∷ [] })
+    → form_line most past (step root kind an c.name) ≡ Ok (record past { stage = Steps; buffers = past.buffers ++ c ∷ []; steps = past.steps ++ step_of kind r a (length past.buffers) ∷ [] })
 unfolding form_line step_line
-step_taken past root kind r a an spread c er ef en es ls lb lm =
+step_taken most past root kind r a an spread c er ef en es ls lb lm =
     let few = isnt_full (length past.steps) 64 ls in
     let full = isnt_full (length past.buffers) 128 lb in
     let large = isnt_above (length_of c.spread) most_elements lm in
@@ -322,7 +322,7 @@ record Shaped (ranks : ℕ) (all : List Buffer) : Type 0 where
 
 made_leads : (ranks : ℕ) (remote : Bool) (inputs : ℕ) (given : List (List ℕ)) (most : ℕ) (all : List Buffer) → Shaped ranks all → (stage : Stage) (done rest : List Buffer) (c : Buffer) (steps : List CollStep) (s : CollStep)
     → Wider stage Steps → Parts all done (c ∷ rest) → length steps < 64 → StepSaid ranks all (length done) s
-    → Leads (said stage ranks remote done inputs given steps [] 0 most) (said Steps ranks remote (done ++ c ∷ []) inputs given (steps ++ s ∷ []) [] 0 most) (line (step_words all s))
+    → Leads most (said stage ranks remote done inputs given steps [] 0) (said Steps ranks remote (done ++ c ∷ []) inputs given (steps ++ s ∷ []) [] 0) (line (step_words all s))
 made_leads ranks remote inputs given most all sh stage done rest c steps s wider p few x =
     let own : buffer_at all (length done) ≡ c = ap (λ (bs : List Buffer). buffer_at bs (length done)) p.are ∙ get_or-append_seam done c rest no_buffer in
     let l = longer all done (c ∷ rest) p.are in
@@ -331,19 +331,19 @@ made_leads ranks remote inputs given most all sh stage done rest c steps s wider
     let found : buffer_named done (name_at all x.a) ≡ Some (x.a, c.ty, spread_at all x.a) = named all done (c ∷ rest) p x.a x.earlier ∙ ap (λ (t : ElemType). Some (x.a, t, spread_at all x.a)) type_is in
     let spread : spread_after ranks (step_of x.kind x.r x.a (length done)) (spread_at all x.a) ≡ Some c.spread = x.spread ∙ ap (λ (b : Buffer). Some b.spread) own in
     let small : length_of c.spread ≤ most_elements = subst (λ (b : Buffer). length_of b.spread ≤ most_elements) own (sh.small (length done) no_buffer (omega (arith, l))) in
-    let past = said stage ranks remote done inputs given steps [] 0 most in
-    let taken = step_taken past x.root x.kind x.r x.a (name_at all x.a) (spread_at all x.a) c x.rank (fresh all done rest c p) found spread few (omega (arith, l, many)) small in
+    let past = said stage ranks remote done inputs given steps [] 0 in
+    let taken = step_taken most past x.root x.kind x.r x.a (name_at all x.a) (spread_at all x.a) c x.rank (fresh all done rest c p) found spread few (omega (arith, l, many)) small in
     let form : form_of (x.key ∷ x.others) ≡ Some (step x.root x.kind (name_at all x.a) c.name) = x.form ∙ ap (λ (b : Buffer). Some (step x.root x.kind (name_at all x.a) b.name)) own in
-    subst (λ (t : CollStep). Leads past (said Steps ranks remote (done ++ c ∷ []) inputs given (steps ++ t ∷ []) [] 0 most) (line (step_words all s))) (sym x.is)
-    (subst (λ (ws : List (List ℕ)). Leads past (said Steps ranks remote (done ++ c ∷ []) inputs given (steps ++ step_of x.kind x.r x.a (length done) ∷ []) [] 0 most) (line ws)) (sym x.words_are)
-    (form_leads past (said Steps ranks remote (done ++ c ∷ []) inputs given (steps ++ step_of x.kind x.r x.a (length done) ∷ []) [] 0 most) (step x.root x.kind (name_at all x.a) c.name) x.key x.others x.solid form (wider (step x.root x.kind (name_at all x.a) c.name) refl) taken))
+    subst (λ (t : CollStep). Leads most past (said Steps ranks remote (done ++ c ∷ []) inputs given (steps ++ t ∷ []) [] 0) (line (step_words all s))) (sym x.is)
+    (subst (λ (ws : List (List ℕ)). Leads most past (said Steps ranks remote (done ++ c ∷ []) inputs given (steps ++ step_of x.kind x.r x.a (length done) ∷ []) [] 0) (line ws)) (sym x.words_are)
+    (form_leads most past (said Steps ranks remote (done ++ c ∷ []) inputs given (steps ++ step_of x.kind x.r x.a (length done) ∷ []) [] 0) (step x.root x.kind (name_at all x.a) c.name) x.key x.others x.solid form (wider (step x.root x.kind (name_at all x.a) c.name) refl) taken))
 
 barrier_leads : (ranks : ℕ) (remote : Bool) (inputs : ℕ) (given : List (List ℕ)) (most : ℕ) (stage : Stage) (done : List Buffer) (steps : List CollStep) → Wider stage Steps → length steps < 64
-    → Leads (said stage ranks remote done inputs given steps [] 0 most) (said Steps ranks remote done inputs given (steps ++ Barrier ∷ []) [] 0 most) (line (codes "barrier" ∷ []))
+    → Leads most (said stage ranks remote done inputs given steps [] 0) (said Steps ranks remote done inputs given (steps ++ Barrier ∷ []) [] 0) (line (codes "barrier" ∷ []))
 unfolding form_line barrier_line
 barrier_leads ranks remote inputs given most stage done steps wider few =
     let full = isnt_full (length steps) 64 few in
-    form_leads (said stage ranks remote done inputs given steps [] 0 most) (said Steps ranks remote done inputs given (steps ++ Barrier ∷ []) [] 0 most) barrier (codes "barrier") [] (refl, tt) barrier_back (wider barrier refl) (rw full refl)
+    form_leads most (said stage ranks remote done inputs given steps [] 0) (said Steps ranks remote done inputs given (steps ++ Barrier ∷ []) [] 0) barrier (codes "barrier") [] (refl, tt) barrier_back (wider barrier refl) (rw full refl)
 
 -- the buffer that the next step makes
 record NextMade (done rest : List Buffer) (b : ℕ) (others : List ℕ) : Type 0 where
@@ -376,9 +376,9 @@ wider_self stage = λ form h. h
 -- one step, if those behind it lead on
 one_step_lead : (ranks : ℕ) (remote : Bool) (inputs : ℕ) (given : List (List ℕ)) (most : ℕ) (all : List Buffer) → Shaped ranks all → (stage : Stage) (done rest : List Buffer) (before steps : List CollStep) (s : CollStep)
     → ((stage : Stage) (done rest : List Buffer) (before : List CollStep) → Wider stage Steps → Parts all done rest → results steps ≡ numbers_from (length done) (length rest) → length before + length steps ≤ 64
-    → Led (said stage ranks remote done inputs given before [] 0 most) (steps_text all steps) (λ s. said s ranks remote all inputs given (before ++ steps) [] 0 most) Steps)
+    → Led most (said stage ranks remote done inputs given before [] 0) (steps_text all steps) (λ s. said s ranks remote all inputs given (before ++ steps) [] 0) Steps)
     → makes s ≡ true → Wider stage Steps → Parts all done rest → StepFits ranks all s → results (s ∷ steps) ≡ numbers_from (length done) (length rest) → length before + suc (length steps) ≤ 64
-    → Led (said stage ranks remote done inputs given before [] 0 most) (line (step_words all s) ++ steps_text all steps) (λ t. said t ranks remote all inputs given (before ++ s ∷ steps) [] 0 most) Steps
+    → Led most (said stage ranks remote done inputs given before [] 0) (line (step_words all s) ++ steps_text all steps) (λ t. said t ranks remote all inputs given (before ++ s ∷ steps) [] 0) Steps
 one_step_lead ranks remote inputs given most all sh stage done rest before steps s more m wider p f order few =
     let o : result_of s ∷ results steps ≡ numbers_from (length done) (length rest) = rw m at order in
     let n = next_made done rest (result_of s) (results steps) o in
@@ -386,28 +386,28 @@ one_step_lead ranks remote inputs given most all sh stage done rest before steps
     let x : StepSaid ranks all (length done) s = subst (λ (b : ℕ). StepSaid ranks all b s) n.is (step_said ranks all s sh.few_ranks sh.names m f) in
     let l = length-append done (n.c ∷ []) in
     let k = length-append before (s ∷ []) in
-    led_first (said stage ranks remote done inputs given before [] 0 most) (said Steps ranks remote (done ++ n.c ∷ []) inputs given (before ++ s ∷ []) [] 0 most) (line (step_words all s)) (steps_text all steps)
-    (λ t. said t ranks remote all inputs given ((before ++ s ∷ []) ++ steps) [] 0 most) (λ t. said t ranks remote all inputs given (before ++ s ∷ steps) [] 0 most) Steps
+    led_first most (said stage ranks remote done inputs given before [] 0) (said Steps ranks remote (done ++ n.c ∷ []) inputs given (before ++ s ∷ []) [] 0) (line (step_words all s)) (steps_text all steps)
+    (λ t. said t ranks remote all inputs given ((before ++ s ∷ []) ++ steps) [] 0) (λ t. said t ranks remote all inputs given (before ++ s ∷ steps) [] 0) Steps
     (made_leads ranks remote inputs given most all sh stage done n.behind n.c before s wider p1 (omega (arith, few)) x)
     (more Steps (done ++ n.c ∷ []) n.behind (before ++ s ∷ []) (wider_self Steps) (next_parts all done n.behind n.c p1) (n.order ∙ ap (λ i. numbers_from i (length n.behind)) (sym l)) (omega (arith, few, k)))
-    (λ t. ap (λ (ss : List CollStep). said t ranks remote all inputs given ss [] 0 most) (append_assoc before (s ∷ []) steps))
+    (λ t. ap (λ (ss : List CollStep). said t ranks remote all inputs given ss [] 0) (append_assoc before (s ∷ []) steps))
 
 -- all steps, one after the other
 steps_lead : (ranks : ℕ) (remote : Bool) (inputs : ℕ) (given : List (List ℕ)) (most : ℕ) (all : List Buffer) → Shaped ranks all → (stage : Stage) (done rest : List Buffer) (before steps : List CollStep)
     → Wider stage Steps → Parts all done rest → AllByRecursion (StepFits ranks all) steps → results steps ≡ numbers_from (length done) (length rest) → length before + length steps ≤ 64
-    → Led (said stage ranks remote done inputs given before [] 0 most) (steps_text all steps) (λ s. said s ranks remote all inputs given (before ++ steps) [] 0 most) Steps
+    → Led most (said stage ranks remote done inputs given before [] 0) (steps_text all steps) (λ s. said s ranks remote all inputs given (before ++ steps) [] 0) Steps
 steps_lead ranks remote inputs given most all sh stage done rest before [] wider p f order few =
     let none = no_rest done rest order in
     let whole : done ≡ all = sym (append-nil done) ∙ ap (λ (bs : List Buffer). done ++ bs) (sym none) ∙ sym p.are in
-    led_none (said stage ranks remote done inputs given before [] 0 most) (λ s. said s ranks remote all inputs given (before ++ []) [] 0 most) Steps wider
-    (ap (λ (bs : List Buffer). said stage ranks remote bs inputs given before [] 0 most) whole ∙ ap (λ (ss : List CollStep). said stage ranks remote all inputs given ss [] 0 most) (sym (append-nil before)))
+    led_none most (said stage ranks remote done inputs given before [] 0) (λ s. said s ranks remote all inputs given (before ++ []) [] 0) Steps wider
+    (ap (λ (bs : List Buffer). said stage ranks remote bs inputs given before [] 0) whole ∙ ap (λ (ss : List CollStep). said stage ranks remote all inputs given ss [] 0) (sym (append-nil before)))
 steps_lead ranks remote inputs given most all sh stage done rest before (Barrier ∷ steps) wider p f order few =
     let k = length-append before (Barrier ∷ []) in
-    led_first (said stage ranks remote done inputs given before [] 0 most) (said Steps ranks remote done inputs given (before ++ Barrier ∷ []) [] 0 most) (line (codes "barrier" ∷ [])) (steps_text all steps)
-    (λ t. said t ranks remote all inputs given ((before ++ Barrier ∷ []) ++ steps) [] 0 most) (λ t. said t ranks remote all inputs given (before ++ Barrier ∷ steps) [] 0 most) Steps
+    led_first most (said stage ranks remote done inputs given before [] 0) (said Steps ranks remote done inputs given (before ++ Barrier ∷ []) [] 0) (line (codes "barrier" ∷ [])) (steps_text all steps)
+    (λ t. said t ranks remote all inputs given ((before ++ Barrier ∷ []) ++ steps) [] 0) (λ t. said t ranks remote all inputs given (before ++ Barrier ∷ steps) [] 0) Steps
     (barrier_leads ranks remote inputs given most stage done before wider (omega (arith, few)))
     (steps_lead ranks remote inputs given most all sh Steps done rest (before ++ Barrier ∷ []) steps (wider_self Steps) p f.1 order (omega (arith, few, k)))
-    (λ t. ap (λ (ss : List CollStep). said t ranks remote all inputs given ss [] 0 most) (append_assoc before (Barrier ∷ []) steps))
+    (λ t. ap (λ (ss : List CollStep). said t ranks remote all inputs given ss [] 0) (append_assoc before (Barrier ∷ []) steps))
 steps_lead ranks remote inputs given most all sh stage done rest before (Broadcast root a b ∷ steps) wider p f order few =
     one_step_lead ranks remote inputs given most all sh stage done rest before steps (Broadcast root a b) (λ stage done rest before wider p order few. steps_lead ranks remote inputs given most all sh stage done rest before steps wider p f.1 order few) refl wider p f.0 order few
 steps_lead ranks remote inputs given most all sh stage done rest before (Reduce root op a b ∷ steps) wider p f order few =
@@ -424,20 +424,20 @@ steps_lead ranks remote inputs given most all sh stage done rest before (Scan op
     one_step_lead ranks remote inputs given most all sh stage done rest before steps (Scan op a b) (λ stage done rest before wider p order few. steps_lead ranks remote inputs given most all sh stage done rest before steps wider p f.1 order few) refl wider p f.0 order few
 
 -- prints
-print_taken : (past : Past) (name : List ℕ) (i : ℕ) (ty : ElemType) (spread : Spread) → buffer_named past.buffers name ≡ Some (i, ty, spread) → length past.prints < 128 → past.printed + elements_of past.ranks spread ≤ past.most_printed
-    → form_line past (print name) ≡ Ok (record past { stage = Prints; prints = past.prints ++ i ∷ []; printed = past.printed + elements_of past.ranks spread })
+print_taken : (most : ℕ) (past : Past) (name : List ℕ) (i : ℕ) (ty : ElemType) (spread : Spread) → buffer_named past.buffers name ≡ Some (i, ty, spread) → length past.prints < 128 → past.printed + elements_of past.ranks spread ≤ most
+    → form_line most past (print name) ≡ Ok (record past { stage = Prints; prints = past.prints ++ i ∷ []; printed = past.printed + elements_of past.ranks spread })
 unfolding form_line print_line
-print_taken past name i ty spread found lp le =
+print_taken most past name i ty spread found lp le =
     let full = isnt_full (length past.prints) 128 lp in
-    let large = isnt_above (past.printed + elements_of past.ranks spread) past.most_printed le in
+    let large = isnt_above (past.printed + elements_of past.ranks spread) most le in
     rw (found, full, large) refl
 
 prints_lead : (ranks : ℕ) (remote : Bool) (all : List Buffer) (inputs : ℕ) (given : List (List ℕ)) (steps : List CollStep) (most : ℕ) → Shaped ranks all → Distinct all → (stage : Stage) (before prints : List ℕ) (printed : ℕ)
     → Wider stage Prints → AllByRecursion (λ i. i < length all) prints → length before + length prints ≤ 128 → printed + printed_in ranks all prints ≤ most
-    → Led (said stage ranks remote all inputs given steps before printed most) (prints_text all prints) (λ s. said s ranks remote all inputs given steps (before ++ prints) (printed + printed_in ranks all prints) most) Prints
+    → Led most (said stage ranks remote all inputs given steps before printed) (prints_text all prints) (λ s. said s ranks remote all inputs given steps (before ++ prints) (printed + printed_in ranks all prints)) Prints
 prints_lead ranks remote all inputs given steps most sh distinct stage before [] printed wider f few le =
-    led_none (said stage ranks remote all inputs given steps before printed most) (λ s. said s ranks remote all inputs given steps (before ++ []) (printed + 0) most) Prints wider
-    (ap (λ (ps : List ℕ). said stage ranks remote all inputs given steps ps printed most) (sym (append-nil before)) ∙ ap (λ n. said stage ranks remote all inputs given steps (before ++ []) n most) (no_more printed))
+    led_none most (said stage ranks remote all inputs given steps before printed) (λ s. said s ranks remote all inputs given steps (before ++ []) (printed + 0)) Prints wider
+    (ap (λ (ps : List ℕ). said stage ranks remote all inputs given steps ps printed) (sym (append-nil before)) ∙ ap (λ n. said stage ranks remote all inputs given steps (before ++ []) n) (no_more printed))
   where
     no_more : (n : ℕ) → n ≡ n + 0
     no_more n = omega arith
@@ -446,17 +446,17 @@ prints_lead ranks remote all inputs given steps most sh distinct stage before (i
     let others = printed_in ranks all prints in
     let both : printed_in ranks all (i ∷ prints) ≡ own + others = sum_by-cons (λ i. elements_of ranks (spread_at all i)) i prints in
     let k = length-append before (i ∷ []) in
-    let past = said stage ranks remote all inputs given steps before printed most in
-    let mid = said Prints ranks remote all inputs given steps (before ++ i ∷ []) (printed + own) most in
+    let past = said stage ranks remote all inputs given steps before printed in
+    let mid = said Prints ranks remote all inputs given steps (before ++ i ∷ []) (printed + own) in
     let name = name_is all i sh.names f.0 in
     let found = named all all [] (record { are = sym (append-nil all); distinct = distinct }) i f.0 in
-    led_first past mid (line (codes "print" ∷ name_at all i ∷ [])) (prints_text all prints)
-    (λ s. said s ranks remote all inputs given steps ((before ++ i ∷ []) ++ prints) ((printed + own) + others) most) (λ s. said s ranks remote all inputs given steps (before ++ i ∷ prints) (printed + printed_in ranks all (i ∷ prints)) most) Prints
-    (form_leads past mid (print (name_at all i)) (codes "print") (name_at all i ∷ []) (refl, (name_solid (name_at all i) name, tt)) (print_back (name_at all i) name) (wider (print (name_at all i)) refl)
-    (print_taken past (name_at all i) i (type_at all i) (spread_at all i) found (omega (arith, few)) (omega (arith, le, both))))
+    led_first most past mid (line (codes "print" ∷ name_at all i ∷ [])) (prints_text all prints)
+    (λ s. said s ranks remote all inputs given steps ((before ++ i ∷ []) ++ prints) ((printed + own) + others)) (λ s. said s ranks remote all inputs given steps (before ++ i ∷ prints) (printed + printed_in ranks all (i ∷ prints))) Prints
+    (form_leads most past mid (print (name_at all i)) (codes "print") (name_at all i ∷ []) (refl, (name_solid (name_at all i) name, tt)) (print_back (name_at all i) name) (wider (print (name_at all i)) refl)
+    (print_taken most past (name_at all i) i (type_at all i) (spread_at all i) found (omega (arith, few)) (omega (arith, le, both))))
     (prints_lead ranks remote all inputs given steps most sh distinct Prints (before ++ i ∷ []) prints (printed + own) (wider_self Prints) f.1 (omega (arith, few, k)) (omega (arith, le, both)))
-    (λ s. ap (λ (ps : List ℕ). said s ranks remote all inputs given steps ps ((printed + own) + others) most) (append_assoc before (i ∷ []) prints)
-    ∙ ap (λ n. said s ranks remote all inputs given steps (before ++ i ∷ prints) n most) (sums printed own others ∙ ap (λ n. printed + n) (sym both)))
+    (λ s. ap (λ (ps : List ℕ). said s ranks remote all inputs given steps ps ((printed + own) + others)) (append_assoc before (i ∷ []) prints)
+    ∙ ap (λ n. said s ranks remote all inputs given steps (before ++ i ∷ prints) n) (sums printed own others ∙ ap (λ n. printed + n) (sym both)))
   where
     sums : (a b c : ℕ) → (a + b) + c ≡ a + (b + c)
     sums a b c = omega arith
@@ -469,11 +469,11 @@ record IsRow (ty : ElemType) (count : ℕ) (row : List ℕ) : Type 0 where
 abbrev row_words : ElemType → List ℕ → List (List ℕ)
 row_words ty row = map (value_word ty) (elements ty row)
 
-abbrev filling : ℕ → ℕ → Bool → List Buffer → ℕ → ElemType → ℕ → ℕ → List (List ℕ) → Past
-filling left ranks remote buffers inputs ty count most given = said (data_due left ty count) ranks remote buffers inputs given [] [] 0 most
+abbrev filling : ℕ → ℕ → Bool → List Buffer → ℕ → ElemType → ℕ → List (List ℕ) → Past
+filling left ranks remote buffers inputs ty count given = said (data_due left ty count) ranks remote buffers inputs given [] [] 0
 
 row_judged : (left ranks : ℕ) (remote : Bool) (buffers : List Buffer) (inputs : ℕ) (ty : ElemType) (count most : ℕ) (given : List (List ℕ)) (row : List ℕ) → 1 ≤ count → IsRow ty count row
-    → judge (filling (suc left) ranks remote buffers inputs ty count most given) (join_with_byte 32 (row_words ty row)) ≡ Ok (filling left ranks remote buffers inputs ty count most (given ++ row ∷ []))
+    → judge most (filling (suc left) ranks remote buffers inputs ty count given) (join_with_byte 32 (row_words ty row)) ≡ Ok (filling left ranks remote buffers inputs ty count (given ++ row ∷ []))
 unfolding judge line_at values_line
 row_judged left ranks remote buffers inputs ty count most given row some r =
     let allowed = solid_allowed (row_words ty row) (elements_solid ty row) in
@@ -484,22 +484,22 @@ row_judged left ranks remote buffers inputs ty count most given row some r =
     less n = omega arith
 
 rows_lead : (ranks : ℕ) (remote : Bool) (buffers : List Buffer) (inputs : ℕ) (ty : ElemType) (count most : ℕ) (given rows : List (List ℕ)) → 1 ≤ count → AllByRecursion (IsRow ty count) rows
-    → Leads (filling (length rows) ranks remote buffers inputs ty count most given) (filling 0 ranks remote buffers inputs ty count most (given ++ rows)) (flat_map (λ row. line (row_words ty row)) rows)
+    → Leads most (filling (length rows) ranks remote buffers inputs ty count given) (filling 0 ranks remote buffers inputs ty count (given ++ rows)) (flat_map (λ row. line (row_words ty row)) rows)
 rows_lead ranks remote buffers inputs ty count most given [] some h =
-    λ final rest ends k. ap (λ (g : List (List ℕ)). read_from judge AfterEnd (filling 0 ranks remote buffers inputs ty count most g) k (lines rest)) (sym (append-nil given)) ∙ ends k
+    λ final rest ends k. ap (λ (g : List (List ℕ)). read_from (judge most) AfterEnd (filling 0 ranks remote buffers inputs ty count g) k (lines rest)) (sym (append-nil given)) ∙ ends k
 rows_lead ranks remote buffers inputs ty count most given (row ∷ rows) some h =
-    let past = filling (suc (length rows)) ranks remote buffers inputs ty count most given in
-    let mid = filling (length rows) ranks remote buffers inputs ty count most (given ++ row ∷ []) in
-    then past mid (filling 0 ranks remote buffers inputs ty count most (given ++ row ∷ rows)) (line (row_words ty row)) (flat_map (λ row. line (row_words ty row)) rows)
-    (one_line past mid (join_with_byte 32 (row_words ty row)) refl (solid_allowed (row_words ty row) (elements_solid ty row)) (row_judged (length rows) ranks remote buffers inputs ty count most given row some h.0))
-    (subst (λ (g : List (List ℕ)). Leads mid (filling 0 ranks remote buffers inputs ty count most g) (flat_map (λ row. line (row_words ty row)) rows)) (append_assoc given (row ∷ []) rows) (rows_lead ranks remote buffers inputs ty count most (given ++ row ∷ []) rows some h.1))
+    let past = filling (suc (length rows)) ranks remote buffers inputs ty count given in
+    let mid = filling (length rows) ranks remote buffers inputs ty count (given ++ row ∷ []) in
+    then most past mid (filling 0 ranks remote buffers inputs ty count (given ++ row ∷ rows)) (line (row_words ty row)) (flat_map (λ row. line (row_words ty row)) rows)
+    (one_line most past mid (join_with_byte 32 (row_words ty row)) refl (solid_allowed (row_words ty row) (elements_solid ty row)) (row_judged (length rows) ranks remote buffers inputs ty count most given row some h.0))
+    (subst (λ (g : List (List ℕ)). Leads most mid (filling 0 ranks remote buffers inputs ty count g) (flat_map (λ row. line (row_words ty row)) rows)) (append_assoc given (row ∷ []) rows) (rows_lead ranks remote buffers inputs ty count most (given ++ row ∷ []) rows some h.1))
 
 -- an input
-input_taken : (past : Past) (name : List ℕ) (ty : ElemType) (count : ℕ) → 1 ≤ count → count ≤ 4096 → is_taken past.buffers name ≡ false → length past.buffers < 128
-    → form_line past (input name ty (decimal count)) ≡ Ok (record past { stage = data_due past.ranks ty count; buffers = past.buffers ++ record { name = name; ty = ty; spread = Even count } ∷ []; inputs = past.inputs + 1 })
+input_taken : (most : ℕ) (past : Past) (name : List ℕ) (ty : ElemType) (count : ℕ) → 1 ≤ count → count ≤ 4096 → is_taken past.buffers name ≡ false → length past.buffers < 128
+    → form_line most past (input name ty (decimal count)) ≡ Ok (record past { stage = data_due past.ranks ty count; buffers = past.buffers ++ record { name = name; ty = ty; spread = Even count } ∷ []; inputs = past.inputs + 1 })
 unfolding form_line input_line
-input_taken past name ty count least most fresh few =
-    let number = between_read 1 4096 count least most (omega arith) in
+input_taken most past name ty count some small fresh few =
+    let number = between_read 1 4096 count some small (omega arith) in
     let full = isnt_full (length past.buffers) 128 few in
     rw (number, fresh, full) refl
 
@@ -508,12 +508,12 @@ rows_of b [] h = tt
 rows_of b (row ∷ rows) h = (record { each = h.0.whole; small = h.0.bytes }, rows_of b rows h.1)
 
 one_input : (ranks : ℕ) (remote : Bool) (most : ℕ) (all : List Buffer) → Shaped ranks all → (stage : Stage) (done rest : List Buffer) (b : Buffer) (n : ℕ) (given rows : List (List ℕ)) → Wider stage Inputs → Parts all done (b ∷ rest) → IsInput b → length rows ≡ ranks → AllByRecursion (IsListOf b) rows
-    → Leads (said stage ranks remote done n given [] [] 0 most) (said Inputs ranks remote (done ++ b ∷ []) (n + 1) (given ++ rows) [] [] 0 most) (input_text b ++ flat_map (data_text b) rows)
+    → Leads most (said stage ranks remote done n given [] [] 0) (said Inputs ranks remote (done ++ b ∷ []) (n + 1) (given ++ rows) [] [] 0) (input_text b ++ flat_map (data_text b) rows)
 one_input ranks remote most all sh stage done rest b n given rows wider p i count lists =
     let len = length_of b.spread in
-    let past = said stage ranks remote done n given [] [] 0 most in
+    let past = said stage ranks remote done n given [] [] 0 in
     let bs = done ++ b ∷ [] in
-    let mid = filling ranks ranks remote bs (n + 1) b.ty len most given in
+    let mid = filling ranks ranks remote bs (n + 1) b.ty len given in
     let l = longer all done (b ∷ rest) p.are in
     let many = sh.few in
     let own : buffer_at all (length done) ≡ b = ap (λ (bs : List Buffer). buffer_at bs (length done)) p.are ∙ get_or-append_seam done b rest no_buffer in
@@ -521,21 +521,21 @@ one_input ranks remote most all sh stage done rest b n given rows wider p i coun
     let most_small = i.small in
     let small : len < 2 ^ 64 = omega (arith, most_small) in
     let even : (let c : Buffer = record { name = b.name; ty = b.ty; spread = Even len } in c ≡ b) = ap (λ (s : Spread). let c : Buffer = record { name = b.name; ty = b.ty; spread = s } in c) (sym i.even) in
-    let taken : form_line past (input b.name b.ty (decimal len)) ≡ Ok mid =
-    input_taken past b.name b.ty len i.some i.small (fresh all done rest b p) (omega (arith, l, many))
-    ∙ ap (λ (c : Buffer). Ok (filling ranks ranks remote (done ++ c ∷ []) (n + 1) b.ty len most given)) even in
-    then past mid (said Inputs ranks remote bs (n + 1) (given ++ rows) [] [] 0 most) (input_text b) (flat_map (data_text b) rows)
-    (form_leads past mid (input b.name b.ty (decimal len)) (codes "input") (b.name ∷ type_word b.ty ∷ decimal len ∷ []) (refl, (name_solid b.name name, (type_solid b.ty, (number_solid len small, tt))))
+    let taken : form_line most past (input b.name b.ty (decimal len)) ≡ Ok mid =
+    input_taken most past b.name b.ty len i.some i.small (fresh all done rest b p) (omega (arith, l, many))
+    ∙ ap (λ (c : Buffer). Ok (filling ranks ranks remote (done ++ c ∷ []) (n + 1) b.ty len given)) even in
+    then most past mid (said Inputs ranks remote bs (n + 1) (given ++ rows) [] [] 0) (input_text b) (flat_map (data_text b) rows)
+    (form_leads most past mid (input b.name b.ty (decimal len)) (codes "input") (b.name ∷ type_word b.ty ∷ decimal len ∷ []) (refl, (name_solid b.name name, (type_solid b.ty, (number_solid len small, tt))))
     (input_back b.name b.ty (decimal len) name (number_full len small)) (wider (input b.name b.ty (decimal len)) refl) taken)
-    (subst (λ (m : ℕ). Leads (filling m ranks remote bs (n + 1) b.ty len most given) (said Inputs ranks remote bs (n + 1) (given ++ rows) [] [] 0 most) (flat_map (data_text b) rows)) count
+    (subst (λ (m : ℕ). Leads most (filling m ranks remote bs (n + 1) b.ty len given) (said Inputs ranks remote bs (n + 1) (given ++ rows) [] [] 0) (flat_map (data_text b) rows)) count
     (rows_lead ranks remote bs (n + 1) b.ty len most given rows i.some (rows_of b rows lists)))
 
 inputs_lead : (ranks : ℕ) (remote : Bool) (most : ℕ) (all : List Buffer) → Shaped ranks all → (stage : Stage) (done bs rest : List Buffer) (n : ℕ) (given lists : List (List ℕ)) → Wider stage Inputs → Parts all done (bs ++ rest) → AllByRecursion IsInput bs → Filled ranks bs lists
-    → Led (said stage ranks remote done n given [] [] 0 most) (inputs_text ranks bs lists) (λ s. said s ranks remote (done ++ bs) (n + length bs) (given ++ lists) [] [] 0 most) Inputs
+    → Led most (said stage ranks remote done n given [] [] 0) (inputs_text ranks bs lists) (λ s. said s ranks remote (done ++ bs) (n + length bs) (given ++ lists) [] [] 0) Inputs
 inputs_lead ranks remote most all sh stage done [] rest n given lists wider p i filled =
-    led_none (said stage ranks remote done n given [] [] 0 most) (λ s. said s ranks remote (done ++ []) (n + 0) (given ++ lists) [] [] 0 most) Inputs wider
-    (ap (λ (bs : List Buffer). said stage ranks remote bs n given [] [] 0 most) (sym (append-nil done)) ∙ ap (λ m. said stage ranks remote (done ++ []) m given [] [] 0 most) (no_more n)
-    ∙ ap (λ (g : List (List ℕ)). said stage ranks remote (done ++ []) (n + 0) g [] [] 0 most) (sym (append-nil given) ∙ ap (λ (ls : List (List ℕ)). given ++ ls) (sym filled)))
+    led_none most (said stage ranks remote done n given [] [] 0) (λ s. said s ranks remote (done ++ []) (n + 0) (given ++ lists) [] [] 0) Inputs wider
+    (ap (λ (bs : List Buffer). said stage ranks remote bs n given [] [] 0) (sym (append-nil done)) ∙ ap (λ m. said stage ranks remote (done ++ []) m given [] [] 0) (no_more n)
+    ∙ ap (λ (g : List (List ℕ)). said stage ranks remote (done ++ []) (n + 0) g [] [] 0) (sym (append-nil given) ∙ ap (λ (ls : List (List ℕ)). given ++ ls) (sym filled)))
   where
     no_more : (n : ℕ) → n ≡ n + 0
     no_more n = omega arith
@@ -543,67 +543,67 @@ inputs_lead ranks remote most all sh stage done (b ∷ bs) rest n given lists wi
     let own = take ranks lists in
     let others = drop ranks lists in
     let count : length own ≡ ranks = length-take-le ranks lists filled.0 in
-    let past = said stage ranks remote done n given [] [] 0 most in
-    let mid = said Inputs ranks remote (done ++ b ∷ []) (n + 1) (given ++ own) [] [] 0 most in
-    let next : Stage → Past = λ s. said s ranks remote (done ++ b ∷ bs) (n + suc (length bs)) (given ++ lists) [] [] 0 most in
-    let l : Led past ((input_text b ++ flat_map (data_text b) own) ++ inputs_text ranks bs others) next Inputs =
-    led_first past mid (input_text b ++ flat_map (data_text b) own) (inputs_text ranks bs others)
-    (λ s. said s ranks remote ((done ++ b ∷ []) ++ bs) ((n + 1) + length bs) ((given ++ own) ++ others) [] [] 0 most) next Inputs
+    let past = said stage ranks remote done n given [] [] 0 in
+    let mid = said Inputs ranks remote (done ++ b ∷ []) (n + 1) (given ++ own) [] [] 0 in
+    let next : Stage → Past = λ s. said s ranks remote (done ++ b ∷ bs) (n + suc (length bs)) (given ++ lists) [] [] 0 in
+    let l : Led most past ((input_text b ++ flat_map (data_text b) own) ++ inputs_text ranks bs others) next Inputs =
+    led_first most past mid (input_text b ++ flat_map (data_text b) own) (inputs_text ranks bs others)
+    (λ s. said s ranks remote ((done ++ b ∷ []) ++ bs) ((n + 1) + length bs) ((given ++ own) ++ others) [] [] 0) next Inputs
     (one_input ranks remote most all sh stage done (bs ++ rest) b n given own wider p i.0 count (recursion_from_All (IsListOf b) own filled.1))
     (inputs_lead ranks remote most all sh Inputs (done ++ b ∷ []) bs rest (n + 1) (given ++ own) others (wider_self Inputs) (next_parts all done (bs ++ rest) b p) i.1 filled.2)
-    (λ s. ap (λ (x : List Buffer). said s ranks remote x ((n + 1) + length bs) ((given ++ own) ++ others) [] [] 0 most) (append_assoc done (b ∷ []) bs)
-    ∙ ap (λ m. said s ranks remote (done ++ b ∷ bs) m ((given ++ own) ++ others) [] [] 0 most) (shift n (length bs))
-    ∙ ap (λ (g : List (List ℕ)). said s ranks remote (done ++ b ∷ bs) (n + suc (length bs)) g [] [] 0 most) (append_assoc given own others ∙ ap (λ (x : List (List ℕ)). given ++ x) (take-append-drop ranks lists))) in
-    subst (λ (x : List ℕ). Led past x next Inputs) (append_assoc (input_text b) (flat_map (data_text b) own) (inputs_text ranks bs others)) l
+    (λ s. ap (λ (x : List Buffer). said s ranks remote x ((n + 1) + length bs) ((given ++ own) ++ others) [] [] 0) (append_assoc done (b ∷ []) bs)
+    ∙ ap (λ m. said s ranks remote (done ++ b ∷ bs) m ((given ++ own) ++ others) [] [] 0) (shift n (length bs))
+    ∙ ap (λ (g : List (List ℕ)). said s ranks remote (done ++ b ∷ bs) (n + suc (length bs)) g [] [] 0) (append_assoc given own others ∙ ap (λ (x : List (List ℕ)). given ++ x) (take-append-drop ranks lists))) in
+    subst (λ (x : List ℕ). Led most past x next Inputs) (append_assoc (input_text b) (flat_map (data_text b) own) (inputs_text ranks bs others)) l
   where
     shift : (n m : ℕ) → (n + 1) + m ≡ n + suc m
     shift n m = omega arith
 
 -- the first two lines
-ranks_taken : (past : Past) (l : List ℕ) (ws : List (List ℕ)) (n : ℕ) → past.stage ≡ Ranks → list_all is_allowed l ≡ true → words l ≡ ws → ranks_in ws ≡ Some n → judge past l ≡ Ok (record past { stage = Options; ranks = n })
+ranks_taken : (most : ℕ) (past : Past) (l : List ℕ) (ws : List (List ℕ)) (n : ℕ) → past.stage ≡ Ranks → list_all is_allowed l ≡ true → words l ≡ ws → ranks_in ws ≡ Some n → judge most past l ≡ Ok (record past { stage = Options; ranks = n })
 unfolding judge line_at
-ranks_taken past l ws n at allowed is number = rw (allowed, at, is, number) refl
+ranks_taken most past l ws n at allowed is number = rw (allowed, at, is, number) refl
 
 ranks_back : (n : ℕ) → 1 ≤ n → n ≤ 64 → ranks_in (codes "ranks" ∷ decimal n ∷ []) ≡ Some n
 unfolding ranks_in
 ranks_back n some few = between_read 1 64 n some few (omega arith)
 
-head_leads : (ranks most : ℕ) → 1 ≤ ranks → ranks ≤ 64 → Leads (nothing most) (said Options ranks false [] 0 [] [] [] 0 most) (head_text ranks)
+head_leads : (ranks most : ℕ) → 1 ≤ ranks → ranks ≤ 64 → Leads most nothing (said Options ranks false [] 0 [] [] [] 0) (head_text ranks)
 unfolding judge line_at
 head_leads ranks most some few =
-    let first = said Ranks 1 false [] 0 [] [] [] 0 most in
-    let second = said Options ranks false [] 0 [] [] [] 0 most in
+    let first = said Ranks 1 false [] 0 [] [] [] 0 in
+    let second = said Options ranks false [] 0 [] [] [] 0 in
     let ws = codes "ranks" ∷ decimal ranks ∷ [] in
     let solid : AllByRecursion (λ w. list_all is_solid w ≡ true) ws = (refl, (number_solid ranks (omega arith), tt)) in
     let allowed = solid_allowed ws solid in
-    then (nothing most) first second (codes "coll 1" ++ 10 ∷ []) (line ws) (one_line (nothing most) first (codes "coll 1") refl refl refl)
-    (one_line first second (join_with_byte 32 ws) refl allowed (ranks_taken first (join_with_byte 32 ws) ws ranks refl allowed (solid_words (codes "ranks") (decimal ranks ∷ []) solid) (ranks_back ranks some few)))
+    then most nothing first second (codes "coll 1" ++ 10 ∷ []) (line ws) (one_line most nothing first (codes "coll 1") refl refl refl)
+    (one_line most first second (join_with_byte 32 ws) refl allowed (ranks_taken most first (join_with_byte 32 ws) ws ranks refl allowed (solid_words (codes "ranks") (decimal ranks ∷ []) solid) (ranks_back ranks some few)))
 
-remote_led : (ranks most : ℕ) (b : Bool) → Led (said Options ranks false [] 0 [] [] [] 0 most) (remote_text b) (λ s. said s ranks b [] 0 [] [] [] 0 most) Inputs
+remote_led : (ranks most : ℕ) (b : Bool) → Led most (said Options ranks false [] 0 [] [] [] 0) (remote_text b) (λ s. said s ranks b [] 0 [] [] [] 0) Inputs
 unfolding form_line
-remote_led ranks most false = led_none (said Options ranks false [] 0 [] [] [] 0 most) (λ s. said s ranks false [] 0 [] [] [] 0 most) Inputs options_wider refl
+remote_led ranks most false = led_none most (said Options ranks false [] 0 [] [] [] 0) (λ s. said s ranks false [] 0 [] [] [] 0) Inputs options_wider refl
 remote_led ranks most true = record {
   stage = Inputs;
   wider = wider_self Inputs;
-  leads = form_leads (said Options ranks false [] 0 [] [] [] 0 most) (said Inputs ranks true [] 0 [] [] [] 0 most) complete (codes "complete") (codes "remote" ∷ []) (refl, (refl, tt)) complete_back refl refl;
+  leads = form_leads most (said Options ranks false [] 0 [] [] [] 0) (said Inputs ranks true [] 0 [] [] [] 0) complete (codes "complete") (codes "remote" ∷ []) (refl, (refl, tt)) complete_back refl refl;
 }
 
 -- the last one
 last_led : (stage : Stage) (ranks : ℕ) (remote : Bool) (all : List Buffer) (inputs : ℕ) (given : List (List ℕ)) (steps : List CollStep) (prints : List ℕ) (printed most : ℕ) → Wider stage Prints
-    → Led (said stage ranks remote all inputs given steps prints printed most) (line (codes "end" ∷ [])) (λ s. said Finished ranks remote all inputs given steps prints printed most) Finished
+    → Led most (said stage ranks remote all inputs given steps prints printed) (line (codes "end" ∷ [])) (λ s. said Finished ranks remote all inputs given steps prints printed) Finished
 unfolding form_line
 last_led stage ranks remote all inputs given steps prints printed most wider = record {
   stage = Finished;
   wider = wider_self Finished;
-  leads = form_leads (said stage ranks remote all inputs given steps prints printed most) (said Finished ranks remote all inputs given steps prints printed most) last (codes "end") [] (refl, tt) last_back (wider last refl) refl;
+  leads = form_leads most (said stage ranks remote all inputs given steps prints printed) (said Finished ranks remote all inputs given steps prints printed) last (codes "end") [] (refl, tt) last_back (wider last refl) refl;
 }
 
 -- all lines
-abbrev finished : ℕ → Program → Past
-finished most d = said Finished d.shape.ranks d.shape.remote d.shape.buffers (0 + length (take d.shape.inputs d.shape.buffers)) d.inputs.lists d.shape.steps d.shape.prints (0 + printed_in d.shape.ranks d.shape.buffers d.shape.prints) most
+abbrev finished : Program → Past
+finished d = said Finished d.shape.ranks d.shape.remote d.shape.buffers (0 + length (take d.shape.inputs d.shape.buffers)) d.inputs.lists d.shape.steps d.shape.prints (0 + printed_in d.shape.ranks d.shape.buffers d.shape.prints)
 
 behind_head : (most : ℕ) (d : Program) → IsReadable most d
-    → Led (said Options d.shape.ranks false [] 0 [] [] [] 0 most) (remote_text d.shape.remote ++ (inputs_text d.shape.ranks (take d.shape.inputs d.shape.buffers) d.inputs.lists ++ (steps_text d.shape.buffers d.shape.steps ++ (prints_text d.shape.buffers d.shape.prints ++ line (codes "end" ∷ []))))) (λ s. finished most d) Finished
+    → Led most (said Options d.shape.ranks false [] 0 [] [] [] 0) (remote_text d.shape.remote ++ (inputs_text d.shape.ranks (take d.shape.inputs d.shape.buffers) d.inputs.lists ++ (steps_text d.shape.buffers d.shape.steps ++ (prints_text d.shape.buffers d.shape.prints ++ line (codes "end" ∷ []))))) (λ s. finished d) Finished
 behind_head most d r =
     let f = r.formed in
     let ranks = d.shape.ranks in
@@ -623,25 +623,25 @@ behind_head most d r =
     let few_steps = f.few_steps in
     let few_prints = f.few_prints in
     let few_printed = r.few_printed in
-    led_then (said Options ranks false [] 0 [] [] [] 0 most) (remote_text d.shape.remote) (inputs_text ranks own lists ++ (steps_text all d.shape.steps ++ (prints_text all d.shape.prints ++ end_text)))
-    (λ s. said s ranks d.shape.remote [] 0 [] [] [] 0 most) (λ s. finished most d) Inputs Finished (remote_led ranks most d.shape.remote)
-    (λ s w. led_then (said s ranks d.shape.remote [] 0 [] [] [] 0 most) (inputs_text ranks own lists) (steps_text all d.shape.steps ++ (prints_text all d.shape.prints ++ end_text))
-    (λ s. said s ranks d.shape.remote own n lists [] [] 0 most) (λ s. finished most d) Inputs Finished (inputs_lead ranks d.shape.remote most all sh s [] own others 0 [] lists w p0 (recursion_from_All IsInput own f.inputs_fit) r.given.filled)
-    (λ s w. led_then (said s ranks d.shape.remote own n lists [] [] 0 most) (steps_text all d.shape.steps) (prints_text all d.shape.prints ++ end_text)
-    (λ s. said s ranks d.shape.remote all n lists d.shape.steps [] 0 most) (λ s. finished most d) Steps Finished (steps_lead ranks d.shape.remote n lists most all sh s own others [] d.shape.steps (λ form h. w form (inputs_wider form h)) p fit order (omega (arith, few_steps)))
-    (λ s w. led_then (said s ranks d.shape.remote all n lists d.shape.steps [] 0 most) (prints_text all d.shape.prints) end_text
-    (λ s. said s ranks d.shape.remote all n lists d.shape.steps d.shape.prints (0 + printed_in ranks all d.shape.prints) most) (λ s. finished most d) Prints Finished
+    led_then most (said Options ranks false [] 0 [] [] [] 0) (remote_text d.shape.remote) (inputs_text ranks own lists ++ (steps_text all d.shape.steps ++ (prints_text all d.shape.prints ++ end_text)))
+    (λ s. said s ranks d.shape.remote [] 0 [] [] [] 0) (λ s. finished d) Inputs Finished (remote_led ranks most d.shape.remote)
+    (λ s w. led_then most (said s ranks d.shape.remote [] 0 [] [] [] 0) (inputs_text ranks own lists) (steps_text all d.shape.steps ++ (prints_text all d.shape.prints ++ end_text))
+    (λ s. said s ranks d.shape.remote own n lists [] [] 0) (λ s. finished d) Inputs Finished (inputs_lead ranks d.shape.remote most all sh s [] own others 0 [] lists w p0 (recursion_from_All IsInput own f.inputs_fit) r.given.filled)
+    (λ s w. led_then most (said s ranks d.shape.remote own n lists [] [] 0) (steps_text all d.shape.steps) (prints_text all d.shape.prints ++ end_text)
+    (λ s. said s ranks d.shape.remote all n lists d.shape.steps [] 0) (λ s. finished d) Steps Finished (steps_lead ranks d.shape.remote n lists most all sh s own others [] d.shape.steps (λ form h. w form (inputs_wider form h)) p fit order (omega (arith, few_steps)))
+    (λ s w. led_then most (said s ranks d.shape.remote all n lists d.shape.steps [] 0) (prints_text all d.shape.prints) end_text
+    (λ s. said s ranks d.shape.remote all n lists d.shape.steps d.shape.prints (0 + printed_in ranks all d.shape.prints)) (λ s. finished d) Prints Finished
     (prints_lead ranks d.shape.remote all n lists d.shape.steps most sh f.distinct s [] d.shape.prints 0 (λ form h. w form (steps_wider form h)) (recursion_from_All (λ i. i < length all) d.shape.prints f.prints_fit) (omega (arith, few_prints)) (omega (arith, few_printed)))
     (λ s w. last_led s ranks d.shape.remote all n lists d.shape.steps d.shape.prints (0 + printed_in ranks all d.shape.prints) most w))))
   where
     left : (n i m : ℕ) → n ≡ i + m → n - i ≡ m
     left n i m e = omega arith
 
-ends : (past : Past) (k : ℕ) → past.stage ≡ Finished → read_from judge AfterEnd past k (lines []) ≡ Ok past
+ends : (most : ℕ) (past : Past) (k : ℕ) → past.stage ≡ Finished → read_from (judge most) AfterEnd past k (lines []) ≡ Ok past
 unfolding read_from
-ends past k e = rw e refl
+ends most past k e = rw e refl
 
-described_is : (most : ℕ) (d : Program) → IsReadable most d → described (finished most d) ≡ d
+described_is : (most : ℕ) (d : Program) → IsReadable most d → described (finished d) ≡ d
 described_is most d r =
     let count : 0 + length (take d.shape.inputs d.shape.buffers) ≡ d.shape.inputs = none_more (length (take d.shape.inputs d.shape.buffers)) ∙ length-take-le d.shape.inputs d.shape.buffers r.formed.inputs_first in
     let made : ℕ → ℕ → ℕ → Program = λ i ranks inputs. record { shape = record { ranks = d.shape.ranks; remote = d.shape.remote; buffers = d.shape.buffers; inputs = i; steps = d.shape.steps; prints = d.shape.prints }; inputs = record { ranks = ranks; inputs = inputs; lists = d.inputs.lists } } in
@@ -656,8 +656,8 @@ unfolding read_by text
 reads_back most d r =
     let f = r.formed in
     let l = behind_head most d r in
-    let led = then (nothing most) (said Options d.shape.ranks false [] 0 [] [] [] 0 most) (finished most d) (head_text d.shape.ranks) _ (head_leads d.shape.ranks most f.some_ranks f.few_ranks) l.leads in
+    let led = then most nothing (said Options d.shape.ranks false [] 0 [] [] [] 0) (finished d) (head_text d.shape.ranks) _ (head_leads d.shape.ranks most f.some_ranks f.few_ranks) l.leads in
     let short = isnt_above (length (text d)) 1048576 r.short in
-    let reads : read_from judge AfterEnd (nothing most) 1 (lines (text d)) ≡ Ok (finished most d) =
-    ap (λ (x : List ℕ). read_from judge AfterEnd (nothing most) 1 (lines x)) (sym (append-nil (text d))) ∙ led (finished most d) [] (λ k. ends (finished most d) k refl) 1 in
+    let reads : read_from (judge most) AfterEnd nothing 1 (lines (text d)) ≡ Ok (finished d) =
+    ap (λ (x : List ℕ). read_from (judge most) AfterEnd nothing 1 (lines x)) (sym (append-nil (text d))) ∙ led (finished d) [] (λ k. ends most (finished d) k refl) 1 in
     rw (short, reads) (ap (λ (p : Program). Ok p) (described_is most d r))

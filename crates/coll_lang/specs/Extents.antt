@@ -9,13 +9,8 @@ use Rattle.coll_lang.specs.declared.fault.Refusal.TheVariants.{BadLine, AfterEnd
 
 -- how a line is judged
 abbrev pub judged : Extent → Past → List ℕ → Result Past Refusal
-judged All = judge
-judged Built = first_line
-
--- how many elements all prints together may have
-abbrev pub most_printed_of : Extent → ℕ
-most_printed_of All = most_elements
-most_printed_of Built = all_prints
+judged All = judge most_elements
+judged Built = first_line all_prints
 
 -- how bytes behind the last line are refused
 abbrev pub after : Extent → Refusal

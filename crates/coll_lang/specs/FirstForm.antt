@@ -49,9 +49,9 @@ abbrev pub if_built : Result Past Refusal → Result Past Refusal
 if_built (Err name) = Err BadLine
 if_built (Ok next) = if is_built next.stage next then Ok next else Err BadLine
 
--- a line, judged by the lines before it
-unfoldable pub first_line : Past → List ℕ → Result Past Refusal
-first_line past line = if_built (judge past line)
+-- a line, judged by the lines before it, with the most elements that all prints together may have
+unfoldable pub first_line : ℕ → Past → List ℕ → Result Past Refusal
+first_line most past line = if_built (judge most past line)
 
 -- 128 prints of 64 times 4096 elements
 abbrev pub all_prints : ℕ
@@ -59,8 +59,8 @@ all_prints = 33554432
 
 -- What a text describes, where it can be run, or its first refusal with its line.
 abbrev pub read : List ℕ → Result Program (ℕ × Refusal)
-read = read_by all_prints first_line BadLine
+read = read_by (first_line all_prints) BadLine
 
 -- No print of this form is refused for its elements: with a higher limit each text is read alike.
 abbrev pub NoPrintIsTooLarge : Type 0
-NoPrintIsTooLarge = (most : ℕ) (bytes : List ℕ) → all_prints ≤ most → read_by most first_line BadLine bytes ≡ read bytes
+NoPrintIsTooLarge = (most : ℕ) (bytes : List ℕ) → all_prints ≤ most → read_by (first_line most) BadLine bytes ≡ read bytes

@@ -34,12 +34,11 @@ pub record Past : Type 0 where
   pub steps : List CollStep
   -- the numbers of the buffers that are printed
   pub prints : List ℕ
-  -- the elements of all prints, over all ranks, and the most that they may be
+  -- the elements of all prints, over all ranks
   pub printed : ℕ
-  pub most_printed : ℕ
 
-abbrev pub nothing : ℕ → Past
-nothing most = record { stage = Version; ranks = 1; remote = false; buffers = []; inputs = 0; given = []; steps = []; prints = []; printed = 0; most_printed = most }
+abbrev pub nothing : Past
+nothing = record { stage = Version; ranks = 1; remote = false; buffers = []; inputs = 0; given = []; steps = []; prints = []; printed = 0 }
 
 infixl 10 ◌>>=◌
 abbrev pub ◌>>=◌ : {A B : Type 0} → Result A Refusal → (A → Result B Refusal) → Result B Refusal
@@ -130,21 +129,22 @@ step_line past root kind a b = do
     steps = past.steps ++ step_of kind root from.0 (length past.buffers) ∷ [];
   })
 
-unfoldable pub print_line : Past → List ℕ → Result Past Refusal
-print_line past name = do
+-- with the most elements that all prints together may have
+unfoldable pub print_line : ℕ → Past → List ℕ → Result Past Refusal
+print_line most past name = do
   from ← or_refuse UnknownBuffer (buffer_named past.buffers name)
   _ ← refuse (nat_le 128 (length past.prints)) TooMany
-  _ ← refuse (nat_lt past.most_printed (past.printed + elements_of past.ranks from.2)) TooLarge
+  _ ← refuse (nat_lt most (past.printed + elements_of past.ranks from.2)) TooLarge
   Ok (record past { stage = Prints; prints = past.prints ++ from.0 ∷ []; printed = past.printed + elements_of past.ranks from.2 })
 
 -- a line behind the first two that may stand where it does
-unfoldable pub form_line : Past → Form → Result Past Refusal
-form_line past complete = Ok (record past { stage = Inputs; remote = true })
-form_line past (input name ty count) = input_line past name ty count
-form_line past barrier = barrier_line past
-form_line past (step root kind a b) = step_line past root kind a b
-form_line past (print name) = print_line past name
-form_line past last = Ok (record past { stage = Finished })
+unfoldable pub form_line : ℕ → Past → Form → Result Past Refusal
+form_line most past complete = Ok (record past { stage = Inputs; remote = true })
+form_line most past (input name ty count) = input_line past name ty count
+form_line most past barrier = barrier_line past
+form_line most past (step root kind a b) = step_line past root kind a b
+form_line most past (print name) = print_line most past name
+form_line most past last = Ok (record past { stage = Finished })
 
 -- a flaw of a data line as a refusal
 abbrev pub unless_flawed : Result (List ℕ) Flaw → Result (List ℕ) Refusal
@@ -157,26 +157,27 @@ values_line past left ty count line = do
   bytes ← unless_flawed (data_line ty count (words line))
   Ok (record past { stage = data_due (left - 1) ty count; given = past.given ++ bytes ∷ [] })
 
-unfoldable pub later_line : Past → List ℕ → Result Past Refusal
-later_line past line = do
+unfoldable pub later_line : ℕ → Past → List ℕ → Result Past Refusal
+later_line most past line = do
   form ← or_refuse BadLine (form_of (words line))
   _ ← refuse (not (may_stand past.stage form)) BadLine
-  form_line past form
+  form_line most past form
 
 -- what a line of allowed bytes is at this stage
-unfoldable pub line_at : Stage → Past → List ℕ → Result Past Refusal
-line_at Version past line = if bytes_eq line (codes "coll 1") then Ok (record past { stage = Ranks }) else Err BadHeader
-line_at Ranks past line = or_refuse BadRanks (ranks_in (words line)) >>= λ n. Ok (record past { stage = Options; ranks = n })
-line_at (Data left ty count) past line = values_line past left ty count line
-line_at Options past line = later_line past line
-line_at Inputs past line = later_line past line
-line_at Steps past line = later_line past line
-line_at Prints past line = later_line past line
-line_at Finished past line = Err AfterEnd
+unfoldable pub line_at : ℕ → Stage → Past → List ℕ → Result Past Refusal
+line_at most Version past line = if bytes_eq line (codes "coll 1") then Ok (record past { stage = Ranks }) else Err BadHeader
+line_at most Ranks past line = or_refuse BadRanks (ranks_in (words line)) >>= λ n. Ok (record past { stage = Options; ranks = n })
+line_at most (Data left ty count) past line = values_line past left ty count line
+line_at most Options past line = later_line most past line
+line_at most Inputs past line = later_line most past line
+line_at most Steps past line = later_line most past line
+line_at most Prints past line = later_line most past line
+line_at most Finished past line = Err AfterEnd
 
--- A line, judged by the lines before it: what they all say together, or the refusal.
-unfoldable pub judge : Past → List ℕ → Result Past Refusal
-judge past line = if list_all is_allowed line then line_at past.stage past line else Err BadByte
+-- A line, judged by the lines before it: what they all say together, or the refusal. All prints together may have `most`
+-- elements.
+unfoldable pub judge : ℕ → Past → List ℕ → Result Past Refusal
+judge most past line = if list_all is_allowed line then line_at most past.stage past line else Err BadByte
 
 abbrev pub is_finished : Stage → Bool
 is_finished Finished = true
@@ -207,12 +208,13 @@ abbrev pub program_in : Result Past (ℕ × Refusal) → Result Program (ℕ × 
 program_in (Ok past) = Ok (described past)
 program_in (Err refusal) = Err refusal
 
--- a text of at most a mebibyte, read line by line, whose prints have at most so many elements
-unfoldable pub read_by : ℕ → (Past → List ℕ → Result Past Refusal) → Refusal → List ℕ → Result Program (ℕ × Refusal)
-read_by most judged after bytes = if nat_lt 1048576 (length bytes) then Err (0, TooLong) else program_in (read_from judged after (nothing most) 1 (lines bytes))
+-- a text of at most a mebibyte, read line by line
+unfoldable pub read_by : (Past → List ℕ → Result Past Refusal) → Refusal → List ℕ → Result Program (ℕ × Refusal)
+read_by judged after bytes = if nat_lt 1048576 (length bytes) then Err (0, TooLong) else program_in (read_from judged after nothing 1 (lines bytes))
 
+-- with the most elements that all prints together may have
 abbrev pub read_up_to : ℕ → List ℕ → Result Program (ℕ × Refusal)
-read_up_to most = read_by most judge AfterEnd
+read_up_to most = read_by (judge most) AfterEnd
 
 -- What a text describes, or its first refusal with its line.
 abbrev pub read : List ℕ → Result Program (ℕ × Refusal)

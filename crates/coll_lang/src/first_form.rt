@@ -2,10 +2,10 @@
 
 ghost use Rattle.std.specs.Prelude.{◌≡◌};
 ghost use Rattle.coll_lang.specs.States.{past, Takes};
-ghost use Rattle.coll_lang.specs.FirstForm.{is_byte, first_is_bytes, is_broadcast, one_broadcast, one_input, is_built, first_line};
+ghost use Rattle.coll_lang.specs.FirstForm.{is_byte, first_is_bytes, is_broadcast, one_broadcast, one_input, is_built, first_line, all_prints};
 
 use crate::fault::{LineFault, Refusal};
-use crate::reader::Reader;
+use crate::reader::{ALL_PRINTS, Reader};
 use crate::stage::Stage;
 use crate::take::take_line;
 use crate::types::{Buffer, CollStep};
@@ -54,9 +54,9 @@ fn is_built(reader: &Reader) -> bool
 /// Takes one line of what can be run. After an `Err` the reader is given up.
 #[tactic(auto, unfolding(crate::specs::FirstForm::first_line))]
 pub fn first_line(reader: &mut Reader, line: &[u8]) -> Result<(), LineFault>
-    ensures { Takes result reader.new (first_line (past reader.old) line.now) }
+    ensures { Takes result reader.new (first_line all_prints (past reader.old) line.now) }
 {
-    match take_line(reader, line) {
+    match take_line(reader, ALL_PRINTS, line) {
         Ok(()) if is_built(reader) => Ok(()),
         Err(LineFault::NoMemory) => Err(LineFault::NoMemory),
         _ => Err(LineFault::Refused(Refusal::BadLine)),

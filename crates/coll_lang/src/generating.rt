@@ -11,7 +11,7 @@ ghost use Rattle.coll_lang.specs.Generated.{value_at, rank_elements, all_element
 
 use crate::description::Description;
 use crate::lists::{Name, RankList};
-use crate::reader::{MOST_PRINTED, Reader};
+use crate::reader::Reader;
 use crate::stage::Stage;
 use crate::types::{Buffer, CollStep, Spread};
 use coll_text::push_value;
@@ -123,7 +123,6 @@ fn generated_reader(alloc: Global, k: u32) -> Result<Reader, AllocError>
         steps: steps(alloc)?,
         prints: Vec::from_slice(alloc, &[0, 1, 2, 3, 4])?,
         printed: PRINTED,
-        most_printed: MOST_PRINTED,
     })
 }
 

@@ -39,13 +39,10 @@ pub struct Reader {
     pub prints: Vec<u32>,
     /// The elements of all prints so far, over all ranks.
     pub printed: u64,
-    /// The most elements that all prints together may have.
-    pub most_printed: u64,
     ghost some_ranks: { 1 ≤ ranks },
     ghost few_ranks: { ranks ≤ 64 },
     ghost few_buffers: { vec_len buffers ≤ 128 },
     ghost few_inputs: { inputs ≤ vec_len buffers },
-    ghost little_printed: { printed ≤ most_printed },
-    ghost at_most: { most_printed ≤ all_prints },
+    ghost little_printed: { printed ≤ all_prints },
     ghost small: { All (λ b. length_of b.spread ≤ most_elements) buffers.items },
 }

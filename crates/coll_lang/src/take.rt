@@ -7,6 +7,7 @@ ghost use Rattle.coll_lang.specs.Seen.{form, now};
 ghost use Rattle.coll_text.specs.Text.{words};
 ghost use Rattle.coll_lang.specs.Language.{ranks_in, input_line, barrier_line, step_line, print_line, form_line, values_line, later_line, line_at, judge, may_stand, data_due, is_allowed, unless_flawed};
 ghost use Rattle.coll_lang.specs.Answers.{Gives};
+ghost use Rattle.coll_lang.specs.FirstForm.{all_prints};
 ghost use Rattle.coll_text.specs.Values.{data_line};
 
 use crate::buffers::{
@@ -140,8 +141,9 @@ fn step_line(reader: &mut Reader, step: StepLine) -> Result<(), LineFault>
 
 /// `print NAME`
 #[tactic(auto, unfolding(crate::specs::Language::print_line))]
-fn print_line(reader: &mut Reader, name: &[u8]) -> Result<(), LineFault>
-    ensures { Takes result reader.new (print_line (past reader.old) name.now) }
+fn print_line(reader: &mut Reader, most: u64, name: &[u8]) -> Result<(), LineFault>
+    requires { most ≤ all_prints }
+    ensures { Takes result reader.new (print_line most (past reader.old) name.now) }
 {
     let Some((number, _, spread)) = buffer_named(reader.buffers.as_slice(), name) else {
         return Err(LineFault::Refused(Refusal::UnknownBuffer));
@@ -150,7 +152,7 @@ fn print_line(reader: &mut Reader, name: &[u8]) -> Result<(), LineFault>
         return Err(LineFault::Refused(Refusal::TooMany));
     }
     let printed = reader.printed + elements_of(reader.ranks, spread);
-    if printed > reader.most_printed {
+    if printed > most {
         return Err(LineFault::Refused(Refusal::TooLarge));
     }
     reader.prints.push(number)?;
@@ -161,8 +163,9 @@ fn print_line(reader: &mut Reader, name: &[u8]) -> Result<(), LineFault>
 
 /// A line behind the first two that may stand where it does.
 #[tactic(auto, unfolding(crate::specs::Language::form_line))]
-fn form_line(reader: &mut Reader, line: Line) -> Result<(), LineFault>
-    ensures { Takes result reader.new (form_line (past reader.old) (form line.entry)) }
+fn form_line(reader: &mut Reader, most: u64, line: Line) -> Result<(), LineFault>
+    requires { most ≤ all_prints }
+    ensures { Takes result reader.new (form_line most (past reader.old) (form line.entry)) }
 {
     match line {
         Line::Complete => {
@@ -173,7 +176,7 @@ fn form_line(reader: &mut Reader, line: Line) -> Result<(), LineFault>
         Line::Input { name, ty, count } => input_line(reader, name, ty, count),
         Line::Barrier => barrier_line(reader),
         Line::Step(step) => step_line(reader, step),
-        Line::Print(name) => print_line(reader, name),
+        Line::Print(name) => print_line(reader, most, name),
         Line::End => {
             reader.stage = Stage::Finished;
             Ok(())
@@ -212,8 +215,9 @@ fn values_line(
 
 /// A line behind the first two that is no data line.
 #[tactic(auto, unfolding(crate::specs::Language::later_line))]
-fn later_line(reader: &mut Reader, line: &[u8]) -> Result<(), LineFault>
-    ensures { Takes result reader.new (later_line (past reader.old) line.now) }
+fn later_line(reader: &mut Reader, most: u64, line: &[u8]) -> Result<(), LineFault>
+    requires { most ≤ all_prints }
+    ensures { Takes result reader.new (later_line most (past reader.old) line.now) }
 {
     let Some(line) = line_of(line) else {
         return Err(LineFault::Refused(Refusal::BadLine));
@@ -221,13 +225,14 @@ fn later_line(reader: &mut Reader, line: &[u8]) -> Result<(), LineFault>
     if !may_stand(reader.stage, &line) {
         return Err(LineFault::Refused(Refusal::BadLine));
     }
-    form_line(reader, line)
+    form_line(reader, most, line)
 }
 
 /// A line of allowed bytes, by the stage.
 #[tactic(auto, unfolding(crate::specs::Language::line_at))]
-fn line_at(reader: &mut Reader, line: &[u8]) -> Result<(), LineFault>
-    ensures { Takes result reader.new (line_at reader.old.stage (past reader.old) line.now) }
+fn line_at(reader: &mut Reader, most: u64, line: &[u8]) -> Result<(), LineFault>
+    requires { most ≤ all_prints }
+    ensures { Takes result reader.new (line_at most reader.old.stage (past reader.old) line.now) }
 {
     match reader.stage {
         Stage::Version if is(line, b"coll 1") => {
@@ -244,7 +249,9 @@ fn line_at(reader: &mut Reader, line: &[u8]) -> Result<(), LineFault>
             None => Err(LineFault::Refused(Refusal::BadRanks)),
         },
         Stage::Data { left, ty, count } => values_line(reader, left, ty, count, line),
-        Stage::Options | Stage::Inputs | Stage::Steps | Stage::Prints => later_line(reader, line),
+        Stage::Options | Stage::Inputs | Stage::Steps | Stage::Prints => {
+            later_line(reader, most, line)
+        }
         Stage::Finished => Err(LineFault::Refused(Refusal::AfterEnd)),
     }
 }
@@ -256,13 +263,15 @@ fn are_allowed(line: &[u8]) -> bool
     line.iter().all(|b| matches!(*b, b' '..=b'~'))
 }
 
-/// Takes one line, judged by the lines before it. After an `Err` the reader is given up.
+/// Takes one line, judged by the lines before it. All prints together may have `most` elements. After an `Err` the reader is
+/// given up.
 #[tactic(auto, unfolding(crate::specs::Language::judge))]
-pub fn take_line(reader: &mut Reader, line: &[u8]) -> Result<(), LineFault>
-    ensures { Takes result reader.new (judge (past reader.old) line.now) }
+pub fn take_line(reader: &mut Reader, most: u64, line: &[u8]) -> Result<(), LineFault>
+    requires { most ≤ all_prints }
+    ensures { Takes result reader.new (judge most (past reader.old) line.now) }
 {
     if !are_allowed(line) {
         return Err(LineFault::Refused(Refusal::BadByte));
     }
-    line_at(reader, line)
+    line_at(reader, most, line)
 }

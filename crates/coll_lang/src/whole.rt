@@ -3,7 +3,7 @@
 ghost use Rattle.std.specs.Prelude.{◌≡◌, ◌≤◌, length, IfOk};
 ghost use Rattle.coll_text.specs.Text.{lines};
 ghost use Rattle.coll_lang.specs.Language.{nothing, read, read_by, read_from, judge, is_finished, most_elements};
-ghost use Rattle.coll_lang.specs.Extents.{judged, most_printed_of, after};
+ghost use Rattle.coll_lang.specs.Extents.{judged, after};
 ghost use Rattle.coll_lang.specs.FirstForm as first;
 ghost use Rattle.coll_lang.specs.States.{past, Takes};
 ghost use Rattle.coll_lang.specs.Verdicts.{Reads, fault_at};
@@ -15,7 +15,7 @@ ghost use Rattle.coll_lang.specs.declared.whole.Extent.TheVariants.{All, Built};
 use crate::description::Description;
 use crate::fault::{LineFault, ParseFault, Refusal};
 use crate::first_form::first_line;
-use crate::reader::{ALL_PRINTS, MOST_PRINTED, Reader};
+use crate::reader::{MOST_PRINTED, Reader};
 use crate::stage::Stage;
 use crate::take::take_line;
 use coll_text::cut;
@@ -32,21 +32,9 @@ enum Extent {
     Built,
 }
 
-/// How many elements all prints together may have.
-fn most_printed_of(extent: Extent) -> u64
-    ensures value { result ≡ most_printed_of extent }
-    ensures most { result ≤ first.all_prints }
-{
-    match extent {
-        Extent::All => MOST_PRINTED,
-        Extent::Built => ALL_PRINTS,
-    }
-}
-
 /// A reader that no line was given yet.
-fn new_reader(alloc: Global, most_printed: u64) -> Reader
-    requires { most_printed ≤ first.all_prints }
-    ensures { past result ≡ nothing most_printed }
+fn new_reader(alloc: Global) -> Reader
+    ensures { past result ≡ nothing }
 {
     Reader {
         alloc,
@@ -59,7 +47,6 @@ fn new_reader(alloc: Global, most_printed: u64) -> Reader
         steps: Vec::new(alloc),
         prints: Vec::new(alloc),
         printed: 0,
-        most_printed,
     }
 }
 
@@ -75,7 +62,7 @@ fn take(extent: Extent, reader: &mut Reader, line: &[u8]) -> Result<(), LineFaul
     ensures { Takes result reader.new (judged extent (past reader.old) line.now) }
 {
     match extent {
-        Extent::All => take_line(reader, line),
+        Extent::All => take_line(reader, MOST_PRINTED, line),
         Extent::Built => first_line(reader, line),
     }
 }
@@ -94,9 +81,9 @@ fn after(extent: Extent) -> Refusal
 #[tactic(auto, using(crate::proofs::Reading::goes_on, crate::proofs::Reading::breaks_off))]
 fn read_lines(alloc: Global, extent: Extent, bytes: &[u8]) -> Result<Reader, ParseFault>
     requires { length bytes.now ≤ 1048576 }
-    ensures { Reads past result (read_from (judged extent) (after extent) (nothing (most_printed_of extent)) 1 (lines bytes.now)) }
+    ensures { Reads past result (read_from (judged extent) (after extent) nothing 1 (lines bytes.now)) }
 {
-    let mut reader = new_reader(alloc, most_printed_of(extent));
+    let mut reader = new_reader(alloc);
     let mut rest = bytes;
     let mut number = 1u32;
     while !is_finished(reader.stage) {
@@ -136,7 +123,7 @@ fn refused(line: u32, name: Refusal) -> ParseFault
 /// What a text describes, or its first refusal.
 #[tactic(auto, unfolding(crate::specs::Language::read_by))]
 fn parsed(alloc: Global, extent: Extent, bytes: &[u8]) -> Result<Description, ParseFault>
-    ensures { Reads (λ d. d) result (read_by (most_printed_of extent) (judged extent) (after extent) bytes.now) }
+    ensures { Reads (λ d. d) result (read_by (judged extent) (after extent) bytes.now) }
 {
     if bytes.len() > LONGEST {
         return Err(refused(0, Refusal::TooLong));

@@ -18,14 +18,14 @@ abbrev pub made_of : Past → Option (List ℕ) → StepKind → List ℕ → Op
 made_of past root kind a = option_and_then (λ from. option_and_then (λ r. spread_after past.ranks (step_of kind r from.0 (length past.buffers)) from.2) (root_number root)) (buffer_named past.buffers a)
 
 -- the rows in order, each with whether it holds of a line that may stand where it does
-abbrev pub rows : Past → Form → List (Refusal × Bool)
-rows past complete = []
-rows past (input name ty count) =
+abbrev pub rows : ℕ → Past → Form → List (Refusal × Bool)
+rows most past complete = []
+rows most past (input name ty count) =
     (BadNumber, is_none (number_between 1 4096 count))
     ∷ (NameTaken, is_taken past.buffers name)
     ∷ (TooMany, nat_le 128 (length past.buffers)) ∷ []
-rows past barrier = (TooMany, nat_le 64 (length past.steps)) ∷ []
-rows past (step root kind a b) =
+rows most past barrier = (TooMany, nat_le 64 (length past.steps)) ∷ []
+rows most past (step root kind a b) =
     (BadNumber, is_none (root_number root))
     ∷ (NameTaken, is_taken past.buffers b)
     ∷ (UnknownBuffer, is_none (buffer_named past.buffers a))
@@ -33,11 +33,11 @@ rows past (step root kind a b) =
     ∷ (WrongShape, is_none (made_of past root kind a))
     ∷ (TooMany, nat_le 64 (length past.steps) || nat_le 128 (length past.buffers))
     ∷ (TooLarge, holds_of (λ s. nat_lt most_elements (length_of s)) (made_of past root kind a)) ∷ []
-rows past (print name) =
+rows most past (print name) =
     (UnknownBuffer, is_none (buffer_named past.buffers name))
     ∷ (TooMany, nat_le 128 (length past.prints))
-    ∷ (TooLarge, holds_of (λ from. nat_lt past.most_printed (past.printed + elements_of past.ranks from.2)) (buffer_named past.buffers name)) ∷ []
-rows past last = []
+    ∷ (TooLarge, holds_of (λ from. nat_lt most (past.printed + elements_of past.ranks from.2)) (buffer_named past.buffers name)) ∷ []
+rows most past last = []
 
 -- inputs: a count, a new name, room
 inputs : {A : Type 0} (count : Option ℕ) (taken full : Bool) (next : ℕ → A)
@@ -96,12 +96,12 @@ rooted ranks (Some n) false (Some f) making steps buffers next =
     [ true ↦ ends (making f n) steps buffers (next f n) | false ↦ refl ])
 
 -- a line is refused by the first row that holds of it, and taken where none does
-pub by_the_table : (past : Past) (form : Form) → refusal_in (form_line past form) ≡ first_row (rows past form)
+pub by_the_table : (most : ℕ) (past : Past) (form : Form) → refusal_in (form_line most past form) ≡ first_row (rows most past form)
 unfolding form_line input_line barrier_line step_line print_line
-by_the_table past complete = refl
-by_the_table past (input name ty count) = inputs (number_between 1 4096 count) (is_taken past.buffers name) (nat_le 128 (length past.buffers)) _
-by_the_table past barrier = barriers (nat_le 64 (length past.steps)) _
-by_the_table past (step None kind a b) = rootless (is_taken past.buffers b) (buffer_named past.buffers a) (λ from. spread_after past.ranks (step_of kind 0 from.0 (length past.buffers)) from.2) (nat_le 64 (length past.steps)) (nat_le 128 (length past.buffers)) _
-by_the_table past (step (Some word) kind a b) = rooted past.ranks (number_of word) (is_taken past.buffers b) (buffer_named past.buffers a) (λ from r. spread_after past.ranks (step_of kind r from.0 (length past.buffers)) from.2) (nat_le 64 (length past.steps)) (nat_le 128 (length past.buffers)) _
-by_the_table past (print name) = prints (buffer_named past.buffers name) (nat_le 128 (length past.prints)) (λ from. nat_lt past.most_printed (past.printed + elements_of past.ranks from.2)) _
-by_the_table past last = refl
+by_the_table most past complete = refl
+by_the_table most past (input name ty count) = inputs (number_between 1 4096 count) (is_taken past.buffers name) (nat_le 128 (length past.buffers)) _
+by_the_table most past barrier = barriers (nat_le 64 (length past.steps)) _
+by_the_table most past (step None kind a b) = rootless (is_taken past.buffers b) (buffer_named past.buffers a) (λ from. spread_after past.ranks (step_of kind 0 from.0 (length past.buffers)) from.2) (nat_le 64 (length past.steps)) (nat_le 128 (length past.buffers)) _
+by_the_table most past (step (Some word) kind a b) = rooted past.ranks (number_of word) (is_taken past.buffers b) (buffer_named past.buffers a) (λ from r. spread_after past.ranks (step_of kind r from.0 (length past.buffers)) from.2) (nat_le 64 (length past.steps)) (nat_le 128 (length past.buffers)) _
+by_the_table most past (print name) = prints (buffer_named past.buffers name) (nat_le 128 (length past.prints)) (λ from. nat_lt most (past.printed + elements_of past.ranks from.2)) _
+by_the_table most past last = refl

@@ -80,16 +80,12 @@ steps ranks kind (Some r) false None late full l = refl
 steps ranks kind (Some r) false (Some f) true full l = refl
 steps ranks kind (Some r) false (Some f) false full l = shapes ranks kind r f.0 l full f.2
 
--- a print, with the elements so far and the most as they are said
-prints : (most : ℕ) (past : Past) (from : Option (ℕ × ElemType × Spread)) → Counts most past
-    → first_row ((UnknownBuffer, is_none from) ∷ (TooMany, nat_le 128 (length past.prints)) ∷ (TooLarge, holds_of (λ f. nat_lt past.most_printed (past.printed + elements_of past.ranks f.2)) from) ∷ [])
+-- a print, with the elements so far as they are said
+prints : (most : ℕ) (past : Past) (from : Option (ℕ × ElemType × Spread)) → Counts past
+    → first_row ((UnknownBuffer, is_none from) ∷ (TooMany, nat_le 128 (length past.prints)) ∷ (TooLarge, holds_of (λ f. nat_lt most (past.printed + elements_of past.ranks f.2)) from) ∷ [])
     ≡ first_row ((UnknownBuffer, is_none from) ∷ (TooMany, nat_le 128 (length past.prints)) ∷ (TooLarge, holds_of (λ f. nat_lt most (printed_in past.ranks past.buffers past.prints + elements_of past.ranks f.2)) from) ∷ [])
-prints most past from counts = alike past.most_printed most past.printed (printed_in past.ranks past.buffers past.prints) counts.limit counts.counted
-  where
-    alike : (l m p q : ℕ) → l ≡ m → p ≡ q
-        → first_row ((UnknownBuffer, is_none from) ∷ (TooMany, nat_le 128 (length past.prints)) ∷ (TooLarge, holds_of (λ f. nat_lt l (p + elements_of past.ranks f.2)) from) ∷ [])
-        ≡ first_row ((UnknownBuffer, is_none from) ∷ (TooMany, nat_le 128 (length past.prints)) ∷ (TooLarge, holds_of (λ f. nat_lt m (q + elements_of past.ranks f.2)) from) ∷ [])
-    alike l m p q e f = rw (e, f) refl
+prints most past from counts =
+    ap (λ n. first_row ((UnknownBuffer, is_none from) ∷ (TooMany, nat_le 128 (length past.prints)) ∷ (TooLarge, holds_of (λ f. nat_lt most (n + elements_of past.ranks f.2)) from) ∷ [])) counts.counted
 
 -- the rows of a line behind the first two that is no data line
 abbrev others : ℕ → Past → Bool → Option Form → List (Refusal × Bool)
@@ -103,7 +99,7 @@ others most past right form =
     ∷ (TooMany, holds_of (too_many past) form)
     ∷ (TooLarge, holds_of (too_large most past) form) ∷ []
 
-forms : (most : ℕ) (past : Past) (form : Form) → Counts most past → first_row (by_form.rows past form) ≡ first_row (others most past true (Some form))
+forms : (most : ℕ) (past : Past) (form : Form) → Counts past → first_row (by_form.rows most past form) ≡ first_row (others most past true (Some form))
 forms most past complete counts = refl
 forms most past (input name ty count) counts = refl
 forms most past barrier counts = refl
@@ -112,18 +108,18 @@ forms most past (print name) counts = prints most past (buffer_named past.buffer
 forms most past last counts = refl
 
 -- a line that says something, if that may stand here
-if_it_stands : (most : ℕ) (past : Past) (form : Form) (b : Bool) → Counts most past
-    → refusal_in (refuse (not b) BadLine >>= λ _. form_line past form) ≡ first_row (others most past b (Some form))
-if_it_stands most past form true counts = by_the_table past form ∙ forms most past form counts
+if_it_stands : (most : ℕ) (past : Past) (form : Form) (b : Bool) → Counts past
+    → refusal_in (refuse (not b) BadLine >>= λ _. form_line most past form) ≡ first_row (others most past b (Some form))
+if_it_stands most past form true counts = by_the_table most past form ∙ forms most past form counts
 if_it_stands most past form false counts = refl
 
-stands : (most : ℕ) (past : Past) (stage : Stage) (form : Option Form) (right : Bool) → Counts most past → holds_of (may_stand stage) form ≡ right
-    → refusal_in (or_refuse BadLine form >>= λ f. refuse (not (may_stand stage f)) BadLine >>= λ _. form_line past f) ≡ first_row (others most past right form)
+stands : (most : ℕ) (past : Past) (stage : Stage) (form : Option Form) (right : Bool) → Counts past → holds_of (may_stand stage) form ≡ right
+    → refusal_in (or_refuse BadLine form >>= λ f. refuse (not (may_stand stage f)) BadLine >>= λ _. form_line most past f) ≡ first_row (others most past right form)
 stands most past stage None right counts e = subst (λ r. Some BadLine ≡ first_row (others most past r None)) e refl
 stands most past stage (Some form) right counts e =
-    subst (λ r. refusal_in (refuse (not (may_stand stage form)) BadLine >>= λ _. form_line past form) ≡ first_row (others most past r (Some form))) e (if_it_stands most past form (may_stand stage form) counts)
+    subst (λ r. refusal_in (refuse (not (may_stand stage form)) BadLine >>= λ _. form_line most past form) ≡ first_row (others most past r (Some form))) e (if_it_stands most past form (may_stand stage form) counts)
 
-later : (most : ℕ) (past : Past) (stage : Stage) (line : List ℕ) → Counts most past → past.stage ≡ stage → refusal_in (later_line past line) ≡ first_row (rows_of most past (other stage (words line)))
+later : (most : ℕ) (past : Past) (stage : Stage) (line : List ℕ) → Counts past → past.stage ≡ stage → refusal_in (later_line most past line) ≡ first_row (rows_of most past (other stage (words line)))
 unfolding later_line
 later most past stage line counts at =
     stands most past past.stage (form_of (words line)) (may_be stage (words line)) counts (ap (λ s. holds_of (may_stand s) (form_of (words line))) at ∙ words_by_the_table stage (words line))
@@ -162,7 +158,7 @@ ranks_end : {A : Type 0} (n : Option ℕ) (next : ℕ → A) → refusal_in (or_
 ranks_end None next = refl
 ranks_end (Some n) next = refl
 
-at : (most : ℕ) (stage : Stage) (past : Past) (line : List ℕ) → Counts most past → past.stage ≡ stage → is_finished stage ≡ false → refusal_in (line_at stage past line) ≡ first_row (rows_of most past (kind_at stage line))
+at : (most : ℕ) (stage : Stage) (past : Past) (line : List ℕ) → Counts past → past.stage ≡ stage → is_finished stage ≡ false → refusal_in (line_at most stage past line) ≡ first_row (rows_of most past (kind_at stage line))
 unfolding line_at
 at most Version past line counts e due = header (bytes_eq line (codes "coll 1")) _
 at most Ranks past line counts e due = ranks_end (ranks_in (words line)) _
@@ -175,7 +171,7 @@ at most Finished past line counts e due = cc
 
 pub by_the_rows : ByTheRows
 unfolding judge
-by_the_rows most past line counts due = bytes (list_all is_allowed line) (line_at past.stage past line) (rows_of most past (kind_at past.stage line)) (at most past.stage past line counts refl due)
+by_the_rows most past line counts due = bytes (list_all is_allowed line) (line_at most past.stage past line) (rows_of most past (kind_at past.stage line)) (at most past.stage past line counts refl due)
   where
     bytes : (b : Bool) (r : Result Past Refusal) (others : List (Refusal × Bool)) → refusal_in r ≡ first_row others → refusal_in (cond b r (Err BadByte)) ≡ first_row ((BadByte, not b) ∷ others)
     bytes true r others h = h

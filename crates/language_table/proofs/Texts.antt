@@ -36,15 +36,15 @@ name_in (Ok x) = None
 name_in (Err e) = Some e.1
 
 -- a line is taken only where one is due
-due : (past next : Past) (line : List ℕ) → judge past line ≡ Ok next → is_finished past.stage ≡ false
+due : (most : ℕ) (past next : Past) (line : List ℕ) → judge most past line ≡ Ok next → is_finished past.stage ≡ false
 unfolding judge line_at
-due past next line h = at past.stage (list_all is_allowed line) h
+due most past next line h = at past.stage (list_all is_allowed line) h
   where
     over : (b : Bool) → (let r : Result Past Refusal = cond b (Err AfterEnd) (Err BadByte) in r ≡ Ok next) → true ≡ false
     over true h = cc
     over false h = cc
 
-    at : (stage : Stage) (b : Bool) → cond b (line_at stage past line) (Err BadByte) ≡ Ok next → is_finished stage ≡ false
+    at : (stage : Stage) (b : Bool) → cond b (line_at most stage past line) (Err BadByte) ≡ Ok next → is_finished stage ≡ false
     at Version b h = refl
     at Ranks b h = refl
     at Options b h = refl
@@ -62,7 +62,7 @@ record Found (most : ℕ) (past : Past) (pieces : List (List ℕ)) (k j : ℕ) (
   last : Past
   are : pieces ≡ before ++ piece ∷ behind
   number : j ≡ length before + k
-  says : said_by past before ≡ Some last
+  says : said_by most past before ≡ Some last
   row : first_row (rows_in most last piece behind) ≡ Some name
 
 here : (most : ℕ) (past : Past) (piece : List ℕ) (pieces : List (List ℕ)) (k j : ℕ) (name : Refusal) → k ≡ j → first_row (rows_in most past piece pieces) ≡ Some name → Found most past (piece ∷ pieces) k j name
@@ -75,10 +75,10 @@ ends true true past k j name h = cc
 ends true false past k j name h = (ap line_in h, ap name_in h)
 ends false empty past k j name h = (ap line_in h, ap name_in h)
 
-said_more : (past next last : Past) (line : List ℕ) (before : List (List ℕ)) → judge past line ≡ Ok next → said_by next before ≡ Some last → said_by past (line ∷ before) ≡ Some last
-said_more past next last line before e h = rw e h
+said_more : (most : ℕ) (past next last : Past) (line : List ℕ) (before : List (List ℕ)) → judge most past line ≡ Ok next → said_by most next before ≡ Some last → said_by most past (line ∷ before) ≡ Some last
+said_more most past next last line before e h = rw e h
 
-finds : (most : ℕ) (past : Past) (piece : List ℕ) (pieces : List (List ℕ)) (k j : ℕ) (name : Refusal) → Held most past → read_from judge AfterEnd past k (piece ∷ pieces) ≡ Err (j, name) → Found most past (piece ∷ pieces) k j name
+finds : (most : ℕ) (past : Past) (piece : List ℕ) (pieces : List (List ℕ)) (k j : ℕ) (name : Refusal) → Held most past → read_from (judge most) AfterEnd past k (piece ∷ pieces) ≡ Err (j, name) → Found most past (piece ∷ pieces) k j name
 unfolding read_from
 finds most past piece [] k j name held h =
     let e = ends (is_finished past.stage) (is_empty piece) past k j name h in
@@ -87,9 +87,9 @@ finds most past piece (other ∷ pieces) k j name held h = elim (way (is_finishe
   | inl done ↦
       let r : refused k AfterEnd ≡ refused j name = sym (rw done refl) ∙ h in
       here most past piece (other ∷ pieces) k j name (ap line_in r) (rw done (ap name_in r))
-  | inr going ↦ elim (answered (judge past piece)) [
+  | inr going ↦ elim (answered (judge most past piece)) [
     | inl next ↦
-        let r : read_from judge AfterEnd next.0 (k + 1) (other ∷ pieces) ≡ Err (j, name) = sym (rw (going, next.1) refl) ∙ h in
+        let r : read_from (judge most) AfterEnd next.0 (k + 1) (other ∷ pieces) ≡ Err (j, name) = sym (rw (going, next.1) refl) ∙ h in
         let f = finds most next.0 other pieces (k + 1) j name (held_on most past next.0 piece held next.1) r in
         record {
           before = piece ∷ f.before;
@@ -98,7 +98,7 @@ finds most past piece (other ∷ pieces) k j name held h = elim (way (is_finishe
           last = f.last;
           are = ap (λ (x : List (List ℕ)). piece ∷ x) f.are;
           number = longer f.before f.number;
-          says = said_more past next.0 f.last piece f.before next.1 f.says;
+          says = said_more most past next.0 f.last piece f.before next.1 f.says;
           row = f.row;
         }
     | inr fault ↦
@@ -123,13 +123,13 @@ name_is (Ok past) name h = cc
 name_is (Err e) name h = cc
 
 line_refused : (most : ℕ) (past : Past) (piece other : List ℕ) (pieces : List (List ℕ)) (k j : ℕ) (name : Refusal) → Held most past → j ≡ k → first_row (rows_in most past piece (other ∷ pieces)) ≡ Some name
-    → read_from judge AfterEnd past k (piece ∷ other ∷ pieces) ≡ refused j name
+    → read_from (judge most) AfterEnd past k (piece ∷ other ∷ pieces) ≡ refused j name
 unfolding read_from
 line_refused most past piece other pieces k j name held e h = elim (way (is_finished past.stage)) [
   | inl done ↦ rw done (over (sym (rw done refl) ∙ h))
   | inr going ↦
       let r : first_row (rows most past piece) ≡ Some name = sym (rw going refl) ∙ h in
-      let named : judge past piece ≡ Err name = name_is (judge past piece) name (by_the_rows most past piece (counts_of most past held) going ∙ r) in
+      let named : judge most past piece ≡ Err name = name_is (judge most past piece) name (by_the_rows most past piece (counts_of most past held) going ∙ r) in
       rw (going, named) (ap (λ k. refused k name) (sym e))
 ]
   where
@@ -143,29 +143,29 @@ some_pieces : (before : List (List ℕ)) (piece : List ℕ) (behind : List (List
 some_pieces [] piece behind = (piece, behind, refl)
 some_pieces (line ∷ before) piece behind = (line, before ++ piece ∷ behind, refl)
 
-goes_on : (past next : Past) (k : ℕ) (line : List ℕ) (before : List (List ℕ)) (piece : List ℕ) (behind : List (List ℕ)) → judge past line ≡ Ok next
-    → read_from judge AfterEnd past k (line ∷ (before ++ piece ∷ behind)) ≡ read_from judge AfterEnd next (k + 1) (before ++ piece ∷ behind)
+goes_on : (most : ℕ) (past next : Past) (k : ℕ) (line : List ℕ) (before : List (List ℕ)) (piece : List ℕ) (behind : List (List ℕ)) → judge most past line ≡ Ok next
+    → read_from (judge most) AfterEnd past k (line ∷ (before ++ piece ∷ behind)) ≡ read_from (judge most) AfterEnd next (k + 1) (before ++ piece ∷ behind)
 unfolding read_from
-goes_on past next k line before piece behind e =
+goes_on most past next k line before piece behind e =
     let some = some_pieces before piece behind in
-    let going = due past next line e in
+    let going = due most past next line e in
     rw (some.2, going, e) refl
 
-refuses : (most : ℕ) (past last : Past) (before : List (List ℕ)) (piece : List ℕ) (behind : List (List ℕ)) (k j : ℕ) (name : Refusal) → Held most past → j ≡ length before + k → said_by past before ≡ Some last
-    → first_row (rows_in most last piece behind) ≡ Some name → read_from judge AfterEnd past k (before ++ piece ∷ behind) ≡ Err (j, name)
+refuses : (most : ℕ) (past last : Past) (before : List (List ℕ)) (piece : List ℕ) (behind : List (List ℕ)) (k j : ℕ) (name : Refusal) → Held most past → j ≡ length before + k → said_by most past before ≡ Some last
+    → first_row (rows_in most last piece behind) ≡ Some name → read_from (judge most) AfterEnd past k (before ++ piece ∷ behind) ≡ Err (j, name)
 unfolding read_from
 refuses most past last [] piece behind k j name held e says row = at_once behind (subst (λ p. first_row (rows_in most p piece behind) ≡ Some name) (sym (some_is past last says)) row)
   where
     start : j ≡ k
     start = omega (arith, e)
 
-    at_once : (behind : List (List ℕ)) → first_row (rows_in most past piece behind) ≡ Some name → read_from judge AfterEnd past k (piece ∷ behind) ≡ Err (j, name)
+    at_once : (behind : List (List ℕ)) → first_row (rows_in most past piece behind) ≡ Some name → read_from (judge most) AfterEnd past k (piece ∷ behind) ≡ Err (j, name)
     at_once [] row = last_refused (is_finished past.stage) (is_empty piece) past k j name start row
     at_once (other ∷ pieces) row = line_refused most past piece other pieces k j name held start row
-refuses most past last (line ∷ before) piece behind k j name held e says row = elim (answered (judge past line)) [
+refuses most past last (line ∷ before) piece behind k j name held e says row = elim (answered (judge most past line)) [
   | inl next ↦
-      let more : said_by next.0 before ≡ Some last = sym (rw next.1 refl) ∙ says in
-      goes_on past next.0 k line before piece behind next.1
+      let more : said_by most next.0 before ≡ Some last = sym (rw next.1 refl) ∙ says in
+      goes_on most past next.0 k line before piece behind next.1
       ∙ refuses most next.0 last before piece behind (k + 1) j name (held_on most past next.0 line held next.1) (omega (arith, e)) more row
   | inr fault ↦ absurd (nothing_said (sym (rw fault.1 refl) ∙ says))
 ]
@@ -203,17 +203,17 @@ is_above n h = grind (arith, nat_tests)
 isnt_above : (n : ℕ) → n ≤ 1048576 → nat_lt 1048576 n ≡ false
 isnt_above n h = grind (arith, nat_tests)
 
-reading : (most : ℕ) (bytes : List ℕ) (k : ℕ) (name : Refusal) → read_from judge AfterEnd (nothing most) 1 (lines bytes) ≡ Err (k, name) → IsRefusedAt most bytes k name
+reading : (most : ℕ) (bytes : List ℕ) (k : ℕ) (name : Refusal) → read_from (judge most) AfterEnd nothing 1 (lines bytes) ≡ Err (k, name) → IsRefusedAt most bytes k name
 reading most bytes k name h =
     let some = some_lines bytes in
-    let f = finds most (nothing most) some.0 some.1 1 k name (held_first most) (sym (ap (read_from judge AfterEnd (nothing most) 1) some.2) ∙ h) in
+    let f = finds most nothing some.0 some.1 1 k name (held_first most) (sym (ap (read_from (judge most) AfterEnd nothing 1) some.2) ∙ h) in
     record { before = f.before; piece = f.piece; behind = f.behind; past = f.last; are = some.2 ∙ f.are; number = f.number; says = f.says; row = f.row }
 
 there : (most : ℕ) (bytes : List ℕ) (k : ℕ) (name : Refusal) → read_up_to most bytes ≡ Err (k, name) → IsFirstRefusal most bytes k name
 unfolding read_by
 there most bytes k name h = elim (way (nat_lt 1048576 (length bytes))) [
   | inl long ↦ inl ((above (length bytes) long, (too_long k name (sym (rw long refl) ∙ h)).0, (too_long k name (sym (rw long refl) ∙ h)).1))
-  | inr short ↦ inr ((not_above 1048576 (length bytes) short, reading most bytes k name (program_refused (read_from judge AfterEnd (nothing most) 1 (lines bytes)) k name (sym (rw short refl) ∙ h))))
+  | inr short ↦ inr ((not_above 1048576 (length bytes) short, reading most bytes k name (program_refused (read_from (judge most) AfterEnd nothing 1 (lines bytes)) k name (sym (rw short refl) ∙ h))))
 ]
 
 back : (most : ℕ) (bytes : List ℕ) (k : ℕ) (name : Refusal) → IsFirstRefusal most bytes k name → read_up_to most bytes ≡ Err (k, name)
@@ -225,7 +225,7 @@ back most bytes k name (inl long) = let t = is_above (length bytes) long.0 in rw
 back most bytes k name (inr at) =
     let t = isnt_above (length bytes) at.0 in
     let r = at.1 in
-    let e : read_from judge AfterEnd (nothing most) 1 (lines bytes) ≡ Err (k, name) = ap (read_from judge AfterEnd (nothing most) 1) r.are ∙ refuses most (nothing most) r.past r.before r.piece r.behind 1 k name (held_first most) r.number r.says r.row in
+    let e : read_from (judge most) AfterEnd nothing 1 (lines bytes) ≡ Err (k, name) = ap (read_from (judge most) AfterEnd nothing 1) r.are ∙ refuses most nothing r.past r.before r.piece r.behind 1 k name (held_first most) r.number r.says r.row in
     rw (t, e) refl
 
 pub texts_by_the_rows : TextsByTheRows

@@ -135,11 +135,10 @@ rows_of most past kind =
 abbrev pub rows : ℕ → Past → List ℕ → List (Refusal × Bool)
 rows most past line = (BadByte, not (list_all is_allowed line)) ∷ rows_of most past (kind_at past.stage line)
 
--- what is said so far tells the elements of its prints and the most that they may be
-pub record Counts (most : ℕ) (past : Past) : Type 0 where
-  pub limit : past.most_printed ≡ most
+-- what is said so far tells the elements of its prints
+pub record Counts (past : Past) : Type 0 where
   pub counted : past.printed ≡ printed_in past.ranks past.buffers past.prints
 
 -- A line that is due is refused by the first row that holds of it, and taken where none does.
 abbrev pub ByTheRows : Type 0
-ByTheRows = (most : ℕ) (past : Past) (line : List ℕ) → Counts most past → is_finished past.stage ≡ false → refusal_in (judge past line) ≡ first_row (rows most past line)
+ByTheRows = (most : ℕ) (past : Past) (line : List ℕ) → Counts past → is_finished past.stage ≡ false → refusal_in (judge most past line) ≡ first_row (rows most past line)

@@ -12,9 +12,9 @@ taken (Ok past) = Some past
 taken (Err name) = None
 
 -- what lines say, each judged by the lines before it; nothing where one is refused
-abbrev pub said_by : Past → List (List ℕ) → Option Past
-said_by past [] = Some past
-said_by past (line ∷ lines) = option_and_then (λ next. said_by next lines) (taken (judge past line))
+abbrev pub said_by : ℕ → Past → List (List ℕ) → Option Past
+said_by most past [] = Some past
+said_by most past (line ∷ lines) = option_and_then (λ next. said_by most next lines) (taken (judge most past line))
 
 -- The rows of a piece of a text, by what the lines before it say and the pieces behind it. No LF stands behind the last
 -- piece: where a line is due it is Unended, whatever it holds. Where none is due, bytes are AfterEnd, whatever they are.
@@ -30,7 +30,7 @@ pub record IsRefusedAt (most : ℕ) (bytes : List ℕ) (k : ℕ) (name : Refusal
   pub past : Past
   pub are : lines bytes ≡ before ++ piece ∷ behind
   pub number : k ≡ length before + 1
-  pub says : said_by (nothing most) before ≡ Some past
+  pub says : said_by most nothing before ≡ Some past
   pub row : first_row (rows_in most past piece behind) ≡ Some name
 
 abbrev pub IsFirstRefusal : ℕ → List ℕ → ℕ → Refusal → Type 0
@@ -40,6 +40,6 @@ IsFirstRefusal most bytes k name = ((1048576 < length bytes) × (k ≡ 0) × (na
 abbrev pub TextsByTheRows : Type 0
 TextsByTheRows = (most : ℕ) (bytes : List ℕ) (k : ℕ) (name : Refusal) → read_up_to most bytes ≡ Err (k, name) ↔ IsFirstRefusal most bytes k name
 
--- Whatever lines say from the beginning on tells the elements of its prints and the most that they may be.
+-- Whatever lines say from the beginning on tells the elements of its prints.
 abbrev pub LinesCount : Type 0
-LinesCount = (most : ℕ) (before : List (List ℕ)) (past : Past) → said_by (nothing most) before ≡ Some past → Counts most past
+LinesCount = (most : ℕ) (before : List (List ℕ)) (past : Past) → said_by most nothing before ≡ Some past → Counts past
