@@ -6,7 +6,7 @@ use Rattle.std.specs.Str.{bytes_eq}
 use Rattle.std.proofs.lemmas.Bool.Decides.{nat_tests}
 use Rattle.std.proofs.lemmas.List.Elements.{All-nil, All-cons}
 use Rattle.ptl_types.specs.declared.elements.ElemType.{ElemType}
-use Rattle.coll_text.specs.Text.{lines, words, is_empty, number_between}
+use Rattle.coll_text.specs.Text.{lines, words, number_between}
 use Rattle.coll_text.specs.Values.{data_line}
 use Rattle.coll_lang.specs.Outline.{Program, no_buffer, length_of}
 use Rattle.coll_lang.specs.Steps.{step_of, spread_after, elements_of}
@@ -22,7 +22,7 @@ use Rattle.coll_lang.specs.declared.forms.StepKind.{StepKind}
 use Rattle.coll_lang.specs.declared.stage.Stage.{Stage}
 use Rattle.coll_lang.specs.declared.stage.Stage.TheVariants.{Version, Ranks, Options, Inputs, Data, Steps, Prints, Finished}
 use Rattle.coll_lang.specs.declared.fault.Refusal.{Refusal}
-use Rattle.coll_lang.specs.declared.fault.Refusal.TheVariants.{TooLong, BadByte, BadHeader, BadRanks, BadLine, BadNumber, NameTaken, UnknownBuffer, BadRoot, WrongShape, TooMany, TooLarge, Unended}
+use Rattle.coll_lang.specs.declared.fault.Refusal.TheVariants.{TooLong, BadByte, BadHeader, BadRanks, BadLine, BadNumber, NameTaken, UnknownBuffer, BadRoot, WrongShape, TooMany, TooLarge}
 use Rattle.coll_lang.proofs.Stays.{All-then, found}
 use Rattle.coll_lang.proofs.Sound.{Formed, AtPrints, Sound, room, one_longer, none, all_taken}
 use Rattle.coll_lang.proofs.AllLines.{allowed, line_goes}

@@ -5,7 +5,7 @@ use Rattle.std.specs.Str.{bytes_eq}
 use Rattle.ptl_types.specs.declared.elements.ElemType.{ElemType}
 use Rattle.coll_text.specs.Text.{words, number_between, is_empty}
 use Rattle.coll_text.specs.Values.{value_of}
-use Rattle.coll_lang.specs.Forms.{Form, complete, input, barrier, step, print, last, form_of}
+use Rattle.coll_lang.specs.Forms.{Form, input, barrier, step, print, form_of}
 use Rattle.coll_lang.specs.Outline.{length_of}
 use Rattle.coll_lang.specs.Steps.{elements_of}
 use Rattle.coll_lang.specs.Language.{Past, is_allowed, ranks_in, is_taken, buffer_named, most_elements, is_finished, judge}
@@ -14,9 +14,9 @@ use Rattle.language_table.specs.Table.{holds_of, root_number, is_past_last, firs
 use Rattle.coll_lang.specs.declared.types.Spread.{Spread}
 use Rattle.coll_lang.specs.declared.types.Spread.TheVariants.{Even, Only}
 use Rattle.coll_lang.specs.declared.forms.StepKind.{StepKind}
-use Rattle.coll_lang.specs.declared.forms.StepKind.TheVariants.{Broadcast, Reduce, Allreduce, Gather, Allgather, Alltoall, Scan}
+use Rattle.coll_lang.specs.declared.forms.StepKind.TheVariants.{Broadcast, Gather, Allgather, Alltoall}
 use Rattle.coll_lang.specs.declared.stage.Stage.{Stage}
-use Rattle.coll_lang.specs.declared.stage.Stage.TheVariants.{Version, Ranks, Options, Inputs, Data, Steps, Prints, Finished}
+use Rattle.coll_lang.specs.declared.stage.Stage.TheVariants.{Version, Ranks, Data}
 use Rattle.coll_lang.specs.declared.fault.Refusal.{Refusal}
 use Rattle.language_table.specs.Grammar.{may_be}
 use Rattle.coll_lang.specs.declared.fault.Refusal.TheVariants.{BadByte, BadHeader, BadRanks, BadLine, BadNumber, NameTaken, UnknownBuffer, BadRoot, WrongShape, TooMany, TooLarge}
