@@ -1,0 +1,108 @@
+//! An interface in which everything is in use: where calls are refused, and what shows afterwards that nothing changed.
+
+use crate::steps::Answer::*;
+use crate::steps::Call::*;
+use crate::steps::Step::{self, *};
+use crate::values::{DESCRIPTOR, ENTRY, EVENT, FIRST, HEADER, LINKED, ONE, PUT, SECOND, THIRD};
+use ptl_types::{
+    AckRequest, Deed, Descriptor, Entry, Event, EventKind, Header, List, Outcome, PutArgs,
+    UnexpectedHeader,
+};
+
+/// The first descriptor has the queue and the first counting event, and awaits an acknowledgement; a triggered put names the
+/// second, which covers the second half of the region. Both triggered operations wait on the first counting event. The second
+/// has the entry of index 1, whose queue is the one queue, and an increment counts on it. The overflow entry of index 0 has
+/// a header.
+pub const BUSY: &[Step] = &[
+    Here(EqAlloc(4), Made(0)),
+    Here(PtAlloc(1, Some(FIRST)), Done),
+    Here(CtAlloc, Made(0)),
+    Here(CtAlloc, Made(1)),
+    Here(
+        MdBind(Descriptor {
+            length: 8,
+            eq: Some(FIRST),
+            ct: Some(FIRST),
+            ..DESCRIPTOR
+        }),
+        Made(0),
+    ),
+    Here(
+        MdBind(Descriptor {
+            start: 8,
+            length: 8,
+            ..DESCRIPTOR
+        }),
+        Made(1),
+    ),
+    Here(MeAppend(0, List::Overflow, ENTRY), Linked(0)),
+    Here(MeAppend(1, List::Priority, COUNTS), Linked(1)),
+    Comes(PUT, &[9], Outcome::Overflow),
+    Here(Start(Deed::Put(ASKS)), Sent),
+    Here(Triggered(Deed::Inc(SECOND, ONE), FIRST, 5), Number(0)),
+    Here(
+        Triggered(Deed::Put(PutArgs { md: SECOND, ..PUT }), FIRST, 0),
+        Number(1),
+    ),
+];
+
+const COUNTS: Entry = Entry {
+    ct: Some(SECOND),
+    count_comm: true,
+    ..ENTRY
+};
+
+const ASKS: PutArgs = PutArgs {
+    ack: AckRequest::CtAck,
+    target: 1,
+    ..PUT
+};
+
+/// The header that the overflow entry of index 0 has.
+pub const HELD: UnexpectedHeader = UnexpectedHeader {
+    entry: FIRST,
+    place: 0,
+    delivered: 1,
+    header: Header {
+        length: 1,
+        ..HEADER
+    },
+};
+
+/// The events of the start and of a put to index 1.
+const START_TOLD: Event = Event {
+    kind: EventKind::Send,
+    ..EVENT
+};
+
+const PUT_TOLD: Event = Event {
+    kind: EventKind::Put,
+    source: 1,
+    requested: 1,
+    delivered: 1,
+    ..LINKED
+};
+
+/// Nothing was told, and nothing more is there than what was made: index 0 has one header; both entries are linked, each at
+/// its index, and no other is; the next entry has number 2; two operations wait on the first counting event.
+pub const AS_IT_BEGAN: &[Step] = &[
+    HereTells(FIRST, &[LINKED, START_TOLD]),
+    Here(MeSearch(0, ENTRY, true), Found(HELD)),
+    Here(MeSearch(0, ENTRY, true), Nothing),
+    Comes(PUT, &[8], Outcome::Overflow),
+    Here(MeSearch(0, ENTRY, true), Found(HELD)),
+    Comes(PutArgs { pt: 1, ..PUT }, &[7], Outcome::Matched),
+    HereTells(FIRST, &[PUT_TOLD]),
+    Here(CtGet(SECOND), Counts(1, 0)),
+    HereHolds(&[7, 0, 0, 0, 0, 0, 0, 0, 0, 0, 0, 0, 0, 0, 0, 0]),
+    Here(MeAppend(0, List::Overflow, ENTRY), Linked(2)),
+    Here(MeUnlink(FIRST), Done),
+    Here(MeUnlink(SECOND), Done),
+    Here(MeUnlink(THIRD), Done),
+    Here(PtFree(0), Done),
+    Here(PtFree(1), Done),
+    Here(Fire(1), Sent),
+    Here(CtCancel(FIRST), Number(1)),
+    Here(CtFree(SECOND), Done),
+    Here(MdRelease(SECOND), Done),
+];

@@ -1,0 +1,112 @@
+//! Counting events and the triggered operations that wait on them (Portals 4.3, counting events and triggered operations).
+
+use crate::scene::play;
+use crate::steps::Answer::*;
+use crate::steps::Call::*;
+use crate::steps::Step::{self, *};
+use crate::values::{DESCRIPTOR, FIRST, HEADER, ONE, PUT, SECOND};
+use ptl_types::{Count, Deed, Descriptor, Header, NiFault, PutArgs};
+
+#[test]
+fn an_increment_waits_for_its_threshold(rt: HostRuntime) {
+    const RAISE: Deed = Deed::Inc(SECOND, ONE);
+    const SCRIPT: &[Step] = &[
+        Here(CtAlloc, Made(0)),
+        Here(CtAlloc, Made(1)),
+        Here(
+            CtSet(
+                FIRST,
+                Count {
+                    success: 2,
+                    failure: 0,
+                },
+            ),
+            Done,
+        ),
+        Here(Triggered(RAISE, FIRST, 3), Number(0)),
+        Here(Ready, Nothing),
+        Here(CtInc(FIRST, ONE), Done),
+        Here(Ready, Number(0)),
+        Here(Fire(0), Nothing),
+        Here(CtGet(SECOND), Counts(1, 0)),
+        Here(Ready, Nothing),
+        Here(Triggered(RAISE, FIRST, 3), Number(1)),
+        Here(Triggered(RAISE, FIRST, 4), Number(2)),
+        Here(IsReady(1), Yes),
+        Here(IsReady(2), No),
+        Here(Pending, Number(2)),
+        Here(CtFree(FIRST), Refused(NiFault::InUse)),
+        Here(CtCancel(FIRST), Number(2)),
+        Here(Pending, Number(0)),
+        Here(CtFree(FIRST), Done),
+    ];
+    play(&rt, &[SCRIPT]);
+}
+
+#[test]
+fn tables_fill_and_handles_go(rt: HostRuntime) {
+    const PAST: Descriptor = Descriptor {
+        start: 10,
+        length: 7,
+        ..DESCRIPTOR
+    };
+    const INSIDE: PutArgs = PutArgs {
+        local_offset: 4,
+        length: 2,
+        ..PUT
+    };
+    const SCRIPT: &[Step] = &[
+        Here(CtAlloc, Made(0)),
+        Here(CtAlloc, Made(1)),
+        Here(CtAlloc, Refused(NiFault::NoSpace)),
+        Here(PtAlloc(2, None), Refused(NiFault::NoSpace)),
+        Here(PtAlloc(0, None), Refused(NiFault::InUse)),
+        Here(MdBind(PAST), Refused(NiFault::OutOfRegion)),
+        Here(MdBind(Descriptor { length: 6, ..PAST }), Made(0)),
+        Here(
+            Start(Deed::Put(PutArgs {
+                local_offset: 5,
+                ..INSIDE
+            })),
+            Refused(NiFault::OutOfRegion),
+        ),
+        Here(Start(Deed::Put(INSIDE)), Sent),
+        Here(
+            Carries(
+                Header {
+                    source: 0,
+                    length: 2,
+                    ..HEADER
+                },
+                &[0, 0],
+            ),
+            Yes,
+        ),
+        Here(
+            CtSet(
+                FIRST,
+                Count {
+                    success: u64::MAX,
+                    failure: 0,
+                },
+            ),
+            Done,
+        ),
+        Here(
+            CtInc(
+                FIRST,
+                Count {
+                    success: 0,
+                    failure: 1,
+                },
+            ),
+            Refused(NiFault::CountFull),
+        ),
+        Here(CtGet(FIRST), Counts(u64::MAX, 0)),
+        Here(CtFree(SECOND), Done),
+        Here(CtGet(SECOND), Refused(NiFault::Stale)),
+        Here(MdRelease(FIRST), Done),
+        Here(Start(Deed::Put(INSIDE)), Refused(NiFault::Stale)),
+    ];
+    play(&rt, &[SCRIPT]);
+}

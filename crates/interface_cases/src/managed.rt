@@ -1,0 +1,143 @@
+//! Locally managed and use-once entries of the priority list, ignored match bits, headers of atomics, and an overflow entry
+//! that is freed (Portals 4.3, list entries and unexpected messages).
+
+use crate::scene::play;
+use crate::steps::Answer::*;
+use crate::steps::Call::*;
+use crate::steps::Step::{self, *};
+use crate::values::{ENTRY, FIRST, FREED, LINKED, ONCE, ONE, PUT, SECOND, UNLINKED};
+use ptl_types::{
+    AtomicOp, Deed, ElemType, Entry, Event, EventKind, List, NiFault, Outcome, PutArgs,
+};
+
+/// Rank 0 has a queue at index 1.
+const TELLING: &[Step] = &[
+    Here(EqAlloc(8), Made(0)),
+    Here(PtAlloc(1, Some(FIRST)), Done),
+];
+
+/// The event of a put of two bytes to the start of its entry.
+const PUT_TOLD: Event = Event {
+    kind: EventKind::Put,
+    source: 1,
+    requested: 2,
+    delivered: 2,
+    ..LINKED
+};
+
+/// Put arguments to index 1.
+const TO_ONE: PutArgs = PutArgs { pt: 1, ..PUT };
+
+#[test]
+fn a_locally_managed_entry_fills_and_is_unlinked(rt: HostRuntime) {
+    const MANAGED: Entry = Entry {
+        manage_local: true,
+        min_free: 1,
+        ..ENTRY
+    };
+    const ELSEWHERE: PutArgs = PutArgs {
+        remote_offset: 3,
+        ..TO_ONE
+    };
+    const SCRIPT: &[Step] = &[
+        Here(MeAppend(1, List::Priority, MANAGED), Linked(0)),
+        Comes(ELSEWHERE, &[1, 2], Outcome::Matched),
+        Comes(ELSEWHERE, &[3, 4], Outcome::Matched),
+        Comes(ELSEWHERE, &[5, 6], Outcome::Dropped),
+        HereHolds(&[1, 2, 3, 4, 0, 0, 0, 0, 0, 0, 0, 0, 0, 0, 0, 0]),
+        HereTells(
+            FIRST,
+            &[
+                LINKED,
+                PUT_TOLD,
+                Event {
+                    place: 2,
+                    ..PUT_TOLD
+                },
+                UNLINKED,
+            ],
+        ),
+    ];
+    play(&rt, &[TELLING, SCRIPT]);
+}
+
+#[test]
+fn a_use_once_entry_tells_the_put_and_then_its_unlinking(rt: HostRuntime) {
+    const SCRIPT: &[Step] = &[
+        Here(MeAppend(1, List::Priority, ONCE), Linked(0)),
+        Comes(TO_ONE, &[1, 2], Outcome::Matched),
+        HereTells(FIRST, &[LINKED, PUT_TOLD, UNLINKED]),
+    ];
+    play(&rt, &[TELLING, SCRIPT]);
+}
+
+#[test]
+fn a_persistent_append_takes_the_header_of_an_atomic_and_frees_its_entry(rt: HostRuntime) {
+    const TAKEN: Event = Event {
+        kind: EventKind::AtomicOverflow,
+        ..PUT_TOLD
+    };
+    const TWO: PutArgs = PutArgs {
+        length: 2,
+        ..TO_ONE
+    };
+    const SCRIPT: &[Step] = &[
+        Here(MeAppend(1, List::Overflow, ONCE), Linked(0)),
+        There(WriteMemory(0, &[1, 2]), Done),
+        There(Start(Deed::Atomic(TWO, AtomicOp::Sum, ElemType::U8)), Sent),
+        Here(Deliver, Became(Outcome::Overflow)),
+        Here(MeAppend(1, List::Priority, ENTRY), Linked(1)),
+        HereTells(FIRST, &[LINKED, UNLINKED, TAKEN, FREED, LINKED]),
+    ];
+    play(&rt, &[TELLING, SCRIPT]);
+}
+
+#[test]
+fn ignored_bits_are_not_compared(rt: HostRuntime) {
+    const WIDE: Entry = Entry {
+        match_bits: 0x15,
+        ignore_bits: 0xf0,
+        ..ENTRY
+    };
+    const SCRIPT: &[Step] = &[
+        Here(MeAppend(0, List::Priority, WIDE), Linked(0)),
+        Comes(
+            PutArgs {
+                match_bits: 0x25,
+                ..PUT
+            },
+            &[1],
+            Outcome::Matched,
+        ),
+        Comes(
+            PutArgs {
+                match_bits: 0x26,
+                ..PUT
+            },
+            &[1],
+            Outcome::Dropped,
+        ),
+        Comes(
+            PutArgs {
+                match_bits: 0x125,
+                ..PUT
+            },
+            &[1],
+            Outcome::Dropped,
+        ),
+    ];
+    play(&rt, &[SCRIPT]);
+}
+
+#[test]
+fn a_counter_that_an_increment_alone_counts_on_is_in_use(rt: HostRuntime) {
+    const SCRIPT: &[Step] = &[
+        Here(CtAlloc, Made(0)),
+        Here(CtAlloc, Made(1)),
+        Here(Triggered(Deed::Inc(SECOND, ONE), FIRST, 1), Number(0)),
+        Here(CtFree(SECOND), Refused(NiFault::InUse)),
+        Here(CtCancel(FIRST), Number(1)),
+        Here(CtFree(SECOND), Done),
+    ];
+    play(&rt, &[SCRIPT]);
+}

@@ -1,0 +1,151 @@
+//! Which entry takes a message, and how much of it is delivered (Portals 4.3, matching and list entries).
+
+use crate::scene::play;
+use crate::steps::Answer::*;
+use crate::steps::Call::*;
+use crate::steps::Step::{self, *};
+use crate::values::{DESCRIPTOR, ENTRY, FIRST, ONCE, PUT};
+use ptl_types::{Deed, Entry, List, NiFault, Outcome, PutArgs};
+
+#[test]
+fn use_once_entries_go_with_their_first_message(rt: HostRuntime) {
+    const COUNTS: Entry = Entry {
+        ct: Some(FIRST),
+        count_comm: true,
+        ..ONCE
+    };
+    const SCRIPT: &[Step] = &[
+        Here(CtAlloc, Made(0)),
+        Here(MeAppend(0, List::Priority, COUNTS), Linked(0)),
+        Here(
+            MeAppend(0, List::Priority, Entry { start: 4, ..COUNTS }),
+            Linked(1),
+        ),
+        Comes(PUT, &[1], Outcome::Matched),
+        Comes(PUT, &[2], Outcome::Matched),
+        Comes(PUT, &[3], Outcome::Dropped),
+        HereHolds(&[1, 0, 0, 0, 2, 0, 0, 0, 0, 0, 0, 0, 0, 0, 0, 0]),
+        Here(Drops, Number(1)),
+        Here(CtGet(FIRST), Counts(2, 0)),
+        Here(MeUnlink(FIRST), Refused(NiFault::Stale)),
+    ];
+    play(&rt, &[SCRIPT]);
+}
+
+/// A put that reaches past the end of an entry of four bytes, and one that begins past it.
+const AT_ONE: PutArgs = PutArgs {
+    remote_offset: 1,
+    ..PUT
+};
+
+const AT_FIVE: PutArgs = PutArgs {
+    remote_offset: 5,
+    ..PUT
+};
+
+#[test]
+fn a_put_is_cut_at_the_end_of_its_entry(rt: HostRuntime) {
+    const SCRIPT: &[Step] = &[
+        Here(MeAppend(0, List::Priority, ENTRY), Linked(0)),
+        Comes(AT_ONE, &[1, 2, 3, 4, 5, 6], Outcome::Matched),
+        HereHolds(&[0, 1, 2, 3, 0, 0, 0, 0, 0, 0, 0, 0, 0, 0, 0, 0]),
+        Comes(AT_FIVE, &[1, 2, 3, 4, 5, 6], Outcome::Matched),
+        HereHolds(&[0, 1, 2, 3, 0, 0, 0, 0, 0, 0, 0, 0, 0, 0, 0, 0]),
+        Here(Drops, Number(0)),
+    ];
+    play(&rt, &[SCRIPT]);
+}
+
+#[test]
+fn a_put_that_may_not_be_cut_is_dropped(rt: HostRuntime) {
+    const SCRIPT: &[Step] = &[
+        Here(
+            MeAppend(
+                0,
+                List::Priority,
+                Entry {
+                    no_truncate: true,
+                    ..ENTRY
+                },
+            ),
+            Linked(0),
+        ),
+        Comes(AT_ONE, &[1, 2, 3, 4, 5, 6], Outcome::Dropped),
+        Comes(AT_ONE, &[1, 2, 3], Outcome::Matched),
+        HereHolds(&[0, 1, 2, 3, 0, 0, 0, 0, 0, 0, 0, 0, 0, 0, 0, 0]),
+        Here(Drops, Number(1)),
+    ];
+    play(&rt, &[SCRIPT]);
+}
+
+#[test]
+fn the_first_match_that_forbids_a_put_ends_the_search(rt: HostRuntime) {
+    const SCRIPT: &[Step] = &[
+        Here(
+            MeAppend(
+                0,
+                List::Priority,
+                Entry {
+                    allow_put: false,
+                    ..ONCE
+                },
+            ),
+            Linked(0),
+        ),
+        Here(MeAppend(0, List::Priority, ENTRY), Linked(1)),
+        Comes(PUT, &[1], Outcome::Violation),
+        Here(Violations, Number(1)),
+        Here(Drops, Number(0)),
+        HereHolds(&[0, 0, 0, 0, 0, 0, 0, 0, 0, 0, 0, 0, 0, 0, 0, 0]),
+        Here(MeUnlink(FIRST), Done),
+        Comes(PUT, &[1], Outcome::Matched),
+    ];
+    play(&rt, &[SCRIPT]);
+}
+
+#[test]
+fn an_index_that_is_not_allocated_drops(rt: HostRuntime) {
+    const SCRIPT: &[Step] = &[
+        Comes(PutArgs { pt: 1, ..PUT }, &[1], Outcome::Dropped),
+        Comes(PutArgs { pt: 2, ..PUT }, &[1], Outcome::Dropped),
+        Comes(
+            PutArgs {
+                pt: u32::MAX,
+                ..PUT
+            },
+            &[1],
+            Outcome::Dropped,
+        ),
+        Here(Drops, Number(3)),
+    ];
+    play(&rt, &[SCRIPT]);
+}
+
+#[test]
+fn a_rank_sends_to_itself(rt: HostRuntime) {
+    const MINE: PutArgs = PutArgs {
+        local_offset: 8,
+        length: 2,
+        ..PUT
+    };
+    const SCRIPT: &[Step] = &[
+        Here(MdBind(DESCRIPTOR), Made(0)),
+        Here(
+            MeAppend(
+                0,
+                List::Priority,
+                Entry {
+                    match_id: Some(0),
+                    ..ENTRY
+                },
+            ),
+            Linked(0),
+        ),
+        Here(WriteMemory(8, &[1, 2]), Done),
+        Here(Start(Deed::Put(MINE)), Sent),
+        Here(Deliver, Became(Outcome::Matched)),
+        Comes(PUT, &[3], Outcome::Dropped),
+        HereHolds(&[1, 2, 0, 0, 0, 0, 0, 0, 1, 2, 0, 0, 0, 0, 0, 0]),
+    ];
+    play(&rt, &[SCRIPT]);
+}

@@ -1,0 +1,273 @@
+//! Gets, atomics, fetching atomics and swaps with their replies (Portals 4.3, data movement and atomic operations).
+
+use crate::scene::play;
+use crate::steps::Answer::*;
+use crate::steps::Call::*;
+use crate::steps::Step::{self, *};
+use crate::values::{ENTRY, FIRST, GET, HEADER, LINKED, PUT};
+use ptl_types::{
+    AtomicOp, Deed, ElemType, Entry, Event, EventKind, GetArgs, Header, List, MessageKind, Outcome,
+    PutArgs, SwapOp,
+};
+
+/// One byte at the start of rank 1's region goes to index 0; what was there comes back to its byte 8.
+const BYTE: PutArgs = PutArgs { length: 1, ..PUT };
+
+const BACK: GetArgs = GetArgs {
+    local_offset: 8,
+    length: 1,
+    ..GET
+};
+
+#[test]
+fn fetching_operations_answer_the_old_element(rt: HostRuntime) {
+    const SUM: Deed = Deed::FetchAtomic(BACK, BYTE, AtomicOp::Sum, ElemType::U8);
+    const IF_FOUR: Deed = Deed::Swap(BACK, BYTE, SwapOp::Cswap, ElemType::U8, 4);
+    const LOW_BITS: Deed = Deed::Swap(BACK, BYTE, SwapOp::Mswap, ElemType::U8, 0x0f);
+    const PLAIN: Deed = Deed::Swap(BACK, BYTE, SwapOp::Swap, ElemType::U8, 0);
+    const SCRIPT: &[Step] = &[
+        Here(
+            MeAppend(0, List::Priority, Entry { length: 1, ..ENTRY }),
+            Linked(0),
+        ),
+        Here(WriteMemory(0, &[250]), Done),
+        There(WriteMemory(0, &[10]), Done),
+        There(Start(SUM), Sent),
+        Here(Deliver, Replies(Outcome::Matched)),
+        HereHolds(&[4, 0, 0, 0, 0, 0, 0, 0, 0, 0, 0, 0, 0, 0, 0, 0]),
+        There(Deliver, Became(Outcome::Answered)),
+        ThereHolds(&[10, 0, 0, 0, 0, 0, 0, 0, 250, 0, 0, 0, 0, 0, 0, 0]),
+        There(WriteMemory(0, &[9]), Done),
+        There(Start(IF_FOUR), Sent),
+        Here(Deliver, Replies(Outcome::Matched)),
+        HereHolds(&[9, 0, 0, 0, 0, 0, 0, 0, 0, 0, 0, 0, 0, 0, 0, 0]),
+        There(Deliver, Became(Outcome::Answered)),
+        ThereHolds(&[9, 0, 0, 0, 0, 0, 0, 0, 4, 0, 0, 0, 0, 0, 0, 0]),
+        There(WriteMemory(0, &[7]), Done),
+        There(Start(IF_FOUR), Sent),
+        Here(Deliver, Replies(Outcome::Matched)),
+        HereHolds(&[9, 0, 0, 0, 0, 0, 0, 0, 0, 0, 0, 0, 0, 0, 0, 0]),
+        There(Deliver, Became(Outcome::Answered)),
+        ThereHolds(&[7, 0, 0, 0, 0, 0, 0, 0, 9, 0, 0, 0, 0, 0, 0, 0]),
+        Here(WriteMemory(0, &[0x90]), Done),
+        There(WriteMemory(0, &[0xff]), Done),
+        There(Start(LOW_BITS), Sent),
+        Here(Deliver, Replies(Outcome::Matched)),
+        HereHolds(&[0x9f, 0, 0, 0, 0, 0, 0, 0, 0, 0, 0, 0, 0, 0, 0, 0]),
+        There(Deliver, Became(Outcome::Answered)),
+        ThereHolds(&[0xff, 0, 0, 0, 0, 0, 0, 0, 0x90, 0, 0, 0, 0, 0, 0, 0]),
+        There(WriteMemory(0, &[3]), Done),
+        There(Start(PLAIN), Sent),
+        Here(Deliver, Replies(Outcome::Matched)),
+        HereHolds(&[3, 0, 0, 0, 0, 0, 0, 0, 0, 0, 0, 0, 0, 0, 0, 0]),
+        There(Deliver, Became(Outcome::Answered)),
+        ThereHolds(&[3, 0, 0, 0, 0, 0, 0, 0, 0x9f, 0, 0, 0, 0, 0, 0, 0]),
+    ];
+    play(&rt, &[SCRIPT]);
+}
+
+#[test]
+fn a_get_brings_home_what_an_atomic_left(rt: HostRuntime) {
+    const TWO: PutArgs = PutArgs { length: 2, ..PUT };
+    const ASKS: GetArgs = GetArgs { length: 2, ..BACK };
+    const REPLY: Header = Header {
+        kind: MessageKind::Reply,
+        source: 0,
+        target: 1,
+        length: 2,
+        home: Some(FIRST),
+        home_offset: 8,
+        ..HEADER
+    };
+    const SCRIPT: &[Step] = &[
+        Here(
+            MeAppend(0, List::Priority, Entry { length: 2, ..ENTRY }),
+            Linked(0),
+        ),
+        There(WriteMemory(0, &[5, 0]), Done),
+        There(Start(Deed::Atomic(TWO, AtomicOp::Max, ElemType::U16)), Sent),
+        Here(Deliver, Became(Outcome::Matched)),
+        HereHolds(&[5, 0, 0, 0, 0, 0, 0, 0, 0, 0, 0, 0, 0, 0, 0, 0]),
+        There(Start(Deed::Get(ASKS)), Sent),
+        Here(Deliver, Replies(Outcome::Matched)),
+        There(Carries(REPLY, &[5, 0]), Yes),
+        There(Deliver, Became(Outcome::Answered)),
+        ThereHolds(&[5, 0, 0, 0, 0, 0, 0, 0, 5, 0, 0, 0, 0, 0, 0, 0]),
+    ];
+    play(&rt, &[SCRIPT]);
+}
+
+/// Rank 0 has a queue at index 1, and an entry there that begins at byte 2 and counts its messages.
+const TELLING: &[Step] = &[
+    Here(EqAlloc(8), Made(0)),
+    Here(CtAlloc, Made(0)),
+    Here(PtAlloc(1, Some(FIRST)), Done),
+    Here(MeAppend(1, List::Priority, COUNTS), Linked(0)),
+];
+
+const COUNTS: Entry = Entry {
+    start: 2,
+    ct: Some(FIRST),
+    count_comm: true,
+    ..ENTRY
+};
+
+/// Put arguments with header data 7 to the second byte of that entry.
+const TO_SECOND: PutArgs = PutArgs {
+    pt: 1,
+    remote_offset: 1,
+    hdr_data: 7,
+    ..PUT
+};
+
+/// The event of a put of two bytes there.
+const PUT_TOLD: Event = Event {
+    kind: EventKind::Put,
+    source: 1,
+    hdr_data: 7,
+    requested: 2,
+    delivered: 2,
+    place: 3,
+    ..LINKED
+};
+
+#[test]
+fn puts_and_gets_raise_their_events(rt: HostRuntime) {
+    const ASKS: GetArgs = GetArgs {
+        length: 2,
+        pt: 1,
+        remote_offset: 3,
+        ..BACK
+    };
+    const GET_TOLD: Event = Event {
+        kind: EventKind::Get,
+        hdr_data: 0,
+        delivered: 1,
+        place: 5,
+        ..PUT_TOLD
+    };
+    const SCRIPT: &[Step] = &[
+        Comes(TO_SECOND, &[1, 2], Outcome::Matched),
+        There(Start(Deed::Get(ASKS)), Sent),
+        Here(Deliver, Replies(Outcome::Matched)),
+        Here(CtGet(FIRST), Counts(2, 0)),
+        HereTells(FIRST, &[LINKED, PUT_TOLD, GET_TOLD]),
+    ];
+    play(&rt, &[TELLING, SCRIPT]);
+}
+
+#[test]
+fn atomics_and_fetching_operations_raise_their_events(rt: HostRuntime) {
+    const BYTE: PutArgs = PutArgs {
+        length: 1,
+        ..TO_SECOND
+    };
+    const BACK: GetArgs = GetArgs {
+        local_offset: 8,
+        length: 1,
+        pt: 1,
+        remote_offset: 1,
+        ..GET
+    };
+    const ATOMIC_TOLD: Event = Event {
+        kind: EventKind::Atomic,
+        requested: 1,
+        delivered: 1,
+        ..PUT_TOLD
+    };
+    const FETCH_TOLD: Event = Event {
+        kind: EventKind::FetchAtomic,
+        ..ATOMIC_TOLD
+    };
+    const SCRIPT: &[Step] = &[
+        There(WriteMemory(0, &[4]), Done),
+        There(Start(Deed::Atomic(BYTE, AtomicOp::Bor, ElemType::U8)), Sent),
+        Here(Deliver, Became(Outcome::Matched)),
+        There(WriteMemory(0, &[1]), Done),
+        There(
+            Start(Deed::FetchAtomic(BACK, BYTE, AtomicOp::Min, ElemType::U8)),
+            Sent,
+        ),
+        Here(Deliver, Replies(Outcome::Matched)),
+        There(WriteMemory(0, &[9]), Done),
+        There(
+            Start(Deed::Swap(BACK, BYTE, SwapOp::Swap, ElemType::U8, 0)),
+            Sent,
+        ),
+        Here(Deliver, Replies(Outcome::Matched)),
+        Here(CtGet(FIRST), Counts(3, 0)),
+        HereHolds(&[0, 0, 0, 9, 0, 0, 0, 0, 0, 0, 0, 0, 0, 0, 0, 0]),
+        HereTells(FIRST, &[LINKED, ATOMIC_TOLD, FETCH_TOLD, FETCH_TOLD]),
+    ];
+    play(&rt, &[TELLING, SCRIPT]);
+}
+
+#[test]
+fn an_entry_allows_puts_gets_or_both(rt: HostRuntime) {
+    const GETS: Entry = Entry {
+        match_bits: 6,
+        allow_put: false,
+        ..ENTRY
+    };
+    /// A byte to the second entry, and what comes back of it.
+    const SIX: PutArgs = PutArgs {
+        match_bits: 6,
+        ..BYTE
+    };
+    const BACK_OF_SIX: GetArgs = GetArgs {
+        match_bits: 6,
+        ..BACK
+    };
+    const REFUSED: Header = Header {
+        kind: MessageKind::Reply,
+        source: 0,
+        target: 1,
+        match_bits: 6,
+        home: Some(FIRST),
+        home_offset: 8,
+        ok: false,
+        ..HEADER
+    };
+    const SCRIPT: &[Step] = &[
+        Here(
+            MeAppend(
+                0,
+                List::Priority,
+                Entry {
+                    allow_get: false,
+                    ..ENTRY
+                },
+            ),
+            Linked(0),
+        ),
+        Here(MeAppend(0, List::Priority, GETS), Linked(1)),
+        Comes(PUT, &[1], Outcome::Matched),
+        Comes(
+            PutArgs {
+                match_bits: 6,
+                ..PUT
+            },
+            &[1],
+            Outcome::Violation,
+        ),
+        There(Start(Deed::Get(BACK)), Sent),
+        Here(Deliver, Replies(Outcome::Violation)),
+        There(Start(Deed::Get(BACK_OF_SIX)), Sent),
+        Here(Deliver, Replies(Outcome::Matched)),
+        There(
+            Start(Deed::FetchAtomic(BACK, BYTE, AtomicOp::Sum, ElemType::U8)),
+            Sent,
+        ),
+        Here(Deliver, Replies(Outcome::Violation)),
+        There(
+            Start(Deed::Swap(BACK_OF_SIX, SIX, SwapOp::Swap, ElemType::U8, 0)),
+            Sent,
+        ),
+        Here(Deliver, Replies(Outcome::Violation)),
+        There(Carries(REFUSED, &[]), Yes),
+        There(Deliver, Became(Outcome::Answered)),
+        Here(Violations, Number(4)),
+        Here(Drops, Number(0)),
+    ];
+    play(&rt, &[SCRIPT]);
+}

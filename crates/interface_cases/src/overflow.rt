@@ -1,0 +1,195 @@
+//! The overflow list and the unexpected headers that it leaves (Portals 4.3, unexpected messages and searching).
+
+use crate::scene::play;
+use crate::steps::Answer::*;
+use crate::steps::Call::*;
+use crate::steps::Step::{self, *};
+use crate::values::{ENTRY, FIRST, FREED, HEADER, LINKED, ONCE, PUT, UNLINKED};
+use ptl_types::{
+    Entry, Event, EventKind, Header, List, NiFault, Outcome, PutArgs, UnexpectedHeader,
+};
+
+/// An overflow entry over eight bytes that is filled from its start.
+const OVERFLOW: Entry = Entry {
+    length: 8,
+    manage_local: true,
+    ..ENTRY
+};
+
+/// A put to index 1.
+const TO_ONE: PutArgs = PutArgs { pt: 1, ..PUT };
+
+/// The header of a put of three bytes to index 1, which the first entry put at the start of the region.
+const THREE_BYTES: UnexpectedHeader = UnexpectedHeader {
+    entry: FIRST,
+    place: 0,
+    delivered: 3,
+    header: Header {
+        pt: 1,
+        length: 3,
+        ..HEADER
+    },
+};
+
+/// The header of a put of two bytes, behind them.
+const TWO_BYTES: UnexpectedHeader = UnexpectedHeader {
+    entry: FIRST,
+    place: 3,
+    delivered: 2,
+    header: Header {
+        pt: 1,
+        length: 2,
+        ..HEADER
+    },
+};
+
+/// The event of the first header's taking.
+const THREE_TAKEN: Event = Event {
+    kind: EventKind::PutOverflow,
+    source: 1,
+    requested: 3,
+    delivered: 3,
+    ..LINKED
+};
+
+/// The event of the second header's.
+const TWO_TAKEN: Event = Event {
+    requested: 2,
+    delivered: 2,
+    place: 3,
+    ..THREE_TAKEN
+};
+
+/// The event of a search that found nothing.
+const MISSED: Event = Event {
+    kind: EventKind::Search,
+    ok: false,
+    ..LINKED
+};
+
+/// Rank 0 has a queue at index 1, and an overflow entry there that is filled by two puts and unlinked by the second.
+const FILLED: &[Step] = &[
+    Here(EqAlloc(8), Made(0)),
+    Here(PtAlloc(1, Some(FIRST)), Done),
+    Here(
+        MeAppend(
+            1,
+            List::Overflow,
+            Entry {
+                min_free: 4,
+                ..OVERFLOW
+            },
+        ),
+        Linked(0),
+    ),
+    Comes(TO_ONE, &[1, 2, 3], Outcome::Overflow),
+    Comes(TO_ONE, &[4, 5], Outcome::Overflow),
+    Comes(TO_ONE, &[6], Outcome::Dropped),
+];
+
+#[test]
+fn use_once_appends_take_the_headers_in_order(rt: HostRuntime) {
+    const SCRIPT: &[Step] = &[
+        Here(MeAppend(1, List::Priority, ONCE), Consumed(THREE_BYTES)),
+        Here(MeAppend(1, List::Priority, ONCE), Consumed(TWO_BYTES)),
+        Here(MeAppend(1, List::Priority, ONCE), Linked(1)),
+        Here(EqGet(FIRST), Got(LINKED)),
+        Here(EqGet(FIRST), Got(UNLINKED)),
+        Here(EqGet(FIRST), Got(THREE_TAKEN)),
+        Here(EqGet(FIRST), Got(TWO_TAKEN)),
+        Here(EqGet(FIRST), Got(FREED)),
+        Here(EqGet(FIRST), Got(LINKED)),
+        Here(EqGet(FIRST), Empty),
+    ];
+    play(&rt, &[FILLED, SCRIPT]);
+}
+
+#[test]
+fn a_full_queue_loses_the_newest_event(rt: HostRuntime) {
+    const SCRIPT: &[Step] = &[
+        Here(EqAlloc(1), Made(0)),
+        Here(PtAlloc(1, Some(FIRST)), Done),
+        Here(MeAppend(1, List::Priority, ENTRY), Linked(0)),
+        Here(
+            MeAppend(
+                1,
+                List::Priority,
+                Entry {
+                    match_bits: 6,
+                    ..ENTRY
+                },
+            ),
+            Linked(1),
+        ),
+        Here(EqGet(FIRST), Lost),
+        Here(EqGet(FIRST), Got(LINKED)),
+        Here(EqGet(FIRST), Empty),
+        Here(EqAlloc(1), Refused(NiFault::NoSpace)),
+        Here(MeSearch(1, ENTRY, false), Nothing),
+        Here(EqGet(FIRST), Got(MISSED)),
+        Here(EqGet(FIRST), Empty),
+    ];
+    play(&rt, &[SCRIPT]);
+}
+
+#[test]
+fn a_message_that_finds_no_room_for_its_header_is_dropped(rt: HostRuntime) {
+    const SCRIPT: &[Step] = &[
+        Here(MeAppend(0, List::Overflow, OVERFLOW), Linked(0)),
+        Comes(PUT, &[1], Outcome::Overflow),
+        Comes(PUT, &[2], Outcome::Overflow),
+        Comes(PUT, &[3], Outcome::Dropped),
+        Here(Drops, Number(1)),
+        Here(Violations, Number(0)),
+        HereHolds(&[1, 2, 0, 0, 0, 0, 0, 0, 0, 0, 0, 0, 0, 0, 0, 0]),
+    ];
+    play(&rt, &[SCRIPT]);
+}
+
+#[test]
+fn a_persistent_append_takes_all_headers_and_is_linked(rt: HostRuntime) {
+    const COUNTS: Entry = Entry {
+        start: 8,
+        ct: Some(FIRST),
+        count_overflow: true,
+        ..ENTRY
+    };
+    const SCRIPT: &[Step] = &[
+        Here(CtAlloc, Made(0)),
+        Here(MeAppend(0, List::Overflow, OVERFLOW), Linked(0)),
+        Comes(PUT, &[1], Outcome::Overflow),
+        Comes(PUT, &[2], Outcome::Overflow),
+        Here(MeUnlink(FIRST), Refused(NiFault::InUse)),
+        Here(MeAppend(0, List::Priority, COUNTS), Linked(1)),
+        Here(CtGet(FIRST), Counts(2, 0)),
+        Here(MeSearch(0, ENTRY, false), Nothing),
+        Here(MeUnlink(FIRST), Done),
+        Comes(PUT, &[3], Outcome::Matched),
+        HereHolds(&[1, 2, 0, 0, 0, 0, 0, 0, 3, 0, 0, 0, 0, 0, 0, 0]),
+        Here(CtGet(FIRST), Counts(2, 0)),
+    ];
+    play(&rt, &[SCRIPT]);
+}
+
+#[test]
+fn a_search_deletes_the_oldest_header_where_asked(rt: HostRuntime) {
+    const THREE_FOUND: Event = Event {
+        kind: EventKind::Search,
+        ..THREE_TAKEN
+    };
+    const TWO_FOUND: Event = Event {
+        kind: EventKind::Search,
+        ..TWO_TAKEN
+    };
+    const SCRIPT: &[Step] = &[
+        HereTells(FIRST, &[LINKED, UNLINKED]),
+        Here(MeSearch(1, ENTRY, false), Found(THREE_BYTES)),
+        Here(MeSearch(1, ENTRY, true), Found(THREE_BYTES)),
+        Here(PtFree(1), Refused(NiFault::InUse)),
+        Here(MeSearch(1, ENTRY, true), Found(TWO_BYTES)),
+        Here(MeSearch(1, ENTRY, true), Nothing),
+        Here(PtFree(1), Done),
+        HereTells(FIRST, &[THREE_FOUND, THREE_FOUND, TWO_FOUND, FREED, MISSED]),
+    ];
+    play(&rt, &[FILLED, SCRIPT]);
+}

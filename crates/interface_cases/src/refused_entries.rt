@@ -1,0 +1,89 @@
+//! Every refusal of the calls on match entries.
+
+use crate::busy::{AS_IT_BEGAN, BUSY, HELD};
+use crate::scene::play;
+use crate::steps::Answer::*;
+use crate::steps::Call::*;
+use crate::steps::Step::{self, *};
+use crate::values::{ENTRY, FIRST, NOTHING, ONCE, PUT, SECOND, THIRD};
+use ptl_types::{Entry, List, NiFault, Outcome, UnexpectedHeader};
+
+/// An entry that reaches past the end of the region.
+const PAST: Entry = Entry { start: 13, ..ENTRY };
+
+const STALE: Entry = Entry {
+    ct: Some(NOTHING),
+    ..PAST
+};
+
+#[test]
+fn entries(rt: HostRuntime) {
+    const SCRIPT: &[Step] = &[
+        Here(MeAppend(2, List::Priority, PAST), Refused(NiFault::Stale)),
+        Here(MeAppend(2, List::Overflow, PAST), Refused(NiFault::Stale)),
+        Here(MeAppend(0, List::Priority, STALE), Refused(NiFault::Stale)),
+        Here(MeAppend(0, List::Overflow, STALE), Refused(NiFault::Stale)),
+        Here(
+            MeAppend(0, List::Priority, PAST),
+            Refused(NiFault::OutOfRegion),
+        ),
+        Here(
+            MeAppend(0, List::Overflow, PAST),
+            Refused(NiFault::OutOfRegion),
+        ),
+        Here(MeUnlink(NOTHING), Refused(NiFault::Stale)),
+        Here(MeUnlink(FIRST), Refused(NiFault::InUse)),
+        Here(MeSearch(2, ENTRY, false), Refused(NiFault::Stale)),
+        Here(MeSearch(2, ENTRY, true), Refused(NiFault::Stale)),
+    ];
+    play(&rt, &[BUSY, SCRIPT, AS_IT_BEGAN]);
+}
+
+#[test]
+fn an_append_is_refused_where_a_header_would_be_found(rt: HostRuntime) {
+    const SCRIPT: &[Step] = &[
+        Here(MeAppend(1, List::Overflow, ENTRY), Linked(2)),
+        Here(MeAppend(1, List::Overflow, ENTRY), Linked(3)),
+        Here(MeAppend(0, List::Priority, ONCE), Refused(NiFault::NoSpace)),
+        Here(MeAppend(0, List::Overflow, PAST), Refused(NiFault::NoSpace)),
+        Here(MeAppend(0, List::Overflow, STALE), Refused(NiFault::Stale)),
+        Here(MeSearch(0, ENTRY, false), Found(HELD)),
+        Here(MeUnlink(THIRD), Done),
+        Here(
+            MeAppend(
+                0,
+                List::Priority,
+                Entry {
+                    match_bits: 6,
+                    ..ONCE
+                },
+            ),
+            Linked(4),
+        ),
+    ];
+    play(&rt, &[BUSY, SCRIPT]);
+}
+
+#[test]
+fn an_index_is_in_use_for_each_reason_alone(rt: HostRuntime) {
+    const SCRIPT: &[Step] = &[
+        Here(MeAppend(0, List::Priority, ENTRY), Linked(0)),
+        Here(PtFree(0), Refused(NiFault::InUse)),
+        Here(MeUnlink(FIRST), Done),
+        Here(MeAppend(0, List::Overflow, ENTRY), Linked(1)),
+        Here(PtFree(0), Refused(NiFault::InUse)),
+        Here(MeUnlink(SECOND), Done),
+        Here(MeAppend(0, List::Overflow, ONCE), Linked(2)),
+        Comes(PUT, &[1], Outcome::Overflow),
+        Here(PtFree(0), Refused(NiFault::InUse)),
+        Here(
+            MeSearch(0, ENTRY, true),
+            Found(UnexpectedHeader {
+                entry: THIRD,
+                ..HELD
+            }),
+        ),
+        Here(PtFree(0), Done),
+    ];
+    play(&rt, &[SCRIPT]);
+}

@@ -1,0 +1,184 @@
+//! Every refusal of the calls on indices, counting events, event queues and descriptors: each leaves what the interface
+//! tells as it was.
+
+use crate::busy::{AS_IT_BEGAN, BUSY};
+use crate::scene::play;
+use crate::steps::Answer::*;
+use crate::steps::Call::*;
+use crate::steps::Step::{self, *};
+use crate::values::{DESCRIPTOR, ENTRY, FIRST, NOTHING, ONE, PAST_THE_END, SECOND, THIRD};
+use ptl_types::{Count, Deed, Descriptor, Entry, List, NiFault};
+
+#[test]
+fn indices(rt: HostRuntime) {
+    const SCRIPT: &[Step] = &[
+        Here(PtAlloc(2, Some(NOTHING)), Refused(NiFault::Stale)),
+        Here(PtAlloc(2, None), Refused(NiFault::NoSpace)),
+        Here(PtAlloc(1, None), Refused(NiFault::InUse)),
+        Here(PtFree(2), Refused(NiFault::Stale)),
+        Here(PtFree(0), Refused(NiFault::InUse)),
+        Here(PtFree(1), Refused(NiFault::InUse)),
+    ];
+    play(&rt, &[BUSY, SCRIPT, AS_IT_BEGAN]);
+}
+
+#[test]
+fn counting_events(rt: HostRuntime) {
+    const SCRIPT: &[Step] = &[
+        Here(CtAlloc, Refused(NiFault::NoSpace)),
+        Here(CtFree(NOTHING), Refused(NiFault::Stale)),
+        Here(CtFree(FIRST), Refused(NiFault::InUse)),
+        Here(CtFree(SECOND), Refused(NiFault::InUse)),
+        Here(CtGet(NOTHING), Refused(NiFault::Stale)),
+        Here(CtSet(NOTHING, PAST_THE_END), Refused(NiFault::Stale)),
+        Here(CtSet(FIRST, PAST_THE_END), Refused(NiFault::CountFull)),
+        Here(CtInc(NOTHING, PAST_THE_END), Refused(NiFault::Stale)),
+        Here(CtInc(FIRST, PAST_THE_END), Refused(NiFault::CountFull)),
+        Here(CtCancel(NOTHING), Refused(NiFault::Stale)),
+    ];
+    play(&rt, &[BUSY, SCRIPT, AS_IT_BEGAN]);
+}
+
+#[test]
+fn event_queues(rt: HostRuntime) {
+    const SCRIPT: &[Step] = &[
+        Here(EqAlloc(1), Refused(NiFault::NoSpace)),
+        Here(EqFree(NOTHING), Refused(NiFault::Stale)),
+        Here(EqFree(FIRST), Refused(NiFault::InUse)),
+        Here(EqGet(NOTHING), Refused(NiFault::Stale)),
+    ];
+    play(&rt, &[BUSY, SCRIPT, AS_IT_BEGAN]);
+}
+
+/// A descriptor that reaches past the end of the region.
+const PAST: Descriptor = Descriptor {
+    start: u64::MAX,
+    ..DESCRIPTOR
+};
+
+#[test]
+fn descriptors(rt: HostRuntime) {
+    const SCRIPT: &[Step] = &[
+        Here(
+            MdBind(Descriptor {
+                eq: Some(NOTHING),
+                ..PAST
+            }),
+            Refused(NiFault::Stale),
+        ),
+        Here(
+            MdBind(Descriptor {
+                ct: Some(NOTHING),
+                ..PAST
+            }),
+            Refused(NiFault::Stale),
+        ),
+        Here(MdBind(PAST), Refused(NiFault::NoSpace)),
+        Here(MdRelease(NOTHING), Refused(NiFault::Stale)),
+        Here(MdRelease(FIRST), Refused(NiFault::InUse)),
+        Here(MdRelease(SECOND), Refused(NiFault::InUse)),
+        Here(Awaits(NOTHING), Refused(NiFault::Stale)),
+    ];
+    play(&rt, &[BUSY, SCRIPT, AS_IT_BEGAN]);
+}
+
+#[test]
+fn a_descriptor_lies_in_the_region(rt: HostRuntime) {
+    const SCRIPT: &[Step] = &[
+        Here(MdBind(PAST), Refused(NiFault::OutOfRegion)),
+        Here(
+            MdBind(Descriptor {
+                start: 1,
+                ..DESCRIPTOR
+            }),
+            Refused(NiFault::OutOfRegion),
+        ),
+        Here(MdBind(DESCRIPTOR), Made(0)),
+    ];
+    play(&rt, &[SCRIPT]);
+}
+
+#[test]
+fn a_counter_is_in_use_for_each_reason_alone(rt: HostRuntime) {
+    const COUNTS: Entry = Entry {
+        ct: Some(FIRST),
+        ..ENTRY
+    };
+    const ZERO: Count = Count {
+        success: 0,
+        failure: 0,
+    };
+    const SCRIPT: &[Step] = &[
+        Here(CtAlloc, Made(0)),
+        Here(CtAlloc, Made(1)),
+        Here(
+            MdBind(Descriptor {
+                ct: Some(FIRST),
+                ..DESCRIPTOR
+            }),
+            Made(0),
+        ),
+        Here(CtFree(FIRST), Refused(NiFault::InUse)),
+        Here(MdRelease(FIRST), Done),
+        Here(MeAppend(0, List::Priority, COUNTS), Linked(0)),
+        Here(CtFree(FIRST), Refused(NiFault::InUse)),
+        Here(MeUnlink(FIRST), Done),
+        Here(MeAppend(0, List::Overflow, COUNTS), Linked(1)),
+        Here(CtFree(FIRST), Refused(NiFault::InUse)),
+        Here(MeUnlink(SECOND), Done),
+        Here(Triggered(Deed::Set(SECOND, ZERO), FIRST, 1), Number(0)),
+        Here(CtFree(FIRST), Refused(NiFault::InUse)),
+        Here(CtFree(SECOND), Refused(NiFault::InUse)),
+        Here(CtCancel(SECOND), Number(0)),
+        Here(CtCancel(FIRST), Number(1)),
+        Here(Triggered(Deed::Inc(SECOND, ONE), FIRST, 1), Number(1)),
+        Here(CtFree(SECOND), Refused(NiFault::InUse)),
+        Here(CtCancel(FIRST), Number(1)),
+        Here(CtFree(SECOND), Done),
+        Here(CtFree(FIRST), Done),
+    ];
+    play(&rt, &[SCRIPT]);
+}
+
+#[test]
+fn a_queue_is_in_use_for_each_reason_alone(rt: HostRuntime) {
+    const SCRIPT: &[Step] = &[
+        Here(EqAlloc(1), Made(0)),
+        Here(PtAlloc(1, Some(FIRST)), Done),
+        Here(EqFree(FIRST), Refused(NiFault::InUse)),
+        Here(PtFree(1), Done),
+        Here(
+            MdBind(Descriptor {
+                eq: Some(FIRST),
+                ..DESCRIPTOR
+            }),
+            Made(0),
+        ),
+        Here(EqFree(FIRST), Refused(NiFault::InUse)),
+        Here(MdRelease(FIRST), Done),
+        Here(EqFree(FIRST), Done),
+    ];
+    play(&rt, &[SCRIPT]);
+}
+
+#[test]
+fn a_refused_call_uses_up_no_stamp(rt: HostRuntime) {
+    const SCRIPT: &[Step] = &[
+        Here(EqAlloc(1), Made(0)),
+        Here(CtAlloc, Made(0)),
+        Here(CtAlloc, Made(1)),
+        Here(MdBind(DESCRIPTOR), Made(0)),
+        Here(MdBind(DESCRIPTOR), Made(1)),
+        Here(EqAlloc(1), Refused(NiFault::NoSpace)),
+        Here(CtAlloc, Refused(NiFault::NoSpace)),
+        Here(MdBind(DESCRIPTOR), Refused(NiFault::NoSpace)),
+        Here(EqFree(FIRST), Done),
+        Here(CtFree(SECOND), Done),
+        Here(MdRelease(SECOND), Done),
+        Here(EqAlloc(1), Made(1)),
+        Here(CtAlloc, Made(2)),
+        Here(MdBind(DESCRIPTOR), Made(2)),
+        Here(CtGet(THIRD), Counts(0, 0)),
+    ];
+    play(&rt, &[SCRIPT]);
+}

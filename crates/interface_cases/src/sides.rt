@@ -1,0 +1,238 @@
+//! One interface behind calls without clauses. A call that has conditions is made behind a test of them.
+
+ghost use Rattle.std.specs.Prelude.{◌≡◌, ◌<◌};
+ghost use Rattle.ni_model.specs.Conditions.{MayGo, MayCombine, MayFetch, MayStart};
+
+use crate::values::LIMITS;
+use portals_ni::Nic;
+use ptl_types::{
+    AckRequest, Appended, Bytes, Count, Deed, Delivered, Descriptor, ElemType, Entry, EqGot,
+    GetArgs, Handle, Limits, List, Message, NiFault, PutArgs, Rank, UnexpectedHeader,
+};
+use std::alloc::Global;
+use std::process::Abort;
+
+/// An interface as the scripts see it: its calls, without what their contracts say of its state. So a script's proof shows
+/// that no condition is broken, and no more; what the calls answer is run.
+#[derive(Drop)]
+pub struct Side {
+    nic: Nic,
+}
+
+/// An interface of one of two ranks, over a region of these bytes.
+pub fn over<R: Abort + Alloc<A = Global>>(rt: &R, rank: Rank, bytes: &[u8]) -> Side
+    requires { rank < 2 }
+{
+    let region = Bytes::of(rt.alloc(), bytes).expect(rt, "a region");
+    let nic = Nic::open(rt.alloc(), rank, 2, LIMITS, region).expect(rt, "an interface");
+    Side { nic }
+}
+
+impl Side {
+    pub fn rank(&self) -> Rank {
+        self.nic.rank()
+    }
+
+    pub fn ranks(&self) -> u32 {
+        self.nic.ranks()
+    }
+
+    pub fn limits(&self) -> &Limits {
+        self.nic.limits()
+    }
+
+    pub fn memory(&self) -> &[u8] {
+        self.nic.memory()
+    }
+
+    pub fn drops(&self) -> u64 {
+        self.nic.drops()
+    }
+
+    pub fn violations(&self) -> u64 {
+        self.nic.violations()
+    }
+
+    pub fn pending(&self) -> u32 {
+        self.nic.pending()
+    }
+
+    pub fn pt_alloc(&mut self, index: u32, eq: Option<Handle>) -> Result<(), NiFault> {
+        self.nic.pt_alloc(index, eq)
+    }
+
+    pub fn pt_free(&mut self, index: u32) -> Result<(), NiFault> {
+        self.nic.pt_free(index)
+    }
+
+    pub fn ct_alloc(&mut self) -> Result<Handle, NiFault> {
+        self.nic.ct_alloc()
+    }
+
+    pub fn ct_free(&mut self, ct: Handle) -> Result<(), NiFault> {
+        self.nic.ct_free(ct)
+    }
+
+    pub fn ct_get(&self, ct: Handle) -> Result<Count, NiFault> {
+        self.nic.ct_get(ct)
+    }
+
+    pub fn ct_set(&mut self, ct: Handle, to: Count) -> Result<(), NiFault> {
+        self.nic.ct_set(ct, to)
+    }
+
+    pub fn ct_inc(&mut self, ct: Handle, by: Count) -> Result<(), NiFault> {
+        self.nic.ct_inc(ct, by)
+    }
+
+    pub fn ct_cancel(&mut self, ct: Handle) -> Result<u32, NiFault> {
+        self.nic.ct_cancel(ct)
+    }
+
+    pub fn eq_alloc(&mut self, rt: &impl Abort, room: u32) -> Result<Handle, NiFault> {
+        assert!(rt; room >= 1);
+        self.nic.eq_alloc(room)
+    }
+
+    pub fn eq_free(&mut self, eq: Handle) -> Result<(), NiFault> {
+        self.nic.eq_free(eq)
+    }
+
+    pub fn eq_get(&mut self, eq: Handle) -> Result<EqGot, NiFault> {
+        self.nic.eq_get(eq)
+    }
+
+    pub fn md_bind(&mut self, md: Descriptor) -> Result<Handle, NiFault> {
+        self.nic.md_bind(md)
+    }
+
+    pub fn md_release(&mut self, md: Handle) -> Result<(), NiFault> {
+        self.nic.md_release(md)
+    }
+
+    pub fn awaits(&self, md: Handle) -> Result<u64, NiFault> {
+        self.nic.awaits(md)
+    }
+
+    pub fn me_append(&mut self, pt: u32, list: List, entry: Entry) -> Result<Appended, NiFault> {
+        self.nic.me_append(pt, list, entry)
+    }
+
+    pub fn me_unlink(&mut self, me: Handle) -> Result<(), NiFault> {
+        self.nic.me_unlink(me)
+    }
+
+    pub fn me_search(
+        &mut self,
+        pt: u32,
+        entry: &Entry,
+        delete: bool,
+    ) -> Result<Option<UnexpectedHeader>, NiFault> {
+        self.nic.me_search(pt, entry, delete)
+    }
+
+    pub fn is_ready(&self, number: u32) -> bool {
+        self.nic.is_ready(number)
+    }
+
+    pub fn ready(&self) -> Option<u32> {
+        self.nic.ready()
+    }
+
+    /// Writes bytes into a part of the region.
+    pub fn write_memory(&mut self, rt: &impl Abort, start: u64, bytes: &[u8]) {
+        let size = self.nic.memory().len() as u64;
+        assert!(rt; start <= size && bytes.len() as u64 <= size - start);
+        self.nic.write_memory(start, bytes);
+    }
+
+    /// A message for this interface arrives.
+    pub fn deliver(&mut self, rt: &impl Abort, message: Message) -> Delivered {
+        assert!(rt; message.header().target == self.nic.rank());
+        self.nic.deliver(message)
+    }
+
+    /// Starts an operation by the call of its kind; a deed that counts starts none.
+    pub fn start(&mut self, rt: &impl Abort, deed: Deed) -> Result<Message, NiFault> {
+        assert!(rt; !matches!(deed, Deed::Inc(_, _) | Deed::Set(_, _)));
+        may_start(rt, &self.nic, &deed);
+        match deed {
+            Deed::Put(args) => self.nic.put(args),
+            Deed::Get(args) => self.nic.get(args),
+            Deed::Atomic(args, op, ty) => self.nic.atomic(args, op, ty),
+            Deed::FetchAtomic(back, args, op, ty) => self.nic.fetch_atomic(back, args, op, ty),
+            Deed::Swap(back, args, op, ty, operand) => self.nic.swap(back, args, op, ty, operand),
+            Deed::Inc(_, _) | Deed::Set(_, _) => Err(NiFault::Stale),
+        }
+    }
+
+    /// Posts a triggered operation.
+    pub fn triggered(
+        &mut self,
+        rt: &impl Abort,
+        deed: Deed,
+        ct: Handle,
+        threshold: u64,
+    ) -> Result<u32, NiFault> {
+        may_start(rt, &self.nic, &deed);
+        self.nic.triggered(deed, ct, threshold)
+    }
+
+    /// Fires a triggered operation that is ready.
+    pub fn fire(&mut self, rt: &impl Abort, number: u32) -> Option<Message> {
+        assert!(rt; self.nic.is_ready(number));
+        self.nic.fire(number)
+    }
+}
+
+fn may_go(rt: &impl Abort, nic: &Nic, target: Rank, length: u64)
+    ensures { MayGo target length nic.now.ranks nic.now.limits.msg }
+{
+    assert!(rt; target < nic.ranks());
+    assert!(rt; length <= nic.limits().msg);
+}
+
+fn may_combine(rt: &impl Abort, ty: ElemType, length: u64, most: u64)
+    ensures { MayCombine ty length most }
+{
+    let size = ty.size();
+    assert!(rt; size > 0);
+    assert!(rt; length % size == 0);
+    assert!(rt; length <= most);
+}
+
+fn may_fetch(rt: &impl Abort, back: &GetArgs, args: &PutArgs)
+    ensures { MayFetch back.now args.now }
+{
+    assert!(rt; back.length == args.length);
+    assert!(rt; back.target == args.target);
+    assert!(rt; back.pt == args.pt);
+    assert!(rt; back.match_bits == args.match_bits);
+    assert!(rt; back.remote_offset == args.remote_offset);
+    assert!(rt; matches!(args.ack, AckRequest::NoAck));
+}
+
+/// Tests the conditions of an operation.
+fn may_start(rt: &impl Abort, nic: &Nic, deed: &Deed)
+    ensures { MayStart deed.now nic.now.ranks nic.now.limits }
+{
+    match deed {
+        Deed::Put(args) => may_go(rt, nic, args.target, args.length),
+        Deed::Get(args) => may_go(rt, nic, args.target, args.length),
+        Deed::Atomic(args, _, ty) => {
+            may_go(rt, nic, args.target, args.length);
+            may_combine(rt, *ty, args.length, nic.limits().atomic);
+        }
+        Deed::FetchAtomic(back, args, _, ty) => {
+            may_go(rt, nic, args.target, args.length);
+            may_combine(rt, *ty, args.length, nic.limits().fetch_atomic);
+            may_fetch(rt, back, args);
+        }
+        Deed::Swap(back, args, _, ty, _) => {
+            may_go(rt, nic, args.target, args.length);
+            assert!(rt; args.length == ty.size());
+            may_fetch(rt, back, args);
+        }
+        Deed::Inc(_, _) | Deed::Set(_, _) => {}
+    }
+}

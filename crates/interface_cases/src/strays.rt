@@ -1,0 +1,52 @@
+//! A reply that doesn't fit its descriptor, and refusals of which two hold at once.
+
+use crate::scene::play;
+use crate::steps::Answer::*;
+use crate::steps::Call::*;
+use crate::steps::Step::{self, *};
+use crate::values::{DESCRIPTOR, FIRST, GET, NOTHING, ONE};
+use ptl_types::{Deed, GetArgs, NiFault, Outcome};
+
+#[test]
+fn a_reply_past_the_end_of_its_descriptor_is_dropped(rt: HostRuntime) {
+    const ASKS: GetArgs = GetArgs {
+        length: 2,
+        target: 1,
+        ..GET
+    };
+    const SCRIPT: &[Step] = &[
+        Here(MdBind(DESCRIPTOR), Made(0)),
+        Here(Start(Deed::Get(ASKS)), Sent),
+        Here(ForgeReply(FIRST, 15), Sent),
+        Here(Deliver, Became(Outcome::Dropped)),
+        Here(Drops, Number(1)),
+        Here(Awaits(FIRST), Number(1)),
+        HereHolds(&[0, 0, 0, 0, 0, 0, 0, 0, 0, 0, 0, 0, 0, 0, 0, 0]),
+        Here(ForgeReply(FIRST, 14), Sent),
+        Here(Deliver, Became(Outcome::Answered)),
+        HereHolds(&[0, 0, 0, 0, 0, 0, 0, 0, 0, 0, 0, 0, 0, 0, 7, 8]),
+    ];
+    play(&rt, &[SCRIPT]);
+}
+
+#[test]
+fn a_stale_handle_is_told_before_all_else(rt: HostRuntime) {
+    const RAISE: Deed = Deed::Inc(FIRST, ONE);
+    const SCRIPT: &[Step] = &[
+        Here(CtAlloc, Made(0)),
+        Here(Triggered(RAISE, FIRST, 9), Number(0)),
+        Here(Triggered(RAISE, FIRST, 9), Number(1)),
+        Here(Triggered(RAISE, FIRST, 9), Number(2)),
+        Here(Triggered(RAISE, FIRST, 9), Number(3)),
+        Here(Triggered(RAISE, FIRST, 9), Refused(NiFault::NoSpace)),
+        Here(Triggered(RAISE, NOTHING, 9), Refused(NiFault::Stale)),
+        Here(
+            Triggered(Deed::Inc(NOTHING, ONE), FIRST, 9),
+            Refused(NiFault::Stale),
+        ),
+        Here(Pending, Number(4)),
+        Here(PtAlloc(0, Some(NOTHING)), Refused(NiFault::Stale)),
+        Here(PtAlloc(0, None), Refused(NiFault::InUse)),
+    ];
+    play(&rt, &[SCRIPT]);
+}

@@ -1,0 +1,104 @@
+//! A triggered operation becomes ready by whatever raises its counting event: an arrival, a start, an answer, an append
+//! that takes a header, or the firing of another (Portals 4.3, triggered operations).
+
+use crate::scene::play;
+use crate::steps::Answer::*;
+use crate::steps::Call::*;
+use crate::steps::Step::{self, *};
+use crate::values::{DESCRIPTOR, ENTRY, FIRST, HEADER, ONCE, ONE, PUT};
+use ptl_types::{
+    AckRequest, Deed, Descriptor, Entry, Header, List, Outcome, PutArgs, UnexpectedHeader,
+};
+
+/// Rank 0 has a triggered operation that waits for the first count of a counting event, on which it counts itself.
+const WAITING: &[Step] = &[
+    Here(CtAlloc, Made(0)),
+    Here(Triggered(Deed::Inc(FIRST, ONE), FIRST, 1), Number(0)),
+    Here(Ready, Nothing),
+];
+
+/// The operation is ready, and fires.
+const WOKEN: &[Step] = &[
+    Here(Ready, Number(0)),
+    Here(Fire(0), Nothing),
+    Here(CtGet(FIRST), Counts(2, 0)),
+];
+
+#[test]
+fn by_an_arrival(rt: HostRuntime) {
+    const COUNTS: Entry = Entry {
+        ct: Some(FIRST),
+        count_comm: true,
+        ..ENTRY
+    };
+    const SCRIPT: &[Step] = &[
+        Here(MeAppend(0, List::Priority, COUNTS), Linked(0)),
+        Here(Ready, Nothing),
+        Comes(PUT, &[1], Outcome::Matched),
+    ];
+    play(&rt, &[WAITING, SCRIPT, WOKEN]);
+}
+
+#[test]
+fn by_an_append_that_takes_a_header(rt: HostRuntime) {
+    const COUNTS: Entry = Entry {
+        ct: Some(FIRST),
+        count_overflow: true,
+        ..ONCE
+    };
+    const HEADER_TAKEN: UnexpectedHeader = UnexpectedHeader {
+        entry: FIRST,
+        place: 0,
+        delivered: 1,
+        header: Header {
+            length: 1,
+            ..HEADER
+        },
+    };
+    const SCRIPT: &[Step] = &[
+        Here(MeAppend(0, List::Overflow, ENTRY), Linked(0)),
+        Comes(PUT, &[1], Outcome::Overflow),
+        Here(Ready, Nothing),
+        Here(MeAppend(0, List::Priority, COUNTS), Consumed(HEADER_TAKEN)),
+    ];
+    play(&rt, &[WAITING, SCRIPT, WOKEN]);
+}
+
+#[test]
+fn by_a_start(rt: HostRuntime) {
+    const COUNTS: Descriptor = Descriptor {
+        ct: Some(FIRST),
+        count_send: true,
+        ..DESCRIPTOR
+    };
+    const SCRIPT: &[Step] = &[
+        Here(MdBind(COUNTS), Made(0)),
+        Here(Ready, Nothing),
+        Here(Start(Deed::Put(PUT)), Sent),
+    ];
+    play(&rt, &[WAITING, SCRIPT, WOKEN]);
+}
+
+#[test]
+fn by_an_answer(rt: HostRuntime) {
+    const COUNTS: Descriptor = Descriptor {
+        ct: Some(FIRST),
+        count_ack: true,
+        ..DESCRIPTOR
+    };
+    const ASKS: PutArgs = PutArgs {
+        ack: AckRequest::CtAck,
+        target: 1,
+        ..PUT
+    };
+    const SCRIPT: &[Step] = &[
+        Here(MdBind(COUNTS), Made(0)),
+        Here(Start(Deed::Put(ASKS)), Sent),
+        There(Deliver, Replies(Outcome::Dropped)),
+        Here(Ready, Nothing),
+        Here(Deliver, Became(Outcome::Answered)),
+        Here(CtGet(FIRST), Counts(0, 1)),
+        Here(Ready, Number(0)),
+    ];
+    play(&rt, &[WAITING, SCRIPT]);
+}
