@@ -69,12 +69,13 @@ pub const HELD: UnexpectedHeader = UnexpectedHeader {
     },
 };
 
-/// The events of the start and of a put to index 1.
-const START_TOLD: Event = Event {
+/// The event of the start.
+pub const START_TOLD: Event = Event {
     kind: EventKind::Send,
     ..EVENT
 };
 
+/// The event of a put of one byte to index 1.
 const PUT_TOLD: Event = Event {
     kind: EventKind::Put,
     source: 1,
@@ -84,7 +85,7 @@ const PUT_TOLD: Event = Event {
 };
 
 /// Nothing was told, and nothing more is there than what was made: index 0 has one header; both entries are linked, each at
-/// its index, and no other is; the next entry has number 2; two operations wait on the first counting event.
+/// its index, and no other is; two operations wait on the first counting event, and one of them is ready.
 pub const AS_IT_BEGAN: &[Step] = &[
     HereTells(FIRST, &[LINKED, START_TOLD]),
     Here(MeSearch(0, ENTRY, true), Found(HELD)),
@@ -95,10 +96,8 @@ pub const AS_IT_BEGAN: &[Step] = &[
     HereTells(FIRST, &[PUT_TOLD]),
     Here(CtGet(SECOND), Counts(1, 0)),
     HereHolds(&[7, 0, 0, 0, 0, 0, 0, 0, 0, 0, 0, 0, 0, 0, 0, 0]),
-    Here(MeAppend(0, List::Overflow, ENTRY), Linked(2)),
     Here(MeUnlink(FIRST), Done),
     Here(MeUnlink(SECOND), Done),
-    Here(MeUnlink(THIRD), Done),
     Here(PtFree(0), Done),
     Here(PtFree(1), Done),
     Here(Fire(1), Sent),

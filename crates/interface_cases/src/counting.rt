@@ -4,8 +4,8 @@ use crate::scene::play;
 use crate::steps::Answer::*;
 use crate::steps::Call::*;
 use crate::steps::Step::{self, *};
-use crate::values::{DESCRIPTOR, FIRST, HEADER, ONE, PUT, SECOND};
-use ptl_types::{Count, Deed, Descriptor, Header, NiFault, PutArgs};
+use crate::values::{DESCRIPTOR, ENTRY, FIRST, HEADER, ONE, PUT, SECOND};
+use ptl_types::{Count, Deed, Descriptor, Entry, Header, List, NiFault, Outcome, PutArgs};
 
 #[test]
 fn an_increment_waits_for_its_threshold(rt: HostRuntime) {
@@ -107,6 +107,34 @@ fn tables_fill_and_handles_go(rt: HostRuntime) {
         Here(CtGet(SECOND), Refused(NiFault::Stale)),
         Here(MdRelease(FIRST), Done),
         Here(Start(Deed::Put(INSIDE)), Refused(NiFault::Stale)),
+    ];
+    play(&rt, &[SCRIPT]);
+}
+
+#[test]
+fn a_delivery_counts_no_further_than_the_end(rt: HostRuntime) {
+    const COUNTS: Entry = Entry {
+        ct: Some(FIRST),
+        count_comm: true,
+        ..ENTRY
+    };
+    const SCRIPT: &[Step] = &[
+        Here(CtAlloc, Made(0)),
+        Here(
+            CtSet(
+                FIRST,
+                Count {
+                    success: u64::MAX - 2,
+                    failure: 1,
+                },
+            ),
+            Done,
+        ),
+        Here(MeAppend(0, List::Priority, COUNTS), Linked(0)),
+        Comes(PUT, &[1], Outcome::Matched),
+        Here(CtGet(FIRST), Counts(u64::MAX - 1, 1)),
+        Comes(PUT, &[2], Outcome::Matched),
+        Here(CtGet(FIRST), Counts(u64::MAX - 1, 1)),
     ];
     play(&rt, &[SCRIPT]);
 }

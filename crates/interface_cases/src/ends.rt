@@ -21,7 +21,7 @@ pub struct End {
 }
 
 /// All that calls tell of an interface which don't change it.
-#[derive(Clone, Copy, Debug, PartialEq)]
+#[derive(Clone, Copy, PartialEq)]
 pub struct Seen {
     limits: Limits,
     memory: [u8; 16],

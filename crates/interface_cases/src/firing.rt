@@ -6,8 +6,8 @@ use crate::steps::Call::*;
 use crate::steps::Step::{self, *};
 use crate::values::{DESCRIPTOR, EVENT, FIRST, GET, HEADER, PUT, SECOND};
 use ptl_types::{
-    AtomicOp, Count, Deed, Descriptor, ElemType, Event, EventKind, GetArgs, Header, MessageKind,
-    PutArgs, SwapOp,
+    AckRequest, AtomicOp, Count, Deed, Descriptor, ElemType, Event, EventKind, GetArgs, Header,
+    MessageKind, NiFault, Outcome, PutArgs, SwapOp,
 };
 
 #[test]
@@ -187,6 +187,30 @@ fn a_set_replaces_and_an_increment_stops_at_the_end(rt: HostRuntime) {
         Here(Ready, Number(1)),
         Here(Fire(1), Nothing),
         Here(CtGet(SECOND), Counts(u64::MAX, 0)),
+    ];
+    play(&rt, &[SCRIPT]);
+}
+
+#[test]
+fn a_triggered_put_awaits_its_acknowledgement_from_its_firing(rt: HostRuntime) {
+    const ASKS: PutArgs = PutArgs {
+        ack: AckRequest::CtAck,
+        target: 1,
+        ..PUT
+    };
+    const SCRIPT: &[Step] = &[
+        Here(CtAlloc, Made(0)),
+        Here(MdBind(DESCRIPTOR), Made(0)),
+        Here(Triggered(Deed::Put(ASKS), FIRST, 0), Number(0)),
+        Here(Awaits(FIRST), Number(0)),
+        Here(MdRelease(FIRST), Refused(NiFault::InUse)),
+        Here(Fire(0), Sent),
+        Here(Awaits(FIRST), Number(1)),
+        Here(MdRelease(FIRST), Refused(NiFault::InUse)),
+        There(Deliver, Replies(Outcome::Dropped)),
+        Here(Deliver, Became(Outcome::Answered)),
+        Here(Awaits(FIRST), Number(0)),
+        Here(MdRelease(FIRST), Done),
     ];
     play(&rt, &[SCRIPT]);
 }

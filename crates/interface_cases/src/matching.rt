@@ -80,23 +80,32 @@ fn a_put_that_may_not_be_cut_is_dropped(rt: HostRuntime) {
 
 #[test]
 fn the_first_match_that_forbids_a_put_ends_the_search(rt: HostRuntime) {
+    const FORBIDS: Entry = Entry {
+        allow_put: false,
+        ..ENTRY
+    };
     const SCRIPT: &[Step] = &[
-        Here(
-            MeAppend(
-                0,
-                List::Priority,
-                Entry {
-                    allow_put: false,
-                    ..ONCE
-                },
-            ),
-            Linked(0),
-        ),
+        Here(MeAppend(0, List::Priority, FORBIDS), Linked(0)),
         Here(MeAppend(0, List::Priority, ENTRY), Linked(1)),
         Comes(PUT, &[1], Outcome::Violation),
         Here(Violations, Number(1)),
         Here(Drops, Number(0)),
         HereHolds(&[0, 0, 0, 0, 0, 0, 0, 0, 0, 0, 0, 0, 0, 0, 0, 0]),
+    ];
+    play(&rt, &[SCRIPT]);
+}
+
+#[test]
+fn a_violation_unlinks_nothing(rt: HostRuntime) {
+    const FORBIDS: Entry = Entry {
+        allow_put: false,
+        ..ONCE
+    };
+    const SCRIPT: &[Step] = &[
+        Here(MeAppend(0, List::Priority, FORBIDS), Linked(0)),
+        Here(MeAppend(0, List::Priority, ENTRY), Linked(1)),
+        Comes(PUT, &[1], Outcome::Violation),
+        Comes(PUT, &[1], Outcome::Violation),
         Here(MeUnlink(FIRST), Done),
         Comes(PUT, &[1], Outcome::Matched),
     ];

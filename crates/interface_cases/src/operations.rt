@@ -97,6 +97,25 @@ fn a_get_brings_home_what_an_atomic_left(rt: HostRuntime) {
     play(&rt, &[SCRIPT]);
 }
 
+#[test]
+fn an_atomic_is_cut_to_whole_elements(rt: HostRuntime) {
+    const FOUR: PutArgs = PutArgs { length: 4, ..PUT };
+    const SCRIPT: &[Step] = &[
+        Here(
+            MeAppend(0, List::Priority, Entry { length: 3, ..ENTRY }),
+            Linked(0),
+        ),
+        There(WriteMemory(0, &[1, 2, 3, 4]), Done),
+        There(
+            Start(Deed::Atomic(FOUR, AtomicOp::Sum, ElemType::U16)),
+            Sent,
+        ),
+        Here(Deliver, Became(Outcome::Matched)),
+        HereHolds(&[1, 2, 0, 0, 0, 0, 0, 0, 0, 0, 0, 0, 0, 0, 0, 0]),
+    ];
+    play(&rt, &[SCRIPT]);
+}
+
 /// Rank 0 has a queue at index 1, and an entry there that begins at byte 2 and counts its messages.
 const TELLING: &[Step] = &[
     Here(EqAlloc(8), Made(0)),

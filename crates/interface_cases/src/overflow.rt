@@ -4,9 +4,9 @@ use crate::scene::play;
 use crate::steps::Answer::*;
 use crate::steps::Call::*;
 use crate::steps::Step::{self, *};
-use crate::values::{ENTRY, FIRST, FREED, HEADER, LINKED, ONCE, PUT, UNLINKED};
+use crate::values::{ENTRY, FIRST, FREED, GET, HEADER, LINKED, ONCE, PUT, UNLINKED};
 use ptl_types::{
-    Entry, Event, EventKind, Header, List, NiFault, Outcome, PutArgs, UnexpectedHeader,
+    Deed, Entry, Event, EventKind, Header, List, NiFault, Outcome, PutArgs, UnexpectedHeader,
 };
 
 /// An overflow entry over eight bytes that is filled from its start.
@@ -192,4 +192,72 @@ fn a_search_deletes_the_oldest_header_where_asked(rt: HostRuntime) {
         HereTells(FIRST, &[THREE_FOUND, THREE_FOUND, TWO_FOUND, FREED, MISSED]),
     ];
     play(&rt, &[FILLED, SCRIPT]);
+}
+
+#[test]
+fn a_get_does_not_look_at_the_overflow_list(rt: HostRuntime) {
+    const SCRIPT: &[Step] = &[
+        Here(MeAppend(0, List::Overflow, ENTRY), Linked(0)),
+        There(Start(Deed::Get(GET)), Sent),
+        Here(Deliver, Replies(Outcome::Dropped)),
+        Here(Drops, Number(1)),
+    ];
+    play(&rt, &[SCRIPT]);
+}
+
+#[test]
+fn an_overflow_entry_that_forbids_a_put_leaves_no_header(rt: HostRuntime) {
+    const FORBIDS: Entry = Entry {
+        match_bits: 6,
+        allow_put: false,
+        ..ENTRY
+    };
+    const TO_SIX: PutArgs = PutArgs {
+        match_bits: 6,
+        ..PUT
+    };
+    const SIX: Entry = Entry {
+        match_bits: 6,
+        ..ENTRY
+    };
+    const SCRIPT: &[Step] = &[
+        Here(MeAppend(0, List::Overflow, FORBIDS), Linked(0)),
+        Here(MeAppend(0, List::Overflow, ENTRY), Linked(1)),
+        Comes(TO_SIX, &[1], Outcome::Violation),
+        // The same where there is no room for a header, which is judged after it.
+        Comes(PUT, &[2], Outcome::Overflow),
+        Comes(PUT, &[3], Outcome::Overflow),
+        Comes(TO_SIX, &[4], Outcome::Violation),
+        Comes(PUT, &[5], Outcome::Dropped),
+        Here(Violations, Number(2)),
+        Here(Drops, Number(1)),
+        Here(MeSearch(0, SIX, false), Nothing),
+        HereHolds(&[3, 0, 0, 0, 0, 0, 0, 0, 0, 0, 0, 0, 0, 0, 0, 0]),
+    ];
+    play(&rt, &[SCRIPT]);
+}
+
+#[test]
+fn an_append_finds_no_header_whose_operation_it_forbids(rt: HostRuntime) {
+    const GETS: Entry = Entry {
+        allow_put: false,
+        ..ONCE
+    };
+    const BYTE: UnexpectedHeader = UnexpectedHeader {
+        entry: FIRST,
+        place: 0,
+        delivered: 1,
+        header: Header {
+            length: 1,
+            ..HEADER
+        },
+    };
+    const SCRIPT: &[Step] = &[
+        Here(MeAppend(0, List::Overflow, ENTRY), Linked(0)),
+        Comes(PUT, &[1], Outcome::Overflow),
+        Here(MeSearch(0, GETS, true), Nothing),
+        Here(MeAppend(0, List::Priority, GETS), Linked(1)),
+        Here(MeAppend(0, List::Priority, ONCE), Consumed(BYTE)),
+    ];
+    play(&rt, &[SCRIPT]);
 }

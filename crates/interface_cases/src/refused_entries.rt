@@ -5,7 +5,7 @@ use crate::scene::play;
 use crate::steps::Answer::*;
 use crate::steps::Call::*;
 use crate::steps::Step::{self, *};
-use crate::values::{ENTRY, FIRST, NOTHING, ONCE, PUT, SECOND, THIRD};
+use crate::values::{ENTRY, FIFTH, FIRST, FOURTH, NOTHING, ONCE, PUT, SECOND, THIRD};
 use ptl_types::{Entry, List, NiFault, Outcome, UnexpectedHeader};
 
 /// An entry that reaches past the end of the region.
@@ -17,7 +17,7 @@ const STALE: Entry = Entry {
 };
 
 #[test]
-fn entries(rt: HostRuntime) {
+fn a_refused_call_on_an_entry_changes_nothing(rt: HostRuntime) {
     const SCRIPT: &[Step] = &[
         Here(MeAppend(2, List::Priority, PAST), Refused(NiFault::Stale)),
         Here(MeAppend(2, List::Overflow, PAST), Refused(NiFault::Stale)),
@@ -35,20 +35,23 @@ fn entries(rt: HostRuntime) {
         Here(MeUnlink(FIRST), Refused(NiFault::InUse)),
         Here(MeSearch(2, ENTRY, false), Refused(NiFault::Stale)),
         Here(MeSearch(2, ENTRY, true), Refused(NiFault::Stale)),
+        // The next entry has the next number.
+        Here(MeAppend(0, List::Overflow, ENTRY), Linked(2)),
+        Here(MeUnlink(THIRD), Done),
     ];
     play(&rt, &[BUSY, SCRIPT, AS_IT_BEGAN]);
 }
 
 #[test]
-fn an_append_is_refused_where_a_header_would_be_found(rt: HostRuntime) {
+fn an_append_is_refused_also_where_a_header_would_be_found(rt: HostRuntime) {
     const SCRIPT: &[Step] = &[
-        Here(MeAppend(1, List::Overflow, ENTRY), Linked(2)),
-        Here(MeAppend(1, List::Overflow, ENTRY), Linked(3)),
+        Here(MeAppend(0, List::Overflow, ENTRY), Linked(2)),
+        Here(MeAppend(0, List::Overflow, ENTRY), Linked(3)),
         Here(MeAppend(0, List::Priority, ONCE), Refused(NiFault::NoSpace)),
         Here(MeAppend(0, List::Overflow, PAST), Refused(NiFault::NoSpace)),
         Here(MeAppend(0, List::Overflow, STALE), Refused(NiFault::Stale)),
-        Here(MeSearch(0, ENTRY, false), Found(HELD)),
         Here(MeUnlink(THIRD), Done),
+        Here(MeUnlink(FOURTH), Done),
         Here(
             MeAppend(
                 0,
@@ -60,8 +63,9 @@ fn an_append_is_refused_where_a_header_would_be_found(rt: HostRuntime) {
             ),
             Linked(4),
         ),
+        Here(MeUnlink(FIFTH), Done),
     ];
-    play(&rt, &[BUSY, SCRIPT]);
+    play(&rt, &[BUSY, SCRIPT, AS_IT_BEGAN]);
 }
 
 #[test]

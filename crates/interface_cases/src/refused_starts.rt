@@ -51,7 +51,7 @@ const FAR_BACK: GetArgs = GetArgs {
 };
 
 #[test]
-fn puts_gets_and_atomics(rt: HostRuntime) {
+fn a_refused_put_get_or_atomic_changes_nothing(rt: HostRuntime) {
     const SCRIPT: &[Step] = &[
         Here(Start(Deed::Put(STALE)), Refused(NiFault::Stale)),
         Here(Start(Deed::Put(BEHIND)), Refused(NiFault::OutOfRegion)),
@@ -76,7 +76,7 @@ fn puts_gets_and_atomics(rt: HostRuntime) {
 }
 
 #[test]
-fn fetch_atomics(rt: HostRuntime) {
+fn a_refused_fetch_atomic_changes_nothing(rt: HostRuntime) {
     const SCRIPT: &[Step] = &[
         Here(
             Start(Deed::FetchAtomic(BEHIND_BACK, STALE, AtomicOp::Sum, ElemType::U8)),
@@ -107,7 +107,7 @@ fn fetch_atomics(rt: HostRuntime) {
 }
 
 #[test]
-fn swaps(rt: HostRuntime) {
+fn a_refused_swap_changes_nothing(rt: HostRuntime) {
     const SCRIPT: &[Step] = &[
         Here(
             Start(Deed::Swap(BEHIND_BACK, STALE, SwapOp::Swap, ElemType::U8, 0)),

@@ -1,16 +1,16 @@
 //! Every refusal of the calls on indices, counting events, event queues and descriptors: each leaves what the interface
 //! tells as it was.
 
-use crate::busy::{AS_IT_BEGAN, BUSY};
+use crate::busy::{AS_IT_BEGAN, BUSY, HELD, START_TOLD};
 use crate::scene::play;
 use crate::steps::Answer::*;
 use crate::steps::Call::*;
 use crate::steps::Step::{self, *};
-use crate::values::{DESCRIPTOR, ENTRY, FIRST, NOTHING, ONE, PAST_THE_END, SECOND, THIRD};
+use crate::values::{DESCRIPTOR, ENTRY, FIRST, LINKED, NOTHING, ONE, PAST_THE_END, SECOND, THIRD};
 use ptl_types::{Count, Deed, Descriptor, Entry, List, NiFault};
 
 #[test]
-fn indices(rt: HostRuntime) {
+fn a_refused_call_on_an_index_changes_nothing(rt: HostRuntime) {
     const SCRIPT: &[Step] = &[
         Here(PtAlloc(2, Some(NOTHING)), Refused(NiFault::Stale)),
         Here(PtAlloc(2, None), Refused(NiFault::NoSpace)),
@@ -23,7 +23,7 @@ fn indices(rt: HostRuntime) {
 }
 
 #[test]
-fn counting_events(rt: HostRuntime) {
+fn a_refused_call_on_a_counter_changes_nothing(rt: HostRuntime) {
     const SCRIPT: &[Step] = &[
         Here(CtAlloc, Refused(NiFault::NoSpace)),
         Here(CtFree(NOTHING), Refused(NiFault::Stale)),
@@ -40,7 +40,7 @@ fn counting_events(rt: HostRuntime) {
 }
 
 #[test]
-fn event_queues(rt: HostRuntime) {
+fn a_refused_call_on_a_queue_changes_nothing(rt: HostRuntime) {
     const SCRIPT: &[Step] = &[
         Here(EqAlloc(1), Refused(NiFault::NoSpace)),
         Here(EqFree(NOTHING), Refused(NiFault::Stale)),
@@ -57,7 +57,7 @@ const PAST: Descriptor = Descriptor {
 };
 
 #[test]
-fn descriptors(rt: HostRuntime) {
+fn a_refused_call_on_a_descriptor_changes_nothing(rt: HostRuntime) {
     const SCRIPT: &[Step] = &[
         Here(
             MdBind(Descriptor {
@@ -84,7 +84,15 @@ fn descriptors(rt: HostRuntime) {
 
 #[test]
 fn a_descriptor_lies_in_the_region(rt: HostRuntime) {
+    // The second descriptor goes and comes again, so that there is room for one in between.
+    const AGAIN: Descriptor = Descriptor {
+        start: 8,
+        length: 8,
+        ..DESCRIPTOR
+    };
     const SCRIPT: &[Step] = &[
+        Here(CtCancel(FIRST), Number(2)),
+        Here(MdRelease(SECOND), Done),
         Here(MdBind(PAST), Refused(NiFault::OutOfRegion)),
         Here(
             MdBind(Descriptor {
@@ -93,9 +101,13 @@ fn a_descriptor_lies_in_the_region(rt: HostRuntime) {
             }),
             Refused(NiFault::OutOfRegion),
         ),
-        Here(MdBind(DESCRIPTOR), Made(0)),
+        Here(MdBind(AGAIN), Made(2)),
+        Here(MdRelease(THIRD), Done),
+        HereTells(FIRST, &[LINKED, START_TOLD]),
+        Here(MeSearch(0, ENTRY, true), Found(HELD)),
+        Here(MeSearch(0, ENTRY, true), Nothing),
     ];
-    play(&rt, &[SCRIPT]);
+    play(&rt, &[BUSY, SCRIPT]);
 }
 
 #[test]

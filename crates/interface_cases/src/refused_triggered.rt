@@ -16,7 +16,7 @@ const U8: ElemType = ElemType::U8;
 const SWAP: SwapOp = SwapOp::Swap;
 
 #[test]
-fn increments_and_sets(rt: HostRuntime) {
+fn a_refused_increment_or_set_changes_nothing(rt: HostRuntime) {
     const SCRIPT: &[Step] = &[
         Here(
             Triggered(Deed::Inc(SECOND, PAST_THE_END), NOTHING, 0),
@@ -47,7 +47,7 @@ fn increments_and_sets(rt: HostRuntime) {
 }
 
 #[test]
-fn operations(rt: HostRuntime) {
+fn a_refused_triggered_start_changes_nothing(rt: HostRuntime) {
     const STALE_ONE: Answer = Refused(NiFault::Stale);
     const SCRIPT: &[Step] = &[
         Here(Triggered(Deed::Put(BYTE), NOTHING, 0), STALE_ONE),
@@ -76,7 +76,7 @@ fn operations(rt: HostRuntime) {
 }
 
 #[test]
-fn fetching_operations(rt: HostRuntime) {
+fn a_refused_triggered_fetch_changes_nothing(rt: HostRuntime) {
     const OUT: Answer = Refused(NiFault::OutOfRegion);
     const STALE_ONE: Answer = Refused(NiFault::Stale);
     const SCRIPT: &[Step] = &[

@@ -21,12 +21,17 @@ struct Scene {
     wire: Option<Message>,
 }
 
-/// Plays scripts one after another, between two interfaces of 16 zero bytes.
+/// Plays scripts one after another, between two interfaces of 16 zero bytes. A failure names the script and the step, each
+/// counted from 0.
 pub fn play<R: Abort + Alloc<A = Global>>(rt: &R, scripts: &[&[Step]]) {
     let mut scene = Scene::open(rt, &[0; 16], &[0; 16]);
-    scene.play(rt, SETTING);
-    for script in scripts {
-        scene.play(rt, script);
+    for step in SETTING {
+        scene.step(rt, (0, 0), *step);
+    }
+    for (number, script) in scripts.iter().enumerate() {
+        for (place, step) in script.iter().enumerate() {
+            scene.step(rt, (number, place), *step);
+        }
     }
 }
 
@@ -38,12 +43,15 @@ pub fn play_between<R: Abort + Alloc<A = Global>>(
     script: &[Step],
 ) {
     let mut scene = Scene::open(rt, here, there);
-    scene.play(rt, script);
+    for (place, step) in script.iter().enumerate() {
+        scene.step(rt, (0, place), *step);
+    }
 }
 
 /// Makes a call and compares its answer. Where it is refused, all that the interface tells is as it was.
 fn check<R: Abort + Alloc<A = Global>>(
     rt: &R,
+    at: (usize, usize),
     end: &mut End,
     wire: &mut Option<Message>,
     call: Call,
@@ -51,10 +59,20 @@ fn check<R: Abort + Alloc<A = Global>>(
 ) {
     let before = end.seen();
     let answer = end.ask(rt, wire, call);
-    assert_eq!(rt; answer, end.real(want), "{call:?}");
+    assert_eq!(rt; answer, end.real(want), "script {}, step {}", at.0, at.1);
     if matches!(answer, Answer::Refused(_)) {
-        assert_eq!(rt; end.seen(), before, "{call:?}");
+        let stays = end.seen() == before;
+        assert!(rt;
+            stays,
+            "a refused call changed something: script {}, step {}",
+            at.0, at.1
+        );
     }
+}
+
+/// The region has these bytes.
+fn holds(rt: &impl Abort, at: (usize, usize), end: &End, bytes: &[u8]) {
+    assert_eq!(rt; end.memory(), bytes, "script {}, step {}", at.0, at.1);
 }
 
 impl Scene {
@@ -66,39 +84,54 @@ impl Scene {
         }
     }
 
-    fn play<R: Abort + Alloc<A = Global>>(&mut self, rt: &R, script: &[Step]) {
-        for step in script {
-            self.step(rt, *step);
-        }
-    }
-
-    fn step<R: Abort + Alloc<A = Global>>(&mut self, rt: &R, step: Step) {
+    fn step<R: Abort + Alloc<A = Global>>(&mut self, rt: &R, at: (usize, usize), step: Step) {
         match step {
-            Step::Here(call, want) => check(rt, &mut self.here, &mut self.wire, call, want),
-            Step::There(call, want) => check(rt, &mut self.there, &mut self.wire, call, want),
-            Step::HereHolds(bytes) => {
-                assert_eq!(rt; self.here.memory(), bytes);
-            }
-            Step::ThereHolds(bytes) => {
-                assert_eq!(rt; self.there.memory(), bytes);
-            }
-            Step::HereTells(eq, events) => self.tells(rt, eq, events),
-            Step::Comes(args, bytes, outcome) => self.comes(rt, args, bytes, outcome),
+            Step::Here(call, want) => self.here(rt, at, call, want),
+            Step::There(call, want) => self.there(rt, at, call, want),
+            Step::HereHolds(bytes) => holds(rt, at, &self.here, bytes),
+            Step::ThereHolds(bytes) => holds(rt, at, &self.there, bytes),
+            Step::HereTells(eq, events) => self.tells(rt, at, eq, events),
+            Step::Comes(args, bytes, outcome) => self.comes(rt, at, args, bytes, outcome),
         }
     }
 
-    fn tells<R: Abort + Alloc<A = Global>>(&mut self, rt: &R, eq: Handle, events: &[Event]) {
+    fn here<R: Abort + Alloc<A = Global>>(
+        &mut self,
+        rt: &R,
+        at: (usize, usize),
+        call: Call,
+        want: Answer,
+    ) {
+        check(rt, at, &mut self.here, &mut self.wire, call, want);
+    }
+
+    fn there<R: Abort + Alloc<A = Global>>(
+        &mut self,
+        rt: &R,
+        at: (usize, usize),
+        call: Call,
+        want: Answer,
+    ) {
+        check(rt, at, &mut self.there, &mut self.wire, call, want);
+    }
+
+    fn tells<R: Abort + Alloc<A = Global>>(
+        &mut self,
+        rt: &R,
+        at: (usize, usize),
+        eq: Handle,
+        events: &[Event],
+    ) {
         for event in events {
-            let want = Answer::Got(*event);
-            check(rt, &mut self.here, &mut self.wire, Call::EqGet(eq), want);
+            self.here(rt, at, Call::EqGet(eq), Answer::Got(*event));
         }
-        let call = Call::EqGet(eq);
-        check(rt, &mut self.here, &mut self.wire, call, Answer::Empty);
+        self.here(rt, at, Call::EqGet(eq), Answer::Empty);
     }
 
     fn comes<R: Abort + Alloc<A = Global>>(
         &mut self,
         rt: &R,
+        at: (usize, usize),
         args: PutArgs,
         bytes: &'static [u8],
         outcome: Outcome,
@@ -108,11 +141,8 @@ impl Scene {
             length: bytes.len() as u64,
             ..args
         });
-        let write = Call::WriteMemory(0, bytes);
-        check(rt, &mut self.there, &mut self.wire, write, Answer::Done);
-        let start = Call::Start(put);
-        check(rt, &mut self.there, &mut self.wire, start, Answer::Sent);
-        let want = Answer::Became(outcome);
-        check(rt, &mut self.here, &mut self.wire, Call::Deliver, want);
+        self.there(rt, at, Call::WriteMemory(0, bytes), Answer::Done);
+        self.there(rt, at, Call::Start(put), Answer::Sent);
+        self.here(rt, at, Call::Deliver, Answer::Became(outcome));
     }
 }

@@ -9,7 +9,7 @@ use ptl_types::{
 };
 
 /// One step of a script. Rank 0 is here, and rank 1 is there. At most one message is under way between them.
-#[derive(Clone, Copy, Debug)]
+#[derive(Clone, Copy)]
 pub enum Step {
     /// A call of the interface of rank 0, and its answer.
     Here(Call, Answer),
@@ -27,7 +27,7 @@ pub enum Step {
 }
 
 /// A call of an interface.
-#[derive(Clone, Copy, Debug)]
+#[derive(Clone, Copy)]
 pub enum Call {
     Rank,
     Ranks,

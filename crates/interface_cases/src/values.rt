@@ -28,6 +28,12 @@ pub const SECOND: Handle = Handle { slot: 0, stamp: 1 };
 /// The third.
 pub const THIRD: Handle = Handle { slot: 0, stamp: 2 };
 
+/// The fourth.
+pub const FOURTH: Handle = Handle { slot: 0, stamp: 3 };
+
+/// The fifth.
+pub const FIFTH: Handle = Handle { slot: 0, stamp: 4 };
+
 /// A handle that no table of the scripts gives.
 pub const NOTHING: Handle = Handle {
     slot: 7,
