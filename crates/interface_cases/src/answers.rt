@@ -5,9 +5,9 @@ use crate::steps::Answer::*;
 use crate::steps::Call::*;
 use crate::steps::Step::{self, *};
 use crate::values::{DESCRIPTOR, ENTRY, EVENT, FIRST, HEADER, NOTHING, PUT};
+use ptl_types::NiFault::InUse;
 use ptl_types::{
-    AckRequest, Deed, Descriptor, Event, EventKind, Header, List, MessageKind, NiFault, Outcome,
-    PutArgs,
+    AckRequest, Deed, Descriptor, Event, EventKind, Header, List, MessageKind, Outcome, PutArgs,
 };
 
 /// Rank 0 has a descriptor with a queue that counts acknowledgements, and rank 1 an entry at index 0.
@@ -60,7 +60,7 @@ fn an_acknowledgement_is_counted_and_told(rt: HostRuntime) {
     };
     const SCRIPT: &[Step] = &[
         Here(Start(Deed::Put(ASKS)), Sent),
-        Here(MdRelease(FIRST), Refused(NiFault::InUse)),
+        Here(MdRelease(FIRST), Refused(InUse)),
         There(Deliver, Replies(Outcome::Matched)),
         Here(Carries(ACK, &[]), Yes),
         Here(Deliver, Became(Outcome::Answered)),
@@ -95,14 +95,12 @@ fn an_acknowledgement_of_what_was_dropped_counts_a_failure(rt: HostRuntime) {
 
 #[test]
 fn a_counted_acknowledgement_raises_no_event(rt: HostRuntime) {
+    const COUNTED: PutArgs = PutArgs {
+        ack: AckRequest::CtAck,
+        ..ASKS
+    };
     const SCRIPT: &[Step] = &[
-        Here(
-            Start(Deed::Put(PutArgs {
-                ack: AckRequest::CtAck,
-                ..ASKS
-            })),
-            Sent,
-        ),
+        Here(Start(Deed::Put(COUNTED)), Sent),
         There(Deliver, Replies(Outcome::Matched)),
         Here(Deliver, Became(Outcome::Answered)),
         Here(CtGet(FIRST), Counts(1, 0)),

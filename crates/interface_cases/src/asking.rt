@@ -194,8 +194,14 @@ impl End {
             Call::PtFree(pt) => done(self.side.pt_free(pt)),
             Call::CtAlloc => made(&mut self.cts, self.side.ct_alloc()),
             Call::CtFree(ct) => done(self.side.ct_free(named(&self.cts, ct))),
-            Call::CtSet(ct, to) => done(self.side.ct_set(named(&self.cts, ct), to)),
-            Call::CtInc(ct, by) => done(self.side.ct_inc(named(&self.cts, ct), by)),
+            Call::CtSet(ct, success, failure) => {
+                let to = Count { success, failure };
+                done(self.side.ct_set(named(&self.cts, ct), to))
+            }
+            Call::CtInc(ct, success, failure) => {
+                let by = Count { success, failure };
+                done(self.side.ct_inc(named(&self.cts, ct), by))
+            }
             Call::CtCancel(ct) => number(self.side.ct_cancel(named(&self.cts, ct))),
             Call::EqAlloc(room) => made(&mut self.eqs, self.side.eq_alloc(rt, room)),
             Call::EqFree(eq) => done(self.side.eq_free(named(&self.eqs, eq))),

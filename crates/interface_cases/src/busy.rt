@@ -18,33 +18,29 @@ pub const BUSY: &[Step] = &[
     Here(PtAlloc(1, Some(FIRST)), Done),
     Here(CtAlloc, Made(0)),
     Here(CtAlloc, Made(1)),
-    Here(
-        MdBind(Descriptor {
-            length: 8,
-            eq: Some(FIRST),
-            ct: Some(FIRST),
-            ..DESCRIPTOR
-        }),
-        Made(0),
-    ),
-    Here(
-        MdBind(Descriptor {
-            start: 8,
-            length: 8,
-            ..DESCRIPTOR
-        }),
-        Made(1),
-    ),
+    Here(MdBind(FIRST_HALF), Made(0)),
+    Here(MdBind(SECOND_HALF), Made(1)),
     Here(MeAppend(0, List::Overflow, ENTRY), Linked(0)),
     Here(MeAppend(1, List::Priority, COUNTS), Linked(1)),
     Comes(PUT, &[9], Outcome::Overflow),
     Here(Start(Deed::Put(ASKS)), Sent),
     Here(Triggered(Deed::Inc(SECOND, ONE), FIRST, 5), Number(0)),
-    Here(
-        Triggered(Deed::Put(PutArgs { md: SECOND, ..PUT }), FIRST, 0),
-        Number(1),
-    ),
+    Here(Triggered(Deed::Put(NAMES), FIRST, 0), Number(1)),
 ];
+
+const FIRST_HALF: Descriptor = Descriptor {
+    length: 8,
+    eq: Some(FIRST),
+    ct: Some(FIRST),
+    ..DESCRIPTOR
+};
+
+/// The second descriptor.
+pub const SECOND_HALF: Descriptor = Descriptor {
+    start: 8,
+    length: 8,
+    ..DESCRIPTOR
+};
 
 const COUNTS: Entry = Entry {
     ct: Some(SECOND),
@@ -57,6 +53,8 @@ const ASKS: PutArgs = PutArgs {
     target: 1,
     ..PUT
 };
+
+const NAMES: PutArgs = PutArgs { md: SECOND, ..PUT };
 
 /// The header that the overflow entry of index 0 has.
 pub const HELD: UnexpectedHeader = UnexpectedHeader {

@@ -5,7 +5,8 @@ use crate::steps::Answer::*;
 use crate::steps::Call::*;
 use crate::steps::Step::{self, *};
 use crate::values::{DESCRIPTOR, ENTRY, FIRST, LIMITS};
-use ptl_types::{Count, List, NiFault};
+use ptl_types::List;
+use ptl_types::NiFault::Stale;
 
 #[test]
 fn a_new_interface_has_nothing(rt: HostRuntime) {
@@ -31,16 +32,7 @@ fn what_is_made_goes(rt: HostRuntime) {
         Here(CtAlloc, Made(0)),
         Here(MdBind(DESCRIPTOR), Made(0)),
         Here(MeAppend(0, List::Overflow, ENTRY), Linked(0)),
-        Here(
-            CtInc(
-                FIRST,
-                Count {
-                    success: 1,
-                    failure: 2,
-                },
-            ),
-            Done,
-        ),
+        Here(CtInc(FIRST, 1, 2), Done),
         Here(CtGet(FIRST), Counts(1, 2)),
         Here(EqGet(FIRST), Empty),
         Here(Awaits(FIRST), Number(0)),
@@ -66,9 +58,9 @@ fn a_handle_never_comes_back(rt: HostRuntime) {
         Here(CtAlloc, Made(1)),
         Here(MdBind(DESCRIPTOR), Made(1)),
         Here(MeAppend(0, List::Overflow, ENTRY), Linked(1)),
-        Here(CtGet(FIRST), Refused(NiFault::Stale)),
-        Here(Awaits(FIRST), Refused(NiFault::Stale)),
-        Here(MeUnlink(FIRST), Refused(NiFault::Stale)),
+        Here(CtGet(FIRST), Refused(Stale)),
+        Here(Awaits(FIRST), Refused(Stale)),
+        Here(MeUnlink(FIRST), Refused(Stale)),
     ];
     play(&rt, &[SCRIPT]);
 }

@@ -5,7 +5,8 @@ use crate::steps::Answer::*;
 use crate::steps::Call::*;
 use crate::steps::Step::{self, *};
 use crate::values::{DESCRIPTOR, ENTRY, FIRST, HEADER, ONE, PUT, SECOND};
-use ptl_types::{Count, Deed, Descriptor, Entry, Header, List, NiFault, Outcome, PutArgs};
+use ptl_types::NiFault::{CountFull, InUse, NoSpace, OutOfRegion, Stale};
+use ptl_types::{Count, Deed, Descriptor, Entry, Header, List, Outcome, PutArgs};
 
 #[test]
 fn an_increment_waits_for_its_threshold(rt: HostRuntime) {
@@ -13,19 +14,10 @@ fn an_increment_waits_for_its_threshold(rt: HostRuntime) {
     const SCRIPT: &[Step] = &[
         Here(CtAlloc, Made(0)),
         Here(CtAlloc, Made(1)),
-        Here(
-            CtSet(
-                FIRST,
-                Count {
-                    success: 2,
-                    failure: 0,
-                },
-            ),
-            Done,
-        ),
+        Here(CtSet(FIRST, 2, 0), Done),
         Here(Triggered(RAISE, FIRST, 3), Number(0)),
         Here(Ready, Nothing),
-        Here(CtInc(FIRST, ONE), Done),
+        Here(CtInc(FIRST, 1, 0), Done),
         Here(Ready, Number(0)),
         Here(Fire(0), Nothing),
         Here(CtGet(SECOND), Counts(1, 0)),
@@ -35,7 +27,7 @@ fn an_increment_waits_for_its_threshold(rt: HostRuntime) {
         Here(IsReady(1), Yes),
         Here(IsReady(2), No),
         Here(Pending, Number(2)),
-        Here(CtFree(FIRST), Refused(NiFault::InUse)),
+        Here(CtFree(FIRST), Refused(InUse)),
         Here(CtCancel(FIRST), Number(2)),
         Here(Pending, Number(0)),
         Here(CtFree(FIRST), Done),
@@ -55,58 +47,33 @@ fn tables_fill_and_handles_go(rt: HostRuntime) {
         length: 2,
         ..PUT
     };
+    const OUTSIDE: PutArgs = PutArgs {
+        local_offset: 5,
+        ..INSIDE
+    };
+    const TWO: Header = Header {
+        source: 0,
+        length: 2,
+        ..HEADER
+    };
     const SCRIPT: &[Step] = &[
         Here(CtAlloc, Made(0)),
         Here(CtAlloc, Made(1)),
-        Here(CtAlloc, Refused(NiFault::NoSpace)),
-        Here(PtAlloc(2, None), Refused(NiFault::NoSpace)),
-        Here(PtAlloc(0, None), Refused(NiFault::InUse)),
-        Here(MdBind(PAST), Refused(NiFault::OutOfRegion)),
+        Here(CtAlloc, Refused(NoSpace)),
+        Here(PtAlloc(2, None), Refused(NoSpace)),
+        Here(PtAlloc(0, None), Refused(InUse)),
+        Here(MdBind(PAST), Refused(OutOfRegion)),
         Here(MdBind(Descriptor { length: 6, ..PAST }), Made(0)),
-        Here(
-            Start(Deed::Put(PutArgs {
-                local_offset: 5,
-                ..INSIDE
-            })),
-            Refused(NiFault::OutOfRegion),
-        ),
+        Here(Start(Deed::Put(OUTSIDE)), Refused(OutOfRegion)),
         Here(Start(Deed::Put(INSIDE)), Sent),
-        Here(
-            Carries(
-                Header {
-                    source: 0,
-                    length: 2,
-                    ..HEADER
-                },
-                &[0, 0],
-            ),
-            Yes,
-        ),
-        Here(
-            CtSet(
-                FIRST,
-                Count {
-                    success: u64::MAX,
-                    failure: 0,
-                },
-            ),
-            Done,
-        ),
-        Here(
-            CtInc(
-                FIRST,
-                Count {
-                    success: 0,
-                    failure: 1,
-                },
-            ),
-            Refused(NiFault::CountFull),
-        ),
+        Here(Carries(TWO, &[0, 0]), Yes),
+        Here(CtSet(FIRST, u64::MAX, 0), Done),
+        Here(CtInc(FIRST, 0, 1), Refused(CountFull)),
         Here(CtGet(FIRST), Counts(u64::MAX, 0)),
         Here(CtFree(SECOND), Done),
-        Here(CtGet(SECOND), Refused(NiFault::Stale)),
+        Here(CtGet(SECOND), Refused(Stale)),
         Here(MdRelease(FIRST), Done),
-        Here(Start(Deed::Put(INSIDE)), Refused(NiFault::Stale)),
+        Here(Start(Deed::Put(INSIDE)), Refused(Stale)),
     ];
     play(&rt, &[SCRIPT]);
 }
@@ -120,16 +87,7 @@ fn a_delivery_counts_no_further_than_the_end(rt: HostRuntime) {
     };
     const SCRIPT: &[Step] = &[
         Here(CtAlloc, Made(0)),
-        Here(
-            CtSet(
-                FIRST,
-                Count {
-                    success: u64::MAX - 2,
-                    failure: 1,
-                },
-            ),
-            Done,
-        ),
+        Here(CtSet(FIRST, u64::MAX - 2, 1), Done),
         Here(MeAppend(0, List::Priority, COUNTS), Linked(0)),
         Comes(PUT, &[1], Outcome::Matched),
         Here(CtGet(FIRST), Counts(u64::MAX - 1, 1)),

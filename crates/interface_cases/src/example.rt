@@ -7,47 +7,50 @@ use crate::steps::Step::{self, *};
 use crate::values::FIRST;
 use ptl_types::{AckRequest, Deed, Descriptor, Entry, List, Outcome, PutArgs};
 
+/// An entry over the whole region, for match bits 5 from any rank.
+const ENTRY: Entry = Entry {
+    start: 0,
+    length: 4,
+    ct: None,
+    match_id: None,
+    match_bits: 5,
+    ignore_bits: 0,
+    min_free: 0,
+    allow_put: true,
+    allow_get: false,
+    use_once: false,
+    manage_local: false,
+    no_truncate: false,
+    count_comm: false,
+    count_overflow: false,
+};
+
+/// A descriptor over the whole region, which counts acknowledgements.
+const ACKNOWLEDGED: Descriptor = Descriptor {
+    start: 0,
+    length: 4,
+    eq: None,
+    ct: Some(FIRST),
+    count_send: false,
+    count_reply: false,
+    count_ack: true,
+};
+
+/// The last two bytes, to the start of the entry.
+const PUT: PutArgs = PutArgs {
+    md: FIRST,
+    local_offset: 2,
+    length: 2,
+    ack: AckRequest::CtAck,
+    target: 1,
+    pt: 0,
+    match_bits: 5,
+    remote_offset: 0,
+    hdr_data: 0,
+};
+
 #[test]
 fn a_put_with_its_acknowledgement(rt: HostRuntime) {
-    /// An entry over the whole region, for match bits 5 from any rank.
-    const ENTRY: Entry = Entry {
-        start: 0,
-        length: 4,
-        ct: None,
-        match_id: None,
-        match_bits: 5,
-        ignore_bits: 0,
-        min_free: 0,
-        allow_put: true,
-        allow_get: false,
-        use_once: false,
-        manage_local: false,
-        no_truncate: false,
-        count_comm: false,
-        count_overflow: false,
-    };
-    /// A descriptor over the whole region, which counts acknowledgements.
-    const ACKNOWLEDGED: Descriptor = Descriptor {
-        start: 0,
-        length: 4,
-        eq: None,
-        ct: Some(FIRST),
-        count_send: false,
-        count_reply: false,
-        count_ack: true,
-    };
-    /// The last two bytes, to the start of the entry.
-    const PUT: PutArgs = PutArgs {
-        md: FIRST,
-        local_offset: 2,
-        length: 2,
-        ack: AckRequest::CtAck,
-        target: 1,
-        pt: 0,
-        match_bits: 5,
-        remote_offset: 0,
-        hdr_data: 0,
-    };
     const SCRIPT: &[Step] = &[
         // Rank 1 is the target, and waits at portal table index 0.
         There(PtAlloc(0, None), Done),

@@ -5,156 +5,118 @@ use crate::steps::Answer::*;
 use crate::steps::Call::*;
 use crate::steps::Step::{self, *};
 use crate::values::{DESCRIPTOR, EVENT, FIRST, GET, HEADER, PUT, SECOND};
+use ptl_types::NiFault::InUse;
 use ptl_types::{
     AckRequest, AtomicOp, Count, Deed, Descriptor, ElemType, Event, EventKind, GetArgs, Header,
-    MessageKind, NiFault, Outcome, PutArgs, SwapOp,
+    MessageKind, Outcome, PutArgs, SwapOp,
+};
+
+/// A put of the first two bytes, and its message's header.
+const TWO: PutArgs = PutArgs { length: 2, ..PUT };
+
+const TWO_BYTES: Header = Header {
+    source: 0,
+    length: 2,
+    ..HEADER
+};
+
+/// A descriptor that tells and counts its starts.
+const COUNTS: Descriptor = Descriptor {
+    eq: Some(FIRST),
+    ct: Some(SECOND),
+    count_send: true,
+    ..DESCRIPTOR
+};
+
+const START_TOLD: Event = Event {
+    kind: EventKind::Send,
+    requested: 2,
+    ..EVENT
 };
 
 #[test]
 fn a_put_reads_its_bytes_when_it_fires(rt: HostRuntime) {
-    const COUNTS: Descriptor = Descriptor {
-        eq: Some(FIRST),
-        ct: Some(SECOND),
-        count_send: true,
-        ..DESCRIPTOR
-    };
-    const SENT: Event = Event {
-        kind: EventKind::Send,
-        requested: 2,
-        ..EVENT
-    };
     const SCRIPT: &[Step] = &[
         Here(EqAlloc(1), Made(0)),
         Here(CtAlloc, Made(0)),
         Here(CtAlloc, Made(1)),
         Here(MdBind(COUNTS), Made(0)),
         Here(WriteMemory(0, &[1, 2]), Done),
-        Here(
-            Triggered(Deed::Put(PutArgs { length: 2, ..PUT }), FIRST, 1),
-            Number(0),
-        ),
+        Here(Triggered(Deed::Put(TWO), FIRST, 1), Number(0)),
         Here(CtGet(SECOND), Counts(0, 0)),
         Here(WriteMemory(0, &[3, 4]), Done),
-        Here(
-            CtInc(
-                FIRST,
-                Count {
-                    success: 0,
-                    failure: 1,
-                },
-            ),
-            Done,
-        ),
+        Here(CtInc(FIRST, 0, 1), Done),
         Here(Fire(0), Sent),
-        Here(
-            Carries(
-                Header {
-                    source: 0,
-                    length: 2,
-                    ..HEADER
-                },
-                &[3, 4],
-            ),
-            Yes,
-        ),
+        Here(Carries(TWO_BYTES, &[3, 4]), Yes),
         Here(CtGet(SECOND), Counts(1, 0)),
-        HereTells(FIRST, &[SENT]),
+        HereTells(FIRST, &[START_TOLD]),
         Here(IsReady(0), No),
     ];
     play(&rt, &[SCRIPT]);
 }
 
+/// The other starts, of one byte from rank 0 to itself that comes back to byte 8, and the headers of their messages.
+const BYTE: PutArgs = PutArgs { length: 1, ..PUT };
+
+const BACK: GetArgs = GetArgs {
+    local_offset: 8,
+    length: 1,
+    ..GET
+};
+
+const SUM: Deed = Deed::Atomic(BYTE, AtomicOp::Sum, ElemType::U8);
+
+const FETCH: Deed = Deed::FetchAtomic(BACK, BYTE, AtomicOp::Sum, ElemType::U8);
+
+const SWAP: Deed = Deed::Swap(BACK, BYTE, SwapOp::Swap, ElemType::U8, 0);
+
+const SUM_HEADER: Header = Header {
+    kind: MessageKind::Atomic,
+    source: 0,
+    length: 1,
+    op: Some(AtomicOp::Sum),
+    ..HEADER
+};
+
+const GET_HEADER: Header = Header {
+    kind: MessageKind::Get,
+    source: 0,
+    length: 1,
+    home: Some(FIRST),
+    home_offset: 8,
+    ..HEADER
+};
+
+const FETCH_HEADER: Header = Header {
+    kind: MessageKind::FetchAtomic,
+    op: Some(AtomicOp::Sum),
+    ..GET_HEADER
+};
+
+const SWAP_HEADER: Header = Header {
+    kind: MessageKind::Swap,
+    swap: Some(SwapOp::Swap),
+    ..GET_HEADER
+};
+
 #[test]
 fn the_other_starts_fire_too(rt: HostRuntime) {
-    const BYTE: PutArgs = PutArgs { length: 1, ..PUT };
-    const BACK: GetArgs = GetArgs {
-        local_offset: 8,
-        length: 1,
-        ..GET
-    };
-    /// The header of each: from rank 0 to itself, of one byte.
-    const PLAIN: Header = Header {
-        source: 0,
-        length: 1,
-        ..HEADER
-    };
-    const ASKS: Header = Header {
-        home: Some(FIRST),
-        home_offset: 8,
-        ..PLAIN
-    };
     const SCRIPT: &[Step] = &[
         Here(CtAlloc, Made(0)),
         Here(MdBind(DESCRIPTOR), Made(0)),
         Here(WriteMemory(0, &[6]), Done),
         Here(Triggered(Deed::Get(BACK), FIRST, 0), Number(0)),
         Here(Fire(0), Sent),
-        Here(
-            Carries(
-                Header {
-                    kind: MessageKind::Get,
-                    ..ASKS
-                },
-                &[],
-            ),
-            Yes,
-        ),
-        Here(
-            Triggered(Deed::Atomic(BYTE, AtomicOp::Sum, ElemType::U8), FIRST, 0),
-            Number(1),
-        ),
+        Here(Carries(GET_HEADER, &[]), Yes),
+        Here(Triggered(SUM, FIRST, 0), Number(1)),
         Here(Fire(1), Sent),
-        Here(
-            Carries(
-                Header {
-                    kind: MessageKind::Atomic,
-                    op: Some(AtomicOp::Sum),
-                    ..PLAIN
-                },
-                &[6],
-            ),
-            Yes,
-        ),
-        Here(
-            Triggered(
-                Deed::FetchAtomic(BACK, BYTE, AtomicOp::Sum, ElemType::U8),
-                FIRST,
-                0,
-            ),
-            Number(2),
-        ),
+        Here(Carries(SUM_HEADER, &[6]), Yes),
+        Here(Triggered(FETCH, FIRST, 0), Number(2)),
         Here(Fire(2), Sent),
-        Here(
-            Carries(
-                Header {
-                    kind: MessageKind::FetchAtomic,
-                    op: Some(AtomicOp::Sum),
-                    ..ASKS
-                },
-                &[6],
-            ),
-            Yes,
-        ),
-        Here(
-            Triggered(
-                Deed::Swap(BACK, BYTE, SwapOp::Swap, ElemType::U8, 0),
-                FIRST,
-                0,
-            ),
-            Number(3),
-        ),
+        Here(Carries(FETCH_HEADER, &[6]), Yes),
+        Here(Triggered(SWAP, FIRST, 0), Number(3)),
         Here(Fire(3), Sent),
-        Here(
-            Carries(
-                Header {
-                    kind: MessageKind::Swap,
-                    swap: Some(SwapOp::Swap),
-                    ..ASKS
-                },
-                &[6],
-            ),
-            Yes,
-        ),
+        Here(Carries(SWAP_HEADER, &[6]), Yes),
         Here(Pending, Number(0)),
     ];
     play(&rt, &[SCRIPT]);
@@ -170,17 +132,13 @@ fn a_set_replaces_and_an_increment_stops_at_the_end(rt: HostRuntime) {
         success: 3,
         failure: 3,
     };
+    const SET: Deed = Deed::Set(SECOND, LAST_BUT_ONE);
+    const RAISE: Deed = Deed::Inc(SECOND, THREE_AND_THREE);
     const SCRIPT: &[Step] = &[
         Here(CtAlloc, Made(0)),
         Here(CtAlloc, Made(1)),
-        Here(
-            Triggered(Deed::Set(SECOND, LAST_BUT_ONE), FIRST, 0),
-            Number(0),
-        ),
-        Here(
-            Triggered(Deed::Inc(SECOND, THREE_AND_THREE), SECOND, u64::MAX - 1),
-            Number(1),
-        ),
+        Here(Triggered(SET, FIRST, 0), Number(0)),
+        Here(Triggered(RAISE, SECOND, u64::MAX - 1), Number(1)),
         Here(Ready, Number(0)),
         Here(Fire(0), Nothing),
         Here(CtGet(SECOND), Counts(u64::MAX - 1, 0)),
@@ -203,10 +161,10 @@ fn a_triggered_put_awaits_its_acknowledgement_from_its_firing(rt: HostRuntime) {
         Here(MdBind(DESCRIPTOR), Made(0)),
         Here(Triggered(Deed::Put(ASKS), FIRST, 0), Number(0)),
         Here(Awaits(FIRST), Number(0)),
-        Here(MdRelease(FIRST), Refused(NiFault::InUse)),
+        Here(MdRelease(FIRST), Refused(InUse)),
         Here(Fire(0), Sent),
         Here(Awaits(FIRST), Number(1)),
-        Here(MdRelease(FIRST), Refused(NiFault::InUse)),
+        Here(MdRelease(FIRST), Refused(InUse)),
         There(Deliver, Replies(Outcome::Dropped)),
         Here(Deliver, Became(Outcome::Answered)),
         Here(Awaits(FIRST), Number(0)),

@@ -18,6 +18,8 @@ mod calls;
 #[cfg(test)]
 mod counting;
 #[cfg(test)]
+mod deeds;
+#[cfg(test)]
 mod ends;
 #[cfg(test)]
 mod example;

@@ -6,9 +6,8 @@ use crate::steps::Answer::*;
 use crate::steps::Call::*;
 use crate::steps::Step::{self, *};
 use crate::values::{ENTRY, FIRST, FREED, LINKED, ONCE, ONE, PUT, SECOND, UNLINKED};
-use ptl_types::{
-    AtomicOp, Deed, ElemType, Entry, Event, EventKind, List, NiFault, Outcome, PutArgs,
-};
+use ptl_types::NiFault::InUse;
+use ptl_types::{AtomicOp, Deed, ElemType, Entry, Event, EventKind, List, Outcome, PutArgs};
 
 /// Rank 0 has a queue at index 1.
 const TELLING: &[Step] = &[
@@ -39,24 +38,17 @@ fn a_locally_managed_entry_fills_and_is_unlinked(rt: HostRuntime) {
         remote_offset: 3,
         ..TO_ONE
     };
+    const BEHIND_TOLD: Event = Event {
+        place: 2,
+        ..PUT_TOLD
+    };
     const SCRIPT: &[Step] = &[
         Here(MeAppend(1, List::Priority, MANAGED), Linked(0)),
         Comes(ELSEWHERE, &[1, 2], Outcome::Matched),
         Comes(ELSEWHERE, &[3, 4], Outcome::Matched),
         Comes(ELSEWHERE, &[5, 6], Outcome::Dropped),
         HereHolds(&[1, 2, 3, 4, 0, 0, 0, 0, 0, 0, 0, 0, 0, 0, 0, 0]),
-        HereTells(
-            FIRST,
-            &[
-                LINKED,
-                PUT_TOLD,
-                Event {
-                    place: 2,
-                    ..PUT_TOLD
-                },
-                UNLINKED,
-            ],
-        ),
+        HereTells(FIRST, &[LINKED, PUT_TOLD, BEHIND_TOLD, UNLINKED]),
     ];
     play(&rt, &[TELLING, SCRIPT]);
 }
@@ -99,32 +91,24 @@ fn ignored_bits_are_not_compared(rt: HostRuntime) {
         ignore_bits: 0xf0,
         ..ENTRY
     };
+    /// Match bits that differ from these in an ignored bit alone, in a low bit, and in a high one.
+    const IGNORED: PutArgs = PutArgs {
+        match_bits: 0x25,
+        ..PUT
+    };
+    const LOW: PutArgs = PutArgs {
+        match_bits: 0x26,
+        ..PUT
+    };
+    const HIGH: PutArgs = PutArgs {
+        match_bits: 0x125,
+        ..PUT
+    };
     const SCRIPT: &[Step] = &[
         Here(MeAppend(0, List::Priority, WIDE), Linked(0)),
-        Comes(
-            PutArgs {
-                match_bits: 0x25,
-                ..PUT
-            },
-            &[1],
-            Outcome::Matched,
-        ),
-        Comes(
-            PutArgs {
-                match_bits: 0x26,
-                ..PUT
-            },
-            &[1],
-            Outcome::Dropped,
-        ),
-        Comes(
-            PutArgs {
-                match_bits: 0x125,
-                ..PUT
-            },
-            &[1],
-            Outcome::Dropped,
-        ),
+        Comes(IGNORED, &[1], Outcome::Matched),
+        Comes(LOW, &[1], Outcome::Dropped),
+        Comes(HIGH, &[1], Outcome::Dropped),
     ];
     play(&rt, &[SCRIPT]);
 }
@@ -135,7 +119,7 @@ fn a_counter_that_an_increment_alone_counts_on_is_in_use(rt: HostRuntime) {
         Here(CtAlloc, Made(0)),
         Here(CtAlloc, Made(1)),
         Here(Triggered(Deed::Inc(SECOND, ONE), FIRST, 1), Number(0)),
-        Here(CtFree(SECOND), Refused(NiFault::InUse)),
+        Here(CtFree(SECOND), Refused(InUse)),
         Here(CtCancel(FIRST), Number(1)),
         Here(CtFree(SECOND), Done),
     ];

@@ -5,7 +5,8 @@ use crate::steps::Answer::*;
 use crate::steps::Call::*;
 use crate::steps::Step::{self, *};
 use crate::values::{DESCRIPTOR, ENTRY, FIRST, ONCE, PUT};
-use ptl_types::{Deed, Entry, List, NiFault, Outcome, PutArgs};
+use ptl_types::NiFault::Stale;
+use ptl_types::{Deed, Entry, List, Outcome, PutArgs};
 
 #[test]
 fn use_once_entries_go_with_their_first_message(rt: HostRuntime) {
@@ -14,20 +15,18 @@ fn use_once_entries_go_with_their_first_message(rt: HostRuntime) {
         count_comm: true,
         ..ONCE
     };
+    const BEHIND: Entry = Entry { start: 4, ..COUNTS };
     const SCRIPT: &[Step] = &[
         Here(CtAlloc, Made(0)),
         Here(MeAppend(0, List::Priority, COUNTS), Linked(0)),
-        Here(
-            MeAppend(0, List::Priority, Entry { start: 4, ..COUNTS }),
-            Linked(1),
-        ),
+        Here(MeAppend(0, List::Priority, BEHIND), Linked(1)),
         Comes(PUT, &[1], Outcome::Matched),
         Comes(PUT, &[2], Outcome::Matched),
         Comes(PUT, &[3], Outcome::Dropped),
         HereHolds(&[1, 0, 0, 0, 2, 0, 0, 0, 0, 0, 0, 0, 0, 0, 0, 0]),
         Here(Drops, Number(1)),
         Here(CtGet(FIRST), Counts(2, 0)),
-        Here(MeUnlink(FIRST), Refused(NiFault::Stale)),
+        Here(MeUnlink(FIRST), Refused(Stale)),
     ];
     play(&rt, &[SCRIPT]);
 }
@@ -58,18 +57,12 @@ fn a_put_is_cut_at_the_end_of_its_entry(rt: HostRuntime) {
 
 #[test]
 fn a_put_that_may_not_be_cut_is_dropped(rt: HostRuntime) {
+    const WHOLE: Entry = Entry {
+        no_truncate: true,
+        ..ENTRY
+    };
     const SCRIPT: &[Step] = &[
-        Here(
-            MeAppend(
-                0,
-                List::Priority,
-                Entry {
-                    no_truncate: true,
-                    ..ENTRY
-                },
-            ),
-            Linked(0),
-        ),
+        Here(MeAppend(0, List::Priority, WHOLE), Linked(0)),
         Comes(AT_ONE, &[1, 2, 3, 4, 5, 6], Outcome::Dropped),
         Comes(AT_ONE, &[1, 2, 3], Outcome::Matched),
         HereHolds(&[0, 1, 2, 3, 0, 0, 0, 0, 0, 0, 0, 0, 0, 0, 0, 0]),
@@ -114,17 +107,14 @@ fn a_violation_unlinks_nothing(rt: HostRuntime) {
 
 #[test]
 fn an_index_that_is_not_allocated_drops(rt: HostRuntime) {
+    const LAST: PutArgs = PutArgs {
+        pt: u32::MAX,
+        ..PUT
+    };
     const SCRIPT: &[Step] = &[
         Comes(PutArgs { pt: 1, ..PUT }, &[1], Outcome::Dropped),
         Comes(PutArgs { pt: 2, ..PUT }, &[1], Outcome::Dropped),
-        Comes(
-            PutArgs {
-                pt: u32::MAX,
-                ..PUT
-            },
-            &[1],
-            Outcome::Dropped,
-        ),
+        Comes(LAST, &[1], Outcome::Dropped),
         Here(Drops, Number(3)),
     ];
     play(&rt, &[SCRIPT]);
@@ -137,19 +127,13 @@ fn a_rank_sends_to_itself(rt: HostRuntime) {
         length: 2,
         ..PUT
     };
+    const FROM_ZERO: Entry = Entry {
+        match_id: Some(0),
+        ..ENTRY
+    };
     const SCRIPT: &[Step] = &[
         Here(MdBind(DESCRIPTOR), Made(0)),
-        Here(
-            MeAppend(
-                0,
-                List::Priority,
-                Entry {
-                    match_id: Some(0),
-                    ..ENTRY
-                },
-            ),
-            Linked(0),
-        ),
+        Here(MeAppend(0, List::Priority, FROM_ZERO), Linked(0)),
         Here(WriteMemory(8, &[1, 2]), Done),
         Here(Start(Deed::Put(MINE)), Sent),
         Here(Deliver, Became(Outcome::Matched)),

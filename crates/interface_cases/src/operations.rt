@@ -19,20 +19,24 @@ const BACK: GetArgs = GetArgs {
     ..GET
 };
 
+/// Fetching operations on one byte.
+const SUM_OF_BYTE: Deed = Deed::FetchAtomic(BACK, BYTE, AtomicOp::Sum, ElemType::U8);
+
+const IF_FOUR: Deed = Deed::Swap(BACK, BYTE, SwapOp::Cswap, ElemType::U8, 4);
+
+const LOW_BITS: Deed = Deed::Swap(BACK, BYTE, SwapOp::Mswap, ElemType::U8, 0x0f);
+
+const PLAIN: Deed = Deed::Swap(BACK, BYTE, SwapOp::Swap, ElemType::U8, 0);
+
+const ONE_BYTE: Entry = Entry { length: 1, ..ENTRY };
+
 #[test]
 fn fetching_operations_answer_the_old_element(rt: HostRuntime) {
-    const SUM: Deed = Deed::FetchAtomic(BACK, BYTE, AtomicOp::Sum, ElemType::U8);
-    const IF_FOUR: Deed = Deed::Swap(BACK, BYTE, SwapOp::Cswap, ElemType::U8, 4);
-    const LOW_BITS: Deed = Deed::Swap(BACK, BYTE, SwapOp::Mswap, ElemType::U8, 0x0f);
-    const PLAIN: Deed = Deed::Swap(BACK, BYTE, SwapOp::Swap, ElemType::U8, 0);
     const SCRIPT: &[Step] = &[
-        Here(
-            MeAppend(0, List::Priority, Entry { length: 1, ..ENTRY }),
-            Linked(0),
-        ),
+        Here(MeAppend(0, List::Priority, ONE_BYTE), Linked(0)),
         Here(WriteMemory(0, &[250]), Done),
         There(WriteMemory(0, &[10]), Done),
-        There(Start(SUM), Sent),
+        There(Start(SUM_OF_BYTE), Sent),
         Here(Deliver, Replies(Outcome::Matched)),
         HereHolds(&[4, 0, 0, 0, 0, 0, 0, 0, 0, 0, 0, 0, 0, 0, 0, 0]),
         There(Deliver, Became(Outcome::Answered)),
@@ -79,11 +83,9 @@ fn a_get_brings_home_what_an_atomic_left(rt: HostRuntime) {
         home_offset: 8,
         ..HEADER
     };
+    const TWO_BYTES: Entry = Entry { length: 2, ..ENTRY };
     const SCRIPT: &[Step] = &[
-        Here(
-            MeAppend(0, List::Priority, Entry { length: 2, ..ENTRY }),
-            Linked(0),
-        ),
+        Here(MeAppend(0, List::Priority, TWO_BYTES), Linked(0)),
         There(WriteMemory(0, &[5, 0]), Done),
         There(Start(Deed::Atomic(TWO, AtomicOp::Max, ElemType::U16)), Sent),
         Here(Deliver, Became(Outcome::Matched)),
@@ -100,16 +102,12 @@ fn a_get_brings_home_what_an_atomic_left(rt: HostRuntime) {
 #[test]
 fn an_atomic_is_cut_to_whole_elements(rt: HostRuntime) {
     const FOUR: PutArgs = PutArgs { length: 4, ..PUT };
+    const SUM: Deed = Deed::Atomic(FOUR, AtomicOp::Sum, ElemType::U16);
+    const THREE_BYTES: Entry = Entry { length: 3, ..ENTRY };
     const SCRIPT: &[Step] = &[
-        Here(
-            MeAppend(0, List::Priority, Entry { length: 3, ..ENTRY }),
-            Linked(0),
-        ),
+        Here(MeAppend(0, List::Priority, THREE_BYTES), Linked(0)),
         There(WriteMemory(0, &[1, 2, 3, 4]), Done),
-        There(
-            Start(Deed::Atomic(FOUR, AtomicOp::Sum, ElemType::U16)),
-            Sent,
-        ),
+        There(Start(SUM), Sent),
         Here(Deliver, Became(Outcome::Matched)),
         HereHolds(&[1, 2, 0, 0, 0, 0, 0, 0, 0, 0, 0, 0, 0, 0, 0, 0]),
     ];
@@ -175,44 +173,58 @@ fn puts_and_gets_raise_their_events(rt: HostRuntime) {
     play(&rt, &[TELLING, SCRIPT]);
 }
 
+/// The starts of one byte to that byte, and the events that they raise there.
+const ATOMIC_AT_SECOND: Deed = Deed::Atomic(BYTE_TO_SECOND, AtomicOp::Bor, ElemType::U8);
+
+const FETCH_AT_SECOND: Deed = Deed::FetchAtomic(
+    BACK_OF_SECOND,
+    BYTE_TO_SECOND,
+    AtomicOp::Min,
+    ElemType::U8,
+);
+
+const SWAP_AT_SECOND: Deed = Deed::Swap(
+    BACK_OF_SECOND,
+    BYTE_TO_SECOND,
+    SwapOp::Swap,
+    ElemType::U8,
+    0,
+);
+
+const BYTE_TO_SECOND: PutArgs = PutArgs {
+    length: 1,
+    ..TO_SECOND
+};
+
+const BACK_OF_SECOND: GetArgs = GetArgs {
+    pt: 1,
+    remote_offset: 1,
+    ..BACK
+};
+
+const ATOMIC_TOLD: Event = Event {
+    kind: EventKind::Atomic,
+    requested: 1,
+    delivered: 1,
+    ..PUT_TOLD
+};
+
+const FETCH_TOLD: Event = Event {
+    kind: EventKind::FetchAtomic,
+    ..ATOMIC_TOLD
+};
+
 #[test]
 fn atomics_and_fetching_operations_raise_their_events(rt: HostRuntime) {
-    const BYTE: PutArgs = PutArgs {
-        length: 1,
-        ..TO_SECOND
-    };
-    const BACK: GetArgs = GetArgs {
-        local_offset: 8,
-        length: 1,
-        pt: 1,
-        remote_offset: 1,
-        ..GET
-    };
-    const ATOMIC_TOLD: Event = Event {
-        kind: EventKind::Atomic,
-        requested: 1,
-        delivered: 1,
-        ..PUT_TOLD
-    };
-    const FETCH_TOLD: Event = Event {
-        kind: EventKind::FetchAtomic,
-        ..ATOMIC_TOLD
-    };
     const SCRIPT: &[Step] = &[
         There(WriteMemory(0, &[4]), Done),
-        There(Start(Deed::Atomic(BYTE, AtomicOp::Bor, ElemType::U8)), Sent),
+        There(Start(ATOMIC_AT_SECOND), Sent),
         Here(Deliver, Became(Outcome::Matched)),
         There(WriteMemory(0, &[1]), Done),
-        There(
-            Start(Deed::FetchAtomic(BACK, BYTE, AtomicOp::Min, ElemType::U8)),
-            Sent,
-        ),
+        There(Start(FETCH_AT_SECOND), Sent),
         Here(Deliver, Replies(Outcome::Matched)),
         There(WriteMemory(0, &[9]), Done),
-        There(
-            Start(Deed::Swap(BACK, BYTE, SwapOp::Swap, ElemType::U8, 0)),
-            Sent,
-        ),
+        There(Start(SWAP_AT_SECOND), Sent),
         Here(Deliver, Replies(Outcome::Matched)),
         Here(CtGet(FIRST), Counts(3, 0)),
         HereHolds(&[0, 0, 0, 9, 0, 0, 0, 0, 0, 0, 0, 0, 0, 0, 0, 0]),
@@ -221,69 +233,59 @@ fn atomics_and_fetching_operations_raise_their_events(rt: HostRuntime) {
     play(&rt, &[TELLING, SCRIPT]);
 }
 
+/// An entry that allows puts alone, and one for match bits 6 that allows gets alone.
+const PUTS: Entry = Entry {
+    allow_get: false,
+    ..ENTRY
+};
+
+const GETS: Entry = Entry {
+    match_bits: 6,
+    allow_put: false,
+    ..ENTRY
+};
+
+/// A byte to the second entry, and what comes back of it.
+const SIX: PutArgs = PutArgs {
+    match_bits: 6,
+    ..BYTE
+};
+
+const BACK_OF_SIX: GetArgs = GetArgs {
+    match_bits: 6,
+    ..BACK
+};
+
+/// The reply that says that it was refused.
+const NOT_OK: Header = Header {
+    kind: MessageKind::Reply,
+    source: 0,
+    target: 1,
+    match_bits: 6,
+    home: Some(FIRST),
+    home_offset: 8,
+    ok: false,
+    ..HEADER
+};
+
 #[test]
 fn an_entry_allows_puts_gets_or_both(rt: HostRuntime) {
-    const GETS: Entry = Entry {
-        match_bits: 6,
-        allow_put: false,
-        ..ENTRY
-    };
-    /// A byte to the second entry, and what comes back of it.
-    const SIX: PutArgs = PutArgs {
-        match_bits: 6,
-        ..BYTE
-    };
-    const BACK_OF_SIX: GetArgs = GetArgs {
-        match_bits: 6,
-        ..BACK
-    };
-    const REFUSED: Header = Header {
-        kind: MessageKind::Reply,
-        source: 0,
-        target: 1,
-        match_bits: 6,
-        home: Some(FIRST),
-        home_offset: 8,
-        ok: false,
-        ..HEADER
-    };
+    const FETCH: Deed = Deed::FetchAtomic(BACK, BYTE, AtomicOp::Sum, ElemType::U8);
+    const SWAP: Deed = Deed::Swap(BACK_OF_SIX, SIX, SwapOp::Swap, ElemType::U8, 0);
     const SCRIPT: &[Step] = &[
-        Here(
-            MeAppend(
-                0,
-                List::Priority,
-                Entry {
-                    allow_get: false,
-                    ..ENTRY
-                },
-            ),
-            Linked(0),
-        ),
+        Here(MeAppend(0, List::Priority, PUTS), Linked(0)),
         Here(MeAppend(0, List::Priority, GETS), Linked(1)),
         Comes(PUT, &[1], Outcome::Matched),
-        Comes(
-            PutArgs {
-                match_bits: 6,
-                ..PUT
-            },
-            &[1],
-            Outcome::Violation,
-        ),
+        Comes(SIX, &[1], Outcome::Violation),
         There(Start(Deed::Get(BACK)), Sent),
         Here(Deliver, Replies(Outcome::Violation)),
         There(Start(Deed::Get(BACK_OF_SIX)), Sent),
         Here(Deliver, Replies(Outcome::Matched)),
-        There(
-            Start(Deed::FetchAtomic(BACK, BYTE, AtomicOp::Sum, ElemType::U8)),
-            Sent,
-        ),
+        There(Start(FETCH), Sent),
         Here(Deliver, Replies(Outcome::Violation)),
-        There(
-            Start(Deed::Swap(BACK_OF_SIX, SIX, SwapOp::Swap, ElemType::U8, 0)),
-            Sent,
-        ),
+        There(Start(SWAP), Sent),
         Here(Deliver, Replies(Outcome::Violation)),
-        There(Carries(REFUSED, &[]), Yes),
+        There(Carries(NOT_OK, &[]), Yes),
         There(Deliver, Became(Outcome::Answered)),
         Here(Violations, Number(4)),
         Here(Drops, Number(0)),

@@ -5,14 +5,25 @@ use crate::steps::Answer::*;
 use crate::steps::Call::*;
 use crate::steps::Step::{self, *};
 use crate::values::{ENTRY, FIRST, FREED, GET, HEADER, LINKED, ONCE, PUT, UNLINKED};
-use ptl_types::{
-    Deed, Entry, Event, EventKind, Header, List, NiFault, Outcome, PutArgs, UnexpectedHeader,
-};
+use ptl_types::NiFault::{InUse, NoSpace};
+use ptl_types::{Deed, Entry, Event, EventKind, Header, List, Outcome, PutArgs, UnexpectedHeader};
 
 /// An overflow entry over eight bytes that is filled from its start.
 const OVERFLOW: Entry = Entry {
     length: 8,
     manage_local: true,
+    ..ENTRY
+};
+
+/// The same, which is unlinked where fewer than four bytes are left.
+const UNLINKS: Entry = Entry {
+    min_free: 4,
+    ..OVERFLOW
+};
+
+/// A persistent entry for match bits 6.
+const SIX: Entry = Entry {
+    match_bits: 6,
     ..ENTRY
 };
 
@@ -71,17 +82,7 @@ const MISSED: Event = Event {
 const FILLED: &[Step] = &[
     Here(EqAlloc(8), Made(0)),
     Here(PtAlloc(1, Some(FIRST)), Done),
-    Here(
-        MeAppend(
-            1,
-            List::Overflow,
-            Entry {
-                min_free: 4,
-                ..OVERFLOW
-            },
-        ),
-        Linked(0),
-    ),
+    Here(MeAppend(1, List::Overflow, UNLINKS), Linked(0)),
     Comes(TO_ONE, &[1, 2, 3], Outcome::Overflow),
     Comes(TO_ONE, &[4, 5], Outcome::Overflow),
     Comes(TO_ONE, &[6], Outcome::Dropped),
@@ -110,21 +111,11 @@ fn a_full_queue_loses_the_newest_event(rt: HostRuntime) {
         Here(EqAlloc(1), Made(0)),
         Here(PtAlloc(1, Some(FIRST)), Done),
         Here(MeAppend(1, List::Priority, ENTRY), Linked(0)),
-        Here(
-            MeAppend(
-                1,
-                List::Priority,
-                Entry {
-                    match_bits: 6,
-                    ..ENTRY
-                },
-            ),
-            Linked(1),
-        ),
+        Here(MeAppend(1, List::Priority, SIX), Linked(1)),
         Here(EqGet(FIRST), Lost),
         Here(EqGet(FIRST), Got(LINKED)),
         Here(EqGet(FIRST), Empty),
-        Here(EqAlloc(1), Refused(NiFault::NoSpace)),
+        Here(EqAlloc(1), Refused(NoSpace)),
         Here(MeSearch(1, ENTRY, false), Nothing),
         Here(EqGet(FIRST), Got(MISSED)),
         Here(EqGet(FIRST), Empty),
@@ -159,7 +150,7 @@ fn a_persistent_append_takes_all_headers_and_is_linked(rt: HostRuntime) {
         Here(MeAppend(0, List::Overflow, OVERFLOW), Linked(0)),
         Comes(PUT, &[1], Outcome::Overflow),
         Comes(PUT, &[2], Outcome::Overflow),
-        Here(MeUnlink(FIRST), Refused(NiFault::InUse)),
+        Here(MeUnlink(FIRST), Refused(InUse)),
         Here(MeAppend(0, List::Priority, COUNTS), Linked(1)),
         Here(CtGet(FIRST), Counts(2, 0)),
         Here(MeSearch(0, ENTRY, false), Nothing),
@@ -185,7 +176,7 @@ fn a_search_deletes_the_oldest_header_where_asked(rt: HostRuntime) {
         HereTells(FIRST, &[LINKED, UNLINKED]),
         Here(MeSearch(1, ENTRY, false), Found(THREE_BYTES)),
         Here(MeSearch(1, ENTRY, true), Found(THREE_BYTES)),
-        Here(PtFree(1), Refused(NiFault::InUse)),
+        Here(PtFree(1), Refused(InUse)),
         Here(MeSearch(1, ENTRY, true), Found(TWO_BYTES)),
         Here(MeSearch(1, ENTRY, true), Nothing),
         Here(PtFree(1), Done),
@@ -215,10 +206,6 @@ fn an_overflow_entry_that_forbids_a_put_leaves_no_header(rt: HostRuntime) {
     const TO_SIX: PutArgs = PutArgs {
         match_bits: 6,
         ..PUT
-    };
-    const SIX: Entry = Entry {
-        match_bits: 6,
-        ..ENTRY
     };
     const SCRIPT: &[Step] = &[
         Here(MeAppend(0, List::Overflow, FORBIDS), Linked(0)),

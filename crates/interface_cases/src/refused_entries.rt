@@ -6,7 +6,8 @@ use crate::steps::Answer::*;
 use crate::steps::Call::*;
 use crate::steps::Step::{self, *};
 use crate::values::{ENTRY, FIFTH, FIRST, FOURTH, NOTHING, ONCE, PUT, SECOND, THIRD};
-use ptl_types::{Entry, List, NiFault, Outcome, UnexpectedHeader};
+use ptl_types::NiFault::{InUse, NoSpace, OutOfRegion, Stale};
+use ptl_types::{Entry, List, Outcome, UnexpectedHeader};
 
 /// An entry that reaches past the end of the region.
 const PAST: Entry = Entry { start: 13, ..ENTRY };
@@ -19,22 +20,16 @@ const STALE: Entry = Entry {
 #[test]
 fn a_refused_call_on_an_entry_changes_nothing(rt: HostRuntime) {
     const SCRIPT: &[Step] = &[
-        Here(MeAppend(2, List::Priority, PAST), Refused(NiFault::Stale)),
-        Here(MeAppend(2, List::Overflow, PAST), Refused(NiFault::Stale)),
-        Here(MeAppend(0, List::Priority, STALE), Refused(NiFault::Stale)),
-        Here(MeAppend(0, List::Overflow, STALE), Refused(NiFault::Stale)),
-        Here(
-            MeAppend(0, List::Priority, PAST),
-            Refused(NiFault::OutOfRegion),
-        ),
-        Here(
-            MeAppend(0, List::Overflow, PAST),
-            Refused(NiFault::OutOfRegion),
-        ),
-        Here(MeUnlink(NOTHING), Refused(NiFault::Stale)),
-        Here(MeUnlink(FIRST), Refused(NiFault::InUse)),
-        Here(MeSearch(2, ENTRY, false), Refused(NiFault::Stale)),
-        Here(MeSearch(2, ENTRY, true), Refused(NiFault::Stale)),
+        Here(MeAppend(2, List::Priority, PAST), Refused(Stale)),
+        Here(MeAppend(2, List::Overflow, PAST), Refused(Stale)),
+        Here(MeAppend(0, List::Priority, STALE), Refused(Stale)),
+        Here(MeAppend(0, List::Overflow, STALE), Refused(Stale)),
+        Here(MeAppend(0, List::Priority, PAST), Refused(OutOfRegion)),
+        Here(MeAppend(0, List::Overflow, PAST), Refused(OutOfRegion)),
+        Here(MeUnlink(NOTHING), Refused(Stale)),
+        Here(MeUnlink(FIRST), Refused(InUse)),
+        Here(MeSearch(2, ENTRY, false), Refused(Stale)),
+        Here(MeSearch(2, ENTRY, true), Refused(Stale)),
         // The next entry has the next number.
         Here(MeAppend(0, List::Overflow, ENTRY), Linked(2)),
         Here(MeUnlink(THIRD), Done),
@@ -44,25 +39,19 @@ fn a_refused_call_on_an_entry_changes_nothing(rt: HostRuntime) {
 
 #[test]
 fn an_append_is_refused_also_where_a_header_would_be_found(rt: HostRuntime) {
+    const SIX: Entry = Entry {
+        match_bits: 6,
+        ..ONCE
+    };
     const SCRIPT: &[Step] = &[
         Here(MeAppend(0, List::Overflow, ENTRY), Linked(2)),
         Here(MeAppend(0, List::Overflow, ENTRY), Linked(3)),
-        Here(MeAppend(0, List::Priority, ONCE), Refused(NiFault::NoSpace)),
-        Here(MeAppend(0, List::Overflow, PAST), Refused(NiFault::NoSpace)),
-        Here(MeAppend(0, List::Overflow, STALE), Refused(NiFault::Stale)),
+        Here(MeAppend(0, List::Priority, ONCE), Refused(NoSpace)),
+        Here(MeAppend(0, List::Overflow, PAST), Refused(NoSpace)),
+        Here(MeAppend(0, List::Overflow, STALE), Refused(Stale)),
         Here(MeUnlink(THIRD), Done),
         Here(MeUnlink(FOURTH), Done),
-        Here(
-            MeAppend(
-                0,
-                List::Priority,
-                Entry {
-                    match_bits: 6,
-                    ..ONCE
-                },
-            ),
-            Linked(4),
-        ),
+        Here(MeAppend(0, List::Priority, SIX), Linked(4)),
         Here(MeUnlink(FIFTH), Done),
     ];
     play(&rt, &[BUSY, SCRIPT, AS_IT_BEGAN]);
@@ -70,23 +59,21 @@ fn an_append_is_refused_also_where_a_header_would_be_found(rt: HostRuntime) {
 
 #[test]
 fn an_index_is_in_use_for_each_reason_alone(rt: HostRuntime) {
+    const HELD_BY_THIRD: UnexpectedHeader = UnexpectedHeader {
+        entry: THIRD,
+        ..HELD
+    };
     const SCRIPT: &[Step] = &[
         Here(MeAppend(0, List::Priority, ENTRY), Linked(0)),
-        Here(PtFree(0), Refused(NiFault::InUse)),
+        Here(PtFree(0), Refused(InUse)),
         Here(MeUnlink(FIRST), Done),
         Here(MeAppend(0, List::Overflow, ENTRY), Linked(1)),
-        Here(PtFree(0), Refused(NiFault::InUse)),
+        Here(PtFree(0), Refused(InUse)),
         Here(MeUnlink(SECOND), Done),
         Here(MeAppend(0, List::Overflow, ONCE), Linked(2)),
         Comes(PUT, &[1], Outcome::Overflow),
-        Here(PtFree(0), Refused(NiFault::InUse)),
-        Here(
-            MeSearch(0, ENTRY, true),
-            Found(UnexpectedHeader {
-                entry: THIRD,
-                ..HELD
-            }),
-        ),
+        Here(PtFree(0), Refused(InUse)),
+        Here(MeSearch(0, ENTRY, true), Found(HELD_BY_THIRD)),
         Here(PtFree(0), Done),
     ];
     play(&rt, &[SCRIPT]);

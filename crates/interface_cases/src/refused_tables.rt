@@ -6,18 +6,19 @@ use crate::scene::play;
 use crate::steps::Answer::*;
 use crate::steps::Call::*;
 use crate::steps::Step::{self, *};
-use crate::values::{DESCRIPTOR, ENTRY, FIRST, LINKED, NOTHING, ONE, PAST_THE_END, SECOND, THIRD};
-use ptl_types::{Count, Deed, Descriptor, Entry, List, NiFault};
+use crate::values::{DESCRIPTOR, ENTRY, FIRST, LINKED, NOTHING, ONE, SECOND, THIRD};
+use ptl_types::NiFault::{CountFull, InUse, NoSpace, OutOfRegion, Stale};
+use ptl_types::{Count, Deed, Descriptor, Entry, List};
 
 #[test]
 fn a_refused_call_on_an_index_changes_nothing(rt: HostRuntime) {
     const SCRIPT: &[Step] = &[
-        Here(PtAlloc(2, Some(NOTHING)), Refused(NiFault::Stale)),
-        Here(PtAlloc(2, None), Refused(NiFault::NoSpace)),
-        Here(PtAlloc(1, None), Refused(NiFault::InUse)),
-        Here(PtFree(2), Refused(NiFault::Stale)),
-        Here(PtFree(0), Refused(NiFault::InUse)),
-        Here(PtFree(1), Refused(NiFault::InUse)),
+        Here(PtAlloc(2, Some(NOTHING)), Refused(Stale)),
+        Here(PtAlloc(2, None), Refused(NoSpace)),
+        Here(PtAlloc(1, None), Refused(InUse)),
+        Here(PtFree(2), Refused(Stale)),
+        Here(PtFree(0), Refused(InUse)),
+        Here(PtFree(1), Refused(InUse)),
     ];
     play(&rt, &[BUSY, SCRIPT, AS_IT_BEGAN]);
 }
@@ -25,16 +26,16 @@ fn a_refused_call_on_an_index_changes_nothing(rt: HostRuntime) {
 #[test]
 fn a_refused_call_on_a_counter_changes_nothing(rt: HostRuntime) {
     const SCRIPT: &[Step] = &[
-        Here(CtAlloc, Refused(NiFault::NoSpace)),
-        Here(CtFree(NOTHING), Refused(NiFault::Stale)),
-        Here(CtFree(FIRST), Refused(NiFault::InUse)),
-        Here(CtFree(SECOND), Refused(NiFault::InUse)),
-        Here(CtGet(NOTHING), Refused(NiFault::Stale)),
-        Here(CtSet(NOTHING, PAST_THE_END), Refused(NiFault::Stale)),
-        Here(CtSet(FIRST, PAST_THE_END), Refused(NiFault::CountFull)),
-        Here(CtInc(NOTHING, PAST_THE_END), Refused(NiFault::Stale)),
-        Here(CtInc(FIRST, PAST_THE_END), Refused(NiFault::CountFull)),
-        Here(CtCancel(NOTHING), Refused(NiFault::Stale)),
+        Here(CtAlloc, Refused(NoSpace)),
+        Here(CtFree(NOTHING), Refused(Stale)),
+        Here(CtFree(FIRST), Refused(InUse)),
+        Here(CtFree(SECOND), Refused(InUse)),
+        Here(CtGet(NOTHING), Refused(Stale)),
+        Here(CtSet(NOTHING, u64::MAX, 1), Refused(Stale)),
+        Here(CtSet(FIRST, u64::MAX, 1), Refused(CountFull)),
+        Here(CtInc(NOTHING, u64::MAX, 1), Refused(Stale)),
+        Here(CtInc(FIRST, u64::MAX, 1), Refused(CountFull)),
+        Here(CtCancel(NOTHING), Refused(Stale)),
     ];
     play(&rt, &[BUSY, SCRIPT, AS_IT_BEGAN]);
 }
@@ -42,10 +43,10 @@ fn a_refused_call_on_a_counter_changes_nothing(rt: HostRuntime) {
 #[test]
 fn a_refused_call_on_a_queue_changes_nothing(rt: HostRuntime) {
     const SCRIPT: &[Step] = &[
-        Here(EqAlloc(1), Refused(NiFault::NoSpace)),
-        Here(EqFree(NOTHING), Refused(NiFault::Stale)),
-        Here(EqFree(FIRST), Refused(NiFault::InUse)),
-        Here(EqGet(NOTHING), Refused(NiFault::Stale)),
+        Here(EqAlloc(1), Refused(NoSpace)),
+        Here(EqFree(NOTHING), Refused(Stale)),
+        Here(EqFree(FIRST), Refused(InUse)),
+        Here(EqGet(NOTHING), Refused(Stale)),
     ];
     play(&rt, &[BUSY, SCRIPT, AS_IT_BEGAN]);
 }
@@ -58,26 +59,22 @@ const PAST: Descriptor = Descriptor {
 
 #[test]
 fn a_refused_call_on_a_descriptor_changes_nothing(rt: HostRuntime) {
+    const STALE_QUEUE: Descriptor = Descriptor {
+        eq: Some(NOTHING),
+        ..PAST
+    };
+    const STALE_COUNTER: Descriptor = Descriptor {
+        ct: Some(NOTHING),
+        ..PAST
+    };
     const SCRIPT: &[Step] = &[
-        Here(
-            MdBind(Descriptor {
-                eq: Some(NOTHING),
-                ..PAST
-            }),
-            Refused(NiFault::Stale),
-        ),
-        Here(
-            MdBind(Descriptor {
-                ct: Some(NOTHING),
-                ..PAST
-            }),
-            Refused(NiFault::Stale),
-        ),
-        Here(MdBind(PAST), Refused(NiFault::NoSpace)),
-        Here(MdRelease(NOTHING), Refused(NiFault::Stale)),
-        Here(MdRelease(FIRST), Refused(NiFault::InUse)),
-        Here(MdRelease(SECOND), Refused(NiFault::InUse)),
-        Here(Awaits(NOTHING), Refused(NiFault::Stale)),
+        Here(MdBind(STALE_QUEUE), Refused(Stale)),
+        Here(MdBind(STALE_COUNTER), Refused(Stale)),
+        Here(MdBind(PAST), Refused(NoSpace)),
+        Here(MdRelease(NOTHING), Refused(Stale)),
+        Here(MdRelease(FIRST), Refused(InUse)),
+        Here(MdRelease(SECOND), Refused(InUse)),
+        Here(Awaits(NOTHING), Refused(Stale)),
     ];
     play(&rt, &[BUSY, SCRIPT, AS_IT_BEGAN]);
 }
@@ -90,17 +87,15 @@ fn a_descriptor_lies_in_the_region(rt: HostRuntime) {
         length: 8,
         ..DESCRIPTOR
     };
+    const ONE_PAST: Descriptor = Descriptor {
+        start: 1,
+        ..DESCRIPTOR
+    };
     const SCRIPT: &[Step] = &[
         Here(CtCancel(FIRST), Number(2)),
         Here(MdRelease(SECOND), Done),
-        Here(MdBind(PAST), Refused(NiFault::OutOfRegion)),
-        Here(
-            MdBind(Descriptor {
-                start: 1,
-                ..DESCRIPTOR
-            }),
-            Refused(NiFault::OutOfRegion),
-        ),
+        Here(MdBind(PAST), Refused(OutOfRegion)),
+        Here(MdBind(ONE_PAST), Refused(OutOfRegion)),
         Here(MdBind(AGAIN), Made(2)),
         Here(MdRelease(THIRD), Done),
         HereTells(FIRST, &[LINKED, START_TOLD]),
@@ -120,31 +115,29 @@ fn a_counter_is_in_use_for_each_reason_alone(rt: HostRuntime) {
         success: 0,
         failure: 0,
     };
+    const NAMES: Descriptor = Descriptor {
+        ct: Some(FIRST),
+        ..DESCRIPTOR
+    };
     const SCRIPT: &[Step] = &[
         Here(CtAlloc, Made(0)),
         Here(CtAlloc, Made(1)),
-        Here(
-            MdBind(Descriptor {
-                ct: Some(FIRST),
-                ..DESCRIPTOR
-            }),
-            Made(0),
-        ),
-        Here(CtFree(FIRST), Refused(NiFault::InUse)),
+        Here(MdBind(NAMES), Made(0)),
+        Here(CtFree(FIRST), Refused(InUse)),
         Here(MdRelease(FIRST), Done),
         Here(MeAppend(0, List::Priority, COUNTS), Linked(0)),
-        Here(CtFree(FIRST), Refused(NiFault::InUse)),
+        Here(CtFree(FIRST), Refused(InUse)),
         Here(MeUnlink(FIRST), Done),
         Here(MeAppend(0, List::Overflow, COUNTS), Linked(1)),
-        Here(CtFree(FIRST), Refused(NiFault::InUse)),
+        Here(CtFree(FIRST), Refused(InUse)),
         Here(MeUnlink(SECOND), Done),
         Here(Triggered(Deed::Set(SECOND, ZERO), FIRST, 1), Number(0)),
-        Here(CtFree(FIRST), Refused(NiFault::InUse)),
-        Here(CtFree(SECOND), Refused(NiFault::InUse)),
+        Here(CtFree(FIRST), Refused(InUse)),
+        Here(CtFree(SECOND), Refused(InUse)),
         Here(CtCancel(SECOND), Number(0)),
         Here(CtCancel(FIRST), Number(1)),
         Here(Triggered(Deed::Inc(SECOND, ONE), FIRST, 1), Number(1)),
-        Here(CtFree(SECOND), Refused(NiFault::InUse)),
+        Here(CtFree(SECOND), Refused(InUse)),
         Here(CtCancel(FIRST), Number(1)),
         Here(CtFree(SECOND), Done),
         Here(CtFree(FIRST), Done),
@@ -154,19 +147,17 @@ fn a_counter_is_in_use_for_each_reason_alone(rt: HostRuntime) {
 
 #[test]
 fn a_queue_is_in_use_for_each_reason_alone(rt: HostRuntime) {
+    const NAMES: Descriptor = Descriptor {
+        eq: Some(FIRST),
+        ..DESCRIPTOR
+    };
     const SCRIPT: &[Step] = &[
         Here(EqAlloc(1), Made(0)),
         Here(PtAlloc(1, Some(FIRST)), Done),
-        Here(EqFree(FIRST), Refused(NiFault::InUse)),
+        Here(EqFree(FIRST), Refused(InUse)),
         Here(PtFree(1), Done),
-        Here(
-            MdBind(Descriptor {
-                eq: Some(FIRST),
-                ..DESCRIPTOR
-            }),
-            Made(0),
-        ),
-        Here(EqFree(FIRST), Refused(NiFault::InUse)),
+        Here(MdBind(NAMES), Made(0)),
+        Here(EqFree(FIRST), Refused(InUse)),
         Here(MdRelease(FIRST), Done),
         Here(EqFree(FIRST), Done),
     ];
@@ -181,9 +172,9 @@ fn a_refused_call_uses_up_no_stamp(rt: HostRuntime) {
         Here(CtAlloc, Made(1)),
         Here(MdBind(DESCRIPTOR), Made(0)),
         Here(MdBind(DESCRIPTOR), Made(1)),
-        Here(EqAlloc(1), Refused(NiFault::NoSpace)),
-        Here(CtAlloc, Refused(NiFault::NoSpace)),
-        Here(MdBind(DESCRIPTOR), Refused(NiFault::NoSpace)),
+        Here(EqAlloc(1), Refused(NoSpace)),
+        Here(CtAlloc, Refused(NoSpace)),
+        Here(MdBind(DESCRIPTOR), Refused(NoSpace)),
         Here(EqFree(FIRST), Done),
         Here(CtFree(SECOND), Done),
         Here(MdRelease(SECOND), Done),

@@ -1,154 +1,87 @@
 //! Every refusal of triggered operations.
 
 use crate::busy::{AS_IT_BEGAN, BUSY};
-use crate::refused_starts::{BACK, BEHIND, BEHIND_BACK, BYTE, STALE, STALE_BACK};
+use crate::deeds::*;
 use crate::scene::play;
-use crate::steps::Answer::{self, *};
+use crate::steps::Answer::*;
 use crate::steps::Call::*;
 use crate::steps::Step::{self, *};
 use crate::values::{FIRST, NOTHING, ONE, PAST_THE_END, SECOND};
-use ptl_types::{AtomicOp, Deed, ElemType, NiFault, SwapOp};
+use ptl_types::Deed;
+use ptl_types::NiFault::{CountFull, NoSpace, OutOfRegion, Stale};
 
-const SUM: AtomicOp = AtomicOp::Sum;
+/// Counts on the second counting event and on one that isn't allocated: by one, and by numbers that pass the end.
+const RAISE: Deed = Deed::Inc(SECOND, ONE);
 
-const U8: ElemType = ElemType::U8;
+const RAISE_PAST: Deed = Deed::Inc(SECOND, PAST_THE_END);
 
-const SWAP: SwapOp = SwapOp::Swap;
+const RAISE_STALE: Deed = Deed::Inc(NOTHING, PAST_THE_END);
+
+const SET_PAST: Deed = Deed::Set(SECOND, PAST_THE_END);
+
+const SET_STALE: Deed = Deed::Set(NOTHING, PAST_THE_END);
 
 #[test]
 fn a_refused_increment_or_set_changes_nothing(rt: HostRuntime) {
     const SCRIPT: &[Step] = &[
-        Here(
-            Triggered(Deed::Inc(SECOND, PAST_THE_END), NOTHING, 0),
-            Refused(NiFault::Stale),
-        ),
-        Here(
-            Triggered(Deed::Inc(NOTHING, PAST_THE_END), FIRST, 0),
-            Refused(NiFault::Stale),
-        ),
-        Here(
-            Triggered(Deed::Inc(SECOND, PAST_THE_END), FIRST, 0),
-            Refused(NiFault::CountFull),
-        ),
-        Here(
-            Triggered(Deed::Set(SECOND, PAST_THE_END), NOTHING, 0),
-            Refused(NiFault::Stale),
-        ),
-        Here(
-            Triggered(Deed::Set(NOTHING, PAST_THE_END), FIRST, 0),
-            Refused(NiFault::Stale),
-        ),
-        Here(
-            Triggered(Deed::Set(SECOND, PAST_THE_END), FIRST, 0),
-            Refused(NiFault::CountFull),
-        ),
+        Here(Triggered(RAISE_PAST, NOTHING, 0), Refused(Stale)),
+        Here(Triggered(RAISE_STALE, FIRST, 0), Refused(Stale)),
+        Here(Triggered(RAISE_PAST, FIRST, 0), Refused(CountFull)),
+        Here(Triggered(SET_PAST, NOTHING, 0), Refused(Stale)),
+        Here(Triggered(SET_STALE, FIRST, 0), Refused(Stale)),
+        Here(Triggered(SET_PAST, FIRST, 0), Refused(CountFull)),
     ];
     play(&rt, &[BUSY, SCRIPT, AS_IT_BEGAN]);
 }
 
 #[test]
 fn a_refused_triggered_start_changes_nothing(rt: HostRuntime) {
-    const STALE_ONE: Answer = Refused(NiFault::Stale);
     const SCRIPT: &[Step] = &[
-        Here(Triggered(Deed::Put(BYTE), NOTHING, 0), STALE_ONE),
-        Here(Triggered(Deed::Put(STALE), FIRST, 0), STALE_ONE),
-        Here(
-            Triggered(Deed::Put(BEHIND), FIRST, 0),
-            Refused(NiFault::OutOfRegion),
-        ),
-        Here(Triggered(Deed::Get(BACK), NOTHING, 0), STALE_ONE),
-        Here(Triggered(Deed::Get(STALE_BACK), FIRST, 0), STALE_ONE),
-        Here(
-            Triggered(Deed::Get(BEHIND_BACK), FIRST, 0),
-            Refused(NiFault::OutOfRegion),
-        ),
-        Here(
-            Triggered(Deed::Atomic(BYTE, SUM, U8), NOTHING, 0),
-            STALE_ONE,
-        ),
-        Here(Triggered(Deed::Atomic(STALE, SUM, U8), FIRST, 0), STALE_ONE),
-        Here(
-            Triggered(Deed::Atomic(BEHIND, SUM, U8), FIRST, 0),
-            Refused(NiFault::OutOfRegion),
-        ),
+        Here(Triggered(PUT_BYTE, NOTHING, 0), Refused(Stale)),
+        Here(Triggered(PUT_STALE, FIRST, 0), Refused(Stale)),
+        Here(Triggered(PUT_BEHIND, FIRST, 0), Refused(OutOfRegion)),
+        Here(Triggered(GET_BYTE, NOTHING, 0), Refused(Stale)),
+        Here(Triggered(GET_STALE, FIRST, 0), Refused(Stale)),
+        Here(Triggered(GET_BEHIND, FIRST, 0), Refused(OutOfRegion)),
+        Here(Triggered(SUM_BYTE, NOTHING, 0), Refused(Stale)),
+        Here(Triggered(SUM_STALE, FIRST, 0), Refused(Stale)),
+        Here(Triggered(SUM_BEHIND, FIRST, 0), Refused(OutOfRegion)),
     ];
     play(&rt, &[BUSY, SCRIPT, AS_IT_BEGAN]);
 }
 
 #[test]
 fn a_refused_triggered_fetch_changes_nothing(rt: HostRuntime) {
-    const OUT: Answer = Refused(NiFault::OutOfRegion);
-    const STALE_ONE: Answer = Refused(NiFault::Stale);
     const SCRIPT: &[Step] = &[
-        Here(
-            Triggered(Deed::FetchAtomic(BACK, BYTE, SUM, U8), NOTHING, 0),
-            STALE_ONE,
-        ),
-        Here(
-            Triggered(Deed::FetchAtomic(BEHIND_BACK, STALE, SUM, U8), FIRST, 0),
-            STALE_ONE,
-        ),
-        Here(
-            Triggered(Deed::FetchAtomic(STALE_BACK, BEHIND, SUM, U8), FIRST, 0),
-            STALE_ONE,
-        ),
-        Here(
-            Triggered(Deed::FetchAtomic(BACK, BEHIND, SUM, U8), FIRST, 0),
-            OUT,
-        ),
-        Here(
-            Triggered(Deed::FetchAtomic(BEHIND_BACK, BYTE, SUM, U8), FIRST, 0),
-            OUT,
-        ),
-        Here(
-            Triggered(Deed::Swap(BACK, BYTE, SWAP, U8, 0), NOTHING, 0),
-            STALE_ONE,
-        ),
-        Here(
-            Triggered(Deed::Swap(BEHIND_BACK, STALE, SWAP, U8, 0), FIRST, 0),
-            STALE_ONE,
-        ),
-        Here(
-            Triggered(Deed::Swap(STALE_BACK, BEHIND, SWAP, U8, 0), FIRST, 0),
-            STALE_ONE,
-        ),
-        Here(
-            Triggered(Deed::Swap(BACK, BEHIND, SWAP, U8, 0), FIRST, 0),
-            OUT,
-        ),
-        Here(
-            Triggered(Deed::Swap(BEHIND_BACK, BYTE, SWAP, U8, 0), FIRST, 0),
-            OUT,
-        ),
+        Here(Triggered(FETCH_BYTE, NOTHING, 0), Refused(Stale)),
+        Here(Triggered(FETCH_STALE, FIRST, 0), Refused(Stale)),
+        Here(Triggered(FETCH_STALE_BACK, FIRST, 0), Refused(Stale)),
+        Here(Triggered(FETCH_BEHIND, FIRST, 0), Refused(OutOfRegion)),
+        Here(Triggered(FETCH_BEHIND_BACK, FIRST, 0), Refused(OutOfRegion)),
+        Here(Triggered(SWAP_BYTE, NOTHING, 0), Refused(Stale)),
+        Here(Triggered(SWAP_STALE, FIRST, 0), Refused(Stale)),
+        Here(Triggered(SWAP_STALE_BACK, FIRST, 0), Refused(Stale)),
+        Here(Triggered(SWAP_BEHIND, FIRST, 0), Refused(OutOfRegion)),
+        Here(Triggered(SWAP_BEHIND_BACK, FIRST, 0), Refused(OutOfRegion)),
     ];
     play(&rt, &[BUSY, SCRIPT, AS_IT_BEGAN]);
 }
 
 #[test]
 fn a_refused_triggered_operation_uses_up_no_number(rt: HostRuntime) {
-    const FULL: Answer = Refused(NiFault::NoSpace);
     const SCRIPT: &[Step] = &[
-        Here(Triggered(Deed::Inc(SECOND, ONE), SECOND, 9), Number(2)),
-        Here(Triggered(Deed::Inc(SECOND, ONE), SECOND, 9), Number(3)),
-        Here(Triggered(Deed::Inc(SECOND, PAST_THE_END), FIRST, 0), FULL),
-        Here(Triggered(Deed::Set(SECOND, PAST_THE_END), FIRST, 0), FULL),
-        Here(Triggered(Deed::Put(BEHIND), FIRST, 0), FULL),
-        Here(Triggered(Deed::Get(BEHIND_BACK), FIRST, 0), FULL),
-        Here(Triggered(Deed::Atomic(BEHIND, SUM, U8), FIRST, 0), FULL),
-        Here(
-            Triggered(Deed::FetchAtomic(BEHIND_BACK, BEHIND, SUM, U8), FIRST, 0),
-            FULL,
-        ),
-        Here(
-            Triggered(Deed::Swap(BEHIND_BACK, BEHIND, SWAP, U8, 0), FIRST, 0),
-            FULL,
-        ),
-        Here(
-            Triggered(Deed::Put(STALE), FIRST, 0),
-            Refused(NiFault::Stale),
-        ),
+        Here(Triggered(RAISE, SECOND, 9), Number(2)),
+        Here(Triggered(RAISE, SECOND, 9), Number(3)),
+        Here(Triggered(RAISE_PAST, FIRST, 0), Refused(NoSpace)),
+        Here(Triggered(SET_PAST, FIRST, 0), Refused(NoSpace)),
+        Here(Triggered(PUT_BEHIND, FIRST, 0), Refused(NoSpace)),
+        Here(Triggered(GET_BEHIND, FIRST, 0), Refused(NoSpace)),
+        Here(Triggered(SUM_BEHIND, FIRST, 0), Refused(NoSpace)),
+        Here(Triggered(FETCH_BEHIND, FIRST, 0), Refused(NoSpace)),
+        Here(Triggered(SWAP_BEHIND, FIRST, 0), Refused(NoSpace)),
+        Here(Triggered(PUT_STALE, FIRST, 0), Refused(Stale)),
         Here(CtCancel(SECOND), Number(2)),
-        Here(Triggered(Deed::Inc(SECOND, ONE), SECOND, 9), Number(4)),
+        Here(Triggered(RAISE, SECOND, 9), Number(4)),
         Here(CtCancel(SECOND), Number(1)),
     ];
     play(&rt, &[BUSY, SCRIPT, AS_IT_BEGAN]);

@@ -24,39 +24,44 @@ const COUNTS: Descriptor = Descriptor {
     ..DESCRIPTOR
 };
 
+const EIGHT: Descriptor = Descriptor {
+    start: 4,
+    length: 8,
+    eq: Some(FIRST),
+    ..COUNTS
+};
+
+/// A get of two bytes to offset 2 of that descriptor.
+const ASKS: GetArgs = GetArgs {
+    local_offset: 2,
+    length: 2,
+    target: 1,
+    ..GET
+};
+
+const START_TOLD: Event = Event {
+    kind: EventKind::Send,
+    requested: 2,
+    ..EVENT
+};
+
+const REPLY_TOLD: Event = Event {
+    kind: EventKind::Reply,
+    source: 1,
+    delivered: 2,
+    place: 6,
+    ..EVENT
+};
+
+const FAILED: Event = Event {
+    delivered: 0,
+    place: 0,
+    ok: false,
+    ..REPLY_TOLD
+};
+
 #[test]
 fn a_reply_is_written_counted_and_told(rt: HostRuntime) {
-    const EIGHT: Descriptor = Descriptor {
-        start: 4,
-        length: 8,
-        eq: Some(FIRST),
-        ..COUNTS
-    };
-    /// A get of two bytes to offset 2 of that descriptor.
-    const ASKS: GetArgs = GetArgs {
-        local_offset: 2,
-        length: 2,
-        target: 1,
-        ..GET
-    };
-    const START_TOLD: Event = Event {
-        kind: EventKind::Send,
-        requested: 2,
-        ..EVENT
-    };
-    const REPLY_TOLD: Event = Event {
-        kind: EventKind::Reply,
-        source: 1,
-        delivered: 2,
-        place: 6,
-        ..EVENT
-    };
-    const FAILED: Event = Event {
-        delivered: 0,
-        place: 0,
-        ok: false,
-        ..REPLY_TOLD
-    };
     const SCRIPT: &[Step] = &[
         Here(EqAlloc(4), Made(0)),
         Here(CtAlloc, Made(0)),
@@ -96,21 +101,17 @@ fn a_fetching_start_counts_on_its_put_arguments_alone(rt: HostRuntime) {
         target: 1,
         ..GET
     };
+    const FETCH: Deed = Deed::FetchAtomic(BACK, BYTE, AtomicOp::Sum, ElemType::U8);
+    const COUNTS_SECOND: Descriptor = Descriptor {
+        ct: Some(SECOND),
+        ..COUNTS
+    };
     const SCRIPT: &[Step] = &[
         Here(CtAlloc, Made(0)),
         Here(CtAlloc, Made(1)),
         Here(MdBind(COUNTS), Made(0)),
-        Here(
-            MdBind(Descriptor {
-                ct: Some(SECOND),
-                ..COUNTS
-            }),
-            Made(1),
-        ),
-        Here(
-            Start(Deed::FetchAtomic(BACK, BYTE, AtomicOp::Sum, ElemType::U8)),
-            Sent,
-        ),
+        Here(MdBind(COUNTS_SECOND), Made(1)),
+        Here(Start(FETCH), Sent),
         Here(CtGet(FIRST), Counts(1, 0)),
         Here(CtGet(SECOND), Counts(0, 0)),
         Here(Awaits(FIRST), Number(0)),

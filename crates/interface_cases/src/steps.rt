@@ -4,7 +4,7 @@
 //! counting event in `CtGet(FIRST)`, and the first descriptor in `MdRelease(FIRST)`. Answers name handles in the same way.
 
 use ptl_types::{
-    Count, Deed, Descriptor, Entry, Event, Handle, Header, Limits, List, NiFault, Outcome, PutArgs,
+    Deed, Descriptor, Entry, Event, Handle, Header, Limits, List, NiFault, Outcome, PutArgs,
     UnexpectedHeader,
 };
 
@@ -41,8 +41,9 @@ pub enum Call {
     CtAlloc,
     CtFree(Handle),
     CtGet(Handle),
-    CtSet(Handle, Count),
-    CtInc(Handle, Count),
+    /// A counting event, the successes and the failures.
+    CtSet(Handle, u64, u64),
+    CtInc(Handle, u64, u64),
     CtCancel(Handle),
     EqAlloc(u32),
     EqFree(Handle),

@@ -5,7 +5,8 @@ use crate::steps::Answer::*;
 use crate::steps::Call::*;
 use crate::steps::Step::{self, *};
 use crate::values::{DESCRIPTOR, FIRST, GET, NOTHING, ONE};
-use ptl_types::{Deed, GetArgs, NiFault, Outcome};
+use ptl_types::NiFault::{InUse, NoSpace, Stale};
+use ptl_types::{Deed, GetArgs, Outcome};
 
 #[test]
 fn a_reply_past_the_end_of_its_descriptor_is_dropped(rt: HostRuntime) {
@@ -32,21 +33,19 @@ fn a_reply_past_the_end_of_its_descriptor_is_dropped(rt: HostRuntime) {
 #[test]
 fn a_stale_handle_is_told_before_all_else(rt: HostRuntime) {
     const RAISE: Deed = Deed::Inc(FIRST, ONE);
+    const STALE: Deed = Deed::Inc(NOTHING, ONE);
     const SCRIPT: &[Step] = &[
         Here(CtAlloc, Made(0)),
         Here(Triggered(RAISE, FIRST, 9), Number(0)),
         Here(Triggered(RAISE, FIRST, 9), Number(1)),
         Here(Triggered(RAISE, FIRST, 9), Number(2)),
         Here(Triggered(RAISE, FIRST, 9), Number(3)),
-        Here(Triggered(RAISE, FIRST, 9), Refused(NiFault::NoSpace)),
-        Here(Triggered(RAISE, NOTHING, 9), Refused(NiFault::Stale)),
-        Here(
-            Triggered(Deed::Inc(NOTHING, ONE), FIRST, 9),
-            Refused(NiFault::Stale),
-        ),
+        Here(Triggered(RAISE, FIRST, 9), Refused(NoSpace)),
+        Here(Triggered(RAISE, NOTHING, 9), Refused(Stale)),
+        Here(Triggered(STALE, FIRST, 9), Refused(Stale)),
         Here(Pending, Number(4)),
-        Here(PtAlloc(0, Some(NOTHING)), Refused(NiFault::Stale)),
-        Here(PtAlloc(0, None), Refused(NiFault::InUse)),
+        Here(PtAlloc(0, Some(NOTHING)), Refused(Stale)),
+        Here(PtAlloc(0, None), Refused(InUse)),
     ];
     play(&rt, &[SCRIPT]);
 }
