@@ -60,6 +60,7 @@ pub record CanFire (s : State) (p : Posted) : Type 0 where
   pub fits : deed_fits p.deed s.mds ≡ true
   pub counts : deed_passes p.deed ≡ false
 
+-- all that lasts, but for the limits
 pub record Lasts (s : State) : Type 0 where
   -- the numbers of pending operations rise and were given, and no more wait than may
   pub rising : AllPairs (λ (p q : Posted). p.number < q.number) s.pending.waiting
