@@ -38,28 +38,28 @@ impl Model for Shape {
 impl Shape {
     /// How many ranks the job has.
     pub fn ranks(&self) -> u32
-        ensures { result ≡ self.now.ranks }
+        ensures told { result ≡ self.now.ranks }
     {
         self.ranks
     }
 
     /// Whether completion also waits for every acknowledgement (`complete remote`).
     pub fn remote(&self) -> bool
-        ensures { result ≡ self.now.remote }
+        ensures told { result ≡ self.now.remote }
     {
         self.remote
     }
 
     /// The buffers in the order in which the text names them, the inputs first.
     pub fn buffers(&self) -> &[Buffer]
-        ensures { result.now ≡ self.now.buffers }
+        ensures told { result.now ≡ self.now.buffers }
     {
         self.buffers.as_slice()
     }
 
     /// How many of the buffers are inputs.
     pub fn input_count(&self) -> u32
-        ensures { result ≡ self.now.inputs }
+        ensures told { result ≡ self.now.inputs }
     {
         self.inputs
     }
@@ -75,7 +75,7 @@ impl Shape {
 
     /// The numbers of the buffers that are printed, in order.
     pub fn prints(&self) -> &[u32]
-        ensures { result.now ≡ self.now.prints }
+        ensures told { result.now ≡ self.now.prints }
     {
         self.prints.as_slice()
     }
@@ -103,7 +103,7 @@ impl Model for Inputs {
 impl Inputs {
     /// All lists, input by input and in each input rank by rank.
     pub fn lists(&self) -> &[RankList]
-        ensures { result.now ≡ self.now.lists }
+        ensures told { result.now ≡ self.now.lists }
     {
         self.lists.as_slice()
     }
@@ -112,7 +112,7 @@ impl Inputs {
     pub fn list(&self, input: u32, r: Rank) -> &[u8]
         requires input { input < self.now.inputs }
         requires rank { r < self.now.ranks }
-        ensures { result.now ≡ list_of self.now input r }
+        ensures told { result.now ≡ list_of self.now input r }
     {
         self.lists[input as usize * self.ranks as usize + r as usize].as_slice()
     }

@@ -45,7 +45,7 @@ pub enum Refusal {
 impl Refusal {
     /// The name as it is written into a refusal's line.
     pub fn word(&self) -> &'static str
-        ensures { result.now ≡ refusal_word self.now }
+        ensures told { result.now ≡ refusal_word self.now }
     {
         match self {
             Refusal::TooLong => "TooLong",

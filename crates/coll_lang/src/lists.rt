@@ -30,7 +30,7 @@ impl Name {
 
     /// The bytes of the name.
     pub fn as_slice(&self) -> &[u8]
-        ensures { result.now ≡ self.now }
+        ensures told { result.now ≡ self.now }
     {
         self.bytes.as_slice()
     }
@@ -51,14 +51,14 @@ impl Model for Text {
 impl Text {
     /// The text of these bytes. It takes no memory.
     pub fn of(bytes: Vec<u8>) -> Text
-        ensures { result ≡ bytes.items }
+        ensures made { result ≡ bytes.items }
     {
         Text { bytes }
     }
 
     /// The bytes of the text.
     pub fn as_slice(&self) -> &[u8]
-        ensures { result.now ≡ self.now }
+        ensures told { result.now ≡ self.now }
     {
         self.bytes.as_slice()
     }
@@ -79,14 +79,14 @@ impl Model for RankList {
 impl RankList {
     /// The list of these bytes. It takes no memory.
     pub fn of(bytes: Vec<u8>) -> RankList
-        ensures { result ≡ bytes.items }
+        ensures made { result ≡ bytes.items }
     {
         RankList { bytes }
     }
 
     /// The bytes of the list.
     pub fn as_slice(&self) -> &[u8]
-        ensures { result.now ≡ self.now }
+        ensures told { result.now ≡ self.now }
     {
         self.bytes.as_slice()
     }

@@ -256,7 +256,7 @@ fn print_all(out: &mut Vec<u8>, d: &Description) -> Result<(), AllocError>
 ///
 /// There was no memory for the text.
 pub fn print(alloc: Global, d: &Description) -> Result<Text, NoMemory>
-    ensures { IfOk result (λ t. t ≡ text d.now) }
+    ensures spelled { IfOk result (λ t. t ≡ text d.now) }
 {
     let mut out = Vec::new(alloc);
     match print_all(&mut out, d) {

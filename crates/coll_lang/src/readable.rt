@@ -6,11 +6,11 @@ ghost use Rattle.coll_lang.specs.Readable.{ReadsExactly, AcceptedIsReadable};
 /// formed, has the values that its shape asks, no more elements are printed than may be, and the text isn't too long.
 /// So two texts never describe the same, and whatever makes a readable description may write its text and have it read.
 pub fn reads_exactly()
-    ensures { ReadsExactly }
+    ensures exactly { ReadsExactly }
 {}
 
 /// What a description keeps: it is readable, where the prints may have as many elements as what runs so far may print.
 /// This is what the crates above may rest on.
 pub fn accepted_is_readable()
-    ensures { AcceptedIsReadable }
+    ensures readable { AcceptedIsReadable }
 {}

@@ -168,5 +168,5 @@ pub fn parse(alloc: Global, bytes: &[u8]) -> Result<Description, ParseFault>
 
 /// No print of what runs so far is refused for its elements: with a higher limit each text is read alike.
 pub fn no_print_is_too_large()
-    ensures { first.NoPrintIsTooLarge }
+    ensures alike { first.NoPrintIsTooLarge }
 {}

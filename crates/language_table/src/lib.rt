@@ -17,10 +17,10 @@ pub fn refused_by_the_rows()
 /// the lowest row. A line that is due but has no LF is Unended, and bytes behind the last line are AfterEnd, with the line
 /// behind it.
 pub fn texts_refused_by_the_rows()
-    ensures { TextsByTheRows }
+    ensures rows { TextsByTheRows }
 {}
 
 /// The words of a line say what may stand there exactly where they are those of a line of the table that may.
 pub fn words_by_the_table()
-    ensures { WordsByTheTable }
+    ensures table { WordsByTheTable }
 {}

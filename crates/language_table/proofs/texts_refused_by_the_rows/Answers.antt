@@ -2,4 +2,4 @@ use Rattle.language_table.proofs.Texts.{texts_by_the_rows}
 use Rattle.language_table.proofs.texts_refused_by_the_rows.Goals as goal
 
 pub returns : goal.returns
-returns c = texts_by_the_rows
+returns c = record { rows = texts_by_the_rows }

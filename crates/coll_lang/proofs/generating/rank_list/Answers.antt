@@ -9,4 +9,4 @@ pub returns : goal.returns
 unfolding rank_elements
 returns c =
     let end : c.loop-i.i ≡ 64 = omega arith in
-    c.of.ensures ∙ c.loop-i.invariant ∙ ap (λ n. bytes_of_list U32 (map (value_at c.args.k c.args.r) (range_with_len 0 n))) end
+    c.of.ensures.made ∙ c.loop-i.invariant ∙ ap (λ n. bytes_of_list U32 (map (value_at c.args.k c.args.r) (range_with_len 0 n))) end

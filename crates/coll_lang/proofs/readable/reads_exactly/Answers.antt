@@ -5,4 +5,4 @@ use Rattle.coll_lang.proofs.TextBack.{reads_back}
 use Rattle.coll_lang.proofs.readable.reads_exactly.Goals as goal
 
 pub returns : goal.returns
-returns c = λ most bytes d. (λ h. (readable most bytes d h, one_spelling most bytes d h), λ h. ap (read_up_to most) h.1 ∙ reads_back most d h.0)
+returns c = record { exactly = λ most bytes d. (λ h. (readable most bytes d h, one_spelling most bytes d h), λ h. ap (read_up_to most) h.1 ∙ reads_back most d h.0) }

@@ -13,8 +13,8 @@ use Rattle.coll_meaning.proofs.meaning.all_buffers.Goals as goal
 pub loop-step-init : goal.loop-step-init
 unfolding buffers
 loop-step-init c = record {
-  whole = rw (c.in_ok-held.ensures, c.min-inputs.ensures, c.ranks-ranks.ensures, c.steps-steps.ensures.steps, c.lists.ensures, c.inputs.ensures.inputs, c.buffers-buffers.ensures, c.input_count.ensures, c.shape-shape.ensures.shape, take_least c.args.d.now.shape.inputs c.args.d.now.shape.buffers) refl;
-  keeps = rw (c.in_ok-held.ensures, c.min-inputs.ensures, c.ranks-ranks.ensures, c.steps-steps.ensures.steps, c.buffers-buffers.ensures, c.input_count.ensures, take_least c.shape-shape.result.now.inputs c.shape-shape.result.now.buffers)
+  whole = rw (c.in_ok-held.ensures, c.min-inputs.ensures, c.ranks-ranks.ensures.told, c.steps-steps.ensures.steps, c.lists.ensures.told, c.inputs.ensures.inputs, c.buffers-buffers.ensures.told, c.input_count.ensures.told, c.shape-shape.ensures.shape, take_least c.args.d.now.shape.inputs c.args.d.now.shape.buffers) refl;
+  keeps = rw (c.in_ok-held.ensures, c.min-inputs.ensures, c.ranks-ranks.ensures.told, c.steps-steps.ensures.steps, c.buffers-buffers.ensures.told, c.input_count.ensures.told, take_least c.shape-shape.result.now.inputs c.shape-shape.result.now.buffers)
       (keeps_start c.shape-shape.result.now c.lists.result.now c.steps-steps.ensures.well_formed);
 }
 

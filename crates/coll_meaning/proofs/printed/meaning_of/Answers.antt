@@ -4,4 +4,4 @@ use Rattle.coll_meaning.proofs.printed.meaning_of.Goals as goal
 
 pub returns-in-Ok : goal.returns-in-Ok
 unfolding meaning
-returns-in-Ok c = record { value = rw (c.in-Ok.ensures, c.ranks.ensures, c.buffers.ensures, c.prints.ensures, c.in_ok-held.ensures.value, c.shape-shape.ensures.shape) refl }
+returns-in-Ok c = record { value = rw (c.in-Ok.ensures, c.ranks.ensures.told, c.buffers.ensures.told, c.prints.ensures.told, c.in_ok-held.ensures.value, c.shape-shape.ensures.shape) refl }

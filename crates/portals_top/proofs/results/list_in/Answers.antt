@@ -7,7 +7,7 @@ use Rattle.portals_top.proofs.results.list_in.Goals as goal
 pub returns-then-buffer-eq0 : goal.returns-then-buffer-eq0
 returns-then-buffer-eq0 c =
     let zeroth : c.args.buffer ≡ 0 = c.if-buffer-eq0.true in
-    c.list.ensures ∙ (ap (λ i. list_of i 0 c.args.rank) c.inputs.ensures.inputs ∙ (first_list c.args.d.now c.args.rank c.requires.form
+    c.list.ensures.told ∙ (ap (λ i. list_of i 0 c.args.rank) c.inputs.ensures.inputs ∙ (first_list c.args.d.now c.args.rank c.requires.form
     ∙ ap (λ i. list_at (ranks_at (buffers c.args.d.now) i) c.args.rank) (sym zeroth)))
 
 pub returns-else-buffer-eq0 : goal.returns-else-buffer-eq0

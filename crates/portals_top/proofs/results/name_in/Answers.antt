@@ -5,6 +5,6 @@ use Rattle.portals_top.proofs.results.name_in.Goals as goal
 
 pub returns : goal.returns
 returns c =
-    let same : c.buffers.result.now ≡ c.args.d.now.shape.buffers = c.buffers.ensures ∙ ap (λ s. s.buffers) c.shape.ensures.shape in
+    let same : c.buffers.result.now ≡ c.args.d.now.shape.buffers = c.buffers.ensures.told ∙ ap (λ s. s.buffers) c.shape.ensures.shape in
     let in_range : c.args.buffer < length c.buffers.result.now = rw same c.requires in
     name_at-is c.buffers.result.now c.args.buffer _ in_range ∙ ap (λ bs. name_at bs c.args.buffer) same

@@ -14,7 +14,7 @@ returns-in_err-result_line g c =
     let before = g.K.Sink.outflow c.loop-rank.sink in
     let new = g.K.Sink.outflow c.result_line.new.sink in
     let text = c.args.out.now ++ lines_from d i 0 d.shape.ranks in
-    let ranks : c.ranks-rank-end.result ≡ d.shape.ranks = c.ranks-rank-end.ensures ∙ ap (λ s. s.ranks) c.shape.ensures.shape in
+    let ranks : c.ranks-rank-end.result ≡ d.shape.ranks = c.ranks-rank-end.ensures.told ∙ ap (λ s. s.ranks) c.shape.ensures.shape in
     let next = lines_from-next d i rank d.shape.ranks (omega arith) in
     let line = line_at-rank d i rank c.name_in-name.result.now c.list_in.result.now c.requires.form c.requires.buffer c.name_in-name.ensures c.list_in.ensures in
     Puts-stops old new c.args.out.now c.result_line.new.out (lines_from d i 0 d.shape.ranks) _ c.from_residual.ensures.0
@@ -31,7 +31,7 @@ loop-rank-preserved g c =
     let before = g.K.Sink.outflow c.loop-rank.sink in
     let new = g.K.Sink.outflow c.result_line.new.sink in
     let text = c.args.out.now ++ lines_from d i 0 d.shape.ranks in
-    let ranks : c.ranks-rank-end.result ≡ d.shape.ranks = c.ranks-rank-end.ensures ∙ ap (λ s. s.ranks) c.shape.ensures.shape in
+    let ranks : c.ranks-rank-end.result ≡ d.shape.ranks = c.ranks-rank-end.ensures.told ∙ ap (λ s. s.ranks) c.shape.ensures.shape in
     let next = lines_from-next d i rank d.shape.ranks (omega arith) in
     let line = line_at-rank d i rank c.name_in-name.result.now c.list_in.result.now c.requires.form c.requires.buffer c.name_in-name.ensures c.list_in.ensures in
     Takes-next old before new text c.loop-rank.out c.result_line.new.out (result_line (at_rank d i rank)) (lines_from d i (rank + 1) (d.shape.ranks - (rank + 1)))
