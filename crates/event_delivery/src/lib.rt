@@ -3,7 +3,7 @@
 #![tactic(auto)]
 
 ghost use Rattle.std.specs.Prelude.{◌≡◌};
-ghost use Rattle.ni_model.specs.Tables.{where_set as set_by, is_live_or_none as lives};
+ghost use Rattle.ni_model.specs.Tables.{where_set as set_by, is_live_or_none as lives, names as names_it};
 ghost use Rattle.ni_model.specs.Counts.{counted, successes as success_of};
 ghost use Rattle.ni_model.specs.Queues.{raised};
 
@@ -17,14 +17,14 @@ mod tests;
 
 /// The handle, where the flag is set: the counting event of an entry or a descriptor, where it counts events of one kind.
 pub fn where_set(flag: bool, handle: Option<Handle>) -> Option<Handle>
-    ensures { result ≡ set_by flag handle }
+    ensures told { result ≡ set_by flag handle }
 {
     if flag { handle } else { None }
 }
 
 /// Whether the thing that is named, if any, is live. An absent handle names nothing, and nothing is missing then.
 pub fn is_live_or_none<T>(things: &Store<T>, handle: Option<Handle>) -> bool
-    ensures { result ≡ lives handle things.now }
+    ensures told { result ≡ lives handle things.now }
 {
     match handle {
         Some(h) => things.is_live(h),
@@ -32,9 +32,19 @@ pub fn is_live_or_none<T>(things: &Store<T>, handle: Option<Handle>) -> bool
     }
 }
 
+/// Whether the handle is the one that is named, if any.
+pub fn names(named: Option<Handle>, handle: Handle) -> bool
+    ensures told { result ≡ names_it named handle }
+{
+    match named {
+        Some(h) => h.is(handle),
+        None => false,
+    }
+}
+
 /// That many successes, and no failure.
 pub fn successes(success: u64) -> Count
-    ensures { result ≡ success_of success }
+    ensures told { result ≡ success_of success }
 {
     Count {
         success,
@@ -45,7 +55,7 @@ pub fn successes(success: u64) -> Count
 /// Counts on this counting event, where one is named. It stops at the end of the counter, successes first. A handle that isn't
 /// live changes nothing.
 pub fn count(cts: &mut Store<Counter>, ct: Option<Handle>, by: Count)
-    ensures { cts.new ≡ counted ct by cts.old }
+    ensures does { cts.new ≡ counted ct by cts.old }
 {
     if let Some(h) = ct {
         if let Some(counter) = cts.get_mut(h) {
@@ -57,7 +67,7 @@ pub fn count(cts: &mut Store<Counter>, ct: Option<Handle>, by: Count)
 /// Adds the event to this event queue, where one is named. Where the queue is full it is this event that is lost. A handle that
 /// isn't live changes nothing.
 pub fn raise(eqs: &mut Store<Queue>, eq: Option<Handle>, event: Event)
-    ensures { eqs.new ≡ raised eq event eqs.old }
+    ensures does { eqs.new ≡ raised eq event eqs.old }
 {
     if let Some(h) = eq {
         if let Some(queue) = eqs.get_mut(h) {

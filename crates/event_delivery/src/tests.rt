@@ -1,6 +1,6 @@
 //! A count and an event reach what is named, and nothing where none is.
 
-use crate::{count, is_live_or_none, raise, successes, where_set};
+use crate::{count, is_live_or_none, names, raise, successes, where_set};
 use counters::Counter;
 use event_queues::Queue;
 use handle_store::Store;
@@ -30,6 +30,7 @@ fn what_is_named_counts(rt: HostRuntime) -> Result<(), Fail> {
     let counted = cts.get(FIRST).map(|counter| counter.count());
     assert_eq!(rt; counted, Some(successes(2)));
     assert!(rt; is_live_or_none(&cts, None));
+    assert!(rt; names(Some(FIRST), FIRST));
     Ok(())
 }
 

@@ -31,11 +31,11 @@ start-has_header rank (Swap g a op ty operand) is = refl
 start-has_header rank (Inc ct by) is = cc
 start-has_header rank (Set ct to) is = cc
 
-need-test : (t : Bool) (f : NiFault) (later : Option NiFault) → need t f later ≡ None → t ≡ true
+pub need-test : (t : Bool) (f : NiFault) (later : Option NiFault) → need t f later ≡ None → t ≡ true
 need-test true f later e = refl
 need-test false f later e = cc
 
-need-later : (t : Bool) (f : NiFault) (later : Option NiFault) → need t f later ≡ None → later ≡ None
+pub need-later : (t : Bool) (f : NiFault) (later : Option NiFault) → need t f later ≡ None → later ≡ None
 need-later true f later e = e
 need-later false f later e = cc
 

@@ -4,6 +4,7 @@ ghost use Rattle.std.specs.Prelude.{◌≡◌, ◌+◌, ◌≤◌, true, length}
 ghost use Rattle.ni_model.specs.Events.{is_reply as replies, asks_event as asks, answer_event as event_of};
 ghost use Rattle.ni_model.specs.Answers.{bound_at, is_due as due, memory_home, one_answer as count_of_answer, counter_home as counter_of, events_home, awaits_less};
 ghost use Rattle.ni_model.specs.Conditions.{IsBoundIn};
+ghost use Rattle.ptl_types.specs.Handles.{top};
 
 use event_delivery::{raise, where_set};
 use event_queues::Queue;
@@ -44,6 +45,7 @@ pub fn is_due(header: &Header, bound: &Bound) -> bool
         Some(end) => end <= bound.md.length,
         None => false,
     };
+    // Brings the bound of the length to the proof.
     let _length = bound.md.length;
     bound.awaits > 0 && (!(is_reply(header.kind) && header.ok) || fits)
 }
@@ -54,6 +56,7 @@ pub fn bring(region: &mut Region, bound: &Bound, message: &Message)
     requires due { due message.now.header bound.now ≡ true }
     ensures { region.new ≡ memory_home bound.now message.now region.old }
 {
+    // Brings the bound of the region's length to the proof.
     let _size = region.len();
     let header = message.header();
     if is_reply(header.kind) && header.ok {
@@ -94,7 +97,7 @@ pub fn counter_home(header: &Header, bound: &Bound) -> Option<Handle>
 /// The first byte that a reply wrote, in bytes of the region; 0 where it wrote none.
 fn place_home(header: &Header, bound: &Bound) -> u64
     requires due { due header.now bound.now ≡ true }
-    requires part { bound.now.md.start + bound.now.md.length ≤ 18446744073709551615 }
+    requires part { bound.now.md.start + bound.now.md.length ≤ top }
     ensures { result ≡ (event_of bound.now header.now).place }
 {
     if is_reply(header.kind) && header.ok && header.length > 0 {
@@ -107,7 +110,7 @@ fn place_home(header: &Header, bound: &Bound) -> u64
 /// The event of an answer that comes home (Portals 4.3, event types).
 fn answer_event(header: &Header, bound: &Bound) -> Event
     requires due { due header.now bound.now ≡ true }
-    requires part { bound.now.md.start + bound.now.md.length ≤ 18446744073709551615 }
+    requires part { bound.now.md.start + bound.now.md.length ≤ top }
     ensures { result ≡ event_of bound.now header.now }
 {
     Event {
@@ -130,7 +133,7 @@ fn answer_event(header: &Header, bound: &Bound) -> Event
 /// A reply raises its event, and an acknowledgement where one was asked for.
 pub fn raise_answer(eqs: &mut Store<Queue>, header: &Header, bound: &Bound)
     requires due { due header.now bound.now ≡ true }
-    requires part { bound.now.md.start + bound.now.md.length ≤ 18446744073709551615 }
+    requires part { bound.now.md.start + bound.now.md.length ≤ top }
     ensures { eqs.new ≡ events_home header.now bound.now eqs.old }
 {
     if is_reply(header.kind) || asks_event(header.ack) {

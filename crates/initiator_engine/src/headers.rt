@@ -65,46 +65,26 @@ fn get_header(rank: Rank, args: &GetArgs) -> Header
     }
 }
 
-/// The reply goes to the place of the get arguments, the rest is of the put arguments.
-fn fetch_atomic_header(
-    rank: Rank,
-    back: &GetArgs,
-    args: &PutArgs,
-    op: AtomicOp,
-    ty: ElemType,
-) -> Header
-    ensures { result ≡ fetch_of rank MessageKind.FetchAtomic back.now args.now (Some op) None ty 0 }
-{
-    Header {
-        kind: MessageKind::FetchAtomic,
-        op: Some(op),
-        ty,
-        hdr_data: args.hdr_data,
-        target: args.target,
-        pt: args.pt,
-        match_bits: args.match_bits,
-        offset: args.remote_offset,
-        length: args.length,
-        ..get_header(rank, back)
-    }
-}
-
-/// The same as of a fetch-atomic, with a swap's operation and operand.
-fn swap_header(
-    rank: Rank,
-    back: &GetArgs,
-    args: &PutArgs,
-    op: SwapOp,
+/// What a fetch-atomic or a swap does to each element.
+#[derive(Clone, Copy)]
+struct Change {
+    kind: MessageKind,
+    op: Option<AtomicOp>,
+    swap: Option<SwapOp>,
     ty: ElemType,
     operand: u64,
-) -> Header
-    ensures { result ≡ fetch_of rank MessageKind.Swap back.now args.now None (Some op) ty operand }
+}
+
+/// The header of a fetch-atomic or a swap: the reply goes to the place of the get arguments, the rest is of the put arguments.
+fn fetch_header(rank: Rank, back: &GetArgs, args: &PutArgs, change: Change) -> Header
+    ensures { result ≡ fetch_of rank change.kind back.now args.now change.op change.swap change.ty change.operand }
 {
     Header {
-        kind: MessageKind::Swap,
-        swap: Some(op),
-        ty,
-        operand,
+        kind: change.kind,
+        op: change.op,
+        swap: change.swap,
+        ty: change.ty,
+        operand: change.operand,
         hdr_data: args.hdr_data,
         target: args.target,
         pt: args.pt,
@@ -126,10 +106,24 @@ pub fn header_of(rank: Rank, deed: &Deed) -> Option<Header>
             Some(put_header(rank, MessageKind::Atomic, args, Some(*op), *ty))
         }
         Deed::FetchAtomic(back, args, op, ty) => {
-            Some(fetch_atomic_header(rank, back, args, *op, *ty))
+            let change = Change {
+                kind: MessageKind::FetchAtomic,
+                op: Some(*op),
+                swap: None,
+                ty: *ty,
+                operand: 0,
+            };
+            Some(fetch_header(rank, back, args, change))
         }
         Deed::Swap(back, args, op, ty, operand) => {
-            Some(swap_header(rank, back, args, *op, *ty, *operand))
+            let change = Change {
+                kind: MessageKind::Swap,
+                op: None,
+                swap: Some(*op),
+                ty: *ty,
+                operand: *operand,
+            };
+            Some(fetch_header(rank, back, args, change))
         }
         _ => None,
     }

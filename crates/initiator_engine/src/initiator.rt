@@ -70,7 +70,7 @@ impl Initiator {
         ranks: u32,
         limits: &Limits,
     ) -> Result<Initiator, NoMemory>
-        ensures { IfOk result (λ i. i ≡ initiating rank ranks limits.now (no_things limits.now.mds)) }
+        ensures makes { IfOk result (λ i. i ≡ initiating rank ranks limits.now (no_things limits.now.mds)) }
     {
         let mds = Store::open(alloc, limits.mds)?;
         Ok(Initiator {
@@ -83,21 +83,21 @@ impl Initiator {
 
     /// The rank that its messages come from.
     pub fn rank(&self) -> Rank
-        ensures { result ≡ self.now.rank }
+        ensures told { result ≡ self.now.rank }
     {
         self.rank
     }
 
     /// How many ranks there are.
     pub fn ranks(&self) -> u32
-        ensures { result ≡ self.now.ranks }
+        ensures told { result ≡ self.now.ranks }
     {
         self.ranks
     }
 
     /// Its limits.
     pub fn limits(&self) -> &Limits
-        ensures { result.now ≡ self.now.limits }
+        ensures told { result.now ≡ self.now.limits }
     {
         &self.limits
     }
@@ -153,14 +153,14 @@ impl Initiator {
 
     /// Whether the descriptor is bound.
     pub fn is_bound(&self, md: Handle) -> bool
-        ensures { result ≡ lives md self.now.mds }
+        ensures told { result ≡ lives md self.now.mds }
     {
         is_live(&self.mds, md)
     }
 
     /// How many answers the descriptor awaits; `Stale` where it isn't bound.
     pub fn awaits(&self, md: Handle) -> Result<u64, NiFault>
-        ensures { result ≡ awaits_of (lookup md self.now.mds.live) }
+        ensures told { result ≡ awaits_of (lookup md self.now.mds.live) }
     {
         match bound_of(&self.mds, Some(md)) {
             Some(bound) => Ok(bound.awaits),
@@ -170,14 +170,14 @@ impl Initiator {
 
     /// Whether a descriptor names the counting event.
     pub fn names_ct(&self, ct: Handle) -> bool
-        ensures { result ≡ md_names_ct ct self.now.mds.live }
+        ensures told { result ≡ md_names_ct ct self.now.mds.live }
     {
         some_names_ct(&self.mds, ct)
     }
 
     /// Whether a descriptor names the event queue.
     pub fn names_eq(&self, eq: Handle) -> bool
-        ensures { result ≡ md_names_eq eq self.now.mds.live }
+        ensures told { result ≡ md_names_eq eq self.now.mds.live }
     {
         some_names_eq(&self.mds, eq)
     }
@@ -185,7 +185,7 @@ impl Initiator {
     /// Whether the deed may start as far as its descriptors go: `Stale` where one of them isn't bound, `OutOfRegion` where a
     /// part that it names reaches past its descriptor.
     pub fn check(&self, deed: &Deed) -> Result<(), NiFault>
-        ensures { result ≡ by_fault (deed_fault deed.now self.now.mds) }
+        ensures told { result ≡ by_fault (deed_fault deed.now self.now.mds) }
     {
         if !deed_is_live(&self.mds, deed) {
             return Err(NiFault::Stale);
@@ -238,6 +238,7 @@ impl Initiator {
         ensures answered { has_returned (home self.new.mds region.new cts.new eqs.new) result.0 result.1 ≡ answered (home self.old.mds region.old cts.old eqs.old) message }
         ensures rest { self.new ≡ with_mds self.new.mds self.old }
     {
+        // Brings the bound of the region's length to the proof.
         let _size = region.len();
         let header = *message.header();
         let bound = match bound_of(&self.mds, header.home) {

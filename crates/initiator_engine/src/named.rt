@@ -1,21 +1,12 @@
 //! Which counting events and event queues the descriptors name.
 
 ghost use Rattle.std.specs.Prelude.{◌≡◌};
-ghost use Rattle.ni_model.specs.Tables.{names as names_it};
 ghost use Rattle.ni_model.specs.Refusals.{md_names_ct, md_names_eq};
 
+use event_delivery::names;
 use handle_store::Store;
 use ni_model::Bound;
 use ptl_types::Handle;
-
-fn names(named: Option<Handle>, handle: Handle) -> bool
-    ensures { result ≡ names_it named handle }
-{
-    match named {
-        Some(h) => h.is(handle),
-        None => false,
-    }
-}
 
 /// Whether a descriptor names the counting event. It goes through the slots of the table.
 pub fn some_names_ct(mds: &Store<Bound>, ct: Handle) -> bool

@@ -26,6 +26,7 @@ pub fn read_bytes(
     ensures length { length result.list ≡ args_length args }
     ensures room { result.room ≡ room.room }
 {
+    // Brings the bound of the region's length to the proof.
     let _size = region.len();
     room.clear();
     if let Some(args) = args {

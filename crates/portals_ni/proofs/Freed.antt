@@ -19,7 +19,8 @@ use Rattle.portals_ni.specs.Lasting.{HasEntries, EntryIsLive, QueueIsLive, Bound
 use Rattle.portals_ni.specs.Sound.{Stands}
 use Rattle.portals_ni.proofs.Counts.{lookup-without}
 use Rattle.portals_ni.proofs.Homes.{neither}
-use Rattle.portals_ni.proofs.Kept.{need-test, need-later, not-false}
+use Rattle.initiator_engine.proofs.Starting.{need-test, need-later}
+use Rattle.portals_ni.proofs.Kept.{not-false}
 use Rattle.portals_ni.proofs.Steady.{sums-without}
 use Rattle.portals_ni.proofs.Stands.{by-fault}
 

@@ -35,6 +35,7 @@ use Rattle.portals_ni.specs.declared.armed.Armed.{Armed}
 use Rattle.portals_ni.specs.Answers.{deed_counts, deed_counter}
 use Rattle.portals_ni.specs.Pendings.{told_by, told_new}
 use Rattle.portals_ni.specs.Sound.{IsArmed, IsTold, IsSound}
+use Rattle.initiator_engine.proofs.Starting.{need-test, need-later}
 use Rattle.portals_ni.proofs.Counts.{ChangesAt, changes-none, changes-one, changes-counted, changes-new}
 use Rattle.portals_ni.proofs.Parts.{unlink-parts}
 use Rattle.portals_ni.proofs.Targets.{Keeps, search-keeps, AppendKeeps, append-keeps}
@@ -92,14 +93,6 @@ fewer-sound t r c i ops left is fewer = record {
   armed = fewer (λ w. IsArmed i.mds i.ranks i.limits w.deed) is.armed;
   told = fewer (IsTold c) is.told;
 }
-
-pub need-later : (t : Bool) (f : NiFault) (later : Option NiFault) → need t f later ≡ None → later ≡ None
-need-later true f later e = e
-need-later false f later e = cc
-
-pub need-test : (t : Bool) (f : NiFault) (later : Option NiFault) → need t f later ≡ None → t ≡ true
-need-test true f later e = refl
-need-test false f later e = cc
 
 within-le : (start size n : ℕ) → is_within start size n ≡ true → start + size ≤ n
 within-le start size n e = grind (arith, nat_tests)

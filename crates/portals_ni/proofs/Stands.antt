@@ -35,7 +35,8 @@ use Rattle.portals_ni.specs.Answers.{MakesIfMemory}
 use Rattle.portals_ni.specs.Lasting.{HasEntries, EntryIsLive, QueueIsLive, BoundIsLive, OperationIsLive}
 use Rattle.portals_ni.specs.Sound.{Stands, state_of}
 use Rattle.portals_ni.proofs.Firing.{Ops}
-use Rattle.portals_ni.proofs.Kept.{need-test, need-later, and-left, and-right, not-false}
+use Rattle.initiator_engine.proofs.Starting.{need-test, need-later}
+use Rattle.portals_ni.proofs.Kept.{and-left, and-right, not-false}
 use Rattle.portals_ni.proofs.Parts.{new-entries, freed-entries, unlink-entries}
 use Rattle.portals_ni.proofs.Steady.{Grows, grows-same, grows-changed, grows-new, CountsOn, counts-same, counts-changed, counts-counted, counts-new}
 use Rattle.portals_ni.proofs.Leads.{Leads, leads-stands, parts-lead, home-lead, request-lead, append-lead, search-lead, started-lead, answered-lead}

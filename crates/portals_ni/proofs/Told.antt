@@ -8,18 +8,12 @@ use Rattle.ptl_types.specs.declared.handles.Count.{Count}
 use Rattle.ptl_types.specs.Handles.{same_handle}
 use Rattle.ni_model.specs.Tables.{Table, lookup, names}
 use Rattle.ni_model.specs.Counts.{total}
-use Rattle.handle_store.proofs.StoreLemmas.{same_by_parts}
 use Rattle.triggered_ops.specs.Operations.{Operation, Operations, waits_on, told_if, posted, posted_all}
+use Rattle.target_engine.proofs.Records.{same-is}
 use Rattle.portals_ni.specs.declared.armed.Armed.{Armed}
 use Rattle.portals_ni.specs.Pendings.{deed_in, tell_at, told_by}
 use Rattle.portals_ni.specs.Sound.{IsTold}
 use Rattle.portals_ni.proofs.Counts.{ChangesAt}
-
-pub same-is : (a b : Handle) → same_handle a b ≡ true → a ≡ b
-same-is a b e =
-    let stamp : a.stamp ≡ b.stamp = grind (arith, nat_tests) in
-    let slot : a.slot ≡ b.slot = grind (arith, nat_tests) in
-    same_by_parts b a.slot a.stamp slot stamp
 
 pub same-sym : (a b : Handle) → same_handle a b ≡ same_handle b a
 same-sym a b = grind (arith, nat_tests)

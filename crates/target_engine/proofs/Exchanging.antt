@@ -119,5 +119,3 @@ over n xs ys e = rw e (take-append_seam xs ys)
 pub ruleset combining = (new-op, new-swap, new-no_element, new-plain)
 
 pub ruleset exchanging = (delivered-le, place-within, delivered-whole, delivered-one, delivered-bytes)
-
-pub ruleset swapping = (one-element)

@@ -1,18 +1,12 @@
--- The steps of reading and writing the bit pattern of an element.
-use Rattle.std.proofs.Common.{◌≡◌, ℕ, suc, ◌+◌, ◌-◌, ◌*◌, ◌/◌, ◌%◌, ◌<◌, ◌≤◌, ◌^◌, Fits, w64, List, ◌++◌, take, length, set, refl, arith, lit<, add-one, append_assoc}
-use Rattle.std.proofs.Math.Nat.{pow-le-pow_right}
-use Rattle.std.proofs.Math.Seq.{take-suc-set}
-use Rattle.ptl_types.specs.Elements.{little_endian}
+-- What a masked swap leaves is a bit pattern of the type.
+use Rattle.std.proofs.Common.{ℕ, ◌*◌, ◌<◌, ◌≤◌, arith}
+use Rattle.std.specs.Prelude.{bit_and, bit_or}
+use Rattle.std.proofs.lemmas.Nat.{or_lt, and_le_l}
+use Rattle.ptl_types.specs.declared.elements.ElemType.{ElemType}
+use Rattle.ptl_types.specs.Operations.{bytes_of, span}
 
-pub fits_mul : (r n : ℕ) → r < 256 ^ n → n ≤ 7 → Fits w64 (256 * r)
-fits_mul r n lt le = let p : 256 ^ n ≤ 256 ^ 7 = pow-le-pow_right (lit< tt) le in omega arith
+below : (a b n : ℕ) → a ≤ b → b < n → a < n
+below a b n le lt = omega arith
 
-pub fits_add : (b r n : ℕ) → b < 256 → r < 256 ^ n → n ≤ 7 → Fits w64 (b + 256 * r)
-fits_add b r n small lt le = let p : 256 ^ n ≤ 256 ^ 7 = pow-le-pow_right (lit< tt) le in omega arith
-
--- one more byte
-pub write_more : (xs : List ℕ) (i n left w : ℕ) → i < n → length xs ≡ n → w ≡ left % 256 → take (i + 1) (set xs i w) ++ little_endian (n - (i + 1)) (left / 256) ≡ take i xs ++ little_endian (n - i) left
-write_more xs i n left w lt e is =
-    let k : n - i ≡ suc (n - suc i) = omega arith in
-    let l : i < length xs = omega arith in
-    rw (add-one, take-suc-set xs i w l, append_assoc, is, k) refl
+pub masked_lt : (ty : ElemType) (old kept new named : ℕ) → old < span ty → new < span ty → bit_or (bit_and old kept) (bit_and new named) < span ty
+masked_lt ty old kept new named lo ln = or_lt (8 * bytes_of ty) _ _ (below _ old _ (and_le_l old kept) lo) (below _ new _ (and_le_l new named) ln)

@@ -49,7 +49,7 @@ fn missed_event(pt: u32, entry: &Entry) -> Event
 
 impl Target {
     /// Allocates a portal table index with its event queue, if any (Portals 4.3, portal table). `Stale` where the queue
-    /// isn't live, `NoSpace` where the index is past the limit, `InUse` where it is allocated, `NoMemory` for its lists. A
+    /// isn't live, `NoSpace` where the index is at or past the limit, `InUse` where it is allocated, `NoMemory` for its lists. A
     /// refused call changes nothing.
     pub fn pt_alloc(
         &mut self,

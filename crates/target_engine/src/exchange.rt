@@ -22,6 +22,7 @@ fn write_put(region: &mut Region, linked: &Linked, message: &Message)
     requires put { message.now.header.kind ≡ MessageKind.Put }
     ensures { region.new ≡ memory_after linked.now message.now region.old }
 {
+    // Brings the bound of the region's length to the proof.
     let _size = region.len();
     let count = delivered(linked, message.header());
     let at = place(linked, message.header());

@@ -65,6 +65,7 @@ pub fn running_after(linked: &Linked, header: &Header) -> u64
     requires { linked.now.entry.manage_local ≡ true }
     ensures { result ≡ running_of linked.now header.now }
 {
+    // Brings the bound of the length to the proof.
     let _length = linked.entry.length;
     linked.running + delivered(linked, header)
 }

@@ -1,22 +1,11 @@
 //! The swaps, on one element.
 
-ghost use Rattle.std.specs.Prelude.{◌≡◌, ◌+◌, ◌-◌, ◌*◌, ◌/◌, ◌%◌, ◌≤◌, ◌<◌, ◌^◌, length};
-ghost use Rattle.ptl_types.specs.Elements.{pattern, little_endian, by_element};
+ghost use Rattle.std.specs.Prelude.{◌≡◌, ◌+◌, ◌/◌, ◌%◌, ◌<◌, length};
+ghost use Rattle.ptl_types.specs.Elements.{by_element};
 ghost use Rattle.ptl_types.specs.Operations.{bytes_of, span, swapped as swapped_of};
 
+use lane_ops::{read_pattern, write_pattern};
 use ptl_types::{ElemType, SwapOp};
-
-/// The bit pattern of little-endian bytes.
-fn pattern_of(bytes: &[u8]) -> u64
-    requires { length bytes.now ≤ 8 }
-    ensures value { result ≡ pattern bytes.now }
-    ensures small { result < 256 ^ length bytes.now }
-{
-    match bytes {
-        [] => 0,
-        [first, rest @ ..] => *first as u64 + 256 * pattern_of(rest),
-    }
-}
 
 /// The greatest bit pattern of the type.
 fn mask(ty: ElemType) -> u64
@@ -44,8 +33,12 @@ fn element_bits(ty: ElemType, operand: u64) -> u64
 }
 
 /// The bit pattern that a swap writes over `old`, where `new` came.
+#[tactic(auto, using(crate::proofs::Swapping::masked_lt))]
 fn swapped(op: SwapOp, ty: ElemType, operand: u64, old: u64, new: u64) -> u64
-    ensures { result ≡ swapped_of op ty operand old new }
+    requires old { old < span ty }
+    requires new { new < span ty }
+    ensures value { result ≡ swapped_of op ty operand old new }
+    ensures pattern { result < span ty }
 {
     match op {
         SwapOp::Swap => new,
@@ -54,24 +47,13 @@ fn swapped(op: SwapOp, ty: ElemType, operand: u64, old: u64, new: u64) -> u64
     }
 }
 
-/// Writes the bytes of a bit pattern over all of the list.
-fn write_pattern(bytes: &mut [u8], x: u64)
-    ensures { bytes.new ≡ little_endian (length bytes.old) x }
-{
-    let mut left = x;
-    for byte in bytes.iter_mut() {
-        *byte = (left % 256) as u8;
-        left /= 256;
-    }
-}
-
 /// What a swap writes over the element `old`: `new` holds the element that came, and then that.
-#[tactic(auto, using(crate::proofs::Exchanging::swapping))]
 pub fn swap_element(op: SwapOp, ty: ElemType, operand: u64, old: &[u8], new: &mut [u8])
     requires old { length old.now ≡ bytes_of ty }
     requires new { length new.old ≡ bytes_of ty }
     ensures { new.new ≡ by_element (swapped_of op ty operand) (bytes_of ty) (length old.now / bytes_of ty) old.now new.old }
 {
-    let x = swapped(op, ty, operand, pattern_of(old), pattern_of(new));
-    write_pattern(new, x);
+    let before = read_pattern(ty, old);
+    let came = read_pattern(ty, new);
+    write_pattern(ty, new, swapped(op, ty, operand, before, came));
 }

@@ -132,7 +132,7 @@ fn records(limits: &Limits) -> Result<u32, NoMemory>
 impl Target {
     /// A target of this rank with no index allocated, no entry linked and no header. It has the room of its limits.
     pub fn open(alloc: Global, rank: Rank, limits: &Limits) -> Result<Target, NoMemory>
-        ensures { IfOk result (λ t. t ≡ side rank limits.now.entries (replicate limits.now.pts None) 0 (held [] limits.now.unexpected)) }
+        ensures makes { IfOk result (λ t. t ≡ side rank limits.now.entries (replicate limits.now.pts None) 0 (held [] limits.now.unexpected)) }
     {
         let indices = empty_indices(alloc, limits.pts)?;
         let places = Store::open(alloc, records(limits)?)?;
@@ -149,7 +149,7 @@ impl Target {
 
     /// Header number i of an index in the order of arrival, from 0; `None` exactly where the index has no more than i.
     pub fn header(&self, pt: u32, i: u32) -> Option<&UnexpectedHeader>
-        ensures { option_copied result ≡ header_at pt i self.now.headers.noted }
+        ensures told { option_copied result ≡ header_at pt i self.now.headers.noted }
     {
         self.headers.at(pt, i)
     }
@@ -165,7 +165,7 @@ impl Target {
     ) -> Arrived
         requires request { is_answer message.header.kind ≡ false }
         requires inside { All (HasPartsIn (length region.old)) self.old.indices }
-        ensures { received (parts self.new region.new cts.new eqs.new) result ≡ request_of (parts self.old region.old cts.old eqs.old) message }
+        ensures does { received (parts self.new region.new cts.new eqs.new) result ≡ request_of (parts self.old region.old cts.old eqs.old) message }
     {
         let header = *message.header();
         let found = match chosen_in(&self.indices, &header) {
@@ -215,6 +215,7 @@ impl Target {
         requires there { is_linked_at found.now.list found.now.linked.handle (index_at message.header.pt self.old.indices) ≡ true }
         ensures { received (parts self.new region.new cts.new eqs.new) result ≡ accepted (parts self.old region.old cts.old eqs.old) message found.now }
     {
+        // Brings the bound of the region's length to the proof.
         let _size = region.len();
         let header = *message.header();
         let eq = queue_at(&self.indices, header.pt);

@@ -8,6 +8,7 @@ ghost use Rattle.target_engine.specs.Shelves.{seen_in};
 use crate::index::{Index, unlink_at};
 use crate::places::{linked_record, unlink_place};
 use crate::target::Target;
+use event_delivery::names;
 use ptl_types::{Handle, NiFault};
 
 /// Whether an entry of some index names the counting event.
@@ -30,10 +31,8 @@ fn some_names_eq(indices: &[Option<Index>], eq: Handle) -> bool
 {
     for slot in indices {
         if let Some(shelf) = slot {
-            if let Some(named) = shelf.eq {
-                if named.is(eq) {
-                    return true;
-                }
+            if names(shelf.eq, eq) {
+                return true;
             }
         }
     }
@@ -64,14 +63,14 @@ impl Target {
 
     /// Whether a linked entry names the counting event.
     pub fn names_ct(&self, ct: Handle) -> bool
-        ensures { result ≡ index_names_ct ct self.now.indices }
+        ensures told { result ≡ index_names_ct ct self.now.indices }
     {
         some_names_ct(&self.indices, ct)
     }
 
     /// Whether a portal table index has the event queue.
     pub fn names_eq(&self, eq: Handle) -> bool
-        ensures { result ≡ index_names_eq eq self.now.indices }
+        ensures told { result ≡ index_names_eq eq self.now.indices }
     {
         some_names_eq(&self.indices, eq)
     }

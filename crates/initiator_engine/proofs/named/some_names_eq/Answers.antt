@@ -8,14 +8,14 @@ use Rattle.initiator_engine.proofs.named.some_names_eq.Goals.{in-Some+else-names
 
 pub returns-then-names : goal.returns-then-names
 returns-then-names c =
-    let names : uses_eq c.args.eq c.in-Some.bound.now ≡ true = sym c.names.ensures ∙ c.if-names.true in
+    let names : uses_eq c.args.eq c.in-Some.bound.now ≡ true = sym c.names.ensures.told ∙ c.if-names.true in
     sym (eq-named c.args.eq c.args.mds.now.live ∙ slots-found (uses_eq c.args.eq) c.in-Some.field-0-0 c.in-Some.bound.now c.args.mds.now.live c.in-Some.ensures.found.1 names)
 
 pub loop-slot-preserved : goal.loop-slot-preserved
 loop-slot-preserved c =
     elim c.match-at.branch [
       | in-Some+else-names w ↦
-          slots-other (uses_eq c.args.eq) c.loop-slot.slot w.in-Some.bound.now c.args.mds.now.live c.loop-slot.invariant w.in-Some.ensures.only (sym w.names.ensures ∙ w.if-names.false)
+          slots-other (uses_eq c.args.eq) c.loop-slot.slot w.in-Some.bound.now c.args.mds.now.live c.loop-slot.invariant w.in-Some.ensures.only (sym w.names.ensures.told ∙ w.if-names.false)
       | in_default w ↦ slots-empty (uses_eq c.args.eq) c.loop-slot.slot c.args.mds.now.live c.loop-slot.invariant w.in_default.ensures.none
     ]
 

@@ -28,5 +28,5 @@ returns c =
       free = s.1;
       ended =
           rw (← by-once s.0 c.args.pt c.args.entry (parts c.args.self.now region c.args.cts.now c.args.eqs.now) c.requires.once)
-          (rw (← c.self.view_is, o, c.count.ensures, c.raise_gone.ensures, c.frees-freed.ensures.freed, c.frees-freed.ensures.counted, given-by, c.kind_taken-kind.ensures, c.overflow_counter-ct.ensures, c.successes.ensures, c.deref.ensures.value, c.deref-2.ensures.value, c.take_oldest.ensures.rest, freed) refl);
+          (rw (← c.self.view_is, o, c.count.ensures.does, c.raise_gone.ensures, c.frees-freed.ensures.freed, c.frees-freed.ensures.counted, given-by, c.kind_taken-kind.ensures, c.overflow_counter-ct.ensures, c.successes.ensures.told, c.deref.ensures.value, c.deref-2.ensures.value, c.take_oldest.ensures.rest, freed) refl);
     }

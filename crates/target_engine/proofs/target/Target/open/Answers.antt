@@ -6,4 +6,4 @@ pub invariant_of-result : goal.invariant_of-result
 invariant_of-result c = rw (c.in_ok-indices.ensures, c.in_ok-places.ensures, c.in_ok-headers.ensures, c.in_ok-records.ensures.records) (kept-none c.args.limits.now.entries c.args.limits.now.unexpected c.args.limits.now.pts c.in_ok-records.ensures.small)
 
 pub returns : goal.returns
-returns c = rw (c.in_ok-indices.ensures, c.in_ok-places.ensures, c.in_ok-headers.ensures, seen-none c.args.limits.now.pts) refl
+returns c = record { makes = rw (c.in_ok-indices.ensures, c.in_ok-places.ensures, c.in_ok-headers.ensures, seen-none c.args.limits.now.pts) refl }

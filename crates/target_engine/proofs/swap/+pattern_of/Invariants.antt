@@ -1,5 +1,0 @@
-use Rattle.std.proofs.Common.{length}
-use Rattle.target_engine.proofs.swap.+pattern_of.Given as goal
-
-abbrev pub decreases-pattern_of : goal.decreases-pattern_of
-decreases-pattern_of l = length l.bytes.now
