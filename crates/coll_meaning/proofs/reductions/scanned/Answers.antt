@@ -1,7 +1,6 @@
-use Rattle.std.proofs.Common.{◌≡◌, ◌+◌, ◌∙◌, length, replicate, take, sym, subst, refl}
+use Rattle.std.proofs.Common.{◌≡◌, ◌+◌, ◌∙◌, length, replicate, take}
 use Rattle.ptl_types.specs.Operations.{op, start_value}
-use Rattle.coll_lang.specs.Meaning.{folded, folded_from, list_at}
-use Rattle.coll_meaning.specs.Patterns.{ArePatterns}
+use Rattle.coll_lang.specs.Meaning.{folded_from, list_at}
 use Rattle.coll_meaning.proofs.Growing.{scan_more, prefix_next, prefix_folded}
 use Rattle.coll_meaning.proofs.reductions.scanned.Goals as goal
 
