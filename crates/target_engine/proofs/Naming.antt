@@ -1,10 +1,8 @@
 -- Whether an entry finds some header.
-use Rattle.std.proofs.Common.{◌≡◌, ℕ, Bool, true, false, ◌||◌, List, [], ◌∷◌, ◌++◌, Some, None, if◌then◌else◌, refl, ap, ◌∙◌}
-use Rattle.ptl_types.specs.declared.handles.Handle.{Handle}
+use Rattle.std.proofs.Common.{◌≡◌, ℕ, true, false, List, [], ◌∷◌, Some, None, if◌then◌else◌, refl}
 use Rattle.ptl_types.specs.declared.entries.Entry.{Entry}
-use Rattle.ptl_types.specs.Handles.{same_handle}
 use Rattle.ni_model.specs.declared.Noted.{Noted}
-use Rattle.ni_model.specs.Headers.{names_entry, finds, oldest, found_in}
+use Rattle.ni_model.specs.Headers.{finds, oldest, found_in}
 use Rattle.ni_model.specs.Append.{counted_by, overflow_counter}
 
 -- a counting event rises where some header is found, which is where there is an oldest

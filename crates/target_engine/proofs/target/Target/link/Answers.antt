@@ -1,11 +1,10 @@
-use Rattle.std.proofs.Common.{◌≡◌, true, false, refl, ap, sym, subst, ◌∙◌}
-use Rattle.std.specs.Prelude.{is_some, sum_by, nat_le, ◌||◌}
-use Rattle.ptl_types.specs.Handles.{top}
+use Rattle.std.proofs.Common.{◌≡◌, true, false, refl, ap, ◌∙◌}
+use Rattle.std.specs.Prelude.{is_some}
 use Rattle.ni_model.specs.Tables.{handle, is_full}
-use Rattle.ni_model.specs.Lists.{index_at, entries_in}
+use Rattle.ni_model.specs.Lists.{index_at}
 use Rattle.ni_model.specs.Append.{is_allocated}
 use Rattle.target_engine.specs.Shelves.{seen_in}
-use Rattle.target_engine.proofs.Kept.{full-kept, or-right, linked-few, kept-linked}
+use Rattle.target_engine.proofs.Kept.{full-kept, or-right, kept-linked}
 use Rattle.target_engine.proofs.Placed.{placed-slot}
 use Rattle.target_engine.proofs.target.Target.link.Goals as goal
 

@@ -1,4 +1,4 @@
-use Rattle.std.proofs.Common.{ap, sym, subst, ◌∙◌}
+use Rattle.std.proofs.Common.{ap, sym, subst}
 use Rattle.ni_model.specs.Conditions.{HasRoom}
 use Rattle.target_engine.proofs.Kept.{kept-few, kept-noted}
 use Rattle.target_engine.proofs.target.Target.note.Goals as goal

@@ -1,8 +1,7 @@
-use Rattle.std.proofs.Common.{◌≡◌, true, false, Some, map, ap, sym, refl, ◌∙◌, arith, nat_lt}
+use Rattle.std.proofs.Common.{◌≡◌, true, false, map, ap, sym, refl, ◌∙◌, arith, nat_lt}
 use Rattle.std.specs.Prelude.{slice_set}
 use Rattle.std.proofs.lemmas.List.{with_items_is}
 use Rattle.std.proofs.lemmas.Bool.Decides.{nat_tests}
-use Rattle.ni_model.specs.Tables.{lookup}
 use Rattle.ni_model.specs.Headers.{names_entry}
 use Rattle.ni_model.specs.Lists.{index_at}
 use Rattle.ni_model.specs.Calls.{unlinked_in}
