@@ -13,7 +13,7 @@ use Rattle.ni_model.specs.Conditions.{HasPartsIn, IsBoundIn, MayStart}
 use Rattle.ni_model.specs.Refusals.{counts_on_live, deed_fits, deed_passes}
 use Rattle.ni_model.specs.State.{State, Posted}
 
--- each table's limit is the one that the interface was opened with
+-- each table's limit is the one that `limits` tells
 pub record HasLimits (s : State) : Type 0 where
   pub indices : length s.indices ≡ s.limits.pts
   pub headers : s.headers.limit ≡ s.limits.unexpected

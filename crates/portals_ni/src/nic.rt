@@ -47,7 +47,8 @@ impl Nic {
     /// Opens an interface of this rank among so many, with these limits, over a region of memory (Portals 4.3, network
     /// interfaces). It has no portal table index, descriptor, entry, counting event, queue, header or pending operation, and
     /// both status registers are 0. The memory of its tables is taken here, so that a later call takes memory only where it
-    /// says so. Condition: the rank is one of them.
+    /// says so; `NoMemory` also where the limits of entries and of headers together pass 2^32 - 1. Condition: the rank is one
+    /// of them.
     pub fn open(
         alloc: Global,
         rank: Rank,

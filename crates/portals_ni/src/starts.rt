@@ -130,8 +130,8 @@ impl Nic {
     }
 
     /// Starts a fetch-atomic: `back` says where the old elements go (Portals 4.3, fetch-atomic). The descriptor of `args` counts
-    /// and raises Send, that of `back` awaits the reply. Refusals are those of a put, for both descriptors. Conditions: those of an atomic with the limit of fetch-atomics, both arguments agree, and no
-    /// acknowledgement is asked for.
+    /// and raises Send, that of `back` awaits the reply. Refusals are those of a put, for both descriptors. Conditions: those
+    /// of an atomic with the limit of fetch-atomics, both arguments agree, and no acknowledgement is asked for.
     pub fn fetch_atomic(
         &mut self,
         back: GetArgs,
@@ -146,7 +146,8 @@ impl Nic {
     }
 
     /// Starts a swap of one element, with its operand as a bit pattern (Portals 4.3, swap). It counts, raises and awaits as a
-    /// fetch-atomic does. Refusals are those of a fetch-atomic. Conditions: the length is one element's, both arguments agree, and no acknowledgement is asked for.
+    /// fetch-atomic does. Refusals are those of a fetch-atomic. Conditions: the length is one element's, both arguments agree,
+    /// and no acknowledgement is asked for.
     pub fn swap(
         &mut self,
         back: GetArgs,
@@ -180,10 +181,10 @@ impl Nic {
     }
 
     /// Posts a triggered operation on a counting event with a threshold, and answers its number, counted up from 0. Its bytes
-    /// are read when it fires, into room that is taken here, and from its firing on its home awaits an answer. `Stale` where the counting event or a thing that the deed names
-    /// isn't live, `NoSpace` where as many as the limit are pending or all 2^32 - 1 numbers were given, `OutOfRegion` as in a
-    /// put, `CountFull` where the two numbers of an increment or a set together pass 2^64 - 1, `NoMemory`. Conditions: those of
-    /// the plain operation.
+    /// are read when it fires, into room that is taken here. Where it asks for an answer, its home awaits it from the firing
+    /// on. `Stale` where the counting event or a thing that the deed names isn't live, `NoSpace` where as many as the limit are
+    /// pending or all 2^32 - 1 numbers were given, `OutOfRegion` as in a put, `CountFull` where the two numbers of an increment
+    /// or a set together pass 2^64 - 1, `NoMemory`. Conditions: those of the plain operation.
     pub fn triggered(&mut self, deed: Deed, ct: Handle, threshold: u64) -> Result<u32, NiFault>
         requires { MayStart deed self.old.ranks self.old.limits }
         ensures does { MayLackMemory (triggered_of deed ct threshold self.old) self.old (ends self.new result) }
