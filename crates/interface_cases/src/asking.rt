@@ -256,7 +256,7 @@ impl End {
                 *wire = Some(forged_reply(rt, named(&self.mds, md), offset));
                 Answer::Sent
             }
-            _ => Answer::Nothing,
+            _ => panic!(rt; "a call that no arm makes"),
         }
     }
 }

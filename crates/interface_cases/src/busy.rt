@@ -54,7 +54,20 @@ const ASKS: PutArgs = PutArgs {
     ..PUT
 };
 
-const NAMES: PutArgs = PutArgs { md: SECOND, ..PUT };
+const NAMES: PutArgs = PutArgs {
+    md: SECOND,
+    length: 1,
+    hdr_data: 3,
+    ..PUT
+};
+
+/// The header of its message.
+const NAMED: Header = Header {
+    source: 0,
+    length: 1,
+    hdr_data: 3,
+    ..HEADER
+};
 
 /// The header that the overflow entry of index 0 has.
 pub const HELD: UnexpectedHeader = UnexpectedHeader {
@@ -82,10 +95,12 @@ const PUT_TOLD: Event = Event {
     ..LINKED
 };
 
-/// Nothing was told, and nothing more is there than what was made: index 0 has one header; both entries are linked, each at
-/// its index, and no other is; two operations wait on the first counting event, and one of them is ready.
-pub const AS_IT_BEGAN: &[Step] = &[
+/// Nothing was told but what was made and started, and the first descriptor still has its queue; index 0 has one header; both
+/// entries are linked, each at its index and with what it counts, and no other is.
+pub const LISTS_STAND: &[Step] = &[
     HereTells(FIRST, &[LINKED, START_TOLD]),
+    Here(Start(Deed::Put(PUT)), Sent),
+    HereTells(FIRST, &[START_TOLD]),
     Here(MeSearch(0, ENTRY, true), Found(HELD)),
     Here(MeSearch(0, ENTRY, true), Nothing),
     Comes(PUT, &[8], Outcome::Overflow),
@@ -98,8 +113,19 @@ pub const AS_IT_BEGAN: &[Step] = &[
     Here(MeUnlink(SECOND), Done),
     Here(PtFree(0), Done),
     Here(PtFree(1), Done),
+];
+
+/// Behind that: the two operations that were posted wait on the first counting event, and no other does. The put is of the second
+/// descriptor; the increment counts on the second counting event, which the list's put counted on once.
+pub const DEEDS_STAND: &[Step] = &[
     Here(Fire(1), Sent),
-    Here(CtCancel(FIRST), Number(1)),
+    Here(Carries(NAMED, &[0]), Yes),
+    Here(CtSet(FIRST, 4, 0), Done),
+    Here(Ready, Nothing),
+    Here(CtSet(FIRST, 5, 0), Done),
+    Here(Fire(0), Nothing),
+    Here(CtGet(SECOND), Counts(2, 0)),
+    Here(CtCancel(FIRST), Number(0)),
     Here(CtFree(SECOND), Done),
     Here(MdRelease(SECOND), Done),
 ];

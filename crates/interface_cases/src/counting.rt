@@ -36,6 +36,28 @@ fn an_increment_waits_for_its_threshold(rt: HostRuntime) {
 }
 
 #[test]
+fn an_operation_is_ready_only_while_its_sum_is_reached(rt: HostRuntime) {
+    const SCRIPT: &[Step] = &[
+        Here(CtAlloc, Made(0)),
+        Here(CtAlloc, Made(1)),
+        Here(Triggered(Deed::Inc(SECOND, ONE), FIRST, 3), Number(0)),
+        Here(CtSet(FIRST, 3, 0), Done),
+        Here(IsReady(0), Yes),
+        Here(Ready, Number(0)),
+        Here(CtSet(FIRST, 2, 0), Done),
+        Here(IsReady(0), No),
+        Here(Ready, Nothing),
+        // Successes and failures count together.
+        Here(CtSet(FIRST, 1, 2), Done),
+        Here(IsReady(0), Yes),
+        Here(Ready, Number(0)),
+        Here(Fire(0), Nothing),
+        Here(CtGet(SECOND), Counts(1, 0)),
+    ];
+    play(&rt, &[SCRIPT]);
+}
+
+#[test]
 fn tables_fill_and_handles_go(rt: HostRuntime) {
     const PAST: Descriptor = Descriptor {
         start: 10,

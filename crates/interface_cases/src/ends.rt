@@ -23,8 +23,10 @@ pub struct End {
 /// All that calls tell of an interface which don't change it.
 #[derive(Clone, Copy, PartialEq)]
 pub struct Seen {
+    ranks: (Rank, u32),
     limits: Limits,
     memory: [u8; 16],
+    length: usize,
     registers: (u64, u64),
     counts: [Result<Count, NiFault>; 4],
     awaits: [Result<u64, NiFault>; 4],
@@ -33,7 +35,7 @@ pub struct Seen {
     are_ready: [bool; 6],
 }
 
-/// A region of sixteen bytes.
+/// The first sixteen bytes of a region, which are all that the regions of the scripts have; zeros behind a shorter one.
 fn sixteen(memory: &[u8]) -> [u8; 16] {
     let mut bytes = [0; 16];
     for (to, from) in bytes.iter_mut().zip(memory) {
@@ -87,8 +89,10 @@ impl End {
     pub fn seen(&self) -> Seen {
         let side = &self.side;
         Seen {
+            ranks: (side.rank(), side.ranks()),
             limits: *side.limits(),
             memory: sixteen(side.memory()),
+            length: side.memory().len(),
             registers: (side.drops(), side.violations()),
             counts: [
                 side.ct_get(self.cts[0]),

@@ -71,6 +71,35 @@ fn fetching_operations_answer_the_old_element(rt: HostRuntime) {
 }
 
 #[test]
+fn an_operand_wider_than_the_element_never_equals_it_and_names_no_bit_beyond(rt: HostRuntime) {
+    const TWO: PutArgs = PutArgs { length: 2, ..PUT };
+    const BACK_TWO: GetArgs = GetArgs { length: 2, ..BACK };
+    /// The element is 0x0104 before each swap, and 0x0909 comes.
+    const WIDER: Deed = Deed::Swap(BACK_TWO, TWO, SwapOp::Cswap, ElemType::U16, 0x1_0104);
+    const EQUAL: Deed = Deed::Swap(BACK_TWO, TWO, SwapOp::Cswap, ElemType::U16, 0x0104);
+    const MASK: Deed = Deed::Swap(BACK_TWO, TWO, SwapOp::Mswap, ElemType::U16, 0xf_00ff);
+    const TWO_BYTES: Entry = Entry { length: 2, ..ENTRY };
+    const SCRIPT: &[Step] = &[
+        Here(MeAppend(0, List::Priority, TWO_BYTES), Linked(0)),
+        Here(WriteMemory(0, &[4, 1]), Done),
+        There(WriteMemory(0, &[9, 9]), Done),
+        There(Start(WIDER), Sent),
+        Here(Deliver, Replies(Outcome::Matched)),
+        HereHolds(&[4, 1, 0, 0, 0, 0, 0, 0, 0, 0, 0, 0, 0, 0, 0, 0]),
+        There(Deliver, Became(Outcome::Answered)),
+        ThereHolds(&[9, 9, 0, 0, 0, 0, 0, 0, 4, 1, 0, 0, 0, 0, 0, 0]),
+        There(Start(EQUAL), Sent),
+        Here(Deliver, Replies(Outcome::Matched)),
+        HereHolds(&[9, 9, 0, 0, 0, 0, 0, 0, 0, 0, 0, 0, 0, 0, 0, 0]),
+        Here(WriteMemory(0, &[4, 1]), Done),
+        There(Start(MASK), Sent),
+        Here(Deliver, Replies(Outcome::Matched)),
+        HereHolds(&[9, 1, 0, 0, 0, 0, 0, 0, 0, 0, 0, 0, 0, 0, 0, 0]),
+    ];
+    play(&rt, &[SCRIPT]);
+}
+
+#[test]
 fn a_get_brings_home_what_an_atomic_left(rt: HostRuntime) {
     const TWO: PutArgs = PutArgs { length: 2, ..PUT };
     const ASKS: GetArgs = GetArgs { length: 2, ..BACK };

@@ -4,9 +4,14 @@ use crate::scene::play;
 use crate::steps::Answer::*;
 use crate::steps::Call::*;
 use crate::steps::Step::{self, *};
-use crate::values::{ENTRY, FIRST, FREED, GET, HEADER, LINKED, ONCE, PUT, UNLINKED};
+use crate::values::{
+    ENTRY, FIRST, FREED, GET, HEADER, LINKED, NOTHING, ONCE, PUT, SECOND, UNLINKED,
+};
 use ptl_types::NiFault::{InUse, NoSpace};
-use ptl_types::{Deed, Entry, Event, EventKind, Header, List, Outcome, PutArgs, UnexpectedHeader};
+use ptl_types::{
+    AckRequest, Deed, Entry, Event, EventKind, Header, List, MessageKind, Outcome, PutArgs,
+    UnexpectedHeader,
+};
 
 /// An overflow entry over eight bytes that is filled from its start.
 const OVERFLOW: Entry = Entry {
@@ -124,6 +129,154 @@ fn a_full_queue_loses_the_newest_event(rt: HostRuntime) {
 }
 
 #[test]
+fn a_loss_is_told_once_however_many_were_lost(rt: HostRuntime) {
+    const SCRIPT: &[Step] = &[
+        Here(EqAlloc(1), Made(0)),
+        Here(PtAlloc(1, Some(FIRST)), Done),
+        Here(MeAppend(1, List::Priority, ENTRY), Linked(0)),
+        Here(MeAppend(1, List::Priority, SIX), Linked(1)),
+        Here(MeAppend(1, List::Priority, SIX), Linked(2)),
+        Here(EqGet(FIRST), Lost),
+        Here(EqGet(FIRST), Got(LINKED)),
+        Here(EqGet(FIRST), Empty),
+    ];
+    play(&rt, &[SCRIPT]);
+}
+
+/// A put to the entries for match bits 6.
+const TO_SIX: PutArgs = PutArgs {
+    match_bits: 6,
+    ..PUT
+};
+
+#[test]
+fn the_priority_list_goes_first_and_needs_no_room_for_a_header(rt: HostRuntime) {
+    const BEHIND: Entry = Entry { start: 8, ..ENTRY };
+    const SCRIPT: &[Step] = &[
+        Here(MeAppend(0, List::Overflow, OVERFLOW), Linked(0)),
+        Here(MeAppend(0, List::Overflow, SIX), Linked(1)),
+        Here(MeAppend(0, List::Priority, BEHIND), Linked(2)),
+        Comes(PUT, &[1], Outcome::Matched),
+        HereHolds(&[0, 0, 0, 0, 0, 0, 0, 0, 1, 0, 0, 0, 0, 0, 0, 0]),
+        Comes(TO_SIX, &[2], Outcome::Overflow),
+        Comes(TO_SIX, &[3], Outcome::Overflow),
+        // There is no room for a header any more.
+        Comes(TO_SIX, &[4], Outcome::Dropped),
+        Comes(PUT, &[5], Outcome::Matched),
+        HereHolds(&[3, 0, 0, 0, 0, 0, 0, 0, 5, 0, 0, 0, 0, 0, 0, 0]),
+        Here(Drops, Number(1)),
+    ];
+    play(&rt, &[SCRIPT]);
+}
+
+#[test]
+fn a_message_of_the_overflow_list_is_answered_and_counted(rt: HostRuntime) {
+    const COUNTS: Entry = Entry {
+        ct: Some(FIRST),
+        count_comm: true,
+        ..OVERFLOW
+    };
+    const ASKS: PutArgs = PutArgs {
+        ack: AckRequest::CtAck,
+        length: 2,
+        ..PUT
+    };
+    const ACK: Header = Header {
+        kind: MessageKind::Ack,
+        source: 0,
+        target: 1,
+        length: 2,
+        ack: AckRequest::CtAck,
+        home: Some(FIRST),
+        ..HEADER
+    };
+    /// The acknowledgement of what found no room for its header.
+    const NOT_OK: Header = Header {
+        length: 0,
+        ok: false,
+        ..ACK
+    };
+    const SCRIPT: &[Step] = &[
+        Here(CtAlloc, Made(0)),
+        Here(MeAppend(0, List::Overflow, COUNTS), Linked(0)),
+        There(WriteMemory(0, &[7, 8]), Done),
+        There(Start(Deed::Put(ASKS)), Sent),
+        Here(Deliver, Replies(Outcome::Overflow)),
+        There(Carries(ACK, &[]), Yes),
+        There(Deliver, Became(Outcome::Answered)),
+        Here(CtGet(FIRST), Counts(1, 0)),
+        Comes(PUT, &[1], Outcome::Overflow),
+        Here(CtGet(FIRST), Counts(2, 0)),
+        There(Start(Deed::Put(ASKS)), Sent),
+        Here(Deliver, Replies(Outcome::Dropped)),
+        There(Carries(NOT_OK, &[]), Yes),
+        There(Deliver, Became(Outcome::Answered)),
+        Here(CtGet(FIRST), Counts(2, 0)),
+        Here(Drops, Number(1)),
+        HereHolds(&[7, 8, 1, 0, 0, 0, 0, 0, 0, 0, 0, 0, 0, 0, 0, 0]),
+    ];
+    play(&rt, &[SCRIPT]);
+}
+
+#[test]
+fn headers_are_counted_over_all_indices(rt: HostRuntime) {
+    const OF_ONE: UnexpectedHeader = UnexpectedHeader {
+        entry: SECOND,
+        place: 0,
+        delivered: 1,
+        header: Header {
+            pt: 1,
+            length: 1,
+            ..HEADER
+        },
+    };
+    const SCRIPT: &[Step] = &[
+        Here(PtAlloc(1, None), Done),
+        Here(MeAppend(0, List::Overflow, ENTRY), Linked(0)),
+        Here(MeAppend(1, List::Overflow, ENTRY), Linked(1)),
+        Comes(PUT, &[1], Outcome::Overflow),
+        Comes(TO_ONE, &[2], Outcome::Overflow),
+        Comes(PUT, &[3], Outcome::Dropped),
+        Comes(TO_ONE, &[4], Outcome::Dropped),
+        Here(Drops, Number(2)),
+        // Room at index 1 is room at index 0.
+        Here(MeSearch(1, ENTRY, true), Found(OF_ONE)),
+        Comes(PUT, &[5], Outcome::Overflow),
+        Comes(TO_ONE, &[6], Outcome::Dropped),
+        HereHolds(&[5, 0, 0, 0, 0, 0, 0, 0, 0, 0, 0, 0, 0, 0, 0, 0]),
+    ];
+    play(&rt, &[SCRIPT]);
+}
+
+#[test]
+fn an_append_looks_at_no_length(rt: HostRuntime) {
+    const SHORT: Entry = Entry {
+        length: 1,
+        no_truncate: true,
+        ..ONCE
+    };
+    const SCRIPT: &[Step] = &[
+        Here(MeAppend(1, List::Priority, SHORT), Consumed(THREE_BYTES)),
+        HereHolds(&[1, 2, 3, 4, 5, 0, 0, 0, 0, 0, 0, 0, 0, 0, 0, 0]),
+    ];
+    play(&rt, &[FILLED, SCRIPT]);
+}
+
+#[test]
+fn a_search_looks_at_neither_part_nor_counter(rt: HostRuntime) {
+    const STALE: Entry = Entry {
+        start: 13,
+        ct: Some(NOTHING),
+        ..ENTRY
+    };
+    const SCRIPT: &[Step] = &[
+        Here(MeSearch(0, STALE, false), Nothing),
+        Here(MeSearch(1, STALE, false), Found(THREE_BYTES)),
+    ];
+    play(&rt, &[FILLED, SCRIPT]);
+}
+
+#[test]
 fn a_message_that_finds_no_room_for_its_header_is_dropped(rt: HostRuntime) {
     const SCRIPT: &[Step] = &[
         Here(MeAppend(0, List::Overflow, OVERFLOW), Linked(0)),
@@ -202,10 +355,6 @@ fn an_overflow_entry_that_forbids_a_put_leaves_no_header(rt: HostRuntime) {
         match_bits: 6,
         allow_put: false,
         ..ENTRY
-    };
-    const TO_SIX: PutArgs = PutArgs {
-        match_bits: 6,
-        ..PUT
     };
     const SCRIPT: &[Step] = &[
         Here(MeAppend(0, List::Overflow, FORBIDS), Linked(0)),

@@ -1,6 +1,6 @@
 //! Every refusal of the calls on match entries.
 
-use crate::busy::{AS_IT_BEGAN, BUSY, HELD};
+use crate::busy::{BUSY, DEEDS_STAND, HELD, LISTS_STAND};
 use crate::scene::play;
 use crate::steps::Answer::*;
 use crate::steps::Call::*;
@@ -34,7 +34,7 @@ fn a_refused_call_on_an_entry_changes_nothing(rt: HostRuntime) {
         Here(MeAppend(0, List::Overflow, ENTRY), Linked(2)),
         Here(MeUnlink(THIRD), Done),
     ];
-    play(&rt, &[BUSY, SCRIPT, AS_IT_BEGAN]);
+    play(&rt, &[BUSY, SCRIPT, LISTS_STAND, DEEDS_STAND]);
 }
 
 #[test]
@@ -54,7 +54,26 @@ fn an_append_is_refused_also_where_a_header_would_be_found(rt: HostRuntime) {
         Here(MeAppend(0, List::Priority, SIX), Linked(4)),
         Here(MeUnlink(FIFTH), Done),
     ];
-    play(&rt, &[BUSY, SCRIPT, AS_IT_BEGAN]);
+    play(&rt, &[BUSY, SCRIPT, LISTS_STAND, DEEDS_STAND]);
+}
+
+#[test]
+fn an_index_below_the_limit_is_stale_while_it_is_not_allocated(rt: HostRuntime) {
+    const STALE_INDEX: &[Step] = &[
+        Here(PtFree(1), Refused(Stale)),
+        Here(MeAppend(1, List::Priority, ENTRY), Refused(Stale)),
+        Here(MeAppend(1, List::Overflow, ENTRY), Refused(Stale)),
+        Here(MeSearch(1, ENTRY, false), Refused(Stale)),
+        Here(MeSearch(1, ENTRY, true), Refused(Stale)),
+    ];
+    const ALLOCATED: &[Step] = &[
+        Here(PtAlloc(1, None), Done),
+        Here(MeSearch(1, ENTRY, true), Nothing),
+        Here(MeAppend(1, List::Priority, ENTRY), Linked(0)),
+        Here(MeUnlink(FIRST), Done),
+        Here(PtFree(1), Done),
+    ];
+    play(&rt, &[STALE_INDEX, ALLOCATED, STALE_INDEX]);
 }
 
 #[test]

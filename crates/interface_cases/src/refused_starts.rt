@@ -1,6 +1,6 @@
 //! Every refusal of the five starts.
 
-use crate::busy::{AS_IT_BEGAN, BUSY};
+use crate::busy::{BUSY, DEEDS_STAND, LISTS_STAND};
 use crate::deeds::*;
 use crate::scene::play;
 use crate::steps::Answer::*;
@@ -21,7 +21,7 @@ fn a_refused_put_get_or_atomic_changes_nothing(rt: HostRuntime) {
         Here(Start(SUM_BEHIND), Refused(OutOfRegion)),
         Here(Start(SUM_FAR), Refused(OutOfRegion)),
     ];
-    play(&rt, &[BUSY, SCRIPT, AS_IT_BEGAN]);
+    play(&rt, &[BUSY, SCRIPT, LISTS_STAND, DEEDS_STAND]);
 }
 
 #[test]
@@ -40,5 +40,5 @@ fn a_refused_fetch_atomic_or_swap_changes_nothing(rt: HostRuntime) {
         Here(Start(SWAP_FAR), Refused(OutOfRegion)),
         Here(Start(SWAP_FAR_BACK), Refused(OutOfRegion)),
     ];
-    play(&rt, &[BUSY, SCRIPT, AS_IT_BEGAN]);
+    play(&rt, &[BUSY, SCRIPT, LISTS_STAND, DEEDS_STAND]);
 }

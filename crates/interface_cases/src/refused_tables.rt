@@ -1,12 +1,13 @@
 //! Every refusal of the calls on indices, counting events, event queues and descriptors: each leaves what the interface
 //! tells as it was.
 
-use crate::busy::{AS_IT_BEGAN, BUSY, HELD, START_TOLD};
+use crate::busy::{BUSY, DEEDS_STAND, LISTS_STAND};
+use crate::deeds::{FETCH_BYTE, GET_BYTE, SUM_BYTE, SWAP_BYTE};
 use crate::scene::play;
 use crate::steps::Answer::*;
 use crate::steps::Call::*;
 use crate::steps::Step::{self, *};
-use crate::values::{DESCRIPTOR, ENTRY, FIRST, LINKED, NOTHING, ONE, SECOND, THIRD};
+use crate::values::{DESCRIPTOR, ENTRY, FIRST, NOTHING, ONE, SECOND, THIRD};
 use ptl_types::NiFault::{CountFull, InUse, NoSpace, OutOfRegion, Stale};
 use ptl_types::{Count, Deed, Descriptor, Entry, List};
 
@@ -20,7 +21,7 @@ fn a_refused_call_on_an_index_changes_nothing(rt: HostRuntime) {
         Here(PtFree(0), Refused(InUse)),
         Here(PtFree(1), Refused(InUse)),
     ];
-    play(&rt, &[BUSY, SCRIPT, AS_IT_BEGAN]);
+    play(&rt, &[BUSY, SCRIPT, LISTS_STAND, DEEDS_STAND]);
 }
 
 #[test]
@@ -37,7 +38,7 @@ fn a_refused_call_on_a_counter_changes_nothing(rt: HostRuntime) {
         Here(CtInc(FIRST, u64::MAX, 1), Refused(CountFull)),
         Here(CtCancel(NOTHING), Refused(Stale)),
     ];
-    play(&rt, &[BUSY, SCRIPT, AS_IT_BEGAN]);
+    play(&rt, &[BUSY, SCRIPT, LISTS_STAND, DEEDS_STAND]);
 }
 
 #[test]
@@ -48,7 +49,7 @@ fn a_refused_call_on_a_queue_changes_nothing(rt: HostRuntime) {
         Here(EqFree(FIRST), Refused(InUse)),
         Here(EqGet(NOTHING), Refused(Stale)),
     ];
-    play(&rt, &[BUSY, SCRIPT, AS_IT_BEGAN]);
+    play(&rt, &[BUSY, SCRIPT, LISTS_STAND, DEEDS_STAND]);
 }
 
 /// A descriptor that reaches past the end of the region.
@@ -76,7 +77,7 @@ fn a_refused_call_on_a_descriptor_changes_nothing(rt: HostRuntime) {
         Here(MdRelease(SECOND), Refused(InUse)),
         Here(Awaits(NOTHING), Refused(Stale)),
     ];
-    play(&rt, &[BUSY, SCRIPT, AS_IT_BEGAN]);
+    play(&rt, &[BUSY, SCRIPT, LISTS_STAND, DEEDS_STAND]);
 }
 
 #[test]
@@ -98,11 +99,40 @@ fn a_descriptor_lies_in_the_region(rt: HostRuntime) {
         Here(MdBind(ONE_PAST), Refused(OutOfRegion)),
         Here(MdBind(AGAIN), Made(2)),
         Here(MdRelease(THIRD), Done),
-        HereTells(FIRST, &[LINKED, START_TOLD]),
-        Here(MeSearch(0, ENTRY, true), Found(HELD)),
-        Here(MeSearch(0, ENTRY, true), Nothing),
     ];
-    play(&rt, &[BUSY, SCRIPT]);
+    const COUNTERS_GO: &[Step] = &[
+        Here(CtCancel(FIRST), Number(0)),
+        Here(CtFree(SECOND), Done),
+        Here(CtFree(FIRST), Refused(InUse)),
+    ];
+    play(&rt, &[BUSY, SCRIPT, LISTS_STAND, COUNTERS_GO]);
+}
+
+#[test]
+fn an_operation_that_waits_holds_each_of_its_descriptors(rt: HostRuntime) {
+    const SCRIPT: &[Step] = &[
+        Here(CtAlloc, Made(0)),
+        Here(MdBind(DESCRIPTOR), Made(0)),
+        Here(MdBind(DESCRIPTOR), Made(1)),
+        Here(Triggered(FETCH_BYTE, FIRST, 1), Number(0)),
+        Here(MdRelease(FIRST), Refused(InUse)),
+        Here(MdRelease(SECOND), Refused(InUse)),
+        Here(CtCancel(FIRST), Number(1)),
+        Here(Triggered(SWAP_BYTE, FIRST, 1), Number(1)),
+        Here(MdRelease(FIRST), Refused(InUse)),
+        Here(MdRelease(SECOND), Refused(InUse)),
+        Here(CtCancel(FIRST), Number(1)),
+        Here(Triggered(SUM_BYTE, FIRST, 1), Number(2)),
+        Here(MdRelease(FIRST), Refused(InUse)),
+        Here(CtCancel(FIRST), Number(1)),
+        // A get names the second alone.
+        Here(Triggered(GET_BYTE, FIRST, 1), Number(3)),
+        Here(MdRelease(SECOND), Refused(InUse)),
+        Here(MdRelease(FIRST), Done),
+        Here(CtCancel(FIRST), Number(1)),
+        Here(MdRelease(SECOND), Done),
+    ];
+    play(&rt, &[SCRIPT]);
 }
 
 #[test]

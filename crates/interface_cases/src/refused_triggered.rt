@@ -1,6 +1,6 @@
 //! Every refusal of triggered operations.
 
-use crate::busy::{AS_IT_BEGAN, BUSY};
+use crate::busy::{BUSY, DEEDS_STAND, LISTS_STAND};
 use crate::deeds::*;
 use crate::scene::play;
 use crate::steps::Answer::*;
@@ -31,7 +31,7 @@ fn a_refused_increment_or_set_changes_nothing(rt: HostRuntime) {
         Here(Triggered(SET_STALE, FIRST, 0), Refused(Stale)),
         Here(Triggered(SET_PAST, FIRST, 0), Refused(CountFull)),
     ];
-    play(&rt, &[BUSY, SCRIPT, AS_IT_BEGAN]);
+    play(&rt, &[BUSY, SCRIPT, LISTS_STAND, DEEDS_STAND]);
 }
 
 #[test]
@@ -47,7 +47,7 @@ fn a_refused_triggered_start_changes_nothing(rt: HostRuntime) {
         Here(Triggered(SUM_STALE, FIRST, 0), Refused(Stale)),
         Here(Triggered(SUM_BEHIND, FIRST, 0), Refused(OutOfRegion)),
     ];
-    play(&rt, &[BUSY, SCRIPT, AS_IT_BEGAN]);
+    play(&rt, &[BUSY, SCRIPT, LISTS_STAND, DEEDS_STAND]);
 }
 
 #[test]
@@ -64,7 +64,7 @@ fn a_refused_triggered_fetch_changes_nothing(rt: HostRuntime) {
         Here(Triggered(SWAP_BEHIND, FIRST, 0), Refused(OutOfRegion)),
         Here(Triggered(SWAP_BEHIND_BACK, FIRST, 0), Refused(OutOfRegion)),
     ];
-    play(&rt, &[BUSY, SCRIPT, AS_IT_BEGAN]);
+    play(&rt, &[BUSY, SCRIPT, LISTS_STAND, DEEDS_STAND]);
 }
 
 #[test]
@@ -84,5 +84,5 @@ fn a_refused_triggered_operation_uses_up_no_number(rt: HostRuntime) {
         Here(Triggered(RAISE, SECOND, 9), Number(4)),
         Here(CtCancel(SECOND), Number(1)),
     ];
-    play(&rt, &[BUSY, SCRIPT, AS_IT_BEGAN]);
+    play(&rt, &[BUSY, SCRIPT, LISTS_STAND, DEEDS_STAND]);
 }

@@ -1,4 +1,5 @@
-//! A reply that doesn't fit its descriptor, and refusals of which two hold at once.
+//! A reply that doesn't fit its descriptor, an answer of another kind than the awaited one, and refusals of which two hold at
+//! once.
 
 use crate::scene::play;
 use crate::steps::Answer::*;
@@ -6,7 +7,7 @@ use crate::steps::Call::*;
 use crate::steps::Step::{self, *};
 use crate::values::{DESCRIPTOR, FIRST, GET, NOTHING, ONE};
 use ptl_types::NiFault::{InUse, NoSpace, Stale};
-use ptl_types::{Deed, GetArgs, Outcome};
+use ptl_types::{Deed, Descriptor, GetArgs, Outcome};
 
 #[test]
 fn a_reply_past_the_end_of_its_descriptor_is_dropped(rt: HostRuntime) {
@@ -26,6 +27,37 @@ fn a_reply_past_the_end_of_its_descriptor_is_dropped(rt: HostRuntime) {
         Here(ForgeReply(FIRST, 14), Sent),
         Here(Deliver, Became(Outcome::Answered)),
         HereHolds(&[0, 0, 0, 0, 0, 0, 0, 0, 0, 0, 0, 0, 0, 0, 7, 8]),
+    ];
+    play(&rt, &[SCRIPT]);
+}
+
+#[test]
+fn an_acknowledgement_answers_for_an_awaited_reply(rt: HostRuntime) {
+    const COUNTS: Descriptor = Descriptor {
+        ct: Some(FIRST),
+        count_ack: true,
+        ..DESCRIPTOR
+    };
+    const ASKS: GetArgs = GetArgs {
+        length: 2,
+        target: 1,
+        ..GET
+    };
+    const SCRIPT: &[Step] = &[
+        Here(CtAlloc, Made(0)),
+        Here(MdBind(COUNTS), Made(0)),
+        Here(Start(Deed::Get(ASKS)), Sent),
+        Here(ForgeAck(FIRST), Sent),
+        Here(Deliver, Became(Outcome::Answered)),
+        Here(Awaits(FIRST), Number(0)),
+        Here(CtGet(FIRST), Counts(1, 0)),
+        Here(Drops, Number(0)),
+        // The reply that was asked for isn't awaited any more.
+        Here(ForgeReply(FIRST, 0), Sent),
+        Here(Deliver, Became(Outcome::Dropped)),
+        Here(Drops, Number(1)),
+        Here(CtGet(FIRST), Counts(1, 0)),
+        HereHolds(&[0, 0, 0, 0, 0, 0, 0, 0, 0, 0, 0, 0, 0, 0, 0, 0]),
     ];
     play(&rt, &[SCRIPT]);
 }

@@ -1,5 +1,5 @@
-//! A triggered operation becomes ready by whatever raises its counting event: an arrival, a start, an answer, an append
-//! that takes a header, or the firing of another (Portals 4.3, triggered operations).
+//! A triggered operation becomes ready by whatever raises its counting event: an arrival, a start, an answer, or an append
+//! that takes a header (Portals 4.3, triggered operations). By the firing of another: `firing`.
 
 use crate::scene::play;
 use crate::steps::Answer::*;
