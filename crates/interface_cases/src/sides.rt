@@ -29,99 +29,123 @@ pub fn over<R: Abort + Alloc<A = Global>>(rt: &R, rank: Rank, bytes: &[u8]) -> S
 }
 
 impl Side {
+    /// The rank of the interface.
     pub fn rank(&self) -> Rank {
         self.nic.rank()
     }
 
+    /// How many ranks there are.
     pub fn ranks(&self) -> u32 {
         self.nic.ranks()
     }
 
+    /// The limits.
     pub fn limits(&self) -> &Limits {
         self.nic.limits()
     }
 
+    /// All bytes of the region.
     pub fn memory(&self) -> &[u8] {
         self.nic.memory()
     }
 
+    /// The drop register.
     pub fn drops(&self) -> u64 {
         self.nic.drops()
     }
 
+    /// The violation register.
     pub fn violations(&self) -> u64 {
         self.nic.violations()
     }
 
+    /// How many triggered operations are pending.
     pub fn pending(&self) -> u32 {
         self.nic.pending()
     }
 
+    /// Allocates a portal table index, with a queue or none.
     pub fn pt_alloc(&mut self, index: u32, eq: Option<Handle>) -> Result<(), NiFault> {
         self.nic.pt_alloc(index, eq)
     }
 
+    /// Frees a portal table index.
     pub fn pt_free(&mut self, index: u32) -> Result<(), NiFault> {
         self.nic.pt_free(index)
     }
 
+    /// Allocates a counting event.
     pub fn ct_alloc(&mut self) -> Result<Handle, NiFault> {
         self.nic.ct_alloc()
     }
 
+    /// Frees a counting event.
     pub fn ct_free(&mut self, ct: Handle) -> Result<(), NiFault> {
         self.nic.ct_free(ct)
     }
 
+    /// What a counting event holds.
     pub fn ct_get(&self, ct: Handle) -> Result<Count, NiFault> {
         self.nic.ct_get(ct)
     }
 
+    /// Sets a counting event.
     pub fn ct_set(&mut self, ct: Handle, to: Count) -> Result<(), NiFault> {
         self.nic.ct_set(ct, to)
     }
 
+    /// Adds to a counting event.
     pub fn ct_inc(&mut self, ct: Handle, by: Count) -> Result<(), NiFault> {
         self.nic.ct_inc(ct, by)
     }
 
+    /// Cancels the operations that wait on a counting event.
     pub fn ct_cancel(&mut self, ct: Handle) -> Result<u32, NiFault> {
         self.nic.ct_cancel(ct)
     }
 
+    /// Allocates an event queue with room for at least one event.
     pub fn eq_alloc(&mut self, rt: &impl Abort, room: u32) -> Result<Handle, NiFault> {
         assert!(rt; room >= 1);
         self.nic.eq_alloc(room)
     }
 
+    /// Frees an event queue.
     pub fn eq_free(&mut self, eq: Handle) -> Result<(), NiFault> {
         self.nic.eq_free(eq)
     }
 
+    /// Takes the oldest event.
     pub fn eq_get(&mut self, eq: Handle) -> Result<EqGot, NiFault> {
         self.nic.eq_get(eq)
     }
 
+    /// Binds a memory descriptor.
     pub fn md_bind(&mut self, md: Descriptor) -> Result<Handle, NiFault> {
         self.nic.md_bind(md)
     }
 
+    /// Releases a memory descriptor.
     pub fn md_release(&mut self, md: Handle) -> Result<(), NiFault> {
         self.nic.md_release(md)
     }
 
+    /// How many answers a descriptor awaits.
     pub fn awaits(&self, md: Handle) -> Result<u64, NiFault> {
         self.nic.awaits(md)
     }
 
+    /// Appends an entry to a list of an index.
     pub fn me_append(&mut self, pt: u32, list: List, entry: Entry) -> Result<Appended, NiFault> {
         self.nic.me_append(pt, list, entry)
     }
 
+    /// Unlinks an entry.
     pub fn me_unlink(&mut self, me: Handle) -> Result<(), NiFault> {
         self.nic.me_unlink(me)
     }
 
+    /// Searches the headers of an index by an entry, and deletes what it finds or doesn't.
     pub fn me_search(
         &mut self,
         pt: u32,
@@ -131,10 +155,12 @@ impl Side {
         self.nic.me_search(pt, entry, delete)
     }
 
+    /// Whether the operation of this number is ready.
     pub fn is_ready(&self, number: u32) -> bool {
         self.nic.is_ready(number)
     }
 
+    /// The number of an operation that is ready.
     pub fn ready(&self) -> Option<u32> {
         self.nic.ready()
     }
