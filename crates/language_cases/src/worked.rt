@@ -31,104 +31,106 @@ fn accepted_and_printed_back(rt: HostRuntime) {
     }
 }
 
+/// Texts that differ from a worked one in one line, each with the line and the name of its refusal.
+static OTHERWISE: [(&[u8], u32, &'static str); 21] = [
+    (b"", 1, "Unended"),
+    (b"coll 3\nranks 1\nend\n", 1, "BadHeader"),
+    (b"coll 1\nranks 65\nend\n", 2, "BadRanks"),
+    (
+        b"coll 1\nranks 1\ninput a u8 1 \n7\nbroadcast 0 a b\nprint b\nend\n",
+        3,
+        "BadLine",
+    ),
+    (
+        b"coll 1\nranks 1\ninput a\tu8 1\n7\nbroadcast 0 a b\nprint b\nend\n",
+        3,
+        "BadByte",
+    ),
+    (
+        b"coll 1\nranks 1\ninput a u8 4097\n7\nbroadcast 0 a b\nprint b\nend\n",
+        3,
+        "BadNumber",
+    ),
+    (
+        b"coll 1\nranks 1\ninput a u8 1\n7 8\nbroadcast 0 a b\nprint b\nend\n",
+        4,
+        "BadLine",
+    ),
+    (
+        b"coll 1\nranks 1\ninput a u8 1\n256\nbroadcast 0 a b\nprint b\nend\n",
+        4,
+        "BadNumber",
+    ),
+    (
+        b"coll 1\nranks 1\ninput a u8 1\n007\nbroadcast 0 a b\nprint b\nend\n",
+        4,
+        "BadNumber",
+    ),
+    (
+        b"coll 1\nranks 1\ninput a u8 1\ncomplete remote\n7\nbroadcast 0 a b\nprint b\nend\n",
+        4,
+        "BadLine",
+    ),
+    (
+        b"coll 1\nranks 1\ninput a u8 1\n7\nbroadcast 1 a b\nprint b\nend\n",
+        5,
+        "BadRoot",
+    ),
+    (
+        b"coll 1\nranks 1\ninput a u8 1\n7\nbroadcast 0 a a\nprint b\nend\n",
+        5,
+        "NameTaken",
+    ),
+    (
+        b"coll 1\nranks 1\ninput a u8 1\n7\nbroadcast 0 c c\nprint b\nend\n",
+        5,
+        "UnknownBuffer",
+    ),
+    (
+        b"coll 1\nranks 1\ninput a u8 1\n7\nbroadcast 0 a b\nprint b\nbarrier\nend\n",
+        7,
+        "BadLine",
+    ),
+    (
+        b"coll 1\nranks 1\ninput a u8 1\n7\nbroadcast 0 a b\nprint b\n",
+        7,
+        "Unended",
+    ),
+    (
+        b"coll 1\nranks 1\ninput a u8 1\n7\nbroadcast 0 a b\nprint b\nend",
+        7,
+        "Unended",
+    ),
+    (
+        b"coll 1\nranks 1\ninput a u8 1\n7\nbroadcast 0 a b\nprint b\nend\nx",
+        8,
+        "AfterEnd",
+    ),
+    (
+        b"coll 1\nranks 1\ninput a u8 1\n7\nbroadcast 0 a b\nprint b\nend\nend\n",
+        8,
+        "AfterEnd",
+    ),
+    (
+        b"coll 1\nranks 2\ninput a u8 3\n1 2 3\n4 5 6\nalltoall a b\nend\n",
+        6,
+        "WrongShape",
+    ),
+    (
+        b"coll 1\nranks 3\ninput a u8 1\n1\n2\n3\nreduce 1 sum a b\nbroadcast 0 b c\nprint c\nend\n",
+        8,
+        "WrongShape",
+    ),
+    (
+        b"coll 1\nranks 1\ncomplete remote\ncomplete remote\nend\n",
+        4,
+        "BadLine",
+    ),
+];
+
 #[test]
 fn one_line_otherwise(rt: HostRuntime) {
-    let cases: [(&[u8], u32, &'static str); 21] = [
-        (b"", 1, "Unended"),
-        (b"coll 3\nranks 1\nend\n", 1, "BadHeader"),
-        (b"coll 1\nranks 65\nend\n", 2, "BadRanks"),
-        (
-            b"coll 1\nranks 1\ninput a u8 1 \n7\nbroadcast 0 a b\nprint b\nend\n",
-            3,
-            "BadLine",
-        ),
-        (
-            b"coll 1\nranks 1\ninput a\tu8 1\n7\nbroadcast 0 a b\nprint b\nend\n",
-            3,
-            "BadByte",
-        ),
-        (
-            b"coll 1\nranks 1\ninput a u8 4097\n7\nbroadcast 0 a b\nprint b\nend\n",
-            3,
-            "BadNumber",
-        ),
-        (
-            b"coll 1\nranks 1\ninput a u8 1\n7 8\nbroadcast 0 a b\nprint b\nend\n",
-            4,
-            "BadLine",
-        ),
-        (
-            b"coll 1\nranks 1\ninput a u8 1\n256\nbroadcast 0 a b\nprint b\nend\n",
-            4,
-            "BadNumber",
-        ),
-        (
-            b"coll 1\nranks 1\ninput a u8 1\n007\nbroadcast 0 a b\nprint b\nend\n",
-            4,
-            "BadNumber",
-        ),
-        (
-            b"coll 1\nranks 1\ninput a u8 1\ncomplete remote\n7\nbroadcast 0 a b\nprint b\nend\n",
-            4,
-            "BadLine",
-        ),
-        (
-            b"coll 1\nranks 1\ninput a u8 1\n7\nbroadcast 1 a b\nprint b\nend\n",
-            5,
-            "BadRoot",
-        ),
-        (
-            b"coll 1\nranks 1\ninput a u8 1\n7\nbroadcast 0 a a\nprint b\nend\n",
-            5,
-            "NameTaken",
-        ),
-        (
-            b"coll 1\nranks 1\ninput a u8 1\n7\nbroadcast 0 c c\nprint b\nend\n",
-            5,
-            "UnknownBuffer",
-        ),
-        (
-            b"coll 1\nranks 1\ninput a u8 1\n7\nbroadcast 0 a b\nprint b\nbarrier\nend\n",
-            7,
-            "BadLine",
-        ),
-        (
-            b"coll 1\nranks 1\ninput a u8 1\n7\nbroadcast 0 a b\nprint b\n",
-            7,
-            "Unended",
-        ),
-        (
-            b"coll 1\nranks 1\ninput a u8 1\n7\nbroadcast 0 a b\nprint b\nend",
-            7,
-            "Unended",
-        ),
-        (
-            b"coll 1\nranks 1\ninput a u8 1\n7\nbroadcast 0 a b\nprint b\nend\nx",
-            8,
-            "AfterEnd",
-        ),
-        (
-            b"coll 1\nranks 1\ninput a u8 1\n7\nbroadcast 0 a b\nprint b\nend\nend\n",
-            8,
-            "AfterEnd",
-        ),
-        (
-            b"coll 1\nranks 2\ninput a u8 3\n1 2 3\n4 5 6\nalltoall a b\nend\n",
-            6,
-            "WrongShape",
-        ),
-        (
-            b"coll 1\nranks 3\ninput a u8 1\n1\n2\n3\nreduce 1 sum a b\nbroadcast 0 b c\nprint c\nend\n",
-            8,
-            "WrongShape",
-        ),
-        (
-            b"coll 1\nranks 1\ncomplete remote\ncomplete remote\nend\n",
-            4,
-            "BadLine",
-        ),
-    ];
-    for (text, line, name) in cases.iter() {
+    for (text, line, name) in OTHERWISE.iter() {
         assert_eq!(rt; whole_answer(rt.alloc(), text), Some((*line, *name)));
     }
 }
