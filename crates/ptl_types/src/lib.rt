@@ -1,5 +1,6 @@
 //! The types that every crate of the interface shares, in the terms of Portals 4.3: handles, counts, headers,
-//! messages, match entries, memory descriptors, events, limits, and the arguments and answers of an interface's calls.
+//! messages, match entries, memory descriptors, events, limits, the arguments and answers of an interface's calls, and the
+//! calls and steps of one rank as values.
 //! The definitions of matching, of the atomic operations and of elements as bytes stand in `specs/`.
 #![tactic(auto)]
 
@@ -12,6 +13,7 @@ mod handles;
 mod headers;
 mod matching;
 mod message;
+mod steps;
 #[cfg(test)]
 mod tests;
 
@@ -24,3 +26,4 @@ pub use handles::{Count, Handle, NoMemory, Rank};
 pub use headers::{AckRequest, Header, Lane, MessageKind};
 pub use matching::matches;
 pub use message::Message;
+pub use steps::{Act, Call, Cause, LocalStep};
