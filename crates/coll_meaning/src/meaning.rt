@@ -8,7 +8,7 @@ ghost use Rattle.coll_meaning.specs.Shaped.{FollowsShape};
 use crate::lists::{Buffers, Listed, RankLists, RankValues};
 use crate::steps::take_step;
 use coll_lang::{Buffer, Description, RankList};
-use lane_ops::read_pattern;
+use element_bytes::read_pattern;
 use ptl_types::{ElemType, NoMemory};
 use std::alloc::{AllocError, Global};
 

@@ -11,7 +11,7 @@ ghost use Rattle.coll_text.specs.declared.values.ValuesFault.TheVariants.{NoMemo
 
 use crate::numerals::{Number, number_at};
 use crate::splitting::Words;
-use lane_ops::write_pattern;
+use element_bytes::write_pattern;
 use ptl_types::ElemType;
 use std::alloc::{AllocError, AllocFailed, Global};
 

@@ -9,7 +9,7 @@ ghost use Rattle.coll_text.specs.Elements.{elements, value_word};
 
 use crate::values::{half, is_signed};
 use itoa::Buffer;
-use lane_ops::read_pattern;
+use element_bytes::read_pattern;
 use ptl_types::ElemType;
 use std::alloc::AllocError;
 

@@ -1,9 +1,8 @@
 //! What a message or a start counts and tells: a count on the counting event that is named, an event in the event queue that
-//! is named, and nothing where none is (Portals 4.3, lightweight counting events and event queues).
+//! is named, and nothing where none is.
 #![tactic(auto)]
 
 ghost use Rattle.std.specs.Prelude.{◌≡◌};
-ghost use Rattle.ni_model.specs.Tables.{where_set as set_by, is_live_or_none as lives, names as names_it};
 ghost use Rattle.ni_model.specs.Counts.{counted, successes as success_of};
 ghost use Rattle.ni_model.specs.Queues.{raised};
 
@@ -14,33 +13,6 @@ use ptl_types::{Count, Event, Handle};
 
 #[cfg(test)]
 mod tests;
-
-/// The handle, where the flag is set: the counting event of an entry or a descriptor, where it counts events of one kind.
-pub fn where_set(flag: bool, handle: Option<Handle>) -> Option<Handle>
-    ensures told { result ≡ set_by flag handle }
-{
-    if flag { handle } else { None }
-}
-
-/// Whether the thing that is named, if any, is live. An absent handle names nothing, and nothing is missing then.
-pub fn is_live_or_none<T>(things: &Store<T>, handle: Option<Handle>) -> bool
-    ensures told { result ≡ lives handle things.now }
-{
-    match handle {
-        Some(h) => things.is_live(h),
-        None => true,
-    }
-}
-
-/// Whether the handle is the one that is named, if any.
-pub fn names(named: Option<Handle>, handle: Handle) -> bool
-    ensures told { result ≡ names_it named handle }
-{
-    match named {
-        Some(h) => h.is(handle),
-        None => false,
-    }
-}
 
 /// That many successes, and no failure.
 pub fn successes(success: u64) -> Count

@@ -1,9 +1,9 @@
 //! A count and an event reach what is named, and nothing where none is.
 
-use crate::{count, is_live_or_none, names, raise, successes, where_set};
+use crate::{count, raise, successes};
 use counters::Counter;
 use event_queues::Queue;
-use handle_store::Store;
+use handle_store::{Store, is_live_or_none, names, where_set};
 use ptl_types::{EqGot, Event, EventKind, Handle};
 use std::test::Fail;
 

@@ -12,8 +12,11 @@ use slab::Slab;
 use std::alloc::Global;
 use std::marker::Model;
 
+mod named;
 #[cfg(test)]
 mod tests;
+
+pub use named::{is_live_or_none, names, where_set};
 
 #[derive(Drop)]
 struct Held<T> {

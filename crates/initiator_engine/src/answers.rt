@@ -6,9 +6,9 @@ ghost use Rattle.ni_model.specs.Answers.{bound_at, is_due as due, memory_home, o
 ghost use Rattle.ni_model.specs.Conditions.{IsBoundIn};
 ghost use Rattle.ptl_types.specs.Handles.{top};
 
-use event_delivery::{raise, where_set};
+use event_delivery::raise;
 use event_queues::Queue;
-use handle_store::Store;
+use handle_store::{Store, where_set};
 use memory_desc::Region;
 use ni_model::Bound;
 use ptl_types::{AckRequest, Count, Event, EventKind, Handle, Header, Message, MessageKind};

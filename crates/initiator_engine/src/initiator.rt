@@ -15,9 +15,9 @@ use crate::headers::{counted_on, header_of, put_args};
 use crate::named::{some_names_ct, some_names_eq};
 use crate::starts::{await_more, read_bytes, send_counter, send_event, send_queue};
 use counters::Counter;
-use event_delivery::{count, is_live_or_none, raise, successes};
+use event_delivery::{count, raise, successes};
 use event_queues::Queue;
-use handle_store::Store;
+use handle_store::{Store, is_live_or_none};
 use memory_desc::Region;
 use ni_model::Bound;
 use ptl_types::{

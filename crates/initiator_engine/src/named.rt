@@ -3,8 +3,7 @@
 ghost use Rattle.std.specs.Prelude.{◌≡◌};
 ghost use Rattle.ni_model.specs.Refusals.{md_names_ct, md_names_eq};
 
-use event_delivery::names;
-use handle_store::Store;
+use handle_store::{Store, names};
 use ni_model::Bound;
 use ptl_types::Handle;
 

@@ -5,13 +5,11 @@
 mod bytes;
 #[cfg(test)]
 mod edges;
-mod elements;
 mod operations;
 #[cfg(test)]
 mod tests;
 
 pub use bytes::{combine, start_values};
-pub use elements::{read_pattern, write_pattern};
 pub use operations::{
     BitwiseAnd, BitwiseOr, BitwiseXor, Combine, LogicalAnd, LogicalOr, LogicalXor, Maximum,
     Minimum, Product, Sum, combine_elements, start_value,

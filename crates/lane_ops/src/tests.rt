@@ -3,7 +3,7 @@
 //! one three places on.
 
 use crate::edges::{BAND, BOR, BXOR, LAND, LOR, LXOR, MAX, MIN, PROD, Row, SUM, edges};
-use crate::{combine, combine_elements, read_pattern, start_value, start_values, write_pattern};
+use crate::{combine, combine_elements, start_value, start_values};
 use ptl_types::{AtomicOp, ElemType};
 
 #[test]
@@ -32,19 +32,6 @@ fn elements_are_combined(rt: HostRuntime) {
     assert!(rt; combine_elements(AtomicOp::Land, ElemType::U16, 2, 1) == 1);
     assert!(rt; start_value(AtomicOp::Max, ElemType::I16) == 0x8000);
     assert!(rt; start_value(AtomicOp::Prod, ElemType::U64) == 1);
-}
-
-#[test]
-fn first_elements_are_read_and_written(rt: HostRuntime) {
-    assert!(rt; read_pattern(ElemType::U8, &[7, 9]) == 7);
-    assert!(rt; read_pattern(ElemType::I16, &[0xff, 0x80, 9]) == 0x80ff);
-    assert!(rt; read_pattern(ElemType::U32, &[4, 3, 2, 1]) == 0x0102_0304);
-    assert!(rt; read_pattern(ElemType::I64, &[8, 7, 6, 5, 4, 3, 2, 1]) == 0x0102_0304_0506_0708);
-    let mut bytes = [9; 5];
-    write_pattern(ElemType::U32, &mut bytes, 0x0102_0304);
-    assert!(rt; bytes == [4, 3, 2, 1, 9]);
-    write_pattern(ElemType::I8, &mut bytes, 0x80);
-    assert!(rt; bytes == [0x80, 3, 2, 1, 9]);
 }
 
 /// What the operation makes of two elements, through their bytes.

@@ -1,4 +1,5 @@
--- What an acknowledgement or a reply does where it comes home (Portals 4.3, acknowledgements and replies).
+-- What an acknowledgement or a reply does where it comes home (Portals 4.3, acknowledgements and replies). Which answer is due, and
+-- what is counted and told of it, is this profile's own.
 use Rattle.std.specs.Prelude.{ℕ, Bool, false, [], ◌∷◌, ◌&&◌, ◌||◌, not, nat_lt, nat_le, ◌+◌, ◌-◌, List, Option, Some, None, if◌then◌else◌}
 use Rattle.ptl_types.specs.declared.handles.Handle.{Handle}
 use Rattle.ptl_types.specs.declared.handles.Count.{Count}

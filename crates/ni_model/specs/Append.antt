@@ -1,4 +1,5 @@
--- Appending an entry, with the unexpected headers that it takes, and searching them (Portals 4.3, list entries and searching).
+-- Appending an entry (Portals 4.3, match list entries), with the unexpected headers that it takes, and searching them: the headers, the
+-- search and what is told of them are this profile's own.
 use Rattle.std.specs.Prelude.{ℕ, Bool, ◌||◌, not, nat_le, ◌+◌, List, Option, Some, None, [], ◌∷◌, ◌++◌, if◌then◌else◌, length, sum_by, is_some, slice_set}
 use Rattle.ptl_types.specs.declared.handles.Handle.{Handle}
 use Rattle.ptl_types.specs.declared.handles.Count.{Count}

@@ -1,5 +1,5 @@
 -- What a request does at its target: an entry is chosen and judged, and then five effects that don't look at one another
--- (Portals 4.3, matching, overflow lists and the operations at the target).
+-- (Portals 4.3, matching and the operations at the target). Overflow, and what is counted and told, is this profile's own.
 use Rattle.std.specs.Prelude.{ℕ, Bool, true, false, ◌&&◌, ◌||◌, ◌==◌, nat_lt, ◌+◌, ◌-◌, ◌/◌, ◌%◌, List, Option, Some, None, [], ◌∷◌, ◌++◌, min, if◌then◌else◌, length, find, take, slice_set}
 use Rattle.ptl_types.specs.declared.handles.Handle.{Handle}
 use Rattle.ptl_types.specs.declared.handles.Count.{Count}

@@ -37,7 +37,7 @@ pub record MayFetch (g : GetArgs) (a : PutArgs) : Type 0 where
   pub remote_offset : g.remote_offset ≡ a.remote_offset
   pub no_ack : a.ack ≡ NoAck
 
--- a fetching atomic has the limit of its own beside those of an atomic
+-- a fetch-atomic has a limit of its own in place of that of an atomic, and a swap is of one element
 abbrev pub MayStart : Deed → ℕ → Limits → Type 0
 MayStart (Put a) ranks l = MayGo a.target a.length ranks l.msg
 MayStart (Get g) ranks l = MayGo g.target g.length ranks l.msg

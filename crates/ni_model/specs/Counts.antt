@@ -1,4 +1,5 @@
--- Counting events (Portals 4.3, lightweight counting events): success and failure, together at most 2^64 - 1.
+-- Counting events: success and failure, together at most 2^64 - 1. Portals 4.3 has the two numbers (lightweight counting events); how
+-- they are counted, and their end, is this profile's own.
 use Rattle.std.specs.Prelude.{ℕ, suc, Bool, nat_lt, ◌+◌, ◌-◌, min, Option, Some, None}
 use Rattle.ptl_types.specs.declared.handles.Handle.{Handle}
 use Rattle.ptl_types.specs.declared.handles.Count.{Count}

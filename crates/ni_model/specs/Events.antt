@@ -1,4 +1,5 @@
--- What the full events hold (Portals 4.3, event types). A field that an event doesn't speak of is 0.
+-- What the full events hold: this profile's own, under the names that Portals 4.3 has for their types. A field that an event doesn't speak
+-- of is 0.
 use Rattle.std.specs.Prelude.{ℕ, Bool, true, false, ◌&&◌, nat_lt, ◌+◌, if◌then◌else◌}
 use Rattle.ptl_types.specs.declared.headers.Header.{Header}
 use Rattle.ptl_types.specs.declared.headers.MessageKind.{MessageKind}

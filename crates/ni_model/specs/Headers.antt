@@ -1,4 +1,4 @@
--- The unexpected headers of an interface, oldest first, and which of them an entry finds (Portals 4.3, unexpected messages).
+-- The unexpected headers of an interface, oldest first, and which of them an entry finds: this profile's own.
 use Rattle.std.specs.Prelude.{ℕ, Bool, false, ◌==◌, ◌&&◌, ◌||◌, not, nat_le, List, [], ◌∷◌, filter, length, Option, if◌then◌else◌, find}
 use Rattle.ptl_types.specs.declared.handles.Handle.{Handle}
 use Rattle.ptl_types.specs.declared.entries.Entry.{Entry}

@@ -1,4 +1,4 @@
--- Event queues: the events that wait, oldest first, and whether one was lost since the last get (Portals 4.3, event queues).
+-- Event queues: the events that wait, oldest first, and whether one was lost since the last get: this profile's own.
 use Rattle.std.specs.Prelude.{ℕ, Bool, true, false, List, [], ◌∷◌, ◌++◌, length, nat_lt, Option, Some, None, if◌then◌else◌}
 use Rattle.ptl_types.specs.declared.handles.Handle.{Handle}
 use Rattle.ptl_types.specs.declared.events.Event.{Event}

@@ -1,4 +1,4 @@
--- When each call of an interface is refused, the lowest number first (Portals 4.3, return codes).
+-- When each call of an interface is refused, the lowest number first: this profile's own.
 use Rattle.std.specs.Prelude.{ℕ, Bool, true, false, ◌&&◌, ◌||◌, not, nat_lt, nat_le, ◌-◌, ◌^◌, List, [], ◌∷◌, Option, Some, None, length}
 use Rattle.ptl_types.specs.declared.handles.Handle.{Handle}
 use Rattle.ptl_types.specs.declared.handles.Count.{Count}

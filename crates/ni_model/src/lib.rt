@@ -1,4 +1,4 @@
-//! The model of a Portals 4.3 network interface: its state as plain lists, and what each message, each start and each
+//! The model of a network interface in the manner of Portals 4.3: its state as plain lists, and what each message, each start and each
 //! call does to it. The definitions stand in `specs/`, and the crates of the interface cite them in their contracts.
 //! The few structs here are those that both the definitions and the code speak of.
 #![tactic(auto)]

@@ -130,8 +130,10 @@ impl Nic {
     }
 
     /// Starts a fetch-atomic: `back` says where the old elements go (Portals 4.3, fetch-atomic). The descriptor of `args` counts
-    /// and raises Send, that of `back` awaits the reply. Refusals are those of a put, for both descriptors. Conditions: those
-    /// of an atomic with the limit of fetch-atomics, both arguments agree, and no acknowledgement is asked for.
+    /// and raises Send, that of `back` awaits the reply. Refusals are those of a put, for both descriptors. Conditions: the
+    /// target is a rank, the length is of whole elements and within the limits of messages and of fetch-atomics (that of
+    /// atomics doesn't bind it), both arguments agree in length, target, index, match bits and remote offset, and no
+    /// acknowledgement is asked for.
     pub fn fetch_atomic(
         &mut self,
         back: GetArgs,

@@ -40,10 +40,8 @@ impl Bytes {
     pub fn with_room(alloc: Global, room: u64) -> Result<Bytes, NoMemory>
         ensures { IfOk result (λ b. b ≡ filled [] room) }
     {
-        match Vec::with_capacity(alloc, room as usize) {
-            Ok(items) => Ok(Bytes { items, room }),
-            Err(_) => Err(NoMemory),
-        }
+        let items = Vec::with_capacity(alloc, room as usize)?;
+        Ok(Bytes { items, room })
     }
 
     /// A copy of the list, with no room beside it.

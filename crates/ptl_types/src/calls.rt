@@ -1,7 +1,11 @@
 //! The arguments and answers of an interface's calls.
 
+ghost use Rattle.std.specs.Prelude.{◌≡◌};
+ghost use Rattle.ptl_types.specs.declared.calls.NiFault.TheVariants.{NoMemory as NoMemoryFault};
+
 use crate::{
-    AckRequest, AtomicOp, Count, ElemType, Event, Handle, Message, Rank, SwapOp, UnexpectedHeader,
+    AckRequest, AtomicOp, Count, ElemType, Event, Handle, Message, NoMemory, Rank, SwapOp,
+    UnexpectedHeader,
 };
 use std::fmt;
 
@@ -28,6 +32,22 @@ pub struct Limits {
     pub atomic: u64,
     /// The longest fetch-atomic, in bytes.
     pub fetch_atomic: u64,
+}
+
+impl Limits {
+    /// Sixteen things of each kind, four portal table indices, and operations of up to 4096 bytes.
+    pub const SMALL: Limits = Limits {
+        entries: 16,
+        unexpected: 16,
+        mds: 16,
+        cts: 16,
+        eqs: 16,
+        pts: 4,
+        triggered: 16,
+        msg: 4096,
+        atomic: 4096,
+        fetch_atomic: 4096,
+    };
 }
 
 /// Why a call of an interface was refused. The lowest one that holds is answered, and a refused call changes nothing.
@@ -61,6 +81,14 @@ impl fmt::Display for NiFault {
 }
 
 impl std::error::Error for NiFault {}
+
+impl From<NoMemory> for NiFault {
+    ghost from_gives = { λ _ e. e ≡ NoMemoryFault };
+
+    fn from(_e: NoMemory) -> NiFault {
+        NiFault::NoMemory
+    }
+}
 
 /// The arguments of a put, of an atomic, and of the sending half of a fetch-atomic or swap.
 #[derive(Clone, Copy, Debug, PartialEq, Eq)]
@@ -143,6 +171,16 @@ pub enum EqGot {
     Dropped,
 }
 
+impl fmt::Display for EqGot {
+    fn fmt<W: fmt::Write>(&self, f: &mut fmt::Formatter<W>) -> fmt::Result {
+        match self {
+            EqGot::Got(event) => write!(f, "{event}"),
+            EqGot::Empty => f.write_str("no event"),
+            EqGot::Dropped => f.write_str("an event was lost"),
+        }
+    }
+}
+
 /// What became of a message that arrived.
 #[derive(Clone, Copy, Debug, PartialEq, Eq)]
 pub enum Outcome {
@@ -156,6 +194,18 @@ pub enum Outcome {
     Dropped,
     /// The entry that it matched doesn't allow it, and the violation register rose.
     Violation,
+}
+
+impl fmt::Display for Outcome {
+    fn fmt<W: fmt::Write>(&self, f: &mut fmt::Formatter<W>) -> fmt::Result {
+        f.write_str(match self {
+            Outcome::Matched => "taken by a priority entry",
+            Outcome::Overflow => "taken by an overflow entry",
+            Outcome::Answered => "an answer that was awaited",
+            Outcome::Dropped => "dropped",
+            Outcome::Violation => "not allowed",
+        })
+    }
 }
 
 /// The answer of an arrival.

@@ -1,6 +1,9 @@
 //! Match entries, memory descriptors and unexpected headers.
 
+ghost use Rattle.std.specs.Prelude.{◌≡◌};
+
 use crate::{Handle, Header, Rank};
+use std::fmt;
 
 /// The two lists of a portal table index (Portals 4.3, match lists).
 #[derive(Clone, Copy, Debug, PartialEq, Eq)]
@@ -45,6 +48,37 @@ pub struct Entry {
     pub count_overflow: bool,
 }
 
+impl Entry {
+    /// An entry over no bytes that stays linked, takes puts and atomics of match bits 0 from any rank, and counts nothing.
+    pub const PLAIN: Entry = Entry {
+        start: 0,
+        length: 0,
+        ct: None,
+        match_id: None,
+        match_bits: 0,
+        ignore_bits: 0,
+        min_free: 0,
+        allow_put: true,
+        allow_get: false,
+        use_once: false,
+        manage_local: false,
+        no_truncate: false,
+        count_comm: false,
+        count_overflow: false,
+    };
+
+    /// The plain entry over this part of the region, in bytes.
+    pub fn over(start: u64, length: u64) -> Entry
+        ensures { result ≡ record Entry.PLAIN { start = start; length = length } }
+    {
+        Entry {
+            start,
+            length,
+            ..Entry::PLAIN
+        }
+    }
+}
+
 /// A memory descriptor: a part of the region that operations read from and answers are written to
 /// (Portals 4.3, memory descriptors).
 #[derive(Clone, Copy, Debug, PartialEq, Eq)]
@@ -65,7 +99,31 @@ pub struct Descriptor {
     pub count_ack: bool,
 }
 
-/// The header of a message that an overflow entry took (Portals 4.3, unexpected messages).
+impl Descriptor {
+    /// A descriptor over no bytes that counts and tells nothing.
+    pub const PLAIN: Descriptor = Descriptor {
+        start: 0,
+        length: 0,
+        eq: None,
+        ct: None,
+        count_send: false,
+        count_reply: false,
+        count_ack: false,
+    };
+
+    /// The plain descriptor over this part of the region, in bytes.
+    pub fn over(start: u64, length: u64) -> Descriptor
+        ensures { result ≡ record Descriptor.PLAIN { start = start; length = length } }
+    {
+        Descriptor {
+            start,
+            length,
+            ..Descriptor::PLAIN
+        }
+    }
+}
+
+/// The header of a message that an overflow entry took; what becomes of it is this profile's own.
 #[derive(Clone, Copy, Debug, PartialEq, Eq)]
 pub struct UnexpectedHeader {
     /// The overflow entry that took the message.
@@ -76,4 +134,14 @@ pub struct UnexpectedHeader {
     pub delivered: u64,
     /// The message's header.
     pub header: Header,
+}
+
+impl fmt::Display for UnexpectedHeader {
+    fn fmt<W: fmt::Write>(&self, f: &mut fmt::Formatter<W>) -> fmt::Result {
+        write!(
+            f,
+            "{}; {} of its bytes at {} by entry {}",
+            self.header, self.delivered, self.place, self.entry
+        )
+    }
 }

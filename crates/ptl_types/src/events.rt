@@ -1,8 +1,9 @@
 //! Full events.
 
 use crate::Rank;
+use std::fmt;
 
-/// The kinds of event (Portals 4.3, event types).
+/// The kinds of event, by the names of Portals 4.3; what each tells, and when, is this profile's own.
 #[derive(Clone, Copy, Debug, PartialEq, Eq)]
 pub enum EventKind {
     /// A put was delivered to a priority entry.
@@ -33,6 +34,26 @@ pub enum EventKind {
     Search,
 }
 
+impl fmt::Display for EventKind {
+    fn fmt<W: fmt::Write>(&self, f: &mut fmt::Formatter<W>) -> fmt::Result {
+        f.write_str(match self {
+            EventKind::Put => "put",
+            EventKind::PutOverflow => "put from overflow",
+            EventKind::Get => "get",
+            EventKind::Atomic => "atomic",
+            EventKind::AtomicOverflow => "atomic from overflow",
+            EventKind::FetchAtomic => "fetch-atomic",
+            EventKind::Reply => "reply",
+            EventKind::Send => "send",
+            EventKind::Ack => "acknowledgement",
+            EventKind::Link => "link",
+            EventKind::AutoUnlink => "unlink",
+            EventKind::AutoFree => "free",
+            EventKind::Search => "search",
+        })
+    }
+}
+
 /// One event. A field that its kind doesn't name is 0, and `ok` is then true.
 #[derive(Clone, Copy, Debug, PartialEq, Eq)]
 pub struct Event {
@@ -54,4 +75,22 @@ pub struct Event {
     pub place: u64,
     /// Whether the operation, or the search, succeeded.
     pub ok: bool,
+}
+
+impl fmt::Display for Event {
+    fn fmt<W: fmt::Write>(&self, f: &mut fmt::Formatter<W>) -> fmt::Result {
+        write!(
+            f,
+            "{} from rank {} at index {}, match bits {:#x}, header data {}, {} of {} bytes at {}{}",
+            self.kind,
+            self.source,
+            self.pt,
+            self.match_bits,
+            self.hdr_data,
+            self.delivered,
+            self.requested,
+            self.place,
+            if self.ok { "" } else { ", failed" }
+        )
+    }
 }

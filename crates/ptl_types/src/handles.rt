@@ -3,6 +3,7 @@
 ghost use Rattle.std.specs.Prelude.{◌≡◌};
 ghost use Rattle.ptl_types.specs.Handles.{same_handle};
 
+use std::alloc::{AllocError, AllocFailed};
 use std::fmt;
 
 /// The number of a process in its job, from 0: a Portals process is addressed by its rank alone.
@@ -20,13 +21,27 @@ impl fmt::Display for NoMemory {
 
 impl std::error::Error for NoMemory {}
 
+impl From<AllocError> for NoMemory {
+    fn from(_e: AllocError) -> NoMemory {
+        NoMemory
+    }
+}
+
+impl<T: Drop> From<AllocFailed<T>> for NoMemory {
+    fn from(_e: AllocFailed<T>) -> NoMemory {
+        NoMemory
+    }
+}
+
 /// The name of a memory descriptor, match entry, counting event or event queue of one interface.
 ///
-/// `slot` is a place in the interface's table, which is used again; `stamp` rises by one with each thing made in that
-/// table, from 0, so that the handle of a thing that is gone is never live again.
+/// `slot` is the place of the thing's record in the interface's table, which is used again; `stamp` rises by one with each
+/// thing made in that table, from 0, so that the handle of a thing that is gone is never live again.
 #[derive(Clone, Copy, Debug, PartialEq, Eq)]
 pub struct Handle {
-    /// The place in the table, below the table's limit.
+    /// The place of its record: of a descriptor, a counting event or a queue below that table's limit, of a match entry
+    /// below the limits of entries and of unexpected headers together, since an unlinked overflow entry keeps its record
+    /// while a header names it.
     pub slot: u32,
     /// How many things were made in the table before this one.
     pub stamp: u64,
@@ -48,4 +63,16 @@ pub struct Count {
     pub success: u64,
     /// Operations that failed.
     pub failure: u64,
+}
+
+impl fmt::Display for Handle {
+    fn fmt<W: fmt::Write>(&self, f: &mut fmt::Formatter<W>) -> fmt::Result {
+        write!(f, "number {} in slot {}", self.stamp, self.slot)
+    }
+}
+
+impl fmt::Display for Count {
+    fn fmt<W: fmt::Write>(&self, f: &mut fmt::Formatter<W>) -> fmt::Result {
+        write!(f, "{} succeeded, {} failed", self.success, self.failure)
+    }
 }

@@ -4,6 +4,7 @@ ghost use Rattle.std.specs.Prelude.{◌≡◌};
 ghost use Rattle.ptl_types.specs.Kinds.{is_answer, lane_of};
 
 use crate::{AtomicOp, ElemType, Handle, Rank, SwapOp};
+use std::fmt;
 
 /// What an initiator asks for when its put or atomic arrives (Portals 4.3, acknowledgement requests).
 #[derive(Clone, Copy, Debug, PartialEq, Eq)]
@@ -54,6 +55,20 @@ impl MessageKind {
     }
 }
 
+impl fmt::Display for MessageKind {
+    fn fmt<W: fmt::Write>(&self, f: &mut fmt::Formatter<W>) -> fmt::Result {
+        f.write_str(match self {
+            MessageKind::Put => "put",
+            MessageKind::Get => "get",
+            MessageKind::Atomic => "atomic",
+            MessageKind::FetchAtomic => "fetch-atomic",
+            MessageKind::Swap => "swap",
+            MessageKind::Ack => "acknowledgement",
+            MessageKind::Reply => "reply",
+        })
+    }
+}
+
 /// The two lanes from one rank to another. Messages of one lane keep their order; the two lanes have no common order.
 #[derive(Clone, Copy, Debug, PartialEq, Eq)]
 pub enum Lane {
@@ -101,4 +116,44 @@ pub struct Header {
     pub home_offset: u64,
     /// In an answer, whether the request was delivered; true in a request.
     pub ok: bool,
+}
+
+impl Header {
+    /// The header of a put of no bytes from rank 0 to index 0 of rank 0, with match bits 0, that asks for no answer.
+    pub const PLAIN: Header = Header {
+        kind: MessageKind::Put,
+        source: 0,
+        target: 0,
+        pt: 0,
+        match_bits: 0,
+        offset: 0,
+        length: 0,
+        hdr_data: 0,
+        op: None,
+        swap: None,
+        ty: ElemType::U8,
+        operand: 0,
+        ack: AckRequest::NoAck,
+        home: None,
+        home_offset: 0,
+        ok: true,
+    };
+}
+
+impl fmt::Display for Header {
+    fn fmt<W: fmt::Write>(&self, f: &mut fmt::Formatter<W>) -> fmt::Result {
+        write!(
+            f,
+            "{} from rank {} to rank {} at index {}, match bits {:#x}, header data {}, {} bytes at offset {}{}",
+            self.kind,
+            self.source,
+            self.target,
+            self.pt,
+            self.match_bits,
+            self.hdr_data,
+            self.length,
+            self.offset,
+            if self.ok { "" } else { ", failed" }
+        )
+    }
 }

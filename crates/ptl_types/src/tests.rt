@@ -1,6 +1,9 @@
 //! That the calls succeed with ample memory, and worked cases of matching.
 
-use crate::{AckRequest, Bytes, ElemType, Entry, Header, MessageKind, matches};
+use crate::{
+    Bytes, Count, Descriptor, Entry, EqGot, Event, EventKind, Handle, Header, NiFault, NoMemory,
+    Outcome, UnexpectedHeader, matches,
+};
 use std::test::Fail;
 
 #[test]
@@ -24,41 +27,19 @@ fn bytes_keep_their_list_and_their_room(rt: HostRuntime) -> Result<(), Fail> {
 
 fn a_put(match_bits: u64, source: u32) -> Header {
     Header {
-        kind: MessageKind::Put,
-        source,
-        target: 0,
-        pt: 0,
         match_bits,
-        offset: 0,
+        source,
         length: 2,
-        hdr_data: 0,
-        op: None,
-        swap: None,
-        ty: ElemType::U8,
-        operand: 0,
-        ack: AckRequest::NoAck,
-        home: None,
-        home_offset: 0,
-        ok: true,
+        ..Header::PLAIN
     }
 }
 
 fn an_entry(match_bits: u64, ignore_bits: u64, match_id: Option<u32>) -> Entry {
     Entry {
-        start: 0,
-        length: 4,
-        ct: None,
         match_id,
         match_bits,
         ignore_bits,
-        min_free: 0,
-        allow_put: true,
-        allow_get: true,
-        use_once: false,
-        manage_local: false,
-        no_truncate: false,
-        count_comm: false,
-        count_overflow: false,
+        ..Entry::over(0, 4)
     }
 }
 
@@ -93,4 +74,56 @@ fn entries_match_by_bits_and_source(rt: HostRuntime) {
         let found = matches(&an_entry(bits, ignore, from), &a_put(sent, source));
         assert_eq!(rt; found, want, "at {sent:x} from {source}");
     }
+}
+
+#[test]
+fn what_is_printed(rt: HostRuntime) -> Result<(), Fail> {
+    let alloc = rt.alloc();
+    let event = Event {
+        kind: EventKind::PutOverflow,
+        source: 3,
+        pt: 1,
+        match_bits: 0x1f,
+        hdr_data: 9,
+        requested: 8,
+        delivered: 4,
+        place: 16,
+        ok: false,
+    };
+    let text = format!(in alloc; "{event}")?;
+    assert_eq!(rt;
+        text.as_str(),
+        "put from overflow from rank 3 at index 1, match bits 0x1f, header data 9, 4 of 8 bytes at 16, failed"
+    );
+    let got = format!(in alloc; "{}", EqGot::Got(Event { ok: true, ..event }))?;
+    assert_eq!(rt;
+        got.as_str(),
+        "put from overflow from rank 3 at index 1, match bits 0x1f, header data 9, 4 of 8 bytes at 16"
+    );
+    let taken = UnexpectedHeader {
+        entry: Handle { slot: 2, stamp: 7 },
+        place: 16,
+        delivered: 4,
+        header: a_put(5, 3),
+    };
+    let text = format!(in alloc; "{taken}")?;
+    assert_eq!(rt;
+        text.as_str(),
+        "put from rank 3 to rank 0 at index 0, match bits 0x5, header data 0, 2 bytes at offset 0; 4 of its bytes at 16 by entry number 7 in slot 2"
+    );
+    let text = format!(in alloc;
+        "{}; {}; {}",
+        Count {
+            success: 2,
+            failure: 1
+        },
+        Outcome::Matched,
+        NiFault::from(NoMemory)
+    )?;
+    assert_eq!(rt;
+        text.as_str(),
+        "2 succeeded, 1 failed; taken by a priority entry; out of memory"
+    );
+    assert_eq!(rt; Descriptor::over(3, 5).start, 3);
+    Ok(())
 }

@@ -8,7 +8,7 @@ ghost use Rattle.target_engine.specs.Shelves.{seen_in};
 use crate::index::{Index, unlink_at};
 use crate::places::{linked_record, unlink_place};
 use crate::target::Target;
-use event_delivery::names;
+use handle_store::names;
 use ptl_types::{Handle, NiFault};
 
 /// Whether an entry of some index names the counting event.

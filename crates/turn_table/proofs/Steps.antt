@@ -12,7 +12,7 @@ use Rattle.turn_table.specs.declared.views.OpenTurn.{OpenTurn}
 use Rattle.turn_table.specs.declared.views.EndedTurn.{EndedTurn}
 use Rattle.turn_table.specs.declared.views.SlotView.{SlotView}
 use Rattle.turn_table.specs.declared.views.HandView.{HandView}
-use Rattle.turn_table.specs.Views.{adjusted, times, once_below, numbers_from, places_in, places, after_busy, busier_slot, without_busy, after_take, after_turn, after_give, open_turn}
+use Rattle.turn_table.specs.Views.{adjusted, times, once_below, numbers_from, places_in, places, after_busy, busier_slot, busy_in, busy_at, without_busy, after_take, after_turn, after_give, open_turn}
 use Rattle.turn_table.specs.Rules.{Where, home, out, value_of, Shows, Begun, KeepsTurns, try_tells, count_tells}
 use Rattle.turn_table.proofs.Sums.{sum_at, adjusted_at, adjusted_length, prefix_refl, times_numbers_from, times_append, set_there}
 use Rattle.turn_table.proofs.Words.{taken_word, busy_word}
@@ -61,6 +61,16 @@ module _ {T : Type 0} where
 
   pub without_busy-after_busy : (v : HandView T) (k : ℕ) → without_busy (after_busy v k) ≡ without_busy v
   without_busy-after_busy v k = λ i. record { parts = v.parts; turn = v.turn; slots = hushed-busier v.slots k i; start = v.start }
+
+  busy_in-busier : (l : List (SlotView T)) (k j : ℕ) → j ≢ k → busy_in (adjusted l k busier_slot) j ≡ busy_in l j
+  busy_in-busier [] k j other = refl
+  busy_in-busier (x ∷ xs) zero zero other = absurd (other refl)
+  busy_in-busier (x ∷ xs) zero (suc j) other = refl
+  busy_in-busier (x ∷ xs) (suc k) zero other = refl
+  busy_in-busier (x ∷ xs) (suc k) (suc j) other = busy_in-busier xs k j (λ e. other (ap suc e))
+
+  pub busy_at-after_busy : (v : HandView T) (k j : ℕ) → j ≢ k → busy_at (after_busy v k) j ≡ busy_at v j
+  busy_at-after_busy v k j other = busy_in-busier v.slots k j other
 
 module _ {T N I : Type 0} (past : T → List I) (name : T → N) (start : List T) where
   abbrev S : Type 0

@@ -1,5 +1,5 @@
 -- Which hands belong to which table, what a turn finds, and what the hands know at the end.
-use Rattle.std.specs.Prelude.{◌≡◌, ℕ, ◌+◌, ◌<◌, ◌≤◌, ◌^◌, List, [], ◌∷◌, length, map, Option, Some, None, All, sum_by}
+use Rattle.std.specs.Prelude.{◌≡◌, ◌≢◌, ℕ, ◌+◌, ◌<◌, ◌≤◌, ◌^◌, List, [], ◌∷◌, length, map, Option, Some, None, All, sum_by}
 use mathlib.Core.Option.{some}
 use mathlib.Core.List.{IsPrefix}
 use lib.ListN.{get_elem?}
@@ -8,7 +8,7 @@ use Rattle.atomic_table.specs.Table.{Me}
 use Rattle.turn_table.specs.declared.views.SlotView.{SlotView}
 use Rattle.turn_table.specs.declared.views.EndedTurn.{EndedTurn}
 use Rattle.turn_table.specs.declared.views.HandView.{HandView}
-use Rattle.turn_table.specs.Views.{open_turn, places, times, once_below, all_unseen, after_take, without_busy}
+use Rattle.turn_table.specs.Views.{open_turn, places, times, once_below, all_unseen, after_take, busy_at, without_busy}
 use Rattle.turn_table.specs.Rules.{Follows}
 use Rattle.turn_table.specs.States.{TableState, HandState}
 
@@ -46,10 +46,11 @@ module _ {T : Type 0} where
       pub short : length (past x) < 2 ^ 62
       pub named : (y : T) → get_elem? v.start k ≡ some y → name x ≡ name y
 
-    -- after some busy tries the value x of the slot k was taken
+    -- after some busy tries the value x of the slot k was taken: they raised the count of busy tries at that slot alone
     pub record Took (v : HandView T) (k : ℕ) (x : T) (w : HandView T) : Type 0 where
       pub tried : HandView T
       pub alike : without_busy tried ≡ without_busy v
+      pub elsewhere : (j : ℕ) → j ≢ k → busy_at tried j ≡ busy_at v j
       pub taken : w ≡ after_take tried k x
       pub found : Found tried k x
 

@@ -66,6 +66,15 @@ module _ {T : Type 0} where
   abbrev pub after_busy : HandView T → ℕ → HandView T
   after_busy v k = record { parts = v.parts; turn = v.turn; slots = adjusted v.slots k busier_slot; start = v.start }
 
+  abbrev pub busy_in : List (SlotView T) → ℕ → ℕ
+  busy_in [] k = 0
+  busy_in (s ∷ ss) zero = s.busy
+  busy_in (s ∷ ss) (suc k) = busy_in ss k
+
+  -- how often a try of the hand found the slot k out
+  abbrev pub busy_at : HandView T → ℕ → ℕ
+  busy_at v k = busy_in v.slots k
+
   abbrev pub without_busy_slot : SlotView T → SlotView T
   without_busy_slot s = record { busy = 0; seen = s.seen; places = s.places }
 
