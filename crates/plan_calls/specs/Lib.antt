@@ -1,0 +1,6 @@
+pub mod Works
+pub mod Bits
+pub mod Areas
+pub mod Lanes
+pub mod Limits
+pub mod Calls
