@@ -1,0 +1,20 @@
+//! What a description says apart from its text: ranks, groups, buffers with the ranks that hold them, the collective
+//! operations that are made, and the values of the inputs; with what each collective means.
+//!
+//! One row a collective stands in `specs/Collectives`: a new one is a row there, and an arm of each function of
+//! `collectives`.
+#![tactic(auto)]
+
+mod collectives;
+mod inputs;
+mod kinds;
+mod lists;
+mod shape;
+mod types;
+
+pub use collectives::is_in;
+pub use inputs::{InputList, InputLists, Inputs};
+pub use kinds::StepKind;
+pub use lists::{Holders, Name, RankList};
+pub use shape::{Parts, Shape, members_of};
+pub use types::{Buffer, CollStep, Group, Spread, Version};
