@@ -1,5 +1,5 @@
 -- A walk over the slots of a table, and what it tells of its things.
-use Rattle.std.proofs.Common.{◌≡◌, ℕ, ◌+◌, ◌<◌, ◌==◌, Bool, true, false, ◌||◌, List, [], ◌∷◌, Option, Some, None, if◌then◌else◌, refl, sym, ap, subst, ◌∙◌, arith}
+use Rattle.std.proofs.Common.{◌≡◌, ℕ, ◌+◌, ◌<◌, ◌==◌, nat_lt, Bool, true, false, ◌||◌, List, [], ◌∷◌, Some, if◌then◌else◌, refl, ap, ◌∙◌, arith}
 use Rattle.std.specs.Prelude.{All}
 use Rattle.std.proofs.lemmas.Bool.Decides.{nat_tests}
 use Rattle.std.proofs.lemmas.List.Elements.{All-head, All-tail, All-cons, All-nil}
@@ -7,6 +7,7 @@ use Rattle.ptl_types.specs.declared.handles.Handle.{Handle}
 use Rattle.ptl_types.specs.Handles.{same_handle}
 use Rattle.ni_model.specs.declared.Bound.{Bound}
 use Rattle.ni_model.specs.Tables.{Live, lookup, has_slot, names}
+use Rattle.ni_model.specs.Answers.{is_awaited}
 use Rattle.ni_model.specs.Refusals.{md_names_ct, md_names_eq}
 
 -- no thing below this slot passes the test
@@ -79,3 +80,12 @@ uses_eq eq b = names b.md.eq eq
 pub eq-named : (eq : Handle) (xs : List (Live Bound)) → md_names_eq eq xs ≡ some_thing (uses_eq eq) xs
 eq-named eq [] = refl
 eq-named eq (x ∷ xs) = rw (eq-named eq xs) refl
+
+-- ---- answers that are awaited
+
+abbrev pub awaits_one : Bound → Bool
+awaits_one b = nat_lt 0 b.awaits
+
+pub awaited-some : (xs : List (Live Bound)) → is_awaited xs ≡ some_thing awaits_one xs
+awaited-some [] = refl
+awaited-some (x ∷ xs) = rw (awaited-some xs) refl

@@ -3,7 +3,7 @@
 ghost use Rattle.std.specs.Prelude.{◌≡◌, ◌≤◌, ◌+◌, true, false, Some, None, IfOk, IfErr, OnErr, length};
 ghost use Rattle.ni_model.specs.Tables.{no_things, lookup, with_new, without, has_slot, handle, is_live as lives};
 ghost use Rattle.ni_model.specs.Calls.{bound as as_bound, awaits_of};
-ghost use Rattle.ni_model.specs.Answers.{home, answered};
+ghost use Rattle.ni_model.specs.Answers.{home, answered, is_awaited};
 ghost use Rattle.ni_model.specs.Starts.{started};
 ghost use Rattle.ni_model.specs.Refusals.{bind_fault, deed_fault, own_release_fault, md_names_ct, md_names_eq};
 ghost use Rattle.ni_model.specs.Conditions.{MayStart};
@@ -12,7 +12,7 @@ ghost use Rattle.initiator_engine.specs.Initiators.{sent_as, sent_by, initiating
 use crate::answers::{await_less, bound_of, bring, counter_home, is_due, one_answer, raise_answer};
 use crate::checks::{deed_fits, deed_is_live, is_live};
 use crate::headers::{counted_on, header_of, put_args};
-use crate::named::{some_names_ct, some_names_eq};
+use crate::named::{some_awaits, some_names_ct, some_names_eq};
 use crate::starts::{await_more, read_bytes, send_counter, send_event, send_queue};
 use counters::Counter;
 use event_delivery::{count, raise, successes};
@@ -166,6 +166,13 @@ impl Initiator {
             Some(bound) => Ok(bound.awaits),
             None => Err(NiFault::Stale),
         }
+    }
+
+    /// Whether a descriptor awaits an answer.
+    pub fn awaits_any(&self) -> bool
+        ensures told { result ≡ is_awaited self.now.mds.live }
+    {
+        some_awaits(&self.mds)
     }
 
     /// Whether a descriptor names the counting event.

@@ -1,6 +1,7 @@
-//! Which counting events and event queues the descriptors name.
+//! Which counting events and event queues the descriptors name, and whether one awaits an answer.
 
 ghost use Rattle.std.specs.Prelude.{◌≡◌};
+ghost use Rattle.ni_model.specs.Answers.{is_awaited};
 ghost use Rattle.ni_model.specs.Refusals.{md_names_ct, md_names_eq};
 
 use handle_store::{Store, names};
@@ -28,6 +29,20 @@ pub fn some_names_eq(mds: &Store<Bound>, eq: Handle) -> bool
     for slot in 0..mds.slots() {
         if let Some((_, bound)) = mds.at(slot) {
             if names(bound.md.eq, eq) {
+                return true;
+            }
+        }
+    }
+    false
+}
+
+/// Whether a descriptor awaits an answer. It goes through the slots of the table.
+pub fn some_awaits(mds: &Store<Bound>) -> bool
+    ensures { result ≡ is_awaited mds.now.live }
+{
+    for slot in 0..mds.slots() {
+        if let Some((_, bound)) = mds.at(slot) {
+            if bound.awaits > 0 {
                 return true;
             }
         }

@@ -1,9 +1,9 @@
 -- Triggered operations: which are ready, and what the firing of one does (Portals 4.3, triggered operations).
-use Rattle.std.specs.Prelude.{ℕ, Bool, false, ◌==◌, not, nat_le, [], ◌∷◌, ◌++◌, ◌+◌, Option, Some, None, find, filter}
+use Rattle.std.specs.Prelude.{ℕ, Bool, false, ◌==◌, not, nat_le, List, [], ◌∷◌, ◌++◌, ◌+◌, Option, Some, None, find, filter, map}
 use Rattle.ptl_types.specs.declared.handles.Handle.{Handle}
 use Rattle.ptl_types.specs.declared.handles.Count.{Count}
 use Rattle.ptl_types.specs.declared.calls.Deed.{Deed}
-use Rattle.ptl_types.specs.declared.calls.Deed.TheVariants.{Inc, Set}
+use Rattle.ptl_types.specs.declared.calls.Deed.TheVariants.{Put, Get, Atomic, FetchAtomic, Swap, Inc, Set}
 use Rattle.ptl_types.specs.Handles.{same_handle}
 use Rattle.ptl_types.specs.Messages.{Sent}
 use Rattle.ni_model.specs.Tables.{Table, lookup, changed}
@@ -32,6 +32,37 @@ is_ready_op cts (Some p) = is_reached (lookup p.ct cts.live) p.threshold
 -- operation t waits, and its counter's success and failure together are at least its threshold
 abbrev pub is_ready : State → ℕ → Bool
 is_ready s t = is_ready_op s.cts (posted_at t s.pending)
+
+-- the numbers of those that are ready, rising
+abbrev pub ready_numbers : State → List ℕ
+ready_numbers s = filter (is_ready s) (map (λ (p : Posted). p.number) s.pending.waiting)
+
+-- the rank that a deed's message is for; none of a deed that counts and sends nothing
+abbrev pub message_target : Deed → Option ℕ
+message_target (Put a) = Some a.target
+message_target (Get g) = Some g.target
+message_target (Atomic a op ty) = Some a.target
+message_target (FetchAtomic g a op ty) = Some a.target
+message_target (Swap g a op ty operand) = Some a.target
+message_target _ = None
+
+-- of an operation that waits
+abbrev pub target_of : Option Posted → Option ℕ
+target_of None = None
+target_of (Some p) = message_target p.deed
+
+-- the rank that the message of operation t is for
+abbrev pub target_at : State → ℕ → Option ℕ
+target_at s t = target_of (posted_at t s.pending)
+
+-- the rank named is d
+abbrev pub is_rank : ℕ → Option ℕ → Bool
+is_rank d None = false
+is_rank d (Some r) = r == d
+
+-- the numbers of those that are ready and whose message is for rank d, rising
+abbrev pub ready_numbers_to : ℕ → State → List ℕ
+ready_numbers_to d s = filter (λ t. is_rank d (target_at s t)) (ready_numbers s)
 
 -- one operation more, the newest: its number is that of those given before
 abbrev pub with_posted : Deed → Handle → ℕ → Operations → Operations

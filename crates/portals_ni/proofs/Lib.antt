@@ -1,5 +1,6 @@
 pub mod Counts
 pub mod Parts
+pub mod Readies
 pub mod Targets
 pub mod Told
 pub mod Homes

@@ -1,11 +1,12 @@
 -- What the pending operations of an interface wait with, and what they are told.
-use Rattle.std.specs.Prelude.{ℕ, Option, Some, None}
+use Rattle.std.specs.Prelude.{ℕ, List, Option, Some, None, filter}
 use Rattle.ptl_types.specs.declared.handles.Handle.{Handle}
 use Rattle.ptl_types.specs.declared.handles.Count.{Count}
 use Rattle.ptl_types.specs.declared.calls.Deed.{Deed}
 use Rattle.ni_model.specs.Tables.{Table, lookup}
 use Rattle.ni_model.specs.Counts.{total}
-use Rattle.triggered_ops.specs.Operations.{Operations, told, told_one}
+use Rattle.ni_model.specs.Ready.{is_rank, posted_at, target_of}
+use Rattle.triggered_ops.specs.Operations.{Operations, told, told_one, due_numbers, posted_all}
 use Rattle.portals_ni.specs.declared.armed.Armed.{Armed}
 
 -- the deed of a pending operation
@@ -30,3 +31,7 @@ tell_new t (Some c) ops = told_one t (total c) ops
 -- by the counting event in its table
 abbrev pub told_new : ℕ → Handle → Table Count → Operations Armed → Operations Armed
 told_new t h cts ops = tell_new t (lookup h cts.live) ops
+
+-- the numbers of those that are due and whose message is for rank d, rising
+abbrev pub due_numbers_to : ℕ → Operations Armed → List ℕ
+due_numbers_to d ops = filter (λ t. is_rank d (target_of (posted_at t (posted_all deed_in ops)))) (due_numbers ops)

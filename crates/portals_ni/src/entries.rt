@@ -1,12 +1,15 @@
 //! Portal table indices, match entries and memory descriptors (Portals 4.3, portal table, match list entries, memory
 //! descriptors).
 
-ghost use Rattle.std.specs.Prelude.{◌≡◌};
+ghost use Rattle.std.specs.Prelude.{◌≡◌, option_copied};
+ghost use Rattle.unexpected.specs.Places.{header_at};
+ghost use Rattle.ni_model.specs.Answers.{is_awaited};
 ghost use Rattle.ni_model.specs.Tables.{has_slot};
 ghost use Rattle.ni_model.specs.Calls.{ends, Makes, MayLackMemory, entry_slot, pt_alloc as pt_alloc_of, pt_free as pt_free_of, me_append as me_append_of, me_unlink as me_unlink_of, me_search as me_search_of, md_bind as md_bind_of, awaits as awaits_of};
 
 use crate::armed::tell;
 use crate::nic::Nic;
+use ni_model::Noted;
 use ptl_types::{Appended, Descriptor, Entry, Handle, List, NiFault, UnexpectedHeader};
 
 impl Nic {
@@ -67,6 +70,21 @@ impl Nic {
         self.target.search(&mut self.eqs, pt, entry, delete)
     }
 
+    /// The unexpected header number `i` of an index in the order of arrival, from 0; `None` exactly where there are no more
+    /// than `i`. It goes through the headers before it: a walk over all takes `headers`.
+    pub fn header(&self, pt: u32, i: u32) -> Option<&UnexpectedHeader>
+        ensures told { option_copied result ≡ header_at pt i self.now.headers.noted }
+    {
+        self.target.header(pt, i)
+    }
+
+    /// The unexpected headers of all indices, in the order of arrival.
+    pub fn headers(&self) -> &[Noted]
+        ensures told { result.now ≡ self.now.headers.noted }
+    {
+        self.target.headers()
+    }
+
     /// Binds a memory descriptor and answers its handle. `Stale` where its queue or its counting event isn't allocated,
     /// `NoSpace` where as many as the limit are bound or all 2^64 - 1 stamps were given, `OutOfRegion` where its part reaches
     /// past the region.
@@ -81,5 +99,12 @@ impl Nic {
         ensures told { result ≡ awaits_of md self.now }
     {
         self.initiator.awaits(md)
+    }
+
+    /// Whether a descriptor awaits an answer.
+    pub fn awaits_any(&self) -> bool
+        ensures told { result ≡ is_awaited self.now.mds.live }
+    {
+        self.initiator.awaits_any()
     }
 }

@@ -1,10 +1,12 @@
 //! Which triggered operations are ready, and what firing one does (Portals 4.3, triggered operations).
 
-ghost use Rattle.std.specs.Prelude.{◌≡◌, IsTrue, false};
-ghost use Rattle.ni_model.specs.Ready.{is_ready, fired, fires};
+ghost use Rattle.std.specs.Prelude.{◌≡◌, ◌<◌, IsTrue, IsSome, Some, false, length, slice_get};
+ghost use Rattle.ni_model.specs.Ready.{is_ready, is_rank, fired, fires, posted_at, ready_numbers, ready_numbers_to, target_at, message_target as target_named, target_of as target_posted};
 ghost use Rattle.ni_model.specs.Refusals.{deed_passes};
 ghost use Rattle.ni_model.specs.Calls.{AnswersReady};
+ghost use Rattle.triggered_ops.specs.Operations.{posted_all, IsKept};
 ghost use Rattle.portals_ni.specs.Answers.{deed_counts, deed_counter};
+ghost use Rattle.portals_ni.specs.Pendings.{deed_in, due_numbers_to};
 
 use crate::armed::{Armed, tell};
 use crate::counting::set_counter;
@@ -13,7 +15,8 @@ use crate::starts::is_start;
 use counters::Counter;
 use event_delivery::count;
 use handle_store::Store;
-use ptl_types::{Deed, Handle, Message};
+use ptl_types::{Deed, Handle, Message, Rank};
+use triggered_ops::Pending;
 
 /// What an increment or a set does: the counting event that it names.
 fn count_deed(cts: &mut Store<Counter>, deed: &Deed) -> Option<Handle>
@@ -34,6 +37,54 @@ fn count_deed(cts: &mut Store<Counter>, deed: &Deed) -> Option<Handle>
     }
 }
 
+/// The rank that the deed's message is for.
+fn message_target(deed: &Deed) -> Option<Rank>
+    ensures { result ≡ target_named deed.now }
+{
+    match deed {
+        Deed::Put(args) => Some(args.target),
+        Deed::Get(args) => Some(args.target),
+        Deed::Atomic(args, _, _) => Some(args.target),
+        Deed::FetchAtomic(_, args, _, _) => Some(args.target),
+        Deed::Swap(_, args, _, _, _) => Some(args.target),
+        _ => None,
+    }
+}
+
+/// The rank that the message of an operation is for, where it waits and has one.
+fn target_of(pending: &Pending<Armed>, number: u32) -> Option<Rank>
+    ensures { result ≡ target_posted (posted_at number (posted_all deed_in pending.now)) }
+{
+    match pending.get(number) {
+        Some((armed, _, _)) => message_target(&armed.deed),
+        None => None,
+    }
+}
+
+/// Whether it is for this rank.
+fn goes_to(pending: &Pending<Armed>, number: u32, target: Rank) -> bool
+    ensures { result ≡ is_rank target (target_posted (posted_at number (posted_all deed_in pending.now))) }
+{
+    match target_of(pending, number) {
+        Some(rank) => rank == target,
+        None => false,
+    }
+}
+
+/// How many operations are due whose message is for this rank.
+fn count_to(pending: &Pending<Armed>, target: Rank) -> u32
+    ensures told { result ≡ length (due_numbers_to target pending.now) }
+    ensures kept { IsKept pending.now }
+{
+    let mut count = 0;
+    for i in 0..pending.ready_count() {
+        if goes_to(pending, pending.ready_at(i), target) {
+            count += 1;
+        }
+    }
+    count
+}
+
 impl Nic {
     /// Whether the operation of this number is pending and its counting event's success and failure together have reached its
     /// threshold.
@@ -48,6 +99,39 @@ impl Nic {
         ensures told { AnswersReady self.now result }
     {
         self.pending.ready()
+    }
+
+    /// How many operations are ready.
+    pub fn ready_count(&self) -> u32
+        ensures told { result ≡ length (ready_numbers self.now) }
+    {
+        self.pending.ready_count()
+    }
+
+    /// The number of the ready operation at place `i` among them, by rising number, from 0. Condition: there are more than `i`.
+    pub fn ready_at(&self, i: u32) -> u32
+        requires { i < length (ready_numbers self.now) }
+        ensures told { slice_get (ready_numbers self.now) i ≡ Some result }
+    {
+        // Brings what the pending operations keep to the proof.
+        let _waiting = self.pending.len();
+        self.pending.ready_at(i)
+    }
+
+    /// How many operations are ready whose message is for this rank.
+    pub fn ready_count_to(&self, target: Rank) -> u32
+        ensures told { result ≡ length (ready_numbers_to target self.now) }
+    {
+        count_to(&self.pending, target)
+    }
+
+    /// The rank that the message of a pending operation is for; `None` exactly for an increment or a set. Condition: it is
+    /// pending.
+    pub fn lane_of(&self, number: u32) -> Option<Rank>
+        requires { IsSome (posted_at number self.now.pending) }
+        ensures told { result ≡ target_at self.now number }
+    {
+        target_of(&self.pending, number)
     }
 
     /// Fires a ready operation: it leaves the pending ones and its deed is done. Its bytes are read now, and the message is the

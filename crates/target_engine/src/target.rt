@@ -22,7 +22,7 @@ use event_delivery::{count, successes};
 use event_queues::Queue;
 use handle_store::{Store, where_set};
 use memory_desc::Region;
-use ni_model::{Arrived, Found, Linked};
+use ni_model::{Arrived, Found, Linked, Noted};
 use ptl_types::{Header, Limits, List, Message, NoMemory, Outcome, Rank, UnexpectedHeader};
 use std::alloc::Global;
 use std::marker::Model;
@@ -152,6 +152,13 @@ impl Target {
         ensures told { option_copied result ≡ header_at pt i self.now.headers.noted }
     {
         self.headers.at(pt, i)
+    }
+
+    /// The headers of all indices, in the order of arrival.
+    pub fn headers(&self) -> &[Noted]
+        ensures told { result.now ≡ self.now.headers.noted }
+    {
+        self.headers.as_slice()
     }
 
     /// What a request does here, but for the two registers: its outcome, its answer, and the counting event that rose. The

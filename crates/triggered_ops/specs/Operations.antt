@@ -69,6 +69,10 @@ module _ {D : Type 0} where
   abbrev pub is_ready : ℕ → Operations D → Bool
   is_ready t ops = is_due_op (operation_at t ops)
 
+  -- the numbers of those that are due, rising
+  abbrev pub due_numbers : Operations D → List ℕ
+  due_numbers ops = map (λ p. p.number) (filter is_due ops.waiting)
+
   -- ---- what the calls make of them
 
   -- one operation more, the newest; it was told 0

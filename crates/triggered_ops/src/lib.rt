@@ -2,7 +2,7 @@
 #![tactic(auto)]
 
 ghost use Rattle.std.specs.Prelude.{◌≡◌, ◌≤◌, ◌<◌, ◌^◌, ◌-◌, ℕ, true, false, Some, None, All, IfSome, IfNone, IfOk, OnOk, OnErr, length, slice_get, option_map};
-ghost use Rattle.triggered_ops.specs.Operations.{no_operations, is_full, operation_at, is_ready, shown, numbered, deed_of, with_posted, told, told_one, without_number, waiting_on, cancelled, IsKept};
+ghost use Rattle.triggered_ops.specs.Operations.{no_operations, is_full, operation_at, is_ready, due_numbers, shown, numbered, deed_of, with_posted, told, told_one, without_number, waiting_on, cancelled, IsKept};
 
 mod held;
 mod index;
@@ -101,6 +101,38 @@ impl<D> Pending<D> {
             Some(held) => held.threshold <= held.told,
             None => false,
         }
+    }
+
+    /// How many there are whose told sum is at least their threshold.
+    pub fn ready_count(&self) -> u32
+        ensures told { result ≡ length (due_numbers self.now) }
+        ensures kept { IsKept self.now }
+    {
+        let mut count = 0;
+        for (_, held) in &self.operations {
+            if held.threshold <= held.told {
+                count += 1;
+            }
+        }
+        count
+    }
+
+    /// The number of the one at place `i` among them, by rising number, from 0.
+    pub fn ready_at(&self, i: u32) -> u32
+        requires { i < length (due_numbers self.now) }
+        ensures told { slice_get (due_numbers self.now) i ≡ Some result }
+        ensures kept { IsKept self.now }
+    {
+        let mut rest = i;
+        for (number, held) in &self.operations {
+            if held.threshold <= held.told {
+                if rest == 0 {
+                    return *number;
+                }
+                rest -= 1;
+            }
+        }
+        unreachable!()
     }
 
     /// The deed, the counting event and the threshold of the operation of this number; `None` exactly where it doesn't wait.

@@ -1,0 +1,11 @@
+use Rattle.std.proofs.Common.{ℕ, List, filter, length, ap, sym, ◌∙◌}
+use Rattle.ni_model.specs.Ready.{is_rank, posted_at, target_of}
+use Rattle.triggered_ops.specs.Operations.{posted_all}
+use Rattle.portals_ni.specs.Pendings.{deed_in}
+use Rattle.portals_ni.proofs.Readies.{due-are}
+use Rattle.portals_ni.proofs.nic.Nic.ready_count_to.Goals as goal
+
+pub returns : goal.returns
+returns c =
+    let n = c.self.inside in
+    record { told = rw (← c.self.view_is) (c.count_to.ensures.told ∙ sym (ap (λ (xs : List ℕ). length (filter (λ t. is_rank c.args.target (target_of (posted_at t (posted_all deed_in n.pending)))) xs)) (due-are n.cts n.pending c.count_to.ensures.kept.rising c.self.invariant.sound.told))) }
