@@ -1,12 +1,14 @@
 -- What is asked of A holds exactly where its test passes.
-use Rattle.std.proofs.Common.{◌≡◌, ℕ, zero, suc, ◌<◌, ◌%◌, Bool, true, false, List, [], ◌∷◌, length, get_or, refl, sym, ◌∙◌, ap, subst, arith, inl, inr}
-use Rattle.std.specs.Prelude.{◌&&◌, ◌||◌, ◌==◌, ◌⊎◌}
+use Rattle.std.proofs.Common.{◌≡◌, ℕ, zero, suc, ◌<◌, ◌%◌, Bool, true, false, List, [], ◌∷◌, length, get_or, refl, sym, ◌∙◌, ap, cond, filter, subst, arith, inl, inr}
+use Rattle.std.specs.Prelude.{◌&&◌, ◌||◌, ◌==◌, ◌⊎◌, count_by}
 use Rattle.std.specs.List.{list_all, list_any}
 use Rattle.std.proofs.lemmas.Bool.Decides.{nat_tests}
+use Rattle.std.proofs.lemmas.List.Sums.{length-filter}
 use Rattle.number_lists.specs.Members.{In}
+use Rattle.number_lists.specs.Numbers.{from_to}
 use Rattle.coll_shape.specs.declared.types.Buffer.{Buffer}
 use Rattle.coll_shape.specs.declared.types.CollStep.{CollStep}
-use Rattle.coll_shape.specs.Collectives.{Asked, Nothing, HeldAt, HeldAtInBlocks, HeldByAll, HeldByAllInBlocks, HeldBySome, is_in, has_blocks, has_what_is_asked, HasAsked, HasBlocks, AllHold, SomeHold, asks_of, can_read, Reads}
+use Rattle.coll_shape.specs.Collectives.{Asked, Nothing, HeldAt, HeldAtInBlocks, HeldByAll, HeldByAllInBlocks, HeldBySome, is_in, has_blocks, has_what_is_asked, HasAsked, HasBlocks, AllHold, SomeHold, holding_places, asks_of, can_read, Reads}
 
 either : (b c : Bool) → (b || c) ≡ true → (b ≡ true) ⊎ (c ≡ true)
 either true c e = inl refl
@@ -105,3 +107,25 @@ reads-can g step x e = has-asked g x (asks_of step) e
 
 pub can-reads : (g : List ℕ) (step : CollStep) (x : Buffer) → Reads g step x → can_read g step x ≡ true
 can-reads g step x h = asked-test g x (asks_of step) h
+
+-- ---- how many members hold A
+
+shifted : (f : ℕ → Bool) (k n : ℕ) → length (filter f (from_to (suc k) n)) ≡ length (filter (λ i. f (suc i)) (from_to k n))
+shifted f k zero = refl
+shifted f k (suc n) = one (f (suc k)) (filter f (from_to (suc (suc k)) n)) (filter (λ i. f (suc i)) (from_to (suc k) n)) (shifted f (suc k) n)
+  where
+    one : (b : Bool) (xs ys : List ℕ) → length xs ≡ length ys → length (cond b (suc k ∷ xs) xs) ≡ length (cond b (k ∷ ys) ys)
+    one true xs ys e = ap (λ v. suc v) e
+    one false xs ys e = e
+
+places_passed : (t : ℕ → Bool) (g : List ℕ) → length (filter (λ i. t (get_or g i 0)) (from_to 0 (length g))) ≡ length (filter t g)
+places_passed t [] = refl
+places_passed t (r ∷ rs) =
+    one (t r) (filter (λ i. t (get_or (r ∷ rs) i 0)) (from_to 1 (length rs))) (filter t rs) (shifted (λ i. t (get_or (r ∷ rs) i 0)) 0 (length rs) ∙ places_passed t rs)
+  where
+    one : (b : Bool) (xs ys : List ℕ) → length xs ≡ length ys → length (cond b (0 ∷ xs) xs) ≡ length (cond b (r ∷ ys) ys)
+    one true xs ys e = ap (λ v. suc v) e
+    one false xs ys e = e
+
+pub places_counted : (g holders : List ℕ) → length (holding_places g holders) ≡ count_by (λ r. is_in r holders) g
+places_counted g holders = places_passed (λ r. is_in r holders) g ∙ length-filter (λ r. is_in r holders) g

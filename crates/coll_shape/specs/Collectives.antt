@@ -4,6 +4,7 @@ use Rattle.std.specs.Prelude.{ℕ, suc, ◌*◌, ◌/◌, ◌<◌, ◌≡◌, �
 use Rattle.std.specs.List.{list_all, list_any}
 use Rattle.ptl_types.specs.declared.elements.AtomicOp.{AtomicOp}
 use Rattle.ptl_types.specs.declared.elements.ElemType.{ElemType}
+use Rattle.ptl_types.specs.declared.elements.ElemType.TheVariants.{U8}
 use Rattle.number_lists.specs.Members.{In}
 use Rattle.number_lists.specs.Numbers.{from_to}
 use Rattle.coll_shape.specs.Folding.{at, reduced, before_place, joined_lists, block, exchanged}
@@ -220,9 +221,20 @@ Reads g step x = HasAsked g x (asks_of step)
 abbrev pub holding_places : List ℕ → List ℕ → List ℕ
 holding_places g holders = filter (λ i. is_in (get_or g i 0) holders) (from_to 0 (length g))
 
+-- where so many elements are, apart from their name and type
+abbrev pub spread_so : ℕ → List ℕ → Buffer
+spread_so n holders = record { name = []; ty = U8; spread = record { length = n; holders = holders } }
+
 -- with A's type and name
 abbrev pub like : Buffer → ℕ → List ℕ → Buffer
 like x n holders = record { name = x.name; ty = x.ty; spread = record { length = n; holders = holders } }
+
+-- its length, and who holds it
+abbrev pub made_length : List ℕ → CollStep → Buffer → ℕ
+made_length g step x = row (λ c. c.long (length g) (length (holding_places g x.spread.holders)) x.spread.length) step
+
+abbrev pub made_holders : List ℕ → CollStep → List ℕ
+made_holders g step = row (λ c. c.holders g) step
 
 abbrev pub made_of : List ℕ → Buffer → Collective → Option ℕ → Buffer
 made_of g x c None = x

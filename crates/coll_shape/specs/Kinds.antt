@@ -8,7 +8,7 @@ use Rattle.coll_shape.specs.declared.types.CollStep.{CollStep}
 use Rattle.coll_shape.specs.declared.types.CollStep.TheVariants as steps
 use Rattle.coll_shape.specs.declared.kinds.StepKind.{StepKind}
 use Rattle.coll_shape.specs.declared.kinds.StepKind.TheVariants.{Barrier, Broadcast, Reduce, Allreduce, Gather, Allgather, Alltoall, Scan, Scatter, Reducescatter, Exscan, Gatherv}
-use Rattle.coll_shape.specs.Collectives.{word_of, since, root_of, op_of}
+use Rattle.coll_shape.specs.Collectives.{word_of, since, root_of, op_of, source_of}
 
 -- the step of a kind, where it takes them with this root, this operation and these buffers
 abbrev pub step_of : StepKind → ℕ → AtomicOp → ℕ → ℕ → CollStep
@@ -25,6 +25,20 @@ step_of Reducescatter root o a b = steps.Reducescatter o a b
 step_of Exscan root o a b = steps.Exscan o a b
 step_of Gatherv root o a b = steps.Gatherv root a b
 
+abbrev pub kind_of : CollStep → StepKind
+kind_of steps.Barrier = Barrier
+kind_of (steps.Broadcast root a b) = Broadcast
+kind_of (steps.Reduce root o a b) = Reduce
+kind_of (steps.Allreduce o a b) = Allreduce
+kind_of (steps.Gather root a b) = Gather
+kind_of (steps.Allgather a b) = Allgather
+kind_of (steps.Alltoall a b) = Alltoall
+kind_of (steps.Scan o a b) = Scan
+kind_of (steps.Scatter root a b) = Scatter
+kind_of (steps.Reducescatter o a b) = Reducescatter
+kind_of (steps.Exscan o a b) = Exscan
+kind_of (steps.Gatherv root a b) = Gatherv
+
 -- some step of the kind
 abbrev pub some_step : StepKind → CollStep
 some_step kind = step_of kind 0 Sum 0 0
@@ -40,6 +54,9 @@ takes_root kind = is_some (root_of (some_step kind))
 
 abbrev pub takes_op : StepKind → Bool
 takes_op kind = is_some (op_of (some_step kind))
+
+abbrev pub takes_buffers : StepKind → Bool
+takes_buffers kind = is_some (source_of (some_step kind))
 
 abbrev pub all_kinds : List StepKind
 all_kinds =

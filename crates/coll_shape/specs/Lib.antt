@@ -1,4 +1,5 @@
 pub mod Folding
+pub mod Rows
 pub mod Outline
 pub mod Collectives
 pub mod Kinds

@@ -1,10 +1,13 @@
 //! What the rows of the collectives say, as code.
 
-ghost use Rattle.std.specs.Prelude.{◌≡◌, ◌≤◌, ◌*◌, ◌/◌, ◌<◌, ◌^◌, length};
-ghost use Rattle.coll_shape.specs.Collectives.{source_of, result_of, root_of, op_of, since, word_of, is_in};
+ghost use Rattle.std.specs.Prelude.{◌≡◌, ◌≤◌, ◌*◌, ◌%◌, ◌==◌, ◌<◌, ◌^◌, length, get_or, count_by, IfOk, OnOk};
+ghost use Rattle.std.specs.List.{list_all, list_any};
+ghost use Rattle.coll_shape.specs.Collectives.{can_read, holding_places, is_in, made_holders, made_length, op_of, result_of, root_of, source_of, spread_so};
 
-use crate::types::{CollStep, Version};
+use crate::lists::RankList;
+use crate::types::CollStep;
 use ptl_types::{AtomicOp, Rank};
+use std::alloc::{AllocError, Global};
 
 impl CollStep {
     /// The buffer that the step reads. `None`: a barrier reads none.
@@ -95,5 +98,107 @@ pub fn is_in(r: Rank, ranks: &[Rank]) -> bool
     match ranks {
         [] => false,
         [first, others @ ..] => *first == r || is_in(r, others),
+    }
+}
+
+/// The member at a place. Rank 0 where there is no such place.
+fn member_at(members: &[Rank], place: Rank) -> Rank
+    ensures { result ≡ get_or members.now place 0 }
+{
+    match members.get(place as usize) {
+        Some(member) => *member,
+        None => 0,
+    }
+}
+
+/// Whether every member is one of the holders.
+fn all_hold(members: &[Rank], holders: &[Rank]) -> bool
+    ensures { result ≡ list_all (λ r. is_in r holders.now) members.now }
+{
+    members.iter().all(|r| is_in(*r, holders))
+}
+
+/// Whether some member is one of the holders.
+fn some_hold(members: &[Rank], holders: &[Rank]) -> bool
+    ensures { result ≡ list_any (λ r. is_in r holders.now) members.now }
+{
+    members.iter().any(|r| is_in(*r, holders))
+}
+
+/// How many members are among the holders.
+#[tactic(auto, using(crate::proofs::Asking::places_counted))]
+pub fn holders_among(members: &[Rank], holders: &[Rank]) -> u64
+    ensures told { result ≡ length (holding_places members.now holders.now) }
+    ensures few { result ≤ length members.now }
+{
+    members.iter().filter(|r| is_in(**r, holders)).count() as u64
+}
+
+/// Whether a step on these members can read a buffer of this length that these ranks hold.
+pub fn can_read(step: CollStep, members: &[Rank], len: u64, holders: &[Rank]) -> bool
+    requires { 0 < length members.now }
+    ensures { result ≡ can_read members.now step (spread_so len holders.now) }
+{
+    let in_blocks = len % members.len() as u64 == 0;
+    match step {
+        CollStep::Barrier => true,
+        CollStep::Broadcast { root, .. } => is_in(member_at(members, root), holders),
+        CollStep::Scatter { root, .. } => is_in(member_at(members, root), holders) && in_blocks,
+        CollStep::Alltoall { .. } | CollStep::Reducescatter { .. } => {
+            all_hold(members, holders) && in_blocks
+        }
+        CollStep::Gatherv { .. } => some_hold(members, holders),
+        CollStep::Reduce { .. }
+        | CollStep::Allreduce { .. }
+        | CollStep::Gather { .. }
+        | CollStep::Allgather { .. }
+        | CollStep::Scan { .. }
+        | CollStep::Exscan { .. } => all_hold(members, holders),
+    }
+}
+
+/// How long the buffer is that a step on these members makes of one of this length that these ranks hold.
+pub fn made_length(step: CollStep, members: &[Rank], len: u64, holders: &[Rank]) -> u64
+    requires some { 0 < length members.now }
+    requires few { length members.now ≤ 256 }
+    requires short { len ≤ 2 ^ 24 }
+    ensures told { result ≡ made_length members.now step (spread_so len holders.now) }
+    ensures most { result ≤ 2 ^ 32 }
+{
+    let members_count = members.len() as u64;
+    match step {
+        CollStep::Barrier => 0,
+        CollStep::Gather { .. } | CollStep::Allgather { .. } => members_count * len,
+        CollStep::Gatherv { .. } => holders_among(members, holders) * len,
+        CollStep::Scatter { .. } | CollStep::Reducescatter { .. } => len / members_count,
+        CollStep::Broadcast { .. }
+        | CollStep::Reduce { .. }
+        | CollStep::Allreduce { .. }
+        | CollStep::Alltoall { .. }
+        | CollStep::Scan { .. }
+        | CollStep::Exscan { .. } => len,
+    }
+}
+
+/// Who holds the buffer that a step on these members makes.
+pub fn made_holders(alloc: Global, step: CollStep, members: &[Rank]) -> Result<RankList, AllocError>
+    ensures { IfOk result (λ holders. holders ≡ made_holders members.now step) }
+{
+    match step {
+        CollStep::Barrier => RankList::copied(alloc, &[]),
+        CollStep::Reduce { root, .. }
+        | CollStep::Gather { root, .. }
+        | CollStep::Gatherv { root, .. } => RankList::copied(alloc, &[member_at(members, root)]),
+        CollStep::Exscan { .. } => match members.split_first() {
+            Some((_, others)) => RankList::copied(alloc, others),
+            None => RankList::copied(alloc, &[]),
+        },
+        CollStep::Broadcast { .. }
+        | CollStep::Allreduce { .. }
+        | CollStep::Allgather { .. }
+        | CollStep::Alltoall { .. }
+        | CollStep::Scan { .. }
+        | CollStep::Scatter { .. }
+        | CollStep::Reducescatter { .. } => RankList::copied(alloc, members),
     }
 }

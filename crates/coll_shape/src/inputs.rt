@@ -1,6 +1,7 @@
 //! The values of a description's inputs.
 
-ghost use Rattle.std.specs.Prelude.{◌≡◌, ◌<◌, length, get_or, [], List, ℕ};
+ghost use Rattle.std.specs.Prelude.{◌≡◌, ◌*◌, ◌<◌, length, get_or, [], List, ℕ};
+ghost use Rattle.coll_shape.specs.Rows.{in_rows, joined};
 
 use ptl_types::Rank;
 use std::marker::Model;
@@ -33,59 +34,44 @@ impl InputList {
     }
 }
 
-/// The lists of one input, one a rank, rank 0 first.
-#[derive(Debug, Drop)]
-pub struct InputLists {
-    lists: Vec<InputList>,
-}
-
-impl Model for InputLists {
-    ghost Value = { List (List ℕ) };
-
-    ghost view = { λ l. l.lists.items };
-}
-
-impl InputLists {
-    /// These lists. It takes no memory.
-    pub fn of(lists: Vec<InputList>) -> InputLists
-        ensures made { result ≡ lists.items }
-    {
-        InputLists { lists }
-    }
-
-    /// The lists.
-    pub fn as_slice(&self) -> &[InputList]
-        ensures told { result.now ≡ self.now }
-    {
-        self.lists.as_slice()
-    }
-}
-
 /// The values of the inputs, for each input and each rank a list of bytes.
 #[derive(Debug, Drop)]
 pub struct Inputs {
-    inputs: Vec<InputLists>,
+    ranks: u32,
+    inputs: u32,
+    /// Input by input, and in each rank by rank.
+    lists: Vec<InputList>,
 }
 
 impl Model for Inputs {
+    ghost use Rattle.std.specs.Prelude.{◌≡◌, ◌*◌, length, List, ℕ};
+    ghost use Rattle.coll_shape.specs.Rows.{in_rows};
+
     ghost Value = { List (List (List ℕ)) };
 
-    ghost view = { λ i. i.inputs.items };
+    ghost view = { λ i. in_rows i.ranks i.inputs i.lists.items };
+
+    ghost invariant = { λ i. length i.lists.items ≡ i.inputs * i.ranks };
 }
 
 impl Inputs {
-    /// These values. It takes no memory.
-    pub fn of(inputs: Vec<InputLists>) -> Inputs
-        ensures made { result ≡ inputs.items }
+    /// These lists, which stand input by input, and in each input rank by rank. It takes no memory.
+    pub fn of(ranks: u32, inputs: u32, lists: Vec<InputList>) -> Inputs
+        requires { length lists.items ≡ inputs * ranks }
+        ensures made { result ≡ in_rows ranks inputs lists.items }
     {
-        Inputs { inputs }
+        Inputs {
+            ranks,
+            inputs,
+            lists,
+        }
     }
 
-    /// The lists of each input.
-    pub fn as_slice(&self) -> &[InputLists]
-        ensures told { result.now ≡ self.now }
+    /// All lists, input by input, and in each input rank by rank.
+    pub fn lists(&self) -> &[InputList]
+        ensures told { result.now ≡ joined self.now }
     {
-        self.inputs.as_slice()
+        self.lists.as_slice()
     }
 
     /// The list of an input at a rank: its elements in order, each little-endian.
@@ -94,6 +80,6 @@ impl Inputs {
         requires rank { r < length (get_or self.now input []) }
         ensures told { result.now ≡ get_or (get_or self.now input []) r [] }
     {
-        self.inputs[input as usize].lists[r as usize].as_slice()
+        self.lists[input as usize * self.ranks as usize + r as usize].as_slice()
     }
 }

@@ -12,8 +12,8 @@ mod lists;
 mod shape;
 mod types;
 
-pub use collectives::is_in;
-pub use inputs::{InputList, InputLists, Inputs};
+pub use collectives::{can_read, holders_among, is_in, made_holders, made_length};
+pub use inputs::{InputList, Inputs};
 pub use kinds::StepKind;
 pub use lists::{Holders, Name, RankList};
 pub use shape::{Parts, Shape, members_of};
