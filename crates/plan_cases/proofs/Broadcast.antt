@@ -7,7 +7,6 @@ use Rattle.ptl_types.specs.declared.elements.AtomicOp.TheVariants.{Sum}
 use Rattle.ptl_types.specs.declared.headers.Lane.TheVariants.{Request, Answer}
 use Rattle.ptl_types.specs.Messages.{Sent}
 use Rattle.ni_model.specs.Answers.{answered, is_awaited}
-use Rattle.ni_model.specs.Append.{append}
 use Rattle.ni_model.specs.Arrive.{request}
 use Rattle.ni_model.specs.Counts.{successes}
 use Rattle.ni_model.specs.Ready.{is_ready, fired}
@@ -19,10 +18,18 @@ use Rattle.plan_core.specs.declared.Link.{Link}
 use Rattle.plan_core.specs.declared.LinkKind.TheVariants.{Put, Bump}
 use Rattle.plan_core.specs.Plan.{Plan}
 use Rattle.plan_core.specs.Values.{Inputs, value}
-use Rattle.plan_view.specs.Install.{Slots, install, link_message, ack_message, cell_ct, done_ct, done_threshold, bits_above, class_of}
-use Rattle.plan_view.specs.Calls.{after_calls}
-use Rattle.plan_cuts.specs.History.{Beginning, Legal, go_up, Local, after, state, sent, got}
+use Rattle.plan_view.specs.Slots.{Slots, done_ct}
+use Rattle.plan_view.specs.Deeds.{link_message, ack_message}
+use Rattle.plan_calls.specs.Works.{done_threshold}
+use Rattle.plan_calls.specs.Bits.{bits_above, class_of}
+use Rattle.plan_cuts.specs.History.{Beginning, Legal, Local, after, state, sent, got}
 use Rattle.plan_cuts.specs.History.Local.{Start, Receive, Fire}
+use Rattle.plan_start.specs.Start.{bring, cell_started}
+use Rattle.plan_start.specs.Waiting.{waiting_view}
+use Rattle.plan_machine.specs.Seen.{nothing_seen}
+use Rattle.plan_view.specs.Calls.{call_made, prepare}
+use Rattle.plan_cuts.specs.Plans.{start_of}
+use Rattle.ni_model.specs.Append.{append}
 
 -- a cell of rank 0 with n bytes and k needs
 abbrev pub plain : ℕ → ℕ → Cell
@@ -45,10 +52,10 @@ abbrev pub slots : Slots
 slots = record { ct = λ t. t; me = λ t. t; md = 0 }
 
 abbrev pub begin : State
-begin = install plan inputs slots 0
+begin = prepare plan inputs slots 0
 
 abbrev pub go : Beginning
-go = go_up (cell_ct plan slots 0)
+go = start_of plan slots 0
 
 result_is_the_input : value plan inputs 3 ≡ 7 ∷ []
 unfolding value
@@ -60,8 +67,8 @@ threshold_counts_acknowledgements = refl
 threshold_without : done_threshold (record plan { remote = false }) 0 ≡ 4
 threshold_without = refl
 
-closed_form : after_calls plan inputs slots 0 ≡ install plan inputs slots 0
-unfolding append
+closed_form : prepare plan inputs slots 0 ≡ waiting_view plan inputs slots 0 (λ n. slots) [] nothing_seen
+unfolding append call_made
 closed_form = refl
 
 -- match bits, from the highest: the job, the class, the cell, and the sender below
@@ -88,15 +95,16 @@ abbrev pub good : List Local
 good = Start ∷ Fire 0 ∷ Fire 1 ∷ Fire 2 ∷ Receive 0 Request m2 ∷ Receive 0 Answer a2 ∷ Fire 3 ∷ Receive 0 Request m3 ∷ Receive 0 Answer a3 ∷ Fire 4 ∷ Fire 5 ∷ Fire 6 ∷ Fire 7 ∷ []
 
 good_done : lookup (done_ct slots) (state go begin good).cts.live ≡ Some (successes 6)
-unfolding target request answered started fired
+unfolding target request answered started fired call_made append cell_started bring
 good_done = refl
 
 good_drops : (state go begin good).drops ≡ 0
-unfolding target request answered started fired
+unfolding target request answered started fired call_made append cell_started bring
 good_drops = refl
 
-good_memory : (state go begin good).memory ≡ 7 ∷ 7 ∷ 7 ∷ []
-unfolding target request answered started fired
+-- the cells, and behind them the area of two bytes, which nothing came to before the start
+good_memory : (state go begin good).memory ≡ 7 ∷ 7 ∷ 7 ∷ 0 ∷ 0 ∷ []
+unfolding target request answered started fired call_made append cell_started bring
 good_memory = refl
 
 -- ---- the acknowledgement of the first message is received before the message is fired
@@ -105,11 +113,11 @@ early = Start ∷ Fire 0 ∷ Fire 1 ∷ Receive 0 Answer a2 ∷ Fire 2 ∷ Recei
 
 -- what was received is what was sent, on both lanes
 requests_agree : got early 0 Request ≡ sent go begin early 0 Request
-unfolding target request answered started fired
+unfolding target request answered started fired call_made append cell_started bring
 requests_agree = refl
 
 answers_agree : got early 0 Answer ≡ sent go begin early 0 Answer
-unfolding target request answered started fired
+unfolding target request answered started fired call_made append cell_started bring
 answers_agree = refl
 
 -- each firing was ready, and nothing is pending
@@ -119,27 +127,27 @@ fires_ready b s (Fire t ∷ es) = is_ready s t && fires_ready b (after b s (Fire
 fires_ready b s (e ∷ es) = fires_ready b (after b s e) es
 
 firings_agree : fires_ready go begin early ≡ true
-unfolding target request answered started fired
+unfolding target request answered started fired call_made append cell_started bring
 firings_agree = refl
 
 none_pending : (state go begin early).pending.waiting ≡ []
-unfolding target request answered started fired
+unfolding target request answered started fired call_made append cell_started bring
 none_pending = refl
 
 -- and yet the done counter stops below its threshold, and the drop register rose, though no stray was received
 one_is_lost : lookup (done_ct slots) (state go begin early).cts.live ≡ Some (successes 5)
-unfolding target request answered started fired
+unfolding target request answered started fired call_made append cell_started bring
 one_is_lost = refl
 
 one_is_dropped : (state go begin early).drops ≡ 1
-unfolding target request answered started fired
+unfolding target request answered started fired call_made append cell_started bring
 one_is_dropped = refl
 
 -- what tells it: no answer was awaited where it came
 not_awaited : is_awaited (state go begin (Start ∷ Fire 0 ∷ Fire 1 ∷ [])).mds.live ≡ false
-unfolding target request answered started fired
+unfolding target request answered started fired call_made append cell_started bring
 not_awaited = refl
 
 early_not_legal : Legal go false begin early → ⊥
-unfolding target request answered started fired
+unfolding target request answered started fired call_made append cell_started bring
 early_not_legal l = let q : false ≡ true = l.1.1.1.0.4 in cc

@@ -8,19 +8,24 @@ use Rattle.plan_core.specs.Plan.{cell, in_links, link}
 use Rattle.plan_core.specs.Sound.{AreApart, SoundLink, SoundPlan, put_bytes}
 use Rattle.plan_core.specs.Values.{input_bytes}
 use Rattle.plan_core.specs.declared.LinkKind.TheVariants.{Bump, Put}
-use Rattle.plan_cuts.specs.Cut.{IsAtRest, IsComplete, IsCut, IsPrefixOf, Run, end_of, got_by, sent_by, start_of}
 use Rattle.plan_cuts.specs.History.{Legal, got}
-use Rattle.plan_view.specs.Install.{install}
-use Rattle.ni_model.specs.Ready.{is_ready}
-use Rattle.plan_cuts.proofs.FromRest.{completes}
+use Rattle.ni_model.specs.Ready.{is_ready, fired}
+use Rattle.plan_rest.proofs.FromRest.{completes}
 use Rattle.op_laws.proofs.Swaps.{combined-swaps}
 use Rattle.op_laws.proofs.OpLaws.{op_laws}
 use Rattle.plan_cases.proofs.Broadcast.{plan, inputs, slots, good}
 use Rattle.ni_model.specs.Answers.{answered}
 use Rattle.ni_model.specs.Arrive.{request}
 use Rattle.ni_model.specs.Starts.{started}
-use Rattle.ni_model.specs.Ready.{fired}
 use Rattle.ni_model.specs.State.{target}
+use Rattle.plan_start.specs.Start.{bring, cell_started}
+use Rattle.plan_view.specs.Calls.{call_made, prepare}
+use Rattle.plan_cuts.specs.Plans.{start_of, system_of, IsComplete}
+use Rattle.ni_model.specs.Append.{append}
+use Rattle.op_laws.proofs.Starts.{combined-starts}
+use Rattle.plan_cuts.specs.Cut.{IsAtRest, IsCut, IsPrefixOf, got_by}
+use Rattle.plan_cuts.specs.System.{Histories, System, sent_by, state_at}
+use Rattle.plan_view.specs.Slots.{Slots}
 
 below4 : (P : ℕ → Type 0) → P 0 → P 1 → P 2 → P 3 → (l : ℕ) → l < 4 → P l
 below4 P a b c d zero h = a
@@ -68,44 +73,50 @@ sound1 = record {
   few_bytes = lit< tt;
 }
 
-abbrev world1 : ℕ → Run
-world1 r = record { slots = slots; history = good }
+abbrev all_slots : ℕ → Slots
+all_slots r = slots
 
-legal1 : (r : ℕ) → r < 1 → Legal (start_of plan (world1 r) r) false (install plan inputs (world1 r).slots r) (world1 r).history
-unfolding target request answered started fired
-legal1 = below1 (λ r. Legal (start_of plan (world1 r) r) false (install plan inputs (world1 r).slots r) (world1 r).history)
+abbrev world1 : Histories
+world1 r = good
+
+abbrev system1 : System
+system1 = system_of plan inputs all_slots
+
+legal1 : (r : ℕ) → r < 1 → Legal (start_of plan slots r) false (prepare plan inputs slots r) (world1 r)
+unfolding target request answered started fired call_made append cell_started bring
+legal1 = below1 (λ r. Legal (start_of plan slots r) false (prepare plan inputs slots r) (world1 r))
     (refl, (refl, (refl, (refl, ((refl, refl, refl, refl, tt), ((refl, refl, refl, refl, refl), (refl, ((refl, refl, refl, refl, tt), ((refl, refl, refl, refl, refl), (refl, (refl, (refl, (refl, tt)))))))))))))
 
 known1 : (s : ℕ) (lane : Lane) → 1 ≤ s → got good s lane ≡ []
 known1 zero lane h = absurd (omega arith)
 known1 (suc s) lane h = let e : (0 == suc s) ≡ false = ne_eqb 0 (suc s) (λ i. absurd (omega arith)) in rw e refl
 
-lanes1 : (lane : Lane) → IsPrefixOf (got_by world1 0 0 lane) (sent_by plan inputs world1 0 0 lane)
-unfolding target request answered started fired
+lanes1 : (lane : Lane) → IsPrefixOf (got_by world1 0 0 lane) (sent_by system1 world1 0 0 lane)
+unfolding target request answered started fired call_made append cell_started bring
 lanes1 Request = ([], refl)
 lanes1 Answer = ([], refl)
 
-pub cut1 : IsCut plan inputs world1
-unfolding target request answered started fired
+pub cut1 : IsCut system1 world1
+unfolding target request answered started fired call_made append cell_started bring
 cut1 = record {
   legal = legal1;
   known = λ r s lane h k. known1 s lane k;
-  lanes = λ s d lane h k. below1 (λ s. IsPrefixOf (got_by world1 d s lane) (sent_by plan inputs world1 s d lane)) (below1 (λ d. IsPrefixOf (got_by world1 d 0 lane) (sent_by plan inputs world1 0 d lane)) (lanes1 lane) d k) s h;
+  lanes = λ s d lane h k. below1 (λ s. IsPrefixOf (got_by world1 d s lane) (sent_by system1 world1 s d lane)) (below1 (λ d. IsPrefixOf (got_by world1 d 0 lane) (sent_by system1 world1 0 d lane)) (lanes1 lane) d k) s h;
 }
 
-empty1 : (lane : Lane) → got_by world1 0 0 lane ≡ sent_by plan inputs world1 0 0 lane
-unfolding target request answered started fired
+empty1 : (lane : Lane) → got_by world1 0 0 lane ≡ sent_by system1 world1 0 0 lane
+unfolding target request answered started fired call_made append cell_started bring
 empty1 Request = refl
 empty1 Answer = refl
 
-pub rest1 : IsAtRest plan inputs world1
-unfolding target request answered started fired
+pub rest1 : IsAtRest system1 world1
+unfolding target request answered started fired call_made append cell_started bring
 rest1 = record {
   started = λ r h. lit< tt;
-  empty = λ s d lane h k. below1 (λ s. got_by world1 d s lane ≡ sent_by plan inputs world1 s d lane) (below1 (λ d. got_by world1 d 0 lane ≡ sent_by plan inputs world1 0 d lane) (empty1 lane) d k) s h;
-  idle = λ r t h. below1 (λ r. is_ready (end_of plan inputs world1 r) t ≡ false) refl r h;
+  empty = λ s d lane h k. below1 (λ s. got_by world1 d s lane ≡ sent_by system1 world1 s d lane) (below1 (λ d. got_by world1 d 0 lane ≡ sent_by system1 world1 0 d lane) (empty1 lane) d k) s h;
+  idle = λ r t h. below1 (λ r. is_ready (state_at system1 world1 r) t ≡ false) refl r h;
 }
 
 -- so the theorem says something of this world
-pub complete1 : IsComplete plan inputs world1 0
-complete1 = completes plan inputs sound1 (λ i h. below1 (λ i. length (input_bytes plan inputs i) ≡ (cell plan (1 + i)).length) refl i h) (combined-swaps op_laws) world1 cut1 rest1 0 (lit< tt)
+pub complete1 : IsComplete plan inputs all_slots world1 0
+complete1 = completes combined-starts plan inputs sound1 (λ i h. below1 (λ i. length (input_bytes plan inputs i) ≡ (cell plan (1 + i)).length) refl i h) (combined-swaps op_laws) all_slots world1 cut1 rest1 0 (lit< tt)

@@ -2,3 +2,4 @@ pub mod Broadcast
 pub mod Orders
 pub mod Example
 pub mod Reduction
+pub mod Early

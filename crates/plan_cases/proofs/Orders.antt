@@ -1,12 +1,11 @@
 -- Orders of a barrier of two ranks and of one, step by step.
-use Rattle.std.specs.Prelude.{ℕ, true, false, ◌≡◌, List, [], ◌∷◌, Some, None, refl}
+use Rattle.std.specs.Prelude.{ℕ, true, false, ◌≡◌, List, [], ◌∷◌, Some, None, refl, ◌+◌, ◌*◌, ◌^◌, ◌%◌, ◌<◌}
 use Rattle.ptl_types.specs.declared.elements.ElemType.TheVariants.{U8, I16}
 use Rattle.ptl_types.specs.declared.elements.AtomicOp.TheVariants.{Prod}
 use Rattle.ptl_types.specs.declared.headers.Lane.TheVariants.{Request}
 use Rattle.ptl_types.specs.Elements.{combined, starting}
 use Rattle.ptl_types.specs.Messages.{Sent}
 use Rattle.ni_model.specs.Answers.{answered}
-use Rattle.ni_model.specs.Append.{append}
 use Rattle.ni_model.specs.Arrive.{request}
 use Rattle.ni_model.specs.Counts.{successes}
 use Rattle.ni_model.specs.Ready.{is_ready, fired}
@@ -16,19 +15,23 @@ use Rattle.ni_model.specs.Tables.{lookup}
 use Rattle.plan_core.specs.declared.Cell.{Cell}
 use Rattle.plan_core.specs.declared.Link.{Link}
 use Rattle.plan_core.specs.declared.LinkKind.TheVariants.{Put}
-use Rattle.plan_core.specs.Plan.{Plan, link}
-use Rattle.plan_machine.specs.Seen.{works}
-use Rattle.plan_machine.specs.Seen.Work.{Along, Tell}
-use Rattle.plan_view.specs.Install.{install, link_message, cell_ct, done_ct}
-use Rattle.plan_view.specs.Calls.{after_calls}
-use Rattle.plan_cuts.specs.History.{Beginning, go_up, Local, Legal, state, sent, got}
+use Rattle.plan_core.specs.Plan.{Plan, link, in_links}
+use Rattle.plan_calls.specs.Works.{works}
+use Rattle.plan_calls.specs.Works.Work.{Along, Tell}
+use Rattle.plan_view.specs.Deeds.{link_message}
+use Rattle.plan_view.specs.Slots.{done_ct}
+use Rattle.plan_cuts.specs.History.{Beginning, Local, Legal, state, sent, got}
 use Rattle.plan_cuts.specs.History.Local.{Start, Receive, Fire}
 use Rattle.plan_cases.proofs.Broadcast.{bump_link, slots}
 use Rattle.std.proofs.Common.{zero, suc, inl, inr, arith, lit≤}
-use Rattle.std.specs.Prelude.{◌+◌, ◌*◌, ◌^◌, ◌%◌, ◌<◌}
 use Rattle.plan_core.specs.Members.{In}
-use Rattle.plan_core.specs.Plan.{in_links}
 use Rattle.plan_machine.specs.Rounds.{Comes, IsRounds}
+use Rattle.plan_start.specs.Start.{bring, cell_started}
+use Rattle.plan_start.specs.Waiting.{waiting_view}
+use Rattle.plan_machine.specs.Seen.{nothing_seen}
+use Rattle.plan_view.specs.Calls.{call_made, prepare}
+use Rattle.plan_cuts.specs.Plans.{start_of}
+use Rattle.ni_model.specs.Append.{append}
 
 abbrev on : ℕ → ℕ → Cell
 on r k = record { rank = r; ty = U8; op = None; length = 0; needs = k }
@@ -41,13 +44,13 @@ abbrev two : Plan
 two = record { ranks = 2; remote = false; cells = on 0 1 ∷ on 1 1 ∷ on 0 1 ∷ on 1 1 ∷ on 0 2 ∷ on 1 2 ∷ []; links = bump_link 0 2 ∷ bump_link 1 3 ∷ bump_link 2 4 ∷ sync_link 3 4 ∷ bump_link 3 5 ∷ sync_link 2 5 ∷ [] }
 
 abbrev begin : ℕ → State
-begin r = install two [] slots r
+begin r = prepare two [] slots r
 
 abbrev go : ℕ → Beginning
-go r = go_up (cell_ct two slots r)
+go r = start_of two slots r
 
-closed_form : after_calls two [] slots 1 ≡ install two [] slots 1
-unfolding append
+closed_form : prepare two [] slots 1 ≡ waiting_view two [] slots 1 (λ n. slots) [] nothing_seen
+unfolding append call_made
 closed_form = refl
 
 -- the links of a rank are numbered first, and then its cells
@@ -68,32 +71,32 @@ order1 = Start ∷ Fire 0 ∷ Fire 1 ∷ Fire 2 ∷ Fire 3 ∷ Fire 4 ∷ Receiv
 
 -- both orders hold: what each received is what the other sent, and at the end all is done
 one_sends : sent (go 0) (begin 0) order0 1 Request ≡ got order1 0 Request
-unfolding target request answered started fired
+unfolding target request answered started fired call_made append cell_started bring
 one_sends = refl
 
 other_sends : sent (go 1) (begin 1) order1 0 Request ≡ got order0 1 Request
-unfolding target request answered started fired
+unfolding target request answered started fired call_made append cell_started bring
 other_sends = refl
 
 all_done : lookup (done_ct slots) (state (go 0) (begin 0) order0).cts.live ≡ Some (successes 3)
-unfolding target request answered started fired
+unfolding target request answered started fired call_made append cell_started bring
 all_done = refl
 
 none_pending : (state (go 0) (begin 0) order0).pending.waiting ≡ []
-unfolding target request answered started fired
+unfolding target request answered started fired call_made append cell_started bring
 none_pending = refl
 
 none_pending_there : (state (go 1) (begin 1) order1).pending.waiting ≡ []
-unfolding target request answered started fired
+unfolding target request answered started fired call_made append cell_started bring
 none_pending_there = refl
 
 -- before the other rank's message the last operation isn't ready, behind it it is
 not_before_the_message : is_ready (state (go 0) (begin 0) front) 5 ≡ false
-unfolding target request answered started fired
+unfolding target request answered started fired call_made append cell_started bring
 not_before_the_message = refl
 
 behind_the_message : is_ready (state (go 0) (begin 0) (Start ∷ Fire 0 ∷ Fire 1 ∷ Fire 2 ∷ Fire 3 ∷ Fire 4 ∷ Receive 1 Request (sync 3) ∷ [])) 5 ≡ true
-unfolding target request answered started fired
+unfolding target request answered started fired call_made append cell_started bring
 behind_the_message = refl
 
 -- ---- one rank: the go cell and the entry
@@ -101,31 +104,33 @@ abbrev one : Plan
 one = record { ranks = 1; remote = false; cells = on 0 1 ∷ on 0 1 ∷ []; links = bump_link 0 1 ∷ [] }
 
 abbrev begin1 : State
-begin1 = install one [] slots 0
+begin1 = prepare one [] slots 0
 
 abbrev go1 : Beginning
-go1 = go_up (cell_ct one slots 0)
+go1 = start_of one slots 0
 
 -- nothing is ready before the start
 nothing_before : is_ready begin1 0 ≡ false
+unfolding append call_made
 nothing_before = refl
 
 -- one is still ready, so this is no rest
 one_is_left : is_ready (state go1 begin1 (Start ∷ Fire 0 ∷ Fire 1 ∷ [])) 2 ≡ true
-unfolding target request answered started fired
+unfolding target request answered started fired call_made append cell_started bring
 one_is_left = refl
 
 -- the telling of the go cell may come first
 telling_first : is_ready (state go1 begin1 (Start ∷ [])) 1 ≡ true
+unfolding append call_made cell_started bring
 telling_first = refl
 
 then_nothing : (state go1 begin1 (Start ∷ Fire 1 ∷ Fire 0 ∷ Fire 2 ∷ [])).pending.waiting ≡ []
-unfolding target request answered started fired
+unfolding target request answered started fired call_made append cell_started bring
 then_nothing = refl
 
 -- nothing is sent, so nothing can be received
 nothing_sent : sent go1 begin1 (Start ∷ Fire 0 ∷ Fire 1 ∷ Fire 2 ∷ []) 0 Request ≡ []
-unfolding target request answered started fired
+unfolding target request answered started fired call_made append cell_started bring
 nothing_sent = refl
 
 -- a second start is one too many

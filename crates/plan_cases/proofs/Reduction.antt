@@ -6,7 +6,6 @@ use Rattle.ptl_types.specs.declared.elements.AtomicOp.TheVariants.{Sum, Min}
 use Rattle.ptl_types.specs.declared.headers.Lane.TheVariants.{Request}
 use Rattle.ptl_types.specs.Messages.{Sent}
 use Rattle.ni_model.specs.Answers.{answered}
-use Rattle.ni_model.specs.Append.{append}
 use Rattle.ni_model.specs.Arrive.{request}
 use Rattle.ni_model.specs.Counts.{successes}
 use Rattle.ni_model.specs.Ready.{fired}
@@ -19,13 +18,19 @@ use Rattle.plan_core.specs.declared.LinkKind.{LinkKind}
 use Rattle.plan_core.specs.declared.LinkKind.TheVariants.{Put, Atomic}
 use Rattle.plan_core.specs.Plan.{Plan}
 use Rattle.plan_core.specs.Values.{Inputs, value}
-use Rattle.plan_machine.specs.Seen.{works}
-use Rattle.plan_machine.specs.Seen.Work.{Along, Tell}
-use Rattle.plan_view.specs.Install.{install, link_message, cell_ct, done_ct, done_threshold}
-use Rattle.plan_view.specs.Calls.{after_calls}
-use Rattle.plan_cuts.specs.History.{go_up, Local, state, sent, got}
+use Rattle.plan_calls.specs.Works.{works, done_threshold}
+use Rattle.plan_calls.specs.Works.Work.{Along, Tell}
+use Rattle.plan_view.specs.Deeds.{link_message}
+use Rattle.plan_view.specs.Slots.{done_ct}
+use Rattle.plan_cuts.specs.History.{Local, state, sent, got}
 use Rattle.plan_cuts.specs.History.Local.{Start, Receive, Fire}
 use Rattle.plan_cases.proofs.Broadcast.{bump_link, slots}
+use Rattle.plan_start.specs.Start.{bring, cell_started}
+use Rattle.plan_start.specs.Waiting.{waiting_view}
+use Rattle.plan_machine.specs.Seen.{nothing_seen}
+use Rattle.plan_view.specs.Calls.{call_made, prepare}
+use Rattle.plan_cuts.specs.Plans.{start_of}
+use Rattle.ni_model.specs.Append.{append}
 
 abbrev byte_cell : ℕ → ℕ → Option AtomicOp → ℕ → Cell
 byte_cell r n op k = record { rank = r; ty = U8; op = op; length = n; needs = k }
@@ -54,18 +59,22 @@ least : value (plan Min) inputs 7 ≡ 100 ∷ []
 unfolding value
 least = refl
 
--- the memory of rank 0 is its cells, one after the other: go, input, entry, result, which begins with 0 or, for a minimum, with 255
-memory_at_first : (install (plan Sum) inputs slots 0).memory ≡ 200 ∷ 0 ∷ 0 ∷ []
+-- the memory of rank 0 is its cells, one after the other: go, input, entry, result, which begins with 0 or, for a minimum, with 255;
+-- and behind them its areas: a byte for what is put, two for what is combined
+memory_at_first : (prepare (plan Sum) inputs slots 0).memory ≡ 200 ∷ 0 ∷ 0 ∷ 0 ∷ 0 ∷ 0 ∷ []
+unfolding append call_made
 memory_at_first = refl
 
-memory_of_a_minimum : (install (plan Min) inputs slots 0).memory ≡ 200 ∷ 0 ∷ 255 ∷ []
+memory_of_a_minimum : (prepare (plan Min) inputs slots 0).memory ≡ 200 ∷ 0 ∷ 255 ∷ 0 ∷ 255 ∷ 255 ∷ []
+unfolding append call_made
 memory_of_a_minimum = refl
 
-memory_of_the_other : (install (plan Sum) inputs slots 1).memory ≡ 100 ∷ 0 ∷ 0 ∷ []
+memory_of_the_other : (prepare (plan Sum) inputs slots 1).memory ≡ 100 ∷ 0 ∷ 0 ∷ 0 ∷ 0 ∷ []
+unfolding append call_made
 memory_of_the_other = refl
 
-closed_form : after_calls (plan Sum) inputs slots 0 ≡ install (plan Sum) inputs slots 0
-unfolding append
+closed_form : prepare (plan Sum) inputs slots 0 ≡ waiting_view (plan Sum) inputs slots 0 (λ n. slots) [] nothing_seen
+unfolding append call_made
 closed_form = refl
 
 works_of_rank_0 : works (plan Sum) 0 ≡ Along 0 ∷ Along 2 ∷ Along 3 ∷ Along 7 ∷ Tell 0 ∷ Tell 2 ∷ Tell 4 ∷ Tell 7 ∷ []
@@ -85,24 +94,25 @@ abbrev child_first : List Local
 child_first = Receive 1 Request (carries 8 100) ∷ own_part ++ Receive 0 Request (carries 7 200) ∷ Fire 7 ∷ Fire 6 ∷ Fire 5 ∷ Fire 4 ∷ []
 
 abbrev end : List Local → State
-end h = state (go_up (cell_ct (plan Sum) slots 0)) (install (plan Sum) inputs slots 0) h
+end h = state (start_of (plan Sum) slots 0) (prepare (plan Sum) inputs slots 0) h
 
-memory_at_last : (end child_last).memory ≡ 200 ∷ 200 ∷ 44 ∷ []
-unfolding target request answered started fired
+memory_at_last : (end child_last).memory ≡ 200 ∷ 200 ∷ 44 ∷ 0 ∷ 0 ∷ 0 ∷ []
+unfolding target request answered started fired call_made append cell_started bring
 memory_at_last = refl
 
-same_memory : (end child_first).memory ≡ 200 ∷ 200 ∷ 44 ∷ []
-unfolding target request answered started fired
-same_memory = refl
+-- the child's sum came before the start, so it lies in the area too
+same_cells : (end child_first).memory ≡ 200 ∷ 200 ∷ 44 ∷ 0 ∷ 100 ∷ 0 ∷ []
+unfolding target request answered started fired call_made append cell_started bring
+same_cells = refl
 
 done_at_last : lookup (done_ct slots) (end child_last).cts.live ≡ Some (successes 4)
-unfolding target request answered started fired
+unfolding target request answered started fired call_made append cell_started bring
 done_at_last = refl
 
 threshold : done_threshold (plan Sum) 0 ≡ 4
 threshold = refl
 
 -- what rank 0 sent to itself is what it received from itself, with the bytes as they stood when each operation fired
-sent_to_itself : sent (go_up (cell_ct (plan Sum) slots 0)) (install (plan Sum) inputs slots 0) child_first 0 Request ≡ got child_first 0 Request
-unfolding target request answered started fired
+sent_to_itself : sent (start_of (plan Sum) slots 0) (prepare (plan Sum) inputs slots 0) child_first 0 Request ≡ got child_first 0 Request
+unfolding target request answered started fired call_made append cell_started bring
 sent_to_itself = refl

@@ -2,10 +2,8 @@
 use Rattle.std.proofs.Common.{◌++◌, IsTrue, ℕ, Bool, true, false, cond, not, ◌||◌, ◌==◌, ◌≡◌, ◌≤◌, List, [], ◌∷◌, refl, ap, subst, arith, Option, Some, None, count_by, eqb-true}
 use Rattle.std.proofs.lemmas.Bool.{not-true, false_from_ne_true}
 use Rattle.plan_core.specs.Members.{In}
-use Rattle.ni_model.specs.State.{Posted, State}
-use Rattle.ni_model.specs.Ready.{fired, is_ready}
-use Rattle.ni_model.specs.Ready.{fired_op, is_number, is_ready_op, posted_at}
-use Rattle.ni_model.specs.State.{Operations}
+use Rattle.ni_model.specs.State.{Posted, State, Operations}
+use Rattle.ni_model.specs.Ready.{fired, is_ready, fired_op, is_number, is_ready_op, posted_at}
 use Rattle.plan_cuts.specs.History.{Beginning, Legal, Local, after, is_fire, state, is_start}
 use Rattle.plan_cuts.specs.History.Local.{Fire, Receive, Start}
 use Rattle.plan_core.proofs.Lists.{In-filter_cases, count-cons}

@@ -3,7 +3,7 @@ use Rattle.std.proofs.Common.{ℕ, Bool, true, false, cond, not, ◌&&◌, ◌||
 use Rattle.std.proofs.lemmas.Bool.{and_parts}
 use Rattle.ptl_types.specs.declared.headers.Header.{Header}
 use Rattle.ptl_types.specs.declared.headers.AckRequest.{AckRequest}
-use Rattle.ptl_types.specs.Messages.{Sent}
+use Rattle.ptl_types.specs.Messages.{Sent, message}
 use Rattle.ptl_types.specs.declared.headers.Lane.{Lane}
 use Rattle.ptl_types.specs.declared.calls.Deed.{Deed}
 use Rattle.ptl_types.specs.declared.elements.AtomicOp.{AtomicOp}
@@ -12,23 +12,20 @@ use Rattle.plan_cuts.specs.History.{Beginning, Legal, Local, after, and_then, go
 use Rattle.ptl_types.specs.declared.calls.Deed.TheVariants.{Atomic as AtomicDeed, FetchAtomic as FetchAtomicDeed, Get as GetDeed, Inc as IncDeed, Put as PutDeed, Set as SetDeed, Swap as SwapDeed}
 use Rattle.ptl_types.specs.declared.headers.Lane.TheVariants.{Answer, Request}
 use Rattle.plan_core.specs.Members.{In, Within}
-use Rattle.ni_model.specs.State.{Posted, State, home_of, target}
+use Rattle.ni_model.specs.State.{Posted, State, home_of, target, Operations, after_request, after_answer, parts_of}
 use Rattle.ni_model.specs.Counts.{successes}
 use Rattle.ni_model.specs.Arrive.{accepted, answer, ack_header, reply_header, chosen, judged, received, refused, request, is_overflow}
 use Rattle.ni_model.specs.declared.Found.{Found}
 use Rattle.ni_model.specs.Headers.{allows, no_room}
-use Rattle.ni_model.specs.State.{Operations, after_request, after_answer, parts_of}
 use Rattle.ni_model.specs.Answers.{answered}
 use Rattle.ptl_types.specs.declared.calls.Outcome.TheVariants.{Dropped, Violation}
-use Rattle.ptl_types.specs.Messages.{message}
-use Rattle.ni_model.specs.Ready.{fired}
-use Rattle.ni_model.specs.Ready.{done, fired_op, is_number, posted_at, without_number}
+use Rattle.ni_model.specs.Ready.{fired, done, fired_op, is_number, posted_at, without_number}
 use Rattle.ni_model.specs.Starts.{put_header, started}
-use Rattle.ni_model.specs.State.{Operations}
 use Rattle.plan_core.specs.Plan.{Plan, cell, is_bump, link, out_links}
-use Rattle.plan_view.specs.Install.{Slots, cell_ct, deed_of, kind_for, link_header, operation, send_args, send_deed, type_for}
-use Rattle.plan_machine.specs.Seen.{Work, works}
-use Rattle.plan_machine.specs.Seen.Work.{Along, Tell}
+use Rattle.plan_view.specs.Slots.{Slots, cell_ct}
+use Rattle.plan_view.specs.Deeds.{deed_of, kind_for, link_header, operation, send_args, send_deed, type_for}
+use Rattle.plan_calls.specs.Works.{Work, works}
+use Rattle.plan_calls.specs.Works.Work.{Along, Tell}
 use Rattle.ni_model.specs.Conditions.{IsKept}
 use Rattle.plan_cuts.specs.History.Local.{Fire, Receive, Start}
 use Rattle.plan_core.proofs.Lists.{In-filter_cases, In-map_cases}

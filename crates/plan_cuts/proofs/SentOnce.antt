@@ -7,15 +7,14 @@ use Rattle.ptl_types.specs.Kinds.{is_answer}
 use Rattle.ptl_types.specs.declared.headers.Lane.TheVariants.{Request}
 use Rattle.ptl_types.specs.declared.calls.Deed.TheVariants.{Inc as IncDeed}
 use Rattle.plan_core.specs.Members.{Distinct, In}
-use Rattle.ni_model.specs.State.{Posted, State}
+use Rattle.ni_model.specs.State.{Posted, State, Operations}
 use Rattle.ni_model.specs.Counts.{successes}
-use Rattle.ni_model.specs.Ready.{fired}
-use Rattle.ni_model.specs.Ready.{done, fired_op, is_number, posted_at}
-use Rattle.ni_model.specs.State.{Operations}
+use Rattle.ni_model.specs.Ready.{fired, done, fired_op, is_number, posted_at}
 use Rattle.plan_core.specs.Plan.{Plan, cell, is_bump, link}
-use Rattle.plan_view.specs.Install.{Slots, cell_ct, deed_of, link_header, number_of, operation, send_deed}
-use Rattle.plan_machine.specs.Seen.{Work, works}
-use Rattle.plan_machine.specs.Seen.Work.{Along, Tell}
+use Rattle.plan_view.specs.Slots.{Slots, cell_ct}
+use Rattle.plan_view.specs.Deeds.{deed_of, link_header, operation, send_deed}
+use Rattle.plan_calls.specs.Works.{number_of, Work, works}
+use Rattle.plan_calls.specs.Works.Work.{Along, Tell}
 use Rattle.plan_cuts.specs.History.{Beginning, Legal, May, Local, after, and_then, is_for, is_start, made, made_by}
 use Rattle.plan_cuts.specs.History.Local.{Fire, Receive, Start}
 use Rattle.plan_core.proofs.Lists.{In-filter_cases, In-map_cases}

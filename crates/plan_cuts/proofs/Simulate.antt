@@ -7,27 +7,34 @@ use Rattle.ptl_types.specs.declared.headers.AckRequest.TheVariants.{CtAck}
 use Rattle.ptl_types.specs.declared.headers.Lane.TheVariants.{Answer, Request}
 use Rattle.plan_core.specs.Members.{In}
 use Rattle.ptl_types.specs.Kinds.{is_no_ack, is_put_or_atomic}
-use Rattle.ni_model.specs.State.{Delivers}
-use Rattle.ni_model.specs.State.{target}
+use Rattle.ni_model.specs.State.{Delivers, target}
 use Rattle.ni_model.specs.Ready.{Fires}
 use Rattle.plan_cuts.proofs.Origin.{ack_with}
-use Rattle.plan_core.specs.Plan.{Plan, cell, link}
+use Rattle.plan_core.specs.Plan.{Plan, link}
 use Rattle.plan_core.specs.Sound.{SoundPlan}
-use Rattle.plan_core.specs.Values.{Inputs, initial, land_as}
-use Rattle.plan_view.specs.Install.{Annex, Slots, cell_ct, link_header, link_message, number_of, view}
-use Rattle.plan_machine.specs.Seen.{Seen, Work, content, works}
-use Rattle.plan_machine.specs.Seen.Work.{Along, Tell}
-use Rattle.plan_machine.specs.Machine.{MayMove, Move, Moves, came, note, note_work, seen, source_rank}
+use Rattle.plan_core.specs.Values.{Inputs}
+use Rattle.plan_view.specs.View.{Annex, view}
+use Rattle.plan_view.specs.Slots.{Slots, cell_ct}
+use Rattle.plan_view.specs.Deeds.{link_header, link_message}
+use Rattle.plan_calls.specs.Works.{number_of, Work, works}
+use Rattle.plan_machine.specs.Seen.{Seen}
+use Rattle.plan_calls.specs.Works.Work.{Along, Tell}
+use Rattle.plan_machine.specs.Machine.{MayMove, Move, Moves, note, note_work, seen, source_rank}
 use Rattle.plan_machine.specs.Machine.Move.{Began, Did, Heard, Strayed, Took}
-use Rattle.plan_cuts.specs.History.{Legal, Local, May, after, and_then, go_up, is_start, made, made_by, state}
+use Rattle.plan_cuts.specs.History.{Legal, Local, May, after, and_then, Beginning, is_start, made, made_by, state}
 use Rattle.plan_cuts.specs.History.Local.{Fire, Receive, Start}
 use Rattle.plan_cuts.specs.Cut.{is_stray}
 use Rattle.plan_view.proofs.Tables.{number_of-one}
-use Rattle.plan_core.proofs.Links.{length-land}
-use Rattle.plan_core.proofs.Values.{Lands-of}
 use Rattle.plan_view.specs.Steps.{IsAckHere, IsLinkHere, IsQuiet, Sized, sent_message}
 use Rattle.plan_view.proofs.StepFire.{ready_work, step_fire, step_start}
-use Rattle.plan_view.proofs.StepArrive.{bits-job, content-push, due-here, step_ack, step_link, step_stray}
+use Rattle.plan_view.proofs.StepArrive.{bits-job, due-here, step_ack, step_link, step_stray}
+use Rattle.plan_start.proofs.Sized.{sized_took}
+use Rattle.ptl_types.specs.declared.handles.Handle.{Handle}
+use Rattle.plan_view.specs.View.{raise_go}
+
+-- a start that raises the go counter alone: behind a rank's start it is of no matter what a start does
+abbrev pub go_up : Handle → Beginning
+go_up go = record { by = raise_go go; rank = λ s. refl; pending = λ s. refl }
 
 -- ---- what a rank receives in a cut
 pub record IsLink (p : Plan) (k : ℕ → Slots) (r : ℕ) (m : Sent) : Type 0 where
@@ -100,21 +107,6 @@ numbered p r t w h e = find-only (λ v. number_of p r v == t) (works p r) w h (e
 pub link-no_stray : (p : Plan) (inputs : Inputs) → SoundPlan p (length inputs) → (k : Slots) (r l : ℕ) → IsLinkHere p r l → (m : Sent) → m.header ≡ link_header p k l → is_stray m ≡ false
 link-no_stray p inputs sound k r l h m e =
     and_right _ _ (and_right _ _ (ap (λ b. not b) (eq-eqb _ _ (ap (λ (x : Header). x.match_bits / 2 ^ 48 % 2 ^ 16) e ∙ bits-job p inputs sound r l h))))
-
-pub sized_took : (p : Plan) (inputs : Inputs) → SoundPlan p (length inputs) → (r l : ℕ) (g : Seen) → IsLinkHere p r l → Sized p inputs g → (bs : List ℕ) → length bs ≡ (link p l).length → Sized p inputs (note p g (Took l bs))
-sized_took p inputs sound r l g h sized bs e d i = ap length (content-push p g.came (came l bs) d (initial p inputs d)) ∙ at ((link p l).target == d) refl
-  where
-    x : List ℕ
-    x = content p g.came d (initial p inputs d)
-
-    at : (b : Bool) → ((link p l).target == d) ≡ b → length (cond b (land_as (link p l).kind (cell p (link p l).target) (link p l).target_offset bs (content p g.came d (initial p inputs d))) (content p g.came d (initial p inputs d))) ≡ (cell p d).length
-    at false q = sized d i
-    at true q =
-        let w = sound.links_sound l h.known in
-        let t : (link p l).target ≡ d = eqb-true _ _ q in
-        let z = sized d i in
-        length-land (cell p (link p l).target) (link p l).kind (link p l).target_offset bs (content p g.came d (initial p inputs d)) (sound.whole (link p l).target w.cells) (Lands-of p l w bs e) (z ∙ ap (λ v. (cell p v).length) (sym t))
-        ∙ ap (λ v. (cell p v).length) t
 
 pub or_false : (b : Bool) → (b || false) ≡ b
 or_false true = refl

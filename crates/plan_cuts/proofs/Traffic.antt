@@ -11,9 +11,11 @@ use Rattle.ptl_types.specs.declared.headers.AckRequest.TheVariants.{CtAck}
 use Rattle.ptl_types.specs.declared.headers.Lane.TheVariants.{Answer, Request}
 use Rattle.plan_core.specs.Members.{Distinct, In}
 use Rattle.plan_core.specs.Plan.{Plan, cell, is_bump, link, out_links}
-use Rattle.plan_view.specs.Install.{Slots, kind_for, link_message}
-use Rattle.plan_machine.specs.Seen.{Came, Seen, Work, was_fired}
-use Rattle.plan_machine.specs.Seen.Work.{Along, Tell}
+use Rattle.plan_view.specs.Slots.{Slots}
+use Rattle.plan_view.specs.Deeds.{kind_for, link_message}
+use Rattle.plan_machine.specs.Seen.{Came, Seen, was_fired}
+use Rattle.plan_calls.specs.Works.{Work}
+use Rattle.plan_calls.specs.Works.Work.{Along, Tell}
 use Rattle.plan_machine.specs.Machine.{MayMove, Move, Moves, came, link_of, note, out_of, outs, seen, sending}
 use Rattle.plan_machine.specs.Machine.Move.{Began, Did, Heard, Strayed, Took}
 use Rattle.plan_cuts.specs.History.{Local, and_then, got, is_for, same_lane}

@@ -1,19 +1,22 @@
--- Barriers (MPI, barrier synchronization): nobody passes one before everybody has entered it.
+-- Barriers (MPI, barrier synchronization): no member of a group passes one before every member has entered it.
 use Rattle.std.specs.Prelude.{ℕ, ◌<◌}
 use Rattle.plan_core.specs.Plan.{Plan}
 use Rattle.plan_core.specs.Values.{Inputs}
-use Rattle.plan_cuts.specs.Cut.{Run, CounterReached}
+use Rattle.plan_view.specs.Slots.{Slots}
+use Rattle.plan_cuts.specs.System.{Histories}
+use Rattle.plan_cuts.specs.Plans.{CounterReached}
 
--- `round k r` is the cell of rank r in round k: the entry in round 0, the exit in the last
+-- `round k m` is the cell of the member at place m in round k: the entry in round 0, the exit in the last
 
--- rank r has entered: its entry's counter has reached its needs
-abbrev pub HasEntered : Plan → Inputs → (ℕ → Run) → (ℕ → ℕ → ℕ) → ℕ → Type 0
-HasEntered p inputs w round r = CounterReached p inputs w (round 0 r)
+-- the member at place m has entered: its entry's counter has reached its needs
+abbrev pub HasEntered : Plan → Inputs → (ℕ → Slots) → Histories → (ℕ → ℕ → ℕ) → ℕ → Type 0
+HasEntered p inputs slots w round m = CounterReached p inputs slots w (round 0 m)
 
 -- it has passed: its exit's has
-abbrev pub HasPassed : Plan → Inputs → (ℕ → Run) → (ℕ → ℕ → ℕ) → ℕ → ℕ → Type 0
-HasPassed p inputs w round rounds r = CounterReached p inputs w (round rounds r)
+abbrev pub HasPassed : Plan → Inputs → (ℕ → Slots) → Histories → (ℕ → ℕ → ℕ) → ℕ → ℕ → Type 0
+HasPassed p inputs slots w round rounds m = CounterReached p inputs slots w (round rounds m)
 
--- if one rank has passed the barrier, every rank has entered it
-abbrev pub IsBarrierKept : Plan → Inputs → (ℕ → Run) → (ℕ → ℕ → ℕ) → ℕ → Type 0
-IsBarrierKept p inputs w round rounds = (a r : ℕ) → a < p.ranks → r < p.ranks → HasPassed p inputs w round rounds r → HasEntered p inputs w round a
+-- if one of so many members has passed the barrier, every one has entered it
+abbrev pub IsBarrierKept : Plan → Inputs → (ℕ → Slots) → Histories → ℕ → (ℕ → ℕ → ℕ) → ℕ → Type 0
+IsBarrierKept p inputs slots w places round rounds =
+    (a m : ℕ) → a < places → m < places → HasPassed p inputs slots w round rounds m → HasEntered p inputs slots w round a

@@ -1,6 +1,5 @@
 -- Local histories: the steps of one rank, oldest first, from a state on.
-use Rattle.std.specs.Prelude.{refl, ℕ, Bool, true, false, not, ◌&&◌, ◌||◌, ◌==◌, ◌≡◌, List, Option, Some, None, [], ◌∷◌, if◌then◌else◌, filter, IsTrue}
-use Rattle.ptl_types.specs.declared.handles.Handle.{Handle}
+use Rattle.std.specs.Prelude.{ℕ, Bool, true, false, not, ◌&&◌, ◌||◌, ◌==◌, ◌≡◌, List, Option, Some, None, [], ◌∷◌, if◌then◌else◌, filter, IsTrue}
 use Rattle.ptl_types.specs.declared.headers.Lane.{Lane}
 use Rattle.ptl_types.specs.declared.headers.Lane.TheVariants.{Request, Answer}
 use Rattle.ptl_types.specs.declared.headers.MessageKind.{MessageKind}
@@ -10,7 +9,6 @@ use Rattle.ni_model.specs.Answers.{is_awaited}
 use Rattle.ni_model.specs.Conditions.{IsKept}
 use Rattle.ni_model.specs.Ready.{is_ready, fired}
 use Rattle.ni_model.specs.State.{State, target}
-use Rattle.plan_view.specs.Install.{raise_go}
 
 -- the start of the rank, the receipt of a message from a source on a lane, the firing of an operation
 pub data Local : Type 0 where
@@ -23,10 +21,6 @@ pub record Beginning : Type 0 where
   pub by : State → State
   pub rank : (s : State) → (by s).rank ≡ s.rank
   pub pending : (s : State) → (by s).pending ≡ s.pending
-
--- it raises the go counter by one
-abbrev pub go_up : Handle → Beginning
-go_up go = record { by = raise_go go; rank = λ s. refl; pending = λ s. refl }
 
 -- the state after one step
 abbrev pub after : Beginning → State → Local → State
@@ -68,7 +62,8 @@ IsDue s Answer m = IsTrue (is_awaited s.mds.live)
 -- the step may be made; `started` tells whether there was a start
 abbrev pub May : Bool → State → Local → Type 0
 May started s Start = started ≡ false
-May started s (Receive source lane m) = (m.header.source ≡ source) × (m.header.target ≡ s.rank) × IsTrue (is_lane lane m.header.kind) × IsKept m × IsDue s lane m
+May started s (Receive source lane m) =
+    (m.header.source ≡ source) × (m.header.target ≡ s.rank) × IsTrue (is_lane lane m.header.kind) × IsKept m × IsDue s lane m
 May started s (Fire t) = IsTrue (is_ready s t)
 
 -- a start

@@ -1,22 +1,22 @@
 -- One wave of probes: what was noted of a front of each history.
-use Rattle.std.specs.Prelude.{ℕ, false, ◌<◌, ◌≡◌, length, count_by}
+use Rattle.std.specs.Prelude.{ℕ, true, false, ◌<◌, ◌≡◌, length, count_by}
 use Rattle.ptl_types.specs.Messages.{Sent}
 use Rattle.ptl_types.specs.declared.headers.Lane.{Lane}
 use Rattle.plan_core.specs.Members.{In}
-use Rattle.plan_core.specs.Plan.{Plan}
 use Rattle.ni_model.specs.Ready.{is_ready}
 use Rattle.plan_cuts.specs.History.{got, is_start}
-use Rattle.plan_cuts.specs.Cut.{IsPrefixOf, Run, end_of, is_stray, sent_by}
-use Rattle.plan_core.specs.Values.{Inputs}
+use Rattle.plan_cuts.specs.System.{Histories, System, sent_by, state_at}
+use Rattle.plan_cuts.specs.Cut.{IsPrefixOf, is_stray}
 
--- v has for each rank a front of its history in w, under the same slots, and what is noted of the fronts answers Rest
-pub record IsWave (p : Plan) (inputs : Inputs) (v w : ℕ → Run) : Type 0 where
-  pub slots : (r : ℕ) → (v r).slots ≡ (w r).slots
-  pub front : (r : ℕ) → IsPrefixOf (v r).history (w r).history
-  pub started : (r : ℕ) → r < p.ranks → 0 < count_by is_start (v r).history
-  pub idle : (r t : ℕ) → r < p.ranks → is_ready (end_of p inputs v r) t ≡ false
-  pub balanced : (s d : ℕ) (lane : Lane) → s < p.ranks → d < p.ranks → length (got (v d).history s lane) ≡ length (sent_by p inputs v s d lane)
+-- v has for each rank a front of its history in w, and what is noted of the fronts answers Rest: each has its start, no operation is ready
+-- there, and on each used lane as much was received as was sent
+pub record IsWave (k : System) (v w : Histories) : Type 0 where
+  pub front : (r : ℕ) → r < k.count → IsPrefixOf (v r) (w r)
+  pub started : (r : ℕ) → r < k.count → 0 < count_by is_start (v r)
+  pub idle : (r t : ℕ) → r < k.count → is_ready (state_at k v r) t ≡ false
+  pub balanced : (s d : ℕ) (lane : Lane) → s < k.count → d < k.count → k.used s d lane ≡ true →
+      length (got (v d) s lane) ≡ length (sent_by k v s d lane)
 
 -- no rank received a stray
-abbrev pub HasNoStray : (ℕ → Run) → Type 0
-HasNoStray w = (r s : ℕ) (lane : Lane) (m : Sent) → In m (got (w r).history s lane) → is_stray m ≡ false
+abbrev pub HasNoStray : System → Histories → Type 0
+HasNoStray k w = (r s : ℕ) (lane : Lane) (m : Sent) → r < k.count → s < k.count → In m (got (w r) s lane) → is_stray m ≡ false

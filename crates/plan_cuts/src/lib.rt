@@ -1,64 +1,27 @@
-//! Local histories of the ranks of a plan, consistent cuts of them, rest, completion, interleavings and waves of probes; and the
-//! theorem that rest is completion: whatever the order of arrival, a cut at rest of a sound plan's interfaces is complete.
+//! Local histories of ranks, systems of ranks, consistent cuts, rest, completion, interleavings and waves of probes, as definitions
+//! in `specs/`; and what holds of one history, whatever it receives. In `proofs/` stands the simulation: the histories of a plan's
+//! ranks in a cut are histories of the plan's machine. The laws of cuts stand in the crate above.
 #![tactic(auto)]
 
-ghost use Rattle.std.specs.Prelude.{ℕ, Bool, ◌<◌, ◌≤◌, ◌≡◌, ◌↔◌, count_by, IsTrue, List, [], ◌∷◌, ◌++◌, length};
-ghost use Rattle.ptl_types.specs.declared.headers.Lane.TheVariants.{Answer};
+ghost use Rattle.std.specs.Prelude.{ℕ, Bool, false, suc, ◌+◌, ◌<◌, ◌≤◌, ◌≡◌, count_by, IsTrue, List, [], ◌∷◌, ◌++◌, length};
+ghost use Rattle.ptl_types.specs.declared.headers.Lane.{Lane};
+ghost use Rattle.ptl_types.specs.declared.headers.Lane.TheVariants.{Answer, Request};
 ghost use Rattle.ptl_types.specs.Messages.{Sent};
 ghost use Rattle.ni_model.specs.Ready.{is_ready};
 ghost use Rattle.ni_model.specs.State.{State};
-ghost use Rattle.plan_core.specs.Plan.{Plan, cell};
-ghost use Rattle.plan_core.specs.Sound.{SoundPlan, AreInputsOf};
-ghost use Rattle.plan_core.specs.Values.{Inputs, value};
-ghost use Rattle.plan_machine.specs.Machine.{Leads};
-ghost use Rattle.plan_machine.specs.Rounds.{IsRounds};
-ghost use Rattle.plan_view.specs.Install.{Slots};
-ghost use Rattle.plan_cuts.specs.Barrier.{IsBarrierKept};
-ghost use Rattle.plan_cuts.specs.Cut.{Run, IsCut, IsAtRest, IsComplete, CounterReached, cell_bytes, end_of, got_by, sent_by};
-ghost use Rattle.plan_cuts.specs.History.{Beginning, Local, Legal, IsDue, is_fire, state};
+ghost use Rattle.plan_core.specs.Members.{In};
+ghost use Rattle.plan_core.specs.Plan.{Plan};
+ghost use Rattle.plan_core.specs.Sound.{SoundPlan};
+ghost use Rattle.plan_core.specs.Values.{Inputs};
+ghost use Rattle.plan_calls.specs.Lanes.{lane_bytes, lane_messages};
+ghost use Rattle.plan_calls.specs.Works.{works};
+ghost use Rattle.plan_view.specs.Slots.{Slots};
+ghost use Rattle.plan_view.specs.Calls.{prepare};
+ghost use Rattle.plan_cuts.specs.Cut.{is_stray};
+ghost use Rattle.plan_cuts.specs.History.{Beginning, Local, Legal, got, is_fire, sent, state};
 ghost use Rattle.plan_cuts.specs.History.Local.{Fire};
-ghost use Rattle.plan_cuts.specs.Moment.{Lanes, IsStep, IsMoment, IsStill, IsStuck};
-ghost use Rattle.plan_cuts.specs.Wave.{IsWave, HasNoStray};
-
-/// For every sound plan, installed as given, every cut that is at rest is complete, at each rank: every completion counter
-/// stands at its threshold, nothing is pending, only strays were dropped, and every cell holds its value.
-pub fn rest_gives_completion()
-    ensures { (plan : Plan) (inputs : Inputs) (world : ℕ → Run) →
-        SoundPlan plan (length inputs) → AreInputsOf plan inputs → IsCut plan inputs world →
-        IsAtRest plan inputs world →
-        (r : ℕ) → r < plan.ranks → IsComplete plan inputs world r }
-{}
-
-/// In every cut, whatever the order of arrivals: a cell whose counter has reached its needs holds its value, and each cell from
-/// which links lead to it has reached its needs too.
-pub fn reached_cells()
-    ensures value { (plan : Plan) (inputs : Inputs) (world : ℕ → Run) →
-        SoundPlan plan (length inputs) → AreInputsOf plan inputs → IsCut plan inputs world →
-        (c : ℕ) → c < length plan.cells → CounterReached plan inputs world c →
-        cell_bytes plan inputs world c ≡ value plan inputs c }
-    ensures ancestors { (plan : Plan) (inputs : Inputs) (world : ℕ → Run) →
-        SoundPlan plan (length inputs) → AreInputsOf plan inputs → IsCut plan inputs world →
-        (b c : ℕ) → b < length plan.cells → c < length plan.cells → Leads plan b c →
-        CounterReached plan inputs world c → CounterReached plan inputs world b }
-{}
-
-/// In every cut a dissemination barrier is kept: if one rank has passed it, every rank has entered it.
-pub fn barriers_hold()
-    ensures { (plan : Plan) (inputs : Inputs) (world : ℕ → Run) (rounds : ℕ) (round : ℕ → ℕ → ℕ) →
-        SoundPlan plan (length inputs) → AreInputsOf plan inputs → IsCut plan inputs world →
-        IsRounds plan plan.ranks rounds round → ((k r : ℕ) → k ≤ rounds → r < plan.ranks →
-        round k r < length plan.cells) →
-        IsBarrierKept plan inputs world round rounds }
-{}
-
-/// In a cut, the next answer that is on the way to a rank is one that is awaited there: its delivery makes a legal step.
-pub fn next_answer()
-    ensures { (plan : Plan) (inputs : Inputs) (world : ℕ → Run) →
-        SoundPlan plan (length inputs) → AreInputsOf plan inputs → IsCut plan inputs world →
-        (r s : ℕ) (m : Sent) (later : List Sent) → r < plan.ranks → s < plan.ranks →
-        got_by world r s Answer ++ m ∷ later ≡ sent_by plan inputs world s r Answer →
-        IsDue (end_of plan inputs world r) Answer m }
-{}
+ghost use Rattle.plan_cuts.specs.Lanes.{bytes_in, is_receipt};
+ghost use Rattle.plan_cuts.specs.Plans.{start_of};
 
 /// In a legal history, from any state, each number is fired at most once, and its counter had reached its threshold before.
 pub fn firings()
@@ -69,41 +32,44 @@ pub fn firings()
         Legal go begun from (front ++ Fire t ∷ later) → IsTrue (is_ready (state go from front) t) }
 {}
 
-/// Every moment of an interleaving is a cut: the first one is, and so is what a step leaves. It is at rest exactly where no step
-/// is enabled.
-pub fn each_moment()
-    ensures first { (plan : Plan) (inputs : Inputs) (slots : ℕ → Slots) →
-        IsMoment plan inputs (λ r. record { slots = slots r; history = [] }) (λ s d lane. []) }
-    ensures next { (plan : Plan) (inputs : Inputs) (world next : ℕ → Run) (held later : Lanes) →
-        SoundPlan plan (length inputs) → AreInputsOf plan inputs →
-        IsMoment plan inputs world held → IsStep plan inputs world held next later →
-        IsMoment plan inputs next later }
-    ensures rest { (plan : Plan) (inputs : Inputs) (world : ℕ → Run) (held : Lanes) →
-        IsMoment plan inputs world held →
-        (IsAtRest plan inputs world ↔ IsStill plan inputs world held) }
+/// In a legal history of a rank of a sound plan, whatever it receives: a lane of requests carries at most the plan's messages on
+/// it, with at most their bytes, so none where the plan has no link along it; a lane of answers carries at most one for each
+/// request that came along it, and no bytes; and nothing that is sent is a stray.
+pub fn lanes_of_one_history()
+    ensures messages { (plan : Plan) (inputs : Inputs) (slots : Slots) (r d : ℕ) (history : List Local) →
+        SoundPlan plan (length inputs) →
+        Legal (start_of plan slots r) false (prepare plan inputs slots r) history →
+        length (sent (start_of plan slots r) (prepare plan inputs slots r) history d Request) ≤
+        lane_messages plan r d Request }
+    ensures bytes { (plan : Plan) (inputs : Inputs) (slots : Slots) (r d : ℕ) (history : List Local) →
+        SoundPlan plan (length inputs) →
+        Legal (start_of plan slots r) false (prepare plan inputs slots r) history →
+        bytes_in (sent (start_of plan slots r) (prepare plan inputs slots r) history d Request) ≤
+        lane_bytes plan r d }
+    ensures unused { (plan : Plan) (inputs : Inputs) (slots : Slots) (r d : ℕ) (history : List Local) →
+        SoundPlan plan (length inputs) →
+        Legal (start_of plan slots r) false (prepare plan inputs slots r) history →
+        lane_messages plan r d Request ≡ 0 →
+        sent (start_of plan slots r) (prepare plan inputs slots r) history d Request ≡ [] }
+    ensures answers { (plan : Plan) (inputs : Inputs) (slots : Slots) (r d : ℕ) (history : List Local) →
+        SoundPlan plan (length inputs) →
+        Legal (start_of plan slots r) false (prepare plan inputs slots r) history →
+        length (sent (start_of plan slots r) (prepare plan inputs slots r) history d Answer) ≤
+        length (got history d Request) }
+    ensures no_bytes { (plan : Plan) (inputs : Inputs) (slots : Slots) (r d : ℕ) (history : List Local) (m : Sent) →
+        SoundPlan plan (length inputs) →
+        In m (sent (start_of plan slots r) (prepare plan inputs slots r) history d Answer) →
+        m.bytes ≡ [] }
+    ensures clean { (plan : Plan) (inputs : Inputs) (slots : Slots) (r d : ℕ) (history : List Local) (lane : Lane) (m : Sent) →
+        SoundPlan plan (length inputs) →
+        In m (sent (start_of plan slots r) (prepare plan inputs slots r) history d lane) →
+        is_stray m ≡ false }
 {}
 
-/// Under a window of at least one message a moment at which no step is possible is at rest.
-pub fn windows()
-    ensures { (plan : Plan) (inputs : Inputs) (world : ℕ → Run) (held : Lanes) (window : ℕ) →
-        SoundPlan plan (length inputs) → 0 < window → IsMoment plan inputs world held →
-        IsStuck plan inputs world held window →
-        IsAtRest plan inputs world }
-{}
-
-/// Fronts of the histories of a cut without strays, which one wave of probes finds started, idle and with as much received as
-/// sent on each lane, are a cut at rest, and are the whole histories.
-pub fn one_wave()
-    ensures cut { (plan : Plan) (inputs : Inputs) (fronts world : ℕ → Run) →
-        SoundPlan plan (length inputs) → AreInputsOf plan inputs → IsCut plan inputs world →
-        HasNoStray world → IsWave plan inputs fronts world →
-        IsCut plan inputs fronts }
-    ensures rest { (plan : Plan) (inputs : Inputs) (fronts world : ℕ → Run) →
-        SoundPlan plan (length inputs) → AreInputsOf plan inputs → IsCut plan inputs world →
-        HasNoStray world → IsWave plan inputs fronts world →
-        IsAtRest plan inputs fronts }
-    ensures whole { (plan : Plan) (inputs : Inputs) (fronts world : ℕ → Run) →
-        SoundPlan plan (length inputs) → AreInputsOf plan inputs → IsCut plan inputs world →
-        HasNoStray world → IsWave plan inputs fronts world →
-        (r : ℕ) → r < plan.ranks → (fronts r).history ≡ (world r).history }
+/// A legal history of a rank of a sound plan has at most one start, as many firings as the rank has operations, and its receipts.
+pub fn steps_of_one_history()
+    ensures { (plan : Plan) (inputs : Inputs) (slots : Slots) (r : ℕ) (history : List Local) →
+        SoundPlan plan (length inputs) →
+        Legal (start_of plan slots r) false (prepare plan inputs slots r) history →
+        length history ≤ suc (length (works plan r)) + count_by is_receipt history }
 {}

@@ -5,8 +5,9 @@ use Rattle.plan_core.specs.Plan.{Plan, cell, in_links, is_bump, link}
 use Rattle.plan_core.specs.declared.LinkKind.{LinkKind}
 use Rattle.plan_core.specs.Sound.{SoundPlan}
 use Rattle.plan_core.specs.declared.LinkKind.TheVariants.{Atomic, Bump, Put}
-use Rattle.plan_machine.specs.Seen.{Came, Seen, Work, bumps, cell_of, nothing_seen, reached_count, to_cell}
-use Rattle.plan_machine.specs.Seen.Work.{Along, Tell}
+use Rattle.plan_machine.specs.Seen.{Came, Seen, bumps, nothing_seen, reached_count, to_cell}
+use Rattle.plan_calls.specs.Works.{Work, cell_of}
+use Rattle.plan_calls.specs.Works.Work.{Along, Tell}
 use Rattle.plan_machine.specs.Machine.{HasReached, IsMachineCut, Leads, MayMove, Move, Moves, all_seen, came, note, out_of, outs, seen, sending, source_rank}
 use Rattle.plan_machine.specs.Machine.Move.{Began, Did, Heard, Strayed, Took}
 use Rattle.plan_machine.specs.Machine.Leads.{along, here}

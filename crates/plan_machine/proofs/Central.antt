@@ -7,16 +7,16 @@ use Rattle.op_laws.specs.Combining.{CombineSwaps}
 use Rattle.plan_core.specs.Plan.{Plan, cell, in_links, is_bump, link}
 use Rattle.plan_core.specs.declared.LinkKind.{LinkKind}
 use Rattle.plan_core.specs.Sound.{AreInputsOf, SoundPlan}
-use Rattle.plan_core.specs.Values.{Inputs, carried_of, initial, value}
+use Rattle.plan_core.specs.Values.{Inputs, carried_of, initial, value, due}
 use Rattle.plan_core.specs.declared.LinkKind.TheVariants.{Atomic, Bump, Put}
-use Rattle.plan_machine.specs.Seen.{Came, Seen, Work, content, nothing_seen, reached_count, was_fired, works}
-use Rattle.plan_machine.specs.Seen.Work.{Along, Tell}
+use Rattle.plan_machine.specs.Seen.{Came, Seen, content, nothing_seen, reached_count, was_fired}
+use Rattle.plan_calls.specs.Works.{Work, works}
+use Rattle.plan_calls.specs.Works.Work.{Along, Tell}
 use Rattle.plan_machine.specs.Machine.{IsMachineCut, IsMachineRest, MayMove, Move, Moves, Proper, all_seen, came, link_of, note, note_work, out_of, outs, seen, sending, source_rank}
 use Rattle.plan_machine.specs.Machine.Move.{Began, Did, Heard, Strayed, Took}
 use Rattle.plan_core.proofs.Lists.{Distinct_left, In-append_cases, In-append_left, In-append_right, length-Within}
 use Rattle.plan_core.proofs.Links.{Distinct-in_links, In-out_links, in_links-In, out_links-In, own-In}
 use Rattle.plan_machine.proofs.Works.{In-works_along, works-along, works-tell}
-use Rattle.plan_core.specs.Values.{due}
 use Rattle.plan_machine.proofs.Reached.{Good, In-bumped_to, In-came_to, In-fired, Ours, bumped_to, came_to, count_unless_go, fired-In, holds_value, length-reached_by, reached_by}
 
 -- ---- what is true at the end was true before

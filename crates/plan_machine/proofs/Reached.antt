@@ -8,16 +8,16 @@ use Rattle.plan_core.specs.Plan.{Plan, cell, in_links, is_bump, link}
 use Rattle.plan_core.specs.declared.Cell.{Cell}
 use Rattle.plan_core.specs.declared.LinkKind.{LinkKind}
 use Rattle.plan_core.specs.Sound.{AreInputsOf, SoundPlan}
-use Rattle.plan_core.specs.Values.{Inputs, initial, land, land_as, value}
+use Rattle.plan_core.specs.Values.{Inputs, initial, land, land_as, value, due}
 use Rattle.plan_core.specs.declared.LinkKind.TheVariants.{Atomic, Bump, Put}
-use Rattle.plan_machine.specs.Seen.{Came, Seen, Work, bumps, content, is_same_work, reached_count, to_cell, was_fired, works}
-use Rattle.plan_machine.specs.Seen.Work.{Along, Tell}
+use Rattle.plan_machine.specs.Seen.{Came, Seen, bumps, content, is_same_work, reached_count, to_cell, was_fired}
+use Rattle.plan_calls.specs.Works.{Work, works}
+use Rattle.plan_calls.specs.Works.Work.{Along, Tell}
 use Rattle.plan_machine.specs.Machine.{Proper, link_of}
 use Rattle.plan_core.proofs.Lists.{Distinct-append, Distinct-filter, Distinct-map, In-append_cases, In-filter, In-filter_cases, In-map, In-map_cases, all_Within, each, each-append, each_same, length-map'}
 use Rattle.plan_core.proofs.Links.{In-in_links, Lands, in_links-In, land_swaps, length-land, out_links-In}
 use Rattle.plan_machine.proofs.Works.{works-along}
 use Rattle.plan_core.proofs.Values.{Lands-of, length-due, length-initial, length-value, step, value-eq}
-use Rattle.plan_core.specs.Values.{due}
 
 -- ---- operations cs members
 pub same_work : (v w : Work) → is_same_work v w ≡ true → v ≡ w

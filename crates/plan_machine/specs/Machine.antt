@@ -4,8 +4,9 @@ use Rattle.ni_model.specs.Counts.{one_more, bump, failures, successes}
 use Rattle.plan_core.specs.Members.{Distinct, In}
 use Rattle.plan_core.specs.Plan.{in_links, Plan, cell, is_bump, link}
 use Rattle.plan_core.specs.Values.{Inputs, carried_of, initial}
-use Rattle.plan_machine.specs.Seen.{Came, Seen, Work, cell_of, content, nothing_seen, reached_count, was_fired, works}
-use Rattle.plan_machine.specs.Seen.Work.{Along, Tell}
+use Rattle.plan_machine.specs.Seen.{Came, Seen, content, nothing_seen, reached_count, was_fired}
+use Rattle.plan_calls.specs.Works.{Work, cell_of, works}
+use Rattle.plan_calls.specs.Works.Work.{Along, Tell}
 
 -- a start, the arrival of what a link carries, a firing, an acknowledgement, a message of another job
 pub data Move : Type 0 where

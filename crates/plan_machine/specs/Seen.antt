@@ -1,19 +1,16 @@
 -- The machine of a plan: what one rank has seen, without messages, handles or match bits.
-use Rattle.std.specs.Prelude.{ℕ, Bool, true, false, ◌&&◌, ◌||◌, not, ◌==◌, ◌+◌, List, [], ◌∷◌, ◌++◌, if◌then◌else◌, map, count_by}
+use Rattle.std.specs.Prelude.{ℕ, Bool, true, false, ◌&&◌, ◌||◌, not, ◌==◌, ◌+◌, List, [], ◌∷◌, if◌then◌else◌, count_by}
 use Rattle.ptl_types.specs.declared.handles.Count.{Count}
 use Rattle.ni_model.specs.Counts.{successes}
-use Rattle.plan_core.specs.Plan.{Plan, link, own, out_links, is_bump}
+use Rattle.plan_core.specs.Plan.{Plan, link, is_bump}
 use Rattle.plan_core.specs.Values.{land}
+use Rattle.plan_calls.specs.Works.{Work}
+use Rattle.plan_calls.specs.Works.Work.{Along, Tell}
 
 -- a link's message came, with these bytes
 pub record Came : Type 0 where
   pub link : ℕ
   pub bytes : List ℕ
-
--- an operation of a rank: along a link, or the telling of a cell to the done counter
-pub data Work : Type 0 where
-  Along : (l : ℕ) → Work
-  Tell : (c : ℕ) → Work
 
 -- whether it has started, what came, what was fired, its counter of what is done, how many answers it awaits, and what came that is none of the plan's
 pub record Seen : Type 0 where
@@ -38,15 +35,6 @@ is_same_work _ _ = false
 abbrev pub was_fired : List Work → Work → Bool
 was_fired [] w = false
 was_fired (v ∷ vs) w = is_same_work v w || was_fired vs w
-
--- the cell that an operation waits for
-abbrev pub cell_of : Plan → Work → ℕ
-cell_of p (Along l) = (link p l).source
-cell_of p (Tell c) = c
-
--- the operations of rank r: its links, and then the telling of its cells
-abbrev pub works : Plan → ℕ → List Work
-works p r = map Along (out_links p r) ++ map Tell (own p r)
 
 -- the bytes of cell c, changed by what came to it, in order of arrival
 abbrev pub content : Plan → List Came → ℕ → List ℕ → List ℕ

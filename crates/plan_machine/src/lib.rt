@@ -7,7 +7,8 @@ ghost use Rattle.plan_core.specs.Members.{In};
 ghost use Rattle.plan_core.specs.Plan.{Plan, cell};
 ghost use Rattle.plan_core.specs.Values.{Inputs, value, initial};
 ghost use Rattle.plan_core.specs.Sound.{SoundPlan, AreInputsOf};
-ghost use Rattle.plan_machine.specs.Seen.{Work, content, works, was_fired};
+ghost use Rattle.plan_calls.specs.Works.{Work, works};
+ghost use Rattle.plan_machine.specs.Seen.{content, was_fired};
 ghost use Rattle.plan_machine.specs.Machine.{Move, IsMachineCut, IsMachineRest, HasReached, Leads, all_seen};
 ghost use Rattle.plan_machine.specs.Rounds.{IsRounds};
 

@@ -1,27 +1,38 @@
 -- The closed form of an installed interface is the state after the calls.
-use Rattle.std.proofs.Common.{ℕ, suc, Bool, true, false, cond, not, ◌&&◌, ◌==◌, ◌+◌, ◌≡◌, List, [], ◌∷◌, ◌++◌, refl, length, ap, ap₂, ◌∙◌, sym, subst, inl, inr, arith, map, filter, None, append_assoc, append-nil, flat_map, min, add-zero, eq-eqb, length-append, zero-add, Some}
+use Rattle.std.proofs.Common.{ℕ, suc, Bool, true, false, cond, not, ◌&&◌, ◌==◌, ◌+◌, ◌≡◌, List, [], ◌∷◌, ◌++◌, refl, length, ap, ap₂, ◌∙◌, sym, subst, inl, inr, arith, map, filter, None, append_assoc, append-nil, min, add-zero, eq-eqb, length-append, Some}
 use Rattle.std.proofs.lemmas.Bool.{ne_eqb}
 use Rattle.std.proofs.lemmas.List.{map-append}
 use Rattle.ptl_types.specs.declared.handles.Count.{Count}
 use Rattle.ptl_types.specs.Handles.{top}
 use Rattle.plan_core.specs.Members.{Distinct, In}
 use Rattle.ni_model.specs.State.{Posted, State}
-use Rattle.ni_model.specs.Tables.{Live}
-use Rattle.ni_model.specs.declared.Linked.{Linked}
+use Rattle.ni_model.specs.Tables.{Live, handle}
 use Rattle.ni_model.specs.Counts.{successes}
 use Rattle.plan_core.specs.Plan.{Plan, cell, out_links, own}
-use Rattle.plan_core.specs.Values.{Inputs, initial}
-use Rattle.plan_view.specs.Install.{Slots, cell_ct, counter_of, deed_of, descriptor_of, done_ct, entry_of, install, limits_of, no_annex, operation, view}
-use Rattle.plan_machine.specs.Seen.{Work, cell_of, nothing_seen, reached_count, was_fired, works}
+use Rattle.plan_view.specs.Slots.{Slots, cell_ct}
+use Rattle.plan_view.specs.View.{counter_of}
+use Rattle.plan_view.specs.Deeds.{deed_of, operation}
+use Rattle.plan_calls.specs.Works.{Work, cell_of, works}
+use Rattle.plan_machine.specs.Seen.{nothing_seen, reached_count, was_fired}
 use Rattle.plan_core.specs.Places.{place_in}
-use Rattle.plan_machine.specs.Seen.Work.{Along, Tell}
-use Rattle.plan_view.specs.Calls.{counters_all, entries_all, operations_all, after_calls}
-use Rattle.ni_model.specs.Calls.{with_index, with_counter, with_bound, with_operation}
-use Rattle.ni_model.specs.Append.{append}
-use Rattle.ni_model.specs.Headers.{held}
-use Rattle.ni_model.specs.State.{opened}
-use Rattle.ni_model.specs.Tables.{handle}
-use Rattle.plan_view.specs.Install.{cell_entry}
+use Rattle.plan_calls.specs.Works.Work.{Along, Tell}
+use Rattle.plan_view.specs.Calls.{call_made, calls_made, deed_at, sending_deed}
+use Rattle.plan_calls.specs.Calls.{act_of, trigger}
+use Rattle.ptl_types.specs.declared.steps.Call.{Call}
+use Rattle.ptl_types.specs.declared.steps.Call.TheVariants.{CtCell}
+use Rattle.ptl_types.specs.declared.elements.AtomicOp.{AtomicOp}
+use Rattle.ptl_types.specs.declared.calls.Deed.TheVariants.{Inc}
+use Rattle.plan_core.specs.declared.LinkKind.{LinkKind}
+use Rattle.plan_core.specs.declared.LinkKind.TheVariants.{Put, Atomic, Bump}
+use Rattle.plan_core.specs.Sound.{SoundPlan}
+use Rattle.plan_core.specs.Plan.{is_bump, link}
+use Rattle.plan_core.proofs.Links.{In-own, out_links-In}
+use Rattle.plan_machine.proofs.Works.{works-along}
+use Rattle.plan_view.proofs.StepFire.{cell_of-own}
+use Rattle.plan_view.specs.Slots.{counter_at}
+use Rattle.plan_view.specs.Deeds.{send_args, send_deed}
+use Rattle.std.proofs.Common.{Option}
+use Rattle.ni_model.specs.Calls.{with_counter, with_operation}
 use Rattle.std.proofs.Math.Numerals.{add-one}
 use Rattle.plan_core.proofs.Lists.{In-append_right}
 use Rattle.plan_core.proofs.Links.{Distinct-out_links, Distinct-own, own-In}
@@ -75,9 +86,6 @@ map-same f g (x ∷ xs) h = ap₂ (λ a b. a ∷ b) (h x (inl refl)) (map-same f
 abbrev pub new_ct : Slots → ℕ → ℕ → Live Count
 new_ct k i c = record { handle = handle (k.ct i) i; value = successes 0 }
 
-abbrev pub new_me : Plan → Slots → ℕ → ℕ → Linked
-new_me p k i c = record { handle = handle (k.me i) i; running = 0; entry = cell_entry no_annex p k c }
-
 abbrev pub new_op : Plan → Slots → ℕ → Work → Posted
 new_op p k i w = record { number = i; deed = deed_of p k w; ct = cell_ct p k (cell_of p w); threshold = (cell p (cell_of p w)).needs }
 
@@ -91,31 +99,63 @@ placed_step f ys i x xs = append_assoc ys (f i x ∷ []) (placed f (i + 1) xs) �
 abbrev pub cts_with : State → List (Live Count) → ℕ → State
 cts_with s xs n = record s { cts = record s.cts { live = xs; given = n } }
 
-pub after_counters : (k : Slots) (cs : List ℕ) (s : State) → counters_all k cs s ≡ cts_with s (s.cts.live ++ placed (new_ct k) s.cts.given cs) (s.cts.given + length cs)
-after_counters k [] s = ap₂ (cts_with s) (sym (append-nil s.cts.live)) (sym (add-zero s.cts.given))
-after_counters k (c ∷ cs) s =
-    after_counters k cs (with_counter (k.ct s.cts.given) s)
+-- the calls of two lists are those of one behind the other
+pub calls-append : (k : Slots) (cells : List ℕ) (xs ys : List Call) (s : State) → calls_made k cells (xs ++ ys) s ≡ calls_made k cells ys (calls_made k cells xs s)
+calls-append k cells [] ys s = refl
+calls-append k cells (x ∷ xs) ys s = calls-append k cells xs ys (call_made k cells x s)
+
+pub after_counters : (k : Slots) (cells cs : List ℕ) (s : State) → calls_made k cells (map CtCell cs) s ≡ cts_with s (s.cts.live ++ placed (new_ct k) s.cts.given cs) (s.cts.given + length cs)
+unfolding call_made
+after_counters k cells [] s = ap₂ (cts_with s) (sym (append-nil s.cts.live)) (sym (add-zero s.cts.given))
+after_counters k cells (c ∷ cs) s =
+    after_counters k cells cs (with_counter (k.ct s.cts.given) s)
     ∙ ap₂ (cts_with s) (placed_step (new_ct k) s.cts.live s.cts.given c cs) (sum_step s.cts.given (length cs))
-
--- an interface with these entries, all in the priority list of index 0, and no header
-abbrev pub entries_with : State → ℕ → List Linked → ℕ → State
-entries_with s room xs n = record s { indices = Some (record { eq = None; priority = xs; overflow = [] }) ∷ []; entries_given = n; headers = held [] room }
-
-pub after_entries : (p : Plan) (k : Slots) (cs : List ℕ) (s : State) (room : ℕ) (xs : List Linked) (n : ℕ) → entries_all p k cs (entries_with s room xs n) ≡ entries_with s room (xs ++ placed (new_me p k) n cs) (n + length cs)
-unfolding append
-after_entries p k [] s room xs n = ap₂ (entries_with s room) (sym (append-nil xs)) (sym (add-zero n))
-after_entries p k (c ∷ cs) s room xs n =
-    after_entries p k cs s room (xs ++ new_me p k n c ∷ []) (n + 1)
-    ∙ ap₂ (entries_with s room) (placed_step (new_me p k) xs n c cs) (sum_step n (length cs))
 
 abbrev pub operations_with : State → List Posted → ℕ → State
 operations_with s xs n = record s { pending = record s.pending { waiting = xs; given = n } }
 
-pub after_operations : (p : Plan) (k : Slots) (ws : List Work) (s : State) → operations_all p k ws s ≡ operations_with s (s.pending.waiting ++ placed (new_op p k) s.pending.given ws) (s.pending.given + length ws)
-after_operations p k [] s = ap₂ (operations_with s) (sym (append-nil s.pending.waiting)) (sym (add-zero s.pending.given))
-after_operations p k (w ∷ ws) s =
-    after_operations p k ws (with_operation (deed_of p k w) (cell_ct p k (cell_of p w)) (cell p (cell_of p w)).needs s)
+-- among these cells an operation's counter and what it does are those of the plan
+pub record IsNamed (p : Plan) (k : Slots) (cells : List ℕ) (w : Work) : Type 0 where
+  pub ct : counter_at k cells (cell_of p w) ≡ cell_ct p k (cell_of p w)
+  pub deed : deed_at k cells (act_of p w) ≡ deed_of p k w
+
+pub after_operations : (p : Plan) (k : Slots) (cells : List ℕ) (ws : List Work) → ((w : Work) → In w ws → IsNamed p k cells w) → (s : State)
+    → calls_made k cells (map (trigger p) ws) s ≡ operations_with s (s.pending.waiting ++ placed (new_op p k) s.pending.given ws) (s.pending.given + length ws)
+unfolding call_made
+after_operations p k cells [] named s = ap₂ (operations_with s) (sym (append-nil s.pending.waiting)) (sym (add-zero s.pending.given))
+after_operations p k cells (w ∷ ws) named s =
+    let n = named w (inl refl) in
+    ap (calls_made k cells (map (trigger p) ws)) (ap₂ (λ d h. with_operation d h (cell p (cell_of p w)).needs s) n.deed n.ct)
+    ∙ after_operations p k cells ws (λ v i. named v (inr i)) (with_operation (deed_of p k w) (cell_ct p k (cell_of p w)) (cell p (cell_of p w)).needs s)
     ∙ ap₂ (operations_with s) (placed_step (new_op p k) s.pending.waiting s.pending.given w ws) (sum_step s.pending.given (length ws))
+
+-- so are those of a rank of a sound plan
+pub named : (p : Plan) (n : ℕ) → SoundPlan p n → (k : Slots) (r : ℕ) (w : Work) → In w (works p r) → IsNamed p k (own p r) w
+named p n sound k r w i = record { ct = counter-is (cell_of p w) (cell_of-own p n sound r w i); deed = deed-is w i }
+  where
+    counter-is : (c : ℕ) → In c (own p r) → counter_at k (own p r) c ≡ cell_ct p k c
+    counter-is c i = ap (λ q. counter_at k (own p q) c) (sym (own-In p r c i).1)
+
+    send-is : (l : ℕ) (o : Option AtomicOp) → sending_deed (send_args p k l) o (cell p (link p l).target).ty ≡ send_deed p k l o
+    send-is l None = refl
+    send-is l (Some o) = refl
+
+    bump_kind : (k : LinkKind) → is_bump k ≡ true → k ≡ Bump
+    bump_kind Bump e = refl
+    bump_kind Put e = cc
+    bump_kind Atomic e = cc
+
+    along : (l : ℕ) → In (Along l) (works p r) → (b : Bool) → is_bump (link p l).kind ≡ b → deed_at k (own p r) (act_of p (Along l)) ≡ deed_of p k (Along l)
+    along l i true e =
+        let q = out_links-In p r l (works-along p r l i) in
+        let s = sound.links_sound l q.0 in
+        let t : In (link p l).target (own p r) = In-own p r (link p l).target s.cells (sym (s.bump_stays (bump_kind (link p l).kind e)) ∙ q.1) in
+        rw e (ap (λ h. Inc h (successes 1)) (counter-is (link p l).target t))
+    along l i false e = rw e (send-is l (cell p (link p l).target).op)
+
+    deed-is : (w : Work) → In w (works p r) → deed_at k (own p r) (act_of p w) ≡ deed_of p k w
+    deed-is (Tell c) i = refl
+    deed-is (Along l) i = along l i (is_bump (link p l).kind) refl
 
 -- ---- the lists of the closed form
 pub cts_are : (p : Plan) (k : Slots) (r : ℕ) → placed (new_ct k) 1 (own p r) ≡ map (counter_of p k r nothing_seen) (own p r)
@@ -134,11 +174,6 @@ cts_are p k r =
     one c e =
         ap₂ (λ n v. record { handle = handle (k.ct n) n; value = v })
         (let q : 1 + place_in (own p r) c ≡ suc (place_in (own p r) c) = omega arith in q ∙ ap (λ v. suc (place_in (own p v) c)) (sym e)) (zero_count c)
-
-entries_are : (p : Plan) (k : Slots) (r : ℕ) → placed (new_me p k) 0 (own p r) ≡ map (entry_of no_annex p k) (own p r)
-entries_are p k r =
-    placed-own (new_me p k) (own p r) (Distinct-own p r)
-    ∙ map-same _ _ (own p r) (λ c i. ap (λ n. new_me p k n c) (sym (zero-add (place_in (own p r) c)) ∙ ap (λ v. 0 + place_in (own p v) c) (sym (own-In p r c i).1)))
 
 all_pending : (ws : List Work) → filter (λ w. not (was_fired [] w)) ws ≡ ws
 all_pending [] = refl
@@ -169,30 +204,3 @@ pending_are p k r =
         ∙ placed-shift (λ j c. new_op p k j (Tell c)) (length (out_links p r)) 0 (own p r)
         ∙ placed-own (λ j c. new_op p k (length (out_links p r) + j) (Tell c)) (own p r) (Distinct-own p r)
         ∙ fuse (operation p k r) Tell (own p r)
-
--- ---- the law
-pub installed : (p : Plan) (inputs : Inputs) (k : Slots) (r : ℕ) → after_calls p inputs k r ≡ install p inputs k r
-installed p inputs k r =
-    ap (λ m. operations_all p k (works p r) (entries_all p k (own p r) (with_bound k.md (descriptor_of no_annex p k r) (counters_all k (own p r) (with_counter (k.ct 0) (with_index 0 None (opened r p.ranks (limits_of no_annex p r) m))))))) (sym (append-nil (flat_map (initial p inputs) (own p r))))
-    ∙ ap (λ s. operations_all p k (works p r) (entries_all p k (own p r) (with_bound k.md (descriptor_of no_annex p k r) s)))
-    (after_counters k (own p r) (with_counter (k.ct 0) (with_index 0 None (opened r p.ranks (limits_of no_annex p r) (flat_map (initial p inputs) (own p r) ++ [])))))
-    ∙ ap (operations_all p k (works p r)) (after_entries p k (own p r) (bare (1 + length (own p r))) 0 [] 0)
-    ∙ after_operations p k (works p r) _
-    ∙ lists (placed (new_ct k) 1 (own p r)) (map (counter_of p k r nothing_seen) (own p r)) (cts_are p k r)
-    (placed (new_me p k) 0 (own p r)) (map (entry_of no_annex p k) (own p r)) (entries_are p k r)
-    (placed (new_op p k) 0 (works p r)) (map (operation p k r) (filter (λ w. not (was_fired [] w)) (works p r))) (pending_are p k r)
-    (1 + length (own p r)) (suc (length (own p r))) (omega arith) (0 + length (works p r)) (length (works p r)) (omega arith)
-  where
-    made : List (Live Count) → List Linked → List Posted → ℕ → ℕ → State
-    made cs es ps a c = record (view no_annex p inputs k r nothing_seen) {
-      cts = record { live = record { handle = done_ct k; value = successes 0 } ∷ cs; given = a; limit = length (own p r) + 1 };
-      indices = Some (record { eq = None; priority = es; overflow = [] }) ∷ [];
-      pending = record { waiting = ps; given = c; limit = length (out_links p r) + length (own p r) };
-    }
-
-    -- before the entries and the operations
-    bare : ℕ → State
-    bare a = record (made (placed (new_ct k) 1 (own p r)) [] [] a 0) { entries_given = 0 }
-
-    lists : (cs cs' : List (Live Count)) → cs ≡ cs' → (es es' : List Linked) → es ≡ es' → (ps ps' : List Posted) → ps ≡ ps' → (a a' : ℕ) → a ≡ a' → (c c' : ℕ) → c ≡ c' → made cs es ps a c ≡ made cs' es' ps' a' c'
-    lists cs cs' e es es' f ps ps' g a a' h c c' j = λ d. made (e d) (f d) (g d) (h d) (j d)

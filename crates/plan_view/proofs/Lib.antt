@@ -3,4 +3,3 @@ pub mod MatchBits
 pub mod StepFire
 pub mod StepArrive
 pub mod Installed
-pub mod Unrefused

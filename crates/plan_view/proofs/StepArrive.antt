@@ -18,7 +18,7 @@ use Rattle.ptl_types.specs.declared.elements.ElemType.TheVariants.{I16, I32, I64
 use Rattle.plan_core.specs.Members.{In}
 use Rattle.ptl_types.specs.Elements.{combined, part, written}
 use Rattle.ptl_types.specs.Operations.{bytes_of}
-use Rattle.ni_model.specs.State.{State, home_of, target}
+use Rattle.ni_model.specs.State.{State, home_of, target, delivers, after_request, after_answer, parts_of}
 use Rattle.ni_model.specs.declared.Linked.{Linked}
 use Rattle.ni_model.specs.Counts.{bump, successes, counted}
 use Rattle.ni_model.specs.Tables.{change, where_set}
@@ -33,14 +33,16 @@ use Rattle.ni_model.specs.Headers.{allows}
 use Rattle.ni_model.specs.Events.{is_reply, asks_event, answer_event}
 use Rattle.ni_model.specs.Arrive.{or_else, as_found, choose, chosen, chosen_at, whole, delivered, place, old_bytes, new_bytes, writes, memory_after, answer, ack_header, reply_header, received, refused, accepted, judged, request}
 use Rattle.ni_model.specs.Answers.{bound_at, is_due, is_awaited, one_answer, one_less, awaits_less, came_home, lost_answer, answered_at, answered}
-use Rattle.ni_model.specs.State.{delivers, after_request, after_answer, parts_of, home_of}
 use Rattle.plan_core.specs.declared.LinkKind.{LinkKind}
 use Rattle.plan_core.specs.Plan.{Plan, cell, is_bump, link, own}
 use Rattle.plan_core.specs.declared.Cell.{Cell}
 use Rattle.plan_core.specs.Sound.{SoundPlan}
 use Rattle.plan_core.specs.Values.{Inputs, initial, land, land_as}
 use Rattle.plan_core.specs.declared.LinkKind.TheVariants.{Atomic, Bump, Put}
-use Rattle.plan_view.specs.Install.{Annex, Slots, bits_above, cell_bits, cell_ct, class_of, counter_of, descriptor_of, done_ct, entry_of, kind_for, link_header, link_message, no_annex, op_number, send_args, the_md, type_for, type_number, view, md_of, ack_of, mds_of}
+use Rattle.plan_view.specs.View.{Annex, counter_of, descriptor_of, entry_of, view, md_of, mds_of}
+use Rattle.plan_view.specs.Slots.{Slots, cell_ct, done_ct, the_md}
+use Rattle.plan_calls.specs.Bits.{bits_above, cell_bits, class_of, op_number, type_number}
+use Rattle.plan_view.specs.Deeds.{kind_for, link_header, link_message, send_args, type_for, ack_of}
 use Rattle.plan_view.specs.Steps.{IsLinkHere, IsAckHere, IsQuiet, Sized}
 use Rattle.plan_machine.specs.Seen.{Came, Seen, content, reached_count, to_cell}
 use Rattle.plan_core.specs.Places.{cell_length, start_in}
@@ -218,9 +220,6 @@ bits-job p inputs sound r l h =
   where
     job : (k c s : ℕ) → k < 256 → c < 2 ^ 24 → s < 2 ^ 16 → (bits_above k c * 2 ^ 16 + s) / 2 ^ 48 % 2 ^ 16 ≡ 1
     job k c s h i j = omega arith
-
-pub no_annex-quiet : IsQuiet no_annex
-no_annex-quiet = record { ours = λ x i. absurd i }
 
 module _ (annex : Annex) (quiet : IsQuiet annex) where
   fits-target : (p : Plan) (inputs : Inputs) → SoundPlan p (length inputs) → (s k : Slots) (r l : ℕ) → IsLinkHere p r l → fits (link_header p k l) (entry_of annex p s (link p l).target) ≡ true

@@ -20,17 +20,19 @@ use Rattle.ni_model.specs.Starts.{started, put_header, send_counter, send_queue,
 use Rattle.ni_model.specs.Ready.{Fires, fires, fired, fired_op, is_ready, is_ready_op, is_reached, is_number, posted_at, without_number, done}
 use Rattle.ni_model.specs.Events.{send_event}
 use Rattle.ptl_types.specs.declared.headers.Header.{Header}
-use Rattle.ni_model.specs.Ready.{fired, is_ready}
 use Rattle.plan_core.specs.declared.LinkKind.TheVariants.{Atomic, Bump, Put}
 use Rattle.plan_core.specs.declared.LinkKind.{LinkKind}
 use Rattle.plan_core.specs.Plan.{Plan, cell, is_bump, link, out_links, own}
 use Rattle.plan_core.specs.Sound.{SoundPlan}
 use Rattle.plan_core.specs.Values.{Inputs, initial}
-use Rattle.plan_view.specs.Install.{Annex, Slots, cell_ct, counter_of, deed_of, done_ct, kind_for, link_message, number_of, operation, send_args, send_deed, the_md, type_for, view, raise_go, md_of, mds_of}
+use Rattle.plan_view.specs.View.{Annex, counter_of, view, raise_go, md_of, mds_of}
+use Rattle.plan_view.specs.Slots.{Slots, cell_ct, done_ct, the_md}
+use Rattle.plan_view.specs.Deeds.{deed_of, kind_for, link_message, operation, send_args, send_deed, type_for}
+use Rattle.plan_calls.specs.Works.{number_of, Work, cell_of, works}
 use Rattle.plan_view.specs.Steps.{sent_message, Sized}
-use Rattle.plan_machine.specs.Seen.{Seen, Work, bumps, cell_of, content, is_same_work, reached_count, to_cell, was_fired, works}
+use Rattle.plan_machine.specs.Seen.{Seen, bumps, content, is_same_work, reached_count, to_cell, was_fired}
 use Rattle.plan_core.specs.Places.{cell_length, place_in, start_in}
-use Rattle.plan_machine.specs.Seen.Work.{Along, Tell}
+use Rattle.plan_calls.specs.Works.Work.{Along, Tell}
 use Rattle.plan_machine.specs.Machine.{note, note_work, sending}
 use Rattle.plan_machine.specs.Machine.Move.{Began}
 use Rattle.plan_core.proofs.Lists.{In-filter_cases, In-map_cases, count-cons}

@@ -8,10 +8,12 @@ use Rattle.plan_core.specs.Members.{In}
 use Rattle.ni_model.specs.Counts.{bump, successes}
 use Rattle.ni_model.specs.Tables.{change, change_one, lookup}
 use Rattle.plan_core.specs.Plan.{Plan, cell, out_links, own}
-use Rattle.plan_view.specs.Install.{Slots, cell_ct, counter_of, done_ct, number_of}
-use Rattle.plan_machine.specs.Seen.{Seen, Work, reached_count, works}
+use Rattle.plan_view.specs.Slots.{Slots, cell_ct, done_ct}
+use Rattle.plan_view.specs.View.{counter_of}
+use Rattle.plan_calls.specs.Works.{number_of, Work, works}
+use Rattle.plan_machine.specs.Seen.{Seen, reached_count}
 use Rattle.plan_core.specs.Places.{place_in}
-use Rattle.plan_machine.specs.Seen.Work.{Along, Tell}
+use Rattle.plan_calls.specs.Works.Work.{Along, Tell}
 use Rattle.plan_core.proofs.Links.{own-In}
 use Rattle.plan_machine.proofs.Works.{works-along, works-tell}
 

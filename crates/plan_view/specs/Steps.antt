@@ -9,10 +9,13 @@ use Rattle.ni_model.specs.declared.Linked.{Linked}
 use Rattle.plan_core.specs.Members.{In}
 use Rattle.plan_core.specs.Plan.{Plan, cell, link, is_bump}
 use Rattle.plan_core.specs.Values.{Inputs, initial}
-use Rattle.plan_machine.specs.Seen.{Seen, Work, content}
-use Rattle.plan_machine.specs.Seen.Work.{Along, Tell}
+use Rattle.plan_machine.specs.Seen.{Seen, content}
+use Rattle.plan_calls.specs.Works.{Work}
+use Rattle.plan_calls.specs.Works.Work.{Along, Tell}
 use Rattle.plan_machine.specs.Machine.{sending}
-use Rattle.plan_view.specs.Install.{Annex, Slots, the_md, link_message}
+use Rattle.plan_view.specs.View.{Annex}
+use Rattle.plan_view.specs.Slots.{Slots, the_md}
+use Rattle.plan_view.specs.Deeds.{link_message}
 
 -- the message that an operation makes
 abbrev pub sent_message : Plan → Inputs → Slots → Seen → Work → Option Sent

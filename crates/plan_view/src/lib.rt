@@ -9,53 +9,20 @@ ghost use Rattle.ptl_types.specs.Messages.{Sent};
 ghost use Rattle.ni_model.specs.Answers.{is_awaited};
 ghost use Rattle.ni_model.specs.Ready.{is_ready, fired, fires};
 ghost use Rattle.ni_model.specs.Append.{append_fault};
-ghost use Rattle.ni_model.specs.Calls.{with_index};
 ghost use Rattle.ni_model.specs.Refusals.{pt_alloc_fault, alloc_fault, bind_fault, triggered_fault};
 ghost use Rattle.ni_model.specs.State.{target, delivers, parts_of, side_of};
 ghost use Rattle.plan_core.specs.Members.{In};
 ghost use Rattle.plan_core.specs.Plan.{Plan, link, own};
 ghost use Rattle.plan_core.specs.Values.{Inputs};
 ghost use Rattle.plan_core.specs.Sound.{SoundPlan, AreInputsOf};
-ghost use Rattle.plan_machine.specs.Seen.{Seen, Work, works, was_fired, cell_of};
+ghost use Rattle.plan_machine.specs.Seen.{Seen, was_fired};
+ghost use Rattle.plan_calls.specs.Works.{Work, works, cell_of};
 ghost use Rattle.plan_machine.specs.Machine.{note, note_work};
 ghost use Rattle.plan_machine.specs.Machine.Move.{Began, Took, Heard, Strayed};
-ghost use Rattle.plan_view.specs.Install.{Annex, no_annex, Slots, view, install, cell_entry, descriptor_of, deed_of, cell_ct, raise_go, link_message, ack_of};
+ghost use Rattle.plan_view.specs.View.{Annex, view, cell_entry, descriptor_of, raise_go};
+ghost use Rattle.plan_view.specs.Slots.{Slots, cell_ct};
+ghost use Rattle.plan_view.specs.Deeds.{deed_of, link_message, ack_of};
 ghost use Rattle.plan_view.specs.Steps.{Sized, sent_message, IsLinkHere, IsAckHere, IsQuiet};
-ghost use Rattle.plan_view.specs.Calls.{fresh, counted_for, entered_for, triggered_for, after_calls};
-
-/// The closed form of an installed interface is the state after the calls that install it.
-pub fn installation()
-    ensures { (plan : Plan) (inputs : Inputs) (slots : Slots) (r : ℕ) →
-        after_calls plan inputs slots r ≡ install plan inputs slots r }
-{}
-
-/// None of the calls that install a sound plan is refused: neither the first, nor any later one behind those before it.
-pub fn installation_is_accepted()
-    ensures index { (plan : Plan) (inputs : Inputs) (r : ℕ) →
-        pt_alloc_fault 0 None (side_of (fresh plan inputs r)) (fresh plan inputs r).eqs ≡ None }
-    ensures done_counter { (plan : Plan) (inputs : Inputs) (r : ℕ) →
-        alloc_fault (with_index 0 None (fresh plan inputs r)).cts ≡ None }
-    ensures counter { (plan : Plan) (inputs : Inputs) (slots : Slots) (r : ℕ) (front : List ℕ) →
-        SoundPlan plan (length inputs) → length front < length (own plan r) →
-        alloc_fault (counted_for plan inputs slots r front).cts ≡ None }
-    ensures descriptor { (plan : Plan) (inputs : Inputs) (slots : Slots) (r : ℕ) →
-        SoundPlan plan (length inputs) → AreInputsOf plan inputs →
-        (let s = counted_for plan inputs slots r (own plan r) in
-        bind_fault (descriptor_of no_annex plan slots r) (length s.memory) s.cts s.eqs s.mds ≡
-        None) }
-    ensures entry { (plan : Plan) (inputs : Inputs) (slots : Slots) (r : ℕ) (front : List ℕ)
-        (c : ℕ) (back : List ℕ) →
-        SoundPlan plan (length inputs) → AreInputsOf plan inputs → own plan r ≡ front ++ c ∷ back →
-        append_fault 0 (cell_entry no_annex plan slots c) (parts_of (entered_for plan inputs slots r front)) ≡
-        None }
-    ensures operation { (plan : Plan) (inputs : Inputs) (slots : Slots) (r : ℕ)
-        (front : List Work) (w : Work) (back : List Work) →
-        SoundPlan plan (length inputs) → AreInputsOf plan inputs →
-        works plan r ≡ front ++ w ∷ back →
-        (let s = triggered_for plan inputs slots r front in
-        triggered_fault (deed_of plan slots w) (cell_ct plan slots (cell_of plan w)) s.cts s.mds s.pending ≡
-        None) }
-{}
 
 /// A start raises the go counter: the machine's rank has begun.
 pub fn start_begins()

@@ -1,0 +1,11 @@
+pub mod Awaits
+pub mod FromRest
+pub mod Due
+pub mod Laws
+pub mod LaneCuts
+pub mod Waves
+pub mod Probes
+pub mod Longer
+pub mod Fair
+pub mod Moments
+pub mod Receipts

@@ -1,0 +1,6 @@
+pub mod Sized
+pub mod Prepared
+pub mod Areas
+pub mod Starting
+pub mod Receiving
+pub mod Unrefused
