@@ -1,0 +1,7 @@
+use Rattle.std.proofs.Common.{◌≡◌, get_or, filter}
+use Rattle.plan_core.specs.Plan.{from_to}
+use Rattle.coll_shape.specs.Collectives.{is_in}
+use Rattle.plan_steps.proofs.beginning.holding_of.Given as goal
+
+abbrev pub invariant-loop-place : goal.invariant-loop-place
+invariant-loop-place l = l.list.items ≡ filter (λ i. is_in (get_or l.members i 0) l.holders) (from_to 0 l.place)

@@ -1,0 +1,31 @@
+-- One cell more in each turn.
+use Rattle.std.proofs.Common.{ℕ, ◌≡◌, ◌<◌, ◌∷◌, [], arith, map, ap, sym, subst, ◌∙◌}
+use Rattle.plan_core.specs.Plan.{Plan, from_to}
+use Rattle.plan_core.specs.Draw.{HasRoom, add, add_all}
+use Rattle.plan_core.proofs.Drawing.{add_all-none, cells-more, room-at}
+use Rattle.plan_steps.specs.Site.{count, full_entry}
+use Rattle.plan_steps.proofs.first_cells.entries.Goals as goal
+
+pub loop-place-init : goal.loop-place-init
+loop-place-init c = sym (add_all-none c.args.plan.now)
+
+pub full_entry-requires-clause-room : goal.full_entry-requires-clause-room
+full_entry-requires-clause-room c =
+    let n = c.count-place-end.ensures.told in
+    let t = c.loop-place-test.true in
+    let P : Plan → Type 0 = λ p. HasRoom p (full_entry c.args.site.now c.loop-place.place ∷ []) in
+    subst P (sym c.loop-place.invariant) (room-at c.args.plan.now (full_entry c.args.site.now) (count c.args.site.now) c.loop-place.place c.requires (omega (arith, n, t)))
+
+pub loop-place-preserved : goal.loop-place-preserved
+loop-place-preserved c =
+    c.in_ok-full_entry.ensures
+    ∙ ap (λ p. add p (full_entry c.args.site.now c.loop-place.place)) c.loop-place.invariant
+    ∙ sym (cells-more c.args.plan.now (full_entry c.args.site.now) c.loop-place.place)
+
+pub returns : goal.returns
+returns c =
+    let n = c.count-place-end.ensures.told in
+    let t = c.loop-place-test.false in
+    let u = c.loop-place.auto in
+    c.loop-place.invariant
+    ∙ ap (λ n. add_all c.args.plan.now (map (full_entry c.args.site.now) (from_to 0 n))) (let e : c.loop-place.place ≡ count c.args.site.now = omega (arith, n, t, u) in e)
