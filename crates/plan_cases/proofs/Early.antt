@@ -177,8 +177,8 @@ all_slots r = slots1
 abbrev world_two : Histories
 world_two r = if r == 0 then order-0 else order-1
 
-abbrev systeput_along : System
-systeput_along = system_of plan_two inputs_two all_slots
+abbrev system_two : System
+system_two = system_of plan_two inputs_two all_slots
 
 abbrev LegalAt : ℕ → Type 0
 LegalAt r = Legal (start_of plan_two slots1 r) false (prepare plan_two inputs_two slots1 r) (world_two r)
@@ -194,14 +194,14 @@ known_two r zero lane h k = absurd (omega arith)
 known_two r (suc s) lane h k = let e : (0 == suc s) ≡ false = ne_eqb 0 (suc s) (λ i. absurd (omega arith)) in below2 (λ r. got (world_two r) (suc s) lane ≡ []) (rw e refl) (rw e refl) r h
 
 abbrev LaneAgrees : Lane → ℕ → ℕ → Type 0
-LaneAgrees lane s d = got_by world_two d s lane ≡ sent_by systeput_along world_two s d lane
+LaneAgrees lane s d = got_by world_two d s lane ≡ sent_by system_two world_two s d lane
 
 equal_two : (lane : Lane) (s d : ℕ) → s < 2 → d < 2 → LaneAgrees lane s d
 unfolding target request answered started fired call_made append cell_started bring
 equal_two Request s d h k = below2 (λ s. LaneAgrees Request s d) (below2 (λ d. LaneAgrees Request 0 d) refl refl d k) (below2 (λ d. LaneAgrees Request 1 d) refl refl d k) s h
 equal_two Answer s d h k = below2 (λ s. LaneAgrees Answer s d) (below2 (λ d. LaneAgrees Answer 0 d) refl refl d k) (below2 (λ d. LaneAgrees Answer 1 d) refl refl d k) s h
 
-pub cut_two : IsCut systeput_along world_two
+pub cut_two : IsCut system_two world_two
 unfolding target request answered started fired call_made append cell_started bring
 cut_two = record {
   legal = legal_two;
@@ -209,12 +209,12 @@ cut_two = record {
   lanes = λ s d lane h k. ([], append-nil (got_by world_two d s lane) ∙ equal_two lane s d h k);
 }
 
-pub rest_two : IsAtRest systeput_along world_two
+pub rest_two : IsAtRest system_two world_two
 unfolding target request answered started fired call_made append cell_started bring
 rest_two = record {
   started = below2 (λ r. 0 < count_by is_start (world_two r)) (lit< tt) (lit< tt);
   empty = λ s d lane h k. equal_two lane s d h k;
-  idle = λ r t h. below2 (λ r. is_ready (state_at systeput_along world_two r) t ≡ false) refl refl r h;
+  idle = λ r t h. below2 (λ r. is_ready (state_at system_two world_two r) t ≡ false) refl refl r h;
 }
 
 pub complete_two : (r : ℕ) → r < 2 → IsComplete plan_two inputs_two all_slots world_two r

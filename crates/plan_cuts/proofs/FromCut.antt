@@ -1,4 +1,4 @@
--- A cut of late histories is a cut of their plan's machine.
+-- A cut is a cut of their plan's machine.
 use Rattle.plan_cuts.specs.System.{Histories, sent_by}
 use Rattle.plan_cuts.specs.Plans.{start_of, system_of}
 use Rattle.plan_cuts.specs.Cut.{IsCut, got_by, is_stray, owned}

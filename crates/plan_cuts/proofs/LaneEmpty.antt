@@ -1,5 +1,5 @@
 -- No entry of a rank of a plan allows a get, so what it answers carries no bytes, whatever it receives.
-use Rattle.std.proofs.Common.{ℕ, zero, suc, Bool, true, false, cond, not, ◌&&◌, ◌≡◌, ◌⊎◌, List, [], ◌∷◌, refl, ap, ◌∙◌, sym, subst, inl, inr, map, find, Option, Some, None, if◌then◌else◌}
+use Rattle.std.proofs.Common.{ℕ, zero, suc, Bool, true, false, cond, not, ◌&&◌, ◌≡◌, ◌⊎◌, List, [], ◌∷◌, refl, ap, ◌∙◌, sym, subst, inl, inr, map, find, Option, Some, None, if◌then◌else◌, length}
 use Rattle.std.specs.Prelude.{slice_set}
 use Rattle.std.proofs.lemmas.Bool.{and_right, cases_Bool}
 use Rattle.ptl_types.specs.declared.calls.Deed.{Deed}
@@ -47,7 +47,6 @@ use Rattle.plan_start.specs.Start.{cell_started, cells_started, entry_of, with_b
 use Rattle.plan_calls.specs.declared.OwnCell.{OwnCell}
 use Rattle.plan_start.proofs.Prepared.{prepared}
 use Rattle.plan_core.specs.Sound.{SoundPlan}
-use Rattle.std.proofs.Common.{length}
 
 -- ---- entries that allow no get
 abbrev NoGets : List Linked → Type 0

@@ -17,3 +17,4 @@ pub mod LaneAnswers
 pub mod LaneEmpty
 pub mod StepBounds
 pub mod Clean
+pub mod Strays

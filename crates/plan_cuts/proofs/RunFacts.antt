@@ -1,4 +1,4 @@
--- What a late history's moves count.
+-- What the moves of a rank's history count.
 use Rattle.std.proofs.Common.{if◌then◌else◌, ℕ, suc, Bool, true, false, cond, ◌+◌, ◌≡◌, ◌<◌, List, [], ◌∷◌, ◌++◌, refl, ap, ◌∙◌, sym, inl, inr, arith, map, Option, Some, None, count_by}
 use Rattle.ni_model.specs.State.{State}
 use Rattle.plan_core.proofs.Lists.{count-cons}
@@ -104,7 +104,7 @@ run_started p r (Receive s Request m ∷ es) early g h = at (is_stray m) (run_st
     at true x y = x
     at false x y = y
 
--- after its start a late interface is the view of what it has seen, with an annex
+-- after its start a rank's interface is the view of what it has seen, with an annex
 pub record Ended (p : Plan) (inputs : Inputs) (k : ℕ → Slots) (r : ℕ) (v : State) (g : Seen) : Type 0 where
   pub early : List Came
   pub is : v ≡ view (annex_of p (k r) r early) p inputs (k r) r g

@@ -1,4 +1,4 @@
--- The messages of a late history as lists.
+-- The messages of a rank's history as lists.
 use Rattle.std.proofs.Common.{if◌then◌else◌, ℕ, Bool, true, false, cond, not, ◌≡◌, List, [], ◌∷◌, ◌++◌, refl, ap, ◌∙◌, sym, map, filter, Option, Some, None, append-nil, append_assoc}
 use Rattle.std.proofs.lemmas.List.{map-append}
 use Rattle.std.proofs.lemmas.List.Elements.{filter-append}

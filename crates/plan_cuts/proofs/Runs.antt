@@ -1,9 +1,9 @@
--- A late history is a history of its plan's machine: what came early lands at the start.
+-- A rank's history is a history of its plan's machine: what came early lands at the start.
 use Rattle.std.proofs.Common.{if◌then◌else◌, ℕ, true, false, cond, ◌≡◌, ◌<◌, ◌⊎◌, List, [], ◌∷◌, ◌++◌, refl, length, ap, ap₂, ◌∙◌, sym, subst, inl, inr, map, Option, Some, None, append-nil, append_assoc, arith, ◌&&◌, ◌+◌, ◌==◌, count_by, zero-add}
 use Rattle.ni_model.specs.Ready.{Fires}
 use Rattle.ni_model.specs.State.{Delivers, State, target}
 use Rattle.op_laws.specs.Combining.{CombineStarts}
-use Rattle.plan_cuts.specs.Plans.{StartsPass}
+use Rattle.plan_cuts.specs.Plans.{StartsPass, start_of}
 use Rattle.plan_core.proofs.Links.{In-in_links, out_links-In}
 use Rattle.plan_core.proofs.Lists.{count-cons}
 use Rattle.plan_core.specs.Members.{In}
@@ -27,7 +27,6 @@ use Rattle.plan_start.proofs.Areas.{MayLie}
 use Rattle.plan_start.proofs.Receiving.{step_early}
 use Rattle.plan_start.proofs.Starting.{seen_took}
 use Rattle.plan_cuts.proofs.Stepping.{annex-quiet, waiting_ack, waiting_fire, waiting_stray, lie-front, step_run_start}
-use Rattle.plan_cuts.specs.Plans.{start_of}
 use Rattle.plan_start.specs.Waiting.{annex_of, waiting_view, took}
 use Rattle.plan_machine.specs.Machine.Move.{Began, Heard, Strayed, Took}
 use Rattle.plan_view.proofs.StepArrive.{due-here}

@@ -1,4 +1,4 @@
--- Before and after its start, what a late interface has of its cells is that of a view.
+-- Before and after its start, what a rank's interface has of its cells is that of a view.
 use Rattle.plan_cuts.specs.System.{Histories, state_at}
 use Rattle.plan_cuts.specs.Plans.{start_of, system_of}
 use Rattle.plan_cuts.specs.Cut.{IsCut, is_stray}

@@ -13,7 +13,7 @@ use Rattle.plan_cuts.proofs.Origin.{ack_with}
 use Rattle.plan_core.specs.Plan.{Plan, link}
 use Rattle.plan_core.specs.Sound.{SoundPlan}
 use Rattle.plan_core.specs.Values.{Inputs}
-use Rattle.plan_view.specs.View.{Annex, view}
+use Rattle.plan_view.specs.View.{Annex, view, raise_go}
 use Rattle.plan_view.specs.Slots.{Slots, cell_ct}
 use Rattle.plan_view.specs.Deeds.{link_header, link_message}
 use Rattle.plan_calls.specs.Works.{number_of, Work, works}
@@ -30,7 +30,6 @@ use Rattle.plan_view.proofs.StepFire.{ready_work, step_fire, step_start}
 use Rattle.plan_view.proofs.StepArrive.{bits-job, due-here, step_ack, step_link, step_stray}
 use Rattle.plan_start.proofs.Sized.{sized_took}
 use Rattle.ptl_types.specs.declared.handles.Handle.{Handle}
-use Rattle.plan_view.specs.View.{raise_go}
 
 -- a start that raises the go counter alone: behind a rank's start it is of no matter what a start does
 abbrev pub go_up : Handle → Beginning

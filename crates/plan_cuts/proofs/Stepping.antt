@@ -1,4 +1,4 @@
--- The steps of a late interface: before its start, the start, and after it.
+-- The steps of a rank's interface: before its start, the start, and after it.
 use Rattle.std.proofs.Common.{if◌then◌else◌, ℕ, true, false, cond, ◌+◌, ◌*◌, ◌/◌, ◌%◌, ◌^◌, ◌≡◌, ◌≤◌, ◌<◌, List, [], ◌∷◌, ◌++◌, refl, length, ap, ap₂, ◌∙◌, sym, subst, inl, inr, arith, map, find, flat_map, Option, Some, None, append_assoc, ◌==◌, suc, zero}
 use Rattle.std.proofs.lemmas.Bool.{and_parts, and_left, eqb-false, false_from_ne_true, ne_eqb}
 use Rattle.std.proofs.lemmas.List.{map-append}

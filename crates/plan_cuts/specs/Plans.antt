@@ -18,7 +18,8 @@ use Rattle.plan_calls.specs.Lanes.{is_used_lane}
 use Rattle.plan_calls.specs.Works.{done_threshold}
 use Rattle.plan_view.specs.Slots.{Slots, cell_ct, counter_at, done_ct}
 use Rattle.plan_view.specs.Calls.{prepare}
-use Rattle.plan_start.specs.Start.{AreAccepted, cells_started, rank_started, rank_started-rank, rank_started-pending}
+use Rattle.plan_start.specs.Start.{AreAccepted, cells_started, rank_started}
+use Rattle.plan_start.specs.Keeps.{rank_started-rank, rank_started-pending}
 use Rattle.plan_cuts.specs.History.{Beginning, Local, after}
 use Rattle.plan_cuts.specs.History.Local.{Start, Receive, Fire}
 use Rattle.plan_cuts.specs.System.{Histories, System, state_at}
@@ -47,7 +48,7 @@ system_of p inputs slots = record {
   used = is_used_lane p;
 }
 
--- none of the appends of a start in this history is refused, nor its count
+-- at each start in this history every header that is taken is used, and none of the appends is refused, nor the count
 abbrev pub StartsPass : Plan → Slots → ℕ → State → List Local → Type 0
 StartsPass p k r s [] = Unit {0}
 StartsPass p k r s (Start ∷ es) =

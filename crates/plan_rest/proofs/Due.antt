@@ -1,4 +1,4 @@
--- In a cut of late histories, the next answer on a lane is awaited.
+-- In a cut, the next answer on a lane is awaited.
 use Rattle.plan_cuts.specs.System.{Histories, sent_by, state_at}
 use Rattle.plan_cuts.specs.Plans.{system_of}
 use Rattle.plan_cuts.specs.Cut.{IsCut, got_by, is_stray, owned}

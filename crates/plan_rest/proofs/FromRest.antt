@@ -1,4 +1,4 @@
--- Rest gives completion, for late histories.
+-- Rest gives completion.
 use Rattle.plan_cuts.specs.System.{Histories, sent_by, state_at}
 use Rattle.plan_cuts.specs.Plans.{IsComplete, start_of, system_of}
 use Rattle.plan_cuts.specs.Cut.{IsAtRest, IsCut, is_received_stray, is_stray, owned}

@@ -1,4 +1,4 @@
--- The laws of a cut of late histories in terms of counters and regions.
+-- The laws of a cut in terms of counters and regions.
 use Rattle.plan_cuts.specs.System.{Histories, state_at}
 use Rattle.plan_cuts.specs.Plans.{CounterReached, system_of}
 use Rattle.plan_cuts.specs.Cut.{IsCut}

@@ -7,5 +7,6 @@ pub mod Waves
 pub mod Probes
 pub mod Longer
 pub mod Fair
+pub mod Next
 pub mod Moments
 pub mod Receipts

@@ -1,21 +1,21 @@
 -- Moments of interleavings.
-use Rattle.plan_cuts.specs.System.{Histories, sent_by, state_at}
+use Rattle.plan_cuts.specs.System.{Histories, sent_by, state_at, System}
 use Rattle.plan_cuts.specs.Plans.{start_of, system_of}
 use Rattle.plan_cuts.specs.Cut.{IsAtRest, got_by, is_stray, owned}
 use Rattle.plan_view.specs.Slots.{Slots}
 use Rattle.plan_cuts.specs.Moment.{HasNoneHeld, HasWindow, IsEnabled, IsLocalStep, IsMoment, IsStill, IsStrayOf, IsStrayStep, IsStuck, Lanes, is_request_lane, sent_more}
-use Rattle.std.proofs.Common.{ℕ, suc, true, false, cond, not, ◌≡◌, ◌<◌, ◌≤◌, ◌==◌, List, [], ◌∷◌, ◌++◌, refl, length, ap, ap₂, ◌∙◌, sym, subst, inl, inr, filter, if◌then◌else◌, arith, eq-eqb, eqb-true, append-nil, append_assoc, Option, Some, None, count_by, zero}
+use Rattle.std.proofs.Common.{ℕ, suc, true, false, cond, not, ◌≡◌, ◌<◌, ◌≤◌, ◌==◌, List, [], ◌∷◌, ◌++◌, refl, length, ap, ap₂, ◌∙◌, sym, subst, inl, inr, filter, if◌then◌else◌, arith, eq-eqb, eqb-true, append-nil, append_assoc, Option, Some, None, count_by, zero, Bool}
 use Rattle.std.proofs.lemmas.Bool.{cases_Bool, cases_eq, and_parts, ne_eqb}
 use Rattle.std.proofs.lemmas.List.Elements.{filter-append}
 use Rattle.ni_model.specs.Conditions.{IsKept}
 use Rattle.ni_model.specs.Ready.{is_ready, fired}
 use Rattle.op_laws.specs.Combining.{CombineStarts, CombineSwaps}
 use Rattle.plan_cuts.proofs.Origin.{IsOf, after_of, fired_link}
-use Rattle.plan_cuts.specs.History.{Beginning, after, is_start, IsDue, Legal, Local, May, and_then, got, is_for, is_lane, made, made_by, sent, state}
+use Rattle.plan_cuts.specs.History.{Beginning, after, is_start, IsDue, Legal, Local, May, and_then, got, is_for, is_lane, made, made_by, sent, state, same_lane}
 use Rattle.plan_cuts.specs.History.Local.{Fire, Receive, Start}
 use Rattle.ni_model.specs.State.{State}
 use Rattle.plan_core.proofs.Links.{out_links-In}
-use Rattle.plan_core.proofs.Lists.{In-append_right, In-filter_cases}
+use Rattle.plan_core.proofs.Lists.{In-append_right, In-filter_cases, In-append_cases}
 use Rattle.plan_core.specs.Members.{In}
 use Rattle.plan_core.specs.Plan.{Plan, link}
 use Rattle.plan_core.specs.Sound.{AreInputsOf, SoundPlan}
@@ -33,20 +33,8 @@ use Rattle.ptl_types.specs.declared.headers.Lane.{Lane}
 use Rattle.ptl_types.specs.declared.headers.Lane.TheVariants.{Answer, Request}
 use Rattle.plan_rest.proofs.Fair.{Fair, fair}
 use Rattle.plan_cuts.proofs.Clean.{made-clean}
-use Rattle.plan_cuts.specs.History.{same_lane}
 use Rattle.ptl_types.specs.Kinds.{is_answer}
-use Rattle.plan_core.proofs.Lists.{In-append_cases}
-use Rattle.std.proofs.Common.{Bool}
-
--- a stray is no answer
-stray_asks : (m : Sent) → is_stray m ≡ true → is_lane Request m.header.kind ≡ true
-stray_asks m e = elim (cases_Bool (is_answer m.header.kind)) [ inl a ↦ absurd (both e (stray_request m a)) | inr a ↦ ap not a ]
-  where
-    both : {b : Bool} → b ≡ true → b ≡ false → ⊥
-    both e i = cc
-
-owned-own : (m : Sent) (ms : List Sent) → is_stray m ≡ false → owned (m ∷ ms) ≡ m ∷ owned ms
-owned-own m ms e = ap (λ b. if not b then m ∷ owned ms else owned ms) e
+use Rattle.plan_rest.proofs.Next.{next_held}
 
 owned-stray : (m : Sent) → is_stray m ≡ true → owned (m ∷ []) ≡ []
 owned-stray m e = ap (λ b. cond (not b) (m ∷ []) []) e
@@ -105,44 +93,10 @@ module _ (starts : CombineStarts) (p : Plan) (inputs : Inputs) (sound : SoundPla
       ∙ ap₂ (λ a b. a ++ b) (moment.lanes s d lane hs hd) (owned-all (sent_more (system_of p inputs slots) w step.r step.e s d lane) (λ m i. more_clean s d lane m i))
       ∙ sym (sent_next s d lane)
 
-  end_rank : (state_at (system_of p inputs slots) w step.r).rank ≡ step.r
-  end_rank = (shape starts p inputs sound fit slots w moment.cut step.r step.in_range).rank
-
-  -- what is received may be received
-  may_receive : (s : ℕ) (lane : Lane) (m : Sent) → s < p.ranks → (rest : List Sent) → held s step.r lane ≡ m ∷ rest → May (flag false (w step.r)) (state_at (system_of p inputs slots) w step.r) (Receive s lane m)
-  may_receive s lane m hs rest front = elim (cases_Bool (is_stray m)) [ inl e ↦ strange e | inr e ↦ own e ]
-    where
-      strange : is_stray m ≡ true → May (flag false (w step.r)) (state_at (system_of p inputs slots) w step.r) (Receive s lane m)
-      strange e =
-          let f = moment.strays s step.r lane m hs step.in_range (subst (λ v. In m v) (sym front) (inl refl)) e in (
-            f.source,
-            f.target ∙ sym end_rank,
-            subst (λ l. is_lane l m.header.kind ≡ true) (sym f.asks) (stray_asks m e),
-            f.kept,
-            subst (λ l. IsDue (state_at (system_of p inputs slots) w step.r) l m) (sym f.asks) tt,
-          )
-
-      own : is_stray m ≡ false → May (flag false (w step.r)) (state_at (system_of p inputs slots) w step.r) (Receive s lane m)
-      own e = (f.source, f.target ∙ sym end_rank, f.kind, f.kept, due_now lane whole)
-        where
-          whole : got_by w step.r s lane ++ m ∷ owned rest ≡ sent_by (system_of p inputs slots) w s step.r lane
-          whole =
-              ap (λ v. got_by w step.r s lane ++ v) (sym (owned-own m rest e))
-              ∙ sym (filter-append (λ x. not (is_stray x)) (got (w step.r) s lane) (m ∷ rest))
-              ∙ ap (λ v. owned (got (w step.r) s lane ++ v)) (sym front)
-              ∙ moment.lanes s step.r lane hs step.in_range
-
-          f : Fair starts p inputs sound fit swaps slots w moment.cut s step.r lane m
-          f = fair starts p inputs sound fit swaps slots w moment.cut s step.r lane m hs step.in_range (subst (λ v. In m v) whole (In-append_right m (got_by w step.r s lane) (m ∷ owned rest) (inl refl)))
-
-          due_now : (lane : Lane) → got_by w step.r s lane ++ m ∷ owned rest ≡ sent_by (system_of p inputs slots) w s step.r lane → IsDue (state_at (system_of p inputs slots) w step.r) lane m
-          due_now Request q = tt
-          due_now Answer q = next_answer_due starts p inputs sound fit slots w moment.cut step.r s m (owned rest) step.in_range hs q
-
   may_step : (e : Local) → IsEnabled (system_of p inputs slots) w held step.r e → May (flag false (w step.r)) (state_at (system_of p inputs slots) w step.r) e
   may_step Start enabled = not_begun (w step.r) enabled
   may_step (Fire t) enabled = enabled
-  may_step (Receive s lane m) enabled = may_receive s lane m enabled.0 enabled.1.0 enabled.1.1
+  may_step (Receive s lane m) enabled = next_held starts p inputs sound fit swaps slots w held moment (flag false (w step.r)) step.r s lane m enabled.1.0 step.in_range enabled.0 enabled.1.1
 
   abbrev legal_of : ℕ → List Local → Type 0
   legal_of q es = Legal (start_of p (slots q) q) false (prepare p inputs (slots q) q) es
@@ -247,6 +201,27 @@ first_moment p inputs slots = record {
   lanes = λ s d lane hs hd. refl;
   strays = λ s d lane m hs hd i e. absurd i;
 }
+
+-- no step but a stray's is enabled exactly where all is still
+pub none_still : (k : System) (w : Histories) (held : Lanes) → ((r : ℕ) (e : Local) → r < k.count → IsEnabled k w held r e → ⊥) → IsStill k w held
+none_still k w held none = record {
+  started = λ r hr. more (count_by is_start (w r)) (λ e. none r Start hr e);
+  empty = λ s d lane hs hd. at s d lane hs hd (held s d lane) refl;
+  idle = λ r t hr. elim (cases_Bool (is_ready (state_at k w r) t)) [ inr e ↦ e | inl e ↦ absurd (none r (Fire t) hr e) ];
+}
+  where
+    more : (n : ℕ) → (n ≡ 0 → ⊥) → 0 < n
+    more zero h = absurd (h refl)
+    more (suc n) h = omega arith
+
+    at : (s d : ℕ) (lane : Lane) → s < k.count → d < k.count → (ms : List Sent) → held s d lane ≡ ms → ms ≡ []
+    at s d lane hs hd [] e = refl
+    at s d lane hs hd (m ∷ later) e = absurd (none d (Receive s lane m) hd (hs, (later, e)))
+
+pub still_none : (k : System) (w : Histories) (held : Lanes) → IsStill k w held → (r : ℕ) (e : Local) → r < k.count → IsEnabled k w held r e → ⊥
+still_none k w held h r Start hr e = let q = h.started r hr in absurd (omega (arith, q, e))
+still_none k w held h r (Fire t) hr e = let q = h.idle r t hr in cc
+still_none k w held h r (Receive s lane m) hr e = let q : m ∷ e.1.0 ≡ [] = sym e.1.1 ∙ h.empty s r lane e.0 hr in cc
 
 -- a still moment is at rest
 pub still_rest : (p : Plan) (inputs : Inputs) (slots : ℕ → Slots) (w : Histories) (held : Lanes) → IsMoment (system_of p inputs slots) w held → IsStill (system_of p inputs slots) w held → IsAtRest (system_of p inputs slots) w

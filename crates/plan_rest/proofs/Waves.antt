@@ -1,10 +1,10 @@
 -- One wave of probes.
-use Rattle.plan_cuts.specs.System.{Histories, sent_by, state_at}
+use Rattle.plan_cuts.specs.System.{Histories, sent_by, state_at, System}
 use Rattle.plan_cuts.specs.Plans.{start_of, system_of}
 use Rattle.plan_cuts.specs.Cut.{IsAtRest, IsCut, IsPrefixOf, got_by, is_stray}
 use Rattle.plan_view.specs.Slots.{Slots}
 use Rattle.plan_cuts.specs.Wave.{HasNoStray}
-use Rattle.std.proofs.Common.{ℕ, true, false, ◌≡◌, ◌<◌, List, [], ◌++◌, length, ap, ◌∙◌, sym, subst, inl, inr, filter, append-nil, append_assoc}
+use Rattle.std.proofs.Common.{ℕ, true, false, ◌≡◌, ◌<◌, List, [], ◌++◌, length, ap, ◌∙◌, sym, subst, inl, inr, filter, append-nil, append_assoc, ◌≤◌, ◌⊎◌, count_by, arith}
 use Rattle.std.proofs.lemmas.Bool.{cases_lt}
 use Rattle.std.proofs.lemmas.List.Elements.{filter-append}
 use Rattle.ni_model.specs.State.{State}
@@ -15,18 +15,13 @@ use Rattle.plan_core.specs.Plan.{Plan}
 use Rattle.plan_core.specs.Sound.{AreInputsOf, SoundPlan}
 use Rattle.plan_core.specs.Values.{Inputs}
 use Rattle.plan_cuts.proofs.Fronts.{OnlyReceipts, flag-started, got-append, legal-back, legal-front, made-append, nil-left, nil-right, no-answers, no-requests, nothing-behind, nothing-got, only_receipts, owned-all, same-front}
-use Rattle.plan_cuts.specs.History.{Beginning, Legal, Local, got, is_for, made, sent}
+use Rattle.plan_cuts.specs.History.{Beginning, Legal, Local, got, is_for, made, sent, is_start}
 use Rattle.plan_rest.proofs.FromRest.{completes}
 use Rattle.plan_view.specs.Calls.{prepare}
 use Rattle.ptl_types.specs.Messages.{Sent}
 use Rattle.ptl_types.specs.declared.headers.Lane.{Lane}
 use Rattle.ptl_types.specs.declared.headers.Lane.TheVariants.{Answer, Request}
-use Rattle.plan_cuts.specs.System.{System}
-use Rattle.std.proofs.Common.{◌≤◌, ◌⊎◌, inl, inr, count_by}
-use Rattle.plan_cuts.specs.History.{is_start}
 use Rattle.ni_model.specs.Ready.{is_ready}
-use Rattle.std.proofs.Common.{false}
-use Rattle.std.proofs.Common.{arith}
 
 -- a wave that looks at every lane
 pub record IsWholeWave (k : System) (v w : Histories) : Type 0 where

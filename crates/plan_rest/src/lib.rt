@@ -3,25 +3,29 @@
 //! included; of one wave of probes; and how much the lanes and the ranks of a cut carry.
 #![tactic(auto)]
 
-ghost use Rattle.std.specs.Prelude.{ℕ, Bool, true, false, if◌then◌else◌, ◌+◌, ◌<◌, ◌≤◌, ◌≡◌, count_by, sum_by, IsTrue, List, [], ◌∷◌, ◌++◌, length};
+ghost use Rattle.std.specs.Prelude.{ℕ, suc, Bool, true, false, None, ◌↔◌, if◌then◌else◌, ◌+◌, ◌<◌, ◌≤◌, ◌≡◌, count_by, sum_by, IsTrue, List, [], ◌∷◌, ◌++◌, length};
 ghost use Rattle.ptl_types.specs.declared.headers.Lane.{Lane};
 ghost use Rattle.ptl_types.specs.declared.headers.Lane.TheVariants.{Answer};
 ghost use Rattle.ptl_types.specs.Messages.{Sent};
+ghost use Rattle.ptl_types.specs.declared.calls.Outcome.TheVariants.{Dropped};
 ghost use Rattle.ni_model.specs.Conditions.{IsKept};
+ghost use Rattle.ni_model.specs.Counts.{one_more};
+ghost use Rattle.ni_model.specs.State.{delivers, target};
 ghost use Rattle.plan_core.specs.Members.{In};
 ghost use Rattle.plan_core.specs.Plan.{Plan, cell, link};
 ghost use Rattle.plan_core.specs.Sound.{SoundPlan, AreInputsOf};
 ghost use Rattle.plan_core.specs.Values.{Inputs, value};
 ghost use Rattle.plan_calls.specs.Areas.{links_to};
 ghost use Rattle.plan_calls.specs.Lanes.{is_used_lane, lane_messages};
-ghost use Rattle.plan_calls.specs.Works.{sends_of};
+ghost use Rattle.plan_calls.specs.Works.{sends_of, works};
 ghost use Rattle.plan_machine.specs.Machine.{Leads};
 ghost use Rattle.plan_machine.specs.Rounds.{IsRounds};
 ghost use Rattle.plan_view.specs.Slots.{Slots};
 ghost use Rattle.plan_view.specs.Calls.{prepare};
 ghost use Rattle.plan_cuts.specs.Barrier.{IsBarrierKept};
 ghost use Rattle.plan_cuts.specs.Cut.{IsCut, IsAtRest, got_by, is_received_stray, is_stray};
-ghost use Rattle.plan_cuts.specs.History.{Local, IsDue, is_lane};
+ghost use Rattle.plan_cuts.specs.History.{Local, IsDue, May, is_lane};
+ghost use Rattle.plan_cuts.specs.History.Local.{Receive};
 ghost use Rattle.plan_cuts.specs.Lanes.{is_receipt, received_bytes};
 ghost use Rattle.plan_cuts.specs.Moment.{HasNoneHeld, IsEnabled, IsMoment, IsStep, IsStill, IsStuck, Lanes};
 ghost use Rattle.plan_cuts.specs.Plans.{CounterReached, IsComplete, StartsPass, cell_bytes, system_of};
@@ -73,6 +77,34 @@ pub fn next_answer()
         (r s : ℕ) (m : Sent) (later : List Sent) → r < plan.ranks → s < plan.ranks →
         got_by world r s Answer ++ m ∷ later ≡ sent_by (system_of plan inputs slots) world s r Answer →
         IsDue (state_at (system_of plan inputs slots) world r) Answer m }
+{}
+
+/// The next message of any lane may be received: its source, its target, a kind of its lane, what messages keep, and, on an answer
+/// lane, that an answer is awaited. In a cut of a message of the job, at a moment of whatever is held, strays too.
+pub fn next_message()
+    ensures of_a_cut { (plan : Plan) (inputs : Inputs) (slots : ℕ → Slots) (world : Histories) →
+        SoundPlan plan (length inputs) → AreInputsOf plan inputs →
+        IsCut (system_of plan inputs slots) world →
+        (r s : ℕ) (lane : Lane) (m : Sent) (later : List Sent) (begun : Bool) → r < plan.ranks → s < plan.ranks →
+        got_by world r s lane ++ m ∷ later ≡ sent_by (system_of plan inputs slots) world s r lane →
+        May begun (state_at (system_of plan inputs slots) world r) (Receive s lane m) }
+    ensures of_a_moment { (plan : Plan) (inputs : Inputs) (slots : ℕ → Slots) (world : Histories) (held : Lanes) →
+        SoundPlan plan (length inputs) → AreInputsOf plan inputs →
+        IsMoment (system_of plan inputs slots) world held →
+        (r s : ℕ) (lane : Lane) (m : Sent) (later : List Sent) (begun : Bool) → r < plan.ranks → s < plan.ranks →
+        held s r lane ≡ m ∷ later →
+        May begun (state_at (system_of plan inputs slots) world r) (Receive s lane m) }
+{}
+
+/// Whatever stray comes to a rank of a cut, whether or not it has started, is dropped without an answer: the drop register rises by
+/// one, as far as it can, and nothing else of the interface changes.
+pub fn strays_are_dropped()
+    ensures { (plan : Plan) (inputs : Inputs) (slots : ℕ → Slots) (world : Histories) →
+        SoundPlan plan (length inputs) → AreInputsOf plan inputs →
+        IsCut (system_of plan inputs slots) world → (r : ℕ) → r < plan.ranks →
+        (m : Sent) → is_stray m ≡ true →
+        (let s = state_at (system_of plan inputs slots) world r in
+        target s m ≡ delivers (record s { drops = one_more s.drops }) Dropped None) }
 {}
 
 /// In a cut, what a rank sent to another on a lane has that source and that target and a kind of that lane, keeps what messages
@@ -128,7 +160,8 @@ pub fn lanes_of_a_cut()
 {}
 
 /// In a cut a rank receives, beside strays, at most the messages of the links to it and, where the plan is remote, an answer for
-/// each message that it sends; and at most the bytes of the links to it.
+/// each message that it sends; it makes at most so many steps beside a start and its firings; and it receives at most the bytes of
+/// the links to it.
 pub fn receipts_of_a_cut()
     ensures number { (plan : Plan) (inputs : Inputs) (slots : ℕ → Slots) (world : Histories) →
         SoundPlan plan (length inputs) → AreInputsOf plan inputs →
@@ -136,13 +169,20 @@ pub fn receipts_of_a_cut()
         count_by is_receipt (world r) ≤
         count_by is_received_stray (world r) +
         (length (links_to plan r) + (if plan.remote then sends_of plan r else 0)) }
+    ensures steps { (plan : Plan) (inputs : Inputs) (slots : ℕ → Slots) (world : Histories) →
+        SoundPlan plan (length inputs) → AreInputsOf plan inputs →
+        IsCut (system_of plan inputs slots) world → (r : ℕ) → r < plan.ranks →
+        length (world r) ≤
+        suc (length (works plan r)) + (count_by is_received_stray (world r) +
+        (length (links_to plan r) + (if plan.remote then sends_of plan r else 0))) }
     ensures bytes { (plan : Plan) (inputs : Inputs) (slots : ℕ → Slots) (world : Histories) →
         SoundPlan plan (length inputs) → AreInputsOf plan inputs →
         IsCut (system_of plan inputs slots) world → (r : ℕ) → r < plan.ranks →
         received_bytes (world r) ≤ sum_by (λ l. (link plan l).length) (links_to plan r) }
 {}
 
-/// In a cut none of the appends of a start is refused, nor the count of its go counter.
+/// In a cut each header that a start takes is used and lies in the region, none of its appends is refused, nor the count of its
+/// go counter.
 pub fn starts_pass()
     ensures { (plan : Plan) (inputs : Inputs) (slots : ℕ → Slots) (world : Histories) →
         SoundPlan plan (length inputs) → AreInputsOf plan inputs →
@@ -161,23 +201,23 @@ pub fn each_moment()
         IsMoment (system_of plan inputs slots) world held →
         IsStep (system_of plan inputs slots) world held next later →
         IsMoment (system_of plan inputs slots) next later }
-    ensures still { (plan : Plan) (inputs : Inputs) (slots : ℕ → Slots) (world : Histories)
+    ensures rest { (plan : Plan) (inputs : Inputs) (slots : ℕ → Slots) (world : Histories)
         (held : Lanes) →
         IsMoment (system_of plan inputs slots) world held →
-        IsStill (system_of plan inputs slots) world held →
+        ((r : ℕ) (e : Local) → r < plan.ranks →
+        IsEnabled (system_of plan inputs slots) world held r e → IsTrue false) →
         IsAtRest (system_of plan inputs slots) world }
     ensures converse { (plan : Plan) (inputs : Inputs) (slots : ℕ → Slots) (world : Histories)
         (held : Lanes) →
         IsMoment (system_of plan inputs slots) world held →
         HasNoneHeld (system_of plan inputs slots) held →
         IsAtRest (system_of plan inputs slots) world →
-        IsStill (system_of plan inputs slots) world held }
-    ensures none_enabled { (plan : Plan) (inputs : Inputs) (slots : ℕ → Slots) (world : Histories)
+        (r : ℕ) (e : Local) → r < plan.ranks →
+        IsEnabled (system_of plan inputs slots) world held r e → IsTrue false }
+    ensures still { (plan : Plan) (inputs : Inputs) (slots : ℕ → Slots) (world : Histories)
         (held : Lanes) →
-        SoundPlan plan (length inputs) → IsMoment (system_of plan inputs slots) world held →
-        ((r : ℕ) (e : Local) → r < plan.ranks →
-        IsEnabled (system_of plan inputs slots) world held r e → IsTrue false) →
-        IsAtRest (system_of plan inputs slots) world }
+        (IsStill (system_of plan inputs slots) world held ↔ ((r : ℕ) (e : Local) → r < plan.ranks →
+        IsEnabled (system_of plan inputs slots) world held r e → IsTrue false)) }
 {}
 
 /// Under a window of at least one message a moment at which no step is possible is at rest, strays or none.

@@ -4,3 +4,4 @@ pub mod Areas
 pub mod Starting
 pub mod Receiving
 pub mod Unrefused
+pub mod Own

@@ -1,4 +1,4 @@
--- A late start is, to the plan's machine, the start and the landing of each early message.
+-- A start is, to the plan's machine, the start and the landing of each message that came before.
 use Rattle.std.proofs.Common.{ℕ, zero, suc, Bool, true, false, cond, not, ◌&&◌, ◌+◌, ◌-◌, ◌*◌, ◌%◌, ◌^◌, ◌≡◌, ◌≤◌, ◌<◌, ◌⊎◌, ◌==◌, nat_le, List, [], ◌∷◌, ◌++◌, refl, length, ap, ap₂, ◌∙◌, sym, subst, inl, inr, arith, map, filter, flat_map, Option, Some, None, eqb-true, eq-eqb, count_by, append-nil, append_assoc, le-leb, if◌then◌else◌, add-zero, zero-add, min}
 use Rattle.std.proofs.lemmas.Bool.{ne_eqb, and_from, false_from_ne_true, cases_eq, not-true, and_parts, leb-true}
 use Rattle.std.proofs.lemmas.List.Elements.{filter-append}
@@ -25,7 +25,7 @@ use Rattle.plan_start.proofs.Sized.{sized_took}
 use Rattle.plan_calls.specs.Areas.{comes_to, links_to, longest_to, longest, region_length}
 use Rattle.plan_start.specs.Waiting.{Early, arrived_of, early_came, partly, stored, stored_as, took}
 use Rattle.plan_calls.specs.Calls.{own_cell}
-use Rattle.plan_start.specs.Start.{AreAccepted, bring, bring_all, brought, brought_by, cell_started, cells_started, fits_elements, go_raised, is_used, lies_in, rank_started, with_brought, entry_of as started_entry}
+use Rattle.plan_start.specs.Start.{AllUsed, AreAccepted, bring, bring_all, brought, brought_by, cell_started, cells_started, fits_elements, go_raised, is_used, lies_in, rank_started, with_brought, entry_of as started_entry}
 use Rattle.plan_view.specs.Slots.{counter_at, Slots, cell_ct, done_ct}
 use Rattle.ni_model.specs.Calls.{ends_by, me_append}
 use Rattle.ni_model.specs.Lists.{entries_in}
@@ -230,6 +230,19 @@ module _ (starts : CombineStarts) (annex : Annex) (p : Plan) (inputs : Inputs) (
       (and_from _ _ (le-leb _ _ (in-longest p (links_to p r) x.came.link i))
       (elements-fit (cell p (link p x.came.link).target).ty (link p x.came.link).length (cell p (link p x.came.link).target).op (atomic-whole p inputs sound r x.came.link h)))
 
+  -- an early message's bytes lie in the region
+  lies-early : (x : Early) → IsEarly annex p r x → (g : Seen) → Sized p inputs g → lies_in (own_cell p r (link p x.came.link).target) (arrived_of p x).header (length (view annex p inputs s r g).memory) ≡ true
+  lies-early x f g sized =
+      let w = sound.links_sound x.came.link f.here.known in
+      let own_c : In (link p x.came.link).target (own p r) = In-own p r (link p x.came.link).target w.cells f.here.here in
+      let flat_size = flat-length p (λ d. content p g.came d (initial p inputs d)) (own p r) (λ d i. sized d (own-In p r d i).0) in
+      let inside = within_flat (cell_length p) (λ d. content p g.came d (initial p inputs d)) (own p r) (λ d i. sized d (own-In p r d i).0) (link p x.came.link).target own_c in
+      let far = f.inside in
+      let total = length-append (flat_map (λ d. content p g.came d (initial p inputs d)) (own p r)) annex.tail in
+      and_from _ _
+      (le-leb (start_in p (own p r) (link p x.came.link).target + (cell p (link p x.came.link).target).length) (length (view annex p inputs s r g).memory) (omega (arith, inside, total)))
+      (le-leb (x.place + (link p x.came.link).length) (length (view annex p inputs s r g).memory) (omega (arith, far, total, flat_size)))
+
   bring-memory : (x : Early) → IsEarly annex p r x → (g : Seen) → Sized p inputs g
       → bring (longest_to p r) (own_cell p r (link p x.came.link).target) (arrived_of p x).header (view annex p inputs s r g).memory
       ≡ (view annex p inputs s r (note p g (Took x.came.link x.came.bytes))).memory
@@ -251,13 +264,7 @@ module _ (starts : CombineStarts) (annex : Annex) (p : Plan) (inputs : Inputs) (
       let size_c = sized (link p x.came.link).target w.cells in
       let fit = w.within_target in
       let flat_size = flat-length p (λ d. content p g.came d (initial p inputs d)) (own p r) (λ d i. sized d (own-In p r d i).0) in
-      let inside = within_flat (cell_length p) (λ d. content p g.came d (initial p inputs d)) (own p r) (λ d i. sized d (own-In p r d i).0) (link p x.came.link).target own_c in
-      let far = f.inside in
-      let total = length-append (flat_map (λ d. content p g.came d (initial p inputs d)) (own p r)) annex.tail in
-      let lies : lies_in (own_cell p r (link p x.came.link).target) (arrived_of p x).header (length mem) ≡ true =
-      and_from _ _
-      (le-leb (start_in p (own p r) (link p x.came.link).target + (cell p (link p x.came.link).target).length) (length mem) (omega (arith, inside, total)))
-      (le-leb (x.place + (link p x.came.link).length) (length mem) (omega (arith, far, total, flat_size))) in
+      let lies = lies-early x f g sized in
       let is_old : part (start_in p (own p r) (link p x.came.link).target + off) n mem ≡ part off (length bs) now =
       part_flat (cell_length p) (λ d. content p g.came d (initial p inputs d)) (own p r) (λ d i. sized d (own-In p r d i).0) (link p x.came.link).target off n own_c fit annex.tail
       ∙ ap (λ m. part off m now) (sym e) in
@@ -388,10 +395,22 @@ module _ (starts : CombineStarts) (annex : Annex) (p : Plan) (inputs : Inputs) (
 
   -- one cell: its bytes are brought, and its append isn't refused
   pub record StepsCell (c : ℕ) (g : Seen) (xs : List Early) (es : List Linked) (n : ℕ) : Type 0 where
+    pub used : AllUsed (longest_to p r) (own_cell p r c) (length (view annex p inputs s r g).memory) (found_in 0 (started_entry (counter_at s (own p r) c) (own_cell p r c)) (map (arrived_of p) xs))
     pub accepted : append_fault 0 (started_entry (counter_at s (own p r) c) (own_cell p r c)) (parts_of (with_brought (longest_to p r) (counter_at s (own p r) c) (own_cell p r c) (partly annex p inputs s r g xs es n))) ≡ None
     pub next : cell_started (longest_to p r) s.me (counter_at s (own p r) c) (own_cell p r c) (partly annex p inputs s r g xs es n)
         ≡ partly annex p inputs s r (took g (map early_came (here_of c xs))) (left_of c xs) (es ++ cell_linked n c ∷ []) (n + 1)
     pub sized : Sized p inputs (took g (map early_came (here_of c xs)))
+
+  all_used : (c : ℕ) (xs : List Early) → ((x : Early) → In x xs → IsEarly annex p r x) → ((x : Early) → In x xs → (link p x.came.link).target ≡ c) → (g : Seen) → Sized p inputs g
+      → AllUsed (longest_to p r) (own_cell p r c) (length (view annex p inputs s r g).memory) (map (arrived_of p) xs)
+  all_used c [] facts here g sized = tt
+  all_used c (x ∷ xs) facts here g sized =
+      let f = facts x (inl refl) in
+      let t = here x (inl refl) in (
+        subst (λ d. is_used (longest_to p r) (own_cell p r d) (arrived_of p x).header ≡ true) t (is_used-early x f.here),
+        subst (λ d. lies_in (own_cell p r d) (arrived_of p x).header (length (view annex p inputs s r g).memory) ≡ true) t (lies-early x f g sized),
+        all_used c xs (λ y i. facts y (inr i)) (λ y i. here y (inr i)) g sized,
+      )
 
   pub step_cell : (c : ℕ) → In c (own p r) → (xs : List Early) → ((x : Early) → In x xs → IsEarly annex p r x) → (g : Seen) → Sized p inputs g → (es : List Linked) (n : ℕ)
       → length es < length (own p r) → n < top → StepsCell c g xs es n
@@ -407,6 +426,9 @@ module _ (starts : CombineStarts) (annex : Annex) (p : Plan) (inputs : Inputs) (
       let fits = in_region c own_c (took g (map early_came (here_of c xs))) b.sized in
       let fault = fault_at c own_c g (map (arrived_of p) xs) es n (view annex p inputs s r (took g (map early_came (here_of c xs)))).memory fits few stamps in
       record {
+        used = subst (λ a. AllUsed (longest_to p r) (own_cell p r c) (length (view annex p inputs s r g).memory) (found_in 0 a (map (arrived_of p) xs))) (sym e)
+            (subst (λ t. AllUsed (longest_to p r) (own_cell p r c) (length (view annex p inputs s r g).memory) t) (sym found)
+            (all_used c (here_of c xs) (λ x j. facts x (of_here c xs x j).0) (λ x j. (of_here c xs x j).1) g sized));
         accepted =
             ap (λ a. append_fault 0 a (parts_of (filled_by g (map (arrived_of p) xs) es n (bring_all (longest_to p r) (own_cell p r c) (found_in 0 a (map (arrived_of p) xs)) (view annex p inputs s r g).memory)))) e
             ∙ ap (λ m. append_fault 0 (appended_entry p s c) (parts_of (filled_by g (map (arrived_of p) xs) es n m))) bytes
@@ -454,7 +476,7 @@ module _ (starts : CombineStarts) (annex : Annex) (p : Plan) (inputs : Inputs) (
       let l = length-append es (cell_linked n c ∷ []) in
       let rest = step_cells cs (λ d i. ours d (inr i)) (left_of c xs) (λ x i. facts x (of_left c xs x i)) (took g (map early_came (here_of c xs))) one.sized (es ++ cell_linked n c ∷ []) (n + 1) (omega (arith, l)) (omega arith) in
       record {
-        accepted = (one.accepted, subst (AreAccepted (longest_to p r) s (own p r) (map (own_cell p r) cs)) (sym one.next) rest.accepted);
+        accepted = (one.used, one.accepted, subst (AreAccepted (longest_to p r) s (own p r) (map (own_cell p r) cs)) (sym one.next) rest.accepted);
         next =
             ap (cells_started (longest_to p r) s (own p r) (map (own_cell p r) cs)) one.next
             ∙ rest.next

@@ -1,23 +1,20 @@
 -- The start of a rank: the bytes that came before it are brought into the cells, the cells' entries are appended, and the go
 -- counter rises.
-use Rattle.std.specs.Prelude.{refl, ℕ, Bool, true, ◌&&◌, ◌==◌, nat_le, ◌+◌, ◌%◌, ◌≡◌, List, Option, Some, None, [], ◌∷◌, if◌then◌else◌, length}
+use Rattle.std.specs.Prelude.{ℕ, Bool, true, ◌&&◌, ◌==◌, nat_le, ◌+◌, ◌%◌, ◌≡◌, List, Option, Some, None, [], ◌∷◌, if◌then◌else◌, length}
 use Rattle.ptl_types.specs.declared.handles.Handle.{Handle}
 use Rattle.ptl_types.specs.declared.elements.AtomicOp.{AtomicOp}
 use Rattle.ptl_types.specs.declared.elements.ElemType.{ElemType}
 use Rattle.ptl_types.specs.declared.entries.Entry.{Entry}
 use Rattle.ptl_types.specs.declared.entries.UnexpectedHeader.{UnexpectedHeader}
 use Rattle.ptl_types.specs.declared.entries.List.TheVariants.{Priority}
-use Rattle.ptl_types.specs.declared.calls.NiFault.{NiFault}
 use Rattle.ptl_types.specs.Operations.{bytes_of}
 use Rattle.ptl_types.specs.Elements.{part, written, combined}
 use Rattle.ni_model.specs.declared.Noted.{Noted}
 use Rattle.ni_model.specs.Headers.{found_in}
 use Rattle.ni_model.specs.Append.{append_fault}
-use Rattle.ni_model.specs.State.{State, Operations, parts_of}
-use Rattle.ni_model.specs.Tables.{changed}
-use Rattle.ni_model.specs.Counts.{successes, plus}
-use Rattle.ni_model.specs.Refusals.{ct_inc_fault}
-use Rattle.ni_model.specs.Calls.{ends_by, me_append, ct_inc}
+use Rattle.ni_model.specs.State.{State, parts_of}
+use Rattle.ni_model.specs.Counts.{successes}
+use Rattle.ni_model.specs.Calls.{me_append, ct_inc}
 use Rattle.plan_view.specs.Slots.{Slots, counter_at}
 use Rattle.plan_view.specs.Calls.{cell_entry}
 use Rattle.plan_calls.specs.declared.OwnCell.{OwnCell}
@@ -33,9 +30,11 @@ abbrev pub fits_elements : Option AtomicOp → ElemType → ℕ → Bool
 fits_elements None ty n = true
 fits_elements (Some o) ty n = n % bytes_of ty == 0
 
--- what a header brought is used: it lies within the cell, is no longer than the longest message of the plan to this rank, and is of whole elements
+-- what a header brought is used: it lies within the cell, is no longer than the longest message of the plan to this rank, and is of whole
+-- elements; the bytes of others are passed over
 abbrev pub is_used : ℕ → OwnCell → UnexpectedHeader → Bool
-is_used longest c u = nat_le (u.header.offset + u.delivered) c.length && (nat_le u.delivered longest && fits_elements c.op c.ty u.delivered)
+is_used longest c u =
+    nat_le (u.header.offset + u.delivered) c.length && (nat_le u.delivered longest && fits_elements c.op c.ty u.delivered)
 
 -- the bytes of the cell, once those that came are written or combined
 abbrev pub brought_by : Option AtomicOp → ElemType → List ℕ → List ℕ → List ℕ
@@ -84,47 +83,19 @@ go_raised go s = (ct_inc go (successes 1) s).state
 abbrev pub rank_started : ℕ → Slots → List ℕ → ℕ → List OwnCell → State → State
 rank_started longest k cells go own s = go_raised (counter_at k cells go) (cells_started longest k cells own s)
 
--- ---- it leaves the rank and the pending operations as they are
+-- ---- what holds of each start of a plan's ranks
 
-pub ends_by-same : {A B : Type 0} (part_of : State → B) (o : Option NiFault) (old new : State) (x : A) (b : B) → part_of old ≡ b → part_of new ≡ b → part_of (ends_by o old new x).state ≡ b
-ends_by-same part_of None old new x b e n = n
-ends_by-same part_of (Some fault) old new x b e n = e
+-- what each of these headers brought is used, and lies in a region of this size
+abbrev pub AllUsed : ℕ → OwnCell → ℕ → List Noted → Type 0
+AllUsed longest c size [] = Unit {0}
+AllUsed longest c size (a ∷ hs) =
+    (is_used longest c a.header ≡ true) × (lies_in c a.header size ≡ true) × AllUsed longest c size hs
 
-pub cell_started-rank : (longest : ℕ) (f : ℕ → ℕ) (ct : Handle) (c : OwnCell) (s : State) (b : ℕ) → s.rank ≡ b → (cell_started longest f ct c s).rank ≡ b
-unfolding cell_started
-cell_started-rank longest f ct c s b e = ends_by-same (λ (v : State). v.rank) (append_fault 0 (entry_of ct c) (parts_of (with_brought longest ct c s))) (with_brought longest ct c s) _ _ b e e
-
-pub cell_started-pending : (longest : ℕ) (f : ℕ → ℕ) (ct : Handle) (c : OwnCell) (s : State) (b : Operations) → s.pending ≡ b → (cell_started longest f ct c s).pending ≡ b
-unfolding cell_started
-cell_started-pending longest f ct c s b e = ends_by-same (λ (v : State). v.pending) (append_fault 0 (entry_of ct c) (parts_of (with_brought longest ct c s))) (with_brought longest ct c s) _ _ b e e
-
-pub cells_started-rank : (longest : ℕ) (k : Slots) (cells : List ℕ) (cs : List OwnCell) (s : State) (b : ℕ) → s.rank ≡ b → (cells_started longest k cells cs s).rank ≡ b
-cells_started-rank longest k cells [] s b e = e
-cells_started-rank longest k cells (c ∷ cs) s b e = cells_started-rank longest k cells cs (cell_started longest k.me (counter_at k cells c.number) c s) b (cell_started-rank longest k.me (counter_at k cells c.number) c s b e)
-
-pub cells_started-pending : (longest : ℕ) (k : Slots) (cells : List ℕ) (cs : List OwnCell) (s : State) (b : Operations) → s.pending ≡ b → (cells_started longest k cells cs s).pending ≡ b
-cells_started-pending longest k cells [] s b e = e
-cells_started-pending longest k cells (c ∷ cs) s b e = cells_started-pending longest k cells cs (cell_started longest k.me (counter_at k cells c.number) c s) b (cell_started-pending longest k.me (counter_at k cells c.number) c s b e)
-
-pub go_raised-same : {B : Type 0} (part_of : State → B) (go : Handle) (s : State) (b : B) → part_of s ≡ b → part_of (record s { cts = changed go (plus (successes 1)) s.cts }) ≡ b → part_of (go_raised go s) ≡ b
-go_raised-same part_of go s b e n = ends_by-same part_of (ct_inc_fault go (successes 1) s.cts) s _ tt b e n
-
--- the whole start
-pub rank_started-rank : (longest : ℕ) (k : Slots) (cells : List ℕ) (go : ℕ) (own : List OwnCell) (s : State) → (rank_started longest k cells go own s).rank ≡ s.rank
-rank_started-rank longest k cells go own s =
-    go_raised-same (λ (v : State). v.rank) (counter_at k cells go) (cells_started longest k cells own s) s.rank
-    (cells_started-rank longest k cells own s s.rank refl) (cells_started-rank longest k cells own s s.rank refl)
-
-pub rank_started-pending : (longest : ℕ) (k : Slots) (cells : List ℕ) (go : ℕ) (own : List OwnCell) (s : State) → (rank_started longest k cells go own s).pending ≡ s.pending
-rank_started-pending longest k cells go own s =
-    go_raised-same (λ (v : State). v.pending) (counter_at k cells go) (cells_started longest k cells own s) s.pending
-    (cells_started-pending longest k cells own s s.pending refl) (cells_started-pending longest k cells own s s.pending refl)
-
--- ---- none of the appends of a start is refused
-
--- each where it is made
+-- cell by cell: each header that the cell's entry finds is used, and the append isn't refused
 abbrev pub AreAccepted : ℕ → Slots → List ℕ → List OwnCell → State → Type 0
 AreAccepted longest k cells [] s = Unit {0}
 AreAccepted longest k cells (c ∷ cs) s =
-    (append_fault 0 (entry_of (counter_at k cells c.number) c) (parts_of (with_brought longest (counter_at k cells c.number) c s)) ≡ None)
+    AllUsed longest c (length s.memory) (found_in 0 (entry_of (counter_at k cells c.number) c) s.headers.noted)
+    × (append_fault 0 (entry_of (counter_at k cells c.number) c)
+    (parts_of (with_brought longest (counter_at k cells c.number) c s)) ≡ None)
     × AreAccepted longest k cells cs (cell_started longest k.me (counter_at k cells c.number) c s)

@@ -3,14 +3,18 @@
 //! cells and appends the cells' entries.
 #![tactic(auto)]
 
-ghost use Rattle.std.specs.Prelude.{ℕ, [], ◌≡◌, length};
+ghost use Rattle.std.specs.Prelude.{ℕ, [], ◌≡◌, length, get_or};
+ghost use Rattle.ptl_types.specs.declared.entries.List.TheVariants.{Priority};
+ghost use Rattle.ni_model.specs.State.{State};
 ghost use Rattle.plan_core.specs.Plan.{Plan, own};
 ghost use Rattle.plan_core.specs.Sound.{SoundPlan, AreInputsOf};
 ghost use Rattle.plan_core.specs.Values.{Inputs};
-ghost use Rattle.plan_calls.specs.Calls.{prepare_calls};
+ghost use Rattle.plan_calls.specs.Areas.{initial_region};
+ghost use Rattle.plan_calls.specs.Calls.{append_call, own_cell, prepare_calls};
 ghost use Rattle.plan_machine.specs.Seen.{nothing_seen};
-ghost use Rattle.plan_view.specs.Slots.{Slots};
-ghost use Rattle.plan_view.specs.Calls.{AllPass, fresh, prepare};
+ghost use Rattle.plan_view.specs.Slots.{Slots, counter_at};
+ghost use Rattle.plan_view.specs.Calls.{AllPass, call_made, fresh, prepare, with_entry};
+ghost use Rattle.plan_start.specs.Start.{entry_of};
 ghost use Rattle.plan_start.specs.Waiting.{waiting_view};
 
 /// The calls of a preparation give the closed form to which nothing came.
@@ -25,4 +29,19 @@ pub fn preparation_passes()
     ensures { (plan : Plan) (inputs : Inputs) (slots : Slots) (r : ℕ) →
         SoundPlan plan (length inputs) → AreInputsOf plan inputs →
         AllPass slots (own plan r) (prepare_calls plan r) (fresh plan inputs r) }
+{}
+
+/// The calls of a start, as values, are the appends that it makes: each appends to the priority list the entry of its cell.
+pub fn start_calls()
+    ensures { (plan : Plan) (slots : Slots) (r c : ℕ) (state : State) →
+        call_made slots (own plan r) (append_call plan r c) state ≡
+        with_entry (slots.me state.entries_given) Priority (entry_of (counter_at slots (own plan r) c) (own_cell plan r c)) state }
+{}
+
+/// The region that a rank is prepared with depends on that rank's inputs alone.
+pub fn region_of_own_inputs()
+    ensures { (plan : Plan) (inputs others : Inputs) (r : ℕ) →
+        SoundPlan plan (length inputs) → length others ≡ length inputs →
+        ((b : ℕ) → get_or (get_or others b []) r [] ≡ get_or (get_or inputs b []) r []) →
+        initial_region plan others r ≡ initial_region plan inputs r }
 {}

@@ -1,10 +1,14 @@
 -- The laws of `Moments`.
-use Rattle.std.proofs.Common.{inl, inr, arith}
+use Rattle.std.proofs.Common.{false, inl, inr, IsTrue}
+use Rattle.plan_cuts.specs.Plans.{system_of}
 use Rattle.op_laws.proofs.OpLaws.{op_laws}
 use Rattle.op_laws.proofs.Starts.{combined-starts}
 use Rattle.op_laws.proofs.Swaps.{combined-swaps}
-use Rattle.plan_rest.proofs.Moments.{first_moment, next_local, next_stray, rest_still, still_rest, stuck_still}
+use Rattle.plan_rest.proofs.Moments.{first_moment, next_local, next_stray, none_still, rest_still, still_none, still_rest}
 use Rattle.plan_rest.proofs.each_moment.Goals as goal
+
+no_truth : IsTrue false → ⊥
+no_truth h = cc
 
 pub returns-clause-first : goal.returns-clause-first
 returns-clause-first c = λ plan inputs slots. first_moment plan inputs slots
@@ -15,12 +19,14 @@ returns-clause-next c = λ plan inputs slots world next held later sound fit mom
   | inr s ↦ next_stray plan inputs slots world held moment next later s
 ]
 
-pub returns-clause-still : goal.returns-clause-still
-returns-clause-still c = λ plan inputs slots world held m h. still_rest plan inputs slots world held m h
+pub returns-clause-rest : goal.returns-clause-rest
+returns-clause-rest c = λ plan inputs slots world held m none. still_rest plan inputs slots world held m (none_still (system_of plan inputs slots) world held (λ r e h k. no_truth (none r e h k)))
 
 pub returns-clause-converse : goal.returns-clause-converse
-returns-clause-converse c = λ plan inputs slots world held m none h. rest_still plan inputs slots world held m none h
+returns-clause-converse c = λ plan inputs slots world held m none rest r e h k. absurd (still_none (system_of plan inputs slots) world held (rest_still plan inputs slots world held m none rest) r e h k)
 
-pub returns-clause-none_enabled : goal.returns-clause-none_enabled
-returns-clause-none_enabled c = λ plan inputs slots world held sound m none.
-    still_rest plan inputs slots world held m (stuck_still plan inputs sound slots world held 1 (omega arith) (λ r e h k possible. let z = none r e h k in cc))
+pub returns-clause-still : goal.returns-clause-still
+returns-clause-still c = λ plan inputs slots world held. (
+  (λ still r e h k. absurd (still_none (system_of plan inputs slots) world held still r e h k)),
+  (λ none. none_still (system_of plan inputs slots) world held (λ r e h k. no_truth (none r e h k))),
+)

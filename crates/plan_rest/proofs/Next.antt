@@ -1,0 +1,80 @@
+-- The next message of a lane may be received.
+use Rattle.plan_cuts.specs.System.{Histories, sent_by, state_at}
+use Rattle.plan_cuts.specs.Plans.{start_of, system_of}
+use Rattle.plan_cuts.specs.Cut.{IsAtRest, got_by, is_stray, owned, IsCut}
+use Rattle.plan_view.specs.Slots.{Slots}
+use Rattle.plan_cuts.specs.Moment.{HasNoneHeld, HasWindow, IsEnabled, IsLocalStep, IsMoment, IsStill, IsStrayOf, IsStrayStep, IsStuck, Lanes, is_request_lane, sent_more}
+use Rattle.std.proofs.Common.{ℕ, suc, true, false, cond, not, ◌≡◌, ◌<◌, ◌≤◌, ◌==◌, List, [], ◌∷◌, ◌++◌, refl, length, ap, ap₂, ◌∙◌, sym, subst, inl, inr, filter, if◌then◌else◌, arith, eq-eqb, eqb-true, append-nil, append_assoc, Option, Some, None, count_by, zero, Bool}
+use Rattle.std.proofs.lemmas.Bool.{cases_Bool, cases_eq, and_parts, ne_eqb}
+use Rattle.std.proofs.lemmas.List.Elements.{filter-append}
+use Rattle.ni_model.specs.Conditions.{IsKept}
+use Rattle.ni_model.specs.Ready.{is_ready, fired}
+use Rattle.op_laws.specs.Combining.{CombineStarts, CombineSwaps}
+use Rattle.plan_cuts.proofs.Origin.{IsOf, after_of, fired_link}
+use Rattle.plan_cuts.specs.History.{Beginning, after, is_start, IsDue, Legal, Local, May, and_then, got, is_for, is_lane, made, made_by, sent, state, same_lane}
+use Rattle.plan_cuts.specs.History.Local.{Fire, Receive, Start}
+use Rattle.ni_model.specs.State.{State}
+use Rattle.plan_core.proofs.Links.{out_links-In}
+use Rattle.plan_core.proofs.Lists.{In-append_right, In-filter_cases, In-append_cases}
+use Rattle.plan_core.specs.Members.{In}
+use Rattle.plan_core.specs.Plan.{Plan, link}
+use Rattle.plan_core.specs.Sound.{AreInputsOf, SoundPlan}
+use Rattle.plan_core.specs.Values.{Inputs}
+use Rattle.plan_cuts.proofs.Conform.{stray_request}
+use Rattle.plan_rest.proofs.Longer.{got_other, legal_longer, not_begun}
+use Rattle.plan_cuts.proofs.Fronts.{flag, got-append, made-append, nothing-behind, owned-all}
+use Rattle.plan_rest.proofs.Due.{next_answer_due}
+use Rattle.plan_cuts.proofs.FromCut.{prepared_of}
+use Rattle.plan_cuts.proofs.Shape.{shape}
+use Rattle.plan_view.specs.Calls.{prepare}
+use Rattle.ptl_types.specs.Messages.{Sent}
+use Rattle.ptl_types.specs.declared.headers.Header.{Header}
+use Rattle.ptl_types.specs.declared.headers.Lane.{Lane}
+use Rattle.ptl_types.specs.declared.headers.Lane.TheVariants.{Answer, Request}
+use Rattle.plan_rest.proofs.Fair.{Fair, fair}
+use Rattle.plan_cuts.proofs.Clean.{made-clean}
+use Rattle.ptl_types.specs.Kinds.{is_answer}
+
+-- a stray is no answer
+stray_asks : (m : Sent) → is_stray m ≡ true → is_lane Request m.header.kind ≡ true
+stray_asks m e = elim (cases_Bool (is_answer m.header.kind)) [ inl a ↦ absurd (both e (stray_request m a)) | inr a ↦ ap not a ]
+  where
+    both : {b : Bool} → b ≡ true → b ≡ false → ⊥
+    both e i = cc
+
+owned-own : (m : Sent) (ms : List Sent) → is_stray m ≡ false → owned (m ∷ ms) ≡ m ∷ owned ms
+owned-own m ms e = ap (λ b. if not b then m ∷ owned ms else owned ms) e
+
+-- of a cut: the next message of the job
+module _ (starts : CombineStarts) (p : Plan) (inputs : Inputs) (sound : SoundPlan p (length inputs)) (fit : AreInputsOf p inputs) (swaps : CombineSwaps) (slots : ℕ → Slots) (w : Histories) (cut : IsCut (system_of p inputs slots) w) (begun : Bool) (r s : ℕ) where
+  pub end_rank : r < p.ranks → (state_at (system_of p inputs slots) w r).rank ≡ r
+  end_rank hr = (shape starts p inputs sound fit slots w cut r hr).rank
+
+  pub next_own : (lane : Lane) (m : Sent) (later : List Sent) → r < p.ranks → s < p.ranks → got_by w r s lane ++ m ∷ later ≡ sent_by (system_of p inputs slots) w s r lane → May begun (state_at (system_of p inputs slots) w r) (Receive s lane m)
+  next_own lane m later hr hs e = (f.source, f.target ∙ sym (end_rank hr), f.kind, f.kept, due_now lane e)
+    where
+      f : Fair starts p inputs sound fit swaps slots w cut s r lane m
+      f = fair starts p inputs sound fit swaps slots w cut s r lane m hs hr (subst (λ v. In m v) e (In-append_right m (got_by w r s lane) (m ∷ later) (inl refl)))
+
+      due_now : (lane : Lane) → got_by w r s lane ++ m ∷ later ≡ sent_by (system_of p inputs slots) w s r lane → IsDue (state_at (system_of p inputs slots) w r) lane m
+      due_now Request q = tt
+      due_now Answer q = next_answer_due starts p inputs sound fit slots w cut r s m later hr hs q
+
+-- of a moment: whatever is held first
+module _ (starts : CombineStarts) (p : Plan) (inputs : Inputs) (sound : SoundPlan p (length inputs)) (fit : AreInputsOf p inputs) (swaps : CombineSwaps) (slots : ℕ → Slots) (w : Histories) (held : Lanes) (moment : IsMoment (system_of p inputs slots) w held) (begun : Bool) (r s : ℕ) where
+  pub next_held : (lane : Lane) (m : Sent) (later : List Sent) → r < p.ranks → s < p.ranks → held s r lane ≡ m ∷ later → May begun (state_at (system_of p inputs slots) w r) (Receive s lane m)
+  next_held lane m later hr hs front = elim (cases_Bool (is_stray m)) [ inl e ↦ strange e | inr e ↦ own e ]
+    where
+      strange : is_stray m ≡ true → May begun (state_at (system_of p inputs slots) w r) (Receive s lane m)
+      strange e =
+          let f = moment.strays s r lane m hs hr (subst (λ v. In m v) (sym front) (inl refl)) e in (
+            f.source, f.target ∙ sym (end_rank starts p inputs sound fit swaps slots w moment.cut begun r s hr), subst (λ l. is_lane l m.header.kind ≡ true) (sym f.asks) (stray_asks m e), f.kept,
+            subst (λ l. IsDue (state_at (system_of p inputs slots) w r) l m) (sym f.asks) tt,
+          )
+
+      own : is_stray m ≡ false → May begun (state_at (system_of p inputs slots) w r) (Receive s lane m)
+      own e = next_own starts p inputs sound fit swaps slots w moment.cut begun r s lane m (owned later) hr hs
+          (ap (λ v. got_by w r s lane ++ v) (sym (owned-own m later e))
+          ∙ sym (filter-append (λ x. not (is_stray x)) (got (w r) s lane) (m ∷ later))
+          ∙ ap (λ v. owned (got (w r) s lane ++ v)) (sym front)
+          ∙ moment.lanes s r lane hs hr)
