@@ -1,0 +1,30 @@
+-- The calls are counted.
+use Rattle.std.proofs.Common.{ℕ, ◌+◌, ◌*◌, ◌≡◌, length, ap, arith}
+use Rattle.plan_tables.proofs.Assembling.{calls-count, few-classes}
+use Rattle.plan_tables.proofs.ranks.area_count.Goals as goal
+
+pub overflow_cast-result : goal.overflow_cast-result
+overflow_cast-result c =
+    let e = ap length c.requires.calls in
+    let n = calls-count c.args.plan.now c.args.r in
+    let o = ap length c.requires.own in
+    let u = ap length c.requires.out in
+    let f = few-classes c.args.plan.now c.args.r in
+    omega (arith, e, n, o, u, f)
+
+pub returns-clause-told : goal.returns-clause-told
+returns-clause-told c =
+    let e = ap length c.requires.calls in
+    let n = calls-count c.args.plan.now c.args.r in
+    let o = ap length c.requires.own in
+    let u = ap length c.requires.out in
+    omega (arith, e, n, o, u)
+
+pub returns-clause-few : goal.returns-clause-few
+returns-clause-few c =
+    let e = ap length c.requires.calls in
+    let n = calls-count c.args.plan.now c.args.r in
+    let o = ap length c.requires.own in
+    let u = ap length c.requires.out in
+    let f = few-classes c.args.plan.now c.args.r in
+    omega (arith, e, n, o, u, f)

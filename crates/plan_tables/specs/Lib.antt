@@ -1,0 +1,5 @@
+pub mod Rising
+pub mod Tables
+pub mod AreaTables
+pub mod Installed
+pub mod Ranks

@@ -1,0 +1,68 @@
+//! Cells and links by their numbers.
+
+ghost use Rattle.std.specs.Prelude.{◌≡◌, ◌<◌, ◌≤◌, ◌+◌, ◌*◌, length};
+ghost use Rattle.plan_core.specs.Plan.{cell, link};
+ghost use Rattle.plan_tables.specs.Tables.{IsTabled, from_rank as from_rank_of, lane_key, rank_of as rank_of_cell, to_rank as to_rank_of};
+
+use plan_core::{Cell, Link, LinkKind, Plan};
+use ptl_types::Rank;
+
+/// The cell of this number.
+pub(crate) fn cell_at(plan: &Plan, c: u32) -> Cell
+    requires { c < length plan.now.cells }
+    ensures { result ≡ cell plan.now c }
+{
+    plan.cells()[c as usize]
+}
+
+/// The link of this number.
+pub(crate) fn link_at(plan: &Plan, l: u32) -> Link
+    requires { l < length plan.now.links }
+    ensures { result ≡ link plan.now l }
+{
+    plan.links()[l as usize]
+}
+
+/// The rank of a cell.
+pub(crate) fn rank_of(plan: &Plan, c: u32) -> Rank
+    requires tabled { IsTabled plan.now }
+    requires cell { c < length plan.now.cells }
+    ensures told { result ≡ rank_of_cell plan.now c }
+    ensures rank { result < plan.now.ranks }
+{
+    cell_at(plan, c).rank
+}
+
+/// The rank that fires a link.
+pub(crate) fn from_rank(plan: &Plan, l: u32) -> Rank
+    requires tabled { IsTabled plan.now }
+    requires link { l < length plan.now.links }
+    ensures told { result ≡ from_rank_of plan.now l }
+    ensures rank { result < plan.now.ranks }
+{
+    rank_of(plan, link_at(plan, l).source)
+}
+
+/// The rank that a link comes to.
+pub(crate) fn to_rank(plan: &Plan, l: u32) -> Rank
+    requires tabled { IsTabled plan.now }
+    requires link { l < length plan.now.links }
+    ensures told { result ≡ to_rank_of plan.now l }
+    ensures rank { result < plan.now.ranks }
+{
+    rank_of(plan, link_at(plan, l).target)
+}
+
+/// Where a link is counted in a table of all pairs of ranks: by source and then by target, and past the end where it is no
+/// message.
+pub(crate) fn lane_of(plan: &Plan, l: u32) -> usize
+    requires tabled { IsTabled plan.now }
+    requires link { l < length plan.now.links }
+    ensures { result ≡ lane_key plan.now l }
+{
+    let ranks = plan.ranks() as usize;
+    match link_at(plan, l).kind {
+        LinkKind::Bump => ranks * ranks,
+        _ => from_rank(plan, l) as usize * ranks + to_rank(plan, l) as usize,
+    }
+}
