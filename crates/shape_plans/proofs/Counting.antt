@@ -1,0 +1,66 @@
+-- Counting members, summing rounds, and the first excess.
+use Rattle.std.proofs.Common.{ℕ, zero, suc, Bool, true, false, cond, ◌+◌, ◌-◌, ◌≡◌, ◌<◌, ◌≤◌, List, [], ◌∷◌, ◌++◌, refl, length, map, filter, sum_by, Option, Some, None, ap, ◌∙◌, sym, arith, length-append, nat_lt}
+use Rattle.std.proofs.lemmas.Bool.{lt-ltb, le-ltb}
+use Rattle.std.proofs.lemmas.List.Sums.{sum_by-append, sum_by-cons}
+use Rattle.plan_core.specs.Plan.{from_to}
+use Rattle.plan_core.proofs.Drawing.{from_to-more}
+use Rattle.coll_shape.specs.Outline.{Outline}
+use Rattle.plan_steps.proofs.Leaving.{filter-more}
+use Rattle.shape_plans.specs.declared.footprints.Size.{Size}
+use Rattle.shape_plans.specs.Footprint.{Excess, Refused, judged, refused_at}
+use Rattle.shape_plans.specs.Footprint.Excess.{Links, Bytes}
+use Rattle.shape_plans.specs.Judging.{add_sizes, found_from, size_upto, step_size}
+
+pub count-more : (t : ℕ → Bool) (k : ℕ) → length (filter t (from_to 0 (k + 1))) ≡ length (filter t (from_to 0 k)) + cond (t k) 1 0
+count-more t k =
+    ap length (filter-more t k)
+    ∙ length-append (filter t (from_to 0 k)) (cond (t k) (k ∷ []) [])
+    ∙ ap (λ v. length (filter t (from_to 0 k)) + v) (at (t k))
+  where
+    at : (b : Bool) → length (cond b (k ∷ []) []) ≡ cond b 1 0
+    at true = refl
+    at false = refl
+
+pub sum-more : (f : ℕ → ℕ) (k : ℕ) → sum_by f (from_to 0 (k + 1)) ≡ sum_by f (from_to 0 k) + f k
+sum-more f k =
+    ap (λ v. sum_by f (from_to 0 v)) (let e : k + 1 ≡ suc k = omega arith in e)
+    ∙ ap (sum_by f) (from_to-more 0 k)
+    ∙ sum_by-append f (from_to 0 k) ((0 + k) ∷ [])
+    ∙ ap (λ v. sum_by f (from_to 0 k) + v) (sum_by-cons f (0 + k) [] ∙ ap (λ v. f v + 0) (let e : 0 + k ≡ k = omega arith in e) ∙ (let e : f k + 0 ≡ f k = omega arith in e))
+
+-- ---- the first excess
+within_limits : (l b : ℕ) → l ≤ 500000 → b ≤ 134217728 → judged (record { links = l; bytes = b }) ≡ None
+within_limits l b h i =
+    ap (λ t. cond t (Some Links) (cond (nat_lt 134217728 b) (Some Bytes) None)) (le-ltb _ _ h)
+    ∙ ap (λ t. cond t (Some Bytes) None) (le-ltb _ _ i)
+
+pub judged-none : (f : Size) → f.links ≤ 500000 → f.bytes ≤ 134217728 → judged f ≡ None
+judged-none f h i = within_limits f.links f.bytes h i
+
+pub judged-links : (f : Size) → 500000 < f.links → judged f ≡ Some Links
+judged-links f h = ap (λ t. cond t (Some Links) (cond (nat_lt 134217728 f.bytes) (Some Bytes) None)) (lt-ltb _ _ h)
+
+pub judged-bytes : (f : Size) → f.links ≤ 500000 → 134217728 < f.bytes → judged f ≡ Some Bytes
+judged-bytes f h i =
+    ap (λ t. cond t (Some Links) (cond (nat_lt 134217728 f.bytes) (Some Bytes) None)) (le-ltb _ _ h)
+    ∙ ap (λ t. cond t (Some Bytes) None) (lt-ltb _ _ i)
+
+pub size-more : (o : Outline) (k : ℕ) → size_upto o (k + 1) ≡ add_sizes (size_upto o k) (step_size o k)
+size-more o k = ap (size_upto o) (let e : k + 1 ≡ suc k = omega arith in e)
+
+found-step : (o : Outline) (k n : ℕ) → k < n → found_from o k (n - k) ≡ refused_at k (judged (size_upto o (suc k))) (found_from o (suc k) (n - suc k))
+found-step o k n h = ap (found_from o k) (let e : n - k ≡ suc (n - suc k) = omega arith in e)
+
+pub found-next : (o : Outline) (k n : ℕ) → k < n → judged (size_upto o (k + 1)) ≡ None → found_from o k (n - k) ≡ found_from o (k + 1) (n - (k + 1))
+found-next o k n h e =
+    found-step o k n h
+    ∙ ap (λ v. refused_at k v (found_from o (suc k) (n - suc k))) (ap (λ v. judged (size_upto o v)) (let z : suc k ≡ k + 1 = omega arith in z) ∙ e)
+    ∙ ap (λ v. found_from o v (n - v)) (let z : suc k ≡ k + 1 = omega arith in z)
+
+pub found-here : (o : Outline) (k n : ℕ) (x : Excess) → k < n → judged (size_upto o (k + 1)) ≡ Some x → found_from o k (n - k) ≡ Some (record { step = k; name = x })
+found-here o k n x h e =
+    found-step o k n h
+    ∙ ap (λ v. refused_at k v (found_from o (suc k) (n - suc k))) (ap (λ v. judged (size_upto o v)) (let z : suc k ≡ k + 1 = omega arith in z) ∙ e)
+
+pub found-end : (o : Outline) (k n : ℕ) → n ≤ k → found_from o k (n - k) ≡ None
+found-end o k n h = ap (found_from o k) (let e : n - k ≡ 0 = omega arith in e)

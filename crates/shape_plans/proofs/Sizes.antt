@@ -1,0 +1,110 @@
+-- The judgement by closed forms is that of the plan.
+use Rattle.std.proofs.Common.{ℕ, zero, suc, Bool, ◌+◌, ◌-◌, ◌*◌, ◌≡◌, ◌<◌, ◌≤◌, List, [], ◌∷◌, ◌++◌, refl, length, map, filter, get_or, sum_by, Option, Some, None, ap, ap₂, ◌∙◌, sym, arith}
+use Rattle.std.proofs.lemmas.List.Sums.{sum_by-cons, sum_by-append}
+use Rattle.plan_core.specs.declared.Cell.{Cell}
+use Rattle.plan_core.specs.Plan.{Plan, from_to}
+use Rattle.plan_core.specs.Draw.{NewCell, add, add_all, bytes_in, cell_of, go_cell_of, go_plan, links_of}
+use Rattle.plan_core.proofs.Drawing.{cells-add, links-in_all}
+use Rattle.coll_shape.specs.declared.types.CollStep.{CollStep}
+use Rattle.coll_shape.specs.declared.types.CollStep.TheVariants.{Barrier, Broadcast, Reduce, Allreduce, Gather, Allgather, Alltoall, Scan, Scatter, Reducescatter, Exscan, Gatherv}
+use Rattle.coll_shape.specs.Outline.{Outline, buffer_at, group_at, list_bytes, step_at, read_buffer}
+use Rattle.coll_shape.specs.Collectives.{source_of, IsRoot, is_in}
+use Rattle.coll_shape.specs.WellFormed.{IsWellFormed}
+use Rattle.plan_steps.specs.Site.{Site, count}
+use Rattle.plan_laws.proofs.StepSizes.{allgather-bytes, allgather-links, alltoall-links, barrier-links, broadcast-links, bytes-cons, bytes-row, gather-links, links-row}
+use Rattle.plan_laws.proofs.MoreSizes.{allreduce-links, exscan-links, reduce-links, reducescatter-links, scan-links, scatter-links}
+use Rattle.plan_laws.proofs.StepBytes.{allreduce-bytes, alltoall-bytes, barrier-bytes, broadcast-bytes, exscan-bytes, gather-bytes, reduce-bytes, reducescatter-bytes, scan-bytes, scatter-bytes}
+use Rattle.plan_laws.proofs.HeldSizes.{gatherv-bytes, gatherv-links}
+use Rattle.shape_plans.specs.declared.footprints.Size.{Size}
+use Rattle.shape_plans.specs.Steps.{cells_of}
+use Rattle.shape_plans.specs.Drawing.{Drawing, drawn_inputs, drawn_step, drawn_upto, input_cell, site}
+use Rattle.shape_plans.specs.Footprint.{footprint, judged, refusal, refusal_from, refused_at, size_of, step_bytes, step_links}
+use Rattle.shape_plans.specs.Judging.{AreSteps, add_sizes, found_from, inputs_size, size_upto, step_size}
+
+-- ---- one step
+module _ (s : Site) (t : ℕ → Bool) (held : s.holding ≡ filter t (from_to 0 (count s))) (pos : 0 < count s) where
+  links-of_step : (step : CollStep) → IsRoot step (count s) → links_of (cells_of s step) ≡ step_links step (count s) (length s.holding)
+  links-of_step Barrier h = barrier-links s
+  links-of_step (Broadcast root a b) h = broadcast-links s root h
+  links-of_step (Reduce root o a b) h = reduce-links s root o pos
+  links-of_step (Allreduce o a b) h = allreduce-links s o pos
+  links-of_step (Gather root a b) h = gather-links s root
+  links-of_step (Allgather a b) h = allgather-links s
+  links-of_step (Alltoall a b) h = alltoall-links s
+  links-of_step (Scan o a b) h = scan-links s o
+  links-of_step (Scatter root a b) h = scatter-links s root h
+  links-of_step (Reducescatter o a b) h = reducescatter-links s o pos
+  links-of_step (Exscan o a b) h = exscan-links s o
+  links-of_step (Gatherv root a b) h = gatherv-links s t held root
+
+  bytes-of_step : (step : CollStep) → IsRoot step (count s) → bytes_in (cells_of s step) ≡ step_bytes step (count s) (length s.holding) s.length
+  bytes-of_step Barrier h = barrier-bytes s
+  bytes-of_step (Broadcast root a b) h = broadcast-bytes s root h
+  bytes-of_step (Reduce root o a b) h = reduce-bytes s root o
+  bytes-of_step (Allreduce o a b) h = allreduce-bytes s o
+  bytes-of_step (Gather root a b) h = gather-bytes s root
+  bytes-of_step (Allgather a b) h = allgather-bytes s
+  bytes-of_step (Alltoall a b) h = alltoall-bytes s
+  bytes-of_step (Scan o a b) h = scan-bytes s o
+  bytes-of_step (Scatter root a b) h = scatter-bytes s root h
+  bytes-of_step (Reducescatter o a b) h = reducescatter-bytes s o
+  bytes-of_step (Exscan o a b) h = exscan-bytes s o
+  bytes-of_step (Gatherv root a b) h = gatherv-bytes s t held root
+
+-- ---- a plan and what is drawn after it
+bytes-in_all : (p : Plan) (ns : List NewCell) → sum_by (λ (k : Cell). k.length) (add_all p ns).cells ≡ sum_by (λ (k : Cell). k.length) p.cells + bytes_in ns
+unfolding add_all
+bytes-in_all p [] = let e : sum_by (λ (k : Cell). k.length) p.cells ≡ sum_by (λ (k : Cell). k.length) p.cells + 0 = omega arith in e
+bytes-in_all p (n ∷ ns) =
+    let a = bytes-in_all (add p n) ns in
+    let b = ap (sum_by (λ (k : Cell). k.length)) (cells-add p n) ∙ sum_by-append (λ (k : Cell). k.length) p.cells (cell_of n ∷ []) in
+    let c = sum_by-cons (λ (k : Cell). k.length) (cell_of n) [] in
+    let d = bytes-cons n ns in
+    omega (arith, a, b, c, d)
+
+size-add_all : (p : Plan) (ns : List NewCell) → size_of (add_all p ns) ≡ add_sizes (size_of p) (record { links = links_of ns; bytes = bytes_in ns })
+size-add_all p ns = ap₂ (λ l b. record { links = l; bytes = b }) (links-in_all p ns) (bytes-in_all p ns)
+
+go-bytes : (k n : ℕ) → sum_by (λ (k : Cell). k.length) (map go_cell_of (from_to k n)) ≡ 0
+go-bytes k zero = refl
+go-bytes k (suc n) = sum_by-cons (λ (k : Cell). k.length) (go_cell_of k) (map go_cell_of (from_to (suc k) n)) ∙ ap (λ v. 0 + v) (go-bytes (suc k) n)
+
+size-go : (n : ℕ) (remote : Bool) → size_of (go_plan n remote) ≡ record { links = 0; bytes = 0 }
+unfolding go_plan
+size-go n remote = ap (λ b. record { links = 0; bytes = b }) (go-bytes 0 n)
+
+pub size-inputs : (o : Outline) (b : ℕ) → size_of (drawn_inputs o b).plan ≡ inputs_size o b
+unfolding drawn_inputs
+size-inputs o zero = size-go o.ranks o.remote
+size-inputs o (suc b) =
+    size-add_all (drawn_inputs o b).plan (map (input_cell (buffer_at o b)) (from_to 0 o.ranks))
+    ∙ ap₂ (λ x y. add_sizes x y) (size-inputs o b)
+    (ap₂ (λ l b. record { links = l; bytes = b })
+    (links-row (input_cell (buffer_at o b)) 0 o.ranks 1 (λ i. refl) ∙ (let e : o.ranks * 1 ≡ o.ranks = omega arith in e))
+    (bytes-row (input_cell (buffer_at o b)) 0 o.ranks (list_bytes (buffer_at o b)) (λ i. refl)))
+
+-- ---- all steps
+pub size-steps : (o : Outline) → AreSteps o → (k : ℕ) → k ≤ length o.steps → size_of (drawn_upto o k).plan ≡ size_upto o k
+unfolding drawn_upto
+size-steps o fit zero h = size-inputs o o.inputs
+size-steps o fit (suc k) h =
+    let s = site o (drawn_upto o k) (step_at o k) (group_at o k) in
+    let t : ℕ → Bool = λ i. is_in (get_or (group_at o k) i 0) (read_buffer o (source_of (step_at o k))).spread.holders in
+    size-add_all (drawn_upto o k).plan (cells_of s (step_at o k))
+    ∙ ap₂ (λ x y. add_sizes x y) (size-steps o fit k (omega arith))
+    (ap₂ (λ l b. record { links = l; bytes = b })
+    (links-of_step s t refl (fit.some k (omega arith)) (step_at o k) (fit.roots k (omega arith)))
+    (bytes-of_step s t refl (fit.some k (omega arith)) (step_at o k) (fit.roots k (omega arith))))
+
+same-found : (o : Outline) → AreSteps o → (k n : ℕ) → k + n ≤ length o.steps → refusal_from o k n ≡ found_from o k n
+same-found o fit k zero h = refl
+same-found o fit k (suc n) h =
+    ap₂ (λ x y. refused_at k x y) (ap judged (size-steps o fit (suc k) (omega arith))) (same-found o fit (suc k) n (omega arith))
+
+pub refusal-found : (o : Outline) → AreSteps o → refusal o ≡ found_from o 0 (length o.steps)
+unfolding refusal
+refusal-found o fit = same-found o fit 0 (length o.steps) (omega arith)
+
+-- a well-formed shape has such steps
+pub are-steps : (o : Outline) → IsWellFormed o → AreSteps o
+are-steps o w = record { some = λ k h. (w.fits k h).members.some; roots = λ k h. (w.fits k h).root }

@@ -1,0 +1,286 @@
+-- The drawing after some inputs, and after some steps: its tables, and room for the next step.
+use Rattle.std.proofs.Common.{ℕ, zero, suc, Bool, true, false, cond, nat_lt, Result, Ok, Err, ◌+◌, ◌-◌, ◌*◌, ◌^◌, ◌≡◌, ◌<◌, ◌≤◌, List, [], ◌∷◌, Option, Some, None, refl, length, map, get_or, ap, ◌∙◌, sym, subst, arith}
+use Rattle.std.proofs.Math.Nat.{mul-le-mul_right}
+use Rattle.std.proofs.lemmas.Bool.{ltb-false}
+use Rattle.std.proofs.lemmas.List.{get_or_read_under}
+use Rattle.plan_core.specs.Draw.{HasRoom, HeldCells, NewCell, add_all, go_plan, hold, links_of}
+use Rattle.plan_core.specs.Plan.{Plan, from_to}
+use Rattle.plan_core.proofs.Drawing.{length-row, links-in_all, many-cells}
+use Rattle.coll_shape.specs.declared.types.CollStep.{CollStep}
+use Rattle.coll_shape.specs.declared.types.Buffer.{Buffer}
+use Rattle.coll_shape.specs.WellFormed.{IsShape}
+use Rattle.coll_shape.specs.Outline.{Outline, buffer_at, no_buffer, group_at, step_at}
+use Rattle.coll_shape.specs.Collectives.{result_of, source_of}
+use Rattle.plan_steps.specs.declared.ends.End.{End}
+use Rattle.plan_steps.specs.Beginning.{IsBegun, held_after, site_of}
+use Rattle.plan_steps.specs.Steps.{exits_by}
+use Rattle.plan_laws.proofs.Settled.{buffers-held_by, length-exits_by, ranks-held_by}
+use Rattle.plan_laws.proofs.StepSizes.{links-row}
+use Rattle.shape_plans.specs.declared.footprints.Size.{Size}
+use Rattle.shape_plans.specs.Steps.{cells_of, ends_of}
+use Rattle.shape_plans.specs.Drawing.{Drawing, drawing_of, drawn_input, drawn_inputs, drawn_step, drawn_upto, hold_row, input_cell, opened, site}
+use Rattle.shape_plans.specs.declared.faults.CompileFault.{CompileFault}
+use Rattle.shape_plans.specs.declared.faults.CompileFault.TheVariants.{TooMany, TooLarge, NoMemory}
+use Rattle.shape_plans.specs.Footprint.{judged}
+use Rattle.shape_plans.specs.Judging.{AreSteps, Judges, found_from, inputs_size, size_upto}
+use Rattle.shape_plans.specs.Compiling.{Draws}
+use Rattle.shape_plans.proofs.Linked.{few-after, room-for}
+use Rattle.shape_plans.proofs.Sizes.{refusal-found, size-inputs, size-steps}
+
+-- ---- one more
+next : (k : ℕ) → k + 1 ≡ suc k
+next k = omega arith
+
+pub row-none : (h : HeldCells) (b first : ℕ) → hold_row h b first 0 ≡ h
+unfolding hold_row
+row-none h b first = refl
+
+row-suc : (h : HeldCells) (b first r : ℕ) → hold_row h b first (suc r) ≡ hold (hold_row h b first r) b r (first + r)
+unfolding hold_row
+row-suc h b first r = refl
+
+pub row-next : (h : HeldCells) (b first r : ℕ) → hold_row h b first (r + 1) ≡ hold (hold_row h b first r) b r (first + r)
+row-next h b first r = ap (hold_row h b first) (next r) ∙ row-suc h b first r
+
+pub inputs-none : (o : Outline) → drawn_inputs o 0 ≡ opened o
+unfolding drawn_inputs
+inputs-none o = refl
+
+inputs-suc : (o : Outline) (b : ℕ) → drawn_inputs o (suc b) ≡ drawn_input o (drawn_inputs o b) b
+unfolding drawn_inputs
+inputs-suc o b = refl
+
+pub inputs-next : (o : Outline) (b : ℕ) → drawn_inputs o (b + 1) ≡ drawn_input o (drawn_inputs o b) b
+inputs-next o b = ap (drawn_inputs o) (next b) ∙ inputs-suc o b
+
+pub upto-none : (o : Outline) → drawn_upto o 0 ≡ drawn_inputs o o.inputs
+unfolding drawn_upto
+upto-none o = refl
+
+upto-suc : (o : Outline) (k : ℕ) → drawn_upto o (suc k) ≡ drawn_step o (drawn_upto o k) (step_at o k) (group_at o k)
+unfolding drawn_upto
+upto-suc o k = refl
+
+pub upto-next : (o : Outline) (k : ℕ) → drawn_upto o (k + 1) ≡ drawn_step o (drawn_upto o k) (step_at o k) (group_at o k)
+upto-next o k = ap (drawn_upto o) (next k) ∙ upto-suc o k
+
+pub upto-all : (o : Outline) (k : ℕ) → k ≡ length o.steps → drawn_upto o k ≡ drawing_of o
+unfolding drawing_of
+upto-all o k e = ap (drawn_upto o) e
+
+-- ---- tables
+-- they are of the shape's ranks and buffers, and there are few cells
+pub record Tables (o : Outline) (d : Drawing) : Type 0 where
+  pub exits : length d.exits ≡ o.ranks
+  pub ranks : d.held.ranks ≡ o.ranks
+  pub buffers : d.held.buffers ≡ length o.buffers
+  pub few : length d.plan.cells ≤ 256 + length d.plan.links
+
+ranks-row : (h : HeldCells) (b first n : ℕ) → (hold_row h b first n).ranks ≡ h.ranks
+unfolding hold_row hold
+ranks-row h b first zero = refl
+ranks-row h b first (suc n) = ranks-row h b first n
+
+buffers-row : (h : HeldCells) (b first n : ℕ) → (hold_row h b first n).buffers ≡ h.buffers
+unfolding hold_row hold
+buffers-row h b first zero = refl
+buffers-row h b first (suc n) = buffers-row h b first n
+
+length-numbers : (k n : ℕ) → length (from_to k n) ≡ n
+length-numbers k zero = refl
+length-numbers k (suc n) = ap suc (length-numbers (suc k) n)
+
+go-few : (n : ℕ) (remote : Bool) → n ≤ 256 → length (go_plan n remote).cells ≤ 256 + length (go_plan n remote).links
+unfolding go_plan
+go-few n remote h = let e = length-row Rattle.plan_core.specs.Draw.go_cell_of 0 n in omega (arith, e, h)
+
+row-links : (o : Outline) (b : ℕ) → links_of (map (input_cell (buffer_at o b)) (from_to 0 o.ranks)) ≡ o.ranks
+row-links o b = links-row (input_cell (buffer_at o b)) 0 o.ranks 1 (λ i. refl) ∙ (let e : o.ranks * 1 ≡ o.ranks = omega arith in e)
+
+tables-opened : (o : Outline) → o.ranks ≤ 256 → Tables o (opened o)
+tables-opened o h = record { exits = length-numbers 0 o.ranks; ranks = refl; buffers = refl; few = go-few o.ranks o.remote h }
+
+tables-input : (o : Outline) (d : Drawing) (b : ℕ) → Tables o d → Tables o (drawn_input o d b)
+tables-input o d b t = record {
+  exits = t.exits;
+  ranks = ranks-row d.held b (length d.plan.cells) o.ranks ∙ t.ranks;
+  buffers = buffers-row d.held b (length d.plan.cells) o.ranks ∙ t.buffers;
+  few = (let f = t.few in
+      let c = many-cells d.plan (map (input_cell (buffer_at o b)) (from_to 0 o.ranks)) in
+      let l = links-in_all d.plan (map (input_cell (buffer_at o b)) (from_to 0 o.ranks)) in
+      let n = length-row (input_cell (buffer_at o b)) 0 o.ranks in
+      let m = row-links o b in
+      omega (arith, f, c, l, n, m));
+}
+
+pub tables-inputs : (o : Outline) → o.ranks ≤ 256 → (b : ℕ) → Tables o (drawn_inputs o b)
+tables-inputs o h zero = subst (Tables o) (sym (inputs-none o)) (tables-opened o h)
+tables-inputs o h (suc b) = subst (Tables o) (sym (inputs-suc o b)) (tables-input o (drawn_inputs o b) b (tables-inputs o h b))
+
+ranks-after : (r : Option ℕ) (h : HeldCells) (g : List ℕ) (ends : List End) → (held_after r h g ends).ranks ≡ h.ranks
+ranks-after None h g ends = refl
+ranks-after (Some b) h g ends = ranks-held_by h g ends b (length g)
+
+buffers-after : (r : Option ℕ) (h : HeldCells) (g : List ℕ) (ends : List End) → (held_after r h g ends).buffers ≡ h.buffers
+buffers-after None h g ends = refl
+buffers-after (Some b) h g ends = buffers-held_by h g ends b (length g)
+
+tables-step : (o : Outline) (d : Drawing) (t : CollStep) (g : List ℕ) → 0 < length g → Tables o d → Tables o (drawn_step o d t g)
+tables-step o d t g pos w = record {
+  exits = length-exits_by d.exits g (ends_of (site o d t g) t) (length g) ∙ w.exits;
+  ranks = ranks-after (result_of t) d.held g (ends_of (site o d t g) t) ∙ w.ranks;
+  buffers = buffers-after (result_of t) d.held g (ends_of (site o d t g) t) ∙ w.buffers;
+  few = few-after d.plan (site o d t g) t pos w.few;
+}
+
+pub tables-upto : (o : Outline) → o.ranks ≤ 256 → AreSteps o → (k : ℕ) → k ≤ length o.steps → Tables o (drawn_upto o k)
+tables-upto o h are zero l = subst (Tables o) (sym (upto-none o)) (tables-inputs o h o.inputs)
+tables-upto o h are (suc k) l = subst (Tables o) (sym (upto-suc o k)) (tables-step o (drawn_upto o k) (step_at o k) (group_at o k) (are.some k (omega arith)) (tables-upto o h are k (omega arith)))
+
+pub exits-inputs : (o : Outline) (b : ℕ) → (drawn_inputs o b).exits ≡ from_to 0 o.ranks
+unfolding drawn_inputs
+exits-inputs o zero = refl
+exits-inputs o (suc b) = exits-inputs o b
+
+-- ---- room for an input
+links-inputs : (o : Outline) (b : ℕ) → (inputs_size o b).links ≡ b * o.ranks
+links-inputs o zero = omega arith
+links-inputs o (suc b) = let e = links-inputs o b in let r : suc b * o.ranks ≡ b * o.ranks + o.ranks = omega arith in omega (arith, e, r)
+
+-- few cells and links after b inputs
+pub few-inputs : (o : Outline) → IsShape o → (b : ℕ) → b ≤ o.inputs → (length (drawn_inputs o b).plan.links ≤ 32768) × (length (drawn_inputs o b).plan.cells ≤ 33024)
+few-inputs o shape b h =
+    let l = ap (λ (z : Size). z.links) (size-inputs o b) ∙ links-inputs o b in
+    let t = (tables-inputs o shape.few_ranks b).few in
+    let i : b ≤ 128 = (let u = shape.few_inputs in let v = shape.few_buffers in omega (arith, u, v, h)) in
+    let m : b * o.ranks ≤ 128 * o.ranks = mul-le-mul_right o.ranks i in
+    let r = shape.few_ranks in
+    (omega (arith, l, m, r), omega (arith, l, m, r, t))
+
+pub room-input : (o : Outline) → IsShape o → (b : ℕ) → b ≤ o.inputs → HasRoom (drawn_inputs o b).plan (map (input_cell (buffer_at o b)) (from_to 0 o.ranks))
+room-input o shape b h =
+    let f = few-inputs o shape b h in
+    let l = f.0 in
+    let c = f.1 in
+    let n = length-row (input_cell (buffer_at o b)) 0 o.ranks in
+    let m = row-links o b in
+    let r = shape.few_ranks in
+    record { cells = omega (arith, c, n, r); links = omega (arith, l, m, r) }
+
+-- ---- room for a step
+size-grows : (o : Outline) (n k : ℕ) → (size_upto o k).links ≤ (size_upto o (k + n)).links
+size-grows o zero k = let e = ap (λ v. (size_upto o v).links) (let z : k + 0 ≡ k = omega arith in z) in omega (arith, e)
+size-grows o (suc n) k =
+    let a = size-grows o n (suc k) in
+    let e = ap (λ v. (size_upto o v).links) (let z : k + suc n ≡ suc k + n = omega arith in z) in
+    omega (arith, a, e)
+
+pub size-most : (o : Outline) (k : ℕ) → k ≤ length o.steps → (size_upto o k).links ≤ (size_upto o (length o.steps)).links
+size-most o k h = let a = size-grows o (left k (length o.steps)) k in let e = ap (λ v. (size_upto o v).links) (there k (length o.steps) h) in omega (arith, a, e)
+  where
+    left : ℕ → ℕ → ℕ
+    left k n = n - k
+
+    there : (k n : ℕ) → k ≤ n → k + left k n ≡ n
+    there k n h = omega arith
+
+module _ (o : Outline) (shape : IsShape o) (are : AreSteps o) (few : (size_upto o (length o.steps)).links ≤ 500000) (k : ℕ) (h : k < length o.steps) where
+  abbrev d : Drawing
+  d = drawn_upto o k
+
+  abbrev t : CollStep
+  t = step_at o k
+
+  abbrev g : List ℕ
+  g = group_at o k
+
+  links-now : length d.plan.links ≡ (size_upto o k).links
+  links-now = ap (λ (z : Size). z.links) (size-steps o are k (omega arith))
+
+  links-then : length d.plan.links + links_of (cells_of (site o d t g) t) ≤ 500000
+  links-then =
+      let e = links-in_all d.plan (cells_of (site o d t g) t) in
+      let u = ap (λ (z : Drawing). length z.plan.links) (upto-suc o k) in
+      let s = ap (λ (z : Size). z.links) (size-steps o are (suc k) h) in
+      let m = size-most o (suc k) h in
+      omega (arith, e, u, s, m, few)
+
+  pub room-step : HasRoom d.plan (cells_of (site o d t g) t)
+  room-step = room-for d.plan (site o d t g) t (are.some k h) (tables-upto o shape.few_ranks are k (omega arith)).few links-then
+
+  pub begun-step : IsBegun o d.plan d.held d.exits t g
+  begun-step =
+      let w = tables-upto o shape.few_ranks are k (omega arith) in record {
+        members = shape.members k h;
+        root = are.roots k h;
+        source = shape.sources k h;
+        result = shape.results k h;
+        exits = w.exits;
+        ranks = w.ranks;
+        buffers = w.buffers;
+        cells = (let f = w.few in let l = links-then in omega (arith, f, l));
+      }
+
+-- ---- a shape without a refusal is within the limit
+no-name : {n : Rattle.shape_plans.specs.Footprint.Excess} → Some n ≡ None → ⊥
+no-name e = cc
+
+judged-few : (f : Size) → judged f ≡ None → f.links ≤ 500000
+judged-few f e = at (nat_lt 500000 f.links) refl e
+  where
+    at : (b : Bool) → nat_lt 500000 f.links ≡ b → cond b (Some Rattle.shape_plans.specs.Footprint.Excess.Links) (cond (nat_lt 134217728 f.bytes) (Some Rattle.shape_plans.specs.Footprint.Excess.Bytes) None) ≡ None → f.links ≤ 500000
+    at true g e = absurd (no-name e)
+    at false g e = ltb-false _ _ g
+
+found-few : (o : Outline) (n k : ℕ) → (size_upto o k).links ≤ 500000 → found_from o k n ≡ None → (size_upto o (k + n)).links ≤ 500000
+found-few o zero k w e = subst (λ v. (size_upto o v).links ≤ 500000) (let z : k ≡ k + 0 = omega arith in z) w
+found-few o (suc n) k w e = by (judged (size_upto o (suc k))) refl e (λ v f. found-few o n (suc k) v f)
+  where
+    no-refusal : {r : Rattle.shape_plans.specs.Footprint.Refused} → Some r ≡ None → ⊥
+    no-refusal f = cc
+
+    by : (x : Option Rattle.shape_plans.specs.Footprint.Excess) → judged (size_upto o (suc k)) ≡ x → Rattle.shape_plans.specs.Footprint.refused_at k x (found_from o (suc k) n) ≡ None
+        → ((size_upto o (suc k)).links ≤ 500000 → found_from o (suc k) n ≡ None → (size_upto o (suc k + n)).links ≤ 500000) → (size_upto o (k + suc n)).links ≤ 500000
+    by None j f later = subst (λ v. (size_upto o v).links ≤ 500000) (let z : suc k + n ≡ k + suc n = omega arith in z) (later (judged-few (size_upto o (suc k)) j) f)
+    by (Some name) j f later = absurd (no-refusal f)
+
+pub not-refused : (o : Outline) → IsShape o → found_from o 0 (length o.steps) ≡ None → (size_upto o (length o.steps)).links ≤ 500000
+not-refused o shape e =
+    subst (λ v. (size_upto o v).links ≤ 500000) (let z : 0 + length o.steps ≡ length o.steps = omega arith in z)
+    (found-few o (length o.steps) 0 (let l = (few-inputs o shape o.inputs (omega arith)).0 in let s = ap (λ (z : Size). z.links) (size-inputs o o.inputs) in omega (arith, l, s)) e)
+
+-- what is judged is answered
+pub judged-fault : (o : Outline) → AreSteps o → (f : CompileFault) → Judges o (Err f) → Draws o (Err f)
+judged-fault o are (TooMany k) e = refusal-found o are ∙ e
+judged-fault o are (TooLarge k) e = refusal-found o are ∙ e
+judged-fault o are NoMemory e = absurd e
+
+-- ---- one place of the table
+pub ranks-one : (h : HeldCells) (b r c : ℕ) → (hold h b r c).ranks ≡ h.ranks
+unfolding hold
+ranks-one h b r c = refl
+
+pub buffers-one : (h : HeldCells) (b r c : ℕ) → (hold h b r c).buffers ≡ h.buffers
+unfolding hold
+buffers-one h b r c = refl
+
+-- ---- what holds of a drawing holds of tables that are the same
+pub as-drawn : (P : Plan → HeldCells → List ℕ → CollStep → List ℕ → Type 0) → {p q : Plan} {h i : HeldCells} {e f g k : List ℕ} {s t : CollStep} → p ≡ q → h ≡ i → e ≡ f → s ≡ t → g ≡ k → P p h e s g → P q i f t k
+as-drawn P {p} {q} {h} {i} {e} {f} {g} {k} {s} {t} a b c d u x =
+    subst (λ v. P v i f t k) a (subst (λ v. P p v f t k) b (subst (λ v. P p h v t k) c (subst (λ v. P p h e v k) d (subst (λ v. P p h e s v) u x))))
+
+pub plan-after : (o : Outline) → {p q : Plan} {h i : HeldCells} {e f g k : List ℕ} {s t : CollStep} → p ≡ q → h ≡ i → e ≡ f → s ≡ t → g ≡ k
+    → add_all p (cells_of (site_of o p h e (source_of s) g) s) ≡ add_all q (cells_of (site_of o q i f (source_of t) k) t)
+plan-after o {p} {q} {h} {i} {e} {f} {g} {k} {s} {t} a b c d u = as-drawn (λ v w x y z. add_all p (cells_of (site_of o p h e (source_of s) g) s) ≡ add_all v (cells_of (site_of o v w x (source_of y) z) y)) a b c d u refl
+
+pub held-after : (o : Outline) → {p q : Plan} {h i : HeldCells} {e f g k : List ℕ} {s t : CollStep} → p ≡ q → h ≡ i → e ≡ f → s ≡ t → g ≡ k
+    → held_after (result_of s) h g (ends_of (site_of o p h e (source_of s) g) s) ≡ held_after (result_of t) i k (ends_of (site_of o q i f (source_of t) k) t)
+held-after o {p} {q} {h} {i} {e} {f} {g} {k} {s} {t} a b c d u = as-drawn (λ v w x y z. held_after (result_of s) h g (ends_of (site_of o p h e (source_of s) g) s) ≡ held_after (result_of y) w z (ends_of (site_of o v w x (source_of y) z) y)) a b c d u refl
+
+pub exits-after : (o : Outline) → {p q : Plan} {h i : HeldCells} {e f g k : List ℕ} {s t : CollStep} → p ≡ q → h ≡ i → e ≡ f → s ≡ t → g ≡ k
+    → exits_by e g (ends_of (site_of o p h e (source_of s) g) s) (length g) ≡ exits_by f k (ends_of (site_of o q i f (source_of t) k) t) (length k)
+exits-after o {p} {q} {h} {i} {e} {f} {g} {k} {s} {t} a b c d u = as-drawn (λ v w x y z. exits_by e g (ends_of (site_of o p h e (source_of s) g) s) (length g) ≡ exits_by x z (ends_of (site_of o v w x (source_of y) z) y) (length z)) a b c d u refl
+
+-- a buffer of the shape, whatever stands past the last
+pub the-buffer : (o : Outline) (b : ℕ) (xs : List Buffer) (x : Buffer) → xs ≡ o.buffers → b < length o.buffers → x ≡ get_or xs b x → buffer_at o b ≡ x
+the-buffer o b xs x e l f = sym (get_or_read_under o.buffers b (length o.buffers) x no_buffer (f ∙ ap (λ ys. get_or ys b x) e) l refl)

@@ -1,0 +1,87 @@
+-- One input more in each turn.
+use Rattle.std.proofs.Common.{ℕ, ◌+◌, ◌<◌, ◌≤◌, ◌≡◌, length, map, ap, ap₂, sym, subst, ◌∙◌, arith, get_or}
+use Rattle.plan_core.specs.Plan.{Plan, from_to}
+use Rattle.plan_core.specs.Draw.{HasRoom, HeldCells, add_all}
+use Rattle.coll_shape.specs.declared.types.Buffer.{Buffer}
+use Rattle.coll_shape.specs.Outline.{buffer_at}
+use Rattle.shape_plans.specs.Drawing.{Drawing, drawn_inputs, hold_row, input_cell}
+use Rattle.shape_plans.proofs.Upto.{few-inputs, inputs-next, inputs-none, room-input, tables-inputs, the-buffer}
+use Rattle.shape_plans.proofs.drawing.add_inputs.Goals as goal
+
+pub loop-b-init : goal.loop-b-init
+loop-b-init c =
+    let e = inputs-none c.args.shape.now in
+    record { plan = c.requires.plan ∙ sym (ap (λ (d : Drawing). d.plan) e); held = c.requires.held ∙ sym (ap (λ (d : Drawing). d.held) e) }
+
+pub overflow_cast-first : goal.overflow_cast-first
+overflow_cast-first c =
+    let o = c.args.shape.now in
+    let n = c.input_count-b-end.ensures.told in
+    let t = c.loop-b-test.true in
+    let f = (few-inputs o c.ranks-ranks.ensures.shape.shape c.loop-b.b (let z : c.loop-b.b ≤ o.inputs = omega (arith, n, t) in z)).1 in
+    let e = ap length c.cells.ensures ∙ ap (λ (p : Plan). length p.cells) c.loop-b.invariant.plan in
+    omega (arith, f, e)
+
+pub draw_inputs-requires-clause-room : goal.draw_inputs-requires-clause-room
+draw_inputs-requires-clause-room c =
+    let o = c.args.shape.now in
+    let n = c.input_count-b-end.ensures.told in
+    let t = c.loop-b-test.true in
+    let P : Plan → Buffer → ℕ → Type 0 = λ p x r. HasRoom p (map (input_cell x) (from_to 0 r)) in
+    let room = room-input o c.ranks-ranks.ensures.shape.shape c.loop-b.b (let z : c.loop-b.b ≤ o.inputs = omega (arith, n, t) in z) in
+    let x : buffer_at o c.loop-b.b ≡ c.index-buffers-b.result = the-buffer o c.loop-b.b c.buffers.result.now c.index-buffers-b.result c.buffers.ensures.told (let i = c.ranks-ranks.ensures.shape.shape.few_inputs in let z : c.loop-b.b < length o.buffers = omega (arith, n, t, i) in z) c.index-buffers-b.is in
+    subst (λ p. P p c.index-buffers-b.result c.ranks-ranks.result) (sym c.loop-b.invariant.plan)
+    (subst (λ v. P (drawn_inputs o c.loop-b.b).plan v c.ranks-ranks.result) x
+    (subst (λ v. P (drawn_inputs o c.loop-b.b).plan (buffer_at o c.loop-b.b) v) (sym c.ranks-ranks.ensures.told) room))
+
+pub hold_inputs-requires-clause-ranks : goal.hold_inputs-requires-clause-ranks
+hold_inputs-requires-clause-ranks c =
+    let o = c.args.shape.now in
+    let e = ap (λ (h : HeldCells). h.ranks) c.loop-b.invariant.held in
+    let t = (tables-inputs o c.ranks-ranks.ensures.shape.shape.few_ranks c.loop-b.b).ranks in
+    let r = c.ranks-ranks.ensures.told in
+    omega (arith, e, t, r)
+
+pub hold_inputs-requires-clause-buffer : goal.hold_inputs-requires-clause-buffer
+hold_inputs-requires-clause-buffer c =
+    let o = c.args.shape.now in
+    let e = ap (λ (h : HeldCells). h.buffers) c.loop-b.invariant.held in
+    let t = (tables-inputs o c.ranks-ranks.ensures.shape.shape.few_ranks c.loop-b.b).buffers in
+    let n = c.input_count-b-end.ensures.told in
+    let l = c.loop-b-test.true in
+    let i = c.ranks-ranks.ensures.shape.shape.few_inputs in
+    omega (arith, e, t, n, l, i)
+
+pub hold_inputs-requires-clause-few : goal.hold_inputs-requires-clause-few
+hold_inputs-requires-clause-few c =
+    let o = c.args.shape.now in
+    let n = c.input_count-b-end.ensures.told in
+    let t = c.loop-b-test.true in
+    let f = (few-inputs o c.ranks-ranks.ensures.shape.shape c.loop-b.b (let z : c.loop-b.b ≤ o.inputs = omega (arith, n, t) in z)).1 in
+    let e = ap length c.cells.ensures ∙ ap (λ (p : Plan). length p.cells) c.loop-b.invariant.plan in
+    let r = c.ranks-ranks.ensures.told in
+    let q = c.ranks-ranks.ensures.shape.shape.few_ranks in
+    omega (arith, f, e, r, q)
+
+pub loop-b-preserved : goal.loop-b-preserved
+loop-b-preserved c =
+    let o = c.args.shape.now in
+    let b = c.loop-b.b in
+    let d = drawn_inputs o b in
+    let n = c.input_count-b-end.ensures.told in
+    let t = c.loop-b-test.true in
+    let x : buffer_at o b ≡ c.index-buffers-b.result = the-buffer o b c.buffers.result.now c.index-buffers-b.result c.buffers.ensures.told (let i = c.ranks-ranks.ensures.shape.shape.few_inputs in let z : b < length o.buffers = omega (arith, n, t, i) in z) c.index-buffers-b.is in
+    let r = c.ranks-ranks.ensures.told in
+    let e = ap length c.cells.ensures ∙ ap (λ (p : Plan). length p.cells) c.loop-b.invariant.plan in
+    record {
+      plan =
+          c.in_ok-draw_inputs.ensures
+          ∙ ap (λ p. add_all p (map (input_cell c.index-buffers-b.result) (from_to 0 c.ranks-ranks.result))) c.loop-b.invariant.plan
+          ∙ ap₂ (λ y n. add_all d.plan (map (input_cell y) (from_to 0 n))) (sym x) r
+          ∙ sym (ap (λ (z : Drawing). z.plan) (inputs-next o b));
+      held =
+          c.hold_inputs.ensures
+          ∙ ap (λ h. hold_row h b (length c.cells.result.now) c.ranks-ranks.result) c.loop-b.invariant.held
+          ∙ ap₂ (λ y n. hold_row d.held b y n) e r
+          ∙ sym (ap (λ (z : Drawing). z.held) (inputs-next o b));
+    }

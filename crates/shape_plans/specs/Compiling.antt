@@ -1,0 +1,16 @@
+-- What is answered of a shape.
+use Rattle.std.specs.Prelude.{◌≡◌, Result, Ok, Err, Some, None}
+use Rattle.coll_shape.specs.Outline.{Outline}
+use Rattle.shape_plans.specs.declared.drawing.DrawnShape.{DrawnShape}
+use Rattle.shape_plans.specs.declared.faults.CompileFault.{CompileFault}
+use Rattle.shape_plans.specs.declared.faults.CompileFault.TheVariants.{TooMany, TooLarge, NoMemory}
+use Rattle.shape_plans.specs.Drawing.{drawing_of, plan_of}
+use Rattle.shape_plans.specs.Footprint.{refusal}
+use Rattle.shape_plans.specs.Footprint.Excess.{Links, Bytes}
+
+-- exactly the refusal, or else the plan
+abbrev pub Draws : Outline → Result DrawnShape CompileFault → Type 0
+Draws o (Ok c) = (refusal o ≡ None) × (c.plan ≡ plan_of o) × (c.held ≡ (drawing_of o).held)
+Draws o (Err (TooMany k)) = refusal o ≡ Some (record { step = k; name = Links })
+Draws o (Err (TooLarge k)) = refusal o ≡ Some (record { step = k; name = Bytes })
+Draws o (Err NoMemory) = refusal o ≡ None

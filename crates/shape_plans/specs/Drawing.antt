@@ -1,0 +1,73 @@
+-- The plan of a shape, step by step.
+use Rattle.std.specs.Prelude.{ℕ, zero, suc, ◌+◌, ◌*◌, List, Option, Some, None, [], ◌∷◌, length, map, replicate}
+use Rattle.plan_core.specs.declared.Part.{Part}
+use Rattle.plan_core.specs.Plan.{Plan, from_to}
+use Rattle.plan_core.specs.Draw.{NewCell, HeldCells, add_all, go_plan, hold, new_cell}
+use Rattle.coll_shape.specs.declared.types.Buffer.{Buffer}
+use Rattle.coll_shape.specs.declared.types.CollStep.{CollStep}
+use Rattle.coll_shape.specs.Outline.{Outline, buffer_at, group_at, list_bytes, step_at}
+use Rattle.coll_shape.specs.Collectives.{result_of, source_of}
+use Rattle.plan_steps.specs.Site.{Site, bump}
+use Rattle.plan_steps.specs.Steps.{exits_by}
+use Rattle.plan_steps.specs.Beginning.{site_of, held_after}
+use Rattle.shape_plans.specs.Steps.{cells_of, ends_of}
+
+-- a plan with the cell of each buffer at each rank, and the exit at each rank
+pub record Drawing : Type 0 where
+  pub plan : Plan
+  pub held : HeldCells
+  pub exits : List ℕ
+
+-- the go cells
+abbrev pub opened : Outline → Drawing
+opened o = record {
+  plan = go_plan o.ranks o.remote;
+  held = record { buffers = length o.buffers; ranks = o.ranks; cells = replicate (length o.buffers * o.ranks) None };
+  exits = from_to 0 o.ranks;
+}
+
+-- the cell of an input at a rank waits for the go cell alone
+abbrev pub input_part : Buffer → ℕ → Part
+input_part x r = record { rank = r; ty = x.ty; op = None; length = list_bytes x }
+
+abbrev pub input_cell : Buffer → ℕ → NewCell
+input_cell x r = new_cell (input_part x r) (bump r ∷ [])
+
+-- buffer b is held by the first n ranks, by cells that follow one another
+unfoldable pub hold_row : HeldCells → ℕ → ℕ → ℕ → HeldCells
+hold_row h b first zero = h
+hold_row h b first (suc r) = hold (hold_row h b first r) b r (first + r)
+
+abbrev pub drawn_input : Outline → Drawing → ℕ → Drawing
+drawn_input o d b = record {
+  plan = add_all d.plan (map (input_cell (buffer_at o b)) (from_to 0 o.ranks));
+  held = hold_row d.held b (length d.plan.cells) o.ranks;
+  exits = d.exits;
+}
+
+-- after the first b inputs
+unfoldable pub drawn_inputs : Outline → ℕ → Drawing
+drawn_inputs o zero = opened o
+drawn_inputs o (suc b) = drawn_input o (drawn_inputs o b) b
+
+-- what a step begins with
+abbrev pub site : Outline → Drawing → CollStep → List ℕ → Site
+site o d step g = site_of o d.plan d.held d.exits (source_of step) g
+
+abbrev pub drawn_step : Outline → Drawing → CollStep → List ℕ → Drawing
+drawn_step o d step g = record {
+  plan = add_all d.plan (cells_of (site o d step g) step);
+  held = held_after (result_of step) d.held g (ends_of (site o d step g) step);
+  exits = exits_by d.exits g (ends_of (site o d step g) step) (length g);
+}
+
+-- after the first k steps
+unfoldable pub drawn_upto : Outline → ℕ → Drawing
+drawn_upto o zero = drawn_inputs o o.inputs
+drawn_upto o (suc k) = drawn_step o (drawn_upto o k) (step_at o k) (group_at o k)
+
+unfoldable pub drawing_of : Outline → Drawing
+drawing_of o = drawn_upto o (length o.steps)
+
+abbrev pub plan_of : Outline → Plan
+plan_of o = (drawing_of o).plan

@@ -1,0 +1,29 @@
+//! From a shape to its plan.
+
+ghost use Rattle.std.specs.Prelude.{◌≡◌};
+ghost use Rattle.shape_plans.specs.Compiling.{Draws};
+
+use crate::drawing::{DrawnShape, draw};
+use crate::faults::CompileFault;
+use crate::judging::judge;
+use coll_shape::Shape;
+use std::alloc::Global;
+
+/// The plan of a shape, with the cell that holds each buffer at each rank. A shape that is refused takes no memory.
+///
+/// # Errors
+///
+/// `TooMany` and `TooLarge` come exactly where the shape is refused: they name the first step at which the plan has too many links,
+/// or too many bytes. `NoMemory` comes of no shape that is refused.
+pub fn drawn_shape(alloc: Global, shape: &Shape) -> Result<DrawnShape, CompileFault>
+    ensures { Draws shape.now result }
+{
+    let _ = shape.ranks();
+    match judge(shape) {
+        Ok(size) => match draw(alloc, shape, size.links) {
+            Ok(drawn) => Ok(drawn),
+            Err(_) => Err(CompileFault::NoMemory),
+        },
+        Err(fault) => Err(fault),
+    }
+}

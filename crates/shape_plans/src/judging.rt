@@ -1,0 +1,122 @@
+//! The judgement of a shape by the sizes of its steps, before anything is drawn.
+
+ghost use Rattle.std.specs.Prelude.{ℕ, ◌≡◌, ◌≤◌, ◌<◌, ◌^◌, if◌then◌else◌, Some, None, get_or, length};
+ghost use Rattle.coll_shape.specs.Outline.{group_at, step_at};
+ghost use Rattle.coll_shape.specs.Collectives.{holding_places, is_in};
+ghost use Rattle.shape_plans.specs.Judging.{Judges, add_sizes, inputs_size, size_upto, step_size as step_size_of};
+
+use crate::faults::CompileFault;
+use crate::footprints::{Size, step_bytes, step_links};
+use coll_shape::{Shape, is_in};
+use ptl_types::Rank;
+
+/// The most links of a plan.
+const MOST_LINKS: u64 = 500_000;
+
+/// The most bytes of a plan's cells.
+const MOST_BYTES: u64 = 134_217_728;
+
+/// 1 where a rank is one of the holders, else 0.
+fn one_if_in(r: Rank, holders: &[Rank]) -> u32
+    ensures told { result ≡ (if is_in r holders.now then 1 else 0) }
+    ensures few { result ≤ 1 }
+{
+    if is_in(r, holders) { 1 } else { 0 }
+}
+
+/// How many members are among the holders.
+fn holders_among(members: &[Rank], holders: &[Rank]) -> u32
+    requires { length members.now ≤ 256 }
+    ensures told { result ≡ length (holding_places members.now holders.now) }
+    ensures few { result ≤ length members.now }
+{
+    let mut among = 0u32;
+    for place in 0..members.len() {
+        among += one_if_in(members[place], holders);
+    }
+    among
+}
+
+/// Two sizes together.
+fn add_sizes(a: Size, b: Size) -> Size
+    requires links { a.links ≤ 2 ^ 62 }
+    requires bytes { a.bytes ≤ 2 ^ 62 }
+    requires more_links { b.links ≤ 2 ^ 62 }
+    requires more_bytes { b.bytes ≤ 2 ^ 62 }
+    ensures { result ≡ add_sizes a b }
+{
+    Size {
+        links: a.links + b.links,
+        bytes: a.bytes + b.bytes,
+    }
+}
+
+/// What a step adds.
+fn step_size(shape: &Shape, k: u32) -> Size
+    requires { k < length shape.now.steps }
+    ensures told { result ≡ step_size_of shape.now k }
+    ensures links { result.links ≤ 2 ^ 18 }
+    ensures bytes { result.bytes ≤ 2 ^ 45 }
+{
+    let _ = shape.ranks();
+    let step = &shape.steps()[k as usize];
+    let members = shape.group(k);
+    let m = members.len() as u32;
+    match step.source() {
+        Some(a) => {
+            let read = &shape.buffers()[a as usize];
+            let h = holders_among(members, read.spread.holders.as_slice());
+            Size {
+                links: step_links(step, m, h),
+                bytes: step_bytes(step, m, h, read.list_bytes()),
+            }
+        }
+        None => Size {
+            links: step_links(step, m, 0),
+            bytes: step_bytes(step, m, 0, 0),
+        },
+    }
+}
+
+/// What the inputs add.
+fn inputs_size(shape: &Shape) -> Size
+    ensures told { result ≡ inputs_size shape.now shape.now.inputs }
+    ensures links { result.links ≤ 2 ^ 15 }
+    ensures bytes { result.bytes ≤ 2 ^ 42 }
+{
+    let ranks = u64::from(shape.ranks());
+    let mut sum = Size { links: 0, bytes: 0 };
+    for b in 0..shape.input_count() {
+        let list = shape.buffers()[b as usize].list_bytes();
+        sum = add_sizes(
+            sum,
+            Size {
+                links: ranks,
+                bytes: ranks * list,
+            },
+        );
+    }
+    sum
+}
+
+/// Judges a shape: the first step at which the links or the bytes pass their limit, the links first. It draws nothing.
+///
+/// # Errors
+///
+/// The step, and what passes its limit there.
+pub(crate) fn judge(shape: &Shape) -> Result<Size, CompileFault>
+    ensures { Judges shape.now result }
+{
+    let _ = shape.ranks();
+    let mut sum = inputs_size(shape);
+    for k in 0..shape.steps().len() as u32 {
+        sum = add_sizes(sum, step_size(shape, k));
+        if MOST_LINKS < sum.links {
+            return Err(CompileFault::TooMany { step: k });
+        }
+        if MOST_BYTES < sum.bytes {
+            return Err(CompileFault::TooLarge { step: k });
+        }
+    }
+    Ok(sum)
+}
