@@ -1,0 +1,65 @@
+//! Orders: for each rank a list of local steps, without messages; what can be taken of them, and the verdict.
+#![tactic(auto)]
+
+ghost use Rattle.std.specs.Prelude.{ℕ, ◌<◌, ◌≡◌, ◌↔◌, List, length, map};
+ghost use Rattle.plan_core.specs.Plan.{Plan};
+ghost use Rattle.plan_core.specs.Sound.{SoundPlan, AreInputsOf};
+ghost use Rattle.plan_core.specs.Values.{Inputs};
+ghost use Rattle.plan_view.specs.Slots.{Slots};
+ghost use Rattle.plan_cuts.specs.Cut.{IsCut, IsAtRest};
+ghost use Rattle.plan_cuts.specs.Plans.{system_of};
+ghost use Rattle.plan_cuts.specs.System.{Histories, System};
+ghost use Rattle.plan_orders.specs.Reached.{EndsSo};
+ghost use Rattle.plan_orders.specs.Taking.{Lists, Move, IsInterleaving, IsTaken, histories, listed};
+ghost use Rattle.plan_orders.specs.Verdict.{IsVerdict, IsWhole, Rests};
+ghost use Rattle.plan_orders.specs.declared.Verdict.{Verdict};
+ghost use Rattle.plan_orders.specs.declared.Verdict.TheVariants.{Holds};
+
+use ptl_types::{Cause, Rank};
+
+/// What is said of given orders.
+#[derive(Clone, Copy, Debug, PartialEq, Eq)]
+pub enum Verdict {
+    /// They are the local steps of one interleaving that ends at rest.
+    Holds,
+    /// The lowest rank that fails, the place in its list, counted from 1, and why.
+    Fails {
+        rank: Rank,
+        place: u64,
+        cause: Cause,
+    },
+}
+
+/// What is taken of given lists doesn't depend on the order of taking: the same steps, with the same messages. So there is at
+/// most one verdict.
+pub fn orders_are_of_no_matter()
+    ensures taken { (ranks : System) (lists : Lists) (one other : List Move) →
+        IsTaken ranks lists one → IsTaken ranks lists other → (r : ℕ) → histories one r ≡ histories other r }
+    ensures verdict { (ranks : System) (lists : Lists) (one other : Verdict) →
+        IsVerdict ranks lists one → IsVerdict ranks lists other → one ≡ other }
+{}
+
+/// Taking ends: something is taken of any lists, as far as it goes.
+pub fn taking_ends()
+    ensures { (ranks : System) (lists : Lists) → (moves : List Move) × IsTaken ranks lists moves }
+{}
+
+/// The verdict is `Holds` exactly where the lists are the local steps of one interleaving that ends at rest: over any ranks, and
+/// by steps from moment to moment.
+pub fn holds_exactly()
+    ensures moves { (ranks : System) (lists : Lists) →
+        (IsVerdict ranks lists Holds ↔ ((moves : List Move) × IsInterleaving ranks moves
+        × ((r : ℕ) → r < ranks.count → IsWhole lists (histories moves) r × Rests ranks (histories moves) r))) }
+    ensures steps { (ranks : System) (lists : Lists) →
+        (IsVerdict ranks lists Holds ↔ EndsSo ranks lists) }
+{}
+
+/// Orders of a sound plan that hold are those of a cut at rest, so of a complete one.
+pub fn what_holds_is_at_rest()
+    ensures { (plan : Plan) (inputs : Inputs) (slots : ℕ → Slots) (lists : Lists) →
+        SoundPlan plan (length inputs) → AreInputsOf plan inputs →
+        IsVerdict (system_of plan inputs slots) lists Holds →
+        ((world : Histories) × IsCut (system_of plan inputs slots) world ×
+        IsAtRest (system_of plan inputs slots) world ×
+        ((r : ℕ) → r < plan.ranks → map listed (world r) ≡ lists r)) }
+{}
