@@ -1,7 +1,11 @@
 //! Orders: for each rank a list of local steps, without messages; what can be taken of them, and the verdict.
 #![tactic(auto)]
 
-ghost use Rattle.std.specs.Prelude.{ℕ, ◌<◌, ◌≡◌, ◌↔◌, List, length, map};
+ghost use Rattle.std.specs.Prelude.{ℕ, ◌<◌, ◌≡◌, ◌↔◌, List, [], length, map};
+ghost use Rattle.plan_core.specs.Members.{In};
+ghost use Rattle.plan_cuts.specs.Moment.{IsLocalStep, IsStill};
+ghost use Rattle.plan_orders.specs.Chosen.{IsChosen, Scene, chosen, enabled_steps, step_made};
+ghost use Rattle.plan_orders.specs.declared.Step.{Step};
 ghost use Rattle.plan_core.specs.Plan.{Plan};
 ghost use Rattle.plan_core.specs.Sound.{SoundPlan, AreInputsOf};
 ghost use Rattle.plan_core.specs.Values.{Inputs};
@@ -9,13 +13,24 @@ ghost use Rattle.plan_view.specs.Slots.{Slots};
 ghost use Rattle.plan_cuts.specs.Cut.{IsCut, IsAtRest};
 ghost use Rattle.plan_cuts.specs.Plans.{system_of};
 ghost use Rattle.plan_cuts.specs.System.{Histories, System};
-ghost use Rattle.plan_orders.specs.Reached.{EndsSo};
+ghost use Rattle.plan_orders.specs.Reached.{EndsSo, IsReached};
 ghost use Rattle.plan_orders.specs.Taking.{Lists, Move, IsInterleaving, IsTaken, histories, listed};
 ghost use Rattle.plan_orders.specs.Verdict.{IsVerdict, IsWhole, Rests};
 ghost use Rattle.plan_orders.specs.declared.Verdict.{Verdict};
 ghost use Rattle.plan_orders.specs.declared.Verdict.TheVariants.{Holds};
 
-use ptl_types::{Cause, Rank};
+use ptl_types::{Cause, Lane, Rank};
+
+/// A step of an interleaving, as a choice names it.
+#[derive(Clone, Copy, Debug, PartialEq, Eq)]
+pub enum Step {
+    /// The host of this rank starts it.
+    Start(Rank),
+    /// The first message from one rank to another on a lane is received.
+    Deliver(Rank, Rank, Lane),
+    /// The operation of this number is fired at this rank.
+    Fire(Rank, u32),
+}
 
 /// What is said of given orders.
 #[derive(Clone, Copy, Debug, PartialEq, Eq)]
@@ -62,4 +77,18 @@ pub fn what_holds_is_at_rest()
         ((world : Histories) × IsCut (system_of plan inputs slots) world ×
         IsAtRest (system_of plan inputs slots) world ×
         ((r : ℕ) → r < plan.ranks → map listed (world r) ≡ lists r)) }
+{}
+
+/// The enabled steps of a moment are each a step that a rank may make, and where none is listed all is still. So a chosen run is
+/// made of steps, and the lists of one of which no step is left hold.
+pub fn chosen_runs()
+    ensures listed { (ranks : System) (scene : Scene) (step : Step) →
+        In step (enabled_steps ranks scene) →
+        IsLocalStep ranks scene.world scene.held (step_made ranks step scene).world (step_made ranks step scene).held }
+    ensures none { (ranks : System) (scene : Scene) → enabled_steps ranks scene ≡ [] →
+        IsStill ranks scene.world scene.held }
+    ensures reached { (ranks : System) (words : ℕ → ℕ) (n : ℕ) →
+        IsReached ranks (chosen ranks words n).world (chosen ranks words n).held }
+    ensures holds { (ranks : System) (words : ℕ → ℕ) (world : Histories) →
+        IsChosen ranks words world → IsVerdict ranks (λ r. map listed (world r)) Holds }
 {}
