@@ -3,3 +3,4 @@ pub mod Orders
 pub mod Example
 pub mod Reduction
 pub mod Early
+pub mod Moments

@@ -33,14 +33,14 @@ use Rattle.plan_view.specs.Calls.{call_made, prepare}
 use Rattle.plan_cuts.specs.Plans.{start_of}
 use Rattle.ni_model.specs.Append.{append}
 
-abbrev on : ℕ → ℕ → Cell
+abbrev pub on : ℕ → ℕ → Cell
 on r k = record { rank = r; ty = U8; op = None; length = 0; needs = k }
 
-abbrev sync_link : ℕ → ℕ → Link
+abbrev pub sync_link : ℕ → ℕ → Link
 sync_link a b = record { source = a; source_offset = 0; length = 0; target = b; target_offset = 0; kind = Put }
 
 -- ---- two ranks: go cells, entries, and one round
-abbrev two : Plan
+abbrev pub two : Plan
 two = record { ranks = 2; remote = false; cells = on 0 1 ∷ on 1 1 ∷ on 0 1 ∷ on 1 1 ∷ on 0 2 ∷ on 1 2 ∷ []; links = bump_link 0 2 ∷ bump_link 1 3 ∷ bump_link 2 4 ∷ sync_link 3 4 ∷ bump_link 3 5 ∷ sync_link 2 5 ∷ [] }
 
 abbrev begin : ℕ → State
@@ -57,16 +57,16 @@ closed_form = refl
 numbers_of_rank_0 : works two 0 ≡ Along 0 ∷ Along 2 ∷ Along 5 ∷ Tell 0 ∷ Tell 2 ∷ Tell 4 ∷ []
 numbers_of_rank_0 = refl
 
-abbrev sync : ℕ → Sent
+abbrev pub sync : ℕ → Sent
 sync l = link_message two slots l []
 
 abbrev front : List Local
 front = Start ∷ Fire 0 ∷ Fire 1 ∷ Fire 2 ∷ Fire 3 ∷ Fire 4 ∷ []
 
-abbrev order0 : List Local
+abbrev pub order0 : List Local
 order0 = Start ∷ Fire 0 ∷ Fire 1 ∷ Fire 2 ∷ Fire 3 ∷ Fire 4 ∷ Receive 1 Request (sync 3) ∷ Fire 5 ∷ []
 
-abbrev order1 : List Local
+abbrev pub order1 : List Local
 order1 = Start ∷ Fire 0 ∷ Fire 1 ∷ Fire 2 ∷ Fire 3 ∷ Fire 4 ∷ Receive 0 Request (sync 5) ∷ Fire 5 ∷ []
 
 -- both orders hold: what each received is what the other sent, and at the end all is done
