@@ -9,7 +9,7 @@ use Rattle.std.proofs.lemmas.Bool.Decides.{nat_tests}
 use Rattle.std.proofs.lemmas.Cmp.{ranked}
 use Rattle.ptl_types.specs.declared.handles.Handle.{Handle}
 use Rattle.triggered_ops.specs.declared.held.Held.{Held}
-use Rattle.triggered_ops.specs.Layout.{operation, found_at, place_at, place_in, with_told, waits_in, without_those}
+use Rattle.triggered_ops.specs.Layout.{operation, found_at, with_told, waits_in, without_those}
 use Rattle.triggered_ops.specs.Operations.{Operation, is_number, waits_on, told_if, deed_of}
 
 pub number_eq : (a b : ℕ) → is_eq (nat_cmp a b) ≡ (a == b)
@@ -49,17 +49,6 @@ module _ {D : Type 0} where
       (λ e. let f : get nat_cmp n t ≡ None = is t ∙ number_test k t None (get nat_cmp m t) ∙ rw (eq-eqb t k e) in rw (f, eq-eqb t k e) refl)
       (λ ne. let f : get nat_cmp n t ≡ get nat_cmp m t = is t ∙ number_test k t None (get nat_cmp m t) ∙ rw (ne_eqb t k ne) in rw (f, ne_eqb t k ne) refl)
       (cases_eq t k)
-
-  -- an operation without a place leaves the places as they are
-  pub place-out : (m n : BTreeMap ℕ (Held D)) (k : ℕ) → ((q : ℕ) → get nat_cmp n q ≡ cond (is_eq (nat_cmp k q)) None (get nat_cmp m q)) → is_some (place_at m k) ≡ false → (t : ℕ) → place_at n t ≡ place_at m t
-  place-out m n k is apart t = ⊎_elim
-      (λ e. let f : get nat_cmp n t ≡ None = is t ∙ number_test k t None (get nat_cmp m t) ∙ rw (eq-eqb t k e) in ap place_in f ∙ sym (ap (place_at m) e ∙ not_some (place_at m k) apart))
-      (λ ne. let f : get nat_cmp n t ≡ get nat_cmp m t = is t ∙ number_test k t None (get nat_cmp m t) ∙ rw (ne_eqb t k ne) in ap place_in f)
-      (cases_eq t k)
-    where
-      not_some : (o : Option ℕ) → is_some o ≡ false → o ≡ None
-      not_some None e = refl
-      not_some (Some x) e = cc
 
   -- ---- told a sum
   told-number : (k sum : ℕ) (t : ℕ) (o : Option (Held D)) → (if t == k then option_map (with_told sum) (option_map (λ h. operation (t, h)) o) else option_map (λ h. operation (t, h)) o) ≡ option_map (told_if (is_number k) sum) (option_map (λ h. operation (t, h)) o)

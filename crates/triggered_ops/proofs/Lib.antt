@@ -2,6 +2,7 @@ pub mod Changes
 pub mod Found
 pub mod Indexed
 pub mod Keys
-pub mod Listed
+pub mod Marks
+pub mod Numbers
 pub mod Rising
 pub mod Views

@@ -1,6 +1,7 @@
 -- What the calls over the parts make of the whole: from what stands under each number to the list of those that wait.
-use Rattle.std.proofs.Common.{◌≡◌, ℕ, ◌+◌, ◌^◌, ◌<◌, ◌≤◌, ◌==◌, ◌&&◌, Bool, true, false, not, nat_le, List, [], ◌∷◌, ◌++◌, Option, Some, None, IsSome, is_some, find, filter, length, map, if◌then◌else◌, refl, ap, sym, subst, arith, ◌∙◌}
-use Rattle.std.specs.Prelude.{AllPairs, option_map, IfSome, IfNone}
+use Rattle.std.proofs.Common.{◌≡◌, ℕ, ◌+◌, ◌*◌, ◌^◌, ◌<◌, ◌≤◌, ◌==◌, ◌&&◌, Bool, true, false, not, nat_le, List, [], ◌∷◌, ◌++◌, Option, Some, None, IsSome, find, filter, length, map, if◌then◌else◌, refl, ap, sym, subst, arith, ◌∙◌}
+use Rattle.std.specs.Prelude.{All, AllPairs, option_map, IfNone}
+use Rattle.number_marks.specs.Marking.{Marking}
 use Rattle.std.specs.Ordering.{nat_cmp, is_le, MatchOrdering}
 use Rattle.std.specs.declared.cmp.Ordering.TheVariants.{Less, Equal, Greater}
 use Rattle.std.specs.declared.ops.Bound.TheVariants.{Included, Unbounded}
@@ -15,8 +16,8 @@ use Rattle.std.proofs.lemmas.Option.{slice_get-map}
 use Rattle.std.proofs.lemmas.List.Filters.{length-filter_both}
 use Rattle.ptl_types.specs.declared.handles.Handle.{Handle}
 use Rattle.triggered_ops.specs.declared.held.Held.{Held}
-use Rattle.triggered_ops.specs.Layout.{operation, operations_of, found_at, place_at, is_from, without_those, Key, IsListed, AreDue, IsIndexed, IsLaid, waits_in}
-use Rattle.triggered_ops.specs.Operations.{Operation, Operations, IsKept, is_number, is_due_op, operation_at, told_if, told_where, waits_on, waiting_on, with_posted, without_number, cancelled, deed_of, numbered}
+use Rattle.triggered_ops.specs.Layout.{operation, operations_of, found_at, is_from, without_those, Key, AreMarked, IsIndexed, IsLaid, waits_in}
+use Rattle.triggered_ops.specs.Operations.{Operation, Operations, IsKept, is_number, operation_at, told_if, told_where, waits_on, waiting_on, with_posted, without_number, cancelled, deed_of, numbered}
 use Rattle.triggered_ops.proofs.Found.{find-found, rising-sorted, same_rising, find-posted, find-told, find-without, find-cancelled}
 use Rattle.triggered_ops.proofs.Rising.{Rises, IsKept-told, IsKept-filter, found_number, find_has, without-absent}
 
@@ -98,21 +99,6 @@ module _ {D : Type 0} where
       let k : length (map operation n.entries) ≡ length (filter (λ p. not (waits_on ct p)) (map operation m.entries)) = ap (λ (o : Operations D). length o.waiting) e in
       rw (← is) (omega (arith, b, k, length-map m.entries operation, length-map n.entries operation))
 
-  -- ---- which are due
-  pub ready-first : (m : BTreeMap ℕ (Held D)) (given limit : ℕ) (ops : Operations D) (due : List ℕ) → operations_of m.entries given limit ≡ ops → IsListed (place_at m) due → AreDue m → IfSome (slice_get due 0) (λ t. is_due_op (operation_at t ops) ≡ true)
-  ready-first m given limit ops [] is listed are = tt
-  ready-first m given limit ops (d ∷ ds) is listed are =
-      let placed : is_some (place_at m d) ≡ true = ap is_some (listed.places 0 (omega arith)) in
-      ap is_due_op (read-op m given limit ops is d) ∙ sym (are d) ∙ placed
-
-  pub ready-none : (m : BTreeMap ℕ (Held D)) (given limit : ℕ) (ops : Operations D) (due : List ℕ) → operations_of m.entries given limit ≡ ops → IsListed (place_at m) due → AreDue m → IfNone (slice_get due 0) ((t : ℕ) → is_due_op (operation_at t ops) ≡ false)
-  ready-none m given limit ops [] is listed are = λ t. ap is_due_op (read-op m given limit ops is t) ∙ sym (are t) ∙ unplaced t (place_at m t) refl
-    where
-      unplaced : (t : ℕ) (o : Option ℕ) → place_at m t ≡ o → is_some o ≡ false
-      unplaced t None e = refl
-      unplaced t (Some i) e = let lt = (listed.numbers t i e).0 in absurd (omega (arith, lt))
-  ready-none m given limit ops (d ∷ ds) is listed are = tt
-
   -- ---- the first from a number on
   pub first-between : (a : ℕ) (es : List (ℕ × Held D)) (e : ℕ × Held D) (rest : List (ℕ × Held D)) → entries_between nat_cmp (Included a) Unbounded es ≡ e ∷ rest → find (is_from a) (map operation es) ≡ Some (operation e)
   first-between a [] e rest is = cc
@@ -134,14 +120,14 @@ module _ {D : Type 0} where
       ] (in_range a x.0)
 
   -- ---- the parts behind a call, and the whole
-  pub laid : (n : BTreeMap ℕ (Held D)) (index : BTreeSet Key) (due : List ℕ) (room room' given limit : ℕ) (ops : Operations D) → operations_of n.entries given limit ≡ ops → IsKept ops → IsOrdered nat_cmp n → IsIndexed n index → IsListed (place_at n) due → AreDue n → room' ≡ room → limit ≤ room → limit < 2 ^ 32 → IsLaid n index due room' given limit
-  laid n index due room room' given limit ops is kept ordered indexed listed are same enough small = record {
+  pub laid : (n : BTreeMap ℕ (Held D)) (index : BTreeSet Key) (old new : Marking) (given limit : ℕ) (ops : Operations D) → operations_of n.entries given limit ≡ ops → IsKept ops → IsOrdered nat_cmp n → IsIndexed n index → AreMarked n new → new.held ≡ old.held → new.room ≡ old.room → All (λ k. k < given) old.held → old.room ≡ 2 * limit → limit ≤ 2 ^ 27 → IsLaid n index new given limit
+  laid n index old new given limit ops is kept ordered indexed marked held same below room small = record {
     kept = rw is kept;
     ordered = ordered;
     indexed = indexed;
-    listed = listed;
-    are_due = are;
-    enough = rw same enough;
+    marked = marked;
+    below = rw held below;
+    room = same ∙ room;
     small = small;
   }
 

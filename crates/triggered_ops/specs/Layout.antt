@@ -1,11 +1,12 @@
--- How pending operations are laid out: by number, with an index by counting event and a list of those that are due. No public
+-- How pending operations are laid out: by number, with an index by counting event and a mark on each that is due. No public
 -- clause cites this module.
-use Rattle.std.specs.Prelude.{◌≡◌, ℕ, Bool, false, ◌^◌, ◌<◌, ◌≤◌, nat_le, List, length, map, slice_index_or, Option, Some, None, is_some, option_map, if◌then◌else◌}
+use Rattle.std.specs.Prelude.{◌≡◌, ℕ, Bool, true, false, ◌*◌, ◌^◌, ◌<◌, ◌≤◌, nat_le, List, map, Option, Some, None, is_some, option_map, if◌then◌else◌, All}
 use Rattle.std.specs.Ordering.{nat_cmp, ordering_then}
 use Rattle.std.specs.declared.cmp.Ordering.{Ordering}
 use Rattle.std.specs.BTreeMap.{BTreeMap, get, IsOrdered}
 use Rattle.std.specs.BTreeSet.{BTreeSet, contains}
 use Rattle.ptl_types.specs.declared.handles.Handle.{Handle}
+use Rattle.number_marks.specs.Marking.{Marking, is_in}
 use Rattle.triggered_ops.specs.declared.held.Held.{Held}
 use Rattle.triggered_ops.specs.Operations.{Operation, Operations, IsKept, waits_on, is_due_op}
 
@@ -16,11 +17,6 @@ Key = ℕ × ℕ × ℕ
 -- by the counting event, then by the number
 abbrev pub key_cmp : Key → Key → Ordering
 key_cmp x y = ordering_then (ordering_then (nat_cmp x.0 y.0) (nat_cmp x.1 y.1)) (nat_cmp x.2 y.2)
-
--- each stands once in the list, at the place that it knows
-pub record IsListed (place : ℕ → Option ℕ) (due : List ℕ) : Type 0 where
-  pub places : (i : ℕ) → i < length due → place (slice_index_or due i 0) ≡ Some i
-  pub numbers : (t i : ℕ) → place t ≡ Some i → (i < length due) × (slice_index_or due i 0 ≡ t)
 
 module _ {D : Type 0} where
   -- what stands under a number
@@ -44,14 +40,6 @@ module _ {D : Type 0} where
   abbrev pub found_at : BTreeMap ℕ (Held D) → ℕ → Option (Operation D)
   found_at m t = option_map (λ h. operation (t, h)) (get nat_cmp m t)
 
-  abbrev pub place_in : Option (Held D) → Option ℕ
-  place_in None = None
-  place_in (Some h) = h.place
-
-  -- its place in the list of those that are due
-  abbrev pub place_at : BTreeMap ℕ (Held D) → ℕ → Option ℕ
-  place_at m t = place_in (get nat_cmp m t)
-
   abbrev pub waits_in : Handle → Option (Operation D) → Bool
   waits_in ct None = false
   waits_in ct (Some p) = waits_on ct p
@@ -60,19 +48,20 @@ module _ {D : Type 0} where
   abbrev pub without_those : Handle → Option (Operation D) → Option (Operation D)
   without_those ct o = if waits_in ct o then None else o
 
-  -- those in the list are those that are due
-  abbrev pub AreDue : BTreeMap ℕ (Held D) → Type 0
-  AreDue m = (t : ℕ) → is_some (place_at m t) ≡ is_due_op (found_at m t)
+  -- each has a place among the numbers, and those that are marked are those that are due
+  pub record AreMarked (m : BTreeMap ℕ (Held D)) (k : Marking) : Type 0 where
+    pub placed : (t : ℕ) → is_some (found_at m t) ≡ true → is_in t k.held ≡ true
+    pub due : (t : ℕ) → is_in t k.marked ≡ is_due_op (found_at m t)
 
   -- the index has those that wait on each counting event
   abbrev pub IsIndexed : BTreeMap ℕ (Held D) → BTreeSet Key → Type 0
   IsIndexed m index = (slot stamp t : ℕ) → contains key_cmp index (slot, stamp, t) ≡ waits_in (record { slot = slot; stamp = stamp }) (found_at m t)
 
-  pub record IsLaid (m : BTreeMap ℕ (Held D)) (index : BTreeSet Key) (due : List ℕ) (room given limit : ℕ) : Type 0 where
+  pub record IsLaid (m : BTreeMap ℕ (Held D)) (index : BTreeSet Key) (k : Marking) (given limit : ℕ) : Type 0 where
     pub kept : IsKept (operations_of m.entries given limit)
     pub ordered : IsOrdered nat_cmp m
     pub indexed : IsIndexed m index
-    pub listed : IsListed (place_at m) due
-    pub are_due : AreDue m
-    pub enough : limit ≤ room
-    pub small : limit < 2 ^ 32
+    pub marked : AreMarked m k
+    pub below : All (λ n. n < given) k.held
+    pub room : k.room ≡ 2 * limit
+    pub small : limit ≤ 2 ^ 27

@@ -11,28 +11,32 @@ mod parts;
 mod tests;
 
 use crate::held::Held;
+use number_marks::Marks;
 use ptl_types::{Handle, NoMemory};
 use std::alloc::Global;
 use std::collections::{BTreeMap, BTreeSet};
 use std::marker::Model;
 
+/// The most that may wait in any table.
+const MOST: u32 = 1 << 27;
+
 /// The operations that wait, each with a number, a deed of the caller's, its counting event and its threshold. Its value is the
 /// list of them by rising number, with the sum that each was last told, how many numbers were given, and how many may wait.
 ///
-/// With n that wait, `ready` takes a constant number of steps, and `post`, `tell`, `is_ready`, `get`, `next` and `take` the order
-/// of log n; `reached` and `cancel` take as many for each operation that waits on that counting event, and touch no other. `at`
+/// With n that wait, `len` and `ready_count` take a constant number of steps, and `post` (over many of them), `tell`, `is_ready`,
+/// `ready`, `ready_at`, `get`, `next` and `take` the order of log n; `reached` and `cancel` take as many for each operation that waits on that counting event, and touch no other. `at`
 /// passes over the operations before its place.
 #[derive(Drop)]
 pub struct Pending<D> {
     operations: BTreeMap<u32, Held<D>>,
     index: BTreeSet<(u32, u64, u32)>,
-    due: Vec<u32>,
+    marks: Marks,
+    alloc: Global,
     given: u32,
     limit: u32,
 }
 
 impl<D> Model for Pending<D> {
-    ghost use Rattle.std.specs.Prelude.{vec_capacity};
     ghost use Rattle.triggered_ops.specs.Operations.{Operations};
     ghost use Rattle.triggered_ops.specs.Codes.{operations_code};
 
@@ -44,7 +48,7 @@ impl<D> Model for Pending<D> {
 
     ghost view = { λ p. operations_of p.operations.entries p.given p.limit };
 
-    ghost invariant = { λ p. IsLaid p.operations p.index p.due.items (vec_capacity p.due) p.given p.limit };
+    ghost invariant = { λ p. IsLaid p.operations p.index p.marks p.given p.limit };
 }
 
 impl<D> Pending<D> {
@@ -74,14 +78,14 @@ impl<D> Pending<D> {
     pub fn reached(&mut self, ct: Handle, sum: u64)
         ensures does { self.new ≡ told ct sum self.old }
     {
-        parts::tell_all(&mut self.operations, &self.index, &mut self.due, ct, sum);
+        parts::tell_all(&mut self.operations, &self.index, &mut self.marks, ct, sum);
     }
 
     /// Tells a sum to the operation of this number alone; nothing changes where it doesn't wait.
     pub fn tell(&mut self, number: u32, sum: u64)
         ensures does { self.new ≡ told_one number sum self.old }
     {
-        held::tell(&mut self.operations, &mut self.due, number, sum);
+        held::tell(&mut self.operations, &mut self.marks, number, sum);
     }
 
     /// The number of an operation whose told sum is at least its threshold; `None` exactly where there is none. Which of
@@ -90,7 +94,11 @@ impl<D> Pending<D> {
         ensures some { IfSome result (λ t. is_ready t self.now ≡ true) }
         ensures none { IfNone result ((t : ℕ) → is_ready t self.now ≡ false) }
     {
-        self.due.first().copied()
+        if self.marks.count() == 0 {
+            None
+        } else {
+            Some(self.marks.at(0))
+        }
     }
 
     /// Whether the operation of this number waits and its told sum is at least its threshold.
@@ -108,13 +116,7 @@ impl<D> Pending<D> {
         ensures told { result ≡ length (due_numbers self.now) }
         ensures kept { IsKept self.now }
     {
-        let mut count = 0;
-        for (_, held) in &self.operations {
-            if held.threshold <= held.told {
-                count += 1;
-            }
-        }
-        count
+        self.marks.count() as u32
     }
 
     /// The number of the one at place `i` among them, by rising number, from 0.
@@ -123,16 +125,9 @@ impl<D> Pending<D> {
         ensures told { slice_get (due_numbers self.now) i ≡ Some result }
         ensures kept { IsKept self.now }
     {
-        let mut rest = i;
-        for (number, held) in &self.operations {
-            if held.threshold <= held.told {
-                if rest == 0 {
-                    return *number;
-                }
-                rest -= 1;
-            }
-        }
-        unreachable!()
+        // Brings to the proof that the marked numbers rise.
+        let _marked = self.marks.count();
+        self.marks.at(u64::from(i))
     }
 
     /// The deed, the counting event and the threshold of the operation of this number; `None` exactly where it doesn't wait.
@@ -182,25 +177,32 @@ impl<D> Pending<D> {
         ensures rest { self.new ≡ without_number number self.old }
         ensures none { IfNone result (self.new ≡ self.old) }
     {
-        parts::take_out(&mut self.operations, &mut self.index, &mut self.due, number)
+        parts::take_out(
+            &mut self.operations,
+            &mut self.index,
+            &mut self.marks,
+            number,
+        )
     }
 }
 
 impl<D: Drop> Pending<D> {
-    /// None, with numbers from 0; `limit` may wait at a time.
+    /// None, with numbers from 0; `limit` may wait at a time. `NoMemory` also where the limit passes 2^27.
     pub fn open(alloc: Global, limit: u32) -> Result<Pending<D>, NoMemory>
         ensures makes { IfOk result (λ p. p ≡ no_operations limit) }
     {
-        match Vec::with_capacity(alloc, limit as usize) {
-            Ok(due) => Ok(Pending {
-                operations: BTreeMap::new(alloc),
-                index: BTreeSet::new(alloc),
-                due,
-                given: 0,
-                limit,
-            }),
-            Err(_) => Err(NoMemory),
+        if limit > MOST {
+            return Err(NoMemory);
         }
+        let marks = Marks::open(alloc, 2 * limit)?;
+        Ok(Pending {
+            operations: BTreeMap::new(alloc),
+            index: BTreeSet::new(alloc),
+            marks,
+            alloc,
+            given: 0,
+            limit,
+        })
     }
 
     /// Posts an operation and answers its number, which none that waits has; it was told 0. Where memory is wanting the deed is dropped and nothing else
@@ -219,12 +221,17 @@ impl<D: Drop> Pending<D> {
             ct,
             threshold,
             told: 0,
-            place: None,
         };
+        parts::make_room(
+            self.alloc,
+            &self.operations,
+            &mut self.marks,
+            2 * self.limit,
+        )?;
         match parts::post(
             &mut self.operations,
             &mut self.index,
-            &mut self.due,
+            &mut self.marks,
             number,
             held,
         ) {
@@ -242,7 +249,7 @@ impl<D: Drop> Pending<D> {
         ensures rest { self.new ≡ cancelled ct self.old }
     {
         let before = self.operations.len();
-        parts::drop_all(&mut self.operations, &mut self.index, &mut self.due, ct);
+        parts::drop_all(&mut self.operations, &mut self.index, &mut self.marks, ct);
         (before - self.operations.len()) as u32
     }
 }

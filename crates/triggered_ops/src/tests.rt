@@ -72,3 +72,36 @@ fn a_walk_passes_those_that_were_cancelled(rt: HostRuntime) -> Result<(), Fail> 
     assert_eq!(rt; pending.len(), 0);
     Ok(())
 }
+
+#[test]
+fn the_ready_ones_are_told_in_order_of_their_numbers(rt: HostRuntime) -> Result<(), Fail> {
+    let mut pending = Pending::open(rt.alloc(), 3)?;
+    assert_eq!(rt; pending.post(7u8, GO, 2), Ok(0));
+    assert_eq!(rt; pending.post(8, AGAIN, 1), Ok(1));
+    assert_eq!(rt; pending.post(9, GO, 1), Ok(2));
+    assert_eq!(rt; pending.ready_count(), 0);
+    pending.reached(GO, 2);
+    assert_eq!(rt; pending.ready_count(), 2);
+    if pending.ready_count() > 1 {
+        assert_eq!(rt; pending.ready_at(0), 0);
+        assert_eq!(rt; pending.ready_at(1), 2);
+    }
+    Ok(())
+}
+
+#[test]
+fn one_stays_ready_while_many_come_and_go(rt: HostRuntime) -> Result<(), Fail> {
+    let mut pending = Pending::open(rt.alloc(), 2)?;
+    assert_eq!(rt; pending.post(7u8, GO, 1), Ok(0));
+    pending.reached(GO, 1);
+    for number in 1..20 {
+        if !pending.is_full() {
+            assert_eq!(rt; pending.post(8, AGAIN, 0), Ok(number));
+            assert_eq!(rt; pending.ready_count(), 2);
+            assert_eq!(rt; pending.ready(), Some(0));
+            assert_eq!(rt; pending.take(number), Some(8));
+        }
+    }
+    assert_eq!(rt; pending.ready_count(), 1);
+    Ok(())
+}

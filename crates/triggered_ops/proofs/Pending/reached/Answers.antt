@@ -9,9 +9,9 @@ tell_all-requires-clause-below g c = λ t some. let lt : t < c.self.inside.given
 
 pub invariant_of-self : goal.invariant_of-self
 invariant_of-self g c =
-    laid c.tell_all.new.operations _ _ _ _ c.self.inside.given c.self.inside.limit _
+    laid c.tell_all.new.operations _ c.self.inside.marks _ c.self.inside.given c.self.inside.limit _
     (waiting-told c.self.inside.operations c.tell_all.new.operations c.self.inside.given c.self.inside.limit (waits_on c.args.ct) c.args.sum c.self.invariant.kept c.tell_all.ensures.ordered c.tell_all.ensures.found)
-    (IsKept-told _ (waits_on c.args.ct) c.args.sum c.self.invariant.kept) c.tell_all.ensures.ordered (indexed-told c.self.inside.operations c.tell_all.new.operations c.self.inside.index (waits_on c.args.ct) c.args.sum c.self.invariant.indexed c.tell_all.ensures.found) c.tell_all.ensures.listed c.tell_all.ensures.are_due c.tell_all.ensures.room c.self.invariant.enough c.self.invariant.small
+    (IsKept-told _ (waits_on c.args.ct) c.args.sum c.self.invariant.kept) c.tell_all.ensures.ordered (indexed-told c.self.inside.operations c.tell_all.new.operations c.self.inside.index (waits_on c.args.ct) c.args.sum c.self.invariant.indexed c.tell_all.ensures.found) c.tell_all.ensures.marked c.tell_all.ensures.held c.tell_all.ensures.room c.self.invariant.below c.self.invariant.room c.self.invariant.small
 
 pub returns : goal.returns
 returns g c =

@@ -10,9 +10,9 @@ invariant_of-self g c =
     let n = c.tell.new.operations in
     let test = is_number c.args.number in
     let found = told-alone m n c.args.number c.args.sum c.tell.ensures.found in
-    laid n _ _ _ _ c.self.inside.given c.self.inside.limit _
+    laid n _ c.self.inside.marks _ c.self.inside.given c.self.inside.limit _
     (waiting-told m n c.self.inside.given c.self.inside.limit test c.args.sum c.self.invariant.kept c.tell.ensures.ordered found)
-    (IsKept-told _ test c.args.sum c.self.invariant.kept) c.tell.ensures.ordered (indexed-told m n c.self.inside.index test c.args.sum c.self.invariant.indexed found) c.tell.ensures.listed c.tell.ensures.are_due c.tell.ensures.room c.self.invariant.enough c.self.invariant.small
+    (IsKept-told _ test c.args.sum c.self.invariant.kept) c.tell.ensures.ordered (indexed-told m n c.self.inside.index test c.args.sum c.self.invariant.indexed found) c.tell.ensures.marked c.tell.ensures.held c.tell.ensures.room c.self.invariant.below c.self.invariant.room c.self.invariant.small
 
 pub returns : goal.returns
 returns g c =
