@@ -1,0 +1,11 @@
+pub mod Ended
+pub mod Lists
+pub mod Made
+pub mod Copies
+pub mod Steady
+pub mod Places
+pub mod Started
+pub mod Nodes
+pub mod Shut
+pub mod Opened
+pub mod Plans

@@ -1,0 +1,62 @@
+-- A history as a node keeps it: the steps, and of what was received the headers and copies of the bytes, one behind the other.
+use Rattle.std.specs.Prelude.{ℕ, Bool, nat_lt, ◌+◌, ◌-◌, ◌≡◌, ◌≤◌, List, [], ◌∷◌, ◌++◌, length, take, drop, count_by}
+use Rattle.ptl_types.specs.declared.headers.Header.{Header}
+use Rattle.ptl_types.specs.declared.headers.Lane.{Lane}
+use Rattle.ptl_types.specs.declared.steps.LocalStep.{LocalStep}
+use Rattle.ptl_types.specs.declared.steps.LocalStep.TheVariants.{Start, Receive, Fire}
+use Rattle.ptl_types.specs.Messages.{Sent, message, bytes_due}
+use Rattle.plan_cuts.specs.History.{Local, is_start}
+use Rattle.plan_cuts.specs.History.Local.{Start as Started, Receive as Received, Fire as Fired}
+
+-- how many bytes go with a header
+abbrev pub due_of : Header → ℕ
+due_of h = bytes_due h.kind h.ok h.length
+
+-- the steps with the messages that were received
+abbrev pub told : List LocalStep → List Header → List ℕ → List Local
+told [] hs bs = []
+told (Start ∷ es) hs bs = Started ∷ told es hs bs
+told (Fire t ∷ es) hs bs = Fired t ∷ told es hs bs
+told (Receive source lane ∷ es) [] bs = []
+told (Receive source lane ∷ es) (h ∷ hs) bs = Received source lane (message h (take (due_of h) bs)) ∷ told es hs (drop (due_of h) bs)
+
+-- a step without its message
+abbrev pub listed : Local → LocalStep
+listed Started = Start
+listed (Received source lane m) = Receive source lane
+listed (Fired t) = Fire t
+
+-- there is a header for each receipt, and there are the bytes that go with it
+abbrev pub AreCopied : List LocalStep → List Header → List ℕ → Type 0
+AreCopied [] hs bs = (hs ≡ []) × (bs ≡ [])
+AreCopied (Start ∷ es) hs bs = AreCopied es hs bs
+AreCopied (Fire t ∷ es) hs bs = AreCopied es hs bs
+AreCopied (Receive source lane ∷ es) [] bs = ⊥
+AreCopied (Receive source lane ∷ es) (h ∷ hs) bs = (due_of h ≤ length bs) × AreCopied es hs (drop (due_of h) bs)
+
+-- a start stands in the history
+abbrev pub has_start : List Local → Bool
+has_start es = nat_lt 0 (count_by is_start es)
+
+-- how many bytes the received messages have together, strays among them
+abbrev pub bytes_received : List Local → ℕ
+bytes_received [] = 0
+bytes_received (Received source lane m ∷ es) = length m.bytes + bytes_received es
+bytes_received (Started ∷ es) = bytes_received es
+bytes_received (Fired t ∷ es) = bytes_received es
+
+-- a history, its steps alone, and the room that is left: for steps, for receipts and for the bytes that come with them
+pub record Diary : Type 0 where
+  pub locals : List Local
+  pub steps : List LocalStep
+  pub room : ℕ
+  pub receipts : ℕ
+  pub bytes : ℕ
+
+-- a step more
+abbrev pub with_step : LocalStep → Local → Diary → Diary
+with_step step e d = record d { locals = d.locals ++ e ∷ []; steps = d.steps ++ step ∷ []; room = d.room - 1 }
+
+-- a receipt more
+abbrev pub with_receipt : ℕ → Lane → Sent → Diary → Diary
+with_receipt source lane m d = record (with_step (Receive source lane) (Received source lane m) d) { receipts = d.receipts - 1; bytes = d.bytes - length m.bytes }

@@ -1,0 +1,238 @@
+//! One rank.
+
+ghost use Rattle.std.specs.Prelude.{◌≡◌, ◌<◌, ◌≤◌, ◌+◌, ◌*◌, ◌^◌, [], false, Some, IsTrue, IfOk, length, map, count_by, nat_lt, replicate, slice_get};
+ghost use Rattle.ni_model.specs.Answers.{is_awaited};
+ghost use Rattle.ni_model.specs.Ready.{is_ready};
+ghost use Rattle.ni_model.specs.Tables.{lookup};
+ghost use Rattle.plan_view.specs.Slots.{Slots, done_ct};
+ghost use Rattle.plan_cuts.specs.History.{IsDue, is_lane, is_start, made_by};
+ghost use Rattle.plan_cuts.specs.History.Local.{Receive as Received, Fire as Fired};
+ghost use Rattle.rank_node.specs.Copies.{listed as step_of};
+ghost use Rattle.rank_node.specs.Gates.{may_go, open_numbers};
+ghost use Rattle.rank_node.specs.Handles.{Agrees};
+ghost use Rattle.rank_node.specs.Node.{IsCompiled, IsPrepared, IsNode, IsStarted, fired_node, gated_node, received_node, task_of};
+
+use crate::choice::{may_fire, open_at, open_count};
+use crate::compiled::Compiled;
+use crate::gates::Gates;
+use crate::history::History;
+use crate::install::{counter_of, make_calls};
+use crate::kept::Kept;
+use crate::start::{raise_go, start_cells};
+use portals_ni::Nic;
+use ptl_types::{Bytes, Count, Lane, LocalStep, Message, NoMemory, Rank};
+use std::alloc::Global;
+use std::marker::Model;
+
+/// How many bytes a message may have that isn't of the plan.
+const STRAY_BYTES: u64 = 64;
+
+/// One rank: what is compiled for it, its interface with the handles that it gave, its history, and a buffer for what came before
+/// the start.
+#[derive(Drop)]
+pub struct Node {
+    compiled: Compiled,
+    nic: Nic,
+    kept: Kept,
+    history: History,
+    buffer: Vec<u8>,
+    strays: u32,
+    gates: Gates,
+}
+
+impl Model for Node {
+    ghost use Rattle.std.specs.Prelude.{◌≡◌, length};
+    ghost use Rattle.rank_node.specs.Node.{NodeState, IsNode, task_of};
+
+    ghost Value = { NodeState };
+
+    ghost view = { λ n. record { task = task_of n.compiled; kept = n.kept; diary = n.history; nic = n.nic; strays = n.strays; closed = n.gates } };
+
+    ghost invariant = { λ n. IsNode (record { task = task_of n.compiled; kept = n.kept; diary = n.history; nic = n.nic; strays = n.strays; closed = n.gates }) × (length n.buffer.items ≡ n.compiled.longest) };
+}
+
+/// So many zeros.
+fn zeros(alloc: Global, count: u64) -> Result<Vec<u8>, NoMemory>
+    ensures { IfOk result (λ v. length v.items ≡ count) }
+{
+    let mut bytes = Vec::new(alloc);
+    match bytes.resize(count as usize, 0) {
+        Ok(()) => Ok(bytes),
+        Err(_) => Err(NoMemory),
+    }
+}
+
+/// Makes the compiled calls on a new interface. There is room for all handles before the first call.
+fn prepare(alloc: Global, compiled: &Compiled) -> Result<(Nic, Kept), NoMemory>
+    requires { IsCompiled (task_of compiled.now) }
+    ensures { IfOk result (λ p. IsPrepared (task_of compiled.now) p.0 p.1) }
+{
+    let region = Bytes::of(alloc, compiled.region.as_slice())?;
+    let mut kept = Kept::with_room(alloc, &compiled.limits)?;
+    let mut nic = Nic::open(
+        alloc,
+        compiled.rank,
+        compiled.ranks,
+        compiled.limits,
+        region,
+    )?;
+    make_calls(&mut nic, &mut kept, &compiled.cells, &compiled.calls)?;
+    Ok((nic, kept))
+}
+
+/// A new history with room for a start, so many firings, the messages of the task and so many strays.
+fn diary(alloc: Global, compiled: &Compiled, firings: u32, strays: u32) -> Result<History, NoMemory>
+    requires { compiled.now.receipts < 2 ^ 33 }
+    ensures { IfOk result (λ h. h ≡ record { locals = []; steps = []; room = 1 + (firings + (compiled.now.receipts + strays)); receipts = compiled.now.receipts + strays; bytes = compiled.now.bytes + STRAY_BYTES * strays }) }
+{
+    let receipts = compiled.receipts + u64::from(strays);
+    let steps = 1 + (u64::from(firings) + receipts);
+    match compiled.bytes.checked_add(STRAY_BYTES * u64::from(strays)) {
+        Some(bytes) => History::with_room(alloc, steps, receipts, bytes),
+        None => Err(NoMemory),
+    }
+}
+
+impl Node {
+    /// Prepares the interface by the compiled calls, of which none is refused. The history is empty. The memory for the whole run
+    /// is taken here: for the steps, for copies of what is received (the messages of the plan, and `strays` further ones of at
+    /// most 64 bytes), and for the handles of the entries that come with the start.
+    pub fn install(alloc: Global, compiled: Compiled, strays: u32) -> Result<Node, NoMemory>
+        requires { IsCompiled (task_of compiled) }
+        ensures task { IfOk result (λ n. n.task ≡ task_of compiled) }
+        ensures history { IfOk result (λ n. n.diary.locals ≡ []) }
+        ensures steps { IfOk result (λ n. n.diary.steps ≡ []) }
+        ensures strays { IfOk result (λ n. n.strays ≡ strays) }
+        ensures gates { IfOk result (λ n. n.closed ≡ replicate compiled.ranks false) }
+    {
+        let (nic, kept) = prepare(alloc, &compiled)?;
+        let history = diary(alloc, &compiled, nic.pending(), strays)?;
+        let buffer = zeros(alloc, compiled.longest)?;
+        let gates = Gates::all_open(alloc, compiled.ranks)?;
+        Ok(Node {
+            compiled,
+            nic,
+            kept,
+            history,
+            buffer,
+            strays,
+            gates,
+        })
+    }
+
+    /// The steps, oldest first. `kept` is what holds of a node whatever was done with it.
+    pub fn history(&self) -> &[LocalStep]
+        ensures told { result.now ≡ self.now.diary.steps }
+        ensures listed { map step_of self.now.diary.locals ≡ self.now.diary.steps }
+        ensures kept { IsNode self.now }
+    {
+        self.history.steps()
+    }
+
+    /// Whether the rank has started.
+    pub fn started(&self) -> bool
+        ensures { result ≡ nat_lt 0 (count_by is_start self.now.diary.locals) }
+    {
+        self.history.started()
+    }
+
+    /// Its interface.
+    pub fn nic(&self) -> &Nic
+        ensures { result.now ≡ self.now.nic }
+    {
+        &self.nic
+    }
+
+    /// The counting event of what is done.
+    pub fn done(&self) -> Count
+        ensures { (k : Slots) → Agrees k self.now.kept → lookup (done_ct k) self.now.nic.cts.live ≡ Some result }
+    {
+        match self.nic.ct_get(self.kept.counter(0)) {
+            Ok(count) => count,
+            Err(_) => unreachable!(),
+        }
+    }
+
+    /// Whether an answer is awaited.
+    pub fn awaits(&self) -> bool
+        ensures { result ≡ is_awaited self.now.nic.mds.live }
+    {
+        self.nic.awaits_any()
+    }
+
+    /// Notes whether the request lane to a rank has no room now.
+    pub fn set_closed(&mut self, d: Rank, closed: bool)
+        requires { d < length self.old.closed }
+        ensures { self.new ≡ gated_node d closed self.old }
+    {
+        self.gates.set(d, closed);
+    }
+
+    /// How many operations are ready and would find room for their message, if they have one.
+    pub fn ready(&self) -> u32
+        ensures { result ≡ length (open_numbers self.now.closed self.now.nic) }
+    {
+        open_count(&self.nic, &self.gates)
+    }
+
+    /// The number of the one at place `i` among these, by rising number, from 0.
+    pub fn ready_at(&self, i: u32) -> u32
+        requires { i < length (open_numbers self.now.closed self.now.nic) }
+        ensures { slice_get (open_numbers self.now.closed self.now.nic) i ≡ Some result }
+    {
+        open_at(&self.nic, &self.gates, i)
+    }
+
+    /// Whether the operation of this number is one of them.
+    pub fn may_fire(&self, number: u32) -> bool
+        ensures { result ≡ may_go self.now.closed self.now.nic number }
+    {
+        may_fire(&self.nic, &self.gates, number)
+    }
+
+    /// Fires an operation that is ready, and gives its message; `None` exactly for one that counts. It takes no memory. Its lane is
+    /// the caller's to look at.
+    pub fn fire(&mut self, number: u32) -> Option<Message>
+        requires { IsTrue (is_ready self.old.nic number) }
+        ensures message { result ≡ made_by self.old.nic (Fired number) }
+        ensures step { self.new ≡ fired_node number self.old }
+    {
+        self.history.note_fire(number);
+        self.nic.fire(number)
+    }
+
+    /// Handles a message that arrived, and gives the answer to send back, if any. It takes no memory. Conditions: the message is
+    /// of that source and lane and for this rank; on the answer lane an answer is awaited; and there is room for one receipt more
+    /// and for the message's bytes.
+    pub fn receive(&mut self, source: Rank, lane: Lane, message: Message) -> Option<Message>
+        requires source { message.header.source ≡ source }
+        requires target { message.header.target ≡ self.old.nic.rank }
+        requires lane { IsTrue (is_lane lane message.header.kind) }
+        requires due { IsDue self.old.nic lane message }
+        requires receipts { 0 < self.old.diary.receipts }
+        requires bytes { length message.bytes ≤ self.old.diary.bytes }
+        ensures answer { result ≡ made_by self.old.nic (Received source lane message) }
+        ensures step { self.new ≡ received_node source lane message self.old }
+    {
+        self.history.note_receipt(source, lane, &message);
+        self.nic.deliver(message).answer
+    }
+
+    /// Starts the rank: what came early is brought into its cells, their entries are appended, and the host raises the counting
+    /// event of its go cell. It takes no memory. Condition: it hasn't started.
+    pub fn start(&mut self)
+        requires { count_by is_start self.old.diary.locals ≡ 0 }
+        ensures { IsStarted self.old self.new }
+    {
+        start_cells(
+            &mut self.nic,
+            &mut self.kept,
+            &mut self.buffer,
+            &self.compiled.cells,
+            &self.compiled.own,
+        );
+        let go = counter_of(&self.kept, &self.compiled.cells, self.compiled.go);
+        raise_go(&mut self.nic, go);
+        self.history.note_start();
+    }
+}

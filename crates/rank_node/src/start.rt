@@ -1,0 +1,172 @@
+//! The start of a rank: what came early is brought into its cells, and their entries are appended.
+
+ghost use Rattle.std.specs.Prelude.{◌≡◌, ◌<◌, ◌≤◌, ◌+◌, ℕ, List, All, IsTrue, nat_le, [], ◌∷◌, true, false, length};
+ghost use Rattle.ptl_types.specs.Elements.{part};
+ghost use Rattle.ni_model.specs.Headers.{found_in};
+ghost use Rattle.plan_calls.specs.declared.OwnCell.{OwnCell as Own};
+ghost use Rattle.rank_node.specs.Handles.{AreAllOf, IsRising};
+ghost use Rattle.rank_node.specs.Calls.{HasCounter};
+ghost use Rattle.plan_start.specs.Start.{is_used as uses, lies_in as lies, fits_elements as fits, brought_by, bring, bring_all, go_raised, entry_of, with_brought};
+ghost use Rattle.rank_node.specs.Start.{IsAppended, AreStarted};
+
+use crate::install::{counter_of, entry_of_cell, one};
+use crate::kept::Kept;
+use lane_ops::combine;
+use plan_calls::OwnCell;
+use portals_ni::Nic;
+use ptl_types::{Appended, AtomicOp, ElemType, Entry, Handle, List, UnexpectedHeader};
+use unexpected::finds;
+
+/// Whether so many bytes are whole elements, where the cell has an operation.
+fn fits_elements(op: Option<AtomicOp>, ty: ElemType, count: u64) -> bool
+    ensures { result ≡ fits op ty count }
+{
+    match op {
+        None => true,
+        Some(_) => count % ty.size() == 0,
+    }
+}
+
+/// Whether the sum of both is at most the size.
+fn is_within(start: u64, length: u64, size: u64) -> bool
+    ensures { result ≡ nat_le (start + length) size }
+{
+    match start.checked_add(length) {
+        Some(end) => end <= size,
+        None => false,
+    }
+}
+
+/// Whether what a header brought is used.
+fn is_used(longest: u64, cell: &OwnCell, header: &UnexpectedHeader) -> bool
+    ensures { result ≡ uses longest cell.now header.now }
+{
+    is_within(header.header.offset, header.delivered, cell.length)
+        && header.delivered <= longest
+        && fits_elements(cell.op, cell.ty, header.delivered)
+}
+
+/// Whether the cell and the header's bytes lie in a region of this size.
+fn lies_in(cell: &OwnCell, header: &UnexpectedHeader, size: u64) -> bool
+    ensures { result ≡ lies cell.now header.now size }
+{
+    is_within(cell.start, cell.length, size) && is_within(header.place, header.delivered, size)
+}
+
+/// The bytes that the cell holds once those that came are written or combined.
+fn fill_brought(
+    bytes: &mut [u8],
+    memory: &[u8],
+    op: Option<AtomicOp>,
+    ty: ElemType,
+    at: usize,
+    place: usize,
+)
+    requires old { at + length bytes.old ≤ length memory.now }
+    requires new { place + length bytes.old ≤ length memory.now }
+    requires whole { fits op ty (length bytes.old) ≡ true }
+    ensures { bytes.new ≡ brought_by op ty (part at (length bytes.old) memory.now) (part place (length bytes.old) memory.now) }
+{
+    let count = bytes.len();
+    match op {
+        None => bytes.copy_from_slice(&memory[place..place + count]),
+        Some(op) => {
+            bytes.copy_from_slice(&memory[at..at + count]);
+            combine(op, ty, bytes, &memory[place..place + count]);
+        }
+    }
+}
+
+/// Brings what a header brought into the cell, where it is used. The buffer is as long as the longest that is used.
+#[tactic(auto, unfolding(plan_start::specs::Start::bring))]
+fn bring_one(nic: &mut Nic, buffer: &mut [u8], cell: &OwnCell, header: &UnexpectedHeader)
+    ensures { nic.new ≡ record nic.old { memory = bring (length buffer.old) cell.now header.now nic.old.memory } }
+{
+    let size = nic.memory().len() as u64;
+    let longest = buffer.len() as u64;
+    if is_used(longest, cell, header) && lies_in(cell, header, size) {
+        let at = cell.start + header.header.offset;
+        let bytes = &mut buffer[..header.delivered as usize];
+        fill_brought(
+            bytes,
+            nic.memory(),
+            cell.op,
+            cell.ty,
+            at as usize,
+            header.place as usize,
+        );
+        nic.write_memory(at, bytes);
+    }
+}
+
+/// Brings what the headers brought that the entry finds, in order of arrival.
+fn bring_found(nic: &mut Nic, buffer: &mut [u8], cell: &OwnCell, entry: &Entry)
+    ensures { nic.new ≡ record nic.old { memory = bring_all (length buffer.old) cell.now (found_in 0 entry.now nic.old.headers.noted) nic.old.memory } }
+{
+    for i in 0..nic.headers().len() {
+        let noted = nic.headers()[i];
+        if finds(&noted, 0, entry) {
+            bring_one(nic, buffer, cell, &noted.header);
+        }
+    }
+}
+
+/// Appends the entry of a cell. A refused append changes nothing.
+fn append_cell(nic: &mut Nic, kept: &mut Kept, entry: Entry)
+    requires all { AreAllOf nic.old kept.old }
+    requires persistent { entry.use_once ≡ false }
+    requires room { length kept.old.entries < kept.old.room.entries }
+    ensures { IsAppended entry nic.old nic.new kept.old kept.new }
+{
+    match nic.me_append(0, List::Priority, entry) {
+        Ok(Appended::Linked(handle)) => kept.add_entry(handle),
+        Ok(Appended::Consumed(_)) => {}
+        Err(_) => {}
+    }
+}
+
+/// Starts one cell.
+fn start_cell(nic: &mut Nic, kept: &mut Kept, buffer: &mut [u8], cells: &[u32], cell: &OwnCell)
+    requires all { AreAllOf nic.old kept.old }
+    requires rising { IsRising cells.now }
+    requires there { HasCounter cells.now (length kept.old.counters) cell.now.number }
+    requires room { length kept.old.entries < kept.old.room.entries }
+    ensures { AreStarted (length buffer.old) cells.now (cell.now ∷ []) nic.old nic.new kept.old kept.new }
+{
+    let ct = counter_of(kept, cells, cell.number);
+    let entry = entry_of_cell(
+        ct,
+        cell.start,
+        cell.length,
+        cell.match_bits,
+        cell.ignore_bits,
+    );
+    bring_found(nic, buffer, cell, &entry);
+    append_cell(nic, kept, entry);
+}
+
+/// Starts the cells of a list, in order.
+pub fn start_cells(
+    nic: &mut Nic,
+    kept: &mut Kept,
+    buffer: &mut [u8],
+    cells: &[u32],
+    own: &[OwnCell],
+)
+    requires all { AreAllOf nic.old kept.old }
+    requires rising { IsRising cells.now }
+    requires there { All (λ (c : Own). HasCounter cells.now (length kept.old.counters) c.number) own.now }
+    requires room { length kept.old.entries + length own.now ≤ kept.old.room.entries }
+    ensures { AreStarted (length buffer.old) cells.now own.now nic.old nic.new kept.old kept.new }
+{
+    for cell in own {
+        start_cell(nic, kept, buffer, cells, cell);
+    }
+}
+
+/// The host raises the go counter by one. A refused count changes nothing.
+pub fn raise_go(nic: &mut Nic, go: Handle)
+    ensures { nic.new ≡ go_raised go nic.old }
+{
+    let _ = nic.ct_inc(go, one());
+}
