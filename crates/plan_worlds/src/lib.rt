@@ -1,0 +1,64 @@
+//! Worlds over plans: which of the enabled steps of a moment are possible under a window, in their fixed order, and the laws of
+//! these.
+#![tactic(auto)]
+
+ghost use Rattle.std.specs.Prelude.{ℕ, ◌<◌, ◌≡◌, ◌↔◌, [], length};
+ghost use Rattle.ptl_types.specs.declared.headers.Lane.{Lane as LaneOf};
+ghost use Rattle.plan_core.specs.Members.{In};
+ghost use Rattle.plan_core.specs.Plan.{Plan};
+ghost use Rattle.plan_core.specs.Sound.{SoundPlan, AreInputsOf};
+ghost use Rattle.plan_core.specs.Values.{Inputs};
+ghost use Rattle.plan_view.specs.Slots.{Slots};
+ghost use Rattle.plan_cuts.specs.Cut.{IsAtRest};
+ghost use Rattle.plan_cuts.specs.History.{Local};
+ghost use Rattle.plan_cuts.specs.Moment.{IsEnabled, IsLocalStep, IsMoment, IsPossible};
+ghost use Rattle.plan_cuts.specs.Plans.{IsComplete, system_of};
+ghost use Rattle.plan_cuts.specs.System.{System};
+ghost use Rattle.plan_orders.specs.Chosen.{Scene, enabled_steps, step_made};
+ghost use Rattle.plan_orders.specs.declared.Step.{Step};
+ghost use Rattle.plan_worlds.specs.Named.{named};
+ghost use Rattle.plan_worlds.specs.Possible.{possible_steps};
+
+/// The steps that are listed are those that a rank may make under the window: a local step that is enabled and possible has its
+/// name in the list.
+pub fn all_are_listed()
+    ensures enabled { (ranks : System) (scene : Scene) (r : ℕ) (e : Local) → r < ranks.count →
+        IsEnabled ranks scene.world scene.held r e → In (named r e) (enabled_steps ranks scene) }
+    ensures possible { (ranks : System) (window : ℕ) (scene : Scene) (r : ℕ) (e : Local) → r < ranks.count →
+        IsEnabled ranks scene.world scene.held r e → IsPossible ranks scene.world scene.held window r e →
+        In (named r e) (possible_steps ranks window scene) }
+{}
+
+/// A possible step is a step of its rank, and leaves a moment of a sound plan.
+pub fn each_possible_step()
+    ensures made { (ranks : System) (window : ℕ) (scene : Scene) (step : Step) →
+        In step (possible_steps ranks window scene) →
+        IsLocalStep ranks scene.world scene.held (step_made ranks step scene).world (step_made ranks step scene).held }
+    ensures keeps { (plan : Plan) (inputs : Inputs) (slots : ℕ → Slots) (window : ℕ) (scene : Scene) (step : Step) →
+        SoundPlan plan (length inputs) → AreInputsOf plan inputs →
+        IsMoment (system_of plan inputs slots) scene.world scene.held →
+        In step (possible_steps (system_of plan inputs slots) window scene) →
+        IsMoment (system_of plan inputs slots) (step_made (system_of plan inputs slots) step scene).world
+        (step_made (system_of plan inputs slots) step scene).held }
+{}
+
+/// Where no step is possible a moment of a sound plan is at rest and complete at each rank, strays or none.
+pub fn none_possible_is_rest()
+    ensures rest { (plan : Plan) (inputs : Inputs) (slots : ℕ → Slots) (window : ℕ) (scene : Scene) →
+        SoundPlan plan (length inputs) → 0 < window →
+        IsMoment (system_of plan inputs slots) scene.world scene.held →
+        possible_steps (system_of plan inputs slots) window scene ≡ [] →
+        IsAtRest (system_of plan inputs slots) scene.world }
+    ensures complete { (plan : Plan) (inputs : Inputs) (slots : ℕ → Slots) (window : ℕ) (scene : Scene) →
+        SoundPlan plan (length inputs) → AreInputsOf plan inputs → 0 < window →
+        IsMoment (system_of plan inputs slots) scene.world scene.held →
+        possible_steps (system_of plan inputs slots) window scene ≡ [] →
+        (r : ℕ) → r < plan.ranks → IsComplete plan inputs slots scene.world r }
+{}
+
+/// Under a window that no lane fills each enabled step is possible.
+pub fn wide_windows()
+    ensures { (ranks : System) (window : ℕ) (scene : Scene) →
+        ((s d : ℕ) (lane : LaneOf) → length (scene.held s d lane) < window) →
+        possible_steps ranks window scene ≡ enabled_steps ranks scene }
+{}
