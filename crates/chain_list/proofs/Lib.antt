@@ -1,0 +1,4 @@
+pub mod ChainKept
+pub mod ChainLemmas
+pub mod KeyLemmas
+pub mod NodeLemmas

@@ -1,0 +1,128 @@
+//! A row of places in one block of memory, each empty or holding a value. A contract sees the list of them.
+ghost use Rattle.std.specs.Prelude.{◌≡◌, ◌+◌, ◌<◌, ◌^◌, Some, None, [], ◌++◌, length, replicate, get_or, slice_set, is_some, IsSome, IfOk, OnOk, OnErr};
+ghost use Rattle.std.specs.Borrow.{Lends, sem};
+ghost use Rattle.std.specs.contracts.option.Option.{the_row as row_of_option};
+
+use crate::filling::fill_up;
+use ptl_types::NoMemory;
+use std::alloc::Global;
+use std::marker::Model;
+use std::mem;
+
+/// The row. All places lie side by side, so a place is found by its number.
+#[derive(Drop)]
+pub struct Block<T> {
+    places: Vec<Option<T>>,
+}
+
+impl<T> Model for Block<T> {
+    ghost use Rattle.std.specs.Prelude.{List, Option};
+    ghost use Rattle.std.specs.Coded.{coded_list, coded_option};
+
+    ghost Value = { List (Option T) };
+
+    ghost coded = { coded_list (coded_option T.code) };
+
+    ghost view = { λ b. b.places.items };
+}
+
+/// The value of a place that holds one, to write to.
+fn held_mut<T>(place: &mut Option<T>) -> &mut T
+    requires { IsSome place.old }
+    ensures* writes_back { sem 𝓛 (Lends (row_of_option T.row) T.row place.entry result Some) }
+    ensures value { place.old ≡ Some result.now }
+{
+    match place {
+        Some(item) => item,
+        None => unreachable!(),
+    }
+}
+
+impl<T> Block<T> {
+    ghost use Rattle.chain_list.specs.BlockLends.{lends_place};
+
+    /// No places, which take no memory.
+    pub(crate) fn new(alloc: Global) -> Block<T>
+        ensures { result ≡ [] }
+    {
+        Block {
+            places: Vec::new(alloc),
+        }
+    }
+
+    /// A row of `len` empty places.
+    pub(crate) fn with_len(alloc: Global, len: usize) -> Result<Block<T>, NoMemory>
+        ensures { IfOk result (λ b. b ≡ replicate len None) }
+    {
+        let Ok(mut places) = Vec::with_capacity(alloc, len) else {
+            return Err(NoMemory);
+        };
+        fill_up(&mut places, len);
+        Ok(Block { places })
+    }
+
+    /// How many places there are.
+    pub(crate) fn len(&self) -> usize
+        ensures { result ≡ length self.now }
+    {
+        self.places.len()
+    }
+
+    /// Adds empty places. Where there is no memory, all is as it was.
+    pub(crate) fn grow(&mut self, more: usize) -> Result<(), NoMemory>
+        requires { length self.old + more < 2 ^ 32 }
+        ensures ok { OnOk result (self.new ≡ self.old ++ replicate more None) }
+        ensures err { OnErr result (self.new ≡ self.old) }
+    {
+        let Ok(()) = self.places.reserve(more) else {
+            return Err(NoMemory);
+        };
+        let len = self.places.len() + more;
+        fill_up(&mut self.places, len);
+        Ok(())
+    }
+
+    /// Puts a value into an empty place.
+    pub(crate) fn put(&mut self, place: usize, item: T)
+        requires within { place < length self.old }
+        requires empty { get_or self.old place None ≡ None }
+        ensures { self.new ≡ slice_set self.old place (Some item) }
+    {
+        match mem::replace(&mut self.places[place], Some(item)) {
+            None => {}
+            Some(_held) => unreachable!(),
+        }
+    }
+
+    /// Takes the value out of a place.
+    pub(crate) fn take(&mut self, place: usize) -> T
+        requires { IsSome (get_or self.old place None) }
+        ensures value { get_or self.old place None ≡ Some result }
+        ensures places { self.new ≡ slice_set self.old place None }
+    {
+        match self.places[place].take() {
+            Some(item) => item,
+            None => unreachable!(),
+        }
+    }
+
+    /// The value of a place.
+    pub(crate) fn get(&self, place: usize) -> &T
+        requires { IsSome (get_or self.now place None) }
+        ensures { get_or self.now place None ≡ Some result.now }
+    {
+        match &self.places[place] {
+            Some(item) => item,
+            None => unreachable!(),
+        }
+    }
+
+    /// The value of a place, to write to.
+    pub(crate) fn get_mut(&mut self, place: usize) -> &mut T
+        requires { IsSome (get_or self.old place None) }
+        ensures* writes_back { sem 𝓛 (lends_place T.row self.entry place result) }
+        ensures value { get_or self.old place None ≡ Some result.now }
+    {
+        held_mut(&mut self.places[place])
+    }
+}
