@@ -9,17 +9,16 @@ use Rattle.ni_model.specs.Append.{append}
 use Rattle.ni_model.specs.Arrive.{request}
 use Rattle.ni_model.specs.Ready.{fired, is_ready}
 use Rattle.ni_model.specs.Starts.{started}
-use Rattle.ni_model.specs.State.{State, target}
+use Rattle.ni_model.specs.State.{target}
 use Rattle.plan_core.specs.Members.{In}
-use Rattle.plan_view.specs.Calls.{call_made, prepare}
+use Rattle.plan_view.specs.Calls.{call_made}
 use Rattle.plan_view.specs.Deeds.{link_header}
-use Rattle.plan_view.specs.Slots.{Slots}
 use Rattle.plan_start.specs.Start.{bring, cell_started}
-use Rattle.plan_cuts.specs.Cut.{IsAtRest, IsCut, got_by, is_stray, owned}
-use Rattle.plan_cuts.specs.History.{Legal, Local, got, state}
+use Rattle.plan_cuts.specs.Cut.{IsAtRest, IsCut, got_by, owned}
+use Rattle.plan_cuts.specs.History.{Legal, got, state}
 use Rattle.plan_cuts.specs.History.Local.{Fire, Receive, Start}
 use Rattle.plan_cuts.specs.Moment.{IsMoment, IsPossible, IsStill, IsStrayOf, IsStuck, Lanes}
-use Rattle.plan_cuts.specs.Plans.{start_of, system_of}
+use Rattle.plan_cuts.specs.Plans.{system_of}
 use Rattle.plan_cuts.specs.System.{Histories, System, sent_by, state_at}
 use Rattle.plan_cuts.specs.Wave.{IsWave}
 use Rattle.plan_rest.proofs.Moments.{still_none}

@@ -22,7 +22,10 @@ came l bytes = record { link = l; bytes = bytes }
 
 -- an operation that was fired raises the done counter where it tells, and awaits an answer where it sends and the plan is remote
 abbrev pub note_work : Plan → Seen → Work → Seen
-note_work p g (Along l) = record g { fired = Along l ∷ g.fired; awaits = if is_bump (link p l).kind then g.awaits else (if p.remote then one_more g.awaits else g.awaits) }
+note_work p g (Along l) = record g {
+  fired = Along l ∷ g.fired;
+  awaits = if is_bump (link p l).kind then g.awaits else (if p.remote then one_more g.awaits else g.awaits);
+}
 note_work p g (Tell c) = record g { fired = Tell c ∷ g.fired; done = bump (successes 1) g.done }
 
 -- what was seen behind a move
@@ -30,7 +33,10 @@ abbrev pub note : Plan → Seen → Move → Seen
 note p g Began = record g { started = true }
 note p g (Took l bytes) = record g { came = g.came ++ came l bytes ∷ [] }
 note p g (Did w) = note_work p g w
-note p g (Heard ok) = record g { done = if p.remote then bump (if ok then successes 1 else failures 1) g.done else g.done; awaits = g.awaits - 1 }
+note p g (Heard ok) = record g {
+  done = if p.remote then bump (if ok then successes 1 else failures 1) g.done else g.done;
+  awaits = g.awaits - 1;
+}
 note p g Strayed = record g { strays = suc g.strays }
 
 -- and behind a list of moves
@@ -54,7 +60,8 @@ outs p inputs g (e ∷ es) = out_of p inputs g e ++ outs p inputs (note p g e) e
 
 -- the move may be made
 abbrev pub MayMove : Plan → ℕ → Seen → Move → Type 0
-MayMove p r g (Did w) = In w (works p r) × (was_fired g.fired w ≡ false) × ((cell p (cell_of p w)).needs ≤ reached_count p g r (cell_of p w))
+MayMove p r g (Did w) =
+    In w (works p r) × (was_fired g.fired w ≡ false) × ((cell p (cell_of p w)).needs ≤ reached_count p g r (cell_of p w))
 MayMove p r g Began = g.started ≡ false
 MayMove p r g _ = Unit {0}
 
@@ -69,7 +76,8 @@ link_of a = a.link
 
 -- what came to rank r is of links that come from elsewhere in the plan, each at most once
 pub record Proper (p : Plan) (r : ℕ) (g : Seen) : Type 0 where
-  pub links : (a : Came) → In a g.came → (a.link < length p.links) × ((is_bump (link p a.link).kind) ≡ false) × ((cell p (link p a.link).target).rank ≡ r)
+  pub links : (a : Came) → In a g.came →
+      (a.link < length p.links) × ((is_bump (link p a.link).kind) ≡ false) × ((cell p (link p a.link).target).rank ≡ r)
   pub once : Distinct (map link_of g.came)
 
 -- what rank r has seen at the end of its moves
@@ -89,8 +97,10 @@ pub record IsMachineCut (p : Plan) (inputs : Inputs) (ms : ℕ → List Move) : 
 -- each rank has started, what was sent came, and what has reached its needs was fired
 pub record IsMachineRest (p : Plan) (inputs : Inputs) (ms : ℕ → List Move) : Type 0 where
   pub started : (r : ℕ) → r < p.ranks → (all_seen p ms r).started ≡ true
-  pub taken : (r : ℕ) (a : Came) → r < p.ranks → In a (outs p inputs nothing_seen (ms r)) → In a (all_seen p ms (cell p (link p a.link).target).rank).came
-  pub idle : (r : ℕ) (w : Work) → r < p.ranks → In w (works p r) → (cell p (cell_of p w)).needs ≤ reached_count p (all_seen p ms r) r (cell_of p w) → was_fired (all_seen p ms r).fired w ≡ true
+  pub taken : (r : ℕ) (a : Came) → r < p.ranks → In a (outs p inputs nothing_seen (ms r)) →
+      In a (all_seen p ms (cell p (link p a.link).target).rank).came
+  pub idle : (r : ℕ) (w : Work) → r < p.ranks → In w (works p r) →
+      (cell p (cell_of p w)).needs ≤ reached_count p (all_seen p ms r) r (cell_of p w) → was_fired (all_seen p ms r).fired w ≡ true
 
 -- a chain of links leads from cell b to cell c
 pub data Leads (p : Plan) (b : ℕ) : ℕ → Type 0 where

@@ -12,7 +12,8 @@ pub record Came : Type 0 where
   pub link : ℕ
   pub bytes : List ℕ
 
--- whether it has started, what came, what was fired, its counter of what is done, how many answers it awaits, and what came that is none of the plan's
+-- whether it has started, what came, what was fired, its counter of what is done, how many answers it awaits, and what came that is
+-- none of the plan's
 pub record Seen : Type 0 where
   pub started : Bool
   pub came : List Came  -- in order of arrival

@@ -1,5 +1,5 @@
 -- The chosen run: each listed step is one that a rank may make, and a run of which none is left ends at rest.
-use Rattle.std.proofs.Common.{eqb-true, ℕ, zero, suc, Bool, true, false, cond, not, ◌&&◌, ◌==◌, ◌%◌, ◌+◌, ◌≡◌, ◌<◌, ◌≤◌, ◌⊎◌, nat_lt, List, [], ◌∷◌, ◌++◌, Option, Some, None, refl, length, map, filter, flat_map, get_or, count_by, ap, ap₂, ◌∙◌, sym, subst, inl, inr, arith, append-nil, eq-eqb, lt-ltb, zero-le, IsTrue}
+use Rattle.std.proofs.Common.{eqb-true, ℕ, zero, suc, Bool, true, false, cond, ◌&&◌, ◌==◌, ◌%◌, ◌≡◌, ◌<◌, ◌⊎◌, nat_lt, List, [], ◌∷◌, ◌++◌, Option, Some, None, refl, length, map, flat_map, get_or, count_by, ap, ap₂, ◌∙◌, sym, subst, inl, inr, arith, eq-eqb, lt-ltb, zero-le}
 use Rattle.std.proofs.lemmas.Bool.{cases_Bool, cases_eq, ltb-true, ne_eqb}
 use Rattle.std.proofs.Math.Nat.{mod-lt}
 use Rattle.ptl_types.specs.Messages.{Sent}
@@ -15,13 +15,13 @@ use Rattle.plan_view.proofs.Tables.{find-In}
 use Rattle.plan_cuts.specs.History.{Local, got, is_start, same_lane}
 use Rattle.plan_cuts.specs.History.Local.{Start as Started, Receive as Received, Fire as Fired}
 use Rattle.plan_cuts.specs.System.{Histories, System, state_at}
-use Rattle.plan_cuts.specs.Moment.{IsLocalStep, IsStill, Lanes, sent_more}
+use Rattle.plan_cuts.specs.Moment.{IsLocalStep, IsStill}
 use Rattle.plan_rest.proofs.Longer.{same_lane-true}
 use Rattle.plan_orders.specs.declared.Step.{Step}
 use Rattle.plan_orders.specs.declared.Step.TheVariants.{Start, Deliver, Fire}
 use Rattle.plan_orders.specs.declared.Verdict.TheVariants.{Holds}
-use Rattle.plan_orders.specs.Chosen.{IsChosen, Scene, choose, chosen, deliveries_between, delivered, enabled_steps, firings_at, first_of, grown, start_at, step_made, with_lane}
-use Rattle.plan_orders.specs.Reached.{EndsSo, IsReached}
+use Rattle.plan_orders.specs.Chosen.{IsChosen, Scene, choose, chosen, deliveries_between, delivered, enabled_steps, firings_at, first_of, start_at, step_made, with_lane}
+use Rattle.plan_orders.specs.Reached.{IsReached}
 use Rattle.plan_orders.specs.Reached.IsReached.{Begun, Stepped}
 use Rattle.plan_orders.specs.Taking.{listed, with_step}
 use Rattle.plan_orders.specs.Verdict.{IsVerdict}

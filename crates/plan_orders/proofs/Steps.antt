@@ -23,14 +23,13 @@ use Rattle.plan_cuts.specs.History.{Local, and_then, got, is_for, made_by, sent}
 use Rattle.plan_cuts.specs.Moment.{IsLocalStep, IsMoment, IsStill, Lanes, IsEnabled as MayStep}
 use Rattle.plan_cuts.specs.Plans.{system_of}
 use Rattle.plan_rest.proofs.Moments.{first_moment, next_local, still_rest}
-use Rattle.plan_rest.proofs.Longer.{got_one}
 use Rattle.op_laws.specs.Combining.{CombineStarts}
 use Rattle.plan_orders.specs.Reached.{EndsSo, IsReached}
 use Rattle.plan_cuts.specs.System.{Histories, System}
 
 module _ (k : System) where
   -- on each lane, what was received and then what is held is what was sent
-  abbrev IsBalanced : List Move → Lanes → Type 0
+  abbrev pub IsBalanced : List Move → Lanes → Type 0
   IsBalanced es held = (s d : ℕ) (lane : Lane) → got (histories es d) s lane ++ held s d lane ≡ sent_by k (histories es) s d lane
 
   -- what a step takes from a lane, and what it puts there
@@ -93,7 +92,7 @@ module _ (k : System) where
         (x.0, same-front (got (histories es r) s lane) (m ∷ x.0) (held s r lane) (x.1 ∙ sym (balanced s r lane))))))
   ]
 
-  may : (es : List Move) (r : ℕ) (e : Local) (held : Lanes) → IsBalanced es held → MayTake k (histories es) r e → ((s : ℕ) → k.count ≤ s → histories es s ≡ []) → MayStep k (histories es) held r e
+  pub may : (es : List Move) (r : ℕ) (e : Local) (held : Lanes) → IsBalanced es held → MayTake k (histories es) r e → ((s : ℕ) → k.count ≤ s → histories es s ≡ []) → MayStep k (histories es) held r e
   may es r Start held balanced h beyond = h
   may es r (Fire t) held balanced h beyond = h
   may es r (Receive s lane m) held balanced h beyond = elim (cases_lt s k.count) [
@@ -109,7 +108,7 @@ module _ (k : System) where
           omega arith
 
   -- a rank that isn't one makes no move
-  beyond : (es : List Move) → IsInterleaving k es → (s : ℕ) → k.count ≤ s → histories es s ≡ []
+  pub beyond : (es : List Move) → IsInterleaving k es → (s : ℕ) → k.count ≤ s → histories es s ≡ []
   beyond [] made s l = refl
   beyond (e ∷ es) made s l =
       let h = made.1 in

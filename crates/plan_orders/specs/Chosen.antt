@@ -1,5 +1,5 @@
 -- The enabled steps of a moment in their fixed order, what each does, and the run that a list of words chooses. Strays are left aside.
-use Rattle.std.specs.Prelude.{ℕ, zero, suc, Bool, not, ◌&&◌, ◌==◌, ◌%◌, ◌<◌, ◌≡◌, nat_lt, List, [], ◌∷◌, ◌++◌, map, filter, flat_map, length, get_or, count_by, if◌then◌else◌}
+use Rattle.std.specs.Prelude.{ℕ, zero, suc, ◌&&◌, ◌==◌, ◌%◌, ◌<◌, ◌≡◌, nat_lt, List, [], ◌∷◌, ◌++◌, map, flat_map, length, get_or, count_by, if◌then◌else◌}
 use Rattle.ptl_types.specs.Messages.{Sent}
 use Rattle.ptl_types.specs.declared.headers.Lane.{Lane}
 use Rattle.ptl_types.specs.declared.headers.Lane.TheVariants.{Request, Answer}
@@ -62,8 +62,10 @@ with_lane s d lane ms z = record z { held = λ q u l. if (q == s) && ((u == d) &
 abbrev pub delivered : System → ℕ → ℕ → Lane → List Sent → Scene → Scene
 delivered k s d lane [] z = z
 delivered k s d lane (m ∷ later) z =
-    record { world = with_step d (Received s lane m) z.world;
-             held = λ q u l. (with_lane s d lane later z).held q u l ++ sent_more k z.world d (Received s lane m) q u l }
+    record {
+      world = with_step d (Received s lane m) z.world;
+      held = λ q u l. (with_lane s d lane later z).held q u l ++ sent_more k z.world d (Received s lane m) q u l;
+    }
 
 -- by its kind
 abbrev pub step_made : System → Step → Scene → Scene

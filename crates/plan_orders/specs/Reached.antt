@@ -7,7 +7,8 @@ use Rattle.plan_orders.specs.Taking.{Lists, listed}
 -- histories and lanes to which steps lead: at first there was none, and the lanes are empty
 pub data IsReached (k : System) : Histories → Lanes → Type 0 where
   Begun : IsReached k (λ r. []) (λ s d lane. [])
-  Stepped : {w : Histories} {held : Lanes} {next : Histories} {later : Lanes} → IsReached k w held → IsLocalStep k w held next later → IsReached k next later
+  Stepped : {w : Histories} {held : Lanes} {next : Histories} {later : Lanes} → IsReached k w held →
+      IsLocalStep k w held next later → IsReached k next later
 
 -- an interleaving of which no step is left, and these are its ranks' local steps
 pub record EndsSo (k : System) (lists : Lists) : Type 0 where

@@ -1,9 +1,7 @@
 -- Taking: from given lists, one for each rank, the next step of some list is taken, whenever it is enabled.
 use Rattle.std.specs.Prelude.{ℕ, ◌==◌, ◌<◌, ◌≡◌, List, [], ◌∷◌, ◌++◌, map, count_by, if◌then◌else◌, IsTrue}
 use Rattle.ptl_types.specs.Messages.{Sent}
-use Rattle.ptl_types.specs.declared.headers.Lane.{Lane}
 use Rattle.ni_model.specs.Ready.{is_ready}
-use Rattle.ni_model.specs.State.{State}
 use Rattle.plan_cuts.specs.History.{Local, got, is_start}
 use Rattle.plan_cuts.specs.System.{Histories, System, sent_by, state_at}
 use Rattle.plan_cuts.specs.History.Local.{Start, Receive, Fire}

@@ -79,6 +79,15 @@ pub fn what_holds_is_at_rest()
         ((r : ℕ) → r < plan.ranks → map listed (world r) ≡ lists r)) }
 {}
 
+/// The slots that the tables of a sound plan's interfaces gave out are of no matter: what is said of lists under some slots is said
+/// of them under any others.
+pub fn slots_are_of_no_matter()
+    ensures { (plan : Plan) (inputs : Inputs) (slots others : ℕ → Slots) (lists : Lists) (verdict : Verdict) →
+        SoundPlan plan (length inputs) → AreInputsOf plan inputs →
+        IsVerdict (system_of plan inputs slots) lists verdict →
+        IsVerdict (system_of plan inputs others) lists verdict }
+{}
+
 /// The enabled steps of a moment are each a step that a rank may make, and where none is listed all is still. So a chosen run is
 /// made of steps, and the lists of one of which no step is left hold.
 pub fn chosen_runs()

@@ -11,7 +11,7 @@ use Rattle.ni_model.specs.Conditions.{IsKept}
 use Rattle.ni_model.specs.Ready.{is_ready, fired}
 use Rattle.op_laws.specs.Combining.{CombineStarts, CombineSwaps}
 use Rattle.plan_cuts.proofs.Origin.{IsOf, after_of, fired_link}
-use Rattle.plan_cuts.specs.History.{Beginning, after, is_start, IsDue, Legal, Local, May, and_then, got, is_for, is_lane, made, made_by, sent, state, same_lane}
+use Rattle.plan_cuts.specs.History.{Beginning, after, is_start, Legal, Local, May, and_then, got, is_for, made, made_by, sent, state, same_lane}
 use Rattle.plan_cuts.specs.History.Local.{Fire, Receive, Start}
 use Rattle.ni_model.specs.State.{State}
 use Rattle.plan_core.proofs.Links.{out_links-In}
@@ -20,20 +20,15 @@ use Rattle.plan_core.specs.Members.{In}
 use Rattle.plan_core.specs.Plan.{Plan, link}
 use Rattle.plan_core.specs.Sound.{AreInputsOf, SoundPlan}
 use Rattle.plan_core.specs.Values.{Inputs}
-use Rattle.plan_cuts.proofs.Conform.{stray_request}
 use Rattle.plan_rest.proofs.Longer.{got_other, legal_longer, not_begun}
 use Rattle.plan_cuts.proofs.Fronts.{flag, got-append, made-append, nothing-behind, owned-all}
-use Rattle.plan_rest.proofs.Due.{next_answer_due}
 use Rattle.plan_cuts.proofs.FromCut.{prepared_of}
-use Rattle.plan_cuts.proofs.Shape.{shape}
 use Rattle.plan_view.specs.Calls.{prepare}
 use Rattle.ptl_types.specs.Messages.{Sent}
 use Rattle.ptl_types.specs.declared.headers.Header.{Header}
 use Rattle.ptl_types.specs.declared.headers.Lane.{Lane}
 use Rattle.ptl_types.specs.declared.headers.Lane.TheVariants.{Answer, Request}
-use Rattle.plan_rest.proofs.Fair.{Fair, fair}
 use Rattle.plan_cuts.proofs.Clean.{made-clean}
-use Rattle.ptl_types.specs.Kinds.{is_answer}
 use Rattle.plan_rest.proofs.Next.{next_held}
 
 owned-stray : (m : Sent) → is_stray m ≡ true → owned (m ∷ []) ≡ []

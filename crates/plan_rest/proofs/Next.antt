@@ -1,38 +1,27 @@
 -- The next message of a lane may be received.
 use Rattle.plan_cuts.specs.System.{Histories, sent_by, state_at}
-use Rattle.plan_cuts.specs.Plans.{start_of, system_of}
-use Rattle.plan_cuts.specs.Cut.{IsAtRest, got_by, is_stray, owned, IsCut}
+use Rattle.plan_cuts.specs.Plans.{system_of}
+use Rattle.plan_cuts.specs.Cut.{got_by, is_stray, owned, IsCut}
 use Rattle.plan_view.specs.Slots.{Slots}
-use Rattle.plan_cuts.specs.Moment.{HasNoneHeld, HasWindow, IsEnabled, IsLocalStep, IsMoment, IsStill, IsStrayOf, IsStrayStep, IsStuck, Lanes, is_request_lane, sent_more}
-use Rattle.std.proofs.Common.{ℕ, suc, true, false, cond, not, ◌≡◌, ◌<◌, ◌≤◌, ◌==◌, List, [], ◌∷◌, ◌++◌, refl, length, ap, ap₂, ◌∙◌, sym, subst, inl, inr, filter, if◌then◌else◌, arith, eq-eqb, eqb-true, append-nil, append_assoc, Option, Some, None, count_by, zero, Bool}
-use Rattle.std.proofs.lemmas.Bool.{cases_Bool, cases_eq, and_parts, ne_eqb}
+use Rattle.plan_cuts.specs.Moment.{IsMoment, Lanes}
+use Rattle.std.proofs.Common.{ℕ, true, false, not, ◌≡◌, ◌<◌, List, ◌∷◌, ◌++◌, refl, length, ap, ◌∙◌, sym, subst, inl, inr, if◌then◌else◌, Bool}
+use Rattle.std.proofs.lemmas.Bool.{cases_Bool}
 use Rattle.std.proofs.lemmas.List.Elements.{filter-append}
-use Rattle.ni_model.specs.Conditions.{IsKept}
-use Rattle.ni_model.specs.Ready.{is_ready, fired}
 use Rattle.op_laws.specs.Combining.{CombineStarts, CombineSwaps}
-use Rattle.plan_cuts.proofs.Origin.{IsOf, after_of, fired_link}
-use Rattle.plan_cuts.specs.History.{Beginning, after, is_start, IsDue, Legal, Local, May, and_then, got, is_for, is_lane, made, made_by, sent, state, same_lane}
-use Rattle.plan_cuts.specs.History.Local.{Fire, Receive, Start}
-use Rattle.ni_model.specs.State.{State}
-use Rattle.plan_core.proofs.Links.{out_links-In}
-use Rattle.plan_core.proofs.Lists.{In-append_right, In-filter_cases, In-append_cases}
+use Rattle.plan_cuts.specs.History.{IsDue, May, got, is_lane}
+use Rattle.plan_cuts.specs.History.Local.{Receive}
+use Rattle.plan_core.proofs.Lists.{In-append_right}
 use Rattle.plan_core.specs.Members.{In}
-use Rattle.plan_core.specs.Plan.{Plan, link}
+use Rattle.plan_core.specs.Plan.{Plan}
 use Rattle.plan_core.specs.Sound.{AreInputsOf, SoundPlan}
 use Rattle.plan_core.specs.Values.{Inputs}
 use Rattle.plan_cuts.proofs.Conform.{stray_request}
-use Rattle.plan_rest.proofs.Longer.{got_other, legal_longer, not_begun}
-use Rattle.plan_cuts.proofs.Fronts.{flag, got-append, made-append, nothing-behind, owned-all}
 use Rattle.plan_rest.proofs.Due.{next_answer_due}
-use Rattle.plan_cuts.proofs.FromCut.{prepared_of}
 use Rattle.plan_cuts.proofs.Shape.{shape}
-use Rattle.plan_view.specs.Calls.{prepare}
 use Rattle.ptl_types.specs.Messages.{Sent}
-use Rattle.ptl_types.specs.declared.headers.Header.{Header}
 use Rattle.ptl_types.specs.declared.headers.Lane.{Lane}
 use Rattle.ptl_types.specs.declared.headers.Lane.TheVariants.{Answer, Request}
 use Rattle.plan_rest.proofs.Fair.{Fair, fair}
-use Rattle.plan_cuts.proofs.Clean.{made-clean}
 use Rattle.ptl_types.specs.Kinds.{is_answer}
 
 -- a stray is no answer
@@ -68,7 +57,10 @@ module _ (starts : CombineStarts) (p : Plan) (inputs : Inputs) (sound : SoundPla
       strange : is_stray m ≡ true → May begun (state_at (system_of p inputs slots) w r) (Receive s lane m)
       strange e =
           let f = moment.strays s r lane m hs hr (subst (λ v. In m v) (sym front) (inl refl)) e in (
-            f.source, f.target ∙ sym (end_rank starts p inputs sound fit swaps slots w moment.cut begun r s hr), subst (λ l. is_lane l m.header.kind ≡ true) (sym f.asks) (stray_asks m e), f.kept,
+            f.source,
+            f.target ∙ sym (end_rank starts p inputs sound fit swaps slots w moment.cut begun r s hr),
+            subst (λ l. is_lane l m.header.kind ≡ true) (sym f.asks) (stray_asks m e),
+            f.kept,
             subst (λ l. IsDue (state_at (system_of p inputs slots) w r) l m) (sym f.asks) tt,
           )
 

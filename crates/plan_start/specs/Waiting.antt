@@ -29,7 +29,10 @@ pub record Early : Type 0 where
 
 -- its header
 abbrev pub arrived_of : Plan → Early → Noted
-arrived_of p x = record { pt = 0; header = record { entry = x.entry; place = x.place; delivered = (link p x.came.link).length; header = link_header p x.slots x.came.link } }
+arrived_of p x = record {
+  pt = 0;
+  header = record { entry = x.entry; place = x.place; delivered = (link p x.came.link).length; header = link_header p x.slots x.came.link };
+}
 
 -- what lies in the area: an atomic came upon starting values
 abbrev pub stored_as : Option AtomicOp → ElemType → List ℕ → List ℕ
@@ -63,11 +66,20 @@ abbrev pub area_me : Plan → Slots → ℕ → ℕ → Handle
 area_me p s r k = handle (s.me (place_in (classes p r) k)) (place_in (classes p r) k)
 
 abbrev pub area_linked : Plan → Slots → ℕ → List Came → ℕ → Linked
-area_linked p s r early k = record { handle = area_me p s r k; running = filled p k early; entry = area_entry (area_start p r k) (area_length p r k) (bits_above k 0 * 2 ^ 16) (2 ^ 40 - 1) }
+area_linked p s r early k = record {
+  handle = area_me p s r k;
+  running = filled p k early;
+  entry = area_entry (area_start p r k) (area_length p r k) (bits_above k 0 * 2 ^ 16) (2 ^ 40 - 1);
+}
 
 -- what the interface has beside its cells
 abbrev pub annex_of : Plan → Slots → ℕ → List Came → Annex
-annex_of p s r early = record { tail = flat_map (area p r early) (classes p r); behind = areas_length p r; before = map (area_linked p s r early) (classes p r); unexpected = length (links_to p r) }
+annex_of p s r early = record {
+  tail = flat_map (area p r early) (classes p r);
+  behind = areas_length p r;
+  before = map (area_linked p s r early) (classes p r);
+  unexpected = length (links_to p r);
+}
 
 -- the message a, after those in front
 abbrev pub early_of : Plan → Slots → ℕ → (ℕ → Slots) → List Came → Came → Early
@@ -97,7 +109,8 @@ partly annex p inputs s r g xs entries stamps = record (view annex p inputs s r 
 
 -- that has appended none
 abbrev pub waiting_view : Plan → Inputs → Slots → ℕ → (ℕ → Slots) → List Came → Seen → State
-waiting_view p inputs s r senders early g = partly (annex_of p s r early) p inputs s r g (early_all p s r senders early) [] (length (annex_of p s r early).before)
+waiting_view p inputs s r senders early g =
+    partly (annex_of p s r early) p inputs s r g (early_all p s r senders early) [] (length (annex_of p s r early).before)
 
 -- ---- and what it has seen once these landed
 

@@ -23,8 +23,8 @@ use Rattle.plan_view.specs.Slots.{Slots, done_ct, cell_ct, the_md}
 use Rattle.plan_view.specs.Deeds.{operation}
 use Rattle.plan_view.specs.Calls.{cell_entry as entry_with, whole_region}
 
--- what an interface has beside its cells: the bytes behind them in the region, the overflow entries, which were appended before theirs, and the room
--- for headers
+-- what an interface has beside its cells: the bytes behind them in the region, the overflow entries, which were appended before
+-- theirs, and the room for headers
 pub record Annex : Type 0 where
   pub tail : List ℕ
   pub behind : ℕ  -- the length of the tail
