@@ -1,0 +1,78 @@
+-- What a node finds ready behind its open lanes.
+use Rattle.std.proofs.Common.{ℕ, zero, suc, Bool, true, false, not, ◌≡◌, ◌<◌, ◌≤◌, ◌∙◌, List, [], ◌∷◌, Option, Some, None, refl, ap, ap₂, sym, arith, inl, inr, map, filter, length, get_or, nat_lt, if◌then◌else◌, lt-ltb}
+use Rattle.std.proofs.lemmas.Bool.{cases_lt}
+use Rattle.std.proofs.lemmas.List.{get_or_default}
+use Rattle.ptl_types.specs.Messages.{Sent}
+use Rattle.ptl_types.specs.declared.calls.Deed.{Deed}
+use Rattle.ptl_types.specs.declared.calls.Deed.TheVariants.{Put, Get, Atomic, FetchAtomic, Swap, Inc, Set}
+use Rattle.ptl_types.specs.declared.headers.Lane.TheVariants.{Request}
+use Rattle.ni_model.specs.Ready.{done, fired, fired_op, message_target, posted_at, ready_numbers, target_at, target_of, without_number}
+use Rattle.ni_model.specs.Starts.{started}
+use Rattle.ni_model.specs.State.{Posted, State}
+use Rattle.plan_cuts.specs.System.{System, state_at}
+use Rattle.plan_nodes.specs.Ranks.{AreGates}
+use Rattle.plan_orders.specs.Chosen.{Scene, firings_at}
+use Rattle.plan_orders.specs.declared.Step.TheVariants.{Fire}
+use Rattle.plan_worlds.specs.Possible.{finds_room, is_possible}
+use Rattle.rank_node.specs.Gates.{goes_out, open_numbers}
+
+-- the rank that a message is for, if there is one
+abbrev pub rank_of : Option Sent → Option ℕ
+rank_of None = None
+rank_of (Some m) = Some m.header.target
+
+-- the message of a deed is for the rank that the deed names
+done-target : (s : State) (d : Deed) → rank_of (done s d).message ≡ message_target d
+unfolding started
+done-target s (Put a) = refl
+done-target s (Get g) = refl
+done-target s (Atomic a o ty) = refl
+done-target s (FetchAtomic g a o ty) = refl
+done-target s (Swap g a o ty x) = refl
+done-target s (Inc ct by) = refl
+done-target s (Set ct to) = refl
+
+fired_op-target : (s : State) (o : Option Posted) → rank_of (fired_op s o).message ≡ target_of o
+fired_op-target s None = refl
+fired_op-target s (Some p) = done-target (record s { pending = without_number p.number s.pending }) p.deed
+
+pub fired-target : (s : State) (t : ℕ) → rank_of (fired s t).message ≡ target_at s t
+unfolding fired
+fired-target s t = fired_op-target s (posted_at t s.pending)
+
+-- ---- gates
+filter-same : {X : Type 0} (p q : X → Bool) (xs : List X) → ((x : X) → p x ≡ q x) → filter p xs ≡ filter q xs
+filter-same p q [] e = refl
+filter-same p q (x ∷ xs) e = ap₂ (λ b ys. if b then x ∷ ys else ys) (e x) (filter-same p q xs e)
+
+filter-map : {X Y : Type 0} (f : X → Y) (p : Y → Bool) (xs : List X) → filter p (map f xs) ≡ map f (filter (λ x. p (f x)) xs)
+filter-map f p [] = refl
+filter-map {X} {Y} f p (x ∷ xs) = ap (λ ys. if p (f x) then f x ∷ ys else ys) (filter-map f p xs) ∙ at (p (f x))
+  where
+    at : (b : Bool) → (if b then f x ∷ map f (filter (λ x. p (f x)) xs) else map f (filter (λ x. p (f x)) xs)) ≡ map f (if b then x ∷ filter (λ x. p (f x)) xs else filter (λ x. p (f x)) xs)
+    at true = refl
+    at false = refl
+
+not-not : (b : Bool) → not (not b) ≡ b
+not-not true = refl
+not-not false = refl
+
+get-past : (closed : List Bool) (d : ℕ) → length closed ≤ d → get_or closed d false ≡ false
+get-past [] d le = refl
+get-past (b ∷ closed) zero le = absurd (omega arith)
+get-past (b ∷ closed) (suc d) le = get-past closed d (omega arith)
+
+module _ (z : Scene) (window r : ℕ) (some : 0 < window) (closed : List Bool) (gates : AreGates z window r closed) where
+  room : (o : Option Sent) → finds_room window z r o ≡ goes_out closed (rank_of o)
+  room None = refl
+  room (Some m) = elim (cases_lt m.header.target (length closed)) [
+    | inl lt ↦ sym (ap not (get_or_default closed m.header.target false true lt ∙ gates.told m.header.target lt) ∙ not-not (nat_lt (length (z.held r m.header.target Request)) window))
+    | inr le ↦ ap (λ ms. nat_lt (length ms) window) (gates.past m.header.target le) ∙ lt-ltb 0 window some ∙ sym (ap not (get-past closed m.header.target le))
+  ]
+
+  pub open-possible : (k : System) (s : State) → s ≡ state_at k z.world r → filter (is_possible k window z) (firings_at k z r) ≡ map (Fire r) (open_numbers closed s)
+  open-possible k s e =
+      filter-map (Fire r) (is_possible k window z) (ready_numbers (state_at k z.world r))
+      ∙ ap (map (Fire r)) (filter-same (λ t. is_possible k window z (Fire r t)) (λ t. goes_out closed (target_at (state_at k z.world r) t)) (ready_numbers (state_at k z.world r))
+      (λ t. room (fired (state_at k z.world r) t).message ∙ ap (goes_out closed) (fired-target (state_at k z.world r) t)))
+      ∙ ap (λ v. map (Fire r) (open_numbers closed v)) (sym e)

@@ -1,0 +1,47 @@
+//! Nodes as the ranks of a moment of a plan: what a node may receive and fire is what the moment says.
+#![tactic(auto)]
+
+ghost use Rattle.std.specs.Prelude.{ℕ, ◌<◌, ◌≡◌, ◌∷◌, List, Bool, filter, map, length};
+ghost use Rattle.ptl_types.specs.declared.headers.Lane.{Lane as LaneOf};
+ghost use Rattle.ptl_types.specs.Messages.{Sent};
+ghost use Rattle.plan_core.specs.Plan.{Plan};
+ghost use Rattle.plan_core.specs.Sound.{SoundPlan, AreInputsOf};
+ghost use Rattle.plan_core.specs.Values.{Inputs};
+ghost use Rattle.plan_view.specs.Slots.{Slots};
+ghost use Rattle.plan_cuts.specs.History.Local.{Receive};
+ghost use Rattle.plan_cuts.specs.Moment.{IsMoment};
+ghost use Rattle.plan_cuts.specs.Plans.{system_of};
+ghost use Rattle.plan_cuts.specs.System.{state_at};
+ghost use Rattle.plan_nodes.specs.Ranks.{AreGates, HasStrayRoom, IsRank, MayReceive};
+ghost use Rattle.plan_orders.specs.Chosen.{Scene, firings_at};
+ghost use Rattle.plan_orders.specs.declared.Step.TheVariants.{Fire};
+ghost use Rattle.plan_worlds.specs.Possible.{is_possible};
+ghost use Rattle.rank_node.specs.Gates.{open_numbers};
+ghost use Rattle.rank_node.specs.Node.{NodeState};
+
+/// The interface of a node is that of its rank in the moment.
+pub fn nodes_are_ranks()
+    ensures { (plan : Plan) (inputs : Inputs) (slots : ℕ → Slots) (scene : Scene) (r : ℕ) (node : NodeState) →
+        IsRank plan inputs slots scene r node →
+        node.nic ≡ state_at (system_of plan inputs slots) scene.world r }
+{}
+
+/// The first message of a lane meets the conditions under which its target's node receives it: there is room for it, if there is
+/// room for one stray more where it is one.
+pub fn next_message_finds_room()
+    ensures { (plan : Plan) (inputs : Inputs) (slots : ℕ → Slots) (scene : Scene) (r s : ℕ) (lane : LaneOf)
+        (m : Sent) (later : List Sent) (node : NodeState) →
+        SoundPlan plan (length inputs) → AreInputsOf plan inputs → r < plan.ranks → s < plan.ranks →
+        IsMoment (system_of plan inputs slots) scene.world scene.held → scene.held s r lane ≡ m ∷ later →
+        IsRank plan inputs slots scene r node → HasStrayRoom node (Receive s lane m) →
+        MayReceive node s lane m }
+{}
+
+/// What a node counts as ready behind its open lanes are the firings of its rank that are possible under the window.
+pub fn open_firings_are_possible()
+    ensures { (plan : Plan) (inputs : Inputs) (slots : ℕ → Slots) (scene : Scene) (window r : ℕ) (node : NodeState)
+        (closed : List Bool) →
+        0 < window → IsRank plan inputs slots scene r node → AreGates scene window r closed →
+        filter (is_possible (system_of plan inputs slots) window scene) (firings_at (system_of plan inputs slots) scene r) ≡
+        map (Fire r) (open_numbers closed node.nic) }
+{}
