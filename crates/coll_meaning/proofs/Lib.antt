@@ -1,5 +1,9 @@
-pub mod Growing
-pub mod Fitting
-pub mod Keeping
-pub mod Measuring
-pub mod Following
+pub mod Rows
+pub mod Folds
+pub mod PlaceAt
+pub mod Made
+pub mod Rowed
+pub mod Holding
+pub mod Longs
+pub mod Measures
+pub mod There

@@ -1,3 +1,4 @@
-pub mod Patterns
-pub mod Printing
-pub mod Shaped
+pub mod Forms
+pub mod Needed
+pub mod Lengths
+pub mod Steps

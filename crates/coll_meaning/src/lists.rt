@@ -1,105 +1,85 @@
-//! Buffers as lists of elements.
+//! Buffers as lists of bytes, one a rank.
 
-ghost use Rattle.std.specs.Prelude.{◌≡◌, List, ℕ, IfOk, length, vec_len};
-ghost use Rattle.coll_lang.specs.Meaning.{list_at, ranks_at};
+ghost use Rattle.std.specs.Prelude.{◌≡◌, ◌++◌, ◌<◌, [], List, ℕ, IfOk, length, get_or, slice_set};
+ghost use Rattle.coll_shape.specs.Folding.{at};
+ghost use Rattle.coll_shape.specs.Meaning.{lists_of, taken};
+ghost use Rattle.coll_meaning.specs.Forms.{form_list, rank_lists};
 
+use coll_shape::{InputList, Inputs};
 use ptl_types::Rank;
 use std::alloc::{AllocError, Global};
 use std::marker::Model;
 
-/// A list that contracts see as its elements in order.
+/// A list of elements, each little-endian.
+pub type ByteList = InputList;
+
+/// The lists that a step makes. One that all members have is kept once.
 #[derive(Debug, Drop)]
-pub struct Listed<T> {
-    elements: Vec<T>,
+pub enum Form {
+    /// Every place has this list.
+    Same(ByteList),
+    /// The place has this list, and the others have none.
+    AtRoot(Rank, ByteList),
+    /// Each place has its own list, in order of places.
+    Each(Vec<ByteList>),
 }
 
-impl<T> Model for Listed<T> {
-    ghost Value = { List T };
-
-    ghost view = { λ l. l.elements.items };
-}
-
-impl<T> Listed<T> {
-    /// The list of these elements. It takes no memory.
-    pub fn of(elements: Vec<T>) -> Listed<T>
-        ensures { result ≡ elements.items }
+impl Form {
+    /// The list at a place.
+    fn list(&self, place: u32) -> &[u8]
+        ensures { result.now ≡ form_list self.now place }
     {
-        Listed { elements }
-    }
-
-    /// The elements.
-    pub fn as_slice(&self) -> &[T]
-        ensures { result.now ≡ self.now }
-    {
-        self.elements.as_slice()
-    }
-}
-
-/// One rank's list of a buffer: its elements as bit patterns.
-pub type RankValues = Listed<u64>;
-
-/// A buffer: each rank's list, in rank order.
-pub type RankLists = Listed<RankValues>;
-
-/// A copy of a rank's list.
-pub fn copied(alloc: Global, values: &[u64]) -> Result<RankValues, AllocError>
-    ensures { IfOk result (λ list. list ≡ values.now) }
-{
-    Ok(Listed::of(Vec::from_slice(alloc, values)?))
-}
-
-/// The list at a rank, which is empty where there is no such rank.
-pub fn list_at(lists: &[RankValues], r: Rank) -> &[u64]
-    ensures { result.now ≡ list_at lists.now r }
-{
-    match lists.get(r as usize) {
-        Some(list) => list.as_slice(),
-        None => &[],
+        match self {
+            Form::Same(list) => list.as_slice(),
+            Form::AtRoot(root, list) => { if place == *root { list.as_slice() } else { &[] } }
+            Form::Each(lists) => match lists.get(place as usize) {
+                Some(list) => list.as_slice(),
+                None => &[],
+            },
+        }
     }
 }
 
-/// The lists of a buffer by its number; none where there is no such buffer.
-pub fn lists_at(held: &[RankLists], i: u32) -> &[RankValues]
-    ensures { result.now ≡ ranks_at held.now i }
-{
-    match held.get(i as usize) {
-        Some(buffer) => buffer.as_slice(),
-        None => &[],
-    }
-}
-
-/// The buffers of a description by their numbers, the inputs first: of each the ranks' lists in rank order.
+/// A buffer: each rank's list.
 #[derive(Debug, Drop)]
-pub struct Buffers {
-    held: Vec<RankLists>,
+pub struct RankLists {
+    form: Form,
+    /// For each rank its place among the members.
+    places: Vec<Option<u32>>,
 }
 
-impl Model for Buffers {
-    ghost Value = { List (List (List ℕ)) };
+impl Model for RankLists {
+    ghost use Rattle.coll_meaning.specs.Forms.{rank_lists};
+    ghost use Rattle.std.specs.Prelude.{List, ℕ};
 
-    ghost view = { λ b. b.held.items };
+    ghost Value = { List (List ℕ) };
+
+    ghost view = { λ b. rank_lists b.form b.places.items };
 }
 
-impl Buffers {
-    /// These buffers. It takes no memory.
-    pub(crate) fn of(held: Vec<RankLists>) -> Buffers
-        ensures { result ≡ held.items }
+impl RankLists {
+    /// The lists of this form, where each rank has this place. It takes no memory.
+    pub fn of(form: Form, places: Vec<Option<u32>>) -> RankLists
+        ensures { result ≡ rank_lists form places.items }
     {
-        Buffers { held }
+        RankLists { form, places }
     }
 
-    /// How many buffers there are.
-    pub fn count(&self) -> usize
-        ensures told { result ≡ length self.now }
-    {
-        self.held.len()
+    /// A buffer that nothing needs. It takes no memory.
+    pub fn nothing(alloc: Global) -> RankLists {
+        RankLists {
+            form: Form::Each(Vec::new(alloc)),
+            places: Vec::new(alloc),
+        }
     }
 
-    /// The elements of a buffer at a rank, as bit patterns: numbers below 2 to the type's width, a signed value in two's
-    /// complement. The list is empty where there is no such buffer or no such rank.
-    pub fn list(&self, buffer: u32, r: Rank) -> &[u64]
-        ensures told { result.now ≡ list_at (ranks_at self.now buffer) r }
+    /// The list at a rank, which is empty where there is no such rank.
+    pub fn list(&self, r: Rank) -> &[u8]
+        ensures { result.now ≡ at self.now r }
     {
-        list_at(lists_at(self.held.as_slice(), buffer), r)
+        match self.places.get(r as usize) {
+            Some(Some(place)) => self.form.list(*place),
+            _ => &[],
+        }
     }
 }

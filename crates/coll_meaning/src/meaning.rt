@@ -1,76 +1,61 @@
 //! The buffers of a description, step by step.
 
-ghost use Rattle.std.specs.Prelude.{◌≡◌, ◌≤◌, length, map, IfOk};
-ghost use Rattle.coll_text.specs.Elements.{elements};
-ghost use Rattle.coll_lang.specs.Meaning.{inputs_of, buffers};
-ghost use Rattle.coll_meaning.specs.Shaped.{FollowsShape};
+ghost use Rattle.std.specs.Prelude.{◌≡◌, ◌<◌, ℕ, length, get_or, IfOk};
+ghost use Rattle.number_lists.specs.Numbers.{from_to};
+ghost use Rattle.coll_shape.specs.Meaning.{AreInputs, lists_of, meaning_of};
+ghost use Rattle.coll_meaning.specs.Lengths.{AreLong};
+ghost use Rattle.coll_meaning.specs.Steps.{IsThere};
 
-use crate::lists::{Buffers, Listed, RankLists, RankValues};
+use crate::buffers::Buffers;
 use crate::steps::take_step;
-use coll_lang::{Buffer, Description, RankList};
-use element_bytes::read_pattern;
-use ptl_types::{ElemType, NoMemory};
+use coll_shape::{Inputs, Shape};
+use ptl_types::NoMemory;
 use std::alloc::{AllocError, Global};
 
-/// The elements that the bytes hold, as bit patterns.
-fn elements(alloc: Global, ty: ElemType, bytes: &[u8]) -> Result<RankValues, AllocError>
-    ensures { IfOk result (λ list. list ≡ elements ty bytes.now) }
-{
-    let size = ty.size() as usize;
-    let mut values = Vec::new(alloc);
-    let mut rest = bytes;
-    while rest.len() >= size {
-        let (element, behind) = rest.split_at(size);
-        values.push(read_pattern(ty, element))?;
-        rest = behind;
-    }
-    Ok(Listed::of(values))
-}
-
-/// An input of the ranks' bytes.
-fn input_of(alloc: Global, ty: ElemType, lists: &[RankList]) -> Result<RankLists, AllocError>
-    ensures { IfOk result (λ held. held ≡ map (elements ty) lists.now) }
-{
-    let mut made = Vec::new(alloc);
-    for list in lists {
-        made.push(elements(alloc, ty, list.as_slice())?)?;
-    }
-    Ok(Listed::of(made))
-}
-
-/// All inputs, whose bytes stand one after the other, input by input and rank by rank.
-fn inputs_of(
+/// Makes all steps, so that the buffers that are to be kept are there.
+fn all_steps<'a>(
     alloc: Global,
-    ranks: u32,
-    buffers: &[Buffer],
-    lists: &[RankList],
-) -> Result<Vec<RankLists>, AllocError>
-    ensures { IfOk result (λ held. held.items ≡ inputs_of ranks buffers.now lists.now) }
+    shape: &Shape,
+    inputs: &'a Inputs,
+    kept: &[u32],
+) -> Result<Buffers<'a>, AllocError>
+    requires { AreInputs shape.now inputs.now }
+    ensures { IfOk result (λ held. IsThere shape.now kept.now inputs.now (length shape.now.steps) held) }
 {
-    let mut held = Vec::new(alloc);
-    let mut rest = lists;
-    for buffer in buffers {
-        let (own, others) = rest.split_at(rest.len().min(ranks as usize));
-        held.push(input_of(alloc, buffer.ty, own)?)?;
-        rest = others;
+    let _ = shape.ranks();
+    let mut held = Buffers::of(alloc, inputs);
+    for k in 0..shape.steps().len() {
+        take_step(alloc, shape, kept, &mut held, k as u32)?;
     }
     Ok(held)
 }
 
-/// The inputs, and then what each step adds.
-fn all_buffers(alloc: Global, d: &Description) -> Result<Vec<RankLists>, AllocError>
-    ensures value { IfOk result (λ held. held.items ≡ buffers d.now) }
-    ensures shaped { IfOk result (λ held. FollowsShape d.now.shape held.items) }
+/// The numbers of so many buffers.
+#[tactic(auto, using(crate::proofs::Rows::numbers_more))]
+fn numbers(alloc: Global, count: u32) -> Result<Vec<u32>, AllocError>
+    ensures { IfOk result (λ v. v.items ≡ from_to 0 count) }
 {
-    let shape = d.shape();
-    let ranks = shape.ranks();
-    let buffers = shape.buffers();
-    let steps = shape.steps();
-    let inputs = buffers.len().min(shape.input_count() as usize);
-    let mut held = inputs_of(alloc, ranks, &buffers[..inputs], d.inputs().lists())?;
-    for step in steps {
-        take_step(alloc, ranks, buffers, &mut held, *step)?;
+    let mut numbers = Vec::with_capacity(alloc, count as usize)?;
+    for i in 0..count {
+        numbers.push(i)?;
     }
+    Ok(numbers)
+}
+
+/// All buffers of a description.
+fn all_buffers<'a>(
+    alloc: Global,
+    shape: &Shape,
+    inputs: &'a Inputs,
+) -> Result<Buffers<'a>, AllocError>
+    requires { AreInputs shape.now inputs.now }
+    ensures value { IfOk result (λ held. held ≡ meaning_of shape.now inputs.now) }
+    ensures shaped { IfOk result (λ held. AreLong shape.now (length shape.now.buffers) held) }
+{
+    // With a call on it a shape tells that it is well formed.
+    let _ = shape.ranks();
+    let kept = numbers(alloc, shape.buffers().len() as u32)?;
+    let held = all_steps(alloc, shape, inputs, kept.as_slice())?;
     Ok(held)
 }
 
@@ -79,13 +64,39 @@ fn all_buffers(alloc: Global, d: &Description) -> Result<Vec<RankLists>, AllocEr
 /// # Errors
 ///
 /// There was no memory for the lists.
-pub fn buffers_of(alloc: Global, d: &Description) -> Result<Buffers, NoMemory>
-    ensures value { IfOk result (λ held. held ≡ buffers d.now) }
-    // There are as many buffers as the shape has, and each rank's list is as long as its buffer's spread says.
-    ensures shaped { IfOk result (λ held. FollowsShape d.now.shape held) }
+pub fn buffers_of<'a>(
+    alloc: Global,
+    shape: &Shape,
+    inputs: &'a Inputs,
+) -> Result<Buffers<'a>, NoMemory>
+    requires inputs { AreInputs shape.now inputs.now }
+    ensures value { IfOk result (λ held. held ≡ meaning_of shape.now inputs.now) }
+    // There are as many buffers as the shape has, and each rank's list is as long as its buffer's length and holders say.
+    ensures shaped { IfOk result (λ held. AreLong shape.now (length shape.now.buffers) held) }
 {
-    match all_buffers(alloc, d) {
-        Ok(held) => Ok(Buffers::of(held)),
+    match all_buffers(alloc, shape, inputs) {
+        Ok(held) => Ok(held),
+        Err(_) => Err(NoMemory),
+    }
+}
+
+/// What a description prints: the lists of its printed buffers. The lists of other buffers are let go as soon as no step
+/// reads them any more, so that the memory that is needed is that of the lists which are needed at one time.
+///
+/// # Errors
+///
+/// There was no memory for the lists.
+pub fn printed_of<'a>(
+    alloc: Global,
+    shape: &Shape,
+    inputs: &'a Inputs,
+) -> Result<Buffers<'a>, NoMemory>
+    requires inputs { AreInputs shape.now inputs.now }
+    ensures value { IfOk result (λ held. (i : ℕ) → i < length shape.now.prints → lists_of held (get_or shape.now.prints i 0) ≡ lists_of (meaning_of shape.now inputs.now) (get_or shape.now.prints i 0)) }
+{
+    let _ = shape.ranks();
+    match all_steps(alloc, shape, inputs, shape.prints()) {
+        Ok(held) => Ok(held),
         Err(_) => Err(NoMemory),
     }
 }

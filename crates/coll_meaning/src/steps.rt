@@ -1,84 +1,145 @@
-//! What a step makes.
+//! What a step makes, and which buffers are let go.
 
-ghost use Rattle.std.specs.Prelude.{◌≡◌, ◌++◌, length, IfOk, OnOk, option_to_list};
-ghost use Rattle.coll_lang.specs.Outline.{type_at};
-ghost use Rattle.coll_lang.specs.Steps.{source_of};
-ghost use Rattle.coll_lang.specs.Meaning.{made_by, ranks_at};
-ghost use Rattle.coll_meaning.specs.Patterns.{Fit};
+ghost use Rattle.std.specs.Prelude.{◌≡◌, ◌<◌, ◌^◌, ℕ, true, length, get_or, IfOk, OnOk};
+ghost use Rattle.std.specs.List.{list_any};
+ghost use Rattle.coll_shape.specs.Collectives.{asks_of, source_of};
+ghost use Rattle.coll_shape.specs.Outline.{step_at};
+ghost use Rattle.coll_shape.specs.Meaning.{lists_of, made_lists, taken, type_read};
+ghost use Rattle.coll_shape.specs.WellFormed.{AreMembers};
+ghost use Rattle.coll_meaning.specs.Lengths.{AreAsked};
+ghost use Rattle.coll_meaning.specs.Needed.{is_needed, is_number};
+ghost use Rattle.coll_meaning.specs.Steps.{FindsAsked, IsMade, later};
 
-use crate::lists::{RankLists, RankValues, lists_at};
-use crate::moves::{all_exchanged, all_gathered, broadcast, gathered};
-use crate::reductions::{all_reduced, reduced, scanned};
-use coll_lang::{Buffer, CollStep};
-use ptl_types::ElemType;
+use crate::buffers::{Buffers, Taken};
+use crate::collectives::form_of;
+use crate::lists::RankLists;
+use crate::places::places_of;
+use coll_shape::{CollStep, Shape, is_in};
+use ptl_types::{ElemType, Rank};
 use std::alloc::{AllocError, Global};
 
-/// The number of the buffer that a step reads: 0 where it reads none.
-fn source_of(step: CollStep) -> u32
-    ensures { result ≡ source_of step }
+/// Whether one of the steps reads a buffer.
+fn is_read(steps: &[CollStep], buffer: u32) -> bool
+    ensures { result ≡ list_any (λ step. is_number buffer (source_of step)) steps.now }
 {
-    match step {
-        CollStep::Barrier => 0,
-        CollStep::Broadcast { a, .. }
-        | CollStep::Reduce { a, .. }
-        | CollStep::Allreduce { a, .. }
-        | CollStep::Gather { a, .. }
-        | CollStep::Allgather { a, .. }
-        | CollStep::Alltoall { a, .. }
-        | CollStep::Scan { a, .. } => a,
+    match steps {
+        [] => false,
+        [step, others @ ..] => match step.source() {
+            Some(a) => a == buffer || is_read(others, buffer),
+            None => is_read(others, buffer),
+        },
     }
 }
 
-/// The type of a buffer by its number. Bytes where there is no such buffer.
-pub fn type_at(buffers: &[Buffer], i: u32) -> ElemType
-    ensures { result ≡ type_at buffers.now i }
+/// Whether a buffer has to be there: it is kept to the end, or a later step reads it.
+fn is_needed(kept: &[u32], later: &[CollStep], buffer: u32) -> bool
+    ensures { result ≡ is_needed kept.now later.now buffer }
 {
-    match buffers.get(i as usize) {
+    is_in(buffer, kept) || is_read(later, buffer)
+}
+
+/// The buffer that a step makes of A on these members.
+fn made(
+    alloc: Global,
+    ranks: u32,
+    ty: ElemType,
+    step: CollStep,
+    held: &Buffers,
+    a: u32,
+    group: &[Rank],
+) -> Result<RankLists, AllocError>
+    requires members { AreMembers ranks group.now }
+    requires asked { AreAsked (asks_of step) ty (taken group.now (lists_of held.now a)) }
+    ensures { IfOk result (λ made. made ≡ made_lists ranks group.now ty step (lists_of held.now a)) }
+{
+    let form = form_of(alloc, ty, step, &Taken::of(held, a, group))?;
+    Ok(RankLists::of(form, places_of(alloc, ranks, group)?))
+}
+
+/// A step by its number.
+fn step_at(shape: &Shape, k: u32) -> CollStep
+    requires { k < length shape.now.steps }
+    ensures { result ≡ step_at shape.now k }
+{
+    shape.steps()[k as usize]
+}
+
+/// The steps behind one.
+fn later(shape: &Shape, k: u32) -> &[CollStep]
+    requires { k < length shape.now.steps }
+    ensures { result.now ≡ later shape.now k }
+{
+    &shape.steps()[k as usize + 1..]
+}
+
+/// The type of the buffer that a step reads.
+fn type_read(shape: &Shape, step: CollStep) -> ElemType
+    ensures { result ≡ type_read shape.now step }
+{
+    let Some(a) = step.source() else {
+        return ElemType::U8;
+    };
+    match shape.buffers().get(a as usize) {
         Some(buffer) => buffer.ty,
         None => ElemType::U8,
     }
 }
 
-/// The buffer that a step makes of the one that it reads, if it makes one.
-fn made_of(
+/// The buffer that a step makes, where it is needed.
+fn made_if(
     alloc: Global,
+    needed: bool,
     ranks: u32,
     ty: ElemType,
-    from: &[RankValues],
     step: CollStep,
-) -> Result<Option<RankLists>, AllocError>
-    requires { Fit ty from.now }
-    ensures { IfOk result (λ made. option_to_list made ≡ made_by ranks (λ _. ty) (λ _. from.now) step) }
+    held: &Buffers,
+    a: u32,
+    group: &[Rank],
+) -> Result<RankLists, AllocError>
+    requires members { AreMembers ranks group.now }
+    requires asked { AreAsked (asks_of step) ty (taken group.now (lists_of held.now a)) }
+    ensures { IfOk result (λ made. needed ≡ true → made ≡ made_lists ranks group.now ty step (lists_of held.now a)) }
 {
-    let made = match step {
-        CollStep::Barrier => return Ok(None),
-        CollStep::Broadcast { root, .. } => broadcast(alloc, ranks, root, from)?,
-        CollStep::Reduce { root, op, .. } => reduced(alloc, ranks, root, op, ty, from)?,
-        CollStep::Allreduce { op, .. } => all_reduced(alloc, ranks, op, ty, from)?,
-        CollStep::Gather { root, .. } => gathered(alloc, ranks, root, from)?,
-        CollStep::Allgather { .. } => all_gathered(alloc, ranks, from)?,
-        CollStep::Alltoall { .. } => all_exchanged(alloc, ranks, from)?,
-        CollStep::Scan { op, .. } => scanned(alloc, ranks, op, ty, from)?,
-    };
-    Ok(Some(made))
+    if needed {
+        made(alloc, ranks, ty, step, held, a, group)
+    } else {
+        Ok(RankLists::nothing(alloc))
+    }
 }
 
-/// Adds the buffer that a step makes, if it makes one.
+/// Lets a buffer go that nothing needs.
+fn keep_if_needed(alloc: Global, held: &mut Buffers, kept: &[u32], later: &[CollStep], buffer: u32)
+    ensures many { length held.new ≡ length held.old }
+    ensures others { (b : ℕ) → is_needed kept.now later.now b ≡ true → lists_of held.new b ≡ lists_of held.old b }
+{
+    if !is_needed(kept, later, buffer) {
+        held.let_go(alloc, buffer);
+    }
+}
+
+/// Makes a step, and lets go what nothing behind it needs.
 pub fn take_step(
     alloc: Global,
-    ranks: u32,
-    buffers: &[Buffer],
-    held: &mut Vec<RankLists>,
-    step: CollStep,
+    shape: &Shape,
+    kept: &[u32],
+    held: &mut Buffers,
+    k: u32,
 ) -> Result<(), AllocError>
-    requires { Fit (type_at buffers.now (source_of step)) (ranks_at held.old.items (source_of step)) }
-    ensures { OnOk result (held.new.items ≡ held.old.items ++ made_by ranks (type_at buffers.now) (ranks_at held.old.items) step) }
+    requires step { k < length shape.now.steps }
+    requires few { length held.old < 2 ^ 32 }
+    requires asked { FindsAsked shape.now k held.old }
+    ensures { OnOk result (IsMade shape.now kept.now k held.old held.new) }
 {
-    let source = source_of(step);
-    let ty = type_at(buffers, source);
-    let made = made_of(alloc, ranks, ty, lists_at(held.as_slice(), source), step)?;
-    if let Some(new) = made {
-        held.push(new)?;
-    }
+    let ranks = shape.ranks();
+    let step = step_at(shape, k);
+    let Some(a) = step.source() else {
+        return Ok(());
+    };
+    let ty = type_read(shape, step);
+    let behind = later(shape, k);
+    let needed = is_needed(kept, behind, held.count() as u32);
+    let made = made_if(alloc, needed, ranks, ty, step, held, a, shape.group(k))?;
+    keep_if_needed(alloc, held, kept, behind, a);
+    held.push(made)?;
     Ok(())
 }

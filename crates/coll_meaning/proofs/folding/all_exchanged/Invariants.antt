@@ -1,0 +1,7 @@
+use Rattle.std.proofs.Common.{◌≡◌, map}
+use Rattle.number_lists.specs.Numbers.{from_to}
+use Rattle.coll_shape.specs.Folding.{exchanged}
+use Rattle.coll_meaning.proofs.folding.all_exchanged.Given as goal
+
+abbrev pub invariant-loop-i : goal.invariant-loop-i
+invariant-loop-i l = l.lists.items ≡ map (exchanged l.xs) (from_to 0 l.i)
