@@ -28,7 +28,7 @@ use Rattle.plan_orders.specs.Verdict.{IsVerdict}
 use Rattle.plan_orders.proofs.Steps.{ends_hold}
 
 -- ---- lists
-In-flat_cases : {X Y : Type 0} (f : X → List Y) (xs : List X) (y : Y) → In y (flat_map f xs) → (x : X) × In x xs × In y (f x)
+pub In-flat_cases : {X Y : Type 0} (f : X → List Y) (xs : List X) (y : Y) → In y (flat_map f xs) → (x : X) × In x xs × In y (f x)
 In-flat_cases f [] y i = absurd i
 In-flat_cases f (x ∷ xs) y i = elim (In-append_cases y (f x) (flat_map f xs) i) [
   | inl j ↦ (x, inl refl, j)
@@ -40,12 +40,12 @@ In-flat f [] x y i j = absurd i
 In-flat f (z ∷ xs) x y (inl e) j = In-append_left y (f z) (flat_map f xs) (subst (λ v. In y (f v)) (sym e) j)
 In-flat f (z ∷ xs) x y (inr i) j = In-append_right y (f z) (flat_map f xs) (In-flat f xs x y i j)
 
-In-get : {X : Type 0} (xs : List X) (i : ℕ) (d : X) → i < length xs → In (get_or xs i d) xs
+pub In-get : {X : Type 0} (xs : List X) (i : ℕ) (d : X) → i < length xs → In (get_or xs i d) xs
 In-get [] i d h = absurd (omega arith)
 In-get (x ∷ xs) zero d h = inl refl
 In-get (x ∷ xs) (suc i) d h = inr (In-get xs i d (omega arith))
 
-below : (n r : ℕ) → In r (from_to 0 n) → r < n
+pub below : (n r : ℕ) → In r (from_to 0 n) → r < n
 below n r i = let q = from_to-In 0 n r i in let z = q.1 in omega arith
 
 above : (n r : ℕ) → r < n → In r (from_to 0 n)

@@ -2,7 +2,9 @@
 #![tactic(auto)]
 
 ghost use Rattle.std.specs.Prelude.{ℕ, ◌<◌, ◌≡◌, ◌↔◌, List, [], length, map};
-ghost use Rattle.plan_core.specs.Members.{In};
+ghost use Rattle.ni_model.specs.Ready.{ready_numbers};
+ghost use Rattle.plan_core.specs.Members.{Distinct, In};
+ghost use Rattle.plan_orders.specs.Rising.{Rises};
 ghost use Rattle.plan_cuts.specs.Moment.{IsLocalStep, IsStill};
 ghost use Rattle.plan_orders.specs.Chosen.{IsChosen, Scene, chosen, enabled_steps, step_made};
 ghost use Rattle.plan_orders.specs.declared.Step.{Step};
@@ -12,7 +14,7 @@ ghost use Rattle.plan_core.specs.Values.{Inputs};
 ghost use Rattle.plan_view.specs.Slots.{Slots};
 ghost use Rattle.plan_cuts.specs.Cut.{IsCut, IsAtRest};
 ghost use Rattle.plan_cuts.specs.Plans.{system_of};
-ghost use Rattle.plan_cuts.specs.System.{Histories, System};
+ghost use Rattle.plan_cuts.specs.System.{Histories, System, state_at};
 ghost use Rattle.plan_orders.specs.Reached.{EndsSo, IsReached};
 ghost use Rattle.plan_orders.specs.Taking.{Lists, Move, IsInterleaving, IsTaken, histories, listed};
 ghost use Rattle.plan_orders.specs.Verdict.{IsVerdict, IsWhole, Rests};
@@ -100,4 +102,20 @@ pub fn chosen_runs()
         IsReached ranks (chosen ranks words n).world (chosen ranks words n).held }
     ensures holds { (ranks : System) (words : ℕ → ℕ) (world : Histories) →
         IsChosen ranks words world → IsVerdict ranks (λ r. map listed (world r)) Holds }
+{}
+
+/// In a cut of a sound plan's ranks the numbers of ready operations rise in the order in which they wait, and so no enabled step is
+/// listed twice; and the run that words choose ends.
+pub fn chosen_runs_of_plans()
+    ensures rise { (plan : Plan) (inputs : Inputs) (slots : ℕ → Slots) (world : Histories) →
+        SoundPlan plan (length inputs) → AreInputsOf plan inputs →
+        IsCut (system_of plan inputs slots) world → (r : ℕ) → r < plan.ranks →
+        Rises (ready_numbers (state_at (system_of plan inputs slots) world r)) }
+    ensures once { (plan : Plan) (inputs : Inputs) (slots : ℕ → Slots) (scene : Scene) →
+        SoundPlan plan (length inputs) → AreInputsOf plan inputs →
+        IsCut (system_of plan inputs slots) scene.world →
+        Distinct (enabled_steps (system_of plan inputs slots) scene) }
+    ensures ends { (plan : Plan) (inputs : Inputs) (slots : ℕ → Slots) (words : ℕ → ℕ) →
+        SoundPlan plan (length inputs) → AreInputsOf plan inputs →
+        ((world : Histories) × IsChosen (system_of plan inputs slots) words world) }
 {}
