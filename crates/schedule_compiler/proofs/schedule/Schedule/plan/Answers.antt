@@ -1,0 +1,14 @@
+-- By the laws of plans of shapes.
+use Rattle.std.proofs.Common.{ℕ, ◌≡◌, subst}
+use Rattle.coll_shape.specs.Outline.{Outline}
+use Rattle.plan_core.specs.Sound.{SoundPlan}
+use Rattle.shape_plans.specs.Drawing.{plan_of}
+use Rattle.shape_laws.proofs.Final.{sound}
+use Rattle.schedule_compiler.proofs.Kept.{ranks-are}
+use Rattle.schedule_compiler.proofs.schedule.Schedule.plan.Goals as goal
+
+pub returns-clause-sound : goal.returns-clause-sound
+returns-clause-sound c = subst (λ (o : Outline). SoundPlan (plan_of o) o.inputs) c.self.view_is (sound c.self.inside.shape c.ranks.ensures.shape c.self.invariant.accepted)
+
+pub returns-clause-ranks : goal.returns-clause-ranks
+returns-clause-ranks c = subst (λ (o : Outline). (plan_of o).ranks ≡ o.ranks) c.self.view_is (ranks-are c.self.inside.shape c.ranks.ensures.shape)

@@ -1,0 +1,24 @@
+-- By the laws of plans of shapes.
+use Rattle.std.proofs.Common.{ℕ, ◌≡◌, ◌<◌, length, ap, arith, subst}
+use Rattle.coll_shape.specs.Outline.{Outline}
+use Rattle.coll_shape.specs.WellFormed.{IsWellFormed}
+use Rattle.shape_laws.proofs.Final.{result-cell}
+use Rattle.schedule_compiler.proofs.Kept.{kept-buffers, kept-held}
+use Rattle.schedule_compiler.proofs.schedule.Schedule.result.Goals as goal
+
+pub cell-requires-clause-buffer : goal.cell-requires-clause-buffer
+cell-requires-clause-buffer c =
+    let e = kept-buffers c.self.inside.shape c.self.inside.plan c.self.inside.held c.self.inside.tables c.self.invariant c.ranks.ensures.shape in
+    let v = ap (λ (o : Outline). length o.buffers) c.self.view_is in
+    let h = c.requires.buffer in
+    omega (arith, e, v, h)
+
+pub cell-requires-clause-rank : goal.cell-requires-clause-rank
+cell-requires-clause-rank c =
+    let e = kept-held c.self.inside.shape c.self.inside.plan c.self.inside.held c.self.inside.tables c.self.invariant c.ranks.ensures.shape in
+    let v = ap (λ (o : Outline). o.ranks) c.self.view_is in
+    let h = c.requires.rank in
+    omega (arith, e, v, h)
+
+pub returns-clause-cell : goal.returns-clause-cell
+returns-clause-cell c = λ d z. result-cell c.args.self.now (subst IsWellFormed c.self.view_is c.ranks.ensures.shape) c.args.buffer c.args.r d c.requires.buffer c.requires.rank z

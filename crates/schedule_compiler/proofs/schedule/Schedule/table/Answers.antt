@@ -1,0 +1,18 @@
+-- By what the schedule keeps.
+use Rattle.std.proofs.Common.{ℕ, ◌≡◌, ◌<◌, ap, ◌∙◌, arith}
+use Rattle.plan_core.specs.Plan.{Plan}
+use Rattle.plan_tables.specs.Installed.{installed}
+use Rattle.coll_shape.specs.Outline.{Outline}
+use Rattle.shape_plans.specs.Drawing.{plan_of}
+use Rattle.schedule_compiler.proofs.Kept.{kept-ranks}
+use Rattle.schedule_compiler.proofs.schedule.Schedule.table.Goals as goal
+
+pub rank_at-requires-clause-rank : goal.rank_at-requires-clause-rank
+rank_at-requires-clause-rank c =
+    let e = kept-ranks c.self.inside.shape c.self.inside.plan c.self.inside.held c.self.inside.tables c.self.invariant c.ranks.ensures.shape in
+    let v = ap (λ (o : Outline). o.ranks) c.self.view_is in
+    let h = c.requires in
+    omega (arith, e, v, h)
+
+pub returns : goal.returns
+returns c = c.rank_at.ensures ∙ ap (λ (p : Plan). installed p c.args.r) (c.self.invariant.plan ∙ ap (λ (o : Outline). plan_of o) c.self.view_is)

@@ -1,0 +1,248 @@
+//! What the ranks of a shape install.
+
+ghost use Rattle.std.specs.Prelude.{ℕ, None, Some, [], ◌≡◌, ◌<◌, ◌+◌, length, map};
+ghost use Rattle.ptl_types.specs.declared.headers.Lane.TheVariants.{Request};
+ghost use Rattle.plan_core.specs.Draw.{held_cell};
+ghost use Rattle.plan_core.specs.Plan.{from_to, own};
+ghost use Rattle.plan_core.specs.Sound.{SoundPlan};
+ghost use Rattle.plan_calls.specs.Areas.{areas_length, longest_to, region_length};
+ghost use Rattle.plan_calls.specs.Calls.{cell_start, late_calls, prepare_calls};
+ghost use Rattle.plan_calls.specs.Lanes.{lane_bytes as lane_bytes_of, lane_messages};
+ghost use Rattle.plan_calls.specs.Limits.{limits_for};
+ghost use Rattle.plan_calls.specs.Works.{done_threshold};
+ghost use Rattle.plan_tables.specs.Installed.{installed};
+ghost use Rattle.plan_tables.specs.Ranks.{IsTables};
+ghost use Rattle.coll_shape.specs.Outline.{buffer_at};
+ghost use Rattle.shape_plans.specs.Drawing.{drawing_of, plan_of};
+ghost use Rattle.shape_plans.specs.Footprint.{refusal};
+ghost use Rattle.shape_laws.specs.Results.{IsResultCell};
+ghost use Rattle.schedule_compiler.specs.Answers.{place_of};
+ghost use Rattle.schedule_compiler.specs.Keeping.{Keeps};
+
+use coll_shape::Shape;
+use plan_core::{Held, Plan};
+use plan_tables::{RankTable, Tables};
+use ptl_types::{Call, Lane, Limits, Rank};
+use std::marker::Model;
+
+/// Where a cell lies.
+#[derive(Clone, Copy, Debug, PartialEq, Eq)]
+pub struct Place {
+    /// The rank whose region it lies in.
+    pub rank: Rank,
+    /// Where it begins there, in bytes.
+    pub start: u64,
+    /// Its length in bytes.
+    pub length: u64,
+}
+
+/// The schedule of a shape: its plan, and what each rank installs. Contracts see it as its shape. It keeps a copy of the shape,
+/// that the shape isn't refused, and that all else is what the shape says.
+#[derive(Debug, Drop)]
+pub struct Schedule {
+    shape: Shape,
+    plan: Plan,
+    held: Held,
+    tables: Tables,
+}
+
+impl Model for Schedule {
+    ghost use Rattle.coll_shape.specs.Outline.{Outline};
+    ghost use Rattle.schedule_compiler.specs.Keeping.{Keeps};
+
+    ghost Value = { Outline };
+
+    ghost view = { λ s. s.shape };
+
+    ghost invariant = { λ s. Keeps s.shape s.plan s.held s.tables };
+}
+
+/// The table of a rank.
+fn rank_at<'a>(ranks: &'a [RankTable], plan: &Plan, r: Rank) -> &'a RankTable
+    requires table { ranks.now ≡ map (installed plan.now) (from_to 0 plan.now.ranks) }
+    requires rank { r < plan.now.ranks }
+    ensures { result.now ≡ installed plan.now r }
+{
+    let _ = plan.ranks();
+    &ranks[r as usize]
+}
+
+/// Where a cell begins in its rank's region.
+fn start_at(starts: &[u64], plan: &Plan, c: u32) -> u64
+    requires table { starts.now ≡ map (cell_start plan.now) (from_to 0 (length plan.now.cells)) }
+    requires cell { c < length plan.now.cells }
+    ensures { result ≡ cell_start plan.now c }
+{
+    let _ = plan.ranks();
+    starts[c as usize]
+}
+
+impl Schedule {
+    /// The schedule of these parts. It takes no memory.
+    pub(crate) fn of(shape: Shape, plan: Plan, held: Held, tables: Tables) -> Schedule
+        requires { Keeps shape plan held tables }
+        ensures { result ≡ shape }
+    {
+        Schedule {
+            shape,
+            plan,
+            held,
+            tables,
+        }
+    }
+
+    /// The shape that was compiled.
+    pub fn shape(&self) -> &Shape
+        ensures told { result.now ≡ self.now }
+        // This holds of every schedule, whichever call tells it.
+        ensures accepted { refusal self.now ≡ None }
+    {
+        &self.shape
+    }
+
+    /// The plan.
+    pub fn plan(&self) -> &Plan
+        ensures told { result.now ≡ plan_of self.now }
+        ensures sound { SoundPlan (plan_of self.now) self.now.inputs }
+        ensures ranks { (plan_of self.now).ranks ≡ self.now.ranks }
+    {
+        let _ = self.shape.ranks();
+        &self.plan
+    }
+
+    /// The table of a rank.
+    fn table(&self, r: Rank) -> &RankTable
+        requires { r < self.now.ranks }
+        ensures { result.now ≡ installed (plan_of self.now) r }
+    {
+        let _ = self.shape.ranks();
+        rank_at(self.tables.ranks.as_slice(), &self.plan, r)
+    }
+
+    /// The tables of the plan.
+    pub(crate) fn tables(&self) -> &Tables
+        ensures { IsTables (plan_of self.now) result.now }
+    {
+        &self.tables
+    }
+
+    /// The calls that prepare a rank's interface, in order.
+    pub fn calls(&self, r: Rank) -> &[Call]
+        requires { r < self.now.ranks }
+        ensures { result.now ≡ prepare_calls (plan_of self.now) r }
+    {
+        self.table(r).calls()
+    }
+
+    /// The calls of a rank's start, in order: the entries of its cells.
+    pub fn late(&self, r: Rank) -> &[Call]
+        requires { r < self.now.ranks }
+        ensures { result.now ≡ late_calls (plan_of self.now) r }
+    {
+        self.table(r).late()
+    }
+
+    /// The limits that a rank's interface is opened with.
+    pub fn limits(&self, r: Rank) -> &Limits
+        requires { r < self.now.ranks }
+        ensures { result.now ≡ limits_for (plan_of self.now) r }
+    {
+        self.table(r).limits()
+    }
+
+    /// Where a rank's done counter stands when all is done.
+    pub fn done(&self, r: Rank) -> u64
+        requires { r < self.now.ranks }
+        ensures { result ≡ done_threshold (plan_of self.now) r }
+    {
+        self.table(r).done()
+    }
+
+    /// A rank's own cells, by their numbers, rising.
+    pub fn cells(&self, r: Rank) -> &[u32]
+        requires { r < self.now.ranks }
+        ensures { result.now ≡ own (plan_of self.now) r }
+    {
+        self.table(r).cells()
+    }
+
+    /// The bytes of a rank's region: its cells, and behind them its areas.
+    pub fn region(&self, r: Rank) -> u64
+        requires { r < self.now.ranks }
+        ensures { result ≡ region_length (plan_of self.now) r + areas_length (plan_of self.now) r }
+    {
+        self.table(r).region()
+    }
+
+    /// The bytes of the longest message that comes to a rank.
+    pub fn longest_to(&self, r: Rank) -> u64
+        requires { r < self.now.ranks }
+        ensures { result ≡ longest_to (plan_of self.now) r }
+    {
+        self.table(r).longest()
+    }
+
+    /// How many requests go from one rank to another.
+    fn requests(&self, s: Rank, d: Rank) -> u64
+        requires source { s < self.now.ranks }
+        requires target { d < self.now.ranks }
+        ensures { result ≡ lane_messages (plan_of self.now) s d Request }
+    {
+        let _ = self.shape.ranks();
+        self.tables.lanes.messages(&self.plan, s, d)
+    }
+
+    /// How many messages go on a lane from rank s to rank d; 0 on an unused lane. Answers go the other way than the requests that
+    /// they answer, and only where completion waits for acknowledgements.
+    pub fn lane(&self, s: Rank, d: Rank, lane: Lane) -> u64
+        requires source { s < self.now.ranks }
+        requires target { d < self.now.ranks }
+        ensures { result ≡ lane_messages (plan_of self.now) s d lane }
+    {
+        match lane {
+            Lane::Request => self.requests(s, d),
+            Lane::Answer => {
+                if self.plan.remote() {
+                    self.requests(d, s)
+                } else {
+                    0
+                }
+            }
+        }
+    }
+
+    /// The bytes of the requests from rank s to rank d together. Answers carry none.
+    pub fn lane_bytes(&self, s: Rank, d: Rank) -> u64
+        requires source { s < self.now.ranks }
+        requires target { d < self.now.ranks }
+        ensures { result ≡ lane_bytes_of (plan_of self.now) s d }
+    {
+        let _ = self.shape.ranks();
+        self.tables.lanes.sent_bytes(&self.plan, s, d)
+    }
+
+    /// Where a cell lies.
+    pub fn place(&self, cell: u32) -> Place
+        requires { cell < length (plan_of self.now).cells }
+        ensures { result ≡ place_of (plan_of self.now) cell }
+    {
+        let part = self.plan.cells()[cell as usize];
+        Place {
+            rank: part.rank,
+            start: start_at(self.tables.starts.as_slice(), &self.plan, cell),
+            length: part.length,
+        }
+    }
+
+    /// The cell that holds a buffer at a rank. `None` exactly where the rank's list is empty.
+    pub fn result(&self, buffer: u32, r: Rank) -> Option<u32>
+        requires buffer { buffer < length self.now.buffers }
+        requires rank { r < self.now.ranks }
+        ensures told { result ≡ held_cell (drawing_of self.now).held buffer r }
+        ensures cell { (c : ℕ) → held_cell (drawing_of self.now).held buffer r ≡ Some c →
+            IsResultCell (plan_of self.now) (buffer_at self.now buffer) r c }
+    {
+        let _ = self.shape.ranks();
+        self.held.cell(buffer, r)
+    }
+}
