@@ -5,7 +5,7 @@ ghost use Rattle.coll_shape.specs.Folding.{at};
 ghost use Rattle.coll_shape.specs.Meaning.{lists_of, taken};
 
 use crate::lists::RankLists;
-use coll_shape::{InputLists, Inputs};
+use coll_shape::Inputs;
 use ptl_types::Rank;
 use std::alloc::{AllocError, Global};
 use std::marker::Model;
@@ -14,25 +14,33 @@ use std::marker::Model;
 /// lists are the caller's.
 #[derive(Drop)]
 pub struct Buffers<'a> {
-    inputs: &'a [InputLists],
+    inputs: &'a Inputs,
+    count: u32,
+    ranks: u32,
     made: Vec<RankLists>,
 }
 
 impl<'a> Model for Buffers<'a> {
-    ghost use Rattle.std.specs.Prelude.{List, ℕ, ◌++◌};
+    ghost use Rattle.std.specs.Prelude.{◌≡◌, ◌<◌, ◌++◌, [], List, ℕ, length, get_or};
 
     ghost Value = { List (List (List ℕ)) };
 
     ghost view = { λ b. b.inputs.now ++ b.made.items };
+
+    ghost invariant = { λ b. (length b.inputs.now ≡ b.count) × ((i : ℕ) → i < b.count → length (get_or b.inputs.now i []) ≡ b.ranks) };
 }
 
 impl<'a> Buffers<'a> {
-    /// The inputs alone. It takes no memory.
-    pub(crate) fn of(alloc: Global, inputs: &'a Inputs) -> Buffers<'a>
+    /// The inputs alone: so many, each with a list for each of so many ranks. It takes no memory.
+    pub(crate) fn of(alloc: Global, inputs: &'a Inputs, count: u32, ranks: u32) -> Buffers<'a>
+        requires many { length inputs.now ≡ count }
+        requires ranks { (i : ℕ) → i < count → length (get_or inputs.now i []) ≡ ranks }
         ensures { result ≡ inputs.now }
     {
         Buffers {
-            inputs: inputs.as_slice(),
+            inputs,
+            count,
+            ranks,
             made: Vec::new(alloc),
         }
     }
@@ -42,7 +50,7 @@ impl<'a> Buffers<'a> {
         requires { length self.now < 2 ^ 32 }
         ensures told { result ≡ length self.now }
     {
-        self.inputs.len() + self.made.len()
+        self.count as usize + self.made.len()
     }
 
     /// The bytes of a buffer's list at a rank: its elements in order, each little-endian. The list is empty where there is no
@@ -50,15 +58,17 @@ impl<'a> Buffers<'a> {
     pub fn list(&self, buffer: u32, r: Rank) -> &[u8]
         ensures told { result.now ≡ at (lists_of self.now buffer) r }
     {
-        match self.inputs.get(buffer as usize) {
-            Some(input) => match input.as_slice().get(r as usize) {
-                Some(list) => list.as_slice(),
-                None => &[],
-            },
-            None => match self.made.get(buffer as usize - self.inputs.len()) {
+        if buffer < self.count {
+            if r < self.ranks {
+                self.inputs.list(buffer, r)
+            } else {
+                &[]
+            }
+        } else {
+            match self.made.get((buffer - self.count) as usize) {
                 Some(made) => made.list(r),
                 None => &[],
-            },
+            }
         }
     }
 
@@ -79,9 +89,8 @@ impl<'a> Buffers<'a> {
         ensures others { (b : ℕ) → (b ≡ buffer → ⊥) → lists_of self.new b ≡ lists_of self.old b }
         ensures many { length self.new ≡ length self.old }
     {
-        let before = self.inputs.len();
-        if before <= buffer as usize && buffer as usize - before < self.made.len() {
-            self.made[buffer as usize - before] = RankLists::nothing(alloc);
+        if self.count <= buffer && ((buffer - self.count) as usize) < self.made.len() {
+            self.made[(buffer - self.count) as usize] = RankLists::nothing(alloc);
         }
     }
 }

@@ -5,7 +5,7 @@ ghost use Rattle.coll_shape.specs.Folding.{at};
 ghost use Rattle.coll_shape.specs.Meaning.{lists_of, taken};
 ghost use Rattle.coll_meaning.specs.Forms.{form_list, rank_lists};
 
-use coll_shape::{InputList, Inputs};
+use coll_shape::InputList;
 use ptl_types::Rank;
 use std::alloc::{AllocError, Global};
 use std::marker::Model;

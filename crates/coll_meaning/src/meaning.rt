@@ -22,8 +22,8 @@ fn all_steps<'a>(
     requires { AreInputs shape.now inputs.now }
     ensures { IfOk result (λ held. IsThere shape.now kept.now inputs.now (length shape.now.steps) held) }
 {
-    let _ = shape.ranks();
-    let mut held = Buffers::of(alloc, inputs);
+    let ranks = shape.ranks();
+    let mut held = Buffers::of(alloc, inputs, shape.input_count(), ranks);
     for k in 0..shape.steps().len() {
         take_step(alloc, shape, kept, &mut held, k as u32)?;
     }
