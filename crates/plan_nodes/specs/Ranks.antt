@@ -10,6 +10,8 @@ use Rattle.plan_cuts.specs.Cut.{is_received_stray, is_stray}
 use Rattle.plan_cuts.specs.History.{IsDue, Local, is_lane}
 use Rattle.plan_cuts.specs.History.Local.{Start, Receive, Fire}
 use Rattle.plan_orders.specs.Chosen.{Scene}
+use Rattle.plan_orders.specs.declared.Step.{Step}
+use Rattle.plan_orders.specs.declared.Step.TheVariants.{Start as Starts, Deliver as Delivers, Fire as Fires}
 use Rattle.rank_node.specs.Handles.{Agrees}
 use Rattle.rank_node.specs.Node.{IsNode, NodeState, stray_bytes}
 use Rattle.rank_node.specs.Plans.{IsCompiledFor}
@@ -47,3 +49,9 @@ pub record AreGates (z : Scene) (window r : ℕ) (closed : List Bool) : Type 0 w
   pub told : (d : ℕ) → d < length closed → slice_index_or closed d true ≡ not (nat_lt (length (z.held r d Request)) window)
   -- past the last rank no lane holds any
   pub past : (d : ℕ) → length closed ≤ d → z.held r d Request ≡ []
+
+-- the rank whose history grows
+abbrev pub mover : Step → ℕ
+mover (Starts r) = r
+mover (Delivers s d lane) = d
+mover (Fires r t) = r

@@ -1,7 +1,7 @@
 //! Nodes as the ranks of a moment of a plan: what a node may receive and fire is what the moment says.
 #![tactic(auto)]
 
-ghost use Rattle.std.specs.Prelude.{ℕ, ◌<◌, ◌≡◌, ◌∷◌, List, Bool, filter, map, length};
+ghost use Rattle.std.specs.Prelude.{ℕ, ◌<◌, ◌≡◌, ◌∷◌, List, Bool, IsTrue, false, filter, map, length};
 ghost use Rattle.ptl_types.specs.declared.headers.Lane.{Lane as LaneOf};
 ghost use Rattle.ptl_types.specs.Messages.{Sent};
 ghost use Rattle.plan_core.specs.Plan.{Plan};
@@ -12,12 +12,14 @@ ghost use Rattle.plan_cuts.specs.History.Local.{Receive};
 ghost use Rattle.plan_cuts.specs.Moment.{IsMoment};
 ghost use Rattle.plan_cuts.specs.Plans.{system_of};
 ghost use Rattle.plan_cuts.specs.System.{state_at};
-ghost use Rattle.plan_nodes.specs.Ranks.{AreGates, HasStrayRoom, IsRank, MayReceive};
-ghost use Rattle.plan_orders.specs.Chosen.{Scene, firings_at};
-ghost use Rattle.plan_orders.specs.declared.Step.TheVariants.{Fire};
+ghost use Rattle.plan_nodes.specs.Ranks.{AreGates, HasStrayRoom, IsRank, MayReceive, mover};
+ghost use Rattle.plan_orders.specs.Chosen.{Scene, firings_at, step_made};
+ghost use Rattle.plan_orders.specs.declared.Step.{Step};
+ghost use Rattle.plan_orders.specs.declared.Step.TheVariants.{Deliver, Fire, Start};
 ghost use Rattle.plan_worlds.specs.Possible.{is_possible};
 ghost use Rattle.rank_node.specs.Gates.{open_numbers};
-ghost use Rattle.rank_node.specs.Node.{NodeState};
+ghost use Rattle.rank_node.specs.Handles.{Agrees};
+ghost use Rattle.rank_node.specs.Node.{IsNode, IsStarted, NodeState, fired_node, received_node};
 
 /// The interface of a node is that of its rank in the moment.
 pub fn nodes_are_ranks()
@@ -44,4 +46,24 @@ pub fn open_firings_are_possible()
         0 < window → IsRank plan inputs slots scene r node → AreGates scene window r closed →
         filter (is_possible (system_of plan inputs slots) window scene) (firings_at (system_of plan inputs slots) scene r) ≡
         map (Fire r) (open_numbers closed node.nic) }
+{}
+
+/// A step of a node is the step of its rank: the node behind it stands for the rank of the moment behind it, and the nodes of the
+/// other ranks for theirs. A start is so under all slots that agree with the handles that there are behind it.
+pub fn each_step_of_a_node()
+    ensures fired { (plan : Plan) (inputs : Inputs) (slots : ℕ → Slots) (scene : Scene) (r t : ℕ) (node : NodeState) →
+        IsRank plan inputs slots scene r node → IsNode (fired_node t node) →
+        IsRank plan inputs slots (step_made (system_of plan inputs slots) (Fire r t) scene) r (fired_node t node) }
+    ensures received { (plan : Plan) (inputs : Inputs) (slots : ℕ → Slots) (scene : Scene) (r s : ℕ) (lane : LaneOf)
+        (m : Sent) (later : List Sent) (node : NodeState) →
+        scene.held s r lane ≡ m ∷ later → IsRank plan inputs slots scene r node →
+        IsNode (received_node s lane m node) →
+        IsRank plan inputs slots (step_made (system_of plan inputs slots) (Deliver s r lane) scene) r (received_node s lane m node) }
+    ensures started { (plan : Plan) (inputs : Inputs) (slots : ℕ → Slots) (scene : Scene) (r : ℕ) (old new : NodeState) →
+        IsRank plan inputs slots scene r old → IsStarted old new → IsNode new → Agrees (slots r) new.kept →
+        IsRank plan inputs slots (step_made (system_of plan inputs slots) (Start r) scene) r new }
+    ensures others { (plan : Plan) (inputs : Inputs) (slots : ℕ → Slots) (scene : Scene) (q : ℕ) (step : Step)
+        (node : NodeState) →
+        (q ≡ mover step → IsTrue false) → IsRank plan inputs slots scene q node →
+        IsRank plan inputs slots (step_made (system_of plan inputs slots) step scene) q node }
 {}
