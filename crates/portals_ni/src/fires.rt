@@ -1,6 +1,6 @@
 //! Which triggered operations are ready, and what firing one does (Portals 4.3, triggered operations).
 
-ghost use Rattle.std.specs.Prelude.{◌≡◌, ◌<◌, IsTrue, IsSome, Some, false, length, slice_get};
+ghost use Rattle.std.specs.Prelude.{◌≡◌, ◌<◌, IsTrue, Some, false, length, slice_get};
 ghost use Rattle.ni_model.specs.Ready.{is_ready, is_rank, fired, fires, posted_at, ready_numbers, ready_numbers_to, target_at, message_target as target_named, target_of as target_posted};
 ghost use Rattle.ni_model.specs.Refusals.{deed_passes};
 ghost use Rattle.ni_model.specs.Calls.{AnswersReady};
@@ -125,10 +125,9 @@ impl Nic {
         count_to(&self.pending, target)
     }
 
-    /// The rank that the message of a pending operation is for; `None` exactly for an increment or a set. Condition: it is
-    /// pending.
+    /// The rank that the message of a pending operation is for; `None` exactly for an increment or a set, and where the
+    /// operation isn't pending.
     pub fn lane_of(&self, number: u32) -> Option<Rank>
-        requires { IsSome (posted_at number self.now.pending) }
         ensures told { result ≡ target_at self.now number }
     {
         target_of(&self.pending, number)

@@ -1,7 +1,7 @@
 //! The unexpected headers of an interface, in the order of arrival (Portals 4.3, unexpected messages).
 #![tactic(auto)]
 
-ghost use Rattle.std.specs.Prelude.{◌≡◌, ◌<◌, ◌++◌, ◌∷◌, [], ◌↔◌, IsTrue, IfOk, vec_capacity, IfNone, IfSome, Some, None, slice_index_or, remove, length, nat_lt, option_copied};
+ghost use Rattle.std.specs.Prelude.{◌≡◌, ◌<◌, ◌≤◌, ◌+◌, ◌++◌, ◌∷◌, [], ◌↔◌, IsTrue, IfOk, vec_capacity, vec_len, drop, IfNone, IfSome, Some, None, slice_index_or, remove, length, nat_lt, option_copied};
 ghost use Rattle.ni_model.specs.declared.Noted.{Noted as Header};
 ghost use Rattle.ni_model.specs.Headers.{held, allows as allowed_by, finds as found_by, oldest, without_oldest, names_entry, headers_of, no_room, left_in};
 ghost use Rattle.unexpected.specs.Places.{noted as as_noted, header_at};
@@ -109,23 +109,51 @@ fn number_of(noted: &[Noted], pt: u32, i: u32) -> Option<&UnexpectedHeader>
     None
 }
 
+/// Takes the header at a place behind the first `gone` ones out: the older of them move up by one place.
+fn take_behind(noted: &mut [Noted], gone: usize, at: usize) -> Noted
+    requires { gone + at < length noted.old }
+    ensures taken { (d : Header) → result ≡ slice_index_or (drop gone noted.old) at d }
+    ensures rest { drop (gone + 1) noted.new ≡ remove (drop gone noted.old) at }
+    ensures len { length noted.new ≡ length noted.old }
+{
+    let place = gone + at;
+    let taken = noted[place];
+    noted[gone..place + 1].rotate_right(1);
+    taken
+}
+
+/// Gives the places before the first header free.
+fn settle(noted: &mut Vec<Noted>, gone: usize)
+    requires { gone ≤ vec_len noted.old }
+    ensures left { noted.new.items ≡ drop gone noted.old.items }
+    ensures room { vec_capacity noted.new ≡ vec_capacity noted.old }
+{
+    let left = noted.len() - gone;
+    noted.rotate_left(gone);
+    noted.truncate(left);
+}
+
 /// The headers of all portal table indices of an interface. Their value is the headers, oldest first, and how many there
 /// may be.
+///
+/// The headers stand behind places of some that are gone, so that one is taken without moving the younger ones: in as many
+/// steps as older ones were looked at. The places are given free in one pass, after as many headers as the limit at least.
 #[derive(Drop)]
 pub struct Headers {
     noted: Vec<Noted>,
+    gone: usize,
     limit: u32,
 }
 
 impl Model for Headers {
-    ghost use Rattle.std.specs.Prelude.{◌≤◌, vec_capacity};
+    ghost use Rattle.std.specs.Prelude.{◌≤◌, ◌*◌, drop, vec_capacity, vec_len};
     ghost use Rattle.ni_model.specs.Headers.{Held, held};
 
     ghost Value = { Held };
 
-    ghost view = { λ h. held h.noted.items h.limit };
+    ghost view = { λ h. held (drop h.gone h.noted.items) h.limit };
 
-    ghost invariant = { λ h. h.limit ≤ vec_capacity h.noted };
+    ghost invariant = { λ h. (h.gone ≤ vec_len h.noted) × (2 * h.limit ≤ vec_capacity h.noted) };
 }
 
 impl Headers {
@@ -133,17 +161,19 @@ impl Headers {
     pub fn open(alloc: Global, limit: u32) -> Result<Headers, NoMemory>
         ensures { IfOk result (λ h. h ≡ held [] limit) }
     {
-        match Vec::with_capacity(alloc, limit as usize) {
-            Ok(noted) => Ok(Headers { noted, limit }),
-            Err(_) => Err(NoMemory),
-        }
+        let noted = Vec::with_capacity(alloc, 2 * limit as usize)?;
+        Ok(Headers {
+            noted,
+            gone: 0,
+            limit,
+        })
     }
 
     /// Whether as many headers wait as the limit allows.
     pub fn is_full(&self) -> bool
         ensures { result ≡ no_room self.now }
     {
-        self.limit as usize <= self.noted.len()
+        self.limit as usize <= self.noted.len() - self.gone
     }
 
     /// Adds a header of this portal table index, the youngest.
@@ -151,6 +181,10 @@ impl Headers {
         requires { length self.old.noted < self.old.limit }
         ensures { self.new ≡ held (self.old.noted ++ as_noted pt header ∷ []) self.old.limit }
     {
+        if self.noted.len() >= 2 * self.limit as usize {
+            settle(&mut self.noted, self.gone);
+            self.gone = 0;
+        }
         self.noted.push_reserved(Noted { pt, header });
     }
 
@@ -161,28 +195,32 @@ impl Headers {
         ensures rest { self.new ≡ held (without_oldest pt entry.now self.old.noted) self.old.limit }
         ensures none { IfNone result (self.new ≡ self.old) }
     {
-        let at = place_of(&self.noted, pt, entry)?;
-        Some(self.noted.remove(at))
+        let at = place_of(self.as_slice(), pt, entry)?;
+        let taken = take_behind(&mut self.noted, self.gone, at);
+        self.gone += 1;
+        Some(taken)
     }
 
     /// The oldest header of this index that the entry matches and allows, which stays.
     pub fn search(&self, pt: u32, entry: &Entry) -> Option<Noted>
         ensures { result ≡ oldest pt entry.now self.now.noted }
     {
-        first_found(&self.noted, pt, entry)
+        first_found(self.as_slice(), pt, entry)
     }
 
     /// All headers, oldest first.
     pub fn as_slice(&self) -> &[Noted]
         ensures { result.now ≡ self.now.noted }
     {
-        self.noted.as_slice()
+        &self.noted[self.gone..]
     }
 
     /// Takes out all headers of this index that the entry matches and allows, in one pass. The others keep their order.
     pub fn drop_found(&mut self, pt: u32, entry: &Entry)
         ensures { self.new ≡ held (left_in pt entry.now self.old.noted) self.old.limit }
     {
+        settle(&mut self.noted, self.gone);
+        self.gone = 0;
         drop_found(&mut self.noted, pt, entry);
     }
 
@@ -190,20 +228,20 @@ impl Headers {
     pub fn names(&self, entry: Handle) -> bool
         ensures { result ≡ names_entry entry self.now.noted }
     {
-        some_lies_in(&self.noted, entry)
+        some_lies_in(self.as_slice(), entry)
     }
 
     /// Whether a header of this index waits.
     pub fn waits_at(&self, pt: u32) -> bool
         ensures { result ≡ nat_lt 0 (length (headers_of pt self.now.noted)) }
     {
-        some_is_of(&self.noted, pt)
+        some_is_of(self.as_slice(), pt)
     }
 
     /// Header number i of an index in the order of arrival, from 0; `None` exactly where the index has no more than i.
     pub fn at(&self, pt: u32, i: u32) -> Option<&UnexpectedHeader>
         ensures { option_copied result ≡ header_at pt i self.now.noted }
     {
-        number_of(&self.noted, pt, i)
+        number_of(self.as_slice(), pt, i)
     }
 }

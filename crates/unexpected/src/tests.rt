@@ -99,3 +99,22 @@ fn all_that_an_entry_finds_go_at_once(rt: HostRuntime) -> Result<(), Fail> {
     assert!(rt; headers.at(1, 1).is_none());
     Ok(())
 }
+
+#[test]
+fn one_after_the_other_is_taken_where_one_has_room(rt: HostRuntime) -> Result<(), Fail> {
+    let mut headers = Headers::open(rt.alloc(), 2)?;
+    headers.add(1, put(7, 100));
+    for place in 0..20 {
+        if !headers.is_full() {
+            headers.add(1, put(5, place));
+            assert!(rt; headers.is_full());
+            let taken = headers
+                .take_oldest(1, &entry(5))
+                .map(|noted| noted.header.place);
+            assert_eq!(rt; taken, Some(place));
+        }
+    }
+    assert_eq!(rt; headers.as_slice().len(), 1);
+    assert_eq!(rt; headers.at(1, 0).map(|header| header.place), Some(100));
+    Ok(())
+}
