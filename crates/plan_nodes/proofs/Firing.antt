@@ -3,42 +3,16 @@ use Rattle.std.proofs.Common.{ℕ, zero, suc, Bool, true, false, not, ◌≡◌,
 use Rattle.std.proofs.lemmas.Bool.{cases_lt}
 use Rattle.std.proofs.lemmas.List.{get_or_default}
 use Rattle.ptl_types.specs.Messages.{Sent}
-use Rattle.ptl_types.specs.declared.calls.Deed.{Deed}
-use Rattle.ptl_types.specs.declared.calls.Deed.TheVariants.{Put, Get, Atomic, FetchAtomic, Swap, Inc, Set}
 use Rattle.ptl_types.specs.declared.headers.Lane.TheVariants.{Request}
 use Rattle.ni_model.specs.Ready.{done, fired, fired_op, message_target, posted_at, ready_numbers, target_at, target_of, without_number}
-use Rattle.ni_model.specs.Starts.{started}
 use Rattle.ni_model.specs.State.{Posted, State}
 use Rattle.plan_cuts.specs.System.{System, state_at}
 use Rattle.plan_nodes.specs.Ranks.{AreGates}
 use Rattle.plan_orders.specs.Chosen.{Scene, firings_at}
 use Rattle.plan_orders.specs.declared.Step.TheVariants.{Fire}
 use Rattle.plan_worlds.specs.Possible.{finds_room, is_possible}
+use Rattle.rank_node.proofs.Sending.{fired-target, rank_of}
 use Rattle.rank_node.specs.Gates.{goes_out, open_numbers}
-
--- the rank that a message is for, if there is one
-abbrev pub rank_of : Option Sent → Option ℕ
-rank_of None = None
-rank_of (Some m) = Some m.header.target
-
--- the message of a deed is for the rank that the deed names
-done-target : (s : State) (d : Deed) → rank_of (done s d).message ≡ message_target d
-unfolding started
-done-target s (Put a) = refl
-done-target s (Get g) = refl
-done-target s (Atomic a o ty) = refl
-done-target s (FetchAtomic g a o ty) = refl
-done-target s (Swap g a o ty x) = refl
-done-target s (Inc ct by) = refl
-done-target s (Set ct to) = refl
-
-fired_op-target : (s : State) (o : Option Posted) → rank_of (fired_op s o).message ≡ target_of o
-fired_op-target s None = refl
-fired_op-target s (Some p) = done-target (record s { pending = without_number p.number s.pending }) p.deed
-
-pub fired-target : (s : State) (t : ℕ) → rank_of (fired s t).message ≡ target_at s t
-unfolding fired
-fired-target s t = fired_op-target s (posted_at t s.pending)
 
 -- ---- gates
 filter-same : {X : Type 0} (p q : X → Bool) (xs : List X) → ((x : X) → p x ≡ q x) → filter p xs ≡ filter q xs

@@ -9,3 +9,4 @@ pub mod Nodes
 pub mod Shut
 pub mod Opened
 pub mod Plans
+pub mod Sending

@@ -1,8 +1,8 @@
 //! One rank.
 
-ghost use Rattle.std.specs.Prelude.{◌≡◌, ◌<◌, ◌≤◌, ◌+◌, ◌*◌, ◌^◌, [], false, Some, IsTrue, IfOk, length, map, count_by, nat_lt, replicate, slice_get};
+ghost use Rattle.std.specs.Prelude.{◌≡◌, ◌↔◌, ◌<◌, ◌≤◌, ◌+◌, ◌*◌, ◌^◌, [], false, Some, IsTrue, IfOk, length, map, count_by, nat_lt, replicate, slice_get};
 ghost use Rattle.ni_model.specs.Answers.{is_awaited};
-ghost use Rattle.ni_model.specs.Ready.{is_ready};
+ghost use Rattle.ni_model.specs.Ready.{is_ready, target_at};
 ghost use Rattle.ni_model.specs.Tables.{lookup};
 ghost use Rattle.plan_view.specs.Slots.{Slots, done_ct};
 ghost use Rattle.plan_cuts.specs.History.{IsDue, is_lane, is_start, made_by};
@@ -190,11 +190,13 @@ impl Node {
         may_fire(&self.nic, &self.gates, number)
     }
 
-    /// Fires an operation that is ready, and gives its message; `None` exactly for one that counts. It takes no memory. Its lane is
+    /// Fires an operation that is ready, and gives its message; `None` exactly for one that names no rank, an increment or a set. It
+    /// takes no memory. Its lane is
     /// the caller's to look at.
     pub fn fire(&mut self, number: u32) -> Option<Message>
         requires { IsTrue (is_ready self.old.nic number) }
         ensures message { result ≡ made_by self.old.nic (Fired number) }
+        ensures none { (result ≡ None) ↔ (target_at self.old.nic number ≡ None) }
         ensures step { self.new ≡ fired_node number self.old }
     {
         self.history.note_fire(number);

@@ -1,6 +1,7 @@
-use Rattle.std.proofs.Common.{◌≡◌, IsTrue, ap, sym, subst}
-use Rattle.ni_model.specs.Ready.{Fires, fired, is_ready}
+use Rattle.std.proofs.Common.{IsTrue, None, ap, subst, sym, ◌↔◌, ◌≡◌}
+use Rattle.ni_model.specs.Ready.{Fires, fired, is_ready, target_at}
 use Rattle.rank_node.specs.Node.{NodeState, task_of}
+use Rattle.rank_node.proofs.Sending.{none-sent, sends-none}
 use Rattle.rank_node.proofs.Nodes.{fire-node}
 use Rattle.rank_node.proofs.node.Node.fire.Goals as goal
 
@@ -10,3 +11,9 @@ invariant_of-self c =
     let ready : IsTrue (is_ready c.self.inside.nic c.args.number) = subst (λ (m : NodeState). IsTrue (is_ready m.nic c.args.number)) (sym c.self.view_is) c.requires in
     let left : c.fire.new.self ≡ (fired c.self.inside.nic c.args.number).state = ap (λ (f : Fires). f.state) c.fire.ensures.does in
     (rw (c.note_fire.ensures, left) (fire-node n c.args.number ready c.self.invariant.0), c.self.invariant.1)
+
+pub returns-clause-none : goal.returns-clause-none
+returns-clause-none c =
+    let e : c.fire.result ≡ (fired c.self.inside.nic c.args.number).message = ap (λ (f : Fires). f.message) c.fire.ensures.does in
+    subst (λ (m : NodeState). (c.fire.result ≡ None) ↔ (target_at m.nic c.args.number ≡ None)) c.self.view_is
+    ((λ n. none-sent c.self.inside.nic c.args.number c.fire.result e n), (λ n. sends-none c.self.inside.nic c.args.number c.fire.result e n))
