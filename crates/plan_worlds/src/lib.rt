@@ -2,14 +2,15 @@
 //! these.
 #![tactic(auto)]
 
-ghost use Rattle.std.specs.Prelude.{ℕ, ◌<◌, ◌≡◌, ◌↔◌, [], length};
+ghost use Rattle.std.specs.Prelude.{ℕ, ◌<◌, ◌≤◌, ◌≡◌, [], length};
 ghost use Rattle.ptl_types.specs.declared.headers.Lane.{Lane as LaneOf};
 ghost use Rattle.plan_core.specs.Members.{In};
 ghost use Rattle.plan_core.specs.Plan.{Plan};
 ghost use Rattle.plan_core.specs.Sound.{SoundPlan, AreInputsOf};
 ghost use Rattle.plan_core.specs.Values.{Inputs};
 ghost use Rattle.plan_view.specs.Slots.{Slots};
-ghost use Rattle.plan_cuts.specs.Cut.{IsAtRest};
+ghost use Rattle.plan_calls.specs.Lanes.{lane_messages};
+ghost use Rattle.plan_cuts.specs.Cut.{IsAtRest, IsPrefixOf, owned};
 ghost use Rattle.plan_cuts.specs.History.{Local};
 ghost use Rattle.plan_cuts.specs.Moment.{IsEnabled, IsLocalStep, IsMoment, IsPossible};
 ghost use Rattle.plan_cuts.specs.Plans.{IsComplete, system_of};
@@ -61,4 +62,18 @@ pub fn wide_windows()
     ensures { (ranks : System) (window : ℕ) (scene : Scene) →
         ((s d : ℕ) (lane : LaneOf) → length (scene.held s d lane) < window) →
         possible_steps ranks window scene ≡ enabled_steps ranks scene }
+{}
+
+/// At a moment a lane holds, without strays, at most the plan's messages on it.
+pub fn lanes_have_room()
+    ensures { (plan : Plan) (inputs : Inputs) (slots : ℕ → Slots) (scene : Scene) (s d : ℕ) (lane : LaneOf) →
+        SoundPlan plan (length inputs) → AreInputsOf plan inputs →
+        IsMoment (system_of plan inputs slots) scene.world scene.held → s < plan.ranks → d < plan.ranks →
+        length (owned (scene.held s d lane)) ≤ lane_messages plan s d lane }
+{}
+
+/// Behind a step each history begins with what it was.
+pub fn histories_go_on()
+    ensures { (ranks : System) (scene : Scene) (step : Step) (r : ℕ) →
+        IsPrefixOf (scene.world r) ((step_made ranks step scene).world r) }
 {}
