@@ -1,5 +1,5 @@
 -- How much a lane holds, and how histories go on.
-use Rattle.std.proofs.Common.{ℕ, true, false, cond, not, ◌≡◌, ◌<◌, ◌≤◌, ◌==◌, ◌∙◌, List, [], ◌∷◌, ◌++◌, Bool, refl, ap, sym, arith, length, length-append, append-nil, if◌then◌else◌}
+use Rattle.std.proofs.Common.{ℕ, true, false, not, ◌<◌, ◌≤◌, ◌==◌, ◌∙◌, List, [], ◌∷◌, ◌++◌, Bool, refl, ap, sym, arith, length, length-append, append-nil, if◌then◌else◌}
 use Rattle.std.proofs.lemmas.List.Elements.{filter-append}
 use Rattle.ptl_types.specs.Messages.{Sent}
 use Rattle.ptl_types.specs.declared.headers.Lane.{Lane}

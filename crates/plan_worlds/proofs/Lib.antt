@@ -1,3 +1,4 @@
 pub mod Listed
 pub mod Stuck
 pub mod Lanes
+pub mod Falling

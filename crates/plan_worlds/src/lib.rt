@@ -2,7 +2,7 @@
 //! these.
 #![tactic(auto)]
 
-ghost use Rattle.std.specs.Prelude.{ℕ, ◌<◌, ◌≤◌, ◌≡◌, [], length};
+ghost use Rattle.std.specs.Prelude.{ℕ, ◌<◌, ◌≤◌, ◌≡◌, ◌+◌, [], length, count_by};
 ghost use Rattle.ptl_types.specs.declared.headers.Lane.{Lane as LaneOf};
 ghost use Rattle.plan_core.specs.Members.{In};
 ghost use Rattle.plan_core.specs.Plan.{Plan};
@@ -10,13 +10,14 @@ ghost use Rattle.plan_core.specs.Sound.{SoundPlan, AreInputsOf};
 ghost use Rattle.plan_core.specs.Values.{Inputs};
 ghost use Rattle.plan_view.specs.Slots.{Slots};
 ghost use Rattle.plan_calls.specs.Lanes.{lane_messages};
-ghost use Rattle.plan_cuts.specs.Cut.{IsAtRest, IsPrefixOf, owned};
+ghost use Rattle.plan_cuts.specs.Cut.{IsAtRest, IsPrefixOf, is_received_stray, owned};
 ghost use Rattle.plan_cuts.specs.History.{Local};
 ghost use Rattle.plan_cuts.specs.Moment.{IsEnabled, IsLocalStep, IsMoment, IsPossible};
 ghost use Rattle.plan_cuts.specs.Plans.{IsComplete, system_of};
 ghost use Rattle.plan_cuts.specs.System.{System};
 ghost use Rattle.plan_orders.specs.Chosen.{Scene, enabled_steps, step_made};
 ghost use Rattle.plan_orders.specs.declared.Step.{Step};
+ghost use Rattle.plan_worlds.specs.Left.{steps_left};
 ghost use Rattle.plan_worlds.specs.Named.{named};
 ghost use Rattle.plan_worlds.specs.Possible.{possible_steps};
 
@@ -76,4 +77,15 @@ pub fn lanes_have_room()
 pub fn histories_go_on()
     ensures { (ranks : System) (scene : Scene) (step : Step) (r : ℕ) →
         IsPrefixOf (scene.world r) ((step_made ranks step scene).world r) }
+{}
+
+/// Each step leaves one fewer that can be made, as long as no rank receives more than so many strays: so a run ends.
+pub fn runs_end()
+    ensures { (plan : Plan) (inputs : Inputs) (slots : ℕ → Slots) (strays window : ℕ) (scene : Scene) (step : Step) →
+        SoundPlan plan (length inputs) → AreInputsOf plan inputs →
+        IsMoment (system_of plan inputs slots) scene.world scene.held →
+        In step (possible_steps (system_of plan inputs slots) window scene) →
+        ((r : ℕ) → r < plan.ranks →
+        count_by is_received_stray ((step_made (system_of plan inputs slots) step scene).world r) ≤ strays) →
+        steps_left plan strays (step_made (system_of plan inputs slots) step scene) + 1 ≡ steps_left plan strays scene }
 {}
