@@ -4,3 +4,5 @@ pub mod Example
 pub mod Reduction
 pub mod Early
 pub mod Moments
+pub mod Three
+pub mod Unsound
