@@ -8,8 +8,8 @@ ghost use Rattle.coll_text.specs.Text.{line};
 ghost use Rattle.coll_text.specs.Elements.{elements, value_word};
 
 use crate::values::{half, is_signed};
-use itoa::Buffer;
 use element_bytes::read_pattern;
+use itoa::Buffer;
 use ptl_types::ElemType;
 use std::alloc::AllocError;
 
