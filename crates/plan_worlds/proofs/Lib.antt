@@ -2,3 +2,4 @@ pub mod Listed
 pub mod Stuck
 pub mod Lanes
 pub mod Falling
+pub mod Places

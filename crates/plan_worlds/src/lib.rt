@@ -19,6 +19,7 @@ ghost use Rattle.plan_orders.specs.Chosen.{Scene, enabled_steps, step_made};
 ghost use Rattle.plan_orders.specs.declared.Step.{Step};
 ghost use Rattle.plan_worlds.specs.Left.{steps_left};
 ghost use Rattle.plan_worlds.specs.Named.{named};
+ghost use Rattle.plan_worlds.specs.Places.{steps_by_place};
 ghost use Rattle.plan_worlds.specs.Possible.{possible_steps};
 
 /// The steps that are listed are those that a rank may make under the window: a local step that is enabled and possible has its
@@ -88,4 +89,10 @@ pub fn runs_end()
         ((r : ℕ) → r < plan.ranks →
         count_by is_received_stray ((step_made (system_of plan inputs slots) step scene).world r) ≤ strays) →
         steps_left plan strays (step_made (system_of plan inputs slots) step scene) + 1 ≡ steps_left plan strays scene }
+{}
+
+/// The possible steps stand by their places: starts by rank, deliveries by the places of lanes, firings by rank.
+pub fn steps_stand_by_place()
+    ensures { (ranks : System) (window : ℕ) (scene : Scene) →
+        possible_steps ranks window scene ≡ steps_by_place ranks window scene }
 {}
