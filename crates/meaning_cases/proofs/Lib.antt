@@ -1,0 +1,3 @@
+mod Descriptions
+mod Groups
+mod Edges
