@@ -1,9 +1,10 @@
 //! The buffers of a description, step by step.
 
-ghost use Rattle.std.specs.Prelude.{◌≡◌, ◌<◌, ℕ, length, get_or, IfOk};
+ghost use Rattle.std.specs.Prelude.{◌≡◌, length, IfOk};
 ghost use Rattle.number_lists.specs.Numbers.{from_to};
-ghost use Rattle.coll_shape.specs.Meaning.{AreInputs, lists_of, meaning_of};
+ghost use Rattle.coll_shape.specs.Meaning.{AreInputs, meaning_of};
 ghost use Rattle.coll_meaning.specs.Lengths.{AreLong};
+ghost use Rattle.coll_meaning.specs.Printed.{PrintsMeaning};
 ghost use Rattle.coll_meaning.specs.Steps.{IsThere};
 
 use crate::buffers::Buffers;
@@ -92,7 +93,7 @@ pub fn printed_of<'a>(
     inputs: &'a Inputs,
 ) -> Result<Buffers<'a>, NoMemory>
     requires inputs { AreInputs shape.now inputs.now }
-    ensures value { IfOk result (λ held. (i : ℕ) → i < length shape.now.prints → lists_of held (get_or shape.now.prints i 0) ≡ lists_of (meaning_of shape.now inputs.now) (get_or shape.now.prints i 0)) }
+    ensures value { IfOk result (λ held. PrintsMeaning shape.now inputs.now held) }
 {
     let _ = shape.ranks();
     match all_steps(alloc, shape, inputs, shape.prints()) {
