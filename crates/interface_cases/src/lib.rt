@@ -30,6 +30,8 @@ mod managed;
 #[cfg(test)]
 mod matching;
 #[cfg(test)]
+mod nodes;
+#[cfg(test)]
 mod operations;
 #[cfg(test)]
 mod overflow;

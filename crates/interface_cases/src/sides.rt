@@ -165,6 +165,45 @@ impl Side {
         self.nic.ready()
     }
 
+    /// How many operations are ready.
+    pub fn ready_count(&self) -> u32 {
+        self.nic.ready_count()
+    }
+
+    /// The number of the ready operation at place `i` by rising number, where there are more than `i`.
+    pub fn ready_at(&self, i: u32) -> Option<u32> {
+        if i < self.nic.ready_count() {
+            Some(self.nic.ready_at(i))
+        } else {
+            None
+        }
+    }
+
+    /// How many operations are ready whose message is for this rank.
+    pub fn ready_count_to(&self, target: Rank) -> u32 {
+        self.nic.ready_count_to(target)
+    }
+
+    /// The rank that the message of a pending operation is for.
+    pub fn lane_of(&self, number: u32) -> Option<Rank> {
+        self.nic.lane_of(number)
+    }
+
+    /// Whether a descriptor awaits an answer.
+    pub fn awaits_any(&self) -> bool {
+        self.nic.awaits_any()
+    }
+
+    /// Unexpected headers in all indices together.
+    pub fn headers(&self) -> u64 {
+        self.nic.headers().len() as u64
+    }
+
+    /// Header number `i` of an index.
+    pub fn header(&self, pt: u32, i: u32) -> Option<UnexpectedHeader> {
+        self.nic.header(pt, i).copied()
+    }
+
     /// Writes bytes into a part of the region.
     pub fn write_memory(&mut self, rt: &impl Abort, start: u64, bytes: &[u8]) {
         let size = self.nic.memory().len() as u64;
