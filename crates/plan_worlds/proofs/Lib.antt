@@ -3,3 +3,5 @@ pub mod Stuck
 pub mod Lanes
 pub mod Falling
 pub mod Places
+pub mod Counted
+pub mod Found

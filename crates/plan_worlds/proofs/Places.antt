@@ -1,18 +1,17 @@
 -- The possible steps by places are the possible steps.
-use Rattle.std.proofs.Common.{ℕ, zero, suc, Bool, true, false, cond, ◌≡◌, ◌<◌, ◌≤◌, ◌+◌, ◌*◌, ◌/◌, ◌%◌, ◌==◌, ◌∙◌, nat_lt, List, [], ◌∷◌, ◌++◌, refl, ap, ap₂, sym, subst, arith, inl, inr, filter, flat_map, map, length, count_by, if◌then◌else◌, append-nil, append_assoc}
+use Rattle.std.proofs.Common.{ℕ, zero, suc, Bool, true, false, ◌≡◌, ◌<◌, ◌≤◌, ◌+◌, ◌*◌, ◌/◌, ◌%◌, ◌==◌, ◌∙◌, nat_lt, List, [], ◌∷◌, ◌++◌, refl, ap, ap₂, sym, arith, filter, flat_map, count_by, if◌then◌else◌, append-nil, append_assoc}
 use Rattle.std.proofs.lemmas.Grind.{flat_map-append}
 use Rattle.std.proofs.lemmas.List.Elements.{filter-append}
 use Rattle.std.proofs.lemmas.Nat.{div-mul-add, mod-mul-add}
-use Rattle.ptl_types.specs.declared.headers.Lane.{Lane}
 use Rattle.ptl_types.specs.declared.headers.Lane.TheVariants.{Request, Answer}
 use Rattle.plan_core.proofs.Growth.{from_to-append}
 use Rattle.plan_core.specs.Plan.{from_to}
 use Rattle.plan_cuts.specs.History.{is_start}
 use Rattle.plan_cuts.specs.System.{System}
-use Rattle.plan_orders.specs.Chosen.{Scene, deliveries_between, enabled_steps, firings_at, first_of, start_at}
+use Rattle.plan_orders.specs.Chosen.{Scene, deliveries_between, firings_at, first_of, start_at}
 use Rattle.plan_orders.specs.declared.Step.{Step}
 use Rattle.plan_orders.specs.declared.Step.TheVariants.{Start}
-use Rattle.plan_worlds.specs.Places.{delivery_at, delivery_on, fires_at, goal_at, kind_at, lane_place, source_at, steps_by_place}
+use Rattle.plan_worlds.specs.Places.{delivery_at, delivery_on, steps_by_place}
 use Rattle.plan_worlds.specs.Possible.{is_possible, possible_steps}
 
 -- ---- lists

@@ -2,7 +2,7 @@
 //! these.
 #![tactic(auto)]
 
-ghost use Rattle.std.specs.Prelude.{ℕ, ◌<◌, ◌≤◌, ◌≡◌, ◌+◌, [], length, count_by};
+ghost use Rattle.std.specs.Prelude.{ℕ, ◌<◌, ◌≤◌, ◌≡◌, ◌+◌, ◌*◌, [], length, count_by, sum, take, slice_index_or};
 ghost use Rattle.ptl_types.specs.declared.headers.Lane.{Lane as LaneOf};
 ghost use Rattle.plan_core.specs.Members.{In};
 ghost use Rattle.plan_core.specs.Plan.{Plan};
@@ -15,11 +15,12 @@ ghost use Rattle.plan_cuts.specs.History.{Local};
 ghost use Rattle.plan_cuts.specs.Moment.{IsEnabled, IsLocalStep, IsMoment, IsPossible};
 ghost use Rattle.plan_cuts.specs.Plans.{IsComplete, system_of};
 ghost use Rattle.plan_cuts.specs.System.{System};
-ghost use Rattle.plan_orders.specs.Chosen.{Scene, enabled_steps, step_made};
+ghost use Rattle.plan_orders.specs.Chosen.{Scene, enabled_steps, start_at, step_made};
 ghost use Rattle.plan_orders.specs.declared.Step.{Step};
+ghost use Rattle.plan_orders.specs.declared.Step.TheVariants.{Deliver, Start};
 ghost use Rattle.plan_worlds.specs.Left.{steps_left};
 ghost use Rattle.plan_worlds.specs.Named.{named};
-ghost use Rattle.plan_worlds.specs.Places.{steps_by_place};
+ghost use Rattle.plan_worlds.specs.Places.{counts, delivery_at, fires_at, goal_at, kind_at, source_at, steps_by_place};
 ghost use Rattle.plan_worlds.specs.Possible.{possible_steps};
 
 /// The steps that are listed are those that a rank may make under the window: a local step that is enabled and possible has its
@@ -95,4 +96,34 @@ pub fn runs_end()
 pub fn steps_stand_by_place()
     ensures { (ranks : System) (window : ℕ) (scene : Scene) →
         possible_steps ranks window scene ≡ steps_by_place ranks window scene }
+{}
+
+/// The possible step of a number is found by the counts of the places: how many there are, and which one it is.
+pub fn steps_are_found()
+    ensures number { (ranks : System) (window : ℕ) (scene : Scene) →
+        length (possible_steps ranks window scene) ≡
+        sum (counts (start_at scene) ranks.count) +
+        (sum (counts (delivery_at ranks window scene) (2 * (ranks.count * ranks.count))) +
+        sum (counts (fires_at ranks window scene) ranks.count)) }
+    ensures start { (ranks : System) (window : ℕ) (scene : Scene) (place rest i : ℕ) (other : Step) →
+        place < ranks.count →
+        sum (take place (counts (start_at scene) ranks.count)) + rest ≡ i →
+        rest < slice_index_or (counts (start_at scene) ranks.count) place 0 →
+        i < sum (counts (start_at scene) ranks.count) →
+        slice_index_or (possible_steps ranks window scene) i other ≡ Start place }
+    ensures delivery { (ranks : System) (window : ℕ) (scene : Scene) (place rest i : ℕ) (other : Step) →
+        place < 2 * (ranks.count * ranks.count) →
+        sum (take place (counts (delivery_at ranks window scene) (2 * (ranks.count * ranks.count)))) + rest ≡ i →
+        rest < slice_index_or (counts (delivery_at ranks window scene) (2 * (ranks.count * ranks.count))) place 0 →
+        i < sum (counts (delivery_at ranks window scene) (2 * (ranks.count * ranks.count))) →
+        slice_index_or (possible_steps ranks window scene) (sum (counts (start_at scene) ranks.count) + i) other ≡
+        Deliver (source_at ranks.count place) (goal_at ranks.count place) (kind_at place) }
+    ensures firing { (ranks : System) (window : ℕ) (scene : Scene) (place rest i : ℕ) (other : Step) →
+        place < ranks.count →
+        sum (take place (counts (fires_at ranks window scene) ranks.count)) + rest ≡ i →
+        rest < slice_index_or (counts (fires_at ranks window scene) ranks.count) place 0 →
+        slice_index_or (possible_steps ranks window scene)
+        (sum (counts (start_at scene) ranks.count) +
+        (sum (counts (delivery_at ranks window scene) (2 * (ranks.count * ranks.count))) + i)) other ≡
+        slice_index_or (fires_at ranks window scene place) rest other }
 {}
