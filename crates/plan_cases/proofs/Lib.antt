@@ -6,3 +6,4 @@ pub mod Early
 pub mod Moments
 pub mod Three
 pub mod Unsound
+pub mod Starting

@@ -4,6 +4,7 @@ use Rattle.std.proofs.lemmas.Bool.{ne_eqb}
 use Rattle.ptl_types.specs.Messages.{Sent}
 use Rattle.ptl_types.specs.declared.headers.Lane.{Lane}
 use Rattle.ptl_types.specs.declared.headers.Lane.TheVariants.{Answer, Request}
+use Rattle.ptl_types.specs.declared.headers.MessageKind.TheVariants.{Get}
 use Rattle.ni_model.specs.Answers.{answered}
 use Rattle.ni_model.specs.Append.{append}
 use Rattle.ni_model.specs.Arrive.{request}
@@ -32,7 +33,7 @@ abbrev world : Histories
 world r = if r == 0 then order0 else order1
 
 -- a put of one byte from rank 0 to rank 1, of job 2
-abbrev stray : Sent
+abbrev pub stray : Sent
 stray = record { header = record (link_header two slots 5) { match_bits = 2 * 2 ^ 48; length = 1 }; bytes = 1 ∷ [] }
 
 -- the one lane on which something waits
@@ -155,6 +156,20 @@ not_stuck h = h 1 (Receive 0 Request stray) (lit< tt) (lit< tt, ([], refl)) (lit
 -- a lane that holds one message is full under a window of one: no start would find room there
 full : IsPossible system (λ r. order0) (λ s d lane. sync 5 ∷ []) 1 1 (Receive 0 Request (sync 5)) → ⊥
 full h = absurd (omega arith)
+
+-- it is the lane back to the sender that the answer needs: here the one from rank 1 to rank 0, and not the one from rank 0
+abbrev back : Lanes
+back s d lane = if s == 1 then sync 5 ∷ [] else []
+
+full_back : IsPossible system (λ r. order0) back 1 1 (Receive 0 Request (sync 5)) → ⊥
+full_back h = absurd (omega arith)
+
+-- ---- a get, whatever its match bits, is no stray: strays are puts and atomics alone
+abbrev asking : Sent
+asking = record { header = record stray.header { kind = Get }; bytes = [] }
+
+get_is_no_stray : owned (asking ∷ stray ∷ []) ≡ asking ∷ []
+get_is_no_stray = refl
 
 -- ---- a wave of probes over the whole histories, and one of a front that is short of a receipt
 wave : IsWave system world world
