@@ -7,3 +7,4 @@ pub mod Moments
 pub mod Three
 pub mod Unsound
 pub mod Starting
+pub mod Classes

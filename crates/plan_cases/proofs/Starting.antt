@@ -1,5 +1,5 @@
--- What a start does with one header: where its bytes go, how they are combined, and which headers are used.
-use Rattle.std.proofs.Common.{ℕ, true, false, ◌≡◌, ◌*◌, List, Option, Some, None, [], ◌∷◌, refl}
+-- What a start does with one header: where its bytes go, how they are combined, and which headers are used; and what areas take.
+use Rattle.std.proofs.Common.{ℕ, true, false, ◌≡◌, ◌+◌, ◌-◌, ◌*◌, ◌^◌, List, Option, Some, None, [], ◌∷◌, refl}
 use Rattle.ptl_types.specs.declared.elements.AtomicOp.{AtomicOp}
 use Rattle.ptl_types.specs.declared.elements.AtomicOp.TheVariants.{Sum}
 use Rattle.ptl_types.specs.declared.elements.ElemType.{ElemType}
@@ -8,6 +8,12 @@ use Rattle.ptl_types.specs.declared.entries.UnexpectedHeader.{UnexpectedHeader}
 use Rattle.ni_model.specs.Tables.{handle}
 use Rattle.plan_calls.specs.declared.OwnCell.{OwnCell}
 use Rattle.plan_start.specs.Start.{brought, is_used, lies_in}
+use Rattle.plan_view.specs.Calls.{area_entry}
+use Rattle.ptl_types.specs.declared.headers.MessageKind.TheVariants.{Put, Atomic, Get}
+use Rattle.ni_model.specs.declared.Linked.{Linked}
+use Rattle.ni_model.specs.Arrive.{place}
+use Rattle.ni_model.specs.Headers.{allows}
+use Rattle.ni_model.specs.Lists.{fits}
 use Rattle.plan_cases.proofs.Moments.{stray}
 
 -- a cell of four bytes behind the first byte of the region
@@ -47,3 +53,31 @@ up_to_the_end = refl
 
 past_the_end : lies_in (cell None U8) (came 0 3) 7 ≡ false
 past_the_end = refl
+
+-- ---- areas: eight bytes from place 10 on, of which so many are taken
+abbrev area : ℕ → Linked
+area taken = record { handle = handle 0 0; running = taken; entry = area_entry 10 8 (2 * 2 ^ 48) (2 ^ 40 - 1) }
+
+a_later_one_lies_behind : place (area 4) stray.header ≡ 14
+a_later_one_lies_behind = refl
+
+the_last_byte_is_room : fits stray.header (area 7) ≡ true
+the_last_byte_is_room = refl
+
+a_full_area_takes_none : fits stray.header (area 8) ≡ false
+a_full_area_takes_none = refl
+
+another_job_is_not_matched : fits (record stray.header { match_bits = 3 * 2 ^ 48 }) (area 0) ≡ false
+another_job_is_not_matched = refl
+
+the_cell_is_not_compared : fits (record stray.header { match_bits = 2 * 2 ^ 48 + 5 * 2 ^ 16 + 1 }) (area 0) ≡ true
+the_cell_is_not_compared = refl
+
+puts_may_come : allows (area 0).entry Put ≡ true
+puts_may_come = refl
+
+atomics_may_come : allows (area 0).entry Atomic ≡ true
+atomics_may_come = refl
+
+no_get_reads_an_area : allows (area 0).entry Get ≡ false
+no_get_reads_an_area = refl
