@@ -1,5 +1,5 @@
 -- Moments of the barrier of two ranks: one at rest in which a stray still waits, what is no moment, a wave of probes, and windows.
-use Rattle.std.proofs.Common.{ℕ, zero, suc, Bool, true, false, cond, ◌&&◌, ◌==◌, ◌≡◌, ◌<◌, ◌≤◌, ◌*◌, ◌^◌, List, [], ◌∷◌, ◌++◌, refl, length, inl, inr, arith, lit<, append-nil, subst, ◌∙◌, if◌then◌else◌}
+use Rattle.std.proofs.Common.{ℕ, zero, suc, Bool, true, false, cond, ◌&&◌, ◌==◌, ◌≡◌, ◌<◌, ◌≤◌, ◌*◌, ◌^◌, List, Some, [], ◌∷◌, ◌++◌, refl, length, inl, inr, arith, lit<, append-nil, subst, ◌∙◌, if◌then◌else◌}
 use Rattle.std.proofs.lemmas.Bool.{ne_eqb}
 use Rattle.ptl_types.specs.Messages.{Sent}
 use Rattle.ptl_types.specs.declared.headers.Lane.{Lane}
@@ -18,7 +18,7 @@ use Rattle.plan_start.specs.Start.{bring, cell_started}
 use Rattle.plan_cuts.specs.Cut.{IsAtRest, IsCut, got_by, owned}
 use Rattle.plan_cuts.specs.History.{Legal, got, state}
 use Rattle.plan_cuts.specs.History.Local.{Fire, Receive, Start}
-use Rattle.plan_cuts.specs.Moment.{IsMoment, IsPossible, IsStill, IsStrayOf, IsStuck, Lanes}
+use Rattle.plan_cuts.specs.Moment.{HasWindow, IsMoment, IsPossible, IsStill, IsStrayOf, IsStuck, Lanes}
 use Rattle.plan_cuts.specs.Plans.{system_of}
 use Rattle.plan_cuts.specs.System.{Histories, System, sent_by, state_at}
 use Rattle.plan_cuts.specs.Wave.{IsWave}
@@ -163,6 +163,13 @@ back s d lane = if s == 1 then sync 5 ∷ [] else []
 
 full_back : IsPossible system (λ r. order0) back 1 1 (Receive 0 Request (sync 5)) → ⊥
 full_back h = absurd (omega arith)
+
+-- a request needs room on the lane to its target
+abbrev there : Lanes
+there s d lane = if d == 1 then sync 5 ∷ [] else []
+
+full_there : HasWindow there 1 0 (Some (sync 5)) → ⊥
+full_there h = absurd (omega arith)
 
 -- ---- a get, whatever its match bits, is no stray: strays are puts and atomics alone
 abbrev asking : Sent
