@@ -1,310 +1,482 @@
 -- A text that is read is what is written of its description, and what it says is well formed.
-use Rattle.std.proofs.Common.{◌≡◌, ℕ, ◌+◌, ◌<◌, ◌≤◌, List, [], ◌∷◌, ◌++◌, length, take, Some, Result, Ok, Err, Bool, true, false, cond, not, refl, sym, ap, ◌∙◌, arith, codes, subst, append_assoc, inl, inr, ◌⊎◌}
-use Rattle.std.specs.Prelude.{nat_lt}
-use Rattle.std.specs.List.{list_all, join_with_byte}
-use Rattle.std.specs.Str.{bytes_eq}
-use Rattle.std.specs.Fmt.{decimal}
-use Rattle.std.proofs.lemmas.List.Splits.{join_with_byte-slice_split}
+use Rattle.std.proofs.Common.{◌≡◌, ℕ, zero, suc, ◌+◌, ◌<◌, ◌≤◌, List, [], ◌∷◌, ◌++◌, length, map, take, get_or, Option, Ok, Bool, true, false, ◌||◌, refl, sym, ap, ◌∙◌, arith, codes, subst, append_assoc, inl, inr, ◌⊎◌}
+use Rattle.std.specs.Prelude.{nat_lt, nat_le, is_some}
 use Rattle.std.proofs.lemmas.List.{append-nil}
-use Rattle.std.proofs.lemmas.List.Elements.{All-nil}
-use Rattle.coll_text.specs.Text.{lines, words, line, is_empty, is_name, number_between}
-use Rattle.coll_text.proofs.Spelled.{same, chosen, rejoined, in_range, between_spelled}
-use Rattle.coll_lang.specs.Outline.{Program, length_of}
-use Rattle.coll_lang.specs.Forms.{Form, complete, input, barrier, step, print, last, form_of}
-use Rattle.coll_lang.specs.Language.{Past, ranks_in, may_stand, form_line, later_line, line_at, judge, is_allowed, is_finished, numbered, read_from, nothing, most_elements, described, program_in, read_by, read_up_to}
-use Rattle.coll_lang.specs.Spelling.{text, head_text, remote_text, inputs_text, steps_text, prints_text}
-use Rattle.coll_lang.specs.Readable.{IsReadable}
-use Rattle.coll_lang.specs.WellFormed.{IsInput, StepFits, Filled}
-use Rattle.coll_lang.specs.declared.types.Buffer.{Buffer}
+use Rattle.std.proofs.lemmas.Grind.{flat_map-append}
+use Rattle.ptl_types.specs.declared.elements.ElemType.{ElemType}
+use Rattle.coll_text.specs.Text.{line, is_name}
+use Rattle.coll_text.proofs.Spelled.{chosen}
+use Rattle.number_lists.specs.Members.{In, Distinct}
+use Rattle.coll_shape.specs.declared.types.Version.{Version}
+use Rattle.coll_shape.specs.declared.types.Version.TheVariants.{One, Two}
+use Rattle.coll_shape.specs.declared.types.Buffer.{Buffer}
+use Rattle.coll_shape.specs.Outline.{no_buffer}
+use Rattle.coll_shape.specs.WellFormed.{StandsIn, most_elements, elements_of, printed_elements}
+use Rattle.coll_lang.specs.Words.{version_word}
+use Rattle.coll_lang.specs.Forms.{Form, StepWords, complete, group, input, step, choice, print, last}
+use Rattle.coll_lang.specs.Language.{Past, stands_in, stands_at, form_since, form_line, nothing, choice_buffer, choice_step, choice_line, print_line, data_due, is_taken, buffer_named, buffer_number, group_number}
+use Rattle.coll_lang.specs.Spelling.{head_text, remote_text, groups_text, inputs_text, steps_text, choices_text, choice_words, choice_name, prints_text, name_at}
+use Rattle.coll_lang.specs.declared.choices.ChoiceKind.{ChoiceKind}
+use Rattle.coll_lang.specs.declared.choices.ChoiceKind.TheVariants as kinds
+use Rattle.coll_lang.specs.declared.choices.ChoiceStep.{ChoiceStep}
 use Rattle.coll_lang.specs.declared.stage.Stage.{Stage}
-use Rattle.coll_lang.specs.declared.stage.Stage.TheVariants.{Version, Ranks, Options, Inputs, Data, Steps, Prints, Finished}
-use Rattle.coll_lang.specs.declared.fault.Refusal.{Refusal}
-use Rattle.coll_lang.specs.declared.fault.Refusal.TheVariants.{BadByte, BadHeader, BadRanks, BadLine, Unended, AfterEnd, TooLong}
-use Rattle.coll_lang.proofs.FormSaid.{Fits, form_words, form_said}
-use Rattle.coll_lang.proofs.Sound.{body, Formed, AtInputs, AtSteps, AtPrints, Sound, written, Goes, some_of, passed, ok_is, not_above, all_taken, complete_goes, input_goes}
-use Rattle.coll_lang.proofs.SoundData.{data_goes, barrier_goes, print_goes, last_goes}
-use Rattle.coll_lang.proofs.SoundSteps.{step_goes}
-use Rattle.coll_lang.proofs.Reading.{not_empty}
-use Rattle.coll_lang.proofs.Counting.{Held, held_first, held_all}
+use Rattle.coll_lang.specs.declared.stage.Stage.TheVariants.{Header, Ranks, Options, Groups, Inputs, Data, Steps, Choosing, Prints, Finished}
+use Rattle.coll_lang.specs.declared.fault.Refusal.TheVariants.{NameTaken, UnknownBuffer, TooMany, TooLarge}
+use Rattle.coll_lang.proofs.FormSaid.{Fits, Takes, form_words}
+use Rattle.coll_lang.proofs.InputLists.{Filled}
+use Rattle.coll_lang.proofs.Facts.{few_of, in_either, apart_too}
+use Rattle.coll_lang.proofs.Growing.{longer, each_more, not_there, untaken, none_there}
+use Rattle.coll_lang.proofs.Lines.{map_more}
+use Rattle.coll_lang.proofs.Sound.{outline, body, AtInputs, AtData, AtSteps, AtPrints, some_of, passed, ok_is, room, all_taken}
+use Rattle.coll_lang.proofs.SoundEarly.{AtGroups, Goes, Given, group_goes, input_goes}
+use Rattle.coll_lang.proofs.SoundSteps.{found, step_goes, print_goes}
 
+-- ---- choice texts
+abbrev pub choice_made : ℕ → ChoiceStep → Buffer
+choice_made ranks c = choice_buffer ranks (choice_name c)
+
+pub record AtChoices (past : Past) : Type 0 where
+  pub version : past.version ≡ Two
+  pub some_ranks : 1 ≤ past.ranks
+  pub few_ranks : past.ranks ≤ 256
+  pub no_remote : past.remote ≡ false
+  pub no_groups : past.groups ≡ []
+  pub no_inputs : past.inputs ≡ 0
+  pub no_given : past.given ≡ []
+  pub no_steps : past.steps ≡ []
+  pub no_on : past.on ≡ []
+  pub few : length past.choices ≤ 64
+  pub made : past.buffers ≡ map (choice_made past.ranks) past.choices
+  pub spelled : (x : List ℕ) → In x (map choice_name past.choices) → is_name x ≡ true
+  pub distinct : Distinct (map choice_name past.choices)
+  pub few_prints : length past.prints ≤ 128
+  pub printed : (i : ℕ) → i < length past.prints → get_or past.prints i 0 < length past.choices
+
+-- with a step at least
+pub record AtChosen (past : Past) : Type 0 where
+  pub some : 1 ≤ length past.choices
+  pub choices : AtChoices past
+
+pub long_map : {X Y : Type 0} (f : X → Y) (xs : List X) → length (map f xs) ≡ length xs
+long_map f [] = refl
+long_map f (x ∷ xs) = ap (λ v. suc v) (long_map f xs)
+
+names_made : (ranks : ℕ) (cs : List ChoiceStep) → map (λ (b : Buffer). b.name) (map (choice_made ranks) cs) ≡ map choice_name cs
+names_made ranks [] = refl
+names_made ranks (c ∷ cs) = ap (λ v. choice_name c ∷ v) (names_made ranks cs)
+
+choice_named : (kind : ChoiceKind) (name : List ℕ) → choice_name (choice_step kind name) ≡ name
+choice_named kinds.Elect name = refl
+choice_named kinds.Tickets name = refl
+
+choice_written : (kind : ChoiceKind) (name : List ℕ) → choice_words (choice_step kind name) ≡ form_words (choice kind name)
+choice_written kinds.Elect name = refl
+choice_written kinds.Tickets name = refl
+
+some_split : (a b : Bool) → (a || b) ≡ false → (a ≡ false) × (b ≡ false)
+some_split true b h = cc
+some_split false b h = (refl, h)
+
+behind_choices : (h m g i s c x p q : List ℕ) → p ≡ [] → q ≡ []
+    → h ++ (m ++ (g ++ (i ++ (s ++ ((c ++ x) ++ q))))) ≡ (h ++ (m ++ (g ++ (i ++ (s ++ (c ++ p)))))) ++ x
+behind_choices h m g i s c x p q ep eq = rw (ep, eq) (simp (append_assoc, append-nil) refl)
+
+no_prints_text : (name : ℕ → List ℕ) (ps : List ℕ) → ps ≡ [] → prints_text name ps ≡ []
+no_prints_text name ps e = rw e refl
+
+-- the text of a choice text so far
+steps_none : (past : Past) (bs cs : List Buffer) → past.steps ≡ []
+    → steps_text past.groups bs past.steps past.on ≡ steps_text past.groups cs past.steps past.on
+steps_none past bs cs e = rw e refl
+
+inputs_none : (past : Past) (bs cs : List Buffer) → past.inputs ≡ 0
+    → inputs_text past.ranks (take past.inputs bs) past.given ≡ inputs_text past.ranks (take past.inputs cs) past.given
+inputs_none past bs cs e = rw e refl
+
+choice_body : (past : Past) → AtChoices past → past.prints ≡ [] → (kind : ChoiceKind) (name : List ℕ)
+    → let after : Past = record past {
+      stage = Choosing;
+      buffers = past.buffers ++ choice_buffer past.ranks name ∷ [];
+      choices = past.choices ++ choice_step kind name ∷ [];
+    } in body after ≡ body past ++ line (form_words (choice kind name))
+choice_body past a none kind name =
+    let bs = past.buffers ++ choice_buffer past.ranks name ∷ [] in
+    let q = prints_text (name_at bs) past.prints in
+    let all : List ℕ = choices_text (past.choices ++ choice_step kind name ∷ []) ++ q in
+    ap (λ (x : List ℕ). head_text past.version past.ranks
+    ++ (remote_text past.remote ++ (groups_text past.groups ++ (x ++ (steps_text past.groups bs past.steps past.on ++ all)))))
+    (inputs_none past bs past.buffers a.no_inputs)
+    ∙ ap (λ (x : List ℕ). head_text past.version past.ranks
+    ++ (remote_text past.remote
+    ++ (groups_text past.groups ++ (inputs_text past.ranks (take past.inputs past.buffers) past.given ++ (x ++ all)))))
+    (steps_none past bs past.buffers a.no_steps)
+    ∙ ap (λ (x : List ℕ). head_text past.version past.ranks
+    ++ (remote_text past.remote
+    ++ (groups_text past.groups
+    ++ (inputs_text past.ranks (take past.inputs past.buffers) past.given
+    ++ (steps_text past.groups past.buffers past.steps past.on ++ (x ++ q))))))
+    (flat_map-append (λ c. line (choice_words c)) past.choices (choice_step kind name ∷ [])
+    ∙ ap (λ (x : List ℕ). choices_text past.choices ++ x)
+    (append-nil (line (choice_words (choice_step kind name))) ∙ ap line (choice_written kind name)))
+    ∙ behind_choices (head_text past.version past.ranks) (remote_text past.remote) (groups_text past.groups)
+    (inputs_text past.ranks (take past.inputs past.buffers) past.given) (steps_text past.groups past.buffers past.steps past.on)
+    (choices_text past.choices) (line (form_words (choice kind name)))
+    (prints_text (name_at past.buffers) past.prints) q (no_prints_text (name_at past.buffers) past.prints none)
+    (no_prints_text (name_at bs) past.prints none)
+
+-- a further choice step
+pub choice_goes : (past next : Past) (kind : ChoiceKind) (name : List ℕ) → AtChoices past → past.prints ≡ [] → is_name name ≡ true
+    → choice_line past kind name ≡ Ok next
+    → Goes (λ p. (AtChosen p × (p.prints ≡ [])) × (p.stage ≡ Choosing)) (body past) next (line (form_words (choice kind name)))
+unfolding choice_line
+choice_goes past next kind name a none named h =
+    let t = passed (is_taken past name) NameTaken _ next h in
+    let full = passed (nat_le 64 (length past.choices) || nat_le 128 (length past.buffers)) TooMany _ next t.1 in
+    let two = some_split (nat_le 64 (length past.choices)) (nat_le 128 (length past.buffers)) full.0 in
+    let c = choice_step kind name in
+    let after : Past = record past {
+      stage = Choosing;
+      buffers = past.buffers ++ choice_buffer past.ranks name ∷ [];
+      choices = past.choices ++ c ∷ [];
+    } in
+    let l = longer past.choices c in
+    let room_left = room 64 (length past.choices) two.0 in
+    let names_more : map choice_name (past.choices ++ c ∷ []) ≡ map choice_name past.choices ++ name ∷ [] =
+    map_more choice_name past.choices c ∙ ap (λ (x : List ℕ). map choice_name past.choices ++ x ∷ []) (choice_named kind name) in
+    let new : In name (map choice_name past.choices) → ⊥ =
+    λ k. not_there (λ (b : Buffer). b.name) past.buffers no_buffer name
+    (untaken (is_some (group_number past.groups name)) (is_some (buffer_number past.buffers name)) t.0).1
+    (subst (In name) (sym (ap (map (λ (b : Buffer). b.name)) a.made ∙ names_made past.ranks past.choices)) k) in
+    subst (λ p. Goes (λ p. (AtChosen p × (p.prints ≡ [])) × (p.stage ≡ Choosing)) (body past) p (line (form_words (choice kind name))))
+    (ok_is after next full.1) (record {
+      holds = (
+        (
+          record {
+            some = omega (arith, l);
+            choices = record {
+              version = a.version;
+              some_ranks = a.some_ranks;
+              few_ranks = a.few_ranks;
+              no_remote = a.no_remote;
+              no_groups = a.no_groups;
+              no_inputs = a.no_inputs;
+              no_given = a.no_given;
+              no_steps = a.no_steps;
+              no_on = a.no_on;
+              few = omega (arith, l, room_left);
+              made = ap (λ (bs : List Buffer). bs ++ choice_buffer past.ranks name ∷ []) a.made
+                  ∙ ap (λ (n : List ℕ). map (choice_made past.ranks) past.choices ++ choice_buffer past.ranks n ∷ [])
+                  (sym (choice_named kind name))
+                  ∙ sym (map_more (choice_made past.ranks) past.choices c);
+              spelled = λ x i. spelled_too (map choice_name past.choices) x a.spelled (subst (In x) names_more i);
+              distinct = subst Distinct (sym names_more)
+                  (apart_too name (map choice_name past.choices) []
+                  (subst Distinct (sym (append-nil (map choice_name past.choices))) a.distinct)
+                  (λ k. new (subst (In name) (append-nil (map choice_name past.choices)) k)));
+              few_prints = a.few_prints;
+              printed = λ i k. none_there past.prints none i k;
+            };
+          },
+          none,
+        ),
+        refl,
+      );
+      written_is = choice_body past a none kind name;
+    })
+  where
+    spelled_too : (xs : List (List ℕ)) (x : List ℕ) → ((x : List ℕ) → In x xs → is_name x ≡ true) → In x (xs ++ name ∷ [])
+        → is_name x ≡ true
+    spelled_too xs x h i = go (in_either x xs (name ∷ []) i)
+      where
+        go : In x xs ⊎ In x (name ∷ []) → is_name x ≡ true
+        go (inl k) = h x k
+        go (inr (inl e)) = subst (λ v. is_name v ≡ true) e named
+        go (inr (inr k)) = absurd k
+
+-- a print of a choice text
+behind_end : (h m g i s c p x : List ℕ)
+    → h ++ (m ++ (g ++ (i ++ (s ++ (c ++ (p ++ x)))))) ≡ (h ++ (m ++ (g ++ (i ++ (s ++ (c ++ p)))))) ++ x
+behind_end h m g i s c p x = simp append_assoc
+
+choice_print_goes : (past next : Past) (name : List ℕ) → AtChosen past → print_line past name ≡ Ok next
+    → Goes (λ p. AtChosen p × (p.stage ≡ Prints)) (body past) next (line (form_words (print name)))
+unfolding print_line
+choice_print_goes past next name chosen h =
+    let a = chosen.choices in
+    let from = some_of UnknownBuffer (buffer_named past.buffers name) _ next h in
+    let full = passed (nat_le 128 (length past.prints)) TooMany _ next from.2 in
+    let large = passed (nat_lt most_elements (past.printed + elements_of from.0.1)) TooLarge _ next full.1 in
+    let is = found past.buffers name from.0 from.1 in
+    let i = from.0.0 in
+    let l = longer past.prints i in
+    let room_left = room 128 (length past.prints) full.0 in
+    let there = is.there in
+    let many = ap length a.made ∙ long_map (choice_made past.ranks) past.choices in
+    let after : Past = record past { stage = Prints; prints = past.prints ++ i ∷ []; printed = past.printed + elements_of from.0.1 } in
+    subst (λ p. Goes (λ p. AtChosen p × (p.stage ≡ Prints)) (body past) p (line (form_words (print name)))) (ok_is after next large.1)
+    (record {
+      holds = (
+        record {
+          some = chosen.some;
+          choices = record {
+            version = a.version;
+            some_ranks = a.some_ranks;
+            few_ranks = a.few_ranks;
+            no_remote = a.no_remote;
+            no_groups = a.no_groups;
+            no_inputs = a.no_inputs;
+            no_given = a.no_given;
+            no_steps = a.no_steps;
+            no_on = a.no_on;
+            few = a.few;
+            made = a.made;
+            spelled = a.spelled;
+            distinct = a.distinct;
+            few_prints = omega (arith, l, room_left);
+            printed = each_more (λ b. b < length past.choices) past.prints i 0 a.printed (omega (arith, there, many));
+          };
+        },
+        refl,
+      );
+      written_is =
+          ap (λ (x : List ℕ). head_text past.version past.ranks
+          ++ (remote_text past.remote
+          ++ (groups_text past.groups
+          ++ (inputs_text past.ranks (take past.inputs past.buffers) past.given
+          ++ (steps_text past.groups past.buffers past.steps past.on ++ (choices_text past.choices ++ x))))))
+          (flat_map-append (λ i. line (codes "print" ∷ name_at past.buffers i ∷ [])) past.prints (i ∷ [])
+          ∙ ap (λ (x : List ℕ). prints_text (name_at past.buffers) past.prints ++ x)
+          (append-nil (line (codes "print" ∷ name_at past.buffers i ∷ []))))
+          ∙ behind_end (head_text past.version past.ranks) (remote_text past.remote) (groups_text past.groups)
+          (inputs_text past.ranks (take past.inputs past.buffers) past.given) (steps_text past.groups past.buffers past.steps past.on)
+          (choices_text past.choices) (prints_text (name_at past.buffers) past.prints) (line (codes "print" ∷ name_at past.buffers i ∷ []))
+          ∙ ap (λ (x : List ℕ). body past ++ line (codes "print" ∷ x ∷ [])) is.named;
+    })
+
+-- ---- what holds by the stage that the lines lead to
+abbrev pub AtEnd : Past → Type 0
+AtEnd past = AtPrints past ⊎ AtChosen past
+
+pub record AtOptions (past : Past) : Type 0 where
+  pub groups : AtGroups past
+  pub no_groups : past.groups ≡ []
+  pub plain : past.remote ≡ false
+
+pub record AtHeader (stage : Stage) (past : Past) : Type 0 where
+  pub is : past ≡ record nothing { stage = stage; version = past.version }
+
+abbrev pub Sound : Stage → Past → Type 0
+Sound Header past = AtHeader Header past
+Sound Ranks past = AtHeader Ranks past
+Sound Options past = AtOptions past
+Sound Groups past = AtGroups past
+Sound Inputs past = AtInputs past
+Sound (Data left ty count) past = AtData past left ty count
+Sound Steps past = AtSteps past
+Sound Choosing past = AtChosen past × (past.prints ≡ [])
+Sound Prints past = AtEnd past
+Sound Finished past = AtEnd past
+
+abbrev pub written : Stage → Past → List ℕ
+written Header past = []
+written Ranks past = line (codes "coll" ∷ version_word past.version ∷ [])
+written Options past = body past
+written Groups past = body past
+written Inputs past = body past
+written (Data left ty count) past = body past
+written Steps past = body past
+written Choosing past = body past
+written Prints past = body past
+written Finished past = body past ++ line (codes "end" ∷ [])
+
+-- a line more
+pub record Leads (before : List ℕ) (next : Past) (x : List ℕ) : Type 0 where
+  pub sound : Sound next.stage next
+  pub written_is : written next.stage next ≡ before ++ x
+
+-- to a stage where all is written
+pub leads_to : (At : Past → Type 0) (stage : Stage) (before : List ℕ) (next : Past) (x : List ℕ) → ((p : Past) → At p → Sound stage p)
+    → ((p : Past) → written stage p ≡ body p) → next.stage ≡ stage
+    → Goes At before next x → Leads before next x
+leads_to At stage before next x sound whole is g = record {
+  sound = subst (λ s. Sound s next) (sym is) (sound next g.holds);
+  written_is = subst (λ s. written s next ≡ before ++ x) (sym is) (whole next ∙ g.written_is);
+}
+
+-- the stage behind an input line or a data line
+pub at_due : (left : ℕ) (ty : ElemType) (count : ℕ) (p : Past) → Given left ty count p → Sound (data_due left ty count) p
+at_due zero ty count p g = g.done refl
+at_due (suc left) ty count p g = g.more (omega arith)
+
+pub due_written : (left : ℕ) (ty : ElemType) (count : ℕ) (p : Past) → written (data_due left ty count) p ≡ body p
+due_written zero ty count p = refl
+due_written (suc left) ty count p = refl
+
+-- ---- lines by where they stand
 never : {A : Type 0} → false ≡ true → A
 never e = absurd (clash e)
   where
     clash : false ≡ true → ⊥
     clash e = cc
 
--- a line where prints may stand
-prints_go : (most : ℕ) (past next : Past) (form : Form) → Formed past → AtPrints past → may_stand Prints form ≡ true → form_line most past form ≡ Ok next → Goes (body past) next (line (form_words form))
+end_goes : (past next : Past) → AtEnd past → form_line past last ≡ Ok next → Leads (body past) next (line (form_words last))
 unfolding form_line
-prints_go most past next complete f a m h = never m
-prints_go most past next (input name ty count) f a m h = never m
-prints_go most past next barrier f a m h = never m
-prints_go most past next (step root kind x y) f a m h = never m
-prints_go most past next (print name) f a m h = print_goes most past next name f a h
-prints_go most past next last f a m h = subst (λ p. Goes (body past) p (line (form_words last))) (ok_is (record past { stage = Finished }) next h) (last_goes past f a)
+end_goes past next a h =
+    subst (λ p. Leads (body past) p (line (form_words last))) (ok_is (record past { stage = Finished }) next h)
+    (record { sound = finished a; written_is = refl })
+  where
+    finished : AtEnd past → AtEnd (record past { stage = Finished })
+    finished (inl p) = inl (record { facts = p.facts; filled = p.filled; no_choices = p.no_choices; counted = p.counted })
+    finished (inr d) = let c = d.choices in
+        inr (record {
+          some = d.some;
+          choices = record {
+            version = c.version;
+            some_ranks = c.some_ranks;
+            few_ranks = c.few_ranks;
+            no_remote = c.no_remote;
+            no_groups = c.no_groups;
+            no_inputs = c.no_inputs;
+            no_given = c.no_given;
+            no_steps = c.no_steps;
+            no_on = c.no_on;
+            few = c.few;
+            made = c.made;
+            spelled = c.spelled;
+            distinct = c.distinct;
+            few_prints = c.few_prints;
+            printed = c.printed;
+          };
+        })
 
--- a line where steps may stand too
-steps_go : (most : ℕ) (past next : Past) (form : Form) → Formed past → AtSteps past → Fits form → may_stand Steps form ≡ true → form_line most past form ≡ Ok next → Goes (body past) next (line (form_words form))
+printed_line : (past next : Past) (name : List ℕ) → AtEnd past → form_line past (print name) ≡ Ok next
+    → Leads (body past) next (line (form_words (print name)))
 unfolding form_line
-steps_go most past next complete f a fits m h = never m
-steps_go most past next (input name ty count) f a fits m h = never m
-steps_go most past next barrier f a fits m h = barrier_goes past next f a h
-steps_go most past next (step root kind x y) f a fits m h = step_goes past next root kind x y f a fits h
-steps_go most past next (print name) f a fits m h = print_goes most past next name f a.filled h
-steps_go most past next last f a fits m h = prints_go most past next last f a.filled refl h
+printed_line past next name (inl a) h =
+    let g = print_goes past next name a h in
+    leads_to (λ p. AtPrints p × (p.stage ≡ Prints)) Prints (body past) next (line (form_words (print name))) (λ p q. inl q.0) (λ p. refl)
+    g.holds.1 g
+printed_line past next name (inr a) h =
+    let g = choice_print_goes past next name a h in
+    leads_to (λ p. AtChosen p × (p.stage ≡ Prints)) Prints (body past) next (line (form_words (print name))) (λ p q. inr q.0) (λ p. refl)
+    g.holds.1 g
 
+-- where prints may stand
+pub prints_go : (past next : Past) (form : Form) → AtEnd past → stands_at Prints form ≡ true → form_line past form ≡ Ok next
+    → Leads (body past) next (line (form_words form))
+prints_go past next complete a m h = never m
+prints_go past next (group name members) a m h = never m
+prints_go past next (input name ty count) a m h = never m
+prints_go past next (step on w) a m h = never m
+prints_go past next (choice kind name) a m h = never m
+prints_go past next (print name) a m h = printed_line past next name a h
+prints_go past next last a m h = end_goes past next a h
+
+-- where choice steps may stand
+pub chosen_go : (past next : Past) (kind : ChoiceKind) (name : List ℕ) → AtChoices past → past.prints ≡ [] → is_name name ≡ true
+    → form_line past (choice kind name) ≡ Ok next → Leads (body past) next (line (form_words (choice kind name)))
+unfolding form_line
+chosen_go past next kind name a none named h =
+    let g = choice_goes past next kind name a none named h in
+    leads_to (λ p. (AtChosen p × (p.prints ≡ [])) × (p.stage ≡ Choosing)) Choosing (body past) next (line (form_words (choice kind name)))
+    (λ p q. q.0) (λ p. refl) g.holds.1 g
+
+pub choosing_go : (past next : Past) (form : Form) → AtChosen past → past.prints ≡ [] → Fits form → stands_at Choosing form ≡ true
+    → form_line past form ≡ Ok next → Leads (body past) next (line (form_words form))
+choosing_go past next complete a none fits m h = never m
+choosing_go past next (group name members) a none fits m h = never m
+choosing_go past next (input name ty count) a none fits m h = never m
+choosing_go past next (step on w) a none fits m h = never m
+choosing_go past next (choice kind name) a none fits m h = chosen_go past next kind name a.choices none fits h
+choosing_go past next (print name) a none fits m h = printed_line past next name (inr a) h
+choosing_go past next last a none fits m h = end_goes past next (inr a) h
+
+-- where steps may stand
+at_prints : (past : Past) → AtSteps past → AtPrints past
+at_prints past a = record {
+  facts = a.facts;
+  filled = a.filled;
+  no_choices = a.no_choices;
+  counted = a.none_printed
+      ∙ sym (ap (λ (ps : List ℕ). printed_elements (record (outline past) { prints = ps })) a.no_prints);
+}
+
+stepped : (past next : Past) (on : Option (List ℕ)) (w : StepWords) → AtSteps past → Takes w
+    → stands_in (form_since (step on w)) past.version ≡ true → form_line past (step on w) ≡ Ok next
+    → Leads (body past) next (line (form_words (step on w)))
+unfolding form_line
+stepped past next on w a fits v h =
+    let g = step_goes past next on w (few_of past.version past.ranks a.facts.few_ranks) a fits v h in
+    leads_to (λ p. AtSteps p × (p.stage ≡ Steps)) Steps (body past) next (line (form_words (step on w))) (λ p q. q.0) (λ p. refl) g.holds.1
+    g
+
+pub steps_go : (past next : Past) (form : Form) → AtSteps past → Fits form → stands_in (form_since form) past.version ≡ true
+    → stands_at Steps form ≡ true → form_line past form ≡ Ok next → Leads (body past) next (line (form_words form))
+steps_go past next complete a fits v m h = never m
+steps_go past next (group name members) a fits v m h = never m
+steps_go past next (input name ty count) a fits v m h = never m
+steps_go past next (step on w) a fits v m h = stepped past next on w a fits v h
+steps_go past next (choice kind name) a fits v m h = never m
+steps_go past next (print name) a fits v m h = printed_line past next name (inl (at_prints past a)) h
+steps_go past next last a fits v m h = end_goes past next (inl (at_prints past a)) h
+
+-- where inputs may stand
 at_steps : (past : Past) → AtInputs past → AtSteps past
-at_steps past a = record { filled = subst (λ (bs : List Buffer). Filled past.ranks bs past.given) (sym (all_taken past.buffers past.inputs a.counted)) a.filled; no_prints = a.no_prints }
+at_steps past a = record {
+  facts = a.early.facts;
+  filled = subst (λ (bs : List Buffer). Filled past.ranks bs past.given) (sym (all_taken past.buffers past.inputs a.early.early.counted))
+      a.filled;
+  no_prints = a.early.early.no_prints;
+  no_choices = a.early.no_choices;
+  none_printed = a.early.none_printed;
+}
 
--- a line where inputs may stand too
-inputs_go : (most : ℕ) (past next : Past) (form : Form) → Formed past → AtInputs past → Fits form → may_stand Inputs form ≡ true → form_line most past form ≡ Ok next → Goes (body past) next (line (form_words form))
+input_line_goes : (past next : Past) (name : List ℕ) (ty : ElemType) (count : List ℕ) → AtInputs past → is_name name ≡ true
+    → form_line past (input name ty count) ≡ Ok next → Leads (body past) next (line (form_words (input name ty count)))
 unfolding form_line
-inputs_go most past next complete f a fits m h = never m
-inputs_go most past next (input name ty count) f a fits m h = input_goes past next name ty count f a fits h
-inputs_go most past next barrier f a fits m h = steps_go most past next barrier f (at_steps past a) fits refl h
-inputs_go most past next (step root kind x y) f a fits m h = steps_go most past next (step root kind x y) f (at_steps past a) fits refl h
-inputs_go most past next (print name) f a fits m h = steps_go most past next (print name) f (at_steps past a) fits refl h
-inputs_go most past next last f a fits m h = steps_go most past next last f (at_steps past a) fits refl h
+input_line_goes past next name ty count a named h =
+    let g = input_goes past next name ty count a named h in
+    let n = g.0 in
+    leads_to (λ p. (AtData p past.ranks ty n) × (p.stage ≡ data_due past.ranks ty n)) (data_due past.ranks ty n) (body past) next
+    (line (form_words (input name ty count)))
+    (λ p q. at_due past.ranks ty n p
+    (record { stage_is = q.1; more = λ due. q.0; done = λ e. absurd (none past.ranks a.early.facts.some_rank e) }))
+    (due_written past.ranks ty n) g.1.holds.1 g.1
+  where
+    none : (n : ℕ) → 1 ≤ n → n ≡ 0 → ⊥
+    none n le e = omega arith
 
--- line 3
-options_go : (most : ℕ) (past next : Past) (form : Form) → Formed past → AtInputs past → past.buffers ≡ [] → past.remote ≡ false → Fits form → form_line most past form ≡ Ok next → Goes (body past) next (line (form_words form))
+pub inputs_go : (past next : Past) (form : Form) → AtInputs past → Fits form → stands_in (form_since form) past.version ≡ true
+    → stands_at Inputs form ≡ true → form_line past form ≡ Ok next → Leads (body past) next (line (form_words form))
+inputs_go past next complete a fits v m h = never m
+inputs_go past next (group name members) a fits v m h = never m
+inputs_go past next (input name ty count) a fits v m h = input_line_goes past next name ty count a fits h
+inputs_go past next (step on w) a fits v m h = steps_go past next (step on w) (at_steps past a) fits v refl h
+inputs_go past next (choice kind name) a fits v m h = never m
+inputs_go past next (print name) a fits v m h = steps_go past next (print name) (at_steps past a) fits v refl h
+inputs_go past next last a fits v m h = steps_go past next last (at_steps past a) fits v refl h
+
+-- where groups may stand
+stands_two : (v : Version) → stands_in Two v ≡ true → StandsIn Two v
+stands_two One h = cc
+stands_two Two h = tt
+
+group_line_goes : (past next : Past) (name : List ℕ) (members : List (List ℕ)) → AtGroups past → is_name name ≡ true
+    → stands_in Two past.version ≡ true → form_line past (group name members) ≡ Ok next
+    → Leads (body past) next (line (form_words (group name members)))
 unfolding form_line
-options_go most past next complete f a empty plain fits h =
-    subst (λ p. Goes (body past) p (line (form_words complete))) (ok_is (record past { stage = Inputs; remote = true }) next h) (complete_goes past f a empty plain)
-options_go most past next (input name ty count) f a empty plain fits h = inputs_go most past next (input name ty count) f a fits refl h
-options_go most past next barrier f a empty plain fits h = inputs_go most past next barrier f a fits refl h
-options_go most past next (step root kind x y) f a empty plain fits h = inputs_go most past next (step root kind x y) f a fits refl h
-options_go most past next (print name) f a empty plain fits h = inputs_go most past next (print name) f a fits refl h
-options_go most past next last f a empty plain fits h = inputs_go most past next last f a fits refl h
+group_line_goes past next name members a named v h =
+    let g = group_goes past next name members (few_of past.version past.ranks a.inputs.early.facts.few_ranks) a (stands_two past.version v)
+    named h in
+    leads_to (λ p. AtGroups p × (p.stage ≡ Groups)) Groups (body past) next (line (form_words (group name members))) (λ p q. q.0)
+    (λ p. refl) g.holds.1 g
 
-stands : (b : Bool) → not b ≡ false → b ≡ true
-stands true h = refl
-stands false h = cc
-
--- a line behind the first two is its form, which may stand there
-pub record FormOf (most : ℕ) (past next : Past) (l : List ℕ) : Type 0 where
-  pub form : Form
-  pub fits : Fits form
-  pub spelled : l ++ 10 ∷ [] ≡ line (form_words form)
-  pub stands : may_stand past.stage form ≡ true
-  pub goes : form_line most past form ≡ Ok next
-
-later : (most : ℕ) (past next : Past) (l : List ℕ) → later_line most past l ≡ Ok next → FormOf most past next l
-unfolding later_line
-later most past next l h =
-    let f = some_of BadLine (form_of (words l)) _ next h in
-    let m = passed (not (may_stand past.stage f.0)) BadLine _ next f.2 in
-    let said = form_said (words l) f.0 f.1 in
-    record { form = f.0; fits = said.fits; spelled = rejoined l (form_words f.0) said.spelled; stands = stands (may_stand past.stage f.0) m.0; goes = m.1 }
-
-pub record RanksSaid (ws : List (List ℕ)) (n : ℕ) : Type 0 where
-  pub spelled : ws ≡ codes "ranks" ∷ decimal n ∷ []
-  pub some : 1 ≤ n
-  pub few : n ≤ 64
-
-ranks_said : (ws : List (List ℕ)) (n : ℕ) → ranks_in ws ≡ Some n → RanksSaid ws n
-unfolding ranks_in
-ranks_said [] n h = cc
-ranks_said (key ∷ []) n h = cc
-ranks_said (key ∷ w ∷ []) n h =
-    let p = chosen (bytes_eq key (codes "ranks")) (number_between 1 64 w) n h in
-    let r = in_range 1 64 n w p.1 in
-    record { spelled = rw (same key (codes "ranks") p.0, between_spelled 1 64 n w (omega arith) p.1) refl; some = r.least; few = r.most }
-ranks_said (key ∷ w ∷ v ∷ ws) n h = cc
-
--- nothing is said yet but the number of ranks
-begins : (past : Past) (n : ℕ) → past.buffers ≡ [] → past.inputs ≡ 0 → past.given ≡ [] → past.steps ≡ [] → past.prints ≡ [] → past.remote ≡ false → 1 ≤ n → n ≤ 64
-    → let next : Past = record past { stage = Options; ranks = n } in Sound Options next × (body next ≡ head_text n)
-begins past n eb ei eg es ep er some few = rw (eb, ei, eg, es, ep, er) (empty n past.printed some few)
-  where
-    empty : (n printed : ℕ) → 1 ≤ n → n ≤ 64
-        → let next : Past = record { stage = Options; ranks = n; remote = false; buffers = []; inputs = 0; given = []; steps = []; prints = []; printed = printed } in Sound Options next × (body next ≡ head_text n)
-    empty n printed some few = (
-      (
-        record {
-          some_ranks = some;
-          few_ranks = few;
-          few_buffers = omega arith;
-          few_steps = omega arith;
-          few_prints = omega arith;
-          inputs_first = omega arith;
-          inputs_fit = All-nil IsInput;
-          names = All-nil (λ b. is_name b.name ≡ true);
-          distinct = λ i j li lj e. absurd (no_number i li);
-          small = All-nil (λ b. length_of b.spread ≤ most_elements);
-          steps_fit = All-nil (StepFits n []);
-          in_order = refl;
-          prints_fit = All-nil (λ i. i < 0);
-        },
-        record { counted = refl; filled = refl; no_steps = refl; no_prints = refl },
-        refl,
-        refl,
-      ),
-      append-nil (head_text n),
-    )
-      where
-        no_number : (i : ℕ) → i < 0 → ⊥
-        no_number i lt = omega arith
-
-chosen_ok : (b : Bool) (x : Past) (name : Refusal) (y : Past) → (let r : Result Past Refusal = cond b (Ok x) (Err name) in r ≡ Ok y) → (b ≡ true) × (x ≡ y)
-chosen_ok true x name y h = (refl, ok_is x y h)
-chosen_ok false x name y h = cc
-
--- a line more keeps what holds
-pub line_goes : (most : ℕ) (stage : Stage) (past next : Past) (l : List ℕ) → past.stage ≡ stage → Sound stage past → line_at most stage past l ≡ Ok next → Goes (written stage past) next (l ++ 10 ∷ [])
-unfolding line_at
-line_goes most Version past next l at s h =
-    let p = chosen_ok (bytes_eq l (codes "coll 1")) (record past { stage = Ranks }) BadHeader next h in
-    subst (λ n. Goes [] n (l ++ 10 ∷ [])) p.1 (record { sound = s; written_is = sym (ap (λ (x : List ℕ). x ++ 10 ∷ []) (same l (codes "coll 1") p.0)) })
-line_goes most Ranks past next l at s h =
-    let r = some_of BadRanks (ranks_in (words l)) _ next h in
-    let said = ranks_said (words l) r.0 r.1 in
-    let b = begins past r.0 s.0 s.1 s.2 s.3 s.4 s.5 said.some said.few in
-    subst (λ n. Goes (line (codes "coll" ∷ codes "1" ∷ [])) n (l ++ 10 ∷ [])) (ok_is (record past { stage = Options; ranks = r.0 }) next r.2)
-    (record { sound = b.0; written_is = b.1 ∙ ap (λ (x : List ℕ). line (codes "coll" ∷ codes "1" ∷ []) ++ x) (sym (rejoined l (codes "ranks" ∷ decimal r.0 ∷ []) said.spelled)) })
-line_goes most Options past next l at s h =
-    let f = later most past next l h in
-    subst (λ (x : List ℕ). Goes (body past) next x) (sym f.spelled) (options_go most past next f.form s.0 s.1 s.2 s.3 f.fits f.goes)
-line_goes most Inputs past next l at s h =
-    let f = later most past next l h in
-    subst (λ (x : List ℕ). Goes (body past) next x) (sym f.spelled) (inputs_go most past next f.form s.0 s.1 f.fits (ap (λ t. may_stand t f.form) (sym at) ∙ f.stands) f.goes)
-line_goes most (Data left ty count) past next l at s h = data_goes past next left ty count l s.0 s.1 h
-line_goes most Steps past next l at s h =
-    let f = later most past next l h in
-    subst (λ (x : List ℕ). Goes (body past) next x) (sym f.spelled) (steps_go most past next f.form s.0 s.1 f.fits (ap (λ t. may_stand t f.form) (sym at) ∙ f.stands) f.goes)
-line_goes most Prints past next l at s h =
-    let f = later most past next l h in
-    subst (λ (x : List ℕ). Goes (body past) next x) (sym f.spelled) (prints_go most past next f.form s.0 s.1 (ap (λ t. may_stand t f.form) (sym at) ∙ f.stands) f.goes)
-line_goes most Finished past next l at s h = cc
-
-taken : (k : ℕ) (r : Result Past Refusal) (f : Past → Result Past (ℕ × Refusal)) (final : Past) → numbered k r f ≡ Ok final → (next : Past) × (r ≡ Ok next) × (f next ≡ Ok final)
-taken k (Err e) f final h = cc
-taken k (Ok next) f final h = (next, refl, h)
-
-pub allowed : (b : Bool) (r : Result Past Refusal) (next : Past) → cond b r (Err BadByte) ≡ Ok next → r ≡ Ok next
-allowed true r next h = h
-allowed false r next h = cc
-
-chosen_way : (b : Bool) (x y : Result Past (ℕ × Refusal)) (final : Past) → cond b x y ≡ Ok final → ((b ≡ true) × (x ≡ Ok final)) ⊎ ((b ≡ false) × (y ≡ Ok final))
-chosen_way true x y final h = inl (refl, h)
-chosen_way false x y final h = inr (refl, h)
-
--- all the lines are written, and the last one is `end`
-pub record Ends (past final : Past) (bytes : List ℕ) : Type 0 where
-  pub done : is_finished final.stage ≡ true
-  pub sound : Sound final.stage final
-  pub written_is : written final.stage final ≡ written past.stage past ++ bytes
-
-abbrev pub refusal : ℕ → Refusal → Result Past (ℕ × Refusal)
-refusal k name = Err (k, name)
-
-abbrev pub accepted : Past → Result Past (ℕ × Refusal)
-accepted past = Ok past
-
-clash : {A : Type 0} (k : ℕ) (name : Refusal) (final : Past) → refusal k name ≡ accepted final → A
-clash k name final h = absurd (never_equal k name final h)
-  where
-    never_equal : (k : ℕ) (name : Refusal) (final : Past) → refusal k name ≡ accepted final → ⊥
-    never_equal k name final h = cc
-
-same_past : (x y : Past) → accepted x ≡ accepted y → x ≡ y
-same_past x y h = cc
-
-last_piece : (past final : Past) (k : ℕ) (piece : List ℕ) → Sound past.stage past → is_finished past.stage ≡ true → cond (is_empty piece) (accepted past) (refusal k AfterEnd) ≡ accepted final → Ends past final piece
-last_piece past final k [] sound done h =
-    subst (λ f. Ends past f []) (same_past past final h) (record { done = done; sound = sound; written_is = sym (append-nil (written past.stage past)) })
-last_piece past final k (b ∷ piece) sound done h =
-    clash k AfterEnd final (sym (ap (λ t. cond t (accepted past) (refusal k AfterEnd)) (not_empty b piece)) ∙ h)
-
-assoc : (w l j : List ℕ) → (w ++ (l ++ 10 ∷ [])) ++ j ≡ w ++ (l ++ 10 ∷ j)
-assoc w l j = simp append_assoc
-
-pub all_go : (most : ℕ) (past final : Past) (k : ℕ) (pieces : List (List ℕ)) → Sound past.stage past → read_from (judge most) AfterEnd past k pieces ≡ Ok final
-    → Ends past final (join_with_byte 10 pieces)
-unfolding read_from judge
-all_go most past final k [] sound h = cc
-all_go most past final k (piece ∷ []) sound h =
-    elim (chosen_way (is_finished past.stage) (cond (is_empty piece) (accepted past) (refusal k AfterEnd)) (refusal k Unended) final h) [
-      | inl p ↦ last_piece past final k piece sound p.0 p.1
-      | inr p ↦ clash k Unended final p.1
-    ]
-all_go most past final k (l ∷ piece ∷ pieces) sound h =
-    elim (chosen_way (is_finished past.stage) (refusal k AfterEnd) (numbered k (judge most past l) (λ next. read_from (judge most) AfterEnd next (k + 1) (piece ∷ pieces))) final h) [
-      | inl p ↦ clash k AfterEnd final p.1
-      | inr p ↦
-          let t = taken k (judge most past l) (λ next. read_from (judge most) AfterEnd next (k + 1) (piece ∷ pieces)) final p.1 in
-          let one = line_goes most past.stage past t.0 l refl sound (allowed (list_all is_allowed l) (line_at most past.stage past l) t.0 t.1) in
-          let rest = all_go most t.0 final (k + 1) (piece ∷ pieces) one.sound t.2 in
-          record { done = rest.done; sound = rest.sound; written_is = rest.written_is ∙ ap (λ (x : List ℕ). x ++ join_with_byte 10 (piece ∷ pieces)) one.written_is ∙ assoc (written past.stage past) l (join_with_byte 10 (piece ∷ pieces)) }
-    ]
-
-pub finished_is : (stage : Stage) → is_finished stage ≡ true → stage ≡ Finished
-finished_is Version h = cc
-finished_is Ranks h = cc
-finished_is Options h = cc
-finished_is Inputs h = cc
-finished_is (Data left ty count) h = cc
-finished_is Steps h = cc
-finished_is Prints h = cc
-finished_is Finished h = refl
-
-pub described_by : (r : Result Past (ℕ × Refusal)) (d : Program) → program_in r ≡ Ok d → (final : Past) × (r ≡ accepted final) × (described final ≡ d)
-described_by (Ok final) d h = (final, refl, same_d (described final) d h)
-  where
-    same_d : (x y : Program) → program_in (Ok final) ≡ Ok d → described final ≡ d
-    same_d x y h = cc
-described_by (Err e) d h = cc
-
-unlimited : (b : Bool) (e : ℕ × Refusal) (r : Result Program (ℕ × Refusal)) (d : Program) → cond b (Err e) r ≡ Ok d → (b ≡ false) × (r ≡ Ok d)
-unlimited true e r d h = cc
-unlimited false e r d h = (refl, h)
-
-text_end : (h m i s p e : List ℕ) → (h ++ (m ++ (i ++ (s ++ p)))) ++ e ≡ h ++ (m ++ (i ++ (s ++ (p ++ e))))
-text_end h m i s p e = simp append_assoc
-
-text_is : (past : Past) → written Finished past ≡ text (described past)
-unfolding text
-text_is past = text_end (head_text past.ranks) (remote_text past.remote) (inputs_text past.ranks (take past.inputs past.buffers) past.given) (steps_text past.buffers past.steps) (prints_text past.buffers past.prints) (line (codes "end" ∷ []))
-
--- what a text that is read comes to
-pub record Whole (most : ℕ) (bytes : List ℕ) (d : Program) : Type 0 where
-  pub final : Past
-  pub is : described final ≡ d
-  pub formed : Formed final
-  pub filled : AtPrints final
-  pub held : Held most final
-  pub short : length bytes ≤ 1048576
-  pub written_is : bytes ≡ text (described final)
-
-pub whole : (most : ℕ) (bytes : List ℕ) (d : Program) → read_up_to most bytes ≡ Ok d → Whole most bytes d
-unfolding read_by
-whole most bytes d h =
-    let limit = unlimited (nat_lt 1048576 (length bytes)) (0, TooLong) (program_in (read_from (judge most) AfterEnd nothing 1 (lines bytes))) d h in
-    let f = described_by (read_from (judge most) AfterEnd nothing 1 (lines bytes)) d limit.1 in
-    let e = all_go most nothing f.0 1 (lines bytes) (refl, refl, refl, refl, refl, refl) f.1 in
-    let done : f.0.stage ≡ Finished = finished_is f.0.stage e.done in
-    let sound : Sound Finished f.0 = subst (λ s. Sound s f.0) done e.sound in
-    record {
-      final = f.0;
-      is = f.2;
-      formed = sound.0;
-      filled = sound.1;
-      held = held_all most nothing f.0 1 (lines bytes) (held_first most) f.1;
-      short = not_above 1048576 (length bytes) limit.0;
-      written_is = sym (join_with_byte-slice_split 10 bytes) ∙ sym e.written_is ∙ ap (λ (s : Stage). written s f.0) done ∙ text_is f.0;
-    }
-
-pub one_spelling : (most : ℕ) (bytes : List ℕ) (d : Program) → read_up_to most bytes ≡ Ok d → bytes ≡ text d
-one_spelling most bytes d h = let w = whole most bytes d h in w.written_is ∙ ap text w.is
-
--- what is read is readable
-pub readable : (most : ℕ) (bytes : List ℕ) (d : Program) → read_up_to most bytes ≡ Ok d → IsReadable most d
-readable most bytes d h =
-    let w = whole most bytes d h in
-    let counts = w.held.counts in
-    subst (IsReadable most) w.is (record {
-      formed = w.formed;
-      given = record { given_ranks = refl; given_inputs = refl; filled = w.filled };
-      few_printed = subst (λ n. n ≤ most) counts.counted counts.within;
-      short = subst (λ (x : List ℕ). length x ≤ 1048576) w.written_is w.short;
-    })
+pub groups_go : (past next : Past) (form : Form) → AtGroups past → Fits form → stands_in (form_since form) past.version ≡ true
+    → stands_at Groups form ≡ true → form_line past form ≡ Ok next → Leads (body past) next (line (form_words form))
+groups_go past next complete a fits v m h = never m
+groups_go past next (group name members) a fits v m h = group_line_goes past next name members a fits v h
+groups_go past next (input name ty count) a fits v m h = inputs_go past next (input name ty count) a.inputs fits v refl h
+groups_go past next (step on w) a fits v m h = inputs_go past next (step on w) a.inputs fits v refl h
+groups_go past next (choice kind name) a fits v m h = never m
+groups_go past next (print name) a fits v m h = inputs_go past next (print name) a.inputs fits v refl h
+groups_go past next last a fits v m h = inputs_go past next last a.inputs fits v refl h

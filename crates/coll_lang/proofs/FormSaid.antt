@@ -1,6 +1,7 @@
 -- What a line says that may stand behind the first two: its words are spelled so, and its names are names.
 use Rattle.std.proofs.Common.{◌≡◌, ℕ, List, [], ◌∷◌, ◌++◌, Option, Some, None, Bool, true, false, cond, ◌&&◌, not, refl, sym, ap, ◌∙◌, codes, subst}
 use Rattle.std.specs.Prelude.{is_some, option_map}
+use Rattle.std.specs.List.{list_any}
 use Rattle.std.specs.Str.{bytes_eq}
 use Rattle.ptl_types.specs.declared.elements.ElemType.{ElemType}
 use Rattle.ptl_types.specs.declared.elements.ElemType.TheVariants as types
@@ -8,48 +9,59 @@ use Rattle.ptl_types.specs.declared.elements.AtomicOp.{AtomicOp}
 use Rattle.ptl_types.specs.declared.elements.AtomicOp.TheVariants as ops
 use Rattle.coll_text.specs.Text.{is_name, is_empty}
 use Rattle.coll_text.proofs.Spelled.{both, chosen, mapped, then, same}
-use Rattle.coll_lang.specs.Words.{type_word, op_word}
-use Rattle.coll_lang.specs.Forms.{Form, complete, input, barrier, step, print, last, type_of, op_of, op_in, has_root, kind_in, root_in, names_in, step_in, input_in, print_in, complete_in, alone, form_of}
-use Rattle.coll_lang.specs.declared.forms.StepKind.{StepKind}
-use Rattle.coll_lang.specs.declared.forms.StepKind.TheVariants as kinds
+use Rattle.coll_shape.specs.declared.kinds.StepKind.{StepKind}
+use Rattle.coll_shape.specs.Kinds.{all_kinds, kind_named, kind_word, named_among, takes_buffers, takes_op, takes_root}
+use Rattle.coll_lang.specs.Words.{type_word, op_word, choice_word}
+use Rattle.coll_lang.specs.Forms.{Form, StepWords, complete, group, input, step, choice, print, last, type_of, op_of, op_in, root_in, names_in, step_in, on_in, group_in, input_in, name_in, complete_in, alone, form_of}
+use Rattle.coll_lang.specs.declared.choices.ChoiceKind.TheVariants.{Elect, Tickets}
 
 -- the words of a form
-abbrev pub root_words : Option (List ℕ) → List (List ℕ)
-root_words None = []
-root_words (Some word) = word ∷ []
+abbrev pub word_there : Option (List ℕ) → List (List ℕ)
+word_there None = []
+word_there (Some word) = word ∷ []
 
-abbrev pub key_of : StepKind → List ℕ
-key_of kinds.Broadcast = codes "broadcast"
-key_of (kinds.Reduce op) = codes "reduce"
-key_of (kinds.Allreduce op) = codes "allreduce"
-key_of kinds.Gather = codes "gather"
-key_of kinds.Allgather = codes "allgather"
-key_of kinds.Alltoall = codes "alltoall"
-key_of (kinds.Scan op) = codes "scan"
+abbrev pub op_there : Bool → AtomicOp → List (List ℕ)
+op_there true op = op_word op ∷ []
+op_there false op = []
 
-abbrev pub op_words : StepKind → List (List ℕ)
-op_words kinds.Broadcast = []
-op_words (kinds.Reduce op) = op_word op ∷ []
-op_words (kinds.Allreduce op) = op_word op ∷ []
-op_words kinds.Gather = []
-op_words kinds.Allgather = []
-op_words kinds.Alltoall = []
-op_words (kinds.Scan op) = op_word op ∷ []
+abbrev pub names_there : Option (List ℕ × List ℕ) → List (List ℕ)
+names_there None = []
+names_there (Some n) = n.0 ∷ n.1 ∷ []
+
+abbrev pub said_words : StepWords → List (List ℕ)
+said_words w = kind_word w.kind ∷ (word_there w.root ++ (op_there (takes_op w.kind) w.op ++ names_there w.names))
+
+abbrev pub on_there : Option (List ℕ) → List (List ℕ)
+on_there None = []
+on_there (Some name) = codes "on" ∷ name ∷ []
 
 abbrev pub form_words : Form → List (List ℕ)
 form_words complete = codes "complete" ∷ codes "remote" ∷ []
+form_words (group name members) = codes "group" ∷ name ∷ members
 form_words (input name ty count) = codes "input" ∷ name ∷ type_word ty ∷ count ∷ []
-form_words barrier = codes "barrier" ∷ []
-form_words (step root kind a b) = key_of kind ∷ (root_words root ++ (op_words kind ++ a ∷ b ∷ []))
+form_words (step on w) = on_there on ++ said_words w
+form_words (choice kind name) = choice_word kind ∷ name ∷ []
 form_words (print name) = codes "print" ∷ name ∷ []
 form_words last = codes "end" ∷ []
 
--- a new name is one, and a step names a root where its kind has one
+abbrev pub SecondNamed : Option (List ℕ × List ℕ) → Type 0
+SecondNamed None = Unit {0}
+SecondNamed (Some n) = is_name n.1 ≡ true
+
+-- a step has what its kind takes, and a new name that is one
+pub record Takes (w : StepWords) : Type 0 where
+  pub root : is_some w.root ≡ takes_root w.kind
+  pub op : takes_op w.kind ≡ false → w.op ≡ ops.Sum
+  pub names : is_some w.names ≡ takes_buffers w.kind
+  pub named : SecondNamed w.names
+
+-- a new name is one
 abbrev pub Fits : Form → Type 0
 Fits complete = Unit {0}
+Fits (group name members) = is_name name ≡ true
 Fits (input name ty count) = is_name name ≡ true
-Fits barrier = Unit {0}
-Fits (step root kind a b) = (is_some root ≡ has_root (key_of kind)) × (is_name b ≡ true)
+Fits (step on w) = Takes w
+Fits (choice kind name) = is_name name ≡ true
 Fits (print name) = Unit {0}
 Fits last = Unit {0}
 
@@ -61,7 +73,8 @@ some_is : {T : Type 0} (a b : T) → Some a ≡ Some b → a ≡ b
 some_is a b e = cc
 
 -- one link of a chain of keywords
-link : {T : Type 0} (P : T → Type 0) (b : Bool) (t : T) (o : Option T) (x : T) → cond b (Some t) o ≡ Some x → (b ≡ true → P t) → (o ≡ Some x → P x) → P x
+link : {T : Type 0} (P : T → Type 0) (b : Bool) (t : T) (o : Option T) (x : T) → cond b (Some t) o ≡ Some x → (b ≡ true → P t)
+    → (o ≡ Some x → P x) → P x
 link P true t o x h first others = subst P (some_is t x h) (first refl)
   where
     some_is : {T : Type 0} (a b : T) → Some a ≡ Some b → a ≡ b
@@ -100,8 +113,10 @@ op_spelled w t h =
     never : (t : AtomicOp) → None ≡ Some t → ⊥
     never t h = cc
 
-alone_said : (key word : List ℕ) (form f : Form) (ws : List (List ℕ)) → word ∷ [] ≡ form_words form → Fits form → key ≡ word → alone form ws ≡ Some f → FormSaid (key ∷ ws) f
-alone_said key word form f [] spelled fits e h = subst (λ f. FormSaid (key ∷ []) f) (some_is form f h) (record { spelled = ap (λ (x : List ℕ). x ∷ []) e ∙ spelled; fits = fits })
+alone_said : (key word : List ℕ) (form f : Form) (ws : List (List ℕ)) → word ∷ [] ≡ form_words form → Fits form → key ≡ word
+    → alone form ws ≡ Some f → FormSaid (key ∷ ws) f
+alone_said key word form f [] spelled fits e h =
+    subst (λ f. FormSaid (key ∷ []) f) (some_is form f h) (record { spelled = ap (λ (x : List ℕ). x ∷ []) e ∙ spelled; fits = fits })
 alone_said key word form f (w ∷ ws) spelled fits e h = cc
 
 complete_said : (key : List ℕ) (ws : List (List ℕ)) (f : Form) → key ≡ codes "complete" → complete_in ws ≡ Some f → FormSaid (key ∷ ws) f
@@ -115,14 +130,6 @@ complete_said key (w ∷ []) f e h =
     })
 complete_said key (w ∷ v ∷ ws) f e h = cc
 
-print_said : (key : List ℕ) (ws : List (List ℕ)) (f : Form) → key ≡ codes "print" → print_in ws ≡ Some f → FormSaid (key ∷ ws) f
-unfolding print_in
-print_said key [] f e h = cc
-print_said key (w ∷ []) f e h =
-    let p = chosen (is_name w) (Some (print w)) f h in
-    subst (λ f. FormSaid (key ∷ w ∷ []) f) (some_is (print w) f p.1) (record { spelled = ap (λ (x : List ℕ). x ∷ w ∷ []) e; fits = tt })
-print_said key (w ∷ v ∷ ws) f e h = cc
-
 input_said : (key : List ℕ) (ws : List (List ℕ)) (f : Form) → key ≡ codes "input" → input_in ws ≡ Some f → FormSaid (key ∷ ws) f
 unfolding input_in
 input_said key [] f e h = cc
@@ -133,108 +140,129 @@ input_said key (name ∷ ty ∷ count ∷ []) f e h =
     let m = mapped (λ t. input name t count) (type_of ty) f p.1 in
     let q = both (is_name name) (not (is_empty count)) p.0 in
     subst (λ f. FormSaid (key ∷ name ∷ ty ∷ count ∷ []) f) m.2 (record {
-      spelled = ap (λ (x : List ℕ). x ∷ name ∷ ty ∷ count ∷ []) e ∙ ap (λ (x : List ℕ). codes "input" ∷ name ∷ x ∷ count ∷ []) (type_spelled ty m.0 m.1);
+      spelled = ap (λ (x : List ℕ). x ∷ name ∷ ty ∷ count ∷ []) e
+          ∙ ap (λ (x : List ℕ). codes "input" ∷ name ∷ x ∷ count ∷ []) (type_spelled ty m.0 m.1);
       fits = q.0;
     })
 input_said key (name ∷ ty ∷ count ∷ w ∷ ws) f e h = cc
 
-record NamesSaid (ws : List (List ℕ)) (n : List ℕ × List ℕ) : Type 0 where
-  spelled : ws ≡ n.0 ∷ n.1 ∷ []
-  named : is_name n.1 ≡ true
+name_said : (make : List ℕ → Form) (key word : List ℕ) (ws : List (List ℕ)) (f : Form)
+    → ((name : List ℕ) → form_words (make name) ≡ word ∷ name ∷ []) → ((name : List ℕ) → is_name name ≡ true → Fits (make name))
+    → key ≡ word
+    → name_in make ws ≡ Some f → FormSaid (key ∷ ws) f
+unfolding name_in
+name_said make key word [] f spelled fits e h = cc
+name_said make key word (w ∷ []) f spelled fits e h =
+    let p = chosen (is_name w) (Some (make w)) f h in
+    subst (λ f. FormSaid (key ∷ w ∷ []) f) (some_is (make w) f p.1)
+    (record { spelled = ap (λ (x : List ℕ). x ∷ w ∷ []) e ∙ sym (spelled w); fits = fits w p.0 })
+name_said make key word (w ∷ v ∷ ws) f spelled fits e h = cc
 
-names_said : (ws : List (List ℕ)) (n : List ℕ × List ℕ) → names_in ws ≡ Some n → NamesSaid ws n
+group_said : (key : List ℕ) (ws : List (List ℕ)) (f : Form) → key ≡ codes "group" → group_in ws ≡ Some f → FormSaid (key ∷ ws) f
+unfolding group_in
+group_said key [] f e h = cc
+group_said key (name ∷ []) f e h = cc
+group_said key (name ∷ member ∷ members) f e h =
+    let p = chosen (is_name name && not (list_any is_empty (member ∷ members))) (Some (group name (member ∷ members))) f h in
+    let q = both (is_name name) (not (list_any is_empty (member ∷ members))) p.0 in
+    subst (λ f. FormSaid (key ∷ name ∷ member ∷ members) f) (some_is (group name (member ∷ members)) f p.1)
+    (record { spelled = ap (λ (x : List ℕ). x ∷ name ∷ member ∷ members) e; fits = q.0 })
+
+record NamesSaid (due : Bool) (ws : List (List ℕ)) (n : Option (List ℕ × List ℕ)) : Type 0 where
+  spelled : ws ≡ names_there n
+  there : is_some n ≡ due
+  named : SecondNamed n
+
+names_said : (due : Bool) (ws : List (List ℕ)) (n : Option (List ℕ × List ℕ)) → names_in due ws ≡ Some n → NamesSaid due ws n
 unfolding names_in
-names_said [] n h = cc
-names_said (a ∷ []) n h = cc
-names_said (a ∷ b ∷ []) n h =
-    let p = chosen (is_name a && is_name b) (Some (a, b)) n h in
-    subst (λ (n : List ℕ × List ℕ). NamesSaid (a ∷ b ∷ []) n) (some_is (a, b) n p.1) (record { spelled = refl; named = (both (is_name a) (is_name b) p.0).1 })
-names_said (a ∷ b ∷ w ∷ ws) n h = cc
+names_said false [] n h = subst (λ n. NamesSaid false [] n) (some_is None n h) (record { spelled = refl; there = refl; named = tt })
+names_said false (w ∷ ws) n h = cc
+names_said true [] n h = cc
+names_said true (a ∷ []) n h = cc
+names_said true (a ∷ b ∷ []) n h =
+    let p = chosen (is_name a && is_name b) (Some (Some (a, b))) n h in
+    subst (λ n. NamesSaid true (a ∷ b ∷ []) n) (some_is (Some (a, b)) n p.1)
+    (record { spelled = refl; there = refl; named = (both (is_name a) (is_name b) p.0).1 })
+names_said true (a ∷ b ∷ w ∷ ws) n h = cc
 
-op_in_spelled : (ws : List (List ℕ)) (o : AtomicOp × List (List ℕ)) → op_in ws ≡ Some o → ws ≡ op_word o.0 ∷ o.1
-op_in_spelled [] o h = cc
-op_in_spelled (w ∷ ws) o h =
+record OpSaid (due : Bool) (ws : List (List ℕ)) (o : AtomicOp × List (List ℕ)) : Type 0 where
+  spelled : ws ≡ op_there due o.0 ++ o.1
+  none : due ≡ false → o.0 ≡ ops.Sum
+
+op_said : (due : Bool) (ws : List (List ℕ)) (o : AtomicOp × List (List ℕ)) → op_in due ws ≡ Some o → OpSaid due ws o
+unfolding op_in
+op_said false ws o h =
+    subst (λ (o : AtomicOp × List (List ℕ)). OpSaid false ws o) (some_is (ops.Sum, ws) o h) (record { spelled = refl; none = λ e. refl })
+op_said true [] o h = cc
+op_said true (w ∷ ws) o h =
     let m = mapped (λ op. (op, ws)) (op_of w) o h in
-    ap (λ x. x ∷ ws) (op_spelled w m.0 m.1) ∙ ap (λ (o : AtomicOp × List (List ℕ)). op_word o.0 ∷ o.1) m.2
+    record {
+      spelled = ap (λ x. x ∷ ws) (op_spelled w m.0 m.1) ∙ ap (λ (o : AtomicOp × List (List ℕ)). op_word o.0 ∷ o.1) m.2;
+      none = λ e. cc;
+    }
 
-root_spelled : (key : List ℕ) (ws : List (List ℕ)) (r : Option (List ℕ) × List (List ℕ)) → root_in key ws ≡ Some r → ws ≡ root_words r.0 ++ r.1
+record RootSaid (due : Bool) (ws : List (List ℕ)) (r : Option (List ℕ) × List (List ℕ)) : Type 0 where
+  spelled : ws ≡ word_there r.0 ++ r.1
+  there : is_some r.0 ≡ due
+
+root_said : (due : Bool) (ws : List (List ℕ)) (r : Option (List ℕ) × List (List ℕ)) → root_in due ws ≡ Some r → RootSaid due ws r
 unfolding root_in
-root_spelled key [] r h = rootless (has_root key) r h
+root_said false ws r h =
+    subst (λ (r : Option (List ℕ) × List (List ℕ)). RootSaid false ws r) (some_is (None, ws) r h) (record { spelled = refl; there = refl })
+root_said true [] r h = cc
+root_said true (w ∷ ws) r h = full (is_empty w) h
   where
-    rootless : (b : Bool) (r : Option (List ℕ) × List (List ℕ)) → cond b None (Some (None, [])) ≡ Some r → [] ≡ root_words r.0 ++ r.1
-    rootless true r h = cc
-    rootless false r h = ap (λ (r : Option (List ℕ) × List (List ℕ)). root_words r.0 ++ r.1) (some_is (None, []) r h)
-root_spelled key (w ∷ ws) r h = rooted (has_root key) (is_empty w) r h
-  where
-    rooted : (b e : Bool) (r : Option (List ℕ) × List (List ℕ)) → cond b (cond e None (Some (Some w, ws))) (Some (None, w ∷ ws)) ≡ Some r → w ∷ ws ≡ root_words r.0 ++ r.1
-    rooted true true r h = cc
-    rooted true false r h = ap (λ (r : Option (List ℕ) × List (List ℕ)). root_words r.0 ++ r.1) (some_is (Some w, ws) r h)
-    rooted false e r h = ap (λ (r : Option (List ℕ) × List (List ℕ)). root_words r.0 ++ r.1) (some_is (None, w ∷ ws) r h)
+    full : (e : Bool) → cond e None (Some (Some w, ws)) ≡ Some r → RootSaid true (w ∷ ws) r
+    full true h = cc
+    full false h = subst (λ (r : Option (List ℕ) × List (List ℕ)). RootSaid true (w ∷ ws) r) (some_is (Some w, ws) r h)
+        (record { spelled = refl; there = refl })
 
--- the key and the words behind it
-abbrev Kinds : Type 0
-Kinds = StepKind × List (List ℕ)
+kind_among : (word : List ℕ) (ks : List StepKind) (k : StepKind) → named_among word ks ≡ Some k → word ≡ kind_word k
+kind_among word [] k h = cc
+kind_among word (x ∷ xs) k h =
+    let P : StepKind → Type 0 = λ k. word ≡ kind_word k in
+    link P (bytes_eq word (kind_word x)) x (named_among word xs) k h (same word (kind_word x)) (kind_among word xs k)
 
-record KindSpelled (key : List ℕ) (ws : List (List ℕ)) (k : Kinds) : Type 0 where
-  key_is : key ≡ key_of k.0
-  words_are : ws ≡ op_words k.0 ++ k.1
+record WordsSaid (ws : List (List ℕ)) (w : StepWords) : Type 0 where
+  spelled : ws ≡ said_words w
+  takes : Takes w
 
-kind_link : (key : List ℕ) (ws : List (List ℕ)) (b : Bool) (now later : Option Kinds) (k : Kinds) → cond b now later ≡ Some k
-    → (b ≡ true → now ≡ Some k → KindSpelled key ws k) → (later ≡ Some k → KindSpelled key ws k) → KindSpelled key ws k
-kind_link key ws true now later k h first others = first refl h
-kind_link key ws false now later k h first others = others h
-
-plain : (key : List ℕ) (ws : List (List ℕ)) (kind : StepKind) (k : Kinds) → op_words kind ≡ [] → (key ≡ key_of kind) → Some (kind, ws) ≡ Some k → KindSpelled key ws k
-plain key ws kind k none key_is h =
-    subst (λ (k : Kinds). KindSpelled key ws k) (some_is (kind, ws) k h) (record { key_is = key_is; words_are = sym (ap (λ x. x ++ ws) none) })
-
-with_op : (key : List ℕ) (ws : List (List ℕ)) (kind : AtomicOp → StepKind) (k : Kinds) → ((op : AtomicOp) → op_words (kind op) ≡ op_word op ∷ []) → ((op : AtomicOp) → key ≡ key_of (kind op))
-    → option_map (λ (o : AtomicOp × List (List ℕ)). (kind o.0, o.1)) (op_in ws) ≡ Some k → KindSpelled key ws k
-with_op key ws kind k word key_is h =
-    let m = mapped (λ (o : AtomicOp × List (List ℕ)). (kind o.0, o.1)) (op_in ws) k h in
-    subst (λ (k : Kinds). KindSpelled key ws k) m.2 (record { key_is = key_is m.0.0; words_are = op_in_spelled ws m.0 m.1 ∙ sym (ap (λ x. x ++ m.0.1) (word m.0.0)) })
-
-kind_spelled : (key : List ℕ) (ws : List (List ℕ)) (k : Kinds) → kind_in key ws ≡ Some k → KindSpelled key ws k
-unfolding kind_in
-kind_spelled key ws k h =
-    kind_link key ws (bytes_eq key (codes "broadcast")) (Some (kinds.Broadcast, ws)) _ k h (λ e. plain key ws kinds.Broadcast k refl (same key (codes "broadcast") e)) (λ h1.
-    kind_link key ws (bytes_eq key (codes "reduce")) (option_map (λ o. (kinds.Reduce o.0, o.1)) (op_in ws)) _ k h1 (λ e. with_op key ws kinds.Reduce k (λ op. refl) (λ op. same key (codes "reduce") e)) (λ h2.
-    kind_link key ws (bytes_eq key (codes "allreduce")) (option_map (λ o. (kinds.Allreduce o.0, o.1)) (op_in ws)) _ k h2 (λ e. with_op key ws kinds.Allreduce k (λ op. refl) (λ op. same key (codes "allreduce") e)) (λ h3.
-    kind_link key ws (bytes_eq key (codes "gather")) (Some (kinds.Gather, ws)) _ k h3 (λ e. plain key ws kinds.Gather k refl (same key (codes "gather") e)) (λ h4.
-    kind_link key ws (bytes_eq key (codes "allgather")) (Some (kinds.Allgather, ws)) _ k h4 (λ e. plain key ws kinds.Allgather k refl (same key (codes "allgather") e)) (λ h5.
-    kind_link key ws (bytes_eq key (codes "alltoall")) (Some (kinds.Alltoall, ws)) _ k h5 (λ e. plain key ws kinds.Alltoall k refl (same key (codes "alltoall") e)) (λ h6.
-    kind_link key ws (bytes_eq key (codes "scan")) (option_map (λ o. (kinds.Scan o.0, o.1)) (op_in ws)) None k h6 (λ e. with_op key ws kinds.Scan k (λ op. refl) (λ op. same key (codes "scan") e)) (λ h7. absurd (never k h7))))))))
-  where
-    never : (k : Kinds) → None ≡ Some k → ⊥
-    never k h = cc
-
--- a step that may name a root does, and no other
-root_there : (key : List ℕ) (ws : List (List ℕ)) (r : Option (List ℕ) × List (List ℕ)) → root_in key ws ≡ Some r → is_some r.0 ≡ has_root key
-unfolding root_in
-root_there key [] r h = go (has_root key) r h
-  where
-    go : (b : Bool) (r : Option (List ℕ) × List (List ℕ)) → cond b None (Some (None, [])) ≡ Some r → is_some r.0 ≡ b
-    go true r h = cc
-    go false r h = ap (λ (r : Option (List ℕ) × List (List ℕ)). is_some r.0) (sym (some_is (None, []) r h))
-root_there key (w ∷ ws) r h = go (has_root key) (is_empty w) r h
-  where
-    go : (b e : Bool) (r : Option (List ℕ) × List (List ℕ)) → cond b (cond e None (Some (Some w, ws))) (Some (None, w ∷ ws)) ≡ Some r → is_some r.0 ≡ b
-    go true true r h = cc
-    go true false r h = ap (λ (r : Option (List ℕ) × List (List ℕ)). is_some r.0) (sym (some_is (Some w, ws) r h))
-    go false e r h = ap (λ (r : Option (List ℕ) × List (List ℕ)). is_some r.0) (sym (some_is (None, w ∷ ws) r h))
-
-step_said : (key : List ℕ) (ws : List (List ℕ)) (f : Form) → step_in key ws ≡ Some f → FormSaid (key ∷ ws) f
+step_said : (key : List ℕ) (ws : List (List ℕ)) (w : StepWords) → step_in key ws ≡ Some w → WordsSaid (key ∷ ws) w
 unfolding step_in
-step_said key ws f h =
-    let r = then _ (root_in key ws) f h in
-    let k = then _ (kind_in key r.0.1) f r.2 in
-    let n = then _ (names_in k.0.1) f k.2 in
-    let spelled = kind_spelled key r.0.1 k.0 k.1 in
-    let names = names_said k.0.1 n.0 n.1 in
-    subst (λ f. FormSaid (key ∷ ws) f) (some_is (step r.0.0 k.0.0 n.0.0 n.0.1) f n.2) (record {
-      spelled = ap (λ (x : List ℕ). x ∷ ws) spelled.key_is
-          ∙ ap (λ (x : List (List ℕ)). key_of k.0.0 ∷ x) (root_spelled key ws r.0 r.1 ∙ ap (λ (x : List (List ℕ)). root_words r.0.0 ++ x) (spelled.words_are ∙ ap (λ (x : List (List ℕ)). op_words k.0.0 ++ x) names.spelled));
-      fits = (root_there key ws r.0 r.1 ∙ ap has_root spelled.key_is, names.named);
+step_said key ws w h =
+    let k = then _ (kind_named key) w h in
+    let r = then _ (root_in (takes_root k.0) ws) w k.2 in
+    let o = then _ (op_in (takes_op k.0) r.0.1) w r.2 in
+    let n = then _ (names_in (takes_buffers k.0) o.0.1) w o.2 in
+    let root = root_said (takes_root k.0) ws r.0 r.1 in
+    let op = op_said (takes_op k.0) r.0.1 o.0 o.1 in
+    let names = names_said (takes_buffers k.0) o.0.1 n.0 n.1 in
+    subst (λ w. WordsSaid (key ∷ ws) w) (some_is (record { kind = k.0; root = r.0.0; op = o.0.0; names = n.0 }) w n.2) (record {
+      spelled = ap (λ (x : List ℕ). x ∷ ws) (kind_among key all_kinds k.0 k.1)
+          ∙ ap (λ (x : List (List ℕ)). kind_word k.0 ∷ x)
+          (root.spelled ∙ ap (λ (x : List (List ℕ)). word_there r.0.0 ++ x) (op.spelled
+          ∙ ap (λ (x : List (List ℕ)). op_there (takes_op k.0) o.0.0 ++ x) names.spelled));
+      takes = record { root = root.there; op = op.none; names = names.there; named = names.named };
+    })
+
+plain_said : (key : List ℕ) (ws : List (List ℕ)) (f : Form) → option_map (step None) (step_in key ws) ≡ Some f → FormSaid (key ∷ ws) f
+plain_said key ws f h =
+    let m = mapped (step None) (step_in key ws) f h in
+    let s = step_said key ws m.0 m.1 in
+    subst (λ f. FormSaid (key ∷ ws) f) m.2 (record { spelled = s.spelled; fits = s.takes })
+
+on_said : (key : List ℕ) (ws : List (List ℕ)) (f : Form) → key ≡ codes "on" → on_in ws ≡ Some f → FormSaid (key ∷ ws) f
+unfolding on_in
+on_said key [] f e h = cc
+on_said key (name ∷ []) f e h = cc
+on_said key (name ∷ first ∷ ws) f e h =
+    let p = chosen (is_name name) (option_map (step (Some name)) (step_in first ws)) f h in
+    let m = mapped (step (Some name)) (step_in first ws) f p.1 in
+    let s = step_said first ws m.0 m.1 in
+    subst (λ f. FormSaid (key ∷ name ∷ first ∷ ws) f) m.2
+    (record {
+      spelled = ap (λ (x : List ℕ). x ∷ name ∷ first ∷ ws) e ∙ ap (λ (x : List (List ℕ)). codes "on" ∷ name ∷ x) s.spelled;
+      fits = s.takes;
     })
 
 form_link : (ws : List (List ℕ)) (b : Bool) (now later : Option Form) (f : Form) → cond b now later ≡ Some f
@@ -246,9 +274,19 @@ pub form_said : (ws : List (List ℕ)) (f : Form) → form_of ws ≡ Some f → 
 unfolding form_of
 form_said [] f h = cc
 form_said (key ∷ ws) f h =
-    form_link (key ∷ ws) (bytes_eq key (codes "complete")) (complete_in ws) _ f h (λ e g. complete_said key ws f (same key (codes "complete") e) g) (λ h1.
-    form_link (key ∷ ws) (bytes_eq key (codes "input")) (input_in ws) _ f h1 (λ e g. input_said key ws f (same key (codes "input") e) g) (λ h2.
-    form_link (key ∷ ws) (bytes_eq key (codes "barrier")) (alone barrier ws) _ f h2 (λ e g. alone_said key (codes "barrier") barrier f ws refl tt (same key (codes "barrier") e) g) (λ h3.
-    form_link (key ∷ ws) (bytes_eq key (codes "print")) (print_in ws) _ f h3 (λ e g. print_said key ws f (same key (codes "print") e) g) (λ h4.
-    form_link (key ∷ ws) (bytes_eq key (codes "end")) (alone last ws) (step_in key ws) f h4 (λ e g. alone_said key (codes "end") last f ws refl tt (same key (codes "end") e) g) (λ h5.
-    step_said key ws f h5)))))
+    form_link (key ∷ ws) (bytes_eq key (codes "complete")) (complete_in ws) _ f h
+    (λ e g. complete_said key ws f (same key (codes "complete") e) g) (λ h1.
+    form_link (key ∷ ws) (bytes_eq key (codes "group")) (group_in ws) _ f h1 (λ e g. group_said key ws f (same key (codes "group") e) g)
+    (λ h2.
+    form_link (key ∷ ws) (bytes_eq key (codes "input")) (input_in ws) _ f h2 (λ e g. input_said key ws f (same key (codes "input") e) g)
+    (λ h3.
+    form_link (key ∷ ws) (bytes_eq key (codes "on")) (on_in ws) _ f h3 (λ e g. on_said key ws f (same key (codes "on") e) g) (λ h4.
+    form_link (key ∷ ws) (bytes_eq key (codes "elect")) (name_in (choice Elect) ws) _ f h4
+    (λ e g. name_said (choice Elect) key (codes "elect") ws f (λ name. refl) (λ name n. n) (same key (codes "elect") e) g) (λ h5.
+    form_link (key ∷ ws) (bytes_eq key (codes "tickets")) (name_in (choice Tickets) ws) _ f h5
+    (λ e g. name_said (choice Tickets) key (codes "tickets") ws f (λ name. refl) (λ name n. n) (same key (codes "tickets") e) g) (λ h6.
+    form_link (key ∷ ws) (bytes_eq key (codes "print")) (name_in print ws) _ f h6
+    (λ e g. name_said print key (codes "print") ws f (λ name. refl) (λ name n. tt) (same key (codes "print") e) g) (λ h7.
+    form_link (key ∷ ws) (bytes_eq key (codes "end")) (alone last ws) (option_map (step None) (step_in key ws)) f h7
+    (λ e g. alone_said key (codes "end") last f ws refl tt (same key (codes "end") e) g) (λ h8.
+    plain_said key ws f h8))))))))

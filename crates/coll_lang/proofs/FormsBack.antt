@@ -1,5 +1,5 @@
 -- The words of a line are read as its form.
-use Rattle.std.proofs.Common.{◌≡◌, ℕ, ◌<◌, ◌≤◌, ◌^◌, List, [], ◌∷◌, length, Some, None, true, false, cond, ◌&&◌, refl, ap, ◌∙◌, arith, codes}
+use Rattle.std.proofs.Common.{◌≡◌, ℕ, ◌<◌, ◌≤◌, ◌^◌, List, [], ◌∷◌, ◌++◌, length, Option, Some, None, Bool, true, false, cond, ◌&&◌, refl, sym, ap, ◌∙◌, arith, codes}
 use Rattle.std.specs.Prelude.{nat_le, ◌==◌, option_and_then}
 use Rattle.std.specs.List.{list_all}
 use Rattle.std.specs.Fmt.{decimal}
@@ -14,8 +14,16 @@ use Rattle.coll_text.proofs.Spelled.{both}
 use Rattle.coll_text.proofs.ReadBack.{passes_too, number_read}
 use Rattle.coll_text.proofs.WordsBack.{is_solid}
 use Rattle.coll_lang.specs.Words.{type_word, op_word}
-use Rattle.coll_lang.specs.Forms.{complete, input, barrier, step, print, last, type_of, op_of, kind_in, root_in, names_in, step_in, input_in, print_in, complete_in, form_of}
-use Rattle.coll_lang.specs.declared.forms.StepKind.TheVariants as kinds
+use Rattle.std.specs.Prelude.{is_some, option_map}
+use Rattle.std.specs.List.{list_any, AllByRecursion}
+use Rattle.coll_shape.specs.declared.kinds.StepKind.{StepKind}
+use Rattle.coll_shape.specs.declared.kinds.StepKind.TheVariants.{Barrier, Broadcast, Reduce, Allreduce, Gather, Allgather, Alltoall, Scan, Scatter, Reducescatter, Exscan, Gatherv}
+use Rattle.coll_shape.specs.Kinds.{kind_named, kind_word, takes_buffers, takes_op, takes_root}
+use Rattle.coll_lang.specs.Words.{choice_word}
+use Rattle.coll_lang.specs.Forms.{StepWords, complete, group, input, step, choice, print, last, type_of, op_of, op_in, root_in, names_in, step_in, on_in, group_in, input_in, name_in, complete_in, form_of}
+use Rattle.coll_lang.specs.declared.choices.ChoiceKind.{ChoiceKind}
+use Rattle.coll_lang.specs.declared.choices.ChoiceKind.TheVariants.{Elect, Tickets}
+use Rattle.coll_lang.proofs.FormSaid.{names_there, on_there, op_there, said_words, word_there}
 
 -- words of seen bytes
 pub name_solid : (w : List ℕ) → is_name w ≡ true → list_all is_solid w ≡ true
@@ -89,45 +97,20 @@ between_read low high n least most fits =
     is_true : (a b : ℕ) → a ≤ b → nat_le a b ≡ true
     is_true a b le = grind (arith, nat_tests)
 
-pub input_back : (name : List ℕ) (ty : ElemType) (count : List ℕ) → is_name name ≡ true → is_empty count ≡ false → form_of (codes "input" ∷ name ∷ type_word ty ∷ count ∷ []) ≡ Some (input name ty count)
+pub input_back : (name : List ℕ) (ty : ElemType) (count : List ℕ) → is_name name ≡ true → is_empty count ≡ false
+    → form_of (codes "input" ∷ name ∷ type_word ty ∷ count ∷ []) ≡ Some (input name ty count)
 unfolding form_of input_in
 input_back name ty count named full = rw (named, full, type_back ty) refl
 
 pub print_back : (name : List ℕ) → is_name name ≡ true → form_of (codes "print" ∷ name ∷ []) ≡ Some (print name)
-unfolding form_of print_in
+unfolding form_of name_in
 print_back name named = rw named refl
 
-pub broadcast_back : (root a b : List ℕ) → is_empty root ≡ false → is_name a ≡ true → is_name b ≡ true → form_of (codes "broadcast" ∷ root ∷ a ∷ b ∷ []) ≡ Some (step (Some root) kinds.Broadcast a b)
-unfolding form_of step_in root_in kind_in names_in
-broadcast_back root a b full na nb = rw (full, na, nb) refl
-
-pub reduce_back : (root a b : List ℕ) (op : AtomicOp) → is_empty root ≡ false → is_name a ≡ true → is_name b ≡ true → form_of (codes "reduce" ∷ root ∷ op_word op ∷ a ∷ b ∷ []) ≡ Some (step (Some root) (kinds.Reduce op) a b)
-unfolding form_of step_in root_in kind_in names_in
-reduce_back root a b op full na nb = rw (full, op_back op, na, nb) refl
-
-pub allreduce_back : (a b : List ℕ) (op : AtomicOp) → is_name a ≡ true → is_name b ≡ true → form_of (codes "allreduce" ∷ op_word op ∷ a ∷ b ∷ []) ≡ Some (step None (kinds.Allreduce op) a b)
-unfolding form_of step_in root_in kind_in names_in
-allreduce_back a b op na nb = rw (op_back op, na, nb) refl
-
-pub gather_back : (root a b : List ℕ) → is_empty root ≡ false → is_name a ≡ true → is_name b ≡ true → form_of (codes "gather" ∷ root ∷ a ∷ b ∷ []) ≡ Some (step (Some root) kinds.Gather a b)
-unfolding form_of step_in root_in kind_in names_in
-gather_back root a b full na nb = rw (full, na, nb) refl
-
-pub allgather_back : (a b : List ℕ) → is_name a ≡ true → is_name b ≡ true → form_of (codes "allgather" ∷ a ∷ b ∷ []) ≡ Some (step None kinds.Allgather a b)
-unfolding form_of step_in root_in kind_in names_in
-allgather_back a b na nb = rw (na, nb) refl
-
-pub alltoall_back : (a b : List ℕ) → is_name a ≡ true → is_name b ≡ true → form_of (codes "alltoall" ∷ a ∷ b ∷ []) ≡ Some (step None kinds.Alltoall a b)
-unfolding form_of step_in root_in kind_in names_in
-alltoall_back a b na nb = rw (na, nb) refl
-
-pub scan_back : (a b : List ℕ) (op : AtomicOp) → is_name a ≡ true → is_name b ≡ true → form_of (codes "scan" ∷ op_word op ∷ a ∷ b ∷ []) ≡ Some (step None (kinds.Scan op) a b)
-unfolding form_of step_in root_in kind_in names_in
-scan_back a b op na nb = rw (op_back op, na, nb) refl
-
-pub barrier_back : form_of (codes "barrier" ∷ []) ≡ Some barrier
-unfolding form_of
-barrier_back = refl
+pub choice_back : (kind : ChoiceKind) (name : List ℕ) → is_name name ≡ true
+    → form_of (choice_word kind ∷ name ∷ []) ≡ Some (choice kind name)
+unfolding form_of name_in
+choice_back Elect name named = rw named refl
+choice_back Tickets name named = rw named refl
 
 pub last_back : form_of (codes "end" ∷ []) ≡ Some last
 unfolding form_of
@@ -136,3 +119,105 @@ last_back = refl
 pub complete_back : form_of (codes "complete" ∷ codes "remote" ∷ []) ≡ Some complete
 unfolding form_of complete_in
 complete_back = refl
+
+none_empty : (ws : List (List ℕ)) → AllByRecursion (λ w. is_empty w ≡ false) ws → list_any is_empty ws ≡ false
+none_empty [] h = refl
+none_empty (w ∷ ws) h = rw (h.0, none_empty ws h.1) refl
+
+pub group_back : (name member : List ℕ) (members : List (List ℕ)) → is_name name ≡ true
+    → AllByRecursion (λ w. is_empty w ≡ false) (member ∷ members)
+    → form_of (codes "group" ∷ name ∷ member ∷ members) ≡ Some (group name (member ∷ members))
+unfolding form_of group_in
+group_back name member members named full = rw (named, none_empty (member ∷ members) full) refl
+
+-- ---- steps
+kind_back : (k : StepKind) → kind_named (kind_word k) ≡ Some k
+kind_back Barrier = refl
+kind_back Broadcast = refl
+kind_back Reduce = refl
+kind_back Allreduce = refl
+kind_back Gather = refl
+kind_back Allgather = refl
+kind_back Alltoall = refl
+kind_back Scan = refl
+kind_back Scatter = refl
+kind_back Reducescatter = refl
+kind_back Exscan = refl
+kind_back Gatherv = refl
+
+-- a step's words have what its kind takes, spelled so
+abbrev pub RootFull : Option (List ℕ) → Type 0
+RootFull None = Unit {0}
+RootFull (Some w) = is_empty w ≡ false
+
+abbrev pub NamesFull : Option (List ℕ × List ℕ) → Type 0
+NamesFull None = Unit {0}
+NamesFull (Some n) = (is_name n.0 ≡ true) × (is_name n.1 ≡ true)
+
+pub record IsSpelled (w : StepWords) : Type 0 where
+  pub root : is_some w.root ≡ takes_root w.kind
+  pub op : takes_op w.kind ≡ false → w.op ≡ ops.Sum
+  pub names : is_some w.names ≡ takes_buffers w.kind
+  pub full : RootFull w.root
+  pub named : NamesFull w.names
+
+root_back : (due : Bool) (root : Option (List ℕ)) (ws : List (List ℕ)) → is_some root ≡ due → RootFull root
+    → root_in due (word_there root ++ ws) ≡ Some (root, ws)
+unfolding root_in
+root_back true None ws e f = cc
+root_back false None ws e f = refl
+root_back true (Some w) ws e f = rw f refl
+root_back false (Some w) ws e f = cc
+
+ops_back : (due : Bool) (op : AtomicOp) (ws : List (List ℕ)) → (due ≡ false → op ≡ ops.Sum)
+    → op_in due (op_there due op ++ ws) ≡ Some (op, ws)
+unfolding op_in
+ops_back true op ws h = rw (op_back op) refl
+ops_back false op ws h = ap (λ (o : AtomicOp). Some (o, ws)) (sym (h refl))
+
+names_back : (due : Bool) (names : Option (List ℕ × List ℕ)) → is_some names ≡ due → NamesFull names
+    → names_in due (names_there names) ≡ Some names
+unfolding names_in
+names_back true None e f = cc
+names_back false None e f = refl
+names_back true (Some n) e f = rw (f.0, f.1) refl
+names_back false (Some n) e f = cc
+
+pub step_back : (w : StepWords) → IsSpelled w
+    → step_in (kind_word w.kind) (word_there w.root ++ (op_there (takes_op w.kind) w.op ++ names_there w.names)) ≡ Some w
+unfolding step_in
+step_back w h =
+    rw (
+      kind_back w.kind,
+      root_back (takes_root w.kind) w.root (op_there (takes_op w.kind) w.op ++ names_there w.names) h.root h.full,
+      ops_back (takes_op w.kind) w.op (names_there w.names) h.op,
+      names_back (takes_buffers w.kind) w.names h.names h.named,
+    ) refl
+
+plain_back : (k : StepKind) (ws : List (List ℕ)) → form_of (kind_word k ∷ ws) ≡ option_map (step None) (step_in (kind_word k) ws)
+unfolding form_of
+plain_back Barrier ws = refl
+plain_back Broadcast ws = refl
+plain_back Reduce ws = refl
+plain_back Allreduce ws = refl
+plain_back Gather ws = refl
+plain_back Allgather ws = refl
+plain_back Alltoall ws = refl
+plain_back Scan ws = refl
+plain_back Scatter ws = refl
+plain_back Reducescatter ws = refl
+plain_back Exscan ws = refl
+plain_back Gatherv ws = refl
+
+-- a group that is named
+abbrev pub NameFull : Option (List ℕ) → Type 0
+NameFull None = Unit {0}
+NameFull (Some name) = is_name name ≡ true
+
+pub step_form_back : (on : Option (List ℕ)) (w : StepWords) → IsSpelled w → NameFull on
+    → form_of (on_there on ++ said_words w) ≡ Some (step on w)
+unfolding form_of on_in
+step_form_back None w h n =
+    plain_back w.kind (word_there w.root ++ (op_there (takes_op w.kind) w.op ++ names_there w.names))
+    ∙ ap (option_map (step None)) (step_back w h)
+step_form_back (Some name) w h n = rw (n, step_back w h) refl

@@ -1,20 +1,32 @@
 -- What a line is by its words, wherever it stands.
-use Rattle.std.specs.Prelude.{ℕ, List, [], ◌∷◌, Option, Some, None, Bool, ◌&&◌, ◌||◌, not, if◌then◌else◌, codes, option_and_then, option_map}
+use Rattle.std.specs.Prelude.{ℕ, List, [], ◌∷◌, Option, Some, None, Bool, true, false, ◌&&◌, not, if◌then◌else◌, codes, option_and_then, option_map}
+use Rattle.std.specs.List.{list_any}
 use Rattle.std.specs.Str.{bytes_eq}
 use Rattle.coll_text.specs.Text.{is_name, is_empty}
 use Rattle.ptl_types.specs.declared.elements.ElemType.{ElemType}
 use Rattle.ptl_types.specs.declared.elements.ElemType.TheVariants as types
 use Rattle.ptl_types.specs.declared.elements.AtomicOp.{AtomicOp}
 use Rattle.ptl_types.specs.declared.elements.AtomicOp.TheVariants as ops
-use Rattle.coll_lang.specs.declared.forms.StepKind.{StepKind}
-use Rattle.coll_lang.specs.declared.forms.StepKind.TheVariants as kinds
+use Rattle.coll_shape.specs.declared.kinds.StepKind.{StepKind}
+use Rattle.coll_shape.specs.Kinds.{kind_named, takes_root, takes_op, takes_buffers}
+use Rattle.coll_lang.specs.declared.choices.ChoiceKind.{ChoiceKind}
+use Rattle.coll_lang.specs.declared.choices.ChoiceKind.TheVariants.{Elect, Tickets}
+
+-- the words of a step: its kind, the word of the root where the kind takes one, its operation (`sum` where it takes none), and
+-- A and B where it takes them
+pub record StepWords : Type 0 where
+  pub kind : StepKind
+  pub root : Option (List ℕ)
+  pub op : AtomicOp
+  pub names : Option (List ℕ × List ℕ)
 
 -- A line that may stand behind the first two. Numbers are still words.
 pub data Form : Type 0 where
   complete : Form
+  group : (name : List ℕ) (members : List (List ℕ)) → Form
   input : (name : List ℕ) (ty : ElemType) (count : List ℕ) → Form
-  barrier : Form
-  step : (root : Option (List ℕ)) (kind : StepKind) (a b : List ℕ) → Form
+  step : (on : Option (List ℕ)) (words : StepWords) → Form
+  choice : (kind : ChoiceKind) (name : List ℕ) → Form
   print : (name : List ℕ) → Form
   last : Form
 
@@ -44,49 +56,51 @@ op_of word =
     else if bytes_eq word (codes "bxor") then Some ops.Bxor
     else None
 
--- the steps that name a root
-abbrev pub has_root : List ℕ → Bool
-has_root key = bytes_eq key (codes "broadcast") || bytes_eq key (codes "reduce") || bytes_eq key (codes "gather")
-
--- an operation, and the words behind it
-abbrev pub op_in : List (List ℕ) → Option (AtomicOp × List (List ℕ))
-op_in [] = None
-op_in (word ∷ ws) = option_map (λ op. (op, ws)) (op_of word)
-
--- the kind of step, with its operation where it has one, and the words behind that
-unfoldable pub kind_in : List ℕ → List (List ℕ) → Option (StepKind × List (List ℕ))
-kind_in key ws =
-    if bytes_eq key (codes "broadcast") then Some (kinds.Broadcast, ws)
-    else if bytes_eq key (codes "reduce") then option_map (λ o. (kinds.Reduce o.0, o.1)) (op_in ws)
-    else if bytes_eq key (codes "allreduce") then option_map (λ o. (kinds.Allreduce o.0, o.1)) (op_in ws)
-    else if bytes_eq key (codes "gather") then Some (kinds.Gather, ws)
-    else if bytes_eq key (codes "allgather") then Some (kinds.Allgather, ws)
-    else if bytes_eq key (codes "alltoall") then Some (kinds.Alltoall, ws)
-    else if bytes_eq key (codes "scan") then option_map (λ o. (kinds.Scan o.0, o.1)) (op_in ws)
-    else None
-
--- the word of the root, where there is one, and the words behind it
-unfoldable pub root_in : List ℕ → List (List ℕ) → Option (Option (List ℕ) × List (List ℕ))
-root_in key [] = if has_root key then None else Some (None, [])
-root_in key (word ∷ ws) = if has_root key then (if is_empty word then None else Some (Some word, ws)) else Some (None, word ∷ ws)
-
--- two names, and no more
-unfoldable pub names_in : List (List ℕ) → Option (List ℕ × List ℕ)
-names_in [] = None
-names_in (a ∷ []) = None
-names_in (a ∷ b ∷ []) = if is_name a && is_name b then Some (a, b) else None
-names_in (a ∷ b ∷ w ∷ ws) = None
-
 infixl 10 ◌>>=◌
 abbrev pub ◌>>=◌ : {A B : Type 0} → Option A → (A → Option B) → Option B
 o >>= f = option_and_then f o
 
-unfoldable pub step_in : List ℕ → List (List ℕ) → Option Form
+-- the word of the root, where one is due, and the words behind it
+unfoldable pub root_in : Bool → List (List ℕ) → Option (Option (List ℕ) × List (List ℕ))
+root_in false ws = Some (None, ws)
+root_in true [] = None
+root_in true (word ∷ ws) = if is_empty word then None else Some (Some word, ws)
+
+-- the operation, where one is due, and the words behind it
+unfoldable pub op_in : Bool → List (List ℕ) → Option (AtomicOp × List (List ℕ))
+op_in false ws = Some (ops.Sum, ws)
+op_in true [] = None
+op_in true (word ∷ ws) = option_map (λ op. (op, ws)) (op_of word)
+
+-- two names where they are due, and no more
+unfoldable pub names_in : Bool → List (List ℕ) → Option (Option (List ℕ × List ℕ))
+names_in false [] = Some None
+names_in false (w ∷ ws) = None
+names_in true [] = None
+names_in true (a ∷ []) = None
+names_in true (a ∷ b ∷ []) = if is_name a && is_name b then Some (Some (a, b)) else None
+names_in true (a ∷ b ∷ w ∷ ws) = None
+
+unfoldable pub step_in : List ℕ → List (List ℕ) → Option StepWords
 step_in key ws = do
-  root ← root_in key ws
-  kind ← kind_in key root.1
-  names ← names_in kind.1
-  Some (step root.0 kind.0 names.0 names.1)
+  kind ← kind_named key
+  root ← root_in (takes_root kind) ws
+  op ← op_in (takes_op kind) root.1
+  names ← names_in (takes_buffers kind) op.1
+  Some (record { kind = kind; root = root.0; op = op.0; names = names })
+
+-- a step on a group
+unfoldable pub on_in : List (List ℕ) → Option Form
+on_in [] = None
+on_in (name ∷ []) = None
+on_in (name ∷ key ∷ ws) = if is_name name then option_map (step (Some name)) (step_in key ws) else None
+
+-- `NAME MEMBER ..` of a group, at least one
+unfoldable pub group_in : List (List ℕ) → Option Form
+group_in [] = None
+group_in (name ∷ []) = None
+group_in (name ∷ member ∷ members) =
+    if is_name name && not (list_any is_empty (member ∷ members)) then Some (group name (member ∷ members)) else None
 
 -- `NAME TYPE COUNT` of an input
 unfoldable pub input_in : List (List ℕ) → Option Form
@@ -96,12 +110,13 @@ input_in (name ∷ ty ∷ []) = None
 input_in (name ∷ ty ∷ count ∷ []) = if is_name name && not (is_empty count) then option_map (λ t. input name t count) (type_of ty) else None
 input_in (name ∷ ty ∷ count ∷ w ∷ ws) = None
 
-unfoldable pub print_in : List (List ℕ) → Option Form
-print_in [] = None
-print_in (name ∷ []) = if is_name name then Some (print name) else None
-print_in (name ∷ w ∷ ws) = None
+-- a name alone
+unfoldable pub name_in : (List ℕ → Form) → List (List ℕ) → Option Form
+name_in form [] = None
+name_in form (name ∷ []) = if is_name name then Some (form name) else None
+name_in form (name ∷ w ∷ ws) = None
 
--- a word alone
+-- no word more
 abbrev pub alone : Form → List (List ℕ) → Option Form
 alone form [] = Some form
 alone form (w ∷ ws) = None
@@ -116,8 +131,11 @@ unfoldable pub form_of : List (List ℕ) → Option Form
 form_of [] = None
 form_of (key ∷ ws) =
     if bytes_eq key (codes "complete") then complete_in ws
+    else if bytes_eq key (codes "group") then group_in ws
     else if bytes_eq key (codes "input") then input_in ws
-    else if bytes_eq key (codes "barrier") then alone barrier ws
-    else if bytes_eq key (codes "print") then print_in ws
+    else if bytes_eq key (codes "on") then on_in ws
+    else if bytes_eq key (codes "elect") then name_in (choice Elect) ws
+    else if bytes_eq key (codes "tickets") then name_in (choice Tickets) ws
+    else if bytes_eq key (codes "print") then name_in print ws
     else if bytes_eq key (codes "end") then alone last ws
-    else step_in key ws
+    else option_map (step None) (step_in key ws)

@@ -1,44 +1,74 @@
 -- The language: which line may stand where, what it says, and which refusal comes first.
-use Rattle.std.specs.Prelude.{ℕ, zero, suc, ◌+◌, ◌-◌, List, [], ◌∷◌, ◌++◌, length, Option, Some, None, Result, Ok, Err, Bool, true, false, ◌&&◌, not, nat_lt, nat_le, is_some, option_map, if◌then◌else◌, codes, option_and_then}
+use Rattle.std.specs.Prelude.{ℕ, zero, suc, ◌+◌, ◌-◌, List, [], ◌∷◌, ◌++◌, length, Option, Some, None, Result, Ok, Err, Bool, true, false, ◌&&◌, ◌||◌, not, nat_lt, nat_le, is_some, option_map, if◌then◌else◌, codes, option_and_then}
 use Rattle.std.specs.List.{list_all, position, slice_get}
 use Rattle.std.specs.Str.{bytes_eq}
 use Rattle.ptl_types.specs.declared.elements.ElemType.{ElemType}
+use Rattle.ptl_types.specs.declared.elements.ElemType.TheVariants.{U64}
+use Rattle.number_lists.specs.Numbers.{from_to}
 use Rattle.coll_text.specs.Text.{lines, words, number_of, number_between, is_empty}
 use Rattle.coll_text.specs.Values.{data_line}
 use Rattle.coll_text.specs.declared.values.Flaw.{Flaw}
 use Rattle.coll_text.specs.declared.values.Flaw.TheVariants.{Malformed, NoValue}
-use Rattle.coll_lang.specs.Forms.{Form, complete, input, barrier, step, print, last, form_of}
-use Rattle.coll_lang.specs.Outline.{Program, length_of}
-use Rattle.coll_lang.specs.Steps.{step_of, spread_after, elements_of}
-use Rattle.coll_lang.specs.declared.types.Buffer.{Buffer}
-use Rattle.coll_lang.specs.declared.types.Spread.{Spread}
-use Rattle.coll_lang.specs.declared.types.Spread.TheVariants.{Even}
-use Rattle.coll_lang.specs.declared.types.CollStep.{CollStep}
-use Rattle.coll_lang.specs.declared.types.CollStep.TheVariants.{Barrier}
-use Rattle.coll_lang.specs.declared.forms.StepKind.{StepKind}
+use Rattle.coll_shape.specs.Outline.{no_buffer, members_of}
+use Rattle.coll_shape.specs.Rows.{in_rows}
+use Rattle.coll_shape.specs.Kinds.{step_of, kind_since}
+use Rattle.coll_shape.specs.Collectives.{can_read, made_length, made_holders}
+use Rattle.coll_shape.specs.WellFormed.{most_ranks, most_elements, elements_of}
+use Rattle.coll_shape.specs.declared.types.Version.{Version}
+use Rattle.coll_shape.specs.declared.types.Version.TheVariants.{One, Two}
+use Rattle.coll_shape.specs.declared.types.Buffer.{Buffer}
+use Rattle.coll_shape.specs.declared.types.Group.{Group}
+use Rattle.coll_shape.specs.declared.types.CollStep.{CollStep}
+use Rattle.coll_lang.specs.Forms.{Form, StepWords, complete, group, input, step, choice, print, last, form_of}
+use Rattle.coll_lang.specs.Program.{Chosen, Program}
+use Rattle.coll_lang.specs.declared.choices.ChoiceKind.{ChoiceKind}
+use Rattle.coll_lang.specs.declared.choices.ChoiceKind.TheVariants as kinds
+use Rattle.coll_lang.specs.declared.choices.ChoiceStep.{ChoiceStep}
+use Rattle.coll_lang.specs.declared.choices.ChoiceStep.TheVariants.{Elect, Tickets}
 use Rattle.coll_lang.specs.declared.stage.Stage.{Stage}
-use Rattle.coll_lang.specs.declared.stage.Stage.TheVariants.{Version, Ranks, Options, Inputs, Data, Steps, Prints, Finished}
+use Rattle.coll_lang.specs.declared.stage.Stage.TheVariants.{Header, Ranks, Options, Groups, Inputs, Data, Steps, Choosing, Prints, Finished}
 use Rattle.coll_lang.specs.declared.fault.Refusal.{Refusal}
-use Rattle.coll_lang.specs.declared.fault.Refusal.TheVariants.{TooLong, BadByte, BadHeader, BadRanks, BadLine, BadNumber, NameTaken, UnknownBuffer, BadRoot, WrongShape, TooMany, TooLarge, Unended, AfterEnd}
+use Rattle.coll_lang.specs.declared.fault.Refusal.TheVariants.{TooLong, BadByte, BadHeader, BadRanks, BadLine, BadNumber, NameTaken, UnknownBuffer, BadRoot, WrongShape, TooMany, TooLarge, Unended, AfterEnd, BadGroup}
 
 -- What the earlier lines say.
 pub record Past : Type 0 where
   pub stage : Stage
+  pub version : Version
   pub ranks : ℕ
   pub remote : Bool
+  pub groups : List Group
+  -- the inputs first; also what the steps of a choice text make
   pub buffers : List Buffer
   -- how many of the buffers are inputs
   pub inputs : ℕ
   -- the bytes of each data line
   pub given : List (List ℕ)
   pub steps : List CollStep
+  -- for each step the number of the group that it names
+  pub on : List (Option ℕ)
+  -- the steps of a choice text
+  pub choices : List ChoiceStep
   -- the numbers of the buffers that are printed
   pub prints : List ℕ
   -- the elements of all prints, over all ranks
   pub printed : ℕ
 
 abbrev pub nothing : Past
-nothing = record { stage = Version; ranks = 1; remote = false; buffers = []; inputs = 0; given = []; steps = []; prints = []; printed = 0 }
+nothing = record {
+  stage = Header;
+  version = One;
+  ranks = 1;
+  remote = false;
+  groups = [];
+  buffers = [];
+  inputs = 0;
+  given = [];
+  steps = [];
+  on = [];
+  choices = [];
+  prints = [];
+  printed = 0;
+}
 
 infixl 10 ◌>>=◌
 abbrev pub ◌>>=◌ : {A B : Type 0} → Result A Refusal → (A → Result B Refusal) → Result B Refusal
@@ -53,98 +83,223 @@ abbrev pub or_refuse : {A : Type 0} → Refusal → Option A → Result A Refusa
 or_refuse name None = Err name
 or_refuse name (Some x) = Ok x
 
+-- a test of a value, where there is one
+abbrev pub holds_of : {A : Type 0} → (A → Bool) → Option A → Bool
+holds_of p None = false
+holds_of p (Some x) = p x
+
 -- LF alone is allowed beside these, and stands in no line
 abbrev pub is_allowed : ℕ → Bool
 is_allowed b = nat_le 32 b && nat_le b 126
 
-abbrev pub most_elements : ℕ
-most_elements = 16777216
+-- `coll 1` or `coll 2`
+abbrev pub version_of : List ℕ → Option Version
+version_of line = if bytes_eq line (codes "coll 1") then Some One else if bytes_eq line (codes "coll 2") then Some Two else None
 
 -- `ranks N`
-unfoldable pub ranks_in : List (List ℕ) → Option ℕ
-ranks_in [] = None
-ranks_in (key ∷ []) = None
-ranks_in (key ∷ n ∷ []) = if bytes_eq key (codes "ranks") then number_between 1 64 n else None
-ranks_in (key ∷ n ∷ w ∷ ws) = None
+unfoldable pub ranks_in : ℕ → List (List ℕ) → Option ℕ
+ranks_in most [] = None
+ranks_in most (key ∷ []) = None
+ranks_in most (key ∷ n ∷ []) = if bytes_eq key (codes "ranks") then number_between 1 most n else None
+ranks_in most (key ∷ n ∷ w ∷ ws) = None
+
+-- ---- where a line may stand
+
+abbrev pub stands_in : Version → Version → Bool
+stands_in One version = true
+stands_in Two One = false
+stands_in Two Two = true
+
+-- the version from which on there are such lines
+abbrev pub form_since : Form → Version
+form_since (group name members) = Two
+form_since (step None words) = kind_since words.kind
+form_since (step (Some name) words) = Two
+form_since (choice kind name) = Two
+form_since _ = One
 
 -- whether such a line may stand at this stage
-abbrev pub may_stand : Stage → Form → Bool
-may_stand Options _ = true
-may_stand Inputs complete = false
-may_stand Inputs _ = true
-may_stand Steps complete = false
-may_stand Steps (input name ty count) = false
-may_stand Steps _ = true
-may_stand Prints (print name) = true
-may_stand Prints last = true
-may_stand Prints _ = false
-may_stand _ _ = false
+abbrev pub stands_at : Stage → Form → Bool
+stands_at Options _ = true
+stands_at Groups complete = false
+stands_at Groups (choice kind name) = false
+stands_at Groups _ = true
+stands_at Inputs complete = false
+stands_at Inputs (group name members) = false
+stands_at Inputs (choice kind name) = false
+stands_at Inputs _ = true
+stands_at Steps (step on words) = true
+stands_at Steps (print name) = true
+stands_at Steps last = true
+stands_at Steps _ = false
+stands_at Choosing (choice kind name) = true
+stands_at Choosing (print name) = true
+stands_at Choosing last = true
+stands_at Choosing _ = false
+stands_at Prints (print name) = true
+stands_at Prints last = true
+stands_at Prints _ = false
+stands_at _ _ = false
+
+abbrev pub may_stand : Version → Stage → Form → Bool
+may_stand version stage form = stands_in (form_since form) version && stands_at stage form
+
+-- ---- names
+
+-- the number of the group of that name
+abbrev pub group_number : List Group → List ℕ → Option ℕ
+group_number groups name = position (λ (g : Group). bytes_eq g.name name) groups
 
 -- the number of the buffer of that name
 abbrev pub buffer_number : List Buffer → List ℕ → Option ℕ
 buffer_number buffers name = position (λ (b : Buffer). bytes_eq b.name name) buffers
 
--- the number, the type and the spread of the buffer of that name
-unfoldable pub buffer_named : List Buffer → List ℕ → Option (ℕ × ElemType × Spread)
-buffer_named buffers name = option_and_then (λ i. option_map (λ (b : Buffer). (i, b.ty, b.spread)) (slice_get buffers i)) (buffer_number buffers name)
+-- the buffer of that name, with its number
+unfoldable pub buffer_named : List Buffer → List ℕ → Option (ℕ × Buffer)
+buffer_named buffers name = option_and_then (λ i. option_map (λ (b : Buffer). (i, b)) (slice_get buffers i)) (buffer_number buffers name)
 
-abbrev pub is_taken : List Buffer → List ℕ → Bool
-is_taken buffers name = is_some (buffer_number buffers name)
+-- a group or a buffer has the name
+abbrev pub is_taken : Past → List ℕ → Bool
+is_taken past name = is_some (group_number past.groups name) || is_some (buffer_number past.buffers name)
 
--- the rank that the word is: none where it is N or greater. A step without a root has rank 0 in its place.
-abbrev pub rank_of : ℕ → Option (List ℕ) → Result (Option ℕ) Refusal
-rank_of ranks None = Ok (Some 0)
-rank_of ranks (Some word) = or_refuse BadNumber (number_of word) >>= λ n. Ok (if nat_lt n ranks then Some n else None)
+-- ---- groups
+
+-- the numbers that the words are, if each is one
+abbrev pub all_numbers : List (List ℕ) → Option (List ℕ)
+all_numbers [] = Some []
+all_numbers (w ∷ ws) = option_and_then (λ n. option_map (λ ns. n ∷ ns) (all_numbers ws)) (number_of w)
+
+abbrev pub is_rising : List ℕ → Bool
+is_rising [] = true
+is_rising (m ∷ []) = true
+is_rising (m ∷ n ∷ ns) = nat_lt m n && is_rising (n ∷ ns)
+
+-- ranks, rising, at least one
+abbrev pub are_members : ℕ → List ℕ → Bool
+are_members ranks ms = (list_all (λ m. nat_lt m ranks) ms && is_rising ms) && nat_lt 0 (length ms)
+
+unfoldable pub group_line : Past → List ℕ → List (List ℕ) → Result Past Refusal
+group_line past name members = do
+  ms ← or_refuse BadNumber (all_numbers members)
+  _ ← refuse (is_taken past name) NameTaken
+  _ ← refuse (nat_le 64 (length past.groups)) TooMany
+  _ ← refuse (not (are_members past.ranks ms)) BadGroup
+  Ok (record past { stage = Groups; groups = past.groups ++ record { name = name; members = ms } ∷ [] })
+
+-- ---- inputs
 
 -- the stage where this many data lines are still due
 abbrev pub data_due : ℕ → ElemType → ℕ → Stage
 data_due zero ty count = Inputs
 data_due (suc left) ty count = Data (suc left) ty count
 
+-- an input is held by all ranks
+abbrev pub input_buffer : ℕ → List ℕ → ElemType → ℕ → Buffer
+input_buffer ranks name ty count = record { name = name; ty = ty; spread = record { length = count; holders = from_to 0 ranks } }
+
 unfoldable pub input_line : Past → List ℕ → ElemType → List ℕ → Result Past Refusal
 input_line past name ty count = do
   len ← or_refuse BadNumber (number_between 1 4096 count)
-  _ ← refuse (is_taken past.buffers name) NameTaken
+  _ ← refuse (is_taken past name) NameTaken
   _ ← refuse (nat_le 128 (length past.buffers)) TooMany
-  Ok (record past { stage = data_due past.ranks ty len; buffers = past.buffers ++ record { name = name; ty = ty; spread = Even len } ∷ []; inputs = past.inputs + 1 })
-
-unfoldable pub barrier_line : Past → Result Past Refusal
-barrier_line past = do
-  _ ← refuse (nat_le 64 (length past.steps)) TooMany
-  Ok (record past { stage = Steps; steps = past.steps ++ Barrier ∷ [] })
-
-unfoldable pub step_line : Past → Option (List ℕ) → StepKind → List ℕ → List ℕ → Result Past Refusal
-step_line past root kind a b = do
-  rank ← rank_of past.ranks root
-  _ ← refuse (is_taken past.buffers b) NameTaken
-  from ← or_refuse UnknownBuffer (buffer_named past.buffers a)
-  root ← or_refuse BadRoot rank
-  spread ← or_refuse WrongShape (spread_after past.ranks (step_of kind root from.0 (length past.buffers)) from.2)
-  _ ← refuse (nat_le 64 (length past.steps)) TooMany
-  _ ← refuse (nat_le 128 (length past.buffers)) TooMany
-  _ ← refuse (nat_lt most_elements (length_of spread)) TooLarge
   Ok (record past {
-    stage = Steps;
-    buffers = past.buffers ++ record { name = b; ty = from.1; spread = spread } ∷ [];
-    steps = past.steps ++ step_of kind root from.0 (length past.buffers) ∷ [];
+    stage = data_due past.ranks ty len;
+    buffers = past.buffers ++ input_buffer past.ranks name ty len ∷ [];
+    inputs = past.inputs + 1;
   })
 
--- with the most elements that all prints together may have
-unfoldable pub print_line : ℕ → Past → List ℕ → Result Past Refusal
-print_line most past name = do
+-- ---- steps
+
+-- the number that ROOT is; 0 where the step takes none
+abbrev pub root_number : Option (List ℕ) → Option ℕ
+root_number None = Some 0
+root_number (Some word) = number_of word
+
+-- A with its number, where B's name is new; of a step without buffers no buffer
+unfoldable pub source_named : Past → Option (List ℕ × List ℕ) → Result (ℕ × Buffer) Refusal
+source_named past None = Ok (0, no_buffer)
+source_named past (Some names) =
+    refuse (is_taken past names.1) NameTaken >>= λ _. or_refuse UnknownBuffer (buffer_named past.buffers names.0)
+
+-- the number of the group that a step names, if there is such a group
+abbrev pub group_named : List Group → Option (List ℕ) → Option (Option ℕ)
+group_named groups None = Some None
+group_named groups (Some name) = option_map (λ i. Some i) (group_number groups name)
+
+abbrev pub members_in : Past → Option ℕ → List ℕ
+members_in past on = members_of (from_to 0 past.ranks) past.groups on
+
+-- B, of a step on the members g that reads x
+abbrev pub new_buffer : List ℕ → CollStep → Buffer → List ℕ → Buffer
+new_buffer g s x name = record { name = name; ty = x.ty; spread = record { length = made_length g s x; holders = made_holders g s } }
+
+abbrev pub with_made : List Buffer → List ℕ → CollStep → Buffer → Option (List ℕ × List ℕ) → List Buffer
+with_made buffers g s x None = buffers
+with_made buffers g s x (Some names) = buffers ++ new_buffer g s x names.1 ∷ []
+
+-- A step with that root, from a buffer with its number, on the group that was found, if one was. The refusals stand in the
+-- order of their numbers.
+unfoldable pub step_on : Past → StepWords → ℕ → ℕ × Buffer → Option (Option ℕ) → Result Past Refusal
+step_on past words root from found =
+    let s = step_of words.kind root words.op from.0 (length past.buffers) in do
+      _ ← refuse (holds_of (λ on. nat_le (length (members_in past on)) root) found) BadRoot
+      _ ← refuse (holds_of (λ on. not (can_read (members_in past on) s from.1)) found) WrongShape
+      _ ← refuse (nat_le 64 (length past.steps) || (is_some words.names && nat_le 128 (length past.buffers))) TooMany
+      _ ← refuse (holds_of (λ on. nat_lt most_elements (made_length (members_in past on) s from.1)) found) TooLarge
+      on ← or_refuse BadGroup found
+      Ok (record past {
+        stage = Steps;
+        buffers = with_made past.buffers (members_in past on) s from.1 words.names;
+        steps = past.steps ++ s ∷ [];
+        on = past.on ++ on ∷ [];
+      })
+
+unfoldable pub rooted_line : Past → Option (List ℕ) → StepWords → ℕ → Result Past Refusal
+rooted_line past on words root = source_named past words.names >>= λ from. step_on past words root from (group_named past.groups on)
+
+unfoldable pub step_line : Past → Option (List ℕ) → StepWords → Result Past Refusal
+step_line past on words = or_refuse BadNumber (root_number words.root) >>= λ root. rooted_line past on words root
+
+-- ---- choice texts
+
+abbrev pub choice_step : ChoiceKind → List ℕ → ChoiceStep
+choice_step kinds.Elect name = Elect name
+choice_step kinds.Tickets name = Tickets name
+
+-- what a choice step makes: one element at every rank, whose type no rule looks at
+abbrev pub choice_buffer : ℕ → List ℕ → Buffer
+choice_buffer ranks name = input_buffer ranks name U64 1
+
+unfoldable pub choice_line : Past → ChoiceKind → List ℕ → Result Past Refusal
+choice_line past kind name = do
+  _ ← refuse (is_taken past name) NameTaken
+  _ ← refuse (nat_le 64 (length past.choices) || nat_le 128 (length past.buffers)) TooMany
+  Ok (record past {
+    stage = Choosing;
+    buffers = past.buffers ++ choice_buffer past.ranks name ∷ [];
+    choices = past.choices ++ choice_step kind name ∷ [];
+  })
+
+-- ---- prints
+
+unfoldable pub print_line : Past → List ℕ → Result Past Refusal
+print_line past name = do
   from ← or_refuse UnknownBuffer (buffer_named past.buffers name)
   _ ← refuse (nat_le 128 (length past.prints)) TooMany
-  _ ← refuse (nat_lt most (past.printed + elements_of past.ranks from.2)) TooLarge
-  Ok (record past { stage = Prints; prints = past.prints ++ from.0 ∷ []; printed = past.printed + elements_of past.ranks from.2 })
+  _ ← refuse (nat_lt most_elements (past.printed + elements_of from.1)) TooLarge
+  Ok (record past { stage = Prints; prints = past.prints ++ from.0 ∷ []; printed = past.printed + elements_of from.1 })
+
+-- ---- lines
 
 -- a line behind the first two that may stand where it does
-unfoldable pub form_line : ℕ → Past → Form → Result Past Refusal
-form_line most past complete = Ok (record past { stage = Inputs; remote = true })
-form_line most past (input name ty count) = input_line past name ty count
-form_line most past barrier = barrier_line past
-form_line most past (step root kind a b) = step_line past root kind a b
-form_line most past (print name) = print_line most past name
-form_line most past last = Ok (record past { stage = Finished })
+unfoldable pub form_line : Past → Form → Result Past Refusal
+form_line past complete = Ok (record past { stage = Groups; remote = true })
+form_line past (group name members) = group_line past name members
+form_line past (input name ty count) = input_line past name ty count
+form_line past (step on words) = step_line past on words
+form_line past (choice kind name) = choice_line past kind name
+form_line past (print name) = print_line past name
+form_line past last = Ok (record past { stage = Finished })
 
 -- a flaw of a data line as a refusal
 abbrev pub unless_flawed : Result (List ℕ) Flaw → Result (List ℕ) Refusal
@@ -157,27 +312,29 @@ values_line past left ty count line = do
   bytes ← unless_flawed (data_line ty count (words line))
   Ok (record past { stage = data_due (left - 1) ty count; given = past.given ++ bytes ∷ [] })
 
-unfoldable pub later_line : ℕ → Past → List ℕ → Result Past Refusal
-later_line most past line = do
+unfoldable pub later_line : Past → List ℕ → Result Past Refusal
+later_line past line = do
   form ← or_refuse BadLine (form_of (words line))
-  _ ← refuse (not (may_stand past.stage form)) BadLine
-  form_line most past form
+  _ ← refuse (not (may_stand past.version past.stage form)) BadLine
+  form_line past form
 
 -- what a line of allowed bytes is at this stage
-unfoldable pub line_at : ℕ → Stage → Past → List ℕ → Result Past Refusal
-line_at most Version past line = if bytes_eq line (codes "coll 1") then Ok (record past { stage = Ranks }) else Err BadHeader
-line_at most Ranks past line = or_refuse BadRanks (ranks_in (words line)) >>= λ n. Ok (record past { stage = Options; ranks = n })
-line_at most (Data left ty count) past line = values_line past left ty count line
-line_at most Options past line = later_line most past line
-line_at most Inputs past line = later_line most past line
-line_at most Steps past line = later_line most past line
-line_at most Prints past line = later_line most past line
-line_at most Finished past line = Err AfterEnd
+unfoldable pub line_at : Stage → Past → List ℕ → Result Past Refusal
+line_at Header past line = or_refuse BadHeader (version_of line) >>= λ v. Ok (record past { stage = Ranks; version = v })
+line_at Ranks past line =
+    or_refuse BadRanks (ranks_in (most_ranks past.version) (words line)) >>= λ n. Ok (record past { stage = Options; ranks = n })
+line_at (Data left ty count) past line = values_line past left ty count line
+line_at Options past line = later_line past line
+line_at Groups past line = later_line past line
+line_at Inputs past line = later_line past line
+line_at Steps past line = later_line past line
+line_at Choosing past line = later_line past line
+line_at Prints past line = later_line past line
+line_at Finished past line = Err AfterEnd
 
--- A line, judged by the lines before it: what they all say together, or the refusal. All prints together may have `most`
--- elements.
-unfoldable pub judge : ℕ → Past → List ℕ → Result Past Refusal
-judge most past line = if list_all is_allowed line then line_at most past.stage past line else Err BadByte
+-- a line, judged by the lines before it: what they all say together, or the refusal
+unfoldable pub judge : Past → List ℕ → Result Past Refusal
+judge past line = if list_all is_allowed line then line_at past.stage past line else Err BadByte
 
 abbrev pub is_finished : Stage → Bool
 is_finished Finished = true
@@ -188,34 +345,62 @@ abbrev pub numbered : {A B : Type 0} → ℕ → Result A Refusal → (A → Res
 numbered line (Ok x) f = f x
 numbered line (Err name) f = Err (line, name)
 
--- The pieces of a text from line k on, each line judged so. No LF stands behind the last piece. Bytes behind the last
--- line are refused so.
-unfoldable pub read_from : (Past → List ℕ → Result Past Refusal) → Refusal → Past → ℕ → List (List ℕ) → Result Past (ℕ × Refusal)
-read_from judged after past k [] = Err (k, Unended)
-read_from judged after past k (piece ∷ []) = if is_finished past.stage then (if is_empty piece then Ok past else Err (k, after)) else Err (k, Unended)
-read_from judged after past k (line ∷ piece ∷ pieces) =
-    if is_finished past.stage then Err (k, after)
-    else numbered k (judged past line) (λ next. read_from judged after next (k + 1) (piece ∷ pieces))
+-- The pieces of a text from line k on. No LF stands behind the last piece.
+unfoldable pub read_from : Past → ℕ → List (List ℕ) → Result Past (ℕ × Refusal)
+read_from past k [] = Err (k, Unended)
+read_from past k (piece ∷ []) = if is_finished past.stage then (if is_empty piece then Ok past else Err (k, AfterEnd)) else Err (k, Unended)
+read_from past k (line ∷ piece ∷ pieces) =
+    if is_finished past.stage then Err (k, AfterEnd)
+    else numbered k (judge past line) (λ next. read_from next (k + 1) (piece ∷ pieces))
 
--- what all lines together describe
-abbrev pub described : Past → Program
-described past = record {
-  shape = record { ranks = past.ranks; remote = past.remote; buffers = past.buffers; inputs = past.inputs; steps = past.steps; prints = past.prints };
-  inputs = record { ranks = past.ranks; inputs = past.inputs; lists = past.given };
+-- ---- what all lines together describe
+
+abbrev pub plain : Past → Program
+plain past = record {
+  shape = record {
+    version = past.version;
+    ranks = past.ranks;
+    remote = past.remote;
+    groups = past.groups;
+    buffers = past.buffers;
+    inputs = past.inputs;
+    steps = past.steps;
+    on = past.on;
+    prints = past.prints;
+  };
+  inputs = in_rows past.ranks past.inputs past.given;
+  choices = None;
 }
+
+-- A choice text: its shape has its ranks alone. (Nothing else can have been said, since its first step stands on line 3.)
+abbrev pub chosen : Version → ℕ → Chosen → Program
+chosen version ranks choices = record {
+  shape = record {
+    version = version;
+    ranks = ranks;
+    remote = false;
+    groups = [];
+    buffers = [];
+    inputs = 0;
+    steps = [];
+    on = [];
+    prints = [];
+  };
+  inputs = [];
+  choices = Some choices;
+}
+
+abbrev pub described_by : Past → List ChoiceStep → Program
+described_by past [] = plain past
+described_by past (c ∷ cs) = chosen past.version past.ranks (record { steps = c ∷ cs; prints = past.prints })
+
+unfoldable pub described : Past → Program
+described past = described_by past past.choices
 
 abbrev pub program_in : Result Past (ℕ × Refusal) → Result Program (ℕ × Refusal)
 program_in (Ok past) = Ok (described past)
 program_in (Err refusal) = Err refusal
 
--- a text of at most a mebibyte, read line by line
-unfoldable pub read_by : (Past → List ℕ → Result Past Refusal) → Refusal → List ℕ → Result Program (ℕ × Refusal)
-read_by judged after bytes = if nat_lt 1048576 (length bytes) then Err (0, TooLong) else program_in (read_from judged after nothing 1 (lines bytes))
-
--- with the most elements that all prints together may have
-abbrev pub read_up_to : ℕ → List ℕ → Result Program (ℕ × Refusal)
-read_up_to most = read_by (judge most) AfterEnd
-
--- What a text describes, or its first refusal with its line.
-abbrev pub read : List ℕ → Result Program (ℕ × Refusal)
-read = read_up_to most_elements
+-- What a text of at most a mebibyte describes, or its first refusal with its line.
+unfoldable pub read : List ℕ → Result Program (ℕ × Refusal)
+read bytes = if nat_lt 1048576 (length bytes) then Err (0, TooLong) else program_in (read_from nothing 1 (lines bytes))

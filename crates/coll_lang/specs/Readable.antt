@@ -1,31 +1,55 @@
 -- Which descriptions are read from their text.
-use Rattle.std.specs.Prelude.{◌≡◌, ◌≤◌, ◌↔◌, ℕ, List, length, Ok}
-use Rattle.std.specs.List.{sum_by}
-use Rattle.coll_lang.specs.Outline.{Program, spread_at}
-use Rattle.coll_lang.specs.Steps.{elements_of}
-use Rattle.coll_lang.specs.Language.{read_up_to}
-use Rattle.coll_lang.specs.FirstForm.{all_prints}
-use Rattle.coll_lang.specs.Spelling.{text}
-use Rattle.coll_lang.specs.WellFormed.{IsWellFormed, IsWellGiven}
-use Rattle.coll_lang.specs.Accepted.{IsAccepted}
-use Rattle.coll_lang.specs.declared.types.Buffer.{Buffer}
+use Rattle.std.specs.Prelude.{◌≡◌, ◌≤◌, ◌<◌, ◌↔◌, ℕ, List, length, get_or, Option, Some, None, Ok, Bool, true, false}
+use Rattle.coll_text.specs.Text.{is_name}
+use Rattle.coll_shape.specs.declared.types.Version.{Version}
+use Rattle.coll_shape.specs.declared.types.Version.TheVariants.{One, Two}
+use Rattle.coll_shape.specs.Outline.{Outline}
+use Rattle.coll_shape.specs.WellFormed.{IsWellFormed}
+use Rattle.coll_shape.specs.Meaning.{AreInputs}
+use Rattle.coll_lang.specs.Program.{Chosen, Program}
+use Rattle.coll_lang.specs.Language.{read}
+use Rattle.coll_lang.specs.Spelling.{text, choice_name, no_choice}
 
--- the elements that are printed, over all ranks
-abbrev pub printed_in : ℕ → List Buffer → List ℕ → ℕ
-printed_in ranks bs prints = sum_by (λ i. elements_of ranks (spread_at bs i)) prints
+-- the name of a choice step by its number
+abbrev pub chosen_name : Chosen → ℕ → List ℕ
+chosen_name c i = choice_name (get_or c.steps i no_choice)
 
--- well formed, with the values that the shape asks, with at most so many printed elements, and not too long
-pub record IsReadable (most : ℕ) (d : Program) : Type 0 where
+abbrev pub is_two : Version → Bool
+is_two One = false
+is_two Two = true
+
+-- the steps and prints of a choice text
+pub record AreChoices (c : Chosen) : Type 0 where
+  pub some : 1 ≤ length c.steps
+  pub few : length c.steps ≤ 64
+  pub few_prints : length c.prints ≤ 128
+  pub spelled : (i : ℕ) → i < length c.steps → is_name (chosen_name c i) ≡ true
+  pub distinct : (i j : ℕ) → i < length c.steps → j < length c.steps → chosen_name c i ≡ chosen_name c j → i ≡ j
+  pub printed : (i : ℕ) → i < length c.prints → get_or c.prints i 0 < length c.steps
+
+-- version 2, ranks, and nothing else
+pub record IsBare (o : Outline) : Type 0 where
+  pub version : is_two o.version ≡ true
+  pub remote : o.remote ≡ false
+  pub groups : length o.groups ≡ 0
+  pub buffers : length o.buffers ≡ 0
+  pub inputs : o.inputs ≡ 0
+  pub steps : length o.steps ≡ 0
+  pub on : length o.on ≡ 0
+  pub prints : length o.prints ≡ 0
+
+-- a choice text says its choices, and nothing else
+abbrev pub FitsChoices : Outline → Option Chosen → Type 0
+FitsChoices o None = Unit {0}
+FitsChoices o (Some c) = AreChoices c × IsBare o
+
+-- well formed, with the values that the shape asks, and not too long
+pub record IsReadable (d : Program) : Type 0 where
   pub formed : IsWellFormed d.shape
-  pub given : IsWellGiven d
-  pub few_printed : printed_in d.shape.ranks d.shape.buffers d.shape.prints ≤ most
+  pub given : AreInputs d.shape d.inputs
+  pub choices : FitsChoices d.shape d.choices
   pub short : length (text d) ≤ 1048576
 
--- A text is read as a description exactly where the description is readable and the text is its one spelling, with
--- whatever limit on printed elements.
+-- a text is read as a description exactly where the description is readable and the text is its one spelling
 abbrev pub ReadsExactly : Type 0
-ReadsExactly = (most : ℕ) (bytes : List ℕ) (d : Program) → (read_up_to most bytes ≡ Ok d) ↔ (IsReadable most d × (bytes ≡ text d))
-
--- what is accepted is readable, with the higher of the two limits on printed elements
-abbrev pub AcceptedIsReadable : Type 0
-AcceptedIsReadable = (d : Program) → IsAccepted d → IsReadable all_prints d
+ReadsExactly = (bytes : List ℕ) (d : Program) → (read bytes ≡ Ok d) ↔ (IsReadable d × (bytes ≡ text d))

@@ -1,11 +1,15 @@
--- The words of the language, as they are written.
+-- The words of the language, as they are written. The words of steps stand in their rows.
 use Rattle.std.specs.Prelude.{ℕ, List, codes}
 use Rattle.ptl_types.specs.declared.elements.ElemType.{ElemType}
 use Rattle.ptl_types.specs.declared.elements.ElemType.TheVariants as types
 use Rattle.ptl_types.specs.declared.elements.AtomicOp.{AtomicOp}
 use Rattle.ptl_types.specs.declared.elements.AtomicOp.TheVariants as ops
+use Rattle.coll_shape.specs.declared.types.Version.{Version}
+use Rattle.coll_shape.specs.declared.types.Version.TheVariants as versions
+use Rattle.coll_lang.specs.declared.choices.ChoiceKind.{ChoiceKind}
+use Rattle.coll_lang.specs.declared.choices.ChoiceKind.TheVariants as choices
 use Rattle.coll_lang.specs.declared.fault.Refusal.{Refusal}
-use Rattle.coll_lang.specs.declared.fault.Refusal.TheVariants.{TooLong, BadByte, BadHeader, BadRanks, BadLine, BadNumber, NameTaken, UnknownBuffer, BadRoot, WrongShape, TooMany, TooLarge, Unended, AfterEnd, BadOrder}
+use Rattle.coll_lang.specs.declared.fault.Refusal.TheVariants.{TooLong, BadByte, BadHeader, BadRanks, BadLine, BadNumber, NameTaken, UnknownBuffer, BadRoot, WrongShape, TooMany, TooLarge, Unended, AfterEnd, BadOrder, BadGroup, BadJson, BadForm, OneThread}
 
 abbrev pub refusal_word : Refusal → List ℕ
 refusal_word TooLong = codes "TooLong"
@@ -23,6 +27,32 @@ refusal_word TooLarge = codes "TooLarge"
 refusal_word Unended = codes "Unended"
 refusal_word AfterEnd = codes "AfterEnd"
 refusal_word BadOrder = codes "BadOrder"
+refusal_word BadGroup = codes "BadGroup"
+refusal_word BadJson = codes "BadJson"
+refusal_word BadForm = codes "BadForm"
+refusal_word OneThread = codes "OneThread"
+
+-- on one line the lowest number counts
+abbrev pub refusal_number : Refusal → ℕ
+refusal_number TooLong = 1
+refusal_number BadByte = 2
+refusal_number BadHeader = 3
+refusal_number BadRanks = 4
+refusal_number BadLine = 5
+refusal_number BadNumber = 6
+refusal_number NameTaken = 7
+refusal_number UnknownBuffer = 8
+refusal_number BadRoot = 9
+refusal_number WrongShape = 10
+refusal_number TooMany = 11
+refusal_number TooLarge = 12
+refusal_number Unended = 13
+refusal_number AfterEnd = 14
+refusal_number BadOrder = 15
+refusal_number BadGroup = 16
+refusal_number BadJson = 17
+refusal_number BadForm = 18
+refusal_number OneThread = 19
 
 abbrev pub type_word : ElemType → List ℕ
 type_word types.U8 = codes "u8"
@@ -45,3 +75,11 @@ op_word ops.Bor = codes "bor"
 op_word ops.Band = codes "band"
 op_word ops.Lxor = codes "lxor"
 op_word ops.Bxor = codes "bxor"
+
+abbrev pub version_word : Version → List ℕ
+version_word versions.One = codes "1"
+version_word versions.Two = codes "2"
+
+abbrev pub choice_word : ChoiceKind → List ℕ
+choice_word choices.Elect = codes "elect"
+choice_word choices.Tickets = codes "tickets"

@@ -1,36 +1,36 @@
 //! Why a text is refused.
 
 ghost use Rattle.std.specs.Prelude.{◌≡◌};
-ghost use Rattle.coll_lang.specs.Words.{refusal_word};
+ghost use Rattle.coll_lang.specs.Words.{refusal_number, refusal_word};
 ghost use Rattle.coll_lang.specs.declared.fault.LineFault.TheVariants.{NoMemory, Refused};
 ghost use Rattle.coll_lang.specs.declared.fault.ParseFault.TheVariants as faults;
 
 use std::alloc::{AllocError, AllocFailed};
 
-/// Why a text is refused. On one line the first of these that holds counts.
+/// Why a text is refused, or a description under a command. On one line the lowest number that holds counts.
 #[derive(Clone, Copy, Debug, PartialEq, Eq)]
 pub enum Refusal {
     /// The text has more than 1,048,576 bytes.
     TooLong,
     /// The line holds a byte that isn't allowed: one below 0x20 or above 0x7E.
     BadByte,
-    /// Line 1 isn't `coll 1`.
+    /// Line 1 is neither `coll 1` nor `coll 2`.
     BadHeader,
-    /// Line 2 isn't `ranks N` with N from 1 to 64.
+    /// Line 2 isn't `ranks N` with N from 1 to 64, in version 2 to 256.
     BadRanks,
     /// The line's first word may not stand here, or its words are too few, too many, empty or of the wrong kind.
     BadLine,
-    /// COUNT isn't from 1 to 4096, ROOT isn't a number, or a value isn't one of its type.
+    /// COUNT isn't from 1 to 4096, ROOT or a member isn't a number, or a value isn't one of its type.
     BadNumber,
-    /// The new name is a buffer already.
+    /// The new name is that of a buffer or a group already.
     NameTaken,
     /// The name that is read or printed is no buffer.
     UnknownBuffer,
-    /// ROOT is N or greater.
+    /// ROOT is no place of the group.
     BadRoot,
     /// The buffer that the step reads hasn't the shape that the step needs.
     WrongShape,
-    /// This is the 65th step, the 129th buffer or the 129th print.
+    /// This is the 65th step, the 129th buffer, the 129th print or the 65th group.
     TooMany,
     /// The new buffer has more than 16,777,216 elements at some rank, or the prints so far have more over all ranks.
     TooLarge,
@@ -40,9 +40,44 @@ pub enum Refusal {
     AfterEnd,
     /// An order line is malformed.
     BadOrder,
+    /// A member is no rank, or the members don't rise, or the word behind `on` is no group.
+    BadGroup,
+    /// The bytes aren't JSON.
+    BadJson,
+    /// The JSON doesn't have the form of a description.
+    BadForm,
+    /// A choice text is run on one thread alone.
+    OneThread,
 }
 
 impl Refusal {
+    /// The number, from 1 on.
+    pub fn number(&self) -> u32
+        ensures told { result ≡ refusal_number self.now }
+    {
+        match self {
+            Refusal::TooLong => 1,
+            Refusal::BadByte => 2,
+            Refusal::BadHeader => 3,
+            Refusal::BadRanks => 4,
+            Refusal::BadLine => 5,
+            Refusal::BadNumber => 6,
+            Refusal::NameTaken => 7,
+            Refusal::UnknownBuffer => 8,
+            Refusal::BadRoot => 9,
+            Refusal::WrongShape => 10,
+            Refusal::TooMany => 11,
+            Refusal::TooLarge => 12,
+            Refusal::Unended => 13,
+            Refusal::AfterEnd => 14,
+            Refusal::BadOrder => 15,
+            Refusal::BadGroup => 16,
+            Refusal::BadJson => 17,
+            Refusal::BadForm => 18,
+            Refusal::OneThread => 19,
+        }
+    }
+
     /// The name as it is written into a refusal's line.
     pub fn word(&self) -> &'static str
         ensures told { result.now ≡ refusal_word self.now }
@@ -63,6 +98,10 @@ impl Refusal {
             Refusal::Unended => "Unended",
             Refusal::AfterEnd => "AfterEnd",
             Refusal::BadOrder => "BadOrder",
+            Refusal::BadGroup => "BadGroup",
+            Refusal::BadJson => "BadJson",
+            Refusal::BadForm => "BadForm",
+            Refusal::OneThread => "OneThread",
         }
     }
 }
@@ -97,7 +136,7 @@ impl<T: Drop> From<AllocFailed<T>> for LineFault {
 pub enum ParseFault {
     /// The first refusal of the text.
     Refused {
-        /// The first line that breaks a rule, counted from 1, or 0 where the text is too long.
+        /// The first line that breaks a rule, counted from 1; 0 where no line is to blame, as in a text that is too long.
         line: u32,
         /// The rule.
         name: Refusal,

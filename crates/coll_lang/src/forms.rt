@@ -1,37 +1,28 @@
 //! What a line is by its words.
 
-ghost use Rattle.std.specs.Prelude.{◌≡◌, option_map, IfSome, IfNone, Some, None};
-ghost use Rattle.coll_text.specs.Text.{words};
-ghost use Rattle.coll_lang.specs.Forms.{type_of, op_of, op_in, has_root, kind_in, root_in, names_in, step_in, input_in, print_in, complete_in, form_of, alone};
-ghost use Rattle.coll_lang.specs.Seen.{form, now};
+ghost use Rattle.std.specs.Prelude.{◌≡◌, option_map, not, IfSome, IfNone, Some, None};
+ghost use Rattle.std.specs.List.{list_any};
+ghost use Rattle.coll_text.specs.Text.{words, is_empty};
+ghost use Rattle.coll_lang.specs.Forms.{choice, last, print, step, type_of, op_of, op_in, root_in, names_in, step_in, on_in, group_in, input_in, name_in, complete_in, form_of, alone};
+ghost use Rattle.coll_lang.specs.Seen.{form, now, both_now, step_seen};
 
+use crate::choices::ChoiceKind;
+use coll_shape::StepKind;
 use coll_text::{Words, is, is_name};
 use ptl_types::{AtomicOp, ElemType};
 
-/// What a step does, with its operation.
-#[derive(Clone, Copy, Debug, PartialEq, Eq)]
-pub enum StepKind {
-    /// `broadcast`
-    Broadcast,
-    /// `reduce`
-    Reduce(AtomicOp),
-    /// `allreduce`
-    Allreduce(AtomicOp),
-    /// `gather`
-    Gather,
-    /// `allgather`
-    Allgather,
-    /// `alltoall`
-    Alltoall,
-    /// `scan`
-    Scan(AtomicOp),
-}
-
 /// A line behind the first two. Numbers are still words.
-#[derive(Clone, Copy)]
+#[derive(Drop)]
 pub enum Line<'a> {
     /// `complete remote`
     Complete,
+    /// `group NAME MEMBER ..`
+    Group {
+        /// The new group's name.
+        name: &'a [u8],
+        /// The words of the members, at least one, none of them empty.
+        members: Words<'a>,
+    },
     /// `input NAME TYPE COUNT`
     Input {
         /// The new buffer's name.
@@ -41,27 +32,27 @@ pub enum Line<'a> {
         /// The word of COUNT, which isn't empty.
         count: &'a [u8],
     },
-    /// `barrier`
-    Barrier,
-    /// A step that makes a buffer.
-    Step(StepLine<'a>),
+    /// A step, with the name of its group where it is on one.
+    Step(Option<&'a [u8]>, StepLine<'a>),
+    /// A step of a choice text, with the name of the buffer that it makes.
+    Choice(ChoiceKind, &'a [u8]),
     /// `print NAME`, with the name.
     Print(&'a [u8]),
     /// `end`
     End,
 }
 
-/// A step from buffer a to a new buffer b.
+/// The words of a step.
 #[derive(Clone, Copy)]
 pub struct StepLine<'a> {
-    /// The word of ROOT, which isn't empty, where the kind has one.
-    pub root: Option<&'a [u8]>,
     /// What the step does.
     pub kind: StepKind,
-    /// The name of the buffer that is read.
-    pub a: &'a [u8],
-    /// The name of the buffer that is made.
-    pub b: &'a [u8],
+    /// The word of ROOT, which isn't empty, where the kind takes one.
+    pub root: Option<&'a [u8]>,
+    /// The operation; `sum` where the kind takes none.
+    pub op: AtomicOp,
+    /// The names of the buffer that is read and of the one that is made, where the kind takes them.
+    pub names: Option<(&'a [u8], &'a [u8])>,
 }
 
 /// The type that TYPE names.
@@ -118,53 +109,26 @@ fn op_of(word: &[u8]) -> Option<AtomicOp>
     }
 }
 
-/// OP as the next word.
-fn op_in(words: &mut Words) -> Option<AtomicOp>
-    ensures some { IfSome result (λ op. op_in words.old ≡ Some (op, words.new)) }
-    ensures none { IfNone result (op_in words.old ≡ None) }
+/// OP as the next word, where the kind takes one.
+#[tactic(auto, unfolding(crate::specs::Forms::op_in))]
+fn op_in(is_due: bool, words: &mut Words) -> Option<AtomicOp>
+    ensures some { IfSome result (λ op. op_in is_due words.old ≡ Some (op, words.new)) }
+    ensures none { IfNone result (op_in is_due words.old ≡ None) }
 {
-    op_of(words.next()?)
-}
-
-/// Whether the step of this first word names a root.
-fn has_root(key: &[u8]) -> bool
-    ensures { result ≡ has_root key.now }
-{
-    is(key, b"broadcast") || is(key, b"reduce") || is(key, b"gather")
-}
-
-/// The kind of a step, by its first word and its OP.
-#[tactic(auto, unfolding(crate::specs::Forms::kind_in))]
-fn kind_in(key: &[u8], words: &mut Words) -> Option<StepKind>
-    ensures some { IfSome result (λ kind. kind_in key.now words.old ≡ Some (kind, words.new)) }
-    ensures none { IfNone result (kind_in key.now words.old ≡ None) }
-{
-    if is(key, b"broadcast") {
-        Some(StepKind::Broadcast)
-    } else if is(key, b"reduce") {
-        Some(StepKind::Reduce(op_in(words)?))
-    } else if is(key, b"allreduce") {
-        Some(StepKind::Allreduce(op_in(words)?))
-    } else if is(key, b"gather") {
-        Some(StepKind::Gather)
-    } else if is(key, b"allgather") {
-        Some(StepKind::Allgather)
-    } else if is(key, b"alltoall") {
-        Some(StepKind::Alltoall)
-    } else if is(key, b"scan") {
-        Some(StepKind::Scan(op_in(words)?))
+    if is_due {
+        op_of(words.next()?)
     } else {
-        None
+        Some(AtomicOp::Sum)
     }
 }
 
-/// The word of the root, where the step has one. `None`: it is missing.
+/// The word of the root, where the kind takes one. `None`: it is missing or empty.
 #[tactic(auto, unfolding(crate::specs::Forms::root_in))]
-fn root_in<'a>(key: &[u8], words: &mut Words<'a>) -> Option<Option<&'a [u8]>>
-    ensures some { IfSome result (λ root. root_in key.now words.old ≡ Some (now root, words.new)) }
-    ensures none { IfNone result (root_in key.now words.old ≡ None) }
+fn root_in<'a>(is_due: bool, words: &mut Words<'a>) -> Option<Option<&'a [u8]>>
+    ensures some { IfSome result (λ root. root_in is_due words.old ≡ Some (now root, words.new)) }
+    ensures none { IfNone result (root_in is_due words.old ≡ None) }
 {
-    if !has_root(key) {
+    if !is_due {
         return Some(None);
     }
     let word = words.next()?;
@@ -175,28 +139,85 @@ fn root_in<'a>(key: &[u8], words: &mut Words<'a>) -> Option<Option<&'a [u8]>>
     }
 }
 
-/// A and B, the last two words of a step.
+/// A and B where the kind takes them, and no word more.
 #[tactic(auto, unfolding(crate::specs::Forms::names_in))]
-fn names_in<'a>(mut words: Words<'a>) -> Option<(&'a [u8], &'a [u8])>
-    ensures { option_map (λ names. (names.0.now, names.1.now)) result ≡ names_in words.entry }
+fn names_in<'a>(is_due: bool, mut words: Words<'a>) -> Option<Option<(&'a [u8], &'a [u8])>>
+    ensures { option_map (option_map both_now) result ≡ names_in is_due words.entry }
 {
-    let a = words.next()?;
-    let b = words.next()?;
-    if words.next().is_some() || !is_name(a) || !is_name(b) {
-        return None;
+    if is_due {
+        let a = words.next()?;
+        let b = words.next()?;
+        if words.next().is_some() || !is_name(a) || !is_name(b) {
+            return None;
+        }
+        Some(Some((a, b)))
+    } else if words.next().is_some() {
+        None
+    } else {
+        Some(None)
     }
-    Some((a, b))
 }
 
 /// The words of a step behind its first.
 #[tactic(auto, unfolding(crate::specs::Forms::step_in))]
-fn step_in<'a>(key: &[u8], mut words: Words<'a>) -> Option<Line<'a>>
-    ensures { option_map form result ≡ step_in key.now words.entry }
+fn step_in<'a>(key: &[u8], mut words: Words<'a>) -> Option<StepLine<'a>>
+    ensures { option_map step_seen result ≡ step_in key.now words.entry }
 {
-    let root = root_in(key, &mut words)?;
-    let kind = kind_in(key, &mut words)?;
-    let (a, b) = names_in(words)?;
-    Some(Line::Step(StepLine { root, kind, a, b }))
+    let kind = StepKind::named(key)?;
+    let root = root_in(kind.takes_root(), &mut words)?;
+    let op = op_in(kind.takes_op(), &mut words)?;
+    let names = names_in(kind.takes_buffers(), words)?;
+    Some(StepLine {
+        kind,
+        root,
+        op,
+        names,
+    })
+}
+
+/// A step of all ranks.
+fn plain_step<'a>(key: &[u8], words: Words<'a>) -> Option<Line<'a>>
+    ensures { option_map form result ≡ option_map (step None) (step_in key.now words.entry) }
+{
+    Some(Line::Step(None, step_in(key, words)?))
+}
+
+/// The words behind `on`.
+#[tactic(auto, unfolding(crate::specs::Forms::on_in))]
+fn on_in<'a>(mut words: Words<'a>) -> Option<Line<'a>>
+    ensures { option_map form result ≡ on_in words.entry }
+{
+    let name = words.next()?;
+    let key = words.next()?;
+    if !is_name(name) {
+        return None;
+    }
+    Some(Line::Step(Some(name), step_in(key, words)?))
+}
+
+/// Whether some word is empty.
+fn is_some_empty(mut words: Words) -> bool
+    ensures { result ≡ list_any is_empty words.entry }
+{
+    while let Some(word) = words.next() {
+        if word.is_empty() {
+            return true;
+        }
+    }
+    false
+}
+
+/// The words behind `group`.
+#[tactic(auto, unfolding(crate::specs::Forms::group_in))]
+fn group_in<'a>(mut words: Words<'a>) -> Option<Line<'a>>
+    ensures { option_map form result ≡ group_in words.entry }
+{
+    let name = words.next()?;
+    let members = words.again();
+    if words.next().is_none() || !is_name(name) || is_some_empty(members.again()) {
+        return None;
+    }
+    Some(Line::Group { name, members })
 }
 
 /// The words of an input line behind its first.
@@ -214,18 +235,6 @@ fn input_in<'a>(mut words: Words<'a>) -> Option<Line<'a>>
     Some(Line::Input { name, ty, count })
 }
 
-/// The words of a print behind its first.
-#[tactic(auto, unfolding(crate::specs::Forms::print_in))]
-fn print_in<'a>(mut words: Words<'a>) -> Option<Line<'a>>
-    ensures { option_map form result ≡ print_in words.entry }
-{
-    let name = words.next()?;
-    if words.next().is_some() || !is_name(name) {
-        return None;
-    }
-    Some(Line::Print(name))
-}
-
 /// The word behind `complete`.
 #[tactic(auto, unfolding(crate::specs::Forms::complete_in))]
 fn complete_in<'a>(mut words: Words<'a>) -> Option<Line<'a>>
@@ -238,14 +247,38 @@ fn complete_in<'a>(mut words: Words<'a>) -> Option<Line<'a>>
     Some(Line::Complete)
 }
 
-/// A line of one word.
-fn alone<'a>(line: Line<'a>, mut words: Words<'a>) -> Option<Line<'a>>
-    ensures { option_map form result ≡ alone (form line.entry) words.entry }
+/// A line of one word, `end`.
+fn end_in<'a>(mut words: Words<'a>) -> Option<Line<'a>>
+    ensures { option_map form result ≡ alone last words.entry }
 {
     match words.next() {
-        None => Some(line),
+        None => Some(Line::End),
         Some(_) => None,
     }
+}
+
+/// A line of a print.
+#[tactic(auto, unfolding(crate::specs::Forms::name_in))]
+fn print_in<'a>(mut words: Words<'a>) -> Option<Line<'a>>
+    ensures { option_map form result ≡ name_in print words.entry }
+{
+    let name = words.next()?;
+    if words.next().is_some() || !is_name(name) {
+        return None;
+    }
+    Some(Line::Print(name))
+}
+
+/// A line of a choice step.
+#[tactic(auto, unfolding(crate::specs::Forms::name_in))]
+fn choice_in<'a>(kind: ChoiceKind, mut words: Words<'a>) -> Option<Line<'a>>
+    ensures { option_map form result ≡ name_in (choice kind) words.entry }
+{
+    let name = words.next()?;
+    if words.next().is_some() || !is_name(name) {
+        return None;
+    }
+    Some(Line::Choice(kind, name))
 }
 
 /// What a line is, wherever it stands.
@@ -257,15 +290,21 @@ pub fn line_of(line: &[u8]) -> Option<Line<'_>>
     let key = words.next()?;
     if is(key, b"complete") {
         complete_in(words)
+    } else if is(key, b"group") {
+        group_in(words)
     } else if is(key, b"input") {
         input_in(words)
-    } else if is(key, b"barrier") {
-        alone(Line::Barrier, words)
+    } else if is(key, b"on") {
+        on_in(words)
+    } else if is(key, b"elect") {
+        choice_in(ChoiceKind::Elect, words)
+    } else if is(key, b"tickets") {
+        choice_in(ChoiceKind::Tickets, words)
     } else if is(key, b"print") {
         print_in(words)
     } else if is(key, b"end") {
-        alone(Line::End, words)
+        end_in(words)
     } else {
-        step_in(key, words)
+        plain_step(key, words)
     }
 }

@@ -54,8 +54,8 @@ fn sum_of_all_values(rt: HostRuntime) {
     };
     let (_, inputs) = d.into_parts();
     let mut sum = 0u32;
-    for r in 0..64 {
-        sum = sum.wrapping_add(sum_of(inputs.list(0, r)));
+    for list in inputs.lists() {
+        sum = sum.wrapping_add(sum_of(list.as_slice()));
     }
     assert_eq!(rt; sum, 262_144);
 }

@@ -1,19 +1,19 @@
 //! The description with which large runs are made.
 
-ghost use Rattle.std.specs.Prelude.{◌≡◌, ◌+◌, ◌*◌, ◌<◌, IfOk, map};
+ghost use Rattle.std.specs.Prelude.{◌≡◌, ◌+◌, ◌*◌, ◌<◌, length, vec_len, IfOk, map, Ok};
 ghost use Rattle.std.specs.List.{range_with_len};
 ghost use Rattle.ptl_types.specs.declared.elements.ElemType.TheVariants.{U32};
 ghost use Rattle.coll_text.specs.Elements.{bytes_of_list};
 ghost use Rattle.coll_lang.specs.Language.{described, read};
 ghost use Rattle.coll_lang.specs.Spelling.{text};
 ghost use Rattle.coll_lang.specs.States.{past};
-ghost use Rattle.coll_lang.specs.Generated.{value_at, rank_elements, all_elements, even_words, generated_shape, generated};
+ghost use Rattle.coll_lang.specs.Generated.{value_at, rank_elements, even_words, everyone, generated_shape, generated_lists, generated};
 
 use crate::description::Description;
-use crate::lists::{Name, RankList};
 use crate::reader::Reader;
 use crate::stage::Stage;
-use crate::types::{Buffer, CollStep, Spread};
+use crate::take::all_ranks;
+use coll_shape::{Buffer, CollStep, InputList, Name, RankList, Spread, Version};
 use coll_text::push_value;
 use ptl_types::{AtomicOp, ElemType, NoMemory};
 use std::alloc::{AllocError, Global};
@@ -33,7 +33,7 @@ fn value_at(k: u32, r: u32, i: u32) -> u32
 
 /// The list of rank r.
 #[tactic(auto, using(crate::proofs::GeneratedLists::one_value_more), unfolding(crate::specs::Generated::rank_elements))]
-fn rank_list(alloc: Global, k: u32, r: u32) -> Result<RankList, AllocError>
+fn rank_list(alloc: Global, k: u32, r: u32) -> Result<InputList, AllocError>
     requires number { k < 65536 }
     requires rank { r < 64 }
     ensures { IfOk result (λ list. list ≡ bytes_of_list U32 (rank_elements k r)) }
@@ -42,14 +42,14 @@ fn rank_list(alloc: Global, k: u32, r: u32) -> Result<RankList, AllocError>
     for i in 0..64 {
         push_value(&mut bytes, ElemType::U32, u64::from(value_at(k, r, i)))?;
     }
-    Ok(RankList::of(bytes))
+    Ok(InputList::of(bytes))
 }
 
 /// The lists of all ranks.
 #[tactic(auto, using(crate::proofs::GeneratedLists::one_list_more), unfolding(crate::specs::Generated::all_elements))]
-fn all_lists(alloc: Global, k: u32) -> Result<Vec<RankList>, AllocError>
+fn all_lists(alloc: Global, k: u32) -> Result<Vec<InputList>, AllocError>
     requires { k < 65536 }
-    ensures { IfOk result (λ lists. lists.items ≡ map (bytes_of_list U32) (all_elements k)) }
+    ensures { IfOk result (λ lists. lists.items ≡ generated_lists k) }
 {
     let mut lists = Vec::new(alloc);
     for r in 0..64 {
@@ -58,20 +58,32 @@ fn all_lists(alloc: Global, k: u32) -> Result<Vec<RankList>, AllocError>
     Ok(lists)
 }
 
-/// A buffer of u32, with as many at every rank.
-fn even_words(alloc: Global, name: &[u8], count: u64) -> Result<Buffer, AllocError>
-    ensures { IfOk result (λ buffer. buffer ≡ even_words name.now count) }
+/// All 64 ranks.
+#[tactic(auto, unfolding(crate::specs::Generated::everyone))]
+fn everyone(alloc: Global) -> Result<RankList, AllocError>
+    ensures { IfOk result (λ list. list ≡ everyone) }
+{
+    all_ranks(alloc, 64)
+}
+
+/// A buffer of u32, of which every rank holds as many.
+fn even_words(alloc: Global, name: &[u8], length: u64) -> Result<Buffer, AllocError>
+    ensures { IfOk result (λ buffer. buffer ≡ even_words name.now length) }
 {
     Ok(Buffer {
         name: Name::copied(alloc, name)?,
         ty: ElemType::U32,
-        spread: Spread::Even(count),
+        spread: Spread {
+            length,
+            holders: everyone(alloc)?,
+        },
     })
 }
 
 /// The input, and what the steps make.
 fn buffers(alloc: Global) -> Result<Vec<Buffer>, AllocError>
-    ensures { IfOk result (λ buffers. buffers.items ≡ generated_shape.buffers) }
+    ensures value { IfOk result (λ buffers. buffers.items ≡ generated_shape.buffers) }
+    ensures many { IfOk result (λ buffers. vec_len buffers ≡ 5) }
 {
     let mut buffers = Vec::new(alloc);
     buffers.push(even_words(alloc, b"a", 64)?)?;
@@ -109,18 +121,25 @@ fn steps(alloc: Global) -> Result<Vec<CollStep>, AllocError>
 /// What a reader holds behind the last line of the description's text.
 fn generated_reader(alloc: Global, k: u32) -> Result<Reader, AllocError>
     requires { k < 65536 }
-    ensures { IfOk result (λ reader. described (past reader) ≡ generated k) }
+    ensures value { IfOk result (λ reader. described (past reader) ≡ generated k) }
+    ensures lists { IfOk result (λ reader. length reader.given.items ≡ reader.inputs * reader.ranks) }
 {
     let given = all_lists(alloc, k)?;
+    let everyone = all_ranks(alloc, 64)?;
     Ok(Reader {
         alloc,
         stage: Stage::Finished,
+        version: Version::One,
         ranks: 64,
+        everyone,
         remote: false,
+        groups: Vec::new(alloc),
         buffers: buffers(alloc)?,
         inputs: 1,
         given,
         steps: steps(alloc)?,
+        on: Vec::from_slice(alloc, &[None, None, None, None, None])?,
+        choices: Vec::new(alloc),
         prints: Vec::from_slice(alloc, &[0, 1, 2, 3, 4])?,
         printed: PRINTED,
     })
@@ -136,7 +155,7 @@ fn generated_reader(alloc: Global, k: u32) -> Result<Reader, AllocError>
 pub fn generated(alloc: Global, k: u32) -> Result<Description, NoMemory>
     requires { k < 65536 }
     ensures value { IfOk result (λ d. d ≡ generated k) }
-    // Its one spelling is read as it by the whole language.
+    // Its one spelling is read as it.
     ensures accepted { IfOk result (λ d. read (text d) ≡ Ok d) }
 {
     match generated_reader(alloc, k) {

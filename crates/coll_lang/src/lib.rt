@@ -1,32 +1,36 @@
-//! The description language: which collective operations a job of N ranks makes, on which values, and which buffers
-//! are printed. A text is read whole, or refused at its first line that breaks a rule; a description has one spelling
-//! and one meaning.
+//! The description language: which collective operations a job of N ranks makes, on which groups and values, and which
+//! buffers are printed. A text is read whole, or refused at its first line that breaks a rule; a description has one
+//! spelling and one meaning.
 #![tactic(auto)]
 
-mod buffers;
+mod adding;
+mod choices;
 mod description;
 mod fault;
-mod first_form;
 mod forms;
 #[cfg(test)]
 mod generated_tests;
 mod generating;
-mod lists;
+mod naming;
 mod printing;
 mod readable;
 mod reader;
 mod stage;
+mod stepping;
 mod take;
 #[cfg(test)]
 mod tests;
-mod types;
+mod text;
 mod whole;
 
-pub use description::{Description, Inputs, Shape};
+pub use choices::{ChoiceKind, ChoiceStep, Choices};
+pub use coll_shape::{
+    Buffer, CollStep, Group, Holders, InputList, Inputs, Name, RankList, Shape, Spread, Version,
+};
+pub use description::Description;
 pub use fault::{ParseFault, Refusal};
 pub use generating::generated;
-pub use lists::{Name, RankList, Text};
-pub use printing::print;
-pub use readable::{accepted_is_readable, reads_exactly};
-pub use types::{Buffer, CollStep, Spread};
-pub use whole::{no_print_is_too_large, parse, parse_all};
+pub use printing::{op_word, print, type_word};
+pub use readable::reads_exactly;
+pub use text::Text;
+pub use whole::parse;

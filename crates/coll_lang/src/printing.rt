@@ -1,25 +1,28 @@
 //! Writing the one spelling of a description.
 
-ghost use Rattle.std.specs.Prelude.{◌≡◌, [], ◌∷◌, ◌++◌, map, IfOk, OnOk};
-ghost use Rattle.std.specs.List.{flat_map};
+ghost use Rattle.std.specs.Prelude.{◌≡◌, [], ◌∷◌, ◌++◌, length, map, take, get_or, IfOk, OnOk};
+ghost use Rattle.std.specs.List.{flat_map, join_with_byte};
 ghost use Rattle.std.specs.Fmt.{decimal};
 ghost use Rattle.coll_text.specs.Text.{line};
 ghost use Rattle.coll_text.specs.Elements.{elements, value_word};
-ghost use Rattle.coll_lang.specs.Words.{type_word, op_word};
-ghost use Rattle.coll_lang.specs.Outline.{name_at};
-ghost use Rattle.coll_lang.specs.Spelling.{head_text, remote_text, input_text, inputs_text, step_words, steps_text, prints_text, text};
+ghost use Rattle.coll_shape.specs.Outline.{no_group};
+ghost use Rattle.coll_shape.specs.Rows.{joined};
+ghost use Rattle.coll_lang.specs.Seen.{choices_seen};
+ghost use Rattle.coll_lang.specs.Spaced.{spaced};
+ghost use Rattle.coll_lang.specs.Words.{type_word, op_word, version_word};
+ghost use Rattle.coll_lang.specs.Spelling.{choice_name, choice_words, choices_text, chosen_text, group_text, groups_text, head_text, if_there, input_text, inputs_text, name_at, no_choice, on_words, prints_text, remote_text, step_words, steps_text, text};
 
-use crate::buffers::length_of;
+use crate::choices::{ChoiceKind, ChoiceStep, Choices};
 use crate::description::Description;
-use crate::lists::{RankList, Text};
-use crate::types::{Buffer, CollStep};
+use crate::text::Text;
+use coll_shape::{Buffer, CollStep, Group, InputList, Version};
 use coll_text::{push_data_line, push_line};
 use itoa::Buffer as Digits;
 use ptl_types::{AtomicOp, ElemType, NoMemory, Rank};
 use std::alloc::{AllocError, Global};
 
 /// The type as it is written.
-fn type_word(ty: ElemType) -> &'static [u8]
+pub fn type_word(ty: ElemType) -> &'static [u8]
     ensures { result.now ≡ type_word ty }
 {
     match ty {
@@ -35,7 +38,7 @@ fn type_word(ty: ElemType) -> &'static [u8]
 }
 
 /// The operation as it is written.
-fn op_word(op: AtomicOp) -> &'static [u8]
+pub fn op_word(op: AtomicOp) -> &'static [u8]
     ensures { result.now ≡ op_word op }
 {
     match op {
@@ -52,6 +55,16 @@ fn op_word(op: AtomicOp) -> &'static [u8]
     }
 }
 
+/// The number of a version as it is written.
+fn version_word(version: Version) -> &'static [u8]
+    ensures { result.now ≡ version_word version }
+{
+    match version {
+        Version::One => b"1",
+        Version::Two => b"2",
+    }
+}
+
 /// The name of a buffer by its number. No name where there is no such buffer.
 fn name_at(buffers: &[Buffer], i: u32) -> &[u8]
     ensures { result.now ≡ name_at buffers.now i }
@@ -63,11 +76,11 @@ fn name_at(buffers: &[Buffer], i: u32) -> &[u8]
 }
 
 /// The lines 1 and 2.
-fn print_head(out: &mut Vec<u8>, ranks: u32) -> Result<(), AllocError>
-    ensures { OnOk result (out.new.items ≡ out.old.items ++ head_text ranks) }
+fn print_head(out: &mut Vec<u8>, version: Version, ranks: u32) -> Result<(), AllocError>
+    ensures { OnOk result (out.new.items ≡ out.old.items ++ head_text version ranks) }
 {
     let mut digits = Digits::new();
-    push_line(out, &[b"coll", b"1"])?;
+    push_line(out, &[b"coll", version_word(version)])?;
     push_line(out, &[b"ranks", digits.format(ranks).as_bytes()])
 }
 
@@ -77,6 +90,54 @@ fn print_remote(out: &mut Vec<u8>, remote: bool) -> Result<(), AllocError>
 {
     if remote {
         push_line(out, &[b"complete", b"remote"])?;
+    }
+    Ok(())
+}
+
+/// A space and a word.
+fn push_word(out: &mut Vec<u8>, word: &[u8]) -> Result<(), AllocError>
+    ensures { OnOk result (out.new.items ≡ out.old.items ++ 32 ∷ word.now) }
+{
+    out.push(b' ')?;
+    out.extend_from_slice(word)
+}
+
+/// A space and the decimal of a number.
+fn push_number(out: &mut Vec<u8>, n: u32) -> Result<(), AllocError>
+    ensures { OnOk result (out.new.items ≡ out.old.items ++ 32 ∷ decimal n) }
+{
+    let mut digits = Digits::new();
+    push_word(out, digits.format(n).as_bytes())
+}
+
+/// The members of a group, each behind a space.
+fn print_members(out: &mut Vec<u8>, members: &[Rank]) -> Result<(), AllocError>
+    ensures { OnOk result (out.new.items ≡ out.old.items ++ flat_map (λ r. 32 ∷ decimal r) members.now) }
+{
+    for r in members {
+        push_number(out, *r)?;
+    }
+    Ok(())
+}
+
+/// The line of a group.
+#[tactic(auto, using(crate::proofs::Spacing::group_line))]
+fn print_group(out: &mut Vec<u8>, group: &Group) -> Result<(), AllocError>
+    ensures { OnOk result (out.new.items ≡ out.old.items ++ group_text group.now) }
+{
+    out.extend_from_slice(b"group")?;
+    push_word(out, group.name.as_slice())?;
+    print_members(out, group.members.as_slice())?;
+    out.push(b'\n')?;
+    Ok(())
+}
+
+/// The lines of all groups.
+fn print_groups(out: &mut Vec<u8>, groups: &[Group]) -> Result<(), AllocError>
+    ensures { OnOk result (out.new.items ≡ out.old.items ++ groups_text groups.now) }
+{
+    for group in groups {
+        print_group(out, group)?;
     }
     Ok(())
 }
@@ -94,26 +155,12 @@ fn push_four<'a>(
     push_line(out, &[key, second, third, fourth])
 }
 
-/// A line of five words, which may be borrowed from different places.
-fn push_five<'a>(
-    out: &mut Vec<u8>,
-    key: &'a [u8],
-    second: &'a [u8],
-    third: &'a [u8],
-    fourth: &'a [u8],
-    fifth: &'a [u8],
-) -> Result<(), AllocError>
-    ensures { OnOk result (out.new.items ≡ out.old.items ++ line (key.now ∷ second.now ∷ third.now ∷ fourth.now ∷ fifth.now ∷ [])) }
-{
-    push_line(out, &[key, second, third, fourth, fifth])
-}
-
 /// The line of an input.
 fn print_input(out: &mut Vec<u8>, buffer: &Buffer) -> Result<(), AllocError>
     ensures { OnOk result (out.new.items ≡ out.old.items ++ input_text buffer.now) }
 {
     let mut digits = Digits::new();
-    let count = digits.format(length_of(buffer.spread)).as_bytes();
+    let count = digits.format(buffer.spread.length).as_bytes();
     push_four(
         out,
         b"input",
@@ -124,7 +171,7 @@ fn print_input(out: &mut Vec<u8>, buffer: &Buffer) -> Result<(), AllocError>
 }
 
 /// The data lines of an input, one a rank.
-fn print_lists(out: &mut Vec<u8>, ty: ElemType, lists: &[RankList]) -> Result<(), AllocError>
+fn print_lists(out: &mut Vec<u8>, ty: ElemType, lists: &[InputList]) -> Result<(), AllocError>
     ensures { OnOk result (out.new.items ≡ out.old.items ++ flat_map (λ l. line (map (value_word ty) (elements ty l))) lists.now) }
 {
     for list in lists {
@@ -138,7 +185,7 @@ fn print_inputs(
     out: &mut Vec<u8>,
     ranks: usize,
     buffers: &[Buffer],
-    lists: &[RankList],
+    lists: &[InputList],
 ) -> Result<(), AllocError>
     ensures { OnOk result (out.new.items ≡ out.old.items ++ inputs_text ranks buffers.now lists.now) }
 {
@@ -152,81 +199,205 @@ fn print_inputs(
     Ok(())
 }
 
-/// A line of a step's first word, its root and two names.
-fn print_rooted(
-    out: &mut Vec<u8>,
-    key: &[u8],
-    root: Rank,
-    a: &[u8],
-    b: &[u8],
-) -> Result<(), AllocError>
-    ensures { OnOk result (out.new.items ≡ out.old.items ++ line (key.now ∷ decimal root ∷ a.now ∷ b.now ∷ [])) }
+/// The root behind a space, where there is one.
+#[tactic(auto, using(crate::proofs::Spacing::one_word, crate::proofs::Spacing::no_word))]
+fn print_root(out: &mut Vec<u8>, root: Option<Rank>) -> Result<(), AllocError>
+    ensures { OnOk result (out.new.items ≡ out.old.items ++ spaced (if_there decimal root)) }
 {
-    let mut digits = Digits::new();
-    push_four(out, key, digits.format(root).as_bytes(), a, b)
-}
-
-/// The line of a step.
-fn print_step(out: &mut Vec<u8>, buffers: &[Buffer], step: CollStep) -> Result<(), AllocError>
-    ensures { OnOk result (out.new.items ≡ out.old.items ++ line (step_words buffers.now step)) }
-{
-    match step {
-        CollStep::Barrier => push_line(out, &[b"barrier"]),
-        CollStep::Broadcast { root, a, b } => {
-            let (a, b) = (name_at(buffers, a), name_at(buffers, b));
-            print_rooted(out, b"broadcast", root, a, b)
-        }
-        CollStep::Reduce { root, op, a, b } => {
-            let mut digits = Digits::new();
-            let root = digits.format(root).as_bytes();
-            let (a, b) = (name_at(buffers, a), name_at(buffers, b));
-            push_five(out, b"reduce", root, op_word(op), a, b)
-        }
-        CollStep::Allreduce { op, a, b } => {
-            let (a, b) = (name_at(buffers, a), name_at(buffers, b));
-            push_four(out, b"allreduce", op_word(op), a, b)
-        }
-        CollStep::Gather { root, a, b } => {
-            let (a, b) = (name_at(buffers, a), name_at(buffers, b));
-            print_rooted(out, b"gather", root, a, b)
-        }
-        CollStep::Allgather { a, b } => {
-            push_line(
-                out,
-                &[b"allgather", name_at(buffers, a), name_at(buffers, b)],
-            )
-        }
-        CollStep::Alltoall { a, b } => {
-            push_line(
-                out,
-                &[b"alltoall", name_at(buffers, a), name_at(buffers, b)],
-            )
-        }
-        CollStep::Scan { op, a, b } => {
-            let (a, b) = (name_at(buffers, a), name_at(buffers, b));
-            push_four(out, b"scan", op_word(op), a, b)
-        }
+    match root {
+        Some(root) => push_number(out, root),
+        None => Ok(()),
     }
 }
 
-/// The lines of all steps.
-fn print_steps(out: &mut Vec<u8>, buffers: &[Buffer], steps: &[CollStep]) -> Result<(), AllocError>
-    ensures { OnOk result (out.new.items ≡ out.old.items ++ steps_text buffers.now steps.now) }
+/// The operation behind a space, where there is one.
+#[tactic(auto, using(crate::proofs::Spacing::one_word, crate::proofs::Spacing::no_word))]
+fn print_op(out: &mut Vec<u8>, op: Option<AtomicOp>) -> Result<(), AllocError>
+    ensures { OnOk result (out.new.items ≡ out.old.items ++ spaced (if_there op_word op)) }
 {
+    match op {
+        Some(op) => push_word(out, op_word(op)),
+        None => Ok(()),
+    }
+}
+
+/// The name of a buffer behind a space, where there is one.
+#[tactic(auto, using(crate::proofs::Spacing::one_word, crate::proofs::Spacing::no_word))]
+fn print_name(out: &mut Vec<u8>, buffers: &[Buffer], i: Option<u32>) -> Result<(), AllocError>
+    ensures { OnOk result (out.new.items ≡ out.old.items ++ spaced (if_there (name_at buffers.now) i)) }
+{
+    match i {
+        Some(i) => push_word(out, name_at(buffers, i)),
+        None => Ok(()),
+    }
+}
+
+/// The name of a group by its number. No name where there is no such group.
+fn group_name(groups: &[Group], i: u32) -> &[u8]
+    ensures { result.now ≡ (get_or groups.now i no_group).name }
+{
+    match groups.get(i as usize) {
+        Some(group) => group.name.as_slice(),
+        None => b"",
+    }
+}
+
+/// The first word of a step, behind the group that it names.
+#[tactic(auto, using(crate::proofs::Spacing::first_words))]
+fn print_first(
+    out: &mut Vec<u8>,
+    groups: &[Group],
+    on: Option<u32>,
+    word: &[u8],
+) -> Result<(), AllocError>
+    ensures { OnOk result (out.new.items ≡ out.old.items ++ join_with_byte 32 (on_words groups.now on ++ word.now ∷ [])) }
+{
+    match on {
+        Some(i) => {
+            out.extend_from_slice(b"on")?;
+            push_word(out, group_name(groups, i))?;
+            push_word(out, word)
+        }
+        None => out.extend_from_slice(word),
+    }
+}
+
+/// The line of a step.
+#[tactic(auto, using(crate::proofs::Spacing::step_line))]
+fn print_step(
+    out: &mut Vec<u8>,
+    groups: &[Group],
+    buffers: &[Buffer],
+    step: CollStep,
+    on: Option<u32>,
+) -> Result<(), AllocError>
+    ensures { OnOk result (out.new.items ≡ out.old.items ++ line (on_words groups.now on ++ step_words buffers.now step)) }
+{
+    print_first(out, groups, on, step.kind().word())?;
+    print_root(out, step.root())?;
+    print_op(out, step.op())?;
+    print_name(out, buffers, step.source())?;
+    print_name(out, buffers, step.result())?;
+    out.push(b'\n')?;
+    Ok(())
+}
+
+/// The lines of all steps, with the groups that they name.
+fn print_steps(
+    out: &mut Vec<u8>,
+    groups: &[Group],
+    buffers: &[Buffer],
+    steps: &[CollStep],
+    on: &[Option<u32>],
+) -> Result<(), AllocError>
+    ensures { OnOk result (out.new.items ≡ out.old.items ++ steps_text groups.now buffers.now steps.now on.now) }
+{
+    let mut rest = on;
     for step in steps {
-        print_step(out, buffers, *step)?;
+        let Some((group, others)) = rest.split_first() else {
+            return Ok(());
+        };
+        print_step(out, groups, buffers, *step, *group)?;
+        rest = others;
     }
     Ok(())
 }
 
 /// The lines of all prints.
 fn print_prints(out: &mut Vec<u8>, buffers: &[Buffer], prints: &[u32]) -> Result<(), AllocError>
-    ensures { OnOk result (out.new.items ≡ out.old.items ++ prints_text buffers.now prints.now) }
+    ensures { OnOk result (out.new.items ≡ out.old.items ++ prints_text (name_at buffers.now) prints.now) }
 {
     for i in prints {
         push_line(out, &[b"print", name_at(buffers, *i)])?;
     }
     Ok(())
+}
+
+/// The name of a choice step's buffer.
+fn choice_name(choice: &ChoiceStep) -> &[u8]
+    ensures { result.now ≡ choice_name choice.now }
+{
+    match choice {
+        ChoiceStep::Elect(name) | ChoiceStep::Tickets(name) => name.as_slice(),
+    }
+}
+
+/// A line of two words, which may be borrowed from different places.
+fn push_two<'a>(out: &mut Vec<u8>, key: &'a [u8], second: &'a [u8]) -> Result<(), AllocError>
+    ensures { OnOk result (out.new.items ≡ out.old.items ++ line (key.now ∷ second.now ∷ [])) }
+{
+    push_line(out, &[key, second])
+}
+
+/// The line of a choice step.
+fn print_choice(out: &mut Vec<u8>, choice: &ChoiceStep) -> Result<(), AllocError>
+    ensures { OnOk result (out.new.items ≡ out.old.items ++ line (choice_words choice.now)) }
+{
+    match choice {
+        ChoiceStep::Elect(name) => push_two(out, ChoiceKind::Elect.word(), name.as_slice()),
+        ChoiceStep::Tickets(name) => push_two(out, ChoiceKind::Tickets.word(), name.as_slice()),
+    }
+}
+
+/// The lines of all choice steps.
+fn print_choices(out: &mut Vec<u8>, choices: &[ChoiceStep]) -> Result<(), AllocError>
+    ensures { OnOk result (out.new.items ≡ out.old.items ++ choices_text choices.now) }
+{
+    for choice in choices {
+        print_choice(out, choice)?;
+    }
+    Ok(())
+}
+
+/// The name of a choice step's buffer by its number. No name where there is no such step.
+fn chosen_name(choices: &[ChoiceStep], i: u32) -> &[u8]
+    ensures { result.now ≡ choice_name (get_or choices.now i no_choice) }
+{
+    match choices.get(i as usize) {
+        Some(choice) => choice_name(choice),
+        None => b"",
+    }
+}
+
+/// The lines of all prints of a choice text.
+fn print_picks(out: &mut Vec<u8>, choices: &[ChoiceStep], prints: &[u32]) -> Result<(), AllocError>
+    ensures { OnOk result (out.new.items ≡ out.old.items ++ prints_text (λ i. choice_name (get_or choices.now i no_choice)) prints.now) }
+{
+    for i in prints {
+        push_line(out, &[b"print", chosen_name(choices, *i)])?;
+    }
+    Ok(())
+}
+
+/// The steps and the prints of a choice text, where it is one.
+fn print_chosen(out: &mut Vec<u8>, choices: Option<&Choices>) -> Result<(), AllocError>
+    ensures { OnOk result (out.new.items ≡ out.old.items ++ chosen_text (choices_seen choices.entry)) }
+{
+    match choices {
+        Some(choices) => {
+            print_choices(out, choices.steps())?;
+            print_picks(out, choices.steps(), choices.prints())
+        }
+        None => Ok(()),
+    }
+}
+
+/// The lines before the steps.
+fn print_before_steps(out: &mut Vec<u8>, d: &Description) -> Result<(), AllocError>
+    ensures { OnOk result (out.new.items ≡ out.old.items ++ (head_text d.now.shape.version d.now.shape.ranks ++ (remote_text d.now.shape.remote ++ (groups_text d.now.shape.groups ++ inputs_text d.now.shape.ranks (take d.now.shape.inputs d.now.shape.buffers) (joined d.now.inputs))))) }
+{
+    let shape = d.shape();
+    let buffers = shape.buffers();
+    let inputs = buffers.len().min(shape.input_count() as usize);
+    print_head(out, shape.version(), shape.ranks())?;
+    print_remote(out, shape.remote())?;
+    print_groups(out, shape.groups())?;
+    print_inputs(
+        out,
+        shape.ranks() as usize,
+        &buffers[..inputs],
+        d.inputs().lists(),
+    )
 }
 
 /// The whole text behind what stands there.
@@ -235,17 +406,10 @@ fn print_all(out: &mut Vec<u8>, d: &Description) -> Result<(), AllocError>
 {
     let shape = d.shape();
     let buffers = shape.buffers();
-    let inputs = buffers.len().min(shape.input_count() as usize);
-    print_head(out, shape.ranks())?;
-    print_remote(out, shape.remote())?;
-    print_inputs(
-        out,
-        shape.ranks() as usize,
-        &buffers[..inputs],
-        d.inputs().lists(),
-    )?;
-    print_steps(out, buffers, shape.steps())?;
+    print_before_steps(out, d)?;
+    print_steps(out, shape.groups(), buffers, shape.steps(), shape.on())?;
     print_prints(out, buffers, shape.prints())?;
+    print_chosen(out, d.choices())?;
     push_line(out, &[b"end"])?;
     Ok(())
 }

@@ -1,20 +1,14 @@
 //! Line by line, what the lines so far say.
 
-ghost use Rattle.std.specs.Prelude.{◌≤◌, vec_len, All};
-ghost use Rattle.coll_lang.specs.Language.{most_elements};
-ghost use Rattle.coll_lang.specs.FirstForm.{all_prints};
-ghost use Rattle.coll_lang.specs.Outline.{length_of};
+ghost use Rattle.std.specs.Prelude.{◌≡◌, ◌≤◌, length, vec_len, All};
+ghost use Rattle.number_lists.specs.Numbers.{from_to};
+ghost use Rattle.coll_shape.specs.WellFormed.{most_elements};
+ghost use Rattle.coll_lang.specs.Held.{HasMembers, IsSmall};
 
-use crate::lists::RankList;
+use crate::choices::ChoiceStep;
 use crate::stage::Stage;
-use crate::types::{Buffer, CollStep};
+use coll_shape::{Buffer, CollStep, Group, InputList, RankList, Version};
 use std::alloc::Global;
-
-/// The most elements that all prints together may have, over all ranks.
-pub const MOST_PRINTED: u64 = 16_777_216;
-
-/// The same where only what runs so far is read: 128 prints of 64 times 4096 elements.
-pub const ALL_PRINTS: u64 = 33_554_432;
 
 /// What the lines so far say.
 #[derive(Drop)]
@@ -23,26 +17,41 @@ pub struct Reader {
     pub alloc: Global,
     /// Which lines may come next.
     pub stage: Stage,
+    /// The version of the language; the first one until line 1 is taken.
+    pub version: Version,
     /// How many ranks the job has; 1 until line 2 is taken.
     pub ranks: u32,
+    /// All ranks.
+    pub everyone: RankList,
     /// Whether `complete remote` was there.
     pub remote: bool,
+    /// The groups in the order of their lines.
+    pub groups: Vec<Group>,
     /// The buffers in the order of their lines.
     pub buffers: Vec<Buffer>,
     /// How many of the buffers are inputs.
     pub inputs: u32,
     /// The bytes of each data line in order.
-    pub given: Vec<RankList>,
+    pub given: Vec<InputList>,
     /// The steps in order.
     pub steps: Vec<CollStep>,
+    /// For each step the number of the group that it names.
+    pub on: Vec<Option<u32>>,
+    /// The steps of a choice text in order.
+    pub choices: Vec<ChoiceStep>,
     /// The numbers of the buffers that are printed, in order.
     pub prints: Vec<u32>,
     /// The elements of all prints so far, over all ranks.
     pub printed: u64,
     ghost some_ranks: { 1 ≤ ranks },
-    ghost few_ranks: { ranks ≤ 64 },
+    ghost few_ranks: { ranks ≤ 256 },
+    ghost are_all: { everyone ≡ from_to 0 ranks },
+    ghost some_everyone: { 1 ≤ length everyone },
+    ghost few_everyone: { length everyone ≤ 256 },
+    ghost few_groups: { vec_len groups ≤ 64 },
+    ghost have_members: { All HasMembers groups.items },
     ghost few_buffers: { vec_len buffers ≤ 128 },
     ghost few_inputs: { inputs ≤ vec_len buffers },
-    ghost little_printed: { printed ≤ all_prints },
-    ghost small: { All (λ b. length_of b.spread ≤ most_elements) buffers.items },
+    ghost little_printed: { printed ≤ most_elements },
+    ghost are_small: { All IsSmall buffers.items },
 }

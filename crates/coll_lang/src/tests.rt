@@ -1,11 +1,9 @@
 //! What no clause says: whole texts and their answers, from outside.
 
-use crate::{Description, ParseFault, parse, parse_all, print};
+use crate::{ChoiceStep, Description, ParseFault, parse, print};
 use std::test::Fail;
 
-const ONE: &[u8] = b"coll 1\nranks 1\ninput a u8 1\n7\nbroadcast 0 a b\nprint b\nend\n";
-
-/// The line and the name of a refusal; nothing where the text is accepted.
+/// The line and the name of a refusal; nothing where the text is read.
 fn answer(read: Result<Description, ParseFault>) -> Option<(u32, &'static str)> {
     match read {
         Ok(_) => None,
@@ -15,46 +13,25 @@ fn answer(read: Result<Description, ParseFault>) -> Option<(u32, &'static str)> 
 }
 
 #[test]
-fn what_runs_so_far(rt: HostRuntime) {
-    let cases: [(&[u8], Option<(u32, &'static str)>); 14] = [
-        (ONE, None),
+fn texts_and_their_refusals(rt: HostRuntime) {
+    let cases: [(&[u8], Option<(u32, &'static str)>); 8] = [
+        (b"coll 2\nranks 256\nbarrier\nend\n", None),
+        (b"coll 1\nranks 65\nbarrier\nend\n", Some((2, "BadRanks"))),
         (
-            b"coll 1\nranks 3\ninput a u8 1\n5\n6\n9\nbroadcast 2 a b\nprint b\nprint a\nend\n",
-            None,
+            b"coll 2\nranks 4\ngroup g 3 1\nend\n",
+            Some((3, "BadGroup")),
         ),
         (
-            b"coll 1\nranks 1\ninput a u8 1\n7\nbroadcast 0 a b\nprint b\n",
-            Some((7, "Unended")),
+            b"coll 2\nranks 4\ngroup g 1 3\ninput g u8 1\n",
+            Some((4, "NameTaken")),
         ),
+        (b"coll 2\nranks 4\non g barrier\n", Some((3, "BadGroup"))),
         (
-            b"coll 1\nranks 1\ninput a u8 1\n7\nbroadcast 0 a b\nprint b\nend",
-            Some((7, "Unended")),
-        ),
-        (
-            b"coll 1\nranks 1\ninput a u8 1\n7\nbroadcast 0 a b\nprint b\nend\nx",
-            Some((8, "BadLine")),
-        ),
-        (b"", Some((1, "Unended"))),
-        (b"coll 2\nranks 1\n", Some((1, "BadLine"))),
-        (b"coll 1\nranks 65\n", Some((2, "BadLine"))),
-        (b"coll 1\nranks 1\ncomplete remote\n", Some((3, "BadLine"))),
-        (
-            b"coll 1\nranks 1\ninput a u8 1\n256\n",
+            b"coll 2\nranks 2\nelect a\ninput b u8 1\n",
             Some((4, "BadLine")),
         ),
-        (b"coll 1\nranks 1\ninput a u16 1\n7\n", Some((3, "BadLine"))),
-        (
-            b"coll 1\nranks 1\ninput a u8 1\n7\nbroadcast 1 a b\n",
-            Some((5, "BadLine")),
-        ),
-        (
-            b"coll 1\nranks 1\ninput a u8 1\n7\nend\n",
-            Some((5, "BadLine")),
-        ),
-        (
-            b"coll 1\nranks 1\ninput a u8 1\n7\nbroadcast 0 a b\nprint c\n",
-            Some((6, "BadLine")),
-        ),
+        (b"coll 1\nranks 2\nbarrier\nend", Some((4, "Unended"))),
+        (b"coll 1\nranks 2\nbarrier\nend\n\n", Some((5, "AfterEnd"))),
     ];
     for (text, wanted) in cases.iter() {
         assert_eq!(rt; answer(parse(rt.alloc(), text)), *wanted);
@@ -64,15 +41,15 @@ fn what_runs_so_far(rt: HostRuntime) {
 #[test]
 fn a_text_is_printed_as_it_was_read(rt: HostRuntime) -> Result<(), Fail> {
     let texts: [&[u8]; 6] = [
-        ONE,
         b"coll 1\nranks 1\ncomplete remote\ninput a u8 1\n7\nbroadcast 0 a b\nprint b\nend\n",
-        b"coll 1\nranks 4\nbarrier\nend\n",
         b"coll 1\nranks 3\ninput a i8 1\n-128\n127\n0\nreduce 1 min a b\nbroadcast 1 b c\nprint c\nend\n",
         b"coll 1\nranks 2\ninput a i64 2\n-9223372036854775808 9223372036854775807\n0 -1\nscan max a b\nallreduce lxor b c\nend\n",
         b"coll 1\nranks 2\ninput a u64 1\n18446744073709551615\n0\ninput end u16 2\n1 65535\n3 4\ngather 1 a g\nallgather a h\nalltoall end k\nprint end\nprint k\nend\n",
+        b"coll 2\nranks 4\ncomplete remote\ngroup odd 1 3\ngroup last 3\ninput a u8 4\n1 2 3 4\n5 6 7 8\n9 0 1 2\n3 4 5 6\non odd scatter 1 a b\non last gatherv 0 b c\nreducescatter sum a d\nexscan sum a e\non odd barrier\nprint b\nprint e\nend\n",
+        b"coll 2\nranks 3\nelect a\ntickets b\nprint b\nprint a\nprint b\nend\n",
     ];
     for text in texts.iter() {
-        let Ok(d) = parse_all(rt.alloc(), text) else {
+        let Ok(d) = parse(rt.alloc(), text) else {
             panic!(rt; "refused")
         };
         let Ok(printed) = print(rt.alloc(), &d) else {
@@ -89,16 +66,38 @@ fn parts_of_a_description(rt: HostRuntime) {
     let Ok(d) = parse(rt.alloc(), text) else {
         panic!(rt; "refused")
     };
+    assert!(rt; d.choices().is_none());
     let (shape, inputs) = d.into_parts();
     assert_eq!(rt; shape.ranks(), 2);
     assert!(rt; !shape.remote());
-    assert_eq!(rt; shape.input_count(), 1);
     assert_eq!(rt; shape.steps().len(), 1);
     assert_eq!(rt; shape.prints(), [1].as_slice());
-    assert_eq!(rt; inputs.list(0, 1), [3, 4].as_slice());
+    let [one, other] = inputs.lists() else {
+        panic!(rt; "not two lists")
+    };
+    assert_eq!(rt; one.as_slice(), [1, 2].as_slice());
+    assert_eq!(rt; other.as_slice(), [3, 4].as_slice());
     let [first, second] = shape.buffers() else {
         panic!(rt; "not two buffers")
     };
     assert_eq!(rt; first.name.as_slice(), b"a".as_slice());
     assert_eq!(rt; second.name.as_slice(), b"b".as_slice());
+}
+
+#[test]
+fn choices_of_a_description(rt: HostRuntime) {
+    let text = b"coll 2\nranks 3\nelect a\ntickets b\nprint b\nend\n";
+    let Ok(d) = parse(rt.alloc(), text) else {
+        panic!(rt; "refused")
+    };
+    assert_eq!(rt; d.shape().ranks(), 3);
+    let Some(choices) = d.choices() else {
+        panic!(rt; "no choices")
+    };
+    assert_eq!(rt; choices.prints(), [1].as_slice());
+    let [ChoiceStep::Elect(first), ChoiceStep::Tickets(second)] = choices.steps() else {
+        panic!(rt; "other steps")
+    };
+    assert_eq!(rt; first.as_slice(), b"a".as_slice());
+    assert_eq!(rt; second.as_slice(), b"b".as_slice());
 }

@@ -46,6 +46,13 @@ impl<'a> Words<'a> {
     {
         Words { left: Some(line) }
     }
+
+    /// The words that are left, once more.
+    pub fn again(&self) -> Words<'a>
+        ensures same { result ≡ self.now }
+    {
+        Words { left: self.left }
+    }
 }
 
 impl<'a> Iterator for Words<'a> {

@@ -2,12 +2,11 @@ use Rattle.std.proofs.Common.{◌≡◌, ◌+◌, ◌≤◌, length}
 use Rattle.coll_text.specs.Text.{lines}
 use Rattle.coll_lang.specs.States.{past}
 use Rattle.coll_lang.specs.Language.{nothing, read_from}
-use Rattle.coll_lang.specs.Extents.{judged, after}
 use Rattle.coll_lang.proofs.whole.read_lines.Given as goal
 
 abbrev pub invariant-loop-rest : goal.invariant-loop-rest
 invariant-loop-rest l = record {
-  judged : read_from (judged l.extent) (after l.extent) nothing 1 (lines l.bytes) ≡ read_from (judged l.extent) (after l.extent) (past l.reader) l.number (lines l.rest);
+  judged : read_from nothing 1 (lines l.bytes) ≡ read_from (past l.reader) l.number (lines l.rest);
   few : l.number + length l.rest ≤ length l.bytes + 1;
 }
 

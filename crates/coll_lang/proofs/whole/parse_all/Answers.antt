@@ -1,8 +1,0 @@
-use Rattle.coll_lang.proofs.Kept.{spelled_in, readable_in}
-use Rattle.coll_lang.proofs.whole.parse_all.Goals as goal
-
-pub returns-clause-spelled : goal.returns-clause-spelled
-returns-clause-spelled c = spelled_in c.args.bytes.now c.parsed.result c.parsed.ensures
-
-pub returns-clause-readable : goal.returns-clause-readable
-returns-clause-readable c = readable_in c.args.bytes.now c.parsed.result c.parsed.ensures
