@@ -1,5 +1,5 @@
-pub mod Forms
+pub mod Lowest
+pub mod Grammar
 pub mod Lines
 pub mod Counting
 pub mod Texts
-pub mod Grammar

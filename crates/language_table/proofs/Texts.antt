@@ -1,23 +1,22 @@
 -- Reading answers the first refusal of the table.
-use Rattle.std.proofs.Common.{◌≡◌, ◌<◌, ◌≤◌, ℕ, ◌+◌, List, [], ◌∷◌, ◌++◌, length, Option, Some, None, Result, Ok, Err, Bool, true, false, cond, not, refl, sym, ap, ◌∙◌, arith, subst, inl, inr, ◌⊎◌}
+use Rattle.std.proofs.Common.{◌≡◌, ◌<◌, ◌≤◌, ℕ, ◌+◌, List, [], ◌∷◌, ◌++◌, length, Option, Some, None, Result, Ok, Err, Bool, true, false, ◌&&◌, cond, not, refl, sym, ap, ◌∙◌, arith, subst, inl, inr, ◌⊎◌}
 use Rattle.std.specs.Prelude.{◌==◌, nat_lt}
 use Rattle.std.specs.List.{list_all, onto_first}
 use Rattle.std.proofs.lemmas.Bool.Decides.{nat_tests}
 use Rattle.coll_text.specs.Text.{lines, is_empty}
-use Rattle.coll_lang.specs.Outline.{Program}
-use Rattle.coll_lang.specs.Language.{Past, nothing, is_allowed, line_at, judge, is_finished, read_from, program_in, read_by, read_up_to}
-use Rattle.language_table.specs.Table.{first_row, refusal_in}
+use Rattle.coll_lang.specs.Program.{Program}
+use Rattle.coll_lang.specs.Language.{Past, nothing, is_allowed, line_at, judge, is_finished, read_from, program_in, read}
 use Rattle.coll_lang.specs.declared.stage.Stage.{Stage}
-use Rattle.coll_lang.specs.declared.stage.Stage.TheVariants.{Version, Ranks, Options, Inputs, Data, Steps, Prints, Finished}
+use Rattle.coll_lang.specs.declared.stage.Stage.TheVariants.{Header, Ranks, Options, Groups, Inputs, Data, Steps, Choosing, Prints, Finished}
 use Rattle.coll_lang.specs.declared.fault.Refusal.{Refusal}
 use Rattle.coll_lang.specs.declared.fault.Refusal.TheVariants.{TooLong, BadByte, Unended, AfterEnd}
 use Rattle.coll_lang.proofs.Sound.{not_above}
-use Rattle.coll_lang.proofs.Counting.{Held, held_on, held_first}
-use Rattle.language_table.specs.Rows.{rows}
-use Rattle.language_table.specs.Texts.{said_by, rows_in, IsRefusedAt, IsFirstRefusal, TextsByTheRows}
-use Rattle.language_table.proofs.Grammar.{way}
-use Rattle.language_table.proofs.Lines.{by_the_rows}
-use Rattle.language_table.proofs.Counting.{counts_of}
+use Rattle.language_table.specs.Table.{IsLowest}
+use Rattle.language_table.specs.Rows.{offends}
+use Rattle.language_table.specs.Texts.{said_by, piece_offends, IsRefusedAt, IsFirstRefusal, TextsByTheRows}
+use Rattle.language_table.proofs.Lowest.{way, first_of, all_names, lowest_of, first_is, refusal_in}
+use Rattle.language_table.proofs.Lines.{by_the_rows, first_judged, name_is}
+use Rattle.language_table.proofs.Counting.{Held, held_on, held_first, counts_of}
 
 answered : (r : Result Past Refusal) → ((next : Past) × (r ≡ Ok next)) ⊎ ((name : Refusal) × (r ≡ Err name))
 answered (Ok next) = inl (next, refl)
@@ -35,62 +34,84 @@ abbrev name_in : {A : Type 0} → Result A (ℕ × Refusal) → Option Refusal
 name_in (Ok x) = None
 name_in (Err e) = Some e.1
 
+-- the first row that a piece offends
+abbrev first_there : Past → List ℕ → List (List ℕ) → Option Refusal
+first_there past piece pieces = first_of (piece_offends past piece pieces) all_names
+
+-- the last piece: Unended where a line is due, else AfterEnd where there are bytes
+last_there : (past : Past) (piece : List ℕ) → first_there past piece [] ≡ cond (is_finished past.stage) (cond (is_empty piece) None (Some AfterEnd)) (Some Unended)
+last_there past piece = tests (is_finished past.stage) (is_empty piece)
+  where
+    tests : (finished empty : Bool) → cond (not finished) (Some Unended) (cond (finished && not empty) (Some AfterEnd) None) ≡ cond finished (cond empty None (Some AfterEnd)) (Some Unended)
+    tests true true = refl
+    tests true false = refl
+    tests false empty = refl
+
+-- a piece with others behind it
+when_finished : (past : Past) (piece next : List ℕ) (pieces : List (List ℕ)) → is_finished past.stage ≡ true → first_there past piece (next ∷ pieces) ≡ Some AfterEnd
+when_finished past piece next pieces done = rw done refl
+
+when_due : (past : Past) (piece next : List ℕ) (pieces : List (List ℕ)) → is_finished past.stage ≡ false → first_there past piece (next ∷ pieces) ≡ first_of (offends past piece) all_names
+when_due past piece next pieces going = rw going refl
+
 -- a line is taken only where one is due
-due : (most : ℕ) (past next : Past) (line : List ℕ) → judge most past line ≡ Ok next → is_finished past.stage ≡ false
+due : (past next : Past) (line : List ℕ) → judge past line ≡ Ok next → is_finished past.stage ≡ false
 unfolding judge line_at
-due most past next line h = at past.stage (list_all is_allowed line) h
+due past next line h = at past.stage (list_all is_allowed line) h
   where
     over : (b : Bool) → (let r : Result Past Refusal = cond b (Err AfterEnd) (Err BadByte) in r ≡ Ok next) → true ≡ false
     over true h = cc
     over false h = cc
 
-    at : (stage : Stage) (b : Bool) → cond b (line_at most stage past line) (Err BadByte) ≡ Ok next → is_finished stage ≡ false
-    at Version b h = refl
+    at : (stage : Stage) (b : Bool) → cond b (line_at stage past line) (Err BadByte) ≡ Ok next → is_finished stage ≡ false
+    at Header b h = refl
     at Ranks b h = refl
     at Options b h = refl
+    at Groups b h = refl
     at Inputs b h = refl
     at (Data left ty count) b h = refl
     at Steps b h = refl
+    at Choosing b h = refl
     at Prints b h = refl
     at Finished b h = over b h
 
 -- the same from any line on
-record Found (most : ℕ) (past : Past) (pieces : List (List ℕ)) (k j : ℕ) (name : Refusal) : Type 0 where
+record Found (past : Past) (pieces : List (List ℕ)) (k j : ℕ) (name : Refusal) : Type 0 where
   before : List (List ℕ)
   piece : List ℕ
   behind : List (List ℕ)
   last : Past
   are : pieces ≡ before ++ piece ∷ behind
   number : j ≡ length before + k
-  says : said_by most past before ≡ Some last
-  row : first_row (rows_in most last piece behind) ≡ Some name
+  says : said_by past before ≡ Some last
+  row : first_there last piece behind ≡ Some name
 
-here : (most : ℕ) (past : Past) (piece : List ℕ) (pieces : List (List ℕ)) (k j : ℕ) (name : Refusal) → k ≡ j → first_row (rows_in most past piece pieces) ≡ Some name → Found most past (piece ∷ pieces) k j name
-here most past piece pieces k j name e row = record { before = []; piece = piece; behind = pieces; last = past; are = refl; number = omega (arith, e); says = refl; row = row }
+here : (past : Past) (piece : List ℕ) (pieces : List (List ℕ)) (k j : ℕ) (name : Refusal) → k ≡ j → first_there past piece pieces ≡ Some name → Found past (piece ∷ pieces) k j name
+here past piece pieces k j name e row = record { before = []; piece = piece; behind = pieces; last = past; are = refl; number = omega (arith, e); says = refl; row = row }
 
 -- the last piece
 ends : (finished empty : Bool) (past : Past) (k j : ℕ) (name : Refusal) → cond finished (cond empty (Ok past) (refused k AfterEnd)) (refused k Unended) ≡ refused j name
-    → (k ≡ j) × (first_row (cond finished ((AfterEnd, not empty) ∷ []) ((Unended, true) ∷ [])) ≡ Some name)
+    → (k ≡ j) × (cond finished (cond empty None (Some AfterEnd)) (Some Unended) ≡ Some name)
 ends true true past k j name h = cc
 ends true false past k j name h = (ap line_in h, ap name_in h)
 ends false empty past k j name h = (ap line_in h, ap name_in h)
 
-said_more : (most : ℕ) (past next last : Past) (line : List ℕ) (before : List (List ℕ)) → judge most past line ≡ Ok next → said_by most next before ≡ Some last → said_by most past (line ∷ before) ≡ Some last
-said_more most past next last line before e h = rw e h
+said_more : (past next last : Past) (line : List ℕ) (before : List (List ℕ)) → judge past line ≡ Ok next → said_by next before ≡ Some last → said_by past (line ∷ before) ≡ Some last
+said_more past next last line before e h = rw e h
 
-finds : (most : ℕ) (past : Past) (piece : List ℕ) (pieces : List (List ℕ)) (k j : ℕ) (name : Refusal) → Held most past → read_from (judge most) AfterEnd past k (piece ∷ pieces) ≡ Err (j, name) → Found most past (piece ∷ pieces) k j name
+finds : (past : Past) (piece : List ℕ) (pieces : List (List ℕ)) (k j : ℕ) (name : Refusal) → Held past → read_from past k (piece ∷ pieces) ≡ Err (j, name) → Found past (piece ∷ pieces) k j name
 unfolding read_from
-finds most past piece [] k j name held h =
+finds past piece [] k j name held h =
     let e = ends (is_finished past.stage) (is_empty piece) past k j name h in
-    here most past piece [] k j name e.0 e.1
-finds most past piece (other ∷ pieces) k j name held h = elim (way (is_finished past.stage)) [
+    here past piece [] k j name e.0 (last_there past piece ∙ e.1)
+finds past piece (other ∷ pieces) k j name held h = elim (way (is_finished past.stage)) [
   | inl done ↦
       let r : refused k AfterEnd ≡ refused j name = sym (rw done refl) ∙ h in
-      here most past piece (other ∷ pieces) k j name (ap line_in r) (rw done (ap name_in r))
-  | inr going ↦ elim (answered (judge most past piece)) [
+      here past piece (other ∷ pieces) k j name (ap line_in r) (when_finished past piece other pieces done ∙ ap name_in r)
+  | inr going ↦ elim (answered (judge past piece)) [
     | inl next ↦
-        let r : read_from (judge most) AfterEnd next.0 (k + 1) (other ∷ pieces) ≡ Err (j, name) = sym (rw (going, next.1) refl) ∙ h in
-        let f = finds most next.0 other pieces (k + 1) j name (held_on most past next.0 piece held next.1) r in
+        let r : read_from next.0 (k + 1) (other ∷ pieces) ≡ Err (j, name) = sym (rw (going, next.1) refl) ∙ h in
+        let f = finds next.0 other pieces (k + 1) j name (held_on past next.0 piece held next.1) r in
         record {
           before = piece ∷ f.before;
           piece = f.piece;
@@ -98,13 +119,13 @@ finds most past piece (other ∷ pieces) k j name held h = elim (way (is_finishe
           last = f.last;
           are = ap (λ (x : List (List ℕ)). piece ∷ x) f.are;
           number = longer f.before f.number;
-          says = said_more most past next.0 f.last piece f.before next.1 f.says;
+          says = said_more past next.0 f.last piece f.before next.1 f.says;
           row = f.row;
         }
     | inr fault ↦
         let r : refused k fault.0 ≡ refused j name = sym (rw (going, fault.1) refl) ∙ h in
-        here most past piece (other ∷ pieces) k j name (ap line_in r)
-        (rw going (sym (by_the_rows most past piece (counts_of most past held) going) ∙ ap refusal_in fault.1 ∙ ap name_in r))
+        here past piece (other ∷ pieces) k j name (ap line_in r)
+        (when_due past piece other pieces going ∙ (sym (first_judged past piece (counts_of past held) going) ∙ (ap refusal_in fault.1 ∙ ap name_in r)))
   ]
 ]
   where
@@ -112,24 +133,20 @@ finds most past piece (other ∷ pieces) k j name held h = elim (way (is_finishe
     longer before e = omega (arith, e)
 
 -- and back
-last_refused : (finished empty : Bool) (past : Past) (k j : ℕ) (name : Refusal) → j ≡ k → first_row (cond finished ((AfterEnd, not empty) ∷ []) ((Unended, true) ∷ [])) ≡ Some name
+last_refused : (finished empty : Bool) (past : Past) (k j : ℕ) (name : Refusal) → j ≡ k → cond finished (cond empty None (Some AfterEnd)) (Some Unended) ≡ Some name
     → cond finished (cond empty (Ok past) (refused k AfterEnd)) (refused k Unended) ≡ refused j name
 last_refused true true past k j name e h = cc
 last_refused true false past k j name e h = cc
 last_refused false empty past k j name e h = cc
 
-name_is : (r : Result Past Refusal) (name : Refusal) → refusal_in r ≡ Some name → r ≡ Err name
-name_is (Ok past) name h = cc
-name_is (Err e) name h = cc
-
-line_refused : (most : ℕ) (past : Past) (piece other : List ℕ) (pieces : List (List ℕ)) (k j : ℕ) (name : Refusal) → Held most past → j ≡ k → first_row (rows_in most past piece (other ∷ pieces)) ≡ Some name
-    → read_from (judge most) AfterEnd past k (piece ∷ other ∷ pieces) ≡ refused j name
+line_refused : (past : Past) (piece other : List ℕ) (pieces : List (List ℕ)) (k j : ℕ) (name : Refusal) → Held past → j ≡ k → first_there past piece (other ∷ pieces) ≡ Some name
+    → read_from past k (piece ∷ other ∷ pieces) ≡ refused j name
 unfolding read_from
-line_refused most past piece other pieces k j name held e h = elim (way (is_finished past.stage)) [
-  | inl done ↦ rw done (over (sym (rw done refl) ∙ h))
+line_refused past piece other pieces k j name held e h = elim (way (is_finished past.stage)) [
+  | inl done ↦ rw done (over (sym (when_finished past piece other pieces done) ∙ h))
   | inr going ↦
-      let r : first_row (rows most past piece) ≡ Some name = sym (rw going refl) ∙ h in
-      let named : judge most past piece ≡ Err name = name_is (judge most past piece) name (by_the_rows most past piece (counts_of most past held) going ∙ r) in
+      let r : first_of (offends past piece) all_names ≡ Some name = sym (when_due past piece other pieces going) ∙ h in
+      let named : judge past piece ≡ Err name = name_is (judge past piece) name (first_judged past piece (counts_of past held) going ∙ r) in
       rw (going, named) (ap (λ k. refused k name) (sym e))
 ]
   where
@@ -143,30 +160,30 @@ some_pieces : (before : List (List ℕ)) (piece : List ℕ) (behind : List (List
 some_pieces [] piece behind = (piece, behind, refl)
 some_pieces (line ∷ before) piece behind = (line, before ++ piece ∷ behind, refl)
 
-goes_on : (most : ℕ) (past next : Past) (k : ℕ) (line : List ℕ) (before : List (List ℕ)) (piece : List ℕ) (behind : List (List ℕ)) → judge most past line ≡ Ok next
-    → read_from (judge most) AfterEnd past k (line ∷ (before ++ piece ∷ behind)) ≡ read_from (judge most) AfterEnd next (k + 1) (before ++ piece ∷ behind)
+goes_on : (past next : Past) (k : ℕ) (line : List ℕ) (before : List (List ℕ)) (piece : List ℕ) (behind : List (List ℕ)) → judge past line ≡ Ok next
+    → read_from past k (line ∷ (before ++ piece ∷ behind)) ≡ read_from next (k + 1) (before ++ piece ∷ behind)
 unfolding read_from
-goes_on most past next k line before piece behind e =
+goes_on past next k line before piece behind e =
     let some = some_pieces before piece behind in
-    let going = due most past next line e in
+    let going = due past next line e in
     rw (some.2, going, e) refl
 
-refuses : (most : ℕ) (past last : Past) (before : List (List ℕ)) (piece : List ℕ) (behind : List (List ℕ)) (k j : ℕ) (name : Refusal) → Held most past → j ≡ length before + k → said_by most past before ≡ Some last
-    → first_row (rows_in most last piece behind) ≡ Some name → read_from (judge most) AfterEnd past k (before ++ piece ∷ behind) ≡ Err (j, name)
+refuses : (past last : Past) (before : List (List ℕ)) (piece : List ℕ) (behind : List (List ℕ)) (k j : ℕ) (name : Refusal) → Held past → j ≡ length before + k → said_by past before ≡ Some last
+    → first_there last piece behind ≡ Some name → read_from past k (before ++ piece ∷ behind) ≡ Err (j, name)
 unfolding read_from
-refuses most past last [] piece behind k j name held e says row = at_once behind (subst (λ p. first_row (rows_in most p piece behind) ≡ Some name) (sym (some_is past last says)) row)
+refuses past last [] piece behind k j name held e says row = at_once behind (subst (λ p. first_there p piece behind ≡ Some name) (sym (some_is past last says)) row)
   where
     start : j ≡ k
     start = omega (arith, e)
 
-    at_once : (behind : List (List ℕ)) → first_row (rows_in most past piece behind) ≡ Some name → read_from (judge most) AfterEnd past k (piece ∷ behind) ≡ Err (j, name)
-    at_once [] row = last_refused (is_finished past.stage) (is_empty piece) past k j name start row
-    at_once (other ∷ pieces) row = line_refused most past piece other pieces k j name held start row
-refuses most past last (line ∷ before) piece behind k j name held e says row = elim (answered (judge most past line)) [
+    at_once : (behind : List (List ℕ)) → first_there past piece behind ≡ Some name → read_from past k (piece ∷ behind) ≡ Err (j, name)
+    at_once [] row = last_refused (is_finished past.stage) (is_empty piece) past k j name start (sym (last_there past piece) ∙ row)
+    at_once (other ∷ pieces) row = line_refused past piece other pieces k j name held start row
+refuses past last (line ∷ before) piece behind k j name held e says row = elim (answered (judge past line)) [
   | inl next ↦
-      let more : said_by most next.0 before ≡ Some last = sym (rw next.1 refl) ∙ says in
-      goes_on most past next.0 k line before piece behind next.1
-      ∙ refuses most next.0 last before piece behind (k + 1) j name (held_on most past next.0 line held next.1) (omega (arith, e)) more row
+      let more : said_by next.0 before ≡ Some last = sym (rw next.1 refl) ∙ says in
+      goes_on past next.0 k line before piece behind next.1
+      ∙ refuses next.0 last before piece behind (k + 1) j name (held_on past next.0 line held next.1) (omega (arith, e)) more row
   | inr fault ↦ absurd (nothing_said (sym (rw fault.1 refl) ∙ says))
 ]
   where
@@ -203,30 +220,30 @@ is_above n h = grind (arith, nat_tests)
 isnt_above : (n : ℕ) → n ≤ 1048576 → nat_lt 1048576 n ≡ false
 isnt_above n h = grind (arith, nat_tests)
 
-reading : (most : ℕ) (bytes : List ℕ) (k : ℕ) (name : Refusal) → read_from (judge most) AfterEnd nothing 1 (lines bytes) ≡ Err (k, name) → IsRefusedAt most bytes k name
-reading most bytes k name h =
+reading : (bytes : List ℕ) (k : ℕ) (name : Refusal) → read_from nothing 1 (lines bytes) ≡ Err (k, name) → IsRefusedAt bytes k name
+reading bytes k name h =
     let some = some_lines bytes in
-    let f = finds most nothing some.0 some.1 1 k name (held_first most) (sym (ap (read_from (judge most) AfterEnd nothing 1) some.2) ∙ h) in
-    record { before = f.before; piece = f.piece; behind = f.behind; past = f.last; are = some.2 ∙ f.are; number = f.number; says = f.says; row = f.row }
+    let f = finds nothing some.0 some.1 1 k name held_first (sym (ap (read_from nothing 1) some.2) ∙ h) in
+    record { before = f.before; piece = f.piece; behind = f.behind; past = f.last; are = some.2 ∙ f.are; number = f.number; says = f.says; row = lowest_of (piece_offends f.last f.piece f.behind) name f.row }
 
-there : (most : ℕ) (bytes : List ℕ) (k : ℕ) (name : Refusal) → read_up_to most bytes ≡ Err (k, name) → IsFirstRefusal most bytes k name
-unfolding read_by
-there most bytes k name h = elim (way (nat_lt 1048576 (length bytes))) [
+there : (bytes : List ℕ) (k : ℕ) (name : Refusal) → read bytes ≡ Err (k, name) → IsFirstRefusal bytes k name
+unfolding read
+there bytes k name h = elim (way (nat_lt 1048576 (length bytes))) [
   | inl long ↦ inl ((above (length bytes) long, (too_long k name (sym (rw long refl) ∙ h)).0, (too_long k name (sym (rw long refl) ∙ h)).1))
-  | inr short ↦ inr ((not_above 1048576 (length bytes) short, reading most bytes k name (program_refused (read_from (judge most) AfterEnd nothing 1 (lines bytes)) k name (sym (rw short refl) ∙ h))))
+  | inr short ↦ inr ((not_above 1048576 (length bytes) short, reading bytes k name (program_refused (read_from nothing 1 (lines bytes)) k name (sym (rw short refl) ∙ h))))
 ]
 
-back : (most : ℕ) (bytes : List ℕ) (k : ℕ) (name : Refusal) → IsFirstRefusal most bytes k name → read_up_to most bytes ≡ Err (k, name)
-unfolding read_by
-back most bytes k name (inl long) = let t = is_above (length bytes) long.0 in rw t (sym (at_line_0 k name long.1 long.2))
+back : (bytes : List ℕ) (k : ℕ) (name : Refusal) → IsFirstRefusal bytes k name → read bytes ≡ Err (k, name)
+unfolding read
+back bytes k name (inl long) = let t = is_above (length bytes) long.0 in rw t (sym (at_line_0 k name long.1 long.2))
   where
     at_line_0 : (k : ℕ) (name : Refusal) → k ≡ 0 → name ≡ TooLong → answer k name ≡ answer 0 TooLong
     at_line_0 k name e f = rw (e, f) refl
-back most bytes k name (inr at) =
+back bytes k name (inr at) =
     let t = isnt_above (length bytes) at.0 in
     let r = at.1 in
-    let e : read_from (judge most) AfterEnd nothing 1 (lines bytes) ≡ Err (k, name) = ap (read_from (judge most) AfterEnd nothing 1) r.are ∙ refuses most nothing r.past r.before r.piece r.behind 1 k name (held_first most) r.number r.says r.row in
+    let e : read_from nothing 1 (lines bytes) ≡ Err (k, name) = ap (read_from nothing 1) r.are ∙ refuses nothing r.past r.before r.piece r.behind 1 k name held_first r.number r.says (first_is (piece_offends r.past r.piece r.behind) name r.row) in
     rw (t, e) refl
 
 pub texts_by_the_rows : TextsByTheRows
-texts_by_the_rows most bytes k name = (there most bytes k name, back most bytes k name)
+texts_by_the_rows bytes k name = (there bytes k name, back bytes k name)

@@ -1,21 +1,22 @@
-//! The table of refusals as laws over whole lines and whole texts: which rows hold of a line, given the lines before it, in
-//! the order of their numbers, and that the lowest line counts, and on it the lowest row.
+//! The table of refusals as laws over whole lines and whole texts: which rows a line offends, given the lines before it, and
+//! that the lowest line counts, and on it the row of the lowest number.
 #![tactic(auto)]
 
 ghost use Rattle.language_table.specs.Grammar.{WordsByTheTable};
 ghost use Rattle.language_table.specs.Rows.{ByTheRows};
 ghost use Rattle.language_table.specs.Texts.{LinesCount, TextsByTheRows};
 
-/// A line that is due is refused by the first row that holds of it, and taken where none does. This stands wherever the
-/// earlier lines' prints are counted, as they are behind all lines that are taken from the first one on.
+/// A line that is due is refused by the lowest row that it offends, and taken exactly where it offends none. This stands wherever
+/// the earlier lines' prints are counted and their groups have members, as is so behind all lines that are taken from the
+/// first one on.
 pub fn refused_by_the_rows()
     ensures rows { ByTheRows }
     ensures counted { LinesCount }
 {}
 
-/// A text is refused exactly where a row holds: TooLong first, with the line 0, then the lowest line, counted from 1, and on it
-/// the lowest row. A line that is due but has no LF is Unended, and bytes behind the last line are AfterEnd, with the line
-/// behind it.
+/// A text is refused exactly where it offends a row: TooLong first, with the line 0, then the lowest line, counted from 1, and on
+/// it the lowest row. A line that is due but has no LF is Unended, and bytes behind the last line are AfterEnd, with the
+/// line behind it.
 pub fn texts_refused_by_the_rows()
     ensures rows { TextsByTheRows }
 {}
