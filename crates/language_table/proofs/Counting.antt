@@ -76,7 +76,8 @@ abbrev Of : Result Past Refusal → Type 0
 Of (Ok past) = Held past
 Of (Err name) = Unit {0}
 
-of_or : {A : Type 0} (name : Refusal) (o : Option A) (f : A → Result Past Refusal) → ((x : A) → o ≡ Some x → Of (f x)) → Of (or_refuse name o >>= f)
+of_or : {A : Type 0} (name : Refusal) (o : Option A) (f : A → Result Past Refusal) → ((x : A) → o ≡ Some x → Of (f x))
+    → Of (or_refuse name o >>= f)
 of_or name None f h = tt
 of_or name (Some x) f h = h x refl
 
@@ -97,7 +98,8 @@ counted_with : (past : Past) (c : List Buffer) → Held past → past.printed �
 counted_with past c h = h.counted ∙ sym (grown past.buffers c past.prints h.below)
 
 below_with : (past : Past) (b : Buffer) → Held past → Below (length (past.buffers ++ b ∷ [])) past.prints
-below_with past b h = let l = longer past.buffers b in below_more (length past.buffers) (length (past.buffers ++ b ∷ [])) past.prints (omega (arith, l)) h.below
+below_with past b h = let l = longer past.buffers b in below_more (length past.buffers) (length (past.buffers ++ b ∷ [])) past.prints
+    (omega (arith, l)) h.below
 
 some_members : (ms : List ℕ) → nat_lt 0 (length ms) ≡ true → 1 ≤ length ms
 some_members ms h = grind (arith, nat_tests)
@@ -113,7 +115,8 @@ groups_held past name members h =
       counted = h.counted;
       below = h.below;
       some_ranks = h.some_ranks;
-      peopled = each_more (λ (g : Group). 1 ≤ length g.members) past.groups (record { name = name; members = ms }) no_group h.peopled (some_members ms (both_true _ _ (not_not (are_members past.ranks ms) right)).1);
+      peopled = each_more (λ (g : Group). 1 ≤ length g.members) past.groups (record { name = name; members = ms }) no_group h.peopled
+          (some_members ms (both_true _ _ (not_not (are_members past.ranks ms) right)).1);
     }))))
 
 inputs_held : (past : Past) (name : List ℕ) (ty : ElemType) (count : List ℕ) → Held past → Of (input_line past name ty count)
@@ -156,7 +159,8 @@ steps_held past on words h =
     of_refuse (holds_of (λ on. nat_le (length (members_in past on)) root) (group_named past.groups on)) BadRoot _ (λ _.
     of_refuse (holds_of (λ on. not (can_read (members_in past on) s from.1)) (group_named past.groups on)) WrongShape _ (λ _.
     of_refuse (nat_le 64 (length past.steps) || (is_some words.names && nat_le 128 (length past.buffers))) TooMany _ (λ _.
-    of_refuse (holds_of (λ on. nat_lt most_elements (made_length (members_in past on) s from.1)) (group_named past.groups on)) TooLarge _ (λ _.
+    of_refuse (holds_of (λ on. nat_lt most_elements (made_length (members_in past on) s from.1)) (group_named past.groups on)) TooLarge _
+    (λ _.
     of_or BadGroup (group_named past.groups on) _ (λ g _.
     record {
       counted = counted words.names (members_in past g) s from.1;
@@ -165,11 +169,13 @@ steps_held past on words h =
       peopled = h.peopled;
     })))))))
   where
-    counted : (names : Option (List ℕ × List ℕ)) (g : List ℕ) (s : CollStep) (x : Buffer) → past.printed ≡ elements (with_made past.buffers g s x names) past.prints
+    counted : (names : Option (List ℕ × List ℕ)) (g : List ℕ) (s : CollStep) (x : Buffer)
+        → past.printed ≡ elements (with_made past.buffers g s x names) past.prints
     counted None g s x = h.counted
     counted (Some n) g s x = counted_with past _ h
 
-    below : (names : Option (List ℕ × List ℕ)) (g : List ℕ) (s : CollStep) (x : Buffer) → Below (length (with_made past.buffers g s x names)) past.prints
+    below : (names : Option (List ℕ × List ℕ)) (g : List ℕ) (s : CollStep) (x : Buffer)
+        → Below (length (with_made past.buffers g s x names)) past.prints
     below None g s x = h.below
     below (Some n) g s x = below_with past _ h
 
@@ -186,12 +192,14 @@ forms_held past last h = record { counted = h.counted; below = h.below; some_ran
 later_held : (past : Past) (line : List ℕ) → Held past → Of (later_line past line)
 unfolding later_line
 later_held past line h =
-    of_or BadLine (form_of (words line)) _ (λ form _. of_refuse (not (may_stand past.version past.stage form)) BadLine _ (λ _. forms_held past form h))
+    of_or BadLine (form_of (words line)) _
+    (λ form _. of_refuse (not (may_stand past.version past.stage form)) BadLine _ (λ _. forms_held past form h))
 
 values_held : (past : Past) (left : ℕ) (ty : ElemType) (count : ℕ) (line : List ℕ) → Held past → Of (values_line past left ty count line)
 unfolding values_line
 values_held past left ty count line h =
-    of_then (unless_flawed (data_line ty count (words line))) _ (λ bytes. record { counted = h.counted; below = h.below; some_ranks = h.some_ranks; peopled = h.peopled })
+    of_then (unless_flawed (data_line ty count (words line))) _
+    (λ bytes. record { counted = h.counted; below = h.below; some_ranks = h.some_ranks; peopled = h.peopled })
 
 -- the number of line 2 is at least 1
 some_number : (low high : ℕ) (word : List ℕ) (n : ℕ) → number_between low high word ≡ Some n → low ≤ n
@@ -225,9 +233,17 @@ some_ranks_in most (key ∷ w ∷ v ∷ ws) n h = cc
 
 at_held : (stage : Stage) (past : Past) (line : List ℕ) → Held past → Of (line_at stage past line)
 unfolding line_at
-at_held Header past line h = of_or BadHeader (version_of line) _ (λ v _. record { counted = h.counted; below = h.below; some_ranks = h.some_ranks; peopled = h.peopled })
+at_held Header past line h = of_or BadHeader (version_of line) _
+    (λ v _. record { counted = h.counted; below = h.below; some_ranks = h.some_ranks; peopled = h.peopled })
 at_held Ranks past line h =
-    of_or BadRanks (ranks_in (most_ranks past.version) (words line)) _ (λ n is. record { counted = h.counted; below = h.below; some_ranks = some_ranks_in (most_ranks past.version) (words line) n is; peopled = h.peopled })
+    of_or BadRanks (ranks_in (most_ranks past.version) (words line)) _
+    (λ n is. record {
+      counted = h.counted;
+      below = h.below;
+      some_ranks = some_ranks_in (most_ranks past.version)
+          (words line) n is;
+      peopled = h.peopled;
+    })
 at_held (Data left ty count) past line h = values_held past left ty count line h
 at_held Options past line h = later_held past line h
 at_held Groups past line h = later_held past line h
@@ -259,7 +275,8 @@ held_by past end [] h e = subst Held (some_is past end e) h
     some_is x y e = cc
 held_by past end (line ∷ lines) h e = on (judge past line) (λ next is. held_by next end lines (held_on past next line h is)) e
   where
-    on : (r : Result Past Refusal) → ((next : Past) → r ≡ Ok next → said_by next lines ≡ Some end → Held end) → option_and_then (λ next. said_by next lines) (taken r) ≡ Some end → Held end
+    on : (r : Result Past Refusal) → ((next : Past) → r ≡ Ok next → said_by next lines ≡ Some end → Held end)
+        → option_and_then (λ next. said_by next lines) (taken r) ≡ Some end → Held end
     on (Ok next) f e = f next refl e
     on (Err name) f e = cc
 

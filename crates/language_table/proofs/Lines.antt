@@ -30,19 +30,22 @@ use Rattle.language_table.proofs.Grammar.{words_by_the_table}
 
 -- ---- lines that say something, if they may stand where they do
 groups : {A : Type 0} (numbers : Option (List ℕ)) (taken full : Bool) (bad : List ℕ → Bool) (next : List ℕ → A)
-    → refusal_in (or_refuse BadNumber numbers >>= λ ms. refuse taken NameTaken >>= λ _. refuse full TooMany >>= λ _. refuse (bad ms) BadGroup >>= λ _. Ok (next ms))
+    → refusal_in (or_refuse BadNumber numbers >>= λ ms. refuse taken NameTaken >>= λ _. refuse full TooMany >>= λ _. refuse
+    (bad ms) BadGroup >>= λ _. Ok (next ms))
     ≡ first_row ((BadNumber, is_none numbers) ∷ (NameTaken, taken) ∷ (TooMany, full) ∷ (BadGroup, holds_of bad numbers) ∷ [])
 groups None taken full bad next = refl
 groups (Some ms) true full bad next = refl
 groups (Some ms) false true bad next = refl
-groups (Some ms) false false bad next = elim (bad ms) as (λ b. refusal_in (refuse b BadGroup >>= λ _. Ok (next ms)) ≡ first_row ((BadGroup, b) ∷ [])) [ true ↦ refl | false ↦ refl ]
+groups (Some ms) false false bad next = elim (bad ms) as
+    (λ b. refusal_in (refuse b BadGroup >>= λ _. Ok (next ms)) ≡ first_row ((BadGroup, b) ∷ [])) [ true ↦ refl | false ↦ refl ]
 
 -- all words are numbers, or one is none
 numbers_there : (ws : List (List ℕ)) → is_none (all_numbers ws) ≡ list_any (λ w. is_none (number_of w)) ws
 numbers_there [] = refl
 numbers_there (w ∷ ws) = one (number_of w) (all_numbers ws) (list_any (λ w. is_none (number_of w)) ws) (numbers_there ws)
   where
-    one : (n : Option ℕ) (more : Option (List ℕ)) (none : Bool) → is_none more ≡ none → is_none (option_and_then (λ n. option_map (λ ns. n ∷ ns) more) n) ≡ (is_none n || none)
+    one : (n : Option ℕ) (more : Option (List ℕ)) (none : Bool) → is_none more ≡ none
+        → is_none (option_and_then (λ n. option_map (λ ns. n ∷ ns) more) n) ≡ (is_none n || none)
     one None more none h = refl
     one (Some n) None none h = h
     one (Some n) (Some ns) none h = h
@@ -55,7 +58,9 @@ inputs (Some len) true full next = refl
 inputs (Some len) false true next = refl
 inputs (Some len) false false next = refl
 
-choices : {A : Type 0} (taken full : Bool) (next : A) → refusal_in (refuse taken NameTaken >>= λ _. refuse full TooMany >>= λ _. Ok next) ≡ first_row ((NameTaken, taken) ∷ (TooMany, full) ∷ [])
+choices : {A : Type 0} (taken full : Bool) (next : A)
+    → refusal_in (refuse taken NameTaken >>= λ _. refuse full TooMany >>= λ _. Ok next)
+    ≡ first_row ((NameTaken, taken) ∷ (TooMany, full) ∷ [])
 choices true full next = refl
 choices false true next = refl
 choices false false next = refl
@@ -65,11 +70,13 @@ prints : {A F : Type 0} (from : Option F) (full : Bool) (large : F → Bool) (ne
     ≡ first_row ((UnknownBuffer, is_none from) ∷ (TooMany, full) ∷ (TooLarge, holds_of large from) ∷ [])
 prints None full large next = refl
 prints (Some f) true large next = refl
-prints (Some f) false large next = elim (large f) as (λ b. refusal_in (refuse b TooLarge >>= λ _. Ok (next f)) ≡ first_row ((TooLarge, b) ∷ [])) [ true ↦ refl | false ↦ refl ]
+prints (Some f) false large next = elim (large f) as
+    (λ b. refusal_in (refuse b TooLarge >>= λ _. Ok (next f)) ≡ first_row ((TooLarge, b) ∷ [])) [ true ↦ refl | false ↦ refl ]
 
 -- the last part of a step: its place, its shape, room, size and group
 ends : {G A : Type 0} (late bad full large : Bool) (found : Option G) (next : G → A)
-    → refusal_in (refuse late BadRoot >>= λ _. refuse bad WrongShape >>= λ _. refuse full TooMany >>= λ _. refuse large TooLarge >>= λ _. or_refuse BadGroup found >>= λ g. Ok (next g))
+    → refusal_in (refuse late BadRoot >>= λ _. refuse bad WrongShape >>= λ _. refuse full TooMany >>= λ _.
+    refuse large TooLarge >>= λ _. or_refuse BadGroup found >>= λ g. Ok (next g))
     ≡ first_row ((BadRoot, late) ∷ (WrongShape, bad) ∷ (TooMany, full) ∷ (TooLarge, large) ∷ (BadGroup, is_none found) ∷ [])
 ends true bad full large found next = refl
 ends false true full large found next = refl
@@ -86,7 +93,8 @@ abbrev unread : Past → StepWords → Option ℕ → ℕ × Buffer → ℕ → 
 unread past words g from root = not (can_read (members_in past g) (step_of words.kind root words.op from.0 (length past.buffers)) from.1)
 
 abbrev too_long : Past → StepWords → Option ℕ → ℕ × Buffer → ℕ → Bool
-too_long past words g from root = nat_lt most_elements (made_length (members_in past g) (step_of words.kind root words.op from.0 (length past.buffers)) from.1)
+too_long past words g from root = nat_lt most_elements
+    (made_length (members_in past g) (step_of words.kind root words.op from.0 (length past.buffers)) from.1)
 
 abbrev is_full : Past → StepWords → Bool
 is_full past words = nat_le 64 (length past.steps) || (is_some words.names && nat_le 128 (length past.buffers))
@@ -105,15 +113,18 @@ step_rows past words names number found =
 
 rooted : (past : Past) (words : StepWords) (root : ℕ) (from : ℕ × Buffer) (found : Option (Option ℕ))
     → refusal_in (step_on past words root from found)
-    ≡ first_row ((BadRoot, holds_of (λ g. nat_le (length (members_in past g)) root) found) ∷ (WrongShape, holds_of (λ g. unread past words g from root) found) ∷ (TooMany, is_full past words)
+    ≡ first_row ((BadRoot, holds_of (λ g. nat_le (length (members_in past g)) root) found)
+    ∷ (WrongShape, holds_of (λ g. unread past words g from root) found) ∷ (TooMany, is_full past words)
     ∷ (TooLarge, holds_of (λ g. too_long past words g from root) found) ∷ (BadGroup, is_none found) ∷ [])
 unfolding step_on
 rooted past words root from found =
-    ends (holds_of (λ g. nat_le (length (members_in past g)) root) found) (holds_of (λ g. unread past words g from root) found) (is_full past words) (holds_of (λ g. too_long past words g from root) found) found _
+    ends (holds_of (λ g. nat_le (length (members_in past g)) root) found) (holds_of (λ g. unread past words g from root) found)
+    (is_full past words) (holds_of (λ g. too_long past words g from root) found) found _
 
 named : (past : Past) (words : StepWords) (root : ℕ) (found : Option (Option ℕ)) (taken : Bool) (source : Option (ℕ × Buffer))
     → refusal_in ((refuse taken NameTaken >>= λ _. or_refuse UnknownBuffer source) >>= λ from. step_on past words root from found)
-    ≡ first_row ((NameTaken, taken) ∷ (UnknownBuffer, is_none source) ∷ (BadRoot, holds_of (λ g. nat_le (length (members_in past g)) root) found)
+    ≡ first_row ((NameTaken, taken) ∷ (UnknownBuffer, is_none source)
+    ∷ (BadRoot, holds_of (λ g. nat_le (length (members_in past g)) root) found)
     ∷ (WrongShape, of_found (unread past words) source (Some root) found) ∷ (TooMany, is_full past words)
     ∷ (TooLarge, of_found (too_long past words) source (Some root) found) ∷ (BadGroup, is_none found) ∷ [])
 named past words root found true source = refl
@@ -121,7 +132,8 @@ named past words root found false None = refl
 named past words root found false (Some from) = rooted past words root from found
 
 chain : (past : Past) (words : StepWords) (names : Option (List ℕ × List ℕ)) (number : Option ℕ) (found : Option (Option ℕ))
-    → refusal_in (or_refuse BadNumber number >>= λ root. source_named past names >>= λ from. step_on past words root from found) ≡ first_row (step_rows past words names number found)
+    → refusal_in (or_refuse BadNumber number >>= λ root. source_named past names >>= λ from. step_on past words root from found)
+    ≡ first_row (step_rows past words names number found)
 unfolding source_named
 chain past words names None found = refl
 chain past words None (Some root) found = rooted past words root _ found
@@ -131,7 +143,8 @@ chain past words (Some n) (Some root) found = named past words root found (is_ta
 no_place : (m : ℕ) → 1 ≤ m → nat_le m 0 ≡ false
 no_place m l = grind (arith, nat_tests)
 
-late_is : (past : Past) (on : Option (List ℕ)) (root : Option (List ℕ)) (found : Option (Option ℕ)) → ((g : Option ℕ) → found ≡ Some g → 1 ≤ length (members_in past g))
+late_is : (past : Past) (on : Option (List ℕ)) (root : Option (List ℕ)) (found : Option (Option ℕ))
+    → ((g : Option ℕ) → found ≡ Some g → 1 ≤ length (members_in past g))
     → holds_of (λ g. holds_of (nat_le (length (members_in past g))) (root_number root)) found
     ≡ holds_of (λ g. holds_of (λ word. holds_of (nat_le (length (members_in past g))) (number_of word)) root) found
 late_is past on root None h = refl
@@ -151,13 +164,17 @@ others past right form =
     ∷ (TooLarge, holds_of (too_large past) form)
     ∷ (BadGroup, holds_of (bad_group past) form) ∷ []
 
-steps : (past : Past) (on : Option (List ℕ)) (words : StepWords) → Counts past → refusal_in (step_line past on words) ≡ first_row (others past true (Some (step on words)))
+steps : (past : Past) (on : Option (List ℕ)) (words : StepWords) → Counts past
+    → refusal_in (step_line past on words) ≡ first_row (others past true (Some (step on words)))
 unfolding step_line rooted_line
 steps past on words counts =
     chain past words words.names (root_number words.root) (group_named past.groups on)
-    ∙ ap (λ late. first_row ((BadNumber, is_none (root_number words.root)) ∷ (NameTaken, holds_of (λ n. is_taken past n.1) words.names) ∷ (UnknownBuffer, holds_of (λ n. is_none (buffer_named past.buffers n.0)) words.names) ∷ (BadRoot, late)
-    ∷ (WrongShape, of_found (unread past words) (source_in past words.names) (root_number words.root) (group_named past.groups on)) ∷ (TooMany, is_full past words)
-    ∷ (TooLarge, of_found (too_long past words) (source_in past words.names) (root_number words.root) (group_named past.groups on)) ∷ (BadGroup, is_none (group_named past.groups on)) ∷ []))
+    ∙ ap (λ late. first_row ((BadNumber, is_none (root_number words.root)) ∷ (NameTaken, holds_of (λ n. is_taken past n.1) words.names)
+    ∷ (UnknownBuffer, holds_of (λ n. is_none (buffer_named past.buffers n.0)) words.names) ∷ (BadRoot, late)
+    ∷ (WrongShape, of_found (unread past words) (source_in past words.names) (root_number words.root) (group_named past.groups on))
+    ∷ (TooMany, is_full past words)
+    ∷ (TooLarge, of_found (too_long past words) (source_in past words.names) (root_number words.root) (group_named past.groups on))
+    ∷ (BadGroup, is_none (group_named past.groups on)) ∷ []))
     (late_is past on words.root (group_named past.groups on) (counts.peopled on))
 
 forms : (past : Past) (form : Form) → Counts past → refusal_in (form_line past form) ≡ first_row (others past true (Some form))
@@ -165,25 +182,32 @@ unfolding form_line group_line input_line choice_line print_line
 forms past complete counts = refl
 forms past (group name members) counts =
     groups (all_numbers members) (is_taken past name) (nat_le 64 (length past.groups)) (λ ms. not (are_members past.ranks ms)) _
-    ∙ ap (λ b. first_row ((BadNumber, b) ∷ (NameTaken, is_taken past name) ∷ (TooMany, nat_le 64 (length past.groups)) ∷ (BadGroup, holds_of (λ ms. not (are_members past.ranks ms)) (all_numbers members)) ∷ [])) (numbers_there members)
+    ∙ ap (λ b. first_row ((BadNumber, b) ∷ (NameTaken, is_taken past name) ∷ (TooMany, nat_le 64 (length past.groups))
+    ∷ (BadGroup, holds_of (λ ms. not (are_members past.ranks ms)) (all_numbers members)) ∷ [])) (numbers_there members)
 forms past (input name ty count) counts = inputs (number_between 1 4096 count) (is_taken past name) (nat_le 128 (length past.buffers)) _
 forms past (step on words) counts = steps past on words counts
 forms past (choice kind name) counts = choices (is_taken past name) (nat_le 64 (length past.choices) || nat_le 128 (length past.buffers)) _
 forms past (print name) counts =
-    prints (buffer_named past.buffers name) (nat_le 128 (length past.prints)) (λ from. nat_lt most_elements (past.printed + elements_of from.1)) _
-    ∙ ap (λ n. first_row ((UnknownBuffer, is_none (buffer_named past.buffers name)) ∷ (TooMany, nat_le 128 (length past.prints)) ∷ (TooLarge, holds_of (λ from. nat_lt most_elements (n + elements_of from.1)) (buffer_named past.buffers name)) ∷ [])) counts.counted
+    prints (buffer_named past.buffers name) (nat_le 128 (length past.prints))
+    (λ from. nat_lt most_elements (past.printed + elements_of from.1)) _
+    ∙ ap (λ n. first_row ((UnknownBuffer, is_none (buffer_named past.buffers name)) ∷ (TooMany, nat_le 128 (length past.prints))
+    ∷ (TooLarge, holds_of (λ from. nat_lt most_elements (n + elements_of from.1)) (buffer_named past.buffers name))
+    ∷ [])) counts.counted
 forms past last counts = refl
 
 -- a line that says something, if that may stand here
-if_it_stands : (past : Past) (form : Form) (b : Bool) → Counts past → refusal_in (refuse (not b) BadLine >>= λ _. form_line past form) ≡ first_row (others past b (Some form))
+if_it_stands : (past : Past) (form : Form) (b : Bool) → Counts past
+    → refusal_in (refuse (not b) BadLine >>= λ _. form_line past form) ≡ first_row (others past b (Some form))
 if_it_stands past form true counts = forms past form counts
 if_it_stands past form false counts = refl
 
 stands : (past : Past) (form : Option Form) (right : Bool) → Counts past → holds_of (may_stand past.version past.stage) form ≡ right
-    → refusal_in (or_refuse BadLine form >>= λ f. refuse (not (may_stand past.version past.stage f)) BadLine >>= λ _. form_line past f) ≡ first_row (others past right form)
+    → refusal_in (or_refuse BadLine form >>= λ f. refuse (not (may_stand past.version past.stage f)) BadLine >>= λ _. form_line past f)
+    ≡ first_row (others past right form)
 stands past None right counts e = subst (λ r. Some BadLine ≡ first_row (others past r None)) e refl
 stands past (Some form) right counts e =
-    subst (λ r. refusal_in (refuse (not (may_stand past.version past.stage form)) BadLine >>= λ _. form_line past form) ≡ first_row (others past r (Some form))) e (if_it_stands past form (may_stand past.version past.stage form) counts)
+    subst (λ r. refusal_in (refuse (not (may_stand past.version past.stage form)) BadLine >>= λ _. form_line past form)
+    ≡ first_row (others past r (Some form))) e (if_it_stands past form (may_stand past.version past.stage form) counts)
 
 -- ---- the rows of a line of allowed bytes
 abbrev rows_of : Past → Kind → List (Refusal × Bool)
@@ -202,7 +226,8 @@ rows_of past kind =
 
 later : (past : Past) (line : List ℕ) → Counts past → refusal_in (later_line past line) ≡ first_row (rows_of past (other (words line)))
 unfolding later_line
-later past line counts = stands past (form_of (words line)) (may_be past.version past.stage (words line)) counts (words_by_the_table past.version past.stage (words line))
+later past line counts = stands past (form_of (words line)) (may_be past.version past.stage (words line)) counts
+    (words_by_the_table past.version past.stage (words line))
 
 -- all words are values, or one is none
 values_there : (ty : ElemType) (ws : List (List ℕ)) → is_none (all_values ty ws) ≡ list_any (λ w. is_none (value_of ty w)) ws
@@ -216,30 +241,37 @@ values_there ty (w ∷ ws) = one (value_of ty w) (all_values ty ws) (list_any (�
     one (Some n) (Some bytes) none h = h
 
 values_end : {A : Type 0} (counted empty : Bool) (bytes : Option (List ℕ)) (next : List ℕ → A)
-    → refusal_in (unless_flawed (cond (counted && not empty) (or_no_value bytes) (Err Malformed)) >>= λ b. Ok (next b)) ≡ first_row ((BadLine, not counted || empty) ∷ (BadNumber, is_none bytes) ∷ [])
+    → refusal_in (unless_flawed (cond (counted && not empty) (or_no_value bytes) (Err Malformed)) >>= λ b. Ok (next b))
+    ≡ first_row ((BadLine, not counted || empty) ∷ (BadNumber, is_none bytes) ∷ [])
 values_end false empty bytes next = refl
 values_end true true bytes next = refl
 values_end true false None next = refl
 values_end true false (Some b) next = refl
 
 data_lines : (past : Past) (left : ℕ) (ty : ElemType) (count : ℕ) (line : List ℕ)
-    → refusal_in (values_line past left ty count line) ≡ first_row ((BadLine, not (length (words line) == count) || list_any is_empty (words line)) ∷ (BadNumber, list_any (λ w. is_none (value_of ty w)) (words line)) ∷ [])
+    → refusal_in (values_line past left ty count line)
+    ≡ first_row ((BadLine, not (length (words line) == count) || list_any is_empty (words line))
+    ∷ (BadNumber, list_any (λ w. is_none (value_of ty w)) (words line)) ∷ [])
 unfolding values_line data_line
 data_lines past left ty count line =
     values_end (length (words line) == count) (list_any is_empty (words line)) (all_values ty (words line)) _
-    ∙ ap (λ (b : Bool). first_row ((BadLine, not (length (words line) == count) || list_any is_empty (words line)) ∷ (BadNumber, b) ∷ [])) (values_there ty (words line))
+    ∙ ap (λ (b : Bool). first_row ((BadLine, not (length (words line) == count) || list_any is_empty (words line)) ∷ (BadNumber, b) ∷ []))
+    (values_there ty (words line))
 
 header : {A : Type 0} (one two : Bool) (next : Version → A)
-    → refusal_in (or_refuse BadHeader (cond one (Some One) (cond two (Some Two) None)) >>= λ v. Ok (next v)) ≡ first_row ((BadHeader, not one && not two) ∷ [])
+    → refusal_in (or_refuse BadHeader (cond one (Some One) (cond two (Some Two) None)) >>= λ v. Ok (next v))
+    ≡ first_row ((BadHeader, not one && not two) ∷ [])
 header true two next = refl
 header false true next = refl
 header false false next = refl
 
-ranks_end : {A : Type 0} (n : Option ℕ) (next : ℕ → A) → refusal_in (or_refuse BadRanks n >>= λ n. Ok (next n)) ≡ first_row ((BadRanks, is_none n) ∷ [])
+ranks_end : {A : Type 0} (n : Option ℕ) (next : ℕ → A)
+    → refusal_in (or_refuse BadRanks n >>= λ n. Ok (next n)) ≡ first_row ((BadRanks, is_none n) ∷ [])
 ranks_end None next = refl
 ranks_end (Some n) next = refl
 
-at : (stage : Stage) (past : Past) (line : List ℕ) → Counts past → is_finished stage ≡ false → refusal_in (line_at stage past line) ≡ first_row (rows_of past (kind_at stage line))
+at : (stage : Stage) (past : Past) (line : List ℕ) → Counts past → is_finished stage ≡ false
+    → refusal_in (line_at stage past line) ≡ first_row (rows_of past (kind_at stage line))
 unfolding line_at
 at Header past line counts due = header (bytes_eq line (codes "coll 1")) (bytes_eq line (codes "coll 2")) _
 at Ranks past line counts due = ranks_end (ranks_in (most_ranks past.version) (words line)) _
@@ -253,11 +285,14 @@ at Prints past line counts due = later past line counts
 at Finished past line counts due = cc
 
 -- the refusal is the first row in the order of numbers
-pub first_judged : (past : Past) (line : List ℕ) → Counts past → is_finished past.stage ≡ false → refusal_in (judge past line) ≡ first_of (offends past line) all_names
+pub first_judged : (past : Past) (line : List ℕ) → Counts past → is_finished past.stage ≡ false
+    → refusal_in (judge past line) ≡ first_of (offends past line) all_names
 unfolding judge
-first_judged past line counts due = bytes (list_all is_allowed line) (line_at past.stage past line) (rows_of past (kind_at past.stage line)) (at past.stage past line counts due)
+first_judged past line counts due = bytes (list_all is_allowed line) (line_at past.stage past line)
+    (rows_of past (kind_at past.stage line)) (at past.stage past line counts due)
   where
-    bytes : (b : Bool) (r : Result Past Refusal) (others : List (Refusal × Bool)) → refusal_in r ≡ first_row others → refusal_in (cond b r (Err BadByte)) ≡ first_row ((BadByte, not b) ∷ others)
+    bytes : (b : Bool) (r : Result Past Refusal) (others : List (Refusal × Bool)) → refusal_in r ≡ first_row others
+        → refusal_in (cond b r (Err BadByte)) ≡ first_row ((BadByte, not b) ∷ others)
     bytes true r others h = h
     bytes false r others h = refl
 

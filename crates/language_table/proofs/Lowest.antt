@@ -81,7 +81,16 @@ NumberedFrom k (n ∷ ns) = (refusal_number n ≡ k) × NumberedFrom (suc k) ns
 
 all_numbered : NumberedFrom 1 all_names
 unfolding NumberedFrom
-all_numbered = (refl, (refl, (refl, (refl, (refl, (refl, (refl, (refl, (refl, (refl, (refl, (refl, (refl, (refl, (refl, (refl, (refl, (refl, (refl, tt)))))))))))))))))))
+all_numbered = (
+  refl,
+  (
+    refl,
+    (
+      refl,
+      (refl, (refl, (refl, (refl, (refl, (refl, (refl, (refl, (refl, (refl, (refl, (refl, (refl, (refl, (refl, (refl, tt)))))))))))))))),
+    ),
+  ),
+)
 
 here_or_later : (k m : ℕ) → k ≤ m → (m ≡ k) ⊎ (suc k ≤ m)
 here_or_later k m l = grind arith
@@ -103,7 +112,8 @@ same_name a b e = cc
 
 -- the first of names from k on is offended, and is the lowest of those from k on
 lowest_from : (offends : Refusal → Bool) (k : ℕ) (ns : List Refusal) (name : Refusal) → NumberedFrom k ns → first_of offends ns ≡ Some name
-    → (offends name ≡ true) × ((other : Refusal) → k ≤ refusal_number other → offends other ≡ true → refusal_number name ≤ refusal_number other)
+    → (offends name ≡ true) × ((other : Refusal) → k ≤ refusal_number other → offends other ≡ true
+    → refusal_number name ≤ refusal_number other)
 unfolding NumberedFrom
 lowest_from offends k [] name h e = absurd (never name e)
   where
@@ -111,8 +121,11 @@ lowest_from offends k [] name h e = absurd (never name e)
     never n e = cc
 lowest_from offends k (n ∷ ns) name h e = elim (way (offends n)) [
   | inl is ↦
-      let same : n ≡ name = same_name n name (sym (ap (λ b. cond b (Some n) (first_of offends ns)) is) ∙ e) in
-      (subst (λ x. offends x ≡ true) same is, λ other l o. subst (λ x. refusal_number x ≤ refusal_number other) same (let at = h.0 in omega (arith, at, l)))
+      let same : n ≡ name = same_name n name (sym (ap (λ b. cond b (Some n) (first_of offends ns)) is) ∙ e) in (
+        subst (λ x. offends x ≡ true) same is,
+        λ other l o. subst
+            (λ x. refusal_number x ≤ refusal_number other) same (let at = h.0 in omega (arith, at, l)),
+      )
   | inr isnt ↦
       let rest = lowest_from offends (suc k) ns name h.1 (sym (ap (λ b. cond b (Some n) (first_of offends ns)) isnt) ∙ e) in (
         rest.0,
@@ -131,7 +144,8 @@ none_from offends k (n ∷ ns) h e other l u = elim (way (offends n)) [
   | inl is ↦ no_name n (sym (ap (λ b. cond b (Some n) (first_of offends ns)) is) ∙ e)
   | inr isnt ↦ elim (here_or_later k (refusal_number other) l) [
     | inl at ↦ ap offends (same_number other n (at ∙ sym h.0)) ∙ isnt
-    | inr later ↦ none_from offends (suc k) ns h.1 (sym (ap (λ b. cond b (Some n) (first_of offends ns)) isnt) ∙ e) other later (omega (arith, u))
+    | inr later ↦ none_from offends (suc k) ns h.1 (sym (ap (λ b. cond b (Some n) (first_of offends ns)) isnt) ∙ e) other later
+        (omega (arith, u))
   ]
 ]
 

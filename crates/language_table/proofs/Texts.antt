@@ -39,19 +39,24 @@ abbrev first_there : Past → List ℕ → List (List ℕ) → Option Refusal
 first_there past piece pieces = first_of (piece_offends past piece pieces) all_names
 
 -- the last piece: Unended where a line is due, else AfterEnd where there are bytes
-last_there : (past : Past) (piece : List ℕ) → first_there past piece [] ≡ cond (is_finished past.stage) (cond (is_empty piece) None (Some AfterEnd)) (Some Unended)
+last_there : (past : Past) (piece : List ℕ)
+    → first_there past piece [] ≡ cond (is_finished past.stage) (cond (is_empty piece) None (Some AfterEnd)) (Some Unended)
 last_there past piece = tests (is_finished past.stage) (is_empty piece)
   where
-    tests : (finished empty : Bool) → cond (not finished) (Some Unended) (cond (finished && not empty) (Some AfterEnd) None) ≡ cond finished (cond empty None (Some AfterEnd)) (Some Unended)
+    tests : (finished empty : Bool)
+        → cond (not finished) (Some Unended) (cond (finished && not empty) (Some AfterEnd) None)
+        ≡ cond finished (cond empty None (Some AfterEnd)) (Some Unended)
     tests true true = refl
     tests true false = refl
     tests false empty = refl
 
 -- a piece with others behind it
-when_finished : (past : Past) (piece next : List ℕ) (pieces : List (List ℕ)) → is_finished past.stage ≡ true → first_there past piece (next ∷ pieces) ≡ Some AfterEnd
+when_finished : (past : Past) (piece next : List ℕ) (pieces : List (List ℕ)) → is_finished past.stage ≡ true
+    → first_there past piece (next ∷ pieces) ≡ Some AfterEnd
 when_finished past piece next pieces done = rw done refl
 
-when_due : (past : Past) (piece next : List ℕ) (pieces : List (List ℕ)) → is_finished past.stage ≡ false → first_there past piece (next ∷ pieces) ≡ first_of (offends past piece) all_names
+when_due : (past : Past) (piece next : List ℕ) (pieces : List (List ℕ)) → is_finished past.stage ≡ false
+    → first_there past piece (next ∷ pieces) ≡ first_of (offends past piece) all_names
 when_due past piece next pieces going = rw going refl
 
 -- a line is taken only where one is due
@@ -86,20 +91,34 @@ record Found (past : Past) (pieces : List (List ℕ)) (k j : ℕ) (name : Refusa
   says : said_by past before ≡ Some last
   row : first_there last piece behind ≡ Some name
 
-here : (past : Past) (piece : List ℕ) (pieces : List (List ℕ)) (k j : ℕ) (name : Refusal) → k ≡ j → first_there past piece pieces ≡ Some name → Found past (piece ∷ pieces) k j name
-here past piece pieces k j name e row = record { before = []; piece = piece; behind = pieces; last = past; are = refl; number = omega (arith, e); says = refl; row = row }
+here : (past : Past) (piece : List ℕ) (pieces : List (List ℕ)) (k j : ℕ) (name : Refusal) → k ≡ j
+    → first_there past piece pieces ≡ Some name → Found past (piece ∷ pieces) k j name
+here past piece pieces k j name e row = record {
+  before = [];
+  piece = piece;
+  behind = pieces;
+  last = past;
+  are = refl;
+  number = omega
+      (arith, e);
+  says = refl;
+  row = row;
+}
 
 -- the last piece
-ends : (finished empty : Bool) (past : Past) (k j : ℕ) (name : Refusal) → cond finished (cond empty (Ok past) (refused k AfterEnd)) (refused k Unended) ≡ refused j name
+ends : (finished empty : Bool) (past : Past) (k j : ℕ) (name : Refusal)
+    → cond finished (cond empty (Ok past) (refused k AfterEnd)) (refused k Unended) ≡ refused j name
     → (k ≡ j) × (cond finished (cond empty None (Some AfterEnd)) (Some Unended) ≡ Some name)
 ends true true past k j name h = cc
 ends true false past k j name h = (ap line_in h, ap name_in h)
 ends false empty past k j name h = (ap line_in h, ap name_in h)
 
-said_more : (past next last : Past) (line : List ℕ) (before : List (List ℕ)) → judge past line ≡ Ok next → said_by next before ≡ Some last → said_by past (line ∷ before) ≡ Some last
+said_more : (past next last : Past) (line : List ℕ) (before : List (List ℕ)) → judge past line ≡ Ok next → said_by next before ≡ Some last
+    → said_by past (line ∷ before) ≡ Some last
 said_more past next last line before e h = rw e h
 
-finds : (past : Past) (piece : List ℕ) (pieces : List (List ℕ)) (k j : ℕ) (name : Refusal) → Held past → read_from past k (piece ∷ pieces) ≡ Err (j, name) → Found past (piece ∷ pieces) k j name
+finds : (past : Past) (piece : List ℕ) (pieces : List (List ℕ)) (k j : ℕ) (name : Refusal) → Held past
+    → read_from past k (piece ∷ pieces) ≡ Err (j, name) → Found past (piece ∷ pieces) k j name
 unfolding read_from
 finds past piece [] k j name held h =
     let e = ends (is_finished past.stage) (is_empty piece) past k j name h in
@@ -125,7 +144,8 @@ finds past piece (other ∷ pieces) k j name held h = elim (way (is_finished pas
     | inr fault ↦
         let r : refused k fault.0 ≡ refused j name = sym (rw (going, fault.1) refl) ∙ h in
         here past piece (other ∷ pieces) k j name (ap line_in r)
-        (when_due past piece other pieces going ∙ (sym (first_judged past piece (counts_of past held) going) ∙ (ap refusal_in fault.1 ∙ ap name_in r)))
+        (when_due past piece other pieces going
+        ∙ (sym (first_judged past piece (counts_of past held) going) ∙ (ap refusal_in fault.1 ∙ ap name_in r)))
   ]
 ]
   where
@@ -133,13 +153,15 @@ finds past piece (other ∷ pieces) k j name held h = elim (way (is_finished pas
     longer before e = omega (arith, e)
 
 -- and back
-last_refused : (finished empty : Bool) (past : Past) (k j : ℕ) (name : Refusal) → j ≡ k → cond finished (cond empty None (Some AfterEnd)) (Some Unended) ≡ Some name
+last_refused : (finished empty : Bool) (past : Past) (k j : ℕ) (name : Refusal) → j ≡ k
+    → cond finished (cond empty None (Some AfterEnd)) (Some Unended) ≡ Some name
     → cond finished (cond empty (Ok past) (refused k AfterEnd)) (refused k Unended) ≡ refused j name
 last_refused true true past k j name e h = cc
 last_refused true false past k j name e h = cc
 last_refused false empty past k j name e h = cc
 
-line_refused : (past : Past) (piece other : List ℕ) (pieces : List (List ℕ)) (k j : ℕ) (name : Refusal) → Held past → j ≡ k → first_there past piece (other ∷ pieces) ≡ Some name
+line_refused : (past : Past) (piece other : List ℕ) (pieces : List (List ℕ)) (k j : ℕ) (name : Refusal) → Held past → j ≡ k
+    → first_there past piece (other ∷ pieces) ≡ Some name
     → read_from past k (piece ∷ other ∷ pieces) ≡ refused j name
 unfolding read_from
 line_refused past piece other pieces k j name held e h = elim (way (is_finished past.stage)) [
@@ -156,11 +178,13 @@ line_refused past piece other pieces k j name held e h = elim (way (is_finished 
 some_is : (x y : Past) → Some x ≡ Some y → x ≡ y
 some_is x y e = cc
 
-some_pieces : (before : List (List ℕ)) (piece : List ℕ) (behind : List (List ℕ)) → (first : List ℕ) × (others : List (List ℕ)) × (before ++ piece ∷ behind ≡ first ∷ others)
+some_pieces : (before : List (List ℕ)) (piece : List ℕ) (behind : List (List ℕ))
+    → (first : List ℕ) × (others : List (List ℕ)) × (before ++ piece ∷ behind ≡ first ∷ others)
 some_pieces [] piece behind = (piece, behind, refl)
 some_pieces (line ∷ before) piece behind = (line, before ++ piece ∷ behind, refl)
 
-goes_on : (past next : Past) (k : ℕ) (line : List ℕ) (before : List (List ℕ)) (piece : List ℕ) (behind : List (List ℕ)) → judge past line ≡ Ok next
+goes_on : (past next : Past) (k : ℕ) (line : List ℕ) (before : List (List ℕ)) (piece : List ℕ) (behind : List (List ℕ))
+    → judge past line ≡ Ok next
     → read_from past k (line ∷ (before ++ piece ∷ behind)) ≡ read_from next (k + 1) (before ++ piece ∷ behind)
 unfolding read_from
 goes_on past next k line before piece behind e =
@@ -168,10 +192,12 @@ goes_on past next k line before piece behind e =
     let going = due past next line e in
     rw (some.2, going, e) refl
 
-refuses : (past last : Past) (before : List (List ℕ)) (piece : List ℕ) (behind : List (List ℕ)) (k j : ℕ) (name : Refusal) → Held past → j ≡ length before + k → said_by past before ≡ Some last
+refuses : (past last : Past) (before : List (List ℕ)) (piece : List ℕ) (behind : List (List ℕ)) (k j : ℕ) (name : Refusal) → Held past
+    → j ≡ length before + k → said_by past before ≡ Some last
     → first_there last piece behind ≡ Some name → read_from past k (before ++ piece ∷ behind) ≡ Err (j, name)
 unfolding read_from
-refuses past last [] piece behind k j name held e says row = at_once behind (subst (λ p. first_there p piece behind ≡ Some name) (sym (some_is past last says)) row)
+refuses past last [] piece behind k j name held e says row = at_once behind
+    (subst (λ p. first_there p piece behind ≡ Some name) (sym (some_is past last says)) row)
   where
     start : j ≡ k
     start = omega (arith, e)
@@ -193,10 +219,11 @@ refuses past last (line ∷ before) piece behind k j name held e says row = elim
 -- a text has a piece at least
 some_lines : (bytes : List ℕ) → (piece : List ℕ) × (pieces : List (List ℕ)) × (lines bytes ≡ piece ∷ pieces)
 some_lines [] = ([], [], refl)
-some_lines (b ∷ bytes) = elim (b == 10) as (λ t. (piece : List ℕ) × (pieces : List (List ℕ)) × (cond t ([] ∷ lines bytes) (onto_first b (lines bytes)) ≡ piece ∷ pieces)) [
-  | true ↦ ([], lines bytes, refl)
-  | false ↦ let h = some_lines bytes in (b ∷ h.0, h.1, ap (onto_first b) h.2)
-]
+some_lines (b ∷ bytes) = elim (b == 10) as
+    (λ t. (piece : List ℕ) × (pieces : List (List ℕ)) × (cond t ([] ∷ lines bytes) (onto_first b (lines bytes)) ≡ piece ∷ pieces)) [
+      | true ↦ ([], lines bytes, refl)
+      | false ↦ let h = some_lines bytes in (b ∷ h.0, h.1, ap (onto_first b) h.2)
+    ]
 
 abbrev answer : ℕ → Refusal → Result Program (ℕ × Refusal)
 answer k name = Err (k, name)
@@ -224,13 +251,27 @@ reading : (bytes : List ℕ) (k : ℕ) (name : Refusal) → read_from nothing 1 
 reading bytes k name h =
     let some = some_lines bytes in
     let f = finds nothing some.0 some.1 1 k name held_first (sym (ap (read_from nothing 1) some.2) ∙ h) in
-    record { before = f.before; piece = f.piece; behind = f.behind; past = f.last; are = some.2 ∙ f.are; number = f.number; says = f.says; row = lowest_of (piece_offends f.last f.piece f.behind) name f.row }
+    record {
+      before = f.before;
+      piece = f.piece;
+      behind = f.behind;
+      past = f.last;
+      are = some.2
+          ∙ f.are;
+      number = f.number;
+      says = f.says;
+      row = lowest_of (piece_offends f.last f.piece f.behind) name f.row;
+    }
 
 there : (bytes : List ℕ) (k : ℕ) (name : Refusal) → read bytes ≡ Err (k, name) → IsFirstRefusal bytes k name
 unfolding read
 there bytes k name h = elim (way (nat_lt 1048576 (length bytes))) [
   | inl long ↦ inl ((above (length bytes) long, (too_long k name (sym (rw long refl) ∙ h)).0, (too_long k name (sym (rw long refl) ∙ h)).1))
-  | inr short ↦ inr ((not_above 1048576 (length bytes) short, reading bytes k name (program_refused (read_from nothing 1 (lines bytes)) k name (sym (rw short refl) ∙ h))))
+  | inr short ↦ inr ((
+    not_above 1048576 (length bytes) short,
+    reading bytes k name
+        (program_refused (read_from nothing 1 (lines bytes)) k name (sym (rw short refl) ∙ h)),
+  ))
 ]
 
 back : (bytes : List ℕ) (k : ℕ) (name : Refusal) → IsFirstRefusal bytes k name → read bytes ≡ Err (k, name)
@@ -242,7 +283,10 @@ back bytes k name (inl long) = let t = is_above (length bytes) long.0 in rw t (s
 back bytes k name (inr at) =
     let t = isnt_above (length bytes) at.0 in
     let r = at.1 in
-    let e : read_from nothing 1 (lines bytes) ≡ Err (k, name) = ap (read_from nothing 1) r.are ∙ refuses nothing r.past r.before r.piece r.behind 1 k name held_first r.number r.says (first_is (piece_offends r.past r.piece r.behind) name r.row) in
+    let e : read_from nothing 1 (lines bytes)
+    ≡ Err (k, name) = ap (read_from nothing 1) r.are
+    ∙ refuses nothing r.past r.before r.piece r.behind 1 k name held_first r.number r.says
+    (first_is (piece_offends r.past r.piece r.behind) name r.row) in
     rw (t, e) refl
 
 pub texts_by_the_rows : TextsByTheRows

@@ -94,4 +94,6 @@ may_be version stage (key ∷ ws) =
 
 -- The words of a line say what may stand here exactly where they are those of a line of the table that may.
 abbrev pub WordsByTheTable : Type 0
-WordsByTheTable = (version : Version) (stage : Stage) (ws : List (List ℕ)) → holds_of (may_stand version stage) (form_of ws) ≡ may_be version stage ws
+WordsByTheTable =
+    (version : Version) (stage : Stage) (ws : List (List ℕ))
+    → holds_of (may_stand version stage) (form_of ws) ≡ may_be version stage ws

@@ -85,7 +85,8 @@ unknown_buffer past _ = false
 -- ROOT isn't below the number of the group's members
 abbrev pub bad_root : Past → Form → Bool
 bad_root past (step on words) =
-    holds_of (λ g. holds_of (λ word. holds_of (nat_le (length (members_in past g))) (number_of word)) words.root) (group_named past.groups on)
+    holds_of (λ g. holds_of (λ word. holds_of (nat_le (length (members_in past g))) (number_of word)) words.root)
+    (group_named past.groups on)
 bad_root past _ = false
 
 -- A with its number, where there is one of that name; a step without buffers reads none
@@ -96,7 +97,9 @@ source_in past (Some names) = buffer_named past.buffers names.0
 -- a test of the members, the step and A, where the line names a group, a number and a buffer
 abbrev pub of_step : (List ℕ → CollStep → Buffer → Bool) → Past → Option (List ℕ) → StepWords → Bool
 of_step test past on words =
-    holds_of (λ g. holds_of (λ from. holds_of (λ root. test (members_in past g) (step_of words.kind root words.op from.0 (length past.buffers)) from.1) (root_number words.root)) (source_in past words.names)) (group_named past.groups on)
+    holds_of (λ g. holds_of (λ from. holds_of (λ root.
+    test (members_in past g) (step_of words.kind root words.op from.0 (length past.buffers)) from.1)
+    (root_number words.root)) (source_in past words.names)) (group_named past.groups on)
 
 -- A isn't what the step's row asks of it
 abbrev pub wrong_shape : Past → Form → Bool
@@ -119,7 +122,8 @@ printed_so_far past = printed_elements (plain past).shape
 -- the new buffer has more than 16,777,216 elements at some rank, or the prints up to this one have more over all ranks
 abbrev pub too_large : Past → Form → Bool
 too_large past (step on words) = of_step (λ members s a. nat_lt most_elements (made_length members s a)) past on words
-too_large past (print name) = holds_of (λ from. nat_lt most_elements (printed_so_far past + elements_of from.1)) (buffer_named past.buffers name)
+too_large past (print name) =
+    holds_of (λ from. nat_lt most_elements (printed_so_far past + elements_of from.1)) (buffer_named past.buffers name)
 too_large past _ = false
 
 -- the members aren't ranks, or don't rise; or the word after `on` is no group

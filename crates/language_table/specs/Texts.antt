@@ -37,7 +37,8 @@ pub record IsRefusedAt (bytes : List ℕ) (k : ℕ) (name : Refusal) : Type 0 wh
   pub row : IsLowest (piece_offends past piece behind) name
 
 abbrev pub IsFirstRefusal : List ℕ → ℕ → Refusal → Type 0
-IsFirstRefusal bytes k name = ((1048576 < length bytes) × (k ≡ 0) × (name ≡ TooLong)) ⊎ ((length bytes ≤ 1048576) × IsRefusedAt bytes k name)
+IsFirstRefusal bytes k name =
+    ((1048576 < length bytes) × (k ≡ 0) × (name ≡ TooLong)) ⊎ ((length bytes ≤ 1048576) × IsRefusedAt bytes k name)
 
 -- What reading answers is the first refusal of the table, both ways.
 abbrev pub TextsByTheRows : Type 0
