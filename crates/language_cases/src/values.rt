@@ -1,13 +1,13 @@
 //! The least and the greatest value of each type, and the values beyond them.
 
-use crate::texts::{Answer, whole_answer};
+use crate::texts::{Answer, answer};
 use std::alloc::Global;
 use std::test::Fail;
 
-/// What the whole language answers to one value of that type.
+/// What reading answers to one value of that type.
 fn value_answer(alloc: Global, ty: &str, value: &str) -> Result<Answer, Fail> {
     let text = format!(in alloc; "coll 1\nranks 1\ninput a {ty} 1\n{value}\nend\n")?;
-    Ok(whole_answer(alloc, text.as_bytes()))
+    Ok(answer(alloc, text.as_bytes()))
 }
 
 #[test]

@@ -1,41 +1,52 @@
 //! Worked texts and texts that differ from them in one line.
 
-use crate::texts::{Answer, add_data, add_lines, first_answer, whole_answer};
-use std::alloc::Global;
+use crate::texts::answer;
 use std::test::Fail;
 
-/// One broadcast of one byte on one rank.
-const ONE: &[u8] = b"coll 1\nranks 1\ninput a u8 1\n7\nbroadcast 0 a b\nprint b\nend\n";
+/// Accepted texts of both versions: each collective, on all ranks and on groups, and choice texts.
+static ACCEPTED: [&[u8]; 27] = [
+    b"coll 1\nranks 1\ninput a u8 1\n7\nbroadcast 0 a b\nprint b\nend\n",
+    b"coll 1\nranks 3\ninput a u32 1\n5\n6\n9\nbroadcast 2 a b\nprint b\nend\n",
+    b"coll 1\nranks 2\ninput a u8 1\n200\n100\nallreduce sum a b\nprint b\nend\n",
+    b"coll 1\nranks 3\ninput a i8 1\n-128\n127\n0\nreduce 1 min a b\nprint b\nend\n",
+    b"coll 1\nranks 1\ninput a u8 1\n5\nallreduce land a b\nprint b\nend\n",
+    b"coll 1\nranks 5\ninput a u16 1\n1\n2\n3\n4\n5\nscan sum a b\nprint b\nend\n",
+    b"coll 1\nranks 2\ninput a u8 2\n1 2\n3 4\nalltoall a b\nprint b\nend\n",
+    b"coll 1\nranks 3\ninput a u8 1\n1\n2\n3\ngather 0 a g\nallgather a h\nprint g\nprint h\nend\n",
+    b"coll 1\nranks 4\nbarrier\nend\n",
+    b"coll 1\nranks 4\ninput a u32 1\n1\n2\n3\n4\nallreduce sum a b\nbarrier\nscan sum b c\nprint c\nend\n",
+    b"coll 1\nranks 3\ninput a u8 1\n1\n2\n3\nreduce 1 sum a b\nbroadcast 1 b c\nprint c\nend\n",
+    b"coll 1\nranks 2\ninput a i16 1\n300\n300\nallreduce prod a m\nprint m\nend\n",
+    b"coll 1\nranks 3\ninput a u8 1\n5\n6\n9\nbroadcast 2 a b\nprint b\nprint a\nend\n",
+    b"coll 1\nranks 1\ncomplete remote\ninput a u8 1\n7\nbroadcast 0 a b\nprint b\nend\n",
+    b"coll 1\nranks 1\nend\n",
+    b"coll 2\nranks 1\nend\n",
+    b"coll 2\nranks 1\ninput a u8 1\n7\nbroadcast 0 a b\nprint b\nend\n",
+    b"coll 2\nranks 4\ngroup odd 1 3\ninput a u8 1\n1\n2\n3\n4\non odd allreduce sum a b\non odd broadcast 1 a c\nprint b\nprint c\nend\n",
+    b"coll 2\nranks 256\nbarrier\nend\n",
+    b"coll 2\nranks 2\ninput a u8 2\n1 2\n3 4\nscatter 1 a b\nreducescatter sum a c\nexscan sum a d\nprint b\nprint c\nprint d\nend\n",
+    b"coll 2\nranks 3\ngroup g 0 2\ninput a u8 1\n1\n2\n3\non g allreduce sum a b\ngatherv 1 b c\nprint c\nend\n",
+    b"coll 2\nranks 1\nelect e\ntickets t\nprint e\nprint t\nend\n",
+    b"coll 2\nranks 3\ncomplete remote\ngroup group 0 1 2\ngroup on 2\ninput end u8 2\n1 2\n3 4\n5 6\non on barrier\non group reduce 2 max end reduce\non on broadcast 0 reduce print\non group gatherv 0 print coll\nexscan bxor end e\ngatherv 2 e f\non on scatter 0 f g\nprint e\nprint end\nend\n",
+    b"coll 2\nranks 2\ninput a i64 2\n-1 0\n1 -9223372036854775808\nprint a\nprint a\nend\n",
+    b"coll 2\nranks 2\ngroup g 1\ninput a u8 1\n1\n2\non g exscan sum a b\nprint b\nend\n",
+    b"coll 2\nranks 256\ntickets t\nprint t\nprint t\nend\n",
+    b"coll 2\nranks 4\ngroup odd 1 3\ngroup one 2\ninput a u8 3\n1 2 3\n4 5 6\n7 8 9\n10 11 12\nreduce 1 sum a r\non odd exscan sum a x\non one exscan sum a n\non odd gatherv 0 x b0\non odd gatherv 0 r b1\non one alltoall a b2\non one scatter 0 a b3\non odd broadcast 1 x b4\nprint b4\nend\n",
+];
 
 #[test]
 fn accepted_and_printed_back(rt: HostRuntime) {
-    let texts: [&[u8]; 15] = [
-        ONE,
-        b"coll 1\nranks 3\ninput a u32 1\n5\n6\n9\nbroadcast 2 a b\nprint b\nend\n",
-        b"coll 1\nranks 2\ninput a u8 1\n200\n100\nallreduce sum a b\nprint b\nend\n",
-        b"coll 1\nranks 3\ninput a i8 1\n-128\n127\n0\nreduce 1 min a b\nprint b\nend\n",
-        b"coll 1\nranks 1\ninput a u8 1\n5\nallreduce land a b\nprint b\nend\n",
-        b"coll 1\nranks 5\ninput a u16 1\n1\n2\n3\n4\n5\nscan sum a b\nprint b\nend\n",
-        b"coll 1\nranks 2\ninput a u8 2\n1 2\n3 4\nalltoall a b\nprint b\nend\n",
-        b"coll 1\nranks 3\ninput a u8 1\n1\n2\n3\ngather 0 a g\nallgather a h\nprint g\nprint h\nend\n",
-        b"coll 1\nranks 4\nbarrier\nend\n",
-        b"coll 1\nranks 4\ninput a u32 1\n1\n2\n3\n4\nallreduce sum a b\nbarrier\nscan sum b c\nprint c\nend\n",
-        b"coll 1\nranks 3\ninput a u8 1\n1\n2\n3\nreduce 1 sum a b\nbroadcast 1 b c\nprint c\nend\n",
-        b"coll 1\nranks 2\ninput a i16 1\n300\n300\nallreduce prod a m\nprint m\nend\n",
-        b"coll 1\nranks 3\ninput a u8 1\n5\n6\n9\nbroadcast 2 a b\nprint b\nprint a\nend\n",
-        b"coll 1\nranks 1\ncomplete remote\ninput a u8 1\n7\nbroadcast 0 a b\nprint b\nend\n",
-        b"coll 1\nranks 1\nend\n",
-    ];
-    for text in texts.iter() {
-        assert_eq!(rt; whole_answer(rt.alloc(), text), None);
+    for (i, text) in ACCEPTED.iter().enumerate() {
+        assert_eq!(rt; answer(rt.alloc(), text), None, "at {i}");
     }
 }
 
 /// Texts that differ from a worked one in one line, each with the line and the name of its refusal.
-static OTHERWISE: [(&[u8], u32, &'static str); 21] = [
+static OTHERWISE: [(&[u8], u32, &'static str); 31] = [
     (b"", 1, "Unended"),
     (b"coll 3\nranks 1\nend\n", 1, "BadHeader"),
     (b"coll 1\nranks 65\nend\n", 2, "BadRanks"),
+    (b"coll 2\nranks 257\nend\n", 2, "BadRanks"),
     (
         b"coll 1\nranks 1\ninput a u8 1 \n7\nbroadcast 0 a b\nprint b\nend\n",
         3,
@@ -126,12 +137,57 @@ static OTHERWISE: [(&[u8], u32, &'static str); 21] = [
         4,
         "BadLine",
     ),
+    (
+        b"coll 2\nranks 4\ngroup odd 1 3\ninput a u8 1\n1\n2\n3\n4\non odd broadcast 2 a b\non odd broadcast 1 a c\nprint b\nprint c\nend\n",
+        9,
+        "BadRoot",
+    ),
+    (
+        b"coll 2\nranks 4\ngroup odd 3 1\ninput a u8 1\n1\n2\n3\n4\non odd allreduce sum a b\non odd broadcast 1 a c\nprint b\nprint c\nend\n",
+        3,
+        "BadGroup",
+    ),
+    (
+        b"coll 2\nranks 4\ngroup odd 1 3\ninput a u8 1\n1\n2\n3\n4\non even barrier\non odd broadcast 1 a c\nprint b\nprint c\nend\n",
+        9,
+        "BadGroup",
+    ),
+    (
+        b"coll 2\nranks 4\ngroup odd 1 3\ninput a u8 1\n1\n2\n3\n4\non odd allreduce sum a b\nallgather b c\nprint b\nprint c\nend\n",
+        10,
+        "WrongShape",
+    ),
+    (
+        b"coll 1\nranks 4\ngroup odd 1 3\ninput a u8 1\n1\n2\n3\n4\non odd allreduce sum a b\non odd broadcast 1 a c\nprint b\nprint c\nend\n",
+        3,
+        "BadLine",
+    ),
+    (
+        b"coll 1\nranks 2\ninput a u8 2\n1 2\n3 4\nscatter 1 a b\nreducescatter sum a c\nexscan sum a d\nprint b\nprint c\nprint d\nend\n",
+        6,
+        "BadLine",
+    ),
+    (
+        b"coll 2\nranks 3\ngroup g 0 2\ninput a u8 1\n1\n2\n3\non g allreduce sum a b\non g scatter 0 b c\nprint c\nend\n",
+        9,
+        "WrongShape",
+    ),
+    (
+        b"coll 1\nranks 1\nelect e\ntickets t\nprint e\nprint t\nend\n",
+        3,
+        "BadLine",
+    ),
+    (
+        b"coll 2\nranks 1\nelect e\nbarrier\ntickets t\nprint e\nprint t\nend\n",
+        4,
+        "BadLine",
+    ),
 ];
 
 #[test]
 fn one_line_otherwise(rt: HostRuntime) {
-    for (text, line, name) in OTHERWISE.iter() {
-        assert_eq!(rt; whole_answer(rt.alloc(), text), Some((*line, *name)));
+    for (i, (text, line, name)) in OTHERWISE.iter().enumerate() {
+        assert_eq!(rt; answer(rt.alloc(), text), Some((*line, *name)), "at {i}");
     }
 }
 
@@ -140,67 +196,7 @@ fn one_line_otherwise(rt: HostRuntime) {
 fn one_byte_more_than_a_text_may_have(rt: HostRuntime) -> Result<(), Fail> {
     for byte in [b'\n', b'x', 0, 0xff].iter() {
         let text = vec![in rt.alloc(); *byte; 1_048_577]?;
-        assert_eq!(rt; whole_answer(rt.alloc(), &text), Some((0, "TooLong")));
-        assert_eq!(rt; first_answer(rt.alloc(), &text), Some((0, "TooLong")));
-    }
-    Ok(())
-}
-
-/// What the whole language answers to the step behind 64 barriers.
-fn last_step(alloc: Global, step: &[u8]) -> Result<Answer, Fail> {
-    let mut text = Vec::from_slice(alloc, b"coll 1\nranks 1\ninput a u8 1\n7\n")?;
-    add_lines(&mut text, b"barrier\n", 64)?;
-    text.extend_from_slice(step)?;
-    text.extend_from_slice(b"\nend\n")?;
-    Ok(whole_answer(alloc, &text))
-}
-
-#[test]
-fn each_step_as_the_65th(rt: HostRuntime) -> Result<(), Fail> {
-    let cases: [(&[u8], &'static str); 11] = [
-        (b"barrier", "TooMany"),
-        (b"broadcast 0 a b", "TooMany"),
-        (b"reduce 0 sum a b", "TooMany"),
-        (b"allreduce sum a b", "TooMany"),
-        (b"gather 0 a b", "TooMany"),
-        (b"allgather a b", "TooMany"),
-        (b"alltoall a b", "TooMany"),
-        (b"scan sum a b", "TooMany"),
-        (b"broadcast 0 a a", "NameTaken"),
-        (b"broadcast 0 c b", "UnknownBuffer"),
-        (b"broadcast 1 a b", "BadRoot"),
-    ];
-    for (step, name) in cases.iter() {
-        assert_eq!(rt; last_step(rt.alloc(), step)?, Some((69, *name)));
-    }
-    Ok(())
-}
-
-/// What reading answers to so many allgathers of one input on 64 ranks. What a compiler refuses isn't refused here.
-fn allgathers(alloc: Global, input: &[u8], count: u32, steps: u32) -> Result<Answer, Fail> {
-    let mut text = Vec::from_slice(alloc, b"coll 1\nranks 64\n")?;
-    text.extend_from_slice(input)?;
-    add_data(&mut text, b"0", count, 64)?;
-    for i in 0..steps {
-        let step = format!(in alloc; "allgather a b{i}\n")?;
-        text.extend_from_slice(step.as_bytes())?;
-    }
-    text.extend_from_slice(b"end\n")?;
-    Ok(whole_answer(alloc, &text))
-}
-
-#[test]
-fn allgathers_on_64_ranks(rt: HostRuntime) -> Result<(), Fail> {
-    let cases: [(&[u8], u32, u32, Answer); 5] = [
-        (b"input a u8 1\n", 1, 60, None),
-        (b"input a u8 1\n", 1, 61, None),
-        (b"input a u8 1\n", 1, 64, None),
-        (b"input a u8 1\n", 1, 65, Some((132, "TooMany"))),
-        (b"input a u64 4096\n", 4096, 1, None),
-    ];
-    for (input, count, steps, wanted) in cases.iter() {
-        let answer = allgathers(rt.alloc(), input, *count, *steps)?;
-        assert_eq!(rt; answer, *wanted, "at {steps}");
+        assert_eq!(rt; answer(rt.alloc(), &text), Some((0, "TooLong")));
     }
     Ok(())
 }
