@@ -1,10 +1,9 @@
 -- Lines keep the elements of the prints so far, and that no group is empty.
-use Rattle.std.proofs.Common.{◌≡◌, ◌≤◌, ◌<◌, ℕ, zero, suc, ◌+◌, ◌-◌, List, [], ◌∷◌, ◌++◌, length, get_or, Option, Some, None, Result, Ok, Err, Bool, true, false, ◌&&◌, ◌||◌, not, cond, refl, sym, ap, ◌∙◌, arith, subst}
+use Rattle.std.proofs.Common.{◌≡◌, ◌≤◌, ◌<◌, ℕ, zero, suc, ◌+◌, List, [], ◌∷◌, ◌++◌, length, get_or, Option, Some, None, Result, Ok, Err, Bool, true, false, ◌&&◌, ◌||◌, not, cond, refl, sym, ap, ◌∙◌, arith, subst}
 use Rattle.std.specs.Prelude.{nat_lt, nat_le, is_some, option_and_then}
 use Rattle.std.specs.List.{list_all, sum_by}
 use Rattle.std.proofs.lemmas.Bool.Decides.{nat_tests}
 use Rattle.std.proofs.lemmas.List.Sums.{sum_by-cons, sum_by_push}
-use Rattle.std.proofs.lemmas.List.{append-nil}
 use Rattle.ptl_types.specs.declared.elements.ElemType.{ElemType}
 use Rattle.coll_text.specs.Text.{words, number_of, number_between}
 use Rattle.coll_text.specs.Values.{data_line}
@@ -17,7 +16,7 @@ use Rattle.coll_shape.specs.declared.types.Buffer.{Buffer}
 use Rattle.coll_shape.specs.declared.types.Group.{Group}
 use Rattle.coll_shape.specs.declared.types.CollStep.{CollStep}
 use Rattle.coll_lang.specs.Forms.{Form, StepWords, complete, group, input, step, choice, print, last, form_of}
-use Rattle.coll_lang.specs.Language.{Past, ◌>>=◌, refuse, or_refuse, holds_of, nothing, is_allowed, version_of, ranks_in, may_stand, all_numbers, is_rising, are_members, is_taken, buffer_named, group_named, members_in, with_made, root_number, source_named, step_on, rooted_line, step_line, group_line, input_line, choice_line, print_line, form_line, unless_flawed, values_line, later_line, line_at, judge}
+use Rattle.coll_lang.specs.Language.{Past, ◌>>=◌, refuse, or_refuse, holds_of, nothing, is_allowed, version_of, ranks_in, may_stand, all_numbers, are_members, is_taken, buffer_named, group_named, members_in, with_made, root_number, source_named, step_on, rooted_line, step_line, group_line, input_line, choice_line, print_line, form_line, unless_flawed, values_line, later_line, line_at, judge}
 use Rattle.coll_lang.specs.declared.choices.ChoiceKind.{ChoiceKind}
 use Rattle.coll_lang.specs.declared.stage.Stage.{Stage}
 use Rattle.coll_lang.specs.declared.stage.Stage.TheVariants.{Header, Ranks, Options, Groups, Inputs, Data, Steps, Choosing, Prints, Finished}
@@ -26,7 +25,7 @@ use Rattle.coll_lang.specs.declared.fault.Refusal.TheVariants.{BadByte, BadHeade
 use Rattle.coll_lang.proofs.Growing.{old_at, longer, each_more}
 use Rattle.coll_lang.proofs.Sound.{both_true, not_not}
 use Rattle.coll_lang.proofs.SoundSteps.{found, group_found}
-use Rattle.language_table.specs.Rows.{Counts, printed_so_far}
+use Rattle.language_table.specs.Rows.{Counts}
 use Rattle.language_table.specs.Texts.{taken, said_by, LinesCount}
 
 -- each of the numbers is below n

@@ -1,5 +1,5 @@
 -- The words of a line, by the table of lines.
-use Rattle.std.proofs.Common.{◌≡◌, ℕ, List, [], ◌∷◌, ◌++◌, Option, Some, None, Bool, true, false, ◌&&◌, ◌||◌, not, cond, refl, sym, ap, ◌∙◌, subst, codes, inl, inr, ◌⊎◌}
+use Rattle.std.proofs.Common.{◌≡◌, ℕ, List, [], ◌∷◌, ◌++◌, Option, Some, None, Bool, true, false, ◌&&◌, ◌||◌, not, cond, refl, sym, ap, ◌∙◌, subst, codes, inl, inr}
 use Rattle.std.specs.Prelude.{is_some, option_and_then, option_map}
 use Rattle.std.specs.List.{list_all, list_any}
 use Rattle.std.specs.Str.{bytes_eq}
@@ -12,7 +12,7 @@ use Rattle.coll_shape.specs.declared.types.Version.TheVariants.{One, Two}
 use Rattle.coll_shape.specs.declared.kinds.StepKind.{StepKind}
 use Rattle.coll_shape.specs.Kinds.{kind_named, kind_since, takes_root, takes_op, takes_buffers}
 use Rattle.coll_lang.specs.Forms.{Form, StepWords, complete, group, input, step, choice, print, last, type_of, op_of, root_in, op_in, names_in, step_in, on_in, group_in, input_in, name_in, alone, complete_in, form_of}
-use Rattle.coll_lang.specs.Language.{holds_of, stands_in, stands_at, form_since, may_stand}
+use Rattle.coll_lang.specs.Language.{holds_of, stands_in, stands_at, may_stand}
 use Rattle.coll_lang.specs.declared.choices.ChoiceKind.{ChoiceKind}
 use Rattle.coll_lang.specs.declared.choices.ChoiceKind.TheVariants.{Elect, Tickets}
 use Rattle.coll_lang.specs.declared.stage.Stage.{Stage}

@@ -11,11 +11,10 @@ use Rattle.coll_lang.specs.declared.stage.Stage.TheVariants.{Header, Ranks, Opti
 use Rattle.coll_lang.specs.declared.fault.Refusal.{Refusal}
 use Rattle.coll_lang.specs.declared.fault.Refusal.TheVariants.{TooLong, BadByte, Unended, AfterEnd}
 use Rattle.coll_lang.proofs.Sound.{not_above}
-use Rattle.language_table.specs.Table.{IsLowest}
 use Rattle.language_table.specs.Rows.{offends}
 use Rattle.language_table.specs.Texts.{said_by, piece_offends, IsRefusedAt, IsFirstRefusal, TextsByTheRows}
 use Rattle.language_table.proofs.Lowest.{way, first_of, all_names, lowest_of, first_is, refusal_in}
-use Rattle.language_table.proofs.Lines.{by_the_rows, first_judged, name_is}
+use Rattle.language_table.proofs.Lines.{first_judged, name_is}
 use Rattle.language_table.proofs.Counting.{Held, held_on, held_first, counts_of}
 
 answered : (r : Result Past Refusal) → ((next : Past) × (r ≡ Ok next)) ⊎ ((name : Refusal) × (r ≡ Err name))
