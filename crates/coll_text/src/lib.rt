@@ -15,4 +15,4 @@ pub use names::{is, is_name};
 pub use numerals::{Number, number_at, number_between};
 pub use splitting::{Words, cut};
 pub use values::{Flaw, ValuesFault, data_line, push_value, value_of};
-pub use writing::{push_data_line, push_line};
+pub use writing::{printed_value, push_data_line, push_line};

@@ -1,6 +1,6 @@
 //! Writing words, numbers, values and lines.
 
-ghost use Rattle.std.specs.Prelude.{◌≡◌, ◌∷◌, ◌++◌, ◌<◌, ◌≤◌, ◌^◌, map, length, OnOk};
+ghost use Rattle.std.specs.Prelude.{◌≡◌, ◌∷◌, ◌++◌, ◌<◌, ◌≤◌, ◌^◌, map, length, OnOk, if◌then◌else◌};
 ghost use Rattle.std.specs.List.{flat_map};
 ghost use Rattle.std.specs.Fmt.{decimal};
 ghost use Rattle.ptl_types.specs.Operations.{span};
@@ -50,16 +50,29 @@ fn push_number(out: &mut Vec<u8>, n: u64) -> Result<(), AllocError>
     out.extend_from_slice(buffer.format(n).as_bytes())
 }
 
+/// A value as it is printed, from its bit pattern: whether a minus sign stands before it, and the number behind that.
+pub fn printed_value(ty: ElemType, n: u64) -> (bool, u64)
+    requires pattern { n < span ty }
+    ensures told { value_word ty n ≡ (if result.0 then 45 ∷ decimal result.1 else decimal result.1) }
+{
+    if is_signed(ty) && n >= half(ty) {
+        (true, half(ty) - (n - half(ty)))
+    } else {
+        (false, n)
+    }
+}
+
 /// Adds the word of a value, from its bit pattern.
 fn push_value_word(out: &mut Vec<u8>, ty: ElemType, n: u64) -> Result<(), AllocError>
     requires { n < span ty }
     ensures { OnOk result (out.new.items ≡ out.old.items ++ value_word ty n) }
 {
-    if is_signed(ty) && n >= half(ty) {
+    let (negative, number) = printed_value(ty, n);
+    if negative {
         out.push(b'-')?;
-        push_number(out, half(ty) - (n - half(ty)))
+        push_number(out, number)
     } else {
-        push_number(out, n)
+        push_number(out, number)
     }
 }
 
