@@ -1,2 +1,3 @@
-pub mod Spaced
 pub mod Taking
+pub mod Spaced
+pub mod Refusing

@@ -3,8 +3,12 @@
 
 mod lines;
 mod pieces;
+mod refused;
+mod results;
 #[cfg(test)]
 mod tests;
 
-pub use lines::{refusal_line, rest_line, result_line};
+pub use lines::{rest_line, result_line};
 pub use pieces::{PIECE, Pieces, write_short};
+pub use refused::refusal_line;
+pub use results::{ResultLists, write_result};

@@ -1,21 +1,22 @@
-//! The lines of a result and of a refusal.
+//! The lines of a result.
 
-ghost use Rattle.std.specs.Prelude.{◌∷◌, List, ℕ};
+ghost use Rattle.std.specs.Prelude.{◌∷◌, ◌≡◌, ◌<◌, [], if◌then◌else◌};
 ghost use Rattle.std.specs.List.{flat_map};
 ghost use Rattle.std.specs.Fmt.{decimal};
-ghost use Rattle.ptl_types.specs.declared.elements.ElemType.TheVariants.{U8};
-ghost use Rattle.coll_lang.specs.Meaning.{Printed};
-ghost use Rattle.run_text.specs.Lines.{result_line, rest_line, refusal_line};
+ghost use Rattle.ptl_types.specs.Operations.{span};
+ghost use Rattle.coll_text.specs.Elements.{elements, value_word};
+ghost use Rattle.run_text.specs.Lines.{result_line, rest_line};
 ghost use Rattle.run_text.specs.Putting.{Puts};
 
 use crate::pieces::Pieces;
-use coll_lang::{Name, Refusal};
+use coll_text::printed_value;
+use element_bytes::read_pattern;
 use itoa::Buffer;
 use port_io::{Failed, Sink};
-use ptl_types::Rank;
+use ptl_types::{ElemType, Rank};
 
 /// Adds a space and a word.
-fn put_word<K: Sink>(out: &mut Pieces, sink: &mut K, word: &[u8]) -> Result<(), Failed>
+pub(crate) fn put_word<K: Sink>(out: &mut Pieces, sink: &mut K, word: &[u8]) -> Result<(), Failed>
     ensures { Puts (K.outflow sink.old) (K.outflow sink.new) out.old out.new (32 ∷ word.now) result }
 {
     out.put(sink, b" ")?;
@@ -23,38 +24,67 @@ fn put_word<K: Sink>(out: &mut Pieces, sink: &mut K, word: &[u8]) -> Result<(), 
 }
 
 /// Adds a space and a number.
-fn put_number<K: Sink>(out: &mut Pieces, sink: &mut K, number: u32) -> Result<(), Failed>
+pub(crate) fn put_number<K: Sink>(out: &mut Pieces, sink: &mut K, number: u32) -> Result<(), Failed>
     ensures { Puts (K.outflow sink.old) (K.outflow sink.new) out.old out.new (32 ∷ decimal number) result }
 {
     let mut buffer = Buffer::new();
     put_word(out, sink, buffer.format(number).as_bytes())
 }
 
-/// Adds a space and a number for each value.
-fn put_values<K: Sink>(out: &mut Pieces, sink: &mut K, values: &[u8]) -> Result<(), Failed>
-    ensures { Puts (K.outflow sink.old) (K.outflow sink.new) out.old out.new (flat_map (λ v. 32 ∷ decimal v) values.now) result }
+/// What stands before the number of a value.
+fn lead(negative: bool) -> &'static [u8]
+    ensures { result.now ≡ (if negative then 32 ∷ 45 ∷ [] else 32 ∷ []) }
 {
-    for value in values {
-        put_number(out, sink, u32::from(*value))?;
+    if negative { b" -" } else { b" " }
+}
+
+/// Adds a space and a value, from its bit pattern.
+fn put_value<K: Sink>(out: &mut Pieces, sink: &mut K, ty: ElemType, n: u64) -> Result<(), Failed>
+    requires { n < span ty }
+    ensures { Puts (K.outflow sink.old) (K.outflow sink.new) out.old out.new (32 ∷ value_word ty n) result }
+{
+    let (negative, number) = printed_value(ty, n);
+    let mut buffer = Buffer::new();
+    out.put(sink, lead(negative))?;
+    out.put(sink, buffer.format(number).as_bytes())
+}
+
+/// Adds a space and a value for each element.
+fn put_values<K: Sink>(
+    out: &mut Pieces,
+    sink: &mut K,
+    ty: ElemType,
+    bytes: &[u8],
+) -> Result<(), Failed>
+    ensures { Puts (K.outflow sink.old) (K.outflow sink.new) out.old out.new (flat_map (λ x. 32 ∷ value_word ty x) (elements ty bytes.now)) result }
+{
+    let size = ty.size() as usize;
+    let mut rest = bytes;
+    while rest.len() >= size {
+        let (element, behind) = rest.split_at(size);
+        put_value(out, sink, ty, read_pattern(ty, element))?;
+        rest = behind;
     }
     Ok(())
 }
 
-/// Adds the line of one rank's list of a buffer of bytes: the buffer's name, the rank and the values, parted by one space.
+/// Adds the line of one rank's list of a buffer: the buffer's name, the rank and the values of the list's elements, parted by
+/// one space. The list is whole elements of the type, little-endian; a signed value below 0 has a minus sign.
 ///
 /// At `Failed` the count of the sink's faults rose, and a beginning of the text stands. It takes no memory.
 pub fn result_line<K: Sink>(
     out: &mut Pieces,
     sink: &mut K,
-    name: &Name,
+    name: &[u8],
     rank: Rank,
+    ty: ElemType,
     list: &[u8],
 ) -> Result<(), Failed>
-    ensures { Puts (K.outflow sink.old) (K.outflow sink.new) out.old out.new (result_line (record { name = name.now; rank = rank; ty = U8; list = list.now })) result }
+    ensures { Puts (K.outflow sink.old) (K.outflow sink.new) out.old out.new (result_line name.now rank ty list.now) result }
 {
-    out.put(sink, name.as_slice())?;
+    out.put(sink, name)?;
     put_number(out, sink, rank)?;
-    put_values(out, sink, list)?;
+    put_values(out, sink, ty, list)?;
     out.put(sink, b"\n")
 }
 
@@ -65,21 +95,4 @@ pub fn rest_line<K: Sink>(out: &mut Pieces, sink: &mut K) -> Result<(), Failed>
     ensures { Puts (K.outflow sink.old) (K.outflow sink.new) out.old out.new rest_line result }
 {
     out.put(sink, b"rest\n")
-}
-
-/// Adds the line of a refusal: `refused`, the line's number and the refusal's name, parted by one space.
-///
-/// At `Failed` the count of the sink's faults rose, and a beginning of the text stands. It takes no memory.
-pub fn refusal_line<K: Sink>(
-    out: &mut Pieces,
-    sink: &mut K,
-    number: u32,
-    name: Refusal,
-) -> Result<(), Failed>
-    ensures { Puts (K.outflow sink.old) (K.outflow sink.new) out.old out.new (refusal_line number name) result }
-{
-    out.put(sink, b"refused")?;
-    put_number(out, sink, number)?;
-    put_word(out, sink, name.word().as_bytes())?;
-    out.put(sink, b"\n")
 }

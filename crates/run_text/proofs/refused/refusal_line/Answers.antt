@@ -2,9 +2,9 @@ use Rattle.std.proofs.Common.{◌∷◌}
 use Rattle.std.specs.Prelude.{codes}
 use Rattle.std.specs.Fmt.{decimal}
 use Rattle.coll_lang.specs.Words.{refusal_word}
-use Rattle.run_text.proofs.Spaced.{refusal_line-puts}
+use Rattle.run_text.proofs.Refusing.{refusal_line-puts}
 use Rattle.run_text.proofs.Taking.{Puts-exit, Puts-exit-then, Puts-then}
-use Rattle.run_text.proofs.lines.refusal_line.Goals as goal
+use Rattle.run_text.proofs.refused.refusal_line.Goals as goal
 
 pub returns-in_err-put : goal.returns-in_err-put
 returns-in_err-put g c = rw refusal_line-puts (Puts-exit _ _ _ _ (codes "refused") _ _ c.from_residual.ensures.0 c.in_err-put.ensures.puts)

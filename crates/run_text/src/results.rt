@@ -1,0 +1,90 @@
+//! The whole text of a result.
+
+ghost use Rattle.std.specs.Prelude.{◌≡◌, ◌<◌, [], ℕ, List, length, get_or};
+ghost use Rattle.std.specs.List.{flat_map};
+ghost use Rattle.coll_shape.specs.Folding.{at};
+ghost use Rattle.coll_shape.specs.Meaning.{Lists, lists_of};
+ghost use Rattle.run_text.specs.Lines.{buffer_lines, text_of};
+ghost use Rattle.run_text.specs.Putting.{Puts, EndsWith};
+
+use crate::lines::{rest_line, result_line};
+use crate::pieces::Pieces;
+use coll_shape::{Buffer, Shape};
+use port_io::{Failed, Sink};
+use ptl_types::Rank;
+
+/// Who holds the lists that are printed.
+pub trait ResultLists {
+    /// For each buffer its list at each rank.
+    ghost lists: { Self → Lists };
+
+    /// Of which buffer at which rank it can give the list.
+    ghost can_give: { Self → ℕ → ℕ → Type 0 };
+
+    /// The bytes of a buffer's list at a rank: its elements in order, each little-endian.
+    fn list(&self, buffer: u32, rank: Rank) -> &[u8]
+        requires { can_give self.now buffer rank }
+        ensures { result.now ≡ at (lists_of (lists self.now) buffer) rank };
+}
+
+/// Adds the lines of a buffer, one a rank.
+fn put_buffer<K: Sink, H: ResultLists>(
+    out: &mut Pieces,
+    sink: &mut K,
+    shape: &Shape,
+    held: &H,
+    buffer: u32,
+) -> Result<(), Failed>
+    requires buffer { buffer < length shape.now.buffers }
+    requires gives { (r : ℕ) → r < shape.now.ranks → H.can_give held.now buffer r }
+    ensures { Puts (K.outflow sink.old) (K.outflow sink.new) out.old out.new (buffer_lines shape.now (H.lists held.now) buffer) result }
+{
+    let about = &shape.buffers()[buffer as usize];
+    for rank in 0..shape.ranks() {
+        result_line(
+            out,
+            sink,
+            about.name.as_slice(),
+            rank,
+            about.ty,
+            held.list(buffer, rank),
+        )?;
+    }
+    Ok(())
+}
+
+/// Adds the lines of each buffer that is printed, in order.
+fn put_prints<K: Sink, H: ResultLists>(
+    out: &mut Pieces,
+    sink: &mut K,
+    shape: &Shape,
+    held: &H,
+) -> Result<(), Failed>
+    requires gives { (i r : ℕ) → i < length shape.now.prints → r < shape.now.ranks → H.can_give held.now (get_or shape.now.prints i 0) r }
+    ensures { Puts (K.outflow sink.old) (K.outflow sink.new) out.old out.new (flat_map (buffer_lines shape.now (H.lists held.now)) shape.now.prints) result }
+{
+    let _ = shape.ranks();
+    for buffer in shape.prints() {
+        put_buffer(out, sink, shape, held, *buffer)?;
+    }
+    Ok(())
+}
+
+/// Writes the text of a result: the lines of each buffer that is printed, in order, one a rank, and the line `rest`; and
+/// finishes the sink.
+///
+/// At `Failed` the count of the sink's faults rose, and a beginning of the text stands. It takes no memory.
+pub fn write_result<K: Sink, H: ResultLists>(
+    out: &mut Pieces,
+    sink: &mut K,
+    shape: &Shape,
+    held: &H,
+) -> Result<(), Failed>
+    requires empty { out.old ≡ [] }
+    requires gives { (i r : ℕ) → i < length shape.now.prints → r < shape.now.ranks → H.can_give held.now (get_or shape.now.prints i 0) r }
+    ensures ends { EndsWith (K.outflow sink.old) (K.outflow sink.new) (text_of shape.now (H.lists held.now)) result }
+{
+    put_prints(out, sink, shape, held)?;
+    rest_line(out, sink)?;
+    out.end(sink)
+}
