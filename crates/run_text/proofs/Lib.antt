@@ -1,3 +1,4 @@
-pub mod Taking
-pub mod Spaced
 pub mod Refusing
+pub mod Spaced
+pub mod Taking
+pub mod Wording

@@ -1,5 +1,5 @@
 -- The lines, put by put.
-use Rattle.std.proofs.Common.{◌≡◌, ℕ, suc, ◌+◌, ◌-◌, ◌<◌, ◌≤◌, Bool, true, false, cond, List, [], ◌∷◌, ◌++◌, length, get_or, take, drop, map, ◌∙◌, ap, sym, append_assoc, arith}
+use Rattle.std.proofs.Common.{◌≡◌, ℕ, zero, suc, ◌+◌, ◌-◌, ◌<◌, ◌≤◌, Bool, true, false, cond, List, [], ◌∷◌, ◌++◌, length, get_or, take, drop, map, refl, ◌∙◌, ap, sym, append_assoc, arith}
 use Rattle.std.proofs.lemmas.List.Folds.{flat_map-map}
 use Rattle.std.proofs.lemmas.List.{get_or_default, take-take}
 use Rattle.std.specs.List.{flat_map}
@@ -14,7 +14,7 @@ use Rattle.coll_shape.specs.declared.types.Buffer.{Buffer}
 use Rattle.coll_shape.specs.Folding.{at}
 use Rattle.coll_shape.specs.Outline.{Outline, buffer_at, no_buffer}
 use Rattle.coll_shape.specs.Meaning.{Lists, lists_of}
-use Rattle.run_text.specs.Lines.{line_at, result_line}
+use Rattle.run_text.specs.Lines.{buffer_lines, line_at, rest_line, result_line, text_of}
 
 -- a space and a value for each element
 abbrev pub spaced : ElemType → List ℕ → List ℕ
@@ -62,3 +62,22 @@ pub line-is : (o : Outline) (lists : Lists) (b rank : ℕ) (x : Buffer) (bs : Li
 line-is o lists b rank x bs name list l told is named listed =
     let about : x ≡ buffer_at o b = is ∙ ap (λ v. get_or v b x) told ∙ get_or_default o.buffers b x no_buffer l in
     ap (λ v. result_line v rank x.ty list) named ∙ ap (λ v. result_line x.name rank x.ty v) listed ∙ ap (λ (y : Buffer). result_line y.name rank y.ty (at (lists_of lists b) rank)) about
+
+-- ---- lists that agree where they are printed give one text
+
+buffer-same : (o : Outline) (held lists : Lists) (b k n : ℕ) → ((r : ℕ) → r < k + n → at (lists_of held b) r ≡ at (lists_of lists b) r) → flat_map (line_at o held b) (from_to k n) ≡ flat_map (line_at o lists b) (from_to k n)
+buffer-same o held lists b k zero h = refl
+buffer-same o held lists b k (suc n) h =
+    ap (λ v. result_line (buffer_at o b).name k (buffer_at o b).ty v ++ flat_map (line_at o held b) (from_to (suc k) n)) (h k (omega arith))
+    ∙ ap (λ v. line_at o lists b k ++ v) (buffer-same o held lists b (suc k) n (λ r l. h r (omega (arith, l))))
+
+prints-same : (o : Outline) (held lists : Lists) (prints : List ℕ) → ((i r : ℕ) → i < length prints → r < o.ranks → at (lists_of held (get_or prints i 0)) r ≡ at (lists_of lists (get_or prints i 0)) r)
+    → flat_map (buffer_lines o held) prints ≡ flat_map (buffer_lines o lists) prints
+prints-same o held lists [] h = refl
+prints-same o held lists (b ∷ bs) h =
+    ap (λ v. v ++ flat_map (buffer_lines o held) bs) (buffer-same o held lists b 0 o.ranks (λ r l. h 0 r (omega arith) (omega (arith, l))))
+    ∙ ap (λ v. buffer_lines o lists b ++ v) (prints-same o held lists bs (λ i r l k. h (suc i) r (omega (arith, l)) k))
+
+pub text-same : (o : Outline) (held lists : Lists) → ((i r : ℕ) → i < length o.prints → r < o.ranks → at (lists_of held (get_or o.prints i 0)) r ≡ at (lists_of lists (get_or o.prints i 0)) r)
+    → text_of o held ≡ text_of o lists
+text-same o held lists h = ap (λ v. v ++ rest_line) (prints-same o held lists o.prints h)

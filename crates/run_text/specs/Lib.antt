@@ -1,3 +1,6 @@
 pub mod Lines
-pub mod Refused
+pub mod Orders
+pub mod Plans
 pub mod Putting
+pub mod Refused
+pub mod Worded

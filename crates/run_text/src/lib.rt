@@ -2,13 +2,18 @@
 #![tactic(auto)]
 
 mod lines;
+mod orders;
 mod pieces;
+mod plans;
 mod refused;
 mod results;
 #[cfg(test)]
 mod tests;
+mod words;
 
 pub use lines::{rest_line, result_line};
+pub use orders::{fails_line, order_line};
 pub use pieces::{PIECE, Pieces, write_short};
+pub use plans::{PlanLine, PlanTables, plan_line, write_plan};
 pub use refused::refusal_line;
 pub use results::{ResultLists, write_result};
