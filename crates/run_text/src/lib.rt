@@ -16,4 +16,4 @@ pub use orders::{fails_line, order_line};
 pub use pieces::{PIECE, Pieces, write_short};
 pub use plans::{PlanLine, PlanTables, plan_line, write_plan};
 pub use refused::refusal_line;
-pub use results::{ResultLists, write_result};
+pub use results::{ResultLists, put_result, write_result};

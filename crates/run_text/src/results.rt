@@ -70,8 +70,23 @@ fn put_prints<K: Sink, H: ResultLists>(
     Ok(())
 }
 
-/// Writes the text of a result: the lines of each buffer that is printed, in order, one a rank, and the line `rest`; and
-/// finishes the sink.
+/// Adds the text of a result: the lines of each buffer that is printed, in order, one a rank, and the line `rest`.
+///
+/// At `Failed` the count of the sink's faults rose, and a beginning of the text stands. It takes no memory.
+pub fn put_result<K: Sink, H: ResultLists>(
+    out: &mut Pieces,
+    sink: &mut K,
+    shape: &Shape,
+    held: &H,
+) -> Result<(), Failed>
+    requires gives { (i r : ℕ) → i < length shape.now.prints → r < shape.now.ranks → H.can_give held.now (get_or shape.now.prints i 0) r }
+    ensures { Puts (K.outflow sink.old) (K.outflow sink.new) out.old out.new (text_of shape.now (H.lists held.now)) result }
+{
+    put_prints(out, sink, shape, held)?;
+    rest_line(out, sink)
+}
+
+/// Writes the text of a result and finishes the sink.
 ///
 /// At `Failed` the count of the sink's faults rose, and a beginning of the text stands. It takes no memory.
 pub fn write_result<K: Sink, H: ResultLists>(
@@ -84,7 +99,6 @@ pub fn write_result<K: Sink, H: ResultLists>(
     requires gives { (i r : ℕ) → i < length shape.now.prints → r < shape.now.ranks → H.can_give held.now (get_or shape.now.prints i 0) r }
     ensures ends { EndsWith (K.outflow sink.old) (K.outflow sink.new) (text_of shape.now (H.lists held.now)) result }
 {
-    put_prints(out, sink, shape, held)?;
-    rest_line(out, sink)?;
+    put_result(out, sink, shape, held)?;
     out.end(sink)
 }
