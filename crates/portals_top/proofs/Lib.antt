@@ -1,4 +1,4 @@
 pub mod Answering
 pub mod Fronts
-pub mod Printing
+pub mod Steps
 pub mod Told

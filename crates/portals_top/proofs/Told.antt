@@ -7,13 +7,12 @@ use Rattle.std.proofs.Math.Nat.{eq-or-lt_of_le}
 use Rattle.std.proofs.Math.Seq.{drop-append_seam}
 use Rattle.port_io.specs.Ends.{GivesFront, IsAtEnd}
 use Rattle.coll_lang.specs.declared.fault.Refusal.TheVariants.{TooLong}
-use Rattle.coll_lang.specs.FirstForm.{read}
-use Rattle.coll_lang.specs.Language.{read_by}
+use Rattle.coll_lang.specs.Language.{read}
 use Rattle.portals_top.specs.Answered.{IsTold}
 
 -- one byte too many is enough
 pub read-long : (text : List ℕ) → 1048576 < length text → read text ≡ Err (0, TooLong)
-unfolding read_by
+unfolding read
 read-long text long = rw (lt-ltb 1048576 (length text) long) refl
 
 -- what isn't refused wasn't too long

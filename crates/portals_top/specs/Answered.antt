@@ -1,10 +1,7 @@
 -- What the top call answers, and what it leaves.
-use Rattle.std.specs.Prelude.{◌≡◌, ◌≢◌, ℕ, List, [], Option, Some, None, Ok}
+use Rattle.std.specs.Prelude.{◌≡◌, ◌≢◌, ℕ, List, [], Option, Some, None}
 use Rattle.port_io.specs.Counts.{Rose}
 use Rattle.port_io.specs.Ends.{Inflow, Outflow}
-use Rattle.coll_lang.specs.FirstForm.{read}
-use Rattle.coll_lang.specs.Outline.{Program}
-use Rattle.world_core.specs.Worlds.{WorldState, IsRestOf}
 use Rattle.run_text.specs.Putting.{Ends, FailsWithin}
 use Rattle.portals_top.specs.declared.status.Status.{Status}
 use Rattle.portals_top.specs.declared.status.Status.TheVariants.{Done, Usage, Refused, ReadFault, WriteFault, NoMemory}
@@ -44,36 +41,11 @@ Leaves ReadFault source' rest = Unit {0}
 Leaves WriteFault source' rest = IsTold source'.left rest
 Leaves NoMemory source' rest = Unit {0}
 
--- The world ran what the bytes describe: it is at rest, and every rank has the root's list.
-pub record RanText (bytes : List ℕ) (world : WorldState) : Type 0 where
-  pub program : Program
-  pub read_as : read bytes ≡ Ok program
-  pub at_rest : IsRestOf program world
-
-abbrev pub IsRan : List ℕ → Option WorldState → Type 0
-IsRan bytes None = ⊥
-IsRan bytes (Some world) = RanText bytes world
-
--- What is handed back: the world that ran, where a result is owed and the run was made, and else none.
-abbrev pub HandsBack : Status → Status → List ℕ → Option WorldState → Type 0
-HandsBack Done owed bytes world = IsRan bytes world
-HandsBack WriteFault Done bytes world = IsRan bytes world
-HandsBack WriteFault Usage bytes world = world ≡ None
-HandsBack WriteFault Refused bytes world = world ≡ None
-HandsBack WriteFault ReadFault bytes world = world ≡ None
-HandsBack WriteFault WriteFault bytes world = world ≡ None
-HandsBack WriteFault NoMemory bytes world = world ≡ None
-HandsBack Usage owed bytes world = world ≡ None
-HandsBack Refused owed bytes world = world ≡ None
-HandsBack ReadFault owed bytes world = world ≡ None
-HandsBack NoMemory owed bytes world = world ≡ None
-
 -- All that holds after a call with this command, the source having these bytes.
-pub record Answered (command : Option Command) (bytes : List ℕ) (source source' : Inflow) (sink sink' : Outflow) (handed : Option WorldState) (status : Status) : Type 0 where
+pub record Answered (command : Option Command) (bytes : List ℕ) (source source' : Inflow) (sink sink' : Outflow) (status : Status) : Type 0 where
   pub allowed : MayAnswer status (due command bytes).status
   pub read_fault : status ≡ ReadFault → Rose source.faults source'.faults
   pub write_fault : status ≡ WriteFault → Rose sink.faults sink'.faults
   pub text : Stands status sink sink' (due command bytes).text
   pub rest : Leaves status source' (unread command bytes)
   pub untouched : command ≡ None → source' ≡ source
-  pub world : HandsBack status (due command bytes).status bytes handed

@@ -1,28 +1,28 @@
 //! The whole program.
 
-ghost use Rattle.std.specs.Prelude.{◌≡◌, List, ℕ, [], map, string_bytes};
-ghost use Rattle.coll_lang.specs.FirstForm.{read};
-ghost use Rattle.coll_lang.specs.OneBroadcast.{IsOneBroadcast};
-ghost use Rattle.portals_top.specs.Due.{command, due, due_of, usage_line};
+ghost use Rattle.std.specs.Prelude.{◌≡◌, List, ℕ, Option, None, [], map, string_bytes};
+ghost use Rattle.coll_lang.specs.Language.{read};
+ghost use Rattle.shape_plans.specs.Footprint.{refusal};
+ghost use Rattle.portals_top.specs.Due.{command, due, due_compiled, due_described, due_of};
 ghost use Rattle.portals_top.specs.Answered.{IsTold, Answered};
 ghost use Rattle.portals_top.specs.Written.{Written};
 
-use crate::ran::Ran;
+use crate::planning::plan;
 use crate::reading::{ReadError, read_text};
-use crate::results::{write_refusal, write_result};
+use crate::refusing::{refuse, refuse_step};
 use crate::status::Status;
 use crate::words::{Command, command_in};
 use coll_lang::{Description, ParseFault, Refusal, parse};
 use port_io::{Sink, Source};
-use run_text::{Pieces, write_short};
+use run_text::write_short;
+use schedule_compiler::{CompileFault, compile};
 use std::alloc::Global;
-use world_core::World;
 
-const USAGE: &[u8] = b"usage: portals_run once\n";
+const USAGE: &[u8] = b"usage: portals_run plan\n";
 
 /// Writes the usage line.
 fn usage<K: Sink>(sink: &mut K) -> Status
-    ensures { Written (due None []) [] (K.outflow sink.old) (K.outflow sink.new) None result }
+    ensures { Written (due None []) (K.outflow sink.old) (K.outflow sink.new) result }
 {
     match write_short(sink, USAGE) {
         Ok(()) => Status::Usage,
@@ -30,60 +30,58 @@ fn usage<K: Sink>(sink: &mut K) -> Status
     }
 }
 
-/// Writes why a text is refused.
-fn refuse<K: Sink>(alloc: Global, sink: &mut K, line: u32, name: Refusal) -> Status
-    ensures { (bytes : List ℕ) → Written (due_of (Err (line, name))) bytes (K.outflow sink.old) (K.outflow sink.new) None result }
+/// Compiles a description and answers it.
+fn compiled<K: Sink>(alloc: Global, command: Command, d: &Description, sink: &mut K) -> Status
+    ensures { Written (due_compiled command d.now (refusal d.now.shape)) (K.outflow sink.old) (K.outflow sink.new) result }
 {
-    let Ok(mut out) = Pieces::open(alloc) else {
-        return Status::NoMemory;
-    };
-    match write_refusal(&mut out, sink, line, name) {
-        Ok(()) => Status::Refused,
-        Err(_) => Status::WriteFault,
+    let shape = d.shape();
+    match compile(alloc, shape) {
+        Ok(schedule) => match command {
+            Command::Plan => plan(alloc, sink, schedule),
+        },
+        Err(CompileFault::TooMany { step }) => {
+            refuse_step(alloc, sink, shape, step, Refusal::TooMany)
+        }
+        Err(CompileFault::TooLarge { step }) => {
+            refuse_step(alloc, sink, shape, step, Refusal::TooLarge)
+        }
+        Err(CompileFault::NoMemory) => Status::NoMemory,
     }
 }
 
-/// Runs a description, writes the results, and hands back the world.
-fn run<K: Sink>(alloc: Global, d: &Description, sink: &mut K, ran: &mut Ran) -> Status
-    requires form { IsOneBroadcast d.now }
-    requires none { ran.old.world ≡ None }
-    ensures { (bytes : List ℕ) → read bytes ≡ Ok d.now → Written (due_of (Ok d.now)) bytes (K.outflow sink.old) (K.outflow sink.new) ran.new.world result }
+/// Answers a description.
+fn described<K: Sink>(alloc: Global, command: Command, d: &Description, sink: &mut K) -> Status
+    ensures { Written (due_described command d.now d.now.choices) (K.outflow sink.old) (K.outflow sink.new) result }
 {
-    let Ok(mut out) = Pieces::open(alloc) else {
-        return Status::NoMemory;
-    };
-    let Ok(mut world) = World::open(alloc, d) else {
-        return Status::NoMemory;
-    };
-    world.run_to_rest();
-    let written = write_result(&mut out, sink, d, &world);
-    ran.world = Some(world);
-    match written {
-        Ok(()) => Status::Done,
-        Err(_) => Status::WriteFault,
+    match d.choices() {
+        Some(_) => refuse(alloc, sink, 0, Refusal::OneThread),
+        None => compiled(alloc, command, d, sink),
     }
 }
 
 /// Answers a text that was read.
-fn answer<K: Sink>(alloc: Global, text: &[u8], sink: &mut K, ran: &mut Ran) -> Status
-    requires { ran.old.world ≡ None }
-    ensures { Written (due_of (read text.now)) text.now (K.outflow sink.old) (K.outflow sink.new) ran.new.world result }
+fn answer<K: Sink>(alloc: Global, command: Command, text: &[u8], sink: &mut K) -> Status
+    ensures { Written (due_of command (read text.now)) (K.outflow sink.old) (K.outflow sink.new) result }
 {
     match parse(alloc, text) {
-        Ok(d) => run(alloc, &d, sink, ran),
+        Ok(d) => described(alloc, command, &d, sink),
         Err(ParseFault::Refused { line, name }) => refuse(alloc, sink, line, name),
         Err(ParseFault::NoMemory) => Status::NoMemory,
     }
 }
 
-/// Reads a description, runs it, and writes the results.
-fn once<S: Source, K: Sink>(alloc: Global, source: &mut S, sink: &mut K, ran: &mut Ran) -> Status
-    requires { ran.old.world ≡ None }
+/// Reads a text and answers it.
+fn read_and_answer<S: Source, K: Sink>(
+    alloc: Global,
+    command: Command,
+    source: &mut S,
+    sink: &mut K,
+) -> Status
     ensures { (bytes : List ℕ) × IsTold (S.inflow source.old).left bytes
-        × Answered (Some Command.Once) bytes (S.inflow source.old) (S.inflow source.new) (K.outflow sink.old) (K.outflow sink.new) ran.new.world result }
+        × Answered (Some command) bytes (S.inflow source.old) (S.inflow source.new) (K.outflow sink.old) (K.outflow sink.new) result }
 {
     match read_text(alloc, source) {
-        Ok(text) => answer(alloc, text.as_slice(), sink, ran),
+        Ok(text) => answer(alloc, command, text.as_slice(), sink),
         Err(ReadError::Failed) => Status::ReadFault,
         Err(ReadError::NoMemory) => Status::NoMemory,
     }
@@ -92,24 +90,22 @@ fn once<S: Source, K: Sink>(alloc: Global, source: &mut S, sink: &mut K, ran: &m
 /// The whole program: reads what the words ask for from the source, writes the text that is owed to the sink, and answers
 /// how it ended. The words are those of the command line without the program's name.
 ///
-/// `once` reads a description and runs it on one thread. All other words get the usage line, and leave the source unread.
+/// `plan` reads a description and writes the plan that it is compiled to; nothing is run. All other words get the usage
+/// line, and leave the source unread.
 ///
-/// The world that ran is handed back in `ran`, where a result was owed and the run was made; after every other answer it is
-/// none, whatever it was before. Of a source that doesn't tell its bytes there are bytes for which all this holds; of a
-/// sink that doesn't tell what it took nothing is said of the text.
+/// Of a source that doesn't tell its bytes there are bytes for which all this holds; of a sink that doesn't tell what it
+/// took nothing is said of the text.
 pub fn portals_main<S: Source, K: Sink>(
     alloc: Global,
     words: &[String],
     source: &mut S,
     sink: &mut K,
-    ran: &mut Ran,
 ) -> Status
     ensures { (bytes : List ℕ) × IsTold (S.inflow source.old).left bytes
-        × Answered (command (map string_bytes words.now)) bytes (S.inflow source.old) (S.inflow source.new) (K.outflow sink.old) (K.outflow sink.new) ran.new.world result }
+        × Answered (command (map string_bytes words.now)) bytes (S.inflow source.old) (S.inflow source.new) (K.outflow sink.old) (K.outflow sink.new) result }
 {
-    ran.world = None;
     match command_in(words) {
-        Some(Command::Once) => once(alloc, source, sink, ran),
+        Some(command) => read_and_answer(alloc, command, source, sink),
         None => usage(sink),
     }
 }

@@ -1,8 +1,8 @@
 use Rattle.std.proofs.Common.{◌≡◌, Err}
-use Rattle.coll_lang.specs.FirstForm.{read}
+use Rattle.coll_lang.specs.Language.{read}
 use Rattle.portals_top.proofs.top.answer.Goals as goal
 
 pub returns-in-Err-Refused : goal.returns-in-Err-Refused
 returns-in-Err-Refused g c =
     let refused : read c.args.text.now ≡ Err (c.in-Err-Refused.line, c.in-Err-Refused.name) = rw c.in-Err-Refused.field-0-is at c.in-Err-Refused.ensures.exact in
-    rw (refused, c.requires) (c.refuse.ensures c.args.text.now)
+    rw refused (rw c.in-Err-Refused.field-0-is at c.refuse.ensures)

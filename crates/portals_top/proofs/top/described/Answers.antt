@@ -1,0 +1,7 @@
+use Rattle.portals_top.proofs.top.described.Goals as goal
+
+pub returns-in-Some : goal.returns-in-Some
+returns-in-Some g c = rw (← c.in-Some.ensures.told) c.refuse.ensures
+
+pub returns-in-None : goal.returns-in-None
+returns-in-None g c = rw (← c.in-None.ensures.told) c.compiled.ensures
