@@ -1,5 +1,5 @@
 -- What holds for the text that was read holds for the bytes of the source.
-use Rattle.std.proofs.Common.{◌≡◌, ◌≢◌, ℕ, ◌≤◌, List, [], length, drop, Option, Some, None, Result, Ok, Err, refl, sym, ◌∙◌, subst}
+use Rattle.std.proofs.Common.{◌≡◌, ◌≢◌, ℕ, ◌≤◌, List, [], length, drop, Option, Some, None, Result, Ok, Err, refl, sym, subst}
 use Rattle.port_io.specs.Counts.{Rose}
 use Rattle.port_io.specs.Ends.{Inflow, Outflow}
 use Rattle.coll_lang.specs.declared.fault.Refusal.{Refusal}

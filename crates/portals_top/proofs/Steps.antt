@@ -1,10 +1,7 @@
--- The step at which a shape is refused, and its line.
-use Rattle.std.proofs.Common.{◌≡◌, ℕ, zero, suc, ◌+◌, ◌*◌, ◌<◌, ◌≤◌, ◌^◌, length, Option, Some, None, Bool, true, false, if◌then◌else◌, refl, sym, ◌∙◌, ap, subst, arith}
-use Rattle.std.proofs.Math.Nat.{mul-le-mul}
+-- The step at which a shape is refused.
+use Rattle.std.proofs.Common.{◌≡◌, ℕ, zero, suc, ◌+◌, ◌<◌, length, Option, Some, None, sym, ap, arith}
 use Rattle.coll_shape.specs.Outline.{Outline}
-use Rattle.coll_shape.specs.WellFormed.{IsShape}
 use Rattle.shape_plans.specs.Footprint.{Excess, Refused, footprint, judged, refusal, refusal_from, refused_at}
-use Rattle.portals_top.specs.Due.{step_line}
 
 same-step : (k : ℕ) (name : Excess) (r : Refused) → Some (record { step = k; name = name }) ≡ Some r → r.step ≡ k
 same-step k name r is = let same : record { step = k; name = name } ≡ r = cc in ap (λ (x : Refused). x.step) (sym same)
@@ -24,15 +21,3 @@ refused-within o r is = let less : r.step < 0 + length o.steps = within o (lengt
 
 pub at-step : (o : Outline) (k : ℕ) (name : Excess) → refusal o ≡ Some (record { step = k; name = name }) → k < length o.steps
 at-step o k name is = refused-within o (record { step = k; name = name }) is
-
-one_more : (b : Bool) → (if b then 1 else 0) ≤ 1
-one_more true = omega arith
-one_more false = omega arith
-
--- the number of its line
-pub line-small : (o : Outline) (k : ℕ) → IsShape o → k < length o.steps → (o.inputs * (o.ranks + 1) ≤ 32896) × (step_line o k < 33088)
-line-small o k formed few =
-    let inputs : o.inputs ≤ 128 = omega (arith, formed.few_inputs, formed.few_buffers) in
-    let ranks : o.ranks + 1 ≤ 257 = omega (arith, formed.few_ranks) in
-    let lists : o.inputs * (o.ranks + 1) ≤ 128 * 257 = mul-le-mul inputs ranks in
-    (omega arith, omega (arith, one_more o.remote, formed.few_groups, formed.few_steps))
