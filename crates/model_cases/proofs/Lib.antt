@@ -4,3 +4,15 @@ pub mod Overflow
 pub mod Atomics
 pub mod Counting
 pub mod Acknowledged
+pub mod Wide
+pub mod Deeds
+pub mod Home
+pub mod Answering
+pub mod Told
+pub mod Searching
+pub mod Arriving
+pub mod Triggered
+pub mod Refused
+pub mod Ends
+pub mod Conditions
+pub mod Operations
