@@ -9,7 +9,7 @@ use Rattle.ptl_types.specs.declared.events.EventKind.TheVariants.{Link, PutOverf
 use Rattle.ptl_types.specs.declared.calls.Appended.{Appended}
 use Rattle.ptl_types.specs.declared.calls.Appended.TheVariants.{Linked as IsLinked, Consumed}
 use Rattle.ptl_types.specs.declared.calls.NiFault.{NiFault}
-use Rattle.ptl_types.specs.declared.calls.NiFault.TheVariants.{Stale}
+use Rattle.ptl_types.specs.declared.calls.NiFault.TheVariants.{Stale, InUse}
 use Rattle.ptl_types.specs.Messages.{Sent, message}
 use Rattle.ni_model.specs.declared.Noted.{Noted}
 use Rattle.ni_model.specs.Append.{append, search}
@@ -18,8 +18,8 @@ use Rattle.ni_model.specs.Counts.{successes}
 use Rattle.ni_model.specs.Headers.{headers_of}
 use Rattle.ni_model.specs.Tables.{handle}
 use Rattle.ni_model.specs.State.{State, opened, parts_of, target}
-use Rattle.ni_model.specs.Calls.{ct_alloc, ct_get, eq_alloc, me_append, me_search, pt_alloc}
-use Rattle.model_cases.proofs.Setting.{counting, counting_overflow, entry, first, local, once}
+use Rattle.ni_model.specs.Calls.{ct_alloc, ct_get, eq_alloc, me_append, me_search, me_unlink, pt_alloc}
+use Rattle.model_cases.proofs.Setting.{counting, counting_overflow, entry, first, local, once, second}
 use Rattle.model_cases.proofs.Wide.{asks, kinds_in, many, region}
 
 -- index 0 has a queue; a managed overflow entry of each index takes whatever bits come
@@ -144,6 +144,11 @@ overflow_takes_none = refl
 overflow_is_linked : (me_append 2 0 Overflow (once room) five).answer ≡ Ok (IsLinked (handle 2 2))
 unfolding target request append
 overflow_is_linked = refl
+
+-- any header keeps its entry, not the oldest alone
+second_header_keeps : (me_unlink second five).answer ≡ Err InUse
+unfolding target request append
+second_header_keeps = refl
 
 -- ---- what is counted: headers where overflow is counted, and none where messages are
 abbrev with_counter : State
