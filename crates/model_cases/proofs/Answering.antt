@@ -69,7 +69,9 @@ back kind length ok = record {
   ok = ok;
 }
 
-put_is_acknowledged : answer_of (holding Priority part) (put 2 (1 ∷ 2 ∷ [])) ≡ Some (message (record (back AckKind 2 true) { ack = CtAck }) [])
+put_is_acknowledged :
+    answer_of (holding Priority part) (put 2 (1 ∷ 2 ∷ []))
+    ≡ Some (message (record (back AckKind 2 true) { ack = CtAck }) [])
 unfolding target request append
 put_is_acknowledged = refl
 
@@ -77,12 +79,16 @@ atomic_is_acknowledged : answer_of (holding Priority part) atomic ≡ Some (mess
 unfolding target request append
 atomic_is_acknowledged = refl
 
-get_is_replied : answer_of (holding Priority part) (get 3) ≡ Some (message (record (back Reply 3 true) { hdr_data = 0 }) (15 ∷ 16 ∷ 17 ∷ []))
+get_is_replied :
+    answer_of (holding Priority part) (get 3)
+    ≡ Some (message (record (back Reply 3 true) { hdr_data = 0 }) (15 ∷ 16 ∷ 17 ∷ []))
 unfolding target request append
 get_is_replied = refl
 
 -- what there is from offset 1 on
-get_is_cut : answer_of (holding Priority part) (get 9) ≡ Some (message (record (back Reply 5 true) { hdr_data = 0 }) (15 ∷ 16 ∷ 17 ∷ 18 ∷ 19 ∷ []))
+get_is_cut :
+    answer_of (holding Priority part) (get 9)
+    ≡ Some (message (record (back Reply 5 true) { hdr_data = 0 }) (15 ∷ 16 ∷ 17 ∷ 18 ∷ 19 ∷ []))
 unfolding target request append
 get_is_cut = refl
 
@@ -95,7 +101,9 @@ unfolding target request append
 swap_is_replied = refl
 
 -- a reply asks for no acknowledgement, whatever the request said
-reply_asks_nothing : answer_of (holding Priority part) (message (record (asks Get 1) { ack = CtAck }) []) ≡ Some (message (back Reply 1 true) (15 ∷ []))
+reply_asks_nothing :
+    answer_of (holding Priority part) (message (record (asks Get 1) { ack = CtAck }) [])
+    ≡ Some (message (back Reply 1 true) (15 ∷ []))
 unfolding target request append
 reply_asks_nothing = refl
 
@@ -148,7 +156,9 @@ unfolding target request append
 forbidden_fetch = refl
 
 -- ---- in the overflow list: ok, with what was delivered there
-overflow_is_acknowledged : answer_of (holding Overflow (entry 4 2)) (put 2 (1 ∷ 2 ∷ [])) ≡ Some (message (record (back AckKind 1 true) { ack = CtAck }) [])
+overflow_is_acknowledged :
+    answer_of (holding Overflow (entry 4 2)) (put 2 (1 ∷ 2 ∷ []))
+    ≡ Some (message (record (back AckKind 1 true) { ack = CtAck }) [])
 unfolding target request append
 overflow_is_acknowledged = refl
 
@@ -160,7 +170,9 @@ delivery_rose : (request (parts_of (with_counter (counting first part))) (get 3)
 unfolding request append
 delivery_rose = refl
 
-uncounted_delivery : (request (parts_of (with_counter (record part { ct = Some first; count_overflow = true }))) (get 3)).arrived.counted ≡ None
+uncounted_delivery :
+    (request (parts_of (with_counter (record part { ct = Some first; count_overflow = true }))) (get 3)).arrived.counted
+    ≡ None
 unfolding request append
 uncounted_delivery = refl
 

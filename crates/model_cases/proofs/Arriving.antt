@@ -1,7 +1,8 @@
 -- Requests that arrive: which entry takes one, where its bytes lie, and what becomes of the entry (Portals 4.3, matching and lists).
-use Rattle.std.specs.Prelude.{ℕ, true, false, ◌≡◌, List, [], ◌∷◌, Some, None, Ok, refl}
+use Rattle.std.specs.Prelude.{ℕ, true, false, ◌≡◌, List, [], ◌∷◌, map, Some, None, Ok, refl}
 use Rattle.ptl_types.specs.declared.headers.MessageKind.{MessageKind}
 use Rattle.ptl_types.specs.declared.headers.MessageKind.TheVariants.{Put, Get, Atomic, FetchAtomic, Swap}
+use Rattle.ptl_types.specs.declared.elements.ElemType.{ElemType}
 use Rattle.ptl_types.specs.declared.elements.ElemType.TheVariants.{U16, U32}
 use Rattle.ptl_types.specs.declared.elements.AtomicOp.TheVariants.{Sum}
 use Rattle.ptl_types.specs.declared.elements.SwapOp.TheVariants.{Swap as PlainSwap}
@@ -14,7 +15,7 @@ use Rattle.ptl_types.specs.Messages.{Sent, message}
 use Rattle.ni_model.specs.Append.{append}
 use Rattle.ni_model.specs.Arrive.{request}
 use Rattle.ni_model.specs.Counts.{successes}
-use Rattle.ni_model.specs.State.{State, opened, target}
+use Rattle.ni_model.specs.State.{State, Delivers, opened, target}
 use Rattle.ni_model.specs.Calls.{ct_alloc, ct_get, me_append, pt_alloc}
 use Rattle.model_cases.proofs.Setting.{bytes_of_answer, counting, entry, first, length_of_answer, local, once, second}
 use Rattle.model_cases.proofs.Wide.{asks, many, region}
@@ -51,9 +52,11 @@ puts_alone = holding (record (entry 4 6) { allow_get = false })
 abbrev gets_alone : State
 gets_alone = holding (record (entry 4 6) { allow_put = false })
 
+abbrev each_kind : List Sent
+each_kind = one ∷ plain Get 1 [] ∷ sum Atomic (1 ∷ 0 ∷ []) ∷ sum FetchAtomic (1 ∷ 0 ∷ []) ∷ swap ∷ []
+
 abbrev outcomes : State → List Outcome
-outcomes s =
-    outcome s one ∷ outcome s (plain Get 1 []) ∷ outcome s (sum Atomic (1 ∷ 0 ∷ [])) ∷ outcome s (sum FetchAtomic (1 ∷ 0 ∷ [])) ∷ outcome s swap ∷ []
+outcomes s = map (outcome s) each_kind
 
 puts_allowed : outcomes puts_alone ≡ Matched ∷ Violation ∷ Matched ∷ Violation ∷ Violation ∷ []
 unfolding target request append
@@ -109,16 +112,21 @@ unfolding target request append
 nothing_beyond_the_end = refl
 
 -- ---- whole elements, of operations on elements alone
-puts_have_no_elements : memory_of (holding (entry 4 6)) (message (record (asks Put 3) { ty = U16 }) (1 ∷ 2 ∷ 3 ∷ [])) ≡ 10 ∷ 11 ∷ 12 ∷ 13 ∷ 14 ∷ 1 ∷ 2 ∷ 3 ∷ 18 ∷ 19 ∷ 20 ∷ 21 ∷ 22 ∷ 23 ∷ 24 ∷ 25 ∷ []
+puts_have_no_elements :
+    memory_of (holding (entry 4 6)) (message (record (asks Put 3) { ty = U16 }) (1 ∷ 2 ∷ 3 ∷ []))
+    ≡ 10 ∷ 11 ∷ 12 ∷ 13 ∷ 14 ∷ 1 ∷ 2 ∷ 3 ∷ 18 ∷ 19 ∷ 20 ∷ 21 ∷ 22 ∷ 23 ∷ 24 ∷ 25 ∷ []
 unfolding target request append
 puts_have_no_elements = refl
 
 -- of three bytes behind offset 1 one element of two comes, and none of four
-two_of_three : bytes_of_answer (target (holding (entry 4 4)) (message (record (asks FetchAtomic 4) { op = Some Sum; ty = U16 }) (1 ∷ 0 ∷ 1 ∷ 0 ∷ []))).delivered.answer ≡ 15 ∷ 16 ∷ []
+abbrev fetch_of : ElemType → Delivers
+fetch_of ty = target (holding (entry 4 4)) (message (record (asks FetchAtomic 4) { op = Some Sum; ty = ty }) (1 ∷ 0 ∷ 1 ∷ 0 ∷ []))
+
+two_of_three : bytes_of_answer (fetch_of U16).delivered.answer ≡ 15 ∷ 16 ∷ []
 unfolding target request append
 two_of_three = refl
 
-none_of_three : length_of_answer (target (holding (entry 4 4)) (message (record (asks FetchAtomic 4) { op = Some Sum; ty = U32 }) (1 ∷ 0 ∷ 1 ∷ 0 ∷ []))).delivered.answer ≡ 0
+none_of_three : length_of_answer (fetch_of U32).delivered.answer ≡ 0
 unfolding target request append
 none_of_three = refl
 
@@ -132,7 +140,8 @@ gets_move_on = refl
 
 -- of three bytes two are delivered, so the third is next
 abbrev after_atomic : State
-after_atomic = (target (holding (local 0 (entry 4 3))) (message (record (asks Atomic 4) { op = Some Sum; ty = U16 }) (1 ∷ 0 ∷ 1 ∷ 0 ∷ []))).state
+after_atomic =
+    (target (holding (local 0 (entry 4 3))) (message (record (asks Atomic 4) { op = Some Sum; ty = U16 }) (1 ∷ 0 ∷ 1 ∷ 0 ∷ []))).state
 
 third_is_next : memory_of after_atomic one ≡ 10 ∷ 11 ∷ 12 ∷ 13 ∷ 15 ∷ 15 ∷ 1 ∷ 17 ∷ 18 ∷ 19 ∷ 20 ∷ 21 ∷ 22 ∷ 23 ∷ 24 ∷ 25 ∷ []
 unfolding target request append
@@ -142,18 +151,25 @@ third_is_next = refl
 abbrev two_managed : State
 two_managed = (me_append 1 1 Priority (local 0 (record (entry 8 4) { match_bits = 6 })) managed).state
 
-other_offset_stays : memory_of (target two_managed (message (record (asks Put 1) { match_bits = 6 }) (2 ∷ []))).state one ≡ 10 ∷ 11 ∷ 12 ∷ 13 ∷ 1 ∷ 15 ∷ 16 ∷ 17 ∷ 2 ∷ 19 ∷ 20 ∷ 21 ∷ 22 ∷ 23 ∷ 24 ∷ 25 ∷ []
+other_offset_stays :
+    memory_of (target two_managed (message (record (asks Put 1) { match_bits = 6 }) (2 ∷ []))).state one
+    ≡ 10 ∷ 11 ∷ 12 ∷ 13 ∷ 1 ∷ 15 ∷ 16 ∷ 17 ∷ 2 ∷ 19 ∷ 20 ∷ 21 ∷ 22 ∷ 23 ∷ 24 ∷ 25 ∷ []
 unfolding target request append
 other_offset_stays = refl
 
 -- an entry that isn't managed stays as it is, however few bytes are free
-unmanaged_stays : (target (holding (record (entry 4 6) { min_free = 6 })) one).state.indices ≡ (holding (record (entry 4 6) { min_free = 6 })).indices
+unmanaged_stays :
+    (target (holding (record (entry 4 6) { min_free = 6 })) one).state.indices
+    ≡ (holding (record (entry 4 6) { min_free = 6 })).indices
 unfolding target request append
 unmanaged_stays = refl
 
 -- ---- use-once entries of two indices: the one of the message goes, and the others stay
+abbrev two_once : State
+two_once = (me_append 1 1 Priority (once (entry 8 4)) (me_append 0 0 Priority (once (entry 4 4)) empty).state).state
+
 abbrev three_once : State
-three_once = (me_append 2 1 Priority (once (record (entry 12 4) { match_bits = 6 })) (me_append 1 1 Priority (once (entry 8 4)) (me_append 0 0 Priority (once (entry 4 4)) empty).state).state).state
+three_once = (me_append 2 1 Priority (once (record (entry 12 4) { match_bits = 6 })) two_once).state
 
 abbrev at_zero : Sent
 at_zero = message (record (asks Put 1) { pt = 0 }) (1 ∷ [])
@@ -171,15 +187,21 @@ unfolding target request append
 other_entry_stays = refl
 
 -- ---- counts: in either list, where messages are counted, on the entry's own counting event
-overflow_is_counted : ct_get second (target (me_append 0 1 InOverflow (counting second (entry 4 4)) empty).state one).state ≡ Ok (successes 1)
+overflow_is_counted :
+    ct_get second (target (me_append 0 1 InOverflow (counting second (entry 4 4)) empty).state one).state
+    ≡ Ok (successes 1)
 unfolding target request append
 overflow_is_counted = refl
 
-other_is_not_counted : ct_get first (target (me_append 0 1 InOverflow (counting second (entry 4 4)) empty).state one).state ≡ Ok (successes 0)
+other_is_not_counted :
+    ct_get first (target (me_append 0 1 InOverflow (counting second (entry 4 4)) empty).state one).state
+    ≡ Ok (successes 0)
 unfolding target request append
 other_is_not_counted = refl
 
-headers_alone_are_counted : ct_get second (target (holding (record (entry 4 4) { ct = Some second; count_overflow = true })) one).state ≡ Ok (successes 0)
+headers_alone_are_counted :
+    ct_get second (target (holding (record (entry 4 4) { ct = Some second; count_overflow = true })) one).state
+    ≡ Ok (successes 0)
 unfolding target request append
 headers_alone_are_counted = refl
 
@@ -188,7 +210,9 @@ unfolding target request append
 get_is_counted = refl
 
 -- ---- an atomic that comes unexpected is combined where it lies
-combined_there : memory_of (me_append 0 1 InOverflow (entry 4 6) empty).state (sum Atomic (1 ∷ 0 ∷ [])) ≡ 10 ∷ 11 ∷ 12 ∷ 13 ∷ 14 ∷ 16 ∷ 16 ∷ 17 ∷ 18 ∷ 19 ∷ 20 ∷ 21 ∷ 22 ∷ 23 ∷ 24 ∷ 25 ∷ []
+combined_there :
+    memory_of (me_append 0 1 InOverflow (entry 4 6) empty).state (sum Atomic (1 ∷ 0 ∷ []))
+    ≡ 10 ∷ 11 ∷ 12 ∷ 13 ∷ 14 ∷ 16 ∷ 16 ∷ 17 ∷ 18 ∷ 19 ∷ 20 ∷ 21 ∷ 22 ∷ 23 ∷ 24 ∷ 25 ∷ []
 unfolding target request append
 combined_there = refl
 

@@ -1,5 +1,5 @@
--- What a caller sees to before a start, what parts and messages keep, and which entry matches: each bound with its last number that meets it
--- and the first that doesn't.
+-- What a caller sees to before a start, what parts and messages keep, and which entry matches: each bound with the last number that
+-- meets it and the first that doesn't.
 use Rattle.std.proofs.Common.{ℕ, Bool, true, false, ◌≡◌, ◌≤◌, ◌+◌, ◌-◌, ◌^◌, List, [], ◌∷◌, map, Option, Some, None, refl, arith, lit<, lit≤, replicate}
 use Rattle.ptl_types.specs.declared.headers.AckRequest.TheVariants.{NoAck, CtAck}
 use Rattle.ptl_types.specs.declared.headers.MessageKind.{MessageKind}
@@ -17,7 +17,7 @@ use Rattle.ptl_types.specs.Kinds.{lane_of}
 use Rattle.ptl_types.specs.Matching.{bits_match, takes_source, is_match}
 use Rattle.ptl_types.specs.Messages.{message, room_due}
 use Rattle.ni_model.specs.declared.Linked.{Linked}
-use Rattle.ni_model.specs.Conditions.{MayStart, IsKept, IsPartIn, HasPartsIn, IsBoundIn, HasRoom}
+use Rattle.ni_model.specs.Conditions.{MayStart, MayFetch, IsKept, IsPartIn, HasPartsIn, IsBoundIn, HasRoom}
 use Rattle.ni_model.specs.Headers.{held}
 use Rattle.ni_model.specs.Lists.{Index}
 use Rattle.ni_model.specs.Calls.{bound}
@@ -61,8 +61,12 @@ too_long_atomic h = absurd (omega (arith, h.1.few))
 half_an_element : May (Atomic (args 3 3) Sum U16) → ⊥
 half_an_element h = let q : 1 ≡ 0 = h.1.whole in absurd (omega (arith, q))
 
+-- both sides agree, and no acknowledgement is asked for
+agree : (length : ℕ) → MayFetch (back 3 length) (args 3 length)
+agree length = record { length = refl; target = refl; pt = refl; match_bits = refl; remote_offset = refl; no_ack = refl }
+
 longest_fetch : May (FetchAtomic (back 3 4) (args 3 4) Sum U16)
-longest_fetch = (record { target_known = lit< tt; short = lit≤ tt }, record { whole = refl; few = lit≤ tt }, record { length = refl; target = refl; pt = refl; match_bits = refl; remote_offset = refl; no_ack = refl })
+longest_fetch = (record { target_known = lit< tt; short = lit≤ tt }, record { whole = refl; few = lit≤ tt }, agree 4)
 
 too_long_fetch : May (FetchAtomic (back 3 6) (args 3 6) Sum U16) → ⊥
 too_long_fetch h = absurd (omega (arith, h.1.few))
@@ -70,8 +74,23 @@ too_long_fetch h = absurd (omega (arith, h.1.few))
 acknowledged_fetch : May (FetchAtomic (back 3 4) (record (args 3 4) { ack = CtAck }) Sum U16) → ⊥
 acknowledged_fetch h = let q : CtAck ≡ NoAck = h.2.no_ack in cc
 
+other_length : May (FetchAtomic (back 3 2) (args 3 4) Sum U16) → ⊥
+other_length h = let q : 2 ≡ 4 = h.2.length in absurd (omega (arith, q))
+
+other_target : May (FetchAtomic (back 2 4) (args 3 4) Sum U16) → ⊥
+other_target h = let q : 2 ≡ 3 = h.2.target in absurd (omega (arith, q))
+
+other_index : May (FetchAtomic (record (back 3 4) { pt = 1 }) (args 3 4) Sum U16) → ⊥
+other_index h = let q : 1 ≡ 4 = h.2.pt in absurd (omega (arith, q))
+
+other_bits : May (FetchAtomic (record (back 3 4) { match_bits = 6 }) (args 3 4) Sum U16) → ⊥
+other_bits h = let q : 6 ≡ 5 = h.2.match_bits in absurd (omega (arith, q))
+
+other_offset : May (FetchAtomic (record (back 3 4) { remote_offset = 5 }) (args 3 4) Sum U16) → ⊥
+other_offset h = let q : 5 ≡ 6 = h.2.remote_offset in absurd (omega (arith, q))
+
 one_element : May (Swap (back 3 2) (args 3 2) Cswap U16 7)
-one_element = (record { target_known = lit< tt; short = lit≤ tt }, refl, record { length = refl; target = refl; pt = refl; match_bits = refl; remote_offset = refl; no_ack = refl })
+one_element = (record { target_known = lit< tt; short = lit≤ tt }, refl, agree 2)
 
 two_elements : May (Swap (back 3 4) (args 3 4) Cswap U16 7) → ⊥
 two_elements h = let q : 4 ≡ 2 = h.1 in absurd (omega (arith, q))
@@ -135,7 +154,9 @@ room_of_a_reply = refl
 no_room_of_others : room_due PutKind 9 ≡ 0
 no_room_of_others = refl
 
-lanes : map lane_of (PutKind ∷ GetKind ∷ AtomicKind ∷ FetchKind ∷ SwapKind ∷ AckKind ∷ Reply ∷ []) ≡ Request ∷ Request ∷ Request ∷ Request ∷ Request ∷ Answer ∷ Answer ∷ []
+lanes :
+    map lane_of (PutKind ∷ GetKind ∷ AtomicKind ∷ FetchKind ∷ SwapKind ∷ AckKind ∷ Reply ∷ [])
+    ≡ Request ∷ Request ∷ Request ∷ Request ∷ Request ∷ Answer ∷ Answer ∷ []
 lanes = refl
 
 -- ---- matching: every bit but the ignored ones, the highest too; and the source, not the target
@@ -172,7 +193,8 @@ other_source = refl
 
 -- the entry's ignored bits, on the entry's and the message's bits
 abbrev bits_of : ℕ → ℕ → ℕ → Bool
-bits_of bits ignored sent = is_match (record (entry 0 4) { match_bits = bits; ignore_bits = ignored }) (record (asks PutKind 1) { match_bits = sent })
+bits_of bits ignored sent =
+    is_match (record (entry 0 4) { match_bits = bits; ignore_bits = ignored }) (record (asks PutKind 1) { match_bits = sent })
 
 ignored_of_the_entry : bits_of 5 2 7 ≡ true
 ignored_of_the_entry = refl

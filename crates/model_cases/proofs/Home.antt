@@ -74,7 +74,8 @@ abbrev of_send : ℕ → Event
 of_send n = record { kind = Send; source = 1; pt = 4; match_bits = 5; hdr_data = n; requested = 2; delivered = 0; place = 0; ok = true }
 
 abbrev ack_event : ℕ → Bool → Event
-ack_event delivered ok = record { kind = AckEvent; source = 3; pt = 4; match_bits = 5; hdr_data = 66; requested = 0; delivered = delivered; place = 0; ok = ok }
+ack_event delivered ok =
+    record { kind = AckEvent; source = 3; pt = 4; match_bits = 5; hdr_data = 66; requested = 0; delivered = delivered; place = 0; ok = ok }
 
 ack_is_told : events_in first acked ≡ of_send 77 ∷ ack_event 2 true ∷ []
 unfolding target answered started
@@ -127,7 +128,8 @@ unfolding target answered started
 reply_is_written = refl
 
 abbrev reply_event : ℕ → ℕ → Bool → Event
-reply_event delivered place ok = record { kind = ReplyEvent; source = 3; pt = 4; match_bits = 5; hdr_data = 66; requested = 0; delivered = delivered; place = place; ok = ok }
+reply_event delivered place ok =
+    record (ack_event delivered ok) { kind = ReplyEvent; place = place }
 
 reply_is_told : events_in second replied ≡ of_send 0 ∷ reply_event 2 11 true ∷ []
 unfolding target answered started

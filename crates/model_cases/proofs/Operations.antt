@@ -15,14 +15,20 @@ widths : map bytes_of types ≡ 1 ∷ 1 ∷ 2 ∷ 2 ∷ 4 ∷ 4 ∷ 8 ∷ 8 ∷ 
 widths = refl
 
 -- ---- the order of the type: the pattern 200 of eight bits is -56 with a sign
-lesser : op Min U8 200 5 ∷ op Min I8 200 5 ∷ op Min I8 127 128 ∷ op Min U16 200 5 ∷ op Min I64 (2 ^ 63) 0 ∷ [] ≡ 5 ∷ 200 ∷ 128 ∷ 5 ∷ 2 ^ 63 ∷ []
+lesser :
+    op Min U8 200 5 ∷ op Min I8 200 5 ∷ op Min I8 127 128 ∷ op Min U16 200 5 ∷ op Min I64 (2 ^ 63) 0 ∷ []
+    ≡ 5 ∷ 200 ∷ 128 ∷ 5 ∷ 2 ^ 63 ∷ []
 lesser = refl
 
-greater : op Max U8 200 5 ∷ op Max I8 200 5 ∷ op Max I8 127 128 ∷ op Max I16 200 5 ∷ op Max I32 (2 ^ 31) 0 ∷ [] ≡ 200 ∷ 5 ∷ 127 ∷ 200 ∷ 0 ∷ []
+greater :
+    op Max U8 200 5 ∷ op Max I8 200 5 ∷ op Max I8 127 128 ∷ op Max I16 200 5 ∷ op Max I32 (2 ^ 31) 0 ∷ []
+    ≡ 200 ∷ 5 ∷ 127 ∷ 200 ∷ 0 ∷ []
 greater = refl
 
 -- ---- modulo the width
-sums : op Sum U8 200 100 ∷ op Sum I8 127 1 ∷ op Sum U16 200 100 ∷ op Sum U32 (2 ^ 32 - 1) 2 ∷ op Sum I64 (2 ^ 64 - 1) 2 ∷ [] ≡ 44 ∷ 128 ∷ 300 ∷ 1 ∷ 1 ∷ []
+sums :
+    op Sum U8 200 100 ∷ op Sum I8 127 1 ∷ op Sum U16 200 100 ∷ op Sum U32 (2 ^ 32 - 1) 2 ∷ op Sum I64 (2 ^ 64 - 1) 2 ∷ []
+    ≡ 44 ∷ 128 ∷ 300 ∷ 1 ∷ 1 ∷ []
 sums = refl
 
 products : op Prod U8 20 13 ∷ op Prod I8 255 255 ∷ op Prod U16 20 13 ∷ op Prod U64 (2 ^ 63) 2 ∷ [] ≡ 4 ∷ 1 ∷ 260 ∷ 0 ∷ []

@@ -145,7 +145,9 @@ set_past_the_end = refl
 abbrev near_the_end : State
 near_the_end = (ct_set first (record { success = top - 3; failure = 1 }) base).state
 
-raised_to_the_end : ct_get first (ct_inc first (record { success = 1; failure = 1 }) near_the_end).state ≡ Ok (record { success = top - 2; failure = 2 })
+raised_to_the_end :
+    ct_get first (ct_inc first (record { success = 1; failure = 1 }) near_the_end).state
+    ≡ Ok (record { success = top - 2; failure = 2 })
 raised_to_the_end = refl
 
 raised_past_the_end : (ct_inc first (record { success = 1; failure = 2 }) near_the_end).answer ≡ Err CountFull
@@ -280,7 +282,9 @@ goal_is_stale : map start_fault (started_by put lost_get) ≡ None ∷ Some Stal
 unfolding started
 goal_is_stale = refl
 
-past_the_source : map start_fault (started_by long_put fetching) ≡ Some OutOfRegion ∷ None ∷ Some OutOfRegion ∷ Some OutOfRegion ∷ Some OutOfRegion ∷ []
+past_the_source :
+    map start_fault (started_by long_put fetching)
+    ≡ Some OutOfRegion ∷ None ∷ Some OutOfRegion ∷ Some OutOfRegion ∷ Some OutOfRegion ∷ []
 unfolding started
 past_the_source = refl
 
@@ -288,11 +292,15 @@ past_the_goal : map start_fault (started_by put long_get) ≡ None ∷ Some OutO
 unfolding started
 past_the_goal = refl
 
-to_the_ends : map start_fault (started_by (record put { local_offset = 4 }) (record fetching { local_offset = 6 })) ≡ None ∷ None ∷ None ∷ None ∷ None ∷ []
+to_the_ends :
+    map start_fault (started_by (record put { local_offset = 4 }) (record fetching { local_offset = 6 }))
+    ≡ None ∷ None ∷ None ∷ None ∷ None ∷ []
 unfolding started
 to_the_ends = refl
 
-stale_before_out_of_region : map start_fault (started_by long_put lost_get) ≡ Some OutOfRegion ∷ Some Stale ∷ Some OutOfRegion ∷ Some Stale ∷ Some Stale ∷ []
+stale_before_out_of_region :
+    map start_fault (started_by long_put lost_get)
+    ≡ Some OutOfRegion ∷ Some Stale ∷ Some OutOfRegion ∷ Some Stale ∷ Some Stale ∷ []
 unfolding started
 stale_before_out_of_region = refl
 
@@ -309,7 +317,9 @@ source_to_wait_for = refl
 goal_to_wait_for : map trigger_fault (started_by put lost_get) ≡ None ∷ Some Stale ∷ None ∷ Some Stale ∷ Some Stale ∷ []
 goal_to_wait_for = refl
 
-source_that_holds_it : map trigger_fault (started_by long_put fetching) ≡ Some OutOfRegion ∷ None ∷ Some OutOfRegion ∷ Some OutOfRegion ∷ Some OutOfRegion ∷ []
+source_that_holds_it :
+    map trigger_fault (started_by long_put fetching)
+    ≡ Some OutOfRegion ∷ None ∷ Some OutOfRegion ∷ Some OutOfRegion ∷ Some OutOfRegion ∷ []
 source_that_holds_it = refl
 
 goal_that_holds_it : map trigger_fault (started_by put long_get) ≡ None ∷ Some OutOfRegion ∷ None ∷ Some OutOfRegion ∷ Some OutOfRegion ∷ []
@@ -318,7 +328,9 @@ goal_that_holds_it = refl
 no_counter_to_wait_on : (triggered (Put put) unknown 1 bound).answer ≡ Err Stale
 no_counter_to_wait_on = refl
 
-counters_named : map trigger_fault (Inc unknown (successes 1) ∷ Set unknown (successes 1) ∷ Inc second (successes 1) ∷ Set second (successes 1) ∷ []) ≡ Some Stale ∷ Some Stale ∷ None ∷ None ∷ []
+counters_named :
+    map trigger_fault (Inc unknown (successes 1) ∷ Set unknown (successes 1) ∷ Inc second (successes 1) ∷ Set second (successes 1) ∷ [])
+    ≡ Some Stale ∷ Some Stale ∷ None ∷ None ∷ []
 counters_named = refl
 
 abbrev past : Count
@@ -327,7 +339,9 @@ past = record { success = top; failure = 1 }
 abbrev at_end : Count
 at_end = record { success = top - 1; failure = 1 }
 
-ends_of_counts : map trigger_fault (Inc second past ∷ Set second past ∷ Inc second at_end ∷ Set second at_end ∷ []) ≡ Some CountFull ∷ Some CountFull ∷ None ∷ None ∷ []
+ends_of_counts :
+    map trigger_fault (Inc second past ∷ Set second past ∷ Inc second at_end ∷ Set second at_end ∷ [])
+    ≡ Some CountFull ∷ Some CountFull ∷ None ∷ None ∷ []
 ends_of_counts = refl
 
 -- as many wait as there may be
@@ -338,7 +352,9 @@ abbrev crowded_fault : Deed → Option NiFault
 crowded_fault d = fault_of (triggered d first 1 crowded).answer
 
 -- the lowest number first
-no_room_to_wait : map crowded_fault (Put put ∷ Put long_put ∷ Inc second past ∷ Put lost_put ∷ []) ≡ Some NoSpace ∷ Some NoSpace ∷ Some NoSpace ∷ Some Stale ∷ []
+no_room_to_wait :
+    map crowded_fault (Put put ∷ Put long_put ∷ Inc second past ∷ Put lost_put ∷ [])
+    ≡ Some NoSpace ∷ Some NoSpace ∷ Some NoSpace ∷ Some Stale ∷ []
 no_room_to_wait = refl
 
 abbrev numbered : ℕ → State
@@ -377,7 +393,9 @@ empty_part : append_fault_of 2 (entry 16 0) two_indices ≡ None
 unfolding append
 empty_part = refl
 
-stamped_last : (me_append 2 2 Priority (entry 0 4) (record two_indices { entries_given = top - 1 })).answer ≡ Ok (IsLinked (handle 2 (top - 1)))
+stamped_last :
+    (me_append 2 2 Priority (entry 0 4) (record two_indices { entries_given = top - 1 })).answer
+    ≡ Ok (IsLinked (handle 2 (top - 1)))
 unfolding append
 stamped_last = refl
 
@@ -392,7 +410,9 @@ opened_for_two = (pt_alloc 1 None (pt_alloc 0 None (opened 1 4 (record many { en
 abbrev full_of_entries : State
 full_of_entries = (me_append 1 1 Priority (entry 0 4) (me_append 0 0 Overflow (entry 0 4) opened_for_two).state).state
 
-second_is_linked : (me_append 1 1 Priority (entry 0 4) (me_append 0 0 Overflow (entry 0 4) opened_for_two).state).answer ≡ Ok (IsLinked second)
+second_is_linked :
+    (me_append 1 1 Priority (entry 0 4) (me_append 0 0 Overflow (entry 0 4) opened_for_two).state).answer
+    ≡ Ok (IsLinked second)
 unfolding append
 second_is_linked = refl
 
@@ -405,7 +425,9 @@ unfolding append
 stale_before_no_third = refl
 
 -- also where a header would be found, and the entry not be linked
-no_room_for_a_header : append_fault_of 0 (once (entry 0 4)) (target full_of_entries (message (record (asks PutKind 1) { pt = 0 }) (1 ∷ []))).state ≡ Some NoSpace
+no_room_for_a_header :
+    append_fault_of 0 (once (entry 0 4)) (target full_of_entries (message (record (asks PutKind 1) { pt = 0 }) (1 ∷ []))).state
+    ≡ Some NoSpace
 unfolding target request append
 no_room_for_a_header = refl
 

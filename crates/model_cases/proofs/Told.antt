@@ -89,7 +89,8 @@ swap_is_told_as_a_fetch = refl
 
 -- an unlinked entry tells its own match bits
 abbrev of_entry : EventKind → ℕ → Event
-of_entry kind bits = record { kind = kind; source = 0; pt = 1; match_bits = bits; hdr_data = 0; requested = 0; delivered = 0; place = 0; ok = true }
+of_entry kind bits =
+    record { kind = kind; source = 0; pt = 1; match_bits = bits; hdr_data = 0; requested = 0; delivered = 0; place = 0; ok = true }
 
 unlinking_is_told : after (once part) put ≡ linked_event ∷ of_message PutEvent 9 5 ∷ of_entry AutoUnlink 5 ∷ []
 unfolding target request append
@@ -112,7 +113,9 @@ overflow_unlinks : events_in first (kept (once part) put) ≡ linked_event ∷ o
 unfolding target request append
 overflow_unlinks = refl
 
-header_is_kept : (kept part put).headers.noted ≡ record { pt = 1; header = record { entry = first; place = 5; delivered = 5; header = with_seven Put 9 } } ∷ []
+header_is_kept :
+    (kept part put).headers.noted
+    ≡ record { pt = 1; header = record { entry = first; place = 5; delivered = 5; header = with_seven Put 9 } } ∷ []
 unfolding target request append
 header_is_kept = refl
 
@@ -123,11 +126,15 @@ taking = once (record (entry 12 4) { match_bits = 7 })
 abbrev taken : Sent → State
 taken m = (me_append 0 1 Priority taking (kept (once part) m)).state
 
-taken_put_is_told : events_in first (taken put) ≡ linked_event ∷ of_entry AutoUnlink 5 ∷ of_message PutOverflow 9 5 ∷ of_entry AutoFree 0 ∷ []
+taken_put_is_told :
+    events_in first (taken put)
+    ≡ linked_event ∷ of_entry AutoUnlink 5 ∷ of_message PutOverflow 9 5 ∷ of_entry AutoFree 0 ∷ []
 unfolding target request append
 taken_put_is_told = refl
 
-taken_atomic_is_told : events_in first (taken atomic) ≡ linked_event ∷ of_entry AutoUnlink 5 ∷ of_message AtomicOverflow 6 4 ∷ of_entry AutoFree 0 ∷ []
+taken_atomic_is_told :
+    events_in first (taken atomic)
+    ≡ linked_event ∷ of_entry AutoUnlink 5 ∷ of_message AtomicOverflow 6 4 ∷ of_entry AutoFree 0 ∷ []
 unfolding target request append
 taken_atomic_is_told = refl
 
@@ -140,11 +147,15 @@ unfolding target request append
 staying_is_told = refl
 
 -- ---- searches
-found_is_told : events_in first (me_search 1 taking false (kept (once part) put)).state ≡ linked_event ∷ of_entry AutoUnlink 5 ∷ of_message Search 9 5 ∷ []
+found_is_told :
+    events_in first (me_search 1 taking false (kept (once part) put)).state
+    ≡ linked_event ∷ of_entry AutoUnlink 5 ∷ of_message Search 9 5 ∷ []
 unfolding target request append search
 found_is_told = refl
 
-deleted_is_told : events_in first (me_search 1 taking true (kept (once part) put)).state ≡ linked_event ∷ of_entry AutoUnlink 5 ∷ of_message Search 9 5 ∷ of_entry AutoFree 0 ∷ []
+deleted_is_told :
+    events_in first (me_search 1 taking true (kept (once part) put)).state
+    ≡ linked_event ∷ of_entry AutoUnlink 5 ∷ of_message Search 9 5 ∷ of_entry AutoFree 0 ∷ []
 unfolding target request append search
 deleted_is_told = refl
 
@@ -153,8 +164,14 @@ unfolding target request append search
 missed_is_told = refl
 
 -- ---- a header that stays keeps its entry: two headers lie in one that went with the second of them
+abbrev older : Sent
+older = message (record (asks Put 3) { offset = 0 }) (1 ∷ 2 ∷ 3 ∷ [])
+
+abbrev younger : Sent
+younger = message (with_seven Put 2) (4 ∷ 5 ∷ [])
+
 abbrev two_kept : State
-two_kept = (target (kept (local 4 (record (entry 0 8) { ignore_bits = 2 })) (message (record (asks Put 3) { offset = 0 }) (1 ∷ 2 ∷ 3 ∷ []))) (message (with_seven Put 2) (4 ∷ 5 ∷ []))).state
+two_kept = (target (kept (local 4 (record (entry 0 8) { ignore_bits = 2 })) older) younger).state
 
 abbrev older_taken : State
 older_taken = (me_append 1 1 Priority (entry 12 4) two_kept).state
@@ -163,7 +180,9 @@ entry_is_kept : kinds_in first older_taken ≡ Link ∷ AutoUnlink ∷ PutOverfl
 unfolding target request append
 entry_is_kept = refl
 
-younger_frees : kinds_in first (me_append 2 1 Priority taking older_taken).state ≡ Link ∷ AutoUnlink ∷ PutOverflow ∷ Link ∷ PutOverflow ∷ AutoFree ∷ []
+younger_frees :
+    kinds_in first (me_append 2 1 Priority taking older_taken).state
+    ≡ Link ∷ AutoUnlink ∷ PutOverflow ∷ Link ∷ PutOverflow ∷ AutoFree ∷ []
 unfolding target request append
 younger_frees = refl
 

@@ -10,6 +10,7 @@ use Rattle.ptl_types.specs.declared.elements.SwapOp.TheVariants.{Cswap}
 use Rattle.ptl_types.specs.declared.events.EventKind.TheVariants.{Send}
 use Rattle.ptl_types.specs.declared.calls.PutArgs.{PutArgs}
 use Rattle.ptl_types.specs.declared.calls.GetArgs.{GetArgs}
+use Rattle.ptl_types.specs.declared.calls.Deed.{Deed}
 use Rattle.ptl_types.specs.declared.calls.Deed.TheVariants.{Put, Get, Atomic, FetchAtomic, Swap, Inc, Set}
 use Rattle.ptl_types.specs.declared.calls.NiFault.TheVariants.{CountFull}
 use Rattle.ptl_types.specs.Handles.{top}
@@ -33,15 +34,21 @@ abbrev get_from : ℕ → GetArgs
 get_from rank = record fetching { target = rank }
 
 -- 0: a put to rank 3; 1: a get from rank 2, on the second counting event; 2: an increment
+abbrev posted : Deed → ℕ → State → State
+posted d threshold s = (triggered d first threshold s).state
+
+abbrev two : State
+two = (triggered (Get (get_from 2)) second 1 (posted (Put (put_to 3)) 2 ready)).state
+
 abbrev three : State
-three = (triggered (Inc second (successes 1)) first 0 (triggered (Get (get_from 2)) second 1 (triggered (Put (put_to 3)) first 2 ready).state).state).state
+three = posted (Inc second (successes 1)) 0 two
 
 -- 3: a fetching atomic to rank 0; 4: a swap to rank 3; 5: an atomic to rank 2 that waits for one more
 abbrev five : State
-five = (triggered (Swap (get_from 3) (put_to 3) Cswap U16 7) first 1 (triggered (FetchAtomic (get_from 0) (put_to 0) Max U16) first 1 three).state).state
+five = posted (Swap (get_from 3) (put_to 3) Cswap U16 7) 1 (posted (FetchAtomic (get_from 0) (put_to 0) Max U16) 1 three)
 
 abbrev six : State
-six = (triggered (Atomic (put_to 2) Sum U16) first 3 five).state
+six = posted (Atomic (put_to 2) Sum U16) 3 five
 
 ready_rising : ready_numbers six ≡ 0 ∷ 2 ∷ 3 ∷ 4 ∷ []
 ready_rising = refl
@@ -140,7 +147,8 @@ increment_sends_nothing = refl
 
 -- it stops at the end, where the host's is refused
 abbrev near_the_end : State
-near_the_end = (triggered (Inc second (record { success = 3; failure = 2 })) first 0 (ct_set second (successes (top - 2)) ready).state).state
+near_the_end =
+    (triggered (Inc second (record { success = 3; failure = 2 })) first 0 (ct_set second (successes (top - 2)) ready).state).state
 
 increment_stops : ct_get second (fired near_the_end 0).state ≡ Ok (successes top)
 unfolding fired started
@@ -150,7 +158,9 @@ hosts_is_refused : (ct_inc second (record { success = 3; failure = 2 }) near_the
 hosts_is_refused = refl
 
 -- success to the end, then failures as far as the sum allows
-increment_is_cut : ct_get second (fired (ct_set second (successes (top - 4)) near_the_end).state 0).state ≡ Ok (record { success = top - 1; failure = 1 })
+increment_is_cut :
+    ct_get second (fired (ct_set second (successes (top - 4)) near_the_end).state 0).state
+    ≡ Ok (record { success = top - 1; failure = 1 })
 unfolding fired started
 increment_is_cut = refl
 
