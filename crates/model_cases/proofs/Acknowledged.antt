@@ -15,10 +15,9 @@ use Rattle.ni_model.specs.Arrive.{request}
 use Rattle.ni_model.specs.Answers.{answered}
 use Rattle.ni_model.specs.Starts.{started}
 use Rattle.ni_model.specs.Counts.{successes}
-use Rattle.ni_model.specs.Queues.{Waiting}
-use Rattle.ni_model.specs.Tables.{lookup}
 use Rattle.ni_model.specs.State.{State, Delivers, target}
 use Rattle.ni_model.specs.Calls.{ct_alloc, ct_get, eq_alloc, md_bind, md_release, start}
+use Rattle.model_cases.proofs.Wide.{events_in}
 use Rattle.model_cases.proofs.Setting.{new, first, args, back, part_of}
 
 -- the whole region with a queue of room 4 and a counter of acknowledgements
@@ -35,12 +34,8 @@ asked ack = (start (PutDeed (record (args 0 0 2) { ack = ack; target = 1 })) rea
 abbrev ack : AckRequest → Bool → ℕ → Sent
 ack request ok length = message (record { kind = AckKind; source = 1; target = 0; pt = 0; match_bits = 5; offset = 0; length = length; hdr_data = 77; op = None; swap = None; ty = U8; operand = 0; ack = request; home = Some first; home_offset = 0; ok = ok }) []
 
-abbrev events_of : Option Waiting → List Event
-events_of None = []
-events_of (Some q) = q.events
-
 abbrev events : State → List Event
-events s = events_of (lookup first s.eqs.live)
+events s = events_in first s
 
 abbrev send_event : Event
 send_event = record { kind = Send; source = 0; pt = 0; match_bits = 5; hdr_data = 77; requested = 2; delivered = 0; place = 0; ok = true }

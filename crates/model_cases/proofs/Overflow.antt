@@ -1,5 +1,5 @@
 -- Appends that take headers, their events in order, and searches (Portals 4.3, unexpected messages and event queues).
-use Rattle.std.specs.Prelude.{ℕ, true, false, ◌≡◌, List, [], ◌∷◌, Option, Some, None, Result, Ok, Err, refl, replicate, map}
+use Rattle.std.specs.Prelude.{ℕ, true, false, ◌≡◌, List, [], ◌∷◌, Option, Some, None, Result, Ok, Err, refl, replicate}
 use Rattle.ptl_types.specs.declared.entries.List.TheVariants.{Priority, Overflow as InOverflow}
 use Rattle.ptl_types.specs.declared.entries.UnexpectedHeader.{UnexpectedHeader}
 use Rattle.ptl_types.specs.declared.events.Event.{Event}
@@ -16,29 +16,22 @@ use Rattle.ptl_types.specs.declared.calls.Outcome.TheVariants.{Overflow}
 use Rattle.ni_model.specs.Arrive.{request}
 use Rattle.ni_model.specs.Append.{append, search}
 use Rattle.ni_model.specs.Counts.{successes}
-use Rattle.ni_model.specs.Tables.{handle, lookup}
-use Rattle.ni_model.specs.Queues.{Waiting}
+use Rattle.ni_model.specs.Tables.{handle}
 use Rattle.ni_model.specs.State.{State, target}
 use Rattle.ni_model.specs.Calls.{Done, pt_alloc, pt_free, ct_alloc, ct_get, eq_alloc, eq_get, me_append, me_search, me_unlink}
+use Rattle.model_cases.proofs.Wide.{events_in, kinds_in}
 use Rattle.model_cases.proofs.Setting.{new, first, entry, once, local, counting_overflow, put_at, put, atomic}
 
 -- portal table index 1 with a queue of this room
 abbrev told : ℕ → State
 told room = (pt_alloc 1 (Some first) (eq_alloc 0 room new).state).state
 
-abbrev kind_of : Event → EventKind
-kind_of e = e.kind
-
-abbrev events_of : Option Waiting → List Event
-events_of None = []
-events_of (Some q) = q.events
-
 -- the kinds of the events that wait, oldest first
 abbrev kinds : State → List EventKind
-kinds s = map kind_of (events_of (lookup first s.eqs.live))
+kinds s = kinds_in first s
 
 abbrev events : State → List Event
-events s = events_of (lookup first s.eqs.live)
+events s = events_in first s
 
 -- ---- an overflow entry that is unlinked as it fills up, and three appends of a use-once entry
 abbrev filled : State
