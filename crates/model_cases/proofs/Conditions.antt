@@ -148,6 +148,12 @@ keeps_all_of_a_reply = refl
 keeps_none_of_a_failed_reply : Keeps Reply false 0
 keeps_none_of_a_failed_reply = refl
 
+drops_no_byte_of_a_put : Keeps PutKind true 1 → ⊥
+drops_no_byte_of_a_put h = let q : 1 ≡ 2 = h in absurd (omega (arith, q))
+
+adds_no_byte_to_a_put : Keeps PutKind true 3 → ⊥
+adds_no_byte_to_a_put h = let q : 3 ≡ 2 = h in absurd (omega (arith, q))
+
 room_of_a_reply : room_due GetKind 9 ≡ 9
 room_of_a_reply = refl
 

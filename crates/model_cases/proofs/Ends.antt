@@ -1,15 +1,17 @@
 -- Where things end: counts, queues and tables; and what a new interface holds.
-use Rattle.std.specs.Prelude.{ℕ, true, false, ◌≡◌, ◌-◌, [], ◌∷◌, Some, None, Ok, refl}
+use Rattle.std.specs.Prelude.{ℕ, true, false, ◌≡◌, ◌-◌, [], ◌∷◌, Some, None, Result, Ok, refl}
+use Rattle.ptl_types.specs.declared.handles.Handle.{Handle}
 use Rattle.ptl_types.specs.declared.handles.Count.{Count}
 use Rattle.ptl_types.specs.declared.entries.List.TheVariants.{Priority, Overflow}
 use Rattle.ptl_types.specs.declared.events.Event.{Event}
+use Rattle.ptl_types.specs.declared.calls.NiFault.{NiFault}
 use Rattle.ptl_types.specs.declared.calls.EqGot.TheVariants.{Got, Empty, Dropped}
 use Rattle.ptl_types.specs.Handles.{top}
 use Rattle.ni_model.specs.Append.{append}
 use Rattle.ni_model.specs.Counts.{bump, failures, total, one_more}
 use Rattle.ni_model.specs.Tables.{has_slot}
 use Rattle.ni_model.specs.State.{State, opened}
-use Rattle.ni_model.specs.Calls.{ct_alloc, entry_slot, eq_alloc, eq_get, me_append, pt_alloc}
+use Rattle.ni_model.specs.Calls.{Done, Makes, ct_alloc, entry_slot, eq_alloc, eq_get, me_append, pt_alloc}
 use Rattle.model_cases.proofs.Setting.{entry, first}
 use Rattle.model_cases.proofs.Wide.{base, linked_event, many, region}
 
@@ -105,6 +107,9 @@ room_again = refl
 abbrev slotted : State
 slotted = (ct_alloc 7 base).state
 
+abbrev slotted_call : Done (Result Handle NiFault)
+slotted_call = ct_alloc 7 base
+
 taken_slot : has_slot 7 slotted.cts.live ≡ true
 taken_slot = refl
 
@@ -121,6 +126,14 @@ slot_in_priority = refl
 slot_in_overflow : entry_slot entries_slotted.indices 5 ≡ true
 unfolding append
 slot_in_overflow = refl
+
+slot_of_the_younger : entry_slot (me_append 4 1 Priority (entry 0 4) entries_slotted).state.indices 4 ≡ true
+unfolding append
+slot_of_the_younger = refl
+
+-- a new thing gets a slot that no live thing has
+makes_a_counter : Makes (λ slot. has_slot slot base.cts.live) (λ slot. ct_alloc slot base) slotted_call
+makes_a_counter = record { slot = 7; free = refl; ended = refl }
 
 slot_of_no_entry : entry_slot entries_slotted.indices 1 ≡ false
 unfolding append

@@ -83,6 +83,10 @@ other_stays : (me_unlink second (me_unlink first two_entries).state).answer ≡ 
 unfolding append
 other_stays = refl
 
+younger_is_unlinked : (me_unlink second two_entries).answer ≡ Ok tt
+unfolding append
+younger_is_unlinked = refl
+
 unlinked_once : (me_unlink first (me_unlink first two_entries).state).answer ≡ Err Stale
 unfolding append
 unlinked_once = refl
@@ -116,6 +120,20 @@ priority_entry_counts = refl
 overflow_entry_counts : (ct_free second (counted_at 0 Overflow)).answer ≡ Err InUse
 unfolding append
 overflow_entry_counts = refl
+
+-- the younger of two entries, and of two operations
+younger_entry_counts : (ct_free second (me_append 1 2 Priority (counting second (entry 4 4)) (entry_at 2 Priority)).state).answer ≡ Err InUse
+unfolding append
+younger_entry_counts = refl
+
+abbrev one_waits : State
+one_waits = (triggered (Inc first (successes 1)) first 1 base).state
+
+younger_operation_names : (ct_free second (triggered (Inc second (successes 1)) first 1 one_waits).state).answer ≡ Err InUse
+younger_operation_names = refl
+
+older_operation_names_no_other : (ct_free second one_waits).answer ≡ Ok tt
+older_operation_names_no_other = refl
 
 other_is_counted : (ct_free first (counted_at 2 Priority)).answer ≡ Ok tt
 unfolding append
@@ -178,6 +196,9 @@ no_queue_to_get = refl
 
 index_tells : (eq_free second (pt_alloc 2 (Some second) base).state).answer ≡ Err InUse
 index_tells = refl
+
+later_index_tells : (eq_free second (pt_alloc 2 (Some second) (pt_alloc 0 (Some first) base).state).state).answer ≡ Err InUse
+later_index_tells = refl
 
 descriptor_tells : (eq_free second (bound_both source goal)).answer ≡ Err InUse
 descriptor_tells = refl
@@ -247,6 +268,9 @@ swap_names_source = refl
 
 swap_names_goal : released second (Swap fetching put Cswap U16 1) ≡ Err InUse
 swap_names_goal = refl
+
+younger_deed_names : (md_release second (triggered (Get fetching) first 1 (triggered (Put put) first 1 bound).state).state).answer ≡ Err InUse
+younger_deed_names = refl
 
 increment_names_none : released first (Inc second (successes 1)) ≡ Ok tt
 increment_names_none = refl

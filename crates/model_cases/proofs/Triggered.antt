@@ -19,7 +19,7 @@ use Rattle.ni_model.specs.Counts.{successes, failures}
 use Rattle.ni_model.specs.Ready.{fired, is_ready, message_target, ready_numbers, ready_numbers_to, target_at}
 use Rattle.ni_model.specs.Starts.{started}
 use Rattle.ni_model.specs.State.{State, Posted}
-use Rattle.ni_model.specs.Calls.{awaits, ct_cancel, ct_get, ct_inc, ct_set, triggered, write_memory}
+use Rattle.ni_model.specs.Calls.{AnswersReady, awaits, ct_cancel, ct_get, ct_inc, ct_set, triggered, write_memory}
 use Rattle.model_cases.proofs.Setting.{first, second}
 use Rattle.model_cases.proofs.Wide.{base, bound_both, fetching, goal, kinds_in, sending, source}
 
@@ -58,6 +58,16 @@ one_more_success = refl
 
 by_the_other : ready_numbers (ct_inc second (failures 1) six).state ≡ 0 ∷ 1 ∷ 2 ∷ 3 ∷ 4 ∷ []
 by_the_other = refl
+
+-- ---- what asking for a ready one may answer: one that is, and none only where none is
+answers_one : AnswersReady six (Some 3)
+answers_one = refl
+
+answers_no_other : AnswersReady six (Some 1) → ⊥
+answers_no_other h = let q : false ≡ true = h in cc
+
+answers_some : AnswersReady six None → ⊥
+answers_some h = let q : true ≡ false = h 3 in cc
 
 -- ---- whom the messages are for
 targets : map (target_at six) (0 ∷ 1 ∷ 2 ∷ 3 ∷ 4 ∷ 5 ∷ 6 ∷ []) ≡ Some 3 ∷ Some 2 ∷ None ∷ Some 0 ∷ Some 3 ∷ Some 2 ∷ None ∷ []
