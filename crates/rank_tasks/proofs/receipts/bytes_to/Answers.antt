@@ -1,0 +1,33 @@
+-- The bytes from one rank more in each turn.
+use Rattle.std.proofs.Common.{◌+◌, ◌≡◌, ap, ap₂, ◌∙◌, sym, arith}
+use Rattle.plan_core.specs.Plan.{Plan}
+use Rattle.plan_calls.specs.Lanes.{lane_bytes}
+use Rattle.shape_plans.specs.Drawing.{plan_of}
+use Rattle.rank_tasks.proofs.Lanes.{all-bytes, bytes_below, few-bytes_below, more-bytes, no-bytes}
+use Rattle.rank_tasks.proofs.receipts.bytes_to.Goals as goal
+
+pub loop-source-init : goal.loop-source-init
+loop-source-init c = sym (no-bytes (plan_of c.args.schedule.now) c.args.r)
+
+pub overflow_add-bytes : goal.overflow_add-bytes
+overflow_add-bytes c =
+    let p = plan_of c.args.schedule.now in
+    let k = c.loop-source.source in
+    let i : c.loop-source.bytes ≡ bytes_below p c.args.r k = c.loop-source.invariant in
+    let e : c.lane_bytes-bytes.result ≡ lane_bytes p k c.args.r = c.lane_bytes-bytes.ensures in
+    let m = more-bytes p c.args.r k in
+    let few = few-bytes_below p c.args.schedule.now.inputs c.args.r (k + 1) c.plan.ensures.sound in
+    omega (arith, i, e, m, few)
+
+pub loop-source-preserved : goal.loop-source-preserved
+loop-source-preserved c = ap₂ (λ a b. a + b) c.loop-source.invariant c.lane_bytes-bytes.ensures ∙ more-bytes (plan_of c.args.schedule.now) c.args.r c.loop-source.source
+
+pub returns : goal.returns
+returns c =
+    let p = plan_of c.args.schedule.now in
+    let t = c.loop-source-test.false in
+    let u = c.loop-source.auto.source-end in
+    let n = c.ranks-source-end.ensures in
+    let e = ap (λ (q : Plan). q.ranks) c.plan.ensures.told in
+    let all : c.loop-source.source ≡ p.ranks = omega (arith, t, u, n, e) in
+    c.loop-source.invariant ∙ ap (bytes_below p c.args.r) all ∙ all-bytes p c.args.schedule.now.inputs c.args.r c.plan.ensures.sound

@@ -1,0 +1,59 @@
+//! The own cells of a rank, as its start reads them.
+
+ghost use Rattle.std.specs.Prelude.{ℕ, Some, ◌≡◌, ◌<◌, IfOk, length};
+ghost use Rattle.plan_calls.specs.Calls.{append_call, own_cell as own_cell_of, own_cells as own_cells_of};
+ghost use Rattle.shape_plans.specs.Drawing.{plan_of};
+
+use plan_calls::OwnCell;
+use plan_core::Plan;
+use ptl_types::{Call, NoMemory, Rank};
+use schedule_compiler::Schedule;
+use std::alloc::Global;
+
+/// The cell that a start appends an entry for, with its operation and the type of its elements. `None` only for another call.
+fn own_cell(plan: &Plan, call: &Call) -> Option<OwnCell>
+    ensures { (r c : ℕ) → c < length plan.now.cells → call.now ≡ append_call plan.now r c →
+        result ≡ Some (own_cell_of plan.now r c) }
+{
+    match *call {
+        Call::MeAppend {
+            cell,
+            start,
+            length,
+            match_bits,
+            ignore_bits,
+        } => {
+            let part = plan.cells().get(cell as usize)?;
+            Some(OwnCell {
+                number: cell,
+                start,
+                length,
+                op: part.op,
+                ty: part.ty,
+                match_bits,
+                ignore_bits,
+            })
+        }
+        _ => None,
+    }
+}
+
+/// The own cells of a rank, by their numbers, rising.
+pub(crate) fn own_cells(
+    alloc: Global,
+    schedule: &Schedule,
+    r: Rank,
+) -> Result<Vec<OwnCell>, NoMemory>
+    requires { r < schedule.now.ranks }
+    ensures { IfOk result (λ cells. cells.items ≡ own_cells_of (plan_of schedule.now) r) }
+{
+    let plan = schedule.plan();
+    let late = schedule.late(r);
+    let mut cells = Vec::with_capacity(alloc, late.len())?;
+    for call in late {
+        if let Some(cell) = own_cell(plan, call) {
+            cells.push(cell)?;
+        }
+    }
+    Ok(cells)
+}

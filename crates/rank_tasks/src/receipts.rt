@@ -1,0 +1,35 @@
+//! How much comes to a rank in a whole run of the plan.
+
+ghost use Rattle.std.specs.Prelude.{◌≡◌, ◌<◌, ◌+◌, if◌then◌else◌, length, sum_by};
+ghost use Rattle.plan_core.specs.Plan.{link};
+ghost use Rattle.plan_calls.specs.Areas.{links_to};
+ghost use Rattle.plan_calls.specs.Works.{sends_of};
+ghost use Rattle.shape_plans.specs.Drawing.{plan_of};
+
+use ptl_types::Rank;
+use schedule_compiler::Schedule;
+
+/// How many messages come to a rank: its interface has room for the header of each request, and its done counter counts each
+/// answer beside the own cells.
+pub(crate) fn receipts_of(schedule: &Schedule, r: Rank) -> u64
+    requires { r < schedule.now.ranks }
+    ensures { result ≡ length (links_to (plan_of schedule.now) r) +
+        (if (plan_of schedule.now).remote then sends_of (plan_of schedule.now) r else 0) }
+{
+    let _ = schedule.plan();
+    let requests = u64::from(schedule.limits(r).unexpected);
+    let answers = schedule.done(r) - schedule.cells(r).len() as u64;
+    requests + answers
+}
+
+/// How many bytes these messages have together. Answers carry none.
+pub(crate) fn bytes_to(schedule: &Schedule, r: Rank) -> u64
+    requires { r < schedule.now.ranks }
+    ensures { result ≡ sum_by (λ l. (link (plan_of schedule.now) l).length) (links_to (plan_of schedule.now) r) }
+{
+    let mut bytes = 0;
+    for source in 0..schedule.plan().ranks() {
+        bytes += schedule.lane_bytes(source, r);
+    }
+    bytes
+}

@@ -1,0 +1,43 @@
+//! What is compiled for a rank of a job.
+
+ghost use Rattle.std.specs.Prelude.{◌<◌, IfOk};
+ghost use Rattle.shape_plans.specs.Drawing.{plan_of};
+ghost use Rattle.rank_node.specs.Node.{task_of as as_task};
+ghost use Rattle.rank_node.specs.Plans.{IsCompiledFor};
+
+use crate::own::own_cells;
+use crate::receipts::{bytes_to, receipts_of};
+use ptl_types::{NoMemory, Rank};
+use rank_node::Compiled;
+use schedule_compiler::{Job, load};
+use std::alloc::Global;
+
+/// What is compiled for a rank: the calls and limits that the job's plan says, room for the messages that come to the rank, and the
+/// bytes of its region, with the rank's own lists of the inputs in it.
+///
+/// # Errors
+///
+/// There was no memory for it. The job is as it was.
+pub fn task_of(alloc: Global, job: &Job, r: Rank) -> Result<Compiled, NoMemory>
+    requires { r < job.now.shape.ranks }
+    ensures { IfOk result (λ c. IsCompiledFor (plan_of job.now.shape) job.now.inputs r (as_task c)) }
+{
+    let schedule = job.schedule();
+    let region = load(alloc, schedule, job.inputs(), r)?;
+    let cells = Vec::from_slice(alloc, schedule.cells(r))?;
+    let calls = Vec::from_slice(alloc, schedule.calls(r))?;
+    let own = own_cells(alloc, schedule, r)?;
+    Ok(Compiled {
+        rank: r,
+        ranks: schedule.plan().ranks(),
+        limits: *schedule.limits(r),
+        region,
+        cells,
+        calls,
+        own,
+        go: r,
+        longest: schedule.longest_to(r),
+        receipts: receipts_of(schedule, r),
+        bytes: bytes_to(schedule, r),
+    })
+}
