@@ -1,0 +1,185 @@
+-- A stray goes into its lane, over the parts of a world.
+use Rattle.std.proofs.Common.{ℕ, true, ◌+◌, ◌-◌, ◌<◌, ◌≤◌, ◌≡◌, ◌∙◌, List, [], ◌∷◌, ◌++◌, length, count_by, if◌then◌else◌, refl, sym, ap, ap₂, subst, inl, inr, arith, append-nil}
+use Rattle.std.proofs.lemmas.Bool.{cases_Bool, cases_eq}
+use Rattle.ptl_types.specs.Messages.{Sent}
+use Rattle.ptl_types.specs.declared.headers.Lane.{Lane}
+use Rattle.ptl_types.specs.declared.headers.Lane.TheVariants.{Request, Answer}
+use Rattle.ni_model.specs.Conditions.{IsKept}
+use Rattle.pair_wires.specs.Lanes.{Plain, plain}
+use Rattle.plan_calls.specs.Lanes.{is_used_lane}
+use Rattle.plan_core.specs.Members.{In}
+use Rattle.plan_core.specs.Plan.{Plan}
+use Rattle.plan_core.specs.Values.{Inputs}
+use Rattle.plan_core.proofs.Lists.{In-append_cases}
+use Rattle.plan_cuts.specs.Cut.{is_stray, owned}
+use Rattle.plan_cuts.specs.Moment.{IsMoment, IsStrayStep, is_request_lane}
+use Rattle.plan_cuts.specs.Plans.{system_of}
+use Rattle.plan_cuts.specs.System.{System}
+use Rattle.plan_orders.specs.Chosen.{Scene}
+use Rattle.plan_rest.proofs.Moments.{next_stray}
+use Rattle.plan_worlds.specs.Places.{lane_place}
+use Rattle.rank_node.specs.Node.{NodeState, stray_bytes}
+use Rattle.world_parts.specs.Keeps.{AreParts, AreStrays, IsWorld, strays_for}
+use Rattle.world_parts.specs.Layout.{held_in, lane_at, node_at, scene_of}
+use Rattle.world_parts.specs.Steps.{IsInjected, injected}
+use Rattle.world_parts.proofs.Gated.{scene_by}
+use Rattle.world_parts.proofs.Held.{held_here, held_set, inside, set_capacity, set_here, set_lane, set_other, set_size}
+use Rattle.world_parts.proofs.Moving.{agree_now, few_held, slots_now}
+use Rattle.world_parts.proofs.Placed.{is_lane_of, one_lane}
+use Rattle.world_parts.proofs.Renewed.{Touches, agree_twice, renewed, scene_twice}
+use Rattle.world_parts.proofs.Sets.{at_set, part_le, sum_le, sum_moves}
+use Rattle.world_parts.proofs.Steps.{IsRefreshed, wide_gates}
+use Rattle.world_parts.proofs.Strays.{owned_and_strays, owned_same, stray_more}
+use Rattle.world_parts.specs.Marks.{delivery_mark, firing_mark, start_mark}
+
+-- the injection of a stray on a used lane is a step of the plan's ranks and strays
+pub stray_step : (ranks : System) (z : Scene) (s d : ℕ) (m : Sent) → s < ranks.count → d < ranks.count → ranks.used s d Request ≡ true
+    → is_stray m ≡ true → m.header.source ≡ s → m.header.target ≡ d → IsKept m → IsStrayStep ranks z.world z.held (injected s d m z).world (injected s d m z).held
+stray_step ranks z s d m hs hd used stray source target kept = record {
+  s = s;
+  d = d;
+  m = m;
+  from = hs;
+  to = hd;
+  used = used;
+  stray = record { stray = stray; asks = refl; source = source; target = target; kept = kept };
+  same = λ q. refl;
+  put = λ q u lane. refl;
+}
+
+module _ (p : Plan) (inputs : Inputs) (n : ℕ) (nodes : List NodeState) (lanes : List Plain) (starts deliveries firings : List ℕ) (window strays spare : ℕ) (k : IsWorld p inputs n nodes lanes starts deliveries firings window strays spare)
+    (s d : ℕ) (m : Sent) (some : 0 < strays) (hs : s < n) (hd : d < n) (stray : is_stray m ≡ true) where
+  abbrev full : List Sent
+  full = (lane_at lanes (lane_place n s d Request)).messages ++ m ∷ []
+
+  abbrev later : List Plain
+  later = set_lane n lanes k.parts.wide s d Request hs hd full
+
+  -- there is room for it
+  pub inject_room : length (lane_at lanes (lane_place n s d Request)).messages < (lane_at lanes (lane_place n s d Request)).capacity
+  inject_room =
+      let a = few_held p inputs n nodes lanes window strays spare k.parts k.stray (slots_now p inputs n nodes lanes window strays spare k.parts k.stray) (scene_of n nodes lanes) (k.parts.moment (slots_now p inputs n nodes lanes window strays spare k.parts k.stray) (agree_now p inputs n nodes lanes window strays spare k.parts k.stray)) s d Request hs hd in
+      let b = ap (λ xs. length (owned xs)) (held_here n lanes s d Request hs hd) in
+      let e = k.stray.few d hd in
+      let f = part_le (λ q. count_by is_stray (lane_at lanes (lane_place n q d Request)).messages) s 0 n (omega arith) (omega arith) in
+      let g = k.parts.room s d Request hs hd in
+      let w = k.parts.within s d Request hs hd in
+      let o = owned_and_strays (lane_at lanes (lane_place n s d Request)).messages in
+      omega (arith, a, b, e, f, g, w, o, some)
+
+  is_injected : scene_of n nodes later ≡ injected s d m (scene_of n nodes lanes)
+  is_injected = scene_by (scene_of n nodes lanes).world (scene_of n nodes lanes).world (held_in n later) (λ q u l. held_in n lanes q u l ++ (if is_request_lane s d q u l then m ∷ [] else [])) (λ q. refl) held
+    where
+      by_lane : (q u : ℕ) (l : Lane) → (if is_lane_of s d Request q u l then full else held_in n lanes q u l) ≡ held_in n lanes q u l ++ (if is_lane_of s d Request q u l then m ∷ [] else [])
+      by_lane q u l = elim (cases_Bool (is_lane_of s d Request q u l)) [
+        | inl e ↦
+            let o = one_lane s d Request q u l e in
+            ap (λ t. if t then full else held_in n lanes q u l) e
+            ∙ ap (λ ms. ms ++ m ∷ []) (sym (ap₂ (λ x y. held_in n lanes x y l) o.source o.goal ∙ ap (held_in n lanes s d) o.kind ∙ held_here n lanes s d Request hs hd))
+            ∙ ap (λ t. held_in n lanes q u l ++ (if t then m ∷ [] else [])) (sym e)
+        | inr e ↦
+            ap (λ t. if t then full else held_in n lanes q u l) e ∙ sym (append-nil (held_in n lanes q u l))
+            ∙ ap (λ t. held_in n lanes q u l ++ (if t then m ∷ [] else [])) (sym e)
+      ]
+
+      held : (q u : ℕ) (l : Lane) → held_in n later q u l ≡ held_in n lanes q u l ++ (if is_request_lane s d q u l then m ∷ [] else [])
+      held q u l =
+          held_set n lanes k.parts.wide s d Request hs hd full q u l
+          ∙ by_lane q u l
+
+  touches : Touches n nodes nodes lanes later s d
+  touches = record {
+    others = λ q a b. refl;
+    closed = λ q. refl;
+    apart = λ a b lane ha hb x y. set_other n lanes k.parts.wide s d Request hs hd full a b lane hb (λ o. x (o.source, o.goal));
+  }
+
+  -- ---- strays
+  more_there : (q u : ℕ) → u < n → ((q ≡ s) × (u ≡ d) → ⊥) → count_by is_stray (lane_at later (lane_place n q u Request)).messages ≤ count_by is_stray (lane_at lanes (lane_place n q u Request)).messages
+  more_there q u hu x = let a = ap (λ (l : Plain). count_by is_stray l.messages) (set_other n lanes k.parts.wide s d Request hs hd full q u Request hu (λ o. x (o.source, o.goal))) in omega (arith, a)
+
+  more_here : count_by is_stray (lane_at later (lane_place n s d Request)).messages ≤ count_by is_stray (lane_at lanes (lane_place n s d Request)).messages + 1
+  more_here =
+      let a = ap (count_by is_stray) (set_here n lanes k.parts.wide s d Request hs hd full) in
+      let b = stray_more (lane_at lanes (lane_place n s d Request)).messages m stray in
+      omega (arith, a, b)
+
+  few_injected : (u : ℕ) → u < n → strays_for n nodes later u + (strays - 1) ≤ spare
+  few_injected u hu = elim (cases_eq u d) [
+    | inl i ↦
+        let a = sum_moves (λ q. count_by is_stray (lane_at lanes (lane_place n q d Request)).messages) (λ q. count_by is_stray (lane_at later (lane_place n q d Request)).messages) s 0 1 0 n (omega arith) (omega arith) (λ q x low high. more_there q d hd (λ y. x y.0)) (let h = more_here in omega (arith, h)) in
+        let b = k.stray.few d hd in
+        let c = ap (strays_for n nodes later) i in
+        omega (arith, a, b, c)
+    | inr x ↦
+        let a = sum_le (λ q. count_by is_stray (lane_at lanes (lane_place n q u Request)).messages) (λ q. count_by is_stray (lane_at later (lane_place n q u Request)).messages) 0 n (λ q low high. more_there q u hu (λ y. x y.1)) in
+        let b = k.stray.few u hu in
+        omega (arith, a, b)
+  ]
+
+  strays_injected : length m.bytes ≤ stray_bytes → AreStrays n nodes later (strays - 1) spare
+  strays_injected short = record {
+    room = k.stray.room;
+    few = few_injected;
+    received = k.stray.received;
+    held = λ q u lane x hq hu i e. at_set (λ (l : Plain). In x l.messages → length x.bytes ≤ stray_bytes) lanes (lane_place n s d Request) (lane_place n q u lane) (plain full (lane_at lanes (lane_place n s d Request)).capacity) (plain [] 0) (inside n lanes k.parts.wide s d Request hs hd)
+        (λ j h. elim (In-append_cases x (lane_at lanes (lane_place n s d Request)).messages (m ∷ []) h) [
+          | inl y ↦ k.stray.held s d Request x hs hd y e
+          | inr (inl f) ↦ subst (λ (y : Sent). length y.bytes ≤ stray_bytes) f short
+          | inr (inr f) ↦ absurd f
+        ])
+        (λ j h. k.stray.held q u lane x hq hu h e) i;
+  }
+
+  module _ (nexts : List NodeState) (a b c : List ℕ) (is : IsRefreshed n window s d nodes later starts deliveries firings nexts a b c) where
+    wide : (r : ℕ) → r < n → length (node_at nodes r).closed ≡ n
+    wide = wide_gates p inputs n nodes lanes window spare k.parts
+
+    pub inject_step : IsInjected n s d m nodes lanes nexts later
+    inject_step = subst (λ v. IsInjected n s d m nodes lanes v later) (sym is.gates) (record {
+      scene = scene_twice n nodes lanes starts deliveries firings window k.counted nodes later s d hs hd k.parts.size wide touches ∙ is_injected;
+      slots = agree_twice n nodes lanes starts deliveries firings window k.counted nodes later s d hs hd k.parts.size wide touches;
+    })
+
+    -- on a used lane a world is left
+    module _ (source : m.header.source ≡ s) (target : m.header.target ≡ d) (kept : IsKept m) (short : length m.bytes ≤ stray_bytes) (used : is_used_lane p s d Request ≡ true) where
+      parts_injected : AreParts p inputs n nodes later window spare
+      parts_injected = record {
+        few = k.parts.few;
+        count = k.parts.count;
+        sound = k.parts.sound;
+        fit = k.parts.fit;
+        some = k.parts.some;
+        size = k.parts.size;
+        wide = set_size n lanes k.parts.wide s d Request hs hd full;
+        compiled = k.parts.compiled;
+        node = k.parts.node;
+        moment = λ slots g.
+            let count = k.parts.count in
+            let z = scene_of n nodes lanes in
+            subst (λ (v : Scene). IsMoment (system_of p inputs slots) v.world v.held) (sym is_injected)
+            (next_stray p inputs slots z.world z.held (k.parts.moment slots g) (injected s d m z).world (injected s d m z).held
+            (stray_step (system_of p inputs slots) z s d m (omega (arith, count)) (omega (arith, count)) used stray source target kept));
+        room = λ q u lane hq hu. let e = k.parts.room q u lane hq hu in let f = set_capacity n lanes k.parts.wide s d Request hs hd full (lane_place n q u lane) in omega (arith, e, f);
+        within = λ q u lane hq hu. at_set (λ (l : Plain). length (owned l.messages) ≤ window) lanes (lane_place n s d Request) (lane_place n q u lane) (plain full (lane_at lanes (lane_place n s d Request)).capacity) (plain [] 0) (inside n lanes k.parts.wide s d Request hs hd)
+            (λ j. let e = owned_same (lane_at lanes (lane_place n s d Request)).messages m stray in let f = k.parts.within s d Request hs hd in omega (arith, e, f)) (λ j. k.parts.within q u lane hq hu);
+      }
+
+      pub inject_world : IsWorld p inputs n nexts later a b c window (strays - 1) spare
+      inject_world =
+          subst (λ u. IsWorld p inputs n nexts later u b c window (strays - 1) spare) (sym is.of_starts)
+          (subst (λ u. IsWorld p inputs n nexts later (start_mark nexts d (start_mark nexts s starts)) u c window (strays - 1) spare) (sym is.of_deliveries)
+          (subst (λ u. IsWorld p inputs n nexts later (start_mark nexts d (start_mark nexts s starts)) (delivery_mark later n window d s Answer (delivery_mark later n window d s Request (delivery_mark later n window s d Answer (delivery_mark later n window s d Request deliveries)))) u window (strays - 1) spare) (sym is.of_firings)
+          (subst (λ v. IsWorld p inputs n v later (start_mark v d (start_mark v s starts)) (delivery_mark later n window d s Answer (delivery_mark later n window d s Request (delivery_mark later n window s d Answer (delivery_mark later n window s d Request deliveries)))) (firing_mark v d (firing_mark v s firings)) window (strays - 1) spare) (sym is.gates)
+          (renewed n nodes lanes starts deliveries firings window k.counted nodes later s d hs hd k.parts.size wide touches p inputs (strays - 1) spare parts_injected (strays_injected short)))))
+
+  -- ---- as the code has it
+  module _ (left : List Plain) (put : left ≡ later) (nexts : List NodeState) (a b c : List ℕ) (is : IsRefreshed n window s d nodes left starts deliveries firings nexts a b c) where
+    refreshed : IsRefreshed n window s d nodes later starts deliveries firings nexts a b c
+    refreshed = subst (λ l. IsRefreshed n window s d nodes l starts deliveries firings nexts a b c) put is
+
+    pub inject_step_as : IsInjected n s d m nodes lanes nexts left
+    inject_step_as = subst (λ l. IsInjected n s d m nodes lanes nexts l) (sym put) (inject_step nexts a b c refreshed)
+
+    pub inject_world_as : m.header.source ≡ s → m.header.target ≡ d → IsKept m → length m.bytes ≤ stray_bytes → is_used_lane p s d Request ≡ true → IsWorld p inputs n nexts left a b c window (strays - 1) spare
+    inject_world_as source target kept short used = subst (λ l. IsWorld p inputs n nexts l a b c window (strays - 1) spare) (sym put) (inject_world nexts a b c refreshed source target kept short used)

@@ -1,0 +1,11 @@
+pub mod Sets
+pub mod Placed
+pub mod Strays
+pub mod Held
+pub mod Gated
+pub mod Renewed
+pub mod Moving
+pub mod Steps
+pub mod Delivers
+pub mod Injects
+pub mod Indexed

@@ -1,0 +1,48 @@
+-- By `deliver_as`.
+use Rattle.std.proofs.Common.{arith, length, get_or, ap, sym, subst, ◌<◌, ◌∙◌}
+use Rattle.std.proofs.Math.ListN.{set}
+use Rattle.std.proofs.lemmas.List.{get_or_default}
+use Rattle.ni_model.specs.State.{target}
+use Rattle.plan_core.specs.Plan.{Plan}
+use Rattle.plan_core.specs.Values.{Inputs}
+use Rattle.plan_nodes.specs.Ranks.{MayReceive}
+use Rattle.plan_orders.specs.declared.Step.TheVariants.{Deliver}
+use Rattle.rank_node.specs.Node.{NodeState, received_node}
+use Rattle.world_parts.specs.Keeps.{IsWorld}
+use Rattle.world_parts.specs.Layout.{no_node}
+use Rattle.world_parts.specs.Marks.{HasPlace, out_with}
+use Rattle.world_parts.proofs.Delivers.{deliver_as, deliver_goes, deliver_room, deliver_some}
+use Rattle.world_parts.proofs.Steps.{IsDone, wide_news}
+use Rattle.world_parts.proofs.acts.deliver.Goals as goal
+
+pub take-message-requires-clause-some : goal.take-message-requires-clause-some
+take-message-requires-clause-some c = deliver_some c.requires.world.plan c.requires.world.inputs c.args.setting.ranks c.args.nodes.now c.args.lanes.now c.args.starts.now c.args.deliveries.now c.args.firings.now c.args.setting.window c.args.setting.strays c.args.setting.spare c.requires.world.world c.args.s c.args.d c.args.lane c.requires.source c.requires.goal c.requires.may
+
+pub receive-made-requires : goal.receive-made-requires
+receive-made-requires c =
+    let inside : c.args.d < length c.args.nodes.now = let size = c.requires.world.world.parts.size in let h = c.requires.goal in omega (arith, size, h) in
+    let room : MayReceive (get_or c.args.nodes.now c.args.d c.index-nodes-d.result) c.args.s c.args.lane c.take-message.result =
+    subst (λ (n : NodeState). MayReceive n c.args.s c.args.lane c.take-message.result) (sym (get_or_default c.args.nodes.now c.args.d c.index-nodes-d.result no_node inside)) (deliver_room c.requires.world.plan c.requires.world.inputs c.args.setting.ranks c.args.nodes.now c.args.lanes.now c.args.starts.now c.args.deliveries.now c.args.firings.now c.args.setting.window c.args.setting.strays c.args.setting.spare c.requires.world.world c.args.s c.args.d c.args.lane c.requires.source c.requires.goal c.requires.may c.take-message.result c.take-message.ensures.front) in
+    record { source = room.source_is; target = room.target; lane = room.kind; due = room.due; receipts = room.receipts; bytes = room.bytes }
+
+pub send_out-requires-clause-goes : goal.send_out-requires-clause-goes
+send_out-requires-clause-goes c =
+    let inside : c.args.d < length c.args.nodes.now = let size = c.requires.world.world.parts.size in let h = c.requires.goal in omega (arith, size, h) in
+    subst (λ ls. HasPlace c.args.setting.ranks c.args.d ls c.receive-made.result) (sym c.take-message.ensures.rest)
+    (deliver_goes c.requires.world.plan c.requires.world.inputs c.args.setting.ranks c.args.nodes.now c.args.lanes.now c.args.starts.now c.args.deliveries.now c.args.firings.now c.args.setting.window c.args.setting.strays c.args.setting.spare c.requires.world.world c.args.s c.args.d c.args.lane c.requires.source c.requires.goal c.requires.may c.take-message.result c.take-message.ensures.front c.receive-made.result (c.receive-made.ensures.answer ∙ ap (λ (n : NodeState). (target n.nic c.take-message.result).delivered.answer) (get_or_default c.args.nodes.now c.args.d c.index-nodes-d.result no_node inside)))
+
+pub refresh-requires-clause-wide : goal.refresh-requires-clause-wide
+refresh-requires-clause-wide c =
+    let inside : c.args.d < length c.args.nodes.now = let size = c.requires.world.world.parts.size in let h = c.requires.goal in omega (arith, size, h) in
+    wide_news c.requires.world.plan c.requires.world.inputs c.args.setting.ranks c.args.nodes.now c.args.lanes.now c.args.setting.window c.args.setting.spare c.requires.world.world.parts c.args.d c.requires.goal c.receive-made.new.self (ap (λ (n : NodeState). n.closed) (c.receive-made.ensures.step ∙ ap (received_node c.args.s c.args.lane c.take-message.result) (get_or_default c.args.nodes.now c.args.d c.index-nodes-d.result no_node inside)))
+
+pub returns : goal.returns
+returns c =
+    let done : (p : Plan) (inputs : Inputs) → IsWorld p inputs c.args.setting.ranks c.args.nodes.now c.args.lanes.now c.args.starts.now c.args.deliveries.now c.args.firings.now c.args.setting.window c.args.setting.strays c.args.setting.spare → IsDone p inputs c.args.setting.ranks (Deliver c.args.s c.args.d c.args.lane) c.args.nodes.now c.args.lanes.now c.refresh.new.nodes c.send_out.new.lanes c.refresh.new.starts c.refresh.new.deliveries c.refresh.new.firings c.args.setting.window c.args.setting.strays c.args.setting.spare =
+    λ p inputs k.
+    let inside : c.args.d < length c.args.nodes.now = let size = c.requires.world.world.parts.size in let h = c.requires.goal in omega (arith, size, h) in
+    deliver_as p inputs c.args.setting.ranks c.args.nodes.now c.args.lanes.now c.args.starts.now c.args.deliveries.now c.args.firings.now c.args.setting.window c.args.setting.strays c.args.setting.spare k c.args.s c.args.d c.args.lane c.requires.source c.requires.goal c.requires.may c.take-message.result c.take-message.ensures.front c.receive-made.result (c.receive-made.ensures.answer ∙ ap (λ (n : NodeState). (target n.nic c.take-message.result).delivered.answer) (get_or_default c.args.nodes.now c.args.d c.index-nodes-d.result no_node inside))
+    c.send_out.new.lanes (c.send_out.ensures.lanes ∙ ap (out_with c.args.setting.ranks c.args.d c.receive-made.result) c.take-message.ensures.rest)
+    (set c.args.nodes.now c.args.d c.receive-made.new.self) (ap (set c.args.nodes.now c.args.d) (c.receive-made.ensures.step ∙ ap (received_node c.args.s c.args.lane c.take-message.result) (get_or_default c.args.nodes.now c.args.d c.index-nodes-d.result no_node inside)))
+    c.refresh.new.nodes c.refresh.new.starts c.refresh.new.deliveries c.refresh.new.firings (record { gates = c.refresh.ensures.gates; of_starts = c.refresh.ensures.starts; of_firings = c.refresh.ensures.firings; of_deliveries = c.refresh.ensures.deliveries }) in
+    record { step = λ p inputs k. (done p inputs k).step; world = λ p inputs k. (done p inputs k).world }

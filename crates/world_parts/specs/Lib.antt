@@ -1,0 +1,4 @@
+pub mod Keeps
+pub mod Layout
+pub mod Marks
+pub mod Steps
