@@ -1,0 +1,10 @@
+use Rattle.std.proofs.Common.{ℕ, ◌*◌, ◌<◌, ◌≡◌, length}
+use Rattle.shape_plans.specs.Drawing.{plan_of}
+use Rattle.world_open.proofs.Laid.{IsLaid}
+use Rattle.world_open.proofs.laying.lay_all.Given as goal
+
+abbrev pub invariant-loop-pair : goal.invariant-loop-pair
+invariant-loop-pair l = record {
+  size : length l.lanes.items ≡ 2 * l.pair;
+  laid : (k : ℕ) → k < l.pair → IsLaid (plan_of l.schedule) l.strays l.schedule.ranks l.lanes.items k;
+}

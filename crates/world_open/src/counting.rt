@@ -1,0 +1,41 @@
+//! The counts of what is possible in a world before its first step.
+
+ghost use Rattle.std.specs.Prelude.{ℕ, ◌≡◌, ◌<◌, ◌≤◌, IfOk, length, slice_index_or};
+ghost use Rattle.world_parts.specs.Layout.{node_at};
+ghost use Rattle.world_parts.specs.Marks.{firing_count, start_count};
+
+use count_tree::CountTree;
+use ptl_types::NoMemory;
+use rank_node::Node;
+use std::alloc::Global;
+use world_parts::marks::{mark_firings, mark_start};
+
+/// The starts that are possible, by rank.
+pub(crate) fn count_starts(alloc: Global, nodes: &[Node]) -> Result<CountTree, NoMemory>
+    requires { length nodes.now ≤ 256 }
+    ensures size { IfOk result (λ t. length t ≡ length nodes.now) }
+    ensures counts { IfOk result (λ t. (r : ℕ) → r < length nodes.now →
+        slice_index_or t r 0 ≡ start_count (node_at nodes.now r)) }
+{
+    let ranks = nodes.len() as u32;
+    let mut starts = CountTree::open(alloc, ranks)?;
+    for r in 0..ranks {
+        mark_start(&mut starts, nodes, r);
+    }
+    Ok(starts)
+}
+
+/// The firings that are possible, by rank.
+pub(crate) fn count_firings(alloc: Global, nodes: &[Node]) -> Result<CountTree, NoMemory>
+    requires { length nodes.now ≤ 256 }
+    ensures size { IfOk result (λ t. length t ≡ length nodes.now) }
+    ensures counts { IfOk result (λ t. (r : ℕ) → r < length nodes.now →
+        slice_index_or t r 0 ≡ firing_count (node_at nodes.now r)) }
+{
+    let ranks = nodes.len() as u32;
+    let mut firings = CountTree::open(alloc, ranks)?;
+    for r in 0..ranks {
+        mark_firings(&mut firings, nodes, r);
+    }
+    Ok(firings)
+}

@@ -1,0 +1,77 @@
+//! The lanes of a world before its first step.
+
+ghost use Rattle.std.specs.Prelude.{ℕ, ◌≡◌, ◌<◌, ◌+◌, ◌*◌, IfOk, IfSome, length};
+ghost use Rattle.ptl_types.specs.declared.headers.Lane.{Lane as LaneOf};
+ghost use Rattle.plan_worlds.specs.Places.{lane_place};
+ghost use Rattle.shape_plans.specs.Drawing.{plan_of};
+ghost use Rattle.world_parts.specs.Keeps.{spare_on};
+ghost use Rattle.world_parts.specs.Layout.{lane_at};
+ghost use Rattle.world_open.specs.Fresh.{fresh_lane};
+
+use pair_wires::PlainLane;
+use ptl_types::{Lane, NoMemory, Rank};
+use schedule_compiler::Schedule;
+use std::alloc::Global;
+
+/// So many messages and so many more, as far as a lane can have room for them.
+fn room(messages: u64, spare: u32) -> Option<u32>
+    ensures { IfSome result (λ n. n ≡ messages + spare) }
+{
+    let all = messages.checked_add(u64::from(spare))?;
+    u32::try_from(all).ok()
+}
+
+/// How many strays may lie in a lane of this kind.
+fn spare_of(lane: Lane, strays: u32) -> u32
+    ensures { result ≡ spare_on lane strays }
+{
+    match lane {
+        Lane::Request => strays,
+        Lane::Answer => 0,
+    }
+}
+
+/// An empty lane with room for the plan's messages, and on a request lane for so many strays.
+fn open_lane(
+    alloc: Global,
+    schedule: &Schedule,
+    strays: u32,
+    s: Rank,
+    d: Rank,
+    lane: Lane,
+) -> Result<PlainLane, NoMemory>
+    requires source { s < schedule.now.ranks }
+    requires target { d < schedule.now.ranks }
+    ensures { IfOk result (λ l. l ≡ fresh_lane (plan_of schedule.now) strays s d lane) }
+{
+    match room(schedule.lane(s, d, lane), spare_of(lane, strays)) {
+        Some(capacity) => PlainLane::open(alloc, capacity),
+        None => Err(NoMemory),
+    }
+}
+
+/// The lanes of a schedule by their places, empty.
+pub(crate) fn lay_all(
+    alloc: Global,
+    schedule: &Schedule,
+    strays: u32,
+) -> Result<Vec<PlainLane>, NoMemory>
+    ensures size { IfOk result (λ v. length v.items ≡ 2 * (schedule.now.ranks * schedule.now.ranks)) }
+    ensures fresh { IfOk result (λ v. (s d : ℕ) (lane : LaneOf) → s < schedule.now.ranks → d < schedule.now.ranks →
+        lane_at v.items (lane_place schedule.now.ranks s d lane) ≡ fresh_lane (plan_of schedule.now) strays s d lane) }
+{
+    let ranks = schedule.shape().ranks();
+    let _ = schedule.plan();
+    let pairs = ranks * ranks;
+    let places = 2 * pairs as usize;
+    let mut lanes = Vec::with_capacity(alloc, places)?;
+    for pair in 0..pairs {
+        let s = pair / ranks;
+        let d = pair % ranks;
+        let request = open_lane(alloc, schedule, strays, s, d, Lane::Request)?;
+        lanes.push(request)?;
+        let answer = open_lane(alloc, schedule, strays, s, d, Lane::Answer)?;
+        lanes.push(answer)?;
+    }
+    Ok(lanes)
+}
