@@ -1,0 +1,36 @@
+//! Laws of the cuts of compiled shapes: at rest each buffer at each rank is what the description means, and barriers are kept.
+#![tactic(auto)]
+
+ghost use Rattle.std.specs.Prelude.{ℕ, None, ◌<◌, ◌≡◌};
+ghost use Rattle.plan_core.specs.Values.{Inputs};
+ghost use Rattle.plan_view.specs.Slots.{Slots};
+ghost use Rattle.plan_cuts.specs.Cut.{IsAtRest, IsCut};
+ghost use Rattle.plan_cuts.specs.Plans.{IsComplete, system_of};
+ghost use Rattle.plan_cuts.specs.System.{Histories, state_at};
+ghost use Rattle.coll_shape.specs.Meaning.{AreInputs};
+ghost use Rattle.coll_shape.specs.Outline.{Outline};
+ghost use Rattle.coll_shape.specs.WellFormed.{IsWellFormed};
+ghost use Rattle.shape_plans.specs.Drawing.{plan_of};
+ghost use Rattle.shape_plans.specs.Footprint.{refusal};
+ghost use Rattle.job_laws.specs.Barriers.{AreBarriersKept};
+ghost use Rattle.job_laws.specs.Results.{AreMeant};
+
+/// For every shape that isn't refused, whatever its inputs and whatever the order of steps: at rest each rank is complete, and in the
+/// ranks' memories each buffer is what the shape means of the inputs.
+pub fn rest_is_meant()
+    ensures complete { (o : Outline) (inputs : Inputs) (slots : ℕ → Slots) (world : Histories) →
+        IsWellFormed o → refusal o ≡ None → AreInputs o inputs →
+        IsCut (system_of (plan_of o) inputs slots) world → IsAtRest (system_of (plan_of o) inputs slots) world →
+        (r : ℕ) → r < o.ranks → IsComplete (plan_of o) inputs slots world r }
+    ensures meant { (o : Outline) (inputs : Inputs) (slots : ℕ → Slots) (world : Histories) →
+        IsWellFormed o → refusal o ≡ None → AreInputs o inputs →
+        IsCut (system_of (plan_of o) inputs slots) world → IsAtRest (system_of (plan_of o) inputs slots) world →
+        AreMeant o inputs (λ r. (state_at (system_of (plan_of o) inputs slots) world r).memory) }
+{}
+
+/// In every cut of the ranks of a shape that isn't refused each barrier is kept.
+pub fn barriers_are_kept()
+    ensures { (o : Outline) (inputs : Inputs) (slots : ℕ → Slots) (world : Histories) →
+        IsWellFormed o → refusal o ≡ None → AreInputs o inputs →
+        IsCut (system_of (plan_of o) inputs slots) world → AreBarriersKept o inputs slots world }
+{}
