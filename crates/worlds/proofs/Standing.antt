@@ -1,0 +1,191 @@
+-- What the fields of a world keep is what is said of it.
+use Rattle.std.proofs.Common.{ℕ, ◌+◌, ◌*◌, ◌<◌, ◌≡◌, ◌∙◌, List, Some, sym, ap, ap₂, subst, arith, length, get_or, sum, take}
+use Rattle.std.proofs.lemmas.Option.{slice_get-get_or, slice_get_within, unwrap_or-slice_get}
+use Rattle.std.proofs.lemmas.List.{get_or-map}
+use Rattle.std.specs.List.{slice_get}
+use Rattle.std.specs.Option.{unwrap_or}
+use Rattle.pair_wires.specs.Lanes.{Plain}
+use Rattle.plan_core.specs.Plan.{Plan}
+use Rattle.plan_core.specs.Values.{Inputs}
+use Rattle.plan_view.specs.Slots.{Slots}
+use Rattle.plan_cuts.specs.Plans.{system_of}
+use Rattle.plan_cuts.specs.System.{System}
+use Rattle.plan_nodes.proofs.Receiving.{rank-state}
+use Rattle.plan_orders.specs.Chosen.{Scene, start_at}
+use Rattle.plan_orders.specs.declared.Step.{Step}
+use Rattle.plan_orders.specs.declared.Step.TheVariants.{Deliver, Fire, Start}
+use Rattle.plan_worlds.proofs.Counted.{length-counts}
+use Rattle.plan_worlds.proofs.Found.{found_delivery, found_firing, found_start, length-possible}
+use Rattle.plan_worlds.specs.Places.{counts, delivery_at, fires_at, goal_at, kind_at, source_at}
+use Rattle.plan_worlds.specs.Possible.{possible_steps}
+use Rattle.rank_node.specs.Gates.{open_numbers}
+use Rattle.rank_node.specs.Node.{NodeState}
+use Rattle.schedule_compiler.specs.Jobs.{JobOf}
+use Rattle.shape_plans.specs.Drawing.{plan_of}
+use Rattle.world_parts.specs.declared.acts.Setting.{Setting}
+use Rattle.world_parts.specs.Keeps.{AgreeAll, IsWorld}
+use Rattle.world_parts.specs.Layout.{node_at, scene_of}
+use Rattle.worlds.specs.Standing.{AreFields, IsStanding}
+use Rattle.worlds.specs.World.{AreSlots, WorldState, steps_in}
+use Rattle.worlds.proofs.Places.{deliveries_are, fires_are, firings_are, rank_is, starts_are}
+
+-- ---- the step of a number
+module _ (p : Plan) (inputs : Inputs) (n : ℕ) (nodes : List NodeState) (lanes : List Plain) (starts deliveries firings : List ℕ)
+    (window strays spare : ℕ)
+    (world : IsWorld p inputs n nodes lanes starts deliveries firings window strays spare) (slots : ℕ → Slots)
+    (agree : AgreeAll n slots nodes) where
+  abbrev ranks : System
+  ranks = system_of p inputs slots
+
+  abbrev z : Scene
+  z = scene_of n nodes lanes
+
+  abbrev steps : List Step
+  steps = possible_steps ranks window z
+
+  starts_is : starts ≡ counts (start_at z) ranks.count
+  starts_is = starts_are p inputs n nodes lanes starts deliveries firings window strays spare world slots agree
+
+  deliveries_is : deliveries ≡ counts (delivery_at ranks window z) (2 * (ranks.count * ranks.count))
+  deliveries_is = deliveries_are p inputs n nodes lanes starts deliveries firings window strays spare world slots agree
+
+  firings_is : firings ≡ counts (fires_at ranks window z) ranks.count
+  firings_is = firings_are p inputs n nodes lanes starts deliveries firings window strays spare world slots agree
+
+  pub total : sum starts + (sum deliveries + sum firings) ≡ length steps
+  total =
+      let a = ap sum starts_is in
+      let b = ap sum deliveries_is in
+      let c = ap sum firings_is in
+      let d = length-possible ranks window z in
+      omega (arith, a, b, c, d)
+
+  -- a step that stands at a number, whatever else is said past the last
+  stands_at : (i : ℕ) (x : Step) → i < length steps → get_or steps i x ≡ x → slice_get steps i ≡ Some x
+  stands_at i x h e = slice_get-get_or steps i x h ∙ ap (λ y. Some y) e
+
+  pub start_found : (r rest i : ℕ) → r < length starts → sum (take r starts) + rest ≡ i → rest < get_or starts r 0 → i < sum starts
+      → slice_get steps i ≡ Some (Start r)
+  start_found r rest i h before within small =
+      let size = ap length starts_is ∙ length-counts (start_at z) ranks.count in
+      let t = total in
+      stands_at i (Start r) (omega (arith, t, small))
+      (found_start ranks window z r rest i (Start r) (omega (arith, h, size))
+      (subst (λ xs. sum (take r xs) + rest ≡ i) starts_is before) (subst (λ xs. rest < get_or xs r 0) starts_is within)
+      (subst (λ xs. i < sum xs) starts_is small))
+
+  pub delivery_found : (j rest i : ℕ) → j < length deliveries → sum (take j deliveries) + rest ≡ i → rest < get_or deliveries j 0
+      → i < sum deliveries
+      → slice_get steps (sum starts + i) ≡ Some (Deliver (source_at n j) (goal_at n j) (kind_at j))
+  delivery_found j rest i h before within small =
+      let size = ap length deliveries_is ∙ length-counts (delivery_at ranks window z) (2 * (ranks.count * ranks.count)) in
+      let t = total in
+      let there : get_or steps (sum starts + i) (Deliver (source_at n j) (goal_at n j) (kind_at j)) ≡ Deliver (source_at ranks.count j)
+      (goal_at ranks.count j) (kind_at j) =
+      ap (λ k. get_or steps (k + i) (Deliver (source_at n j) (goal_at n j) (kind_at j))) (ap sum starts_is)
+      ∙ found_delivery ranks window z j rest i (Deliver (source_at n j) (goal_at n j) (kind_at j)) (omega (arith, h, size))
+      (subst (λ xs. sum (take j xs) + rest ≡ i) deliveries_is before) (subst (λ xs. rest < get_or xs j 0) deliveries_is within)
+      (subst (λ xs. i < sum xs) deliveries_is small) in
+      stands_at (sum starts + i) (Deliver (source_at n j) (goal_at n j) (kind_at j)) (omega (arith, t, small))
+      (there ∙ ap (λ m. Deliver (source_at m j) (goal_at m j) (kind_at j)) world.parts.count)
+
+  pub firing_found : (r rest i t : ℕ) → r < n → sum (take r firings) + rest ≡ i → rest < get_or firings r 0 → i < sum firings
+      → slice_get (open_numbers (node_at nodes r).closed (node_at nodes r).nic) rest ≡ Some t
+      → slice_get steps (sum starts + (sum deliveries + i)) ≡ Some (Fire r t)
+  firing_found r rest i t h before within small number =
+      let ready = open_numbers (node_at nodes r).closed (node_at nodes r).nic in
+      let long = slice_get_within ready rest t number in
+      let c = world.parts.count in
+      let tot = total in
+      let there : get_or steps (sum starts + (sum deliveries + i)) (Fire r t) ≡ get_or (fires_at ranks window z r) rest (Fire r t) =
+      ap₂ (λ k l. get_or steps (k + (l + i)) (Fire r t)) (ap sum starts_is) (ap sum deliveries_is)
+      ∙ found_firing ranks window z r rest i (Fire r t) (omega (arith, h, c))
+      (subst (λ xs. sum (take r xs) + rest ≡ i) firings_is before) (subst (λ xs. rest < get_or xs r 0) firings_is within) in
+      stands_at (sum starts + (sum deliveries + i)) (Fire r t) (omega (arith, tot, small))
+      (there
+      ∙ ap (λ xs. get_or xs rest (Fire r t)) (fires_are p inputs n nodes lanes starts deliveries firings window strays spare world slots
+      agree r h)
+      ∙ get_or-map (Fire r) ready rest t (Fire r t) long
+      ∙ ap (Fire r) (at ready rest t number))
+    where
+      at : (xs : List ℕ) (i t : ℕ) → slice_get xs i ≡ Some t → get_or xs i t ≡ t
+      at xs i t e = sym (unwrap_or-slice_get xs i t) ∙ ap (λ o. unwrap_or o t) e
+
+-- ---- the world
+abbrev pub state_of : JobOf → Setting → List NodeState → List Plain → WorldState
+state_of job setting nodes lanes = record {
+  shape = job.shape;
+  inputs = job.inputs;
+  nodes = nodes;
+  lanes = lanes;
+  window = setting.window;
+  strays = setting.strays;
+  spare = setting.spare;
+}
+
+module _ (job : JobOf) (setting : Setting) (nodes : List NodeState) (lanes : List Plain) (starts deliveries firings : List ℕ)
+    (fields : AreFields job setting nodes lanes starts deliveries firings) where
+  -- by the shape's ranks
+  pub world_is : IsWorld (plan_of job.shape) job.inputs job.shape.ranks nodes lanes starts deliveries firings setting.window
+      setting.strays setting.spare
+  world_is =
+      subst (λ n. IsWorld (plan_of job.shape) job.inputs n nodes lanes starts deliveries firings setting.window setting.strays
+      setting.spare)
+      fields.ranks fields.world
+
+  pub stands : IsStanding (state_of job setting nodes lanes)
+  stands = record {
+    formed = fields.formed;
+    accepted = fields.accepted;
+    given = fields.given;
+    some = fields.world.parts.some;
+    size = world_is.parts.size;
+    node = world_is.parts.node;
+    nic = λ slots agree r h.
+        rank-state (plan_of job.shape) job.inputs slots (scene_of job.shape.ranks nodes lanes) r (node_at nodes r)
+        (rank_is (plan_of job.shape) job.inputs job.shape.ranks nodes lanes starts deliveries firings setting.window setting.strays
+        setting.spare world_is slots agree r h);
+    moment = world_is.parts.moment;
+    few = world_is.stray.few;
+    spare = fields.spare;
+  }
+
+  pub number : (slots : ℕ → Slots) → AreSlots (state_of job setting nodes lanes) slots
+      → sum starts + (sum deliveries + sum firings) ≡ length (steps_in (state_of job setting nodes lanes) slots)
+  number slots agree = total (plan_of job.shape) job.inputs job.shape.ranks nodes lanes starts deliveries firings setting.window
+      setting.strays setting.spare world_is slots agree
+
+  -- the step of a number, by the counts
+  pub start_in : (slots : ℕ → Slots) → AreSlots (state_of job setting nodes lanes) slots → (r rest i : ℕ) → r < length starts
+      → sum (take r starts) + rest ≡ i
+      → rest < get_or starts r 0 → i < sum starts → slice_get (steps_in (state_of job setting nodes lanes) slots) i ≡ Some (Start r)
+  start_in slots agree = start_found (plan_of job.shape) job.inputs job.shape.ranks nodes lanes starts deliveries firings setting.window
+      setting.strays setting.spare world_is slots agree
+
+  pub delivery_in : (slots : ℕ → Slots) → AreSlots (state_of job setting nodes lanes) slots → (j rest i : ℕ) → j < length deliveries
+      → sum (take j deliveries) + rest ≡ i
+      → rest < get_or deliveries j 0 → i < sum deliveries
+      → slice_get (steps_in (state_of job setting nodes lanes) slots) (sum starts + i) ≡ Some
+      (Deliver (source_at setting.ranks j) (goal_at setting.ranks j) (kind_at j))
+  delivery_in slots agree j rest i h before within small =
+      delivery_found (plan_of job.shape) job.inputs job.shape.ranks nodes lanes starts deliveries firings setting.window setting.strays
+      setting.spare world_is slots agree j rest i h before within small
+      ∙ ap (λ n. Some (Deliver (source_at n j) (goal_at n j) (kind_at j))) (sym fields.ranks)
+
+  pub firing_in : (slots : ℕ → Slots) → AreSlots (state_of job setting nodes lanes) slots → (r rest i t : ℕ) → r < length firings
+      → sum (take r firings) + rest ≡ i
+      → rest < get_or firings r 0 → i < sum firings → slice_get (open_numbers (node_at nodes r).closed (node_at nodes r).nic) rest ≡ Some t
+      → slice_get (steps_in (state_of job setting nodes lanes) slots) (sum starts + (sum deliveries + i)) ≡ Some (Fire r t)
+  firing_in slots agree r rest i t h before within small number =
+      let size = world_is.counted.wide_firings in
+      firing_found (plan_of job.shape) job.inputs job.shape.ranks nodes lanes starts deliveries firings setting.window setting.strays
+      setting.spare world_is slots agree r rest i t (omega (arith, h, size)) before within small number
+
+  -- a rank with firings has a node, which has as many ready
+  pub firings_there : (r rest : ℕ) → r < length firings → rest < get_or firings r 0 → (r < length nodes)
+      × (rest < length (open_numbers (node_at nodes r).closed (node_at nodes r).nic))
+  firings_there r rest h within =
+      let wide = fields.world.counted.wide_firings in
+      let size = fields.world.parts.size in
+      let right = fields.world.counted.of_firings r (omega (arith, h, wide)) in
+      (omega (arith, h, wide, size), omega (arith, within, right))

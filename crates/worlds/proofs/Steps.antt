@@ -1,0 +1,175 @@
+-- The possible steps of a world: each may be made and stands once, and under a wide window they are the enabled ones.
+use Rattle.std.proofs.Common.{ℕ, Bool, true, false, ◌^◌, ◌<◌, ◌≤◌, ◌≡◌, List, [], ◌∷◌, Option, Some, None, refl, ap, ap₂, inl, inr, arith, count_by, filter, length, if◌then◌else◌, lt-ltb}
+use Rattle.std.proofs.lemmas.Bool.{cases_Bool, ltb-true}
+use Rattle.std.proofs.lemmas.List.Sums.{count_by-le-length, length-filter}
+use Rattle.op_laws.proofs.Starts.{combined-starts}
+use Rattle.ptl_types.specs.Messages.{Sent}
+use Rattle.ptl_types.specs.declared.headers.Lane.{Lane}
+use Rattle.ptl_types.specs.declared.headers.Lane.TheVariants.{Answer, Request}
+use Rattle.ni_model.specs.Ready.{fired}
+use Rattle.plan_calls.specs.Lanes.{goes_along, lane_links, lane_messages}
+use Rattle.plan_core.proofs.Lists.{Distinct-filter, In-filter_cases}
+use Rattle.plan_core.specs.Members.{Distinct, In}
+use Rattle.plan_core.specs.Plan.{Plan, all_links}
+use Rattle.plan_core.specs.Sound.{SoundPlan}
+use Rattle.plan_core.specs.Values.{Inputs}
+use Rattle.plan_view.specs.Slots.{Slots}
+use Rattle.plan_cuts.specs.Cut.{is_stray}
+use Rattle.plan_cuts.specs.History.{Local}
+use Rattle.plan_cuts.specs.History.Local.{Start as Started, Receive as Received, Fire as Fired}
+use Rattle.plan_cuts.specs.Moment.{HasWindow, IsEnabled, IsPossible}
+use Rattle.plan_cuts.specs.Plans.{system_of}
+use Rattle.plan_cuts.specs.System.{System, state_at}
+use Rattle.plan_orders.proofs.Distinct.{once_each}
+use Rattle.plan_orders.proofs.Rising.{ready_rise}
+use Rattle.plan_orders.specs.Chosen.{Scene, enabled_steps}
+use Rattle.plan_orders.specs.declared.Step.{Step}
+use Rattle.plan_orders.specs.declared.Step.TheVariants.{Deliver, Fire, Start}
+use Rattle.plan_rest.proofs.LaneCuts.{lane_few}
+use Rattle.plan_rest.proofs.Moments.{target_known}
+use Rattle.plan_worlds.proofs.Counted.{length-from_to}
+use Rattle.plan_worlds.proofs.Lanes.{held_few}
+use Rattle.plan_worlds.specs.Named.{named}
+use Rattle.plan_worlds.specs.Places.{lane_place}
+use Rattle.plan_worlds.specs.Possible.{finds_room, is_possible, possible_steps}
+use Rattle.shape_laws.proofs.Final.{fine-shape, inputs_fit}
+use Rattle.shape_plans.specs.Drawing.{plan_of}
+use Rattle.job_laws.proofs.Cuts.{sound_for}
+use Rattle.world_parts.specs.Layout.{lane_at}
+use Rattle.world_parts.proofs.Held.{held_here}
+use Rattle.world_parts.proofs.Sets.{part_le}
+use Rattle.world_parts.proofs.Strays.{none_count, owned_and_strays}
+use Rattle.worlds.specs.Standing.{IsStanding}
+use Rattle.worlds.specs.World.{AreSlots, WorldState, ranks_in, scene_in, steps_in}
+use Rattle.worlds.proofs.Listed.{IsOffered, offered, ready_is}
+
+-- ---- a listed step may be made
+abbrev pub MayBeMade : System → ℕ → Scene → Step → Type 0
+MayBeMade k window z x =
+    (r : ℕ) × ((e : Local) × ((named r e ≡ x) × (r < k.count) × IsEnabled k z.world z.held r e × IsPossible k z.world z.held window r e))
+
+module _ (k : System) (window : ℕ) (z : Scene) where
+  has_window : (r : ℕ) (o : Option Sent) → finds_room window z r o ≡ true → HasWindow z.held window r o
+  has_window r None e = tt
+  has_window r (Some m) e = ltb-true (length (z.held r m.header.target Request)) window e
+
+  goes : (s d : ℕ) (lane : Lane) (m : Sent) → is_possible k window z (Deliver s d lane) ≡ true
+      → IsPossible k z.world z.held window d (Received s lane m)
+  goes s d Answer m e = tt
+  goes s d Request m e = ltb-true (length (z.held d s Answer)) window e
+
+  may_be_made : (x : Step) → IsOffered k z x → is_possible k window z x ≡ true → MayBeMade k window z x
+  may_be_made (Start r) is e = (r, (Started, (refl, is.0, is.1, tt)))
+  may_be_made (Fire r t) is e = (
+    r,
+    (
+      Fired t,
+      (
+        refl,
+        is.0,
+        ready_is (state_at k z.world r) t is.1,
+        has_window r
+            (fired (state_at k z.world r) t).message e,
+      ),
+    ),
+  )
+  may_be_made (Deliver s d lane) is e = at (z.held s d lane) refl
+    where
+      at : (ms : List Sent) → z.held s d lane ≡ ms → MayBeMade k window z (Deliver s d lane)
+      at [] q = let a = is.2 in let b = ap length q in absurd (omega (arith, a, b))
+      at (m ∷ later) q = (d, (Received s lane m, (refl, is.1, (is.0, (later, q)), goes s d lane m e)))
+
+  pub listed_may : (x : Step) → In x (possible_steps k window z) → MayBeMade k window z x
+  listed_may x i = let q = In-filter_cases (is_possible k window z) x (enabled_steps k z) i in may_be_made x (offered k z x q.0) q.1
+
+-- ---- where no lane between ranks is full
+filter-all : {X : Type 0} (p : X → Bool) (xs : List X) → ((x : X) → In x xs → p x ≡ true) → filter p xs ≡ xs
+filter-all p [] e = refl
+filter-all p (x ∷ xs) e = ap₂ (λ b ys. if b then x ∷ ys else ys) (e x (inl refl)) (filter-all p xs (λ y i. e y (inr i)))
+
+module _ (p : Plan) (inputs : Inputs) (sound : SoundPlan p (length inputs)) (slots : ℕ → Slots) (window : ℕ) (z : Scene)
+    (small : (s d : ℕ) (lane : Lane) → s < p.ranks → d < p.ranks → length (z.held s d lane) < window) where
+  abbrev ranks : System
+  ranks = system_of p inputs slots
+
+  room : (r t : ℕ) → r < p.ranks → (o : Option Sent) → (fired (state_at ranks z.world r) t).message ≡ o → finds_room window z r o ≡ true
+  room r t h None e = refl
+  room r t h (Some m) e = lt-ltb _ _ (small r m.header.target Request h (target_known p inputs sound slots z.world r t m e))
+
+  each : (x : Step) → IsOffered ranks z x → is_possible ranks window z x ≡ true
+  each (Start r) is = refl
+  each (Fire r t) is = room r t is.0 (fired (state_at ranks z.world r) t).message refl
+  each (Deliver s d Answer) is = refl
+  each (Deliver s d Request) is = lt-ltb _ _ (small d s Answer is.1 is.0)
+
+  pub all_possible : possible_steps ranks window z ≡ enabled_steps ranks z
+  all_possible = filter-all (is_possible ranks window z) (enabled_steps ranks z) (λ x i. each x (offered ranks z x i))
+
+-- a lane carries fewer messages than the plan has links
+links_small : (p : Plan) (inputs : ℕ) → SoundPlan p inputs → (s d : ℕ) → length (lane_links p s d) < 2 ^ 32
+links_small p inputs sound s d =
+    let a = length-filter (goes_along p s d) (all_links p) in
+    let b = count_by-le-length (goes_along p s d) (all_links p) in
+    let c = length-from_to 0 (length p.links) in
+    let e = sound.few_together in
+    omega (arith, a, b, c, e)
+
+pub lane_small : (p : Plan) (inputs : ℕ) → SoundPlan p inputs → (s d : ℕ) (lane : Lane) → lane_messages p s d lane < 2 ^ 32
+lane_small p inputs sound s d Request = links_small p inputs sound s d
+lane_small p inputs sound s d Answer = at p.remote (links_small p inputs sound d s)
+  where
+    at : (b : Bool) → length (lane_links p d s) < 2 ^ 32 → (if b then length (lane_links p d s) else 0) < 2 ^ 32
+    at true few = few
+    at false few = omega arith
+
+-- ---- of a world
+module _ (w : WorldState) (slots : ℕ → Slots) (is : IsStanding w) (agree : AreSlots w slots) where
+  sound : SoundPlan (plan_of w.shape) (length w.inputs)
+  sound = sound_for w.shape w.inputs is.formed is.accepted is.given
+
+  pub once : Distinct (steps_in w slots)
+  once =
+      Distinct-filter (is_possible (ranks_in w slots) w.window (scene_in w)) (enabled_steps (ranks_in w slots) (scene_in w))
+      (once_each (ranks_in w slots) (scene_in w)
+      (λ r h. ready_rise combined-starts (plan_of w.shape) w.inputs (sound_for w.shape w.inputs is.formed is.accepted is.given)
+      (inputs_fit w.shape w.inputs is.formed is.given) slots (scene_in w).world (is.moment slots agree).cut r h))
+
+  ranks_are : (plan_of w.shape).ranks ≡ w.shape.ranks
+  ranks_are = (fine-shape w.shape is.formed).ranks
+
+  strays_on : (s d : ℕ) (lane : Lane) → s < w.shape.ranks → d < w.shape.ranks → count_by is_stray ((scene_in w).held s d lane) ≤ w.spare
+  strays_on s d Answer hs hd = let a = none_count ((scene_in w).held s d Answer) clean in omega (arith, a)
+    where
+      asks : Answer ≡ Request → ⊥
+      asks e = cc
+
+      clean : (m : Sent) → In m ((scene_in w).held s d Answer) → is_stray m ≡ false
+      clean m i = elim (cases_Bool (is_stray m)) [
+        | inr e ↦ e
+        | inl e ↦ (let c = ranks_are in absurd (asks ((is.moment slots agree).strays s d Answer m (omega (arith, hs, c))
+            (omega (arith, hd, c)) i e).asks))
+      ]
+  strays_on s d Request hs hd =
+      let here = ap (count_by is_stray) (held_here w.shape.ranks w.lanes s d Request hs hd) in
+      let part = part_le (λ q. count_by is_stray (lane_at w.lanes (lane_place w.shape.ranks q d Request)).messages) s 0 w.shape.ranks
+      (omega arith) (omega (arith, hs)) in
+      let few = is.few d hd in
+      omega (arith, here, part, few)
+
+  held_small : (s d : ℕ) (lane : Lane) → s < (plan_of w.shape).ranks → d < (plan_of w.shape).ranks
+      → length ((scene_in w).held s d lane) < 2 ^ 33
+  held_small s d lane hs hd =
+      let c = ranks_are in
+      let a = owned_and_strays ((scene_in w).held s d lane) in
+      let b = strays_on s d lane (omega (arith, hs, c)) (omega (arith, hd, c)) in
+      let moment = is.moment slots agree in
+      let few = held_few (ranks_in w slots) (scene_in w) s d lane (lane_messages (plan_of w.shape) s d lane) moment hs hd
+      (lane_few combined-starts (plan_of w.shape) w.inputs sound (inputs_fit w.shape w.inputs is.formed is.given) slots
+      (scene_in w).world moment.cut s d lane hs hd) in
+      let small = lane_small (plan_of w.shape) (length w.inputs) sound s d lane in
+      let spare = is.spare in
+      omega (arith, a, b, few, small, spare)
+
+  pub widest : 2 ^ 33 ≤ w.window → steps_in w slots ≡ enabled_steps (ranks_in w slots) (scene_in w)
+  widest wide = all_possible (plan_of w.shape) w.inputs sound slots w.window (scene_in w)
+      (λ s d lane hs hd. let a = held_small s d lane hs hd in omega (arith, a, wide))

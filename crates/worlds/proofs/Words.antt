@@ -1,0 +1,96 @@
+-- Runs by words: from the first scene, under a window that no lane fills, they are the chosen runs of the words.
+use Rattle.std.proofs.Common.{ℕ, zero, suc, ◌^◌, ◌<◌, ◌≤◌, ◌≡◌, ◌%◌, ◌∙◌, List, [], ◌∷◌, refl, sym, ap, ap₂, subst, arith, length, length-append, get_or}
+use Rattle.op_laws.proofs.OpLaws.{op_laws}
+use Rattle.op_laws.proofs.Starts.{combined-starts}
+use Rattle.op_laws.proofs.Swaps.{combined-swaps}
+use Rattle.ptl_types.specs.declared.headers.Lane.{Lane}
+use Rattle.plan_calls.specs.Lanes.{lane_messages}
+use Rattle.plan_core.specs.Plan.{Plan}
+use Rattle.plan_core.specs.Sound.{AreInputsOf, SoundPlan}
+use Rattle.plan_core.specs.Values.{Inputs}
+use Rattle.plan_view.specs.Slots.{Slots}
+use Rattle.plan_cuts.specs.History.{got}
+use Rattle.plan_cuts.specs.Plans.{system_of}
+use Rattle.plan_cuts.specs.System.{Histories, System, sent_by}
+use Rattle.plan_orders.proofs.Choosing.{chosen_reached}
+use Rattle.plan_orders.proofs.Steps.{AreMoves, reached_moment, reached_moves}
+use Rattle.plan_orders.specs.Chosen.{IsChosen, Scene, choose, chosen, enabled_steps, first_scene, step_made}
+use Rattle.plan_orders.specs.Reached.{IsReached}
+use Rattle.plan_orders.specs.Taking.{histories}
+use Rattle.plan_orders.specs.declared.Step.{Step}
+use Rattle.plan_rest.proofs.LaneCuts.{lane_few}
+use Rattle.plan_worlds.specs.Possible.{possible_steps}
+use Rattle.worlds.specs.Runs.{Running, chosen_run, chosen_step}
+use Rattle.worlds.proofs.Steps.{all_possible, lane_small}
+
+module _ (p : Plan) (inputs : Inputs) (sound : SoundPlan p (length inputs)) (fit : AreInputsOf p inputs) (slots : ℕ → Slots) (window : ℕ)
+    (wide : 2 ^ 32 ≤ window) where
+  abbrev k : System
+  k = system_of p inputs slots
+
+  -- without strays a lane holds what was sent, and so few
+  held_small : (z : Scene) → IsReached k z.world z.held → (s d : ℕ) (lane : Lane) → s < p.ranks → d < p.ranks
+      → length (z.held s d lane) < window
+  held_small z reached s d lane hs hd =
+      let so : AreMoves k z.world z.held = reached_moves k z.world z.held reached in
+      let cut = (reached_moment combined-starts p inputs slots sound fit (combined-swaps op_laws) z.world z.held reached).cut in
+      let sent : length (sent_by k (histories so.moves) s d lane) ≤ lane_messages p s d lane =
+      subst (λ (w : Histories). length (sent_by k w s d lane) ≤ lane_messages p s d lane) so.same
+      (lane_few combined-starts p inputs sound fit slots z.world cut s d lane hs hd) in
+      let both = ap length (so.balanced s d lane) in
+      let parts = length-append (got (histories so.moves d) s lane) (z.held s d lane) in
+      let small = lane_small p (length inputs) sound s d lane in
+      omega (arith, sent, both, parts, small, wide)
+
+  -- so each enabled step is possible
+  pub reached_possible : (z : Scene) → IsReached k z.world z.held → possible_steps k window z ≡ enabled_steps k z
+  reached_possible z reached = all_possible p inputs sound slots window z (held_small z reached)
+
+  module _ {C : Type 0} (answer : C → ℕ → ℕ) (after : C → ℕ → C) (chooser : ℕ → C) (words : ℕ → ℕ)
+      (answers : (i n : ℕ) → answer (chooser i) n ≡ words i % n) (goes : (i n : ℕ) → after (chooser i) n ≡ chooser (suc i)) where
+    abbrev at_words : ℕ → Running C
+    at_words n = record { scene = chosen k words n; chooser = chooser n }
+
+    abbrev begun : Running C
+    begun = record { scene = first_scene; chooser = chooser 0 }
+
+    -- so many words were used; fewer only where no step was left
+    abbrev Followed : ℕ → Type 0
+    Followed n = (m : ℕ) × (chosen_run k window answer after n begun ≡ at_words m)
+
+    one_more : (n : ℕ) (xs : List Step) → enabled_steps k (chosen k words n) ≡ xs
+        → (m : ℕ) × (chosen_step k answer after xs (at_words n) ≡ at_words m)
+    one_more n [] e = (n, refl)
+    one_more n (x ∷ xs) e = (
+      suc n,
+      ap₂ (λ y c. let q : Running C = record { scene = y; chooser = c } in q)
+          (ap (λ j. step_made k (get_or (x ∷ xs) j x) (chosen k words n)) (answers n (length (x ∷ xs)))
+          ∙ sym (ap (λ ys. choose k ys (words n) (chosen k words n)) e))
+          (goes n (length (x ∷ xs))),
+    )
+
+    pub followed : (n : ℕ) → Followed n
+    followed zero = (0, refl)
+    followed (suc n) =
+        let so = followed n in
+        let next = one_more so.0 (enabled_steps k (chosen k words so.0)) refl in (
+          next.0,
+          ap (λ (q : Running C). chosen_step k answer after (possible_steps k window q.scene) q) so.1
+              ∙ ap (λ xs. chosen_step k answer after xs (at_words so.0))
+              (reached_possible (chosen k words so.0) (chosen_reached k words so.0))
+              ∙ next.1,
+        )
+
+    -- where it ends, it ends as the chosen run
+    pub ends_chosen : (n : ℕ) (z : Scene) (c : C) → chosen_run k window answer after n begun ≡
+        (let q : Running C = record { scene = z; chooser = c } in q)
+        → possible_steps k window z ≡ [] → IsChosen k words z.world
+    ends_chosen n z c is none =
+        let so = followed n in
+        let same : chosen k words so.0 ≡ z = ap (λ (q : Running C). q.scene) (sym so.1 ∙ is) in
+        record {
+          steps = so.0;
+          ended = sym (reached_possible (chosen k words so.0) (chosen_reached k words so.0))
+              ∙ ap (λ (s : Scene). possible_steps k window s) same ∙ none;
+          world = λ r h. ap (λ (s : Scene). s.world r) (sym same);
+        }

@@ -1,0 +1,36 @@
+-- The counts of starts, deliveries and firings are those of the list.
+use Rattle.std.proofs.Common.{ap, arith, length, subst, sym}
+use Rattle.plan_cuts.specs.Cut.{IsAtRest}
+use Rattle.worlds.specs.Standing.{IsStanding}
+use Rattle.worlds.specs.World.{AreSlots, WorldState, histories_in, ranks_in, steps_in}
+use Rattle.worlds.proofs.Ends.{none_in, rests}
+use Rattle.worlds.proofs.Standing.{number, stands, state_of}
+use Rattle.worlds.proofs.world.World.enabled.Goals as goal
+
+pub returns-clause-number : goal.returns-clause-number
+returns-clause-number c = λ slots agree.
+    let s = c.self.inside in
+    let e = c.total.ensures.sum in
+    let f = c.total-2.ensures.sum in
+    let g = c.total-3.ensures.sum in
+    let back = subst (λ (w : WorldState). AreSlots w slots) (sym c.self.view_is) agree in
+    let k = number s.job s.setting s.nodes.items s.lanes.items s.starts s.deliveries s.firings c.self.invariant slots back in
+    let v = ap (λ (w : WorldState). length (steps_in w slots)) c.self.view_is in
+    omega (arith, e, f, g, k, v)
+
+pub returns-clause-kept : goal.returns-clause-kept
+returns-clause-kept c = let s = c.self.inside in subst IsStanding c.self.view_is
+    (stands s.job s.setting s.nodes.items s.lanes.items s.starts s.deliveries s.firings c.self.invariant)
+
+pub returns-clause-rest : goal.returns-clause-rest
+returns-clause-rest c = λ nothing slots agree.
+    let s = c.self.inside in
+    let e = c.total.ensures.sum in
+    let f = c.total-2.ensures.sum in
+    let g = c.total-3.ensures.sum in
+    let back = subst (λ (w : WorldState). AreSlots w slots) (sym c.self.view_is) agree in
+    let k = number s.job s.setting s.nodes.items s.lanes.items s.starts s.deliveries s.firings c.self.invariant slots back in
+    let none = none_in (steps_in (state_of s.job s.setting s.nodes.items s.lanes.items) slots) (omega (arith, nothing, e, f, g, k)) in
+    subst (λ (w : WorldState). IsAtRest (ranks_in w slots) (histories_in w)) c.self.view_is
+    (rests (state_of s.job s.setting s.nodes.items s.lanes.items) slots
+    (stands s.job s.setting s.nodes.items s.lanes.items s.starts s.deliveries s.firings c.self.invariant) back none)

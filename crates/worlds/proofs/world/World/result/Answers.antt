@@ -1,0 +1,45 @@
+-- The cell that holds the buffer lies in the rank's memory.
+use Rattle.std.proofs.Common.{◌<◌, ◌≡◌, ◌∙◌, Some, ap, arith, length, subst, sym}
+use Rattle.std.proofs.lemmas.List.{get_or_read}
+use Rattle.coll_shape.specs.Outline.{Outline}
+use Rattle.plan_core.specs.Draw.{held_cell}
+use Rattle.rank_node.specs.Node.{NodeState}
+use Rattle.ni_model.specs.State.{State}
+use Rattle.schedule_compiler.specs.Answers.{place_of}
+use Rattle.schedule_compiler.specs.declared.schedule.Place.{Place}
+use Rattle.shape_laws.proofs.Final.{result-cell}
+use Rattle.shape_plans.specs.Drawing.{drawing_of, plan_of}
+use Rattle.world_parts.specs.Layout.{no_node}
+use Rattle.worlds.specs.World.{WorldState}
+use Rattle.worlds.proofs.Ends.{result_lies}
+use Rattle.worlds.proofs.Standing.{stands, state_of}
+use Rattle.worlds.proofs.world.World.result.Goals as goal
+
+pub place-requires : goal.place-requires
+place-requires c =
+    let s = c.self.inside in
+    let hb = subst (λ (w : WorldState). c.args.buffer < length w.shape.buffers) (sym c.self.view_is) c.requires.buffer in
+    let hr = subst (λ (w : WorldState). c.args.r < w.shape.ranks) (sym c.self.view_is) c.requires.rank in
+    let told = subst (λ (o : Outline). Some c.in-Some.cell ≡ held_cell (drawing_of o).held c.args.buffer c.args.r)
+    c.schedule-schedule.ensures c.in-Some.ensures.told in
+    subst (λ (o : Outline). c.in-Some.cell < length (plan_of o).cells) (sym c.schedule-schedule.ensures)
+    (result-cell s.job.shape c.self.invariant.formed c.args.buffer c.args.r c.in-Some.cell hb hr (sym told)).in_plan
+
+pub part_of-requires : goal.part_of-requires
+part_of-requires c =
+    let s = c.self.inside in
+    let is = stands s.job s.setting s.nodes.items s.lanes.items s.starts s.deliveries s.firings c.self.invariant in
+    let hb = subst (λ (w : WorldState). c.args.buffer < length w.shape.buffers) (sym c.self.view_is) c.requires.buffer in
+    let hr = subst (λ (w : WorldState). c.args.r < w.shape.ranks) (sym c.self.view_is) c.requires.rank in
+    let told = subst (λ (o : Outline). Some c.in-Some.cell ≡ held_cell (drawing_of o).held c.args.buffer c.args.r)
+    c.schedule-schedule.ensures c.in-Some.ensures.told in
+    let size = is.size in
+    let inside : c.args.r < length s.nodes.items = omega (arith, hr, size) in
+    let lies = result_lies (state_of s.job s.setting s.nodes.items s.lanes.items) is c.args.buffer c.args.r c.in-Some.cell hb hr
+    (sym told) in
+    let node = get_or_read s.nodes.items c.args.r c.index.result.now inside c.index.ensures no_node in
+    let memory = ap length (c.memory.ensures.told ∙ ap (λ (x : State). x.memory) (c.nic.ensures ∙ ap (λ (x : NodeState). x.nic) node)) in
+    let place = c.place.ensures ∙ ap (λ (o : Outline). place_of (plan_of o) c.in-Some.cell) c.schedule-schedule.ensures in
+    let start = ap (λ (p : Place). p.start) place in
+    let long = ap (λ (p : Place). p.length) place in
+    omega (arith, lies, memory, start, long)

@@ -1,0 +1,5 @@
+pub mod World
+pub mod Standing
+pub mod Later
+pub mod Runs
+pub mod Allowed

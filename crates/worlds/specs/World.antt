@@ -1,0 +1,56 @@
+-- What is seen of a world: the job, the node of each rank, and the lanes between them. The slots that the nodes' tables gave out are in
+-- their handles; what will be given isn't known, so what is said of a world is said under all slots that agree with the handles.
+use Rattle.std.specs.Prelude.{ℕ, List}
+use Rattle.ni_model.specs.State.{State}
+use Rattle.pair_wires.specs.Lanes.{Plain}
+use Rattle.plan_core.specs.Values.{Inputs}
+use Rattle.plan_view.specs.Slots.{Slots}
+use Rattle.plan_cuts.specs.Plans.{system_of}
+use Rattle.plan_cuts.specs.System.{Histories, System}
+use Rattle.plan_orders.specs.Chosen.{Scene}
+use Rattle.plan_orders.specs.declared.Step.{Step}
+use Rattle.plan_worlds.specs.Possible.{possible_steps}
+use Rattle.rank_node.specs.Node.{NodeState}
+use Rattle.coll_shape.specs.Outline.{Outline}
+use Rattle.shape_plans.specs.Drawing.{plan_of}
+use Rattle.world_parts.specs.Keeps.{AgreeAll}
+use Rattle.world_parts.specs.Layout.{node_at, scene_of}
+
+-- the shape and its inputs; a node for each rank; the lanes by source, target, request before answer; how many messages a lane may
+-- hold before a step that would put one there has to wait; how many strays may still be injected, and how many in all
+pub record WorldState : Type 0 where
+  pub shape : Outline
+  pub inputs : Inputs
+  pub nodes : List NodeState
+  pub lanes : List Plain
+  pub window : ℕ
+  pub strays : ℕ
+  pub spare : ℕ
+
+-- slots that agree with the handles that were given so far
+abbrev pub AreSlots : WorldState → (ℕ → Slots) → Type 0
+AreSlots w slots = AgreeAll w.shape.ranks slots w.nodes
+
+-- the ranks of the shape's plan, under such slots
+abbrev pub ranks_in : WorldState → (ℕ → Slots) → System
+ranks_in w slots = system_of (plan_of w.shape) w.inputs slots
+
+-- the histories, and what is on its way
+abbrev pub scene_in : WorldState → Scene
+scene_in w = scene_of w.shape.ranks w.nodes w.lanes
+
+-- the history of each rank
+abbrev pub histories_in : WorldState → Histories
+histories_in w = (scene_in w).world
+
+-- the steps that are possible, in order: starts by rank; deliveries by source, target, request before answer; firings by rank, then
+-- number
+abbrev pub steps_in : WorldState → (ℕ → Slots) → List Step
+steps_in w slots = possible_steps (ranks_in w slots) w.window (scene_in w)
+
+-- the interface of a rank, and its memory
+abbrev pub nic_in : WorldState → ℕ → State
+nic_in w r = (node_at w.nodes r).nic
+
+abbrev pub memory_in : WorldState → ℕ → List ℕ
+memory_in w r = (nic_in w r).memory

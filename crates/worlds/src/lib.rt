@@ -1,0 +1,14 @@
+//! The world of a job: all ranks on one thread, with the messages that are on their way and the steps that are possible in a fixed
+//! order.
+#![tactic(auto)]
+
+mod finding;
+mod laws;
+mod making;
+mod world;
+
+pub use laws::{possible_steps_of_worlds, runs_by_words, slots_agree, worlds_stand};
+pub use plan_orders::Step;
+pub use ptl_types::LocalStep;
+pub use rank_node::Node;
+pub use world::{Chooser, World};

@@ -1,0 +1,356 @@
+//! The world and its steps.
+
+ghost use Rattle.std.specs.Prelude.{ℕ, true, ◌≡◌, ◌<◌, ◌≤◌, ◌-◌, ◌↔◌, IsTrue, IfOk, Some, [], length, map, slice_get};
+ghost use Rattle.ptl_types.specs.declared.headers.Lane.TheVariants.{Request};
+ghost use Rattle.ni_model.specs.Tables.{lookup};
+ghost use Rattle.plan_core.specs.Members.{In};
+ghost use Rattle.plan_calls.specs.Lanes.{is_used_lane};
+ghost use Rattle.plan_view.specs.Slots.{Slots, done_ct};
+ghost use Rattle.plan_cuts.specs.Cut.{IsAtRest, is_stray};
+ghost use Rattle.plan_cuts.specs.Plans.{IsComplete};
+ghost use Rattle.plan_cuts.specs.System.{state_at};
+ghost use Rattle.plan_orders.specs.Chosen.{step_made};
+ghost use Rattle.plan_orders.specs.Taking.{listed};
+ghost use Rattle.shape_plans.specs.Drawing.{plan_of};
+ghost use Rattle.rank_node.specs.Node.{stray_bytes};
+ghost use Rattle.job_laws.specs.Barriers.{AreBarriersKept};
+ghost use Rattle.job_laws.specs.Results.{AreMeant, result_in};
+ghost use Rattle.world_parts.specs.Steps.{injected};
+ghost use Rattle.worlds.specs.Standing.{IsStanding};
+ghost use Rattle.worlds.specs.Later.{IsLater, IsOpened};
+ghost use Rattle.worlds.specs.Runs.{IsRun, Running, chosen_run};
+ghost use Rattle.worlds.specs.World.{AreSlots, histories_in, memory_in, nic_in, ranks_in, scene_in, steps_in};
+
+use crate::finding::{delivery_at, part_of};
+use crate::making::{allows, make};
+use count_tree::CountTree;
+use pair_wires::PlainLane;
+use plan_orders::Step;
+use portals_ni::Nic;
+use ptl_types::{Count, LocalStep, Message, NoMemory, Rank};
+use rank_node::Node;
+use schedule_compiler::{Job, Schedule};
+use std::alloc::Global;
+use std::marker::Model;
+use world_open::opened as parts_of_job;
+use world_parts::acts;
+use world_parts::acts::Setting;
+
+/// Chooses among the possible steps. Its answer and its next state are functions of its state and of how many there are.
+pub trait Chooser {
+    ghost answer: { Self → ℕ → ℕ };
+
+    ghost after: { Self → ℕ → Self };
+
+    /// A number below `n`.
+    fn choose(&mut self, n: u64) -> u64
+        requires { 0 < n }
+        ensures below { result < n }
+        ensures answer { result ≡ answer self.old n }
+        ensures after { self.new ≡ after self.old n };
+}
+
+/// All ranks of a job on one thread, with the messages that are on their way. After its opening no call takes memory.
+#[derive(Drop)]
+pub struct World {
+    job: Job,
+    setting: Setting,
+    nodes: Vec<Node>,
+    lanes: Vec<PlainLane>,
+    starts: CountTree,
+    deliveries: CountTree,
+    firings: CountTree,
+}
+
+impl Model for World {
+    ghost use Rattle.worlds.specs.World.{WorldState};
+    ghost use Rattle.worlds.specs.Standing.{AreFields};
+
+    ghost Value = { WorldState };
+
+    ghost view = { λ w. record {
+      shape = w.job.shape;
+      inputs = w.job.inputs;
+      nodes = w.nodes.items;
+      lanes = w.lanes.items;
+      window =
+          w.setting.window;
+      strays = w.setting.strays;
+      spare = w.setting.spare;
+    } };
+
+    ghost invariant = { λ w. AreFields w.job w.setting w.nodes.items w.lanes.items w.starts w.deliveries w.firings };
+}
+
+impl World {
+    /// The world of a job: each rank is prepared, nothing was done, and nothing is on its way.
+    ///
+    /// # Errors
+    ///
+    /// There was no memory for it.
+    pub fn open(alloc: Global, job: &Job) -> Result<World, NoMemory>
+        ensures { IfOk result (λ world. IsOpened job.now u64.MAX 0 world) }
+    {
+        World::opened(alloc, job, u64::MAX, 0)
+    }
+
+    /// The world of a job under a window: a step that would put a message into a lane that holds so many has to wait. Strays are
+    /// put in whatever the window is.
+    ///
+    /// # Errors
+    ///
+    /// There was no memory for it.
+    pub fn open_windowed(alloc: Global, job: &Job, window: u32) -> Result<World, NoMemory>
+        requires { 0 < window }
+        ensures { IfOk result (λ world. IsOpened job.now window 0 world) }
+    {
+        World::opened(alloc, job, u64::from(window), 0)
+    }
+
+    /// The world of a job, with room for so many strays that may be injected, of at most 64 bytes each.
+    ///
+    /// # Errors
+    ///
+    /// There was no memory for it, or a lane would have to hold 2^32 messages or more.
+    pub fn open_with_strays(alloc: Global, job: &Job, strays: u32) -> Result<World, NoMemory>
+        ensures { IfOk result (λ world. IsOpened job.now u64.MAX strays world) }
+    {
+        World::opened(alloc, job, u64::MAX, strays)
+    }
+
+    /// Under a window, and with room for strays.
+    fn opened(alloc: Global, job: &Job, window: u64, strays: u32) -> Result<World, NoMemory>
+        requires { 0 < window }
+        ensures { IfOk result (λ world. IsOpened job.now window strays world) }
+    {
+        // What every job keeps is told here.
+        let _ = job.schedule().shape().ranks();
+        let _ = job.inputs();
+        let shared = job.share()?;
+        let parts = parts_of_job(alloc, job, window, strays)?;
+        Ok(World {
+            job: shared,
+            setting: parts.setting,
+            nodes: parts.nodes,
+            lanes: parts.lanes,
+            starts: parts.starts,
+            deliveries: parts.deliveries,
+            firings: parts.firings,
+        })
+    }
+
+    /// The schedule.
+    pub fn schedule(&self) -> &Schedule
+        ensures { result.now ≡ self.now.shape }
+    {
+        self.job.schedule()
+    }
+
+    /// The job.
+    pub fn job(&self) -> &Job
+        ensures { result.now ≡ record { shape = self.now.shape; inputs = self.now.inputs } }
+    {
+        &self.job
+    }
+
+    /// How many steps are possible. Where none is, the world is at rest. `kept` is what holds of a world whatever was done with it.
+    pub fn enabled(&self) -> u64
+        ensures number { (slots : ℕ → Slots) → AreSlots self.now slots → result ≡ length (steps_in self.now slots) }
+        ensures kept { IsStanding self.now }
+        ensures rest { result ≡ 0 → (slots : ℕ → Slots) → AreSlots self.now slots →
+            IsAtRest (ranks_in self.now slots) (histories_in self.now) }
+    {
+        self.starts.total() + self.deliveries.total() + self.firings.total()
+    }
+
+    /// The possible step number `i`, from 0: starts by rank; deliveries by source, target, request before answer; firings by
+    /// rank, then number.
+    pub fn enabled_step(&self, i: u64) -> Step
+        requires { (slots : ℕ → Slots) → AreSlots self.now slots → i < length (steps_in self.now slots) }
+        ensures { (slots : ℕ → Slots) → AreSlots self.now slots → slice_get (steps_in self.now slots) i ≡ Some result }
+    {
+        let starts = self.starts.total();
+        if i < starts {
+            let (r, _) = self.starts.find(i);
+            return Step::Start(r as u32);
+        }
+        let later = i - starts;
+        let deliveries = self.deliveries.total();
+        if later < deliveries {
+            let (place, _) = self.deliveries.find(later);
+            return delivery_at(self.setting.ranks, place);
+        }
+        let (r, rest) = self.firings.find(later - deliveries);
+        let node = &self.nodes[r];
+        let _ = node.ready();
+        Step::Fire(r as u32, node.ready_at(rest as u32))
+    }
+
+    /// Whether a step is possible. It isn't on a lane that the job doesn't use, for a rank that isn't one, and for a number that
+    /// isn't pending.
+    pub fn is_enabled(&self, step: Step) -> bool
+        ensures { (slots : ℕ → Slots) → AreSlots self.now slots → (IsTrue result ↔ In step (steps_in self.now slots)) }
+    {
+        allows(
+            &self.nodes,
+            &self.lanes,
+            self.setting.ranks,
+            self.setting.window,
+            step,
+        )
+    }
+
+    /// Makes a step that is possible: one local step of one rank, whose message, if any, goes to the end of its lane. `kept` is
+    /// what holds of a world whatever was done with it.
+    pub fn step(&mut self, step: Step)
+        requires { (slots : ℕ → Slots) → AreSlots self.old slots → In step (steps_in self.old slots) }
+        ensures made { (slots : ℕ → Slots) → AreSlots self.new slots →
+            scene_in self.new ≡ step_made (ranks_in self.old slots) step (scene_in self.old) }
+        ensures kept { IsStanding self.new }
+        ensures later { IsLater self.old self.new }
+        ensures strays { self.new.strays ≡ self.old.strays }
+        ensures barriers { (slots : ℕ → Slots) → AreSlots self.new slots →
+            AreBarriersKept self.new.shape self.new.inputs slots (histories_in self.new) }
+    {
+        make(
+            self.setting,
+            &mut self.nodes,
+            &mut self.lanes,
+            &mut self.starts,
+            &mut self.deliveries,
+            &mut self.firings,
+            step,
+        );
+    }
+
+    /// Whether no step is possible. Then the world is at rest: each rank is complete, and each buffer at each rank is what the
+    /// description means of the inputs.
+    pub fn at_rest(&self) -> bool
+        ensures exact { (slots : ℕ → Slots) → AreSlots self.now slots → (IsTrue result ↔ (steps_in self.now slots ≡ [])) }
+        ensures rest { IsTrue result → (slots : ℕ → Slots) → AreSlots self.now slots →
+            IsAtRest (ranks_in self.now slots) (histories_in self.now) }
+        ensures complete { IsTrue result → (slots : ℕ → Slots) → AreSlots self.now slots → (r : ℕ) → r < self.now.shape.ranks →
+            IsComplete (plan_of self.now.shape) self.now.inputs slots (histories_in self.now) r }
+        ensures meant { IsTrue result → AreMeant self.now.shape self.now.inputs (memory_in self.now) }
+    {
+        self.enabled() == 0
+    }
+
+    /// Makes possible steps until there is none. Then each rank is complete, and each buffer at each rank is what the description
+    /// means of the inputs.
+    pub fn run_to_rest(&mut self)
+        ensures none { (slots : ℕ → Slots) → AreSlots self.new slots → steps_in self.new slots ≡ [] }
+        ensures later { IsLater self.old self.new }
+        ensures strays { self.new.strays ≡ self.old.strays }
+        ensures steps { (slots : ℕ → Slots) → AreSlots self.new slots →
+            IsRun (ranks_in self.old slots) self.old.window (scene_in self.old) (scene_in self.new) }
+        ensures rest { (slots : ℕ → Slots) → AreSlots self.new slots → IsAtRest (ranks_in self.new slots) (histories_in self.new) }
+        ensures complete { (slots : ℕ → Slots) → AreSlots self.new slots → (r : ℕ) → r < self.new.shape.ranks →
+            IsComplete (plan_of self.new.shape) self.new.inputs slots (histories_in self.new) r }
+        ensures meant { AreMeant self.new.shape self.new.inputs (memory_in self.new) }
+        ensures barriers { (slots : ℕ → Slots) → AreSlots self.new slots →
+            AreBarriersKept self.new.shape self.new.inputs slots (histories_in self.new) }
+    {
+        while 0 < self.enabled() {
+            let step = self.enabled_step(0);
+            self.step(step);
+        }
+    }
+
+    /// Makes the steps that a chooser names among the possible ones, until there is none. Then each rank is complete, and each
+    /// buffer at each rank is what the description means of the inputs.
+    pub fn run_chosen<C: Chooser>(&mut self, chooser: &mut C)
+        ensures none { (slots : ℕ → Slots) → AreSlots self.new slots → steps_in self.new slots ≡ [] }
+        ensures later { IsLater self.old self.new }
+        ensures strays { self.new.strays ≡ self.old.strays }
+        ensures chosen { (slots : ℕ → Slots) → AreSlots self.new slots → ((n : ℕ) ×
+            (chosen_run (ranks_in self.old slots) self.old.window C.answer C.after n
+            (record { scene = scene_in self.old; chooser = chooser.old }) ≡
+            record { scene = scene_in self.new; chooser = chooser.new })) }
+        ensures rest { (slots : ℕ → Slots) → AreSlots self.new slots → IsAtRest (ranks_in self.new slots) (histories_in self.new) }
+        ensures complete { (slots : ℕ → Slots) → AreSlots self.new slots → (r : ℕ) → r < self.new.shape.ranks →
+            IsComplete (plan_of self.new.shape) self.new.inputs slots (histories_in self.new) r }
+        ensures meant { AreMeant self.new.shape self.new.inputs (memory_in self.new) }
+        ensures barriers { (slots : ℕ → Slots) → AreSlots self.new slots →
+            AreBarriersKept self.new.shape self.new.inputs slots (histories_in self.new) }
+    {
+        loop {
+            let n = self.enabled();
+            if n == 0 {
+                return;
+            }
+            let i = chooser.choose(n);
+            let step = self.enabled_step(i);
+            self.step(step);
+        }
+    }
+
+    /// Puts a stray at the end of a request lane that the job uses. Conditions: some may still be injected, and it is a stray of
+    /// this source and target, of at most 64 bytes.
+    pub fn inject(&mut self, s: Rank, d: Rank, message: Message)
+        requires left { 0 < self.old.strays }
+        requires from { s < self.old.shape.ranks }
+        requires to { d < self.old.shape.ranks }
+        requires used { is_used_lane (plan_of self.old.shape) s d Request ≡ true }
+        requires stray { is_stray message ≡ true }
+        requires source { message.header.source ≡ s }
+        requires target { message.header.target ≡ d }
+        requires short { length message.bytes ≤ stray_bytes }
+        ensures put { scene_in self.new ≡ injected s d message (scene_in self.old) }
+        ensures later { IsLater self.old self.new }
+        ensures strays { self.new.strays ≡ self.old.strays - 1 }
+    {
+        acts::inject(
+            self.setting,
+            &mut self.nodes,
+            &mut self.lanes,
+            &mut self.starts,
+            &mut self.deliveries,
+            &mut self.firings,
+            s,
+            d,
+            message,
+        );
+        self.setting.strays -= 1;
+    }
+
+    /// The local steps of a rank, oldest first.
+    pub fn history(&self, r: Rank) -> &[LocalStep]
+        requires { r < self.now.shape.ranks }
+        ensures { result.now ≡ map listed (histories_in self.now r) }
+    {
+        self.nodes[r as usize].history()
+    }
+
+    /// The interface of a rank.
+    pub fn nic(&self, r: Rank) -> &Nic
+        requires { r < self.now.shape.ranks }
+        ensures told { result.now ≡ nic_in self.now r }
+        ensures state { (slots : ℕ → Slots) → AreSlots self.now slots →
+            result.now ≡ state_at (ranks_in self.now slots) (histories_in self.now) r }
+    {
+        self.nodes[r as usize].nic()
+    }
+
+    /// The counting event of what is done at a rank.
+    pub fn done(&self, r: Rank) -> Count
+        requires { r < self.now.shape.ranks }
+        ensures { (slots : ℕ → Slots) → AreSlots self.now slots →
+            lookup (done_ct (slots r)) (nic_in self.now r).cts.live ≡ Some result }
+    {
+        self.nodes[r as usize].done()
+    }
+
+    /// The bytes of a buffer at a rank, as they stand in its memory now, elements in order, little-endian: none where no cell holds it.
+    pub fn result(&self, buffer: u32, r: Rank) -> &[u8]
+        requires buffer { buffer < length self.now.shape.buffers }
+        requires rank { r < self.now.shape.ranks }
+        ensures { result.now ≡ result_in self.now.shape buffer r (memory_in self.now r) }
+    {
+        let schedule = self.job.schedule();
+        match schedule.result(buffer, r) {
+            Some(cell) => part_of(self.nodes[r as usize].nic().memory(), schedule.place(cell)),
+            None => &[],
+        }
+    }
+}
