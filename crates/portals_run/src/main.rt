@@ -2,7 +2,7 @@
 #![tactic(auto)]
 
 use port_io::{StdSink, StdSource};
-use portals_top::{Status, portals_main};
+use portals_top::{Ran, Status, portals_main};
 use std::env;
 use std::process::ExitCode;
 
@@ -18,6 +18,13 @@ fn main(rt: HostRuntime) -> ExitCode {
     }
     let mut source = StdSource::new(rt.reader());
     let mut sink = StdSink::new(std::io::writer(&rt));
-    let status = portals_main(rt.alloc(), words.as_slice(), &mut source, &mut sink);
+    let mut ran = Ran::new();
+    let status = portals_main(
+        rt.alloc(),
+        words.as_slice(),
+        &mut source,
+        &mut sink,
+        &mut ran,
+    );
     ExitCode::from(status.number())
 }

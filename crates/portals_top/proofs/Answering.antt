@@ -5,84 +5,91 @@ use Rattle.port_io.specs.Ends.{Inflow, Outflow}
 use Rattle.coll_lang.specs.declared.fault.Refusal.{Refusal}
 use Rattle.coll_lang.specs.Language.{read}
 use Rattle.coll_lang.specs.Program.{Chosen, Program}
+use Rattle.coll_shape.specs.Outline.{Outline}
+use Rattle.coll_shape.specs.Meaning.{Lists}
 use Rattle.shape_plans.specs.Footprint.{Refused as Excessive, refusal}
+use Rattle.worlds.specs.World.{WorldState}
 use Rattle.portals_top.specs.declared.status.Status.{Status}
 use Rattle.portals_top.specs.declared.status.Status.TheVariants.{Done, Usage, Refused, ReadFault, WriteFault, NoMemory}
 use Rattle.portals_top.specs.declared.words.Command.{Command}
 use Rattle.portals_top.specs.Due.{due, due_compiled, due_described, due_of}
-use Rattle.portals_top.specs.Answered.{IsTold, MayAnswer, Stands, Leaves, Answered}
+use Rattle.portals_top.specs.Answered.{IsTold, MayAnswer, Stands, Leaves, LeavesOf, HandsBack, Answered}
 use Rattle.portals_top.specs.Written.{Written}
 use Rattle.portals_top.proofs.Told.{Told, told-any, short-read}
 
-done-short : (command : Command) (text : List ℕ) → length text ≤ 1048577 → (due_of command (read text)).status ≡ Done → length text ≤ 1048576
-done-short command text short done =
-    short-read text (λ long. let refused : Refused ≡ Done = subst (λ r. (due_of command r).status ≡ Done) long done in absurd (cc)) short
+done-short : (command : Command) (ran : Option WorldState) (text : List ℕ) → length text ≤ 1048577 → (due_of command ran (read text)).status ≡ Done → length text ≤ 1048576
+done-short command ran text short done =
+    short-read text (λ long. let refused : Refused ≡ Done = subst (λ r. (due_of command ran r).status ≡ Done) long done in absurd (cc)) short
 
-leaves : (command : Command) (status : Status) (text : List ℕ) (source source' : Inflow) (told : Told source.left source'.left text) → length text ≤ 1048577
-    → MayAnswer status (due_of command (read text)).status → Leaves status source' (drop 1048577 told.bytes)
-leaves command Done text source source' told short allowed = (told.rest, told.nothing (done-short command text short allowed))
-leaves command Usage text source source' told short allowed = told.rest
-leaves command Refused text source source' told short allowed = told.rest
-leaves command ReadFault text source source' told short allowed = tt
-leaves command WriteFault text source source' told short allowed = told.rest
-leaves command NoMemory text source source' told short allowed = tt
+leaves : (command : Command) (ran : Option WorldState) (status : Status) (text : List ℕ) (source source' : Inflow) (told : Told source.left source'.left text) → length text ≤ 1048577
+    → MayAnswer status (due_of command ran (read text)).status → Leaves status source' (drop 1048577 told.bytes)
+leaves command ran Done text source source' told short allowed = (told.rest, told.nothing (done-short command ran text short allowed))
+leaves command ran Usage text source source' told short allowed = told.rest
+leaves command ran Refused text source source' told short allowed = told.rest
+leaves command ran ReadFault text source source' told short allowed = tt
+leaves command ran WriteFault text source source' told short allowed = told.rest
+leaves command ran NoMemory text source source' told short allowed = tt
 
 -- after a text was read, and answered
-pub answered-read : (command : Command) (text : List ℕ) (source source' : Inflow) (sink sink' : Outflow) (status : Status) (told : Told source.left source'.left text) → length text ≤ 1048577
-    → Written (due_of command (read text)) sink sink' status → Answered (Some command) told.bytes source source' sink sink' status
-answered-read command text source source' sink sink' status told short written = record {
-  allowed = subst (λ r. MayAnswer status (due_of command r).status) (sym told.same) written.allowed;
+pub answered-read : (command : Command) (text : List ℕ) (source source' : Inflow) (sink sink' : Outflow) (ran : Option WorldState) (status : Status) (told : Told source.left source'.left text) → length text ≤ 1048577
+    → Written (due_of command ran (read text)) sink sink' status → HandsBack status (due_of command ran (read text)).status (LeavesOf command (read text)) ran
+    → Answered (Some command) told.bytes source source' sink sink' ran status
+answered-read command text source source' sink sink' ran status told short written handed = record {
+  allowed = subst (λ r. MayAnswer status (due_of command ran r).status) (sym told.same) written.allowed;
   read_fault = λ is. absurd (written.no_read is);
-  write_fault = λ is. (subst (λ s. Stands s sink sink' (due_of command (read text)).text) is written.text).rose;
-  text = subst (λ r. Stands status sink sink' (due_of command r).text) (sym told.same) written.text;
-  rest = leaves command status text source source' told short written.allowed;
+  write_fault = λ is. (subst (λ s. Stands s sink sink' (due_of command ran (read text)).text) is written.text).rose;
+  text = subst (λ r. Stands status sink sink' (due_of command ran r).text) (sym told.same) written.text;
+  rest = leaves command ran status text source source' told short written.allowed;
   untouched = λ is. absurd (cc);
+  world = subst (λ r. HandsBack status (due_of command ran r).status (LeavesOf command r) ran) (sym told.same) handed;
 }
 
-compiled-owed : (command : Command) (d : Program) (r : Option Excessive) → (due_compiled command d r).status ≢ Usage
-compiled-owed command d None = λ is. absurd (cc)
-compiled-owed command d (Some r) = λ is. absurd (cc)
+compiled-owed : (command : Command) (o : Outline) (inputs : Lists) (ran : Option WorldState) (r : Option Excessive) → (due_compiled command o inputs ran r).status ≢ Usage
+compiled-owed command o inputs ran None = λ is. absurd (cc)
+compiled-owed command o inputs ran (Some r) = λ is. absurd (cc)
 
-described-owed : (command : Command) (d : Program) (choices : Option Chosen) → (due_described command d choices).status ≢ Usage
-described-owed command d None = compiled-owed command d (refusal d.shape)
-described-owed command d (Some choices) = λ is. absurd (cc)
+described-owed : (command : Command) (d : Program) (ran : Option WorldState) (choices : Option Chosen) → (due_described command d ran choices).status ≢ Usage
+described-owed command d ran None = compiled-owed command d.shape d.inputs ran (refusal d.shape)
+described-owed command d ran (Some choices) = λ is. absurd (cc)
 
 -- a command owes no usage line
-pub reads-owed : (command : Command) (r : Result Program (ℕ × Refusal)) → (due_of command r).status ≢ Usage
-reads-owed command (Ok d) = described-owed command d d.choices
-reads-owed command (Err refusal) = λ is. absurd (cc)
+pub reads-owed : (command : Command) (ran : Option WorldState) (r : Result Program (ℕ × Refusal)) → (due_of command ran r).status ≢ Usage
+reads-owed command ran (Ok d) = described-owed command d ran d.choices
+reads-owed command ran (Err refusal) = λ is. absurd (cc)
 
 -- the source failed
 pub answered-failed : (command : Command) (source source' : Inflow) (sink : Outflow) → Rose source.faults source'.faults
-    → (bytes : List ℕ) × IsTold source.left bytes × Answered (Some command) bytes source source' sink sink ReadFault
+    → (bytes : List ℕ) × IsTold source.left bytes × Answered (Some command) bytes source source' sink sink None ReadFault
 answered-failed command source source' sink rose =
     let any = told-any source.left in (
       any.0,
       any.1,
       record {
-        allowed = reads-owed command (read any.0);
+        allowed = reads-owed command None (read any.0);
         read_fault = λ is. rose;
         write_fault = λ is. absurd (cc);
         text = refl;
         rest = tt;
         untouched = λ is. absurd (cc);
+        world = refl;
       },
     )
 
 -- there was no memory to read
 pub answered-no_memory : (command : Command) (source source' : Inflow) (sink : Outflow)
-    → (bytes : List ℕ) × IsTold source.left bytes × Answered (Some command) bytes source source' sink sink NoMemory
+    → (bytes : List ℕ) × IsTold source.left bytes × Answered (Some command) bytes source source' sink sink None NoMemory
 answered-no_memory command source source' sink =
     let any = told-any source.left in (
       any.0,
       any.1,
       record {
-        allowed = reads-owed command (read any.0);
+        allowed = reads-owed command None (read any.0);
         read_fault = λ is. absurd (cc);
         write_fault = λ is. absurd (cc);
         text = refl;
         rest = tt;
         untouched = λ is. absurd (cc);
+        world = refl;
       },
     )
 
@@ -94,9 +101,35 @@ stays ReadFault source bytes told allowed = tt
 stays WriteFault source bytes told allowed = told
 stays NoMemory source bytes told allowed = tt
 
+no-world-usage : (leaves : Option WorldState → Type 0) (status : Status) → MayAnswer status Usage → HandsBack status Usage leaves None
+no-world-usage leaves Done allowed = absurd (cc)
+no-world-usage leaves Usage allowed = refl
+no-world-usage leaves Refused allowed = refl
+no-world-usage leaves ReadFault allowed = refl
+no-world-usage leaves WriteFault allowed = refl
+no-world-usage leaves NoMemory allowed = refl
+
+-- where a text is refused, no world is handed back
+pub no-world-refused : (leaves : Option WorldState → Type 0) (status : Status) → MayAnswer status Refused → HandsBack status Refused leaves None
+no-world-refused leaves Done allowed = absurd (cc)
+no-world-refused leaves Usage allowed = refl
+no-world-refused leaves Refused allowed = refl
+no-world-refused leaves ReadFault allowed = refl
+no-world-refused leaves WriteFault allowed = refl
+no-world-refused leaves NoMemory allowed = refl
+
+-- a plan leaves none
+pub no-world-plan : (leaves : Option WorldState → Type 0) (status : Status) → leaves None → HandsBack status Done leaves None
+no-world-plan leaves Done none = none
+no-world-plan leaves Usage none = refl
+no-world-plan leaves Refused none = refl
+no-world-plan leaves ReadFault none = refl
+no-world-plan leaves WriteFault none = none
+no-world-plan leaves NoMemory none = refl
+
 -- the words are no command
-pub answered-usage : (source : Inflow) (sink sink' : Outflow) (status : Status) → Written (due None []) sink sink' status
-    → (bytes : List ℕ) × IsTold source.left bytes × Answered None bytes source source sink sink' status
+pub answered-usage : (source : Inflow) (sink sink' : Outflow) (status : Status) → Written (due None [] None) sink sink' status
+    → (bytes : List ℕ) × IsTold source.left bytes × Answered None bytes source source sink sink' None status
 answered-usage source sink sink' status written =
     let any = told-any source.left in (
       any.0,
@@ -104,9 +137,10 @@ answered-usage source sink sink' status written =
       record {
         allowed = written.allowed;
         read_fault = λ is. absurd (written.no_read is);
-        write_fault = λ is. (subst (λ s. Stands s sink sink' (due None []).text) is written.text).rose;
+        write_fault = λ is. (subst (λ s. Stands s sink sink' (due None [] None).text) is written.text).rose;
         text = written.text;
         rest = stays status source any.0 any.1 written.allowed;
         untouched = λ is. refl;
+        world = no-world-usage _ status written.allowed;
       },
     )

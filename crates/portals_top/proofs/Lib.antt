@@ -1,4 +1,6 @@
 pub mod Answering
 pub mod Fronts
+pub mod Interleavings
+pub mod Rests
 pub mod Steps
 pub mod Told

@@ -1,12 +1,20 @@
 -- What the top call answers, and what it leaves.
-use Rattle.std.specs.Prelude.{◌≡◌, ◌≢◌, ℕ, List, [], Option, Some, None}
+use Rattle.std.specs.Prelude.{◌≡◌, ◌≢◌, ℕ, List, [], Option, Some, None, Result, Ok, Err}
 use Rattle.port_io.specs.Counts.{Rose}
 use Rattle.port_io.specs.Ends.{Inflow, Outflow}
+use Rattle.coll_shape.specs.Outline.{Outline}
+use Rattle.coll_shape.specs.Meaning.{Lists}
+use Rattle.coll_lang.specs.declared.fault.Refusal.{Refusal}
+use Rattle.coll_lang.specs.Language.{read}
+use Rattle.coll_lang.specs.Program.{Program}
 use Rattle.run_text.specs.Putting.{Ends, FailsWithin}
+use Rattle.worlds.specs.World.{WorldState}
 use Rattle.portals_top.specs.declared.status.Status.{Status}
 use Rattle.portals_top.specs.declared.status.Status.TheVariants.{Done, Usage, Refused, ReadFault, WriteFault, NoMemory}
 use Rattle.portals_top.specs.declared.words.Command.{Command}
+use Rattle.portals_top.specs.declared.words.Command.TheVariants.{Once, Sim, Plan}
 use Rattle.portals_top.specs.Due.{due, unread}
+use Rattle.portals_top.specs.Runs.{IsInOrder, IsRun}
 
 -- These are the bytes, where they are told.
 abbrev pub IsTold : Option (List ℕ) → List ℕ → Type 0
@@ -41,11 +49,42 @@ Leaves ReadFault source' rest = Unit {0}
 Leaves WriteFault source' rest = IsTold source'.left rest
 Leaves NoMemory source' rest = Unit {0}
 
+-- the world that a command leaves of a description: one that ran, and for `sim` in the order that is chosen
+abbrev pub LeavesWorld : Command → Outline → Lists → Option WorldState → Type 0
+LeavesWorld Once o inputs None = ⊥
+LeavesWorld Once o inputs (Some w) = IsRun o inputs w
+LeavesWorld (Sim seed) o inputs None = ⊥
+LeavesWorld (Sim seed) o inputs (Some w) = IsRun o inputs w × IsInOrder seed w
+LeavesWorld Plan o inputs ran = ran ≡ None
+
+abbrev pub LeavesOf : Command → Result Program (ℕ × Refusal) → Option WorldState → Type 0
+LeavesOf c (Ok d) ran = LeavesWorld c d.shape d.inputs ran
+LeavesOf c (Err refusal) ran = ran ≡ None
+
+abbrev pub RunLeaves : Option Command → List ℕ → Option WorldState → Type 0
+RunLeaves None bytes ran = ran ≡ None
+RunLeaves (Some c) bytes ran = LeavesOf c (read bytes) ran
+
+-- What is handed back: what the run leaves, where a result was owed, and it or a beginning of it was written; and else none.
+abbrev pub HandsBack : Status → Status → (Option WorldState → Type 0) → Option WorldState → Type 0
+HandsBack Done owed leaves ran = leaves ran
+HandsBack WriteFault Done leaves ran = leaves ran
+HandsBack WriteFault Usage leaves ran = ran ≡ None
+HandsBack WriteFault Refused leaves ran = ran ≡ None
+HandsBack WriteFault ReadFault leaves ran = ran ≡ None
+HandsBack WriteFault WriteFault leaves ran = ran ≡ None
+HandsBack WriteFault NoMemory leaves ran = ran ≡ None
+HandsBack Usage owed leaves ran = ran ≡ None
+HandsBack Refused owed leaves ran = ran ≡ None
+HandsBack ReadFault owed leaves ran = ran ≡ None
+HandsBack NoMemory owed leaves ran = ran ≡ None
+
 -- All that holds after a call with this command, the source having these bytes.
-pub record Answered (command : Option Command) (bytes : List ℕ) (source source' : Inflow) (sink sink' : Outflow) (status : Status) : Type 0 where
-  pub allowed : MayAnswer status (due command bytes).status
+pub record Answered (command : Option Command) (bytes : List ℕ) (source source' : Inflow) (sink sink' : Outflow) (ran : Option WorldState) (status : Status) : Type 0 where
+  pub allowed : MayAnswer status (due command bytes ran).status
   pub read_fault : status ≡ ReadFault → Rose source.faults source'.faults
   pub write_fault : status ≡ WriteFault → Rose sink.faults sink'.faults
-  pub text : Stands status sink sink' (due command bytes).text
+  pub text : Stands status sink sink' (due command bytes ran).text
   pub rest : Leaves status source' (unread command bytes)
   pub untouched : command ≡ None → source' ≡ source
+  pub world : HandsBack status (due command bytes ran).status (RunLeaves command bytes) ran

@@ -1,30 +1,46 @@
 -- What the program owes for its words and the bytes that it is given.
-use Rattle.std.specs.Prelude.{ℕ, ◌+◌, ◌*◌, List, [], ◌∷◌, length, Option, Some, None, Result, Ok, Err, drop, codes, if◌then◌else◌}
+use Rattle.std.specs.Prelude.{ℕ, ◌+◌, ◌*◌, List, [], ◌∷◌, ◌++◌, length, map, Option, Some, None, Result, Ok, Err, drop, codes, if◌then◌else◌, option_map}
 use Rattle.std.specs.Str.{bytes_eq}
-use Rattle.coll_text.specs.Text.{line}
+use Rattle.coll_text.specs.Text.{line, number_between}
 use Rattle.coll_shape.specs.Outline.{Outline}
+use Rattle.coll_shape.specs.Meaning.{Lists}
 use Rattle.coll_lang.specs.declared.fault.Refusal.{Refusal}
 use Rattle.coll_lang.specs.declared.fault.Refusal.TheVariants.{TooMany, TooLarge, OneThread}
 use Rattle.coll_lang.specs.Language.{read}
 use Rattle.coll_lang.specs.Program.{Chosen, Program}
+use Rattle.plan_orders.specs.Taking.{listed}
 use Rattle.shape_plans.specs.Drawing.{plan_of}
 use Rattle.shape_plans.specs.Footprint.{Excess, Refused as Excessive, refusal}
 use Rattle.shape_plans.specs.Footprint.Excess.{Links, Bytes}
+use Rattle.run_text.specs.Lines.{result_text}
+use Rattle.run_text.specs.Orders.{order_text}
 use Rattle.run_text.specs.Plans.{plan_text}
 use Rattle.run_text.specs.Refused.{refusal_line}
+use Rattle.worlds.specs.World.{WorldState, histories_in}
 use Rattle.portals_top.specs.declared.status.Status.{Status}
 use Rattle.portals_top.specs.declared.status.Status.TheVariants.{Done, Usage, Refused, ReadFault, WriteFault, NoMemory}
 use Rattle.portals_top.specs.declared.words.Command.{Command}
-use Rattle.portals_top.specs.declared.words.Command.TheVariants.{Plan}
+use Rattle.portals_top.specs.declared.words.Command.TheVariants.{Once, Sim, Plan}
 
--- the command that the words are: `plan`
+-- a number below 2^64, in its one spelling
+abbrev pub seed_of : List ℕ → Option ℕ
+seed_of word = number_between 0 18446744073709551615 word
+
+abbrev pub one_word : List ℕ → Option Command
+one_word word = if bytes_eq word (codes "once") then Some Once else if bytes_eq word (codes "plan") then Some Plan else None
+
+abbrev pub two_words : List ℕ → List ℕ → Option Command
+two_words word number = if bytes_eq word (codes "sim") then option_map Sim (seed_of number) else None
+
+-- the command that the words are: `once`, `sim X` or `plan`
 abbrev pub command : List (List ℕ) → Option Command
 command [] = None
-command (word ∷ []) = if bytes_eq word (codes "plan") then Some Plan else None
-command (word ∷ other ∷ words) = None
+command (word ∷ []) = one_word word
+command (word ∷ number ∷ []) = two_words word number
+command (word ∷ number ∷ other ∷ words) = None
 
 abbrev pub usage_line : List ℕ
-usage_line = line (codes "usage: portals_run plan" ∷ [])
+usage_line = line (codes "usage: portals_run once | sim X | plan" ∷ [])
 
 -- the status that is owed, and the text
 pub record Due : Type 0 where
@@ -48,28 +64,36 @@ abbrev pub excess_name : Excess → Refusal
 excess_name Links = TooMany
 excess_name Bytes = TooLarge
 
--- what is written of a description whose shape isn't refused
-abbrev pub done_text : Command → Program → List ℕ
-done_text Plan d = plan_text (plan_of d.shape)
+-- the steps that each rank of a world made
+abbrev pub orders_of : Option WorldState → List ℕ
+orders_of None = []
+orders_of (Some w) = order_text w.shape.ranks (λ r. map listed (histories_in w r))
+
+-- What is written of a description whose shape isn't refused. Where something is run, the run leaves a world.
+abbrev pub done_text : Command → Outline → Lists → Option WorldState → List ℕ
+done_text Once o inputs ran = result_text o inputs
+done_text (Sim seed) o inputs ran = result_text o inputs ++ orders_of ran
+done_text Plan o inputs ran = plan_text (plan_of o)
 
 -- the plan may be too large, from a step on
-abbrev pub due_compiled : Command → Program → Option Excessive → Due
-due_compiled c d None = done (done_text c d)
-due_compiled c d (Some r) = refused (step_line d.shape r.step) (excess_name r.name)
+abbrev pub due_compiled : Command → Outline → Lists → Option WorldState → Option Excessive → Due
+due_compiled c o inputs ran None = done (done_text c o inputs ran)
+due_compiled c o inputs ran (Some r) = refused (step_line o r.step) (excess_name r.name)
 
--- a choice text has no plan
-abbrev pub due_described : Command → Program → Option Chosen → Due
-due_described c d None = due_compiled c d (refusal d.shape)
-due_described c d (Some choices) = refused 0 OneThread
+-- a choice text isn't run yet, and has no plan
+abbrev pub due_described : Command → Program → Option WorldState → Option Chosen → Due
+due_described c d ran None = due_compiled c d.shape d.inputs ran (refusal d.shape)
+due_described c d ran (Some choices) = refused 0 OneThread
 
 -- what a text describes, or its first refusal with its line
-abbrev pub due_of : Command → Result Program (ℕ × Refusal) → Due
-due_of c (Ok d) = due_described c d d.choices
-due_of c (Err refusal) = refused refusal.0 refusal.1
+abbrev pub due_of : Command → Option WorldState → Result Program (ℕ × Refusal) → Due
+due_of c ran (Ok d) = due_described c d ran d.choices
+due_of c ran (Err refusal) = refused refusal.0 refusal.1
 
-abbrev pub due : Option Command → List ℕ → Due
-due None bytes = record { status = Usage; text = usage_line }
-due (Some c) bytes = due_of c (read bytes)
+-- where the call leaves this world, if any
+abbrev pub due : Option Command → List ℕ → Option WorldState → Due
+due None bytes ran = record { status = Usage; text = usage_line }
+due (Some c) bytes ran = due_of c ran (read bytes)
 
 -- what stays in the source: one byte more than the longest description is read, and for other words nothing
 abbrev pub unread : Option Command → List ℕ → List ℕ

@@ -1,4 +1,6 @@
 pub mod Answered
 pub mod Due
+pub mod Headline
 pub mod ReadText
+pub mod Runs
 pub mod Written

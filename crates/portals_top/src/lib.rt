@@ -1,15 +1,21 @@
 //! The whole program over any source and any sink: words in, a status out.
 #![tactic(auto)]
 
+mod drawing;
+mod headline;
 mod planning;
+mod ran;
 mod reading;
 mod refusing;
+mod running;
 mod status;
 #[cfg(test)]
 mod tests;
 mod top;
 mod words;
 
+pub use headline::every_interleaving_is_meant;
+pub use ran::Ran;
 pub use status::Status;
 pub use top::portals_main;
 pub use words::Command;

@@ -1,6 +1,6 @@
 //! The whole program, from the bytes in to the bytes out, with sources and sinks in memory.
 
-use crate::{Status, portals_main};
+use crate::{Ran, Status, portals_main};
 use port_io::{IoTurn, IoTurns, MemorySink, MemorySource, Sink, Source, SureSink, SureSource};
 use ptl_types::Bytes;
 use std::alloc::{AllocError, Global};
@@ -8,6 +8,8 @@ use std::process::Abort;
 use std::test::Fail;
 
 const ONE_RANK: &str = "coll 1\nranks 1\ninput a u8 1\n7\nbroadcast 0 a b\nprint b\nend\n";
+
+const ONE_RANK_RESULT: &str = "b 0 7\nrest\n";
 
 const ONE_RANK_PLAN: &str =
     "plan 1 4 4 local\ncell 0 0 u8 - 0 1\ncell 1 0 u8 - 1 1\ncell 2 0 u8 - 1 2\n\
@@ -42,6 +44,7 @@ fn turns_of(alloc: Global, list: &[IoTurn]) -> Result<IoTurns, Fail> {
 fn gives(
     rt: &impl Abort,
     alloc: Global,
+    ran: &mut Ran,
     command: &[&str],
     text: &str,
     status: Status,
@@ -50,16 +53,148 @@ fn gives(
     let mut source = source_of(alloc, text)?;
     let mut sink = SureSink::with_room(alloc, 4096)?;
     let words = words(alloc, command)?;
-    let answer = portals_main(alloc, words.as_slice(), &mut source, &mut sink);
+    let answer = portals_main(alloc, words.as_slice(), &mut source, &mut sink, ran);
     assert_eq!(rt; sink.as_slice(), output.as_bytes(), "at {text}");
     assert_eq!(rt; answer, status, "at {text}");
     assert_eq!(rt; sink.finishes(), 1, "at {text}");
+    let runs = match command {
+        [word] => *word != "plan",
+        _ => true,
+    };
+    assert_eq!(rt;
+        ran.world.is_some(),
+        runs && status == Status::Done,
+        "at {text}"
+    );
+    Ok(())
+}
+
+#[test]
+fn once_writes_what_each_rank_holds(rt: HostRuntime) -> Result<(), Fail> {
+    let alloc = rt.alloc();
+    let mut ran = Ran::new();
+    for (text, output) in [
+        (
+            "coll 1\nranks 1\ninput a u8 1\n7\nbroadcast 0 a b\nprint b\nend\n",
+            "b 0 7\nrest\n",
+        ),
+        (
+            "coll 1\nranks 3\ninput a u32 1\n5\n6\n9\nbroadcast 2 a b\nprint b\nend\n",
+            "b 0 9\nb 1 9\nb 2 9\nrest\n",
+        ),
+        (
+            "coll 1\nranks 2\ninput a u8 1\n200\n100\nallreduce sum a b\nprint b\nend\n",
+            "b 0 44\nb 1 44\nrest\n",
+        ),
+        (
+            "coll 1\nranks 3\ninput a i8 1\n-128\n127\n0\nreduce 1 min a b\nprint b\nend\n",
+            "b 0\nb 1 -128\nb 2\nrest\n",
+        ),
+        (
+            "coll 1\nranks 1\ninput a u8 1\n5\nallreduce land a b\nprint b\nend\n",
+            "b 0 1\nrest\n",
+        ),
+        (
+            "coll 1\nranks 5\ninput a u16 1\n1\n2\n3\n4\n5\nscan sum a b\nprint b\nend\n",
+            "b 0 1\nb 1 3\nb 2 6\nb 3 10\nb 4 15\nrest\n",
+        ),
+        (
+            "coll 1\nranks 2\ninput a u8 2\n1 2\n3 4\nalltoall a b\nprint b\nend\n",
+            "b 0 1 3\nb 1 2 4\nrest\n",
+        ),
+        (
+            "coll 1\nranks 3\ninput a u8 1\n1\n2\n3\ngather 0 a g\nallgather a h\nprint g\nprint h\n\
+end\n",
+            "g 0 1 2 3\ng 1\ng 2\nh 0 1 2 3\nh 1 1 2 3\nh 2 1 2 3\nrest\n",
+        ),
+        ("coll 1\nranks 4\nbarrier\nend\n", "rest\n"),
+        (
+            "coll 1\nranks 4\ninput a u32 1\n1\n2\n3\n4\nallreduce sum a b\nbarrier\nscan sum b c\n\
+print c\nend\n",
+            "c 0 10\nc 1 20\nc 2 30\nc 3 40\nrest\n",
+        ),
+        (
+            "coll 1\nranks 3\ninput a u8 1\n1\n2\n3\nreduce 1 sum a b\nbroadcast 1 b c\nprint c\nend\n",
+            "c 0 6\nc 1 6\nc 2 6\nrest\n",
+        ),
+        (
+            "coll 1\nranks 2\ninput a i16 1\n300\n300\nallreduce prod a m\nprint m\nend\n",
+            "m 0 24464\nm 1 24464\nrest\n",
+        ),
+        (
+            "coll 1\nranks 3\ninput a u8 1\n5\n6\n9\nbroadcast 2 a b\nprint b\nprint a\nend\n",
+            "b 0 9\nb 1 9\nb 2 9\na 0 5\na 1 6\na 2 9\nrest\n",
+        ),
+        (
+            "coll 1\nranks 1\ncomplete remote\ninput a u8 1\n7\nbroadcast 0 a b\nprint b\nend\n",
+            "b 0 7\nrest\n",
+        ),
+        (
+            "coll 2\nranks 4\ngroup odd 1 3\ninput a u8 1\n1\n2\n3\n4\non odd allreduce sum a b\n\
+on odd broadcast 1 a c\nprint b\nprint c\nend\n",
+            "b 0\nb 1 6\nb 2\nb 3 6\nc 0\nc 1 4\nc 2\nc 3 4\nrest\n",
+        ),
+        ("coll 2\nranks 256\nbarrier\nend\n", "rest\n"),
+        (
+            "coll 2\nranks 2\ninput a u8 2\n1 2\n3 4\nscatter 1 a b\nreducescatter sum a c\n\
+exscan sum a d\nprint b\nprint c\nprint d\nend\n",
+            "b 0 3\nb 1 4\nc 0 4\nc 1 6\nd 0\nd 1 1 2\nrest\n",
+        ),
+        (
+            "coll 2\nranks 3\ngroup g 0 2\ninput a u8 1\n1\n2\n3\non g allreduce sum a b\n\
+gatherv 1 b c\nprint c\nend\n",
+            "c 0\nc 1 4 4\nc 2\nrest\n",
+        ),
+    ] {
+        gives(&rt, alloc, &mut ran, &["once"], text, Status::Done, output)?;
+    }
+    Ok(())
+}
+
+/// A reduction, a barrier and a scan on four ranks.
+const THREE_STEPS: &str =
+    "coll 1\nranks 4\ninput a u32 1\n1\n2\n3\n4\nallreduce sum a b\nbarrier\nscan sum b c\nprint c\nend\n";
+
+#[test]
+fn sim_writes_the_order_that_a_seed_chooses(rt: HostRuntime) -> Result<(), Fail> {
+    let alloc = rt.alloc();
+    let mut ran = Ran::new();
+    for (seed, output) in [
+        (
+            "1",
+            "c 0 10\nc 1 20\nc 2 30\nc 3 40\nrest\n\
+order 0 s f0 f1 f19 f20 f2 r1 r0 f21 f3 r2 r0 f4 r0 f22 f6 f23 f5 f7 f8 f24 f13 f9 r0 r2 r3 f25 f10 f11 f26 f12 f27 f14 r0 f16 f15 f28 r0 f29 f18 f17 r0 f30\n\
+order 1 s f0 f19 f1 f2 r1 f3 r1 f20 f21 r3 f5 f22 f4 r0 r0 f13 f23 r1 f6 f7 f8 f9 f11 f24 f25 f10 r3 f26 f12 f27 f14 r1 f28 f15 r1 f16 r0 f17 f29 f18 r1 f30\n\
+order 2 s f0 f18 f17 f1 f2 r2 f19 f3 r2 f20 f5 f4 r0 f12 f21 r2 f6 f22 f7 f8 r1 f9 f10 f23 r1 r0 f24 r0 f11 f13 f25 r2 f14 f15 f26 r2 f16 r2 f27 f28\n\
+order 3 s f0 f16 f1 f2 r3 f18 f3 r3 f5 f17 f4 f19 r1 f6 f20 f7 f12 r1 f8 r3 r2 f9 f10 f23 f11 f22 f24 f21 f13 r3 f25 f14 r3 r1 r2 f15 r3 f26 f27\n",
+        ),
+        (
+            "2",
+            "c 0 10\nc 1 20\nc 2 30\nc 3 40\nrest\n\
+order 0 s f19 f1 f0 f2 f20 r0 r2 f3 r0 f21 r1 f4 r0 f5 f13 r0 f6 f7 f8 f9 f23 f22 r3 f24 f11 f25 f10 r2 f12 f14 f26 f27 r0 f15 f16 r0 f18 f28 f17 f29 r0 f30\n\
+order 1 s f0 f20 f19 f1 f2 r3 r1 f21 f3 r1 f22 f4 f5 r0 f6 f13 f7 r1 f23 f9 r0 f24 r3 f8 f11 f10 f25 f26 f12 f27 f14 r1 f28 f16 f15 r0 r1 f18 f29 f17 r1 f30\n\
+order 2 s f0 f18 f2 f1 f17 r2 f3 f19 r2 f4 f20 f5 r0 f12 f6 r2 r1 f8 f7 f23 f21 f10 f22 r0 f11 f9 f13 r2 f26 f24 f14 f15 f25 r2 r1 r0 f27 f16 r2 f28\n\
+order 3 s f0 f16 f2 f17 r3 f1 f18 f3 r3 f19 f4 f5 r1 f12 f6 r3 f21 f7 f8 r2 f10 f9 f22 f20 r1 f23 r2 f11 f13 r3 f14 f25 f24 r3 f15 f26 r3 r1 f27\n",
+        ),
+    ] {
+        let words = ["sim", seed];
+        gives(
+            &rt,
+            alloc,
+            &mut ran,
+            &words,
+            THREE_STEPS,
+            Status::Done,
+            output,
+        )?;
+    }
     Ok(())
 }
 
 #[test]
 fn a_plan_has_its_cells_its_links_and_where_each_rank_is_done(rt: HostRuntime) -> Result<(), Fail> {
     let alloc = rt.alloc();
+    let mut ran = Ran::new();
     for (text, output) in [
         (ONE_RANK, ONE_RANK_PLAN),
         (
@@ -80,7 +215,7 @@ link 8 6 0 2 9 0 atomic\nlink 9 8 0 2 9 0 atomic\nlink 10 9 0 2 10 0 put\nlink 1
 link 12 10 0 2 11 0 put\ndone 0 9\ndone 1 2\ndone 2 8\nend\n",
         ),
     ] {
-        gives(&rt, alloc, &["plan"], text, Status::Done, output)?;
+        gives(&rt, alloc, &mut ran, &["plan"], text, Status::Done, output)?;
     }
     Ok(())
 }
@@ -88,10 +223,11 @@ link 12 10 0 2 11 0 put\ndone 0 9\ndone 1 2\ndone 2 8\nend\n",
 #[test]
 fn a_barrier_of_256_ranks_has_a_plan(rt: HostRuntime) -> Result<(), Fail> {
     let alloc = rt.alloc();
+    let mut ran = Ran::new();
     let mut source = source_of(alloc, "coll 2\nranks 256\nbarrier\nend\n")?;
     let mut sink = SureSink::with_room(alloc, 200_000)?;
     let words = words(alloc, &["plan"])?;
-    let answer = portals_main(alloc, words.as_slice(), &mut source, &mut sink);
+    let answer = portals_main(alloc, words.as_slice(), &mut source, &mut sink, &mut ran);
     assert_eq!(rt; answer, Status::Done);
     assert_eq!(rt; sink.as_slice().len(), 188_329);
     let head = b"plan 256 2560 4352 local\ncell 0 0 u8 - 0 1\n";
@@ -106,6 +242,7 @@ fn a_barrier_of_256_ranks_has_a_plan(rt: HostRuntime) -> Result<(), Fail> {
 #[test]
 fn a_refused_text_gets_its_line(rt: HostRuntime) -> Result<(), Fail> {
     let alloc = rt.alloc();
+    let mut ran = Ran::new();
     for (text, output) in [
         ("", "refused 1 Unended\n"),
         ("coll 3\nranks 1\nend\n", "refused 1 BadHeader\n"),
@@ -171,7 +308,15 @@ fn a_refused_text_gets_its_line(rt: HostRuntime) -> Result<(), Fail> {
             "refused 4 BadLine\n",
         ),
     ] {
-        gives(&rt, alloc, &["plan"], text, Status::Refused, output)?;
+        gives(
+            &rt,
+            alloc,
+            &mut ran,
+            &["plan"],
+            text,
+            Status::Refused,
+            output,
+        )?;
     }
     Ok(())
 }
@@ -202,6 +347,7 @@ fn a_plan_that_is_too_large_is_refused_in_the_line_of_its_step(
     rt: HostRuntime,
 ) -> Result<(), Fail> {
     let alloc = rt.alloc();
+    let mut ran = Ran::new();
     for (head, output) in [
         ("coll 1\nranks 64\n", "refused 128 TooMany\n"),
         (
@@ -218,6 +364,7 @@ fn a_plan_that_is_too_large_is_refused_in_the_line_of_its_step(
         gives(
             &rt,
             alloc,
+            &mut ran,
             &["plan"],
             text.as_str(),
             Status::Refused,
@@ -235,7 +382,8 @@ fn a_plan_that_is_too_large_is_refused_in_the_line_of_its_step(
     gives(
         &rt,
         alloc,
-        &["plan"],
+        &mut ran,
+        &["once"],
         text.as_str(),
         Status::Refused,
         "refused 68 TooLarge\n",
@@ -245,11 +393,12 @@ fn a_plan_that_is_too_large_is_refused_in_the_line_of_its_step(
 #[test]
 fn a_text_past_the_limit_is_read_no_further(rt: HostRuntime) -> Result<(), Fail> {
     let alloc = rt.alloc();
+    let mut ran = Ran::new();
     let long = vec![in alloc; b'x'; 1_048_580]?;
     let mut source = SureSource::new(Bytes::from_vec(long));
     let mut sink = SureSink::with_room(alloc, 64)?;
     let words = words(alloc, &["plan"])?;
-    let answer = portals_main(alloc, words.as_slice(), &mut source, &mut sink);
+    let answer = portals_main(alloc, words.as_slice(), &mut source, &mut sink, &mut ran);
     assert_eq!(rt; answer, Status::Refused);
     assert_eq!(rt; sink.as_slice(), b"refused 0 TooLong\n".as_slice());
     let mut left = [0u8; 8];
@@ -261,10 +410,14 @@ fn a_text_past_the_limit_is_read_no_further(rt: HostRuntime) -> Result<(), Fail>
 fn usage_at(rt: &impl Abort, alloc: Global, list: &[&str]) -> Result<(), Fail> {
     let mut source = source_of(alloc, "ab")?;
     let mut sink = SureSink::with_room(alloc, 64)?;
+    let mut ran = Ran::new();
     let words = words(alloc, list)?;
-    let answer = portals_main(alloc, words.as_slice(), &mut source, &mut sink);
+    let answer = portals_main(alloc, words.as_slice(), &mut source, &mut sink, &mut ran);
     assert_eq!(rt; answer, Status::Usage);
-    assert_eq!(rt; sink.as_slice(), b"usage: portals_run plan\n".as_slice());
+    assert_eq!(rt;
+        sink.as_slice(),
+        b"usage: portals_run once | sim X | plan\n".as_slice()
+    );
     assert_eq!(rt; sink.finishes(), 1);
     let mut left = [0u8; 4];
     assert_eq!(rt; source.read(&mut left), Ok(2));
@@ -275,12 +428,16 @@ fn usage_at(rt: &impl Abort, alloc: Global, list: &[&str]) -> Result<(), Fail> {
 fn other_words_leave_the_source_unread(rt: HostRuntime) -> Result<(), Fail> {
     let alloc = rt.alloc();
     usage_at(&rt, alloc, &[])?;
-    usage_at(&rt, alloc, &["plan", "now"])?;
+    usage_at(&rt, alloc, &["once", "now"])?;
     usage_at(&rt, alloc, &["Plan"])?;
+    usage_at(&rt, alloc, &["sim"])?;
+    usage_at(&rt, alloc, &["sim", "01"])?;
+    usage_at(&rt, alloc, &["sim", "18446744073709551616"])?;
+    usage_at(&rt, alloc, &["sim", "1", "2"])?;
     usage_at(&rt, alloc, &["run", "2"])
 }
 
-/// Runs `plan` by scripts of the source and of the sink.
+/// Runs `once` by scripts of the source and of the sink.
 fn scripted(
     rt: &impl Abort,
     alloc: Global,
@@ -292,12 +449,14 @@ fn scripted(
 ) -> Result<(), Fail> {
     let bytes = Bytes::of(alloc, ONE_RANK.as_bytes())?;
     let mut source = MemorySource::new(bytes, turns_of(alloc, reads)?);
-    let mut sink = MemorySink::with_room(alloc, turns_of(alloc, writes)?, 512)?;
-    let words = words(alloc, &["plan"])?;
-    let answer = portals_main(alloc, words.as_slice(), &mut source, &mut sink);
+    let mut sink = MemorySink::with_room(alloc, turns_of(alloc, writes)?, 64)?;
+    let mut ran = Ran::new();
+    let words = words(alloc, &["once"])?;
+    let answer = portals_main(alloc, words.as_slice(), &mut source, &mut sink, &mut ran);
     assert_eq!(rt; answer, status);
     assert_eq!(rt; sink.as_slice(), output.as_bytes());
     assert_eq!(rt; sink.finishes(), finishes);
+    assert_eq!(rt; ran.world.is_some(), status != Status::ReadFault);
     Ok(())
 }
 
@@ -305,7 +464,15 @@ fn scripted(
 fn pieces_and_faults_of_both_ends(rt: HostRuntime) -> Result<(), Fail> {
     let alloc = rt.alloc();
     let single = [IoTurn::Take(1); 200];
-    scripted(&rt, alloc, &single, &single, Status::Done, ONE_RANK_PLAN, 1)?;
+    scripted(
+        &rt,
+        alloc,
+        &single,
+        &single,
+        Status::Done,
+        ONE_RANK_RESULT,
+        1,
+    )?;
     scripted(
         &rt,
         alloc,
@@ -321,16 +488,16 @@ fn pieces_and_faults_of_both_ends(rt: HostRuntime) -> Result<(), Fail> {
         &[],
         &[IoTurn::Take(3), IoTurn::Fail],
         Status::WriteFault,
-        "pla",
+        "b 0",
         0,
     )?;
     scripted(
         &rt,
         alloc,
         &[],
-        &[IoTurn::Take(512), IoTurn::Fail],
+        &[IoTurn::Take(64), IoTurn::Fail],
         Status::WriteFault,
-        ONE_RANK_PLAN,
+        ONE_RANK_RESULT,
         0,
     )?;
     scripted(&rt, alloc, &[], &[IoTurn::Fail], Status::WriteFault, "", 0)

@@ -1,28 +1,32 @@
 //! The whole program.
 
-ghost use Rattle.std.specs.Prelude.{◌≡◌, List, ℕ, Option, None, [], map, string_bytes};
+ghost use Rattle.std.specs.Prelude.{◌≡◌, List, ℕ, None, [], map, string_bytes};
+ghost use Rattle.coll_shape.specs.Meaning.{AreInputs};
 ghost use Rattle.coll_lang.specs.Language.{read};
 ghost use Rattle.shape_plans.specs.Footprint.{refusal};
-ghost use Rattle.portals_top.specs.Due.{command, due, due_compiled, due_described, due_of};
-ghost use Rattle.portals_top.specs.Answered.{IsTold, Answered};
+ghost use Rattle.portals_top.specs.Answered.{Answered, HandsBack, IsTold, LeavesOf, LeavesWorld};
+ghost use Rattle.portals_top.specs.Due.{command, done, done_text, due, due_compiled, due_described, due_of};
 ghost use Rattle.portals_top.specs.Written.{Written};
 
 use crate::planning::plan;
+use crate::ran::Ran;
 use crate::reading::{ReadError, read_text};
 use crate::refusing::{refuse, refuse_step};
+use crate::running::{once, sim};
 use crate::status::Status;
 use crate::words::{Command, command_in};
 use coll_lang::{Description, ParseFault, Refusal, parse};
+use coll_shape::Inputs;
 use port_io::{Sink, Source};
 use run_text::write_short;
-use schedule_compiler::{CompileFault, compile};
+use schedule_compiler::{CompileFault, Schedule, compile};
 use std::alloc::Global;
 
-const USAGE: &[u8] = b"usage: portals_run plan\n";
+const USAGE: &[u8] = b"usage: portals_run once | sim X | plan\n";
 
 /// Writes the usage line.
 fn usage<K: Sink>(sink: &mut K) -> Status
-    ensures { Written (due None []) (K.outflow sink.old) (K.outflow sink.new) result }
+    ensures { Written (due None [] None) (K.outflow sink.old) (K.outflow sink.new) result }
 {
     match write_short(sink, USAGE) {
         Ok(()) => Status::Usage,
@@ -30,41 +34,84 @@ fn usage<K: Sink>(sink: &mut K) -> Status
     }
 }
 
-/// Compiles a description and answers it.
-fn compiled<K: Sink>(alloc: Global, command: Command, d: &Description, sink: &mut K) -> Status
-    ensures { Written (due_compiled command d.now (refusal d.now.shape)) (K.outflow sink.old) (K.outflow sink.new) result }
+/// Does what a command asks of a schedule with its inputs.
+fn run<K: Sink>(
+    alloc: Global,
+    command: Command,
+    schedule: Schedule,
+    inputs: Inputs,
+    sink: &mut K,
+    ran: &mut Ran,
+) -> Status
+    requires given { AreInputs schedule inputs }
+    requires none { ran.old.world ≡ None }
+    ensures written { Written (done (done_text command schedule inputs ran.new.world)) (K.outflow sink.old) (K.outflow sink.new) result }
+    ensures world { HandsBack result Status.Done (LeavesWorld command schedule inputs) ran.new.world }
 {
-    let shape = d.shape();
-    match compile(alloc, shape) {
-        Ok(schedule) => match command {
-            Command::Plan => plan(alloc, sink, schedule),
-        },
+    match command {
+        Command::Once => once(alloc, sink, schedule, inputs, ran),
+        Command::Sim { seed } => sim(alloc, sink, seed, schedule, inputs, ran),
+        Command::Plan => plan(alloc, sink, schedule),
+    }
+}
+
+/// Compiles a description and answers it.
+fn compiled<K: Sink>(
+    alloc: Global,
+    command: Command,
+    d: Description,
+    sink: &mut K,
+    ran: &mut Ran,
+) -> Status
+    requires none { ran.old.world ≡ None }
+    ensures written { Written (due_compiled command d.shape d.inputs ran.new.world (refusal d.shape)) (K.outflow sink.old) (K.outflow sink.new) result }
+    ensures world { HandsBack result (due_compiled command d.shape d.inputs ran.new.world (refusal d.shape)).status (LeavesWorld command d.shape d.inputs) ran.new.world }
+{
+    let (shape, inputs) = d.into_parts();
+    match compile(alloc, &shape) {
+        Ok(schedule) => run(alloc, command, schedule, inputs, sink, ran),
         Err(CompileFault::TooMany { step }) => {
-            refuse_step(alloc, sink, shape, step, Refusal::TooMany)
+            refuse_step(alloc, sink, &shape, step, Refusal::TooMany)
         }
         Err(CompileFault::TooLarge { step }) => {
-            refuse_step(alloc, sink, shape, step, Refusal::TooLarge)
+            refuse_step(alloc, sink, &shape, step, Refusal::TooLarge)
         }
         Err(CompileFault::NoMemory) => Status::NoMemory,
     }
 }
 
 /// Answers a description.
-fn described<K: Sink>(alloc: Global, command: Command, d: &Description, sink: &mut K) -> Status
-    ensures { Written (due_described command d.now d.now.choices) (K.outflow sink.old) (K.outflow sink.new) result }
+fn described<K: Sink>(
+    alloc: Global,
+    command: Command,
+    d: Description,
+    sink: &mut K,
+    ran: &mut Ran,
+) -> Status
+    requires none { ran.old.world ≡ None }
+    ensures written { Written (due_described command d ran.new.world d.choices) (K.outflow sink.old) (K.outflow sink.new) result }
+    ensures world { HandsBack result (due_described command d ran.new.world d.choices).status (LeavesWorld command d.shape d.inputs) ran.new.world }
 {
     match d.choices() {
         Some(_) => refuse(alloc, sink, 0, Refusal::OneThread),
-        None => compiled(alloc, command, d, sink),
+        None => compiled(alloc, command, d, sink, ran),
     }
 }
 
 /// Answers a text that was read.
-fn answer<K: Sink>(alloc: Global, command: Command, text: &[u8], sink: &mut K) -> Status
-    ensures { Written (due_of command (read text.now)) (K.outflow sink.old) (K.outflow sink.new) result }
+fn answer<K: Sink>(
+    alloc: Global,
+    command: Command,
+    text: &[u8],
+    sink: &mut K,
+    ran: &mut Ran,
+) -> Status
+    requires none { ran.old.world ≡ None }
+    ensures written { Written (due_of command ran.new.world (read text.now)) (K.outflow sink.old) (K.outflow sink.new) result }
+    ensures world { HandsBack result (due_of command ran.new.world (read text.now)).status (LeavesOf command (read text.now)) ran.new.world }
 {
     match parse(alloc, text) {
-        Ok(d) => described(alloc, command, &d, sink),
+        Ok(d) => described(alloc, command, d, sink, ran),
         Err(ParseFault::Refused { line, name }) => refuse(alloc, sink, line, name),
         Err(ParseFault::NoMemory) => Status::NoMemory,
     }
@@ -76,12 +123,14 @@ fn read_and_answer<S: Source, K: Sink>(
     command: Command,
     source: &mut S,
     sink: &mut K,
+    ran: &mut Ran,
 ) -> Status
+    requires none { ran.old.world ≡ None }
     ensures { (bytes : List ℕ) × IsTold (S.inflow source.old).left bytes
-        × Answered (Some command) bytes (S.inflow source.old) (S.inflow source.new) (K.outflow sink.old) (K.outflow sink.new) result }
+        × Answered (Some command) bytes (S.inflow source.old) (S.inflow source.new) (K.outflow sink.old) (K.outflow sink.new) ran.new.world result }
 {
     match read_text(alloc, source) {
-        Ok(text) => answer(alloc, command, text.as_slice(), sink),
+        Ok(text) => answer(alloc, command, text.as_slice(), sink, ran),
         Err(ReadError::Failed) => Status::ReadFault,
         Err(ReadError::NoMemory) => Status::NoMemory,
     }
@@ -90,22 +139,26 @@ fn read_and_answer<S: Source, K: Sink>(
 /// The whole program: reads what the words ask for from the source, writes the text that is owed to the sink, and answers
 /// how it ended. The words are those of the command line without the program's name.
 ///
-/// `plan` reads a description and writes the plan that it is compiled to; nothing is run. All other words get the usage
-/// line, and leave the source unread.
+/// `once` reads a description and runs it on one thread. `sim X` runs it in the order that the words of a generator with the
+/// seed X choose, and writes that order too. `plan` writes the plan that the description is compiled to; nothing is run. All
+/// other words get the usage line, and leave the source unread.
 ///
-/// Of a source that doesn't tell its bytes there are bytes for which all this holds; of a sink that doesn't tell what it
-/// took nothing is said of the text.
+/// The world that ran is handed back in `ran`, where a result was owed and the run was made; after every other answer it is
+/// none, whatever it was before. Of a source that doesn't tell its bytes there are bytes for which all this holds; of a
+/// sink that doesn't tell what it took nothing is said of the text.
 pub fn portals_main<S: Source, K: Sink>(
     alloc: Global,
     words: &[String],
     source: &mut S,
     sink: &mut K,
+    ran: &mut Ran,
 ) -> Status
     ensures { (bytes : List ℕ) × IsTold (S.inflow source.old).left bytes
-        × Answered (command (map string_bytes words.now)) bytes (S.inflow source.old) (S.inflow source.new) (K.outflow sink.old) (K.outflow sink.new) result }
+        × Answered (command (map string_bytes words.now)) bytes (S.inflow source.old) (S.inflow source.new) (K.outflow sink.old) (K.outflow sink.new) ran.new.world result }
 {
+    ran.world = None;
     match command_in(words) {
-        Some(command) => read_and_answer(alloc, command, source, sink),
+        Some(command) => read_and_answer(alloc, command, source, sink, ran),
         None => usage(sink),
     }
 }

@@ -1,7 +1,14 @@
+use Rattle.portals_top.proofs.Answering.{no-world-refused}
 use Rattle.portals_top.proofs.top.described.Goals as goal
 
 pub returns-in-Some : goal.returns-in-Some
-returns-in-Some g c = rw (← c.in-Some.ensures.told) c.refuse.ensures
+returns-in-Some g c = record {
+  written = rw (← c.in-Some.ensures.told) c.refuse.ensures;
+  world = rw (← c.in-Some.ensures.told, c.requires.none) (no-world-refused _ _ c.refuse.ensures.allowed);
+}
 
 pub returns-in-None : goal.returns-in-None
-returns-in-None g c = rw (← c.in-None.ensures.told) c.compiled.ensures
+returns-in-None g c = record {
+  written = rw (← c.in-None.ensures.told) c.compiled.ensures.written;
+  world = rw (← c.in-None.ensures.told) c.compiled.ensures.world;
+}

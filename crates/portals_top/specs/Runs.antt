@@ -1,0 +1,53 @@
+-- What a run leaves, and the order that `sim` chooses.
+use Rattle.std.specs.Prelude.{ℕ, zero, suc, ◌≡◌, ◌<◌, ◌%◌, []}
+use Rattle.rand_core.specs.Pcg32Seed.{pcg32_seed}
+use Rattle.rand_pcg.specs.Lcg.{Lcg}
+use Rattle.rand_pcg.specs.Pcg.{pcg32, pcg32_of_seed}
+use Rattle.coll_shape.specs.Outline.{Outline}
+use Rattle.coll_shape.specs.Meaning.{Lists}
+use Rattle.plan_view.specs.Slots.{Slots}
+use Rattle.plan_cuts.specs.Cut.{IsAtRest}
+use Rattle.plan_cuts.specs.Plans.{IsComplete}
+use Rattle.plan_orders.specs.Chosen.{IsChosen}
+use Rattle.shape_plans.specs.Drawing.{plan_of}
+use Rattle.job_laws.specs.Results.{AreMeant}
+use Rattle.worlds.specs.Standing.{IsStanding}
+use Rattle.worlds.specs.World.{AreSlots, WorldState, histories_in, memory_in, ranks_in, steps_in}
+
+-- A world of this shape and these inputs, at rest: whatever slots agree with what its ranks' tables gave, no step is left and every rank
+-- is complete; and each buffer at each rank is what the description means.
+pub record IsRun (o : Outline) (given : Lists) (w : WorldState) : Type 0 where
+  pub shape : w.shape ≡ o
+  pub inputs : w.inputs ≡ given
+  -- its histories are a cut
+  pub standing : IsStanding w
+  -- nothing of another job may come
+  pub own : w.spare ≡ 0
+  pub none : (slots : ℕ → Slots) → AreSlots w slots → steps_in w slots ≡ []
+  pub rest : (slots : ℕ → Slots) → AreSlots w slots → IsAtRest (ranks_in w slots) (histories_in w)
+  pub complete : (slots : ℕ → Slots) → AreSlots w slots → (r : ℕ) → r < w.shape.ranks →
+      IsComplete (plan_of w.shape) w.inputs slots (histories_in w) r
+  pub meant : AreMeant w.shape w.inputs (memory_in w)
+
+-- the generator that a number seeds: PCG XSH RR 64/32, as its crate seeds it
+abbrev pub generator : ℕ → Lcg
+generator seed = pcg32_of_seed (pcg32_seed 16 seed)
+
+-- of n steps it chooses the one whose number is its next word modulo n
+abbrev pub chosen_number : Lcg → ℕ → ℕ
+chosen_number g n = (pcg32 g).0 % n
+
+abbrev pub words_left : Lcg → ℕ → Lcg
+words_left g n = (pcg32 g).1
+
+-- the generator after so many words, and the words, from 0 on
+abbrev pub after_words : ℕ → ℕ → Lcg
+after_words seed zero = generator seed
+after_words seed (suc i) = (pcg32 (after_words seed i)).1
+
+abbrev pub word : ℕ → ℕ → ℕ
+word seed i = (pcg32 (after_words seed i)).0
+
+-- its histories are those of the chosen run of the words: each names one of the enabled steps, until there is none
+abbrev pub IsInOrder : ℕ → WorldState → Type 0
+IsInOrder seed w = (slots : ℕ → Slots) → AreSlots w slots → IsChosen (ranks_in w slots) (word seed) (histories_in w)

@@ -1,4 +1,0 @@
-pub mod Forms
-pub mod Runs
-pub mod Worlds
-pub mod Cells
