@@ -85,16 +85,16 @@ kept_in_cut o inputs slots w formed accepted given cut j hj is a m ha hm passed 
 pub cell_lies : (o : Outline) (inputs : Inputs) (slots : ℕ → Slots) (w : Histories) → IsWellFormed o → refusal o ≡ None → AreInputs o inputs
     → IsCut (system_of (plan_of o) inputs slots) w → (r c : ℕ) → r < o.ranks → c < length (plan_of o).cells → (cell (plan_of o) c).rank ≡ r
     → start_in (plan_of o) (own (plan_of o) r) c + (cell (plan_of o) c).length ≤ length
-        (state_at (system_of (plan_of o) inputs slots) w r).memory
+    (state_at (system_of (plan_of o) inputs slots) w r).memory
 cell_lies o inputs slots w formed accepted given cut r c hr h is =
     let sound = sound_for o inputs formed accepted given in
     let fit = inputs_fit o inputs formed given in
     let sh = shape combined-starts (plan_of o) inputs sound fit slots w cut r (rank_of o r formed hr) in
     let sim = simulation combined-starts (plan_of o) inputs sound fit slots w cut r (rank_of o r formed hr) in
     let cells = flat_map (λ d. content (plan_of o) (all_seen (plan_of o) (moves_at (plan_of o) w) r).came d
-        (initial (plan_of o) inputs d)) (own (plan_of o) r) in
+    (initial (plan_of o) inputs d)) (own (plan_of o) r) in
     let a = within_flat (cell_length (plan_of o)) (λ d. content (plan_of o) (all_seen (plan_of o) (moves_at (plan_of o) w) r).came d
-        (initial (plan_of o) inputs d)) (own (plan_of o) r)
+    (initial (plan_of o) inputs d)) (own (plan_of o) r)
     (λ d j. sim.sized d (own-In (plan_of o) r d j).0) c (In-own (plan_of o) r c h is) in
     let b = ap length sh.memory ∙ length-append cells sh.annex.tail in
     omega (arith, a, b)
