@@ -80,7 +80,8 @@ HandsBack ReadFault owed leaves ran = ran ≡ None
 HandsBack NoMemory owed leaves ran = ran ≡ None
 
 -- All that holds after a call with this command, the source having these bytes.
-pub record Answered (command : Option Command) (bytes : List ℕ) (source source' : Inflow) (sink sink' : Outflow) (ran : Option WorldState) (status : Status) : Type 0 where
+pub record Answered (command : Option Command) (bytes : List ℕ) (source source' : Inflow) (sink sink' : Outflow)
+    (ran : Option WorldState) (status : Status) : Type 0 where
   pub allowed : MayAnswer status (due command bytes ran).status
   pub read_fault : status ≡ ReadFault → Rose source.faults source'.faults
   pub write_fault : status ≡ WriteFault → Rose sink.faults sink'.faults

@@ -42,7 +42,7 @@ command (word ∷ number ∷ other ∷ words) = None
 abbrev pub usage_line : List ℕ
 usage_line = line (codes "usage: portals_run once | sim X | plan" ∷ [])
 
--- the status that is owed, and the text
+-- the status that is owed, which is Done, Usage or Refused, and the text
 pub record Due : Type 0 where
   pub status : Status
   pub text : List ℕ
@@ -80,7 +80,7 @@ abbrev pub due_compiled : Command → Outline → Lists → Option WorldState �
 due_compiled c o inputs ran None = done (done_text c o inputs ran)
 due_compiled c o inputs ran (Some r) = refused (step_line o r.step) (excess_name r.name)
 
--- a choice text isn't run yet, and has no plan
+-- a choice text isn't run yet, and its steps have no plan
 abbrev pub due_described : Command → Program → Option WorldState → Option Chosen → Due
 due_described c d ran None = due_compiled c d.shape d.inputs ran (refusal d.shape)
 due_described c d ran (Some choices) = refused 0 OneThread

@@ -15,10 +15,10 @@ use Rattle.job_laws.specs.Results.{AreMeant}
 abbrev pub ranks_of : Program → (ℕ → Slots) → System
 ranks_of d slots = system_of (plan_of d.shape) d.inputs slots
 
--- For every accepted description, whatever its number of ranks and whatever slots the interfaces' tables give, and for every interleaving of
--- starts, deliveries and firings that keeps the order of each lane: once every rank has started and no message or ready operation is left,
--- every rank is complete (each completion counter stands at its threshold), and each buffer at each rank, printed or not, is what the
--- description means of the inputs.
+-- For every accepted description, whatever its number of ranks and whatever slots the interfaces' tables give, and for every
+-- interleaving of starts, deliveries and firings that keeps the order of each lane: once every rank has started and no message or
+-- ready operation is left, every rank is complete (each completion counter stands at its threshold), and each buffer at each rank,
+-- printed or not, is what the description means of the inputs.
 abbrev pub Headline : Type 0
 Headline = (bytes : List ℕ) (d : Program) (slots : ℕ → Slots) (world : Histories) (held : Lanes) →
     read bytes ≡ Ok d → refusal d.shape ≡ None →

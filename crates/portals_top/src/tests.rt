@@ -342,6 +342,15 @@ fn zeros(alloc: Global) -> Result<String, AllocError> {
     Ok(line)
 }
 
+/// Adds 61 allgathers of the input.
+fn push_allgathers(alloc: Global, text: &mut String) -> Result<(), AllocError> {
+    for k in 1..62u32 {
+        let line = format!(in alloc; "allgather a b{k}\n")?;
+        text.push_str(line.as_str())?;
+    }
+    Ok(())
+}
+
 #[test]
 fn a_plan_that_is_too_large_is_refused_in_the_line_of_its_step(
     rt: HostRuntime,
@@ -356,10 +365,7 @@ fn a_plan_that_is_too_large_is_refused_in_the_line_of_its_step(
         ),
     ] {
         let mut text = with_input(alloc, head, "input a u8 1\n", "7\n")?;
-        for k in 1..62u32 {
-            let line = format!(in alloc; "allgather a b{k}\n")?;
-            text.push_str(line.as_str())?;
-        }
+        push_allgathers(alloc, &mut text)?;
         text.push_str("end\n")?;
         gives(
             &rt,
@@ -378,7 +384,8 @@ fn a_plan_that_is_too_large_is_refused_in_the_line_of_its_step(
         "input a u64 4096\n",
         zeros.as_str(),
     )?;
-    text.push_str("allgather a b\nend\n")?;
+    push_allgathers(alloc, &mut text)?;
+    text.push_str("end\n")?;
     gives(
         &rt,
         alloc,

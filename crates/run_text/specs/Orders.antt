@@ -1,5 +1,5 @@
 -- The lines of orders of local steps, and of what fails of them.
-use Rattle.std.specs.Prelude.{ℕ, List, [], ◌∷◌, map, codes}
+use Rattle.std.specs.Prelude.{ℕ, List, [], ◌∷◌, ◌++◌, map, codes}
 use Rattle.std.specs.List.{flat_map}
 use Rattle.std.specs.Fmt.{decimal}
 use Rattle.ptl_types.specs.declared.headers.Lane.TheVariants.{Request, Answer}
@@ -12,10 +12,10 @@ use Rattle.coll_text.specs.Text.{line}
 
 -- `s`, `rS`, `aS` or `fT`
 abbrev pub step_word : LocalStep → List ℕ
-step_word Start = 115 ∷ []
-step_word (Receive source Request) = 114 ∷ decimal source
-step_word (Receive source Answer) = 97 ∷ decimal source
-step_word (Fire number) = 102 ∷ decimal number
+step_word Start = codes "s"
+step_word (Receive source Request) = codes "r" ++ decimal source
+step_word (Receive source Answer) = codes "a" ++ decimal source
+step_word (Fire number) = codes "f" ++ decimal number
 
 abbrev pub order_line : ℕ → List LocalStep → List ℕ
 order_line r steps = line (codes "order" ∷ decimal r ∷ map step_word steps)

@@ -27,7 +27,8 @@ abbrev pub completion_word : Bool → List ℕ
 completion_word remote = if remote then codes "remote" else codes "local"
 
 abbrev pub plan_line : PlanLine → List ℕ
-plan_line (Head ranks cells links remote) = line (codes "plan" ∷ decimal ranks ∷ decimal cells ∷ decimal links ∷ completion_word remote ∷ [])
+plan_line (Head ranks cells links remote) =
+    line (codes "plan" ∷ decimal ranks ∷ decimal cells ∷ decimal links ∷ completion_word remote ∷ [])
 plan_line (CellLine n c) =
     line (codes "cell" ∷ decimal n ∷ decimal c.rank ∷ type_word c.ty ∷ op_or_none c.op ∷ decimal c.length ∷ decimal c.needs ∷ [])
 plan_line (LinkLine n l) =
