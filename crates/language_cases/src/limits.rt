@@ -285,7 +285,8 @@ type Numbered = (
 );
 
 /// The 64th and the 65th group and choice step, the 128th and the 129th buffer by each kind of step.
-static NUMBERED: [Numbered; 34] = [
+static NUMBERED: [Numbered; 35] = [
+    (JOB_2, ("tickets t", "\n"), 65, b"", Some((67, "TooMany"))),
     (JOB, ("input a", " u8 1\n7\n"), 128, b"", None),
     (
         JOB,
@@ -541,7 +542,11 @@ fn bytes_of_a_text_of_version_2(rt: HostRuntime) -> Result<(), Fail> {
 }
 
 /// Behind an input of 4096 elements at each of 64 ranks, on the lines 1 to 67.
-static ELEMENTS: [(&[u8], Answer); 4] = [
+static ELEMENTS: [(&[u8], Answer); 5] = [
+    (
+        b"allgather a b\nallgather b c\ngather 0 c d\n",
+        Some((70, "TooLarge")),
+    ),
     (
         b"allgather a b\nallgather b c\nallgather c d\n",
         Some((70, "TooLarge")),
@@ -555,7 +560,23 @@ static ELEMENTS: [(&[u8], Answer); 4] = [
 ];
 
 /// Of version 2: behind an input of 256 elements at each of 256 ranks and two groups, on the lines 1 to 261.
-static ELEMENTS_2: [(&[u8], Answer); 14] = [
+static ELEMENTS_2: [(&[u8], Answer); 18] = [
+    (
+        b"allgather a b\nallgather b c\non two gather 0 c d\n",
+        Some((264, "TooLarge")),
+    ),
+    (
+        b"allgather a b\nallgather b c\non none allgather c d\n",
+        Some((264, "BadGroup")),
+    ),
+    (
+        b"allgather a b\nallgather b c\nscatter 0 a s\non one broadcast 0 s y\non one broadcast 0 c d\nprint d\n",
+        None,
+    ),
+    (
+        b"allgather a b\nallgather b c\nscatter 0 a s\non one broadcast 0 s y\non one broadcast 0 c d\nprint d\nprint y\n",
+        Some((268, "TooLarge")),
+    ),
     (b"allgather a b\nallgather b c\n", None),
     (
         b"allgather a b\nallgather b c\nallgather c d\n",

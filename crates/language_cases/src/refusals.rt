@@ -45,7 +45,9 @@ const CHOSEN: &[u8] = b"coll 2\nranks 4\nelect e\nprint e\n";
 type Case = (&'static [u8], &'static [u8], u32, &'static str);
 
 /// Where `complete remote`, a group, an input or a choice step may stand, and behind data lines.
-static EARLY_LINES: [Case; 37] = [
+static EARLY_LINES: [Case; 39] = [
+    (JOB_2, b"input a u8 4097", 3, "BadNumber"),
+    (JOB_2, b"input a u8 0", 3, "BadNumber"),
     (JOB, b"\x7f", 3, "BadByte"),
     (JOB, b"complete\tremote", 3, "BadByte"),
     (JOB, b"input a u8", 3, "BadLine"),
@@ -298,7 +300,11 @@ static STEP_NAMES: [Case; 51] = [
 ];
 
 /// Places and shapes of steps, and groups that aren't there.
-static STEP_SHAPES: [Case; 67] = [
+static STEP_SHAPES: [Case; 71] = [
+    (STEP_2, b"on one gatherv 0 r b", 13, "WrongShape"),
+    (STEP_2, b"on odd alltoall a b", 13, "WrongShape"),
+    (STEP_2, b"on odd scatter 0 a b", 13, "WrongShape"),
+    (STEP_2, b"on odd reducescatter sum a b", 13, "WrongShape"),
     (STEP, b"broadcast 2 r b", 7, "BadRoot"),
     (STEP, b"reduce 2 sum a b", 7, "BadRoot"),
     (STEP, b"gather 2 a b", 7, "BadRoot"),

@@ -145,6 +145,10 @@ exscan sum a d\nprint b\nprint c\nprint d\nend\n",
 gatherv 1 b c\nprint c\nend\n",
             "c 0\nc 1 4 4\nc 2\nrest\n",
         ),
+        (
+            "coll 2\nranks 2\ngroup g 1\ninput a u8 1\n1\n2\non g exscan sum a b\nprint b\nend\n",
+            "b 0\nb 1\nrest\n",
+        ),
     ] {
         gives(&rt, alloc, &mut ran, &["once"], text, Status::Done, output)?;
     }

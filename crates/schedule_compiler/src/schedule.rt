@@ -1,6 +1,6 @@
 //! What the ranks of a shape install.
 
-ghost use Rattle.std.specs.Prelude.{ℕ, None, Some, [], ◌≡◌, ◌<◌, ◌+◌, length, map};
+ghost use Rattle.std.specs.Prelude.{ℕ, None, Some, [], ◌≡◌, ◌<◌, ◌+◌, ◌↔◌, length, map};
 ghost use Rattle.ptl_types.specs.declared.headers.Lane.TheVariants.{Request};
 ghost use Rattle.plan_core.specs.Draw.{held_cell};
 ghost use Rattle.plan_core.specs.Plan.{from_to, own};
@@ -12,6 +12,8 @@ ghost use Rattle.plan_calls.specs.Limits.{limits_for};
 ghost use Rattle.plan_calls.specs.Works.{done_threshold};
 ghost use Rattle.plan_tables.specs.Installed.{installed};
 ghost use Rattle.plan_tables.specs.Ranks.{IsTables};
+ghost use Rattle.coll_shape.specs.Folding.{at};
+ghost use Rattle.coll_shape.specs.Meaning.{AreInputs, Lists, lists_of, meaning_of};
 ghost use Rattle.coll_shape.specs.Outline.{buffer_at};
 ghost use Rattle.shape_plans.specs.Drawing.{drawing_of, plan_of};
 ghost use Rattle.shape_plans.specs.Footprint.{refusal};
@@ -234,13 +236,15 @@ impl Schedule {
         }
     }
 
-    /// The cell that holds a buffer at a rank. `None` exactly where the rank's list is empty.
+    /// The cell that holds a buffer at a rank. `None` exactly where the rank's list is empty, whatever the inputs.
     pub fn result(&self, buffer: u32, r: Rank) -> Option<u32>
         requires buffer { buffer < length self.now.buffers }
         requires rank { r < self.now.ranks }
         ensures told { result ≡ held_cell (drawing_of self.now).held buffer r }
         ensures cell { (c : ℕ) → held_cell (drawing_of self.now).held buffer r ≡ Some c →
             IsResultCell (plan_of self.now) (buffer_at self.now buffer) r c }
+        ensures none { (inputs : Lists) → AreInputs self.now inputs →
+            held_cell (drawing_of self.now).held buffer r ≡ None ↔ at (lists_of (meaning_of self.now inputs) buffer) r ≡ [] }
     {
         let _ = self.shape.ranks();
         self.held.cell(buffer, r)

@@ -2,7 +2,7 @@
 use Rattle.std.proofs.Common.{ℕ, ◌≡◌, ◌<◌, length, ap, arith, subst}
 use Rattle.coll_shape.specs.Outline.{Outline}
 use Rattle.coll_shape.specs.WellFormed.{IsWellFormed}
-use Rattle.shape_laws.proofs.Final.{result-cell}
+use Rattle.shape_laws.proofs.Final.{empty-unheld, result-cell, unheld-empty}
 use Rattle.schedule_compiler.proofs.Kept.{kept-buffers, kept-held}
 use Rattle.schedule_compiler.proofs.schedule.Schedule.result.Goals as goal
 
@@ -22,3 +22,10 @@ cell-requires-clause-rank c =
 
 pub returns-clause-cell : goal.returns-clause-cell
 returns-clause-cell c = λ d z. result-cell c.args.self.now (subst IsWellFormed c.self.view_is c.ranks.ensures.shape) c.args.buffer c.args.r d c.requires.buffer c.requires.rank z
+
+pub returns-clause-none : goal.returns-clause-none
+returns-clause-none c = λ inputs ins.
+    let formed = subst IsWellFormed c.self.view_is c.ranks.ensures.shape in (
+      λ z. unheld-empty c.args.self.now inputs formed ins c.args.buffer c.args.r c.requires.buffer c.requires.rank z,
+      λ z. empty-unheld c.args.self.now inputs formed ins c.args.buffer c.args.r c.requires.buffer c.requires.rank z,
+    )
