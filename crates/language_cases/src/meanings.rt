@@ -156,6 +156,11 @@ static MEANT: [Meant; 24] = [
     ),
 ];
 
+/// Whether two lists are equal.
+fn are_equal(list: &[u8], wanted: &[u8]) -> bool {
+    list == wanted
+}
+
 /// Whether both readings of the meaning, of all buffers and of the printed ones, give this list.
 fn is_meant(alloc: Global, case: &Meant) -> Result<bool, Fail> {
     let (text, buffer, rank, wanted) = *case;
@@ -165,7 +170,7 @@ fn is_meant(alloc: Global, case: &Meant) -> Result<bool, Fail> {
     let (shape, inputs) = (description.shape(), description.inputs());
     let all = buffers_of(alloc, shape, inputs)?;
     let printed = printed_of(alloc, shape, inputs)?;
-    Ok(all.list(buffer, rank) == wanted && printed.list(buffer, rank) == wanted)
+    Ok(are_equal(all.list(buffer, rank), wanted) && are_equal(printed.list(buffer, rank), wanted))
 }
 
 #[test]
