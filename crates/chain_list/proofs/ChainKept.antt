@@ -7,10 +7,10 @@ use Rattle.std.proofs.Math.ListN.{get_or-append}
 use Rattle.std.proofs.lemmas.List.Sums.{count_by-le-length}
 use Rattle.std.specs.Option.{is_some, option_eq, IfSome}
 use Rattle.chain_list.specs.declared.chain.ChainKey.{ChainKey}
-use Rattle.chain_list.specs.declared.nodes.Node.{Node}
+use Rattle.chain_list.specs.NodeMap.{Node}
 use Rattle.chain_list.specs.NodeMap.{NodeMap, node, with_node, with_value, valued, grown, no_nodes}
-use Rattle.chain_list.specs.Chain.{Keyed, keyed, value_at, without, changed, first_key, key_after, first_or, last_or, Linked}
-use Rattle.chain_list.specs.ChainFields.{stamp_at, stamp_or, IsChain, entries_of}
+use Rattle.chain_list.specs.Chain.{Keyed, keyed, value_at, without, changed, first_key, key_after, first_or, last_or, Linked, stamp_at}
+use Rattle.chain_list.specs.ChainFields.{stamp_or, IsChain, entries_of}
 use Rattle.chain_list.specs.Chain.{NotAt, Apart}
 use Rattle.chain_list.specs.Relinked.{places_after, places_before, relinked_after, relinked_before}
 use Rattle.chain_list.proofs.NodeLemmas.{count-fill, count-empty, count-empties, live_within}
@@ -62,9 +62,9 @@ module _ {X : Type 0} where
       let c1 = set m.places p (Some (node v None None)) in
       let c2 = places_after last (Some p) c1 in
       record {
-        linked = subst (λ l. Linked (places_before (Some p) l (places_after l (Some p) c1)) None (xs ++ x ∷ []) None) (sym c.last_is) (ChainLemmas.Linked-push m.places xs x c.apart c.linked lt none);
-        first_is = ap (λ l. cond (is_some l) first (Some p)) c.last_is ∙ ap (λ f. cond (is_some (last_or None xs)) f (Some p)) c.first_is ∙ first-push xs x;
-        last_is = last-push xs x;
+        linked = subst (λ l. Linked (places_before (Some p) l (places_after l (Some p) c1)) None (xs ++ x ∷ []) None) (sym c.last_is) (ChainLemmas.Linked-push m.places xs x c.apart c.linked lt away);
+        first_is = ap (λ l. cond (is_some l) first (Some p)) c.last_is ∙ ap (λ f. cond (is_some (last_or None xs)) f (Some p)) c.first_is ∙ ChainLemmas.first-push xs x;
+        last_is = ChainLemmas.last-push xs x;
         apart = ChainLemmas.Apart-push xs x c.apart away;
         stamped = λ q. elim (eqb_tells q p) [
           | inl t ↦ ap (λ i. get_or (set ss p (Some stamp)) i None) t.1 ∙ get_or-set_same ss p (Some stamp) None (omega (arith, c.long))
@@ -75,13 +75,6 @@ module _ {X : Type 0} where
         long = omega (arith, length-set ss p (Some stamp), c.long, ChainLemmas.length-places_before (Some p) last c2, ChainLemmas.length-places_after last (Some p) c1, length-set m.places p (Some (node v None None)));
         count = omega (arith, ChainLemmas.count-places_before (Some p) last c2, ChainLemmas.count-places_after last (Some p) c1, count-fill m.places p (node v None None) lt none, c.count, length-append xs (x ∷ []));
       }
-    where
-      first-push : (xs : List (Keyed X)) (x : Keyed X) → cond (is_some (last_or None xs)) (first_or xs None) (Some x.key.place) ≡ first_or (xs ++ x ∷ []) None
-      first-push [] x = refl
-      first-push (y ∷ xs) x = rw (ChainLemmas.last-some (Some y.key.place) xs refl)
-
-      last-push : (xs : List (Keyed X)) (x : Keyed X) → Some x.key.place ≡ last_or None (xs ++ x ∷ [])
-      last-push xs x = sym (ChainLemmas.last_or-append None xs (x ∷ []))
 
   -- an entry is taken out
   pub IsChain-unlink : (m : NodeMap X) (ss : List (Option ℕ)) (first last : Option ℕ) (before behind : List (Keyed X)) (x : Keyed X) (spare : ℕ)
@@ -102,8 +95,8 @@ module _ {X : Type 0} where
       let long2 : length c2 ≡ length m.places = ChainLemmas.length-places_before a b c1 ∙ ChainLemmas.length-places_after b a m.places in
       record {
         linked = ChainLemmas.Linked-unlink m.places before x behind c.apart c.linked;
-        first_is = ap (λ f. cond (is_some b) f a) c.first_is ∙ first-unlink before x behind;
-        last_is = ap (λ l. cond (is_some a) l b) c.last_is ∙ last-unlink before x behind;
+        first_is = ap (λ f. cond (is_some b) f a) c.first_is ∙ ChainLemmas.first-unlink before x behind;
+        last_is = ap (λ l. cond (is_some a) l b) c.last_is ∙ ChainLemmas.last-unlink before x behind;
         apart = ChainLemmas.Apart-without before x behind c.apart;
         stamped = λ q. elim (eqb_tells q p) [
           | inl t ↦ ap (λ i. get_or (set ss p None) i None) t.1 ∙ get_or-set_same ss p None None (omega (arith, c.long)) ∙ sym (ap (λ i. stamp_at i (before ++ behind)) t.1 ∙ ChainLemmas.stamp-not_at p (before ++ behind) away)
@@ -115,14 +108,6 @@ module _ {X : Type 0} where
     where
       no_stamp : Option ℕ
       no_stamp = None
-
-      first-unlink : (xs : List (Keyed X)) (x : Keyed X) (ys : List (Keyed X)) → cond (is_some (last_or None xs)) (first_or (xs ++ x ∷ ys) None) (first_or ys None) ≡ first_or (xs ++ ys) None
-      first-unlink [] x ys = refl
-      first-unlink (y ∷ xs) x ys = rw (ChainLemmas.last-some (Some y.key.place) xs refl)
-
-      last-unlink : (xs : List (Keyed X)) (x : Keyed X) (ys : List (Keyed X)) → cond (is_some (first_or ys None)) (last_or None (xs ++ x ∷ ys)) (last_or None xs) ≡ last_or None (xs ++ ys)
-      last-unlink xs x [] = ap (λ zs. last_or None zs) (sym (append-nil xs))
-      last-unlink xs x (y ∷ ys) = ChainLemmas.last_or-append None xs (x ∷ y ∷ ys) ∙ sym (ChainLemmas.last_or-append None xs (y ∷ ys))
 
   -- ---- what a chain knows of a key
   module _ (m : NodeMap X) (ss : List (Option ℕ)) (first last : Option ℕ) (xs : List (Keyed X)) (c : IsChain m ss first last xs) (key : ChainKey) where

@@ -1,15 +1,14 @@
 -- Lists of linked nodes: what a node in the middle sees, and what joining and cutting the links keeps.
 use Rattle.std.proofs.Common.{◌≡◌, ◌≢◌, ℕ, zero, suc, ◌<◌, Bool, true, false, cond, nat_eq, List, [], ◌∷◌, ◌++◌, length, get_or, set, Option, Some, None, refl, sym, ap, subst, ◌∙◌, inl, inr, arith}
-use Rattle.std.proofs.lemmas.List.{get_or-set_same, get_or-set_other, length-set, set_past}
+use Rattle.std.proofs.lemmas.List.{get_or-set_same, get_or-set_other, length-set, set_past, append-nil}
 use Rattle.std.proofs.lemmas.Bool.{cases_lt, ne_eqb, eq-eqb}
 use Rattle.std.proofs.lemmas.List.Sums.{sum_by-set}
 use Rattle.std.specs.Option.{is_some, IfSome}
 use Rattle.std.specs.List.{count_by}
 use Rattle.chain_list.specs.declared.chain.ChainKey.{ChainKey}
-use Rattle.chain_list.specs.declared.nodes.Node.{Node}
+use Rattle.chain_list.specs.NodeMap.{Node}
 use Rattle.chain_list.specs.NodeMap.{node, valued}
-use Rattle.chain_list.specs.Chain.{Keyed, first_or, last_or, Linked}
-use Rattle.chain_list.specs.ChainFields.{stamp_at}
+use Rattle.chain_list.specs.Chain.{Keyed, first_or, last_or, Linked, stamp_at}
 use Rattle.chain_list.specs.Chain.{NotAt, Apart}
 use Rattle.chain_list.specs.Relinked.{with_after, with_before, places_after, places_before}
 use Rattle.chain_list.proofs.NodeLemmas.{live_within}
@@ -132,25 +131,30 @@ module _ {X : Type 0} where
       → Linked cs None (xs ++ x ∷ ys) None → get_or cs x.key.place None ≡ Some (node x.value (last_or None xs) (first_or ys None))
   Linked-middle cs xs x ys l = (Linked-cut cs None xs (x ∷ ys) None l).1.0
 
-  -- the neighbours of an entry are joined, and its place is emptied
-  pub Linked-unlink : (cs : List (Option (Node X))) (xs : List (Keyed X)) (x : Keyed X) (ys : List (Keyed X))
+  -- the neighbours of an entry are joined
+  pub Linked-joined : (cs : List (Option (Node X))) (xs : List (Keyed X)) (x : Keyed X) (ys : List (Keyed X))
       → Apart (xs ++ x ∷ ys) → Linked cs None (xs ++ x ∷ ys) None
-      → Linked (set (places_before (first_or ys None) (last_or None xs) (places_after (last_or None xs) (first_or ys None) cs)) x.key.place None) None (xs ++ ys) None
-  Linked-unlink cs xs x ys a l =
+      → Linked (places_before (first_or ys None) (last_or None xs) (places_after (last_or None xs) (first_or ys None) cs)) None (xs ++ ys) None
+  Linked-joined cs xs x ys a l =
       let before = last_or None xs in
       let next = first_or ys None in
       let c1 = places_after before next cs in
-      let c2 = places_before next before c1 in
       let cut = Linked-cut cs None xs (x ∷ ys) None l in
       let parts = Apart-cut xs (x ∷ ys) a in
       let both = Apart-without xs x ys a in
       let left1 = Linked-after cs None xs (Some x.key.place) next parts.0 cut.0 in
       let right1 = Linked-after_elsewhere cs (Some x.key.place) ys None before next (λ q e. Apart-last None xs ys q both (λ i. cc) e) cut.1.1 in
-      let left2 = Linked-before_elsewhere c1 None xs next next before (λ q e. NotAt-first ys q xs both e) left1 in
-      let right2 = Linked-before c1 (Some x.key.place) ys None before parts.1.1 right1 in
-      Linked-join (set c2 x.key.place None) None xs ys None
-      (Linked-set c2 None xs next x.key.place None (Apart-before xs x ys a) left2)
-      (Linked-set c2 before ys None x.key.place None parts.1.0 right2)
+      Linked-join (places_before next before c1) None xs ys None
+      (Linked-before_elsewhere c1 None xs next next before (λ q e. NotAt-first ys q xs both e) left1)
+      (Linked-before c1 (Some x.key.place) ys None before parts.1.1 right1)
+
+  -- and its place is emptied
+  pub Linked-unlink : (cs : List (Option (Node X))) (xs : List (Keyed X)) (x : Keyed X) (ys : List (Keyed X))
+      → Apart (xs ++ x ∷ ys) → Linked cs None (xs ++ x ∷ ys) None
+      → Linked (set (places_before (first_or ys None) (last_or None xs) (places_after (last_or None xs) (first_or ys None) cs)) x.key.place None) None (xs ++ ys) None
+  Linked-unlink cs xs x ys a l =
+      Linked-set (places_before (first_or ys None) (last_or None xs) (places_after (last_or None xs) (first_or ys None) cs)) None (xs ++ ys) None x.key.place None
+      (NotAt-append x.key.place xs ys (Apart-before xs x ys a) (Apart-cut xs (x ∷ ys) a).1.0) (Linked-joined cs xs x ys a l)
 
   -- ---- an entry is put behind the last
   pub NotAt-free : (cs : List (Option (Node X))) (b : Option ℕ) (xs : List (Keyed X)) (a : Option ℕ) (p : ℕ) → Linked cs b xs a → get_or cs p None ≡ None → NotAt p xs
@@ -161,13 +165,13 @@ module _ {X : Type 0} where
   Apart-push [] x a n = (tt, tt)
   Apart-push (y ∷ xs) x a n = (NotAt-append y.key.place xs (x ∷ []) a.0 (λ e. n.0 (sym e), tt), Apart-push xs x a.1 n.1)
 
+  -- its place holds another node, with neither neighbour, before it is linked
   pub Linked-push : (cs : List (Option (Node X))) (xs : List (Keyed X)) (x : Keyed X) → Apart xs → Linked cs None xs None
-      → x.key.place < length cs → get_or cs x.key.place None ≡ None
+      → x.key.place < length cs → NotAt x.key.place xs
       → Linked (places_before (Some x.key.place) (last_or None xs) (places_after (last_or None xs) (Some x.key.place) (set cs x.key.place (Some (node x.value None None))))) None (xs ++ x ∷ []) None
-  Linked-push cs xs x a l lt none =
+  Linked-push cs xs x a l lt away =
       let p = x.key.place in
       let last = last_or None xs in
-      let away = NotAt-free cs None xs None p l none in
       let c1 = set cs p (Some (node x.value None None)) in
       let c2 = places_after last (Some p) c1 in
       let made : get_or c1 p None ≡ Some (node x.value None None) = get_or-set_same cs p (Some (node x.value None None)) None lt in
@@ -177,6 +181,26 @@ module _ {X : Type 0} where
       Linked-join (places_before (Some p) last c2) None xs (x ∷ []) None
       (Linked-set c2 None xs (Some p) p (with_before last (get_or c2 p None)) away left)
       (here c2 p _ _ still ∙ ap (with_before last) still, tt)
+
+  -- ---- the ends after an entry is put behind the last, or taken out
+  pub last-some : (b : Option ℕ) (xs : List (Keyed X)) → is_some b ≡ true → is_some (last_or b xs) ≡ true
+  last-some b [] e = e
+  last-some b (x ∷ xs) e = last-some (Some x.key.place) xs refl
+
+  pub first-push : (xs : List (Keyed X)) (x : Keyed X) → cond (is_some (last_or None xs)) (first_or xs None) (Some x.key.place) ≡ first_or (xs ++ x ∷ []) None
+  first-push [] x = refl
+  first-push (y ∷ xs) x = rw (last-some (Some y.key.place) xs refl)
+
+  pub last-push : (xs : List (Keyed X)) (x : Keyed X) → Some x.key.place ≡ last_or None (xs ++ x ∷ [])
+  last-push xs x = sym (last_or-append None xs (x ∷ []))
+
+  pub first-unlink : (xs : List (Keyed X)) (x : Keyed X) (ys : List (Keyed X)) → cond (is_some (last_or None xs)) (first_or (xs ++ x ∷ ys) None) (first_or ys None) ≡ first_or (xs ++ ys) None
+  first-unlink [] x ys = refl
+  first-unlink (y ∷ xs) x ys = rw (last-some (Some y.key.place) xs refl)
+
+  pub last-unlink : (xs : List (Keyed X)) (x : Keyed X) (ys : List (Keyed X)) → cond (is_some (first_or ys None)) (last_or None (xs ++ x ∷ ys)) (last_or None xs) ≡ last_or None (xs ++ ys)
+  last-unlink xs x [] = ap (λ zs. last_or None zs) (sym (append-nil xs))
+  last-unlink xs x (y ∷ ys) = last_or-append None xs (x ∷ y ∷ ys) ∙ sym (last_or-append None xs (y ∷ ys))
 
   -- ---- how many places there are, and how many hold a node
   pub length-places_after : (o to : Option ℕ) (cs : List (Option (Node X))) → length (places_after o to cs) ≡ length cs
@@ -229,11 +253,7 @@ module _ {X : Type 0} where
   stamp-insert p [] x ys n = let apart : nat_eq x.key.place p ≡ false = ne_eqb x.key.place p n in rw apart
   stamp-insert p (y ∷ xs) x ys n = ap (λ r. cond (nat_eq y.key.place p) (Some y.key.stamp) r) (stamp-insert p xs x ys n)
 
-  -- ---- whether there is a last, and what a changed link leaves live
-  pub last-some : (b : Option ℕ) (xs : List (Keyed X)) → is_some b ≡ true → is_some (last_or b xs) ≡ true
-  last-some b [] e = e
-  last-some b (x ∷ xs) e = last-some (Some x.key.place) xs refl
-
+  -- ---- what a changed link leaves live
   same_live : (cs : List (Option (Node X))) (q p : ℕ) (v : Option (Node X)) → is_some v ≡ is_some (get_or cs q None) → is_some (get_or (set cs q v) p None) ≡ is_some (get_or cs p None)
   same_live [] q p v e = refl
   same_live (c ∷ cs) zero zero v e = e

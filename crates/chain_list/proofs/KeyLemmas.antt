@@ -4,9 +4,9 @@ use Rattle.std.proofs.lemmas.Bool.{ne_eqb, eq-eqb}
 use Rattle.std.proofs.lemmas.Bool.Decides.{eqb_tells}
 use Rattle.std.specs.Option.{is_some}
 use Rattle.chain_list.specs.declared.chain.ChainKey.{ChainKey}
-use Rattle.chain_list.specs.declared.nodes.Node.{Node}
-use Rattle.chain_list.specs.Chain.{Keyed, keyed, same_key, value_at, without, changed, first_key, key_after, first_or, Linked}
-use Rattle.chain_list.specs.ChainFields.{stamp_at, stamp_or, entry_and, entries_from}
+use Rattle.chain_list.specs.NodeMap.{Node}
+use Rattle.chain_list.specs.Chain.{Keyed, keyed, same_key, value_at, without, changed, first_key, key_after, first_or, Linked, stamp_at}
+use Rattle.chain_list.specs.ChainFields.{stamp_or, entry_and, entries_from}
 use Rattle.chain_list.specs.Chain.{NotAt, Apart}
 use Rattle.chain_list.proofs.ChainLemmas.{stamp-not_at, stamp-here}
 

@@ -2,3 +2,4 @@ pub mod ChainKept
 pub mod ChainLemmas
 pub mod KeyLemmas
 pub mod NodeLemmas
+pub mod Rows

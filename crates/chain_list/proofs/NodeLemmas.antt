@@ -10,7 +10,7 @@ use Rattle.std.proofs.lemmas.List.{length-set, length-append, length-replicate, 
 use Rattle.std.proofs.lemmas.List.Sums.{sum_by-set, sum_by-append}
 use Rattle.std.specs.declared.alloc.Global.{Global}
 use Rattle.std.specs.declared.vec.Vec.{Vec}
-use Rattle.chain_list.specs.declared.nodes.Node.{Node}
+use Rattle.chain_list.specs.NodeMap.{Node}
 use Rattle.chain_list.specs.NodeMap.{IsNodes}
 
 abbrev pub no_node : {X : Type 0} → Option (Node X)

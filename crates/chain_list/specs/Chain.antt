@@ -2,7 +2,7 @@
 use Rattle.std.specs.Prelude.{◌≡◌, ℕ, Bool, ◌&&◌, nat_eq, List, [], ◌∷◌, get_or, Option, Some, None, if◌then◌else◌, refl}
 use Rattle.std.specs.Coded.{Coded, code_by, coded×, coded_list, coded_ℕ}
 use Rattle.chain_list.specs.declared.chain.ChainKey.{ChainKey}
-use Rattle.chain_list.specs.declared.nodes.Node.{Node}
+use Rattle.chain_list.specs.NodeMap.{Node}
 use Rattle.chain_list.specs.NodeMap.{node}
 
 -- a key and its value
@@ -50,6 +50,11 @@ module _ {X : Type 0} where
   abbrev pub key_after : ChainKey → List (Keyed X) → Option ChainKey
   key_after key [] = None
   key_after key (x ∷ xs) = if same_key x.key key then first_key xs else key_after key xs
+
+  -- the stamp of the entry at a place
+  abbrev pub stamp_at : ℕ → List (Keyed X) → Option ℕ
+  stamp_at place [] = None
+  stamp_at place (x ∷ xs) = if nat_eq x.key.place place then Some x.key.stamp else stamp_at place xs
 
   -- the place of the first entry, or what comes after the list
   abbrev pub first_or : List (Keyed X) → Option ℕ → Option ℕ

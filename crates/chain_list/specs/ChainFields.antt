@@ -1,9 +1,9 @@
 -- What holds of the fields of a chain.
-use Rattle.std.specs.Prelude.{◌≡◌, ℕ, zero, suc, nat_eq, List, [], ◌∷◌, length, get_or, Option, Some, None, is_some, if◌then◌else◌}
+use Rattle.std.specs.Prelude.{◌≡◌, ℕ, zero, suc, List, [], ◌∷◌, length, get_or, Option, Some, None, is_some}
 use Rattle.std.specs.List.{count_by}
-use Rattle.chain_list.specs.declared.nodes.Node.{Node}
+use Rattle.chain_list.specs.NodeMap.{Node}
 use Rattle.chain_list.specs.NodeMap.{NodeMap}
-use Rattle.chain_list.specs.Chain.{Keyed, keyed, first_or, last_or, Linked, Apart}
+use Rattle.chain_list.specs.Chain.{Keyed, keyed, first_or, last_or, stamp_at, Linked, Apart}
 
 -- the stamp at a place, 0 where there is none
 abbrev pub stamp_or : Option ℕ → ℕ
@@ -22,11 +22,6 @@ module _ {X : Type 0} where
   entries_from (suc n) places stamps None = []
   entries_from (suc n) places stamps (Some place) =
       entry_and place (get_or stamps place None) (get_or places place None) (λ next. entries_from n places stamps next)
-
-  -- the stamp of the entry at a place
-  abbrev pub stamp_at : ℕ → List (Keyed X) → Option ℕ
-  stamp_at place [] = None
-  stamp_at place (x ∷ xs) = if nat_eq x.key.place place then Some x.key.stamp else stamp_at place xs
 
   -- the list is what the nodes link, and each place knows the stamp of its entry
   pub record IsChain (nodes : NodeMap X) (stamps : List (Option ℕ)) (first last : Option ℕ) (xs : List (Keyed X)) : Type 0 where

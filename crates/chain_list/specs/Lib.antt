@@ -2,6 +2,8 @@ pub mod BlockLends
 pub mod Chain
 pub mod ChainFields
 pub mod ChainLends
+pub mod Joined
 pub mod NodeLends
 pub mod NodeMap
 pub mod Relinked
+pub mod RowLends

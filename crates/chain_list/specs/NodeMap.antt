@@ -4,7 +4,12 @@ use Rattle.std.specs.List.{count_by}
 use Rattle.std.specs.Coded.{Coded, code_by, coded×, coded_list, coded_option, coded_ℕ}
 use Rattle.std.specs.declared.alloc.Global.{Global}
 use Rattle.std.specs.declared.vec.Vec.{Vec}
-use Rattle.chain_list.specs.declared.nodes.Node.{Node}
+
+-- a node: its value, and the places of its neighbours
+pub record Node (X : Type 0) : Type 0 where
+  pub value : X
+  pub before : Option ℕ
+  pub after : Option ℕ
 
 -- for each place below the size the node that is live there, and how many further nodes can be made
 pub record NodeMap (X : Type 0) : Type 0 where

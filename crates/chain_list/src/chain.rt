@@ -97,7 +97,7 @@ impl<T> Model for Chain<T> {
 }
 
 impl<T> Chain<T> {
-    ghost use Rattle.chain_list.specs.Chain.{chain_list, keyed, value_at, without, first_key, key_after, first_or, last_or, Linked, Apart};
+    ghost use Rattle.chain_list.specs.Chain.{chain_list, keyed, value_at, without, stamp_at, first_key, key_after, first_or, last_or, Linked, Apart};
     ghost use Rattle.chain_list.specs.ChainLends.{lends_at};
 
     /// The empty list. It takes no memory.
@@ -167,9 +167,11 @@ impl<T> Chain<T> {
         requires room { 0 < self.old.spare }
         requires keys { self.old.given < 2 ^ 64 - 1 }
         ensures stamp { result.stamp ≡ self.old.given }
+        ensures within { result.place < self.old.spare + length self.old.entries }
         ensures chain { self.new ≡ chain_list (self.old.entries ++ keyed result value ∷ []) (self.old.spare - 1) (self.old.given + 1) }
         ensures steps { steps.new ≤ steps.old + 3 }
     {
+        let _size = self.nodes.size();
         let place = self.nodes.make(value, steps);
         let (last, stamp) = (self.last, self.given);
         set_next(&mut self.nodes, &mut self.first, last, Some(place), steps);
@@ -178,6 +180,15 @@ impl<T> Chain<T> {
         self.stamps[place as usize] = Some(stamp);
         self.given += 1;
         ChainKey { place, stamp }
+    }
+
+    /// The key of the entry at a place.
+    pub fn key(&self, place: u32) -> ChainKey
+        requires { IsSome (stamp_at place self.now.entries) }
+        ensures place { result.place ≡ place }
+        ensures stamp { Some result.stamp ≡ stamp_at place self.now.entries }
+    {
+        key_at(&self.stamps, place)
     }
 
     /// Whether the key is live.

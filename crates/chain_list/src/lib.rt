@@ -5,6 +5,7 @@ mod block;
 mod chain;
 mod filling;
 mod nodes;
+mod row;
 mod steps;
 #[cfg(test)]
 mod tests;
@@ -13,5 +14,7 @@ mod tests;
 #[doc(hidden)]
 pub use block::Block;
 pub use chain::{Chain, ChainKey};
-pub use nodes::{Node, Nodes};
+pub use nodes::Nodes;
+#[doc(hidden)]
+pub use row::{Links, Row};
 pub use steps::Steps;

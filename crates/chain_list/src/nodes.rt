@@ -2,23 +2,12 @@
 ghost use Rattle.std.specs.Prelude.{◌≡◌, ◌+◌, ◌-◌, ◌<◌, ◌≤◌, ◌^◌, ℕ, Some, None, length, slice_index, IfOk, IfSome, OnOk, OnErr, vec_len, vec_capacity};
 ghost use Rattle.std.specs.Borrow.{sem};
 
-use crate::block::Block;
+use crate::row::Row;
 use crate::steps::Steps;
 use ptl_types::NoMemory;
 use std::alloc::Global;
 use std::marker::Model;
 use std::sync::ledger::Ledger;
-
-/// A node: its value, and the places of its neighbours.
-#[derive(Drop)]
-pub struct Node<T> {
-    /// What the node holds.
-    pub value: T,
-    /// The place of the node before it; `None` where there is none.
-    pub before: Option<u32>,
-    /// The place of the node after it; `None` where there is none.
-    pub after: Option<u32>,
-}
 
 /// Puts the places from `from` up to `to` on the list of free ones, so that the lowest is taken first.
 fn free_range(free: &mut Vec<u32>, from: usize, to: usize)
@@ -47,7 +36,7 @@ fn growth(size: usize, need: usize) -> usize
 /// place is used again. Each call that takes the counter touches one node.
 #[derive(Drop)]
 pub struct Nodes<T> {
-    block: Block<Node<T>>,
+    row: Row<T>,
     free: Vec<u32>,
 }
 
@@ -59,9 +48,9 @@ impl<T> Model for Nodes<T> {
 
     ghost coded = { node_map_code T.code };
 
-    ghost view = { λ n. node_map n.block (length n.free.items) };
+    ghost view = { λ n. node_map n.row (length n.free.items) };
 
-    ghost invariant = { λ n. IsNodes n.block n.free };
+    ghost invariant = { λ n. IsNodes n.row n.free };
 }
 
 impl<T> Nodes<T> {
@@ -73,7 +62,7 @@ impl<T> Nodes<T> {
         ensures { result ≡ no_nodes }
     {
         Nodes {
-            block: Block::new(alloc),
+            row: Row::new(alloc),
             free: Vec::new(alloc),
         }
     }
@@ -87,9 +76,9 @@ impl<T> Nodes<T> {
         let Ok(mut free) = Vec::with_capacity(alloc, n) else {
             return Err(NoMemory);
         };
-        let block = Block::with_len(alloc, n)?;
+        let row = Row::with_len(alloc, n)?;
         free_range(&mut free, 0, n);
-        Ok(Nodes { block, free })
+        Ok(Nodes { row, free })
     }
 
     /// A number that is greater than every live place.
@@ -98,7 +87,7 @@ impl<T> Nodes<T> {
         ensures all { self.now.spare + live_count self.now ≡ length self.now.places }
     {
         let _free = &self.free;
-        self.block.len() as u64
+        self.row.len() as u64
     }
 
     /// Adds free places. Where there is no memory, all is as it was.
@@ -107,11 +96,11 @@ impl<T> Nodes<T> {
         ensures ok { OnOk result (self.new ≡ grown more self.old) }
         ensures err { OnErr result (self.new ≡ self.old) }
     {
-        let size = self.block.len();
+        let size = self.row.len();
         let Ok(()) = self.free.reserve(size + more - self.free.len()) else {
             return Err(NoMemory);
         };
-        self.block.grow(more)?;
+        self.row.grow(more)?;
         free_range(&mut self.free, size, size + more);
         Ok(())
     }
@@ -127,7 +116,7 @@ impl<T> Nodes<T> {
         if n <= spare {
             return 0;
         }
-        growth(self.block.len(), (n - spare) as usize)
+        growth(self.row.len(), (n - spare) as usize)
     }
 
     /// Makes at least `n` further nodes possible without taking memory. Where there is no memory, all is as it was.
@@ -156,14 +145,7 @@ impl<T> Nodes<T> {
         let Some(place) = self.free.pop() else {
             unreachable!()
         };
-        self.block.put(
-            place as usize,
-            Node {
-                value,
-                before: None,
-                after: None,
-            },
-        );
+        self.row.put(place as usize, value);
         place
     }
 
@@ -174,7 +156,7 @@ impl<T> Nodes<T> {
         ensures steps { steps.new ≡ steps.old + 1 }
     {
         steps.tick();
-        &self.block.get(place as usize).value
+        self.row.value(place as usize)
     }
 
     /// The value of a node, to write to.
@@ -185,8 +167,7 @@ impl<T> Nodes<T> {
         ensures steps { steps.new ≡ steps.old + 1 }
     {
         steps.tick();
-        let node = self.block.get_mut(place as usize);
-        &mut node.value
+        self.row.value_mut(place as usize)
     }
 
     /// The places of the neighbours of a node.
@@ -196,8 +177,7 @@ impl<T> Nodes<T> {
         ensures steps { steps.new ≡ steps.old + 1 }
     {
         steps.tick();
-        let node = self.block.get(place as usize);
-        (node.before, node.after)
+        self.row.links(place as usize)
     }
 
     /// Sets which node lies before a node.
@@ -207,8 +187,7 @@ impl<T> Nodes<T> {
         ensures steps { steps.new ≡ steps.old + 1 }
     {
         steps.tick();
-        let node = self.block.get_mut(place as usize);
-        node.before = to;
+        self.row.set_before(place as usize, to);
     }
 
     /// Sets which node lies after a node.
@@ -218,8 +197,7 @@ impl<T> Nodes<T> {
         ensures steps { steps.new ≡ steps.old + 1 }
     {
         steps.tick();
-        let node = self.block.get_mut(place as usize);
-        node.after = to;
+        self.row.set_after(place as usize, to);
     }
 
     /// Takes a node away and gives its value. Its place can be used again.
@@ -230,11 +208,7 @@ impl<T> Nodes<T> {
         ensures steps { steps.new ≡ steps.old + 1 }
     {
         steps.tick();
-        let Node {
-            value,
-            before: _,
-            after: _,
-        } = self.block.take(place as usize);
+        let value = self.row.take(place as usize);
         self.free.push_reserved(place);
         value
     }

@@ -1,6 +1,6 @@
 //! The initiator.
 
-ghost use Rattle.std.specs.Prelude.{◌≡◌, ◌≤◌, ◌+◌, true, false, Some, None, IfOk, IfErr, OnErr, length};
+ghost use Rattle.std.specs.Prelude.{◌≡◌, ◌<◌, ◌≤◌, ◌+◌, true, false, Some, None, IfOk, IfErr, OnErr, length};
 ghost use Rattle.ni_model.specs.Tables.{no_things, lookup, with_new, without, has_slot, handle, is_live as lives};
 ghost use Rattle.ni_model.specs.Calls.{bound as as_bound, awaits_of};
 ghost use Rattle.ni_model.specs.Answers.{home, answered, is_awaited};
@@ -116,6 +116,7 @@ impl Initiator {
         ensures unchanged { OnErr result (self.new ≡ self.old) }
         ensures ok { IfOk result (λ h. bind_fault md (length region.now) cts.now eqs.now self.old.mds ≡ None) }
         ensures stamp { IfOk result (λ h. h ≡ handle h.slot self.old.mds.given) }
+        ensures slot { IfOk result (λ h. h.slot < self.old.mds.limit) }
         ensures free { IfOk result (λ h. has_slot h.slot self.old.mds.live ≡ false) }
         ensures bound { IfOk result (λ h. self.new ≡ with_mds (with_new h.slot (as_bound md) self.old.mds) self.old) }
     {
@@ -234,6 +235,7 @@ impl Initiator {
 
     /// What an acknowledgement or a reply does where it comes home, but for the drop register: whether it was awaited, and
     /// the counting event that rose. One that wasn't awaited changes nothing.
+    #[tactic(auto, unfolding(ni_model::specs::Answers::answered))]
     pub fn answer(
         &mut self,
         region: &mut Region,

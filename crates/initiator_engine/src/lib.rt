@@ -1,6 +1,6 @@
 //! The initiator's side of an interface: memory descriptors, the start of each operation, and the answers that come home
 //! (Portals 4.3, memory descriptors, data movement operations, acknowledgements and replies).
-#![tactic(auto, unfolding(ni_model::specs::Starts::started, ni_model::specs::Answers::answered))]
+#![tactic(auto)]
 
 mod answers;
 mod checks;

@@ -44,6 +44,8 @@ mod refused_tables;
 #[cfg(test)]
 mod refused_triggered;
 #[cfg(test)]
+mod relinking;
+#[cfg(test)]
 mod replies;
 #[cfg(test)]
 mod scene;

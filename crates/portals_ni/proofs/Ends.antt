@@ -9,7 +9,6 @@ use Rattle.ni_model.specs.Lists.{Index}
 use Rattle.ni_model.specs.State.{State}
 use Rattle.ni_model.specs.Calls.{ends, ends_by, MayLackMemory, enough, lacking, slot_in, entry_slot}
 use Rattle.initiator_engine.specs.Initiators.{by_fault}
-use Rattle.target_engine.specs.Sides.{FailsBy}
 
 pub ends-refused : {A : Type 0} (o : Option NiFault) (fault : NiFault) (old new : State) (x : A) → o ≡ Some fault → ends old (Err fault) ≡ ends_by o old new x
 ends-refused o fault old new x e = rw e refl
@@ -37,10 +36,6 @@ enough-refused o fault old new x e = rw e enough
 
 pub lacks : {A : Type 0} (o : Option NiFault) (old new : State) (x : A) → o ≡ None → MayLackMemory (ends_by o old new x) old (ends old (Err NoMemory))
 lacks o old new x e = rw e (lacking refl)
-
-pub fails-by : {A : Type 0} (o : Option NiFault) (fault : NiFault) (old new : State) (x : A) → FailsBy o fault → MayLackMemory (ends_by o old new x) old (ends old (Err fault))
-fails-by None fault old new x e = rw e (lacking refl)
-fails-by (Some f) fault old new x e = rw e enough
 
 -- ---- some slot is free, also where a call is refused
 

@@ -28,14 +28,14 @@ use Rattle.ni_model.specs.Refusals.{pt_alloc_fault, ct_set_fault, ct_inc_fault, 
 use Rattle.ni_model.specs.Calls.{ends, Makes, MayLackMemory, enough, lacking, AnswersReady, new_index, bound, ct_alloc, ct_free, eq_free, ct_set, ct_inc, ct_cancel, eq_alloc, eq_get, md_bind, entry_slot, unlinked_in, me_append, me_unlink, me_search, pt_alloc, start, triggered}
 use Rattle.handle_store.proofs.StoreLemmas.{change-absent}
 use Rattle.initiator_engine.specs.Initiators.{Initiating, with_mds, is_start, has_started, has_returned}
-use Rattle.target_engine.specs.Sides.{FailsBy, has_searched, has_appended, AppendsSome}
+use Rattle.target_engine.specs.Sides.{has_searched, has_appended, AppendsSome}
 use Rattle.triggered_ops.specs.Operations.{Operations, deed_of, operation_at, is_ready, with_posted, without_number, waiting_on, cancelled, posted_all}
 use Rattle.std.specs.Prelude.{slice_set}
 use Rattle.portals_ni.specs.declared.armed.Armed.{Armed}
 use Rattle.portals_ni.specs.Answers.{MakesIfMemory, event_taken, deed_counts}
 use Rattle.portals_ni.specs.Pendings.{deed_in, told_by, told_new}
 use Rattle.portals_ni.specs.Sound.{IsTold, Stands, state_of}
-use Rattle.portals_ni.proofs.Ends.{ends-done, ends-refused, enough-done, fails-by, free_slot, is-free, free_entry_slot, entry-is-free}
+use Rattle.portals_ni.proofs.Ends.{ends-done, ends-refused, free_slot, is-free, free_entry_slot, entry-is-free}
 use Rattle.portals_ni.proofs.Firing.{new-forgotten, posted-cancelled, length-waiting, posted-push, posted-without, ready-is, fired-is, done-start, done-count}
 use Rattle.portals_ni.proofs.Stands.{fewer-stands, done-stands}
 use Rattle.portals_ni.proofs.Told.{posted-told_by}
@@ -134,9 +134,9 @@ module _ (t : Side) (r : List ℕ) (c : Table Count) (e : Table Waiting) (i : In
 
   -- ---- portal table indices
 
-  pub pt-ends : (pt : ℕ) (eq : Option Handle) (u : Side) (res : Result (Unit {0}) NiFault) → IfErr res (FailsBy (pt_alloc_fault pt eq t e)) → OnErr res (u ≡ t) → OnOk res (pt_alloc_fault pt eq t e ≡ None) → OnOk res (u ≡ record t { indices = slice_set t.indices pt (Some (new_index eq)) }) → MayLackMemory (pt_alloc pt eq before) before (ends (state_of u r c e i ops d v) res)
-  pt-ends pt eq u (Ok x) err unchanged ok made = rw made (enough-done _ _ _ _ ok)
-  pt-ends pt eq u (Err fault) err unchanged ok made = rw unchanged (fails-by _ fault _ _ _ err)
+  pub pt-ends : (pt : ℕ) (eq : Option Handle) (u : Side) (res : Result (Unit {0}) NiFault) → IfErr res (λ fault. pt_alloc_fault pt eq t e ≡ Some fault) → OnErr res (u ≡ t) → OnOk res (pt_alloc_fault pt eq t e ≡ None) → OnOk res (u ≡ record t { indices = slice_set t.indices pt (Some (new_index eq)) }) → ends (state_of u r c e i ops d v) res ≡ pt_alloc pt eq before
+  pt-ends pt eq u (Ok x) err unchanged ok made = rw made (ends-done _ _ _ _ ok)
+  pt-ends pt eq u (Err fault) err unchanged ok made = rw unchanged (ends-refused _ _ _ _ _ err)
 
   pub search-ends : (pt : ℕ) (en : Entry) (delete : Bool) (u : Side) (f : Table Waiting) (res : Result (Option UnexpectedHeader) NiFault) → IfErr res (λ fault. (fault ≡ Stale) × (is_allocated pt t ≡ false)) → OnErr res ((u ≡ t) × (f ≡ e)) → OnOk res (is_allocated pt t ≡ true) → OnOk res (u.rank ≡ t.rank) → OnOk res (u.limit ≡ t.limit) → IfOk res (λ found. has_searched (parts u r c f) found ≡ search pt en delete (parts t r c e)) → ends (state_of u r c f i ops d v) res ≡ me_search pt en delete before
   search-ends pt en delete u f (Ok found) err unchanged ok rank limit is = rw (ok, ← is, rank, limit) refl

@@ -1,6 +1,6 @@
 //! Counting events (Portals 4.3, counting events).
 
-ghost use Rattle.std.specs.Prelude.{◌≡◌, OnOk, OnErr};
+ghost use Rattle.std.specs.Prelude.{◌≡◌, OnOk, OnErr, ◌<◌, IfOk};
 ghost use Rattle.ptl_types.specs.declared.handles.Count.{Count as Counted};
 ghost use Rattle.ni_model.specs.Tables.{has_slot, changed, without};
 ghost use Rattle.ni_model.specs.Counts.{plus};
@@ -50,6 +50,7 @@ impl Nic {
     /// 2^64 - 1 stamps were given.
     pub fn ct_alloc(&mut self) -> Result<Handle, NiFault>
         ensures makes { Makes (λ slot. has_slot slot self.old.cts.live) (λ slot. ct_alloc_of slot self.old) (ends self.new result) }
+        ensures slot { IfOk result (λ h. h.slot < self.old.limits.cts) }
     {
         make(&mut self.cts, Counter::new())
     }

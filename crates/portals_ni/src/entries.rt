@@ -1,11 +1,12 @@
 //! Portal table indices, match entries and memory descriptors (Portals 4.3, portal table, match list entries, memory
 //! descriptors).
 
-ghost use Rattle.std.specs.Prelude.{◌≡◌, option_copied};
+ghost use Rattle.std.specs.Prelude.{◌≡◌, option_copied, ◌<◌, IfOk, ◌+◌};
+ghost use Rattle.target_engine.specs.Sides.{SlotBelow};
 ghost use Rattle.unexpected.specs.Places.{header_at};
 ghost use Rattle.ni_model.specs.Answers.{is_awaited};
 ghost use Rattle.ni_model.specs.Tables.{has_slot};
-ghost use Rattle.ni_model.specs.Calls.{ends, Makes, MayLackMemory, entry_slot, pt_alloc as pt_alloc_of, pt_free as pt_free_of, me_append as me_append_of, me_unlink as me_unlink_of, me_search as me_search_of, md_bind as md_bind_of, awaits as awaits_of};
+ghost use Rattle.ni_model.specs.Calls.{ends, Makes, entry_slot, pt_alloc as pt_alloc_of, pt_free as pt_free_of, me_append as me_append_of, me_unlink as me_unlink_of, me_search as me_search_of, md_bind as md_bind_of, awaits as awaits_of};
 
 use crate::armed::tell;
 use crate::nic::Nic;
@@ -14,11 +15,11 @@ use ptl_types::{Appended, Descriptor, Entry, Handle, List, NiFault, UnexpectedHe
 
 impl Nic {
     /// Allocates a portal table index, with an event queue or none. `Stale` where the queue isn't allocated, `NoSpace` where
-    /// the index is at or past the limit, `InUse` where it is allocated already, `NoMemory` for its lists.
+    /// the index is at or past the limit, `InUse` where it is allocated already.
     pub fn pt_alloc(&mut self, index: u32, eq: Option<Handle>) -> Result<(), NiFault>
-        ensures does { MayLackMemory (pt_alloc_of index eq self.old) self.old (ends self.new result) }
+        ensures does { ends self.new result ≡ pt_alloc_of index eq self.old }
     {
-        self.target.pt_alloc(self.alloc, &self.eqs, index, eq)
+        self.target.pt_alloc(&self.eqs, index, eq)
     }
 
     /// Frees a portal table index. `Stale` where it isn't allocated, `InUse` where one of its lists holds an entry or a header
@@ -33,9 +34,11 @@ impl Nic {
     /// takes the oldest unexpected header that it matches and allows, and isn't linked then; a persistent one takes all of them
     /// and is linked. To the overflow list it is linked. `Stale` where the index isn't allocated or the entry's counting event
     /// isn't, `NoSpace` where as many entries as the limit are linked or all 2^64 - 1 stamps were given, `OutOfRegion` where its
-    /// part reaches past the region.
+    /// part reaches past the region. An unlinked entry keeps its record while a header lies in its memory, so that slots are
+    /// below the limits of entries and of headers together.
     pub fn me_append(&mut self, pt: u32, list: List, entry: Entry) -> Result<Appended, NiFault>
         ensures makes { Makes (entry_slot self.old.indices) (λ slot. me_append_of slot pt list entry self.old) (ends self.new result) }
+        ensures slot { IfOk result (SlotBelow (self.old.limits.entries + self.old.limits.unexpected)) }
     {
         let (appended, counted) = self.target.append(
             &self.region,
@@ -90,6 +93,7 @@ impl Nic {
     /// past the region.
     pub fn md_bind(&mut self, md: Descriptor) -> Result<Handle, NiFault>
         ensures makes { Makes (λ slot. has_slot slot self.old.mds.live) (λ slot. md_bind_of slot md self.old) (ends self.new result) }
+        ensures slot { IfOk result (λ h. h.slot < self.old.limits.mds) }
     {
         self.initiator.bind(&self.region, &self.cts, &self.eqs, md)
     }

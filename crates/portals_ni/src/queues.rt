@@ -1,6 +1,6 @@
 //! Event queues (Portals 4.3, event queues).
 
-ghost use Rattle.std.specs.Prelude.{◌≡◌, ◌≤◌};
+ghost use Rattle.std.specs.Prelude.{◌≡◌, ◌≤◌, ◌<◌, IfOk};
 ghost use Rattle.ni_model.specs.Tables.{has_slot, lookup, changed};
 ghost use Rattle.ni_model.specs.Queues.{after_take};
 ghost use Rattle.ni_model.specs.Calls.{ends, eq_alloc as eq_alloc_of, eq_get as eq_get_of};
@@ -29,6 +29,7 @@ impl Nic {
     pub fn eq_alloc(&mut self, room: u32) -> Result<Handle, NiFault>
         requires { 1 ≤ room }
         ensures makes { MakesIfMemory (λ slot. has_slot slot self.old.eqs.live) (λ slot. eq_alloc_of slot room self.old) self.old (ends self.new result) }
+        ensures slot { IfOk result (λ h. h.slot < self.old.limits.eqs) }
     {
         if self.eqs.is_full() {
             return Err(NiFault::NoSpace);

@@ -1,5 +1,5 @@
 -- Counting the linked entries by a test of handle and index.
-use Rattle.std.proofs.Common.{◌≡◌, ℕ, zero, suc, ◌+◌, ◌<◌, Bool, true, false, not, ◌||◌, ◌&&◌, List, [], ◌∷◌, ◌++◌, Option, Some, None, map, length, get_or, set, if◌then◌else◌, nat_lt, nat_eq, refl, ap, arith, zero-add}
+use Rattle.std.proofs.Common.{◌≡◌, ℕ, zero, suc, ◌+◌, ◌<◌, Bool, true, false, not, ◌||◌, ◌&&◌, List, [], ◌∷◌, ◌++◌, Option, Some, None, map, find, length, get_or, set, if◌then◌else◌, nat_lt, nat_eq, refl, ap, arith, zero-add}
 use Rattle.std.specs.Prelude.{sum_by}
 use Rattle.std.proofs.lemmas.List.Sums.{sum_by-cons}
 use Rattle.std.proofs.lemmas.Bool.Decides.{nat_tests}
@@ -9,6 +9,7 @@ use Rattle.ni_model.specs.declared.Linked.{Linked}
 use Rattle.ni_model.specs.Lists.{Index, entries_in, is_linked, unlinked, advance_one, advanced}
 use Rattle.ni_model.specs.Refusals.{is_linked_in, is_linked_anywhere}
 use Rattle.ni_model.specs.Calls.{slot_in, entry_slot, unlinked_in}
+use Rattle.match_lists.specs.Lists.{is_named}
 use Rattle.target_engine.specs.Shelves.{entries_by, index_by, linked_by}
 
 -- ---- tests of a handle and an index
@@ -179,7 +180,7 @@ linked-split me pt k (suc d) (o ∷ is) e =
 
 -- ---- where it isn't, unlinking it changes nothing
 
-count-none : (b : Bool) (n : ℕ) → (if b then 1 else 0) + n ≡ 0 → (b ≡ false) × (n ≡ 0)
+pub count-none : (b : Bool) (n : ℕ) → (if b then 1 else 0) + n ≡ 0 → (b ≡ false) × (n ≡ 0)
 count-none true n e = absurd (omega arith)
 count-none false n e = (refl, omega arith)
 
@@ -188,6 +189,18 @@ unlinked-none me k [] e = refl
 unlinked-none me k (x ∷ xs) e =
     let c = count-none (same_handle x.handle me) _ e in
     rw (c.0, unlinked-none me k xs c.1) refl
+
+pub advanced-none : (me : Handle) (to k : ℕ) (xs : List Linked) → entries_by (is_handle me) k xs ≡ 0 → advanced me to xs ≡ xs
+advanced-none me to k [] e = refl
+advanced-none me to k (x ∷ xs) e =
+    let c = count-none (same_handle x.handle me) _ e in
+    rw (c.0, advanced-none me to k xs c.1) refl
+
+pub named-none : (me : Handle) (k : ℕ) (xs : List Linked) → entries_by (is_handle me) k xs ≡ 0 → find (is_named me) xs ≡ None
+named-none me k [] e = refl
+named-none me k (x ∷ xs) e =
+    let c = count-none (same_handle x.handle me) _ e in
+    rw (c.0, named-none me k xs c.1) refl
 
 pub unlinked_in-none : (me : Handle) (k : ℕ) (o : Option Index) → index_by (is_handle me) k o ≡ 0 → unlinked_in me o ≡ o
 unlinked_in-none me k None e = refl

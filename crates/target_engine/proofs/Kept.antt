@@ -1,11 +1,12 @@
 -- What a target keeps of its indices, its records and its headers, through each call.
-use Rattle.std.proofs.Common.{◌≡◌, ℕ, zero, suc, ◌+◌, ◌-◌, ◌<◌, ◌≤◌, ◌^◌, Bool, true, false, not, List, [], ◌∷◌, ◌++◌, Option, Some, None, take, drop, length, get_or, if◌then◌else◌, replicate, refl, ap, arith, nat_lt, map, subst, sym, ◌∙◌}
+use Rattle.std.proofs.Common.{◌≡◌, ℕ, ◌+◌, ◌-◌, ◌<◌, ◌≤◌, ◌^◌, Bool, true, false, not, List, [], ◌∷◌, ◌++◌, Option, Some, None, take, drop, length, if◌then◌else◌, replicate, refl, ap, arith, nat_lt, map, subst, sym, ◌∙◌}
 use Rattle.std.specs.Prelude.{All, slice_set, is_some, sum_by, nat_le, ◌||◌}
 use Rattle.ptl_types.specs.Handles.{top}
 use Rattle.std.proofs.lemmas.Bool.Decides.{nat_tests}
 use Rattle.std.proofs.Math.Seq.{take-append_seam}
 use Rattle.std.proofs.lemmas.List.{length-append}
-use Rattle.std.proofs.lemmas.List.Elements.{All-cons, All-nil}
+use Rattle.std.proofs.lemmas.List.Elements.{All-head, All-tail, All-cons, All-nil}
+use Rattle.std.proofs.lemmas.List.Sums.{sum_by-cons}
 use Rattle.ptl_types.specs.declared.handles.Handle.{Handle}
 use Rattle.ptl_types.specs.declared.headers.Header.{Header}
 use Rattle.ptl_types.specs.declared.entries.Entry.{Entry}
@@ -19,52 +20,97 @@ use Rattle.ni_model.specs.Headers.{Held, held, oldest, without_oldest, left_in, 
 use Rattle.ni_model.specs.Conditions.{HasRoom}
 use Rattle.ni_model.specs.Arrive.{is_over, indices_after, headers_after, delivered, place}
 use Rattle.ni_model.specs.Append.{fresh, linked_at}
-use Rattle.ni_model.specs.Calls.{unlinked_in}
+use Rattle.ni_model.specs.Calls.{unlinked_in, slot_in, entry_slot}
 use Rattle.target_engine.specs.declared.index.Index.{Index as Shelf}
 use Rattle.target_engine.specs.declared.places.Placed.{Placed}
-use Rattle.target_engine.specs.Shelves.{seen, seen_in, HasRooms, MayLink, ArePlaced, IsKept, headers_in, frees_at, placed_by, not_linked, noted_places, places_after, linked_after, one_more, one_fewer}
+use Rattle.target_engine.specs.Shelves.{index, seen, seen_in, settled_in, HasLists, IsShelf, IsUnused, MayLink, ArePlaced, IsKept, headers_in, frees_at, placed_by, not_linked, noted_places, places_after, linked_after, one_more, one_fewer}
 use Rattle.target_engine.proofs.Headers.{is_entry, noted-few, noted-all, noted-oldest, noted-both}
 use Rattle.target_engine.proofs.Records.{given-by, limit-by}
-use Rattle.target_engine.proofs.Placed.{placed-few, placed-headers, placed-more, placed-fewer, placed-frees, placed-none, many-none, placed-settled, many-settled, placed-empty, many-empty, placed-unlinked, one-off, placed-linked, many-linked, fresh_at, placed-on, linked-anywhere, unlinked-at, index-few}
-use Rattle.target_engine.proofs.Views.{index_at-seen}
-use Rattle.target_engine.proofs.Within.{at_has}
+use Rattle.target_engine.proofs.Placed.{placed-slot, settled-handle, placed-few, placed-headers, placed-more, placed-fewer, placed-frees, placed-none, many-none, placed-settled, many-settled, placed-empty, many-empty, placed-unlinked, one-off, placed-linked, many-linked, fresh_at, placed-on, linked-anywhere, unlinked-at}
+use Rattle.target_engine.proofs.Views.{seen-on, seen-off, shelves-lists, unused-shelves, unused-seen}
 
-list-few : (list : Place) (i : Shelf) (n : ℕ) → length (i.lists.priority) + length (i.lists.overflow) < n → i.lists.limit ≡ n → MayLink list (Some i)
-list-few Priority i n lt e = omega arith
-list-few Overflow i n lt e = omega arith
+or-none : (a b : Bool) → (a || b) ≡ false → (a ≡ false) × (b ≡ false)
+or-none true b e = cc
+or-none false b e = (refl, e)
 
-may-link : (list : Place) (most : ℕ) (o : Option Shelf) → HasRooms most o → entries_in (seen o) < most → MayLink list o
-may-link list most None has lt = tt
-may-link list most (Some i) has lt = list-few list i most lt has
+-- ---- a further entry may be linked at each place
 
-pub kept-may_link : (list : Place) (most pt linked : ℕ) (is : List (Option Shelf)) (t : Table Placed) (hs : Held) → IsKept most is linked t hs → sum_by entries_in (seen_in is) < most → MayLink list (get_or is pt None)
-kept-may_link list most pt linked is t hs k lt =
-    may-link list most (get_or is pt None) (at_has (HasRooms most) is pt None k.rooms tt)
-    (rw (← index_at-seen pt is) (index-few most pt (seen_in is) lt))
+may-on : (slot most records given : ℕ) (i : Shelf) (is : List (Option Index)) → IsShelf most records given i → sum_by entries_in (Some (index i.eq i.lists) ∷ is) < most → entry_slot (Some (index i.eq i.lists) ∷ is) slot ≡ false → slot < records → given < top
+    → MayLink slot i × (sum_by entries_in is < most) × (entry_slot is slot ≡ false)
+may-on slot most records given i is k lt free below keys =
+    let s = sum_by-cons entries_in (Some (index i.eq i.lists)) is in
+    let both = or-none (slot_in slot i.lists.priority || slot_in slot i.lists.overflow) (entry_slot is slot) free in (
+      record { room = omega (arith, k.limit); below = omega (arith, k.slots); free = both.0; keys = omega (arith, k.few) },
+      omega arith,
+      both.1,
+    )
+
+may-off : (slot most records given : ℕ) (i : Shelf) (is : List (Option Index)) → i.allocated ≡ false → IsShelf most records given i → sum_by entries_in (None ∷ is) < most → entry_slot (None ∷ is) slot ≡ false → slot < records → given < top
+    → MayLink slot i × (sum_by entries_in is < most) × (entry_slot is slot ≡ false)
+may-off slot most records given i is off k lt free below keys =
+    let s = sum_by-cons entries_in None is in
+    let none = k.empty off in (
+      record { room = omega (arith, k.limit, ap length none.0, ap length none.1); below = omega (arith, k.slots); free = rw (none.0, none.1) refl; keys = omega (arith, k.few) },
+      omega arith,
+      free,
+    )
+
+may-one : (slot most records given : ℕ) (i : Shelf) (is : List (Option Index)) → IsShelf most records given i → sum_by entries_in (seen i ∷ is) < most → entry_slot (seen i ∷ is) slot ≡ false → slot < records → given < top
+    → MayLink slot i × (sum_by entries_in is < most) × (entry_slot is slot ≡ false)
+may-one slot most records given i is k lt free below keys =
+    elim i.allocated as (λ b. i.allocated ≡ b → MayLink slot i × (sum_by entries_in is < most) × (entry_slot is slot ≡ false)) [
+      | true ↦ λ on. may-on slot most records given i is k (subst (λ o. sum_by entries_in (o ∷ is) < most) (seen-on i on) lt) (subst (λ o. entry_slot (o ∷ is) slot ≡ false) (seen-on i on) free) below keys
+      | false ↦ λ off. may-off slot most records given i is off k (subst (λ o. sum_by entries_in (o ∷ is) < most) (seen-off i off) lt) (subst (λ o. entry_slot (o ∷ is) slot ≡ false) (seen-off i off) free) below keys
+    ] refl
+
+may-all : (slot most records given : ℕ) (is : List Shelf) → All (IsShelf most records given) is → sum_by entries_in (seen_in is) < most → entry_slot (seen_in is) slot ≡ false → slot < records → given < top → All (MayLink slot) is
+may-all slot most records given [] all lt free below keys = All-nil (MayLink slot)
+may-all slot most records given (i ∷ is) all lt free below keys =
+    let one = may-one slot most records given i (seen_in is) (All-head (IsShelf most records given) i is all) lt free below keys in
+    All-cons (MayLink slot) i is one.0 (may-all slot most records given is (All-tail (IsShelf most records given) i is all) one.1 one.2 below keys)
+
+not-full : (most n given : ℕ) → (nat_le most n || nat_le top given) ≡ false → (n < most) × (given < top)
+not-full most n given e = let both = or-none (nat_le most n) (nat_le top given) e in (grind (arith, nat_tests, both.0), grind (arith, nat_tests, both.1))
+
+pub kept-may_link : (slot most linked : ℕ) (is : List Shelf) (t : Table Placed) (hs : Held) → IsKept most is linked t hs → (nat_le most (sum_by entries_in (seen_in is)) || nat_le top t.given) ≡ false → slot < t.limit → has_slot slot t.live ≡ false → All (MayLink slot) is
+kept-may_link slot most linked is t hs k room below free =
+    let few = not-full most (sum_by entries_in (seen_in is)) t.given room in
+    may-all slot most (most + hs.limit) t.given is k.shelves few.0 (placed-slot slot (seen_in is) hs.noted t k.placed free) (omega (arith, k.limit)) few.1
+
+pub kept-lists : (most linked : ℕ) (is : List Shelf) (t : Table Placed) (hs : Held) → IsKept most is linked t hs → All HasLists is
+kept-lists most linked is t hs k = shelves-lists is most (most + hs.limit) t.given k.shelves
 
 -- ---- what a target keeps, where its indices were lent and came back
-pub kept-lent : (most n linked : ℕ) (is new : List (Option Shelf)) (after : List (Option Index)) (u : Table Placed) (hs : Held) → length new ≡ n → seen_in new ≡ after → ArePlaced after hs.noted u → All (HasRooms most) new → u.limit ≡ most + hs.limit → linked ≡ sum_by entries_in after → length hs.noted ≤ hs.limit → hs.limit < 2 ^ 32 → IsKept most (take n (new ++ drop (length new) is)) linked u hs
-kept-lent most n linked is new after u hs len e placed rooms limit count few small =
+pub kept-lent : (most n linked : ℕ) (is new : List Shelf) (after : List (Option Index)) (u : Table Placed) (hs : Held) → length new ≡ n → seen_in new ≡ after → ArePlaced after hs.noted u → All (IsShelf most (most + hs.limit) u.given) new → u.limit ≡ most + hs.limit → linked ≡ sum_by entries_in after → length hs.noted ≤ hs.limit → hs.limit < 2 ^ 32 → IsKept most (take n (new ++ drop (length new) is)) linked u hs
+kept-lent most n linked is new after u hs len e placed shelves limit count few small =
     let whole : take n (new ++ drop (length new) is) ≡ new = rw (← len) (take-append_seam new (drop (length new) is)) in
-    rw whole (record { placed = rw e placed; rooms = rooms; limit = limit; count = rw e count; held = few; small = small })
+    rw whole (record { placed = rw e placed; shelves = shelves; limit = limit; count = rw e count; held = few; small = small })
 
-none-rooms : (most n : ℕ) → All (HasRooms most) (replicate n None)
-none-rooms most zero = All-nil (HasRooms most)
-none-rooms most (suc n) = All-cons (HasRooms most) None (replicate n None) tt (none-rooms most n)
+-- all places keep their lists
+abbrev pub KeepsShelves : List Shelf → List Shelf → Type 0
+KeepsShelves was new = (most records given : ℕ) → All (IsShelf most records given) was → All (IsShelf most records given) new
 
-pub seen-none : (n : ℕ) → seen_in (replicate n None) ≡ replicate n None
-seen-none zero = refl
-seen-none (suc n) = ap (λ is. None ∷ is) (seen-none n)
+still-shelves : (most linked : ℕ) (is was new : List Shelf) (t u : Table Placed) (hs : Held) → IsKept most is linked t hs → was ≡ is → KeepsShelves was new → u.given ≡ t.given → All (IsShelf most (most + hs.limit) u.given) new
+still-shelves most linked is was new t u hs k e keeps given =
+    subst (λ g. All (IsShelf most (most + hs.limit) g) new) (sym given) (keeps most (most + hs.limit) t.given (subst (All (IsShelf most (most + hs.limit) t.given)) (sym e) k.shelves))
 
-pub kept-none : (most room n : ℕ) → room < 2 ^ 32 → IsKept most (replicate n None) 0 (no_things (most + room)) (held [] room)
-kept-none most room n small = record {
-  placed = rw (seen-none n) (placed-none n (most + room));
-  rooms = none-rooms most n;
-  limit = refl;
-  count = rw (seen-none n) (sym (many-none n));
-  held = omega arith;
-  small = small;
-}
+same-shelves : (most linked : ℕ) (is : List Shelf) (t u : Table Placed) (hs : Held) → IsKept most is linked t hs → u.given ≡ t.given → All (IsShelf most (most + hs.limit) u.given) is
+same-shelves most linked is t u hs k given = subst (λ g. All (IsShelf most (most + hs.limit) g) is) (sym given) k.shelves
+
+pub kept-none : (most room n : ℕ) (is : List Shelf) → room < 2 ^ 32 → length is ≡ n → All (IsUnused most (most + room)) is → IsKept most is 0 (no_things (most + room)) (held [] room)
+kept-none most room n is lt many unused =
+    let none = unused-seen most (most + room) is unused in
+    record {
+      placed = rw none (placed-none (length is) (most + room));
+      shelves = unused-shelves most (most + room) is unused;
+      limit = refl;
+      count = rw none (sym (many-none (length is)));
+      held = omega arith;
+      small = lt;
+    }
+
+pub unused-indices : (most records n : ℕ) (is : List Shelf) → length is ≡ n → All (IsUnused most records) is → seen_in is ≡ replicate n None
+unused-indices most records n is many unused = unused-seen most records is unused ∙ ap (λ m. replicate m None) many
 
 -- ---- a message's entry
 
@@ -74,20 +120,30 @@ limit-after f h t = elim (is_over f.linked h) as (λ b. (if b then placed_by f.l
 pub given-after : (f : Found) (h : Header) (t : Table Placed) → (places_after f h t).given ≡ t.given
 given-after f h t = elim (is_over f.linked h) as (λ b. (if b then placed_by f.linked.handle not_linked t else t).given ≡ t.given) [ true ↦ given-by f.linked.handle not_linked t | false ↦ refl ]
 
-pub kept-settled : (most n linked : ℕ) (f : Found) (h : Header) (is was new : List (Option Shelf)) (t u : Table Placed) (hs : Held) (s : List (Option Index)) → IsKept most is linked t hs → was ≡ is → length new ≡ n → seen_in new ≡ indices_after f h (seen_in was) → ((limit : ℕ) → All (HasRooms limit) was → All (HasRooms limit) new) → u ≡ places_after f h t → seen_in is ≡ s → is_linked_at f.list f.linked.handle (index_at h.pt s) ≡ true → IsKept most (take n (new ++ drop (length new) is)) (linked_after f h linked) u hs
-kept-settled most n linked f h is was new t u hs s k e len after rooms gone seen_as there =
+pub seen-settled : (most linked : ℕ) (f : Found) (h : Header) (is was new : List Shelf) (t : Table Placed) (hs : Held) (s : List (Option Index)) → IsKept most is linked t hs → was ≡ is
+    → seen_in new ≡ slice_set (seen_in was) h.pt (settled_in f h (index_at h.pt (seen_in was))) → seen_in is ≡ s → is_linked_at f.list f.linked.handle (index_at h.pt s) ≡ true → seen_in new ≡ indices_after f h (seen_in is)
+seen-settled most linked f h is was new t hs s k e after seen_as there =
+    let at : is_linked_at f.list f.linked.handle (index_at h.pt (seen_in is)) ≡ true = rw seen_as there in
+    after ∙ ap (λ x. slice_set (seen_in x) h.pt (settled_in f h (index_at h.pt (seen_in x)))) e ∙ settled-handle f h (seen_in is) hs.noted t k.placed at
+
+pub kept-settled : (most n linked : ℕ) (f : Found) (h : Header) (is was new : List Shelf) (t u : Table Placed) (hs : Held) (s : List (Option Index)) → IsKept most is linked t hs → was ≡ is → length new ≡ n
+    → seen_in new ≡ slice_set (seen_in was) h.pt (settled_in f h (index_at h.pt (seen_in was))) → KeepsShelves was new → u ≡ places_after f h t → seen_in is ≡ s → is_linked_at f.list f.linked.handle (index_at h.pt s) ≡ true
+    → IsKept most (take n (new ++ drop (length new) is)) (linked_after f h linked) u hs
+kept-settled most n linked f h is was new t u hs s k e len after keeps gone seen_as there =
     let at : is_linked_at f.list f.linked.handle (index_at h.pt (seen_in is)) ≡ true = rw seen_as there in
     let placed : ArePlaced (indices_after f h (seen_in is)) hs.noted u = rw gone (placed-settled f h (seen_in is) hs.noted t k.placed at) in
-    kept-lent most n (linked_after f h linked) is new (indices_after f h (seen_in is)) u hs len (after ∙ ap (λ x. indices_after f h (seen_in x)) e) placed (rooms most (subst (All (HasRooms most)) (sym e) k.rooms)) (ap (λ (x : Table Placed). x.limit) gone ∙ limit-after f h t ∙ k.limit) (ap (linked_after f h) k.count ∙ many-settled f h (seen_in is) hs.noted t k.placed at) k.held k.small
+    let given : u.given ≡ t.given = ap (λ (x : Table Placed). x.given) gone ∙ given-after f h t in
+    kept-lent most n (linked_after f h linked) is new (indices_after f h (seen_in is)) u hs len (seen-settled most linked f h is was new t hs s k e after seen_as there) placed
+    (still-shelves most linked is was new t u hs k e keeps given) (ap (λ (x : Table Placed). x.limit) gone ∙ limit-after f h t ∙ k.limit) (ap (linked_after f h) k.count ∙ many-settled f h (seen_in is) hs.noted t k.placed at) k.held k.small
 
-pub kept-few : (most linked : ℕ) (is : List (Option Shelf)) (t : Table Placed) (hs : Held) (me : Handle) → IsKept most is linked t hs → headers_in (lookup me t.live) < 2 ^ 32
+pub kept-few : (most linked : ℕ) (is : List Shelf) (t : Table Placed) (hs : Held) (me : Handle) → IsKept most is linked t hs → headers_in (lookup me t.live) < 2 ^ 32
 kept-few most linked is t hs me k = omega (arith, placed-headers me (seen_in is) hs.noted t k.placed, noted-few (is_entry me) hs.noted, k.held, k.small)
 
 -- a header comes
-kept-more : (most linked : ℕ) (a : Noted) (is : List (Option Shelf)) (t : Table Placed) (hs : Held) → IsKept most is linked t hs → (w : Placed) → lookup a.header.entry t.live ≡ Some w → length hs.noted < hs.limit → IsKept most is linked (placed_by a.header.entry one_more t) (held (hs.noted ++ a ∷ []) hs.limit)
+kept-more : (most linked : ℕ) (a : Noted) (is : List Shelf) (t : Table Placed) (hs : Held) → IsKept most is linked t hs → (w : Placed) → lookup a.header.entry t.live ≡ Some w → length hs.noted < hs.limit → IsKept most is linked (placed_by a.header.entry one_more t) (held (hs.noted ++ a ∷ []) hs.limit)
 kept-more most linked a is t hs k w at lt = record {
   placed = placed-more a w (seen_in is) hs.noted t k.placed at;
-  rooms = k.rooms;
+  shelves = same-shelves most linked is t (placed_by a.header.entry one_more t) hs k (given-by a.header.entry one_more t);
   limit = limit-by a.header.entry one_more t ∙ k.limit;
   count = k.count;
   held = simp length-append (omega arith);
@@ -95,7 +151,7 @@ kept-more most linked a is t hs k w at lt = record {
 }
 
 -- a message in the overflow list leaves its header
-pub kept-noted : (most linked : ℕ) (f : Found) (h : Header) (is : List (Option Shelf)) (t u : Table Placed) (hs gs : Held) (s : List (Option Index)) → IsKept most is linked t hs → HasRoom f.list hs → seen_in is ≡ s → is_linked_at f.list f.linked.handle (index_at h.pt s) ≡ true → gs ≡ headers_after f h hs → u ≡ noted_places f t → IsKept most is linked u gs
+pub kept-noted : (most linked : ℕ) (f : Found) (h : Header) (is : List Shelf) (t u : Table Placed) (hs gs : Held) (s : List (Option Index)) → IsKept most is linked t hs → HasRoom f.list hs → seen_in is ≡ s → is_linked_at f.list f.linked.handle (index_at h.pt s) ≡ true → gs ≡ headers_after f h hs → u ≡ noted_places f t → IsKept most is linked u gs
 kept-noted most linked f h is t u hs gs s k room seen_as there eg eu =
     let me : Handle = f.linked.handle in
     let a : Noted = record { pt = h.pt; header = record { entry = me; place = place f.linked h; delivered = delivered f.linked h; header = h } } in
@@ -107,29 +163,29 @@ kept-noted most linked f h is t u hs gs s k room seen_as there eg eu =
     ] room at)
 
 -- the oldest header that an entry finds goes
-pub kept-fewer : (most linked pt : ℕ) (e : Entry) (a : Noted) (is : List (Option Shelf)) (t u : Table Placed) (hs gs : Held) → IsKept most is linked t hs → oldest pt e hs.noted ≡ Some a → gs ≡ held (without_oldest pt e hs.noted) hs.limit → u ≡ placed_by a.header.entry one_fewer t → IsKept most is linked u gs
+pub kept-fewer : (most linked pt : ℕ) (e : Entry) (a : Noted) (is : List Shelf) (t u : Table Placed) (hs gs : Held) → IsKept most is linked t hs → oldest pt e hs.noted ≡ Some a → gs ≡ held (without_oldest pt e hs.noted) hs.limit → u ≡ placed_by a.header.entry one_fewer t → IsKept most is linked u gs
 kept-fewer most linked pt e a is t u hs gs k o eg eu =
     let n = noted-oldest (λ h. true) pt e hs.noted a o in
     rw (eg, eu)
     (record {
       placed = placed-fewer a.header.entry (seen_in is) hs.noted (without_oldest pt e hs.noted) t k.placed (λ p. noted-oldest p pt e hs.noted a o);
-      rooms = k.rooms;
+      shelves = same-shelves most linked is t (placed_by a.header.entry one_fewer t) hs k (given-by a.header.entry one_fewer t);
       limit = limit-by a.header.entry one_fewer t ∙ k.limit;
       count = k.count;
       held = omega (arith, n, k.held, noted-all hs.noted, noted-all (without_oldest pt e hs.noted));
       small = k.small;
     })
 
-pub kept-frees : (most linked pt : ℕ) (e : Entry) (a : Noted) (is : List (Option Shelf)) (t : Table Placed) (hs : Held) → IsKept most is linked t hs → oldest pt e hs.noted ≡ Some a → frees_at (seen_in is) t a ≡ not (is_linked_at Overflow a.header.entry (index_at a.pt (seen_in is)) || names_entry a.header.entry (without_oldest pt e hs.noted))
+pub kept-frees : (most linked pt : ℕ) (e : Entry) (a : Noted) (is : List Shelf) (t : Table Placed) (hs : Held) → IsKept most is linked t hs → oldest pt e hs.noted ≡ Some a → frees_at (seen_in is) t a ≡ not (is_linked_at Overflow a.header.entry (index_at a.pt (seen_in is)) || names_entry a.header.entry (without_oldest pt e hs.noted))
 kept-frees most linked pt e a is t hs k o = placed-frees a (seen_in is) hs.noted (without_oldest pt e hs.noted) t k.placed (λ p. noted-oldest p pt e hs.noted a o)
 
 -- all headers that an entry finds go
-pub kept-left : (most linked pt : ℕ) (e : Entry) (is : List (Option Shelf)) (t u : Table Placed) (hs gs : Held) → IsKept most is linked t hs → ArePlaced (seen_in is) (left_in pt e hs.noted) u → u.limit ≡ t.limit → gs ≡ held (left_in pt e hs.noted) hs.limit → IsKept most is linked u gs
-kept-left most linked pt e is t u hs gs k placed limit eg =
+pub kept-left : (most linked pt : ℕ) (e : Entry) (is : List Shelf) (t u : Table Placed) (hs gs : Held) → IsKept most is linked t hs → ArePlaced (seen_in is) (left_in pt e hs.noted) u → u.limit ≡ t.limit → u.given ≡ t.given → gs ≡ held (left_in pt e hs.noted) hs.limit → IsKept most is linked u gs
+kept-left most linked pt e is t u hs gs k placed limit given eg =
     rw eg
     (record {
       placed = placed;
-      rooms = k.rooms;
+      shelves = same-shelves most linked is t u hs k given;
       limit = limit ∙ k.limit;
       count = k.count;
       held = omega (arith, noted-both (λ h. true) pt e hs.noted, k.held, noted-all hs.noted, noted-all (left_in pt e hs.noted));
@@ -138,25 +194,38 @@ kept-left most linked pt e is t u hs gs k placed limit eg =
 
 -- ---- a place of the portal table
 
-pub kept-put : (most n pt linked : ℕ) (is was new : List (Option Shelf)) (o : Option Shelf) (t : Table Placed) (hs : Held) → IsKept most is linked t hs → was ≡ is → length new ≡ n → seen_in new ≡ slice_set (seen_in was) pt (seen o) → ((limit : ℕ) → HasRooms limit o → All (HasRooms limit) was → All (HasRooms limit) new) → HasRooms most o → entries_in (seen o) ≡ 0 → entries_in (index_at pt (seen_in is)) ≡ 0 → IsKept most (take n (new ++ drop (length new) is)) linked t hs
-kept-put most n pt linked is was new o t hs k e len after rooms room none had =
-    kept-lent most n linked is new (slice_set (seen_in is) pt (seen o)) t hs len (after ∙ ap (λ x. slice_set (seen_in x) pt (seen o)) e) (placed-empty pt (seen_in is) hs.noted t (seen o) k.placed none had) (rooms most room (subst (All (HasRooms most)) (sym e) k.rooms)) k.limit (k.count ∙ sym (many-empty pt (seen_in is) (seen o) none had)) k.held k.small
+pub kept-put : (most n pt linked : ℕ) (is was new : List Shelf) (o : Option Index) (t : Table Placed) (hs : Held) → IsKept most is linked t hs → was ≡ is → length new ≡ n → seen_in new ≡ slice_set (seen_in was) pt o
+    → KeepsShelves was new → entries_in o ≡ 0 → entries_in (index_at pt (seen_in is)) ≡ 0 → IsKept most (take n (new ++ drop (length new) is)) linked t hs
+kept-put most n pt linked is was new o t hs k e len after keeps none had =
+    kept-lent most n linked is new (slice_set (seen_in is) pt o) t hs len (after ∙ ap (λ x. slice_set (seen_in x) pt o) e) (placed-empty pt (seen_in is) hs.noted t o k.placed none had)
+    (still-shelves most linked is was new t t hs k e keeps refl) k.limit (k.count ∙ sym (many-empty pt (seen_in is) o none had)) k.held k.small
 
 -- ---- an entry goes
 
-pub kept-unlinked : (most n linked : ℕ) (me : Handle) (w : Placed) (is was new : List (Option Shelf)) (t u : Table Placed) (hs : Held) → IsKept most is linked t hs → was ≡ is → length new ≡ n → seen_in new ≡ slice_set (seen_in was) w.pt (unlinked_in me (index_at w.pt (seen_in was))) → ((limit : ℕ) → All (HasRooms limit) was → All (HasRooms limit) new) → u ≡ placed_by me not_linked t → lookup me t.live ≡ Some w → w.linked ≡ true → IsKept most (take n (new ++ drop (length new) is)) (linked - 1) u hs
-kept-unlinked most n linked me w is was new t u hs k e len after rooms gone at on =
+pub kept-unlinked : (most n linked : ℕ) (me : Handle) (w : Placed) (is was new : List Shelf) (t u : Table Placed) (hs : Held) → IsKept most is linked t hs → was ≡ is → length new ≡ n
+    → seen_in new ≡ slice_set (seen_in was) w.pt (unlinked_in me (index_at w.pt (seen_in was))) → KeepsShelves was new → u ≡ placed_by me not_linked t → lookup me t.live ≡ Some w → w.linked ≡ true
+    → IsKept most (take n (new ++ drop (length new) is)) (linked - 1) u hs
+kept-unlinked most n linked me w is was new t u hs k e len after keeps gone at on =
     let placed : ArePlaced (map (unlinked_in me) (seen_in is)) hs.noted u = rw gone (placed-unlinked me w (seen_in is) hs.noted t k.placed at) in
-    kept-lent most n (linked - 1) is new (map (unlinked_in me) (seen_in is)) u hs len (after ∙ ap (λ x. slice_set (seen_in x) w.pt (unlinked_in me (index_at w.pt (seen_in x)))) e ∙ sym (unlinked-at me w (seen_in is) hs.noted t k.placed at)) placed (rooms most (subst (All (HasRooms most)) (sym e) k.rooms)) (ap (λ (x : Table Placed). x.limit) gone ∙ limit-by me not_linked t ∙ k.limit) (omega (arith, k.count, one-off me w (seen_in is) hs.noted t k.placed at on)) k.held k.small
+    let given : u.given ≡ t.given = ap (λ (x : Table Placed). x.given) gone ∙ given-by me not_linked t in
+    kept-lent most n (linked - 1) is new (map (unlinked_in me) (seen_in is)) u hs len
+    (after ∙ ap (λ x. slice_set (seen_in x) w.pt (unlinked_in me (index_at w.pt (seen_in x)))) e ∙ sym (unlinked-at me w (seen_in is) hs.noted t k.placed at)) placed
+    (still-shelves most linked is was new t u hs k e keeps given) (ap (λ (x : Table Placed). x.limit) gone ∙ limit-by me not_linked t ∙ k.limit) (omega (arith, k.count, one-off me w (seen_in is) hs.noted t k.placed at on)) k.held k.small
 
 -- ---- an entry comes
 
-pub kept-linked : (most n pt slot linked : ℕ) (place : Place) (entry : Entry) (me : Handle) (is was new : List (Option Shelf)) (t u : Table Placed) (hs : Held) → IsKept most is linked t hs → was ≡ is → length new ≡ n → seen_in new ≡ slice_set (seen_in was) pt (linked_at place (fresh me entry) (index_at pt (seen_in was))) → ((limit : ℕ) → All (HasRooms limit) was → All (HasRooms limit) new) → u ≡ with_new slot (fresh_at pt) t → me ≡ handle slot t.given → is_some (index_at pt (seen_in is)) ≡ true → has_slot slot t.live ≡ false → IsKept most (take n (new ++ drop (length new) is)) (linked + 1) u hs
-kept-linked most n pt slot linked place entry me is was new t u hs k e len after rooms more named there free =
+pub kept-linked : (most n pt slot linked : ℕ) (place : Place) (entry : Entry) (me : Handle) (is was new : List Shelf) (t u : Table Placed) (hs : Held) → IsKept most is linked t hs → was ≡ is → length new ≡ n
+    → seen_in new ≡ slice_set (seen_in was) pt (linked_at place (fresh me entry) (index_at pt (seen_in was))) → ((most records given : ℕ) → All (IsShelf most records given) was → All (IsShelf most records (given + 1)) new)
+    → u ≡ with_new slot (fresh_at pt) t → me ≡ handle slot t.given → is_some (index_at pt (seen_in is)) ≡ true → has_slot slot t.live ≡ false → IsKept most (take n (new ++ drop (length new) is)) (linked + 1) u hs
+kept-linked most n pt slot linked place entry me is was new t u hs k e len after keeps more named there free =
     let ks : List (Option Index) = slice_set (seen_in is) pt (linked_at place (fresh me entry) (index_at pt (seen_in is))) in
     let placed : ArePlaced ks hs.noted u = rw (more, named) (placed-linked slot pt place entry (seen_in is) hs.noted t k.placed there free) in
     let many : sum_by entries_in ks ≡ sum_by entries_in (seen_in is) + 1 = rw named (many-linked slot pt t.given place entry (seen_in is) there) in
-    kept-lent most n (linked + 1) is new ks u hs len (after ∙ ap (λ x. slice_set (seen_in x) pt (linked_at place (fresh me entry) (index_at pt (seen_in x)))) e) placed (rooms most (subst (All (HasRooms most)) (sym e) k.rooms)) (ap (λ (x : Table Placed). x.limit) more ∙ k.limit) (omega (arith, k.count, many)) k.held k.small
+    let given : u.given ≡ t.given + 1 = ap (λ (x : Table Placed). x.given) more in
+    let shelves : All (IsShelf most (most + hs.limit) u.given) new =
+    subst (λ g. All (IsShelf most (most + hs.limit) g) new) (sym given) (keeps most (most + hs.limit) t.given (subst (All (IsShelf most (most + hs.limit) t.given)) (sym e) k.shelves)) in
+    kept-lent most n (linked + 1) is new ks u hs len (after ∙ ap (λ x. slice_set (seen_in x) pt (linked_at place (fresh me entry) (index_at pt (seen_in x)))) e) placed
+    shelves (ap (λ (x : Table Placed). x.limit) more ∙ k.limit) (omega (arith, k.count, many)) k.held k.small
 
 pub none-in : (o : Option Index) → is_some o ≡ false → entries_in o ≡ 0
 none-in None e = refl
@@ -173,7 +242,7 @@ full-by most linked n limit top_given le at =
       | false ↦ λ e. let room : nat_le limit n ≡ false = grind (arith, nat_tests) in rw room refl
     ] refl
 
-pub full-kept : (most linked : ℕ) (is : List (Option Shelf)) (t : Table Placed) (hs : Held) → IsKept most is linked t hs → (nat_le most linked || is_full t) ≡ (nat_le most (sum_by entries_in (seen_in is)) || nat_le top t.given)
+pub full-kept : (most linked : ℕ) (is : List Shelf) (t : Table Placed) (hs : Held) → IsKept most is linked t hs → (nat_le most linked || is_full t) ≡ (nat_le most (sum_by entries_in (seen_in is)) || nat_le top t.given)
 full-kept most linked is t hs k =
     rw (← k.count) (full-by most linked (length t.live) t.limit (nat_le top t.given) (omega (arith, placed-few (seen_in is) hs.noted t k.placed, k.count, k.held, k.limit)) (omega (arith, k.limit)))
 
@@ -181,12 +250,12 @@ pub or-right : (a b : Bool) → (a || b) ≡ false → b ≡ false
 or-right true b e = cc
 or-right false b e = e
 
-pub full-where : (most linked : ℕ) (is : List (Option Shelf)) (t : Table Placed) (hs : Held) → IsKept most is linked t hs → linked < most → is_full t ≡ (nat_le most (sum_by entries_in (seen_in is)) || nat_le top t.given)
+pub full-where : (most linked : ℕ) (is : List Shelf) (t : Table Placed) (hs : Held) → IsKept most is linked t hs → linked < most → is_full t ≡ (nat_le most (sum_by entries_in (seen_in is)) || nat_le top t.given)
 full-where most linked is t hs k lt =
     let e : nat_le most linked ≡ false = grind (arith, nat_tests) in
     rw e at (full-kept most linked is t hs k)
 
-pub linked-few : (most linked : ℕ) (is : List (Option Shelf)) (t : Table Placed) (hs : Held) → IsKept most is linked t hs → (nat_le most (sum_by entries_in (seen_in is)) || nat_le top t.given) ≡ false → linked < most
+pub linked-few : (most linked : ℕ) (is : List Shelf) (t : Table Placed) (hs : Held) → IsKept most is linked t hs → (nat_le most (sum_by entries_in (seen_in is)) || nat_le top t.given) ≡ false → linked < most
 linked-few most linked is t hs k e =
     elim (nat_le most (sum_by entries_in (seen_in is))) as (λ b. nat_le most (sum_by entries_in (seen_in is)) ≡ b → (b || nat_le top t.given) ≡ false → linked < most) [
       | true ↦ λ f g. cc

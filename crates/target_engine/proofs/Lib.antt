@@ -1,3 +1,4 @@
+pub mod Choosing
 pub mod Counting
 pub mod Exchanging
 pub mod Headers

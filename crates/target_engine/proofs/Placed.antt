@@ -1,8 +1,6 @@
 -- The records and the linked entries and headers agree, before and after each call.
 use Rattle.std.proofs.Common.{◌≡◌, ℕ, zero, suc, ◌+◌, ◌-◌, ◌<◌, ◌≤◌, Bool, true, false, not, ◌||◌, ◌&&◌, List, [], ◌∷◌, ◌++◌, Option, Some, None, map, length, get_or, set, if◌then◌else◌, nat_lt, nat_le, nat_eq, refl, sym, ap, ◌∙◌, arith, replicate}
 use Rattle.std.specs.Prelude.{sum_by, is_some, slice_set}
-use Rattle.std.proofs.lemmas.List.Sums.{get_or-le-sum_by}
-use Rattle.std.proofs.lemmas.List.{get_or_past}
 use Rattle.std.proofs.lemmas.Bool.Decides.{nat_tests}
 use Rattle.ptl_types.specs.declared.handles.Handle.{Handle}
 use Rattle.ptl_types.specs.declared.headers.Header.{Header}
@@ -21,8 +19,8 @@ use Rattle.ni_model.specs.Refusals.{is_linked_anywhere}
 use Rattle.ni_model.specs.Append.{fresh, linked_at}
 use Rattle.ni_model.specs.Calls.{slot_in, entry_slot, unlinked_in}
 use Rattle.target_engine.specs.declared.places.Placed.{Placed}
-use Rattle.target_engine.specs.Shelves.{entries_by, index_by, linked_by, noted_by, sum_of, named_as, linked_as, headers_as, idle_as, is_idle, is_on, where_on, headers_in, frees_at, one_more, one_fewer, not_linked, placed_anew, changed_by, placed_by, places_after, linked_after, ArePlaced}
-use Rattle.target_engine.proofs.Counting.{any_handle, is_handle, is_slot, but, elsewhere, is_linked_anywhere-count, entry_slot-count, linked-all, linked-unlinked, entries-push, entries-advanced, linked-set, linked-same, linked-split, unlinked-none, map-at}
+use Rattle.target_engine.specs.Shelves.{entries_by, index_by, linked_by, noted_by, sum_of, named_as, linked_as, headers_as, idle_as, is_idle, is_on, where_on, headers_in, frees_at, one_more, one_fewer, not_linked, placed_anew, changed_by, placed_by, places_after, linked_after, advanced_in, settled_in, ArePlaced}
+use Rattle.target_engine.proofs.Counting.{any_handle, is_handle, is_slot, but, elsewhere, is_linked_anywhere-count, entry_slot-count, linked-all, linked-unlinked, entries-push, entries-advanced, linked-set, linked-same, linked-split, unlinked-none, advanced-none, map-at}
 use Rattle.target_engine.proofs.Headers.{is_entry, names-count, noted-all, noted-append}
 use Rattle.target_engine.proofs.Records.{one_if, same-self, number_at, sum-split, but-zero, but-same, sum-push, sum-anew, named-anew, busy-anew}
 
@@ -237,7 +235,7 @@ placed-on me is hs t a e = on-some (lookup me t.live) (sym (placed-anywhere me i
 
 -- ---- an entry goes by a message
 
-is_linked-some : (h : Handle) (k : ℕ) (xs : List Linked) → is_linked h xs ≡ true → 0 < entries_by (is_handle h) k xs
+pub is_linked-some : (h : Handle) (k : ℕ) (xs : List Linked) → is_linked h xs ≡ true → 0 < entries_by (is_handle h) k xs
 is_linked-some h k [] e = cc
 is_linked-some h k (x ∷ xs) e =
     elim (same_handle x.handle h) as (λ b. (b || is_linked h xs) ≡ true → 0 < (if b then 1 else 0) + entries_by (is_handle h) k xs) [
@@ -255,6 +253,16 @@ one-list Overflow me k i e one =
     let o : entries_by (is_handle me) k i.priority ≡ 0 = omega arith in
     rw (unlinked-none me k i.priority o) refl
 
+one-advanced : (place : Place) (me : Handle) (to k : ℕ) (i : Index) → is_linked_at place me (Some i) ≡ true → index_by (is_handle me) k (Some i) ≤ 1 → advanced_in me to (Some i) ≡ Some (with_list place (advanced me to) i)
+one-advanced Priority me to k i e one =
+    let s = is_linked-some me k i.priority e in
+    let o : entries_by (is_handle me) k i.overflow ≡ 0 = omega arith in
+    rw (advanced-none me to k i.overflow o) refl
+one-advanced Overflow me to k i e one =
+    let s = is_linked-some me k i.overflow e in
+    let o : entries_by (is_handle me) k i.priority ≡ 0 = omega arith in
+    rw (advanced-none me to k i.priority o) refl
+
 linked_at-some : (place : Place) (me : Handle) (k : ℕ) (o : Option Index) → is_linked_at place me o ≡ true → 0 < index_by (is_handle me) k o
 linked_at-some place me k None e = cc
 linked_at-some Priority me k (Some i) e = omega (arith, is_linked-some me k i.priority e)
@@ -271,12 +279,53 @@ over-at : (f : Found) (h : Header) (k : ℕ) (o : Option Index) → is_over f.li
 over-at f h k None over e one = refl
 over-at f h k (Some i) over e one = ap (λ (j : Index). Some j) (list-over f.list f.linked h i over) ∙ sym (one-list f.list f.linked.handle k i e one)
 
+-- where it doesn't go, it is advanced or stays as it is
+entries-kept : (x : Linked) (h : Header) (xs : List Linked) → is_over x h ≡ false → entries_after x h xs ≡ (if x.entry.manage_local then advanced x.handle (running_after x h) xs else xs)
+entries-kept x h xs over = rw over refl
+
+list-kept : (place : Place) (x : Linked) (h : Header) (i : Index) → is_over x h ≡ false → with_list place (entries_after x h) i ≡ (if x.entry.manage_local then with_list place (advanced x.handle (running_after x h)) i else i)
+list-kept Priority x h i over =
+    rw (entries-kept x h i.priority over)
+    (elim x.entry.manage_local as (λ b. with_list Priority (λ xs. if b then advanced x.handle (running_after x h) i.priority else i.priority) i ≡ (if b then with_list Priority (advanced x.handle (running_after x h)) i else i)) [ true ↦ refl | false ↦ refl ])
+list-kept Overflow x h i over =
+    rw (entries-kept x h i.overflow over)
+    (elim x.entry.manage_local as (λ b. with_list Overflow (λ xs. if b then advanced x.handle (running_after x h) i.overflow else i.overflow) i ≡ (if b then with_list Overflow (advanced x.handle (running_after x h)) i else i)) [ true ↦ refl | false ↦ refl ])
+
+kept-at : (f : Found) (h : Header) (k : ℕ) (i : Index) → is_over f.linked h ≡ false → is_linked_at f.list f.linked.handle (Some i) ≡ true → index_by (is_handle f.linked.handle) k (Some i) ≤ 1
+    → (if f.linked.entry.manage_local then advanced_in f.linked.handle (running_after f.linked h) (Some i) else Some i) ≡ settled_at f h (Some i)
+kept-at f h k i over e one =
+    ap (λ o. if f.linked.entry.manage_local then o else Some i) (one-advanced f.list f.linked.handle (running_after f.linked h) k i e one)
+    ∙ some-if f.linked.entry.manage_local (with_list f.list (advanced f.linked.handle (running_after f.linked h)) i) i
+    ∙ ap (λ (j : Index). Some j) (sym (list-kept f.list f.linked h i over))
+  where
+    some-if : (b : Bool) (i j : Index) → (if b then Some i else Some j) ≡ Some (if b then i else j)
+    some-if true i j = refl
+    some-if false i j = refl
+
+settled-alone : (f : Found) (h : Header) (k : ℕ) (i : Index) → is_linked_at f.list f.linked.handle (Some i) ≡ true → index_by (is_handle f.linked.handle) k (Some i) ≤ 1 → settled_in f h (Some i) ≡ settled_at f h (Some i)
+settled-alone f h k i e one =
+    elim (is_over f.linked h) as (λ b. is_over f.linked h ≡ b → (if b then unlinked_in f.linked.handle (Some i) else (if f.linked.entry.manage_local then advanced_in f.linked.handle (running_after f.linked h) (Some i) else Some i)) ≡ settled_at f h (Some i)) [
+      | true ↦ λ over. sym (over-at f h k (Some i) over e one)
+      | false ↦ λ over. kept-at f h k i over e one
+    ] refl
+
+settled-one : (f : Found) (h : Header) (k : ℕ) (o : Option Index) → is_linked_at f.list f.linked.handle o ≡ true → index_by (is_handle f.linked.handle) k o ≤ 1 → settled_in f h o ≡ settled_at f h o
+settled-one f h k None e one = cc
+settled-one f h k (Some i) e one = settled-alone f h k i e one
+
 number-few : (me : Handle) (o : Option Placed) → number_at (linked_as (is_handle me)) me o ≤ 1
 number-few me None = omega arith
 number-few me (Some v) = elim (v.linked && same_handle me me) as (λ b. (if b then 1 else 0) ≤ 1) [ true ↦ omega arith | false ↦ omega arith ]
 
 few-at : (me : Handle) (pt : ℕ) (is : List (Option Index)) (hs : List Noted) (t : Table Placed) → ArePlaced is hs t → linked_by (is_handle me) 0 is ≤ 1
 few-at me pt is hs t a = omega (arith, a.same (is_handle me), there-alone (linked_as (is_handle me)) me is hs t a (λ h v e. apart-linked v.linked (same_handle h me) e), number-few me (lookup me t.live))
+
+pub few-here : (me : Handle) (pt : ℕ) (is : List (Option Index)) (hs : List Noted) (t : Table Placed) → ArePlaced is hs t → index_by (is_handle me) pt (get_or is pt None) ≤ 1
+few-here me pt is hs t a = omega (arith, few-at me pt is hs t a, linked-split me pt 0 pt is (omega arith))
+
+-- an entry is in one list alone: what becomes of it in both is what becomes of it there
+pub settled-handle : (f : Found) (h : Header) (is : List (Option Index)) (hs : List Noted) (t : Table Placed) → ArePlaced is hs t → is_linked_at f.list f.linked.handle (index_at h.pt is) ≡ true → slice_set is h.pt (settled_in f h (index_at h.pt is)) ≡ indices_after f h is
+settled-handle f h is hs t a e = ap (λ o. set is h.pt o) (settled-one f h h.pt (get_or is h.pt None) e (few-here f.linked.handle h.pt is hs t a))
 
 pub settled-over : (f : Found) (h : Header) (is : List (Option Index)) (hs : List Noted) (t : Table Placed) → ArePlaced is hs t → is_linked_at f.list f.linked.handle (index_at h.pt is) ≡ true → is_over f.linked h ≡ true → indices_after f h is ≡ map (unlinked_in f.linked.handle) is
 settled-over f h is hs t a e over =
@@ -458,11 +507,3 @@ entry_slot-past s (Some i ∷ is) le = rw (slot_in-past s i.priority (omega arit
 
 pub free_slot : (is : List (Option Index)) → (s : ℕ) × (entry_slot is s ≡ false)
 free_slot is = (all_slots is, entry_slot-past (all_slots is) is (omega arith))
-
--- ---- the lists have room
-
-pub index-few : (limit pt : ℕ) (is : List (Option Index)) → sum_by entries_in is < limit → entries_in (index_at pt is) < limit
-index-few limit pt is lt = elim (nat_lt pt (length is)) as (λ b. nat_lt pt (length is) ≡ b → entries_in (index_at pt is) < limit) [
-  | true ↦ λ e. let d : pt < length is = grind (arith, nat_tests) in omega (arith, get_or-le-sum_by entries_in is pt None d)
-  | false ↦ λ e. let d : length is ≤ pt = grind (arith, nat_tests) in let past : index_at pt is ≡ None = get_or_past is pt None d in rw past (omega arith)
-] refl

@@ -1,47 +1,191 @@
--- An index is seen as its queue and its lists, in the portal table and after a change of one place.
-use Rattle.std.proofs.Common.{◌≡◌, ℕ, List, Option, Some, None, refl, set, ◌++◌, [], ◌∷◌}
-use Rattle.std.specs.Prelude.{All, slice_index_or}
-use Rattle.std.proofs.lemmas.List.{map-set}
-use Rattle.std.proofs.lemmas.List.Elements.{All-set}
-use Rattle.std.proofs.Math.ListN.{get_or-map as get_or-mapped}
+-- A place of the portal table is seen as its index, where one is allocated: in the table, and after a change of one place.
+use Rattle.std.proofs.Common.{◌≡◌, ℕ, ◌+◌, ◌<◌, ◌≤◌, Bool, true, false, List, Option, Some, None, length, get_or, set, ◌++◌, [], ◌∷◌, if◌then◌else◌, refl, ap, sym, ◌∙◌, arith, replicate}
+use Rattle.std.specs.Prelude.{All, is_some}
+use Rattle.std.proofs.lemmas.List.{map-set, get_or-map, get_or_past, length-map}
+use Rattle.std.proofs.lemmas.List.Elements.{All-head, All-tail, All-nil, All-cons, All-get_or, All-set}
 use Rattle.ptl_types.specs.declared.handles.Handle.{Handle}
+use Rattle.ptl_types.specs.declared.headers.Header.{Header}
 use Rattle.ptl_types.specs.declared.entries.List.{List as Place}
 use Rattle.ptl_types.specs.declared.entries.List.TheVariants.{Priority, Overflow}
 use Rattle.ni_model.specs.declared.Linked.{Linked}
-use Rattle.ni_model.specs.Lists.{index_at, with_list}
+use Rattle.ni_model.specs.declared.Found.{Found}
+use Rattle.ni_model.specs.Lists.{Index, index_at, entries_in}
+use Rattle.ni_model.specs.Arrive.{is_over, running_after}
 use Rattle.ni_model.specs.Append.{linked_at}
-use Rattle.match_lists.specs.Lists.{Both, with_entries}
+use Rattle.ni_model.specs.Calls.{new_index, unlinked_in}
+use Rattle.match_lists.specs.Lists.{Both, linked_as, with_entries, without_entry, advanced_to}
 use Rattle.target_engine.specs.declared.index.Index.{Index as Shelf}
-use Rattle.target_engine.specs.Shelves.{index, seen, seen_in, HasRooms}
+use Rattle.target_engine.specs.Shelves.{index, seen, seen_in, linked_in, advanced_in, settled_lists, settled_in, AreEmpty, HasLists, IsShelf, IsUnused}
 
-pub index-with_entries : (place : Place) (f : List Linked → List Linked) (eq : Option Handle) (b : Both) → index eq (with_entries place f b) ≡ with_list place f (index eq b)
-index-with_entries Priority f eq b = refl
-index-with_entries Overflow f eq b = refl
+-- ---- one place
 
-pub limit-with_entries : (place : Place) (f : List Linked → List Linked) (b : Both) → (with_entries place f b).limit ≡ b.limit
-limit-with_entries Priority f b = refl
-limit-with_entries Overflow f b = refl
+pub seen-on : (i : Shelf) → i.allocated ≡ true → seen i ≡ Some (index i.eq i.lists)
+seen-on i e = rw e refl
 
-pub ruleset index_views = (index-with_entries, limit-with_entries)
+pub seen-off : (i : Shelf) → i.allocated ≡ false → seen i ≡ None
+seen-off i e = rw e refl
 
--- an append to one list
-pub index-linked : (place : Place) (x : Linked) (eq : Option Handle) (b : Both) → Some (index eq (with_entries place (λ xs. xs ++ x ∷ []) b)) ≡ linked_at place x (Some (index eq b))
-index-linked Priority x eq b = refl
-index-linked Overflow x eq b = refl
+pub on-seen : (i : Shelf) → is_some (seen i) ≡ true → i.allocated ≡ true
+on-seen i e = elim i.allocated as (λ b. is_some (if b then Some (index i.eq i.lists) else None) ≡ true → b ≡ true) [ true ↦ λ f. refl | false ↦ λ f. cc ] e
 
-pub ruleset linking = (index-linked, limit-with_entries)
+pub linked-seen : (me : Handle) (x : Linked) (i : Shelf) → linked_in me (seen i) ≡ Some x → linked_as me i.lists ≡ Some x
+linked-seen me x i e =
+    elim i.allocated as (λ b. linked_in me (if b then Some (index i.eq i.lists) else None) ≡ Some x → linked_as me i.lists ≡ Some x) [ true ↦ λ f. f | false ↦ λ f. cc ] e
 
--- a look-up in the table
-pub index_at-seen : (pt : ℕ) (is : List (Option Shelf)) → index_at pt (seen_in is) ≡ seen (slice_index_or is pt None)
-index_at-seen pt is = get_or-mapped seen is pt None
+no-length : {A : Type 0} (xs : List A) → length xs ≡ 0 → xs ≡ []
+no-length [] e = refl
+no-length (x ∷ xs) e = absurd (omega arith)
 
-pub ruleset seeing = (index_at-seen)
+none-linked : (b : Both) → length b.priority + length b.overflow ≡ 0 → AreEmpty b
+none-linked b e = (no-length b.priority (omega arith), no-length b.overflow (omega arith))
+
+-- where no entry is linked the lists are empty
+pub seen-empty : (i : Shelf) → HasLists i → entries_in (seen i) ≡ 0 → AreEmpty i.lists
+seen-empty i has e =
+    elim i.allocated as (λ b. i.allocated ≡ b → entries_in (if b then Some (index i.eq i.lists) else None) ≡ 0 → AreEmpty i.lists) [
+      | true ↦ λ on f. none-linked i.lists f
+      | false ↦ λ on f. has on
+    ] refl e
+
+-- ---- a place whose lists change
+
+abbrev pub with_lists : Shelf → Both → Shelf
+with_lists i b = record i { lists = b }
+
+pub new-seen : (eq : Option Handle) (b : Both) → AreEmpty b → Some (index eq b) ≡ Some (new_index eq)
+new-seen eq b e = rw (e.0, e.1) refl
+
+pub linked-index : (list : Place) (x : Linked) (n : ℕ) (i : Shelf) → seen (with_lists i (with_entries list (λ xs. xs ++ x ∷ []) n i.lists)) ≡ linked_at list x (seen i)
+linked-index Priority x n i =
+    elim i.allocated as (λ b. (if b then Some (index i.eq (with_entries Priority (λ xs. xs ++ x ∷ []) n i.lists)) else None) ≡ linked_at Priority x (if b then Some (index i.eq i.lists) else None)) [ true ↦ refl | false ↦ refl ]
+linked-index Overflow x n i =
+    elim i.allocated as (λ b. (if b then Some (index i.eq (with_entries Overflow (λ xs. xs ++ x ∷ []) n i.lists)) else None) ≡ linked_at Overflow x (if b then Some (index i.eq i.lists) else None)) [ true ↦ refl | false ↦ refl ]
+
+pub unlinked-index : (me : Handle) (i : Shelf) → seen (with_lists i (without_entry me i.lists)) ≡ unlinked_in me (seen i)
+unlinked-index me i =
+    elim i.allocated as (λ b. (if b then Some (index i.eq (without_entry me i.lists)) else None) ≡ unlinked_in me (if b then Some (index i.eq i.lists) else None)) [ true ↦ refl | false ↦ refl ]
+
+abbrev settled_more : Found → Header → Option Index → Option Index
+settled_more f h o = if f.linked.entry.manage_local then advanced_in f.linked.handle (running_after f.linked h) o else o
+
+settled-here : (f : Found) (h : Header) (eq : Option Handle) (b : Both) → Some (index eq (settled_lists f h b)) ≡ settled_in f h (Some (index eq b))
+settled-here f h eq b =
+    elim (is_over f.linked h) as (λ o. Some (index eq (if o then without_entry f.linked.handle b else (if f.linked.entry.manage_local then advanced_to f.linked.handle (running_after f.linked h) b else b))) ≡ (if o then unlinked_in f.linked.handle (Some (index eq b)) else settled_more f h (Some (index eq b)))) [
+      | true ↦ refl
+      | false ↦ elim f.linked.entry.manage_local as (λ m. Some (index eq (if m then advanced_to f.linked.handle (running_after f.linked h) b else b)) ≡ (if m then advanced_in f.linked.handle (running_after f.linked h) (Some (index eq b)) else Some (index eq b))) [ true ↦ refl | false ↦ refl ]
+    ]
+
+settled-none : (f : Found) (h : Header) → settled_in f h None ≡ None
+settled-none f h =
+    elim (is_over f.linked h) as (λ o. (if o then None else settled_more f h None) ≡ None) [
+      | true ↦ refl
+      | false ↦ elim f.linked.entry.manage_local as (λ m. (if m then advanced_in f.linked.handle (running_after f.linked h) None else None) ≡ None) [ true ↦ refl | false ↦ refl ]
+    ]
+
+pub settled-index : (f : Found) (h : Header) (i : Shelf) → seen (with_lists i (settled_lists f h i.lists)) ≡ settled_in f h (seen i)
+settled-index f h i =
+    elim i.allocated as (λ b. (if b then Some (index i.eq (settled_lists f h i.lists)) else None) ≡ settled_in f h (if b then Some (index i.eq i.lists) else None)) [
+      | true ↦ settled-here f h i.eq i.lists
+      | false ↦ sym (settled-none f h)
+    ]
+
+-- ---- what it keeps
+
+-- lists with as much room, and empty where these were
+record StaysShelf (b c : Both) : Type 0 where
+  limit : c.limit ≡ b.limit
+  slots : c.slots ≡ b.slots
+  few : c.appended ≡ b.appended
+  empty : AreEmpty b → AreEmpty c
+
+stays-shelf : (i : Shelf) (c : Both) (most slots given : ℕ) → StaysShelf i.lists c → IsShelf most slots given i → IsShelf most slots given (with_lists i c)
+stays-shelf i c most slots given s k = record { limit = s.limit ∙ k.limit; slots = s.slots ∙ k.slots; few = omega (arith, s.few, k.few); empty = λ off. s.empty (k.empty off) }
+
+unlinked-stays : (me : Handle) (b : Both) → StaysShelf b (without_entry me b)
+unlinked-stays me b = record { limit = refl; slots = refl; few = refl; empty = λ e. (rw e.0 refl, rw e.1 refl) }
+
+advanced-stays : (me : Handle) (to : ℕ) (b : Both) → StaysShelf b (advanced_to me to b)
+advanced-stays me to b = record { limit = refl; slots = refl; few = refl; empty = λ e. (rw e.0 refl, rw e.1 refl) }
+
+same-stays : (b : Both) → StaysShelf b b
+same-stays b = record { limit = refl; slots = refl; few = refl; empty = λ e. e }
+
+settled-stays : (f : Found) (h : Header) (b : Both) → StaysShelf b (settled_lists f h b)
+settled-stays f h b =
+    elim (is_over f.linked h) as (λ o. StaysShelf b (if o then without_entry f.linked.handle b else (if f.linked.entry.manage_local then advanced_to f.linked.handle (running_after f.linked h) b else b))) [
+      | true ↦ unlinked-stays f.linked.handle b
+      | false ↦ elim f.linked.entry.manage_local as (λ m. StaysShelf b (if m then advanced_to f.linked.handle (running_after f.linked h) b else b)) [
+        | true ↦ advanced-stays f.linked.handle (running_after f.linked h) b
+        | false ↦ same-stays b
+      ]
+    ]
+
+pub unlinked-shelf : (me : Handle) (i : Shelf) (most slots given : ℕ) → IsShelf most slots given i → IsShelf most slots given (with_lists i (without_entry me i.lists))
+unlinked-shelf me i most slots given k = stays-shelf i (without_entry me i.lists) most slots given (unlinked-stays me i.lists) k
+
+pub settled-shelf : (f : Found) (h : Header) (i : Shelf) (most slots given : ℕ) → IsShelf most slots given i → IsShelf most slots given (with_lists i (settled_lists f h i.lists))
+settled-shelf f h i most slots given k = stays-shelf i (settled_lists f h i.lists) most slots given (settled-stays f h i.lists) k
+
+pub linked-shelf : (list : Place) (x : Linked) (i : Shelf) (most slots given : ℕ) → i.allocated ≡ true → IsShelf most slots given i → IsShelf most slots (given + 1) (with_lists i (with_entries list (λ xs. xs ++ x ∷ []) (i.lists.appended + 1) i.lists))
+linked-shelf Priority x i most slots given on k = record { limit = k.limit; slots = k.slots; few = omega (arith, k.few); empty = λ off. let both : true ≡ false = sym on ∙ off in cc }
+linked-shelf Overflow x i most slots given on k = record { limit = k.limit; slots = k.slots; few = omega (arith, k.few); empty = λ off. let both : true ≡ false = sym on ∙ off in cc }
+
+pub placed-shelf : (allocated : Bool) (eq : Option Handle) (i : Shelf) (most slots given : ℕ) → AreEmpty i.lists → IsShelf most slots given i → IsShelf most slots given (record { allocated = allocated; eq = eq; lists = i.lists })
+placed-shelf allocated eq i most slots given empty k = record { limit = k.limit; slots = k.slots; few = k.few; empty = λ off. empty }
+
+pub shelf-more : (i : Shelf) (most slots m n : ℕ) → m ≤ n → IsShelf most slots m i → IsShelf most slots n i
+shelf-more i most slots m n le k = record { limit = k.limit; slots = k.slots; few = omega (arith, k.few); empty = k.empty }
+
+-- ---- all places
+
+pub shelves-more : (is : List Shelf) (most slots m n : ℕ) → m ≤ n → All (IsShelf most slots m) is → All (IsShelf most slots n) is
+shelves-more [] most slots m n le all = All-nil (IsShelf most slots n)
+shelves-more (i ∷ is) most slots m n le all =
+    All-cons (IsShelf most slots n) i is (shelf-more i most slots m n le (All-head (IsShelf most slots m) i is all)) (shelves-more is most slots m n le (All-tail (IsShelf most slots m) i is all))
+
+pub shelves-lists : (is : List Shelf) (most slots given : ℕ) → All (IsShelf most slots given) is → All HasLists is
+shelves-lists [] most slots given all = All-nil HasLists
+shelves-lists (i ∷ is) most slots given all =
+    All-cons HasLists i is ((All-head (IsShelf most slots given) i is all).empty) (shelves-lists is most slots given (All-tail (IsShelf most slots given) i is all))
+
+unused-shelf : (most slots : ℕ) (i : Shelf) → IsUnused most slots i → IsShelf most slots 0 i
+unused-shelf most slots i u = record { limit = rw u.lists refl; slots = rw u.lists refl; few = rw u.lists (omega arith); empty = λ off. rw u.lists (refl, refl) }
+
+pub unused-shelves : (most slots : ℕ) (is : List Shelf) → All (IsUnused most slots) is → All (IsShelf most slots 0) is
+unused-shelves most slots [] all = All-nil (IsShelf most slots 0)
+unused-shelves most slots (i ∷ is) all =
+    All-cons (IsShelf most slots 0) i is (unused-shelf most slots i (All-head (IsUnused most slots) i is all)) (unused-shelves most slots is (All-tail (IsUnused most slots) i is all))
+
+pub unused-seen : (most slots : ℕ) (is : List Shelf) → All (IsUnused most slots) is → seen_in is ≡ replicate (length is) None
+unused-seen most slots [] all = refl
+unused-seen most slots (i ∷ is) all =
+    let off = seen-off i ((All-head (IsUnused most slots) i is all).free) in
+    (λ k. off k ∷ unused-seen most slots is (All-tail (IsUnused most slots) i is all) k)
+
+-- ---- a look-up in the table
+
+pub index_at-seen : (pt : ℕ) (is : List Shelf) (d : Shelf) → pt < length is → index_at pt (seen_in is) ≡ seen (get_or is pt d)
+index_at-seen pt is d lt = get_or-map seen is pt d None lt
+
+pub index_at-past : (pt : ℕ) (is : List Shelf) → length is ≤ pt → index_at pt (seen_in is) ≡ None
+index_at-past pt is le = get_or_past (seen_in is) pt None (omega (arith, length-map is seen))
 
 -- a write to one place
-pub seen-set : (is : List (Option Shelf)) (k : ℕ) (o : Option Shelf) → seen_in (set is k o) ≡ set (seen_in is) k (seen o)
-seen-set is k o = map-set seen is k o
+pub seen-set : (is : List Shelf) (k : ℕ) (i : Shelf) → seen_in (set is k i) ≡ set (seen_in is) k (seen i)
+seen-set is k i = map-set seen is k i
 
-pub rooms-set : (limit : ℕ) (is : List (Option Shelf)) (k : ℕ) (o : Option Shelf) → All (HasRooms limit) is → HasRooms limit o → All (HasRooms limit) (set is k o)
-rooms-set limit is k o all has = All-set (HasRooms limit) is k o has all
+pub set-seen : (is : List Shelf) (k : ℕ) (i : Shelf) (o : Option Index) → seen i ≡ o → seen_in (set is k i) ≡ set (seen_in is) k o
+set-seen is k i o e = seen-set is k i ∙ ap (λ p. set (seen_in is) k p) e
 
-pub ruleset writing = (index_at-seen, seen-set, rooms-set)
+-- by what the index was
+pub set-seen_by : (is : List Shelf) (k : ℕ) (d i : Shelf) (f : Option Index → Option Index) → k < length is → seen i ≡ f (seen (get_or is k d)) → seen_in (set is k i) ≡ set (seen_in is) k (f (index_at k (seen_in is)))
+set-seen_by is k d i f lt e = set-seen is k i (f (index_at k (seen_in is))) (e ∙ ap f (sym (index_at-seen k is d lt)))
+
+pub set-shelf : (is : List Shelf) (k : ℕ) (d i : Shelf) (most records m n : ℕ) → m ≤ n → k < length is → (IsShelf most records m (get_or is k d) → IsShelf most records n i)
+    → All (IsShelf most records m) is → All (IsShelf most records n) (set is k i)
+set-shelf is k d i most records m n le lt keeps all =
+    All-set (IsShelf most records n) is k i (keeps (All-get_or (IsShelf most records m) is k d lt all)) (shelves-more is most records m n le all)
+
+-- where no entry is linked the lists are empty
+pub empty-at : (is : List Shelf) (k : ℕ) (d : Shelf) → k < length is → All HasLists is → entries_in (index_at k (seen_in is)) ≡ 0 → AreEmpty (get_or is k d).lists
+empty-at is k d lt has none = seen-empty (get_or is k d) (All-get_or HasLists is k d lt has) (ap entries_in (sym (index_at-seen k is d lt)) ∙ none)

@@ -1,19 +1,19 @@
 -- What the fields of a target make of the model's lists. No public clause cites this module.
-use Rattle.std.specs.Prelude.{ℕ, ◌≡◌, ◌≤◌, ◌<◌, ◌+◌, ◌-◌, ◌^◌, Bool, false, not, ◌&&◌, nat_eq, nat_le, sum_by, length, List, [], ◌∷◌, Option, Some, None, map, All, if◌then◌else◌}
+use Rattle.std.specs.Prelude.{ℕ, ◌≡◌, ◌≤◌, ◌<◌, ◌+◌, ◌-◌, ◌^◌, Bool, false, not, ◌&&◌, nat_eq, nat_le, sum_by, length, List, [], ◌∷◌, Option, Some, None, map, find, All, if◌then◌else◌}
 use Rattle.std.specs.Borrow.{Bor}
 use Rattle.ptl_types.specs.declared.handles.Handle.{Handle}
 use Rattle.ptl_types.specs.Handles.{same_handle}
-use Rattle.match_lists.specs.Lists.{Both, entries}
-use Rattle.ptl_types.specs.declared.entries.List.{List as Place}
+use Rattle.match_lists.specs.Lists.{Both, both, linked_count, has_slot, is_named, without_entry, advanced_to}
 use Rattle.ptl_types.specs.declared.entries.List.TheVariants.{Priority, Overflow}
 use Rattle.ni_model.specs.declared.Linked.{Linked}
 use Rattle.ni_model.specs.declared.Found.{Found}
 use Rattle.ni_model.specs.declared.Noted.{Noted}
 use Rattle.ptl_types.specs.declared.headers.Header.{Header}
 use Rattle.ni_model.specs.Tables.{Live, Table, lookup, changed, without}
-use Rattle.ni_model.specs.Arrive.{is_over}
+use Rattle.ni_model.specs.Arrive.{or_else, is_over, running_after}
 use Rattle.ni_model.specs.Headers.{Held}
-use Rattle.ni_model.specs.Lists.{Index, index_at, entries_in, is_linked_at}
+use Rattle.ni_model.specs.Lists.{Index, index_at, entries_in, is_linked_at, advanced}
+use Rattle.ni_model.specs.Calls.{unlinked_in}
 use Rattle.target_engine.specs.declared.index.Index.{Index as Shelf}
 use Rattle.target_engine.specs.declared.places.Placed.{Placed}
 
@@ -22,9 +22,8 @@ abbrev pub index : Option Handle → Both → Index
 index eq b = record { eq = eq; priority = b.priority; overflow = b.overflow }
 
 -- one place of the portal table, and all of them
-abbrev pub seen : Option Shelf → Option Index
-seen None = None
-seen (Some i) = Some (index i.eq i.lists)
+abbrev pub seen : Shelf → Option Index
+seen i = if i.allocated then Some (index i.eq i.lists) else None
 
 -- what a look-up lends
 abbrev pub seen_ref : Option (Bor Shelf) → Option Index
@@ -32,18 +31,64 @@ seen_ref None = None
 seen_ref (Some i) = Some (index i.now.eq i.now.lists)
 
 -- the portal table
-abbrev pub seen_in : List (Option Shelf) → List (Option Index)
+abbrev pub seen_in : List Shelf → List (Option Index)
 seen_in is = map seen is
 
--- each list of an allocated index has room for as many entries as may be linked
-abbrev pub HasRooms : ℕ → Option Shelf → Type 0
-HasRooms limit None = Unit {0}
-HasRooms limit (Some i) = i.lists.limit ≡ limit
+-- no entry is linked
+abbrev pub AreEmpty : Both → Type 0
+AreEmpty b = (b.priority ≡ []) × (b.overflow ≡ [])
 
--- one list of an allocated index has room for a further entry
-abbrev pub MayLink : Place → Option Shelf → Type 0
-MayLink list None = Unit {0}
-MayLink list (Some i) = length (entries list i.lists) < i.lists.limit
+-- none is where no index is allocated
+abbrev pub HasLists : Shelf → Type 0
+HasLists i = i.allocated ≡ false → AreEmpty i.lists
+
+-- a place of the portal table: its lists have room for as many entries as may be linked, and a slot for each record; they took no
+-- more entries than stamps were given; they are empty where no index is allocated
+pub record IsShelf (most records given : ℕ) (i : Shelf) : Type 0 where
+  pub limit : i.lists.limit ≡ most
+  pub slots : i.lists.slots ≡ records
+  pub few : i.lists.appended ≤ given
+  pub empty : HasLists i
+
+-- as it is opened
+pub record IsUnused (most slots : ℕ) (i : Shelf) : Type 0 where
+  pub free : i.allocated ≡ false
+  pub lists : i.lists ≡ both [] [] most slots 0
+
+-- a further entry of this slot may be linked
+pub record MayAppend (slot : ℕ) (b : Both) : Type 0 where
+  pub room : linked_count b < b.limit
+  pub below : slot < b.slots
+  pub free : has_slot slot b ≡ false
+  pub keys : b.appended < 2 ^ 64 - 1
+
+-- at this place
+abbrev pub MayLink : ℕ → Shelf → Type 0
+MayLink slot i = MayAppend slot i.lists
+
+-- the linked entry of a handle in an allocated index
+abbrev pub linked_in : Handle → Option Index → Option Linked
+linked_in me None = None
+linked_in me (Some i) = or_else (find (is_named me) i.priority) (find (is_named me) i.overflow)
+
+-- ---- what becomes of the entry that took a message, in whichever list it is
+
+-- in the two lists
+abbrev pub settled_lists : Found → Header → Both → Both
+settled_lists f h b =
+    if is_over f.linked h then without_entry f.linked.handle b
+    else (if f.linked.entry.manage_local then advanced_to f.linked.handle (running_after f.linked h) b else b)
+
+-- another running offset, in both lists of an index
+abbrev pub advanced_in : Handle → ℕ → Option Index → Option Index
+advanced_in me to None = None
+advanced_in me to (Some i) = Some (record i { priority = advanced me to i.priority; overflow = advanced me to i.overflow })
+
+-- in an index
+abbrev pub settled_in : Found → Header → Option Index → Option Index
+settled_in f h o =
+    if is_over f.linked h then unlinked_in f.linked.handle o
+    else (if f.linked.entry.manage_local then advanced_in f.linked.handle (running_after f.linked h) o else o)
 
 -- ---- the records of the entries: those that are linked, and those in which headers lie
 
@@ -160,11 +205,11 @@ places_after f h t = if is_over f.linked h then placed_by f.linked.handle not_li
 abbrev pub linked_after : Found → Header → ℕ → ℕ
 linked_after f h n = if is_over f.linked h then n - 1 else n
 
--- what a target keeps: the records agree with its entries and headers, the lists and the table of records have room, `linked`
--- counts the linked entries, and no more headers wait than may
-pub record IsKept (most : ℕ) (is : List (Option Shelf)) (linked : ℕ) (places : Table Placed) (hs : Held) : Type 0 where
+-- what a target keeps: the records agree with its entries and headers, the lists and the table of records have room, and the
+-- lists a slot for each record; `linked` counts the linked entries, and no more headers wait than may
+pub record IsKept (most : ℕ) (is : List Shelf) (linked : ℕ) (places : Table Placed) (hs : Held) : Type 0 where
   pub placed : ArePlaced (map seen is) hs.noted places
-  pub rooms : All (HasRooms most) is
+  pub shelves : All (IsShelf most (most + hs.limit) places.given) is
   pub limit : places.limit ≡ most + hs.limit
   pub count : linked ≡ sum_by entries_in (map seen is)
   pub held : length hs.noted ≤ hs.limit

@@ -1,11 +1,10 @@
 -- What a target is seen as, and how its parts make up the model's.
-use Rattle.std.specs.Prelude.{ℕ, ◌≡◌, Bool, false, if◌then◌else◌, List, Option, Some, None}
+use Rattle.std.specs.Prelude.{ℕ, ◌≡◌, ◌<◌, Bool, false, if◌then◌else◌, List, Option}
 use Rattle.ptl_types.specs.declared.handles.Handle.{Handle}
 use Rattle.ptl_types.specs.declared.entries.Entry.{Entry}
 use Rattle.ptl_types.specs.declared.entries.List.{List as Place}
 use Rattle.ptl_types.specs.declared.calls.Appended.{Appended}
-use Rattle.ptl_types.specs.declared.calls.NiFault.{NiFault}
-use Rattle.ptl_types.specs.declared.calls.NiFault.TheVariants.{NoMemory}
+use Rattle.ptl_types.specs.declared.calls.Appended.TheVariants.{Linked, Consumed}
 use Rattle.ptl_types.specs.declared.entries.UnexpectedHeader.{UnexpectedHeader}
 use Rattle.ptl_types.specs.declared.events.EventKind.{EventKind}
 use Rattle.ni_model.specs.declared.Noted.{Noted}
@@ -22,11 +21,6 @@ use Rattle.ni_model.specs.Calls.{entry_slot}
 abbrev pub side : ℕ → ℕ → List (Option Index) → ℕ → Held → Side
 side rank limit indices given headers = record { rank = rank; limit = limit; indices = indices; given = given; headers = headers }
 
--- a call that may also lack memory is refused by its fault, and by want of memory only where it has none
-abbrev pub FailsBy : Option NiFault → NiFault → Type 0
-FailsBy None fault = fault ≡ NoMemory
-FailsBy (Some first) fault = fault ≡ first
-
 -- what a search leaves, and the header that it found
 abbrev pub has_searched : Parts → Option UnexpectedHeader → Searched
 has_searched p found = record { parts = p; found = found }
@@ -40,6 +34,11 @@ told_gone kind is freed a eqs =
 -- what an append leaves, its answer, and the counting event that rose
 abbrev pub has_appended : Parts → Appended → Option Handle → Appends
 has_appended p appended counted = record { parts = p; appended = appended; counted = counted }
+
+-- the handle of an entry that was linked has a slot below n
+abbrev pub SlotBelow : ℕ → Appended → Type 0
+SlotBelow n (Linked h) = h.slot < n
+SlotBelow n (Consumed x) = Unit {0}
 
 -- the append, with some slot that no linked entry has
 pub record AppendsSome (pt : ℕ) (place : Place) (e : Entry) (old : Parts) (end : Appends) : Type 0 where

@@ -1,6 +1,6 @@
 //! Appending an entry, with the unexpected headers that it takes.
 
-ghost use Rattle.std.specs.Prelude.{◌≡◌, ◌||◌, ℕ, List, true, false, None, Some, OnOk, OnErr, IfOk, IfErr, nat_le};
+ghost use Rattle.std.specs.Prelude.{◌≡◌, ◌+◌, ◌<◌, ◌||◌, ℕ, List, true, false, None, Some, OnOk, OnErr, IfOk, IfErr, nat_le};
 ghost use Rattle.ptl_types.specs.Handles.{top};
 ghost use Rattle.ni_model.specs.Headers.{found_in, left_in};
 ghost use Rattle.ni_model.specs.Arrive.{parts};
@@ -8,7 +8,7 @@ ghost use Rattle.ni_model.specs.Queues.{raised};
 ghost use Rattle.ni_model.specs.Events.{link_event};
 ghost use Rattle.ni_model.specs.Calls.{entry_slot};
 ghost use Rattle.ni_model.specs.Append.{append_fault, is_allocated as allocated, linked_count, next_handle, link_side, queue_at as queue_of_index, overflow_counter as counter_of, each_counted, each_gone, with_noted, counted_by as counts_by};
-ghost use Rattle.target_engine.specs.Sides.{has_appended, AppendsSome};
+ghost use Rattle.target_engine.specs.Sides.{has_appended, SlotBelow, AppendsSome};
 
 use crate::calls::is_allocated;
 use crate::events::entry_event;
@@ -68,6 +68,7 @@ impl Target {
         requires room { (nat_le self.old.limit (linked_count self.old) || nat_le top self.old.given) ≡ false }
         ensures named { result ≡ next_handle result.slot self.old }
         ensures free { entry_slot self.old.indices result.slot ≡ false }
+        ensures below { result.slot < self.old.limit + self.old.headers.limit }
         ensures linked { self.new ≡ link_side result.slot pt list entry self.old }
         ensures told { eqs.new ≡ raised (queue_of_index pt self.old) (link_event pt entry.match_bits) eqs.old }
     {
@@ -113,6 +114,7 @@ impl Target {
     }
 
     /// A use-once entry takes the oldest header that it finds, else it is linked.
+    #[tactic(auto, unfolding(ni_model::specs::Append::append))]
     fn append_once(
         &mut self,
         cts: &mut Store<Counter>,
@@ -123,7 +125,8 @@ impl Target {
         requires index { allocated pt self.old ≡ true }
         requires room { (nat_le self.old.limit (linked_count self.old) || nat_le top self.old.given) ≡ false }
         requires once { entry.use_once ≡ true }
-        ensures { (region : List ℕ) → AppendsSome pt Place.Priority entry (parts self.old region cts.old eqs.old) (has_appended (parts self.new region cts.new eqs.new) result.0 result.1) }
+        ensures appends { (region : List ℕ) → AppendsSome pt Place.Priority entry (parts self.old region cts.old eqs.old) (has_appended (parts self.new region cts.new eqs.new) result.0 result.1) }
+        ensures slot { SlotBelow (self.old.limit + self.old.headers.limit) result.0 }
     {
         let noted = match self.headers.take_oldest(pt, &entry) {
             Some(noted) => noted,
@@ -144,7 +147,9 @@ impl Target {
     /// use-once entry takes the oldest header that it finds and isn't linked; a persistent one takes all that it finds, and
     /// is then linked. Answers too the counting event that rose. `Stale` where the index isn't allocated or the counting
     /// event isn't live, `NoSpace` where the limit is linked or all stamps were given, also where a header would be taken,
-    /// `OutOfRegion` where the entry's part reaches past the region. A refused call changes nothing. It takes no memory.
+    /// `OutOfRegion` where the entry's part reaches past the region. A refused call changes nothing. It takes no memory. The
+    /// slot of a linked entry is below the limits of entries and of headers together.
+    #[tactic(auto, unfolding(ni_model::specs::Append::append))]
     pub fn append(
         &mut self,
         region: &Region,
@@ -158,6 +163,7 @@ impl Target {
         ensures unchanged { OnErr result ((self.new ≡ self.old) × (cts.new ≡ cts.old) × (eqs.new ≡ eqs.old)) }
         ensures ok { OnOk result (append_fault pt entry (parts self.old region.now cts.old eqs.old) ≡ None) }
         ensures appended { IfOk result (λ r. AppendsSome pt list entry (parts self.old region.now cts.old eqs.old) (has_appended (parts self.new region.now cts.new eqs.new) r.0 r.1)) }
+        ensures slot { IfOk result (λ r. SlotBelow (self.old.limit + self.old.headers.limit) r.0) }
     {
         if !is_allocated(&self.indices, pt) || !is_live_or_none(cts, entry.ct) {
             return Err(NiFault::Stale);

@@ -10,28 +10,26 @@ ghost use Rattle.ni_model.specs.Calls.{new_index};
 ghost use Rattle.ni_model.specs.Refusals.{pt_alloc_fault, pt_free_fault};
 ghost use Rattle.ni_model.specs.Append.{is_allocated as allocated, search as search_of};
 ghost use Rattle.target_engine.specs.Shelves.{seen_in};
-ghost use Rattle.target_engine.specs.Sides.{FailsBy, has_searched};
+ghost use Rattle.target_engine.specs.Sides.{has_searched};
 
 use crate::events::entry_event;
 use crate::gone::{frees, header_event, raise_gone};
-use crate::index::{Index, put, queue_at, shelf_at};
+use crate::index::{Index, allocate_at, free_at, queue_at, shelf_at};
 use crate::target::Target;
 use event_delivery::raise;
 use event_queues::Queue;
 use handle_store::{Store, is_live_or_none};
-use match_lists::Lists;
 use ptl_types::{Entry, Event, EventKind, Handle, NiFault, UnexpectedHeader};
-use std::alloc::Global;
 
 /// Whether the index is within the limit and allocated.
-pub fn is_allocated(indices: &[Option<Index>], pt: u32) -> bool
+pub fn is_allocated(indices: &[Index], pt: u32) -> bool
     ensures { result ≡ is_some (index_at pt (seen_in indices.now)) }
 {
     shelf_at(indices, pt).is_some()
 }
 
 /// Whether one of its lists holds an entry.
-fn holds_entries(indices: &[Option<Index>], pt: u32) -> bool
+fn holds_entries(indices: &[Index], pt: u32) -> bool
     ensures { result ≡ nat_lt 0 (entries_in (index_at pt (seen_in indices.now))) }
 {
     match shelf_at(indices, pt) {
@@ -49,16 +47,15 @@ fn missed_event(pt: u32, entry: &Entry) -> Event
 
 impl Target {
     /// Allocates a portal table index with its event queue, if any (Portals 4.3, portal table). `Stale` where the queue
-    /// isn't live, `NoSpace` where the index is at or past the limit, `InUse` where it is allocated, `NoMemory` for its lists. A
-    /// refused call changes nothing.
+    /// isn't live, `NoSpace` where the index is at or past the limit, `InUse` where it is allocated. A refused call changes
+    /// nothing. It takes no memory.
     pub fn pt_alloc(
         &mut self,
-        alloc: Global,
         eqs: &Store<Queue>,
         index: u32,
         eq: Option<Handle>,
     ) -> Result<(), NiFault>
-        ensures err { IfErr result (λ fault. FailsBy (pt_alloc_fault index eq self.old eqs.now) fault) }
+        ensures err { IfErr result (λ fault. pt_alloc_fault index eq self.old eqs.now ≡ Some fault) }
         ensures unchanged { OnErr result (self.new ≡ self.old) }
         ensures ok { OnOk result (pt_alloc_fault index eq self.old eqs.now ≡ None) }
         ensures allocated { OnOk result (self.new ≡ record self.old { indices = slice_set self.old.indices index (Some (new_index eq)) }) }
@@ -72,13 +69,8 @@ impl Target {
         if is_allocated(&self.indices, index) {
             return Err(NiFault::InUse);
         }
-        match Lists::open(alloc, self.limit) {
-            Ok(lists) => {
-                put(&mut self.indices, index, Some(Index { eq, lists }));
-                Ok(())
-            }
-            Err(_) => Err(NiFault::NoMemory),
-        }
+        allocate_at(&mut self.indices, index, eq);
+        Ok(())
     }
 
     /// Frees a portal table index. `Stale` where it isn't allocated, `InUse` where one of its lists holds an entry or a
@@ -95,12 +87,13 @@ impl Target {
         if holds_entries(&self.indices, index) || self.headers.waits_at(index) {
             return Err(NiFault::InUse);
         }
-        put(&mut self.indices, index, None);
+        free_at(&mut self.indices, index);
         Ok(())
     }
 
     /// Looks for the oldest header of an index that the entry matches and allows, whether the entry is use-once or not, and
     /// deletes it where asked (Portals 4.3, searching). `Stale` where the index isn't allocated; nothing changes then.
+    #[tactic(auto, unfolding(ni_model::specs::Append::search))]
     pub fn search(
         &mut self,
         eqs: &mut Store<Queue>,
@@ -132,6 +125,7 @@ impl Target {
     }
 
     /// Takes out the oldest header that the entry finds, and tells of it.
+    #[tactic(auto, unfolding(ni_model::specs::Append::search))]
     fn delete_oldest(
         &mut self,
         eqs: &mut Store<Queue>,

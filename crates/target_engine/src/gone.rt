@@ -19,7 +19,7 @@ use ptl_types::{Entry, Event, EventKind, Handle, List as Place, MessageKind};
 use unexpected::finds;
 
 /// Whether the overflow list of this index holds the entry.
-pub fn is_in_overflow(indices: &[Option<Index>], pt: u32, entry: Handle) -> bool
+pub fn is_in_overflow(indices: &[Index], pt: u32, entry: Handle) -> bool
     ensures { result ≡ is_linked_at Place.Overflow entry (index_at pt (seen_in indices.now)) }
 {
     match shelf_at(indices, pt) {
@@ -48,7 +48,7 @@ pub fn kind_taken(kind: MessageKind) -> EventKind
 
 /// Counts a header that goes out of the record of its entry. Whether the entry is free: it was the last that lay there, and the
 /// entry isn't linked.
-pub fn frees(indices: &[Option<Index>], places: &mut Store<Placed>, gone: &Noted) -> bool
+pub fn frees(indices: &[Index], places: &mut Store<Placed>, gone: &Noted) -> bool
     ensures freed { result ≡ frees_at (seen_in indices.now) places.old gone.now }
     ensures counted { places.new ≡ placed_by gone.now.header.entry one_fewer places.old }
 {
@@ -60,7 +60,7 @@ pub fn frees(indices: &[Option<Index>], places: &mut Store<Placed>, gone: &Noted
 
 /// The event of a header that went, and directly after it the freeing of its entry, where it is free.
 pub fn raise_gone(
-    indices: &[Option<Index>],
+    indices: &[Index],
     eqs: &mut Store<Queue>,
     kind: EventKind,
     gone: &Noted,
@@ -77,7 +77,7 @@ pub fn raise_gone(
 
 /// Tells of all headers that an entry takes, oldest first, and counts each out of the record of its entry.
 pub fn raise_taken(
-    indices: &[Option<Index>],
+    indices: &[Index],
     places: &mut Store<Placed>,
     noted: &[Noted],
     eqs: &mut Store<Queue>,

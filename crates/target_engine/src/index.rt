@@ -1,39 +1,113 @@
-//! A portal table index: its event queue and its two lists.
+//! A place of the portal table: whether an index is allocated there, its event queue and its two lists.
 
-ghost use Rattle.std.specs.Prelude.{◌≡◌, ℕ, Some, All, nat_lt, slice_set, slice_index_or, None};
-ghost use Rattle.ni_model.specs.Arrive.{choose, chosen, settled, settled_at, indices_after};
+ghost use Rattle.std.specs.Prelude.{◌≡◌, ◌+◌, ◌++◌, ◌∷◌, [], ℕ, true, None, Some, All, IfOk, is_some, nat_lt, slice_set};
+ghost use Rattle.ptl_types.specs.Kinds.{is_put_or_atomic as puts};
+ghost use Rattle.ni_model.specs.Arrive.{choose, chosen};
 ghost use Rattle.ni_model.specs.Append.{fresh, linked_at};
-ghost use Rattle.ni_model.specs.Calls.{unlinked_in};
+ghost use Rattle.ni_model.specs.Calls.{unlinked_in, new_index};
 ghost use Rattle.ni_model.specs.Lists.{queue_of, index_at, entries_in, is_linked};
-ghost use Rattle.target_engine.specs.Shelves.{index, seen, seen_ref, seen_in, HasRooms, MayLink};
+ghost use Rattle.match_lists.specs.Lists.{with_entries, without_entry, linked_as as named_in, first_fit};
+ghost use Rattle.target_engine.specs.Shelves.{index, seen, seen_ref, seen_in, linked_in, settled_lists, settled_in, AreEmpty, HasLists, IsShelf, IsUnused, MayAppend, MayLink};
 
-use crate::measures::{is_over, is_put_or_atomic, running_after};
+use crate::measures::{delivered, is_over, is_put_or_atomic, running_after};
+use chain_list::Steps;
 use match_lists::Lists;
 use ni_model::Found;
-use ptl_types::{Entry, Handle, Header, List};
+use ptl_types::{Entry, Handle, Header, List, NoMemory};
+use std::alloc::Global;
+use std::marker::Brand;
+use std::sync::ledger::{Blank, Ledger};
 
-/// An allocated index: its event queue and its two lists.
+/// A place of the portal table. It has its two lists, with all their room, from the opening on.
 #[derive(Drop)]
 pub struct Index {
+    /// Whether an index is allocated here. Where none is, the lists are empty.
+    pub allocated: bool,
     /// Its event queue, if it has one.
     pub eq: Option<Handle>,
     /// Its priority list and its overflow list.
     pub lists: Lists,
 }
 
+// The lists count the nodes that a call visits. Each of these calls has a counter of its own.
+
+/// The entry that takes the message; the overflow list is for puts and atomics alone.
+fn find_entry<L: Ledger>(blank: Blank, lists: &Lists, header: &Header) -> Option<Found>
+    requires name { blank.name ≡ L.name }
+    requires parts { blank.parts ≡ L.parts }
+    requires one { blank.parts ≡ 1 }
+    ensures { result ≡ first_fit header.now (puts header.now.kind) lists.now }
+{
+    let mut steps = Steps::<L>::start(blank);
+    lists.find_entry(header, is_put_or_atomic(header.kind), &mut steps)
+}
+
+/// Links an entry at the end of a list.
+fn append<L: Ledger>(blank: Blank, lists: &mut Lists, list: List, handle: Handle, entry: Entry)
+    requires name { blank.name ≡ L.name }
+    requires parts { blank.parts ≡ L.parts }
+    requires one { blank.parts ≡ 1 }
+    requires may { MayAppend handle.slot lists.old }
+    ensures { lists.new ≡ with_entries list (λ xs. xs ++ fresh handle entry ∷ []) (lists.old.appended + 1) lists.old }
+{
+    let mut steps = Steps::<L>::start(blank);
+    lists.append(list, handle, entry, &mut steps);
+}
+
+/// Unlinks an entry from the list that holds it, if one does.
+fn unlink<L: Ledger>(blank: Blank, lists: &mut Lists, me: Handle)
+    requires name { blank.name ≡ L.name }
+    requires parts { blank.parts ≡ L.parts }
+    requires one { blank.parts ≡ 1 }
+    ensures { lists.new ≡ without_entry me lists.old }
+{
+    let mut steps = Steps::<L>::start(blank);
+    let _ = lists.unlink(me, &mut steps);
+}
+
+/// What becomes of the entry that took the message: unlinked, advanced or left as it is.
+fn settle<L: Ledger>(blank: Blank, lists: &mut Lists, found: &Found, header: &Header)
+    requires name { blank.name ≡ L.name }
+    requires parts { blank.parts ≡ L.parts }
+    requires one { blank.parts ≡ 1 }
+    requires there { named_in found.now.linked.handle lists.old ≡ Some found.now.linked }
+    ensures { lists.new ≡ settled_lists found.now header.now lists.old }
+{
+    let mut steps = Steps::<L>::start(blank);
+    let me = found.linked.handle;
+    if is_over(&found.linked, header) {
+        let _ = lists.unlink(me, &mut steps);
+    } else if found.linked.entry.manage_local {
+        // Brings the bound of the new offset to the proof.
+        let _to = running_after(&found.linked, header);
+        lists.advance(me, delivered(&found.linked, header), &mut steps);
+    }
+}
+
 impl Index {
-    /// The entry that takes the message; the overflow list is for puts and atomics alone.
+    /// A place where no index is allocated, whose lists have room for `entries` entries with slots below `slots`.
+    pub fn new(alloc: Global, entries: u32, slots: u32) -> Result<Index, NoMemory>
+        ensures { IfOk result (IsUnused entries slots) }
+    {
+        Ok(Index {
+            allocated: false,
+            eq: None,
+            lists: Lists::open(alloc, entries, slots)?,
+        })
+    }
+
+    /// The entry that takes the message.
     pub fn choose(&self, header: &Header) -> Option<Found>
         ensures { result ≡ choose header.now (index self.now.eq self.now.lists) }
     {
-        self.lists.find(header, is_put_or_atomic(header.kind))
+        find_entry::<Brand>(Blank::new(1), &self.lists, header)
     }
 
     /// Whether one of its lists holds an entry.
     pub fn holds_entries(&self) -> bool
         ensures { result ≡ nat_lt 0 (entries_in (Some (index self.now.eq self.now.lists))) }
     {
-        self.lists.len(List::Priority) > 0 || self.lists.len(List::Overflow) > 0
+        !self.lists.is_empty()
     }
 
     /// Whether its overflow list holds the entry.
@@ -43,35 +117,68 @@ impl Index {
         self.lists.is_linked(List::Overflow, entry)
     }
 
-    /// What becomes of the entry that took the message: unlinked, advanced or left as it is.
-    #[tactic(auto, using(crate::proofs::Views::index_views))]
-    fn settle(&mut self, found: &Found, header: &Header)
-        ensures after { index self.new.eq self.new.lists ≡ settled found.now header.now (index self.old.eq self.old.lists) }
-        ensures room { self.new.lists.limit ≡ self.old.lists.limit }
+    /// An index with this event queue is allocated here.
+    fn allocate(&mut self, eq: Option<Handle>)
+        requires { AreEmpty self.old.lists }
+        ensures after { seen self.new ≡ Some (new_index eq) }
+        ensures kept { (most slots given : ℕ) → IsShelf most slots given self.old → IsShelf most slots given self.new }
     {
-        let me = found.linked.handle;
-        if is_over(&found.linked, header) {
-            self.lists.unlink(found.list, me);
-        } else if found.linked.entry.manage_local {
-            self.lists
-                .advance(found.list, me, running_after(&found.linked, header));
-        }
+        self.allocated = true;
+        self.eq = eq;
+    }
+
+    /// The index here is freed.
+    fn free(&mut self)
+        requires { AreEmpty self.old.lists }
+        ensures after { seen self.new ≡ None }
+        ensures kept { (most slots given : ℕ) → IsShelf most slots given self.old → IsShelf most slots given self.new }
+    {
+        self.allocated = false;
+        self.eq = None;
+    }
+
+    /// Links an entry at the end of a list.
+    fn link(&mut self, list: List, handle: Handle, entry: Entry)
+        requires there { self.old.allocated ≡ true }
+        requires may { MayAppend handle.slot self.old.lists }
+        ensures after { seen self.new ≡ linked_at list (fresh handle entry) (seen self.old) }
+        ensures kept { (most slots given : ℕ) → IsShelf most slots given self.old → IsShelf most slots (given + 1) self.new }
+    {
+        append::<Brand>(Blank::new(1), &mut self.lists, list, handle, entry);
+    }
+
+    /// Unlinks an entry from both lists.
+    fn unlink(&mut self, me: Handle)
+        ensures after { seen self.new ≡ unlinked_in me (seen self.old) }
+        ensures kept { (most slots given : ℕ) → IsShelf most slots given self.old → IsShelf most slots given self.new }
+    {
+        unlink::<Brand>(Blank::new(1), &mut self.lists, me);
+    }
+
+    /// What becomes of the entry that took the message.
+    fn settle(&mut self, found: &Found, header: &Header)
+        requires { linked_in found.now.linked.handle (seen self.old) ≡ Some found.now.linked }
+        ensures after { seen self.new ≡ settled_in found.now header.now (seen self.old) }
+        ensures kept { (most slots given : ℕ) → IsShelf most slots given self.old → IsShelf most slots given self.new }
+    {
+        settle::<Brand>(Blank::new(1), &mut self.lists, found, header);
     }
 }
 
 /// The index of this number, where it is allocated.
-#[tactic(auto, using(crate::proofs::Views::seeing))]
-pub fn shelf_at(indices: &[Option<Index>], pt: u32) -> Option<&Index>
+pub fn shelf_at(indices: &[Index], pt: u32) -> Option<&Index>
     ensures { seen_ref result ≡ index_at pt (seen_in indices.now) }
 {
-    match indices.get(pt as usize) {
-        Some(Some(shelf)) => Some(shelf),
-        _ => None,
+    let at = pt as usize;
+    if at < indices.len() && indices[at].allocated {
+        Some(&indices[at])
+    } else {
+        None
     }
 }
 
 /// The entry that takes the message, with its list; `None` also where the index isn't allocated.
-pub fn chosen_in(indices: &[Option<Index>], header: &Header) -> Option<Found>
+pub fn chosen_in(indices: &[Index], header: &Header) -> Option<Found>
     ensures { result ≡ chosen header.now (seen_in indices.now) }
 {
     match shelf_at(indices, header.pt) {
@@ -81,7 +188,7 @@ pub fn chosen_in(indices: &[Option<Index>], header: &Header) -> Option<Found>
 }
 
 /// The event queue of this index, if it has one.
-pub fn queue_at(indices: &[Option<Index>], pt: u32) -> Option<Handle>
+pub fn queue_at(indices: &[Index], pt: u32) -> Option<Handle>
     ensures { result ≡ queue_of (index_at pt (seen_in indices.now)) }
 {
     match shelf_at(indices, pt) {
@@ -90,84 +197,64 @@ pub fn queue_at(indices: &[Option<Index>], pt: u32) -> Option<Handle>
     }
 }
 
-/// The same, where the index is allocated.
-fn settle_slot(slot: &mut Option<Index>, found: &Found, header: &Header)
-    ensures after { seen slot.new ≡ settled_at found.now header.now (seen slot.old) }
-    ensures rooms { (limit : ℕ) → HasRooms limit slot.old → HasRooms limit slot.new }
+/// Allocates an index with this event queue at a place without entries.
+pub fn allocate_at(indices: &mut [Index], pt: u32, eq: Option<Handle>)
+    requires empty { entries_in (index_at pt (seen_in indices.old)) ≡ 0 }
+    requires lists { All HasLists indices.old }
+    ensures after { seen_in indices.new ≡ slice_set (seen_in indices.old) pt (Some (new_index eq)) }
+    ensures kept { (most slots given : ℕ) → All (IsShelf most slots given) indices.old → All (IsShelf most slots given) indices.new }
 {
-    if let Some(shelf) = slot {
-        shelf.settle(found, header);
+    let at = pt as usize;
+    if at < indices.len() {
+        indices[at].allocate(eq);
+    }
+}
+
+/// Frees the index at a place without entries.
+pub fn free_at(indices: &mut [Index], pt: u32)
+    requires empty { entries_in (index_at pt (seen_in indices.old)) ≡ 0 }
+    requires lists { All HasLists indices.old }
+    ensures after { seen_in indices.new ≡ slice_set (seen_in indices.old) pt None }
+    ensures kept { (most slots given : ℕ) → All (IsShelf most slots given) indices.old → All (IsShelf most slots given) indices.new }
+{
+    let at = pt as usize;
+    if at < indices.len() {
+        indices[at].free();
     }
 }
 
 /// What becomes of the entry that took the message, in its list.
-#[tactic(auto, using(crate::proofs::Views::writing))]
-pub fn settle_at(indices: &mut [Option<Index>], found: &Found, header: &Header)
-    ensures after { seen_in indices.new ≡ indices_after found.now header.now (seen_in indices.old) }
-    ensures rooms { (limit : ℕ) → All (HasRooms limit) indices.old → All (HasRooms limit) indices.new }
+pub fn settle_at(indices: &mut [Index], found: &Found, header: &Header)
+    requires { linked_in found.now.linked.handle (index_at header.now.pt (seen_in indices.old)) ≡ Some found.now.linked }
+    ensures after { seen_in indices.new ≡ slice_set (seen_in indices.old) header.now.pt (settled_in found.now header.now (index_at header.now.pt (seen_in indices.old))) }
+    ensures kept { (most slots given : ℕ) → All (IsShelf most slots given) indices.old → All (IsShelf most slots given) indices.new }
 {
     let at = header.pt as usize;
     if at < indices.len() {
-        settle_slot(&mut indices[at], found, header);
-    }
-}
-
-/// Puts an index, or none, at this number.
-#[tactic(auto, using(crate::proofs::Views::writing))]
-pub fn put(indices: &mut [Option<Index>], pt: u32, index: Option<Index>)
-    ensures after { seen_in indices.new ≡ slice_set (seen_in indices.old) pt (seen index) }
-    ensures rooms { (limit : ℕ) → HasRooms limit index → All (HasRooms limit) indices.old → All (HasRooms limit) indices.new }
-{
-    let at = pt as usize;
-    if at < indices.len() {
-        indices[at] = index;
-    }
-}
-
-/// Links an entry at the end of a list, where the index is allocated.
-#[tactic(auto, using(crate::proofs::Views::linking))]
-fn link_slot(slot: &mut Option<Index>, list: List, handle: Handle, entry: Entry)
-    requires { MayLink list slot.old }
-    ensures after { seen slot.new ≡ linked_at list (fresh handle entry) (seen slot.old) }
-    ensures rooms { (limit : ℕ) → HasRooms limit slot.old → HasRooms limit slot.new }
-{
-    if let Some(shelf) = slot {
-        shelf.lists.append(list, handle, entry);
+        indices[at].settle(found, header);
     }
 }
 
 /// Links an entry at the end of a list of this index.
-#[tactic(auto, using(crate::proofs::Views::writing))]
-pub fn link_at(indices: &mut [Option<Index>], pt: u32, list: List, handle: Handle, entry: Entry)
-    requires { MayLink list (slice_index_or indices.old pt None) }
+pub fn link_at(indices: &mut [Index], pt: u32, list: List, handle: Handle, entry: Entry)
+    requires there { is_some (index_at pt (seen_in indices.old)) ≡ true }
+    requires may { All (MayLink handle.slot) indices.old }
     ensures after { seen_in indices.new ≡ slice_set (seen_in indices.old) pt (linked_at list (fresh handle entry) (index_at pt (seen_in indices.old))) }
-    ensures rooms { (limit : ℕ) → All (HasRooms limit) indices.old → All (HasRooms limit) indices.new }
+    ensures kept { (most slots given : ℕ) → All (IsShelf most slots given) indices.old → All (IsShelf most slots (given + 1)) indices.new }
 {
     let at = pt as usize;
     if at < indices.len() {
-        link_slot(&mut indices[at], list, handle, entry);
-    }
-}
-
-/// Unlinks an entry from both lists, where the index is allocated.
-fn unlink_slot(slot: &mut Option<Index>, me: Handle)
-    ensures after { seen slot.new ≡ unlinked_in me (seen slot.old) }
-    ensures rooms { (limit : ℕ) → HasRooms limit slot.old → HasRooms limit slot.new }
-{
-    if let Some(shelf) = slot {
-        shelf.lists.unlink(List::Priority, me);
-        shelf.lists.unlink(List::Overflow, me);
+        indices[at].link(list, handle, entry);
     }
 }
 
 /// Unlinks an entry from this index.
-#[tactic(auto, using(crate::proofs::Views::writing))]
-pub fn unlink_at(indices: &mut [Option<Index>], pt: u32, me: Handle)
+pub fn unlink_at(indices: &mut [Index], pt: u32, me: Handle)
     ensures after { seen_in indices.new ≡ slice_set (seen_in indices.old) pt (unlinked_in me (index_at pt (seen_in indices.old))) }
-    ensures rooms { (limit : ℕ) → All (HasRooms limit) indices.old → All (HasRooms limit) indices.new }
+    ensures kept { (most slots given : ℕ) → All (IsShelf most slots given) indices.old → All (IsShelf most slots given) indices.new }
 {
     let at = pt as usize;
     if at < indices.len() {
-        unlink_slot(&mut indices[at], me);
+        indices[at].unlink(me);
     }
 }

@@ -1,6 +1,6 @@
 //! The target's side of an interface: what a request does where it arrives, and the calls that append, unlink and search
 //! (Portals 4.3, matching, overflow lists and the operations at the target).
-#![tactic(auto, unfolding(ni_model::specs::Arrive::request, ni_model::specs::Append::append, ni_model::specs::Append::search))]
+#![tactic(auto)]
 
 mod answers;
 mod appends;

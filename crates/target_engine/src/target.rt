@@ -1,6 +1,6 @@
 //! The target.
 
-ghost use Rattle.std.specs.Prelude.{◌≡◌, ◌+◌, ◌<◌, ◌^◌, [], None, true, false, IfOk, option_copied, length, All, replicate};
+ghost use Rattle.std.specs.Prelude.{◌≡◌, ◌+◌, ◌<◌, ◌^◌, [], None, Some, true, false, IfOk, option_copied, length, All, replicate};
 ghost use Rattle.ptl_types.specs.Kinds.{is_answer};
 ghost use Rattle.ni_model.specs.Headers.{held};
 ghost use Rattle.ni_model.specs.Arrive.{parts, received, request as request_of, accepted, counts_after, headers_after, indices_after, is_overflow as overflows, outcome_in as outcome_of};
@@ -8,7 +8,7 @@ ghost use Rattle.ni_model.specs.Conditions.{IsPartIn, HasPartsIn, HasRoom};
 ghost use Rattle.ni_model.specs.Lists.{index_at, is_linked_at};
 ghost use Rattle.unexpected.specs.Places.{header_at};
 ghost use Rattle.ni_model.specs.Tables.{lookup};
-ghost use Rattle.target_engine.specs.Shelves.{headers_in, noted_places};
+ghost use Rattle.target_engine.specs.Shelves.{headers_in, noted_places, linked_in, IsUnused};
 ghost use Rattle.target_engine.specs.Sides.{side};
 
 use crate::answers::refused;
@@ -84,7 +84,7 @@ fn outcome_in(list: List) -> Outcome
 pub struct Target {
     rank: Rank,
     pub(crate) limit: u32,
-    pub(crate) indices: Vec<Option<Index>>,
+    pub(crate) indices: Vec<Index>,
     pub(crate) linked: u32,
     pub(crate) places: Store<Placed>,
     pub(crate) headers: Headers,
@@ -103,19 +103,16 @@ impl Model for Target {
     ghost invariant = { λ t. IsKept t.limit t.indices.items t.linked t.places t.headers };
 }
 
-/// As many places for indices as the limit, none of them allocated.
-fn empty_indices(alloc: Global, pts: u32) -> Result<Vec<Option<Index>>, NoMemory>
-    ensures { IfOk result (λ v. v.items ≡ replicate pts None) }
+/// As many places for indices as the limit, none of them allocated, each with its lists.
+fn empty_indices(alloc: Global, limits: &Limits, records: u32) -> Result<Vec<Index>, NoMemory>
+    ensures unused { IfOk result (λ v. All (IsUnused limits.now.entries records) v.items) }
+    ensures many { IfOk result (λ v. length v.items ≡ limits.now.pts) }
 {
-    match Vec::with_capacity(alloc, pts as usize) {
-        Ok(mut indices) => {
-            for _i in 0..pts {
-                indices.push_reserved(None);
-            }
-            Ok(indices)
-        }
-        Err(_) => Err(NoMemory),
+    let mut indices = Vec::with_capacity(alloc, limits.pts as usize)?;
+    for _i in 0..limits.pts {
+        indices.push_reserved(Index::new(alloc, limits.entries, records)?);
     }
+    Ok(indices)
 }
 
 /// How many records there may be: of the entries that are linked, and of those in whose memory a header lies.
@@ -130,12 +127,14 @@ fn records(limits: &Limits) -> Result<u32, NoMemory>
 }
 
 impl Target {
-    /// A target of this rank with no index allocated, no entry linked and no header. It has the room of its limits.
+    /// A target of this rank with no index allocated, no entry linked and no header. It has the room of its limits, each place of
+    /// the portal table for as many entries as may be linked: no later call takes memory.
     pub fn open(alloc: Global, rank: Rank, limits: &Limits) -> Result<Target, NoMemory>
         ensures makes { IfOk result (λ t. t ≡ side rank limits.now.entries (replicate limits.now.pts None) 0 (held [] limits.now.unexpected)) }
     {
-        let indices = empty_indices(alloc, limits.pts)?;
-        let places = Store::open(alloc, records(limits)?)?;
+        let records = records(limits)?;
+        let indices = empty_indices(alloc, limits, records)?;
+        let places = Store::open(alloc, records)?;
         let headers = Headers::open(alloc, limits.unexpected)?;
         Ok(Target {
             rank,
@@ -163,6 +162,7 @@ impl Target {
 
     /// What a request does here, but for the two registers: its outcome, its answer, and the counting event that rose. The
     /// answer uses the message's own bytes, so that nothing takes memory.
+    #[tactic(auto, unfolding(ni_model::specs::Arrive::request))]
     pub fn request(
         &mut self,
         region: &mut Region,
@@ -200,7 +200,8 @@ impl Target {
 
     /// What becomes of the entry that took the message.
     fn settle(&mut self, found: &Found, header: &Header)
-        requires { is_linked_at found.now.list found.now.linked.handle (index_at header.now.pt self.old.indices) ≡ true }
+        requires there { is_linked_at found.now.list found.now.linked.handle (index_at header.now.pt self.old.indices) ≡ true }
+        requires entry { linked_in found.now.linked.handle (index_at header.now.pt self.old.indices) ≡ Some found.now.linked }
         ensures { self.new ≡ record self.old { indices = indices_after found.now header.now self.old.indices } }
     {
         settle_at(&mut self.indices, found, header);
@@ -220,6 +221,7 @@ impl Target {
         requires part { IsPartIn (length region.old) found.now.linked }
         requires room { HasRoom found.now.list self.old.headers }
         requires there { is_linked_at found.now.list found.now.linked.handle (index_at message.header.pt self.old.indices) ≡ true }
+        requires entry { linked_in found.now.linked.handle (index_at message.header.pt self.old.indices) ≡ Some found.now.linked }
         ensures { received (parts self.new region.new cts.new eqs.new) result ≡ accepted (parts self.old region.old cts.old eqs.old) message found.now }
     {
         // Brings the bound of the region's length to the proof.

@@ -89,8 +89,8 @@ impl Host {
         self.eqs.insert(queue).ok()
     }
 
-    fn pt_alloc(&mut self, alloc: Global, index: u32, eq: Option<Handle>) -> Result<(), NiFault> {
-        self.target.pt_alloc(alloc, &self.eqs, index, eq)
+    fn pt_alloc(&mut self, index: u32, eq: Option<Handle>) -> Result<(), NiFault> {
+        self.target.pt_alloc(&self.eqs, index, eq)
     }
 
     fn append(&mut self, list: List, entry: Entry) -> Result<(Appended, Option<Handle>), NiFault> {
@@ -129,13 +129,12 @@ impl Host {
 
 #[test]
 fn indices_come_and_go(rt: HostRuntime) -> Result<(), Fail> {
-    let alloc = rt.alloc();
-    let mut host = Host::open(alloc)?;
+    let mut host = Host::open(rt.alloc())?;
     assert_eq!(rt; host.target.pt_free(0), Err(NiFault::Stale));
-    assert_eq!(rt; host.pt_alloc(alloc, 0, Some(DEAD)), Err(NiFault::Stale));
-    assert_eq!(rt; host.pt_alloc(alloc, 2, None), Err(NiFault::NoSpace));
-    assert_eq!(rt; host.pt_alloc(alloc, 0, None), Ok(()));
-    assert_eq!(rt; host.pt_alloc(alloc, 0, None), Err(NiFault::InUse));
+    assert_eq!(rt; host.pt_alloc(0, Some(DEAD)), Err(NiFault::Stale));
+    assert_eq!(rt; host.pt_alloc(2, None), Err(NiFault::NoSpace));
+    assert_eq!(rt; host.pt_alloc(0, None), Ok(()));
+    assert_eq!(rt; host.pt_alloc(0, None), Err(NiFault::InUse));
     assert!(rt; !host.target.names_eq(DEAD));
     assert_eq!(rt; host.target.pt_free(0), Ok(()));
     Ok(())
@@ -146,7 +145,7 @@ fn entries_come_and_go(rt: HostRuntime) -> Result<(), Fail> {
     let mut host = Host::open(rt.alloc())?;
     let list = List::Priority;
     assert_eq!(rt; host.append(list, ENTRY), Err(NiFault::Stale));
-    assert_eq!(rt; host.pt_alloc(rt.alloc(), 0, None), Ok(()));
+    assert_eq!(rt; host.pt_alloc(0, None), Ok(()));
     let uncounted = Entry {
         ct: Some(DEAD),
         ..ENTRY
@@ -173,7 +172,7 @@ fn headers_are_searched_and_taken(rt: HostRuntime) -> Result<(), Fail> {
     let mut host = Host::open(rt.alloc())?;
     assert_eq!(rt; host.search(false), Err(NiFault::Stale));
     let eq = host.open_queue(rt.alloc()).ok_or("a queue has room")?;
-    assert_eq!(rt; host.pt_alloc(rt.alloc(), 0, Some(eq)), Ok(()));
+    assert_eq!(rt; host.pt_alloc(0, Some(eq)), Ok(()));
     assert!(rt; host.target.names_eq(eq));
     let over = Handle { slot: 0, stamp: 0 };
     let linked = host.append(List::Overflow, ENTRY);

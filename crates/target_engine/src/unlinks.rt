@@ -12,28 +12,24 @@ use handle_store::names;
 use ptl_types::{Handle, NiFault};
 
 /// Whether an entry of some index names the counting event.
-fn some_names_ct(indices: &[Option<Index>], ct: Handle) -> bool
+fn some_names_ct(indices: &[Index], ct: Handle) -> bool
     ensures { result ≡ index_names_ct ct (seen_in indices.now) }
 {
-    for slot in indices {
-        if let Some(shelf) = slot {
-            if shelf.lists.names_ct(ct) {
-                return true;
-            }
+    for shelf in indices {
+        if shelf.allocated && shelf.lists.names_ct(ct) {
+            return true;
         }
     }
     false
 }
 
 /// Whether some index has the event queue.
-fn some_names_eq(indices: &[Option<Index>], eq: Handle) -> bool
+fn some_names_eq(indices: &[Index], eq: Handle) -> bool
     ensures { result ≡ index_names_eq eq (seen_in indices.now) }
 {
-    for slot in indices {
-        if let Some(shelf) = slot {
-            if names(shelf.eq, eq) {
-                return true;
-            }
+    for shelf in indices {
+        if shelf.allocated && names(shelf.eq, eq) {
+            return true;
         }
     }
     false

@@ -1,7 +1,12 @@
-use Rattle.std.proofs.lemmas.List.Elements.{All-get_or, All-set}
-use Rattle.target_engine.specs.Shelves.{HasRooms}
+use Rattle.std.proofs.Common.{◌+◌, arith}
+use Rattle.ni_model.specs.Append.{fresh, linked_at}
+use Rattle.target_engine.proofs.Views.{set-seen_by, set-shelf}
 use Rattle.target_engine.proofs.index.link_at.Goals as goal
 
-pub returns-then-at-indices-clause-rooms : goal.returns-then-at-indices-clause-rooms
-returns-then-at-indices-clause-rooms c =
-    λ limit all. let was = All-get_or (HasRooms limit) c.args.indices.now c.args.pt c.index-indices-at.result c.if-at-indices.true all in All-set (HasRooms limit) _ _ _ (c.link_slot.ensures.rooms limit was) all
+pub returns-then-at-indices-clause-after : goal.returns-then-at-indices-clause-after
+returns-then-at-indices-clause-after c = set-seen_by c.args.indices.now c.args.pt c.index-indices-at.result c.link.new.self (linked_at c.args.list (fresh c.args.handle c.args.entry)) c.if-at-indices.true c.link.ensures.after
+
+pub returns-then-at-indices-clause-kept : goal.returns-then-at-indices-clause-kept
+returns-then-at-indices-clause-kept c =
+    λ most records given all.
+    set-shelf c.args.indices.now c.args.pt c.index-indices-at.result c.link.new.self most records given (given + 1) (omega arith) c.if-at-indices.true (c.link.ensures.kept most records given) all

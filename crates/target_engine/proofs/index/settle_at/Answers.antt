@@ -1,7 +1,12 @@
-use Rattle.std.proofs.lemmas.List.Elements.{All-get_or, All-set}
-use Rattle.target_engine.specs.Shelves.{HasRooms}
+use Rattle.std.proofs.Common.{arith}
+use Rattle.target_engine.specs.Shelves.{settled_in}
+use Rattle.target_engine.proofs.Views.{set-seen_by, set-shelf}
 use Rattle.target_engine.proofs.index.settle_at.Goals as goal
 
-pub returns-then-at-indices-clause-rooms : goal.returns-then-at-indices-clause-rooms
-returns-then-at-indices-clause-rooms c =
-    λ limit all. let was = All-get_or (HasRooms limit) c.args.indices.now c.args.header.now.pt c.index-indices-at.result c.if-at-indices.true all in All-set (HasRooms limit) _ _ _ (c.settle_slot.ensures.rooms limit was) all
+pub returns-then-at-indices-clause-after : goal.returns-then-at-indices-clause-after
+returns-then-at-indices-clause-after c = set-seen_by c.args.indices.now c.args.header.now.pt c.index-indices-at.result c.settle.new.self (settled_in c.args.found.now c.args.header.now) c.if-at-indices.true c.settle.ensures.after
+
+pub returns-then-at-indices-clause-kept : goal.returns-then-at-indices-clause-kept
+returns-then-at-indices-clause-kept c =
+    λ most records given all.
+    set-shelf c.args.indices.now c.args.header.now.pt c.index-indices-at.result c.settle.new.self most records given given (omega arith) c.if-at-indices.true (c.settle.ensures.kept most records given) all

@@ -3,5 +3,5 @@ use Rattle.ni_model.specs.Refusals.{index_names_ct}
 use Rattle.target_engine.specs.Shelves.{seen_in}
 use Rattle.target_engine.proofs.unlinks.some_names_ct.Given as goal
 
-abbrev pub invariant-loop-slot : goal.invariant-loop-slot
-invariant-loop-slot l = index_names_ct l.ct (seen_in l.indices) ≡ index_names_ct l.ct (seen_in (drop l.slot-index l.indices))
+abbrev pub invariant-loop-shelf : goal.invariant-loop-shelf
+invariant-loop-shelf l = index_names_ct l.ct (seen_in l.indices) ≡ index_names_ct l.ct (seen_in (drop l.shelf-index l.indices))

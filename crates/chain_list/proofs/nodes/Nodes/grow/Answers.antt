@@ -6,7 +6,7 @@ use Rattle.chain_list.proofs.nodes.Nodes.grow.Goals as goal
 
 pub invariant_of-self-2 : goal.invariant_of-self-2
 invariant_of-self-2 g c =
-    let cs = c.self.inside.block in
+    let cs = c.self.inside.row in
     let free = c.self.inside.free in
     let mid = c.reserve.new.self in
     let end = c.free_range.new.free in

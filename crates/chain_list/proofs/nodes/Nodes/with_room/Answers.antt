@@ -9,7 +9,7 @@ invariant_of-result g c =
     let old : vec_len c.in-Ok.free ≡ 0 = c.in-Ok.ensures.len in
     let end = c.free_range.new.free in
     let all : c.args.n ≡ 0 + c.args.n = omega arith in
-    subst (λ cs. IsNodes cs end) (sym c.in_ok-block.ensures)
+    subst (λ cs. IsNodes cs end) (sym c.in_ok-row.ensures)
     (IsNodes-grow [] c.in-Ok.free end c.args.n (IsNodes-none c.in-Ok.free c.in-Ok.ensures.items) (omega arith)
     (omega (arith, c.free_range.ensures.len, end.ok.0, c.in-Ok.free.ok.0))
     (λ i lt. c.free_range.ensures.kept i (omega (arith, c.in-Ok.free.ok.0)))

@@ -16,9 +16,9 @@ invariant_of-self-2 c =
     let o : oldest c.args.pt c.args.entry c.self.inside.headers.noted ≡ Some c.in-Some.noted = sym c.take_oldest.ensures.oldest ∙ c.in-Some.is in
     kept-fewer c.self.inside.limit c.self.inside.linked c.args.pt c.args.entry c.in-Some.noted c.self.inside.indices.items c.self.inside.places c.frees-freed.new.places c.self.inside.headers c.take_oldest.new.self c.self.invariant o c.take_oldest.ensures.rest c.frees-freed.ensures.counted
 
-pub returns : goal.returns
+pub returns-clause-appends : goal.returns-clause-appends
 unfolding append
-returns c =
+returns-clause-appends c =
     λ region.
     let s = free_slot c.args.self.now.indices in
     let o : oldest c.args.pt c.args.entry c.self.inside.headers.noted ≡ Some c.in-Some.noted = sym c.take_oldest.ensures.oldest ∙ c.in-Some.is in

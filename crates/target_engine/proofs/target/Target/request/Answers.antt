@@ -2,6 +2,7 @@ use Rattle.std.proofs.Common.{◌≡◌, Some, length, ap, sym, ◌∙◌}
 use Rattle.ni_model.specs.Arrive.{chosen}
 use Rattle.target_engine.specs.Shelves.{seen_in}
 use Rattle.target_engine.proofs.Within.{chosen-within, chosen-linked}
+use Rattle.target_engine.proofs.Choosing.{chosen-named}
 use Rattle.target_engine.proofs.target.Target.request.Goals as goal
 
 pub accept-requires-clause-part : goal.accept-requires-clause-part
@@ -15,3 +16,10 @@ accept-requires-clause-there c =
     let at : seen_in c.deref.result.now ≡ c.args.self.now.indices = ap seen_in c.deref.ensures.value ∙ ap (λ s. s.indices) c.self.view_is in
     let e : chosen c.header.result.now c.args.self.now.indices ≡ Some c.in-Some.found = rw (← at) (sym c.chosen_in.ensures ∙ c.in-Some.is) in
     rw (← c.header.ensures) (chosen-linked c.header.result.now c.args.self.now.indices c.in-Some.found e)
+
+pub accept-requires-clause-entry : goal.accept-requires-clause-entry
+accept-requires-clause-entry c =
+    let at : seen_in c.deref.result.now ≡ c.args.self.now.indices = ap seen_in c.deref.ensures.value ∙ ap (λ s. s.indices) c.self.view_is in
+    let e : chosen c.header.result.now c.args.self.now.indices ≡ Some c.in-Some.found = rw (← at) (sym c.chosen_in.ensures ∙ c.in-Some.is) in
+    let placed = rw (ap (λ s. s.indices) c.self.view_is) at c.self.invariant.placed in
+    rw (← c.header.ensures) (chosen-named c.header.result.now c.args.self.now.indices c.in-Some.found c.self.inside.headers.noted c.self.inside.places placed e)

@@ -29,7 +29,7 @@ pub invariant_of-self : goal.invariant_of-self
 invariant_of-self c =
     let on = on-here _ _ (sym c.linked_record.ensures ∙ c.in-Some.is) in
     rw c.saturating_sub-self-inside.ensures
-    (kept-unlinked c.self.inside.limit c.self.inside.indices.len c.self.inside.linked c.args.me c.in-Some.placed c.self.inside.indices.items c.deref_mut.result.now c.unlink_at.new.indices c.self.inside.places c.unlink_place.new.places c.self.inside.headers c.self.invariant c.deref_mut.ensures.value (c.unlink_at.auto.indices ∙ c.deref_mut.ensures.len) c.unlink_at.ensures.after c.unlink_at.ensures.rooms c.unlink_place.ensures on.0 on.1)
+    (kept-unlinked c.self.inside.limit c.self.inside.indices.len c.self.inside.linked c.args.me c.in-Some.placed c.self.inside.indices.items c.deref_mut.result.now c.unlink_at.new.indices c.self.inside.places c.unlink_place.new.places c.self.inside.headers c.self.invariant c.deref_mut.ensures.value (c.unlink_at.auto.indices ∙ c.deref_mut.ensures.len) c.unlink_at.ensures.after c.unlink_at.ensures.kept c.unlink_place.ensures on.0 on.1)
 
 pub returns-clause-ok : goal.returns-clause-ok
 returns-clause-ok c =

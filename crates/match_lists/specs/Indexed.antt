@@ -1,0 +1,50 @@
+-- What holds of a match list and the threads by which a message finds its entries.
+use Rattle.std.specs.Prelude.{◌≡◌, ℕ, ◌+◌, ◌<◌, Bool, nat_lt, List, [], ◌∷◌, map, length, Option, Some, None, if◌then◌else◌}
+use Rattle.ptl_types.specs.declared.headers.Header.{Header}
+use Rattle.chain_list.specs.declared.chain.ChainKey.{ChainKey}
+use Rattle.chain_list.specs.Chain.{Keyed, ChainList}
+use Rattle.place_threads.specs.Threads.{Woven, thread}
+use Rattle.ni_model.specs.declared.Linked.{Linked}
+use Rattle.ni_model.specs.Lists.{fits}
+use Rattle.match_lists.specs.Buckets.{on_thread}
+
+-- where the entries lie
+abbrev pub places_of : List (Keyed Linked) → List ℕ
+places_of xs = map (λ x. x.key.place) xs
+
+-- the entry takes the message
+abbrev pub takes : Header → Keyed Linked → Bool
+takes h x = fits h x.value
+
+-- all stamps are above
+abbrev pub Later : ℕ → List (Keyed Linked) → Type 0
+Later stamp [] = Unit {0}
+Later stamp (x ∷ xs) = (stamp < x.key.stamp) × Later stamp xs
+
+-- the stamps rise, and lie below a number
+abbrev pub Rising : List (Keyed Linked) → ℕ → Type 0
+Rising [] given = Unit {0}
+Rising (x ∷ xs) given = (x.key.stamp < given) × Later x.key.stamp xs × Rising xs given
+
+-- how many entries there is room for
+abbrev pub room : ChainList Linked → ℕ
+room c = c.spare + length c.entries
+
+-- each thread lists where its entries lie
+pub record IsIndexed (chain : ChainList Linked) (threads : Woven) (limit : ℕ) : Type 0 where
+  pub full : room chain ≡ limit
+  pub long : length threads.threads ≡ limit + 1
+  pub places : threads.places ≡ limit
+  pub threaded : (k : ℕ) → k < limit + 1 → thread k threads ≡ places_of (on_thread limit k chain.entries)
+  pub rising : Rising chain.entries chain.given
+
+-- the key of an entry
+abbrev pub key_of : Option (Keyed Linked) → Option ChainKey
+key_of None = None
+key_of (Some x) = Some x.key
+
+-- the key that was given first
+abbrev pub earlier_of : Option ChainKey → Option ChainKey → Option ChainKey
+earlier_of None b = b
+earlier_of (Some a) None = Some a
+earlier_of (Some a) (Some b) = if nat_lt a.stamp b.stamp then Some a else Some b

@@ -1,0 +1,293 @@
+//! The two lists, each on linked nodes, and the table that tells where the entry of a slot is linked.
+ghost use Rattle.std.specs.Prelude.{◌≡◌, ◌<◌, ◌≤◌, ◌+◌, ◌-◌, ◌*◌, ◌^◌, ◌++◌, ◌∷◌, [], ◌||◌, ◌↔◌, Some, None, false, is_some, IsSome, IsTrue, IfOk, IfSome, length, get_or, option_copied};
+ghost use Rattle.match_lists.specs.Slots.{placed_as, same_list as is_same_list};
+ghost use Rattle.ni_model.specs.Append.{fresh};
+ghost use Rattle.ni_model.specs.Lists.{is_linked as holds};
+ghost use Rattle.ni_model.specs.Refusals.{entry_names_ct};
+ghost use Rattle.match_lists.specs.Lists.{both, entries, with_entries, linked_count, candidates, has_slot, first_fit as first_of, linked_as, named, entry_of, running_of, with_running, without_entry, advanced_to, values};
+
+use crate::match_list::MatchList;
+use crate::walk::some_names;
+use chain_list::{Chain, ChainKey, Steps};
+use ni_model::{Found, Linked};
+use ptl_types::{Entry, Handle, Header, List, NoMemory};
+use std::alloc::Global;
+use std::marker::{Brand, Model};
+use std::sync::ledger::{Blank, Ledger};
+
+/// Where the entry of a slot is linked.
+#[derive(Clone, Copy, Debug)]
+pub struct Placed {
+    list: List,
+    handle: Handle,
+    key: ChainKey,
+}
+
+/// Where the entry of a handle is linked, by the table.
+fn place_of(table: &[Option<Placed>], handle: Handle) -> Option<Placed>
+    ensures { result ≡ placed_as handle (get_or table.now handle.slot None) }
+{
+    if handle.slot as usize >= table.len() {
+        return None;
+    }
+    let placed = table[handle.slot as usize]?;
+    if placed.handle.is(handle) {
+        Some(placed)
+    } else {
+        None
+    }
+}
+
+/// Whether both are the same list.
+fn same_list(a: List, b: List) -> bool
+    ensures { result ≡ is_same_list a b }
+{
+    a == b
+}
+
+/// The two lists of an index. Their value is the entries of each, in the order of appending, how many entries they have room
+/// for together, below which number each handle's slot lies, and how many entries were appended.
+#[derive(Drop)]
+pub struct Lists {
+    priority: MatchList,
+    overflow: MatchList,
+    placed: Vec<Option<Placed>>,
+    limit: u32,
+    slots: u32,
+}
+
+impl Model for Lists {
+    ghost use Rattle.match_lists.specs.Lists.{Both, both, values};
+    ghost use Rattle.match_lists.specs.Fields.{IsLists};
+    ghost use Rattle.std.specs.Prelude.{◌+◌};
+
+    ghost Value = { Both };
+
+    ghost view = { λ l. both (values l.priority.entries) (values l.overflow.entries) l.limit l.slots (l.priority.given + l.overflow.given) };
+
+    ghost invariant = { λ l. IsLists l.priority l.overflow l.placed.items l.limit l.slots };
+}
+
+impl Lists {
+    /// Two empty lists with room for `limit` entries together, whose handles have slots below `slots`. No later call takes
+    /// memory.
+    pub fn open(alloc: Global, limit: u32, slots: u32) -> Result<Lists, NoMemory>
+        ensures { IfOk result (λ l. l ≡ both [] [] limit slots 0) }
+    {
+        let Ok(placed) = Vec::from_elem(alloc, None, slots as usize) else {
+            return Err(NoMemory);
+        };
+        let priority = MatchList::with_room(alloc, limit)?;
+        let overflow = MatchList::with_room(alloc, limit)?;
+        Ok(Lists {
+            priority,
+            overflow,
+            placed,
+            limit,
+            slots,
+        })
+    }
+
+    /// Links the entry at the end of one of the lists, with running offset 0. Touches at most three nodes.
+    pub fn append<L: Ledger>(
+        &mut self,
+        list: List,
+        handle: Handle,
+        entry: Entry,
+        steps: &mut Steps<L>,
+    )
+        requires room { linked_count self.old < self.old.limit }
+        requires slot { handle.slot < self.old.slots }
+        requires free { has_slot handle.slot self.old ≡ false }
+        requires keys { self.old.appended < 2 ^ 64 - 1 }
+        ensures lists { self.new ≡ with_entries list (λ xs. xs ++ fresh handle entry ∷ []) (self.old.appended + 1) self.old }
+        ensures steps { steps.new ≤ steps.old + 3 }
+    {
+        let linked = Linked {
+            handle,
+            running: 0,
+            entry,
+        };
+        match list {
+            List::Priority => {
+                let key = self.priority.push_back(linked, steps);
+                self.placed[handle.slot as usize] = Some(Placed { list, handle, key });
+            }
+            List::Overflow => {
+                let key = self.overflow.push_back(linked, steps);
+                self.placed[handle.slot as usize] = Some(Placed { list, handle, key });
+            }
+        }
+    }
+
+    /// Unlinks the entry of this handle and hands it back; `None` exactly where it isn't linked. Touches at most four nodes.
+    pub fn unlink<L: Ledger>(&mut self, handle: Handle, steps: &mut Steps<L>) -> Option<Entry>
+        ensures entry { result ≡ entry_of (linked_as handle self.old) }
+        ensures lists { self.new ≡ without_entry handle self.old }
+        ensures steps { steps.new ≤ steps.old + 4 }
+    {
+        let (_priority, _overflow) = (self.priority.nodes(), self.overflow.nodes());
+        let placed = place_of(&self.placed, handle)?;
+        match placed.list {
+            List::Priority => {
+                let Some(linked) = self.priority.unlink(placed.key, steps) else {
+                    unreachable!()
+                };
+                self.placed[handle.slot as usize] = None;
+                Some(linked.entry)
+            }
+            List::Overflow => {
+                let Some(linked) = self.overflow.unlink(placed.key, steps) else {
+                    unreachable!()
+                };
+                self.placed[handle.slot as usize] = None;
+                Some(linked.entry)
+            }
+        }
+    }
+
+    /// The linked entry of a handle; `None` exactly where it isn't linked. Touches at most one node.
+    fn linked_at<L: Ledger>(&self, handle: Handle, steps: &mut Steps<L>) -> Option<&Linked>
+        ensures linked { option_copied result ≡ linked_as handle self.now }
+        ensures steps { steps.new ≤ steps.old + 1 }
+    {
+        let (_priority, _overflow) = (self.priority.nodes(), self.overflow.nodes());
+        let placed = place_of(&self.placed, handle)?;
+        match placed.list {
+            List::Priority => self.priority.get(placed.key, steps),
+            List::Overflow => self.overflow.get(placed.key, steps),
+        }
+    }
+
+    /// The linked entry of a handle with its running offset; `None` exactly where it isn't linked. Touches at most one node.
+    pub fn get<L: Ledger>(&self, handle: Handle, steps: &mut Steps<L>) -> Option<(&Entry, u64)>
+        ensures entry { with_running result ≡ running_of (linked_as handle self.now) }
+        ensures steps { steps.new ≤ steps.old + 1 }
+    {
+        match self.linked_at(handle, steps) {
+            Some(linked) => Some((&linked.entry, linked.running)),
+            None => None,
+        }
+    }
+
+    /// Moves the running offset of a linked entry on, in bytes. Touches at most one node.
+    pub fn advance<L: Ledger>(&mut self, handle: Handle, by: u64, steps: &mut Steps<L>)
+        requires linked { IsSome (linked_as handle self.old) }
+        requires fits { IfSome (linked_as handle self.old) (λ x. x.running + by < 2 ^ 64) }
+        ensures lists { IfSome (linked_as handle self.old) (λ x. self.new ≡ advanced_to handle (x.running + by) self.old) }
+        ensures steps { steps.new ≤ steps.old + 1 }
+    {
+        let (_priority, _overflow) = (self.priority.nodes(), self.overflow.nodes());
+        let Some(placed) = place_of(&self.placed, handle) else {
+            unreachable!()
+        };
+        match placed.list {
+            List::Priority => self.priority.advance(placed.key, by, steps),
+            List::Overflow => self.overflow.advance(placed.key, by, steps),
+        }
+    }
+
+    /// The entry that takes the message, with its list: the first of the priority list that fits, else, where `overflow` is
+    /// true, the first of the overflow list that fits; `None` exactly where there is no such entry. Touches at most two nodes
+    /// for each linked entry whose match bits share the message's bucket, or that ignores some of them.
+    pub fn find_entry<L: Ledger>(
+        &self,
+        header: &Header,
+        overflow: bool,
+        steps: &mut Steps<L>,
+    ) -> Option<Found>
+        ensures first { result ≡ first_of header.now overflow self.now }
+        ensures steps { steps.new ≤ steps.old + 2 * linked_count self.now }
+        ensures few { steps.new ≤ steps.old + 2 * candidates header.now self.now }
+    {
+        if let Some(linked) = self.priority.first_fit(header, steps) {
+            return Some(Found {
+                list: List::Priority,
+                linked,
+            });
+        }
+        if !overflow {
+            return None;
+        }
+        match self.overflow.first_fit(header, steps) {
+            Some(linked) => Some(Found {
+                list: List::Overflow,
+                linked,
+            }),
+            None => None,
+        }
+    }
+
+    /// The list and the handle of the entry that takes the message, as `find_entry` chooses it.
+    pub fn find<L: Ledger>(
+        &self,
+        header: &Header,
+        overflow: bool,
+        steps: &mut Steps<L>,
+    ) -> Option<(List, Handle)>
+        ensures first { result ≡ named (first_of header.now overflow self.now) }
+        ensures steps { steps.new ≤ steps.old + 2 * linked_count self.now }
+        ensures few { steps.new ≤ steps.old + 2 * candidates header.now self.now }
+    {
+        match self.find_entry(header, overflow, steps) {
+            Some(found) => Some((found.list, found.linked.handle)),
+            None => None,
+        }
+    }
+
+    /// Whether no entry is linked in either list.
+    pub fn is_empty(&self) -> bool
+        ensures { IsTrue result ↔ ((self.now.priority ≡ []) × (self.now.overflow ≡ [])) }
+    {
+        self.priority.chain().first().is_none() && self.overflow.chain().first().is_none()
+    }
+
+    /// Whether the entry of this handle is linked in one of the lists. Touches no node.
+    pub fn is_linked(&self, list: List, handle: Handle) -> bool
+        ensures { result ≡ holds handle (entries list self.now) }
+    {
+        let (_priority, _overflow) = (self.priority.nodes(), self.overflow.nodes());
+        match place_of(&self.placed, handle) {
+            Some(placed) => same_list(placed.list, list),
+            None => false,
+        }
+    }
+
+    /// Whether a linked entry names the counting event.
+    pub fn names_ct(&self, ct: Handle) -> bool
+        ensures { result ≡ (entry_names_ct ct self.now.priority || entry_names_ct ct self.now.overflow) }
+    {
+        names_in::<Brand>(
+            Blank::new(1),
+            self.priority.chain(),
+            self.overflow.chain(),
+            ct,
+        )
+    }
+
+    /// The chain of one of the lists: its values are that list.
+    pub fn chain(&self, list: List) -> &Chain<Linked>
+        ensures { values result.now.entries ≡ entries list self.now }
+    {
+        match list {
+            List::Priority => self.priority.chain(),
+            List::Overflow => self.overflow.chain(),
+        }
+    }
+}
+
+/// Whether an entry of one of two lists names the counting event, by a counter of its own.
+fn names_in<L: Ledger>(
+    blank: Blank,
+    priority: &Chain<Linked>,
+    overflow: &Chain<Linked>,
+    ct: Handle,
+) -> bool
+    requires name { blank.name ≡ L.name }
+    requires parts { blank.parts ≡ L.parts }
+    requires one { blank.parts ≡ 1 }
+    ensures { result ≡ (entry_names_ct ct (values priority.now.entries) || entry_names_ct ct (values overflow.now.entries)) }
+{
+    let mut steps = Steps::<L>::start(blank);
+    some_names(priority, ct, &mut steps) || some_names(overflow, ct, &mut steps)
+}

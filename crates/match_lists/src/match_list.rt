@@ -1,0 +1,198 @@
+//! One match list: its entries in order, and threads through them by their match bits.
+ghost use Rattle.std.specs.Prelude.{◌≡◌, ◌<◌, ◌≤◌, ◌+◌, ◌-◌, ◌*◌, ◌^◌, ◌++◌, ◌∷◌, [], None, IsSome, IfOk, IfSome, IfNone, length, find as first_that, option_copied};
+ghost use Rattle.chain_list.specs.Chain.{chain_list, keyed, value_at, without, changed, Linked as IsLinked, Apart};
+ghost use Rattle.ni_model.specs.Lists.{fits as fits_it};
+ghost use Rattle.match_lists.specs.Buckets.{bucket_of, thread_of, on_thread, candidates_in};
+ghost use Rattle.match_lists.specs.Indexed.{IsIndexed, room, takes, key_of, earlier_of};
+ghost use Rattle.match_lists.specs.Lists.{values, running_at};
+
+use crate::walk::fits;
+use chain_list::{Chain, ChainKey, Nodes, Steps};
+use ni_model::Linked;
+use place_threads::Threads;
+use ptl_types::{Header, NoMemory};
+use std::alloc::Global;
+use std::marker::Model;
+use std::sync::ledger::Ledger;
+
+/// An odd number near 2^64 divided by the golden ratio, so that match bits that differ in few bits spread over all buckets.
+const SPREAD: u64 = 0x9E37_79B9_7F4A_7C15;
+
+/// The bucket of match bits; below `buckets`, unless that is 0.
+fn bucket(match_bits: u64, buckets: u32) -> u32
+    ensures { result ≡ bucket_of buckets match_bits }
+{
+    let spread = match_bits.wrapping_mul(SPREAD) >> 32;
+    ((spread * buckets as u64) >> 32) as u32
+}
+
+/// The thread that an entry stands on.
+fn thread(linked: &Linked, buckets: u32) -> u32
+    ensures { result ≡ thread_of buckets linked.now }
+{
+    if linked.entry.ignore_bits == 0 {
+        bucket(linked.entry.match_bits, buckets)
+    } else {
+        buckets
+    }
+}
+
+/// The key that was given first.
+fn earlier(a: Option<ChainKey>, b: Option<ChainKey>) -> Option<ChainKey>
+    ensures { result ≡ earlier_of a b }
+{
+    match (a, b) {
+        (Some(x), Some(y)) if x.stamp < y.stamp => a,
+        (_, Some(_)) => b,
+        (_, None) => a,
+    }
+}
+
+/// The first entry of a thread that takes the message. Touches at most one node for each entry of the thread.
+fn first_on<L: Ledger>(
+    chain: &Chain<Linked>,
+    threads: &Threads,
+    limit: u32,
+    thread: u32,
+    header: &Header,
+    steps: &mut Steps<L>,
+) -> Option<ChainKey>
+    requires indexed { IsIndexed chain.now threads.now limit }
+    requires thread { thread ≤ limit }
+    ensures key { result ≡ key_of (first_that (takes header.now) (on_thread limit thread chain.now.entries)) }
+    ensures steps { steps.new ≤ steps.old + length (on_thread limit thread chain.now.entries) }
+{
+    let nodes = chain.nodes();
+    let mut next = threads.first(thread);
+    while let Some(place) = next {
+        if fits(nodes.value(place, steps), header) {
+            return Some(chain.key(place));
+        }
+        next = threads.next(place);
+    }
+    None
+}
+
+/// The list. Its value is that of the chain of its entries: the threads only tell where to look.
+#[derive(Drop)]
+pub struct MatchList {
+    chain: Chain<Linked>,
+    threads: Threads,
+    limit: u32,
+}
+
+impl Model for MatchList {
+    ghost use Rattle.chain_list.specs.Chain.{ChainList};
+    ghost use Rattle.ni_model.specs.declared.Linked.{Linked};
+    ghost use Rattle.match_lists.specs.Indexed.{IsIndexed};
+
+    ghost Value = { ChainList Linked };
+
+    ghost view = { λ l. l.chain };
+
+    ghost invariant = { λ l. IsIndexed l.chain l.threads l.limit };
+}
+
+impl MatchList {
+    /// The empty list with room for `limit` entries. No later call takes memory.
+    pub(crate) fn with_room(alloc: Global, limit: u32) -> Result<MatchList, NoMemory>
+        ensures { IfOk result (λ l. l ≡ chain_list [] limit 0) }
+    {
+        let chain = Chain::with_room(alloc, limit as u64)?;
+        let threads = Threads::open(alloc, limit as usize + 1, limit as usize)?;
+        Ok(MatchList {
+            chain,
+            threads,
+            limit,
+        })
+    }
+
+    /// Puts an entry behind the last. Touches at most three nodes.
+    pub(crate) fn push_back<L: Ledger>(&mut self, linked: Linked, steps: &mut Steps<L>) -> ChainKey
+        requires room { 0 < self.old.spare }
+        requires keys { self.old.given < 2 ^ 64 - 1 }
+        ensures chain { self.new ≡ chain_list (self.old.entries ++ keyed result linked ∷ []) (self.old.spare - 1) (self.old.given + 1) }
+        ensures steps { steps.new ≤ steps.old + 3 }
+    {
+        let thread = thread(&linked, self.limit);
+        let key = self.chain.push_back(linked, steps);
+        let _nodes = self.chain.nodes();
+        self.threads.push_back(thread, key.place);
+        key
+    }
+
+    /// Takes an entry out; `None` exactly where the key isn't live. Touches at most four nodes.
+    pub(crate) fn unlink<L: Ledger>(
+        &mut self,
+        key: ChainKey,
+        steps: &mut Steps<L>,
+    ) -> Option<Linked>
+        ensures value { result ≡ value_at key self.old.entries }
+        ensures absent { IfNone result (self.new ≡ self.old) }
+        ensures taken { IfSome result (λ _. self.new ≡ chain_list (without key self.old.entries) (self.old.spare + 1) self.old.given) }
+        ensures steps { steps.new ≤ steps.old + 4 }
+    {
+        let _nodes = self.chain.nodes();
+        let linked = self.chain.unlink(key, steps)?;
+        self.threads.unlink(key.place);
+        Some(linked)
+    }
+
+    /// The entry of a key; `None` exactly where the key isn't live. Touches at most one node.
+    pub(crate) fn get<L: Ledger>(&self, key: ChainKey, steps: &mut Steps<L>) -> Option<&Linked>
+        ensures value { option_copied result ≡ value_at key self.now.entries }
+        ensures steps { steps.new ≤ steps.old + 1 }
+    {
+        self.chain.get(key, steps)
+    }
+
+    /// Moves the running offset of a live key's entry on, in bytes. Touches at most one node.
+    pub(crate) fn advance<L: Ledger>(&mut self, key: ChainKey, by: u64, steps: &mut Steps<L>)
+        requires live { IsSome (value_at key self.old.entries) }
+        requires fits { IfSome (value_at key self.old.entries) (λ x. x.running + by < 2 ^ 64) }
+        ensures chain { IfSome (value_at key self.old.entries) (λ x. self.new ≡ chain_list (changed key (running_at (x.running + by) x) self.old.entries) self.old.spare self.old.given) }
+        ensures steps { steps.new ≤ steps.old + 1 }
+    {
+        let _nodes = self.chain.nodes();
+        let Some(linked) = self.chain.get_mut(key, steps) else {
+            unreachable!()
+        };
+        linked.running += by;
+    }
+
+    /// The first entry that takes the message. Touches at most two nodes for each entry that may take its match bits.
+    pub(crate) fn first_fit<L: Ledger>(
+        &self,
+        header: &Header,
+        steps: &mut Steps<L>,
+    ) -> Option<Linked>
+        ensures first { result ≡ first_that (fits_it header.now) (values self.now.entries) }
+        ensures steps { steps.new ≤ steps.old + 2 * candidates_in (room self.now) header.now.match_bits (values self.now.entries) }
+    {
+        let _nodes = self.chain.nodes();
+        let (chain, threads, limit) = (&self.chain, &self.threads, self.limit);
+        let same = bucket(header.match_bits, limit);
+        let exact = first_on(chain, threads, limit, same, header, steps);
+        let wild = first_on(chain, threads, limit, limit, header, steps);
+        let key = earlier(exact, wild)?;
+        match chain.get(key, steps) {
+            Some(linked) => Some(*linked),
+            None => None,
+        }
+    }
+
+    /// The chain of the entries.
+    pub(crate) fn chain(&self) -> &Chain<Linked>
+        ensures { result.now ≡ self.now }
+    {
+        &self.chain
+    }
+
+    /// The nodes of the entries.
+    pub(crate) fn nodes(&self) -> &Nodes<Linked>
+        ensures linked { IsLinked result.now.places None self.now.entries None }
+        ensures apart { Apart self.now.entries }
+    {
+        self.chain.nodes()
+    }
+}

@@ -1,0 +1,16 @@
+use Rattle.std.proofs.Common.{◌≡◌, ◌<◌, Some, None, length, get_or, set, sym, ap, subst, ◌∙◌, arith}
+use Rattle.chain_list.specs.Relinked.{with_after}
+use Rattle.place_threads.specs.Nodes.{node_of, nodes_of}
+use Rattle.place_threads.proofs.LinkLemmas.{length-nodes, get-nodes, set-nodes}
+use Rattle.place_threads.proofs.links.Links.set_after.Goals as goal
+
+pub index_mut-requires : goal.index_mut-requires
+index_mut-requires c = omega (arith, length-nodes c.self.inside.links.items, ap length c.self.view_is, c.self.inside.links.ok.0)
+
+pub returns : goal.returns
+returns c =
+    let ls = c.self.inside.links.items in
+    let lt : c.args.place < length ls = omega (arith, length-nodes ls, ap length c.self.view_is) in
+    let found = c.index_mut.result.now in
+    rw (← c.self.view_is) (set-nodes ls c.args.place (record found { after = c.args.to })
+    ∙ ap (λ n. set (nodes_of ls) c.args.place (with_after c.args.to n)) (sym (get-nodes ls c.args.place found lt ∙ ap node_of (sym c.index_mut.ensures.value))))
