@@ -1,5 +1,7 @@
 //! The two ends of a wire.
 
+ghost use Rattle.std.specs.Prelude.{◌≡◌, length};
+
 use crate::rule::EndView;
 use crossbeam_queue::Pass;
 use ptl_types::Message;
@@ -7,23 +9,43 @@ use std::marker::Model;
 
 /// The end at which messages go in.
 ///
-/// It stands for its wire with the wire's bounds, for the list of the messages that it sent, oldest first, and for a count
-/// of the pushes that found the wire full, which stays at 2^64 - 1 once it is there. The list is in the type alone.
+/// One message may wait here for room in the wire's queue. The end stands for its wire with the wire's bounds; for the list of
+/// the messages that it sent, oldest first, the one that waits among them; for whether one waits; and for a count of the
+/// pushes that found the queue full, which stays at 2^64 - 1 once it is there. Of the list only what waits is more than a type.
 #[derive(Drop)]
 pub struct OutEnd {
     pub(crate) pass: Pass<Message, EndView>,
+    pub(crate) waiting: Option<Message>,
+    // How many went into the queue.
+    pub(crate) pushed: u32,
     pub(crate) refused: u64,
 }
 
 impl Model for OutEnd {
-    ghost use Rattle.std.specs.Prelude.{◌≡◌, [], true};
-    ghost use Rattle.pair_wires.specs.Ends.{Outgoing};
+    ghost use Rattle.pair_wires.specs.Ends.{Outgoing, behind, is_there};
+    ghost use Rattle.pair_wires.specs.Keeping.{OutKeeps};
 
     ghost Value = { Outgoing };
 
-    ghost view = { λ e. record { wire = e.pass.table_id; bounds = e.pass.me.0.client.bounds; sent = e.pass.me.0.client.sent; refused = e.refused } };
+    ghost view = { λ e. record { wire = e.pass.table_id; bounds = e.pass.me.0.client.bounds; sent = behind e.pass.me.0.client.sent e.waiting; waits = is_there e.waiting; refused = e.refused } };
 
-    ghost invariant = { λ e. (e.pass.me.1 ≡ []) × (e.pass.me.0.client.pushes ≡ true) };
+    ghost invariant = { λ e. OutKeeps e.pass.me.0.client e.pass.me.1 e.waiting e.pushed };
+}
+
+impl OutEnd {
+    /// Whether a message waits for room in the queue.
+    pub fn waits(&self) -> bool
+        ensures { result ≡ self.now.waits }
+    {
+        self.waiting.is_some()
+    }
+
+    /// How many messages were sent, the one that waits among them.
+    pub fn sent(&self) -> u64
+        ensures { result ≡ length self.now.sent }
+    {
+        self.pushed as u64 + u64::from(self.waiting.is_some())
+    }
 }
 
 /// The end at which messages come out.
@@ -33,16 +55,27 @@ impl Model for OutEnd {
 #[derive(Drop)]
 pub struct InEnd {
     pub(crate) pass: Pass<Message, EndView>,
+    // How many came out.
+    pub(crate) popped: u32,
     pub(crate) empty: u64,
 }
 
 impl Model for InEnd {
-    ghost use Rattle.std.specs.Prelude.{◌≡◌, [], true};
     ghost use Rattle.pair_wires.specs.Ends.{Incoming};
+    ghost use Rattle.pair_wires.specs.Keeping.{InKeeps};
 
     ghost Value = { Incoming };
 
     ghost view = { λ e. record { wire = e.pass.table_id; bounds = e.pass.me.0.client.bounds; received = e.pass.me.0.client.received; empty = e.empty } };
 
-    ghost invariant = { λ e. (e.pass.me.1 ≡ []) × (e.pass.me.0.client.pops ≡ true) };
+    ghost invariant = { λ e. InKeeps e.pass.me.0.client e.pass.me.1 e.popped };
+}
+
+impl InEnd {
+    /// How many messages were received.
+    pub fn received(&self) -> u64
+        ensures { result ≡ length self.now.received }
+    {
+        self.popped as u64
+    }
 }

@@ -1,6 +1,6 @@
 //! A full wire, an empty wire, what is left at the closing, and two threads.
 
-ghost use Rattle.std.specs.Prelude.{◌≡◌, ◌+◌, ◌≤◌, ◌<◌, [], length};
+ghost use Rattle.std.specs.Prelude.{false, ◌≡◌, ◌+◌, ◌≤◌, ◌<◌, [], length};
 ghost use Rattle.ptl_types.specs.declared.headers.Lane.TheVariants.{Request};
 ghost use Rattle.ptl_types.specs.Kinds.{lane_of};
 ghost use Rattle.pair_wires.specs.Bounds.{KeepsBounds};
@@ -59,7 +59,9 @@ fn send<R: Wait>(rt: &R, alloc: Global, wire: &Wire, out: &mut OutEnd, number: u
     requires lane { wire.now.bounds ≡ record { source = 0; target = 1; lane = Request; messages = wire.now.bounds.messages; bytes = 0 } }
     requires kept { KeepsBounds wire.now.bounds out.old.sent }
     requires room { length out.old.sent < wire.now.bounds.messages }
+    requires free { out.old.waits ≡ false }
     ensures wire { IsOutOf wire.now out.new }
+    ensures free { out.new.waits ≡ false }
     ensures kept { KeepsBounds wire.now.bounds out.new.sent }
     ensures count { length out.new.sent ≤ length out.old.sent + 1 }
 {
@@ -67,6 +69,18 @@ fn send<R: Wait>(rt: &R, alloc: Global, wire: &Wire, out: &mut OutEnd, number: u
         Ok(()) => None,
         Err(back) => Some(back.header().hdr_data),
     }
+}
+
+// Sends a put with this number, which may have to wait.
+fn send_or_wait<R: Wait>(rt: &R, alloc: Global, wire: &Wire, out: &mut OutEnd, number: u64)
+    requires wire { IsOutOf wire.now out.old }
+    requires free { out.old.waits ≡ false }
+    requires lane { wire.now.bounds ≡ record { source = 0; target = 1; lane = Request; messages = wire.now.bounds.messages; bytes = 0 } }
+    requires kept { KeepsBounds wire.now.bounds out.old.sent }
+    requires room { length out.old.sent < wire.now.bounds.messages }
+    ensures { IsOutOf wire.now out.new }
+{
+    wire.send(rt, out, put(alloc, number));
 }
 
 // Receives a message, and answers its number.
@@ -97,6 +111,30 @@ fn a_full_wire_gives_the_message_back(rt: HostRuntime) -> Result<(), Fail> {
 }
 
 #[test]
+fn a_message_waits_for_room(rt: HostRuntime) -> Result<(), Fail> {
+    let (wire, mut out, mut into) = Wire::open(rt.alloc(), 3, requests(4))?;
+    let _ = send(&rt, rt.alloc(), &wire, &mut out, 1);
+    let _ = send(&rt, rt.alloc(), &wire, &mut out, 2);
+    let _ = send(&rt, rt.alloc(), &wire, &mut out, 3);
+    send_or_wait(&rt, rt.alloc(), &wire, &mut out, 4);
+    assert!(rt; out.waits());
+    assert_eq!(rt; out.sent(), 4);
+    assert!(rt; !wire.flush(&rt, &mut out));
+    assert_eq!(rt; receive(&rt, &wire, &mut into), Some(1));
+    assert!(rt; wire.flush(&rt, &mut out));
+    let second = receive(&rt, &wire, &mut into);
+    let third = receive(&rt, &wire, &mut into);
+    let fourth = receive(&rt, &wire, &mut into);
+    let fifth = receive(&rt, &wire, &mut into);
+    assert_eq!(rt;
+        [second, third, fourth, fifth],
+        [Some(2), Some(3), Some(4), None]
+    );
+    assert_eq!(rt; [out.sent(), into.received()], [4, 4]);
+    Ok(())
+}
+
+#[test]
 fn what_a_wire_holds_goes_behind_what_the_lane_holds(rt: HostRuntime) -> Result<(), Fail> {
     let (wire, mut out, mut into) = Wire::open(rt.alloc(), 3, requests(3))?;
     let mut rest = PlainLane::open(rt.alloc(), 4)?;
@@ -116,10 +154,10 @@ fn what_a_wire_holds_goes_behind_what_the_lane_holds(rt: HostRuntime) -> Result<
 
 // Sends puts with the numbers below the count, whatever comes back.
 fn send_all<R: Wait>(rt: &R, alloc: Global, wire: &Wire, out: OutEnd, count: u32) -> OutEnd
-    requires wire { IsOutOf wire.now out × (out.sent ≡ []) }
+    requires wire { IsOutOf wire.now out × (out.sent ≡ []) × (out.waits ≡ false) }
     requires lane { wire.now.bounds ≡ record { source = 0; target = 1; lane = Request; messages = wire.now.bounds.messages; bytes = 0 } }
     requires room { count ≤ wire.now.bounds.messages }
-    ensures { IsOutOf wire.now result }
+    ensures { IsOutOf wire.now result × (result.waits ≡ false) }
 {
     let mut out = out;
     for number in 0..count {
@@ -160,7 +198,7 @@ fn move_between_threads<R: Threads + Wait + Sync>(
     into: InEnd,
     rest: &mut PlainLane,
 ) -> u64
-    requires wire { IsOutOf wire out × (out.sent ≡ []) × IsInOf wire into }
+    requires wire { IsOutOf wire out × (out.sent ≡ []) × (out.waits ≡ false) × IsInOf wire into }
     requires lane { wire.bounds ≡ record { source = 0; target = 1; lane = Request; messages = 1000; bytes = 0 } }
     requires room { (rest.old.messages ≡ []) × (wire.capacity ≤ rest.old.capacity) }
 {
@@ -168,8 +206,8 @@ fn move_between_threads<R: Threads + Wait + Sync>(
     let (out, (into, received)) = thread::join(
         rt,
         move ||
-            requires { IsOutOf shared.now out × (out.sent ≡ []) × (shared.now.bounds ≡ record { source = 0; target = 1; lane = Request; messages = 1000; bytes = 0 }) }
-            ensures { IsOutOf shared.entry.now result }
+            requires { IsOutOf shared.now out × (out.sent ≡ []) × (out.waits ≡ false) × (shared.now.bounds ≡ record { source = 0; target = 1; lane = Request; messages = 1000; bytes = 0 }) }
+            ensures { IsOutOf shared.entry.now result × (result.waits ≡ false) }
         { send_all(rt, alloc, shared, out, 1000) },
         move ||
             requires { IsInOf shared.now into }

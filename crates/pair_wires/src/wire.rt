@@ -1,9 +1,9 @@
 //! A wire from one rank to another, over a queue under a rule.
 
-ghost use Rattle.std.specs.Prelude.{◌≡◌, true, ◌+◌, ◌≤◌, ◌<◌, [], ◌∷◌, ◌++◌, List, length, IfOk, IfErr, OnOk, IfSome, IfNone};
+ghost use Rattle.std.specs.Prelude.{◌≡◌, true, ◌+◌, ◌≤◌, ◌<◌, [], ◌∷◌, ◌++◌, List, length, IfOk, IfErr, OnOk, IfSome, IfNone, IsTrue, IsFalse, false};
 ghost use Rattle.ptl_types.specs.Messages.{Sent};
 ghost use Rattle.crossbeam_queue.specs.Passes.{view, IsPassOf};
-ghost use Rattle.pair_wires.specs.Wires.{IsOutOf, IsInOf, Opens, raised};
+ghost use Rattle.pair_wires.specs.Wires.{IsOutOf, IsInOf, Opens, raised, one_if};
 ghost use Rattle.pair_wires.specs.Bounds.{KeepsBounds};
 ghost use Rattle.pair_wires.specs.Rules.{Drains};
 ghost use Rattle.pair_wires.specs.Lanes.{plain};
@@ -31,12 +31,15 @@ pub struct Wire {
 }
 
 impl Model for Wire {
+    ghost use Rattle.std.specs.Prelude.{◌<◌, ◌^◌};
     ghost use Rattle.crossbeam_queue.specs.Passes.{ruled_capacity};
     ghost use Rattle.pair_wires.specs.Wires.{WireState};
 
     ghost Value = { WireState };
 
     ghost view = { λ w. record { id = w.line.table.shared.table_id; bounds = w.bounds; capacity = ruled_capacity w.line } };
+
+    ghost invariant = { λ w. w.bounds.messages < 2 ^ 32 };
 }
 
 fn risen(count: u64) -> u64
@@ -73,9 +76,15 @@ impl Wire {
             return Err(NoMemory);
         };
         let other = line.another::<IntoEnds<J>>(&mut pass);
-        let out = OutEnd { pass, refused: 0 };
+        let out = OutEnd {
+            pass,
+            waiting: None,
+            pushed: 0,
+            refused: 0,
+        };
         let into = InEnd {
             pass: other,
+            popped: 0,
             empty: 0,
         };
         Ok((Wire { line, bounds }, out, into))
@@ -93,23 +102,80 @@ impl Wire {
         Wire::open_within::<Brand>(alloc, capacity, bounds)
     }
 
+    /// The lane that the wire is, and how much may ever be sent on it.
+    pub fn bounds(&self) -> Bounds
+        ensures { result ≡ self.now.bounds }
+    {
+        self.bounds
+    }
+
     /// Sends a message behind all that was sent. It may wait inside the queue, and never for room.
     ///
     /// `Err` gives the message back, only where the wire was full at this call's own step: so never before as many were sent
     /// as the wire holds. Then nothing was sent, and the count of refused pushes rose.
     pub fn push<R: Wait>(&self, rt: &R, end: &mut OutEnd, message: Message) -> Result<(), Message>
         requires wire { IsOutOf self.now end.old }
+        requires free { end.old.waits ≡ false }
         requires bounds { KeepsBounds self.now.bounds (end.old.sent ++ message ∷ []) }
         ensures wire { IsOutOf self.now end.new }
+        ensures free { end.new.waits ≡ false }
         ensures pushed { OnOk result ((end.new.sent ≡ end.old.sent ++ message ∷ []) × (end.new.refused ≡ end.old.refused)) }
         ensures full { IfErr result (λ m. (m ≡ message) × (end.new.sent ≡ end.old.sent) × (end.new.refused ≡ raised end.old.refused)) }
         ensures only_when_full { IfErr result (λ _. self.now.capacity ≤ length end.old.sent) }
     {
-        let pushed = self.line.push_as::<PushStep, R>(rt, &mut end.pass, message);
-        if pushed.is_err() {
-            end.refused = risen(end.refused);
+        match self.line.push_as::<PushStep, R>(rt, &mut end.pass, message) {
+            Ok(()) => {
+                end.pushed += 1;
+                Ok(())
+            }
+            Err(back) => {
+                end.refused = risen(end.refused);
+                Err(back)
+            }
         }
-        pushed
+    }
+
+    /// Sends a message behind all that was sent: it goes into the queue, or waits at the end. The call may wait inside the
+    /// queue, and never for room.
+    ///
+    /// The message waits only where the queue was full at this call's own step: so never before as many went into the queue as
+    /// it holds. Then the count of refused pushes rose.
+    pub fn send<R: Wait>(&self, rt: &R, end: &mut OutEnd, message: Message)
+        requires wire { IsOutOf self.now end.old }
+        requires free { end.old.waits ≡ false }
+        requires bounds { KeepsBounds self.now.bounds (end.old.sent ++ message ∷ []) }
+        ensures wire { IsOutOf self.now end.new }
+        ensures sent { end.new.sent ≡ end.old.sent ++ message ∷ [] }
+        ensures pushed { end.new.waits ≡ false → end.new.refused ≡ end.old.refused }
+        ensures full { end.new.waits ≡ true → (end.new.refused ≡ raised end.old.refused) × (self.now.capacity ≤ length end.old.sent) }
+    {
+        if let Err(back) = self.push(rt, end, message) {
+            end.waiting = Some(back);
+        }
+    }
+
+    /// Pushes the message that waits, if one does. It may wait inside the queue, and never for room.
+    ///
+    /// `false` only where a message waits and the queue was full at this call's own step: so never before as many went into
+    /// the queue as it holds. Then the message still waits, and the count of refused pushes rose.
+    pub fn flush<R: Wait>(&self, rt: &R, end: &mut OutEnd) -> bool
+        requires wire { IsOutOf self.now end.old }
+        ensures wire { IsOutOf self.now end.new }
+        ensures sent { end.new.sent ≡ end.old.sent }
+        ensures flushed { IsTrue result → (end.new.waits ≡ false) × (end.new.refused ≡ end.old.refused) }
+        ensures waits { IsFalse result → (end.old.waits ≡ true) × (end.new.waits ≡ true) }
+        ensures full { IsFalse result → (end.new.refused ≡ raised end.old.refused) × (self.now.capacity < length end.old.sent) }
+    {
+        let Some(message) = end.waiting.take() else {
+            return true;
+        };
+        match self.push(rt, end, message) {
+            Ok(()) => true,
+            Err(back) => {
+                end.waiting = Some(back);
+                false
+            }
+        }
     }
 
     /// Receives the oldest message. It may wait inside the queue, and never for a message.
@@ -123,28 +189,41 @@ impl Wire {
         ensures bounds { IfSome result (λ _. KeepsBounds self.now.bounds end.new.received) }
         ensures empty { IfNone result ((end.new.received ≡ end.old.received) × (end.new.empty ≡ raised end.old.empty)) }
     {
-        let popped = self.line.pop_as::<PopStep, R>(rt, &mut end.pass);
-        if popped.is_none() {
-            end.empty = risen(end.empty);
+        match self.line.pop_as::<PopStep, R>(rt, &mut end.pass) {
+            Some(message) => {
+                end.popped += 1;
+                Some(message)
+            }
+            None => {
+                end.empty = risen(end.empty);
+                None
+            }
         }
-        popped
     }
 
-    /// Ends the wire. What it holds goes, oldest first, to the end of the lane. It may wait inside the queue.
+    /// Ends the wire. What its queue holds and then the message that waits go, oldest first, to the end of the lane. It may
+    /// wait inside the queue.
     pub fn close<R: Wait>(self, rt: &R, out: OutEnd, into: InEnd, rest: &mut PlainLane)
         requires ends { IsOutOf self out × IsInOf self into }
-        requires room { length rest.old.messages + self.capacity ≤ rest.old.capacity }
+        requires room { length rest.old.messages + (self.capacity + one_if out.waits) ≤ rest.old.capacity }
         ensures held { (held : List Sent) × (rest.new.messages ≡ rest.old.messages ++ held) × (out.sent ≡ into.received ++ held) }
         ensures capacity { rest.new.capacity ≡ rest.old.capacity }
         ensures bounds { KeepsBounds self.bounds out.sent }
     {
         let Wire { line, .. } = self;
-        let OutEnd { mut pass, .. } = out;
+        let OutEnd {
+            mut pass,
+            waiting,
+            ..
+        } = out;
         let InEnd { pass: other, .. } = into;
         line.absorb::<FromEnds>(&mut pass, other);
         let count = line.len_as::<DrainStep, R>(rt, &mut pass);
         for _ in 0..count {
             move_one(rt, &line, &mut pass, rest);
+        }
+        if let Some(message) = waiting {
+            rest.push_back(message);
         }
     }
 }
