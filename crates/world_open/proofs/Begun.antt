@@ -31,7 +31,7 @@ use Rattle.world_open.specs.Fresh.{IsFresh, fresh_lane}
 has-room : (window : ℕ) (ms : List Sent) → 0 < window → ms ≡ [] → nat_lt (length ms) window ≡ true
 has-room window ms some none = ap (λ xs. nat_lt (length xs) window) none ∙ lt-ltb 0 window some
 
-none-due : (k : ℕ) (f : ℕ → ℕ) (n : ℕ) → ((s : ℕ) → k ≤ s → s < k + n → f s ≡ 0) → sum_by f (from_to k n) ≡ 0
+pub none-due : (k : ℕ) (f : ℕ → ℕ) (n : ℕ) → ((s : ℕ) → k ≤ s → s < k + n → f s ≡ 0) → sum_by f (from_to k n) ≡ 0
 none-due k f zero each = refl
 none-due k f (suc n) each =
     let a = sum_by-cons f k (from_to (suc k) n) in
@@ -39,18 +39,13 @@ none-due k f (suc n) each =
     let c = none-due (suc k) f n (λ s low high. each s (omega arith) (omega arith)) in
     omega (arith, a, b, c)
 
-module _ (p : Plan) (inputs : Inputs) (n : ℕ) (nodes : List NodeState) (lanes : List Plain) (window strays : ℕ)
-    (few : n ≤ 256) (count : p.ranks ≡ n) (sound : SoundPlan p (length inputs)) (fit : AreInputsOf p inputs) (some : 0 < window)
-    (size : length nodes ≡ n) (wide : length lanes ≡ 2 * (n * n))
-    (fresh : (r : ℕ) → r < n → IsFresh p inputs n strays r (node_at nodes r))
-    (laid : (s d : ℕ) (lane : Lane) → s < n → d < n → lane_at lanes (lane_place n s d lane) ≡ fresh_lane p strays s d lane) where
-  empty : (s d : ℕ) (lane : Lane) → s < n → d < n → (lane_at lanes (lane_place n s d lane)).messages ≡ []
-  empty s d lane hs hd = ap (λ (l : Plain). l.messages) (laid s d lane hs hd)
-
+-- nodes without a step, and lanes without a message, are the first scene
+module _ (n : ℕ) (nodes : List NodeState) (lanes : List Plain) (size : length nodes ≡ n) (bare : (r : ℕ) → r < n → (node_at nodes r).diary.locals ≡ [])
+    (empty : (s d : ℕ) (lane : Lane) → s < n → d < n → (lane_at lanes (lane_place n s d lane)).messages ≡ []) where
   -- at any rank, and on any lane
-  none-done : (r : ℕ) → (node_at nodes r).diary.locals ≡ []
+  pub none-done : (r : ℕ) → (node_at nodes r).diary.locals ≡ []
   none-done r = elim (cases_lt r n) [
-    | inl lt ↦ (fresh r lt).locals
+    | inl lt ↦ bare r lt
     | inr le ↦ ap (λ (k : NodeState). k.diary.locals) (get_or_past nodes r no_node (omega (arith, size, le)))
   ]
 
@@ -60,9 +55,23 @@ module _ (p : Plan) (inputs : Inputs) (n : ℕ) (nodes : List NodeState) (lanes 
     | inr e ↦ ap (λ b. if b then (lane_at lanes (lane_place n s d lane)).messages else []) e
   ]
 
+  pub first-by : scene_of n nodes lanes ≡ first_scene
+  first-by = scene_by (λ r. (node_at nodes r).diary.locals) (λ r. []) (held_in n lanes) (λ s d lane. []) none-done none-held
+
+module _ (p : Plan) (inputs : Inputs) (n : ℕ) (nodes : List NodeState) (lanes : List Plain) (window strays : ℕ)
+    (few : n ≤ 256) (count : p.ranks ≡ n) (sound : SoundPlan p (length inputs)) (fit : AreInputsOf p inputs) (some : 0 < window)
+    (size : length nodes ≡ n) (wide : length lanes ≡ 2 * (n * n))
+    (fresh : (r : ℕ) → r < n → IsFresh p inputs n strays r (node_at nodes r))
+    (laid : (s d : ℕ) (lane : Lane) → s < n → d < n → lane_at lanes (lane_place n s d lane) ≡ fresh_lane p strays s d lane) where
+  empty : (s d : ℕ) (lane : Lane) → s < n → d < n → (lane_at lanes (lane_place n s d lane)).messages ≡ []
+  empty s d lane hs hd = ap (λ (l : Plain). l.messages) (laid s d lane hs hd)
+
+  done-before : (r : ℕ) → (node_at nodes r).diary.locals ≡ []
+  done-before = none-done n nodes lanes size (λ r h. (fresh r h).locals) empty
+
   -- so the scene is the first
   pub is-first : scene_of n nodes lanes ≡ first_scene
-  is-first = scene_by (λ r. (node_at nodes r).diary.locals) (λ r. []) (held_in n lanes) (λ s d lane. []) none-done none-held
+  is-first = first-by n nodes lanes size (λ r h. (fresh r h).locals) empty
 
   is-moment : (k : ℕ → Slots) → IsMoment (system_of p inputs k) (scene_of n nodes lanes).world (scene_of n nodes lanes).held
   is-moment k = subst (λ (z : Scene). IsMoment (system_of p inputs k) z.world z.held) (sym is-first) (first_moment p inputs k)
@@ -85,7 +94,7 @@ module _ (p : Plan) (inputs : Inputs) (n : ℕ) (nodes : List NodeState) (lanes 
 
   none-for : (d : ℕ) → d < n → strays_for n nodes lanes d ≡ 0
   none-for d hd =
-      let a = ap (count_by is_received_stray) (none-done d) in
+      let a = ap (count_by is_received_stray) (done-before d) in
       let b = none-due 0 (λ s. count_by is_stray (lane_at lanes (lane_place n s d Request)).messages) n (λ s low high. ap (count_by is_stray) (empty s d Request (omega (arith, high)) hd)) in
       omega (arith, a, b)
 
@@ -93,7 +102,7 @@ module _ (p : Plan) (inputs : Inputs) (n : ℕ) (nodes : List NodeState) (lanes 
   are-strays = record {
     room = λ r h. (fresh r h).strays;
     few = λ d h. let q = none-for d h in omega (arith, q);
-    received = λ r h. subst AreShort (sym (none-done r)) tt;
+    received = λ r h. subst AreShort (sym (done-before r)) tt;
     held = λ s d lane m hs hd here stray. absurd (subst (In m) (empty s d lane hs hd) here);
   }
 

@@ -1,13 +1,13 @@
 -- The parts of a world before its first step.
-use Rattle.std.specs.Prelude.{ℕ, false, ◌+◌, ◌≡◌, [], replicate}
+use Rattle.std.specs.Prelude.{ℕ, false, ◌≡◌, [], replicate}
 use Rattle.ptl_types.specs.declared.headers.Lane.{Lane}
-use Rattle.pair_wires.specs.Lanes.{Plain, plain}
-use Rattle.plan_calls.specs.Lanes.{lane_messages}
+use Rattle.pair_wires.specs.Lanes.{Plain}
 use Rattle.plan_core.specs.Plan.{Plan}
 use Rattle.plan_core.specs.Values.{Inputs}
 use Rattle.rank_node.specs.Node.{IsNode, NodeState}
 use Rattle.rank_node.specs.Plans.{IsCompiledFor}
-use Rattle.world_parts.specs.Keeps.{spare_on}
+use Rattle.world_open.specs.declared.laying.Room.TheVariants.{Whole}
+use Rattle.world_open.specs.Laying.{laid_lane}
 
 -- the node of rank r of n ranks, installed, with room for so many strays
 pub record IsFresh (p : Plan) (inputs : Inputs) (n spare r : ℕ) (node : NodeState) : Type 0 where
@@ -20,4 +20,4 @@ pub record IsFresh (p : Plan) (inputs : Inputs) (n spare r : ℕ) (node : NodeSt
 
 -- a lane on which nothing was sent: there is room for the plan's messages, and for strays where these may go
 abbrev pub fresh_lane : Plan → ℕ → ℕ → ℕ → Lane → Plain
-fresh_lane p strays s d lane = plain [] (lane_messages p s d lane + spare_on lane strays)
+fresh_lane p strays s d lane = laid_lane p (Whole strays) s d lane

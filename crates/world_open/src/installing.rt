@@ -12,7 +12,11 @@ use schedule_compiler::Job;
 use std::alloc::Global;
 
 /// The nodes of a job by rank, each installed with room for so many strays.
-pub(crate) fn install_all(alloc: Global, job: &Job, strays: u32) -> Result<Vec<Node>, NoMemory>
+///
+/// # Errors
+///
+/// There was no memory for it. The job is as it was.
+pub fn install_all(alloc: Global, job: &Job, strays: u32) -> Result<Vec<Node>, NoMemory>
     ensures size { IfOk result (λ v. length v.items ≡ job.now.shape.ranks) }
     ensures fresh { IfOk result (λ v. (r : ℕ) → r < job.now.shape.ranks →
         IsFresh (plan_of job.now.shape) job.now.inputs job.now.shape.ranks strays r (node_at v.items r)) }

@@ -6,15 +6,24 @@ ghost use Rattle.plan_worlds.specs.Places.{lane_place};
 ghost use Rattle.shape_plans.specs.Drawing.{plan_of};
 ghost use Rattle.world_parts.specs.Keeps.{spare_on};
 ghost use Rattle.world_parts.specs.Layout.{lane_at};
-ghost use Rattle.world_open.specs.Fresh.{fresh_lane};
+ghost use Rattle.world_open.specs.Laying.{laid_lane, room_of};
 
 use pair_wires::PlainLane;
 use ptl_types::{Lane, NoMemory, Rank};
 use schedule_compiler::Schedule;
 use std::alloc::Global;
 
+/// How much room lanes have.
+#[derive(Clone, Copy)]
+pub enum Room {
+    /// For the plan's messages, and on a request lane for so many strays.
+    Whole(u32),
+    /// For so many messages on each lane that the plan uses, and for none on the others.
+    Window(u32),
+}
+
 /// So many messages and so many more, as far as a lane can have room for them.
-fn room(messages: u64, spare: u32) -> Option<u32>
+fn both(messages: u64, spare: u32) -> Option<u32>
     ensures { IfSome result (λ n. n ≡ messages + spare) }
 {
     let all = messages.checked_add(u64::from(spare))?;
@@ -31,20 +40,30 @@ fn spare_of(lane: Lane, strays: u32) -> u32
     }
 }
 
-/// An empty lane with room for the plan's messages, and on a request lane for so many strays.
+/// How many messages a lane of this kind may hold on which the plan sends so many, as far as a lane can have room for them.
+fn capacity(room: Room, messages: u64, lane: Lane) -> Option<u32>
+    ensures { IfSome result (λ n. n ≡ room_of room messages lane) }
+{
+    match room {
+        Room::Whole(strays) => both(messages, spare_of(lane, strays)),
+        Room::Window(few) => Some(if 0 < messages { few } else { 0 }),
+    }
+}
+
+/// An empty lane.
 fn open_lane(
     alloc: Global,
     schedule: &Schedule,
-    strays: u32,
+    room: Room,
     s: Rank,
     d: Rank,
     lane: Lane,
 ) -> Result<PlainLane, NoMemory>
     requires source { s < schedule.now.ranks }
     requires target { d < schedule.now.ranks }
-    ensures { IfOk result (λ l. l ≡ fresh_lane (plan_of schedule.now) strays s d lane) }
+    ensures { IfOk result (λ l. l ≡ laid_lane (plan_of schedule.now) room s d lane) }
 {
-    match room(schedule.lane(s, d, lane), spare_of(lane, strays)) {
+    match capacity(room, schedule.lane(s, d, lane), lane) {
         Some(capacity) => PlainLane::open(alloc, capacity),
         None => Err(NoMemory),
     }
@@ -54,11 +73,11 @@ fn open_lane(
 pub(crate) fn lay_all(
     alloc: Global,
     schedule: &Schedule,
-    strays: u32,
+    room: Room,
 ) -> Result<Vec<PlainLane>, NoMemory>
     ensures size { IfOk result (λ v. length v.items ≡ 2 * (schedule.now.ranks * schedule.now.ranks)) }
-    ensures fresh { IfOk result (λ v. (s d : ℕ) (lane : LaneOf) → s < schedule.now.ranks → d < schedule.now.ranks →
-        lane_at v.items (lane_place schedule.now.ranks s d lane) ≡ fresh_lane (plan_of schedule.now) strays s d lane) }
+    ensures laid { IfOk result (λ v. (s d : ℕ) (lane : LaneOf) → s < schedule.now.ranks → d < schedule.now.ranks →
+        lane_at v.items (lane_place schedule.now.ranks s d lane) ≡ laid_lane (plan_of schedule.now) room s d lane) }
 {
     let ranks = schedule.shape().ranks();
     let _ = schedule.plan();
@@ -68,9 +87,9 @@ pub(crate) fn lay_all(
     for pair in 0..pairs {
         let s = pair / ranks;
         let d = pair % ranks;
-        let request = open_lane(alloc, schedule, strays, s, d, Lane::Request)?;
+        let request = open_lane(alloc, schedule, room, s, d, Lane::Request)?;
         lanes.push(request)?;
-        let answer = open_lane(alloc, schedule, strays, s, d, Lane::Answer)?;
+        let answer = open_lane(alloc, schedule, room, s, d, Lane::Answer)?;
         lanes.push(answer)?;
     }
     Ok(lanes)

@@ -8,7 +8,7 @@ ghost use Rattle.world_parts.specs.Layout.{node_at, scene_of};
 
 use crate::counting::{count_firings, count_starts};
 use crate::installing::install_all;
-use crate::laying::lay_all;
+use crate::laying::{Room, lay_all};
 use count_tree::CountTree;
 use pair_wires::PlainLane;
 use ptl_types::NoMemory;
@@ -55,7 +55,7 @@ pub fn opened(alloc: Global, job: &Job, window: u64, strays: u32) -> Result<Part
     let places = 2 * (ranks * ranks);
     let _ = job.inputs();
     let nodes = install_all(alloc, job, strays)?;
-    let lanes = lay_all(alloc, schedule, strays)?;
+    let lanes = lay_all(alloc, schedule, Room::Whole(strays))?;
     let starts = count_starts(alloc, &nodes)?;
     let deliveries = CountTree::open(alloc, places)?;
     let firings = count_firings(alloc, &nodes)?;

@@ -17,10 +17,10 @@ use Rattle.world_parts.specs.Steps.{IsInjected, IsStepped, injected}
 use Rattle.worlds.specs.Allowed.{Allows}
 use Rattle.worlds.specs.Standing.{AreFields}
 use Rattle.worlds.specs.Later.{IsLater}
-use Rattle.worlds.specs.World.{AreSlots, WorldState, histories_in, scene_in, steps_in}
+use Rattle.worlds.specs.World.{AreSlots, WorldState, histories_in, scene_in, state_of, steps_in}
 use Rattle.worlds.proofs.Ends.{barriers_in, given_slots, slots_given}
 use Rattle.worlds.proofs.Listed.{allowed, listed_by}
-use Rattle.worlds.proofs.Standing.{stands, state_of, world_is}
+use Rattle.worlds.proofs.Standing.{stands, world_is}
 use Rattle.worlds.proofs.Stepping.{IsMade, MayMake, begins_with, same_world}
 
 module _ (job : JobOf) (setting : Setting) (nodes : List NodeState) (lanes : List Plain) (starts deliveries firings : List ℕ)

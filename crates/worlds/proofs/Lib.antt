@@ -6,3 +6,5 @@ pub mod Stepping
 pub mod Behind
 pub mod Steps
 pub mod Words
+pub mod Joined
+pub mod Framed

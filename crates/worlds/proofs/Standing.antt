@@ -26,7 +26,7 @@ use Rattle.world_parts.specs.declared.acts.Setting.{Setting}
 use Rattle.world_parts.specs.Keeps.{AgreeAll, IsWorld}
 use Rattle.world_parts.specs.Layout.{node_at, scene_of}
 use Rattle.worlds.specs.Standing.{AreFields, IsStanding}
-use Rattle.worlds.specs.World.{AreSlots, WorldState, steps_in}
+use Rattle.worlds.specs.World.{AreSlots, state_of, steps_in}
 use Rattle.worlds.proofs.Places.{deliveries_are, fires_are, firings_are, rank_is, starts_are}
 
 -- ---- the step of a number
@@ -112,16 +112,6 @@ module _ (p : Plan) (inputs : Inputs) (n : ℕ) (nodes : List NodeState) (lanes 
       at xs i t e = sym (unwrap_or-slice_get xs i t) ∙ ap (λ o. unwrap_or o t) e
 
 -- ---- the world
-abbrev pub state_of : JobOf → Setting → List NodeState → List Plain → WorldState
-state_of job setting nodes lanes = record {
-  shape = job.shape;
-  inputs = job.inputs;
-  nodes = nodes;
-  lanes = lanes;
-  window = setting.window;
-  strays = setting.strays;
-  spare = setting.spare;
-}
 
 module _ (job : JobOf) (setting : Setting) (nodes : List NodeState) (lanes : List Plain) (starts deliveries firings : List ℕ)
     (fields : AreFields job setting nodes lanes starts deliveries firings) where

@@ -11,8 +11,10 @@ use Rattle.plan_orders.specs.Chosen.{Scene}
 use Rattle.plan_orders.specs.declared.Step.{Step}
 use Rattle.plan_worlds.specs.Possible.{possible_steps}
 use Rattle.rank_node.specs.Node.{NodeState}
+use Rattle.schedule_compiler.specs.Jobs.{JobOf}
 use Rattle.coll_shape.specs.Outline.{Outline}
 use Rattle.shape_plans.specs.Drawing.{plan_of}
+use Rattle.world_parts.specs.declared.acts.Setting.{Setting}
 use Rattle.world_parts.specs.Keeps.{AgreeAll}
 use Rattle.world_parts.specs.Layout.{node_at, scene_of}
 
@@ -26,6 +28,18 @@ pub record WorldState : Type 0 where
   pub window : ℕ
   pub strays : ℕ
   pub spare : ℕ
+
+-- the world of a job with such parts
+abbrev pub state_of : JobOf → Setting → List NodeState → List Plain → WorldState
+state_of job setting nodes lanes = record {
+  shape = job.shape;
+  inputs = job.inputs;
+  nodes = nodes;
+  lanes = lanes;
+  window = setting.window;
+  strays = setting.strays;
+  spare = setting.spare;
+}
 
 -- slots that agree with the handles that were given so far
 abbrev pub AreSlots : WorldState → (ℕ → Slots) → Type 0

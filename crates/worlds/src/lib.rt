@@ -3,10 +3,12 @@
 #![tactic(auto)]
 
 mod finding;
+mod frame;
 mod laws;
 mod making;
 mod world;
 
+pub use frame::Frame;
 pub use laws::{possible_steps_of_worlds, runs_by_words, slots_agree, worlds_stand};
 pub use plan_orders::Step;
 pub use ptl_types::LocalStep;

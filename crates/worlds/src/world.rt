@@ -16,10 +16,10 @@ ghost use Rattle.rank_node.specs.Node.{stray_bytes};
 ghost use Rattle.job_laws.specs.Barriers.{AreBarriersKept};
 ghost use Rattle.job_laws.specs.Results.{AreMeant, result_in};
 ghost use Rattle.world_parts.specs.Steps.{injected};
-ghost use Rattle.worlds.specs.Standing.{IsStanding};
+ghost use Rattle.worlds.specs.Standing.{AreFields, IsStanding};
 ghost use Rattle.worlds.specs.Later.{IsLater, IsOpened};
 ghost use Rattle.worlds.specs.Runs.{IsRun, Running, chosen_run};
-ghost use Rattle.worlds.specs.World.{AreSlots, histories_in, memory_in, nic_in, ranks_in, scene_in, steps_in};
+ghost use Rattle.worlds.specs.World.{AreSlots, histories_in, memory_in, nic_in, ranks_in, scene_in, state_of, steps_in};
 
 use crate::finding::{delivery_at, part_of};
 use crate::making::{allows, make};
@@ -32,7 +32,7 @@ use rank_node::Node;
 use schedule_compiler::{Job, Schedule};
 use std::alloc::Global;
 use std::marker::Model;
-use world_open::opened as parts_of_job;
+use world_open::{Parts, opened as parts_of_job};
 use world_parts::acts;
 use world_parts::acts::Setting;
 
@@ -137,6 +137,22 @@ impl World {
             deliveries: parts.deliveries,
             firings: parts.firings,
         })
+    }
+
+    /// A world of a job around its parts.
+    pub(crate) fn around(job: Job, parts: Parts) -> World
+        requires { AreFields job parts.setting parts.nodes.items parts.lanes.items parts.starts parts.deliveries parts.firings }
+        ensures { result ≡ state_of job parts.setting parts.nodes.items parts.lanes.items }
+    {
+        World {
+            job,
+            setting: parts.setting,
+            nodes: parts.nodes,
+            lanes: parts.lanes,
+            starts: parts.starts,
+            deliveries: parts.deliveries,
+            firings: parts.firings,
+        }
     }
 
     /// The schedule.

@@ -3,9 +3,9 @@ use Rattle.std.proofs.Common.{ℕ, zero, suc, ◌+◌, ◌*◌, ◌/◌, ◌%◌
 use Rattle.std.proofs.lemmas.Nat.{div_below, mod_below}
 use Rattle.coll_shape.specs.Outline.{Outline}
 use Rattle.ptl_types.specs.declared.headers.Lane.TheVariants.{Request, Answer}
-use Rattle.pair_wires.specs.Lanes.{Plain}
+use Rattle.pair_wires.specs.Lanes.{Plain, plain}
 use Rattle.shape_plans.specs.Drawing.{plan_of}
-use Rattle.world_open.specs.Fresh.{fresh_lane}
+use Rattle.world_open.specs.Laying.{laid_lane}
 use Rattle.world_open.proofs.Laid.{IsLaid, all-laid, few-pairs, one-pair, two-more}
 use Rattle.world_open.proofs.laying.lay_all.Goals as goal
 
@@ -45,7 +45,7 @@ pub loop-pair-preserved : goal.loop-pair-preserved
 loop-pair-preserved c =
     let o = c.args.schedule.now in
     let p = plan_of o in
-    let strays = c.args.strays in
+    let f = laid_lane p c.args.room in
     let n = c.ranks-ranks.result in
     let e : n ≡ o.ranks = c.ranks-ranks.ensures.told ∙ ap (λ (o : Outline). o.ranks) c.shape.ensures.told in
     let i = c.loop-pair.pair in
@@ -54,11 +54,11 @@ loop-pair-preserved c =
     let a = c.in_ok-request.request in
     let b = c.in_ok-answer.answer in
     let news = c.in_ok-push-2.ensures.items ∙ ap (λ v. v ++ b ∷ []) c.in_ok-push.ensures.items in
-    let ea : a ≡ fresh_lane p strays (i / o.ranks) (i % o.ranks) Request = c.in_ok-request.ensures ∙ ap (λ m. fresh_lane p strays (i / m) (i % m) Request) e in
-    let eb : b ≡ fresh_lane p strays (i / o.ranks) (i % o.ranks) Answer = c.in_ok-answer.ensures ∙ ap (λ m. fresh_lane p strays (i / m) (i % m) Answer) e in
+    let ea : a ≡ laid_lane p c.args.room (i / o.ranks) (i % o.ranks) Request = c.in_ok-request.ensures ∙ ap (λ m. laid_lane p c.args.room (i / m) (i % m) Request) e in
+    let eb : b ≡ laid_lane p c.args.room (i / o.ranks) (i % o.ranks) Answer = c.in_ok-answer.ensures ∙ ap (λ m. laid_lane p c.args.room (i / m) (i % m) Answer) e in
     record {
       size = ap length news ∙ two-more lanes a b i before.size;
-      laid = subst (λ (v : List Plain). (k : ℕ) → k < i + 1 → IsLaid p strays o.ranks v k) (sym news) (one-pair p strays o.ranks lanes a b i before.size before.laid ea eb);
+      laid = subst (λ (v : List Plain). (k : ℕ) → k < i + 1 → IsLaid f o.ranks v (plain [] 0) k) (sym news) (one-pair f o.ranks lanes (plain [] 0) a b i before.size before.laid ea eb);
     }
 
 pub returns : goal.returns
@@ -73,5 +73,5 @@ returns c =
     let last : i ≡ o.ranks * o.ranks = all ∙ ap (λ m. m * m) e in
     record {
       size = c.loop-pair.invariant.size ∙ ap (λ m. 2 * m) last;
-      fresh = all-laid (plan_of o) c.args.strays o.ranks c.loop-pair.lanes.items (λ k h. c.loop-pair.invariant.laid k (subst (λ m. k < m) (sym last) h));
+      laid = all-laid (laid_lane (plan_of o) c.args.room) o.ranks c.loop-pair.lanes.items (plain [] 0) (λ k h. c.loop-pair.invariant.laid k (subst (λ m. k < m) (sym last) h));
     }

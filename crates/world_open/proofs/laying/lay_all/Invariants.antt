@@ -1,10 +1,12 @@
-use Rattle.std.proofs.Common.{ℕ, ◌*◌, ◌<◌, ◌≡◌, length}
+use Rattle.std.proofs.Common.{ℕ, [], ◌*◌, ◌<◌, ◌≡◌, length}
+use Rattle.pair_wires.specs.Lanes.{plain}
 use Rattle.shape_plans.specs.Drawing.{plan_of}
+use Rattle.world_open.specs.Laying.{laid_lane}
 use Rattle.world_open.proofs.Laid.{IsLaid}
 use Rattle.world_open.proofs.laying.lay_all.Given as goal
 
 abbrev pub invariant-loop-pair : goal.invariant-loop-pair
 invariant-loop-pair l = record {
   size : length l.lanes.items ≡ 2 * l.pair;
-  laid : (k : ℕ) → k < l.pair → IsLaid (plan_of l.schedule) l.strays l.schedule.ranks l.lanes.items k;
+  laid : (k : ℕ) → k < l.pair → IsLaid (laid_lane (plan_of l.schedule) l.room) l.schedule.ranks l.lanes.items (plain [] 0) k;
 }

@@ -2,9 +2,9 @@
 use Rattle.std.proofs.Common.{ap, arith, length, subst, sym}
 use Rattle.plan_cuts.specs.Cut.{IsAtRest}
 use Rattle.worlds.specs.Standing.{IsStanding}
-use Rattle.worlds.specs.World.{AreSlots, WorldState, histories_in, ranks_in, steps_in}
+use Rattle.worlds.specs.World.{AreSlots, WorldState, histories_in, ranks_in, state_of, steps_in}
 use Rattle.worlds.proofs.Ends.{none_in, rests}
-use Rattle.worlds.proofs.Standing.{number, stands, state_of}
+use Rattle.worlds.proofs.Standing.{number, stands}
 use Rattle.worlds.proofs.world.World.enabled.Goals as goal
 
 pub returns-clause-number : goal.returns-clause-number

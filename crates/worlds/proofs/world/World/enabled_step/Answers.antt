@@ -7,9 +7,9 @@ use Rattle.plan_view.specs.Slots.{Slots}
 use Rattle.rank_node.specs.Gates.{open_numbers}
 use Rattle.rank_node.specs.Node.{NodeState}
 use Rattle.world_parts.specs.Layout.{no_node}
-use Rattle.worlds.specs.World.{AreSlots, WorldState, steps_in}
+use Rattle.worlds.specs.World.{AreSlots, WorldState, state_of, steps_in}
 use Rattle.worlds.proofs.Ends.{given_slots, slots_given}
-use Rattle.worlds.proofs.Standing.{delivery_in, firing_in, firings_there, number, stands, start_in, state_of}
+use Rattle.worlds.proofs.Standing.{delivery_in, firing_in, firings_there, number, stands, start_in}
 use Rattle.worlds.proofs.world.World.enabled_step.Goals as goal
 
 pub returns-then-i-starts : goal.returns-then-i-starts

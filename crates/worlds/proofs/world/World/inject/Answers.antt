@@ -6,9 +6,8 @@ use Rattle.ptl_types.specs.declared.headers.Lane.TheVariants.{Request}
 use Rattle.plan_calls.specs.Lanes.{is_used_lane}
 use Rattle.shape_plans.specs.Drawing.{plan_of}
 use Rattle.worlds.specs.Later.{IsLater}
-use Rattle.worlds.specs.World.{WorldState}
+use Rattle.worlds.specs.World.{WorldState, state_of}
 use Rattle.worlds.proofs.Behind.{fields_injected, later_injected, left_world, lent_put, lent_world}
-use Rattle.worlds.proofs.Standing.{state_of}
 use Rattle.worlds.proofs.world.World.inject.Goals as goal
 
 pub invariant_of-self : goal.invariant_of-self

@@ -10,9 +10,9 @@ use Rattle.schedule_compiler.specs.declared.schedule.Place.{Place}
 use Rattle.shape_laws.proofs.Final.{result-cell}
 use Rattle.shape_plans.specs.Drawing.{drawing_of, plan_of}
 use Rattle.world_parts.specs.Layout.{no_node}
-use Rattle.worlds.specs.World.{WorldState}
+use Rattle.worlds.specs.World.{WorldState, state_of}
 use Rattle.worlds.proofs.Ends.{result_lies}
-use Rattle.worlds.proofs.Standing.{stands, state_of}
+use Rattle.worlds.proofs.Standing.{stands}
 use Rattle.worlds.proofs.world.World.result.Goals as goal
 
 pub place-requires : goal.place-requires

@@ -5,9 +5,9 @@ use Rattle.std.specs.Vec.{with_items}
 use Rattle.shape_plans.specs.Drawing.{plan_of}
 use Rattle.worlds.specs.Allowed.{Allows}
 use Rattle.worlds.specs.Later.{IsLater}
-use Rattle.worlds.specs.World.{WorldState}
+use Rattle.worlds.specs.World.{WorldState, state_of}
 use Rattle.worlds.proofs.Behind.{allowed_now, barriers_behind, fields_behind, later_behind, left_world, lent_step, lent_world, made_behind}
-use Rattle.worlds.proofs.Standing.{stands, state_of}
+use Rattle.worlds.proofs.Standing.{stands}
 use Rattle.worlds.proofs.Stepping.{IsMade, MayMake}
 use Rattle.worlds.proofs.world.World.step.Goals as goal
 

@@ -4,7 +4,7 @@ use Rattle.std.proofs.Math.ListN.{length-set}
 use Rattle.world_parts.specs.Layout.{node_at}
 use Rattle.world_parts.specs.Marks.{start_count}
 use Rattle.world_open.proofs.Lists.{written}
-use Rattle.world_open.proofs.counting.count_starts.Goals as goal
+use Rattle.world_open.proofs.counting.fill_starts.Goals as goal
 
 pub loop-r-preserved : goal.loop-r-preserved
 loop-r-preserved c =

@@ -1,0 +1,124 @@
+//! A frame: a world without its nodes.
+
+ghost use Rattle.std.specs.Prelude.{true, ◌≡◌, ◌<◌, IfOk};
+ghost use Rattle.std.specs.Borrow.{sem};
+ghost use Rattle.plan_calls.specs.Lanes.{is_used_lane};
+ghost use Rattle.plan_worlds.specs.Places.{lane_place};
+ghost use Rattle.shape_plans.specs.Drawing.{plan_of};
+ghost use Rattle.world_parts.specs.Layout.{lane_at};
+ghost use Rattle.worlds.specs.Frames.{IsClosed, IsFrameOf, MayClose};
+
+use crate::world::World;
+use count_tree::CountTree;
+use pair_wires::PlainLane;
+use ptl_types::{Lane, NoMemory, Rank};
+use rank_node::Node;
+use schedule_compiler::Job;
+use std::alloc::Global;
+use std::marker::Model;
+use world_open::{FRAME_WINDOW, Parts, mark_all, open_bare};
+use world_parts::acts::Setting;
+use world_parts::lanes::place;
+
+/// A world of a job without its nodes: the lanes between the ranks, and all room that the world needs. Nodes that ran elsewhere, with
+/// what was still on its way between them, become a world by it, and no memory is taken then.
+#[derive(Drop)]
+pub struct Frame {
+    job: Job,
+    ranks: u32,
+    lanes: Vec<PlainLane>,
+    starts: CountTree,
+    deliveries: CountTree,
+    firings: CountTree,
+}
+
+impl Model for Frame {
+    ghost use Rattle.worlds.specs.FrameState.{AreFramed, FrameState};
+
+    ghost Value = { FrameState };
+
+    ghost view = { λ f. record { shape = f.job.shape; inputs = f.job.inputs; lanes = f.lanes.items } };
+
+    ghost invariant = { λ f. AreFramed f.job f.ranks f.lanes.items f.starts f.deliveries f.firings };
+}
+
+impl Frame {
+    ghost use Rattle.worlds.specs.FrameLends.{LendsLane};
+
+    /// The frame of a job. Nothing lies in its lanes, and each that the job uses has room for four messages.
+    ///
+    /// # Errors
+    ///
+    /// There was no memory for it. The job is as it was.
+    pub fn open(alloc: Global, job: &Job) -> Result<Frame, NoMemory>
+        ensures { IfOk result (λ frame. IsFrameOf job.now frame) }
+    {
+        // What every job keeps is told here.
+        let _ = job.schedule().shape().ranks();
+        let _ = job.inputs();
+        let shared = job.share()?;
+        let parts = open_bare(alloc, job)?;
+        Ok(Frame {
+            job: shared,
+            ranks: parts.ranks,
+            lanes: parts.lanes,
+            starts: parts.starts,
+            deliveries: parts.deliveries,
+            firings: parts.firings,
+        })
+    }
+
+    /// The lane from a rank to a rank, which the job uses, to put messages into.
+    pub fn lane(&mut self, s: Rank, d: Rank, lane: Lane) -> &mut PlainLane
+        requires source { s < self.old.shape.ranks }
+        requires target { d < self.old.shape.ranks }
+        requires used { is_used_lane (plan_of self.old.shape) s d lane ≡ true }
+        ensures* writes_back { sem 𝓛 (LendsLane self.entry s d lane result) }
+        ensures value { result.now ≡ lane_at self.old.lanes (lane_place self.old.shape.ranks s d lane) }
+    {
+        let at = place(self.ranks, s, d, lane);
+        &mut self.lanes[at]
+    }
+
+    /// The world of these nodes, one for each rank in order, and of what lies in the frame's lanes. Under its window a lane holds at
+    /// most four messages. Conditions: the nodes are of the frame's job and without room for strays; on each lane what was sent is
+    /// what was received, followed by what lies in the frame's lane; and each of these has room for four messages, or for all that
+    /// the plan sends on it, and holds at most four.
+    pub fn into_world(self, nodes: Vec<Node>) -> World
+        requires { MayClose self nodes.items }
+        ensures { IsClosed self nodes.items result }
+    {
+        let mut nodes = nodes;
+        let mut starts = self.starts;
+        let mut deliveries = self.deliveries;
+        let mut firings = self.firings;
+        let lanes = self.lanes;
+        let ranks = self.ranks;
+        let window = u64::from(FRAME_WINDOW);
+        mark_all(
+            &mut nodes,
+            &lanes,
+            &mut starts,
+            &mut deliveries,
+            &mut firings,
+            ranks,
+            window,
+        );
+        World::around(
+            self.job,
+            Parts {
+                setting: Setting {
+                    ranks,
+                    window,
+                    strays: 0,
+                    spare: 0,
+                },
+                nodes,
+                lanes,
+                starts,
+                deliveries,
+                firings,
+            },
+        )
+    }
+}
