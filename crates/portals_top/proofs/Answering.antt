@@ -7,12 +7,16 @@ use Rattle.coll_lang.specs.Language.{read}
 use Rattle.coll_lang.specs.Program.{Chosen, Program}
 use Rattle.coll_shape.specs.Outline.{Outline}
 use Rattle.coll_shape.specs.Meaning.{Lists}
-use Rattle.shape_plans.specs.Footprint.{Refused as Excessive, refusal}
+use Rattle.plan_core.specs.Plan.{Plan as Drawn}
+use Rattle.shape_plans.specs.Drawing.{plan_of}
+use Rattle.shape_plans.specs.Footprint.{Excess, Refused as Excessive, refusal}
+use Rattle.run_text.specs.Plans.{plan_text}
 use Rattle.worlds.specs.World.{WorldState}
 use Rattle.portals_top.specs.declared.status.Status.{Status}
 use Rattle.portals_top.specs.declared.status.Status.TheVariants.{Done, Usage, Refused, ReadFault, WriteFault, NoMemory}
 use Rattle.portals_top.specs.declared.words.Command.{Command}
-use Rattle.portals_top.specs.Due.{due, due_compiled, due_described, due_of}
+use Rattle.portals_top.specs.declared.words.Command.TheVariants.{Plan}
+use Rattle.portals_top.specs.Due.{done, due, due_compiled, due_described, due_of, excess_name, refused, step_line}
 use Rattle.portals_top.specs.Answered.{IsTold, MayAnswer, Stands, Leaves, LeavesOf, HandsBack, Answered}
 use Rattle.portals_top.specs.Written.{Written}
 use Rattle.portals_top.proofs.Told.{Told, told-any, short-read}
@@ -118,14 +122,44 @@ no-world-refused leaves ReadFault allowed = refl
 no-world-refused leaves WriteFault allowed = refl
 no-world-refused leaves NoMemory allowed = refl
 
--- a plan leaves none
-pub no-world-plan : (leaves : Option WorldState → Type 0) (status : Status) → leaves None → HandsBack status Done leaves None
-no-world-plan leaves Done none = none
-no-world-plan leaves Usage none = refl
-no-world-plan leaves Refused none = refl
-no-world-plan leaves ReadFault none = refl
-no-world-plan leaves WriteFault none = none
-no-world-plan leaves NoMemory none = refl
+-- where none is to be left, none is handed back
+pub no-world : (leaves : Option WorldState → Type 0) (status owed : Status) → leaves None → HandsBack status owed leaves None
+no-world leaves Done owed none = none
+no-world leaves Usage owed none = refl
+no-world leaves Refused owed none = refl
+no-world leaves ReadFault owed none = refl
+no-world leaves WriteFault Done none = none
+no-world leaves WriteFault Usage none = refl
+no-world leaves WriteFault Refused none = refl
+no-world leaves WriteFault ReadFault none = refl
+no-world leaves WriteFault WriteFault none = refl
+no-world leaves WriteFault NoMemory none = refl
+no-world leaves NoMemory owed none = refl
+
+-- nor where the plan is too large, or there was no memory
+pub no-world-excess : (leaves : Option WorldState → Type 0) (command : Command) (o : Outline) (inputs : Lists) (ran : Option WorldState) (r : Option Excessive) (status : Status)
+    → MayAnswer status (due_compiled command o inputs ran r).status → (r ≡ None → status ≡ NoMemory) → HandsBack status (due_compiled command o inputs ran r).status leaves None
+no-world-excess leaves command o inputs ran None status allowed memory = subst (λ s. HandsBack s Done leaves None) (sym (memory refl)) refl
+no-world-excess leaves command o inputs ran (Some r) status allowed memory = no-world-refused leaves status allowed
+
+-- what is owed where the plan is too large, where there was no memory, and where it was written
+pub excess-owed : (o : Outline) (k : ℕ) (name : Excess) (r : Option Excessive) → r ≡ Some (record { step = k; name = name }) → (command : Command) (inputs : Lists) (ran : Option WorldState)
+    (sink sink' : Outflow) (status : Status) → Written (refused (step_line o k) (excess_name name)) sink sink' status → Written (due_compiled command o inputs ran r) sink sink' status
+excess-owed o k name r is command inputs ran sink sink' status written = subst (λ x. Written (due_compiled command o inputs ran x) sink sink' status) (sym is) written
+
+pub memory-owed : (o : Outline) (r : Option Excessive) → r ≡ None → (command : Command) (inputs : Lists) (ran : Option WorldState) (sink : Outflow)
+    → Written (due_compiled command o inputs ran r) sink sink NoMemory
+memory-owed o r is command inputs ran sink = record {
+  allowed = compiled-owed command o inputs ran r;
+  no_read = λ is. absurd (cc);
+  text = refl;
+}
+
+pub plan-owed : (o : Outline) (r : Option Excessive) (plan : Drawn) → r ≡ None → plan ≡ plan_of o → (inputs : Lists) (ran : Option WorldState)
+    (sink sink' : Outflow) (status : Status) → Written (done (plan_text plan)) sink sink' status → Written (due_compiled Plan o inputs ran r) sink sink' status
+plan-owed o r plan is same inputs ran sink sink' status written =
+    subst (λ x. Written (due_compiled Plan o inputs ran x) sink sink' status) (sym is)
+    (subst (λ p. Written (done (plan_text p)) sink sink' status) same written)
 
 -- the words are no command
 pub answered-usage : (source : Inflow) (sink sink' : Outflow) (status : Status) → Written (due None [] None) sink sink' status

@@ -1,9 +1,11 @@
 //! The whole program.
 
-ghost use Rattle.std.specs.Prelude.{◌≡◌, List, ℕ, None, [], map, string_bytes};
-ghost use Rattle.coll_shape.specs.Meaning.{AreInputs};
+ghost use Rattle.std.specs.Prelude.{◌≡◌, ◌≢◌, List, ℕ, Option, None, Err, [], map, string_bytes};
+ghost use Rattle.coll_shape.specs.Meaning.{AreInputs, Lists};
 ghost use Rattle.coll_lang.specs.Language.{read};
 ghost use Rattle.shape_plans.specs.Footprint.{refusal};
+ghost use Rattle.schedule_compiler.specs.Answers.{Compiles};
+ghost use Rattle.worlds.specs.World.{WorldState};
 ghost use Rattle.portals_top.specs.Answered.{Answered, HandsBack, IsTold, LeavesOf, LeavesWorld};
 ghost use Rattle.portals_top.specs.Due.{command, done, done_text, due, due_compiled, due_described, due_of};
 ghost use Rattle.portals_top.specs.Written.{Written};
@@ -16,7 +18,8 @@ use crate::running::{once, sim};
 use crate::status::Status;
 use crate::words::{Command, command_in};
 use coll_lang::{Description, ParseFault, Refusal, parse};
-use coll_shape::Inputs;
+use coll_shape::{Inputs, Shape};
+use plan_done::counted_shape;
 use port_io::{Sink, Source};
 use run_text::write_short;
 use schedule_compiler::{CompileFault, Schedule, compile};
@@ -34,7 +37,7 @@ fn usage<K: Sink>(sink: &mut K) -> Status
     }
 }
 
-/// Does what a command asks of a schedule with its inputs.
+/// Runs a schedule with its inputs, as a command asks.
 fn run<K: Sink>(
     alloc: Global,
     command: Command,
@@ -43,6 +46,7 @@ fn run<K: Sink>(
     sink: &mut K,
     ran: &mut Ran,
 ) -> Status
+    requires runs { command ≢ Command.Plan }
     requires given { AreInputs schedule inputs }
     requires none { ran.old.world ≡ None }
     ensures written { Written (done (done_text command schedule inputs ran.new.world)) (K.outflow sink.old) (K.outflow sink.new) result }
@@ -51,7 +55,54 @@ fn run<K: Sink>(
     match command {
         Command::Once => once(alloc, sink, schedule, inputs, ran),
         Command::Sim { seed } => sim(alloc, sink, seed, schedule, inputs, ran),
-        Command::Plan => plan(alloc, sink, schedule),
+        Command::Plan => unreachable!(),
+    }
+}
+
+/// Refuses a description whose plan is too large, unless there was no memory.
+fn refuse_plan<K: Sink>(alloc: Global, sink: &mut K, shape: &Shape, fault: CompileFault) -> Status
+    requires { Compiles shape.now (Err fault) }
+    // Whatever the command is: nothing is run.
+    ensures written { (c : Command) (inputs : Lists) (ran : Option WorldState) →
+        Written (due_compiled c shape.now inputs ran (refusal shape.now)) (K.outflow sink.old) (K.outflow sink.new) result }
+    ensures memory { refusal shape.now ≡ None → result ≡ Status.NoMemory }
+{
+    match fault {
+        CompileFault::TooMany { step } => refuse_step(alloc, sink, shape, step, Refusal::TooMany),
+        CompileFault::TooLarge { step } => refuse_step(alloc, sink, shape, step, Refusal::TooLarge),
+        CompileFault::NoMemory => Status::NoMemory,
+    }
+}
+
+/// Compiles a shape, and runs it.
+fn executed<K: Sink>(
+    alloc: Global,
+    command: Command,
+    shape: &Shape,
+    inputs: Inputs,
+    sink: &mut K,
+    ran: &mut Ran,
+) -> Status
+    requires runs { command ≢ Command.Plan }
+    requires given { AreInputs shape.now inputs }
+    requires none { ran.old.world ≡ None }
+    ensures written { Written (due_compiled command shape.now inputs ran.new.world (refusal shape.now)) (K.outflow sink.old) (K.outflow sink.new) result }
+    ensures world { HandsBack result (due_compiled command shape.now inputs ran.new.world (refusal shape.now)).status (LeavesWorld command shape.now inputs) ran.new.world }
+{
+    match compile(alloc, shape) {
+        Ok(schedule) => run(alloc, command, schedule, inputs, sink, ran),
+        Err(fault) => refuse_plan(alloc, sink, shape, fault),
+    }
+}
+
+/// Writes the plan of a shape. What its ranks install isn't made.
+fn planned<K: Sink>(alloc: Global, shape: &Shape, sink: &mut K) -> Status
+    ensures { (inputs : Lists) (ran : Option WorldState) →
+        Written (due_compiled Command.Plan shape.now inputs ran (refusal shape.now)) (K.outflow sink.old) (K.outflow sink.new) result }
+{
+    match counted_shape(alloc, shape) {
+        Ok(counted) => plan(alloc, sink, counted),
+        Err(fault) => refuse_plan(alloc, sink, shape, fault),
     }
 }
 
@@ -68,15 +119,9 @@ fn compiled<K: Sink>(
     ensures world { HandsBack result (due_compiled command d.shape d.inputs ran.new.world (refusal d.shape)).status (LeavesWorld command d.shape d.inputs) ran.new.world }
 {
     let (shape, inputs) = d.into_parts();
-    match compile(alloc, &shape) {
-        Ok(schedule) => run(alloc, command, schedule, inputs, sink, ran),
-        Err(CompileFault::TooMany { step }) => {
-            refuse_step(alloc, sink, &shape, step, Refusal::TooMany)
-        }
-        Err(CompileFault::TooLarge { step }) => {
-            refuse_step(alloc, sink, &shape, step, Refusal::TooLarge)
-        }
-        Err(CompileFault::NoMemory) => Status::NoMemory,
+    match command {
+        Command::Plan => planned(alloc, &shape, sink),
+        _ => executed(alloc, command, &shape, inputs, sink, ran),
     }
 }
 

@@ -1,3 +1,4 @@
+pub mod Digits
 pub mod Refusing
 pub mod Spaced
 pub mod Taking

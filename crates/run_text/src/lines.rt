@@ -9,6 +9,7 @@ ghost use Rattle.run_text.specs.Lines.{result_line, rest_line};
 ghost use Rattle.run_text.specs.Putting.{Puts};
 
 use crate::pieces::Pieces;
+use crate::words::put_spaced;
 use coll_text::printed_value;
 use element_bytes::read_pattern;
 use itoa::Buffer;
@@ -27,8 +28,7 @@ pub(crate) fn put_word<K: Sink>(out: &mut Pieces, sink: &mut K, word: &[u8]) -> 
 pub(crate) fn put_number<K: Sink>(out: &mut Pieces, sink: &mut K, number: u32) -> Result<(), Failed>
     ensures { Puts (K.outflow sink.old) (K.outflow sink.new) out.old out.new (32 ∷ decimal number) result }
 {
-    let mut buffer = Buffer::new();
-    put_word(out, sink, buffer.format(number).as_bytes())
+    put_spaced(out, sink, number as u64)
 }
 
 /// What stands before the number of a value.

@@ -77,10 +77,8 @@ impl Pieces {
         }
     }
 
-    /// Adds the list to the text, and writes each piece that is full. At `Failed` the count of the sink's faults rose, and
-    /// a beginning of the text stands.
-    pub fn put<K: Sink>(&mut self, sink: &mut K, list: &[u8]) -> Result<(), Failed>
-        // What is held back is what fills no piece.
+    /// Adds a list by which a piece is filled at least.
+    fn put_long<K: Sink>(&mut self, sink: &mut K, list: &[u8]) -> Result<(), Failed>
         ensures held { OnOk result (length self.new ≡ (length self.old + length list.now) % 65536) }
         ensures puts { Puts (K.outflow sink.old) (K.outflow sink.new) self.old self.new list.now result }
     {
@@ -93,6 +91,22 @@ impl Pieces {
         let _ = self.held.extend_from_slice(rest);
         Ok(())
     }
+
+    /// Adds the list to the text, and writes each piece that is full. At `Failed` the count of the sink's faults rose, and
+    /// a beginning of the text stands.
+    #[inline]
+    pub fn put<K: Sink>(&mut self, sink: &mut K, list: &[u8]) -> Result<(), Failed>
+        // What is held back is what fills no piece.
+        ensures held { OnOk result (length self.new ≡ (length self.old + length list.now) % 65536) }
+        ensures puts { Puts (K.outflow sink.old) (K.outflow sink.new) self.old self.new list.now result }
+    {
+        if list.len() >= PIECE - self.held.len() {
+            return self.put_long(sink, list);
+        }
+        let _ = self.held.extend_from_slice(list);
+        Ok(())
+    }
+
     /// Writes what is held back, and finishes the sink once. At `Failed` the count of the sink's faults rose, and a
     /// beginning of the text stands. Nothing is held back afterwards.
     pub fn end<K: Sink>(&mut self, sink: &mut K) -> Result<(), Failed>

@@ -1,7 +1,7 @@
 use Rattle.std.proofs.Common.{◌++◌, ◌+◌, ◌∙◌, length, vec_len, refl, arith}
 use Rattle.std.proofs.lemmas.Result.{err_from_is_err_and}
 use Rattle.run_text.proofs.Taking.{Takes-piece, Fails-piece, left_over}
-use Rattle.run_text.proofs.pieces.Pieces.put.Goals as goal
+use Rattle.run_text.proofs.pieces.Pieces.put_long.Goals as goal
 
 pub returns-in_err-write_piece-clause-puts : goal.returns-in_err-write_piece-clause-puts
 returns-in_err-write_piece-clause-puts g c =

@@ -1,6 +1,6 @@
 use Rattle.std.proofs.Common.{◌≡◌, ◌+◌, ◌%◌, ◌++◌, ◌<◌, ◌≤◌, length, vec_len, vec_capacity}
 use Rattle.run_text.specs.Putting.{Takes}
-use Rattle.run_text.proofs.pieces.Pieces.put.Given as goal
+use Rattle.run_text.proofs.pieces.Pieces.put_long.Given as goal
 
 abbrev pub invariant-loop-rest : goal.invariant-loop-rest
 invariant-loop-rest g l = record {
