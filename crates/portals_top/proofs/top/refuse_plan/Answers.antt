@@ -1,5 +1,5 @@
 -- The refusal that is owed, or no memory.
-use Rattle.std.proofs.Common.{◌≡◌, Err, Some, None, sym, subst, absurd}
+use Rattle.std.proofs.Common.{◌≡◌, ◌∙◌, Err, Some, None, refl, sym}
 use Rattle.shape_plans.specs.Footprint.{refusal}
 use Rattle.shape_plans.specs.Footprint.Excess.{Links, Bytes}
 use Rattle.schedule_compiler.specs.Answers.{Compiles}
