@@ -1,5 +1,5 @@
--- The first entry of a list that takes a message is the earlier one of the firsts of two threads.
-use Rattle.std.proofs.Common.{◌≡◌, ◌≢◌, ℕ, zero, suc, ◌+◌, ◌*◌, ◌<◌, ◌≤◌, Bool, true, false, cond, nat_eq, nat_lt, List, [], ◌∷◌, ◌++◌, map, filter, find, count_by, length, Option, Some, None, refl, sym, ap, subst, ◌∙◌, inl, inr, ◌⊎◌, arith}
+-- The first entry of a list that takes a message is the earliest one of the firsts of its threads.
+use Rattle.std.proofs.Common.{◌≡◌, ◌≢◌, ℕ, zero, suc, ◌+◌, ◌*◌, ◌<◌, ◌≤◌, Bool, true, false, ◌||◌, cond, nat_eq, nat_lt, List, [], ◌∷◌, ◌++◌, map, filter, find, count_by, length, Option, Some, None, refl, sym, ap, subst, ◌∙◌, inl, inr, ◌⊎◌, arith}
 use Rattle.std.proofs.lemmas.Bool.{cases_Bool, eq-eqb, lt-ltb, le-ltb}
 use Rattle.std.proofs.lemmas.List.Sums.{length-filter, sum_by-cons}
 use Rattle.ptl_types.specs.declared.headers.Header.{Header}
@@ -9,8 +9,8 @@ use Rattle.chain_list.proofs.KeyLemmas.{same_key-apart, value-here}
 use Rattle.ni_model.specs.declared.Linked.{Linked}
 use Rattle.ni_model.specs.Lists.{fits}
 use Rattle.match_lists.specs.Lists.{values}
-use Rattle.match_lists.specs.Buckets.{bucket_of, thread_of, on_thread, may_take, candidates_in}
-use Rattle.match_lists.specs.Indexed.{takes, Later, Rising, key_of, earlier_of}
+use Rattle.match_lists.specs.Buckets.{thread_of, on_thread, whole_thread, upper_48_thread, upper_24_thread, last_thread, may_take, candidates_in}
+use Rattle.match_lists.specs.Indexed.{takes, Later, Rising, key_of, earlier_of, first_on, first_of_threads, on_threads}
 use Rattle.match_lists.proofs.BucketLemmas.{num, thread-takes, thread-counts}
 
 pub find-hit : {X : Type 0} (p : X → Bool) (x : X) (xs : List X) → p x ≡ true → find p (x ∷ xs) ≡ Some x
@@ -44,32 +44,34 @@ earlier-right k (Some j) a = let e : nat_lt j.stamp k.stamp ≡ false = le-ltb j
 earlier-same : (k : ChainKey) → Some k ≡ earlier_of (Some k) (Some k)
 earlier-same k = let e : nat_lt k.stamp k.stamp ≡ false = le-ltb k.stamp k.stamp (omega arith) in rw e
 
--- ---- the first of the list by the firsts of two parts, in which all that pass lie
-module _ (p q r : Keyed Linked → Bool) (covers : (x : Keyed Linked) → p x ≡ true → (q x ≡ true) ⊎ (r x ≡ true)) where
-  pub earlier-first : (xs : List (Keyed Linked)) (given : ℕ) → Rising xs given → key_of (find p xs) ≡ earlier_of (key_of (find p (filter q xs))) (key_of (find p (filter r xs)))
-  earlier-first [] given rise = refl
-  earlier-first (x ∷ xs) given rise =
-      let rest = earlier-first xs given rise.2 in
-      let qs = filter q xs in
-      let rs = filter r xs in
-      let after-q = Later-found p x.key.stamp qs (Later-filter q x.key.stamp xs rise.1) in
-      let after-r = Later-found p x.key.stamp rs (Later-filter r x.key.stamp xs rise.1) in
-      elim (cases_Bool (p x)) [
-        | inl e ↦ ap key_of (find-hit p x xs e) ∙ elim (cases_Bool (q x)) [
-          | inl f ↦ elim (cases_Bool (r x)) [
-            | inl g ↦ rw (f, g, e) (earlier-same x.key)
-            | inr g ↦ rw (f, g, e) (earlier-left x.key (key_of (find p rs)) after-r)
-          ]
-          | inr f ↦ elim (covers x e) [
-            | inl c ↦ let no : false ≡ true = sym f ∙ c in cc
-            | inr g ↦ rw (f, g, e) (earlier-right x.key (key_of (find p qs)) after-q)
-          ]
-        ]
-        | inr e ↦ ap key_of (find-pass p x xs e) ∙ rest ∙ (λ i. earlier_of (key_of (passed q x xs e i)) (key_of (passed r x xs e i)))
+-- ---- the first of the list is that of the part in which all that pass lie
+find-covered : (p c : Keyed Linked → Bool) → ((x : Keyed Linked) → p x ≡ true → c x ≡ true) → (xs : List (Keyed Linked)) → find p xs ≡ find p (filter c xs)
+find-covered p c covers [] = refl
+find-covered p c covers (x ∷ xs) = elim (cases_Bool (p x)) [
+  | inl e ↦ let f = covers x e in find-hit p x xs e ∙ rw (f, e) refl
+  | inr e ↦ find-pass p x xs e ∙ find-covered p c covers xs ∙ elim (cases_Bool (c x)) [ inl f ↦ rw (f, e) refl | inr f ↦ rw f refl ]
+]
+
+-- the first of two parts together is the earlier one of their firsts
+earlier-either : (p q r : Keyed Linked → Bool) (xs : List (Keyed Linked)) (given : ℕ) → Rising xs given
+    → key_of (find p (filter (λ x. q x || r x) xs)) ≡ earlier_of (key_of (find p (filter q xs))) (key_of (find p (filter r xs)))
+earlier-either p q r [] given rise = refl
+earlier-either p q r (x ∷ xs) given rise =
+    let rest = earlier-either p q r xs given rise.2 in
+    let qs = filter q xs in
+    let rs = filter r xs in
+    let after-q = Later-found p x.key.stamp qs (Later-filter q x.key.stamp xs rise.1) in
+    let after-r = Later-found p x.key.stamp rs (Later-filter r x.key.stamp xs rise.1) in
+    elim (cases_Bool (q x)) [
+      | inl f ↦ elim (cases_Bool (r x)) [
+        | inl g ↦ elim (cases_Bool (p x)) [ inl e ↦ rw (f, g, e) (earlier-same x.key) | inr e ↦ rw (f, g, e) rest ]
+        | inr g ↦ elim (cases_Bool (p x)) [ inl e ↦ rw (f, g, e) (earlier-left x.key (key_of (find p rs)) after-r) | inr e ↦ rw (f, g, e) rest ]
       ]
-    where
-      passed : (t : Keyed Linked → Bool) (x : Keyed Linked) (xs : List (Keyed Linked)) → p x ≡ false → find p (filter t xs) ≡ find p (filter t (x ∷ xs))
-      passed t x xs e = elim (cases_Bool (t x)) [ inl f ↦ rw (f, e) | inr f ↦ rw f ]
+      | inr f ↦ elim (cases_Bool (r x)) [
+        | inl g ↦ elim (cases_Bool (p x)) [ inl e ↦ rw (f, g, e) (earlier-right x.key (key_of (find p qs)) after-q) | inr e ↦ rw (f, g, e) rest ]
+        | inr g ↦ rw (f, g) rest
+      ]
+    ]
 
 -- ---- the value of the key that was found
 abbrev pub value_of : List (Keyed Linked) → Option ChainKey → Option Linked
@@ -97,41 +99,64 @@ found-value h (x ∷ xs) a = elim (cases_Bool (fits h x.value)) [
       ∙ ap (λ o. value_of (x ∷ xs) (key_of o)) (sym (find-pass (takes h) x xs e))
 ]
 
--- ---- the two threads of a message
-abbrev pub first_on_thread : Header → ℕ → ℕ → List (Keyed Linked) → Option ChainKey
-first_on_thread h limit k xs = key_of (find (takes h) (on_thread limit k xs))
-
-pub first-of-threads : (h : Header) (limit given : ℕ) (xs : List (Keyed Linked)) → Apart xs → Rising xs given
-    → find (fits h) (values xs) ≡ value_of xs (earlier_of (first_on_thread h limit (bucket_of limit h.match_bits) xs) (first_on_thread h limit limit xs))
+-- ---- the threads of a message
+pub first-of-threads : (h : Header) (limit given : ℕ) (xs : List (Keyed Linked)) → Apart xs → Rising xs given → find (fits h) (values xs) ≡ value_of xs (first_of_threads h limit xs)
 first-of-threads h limit given xs a r =
-    let same = bucket_of limit h.match_bits in
-    let covers : (x : Keyed Linked) → takes h x ≡ true → (nat_eq (thread_of limit x.value) same ≡ true) ⊎ (nat_eq (thread_of limit x.value) limit ≡ true) =
-    λ x e. elim (thread-takes limit h x.value e) [ inl t ↦ inl (eq-eqb (thread_of limit x.value) same t) | inr t ↦ inr (eq-eqb (thread_of limit x.value) limit t) ] in
+    let on : ℕ → Keyed Linked → Bool = λ k x. nat_eq (thread_of limit x.value) k in
+    let whole = on (whole_thread limit h.match_bits) in
+    let by_48 = on (upper_48_thread limit h.match_bits) in
+    let by_24 = on (upper_24_thread limit h.match_bits) in
+    let last = on (last_thread limit) in
+    let all : Keyed Linked → Bool = λ x. (whole x || by_48 x) || (by_24 x || last x) in
     found-value h xs a
-    ∙ ap (λ k. value_of xs k) (earlier-first (takes h) (λ x. nat_eq (thread_of limit x.value) same) (λ x. nat_eq (thread_of limit x.value) limit) covers xs given r)
+    ∙ ap (λ o. value_of xs (key_of o)) (find-covered (takes h) all (λ x e. thread-takes limit h x.value e) xs)
+    ∙ ap (λ k. value_of xs k) (earlier-either (takes h) (λ x. whole x || by_48 x) (λ x. by_24 x || last x) xs given r
+    ∙ (λ i. earlier_of (earlier-either (takes h) whole by_48 xs given r i) (earlier-either (takes h) by_24 last xs given r i)))
 
--- ---- how many entries the two threads have
-counted : (q r : Keyed Linked → Bool) (m : Linked → Bool) → ((x : Keyed Linked) → num (q x) + num (r x) ≤ num (m x.value)) → (xs : List (Keyed Linked)) → count_by q xs + count_by r xs ≤ count_by m (values xs)
-counted q r m h [] = omega arith
-counted q r m h (x ∷ xs) =
-    let here : num (q x) + num (r x) ≤ num (m x.value) = h x in
-    let rest = counted q r m h xs in
-    omega (arith, rest, here, sum_by-cons (λ y. num (q y)) x xs, sum_by-cons (λ y. num (r y)) x xs, sum_by-cons (λ y. num (m y)) x.value (values xs))
+-- ---- how many entries these threads have
+counted : (q r s t : Keyed Linked → Bool) (m : Linked → Bool) → ((x : Keyed Linked) → num (q x) + num (r x) + (num (s x) + num (t x)) ≤ num (m x.value))
+    → (xs : List (Keyed Linked)) → count_by q xs + count_by r xs + (count_by s xs + count_by t xs) ≤ count_by m (values xs)
+counted q r s t m h [] = omega arith
+counted q r s t m h (x ∷ xs) =
+    let here = h x in
+    let rest = counted q r s t m h xs in
+    omega (
+      arith,
+      rest,
+      here,
+      sum_by-cons (λ y. num (q y)) x xs,
+      sum_by-cons (λ y. num (r y)) x xs,
+      sum_by-cons (λ y. num (s y)) x xs,
+      sum_by-cons (λ y. num (t y)) x xs,
+      sum_by-cons (λ y. num (m y)) x.value (values xs),
+    )
 
-pub few-on-threads : (limit bits : ℕ) (xs : List (Keyed Linked)) → length xs ≤ limit
-    → length (on_thread limit (bucket_of limit bits) xs) + length (on_thread limit limit xs) ≤ candidates_in limit bits (values xs)
-few-on-threads limit bits [] le = omega arith
-few-on-threads limit bits (x ∷ xs) le =
-    let same = bucket_of limit bits in
-    let q : Keyed Linked → Bool = λ y. nat_eq (thread_of limit y.value) same in
-    let r : Keyed Linked → Bool = λ y. nat_eq (thread_of limit y.value) limit in
-    let all = counted q r (may_take limit bits) (λ y. thread-counts limit bits y.value (omega arith)) (x ∷ xs) in
-    omega (arith, all, length-filter q (x ∷ xs), length-filter r (x ∷ xs))
+pub few-on-threads : (limit bits : ℕ) (xs : List (Keyed Linked)) → on_threads limit bits xs ≤ candidates_in limit bits (values xs)
+few-on-threads limit bits xs =
+    let on : ℕ → Keyed Linked → Bool = λ k y. nat_eq (thread_of limit y.value) k in
+    let q = on (whole_thread limit bits) in
+    let r = on (upper_48_thread limit bits) in
+    let s = on (upper_24_thread limit bits) in
+    let t = on (last_thread limit) in
+    let all = counted q r s t (may_take limit bits) (λ y. thread-counts limit bits y.value) xs in
+    omega (arith, all, length-filter q xs, length-filter r xs, length-filter s xs, length-filter t xs)
 
 found-some : (t : Keyed Linked → Bool) (xs : List (Keyed Linked)) (k : ChainKey) → key_of (find t xs) ≡ Some k → 0 < length xs
 found-some t [] k e = cc
 found-some t (x ∷ xs) k e = omega arith
 
-pub some-on-threads : (t : Keyed Linked → Bool) (xs ys : List (Keyed Linked)) (k : ChainKey) → earlier_of (key_of (find t xs)) (key_of (find t ys)) ≡ Some k → 0 < length xs + length ys
-some-on-threads t [] ys k e = let some = found-some t ys k e in omega arith
-some-on-threads t (x ∷ xs) ys k e = omega arith
+some-earlier : (a b : Option ChainKey) (m n : ℕ) → ((k : ChainKey) → a ≡ Some k → 0 < m) → ((k : ChainKey) → b ≡ Some k → 0 < n) → (k : ChainKey) → earlier_of a b ≡ Some k → 0 < m + n
+some-earlier None b m n f g k e = let some = g k e in omega arith
+some-earlier (Some j) b m n f g k e = let some = f j refl in omega arith
+
+pub some-on-threads : (h : Header) (limit : ℕ) (xs : List (Keyed Linked)) (k : ChainKey) → first_of_threads h limit xs ≡ Some k → 0 < on_threads limit h.match_bits xs
+some-on-threads h limit xs k e =
+    let some : (j : ℕ) (k : ChainKey) → first_on h limit xs j ≡ Some k → 0 < length (on_thread limit j xs) = λ j. found-some (takes h) (on_thread limit j xs) in
+    let a = whole_thread limit h.match_bits in
+    let b = upper_48_thread limit h.match_bits in
+    let c = upper_24_thread limit h.match_bits in
+    let d = last_thread limit in
+    some-earlier (earlier_of (first_on h limit xs a) (first_on h limit xs b)) (earlier_of (first_on h limit xs c) (first_on h limit xs d))
+    (length (on_thread limit a xs) + length (on_thread limit b xs)) (length (on_thread limit c xs) + length (on_thread limit d xs))
+    (some-earlier (first_on h limit xs a) (first_on h limit xs b) (length (on_thread limit a xs)) (length (on_thread limit b xs)) (some a) (some b))
+    (some-earlier (first_on h limit xs c) (first_on h limit xs d) (length (on_thread limit c xs)) (length (on_thread limit d xs)) (some c) (some d)) k e

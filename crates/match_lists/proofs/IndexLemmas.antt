@@ -14,7 +14,7 @@ use Rattle.place_threads.specs.Threads.{Woven, woven, thread, is_on, is_in, is_t
 use Rattle.place_threads.proofs.ThreadLemmas.{get-map, off_all, on_one}
 use Rattle.ni_model.specs.declared.Linked.{Linked}
 use Rattle.match_lists.specs.Lists.{running_at}
-use Rattle.match_lists.specs.Buckets.{thread_of, on_thread}
+use Rattle.match_lists.specs.Buckets.{thread_of, on_thread, last_thread}
 use Rattle.match_lists.specs.Indexed.{places_of, Later, Rising, room, IsIndexed}
 use Rattle.match_lists.proofs.BucketLemmas.{thread-le}
 
@@ -106,12 +106,12 @@ length-swap [] x y ys = refl
 length-swap (z ∷ xs) x y ys = ap (λ n. suc n) (length-swap xs x y ys)
 
 -- ---- no entries
-pub IsIndexed-none : (chain : ChainList Linked) (threads : Woven) (limit : ℕ) → chain ≡ chain_list [] limit 0 → threads ≡ woven (replicate (limit + 1) []) limit → IsIndexed chain threads limit
+pub IsIndexed-none : (chain : ChainList Linked) (threads : Woven) (limit : ℕ) → chain ≡ chain_list [] limit 0 → threads ≡ woven (replicate (last_thread limit + 1) []) limit → IsIndexed chain threads limit
 IsIndexed-none chain threads limit e f = subst (λ (q : ChainList Linked × Woven). IsIndexed q.0 q.1 limit) (λ i. (sym e i, sym f i)) (record {
   full = omega arith;
-  long = length-replicate (limit + 1) none;
+  long = length-replicate (last_thread limit + 1) none;
   places = refl;
-  threaded = λ k lt. get_or-replicate (limit + 1) k none none lt;
+  threaded = λ k lt. get_or-replicate (last_thread limit + 1) k none none lt;
   rising = tt;
 })
   where
@@ -124,7 +124,7 @@ module _ (chain : ChainList Linked) (threads : Woven) (limit : ℕ) (x : Keyed L
   free-place n = off_all x.key.place threads.threads (λ j lt.
       ap (λ l. is_on x.key.place l) (c.threaded j (omega (arith, lt, c.long))) ∙ off-places x.key.place (on_thread limit j chain.entries) (NotAt-filter (stands limit j) x.key.place chain.entries n))
 
-  push-thread : (k : ℕ) → k < limit + 1 → thread k (with_place (thread_of limit x.value) x.key.place threads) ≡ places_of (on_thread limit k (chain.entries ++ x ∷ []))
+  push-thread : (k : ℕ) → k < last_thread limit + 1 → thread k (with_place (thread_of limit x.value) x.key.place threads) ≡ places_of (on_thread limit k (chain.entries ++ x ∷ []))
   push-thread k lt =
       let t = thread_of limit x.value in
       let xs = chain.entries in
@@ -186,7 +186,7 @@ module _ (chain : ChainList Linked) (threads : Woven) (limit : ℕ) (key : Chain
   threaded-place =
       let x = keyed key l.value in
       let k = thread_of limit l.value in
-      let lt : k < limit + 1 = let le = thread-le limit l.value in omega arith in
+      let lt : k < last_thread limit + 1 = let le = thread-le limit l.value in omega arith in
       let on : stands limit k x ≡ true = eq-eqb k k refl in
       let at : on_thread limit k chain.entries ≡ on_thread limit k l.before ++ x ∷ on_thread limit k l.behind =
       ap (λ xs. on_thread limit k xs) l.is ∙ filter-append (stands limit k) l.before (x ∷ l.behind) ∙ ap (λ b. on_thread limit k l.before ++ cond b (x ∷ on_thread limit k l.behind) (on_thread limit k l.behind)) on in

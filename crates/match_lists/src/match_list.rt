@@ -2,8 +2,8 @@
 ghost use Rattle.std.specs.Prelude.{◌≡◌, ◌<◌, ◌≤◌, ◌+◌, ◌-◌, ◌*◌, ◌^◌, ◌++◌, ◌∷◌, [], None, IsSome, IfOk, IfSome, IfNone, length, find as first_that, option_copied};
 ghost use Rattle.chain_list.specs.Chain.{chain_list, keyed, value_at, without, changed, Linked as IsLinked, Apart};
 ghost use Rattle.ni_model.specs.Lists.{fits as fits_it};
-ghost use Rattle.match_lists.specs.Buckets.{bucket_of, thread_of, on_thread, candidates_in};
-ghost use Rattle.match_lists.specs.Indexed.{IsIndexed, room, takes, key_of, earlier_of};
+ghost use Rattle.match_lists.specs.Buckets.{bucket_of, buckets_of, thread_of, on_thread, last_thread, candidates_in};
+ghost use Rattle.match_lists.specs.Indexed.{IsIndexed, room, takes, key_of, earlier_of, first_of_threads, on_threads};
 ghost use Rattle.match_lists.specs.Lists.{values, running_at};
 
 use crate::walk::fits;
@@ -18,22 +18,42 @@ use std::sync::ledger::Ledger;
 /// An odd number near 2^64 divided by the golden ratio, so that match bits that differ in few bits spread over all buckets.
 const SPREAD: u64 = 0x9E37_79B9_7F4A_7C15;
 
-/// The bucket of match bits; below `buckets`, unless that is 0.
-fn bucket(match_bits: u64, buckets: u32) -> u32
-    ensures { result ≡ bucket_of buckets match_bits }
+/// The match bits above the lowest 16, and above the lowest 40.
+const UPPER_48: u64 = 0xFFFF_FFFF_FFFF_0000;
+
+const UPPER_24: u64 = 0xFFFF_FF00_0000_0000;
+
+/// How many buckets a list with room for `limit` entries has for entries whose ignored bits lie alike.
+fn buckets(limit: u32) -> u32
+    ensures { result ≡ buckets_of limit }
 {
-    let spread = match_bits.wrapping_mul(SPREAD) >> 32;
+    limit / 4 + 1
+}
+
+/// The bucket of bits; below `buckets`, unless that is 0.
+fn bucket(bits: u64, buckets: u32) -> u32
+    ensures bucket { result ≡ bucket_of buckets bits }
+    ensures below { result ≤ buckets }
+{
+    let spread = bits.wrapping_mul(SPREAD) >> 32;
     ((spread * buckets as u64) >> 32) as u32
 }
 
 /// The thread that an entry stands on.
-fn thread(linked: &Linked, buckets: u32) -> u32
-    ensures { result ≡ thread_of buckets linked.now }
+fn thread(linked: &Linked, limit: u32) -> u32
+    ensures { result ≡ thread_of limit linked.now }
 {
-    if linked.entry.ignore_bits == 0 {
-        bucket(linked.entry.match_bits, buckets)
+    let count = buckets(limit);
+    let bits = linked.entry.match_bits;
+    let ignored = linked.entry.ignore_bits;
+    if ignored == 0 {
+        bucket(bits, count)
+    } else if ignored < 0x1_0000 {
+        count + bucket(bits & UPPER_48, count)
+    } else if ignored < 0x100_0000_0000 {
+        2 * count + bucket(bits & UPPER_24, count)
     } else {
-        buckets
+        3 * count
     }
 }
 
@@ -58,7 +78,7 @@ fn first_on<L: Ledger>(
     steps: &mut Steps<L>,
 ) -> Option<ChainKey>
     requires indexed { IsIndexed chain.now threads.now limit }
-    requires thread { thread ≤ limit }
+    requires thread { thread ≤ last_thread limit }
     ensures key { result ≡ key_of (first_that (takes header.now) (on_thread limit thread chain.now.entries)) }
     ensures steps { steps.new ≤ steps.old + length (on_thread limit thread chain.now.entries) }
 {
@@ -71,6 +91,31 @@ fn first_on<L: Ledger>(
         next = threads.next(place);
     }
     None
+}
+
+/// The entry that takes the message: of the firsts of its threads the one that was linked first. Touches at most one node for
+/// each entry of these threads.
+fn first_key<L: Ledger>(
+    chain: &Chain<Linked>,
+    threads: &Threads,
+    limit: u32,
+    header: &Header,
+    steps: &mut Steps<L>,
+) -> Option<ChainKey>
+    requires { IsIndexed chain.now threads.now limit }
+    ensures key { result ≡ first_of_threads header.now limit chain.now.entries }
+    ensures steps { steps.new ≤ steps.old + on_threads limit header.now.match_bits chain.now.entries }
+{
+    let count = buckets(limit);
+    let bits = header.match_bits;
+    let whole = bucket(bits, count);
+    let upper_48 = count + bucket(bits & UPPER_48, count);
+    let upper_24 = 2 * count + bucket(bits & UPPER_24, count);
+    let by_whole = first_on(chain, threads, limit, whole, header, steps);
+    let by_48 = first_on(chain, threads, limit, upper_48, header, steps);
+    let by_24 = first_on(chain, threads, limit, upper_24, header, steps);
+    let other = first_on(chain, threads, limit, 3 * count, header, steps);
+    earlier(earlier(by_whole, by_48), earlier(by_24, other))
 }
 
 /// The list. Its value is that of the chain of its entries: the threads only tell where to look.
@@ -99,7 +144,7 @@ impl MatchList {
         ensures { IfOk result (λ l. l ≡ chain_list [] limit 0) }
     {
         let chain = Chain::with_room(alloc, limit as u64)?;
-        let threads = Threads::open(alloc, limit as usize + 1, limit as usize)?;
+        let threads = Threads::open(alloc, 3 * buckets(limit) as usize + 1, limit as usize)?;
         Ok(MatchList {
             chain,
             threads,
@@ -170,12 +215,8 @@ impl MatchList {
         ensures steps { steps.new ≤ steps.old + 2 * candidates_in (room self.now) header.now.match_bits (values self.now.entries) }
     {
         let _nodes = self.chain.nodes();
-        let (chain, threads, limit) = (&self.chain, &self.threads, self.limit);
-        let same = bucket(header.match_bits, limit);
-        let exact = first_on(chain, threads, limit, same, header, steps);
-        let wild = first_on(chain, threads, limit, limit, header, steps);
-        let key = earlier(exact, wild)?;
-        match chain.get(key, steps) {
+        let key = first_key(&self.chain, &self.threads, self.limit, header, steps)?;
+        match self.chain.get(key, steps) {
             Some(linked) => Some(*linked),
             None => None,
         }

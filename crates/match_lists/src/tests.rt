@@ -76,16 +76,15 @@ fn two_entries<L: Ledger>(rt: &impl Abort, alloc: Global, blank: Blank) -> Resul
     Ok(())
 }
 
-/// An entry that takes the match bits below 8.
-fn wild() -> Entry {
+/// An entry of four bytes that ignores these bits.
+fn ignoring(match_bits: u64, ignore_bits: u64) -> Entry {
     Entry {
-        ignore_bits: 7,
-        ..entry(0, 4)
+        ignore_bits,
+        ..entry(match_bits, 4)
     }
 }
 
-/// The match bits 2, 5 and 10 share the first of four buckets. 2, those below 8, 5; then without those below 8; then with them
-/// behind the others.
+/// 2, those below 8, 5; then without those below 8; then with them behind the others.
 fn wild_entries<L: Ledger>(rt: &impl Abort, alloc: Global, blank: Blank) -> Result<(), Fail>
     requires name { blank.name ≡ L.name }
     requires parts { blank.parts ≡ L.parts }
@@ -96,7 +95,7 @@ fn wild_entries<L: Ledger>(rt: &impl Abort, alloc: Global, blank: Blank) -> Resu
     let (two, older) = (Handle { slot: 0, stamp: 0 }, Handle { slot: 1, stamp: 1 });
     let (five, newer) = (Handle { slot: 2, stamp: 2 }, Handle { slot: 3, stamp: 3 });
     lists.append(List::Priority, two, entry(2, 4), &mut steps);
-    lists.append(List::Priority, older, wild(), &mut steps);
+    lists.append(List::Priority, older, ignoring(0, 7), &mut steps);
     lists.append(List::Priority, five, entry(5, 4), &mut steps);
     let found = lists.find(&header(2, 3), false, &mut steps);
     assert!(rt; found == Some((List::Priority, two)));
@@ -104,7 +103,7 @@ fn wild_entries<L: Ledger>(rt: &impl Abort, alloc: Global, blank: Blank) -> Resu
     assert!(rt; found == Some((List::Priority, older)));
     assert!(rt; lists.find(&header(10, 3), false, &mut steps).is_none());
     assert!(rt; lists.unlink(older, &mut steps).is_some());
-    lists.append(List::Priority, newer, wild(), &mut steps);
+    lists.append(List::Priority, newer, ignoring(0, 7), &mut steps);
     let found = lists.find(&header(5, 3), false, &mut steps);
     assert!(rt; found == Some((List::Priority, five)));
     let found = lists.find(&header(6, 3), false, &mut steps);
@@ -113,6 +112,76 @@ fn wild_entries<L: Ledger>(rt: &impl Abort, alloc: Global, blank: Blank) -> Resu
     let found = lists.find(&header(5, 3), false, &mut steps);
     assert!(rt; found == Some((List::Priority, newer)));
     Ok(())
+}
+
+/// Four entries, each of which takes the message: they take it in the order in which they were linked.
+fn taken_in_turn<L: Ledger>(
+    rt: &impl Abort,
+    alloc: Global,
+    entries: [Entry; 4],
+    header: &Header,
+    steps: &mut Steps<L>,
+) -> Result<(), Fail> {
+    let mut lists = Lists::open(alloc, 4, 4)?;
+    let (first, second) = (Handle { slot: 0, stamp: 0 }, Handle { slot: 1, stamp: 1 });
+    let (third, fourth) = (Handle { slot: 2, stamp: 2 }, Handle { slot: 3, stamp: 3 });
+    lists.append(List::Priority, first, entries[0], steps);
+    lists.append(List::Priority, second, entries[1], steps);
+    lists.append(List::Priority, third, entries[2], steps);
+    lists.append(List::Priority, fourth, entries[3], steps);
+    for handle in [first, second, third, fourth] {
+        let found = lists.find(header, false, steps);
+        assert!(rt; found == Some((List::Priority, handle)));
+        assert!(rt; lists.unlink(handle, steps).is_some());
+    }
+    assert!(rt; lists.find(header, false, steps).is_none());
+    Ok(())
+}
+
+/// One entry ignores no bits, one the lowest 16, one the lowest 40, one the highest: in each order the first takes the message.
+fn kinds_of_ignored_bits<L: Ledger>(
+    rt: &impl Abort,
+    alloc: Global,
+    blank: Blank,
+) -> Result<(), Fail>
+    requires name { blank.name ≡ L.name }
+    requires parts { blank.parts ≡ L.parts }
+    requires one { blank.parts ≡ 1 }
+{
+    let mut steps = Steps::<L>::start(blank);
+    let header = header(0x0123_4567_89AB_CDEF, 3);
+    let whole = entry(0x0123_4567_89AB_CDEF, 4);
+    let upper_48 = ignoring(0x0123_4567_89AB_0000, 0xFFFF);
+    let upper_24 = ignoring(0x0123_4500_0000_0000, 0xFF_FFFF_FFFF);
+    let other = ignoring(0x8123_4567_89AB_CDEF, 1 << 63);
+    taken_in_turn(
+        rt,
+        alloc,
+        [whole, upper_48, upper_24, other],
+        &header,
+        &mut steps,
+    )?;
+    taken_in_turn(
+        rt,
+        alloc,
+        [upper_48, upper_24, other, whole],
+        &header,
+        &mut steps,
+    )?;
+    taken_in_turn(
+        rt,
+        alloc,
+        [upper_24, other, whole, upper_48],
+        &header,
+        &mut steps,
+    )?;
+    taken_in_turn(
+        rt,
+        alloc,
+        [other, whole, upper_48, upper_24],
+        &header,
+        &mut steps,
+    )
 }
 
 /// One entry comes and goes a thousand times, each time with other match bits.
@@ -143,6 +212,11 @@ fn the_first_that_fits_takes_the_message(rt: HostRuntime) -> Result<(), Fail> {
 #[test]
 fn entries_that_ignore_bits_stand_in_the_order_of_the_list(rt: HostRuntime) -> Result<(), Fail> {
     wild_entries::<Brand>(&rt, rt.alloc(), Blank::new(1))
+}
+
+#[test]
+fn the_first_takes_the_message_whichever_bits_it_ignores(rt: HostRuntime) -> Result<(), Fail> {
+    kinds_of_ignored_bits::<Brand>(&rt, rt.alloc(), Blank::new(1))
 }
 
 #[test]

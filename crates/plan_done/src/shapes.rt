@@ -19,7 +19,7 @@ fn counted(alloc: Global, shape: &Shape, plan: Plan) -> Result<CountedPlan, Comp
     requires plan { plan ≡ plan_of shape.now }
     ensures { Counts shape.now result }
 {
-    let _ = shape.ranks();
+    shape.keeps_form();
     plan_sound();
     sound_plans();
     match CountedPlan::of(alloc, plan) {

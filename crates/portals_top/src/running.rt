@@ -71,7 +71,7 @@ fn shape_of(rested: &Rested) -> &Shape
     ensures formed { IsWellFormed result.now }
 {
     let shape = rested.0.schedule().shape();
-    let _ = shape.ranks();
+    shape.keeps_form();
     shape
 }
 

@@ -63,7 +63,7 @@ fn put_prints<K: Sink, H: ResultLists>(
     requires gives { (i r : ℕ) → i < length shape.now.prints → r < shape.now.ranks → H.can_give held.now (get_or shape.now.prints i 0) r }
     ensures { Puts (K.outflow sink.old) (K.outflow sink.new) out.old out.new (flat_map (buffer_lines shape.now (H.lists held.now)) shape.now.prints) result }
 {
-    let _ = shape.ranks();
+    shape.keeps_form();
     for buffer in shape.prints() {
         put_buffer(out, sink, shape, held, *buffer)?;
     }

@@ -1,20 +1,15 @@
 -- What `compile` answers, and where a cell lies.
-use Rattle.std.specs.Prelude.{ℕ, ◌≡◌, Result, Ok, Err, Some, None}
+use Rattle.std.specs.Prelude.{ℕ, ◌≡◌, Result}
 use Rattle.plan_core.specs.Plan.{Plan, cell}
 use Rattle.plan_calls.specs.Calls.{cell_start}
 use Rattle.coll_shape.specs.Outline.{Outline}
 use Rattle.shape_plans.specs.declared.faults.CompileFault.{CompileFault}
-use Rattle.shape_plans.specs.declared.faults.CompileFault.TheVariants.{TooMany, TooLarge, NoMemory}
-use Rattle.shape_plans.specs.Footprint.{refusal}
-use Rattle.shape_plans.specs.Footprint.Excess.{Links, Bytes}
+use Rattle.shape_plans.specs.Compiling.{Answers}
 use Rattle.schedule_compiler.specs.declared.schedule.Place.{Place}
 
 -- exactly the refusal, or else the shape's schedule, which is seen as its shape
 abbrev pub Compiles : Outline → Result Outline CompileFault → Type 0
-Compiles o (Ok s) = (refusal o ≡ None) × (s ≡ o)
-Compiles o (Err (TooMany k)) = refusal o ≡ Some (record { step = k; name = Links })
-Compiles o (Err (TooLarge k)) = refusal o ≡ Some (record { step = k; name = Bytes })
-Compiles o (Err NoMemory) = refusal o ≡ None
+Compiles o result = Answers o (λ s. s ≡ o) result
 
 -- in its rank's region
 abbrev pub place_of : Plan → ℕ → Place

@@ -19,7 +19,7 @@ fn scheduled(alloc: Global, shape: &Shape, drawn: DrawnShape) -> Result<Schedule
     requires held { drawn.held ≡ (drawing_of shape.now).held }
     ensures { IfOk result (λ schedule. schedule ≡ shape.now) }
 {
-    let _ = shape.ranks();
+    shape.keeps_form();
     let tables = Tables::of(alloc, &drawn.plan)?;
     let copy = shape.copied(alloc)?;
     let schedule = Schedule::of(copy, drawn.plan, drawn.held, tables);

@@ -219,7 +219,7 @@ pub fn load(alloc: Global, schedule: &Schedule, inputs: &Inputs, r: Rank) -> Res
     let plan = schedule.plan();
     let mut bytes = Vec::with_capacity(alloc, schedule.region(r) as usize)?;
     let shape = schedule.shape();
-    let _ = shape.ranks();
+    shape.keeps_form();
     let count = shape.input_count();
     add_cells(alloc, &mut bytes, plan, inputs, count, schedule.cells(r))?;
     add_areas(alloc, &mut bytes, plan, schedule.tables(), r)?;

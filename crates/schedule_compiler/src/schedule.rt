@@ -108,7 +108,7 @@ impl Schedule {
         ensures sound { SoundPlan (plan_of self.now) self.now.inputs }
         ensures ranks { (plan_of self.now).ranks ≡ self.now.ranks }
     {
-        let _ = self.shape.ranks();
+        self.shape.keeps_form();
         &self.plan
     }
 
@@ -117,7 +117,7 @@ impl Schedule {
         requires { r < self.now.ranks }
         ensures { result.now ≡ installed (plan_of self.now) r }
     {
-        let _ = self.shape.ranks();
+        self.shape.keeps_form();
         rank_at(self.tables.ranks.as_slice(), &self.plan, r)
     }
 
@@ -190,7 +190,7 @@ impl Schedule {
         requires target { d < self.now.ranks }
         ensures { result ≡ lane_messages (plan_of self.now) s d Request }
     {
-        let _ = self.shape.ranks();
+        self.shape.keeps_form();
         self.tables.lanes.messages(&self.plan, s, d)
     }
 
@@ -219,7 +219,7 @@ impl Schedule {
         requires target { d < self.now.ranks }
         ensures { result ≡ lane_bytes_of (plan_of self.now) s d }
     {
-        let _ = self.shape.ranks();
+        self.shape.keeps_form();
         self.tables.lanes.sent_bytes(&self.plan, s, d)
     }
 
@@ -246,7 +246,7 @@ impl Schedule {
         ensures none { (inputs : Lists) → AreInputs self.now inputs →
             held_cell (drawing_of self.now).held buffer r ≡ None ↔ at (lists_of (meaning_of self.now inputs) buffer) r ≡ [] }
     {
-        let _ = self.shape.ranks();
+        self.shape.keeps_form();
         self.held.cell(buffer, r)
     }
 }

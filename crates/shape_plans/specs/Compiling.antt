@@ -8,9 +8,13 @@ use Rattle.shape_plans.specs.Drawing.{drawing_of, plan_of}
 use Rattle.shape_plans.specs.Footprint.{refusal}
 use Rattle.shape_plans.specs.Footprint.Excess.{Links, Bytes}
 
+-- exactly the refusal, or else a value of which P holds
+abbrev pub Answers : {X : Type 0} → Outline → (X → Type 0) → Result X CompileFault → Type 0
+Answers o P (Ok x) = (refusal o ≡ None) × P x
+Answers o P (Err (TooMany k)) = refusal o ≡ Some (record { step = k; name = Links })
+Answers o P (Err (TooLarge k)) = refusal o ≡ Some (record { step = k; name = Bytes })
+Answers o P (Err NoMemory) = refusal o ≡ None
+
 -- exactly the refusal, or else the plan
 abbrev pub Draws : Outline → Result DrawnShape CompileFault → Type 0
-Draws o (Ok c) = (refusal o ≡ None) × (c.plan ≡ plan_of o) × (c.held ≡ (drawing_of o).held)
-Draws o (Err (TooMany k)) = refusal o ≡ Some (record { step = k; name = Links })
-Draws o (Err (TooLarge k)) = refusal o ≡ Some (record { step = k; name = Bytes })
-Draws o (Err NoMemory) = refusal o ≡ None
+Draws o result = Answers o (λ c. (c.plan ≡ plan_of o) × (c.held ≡ (drawing_of o).held)) result

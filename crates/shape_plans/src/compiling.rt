@@ -18,7 +18,7 @@ use std::alloc::Global;
 pub fn drawn_shape(alloc: Global, shape: &Shape) -> Result<DrawnShape, CompileFault>
     ensures { Draws shape.now result }
 {
-    let _ = shape.ranks();
+    shape.keeps_form();
     match judge(shape) {
         Ok(size) => match draw(alloc, shape, size.links) {
             Ok(drawn) => Ok(drawn),

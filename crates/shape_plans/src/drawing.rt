@@ -61,6 +61,7 @@ fn add_inputs(plan: &mut Plan, shape: &Shape, held: &mut Held) -> Result<(), NoM
     ensures plan { IfOk result (λ u. plan.new ≡ (drawn_inputs shape.now shape.now.inputs).plan) }
     ensures held { IfOk result (λ u. held.new ≡ (drawn_inputs shape.now shape.now.inputs).held) }
 {
+    shape.keeps_form();
     let ranks = shape.ranks();
     for b in 0..shape.input_count() {
         let first = plan.cells().len() as u32;
@@ -86,7 +87,7 @@ fn add_steps(
     ensures plan { IfOk result (λ u. plan.new ≡ plan_of shape.now) }
     ensures held { IfOk result (λ u. held.new ≡ (drawing_of shape.now).held) }
 {
-    let _ = shape.ranks();
+    shape.keeps_form();
     for k in 0..shape.steps().len() as u32 {
         let step = &shape.steps()[k as usize];
         add_step(alloc, plan, step, shape.group(k), shape, held, exits)?;
@@ -111,6 +112,7 @@ pub(crate) fn draw(alloc: Global, shape: &Shape, links: u64) -> Result<DrawnShap
     ensures plan { IfOk result (λ c. c.plan ≡ plan_of shape.now) }
     ensures held { IfOk result (λ c. c.held ≡ (drawing_of shape.now).held) }
 {
+    shape.keeps_form();
     let ranks = shape.ranks();
     let buffers = shape.buffers().len() as u32;
     let room = links as u32;

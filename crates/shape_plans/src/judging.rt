@@ -1,41 +1,17 @@
 //! The judgement of a shape by the sizes of its steps, before anything is drawn.
 
-ghost use Rattle.std.specs.Prelude.{ℕ, ◌≡◌, ◌≤◌, ◌<◌, ◌^◌, if◌then◌else◌, Some, None, get_or, length};
-ghost use Rattle.coll_shape.specs.Outline.{group_at, step_at};
-ghost use Rattle.coll_shape.specs.Collectives.{holding_places, is_in};
+ghost use Rattle.std.specs.Prelude.{◌≡◌, ◌≤◌, ◌<◌, ◌^◌, length};
 ghost use Rattle.shape_plans.specs.Judging.{Judges, add_sizes, inputs_size, size_upto, step_size as step_size_of};
 
 use crate::faults::CompileFault;
 use crate::footprints::{Size, step_bytes, step_links};
-use coll_shape::{Shape, is_in};
-use ptl_types::Rank;
+use coll_shape::{Shape, holders_among};
 
 /// The most links of a plan.
 const MOST_LINKS: u64 = 500_000;
 
 /// The most bytes of a plan's cells.
 const MOST_BYTES: u64 = 134_217_728;
-
-/// 1 where a rank is one of the holders, else 0.
-fn one_if_in(r: Rank, holders: &[Rank]) -> u32
-    ensures told { result ≡ (if is_in r holders.now then 1 else 0) }
-    ensures few { result ≤ 1 }
-{
-    if is_in(r, holders) { 1 } else { 0 }
-}
-
-/// How many members are among the holders.
-fn holders_among(members: &[Rank], holders: &[Rank]) -> u32
-    requires { length members.now ≤ 256 }
-    ensures told { result ≡ length (holding_places members.now holders.now) }
-    ensures few { result ≤ length members.now }
-{
-    let mut among = 0u32;
-    for place in 0..members.len() {
-        among += one_if_in(members[place], holders);
-    }
-    among
-}
 
 /// Two sizes together.
 fn add_sizes(a: Size, b: Size) -> Size
@@ -58,14 +34,14 @@ fn step_size(shape: &Shape, k: u32) -> Size
     ensures links { result.links ≤ 2 ^ 18 }
     ensures bytes { result.bytes ≤ 2 ^ 45 }
 {
-    let _ = shape.ranks();
+    shape.keeps_form();
     let step = &shape.steps()[k as usize];
     let members = shape.group(k);
     let m = members.len() as u32;
     match step.source() {
         Some(a) => {
             let read = &shape.buffers()[a as usize];
-            let h = holders_among(members, read.spread.holders.as_slice());
+            let h = holders_among(members, read.spread.holders.as_slice()) as u32;
             Size {
                 links: step_links(step, m, h),
                 bytes: step_bytes(step, m, h, read.list_bytes()),
@@ -84,6 +60,7 @@ fn inputs_size(shape: &Shape) -> Size
     ensures links { result.links ≤ 2 ^ 15 }
     ensures bytes { result.bytes ≤ 2 ^ 42 }
 {
+    shape.keeps_form();
     let ranks = u64::from(shape.ranks());
     let mut sum = Size { links: 0, bytes: 0 };
     for b in 0..shape.input_count() {
@@ -107,7 +84,7 @@ fn inputs_size(shape: &Shape) -> Size
 pub(crate) fn judge(shape: &Shape) -> Result<Size, CompileFault>
     ensures { Judges shape.now result }
 {
-    let _ = shape.ranks();
+    shape.keeps_form();
     let mut sum = inputs_size(shape);
     for k in 0..shape.steps().len() as u32 {
         sum = add_sizes(sum, step_size(shape, k));

@@ -52,7 +52,9 @@ pub fn open_bare(alloc: Global, job: &Job) -> Result<Bare, NoMemory>
         lane_at b.lanes.items (lane_place job.now.shape.ranks s d lane) ≡ frame_lane (plan_of job.now.shape) s d lane) }
 {
     let schedule = job.schedule();
-    let ranks = schedule.shape().ranks();
+    let shape = schedule.shape();
+    shape.keeps_form();
+    let ranks = shape.ranks();
     let _ = schedule.plan();
     let places = 2 * (ranks * ranks);
     let _ = job.inputs();

@@ -50,7 +50,9 @@ pub fn opened(alloc: Global, job: &Job, window: u64, strays: u32) -> Result<Part
     ensures steps { IfOk result (λ w. (r : ℕ) → r < job.now.shape.ranks → (node_at w.nodes.items r).diary.steps ≡ []) }
 {
     let schedule = job.schedule();
-    let ranks = schedule.shape().ranks();
+    let shape = schedule.shape();
+    shape.keeps_form();
+    let ranks = shape.ranks();
     let _ = schedule.plan();
     let places = 2 * (ranks * ranks);
     let _ = job.inputs();

@@ -54,7 +54,7 @@ impl Frame {
         ensures { IfOk result (λ frame. IsFrameOf job.now frame) }
     {
         // What every job keeps is told here.
-        let _ = job.schedule().shape().ranks();
+        job.schedule().shape().keeps_form();
         let _ = job.inputs();
         let shared = job.share()?;
         let parts = open_bare(alloc, job)?;

@@ -124,7 +124,7 @@ impl World {
         ensures { IfOk result (λ world. IsOpened job.now window strays world) }
     {
         // What every job keeps is told here.
-        let _ = job.schedule().shape().ranks();
+        job.schedule().shape().keeps_form();
         let _ = job.inputs();
         let shared = job.share()?;
         let parts = parts_of_job(alloc, job, window, strays)?;

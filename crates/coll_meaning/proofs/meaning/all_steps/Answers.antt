@@ -11,8 +11,8 @@ take_step-requires c =
     let l : c.loop-k.k < length c.args.shape.now.steps = subst (λ v. c.loop-k.k < length v) c.steps-k-end.ensures.told c.loop-k-test.true in
     record {
       step = l;
-      few = few_there c.args.shape.now c.args.kept.now c.args.inputs.now c.loop-k.k c.loop-k.held c.ranks-ranks.ensures.shape l c.loop-k.invariant;
-      asked = asked_there c.args.shape.now c.args.kept.now c.args.inputs.now c.loop-k.k c.ranks-ranks.ensures.shape c.requires l c.loop-k.held c.loop-k.invariant;
+      few = few_there c.args.shape.now c.args.kept.now c.args.inputs.now c.loop-k.k c.loop-k.held c.keeps_form.ensures.shape l c.loop-k.invariant;
+      asked = asked_there c.args.shape.now c.args.kept.now c.args.inputs.now c.loop-k.k c.keeps_form.ensures.shape c.requires l c.loop-k.held c.loop-k.invariant;
     }
 
 pub loop-k-preserved : goal.loop-k-preserved
@@ -20,7 +20,7 @@ loop-k-preserved c =
     let l : c.loop-k.k < length c.args.shape.now.steps = subst (λ v. c.loop-k.k < length v) c.steps-k-end.ensures.told c.loop-k-test.true in
     let e : suc c.loop-k.k ≡ c.loop-k.k + 1 = omega arith in
     subst (λ v. IsThere c.args.shape.now c.args.kept.now c.args.inputs.now v c.take_step.new.held) e
-    (there_next c.args.shape.now c.args.kept.now c.args.inputs.now c.loop-k.k c.ranks-ranks.ensures.shape c.requires l c.loop-k.held c.loop-k.invariant c.take_step.new.held c.in_ok-take_step.ensures)
+    (there_next c.args.shape.now c.args.kept.now c.args.inputs.now c.loop-k.k c.keeps_form.ensures.shape c.requires l c.loop-k.held c.loop-k.invariant c.take_step.new.held c.in_ok-take_step.ensures)
 
 pub returns : goal.returns
 returns c =

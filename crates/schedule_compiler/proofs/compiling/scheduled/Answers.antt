@@ -5,4 +5,4 @@ use Rattle.schedule_compiler.proofs.Kept.{tabled}
 use Rattle.schedule_compiler.proofs.compiling.scheduled.Goals as goal
 
 pub of-requires : goal.of-requires
-of-requires c = subst IsTabled (sym c.requires.plan) (tabled c.args.shape.now c.ranks.ensures.shape c.requires.accepted)
+of-requires c = subst IsTabled (sym c.requires.plan) (tabled c.args.shape.now c.keeps_form.ensures.shape c.requires.accepted)

@@ -11,8 +11,8 @@ use Rattle.schedule_compiler.proofs.loading.load.Goals as goal
 pub add_cells-requires-clause-few_inputs : goal.add_cells-requires-clause-few_inputs
 add_cells-requires-clause-few_inputs c =
     let t = c.input_count-count.ensures.told in
-    let i = c.ranks.ensures.shape.shape.few_inputs in
-    let b = c.ranks.ensures.shape.shape.few_buffers in
+    let i = c.keeps_form.ensures.shape.shape.few_inputs in
+    let b = c.keeps_form.ensures.shape.shape.few_buffers in
     omega (arith, t, i, b)
 
 pub add_cells-requires-clause-own : goal.add_cells-requires-clause-own

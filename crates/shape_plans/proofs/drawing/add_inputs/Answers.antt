@@ -18,7 +18,7 @@ overflow_cast-first c =
     let o = c.args.shape.now in
     let n = c.input_count-b-end.ensures.told in
     let t = c.loop-b-test.true in
-    let f = (few-inputs o c.ranks-ranks.ensures.shape.shape c.loop-b.b (let z : c.loop-b.b ≤ o.inputs = omega (arith, n, t) in z)).1 in
+    let f = (few-inputs o c.keeps_form.ensures.shape.shape c.loop-b.b (let z : c.loop-b.b ≤ o.inputs = omega (arith, n, t) in z)).1 in
     let e = ap length c.cells.ensures ∙ ap (λ (p : Plan). length p.cells) c.loop-b.invariant.plan in
     omega (arith, f, e)
 
@@ -28,8 +28,8 @@ draw_inputs-requires-clause-room c =
     let n = c.input_count-b-end.ensures.told in
     let t = c.loop-b-test.true in
     let P : Plan → Buffer → ℕ → Type 0 = λ p x r. HasRoom p (map (input_cell x) (from_to 0 r)) in
-    let room = room-input o c.ranks-ranks.ensures.shape.shape c.loop-b.b (let z : c.loop-b.b ≤ o.inputs = omega (arith, n, t) in z) in
-    let x : buffer_at o c.loop-b.b ≡ c.index-buffers-b.result = the-buffer o c.loop-b.b c.buffers.result.now c.index-buffers-b.result c.buffers.ensures.told (let i = c.ranks-ranks.ensures.shape.shape.few_inputs in let z : c.loop-b.b < length o.buffers = omega (arith, n, t, i) in z) c.index-buffers-b.is in
+    let room = room-input o c.keeps_form.ensures.shape.shape c.loop-b.b (let z : c.loop-b.b ≤ o.inputs = omega (arith, n, t) in z) in
+    let x : buffer_at o c.loop-b.b ≡ c.index-buffers-b.result = the-buffer o c.loop-b.b c.buffers.result.now c.index-buffers-b.result c.buffers.ensures.told (let i = c.keeps_form.ensures.shape.shape.few_inputs in let z : c.loop-b.b < length o.buffers = omega (arith, n, t, i) in z) c.index-buffers-b.is in
     subst (λ p. P p c.index-buffers-b.result c.ranks-ranks.result) (sym c.loop-b.invariant.plan)
     (subst (λ v. P (drawn_inputs o c.loop-b.b).plan v c.ranks-ranks.result) x
     (subst (λ v. P (drawn_inputs o c.loop-b.b).plan (buffer_at o c.loop-b.b) v) (sym c.ranks-ranks.ensures.told) room))
@@ -38,7 +38,7 @@ pub hold_inputs-requires-clause-ranks : goal.hold_inputs-requires-clause-ranks
 hold_inputs-requires-clause-ranks c =
     let o = c.args.shape.now in
     let e = ap (λ (h : HeldCells). h.ranks) c.loop-b.invariant.held in
-    let t = (tables-inputs o c.ranks-ranks.ensures.shape.shape.few_ranks c.loop-b.b).ranks in
+    let t = (tables-inputs o c.keeps_form.ensures.shape.shape.few_ranks c.loop-b.b).ranks in
     let r = c.ranks-ranks.ensures.told in
     omega (arith, e, t, r)
 
@@ -46,10 +46,10 @@ pub hold_inputs-requires-clause-buffer : goal.hold_inputs-requires-clause-buffer
 hold_inputs-requires-clause-buffer c =
     let o = c.args.shape.now in
     let e = ap (λ (h : HeldCells). h.buffers) c.loop-b.invariant.held in
-    let t = (tables-inputs o c.ranks-ranks.ensures.shape.shape.few_ranks c.loop-b.b).buffers in
+    let t = (tables-inputs o c.keeps_form.ensures.shape.shape.few_ranks c.loop-b.b).buffers in
     let n = c.input_count-b-end.ensures.told in
     let l = c.loop-b-test.true in
-    let i = c.ranks-ranks.ensures.shape.shape.few_inputs in
+    let i = c.keeps_form.ensures.shape.shape.few_inputs in
     omega (arith, e, t, n, l, i)
 
 pub hold_inputs-requires-clause-few : goal.hold_inputs-requires-clause-few
@@ -57,10 +57,10 @@ hold_inputs-requires-clause-few c =
     let o = c.args.shape.now in
     let n = c.input_count-b-end.ensures.told in
     let t = c.loop-b-test.true in
-    let f = (few-inputs o c.ranks-ranks.ensures.shape.shape c.loop-b.b (let z : c.loop-b.b ≤ o.inputs = omega (arith, n, t) in z)).1 in
+    let f = (few-inputs o c.keeps_form.ensures.shape.shape c.loop-b.b (let z : c.loop-b.b ≤ o.inputs = omega (arith, n, t) in z)).1 in
     let e = ap length c.cells.ensures ∙ ap (λ (p : Plan). length p.cells) c.loop-b.invariant.plan in
     let r = c.ranks-ranks.ensures.told in
-    let q = c.ranks-ranks.ensures.shape.shape.few_ranks in
+    let q = c.keeps_form.ensures.shape.shape.few_ranks in
     omega (arith, f, e, r, q)
 
 pub loop-b-preserved : goal.loop-b-preserved
@@ -70,7 +70,7 @@ loop-b-preserved c =
     let d = drawn_inputs o b in
     let n = c.input_count-b-end.ensures.told in
     let t = c.loop-b-test.true in
-    let x : buffer_at o b ≡ c.index-buffers-b.result = the-buffer o b c.buffers.result.now c.index-buffers-b.result c.buffers.ensures.told (let i = c.ranks-ranks.ensures.shape.shape.few_inputs in let z : b < length o.buffers = omega (arith, n, t, i) in z) c.index-buffers-b.is in
+    let x : buffer_at o b ≡ c.index-buffers-b.result = the-buffer o b c.buffers.result.now c.index-buffers-b.result c.buffers.ensures.told (let i = c.keeps_form.ensures.shape.shape.few_inputs in let z : b < length o.buffers = omega (arith, n, t, i) in z) c.index-buffers-b.is in
     let r = c.ranks-ranks.ensures.told in
     let e = ap length c.cells.ensures ∙ ap (λ (p : Plan). length p.cells) c.loop-b.invariant.plan in
     record {

@@ -28,7 +28,7 @@ add_step-requires-clause-begun c =
     let l = c.loop-k-test.true in
     let t : step_at o k ≡ get_or c.steps-in-loop-k.result.now k Rattle.coll_shape.specs.declared.types.CollStep.TheVariants.Barrier = ap (λ xs. get_or xs k Rattle.coll_shape.specs.declared.types.CollStep.TheVariants.Barrier) (sym c.steps-in-loop-k.ensures.told) in
     as-drawn (λ p h e s g. IsBegun o p h e s g) (sym c.loop-k.invariant.plan) (sym c.loop-k.invariant.held) (sym c.loop-k.invariant.exits) t (sym c.group.ensures.told)
-    (begun-step o c.ranks.ensures.shape.shape c.requires.steps c.requires.few k (let z : k < length o.steps = omega (arith, n, l) in z))
+    (begun-step o c.keeps_form.ensures.shape.shape c.requires.steps c.requires.few k (let z : k < length o.steps = omega (arith, n, l) in z))
 
 pub add_step-requires-clause-room : goal.add_step-requires-clause-room
 add_step-requires-clause-room c =
@@ -38,7 +38,7 @@ add_step-requires-clause-room c =
     let l = c.loop-k-test.true in
     let t : step_at o k ≡ get_or c.steps-in-loop-k.result.now k Rattle.coll_shape.specs.declared.types.CollStep.TheVariants.Barrier = ap (λ xs. get_or xs k Rattle.coll_shape.specs.declared.types.CollStep.TheVariants.Barrier) (sym c.steps-in-loop-k.ensures.told) in
     as-drawn (λ p h e s g. HasRoom p (cells_of (site_of o p h e (source_of s) g) s)) (sym c.loop-k.invariant.plan) (sym c.loop-k.invariant.held) (sym c.loop-k.invariant.exits) t (sym c.group.ensures.told)
-    (room-step o c.ranks.ensures.shape.shape c.requires.steps c.requires.few k (let z : k < length o.steps = omega (arith, n, l) in z))
+    (room-step o c.keeps_form.ensures.shape.shape c.requires.steps c.requires.few k (let z : k < length o.steps = omega (arith, n, l) in z))
 
 pub loop-k-preserved : goal.loop-k-preserved
 loop-k-preserved c =

@@ -8,7 +8,7 @@ use Rattle.schedule_compiler.proofs.Kept.{ranks-are}
 use Rattle.schedule_compiler.proofs.schedule.Schedule.plan.Goals as goal
 
 pub returns-clause-sound : goal.returns-clause-sound
-returns-clause-sound c = subst (λ (o : Outline). SoundPlan (plan_of o) o.inputs) c.self.view_is (sound c.self.inside.shape c.ranks.ensures.shape c.self.invariant.accepted)
+returns-clause-sound c = subst (λ (o : Outline). SoundPlan (plan_of o) o.inputs) c.self.view_is (sound c.self.inside.shape c.keeps_form.ensures.shape c.self.invariant.accepted)
 
 pub returns-clause-ranks : goal.returns-clause-ranks
-returns-clause-ranks c = subst (λ (o : Outline). (plan_of o).ranks ≡ o.ranks) c.self.view_is (ranks-are c.self.inside.shape c.ranks.ensures.shape)
+returns-clause-ranks c = subst (λ (o : Outline). (plan_of o).ranks ≡ o.ranks) c.self.view_is (ranks-are c.self.inside.shape c.keeps_form.ensures.shape)

@@ -9,7 +9,7 @@ use Rattle.schedule_compiler.proofs.schedule.Schedule.table.Goals as goal
 
 pub rank_at-requires-clause-rank : goal.rank_at-requires-clause-rank
 rank_at-requires-clause-rank c =
-    let e = kept-ranks c.self.inside.shape c.self.inside.plan c.self.inside.held c.self.inside.tables c.self.invariant c.ranks.ensures.shape in
+    let e = kept-ranks c.self.inside.shape c.self.inside.plan c.self.inside.held c.self.inside.tables c.self.invariant c.keeps_form.ensures.shape in
     let v = ap (λ (o : Outline). o.ranks) c.self.view_is in
     let h = c.requires in
     omega (arith, e, v, h)
