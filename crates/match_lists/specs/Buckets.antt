@@ -44,7 +44,8 @@ is_one t a b c d = (nat_eq t a || nat_eq t b) || (nat_eq t c || nat_eq t d)
 
 -- an entry is on one of the threads of these match bits
 abbrev pub may_take : ℕ → ℕ → Linked → Bool
-may_take limit bits x = is_one (thread_of limit x) (whole_thread limit bits) (upper_48_thread limit bits) (upper_24_thread limit bits) (last_thread limit)
+may_take limit bits x =
+    is_one (thread_of limit x) (whole_thread limit bits) (upper_48_thread limit bits) (upper_24_thread limit bits) (last_thread limit)
 
 -- how many of the entries may take a message of these match bits
 abbrev pub candidates_in : ℕ → ℕ → List Linked → ℕ

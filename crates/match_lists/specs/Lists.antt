@@ -53,7 +53,8 @@ has_slot slot b = slot_in slot b.priority || slot_in slot b.overflow
 
 -- the first of the priority entries that fits, else, where asked, the first of the overflow entries
 abbrev pub first_fit : Header → Bool → Both → Option Found
-first_fit h overflow b = or_else (as_found Priority (find (fits h) b.priority)) (if overflow then as_found Overflow (find (fits h) b.overflow) else None)
+first_fit h overflow b =
+    or_else (as_found Priority (find (fits h) b.priority)) (if overflow then as_found Overflow (find (fits h) b.overflow) else None)
 
 -- the entry of this handle
 abbrev pub is_named : Handle → Linked → Bool
