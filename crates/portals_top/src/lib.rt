@@ -3,6 +3,8 @@
 
 mod drawing;
 mod headline;
+#[cfg(test)]
+mod memory_walk;
 mod planning;
 mod ran;
 mod reading;

@@ -1,0 +1,82 @@
+-- Nodes of which nothing was done close a frame into a world of which nothing was done.
+use Rattle.std.proofs.Common.{ℕ, zero, suc, ◌<◌, ◌≤◌, ◌≡◌, ◌∙◌, List, [], ◌++◌, length, min, nat_lt, if◌then◌else◌, ap, ap₂, sym, subst, arith, lt-ltb}
+use Rattle.ptl_types.specs.declared.headers.Lane.{Lane}
+use Rattle.pair_wires.specs.Lanes.{Plain}
+use Rattle.plan_calls.specs.Lanes.{lane_messages}
+use Rattle.plan_core.specs.Plan.{Plan}
+use Rattle.plan_core.specs.Values.{Inputs}
+use Rattle.plan_cuts.specs.History.{got, sent}
+use Rattle.plan_cuts.specs.Plans.{start_of}
+use Rattle.plan_orders.specs.Chosen.{first_scene}
+use Rattle.plan_view.specs.Calls.{prepare}
+use Rattle.plan_worlds.specs.Places.{lane_place}
+use Rattle.coll_shape.specs.Outline.{Outline}
+use Rattle.rank_node.specs.Node.{NodeState}
+use Rattle.schedule_compiler.specs.Jobs.{JobOf}
+use Rattle.shape_plans.specs.Drawing.{plan_of}
+use Rattle.world_parts.specs.Layout.{lane_at, node_at, scene_of}
+use Rattle.world_open.specs.Fresh.{IsFresh}
+use Rattle.world_open.specs.Frames.{frame_window}
+use Rattle.world_open.proofs.Begun.{first-by}
+use Rattle.worlds.specs.FrameState.{FrameState}
+use Rattle.worlds.specs.Frames.{IsClosed, IsFrameOf, MayClose, lane_in}
+use Rattle.worlds.specs.Later.{IsOpened}
+use Rattle.worlds.specs.World.{WorldState}
+
+-- four messages, or all, find room where there is any
+enough : (k : ℕ) → min frame_window k ≤ (if nat_lt 0 k then frame_window else 0)
+enough zero = omega arith
+enough (suc k) = let q = ap (λ b. if b then frame_window else 0) (lt-ltb 0 (suc k) (omega arith)) in omega (arith, q)
+
+-- a lane of an opened frame
+pub laid_empty : (job : JobOf) (f : FrameState) → IsFrameOf job f → (s d : ℕ) (lane : Lane) → s < job.shape.ranks → d < job.shape.ranks
+    → length (lane_in f s d lane).messages ≡ 0
+laid_empty job f is s d lane hs hd =
+    ap (λ (o : Outline). length (lane_at f.lanes (lane_place o.ranks s d lane)).messages) is.shape
+    ∙ ap (λ (l : Plain). length l.messages) (is.lanes s d lane hs hd)
+
+abbrev frame_by : List Plain → Outline → Inputs → FrameState
+frame_by lanes shape inputs = record { shape = shape; inputs = inputs; lanes = lanes }
+
+module _ (job : JobOf) (f : FrameState) (nodes : List NodeState) (is : IsFrameOf job f) (size : length nodes ≡ job.shape.ranks)
+    (fresh : (r : ℕ) → r < job.shape.ranks → IsFresh (plan_of job.shape) job.inputs job.shape.ranks 0 r (node_at nodes r)) where
+  abbrev p : Plan
+  p = plan_of job.shape
+
+  abbrev n : ℕ
+  n = job.shape.ranks
+
+  same : f ≡ frame_by f.lanes job.shape job.inputs
+  same = ap₂ (λ s i. frame_by f.lanes s i) is.shape is.inputs
+
+  empty : (s d : ℕ) (lane : Lane) → s < n → d < n → (lane_at f.lanes (lane_place n s d lane)).messages ≡ []
+  empty s d lane hs hd = ap (λ (l : Plain). l.messages) (is.lanes s d lane hs hd)
+
+  may : MayClose (frame_by f.lanes job.shape job.inputs) nodes
+  may = record {
+    of_job = record { size = size; compiled = λ r h. (fresh r h).compiled; strays = λ r h. (fresh r h).strays };
+    sources = λ r s lane h past. ap (λ es. got es s lane) (fresh r h).locals;
+    sent = λ slots agree s d lane hs hd.
+        ap₂ (λ es ms. got es s lane ++ ms) (fresh d hd).locals (empty s d lane hs hd)
+        ∙ sym (ap (λ es. sent (start_of p (slots s) s) (prepare p job.inputs (slots s) s) es d lane) (fresh s hs).locals);
+    room = λ s d lane hs hd.
+        let q = ap (λ (l : Plain). l.capacity) (is.lanes s d lane hs hd) in
+        let e = enough (lane_messages p s d lane) in
+        omega (arith, q, e);
+    within = λ s d lane hs hd. let q = ap length (empty s d lane hs hd) in omega (arith, q);
+  }
+
+  pub may_close : MayClose f nodes
+  may_close = subst (λ (g : FrameState). MayClose g nodes) (sym same) may
+
+  pub is_opened : (w : WorldState) → IsClosed f nodes w → IsOpened job frame_window 0 w
+  is_opened w c =
+      let first : scene_of n nodes f.lanes ≡ first_scene = first-by n nodes f.lanes size (λ r h. (fresh r h).locals) empty in
+      record {
+        shape = c.shape ∙ is.shape;
+        inputs = c.inputs ∙ is.inputs;
+        window = c.window;
+        strays = c.strays;
+        spare = c.spare;
+        scene = c.scene ∙ ap (λ (s : Outline). scene_of s.ranks nodes f.lanes) is.shape ∙ first;
+      }

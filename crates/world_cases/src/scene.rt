@@ -1,0 +1,211 @@
+//! The worlds of texts, and what is asked of them. A call answers `None` or `false` where its condition doesn't hold.
+
+use coll_lang::parse;
+use portals_ni::Nic;
+use ptl_types::{Count, LocalStep, Rank};
+use schedule_compiler::{Job, compile};
+use std::alloc::Global;
+use std::process::Abort;
+use worlds::{Step, World};
+
+/// The job of a text. `None`: it is refused, or there is no memory.
+pub fn job_of(alloc: Global, text: &[u8]) -> Option<Job> {
+    let Ok(description) = parse(alloc, text) else {
+        return None;
+    };
+    let (shape, inputs) = description.into_parts();
+    let Ok(schedule) = compile(alloc, &shape) else {
+        return None;
+    };
+    match Job::new(alloc, schedule, inputs) {
+        Ok(job) => Some(job),
+        Err(_) => None,
+    }
+}
+
+/// The world of a text. `None`: it is refused, or there is no memory.
+pub fn world_of(alloc: Global, text: &[u8]) -> Option<World> {
+    let job = job_of(alloc, text)?;
+    match World::open(alloc, &job) {
+        Ok(world) => Some(world),
+        Err(_) => None,
+    }
+}
+
+/// The world of a text under a window. `None`: it is refused, there is no such window, or there is no memory.
+pub fn windowed(alloc: Global, text: &[u8], window: u32) -> Option<World> {
+    if window == 0 {
+        return None;
+    }
+    let job = job_of(alloc, text)?;
+    match World::open_windowed(alloc, &job, window) {
+        Ok(world) => Some(world),
+        Err(_) => None,
+    }
+}
+
+// Each of the next functions is one call of a world, without what its contract says of the whole world: so the functions behind
+// them have nothing of it to prove.
+
+pub fn ranks(world: &World) -> u32 {
+    world.schedule().shape().ranks()
+}
+
+pub fn buffers(world: &World) -> usize {
+    world.schedule().shape().buffers().len()
+}
+
+pub fn enabled(world: &World) -> u64 {
+    world.enabled()
+}
+
+pub fn nth_step(world: &World, i: u64) -> Option<Step> {
+    if i < world.enabled() {
+        Some(world.enabled_step(i))
+    } else {
+        None
+    }
+}
+
+pub fn is_enabled(world: &World, step: Step) -> bool {
+    world.is_enabled(step)
+}
+
+pub fn make_step(world: &mut World, step: Step) -> bool {
+    if world.is_enabled(step) {
+        world.step(step);
+        true
+    } else {
+        false
+    }
+}
+
+pub fn at_rest(world: &World) -> bool {
+    world.at_rest()
+}
+
+pub fn run(world: &mut World) {
+    world.run_to_rest();
+}
+
+pub fn bytes_at(world: &World, buffer: u32, r: Rank) -> Option<&[u8]> {
+    let shape = world.schedule().shape();
+    if (buffer as usize) < shape.buffers().len() && r < shape.ranks() {
+        Some(world.result(buffer, r))
+    } else {
+        None
+    }
+}
+
+pub fn nic_at(world: &World, r: Rank) -> Option<&Nic> {
+    if r < world.schedule().shape().ranks() {
+        Some(world.nic(r))
+    } else {
+        None
+    }
+}
+
+pub fn history_at(world: &World, r: Rank) -> Option<&[LocalStep]> {
+    if r < world.schedule().shape().ranks() {
+        Some(world.history(r))
+    } else {
+        None
+    }
+}
+
+pub fn done_at(world: &World, r: Rank) -> Option<Count> {
+    if r < world.schedule().shape().ranks() {
+        Some(world.done(r))
+    } else {
+        None
+    }
+}
+
+pub fn threshold_at(world: &World, r: Rank) -> Option<u64> {
+    let schedule = world.schedule();
+    if r < schedule.shape().ranks() {
+        Some(schedule.done(r))
+    } else {
+        None
+    }
+}
+
+/// How often a rank dropped a message, and how often an entry didn't allow one.
+pub fn registers_at(world: &World, r: Rank) -> Option<(u64, u64)> {
+    let nic = nic_at(world, r)?;
+    Some((nic.drops(), nic.violations()))
+}
+
+/// The length of the oldest unexpected header of a rank. `None`: there is none.
+pub fn first_header_at(world: &World, r: Rank) -> Option<u64> {
+    let header = nic_at(world, r)?.header(0, 0)?;
+    Some(header.delivered)
+}
+
+pub fn memory_at(world: &World, r: Rank) -> Option<&[u8]> {
+    let nic = nic_at(world, r)?;
+    Some(nic.memory())
+}
+
+/// So many successes and no failure.
+pub fn successes(success: u64) -> Option<Count> {
+    Some(Count {
+        success,
+        failure: 0,
+    })
+}
+
+/// A buffer has these bytes at a rank.
+pub fn check_bytes(rt: &impl Abort, world: &World, place: (u32, Rank), bytes: &[u8]) {
+    let (buffer, r) = place;
+    assert_eq!(rt;
+        bytes_at(world, buffer, r),
+        Some(bytes),
+        "buffer {buffer} at rank {r}"
+    );
+}
+
+/// The memory of a rank has these bytes.
+pub fn check_memory(rt: &impl Abort, world: &World, r: Rank, bytes: &[u8]) {
+    assert_eq!(rt; memory_at(world, r), Some(bytes), "rank {r}");
+}
+
+/// A rank made these local steps.
+pub fn check_history(rt: &impl Abort, world: &World, r: Rank, steps: &[LocalStep]) {
+    assert_eq!(rt; history_at(world, r), Some(steps), "rank {r}");
+}
+
+/// The buffers at the ranks are these lists.
+pub fn check_lists(rt: &impl Abort, world: &World, lists: &[&[&[u8]]], name: u64) {
+    assert_eq!(rt; buffers(world), lists.len(), "case {name}");
+    let mut buffer = 0u32;
+    for at_ranks in lists.iter() {
+        let mut r = 0u32;
+        for list in at_ranks.iter() {
+            assert_eq!(rt;
+                bytes_at(world, buffer, r),
+                Some(*list),
+                "case {name}, buffer {buffer} at rank {r}"
+            );
+            r = r.saturating_add(1);
+        }
+        assert_eq!(rt; r, ranks(world), "case {name}");
+        buffer = buffer.saturating_add(1);
+    }
+}
+
+/// No step is possible, each rank's counting event stands at its threshold, nothing was dropped or refused, and no header is left.
+pub fn check_rest(rt: &impl Abort, world: &World, name: u64) {
+    assert_eq!(rt; enabled(world), 0, "case {name}");
+    assert!(rt; at_rest(world), "case {name}");
+    for r in 0..ranks(world) {
+        let due = threshold_at(world, r).expect(rt, "a rank");
+        assert_eq!(rt; done_at(world, r), successes(due), "case {name}, rank {r}");
+        assert_eq!(rt;
+            registers_at(world, r),
+            Some((0, 0)),
+            "case {name}, rank {r}"
+        );
+        assert_eq!(rt; first_header_at(world, r), None, "case {name}, rank {r}");
+    }
+}
