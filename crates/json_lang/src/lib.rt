@@ -1,0 +1,14 @@
+//! Descriptions in JSON. A value of the form stands for the lines of a text of the description language, its line text; JSON
+//! bytes describe what that text describes, and are refused where it is refused.
+#![tactic(auto)]
+
+mod fault;
+mod form;
+mod reading;
+#[cfg(test)]
+mod tests;
+mod values;
+mod writing;
+
+pub use fault::{JsonFault, JsonRefusal};
+pub use reading::{lines_of, parse_json};
