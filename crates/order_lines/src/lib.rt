@@ -1,0 +1,11 @@
+//! Reading the input of a check: a description, and behind it for each rank the line of its local steps.
+#![tactic(auto)]
+
+mod checking;
+mod orders;
+mod reading;
+#[cfg(test)]
+mod tests;
+
+pub use checking::parse_check;
+pub use orders::Orders;

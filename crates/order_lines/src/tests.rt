@@ -1,0 +1,95 @@
+//! What no clause says: whole inputs and their answers, from outside.
+
+use crate::{Orders, parse_check};
+use coll_lang::{Description, ParseFault};
+use ptl_types::{Lane, LocalStep};
+
+/// The line and the name of a refusal; nothing where the input is read.
+fn answer(read: Result<(Description, Orders), ParseFault>) -> Option<(u32, &'static str)> {
+    match read {
+        Ok(_) => None,
+        Err(ParseFault::Refused { line, name }) => Some((line, name.word())),
+        Err(ParseFault::NoMemory) => Some((0, "NoMemory")),
+    }
+}
+
+#[test]
+fn inputs_and_their_refusals(rt: HostRuntime) {
+    let cases: [(&[u8], Option<(u32, &'static str)>); 17] = [
+        (b"coll 1\nranks 1\nbarrier\nend\norder 0\n", None),
+        (
+            b"coll 1\nranks 1\nbarrier\nend\norder 0 x\n",
+            Some((5, "BadOrder")),
+        ),
+        (
+            b"coll 1\nranks 2\nbarrier\nend\norder 0 r2\norder 1\n",
+            Some((5, "BadOrder")),
+        ),
+        (
+            b"coll 1\nranks 2\nbarrier\nend\norder 0\norder 0\n",
+            Some((6, "BadOrder")),
+        ),
+        (
+            b"coll 1\nranks 1\nbarrier\nend\norder 0 f4294967296\n",
+            Some((5, "BadOrder")),
+        ),
+        (
+            b"coll 1\nranks 1\nbarrier\nend\norder 0 f99999999999999999999\n",
+            Some((5, "BadOrder")),
+        ),
+        (
+            b"coll 1\nranks 1\nbarrier\nend\norder 0 s \n",
+            Some((5, "BadOrder")),
+        ),
+        (
+            b"coll 1\nranks 1\nbarrier\nend\norder 0\ts\n",
+            Some((5, "BadByte")),
+        ),
+        (
+            b"coll 1\nranks 2\nbarrier\nend\norder 0 s\n",
+            Some((6, "Unended")),
+        ),
+        (
+            b"coll 1\nranks 1\nbarrier\nend\norder 0 s",
+            Some((5, "Unended")),
+        ),
+        (
+            b"coll 1\nranks 1\nbarrier\nend\norder 0 s\n\n",
+            Some((6, "AfterEnd")),
+        ),
+        (b"coll 3\nend\norder 0 x\n", Some((1, "BadHeader"))),
+        (b"coll 1\nranks 1\nbarrier\n", Some((4, "Unended"))),
+        (b"", Some((1, "Unended"))),
+        (
+            b"coll 2\nranks 2\nelect b\nend\norder 0 x\n",
+            Some((0, "OneThread")),
+        ),
+        (
+            b"coll 2\nranks 2\nelect b\nbarrier\nend\n",
+            Some((4, "BadLine")),
+        ),
+        (
+            b"coll 1\nranks 1\ninput end u8 1\n7\nprint end\nend\norder 0 f0\n",
+            None,
+        ),
+    ];
+    for (text, wanted) in cases.iter() {
+        assert_eq!(rt; answer(parse_check(rt.alloc(), text)), *wanted);
+    }
+}
+
+#[test]
+fn the_orders_of_two_ranks(rt: HostRuntime) {
+    let text = b"coll 1\nranks 2\nbarrier\nend\norder 0 s f0 a1\norder 1\n";
+    let Ok((description, orders)) = parse_check(rt.alloc(), text) else {
+        panic!(rt; "refused")
+    };
+    let answer = LocalStep::Receive {
+        source: 1,
+        lane: Lane::Answer,
+    };
+    let steps = [LocalStep::Start, LocalStep::Fire { number: 0 }, answer];
+    assert_eq!(rt; description.shape().ranks(), 2);
+    assert_eq!(rt; orders.steps(0), steps.as_slice());
+    assert_eq!(rt; orders.steps(1).len(), 0);
+}
