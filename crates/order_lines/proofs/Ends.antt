@@ -36,7 +36,7 @@ begins text = record {
   few = omega arith;
 }
 
-bytes_on : (xs line ys : List ℕ) → lines xs ≡ line ∷ lines ys → bytes_eq line (codes "end") ≡ false
+pub bytes_on : (xs line ys : List ℕ) → lines xs ≡ line ∷ lines ys → bytes_eq line (codes "end") ≡ false
     → description_bytes (lines xs) ≡ length line + 1 + description_bytes (lines ys)
 unfolding description_bytes
 bytes_on xs line ys h other = let p = some_piece ys in rw (h, p.2, other) refl
@@ -46,7 +46,7 @@ line_on : (xs line ys : List ℕ) (k : ℕ) → lines xs ≡ line ∷ lines ys �
 unfolding line_behind
 line_on xs line ys k h other = let p = some_piece ys in rw (h, p.2, other) refl
 
-bytes_at : (xs line ys : List ℕ) → lines xs ≡ line ∷ lines ys → bytes_eq line (codes "end") ≡ true
+pub bytes_at : (xs line ys : List ℕ) → lines xs ≡ line ∷ lines ys → bytes_eq line (codes "end") ≡ true
     → description_bytes (lines xs) ≡ length line + 1
 unfolding description_bytes
 bytes_at xs line ys h same = let p = some_piece ys in rw (h, p.2, same) refl

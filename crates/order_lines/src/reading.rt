@@ -67,12 +67,7 @@ fn step_of(ranks: u32, word: &[u8]) -> Option<LocalStep>
 
 /// The steps that the words are.
 #[tactic(auto, using(crate::proofs::Steps::begins, crate::proofs::Steps::takes, crate::proofs::Steps::breaks, crate::proofs::Steps::ends))]
-fn steps_of(
-    alloc: Global,
-    ranks: u32,
-    number: u32,
-    mut words: Words,
-) -> Result<Order, ParseFault>
+fn steps_of(alloc: Global, ranks: u32, number: u32, mut words: Words) -> Result<Order, ParseFault>
     requires { 0 < ranks }
     ensures { Reads (λ steps. steps) result (unless_bad number (steps_of ranks words.entry)) }
 {
