@@ -1,0 +1,4 @@
+pub mod Open
+pub mod Stepping
+pub mod Looking
+pub mod Verdicts

@@ -1,0 +1,13 @@
+//! The check of given orders: of each rank's list what can be taken is taken, on a world of the job, and the verdict is read off.
+#![tactic(auto)]
+
+mod allowing;
+mod judging;
+mod taking;
+#[cfg(test)]
+mod tests;
+
+pub use judging::check;
+pub use order_lines::Orders;
+pub use plan_orders::Verdict;
+pub use ptl_types::Cause;
