@@ -1,5 +1,5 @@
 -- What holds for the text that was read holds for the bytes of the source.
-use Rattle.std.proofs.Common.{◌≡◌, ◌≢◌, ℕ, ◌≤◌, List, [], length, drop, Option, Some, None, Result, Ok, Err, refl, sym, subst}
+use Rattle.std.proofs.Common.{◌≡◌, ◌≢◌, ℕ, ◌+◌, ◌≤◌, List, [], length, drop, Option, Some, None, Result, Ok, Err, refl, sym, subst}
 use Rattle.port_io.specs.Counts.{Rose}
 use Rattle.port_io.specs.Ends.{Inflow, Outflow}
 use Rattle.coll_lang.specs.declared.fault.Refusal.{Refusal}
@@ -19,33 +19,34 @@ use Rattle.portals_top.specs.declared.words.Command.TheVariants.{Plan}
 use Rattle.portals_top.specs.Due.{done, due, due_compiled, due_described, due_of, excess_name, refused, step_line}
 use Rattle.portals_top.specs.Answered.{IsTold, MayAnswer, Stands, Leaves, LeavesOf, HandsBack, Answered}
 use Rattle.portals_top.specs.Written.{Written}
-use Rattle.portals_top.proofs.Told.{Told, told-any, short-read}
+use Rattle.portals_top.proofs.Told.{Told, read-long, same-read, short-text, told-any}
 
-done-short : (command : Command) (ran : Option WorldState) (text : List ℕ) → length text ≤ 1048577 → (due_of command ran (read text)).status ≡ Done → length text ≤ 1048576
-done-short command ran text short done =
-    short-read text (λ long. let refused : Refused ≡ Done = subst (λ r. (due_of command ran r).status ≡ Done) long done in absurd (cc)) short
+done-short : (command : Command) (ran : Option WorldState) (text : List ℕ) → (due_of command ran (read text)).status ≡ Done → length text ≤ 1048576
+done-short command ran text done =
+    short-text 1048576 text (λ long. let refused : Refused ≡ Done = subst (λ r. (due_of command ran r).status ≡ Done) (read-long text long) done in absurd (cc))
 
-leaves : (command : Command) (ran : Option WorldState) (status : Status) (text : List ℕ) (source source' : Inflow) (told : Told source.left source'.left text) → length text ≤ 1048577
-    → MayAnswer status (due_of command ran (read text)).status → Leaves status source' (drop 1048577 told.bytes)
-leaves command ran Done text source source' told short allowed = (told.rest, told.nothing (done-short command ran text short allowed))
-leaves command ran Usage text source source' told short allowed = told.rest
-leaves command ran Refused text source source' told short allowed = told.rest
-leaves command ran ReadFault text source source' told short allowed = tt
-leaves command ran WriteFault text source source' told short allowed = told.rest
-leaves command ran NoMemory text source source' told short allowed = tt
+-- what stays in the source
+pub leaves : (longest : ℕ) (owed status : Status) (text : List ℕ) (source source' : Inflow) (told : Told longest source.left source'.left text)
+    → (owed ≡ Done → length text ≤ longest) → MayAnswer status owed → Leaves status source' (drop (longest + 1) told.bytes)
+leaves longest owed Done text source source' told short allowed = (told.rest, told.nothing (short allowed))
+leaves longest owed Usage text source source' told short allowed = told.rest
+leaves longest owed Refused text source source' told short allowed = told.rest
+leaves longest owed ReadFault text source source' told short allowed = tt
+leaves longest owed WriteFault text source source' told short allowed = told.rest
+leaves longest owed NoMemory text source source' told short allowed = tt
 
 -- after a text was read, and answered
-pub answered-read : (command : Command) (text : List ℕ) (source source' : Inflow) (sink sink' : Outflow) (ran : Option WorldState) (status : Status) (told : Told source.left source'.left text) → length text ≤ 1048577
+pub answered-read : (command : Command) (text : List ℕ) (source source' : Inflow) (sink sink' : Outflow) (ran : Option WorldState) (status : Status) (told : Told 1048576 source.left source'.left text)
     → Written (due_of command ran (read text)) sink sink' status → HandsBack status (due_of command ran (read text)).status (LeavesOf command (read text)) ran
     → Answered (Some command) told.bytes source source' sink sink' ran status
-answered-read command text source source' sink sink' ran status told short written handed = record {
-  allowed = subst (λ r. MayAnswer status (due_of command ran r).status) (sym told.same) written.allowed;
+answered-read command text source source' sink sink' ran status told written handed = let same = sym (same-read told.bytes text told.alike) in record {
+  allowed = subst (λ r. MayAnswer status (due_of command ran r).status) same written.allowed;
   read_fault = λ is. absurd (written.no_read is);
   write_fault = λ is. (subst (λ s. Stands s sink sink' (due_of command ran (read text)).text) is written.text).rose;
-  text = subst (λ r. Stands status sink sink' (due_of command ran r).text) (sym told.same) written.text;
-  rest = leaves command ran status text source source' told short written.allowed;
+  text = subst (λ r. Stands status sink sink' (due_of command ran r).text) same written.text;
+  rest = leaves 1048576 (due_of command ran (read text)).status status text source source' told (done-short command ran text) written.allowed;
   untouched = λ is. absurd (cc);
-  world = subst (λ r. HandsBack status (due_of command ran r).status (LeavesOf command r) ran) (sym told.same) handed;
+  world = subst (λ r. HandsBack status (due_of command ran r).status (LeavesOf command r) ran) same handed;
 }
 
 compiled-owed : (command : Command) (o : Outline) (inputs : Lists) (ran : Option WorldState) (r : Option Excessive) → (due_compiled command o inputs ran r).status ≢ Usage

@@ -1,6 +1,6 @@
 -- What was read decides what is owed for all that the source has.
 use Rattle.std.proofs.Common.{◌≡◌, ℕ, ◌+◌, ◌≤◌, ◌<◌, List, [], ◌++◌, length, drop, Option, Some, None, Err, refl, sym, ◌∙◌, ap, arith, ◌⊎◌, inl, inr}
-use Rattle.std.proofs.lemmas.Bool.{lt-ltb}
+use Rattle.std.proofs.lemmas.Bool.{cases_lt, lt-ltb}
 use Rattle.std.proofs.lemmas.List.{append-nil, length-append}
 use Rattle.std.proofs.Math.ListN.{drop_of_length-le}
 use Rattle.std.proofs.Math.Nat.{eq-or-lt_of_le}
@@ -8,6 +8,7 @@ use Rattle.std.proofs.Math.Seq.{drop-append_seam}
 use Rattle.port_io.specs.Ends.{GivesFront, IsAtEnd}
 use Rattle.coll_lang.specs.declared.fault.Refusal.TheVariants.{TooLong}
 use Rattle.coll_lang.specs.Language.{read}
+use Rattle.order_lines.specs.Check.{read_check}
 use Rattle.portals_top.specs.Answered.{IsTold}
 
 -- one byte too many is enough
@@ -15,21 +16,34 @@ pub read-long : (text : List ℕ) → 1048576 < length text → read text ≡ Er
 unfolding read
 read-long text long = rw (lt-ltb 1048576 (length text) long) refl
 
--- what isn't refused wasn't too long
-pub short-read : (text : List ℕ) → (read text ≡ Err (0, TooLong) → ⊥) → length text ≤ 1048577 → length text ≤ 1048576
-short-read text other short = at_most (eq-or-lt_of_le short)
-  where
-    at_most : (length text ≡ 1048577) ⊎ (length text < 1048577) → length text ≤ 1048576
-    at_most (inl long) = absurd (other (read-long text (omega arith)))
-    at_most (inr less) = omega arith
+pub check-long : (text : List ℕ) → 16777216 < length text → read_check text ≡ Err (0, TooLong)
+unfolding read_check
+check-long text long = rw (lt-ltb 16777216 (length text) long) refl
+
+-- a text that isn't too long
+pub short-text : (longest : ℕ) (text : List ℕ) → (longest < length text → ⊥) → length text ≤ longest
+short-text longest text few = elim (cases_lt longest (length text)) [ inl long ↦ absurd (few long) | inr short ↦ short ]
+
+-- two texts that are one, or both too long
+abbrev pub AreAlike : ℕ → List ℕ → List ℕ → Type 0
+AreAlike longest xs ys = (xs ≡ ys) ⊎ ((longest < length xs) × (longest < length ys))
+
+pub same-read : (xs ys : List ℕ) → AreAlike 1048576 xs ys → read xs ≡ read ys
+same-read xs ys (inl same) = ap read same
+same-read xs ys (inr long) = read-long xs long.0 ∙ sym (read-long ys long.1)
+
+pub same-check : (xs ys : List ℕ) → AreAlike 16777216 xs ys → read_check xs ≡ read_check ys
+same-check xs ys (inl same) = ap read_check same
+same-check xs ys (inr long) = check-long xs long.0 ∙ sym (check-long ys long.1)
 
 -- a text and what follows it, which is nothing unless the text is too long already
-pub read-more : (text more : List ℕ) → length text ≤ 1048577 → (length text ≤ 1048576 → more ≡ []) → read (text ++ more) ≡ read text
-read-more text more short whole = same (eq-or-lt_of_le short)
+alike-more : (longest : ℕ) (all text more : List ℕ) → all ≡ text ++ more → length text ≤ longest + 1 → (length text ≤ longest → more ≡ [])
+    → AreAlike longest all text
+alike-more longest all text more is short whole = at (eq-or-lt_of_le short)
   where
-    same : (length text ≡ 1048577) ⊎ (length text < 1048577) → read (text ++ more) ≡ read text
-    same (inl long) = read-long (text ++ more) (omega (arith, length-append text more)) ∙ sym (read-long text (omega arith))
-    same (inr less) = ap read (ap (λ xs. text ++ xs) (whole (omega arith)) ∙ append-nil text)
+    at : (length text ≡ longest + 1) ⊎ (length text < longest + 1) → AreAlike longest all text
+    at (inl full) = inr (let n = ap length is in let m = length-append text more in (omega (arith, full, n, m), omega (arith, full)))
+    at (inr less) = inl (is ∙ ap (λ xs. text ++ xs) (whole (omega (arith, less))) ∙ append-nil text)
 
 -- past a text of n + 1 elements, or of all there are
 pub drop-past : (n : ℕ) (text rest : List ℕ) → length text ≤ n + 1 → (length text ≤ n → rest ≡ []) → rest ≡ drop (n + 1) (text ++ rest)
@@ -42,22 +56,23 @@ drop-past n text rest short whole = past (eq-or-lt_of_le short)
         none ∙ sym (drop_of_length-le (text ++ rest) (omega (arith, length-append text rest, ap length none)))
 
 -- The bytes of the source, as far as they count: those that it tells, or else those that were read.
-pub record Told (left left' : Option (List ℕ)) (text : List ℕ) : Type 0 where
+pub record Told (longest : ℕ) (left left' : Option (List ℕ)) (text : List ℕ) : Type 0 where
   pub bytes : List ℕ
   pub told : IsTold left bytes
-  pub same : read bytes ≡ read text
-  pub rest : IsTold left' (drop 1048577 bytes)
-  pub nothing : length text ≤ 1048576 → IsTold left' []
+  pub alike : AreAlike longest bytes text
+  pub rest : IsTold left' (drop (longest + 1) bytes)
+  pub nothing : length text ≤ longest → IsTold left' []
 
-pub told-read : (left left' : Option (List ℕ)) (text : List ℕ) → GivesFront left left' text → length text ≤ 1048577 → (length text ≤ 1048576 → IsAtEnd left') → Told left left' text
-told-read None None text front short whole = record { bytes = text; told = tt; same = refl; rest = tt; nothing = λ h. tt }
-told-read None (Some rest) text front short whole = absurd (cc)
-told-read (Some all) None text front short whole = absurd front
-told-read (Some all) (Some rest) text front short whole = record {
+pub told-read : (longest : ℕ) (left left' : Option (List ℕ)) (text : List ℕ) → GivesFront left left' text → length text ≤ longest + 1
+    → (length text ≤ longest → IsAtEnd left') → Told longest left left' text
+told-read longest None None text front short whole = record { bytes = text; told = tt; alike = inl refl; rest = tt; nothing = λ h. tt }
+told-read longest None (Some rest) text front short whole = absurd (cc)
+told-read longest (Some all) None text front short whole = absurd front
+told-read longest (Some all) (Some rest) text front short whole = record {
   bytes = all;
   told = refl;
-  same = ap read front ∙ read-more text rest short whole;
-  rest = drop-past 1048576 text rest short whole ∙ ap (drop 1048577) (sym front);
+  alike = alike-more longest all text rest front short whole;
+  rest = drop-past longest text rest short whole ∙ ap (drop (longest + 1)) (sym front);
   nothing = whole;
 }
 

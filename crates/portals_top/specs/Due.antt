@@ -21,26 +21,32 @@ use Rattle.portals_top.specs.declared.status.Status.{Status}
 use Rattle.portals_top.specs.declared.status.Status.TheVariants.{Done, Usage, Refused, ReadFault, WriteFault, NoMemory}
 use Rattle.portals_top.specs.declared.words.Command.{Command}
 use Rattle.portals_top.specs.declared.words.Command.TheVariants.{Once, Sim, Plan}
+use Rattle.portals_top.specs.declared.words.Request.{Request}
+use Rattle.portals_top.specs.declared.words.Request.TheVariants.{Do, Check}
 
 -- a number below 2^64, in its one spelling
 abbrev pub seed_of : List ℕ → Option ℕ
 seed_of word = number_between 0 18446744073709551615 word
 
-abbrev pub one_word : List ℕ → Option Command
-one_word word = if bytes_eq word (codes "once") then Some Once else if bytes_eq word (codes "plan") then Some Plan else None
+abbrev pub one_word : List ℕ → Option Request
+one_word word =
+    if bytes_eq word (codes "once") then Some (Do Once)
+    else if bytes_eq word (codes "plan") then Some (Do Plan)
+    else if bytes_eq word (codes "check") then Some Check
+    else None
 
-abbrev pub two_words : List ℕ → List ℕ → Option Command
-two_words word number = if bytes_eq word (codes "sim") then option_map Sim (seed_of number) else None
+abbrev pub two_words : List ℕ → List ℕ → Option Request
+two_words word number = if bytes_eq word (codes "sim") then option_map (λ x. Do (Sim x)) (seed_of number) else None
 
--- the command that the words are: `once`, `sim X` or `plan`
-abbrev pub command : List (List ℕ) → Option Command
-command [] = None
-command (word ∷ []) = one_word word
-command (word ∷ number ∷ []) = two_words word number
-command (word ∷ number ∷ other ∷ words) = None
+-- what the words ask for: `once`, `sim X`, `plan` or `check`
+abbrev pub request : List (List ℕ) → Option Request
+request [] = None
+request (word ∷ []) = one_word word
+request (word ∷ number ∷ []) = two_words word number
+request (word ∷ number ∷ other ∷ words) = None
 
 abbrev pub usage_line : List ℕ
-usage_line = line (codes "usage: portals_run once | sim X | plan" ∷ [])
+usage_line = line (codes "usage: portals_run once | sim X | plan | check" ∷ [])
 
 -- the status that is owed, which is Done, Usage or Refused, and the text
 pub record Due : Type 0 where

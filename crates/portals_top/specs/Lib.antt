@@ -1,4 +1,5 @@
 pub mod Answered
+pub mod Checked
 pub mod Due
 pub mod Headline
 pub mod ReadText

@@ -1,6 +1,7 @@
 //! The whole program over any source and any sink: words in, a status out.
 #![tactic(auto)]
 
+mod checking;
 mod drawing;
 mod headline;
 #[cfg(test)]
@@ -20,4 +21,4 @@ pub use headline::every_interleaving_is_meant;
 pub use ran::Ran;
 pub use status::Status;
 pub use top::portals_main;
-pub use words::Command;
+pub use words::{Command, Request};

@@ -1,15 +1,12 @@
 //! Reading a text from a source.
 
-ghost use Rattle.std.specs.Prelude.{◌≡◌, ◌≤◌, ◌<◌, ◌+◌, ◌++◌, IfOk, IfErr, length, take, vec_len};
+ghost use Rattle.std.specs.Prelude.{◌≡◌, ◌≤◌, ◌<◌, ◌+◌, ◌^◌, ◌++◌, IfOk, IfErr, length, take, vec_len};
 ghost use Rattle.port_io.specs.Counts.{Rose};
 ghost use Rattle.port_io.specs.Ends.{GivesFront, IsAtEnd};
 ghost use Rattle.portals_top.specs.ReadText.{IsReadText};
 
 use port_io::Source;
 use std::alloc::Global;
-
-/// How many bytes the longest description has.
-const LONGEST: usize = 1_048_576;
 
 /// How many bytes are read at once, at most.
 const PIECE: usize = 65_536;
@@ -50,17 +47,22 @@ fn read_piece<S: Source>(
     }
 }
 
-/// Reads until the source's end, or until it gave one byte more than the longest description has.
-pub(crate) fn read_text<S: Source>(alloc: Global, source: &mut S) -> Result<Vec<u8>, ReadError>
-    ensures text { IfOk result (λ text. IsReadText (S.inflow source.old) (S.inflow source.new) text.items) }
+/// Reads until the source's end, or until it gave one byte more than the longest text has.
+pub(crate) fn read_text<S: Source>(
+    alloc: Global,
+    longest: usize,
+    source: &mut S,
+) -> Result<Vec<u8>, ReadError>
+    requires { longest < 2 ^ 32 }
+    ensures text { IfOk result (λ text. IsReadText longest (S.inflow source.old) (S.inflow source.new) text.items) }
     ensures failed { IfErr result (λ e. e ≡ ReadError.Failed → Rose (S.inflow source.old).faults (S.inflow source.new).faults) }
 {
     let mut text = Vec::new(alloc);
     let Ok(mut piece) = vec![in alloc; 0u8; PIECE] else {
         return Err(ReadError::NoMemory);
     };
-    while text.len() <= LONGEST {
-        let most = PIECE.min(LONGEST + 1 - text.len());
+    while text.len() <= longest {
+        let most = PIECE.min(longest + 1 - text.len());
         match read_piece(source, &mut piece, most, &mut text) {
             Ok(0) => return Ok(text),
             Ok(_) => {}

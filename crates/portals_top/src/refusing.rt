@@ -1,16 +1,22 @@
 //! Why a text is refused.
 
-ghost use Rattle.std.specs.Prelude.{◌≡◌, ◌<◌, [], length};
+ghost use Rattle.std.specs.Prelude.{◌≡◌, ◌<◌, [], Err, None, Option, length};
+ghost use Rattle.coll_shape.specs.Meaning.{Lists};
+ghost use Rattle.shape_plans.specs.Footprint.{refusal};
+ghost use Rattle.schedule_compiler.specs.Answers.{Compiles};
+ghost use Rattle.worlds.specs.World.{WorldState};
 ghost use Rattle.run_text.specs.Refused.{refusal_line};
 ghost use Rattle.run_text.specs.Putting.{EndsWith};
-ghost use Rattle.portals_top.specs.Due.{refused, step_line};
+ghost use Rattle.portals_top.specs.Due.{due_compiled, refused, step_line};
 ghost use Rattle.portals_top.specs.Written.{Written};
 
 use crate::status::Status;
+use crate::words::Command;
 use coll_lang::Refusal;
 use coll_shape::Shape;
 use port_io::{Failed, Sink};
 use run_text::{Pieces, refusal_line};
+use schedule_compiler::CompileFault;
 use std::alloc::Global;
 
 /// The line on which a step stands, counted from 1.
@@ -64,4 +70,24 @@ pub(crate) fn refuse_step<K: Sink>(
     ensures { Written (refused (step_line shape.now step) name) (K.outflow sink.old) (K.outflow sink.new) result }
 {
     refuse(alloc, sink, step_line(shape, step), name)
+}
+
+/// Refuses a description whose plan is too large, unless there was no memory.
+pub(crate) fn refuse_plan<K: Sink>(
+    alloc: Global,
+    sink: &mut K,
+    shape: &Shape,
+    fault: CompileFault,
+) -> Status
+    requires { Compiles shape.now (Err fault) }
+    // Whatever the command is: nothing is run.
+    ensures written { (c : Command) (inputs : Lists) (ran : Option WorldState) →
+        Written (due_compiled c shape.now inputs ran (refusal shape.now)) (K.outflow sink.old) (K.outflow sink.new) result }
+    ensures memory { refusal shape.now ≡ None → result ≡ Status.NoMemory }
+{
+    match fault {
+        CompileFault::TooMany { step } => refuse_step(alloc, sink, shape, step, Refusal::TooMany),
+        CompileFault::TooLarge { step } => refuse_step(alloc, sink, shape, step, Refusal::TooLarge),
+        CompileFault::NoMemory => Status::NoMemory,
+    }
 }

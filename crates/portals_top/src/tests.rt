@@ -58,7 +58,7 @@ fn gives(
     assert_eq!(rt; answer, status, "at {text}");
     assert_eq!(rt; sink.finishes(), 1, "at {text}");
     let runs = match command {
-        [word] => *word != "plan",
+        [word] => *word == "once",
         _ => true,
     };
     assert_eq!(rt;
@@ -402,19 +402,121 @@ fn a_plan_that_is_too_large_is_refused_in_the_line_of_its_step(
 }
 
 #[test]
-fn a_text_past_the_limit_is_read_no_further(rt: HostRuntime) -> Result<(), Fail> {
+fn check_writes_the_verdict_on_orders(rt: HostRuntime) -> Result<(), Fail> {
     let alloc = rt.alloc();
     let mut ran = Ran::new();
-    let long = vec![in alloc; b'x'; 1_048_580]?;
+    for (text, status, output) in [
+        (
+            "coll 1\nranks 2\nbarrier\nend\norder 0 s f0 f1 f2 f3 f4 r1 f5\norder 1 s f0 f1 f2 f3 f4 r0 f5\n",
+            Status::Done,
+            "holds\n",
+        ),
+        (
+            "coll 1\nranks 2\nbarrier\nend\norder 0 s f0 f1 f2 f3 f4 f5 r1\norder 1 s f0 f1 f2 f3 f4 r0 f5\n",
+            Status::Refused,
+            "fails 0 7 NotReady\n",
+        ),
+        (
+            "coll 1\nranks 1\nbarrier\nend\norder 0 s f0 f1\n",
+            Status::Refused,
+            "fails 0 4 NotAtRest\n",
+        ),
+        (
+            "coll 1\nranks 1\nbarrier\nend\norder 0 s f1 f0 f2\n",
+            Status::Done,
+            "holds\n",
+        ),
+        (
+            "coll 1\nranks 1\nbarrier\nend\norder 0 s s f0 f1 f2\n",
+            Status::Refused,
+            "fails 0 2 StartedTwice\n",
+        ),
+        (
+            "coll 1\nranks 1\nbarrier\nend\norder 0 s r0\n",
+            Status::Refused,
+            "fails 0 2 NotSent\n",
+        ),
+        (
+            "coll 1\nranks 1\nbarrier\nend\norder 0 x\n",
+            Status::Refused,
+            "refused 5 BadOrder\n",
+        ),
+        (
+            "coll 1\nranks 2\nbarrier\nend\norder 0 s\n",
+            Status::Refused,
+            "refused 6 Unended\n",
+        ),
+        (
+            "coll 2\nranks 1\nelect e\nend\norder 0 x\n",
+            Status::Refused,
+            "refused 0 OneThread\n",
+        ),
+    ] {
+        gives(&rt, alloc, &mut ran, &["check"], text, status, output)?;
+    }
+    Ok(())
+}
+
+/// The results of the three steps.
+const THREE_RESULTS: &[u8] = b"c 0 10\nc 1 20\nc 2 30\nc 3 40\nrest\n";
+
+/// The three steps, and behind them the orders that a seed chooses.
+fn with_chosen_orders(rt: &impl Abort, alloc: Global, seed: &str) -> Result<Vec<u8>, Fail> {
+    let mut source = source_of(alloc, THREE_STEPS)?;
+    let mut sink = SureSink::with_room(alloc, 4096)?;
+    let mut ran = Ran::new();
+    let words = words(alloc, &["sim", seed])?;
+    let answer = portals_main(alloc, words.as_slice(), &mut source, &mut sink, &mut ran);
+    assert_eq!(rt; answer, Status::Done);
+    let written = sink.as_slice();
+    assert!(rt; written.len() > THREE_RESULTS.len());
+    let mut text = THREE_STEPS.as_bytes().to_vec(alloc)?;
+    text.extend_from_slice(&written[THREE_RESULTS.len()..])?;
+    Ok(text)
+}
+
+#[test]
+fn the_orders_that_seeds_choose_hold(rt: HostRuntime) -> Result<(), Fail> {
+    let alloc = rt.alloc();
+    for seed in 1..51u32 {
+        let number = format!(in alloc; "{seed}")?;
+        let text = with_chosen_orders(&rt, alloc, number.as_str())?;
+        let mut source = SureSource::new(Bytes::from_vec(text));
+        let mut sink = SureSink::with_room(alloc, 64)?;
+        let mut ran = Ran::new();
+        let words = words(alloc, &["check"])?;
+        let answer = portals_main(alloc, words.as_slice(), &mut source, &mut sink, &mut ran);
+        assert_eq!(rt; sink.as_slice(), b"holds\n".as_slice());
+        assert_eq!(rt; answer, Status::Done);
+    }
+    Ok(())
+}
+
+/// Runs a command on a text of so many bytes, which is three too many to be read whole.
+fn reads_no_further(
+    rt: &impl Abort,
+    alloc: Global,
+    command: &str,
+    count: usize,
+) -> Result<(), Fail> {
+    let mut ran = Ran::new();
+    let long = vec![in alloc; b'x'; count]?;
     let mut source = SureSource::new(Bytes::from_vec(long));
     let mut sink = SureSink::with_room(alloc, 64)?;
-    let words = words(alloc, &["plan"])?;
+    let words = words(alloc, &[command])?;
     let answer = portals_main(alloc, words.as_slice(), &mut source, &mut sink, &mut ran);
     assert_eq!(rt; answer, Status::Refused);
     assert_eq!(rt; sink.as_slice(), b"refused 0 TooLong\n".as_slice());
     let mut left = [0u8; 8];
     assert_eq!(rt; source.read(&mut left), Ok(3));
     Ok(())
+}
+
+#[test]
+fn a_text_past_the_limit_is_read_no_further(rt: HostRuntime) -> Result<(), Fail> {
+    let alloc = rt.alloc();
+    reads_no_further(&rt, alloc, "plan", 1_048_580)?;
+    reads_no_further(&rt, alloc, "check", 16_777_220)
 }
 
 /// Runs other words, and looks at what is left in the source.
@@ -427,7 +529,7 @@ fn usage_at(rt: &impl Abort, alloc: Global, list: &[&str]) -> Result<(), Fail> {
     assert_eq!(rt; answer, Status::Usage);
     assert_eq!(rt;
         sink.as_slice(),
-        b"usage: portals_run once | sim X | plan\n".as_slice()
+        b"usage: portals_run once | sim X | plan | check\n".as_slice()
     );
     assert_eq!(rt; sink.finishes(), 1);
     let mut left = [0u8; 4];
@@ -445,6 +547,7 @@ fn other_words_leave_the_source_unread(rt: HostRuntime) -> Result<(), Fail> {
     usage_at(&rt, alloc, &["sim", "01"])?;
     usage_at(&rt, alloc, &["sim", "18446744073709551616"])?;
     usage_at(&rt, alloc, &["sim", "1", "2"])?;
+    usage_at(&rt, alloc, &["check", "1"])?;
     usage_at(&rt, alloc, &["run", "2"])
 }
 

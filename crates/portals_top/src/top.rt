@@ -4,28 +4,35 @@ ghost use Rattle.std.specs.Prelude.{◌≡◌, ◌≢◌, List, ℕ, Option, Non
 ghost use Rattle.coll_shape.specs.Meaning.{AreInputs, Lists};
 ghost use Rattle.coll_lang.specs.Language.{read};
 ghost use Rattle.shape_plans.specs.Footprint.{refusal};
-ghost use Rattle.schedule_compiler.specs.Answers.{Compiles};
 ghost use Rattle.worlds.specs.World.{WorldState};
 ghost use Rattle.portals_top.specs.Answered.{Answered, HandsBack, IsTold, LeavesOf, LeavesWorld};
-ghost use Rattle.portals_top.specs.Due.{command, done, done_text, due, due_compiled, due_described, due_of};
+ghost use Rattle.portals_top.specs.Checked.{AnswersTo, Checked};
+ghost use Rattle.portals_top.specs.Due.{done, done_text, due, due_compiled, due_described, due_of, request};
 ghost use Rattle.portals_top.specs.Written.{Written};
 
+use crate::checking::judged_text;
 use crate::planning::plan;
 use crate::ran::Ran;
 use crate::reading::{ReadError, read_text};
-use crate::refusing::{refuse, refuse_step};
+use crate::refusing::{refuse, refuse_plan};
 use crate::running::{once, sim};
 use crate::status::Status;
-use crate::words::{Command, command_in};
+use crate::words::{Command, Request, request_in};
 use coll_lang::{Description, ParseFault, Refusal, parse};
 use coll_shape::{Inputs, Shape};
 use plan_done::counted_shape;
 use port_io::{Sink, Source};
 use run_text::write_short;
-use schedule_compiler::{CompileFault, Schedule, compile};
+use schedule_compiler::{Schedule, compile};
 use std::alloc::Global;
 
-const USAGE: &[u8] = b"usage: portals_run once | sim X | plan\n";
+/// How many bytes the longest description has.
+const LONGEST: usize = 1_048_576;
+
+/// How many bytes the longest description with orders has.
+const LONGEST_CHECKED: usize = 16_777_216;
+
+const USAGE: &[u8] = b"usage: portals_run once | sim X | plan | check\n";
 
 /// Writes the usage line.
 fn usage<K: Sink>(sink: &mut K) -> Status
@@ -56,21 +63,6 @@ fn run<K: Sink>(
         Command::Once => once(alloc, sink, schedule, inputs, ran),
         Command::Sim { seed } => sim(alloc, sink, seed, schedule, inputs, ran),
         Command::Plan => unreachable!(),
-    }
-}
-
-/// Refuses a description whose plan is too large, unless there was no memory.
-fn refuse_plan<K: Sink>(alloc: Global, sink: &mut K, shape: &Shape, fault: CompileFault) -> Status
-    requires { Compiles shape.now (Err fault) }
-    // Whatever the command is: nothing is run.
-    ensures written { (c : Command) (inputs : Lists) (ran : Option WorldState) →
-        Written (due_compiled c shape.now inputs ran (refusal shape.now)) (K.outflow sink.old) (K.outflow sink.new) result }
-    ensures memory { refusal shape.now ≡ None → result ≡ Status.NoMemory }
-{
-    match fault {
-        CompileFault::TooMany { step } => refuse_step(alloc, sink, shape, step, Refusal::TooMany),
-        CompileFault::TooLarge { step } => refuse_step(alloc, sink, shape, step, Refusal::TooLarge),
-        CompileFault::NoMemory => Status::NoMemory,
     }
 }
 
@@ -174,8 +166,20 @@ fn read_and_answer<S: Source, K: Sink>(
     ensures { (bytes : List ℕ) × IsTold (S.inflow source.old).left bytes
         × Answered (Some command) bytes (S.inflow source.old) (S.inflow source.new) (K.outflow sink.old) (K.outflow sink.new) ran.new.world result }
 {
-    match read_text(alloc, source) {
+    match read_text(alloc, LONGEST, source) {
         Ok(text) => answer(alloc, command, text.as_slice(), sink, ran),
+        Err(ReadError::Failed) => Status::ReadFault,
+        Err(ReadError::NoMemory) => Status::NoMemory,
+    }
+}
+
+/// Reads a description with orders and answers it. No world is left.
+fn read_and_check<S: Source, K: Sink>(alloc: Global, source: &mut S, sink: &mut K) -> Status
+    ensures { (bytes : List ℕ) × IsTold (S.inflow source.old).left bytes
+        × Checked bytes (S.inflow source.old) (S.inflow source.new) (K.outflow sink.old) (K.outflow sink.new) None result }
+{
+    match read_text(alloc, LONGEST_CHECKED, source) {
+        Ok(text) => judged_text(alloc, text.as_slice(), sink),
         Err(ReadError::Failed) => Status::ReadFault,
         Err(ReadError::NoMemory) => Status::NoMemory,
     }
@@ -185,7 +189,8 @@ fn read_and_answer<S: Source, K: Sink>(
 /// how it ended. The words are those of the command line without the program's name.
 ///
 /// `once` reads a description and runs it on one thread. `sim X` runs it in the order that the words of a generator with the
-/// seed X choose, and writes that order too. `plan` writes the plan that the description is compiled to; nothing is run. All
+/// seed X choose, and writes that order too. `plan` writes the plan that the description is compiled to; nothing is run.
+/// `check` reads a description and behind it, for each rank, the line of its local steps, and writes the verdict on these. All
 /// other words get the usage line, and leave the source unread.
 ///
 /// The world that ran is handed back in `ran`, where a result was owed and the run was made; after every other answer it is
@@ -199,11 +204,12 @@ pub fn portals_main<S: Source, K: Sink>(
     ran: &mut Ran,
 ) -> Status
     ensures { (bytes : List ℕ) × IsTold (S.inflow source.old).left bytes
-        × Answered (command (map string_bytes words.now)) bytes (S.inflow source.old) (S.inflow source.new) (K.outflow sink.old) (K.outflow sink.new) ran.new.world result }
+        × AnswersTo (request (map string_bytes words.now)) bytes (S.inflow source.old) (S.inflow source.new) (K.outflow sink.old) (K.outflow sink.new) ran.new.world result }
 {
     ran.world = None;
-    match command_in(words) {
-        Some(command) => read_and_answer(alloc, command, source, sink, ran),
+    match request_in(words) {
+        Some(Request::Do(command)) => read_and_answer(alloc, command, source, sink, ran),
+        Some(Request::Check) => read_and_check(alloc, source, sink),
         None => usage(sink),
     }
 }

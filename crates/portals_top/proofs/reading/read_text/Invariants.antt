@@ -1,14 +1,14 @@
-use Rattle.std.proofs.Common.{◌≡◌, ◌≤◌, ◌-◌, vec_len}
+use Rattle.std.proofs.Common.{◌≡◌, ◌+◌, ◌≤◌, ◌-◌, vec_len}
 use Rattle.port_io.specs.Ends.{GivesFront}
 use Rattle.portals_top.proofs.reading.read_text.Given as goal
 
 abbrev pub invariant-loop-text : goal.invariant-loop-text
 invariant-loop-text g l = record {
   front : GivesFront (g.S.Source.inflow l.fn.source).left (g.S.Source.inflow l.source).left l.text.items;
-  short : vec_len l.text ≤ 1048577;
+  short : vec_len l.text ≤ l.longest + 1;
   room : vec_len l.piece ≡ 65536;
   faults : (g.S.Source.inflow l.fn.source).faults ≤ (g.S.Source.inflow l.source).faults;
 }
 
 abbrev pub decreases-loop-text : goal.decreases-loop-text
-decreases-loop-text g l = 1048577 - vec_len l.text
+decreases-loop-text g l = l.longest + 1 - vec_len l.text

@@ -5,7 +5,7 @@ use Rattle.shape_plans.specs.Footprint.Excess.{Links, Bytes}
 use Rattle.schedule_compiler.specs.Answers.{Compiles}
 use Rattle.portals_top.proofs.Answering.{excess-owed, memory-owed}
 use Rattle.portals_top.proofs.Steps.{at-step}
-use Rattle.portals_top.proofs.top.refuse_plan.Goals as goal
+use Rattle.portals_top.proofs.refusing.refuse_plan.Goals as goal
 
 pub refuse_step-requires : goal.refuse_step-requires
 refuse_step-requires g c = at-step c.args.shape.now c.in-TooMany.step Links (rw c.in-TooMany.is at c.requires)

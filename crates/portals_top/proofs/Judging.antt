@@ -1,0 +1,175 @@
+-- What a check finds and writes, and what then holds for the bytes of the source.
+use Rattle.std.proofs.Common.{◌≡◌, ◌≢◌, ℕ, ◌≤◌, List, [], length, Option, Some, None, Result, Ok, Err, refl, sym, subst}
+use Rattle.port_io.specs.Counts.{Rose}
+use Rattle.port_io.specs.Ends.{Inflow, Outflow}
+use Rattle.ptl_types.specs.declared.steps.LocalStep.{LocalStep}
+use Rattle.coll_shape.specs.Outline.{Outline}
+use Rattle.coll_shape.specs.Meaning.{Lists}
+use Rattle.coll_lang.specs.declared.fault.Refusal.{Refusal}
+use Rattle.coll_lang.specs.Program.{Program}
+use Rattle.order_lines.specs.Check.{read_check}
+use Rattle.plan_orders.specs.declared.Verdict.{Verdict}
+use Rattle.plan_orders.specs.declared.Verdict.TheVariants.{Holds, Fails}
+use Rattle.shape_plans.specs.Footprint.{Refused as Excessive, refusal}
+use Rattle.run_text.specs.Putting.{Ends, FailsWithin}
+use Rattle.worlds.specs.World.{WorldState}
+use Rattle.portals_top.specs.declared.status.Status.{Status}
+use Rattle.portals_top.specs.declared.status.Status.TheVariants.{Done, Usage, Refused, ReadFault, WriteFault, NoMemory}
+use Rattle.portals_top.specs.declared.words.Command.{Command}
+use Rattle.portals_top.specs.Answered.{IsTold, MayAnswer, Stands}
+use Rattle.portals_top.specs.Checked.{Checked, FindsFor, FindsIn, Found, IsVerdictOn, Judges, due_checked, due_judged, due_verdict}
+use Rattle.portals_top.specs.Due.{due_compiled}
+use Rattle.portals_top.specs.Written.{Written}
+use Rattle.portals_top.proofs.Answering.{leaves}
+use Rattle.portals_top.proofs.Told.{Told, check-long, same-check, short-text, told-any}
+
+-- ---- a verdict
+written-verdict : (v : Verdict) (status : Status) (sink sink' : Outflow) → status ≡ (due_verdict (Some v)).status
+    → Ends sink sink' (due_verdict (Some v)).text → Written (due_verdict (Some v)) sink sink' status
+written-verdict Holds status sink sink' is ends =
+    subst (λ s. Written (due_verdict (Some Holds)) sink sink' s) (sym is) (record { allowed = refl; no_read = λ e. absurd (cc); text = ends })
+written-verdict (Fails r place cause) status sink sink' is ends =
+    subst (λ s. Written (due_verdict (Some (Fails r place cause))) sink sink' s) (sym is)
+    (record { allowed = refl; no_read = λ e. absurd (cc); text = ends })
+
+found-verdict : (finds : Option Verdict → Type 0) (v : Verdict) (status : Status) → status ≡ (due_verdict (Some v)).status → finds (Some v)
+    → Found status finds (Some v)
+found-verdict finds Holds status is on = subst (λ s. Found s finds (Some Holds)) (sym is) on
+found-verdict finds (Fails r place cause) status is on = subst (λ s. Found s finds (Some (Fails r place cause))) (sym is) on
+
+pub judged-written : (o : Outline) (inputs : Lists) (orders : List (List LocalStep)) (v : Verdict) (status : Status) (sink sink' : Outflow)
+    → IsVerdictOn o inputs orders v → status ≡ (due_verdict (Some v)).status → Ends sink sink' (due_verdict (Some v)).text
+    → Judges (λ found. due_verdict found) (λ found. FindsFor o inputs orders None found) sink sink' status
+judged-written o inputs orders v status sink sink' on is ends =
+    (Some v, written-verdict v status sink sink' is ends, found-verdict (λ found. FindsFor o inputs orders None found) v status is on)
+
+pub judged-failed : (o : Outline) (inputs : Lists) (orders : List (List LocalStep)) (v : Verdict) (sink sink' : Outflow)
+    → IsVerdictOn o inputs orders v → FailsWithin sink sink' (due_verdict (Some v)).text
+    → Judges (λ found. due_verdict found) (λ found. FindsFor o inputs orders None found) sink sink' WriteFault
+judged-failed o inputs orders v sink sink' on fails = (Some v, record { allowed = tt; no_read = λ e. absurd (cc); text = fails }, on)
+
+pub judged-no_memory : (o : Outline) (inputs : Lists) (orders : List (List LocalStep)) (sink : Outflow)
+    → Judges (λ found. due_verdict found) (λ found. FindsFor o inputs orders None found) sink sink NoMemory
+judged-no_memory o inputs orders sink = (None, record { allowed = λ e. absurd (cc); no_read = λ e. absurd (cc); text = refl }, refl)
+
+-- ---- nothing was found
+found-none : (finds : Option Verdict → Type 0) (status : Status) → finds None → Found status finds None
+found-none finds Done none = none
+found-none finds Usage none = refl
+found-none finds Refused none = none
+found-none finds ReadFault none = refl
+found-none finds WriteFault none = none
+found-none finds NoMemory none = refl
+
+-- ---- a shape that was compiled, and one that wasn't
+pub judged-compiled : (o s : Outline) (inputs : Lists) (orders : List (List LocalStep)) (r : Option Excessive) (sink sink' : Outflow)
+    (status : Status) → r ≡ None → s ≡ o
+    → Judges (λ found. due_verdict found) (λ found. FindsFor s inputs orders None found) sink sink' status
+    → Judges (λ found. due_judged o found r) (λ found. FindsFor o inputs orders r found) sink sink' status
+judged-compiled o s inputs orders r sink sink' status none same j =
+    subst (λ x. Judges (λ found. due_judged o found x) (λ found. FindsFor o inputs orders x found) sink sink' status) (sym none)
+    (subst (λ x. Judges (λ found. due_verdict found) (λ found. FindsFor x inputs orders None found) sink sink' status) same j)
+
+pub judged-refused : (o : Outline) (inputs : Lists) (orders : List (List LocalStep)) (r : Option Excessive) (command : Command) (given : Lists)
+    (ran : Option WorldState) (sink sink' : Outflow) (status : Status) → Written (due_compiled command o given ran r) sink sink' status
+    → (r ≡ None → status ≡ NoMemory)
+    → Judges (λ found. due_judged o found r) (λ found. FindsFor o inputs orders r found) sink sink' status
+judged-refused o inputs orders None command given ran sink sink' status written memory =
+    let is = memory refl in
+    let kept = subst (λ s. Stands s sink sink' (due_compiled command o given ran None).text) is written.text in
+    subst (λ s. Judges (λ found. due_judged o found None) (λ found. FindsFor o inputs orders None found) sink sink' s) (sym is)
+    (None, record { allowed = λ e. absurd (cc); no_read = λ e. absurd (cc); text = kept }, refl)
+judged-refused o inputs orders (Some r) command given ran sink sink' status written memory =
+    (None, written, found-none (λ found. FindsFor o inputs orders (Some r) found) status refl)
+
+-- ---- a text
+pub judged-text : (text : List ℕ) (d : Program) (orders : List (List LocalStep)) (sink sink' : Outflow) (status : Status)
+    → read_check text ≡ Ok (d, orders)
+    → Judges (λ found. due_judged d.shape found (refusal d.shape)) (λ found. FindsFor d.shape d.inputs orders (refusal d.shape) found) sink sink' status
+    → Judges (λ found. due_checked found (read_check text)) (λ found. FindsIn (read_check text) found) sink sink' status
+judged-text text d orders sink sink' status is j =
+    subst (λ r. Judges (λ found. due_checked found r) (λ found. FindsIn r found) sink sink' status) (sym is) j
+
+pub refused-text : (text : List ℕ) (refusal : ℕ × Refusal) (sink sink' : Outflow) (status : Status) → read_check text ≡ Err refusal
+    → Written (due_checked None (Err refusal)) sink sink' status
+    → Judges (λ found. due_checked found (read_check text)) (λ found. FindsIn (read_check text) found) sink sink' status
+refused-text text refusal sink sink' status is written =
+    subst (λ r. Judges (λ found. due_checked found r) (λ found. FindsIn r found) sink sink' status) (sym is)
+    (None, written, found-none (λ found. FindsIn (Err refusal) found) status refl)
+
+-- no usage line is owed
+verdict-owed : (found : Option Verdict) → (due_verdict found).status ≢ Usage
+verdict-owed None = λ is. absurd (cc)
+verdict-owed (Some Holds) = λ is. absurd (cc)
+verdict-owed (Some (Fails r place cause)) = λ is. absurd (cc)
+
+judged-owed : (o : Outline) (found : Option Verdict) (r : Option Excessive) → (due_judged o found r).status ≢ Usage
+judged-owed o found None = verdict-owed found
+judged-owed o found (Some r) = λ is. absurd (cc)
+
+checked-owed : (found : Option Verdict) (r : Result (Program × List (List LocalStep)) (ℕ × Refusal)) → (due_checked found r).status ≢ Usage
+checked-owed found (Ok both) = judged-owed both.0.shape found (refusal both.0.shape)
+checked-owed found (Err refusal) = λ is. absurd (cc)
+
+pub text-no_memory : (text : List ℕ) (sink : Outflow)
+    → Judges (λ found. due_checked found (read_check text)) (λ found. FindsIn (read_check text) found) sink sink NoMemory
+text-no_memory text sink =
+    (None, record { allowed = checked-owed None (read_check text); no_read = λ e. absurd (cc); text = refl }, refl)
+
+-- ---- the bytes of the source
+check-short : (found : Option Verdict) (text : List ℕ) → (due_checked found (read_check text)).status ≡ Done → length text ≤ 16777216
+check-short found text done =
+    short-text 16777216 text (λ long. let refused : Refused ≡ Done = subst (λ r. (due_checked found r).status ≡ Done) (check-long text long) done in absurd (cc))
+
+pub checked-read : (text : List ℕ) (source source' : Inflow) (sink sink' : Outflow) (status : Status)
+    (told : Told 16777216 source.left source'.left text)
+    → Judges (λ found. due_checked found (read_check text)) (λ found. FindsIn (read_check text) found) sink sink' status
+    → Checked told.bytes source source' sink sink' None status
+checked-read text source source' sink sink' status told j =
+    let same = sym (same-check told.bytes text told.alike) in
+    record {
+      verdict = j.0;
+      found = subst (λ r. Found status (λ found. FindsIn r found) j.0) same j.2;
+      allowed = subst (λ r. MayAnswer status (due_checked j.0 r).status) same j.1.allowed;
+      read_fault = λ is. absurd (j.1.no_read is);
+      write_fault = λ is. (subst (λ s. Stands s sink sink' (due_checked j.0 (read_check text)).text) is j.1.text).rose;
+      text = subst (λ r. Stands status sink sink' (due_checked j.0 r).text) same j.1.text;
+      rest = leaves 16777216 (due_checked j.0 (read_check text)).status status text source source' told (check-short j.0 text) j.1.allowed;
+      world = refl;
+    }
+
+pub checked-failed : (source source' : Inflow) (sink : Outflow) → Rose source.faults source'.faults
+    → (bytes : List ℕ) × IsTold source.left bytes × Checked bytes source source' sink sink None ReadFault
+checked-failed source source' sink rose =
+    let any = told-any source.left in (
+      any.0,
+      any.1,
+      record {
+        verdict = None;
+        found = refl;
+        allowed = checked-owed None (read_check any.0);
+        read_fault = λ is. rose;
+        write_fault = λ is. absurd (cc);
+        text = refl;
+        rest = tt;
+        world = refl;
+      },
+    )
+
+pub checked-no_memory : (source source' : Inflow) (sink : Outflow)
+    → (bytes : List ℕ) × IsTold source.left bytes × Checked bytes source source' sink sink None NoMemory
+checked-no_memory source source' sink =
+    let any = told-any source.left in (
+      any.0,
+      any.1,
+      record {
+        verdict = None;
+        found = refl;
+        allowed = checked-owed None (read_check any.0);
+        read_fault = λ is. absurd (cc);
+        write_fault = λ is. absurd (cc);
+        text = refl;
+        rest = tt;
+        world = refl;
+      },
+    )

@@ -1,0 +1,17 @@
+use Rattle.portals_top.proofs.Told.{told-read}
+use Rattle.portals_top.proofs.Judging.{checked-failed, checked-no_memory, checked-read}
+use Rattle.portals_top.proofs.top.read_and_check.Goals as goal
+
+pub returns-in-Ok : goal.returns-in-Ok
+returns-in-Ok g c =
+    let source = g.S.Source.inflow c.args.source.now in
+    let source' = g.S.Source.inflow c.read_text.new.source in
+    let read = c.in-Ok.ensures.text in
+    let told = told-read 16777216 source.left source'.left c.in-Ok.text.items read.front read.short read.whole in
+    (told.bytes, told.told, checked-read c.in-Ok.text.items source source' _ _ _ told (rw c.as_slice.ensures.value at c.judged_text.ensures))
+
+pub returns-in-Err-Failed : goal.returns-in-Err-Failed
+returns-in-Err-Failed g c = checked-failed _ _ _ (c.in-Err-Failed.ensures.failed c.in-Err-Failed.field-0-is)
+
+pub returns-in-Err-NoMemory : goal.returns-in-Err-NoMemory
+returns-in-Err-NoMemory g c = checked-no_memory _ _ _

@@ -1,0 +1,124 @@
+//! The verdict on given orders.
+
+ghost use Rattle.std.specs.Prelude.{◌≡◌, [], IfOk, Some, length};
+ghost use Rattle.coll_shape.specs.Meaning.{AreInputs};
+ghost use Rattle.order_lines.specs.Check.{read_check};
+ghost use Rattle.run_text.specs.Orders.{fails_line};
+ghost use Rattle.run_text.specs.Putting.{EndsWith};
+ghost use Rattle.shape_plans.specs.Footprint.{refusal};
+ghost use Rattle.portals_top.specs.Checked.{FindsFor, FindsIn, IsVerdictOn, Judges, due_checked, due_judged, due_verdict};
+
+use crate::refusing::{refuse, refuse_plan};
+use crate::status::Status;
+use coll_lang::{Description, ParseFault};
+use coll_shape::Inputs;
+use order_check::check;
+use order_lines::{Orders, parse_check};
+use plan_orders::Verdict;
+use port_io::{Failed, Sink};
+use ptl_types::{Cause, NoMemory, Rank};
+use run_text::{Pieces, fails_line, write_short};
+use schedule_compiler::{Job, Schedule, compile};
+use std::alloc::Global;
+
+const HOLDS: &[u8] = b"holds\n";
+
+/// Writes what fails of orders, and finishes the sink.
+fn write_failure<K: Sink>(
+    out: &mut Pieces,
+    sink: &mut K,
+    rank: Rank,
+    place: u64,
+    cause: Cause,
+) -> Result<(), Failed>
+    requires { out.old ≡ [] }
+    ensures { EndsWith (K.outflow sink.old) (K.outflow sink.new) (fails_line rank place cause) result }
+{
+    fails_line(out, sink, rank, place, cause)?;
+    out.end(sink)
+}
+
+/// Writes a verdict, and finishes the sink.
+fn write_verdict<K: Sink>(out: &mut Pieces, sink: &mut K, verdict: Verdict) -> Result<(), Failed>
+    requires { out.old ≡ [] }
+    ensures { EndsWith (K.outflow sink.old) (K.outflow sink.new) (due_verdict (Some verdict)).text result }
+{
+    match verdict {
+        Verdict::Holds => write_short(sink, HOLDS),
+        Verdict::Fails { rank, place, cause } => write_failure(out, sink, rank, place, cause),
+    }
+}
+
+/// The status with which a verdict is written.
+fn status_of(verdict: Verdict) -> Status
+    ensures { result ≡ (due_verdict (Some verdict)).status }
+{
+    match verdict {
+        Verdict::Holds => Status::Done,
+        Verdict::Fails { .. } => Status::Refused,
+    }
+}
+
+/// The verdict on orders of a schedule's ranks with these inputs.
+fn verdict_on(
+    alloc: Global,
+    schedule: Schedule,
+    inputs: Inputs,
+    orders: &Orders,
+) -> Result<Verdict, NoMemory>
+    requires given { AreInputs schedule inputs }
+    requires lists { length orders.now ≡ schedule.ranks }
+    ensures { IfOk result (λ verdict. IsVerdictOn schedule inputs orders.now verdict) }
+{
+    let job = Job::new(alloc, schedule, inputs)?;
+    check(alloc, &job, orders)
+}
+
+/// Finds the verdict on orders of a schedule's ranks, and writes it.
+fn judge<K: Sink>(
+    alloc: Global,
+    schedule: Schedule,
+    inputs: Inputs,
+    orders: &Orders,
+    sink: &mut K,
+) -> Status
+    requires given { AreInputs schedule inputs }
+    requires lists { length orders.now ≡ schedule.ranks }
+    ensures { Judges (λ found. due_verdict found) (λ found. FindsFor schedule inputs orders.now None found) (K.outflow sink.old) (K.outflow sink.new) result }
+{
+    let Ok(mut out) = Pieces::open(alloc) else {
+        return Status::NoMemory;
+    };
+    let Ok(verdict) = verdict_on(alloc, schedule, inputs, orders) else {
+        return Status::NoMemory;
+    };
+    match write_verdict(&mut out, sink, verdict) {
+        Ok(()) => status_of(verdict),
+        Err(_) => Status::WriteFault,
+    }
+}
+
+/// Compiles a description, and judges orders of its ranks.
+fn compiled<K: Sink>(alloc: Global, d: Description, orders: &Orders, sink: &mut K) -> Status
+    requires lists { length orders.now ≡ d.shape.ranks }
+    ensures { Judges (λ found. due_judged d.shape found (refusal d.shape))
+        (λ found. FindsFor d.shape d.inputs orders.now (refusal d.shape) found) (K.outflow sink.old) (K.outflow sink.new) result }
+{
+    let (shape, inputs) = d.into_parts();
+    match compile(alloc, &shape) {
+        Ok(schedule) => judge(alloc, schedule, inputs, orders, sink),
+        Err(fault) => refuse_plan(alloc, sink, &shape, fault),
+    }
+}
+
+/// Answers a description with orders.
+pub(crate) fn judged_text<K: Sink>(alloc: Global, text: &[u8], sink: &mut K) -> Status
+    ensures { Judges (λ found. due_checked found (read_check text.now)) (λ found. FindsIn (read_check text.now) found)
+        (K.outflow sink.old) (K.outflow sink.new) result }
+{
+    match parse_check(alloc, text) {
+        Ok((d, orders)) => compiled(alloc, d, &orders, sink),
+        Err(ParseFault::Refused { line, name }) => refuse(alloc, sink, line, name),
+        Err(ParseFault::NoMemory) => Status::NoMemory,
+    }
+}
