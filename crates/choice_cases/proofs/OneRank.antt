@@ -1,5 +1,7 @@
 -- One rank elects itself and takes ticket 0: `elect e`, `tickets t`, printed as e 0 0 and t 0 0.
 use Rattle.std.specs.Prelude.{ℕ, true, false, ◌≡◌, ◌-◌, ◌^◌, List, [], ◌∷◌, Some, None, refl, length, replicate, ◌++◌}
+use Rattle.std.proofs.Common.{◌∙◌, Option, ap, sym, arith}
+use Rattle.ptl_types.specs.declared.handles.Count.{Count}
 use Rattle.ptl_types.specs.declared.headers.Lane.TheVariants.{Request, Answer as AnswerLane}
 use Rattle.ptl_types.specs.Handles.{top}
 use Rattle.ptl_types.specs.Messages.{Sent}
@@ -16,11 +18,16 @@ use Rattle.plan_cuts.specs.History.Local.{Fire, Receive, Start}
 use Rattle.coll_lang.specs.declared.choices.ChoiceKind.{ChoiceKind}
 use Rattle.coll_lang.specs.declared.choices.ChoiceKind.TheVariants.{Elect, Tickets}
 use Rattle.choice_machine.specs.Machine.{answer, ask}
-use Rattle.choice_view.specs.Install.{Slots, answer_message, ask_message, ct_of, four_words, number_of}
+use Rattle.choice_view.specs.Install.{Slots, answer_message, ask_message, ct_of, four_words, number_of, view}
 use Rattle.choice_view.specs.Install.Counter.{Done, Go}
 use Rattle.choice_view.specs.Install.Work.{Look, Send, Tell}
-use Rattle.choice_view.specs.Calls.{after_calls, install}
-use Rattle.choice_laws.specs.Decided.{count_from, result_of}
+use Rattle.choice_view.specs.Calls.{install, no_seat}
+use Rattle.plan_cuts.specs.System.{System, state_at}
+use Rattle.plan_orders.specs.Chosen.{Scene, chosen, enabled_steps}
+use Rattle.plan_orders.specs.declared.Step.TheVariants as steps
+use Rattle.choice_laws.specs.Decided.{IsDecided, IsInRange, choice_system, count_from, result_of}
+use Rattle.plan_orders.proofs.Choosing.{chosen_reached, none_listed_still}
+use Rattle.choice_laws.proofs.Resting.{agrees_reached, rest_decided}
 
 abbrev pub choices : List ChoiceKind
 choices = Elect ∷ Tickets ∷ []
@@ -29,7 +36,7 @@ choices = Elect ∷ Tickets ∷ []
 abbrev pub slots : Slots
 slots = record { ct = λ n. 7 - n; me = λ n. n; md = λ n. 4 - n }
 
-closed_form : after_calls slots 1 choices 0 ≡ install slots 1 choices 0
+closed_form : install slots 1 choices 0 ≡ view slots 1 choices 0 (no_seat choices 0)
 unfolding append
 closed_form = refl
 
@@ -39,6 +46,7 @@ numbers = refl
 
 -- the words of the region: H, V, O and B of each step
 first_region : (install slots 1 choices 0).memory ≡ four_words top 0 0 0 ++ (four_words 0 1 0 0 ++ [])
+unfolding append
 first_region = refl
 
 -- a request or an answer of the rank to itself
@@ -62,42 +70,87 @@ last = state go (install slots 1 choices 0) history
 
 -- what each step makes is what the next receives
 sends : made go (install slots 1 choices 0) history ≡ asks 0 ∷ answers 0 top ∷ ask_message slots choices 0 (ask 0 true) ∷ answer_message slots choices 0 (answer 0 true 0) ∷ asks 1 ∷ answers 1 0 ∷ []
-unfolding target request answered fired started
+unfolding target request answered fired started append
 sends = refl
 
 elected : result_of 0 last ≡ 0
-unfolding target request answered fired started
+unfolding target request answered fired started append
 elected = refl
 
 ticket : result_of 1 last ≡ 0
-unfolding target request answered fired started
+unfolding target request answered fired started append
 ticket = refl
 
 last_region : last.memory ≡ four_words 0 0 top 0 ++ (four_words 1 1 0 0 ++ [])
-unfolding target request answered fired started
+unfolding target request answered fired started append
 last_region = refl
 
 told : lookup (ct_of slots choices Done) last.cts.live ≡ Some (successes 2)
-unfolding target request answered fired started
+unfolding target request answered fired started append
 told = refl
 
 nothing_left : last.pending.waiting ≡ []
-unfolding target request answered fired started
+unfolding target request answered fired started append
 nothing_left = refl
 
 nothing_lost : (last.drops ∷ last.violations ∷ []) ≡ 0 ∷ 0 ∷ []
-unfolding target request answered fired started
+unfolding target request answered fired started append
 nothing_lost = refl
 
 -- nothing fires before the start
 not_yet : is_ready (install slots 1 choices 0) 0 ≡ false
+unfolding append
 not_yet = refl
 
 -- the get waits for the swap's answer
 get_waits : is_ready (state go (install slots 1 choices 0) (Start ∷ Fire 0 ∷ Receive 0 Request (asks 0) ∷ [])) 1 ≡ false
-unfolding target request answered fired started
+unfolding target request answered fired started append
 get_waits = refl
 
 get_ready : is_ready (state go (install slots 1 choices 0) (Start ∷ Fire 0 ∷ Receive 0 Request (asks 0) ∷ Receive 0 AnswerLane (answers 0 top) ∷ [])) 1 ≡ true
-unfolding target request answered fired started
+unfolding target request answered fired started append
 get_ready = refl
+
+-- ---- the run that takes the first enabled step each time: so the theorem's premises can be met
+abbrev pub system : System
+system = choice_system 1 choices (λ r. slots)
+
+abbrev pub run : ℕ → Scene
+run n = chosen system (λ i. 0) n
+
+all_steps : (run 12).world 0 ≡ history
+unfolding target request answered fired started append
+all_steps = refl
+
+ended : enabled_steps system (run 12) ≡ []
+unfolding target request answered fired started append
+ended = refl
+
+in_range : IsInRange 1 choices
+in_range = record { some = omega arith; few_ranks = omega arith; few_steps = omega arith }
+
+pub decided : IsDecided 1 choices (λ r. slots) (run 12).world
+decided =
+    let reached = chosen_reached system (λ i. 0) 12 in
+    rest_decided 1 choices (λ r. slots) in_range (run 12).world (run 12).held
+    (agrees_reached 1 choices (λ r. slots) in_range (run 12).world (run 12).held reached)
+    (none_listed_still system (run 12) ended)
+
+-- ---- one step earlier the last telling is left, and the done counter says so
+one_left : enabled_steps system (run 11) ≡ steps.Fire 0 4 ∷ []
+unfolding target request answered fired started append
+one_left = refl
+
+told_once : lookup (ct_of slots choices Done) (state_at system (run 11).world 0).cts.live ≡ Some (successes 1)
+unfolding target request answered fired started append
+told_once = refl
+
+abbrev successes_in : Option Count → ℕ
+successes_in None = 0
+successes_in (Some count) = count.success
+
+pub too_early : IsDecided 1 choices (λ r. slots) (run 11).world → ⊥
+too_early h =
+    let told : Some (successes 1) ≡ Some (successes 2) = sym told_once ∙ h.done 0 (omega arith) in
+    let e : 1 ≡ 2 = ap successes_in told in
+    omega (arith, e)

@@ -33,6 +33,7 @@ use Rattle.choice_view.specs.Install.{Seat, Slots, answer_message, ask_header, a
 use Rattle.choice_view.specs.Steps.{sent_message, with_phase}
 use Rattle.choice_view.proofs.StepStart.{served_view, started_view}
 use Rattle.choice_view.proofs.Firings.{step_fire}
+use Rattle.choice_view.proofs.Installed.{installed}
 use Rattle.choice_view.proofs.StepServe.{step_serve}
 use Rattle.choice_view.proofs.StepReturn.{step_return}
 use Rattle.plan_cuts.specs.System.{Histories, System, state_at}
@@ -212,7 +213,7 @@ module _ (ranks : ℕ) (ks : List ChoiceKind) (slots : ℕ → Slots) where
   agrees_opened w held h e = record {
     m = opened ks;
     lawful = opened_lawful ranks ks;
-    states = λ r. ap (state_of r) (h r);
+    states = λ r. ap (state_of r) (h r) ∙ installed (slots r) ranks ks r;
     fresh = λ r i. refl;
     begun = λ r i. let q = ap (count_by is_start) (h r) in absurd (none q i);
     lengths = λ r. ap length (h r) ∙ sym (made_opened ranks ks r);

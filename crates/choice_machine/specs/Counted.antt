@@ -53,8 +53,13 @@ over_ranks ranks ks many phase = sum_by (λ q. over_steps ks many (phase q)) (fr
 
 -- what rank r has done: its start, its firings and answers, and on rank 0 all requests
 abbrev pub steps_made : ℕ → List ChoiceKind → Moment → ℕ → ℕ
-steps_made ranks ks m r = (if m.started r then 1 else 0) + (over_steps ks home_steps (m.phase r) + (if r == 0 then over_ranks ranks ks requests_taken m.phase else 0))
+steps_made ranks ks m r =
+    (if m.started r then 1 else 0)
+    + (over_steps ks home_steps (m.phase r) + (if r == 0 then over_ranks ranks ks requests_taken m.phase else 0))
 
 -- what it does in all
 abbrev pub steps_due : ℕ → List ChoiceKind → ℕ → ℕ
-steps_due ranks ks r = 1 + (sum_by (λ s. told_steps (choice_at ks s)) (from_to 0 (length ks)) + (if r == 0 then ranks * sum_by (λ s. told_requests (choice_at ks s)) (from_to 0 (length ks)) else 0))
+steps_due ranks ks r =
+    1
+    + (sum_by (λ s. told_steps (choice_at ks s)) (from_to 0 (length ks))
+    + (if r == 0 then ranks * sum_by (λ s. told_requests (choice_at ks s)) (from_to 0 (length ks)) else 0))

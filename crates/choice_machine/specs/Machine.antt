@@ -64,7 +64,13 @@ first_word Tickets = 0
 
 -- nothing was done
 abbrev pub opened : List ChoiceKind → Moment
-opened ks = record { started = λ r. false; phase = λ r s. Idle; word = λ s. first_word (choice_at ks s); asks = λ r. []; answers = λ r. [] }
+opened ks = record {
+  started = λ r. false;
+  phase = λ r s. Idle;
+  word = λ s. first_word (choice_at ks s);
+  asks = λ r. [];
+  answers = λ r. [];
+}
 
 -- ---- a start
 abbrev pub begun : ℕ → Moment → Moment
@@ -130,7 +136,10 @@ at_home k p = p
 
 -- answer a comes to rank r, behind which `rest` is under way
 abbrev pub returned : List ChoiceKind → ℕ → Answer → List Answer → Moment → Moment
-returned ks r a rest m = record m { phase = put_in r a.step (at_home (choice_at ks a.step) (m.phase r a.step)) m.phase; answers = put r rest m.answers }
+returned ks r a rest m = record m {
+  phase = put_in r a.step (at_home (choice_at ks a.step) (m.phase r a.step)) m.phase;
+  answers = put r rest m.answers;
+}
 
 -- ---- the end
 

@@ -23,7 +23,7 @@ use Rattle.choice_view.specs.Install.{Counter, Part, Seat, Slots, Work, awaits_o
 use Rattle.choice_view.specs.Install.Counter.{Done, First, Go, Second}
 use Rattle.choice_view.specs.Install.Part.{Given, Old, Result}
 use Rattle.choice_view.specs.Install.Work.{Look, Send, Tell}
-use Rattle.choice_view.specs.Calls.{after_calls, counters_all, entries_all, fresh, install, made_all, no_seat, operations_all, parts_all}
+use Rattle.choice_view.specs.Calls.{install, counters_all, entries_all, fresh, made_all, no_seat, operations_all, parts_all}
 
 -- ---- names whose stamps follow one another
 abbrev pub Runs : {X : Type 0} → (X → ℕ) → ℕ → List X → Type 0
@@ -224,7 +224,7 @@ module _ (k : Slots) (ks : List ChoiceKind) (r : ℕ) where
 module _ (k : Slots) (ranks : ℕ) (ks : List ChoiceKind) (r : ℕ) where
   -- all but the operations, with these entries
   abbrev pub bare : List Linked → ℕ → State
-  bare xs n = record (install k ranks ks r) { indices = Some (record { eq = None; priority = xs; overflow = [] }) ∷ []; entries_given = n; pending = record (install k ranks ks r).pending { waiting = []; given = 0 } }
+  bare xs n = record (view k ranks ks r (no_seat ks r)) { indices = Some (record { eq = None; priority = xs; overflow = [] }) ∷ []; entries_given = n; pending = record (view k ranks ks r (no_seat ks r)).pending { waiting = []; given = 0 } }
 
   zero_more : (n : ℕ) → 0 + n ≡ n
   zero_more n = omega arith
@@ -250,8 +250,8 @@ module _ (k : Slots) (ranks : ℕ) (ks : List ChoiceKind) (r : ℕ) where
   entered_is = ap (λ s. if r == 0 then entries_all k (steps ks) s else s) made_is ∙ entries_are (r == 0)
 
   -- ---- the law
-  pub installed : after_calls k ranks ks r ≡ install k ranks ks r
+  pub installed : install k ranks ks r ≡ view k ranks ks r (no_seat ks r)
   installed =
       ap (operations_all k ks (works ks)) entered_is
       ∙ after_operations k ks (works ks) (bare (entries_of k ks r) (if r == 0 then length ks else 0)) (all_works_run ks 0 (length ks))
-      ∙ (λ d. record (bare (entries_of k ks r) (if r == 0 then length ks else 0)) { pending = record (install k ranks ks r).pending { waiting = map (operation k ks) (works_are k ks r (works ks) d); given = zero_more (length (works ks)) d } })
+      ∙ (λ d. record (bare (entries_of k ks r) (if r == 0 then length ks else 0)) { pending = record (view k ranks ks r (no_seat ks r)).pending { waiting = map (operation k ks) (works_are k ks r (works ks) d); given = zero_more (length (works ks)) d } })

@@ -31,7 +31,8 @@ use Rattle.choice_view.specs.Install.{Counter, Part, Slots, Work, before, counte
 use Rattle.choice_view.specs.Install.Counter.{Done, First, Go, Second}
 use Rattle.choice_view.specs.Install.Part.{Given, Old, Result}
 use Rattle.choice_view.specs.Install.Work.{Look, Send, Tell}
-use Rattle.choice_view.specs.Calls.{counters_all, entered, entries_all, fresh, indexed, install, made_all, made_part, no_seat, operations_all, parts_all}
+use Rattle.choice_view.specs.Calls.{counters_all, entered, entries_all, fresh, indexed, made_all, made_part, no_seat, operations_all, parts_all}
+use Rattle.choice_view.specs.Install.{view}
 use Rattle.choice_view.proofs.Named.{flat-In, lookup_named}
 use Rattle.choice_view.proofs.Memory.{inside_step}
 use Rattle.choice_view.proofs.StepStart.{length-step}
@@ -255,16 +256,16 @@ module _ (k : Slots) (ranks : ℕ) (ks : List ChoiceKind) (r : ℕ) (few : 3 * l
         linked_is xs = sum_by-cons entries_in (Some (record { eq = None; priority = xs; overflow = [] })) [] ∙ (let q : length xs + 0 + 0 ≡ length xs = omega arith in q)
 
   -- ---- the operations: each names what is live, and eight bytes of its descriptors
-  live_ct : (c : Counter) → In c (counters ks) → is_some (lookup (ct_of k ks c) (install k ranks ks r).cts.live) ≡ true
+  live_ct : (c : Counter) → In c (counters ks) → is_some (lookup (ct_of k ks c) (view k ranks ks r (no_seat ks r)).cts.live) ≡ true
   live_ct c i = ap is_some (lookup_ct k ranks ks r (no_seat ks r) c i)
 
-  live_md : (x : Part) → In x (parts ks) → (is_some (lookup (md_of k ks x) (install k ranks ks r).mds.live) ≡ true) × (holds_part (lookup (md_of k ks x) (install k ranks ks r).mds.live) 0 8 ≡ true)
+  live_md : (x : Part) → In x (parts ks) → (is_some (lookup (md_of k ks x) (view k ranks ks r (no_seat ks r)).mds.live) ≡ true) × (holds_part (lookup (md_of k ks x) (view k ranks ks r (no_seat ks r)).mds.live) 0 8 ≡ true)
   live_md x i = (ap is_some (lookup_md k ranks ks r (no_seat ks r) x i), ap (λ b. holds_part b 0 8) (lookup_md k ranks ks r (no_seat ks r) x i))
 
   -- what a deed of this rank needs
   pub record MayPost (d : Deed) : Type 0 where
-    pub live : (counts_on_live d (install k ranks ks r).cts && deed_is_live d (install k ranks ks r).mds) ≡ true
-    pub fits : deed_fits d (install k ranks ks r).mds ≡ true
+    pub live : (counts_on_live d (view k ranks ks r (no_seat ks r)).cts && deed_is_live d (view k ranks ks r (no_seat ks r)).mds) ≡ true
+    pub fits : deed_fits d (view k ranks ks r (no_seat ks r)).mds ≡ true
     pub small : not (deed_passes d) ≡ true
     pub may : 0 < ranks → MayStart d ranks (limits_of ks)
 

@@ -38,7 +38,8 @@ operations_all k ks (w ∷ ws) s = operations_all k ks ws (with_operation (deed_
 -- the counters and descriptors of these steps, step by step
 abbrev pub made_all : Slots → List ChoiceKind → List ℕ → State → State
 made_all k ks [] s = s
-made_all k ks (t ∷ ts) s = made_all k ks ts (parts_all k ks (parts_of (choice_at ks t) t) (counters_all k (counters_of (choice_at ks t) t) s))
+made_all k ks (t ∷ ts) s =
+    made_all k ks ts (parts_all k ks (parts_of (choice_at ks t) t) (counters_all k (counters_of (choice_at ks t) t) s))
 
 -- the counters cs of step t, and its descriptors xs, behind the steps before it
 abbrev pub made_part : Slots → List ChoiceKind → ℕ → List Counter → List Part → State → State
@@ -62,10 +63,6 @@ entered k ranks ks r =
     let made = made_all k ks (steps ks) (fresh k ranks ks r) in
     if r == 0 then entries_all k (steps ks) made else made
 
--- all of the calls: then the operations by step
-abbrev pub after_calls : Slots → ℕ → List ChoiceKind → ℕ → State
-after_calls k ranks ks r = operations_all k ks (works ks) (entered k ranks ks r)
-
--- in closed form
+-- the interface that these calls leave: then the operations by step
 abbrev pub install : Slots → ℕ → List ChoiceKind → ℕ → State
-install k ranks ks r = view k ranks ks r (no_seat ks r)
+install k ranks ks r = operations_all k ks (works ks) (entered k ranks ks r)

@@ -143,7 +143,15 @@ ct_named k ks (Some c) = Some (ct_of k ks c)
 
 -- the descriptor
 abbrev pub descriptor_of : Slots → List ChoiceKind → Part → Descriptor
-descriptor_of k ks x = record { start = part_start x; length = 8; eq = None; ct = ct_named k ks (part_counter ks x); count_send = false; count_reply = has_counter x; count_ack = false }
+descriptor_of k ks x = record {
+  start = part_start x;
+  length = 8;
+  eq = None;
+  ct = ct_named k ks (part_counter ks x);
+  count_send = false;
+  count_reply = has_counter x;
+  count_ack = false;
+}
 
 -- ---- entries, on rank 0: the word of a step, which its number matches
 abbrev pub word_entry : ℕ → Entry
@@ -201,7 +209,17 @@ get_args k ks s x = record { md = md_of k ks x; local_offset = 0; length = 8; ta
 
 -- what is given: eight bytes to the word of rank 0
 abbrev pub put_args : Slots → List ChoiceKind → ℕ → PutArgs
-put_args k ks s = record { md = md_of k ks (Given s); local_offset = 0; length = 8; ack = NoAck; target = 0; pt = 0; match_bits = s; remote_offset = 0; hdr_data = 0 }
+put_args k ks s = record {
+  md = md_of k ks (Given s);
+  local_offset = 0;
+  length = 8;
+  ack = NoAck;
+  target = 0;
+  pt = 0;
+  match_bits = s;
+  remote_offset = 0;
+  hdr_data = 0;
+}
 
 -- an elect swaps its rank in where nobody was before; tickets add one
 abbrev pub first_deed : Slots → List ChoiceKind → ChoiceKind → ℕ → Deed
@@ -389,7 +407,11 @@ view k ranks ks r seat = record {
   cts = record { live = map (live_counter k ks seat) (counters ks); given = length (counters ks); limit = 2 * length ks + 2 };
   eqs = no_things 0;
   mds = record { live = map (live_part k ks seat) (parts ks); given = length (parts ks); limit = 3 * length ks };
-  pending = record { waiting = map (operation k ks) (filter (λ w. not (was_fired seat w)) (works ks)); given = length (works ks); limit = 3 * length ks };
+  pending = record {
+    waiting = map (operation k ks) (filter (λ w. not (was_fired seat w)) (works ks));
+    given = length (works ks);
+    limit = 3 * length ks;
+  };
   drops = 0;
   violations = 0;
 }

@@ -21,13 +21,13 @@ ghost use Rattle.choice_machine.specs.Lawful.{IsAnswer, is_plain};
 ghost use Rattle.choice_machine.specs.Machine.{Answer, advanced, answer, ask, at_home, served, word_after, is_ready as is_ready_phase};
 ghost use Rattle.choice_view.specs.Install.{Counter, Part, Seat, Slots, Work, answer_message, ask_message, counters_of, ct_of, deed_of, descriptor_of, limits_of, parts_of, step_bytes, steps, view, word_entry, work_counter, works};
 ghost use Rattle.choice_view.specs.Install.Counter.{Go};
-ghost use Rattle.choice_view.specs.Calls.{after_calls, entered, entries_all, fresh, indexed, install, made_all, made_part, no_seat, operations_all};
+ghost use Rattle.choice_view.specs.Calls.{install, entered, entries_all, fresh, indexed, made_all, made_part, no_seat, operations_all};
 ghost use Rattle.choice_view.specs.Steps.{sent_message, with_phase, with_word};
 
 /// The closed form of an installed interface is the state after the calls that install it.
 pub fn installation()
     ensures { (slots : Slots) (ranks : ℕ) (choices : List ChoiceKind) (r : ℕ) →
-        after_calls slots ranks choices r ≡ install slots ranks choices r }
+        install slots ranks choices r ≡ view slots ranks choices r (no_seat choices r) }
 {}
 
 /// None of the calls that install a choice text is refused: neither the first, nor any later one behind those before it.
