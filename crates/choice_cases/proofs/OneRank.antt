@@ -1,5 +1,5 @@
 -- One rank elects itself and takes ticket 0: `elect e`, `tickets t`, printed as e 0 0 and t 0 0.
-use Rattle.std.specs.Prelude.{ℕ, true, false, ◌≡◌, ◌-◌, ◌^◌, List, [], ◌∷◌, Some, None, refl, length, replicate, ◌++◌}
+use Rattle.std.specs.Prelude.{ℕ, true, false, ◌≡◌, ◌-◌, List, [], ◌∷◌, Some, None, refl, ◌++◌}
 use Rattle.std.proofs.Common.{◌∙◌, Option, ap, sym, arith}
 use Rattle.ptl_types.specs.declared.handles.Count.{Count}
 use Rattle.ptl_types.specs.declared.headers.Lane.TheVariants.{Request, Answer as AnswerLane}

@@ -1,6 +1,6 @@
 -- Wrong operations on two ranks: each runs to its end, where all is told and no step is left, and what the ranks then hold is not
 -- decided.
-use Rattle.std.proofs.Common.{ℕ, suc, ◌≡◌, ◌==◌, ◌<◌, ◌^◌, ◌∙◌, List, [], ◌∷◌, Some, refl, sym, arith, if◌then◌else◌, ◌++◌}
+use Rattle.std.proofs.Common.{ℕ, ◌≡◌, ◌==◌, List, [], ◌∷◌, refl, arith, if◌then◌else◌, ◌++◌}
 use Rattle.coll_lang.specs.declared.choices.ChoiceKind.{ChoiceKind}
 use Rattle.coll_lang.specs.declared.choices.ChoiceKind.TheVariants.{Elect, Tickets}
 use Rattle.ptl_types.specs.Handles.{top}
@@ -10,16 +10,14 @@ use Rattle.ptl_types.specs.declared.elements.SwapOp.TheVariants.{Cswap}
 use Rattle.ni_model.specs.Answers.{answered}
 use Rattle.ni_model.specs.Append.{append}
 use Rattle.ni_model.specs.Arrive.{request}
-use Rattle.ni_model.specs.Counts.{successes}
 use Rattle.ni_model.specs.Ready.{fired}
 use Rattle.ni_model.specs.Starts.{started}
-use Rattle.ni_model.specs.State.{Posted, State, target}
-use Rattle.ni_model.specs.Tables.{lookup}
+use Rattle.ni_model.specs.State.{Posted, target}
 use Rattle.plan_cuts.specs.System.{System, state_at}
-use Rattle.plan_orders.specs.Chosen.{Scene, chosen, enabled_steps}
+use Rattle.plan_orders.specs.Chosen.{chosen, enabled_steps}
 use Rattle.choice_machine.specs.Choices.{AreTickets, IsElected}
 use Rattle.choice_view.specs.Install.{Slots, ct_of, four_words, get_args, operation, put_args}
-use Rattle.choice_view.specs.Install.Counter.{Done, Go}
+use Rattle.choice_view.specs.Install.Counter.{Go}
 use Rattle.choice_view.specs.Install.Part.{Old}
 use Rattle.choice_view.specs.Install.Work.{Look, Send, Tell}
 use Rattle.choice_laws.specs.Decided.{choice_system, result_of}

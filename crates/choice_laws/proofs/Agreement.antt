@@ -1,44 +1,31 @@
 -- At every moment the interfaces and the lanes are those of a moment of the machine.
-use Rattle.std.proofs.Common.{ℕ, suc, Bool, true, false, cond, not, ◌&&◌, ◌==◌, ◌+◌, ◌%◌, ◌^◌, ◌≡◌, ◌≤◌, ◌<◌, ◌⊎◌, List, [], ◌∷◌, ◌++◌, refl, length, map, filter, ap, ap₂, ◌∙◌, sym, subst, inl, inr, arith, Option, Some, None, count_by, append-nil, length-append, add-zero, eq-eqb, if◌then◌else◌, IsTrue}
+use Rattle.std.proofs.Common.{ℕ, suc, Bool, true, false, cond, not, ◌&&◌, ◌==◌, ◌+◌, ◌≡◌, ◌<◌, List, [], ◌∷◌, ◌++◌, refl, length, map, filter, ap, ap₂, ◌∙◌, sym, subst, inl, inr, arith, count_by, append-nil, length-append, add-zero, eq-eqb, if◌then◌else◌}
 use Rattle.std.proofs.lemmas.Bool.{cases_eq, ne_eqb}
-use Rattle.std.proofs.lemmas.List.{map-append}
 use Rattle.ptl_types.specs.declared.headers.Header.{Header}
-use Rattle.ptl_types.specs.declared.headers.MessageKind.{MessageKind}
 use Rattle.ptl_types.specs.declared.headers.Lane.{Lane}
 use Rattle.ptl_types.specs.declared.headers.Lane.TheVariants.{Request, Answer as AnswerLane}
 use Rattle.ptl_types.specs.Kinds.{is_answer}
-use Rattle.ptl_types.specs.Handles.{top}
 use Rattle.ptl_types.specs.Messages.{Sent}
-use Rattle.ni_model.specs.State.{Delivers, State, target}
-use Rattle.ni_model.specs.Ready.{Fires, fired, is_ready}
-use Rattle.plan_cuts.specs.History.{Local, after, and_then, got, is_for, is_lane, is_start, made_by, same_lane, state}
+use Rattle.ni_model.specs.State.{State}
+use Rattle.plan_cuts.specs.History.{Local, after, and_then, got, is_for, is_lane, is_start, made_by, state}
 use Rattle.plan_cuts.specs.History.Local.{Fire, Receive, Start}
-use Rattle.plan_cuts.specs.Moment.{IsEnabled, IsLocalStep, Lanes}
+use Rattle.plan_cuts.specs.Moment.{IsLocalStep, Lanes}
 use Rattle.plan_cuts.proofs.Fronts.{state-append}
-use Rattle.plan_rest.proofs.Longer.{got_one}
-use Rattle.plan_core.specs.Members.{In}
-use Rattle.plan_core.proofs.Lists.{count-append, count-cons}
+use Rattle.plan_core.proofs.Lists.{count-append}
 use Rattle.coll_lang.specs.declared.choices.ChoiceKind.{ChoiceKind}
 use Rattle.choice_machine.specs.Choices.{choice_at}
 use Rattle.coll_lang.specs.declared.choices.ChoiceKind.TheVariants.{Elect, Tickets}
-use Rattle.choice_machine.specs.Machine.{Answer, Ask, Moment, Phase, advanced, answer, ask, at_home, begun, fired as fired_in, opened, put, put_in, returned, sent_at, served, taken, word_after}
+use Rattle.choice_machine.specs.Machine.{Answer, Moment, Phase, ask, opened, sent_at}
 use Rattle.choice_machine.specs.Machine.Phase.{Answered, Asked, Idle, Learned, Read, Reading, Served, Told}
-use Rattle.choice_machine.specs.Lawful.{ElectHolds, Holds, InFlight, IsAnswer, IsAsk, IsLawful, TicketsHold, is_plain}
-use Rattle.choice_machine.proofs.Places.{put-other, put-same, put_in-rank, put_in-row}
-use Rattle.choice_machine.proofs.Words.{word_le}
-use Rattle.choice_machine.proofs.Moments.{begun_lawful, fired_lawful, opened_lawful, returned_lawful, taken_lawful}
+use Rattle.choice_machine.specs.Lawful.{IsLawful}
+use Rattle.choice_machine.proofs.Moments.{opened_lawful}
 use Rattle.choice_machine.specs.Counted.{steps_made}
 use Rattle.choice_machine.proofs.Counting.{made_opened}
-use Rattle.choice_view.specs.Install.{Seat, Slots, answer_message, ask_header, ask_message, first_header, first_words, seat_of, view}
-use Rattle.choice_view.specs.Steps.{sent_message, with_phase}
-use Rattle.choice_view.proofs.StepStart.{served_view, started_view}
-use Rattle.choice_view.proofs.Firings.{step_fire}
+use Rattle.choice_view.specs.Install.{Slots, answer_message, ask_header, ask_message, first_header, seat_of, view}
+use Rattle.choice_view.specs.Steps.{sent_message}
 use Rattle.choice_view.proofs.Installed.{installed}
-use Rattle.choice_view.proofs.StepServe.{step_serve}
-use Rattle.choice_view.proofs.StepReturn.{step_return}
 use Rattle.plan_cuts.specs.System.{Histories, System, state_at}
-use Rattle.plan_orders.specs.Reached.{IsReached}
-use Rattle.choice_laws.specs.Decided.{IsInRange, choice_system}
+use Rattle.choice_laws.specs.Decided.{choice_system}
 
 -- ---- the lanes on which messages of a choice text go
 pub record GoesTo (d : ℕ) (answers : Bool) (h : Header) : Type 0 where

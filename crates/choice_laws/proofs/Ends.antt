@@ -1,17 +1,16 @@
 -- How long an interleaving is, and that it ends exactly where nothing is left.
-use Rattle.std.proofs.Common.{ℕ, suc, Bool, true, false, ◌≡◌, ◌≤◌, ◌<◌, ◌⊎◌, List, [], ◌∷◌, refl, length, map, ap, ◌∙◌, sym, subst, inl, inr, arith, count_by}
+use Rattle.std.proofs.Common.{ℕ, Bool, true, false, ◌≡◌, ◌≤◌, ◌<◌, ◌⊎◌, List, [], refl, length, map, ap, ◌∙◌, sym, inl, inr, arith, count_by}
 use Rattle.std.proofs.lemmas.Bool.{cases_eq}
 use Rattle.std.proofs.lemmas.List.{length-map}
 use Rattle.ptl_types.specs.declared.headers.Lane.{Lane}
 use Rattle.ptl_types.specs.declared.headers.Lane.TheVariants.{Request, Answer as AnswerLane}
-use Rattle.ptl_types.specs.Messages.{Sent}
 use Rattle.ni_model.specs.Ready.{is_ready}
 use Rattle.plan_cuts.specs.History.{is_start}
 use Rattle.plan_cuts.specs.Moment.{IsStill, Lanes}
 use Rattle.coll_lang.specs.declared.choices.ChoiceKind.{ChoiceKind}
 use Rattle.choice_machine.specs.Counted.{steps_due, steps_made}
 use Rattle.choice_machine.proofs.Counting.{answers_few, asks_few, full_idle, full_no_answers, full_no_asks, full_parts, made_all, made_le}
-use Rattle.choice_view.specs.Install.{Slots, answer_message, ask_message, seat_of, view}
+use Rattle.choice_view.specs.Install.{Slots, answer_message, ask_message, seat_of}
 use Rattle.choice_view.proofs.Firings.{step_fire}
 use Rattle.plan_cuts.specs.System.{Histories, state_at}
 use Rattle.choice_laws.specs.Decided.{IsInRange, choice_system}

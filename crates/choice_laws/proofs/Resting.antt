@@ -1,26 +1,24 @@
 -- Every moment agrees with the machine, and at rest what it says of the results is what the interfaces hold.
-use Rattle.std.proofs.Common.{ℕ, suc, true, false, ◌+◌, ◌*◌, ◌^◌, ◌≡◌, ◌≤◌, ◌<◌, List, [], ◌∷◌, refl, length, map, ap, ◌∙◌, sym, subst, arith, Some, count_by, min, IsTrue}
-use Rattle.ptl_types.specs.declared.headers.Lane.{Lane}
+use Rattle.std.proofs.Common.{ℕ, ◌≡◌, ◌<◌, List, [], ◌∷◌, refl, length, map, ap, ◌∙◌, sym, subst, arith, Some}
 use Rattle.ptl_types.specs.declared.headers.Lane.TheVariants.{Request, Answer as AnswerLane}
-use Rattle.ptl_types.specs.Handles.{top}
 use Rattle.ptl_types.specs.Elements.{part, pattern}
 use Rattle.op_laws.proofs.Swaps.{pattern-little}
 use Rattle.ni_model.specs.Counts.{successes}
 use Rattle.ni_model.specs.Ready.{is_ready}
 use Rattle.ni_model.specs.State.{State}
 use Rattle.ni_model.specs.Tables.{lookup}
-use Rattle.plan_cuts.specs.History.{Local, is_start}
+use Rattle.plan_cuts.specs.History.{Local}
 use Rattle.plan_cuts.specs.History.Local.{Fire, Receive, Start}
 use Rattle.plan_cuts.specs.Moment.{IsEnabled, IsLocalStep, IsStill, Lanes}
 use Rattle.coll_lang.specs.declared.choices.ChoiceKind.{ChoiceKind}
-use Rattle.choice_machine.specs.Choices.{AreTickets, IsElected, IsRight, choice_at}
+use Rattle.choice_machine.specs.Choices.{IsRight, choice_at}
 use Rattle.coll_lang.specs.declared.choices.ChoiceKind.TheVariants.{Elect, Tickets}
 use Rattle.choice_machine.specs.Machine.{value_of}
 use Rattle.choice_machine.specs.Lawful.{IsResting}
 use Rattle.choice_machine.proofs.Places.{count_all}
 use Rattle.choice_machine.proofs.Words.{length-from_to}
 use Rattle.choice_machine.proofs.Moments.{rest_right, rest_told}
-use Rattle.choice_view.specs.Install.{Slots, answer_message, ask_message, count_of, ct_of, four_words, given_word, is_told, old_of, seat_of, step_bytes, steps, view, word}
+use Rattle.choice_view.specs.Install.{Slots, answer_message, ask_message, count_of, ct_of, four_words, given_word, is_told, old_of, seat_of, step_bytes, steps, word}
 use Rattle.choice_view.specs.Install.Counter.{Done}
 use Rattle.choice_view.proofs.Firings.{idle_phase}
 use Rattle.choice_view.proofs.Memory.{read_part}

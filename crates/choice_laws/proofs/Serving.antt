@@ -1,38 +1,33 @@
 -- A request that comes to rank 0 is the machine's.
-use Rattle.std.proofs.Common.{ℕ, suc, Bool, true, false, cond, not, ◌&&◌, ◌==◌, ◌+◌, ◌%◌, ◌^◌, ◌≡◌, ◌≤◌, ◌<◌, ◌⊎◌, List, [], ◌∷◌, ◌++◌, refl, length, map, filter, ap, ap₂, ◌∙◌, sym, subst, inl, inr, arith, Option, Some, None, count_by, append-nil, eq-eqb, if◌then◌else◌, IsTrue}
+use Rattle.std.proofs.Common.{ℕ, suc, true, false, cond, ◌&&◌, ◌==◌, ◌^◌, ◌≡◌, ◌≤◌, ◌<◌, ◌⊎◌, List, [], ◌∷◌, ◌++◌, refl, length, map, filter, ap, ap₂, ◌∙◌, sym, subst, inl, inr, arith, Some, append-nil, if◌then◌else◌}
 use Rattle.std.proofs.lemmas.Bool.{cases_eq, ne_eqb}
 use Rattle.std.proofs.lemmas.List.{map-append}
 use Rattle.ptl_types.specs.declared.headers.Lane.{Lane}
 use Rattle.ptl_types.specs.declared.headers.Lane.TheVariants.{Request, Answer as AnswerLane}
-use Rattle.ptl_types.specs.Handles.{top}
 use Rattle.ptl_types.specs.Messages.{Sent}
-use Rattle.ptl_types.specs.declared.calls.Outcome.TheVariants.{Matched, Answered as IsAnswered}
-use Rattle.ni_model.specs.State.{Delivers, State, delivers, target}
-use Rattle.ni_model.specs.Ready.{Fires, fired, is_ready}
-use Rattle.plan_cuts.specs.History.{Local, after, and_then, got, is_for, is_start, made_by, same_lane}
-use Rattle.plan_cuts.specs.History.Local.{Fire, Receive, Start}
-use Rattle.plan_cuts.specs.Moment.{IsEnabled, IsLocalStep, Lanes}
+use Rattle.ptl_types.specs.declared.calls.Outcome.TheVariants.{Matched}
+use Rattle.ni_model.specs.State.{Delivers, delivers, target}
+use Rattle.plan_cuts.specs.History.{and_then, got, is_for, same_lane}
+use Rattle.plan_cuts.specs.History.Local.{Receive}
+use Rattle.plan_cuts.specs.Moment.{IsLocalStep, Lanes}
 use Rattle.plan_rest.proofs.Longer.{got_one}
 use Rattle.plan_core.specs.Members.{In}
 use Rattle.coll_lang.specs.declared.choices.ChoiceKind.{ChoiceKind}
 use Rattle.choice_machine.specs.Choices.{choice_at}
 use Rattle.coll_lang.specs.declared.choices.ChoiceKind.TheVariants.{Elect, Tickets}
-use Rattle.choice_machine.specs.Machine.{Answer, Ask, Moment, Phase, advanced, answer, at_home, begun, fired as fired_in, opened, put, put_in, returned, sent_at, served, taken, word_after}
-use Rattle.choice_machine.specs.Lawful.{ElectHolds, Holds, InFlight, IsAnswer, IsAsk, IsLawful, TicketsHold, is_plain}
+use Rattle.choice_machine.specs.Machine.{Answer, Ask, Moment, Phase, answer, put, served, taken, word_after}
+use Rattle.choice_machine.specs.Lawful.{Holds, IsAsk}
 use Rattle.choice_machine.proofs.Places.{put-other, put-same, put_in-rank, put_in-row}
 use Rattle.choice_machine.proofs.Words.{word_le}
-use Rattle.choice_machine.proofs.Moments.{begun_lawful, fired_lawful, returned_lawful, taken_lawful}
+use Rattle.choice_machine.proofs.Moments.{taken_lawful}
 use Rattle.choice_machine.specs.Counted.{steps_made}
 use Rattle.choice_machine.proofs.Counting.{made_taken, made_taken_other}
 use Rattle.choice_view.specs.Install.{Seat, Slots, answer_message, ask_message, first_words, seat_of, view}
-use Rattle.choice_view.specs.Steps.{sent_message, with_phase}
-use Rattle.choice_view.proofs.StepStart.{served_view, started_view}
-use Rattle.choice_view.proofs.Firings.{step_fire}
+use Rattle.choice_view.proofs.StepStart.{served_view}
 use Rattle.choice_view.proofs.StepServe.{step_serve}
-use Rattle.choice_view.proofs.StepReturn.{step_return}
 use Rattle.plan_cuts.specs.System.{Histories, System, state_at}
 use Rattle.choice_laws.specs.Decided.{IsInRange, choice_system}
-use Rattle.choice_laws.proofs.Agreement.{Agrees, answer_goes, answer_no_ask, both_false, dropped_one, for_answer, for_rank, kept_one, left_here, left_there, lengths_next, sent_kept, sent_list, sent_no_answer, sent_no_rank, starts_here, starts_stay, state_here, state_there, taken_here, taken_there, untaken}
+use Rattle.choice_laws.proofs.Agreement.{Agrees, answer_goes, answer_no_ask, both_false, dropped_one, for_answer, for_rank, kept_one, left_here, left_there, lengths_next, starts_stay, state_here, state_there, taken_here, taken_there, untaken}
 
 -- ---- the first of a lane
 pub record IsFirst {X Y : Type 0} (f : X → Y) (xs : List X) (y : Y) (ys : List Y) : Type 0 where

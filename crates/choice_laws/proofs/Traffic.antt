@@ -1,5 +1,5 @@
 -- What comes over a lane is for its rank and isn't lost, and what a step makes goes onto a lane that is used.
-use Rattle.std.proofs.Common.{ℕ, suc, Bool, true, false, cond, ◌==◌, ◌^◌, ◌≡◌, ◌≤◌, ◌<◌, ◌⊎◌, List, [], ◌∷◌, refl, length, map, ap, ap₂, ◌∙◌, sym, subst, inl, inr, arith, Option, Some, None, if◌then◌else◌}
+use Rattle.std.proofs.Common.{ℕ, Bool, true, false, ◌==◌, ◌≡◌, ◌<◌, ◌⊎◌, List, [], ◌∷◌, refl, ap, ap₂, ◌∙◌, sym, subst, inl, inr, arith, Some, None, if◌then◌else◌}
 use Rattle.std.proofs.lemmas.Bool.{cases_eq}
 use Rattle.ptl_types.specs.declared.calls.Outcome.TheVariants.{Answered as IsAnswered, Matched}
 use Rattle.ptl_types.specs.declared.headers.Lane.{Lane}
@@ -15,17 +15,17 @@ use Rattle.choice_machine.specs.Choices.{choice_at}
 use Rattle.coll_lang.specs.declared.choices.ChoiceKind.TheVariants.{Elect, Tickets}
 use Rattle.choice_machine.specs.Machine.{Answer, Ask, Phase, answer, ask}
 use Rattle.choice_machine.specs.Machine.Phase.{Answered, Asked, Idle, Learned, Read, Reading, Served, Told}
-use Rattle.choice_machine.specs.Lawful.{Holds, IsAnswer, is_plain}
-use Rattle.choice_view.specs.Install.{Slots, answer_message, ask_header, ask_message, first_header, seat_of, view}
+use Rattle.choice_machine.specs.Lawful.{Holds, is_plain}
+use Rattle.choice_view.specs.Install.{Slots, answer_message, ask_header, ask_message, seat_of}
 use Rattle.choice_view.proofs.Firings.{step_fire}
-use Rattle.choice_view.specs.Steps.{sent_message, with_phase}
+use Rattle.choice_view.specs.Steps.{sent_message}
 use Rattle.choice_view.proofs.StepServe.{step_serve}
 use Rattle.choice_view.proofs.StepReturn.{step_return}
 use Rattle.plan_cuts.specs.System.{Histories, state_at}
 use Rattle.choice_laws.specs.Decided.{IsInRange, choice_system, is_choice_lane}
-use Rattle.choice_laws.specs.Traffic.{IsComing, IsMade, outcome_on}
+use Rattle.choice_laws.specs.Traffic.{IsComing, IsMade}
 use Rattle.choice_laws.proofs.Agreement.{Agrees, ask_goes, ask_source, answer_goes}
-use Rattle.choice_laws.proofs.Serving.{IsFirst, first_of, word_small}
+use Rattle.choice_laws.proofs.Serving.{first_of, word_small}
 
 -- a request's lane, and an answer's
 ask_lane : (k : Slots) (ks : List ChoiceKind) (r s : ℕ) (reads : Bool) → lane_of (ask_header k ks r s reads).kind ≡ Request

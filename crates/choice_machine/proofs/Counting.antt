@@ -1,5 +1,5 @@
 -- Each move is one step of one rank, and a rank makes no more than are due.
-use Rattle.std.proofs.Common.{ℕ, zero, suc, Bool, true, false, cond, ◌==◌, ◌+◌, ◌*◌, ◌≡◌, ◌≤◌, ◌<◌, ◌⊎◌, List, [], ◌∷◌, refl, length, map, ap, ap₂, ◌∙◌, sym, subst, inl, inr, arith, eq-eqb, zero-mul, mul-zero, suc-mul, if◌then◌else◌}
+use Rattle.std.proofs.Common.{ℕ, zero, suc, Bool, true, false, ◌==◌, ◌+◌, ◌*◌, ◌≡◌, ◌≤◌, ◌<◌, ◌⊎◌, List, [], ◌∷◌, refl, length, map, ap, ap₂, ◌∙◌, sym, subst, inl, inr, arith, zero-mul, mul-zero, suc-mul, if◌then◌else◌}
 use Rattle.std.specs.Prelude.{sum_by}
 use Rattle.std.proofs.lemmas.Bool.{cases_eq, ne_eqb}
 use Rattle.std.proofs.lemmas.List.Sums.{sum_by-cons}
@@ -11,7 +11,7 @@ use Rattle.choice_machine.specs.Choices.{choice_at}
 use Rattle.coll_lang.specs.declared.choices.ChoiceKind.TheVariants.{Elect, Tickets}
 use Rattle.choice_machine.specs.Machine.{Answer, Ask, IsTold, Moment, Phase, advanced, at_home, begun, fired, is_ready, opened, put_in, returned, served, taken}
 use Rattle.choice_machine.specs.Machine.Phase.{Answered, Asked, Idle, Learned, Read, Reading, Served, Told}
-use Rattle.choice_machine.specs.Lawful.{Holds, IsAnswer, IsAsk, IsLawful, IsResting, TicketsHold, answer_step, ask_step, is_plain}
+use Rattle.choice_machine.specs.Lawful.{Holds, IsAnswer, IsAsk, IsLawful, IsResting, answer_step, ask_step, is_plain}
 use Rattle.choice_machine.specs.Counted.{home_steps, over_ranks, over_steps, requests_taken, steps_due, steps_made, told_requests, told_steps}
 use Rattle.choice_machine.proofs.Places.{put-other, put-same, put_in-rank, put_in-same, put_in-step}
 use Rattle.choice_machine.proofs.Moments.{rest_told}

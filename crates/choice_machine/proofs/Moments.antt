@@ -1,16 +1,16 @@
 -- Every move of the machine keeps what its moments keep, and at rest all is told and right.
-use Rattle.std.proofs.Common.{ℕ, zero, suc, Bool, true, false, ◌≡◌, ◌≤◌, ◌<◌, ◌⊎◌, List, [], ◌∷◌, ◌++◌, Option, Some, None, refl, length, map, ap, ◌∙◌, sym, subst, inl, inr, arith, count_by}
+use Rattle.std.proofs.Common.{ℕ, true, false, ◌≡◌, ◌≤◌, ◌<◌, ◌⊎◌, List, [], ◌∷◌, ◌++◌, Some, refl, length, map, ap, ◌∙◌, sym, subst, inl, inr, arith}
 use Rattle.std.proofs.lemmas.Bool.{cases_eq}
 use Rattle.plan_core.specs.Members.{Distinct, In, Within}
 use Rattle.plan_core.specs.Plan.{from_to}
 use Rattle.plan_core.proofs.Links.{Distinct-from_to, In-from_to, from_to-In}
 use Rattle.plan_core.proofs.Lists.{Distinct-map, In-map_cases, all_Within, length-map'}
 use Rattle.coll_lang.specs.declared.choices.ChoiceKind.{ChoiceKind}
-use Rattle.choice_machine.specs.Choices.{AreTickets, HasValue, IsElected, IsRight, choice_at}
+use Rattle.choice_machine.specs.Choices.{HasValue, IsRight, choice_at}
 use Rattle.coll_lang.specs.declared.choices.ChoiceKind.TheVariants.{Elect, Tickets}
 use Rattle.choice_machine.specs.Machine.{Answer, Ask, IsTold, Moment, Phase, advanced, answer, at_home, begun, fired, is_ready, opened, put, put_in, returned, sent_at, served, taken, value_of, word_after}
 use Rattle.choice_machine.specs.Machine.Phase.{Answered, Asked, Idle, Learned, Read, Reading, Served, Told}
-use Rattle.choice_machine.specs.Lawful.{ElectHolds, Holds, InFlight, IsLawful, IsResting, TicketsHold, answer_step, ask_step, has_ticket, is_past, is_plain, on_answer, on_request, read_by, ticket_of}
+use Rattle.choice_machine.specs.Lawful.{Holds, InFlight, IsLawful, IsResting, answer_step, ask_step, has_ticket, is_past, is_plain, on_answer, on_request, read_by, ticket_of}
 use Rattle.choice_machine.proofs.Places.{count_all, put-other, put-same, put_in-column, put_in-rank, put_in-row, put_in-step}
 use Rattle.choice_machine.proofs.Flight.{fired_flight, returned_flight, taken_flight}
 use Rattle.choice_machine.proofs.Words.{fired_holds, length-from_to, opened_holds, returned_holds, taken_holds}

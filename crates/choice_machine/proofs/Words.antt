@@ -1,8 +1,7 @@
 -- The word of rank 0 in one step, behind each move.
-use Rattle.std.proofs.Common.{ℕ, zero, suc, Bool, true, false, cond, ◌+◌, ◌%◌, ◌^◌, ◌≡◌, ◌≤◌, ◌<◌, ◌⊎◌, ◌==◌, Option, Some, None, refl, length, ap, ◌∙◌, sym, subst, inl, inr, arith, count_by, eqb-true, is_some}
+use Rattle.std.proofs.Common.{ℕ, zero, suc, Bool, true, false, cond, ◌+◌, ◌%◌, ◌^◌, ◌≡◌, ◌≤◌, ◌<◌, ◌⊎◌, ◌==◌, Option, Some, refl, length, ap, ◌∙◌, sym, subst, inl, inr, arith, eqb-true, is_some}
 use Rattle.std.proofs.lemmas.Bool.{cases_eq, eqb-false}
 use Rattle.ptl_types.specs.Handles.{top}
-use Rattle.plan_core.specs.Members.{In}
 use Rattle.plan_core.specs.Plan.{from_to}
 use Rattle.plan_core.proofs.Links.{Distinct-from_to, In-from_to, from_to-In}
 use Rattle.coll_lang.specs.declared.choices.ChoiceKind.{ChoiceKind}

@@ -1,5 +1,5 @@
 -- How many steps each rank has made at a moment, and how many it makes in all.
-use Rattle.std.specs.Prelude.{ℕ, suc, ◌==◌, ◌+◌, ◌*◌, List, if◌then◌else◌, length, sum_by}
+use Rattle.std.specs.Prelude.{ℕ, ◌==◌, ◌+◌, ◌*◌, List, if◌then◌else◌, length, sum_by}
 use Rattle.plan_core.specs.Plan.{from_to}
 use Rattle.coll_lang.specs.declared.choices.ChoiceKind.{ChoiceKind}
 use Rattle.choice_machine.specs.Choices.{choice_at}

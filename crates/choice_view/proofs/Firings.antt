@@ -1,32 +1,28 @@
 -- What each operation of a choice text does when it fires.
-use Rattle.std.proofs.Common.{ℕ, suc, Bool, true, false, cond, not, ◌==◌, ◌+◌, ◌*◌, ◌≡◌, ◌≤◌, ◌<◌, ◌⊎◌, List, [], ◌∷◌, refl, length, map, filter, ap, ap₂, ◌∙◌, sym, subst, inl, inr, arith, flat_map, count_by, min, Option, Some, None, add-zero}
+use Rattle.std.proofs.Common.{ℕ, suc, true, false, not, ◌+◌, ◌*◌, ◌≡◌, ◌≤◌, ◌<◌, ◌⊎◌, List, refl, length, map, filter, ap, ap₂, ◌∙◌, sym, subst, inl, inr, arith, flat_map, count_by, min, Option, Some, None, add-zero}
 use Rattle.std.proofs.lemmas.Bool.{cases_eq}
-use Rattle.ptl_types.specs.declared.handles.Count.{Count}
-use Rattle.ptl_types.specs.declared.headers.Header.{Header}
-use Rattle.ptl_types.specs.declared.calls.Deed.{Deed}
 use Rattle.ptl_types.specs.declared.elements.AtomicOp.TheVariants.{Sum}
 use Rattle.ptl_types.specs.declared.elements.SwapOp.TheVariants.{Cswap}
 use Rattle.ptl_types.specs.declared.elements.ElemType.TheVariants.{U64}
 use Rattle.ptl_types.specs.Handles.{top}
 use Rattle.ptl_types.specs.Elements.{part}
 use Rattle.ptl_types.specs.Messages.{Sent, message}
-use Rattle.ni_model.specs.declared.Bound.{Bound}
 use Rattle.ni_model.specs.State.{Posted, State}
-use Rattle.ni_model.specs.Tables.{Live, Table, change, changed, lookup}
+use Rattle.ni_model.specs.Tables.{change, changed, lookup}
 use Rattle.ni_model.specs.Counts.{bump, one_more, successes}
 use Rattle.ni_model.specs.Starts.{bytes_at, get_header, one_awaited}
-use Rattle.ni_model.specs.Ready.{Fires, done, fired, fired_op, fires, is_ready, posted_at, is_number}
+use Rattle.ni_model.specs.Ready.{done, fired, fired_op, fires, is_ready, is_number}
 use Rattle.plan_core.specs.Members.{In}
 use Rattle.plan_core.proofs.Links.{Distinct-from_to}
 use Rattle.plan_view.proofs.Tables.{bump-successes}
 use Rattle.coll_lang.specs.declared.choices.ChoiceKind.{ChoiceKind}
 use Rattle.choice_machine.specs.Choices.{choice_at}
 use Rattle.coll_lang.specs.declared.choices.ChoiceKind.TheVariants.{Elect, Tickets}
-use Rattle.choice_machine.specs.Machine.{Phase, advanced, ask, put, value_of, is_ready as is_ready_phase}
+use Rattle.choice_machine.specs.Machine.{Phase, advanced, put, value_of, is_ready as is_ready_phase}
 use Rattle.choice_machine.specs.Machine.Phase.{Answered, Asked, Idle, Learned, Read, Reading, Served, Told}
 use Rattle.choice_machine.proofs.Places.{count_as, count_put, put-other, put-same}
 use Rattle.choice_machine.proofs.Words.{put_as}
-use Rattle.choice_view.specs.Install.{Counter, Part, Seat, Slots, Work, ask_message, awaits_of, awaits_result, count_of, counters, ct_of, ct_stamp, deed_of, first_deed, first_header, get_args, given_word, has_first, has_result, is_out, is_reading, is_told, live_counter, live_part, md_of, md_stamp, none_or_one, number_of, old_of, operation, part_start, parts, put_args, result_counter, step_bytes, steps, view, was_fired, was_read, was_sent, word, work_counter, works}
+use Rattle.choice_view.specs.Install.{Counter, Part, Seat, Slots, Work, awaits_of, awaits_result, count_of, counters, ct_of, ct_stamp, deed_of, first_deed, first_header, get_args, given_word, has_first, has_result, is_out, is_reading, is_told, live_counter, live_part, md_of, md_stamp, none_or_one, number_of, old_of, operation, parts, put_args, result_counter, step_bytes, steps, view, was_fired, was_read, was_sent, word, work_counter, works}
 use Rattle.choice_view.specs.Install.Counter.{Done, First, Go, Second}
 use Rattle.choice_view.specs.Install.Part.{Given, Old, Result}
 use Rattle.choice_view.specs.Install.Work.{Look, Send, Tell}
@@ -34,7 +30,7 @@ use Rattle.choice_view.specs.Steps.{sent_message, with_phase}
 use Rattle.choice_view.proofs.Looks.{first_advanced, old_advanced, result_advanced, value_advanced}
 use Rattle.choice_view.proofs.Memory.{read_given, read_part}
 use Rattle.choice_view.proofs.Named.{changed_named}
-use Rattle.choice_view.proofs.Stamps.{In-done, In-given, In-old, In-result, In-steps, IsPart, IsWork, counters-In, ct_one, md_one, parts-In}
+use Rattle.choice_view.proofs.Stamps.{In-given, In-old, In-result, In-steps, IsWork, counters-In, ct_one, md_one, parts-In}
 use Rattle.choice_view.proofs.StepStart.{bound_for, bound_with, counts_as, memory_as, length-step, parts_as, view_with}
 use Rattle.choice_view.proofs.StepFire.{IsAnswered, IsLearned, IsReadyWork, done_fetch, done_get, done_swap, left_waiting, lookup_md, read_answered, ready_work, sent_idle, sent_state, told_learned, true_one, one_true, work_ready}
 

@@ -1,7 +1,6 @@
 -- The closed form of an installed interface is the state after the calls.
-use Rattle.std.proofs.Common.{ℕ, zero, suc, Bool, true, false, cond, not, ◌==◌, ◌+◌, ◌≡◌, ◌<◌, List, [], ◌∷◌, ◌++◌, refl, length, map, filter, flat_map, ap, ap₂, ◌∙◌, sym, subst, arith, append_assoc, append-nil, add-zero, None, Some, count_by, min, length-append, if◌then◌else◌}
+use Rattle.std.proofs.Common.{ℕ, zero, suc, Bool, true, false, cond, not, ◌==◌, ◌+◌, ◌≡◌, List, [], ◌∷◌, ◌++◌, refl, length, map, filter, flat_map, ap, ap₂, ◌∙◌, sym, subst, arith, append_assoc, append-nil, add-zero, None, Some, length-append, if◌then◌else◌}
 use Rattle.std.proofs.lemmas.List.{map-append}
-use Rattle.ptl_types.specs.Handles.{top}
 use Rattle.ni_model.specs.declared.Bound.{Bound}
 use Rattle.ni_model.specs.declared.Linked.{Linked}
 use Rattle.ptl_types.specs.declared.handles.Count.{Count}
@@ -15,11 +14,10 @@ use Rattle.plan_core.specs.Plan.{from_to}
 use Rattle.coll_lang.specs.declared.choices.ChoiceKind.{ChoiceKind}
 use Rattle.choice_machine.specs.Choices.{choice_at}
 use Rattle.coll_lang.specs.declared.choices.ChoiceKind.TheVariants.{Elect, Tickets}
-use Rattle.choice_machine.specs.Machine.{opened as nothing_done}
 use Rattle.choice_machine.specs.Machine.Phase.{Idle}
 use Rattle.choice_machine.proofs.Places.{count_none}
 use Rattle.choice_machine.proofs.Words.{length-from_to}
-use Rattle.choice_view.specs.Install.{Counter, Part, Seat, Slots, Work, awaits_of, awaits_result, before, count_of, counters, counters_in, counters_of, ct_of, ct_stamp, deed_of, descriptor_of, entries_of, entry_of, has_first, last_in, live_counter, live_part, md_of, md_stamp, none_or_one, number_of, operation, parts, parts_of, steps, things_in, view, was_fired, word_entry, work_counter, works, works_of}
+use Rattle.choice_view.specs.Install.{Counter, Part, Slots, Work, awaits_of, awaits_result, before, count_of, counters, counters_in, counters_of, ct_of, ct_stamp, deed_of, descriptor_of, entries_of, entry_of, has_first, last_in, live_counter, live_part, md_of, md_stamp, none_or_one, number_of, operation, parts, parts_of, steps, things_in, view, was_fired, word_entry, work_counter, works, works_of}
 use Rattle.choice_view.specs.Install.Counter.{Done, First, Go, Second}
 use Rattle.choice_view.specs.Install.Part.{Given, Old, Result}
 use Rattle.choice_view.specs.Install.Work.{Look, Send, Tell}

@@ -1,10 +1,10 @@
 -- What an interface shows of a phase, behind each move.
-use Rattle.std.proofs.Common.{ℕ, Bool, true, false, ◌≡◌, refl}
+use Rattle.std.proofs.Common.{ℕ, ◌≡◌, refl}
 use Rattle.coll_lang.specs.declared.choices.ChoiceKind.{ChoiceKind}
 use Rattle.coll_lang.specs.declared.choices.ChoiceKind.TheVariants.{Elect, Tickets}
-use Rattle.choice_machine.specs.Machine.{Phase, advanced, at_home, served, value_of}
+use Rattle.choice_machine.specs.Machine.{Phase, advanced, served, value_of}
 use Rattle.choice_machine.specs.Machine.Phase.{Answered, Asked, Idle, Learned, Read, Reading, Served, Told}
-use Rattle.choice_view.specs.Install.{has_first, has_result, is_out, is_reading, is_told, old_of, was_read, was_sent}
+use Rattle.choice_view.specs.Install.{has_first, has_result, old_of}
 
 -- ---- a firing
 pub first_advanced : (k : ChoiceKind) (p : Phase) → has_first k (advanced p) ≡ has_first k p

@@ -1,5 +1,5 @@
 -- The counters, descriptors and operations of a choice text: which there are, and that stamps and numbers tell them apart.
-use Rattle.std.proofs.Common.{ℕ, zero, suc, ◌+◌, ◌≡◌, ◌≤◌, ◌<◌, ◌⊎◌, List, [], ◌∷◌, refl, length, ap, ◌∙◌, sym, subst, inl, inr, arith}
+use Rattle.std.proofs.Common.{ℕ, zero, suc, ◌+◌, ◌≡◌, ◌≤◌, ◌<◌, ◌⊎◌, List, refl, length, ap, sym, subst, inl, inr, arith}
 use Rattle.std.proofs.lemmas.Bool.{cases_eq, cases_lt}
 use Rattle.plan_core.specs.Members.{In}
 use Rattle.plan_core.proofs.Links.{In-from_to, from_to-In}

@@ -1,55 +1,40 @@
 -- A firing: which operation is ready, and what it does.
-use Rattle.std.proofs.Common.{ℕ, suc, Bool, true, false, cond, not, ◌&&◌, ◌==◌, ◌+◌, ◌*◌, ◌≡◌, ◌≤◌, ◌<◌, ◌⊎◌, nat_le, List, [], ◌∷◌, refl, length, map, filter, find, ap, ap₂, ◌∙◌, sym, subst, inl, inr, arith, flat_map, count_by, min, Option, Some, None, Ok, is_some, eqb-true, eq-eqb, add-zero}
+use Rattle.std.proofs.Common.{ℕ, Bool, true, false, cond, not, ◌&&◌, ◌==◌, ◌+◌, ◌≡◌, ◌≤◌, ◌⊎◌, nat_le, List, [], ◌∷◌, refl, map, filter, ap, ◌∙◌, sym, subst, inl, inr, arith, Option, Some, None, Ok, is_some, eqb-true, eq-eqb}
 use Rattle.std.proofs.lemmas.Bool.{ne_eqb, leb-true, le-leb, not-true, cases_eq}
 use Rattle.ptl_types.specs.declared.handles.Count.{Count}
-use Rattle.ptl_types.specs.declared.handles.Handle.{Handle}
 use Rattle.ptl_types.specs.declared.elements.AtomicOp.{AtomicOp}
-use Rattle.ptl_types.specs.declared.elements.AtomicOp.TheVariants.{Sum}
 use Rattle.ptl_types.specs.declared.elements.SwapOp.{SwapOp}
-use Rattle.ptl_types.specs.declared.elements.SwapOp.TheVariants.{Cswap}
 use Rattle.ptl_types.specs.declared.elements.ElemType.{ElemType}
-use Rattle.ptl_types.specs.declared.elements.ElemType.TheVariants.{U64}
 use Rattle.ptl_types.specs.declared.headers.Header.{Header}
 use Rattle.ptl_types.specs.declared.headers.MessageKind.TheVariants.{FetchAtomic as FetchAtomicKind, Swap as SwapKind}
 use Rattle.ptl_types.specs.declared.calls.PutArgs.{PutArgs}
 use Rattle.ptl_types.specs.declared.calls.GetArgs.{GetArgs}
-use Rattle.ptl_types.specs.declared.calls.Deed.{Deed}
-use Rattle.ptl_types.specs.declared.calls.Deed.TheVariants.{FetchAtomic as FetchAtomicDeed, Get as GetDeed, Inc as IncDeed, Swap as SwapDeed}
-use Rattle.ptl_types.specs.Handles.{top}
-use Rattle.ptl_types.specs.Elements.{part}
-use Rattle.ptl_types.specs.Messages.{Sent, message}
+use Rattle.ptl_types.specs.declared.calls.Deed.TheVariants.{FetchAtomic as FetchAtomicDeed, Get as GetDeed, Swap as SwapDeed}
+use Rattle.ptl_types.specs.Messages.{message}
 use Rattle.ni_model.specs.declared.Bound.{Bound}
 use Rattle.ni_model.specs.State.{Posted, State}
-use Rattle.ni_model.specs.Tables.{Live, Table, changed, lookup}
+use Rattle.ni_model.specs.Tables.{Table, changed, lookup}
 use Rattle.ptl_types.specs.declared.calls.NiFault.TheVariants.{CountFull, Stale}
 use Rattle.ni_model.specs.Append.{need}
 use Rattle.ni_model.specs.Calls.{ct_inc, ends, ends_by}
 use Rattle.ni_model.specs.Refusals.{inc_passes}
-use Rattle.ni_model.specs.Counts.{bump, counted, plus, successes}
+use Rattle.ni_model.specs.Counts.{counted, plus, successes}
 use Rattle.ni_model.specs.Queues.{raised}
 use Rattle.ni_model.specs.Events.{send_event}
 use Rattle.ni_model.specs.Starts.{bytes_at, fetch_header, get_header, one_awaited, send_counter, send_queue, started}
-use Rattle.ni_model.specs.Ready.{Fires, done, fired, fired_op, fires, is_number, is_reached, is_ready, is_ready_op, posted_at, without_number}
+use Rattle.ni_model.specs.Ready.{done, fires, is_number, is_reached, is_ready, is_ready_op, posted_at}
 use Rattle.plan_core.specs.Members.{In}
-use Rattle.plan_core.proofs.Links.{Distinct-from_to}
 use Rattle.plan_core.proofs.Lists.{In-filter, In-filter_cases, In-map_cases}
-use Rattle.plan_view.proofs.Tables.{bump-successes, find-In, find-one}
+use Rattle.plan_view.proofs.Tables.{find-In, find-one}
 use Rattle.coll_lang.specs.declared.choices.ChoiceKind.{ChoiceKind}
-use Rattle.choice_machine.specs.Choices.{choice_at}
-use Rattle.coll_lang.specs.declared.choices.ChoiceKind.TheVariants.{Elect, Tickets}
-use Rattle.choice_machine.specs.Machine.{Ask, Phase, advanced, ask, put, value_of, is_ready as is_ready_phase}
+use Rattle.coll_lang.specs.declared.choices.ChoiceKind.TheVariants.{Elect}
+use Rattle.choice_machine.specs.Machine.{Phase}
 use Rattle.choice_machine.specs.Machine.Phase.{Answered, Asked, Idle, Learned, Read, Reading, Served, Told}
-use Rattle.choice_machine.proofs.Places.{count_as, count_put, put-other, put-same}
-use Rattle.choice_machine.proofs.Words.{put_as}
-use Rattle.choice_view.specs.Install.{Counter, Part, Seat, Slots, Work, ask_message, awaits_of, awaits_result, count_of, counters, ct_of, ct_stamp, deed_of, descriptor_of, first_deed, get_args, given_word, has_first, has_result, is_out, is_reading, is_told, md_of, md_stamp, none_or_one, number_of, old_of, operation, part_start, parts, put_args, result_counter, step_bytes, steps, view, was_fired, was_read, was_sent, word, work_counter, works}
+use Rattle.choice_view.specs.Install.{Counter, Part, Seat, Slots, Work, count_of, counters, ct_of, ct_stamp, has_first, has_result, is_told, md_of, md_stamp, none_or_one, number_of, operation, parts, view, was_fired, was_read, was_sent, work_counter, works}
 use Rattle.choice_view.specs.Install.Counter.{Done, First, Go, Second}
-use Rattle.choice_view.specs.Install.Part.{Given, Old, Result}
-use Rattle.choice_view.specs.Install.Work.{Look, Send, Tell}
-use Rattle.choice_view.proofs.Looks.{first_advanced, old_advanced, result_advanced, value_advanced}
-use Rattle.choice_view.proofs.Memory.{length-four, read_given, read_part}
 use Rattle.choice_view.proofs.Named.{changed_named, lookup_named}
-use Rattle.choice_view.proofs.Stamps.{IsWork, In-done, In-given, In-go, In-steps, In-work_counter, In-works, counters-In, ct_one, md_one, number_one, parts-In, steps-In, works-In}
-use Rattle.choice_view.proofs.StepStart.{bound_for, bound_with, counts_as, memory_as, parts_as, view_with}
+use Rattle.choice_view.proofs.Stamps.{IsWork, In-go, In-work_counter, In-works, counters-In, ct_one, md_one, number_one, parts-In, works-In}
+use Rattle.choice_view.proofs.StepStart.{bound_for}
 
 -- ---- which operation is ready
 module _ (k : Slots) (ranks : ℕ) (ks : List ChoiceKind) (r : ℕ) (seat : Seat) where

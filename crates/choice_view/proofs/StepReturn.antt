@@ -1,24 +1,22 @@
 -- An answer at home: it writes its word, counts, and is awaited no longer.
-use Rattle.std.proofs.Common.{ℕ, suc, Bool, true, false, cond, ◌+◌, ◌-◌, ◌*◌, ◌≡◌, ◌≤◌, ◌<◌, ◌⊎◌, nat_lt, nat_le, ◌&&◌, List, [], ◌∷◌, refl, length, map, ap, ap₂, ◌∙◌, sym, subst, inl, inr, arith, flat_map, count_by, min, Option, Some, None, add-zero}
+use Rattle.std.proofs.Common.{ℕ, Bool, true, false, cond, ◌+◌, ◌-◌, ◌*◌, ◌≡◌, ◌<◌, nat_lt, nat_le, ◌&&◌, List, refl, length, map, ap, ap₂, ◌∙◌, sym, subst, inl, inr, arith, min, Option, Some, None, add-zero}
 use Rattle.std.proofs.lemmas.Bool.{cases_eq}
-use Rattle.ptl_types.specs.declared.handles.Count.{Count}
 use Rattle.ptl_types.specs.declared.handles.Handle.{Handle}
 use Rattle.ptl_types.specs.declared.headers.Header.{Header}
 use Rattle.ptl_types.specs.declared.calls.Outcome.TheVariants.{Answered as IsAnswered}
 use Rattle.ptl_types.specs.Handles.{top}
 use Rattle.ptl_types.specs.Elements.{written}
-use Rattle.ptl_types.specs.Messages.{Sent, message}
-use Rattle.ni_model.specs.declared.Bound.{Bound}
+use Rattle.ptl_types.specs.Messages.{message}
 use Rattle.ni_model.specs.Arrive.{reply_header}
-use Rattle.ni_model.specs.Answers.{answered, answered_at, awaits_less, bound_at, came_home, home, is_due, lost_answer, one_less}
+use Rattle.ni_model.specs.Answers.{answered, answered_at, awaits_less, bound_at, came_home, is_due, lost_answer, one_less}
 use Rattle.ni_model.specs.Counts.{bump, counted, successes}
 use Rattle.ni_model.specs.State.{Delivers, State, after_answer, delivers, home_of, target}
-use Rattle.ni_model.specs.Tables.{Live, Table, change, changed, where_set}
+use Rattle.ni_model.specs.Tables.{change, changed, where_set}
 use Rattle.plan_core.specs.Members.{In}
 use Rattle.coll_lang.specs.declared.choices.ChoiceKind.{ChoiceKind}
 use Rattle.choice_machine.specs.Choices.{choice_at}
 use Rattle.coll_lang.specs.declared.choices.ChoiceKind.TheVariants.{Elect, Tickets}
-use Rattle.choice_machine.specs.Machine.{Answer, Phase, answer, at_home, put, value_of}
+use Rattle.choice_machine.specs.Machine.{Answer, Phase, answer, at_home, value_of}
 use Rattle.choice_machine.specs.Machine.Phase.{Answered, Asked, Idle, Learned, Read, Reading, Served, Told}
 use Rattle.choice_machine.specs.Lawful.{IsAnswer, is_plain}
 use Rattle.choice_machine.proofs.Places.{count_as, put-other, put-same}
@@ -30,8 +28,8 @@ use Rattle.choice_view.specs.Install.Work.{Look, Send, Tell}
 use Rattle.choice_view.specs.Steps.{with_phase}
 use Rattle.choice_view.proofs.Memory.{write_old, write_part, write_result}
 use Rattle.choice_view.proofs.Named.{changed_named}
-use Rattle.choice_view.proofs.Stamps.{In-first, In-old, In-result, In-second, In-steps, counters-In, ct_one, md_one, parts-In, works-In}
-use Rattle.choice_view.proofs.StepStart.{bound_for, bound_with, counts_as, length-step, parts_as, pending_as, view_with}
+use Rattle.choice_view.proofs.Stamps.{In-first, In-old, In-result, In-second, counters-In, ct_one, md_one, parts-In, works-In}
+use Rattle.choice_view.proofs.StepStart.{bound_for, bound_with, length-step, pending_as, view_with}
 use Rattle.choice_view.proofs.StepFire.{lookup_md}
 
 -- ---- an answer that a descriptor awaits

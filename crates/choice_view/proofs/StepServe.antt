@@ -1,5 +1,5 @@
 -- A request at rank 0: it finds the word of its step, and is answered with what stood there.
-use Rattle.std.proofs.Common.{ℕ, Bool, true, false, cond, ◌&&◌, ◌==◌, ◌+◌, ◌*◌, ◌%◌, ◌^◌, ◌≡◌, ◌≤◌, ◌<◌, List, [], ◌∷◌, ◌++◌, refl, length, map, find, take, ap, ap₂, ◌∙◌, sym, subst, arith, flat_map, Option, Some, None, add-zero, if◌then◌else◌}
+use Rattle.std.proofs.Common.{ℕ, Bool, true, false, ◌&&◌, ◌==◌, ◌+◌, ◌*◌, ◌%◌, ◌^◌, ◌≡◌, ◌≤◌, ◌<◌, List, [], ◌∷◌, refl, length, map, find, ap, ap₂, ◌∙◌, sym, arith, Option, Some, None, if◌then◌else◌}
 use Rattle.std.proofs.lemmas.Bool.{and_parts}
 use Rattle.ptl_types.specs.declared.headers.Header.{Header}
 use Rattle.ptl_types.specs.declared.calls.Outcome.TheVariants.{Matched}
@@ -10,20 +10,19 @@ use Rattle.ptl_types.specs.declared.elements.AtomicOp.TheVariants.{Sum}
 use Rattle.ptl_types.specs.Handles.{top}
 use Rattle.ptl_types.specs.Matching.{bits_match}
 use Rattle.ptl_types.specs.Kinds.{is_put_or_atomic}
-use Rattle.ptl_types.specs.Elements.{combined, little_endian, part, pattern, written}
-use Rattle.ptl_types.specs.Messages.{Sent, message}
+use Rattle.ptl_types.specs.Elements.{combined, part, pattern, written}
+use Rattle.ptl_types.specs.Messages.{message}
 use Rattle.op_laws.proofs.Swaps.{pattern-little}
 use Rattle.ni_model.specs.declared.Found.{Found}
 use Rattle.ni_model.specs.declared.Linked.{Linked}
 use Rattle.ni_model.specs.Lists.{Index, fits, index_at}
-use Rattle.ni_model.specs.Arrive.{accepted, as_found, chosen, chosen_at, judged, or_else, request, combined_by, swapped_by, reply_header}
+use Rattle.ni_model.specs.Arrive.{as_found, chosen, chosen_at, judged, or_else, request, swapped_by, reply_header}
 use Rattle.ni_model.specs.State.{Delivers, State, after_request, delivers, parts_of as target_parts, target}
-use Rattle.plan_core.specs.Members.{In}
 use Rattle.plan_view.proofs.Tables.{find-one}
 use Rattle.coll_lang.specs.declared.choices.ChoiceKind.{ChoiceKind}
 use Rattle.choice_machine.specs.Choices.{choice_at}
 use Rattle.coll_lang.specs.declared.choices.ChoiceKind.TheVariants.{Elect, Tickets}
-use Rattle.choice_machine.specs.Machine.{Ask, Phase, answer, ask, put, value_of, word_after}
+use Rattle.choice_machine.specs.Machine.{answer, ask, value_of, word_after}
 use Rattle.choice_machine.proofs.Places.{put-other, put-same}
 use Rattle.choice_machine.proofs.Moments.{put-again}
 use Rattle.choice_view.specs.Install.{Seat, Slots, answer_message, ask_header, ask_message, entry_of, first_header, four_words, given_word, old_of, step_bytes, steps, view, word}

@@ -1,10 +1,10 @@
 -- A start, and a request that rank 0 took: what the rank's interface shows.
-use Rattle.std.proofs.Common.{ℕ, suc, Bool, true, false, cond, not, ◌+◌, ◌≡◌, ◌≤◌, ◌<◌, List, [], ◌∷◌, refl, length, map, filter, ap, ap₂, ◌∙◌, sym, subst, inl, inr, arith, flat_map, count_by, min, Option, Some, None}
+use Rattle.std.proofs.Common.{ℕ, Bool, true, false, cond, not, ◌≡◌, List, [], ◌∷◌, refl, length, map, filter, ap, ap₂, sym, inl, inr, flat_map, min}
 use Rattle.ptl_types.specs.declared.handles.Count.{Count}
 use Rattle.ptl_types.specs.Handles.{top}
 use Rattle.ni_model.specs.declared.Bound.{Bound}
 use Rattle.ni_model.specs.Counts.{bump, successes}
-use Rattle.ni_model.specs.Tables.{Live, change}
+use Rattle.ni_model.specs.Tables.{Live}
 use Rattle.ni_model.specs.State.{Posted, State}
 use Rattle.plan_core.specs.Members.{In}
 use Rattle.plan_core.proofs.Flat.{flat-same}
@@ -16,14 +16,14 @@ use Rattle.choice_machine.specs.Machine.{Phase, put, served, value_of}
 use Rattle.choice_machine.specs.Machine.Phase.{Asked, Read, Reading, Served}
 use Rattle.choice_machine.proofs.Places.{count_as}
 use Rattle.choice_machine.proofs.Words.{put_as}
-use Rattle.choice_view.specs.Install.{Counter, Part, Seat, Slots, Work, awaits_of, awaits_result, count_of, counters, ct_of, ct_stamp, descriptor_of, four_words, given_word, has_first, has_result, is_out, is_reading, is_told, none_or_one, live_counter, live_part, md_of, md_stamp, old_of, operation, parts, step_bytes, steps, view, was_fired, was_read, was_sent, works}
+use Rattle.choice_view.specs.Install.{Counter, Part, Seat, Slots, Work, awaits_of, awaits_result, count_of, counters, ct_of, ct_stamp, descriptor_of, four_words, given_word, has_first, has_result, is_out, is_reading, is_told, none_or_one, live_counter, live_part, md_stamp, old_of, operation, parts, step_bytes, steps, view, was_fired, was_read, was_sent, works}
 use Rattle.choice_view.specs.Install.Counter.{Done, First, Go, Second}
 use Rattle.choice_view.specs.Install.Part.{Given, Old, Result}
 use Rattle.choice_view.specs.Install.Work.{Look, Send, Tell}
 use Rattle.choice_view.specs.Steps.{with_phase}
 use Rattle.choice_view.proofs.Looks.{look_served}
 use Rattle.choice_view.proofs.Named.{changed_named, same_lives}
-use Rattle.choice_view.proofs.Stamps.{counters-In, ct_one, In-go}
+use Rattle.choice_view.proofs.Stamps.{counters-In, ct_one}
 
 pub length-step : (ks : List ChoiceKind) (r : ℕ) (seat : Seat) (s : ℕ) → length (step_bytes ks r seat s) ≡ 32
 length-step ks r seat s = refl

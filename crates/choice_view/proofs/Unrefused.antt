@@ -1,5 +1,5 @@
 -- None of the calls that install a choice text is refused.
-use Rattle.std.proofs.Common.{ℕ, zero, suc, Bool, true, false, not, ◌&&◌, ◌||◌, ◌+◌, ◌-◌, ◌*◌, ◌^◌, ◌≡◌, ◌≤◌, ◌<◌, ◌==◌, nat_le, List, [], ◌∷◌, ◌++◌, refl, length, map, ap, ap₂, ◌∙◌, sym, subst, inl, inr, arith, Option, Some, None, le-leb, is_some, suc-mul, add-zero, append-nil, lit≤, flat_map, length-append, if◌then◌else◌}
+use Rattle.std.proofs.Common.{ℕ, zero, suc, Bool, true, false, not, ◌&&◌, ◌||◌, ◌+◌, ◌-◌, ◌*◌, ◌^◌, ◌≡◌, ◌≤◌, ◌<◌, ◌==◌, nat_le, List, [], ◌∷◌, ◌++◌, refl, length, map, ap, ap₂, ◌∙◌, sym, subst, inl, inr, arith, Some, None, le-leb, is_some, suc-mul, add-zero, append-nil, lit≤, flat_map, length-append, if◌then◌else◌}
 use Rattle.std.specs.Prelude.{sum_by}
 use Rattle.std.proofs.lemmas.Bool.{leb-true, false_from_ne_true}
 use Rattle.std.proofs.lemmas.List.{length-map, map-append}
@@ -7,28 +7,25 @@ use Rattle.std.proofs.lemmas.List.Sums.{sum_by-cons}
 use Rattle.ptl_types.specs.declared.calls.NiFault.{NiFault}
 use Rattle.ptl_types.specs.declared.calls.NiFault.TheVariants.{Stale, NoSpace, OutOfRegion, CountFull}
 use Rattle.ptl_types.specs.declared.calls.Deed.{Deed}
-use Rattle.ptl_types.specs.declared.handles.Count.{Count}
-use Rattle.ptl_types.specs.declared.handles.Handle.{Handle}
 use Rattle.ptl_types.specs.Handles.{top}
 use Rattle.ni_model.specs.declared.Linked.{Linked}
-use Rattle.ni_model.specs.declared.Bound.{Bound}
-use Rattle.ni_model.specs.Tables.{Live, Table, is_live, is_live_or_none, lookup}
+use Rattle.ni_model.specs.Tables.{is_live_or_none, lookup}
 use Rattle.ni_model.specs.Append.{append_fault, is_within, need}
 use Rattle.ni_model.specs.Counts.{successes}
 use Rattle.ni_model.specs.Lists.{entries_in}
-use Rattle.ni_model.specs.Calls.{bound, with_counter, with_index}
+use Rattle.ni_model.specs.Calls.{with_counter}
 use Rattle.ni_model.specs.Conditions.{MayStart}
 use Rattle.ni_model.specs.Refusals.{alloc_fault, bind_fault, counts_on_live, deed_fits, deed_is_live, deed_passes, holds_part, pt_alloc_fault, triggered_fault}
 use Rattle.ni_model.specs.State.{State, opened, parts_of as target_parts, side_of}
 use Rattle.plan_core.specs.Members.{In}
 use Rattle.plan_core.specs.Plan.{from_to}
-use Rattle.plan_core.proofs.Lists.{In-append_left, In-append_right, In-append_cases}
+use Rattle.plan_core.proofs.Lists.{In-append_right, In-append_cases}
 use Rattle.coll_lang.specs.declared.choices.ChoiceKind.{ChoiceKind}
 use Rattle.choice_machine.specs.Choices.{choice_at}
 use Rattle.coll_lang.specs.declared.choices.ChoiceKind.TheVariants.{Elect, Tickets}
 use Rattle.choice_machine.proofs.Words.{length-from_to}
-use Rattle.choice_view.specs.Install.{Counter, Part, Slots, Work, before, counters, counters_in, counters_of, ct_of, ct_stamp, deed_of, descriptor_of, entries_of, entry_of, first_deed, last_in, limits_of, md_of, md_stamp, number_of, operation, part_counter, part_start, parts, parts_of, result_counter, step_bytes, steps, things_in, word_entry, work_counter, works, works_of}
-use Rattle.choice_view.specs.Install.Counter.{Done, First, Go, Second}
+use Rattle.choice_view.specs.Install.{Counter, Part, Slots, Work, before, counters, counters_in, counters_of, ct_of, ct_stamp, deed_of, descriptor_of, entries_of, entry_of, first_deed, limits_of, md_of, md_stamp, number_of, operation, part_start, parts, parts_of, result_counter, step_bytes, steps, things_in, word_entry, work_counter, works, works_of}
+use Rattle.choice_view.specs.Install.Counter.{Done, First, Go}
 use Rattle.choice_view.specs.Install.Part.{Given, Old, Result}
 use Rattle.choice_view.specs.Install.Work.{Look, Send, Tell}
 use Rattle.choice_view.specs.Calls.{counters_all, entered, entries_all, fresh, indexed, made_all, made_part, no_seat, operations_all, parts_all}
@@ -37,8 +34,8 @@ use Rattle.choice_view.proofs.Named.{flat-In, lookup_named}
 use Rattle.choice_view.proofs.Memory.{inside_step}
 use Rattle.choice_view.proofs.StepStart.{length-step}
 use Rattle.choice_view.proofs.StepFire.{lookup_ct, lookup_md}
-use Rattle.choice_view.proofs.Stamps.{IsCounter, IsWork, In-done, In-given, In-old, In-result, In-steps, In-work_counter, counters-In, ct_one, md_one, parts-In, steps-In, works-In}
-use Rattle.choice_view.proofs.Installed.{Runs, Runs-left, after_counters, after_entries, after_made, after_operations, after_parts, all_counters_run, all_parts_run, all_works_run, bare, counters_long, counters_run, cts_with, entered_is, entries_with, made_is, mds_with, new_counter, new_part, operations_with, parts_long, parts_run, same_number, steps_run, tables_with, works_long}
+use Rattle.choice_view.proofs.Stamps.{IsCounter, IsWork, In-done, In-given, In-old, In-result, In-work_counter, ct_one, works-In}
+use Rattle.choice_view.proofs.Installed.{Runs, Runs-left, after_counters, after_entries, after_made, after_operations, after_parts, all_counters_run, all_parts_run, all_works_run, bare, counters_long, counters_run, cts_with, entered_is, made_is, mds_with, new_counter, new_part, parts_long, parts_run, steps_run, tables_with, works_long}
 
 -- ---- small facts
 above : (n m : ℕ) → n < m → nat_le m n ≡ false

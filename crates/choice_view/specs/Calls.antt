@@ -9,7 +9,7 @@ use Rattle.plan_core.specs.Plan.{from_to}
 use Rattle.coll_lang.specs.declared.choices.ChoiceKind.{ChoiceKind}
 use Rattle.choice_machine.specs.Choices.{choice_at}
 use Rattle.choice_machine.specs.Machine.{opened as nothing_done}
-use Rattle.choice_view.specs.Install.{Counter, Part, Seat, Slots, Work, counters_of, ct_of, deed_of, descriptor_of, limits_of, parts, parts_of, seat_of, step_bytes, steps, view, word_entry, work_counter, works, works_of}
+use Rattle.choice_view.specs.Install.{Counter, Part, Seat, Slots, Work, counters_of, ct_of, deed_of, descriptor_of, limits_of, parts_of, seat_of, step_bytes, steps, word_entry, work_counter, works}
 
 -- a counting event for each of these
 abbrev pub counters_all : Slots → List Counter → State → State

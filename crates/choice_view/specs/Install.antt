@@ -20,7 +20,7 @@ use Rattle.ptl_types.specs.Elements.{little_endian}
 use Rattle.ptl_types.specs.Messages.{Sent, message}
 use Rattle.ni_model.specs.declared.Linked.{Linked}
 use Rattle.ni_model.specs.declared.Bound.{Bound}
-use Rattle.ni_model.specs.Tables.{Live, Table, handle, no_things}
+use Rattle.ni_model.specs.Tables.{Live, handle, no_things}
 use Rattle.ni_model.specs.Counts.{successes}
 use Rattle.ni_model.specs.Headers.{held}
 use Rattle.ni_model.specs.Arrive.{reply_header}

@@ -3,7 +3,7 @@ use Rattle.std.specs.Prelude.{ℕ, true, false, List, Option, Some, None}
 use Rattle.ptl_types.specs.Messages.{Sent}
 use Rattle.coll_lang.specs.declared.choices.ChoiceKind.{ChoiceKind}
 use Rattle.choice_machine.specs.Machine.{Phase, ask, put}
-use Rattle.choice_machine.specs.Machine.Phase.{Answered, Asked, Idle, Learned, Read, Reading, Served, Told}
+use Rattle.choice_machine.specs.Machine.Phase.{Answered, Idle}
 use Rattle.choice_view.specs.Install.{Seat, Slots, ask_message}
 
 -- the seat with another phase in step s
