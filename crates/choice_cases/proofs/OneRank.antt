@@ -41,7 +41,8 @@ unfolding append
 closed_form = refl
 
 -- the operations are numbered step by step
-numbers : (number_of choices (Send 0) ∷ number_of choices (Look 0) ∷ number_of choices (Tell 0) ∷ number_of choices (Send 1) ∷ number_of choices (Tell 1) ∷ []) ≡ 0 ∷ 1 ∷ 2 ∷ 3 ∷ 4 ∷ []
+numbers : (number_of choices (Send 0) ∷ number_of choices (Look 0) ∷ number_of choices (Tell 0) ∷ number_of choices
+    (Send 1) ∷ number_of choices (Tell 1) ∷ []) ≡ 0 ∷ 1 ∷ 2 ∷ 3 ∷ 4 ∷ []
 numbers = refl
 
 -- the words of the region: H, V, O and B of each step
@@ -59,7 +60,8 @@ answers s v = answer_message slots choices 0 (answer s false v)
 abbrev pub history : List Local
 history = Start
     ∷ Fire 0 ∷ Receive 0 Request (asks 0) ∷ Receive 0 AnswerLane (answers 0 top)
-    ∷ Fire 1 ∷ Receive 0 Request (ask_message slots choices 0 (ask 0 true)) ∷ Receive 0 AnswerLane (answer_message slots choices 0 (answer 0 true 0)) ∷ Fire 2
+    ∷ Fire 1 ∷ Receive 0 Request (ask_message slots choices 0 (ask 0 true)) ∷ Receive 0 AnswerLane
+        (answer_message slots choices 0 (answer 0 true 0)) ∷ Fire 2
     ∷ Fire 3 ∷ Receive 0 Request (asks 1) ∷ Receive 0 AnswerLane (answers 1 0) ∷ Fire 4 ∷ []
 
 abbrev pub go : Beginning
@@ -69,7 +71,9 @@ abbrev pub last : State
 last = state go (install slots 1 choices 0) history
 
 -- what each step makes is what the next receives
-sends : made go (install slots 1 choices 0) history ≡ asks 0 ∷ answers 0 top ∷ ask_message slots choices 0 (ask 0 true) ∷ answer_message slots choices 0 (answer 0 true 0) ∷ asks 1 ∷ answers 1 0 ∷ []
+sends : made go (install slots 1 choices 0) history
+    ≡ asks 0 ∷ answers 0 top ∷ ask_message slots choices 0 (ask 0 true) ∷ answer_message slots choices 0
+    (answer 0 true 0) ∷ asks 1 ∷ answers 1 0 ∷ []
 unfolding target request answered fired started append
 sends = refl
 
@@ -107,7 +111,8 @@ get_waits : is_ready (state go (install slots 1 choices 0) (Start ∷ Fire 0 ∷
 unfolding target request answered fired started append
 get_waits = refl
 
-get_ready : is_ready (state go (install slots 1 choices 0) (Start ∷ Fire 0 ∷ Receive 0 Request (asks 0) ∷ Receive 0 AnswerLane (answers 0 top) ∷ [])) 1 ≡ true
+get_ready : is_ready (state go (install slots 1 choices 0)
+    (Start ∷ Fire 0 ∷ Receive 0 Request (asks 0) ∷ Receive 0 AnswerLane (answers 0 top) ∷ [])) 1 ≡ true
 unfolding target request answered fired started append
 get_ready = refl
 

@@ -43,7 +43,8 @@ lowest_ends : enabled_steps system (after lowest) ≡ []
 unfolding target request answered fired started append
 lowest_ends = refl
 
-lowest_results : (result_of 0 (at lowest 0) ∷ result_of 0 (at lowest 1) ∷ result_of 1 (at lowest 0) ∷ result_of 1 (at lowest 1) ∷ []) ≡ 0 ∷ 0 ∷ 0 ∷ 1 ∷ []
+lowest_results : (result_of 0 (at lowest 0) ∷ result_of 0 (at lowest 1) ∷ result_of 1 (at lowest 0) ∷ result_of 1 (at lowest 1) ∷ [])
+    ≡ 0 ∷ 0 ∷ 0 ∷ 1 ∷ []
 unfolding target request answered fired started append
 lowest_results = refl
 
@@ -55,12 +56,14 @@ other_ends : enabled_steps system (after other) ≡ []
 unfolding target request answered fired started append
 other_ends = refl
 
-other_results : (result_of 0 (at other 0) ∷ result_of 0 (at other 1) ∷ result_of 1 (at other 0) ∷ result_of 1 (at other 1) ∷ []) ≡ 1 ∷ 1 ∷ 1 ∷ 0 ∷ []
+other_results : (result_of 0 (at other 0) ∷ result_of 0 (at other 1) ∷ result_of 1 (at other 0) ∷ result_of 1 (at other 1) ∷ [])
+    ≡ 1 ∷ 1 ∷ 1 ∷ 0 ∷ []
 unfolding target request answered fired started append
 other_results = refl
 
 -- all is told, and nothing was lost
-other_told : (lookup (ct_of (slots 0) choices Done) (at other 0).cts.live ∷ lookup (ct_of (slots 1) choices Done) (at other 1).cts.live ∷ []) ≡ Some (successes 2) ∷ Some (successes 2) ∷ []
+other_told : (lookup (ct_of (slots 0) choices Done) (at other 0).cts.live ∷ lookup (ct_of (slots 1) choices Done)
+    (at other 1).cts.live ∷ []) ≡ Some (successes 2) ∷ Some (successes 2) ∷ []
 unfolding target request answered fired started append
 other_told = refl
 

@@ -53,7 +53,9 @@ lowest n = 0
 
 -- ---- the swap compares with 0: nobody finds it, and the word stays as it was
 abbrev with_zero : System
-with_zero = electing (record (operation slots elect (Send 0)) { deed = Swap (get_args slots elect 0 (Old 0)) (put_args slots elect 0) Cswap U64 0 } ∷ operation slots elect (Look 0) ∷ operation slots elect (Tell 0) ∷ [])
+with_zero = electing (record (operation slots elect (Send 0))
+    { deed = Swap (get_args slots elect 0 (Old 0)) (put_args slots elect 0) Cswap U64 0 } ∷ operation slots elect
+    (Look 0) ∷ operation slots elect (Tell 0) ∷ [])
 
 zero_ends : enabled_steps with_zero (chosen with_zero lowest 16) ≡ []
 unfolding target request answered fired started append
@@ -76,7 +78,8 @@ zero_elects_none h = unnamed (value with_zero lowest 16) zero_first h
 
 -- ---- the get waits on go: it may come before any swap
 abbrev hasty : System
-hasty = electing (operation slots elect (Send 0) ∷ record (operation slots elect (Look 0)) { ct = ct_of slots elect Go } ∷ operation slots elect (Tell 0) ∷ [])
+hasty = electing (operation slots elect (Send 0) ∷ record
+    (operation slots elect (Look 0)) { ct = ct_of slots elect Go } ∷ operation slots elect (Tell 0) ∷ [])
 
 -- behind both starts rank 0 fires its get
 abbrev get_first : ℕ → ℕ

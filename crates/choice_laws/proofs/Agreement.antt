@@ -90,8 +90,10 @@ module _ (k : Slots) (ks : List ChoiceKind) (r s : ℕ) where
   sent_list (Told old value) = refl
 
   pub sent_kept : (p : Phase) → filter (is_for 0 Request) (map (ask_message k ks r) (sent_at s p)) ≡ map (ask_message k ks r) (sent_at s p)
-  sent_kept Idle = kept_one 0 Request (ask_message k ks r (ask s false)) (for_ask 0 (ask_message k ks r (ask s false)) (ask_goes k ks r s false))
-  sent_kept (Answered old) = kept_one 0 Request (ask_message k ks r (ask s true)) (for_ask 0 (ask_message k ks r (ask s true)) (ask_goes k ks r s true))
+  sent_kept Idle = kept_one 0 Request (ask_message k ks r (ask s false))
+      (for_ask 0 (ask_message k ks r (ask s false)) (ask_goes k ks r s false))
+  sent_kept (Answered old) = kept_one 0 Request (ask_message k ks r (ask s true))
+      (for_ask 0 (ask_message k ks r (ask s true)) (ask_goes k ks r s true))
   sent_kept Asked = refl
   sent_kept (Served old) = refl
   sent_kept (Reading old) = refl
@@ -100,8 +102,11 @@ module _ (k : Slots) (ks : List ChoiceKind) (r s : ℕ) where
   sent_kept (Told old value) = refl
 
   pub sent_no_rank : (d : ℕ) → (0 ≡ d → ⊥) → (p : Phase) → filter (is_for d Request) (map (ask_message k ks r) (sent_at s p)) ≡ []
-  sent_no_rank d n Idle = dropped_one d Request (ask_message k ks r (ask s false)) (for_rank d Request false 0 (ask_message k ks r (ask s false)) (ask_goes k ks r s false) n)
-  sent_no_rank d n (Answered old) = dropped_one d Request (ask_message k ks r (ask s true)) (for_rank d Request false 0 (ask_message k ks r (ask s true)) (ask_goes k ks r s true) n)
+  sent_no_rank d n Idle = dropped_one d Request (ask_message k ks r (ask s false))
+      (for_rank d Request false 0 (ask_message k ks r (ask s false)) (ask_goes k ks r s false) n)
+  sent_no_rank d n (Answered old) =
+      dropped_one d Request (ask_message k ks r (ask s true))
+      (for_rank d Request false 0 (ask_message k ks r (ask s true)) (ask_goes k ks r s true) n)
   sent_no_rank d n Asked = refl
   sent_no_rank d n (Served old) = refl
   sent_no_rank d n (Reading old) = refl
@@ -110,8 +115,11 @@ module _ (k : Slots) (ks : List ChoiceKind) (r s : ℕ) where
   sent_no_rank d n (Told old value) = refl
 
   pub sent_no_answer : (d : ℕ) (p : Phase) → filter (is_for d AnswerLane) (map (ask_message k ks r) (sent_at s p)) ≡ []
-  sent_no_answer d Idle = dropped_one d AnswerLane (ask_message k ks r (ask s false)) (ask_no_answer d 0 (ask_message k ks r (ask s false)) (ask_goes k ks r s false))
-  sent_no_answer d (Answered old) = dropped_one d AnswerLane (ask_message k ks r (ask s true)) (ask_no_answer d 0 (ask_message k ks r (ask s true)) (ask_goes k ks r s true))
+  sent_no_answer d Idle = dropped_one d AnswerLane (ask_message k ks r (ask s false))
+      (ask_no_answer d 0 (ask_message k ks r (ask s false)) (ask_goes k ks r s false))
+  sent_no_answer d (Answered old) =
+      dropped_one d AnswerLane (ask_message k ks r (ask s true))
+      (ask_no_answer d 0 (ask_message k ks r (ask s true)) (ask_goes k ks r s true))
   sent_no_answer d Asked = refl
   sent_no_answer d (Served old) = refl
   sent_no_answer d (Reading old) = refl
@@ -121,23 +129,29 @@ module _ (k : Slots) (ks : List ChoiceKind) (r s : ℕ) where
 
 -- ---- a step of an interleaving
 module _ (n : System) (w : Histories) (held : Lanes) (next : Histories) (later : Lanes) (step : IsLocalStep n w held next later) where
-  pub by_rank : {X : Type 0} (q : ℕ) (x y : X) → ((q ≡ step.r) → cond (q == step.r) x y ≡ x) × ((q ≡ step.r → ⊥) → cond (q == step.r) x y ≡ y)
+  pub by_rank : {X : Type 0} (q : ℕ) (x y : X) → ((q ≡ step.r) → cond (q == step.r) x y ≡ x)
+      × ((q ≡ step.r → ⊥) → cond (q == step.r) x y ≡ y)
   by_rank q x y = ((λ e. ap (λ b. cond b x y) (eq-eqb q step.r e)), (λ n. ap (λ b. cond b x y) (ne_eqb q step.r n)))
 
   pub state_here : (e : Local) → step.e ≡ e → state_at n next step.r ≡ after (n.go step.r) (state_at n w step.r) e
-  state_here e q = ap (state (n.go step.r) (n.first step.r)) step.rank ∙ state-append (n.go step.r) (n.first step.r) (w step.r) (step.e ∷ []) ∙ ap (after (n.go step.r) (state_at n w step.r)) q
+  state_here e q = ap (state (n.go step.r) (n.first step.r)) step.rank
+      ∙ state-append (n.go step.r) (n.first step.r) (w step.r) (step.e ∷ []) ∙ ap (after (n.go step.r) (state_at n w step.r)) q
 
   pub state_there : (q : ℕ) → (q ≡ step.r → ⊥) → state_at n next q ≡ state_at n w q
   state_there q m = ap (state (n.go q) (n.first q)) (step.others q m)
 
-  pub left_here : (e : Local) → step.e ≡ e → (d : ℕ) (lane : Lane) → later step.r d lane ≡ step.rest step.r d lane ++ filter (is_for d lane) (and_then (made_by (state_at n w step.r) e) [])
-  left_here e q d lane = step.left step.r d lane ∙ ap (λ v. step.rest step.r d lane ++ v) ((by_rank step.r _ []).0 refl ∙ ap (λ v. filter (is_for d lane) (and_then (made_by (state_at n w step.r) v) [])) q)
+  pub left_here : (e : Local) → step.e ≡ e → (d : ℕ) (lane : Lane)
+      → later step.r d lane ≡ step.rest step.r d lane ++ filter (is_for d lane) (and_then (made_by (state_at n w step.r) e) [])
+  left_here e q d lane = step.left step.r d lane
+      ∙ ap (λ v. step.rest step.r d lane ++ v)
+      ((by_rank step.r _ []).0 refl ∙ ap (λ v. filter (is_for d lane) (and_then (made_by (state_at n w step.r) v) [])) q)
 
   pub left_there : (s d : ℕ) (lane : Lane) → (s ≡ step.r → ⊥) → later s d lane ≡ step.rest s d lane
   left_there s d lane m = step.left s d lane ∙ ap (λ v. step.rest s d lane ++ v) ((by_rank s _ []).1 m) ∙ append-nil (step.rest s d lane)
 
   pub taken_here : (e : Local) → step.e ≡ e → (s : ℕ) (lane : Lane) → held s step.r lane ≡ got (e ∷ []) s lane ++ step.rest s step.r lane
-  taken_here e q s lane = step.taken s step.r lane ∙ ap (λ v. v ++ step.rest s step.r lane) ((by_rank step.r _ []).0 refl ∙ ap (λ v. got (v ∷ []) s lane) q)
+  taken_here e q s lane = step.taken s step.r lane
+      ∙ ap (λ v. v ++ step.rest s step.r lane) ((by_rank step.r _ []).0 refl ∙ ap (λ v. got (v ∷ []) s lane) q)
 
   pub taken_there : (s d : ℕ) (lane : Lane) → (d ≡ step.r → ⊥) → step.rest s d lane ≡ held s d lane
   taken_there s d lane m = sym (step.taken s d lane ∙ ap (λ v. v ++ step.rest s d lane) ((by_rank d (got (step.e ∷ []) s lane) []).1 m))
@@ -145,14 +159,17 @@ module _ (n : System) (w : Histories) (held : Lanes) (next : Histories) (later :
   -- a lane from which this step takes nothing
   pub untaken : (e : Local) → step.e ≡ e → (s d : ℕ) (lane : Lane) → got (e ∷ []) s lane ≡ [] → step.rest s d lane ≡ held s d lane
   untaken e q s d lane f = elim (cases_eq d step.r) [
-    | inl i ↦ subst (λ v. step.rest s v lane ≡ held s v lane) (sym i) (sym (taken_here e q s lane ∙ ap (λ v. v ++ step.rest s step.r lane) f))
+    | inl i ↦ subst (λ v. step.rest s v lane ≡ held s v lane) (sym i)
+        (sym (taken_here e q s lane ∙ ap (λ v. v ++ step.rest s step.r lane) f))
     | inr m ↦ taken_there s d lane m
   ]
 
   -- starts
-  pub starts_here : (e : Local) → step.e ≡ e → count_by is_start (next step.r) ≡ count_by is_start (w step.r) + (if is_start e then 1 else 0)
+  pub starts_here : (e : Local) → step.e ≡ e
+      → count_by is_start (next step.r) ≡ count_by is_start (w step.r) + (if is_start e then 1 else 0)
   starts_here e q =
-      ap (count_by is_start) step.rank ∙ count-append is_start (w step.r) (step.e ∷ []) ∙ ap (λ v. count_by is_start (w step.r) + count_by is_start (v ∷ [])) q
+      ap (count_by is_start) step.rank ∙ count-append is_start (w step.r) (step.e ∷ [])
+          ∙ ap (λ v. count_by is_start (w step.r) + count_by is_start (v ∷ [])) q
       ∙ ap (λ v. count_by is_start (w step.r) + v) (one e)
     where
       one : (e : Local) → count_by is_start (e ∷ []) ≡ cond (is_start e) 1 0
@@ -163,19 +180,22 @@ module _ (n : System) (w : Histories) (held : Lanes) (next : Histories) (later :
   -- a step that isn't a start leaves how many there were
   pub starts_stay : (e : Local) → step.e ≡ e → is_start e ≡ false → (q : ℕ) → count_by is_start (next q) ≡ count_by is_start (w q)
   starts_stay e i f q = elim (cases_eq q step.r) [
-    | inl j ↦ subst (λ v. count_by is_start (next v) ≡ count_by is_start (w v)) (sym j) (starts_here e i ∙ ap (λ b. count_by is_start (w step.r) + (if b then 1 else 0)) f ∙ add-zero (count_by is_start (w step.r)))
+    | inl j ↦ subst (λ v. count_by is_start (next v) ≡ count_by is_start (w v)) (sym j)
+        (starts_here e i ∙ ap (λ b. count_by is_start (w step.r) + (if b then 1 else 0)) f ∙ add-zero (count_by is_start (w step.r)))
     | inr m ↦ ap (count_by is_start) (step.others q m)
   ]
 
   -- a history grows by one
   pub length_here : length (next step.r) ≡ suc (length (w step.r))
-  length_here = ap length step.rank ∙ length-append (w step.r) (step.e ∷ []) ∙ (let q : length (w step.r) + 1 ≡ suc (length (w step.r)) = omega arith in q)
+  length_here = ap length step.rank ∙ length-append (w step.r) (step.e ∷ [])
+      ∙ (let q : length (w step.r) + 1 ≡ suc (length (w step.r)) = omega arith in q)
 
   pub length_there : (q : ℕ) → (q ≡ step.r → ⊥) → length (next q) ≡ length (w q)
   length_there q m = ap length (step.others q m)
 
   -- so does what was made
-  pub lengths_next : (before behind : ℕ → ℕ) → ((q : ℕ) → length (w q) ≡ before q) → behind step.r ≡ suc (before step.r) → ((q : ℕ) → (q ≡ step.r → ⊥) → behind q ≡ before q) → (q : ℕ) → length (next q) ≡ behind q
+  pub lengths_next : (before behind : ℕ → ℕ) → ((q : ℕ) → length (w q) ≡ before q) → behind step.r ≡ suc (before step.r)
+      → ((q : ℕ) → (q ≡ step.r → ⊥) → behind q ≡ before q) → (q : ℕ) → length (next q) ≡ behind q
   lengths_next before behind now more same q = elim (cases_eq q step.r) [
     | inl i ↦ subst (λ v. length (next v) ≡ behind v) (sym i) (length_here ∙ ap suc (now step.r) ∙ sym more)
     | inr m ↦ length_there q m ∙ now q ∙ sym (same q m)
@@ -196,7 +216,8 @@ pub record Agrees (ranks : ℕ) (ks : List ChoiceKind) (slots : ℕ → Slots) (
 
 module _ (ranks : ℕ) (ks : List ChoiceKind) (slots : ℕ → Slots) where
   -- the first moment
-  pub agrees_opened : (w : Histories) (held : Lanes) → ((r : ℕ) → w r ≡ []) → ((s d : ℕ) (lane : Lane) → held s d lane ≡ []) → Agrees ranks ks slots w held
+  pub agrees_opened : (w : Histories) (held : Lanes) → ((r : ℕ) → w r ≡ []) → ((s d : ℕ) (lane : Lane) → held s d lane ≡ [])
+      → Agrees ranks ks slots w held
   agrees_opened w held h e = record {
     m = opened ks;
     lawful = opened_lawful ranks ks;

@@ -17,12 +17,14 @@ use Rattle.choice_laws.specs.Decided.{IsInRange, choice_system}
 use Rattle.choice_laws.proofs.Agreement.{Agrees}
 use Rattle.choice_laws.proofs.Resting.{resting}
 
-module _ (ranks : ℕ) (ks : List ChoiceKind) (slots : ℕ → Slots) (in_range : IsInRange ranks ks) (w : Histories) (held : Lanes) (now : Agrees ranks ks slots w held) where
+module _ (ranks : ℕ) (ks : List ChoiceKind) (slots : ℕ → Slots) (in_range : IsInRange ranks ks) (w : Histories) (held : Lanes)
+    (now : Agrees ranks ks slots w held) where
   pub history_le : (r : ℕ) → r < ranks → length (w r) ≤ steps_due ranks ks r
   history_le r i = let a = made_le ranks ks now.m now.lawful r i in let b = now.lengths r in omega (arith, a, b)
 
   pub still_full : IsStill (choice_system ranks ks slots) w held → (r : ℕ) → r < ranks → length (w r) ≡ steps_due ranks ks r
-  still_full still r i = now.lengths r ∙ made_all ranks ks now.m now.lawful (resting ranks ks slots in_range w held now still) r i (now.begun r (still.started r i))
+  still_full still r i = now.lengths r
+      ∙ made_all ranks ks now.m now.lawful (resting ranks ks slots in_range w held now still) r i (now.begun r (still.started r i))
 
   module _ (full : (r : ℕ) → r < ranks → length (w r) ≡ steps_due ranks ks r) where
     made : (r : ℕ) → r < ranks → steps_made ranks ks now.m r ≡ steps_due ranks ks r
@@ -40,11 +42,13 @@ module _ (ranks : ℕ) (ks : List ChoiceKind) (slots : ℕ → Slots) (in_range 
 
     full_empty : (s d : ℕ) (lane : Lane) → s < ranks → d < ranks → held s d lane ≡ []
     full_empty s d Request i j = elim (cases_eq d 0) [
-      | inl e ↦ ap (λ v. held s v Request) e ∙ now.asks s ∙ ap (map (ask_message (slots s) ks s)) (full_no_asks ranks ks now.m now.lawful s i (made s i))
+      | inl e ↦ ap (λ v. held s v Request) e ∙ now.asks s
+          ∙ ap (map (ask_message (slots s) ks s)) (full_no_asks ranks ks now.m now.lawful s i (made s i))
       | inr n ↦ now.no_request s d (λ e. n (sym e))
     ]
     full_empty s d AnswerLane i j = elim (cases_eq s 0) [
-      | inl e ↦ ap (λ v. held v d AnswerLane) e ∙ now.answers d ∙ ap (map (answer_message (slots d) ks d)) (full_no_answers ranks ks now.m now.lawful d j (made d j))
+      | inl e ↦ ap (λ v. held v d AnswerLane) e ∙ now.answers d
+          ∙ ap (map (answer_message (slots d) ks d)) (full_no_answers ranks ks now.m now.lawful d j (made d j))
       | inr n ↦ now.no_answer s d n
     ]
 
@@ -66,10 +70,13 @@ module _ (ranks : ℕ) (ks : List ChoiceKind) (slots : ℕ → Slots) (in_range 
   -- a lane holds at most one message for each step of the text
   pub lane_few : (s d : ℕ) (lane : Lane) → s < ranks → d < ranks → length (held s d lane) ≤ length ks
   lane_few s d Request i j = elim (cases_eq d 0) [
-    | inl e ↦ (let a = ap length (ap (λ v. held s v Request) e ∙ now.asks s) in let b = length-map (now.m.asks s) (ask_message (slots s) ks s) in let c = asks_few ranks ks now.m now.lawful s i in omega (arith, a, b, c))
+    | inl e ↦ (let a = ap length (ap (λ v. held s v Request) e ∙ now.asks s) in let b =
+        length-map (now.m.asks s) (ask_message (slots s) ks s) in let c = asks_few ranks ks now.m now.lawful s i in omega (arith, a, b, c))
     | inr n ↦ (let a = ap length (now.no_request s d (λ e. n (sym e))) in omega (arith, a))
   ]
   lane_few s d AnswerLane i j = elim (cases_eq s 0) [
-    | inl e ↦ (let a = ap length (ap (λ v. held v d AnswerLane) e ∙ now.answers d) in let b = length-map (now.m.answers d) (answer_message (slots d) ks d) in let c = answers_few ranks ks now.m now.lawful d j in omega (arith, a, b, c))
+    | inl e ↦ (let a = ap length (ap (λ v. held v d AnswerLane) e ∙ now.answers d) in let b =
+        length-map (now.m.answers d) (answer_message (slots d) ks d) in let c = answers_few ranks ks now.m now.lawful d j in
+        omega (arith, a, b, c))
     | inr n ↦ (let a = ap length (now.no_answer s d n) in omega (arith, a))
   ]

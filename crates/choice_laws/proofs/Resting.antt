@@ -36,7 +36,8 @@ use Rattle.choice_laws.proofs.Returning.{agrees_answer}
 
 module _ (ranks : ℕ) (ks : List ChoiceKind) (slots : ℕ → Slots) (in_range : IsInRange ranks ks) where
   -- a step keeps the agreement
-  pub agrees_step : (w : Histories) (held : Lanes) (next : Histories) (later : Lanes) → Agrees ranks ks slots w held → IsLocalStep (choice_system ranks ks slots) w held next later → Agrees ranks ks slots next later
+  pub agrees_step : (w : Histories) (held : Lanes) (next : Histories) (later : Lanes) → Agrees ranks ks slots w held
+      → IsLocalStep (choice_system ranks ks slots) w held next later → Agrees ranks ks slots next later
   agrees_step w held next later now step = at step.e refl step.enabled
     where
       at : (e : Local) → step.e ≡ e → IsEnabled (choice_system ranks ks slots) w held step.r e → Agrees ranks ks slots next later
@@ -66,7 +67,8 @@ right_same Tickets ranks f g e h = record {
 read_result : (h v o b : ℕ) → part 24 8 (four_words h v o b) ≡ word b
 read_result h v o b = refl
 
-module _ (ranks : ℕ) (ks : List ChoiceKind) (slots : ℕ → Slots) (in_range : IsInRange ranks ks) (w : Histories) (held : Lanes) (now : Agrees ranks ks slots w held) (still : IsStill (choice_system ranks ks slots) w held) where
+module _ (ranks : ℕ) (ks : List ChoiceKind) (slots : ℕ → Slots) (in_range : IsInRange ranks ks) (w : Histories) (held : Lanes)
+    (now : Agrees ranks ks slots w held) (still : IsStill (choice_system ranks ks slots) w held) where
   none_left : {X Y : Type 0} (f : X → Y) (xs : List X) → map f xs ≡ [] → length xs ≡ 0
   none_left f [] e = refl
   none_left f (x ∷ xs) e = cc
@@ -75,14 +77,17 @@ module _ (ranks : ℕ) (ks : List ChoiceKind) (slots : ℕ → Slots) (in_range 
   pub resting : IsResting ranks ks now.m
   resting = record {
     no_asks = λ r i. none_left (ask_message (slots r) ks r) (now.m.asks r) (sym (now.asks r) ∙ still.empty r 0 Request i in_range.some);
-    no_answers = λ r i. none_left (answer_message (slots r) ks r) (now.m.answers r) (sym (now.answers r) ∙ still.empty 0 r AnswerLane in_range.some i);
-    idle = λ r s i j. idle_phase (slots r) ranks ks r (seat_of ks now.m r) (λ t. ap (λ v. is_ready v t) (sym (now.states r)) ∙ still.idle r t i) (now.begun r (still.started r i)) s j;
+    no_answers = λ r i. none_left (answer_message (slots r) ks r) (now.m.answers r)
+        (sym (now.answers r) ∙ still.empty 0 r AnswerLane in_range.some i);
+    idle = λ r s i j. idle_phase (slots r) ranks ks r (seat_of ks now.m r)
+        (λ t. ap (λ v. is_ready v t) (sym (now.states r)) ∙ still.idle r t i) (now.begun r (still.started r i)) s j;
   }
 
   -- all is told
   all_told : (r : ℕ) → r < ranks → count_of ks (seat_of ks now.m r) Done ≡ length ks
   all_told r i =
-      let a = count_all (λ s. is_told (now.m.phase r s)) (steps ks) (λ s j. ap is_told (rest_told ranks ks now.m now.lawful resting r s i (steps-In ks s j)).is) in
+      let a = count_all (λ s. is_told (now.m.phase r s)) (steps ks)
+          (λ s j. ap is_told (rest_told ranks ks now.m now.lawful resting r s i (steps-In ks s j)).is) in
       let b = length-from_to 0 (length ks) in
       let c = in_range.few_steps in
       omega (arith, a, b, c)
@@ -93,7 +98,8 @@ module _ (ranks : ℕ) (ks : List ChoiceKind) (slots : ℕ → Slots) (in_range 
       let right = rest_right ranks ks now.m in_range.some now.lawful resting s j in
       let small = value_small (choice_at ks s) ranks (λ q. value_of (now.m.phase q s)) r i right in
       ap (result_of s) (now.states r)
-      ∙ ap pattern (read_part ks s j (step_bytes ks r (seat_of ks now.m r)) 24 8 (λ t k. length-step ks r (seat_of ks now.m r) t) (omega arith)
+      ∙ ap pattern (read_part ks s j (step_bytes ks r (seat_of ks now.m r)) 24 8 (λ t k. length-step ks r (seat_of ks now.m r) t)
+          (omega arith)
       ∙ read_result ((seat_of ks now.m r).word s) (given_word (choice_at ks s) r) (old_of (now.m.phase r s)) (value_of (now.m.phase r s)))
       ∙ pattern-little 8 (value_of (now.m.phase r s)) (let few = in_range.few_ranks in omega arith)
 
@@ -103,5 +109,7 @@ module _ (ranks : ℕ) (ks : List ChoiceKind) (slots : ℕ → Slots) (in_range 
         ap (λ (v : State). lookup (ct_of (slots r) ks Done) v.cts.live) (now.states r)
         ∙ lookup_ct (slots r) ranks ks r (seat_of ks now.m r) Done (In-done ks)
         ∙ ap (λ n. Some (successes n)) (all_told r i);
-    right = λ s j. right_same (choice_at ks s) ranks (λ r. value_of (now.m.phase r s)) (λ r. result_of s (state_at (choice_system ranks ks slots) w r)) (λ r i. value_is r s i j) (rest_right ranks ks now.m in_range.some now.lawful resting s j);
+    right = λ s j. right_same (choice_at ks s) ranks (λ r. value_of (now.m.phase r s))
+        (λ r. result_of s (state_at (choice_system ranks ks slots) w r)) (λ r i. value_is r s i j)
+        (rest_right ranks ks now.m in_range.some now.lawful resting s j);
   }

@@ -52,13 +52,16 @@ pub word_small : (ranks : ℕ) (k : ChoiceKind) (f : ℕ → Phase) (w : ℕ) �
 word_small ranks Elect f w few h = elim h.known [ inl e ↦ omega (arith, e) | inr i ↦ omega (arith, i, few) ]
 word_small ranks Tickets f w few h = let a = word_le ranks w f h in omega (arith, a, few)
 
-module _ (ranks : ℕ) (ks : List ChoiceKind) (slots : ℕ → Slots) (in_range : IsInRange ranks ks) (w : Histories) (held : Lanes) (now : Agrees ranks ks slots w held) (next : Histories) (later : Lanes) (step : IsLocalStep (choice_system ranks ks slots) w held next later) where
+module _ (ranks : ℕ) (ks : List ChoiceKind) (slots : ℕ → Slots) (in_range : IsInRange ranks ks) (w : Histories) (held : Lanes)
+    (now : Agrees ranks ks slots w held) (next : Histories) (later : Lanes)
+    (step : IsLocalStep (choice_system ranks ks slots) w held next later) where
   -- the system
   abbrev pub here : System
   here = choice_system ranks ks slots
 
   -- rank s asks, and a is the first of its requests
-  module _ (s : ℕ) (msg : Sent) (is : step.e ≡ Receive s Request msg) (source : s < ranks) (at_zero : step.r ≡ 0) (a : Ask) (asks : List Ask) (whole : now.m.asks s ≡ a ∷ asks) (same : ask_message (slots s) ks s a ≡ msg)
+  module _ (s : ℕ) (msg : Sent) (is : step.e ≡ Receive s Request msg) (source : s < ranks) (at_zero : step.r ≡ 0) (a : Ask)
+      (asks : List Ask) (whole : now.m.asks s ≡ a ∷ asks) (same : ask_message (slots s) ks s a ≡ msg)
       (left_over : map (ask_message (slots s) ks s) asks ≡ step.rest s 0 Request) where
     -- the machine's moment behind it
     abbrev pub serve_next : Moment
@@ -83,26 +86,35 @@ module _ (ranks : ℕ) (ks : List ChoiceKind) (slots : ℕ → Slots) (in_range 
     worded q = record (seat_of ks now.m q) { word = if q == 0 then put a.step word_next now.m.word else first_words ks }
 
     small : now.m.word a.step < 2 ^ 64
-    small = word_small ranks (choice_at ks a.step) (λ q. now.m.phase q a.step) (now.m.word a.step) in_range.few_ranks (now.lawful.holds a.step known)
+    small = word_small ranks (choice_at ks a.step) (λ q. now.m.phase q a.step) (now.m.word a.step) in_range.few_ranks
+        (now.lawful.holds a.step known)
 
-    does : target (state_at here w step.r) msg ≡ delivers (view (slots 0) ranks ks 0 (worded 0)) Matched (Some (answer_message (slots s) ks s given))
+    does : target (state_at here w step.r) msg
+        ≡ delivers (view (slots 0) ranks ks 0 (worded 0)) Matched (Some (answer_message (slots s) ks s given))
     does =
         ap₂ target (ap (state_at here w) at_zero ∙ now.states 0) (sym same)
-        ∙ step_serve (slots 0) ranks ks (seat_of ks now.m 0) a.step known (let f = in_range.few_steps in omega arith) (slots s) s a.reads small (let f = in_range.few_ranks in omega arith)
+        ∙ step_serve (slots 0) ranks ks (seat_of ks now.m 0) a.step known (let f = in_range.few_steps in omega arith)
+            (slots s) s a.reads small (let f = in_range.few_ranks in omega arith)
 
     -- what the asking rank shows stays
-    phases_show : (q : ℕ) → ((q ≡ s) ⊎ (q ≡ s → ⊥)) → view (slots q) ranks ks q (seat_of ks serve_next q) ≡ view (slots q) ranks ks q (worded q)
-    phases_show q (inr m) = λ d. view (slots q) ranks ks q (record (worded q) { phase = λ u. put_in-rank s a.step (served (now.m.word a.step) (now.m.phase s a.step)) now.m.phase q u m d })
+    phases_show : (q : ℕ) → ((q ≡ s) ⊎ (q ≡ s → ⊥))
+        → view (slots q) ranks ks q (seat_of ks serve_next q) ≡ view (slots q) ranks ks q (worded q)
+    phases_show q (inr m) = λ d. view (slots q) ranks ks q
+        (record (worded q) { phase = λ u. put_in-rank s a.step (served (now.m.word a.step) (now.m.phase s a.step)) now.m.phase q u m d })
     phases_show q (inl i) = subst (λ v. view (slots v) ranks ks v (seat_of ks serve_next v) ≡ view (slots v) ranks ks v (worded v)) (sym i)
-        ((λ d. view (slots s) ranks ks s (record (worded s) { phase = λ u. put_in-row s a.step (served (now.m.word a.step) (now.m.phase s a.step)) now.m.phase u d }))
+        ((λ d. view (slots s) ranks ks s
+            (record (worded s) { phase = λ u. put_in-row s a.step (served (now.m.word a.step) (now.m.phase s a.step)) now.m.phase u d }))
         ∙ served_view (slots s) ranks ks s (worded s) a.step (now.m.word a.step))
 
     words_show : (q : ℕ) → ((q ≡ 0) ⊎ (q ≡ 0 → ⊥)) → state_at here next q ≡ view (slots q) ranks ks q (worded q)
     words_show q (inl i) = subst (λ v. state_at here next v ≡ view (slots v) ranks ks v (worded v)) (sym i)
-        (ap (state_at here next) (sym at_zero) ∙ state_here here w held next later step (Receive s Request msg) is ∙ ap (λ (v : Delivers). v.state) does)
+        (ap (state_at here next) (sym at_zero) ∙ state_here here w held next later step (Receive s Request msg) is
+            ∙ ap (λ (v : Delivers). v.state) does)
     words_show q (inr m) =
         state_there here w held next later step q (λ e. m (e ∙ at_zero)) ∙ now.states q
-        ∙ ap (λ f. view (slots q) ranks ks q (record (seat_of ks now.m q) { word = f })) (ap (λ b. cond b now.m.word (first_words ks)) (ne_eqb q 0 m) ∙ sym (ap (λ b. cond b (put a.step word_next now.m.word) (first_words ks)) (ne_eqb q 0 m)))
+        ∙ ap (λ f. view (slots q) ranks ks q (record (seat_of ks now.m q) { word = f }))
+            (ap (λ b. cond b now.m.word (first_words ks)) (ne_eqb q 0 m)
+            ∙ sym (ap (λ b. cond b (put a.step word_next now.m.word) (first_words ks)) (ne_eqb q 0 m)))
 
     -- the lanes
     serve_rest : (q d : ℕ) (lane : Lane) → (d ≡ 0 → q ≡ s → same_lane Request lane ≡ false) → step.rest q d lane ≡ held q d lane
@@ -114,7 +126,8 @@ module _ (ranks : ℕ) (ks : List ChoiceKind) (slots : ℕ → Slots) (in_range 
       ]
     ]
 
-    serve_left : (d : ℕ) (lane : Lane) → later 0 d lane ≡ step.rest 0 d lane ++ filter (is_for d lane) (answer_message (slots s) ks s given ∷ [])
+    serve_left : (d : ℕ) (lane : Lane)
+        → later 0 d lane ≡ step.rest 0 d lane ++ filter (is_for d lane) (answer_message (slots s) ks s given ∷ [])
     serve_left d lane =
         ap (λ v. later v d lane) (sym at_zero)
         ∙ left_here here w held next later step (Receive s Request msg) is d lane
@@ -126,24 +139,38 @@ module _ (ranks : ℕ) (ks : List ChoiceKind) (slots : ℕ → Slots) (in_range 
     -- requests: only that one is gone
     serve_requests : (q d : ℕ) → later q d Request ≡ step.rest q d Request
     serve_requests q d = elim (cases_eq q 0) [
-      | inl i ↦ subst (λ v. later v d Request ≡ step.rest v d Request) (sym i) (serve_left d Request ∙ ap (λ y. step.rest 0 d Request ++ y) (dropped_one d Request (answer_message (slots s) ks s given) (answer_no_ask d s (answer_message (slots s) ks s given) (answer_goes (slots s) ks s given))) ∙ append-nil (step.rest 0 d Request))
+      | inl i ↦ subst (λ v. later v d Request ≡ step.rest v d Request) (sym i)
+          (serve_left d Request ∙ ap (λ y. step.rest 0 d Request ++ y)
+          (dropped_one d Request (answer_message (slots s) ks s given)
+          (answer_no_ask d s (answer_message (slots s) ks s given) (answer_goes (slots s) ks s given)))
+          ∙ append-nil (step.rest 0 d Request))
       | inr m ↦ serve_there q d Request m
     ]
 
     serve_asks : (q : ℕ) → later q 0 Request ≡ map (ask_message (slots q) ks q) (serve_next.asks q)
     serve_asks q = serve_requests q 0 ∙ elim (cases_eq q s) [
-      | inl i ↦ subst (λ v. step.rest v 0 Request ≡ map (ask_message (slots v) ks v) (serve_next.asks v)) (sym i) (sym left_over ∙ ap (map (ask_message (slots s) ks s)) (sym (put-same s asks now.m.asks)))
-      | inr m ↦ serve_rest q 0 Request (λ e f. absurd (m f)) ∙ now.asks q ∙ ap (map (ask_message (slots q) ks q)) (sym (put-other s asks now.m.asks q m))
+      | inl i ↦ subst (λ v. step.rest v 0 Request ≡ map (ask_message (slots v) ks v) (serve_next.asks v)) (sym i)
+          (sym left_over ∙ ap (map (ask_message (slots s) ks s)) (sym (put-same s asks now.m.asks)))
+      | inr m ↦ serve_rest q 0 Request (λ e f. absurd (m f)) ∙ now.asks q
+          ∙ ap (map (ask_message (slots q) ks q)) (sym (put-other s asks now.m.asks q m))
     ]
 
     -- answers: one more for rank s
     serve_answers : (q : ℕ) → later 0 q AnswerLane ≡ map (answer_message (slots q) ks q) (serve_next.answers q)
-    serve_answers q = serve_left q AnswerLane ∙ ap (λ v. v ++ filter (is_for q AnswerLane) (answer_message (slots s) ks s given ∷ [])) (serve_rest 0 q AnswerLane (λ e f. refl) ∙ now.answers q) ∙ elim (cases_eq q s) [
-      | inl i ↦ subst (λ v. map (answer_message (slots v) ks v) (now.m.answers v) ++ filter (is_for v AnswerLane) (answer_message (slots s) ks s given ∷ []) ≡ map (answer_message (slots v) ks v) (serve_next.answers v)) (sym i)
-          (ap (λ y. map (answer_message (slots s) ks s) (now.m.answers s) ++ y) (kept_one s AnswerLane (answer_message (slots s) ks s given) (for_answer s (answer_message (slots s) ks s given) (answer_goes (slots s) ks s given)))
+    serve_answers q = serve_left q AnswerLane
+        ∙ ap (λ v. v ++ filter (is_for q AnswerLane) (answer_message (slots s) ks s given ∷ []))
+        (serve_rest 0 q AnswerLane (λ e f. refl) ∙ now.answers q) ∙ elim (cases_eq q s) [
+      | inl i ↦ subst (λ v. map (answer_message (slots v) ks v) (now.m.answers v)
+          ++ filter (is_for v AnswerLane) (answer_message (slots s) ks s given ∷ [])
+          ≡ map (answer_message (slots v) ks v) (serve_next.answers v)) (sym i)
+          (ap (λ y. map (answer_message (slots s) ks s) (now.m.answers s) ++ y)
+              (kept_one s AnswerLane (answer_message (slots s) ks s given)
+              (for_answer s (answer_message (slots s) ks s given) (answer_goes (slots s) ks s given)))
           ∙ sym (map-append (answer_message (slots s) ks s) (now.m.answers s) (given ∷ []))
           ∙ ap (map (answer_message (slots s) ks s)) (sym (put-same s (now.m.answers s ++ given ∷ []) now.m.answers)))
-      | inr m ↦ ap (λ y. map (answer_message (slots q) ks q) (now.m.answers q) ++ y) (dropped_one q AnswerLane (answer_message (slots s) ks s given) (for_rank q AnswerLane true s (answer_message (slots s) ks s given) (answer_goes (slots s) ks s given) (λ e. m (sym e))))
+      | inr m ↦ ap (λ y. map (answer_message (slots q) ks q) (now.m.answers q) ++ y)
+          (dropped_one q AnswerLane (answer_message (slots s) ks s given)
+          (for_rank q AnswerLane true s (answer_message (slots s) ks s given) (answer_goes (slots s) ks s given) (λ e. m (sym e))))
           ∙ append-nil (map (answer_message (slots q) ks q) (now.m.answers q))
           ∙ ap (map (answer_message (slots q) ks q)) (sym (put-other s (now.m.answers s ++ given ∷ []) now.m.answers q m))
     ]
@@ -156,7 +183,8 @@ module _ (ranks : ℕ) (ks : List ChoiceKind) (slots : ℕ → Slots) (in_range 
       fresh = λ q i. now.fresh q (sym (starts_stay here w held next later step (Receive s Request msg) is refl q) ∙ i);
       begun = λ q i. now.begun q (subst (λ v. 0 < v) (starts_stay here w held next later step (Receive s Request msg) is refl q) i);
       lengths = lengths_next here w held next later step (steps_made ranks ks now.m) (steps_made ranks ks serve_next) now.lengths
-          (subst (λ v. steps_made ranks ks serve_next v ≡ suc (steps_made ranks ks now.m v)) (sym at_zero) (made_taken ranks ks now.m s a asks source known fits))
+          (subst (λ v. steps_made ranks ks serve_next v ≡ suc (steps_made ranks ks now.m v)) (sym at_zero)
+              (made_taken ranks ks now.m s a asks source known fits))
           (λ q m. made_taken_other ranks ks now.m s a asks source known fits q (λ e. m (e ∙ sym at_zero)));
       asks = serve_asks;
       answers = serve_answers;
@@ -169,7 +197,8 @@ module _ (ranks : ℕ) (ks : List ChoiceKind) (slots : ℕ → Slots) (in_range 
   agrees_request s msg is source = at (cases_eq step.r 0)
     where
       front : held s step.r Request ≡ msg ∷ step.rest s step.r Request
-      front = taken_here here w held next later step (Receive s Request msg) is s Request ∙ ap (λ v. v ++ step.rest s step.r Request) (got_one s Request msg)
+      front = taken_here here w held next later step (Receive s Request msg) is s Request
+          ∙ ap (λ v. v ++ step.rest s step.r Request) (got_one s Request msg)
 
       at : ((step.r ≡ 0) ⊎ (step.r ≡ 0 → ⊥)) → Agrees ranks ks slots next later
       at (inr m) = absurd (some (sym (now.no_request s step.r (λ e. m (sym e))) ∙ front))
@@ -177,5 +206,6 @@ module _ (ranks : ℕ) (ks : List ChoiceKind) (slots : ℕ → Slots) (in_range 
           some : {x : Sent} {xs : List Sent} → [] ≡ x ∷ xs → ⊥
           some e = cc
       at (inl i) =
-          let f = first_of (ask_message (slots s) ks s) (now.m.asks s) msg (step.rest s 0 Request) (sym (now.asks s) ∙ subst (λ v. held s v Request ≡ msg ∷ step.rest s v Request) i front) in
+          let f = first_of (ask_message (slots s) ks s) (now.m.asks s) msg (step.rest s 0 Request)
+              (sym (now.asks s) ∙ subst (λ v. held s v Request ≡ msg ∷ step.rest s v Request) i front) in
           agrees_serve s msg is source i f.x f.later f.whole f.is f.rest

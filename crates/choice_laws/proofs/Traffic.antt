@@ -34,7 +34,8 @@ ask_lane k ks r s reads = ap (λ b. if b then AnswerLane else Request) (ask_goes
 answer_source : (k : Slots) (ks : List ChoiceKind) (r : ℕ) (a : Answer) → (answer_message k ks r a).header.source ≡ 0
 answer_source k ks r a = (ask_goes k ks r a.step a.reads).target
 
-module _ (ranks : ℕ) (ks : List ChoiceKind) (slots : ℕ → Slots) (in_range : IsInRange ranks ks) (w : Histories) (held : Lanes) (now : Agrees ranks ks slots w held) where
+module _ (ranks : ℕ) (ks : List ChoiceKind) (slots : ℕ → Slots) (in_range : IsInRange ranks ks) (w : Histories) (held : Lanes)
+    (now : Agrees ranks ks slots w held) where
   -- what an ask of rank s and an answer for it are
   ask_made : (s : ℕ) (a : Ask) → IsMade ranks s (ask_message (slots s) ks s a)
   ask_made s a = record {
@@ -58,19 +59,23 @@ module _ (ranks : ℕ) (ks : List ChoiceKind) (slots : ℕ → Slots) (in_range 
     pub is : ask_message (slots s) ks s a ≡ m
     pub end : State
     pub value : ℕ
-    pub does : target (state_at (choice_system ranks ks slots) w 0) m ≡ delivers end Matched (Some (answer_message (slots s) ks s (answer a.step a.reads value)))
+    pub does : target (state_at (choice_system ranks ks slots) w 0) m
+        ≡ delivers end Matched (Some (answer_message (slots s) ks s (answer a.step a.reads value)))
 
   asking : (s : ℕ) (m : Sent) (rest : List Sent) → s < ranks → held s 0 Request ≡ m ∷ rest → IsAsking s m
   asking s m rest i e =
       let f = first_of (ask_message (slots s) ks s) (now.m.asks s) m rest (sym (now.asks s) ∙ e) in
       let h = ((now.lawful.flight s i).asks_known f.x (subst (In f.x) (sym f.whole) (inl refl))).0 in
-      let small = word_small ranks (choice_at ks f.x.step) (λ q. now.m.phase q f.x.step) (now.m.word f.x.step) in_range.few_ranks (now.lawful.holds f.x.step h) in
+      let small = word_small ranks (choice_at ks f.x.step) (λ q. now.m.phase q f.x.step) (now.m.word f.x.step) in_range.few_ranks
+          (now.lawful.holds f.x.step h) in
       record {
         a = f.x;
         is = f.is;
         end = _;
         value = now.m.word f.x.step;
-        does = ap₂ target (now.states 0) (sym f.is) ∙ step_serve (slots 0) ranks ks (seat_of ks now.m 0) f.x.step h (let k = in_range.few_steps in omega arith) (slots s) s f.x.reads small (let k = in_range.few_ranks in omega arith);
+        does = ap₂ target (now.states 0) (sym f.is)
+            ∙ step_serve (slots 0) ranks ks (seat_of ks now.m 0) f.x.step h (let k = in_range.few_steps in omega arith)
+            (slots s) s f.x.reads small (let k = in_range.few_ranks in omega arith);
       }
 
   -- ---- an answer at home
@@ -80,7 +85,8 @@ module _ (ranks : ℕ) (ks : List ChoiceKind) (slots : ℕ → Slots) (in_range 
     pub end : State
     pub does : target (state_at (choice_system ranks ks slots) w r) m ≡ delivers end IsAnswered None
 
-  plain : (r s : ℕ) → r < ranks → (c : ChoiceKind) → Holds c ranks (λ q. now.m.phase q s) (now.m.word s) → c ≡ Tickets → is_plain (now.m.phase r s) ≡ true
+  plain : (r s : ℕ) → r < ranks → (c : ChoiceKind) → Holds c ranks (λ q. now.m.phase q s) (now.m.word s) → c ≡ Tickets
+      → is_plain (now.m.phase r s) ≡ true
   plain r s i Elect h e = cc
   plain r s i Tickets h e = h.plain r i
 
@@ -92,14 +98,17 @@ module _ (ranks : ℕ) (ks : List ChoiceKind) (slots : ℕ → Slots) (in_range 
         a = f.x;
         is = f.is;
         end = _;
-        does = ap₂ target (now.states r) (sym f.is) ∙ step_return (slots r) ranks ks r (seat_of ks now.m r) f.x h.0 h.1 (plain r f.x.step i (choice_at ks f.x.step) (now.lawful.holds f.x.step h.0));
+        does = ap₂ target (now.states r) (sym f.is)
+            ∙ step_return (slots r) ranks ks r (seat_of ks now.m r) f.x h.0 h.1
+            (plain r f.x.step i (choice_at ks f.x.step) (now.lawful.holds f.x.step h.0));
       }
 
   -- ---- the laws
   nothing : {X : Type 0} {x : Sent} {xs : List Sent} → [] ≡ x ∷ xs → X
   nothing e = cc
 
-  pub comes : (s d : ℕ) (lane : Lane) (m : Sent) (rest : List Sent) → s < ranks → d < ranks → held s d lane ≡ m ∷ rest → IsComing s d lane (state_at (choice_system ranks ks slots) w d) m
+  pub comes : (s d : ℕ) (lane : Lane) (m : Sent) (rest : List Sent) → s < ranks → d < ranks → held s d lane ≡ m ∷ rest
+      → IsComing s d lane (state_at (choice_system ranks ks slots) w d) m
   comes s d Request m rest i j e = at (cases_eq d 0)
     where
       at : ((d ≡ 0) ⊎ (d ≡ 0 → ⊥)) → IsComing s d Request (state_at (choice_system ranks ks slots) w d) m
@@ -131,7 +140,8 @@ module _ (ranks : ℕ) (ks : List ChoiceKind) (slots : ℕ → Slots) (in_range 
   no_some : {X : Type 0} (a : Sent) → None ≡ Some a → X
   no_some a e = cc
 
-  pub receipt_makes : (s d : ℕ) (lane : Lane) (m n : Sent) (rest : List Sent) → s < ranks → d < ranks → held s d lane ≡ m ∷ rest → (target (state_at (choice_system ranks ks slots) w d) m).delivered.answer ≡ Some n → IsMade ranks d n
+  pub receipt_makes : (s d : ℕ) (lane : Lane) (m n : Sent) (rest : List Sent) → s < ranks → d < ranks → held s d lane ≡ m ∷ rest
+      → (target (state_at (choice_system ranks ks slots) w d) m).delivered.answer ≡ Some n → IsMade ranks d n
   receipt_makes s d Request m n rest i j e f = at (cases_eq d 0)
     where
       at : ((d ≡ 0) ⊎ (d ≡ 0 → ⊥)) → IsMade ranks d n
@@ -139,7 +149,9 @@ module _ (ranks : ℕ) (ks : List ChoiceKind) (slots : ℕ → Slots) (in_range 
       at (inl q) =
           let k = asking s m rest i (subst (λ v. held s v Request ≡ m ∷ rest) q e) in
           subst (λ v. IsMade ranks v n) (sym q) (subst (IsMade ranks 0)
-          (some_one (answer_message (slots s) ks s (answer k.a.step k.a.reads k.value)) n (sym (ap (λ (x : Delivers). x.delivered.answer) k.does) ∙ subst (λ v. (target (state_at (choice_system ranks ks slots) w v) m).delivered.answer ≡ Some n) q f))
+          (some_one (answer_message (slots s) ks s (answer k.a.step k.a.reads k.value)) n
+              (sym (ap (λ (x : Delivers). x.delivered.answer) k.does)
+              ∙ subst (λ v. (target (state_at (choice_system ranks ks slots) w v) m).delivered.answer ≡ Some n) q f))
           (answer_made s (answer k.a.step k.a.reads k.value) i))
   receipt_makes s d AnswerLane m n rest i j e f = at (cases_eq s 0)
     where
@@ -149,7 +161,8 @@ module _ (ranks : ℕ) (ks : List ChoiceKind) (slots : ℕ → Slots) (in_range 
           let k = answering d m rest j (subst (λ v. held v d AnswerLane ≡ m ∷ rest) q e) in
           no_some n (sym (ap (λ (x : Delivers). x.delivered.answer) k.does) ∙ f)
 
-  pub firing_makes : (r t : ℕ) (n : Sent) → is_ready (state_at (choice_system ranks ks slots) w r) t ≡ true → (fired (state_at (choice_system ranks ks slots) w r) t).message ≡ Some n → IsMade ranks r n
+  pub firing_makes : (r t : ℕ) (n : Sent) → is_ready (state_at (choice_system ranks ks slots) w r) t ≡ true
+      → (fired (state_at (choice_system ranks ks slots) w r) t).message ≡ Some n → IsMade ranks r n
   firing_makes r t n ready f =
       let k = step_fire (slots r) ranks ks r (seat_of ks now.m r) t (ap (λ v. is_ready v t) (sym (now.states r)) ∙ ready) in
       at k.0 (now.m.phase r k.0) (sym (ap (λ (x : Fires). x.message) (ap (λ v. fired v t) (now.states r) ∙ k.1.does)) ∙ f)

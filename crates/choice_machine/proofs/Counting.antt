@@ -21,9 +21,11 @@ use Rattle.plan_core.proofs.Lists.{In-map_cases, length-Within, length-map'}
 -- ---- sums
 sum_as : (f g : ℕ → ℕ) (xs : List ℕ) → ((x : ℕ) → In x xs → g x ≡ f x) → sum_by g xs ≡ sum_by f xs
 sum_as f g [] same = refl
-sum_as f g (x ∷ xs) same = sum_by-cons g x xs ∙ ap₂ (λ a b. a + b) (same x (inl refl)) (sum_as f g xs (λ y i. same y (inr i))) ∙ sym (sum_by-cons f x xs)
+sum_as f g (x ∷ xs) same = sum_by-cons g x xs ∙ ap₂ (λ a b. a + b) (same x (inl refl)) (sum_as f g xs (λ y i. same y (inr i)))
+    ∙ sym (sum_by-cons f x xs)
 
-sum_put : (f g : ℕ → ℕ) (r : ℕ) (xs : List ℕ) → Distinct xs → In r xs → g r ≡ suc (f r) → ((x : ℕ) → (x ≡ r → ⊥) → g x ≡ f x) → sum_by g xs ≡ suc (sum_by f xs)
+sum_put : (f g : ℕ → ℕ) (r : ℕ) (xs : List ℕ) → Distinct xs → In r xs → g r ≡ suc (f r) → ((x : ℕ) → (x ≡ r → ⊥) → g x ≡ f x)
+    → sum_by g xs ≡ suc (sum_by f xs)
 sum_put f g r [] d h more same = absurd h
 sum_put f g r (x ∷ xs) d (inl h) more same =
     let a = sum_by-cons g x xs in
@@ -61,29 +63,37 @@ module _ (ks : List ChoiceKind) (many : ChoiceKind → Phase → ℕ) (phase : �
   row_other : (q : ℕ) → (q ≡ r → ⊥) → over_steps ks many (put_in r s p phase q) ≡ over_steps ks many (phase q)
   row_other q n = sum_as _ _ (from_to 0 (length ks)) (λ t i. ap (many (choice_at ks t)) (put_in-rank r s p phase q t n))
 
-  at_step : (t : ℕ) → many (choice_at ks s) p ≡ many (choice_at ks s) (phase r s) → ((t ≡ s) ⊎ (t ≡ s → ⊥)) → many (choice_at ks t) (put_in r s p phase r t) ≡ many (choice_at ks t) (phase r t)
-  at_step t e (inl i) = subst (λ v. many (choice_at ks v) (put_in r s p phase r v) ≡ many (choice_at ks v) (phase r v)) (sym i) (ap (many (choice_at ks s)) (put_in-same r s p phase) ∙ e)
+  at_step : (t : ℕ) → many (choice_at ks s) p ≡ many (choice_at ks s) (phase r s) → ((t ≡ s) ⊎ (t ≡ s → ⊥))
+      → many (choice_at ks t) (put_in r s p phase r t) ≡ many (choice_at ks t) (phase r t)
+  at_step t e (inl i) = subst (λ v. many (choice_at ks v) (put_in r s p phase r v) ≡ many (choice_at ks v) (phase r v)) (sym i)
+      (ap (many (choice_at ks s)) (put_in-same r s p phase) ∙ e)
   at_step t e (inr n) = ap (many (choice_at ks t)) (put_in-step r s p phase r t n)
 
-  row_same : many (choice_at ks s) p ≡ many (choice_at ks s) (phase r s) → over_steps ks many (put_in r s p phase r) ≡ over_steps ks many (phase r)
+  row_same : many (choice_at ks s) p ≡ many (choice_at ks s) (phase r s)
+      → over_steps ks many (put_in r s p phase r) ≡ over_steps ks many (phase r)
   row_same e = sum_as _ _ (from_to 0 (length ks)) (λ t i. at_step t e (cases_eq t s))
 
-  row_more : s < length ks → many (choice_at ks s) p ≡ suc (many (choice_at ks s) (phase r s)) → over_steps ks many (put_in r s p phase r) ≡ suc (over_steps ks many (phase r))
+  row_more : s < length ks → many (choice_at ks s) p ≡ suc (many (choice_at ks s) (phase r s))
+      → over_steps ks many (put_in r s p phase r) ≡ suc (over_steps ks many (phase r))
   row_more h e =
-      sum_put (λ t. many (choice_at ks t) (phase r t)) (λ t. many (choice_at ks t) (put_in r s p phase r t)) s (from_to 0 (length ks)) (Distinct-from_to 0 (length ks)) (In-from_to 0 (length ks) s (omega arith) (omega arith))
+      sum_put (λ t. many (choice_at ks t) (phase r t)) (λ t. many (choice_at ks t) (put_in r s p phase r t)) s (from_to 0 (length ks))
+          (Distinct-from_to 0 (length ks)) (In-from_to 0 (length ks) s (omega arith) (omega arith))
       (ap (many (choice_at ks s)) (put_in-same r s p phase) ∙ e)
       (λ t n. ap (many (choice_at ks t)) (put_in-step r s p phase r t n))
 
-  all_same : (ranks : ℕ) → many (choice_at ks s) p ≡ many (choice_at ks s) (phase r s) → over_ranks ranks ks many (put_in r s p phase) ≡ over_ranks ranks ks many phase
+  all_same : (ranks : ℕ) → many (choice_at ks s) p ≡ many (choice_at ks s) (phase r s)
+      → over_ranks ranks ks many (put_in r s p phase) ≡ over_ranks ranks ks many phase
   all_same ranks e = sum_as _ _ (from_to 0 ranks) (λ q i. at q (cases_eq q r))
     where
       at : (q : ℕ) → ((q ≡ r) ⊎ (q ≡ r → ⊥)) → over_steps ks many (put_in r s p phase q) ≡ over_steps ks many (phase q)
       at q (inl i) = subst (λ v. over_steps ks many (put_in r s p phase v) ≡ over_steps ks many (phase v)) (sym i) (row_same e)
       at q (inr n) = row_other q n
 
-  all_more : (ranks : ℕ) → r < ranks → s < length ks → many (choice_at ks s) p ≡ suc (many (choice_at ks s) (phase r s)) → over_ranks ranks ks many (put_in r s p phase) ≡ suc (over_ranks ranks ks many phase)
+  all_more : (ranks : ℕ) → r < ranks → s < length ks → many (choice_at ks s) p ≡ suc (many (choice_at ks s) (phase r s))
+      → over_ranks ranks ks many (put_in r s p phase) ≡ suc (over_ranks ranks ks many phase)
   all_more ranks in_range h e =
-      sum_put (λ q. over_steps ks many (phase q)) (λ q. over_steps ks many (put_in r s p phase q)) r (from_to 0 ranks) (Distinct-from_to 0 ranks) (In-from_to 0 ranks r (omega arith) (omega arith))
+      sum_put (λ q. over_steps ks many (phase q)) (λ q. over_steps ks many (put_in r s p phase q)) r (from_to 0 ranks)
+          (Distinct-from_to 0 ranks) (In-from_to 0 ranks r (omega arith) (omega arith))
       (row_more h e) (λ q n. row_other q n)
 
 -- ---- by phases
@@ -240,13 +250,16 @@ module _ (ranks : ℕ) (ks : List ChoiceKind) where
   pub made_begun : (m : Moment) (r : ℕ) → m.started r ≡ false → steps_made ranks ks (begun r m) r ≡ suc (steps_made ranks ks m r)
   made_begun m r e =
       ap (λ b. made_of b (over_steps ks home_steps (m.phase r)) r (over_ranks ranks ks requests_taken m.phase)) (put-same r true m.started)
-      ∙ (let q : made_of true (over_steps ks home_steps (m.phase r)) r (over_ranks ranks ks requests_taken m.phase) ≡ suc (made_of false (over_steps ks home_steps (m.phase r)) r (over_ranks ranks ks requests_taken m.phase)) = omega arith in q)
+      ∙ (let q : made_of true (over_steps ks home_steps (m.phase r)) r (over_ranks ranks ks requests_taken m.phase)
+          ≡ suc (made_of false (over_steps ks home_steps (m.phase r)) r (over_ranks ranks ks requests_taken m.phase)) = omega arith in q)
       ∙ ap (λ b. suc (made_of b (over_steps ks home_steps (m.phase r)) r (over_ranks ranks ks requests_taken m.phase))) (sym e)
 
   pub made_begun_other : (m : Moment) (r q : ℕ) → (q ≡ r → ⊥) → steps_made ranks ks (begun r m) q ≡ steps_made ranks ks m q
-  made_begun_other m r q n = ap (λ b. made_of b (over_steps ks home_steps (m.phase q)) q (over_ranks ranks ks requests_taken m.phase)) (put-other r true m.started q n)
+  made_begun_other m r q n = ap (λ b. made_of b (over_steps ks home_steps (m.phase q)) q (over_ranks ranks ks requests_taken m.phase))
+      (put-other r true m.started q n)
 
-  pub made_fired : (m : Moment) (r s : ℕ) → s < length ks → is_ready (choice_at ks s) (m.phase r s) ≡ true → steps_made ranks ks (fired r s m) r ≡ suc (steps_made ranks ks m r)
+  pub made_fired : (m : Moment) (r s : ℕ) → s < length ks → is_ready (choice_at ks s) (m.phase r s) ≡ true
+      → steps_made ranks ks (fired r s m) r ≡ suc (steps_made ranks ks m r)
   made_fired m r s h e = more_home (m.started r) _ r _ _ _
       (row_more ks home_steps m.phase r s (advanced (m.phase r s)) h (home_advanced (choice_at ks s) (m.phase r s) e))
       (all_same ks requests_taken m.phase r s (advanced (m.phase r s)) ranks (taken_advanced (choice_at ks s) (m.phase r s)))
@@ -256,36 +269,52 @@ module _ (ranks : ℕ) (ks : List ChoiceKind) where
       (row_other ks home_steps m.phase r s (advanced (m.phase r s)) q n)
       (all_same ks requests_taken m.phase r s (advanced (m.phase r s)) ranks (taken_advanced (choice_at ks s) (m.phase r s)))
 
-  pub made_returned : (m : Moment) (r : ℕ) (a : Answer) (rest : List Answer) → IsLawful ranks ks m → r < ranks → a.step < length ks → IsAnswer (m.phase r a.step) a → steps_made ranks ks (returned ks r a rest m) r ≡ suc (steps_made ranks ks m r)
+  pub made_returned : (m : Moment) (r : ℕ) (a : Answer) (rest : List Answer) → IsLawful ranks ks m → r < ranks → a.step < length ks
+      → IsAnswer (m.phase r a.step) a → steps_made ranks ks (returned ks r a rest m) r ≡ suc (steps_made ranks ks m r)
   made_returned m r a rest now i h fit = more_home (m.started r) _ r _ _ _
-      (row_more ks home_steps m.phase r a.step (at_home (choice_at ks a.step) (m.phase r a.step)) h (home_home (choice_at ks a.step) (m.phase r a.step) a fit (plain_for m now r a.step i h)))
-      (all_same ks requests_taken m.phase r a.step (at_home (choice_at ks a.step) (m.phase r a.step)) ranks (taken_home (choice_at ks a.step) (m.phase r a.step) a fit (plain_for m now r a.step i h)))
+      (row_more ks home_steps m.phase r a.step (at_home (choice_at ks a.step) (m.phase r a.step)) h
+          (home_home (choice_at ks a.step) (m.phase r a.step) a fit (plain_for m now r a.step i h)))
+      (all_same ks requests_taken m.phase r a.step (at_home (choice_at ks a.step) (m.phase r a.step)) ranks
+          (taken_home (choice_at ks a.step) (m.phase r a.step) a fit (plain_for m now r a.step i h)))
 
-  pub made_returned_other : (m : Moment) (r : ℕ) (a : Answer) (rest : List Answer) → IsLawful ranks ks m → r < ranks → a.step < length ks → IsAnswer (m.phase r a.step) a → (q : ℕ) → (q ≡ r → ⊥) → steps_made ranks ks (returned ks r a rest m) q ≡ steps_made ranks ks m q
+  pub made_returned_other : (m : Moment) (r : ℕ) (a : Answer) (rest : List Answer) → IsLawful ranks ks m → r < ranks → a.step < length ks
+      → IsAnswer (m.phase r a.step) a → (q : ℕ) → (q ≡ r → ⊥) → steps_made ranks ks (returned ks r a rest m) q ≡ steps_made ranks ks m q
   made_returned_other m r a rest now i h fit q n = ap₂ (λ x y. made_of (m.started q) x q y)
       (row_other ks home_steps m.phase r a.step (at_home (choice_at ks a.step) (m.phase r a.step)) q n)
-      (all_same ks requests_taken m.phase r a.step (at_home (choice_at ks a.step) (m.phase r a.step)) ranks (taken_home (choice_at ks a.step) (m.phase r a.step) a fit (plain_for m now r a.step i h)))
+      (all_same ks requests_taken m.phase r a.step (at_home (choice_at ks a.step) (m.phase r a.step)) ranks
+          (taken_home (choice_at ks a.step) (m.phase r a.step) a fit (plain_for m now r a.step i h)))
 
-  module _ (m : Moment) (r : ℕ) (a : Ask) (rest : List Ask) (i : r < ranks) (h : a.step < length ks) (fit : IsAsk (m.phase r a.step) a) where
-    taken_home_row : (q : ℕ) → ((q ≡ r) ⊎ (q ≡ r → ⊥)) → over_steps ks home_steps ((taken ks r a rest m).phase q) ≡ over_steps ks home_steps (m.phase q)
-    taken_home_row q (inl e) = subst (λ v. over_steps ks home_steps ((taken ks r a rest m).phase v) ≡ over_steps ks home_steps (m.phase v)) (sym e) (row_same ks home_steps m.phase r a.step (served (m.word a.step) (m.phase r a.step)) (home_served (choice_at ks a.step) (m.word a.step) (m.phase r a.step) a fit))
+  module _ (m : Moment) (r : ℕ) (a : Ask) (rest : List Ask) (i : r < ranks) (h : a.step < length ks)
+      (fit : IsAsk (m.phase r a.step) a) where
+    taken_home_row : (q : ℕ) → ((q ≡ r) ⊎ (q ≡ r → ⊥))
+        → over_steps ks home_steps ((taken ks r a rest m).phase q) ≡ over_steps ks home_steps (m.phase q)
+    taken_home_row q (inl e) = subst (λ v. over_steps ks home_steps ((taken ks r a rest m).phase v) ≡ over_steps ks home_steps (m.phase v))
+        (sym e) (row_same ks home_steps m.phase r a.step (served (m.word a.step) (m.phase r a.step))
+        (home_served (choice_at ks a.step) (m.word a.step) (m.phase r a.step) a fit))
     taken_home_row q (inr n) = row_other ks home_steps m.phase r a.step (served (m.word a.step) (m.phase r a.step)) q n
 
     pub made_taken : steps_made ranks ks (taken ks r a rest m) 0 ≡ suc (steps_made ranks ks m 0)
     made_taken =
         ap₂ (λ x y. made_of (m.started 0) x 0 y) (taken_home_row 0 (cases_eq 0 r))
-        (all_more ks requests_taken m.phase r a.step (served (m.word a.step) (m.phase r a.step)) ranks i h (taken_served (choice_at ks a.step) (m.word a.step) (m.phase r a.step) a fit))
+        (all_more ks requests_taken m.phase r a.step (served (m.word a.step) (m.phase r a.step)) ranks i h
+            (taken_served (choice_at ks a.step) (m.word a.step) (m.phase r a.step) a fit))
         ∙ omega arith
 
     pub made_taken_other : (q : ℕ) → (q ≡ 0 → ⊥) → steps_made ranks ks (taken ks r a rest m) q ≡ steps_made ranks ks m q
     made_taken_other q n =
-        ap₂ (λ x b. (if m.started q then 1 else 0) + (x + (if b then over_ranks ranks ks requests_taken (taken ks r a rest m).phase else 0))) (taken_home_row q (cases_eq q r)) (ne_eqb q 0 n)
-        ∙ ap (λ b. (if m.started q then 1 else 0) + (over_steps ks home_steps (m.phase q) + (if b then over_ranks ranks ks requests_taken m.phase else 0))) (sym (ne_eqb q 0 n))
+        ap₂ (λ x b. (if m.started q then 1 else 0) +
+            (x + (if b then over_ranks ranks ks requests_taken (taken ks r a rest m).phase else 0))) (taken_home_row q (cases_eq q r))
+            (ne_eqb q 0 n)
+        ∙ ap (λ b. (if m.started q then 1 else 0) +
+            (over_steps ks home_steps (m.phase q) + (if b then over_ranks ranks ks requests_taken m.phase else 0))) (sym (ne_eqb q 0 n))
 
   pub made_opened : (r : ℕ) → steps_made ranks ks (opened ks) r ≡ 0
   made_opened r =
-      let a : over_steps ks home_steps (λ s. Idle) ≡ 0 = zero_sum (λ s. home_steps (choice_at ks s) Idle) (length ks) (λ s. home_idle (choice_at ks s)) in
-      let b : over_ranks ranks ks requests_taken (λ q s. Idle) ≡ 0 = zero_sum (λ q. over_steps ks requests_taken (λ s. Idle)) ranks (λ q. zero_sum (λ s. requests_taken (choice_at ks s) Idle) (length ks) (λ s. taken_idle (choice_at ks s))) in
+      let a : over_steps ks home_steps (λ s. Idle) ≡ 0 =
+          zero_sum (λ s. home_steps (choice_at ks s) Idle) (length ks) (λ s. home_idle (choice_at ks s)) in
+      let b : over_ranks ranks ks requests_taken (λ q s. Idle) ≡ 0 =
+          zero_sum (λ q. over_steps ks requests_taken (λ s. Idle)) ranks
+          (λ q. zero_sum (λ s. requests_taken (choice_at ks s) Idle) (length ks) (λ s. taken_idle (choice_at ks s))) in
       ap₂ (λ x y. made_of false x r y) a b ∙ none (r == 0)
     where
       zero_sum : (f : ℕ → ℕ) (n : ℕ) → ((x : ℕ) → f x ≡ 0) → sum_by f (from_to 0 n) ≡ 0
@@ -304,35 +333,53 @@ module _ (ranks : ℕ) (ks : List ChoiceKind) where
       none false = refl
 
   -- ---- bounds
-  home_bound : (m : Moment) → IsLawful ranks ks m → (r : ℕ) → r < ranks → over_steps ks home_steps (m.phase r) ≤ sum_by (λ s. told_steps (choice_at ks s)) (from_to 0 (length ks))
-  home_bound m now r i = sum_le _ _ (from_to 0 (length ks)) (λ s j. home_le (choice_at ks s) (m.phase r s) (plain_for m now r s i (let k = from_to-In 0 (length ks) s j in omega arith)))
+  home_bound : (m : Moment) → IsLawful ranks ks m → (r : ℕ) → r < ranks
+      → over_steps ks home_steps (m.phase r) ≤ sum_by (λ s. told_steps (choice_at ks s)) (from_to 0 (length ks))
+  home_bound m now r i = sum_le _ _ (from_to 0 (length ks))
+      (λ s j. home_le (choice_at ks s) (m.phase r s) (plain_for m now r s i (let k = from_to-In 0 (length ks) s j in omega arith)))
 
-  taken_bound : (m : Moment) → IsLawful ranks ks m → over_ranks ranks ks requests_taken m.phase ≤ ranks * sum_by (λ s. told_requests (choice_at ks s)) (from_to 0 (length ks))
+  taken_bound : (m : Moment) → IsLawful ranks ks m
+      → over_ranks ranks ks requests_taken m.phase ≤ ranks * sum_by (λ s. told_requests (choice_at ks s)) (from_to 0 (length ks))
   taken_bound m now =
-      let a = sum_le (λ q. over_steps ks requests_taken (m.phase q)) (λ q. sum_by (λ s. told_requests (choice_at ks s)) (from_to 0 (length ks))) (from_to 0 ranks)
-      (λ q j. sum_le _ _ (from_to 0 (length ks)) (λ s l. taken_le (choice_at ks s) (m.phase q s) (plain_for m now q s (let k = from_to-In 0 ranks q j in omega arith) (let k = from_to-In 0 (length ks) s l in omega arith)))) in
-      let b = sum_same (λ q. sum_by (λ s. told_requests (choice_at ks s)) (from_to 0 (length ks))) (sum_by (λ s. told_requests (choice_at ks s)) (from_to 0 (length ks))) 0 ranks (λ q. refl) in
+      let a = sum_le (λ q. over_steps ks requests_taken (m.phase q))
+          (λ q. sum_by (λ s. told_requests (choice_at ks s)) (from_to 0 (length ks))) (from_to 0 ranks)
+      (λ q j. sum_le _ _ (from_to 0 (length ks))
+          (λ s l. taken_le (choice_at ks s) (m.phase q s)
+          (plain_for m now q s (let k = from_to-In 0 ranks q j in omega arith) (let k = from_to-In 0 (length ks) s l in omega arith)))) in
+      let b = sum_same (λ q. sum_by (λ s. told_requests (choice_at ks s)) (from_to 0 (length ks)))
+          (sum_by (λ s. told_requests (choice_at ks s)) (from_to 0 (length ks))) 0 ranks (λ q. refl) in
       omega (arith, a, b)
 
   pub made_le : (m : Moment) → IsLawful ranks ks m → (r : ℕ) → r < ranks → steps_made ranks ks m r ≤ steps_due ranks ks r
   made_le m now r i = at (m.started r) (r == 0) (home_bound m now r i) (taken_bound m now)
     where
-      at : (b z : Bool) → over_steps ks home_steps (m.phase r) ≤ sum_by (λ s. told_steps (choice_at ks s)) (from_to 0 (length ks)) → over_ranks ranks ks requests_taken m.phase ≤ ranks * sum_by (λ s. told_requests (choice_at ks s)) (from_to 0 (length ks))
-          → (if b then 1 else 0) + (over_steps ks home_steps (m.phase r) + (if z then over_ranks ranks ks requests_taken m.phase else 0)) ≤ 1 + (sum_by (λ s. told_steps (choice_at ks s)) (from_to 0 (length ks)) + (if z then ranks * sum_by (λ s. told_requests (choice_at ks s)) (from_to 0 (length ks)) else 0))
+      at : (b z : Bool) → over_steps ks home_steps (m.phase r) ≤ sum_by (λ s. told_steps (choice_at ks s)) (from_to 0 (length ks))
+          → over_ranks ranks ks requests_taken m.phase ≤ ranks * sum_by (λ s. told_requests (choice_at ks s)) (from_to 0 (length ks))
+          → (if b then 1 else 0) + (over_steps ks home_steps (m.phase r) + (if z then over_ranks ranks ks requests_taken m.phase else 0)) ≤
+              1 + (sum_by (λ s. told_steps (choice_at ks s)) (from_to 0 (length ks)) +
+              (if z then ranks * sum_by (λ s. told_requests (choice_at ks s)) (from_to 0 (length ks)) else 0))
       at true true x y = omega (arith, x, y)
       at true false x y = omega (arith, x, y)
       at false true x y = omega (arith, x, y)
       at false false x y = omega (arith, x, y)
 
   -- at rest all is made
-  pub made_all : (m : Moment) → IsLawful ranks ks m → IsResting ranks ks m → (r : ℕ) → r < ranks → m.started r ≡ true → steps_made ranks ks m r ≡ steps_due ranks ks r
+  pub made_all : (m : Moment) → IsLawful ranks ks m → IsResting ranks ks m → (r : ℕ) → r < ranks → m.started r ≡ true
+      → steps_made ranks ks m r ≡ steps_due ranks ks r
   made_all m now rest r i e =
       ap (λ b. made_of b (over_steps ks home_steps (m.phase r)) r (over_ranks ranks ks requests_taken m.phase)) e
       ∙ ap₂ (λ x y. made_of true x r y)
-      (sum_as _ _ (from_to 0 (length ks)) (λ s j. home_told (choice_at ks s) (m.phase r s) (rest_told ranks ks m now rest r s i (let k = from_to-In 0 (length ks) s j in omega arith))))
-      (sum_as (λ q. sum_by (λ s. told_requests (choice_at ks s)) (from_to 0 (length ks))) (λ q. over_steps ks requests_taken (m.phase q)) (from_to 0 ranks)
-      (λ q j. sum_as _ _ (from_to 0 (length ks)) (λ s l. taken_told (choice_at ks s) (m.phase q s) (rest_told ranks ks m now rest q s (let k = from_to-In 0 ranks q j in omega arith) (let k = from_to-In 0 (length ks) s l in omega arith))))
-      ∙ sum_same (λ q. sum_by (λ s. told_requests (choice_at ks s)) (from_to 0 (length ks))) (sum_by (λ s. told_requests (choice_at ks s)) (from_to 0 (length ks))) 0 ranks (λ q. refl))
+      (sum_as _ _ (from_to 0 (length ks))
+          (λ s j. home_told (choice_at ks s) (m.phase r s)
+          (rest_told ranks ks m now rest r s i (let k = from_to-In 0 (length ks) s j in omega arith))))
+      (sum_as (λ q. sum_by (λ s. told_requests (choice_at ks s)) (from_to 0 (length ks))) (λ q. over_steps ks requests_taken (m.phase q))
+          (from_to 0 ranks)
+      (λ q j. sum_as _ _ (from_to 0 (length ks))
+          (λ s l. taken_told (choice_at ks s) (m.phase q s)
+          (rest_told ranks ks m now rest q s (let k = from_to-In 0 ranks q j in omega arith)
+          (let k = from_to-In 0 (length ks) s l in omega arith))))
+      ∙ sum_same (λ q. sum_by (λ s. told_requests (choice_at ks s)) (from_to 0 (length ks)))
+          (sum_by (λ s. told_requests (choice_at ks s)) (from_to 0 (length ks))) 0 ranks (λ q. refl))
 
   -- ---- and where all is made, all is told
   sum_eq : (f g : ℕ → ℕ) (xs : List ℕ) → ((x : ℕ) → In x xs → f x ≤ g x) → sum_by f xs ≡ sum_by g xs → (x : ℕ) → In x xs → f x ≡ g x
@@ -371,11 +418,15 @@ module _ (ranks : ℕ) (ks : List ChoiceKind) where
 
   -- the two parts of rank r that tell of itself
   module _ (m : Moment) (now : IsLawful ranks ks m) (r : ℕ) (i : r < ranks) (full : steps_made ranks ks m r ≡ steps_due ranks ks r) where
-    pub full_parts : (m.started r ≡ true) × (over_steps ks home_steps (m.phase r) ≡ sum_by (λ s. told_steps (choice_at ks s)) (from_to 0 (length ks)))
+    pub full_parts : (m.started r ≡ true)
+        × (over_steps ks home_steps (m.phase r) ≡ sum_by (λ s. told_steps (choice_at ks s)) (from_to 0 (length ks)))
     full_parts = at (m.started r) (r == 0) (home_bound m now r i) (taken_bound m now) full
       where
-        at : (b z : Bool) → over_steps ks home_steps (m.phase r) ≤ sum_by (λ s. told_steps (choice_at ks s)) (from_to 0 (length ks)) → over_ranks ranks ks requests_taken m.phase ≤ ranks * sum_by (λ s. told_requests (choice_at ks s)) (from_to 0 (length ks))
-            → (if b then 1 else 0) + (over_steps ks home_steps (m.phase r) + (if z then over_ranks ranks ks requests_taken m.phase else 0)) ≡ 1 + (sum_by (λ s. told_steps (choice_at ks s)) (from_to 0 (length ks)) + (if z then ranks * sum_by (λ s. told_requests (choice_at ks s)) (from_to 0 (length ks)) else 0))
+        at : (b z : Bool) → over_steps ks home_steps (m.phase r) ≤ sum_by (λ s. told_steps (choice_at ks s)) (from_to 0 (length ks))
+            → over_ranks ranks ks requests_taken m.phase ≤ ranks * sum_by (λ s. told_requests (choice_at ks s)) (from_to 0 (length ks))
+            → (if b then 1 else 0) + (over_steps ks home_steps (m.phase r) + (if z then over_ranks ranks ks requests_taken m.phase else 0))
+                ≡ 1 + (sum_by (λ s. told_steps (choice_at ks s)) (from_to 0 (length ks)) +
+                (if z then ranks * sum_by (λ s. told_requests (choice_at ks s)) (from_to 0 (length ks)) else 0))
             → (b ≡ true) × (over_steps ks home_steps (m.phase r) ≡ sum_by (λ s. told_steps (choice_at ks s)) (from_to 0 (length ks)))
         at true true x y e = (refl, omega (arith, x, y, e))
         at true false x y e = (refl, omega (arith, x, y, e))
@@ -385,7 +436,9 @@ module _ (ranks : ℕ) (ks : List ChoiceKind) where
     pub full_told : (s : ℕ) → s < length ks → IsTold (m.phase r s)
     full_told s j =
         home_full (choice_at ks s) (m.phase r s) (plain_for m now r s i j)
-        (sum_eq (λ t. home_steps (choice_at ks t) (m.phase r t)) (λ t. told_steps (choice_at ks t)) (from_to 0 (length ks)) (λ t l. home_le (choice_at ks t) (m.phase r t) (plain_for m now r t i (let k = from_to-In 0 (length ks) t l in omega arith))) full_parts.1 s (In-from_to 0 (length ks) s (omega arith) (omega arith)))
+        (sum_eq (λ t. home_steps (choice_at ks t) (m.phase r t)) (λ t. told_steps (choice_at ks t)) (from_to 0 (length ks))
+            (λ t l. home_le (choice_at ks t) (m.phase r t) (plain_for m now r t i (let k = from_to-In 0 (length ks) t l in omega arith)))
+            full_parts.1 s (In-from_to 0 (length ks) s (omega arith) (omega arith)))
 
     pub full_no_asks : m.asks r ≡ []
     full_no_asks = none (m.asks r) (λ a j. let k = (now.flight r i).asks_known a j in out a (m.phase r a.step) (full_told a.step k.0) k.1)
@@ -398,7 +451,8 @@ module _ (ranks : ℕ) (ks : List ChoiceKind) where
         out a p t h = subst (λ v. IsAsk v a) t.is h
 
     pub full_no_answers : m.answers r ≡ []
-    full_no_answers = none (m.answers r) (λ a j. let k = (now.flight r i).answers_known a j in out a (m.phase r a.step) (full_told a.step k.0) k.1)
+    full_no_answers = none (m.answers r) (λ a j. let k = (now.flight r i).answers_known a j in
+        out a (m.phase r a.step) (full_told a.step k.0) k.1)
       where
         none : (xs : List Answer) → ((a : Answer) → In a xs → ⊥) → xs ≡ []
         none [] h = refl
@@ -418,7 +472,9 @@ module _ (ranks : ℕ) (ks : List ChoiceKind) where
   pub asks_few : (m : Moment) → IsLawful ranks ks m → (r : ℕ) → r < ranks → length (m.asks r) ≤ length ks
   asks_few m now r i =
       let f = now.flight r i in
-      let a = length-Within (map ask_step (m.asks r)) (from_to 0 (length ks)) f.asks_once (λ s j. let k = In-map_cases ask_step s (m.asks r) j in In-from_to 0 (length ks) s (omega arith) (let l = (f.asks_known k.0 k.1).0 in let e = k.2 in omega (arith, l, e))) in
+      let a = length-Within (map ask_step (m.asks r)) (from_to 0 (length ks)) f.asks_once
+          (λ s j. let k = In-map_cases ask_step s (m.asks r) j in
+          In-from_to 0 (length ks) s (omega arith) (let l = (f.asks_known k.0 k.1).0 in let e = k.2 in omega (arith, l, e))) in
       let b = length-map' ask_step (m.asks r) in
       let c = length-from_to 0 (length ks) in
       omega (arith, a, b, c)
@@ -426,7 +482,9 @@ module _ (ranks : ℕ) (ks : List ChoiceKind) where
   pub answers_few : (m : Moment) → IsLawful ranks ks m → (r : ℕ) → r < ranks → length (m.answers r) ≤ length ks
   answers_few m now r i =
       let f = now.flight r i in
-      let a = length-Within (map answer_step (m.answers r)) (from_to 0 (length ks)) f.answers_once (λ s j. let k = In-map_cases answer_step s (m.answers r) j in In-from_to 0 (length ks) s (omega arith) (let l = (f.answers_known k.0 k.1).0 in let e = k.2 in omega (arith, l, e))) in
+      let a = length-Within (map answer_step (m.answers r)) (from_to 0 (length ks)) f.answers_once
+          (λ s j. let k = In-map_cases answer_step s (m.answers r) j in
+          In-from_to 0 (length ks) s (omega arith) (let l = (f.answers_known k.0 k.1).0 in let e = k.2 in omega (arith, l, e))) in
       let b = length-map' answer_step (m.answers r) in
       let c = length-from_to 0 (length ks) in
       omega (arith, a, b, c)

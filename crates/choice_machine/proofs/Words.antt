@@ -12,24 +12,28 @@ use Rattle.choice_machine.specs.Lawful.{ElectHolds, Holds, IsAsk, TicketsHold, h
 use Rattle.choice_machine.proofs.Places.{count-le, count_as, count_none, count_put, put-other, put-same}
 
 -- ---- phases that look the same in this respect
-elect_same : (ranks w : ℕ) (f g : ℕ → Phase) → ((q : ℕ) → is_past (g q) ≡ is_past (f q)) → ((q : ℕ) → read_by (g q) ≡ read_by (f q)) → ElectHolds ranks f w → ElectHolds ranks g w
+elect_same : (ranks w : ℕ) (f g : ℕ → Phase) → ((q : ℕ) → is_past (g q) ≡ is_past (f q)) → ((q : ℕ) → read_by (g q) ≡ read_by (f q))
+    → ElectHolds ranks f w → ElectHolds ranks g w
 elect_same ranks w f g past read h = record {
   known = h.known;
   settled = λ r i e. h.settled r i (sym (past r) ∙ e);
   values = λ r v i e. h.values r v i (sym (read r) ∙ e);
 }
 
-tickets_same : (ranks w : ℕ) (f g : ℕ → Phase) → ((q : ℕ) → is_plain (f q) ≡ true → is_plain (g q) ≡ true) → ((q : ℕ) → is_plain (f q) ≡ true → ticket_of (g q) ≡ ticket_of (f q)) → TicketsHold ranks f w → TicketsHold ranks g w
+tickets_same : (ranks w : ℕ) (f g : ℕ → Phase) → ((q : ℕ) → is_plain (f q) ≡ true → is_plain (g q) ≡ true)
+    → ((q : ℕ) → is_plain (f q) ≡ true → ticket_of (g q) ≡ ticket_of (f q)) → TicketsHold ranks f w → TicketsHold ranks g w
 tickets_same ranks w f g plain ticket h =
     let same : (q : ℕ) → q < ranks → ticket_of (g q) ≡ ticket_of (f q) = λ q i. ticket q (h.plain q i) in record {
       plain = λ r i. plain r (h.plain r i);
       below = λ r v i e. h.below r v i (sym (same r i) ∙ e);
       apart = λ q r v i j e k. h.apart q r v i j (sym (same q i) ∙ e) (sym (same r j) ∙ k);
-      count = count_as (λ r. has_ticket (f r)) (λ r. has_ticket (g r)) (from_to 0 ranks) (λ r i. ap (λ (o : Option ℕ). is_some o) (same r (let k = from_to-In 0 ranks r i in omega arith))) ∙ h.count;
+      count = count_as (λ r. has_ticket (f r)) (λ r. has_ticket (g r)) (from_to 0 ranks)
+          (λ r i. ap (λ (o : Option ℕ). is_some o) (same r (let k = from_to-In 0 ranks r i in omega arith))) ∙ h.count;
     }
 
 -- a phase that was put at one rank
-pub put_as : {X : Type 0} (look : Phase → X) (r : ℕ) (p : Phase) (f : ℕ → Phase) → look p ≡ look (f r) → (q : ℕ) → look (put r p f q) ≡ look (f q)
+pub put_as : {X : Type 0} (look : Phase → X) (r : ℕ) (p : Phase) (f : ℕ → Phase) → look p ≡ look (f r) → (q : ℕ)
+    → look (put r p f q) ≡ look (f q)
 put_as look r p f e q = elim (cases_eq q r) [
   | inl same ↦ ap (λ v. look (put r p f v)) same ∙ ap look (put-same r p f) ∙ e ∙ ap (λ v. look (f v)) (sym same)
   | inr other ↦ ap look (put-other r p f q other)
@@ -77,8 +81,12 @@ ticket-advanced (Learned old value) = refl
 ticket-advanced (Told old value) = refl
 
 pub fired_holds : (k : ChoiceKind) (ranks w r : ℕ) (f : ℕ → Phase) → Holds k ranks f w → Holds k ranks (put r (advanced (f r)) f) w
-fired_holds Elect ranks w r f h = elect_same ranks w f _ (put_as is_past r (advanced (f r)) f (past-advanced (f r))) (put_as read_by r (advanced (f r)) f (read-advanced (f r))) h
-fired_holds Tickets ranks w r f h = tickets_same ranks w f _ (λ q e. put_as is_plain r (advanced (f r)) f (plain-advanced (f r)) q ∙ e) (λ q e. put_as ticket_of r (advanced (f r)) f (ticket-advanced (f r)) q) h
+fired_holds Elect ranks w r f h =
+    elect_same ranks w f _ (put_as is_past r (advanced (f r)) f (past-advanced (f r)))
+    (put_as read_by r (advanced (f r)) f (read-advanced (f r))) h
+fired_holds Tickets ranks w r f h =
+    tickets_same ranks w f _ (λ q e. put_as is_plain r (advanced (f r)) f (plain-advanced (f r)) q ∙ e)
+    (λ q e. put_as ticket_of r (advanced (f r)) f (ticket-advanced (f r)) q) h
 
 -- ---- an answer at home
 past-home : (p : Phase) → is_past (at_home Elect p) ≡ is_past p
@@ -123,21 +131,27 @@ ticket-home (Learned old value) e = refl
 ticket-home (Told old value) e = refl
 
 pub returned_holds : (k : ChoiceKind) (ranks w r : ℕ) (f : ℕ → Phase) → Holds k ranks f w → Holds k ranks (put r (at_home k (f r)) f) w
-returned_holds Elect ranks w r f h = elect_same ranks w f _ (put_as is_past r (at_home Elect (f r)) f (past-home (f r))) (put_as read_by r (at_home Elect (f r)) f (read-home (f r))) h
+returned_holds Elect ranks w r f h =
+    elect_same ranks w f _ (put_as is_past r (at_home Elect (f r)) f (past-home (f r)))
+    (put_as read_by r (at_home Elect (f r)) f (read-home (f r))) h
 returned_holds Tickets ranks w r f h = tickets_same ranks w f _ (λ q e. plain q e (cases_eq q r)) (λ q e. ticket q e (cases_eq q r)) h
   where
     plain : (q : ℕ) → is_plain (f q) ≡ true → ((q ≡ r) ⊎ (q ≡ r → ⊥)) → is_plain (put r (at_home Tickets (f r)) f q) ≡ true
-    plain q e (inl same) = ap (λ v. is_plain (put r (at_home Tickets (f r)) f v)) same ∙ ap is_plain (put-same r (at_home Tickets (f r)) f) ∙ plain-home (f r) (subst (λ v. is_plain (f v) ≡ true) same e)
+    plain q e (inl same) = ap (λ v. is_plain (put r (at_home Tickets (f r)) f v)) same ∙ ap is_plain (put-same r (at_home Tickets (f r)) f)
+        ∙ plain-home (f r) (subst (λ v. is_plain (f v) ≡ true) same e)
     plain q e (inr other) = ap is_plain (put-other r (at_home Tickets (f r)) f q other) ∙ e
 
     ticket : (q : ℕ) → is_plain (f q) ≡ true → ((q ≡ r) ⊎ (q ≡ r → ⊥)) → ticket_of (put r (at_home Tickets (f r)) f q) ≡ ticket_of (f q)
-    ticket q e (inl same) = ap (λ v. ticket_of (put r (at_home Tickets (f r)) f v)) same ∙ ap ticket_of (put-same r (at_home Tickets (f r)) f) ∙ ticket-home (f r) (subst (λ v. is_plain (f v) ≡ true) same e) ∙ ap (λ v. ticket_of (f v)) (sym same)
+    ticket q e (inl same) = ap (λ v. ticket_of (put r (at_home Tickets (f r)) f v)) same
+        ∙ ap ticket_of (put-same r (at_home Tickets (f r)) f) ∙ ticket-home (f r) (subst (λ v. is_plain (f v) ≡ true) same e)
+        ∙ ap (λ v. ticket_of (f v)) (sym same)
     ticket q e (inr other) = ap ticket_of (put-other r (at_home Tickets (f r)) f q other)
 
 -- ---- a request at rank 0
 
 -- the first request of an elect: the word is the rank, where it wasn't one before
-elect_takes : (ranks w r : ℕ) (f : ℕ → Phase) → ranks ≤ 256 → r < ranks → f r ≡ Asked → ElectHolds ranks f w → ElectHolds ranks (put r (Served w) f) (word_after Elect false r w)
+elect_takes : (ranks w r : ℕ) (f : ℕ → Phase) → ranks ≤ 256 → r < ranks → f r ≡ Asked → ElectHolds ranks f w
+    → ElectHolds ranks (put r (Served w) f) (word_after Elect false r w)
 elect_takes ranks w r f few in_range e h = at (w == top) refl
   where
     same_read : (q : ℕ) → read_by (put r (Served w) f q) ≡ read_by (f q)
@@ -170,7 +184,8 @@ elect_takes ranks w r f few in_range e h = at (w == top) refl
         }
 
 -- a get reads the word
-elect_reads : (ranks w r old : ℕ) (f : ℕ → Phase) → r < ranks → f r ≡ Reading old → ElectHolds ranks f w → ElectHolds ranks (put r (Read old w) f) w
+elect_reads : (ranks w r old : ℕ) (f : ℕ → Phase) → r < ranks → f r ≡ Reading old → ElectHolds ranks f w
+    → ElectHolds ranks (put r (Read old w) f) w
 elect_reads ranks w r old f in_range e h = record {
   known = h.known;
   settled = λ q j k. h.settled q j (sym (put_as is_past r (Read old w) f (ap is_past (sym e)) q) ∙ k);
@@ -181,7 +196,8 @@ elect_reads ranks w r old f in_range e h = record {
     some_one a b e = cc
 
     value : (q v : ℕ) → q < ranks → read_by (put r (Read old w) f q) ≡ Some v → ((q ≡ r) ⊎ (q ≡ r → ⊥)) → v ≡ w
-    value q v j k (inl same) = some_one w v (sym (ap (λ n. read_by (put r (Read old w) f n)) same ∙ ap read_by (put-same r (Read old w) f)) ∙ k)
+    value q v j k (inl same) = some_one w v (sym (ap (λ n. read_by (put r (Read old w) f n)) same ∙ ap read_by (put-same r (Read old w) f))
+        ∙ k)
     value q v j k (inr other) = h.values q v j (sym (ap read_by (put-other r (Read old w) f q other)) ∙ k)
 
 pub length-from_to : (k n : ℕ) → length (from_to k n) ≡ n
@@ -196,14 +212,17 @@ word_le ranks w f h =
     omega (arith, a, b, c)
 
 -- the first request of tickets: the rank is given the word, which rises
-tickets_take : (ranks w r : ℕ) (f : ℕ → Phase) → ranks ≤ 256 → r < ranks → f r ≡ Asked → TicketsHold ranks f w → TicketsHold ranks (put r (Served w) f) (word_after Tickets false r w)
+tickets_take : (ranks w r : ℕ) (f : ℕ → Phase) → ranks ≤ 256 → r < ranks → f r ≡ Asked → TicketsHold ranks f w
+    → TicketsHold ranks (put r (Served w) f) (word_after Tickets false r w)
 tickets_take ranks w r f few in_range e h =
     subst (λ v. TicketsHold ranks (put r (Served w) f) v) rises
     record {
       plain = λ q j. put_as is_plain r (Served w) f (ap is_plain (sym e)) q ∙ h.plain q j;
       below = λ q v j k. below q v j k (cases_eq q r);
       apart = λ p q v i j k l. apart p q v i j k l (cases_eq p r) (cases_eq q r);
-      count = count_put (λ q. has_ticket (f q)) (λ q. has_ticket (put r (Served w) f q)) r (from_to 0 ranks) (Distinct-from_to 0 ranks) (In-from_to 0 ranks r (omega arith) (omega arith)) (ap has_ticket e) (ap has_ticket (put-same r (Served w) f)) (λ q other. ap has_ticket (put-other r (Served w) f q other))
+      count = count_put (λ q. has_ticket (f q)) (λ q. has_ticket (put r (Served w) f q)) r (from_to 0 ranks) (Distinct-from_to 0 ranks)
+          (In-from_to 0 ranks r (omega arith) (omega arith)) (ap has_ticket e) (ap has_ticket (put-same r (Served w) f))
+          (λ q other. ap has_ticket (put-other r (Served w) f q other))
           ∙ ap suc h.count;
     }
   where
@@ -223,16 +242,19 @@ tickets_take ranks w r f few in_range e h =
     below q v j k (inl same) = let a = here q v same k in omega (arith, a)
     below q v j k (inr other) = let a = h.below q v j (there q v other k) in omega (arith, a)
 
-    apart : (p q v : ℕ) → p < ranks → q < ranks → ticket_of (put r (Served w) f p) ≡ Some v → ticket_of (put r (Served w) f q) ≡ Some v → ((p ≡ r) ⊎ (p ≡ r → ⊥)) → ((q ≡ r) ⊎ (q ≡ r → ⊥)) → p ≡ q
+    apart : (p q v : ℕ) → p < ranks → q < ranks → ticket_of (put r (Served w) f p) ≡ Some v → ticket_of (put r (Served w) f q) ≡ Some v
+        → ((p ≡ r) ⊎ (p ≡ r → ⊥)) → ((q ≡ r) ⊎ (q ≡ r → ⊥)) → p ≡ q
     apart p q v i j k l (inl a) (inl b) = a ∙ sym b
     apart p q v i j k l (inl a) (inr b) = let x = here p v a k in let y = h.below q v j (there q v b l) in absurd (omega (arith, x, y))
     apart p q v i j k l (inr a) (inl b) = let x = here q v b l in let y = h.below p v i (there p v a k) in absurd (omega (arith, x, y))
     apart p q v i j k l (inr a) (inr b) = h.apart p q v i j (there p v a k) (there q v b l)
 
-pub taken_holds : (k : ChoiceKind) (ranks w r : ℕ) (f : ℕ → Phase) (a : Ask) → ranks ≤ 256 → r < ranks → IsAsk (f r) a → Holds k ranks f w → Holds k ranks (put r (served w (f r)) f) (word_after k a.reads r w)
+pub taken_holds : (k : ChoiceKind) (ranks w r : ℕ) (f : ℕ → Phase) (a : Ask) → ranks ≤ 256 → r < ranks → IsAsk (f r) a → Holds k ranks f w
+    → Holds k ranks (put r (served w (f r)) f) (word_after k a.reads r w)
 taken_holds k ranks w r f a few in_range fit h = at k (f r) refl a.reads fit h
   where
-    at : (k : ChoiceKind) (p : Phase) → f r ≡ p → (reads : Bool) → IsAsk p (record { step = a.step; reads = reads }) → Holds k ranks f w → Holds k ranks (put r (served w p) f) (word_after k reads r w)
+    at : (k : ChoiceKind) (p : Phase) → f r ≡ p → (reads : Bool) → IsAsk p (record { step = a.step; reads = reads }) → Holds k ranks f w
+        → Holds k ranks (put r (served w p) f) (word_after k reads r w)
     at Elect Asked e false i h = elect_takes ranks w r f few in_range e h
     at Tickets Asked e false i h = tickets_take ranks w r f few in_range e h
     at k Asked e true i h = cc
@@ -252,4 +274,5 @@ taken_holds k ranks w r f a few in_range fit h = at k (f r) refl a.reads fit h
 -- ---- the first moment
 pub opened_holds : (k : ChoiceKind) (ranks : ℕ) → Holds k ranks (λ r. Idle) (first_word k)
 opened_holds Elect ranks = record { known = inl refl; settled = λ r i e. cc; values = λ r v i e. cc }
-opened_holds Tickets ranks = record { plain = λ r i. refl; below = λ r v i e. cc; apart = λ q r v i j e f. cc; count = count_none (λ r. false) (from_to 0 ranks) (λ x i. refl) }
+opened_holds Tickets ranks = record { plain = λ r i. refl; below = λ r v i e. cc; apart = λ q r v i j e f. cc; count =
+    count_none (λ r. false) (from_to 0 ranks) (λ x i. refl) }

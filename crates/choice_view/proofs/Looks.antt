@@ -56,7 +56,8 @@ value_advanced (Learned old value) = refl
 value_advanced (Told old value) = refl
 
 -- ---- a request taken at rank 0 shows nothing at the rank that asked
-module _ {X : Type 0} (look : Phase → X) (first : (w : ℕ) → look (Served w) ≡ look Asked) (get : (old w : ℕ) → look (Read old w) ≡ look (Reading old)) where
+module _ {X : Type 0} (look : Phase → X) (first : (w : ℕ) → look (Served w) ≡ look Asked)
+    (get : (old w : ℕ) → look (Read old w) ≡ look (Reading old)) where
   pub look_served : (w : ℕ) (p : Phase) → look (served w p) ≡ look p
   look_served w Asked = first w
   look_served w (Reading old) = get old w

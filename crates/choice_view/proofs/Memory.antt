@@ -19,7 +19,8 @@ start_from : (k n s : ℕ) → k ≤ s → s < k + n → 32 * k + start_by each_
 start_from k zero s h i = absurd (omega arith)
 start_from k (suc n) s h i = at (k == s) refl (start_from (suc k) n s)
   where
-    at : (b : Bool) → (k == s) ≡ b → (suc k ≤ s → s < suc k + n → 32 * suc k + start_by each_32 (from_to (suc k) n) s ≡ 32 * s) → 32 * k + cond b 0 (32 + start_by each_32 (from_to (suc k) n) s) ≡ 32 * s
+    at : (b : Bool) → (k == s) ≡ b → (suc k ≤ s → s < suc k + n → 32 * suc k + start_by each_32 (from_to (suc k) n) s ≡ 32 * s)
+        → 32 * k + cond b 0 (32 + start_by each_32 (from_to (suc k) n) s) ≡ 32 * s
     at true e rest = let q = eqb-true k s e in omega (arith, q)
     at false e rest = let ne = eqb-false k s e in let lt : suc k ≤ s = omega arith in let q = rest lt (omega arith) in omega (arith, q)
 
@@ -27,18 +28,23 @@ step_start : (ks : List ChoiceKind) (s : ℕ) → s < length ks → start_by eac
 step_start ks s h = let q = start_from 0 (length ks) s (omega arith) (omega arith) in omega (arith, q)
 
 module _ (ks : List ChoiceKind) (s : ℕ) (h : s < length ks) where
-  pub read_part : (f : ℕ → List ℕ) (off n : ℕ) → ((d : ℕ) → In d (steps ks) → length (f d) ≡ 32) → off + n ≤ 32 → part (32 * s + off) n (flat_map f (steps ks)) ≡ part off n (f s)
-  read_part f off n lengths fit = ap (λ v. part (v + off) n (flat_map f (steps ks))) (sym (step_start ks s h)) ∙ part_parts each_32 f (steps ks) lengths s off n (In-steps ks s h) fit
+  pub read_part : (f : ℕ → List ℕ) (off n : ℕ) → ((d : ℕ) → In d (steps ks) → length (f d) ≡ 32) → off + n ≤ 32
+      → part (32 * s + off) n (flat_map f (steps ks)) ≡ part off n (f s)
+  read_part f off n lengths fit = ap (λ v. part (v + off) n (flat_map f (steps ks))) (sym (step_start ks s h))
+      ∙ part_parts each_32 f (steps ks) lengths s off n (In-steps ks s h) fit
 
-  pub write_part : (f g : ℕ → List ℕ) (off : ℕ) (bs : List ℕ) → ((d : ℕ) → In d (steps ks) → length (f d) ≡ 32) → off + length bs ≤ 32 → g s ≡ written off bs (f s) → ((d : ℕ) → In d (steps ks) → (d ≡ s → ⊥) → g d ≡ f d)
+  pub write_part : (f g : ℕ → List ℕ) (off : ℕ) (bs : List ℕ) → ((d : ℕ) → In d (steps ks) → length (f d) ≡ 32) → off + length bs ≤ 32
+      → g s ≡ written off bs (f s) → ((d : ℕ) → In d (steps ks) → (d ≡ s → ⊥) → g d ≡ f d)
       → written (32 * s + off) bs (flat_map f (steps ks)) ≡ flat_map g (steps ks)
   write_part f g off bs lengths fit here there =
       ap (λ v. written (v + off) bs (flat_map f (steps ks))) (sym (step_start ks s h))
       ∙ write_parts each_32 f g (steps ks) (Distinct-from_to 0 (length ks)) lengths s off bs (In-steps ks s h) fit here there
 
 -- the step's part lies in the region
-pub inside_step : (ks : List ChoiceKind) (s : ℕ) → s < length ks → (f : ℕ → List ℕ) → ((d : ℕ) → In d (steps ks) → length (f d) ≡ 32) → 32 * s + 32 ≤ length (flat_map f (steps ks))
-inside_step ks s h f lengths = let a = within_flat each_32 f (steps ks) lengths s (In-steps ks s h) in let b = step_start ks s h in omega (arith, a, b)
+pub inside_step : (ks : List ChoiceKind) (s : ℕ) → s < length ks → (f : ℕ → List ℕ) → ((d : ℕ) → In d (steps ks) → length (f d) ≡ 32)
+    → 32 * s + 32 ≤ length (flat_map f (steps ks))
+inside_step ks s h f lengths = let a = within_flat each_32 f (steps ks) lengths s (In-steps ks s h) in let b = step_start ks s h in
+    omega (arith, a, b)
 
 -- ---- the four words
 pub length-four : (h v o b : ℕ) → length (four_words h v o b) ≡ 32

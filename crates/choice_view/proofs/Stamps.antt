@@ -23,11 +23,13 @@ before-le : (many : ChoiceKind → ℕ) (ks : List ChoiceKind) (s t : ℕ) → s
 before-le many ks s zero h = absurd (omega arith)
 before-le many ks s (suc t) h = at (cases_eq s t) (before-le many ks s t)
   where
-    at : ((s ≡ t) ⊎ (s ≡ t → ⊥)) → (s < t → before many ks s + many (choice_at ks s) ≤ before many ks t) → before many ks s + many (choice_at ks s) ≤ before many ks t + many (choice_at ks t)
+    at : ((s ≡ t) ⊎ (s ≡ t → ⊥)) → (s < t → before many ks s + many (choice_at ks s) ≤ before many ks t)
+        → before many ks s + many (choice_at ks s) ≤ before many ks t + many (choice_at ks t)
     at (inl e) rest = subst (λ v. before many ks s + many (choice_at ks s) ≤ before many ks v + many (choice_at ks v)) e (omega arith)
     at (inr n) rest = let k = rest (omega arith) in omega (arith, k)
 
-place_one : (many : ChoiceKind → ℕ) (ks : List ChoiceKind) (s t p q : ℕ) → p < many (choice_at ks s) → q < many (choice_at ks t) → before many ks s + p ≡ before many ks t + q → (s ≡ t) × (p ≡ q)
+place_one : (many : ChoiceKind → ℕ) (ks : List ChoiceKind) (s t p q : ℕ) → p < many (choice_at ks s) → q < many (choice_at ks t)
+    → before many ks s + p ≡ before many ks t + q → (s ≡ t) × (p ≡ q)
 place_one many ks s t p q i j e = at (cases_eq s t)
   where
     at : ((s ≡ t) ⊎ (s ≡ t → ⊥)) → (s ≡ t) × (p ≡ q)
@@ -67,10 +69,16 @@ ct_one ks (First s) Go i j e = absurd (omega (arith, e))
 ct_one ks (First s) Done i j e = absurd (omega (arith, e))
 ct_one ks (Second s) Go i j e = absurd (omega (arith, e))
 ct_one ks (Second s) Done i j e = absurd (omega (arith, e))
-ct_one ks (First s) (First t) i j e = ap First (place_one counters_in ks s t 0 0 (counters_in-pos (choice_at ks s)) (counters_in-pos (choice_at ks t)) (omega (arith, e))).0
-ct_one ks (First s) (Second t) i j e = let k = place_one counters_in ks s t 0 1 (counters_in-pos (choice_at ks s)) (second_in (choice_at ks t) j) (omega (arith, e)) in let l = k.1 in absurd (omega (arith, l))
-ct_one ks (Second s) (First t) i j e = let k = place_one counters_in ks s t 1 0 (second_in (choice_at ks s) i) (counters_in-pos (choice_at ks t)) (omega (arith, e)) in let l = k.1 in absurd (omega (arith, l))
-ct_one ks (Second s) (Second t) i j e = ap Second (place_one counters_in ks s t 1 1 (second_in (choice_at ks s) i) (second_in (choice_at ks t) j) (omega (arith, e))).0
+ct_one ks (First s) (First t) i j e =
+    ap First (place_one counters_in ks s t 0 0 (counters_in-pos (choice_at ks s)) (counters_in-pos (choice_at ks t)) (omega (arith, e))).0
+ct_one ks (First s) (Second t) i j e = let k =
+    place_one counters_in ks s t 0 1 (counters_in-pos (choice_at ks s)) (second_in (choice_at ks t) j) (omega (arith, e)) in let l = k.1 in
+    absurd (omega (arith, l))
+ct_one ks (Second s) (First t) i j e = let k =
+    place_one counters_in ks s t 1 0 (second_in (choice_at ks s) i) (counters_in-pos (choice_at ks t)) (omega (arith, e)) in let l = k.1 in
+    absurd (omega (arith, l))
+ct_one ks (Second s) (Second t) i j e =
+    ap Second (place_one counters_in ks s t 1 1 (second_in (choice_at ks s) i) (second_in (choice_at ks t) j) (omega (arith, e))).0
 
 pub In-go : (ks : List ChoiceKind) → In Go (counters ks)
 In-go ks = inl refl
@@ -86,12 +94,14 @@ In-first ks s h = inr (inr (In-flat (λ t. counters_of (choice_at ks t) t) s (Fi
     here Tickets = inl refl
 
 pub In-second : (ks : List ChoiceKind) (s : ℕ) → s < length ks → choice_at ks s ≡ Elect → In (Second s) (counters ks)
-In-second ks s h e = inr (inr (In-flat (λ t. counters_of (choice_at ks t) t) s (Second s) (steps ks) (In-steps ks s h) (subst (λ k. In (Second s) (counters_of k s)) (sym e) (inr (inl refl)))))
+In-second ks s h e = inr (inr (In-flat (λ t. counters_of (choice_at ks t) t) s (Second s) (steps ks) (In-steps ks s h)
+    (subst (λ k. In (Second s) (counters_of k s)) (sym e) (inr (inl refl)))))
 
 pub counters-In : (ks : List ChoiceKind) (c : Counter) → In c (counters ks) → IsCounter ks c
 counters-In ks c (inl e) = subst (IsCounter ks) e tt
 counters-In ks c (inr (inl e)) = subst (IsCounter ks) e tt
-counters-In ks c (inr (inr h)) = let k = flat-In (λ t. counters_of (choice_at ks t) t) c (steps ks) h in here (choice_at ks k.0) k.0 refl k.2
+counters-In ks c (inr (inr h)) = let k = flat-In (λ t. counters_of (choice_at ks t) t) c (steps ks) h in
+    here (choice_at ks k.0) k.0 refl k.2
   where
     here : (k : ChoiceKind) (s : ℕ) → choice_at ks s ≡ k → In c (counters_of k s) → IsCounter ks c
     here Elect s e (inl i) = subst (IsCounter ks) i tt
@@ -123,13 +133,16 @@ module _ (ks : List ChoiceKind) (s t : ℕ) where
   first_first e = (place_one things_in ks s t 0 0 (omega arith) (omega arith) e).0
 
   first_middle : choice_at ks t ≡ Elect → before things_in ks s + 0 ≡ before things_in ks t + 1 → ⊥
-  first_middle i e = let l = last_elect (choice_at ks t) i in let k = (place_one things_in ks s t 0 1 (omega arith) (omega (arith, l)) e).1 in omega (arith, k)
+  first_middle i e = let l = last_elect (choice_at ks t) i in let k =
+      (place_one things_in ks s t 0 1 (omega arith) (omega (arith, l)) e).1 in omega (arith, k)
 
   first_last : before things_in ks s + 0 ≡ before things_in ks t + last_in (choice_at ks t) → ⊥
-  first_last e = let l = last_in-pos (choice_at ks t) in let k = (place_one things_in ks s t 0 (last_in (choice_at ks t)) (omega arith) (omega arith) e).1 in omega (arith, k, l)
+  first_last e = let l = last_in-pos (choice_at ks t) in let k =
+      (place_one things_in ks s t 0 (last_in (choice_at ks t)) (omega arith) (omega arith) e).1 in omega (arith, k, l)
 
   middle_middle : choice_at ks s ≡ Elect → choice_at ks t ≡ Elect → before things_in ks s + 1 ≡ before things_in ks t + 1 → s ≡ t
-  middle_middle i j e = let l = last_elect (choice_at ks s) i in let m = last_elect (choice_at ks t) j in (place_one things_in ks s t 1 1 (omega (arith, l)) (omega (arith, m)) e).0
+  middle_middle i j e = let l = last_elect (choice_at ks s) i in let m = last_elect (choice_at ks t) j in
+      (place_one things_in ks s t 1 1 (omega (arith, l)) (omega (arith, m)) e).0
 
   middle_last : choice_at ks s ≡ Elect → before things_in ks s + 1 ≡ before things_in ks t + last_in (choice_at ks t) → ⊥
   middle_last i e =
@@ -204,7 +217,8 @@ number_one ks (Tell s) (Look t) i j e = absurd (middle_last ks t s j.1 (sym e))
 number_one ks (Tell s) (Tell t) i j e = ap Tell (last_last ks s t e)
 
 pub works-In : (ks : List ChoiceKind) (w : Work) → In w (works ks) → IsWork ks w
-works-In ks w h = let k = flat-In (λ t. works_of (choice_at ks t) t) w (steps ks) h in here (choice_at ks k.0) k.0 (steps-In ks k.0 k.1) refl k.2
+works-In ks w h = let k = flat-In (λ t. works_of (choice_at ks t) t) w (steps ks) h in
+    here (choice_at ks k.0) k.0 (steps-In ks k.0 k.1) refl k.2
   where
     here : (k : ChoiceKind) (s : ℕ) → s < length ks → choice_at ks s ≡ k → In w (works_of k s) → IsWork ks w
     here Elect s l e (inl i) = subst (IsWork ks) i l
@@ -221,7 +235,8 @@ In-works ks (Send s) h = In-flat (λ t. works_of (choice_at ks t) t) s (Send s) 
     here : (k : ChoiceKind) → In (Send s) (works_of k s)
     here Elect = inl refl
     here Tickets = inl refl
-In-works ks (Look s) h = In-flat (λ t. works_of (choice_at ks t) t) s (Look s) (steps ks) (In-steps ks s h.0) (subst (λ k. In (Look s) (works_of k s)) (sym h.1) (inr (inl refl)))
+In-works ks (Look s) h = In-flat (λ t. works_of (choice_at ks t) t) s (Look s) (steps ks) (In-steps ks s h.0)
+    (subst (λ k. In (Look s) (works_of k s)) (sym h.1) (inr (inl refl)))
 In-works ks (Tell s) h = In-flat (λ t. works_of (choice_at ks t) t) s (Tell s) (steps ks) (In-steps ks s h) (here (choice_at ks s))
   where
     here : (k : ChoiceKind) → In (Tell s) (works_of k s)

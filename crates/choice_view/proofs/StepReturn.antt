@@ -50,13 +50,19 @@ module _ (k : Slots) (ranks : ℕ) (ks : List ChoiceKind) (r : ℕ) (seat : Seat
     mds = awaits_less o (view k ranks ks r seat).mds;
   }
 
-  pub answer_comes : (h : Header) (bytes : List ℕ) → h.home ≡ Some (md_of k ks x) → h.home_offset ≡ 0 → has_counter x ≡ true → part_counter ks x ≡ Some c → awaits_of ks seat x ≡ 1
+  pub answer_comes : (h : Header) (bytes : List ℕ) → h.home ≡ Some (md_of k ks x) → h.home_offset ≡ 0 → has_counter x ≡ true
+      → part_counter ks x ≡ Some c → awaits_of ks seat x ≡ 1
       → target (view k ranks ks r seat) (message (reply_header true 8 h) bytes) ≡ delivers (came_state bytes) IsAnswered None
   unfolding target answered
   answer_comes h bytes at_home no_offset counts named awaits =
-      ap (λ o. after_answer (view k ranks ks r seat) (answered_at (home_of (view k ranks ks r seat)) (message (reply_header true 8 h) bytes) (bound_at o (view k ranks ks r seat).mds))) at_home
-      ∙ ap (λ b. after_answer (view k ranks ks r seat) (answered_at (home_of (view k ranks ks r seat)) (message (reply_header true 8 h) bytes) b)) (lookup_md k ranks ks r seat x i)
-      ∙ ap (λ t. after_answer (view k ranks ks r seat) (cond t (came_home (home_of (view k ranks ks r seat)) (message (reply_header true 8 h) bytes) (bound_for k ks seat x)) (lost_answer (home_of (view k ranks ks r seat))))) due
+      ap (λ o. after_answer (view k ranks ks r seat)
+          (answered_at (home_of (view k ranks ks r seat)) (message (reply_header true 8 h) bytes)
+          (bound_at o (view k ranks ks r seat).mds))) at_home
+      ∙ ap (λ b. after_answer (view k ranks ks r seat)
+          (answered_at (home_of (view k ranks ks r seat)) (message (reply_header true 8 h) bytes) b)) (lookup_md k ranks ks r seat x i)
+      ∙ ap (λ t. after_answer (view k ranks ks r seat)
+          (cond t (came_home (home_of (view k ranks ks r seat)) (message (reply_header true 8 h) bytes) (bound_for k ks seat x))
+          (lost_answer (home_of (view k ranks ks r seat))))) due
       ∙ (λ d. delivers (home_state (at_home d) (no_offset d) (counts d) (ct_named k ks (named d)) bytes) IsAnswered None)
     where
       due : is_due (reply_header true 8 h) (bound_for k ks seat x) ≡ true
@@ -78,17 +84,22 @@ module _ (k : Slots) (ranks : ℕ) (ks : List ChoiceKind) (r : ℕ) (seat : Seat
   look_home look e t = put_as look s p seat.phase e t
 
   same_told : is_told p ≡ is_told (seat.phase s) → count_of ks after_home Done ≡ count_of ks seat Done
-  same_told e = ap (λ n. min n top) (count_as (λ t. is_told (seat.phase t)) (λ t. is_told (after_home.phase t)) (steps ks) (λ t i. look_home is_told e t))
+  same_told e = ap (λ n. min n top) (count_as (λ t. is_told (seat.phase t)) (λ t. is_told (after_home.phase t)) (steps ks)
+      (λ t i. look_home is_told e t))
 
-  cts_home : (c : Counter) → In c (counters ks) → count_of ks seat c ≡ 0 → count_of ks after_home c ≡ 1 → ((d : Counter) → In d (counters ks) → (d ≡ c → ⊥) → count_of ks after_home d ≡ count_of ks seat d)
-      → change (ct_of k ks c) (bump (successes 1)) (map (live_counter k ks seat) (counters ks)) ≡ map (live_counter k ks after_home) (counters ks)
+  cts_home : (c : Counter) → In c (counters ks) → count_of ks seat c ≡ 0 → count_of ks after_home c ≡ 1
+      → ((d : Counter) → In d (counters ks) → (d ≡ c → ⊥) → count_of ks after_home d ≡ count_of ks seat d)
+      → change (ct_of k ks c) (bump (successes 1)) (map (live_counter k ks seat) (counters ks))
+          ≡ map (live_counter k ks after_home) (counters ks)
   cts_home c i zero one others =
-      changed_named k.ct (ct_stamp ks) (bump (successes 1)) (λ c. successes (count_of ks seat c)) (λ c. successes (count_of ks after_home c)) (counters ks) c
+      changed_named k.ct (ct_stamp ks) (bump (successes 1)) (λ c. successes (count_of ks seat c))
+          (λ c. successes (count_of ks after_home c)) (counters ks) c
       (λ d j e. ct_one ks d c (counters-In ks d j) (counters-In ks c i) e)
       (ap successes one ∙ sym (ap (λ n. bump (successes 1) (successes n)) zero))
       (λ d j n. ap successes (others d j n))
 
-  mds_home : (x : Part) → In x (parts ks) → awaits_of ks seat x ≡ 1 → awaits_of ks after_home x ≡ 0 → ((y : Part) → In y (parts ks) → (y ≡ x → ⊥) → awaits_of ks after_home y ≡ awaits_of ks seat y)
+  mds_home : (x : Part) → In x (parts ks) → awaits_of ks seat x ≡ 1 → awaits_of ks after_home x ≡ 0
+      → ((y : Part) → In y (parts ks) → (y ≡ x → ⊥) → awaits_of ks after_home y ≡ awaits_of ks seat y)
       → change (md_of k ks x) one_less (map (live_part k ks seat) (parts ks)) ≡ map (live_part k ks after_home) (parts ks)
   mds_home x i one zero others =
       changed_named k.md (md_stamp ks) one_less (bound_for k ks seat) (bound_for k ks after_home) (parts ks) x
@@ -97,18 +108,22 @@ module _ (k : Slots) (ranks : ℕ) (ks : List ChoiceKind) (r : ℕ) (seat : Seat
       (λ y j n. ap (bound_with k ks y) (others y j n))
 
   -- the old word is written, or the result
-  write_old_home : (v : ℕ) → old_of p ≡ v → value_of p ≡ value_of (seat.phase s) → written (32 * s + 16 + 0) (word v) (view k ranks ks r seat).memory ≡ (view k ranks ks r after_home).memory
+  write_old_home : (v : ℕ) → old_of p ≡ v → value_of p ≡ value_of (seat.phase s)
+      → written (32 * s + 16 + 0) (word v) (view k ranks ks r seat).memory ≡ (view k ranks ks r after_home).memory
   write_old_home v e f =
       ap (λ n. written n (word v) (view k ranks ks r seat).memory) (add-zero (32 * s + 16))
       ∙ write_part ks s h (step_bytes ks r seat) (step_bytes ks r after_home) 16 (word v) (λ t i. length-step ks r seat t) (omega arith)
-      (ap₂ (λ o b. four_words (seat.word s) (given_word (choice_at ks s) r) o b) (ap old_of here ∙ e) (ap value_of here ∙ f) ∙ sym (write_old (seat.word s) (given_word (choice_at ks s) r) (old_of (seat.phase s)) (value_of (seat.phase s)) v))
+      (ap₂ (λ o b. four_words (seat.word s) (given_word (choice_at ks s) r) o b) (ap old_of here ∙ e) (ap value_of here ∙ f)
+          ∙ sym (write_old (seat.word s) (given_word (choice_at ks s) r) (old_of (seat.phase s)) (value_of (seat.phase s)) v))
       (λ t i n. ap (λ q. four_words (seat.word t) (given_word (choice_at ks t) r) (old_of q) (value_of q)) (there t n))
 
-  write_result_home : (v : ℕ) → old_of p ≡ old_of (seat.phase s) → value_of p ≡ v → written (32 * s + 24 + 0) (word v) (view k ranks ks r seat).memory ≡ (view k ranks ks r after_home).memory
+  write_result_home : (v : ℕ) → old_of p ≡ old_of (seat.phase s) → value_of p ≡ v
+      → written (32 * s + 24 + 0) (word v) (view k ranks ks r seat).memory ≡ (view k ranks ks r after_home).memory
   write_result_home v e f =
       ap (λ n. written n (word v) (view k ranks ks r seat).memory) (add-zero (32 * s + 24))
       ∙ write_part ks s h (step_bytes ks r seat) (step_bytes ks r after_home) 24 (word v) (λ t i. length-step ks r seat t) (omega arith)
-      (ap₂ (λ o b. four_words (seat.word s) (given_word (choice_at ks s) r) o b) (ap old_of here ∙ e) (ap value_of here ∙ f) ∙ sym (write_result (seat.word s) (given_word (choice_at ks s) r) (old_of (seat.phase s)) (value_of (seat.phase s)) v))
+      (ap₂ (λ o b. four_words (seat.word s) (given_word (choice_at ks s) r) o b) (ap old_of here ∙ e) (ap value_of here ∙ f)
+          ∙ sym (write_result (seat.word s) (given_word (choice_at ks s) r) (old_of (seat.phase s)) (value_of (seat.phase s)) v))
       (λ t i n. ap (λ q. four_words (seat.word t) (given_word (choice_at ks t) r) (old_of q) (value_of q)) (there t n))
 
   -- ---- the answer of an elect's swap
@@ -119,7 +134,8 @@ module _ (k : Slots) (ranks : ℕ) (ks : List ChoiceKind) (r : ℕ) (seat : Seat
     swap_counts (First t) i n = ap (λ q. none_or_one (has_first (choice_at ks t) q)) (there t (λ e. n (ap First e)))
     swap_counts (Second t) i n = ap (λ b. none_or_one b) (look_home has_result (ap has_result to ∙ sym (ap has_result from)) t)
 
-    await_result : (c : ChoiceKind) (t : ℕ) → c ≡ Elect → none_or_one (awaits_result c (after_home.phase t)) ≡ none_or_one (awaits_result c (seat.phase t))
+    await_result : (c : ChoiceKind) (t : ℕ) → c ≡ Elect
+        → none_or_one (awaits_result c (after_home.phase t)) ≡ none_or_one (awaits_result c (seat.phase t))
     await_result Elect t e = ap (λ b. none_or_one b) (look_home is_reading (ap is_reading to ∙ sym (ap is_reading from)) t)
     await_result Tickets t e = cc
 
@@ -139,14 +155,18 @@ module _ (k : Slots) (ranks : ℕ) (ks : List ChoiceKind) (r : ℕ) (seat : Seat
     pub swap_home : came_state k ranks ks r seat (Old s) (In-old ks s h elect) (First s) (word old) ≡ view k ranks ks r after_home
     swap_home = λ d. view_with k ranks ks r seat
         (write_old_home old (ap old_of to) (ap value_of to ∙ sym (ap value_of from)) d)
-        (cts_home (First s) (In-first ks s h) (ap₂ (λ c q. none_or_one (has_first c q)) elect from) (ap₂ (λ c q. none_or_one (has_first c q)) elect (here ∙ to)) swap_counts d)
-        (mds_home (Old s) (In-old ks s h elect) (ap (λ q. none_or_one (is_out q)) from) (ap (λ q. none_or_one (is_out q)) (here ∙ to)) swap_awaits d)
+        (cts_home (First s) (In-first ks s h) (ap₂ (λ c q. none_or_one (has_first c q)) elect from)
+            (ap₂ (λ c q. none_or_one (has_first c q)) elect (here ∙ to)) swap_counts d)
+        (mds_home (Old s) (In-old ks s h elect) (ap (λ q. none_or_one (is_out q)) from)
+            (ap (λ q. none_or_one (is_out q)) (here ∙ to)) swap_awaits d)
         (pending_as k ks seat after_home (λ w i. swap_fired w) d)
 
   -- ---- the answer of a get
   module _ (elect : choice_at ks s ≡ Elect) (old value : ℕ) (from : seat.phase s ≡ Read old value) (to : p ≡ Learned old value) where
-    first_stays : (c : ChoiceKind) (t : ℕ) → c ≡ Elect → none_or_one (has_first c (after_home.phase t)) ≡ none_or_one (has_first c (seat.phase t))
-    first_stays Elect t e = ap (λ b. none_or_one b) (look_home (has_first Elect) (ap (has_first Elect) to ∙ sym (ap (has_first Elect) from)) t)
+    first_stays : (c : ChoiceKind) (t : ℕ) → c ≡ Elect
+        → none_or_one (has_first c (after_home.phase t)) ≡ none_or_one (has_first c (seat.phase t))
+    first_stays Elect t e = ap (λ b. none_or_one b) (look_home (has_first Elect)
+        (ap (has_first Elect) to ∙ sym (ap (has_first Elect) from)) t)
     first_stays Tickets t e = cc
 
     get_counts : (d : Counter) → In d (counters ks) → (d ≡ Second s → ⊥) → count_of ks after_home d ≡ count_of ks seat d
@@ -171,8 +191,10 @@ module _ (k : Slots) (ranks : ℕ) (ks : List ChoiceKind) (r : ℕ) (seat : Seat
     pub get_home : came_state k ranks ks r seat (Result s) (In-result ks s h) (Second s) (word value) ≡ view k ranks ks r after_home
     get_home = λ d. view_with k ranks ks r seat
         (write_result_home value (ap old_of to ∙ sym (ap old_of from)) (ap value_of to) d)
-        (cts_home (Second s) (In-second ks s h elect) (ap (λ q. none_or_one (has_result q)) from) (ap (λ q. none_or_one (has_result q)) (here ∙ to)) get_counts d)
-        (mds_home (Result s) (In-result ks s h) (ap₂ (λ c q. none_or_one (awaits_result c q)) elect from) (ap₂ (λ c q. none_or_one (awaits_result c q)) elect (here ∙ to)) get_awaits d)
+        (cts_home (Second s) (In-second ks s h elect) (ap (λ q. none_or_one (has_result q)) from)
+            (ap (λ q. none_or_one (has_result q)) (here ∙ to)) get_counts d)
+        (mds_home (Result s) (In-result ks s h) (ap₂ (λ c q. none_or_one (awaits_result c q)) elect from)
+            (ap₂ (λ c q. none_or_one (awaits_result c q)) elect (here ∙ to)) get_awaits d)
         (pending_as k ks seat after_home (λ w i. get_fired w) d)
 
   -- ---- the answer of a fetch-atomic
@@ -208,8 +230,10 @@ module _ (k : Slots) (ranks : ℕ) (ks : List ChoiceKind) (r : ℕ) (seat : Seat
     pub ticket_home : came_state k ranks ks r seat (Result s) (In-result ks s h) (First s) (word value) ≡ view k ranks ks r after_home
     ticket_home = λ d. view_with k ranks ks r seat
         (write_result_home value (ap old_of to ∙ sym (ap old_of from)) (ap value_of to) d)
-        (cts_home (First s) (In-first ks s h) (ap₂ (λ c q. none_or_one (has_first c q)) tickets from) (ap₂ (λ c q. none_or_one (has_first c q)) tickets (here ∙ to)) ticket_counts d)
-        (mds_home (Result s) (In-result ks s h) (ap₂ (λ c q. none_or_one (awaits_result c q)) tickets from) (ap₂ (λ c q. none_or_one (awaits_result c q)) tickets (here ∙ to)) ticket_awaits d)
+        (cts_home (First s) (In-first ks s h) (ap₂ (λ c q. none_or_one (has_first c q)) tickets from)
+            (ap₂ (λ c q. none_or_one (has_first c q)) tickets (here ∙ to)) ticket_counts d)
+        (mds_home (Result s) (In-result ks s h) (ap₂ (λ c q. none_or_one (awaits_result c q)) tickets from)
+            (ap₂ (λ c q. none_or_one (awaits_result c q)) tickets (here ∙ to)) ticket_awaits d)
         (pending_as k ks seat after_home ticket_fired d)
 
 -- ---- any answer that is under way
@@ -218,35 +242,44 @@ module _ (k : Slots) (ranks : ℕ) (ks : List ChoiceKind) (r : ℕ) (seat : Seat
   abbrev pub returns_to : ℕ → Phase → Delivers
   returns_to s p = delivers (view k ranks ks r (with_phase s p seat)) IsAnswered None
 
-  return_swap : (s old : ℕ) (h : s < length ks) → choice_at ks s ≡ Elect → seat.phase s ≡ Served old → target (view k ranks ks r seat) (answer_message k ks r (answer s false old)) ≡ returns_to s (Answered old)
+  return_swap : (s old : ℕ) (h : s < length ks) → choice_at ks s ≡ Elect → seat.phase s ≡ Served old
+      → target (view k ranks ks r seat) (answer_message k ks r (answer s false old)) ≡ returns_to s (Answered old)
   return_swap s old h e f =
       answer_comes k ranks ks r seat (Old s) (In-old ks s h e) (First s) (ask_header k ks r s false) (word old)
-      (ap (λ c. (first_header k ks c r s).home) e) (ap (λ c. (first_header k ks c r s).home_offset) e) refl refl (ap (λ p. none_or_one (is_out p)) f)
+      (ap (λ c. (first_header k ks c r s).home) e) (ap (λ c. (first_header k ks c r s).home_offset) e) refl refl
+          (ap (λ p. none_or_one (is_out p)) f)
       ∙ ap (λ v. delivers v IsAnswered None) (swap_home k ranks ks r seat s h (Answered old) e old f refl)
 
-  return_ticket : (s value : ℕ) (h : s < length ks) → choice_at ks s ≡ Tickets → seat.phase s ≡ Served value → target (view k ranks ks r seat) (answer_message k ks r (answer s false value)) ≡ returns_to s (Learned 0 value)
+  return_ticket : (s value : ℕ) (h : s < length ks) → choice_at ks s ≡ Tickets → seat.phase s ≡ Served value
+      → target (view k ranks ks r seat) (answer_message k ks r (answer s false value)) ≡ returns_to s (Learned 0 value)
   return_ticket s value h e f =
       answer_comes k ranks ks r seat (Result s) (In-result ks s h) (First s) (ask_header k ks r s false) (word value)
-      (ap (λ c. (first_header k ks c r s).home) e) (ap (λ c. (first_header k ks c r s).home_offset) e) refl (ap (λ c. Some (result_counter c s)) e) (ap₂ (λ c p. none_or_one (awaits_result c p)) e f)
+      (ap (λ c. (first_header k ks c r s).home) e) (ap (λ c. (first_header k ks c r s).home_offset) e) refl
+          (ap (λ c. Some (result_counter c s)) e) (ap₂ (λ c p. none_or_one (awaits_result c p)) e f)
       ∙ ap (λ v. delivers v IsAnswered None) (ticket_home k ranks ks r seat s h (Learned 0 value) e value f refl)
 
-  return_get : (s old value : ℕ) (h : s < length ks) → choice_at ks s ≡ Elect → seat.phase s ≡ Read old value → target (view k ranks ks r seat) (answer_message k ks r (answer s true value)) ≡ returns_to s (Learned old value)
+  return_get : (s old value : ℕ) (h : s < length ks) → choice_at ks s ≡ Elect → seat.phase s ≡ Read old value
+      → target (view k ranks ks r seat) (answer_message k ks r (answer s true value)) ≡ returns_to s (Learned old value)
   return_get s old value h e f =
       answer_comes k ranks ks r seat (Result s) (In-result ks s h) (Second s) (ask_header k ks r s true) (word value)
       refl refl refl (ap (λ c. Some (result_counter c s)) e) (ap₂ (λ c p. none_or_one (awaits_result c p)) e f)
       ∙ ap (λ v. delivers v IsAnswered None) (get_home k ranks ks r seat s h (Learned old value) e old value f refl)
 
-  pub step_return : (a : Answer) → a.step < length ks → IsAnswer (seat.phase a.step) a → (choice_at ks a.step ≡ Tickets → is_plain (seat.phase a.step) ≡ true)
+  pub step_return : (a : Answer) → a.step < length ks → IsAnswer (seat.phase a.step) a
+      → (choice_at ks a.step ≡ Tickets → is_plain (seat.phase a.step) ≡ true)
       → target (view k ranks ks r seat) (answer_message k ks r a) ≡ returns_to a.step (at_home (choice_at ks a.step) (seat.phase a.step))
   step_return a h fit plain = at (choice_at ks a.step) (seat.phase a.step) refl refl fit
     where
-      same : (reads : Bool) (value : ℕ) → a.reads ≡ reads → a.value ≡ value → target (view k ranks ks r seat) (answer_message k ks r a) ≡ target (view k ranks ks r seat) (answer_message k ks r (answer a.step reads value))
+      same : (reads : Bool) (value : ℕ) → a.reads ≡ reads → a.value ≡ value
+          → target (view k ranks ks r seat) (answer_message k ks r a)
+          ≡ target (view k ranks ks r seat) (answer_message k ks r (answer a.step reads value))
       same reads value e f = ap₂ (λ x y. target (view k ranks ks r seat) (answer_message k ks r (answer a.step x y))) e f
 
       no_plain : (old value : ℕ) → choice_at ks a.step ≡ Tickets → seat.phase a.step ≡ Read old value → ⊥
       no_plain old value e f = let g : is_plain (Read old value) ≡ true = subst (λ p. is_plain p ≡ true) f (plain e) in cc
 
-      at : (c : ChoiceKind) (p : Phase) → choice_at ks a.step ≡ c → seat.phase a.step ≡ p → IsAnswer p a → target (view k ranks ks r seat) (answer_message k ks r a) ≡ returns_to a.step (at_home c p)
+      at : (c : ChoiceKind) (p : Phase) → choice_at ks a.step ≡ c → seat.phase a.step ≡ p → IsAnswer p a
+          → target (view k ranks ks r seat) (answer_message k ks r a) ≡ returns_to a.step (at_home c p)
       at Elect (Served old) e f i = same false old i.0 i.1 ∙ return_swap a.step old h e f
       at Tickets (Served old) e f i = same false old i.0 i.1 ∙ return_ticket a.step old h e f
       at Elect (Read old value) e f i = same true value i.0 i.1 ∙ return_get a.step old value h e f
