@@ -61,7 +61,7 @@ abbrev pub history : List Local
 history = Start
     ∷ Fire 0 ∷ Receive 0 Request (asks 0) ∷ Receive 0 AnswerLane (answers 0 top)
     ∷ Fire 1 ∷ Receive 0 Request (ask_message slots choices 0 (ask 0 true)) ∷ Receive 0 AnswerLane
-        (answer_message slots choices 0 (answer 0 true 0)) ∷ Fire 2
+    (answer_message slots choices 0 (answer 0 true 0)) ∷ Fire 2
     ∷ Fire 3 ∷ Receive 0 Request (asks 1) ∷ Receive 0 AnswerLane (answers 1 0) ∷ Fire 4 ∷ []
 
 abbrev pub go : Beginning

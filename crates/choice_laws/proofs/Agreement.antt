@@ -169,7 +169,7 @@ module _ (n : System) (w : Histories) (held : Lanes) (next : Histories) (later :
       → count_by is_start (next step.r) ≡ count_by is_start (w step.r) + (if is_start e then 1 else 0)
   starts_here e q =
       ap (count_by is_start) step.rank ∙ count-append is_start (w step.r) (step.e ∷ [])
-          ∙ ap (λ v. count_by is_start (w step.r) + count_by is_start (v ∷ [])) q
+      ∙ ap (λ v. count_by is_start (w step.r) + count_by is_start (v ∷ [])) q
       ∙ ap (λ v. count_by is_start (w step.r) + v) (one e)
     where
       one : (e : Local) → count_by is_start (e ∷ []) ≡ cond (is_start e) 1 0

@@ -87,7 +87,7 @@ module _ (ranks : ℕ) (ks : List ChoiceKind) (slots : ℕ → Slots) (in_range 
   all_told : (r : ℕ) → r < ranks → count_of ks (seat_of ks now.m r) Done ≡ length ks
   all_told r i =
       let a = count_all (λ s. is_told (now.m.phase r s)) (steps ks)
-          (λ s j. ap is_told (rest_told ranks ks now.m now.lawful resting r s i (steps-In ks s j)).is) in
+      (λ s j. ap is_told (rest_told ranks ks now.m now.lawful resting r s i (steps-In ks s j)).is) in
       let b = length-from_to 0 (length ks) in
       let c = in_range.few_steps in
       omega (arith, a, b, c)
@@ -99,7 +99,7 @@ module _ (ranks : ℕ) (ks : List ChoiceKind) (slots : ℕ → Slots) (in_range 
       let small = value_small (choice_at ks s) ranks (λ q. value_of (now.m.phase q s)) r i right in
       ap (result_of s) (now.states r)
       ∙ ap pattern (read_part ks s j (step_bytes ks r (seat_of ks now.m r)) 24 8 (λ t k. length-step ks r (seat_of ks now.m r) t)
-          (omega arith)
+      (omega arith)
       ∙ read_result ((seat_of ks now.m r).word s) (given_word (choice_at ks s) r) (old_of (now.m.phase r s)) (value_of (now.m.phase r s)))
       ∙ pattern-little 8 (value_of (now.m.phase r s)) (let few = in_range.few_ranks in omega arith)
 

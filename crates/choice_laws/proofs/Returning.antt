@@ -59,7 +59,7 @@ module _ (ranks : ℕ) (ks : List ChoiceKind) (slots : ℕ → Slots) (w : Histo
     does =
         ap₂ target (now.states step.r) (sym same)
         ∙ step_return (slots step.r) ranks ks step.r (seat_of ks now.m step.r) a known.0 known.1
-            (plain (choice_at ks a.step) (now.lawful.holds a.step known.0))
+        (plain (choice_at ks a.step) (now.lawful.holds a.step known.0))
 
     return_state : (q : ℕ) → ((q ≡ step.r) ⊎ (q ≡ step.r → ⊥)) → state_at here next q ≡ view (slots q) ranks ks q (seat_of ks return_next q)
     return_state q (inr m) = state_there here w held next later step q m ∙ now.states q
@@ -69,15 +69,15 @@ module _ (ranks : ℕ) (ks : List ChoiceKind) (slots : ℕ → Slots) (w : Histo
         (state_here here w held next later step (Receive 0 AnswerLane msg) is
         ∙ ap (λ (v : Delivers). v.state) does
         ∙ (λ d. view (slots step.r) ranks ks step.r
-            (record (seat_of ks now.m step.r) { phase = λ u. sym (put_in-row step.r a.step home_phase now.m.phase u) d })))
+        (record (seat_of ks now.m step.r) { phase = λ u. sym (put_in-row step.r a.step home_phase now.m.phase u) d })))
 
     -- nothing is sent
     return_left : (q d : ℕ) (lane : Lane) → later q d lane ≡ step.rest q d lane
     return_left q d lane = elim (cases_eq q step.r) [
       | inl i ↦ subst (λ v. later v d lane ≡ step.rest v d lane) (sym i)
           (left_here here w held next later step (Receive 0 AnswerLane msg) is d lane
-              ∙ ap (λ (x : Delivers). step.rest step.r d lane ++ filter (is_for d lane) (and_then x.delivered.answer [])) does
-              ∙ append-nil (step.rest step.r d lane))
+          ∙ ap (λ (x : Delivers). step.rest step.r d lane ++ filter (is_for d lane) (and_then x.delivered.answer [])) does
+          ∙ append-nil (step.rest step.r d lane))
       | inr m ↦ left_there here w held next later step q d lane m
     ]
 
@@ -102,7 +102,7 @@ module _ (ranks : ℕ) (ks : List ChoiceKind) (slots : ℕ → Slots) (w : Histo
       begun = λ q i. now.begun q (subst (λ v. 0 < v) (starts_stay here w held next later step (Receive 0 AnswerLane msg) is refl q) i);
       lengths = lengths_next here w held next later step (steps_made ranks ks now.m) (steps_made ranks ks return_next) now.lengths
           (made_returned ranks ks now.m step.r a answers now.lawful step.in_range known.0 known.1)
-              (made_returned_other ranks ks now.m step.r a answers now.lawful step.in_range known.0 known.1);
+          (made_returned_other ranks ks now.m step.r a answers now.lawful step.in_range known.0 known.1);
       asks = λ q. return_requests q 0 ∙ now.asks q;
       answers = return_answers;
       no_request = λ q d n. return_requests q d ∙ now.no_request q d n;
@@ -126,5 +126,5 @@ module _ (ranks : ℕ) (ks : List ChoiceKind) (slots : ℕ → Slots) (w : Histo
       at (inr m) = absurd (some (sym (now.no_answer s step.r m) ∙ front))
       at (inl i) =
           let f = first_of (answer_message (slots step.r) ks step.r) (now.m.answers step.r) msg (step.rest 0 step.r AnswerLane)
-              (sym (now.answers step.r) ∙ subst (λ v. held v step.r AnswerLane ≡ msg ∷ step.rest v step.r AnswerLane) i front) in
+          (sym (now.answers step.r) ∙ subst (λ v. held v step.r AnswerLane ≡ msg ∷ step.rest v step.r AnswerLane) i front) in
           agrees_return msg (is ∙ ap (λ v. Receive v AnswerLane msg) i) f.x f.later f.whole f.is f.rest

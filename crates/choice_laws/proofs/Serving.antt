@@ -94,7 +94,7 @@ module _ (ranks : ℕ) (ks : List ChoiceKind) (slots : ℕ → Slots) (in_range 
     does =
         ap₂ target (ap (state_at here w) at_zero ∙ now.states 0) (sym same)
         ∙ step_serve (slots 0) ranks ks (seat_of ks now.m 0) a.step known (let f = in_range.few_steps in omega arith)
-            (slots s) s a.reads small (let f = in_range.few_ranks in omega arith)
+        (slots s) s a.reads small (let f = in_range.few_ranks in omega arith)
 
     -- what the asking rank shows stays
     phases_show : (q : ℕ) → ((q ≡ s) ⊎ (q ≡ s → ⊥))
@@ -103,18 +103,18 @@ module _ (ranks : ℕ) (ks : List ChoiceKind) (slots : ℕ → Slots) (in_range 
         (record (worded q) { phase = λ u. put_in-rank s a.step (served (now.m.word a.step) (now.m.phase s a.step)) now.m.phase q u m d })
     phases_show q (inl i) = subst (λ v. view (slots v) ranks ks v (seat_of ks serve_next v) ≡ view (slots v) ranks ks v (worded v)) (sym i)
         ((λ d. view (slots s) ranks ks s
-            (record (worded s) { phase = λ u. put_in-row s a.step (served (now.m.word a.step) (now.m.phase s a.step)) now.m.phase u d }))
+        (record (worded s) { phase = λ u. put_in-row s a.step (served (now.m.word a.step) (now.m.phase s a.step)) now.m.phase u d }))
         ∙ served_view (slots s) ranks ks s (worded s) a.step (now.m.word a.step))
 
     words_show : (q : ℕ) → ((q ≡ 0) ⊎ (q ≡ 0 → ⊥)) → state_at here next q ≡ view (slots q) ranks ks q (worded q)
     words_show q (inl i) = subst (λ v. state_at here next v ≡ view (slots v) ranks ks v (worded v)) (sym i)
         (ap (state_at here next) (sym at_zero) ∙ state_here here w held next later step (Receive s Request msg) is
-            ∙ ap (λ (v : Delivers). v.state) does)
+        ∙ ap (λ (v : Delivers). v.state) does)
     words_show q (inr m) =
         state_there here w held next later step q (λ e. m (e ∙ at_zero)) ∙ now.states q
         ∙ ap (λ f. view (slots q) ranks ks q (record (seat_of ks now.m q) { word = f }))
-            (ap (λ b. cond b now.m.word (first_words ks)) (ne_eqb q 0 m)
-            ∙ sym (ap (λ b. cond b (put a.step word_next now.m.word) (first_words ks)) (ne_eqb q 0 m)))
+        (ap (λ b. cond b now.m.word (first_words ks)) (ne_eqb q 0 m)
+        ∙ sym (ap (λ b. cond b (put a.step word_next now.m.word) (first_words ks)) (ne_eqb q 0 m)))
 
     -- the lanes
     serve_rest : (q d : ℕ) (lane : Lane) → (d ≡ 0 → q ≡ s → same_lane Request lane ≡ false) → step.rest q d lane ≡ held q d lane
@@ -160,20 +160,20 @@ module _ (ranks : ℕ) (ks : List ChoiceKind) (slots : ℕ → Slots) (in_range 
     serve_answers q = serve_left q AnswerLane
         ∙ ap (λ v. v ++ filter (is_for q AnswerLane) (answer_message (slots s) ks s given ∷ []))
         (serve_rest 0 q AnswerLane (λ e f. refl) ∙ now.answers q) ∙ elim (cases_eq q s) [
-      | inl i ↦ subst (λ v. map (answer_message (slots v) ks v) (now.m.answers v)
-          ++ filter (is_for v AnswerLane) (answer_message (slots s) ks s given ∷ [])
-          ≡ map (answer_message (slots v) ks v) (serve_next.answers v)) (sym i)
-          (ap (λ y. map (answer_message (slots s) ks s) (now.m.answers s) ++ y)
+          | inl i ↦ subst (λ v. map (answer_message (slots v) ks v) (now.m.answers v)
+              ++ filter (is_for v AnswerLane) (answer_message (slots s) ks s given ∷ [])
+              ≡ map (answer_message (slots v) ks v) (serve_next.answers v)) (sym i)
+              (ap (λ y. map (answer_message (slots s) ks s) (now.m.answers s) ++ y)
               (kept_one s AnswerLane (answer_message (slots s) ks s given)
               (for_answer s (answer_message (slots s) ks s given) (answer_goes (slots s) ks s given)))
-          ∙ sym (map-append (answer_message (slots s) ks s) (now.m.answers s) (given ∷ []))
-          ∙ ap (map (answer_message (slots s) ks s)) (sym (put-same s (now.m.answers s ++ given ∷ []) now.m.answers)))
-      | inr m ↦ ap (λ y. map (answer_message (slots q) ks q) (now.m.answers q) ++ y)
-          (dropped_one q AnswerLane (answer_message (slots s) ks s given)
-          (for_rank q AnswerLane true s (answer_message (slots s) ks s given) (answer_goes (slots s) ks s given) (λ e. m (sym e))))
-          ∙ append-nil (map (answer_message (slots q) ks q) (now.m.answers q))
-          ∙ ap (map (answer_message (slots q) ks q)) (sym (put-other s (now.m.answers s ++ given ∷ []) now.m.answers q m))
-    ]
+              ∙ sym (map-append (answer_message (slots s) ks s) (now.m.answers s) (given ∷ []))
+              ∙ ap (map (answer_message (slots s) ks s)) (sym (put-same s (now.m.answers s ++ given ∷ []) now.m.answers)))
+          | inr m ↦ ap (λ y. map (answer_message (slots q) ks q) (now.m.answers q) ++ y)
+              (dropped_one q AnswerLane (answer_message (slots s) ks s given)
+              (for_rank q AnswerLane true s (answer_message (slots s) ks s given) (answer_goes (slots s) ks s given) (λ e. m (sym e))))
+              ∙ append-nil (map (answer_message (slots q) ks q) (now.m.answers q))
+              ∙ ap (map (answer_message (slots q) ks q)) (sym (put-other s (now.m.answers s ++ given ∷ []) now.m.answers q m))
+        ]
 
     pub agrees_serve : Agrees ranks ks slots next later
     agrees_serve = record {
@@ -184,7 +184,7 @@ module _ (ranks : ℕ) (ks : List ChoiceKind) (slots : ℕ → Slots) (in_range 
       begun = λ q i. now.begun q (subst (λ v. 0 < v) (starts_stay here w held next later step (Receive s Request msg) is refl q) i);
       lengths = lengths_next here w held next later step (steps_made ranks ks now.m) (steps_made ranks ks serve_next) now.lengths
           (subst (λ v. steps_made ranks ks serve_next v ≡ suc (steps_made ranks ks now.m v)) (sym at_zero)
-              (made_taken ranks ks now.m s a asks source known fits))
+          (made_taken ranks ks now.m s a asks source known fits))
           (λ q m. made_taken_other ranks ks now.m s a asks source known fits q (λ e. m (e ∙ sym at_zero)));
       asks = serve_asks;
       answers = serve_answers;
@@ -207,5 +207,5 @@ module _ (ranks : ℕ) (ks : List ChoiceKind) (slots : ℕ → Slots) (in_range 
           some e = cc
       at (inl i) =
           let f = first_of (ask_message (slots s) ks s) (now.m.asks s) msg (step.rest s 0 Request)
-              (sym (now.asks s) ∙ subst (λ v. held s v Request ≡ msg ∷ step.rest s v Request) i front) in
+          (sym (now.asks s) ∙ subst (λ v. held s v Request ≡ msg ∷ step.rest s v Request) i front) in
           agrees_serve s msg is source i f.x f.later f.whole f.is f.rest

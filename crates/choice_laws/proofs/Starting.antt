@@ -48,9 +48,9 @@ module _ (ranks : ℕ) (ks : List ChoiceKind) (slots : ℕ → Slots) (w : Histo
         (state_here here w held next later step Start is
         ∙ ap (here.go step.r).by (now.states step.r)
         ∙ ap (λ (e : Ending _). e.state)
-            (increment_starts (slots step.r) ranks ks step.r (seat_of ks now.m step.r) (now.fresh step.r fresh))
+        (increment_starts (slots step.r) ranks ks step.r (seat_of ks now.m step.r) (now.fresh step.r fresh))
         ∙ ap (λ b. view (slots step.r) ranks ks step.r (record (seat_of ks now.m step.r) { started = b }))
-            (sym (put-same step.r true now.m.started)))
+        (sym (put-same step.r true now.m.started)))
 
     start_fresh : (q : ℕ) → count_by is_start (next q) ≡ 0 → put step.r true now.m.started q ≡ false
     start_fresh q i = elim (cases_eq q step.r) [
@@ -83,8 +83,8 @@ module _ (ranks : ℕ) (ks : List ChoiceKind) (slots : ℕ → Slots) (w : Histo
   -- ---- a firing
   module _ (t s : ℕ) (is : step.e ≡ Fire t) (known : s < length ks) (ready : is_ready_phase (choice_at ks s) (now.m.phase step.r s) ≡ true)
       (does : fired (view (slots step.r) ranks ks step.r (seat_of ks now.m step.r)) t
-          ≡ fires (view (slots step.r) ranks ks step.r (with_phase s (advanced (now.m.phase step.r s)) (seat_of ks now.m step.r)))
-          (sent_message (slots step.r) ks step.r s (now.m.phase step.r s))) where
+      ≡ fires (view (slots step.r) ranks ks step.r (with_phase s (advanced (now.m.phase step.r s)) (seat_of ks now.m step.r)))
+      (sent_message (slots step.r) ks step.r s (now.m.phase step.r s))) where
     -- the machine's moment behind it
     abbrev pub fire_next : Moment
     fire_next = fired_in step.r s now.m
@@ -102,8 +102,8 @@ module _ (ranks : ℕ) (ks : List ChoiceKind) (slots : ℕ → Slots) (w : Histo
         (state_here here w held next later step (Fire t) is
         ∙ ap (λ (f : Fires). f.state) does_here
         ∙ (λ d. view (slots step.r) ranks ks step.r
-            (record (seat_of ks now.m step.r)
-            { phase = λ u. sym (put_in-row step.r s (advanced (now.m.phase step.r s)) now.m.phase u) d })))
+        (record (seat_of ks now.m step.r)
+        { phase = λ u. sym (put_in-row step.r s (advanced (now.m.phase step.r s)) now.m.phase u) d })))
 
     fire_made : and_then (made_by (state_at here w step.r) (Fire t)) []
         ≡ map (ask_message (slots step.r) ks step.r) (sent_at s (now.m.phase step.r s))
@@ -126,7 +126,7 @@ module _ (ranks : ℕ) (ks : List ChoiceKind) (slots : ℕ → Slots) (w : Histo
           ∙ ap₂ (λ x y. x ++ y) (now.asks step.r) (sent_kept (slots step.r) ks step.r s (now.m.phase step.r s))
           ∙ sym (map-append (ask_message (slots step.r) ks step.r) (now.m.asks step.r) (sent_at s (now.m.phase step.r s)))
           ∙ ap (map (ask_message (slots step.r) ks step.r))
-              (sym (put-same step.r (now.m.asks step.r ++ sent_at s (now.m.phase step.r s)) now.m.asks)))
+          (sym (put-same step.r (now.m.asks step.r ++ sent_at s (now.m.phase step.r s)) now.m.asks)))
       | inr m ↦ fire_there q 0 Request m ∙ now.asks q
           ∙ ap (map (ask_message (slots q) ks q))
           (sym (put-other step.r (now.m.asks step.r ++ sent_at s (now.m.phase step.r s)) now.m.asks q m))
@@ -167,5 +167,5 @@ module _ (ranks : ℕ) (ks : List ChoiceKind) (slots : ℕ → Slots) (w : Histo
   pub agrees_firing : (t : ℕ) → step.e ≡ Fire t → is_ready (state_at here w step.r) t ≡ true → Agrees ranks ks slots next later
   agrees_firing t is ready =
       let f = step_fire (slots step.r) ranks ks step.r (seat_of ks now.m step.r) t
-          (ap (λ v. is_ready v t) (sym (now.states step.r)) ∙ ready) in
+      (ap (λ v. is_ready v t) (sym (now.states step.r)) ∙ ready) in
       agrees_fire t f.0 is f.1.known f.1.ready f.1.does

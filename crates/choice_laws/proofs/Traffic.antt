@@ -67,7 +67,7 @@ module _ (ranks : ℕ) (ks : List ChoiceKind) (slots : ℕ → Slots) (in_range 
       let f = first_of (ask_message (slots s) ks s) (now.m.asks s) m rest (sym (now.asks s) ∙ e) in
       let h = ((now.lawful.flight s i).asks_known f.x (subst (In f.x) (sym f.whole) (inl refl))).0 in
       let small = word_small ranks (choice_at ks f.x.step) (λ q. now.m.phase q f.x.step) (now.m.word f.x.step) in_range.few_ranks
-          (now.lawful.holds f.x.step h) in
+      (now.lawful.holds f.x.step h) in
       record {
         a = f.x;
         is = f.is;
@@ -150,8 +150,8 @@ module _ (ranks : ℕ) (ks : List ChoiceKind) (slots : ℕ → Slots) (in_range 
           let k = asking s m rest i (subst (λ v. held s v Request ≡ m ∷ rest) q e) in
           subst (λ v. IsMade ranks v n) (sym q) (subst (IsMade ranks 0)
           (some_one (answer_message (slots s) ks s (answer k.a.step k.a.reads k.value)) n
-              (sym (ap (λ (x : Delivers). x.delivered.answer) k.does)
-              ∙ subst (λ v. (target (state_at (choice_system ranks ks slots) w v) m).delivered.answer ≡ Some n) q f))
+          (sym (ap (λ (x : Delivers). x.delivered.answer) k.does)
+          ∙ subst (λ v. (target (state_at (choice_system ranks ks slots) w v) m).delivered.answer ≡ Some n) q f))
           (answer_made s (answer k.a.step k.a.reads k.value) i))
   receipt_makes s d AnswerLane m n rest i j e f = at (cases_eq s 0)
     where

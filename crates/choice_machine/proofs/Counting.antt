@@ -77,7 +77,7 @@ module _ (ks : List ChoiceKind) (many : ChoiceKind → Phase → ℕ) (phase : �
       → over_steps ks many (put_in r s p phase r) ≡ suc (over_steps ks many (phase r))
   row_more h e =
       sum_put (λ t. many (choice_at ks t) (phase r t)) (λ t. many (choice_at ks t) (put_in r s p phase r t)) s (from_to 0 (length ks))
-          (Distinct-from_to 0 (length ks)) (In-from_to 0 (length ks) s (omega arith) (omega arith))
+      (Distinct-from_to 0 (length ks)) (In-from_to 0 (length ks) s (omega arith) (omega arith))
       (ap (many (choice_at ks s)) (put_in-same r s p phase) ∙ e)
       (λ t n. ap (many (choice_at ks t)) (put_in-step r s p phase r t n))
 
@@ -93,7 +93,7 @@ module _ (ks : List ChoiceKind) (many : ChoiceKind → Phase → ℕ) (phase : �
       → over_ranks ranks ks many (put_in r s p phase) ≡ suc (over_ranks ranks ks many phase)
   all_more ranks in_range h e =
       sum_put (λ q. over_steps ks many (phase q)) (λ q. over_steps ks many (put_in r s p phase q)) r (from_to 0 ranks)
-          (Distinct-from_to 0 ranks) (In-from_to 0 ranks r (omega arith) (omega arith))
+      (Distinct-from_to 0 ranks) (In-from_to 0 ranks r (omega arith) (omega arith))
       (row_more h e) (λ q n. row_other q n)
 
 -- ---- by phases
@@ -251,7 +251,7 @@ module _ (ranks : ℕ) (ks : List ChoiceKind) where
   made_begun m r e =
       ap (λ b. made_of b (over_steps ks home_steps (m.phase r)) r (over_ranks ranks ks requests_taken m.phase)) (put-same r true m.started)
       ∙ (let q : made_of true (over_steps ks home_steps (m.phase r)) r (over_ranks ranks ks requests_taken m.phase)
-          ≡ suc (made_of false (over_steps ks home_steps (m.phase r)) r (over_ranks ranks ks requests_taken m.phase)) = omega arith in q)
+      ≡ suc (made_of false (over_steps ks home_steps (m.phase r)) r (over_ranks ranks ks requests_taken m.phase)) = omega arith in q)
       ∙ ap (λ b. suc (made_of b (over_steps ks home_steps (m.phase r)) r (over_ranks ranks ks requests_taken m.phase))) (sym e)
 
   pub made_begun_other : (m : Moment) (r q : ℕ) → (q ≡ r → ⊥) → steps_made ranks ks (begun r m) q ≡ steps_made ranks ks m q
@@ -273,16 +273,16 @@ module _ (ranks : ℕ) (ks : List ChoiceKind) where
       → IsAnswer (m.phase r a.step) a → steps_made ranks ks (returned ks r a rest m) r ≡ suc (steps_made ranks ks m r)
   made_returned m r a rest now i h fit = more_home (m.started r) _ r _ _ _
       (row_more ks home_steps m.phase r a.step (at_home (choice_at ks a.step) (m.phase r a.step)) h
-          (home_home (choice_at ks a.step) (m.phase r a.step) a fit (plain_for m now r a.step i h)))
+      (home_home (choice_at ks a.step) (m.phase r a.step) a fit (plain_for m now r a.step i h)))
       (all_same ks requests_taken m.phase r a.step (at_home (choice_at ks a.step) (m.phase r a.step)) ranks
-          (taken_home (choice_at ks a.step) (m.phase r a.step) a fit (plain_for m now r a.step i h)))
+      (taken_home (choice_at ks a.step) (m.phase r a.step) a fit (plain_for m now r a.step i h)))
 
   pub made_returned_other : (m : Moment) (r : ℕ) (a : Answer) (rest : List Answer) → IsLawful ranks ks m → r < ranks → a.step < length ks
       → IsAnswer (m.phase r a.step) a → (q : ℕ) → (q ≡ r → ⊥) → steps_made ranks ks (returned ks r a rest m) q ≡ steps_made ranks ks m q
   made_returned_other m r a rest now i h fit q n = ap₂ (λ x y. made_of (m.started q) x q y)
       (row_other ks home_steps m.phase r a.step (at_home (choice_at ks a.step) (m.phase r a.step)) q n)
       (all_same ks requests_taken m.phase r a.step (at_home (choice_at ks a.step) (m.phase r a.step)) ranks
-          (taken_home (choice_at ks a.step) (m.phase r a.step) a fit (plain_for m now r a.step i h)))
+      (taken_home (choice_at ks a.step) (m.phase r a.step) a fit (plain_for m now r a.step i h)))
 
   module _ (m : Moment) (r : ℕ) (a : Ask) (rest : List Ask) (i : r < ranks) (h : a.step < length ks)
       (fit : IsAsk (m.phase r a.step) a) where
@@ -297,24 +297,24 @@ module _ (ranks : ℕ) (ks : List ChoiceKind) where
     made_taken =
         ap₂ (λ x y. made_of (m.started 0) x 0 y) (taken_home_row 0 (cases_eq 0 r))
         (all_more ks requests_taken m.phase r a.step (served (m.word a.step) (m.phase r a.step)) ranks i h
-            (taken_served (choice_at ks a.step) (m.word a.step) (m.phase r a.step) a fit))
+        (taken_served (choice_at ks a.step) (m.word a.step) (m.phase r a.step) a fit))
         ∙ omega arith
 
     pub made_taken_other : (q : ℕ) → (q ≡ 0 → ⊥) → steps_made ranks ks (taken ks r a rest m) q ≡ steps_made ranks ks m q
     made_taken_other q n =
         ap₂ (λ x b. (if m.started q then 1 else 0) +
-            (x + (if b then over_ranks ranks ks requests_taken (taken ks r a rest m).phase else 0))) (taken_home_row q (cases_eq q r))
-            (ne_eqb q 0 n)
+        (x + (if b then over_ranks ranks ks requests_taken (taken ks r a rest m).phase else 0))) (taken_home_row q (cases_eq q r))
+        (ne_eqb q 0 n)
         ∙ ap (λ b. (if m.started q then 1 else 0) +
-            (over_steps ks home_steps (m.phase q) + (if b then over_ranks ranks ks requests_taken m.phase else 0))) (sym (ne_eqb q 0 n))
+        (over_steps ks home_steps (m.phase q) + (if b then over_ranks ranks ks requests_taken m.phase else 0))) (sym (ne_eqb q 0 n))
 
   pub made_opened : (r : ℕ) → steps_made ranks ks (opened ks) r ≡ 0
   made_opened r =
       let a : over_steps ks home_steps (λ s. Idle) ≡ 0 =
-          zero_sum (λ s. home_steps (choice_at ks s) Idle) (length ks) (λ s. home_idle (choice_at ks s)) in
+      zero_sum (λ s. home_steps (choice_at ks s) Idle) (length ks) (λ s. home_idle (choice_at ks s)) in
       let b : over_ranks ranks ks requests_taken (λ q s. Idle) ≡ 0 =
-          zero_sum (λ q. over_steps ks requests_taken (λ s. Idle)) ranks
-          (λ q. zero_sum (λ s. requests_taken (choice_at ks s) Idle) (length ks) (λ s. taken_idle (choice_at ks s))) in
+      zero_sum (λ q. over_steps ks requests_taken (λ s. Idle)) ranks
+      (λ q. zero_sum (λ s. requests_taken (choice_at ks s) Idle) (length ks) (λ s. taken_idle (choice_at ks s))) in
       ap₂ (λ x y. made_of false x r y) a b ∙ none (r == 0)
     where
       zero_sum : (f : ℕ → ℕ) (n : ℕ) → ((x : ℕ) → f x ≡ 0) → sum_by f (from_to 0 n) ≡ 0
@@ -342,12 +342,12 @@ module _ (ranks : ℕ) (ks : List ChoiceKind) where
       → over_ranks ranks ks requests_taken m.phase ≤ ranks * sum_by (λ s. told_requests (choice_at ks s)) (from_to 0 (length ks))
   taken_bound m now =
       let a = sum_le (λ q. over_steps ks requests_taken (m.phase q))
-          (λ q. sum_by (λ s. told_requests (choice_at ks s)) (from_to 0 (length ks))) (from_to 0 ranks)
+      (λ q. sum_by (λ s. told_requests (choice_at ks s)) (from_to 0 (length ks))) (from_to 0 ranks)
       (λ q j. sum_le _ _ (from_to 0 (length ks))
-          (λ s l. taken_le (choice_at ks s) (m.phase q s)
-          (plain_for m now q s (let k = from_to-In 0 ranks q j in omega arith) (let k = from_to-In 0 (length ks) s l in omega arith)))) in
+      (λ s l. taken_le (choice_at ks s) (m.phase q s)
+      (plain_for m now q s (let k = from_to-In 0 ranks q j in omega arith) (let k = from_to-In 0 (length ks) s l in omega arith)))) in
       let b = sum_same (λ q. sum_by (λ s. told_requests (choice_at ks s)) (from_to 0 (length ks)))
-          (sum_by (λ s. told_requests (choice_at ks s)) (from_to 0 (length ks))) 0 ranks (λ q. refl) in
+      (sum_by (λ s. told_requests (choice_at ks s)) (from_to 0 (length ks))) 0 ranks (λ q. refl) in
       omega (arith, a, b)
 
   pub made_le : (m : Moment) → IsLawful ranks ks m → (r : ℕ) → r < ranks → steps_made ranks ks m r ≤ steps_due ranks ks r
@@ -356,8 +356,8 @@ module _ (ranks : ℕ) (ks : List ChoiceKind) where
       at : (b z : Bool) → over_steps ks home_steps (m.phase r) ≤ sum_by (λ s. told_steps (choice_at ks s)) (from_to 0 (length ks))
           → over_ranks ranks ks requests_taken m.phase ≤ ranks * sum_by (λ s. told_requests (choice_at ks s)) (from_to 0 (length ks))
           → (if b then 1 else 0) + (over_steps ks home_steps (m.phase r) + (if z then over_ranks ranks ks requests_taken m.phase else 0)) ≤
-              1 + (sum_by (λ s. told_steps (choice_at ks s)) (from_to 0 (length ks)) +
-              (if z then ranks * sum_by (λ s. told_requests (choice_at ks s)) (from_to 0 (length ks)) else 0))
+          1 + (sum_by (λ s. told_steps (choice_at ks s)) (from_to 0 (length ks)) +
+          (if z then ranks * sum_by (λ s. told_requests (choice_at ks s)) (from_to 0 (length ks)) else 0))
       at true true x y = omega (arith, x, y)
       at true false x y = omega (arith, x, y)
       at false true x y = omega (arith, x, y)
@@ -370,16 +370,16 @@ module _ (ranks : ℕ) (ks : List ChoiceKind) where
       ap (λ b. made_of b (over_steps ks home_steps (m.phase r)) r (over_ranks ranks ks requests_taken m.phase)) e
       ∙ ap₂ (λ x y. made_of true x r y)
       (sum_as _ _ (from_to 0 (length ks))
-          (λ s j. home_told (choice_at ks s) (m.phase r s)
-          (rest_told ranks ks m now rest r s i (let k = from_to-In 0 (length ks) s j in omega arith))))
+      (λ s j. home_told (choice_at ks s) (m.phase r s)
+      (rest_told ranks ks m now rest r s i (let k = from_to-In 0 (length ks) s j in omega arith))))
       (sum_as (λ q. sum_by (λ s. told_requests (choice_at ks s)) (from_to 0 (length ks))) (λ q. over_steps ks requests_taken (m.phase q))
-          (from_to 0 ranks)
+      (from_to 0 ranks)
       (λ q j. sum_as _ _ (from_to 0 (length ks))
-          (λ s l. taken_told (choice_at ks s) (m.phase q s)
-          (rest_told ranks ks m now rest q s (let k = from_to-In 0 ranks q j in omega arith)
-          (let k = from_to-In 0 (length ks) s l in omega arith))))
+      (λ s l. taken_told (choice_at ks s) (m.phase q s)
+      (rest_told ranks ks m now rest q s (let k = from_to-In 0 ranks q j in omega arith)
+      (let k = from_to-In 0 (length ks) s l in omega arith))))
       ∙ sum_same (λ q. sum_by (λ s. told_requests (choice_at ks s)) (from_to 0 (length ks)))
-          (sum_by (λ s. told_requests (choice_at ks s)) (from_to 0 (length ks))) 0 ranks (λ q. refl))
+      (sum_by (λ s. told_requests (choice_at ks s)) (from_to 0 (length ks))) 0 ranks (λ q. refl))
 
   -- ---- and where all is made, all is told
   sum_eq : (f g : ℕ → ℕ) (xs : List ℕ) → ((x : ℕ) → In x xs → f x ≤ g x) → sum_by f xs ≡ sum_by g xs → (x : ℕ) → In x xs → f x ≡ g x
@@ -425,8 +425,8 @@ module _ (ranks : ℕ) (ks : List ChoiceKind) where
         at : (b z : Bool) → over_steps ks home_steps (m.phase r) ≤ sum_by (λ s. told_steps (choice_at ks s)) (from_to 0 (length ks))
             → over_ranks ranks ks requests_taken m.phase ≤ ranks * sum_by (λ s. told_requests (choice_at ks s)) (from_to 0 (length ks))
             → (if b then 1 else 0) + (over_steps ks home_steps (m.phase r) + (if z then over_ranks ranks ks requests_taken m.phase else 0))
-                ≡ 1 + (sum_by (λ s. told_steps (choice_at ks s)) (from_to 0 (length ks)) +
-                (if z then ranks * sum_by (λ s. told_requests (choice_at ks s)) (from_to 0 (length ks)) else 0))
+            ≡ 1 + (sum_by (λ s. told_steps (choice_at ks s)) (from_to 0 (length ks)) +
+            (if z then ranks * sum_by (λ s. told_requests (choice_at ks s)) (from_to 0 (length ks)) else 0))
             → (b ≡ true) × (over_steps ks home_steps (m.phase r) ≡ sum_by (λ s. told_steps (choice_at ks s)) (from_to 0 (length ks)))
         at true true x y e = (refl, omega (arith, x, y, e))
         at true false x y e = (refl, omega (arith, x, y, e))
@@ -437,8 +437,8 @@ module _ (ranks : ℕ) (ks : List ChoiceKind) where
     full_told s j =
         home_full (choice_at ks s) (m.phase r s) (plain_for m now r s i j)
         (sum_eq (λ t. home_steps (choice_at ks t) (m.phase r t)) (λ t. told_steps (choice_at ks t)) (from_to 0 (length ks))
-            (λ t l. home_le (choice_at ks t) (m.phase r t) (plain_for m now r t i (let k = from_to-In 0 (length ks) t l in omega arith)))
-            full_parts.1 s (In-from_to 0 (length ks) s (omega arith) (omega arith)))
+        (λ t l. home_le (choice_at ks t) (m.phase r t) (plain_for m now r t i (let k = from_to-In 0 (length ks) t l in omega arith)))
+        full_parts.1 s (In-from_to 0 (length ks) s (omega arith) (omega arith)))
 
     pub full_no_asks : m.asks r ≡ []
     full_no_asks = none (m.asks r) (λ a j. let k = (now.flight r i).asks_known a j in out a (m.phase r a.step) (full_told a.step k.0) k.1)
@@ -473,8 +473,8 @@ module _ (ranks : ℕ) (ks : List ChoiceKind) where
   asks_few m now r i =
       let f = now.flight r i in
       let a = length-Within (map ask_step (m.asks r)) (from_to 0 (length ks)) f.asks_once
-          (λ s j. let k = In-map_cases ask_step s (m.asks r) j in
-          In-from_to 0 (length ks) s (omega arith) (let l = (f.asks_known k.0 k.1).0 in let e = k.2 in omega (arith, l, e))) in
+      (λ s j. let k = In-map_cases ask_step s (m.asks r) j in
+      In-from_to 0 (length ks) s (omega arith) (let l = (f.asks_known k.0 k.1).0 in let e = k.2 in omega (arith, l, e))) in
       let b = length-map' ask_step (m.asks r) in
       let c = length-from_to 0 (length ks) in
       omega (arith, a, b, c)
@@ -483,8 +483,8 @@ module _ (ranks : ℕ) (ks : List ChoiceKind) where
   answers_few m now r i =
       let f = now.flight r i in
       let a = length-Within (map answer_step (m.answers r)) (from_to 0 (length ks)) f.answers_once
-          (λ s j. let k = In-map_cases answer_step s (m.answers r) j in
-          In-from_to 0 (length ks) s (omega arith) (let l = (f.answers_known k.0 k.1).0 in let e = k.2 in omega (arith, l, e))) in
+      (λ s j. let k = In-map_cases answer_step s (m.answers r) j in
+      In-from_to 0 (length ks) s (omega arith) (let l = (f.answers_known k.0 k.1).0 in let e = k.2 in omega (arith, l, e))) in
       let b = length-map' answer_step (m.answers r) in
       let c = length-from_to 0 (length ks) in
       omega (arith, a, b, c)

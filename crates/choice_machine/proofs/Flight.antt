@@ -137,7 +137,7 @@ module _ (steps : ℕ) (phase : ℕ → Phase) (asks : List Ask) (answers : List
 pub flight_serves : (steps : ℕ) (phase : ℕ → Phase) (a : Ask) (asks : List Ask) (answers : List Answer) (v : ℕ) (p : Phase)
     → InFlight steps phase (a ∷ asks) answers → on_answer (phase a.step) ≡ false
     → on_request p ≡ false → IsAnswer p (answer a.step a.reads v)
-        → InFlight steps (put a.step p phase) asks (answers ++ answer a.step a.reads v ∷ [])
+    → InFlight steps (put a.step p phase) asks (answers ++ answer a.step a.reads v ∷ [])
 flight_serves steps phase a asks answers v p now b c fit = record {
   asks_known = known_stays ask_step IsAsk on_request steps asks phase a.step p
       (λ x i e. now.asks_once.0 (subst (λ n. In n (map ask_step asks)) e (In-map ask_step x asks i))) (λ x i. now.asks_known x (inr i));

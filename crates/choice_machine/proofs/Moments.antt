@@ -47,7 +47,7 @@ module _ (ranks : ℕ) (ks : List ChoiceKind) (m : Moment) (now : IsLawful ranks
       flight_at q i (inl e) =
           subst (λ v. InFlight (length ks) (put_in r s p m.phase v) (put r asks m.asks v) (put r answers m.answers v)) (sym e)
           (flight_same (length ks) _ _ _ _ _ _ (λ t. sym (put_in-row r s p m.phase t)) (sym (put-same r asks m.asks))
-              (sym (put-same r answers m.answers)) flight)
+          (sym (put-same r answers m.answers)) flight)
       flight_at q i (inr n) = flight_same (length ks) _ _ _ _ _ _ (λ t. sym (put_in-rank r s p m.phase q t n))
           (sym (put-other r asks m.asks q n)) (sym (put-other r answers m.answers q n)) (now.flight q i)
 
@@ -94,7 +94,7 @@ module _ (ranks : ℕ) (ks : List ChoiceKind) where
       subst (λ (v : Moment). IsLawful ranks ks v) same
       (moved_lawful ranks ks m now r s (advanced (m.phase r s)) (m.asks r ++ sent_at s (m.phase r s)) (m.answers r) (m.word s)
       (fired_flight (length ks) (m.phase r) (m.asks r) (m.answers r) s j (now.flight r i) (off (choice_at ks s) (m.phase r s) e).0
-          (off (choice_at ks s) (m.phase r s) e).1)
+      (off (choice_at ks s) (m.phase r s) e).1)
       (fired_holds (choice_at ks s) ranks (m.word s) r (λ q. m.phase q s) (now.holds s j)))
     where
       same : moved ranks ks m now r s (advanced (m.phase r s)) (m.asks r ++ sent_at s (m.phase r s)) (m.answers r) (m.word s) ≡ fired r s m
@@ -118,10 +118,10 @@ module _ (ranks : ℕ) (ks : List ChoiceKind) where
       → IsLawful ranks ks (taken ks r a rest m)
   taken_lawful m r a rest few i e now =
       let flight : InFlight (length ks) (m.phase r) (a ∷ rest) (m.answers r) =
-          subst (λ v. InFlight (length ks) (m.phase r) v (m.answers r)) e (now.flight r i) in
+      subst (λ v. InFlight (length ks) (m.phase r) v (m.answers r)) e (now.flight r i) in
       let known = flight.asks_known a (inl refl) in
       moved_lawful ranks ks m now r a.step (served (m.word a.step) (m.phase r a.step)) rest
-          (m.answers r ++ answer a.step a.reads (m.word a.step) ∷ []) (word_after (choice_at ks a.step) a.reads r (m.word a.step))
+      (m.answers r ++ answer a.step a.reads (m.word a.step) ∷ []) (word_after (choice_at ks a.step) a.reads r (m.word a.step))
       (taken_flight (length ks) (m.phase r) a rest (m.answers r) (m.word a.step) flight)
       (taken_holds (choice_at ks a.step) ranks (m.word a.step) r (λ q. m.phase q a.step) a few i known.1 (now.holds a.step known.0))
 
@@ -129,7 +129,7 @@ module _ (ranks : ℕ) (ks : List ChoiceKind) where
       → IsLawful ranks ks (returned ks r a rest m)
   returned_lawful m r a rest i e now =
       let flight : InFlight (length ks) (m.phase r) (m.asks r) (a ∷ rest) =
-          subst (λ v. InFlight (length ks) (m.phase r) (m.asks r) v) e (now.flight r i) in
+      subst (λ v. InFlight (length ks) (m.phase r) (m.asks r) v) e (now.flight r i) in
       let known = flight.answers_known a (inl refl) in
       subst (λ (v : Moment). IsLawful ranks ks v) same
       (moved_lawful ranks ks m now r a.step (at_home (choice_at ks a.step) (m.phase r a.step)) (m.asks r) rest (m.word a.step)
@@ -144,7 +144,7 @@ module _ (ranks : ℕ) (ks : List ChoiceKind) where
   pub rest_told : (m : Moment) → IsLawful ranks ks m → IsResting ranks ks m → (r s : ℕ) → r < ranks → s < length ks → IsTold (m.phase r s)
   rest_told m now rest r s i j =
       at (choice_at ks s) (m.phase r s) (now.holds s j) refl (rest.idle r s i j) ((now.flight r i).asks_all s j)
-          ((now.flight r i).answers_all s j) (rest.no_asks r i) (rest.no_answers r i)
+      ((now.flight r i).answers_all s j) (rest.no_asks r i) (rest.no_answers r i)
     where
       none : {X : Type 0} (step : X → ℕ) (xs : List X) → length xs ≡ 0 → In s (map step xs) → ⊥
       none step [] e k = k
@@ -218,9 +218,9 @@ module _ (ranks : ℕ) (ks : List ChoiceKind) where
       found : (v : ℕ) → v < ranks → HasValue ranks (λ r. value_of (f r)) v
       found v i =
           let l : length (from_to 0 ranks) ≤ length values =
-              (let e = length-map' (λ r. value_of (f r)) (from_to 0 ranks) in omega (arith, e)) in
+          (let e = length-map' (λ r. value_of (f r)) (from_to 0 ranks) in omega (arith, e)) in
           let k = In-map_cases (λ r. value_of (f r)) v (from_to 0 ranks)
-              (all_Within values (from_to 0 ranks) once within l v (In-from_to 0 ranks v (omega arith) (omega arith))) in
+          (all_Within values (from_to 0 ranks) once within l v (In-from_to 0 ranks v (omega arith) (omega arith))) in
           record { rank = k.0; in_range = (let a = from_to-In 0 ranks k.0 k.1 in omega arith); has = k.2 }
 
   pub rest_right : (m : Moment) → 0 < ranks → IsLawful ranks ks m → IsResting ranks ks m → (s : ℕ) → s < length ks

@@ -274,5 +274,10 @@ taken_holds k ranks w r f a few in_range fit h = at k (f r) refl a.reads fit h
 -- ---- the first moment
 pub opened_holds : (k : ChoiceKind) (ranks : ℕ) → Holds k ranks (λ r. Idle) (first_word k)
 opened_holds Elect ranks = record { known = inl refl; settled = λ r i e. cc; values = λ r v i e. cc }
-opened_holds Tickets ranks = record { plain = λ r i. refl; below = λ r v i e. cc; apart = λ q r v i j e f. cc; count =
-    count_none (λ r. false) (from_to 0 ranks) (λ x i. refl) }
+opened_holds Tickets ranks = record {
+  plain = λ r i. refl;
+  below = λ r v i e. cc;
+  apart = λ q r v i j e f. cc;
+  count =
+      count_none (λ r. false) (from_to 0 ranks) (λ x i. refl);
+}

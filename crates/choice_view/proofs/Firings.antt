@@ -129,7 +129,7 @@ module _ (k : Slots) (ranks : ℕ) (ks : List ChoiceKind) (r : ℕ) (seat : Seat
         at Elect e n (inl q) =
             let f : choice_at ks t ≡ Elect = ap (choice_at ks) q ∙ e in
             ap₂ (λ c p. none_or_one (awaits_result c p)) f (ap next.phase q ∙ asked)
-                ∙ sym (ap₂ (λ c p. none_or_one (awaits_result c p)) f (ap seat.phase q ∙ idle))
+            ∙ sym (ap₂ (λ c p. none_or_one (awaits_result c p)) f (ap seat.phase q ∙ idle))
         at Tickets e n (inl q) = absurd (n (ap Result q))
         at c e n (inr m) = ap (λ p. none_or_one (awaits_result (choice_at ks t) p)) (put-other s (advanced (seat.phase s)) seat.phase t m)
 
@@ -142,7 +142,7 @@ module _ (k : Slots) (ranks : ℕ) (ks : List ChoiceKind) (r : ℕ) (seat : Seat
     send_done : (c : ChoiceKind) (v : State)
         → done v (first_deed k ks c s)
         ≡ fires (sent_state v (lookup (md_of k ks (Given s)) v.mds.live) (first_header k ks c v.rank s)
-            (changed (md_of k ks (home_part c s)) one_awaited v.mds))
+        (changed (md_of k ks (home_part c s)) one_awaited v.mds))
         (Some (message (first_header k ks c v.rank s) (bytes_at (lookup (md_of k ks (Given s)) v.mds.live) 0 8 v.memory)))
     send_done Elect v = done_swap v (get_args k ks s (Old s)) (put_args k ks s) Cswap U64 top
     send_done Tickets v = done_fetch v (get_args k ks s (Result s)) (put_args k ks s) Sum U64
@@ -161,11 +161,11 @@ module _ (k : Slots) (ranks : ℕ) (ks : List ChoiceKind) (r : ℕ) (seat : Seat
         send_done (choice_at ks s) (waiting_view waits)
         ∙ fired_pair _ _ _ _
         (ap (λ b. sent_state (waiting_view waits) b (first_header k ks (choice_at ks s) r s)
-            (changed (md_of k ks (home_part (choice_at ks s) s)) one_awaited (view k ranks ks r seat).mds))
-            (lookup_md k ranks ks r seat (Given s) (In-given ks s h))
+        (changed (md_of k ks (home_part (choice_at ks s) s)) one_awaited (view k ranks ks r seat).mds))
+        (lookup_md k ranks ks r seat (Given s) (In-given ks s h))
         ∙ (λ d. view_with k ranks ks r seat (memory_next d) (counts_next (ap (λ p. is_told (advanced p)) idle ∙ sym (ap is_told idle)) d)
-            (mds_next (home_part (choice_at ks s) s) (In-home ks s h) (home_more (choice_at ks s) refl)
-            (others_await (choice_at ks s) refl) d) (e d)))
+        (mds_next (home_part (choice_at ks s) s) (In-home ks s h) (home_more (choice_at ks s) refl)
+        (others_await (choice_at ks s) refl) d) (e d)))
         (ap (λ bs. Some (message (first_header k ks (choice_at ks s) r s) bs)) given_bytes ∙ sym (ap (sent_message k ks r s) idle))
 
   -- ---- the get
@@ -195,11 +195,11 @@ module _ (k : Slots) (ranks : ℕ) (ks : List ChoiceKind) (r : ℕ) (seat : Seat
         done_get (waiting_view waits) (get_args k ks s (Result s))
         ∙ fired_pair _ _ _ _
         (ap (λ b. sent_state (waiting_view waits) b (get_header r (get_args k ks s (Result s)))
-            (changed (md_of k ks (Result s)) one_awaited (view k ranks ks r seat).mds))
-            (lookup_md k ranks ks r seat (Result s) (In-result ks s h))
+        (changed (md_of k ks (Result s)) one_awaited (view k ranks ks r seat).mds))
+        (lookup_md k ranks ks r seat (Result s) (In-result ks s h))
         ∙ (λ d. view_with k ranks ks r seat (memory_next d)
-            (counts_next (ap (λ p. is_told (advanced p)) answered.is ∙ sym (ap is_told answered.is)) d)
-            (mds_next (Result s) (In-result ks s h) result_more (λ y j n. others_look y n) d) (e d)))
+        (counts_next (ap (λ p. is_told (advanced p)) answered.is ∙ sym (ap is_told answered.is)) d)
+        (mds_next (Result s) (In-result ks s h) result_more (λ y j n. others_look y n) d) (e d)))
         (sym (ap (sent_message k ks r s) answered.is))
 
   -- ---- the telling
@@ -216,7 +216,7 @@ module _ (k : Slots) (ranks : ℕ) (ks : List ChoiceKind) (r : ℕ) (seat : Seat
         ≡ map (live_counter k ks next) (counters ks)
     done_rises =
         changed_named k.ct (ct_stamp ks) (bump (successes 1)) (λ c. successes (count_of ks seat c)) (λ c. successes (count_of ks next c))
-            (counters ks) Done
+        (counters ks) Done
         (λ c i e. ct_one ks c Done (counters-In ks c i) tt e)
         (ap (λ n. successes (min n top)) done_more ∙ sym (bump-successes (count_by (λ t. is_told (seat.phase t)) (steps ks))))
         (λ c i n. ap successes (count_next c n))
@@ -269,7 +269,7 @@ step_fire k ranks ks r seat t e = let w = ready_work k ranks ks r seat t e in by
     left : (w : Work) → IsReadyWork k ranks ks r seat t w → (next : Seat) → was_fired next w ≡ true
         → ((v : Work) → (v ≡ w → ⊥) → was_fired next v ≡ was_fired seat v)
         → filter (λ q. not (is_number (number_of ks w) q)) (view k ranks ks r seat).pending.waiting
-            ≡ map (operation k ks) (filter (λ v. not (was_fired next v)) (works ks))
+        ≡ map (operation k ks) (filter (λ v. not (was_fired next v)) (works ks))
     left w h next a b = left_waiting k ks seat next w h.ours a b
 
     result_of : (c : ChoiceKind) (s : ℕ) → choice_at ks s ≡ c → 1 ≤ count_of ks seat (result_counter (choice_at ks s) s)
@@ -296,7 +296,7 @@ step_fire k ranks ks r seat t e = let w = ready_work k ranks ks r seat t e in by
         )
     by_kind (Look s) h =
         let answered = read_answered (seat.phase s) h.waits
-            (subst (λ c. has_first c (seat.phase s) ≡ true) h.ours.1 (one_true (has_first (choice_at ks s) (seat.phase s)) h.reached)) in (
+        (subst (λ c. has_first c (seat.phase s) ≡ true) h.ours.1 (one_true (has_first (choice_at ks s) (seat.phase s)) h.reached)) in (
           s,
           record {
             known = h.ours.0;

@@ -57,7 +57,7 @@ module _ (ks : List ChoiceKind) where
   all_counters_run t zero = tt
   all_counters_run t (suc n) =
       Runs-append (ct_stamp ks) (2 + before counters_in ks t) (2 + before counters_in ks (suc t)) (counters_of (choice_at ks t) t)
-          (flat_map (λ s. counters_of (choice_at ks s) s) (from_to (suc t) n))
+      (flat_map (λ s. counters_of (choice_at ks s) s) (from_to (suc t) n))
       (let l = counters_long (choice_at ks t) t in omega (arith, l)) (counters_run (choice_at ks t) t refl) (all_counters_run (suc t) n)
 
   pub parts_run : (c : ChoiceKind) (t : ℕ) → choice_at ks t ≡ c → Runs (md_stamp ks) (before things_in ks t) (parts_of c t)
@@ -72,7 +72,7 @@ module _ (ks : List ChoiceKind) where
   all_parts_run t zero = tt
   all_parts_run t (suc n) =
       Runs-append (md_stamp ks) (before things_in ks t) (before things_in ks (suc t)) (parts_of (choice_at ks t) t)
-          (flat_map (λ s. parts_of (choice_at ks s) s) (from_to (suc t) n))
+      (flat_map (λ s. parts_of (choice_at ks s) s) (from_to (suc t) n))
       (let l = parts_long (choice_at ks t) t in omega (arith, l)) (parts_run (choice_at ks t) t refl) (all_parts_run (suc t) n)
 
   works_run : (c : ChoiceKind) (t : ℕ) → choice_at ks t ≡ c → Runs (number_of ks) (before things_in ks t) (works_of c t)
@@ -87,7 +87,7 @@ module _ (ks : List ChoiceKind) where
   all_works_run t zero = tt
   all_works_run t (suc n) =
       Runs-append (number_of ks) (before things_in ks t) (before things_in ks (suc t)) (works_of (choice_at ks t) t)
-          (flat_map (λ s. works_of (choice_at ks s) s) (from_to (suc t) n))
+      (flat_map (λ s. works_of (choice_at ks s) s) (from_to (suc t) n))
       (let l = works_long (choice_at ks t) t in omega (arith, l)) (works_run (choice_at ks t) t refl) (all_works_run (suc t) n)
 
 abbrev pub same_number : ℕ → ℕ
@@ -95,8 +95,11 @@ same_number t = t
 
 pub steps_run : (t n : ℕ) → Runs same_number t (from_to t n)
 steps_run t zero = tt
-steps_run t (suc n) = (refl, let q : suc t ≡ t + 1 = omega arith in
-    subst (λ v. Runs same_number v (from_to (suc t) n)) q (steps_run (suc t) n))
+steps_run t (suc n) = (
+  refl,
+  let q : suc t ≡ t + 1 = omega arith in
+      subst (λ v. Runs same_number v (from_to (suc t) n)) q (steps_run (suc t) n),
+)
 
 -- ---- what each round of calls does
 abbrev pub new_counter : Slots → List ChoiceKind → Counter → Live Count
@@ -134,10 +137,13 @@ after_parts k ks [] s h = ap₂ (mds_with s) (sym (append-nil s.mds.live)) (sym 
 after_parts k ks (x ∷ xs) s h =
     after_parts k ks xs (with_bound (k.md s.mds.given) (descriptor_of k ks x) s) h.1
     ∙ ap₂ (mds_with s)
-    (one_more_of s.mds.live (record { handle = handle (k.md s.mds.given) s.mds.given; value =
-        record { md = descriptor_of k ks x; awaits = 0 } }) (map (new_part k ks) xs)
+    (one_more_of s.mds.live (record {
+      handle = handle (k.md s.mds.given) s.mds.given;
+      value =
+          record { md = descriptor_of k ks x; awaits = 0 };
+    }) (map (new_part k ks) xs)
     ∙ ap (λ n. s.mds.live ++ record { handle = handle (k.md n) n; value = record { md = descriptor_of k ks x; awaits = 0 } } ∷ map
-        (new_part k ks) xs) (sym h.0))
+    (new_part k ks) xs) (sym h.0))
     (sum_step s.mds.given (length xs))
 
 abbrev pub operations_with : State → List Posted → ℕ → State
@@ -150,16 +156,20 @@ after_operations k ks (w ∷ ws) s h =
     after_operations k ks ws (with_operation (deed_of k ks w) (ct_of k ks (work_counter ks w)) 1 s) h.1
     ∙ ap₂ (operations_with s)
     (one_more_of s.pending.waiting
-        (record { number = s.pending.given; deed = deed_of k ks w; ct = ct_of k ks (work_counter ks w); threshold = 1 })
-        (map (operation k ks) ws)
+    (record { number = s.pending.given; deed = deed_of k ks w; ct = ct_of k ks (work_counter ks w); threshold = 1 })
+    (map (operation k ks) ws)
     ∙ ap (λ n. s.pending.waiting ++ record { number = n; deed = deed_of k ks w; ct = ct_of k ks (work_counter ks w); threshold = 1 } ∷ map
-        (operation k ks) ws) (sym h.0))
+    (operation k ks) ws) (sym h.0))
     (sum_step s.pending.given (length ws))
 
 -- an interface with these entries, all in the priority list of index 0, and no header
 abbrev pub entries_with : State → List Linked → ℕ → State
-entries_with s xs n = record s { indices = Some (record { eq = None; priority = xs; overflow = [] }) ∷ []; entries_given = n; headers =
-    held [] 0 }
+entries_with s xs n = record s {
+  indices = Some (record { eq = None; priority = xs; overflow = [] }) ∷ [];
+  entries_given = n;
+  headers =
+      held [] 0;
+}
 
 pub after_entries : (k : Slots) (ts : List ℕ) (s : State) (xs : List Linked) (n : ℕ) → Runs same_number n ts
     → entries_all k ts (entries_with s xs n) ≡ entries_with s (xs ++ map (entry_of k) ts) (n + length ts)
@@ -180,9 +190,9 @@ pub after_made : (k : Slots) (ks : List ChoiceKind) (ts : List ℕ) (s : State)
     → Runs (ct_stamp ks) s.cts.given (flat_map (λ t. counters_of (choice_at ks t) t) ts)
     → Runs (md_stamp ks) s.mds.given (flat_map (λ t. parts_of (choice_at ks t) t) ts)
     → made_all k ks ts s ≡ tables_with s (s.cts.live ++ map (new_counter k ks) (flat_map (λ t. counters_of (choice_at ks t) t) ts))
-        (s.cts.given + length (flat_map (λ t. counters_of (choice_at ks t) t) ts))
+    (s.cts.given + length (flat_map (λ t. counters_of (choice_at ks t) t) ts))
     (s.mds.live ++ map (new_part k ks) (flat_map (λ t. parts_of (choice_at ks t) t) ts))
-        (s.mds.given + length (flat_map (λ t. parts_of (choice_at ks t) t) ts))
+    (s.mds.given + length (flat_map (λ t. parts_of (choice_at ks t) t) ts))
 after_made k ks [] s h i = λ d. tables_with s (sym (append-nil s.cts.live) d) (sym (add-zero s.cts.given) d) (sym (append-nil s.mds.live) d)
     (sym (add-zero s.mds.given) d)
 after_made k ks (t ∷ ts) s h i =
@@ -192,12 +202,12 @@ after_made k ks (t ∷ ts) s h i =
     let xs' = flat_map (λ t. parts_of (choice_at ks t) t) ts in
     ap (λ v. made_all k ks ts (parts_all k ks xs v)) (after_counters k ks cs s (Runs-left (ct_stamp ks) s.cts.given cs cs' h))
     ∙ ap (made_all k ks ts) (after_parts k ks xs (cts_with s (s.cts.live ++ map (new_counter k ks) cs) (s.cts.given + length cs))
-        (Runs-left (md_stamp ks) s.mds.given xs xs' i))
+    (Runs-left (md_stamp ks) s.mds.given xs xs' i))
     ∙ after_made k ks ts (tables_with s (s.cts.live ++ map (new_counter k ks) cs) (s.cts.given + length cs)
-        (s.mds.live ++ map (new_part k ks) xs) (s.mds.given + length xs))
+    (s.mds.live ++ map (new_part k ks) xs) (s.mds.given + length xs))
     (Runs-right (ct_stamp ks) s.cts.given cs cs' h) (Runs-right (md_stamp ks) s.mds.given xs xs' i)
     ∙ (λ d. tables_with s (joined s.cts.live (new_counter k ks) cs cs' d) (summed s.cts.given cs cs' d)
-        (joined s.mds.live (new_part k ks) xs xs' d) (summed s.mds.given xs xs' d))
+    (joined s.mds.live (new_part k ks) xs xs' d) (summed s.mds.given xs xs' d))
   where
     joined : {X Y : Type 0} (ys : List Y) (f : X → Y) (xs zs : List X) → (ys ++ map f xs) ++ map f zs ≡ ys ++ map f (xs ++ zs)
     joined ys f xs zs = append_assoc ys (map f xs) (map f zs) ∙ ap (λ v. ys ++ v) (sym (map-append f xs zs))
@@ -249,9 +259,12 @@ module _ (k : Slots) (ks : List ChoiceKind) (r : ℕ) where
 module _ (k : Slots) (ranks : ℕ) (ks : List ChoiceKind) (r : ℕ) where
   -- all but the operations, with these entries
   abbrev pub bare : List Linked → ℕ → State
-  bare xs n = record (view k ranks ks r (no_seat ks r))
-      { indices = Some (record { eq = None; priority = xs; overflow = [] }) ∷ []; entries_given = n; pending =
-      record (view k ranks ks r (no_seat ks r)).pending { waiting = []; given = 0 } }
+  bare xs n = record (view k ranks ks r (no_seat ks r)) {
+    indices = Some (record { eq = None; priority = xs; overflow = [] }) ∷ [];
+    entries_given = n;
+    pending =
+        record (view k ranks ks r (no_seat ks r)).pending { waiting = []; given = 0 };
+  }
 
   zero_more : (n : ℕ) → 0 + n ≡ n
   zero_more n = omega arith
@@ -263,8 +276,11 @@ module _ (k : Slots) (ranks : ℕ) (ks : List ChoiceKind) (r : ℕ) where
   made_is =
       after_made k ks (steps ks) (fresh k ranks ks r) (all_counters_run ks 0 (length ks)) (all_parts_run ks 0 (length ks))
       ∙ (λ d. record (bare [] 0) {
-        cts = record (bare [] 0).cts { live = counters_are k ks r (counters ks) d; given =
-            two_more (length (flat_map (λ t. counters_of (choice_at ks t) t) (steps ks))) d };
+        cts = record (bare [] 0).cts {
+          live = counters_are k ks r (counters ks) d;
+          given =
+              two_more (length (flat_map (λ t. counters_of (choice_at ks t) t) (steps ks))) d;
+        };
         mds = record (bare [] 0).mds { live = parts_are k ks r (parts ks) d; given = zero_more (length (parts ks)) d };
       })
 
@@ -284,6 +300,7 @@ module _ (k : Slots) (ranks : ℕ) (ks : List ChoiceKind) (r : ℕ) where
   installed =
       ap (operations_all k ks (works ks)) entered_is
       ∙ after_operations k ks (works ks) (bare (entries_of k ks r) (if r == 0 then length ks else 0)) (all_works_run ks 0 (length ks))
-      ∙ (λ d. record (bare (entries_of k ks r) (if r == 0 then length ks else 0))
-          { pending = record (view k ranks ks r (no_seat ks r)).pending
-          { waiting = map (operation k ks) (works_are k ks r (works ks) d); given = zero_more (length (works ks)) d } })
+      ∙ (λ d. record (bare (entries_of k ks r) (if r == 0 then length ks else 0)) {
+        pending = record (view k ranks ks r (no_seat ks r)).pending
+            { waiting = map (operation k ks) (works_are k ks r (works ks) d); given = zero_more (length (works ks)) d };
+      })

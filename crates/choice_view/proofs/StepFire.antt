@@ -104,12 +104,12 @@ pub increment_starts : (k : Slots) (ranks : ℕ) (ks : List ChoiceKind) (r : ℕ
     → ct_inc (ct_of k ks Go) (successes 1) (view k ranks ks r seat) ≡ ends (view k ranks ks r (record seat { started = true })) (Ok tt)
 increment_starts k ranks ks r seat e =
     ap (λ (o : Option Count). ends_by (need (is_some o) Stale (need (not (inc_passes o (successes 1))) CountFull None))
-        (view k ranks ks r seat) (record (view k ranks ks r seat)
-        { cts = changed (ct_of k ks Go) (plus (successes 1)) (view k ranks ks r seat).cts }) tt)
+    (view k ranks ks r seat) (record (view k ranks ks r seat)
+    { cts = changed (ct_of k ks Go) (plus (successes 1)) (view k ranks ks r seat).cts }) tt)
     (lookup_ct k ranks ks r seat Go (In-go ks) ∙ ap (λ b. Some (successes (none_or_one b))) e)
     ∙ ap (λ v. ends (record (view k ranks ks r seat) { cts = record (view k ranks ks r seat).cts { live = v } }) (Ok tt))
     (changed_named k.ct (ct_stamp ks) (plus (successes 1)) (λ c. successes (count_of ks seat c))
-        (λ c. successes (count_of ks (record seat { started = true }) c)) (counters ks) Go
+    (λ c. successes (count_of ks (record seat { started = true }) c)) (counters ks) Go
     (λ c i q. ct_one ks c Go (counters-In ks c i) tt q)
     (ap (λ b. plus (successes 1) (successes (none_or_one b))) (sym e))
     (λ c i n. others c n))
@@ -189,17 +189,17 @@ filter_left {W} op test a b (v ∷ vs) h = at (a v) (test (op v)) refl (h v (inl
     at false y f e rest = rest ∙ ap (λ t. map op (cond t (v ∷ filter b vs) (filter b vs))) (sym e)
     at true true f e rest =
         ap (λ t. cond (not t) (op v ∷ filter (λ q. not (test q)) (map op (filter a vs)))
-            (filter (λ q. not (test q)) (map op (filter a vs)))) f
+        (filter (λ q. not (test q)) (map op (filter a vs)))) f
         ∙ rest ∙ ap (λ t. map op (cond t (v ∷ filter b vs) (filter b vs))) (sym (e ∙ ap not f))
     at true false f e rest =
         ap (λ t. cond (not t) (op v ∷ filter (λ q. not (test q)) (map op (filter a vs)))
-            (filter (λ q. not (test q)) (map op (filter a vs)))) f
+        (filter (λ q. not (test q)) (map op (filter a vs)))) f
         ∙ ap (λ x. op v ∷ x) rest ∙ ap (λ t. map op (cond t (v ∷ filter b vs) (filter b vs))) (sym (e ∙ ap not f))
 
 pub left_waiting : (k : Slots) (ks : List ChoiceKind) (seat next : Seat) (w : Work) → IsWork ks w → was_fired next w ≡ true
     → ((v : Work) → (v ≡ w → ⊥) → was_fired next v ≡ was_fired seat v)
     → filter (λ q. not (is_number (number_of ks w) q)) (map (operation k ks) (filter (λ v. not (was_fired seat v)) (works ks)))
-        ≡ map (operation k ks) (filter (λ v. not (was_fired next v)) (works ks))
+    ≡ map (operation k ks) (filter (λ v. not (was_fired next v)) (works ks))
 left_waiting k ks seat next w h e same =
     filter_left (operation k ks) (is_number (number_of ks w)) (λ v. not (was_fired seat v)) (λ v. not (was_fired next v)) (works ks)
     (λ v i. at v i (cases_eq (number_of ks v) (number_of ks w)))
@@ -209,30 +209,34 @@ left_waiting k ks seat next w h e same =
     at v i (inl f) =
         let q : v ≡ w = number_one ks v w (works-In ks v i) h f in
         ap (λ u. not (was_fired next u)) q ∙ ap not e ∙ sym (both_false (not (was_fired seat v)))
-            ∙ ap (λ t. not (was_fired seat v) && not t) (sym (eq-eqb _ _ f))
+        ∙ ap (λ t. not (was_fired seat v) && not t) (sym (eq-eqb _ _ f))
     at v i (inr n) = ap not (same v (λ q. n (ap (number_of ks) q))) ∙ sym (both_true (not (was_fired seat v)))
         ∙ ap (λ t. not (was_fired seat v) && not t) (sym (ne_eqb _ _ n))
 
 -- ---- what a start does, with the descriptor that it counts on
 abbrev pub sent_state : State → Option Bound → Header → Table Bound → State
-sent_state v b h mds = record v { cts = counted (send_counter b) (successes 1) v.cts; eqs =
-    raised (send_queue b) (send_event h) v.eqs; mds = mds }
+sent_state v b h mds = record v {
+  cts = counted (send_counter b) (successes 1) v.cts;
+  eqs =
+      raised (send_queue b) (send_event h) v.eqs;
+  mds = mds;
+}
 
 pub done_swap : (v : State) (g : GetArgs) (a : PutArgs) (sw : SwapOp) (ty : ElemType) (operand : ℕ)
     → done v (SwapDeed g a sw ty operand)
     ≡ fires (sent_state v (lookup a.md v.mds.live) (fetch_header v.rank SwapKind g a None (Some sw) ty operand)
-        (changed g.md one_awaited v.mds))
+    (changed g.md one_awaited v.mds))
     (Some (message (fetch_header v.rank SwapKind g a None (Some sw) ty operand)
-        (bytes_at (lookup a.md v.mds.live) a.local_offset a.length v.memory)))
+    (bytes_at (lookup a.md v.mds.live) a.local_offset a.length v.memory)))
 unfolding started
 done_swap v g a sw ty operand = refl
 
 pub done_fetch : (v : State) (g : GetArgs) (a : PutArgs) (op : AtomicOp) (ty : ElemType)
     → done v (FetchAtomicDeed g a op ty)
     ≡ fires (sent_state v (lookup a.md v.mds.live) (fetch_header v.rank FetchAtomicKind g a (Some op) None ty 0)
-        (changed g.md one_awaited v.mds))
+    (changed g.md one_awaited v.mds))
     (Some (message (fetch_header v.rank FetchAtomicKind g a (Some op) None ty 0)
-        (bytes_at (lookup a.md v.mds.live) a.local_offset a.length v.memory)))
+    (bytes_at (lookup a.md v.mds.live) a.local_offset a.length v.memory)))
 unfolding started
 done_fetch v g a op ty = refl
 

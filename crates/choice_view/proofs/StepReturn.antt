@@ -56,13 +56,13 @@ module _ (k : Slots) (ranks : ℕ) (ks : List ChoiceKind) (r : ℕ) (seat : Seat
   unfolding target answered
   answer_comes h bytes at_home no_offset counts named awaits =
       ap (λ o. after_answer (view k ranks ks r seat)
-          (answered_at (home_of (view k ranks ks r seat)) (message (reply_header true 8 h) bytes)
-          (bound_at o (view k ranks ks r seat).mds))) at_home
+      (answered_at (home_of (view k ranks ks r seat)) (message (reply_header true 8 h) bytes)
+      (bound_at o (view k ranks ks r seat).mds))) at_home
       ∙ ap (λ b. after_answer (view k ranks ks r seat)
-          (answered_at (home_of (view k ranks ks r seat)) (message (reply_header true 8 h) bytes) b)) (lookup_md k ranks ks r seat x i)
+      (answered_at (home_of (view k ranks ks r seat)) (message (reply_header true 8 h) bytes) b)) (lookup_md k ranks ks r seat x i)
       ∙ ap (λ t. after_answer (view k ranks ks r seat)
-          (cond t (came_home (home_of (view k ranks ks r seat)) (message (reply_header true 8 h) bytes) (bound_for k ks seat x))
-          (lost_answer (home_of (view k ranks ks r seat))))) due
+      (cond t (came_home (home_of (view k ranks ks r seat)) (message (reply_header true 8 h) bytes) (bound_for k ks seat x))
+      (lost_answer (home_of (view k ranks ks r seat))))) due
       ∙ (λ d. delivers (home_state (at_home d) (no_offset d) (counts d) (ct_named k ks (named d)) bytes) IsAnswered None)
     where
       due : is_due (reply_header true 8 h) (bound_for k ks seat x) ≡ true
@@ -90,10 +90,10 @@ module _ (k : Slots) (ranks : ℕ) (ks : List ChoiceKind) (r : ℕ) (seat : Seat
   cts_home : (c : Counter) → In c (counters ks) → count_of ks seat c ≡ 0 → count_of ks after_home c ≡ 1
       → ((d : Counter) → In d (counters ks) → (d ≡ c → ⊥) → count_of ks after_home d ≡ count_of ks seat d)
       → change (ct_of k ks c) (bump (successes 1)) (map (live_counter k ks seat) (counters ks))
-          ≡ map (live_counter k ks after_home) (counters ks)
+      ≡ map (live_counter k ks after_home) (counters ks)
   cts_home c i zero one others =
       changed_named k.ct (ct_stamp ks) (bump (successes 1)) (λ c. successes (count_of ks seat c))
-          (λ c. successes (count_of ks after_home c)) (counters ks) c
+      (λ c. successes (count_of ks after_home c)) (counters ks) c
       (λ d j e. ct_one ks d c (counters-In ks d j) (counters-In ks c i) e)
       (ap successes one ∙ sym (ap (λ n. bump (successes 1) (successes n)) zero))
       (λ d j n. ap successes (others d j n))
@@ -114,7 +114,7 @@ module _ (k : Slots) (ranks : ℕ) (ks : List ChoiceKind) (r : ℕ) (seat : Seat
       ap (λ n. written n (word v) (view k ranks ks r seat).memory) (add-zero (32 * s + 16))
       ∙ write_part ks s h (step_bytes ks r seat) (step_bytes ks r after_home) 16 (word v) (λ t i. length-step ks r seat t) (omega arith)
       (ap₂ (λ o b. four_words (seat.word s) (given_word (choice_at ks s) r) o b) (ap old_of here ∙ e) (ap value_of here ∙ f)
-          ∙ sym (write_old (seat.word s) (given_word (choice_at ks s) r) (old_of (seat.phase s)) (value_of (seat.phase s)) v))
+      ∙ sym (write_old (seat.word s) (given_word (choice_at ks s) r) (old_of (seat.phase s)) (value_of (seat.phase s)) v))
       (λ t i n. ap (λ q. four_words (seat.word t) (given_word (choice_at ks t) r) (old_of q) (value_of q)) (there t n))
 
   write_result_home : (v : ℕ) → old_of p ≡ old_of (seat.phase s) → value_of p ≡ v
@@ -123,7 +123,7 @@ module _ (k : Slots) (ranks : ℕ) (ks : List ChoiceKind) (r : ℕ) (seat : Seat
       ap (λ n. written n (word v) (view k ranks ks r seat).memory) (add-zero (32 * s + 24))
       ∙ write_part ks s h (step_bytes ks r seat) (step_bytes ks r after_home) 24 (word v) (λ t i. length-step ks r seat t) (omega arith)
       (ap₂ (λ o b. four_words (seat.word s) (given_word (choice_at ks s) r) o b) (ap old_of here ∙ e) (ap value_of here ∙ f)
-          ∙ sym (write_result (seat.word s) (given_word (choice_at ks s) r) (old_of (seat.phase s)) (value_of (seat.phase s)) v))
+      ∙ sym (write_result (seat.word s) (given_word (choice_at ks s) r) (old_of (seat.phase s)) (value_of (seat.phase s)) v))
       (λ t i n. ap (λ q. four_words (seat.word t) (given_word (choice_at ks t) r) (old_of q) (value_of q)) (there t n))
 
   -- ---- the answer of an elect's swap
@@ -156,9 +156,9 @@ module _ (k : Slots) (ranks : ℕ) (ks : List ChoiceKind) (r : ℕ) (seat : Seat
     swap_home = λ d. view_with k ranks ks r seat
         (write_old_home old (ap old_of to) (ap value_of to ∙ sym (ap value_of from)) d)
         (cts_home (First s) (In-first ks s h) (ap₂ (λ c q. none_or_one (has_first c q)) elect from)
-            (ap₂ (λ c q. none_or_one (has_first c q)) elect (here ∙ to)) swap_counts d)
+        (ap₂ (λ c q. none_or_one (has_first c q)) elect (here ∙ to)) swap_counts d)
         (mds_home (Old s) (In-old ks s h elect) (ap (λ q. none_or_one (is_out q)) from)
-            (ap (λ q. none_or_one (is_out q)) (here ∙ to)) swap_awaits d)
+        (ap (λ q. none_or_one (is_out q)) (here ∙ to)) swap_awaits d)
         (pending_as k ks seat after_home (λ w i. swap_fired w) d)
 
   -- ---- the answer of a get
@@ -192,9 +192,9 @@ module _ (k : Slots) (ranks : ℕ) (ks : List ChoiceKind) (r : ℕ) (seat : Seat
     get_home = λ d. view_with k ranks ks r seat
         (write_result_home value (ap old_of to ∙ sym (ap old_of from)) (ap value_of to) d)
         (cts_home (Second s) (In-second ks s h elect) (ap (λ q. none_or_one (has_result q)) from)
-            (ap (λ q. none_or_one (has_result q)) (here ∙ to)) get_counts d)
+        (ap (λ q. none_or_one (has_result q)) (here ∙ to)) get_counts d)
         (mds_home (Result s) (In-result ks s h) (ap₂ (λ c q. none_or_one (awaits_result c q)) elect from)
-            (ap₂ (λ c q. none_or_one (awaits_result c q)) elect (here ∙ to)) get_awaits d)
+        (ap₂ (λ c q. none_or_one (awaits_result c q)) elect (here ∙ to)) get_awaits d)
         (pending_as k ks seat after_home (λ w i. get_fired w) d)
 
   -- ---- the answer of a fetch-atomic
@@ -231,9 +231,9 @@ module _ (k : Slots) (ranks : ℕ) (ks : List ChoiceKind) (r : ℕ) (seat : Seat
     ticket_home = λ d. view_with k ranks ks r seat
         (write_result_home value (ap old_of to ∙ sym (ap old_of from)) (ap value_of to) d)
         (cts_home (First s) (In-first ks s h) (ap₂ (λ c q. none_or_one (has_first c q)) tickets from)
-            (ap₂ (λ c q. none_or_one (has_first c q)) tickets (here ∙ to)) ticket_counts d)
+        (ap₂ (λ c q. none_or_one (has_first c q)) tickets (here ∙ to)) ticket_counts d)
         (mds_home (Result s) (In-result ks s h) (ap₂ (λ c q. none_or_one (awaits_result c q)) tickets from)
-            (ap₂ (λ c q. none_or_one (awaits_result c q)) tickets (here ∙ to)) ticket_awaits d)
+        (ap₂ (λ c q. none_or_one (awaits_result c q)) tickets (here ∙ to)) ticket_awaits d)
         (pending_as k ks seat after_home ticket_fired d)
 
 -- ---- any answer that is under way
@@ -247,7 +247,7 @@ module _ (k : Slots) (ranks : ℕ) (ks : List ChoiceKind) (r : ℕ) (seat : Seat
   return_swap s old h e f =
       answer_comes k ranks ks r seat (Old s) (In-old ks s h e) (First s) (ask_header k ks r s false) (word old)
       (ap (λ c. (first_header k ks c r s).home) e) (ap (λ c. (first_header k ks c r s).home_offset) e) refl refl
-          (ap (λ p. none_or_one (is_out p)) f)
+      (ap (λ p. none_or_one (is_out p)) f)
       ∙ ap (λ v. delivers v IsAnswered None) (swap_home k ranks ks r seat s h (Answered old) e old f refl)
 
   return_ticket : (s value : ℕ) (h : s < length ks) → choice_at ks s ≡ Tickets → seat.phase s ≡ Served value
@@ -255,7 +255,7 @@ module _ (k : Slots) (ranks : ℕ) (ks : List ChoiceKind) (r : ℕ) (seat : Seat
   return_ticket s value h e f =
       answer_comes k ranks ks r seat (Result s) (In-result ks s h) (First s) (ask_header k ks r s false) (word value)
       (ap (λ c. (first_header k ks c r s).home) e) (ap (λ c. (first_header k ks c r s).home_offset) e) refl
-          (ap (λ c. Some (result_counter c s)) e) (ap₂ (λ c p. none_or_one (awaits_result c p)) e f)
+      (ap (λ c. Some (result_counter c s)) e) (ap₂ (λ c p. none_or_one (awaits_result c p)) e f)
       ∙ ap (λ v. delivers v IsAnswered None) (ticket_home k ranks ks r seat s h (Learned 0 value) e value f refl)
 
   return_get : (s old value : ℕ) (h : s < length ks) → choice_at ks s ≡ Elect → seat.phase s ≡ Read old value

@@ -56,7 +56,7 @@ module _ (k : Slots) (ranks : ℕ) (ks : List ChoiceKind) (seat : Seat) (s : ℕ
   fits_only : (m : Header) → m.match_bits ≡ s → (t : ℕ) → t < length ks → fits m (entry_of k t) ≡ true → t ≡ s
   fits_only m e t i f =
       let a : bits_match 0 m.match_bits t ≡ true =
-          (and_parts (bits_match 0 m.match_bits t) true (and_parts (bits_match 0 m.match_bits t && true) true f).0).0 in
+      (and_parts (bits_match 0 m.match_bits t) true (and_parts (bits_match 0 m.match_bits t && true) true f).0).0 in
       let b : m.match_bits < 2 ^ 64 = omega (arith, e) in
       sym (match_only m.match_bits t b (omega arith) a) ∙ e
 
@@ -71,7 +71,7 @@ module _ (k : Slots) (ranks : ℕ) (ks : List ChoiceKind) (seat : Seat) (s : ℕ
   chosen_here m e f =
       ap (λ n. chosen_at m (index_at n (Some index_here ∷ []))) f
       ∙ ap (λ (o : Option Linked). or_else (as_found Priority o) (if is_put_or_atomic m.kind then as_found InOverflow None else None))
-          (found_entry m e)
+      (found_entry m e)
 
   -- the words in the region
   word_read : part (32 * s + 0) 8 (view k ranks ks 0 seat).memory ≡ word (seat.word s)
@@ -81,11 +81,11 @@ module _ (k : Slots) (ranks : ℕ) (ks : List ChoiceKind) (seat : Seat) (s : ℕ
   word_written : (w : ℕ) → written (32 * s + 0) (word w) (view k ranks ks 0 seat).memory ≡ (view k ranks ks 0 (with_word s w seat)).memory
   word_written w =
       write_part ks s h (step_bytes ks 0 seat) (step_bytes ks 0 (with_word s w seat)) 0 (word w) (λ t i. length-step ks 0 seat t)
-          (omega arith)
+      (omega arith)
       (ap (λ x. four_words x (given_word (choice_at ks s) 0) (old_of (seat.phase s)) (value_of (seat.phase s))) (put-same s w seat.word)
-          ∙ sym (write_first (seat.word s) (given_word (choice_at ks s) 0) (old_of (seat.phase s)) (value_of (seat.phase s)) w))
+      ∙ sym (write_first (seat.word s) (given_word (choice_at ks s) 0) (old_of (seat.phase s)) (value_of (seat.phase s)) w))
       (λ t i n. ap (λ x. four_words x (given_word (choice_at ks t) 0) (old_of (seat.phase t)) (value_of (seat.phase t)))
-          (put-other s w seat.word t n))
+      (put-other s w seat.word t n))
 
   -- the interface with this region
   abbrev pub with_memory : List ℕ → State
@@ -97,37 +97,37 @@ module _ (k : Slots) (ranks : ℕ) (ks : List ChoiceKind) (seat : Seat) (s : ℕ
 
   serve_elect : (k' : Slots) (r : ℕ) → seat.word s < 2 ^ 64 → r < 2 ^ 64
       → target (view k ranks ks 0 seat) (message (first_header k' ks Elect r s) (word r))
-          ≡ serves (word_after Elect false r (seat.word s)) (first_header k' ks Elect r s) (word (seat.word s))
+      ≡ serves (word_after Elect false r (seat.word s)) (first_header k' ks Elect r s) (word (seat.word s))
   unfolding target request
   serve_elect k' r i j =
       ap (λ f. after_request (view k ranks ks 0 seat)
-          (judged (target_parts (view k ranks ks 0 seat)) (message (first_header k' ks Elect r s) (word r)) f))
-          (chosen_here (first_header k' ks Elect r s) refl refl)
+      (judged (target_parts (view k ranks ks 0 seat)) (message (first_header k' ks Elect r s) (word r)) f))
+      (chosen_here (first_header k' ks Elect r s) refl refl)
       ∙ ap (λ old. delivers (with_memory (written (32 * s + 0) (swapped_by (Some Cswap) (first_header k' ks Elect r s) old (word r))
-          (view k ranks ks 0 seat).memory)) Matched (Some (message (reply_header true 8 (first_header k' ks Elect r s)) old))) word_read
+      (view k ranks ks 0 seat).memory)) Matched (Some (message (reply_header true 8 (first_header k' ks Elect r s)) old))) word_read
       ∙ ap (λ bytes. delivers (with_memory (written (32 * s + 0) bytes (view k ranks ks 0 seat).memory)) Matched
-          (Some (message (reply_header true 8 (first_header k' ks Elect r s)) (word (seat.word s)))))
-          (swap_word (seat.word s) r (first_header k' ks Elect r s) i j refl refl)
+      (Some (message (reply_header true 8 (first_header k' ks Elect r s)) (word (seat.word s)))))
+      (swap_word (seat.word s) r (first_header k' ks Elect r s) i j refl refl)
       ∙ ap (λ memory. delivers (with_memory memory) Matched
-          (Some (message (reply_header true 8 (first_header k' ks Elect r s)) (word (seat.word s)))))
-          (word_written (word_after Elect false r (seat.word s)))
+      (Some (message (reply_header true 8 (first_header k' ks Elect r s)) (word (seat.word s)))))
+      (word_written (word_after Elect false r (seat.word s)))
 
   serve_tickets : (k' : Slots) (r : ℕ) → seat.word s < 2 ^ 64
       → target (view k ranks ks 0 seat) (message (first_header k' ks Tickets r s) (word 1))
-          ≡ serves (word_after Tickets false r (seat.word s)) (first_header k' ks Tickets r s) (word (seat.word s))
+      ≡ serves (word_after Tickets false r (seat.word s)) (first_header k' ks Tickets r s) (word (seat.word s))
   unfolding target request
   serve_tickets k' r i =
       ap (λ f. after_request (view k ranks ks 0 seat)
-          (judged (target_parts (view k ranks ks 0 seat)) (message (first_header k' ks Tickets r s) (word 1)) f))
-          (chosen_here (first_header k' ks Tickets r s) refl refl)
+      (judged (target_parts (view k ranks ks 0 seat)) (message (first_header k' ks Tickets r s) (word 1)) f))
+      (chosen_here (first_header k' ks Tickets r s) refl refl)
       ∙ ap (λ old. delivers (with_memory (written (32 * s + 0) (combined Sum U64 old (word 1)) (view k ranks ks 0 seat).memory)) Matched
-          (Some (message (reply_header true 8 (first_header k' ks Tickets r s)) old))) word_read
+      (Some (message (reply_header true 8 (first_header k' ks Tickets r s)) old))) word_read
       ∙ ap (λ bytes. delivers (with_memory (written (32 * s + 0) bytes (view k ranks ks 0 seat).memory)) Matched
-          (Some (message (reply_header true 8 (first_header k' ks Tickets r s)) (word (seat.word s)))))
-          (sum_word (seat.word s) 1 i (omega arith))
+      (Some (message (reply_header true 8 (first_header k' ks Tickets r s)) (word (seat.word s)))))
+      (sum_word (seat.word s) 1 i (omega arith))
       ∙ ap (λ memory. delivers (with_memory memory) Matched
-          (Some (message (reply_header true 8 (first_header k' ks Tickets r s)) (word (seat.word s)))))
-          (word_written (word_after Tickets false r (seat.word s)))
+      (Some (message (reply_header true 8 (first_header k' ks Tickets r s)) (word (seat.word s)))))
+      (word_written (word_after Tickets false r (seat.word s)))
 
   serve_get : (k' : Slots) (c : ChoiceKind) (r : ℕ)
       → target (view k ranks ks 0 seat) (message (ask_header k' ks r s true) [])
@@ -135,17 +135,17 @@ module _ (k : Slots) (ranks : ℕ) (ks : List ChoiceKind) (seat : Seat) (s : ℕ
   unfolding target request
   serve_get k' c r =
       ap (λ f. after_request (view k ranks ks 0 seat)
-          (judged (target_parts (view k ranks ks 0 seat)) (message (ask_header k' ks r s true) []) f))
-          (chosen_here (ask_header k' ks r s true) refl refl)
+      (judged (target_parts (view k ranks ks 0 seat)) (message (ask_header k' ks r s true) []) f))
+      (chosen_here (ask_header k' ks r s true) refl refl)
       ∙ ap (λ old. delivers (view k ranks ks 0 seat) Matched (Some (message (reply_header true 8 (ask_header k' ks r s true)) old)))
-          word_read
+      word_read
       ∙ ap (λ (word_of : ℕ → ℕ). delivers (view k ranks ks 0 (record seat { word = word_of })) Matched
-          (Some (message (reply_header true 8 (ask_header k' ks r s true)) (word (seat.word s))))) (sym (put-again s seat.word))
+      (Some (message (reply_header true 8 (ask_header k' ks r s true)) (word (seat.word s))))) (sym (put-again s seat.word))
 
   pub step_serve : (k' : Slots) (r : ℕ) (reads : Bool) → seat.word s < 2 ^ 64 → r < 2 ^ 64
       → target (view k ranks ks 0 seat) (ask_message k' ks r (ask s reads))
-          ≡ delivers (view k ranks ks 0 (with_word s (word_after (choice_at ks s) reads r (seat.word s)) seat)) Matched
-          (Some (answer_message k' ks r (answer s reads (seat.word s))))
+      ≡ delivers (view k ranks ks 0 (with_word s (word_after (choice_at ks s) reads r (seat.word s)) seat)) Matched
+      (Some (answer_message k' ks r (answer s reads (seat.word s))))
   step_serve k' r true i j = serve_get k' (choice_at ks s) r
   step_serve k' r false i j = by_choice (choice_at ks s)
     where

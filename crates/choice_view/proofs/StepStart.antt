@@ -79,7 +79,7 @@ pub started_view : (k : Slots) (ranks : ℕ) (ks : List ChoiceKind) (r : ℕ) (s
 started_view k ranks ks r seat e =
     ap (λ v. record (view k ranks ks r seat) { cts = record (view k ranks ks r seat).cts { live = v } })
     (changed_named k.ct (ct_stamp ks) (bump (successes 1)) (λ c. successes (count_of ks seat c))
-        (λ c. successes (count_of ks (record seat { started = true }) c)) (counters ks) Go
+    (λ c. successes (count_of ks (record seat { started = true }) c)) (counters ks) Go
     (λ c i q. ct_one ks c Go (counters-In ks c i) tt q)
     (ap (λ b. bump (successes 1) (successes (cond b 1 0))) (sym e))
     (λ c i n. others c n))
@@ -103,7 +103,7 @@ pub served_view : (k : Slots) (ranks : ℕ) (ks : List ChoiceKind) (r : ℕ) (se
     → view k ranks ks r (with_phase s (served w (seat.phase s)) seat) ≡ view k ranks ks r seat
 served_view k ranks ks r seat s w = λ d. view_with k ranks ks r seat
     (memory_as ks r next seat (λ t. refl) (λ t. sym (here old_of (λ w. refl) (λ old w. refl) t))
-        (λ t. sym (here value_of (λ w. refl) (λ old w. refl) t)) d)
+    (λ t. sym (here value_of (λ w. refl) (λ old w. refl) t)) d)
     (counts_as k ks next seat (λ c i. sym (count c)) d)
     (parts_as k ks next seat (λ x i. sym (await x)) d)
     (pending_as k ks next seat (λ v i. sym (fire v)) d)

@@ -140,16 +140,16 @@ module _ (k : Slots) (ranks : ℕ) (ks : List ChoiceKind) (r : ℕ) (few : 3 * l
     counters_here cs back e =
         after_counters k ks cs made_before
         (Runs-left (ct_stamp ks) (2 + length counters_before) cs back
-            (subst (λ v. Runs (ct_stamp ks) v (cs ++ back)) (ap (λ n. 2 + n) (sym counters_long_before))
-            (subst (Runs (ct_stamp ks) (2 + before counters_in ks t)) (sym e) (counters_run ks (choice_at ks t) t refl))))
+        (subst (λ v. Runs (ct_stamp ks) v (cs ++ back)) (ap (λ n. 2 + n) (sym counters_long_before))
+        (subst (Runs (ct_stamp ks) (2 + before counters_in ks t)) (sym e) (counters_run ks (choice_at ks t) t refl))))
 
     pub counter_made : (cs : List Counter) (c : Counter) (back : List Counter) → cs ++ c ∷ back ≡ counters_of (choice_at ks t) t
         → alloc_fault (made_part k ks t cs [] (fresh k ranks ks r)).cts ≡ None
     counter_made cs c back e =
         ap (λ (s : State). alloc_fault s.cts) (ap (counters_all k cs) made_before_is ∙ counters_here cs (c ∷ back) e)
         ∙ ap (λ b. need b NoSpace None)
-            (room (2 * length ks + 2) (length (map (new_counter k ks) (Go ∷ Done ∷ counters_before) ++ map (new_counter k ks) cs))
-            (2 + length counters_before + length cs) (omega (arith, live, total)) (omega (arith, total)))
+        (room (2 * length ks + 2) (length (map (new_counter k ks) (Go ∷ Done ∷ counters_before) ++ map (new_counter k ks) cs))
+        (2 + length counters_before + length cs) (omega (arith, live, total)) (omega (arith, total)))
       where
         live : length (map (new_counter k ks) (Go ∷ Done ∷ counters_before) ++ map (new_counter k ks) cs)
             ≡ 2 + length counters_before + length cs
@@ -186,9 +186,9 @@ module _ (k : Slots) (ranks : ℕ) (ks : List ChoiceKind) (r : ℕ) (few : 3 * l
         ∙ ap (parts_all k ks xs) (counters_here here_counters [] (append-nil here_counters))
         ∙ after_parts k ks xs counted_here
         (Runs-left (md_stamp ks) (0 + length parts_before) xs back
-            (subst (λ v. Runs (md_stamp ks) v (xs ++ back))
-            (let l = parts_long_before in let q : before things_in ks t ≡ 0 + length parts_before = omega (arith, l) in q)
-            (subst (Runs (md_stamp ks) (before things_in ks t)) (sym e) (parts_run ks (choice_at ks t) t refl))))
+        (subst (λ v. Runs (md_stamp ks) v (xs ++ back))
+        (let l = parts_long_before in let q : before things_in ks t ≡ 0 + length parts_before = omega (arith, l) in q)
+        (subst (Runs (md_stamp ks) (before things_in ks t)) (sym e) (parts_run ks (choice_at ks t) t refl))))
 
     -- a counter of this step is live by then
     counter_fits : (c : Counter) (s : ℕ) (x : ChoiceKind) → choice_at ks s ≡ x → In c (counters_of x s) → IsCounter ks c
@@ -211,7 +211,7 @@ module _ (k : Slots) (ranks : ℕ) (ks : List ChoiceKind) (r : ℕ) (few : 3 * l
         let j : In c ((Go ∷ Done ∷ counters_before) ++ here_counters) = In-append_right c (Go ∷ Done ∷ counters_before) here_counters i in
         ap (λ xs. is_some (lookup (ct_of k ks c) xs)) (sym (map-append (new_counter k ks) (Go ∷ Done ∷ counters_before) here_counters))
         ∙ ap is_some (lookup_named k.ct (ct_stamp ks) (λ d. successes 0) ((Go ∷ Done ∷ counters_before) ++ here_counters) c j
-            (λ d l e. ct_one ks d c (so_far_fits d l) (so_far_fits c j) e))
+        (λ d l e. ct_one ks d c (so_far_fits d l) (so_far_fits c j) e))
 
     first_here : (x : ChoiceKind) → In (First t) (counters_of x t)
     first_here Elect = inl refl
@@ -243,7 +243,7 @@ module _ (k : Slots) (ranks : ℕ) (ks : List ChoiceKind) (r : ℕ) (few : 3 * l
 
     pub part_made : (xs : List Part) (x : Part) (back : List Part) → xs ++ x ∷ back ≡ parts_of (choice_at ks t) t
         → (let s = made_part k ks t here_counters xs (fresh k ranks ks r) in
-            bind_fault (descriptor_of k ks x) (length s.memory) s.cts s.eqs s.mds) ≡ None
+        bind_fault (descriptor_of k ks x) (length s.memory) s.cts s.eqs s.mds) ≡ None
     part_made xs x back e =
         let i : In x (parts_of (choice_at ks t) t) = subst (In x) e (In-split xs x back) in
         let live = part_live x (choice_at ks t) i refl in
@@ -252,7 +252,7 @@ module _ (k : Slots) (ranks : ℕ) (ks : List ChoiceKind) (r : ℕ) (few : 3 * l
         ap (λ (s : State). bind_fault (descriptor_of k ks x) (length s.memory) s.cts s.eqs s.mds) (parts_here xs (x ∷ back) e)
         ∙ need3 _ _ _ Stale NoSpace OutOfRegion live.0
         (room (3 * length ks) (length (map (new_part k ks) parts_before ++ map (new_part k ks) xs)) (0 + length parts_before + length xs)
-            (omega (arith, many, total)) (omega (arith, total)))
+        (omega (arith, many, total)) (omega (arith, total)))
         (le-leb _ _ (omega (arith, last, size)))
       where
         many : length (map (new_part k ks) parts_before ++ map (new_part k ks) xs) ≡ length parts_before + length xs
@@ -278,14 +278,14 @@ module _ (k : Slots) (ranks : ℕ) (ks : List ChoiceKind) (r : ℕ) (few : 3 * l
     entry_made =
         ap (λ s. append_fault 0 (word_entry t) (target_parts (entries_all k (from_to 0 t) s))) (made_is k ranks ks r)
         ∙ ap (λ s. append_fault 0 (word_entry t) (target_parts s))
-            (after_entries k (from_to 0 t) (bare k ranks ks r [] 0) [] 0 (steps_run 0 t))
+        (after_entries k (from_to 0 t) (bare k ranks ks r [] 0) [] 0 (steps_run 0 t))
         ∙ need4 true true _ (is_within (32 * t) 8 (length (flat_map (step_bytes ks r (no_seat ks r)) (steps ks)))) Stale Stale NoSpace
-            OutOfRegion refl refl
+        OutOfRegion refl refl
         (room (length ks) (linked (map (entry_of k) (from_to 0 t))) (0 + length (from_to 0 t))
-            (let a = linked_is (map (entry_of k) (from_to 0 t)) in let b = length-map (from_to 0 t) (entry_of k) in let d =
-            length-from_to 0 t in omega (arith, a, b, d, h)) (let d = length-from_to 0 t in omega (arith, d, few, h)))
+        (let a = linked_is (map (entry_of k) (from_to 0 t)) in let b = length-map (from_to 0 t) (entry_of k) in let d =
+        length-from_to 0 t in omega (arith, a, b, d, h)) (let d = length-from_to 0 t in omega (arith, d, few, h)))
         (le-leb _ _ (let size = inside_step ks t h (step_bytes ks r (no_seat ks r)) (λ d j. length-step ks r (no_seat ks r) d) in
-            omega (arith, size)))
+        omega (arith, size)))
       where
         linked : List Linked → ℕ
         linked xs = sum_by entries_in (Some (record { eq = None; priority = xs; overflow = [] }) ∷ [])
@@ -300,8 +300,11 @@ module _ (k : Slots) (ranks : ℕ) (ks : List ChoiceKind) (r : ℕ) (few : 3 * l
 
   live_md : (x : Part) → In x (parts ks) → (is_some (lookup (md_of k ks x) (view k ranks ks r (no_seat ks r)).mds.live) ≡ true)
       × (holds_part (lookup (md_of k ks x) (view k ranks ks r (no_seat ks r)).mds.live) 0 8 ≡ true)
-  live_md x i = (ap is_some (lookup_md k ranks ks r (no_seat ks r) x i), ap (λ b. holds_part b 0 8)
-      (lookup_md k ranks ks r (no_seat ks r) x i))
+  live_md x i = (
+    ap is_some (lookup_md k ranks ks r (no_seat ks r) x i),
+    ap (λ b. holds_part b 0 8)
+        (lookup_md k ranks ks r (no_seat ks r) x i),
+  )
 
   -- what a deed of this rank needs
   pub record MayPost (d : Deed) : Type 0 where
@@ -314,15 +317,33 @@ module _ (k : Slots) (ranks : ℕ) (ks : List ChoiceKind) (r : ℕ) (few : 3 * l
   may_send s h Elect e =
       let a = live_md (Old s) (In-old ks s h e) in
       let b = live_md (Given s) (In-given ks s h) in
-      record { live = ap₂ (λ x y. x && y) a.0 b.0; fits = ap₂ (λ x y. x && y) a.1 b.1; small = refl; may =
-          λ some. (record { target_known = some; short = lit≤ tt }, refl, record
-          { length = refl; target = refl; pt = refl; match_bits = refl; remote_offset = refl; no_ack = refl }) }
+      record {
+        live = ap₂ (λ x y. x && y) a.0 b.0;
+        fits = ap₂ (λ x y. x && y) a.1 b.1;
+        small = refl;
+        may =
+            λ some. (
+              record { target_known = some; short = lit≤ tt },
+              refl,
+              record
+                  { length = refl; target = refl; pt = refl; match_bits = refl; remote_offset = refl; no_ack = refl },
+            );
+      }
   may_send s h Tickets e =
       let a = live_md (Result s) (In-result ks s h) in
       let b = live_md (Given s) (In-given ks s h) in
-      record { live = ap₂ (λ x y. x && y) a.0 b.0; fits = ap₂ (λ x y. x && y) a.1 b.1; small = refl; may =
-          λ some. (record { target_known = some; short = lit≤ tt }, record { whole = refl; few = lit≤ tt }, record
-          { length = refl; target = refl; pt = refl; match_bits = refl; remote_offset = refl; no_ack = refl }) }
+      record {
+        live = ap₂ (λ x y. x && y) a.0 b.0;
+        fits = ap₂ (λ x y. x && y) a.1 b.1;
+        small = refl;
+        may =
+            λ some. (
+              record { target_known = some; short = lit≤ tt },
+              record { whole = refl; few = lit≤ tt },
+              record
+                  { length = refl; target = refl; pt = refl; match_bits = refl; remote_offset = refl; no_ack = refl },
+            );
+      }
 
   pub may_post : (w : Work) → IsWork ks w → MayPost (deed_of k ks w)
   may_post (Send s) h = may_send s h (choice_at ks s) refl
@@ -332,7 +353,7 @@ module _ (k : Slots) (ranks : ℕ) (ks : List ChoiceKind) (r : ℕ) (few : 3 * l
 
   pub operation_made : (front : List Work) (w : Work) (back : List Work) → front ++ w ∷ back ≡ works ks
       → (let s = operations_all k ks front (entered k ranks ks r) in
-          triggered_fault (deed_of k ks w) (ct_of k ks (work_counter ks w)) s.cts s.mds s.pending) ≡ None
+      triggered_fault (deed_of k ks w) (ct_of k ks (work_counter ks w)) s.cts s.mds s.pending) ≡ None
   operation_made front w back e =
       let i : In w (works ks) = subst (In w) e (In-split front w back) in
       let ours = works-In ks w i in
@@ -340,11 +361,11 @@ module _ (k : Slots) (ranks : ℕ) (ks : List ChoiceKind) (r : ℕ) (few : 3 * l
       ap (λ (s : State). triggered_fault (deed_of k ks w) (ct_of k ks (work_counter ks w)) s.cts s.mds s.pending)
       (ap (operations_all k ks front) (entered_is k ranks ks r)
       ∙ after_operations k ks front (bare k ranks ks r (entries_of k ks r) (if r == 0 then length ks else 0))
-          (Runs-left (number_of ks) 0 front (w ∷ back) (subst (Runs (number_of ks) 0) (sym e) (all_works_run ks 0 (length ks)))))
+      (Runs-left (number_of ks) 0 front (w ∷ back) (subst (Runs (number_of ks) 0) (sym e) (all_works_run ks 0 (length ks)))))
       ∙ need4 _ _ _ _ Stale NoSpace OutOfRegion CountFull
       (ap₂ (λ x y. x && y) (live_ct (work_counter ks w) (In-work_counter ks w ours)) may.live)
       (numbers (3 * length ks) (length (map (operation k ks) front)) (0 + length front)
-          (let a = length-map front (operation k ks) in omega (arith, a, total)) (omega (arith, total, few)))
+      (let a = length-map front (operation k ks) in omega (arith, a, total)) (omega (arith, total, few)))
       may.fits
       may.small
     where
