@@ -47,6 +47,10 @@ pub fn windowed(alloc: Global, text: &[u8], window: u32) -> Option<World> {
 // Each of the next functions is one call of a world, without what its contract says of the whole world: so the functions behind
 // them have nothing of it to prove.
 
+pub fn links(job: &Job) -> usize {
+    job.schedule().plan().links().len()
+}
+
 pub fn ranks(world: &World) -> u32 {
     world.schedule().shape().ranks()
 }

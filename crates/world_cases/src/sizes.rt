@@ -1,6 +1,8 @@
-//! Larger worlds: sixteen ranks under a window of one, and 256 ranks.
+//! Larger worlds: sixteen ranks under a window of one, and 256 ranks; and a plan with nearly as many links as a plan may have.
 
-use crate::scene::{check_bytes, check_rest, done_at, ranks, run, successes, windowed, world_of};
+use crate::scene::{
+    check_bytes, check_rest, done_at, job_of, links, ranks, run, successes, windowed, world_of,
+};
 use std::alloc::{AllocError, Global};
 use std::test::Fail;
 
@@ -71,5 +73,28 @@ fn a_barrier_on_256_ranks(rt: HostRuntime) -> Result<(), Fail> {
     for r in 0..256u32 {
         assert_eq!(rt; done_at(&world, r), successes(10), "rank {r}");
     }
+    Ok(())
+}
+
+/// So many allgathers of one byte on 64 ranks.
+fn allgathers(alloc: Global, count: u32) -> Result<Vec<u8>, AllocError> {
+    let mut text = Vec::from_slice(alloc, b"coll 1\nranks 64\ninput a u8 1\n")?;
+    for _ in 0..64u32 {
+        text.extend_from_slice(b"7\n")?;
+    }
+    for k in 0..count {
+        let line = format!(in alloc; "allgather a b{k}\n")?;
+        text.extend_from_slice(line.as_bytes())?;
+    }
+    text.extend_from_slice(b"end\n")?;
+    Ok(text)
+}
+
+#[test]
+fn sixty_allgathers_on_64_ranks_are_compiled(rt: HostRuntime) -> Result<(), Fail> {
+    let job = job_of(rt.alloc(), &allgathers(rt.alloc(), 60)?).ok_or("no job")?;
+    // 64 of the input, and 8,320 of each step.
+    assert_eq!(rt; links(&job), 499_264);
+    assert!(rt; job_of(rt.alloc(), &allgathers(rt.alloc(), 61)?).is_none());
     Ok(())
 }
