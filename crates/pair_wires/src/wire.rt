@@ -208,6 +208,7 @@ impl Wire {
         requires room { length rest.old.messages + (self.capacity + one_if out.waits) ≤ rest.old.capacity }
         ensures held { (held : List Sent) × (rest.new.messages ≡ rest.old.messages ++ held) × (out.sent ≡ into.received ++ held) }
         ensures capacity { rest.new.capacity ≡ rest.old.capacity }
+        ensures few { length rest.new.messages ≤ rest.new.capacity }
         ensures bounds { KeepsBounds self.bounds out.sent }
     {
         let Wire { line, .. } = self;

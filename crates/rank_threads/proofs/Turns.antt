@@ -1,0 +1,109 @@
+-- What a turn leaves of what a hand knows.
+use Rattle.std.proofs.Common.{append-nil, ◌≡◌, ◌≢◌, ◌<◌, ◌-◌, ◌++◌, ◌∷◌, [], ℕ, zero, suc, List, length, map, ap, ◌∙◌, sym, refl, subst, arith}
+use Rattle.std.specs.Prelude.{Option, Some, None, IfSome, IfNone}
+use mathlib.Core.List.{IsPrefix}
+use mathlib.Core.Option.{some, some-ne-none}
+use lib.ListN.{get_elem?}
+use Rattle.ptl_types.specs.declared.steps.LocalStep.{LocalStep}
+use Rattle.atomic_table.proofs.Lists.{at_map}
+use Rattle.turn_table.specs.declared.views.HandView.{HandView}
+use Rattle.turn_table.specs.declared.views.SlotView.{SlotView}
+use Rattle.turn_table.specs.declared.views.EndedTurn.{EndedTurn}
+use Rattle.turn_table.specs.Views.{adjusted, after_give, after_turn, numbers_from, places, places_in, without_busy_slot}
+use Rattle.turn_table.specs.Hands.{LastTurn, Took, marks}
+use Rattle.turn_table.proofs.Sums.{adjusted_length}
+use Rattle.schedule_compiler.specs.Jobs.{JobOf}
+use Rattle.plan_cuts.specs.History.Local.{Start}
+use Rattle.rank_threads.specs.declared.gate.StartAnswer.{StartAnswer}
+use Rattle.rank_threads.specs.declared.gate.StartAnswer.TheVariants.{Started, AlreadyStarted}
+use Rattle.rank_threads.specs.declared.slot.Slot.{Slot}
+use Rattle.rank_threads.specs.Names.{Mark, history, mark, note, plate}
+use Rattle.rank_threads.specs.Steps.{Begun, IsIdle, Made}
+use Rattle.rank_node.specs.Node.{NodeState}
+use Rattle.rank_threads.specs.Missing.{Idled}
+use Rattle.rank_threads.specs.Turns.{FoundIdle, MayEnd, Turned}
+use Rattle.rank_threads.proofs.Pairs.{at_map_back, within}
+
+-- ---- the views without the counts of busy tries
+adjusted-else : (l : List (SlotView Slot)) (k q : ℕ) (f : SlotView Slot → SlotView Slot) → q ≢ k → get_elem? (map without_busy_slot (adjusted l k f)) q ≡ get_elem? (map without_busy_slot l) q
+adjusted-else [] k q f apart = refl
+adjusted-else (x ∷ xs) zero zero f apart = absurd (apart refl)
+adjusted-else (x ∷ xs) zero (suc q) f apart = refl
+adjusted-else (x ∷ xs) (suc k) zero f apart = refl
+adjusted-else (x ∷ xs) (suc k) (suc q) f apart = adjusted-else xs k q f (λ e. apart (ap suc e))
+
+places-here : (l : List (SlotView Slot)) (k : ℕ) (x y : Slot) → k < length l → places_in (adjusted l k (after_turn history x y)) k ≡ places_in l k ++ numbers_from (length (history x)) (length (history y) - length (history x))
+places-here [] k x y h = absurd (omega (arith, h))
+places-here (s ∷ l) zero x y h = refl
+places-here (s ∷ l) (suc k) x y h = places-here l k x y (omega (arith, h))
+
+places-still : (l : List (SlotView Slot)) (k : ℕ) → places_in (map without_busy_slot l) k ≡ places_in l k
+places-still [] k = refl
+places-still (s ∷ l) zero = refl
+places-still (s ∷ l) (suc k) = places-still l k
+
+-- ---- one turn
+pub turned : (v u w : HandView Slot) (r : ℕ) (x y : Slot) → Took history plate v r x u → w ≡ after_give history u r x y → LastTurn history note w r (mark x) (mark y) → Turned v w r (mark x) (mark y)
+turned v u w r x y took given last =
+    let alike : map without_busy_slot took.tried.slots ≡ map without_busy_slot v.slots = ap (λ (z : HandView Slot). z.slots) took.alike in
+    let slots : w.slots ≡ adjusted took.tried.slots r (after_turn history x y) = ap (λ (z : HandView Slot). z.slots) given ∙ ap (λ (z : HandView Slot). adjusted z.slots r (after_turn history x y)) took.taken in
+    let low : r < length took.tried.slots = (let k = within w.slots r last.slot last.slot_is in let a = ap (λ (l : List (SlotView Slot)). length l) slots in let b = adjusted_length took.tried.slots r (after_turn history x y) in omega (arith, k, a, b)) in
+    record {
+      parts = ap (λ (z : HandView Slot). z.parts) given ∙ (ap (λ (z : HandView Slot). z.parts) took.taken ∙ ap (λ (z : HandView Slot). z.parts) took.alike);
+      begins = λ s i t a b. (let z = at_map_back without_busy_slot took.tried.slots r (without_busy_slot s) (ap (λ (l : List (SlotView Slot)). get_elem? l r) alike ∙ at_map without_busy_slot v.slots r s a) in
+          took.found.follows z.0 i t z.1 (ap (λ (s : SlotView Slot). get_elem? s.seen i) z.2 ∙ b));
+      last = last;
+      mine = ap (λ (l : List (SlotView Slot)). places_in l r) slots
+          ∙ (places-here took.tried.slots r x y low
+          ∙ ap (λ ps. ps ++ numbers_from (length (history x)) (length (history y) - length (history x))) (sym (places-still took.tried.slots r) ∙ (ap (λ (l : List (SlotView Slot)). places_in l r) alike ∙ places-still v.slots r)));
+      others = λ q apart. ap (λ (l : List (SlotView Slot)). get_elem? (map without_busy_slot l) q) slots ∙ (adjusted-else took.tried.slots r q (after_turn history x y) apart ∙ ap (λ (l : List (SlotView Slot)). get_elem? l q) alike);
+    }
+
+-- ---- the last turns of a hand
+last-same : (v w : HandView Slot) (q : ℕ) (a b : Mark) → get_elem? (map without_busy_slot w.slots) q ≡ get_elem? (map without_busy_slot v.slots) q → LastTurn history note v q a b → LastTurn history note w q a b
+last-same v w q a b e h =
+    let x = at_map_back without_busy_slot w.slots q (without_busy_slot h.slot) (e ∙ at_map without_busy_slot v.slots q h.slot h.slot_is) in
+    record { slot = x.0; slot_is = x.1; turn_is = ap (λ (s : SlotView Slot). map (marks history note) s.seen) x.2 ∙ h.turn_is }
+
+turned-else : (job : JobOf) (v w : HandView Slot) (r q : ℕ) (a b : Mark) → Turned v w r a b → q ≢ r → FoundIdle job v q → FoundIdle job w q
+turned-else job v w r q a b t apart h = (h.0, h.1, last-same v w q h.0 h.1 (t.others q apart) h.2, h.3)
+
+abbrev MadeIt : HandView Slot → HandView Slot → ℕ → LocalStep → Type 0
+MadeIt v w r step = (a : Mark) × (b : Mark) × Turned v w r a b × Made step a b
+
+abbrev FoundIt : JobOf → HandView Slot → HandView Slot → ℕ → Type 0
+FoundIt job v w r = (a : Mark) × (b : Mark) × Turned v w r a b × IsIdle job r a b
+
+-- a step leaves what is known of other ranks
+pub made-else : (job : JobOf) (v w : HandView Slot) (r q : ℕ) (e : Option LocalStep) → IfSome e (MadeIt v w r) → IfNone e (FoundIt job v w r) → q ≢ r → FoundIdle job v q → FoundIdle job w q
+made-else job v w r q None made found apart h = turned-else job v w r q found.0 found.1 found.2 apart h
+made-else job v w r q (Some step) made found apart h = turned-else job v w r q made.0 made.1 made.2 apart h
+
+-- and the hand's parts
+pub same-parts : (job : JobOf) (v w : HandView Slot) (r : ℕ) (e : Option LocalStep) → IfSome e (MadeIt v w r) → IfNone e (FoundIt job v w r) → w.parts ≡ v.parts
+same-parts job v w r None made found = found.2.parts
+same-parts job v w r (Some step) made found = made.2.parts
+
+-- and where none was made, the rank was found idle
+pub none-idle : (job : JobOf) (v w : HandView Slot) (r : ℕ) (e : Option LocalStep) → e ≡ None → IfNone e (FoundIt job v w r) → FoundIdle job w r
+none-idle job v w r e is found = let f : FoundIt job v w r = subst (λ (o : Option LocalStep). IfNone o (FoundIt job v w r)) is found in (f.0, f.1, f.2.last, f.3)
+
+-- ---- a turn in which a step was made, or none
+pub longer-step : (x y : Slot) (e : Option LocalStep) → IfSome e (λ step. Made step (mark x) (mark y)) → IfNone e (Idled x y) → IsPrefix (history x) (history y)
+longer-step x y None made idled = ([], append-nil (history x) ∙ sym (ap (λ (m : NodeState). m.diary.locals) idled.missed.node ∙ ap (λ (m : NodeState). m.diary.locals) idled.flushed.node.same))
+longer-step x y (Some step) made idled = (made.0 ∷ [], sym made.2)
+
+pub may-end : (k r : ℕ) (v w : HandView Slot) (x y : Slot) → k ≡ r → Took history plate v r x w → plate y ≡ plate x → IsPrefix (history x) (history y) → MayEnd k y w
+may-end k r v w x y is took named grows = record { before = v; taken = x; took = subst (λ k. Took history plate v k x w) (sym is) took; named = named; grows = grows }
+
+pub with-some : {P Q : LocalStep → Type 0} (e : Option LocalStep) → ((step : LocalStep) → P step → Q step) → IfSome e P → IfSome e Q
+with-some None f h = tt
+with-some (Some step) f h = f step h
+
+pub with-none : {P Q : Type 0} (e : Option LocalStep) → (P → Q) → IfNone e P → IfNone e Q
+with-none None f h = f h
+with-none (Some step) f h = tt
+
+pub longer-begun : (x y : Slot) (s : StartAnswer) → Begun s (mark x) (mark y) → IsPrefix (history x) (history y)
+longer-begun x y Started b = (Start ∷ [], sym b.1)
+longer-begun x y AlreadyStarted b = ([], append-nil (history x) ∙ sym b.1)

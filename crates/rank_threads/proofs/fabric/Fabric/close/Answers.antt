@@ -1,0 +1,114 @@
+use Rattle.std.proofs.Common.{◌≡◌, ◌<◌, ◌≤◌, ◌++◌, ◌∙◌, ℕ, false, List, length, map, get_or, refl, sym, ap, subst, take, drop, arith}
+use mathlib.Core.Option.{some}
+use lib.ListN.{get_elem?}
+use Rattle.ptl_types.specs.declared.headers.Lane.{Lane}
+use Rattle.pair_wires.specs.Lanes.{Plain}
+use Rattle.pair_wires.specs.Wires.{WireState}
+use Rattle.coll_shape.specs.Outline.{Outline}
+use Rattle.plan_calls.specs.Lanes.{is_used_lane}
+use Rattle.plan_orders.specs.Chosen.{Scene}
+use Rattle.plan_worlds.specs.Places.{lane_place}
+use Rattle.shape_plans.specs.Drawing.{plan_of}
+use Rattle.rank_node.specs.Node.{IsNode, NodeState}
+use Rattle.turn_table.specs.Hands.{Left}
+use Rattle.world_open.specs.Frames.{frame_lane}
+use Rattle.world_parts.specs.Layout.{lane_at, node_at, scene_of}
+use Rattle.worlds.specs.FrameState.{FrameState}
+use Rattle.worlds.specs.Frames.{IsClosed, MayClose}
+use Rattle.worlds.proofs.Ends.{barriers_in}
+use Rattle.rank_threads.specs.declared.slot.Slot.{Slot}
+use Rattle.rank_threads.specs.Closing.{IsLifted, IsWorldOf}
+use Rattle.rank_threads.specs.Fabrics.{FabricState, IsNamed}
+use Rattle.rank_threads.specs.Lanes.{AreLanes}
+use Rattle.rank_threads.specs.Moves.{AllLaid, SameNode, Slotwise}
+use Rattle.rank_threads.specs.Names.{history, plate}
+use Rattle.rank_threads.specs.Wiring.{bounds_of}
+use Rattle.rank_threads.proofs.Closing.{may-close}
+use Rattle.rank_threads.proofs.Ending.{as-many, kept-at, laid-left, may-frame, named-left, node-of-slot}
+use Rattle.rank_threads.proofs.Snocs.{written}
+use Rattle.rank_threads.proofs.fabric.Fabric.close.Goals as goal
+
+pub lift_wires-requires-clause-laid : goal.lift_wires-requires-clause-laid
+lift_wires-requires-clause-laid g c =
+    let s = c.self.inside in let k = c.self.invariant in let e = c.close-slots.ensures in
+    subst (AllLaid s.wires.items) (sym c.deref_mut.ensures.value)
+    (laid-left s.job s.wires.items c.close-slots.result.items
+    (named-left s.job s.wires.items s.turns.start c.close-slots.result.items e.length k.fabric.named (λ r x y a b. (e.values r x a).named y b)))
+
+pub lift_wires-requires-clause-ranks : goal.lift_wires-requires-clause-ranks
+lift_wires-requires-clause-ranks g c =
+    let s = c.self.inside in let k = c.self.invariant in let e = c.close-slots.ensures in
+    ap (λ (l : List Slot). length l) c.deref_mut.ensures.value ∙ (e.length ∙ (k.fabric.count ∙ sym (ap (λ (o : Outline). o.ranks) k.frame_is.shape)))
+
+pub lift_wires-requires-clause-count : goal.lift_wires-requires-clause-count
+lift_wires-requires-clause-count g c = let k = c.self.invariant in subst (λ (o : Outline). (plan_of o).ranks ≡ o.ranks) (sym k.frame_is.shape) k.fabric.sound.ranks
+
+pub lift_wires-requires-clause-lanes : goal.lift_wires-requires-clause-lanes
+lift_wires-requires-clause-lanes g c = let s = c.self.inside in let k = c.self.invariant in
+    subst (λ (o : Outline). AreLanes (plan_of o) (bounds_of s.wires.items)) (sym k.frame_is.shape) k.fabric.lanes
+
+pub lift_wires-requires-clause-rooms : goal.lift_wires-requires-clause-rooms
+lift_wires-requires-clause-rooms g c = c.self.invariant.rooms
+
+pub lift_wires-requires-clause-empty : goal.lift_wires-requires-clause-empty
+lift_wires-requires-clause-empty g c = let s = c.self.inside in let k = c.self.invariant in
+    subst (λ (o : Outline). (q d : ℕ) (lane : Lane) → q < o.ranks → d < o.ranks → lane_at s.frame.lanes (lane_place o.ranks q d lane) ≡ frame_lane (plan_of o) q d lane)
+    (sym k.frame_is.shape) k.frame_is.lanes
+
+pub take_nodes-nodes-requires : goal.take_nodes-nodes-requires
+take_nodes-nodes-requires g c =
+    let s = c.self.inside in let k = c.self.invariant in let e = c.close-slots.ensures in let v = c.lift_wires.ensures in
+    let slots : take c.close-slots.result.len (c.lift_wires.new.slots ++ drop (length c.lift_wires.new.slots) c.close-slots.result.items) ≡ c.lift_wires.new.slots =
+    written c.close-slots.result.len c.lift_wires.new.slots _ (sym (v.count ∙ c.deref_mut.ensures.len)) in
+    let many = ap (λ (l : List Slot). length l) slots in
+    let n = v.count in let m = ap (λ (l : List Slot). length l) c.deref_mut.ensures.value in let l = e.length in let r = k.roomy in
+    record { room = (k.empty, omega (arith, many, n, m, l, r)) }
+
+pub into_world-world-requires : goal.into_world-world-requires
+into_world-world-requires g c =
+    let s = c.self.inside in let k = c.self.invariant in let e = c.close-slots.ensures in let v = c.lift_wires.ensures in let t = c.take_nodes-nodes.ensures in
+    let now = c.deref_mut.result.now in let last = c.lift_wires.new.slots in let f = c.lift_wires.new.frame in let nodes = c.take_nodes-nodes.result.items in
+    let slots : take c.close-slots.result.len (last ++ drop (length last) c.close-slots.result.items) ≡ last = written c.close-slots.result.len last _ (sym (v.count ∙ c.deref_mut.ensures.len)) in
+    let is : nodes ≡ map (λ (x : Slot). x.node.value) last = t.nodes ∙ ap (λ (l : List Slot). map (λ (x : Slot). x.node.value) l) slots in
+    let many : length now ≡ s.job.shape.ranks = ap (λ (l : List Slot). length l) c.deref_mut.ensures.value ∙ (e.length ∙ k.fabric.count) in
+    let size : length nodes ≡ s.job.shape.ranks = as-many last nodes is ∙ (v.count ∙ many) in
+    let shape : f.shape ≡ s.job.shape = v.shape ∙ k.frame_is.shape in
+    let named = subst (λ (l : List Slot). (r : ℕ) (x : Slot) → get_elem? l r ≡ some x → IsNamed s.job s.wires.items r (plate x)) (sym c.deref_mut.ensures.value)
+    (named-left s.job s.wires.items s.turns.start c.close-slots.result.items e.length k.fabric.named (λ r x y a b. (e.values r x a).named y b)) in
+    may-frame s.job f nodes shape (v.inputs ∙ k.frame_is.inputs)
+    (may-close s.job k.fabric.sound now s.wires.items nodes f.lanes size
+    (λ r h. kept-at nodes t.kept r (omega (arith, h, size)))
+    (λ r h. node-of-slot now last nodes v.nodes v.count is r (omega (arith, h, many)))
+    named k.fabric.lanes
+    (λ i w at. subst (λ (o : Outline). IsLifted w.bounds now (lane_at f.lanes (lane_place o.ranks w.bounds.source w.bounds.target w.bounds.lane))) shape (v.lifted i w at))
+    (λ q d lane hq hd none.
+    subst (λ (o : Outline). lane_at f.lanes (lane_place o.ranks q d lane) ≡ frame_lane (plan_of s.job.shape) q d lane) shape
+    (v.unused q d lane (subst (λ (o : Outline). q < o.ranks) (sym k.frame_is.shape) hq) (subst (λ (o : Outline). d < o.ranks) (sym k.frame_is.shape) hd)
+    (subst (λ (o : Outline). is_used_lane (plan_of o) q d lane ≡ false) (sym k.frame_is.shape) none)
+    ∙ ap (λ (o : Outline). frame_lane (plan_of o) q d lane) k.frame_is.shape)))
+
+pub returns-clause-world : goal.returns-clause-world
+returns-clause-world g c =
+    let s = c.self.inside in let k = c.self.invariant in let e = c.close-slots.ensures in let v = c.lift_wires.ensures in let t = c.take_nodes-nodes.ensures in
+    let now = c.deref_mut.result.now in let last = c.lift_wires.new.slots in let f = c.lift_wires.new.frame in let nodes = c.take_nodes-nodes.result.items in
+    let slots : take c.close-slots.result.len (last ++ drop (length last) c.close-slots.result.items) ≡ last = written c.close-slots.result.len last _ (sym (v.count ∙ c.deref_mut.ensures.len)) in
+    let is : nodes ≡ map (λ (x : Slot). x.node.value) last = t.nodes ∙ ap (λ (l : List Slot). map (λ (x : Slot). x.node.value) l) slots in
+    let many : length now ≡ s.job.shape.ranks = ap (λ (l : List Slot). length l) c.deref_mut.ensures.value ∙ (e.length ∙ k.fabric.count) in
+    let w = c.into_world-world.ensures in
+    let shape : f.shape ≡ s.job.shape = v.shape ∙ k.frame_is.shape in
+    subst (λ (z : FabricState). IsWorldOf z c.args.hands.items c.into_world-world.result) c.self.view_is (record {
+      shape = w.shape ∙ shape;
+      inputs = w.inputs ∙ (v.inputs ∙ k.frame_is.inputs);
+      window = w.window;
+      strays = w.strays;
+      spare = w.spare;
+      ranks = λ r h.
+          (let x = node-of-slot now last nodes v.nodes v.count is r (omega (arith, h, many)) in record {
+            slot = x.slot;
+            history_is = ap (λ (z : Scene). z.world r) w.scene ∙ ap (λ (n : NodeState). n.diary.locals) x.node_is;
+            left = e.values r x.slot (ap (λ (l : List Slot). get_elem? l r) (sym c.deref_mut.ensures.value) ∙ x.there);
+          });
+    })
+
+pub returns-clause-barriers : goal.returns-clause-barriers
+returns-clause-barriers g c = λ slots agree. barriers_in c.into_world-world.result slots c.enabled.ensures.kept agree

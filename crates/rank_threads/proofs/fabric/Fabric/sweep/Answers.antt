@@ -1,0 +1,12 @@
+use Rattle.std.proofs.Common.{◌≡◌, ◌<◌, ◌≤◌, ⊎_elim, ℕ, ap, inl, inr, arith}
+use Rattle.std.proofs.lemmas.Bool.{cases_lt}
+use Rattle.rank_threads.specs.Fabrics.{FabricState, HasSwept}
+use Rattle.rank_threads.proofs.fabric.Fabric.sweep.Goals as goal
+
+pub returns-clause-swept : goal.returns-clause-swept
+unfolding HasSwept
+returns-clause-swept g c = λ r h. ⊎_elim
+    (λ (low : r < c.args.first). c.sweep_part-below.ensures.idle r (omega arith) low)
+    (λ (high : c.args.first ≤ r). c.sweep_part-below.ensures.others r (inr high)
+    (c.sweep_part-above.ensures.idle r high
+    (let k = c.self.invariant.ranks_are in let e = ap (λ (f : FabricState). f.job.shape.ranks) c.self.view_is in omega (arith, h, k, e)))) (cases_lt r c.args.first)

@@ -1,0 +1,33 @@
+use Rattle.std.proofs.Common.{◌≡◌, ◌≢◌, ◌∙◌, ℕ, false, refl}
+use Rattle.std.specs.Prelude.{Option, Some, None, is_some}
+use Rattle.ptl_types.specs.declared.steps.LocalStep.{LocalStep}
+use Rattle.rank_threads.specs.Turns.{FoundIdle}
+use Rattle.rank_threads.proofs.Turns.{made-else, none-idle, same-parts}
+use Rattle.rank_threads.proofs.fabric.Fabric.work.Goals as goal
+
+none-is : (e : Option LocalStep) → is_some e ≡ false → e ≡ None
+none-is None e = refl
+none-is (Some step) e = cc
+
+pub returns-then-is_none-clause-parts : goal.returns-then-is_none-clause-parts
+returns-then-is_none-clause-parts g c =
+    same-parts c.args.self.now.job c.loop.hand.knows c.step.new.hand.knows c.args.rank c.step.result c.step.ensures.some c.step.ensures.none ∙ c.loop.invariant.parts
+
+pub returns-then-is_none-clause-idle : goal.returns-then-is_none-clause-idle
+returns-then-is_none-clause-idle g c =
+    none-idle c.args.self.now.job c.loop.hand.knows c.step.new.hand.knows c.args.rank c.step.result (none-is c.step.result c.if-is_none.ensures) c.step.ensures.none
+
+pub returns-then-is_none-clause-others : goal.returns-then-is_none-clause-others
+returns-then-is_none-clause-others g c = λ r apart h.
+    made-else c.args.self.now.job c.loop.hand.knows c.step.new.hand.knows c.args.rank r c.step.result c.step.ensures.some c.step.ensures.none apart
+    (c.loop.invariant.others r apart h)
+
+pub loop-preserved : goal.loop-preserved
+loop-preserved g c = record {
+  hand = c.step.ensures.hand;
+  parts = same-parts c.args.self.now.job c.loop.hand.knows c.step.new.hand.knows c.args.rank c.step.result c.step.ensures.some c.step.ensures.none
+      ∙ c.loop.invariant.parts;
+  others = λ r apart h.
+      made-else c.args.self.now.job c.loop.hand.knows c.step.new.hand.knows c.args.rank r c.step.result c.step.ensures.some c.step.ensures.none apart
+      (c.loop.invariant.others r apart h);
+}

@@ -1,0 +1,44 @@
+-- What is left of a fabric: on each lane what was sent is what was received, and then what its wire held.
+use Rattle.std.specs.Prelude.{ℕ, ◌≡◌, ◌<◌, ◌≤◌, ◌++◌, List, length}
+use mathlib.Core.Option.{some}
+use lib.ListN.{get_elem?}
+use Rattle.pair_wires.specs.declared.bounds.Bounds.{Bounds}
+use Rattle.pair_wires.specs.Lanes.{Plain}
+use Rattle.plan_cuts.specs.History.{Local, got}
+use Rattle.shape_plans.specs.Drawing.{plan_of}
+use Rattle.schedule_compiler.specs.Jobs.{JobOf}
+use Rattle.turn_table.specs.Hands.{Left}
+use Rattle.turn_table.specs.States.{HandState}
+use Rattle.worlds.specs.World.{WorldState, histories_in}
+use Rattle.rank_threads.specs.declared.slot.Slot.{Slot}
+use Rattle.rank_threads.specs.Fabrics.{FabricState}
+use Rattle.rank_threads.specs.Names.{history, plate}
+use Rattle.rank_threads.specs.Slots.{HasSent}
+
+-- ---- the lanes
+-- the lane holds what was sent on it and not received, in the slots of its ranks
+abbrev pub IsHeldOn : Bounds → List Slot → Plain → Type 0
+IsHeldOn b slots l = (x y : Slot) → get_elem? slots b.source ≡ some x → get_elem? slots b.target ≡ some y →
+    HasSent (plan_of x.job.shape) x.job.inputs x.node.value b.target b.lane (got (history y) b.source b.lane ++ l.messages)
+
+-- and no more than four messages, for which it has room
+pub record IsLifted (b : Bounds) (slots : List Slot) (l : Plain) : Type 0 where
+  pub held : IsHeldOn b slots l
+  pub few : length l.messages ≤ 4
+  pub room : l.capacity ≡ 4
+
+-- ---- the ranks
+-- what is left of rank r: a history that begins with what each hand saw there, and whose places are those of the hands, each once
+pub record IsLeft (start : List Slot) (hands : List (HandState Slot)) (r : ℕ) (h : List Local) : Type 0 where
+  pub slot : Slot
+  pub history_is : h ≡ history slot
+  pub left : Left history plate start hands r slot
+
+-- a world of the fabric's job, under a window of four messages on a lane and without strays, with what is left of each rank
+pub record IsWorldOf (f : FabricState) (hands : List (HandState Slot)) (w : WorldState) : Type 0 where
+  pub shape : w.shape ≡ f.job.shape
+  pub inputs : w.inputs ≡ f.job.inputs
+  pub window : w.window ≡ 4
+  pub strays : w.strays ≡ 0
+  pub spare : w.spare ≡ 0
+  pub ranks : (r : ℕ) → r < f.job.shape.ranks → IsLeft f.turns.start hands r (histories_in w r)

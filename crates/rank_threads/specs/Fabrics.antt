@@ -1,0 +1,51 @@
+-- What a fabric stands for, and what it keeps.
+use Rattle.std.specs.Prelude.{ℕ, ◌≡◌, ◌<◌, ◌≤◌, List, [], length}
+use mathlib.Core.Option.{some}
+use lib.ListN.{get_elem?}
+use Rattle.pair_wires.specs.Wires.{WireState}
+use Rattle.shape_plans.specs.Drawing.{plan_of}
+use Rattle.schedule_compiler.specs.Jobs.{JobOf}
+use Rattle.turn_table.specs.States.{HandState, TableState}
+use Rattle.rank_node.specs.Node.{NodeState}
+use Rattle.worlds.specs.FrameState.{FrameState}
+use Rattle.worlds.specs.Frames.{IsFrameOf}
+use Rattle.rank_threads.specs.declared.slot.Slot.{Slot}
+use Rattle.rank_threads.specs.Lists.{Each}
+use Rattle.rank_threads.specs.Lanes.{AreLanes}
+use Rattle.rank_threads.specs.Names.{Plate, plate}
+use Rattle.rank_threads.specs.Sound.{IsSound}
+use Rattle.rank_threads.specs.Turns.{FoundIdle}
+use Rattle.rank_threads.specs.Wiring.{IsLaid, bounds_of}
+
+-- which job, the table of its ranks, and the wires
+pub record FabricState : Type 0 where
+  pub job : JobOf
+  pub turns : TableState Slot
+  pub wires : List WireState
+
+-- the name of rank r of a job, whose ends are those of the wires from it and to it
+pub record IsNamed (job : JobOf) (wires : List WireState) (r : ℕ) (p : Plate) : Type 0 where
+  pub job_is : p.job ≡ job
+  pub rank : p.task.rank ≡ r
+  pub laid : IsLaid wires r p.outs p.ins
+
+-- a slot for each rank, and a wire for each lane, with its ends in the slots
+pub record IsFabric (job : JobOf) (start : List Slot) (wires : List WireState) : Type 0 where
+  pub sound : IsSound job
+  pub count : length start ≡ job.shape.ranks
+  pub lanes : AreLanes (plan_of job.shape) (bounds_of wires)
+  pub named : (r : ℕ) (x : Slot) → get_elem? start r ≡ some x → IsNamed job wires r (plate x)
+
+-- beside it: how many ranks there are, a frame for the world that it ends as, and room for its nodes
+pub record FabricKeeps (job : JobOf) (start : List Slot) (wires : List WireState) (ranks : ℕ) (frame : FrameState) (room : List NodeState)
+    (capacity : ℕ) : Type 0 where
+  pub fabric : IsFabric job start wires
+  pub ranks_are : ranks ≡ job.shape.ranks
+  pub rooms : Each (λ (w : WireState). w.capacity ≡ 3) wires
+  pub frame_is : IsFrameOf job frame
+  pub empty : room ≡ []
+  pub roomy : length start ≤ capacity
+
+-- the hand had turns at all ranks, and its last one at each found that rank idle
+unfoldable pub HasSwept : FabricState → HandState Slot → Type 0
+HasSwept f h = (r : ℕ) → r < f.job.shape.ranks → FoundIdle f.job h.knows r

@@ -1,0 +1,14 @@
+pub mod Lists
+pub mod Joints
+pub mod Lanes
+pub mod Ports
+pub mod Slots
+pub mod Names
+pub mod Sound
+pub mod Missing
+pub mod Steps
+pub mod Turns
+pub mod Wiring
+pub mod Fabrics
+pub mod Moves
+pub mod Closing

@@ -1,0 +1,39 @@
+-- What a hand knows after a turn.
+use Rattle.std.specs.Prelude.{ℕ, ◌≡◌, ◌≢◌, ◌<◌, ◌-◌, ◌^◌, ◌++◌, ◌∷◌, [], List, length, map}
+use mathlib.Core.Option.{some}
+use mathlib.Core.List.{IsPrefix}
+use lib.ListN.{get_elem?}
+use Rattle.turn_table.specs.declared.views.HandView.{HandView}
+use Rattle.turn_table.specs.declared.views.SlotView.{SlotView}
+use Rattle.turn_table.specs.declared.views.EndedTurn.{EndedTurn}
+use Rattle.turn_table.specs.Views.{numbers_from, places, without_busy_slot}
+use Rattle.turn_table.specs.Hands.{LastTurn, Took}
+use Rattle.plan_cuts.specs.History.{Local}
+use Rattle.schedule_compiler.specs.Jobs.{JobOf}
+use Rattle.rank_threads.specs.declared.slot.Slot.{Slot}
+use Rattle.rank_threads.specs.Names.{Mark, history, note, plate}
+use Rattle.rank_threads.specs.Steps.{IsIdle}
+
+-- the history begins with each that the hand saw at rank r
+abbrev pub BeginsSeen : HandView Slot → ℕ → List Local → Type 0
+BeginsSeen v r h = (s : SlotView Slot) (i : ℕ) (t : EndedTurn Slot) → get_elem? v.slots r ≡ some s → get_elem? s.seen i ≡ some t → IsPrefix (history t.given) h
+
+-- from the view v to the view w the hand had one turn, at rank r, and took a and gave b; busy tries aside, nothing else changed
+pub record Turned (v w : HandView Slot) (r : ℕ) (a b : Mark) : Type 0 where
+  pub parts : w.parts ≡ v.parts
+  pub begins : BeginsSeen v r a.0
+  pub last : LastTurn history note w r a b
+  pub mine : places w r ≡ places v r ++ numbers_from (length a.0) (length b.0 - length a.0)
+  pub others : (q : ℕ) → q ≢ r → get_elem? (map without_busy_slot w.slots) q ≡ get_elem? (map without_busy_slot v.slots) q
+
+-- the slot may be given back as y: the hand took x, and the history only grew
+pub record MayEnd (k : ℕ) (y : Slot) (w : HandView Slot) : Type 0 where
+  pub before : HandView Slot
+  pub taken : Slot
+  pub took : Took history plate before k taken w
+  pub named : plate y ≡ plate taken
+  pub grows : IsPrefix (history taken) (history y)
+
+-- the hand had a turn at rank r, and at its last one there it made no step, since it found none to make
+abbrev pub FoundIdle : JobOf → HandView Slot → ℕ → Type 0
+FoundIdle job v r = (a : Mark) × (b : Mark) × LastTurn history note v r a b × IsIdle job r a b

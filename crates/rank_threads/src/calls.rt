@@ -1,0 +1,130 @@
+//! The calls that make one step in one turn.
+
+ghost use Rattle.std.specs.Prelude.{true, ◌≡◌, ◌<◌, IfSome, IfNone};
+ghost use Rattle.turn_table.specs.declared.views.HandView.{HandView};
+ghost use Rattle.turn_table.specs.Hands.{IsFree, IsHandOf, Took};
+ghost use Rattle.plan_calls.specs.Lanes.{is_used_lane};
+ghost use Rattle.rank_node.specs.Node.{IsNode};
+ghost use Rattle.shape_plans.specs.Drawing.{plan_of};
+ghost use Rattle.rank_threads.specs.declared.slot.Slot.{Slot};
+ghost use Rattle.rank_threads.specs.Fabrics.{IsNamed};
+ghost use Rattle.rank_threads.specs.Names.{IsWired, Mark, history, mark, plate};
+ghost use Rattle.rank_threads.specs.Sound.{IsSound};
+ghost use Rattle.rank_threads.specs.Steps.{Begun, Delivered, Fired, IsIdle, IsOfHistory, Made};
+ghost use Rattle.rank_threads.specs.Turns.{MayEnd, Turned};
+
+use crate::fabric::{Fabric, Hand};
+use crate::gate::{Gate, StartAnswer};
+use crate::slot::Slot;
+use ptl_types::{Lane, LocalStep, Rank};
+use std::sync::Wait;
+use turn_table::Turn;
+
+impl<G: Gate + Drop> Fabric<G> {
+    // Takes the turn of a rank.
+    fn take<R: Wait>(&self, rt: &R, hand: &mut Hand, rank: Rank) -> Turn<Slot>
+        requires hand { IsFree self.now.turns hand.old }
+        requires rank { rank < self.now.job.shape.ranks }
+        ensures slot { result.slot ≡ rank }
+        ensures sound { IsSound self.now.job }
+        ensures named { IsNamed self.now.job self.now.wires rank (plate result.value) }
+        ensures wired { IsWired self.now.wires (plate result.value) }
+        ensures kept { IsNode result.value.node.value }
+        ensures hand { IsHandOf self.now.turns hand.new }
+        ensures took { Took history plate hand.old.knows rank result.value hand.new.knows }
+    {
+        let _ = self.ranks;
+        let turn = self.turns.take(rt, hand, rank);
+        // What every node keeps is told here.
+        let _ = turn.value.node.history();
+        turn
+    }
+
+    // Gives a turn back.
+    fn give(&self, hand: &mut Hand, turn: Turn<Slot>)
+        requires hand { IsHandOf self.now.turns hand.old }
+        requires sound { IsSound turn.value.job }
+        requires taken { MayEnd turn.slot turn.value hand.old.knows }
+        ensures hand { IsFree self.now.turns hand.new }
+        ensures turned { (v : HandView Slot) (x : Slot) → Took history plate v turn.slot x hand.old.knows → Turned v hand.new.knows turn.slot (mark x) (mark turn.value) }
+    {
+        let _ = self.ranks;
+        // What every node keeps is told here.
+        let _ = turn.value.node.history();
+        self.turns.give(hand, turn);
+    }
+
+    /// Makes one step of a rank in one turn, and answers it: its start; else the firing of an operation that is ready; else the receipt
+    /// of the oldest message of a lane. It waits for the turn, and takes no memory.
+    ///
+    /// `None` only where the history that was taken in this turn has its start, each operation that is ready in its state sends a message
+    /// whose lane was found full, and each lane to the rank was found empty, or is one of answers while none is awaited, or carries
+    /// requests whose answer would have to wait.
+    pub fn step<R: Wait>(&self, rt: &R, hand: &mut Hand, rank: Rank) -> Option<LocalStep>
+        requires hand { IsFree self.now.turns hand.old }
+        requires rank { rank < self.now.job.shape.ranks }
+        ensures hand { IsFree self.now.turns hand.new }
+        ensures some { IfSome result (λ step. (a : Mark) × (b : Mark) × Turned hand.old.knows hand.new.knows rank a b × Made step a b) }
+        ensures none { IfNone result ((a : Mark) × (b : Mark) × Turned hand.old.knows hand.new.knows rank a b × IsIdle self.now.job rank a b) }
+    {
+        let Turn { slot, value } = self.take(rt, hand, rank);
+        let mut value = value;
+        let made = value.step(rt, &self.wires, &self.gate);
+        self.give(hand, Turn { slot, value });
+        made
+    }
+
+    /// Starts a rank, if it hasn't started.
+    pub fn start<R: Wait>(&self, rt: &R, hand: &mut Hand, rank: Rank) -> StartAnswer
+        requires hand { IsFree self.now.turns hand.old }
+        requires rank { rank < self.now.job.shape.ranks }
+        ensures hand { IsFree self.now.turns hand.new }
+        ensures begun { (a : Mark) × (b : Mark) × Turned hand.old.knows hand.new.knows rank a b × Begun result a b }
+    {
+        let Turn { slot, value } = self.take(rt, hand, rank);
+        let mut value = value;
+        let answer = value.start_once(&self.gate);
+        self.give(hand, Turn { slot, value });
+        answer
+    }
+
+    /// Fires an operation that is ready, and answers its number. `None` only where each operation that is ready in the history taken in
+    /// this turn sends a message whose lane was found full.
+    pub fn fire<R: Wait>(&self, rt: &R, hand: &mut Hand, rank: Rank) -> Option<u32>
+        requires hand { IsFree self.now.turns hand.old }
+        requires rank { rank < self.now.job.shape.ranks }
+        ensures hand { IsFree self.now.turns hand.new }
+        ensures fired { (a : Mark) × (b : Mark) × Turned hand.old.knows hand.new.knows rank a b × IsOfHistory self.now.job rank a
+            × Fired result a b }
+    {
+        let Turn { slot, value } = self.take(rt, hand, rank);
+        let mut value = value;
+        let number = value.fire_one(rt, &self.wires, &self.gate);
+        self.give(hand, Turn { slot, value });
+        number
+    }
+
+    /// Receives the oldest message of a lane. `false` only where the lane was found empty, or is one of answers while none is awaited,
+    /// or carries requests whose answer would have to wait.
+    pub fn deliver<R: Wait>(
+        &self,
+        rt: &R,
+        hand: &mut Hand,
+        source: Rank,
+        target: Rank,
+        lane: Lane,
+    ) -> bool
+        requires hand { IsFree self.now.turns hand.old }
+        requires target { target < self.now.job.shape.ranks }
+        requires lane { is_used_lane (plan_of self.now.job.shape) source target lane ≡ true }
+        ensures hand { IsFree self.now.turns hand.new }
+        ensures delivered { (a : Mark) × (b : Mark) × Turned hand.old.knows hand.new.knows target a b × IsOfHistory self.now.job target a
+            × Delivered source lane result a b }
+    {
+        let Turn { slot, value } = self.take(rt, hand, target);
+        let mut value = value;
+        let moved = value.deliver(rt, &self.wires, &self.gate, source, lane);
+        self.give(hand, Turn { slot, value });
+        moved
+    }
+}

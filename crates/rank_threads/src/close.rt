@@ -1,0 +1,129 @@
+//! How a fabric is closed.
+
+ghost use Rattle.std.specs.Prelude.{ℕ, true, false, ◌≡◌, ◌+◌, ◌*◌, ◌<◌, ◌≤◌, ◌^◌, ◌++◌, ◌∷◌, [], All, List, length, map, vec_capacity};
+ghost use mathlib.Core.Option.{some};
+ghost use lib.ListN.{get_elem?};
+ghost use Rattle.ptl_types.specs.declared.headers.Lane.{Lane as LaneOf};
+ghost use Rattle.pair_wires.specs.Lanes.{Plain, plain};
+ghost use Rattle.pair_wires.specs.Wires.{WireState};
+ghost use Rattle.plan_calls.specs.Lanes.{is_used_lane};
+ghost use Rattle.plan_view.specs.Slots.{Slots};
+ghost use Rattle.plan_worlds.specs.Places.{lane_place};
+ghost use Rattle.shape_plans.specs.Drawing.{plan_of};
+ghost use Rattle.job_laws.specs.Barriers.{AreBarriersKept};
+ghost use Rattle.rank_node.specs.Node.{IsNode};
+ghost use Rattle.turn_table.specs.Hands.{IsFree, parts_of};
+ghost use Rattle.world_open.specs.Frames.{frame_lane};
+ghost use Rattle.worlds.specs.FrameLends.{with_lane};
+ghost use Rattle.worlds.specs.Frames.{lane_in};
+ghost use Rattle.worlds.specs.Standing.{IsStanding};
+ghost use Rattle.worlds.specs.World.{AreSlots, histories_in};
+ghost use Rattle.rank_threads.specs.declared.slot.Slot.{Slot};
+ghost use Rattle.rank_threads.specs.Closing.{IsLifted, IsWorldOf};
+ghost use Rattle.rank_threads.specs.Lanes.{AreLanes};
+ghost use Rattle.rank_threads.specs.Lists.{Each};
+ghost use Rattle.rank_threads.specs.Moves.{AllLaid, IsBetween, SameNode, Slotwise};
+ghost use Rattle.rank_threads.specs.Wiring.{bounds_of};
+
+use crate::fabric::{Fabric, Hand};
+use crate::gate::Gate;
+use crate::moves::{pull_in, pull_out};
+use crate::slot::Slot;
+use pair_wires::Wire;
+use rank_node::Node;
+use std::sync::Wait;
+use worlds::{Frame, World};
+
+// The last wire ends: its two ends leave their slots, and what it held, the message that waits among it, goes to its lane.
+fn lift_wire<R: Wait>(rt: &R, wire: Wire, slots: &mut [Slot], frame: &mut Frame)
+    requires laid { (before : List WireState) × AllLaid (before ++ wire ∷ []) slots.old }
+    requires between { IsBetween (length slots.old) wire }
+    requires ranks { length slots.old ≡ frame.old.shape.ranks }
+    requires used { is_used_lane (plan_of frame.old.shape) wire.bounds.source wire.bounds.target wire.bounds.lane ≡ true }
+    requires room { wire.capacity ≡ 3 }
+    requires lane { lane_in frame.old wire.bounds.source wire.bounds.target wire.bounds.lane ≡ plain [] 4 }
+    ensures count { length slots.new ≡ length slots.old }
+    ensures nodes { Slotwise SameNode slots.old slots.new }
+    ensures laid { (before : List WireState) → AllLaid (before ++ wire ∷ []) slots.old → AllLaid before slots.new }
+    ensures lifted { (l : Plain) × (frame.new ≡ with_lane frame.old (lane_place frame.old.shape.ranks wire.bounds.source wire.bounds.target wire.bounds.lane) l) × IsLifted wire.bounds slots.old l }
+{
+    let bounds = wire.bounds();
+    let out = pull_out(slots, bounds.source);
+    let into = pull_in(slots, bounds.target);
+    let lane = frame.lane(bounds.source, bounds.target, bounds.lane);
+    wire.close(rt, out.end, into.end, lane);
+}
+
+// All wires end, the last one first.
+fn lift_wires<R: Wait>(rt: &R, wires: Vec<Wire>, slots: &mut [Slot], frame: &mut Frame)
+    requires laid { AllLaid wires.items slots.old }
+    requires ranks { length slots.old ≡ frame.old.shape.ranks }
+    requires count { (plan_of frame.old.shape).ranks ≡ frame.old.shape.ranks }
+    requires lanes { AreLanes (plan_of frame.old.shape) (bounds_of wires.items) }
+    requires rooms { Each (λ (w : WireState). w.capacity ≡ 3) wires.items }
+    requires empty { (s d : ℕ) (lane : LaneOf) → s < frame.old.shape.ranks → d < frame.old.shape.ranks →
+        lane_in frame.old s d lane ≡ frame_lane (plan_of frame.old.shape) s d lane }
+    ensures count { length slots.new ≡ length slots.old }
+    ensures nodes { Slotwise SameNode slots.old slots.new }
+    ensures shape { frame.new.shape ≡ frame.old.shape }
+    ensures inputs { frame.new.inputs ≡ frame.old.inputs }
+    ensures lifted { (k : ℕ) (w : WireState) → get_elem? wires.items k ≡ some w →
+        IsLifted w.bounds slots.old (lane_in frame.new w.bounds.source w.bounds.target w.bounds.lane) }
+    ensures unused { (s d : ℕ) (lane : LaneOf) → s < frame.old.shape.ranks → d < frame.old.shape.ranks →
+        is_used_lane (plan_of frame.old.shape) s d lane ≡ false → lane_in frame.new s d lane ≡ frame_lane (plan_of frame.old.shape) s d lane }
+{
+    let mut wires = wires;
+    while let Some(wire) = wires.pop() {
+        lift_wire(rt, wire, slots, frame);
+    }
+    wires.destroy_empty();
+}
+
+// The nodes of the slots, in order.
+fn take_nodes(slots: Vec<Slot>, room: Vec<Node>) -> Vec<Node>
+    requires room { (room.items ≡ []) × (length slots.items ≤ vec_capacity room) }
+    ensures nodes { result.items ≡ map (λ (x : Slot). x.node.value) slots.items }
+    ensures kept { Each (λ n. IsNode n) result.items }
+{
+    let mut nodes = room;
+    for slot in slots {
+        let Slot { node, .. } = slot;
+        let node = Box::into_inner(node);
+        // What every node keeps is told here.
+        let _ = node.history();
+        nodes.push_reserved(node);
+    }
+    nodes
+}
+
+impl<G: Gate + Drop> Fabric<G> {
+    /// Ends the fabric, and hands over the world that it is: of the same job, under a window of four messages on a lane. The hands are
+    /// all that it has, so together they have its parts, and none of them has a turn. The history of each rank begins with what each
+    /// hand saw there, and its places are those that the hands added, each once. The histories are a cut, and on each lane what was
+    /// sent is what was received, followed by what the world holds. It takes no memory; it may wait inside the wires' queues.
+    pub fn close<R: Wait>(self, rt: &R, hands: Vec<Hand>) -> World
+        requires hands { All (λ h. IsFree self.turns h) hands.items }
+        requires all { parts_of hands.items ≡ 2 ^ 32 }
+        ensures world { IsWorldOf self hands.items result }
+        ensures kept { IsStanding result }
+        ensures barriers { (slots : ℕ → Slots) → AreSlots result slots →
+            AreBarriersKept result.shape result.inputs slots (histories_in result) }
+    {
+        let Fabric {
+            turns,
+            wires,
+            gate: _gate,
+            job: _job,
+            ranks: _ranks,
+            mut frame,
+            room,
+        } = self;
+        let mut slots = turns.close(hands);
+        lift_wires(rt, wires, &mut slots, &mut frame);
+        let nodes = take_nodes(slots, room);
+        let world = frame.into_world(nodes);
+        // What every world keeps is told here.
+        let _ = world.enabled();
+        world
+    }
+}

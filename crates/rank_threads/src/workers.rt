@@ -1,0 +1,141 @@
+//! Workers that sweep all ranks until a sweep makes no step.
+
+ghost use Rattle.std.specs.Prelude.{◌≡◌, ◌≢◌, ◌<◌, ◌≤◌, ◌⊎◌, ◌^◌, ℕ, length, All};
+ghost use Rattle.turn_table.specs.Hands.{IsFree, parts_of};
+ghost use Rattle.rank_threads.specs.Fabrics.{HasSwept};
+ghost use Rattle.rank_threads.specs.Turns.{FoundIdle};
+
+use crate::fabric::{Fabric, Hand};
+use crate::gate::Gate;
+use ptl_types::Rank;
+use std::sync::Wait;
+use std::thread;
+use std::thread::Threads;
+
+impl<G: Gate + Drop> Fabric<G> {
+    // Makes steps of a rank until there is none, and answers whether there was one.
+    fn work<R: Wait>(&self, rt: &R, hand: &mut Hand, rank: Rank) -> bool
+        requires hand { IsFree self.now.turns hand.old }
+        requires rank { rank < self.now.job.shape.ranks }
+        ensures hand { IsFree self.now.turns hand.new }
+        ensures parts { hand.new.knows.parts ≡ hand.old.knows.parts }
+        ensures idle { FoundIdle self.now.job hand.new.knows rank }
+        ensures others { (r : ℕ) → r ≢ rank → FoundIdle self.now.job hand.old.knows r → FoundIdle self.now.job hand.new.knows r }
+    {
+        let mut worked = false;
+        for _ in rt.forever() {
+            if self.step(rt, hand, rank).is_none() {
+                return worked;
+            }
+            worked = true;
+        }
+        unreachable!()
+    }
+
+    // Works once at each rank from `first` to before `end`, and answers whether there was a step.
+    fn sweep_part<R: Wait>(&self, rt: &R, hand: &mut Hand, first: Rank, end: Rank) -> bool
+        requires hand { IsFree self.now.turns hand.old }
+        requires end { end ≤ self.now.job.shape.ranks }
+        ensures hand { IsFree self.now.turns hand.new }
+        ensures parts { hand.new.knows.parts ≡ hand.old.knows.parts }
+        ensures idle { (r : ℕ) → first ≤ r → r < end → FoundIdle self.now.job hand.new.knows r }
+        ensures others { (r : ℕ) → (r < first ⊎ end ≤ r) → FoundIdle self.now.job hand.old.knows r → FoundIdle self.now.job hand.new.knows r }
+    {
+        let mut worked = false;
+        for rank in first..end {
+            if self.work(rt, hand, rank) {
+                worked = true;
+            }
+        }
+        worked
+    }
+
+    // Works once at each rank, beginning at `first`, and answers whether there was a step.
+    fn sweep<R: Wait>(&self, rt: &R, hand: &mut Hand, first: Rank) -> bool
+        requires hand { IsFree self.now.turns hand.old }
+        requires first { first ≤ self.now.job.shape.ranks }
+        ensures hand { IsFree self.now.turns hand.new }
+        ensures swept { HasSwept self.now hand.new }
+        ensures parts { hand.new.knows.parts ≡ hand.old.knows.parts }
+    {
+        let above = self.sweep_part(rt, hand, first, self.ranks);
+        let below = self.sweep_part(rt, hand, 0, first);
+        above | below
+    }
+
+    // Works at the ranks from `first` to before `end` until a pass over them makes no step.
+    fn settle<R: Wait>(&self, rt: &R, hand: &mut Hand, first: Rank, end: Rank)
+        requires hand { IsFree self.now.turns hand.old }
+        requires end { end ≤ self.now.job.shape.ranks }
+        ensures hand { IsFree self.now.turns hand.new }
+        ensures parts { hand.new.knows.parts ≡ hand.old.knows.parts }
+    {
+        for _ in rt.forever() {
+            if !self.sweep_part(rt, hand, first, end) {
+                return;
+            }
+        }
+        unreachable!()
+    }
+
+    // Sweeps until a sweep makes no step. Before each sweep the worker settles its own ranks, from `first` to before `end`: then a
+    // rank seldom moves from one core to another.
+    fn run<R: Wait>(&self, rt: &R, hand: &mut Hand, first: Rank, end: Rank)
+        requires hand { IsFree self.now.turns hand.old }
+        requires first { first ≤ self.now.job.shape.ranks }
+        requires end { end ≤ self.now.job.shape.ranks }
+        ensures hand { IsFree self.now.turns hand.new }
+        ensures swept { HasSwept self.now hand.new }
+        ensures parts { hand.new.knows.parts ≡ hand.old.knows.parts }
+    {
+        for _ in rt.forever() {
+            self.settle(rt, hand, first, end);
+            if !self.sweep(rt, hand, first) {
+                return;
+            }
+        }
+        unreachable!()
+    }
+}
+
+// The first of a worker's own ranks: the workers' ranks are as many as may be equal blocks.
+fn block_start(worker: u64, workers: u64, ranks: u32) -> u32
+    requires some { 0 < workers }
+    requires few { workers < 2 ^ 32 }
+    requires worker { worker ≤ workers }
+    ensures { result ≤ ranks }
+{
+    (worker * u64::from(ranks) / workers) as u32
+}
+
+/// One worker for each hand makes steps of all ranks, and ends after a sweep over them in which it made none.
+pub fn run_workers<G: Gate + Drop, R: Threads + Wait + Sync>(
+    rt: &R,
+    fabric: &Fabric<G>,
+    hands: &mut [Hand],
+)
+    requires hands { All (λ h. IsFree fabric.now.turns h) hands.old }
+    requires some { 0 < length hands.old }
+    requires few { length hands.old < 2 ^ 32 }
+    ensures hands { All (λ h. IsFree fabric.now.turns h) hands.new }
+    ensures swept { All (λ h. HasSwept fabric.now h) hands.new }
+    ensures parts { parts_of hands.new ≡ parts_of hands.old }
+{
+    let ranks = fabric.ranks;
+    let threads = hands.len();
+    thread::for_each_mut(
+        rt,
+        hands,
+        threads,
+        &|i: usize, hand: &mut Hand|
+            requires { IsFree fabric.now.turns hand.now × (ranks ≡ fabric.now.job.shape.ranks) × (i < threads) × (threads < 2 ^ 32) }
+            ensures { IsFree fabric.entry.now.turns hand.exit.now × HasSwept fabric.entry.now hand.exit.now × (hand.exit.now.knows.parts ≡ hand.entry.now.knows.parts) }
+        {
+            let worker = i as u64;
+            let workers = threads as u64;
+            let first = block_start(worker, workers, ranks);
+            let end = block_start(worker + 1, workers, ranks);
+            fabric.run(rt, hand, first, end)
+        },
+    );
+}
