@@ -1,0 +1,75 @@
+//! Two hands, apart and together.
+
+ghost use Rattle.std.specs.Prelude.{◌≡◌, ◌+◌, ◌<◌, ◌^◌, All, IfOk, length};
+ghost use Rattle.turn_table.specs.Hands.{IsFree, parts_of};
+
+use ptl_types::NoMemory;
+use rank_threads::{Fabric, Gate, Hand, run_workers};
+use schedule_compiler::Job;
+use std::alloc::Global;
+use std::sync::Wait;
+use std::thread::Threads;
+use worlds::World;
+
+/// A fabric of a job, and its hands.
+pub(crate) fn opened<G: Gate + Drop>(
+    alloc: Global,
+    job: &Job,
+    count: u32,
+    gate: G,
+) -> Result<(Fabric<G>, Vec<Hand>), NoMemory>
+    requires { 0 < count }
+    ensures job { IfOk result (λ r. r.0.job ≡ job.now) }
+    ensures ranks { IfOk result (λ r. length r.0.turns.start ≡ job.now.shape.ranks) }
+    ensures count { IfOk result (λ r. length r.1.items ≡ count) }
+    ensures hands { IfOk result (λ r. All (λ h. IsFree r.0.turns h) r.1.items) }
+    ensures parts { IfOk result (λ r. parts_of r.1.items ≡ 2 ^ 32) }
+{
+    Fabric::open(alloc, job, count, gate)
+}
+
+/// Lets a worker for each hand run, and closes the fabric.
+pub(crate) fn run_and_close<R: Threads + Wait + Sync, G: Gate + Drop>(
+    rt: &R,
+    fabric: Fabric<G>,
+    hands: Vec<Hand>,
+) -> World
+    requires hands { All (λ h. IsFree fabric.turns h) hands.items }
+    requires all { parts_of hands.items ≡ 2 ^ 32 }
+    requires some { 0 < length hands.items }
+    requires few { length hands.items < 2 ^ 32 }
+{
+    let mut hands = hands;
+    run_workers(rt, &fabric, &mut hands);
+    fabric.close(rt, hands)
+}
+
+/// The two hands of a fabric.
+pub(crate) fn two_hands<G: Gate + Drop>(fabric: &Fabric<G>, hands: Vec<Hand>) -> (Hand, Hand)
+    requires hands { (length hands.items ≡ 2) × All (λ h. IsFree fabric.now.turns h) hands.items }
+    ensures hands { IsFree fabric.now.turns result.0 × IsFree fabric.now.turns result.1 }
+    ensures parts { result.0.knows.parts + result.1.knows.parts ≡ parts_of hands.items }
+{
+    let mut hands = hands;
+    let (Some(two), Some(one)) = (hands.pop(), hands.pop()) else {
+        unreachable!()
+    };
+    (one, two)
+}
+
+/// Closes a fabric with its two hands.
+pub(crate) fn close_with<R: Wait, G: Gate + Drop>(
+    rt: &R,
+    alloc: Global,
+    fabric: Fabric<G>,
+    one: Hand,
+    two: Hand,
+) -> Result<World, NoMemory>
+    requires hands { IsFree fabric.turns one × IsFree fabric.turns two }
+    requires all { one.knows.parts + two.knows.parts ≡ 2 ^ 32 }
+{
+    let mut both = Vec::with_capacity(alloc, 2)?;
+    both.push_reserved(one);
+    both.push_reserved(two);
+    Ok(fabric.close(rt, both))
+}

@@ -1,0 +1,45 @@
+//! Jobs of texts.
+
+ghost use Rattle.std.specs.Prelude.{true, ◌≡◌, IsTrue};
+ghost use Rattle.ptl_types.specs.declared.headers.Lane.TheVariants.{Request};
+ghost use Rattle.plan_calls.specs.Lanes.{is_used_lane};
+ghost use Rattle.shape_plans.specs.Drawing.{plan_of};
+
+use coll_lang::parse;
+use ptl_types::Lane;
+use schedule_compiler::{Job, compile};
+use std::alloc::Global;
+use std::process::Abort;
+
+/// Two ranks meet.
+pub(crate) const TWO_RANKS: &[u8] = b"coll 1\nranks 2\nbarrier\nend\n";
+
+/// Four ranks meet.
+pub(crate) const FOUR_RANKS: &[u8] = b"coll 1\nranks 4\nbarrier\nend\n";
+
+/// The job of a text.
+pub(crate) fn job_of<A: Abort>(rt: &A, alloc: Global, text: &[u8]) -> Job {
+    let Ok(description) = parse(alloc, text) else {
+        panic!(rt; "a description")
+    };
+    let (shape, inputs) = description.into_parts();
+    let Ok(schedule) = compile(alloc, &shape) else {
+        panic!(rt; "a schedule")
+    };
+    let Ok(job) = Job::new(alloc, schedule, inputs) else {
+        panic!(rt; "a job")
+    };
+    job
+}
+
+/// Whether there are two ranks, of which the first sends requests to the second.
+pub(crate) fn is_pair(job: &Job) -> bool
+    ensures ranks { IsTrue result → job.now.shape.ranks ≡ 2 }
+    ensures lane { IsTrue result → is_used_lane (plan_of job.now.shape) 0 1 Request ≡ true }
+{
+    let schedule = job.schedule();
+    if schedule.shape().ranks() != 2 {
+        return false;
+    }
+    0 < schedule.lane(0, 1, Lane::Request)
+}

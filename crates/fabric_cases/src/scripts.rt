@@ -1,0 +1,82 @@
+//! Scripts whose calls one caller makes.
+
+ghost use Rattle.std.specs.Prelude.{true, ◌≡◌, length};
+ghost use Rattle.ptl_types.specs.declared.headers.Lane.TheVariants.{Request};
+ghost use Rattle.plan_calls.specs.Lanes.{is_used_lane};
+ghost use Rattle.shape_plans.specs.Drawing.{plan_of};
+ghost use Rattle.turn_table.specs.Hands.{IsFree};
+
+use crate::hands::{close_with, opened, two_hands};
+use crate::jobs::{TWO_RANKS, is_pair, job_of};
+use ptl_types::Lane;
+use rank_threads::{Fabric, Hand, OpenGate, StartAnswer};
+use std::sync::Wait;
+use std::test::*;
+use worlds::World;
+
+/// What the calls of the script answered, and how many steps each hand then had made at rank 0.
+#[derive(Drop)]
+struct Answers {
+    starts: [StartAnswer; 2],
+    fired_early: Option<u32>,
+    moved_early: bool,
+    fired: Option<u32>,
+    made: [u64; 2],
+}
+
+fn script<R: Wait>(rt: &R, fabric: &Fabric<OpenGate>, one: &mut Hand, two: &mut Hand) -> Answers
+    requires one { IsFree fabric.now.turns one.old }
+    requires two { IsFree fabric.now.turns two.old }
+    requires ranks { fabric.now.job.shape.ranks ≡ 2 }
+    requires slots { length fabric.now.turns.start ≡ 2 }
+    requires lane { is_used_lane (plan_of fabric.now.job.shape) 0 1 Request ≡ true }
+    ensures one { IsFree fabric.now.turns one.new × (one.new.knows.parts ≡ one.old.knows.parts) }
+    ensures two { IsFree fabric.now.turns two.new × (two.new.knows.parts ≡ two.old.knows.parts) }
+{
+    let first = fabric.start(rt, one, 0);
+    let second = fabric.start(rt, two, 0);
+    let fired_early = fabric.fire(rt, two, 1);
+    let moved_early = fabric.deliver(rt, one, 0, 1, Lane::Request);
+    let fired = fabric.fire(rt, one, 0);
+    Answers {
+        starts: [first, second],
+        fired_early,
+        moved_early,
+        fired,
+        made: [one.made(0), two.made(0)],
+    }
+}
+
+/// Whether each rank counted so many successes, and no failure.
+fn all_done(world: &World, count: u64) -> bool {
+    for rank in 0..world.schedule().shape().ranks() {
+        let done = world.done(rank);
+        if done.success != count || done.failure != 0 {
+            return false;
+        }
+    }
+    true
+}
+
+#[test]
+fn two_hands_take_turns(rt: HostRuntime) -> Result<(), Fail> {
+    let alloc = rt.alloc();
+    let job = job_of(&rt, alloc, TWO_RANKS);
+    assert!(rt; is_pair(&job));
+    let (fabric, hands) = opened(alloc, &job, 2, OpenGate)?;
+    let (mut one, mut two) = two_hands(&fabric, hands);
+    let answers = script(&rt, &fabric, &mut one, &mut two);
+    assert_eq!(rt;
+        answers.starts,
+        [StartAnswer::Started, StartAnswer::AlreadyStarted]
+    );
+    assert_eq!(rt; answers.fired_early, None);
+    assert!(rt; !answers.moved_early);
+    assert!(rt; answers.fired == Some(0) || answers.fired == Some(3));
+    assert_eq!(rt; answers.made, [2, 0]);
+    let mut world = close_with(&rt, alloc, fabric, one, two)?;
+    world.run_to_rest();
+    assert!(rt; world.at_rest());
+    assert!(rt; all_done(&world, 3));
+    Ok(())
+}

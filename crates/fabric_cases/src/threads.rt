@@ -1,0 +1,100 @@
+//! Workers on threads.
+
+ghost use Rattle.std.specs.Prelude.{◌≡◌, ◌<◌};
+ghost use Rattle.turn_table.specs.Hands.{IsFree};
+
+use crate::gates::{Counting, Meeting};
+use crate::hands::{close_with, opened, run_and_close, two_hands};
+use crate::jobs::{FOUR_RANKS, TWO_RANKS, is_pair, job_of};
+use rank_threads::{Fabric, Gate, Hand};
+use std::sync::Wait;
+use std::test::*;
+use std::thread;
+use std::thread::Threads;
+use worlds::World;
+
+/// How many steps the ranks of a world made.
+fn steps(world: &World) -> u64 {
+    let mut steps = 0u64;
+    for rank in 0..world.schedule().shape().ranks() {
+        steps = steps.wrapping_add(world.history(rank).len() as u64);
+    }
+    steps
+}
+
+#[test]
+fn one_worker_makes_every_step(rt: HostRuntime) -> Result<(), Fail> {
+    let alloc = rt.alloc();
+    let job = job_of(&rt, alloc, FOUR_RANKS);
+    let gate = Counting::new();
+    let (fabric, hands) = opened(alloc, &job, 1, &gate)?;
+    let world = run_and_close(&rt, fabric, hands);
+    assert!(rt; world.at_rest());
+    assert_eq!(rt; gate.passes(), steps(&world));
+    Ok(())
+}
+
+#[test]
+fn four_workers_and_then_one(rt: HostRuntime) -> Result<(), Fail> {
+    let alloc = rt.alloc();
+    let job = job_of(&rt, alloc, FOUR_RANKS);
+    let gate = Counting::new();
+    let (fabric, hands) = opened(alloc, &job, 4, &gate)?;
+    let mut world = run_and_close(&rt, fabric, hands);
+    assert_eq!(rt; gate.passes(), steps(&world));
+    world.run_to_rest();
+    assert!(rt; world.at_rest());
+    Ok(())
+}
+
+// Each thread starts a rank.
+fn start_both<R: Threads + Wait + Sync, G: Gate + Drop>(
+    rt: &R,
+    fabric: &Fabric<G>,
+    one: Hand,
+    two: Hand,
+) -> (Hand, Hand)
+    requires hands { IsFree fabric.now.turns one × IsFree fabric.now.turns two }
+    requires ranks { 1 < fabric.now.job.shape.ranks }
+    ensures hands { IsFree fabric.now.turns result.0 × IsFree fabric.now.turns result.1 }
+    ensures parts { (result.0.knows.parts ≡ one.knows.parts) × (result.1.knows.parts ≡ two.knows.parts) }
+{
+    thread::join(
+        rt,
+        move ||
+            requires { IsFree fabric.now.turns one × (1 < fabric.now.job.shape.ranks) }
+            ensures { IsFree fabric.entry.now.turns result × (result.knows.parts ≡ one.knows.parts) }
+        { start(rt, fabric, one, 0) },
+        move ||
+            requires { IsFree fabric.now.turns two × (1 < fabric.now.job.shape.ranks) }
+            ensures { IsFree fabric.entry.now.turns result × (result.knows.parts ≡ two.knows.parts) }
+        { start(rt, fabric, two, 1) },
+    )
+}
+
+// Starts a rank.
+fn start<R: Wait, G: Gate + Drop>(rt: &R, fabric: &Fabric<G>, hand: Hand, rank: u32) -> Hand
+    requires hand { IsFree fabric.now.turns hand }
+    requires rank { rank < fabric.now.job.shape.ranks }
+    ensures hand { IsFree fabric.now.turns result }
+    ensures parts { result.knows.parts ≡ hand.knows.parts }
+{
+    let mut hand = hand;
+    fabric.start(rt, &mut hand, rank);
+    hand
+}
+
+#[test]
+fn two_interfaces_at_once(rt: HostRuntime) -> Result<(), Fail> {
+    let alloc = rt.alloc();
+    let job = job_of(&rt, alloc, TWO_RANKS);
+    assert!(rt; is_pair(&job));
+    let gate = Meeting::new();
+    let (fabric, hands) = opened(alloc, &job, 2, &gate)?;
+    let (one, two) = two_hands(&fabric, hands);
+    let (one, two) = start_both(&rt, &fabric, one, two);
+    let world = close_with(&rt, alloc, fabric, one, two)?;
+    assert!(rt; gate.met());
+    assert_eq!(rt; steps(&world), 2);
+    Ok(())
+}
