@@ -23,7 +23,7 @@ use Rattle.choice_machine.specs.Counted.{steps_made}
 use Rattle.choice_machine.proofs.Counting.{made_opened}
 use Rattle.choice_view.specs.Install.{Slots, answer_message, ask_header, ask_message, first_header, seat_of, view}
 use Rattle.choice_view.specs.Steps.{sent_message}
-use Rattle.choice_view.proofs.Installed.{installed}
+use Rattle.choice_view.proofs.Called.{installed}
 use Rattle.plan_cuts.specs.System.{Histories, System, state_at}
 use Rattle.choice_laws.specs.Decided.{choice_system}
 

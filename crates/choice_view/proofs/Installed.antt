@@ -21,7 +21,8 @@ use Rattle.choice_view.specs.Install.{Counter, Part, Slots, Work, awaits_of, awa
 use Rattle.choice_view.specs.Install.Counter.{Done, First, Go, Second}
 use Rattle.choice_view.specs.Install.Part.{Given, Old, Result}
 use Rattle.choice_view.specs.Install.Work.{Look, Send, Tell}
-use Rattle.choice_view.specs.Calls.{install, counters_all, entries_all, fresh, made_all, no_seat, operations_all, parts_all}
+use Rattle.choice_view.specs.Calls.{no_seat}
+use Rattle.choice_view.proofs.Folds.{counters_all, entries_all, fresh, made_all, made_in_order, operations_all, parts_all}
 
 -- ---- names whose stamps follow one another
 abbrev pub Runs : {X : Type 0} → (X → ℕ) → ℕ → List X → Type 0
@@ -296,8 +297,8 @@ module _ (k : Slots) (ranks : ℕ) (ks : List ChoiceKind) (r : ℕ) where
   entered_is = ap (λ s. if r == 0 then entries_all k (steps ks) s else s) made_is ∙ entries_are (r == 0)
 
   -- ---- the law
-  pub installed : install k ranks ks r ≡ view k ranks ks r (no_seat ks r)
-  installed =
+  pub made_so : made_in_order k ranks ks r ≡ view k ranks ks r (no_seat ks r)
+  made_so =
       ap (operations_all k ks (works ks)) entered_is
       ∙ after_operations k ks (works ks) (bare (entries_of k ks r) (if r == 0 then length ks else 0)) (all_works_run ks 0 (length ks))
       ∙ (λ d. record (bare (entries_of k ks r) (if r == 0 then length ks else 0)) {

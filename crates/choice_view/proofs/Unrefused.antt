@@ -28,7 +28,8 @@ use Rattle.choice_view.specs.Install.{Counter, Part, Slots, Work, before, counte
 use Rattle.choice_view.specs.Install.Counter.{Done, First, Go}
 use Rattle.choice_view.specs.Install.Part.{Given, Old, Result}
 use Rattle.choice_view.specs.Install.Work.{Look, Send, Tell}
-use Rattle.choice_view.specs.Calls.{counters_all, entered, entries_all, fresh, indexed, made_all, made_part, no_seat, operations_all, parts_all}
+use Rattle.choice_view.specs.Calls.{no_seat}
+use Rattle.choice_view.proofs.Folds.{counters_all, entered, entries_all, fresh, indexed, made_all, made_part, operations_all, parts_all}
 use Rattle.choice_view.specs.Install.{view}
 use Rattle.choice_view.proofs.Named.{flat-In, lookup_named}
 use Rattle.choice_view.proofs.Memory.{inside_step}
@@ -62,7 +63,7 @@ length-split : {X : Type 0} (front : List X) (x : X) (back : List X) → length 
 length-split [] x back = omega arith
 length-split (y ∷ front) x back = let q = length-split front x back in omega arith
 
-In-split : {X : Type 0} (front : List X) (x : X) (back : List X) → In x (front ++ x ∷ back)
+pub In-split : {X : Type 0} (front : List X) (x : X) (back : List X) → In x (front ++ x ∷ back)
 In-split [] x back = inl refl
 In-split (y ∷ front) x back = inr (In-split front x back)
 

@@ -4,66 +4,32 @@
 
 ghost use Rattle.std.specs.Prelude.{ℕ, List, Bool, true, false, None, Some, Ok, ◌≡◌, ◌<◌, ◌≤◌, ◌*◌, ◌-◌, ◌^◌, ◌++◌, ◌∷◌, [], length, flat_map};
 ghost use Rattle.ptl_types.specs.declared.calls.Outcome.TheVariants.{Matched, Answered};
-ghost use Rattle.ni_model.specs.Append.{append_fault};
-ghost use Rattle.ni_model.specs.Calls.{with_counter, ct_inc, ends};
+ghost use Rattle.ni_model.specs.Calls.{ct_inc, ends};
 ghost use Rattle.ni_model.specs.Counts.{successes};
-ghost use Rattle.ni_model.specs.Conditions.{MayStart};
 ghost use Rattle.ni_model.specs.Ready.{is_ready, fired, fires};
-ghost use Rattle.ni_model.specs.Refusals.{pt_alloc_fault, alloc_fault, bind_fault, triggered_fault};
-ghost use Rattle.ni_model.specs.State.{target, delivers, opened, side_of, parts_of as target_parts};
-ghost use Rattle.plan_core.specs.Members.{In};
-ghost use Rattle.plan_core.specs.Plan.{from_to};
+ghost use Rattle.ni_model.specs.State.{target, delivers};
 ghost use Rattle.plan_view.specs.View.{raise_go};
 ghost use Rattle.coll_lang.specs.declared.choices.ChoiceKind.{ChoiceKind};
 ghost use Rattle.choice_machine.specs.Choices.{choice_at};
 ghost use Rattle.coll_lang.specs.declared.choices.ChoiceKind.TheVariants.{Tickets};
 ghost use Rattle.choice_machine.specs.Lawful.{IsAnswer, is_plain};
 ghost use Rattle.choice_machine.specs.Machine.{Answer, advanced, answer, ask, at_home, served, word_after, is_ready as is_ready_phase};
-ghost use Rattle.choice_view.specs.Install.{Counter, Part, Seat, Slots, Work, answer_message, ask_message, counters_of, ct_of, deed_of, descriptor_of, limits_of, parts_of, step_bytes, steps, view, word_entry, work_counter, works};
+ghost use Rattle.choice_view.specs.Install.{Seat, Slots, answer_message, ask_message, ct_of, view};
 ghost use Rattle.choice_view.specs.Install.Counter.{Go};
-ghost use Rattle.choice_view.specs.Calls.{install, entered, entries_all, fresh, indexed, made_all, made_part, no_seat, operations_all};
+ghost use Rattle.choice_view.specs.Calls.{AllPass, blank, install, install_calls, no_seat};
 ghost use Rattle.choice_view.specs.Steps.{sent_message, with_phase, with_word};
 
-/// The closed form of an installed interface is the state after the calls that install it.
+/// The interface that the calls of an installation leave, in closed form.
 pub fn installation()
     ensures { (slots : Slots) (ranks : ℕ) (choices : List ChoiceKind) (r : ℕ) →
         install slots ranks choices r ≡ view slots ranks choices r (no_seat choices r) }
 {}
 
-/// None of the calls that install a choice text is refused: neither the first, nor any later one behind those before it.
+/// Each of the calls that install a choice text may be made where it stands, and none is refused.
 pub fn installation_is_accepted()
-    ensures index { (ranks : ℕ) (choices : List ChoiceKind) (r : ℕ) →
-        (let s = opened r ranks (limits_of choices) (flat_map (step_bytes choices r (no_seat choices r)) (steps choices)) in
-        pt_alloc_fault 0 None (side_of s) s.eqs ≡ None) }
-    ensures go { (ranks : ℕ) (choices : List ChoiceKind) (r : ℕ) →
-        3 * length choices < 2 ^ 32 - 1 → alloc_fault (indexed ranks choices r).cts ≡ None }
-    ensures done_counter { (slots : Slots) (ranks : ℕ) (choices : List ChoiceKind) (r : ℕ) →
-        3 * length choices < 2 ^ 32 - 1 →
-        alloc_fault (with_counter (slots.ct 0) (indexed ranks choices r)).cts ≡ None }
-    ensures counter { (slots : Slots) (ranks : ℕ) (choices : List ChoiceKind) (r t : ℕ)
-        (front : List Counter) (c : Counter) (back : List Counter) →
-        3 * length choices < 2 ^ 32 - 1 → t < length choices →
-        front ++ c ∷ back ≡ counters_of (choice_at choices t) t →
-        alloc_fault (made_part slots choices t front [] (fresh slots ranks choices r)).cts ≡ None }
-    ensures descriptor { (slots : Slots) (ranks : ℕ) (choices : List ChoiceKind) (r t : ℕ)
-        (front : List Part) (x : Part) (back : List Part) →
-        3 * length choices < 2 ^ 32 - 1 → t < length choices →
-        front ++ x ∷ back ≡ parts_of (choice_at choices t) t →
-        (let s = made_part slots choices t (counters_of (choice_at choices t) t) front (fresh slots ranks choices r) in
-        bind_fault (descriptor_of slots choices x) (length s.memory) s.cts s.eqs s.mds ≡ None) }
-    ensures entry { (slots : Slots) (ranks : ℕ) (choices : List ChoiceKind) (r t : ℕ) →
-        3 * length choices < 2 ^ 32 - 1 → t < length choices →
-        append_fault 0 (word_entry t) (target_parts (entries_all slots (from_to 0 t) (made_all slots choices (steps choices) (fresh slots ranks choices r)))) ≡
-        None }
-    ensures operation { (slots : Slots) (ranks : ℕ) (choices : List ChoiceKind) (r : ℕ)
-        (front : List Work) (w : Work) (back : List Work) →
-        3 * length choices < 2 ^ 32 - 1 → front ++ w ∷ back ≡ works choices →
-        (let s = operations_all slots choices front (entered slots ranks choices r) in
-        triggered_fault (deed_of slots choices w) (ct_of slots choices (work_counter choices w)) s.cts s.mds s.pending ≡
-        None) }
-    ensures may_start { (slots : Slots) (ranks : ℕ) (choices : List ChoiceKind) (w : Work) →
-        0 < ranks → 3 * length choices < 2 ^ 32 - 1 → In w (works choices) →
-        MayStart (deed_of slots choices w) ranks (limits_of choices) }
+    ensures { (slots : Slots) (ranks : ℕ) (choices : List ChoiceKind) (r : ℕ) →
+        0 < ranks → 3 * length choices < 2 ^ 32 - 1 →
+        AllPass slots choices (install_calls choices r) (blank ranks choices r) }
 {}
 
 /// A start raises the go counter, and the host's increment of it is accepted.
