@@ -41,5 +41,6 @@ pub record HasLane (lanes : List Bounds) (s d : ℕ) (lane : Lane) : Type 0 wher
 -- these are the lanes of the plan that messages go on, each once
 pub record AreLanes (p : Plan) (lanes : List Bounds) : Type 0 where
   pub each : Each (IsLane p) lanes
-  pub once : (i k : ℕ) (b c : Bounds) → get_elem? lanes i ≡ some b → get_elem? lanes k ≡ some c → b.source ≡ c.source → b.target ≡ c.target → b.lane ≡ c.lane → i ≡ k
+  pub once : (i k : ℕ) (b c : Bounds) → get_elem? lanes i ≡ some b → get_elem? lanes k ≡ some c
+      → b.source ≡ c.source → b.target ≡ c.target → b.lane ≡ c.lane → i ≡ k
   pub all : (s d : ℕ) (lane : Lane) → is_used_lane p s d lane ≡ true → HasLane lanes s d lane

@@ -72,7 +72,8 @@ pub record MissedAt (at : ℕ) (old new : Slot) : Type 0 where
   pub outs : new.outs.items ≡ old.outs.items
   pub many : length new.ins.items ≡ length old.ins.items
   pub others : (j : ℕ) → j ≢ at → get_elem? new.ins.items j ≡ get_elem? old.ins.items j
-  pub here : (p q : InPort) → get_elem? old.ins.items at ≡ some p → get_elem? new.ins.items at ≡ some q → Missed old.node.value old.outs.items p q
+  pub here : (p q : InPort) → get_elem? old.ins.items at ≡ some p → get_elem? new.ins.items at ≡ some q
+      → Missed old.node.value old.outs.items p q
 
 -- the slot passed over all its in ends
 pub record MissedAll (old new : Slot) : Type 0 where

@@ -61,10 +61,12 @@ pub record Regated (old new : NodeState) : Type 0 where
 
 -- two out ends of one lane are one
 abbrev pub OutsDiffer : List OutPort → Type 0
-OutsDiffer outs = (i j : ℕ) (p q : OutPort) → get_elem? outs i ≡ some p → get_elem? outs j ≡ some q → p.target ≡ q.target → p.lane ≡ q.lane → i ≡ j
+OutsDiffer outs =
+    (i j : ℕ) (p q : OutPort) → get_elem? outs i ≡ some p → get_elem? outs j ≡ some q → p.target ≡ q.target → p.lane ≡ q.lane → i ≡ j
 
 abbrev pub InsDiffer : List InPort → Type 0
-InsDiffer ins = (i j : ℕ) (p q : InPort) → get_elem? ins i ≡ some p → get_elem? ins j ≡ some q → p.source ≡ q.source → p.lane ≡ q.lane → i ≡ j
+InsDiffer ins =
+    (i j : ℕ) (p q : InPort) → get_elem? ins i ≡ some p → get_elem? ins j ≡ some q → p.source ≡ q.source → p.lane ≡ q.lane → i ≡ j
 
 -- nothing waits at the end of this lane
 abbrev pub IsOpen : ℕ → Lane → List OutPort → Type 0

@@ -16,7 +16,9 @@ use Rattle.rank_threads.specs.Steps.{IsIdle}
 
 -- the history begins with each that the hand saw at rank r
 abbrev pub BeginsSeen : HandView Slot → ℕ → List Local → Type 0
-BeginsSeen v r h = (s : SlotView Slot) (i : ℕ) (t : EndedTurn Slot) → get_elem? v.slots r ≡ some s → get_elem? s.seen i ≡ some t → IsPrefix (history t.given) h
+BeginsSeen v r h =
+    (s : SlotView Slot) (i : ℕ) (t : EndedTurn Slot) → get_elem? v.slots r ≡ some s → get_elem? s.seen i ≡ some t
+    → IsPrefix (history t.given) h
 
 -- from the view v to the view w the hand had one turn, at rank r, and took a and gave b; busy tries aside, nothing else changed
 pub record Turned (v w : HandView Slot) (r : ℕ) (a b : Mark) : Type 0 where

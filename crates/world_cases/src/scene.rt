@@ -47,22 +47,27 @@ pub fn windowed(alloc: Global, text: &[u8], window: u32) -> Option<World> {
 // Each of the next functions is one call of a world, without what its contract says of the whole world: so the functions behind
 // them have nothing of it to prove.
 
+/// How many links the plan of a job has.
 pub fn links(job: &Job) -> usize {
     job.schedule().plan().links().len()
 }
 
+/// How many ranks a world has.
 pub fn ranks(world: &World) -> u32 {
     world.schedule().shape().ranks()
 }
 
+/// How many buffers its description has, the inputs among them.
 pub fn buffers(world: &World) -> usize {
     world.schedule().shape().buffers().len()
 }
 
+/// How many steps are possible.
 pub fn enabled(world: &World) -> u64 {
     world.enabled()
 }
 
+/// The possible step of this number, from 0. `None`: there are not so many.
 pub fn nth_step(world: &World, i: u64) -> Option<Step> {
     if i < world.enabled() {
         Some(world.enabled_step(i))
@@ -71,10 +76,12 @@ pub fn nth_step(world: &World, i: u64) -> Option<Step> {
     }
 }
 
+/// Whether a step is possible.
 pub fn is_enabled(world: &World, step: Step) -> bool {
     world.is_enabled(step)
 }
 
+/// Makes a step, if it is possible, and answers whether it was.
 pub fn make_step(world: &mut World, step: Step) -> bool {
     if world.is_enabled(step) {
         world.step(step);
@@ -84,14 +91,17 @@ pub fn make_step(world: &mut World, step: Step) -> bool {
     }
 }
 
+/// Whether no step is possible.
 pub fn at_rest(world: &World) -> bool {
     world.at_rest()
 }
 
+/// Makes steps until none is possible.
 pub fn run(world: &mut World) {
     world.run_to_rest();
 }
 
+/// The bytes of a buffer's list at a rank. `None`: there is no such buffer or rank.
 pub fn bytes_at(world: &World, buffer: u32, r: Rank) -> Option<&[u8]> {
     let shape = world.schedule().shape();
     if (buffer as usize) < shape.buffers().len() && r < shape.ranks() {
@@ -101,6 +111,7 @@ pub fn bytes_at(world: &World, buffer: u32, r: Rank) -> Option<&[u8]> {
     }
 }
 
+/// The interface of a rank. `None`: there is no such rank.
 pub fn nic_at(world: &World, r: Rank) -> Option<&Nic> {
     if r < world.schedule().shape().ranks() {
         Some(world.nic(r))
@@ -109,6 +120,7 @@ pub fn nic_at(world: &World, r: Rank) -> Option<&Nic> {
     }
 }
 
+/// The local steps that a rank made. `None`: there is no such rank.
 pub fn history_at(world: &World, r: Rank) -> Option<&[LocalStep]> {
     if r < world.schedule().shape().ranks() {
         Some(world.history(r))
@@ -117,6 +129,7 @@ pub fn history_at(world: &World, r: Rank) -> Option<&[LocalStep]> {
     }
 }
 
+/// Where the done counter of a rank stands. `None`: there is no such rank.
 pub fn done_at(world: &World, r: Rank) -> Option<Count> {
     if r < world.schedule().shape().ranks() {
         Some(world.done(r))
@@ -125,6 +138,7 @@ pub fn done_at(world: &World, r: Rank) -> Option<Count> {
     }
 }
 
+/// Where the done counter of a rank stands when it is done. `None`: there is no such rank.
 pub fn threshold_at(world: &World, r: Rank) -> Option<u64> {
     let schedule = world.schedule();
     if r < schedule.shape().ranks() {
@@ -146,6 +160,7 @@ pub fn first_header_at(world: &World, r: Rank) -> Option<u64> {
     Some(header.delivered)
 }
 
+/// The bytes of a rank's region. `None`: there is no such rank.
 pub fn memory_at(world: &World, r: Rank) -> Option<&[u8]> {
     let nic = nic_at(world, r)?;
     Some(nic.memory())
