@@ -78,7 +78,8 @@ answer_target : (ok : Bool) (n : ℕ) (bs : List ℕ) (h : Header) (m : Sent) �
 answer_target ok n bs h m e = at (is_put_or_atomic h.kind) (is_no_ack h.ack) e
   where
     at : (a b : Bool)
-        → (if a then (if b then None else Some (message (ack_header ok n h) [])) else Some (message (reply_header ok n h) (if ok then bs else [])))
+        → (if a then (if b then None else Some (message (ack_header ok n h) []))
+        else Some (message (reply_header ok n h) (if ok then bs else [])))
         ≡ Some m → m.header.target ≡ h.source
     at true true e = cc
     at true false e = sym (ap (λ (x : Sent). x.header.target) (some_one e))

@@ -63,7 +63,8 @@ order_solid : (ranks r : ℕ) (es : List LocalStep) → ranks ≤ 2 ^ 32 → r <
 order_solid ranks r es fits lt h = (refl, (number_solid r (omega (arith, lt, fits)), steps_solid ranks es fits h))
 
 -- the words of an order's line
-words_back : (ranks r : ℕ) (es : List LocalStep) → ranks ≤ 2 ^ 32 → r < ranks → AreNamed ranks es → order_of ranks r (order_words r es) ≡ Some es
+words_back : (ranks r : ℕ) (es : List LocalStep) → ranks ≤ 2 ^ 32 → r < ranks → AreNamed ranks es
+    → order_of ranks r (order_words r es) ≡ Some es
 unfolding order_of
 words_back ranks r es fits lt h =
     ap (λ (o : Option ℕ). cond (is_some o) (steps_of ranks (map step_word es)) None)

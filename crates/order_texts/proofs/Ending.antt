@@ -85,7 +85,8 @@ later_ends past next l h t =
     sym (join_with_byte-slice_split 32 l)
     ∙ ap (join_with_byte 32) ((form_said (words l) f.0 f.1).spelled ∙ ap form_words (form_ends past next f.0 m.1 t))
 
-line_ends : (stage : Stage) (past next : Past) (l : List ℕ) → line_at stage past l ≡ Ok next → is_finished next.stage ≡ true → l ≡ codes "end"
+line_ends : (stage : Stage) (past next : Past) (l : List ℕ) → line_at stage past l ≡ Ok next → is_finished next.stage ≡ true
+    → l ≡ codes "end"
 unfolding line_at values_line
 line_ends Header past next l h t =
     let v = some_of BadHeader (version_of l) _ next h in
@@ -187,7 +188,8 @@ nothing_behind past final k (b ∷ piece) [] done h = let e = rw (done, not_empt
 no_break : (b : ℕ) → is_allowed b ≡ true → b == 10 ≡ false
 no_break b h = grind (arith, nat_tests, h)
 
-front : (past final : Past) (k : ℕ) (pieces : List (List ℕ)) (rest : List ℕ) → is_finished past.stage ≡ false → read_from past k pieces ≡ Ok final
+front : (past final : Past) (k : ℕ) (pieces : List (List ℕ)) (rest : List ℕ) → is_finished past.stage ≡ false
+    → read_from past k pieces ≡ Ok final
     → description_bytes (lines (join_with_byte 10 pieces ++ rest)) ≡ length (join_with_byte 10 pieces)
 unfolding read_from
 front past final k [] rest going h = cc

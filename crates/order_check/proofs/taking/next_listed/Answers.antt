@@ -18,4 +18,5 @@ returns-then-place-steps c =
     let p = c.if-place-steps.true in
     omega (arith, h, p, made) in
     subst (λ l. IsNext lists w c.args.r (get_or l (length c.history-place.result.now) Start)) (sym steps)
-    (subst (λ n. IsNext lists w c.args.r (get_or (lists c.args.r) n Start)) (sym made) (next_at lists w c.args.r Start c.requires.listed short))
+    (subst (λ n. IsNext lists w c.args.r (get_or (lists c.args.r) n Start)) (sym made)
+    (next_at lists w c.args.r Start c.requires.listed short))

@@ -29,5 +29,5 @@ loop-line-preserved c =
     let cut : lines c.loop-line.rest.now ≡ c.cut.result.0.now ∷ lines c.in_default-Some.behind.now =
     rw c.in_default-Some.is-1 at c.cut.ensures.parts in
     rw c.in_default-Some.is-1
-    (goes_on c.args.bytes.now c.loop-line.rest.now c.cut.result.0.now c.in_default-Some.behind.now c.loop-line.number c.loop-line.invariant cut
-    (sym c.is.ensures.told ∙ c.if-is.false))
+    (goes_on c.args.bytes.now c.loop-line.rest.now c.cut.result.0.now c.in_default-Some.behind.now c.loop-line.number c.loop-line.invariant
+    cut (sym c.is.ensures.told ∙ c.if-is.false))
