@@ -3,4 +3,5 @@ pub mod Orders
 pub mod Plans
 pub mod Putting
 pub mod Refused
+pub mod Summary
 pub mod Worded

@@ -7,6 +7,7 @@ mod pieces;
 mod plans;
 mod refused;
 mod results;
+mod summary;
 #[cfg(test)]
 mod tests;
 mod words;
@@ -17,3 +18,4 @@ pub use pieces::{PIECE, Pieces, write_short};
 pub use plans::{PlanLine, PlanTables, plan_line, write_plan};
 pub use refused::refusal_line;
 pub use results::{ResultLists, put_result, write_result};
+pub use summary::{sum_line, summary_head, write_summary};
