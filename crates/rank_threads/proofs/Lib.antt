@@ -11,6 +11,7 @@ pub mod Rows
 pub mod Idles
 pub mod Singles
 pub mod Turns
+pub mod Onwards
 pub mod Parts
 pub mod Slotwise
 pub mod UsedLanes

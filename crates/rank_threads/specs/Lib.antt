@@ -4,6 +4,7 @@ pub mod Lanes
 pub mod Ports
 pub mod Slots
 pub mod Names
+pub mod Onward
 pub mod Sound
 pub mod Missing
 pub mod Steps

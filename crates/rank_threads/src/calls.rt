@@ -21,8 +21,8 @@ use std::sync::Wait;
 use turn_table::Turn;
 
 impl<G: Gate + Drop> Fabric<G> {
-    // Takes the turn of a rank.
-    fn take<R: Wait>(&self, rt: &R, hand: &mut Hand, rank: Rank) -> Turn<Slot>
+    /// Takes the turn of a rank.
+    pub(crate) fn take<R: Wait>(&self, rt: &R, hand: &mut Hand, rank: Rank) -> Turn<Slot>
         requires hand { IsFree self.now.turns hand.old }
         requires rank { rank < self.now.job.shape.ranks }
         ensures slot { result.slot ≡ rank }
@@ -40,8 +40,8 @@ impl<G: Gate + Drop> Fabric<G> {
         turn
     }
 
-    // Gives a turn back.
-    fn give(&self, hand: &mut Hand, turn: Turn<Slot>)
+    /// Gives a turn back.
+    pub(crate) fn give(&self, hand: &mut Hand, turn: Turn<Slot>)
         requires hand { IsHandOf self.now.turns hand.old }
         requires sound { IsSound turn.value.job }
         requires taken { MayEnd turn.slot turn.value hand.old.knows }
@@ -69,7 +69,7 @@ impl<G: Gate + Drop> Fabric<G> {
     {
         let Turn { slot, value } = self.take(rt, hand, rank);
         let mut value = value;
-        let made = value.step(rt, &self.wires, &self.gate);
+        let made = value.step(rt, &self.wires, &self.mail, &self.gate);
         self.give(hand, Turn { slot, value });
         made
     }
@@ -99,7 +99,7 @@ impl<G: Gate + Drop> Fabric<G> {
     {
         let Turn { slot, value } = self.take(rt, hand, rank);
         let mut value = value;
-        let number = value.fire_one(rt, &self.wires, &self.gate);
+        let number = value.fire_one(rt, &self.wires, &self.mail, &self.gate);
         self.give(hand, Turn { slot, value });
         number
     }
@@ -123,7 +123,7 @@ impl<G: Gate + Drop> Fabric<G> {
     {
         let Turn { slot, value } = self.take(rt, hand, target);
         let mut value = value;
-        let moved = value.deliver(rt, &self.wires, &self.gate, source, lane);
+        let moved = value.deliver(rt, &self.wires, &self.mail, &self.gate, source, lane);
         self.give(hand, Turn { slot, value });
         moved
     }

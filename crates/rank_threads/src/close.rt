@@ -112,6 +112,7 @@ impl<G: Gate + Drop> Fabric<G> {
         let Fabric {
             turns,
             wires,
+            mail: _mail,
             gate: _gate,
             job: _job,
             ranks: _ranks,

@@ -1,6 +1,7 @@
 //! A fabric: all ranks of a job in a table of turns, and the wires between them.
 
 use crate::gate::Gate;
+use crate::mail::Mail;
 use crate::slot::Slot;
 use pair_wires::Wire;
 use rank_node::Node;
@@ -19,6 +20,8 @@ pub type Hand = TurnHand<Slot>;
 pub struct Fabric<G: Gate + Drop> {
     pub(crate) turns: Turns<Slot>,
     pub(crate) wires: Vec<Wire>,
+    // Where messages are likely to lie.
+    pub(crate) mail: Mail,
     pub(crate) gate: G,
     pub(crate) job: Job,
     pub(crate) ranks: u32,

@@ -4,8 +4,11 @@
 mod calls;
 mod close;
 mod fabric;
+mod follow;
 mod gate;
+mod hints;
 mod lanes;
+mod mail;
 mod moves;
 mod once;
 mod open;

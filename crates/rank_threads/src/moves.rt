@@ -21,6 +21,7 @@ impl Slot {
         ensures ins { self.new.ins ≡ self.old.ins }
         ensures outs { IfOk result (λ _. self.new.outs.items ≡ self.old.outs.items ++ port ∷ []) }
     {
+        self.hints.outs.set(port.target, port.lane, self.outs.len());
         match self.outs.push(port) {
             Ok(()) => Ok(()),
             Err(_) => Err(NoMemory),
@@ -35,6 +36,7 @@ impl Slot {
         ensures outs { self.new.outs ≡ self.old.outs }
         ensures ins { IfOk result (λ _. self.new.ins.items ≡ self.old.ins.items ++ port ∷ []) }
     {
+        self.hints.ins.set(port.source, port.lane, self.ins.len());
         match self.ins.push(port) {
             Ok(()) => Ok(()),
             Err(_) => Err(NoMemory),

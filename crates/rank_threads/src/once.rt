@@ -7,12 +7,14 @@ ghost use Rattle.ptl_types.specs.Messages.{Sent};
 ghost use Rattle.ni_model.specs.Ready.{is_ready};
 ghost use Rattle.plan_cuts.specs.History.Local.{Receive as Receives, Fire as Fires};
 ghost use Rattle.rank_threads.specs.declared.ports.InPort.{InPort};
+ghost use Rattle.rank_threads.specs.Lists.{Each};
 ghost use Rattle.rank_threads.specs.Names.{IsWired, mark, plate};
 ghost use Rattle.rank_threads.specs.Sound.{IsSound};
 ghost use Rattle.rank_threads.specs.Missing.{AreShut, HasFlushed, PassedAt};
 ghost use Rattle.rank_threads.specs.Steps.{Begun, Grew};
 
 use crate::gate::{Gate, StartAnswer};
+use crate::mail::Mail;
 use crate::posts::find_in;
 use crate::slot::Slot;
 use pair_wires::Wire;
@@ -39,6 +41,7 @@ impl Slot {
         &mut self,
         rt: &R,
         wires: &[Wire],
+        mail: &Mail,
         gate: &G,
     ) -> Option<u32>
         requires sound { IsSound self.old.job }
@@ -47,8 +50,16 @@ impl Slot {
         ensures none { IfNone result (HasFlushed self.old self.new × AreShut self.new.node.value) }
         ensures name { plate self.new ≡ plate self.old }
     {
-        self.flush(rt, wires);
-        self.fire_any(rt, wires, gate)
+        self.flush(rt, wires, mail);
+        self.fire_any(rt, wires, mail, gate)
+    }
+
+    /// The place of the in end of a lane. `None` exactly where the rank has none.
+    fn in_of(&self, source: Rank, lane: Lane) -> Option<usize>
+        ensures some { IfSome result (λ i. (p : InPort) × (get_elem? self.now.ins.items i ≡ some p) × (p.source ≡ source) × (p.lane ≡ lane)) }
+        ensures none { IfNone result (Each (λ (p : InPort). p.source ≡ source → p.lane ≡ lane → ⊥) self.now.ins.items) }
+    {
+        find_in(&self.ins, &self.hints.ins, source, lane)
     }
 
     /// Receives the oldest message of a lane to the rank. What waits is tried again before.
@@ -56,6 +67,7 @@ impl Slot {
         &mut self,
         rt: &R,
         wires: &[Wire],
+        mail: &Mail,
         gate: &G,
         source: Rank,
         lane: Lane,
@@ -67,10 +79,10 @@ impl Slot {
         ensures none { IsFalse result → PassedAt source lane self.old self.new }
         ensures name { plate self.new ≡ plate self.old }
     {
-        let free = self.flush(rt, wires);
-        let Some(at) = find_in(&self.ins, source, lane) else {
+        let free = self.flush(rt, wires, mail);
+        let Some(at) = self.in_of(source, lane) else {
             unreachable!()
         };
-        self.pull(rt, wires, gate, at, free)
+        self.pull(rt, wires, mail, gate, at, free)
     }
 }

@@ -11,7 +11,9 @@ ghost use Rattle.rank_threads.specs.Sound.{IsSound};
 
 use crate::fabric::{Fabric, Hand};
 use crate::gate::Gate;
+use crate::hints::Hints;
 use crate::lanes::{sound, used_lanes};
+use crate::mail::Mail;
 use crate::moves::{put_in, put_out};
 use crate::ports::{InPort, OutPort};
 use crate::slot::Slot;
@@ -34,11 +36,13 @@ fn bare_slot(alloc: Global, job: &Job, rank: Rank) -> Result<Slot, NoMemory>
 {
     let shared = job.share()?;
     let node = Box::new(alloc, install(alloc, job, rank, 0)?)?;
+    let hints = Box::new(alloc, Hints::open(alloc, job.schedule().shape().ranks())?)?;
     Ok(Slot {
         job: shared,
         node,
         outs: Vec::new(alloc),
         ins: Vec::new(alloc),
+        hints,
     })
 }
 
@@ -145,9 +149,11 @@ impl<G: Gate + Drop> Fabric<G> {
         let wires = lay_wires(alloc, job, &lanes, &mut slots)?;
         let room = Vec::with_capacity(alloc, ranks as usize)?;
         let (turns, hands) = Turns::open(alloc, slots, hands)?;
+        let mail = Mail::open(alloc, ranks)?;
         let fabric = Fabric {
             turns,
             wires,
+            mail,
             gate,
             job: shared,
             ranks,

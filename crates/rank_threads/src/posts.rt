@@ -11,14 +11,16 @@ ghost use Rattle.rank_threads.specs.Lists.{Each, Pairwise};
 ghost use Rattle.rank_threads.specs.Joints.{Fits, in_joint, out_joint};
 ghost use Rattle.rank_threads.specs.Ports.{AreEnds, Flushed, MayPost, Posted, Regated, SameIn, SameOut, gate_after};
 
+use crate::hints::Places;
+use crate::mail::Mail;
 use crate::ports::{InPort, OutPort};
 use pair_wires::Wire;
 use ptl_types::{Lane, Message, Rank};
 use rank_node::Node;
 use std::sync::Wait;
 
-/// The place of the out end of a lane. `None` exactly where the rank has none.
-pub(crate) fn find_out(outs: &[OutPort], target: Rank, lane: Lane) -> Option<usize>
+// The place of the out end of a lane, looked for among all.
+fn search_outs(outs: &[OutPort], target: Rank, lane: Lane) -> Option<usize>
     ensures some { IfSome result (λ i. (p : OutPort) × (get_elem? outs.now i ≡ some p) × (p.target ≡ target) × (p.lane ≡ lane)) }
     ensures none { IfNone result (Each (λ (p : OutPort). p.target ≡ target → p.lane ≡ lane → ⊥) outs.now) }
 {
@@ -30,8 +32,8 @@ pub(crate) fn find_out(outs: &[OutPort], target: Rank, lane: Lane) -> Option<usi
     None
 }
 
-/// The place of the in end of a lane. `None` exactly where the rank has none.
-pub(crate) fn find_in(ins: &[InPort], source: Rank, lane: Lane) -> Option<usize>
+// The place of the in end of a lane, looked for among all.
+fn search_ins(ins: &[InPort], source: Rank, lane: Lane) -> Option<usize>
     ensures some { IfSome result (λ i. (p : InPort) × (get_elem? ins.now i ≡ some p) × (p.source ≡ source) × (p.lane ≡ lane)) }
     ensures none { IfNone result (Each (λ (p : InPort). p.source ≡ source → p.lane ≡ lane → ⊥) ins.now) }
 {
@@ -41,6 +43,36 @@ pub(crate) fn find_in(ins: &[InPort], source: Rank, lane: Lane) -> Option<usize>
         }
     }
     None
+}
+
+/// The place of the out end of a lane. `None` exactly where the rank has none. It is looked for where it is likely to stand first.
+pub(crate) fn find_out(outs: &[OutPort], places: &Places, target: Rank, lane: Lane) -> Option<usize>
+    ensures some { IfSome result (λ i. (p : OutPort) × (get_elem? outs.now i ≡ some p) × (p.target ≡ target) × (p.lane ≡ lane)) }
+    ensures none { IfNone result (Each (λ (p : OutPort). p.target ≡ target → p.lane ≡ lane → ⊥) outs.now) }
+{
+    let likely = places.of(target, lane);
+    if likely < outs.len() {
+        let port = &outs[likely];
+        if port.is_to(target, lane) {
+            return Some(likely);
+        }
+    }
+    search_outs(outs, target, lane)
+}
+
+/// The place of the in end of a lane. `None` exactly where the rank has none. It is looked for where it is likely to stand first.
+pub(crate) fn find_in(ins: &[InPort], places: &Places, source: Rank, lane: Lane) -> Option<usize>
+    ensures some { IfSome result (λ i. (p : InPort) × (get_elem? ins.now i ≡ some p) × (p.source ≡ source) × (p.lane ≡ lane)) }
+    ensures none { IfNone result (Each (λ (p : InPort). p.source ≡ source → p.lane ≡ lane → ⊥) ins.now) }
+{
+    let likely = places.of(source, lane);
+    if likely < ins.len() {
+        let port = &ins[likely];
+        if port.is_from(source, lane) {
+            return Some(likely);
+        }
+    }
+    search_ins(ins, source, lane)
 }
 
 /// Sends a message by an end. It may have to wait there for room.
@@ -73,14 +105,20 @@ pub(crate) fn pop_at<R: Wait>(rt: &R, wires: &[Wire], port: &mut InPort) -> Opti
     wires[port.wire as usize].pop(rt, &mut port.end)
 }
 
-/// Notes at the node whether a message waits at this end for room on a request lane.
-fn note_gate(node: &mut Node, port: &OutPort)
+/// Notes at the node whether a message waits at this end for room on a request lane, and answers whether one waits at it. The rank that
+/// the lane leads to is told.
+fn note_post(mail: &Mail, node: &mut Node, port: &OutPort) -> bool
     requires { port.now.target < length node.old.closed }
     ensures { node.new ≡ record node.old { closed = gate_after port.now.lane port.now.target port.now.end.waits node.old.closed } }
 {
+    mail.note(node.nic().rank(), port.target, port.lane);
+    let waits = port.end.waits();
     match port.lane {
-        Lane::Request => node.set_closed(port.target, port.end.waits()),
-        Lane::Answer => {}
+        Lane::Request => {
+            node.set_closed(port.target, waits);
+            waits
+        }
+        Lane::Answer => waits,
     }
 }
 
@@ -88,6 +126,7 @@ fn note_gate(node: &mut Node, port: &OutPort)
 fn flush_one<R: Wait>(
     rt: &R,
     wires: &[Wire],
+    mail: &Mail,
     node: &mut Node,
     outs: &mut Vec<OutPort>,
     at: usize,
@@ -102,7 +141,7 @@ fn flush_one<R: Wait>(
         return true;
     }
     let free = flush_at(rt, wires, &mut outs[at]);
-    note_gate(node, &outs[at]);
+    note_post(mail, node, &outs[at]);
     free
 }
 
@@ -110,6 +149,7 @@ fn flush_one<R: Wait>(
 pub(crate) fn flush_all<R: Wait>(
     rt: &R,
     wires: &[Wire],
+    mail: &Mail,
     node: &mut Node,
     outs: &mut Vec<OutPort>,
 ) -> bool
@@ -122,14 +162,22 @@ pub(crate) fn flush_all<R: Wait>(
     let mut free = true;
     let count = outs.len();
     for at in 0..count {
-        free &= flush_one(rt, wires, node, outs, at);
+        free &= flush_one(rt, wires, mail, node, outs, at);
     }
     free
 }
 
 /// Sends a message by the end of its lane, where it may have to wait. Where the rank has no such lane there is nothing to send it on,
-/// and it is let go: no message of the job asks for that, but what other ranks sent isn't known here.
-fn post<R: Wait>(rt: &R, wires: &[Wire], node: &mut Node, outs: &mut Vec<OutPort>, message: Message)
+/// and it is let go: no message of the job asks for that, but what other ranks sent isn't known here. It answers whether it waits.
+fn post<R: Wait>(
+    rt: &R,
+    wires: &[Wire],
+    mail: &Mail,
+    places: &Places,
+    node: &mut Node,
+    outs: &mut Vec<OutPort>,
+    message: Message,
+) -> bool
     requires ends { AreEnds wires.now node.old.closed outs.old.items }
     requires may { Each (MayPost (Some message)) outs.old.items }
     ensures node { Regated node.old node.new }
@@ -138,20 +186,24 @@ fn post<R: Wait>(rt: &R, wires: &[Wire], node: &mut Node, outs: &mut Vec<OutPort
 {
     let target = message.header().target;
     let lane = message.header().kind.lane();
-    if let Some(at) = find_out(outs, target, lane) {
+    if let Some(at) = find_out(outs, places, target, lane) {
         send_at(rt, wires, &mut outs[at], message);
-        note_gate(node, &outs[at]);
+        note_post(mail, node, &outs[at])
+    } else {
+        false
     }
 }
 
-/// Sends a message, if there is one, by the end of its lane.
+/// Sends a message, if there is one, by the end of its lane, and answers whether it waits.
 pub(crate) fn pass_on<R: Wait>(
     rt: &R,
     wires: &[Wire],
+    mail: &Mail,
+    places: &Places,
     node: &mut Node,
     outs: &mut Vec<OutPort>,
     made: Option<Message>,
-)
+) -> bool
     requires ends { AreEnds wires.now node.old.closed outs.old.items }
     requires may { Each (MayPost made) outs.old.items }
     ensures node { Regated node.old node.new }
@@ -159,6 +211,8 @@ pub(crate) fn pass_on<R: Wait>(
     ensures posted { Pairwise (Posted made) outs.old.items outs.new.items }
 {
     if let Some(message) = made {
-        post(rt, wires, node, outs, message);
+        post(rt, wires, mail, places, node, outs, message)
+    } else {
+        false
     }
 }

@@ -20,6 +20,7 @@ ghost use Rattle.rank_threads.specs.Steps.{Grew, Made};
 ghost use Rattle.rank_threads.specs.Sound.{IsSound};
 
 use crate::gate::Gate;
+use crate::mail::Mail;
 use crate::posts::{find_out, flush_all, pass_on, pop_at};
 use crate::slot::Slot;
 use pair_wires::Wire;
@@ -40,18 +41,20 @@ impl Slot {
     }
 
     /// Tries what waits at the out ends again, and answers whether nothing waits now.
-    pub(crate) fn flush<R: Wait>(&mut self, rt: &R, wires: &[Wire]) -> bool
+    pub(crate) fn flush<R: Wait>(&mut self, rt: &R, wires: &[Wire], mail: &Mail) -> bool
         requires wired { IsWired wires.now (plate self.old) }
         ensures flushed { HasFlushed self.old self.new }
         ensures free { IsTrue result → Each (λ (p : OutPort). p.end.waits ≡ false) self.new.outs.items }
         ensures name { plate self.new ≡ plate self.old }
     {
         let _ = self.node.history();
-        flush_all(rt, wires, &mut self.node, &mut self.outs)
+        let free = flush_all(rt, wires, mail, &mut self.node, &mut self.outs);
+        self.hints.note_flushed(free);
+        free
     }
 
     /// Fires an operation, whose message, if it has one, finds room.
-    fn fire<R: Wait>(&mut self, rt: &R, wires: &[Wire], number: u32)
+    fn fire<R: Wait>(&mut self, rt: &R, wires: &[Wire], mail: &Mail, number: u32)
         requires sound { IsSound self.old.job }
         requires wired { IsWired wires.now (plate self.old) }
         requires ready { is_ready self.old.node.value.nic number ≡ true }
@@ -62,7 +65,16 @@ impl Slot {
         let _ = self.node.history();
         let made = self.node.fire(number);
         let _ = self.node.history();
-        pass_on(rt, wires, &mut self.node, &mut self.outs, made);
+        let waits = pass_on(
+            rt,
+            wires,
+            mail,
+            &self.hints.outs,
+            &mut self.node,
+            &mut self.outs,
+            made,
+        );
+        self.hints.note_waiting(waits);
     }
 
     /// Whether a message waits at the out end of answers to a rank.
@@ -70,7 +82,7 @@ impl Slot {
         ensures shut { IsTrue result → IsShut d Answers self.now.outs.items }
         ensures open { IsFalse result → IsOpen d Answers self.now.outs.items }
     {
-        match find_out(&self.outs, d, Lane::Answer) {
+        match find_out(&self.outs, &self.hints.outs, d, Lane::Answer) {
             Some(at) => self.outs[at].end.waits(),
             None => false,
         }
@@ -78,7 +90,7 @@ impl Slot {
 
     /// Whether a message may be taken from the in end of this place: on a lane of answers where one is awaited, on a lane of requests
     /// where an answer would find room.
-    fn may_take(&self, at: usize, free: bool) -> bool
+    pub(crate) fn may_take(&self, at: usize, free: bool) -> bool
         requires at { at < length self.now.ins.items }
         requires free { IsTrue free → Each (λ (p : OutPort). p.end.waits ≡ false) self.now.outs.items }
         ensures due { IsTrue result → IsDueAt at self.now }
@@ -98,7 +110,14 @@ impl Slot {
     }
 
     /// Receives the oldest message of an in end.
-    fn receive<R: Wait, G: Gate>(&mut self, rt: &R, wires: &[Wire], gate: &G, at: usize) -> bool
+    pub(crate) fn receive<R: Wait, G: Gate>(
+        &mut self,
+        rt: &R,
+        wires: &[Wire],
+        mail: &Mail,
+        gate: &G,
+        at: usize,
+    ) -> bool
         requires sound { IsSound self.old.job }
         requires wired { IsWired wires.now (plate self.old) }
         requires at { at < length self.old.ins.items }
@@ -119,7 +138,16 @@ impl Slot {
         gate.pass(rank, LocalStep::Receive { source, lane });
         let answer = self.node.receive(source, lane, message);
         let _ = self.node.history();
-        pass_on(rt, wires, &mut self.node, &mut self.outs, answer);
+        let waits = pass_on(
+            rt,
+            wires,
+            mail,
+            &self.hints.outs,
+            &mut self.node,
+            &mut self.outs,
+            answer,
+        );
+        self.hints.note_waiting(waits);
         true
     }
 
@@ -128,6 +156,7 @@ impl Slot {
         &mut self,
         rt: &R,
         wires: &[Wire],
+        mail: &Mail,
         gate: &G,
         at: usize,
         free: bool,
@@ -143,7 +172,7 @@ impl Slot {
         if !self.may_take(at, free) {
             return false;
         }
-        self.receive(rt, wires, gate, at)
+        self.receive(rt, wires, mail, gate, at)
     }
 
     /// Receives the oldest message of the first in end that has one to be taken.
@@ -151,6 +180,7 @@ impl Slot {
         &mut self,
         rt: &R,
         wires: &[Wire],
+        mail: &Mail,
         gate: &G,
         free: bool,
     ) -> Option<LocalStep>
@@ -165,7 +195,7 @@ impl Slot {
         for at in 0..count {
             let source = self.ins[at].source;
             let lane = self.ins[at].lane;
-            if self.pull(rt, wires, gate, at, free) {
+            if self.pull(rt, wires, mail, gate, at, free) {
                 return Some(LocalStep::Receive { source, lane });
             }
         }
@@ -177,6 +207,7 @@ impl Slot {
         &mut self,
         rt: &R,
         wires: &[Wire],
+        mail: &Mail,
         gate: &G,
     ) -> Option<u32>
         requires sound { IsSound self.old.job }
@@ -190,7 +221,7 @@ impl Slot {
         }
         let number = self.node.ready_at(0);
         gate.pass(self.node.nic().rank(), LocalStep::Fire { number });
-        self.fire(rt, wires, number);
+        self.fire(rt, wires, mail, number);
         Some(number)
     }
 
@@ -199,6 +230,7 @@ impl Slot {
         &mut self,
         rt: &R,
         wires: &[Wire],
+        mail: &Mail,
         gate: &G,
     ) -> Option<LocalStep>
         requires sound { IsSound self.old.job }
@@ -207,15 +239,15 @@ impl Slot {
         ensures none { IfNone result (Idled self.old self.new) }
         ensures name { plate self.new ≡ plate self.old }
     {
-        let free = self.flush(rt, wires);
+        let free = self.flush(rt, wires, mail);
         if !self.node.started() {
             gate.pass(self.node.nic().rank(), LocalStep::Start);
             self.begin();
             return Some(LocalStep::Start);
         }
-        if let Some(number) = self.fire_any(rt, wires, gate) {
+        if let Some(number) = self.fire_any(rt, wires, mail, gate) {
             return Some(LocalStep::Fire { number });
         }
-        self.receive_any(rt, wires, gate, free)
+        self.receive_any(rt, wires, mail, gate, free)
     }
 }

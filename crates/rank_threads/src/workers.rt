@@ -11,6 +11,7 @@ use ptl_types::Rank;
 use std::sync::Wait;
 use std::thread;
 use std::thread::Threads;
+use turn_table::Turn;
 
 impl<G: Gate + Drop> Fabric<G> {
     // Makes steps of a rank until there is none, and answers whether there was one.
@@ -63,7 +64,58 @@ impl<G: Gate + Drop> Fabric<G> {
         above | below
     }
 
-    // Works at the ranks from `first` to before `end` until a pass over them makes no step.
+    // Makes a step of a rank that the hints lead to, in one turn, and answers whether there was one.
+    fn follow<R: Wait>(&self, rt: &R, hand: &mut Hand, rank: Rank) -> bool
+        requires hand { IsFree self.now.turns hand.old }
+        requires rank { rank < self.now.job.shape.ranks }
+        ensures hand { IsFree self.now.turns hand.new }
+        ensures parts { hand.new.knows.parts ≡ hand.old.knows.parts }
+    {
+        let Turn { slot, value } = self.take(rt, hand, rank);
+        let mut value = value;
+        let made = value.follow_hints(rt, &self.wires, &self.mail, &self.gate);
+        self.give(hand, Turn { slot, value });
+        made
+    }
+
+    // Makes such steps of a rank until there is none, and answers whether there was one. A rank that there is no word for is left.
+    fn visit<R: Wait>(&self, rt: &R, hand: &mut Hand, rank: Rank) -> bool
+        requires hand { IsFree self.now.turns hand.old }
+        requires rank { rank < self.now.job.shape.ranks }
+        ensures hand { IsFree self.now.turns hand.new }
+        ensures parts { hand.new.knows.parts ≡ hand.old.knows.parts }
+    {
+        if !self.mail.any(rank) {
+            return false;
+        }
+        let mut worked = false;
+        for _ in rt.forever() {
+            if !self.follow(rt, hand, rank) {
+                return worked;
+            }
+            worked = true;
+        }
+        unreachable!()
+    }
+
+    // Visits each rank from `first` to before `end`, and answers whether there was a step.
+    fn round<R: Wait>(&self, rt: &R, hand: &mut Hand, first: Rank, end: Rank) -> bool
+        requires hand { IsFree self.now.turns hand.old }
+        requires end { end ≤ self.now.job.shape.ranks }
+        ensures hand { IsFree self.now.turns hand.new }
+        ensures parts { hand.new.knows.parts ≡ hand.old.knows.parts }
+    {
+        let mut worked = false;
+        for rank in first..end {
+            if self.visit(rt, hand, rank) {
+                worked = true;
+            }
+        }
+        worked
+    }
+
+    // Visits the worker's own ranks, from `first` to before `end`, until a round over them makes no step. Then a rank seldom moves from
+    // one core to another.
     fn settle<R: Wait>(&self, rt: &R, hand: &mut Hand, first: Rank, end: Rank)
         requires hand { IsFree self.now.turns hand.old }
         requires end { end ≤ self.now.job.shape.ranks }
@@ -71,15 +123,41 @@ impl<G: Gate + Drop> Fabric<G> {
         ensures parts { hand.new.knows.parts ≡ hand.old.knows.parts }
     {
         for _ in rt.forever() {
-            if !self.sweep_part(rt, hand, first, end) {
+            if !self.round(rt, hand, first, end) {
                 return;
             }
         }
         unreachable!()
     }
 
-    // Sweeps until a sweep makes no step. Before each sweep the worker settles its own ranks, from `first` to before `end`: then a
-    // rank seldom moves from one core to another.
+    // Works as the hints lead until there is no word, and nobody is at work who may leave some.
+    fn settle_all<R: Wait>(&self, rt: &R, hand: &mut Hand, first: Rank, end: Rank)
+        requires hand { IsFree self.now.turns hand.old }
+        requires end { end ≤ self.now.job.shape.ranks }
+        ensures hand { IsFree self.now.turns hand.new }
+        ensures parts { hand.new.knows.parts ≡ hand.old.knows.parts }
+    {
+        for _ in rt.forever() {
+            let alone = self.mail.is_quiet();
+            if !self.mail.has_word() {
+                if alone {
+                    return;
+                }
+                thread::yield_now();
+                continue;
+            }
+            self.mail.begin();
+            self.settle(rt, hand, first, end);
+            let worked = self.round(rt, hand, 0, self.ranks);
+            self.mail.end();
+            if alone && !worked {
+                return;
+            }
+        }
+        unreachable!()
+    }
+
+    // Follows the hints, and then sweeps all ranks, until a sweep makes no step. The sweep heeds no hint.
     fn run<R: Wait>(&self, rt: &R, hand: &mut Hand, first: Rank, end: Rank)
         requires hand { IsFree self.now.turns hand.old }
         requires first { first ≤ self.now.job.shape.ranks }
@@ -89,7 +167,7 @@ impl<G: Gate + Drop> Fabric<G> {
         ensures parts { hand.new.knows.parts ≡ hand.old.knows.parts }
     {
         for _ in rt.forever() {
-            self.settle(rt, hand, first, end);
+            self.settle_all(rt, hand, first, end);
             if !self.sweep(rt, hand, first) {
                 return;
             }

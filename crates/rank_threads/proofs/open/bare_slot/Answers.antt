@@ -14,6 +14,6 @@ invariant_of-result c =
     let bare = bare-tied (plan_of job.shape) job.inputs c.args.rank c.in_ok-install.field-0 e.compiled e.history e.strays in
     let here = subst (λ (n : NodeState). Tied (plan_of job.shape) job.inputs n [] []) (sym c.in_ok-node.ensures.ok) bare in
     let same = subst (λ (j : JobOf). Tied (plan_of j.shape) j.inputs m [] []) (sym c.in_ok-shared.ensures) here in record {
-      tied = subst (λ (outs : List OutPort). Tied (plan_of c.in_ok-shared.shared.shape) c.in_ok-shared.shared.inputs m outs c.new-3.result.items) (sym c.new-2.ensures.items)
-          (subst (λ (ins : List InPort). Tied (plan_of c.in_ok-shared.shared.shape) c.in_ok-shared.shared.inputs m [] ins) (sym c.new-3.ensures.items) same);
+      tied = subst (λ (outs : List OutPort). Tied (plan_of c.in_ok-shared.shared.shape) c.in_ok-shared.shared.inputs m outs c.new-4.result.items) (sym c.new-3.ensures.items)
+          (subst (λ (ins : List InPort). Tied (plan_of c.in_ok-shared.shared.shape) c.in_ok-shared.shared.inputs m [] ins) (sym c.new-4.ensures.items) same);
     }

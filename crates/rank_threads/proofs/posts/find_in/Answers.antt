@@ -1,22 +1,7 @@
-use Rattle.std.proofs.Common.{◌≡◌, ◌<◌, ◌≤◌, ⊎_elim, ℕ, arith, true≢false, sym, ap, ◌∙◌, refl}
-use mathlib.Core.Option.{some}
-use lib.ListN.{get_elem?}
-use Rattle.std.proofs.lemmas.Bool.{cases_eq}
+use Rattle.std.proofs.Common.{◌≡◌, ◌<◌, arith, refl}
 use Rattle.atomic_table.proofs.Lists.{at_index}
-use Rattle.rank_threads.specs.declared.ports.InPort.{InPort}
-use Rattle.rank_threads.proofs.Pairs.{same_at, within}
 use Rattle.rank_threads.proofs.posts.find_in.Goals as goal
 
 pub returns-then-is_from-clause-some : goal.returns-then-is_from-clause-some
-returns-then-is_from-clause-some c = let p = c.index-ins-at.result in let e = c.if-is_from.ensures in let is = e.0 refl in (p, at_index c.args.ins.now c.loop-at.at p c.loop-at-test.true c.index-ins-at.is, is.0, is.1)
-
-pub loop-at-preserved : goal.loop-at-preserved
-loop-at-preserved c = let p = c.index-ins-at.result in let e = c.if-is_from.ensures in let at = c.loop-at.at in
-    let there = at_index c.args.ins.now at p c.loop-at-test.true c.index-ins-at.is in
-    λ i x below is goes lane. ⊎_elim
-    (λ (here : i ≡ at). let same = same_at c.args.ins.now at p x there (ap (get_elem? c.args.ins.now) (sym here) ∙ is) in
-    true≢false (sym (e.1 (ap (λ (z : InPort). z.source) same ∙ goes, ap (λ (z : InPort). z.lane) same ∙ lane))))
-    (λ (apart : i ≡ at → ⊥). c.loop-at.invariant i x (omega (arith, below, apart)) is goes lane) (cases_eq i at)
-
-pub returns-clause-none : goal.returns-clause-none
-returns-clause-none c = λ i p at goes lane. c.loop-at.invariant i p (let k = within c.args.ins.now i p at in let f = c.loop-at-test.false in omega (arith, k, f)) at goes lane
+returns-then-is_from-clause-some c = let p = c.index-ins-likely.result in let e = c.if-is_from.ensures in let is = e.0 refl in
+    (p, at_index c.args.ins.now c.of-likely.result p (omega arith) c.index-ins-likely.is, is.0, is.1)

@@ -34,8 +34,8 @@ send_at-requires-clause-bounds g c =
 pub index-requires : goal.index-requires
 index-requires g c = subst (λ n. c.in-Some.at < n) c.deref.ensures.len (within c.deref.result.now c.in-Some.at (c.in-Some.ensures).some.0 (c.in-Some.ensures).some.1)
 
-pub note_gate-requires : goal.note_gate-requires
-note_gate-requires g c =
+pub note_post-requires : goal.note_post-requires
+note_post-requires g c =
     let f = found c.args.outs.now.items c.deref.result.now c.in-Some.at c.args.message (c.in-Some.ensures).some.0 c.index_mut.result.now c.header.result.now.target c.lane-lane.result c.deref.ensures.value (c.in-Some.ensures).some.1 (c.in-Some.ensures).some.2 (c.in-Some.ensures).some.3
     (ap (λ (h : Header). h.target) c.header.ensures) (c.lane-lane.ensures ∙ ap (λ (h : Header). lane_of h.kind) c.header-2.ensures) c.index_mut.ensures.value in
     let q = c.send_at.new.port in
@@ -49,7 +49,7 @@ returns-in-Some-clause-ends g c =
     let p = c.index_mut.result.now in let q = c.send_at.new.port in
     let is = c.index.ensures ∙ get_or-set_same c.args.outs.now.items c.in-Some.at q c.index.result.now f.within in
     subst (λ (closed : List Bool). AreEnds c.args.wires.now closed (set c.args.outs.now.items c.in-Some.at q))
-    (sym (ap (λ (n : NodeState). n.closed) c.note_gate.ensures ∙ ap (λ (z : OutPort). gate_after z.lane z.target z.end.waits c.args.node.now.closed) is))
+    (sym (ap (λ (n : NodeState). n.closed) c.note_post.ensures ∙ ap (λ (z : OutPort). gate_after z.lane z.target z.end.waits c.args.node.now.closed) is))
     (ends-set c.args.wires.now c.args.node.now.closed c.args.outs.now.items c.in-Some.at p q f.there c.send_at.ensures.same c.requires.ends)
 
 pub returns-in-Some-clause-posted : goal.returns-in-Some-clause-posted

@@ -111,8 +111,8 @@ receive-answer-requires-clause-bytes g c =
     let t = travelled (bounds_on p o.source n.task.rank o.lane) (got n.diary.locals o.source o.lane) m keeps in
     subst (λ (x : NodeState). length m.bytes ≤ x.diary.bytes) (sym c.deref_mut.ensures.value) (has-room p s.job.inputs n o.source o.lane m s.tied.compiled is s.tied.strays (heard-more p n o.source o.lane m s.tied.heard keeps)).bytes
 
-pub pass_on-requires-clause-ends : goal.pass_on-requires-clause-ends
-pass_on-requires-clause-ends g c =
+pub pass_on-waits-requires-clause-ends : goal.pass_on-waits-requires-clause-ends
+pass_on-waits-requires-clause-ends g c =
     let s = c.args.self.now in let p = plan_of s.job.shape in let n = s.node.value in let ins = s.ins.items in let o = c.index_mut-port.result.now in
     let there = at_index ins c.args.at o c.requires.at c.index_mut-port.ensures.value in
     let q = c.pop_at.new.port in let m = c.in-Some.message in let got_it = (c.in-Some.ensures).some in
@@ -126,8 +126,8 @@ pass_on-requires-clause-ends g c =
     subst (λ (x : NodeState). AreEnds c.args.wires.now x.closed s.outs.items) (sym (c.deref_mut-2.ensures.value ∙ step))
     (ends-of p s.job.inputs c.args.wires.now n s.outs.items ins c.requires.wired.outs is s.tied)
 
-pub pass_on-requires-clause-may : goal.pass_on-requires-clause-may
-pass_on-requires-clause-may g c =
+pub pass_on-waits-requires-clause-may : goal.pass_on-waits-requires-clause-may
+pass_on-waits-requires-clause-may g c =
     let s = c.args.self.now in let p = plan_of s.job.shape in let n = s.node.value in let ins = s.ins.items in let o = c.index_mut-port.result.now in
     let there = at_index ins c.args.at o c.requires.at c.index_mut-port.ensures.value in
     let q = c.pop_at.new.port in let m = c.in-Some.message in let got_it = (c.in-Some.ensures).some in
@@ -153,11 +153,11 @@ invariant_of-self-2 g c =
     let went = received-went n c.receive-answer.new.self o.source o.lane m step in
     let by : c.receive-answer.result ≡ made_by n.nic (Receive o.source o.lane m) = c.receive-answer.ensures.answer ∙ ap (λ (x : NodeState). made_by x.nic (Receive o.source o.lane m)) c.deref_mut.ensures.value in
     let heard : HasHeard p c.receive-answer.new.self = subst (HasHeard p) (sym step) (heard-more p n o.source o.lane m s.tied.heard keeps) in
-    let e = c.pass_on.ensures in
-    let re = subst (λ (x : NodeState). Regated x c.pass_on.new.node) c.deref_mut-2.ensures.value e.node in record {
-      tied = tied-step p s.job.inputs n c.pass_on.new.node (Receive o.source o.lane m) c.receive-answer.result s.outs.items c.pass_on.new.outs.items ins (set ins c.args.at q) is
-          (went-regated p s.job.inputs n c.receive-answer.new.self c.pass_on.new.node (Receive o.source o.lane m) went re) by e.posted
-          (heard-set ins c.args.at o q m there c.pop_at.ensures.same got_it.0 s.tied.ins_differ) e.ends.gated (heard-regated p s.job.inputs c.receive-answer.new.self c.pass_on.new.node re heard) s.tied;
+    let e = c.pass_on-waits.ensures in
+    let re = subst (λ (x : NodeState). Regated x c.pass_on-waits.new.node) c.deref_mut-2.ensures.value e.node in record {
+      tied = tied-step p s.job.inputs n c.pass_on-waits.new.node (Receive o.source o.lane m) c.receive-answer.result s.outs.items c.pass_on-waits.new.outs.items ins (set ins c.args.at q) is
+          (went-regated p s.job.inputs n c.receive-answer.new.self c.pass_on-waits.new.node (Receive o.source o.lane m) went re) by e.posted
+          (heard-set ins c.args.at o q m there c.pop_at.ensures.same got_it.0 s.tied.ins_differ) e.ends.gated (heard-regated p s.job.inputs c.receive-answer.new.self c.pass_on-waits.new.node re heard) s.tied;
     }
 
 pub returns-clause-some : goal.returns-clause-some
@@ -172,8 +172,8 @@ returns-clause-some g c = λ f.
     let went = received-went n c.receive-answer.new.self o.source o.lane m step in
     let by : c.receive-answer.result ≡ made_by n.nic (Receive o.source o.lane m) = c.receive-answer.ensures.answer ∙ ap (λ (x : NodeState). made_by x.nic (Receive o.source o.lane m)) c.deref_mut.ensures.value in
     let heard : HasHeard p c.receive-answer.new.self = subst (HasHeard p) (sym step) (heard-more p n o.source o.lane m s.tied.heard keeps) in
-    let re = subst (λ (x : NodeState). Regated x c.pass_on.new.node) c.deref_mut-2.ensures.value c.pass_on.ensures.node in
-    record { port = o; there = there; message = m; grew = (went-regated p s.job.inputs n c.receive-answer.new.self c.pass_on.new.node (Receive o.source o.lane m) went re).locals }
+    let re = subst (λ (x : NodeState). Regated x c.pass_on-waits.new.node) c.deref_mut-2.ensures.value c.pass_on-waits.ensures.node in
+    record { port = o; there = there; message = m; grew = (went-regated p s.job.inputs n c.receive-answer.new.self c.pass_on-waits.new.node (Receive o.source o.lane m) went re).locals }
 
 pub returns-clause-name : goal.returns-clause-name
 returns-clause-name g c =
@@ -187,8 +187,8 @@ returns-clause-name g c =
     let went = received-went n c.receive-answer.new.self o.source o.lane m step in
     let by : c.receive-answer.result ≡ made_by n.nic (Receive o.source o.lane m) = c.receive-answer.ensures.answer ∙ ap (λ (x : NodeState). made_by x.nic (Receive o.source o.lane m)) c.deref_mut.ensures.value in
     let heard : HasHeard p c.receive-answer.new.self = subst (HasHeard p) (sym step) (heard-more p n o.source o.lane m s.tied.heard keeps) in
-    let e = c.pass_on.ensures in let re = subst (λ (x : NodeState). Regated x c.pass_on.new.node) c.deref_mut-2.ensures.value e.node in
-    named-all s.job n.task c.pass_on.new.node.task (map out_joint s.outs.items) (map out_joint c.pass_on.new.outs.items) (map in_joint ins) (map in_joint (set ins c.args.at q))
+    let e = c.pass_on-waits.ensures in let re = subst (λ (x : NodeState). Regated x c.pass_on-waits.new.node) c.deref_mut-2.ensures.value e.node in
+    named-all s.job n.task c.pass_on-waits.new.node.task (map out_joint s.outs.items) (map out_joint c.pass_on-waits.new.outs.items) (map in_joint ins) (map in_joint (set ins c.args.at q))
     (ap (λ (x : NodeState). x.task) re.same ∙ ap (λ (x : NodeState). x.task) step)
-    (pairs_map (Posted c.receive-answer.result) out_joint s.outs.items c.pass_on.new.outs.items (λ x y f. sym (same-joint x y f.same)) e.posted)
+    (pairs_map (Posted c.receive-answer.result) out_joint s.outs.items c.pass_on-waits.new.outs.items (λ x y f. sym (same-joint x y f.same)) e.posted)
     (pairs_map (Heard (Receive o.source o.lane m)) in_joint ins (set ins c.args.at q) (λ x y f. same-in-joint x y f.same) (heard-set ins c.args.at o q m there c.pop_at.ensures.same got_it.0 s.tied.ins_differ))

@@ -2,7 +2,7 @@ use Rattle.std.proofs.Common.{◌≡◌, ◌<◌, ℕ}
 use mathlib.Core.Option.{some}
 use lib.ListN.{get_elem?}
 use Rattle.rank_threads.specs.declared.ports.InPort.{InPort}
-use Rattle.rank_threads.proofs.posts.find_in.Given as goal
+use Rattle.rank_threads.proofs.posts.search_ins.Given as goal
 
 -- none of those before is of the lane
 abbrev pub invariant-loop-at : goal.invariant-loop-at

@@ -1,0 +1,10 @@
+use Rattle.std.proofs.Common.{◌≡◌}
+use Rattle.rank_threads.proofs.Onwards.{onward-received, onward-still}
+use Rattle.rank_threads.proofs.slot.Slot.receive_of.Goals as goal
+
+pub returns-then-not-may_take : goal.returns-then-not-may_take
+returns-then-not-may_take g c = onward-still c.args.self.now
+
+pub returns : goal.returns
+returns g c = let e = c.receive-received.ensures in
+    onward-received c.args.self.now c.receive-received.new.self c.at-at.result c.receive-received.result e.name e.some e.none

@@ -1,0 +1,9 @@
+-- What becomes of a slot in a turn, whatever step is made in it.
+use Rattle.std.specs.Prelude.{◌≡◌}
+use mathlib.Core.List.{IsPrefix}
+use Rattle.rank_threads.specs.declared.slot.Slot.{Slot}
+use Rattle.rank_threads.specs.Names.{history, plate}
+
+-- its name stays, and its history only grows
+abbrev pub Onward : Slot → Slot → Type 0
+Onward old new = (plate new ≡ plate old) × IsPrefix (history old) (history new)
