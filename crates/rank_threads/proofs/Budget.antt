@@ -1,7 +1,7 @@
 -- What comes to a rank in all, where what comes on each lane keeps what the plan says of it.
 use Rattle.std.proofs.Common.{◌≡◌, ◌≤◌, ◌<◌, ◌+◌, ◌^◌, ℕ, zero, suc, Bool, true, false, cond, List, [], ◌∷◌, ◌++◌, sym, refl, ap, ap₂, ◌∙◌, subst, arith, length, inl, inr, ◌&&◌, ◌==◌, eq-eqb}
 use Rattle.std.specs.Prelude.{sum_by, count_by, filter}
-use Rattle.std.proofs.Math.Bool.{and-true, and-false}
+use Rattle.std.proofs.Math.Bool.{and-true}
 use Rattle.std.proofs.lemmas.Bool.{cases_eq, cases_lt, ne_eqb}
 use Rattle.std.proofs.lemmas.List.Sums.{count_by-le-length, length-filter, sum_by-cons}
 use Rattle.plan_core.proofs.Lists.{count-cons}

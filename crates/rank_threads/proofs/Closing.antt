@@ -1,14 +1,13 @@
 -- What is left of the ranks and of the wires is what a frame closes around.
-use Rattle.std.proofs.Common.{ℕ, zero, suc, Bool, true, false, ◌+◌, ◌<◌, ◌≤◌, ◌≡◌, ◌∙◌, List, [], ◌∷◌, ◌++◌, length, get_or, map, min, nat_lt, refl, sym, ap, ap₂, subst, arith, lt-ltb}
+use Rattle.std.proofs.Common.{ℕ, zero, suc, Bool, true, false, ◌<◌, ◌≤◌, ◌≡◌, ◌∙◌, List, [], ◌∷◌, ◌++◌, length, min, nat_lt, refl, sym, ap, ap₂, subst, arith, lt-ltb}
 use mathlib.Core.Option.{some}
 use lib.ListN.{get_elem?}
-use Rattle.std.proofs.lemmas.Bool.{cases_lt}
 use Rattle.ptl_types.specs.declared.headers.Lane.{Lane}
 use Rattle.ptl_types.specs.Messages.{Sent}
 use Rattle.op_laws.proofs.Starts.{combined-starts}
 use Rattle.pair_wires.specs.declared.bounds.Bounds.{Bounds}
 use Rattle.pair_wires.specs.Bounds.{KeepsBounds}
-use Rattle.pair_wires.specs.Lanes.{Plain, plain}
+use Rattle.pair_wires.specs.Lanes.{Plain}
 use Rattle.pair_wires.specs.Wires.{WireState}
 use Rattle.plan_core.specs.Members.{In}
 use Rattle.plan_core.specs.Plan.{Plan}
@@ -17,7 +16,7 @@ use Rattle.plan_calls.specs.Lanes.{is_used_lane, lane_messages}
 use Rattle.plan_view.specs.Calls.{prepare}
 use Rattle.plan_view.specs.Slots.{Slots}
 use Rattle.plan_cuts.specs.Cut.{IsCut, is_stray, owned}
-use Rattle.plan_cuts.specs.History.{Local, got, is_for, made, sent}
+use Rattle.plan_cuts.specs.History.{got, is_for, made, sent}
 use Rattle.plan_cuts.specs.Plans.{start_of, system_of}
 use Rattle.plan_cuts.specs.System.{Histories, sent_by}
 use Rattle.plan_cuts.proofs.Clean.{made-clean}
@@ -26,12 +25,11 @@ use Rattle.plan_rest.proofs.LaneCuts.{unused_sent}
 use Rattle.plan_worlds.specs.Places.{lane_place}
 use Rattle.shape_plans.specs.Drawing.{plan_of}
 use Rattle.schedule_compiler.specs.Jobs.{JobOf}
-use Rattle.rank_node.specs.Handles.{Agrees}
 use Rattle.rank_node.specs.Node.{IsNode, NodeState}
 use Rattle.rank_node.specs.Plans.{IsCompiledFor}
 use Rattle.rank_node.proofs.Plans.{run-legal}
 use Rattle.world_parts.specs.Keeps.{AgreeAll}
-use Rattle.world_parts.specs.Layout.{lane_at, no_node, node_at, scene_of}
+use Rattle.world_parts.specs.Layout.{lane_at, node_at, scene_of}
 use Rattle.world_open.specs.Frames.{frame_lane}
 use Rattle.worlds.specs.FrameState.{FrameState}
 use Rattle.worlds.specs.Frames.{MayClose}
@@ -41,7 +39,7 @@ use Rattle.rank_threads.specs.declared.ports.InPort.{InPort}
 use Rattle.rank_threads.specs.Closing.{IsLifted}
 use Rattle.rank_threads.specs.Fabrics.{IsNamed}
 use Rattle.rank_threads.specs.Lanes.{AreLanes, bounds_on}
-use Rattle.rank_threads.specs.Names.{history, plate}
+use Rattle.rank_threads.specs.Names.{plate}
 use Rattle.rank_threads.specs.Slots.{HasSent, Tied}
 use Rattle.rank_threads.specs.Sound.{IsSound}
 use Rattle.rank_threads.specs.Wiring.{bounds_of}

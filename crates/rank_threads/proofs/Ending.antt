@@ -1,12 +1,9 @@
 -- What the slots of a closed table are, and what is taken out of them.
-use Rattle.std.proofs.Common.{◌≡◌, ◌<◌, ◌≤◌, ◌∙◌, ℕ, zero, suc, List, [], ◌∷◌, length, map, get_or, sym, ap, subst, arith}
+use Rattle.std.proofs.Common.{◌≡◌, ◌<◌, ◌∙◌, ℕ, List, length, map, sym, ap, subst, arith}
 use mathlib.Core.Option.{some}
 use lib.ListN.{get_elem?}
 use Rattle.atomic_table.proofs.Lists.{at_map}
-use Rattle.pair_wires.specs.Lanes.{Plain}
 use Rattle.pair_wires.specs.Wires.{WireState}
-use Rattle.shape_plans.specs.Drawing.{plan_of}
-use Rattle.coll_shape.specs.Outline.{Outline}
 use Rattle.schedule_compiler.specs.Jobs.{JobOf}
 use Rattle.rank_node.specs.Node.{IsNode, NodeState}
 use Rattle.world_parts.specs.Layout.{no_node, node_at}

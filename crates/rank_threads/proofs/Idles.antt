@@ -1,8 +1,8 @@
 -- What a slot that made no step found, said of the lanes of its job.
-use Rattle.std.proofs.Common.{◌≡◌, ◌<◌, ◌∙◌, ℕ, Bool, true, false, cond, List, [], ◌∷◌, length, map, get_or, sym, refl, ap, ap₂, subst, arith, inl, inr, ◌⊎◌, eq-eqb, zero-le}
-use Rattle.std.specs.Prelude.{Option, Some, None, not, nat_lt, filter}
+use Rattle.std.proofs.Common.{◌≡◌, ◌∙◌, ℕ, Bool, true, false, cond, List, [], ◌∷◌, length, map, get_or, sym, refl, ap, subst, arith, inl, inr, ◌⊎◌, eq-eqb, zero-le}
+use Rattle.std.specs.Prelude.{Option, Some, None, not, nat_lt}
 use Rattle.std.proofs.lemmas.Bool.{and_from, lt-ltb}
-use mathlib.Core.Option.{some, some-injective}
+use mathlib.Core.Option.{some}
 use lib.ListN.{get_elem?}
 use Rattle.ptl_types.specs.declared.headers.Lane.{Lane}
 use Rattle.ptl_types.specs.declared.headers.Lane.TheVariants.{Request, Answer}
@@ -27,8 +27,8 @@ use Rattle.plan_view.proofs.Tables.{find-In}
 use Rattle.plan_cuts.proofs.Origin.{IsOf}
 use Rattle.atomic_table.proofs.Lists.{at_map}
 use Rattle.rank_node.specs.Gates.{goes_out}
-use Rattle.rank_node.specs.Handles.{Agrees, slots_of}
-use Rattle.rank_node.specs.Node.{IsNode, NodeState, Task}
+use Rattle.rank_node.specs.Handles.{slots_of}
+use Rattle.rank_node.specs.Node.{IsNode, NodeState}
 use Rattle.rank_node.specs.Plans.{IsCompiledFor}
 use Rattle.rank_node.proofs.Plans.{run-state}
 use Rattle.schedule_compiler.specs.Jobs.{JobOf}

@@ -1,5 +1,5 @@
 -- Wires that end one after the other, and the lanes that take what they held.
-use Rattle.std.proofs.Common.{ℕ, zero, suc, Bool, true, false, ◌+◌, ◌<◌, ◌≤◌, ◌≡◌, ◌∙◌, ⊎_elim, List, [], ◌∷◌, ◌++◌, length, set, get_or, if◌then◌else◌, refl, sym, ap, ap₂, subst, arith, get_or-set_same, get_or-set_other}
+use Rattle.std.proofs.Common.{ℕ, zero, suc, Bool, true, false, ◌<◌, ◌≤◌, ◌≡◌, ◌∙◌, ⊎_elim, List, [], ◌∷◌, ◌++◌, length, set, if◌then◌else◌, refl, sym, ap, ap₂, subst, arith, get_or-set_same, get_or-set_other}
 use Rattle.std.proofs.lemmas.Bool.{cases_eq, cases_lt}
 use mathlib.Core.Option.{some, some-injective}
 use lib.ListN.{get_elem?}
@@ -8,11 +8,10 @@ use Rattle.ptl_types.specs.declared.headers.Lane.{Lane}
 use Rattle.ptl_types.specs.Messages.{Sent}
 use Rattle.pair_wires.specs.declared.bounds.Bounds.{Bounds}
 use Rattle.pair_wires.specs.Lanes.{Plain, plain}
-use Rattle.pair_wires.specs.Wires.{WireState, IsInOf, IsOutOf}
+use Rattle.pair_wires.specs.Wires.{WireState}
 use Rattle.plan_core.specs.Plan.{Plan}
-use Rattle.plan_core.specs.Values.{Inputs}
 use Rattle.plan_calls.specs.Lanes.{is_used_lane}
-use Rattle.plan_cuts.specs.History.{Local, got}
+use Rattle.plan_cuts.specs.History.{got}
 use Rattle.plan_worlds.specs.Places.{lane_place}
 use Rattle.shape_plans.specs.Drawing.{plan_of}
 use Rattle.schedule_compiler.specs.Jobs.{JobOf}
@@ -24,7 +23,7 @@ use Rattle.rank_threads.specs.declared.slot.Slot.{Slot}
 use Rattle.rank_threads.specs.declared.ports.OutPort.{OutPort}
 use Rattle.rank_threads.specs.declared.ports.InPort.{InPort}
 use Rattle.rank_threads.specs.Closing.{IsHeldOn, IsLifted}
-use Rattle.rank_threads.specs.Lanes.{AreLanes, bounds_on}
+use Rattle.rank_threads.specs.Lanes.{AreLanes}
 use Rattle.rank_threads.specs.Moves.{SameNode, Slotwise}
 use Rattle.rank_threads.specs.Names.{history}
 use Rattle.rank_threads.specs.Slots.{HasSent, InOk, OutOk}

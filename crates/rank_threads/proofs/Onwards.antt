@@ -1,7 +1,6 @@
 -- A slot goes onward: its name stays, and its history only grows.
-use Rattle.std.proofs.Common.{append-nil, ◌≡◌, ◌++◌, ◌∷◌, [], ◌∙◌, ℕ, Bool, true, false, List, sym, ap, refl, subst}
+use Rattle.std.proofs.Common.{append-nil, ◌≡◌, ◌∷◌, [], ◌∙◌, ℕ, Bool, true, false, List, sym, ap, refl, subst}
 use Rattle.std.specs.Prelude.{Option, Some, None, IfSome, IfNone, IsTrue, IsFalse}
-use mathlib.Core.List.{IsPrefix}
 use Rattle.turn_table.proofs.Sums.{prefix_trans}
 use Rattle.pair_wires.specs.Wires.{WireState}
 use Rattle.plan_cuts.specs.History.Local.{Fire, Receive}

@@ -1,6 +1,6 @@
 -- Which operations are ready, and which of them find their lane open.
-use Rattle.std.proofs.Common.{◌≡◌, ◌<◌, ℕ, Bool, true, false, List, [], ◌∷◌, length, map, sym, refl, ap, ◌∙◌, subst, arith, inl, inr, eqb-true}
-use Rattle.std.specs.Prelude.{Option, Some, None, filter, slice_get}
+use Rattle.std.proofs.Common.{◌≡◌, ℕ, Bool, true, false, List, [], ◌∷◌, length, map, refl, subst, arith, inl, eqb-true}
+use Rattle.std.specs.Prelude.{Option, Some, None, slice_get}
 use Rattle.ni_model.specs.Ready.{is_number, is_ready, is_ready_op, posted_at, ready_numbers, target_at}
 use Rattle.ni_model.specs.State.{Posted, State}
 use Rattle.plan_core.specs.Members.{In}

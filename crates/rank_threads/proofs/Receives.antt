@@ -1,6 +1,6 @@
 -- A message that came out of an in end, and what a node needs to receive it.
-use Rattle.std.proofs.Common.{◌≡◌, ◌≢◌, ◌<◌, ℕ, Bool, true, false, cond, List, [], ◌∷◌, ◌++◌, length, set, sym, refl, ap, ap₂, ◌∙◌, subst, append-nil, ◌&&◌, ◌==◌, eq-eqb, eqb-true}
-use Rattle.std.specs.Prelude.{Option, Some, None, IsTrue}
+use Rattle.std.proofs.Common.{◌≡◌, ℕ, Bool, true, false, cond, List, [], ◌∷◌, ◌++◌, set, sym, refl, ap, ap₂, ◌∙◌, subst, append-nil, ◌&&◌, ◌==◌, eq-eqb, eqb-true}
+use Rattle.std.specs.Prelude.{Some, None}
 use mathlib.Core.Option.{some}
 use lib.ListN.{get_elem?}
 use Rattle.ptl_types.specs.declared.headers.Lane.{Lane}
@@ -11,25 +11,24 @@ use Rattle.ptl_types.specs.Kinds.{is_answer, is_no_ack, is_put_or_atomic, lane_o
 use Rattle.ptl_types.specs.Messages.{Sent, message}
 use Rattle.ni_model.specs.Answers.{is_awaited}
 use Rattle.ni_model.specs.Arrive.{ack_header, answer, reply_header}
-use Rattle.ni_model.specs.State.{State, target}
+use Rattle.ni_model.specs.State.{State}
 use Rattle.pair_wires.specs.declared.bounds.Bounds.{Bounds}
 use Rattle.pair_wires.specs.Bounds.{KeepsBounds, Travels}
 use Rattle.plan_core.specs.Plan.{Plan}
-use Rattle.plan_core.specs.Values.{Inputs}
-use Rattle.plan_cuts.specs.History.{IsDue, Local, got, is_for, is_lane, made_by, same_lane}
+use Rattle.plan_cuts.specs.History.{IsDue, got, is_for, is_lane, made_by, same_lane}
 use Rattle.plan_cuts.specs.History.Local.{Receive}
 use Rattle.plan_cuts.proofs.Fronts.{got-append}
-use Rattle.plan_cuts.proofs.Origin.{Answers, answer_kind, target_answers}
-use Rattle.rank_node.specs.Node.{IsNode, NodeState, received_node}
+use Rattle.plan_cuts.proofs.Origin.{answer_kind, target_answers}
+use Rattle.rank_node.specs.Node.{NodeState, received_node}
 use Rattle.rank_node.specs.Handles.{Agrees}
 use Rattle.rank_threads.specs.declared.ports.OutPort.{OutPort}
 use Rattle.rank_threads.specs.declared.ports.InPort.{InPort}
 use Rattle.rank_threads.specs.Lists.{Pairwise}
 use Rattle.rank_threads.specs.Lanes.{bounds_on}
 use Rattle.rank_threads.specs.Ports.{Heard, InsDiffer, IsOpen, SameIn}
-use Rattle.rank_threads.specs.Slots.{HasHeard, InOk, Tied}
+use Rattle.rank_threads.specs.Slots.{HasHeard, InOk}
 use Rattle.rank_threads.proofs.Pairs.{pairs_set}
-use Rattle.rank_threads.proofs.Gates.{both-true, lane-is, of-for}
+use Rattle.rank_threads.proofs.Gates.{both-true, of-for}
 use Rattle.rank_threads.proofs.Sends.{all-last}
 use Rattle.rank_threads.proofs.Ties.{Went, same-in}
 

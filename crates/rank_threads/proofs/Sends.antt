@@ -19,7 +19,7 @@ use Rattle.plan_core.proofs.Links.{out_links-In}
 use Rattle.plan_calls.specs.Lanes.{is_used_lane, lane_links, lane_messages}
 use Rattle.plan_view.specs.Calls.{prepare}
 use Rattle.plan_view.specs.Slots.{Slots}
-use Rattle.plan_cuts.specs.History.{Beginning, Legal, Local, after, got, is_for, made, sent, state}
+use Rattle.plan_cuts.specs.History.{Beginning, Legal, Local, after, is_for, made, sent, state}
 use Rattle.plan_cuts.specs.Lanes.{bytes_in}
 use Rattle.plan_cuts.specs.Plans.{start_of}
 use Rattle.plan_cuts.proofs.FromCut.{prepared_of}

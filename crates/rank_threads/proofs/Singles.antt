@@ -1,6 +1,6 @@
 -- Calls that make one kind of step, after what waited was tried again.
 use Rattle.std.proofs.Common.{append-nil, ◌≡◌, ◌++◌, ◌∷◌, [], ◌∙◌, ℕ, Bool, true, false, List, sym, ap, refl, subst}
-use Rattle.std.specs.Prelude.{Option, Some, None, IfSome, IfNone, IsTrue, IsFalse}
+use Rattle.std.specs.Prelude.{Option, Some, None, IfSome, IfNone}
 use mathlib.Core.Option.{some}
 use mathlib.Core.List.{IsPrefix}
 use lib.ListN.{get_elem?}

@@ -1,14 +1,12 @@
 -- What becomes of the slots when ends come and go.
 use Rattle.std.proofs.Common.{◌≡◌, ℕ, zero, suc, ◌+◌, ◌<◌, Bool, true, false, List, [], ◌∷◌, ◌++◌, length, sym, refl, ap, ap₂, map, set, ◌∙◌, subst, arith, append-nil, if◌then◌else◌, ⊎_elim, ◌==◌, eq-eqb, get_or, take, replicate, zero-le}
-use Rattle.std.specs.Prelude.{All, Result, Ok, Err, IfOk, filter}
+use Rattle.std.specs.Prelude.{Result, Ok, Err, IfOk}
 use Rattle.std.proofs.lemmas.Bool.{ne_eqb}
 use Rattle.std.proofs.lemmas.List.Elements.{All-nil}
-use mathlib.Core.Option.{some, some-injective, some-ne-none}
+use mathlib.Core.Option.{some, some-ne-none}
 use lib.ListN.{get_elem?}
-use Rattle.atomic_table.proofs.Lists.{at_index, at_map, at_set}
-use Rattle.ptl_types.specs.declared.headers.Lane.{Lane}
+use Rattle.atomic_table.proofs.Lists.{at_map, at_set}
 use Rattle.ptl_types.specs.declared.headers.Lane.TheVariants.{Request}
-use Rattle.ptl_types.specs.Messages.{Sent}
 use Rattle.pair_wires.specs.declared.bounds.Bounds.{Bounds}
 use Rattle.pair_wires.specs.Bounds.{KeepsBounds, Travels}
 use Rattle.pair_wires.specs.Wires.{WireState, IsOutOf, IsInOf}
@@ -28,13 +26,12 @@ use Rattle.rank_threads.specs.declared.ports.InPort.{InPort}
 use Rattle.rank_threads.specs.Lists.{Each}
 use Rattle.rank_threads.specs.Joints.{Fits, Joint, in_joint, out_joint}
 use Rattle.rank_threads.specs.Lanes.{AreLanes, IsLane, bounds_on}
-use Rattle.rank_threads.specs.Names.{history, plate}
 use Rattle.rank_threads.specs.Slots.{InOk, OutOk, Tied}
-use Rattle.rank_threads.specs.Wiring.{IsLaid, IsRow, bounds_of, from_rank, to_rank}
+use Rattle.rank_threads.specs.Wiring.{IsRow, bounds_of, from_rank, to_rank}
 use Rattle.rank_threads.specs.Moves.{AllFresh, AllLaid, AreWires, AreWithout, GainsIn, GainsOut, IsBetween, IsFresh, MayGainIn, MayGainOut, SameNode, SlotLaid, Slotwise, at_rank}
 use Rattle.rank_threads.proofs.Pairs.{exists_at, same_at, within}
 use Rattle.rank_threads.proofs.Snocs.{each_nil, each_snoc, front_some, length_map, map_if, map_snoc, snoc_at, take_at, take_more}
-use Rattle.rank_threads.proofs.Rows.{row_below, row_grows, row_less, row_nil, row_shrinks, row_some}
+use Rattle.rank_threads.proofs.Rows.{row_grows, row_less, row_nil, row_shrinks, row_some}
 
 -- one slot changes, and the others stay
 pub slotwise_set : (R : ℕ → Slot → Slot → Type 0) (l : List Slot) (i : ℕ) (old new : Slot) → get_elem? l i ≡ some old → R i old new → ((r : ℕ) (y : Slot) → (r ≡ i → ⊥) → R r y y) → Slotwise R l (set l i new)

@@ -2,14 +2,12 @@
 use Rattle.std.proofs.Common.{append-nil, ◌≡◌, ◌≢◌, ◌<◌, ◌-◌, ◌++◌, ◌∷◌, [], ℕ, zero, suc, List, length, map, ap, ◌∙◌, sym, refl, subst, arith}
 use Rattle.std.specs.Prelude.{Option, Some, None, IfSome, IfNone}
 use mathlib.Core.List.{IsPrefix}
-use mathlib.Core.Option.{some, some-ne-none}
 use lib.ListN.{get_elem?}
 use Rattle.ptl_types.specs.declared.steps.LocalStep.{LocalStep}
 use Rattle.atomic_table.proofs.Lists.{at_map}
 use Rattle.turn_table.specs.declared.views.HandView.{HandView}
 use Rattle.turn_table.specs.declared.views.SlotView.{SlotView}
-use Rattle.turn_table.specs.declared.views.EndedTurn.{EndedTurn}
-use Rattle.turn_table.specs.Views.{adjusted, after_give, after_turn, numbers_from, places, places_in, without_busy_slot}
+use Rattle.turn_table.specs.Views.{adjusted, after_give, after_turn, numbers_from, places_in, without_busy_slot}
 use Rattle.turn_table.specs.Hands.{LastTurn, Took, marks}
 use Rattle.turn_table.proofs.Sums.{adjusted_length}
 use Rattle.schedule_compiler.specs.Jobs.{JobOf}

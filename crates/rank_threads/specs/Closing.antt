@@ -6,7 +6,6 @@ use Rattle.pair_wires.specs.declared.bounds.Bounds.{Bounds}
 use Rattle.pair_wires.specs.Lanes.{Plain}
 use Rattle.plan_cuts.specs.History.{Local, got}
 use Rattle.shape_plans.specs.Drawing.{plan_of}
-use Rattle.schedule_compiler.specs.Jobs.{JobOf}
 use Rattle.turn_table.specs.Hands.{Left}
 use Rattle.turn_table.specs.States.{HandState}
 use Rattle.worlds.specs.World.{WorldState, histories_in}

@@ -5,7 +5,7 @@ use Rattle.ni_model.specs.State.{State}
 use Rattle.pair_wires.specs.Wires.{WireState}
 use Rattle.plan_cuts.specs.History.{Local}
 use Rattle.rank_node.specs.Handles.{Handles}
-use Rattle.rank_node.specs.Node.{NodeState, Task}
+use Rattle.rank_node.specs.Node.{Task}
 use Rattle.schedule_compiler.specs.Jobs.{JobOf}
 use Rattle.rank_threads.specs.declared.ports.OutPort.{OutPort}
 use Rattle.rank_threads.specs.declared.ports.InPort.{InPort}

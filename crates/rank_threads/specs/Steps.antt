@@ -1,5 +1,5 @@
 -- What a turn at a rank did: what was taken, and what was given back, are each a history and a note.
-use Rattle.std.specs.Prelude.{ℕ, Bool, true, false, ◌≡◌, ◌<◌, ◌⊎◌, ◌++◌, ◌∷◌, [], List, Option, Some, None, IsTrue, IsFalse}
+use Rattle.std.specs.Prelude.{ℕ, Bool, true, false, ◌≡◌, ◌<◌, ◌⊎◌, ◌++◌, ◌∷◌, [], Option, Some, None, IsTrue, IsFalse}
 use mathlib.Core.Option.{some}
 use lib.ListN.{get_elem?}
 use Rattle.ptl_types.specs.declared.headers.Lane.{Lane}

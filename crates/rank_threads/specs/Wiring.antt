@@ -1,7 +1,5 @@
 -- How the ends in the slots belong to the wires: those of each rank stand in the order of the wires.
-use Rattle.std.specs.Prelude.{ℕ, suc, Bool, ◌==◌, ◌<◌, ◌≡◌, List, [], ◌∷◌, ◌++◌, if◌then◌else◌, map}
-use mathlib.Core.Option.{some}
-use lib.ListN.{get_elem?}
+use Rattle.std.specs.Prelude.{ℕ, suc, Bool, ◌==◌, ◌≡◌, List, [], ◌∷◌, if◌then◌else◌, map}
 use Rattle.pair_wires.specs.declared.bounds.Bounds.{Bounds}
 use Rattle.pair_wires.specs.Wires.{WireState}
 use Rattle.rank_threads.specs.Lists.{Each}

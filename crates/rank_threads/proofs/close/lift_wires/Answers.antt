@@ -1,8 +1,7 @@
-use Rattle.std.proofs.Common.{rules, arith, ◌≡◌, ◌+◌, ◌<◌, ◌≤◌, ◌++◌, ◌∷◌, [], ℕ, suc, true, false, List, length, sym, ap, ap₂, ◌∙◌, subst, refl, append-nil, append_assoc, length-append, set}
+use Rattle.std.proofs.Common.{rules, arith, ◌≡◌, ◌≤◌, ◌++◌, ◌∷◌, [], suc, true, List, length, sym, ap, ◌∙◌, subst, refl, append-nil, append_assoc, length-append, set}
 use mathlib.Core.Option.{some}
 use lib.ListN.{get_elem?}
-use Rattle.ptl_types.specs.declared.headers.Lane.{Lane}
-use Rattle.pair_wires.specs.Lanes.{Plain, plain}
+use Rattle.pair_wires.specs.Lanes.{Plain}
 use Rattle.pair_wires.specs.Wires.{WireState}
 use Rattle.plan_calls.specs.Lanes.{is_used_lane}
 use Rattle.plan_worlds.specs.Places.{lane_place}
@@ -10,9 +9,8 @@ use Rattle.shape_plans.specs.Drawing.{plan_of}
 use Rattle.coll_shape.specs.Outline.{Outline}
 use Rattle.world_parts.specs.Layout.{lane_at}
 use Rattle.worlds.specs.FrameState.{FrameState}
-use Rattle.worlds.specs.Frames.{lane_in}
 use Rattle.rank_threads.specs.Closing.{IsLifted}
-use Rattle.rank_threads.specs.Moves.{AllLaid, IsBetween}
+use Rattle.rank_threads.specs.Moves.{AllLaid}
 use Rattle.rank_threads.proofs.Lifts.{AreLifted, between, in-lanes, is-used, lane-first, lifted-before, lifted-more, none-lifted, unused-left, used-lane}
 use Rattle.rank_threads.proofs.Slotwise.{chain, stay}
 use Rattle.rank_threads.proofs.Snocs.{front_some, last_at, popped}

@@ -1,4 +1,4 @@
-use Rattle.std.proofs.Common.{◌≡◌, ◌++◌, ℕ, List, length}
+use Rattle.std.proofs.Common.{◌≡◌, ◌++◌, List, length}
 use Rattle.pair_wires.specs.Wires.{WireState}
 use Rattle.rank_threads.specs.Moves.{AllLaid, SameNode, Slotwise}
 use Rattle.rank_threads.proofs.Lifts.{AreLifted}

@@ -1,4 +1,4 @@
-use Rattle.std.proofs.Common.{rules, ◌≡◌, ◌∙◌, ◌++◌, ◌∷◌, [], ap₂, map, subst, sym}
+use Rattle.std.proofs.Common.{rules, ◌∙◌, ◌++◌, ◌∷◌, [], ap₂, subst, sym}
 use Rattle.rank_node.specs.Node.{IsNode}
 use Rattle.rank_threads.specs.declared.slot.Slot.{Slot}
 use Rattle.rank_threads.specs.Lists.{Each}

@@ -1,4 +1,4 @@
-use Rattle.std.proofs.Common.{◌≡◌, ◌<◌, ◌^◌, arith}
+use Rattle.std.proofs.Common.{arith}
 use Rattle.shape_plans.specs.Drawing.{plan_of}
 use Rattle.rank_threads.proofs.UsedLanes.{few-messages}
 use Rattle.rank_threads.proofs.lanes.bounds.Goals as goal

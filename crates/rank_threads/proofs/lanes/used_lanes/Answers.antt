@@ -1,8 +1,8 @@
 -- Two lanes more in each turn.
-use Rattle.std.proofs.Common.{ℕ, zero, suc, ◌+◌, ◌*◌, ◌/◌, ◌%◌, ◌<◌, ◌≤◌, ◌≡◌, ◌∙◌, ◌++◌, List, ap, length, subst, sym, arith}
+use Rattle.std.proofs.Common.{ℕ, zero, suc, ◌+◌, ◌*◌, ◌/◌, ◌%◌, ◌<◌, ◌≤◌, ◌≡◌, ◌∙◌, ◌++◌, List, ap, subst, sym, arith}
 use Rattle.std.proofs.lemmas.Nat.{div-add-mod', div_below, mod_below}
 use Rattle.coll_shape.specs.Outline.{Outline}
-use Rattle.ptl_types.specs.declared.headers.Lane.TheVariants.{Request, Answer}
+use Rattle.ptl_types.specs.declared.headers.Lane.TheVariants.{Answer}
 use Rattle.pair_wires.specs.declared.bounds.Bounds.{Bounds}
 use Rattle.shape_plans.specs.Drawing.{plan_of}
 use Rattle.world_open.proofs.Laid.{few-pairs}

@@ -1,4 +1,4 @@
-use Rattle.std.proofs.Common.{◌≡◌, List, [], sym, subst}
+use Rattle.std.proofs.Common.{List, [], sym, subst}
 use Rattle.shape_plans.specs.Drawing.{plan_of}
 use Rattle.schedule_compiler.specs.Jobs.{JobOf}
 use Rattle.rank_node.specs.Node.{NodeState}

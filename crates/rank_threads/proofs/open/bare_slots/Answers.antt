@@ -1,4 +1,4 @@
-use Rattle.std.proofs.Common.{rules, ◌≡◌, ◌+◌, ◌++◌, ◌∷◌, ◌∙◌, [], List, length, ap, arith, length-append, sym, subst}
+use Rattle.std.proofs.Common.{◌∷◌, [], List, length, ap, arith, length-append, sym, subst}
 use Rattle.rank_threads.specs.declared.slot.Slot.{Slot}
 use Rattle.rank_threads.specs.Moves.{AllFresh, AllLaid, IsFresh, SlotLaid}
 use Rattle.rank_threads.proofs.Slotwise.{bare-laid, slots-more}

@@ -1,7 +1,5 @@
-use Rattle.std.proofs.Common.{◌≡◌, ◌<◌, ◌∙◌, List, length, sym, ap, refl, subst, arith}
-use lib.ListN.{get_elem?}
+use Rattle.std.proofs.Common.{◌≡◌, ◌∙◌, sym, refl, subst, arith}
 use Rattle.pair_wires.specs.declared.bounds.Bounds.{Bounds}
-use Rattle.shape_plans.specs.Drawing.{plan_of}
 use Rattle.rank_threads.specs.declared.ports.InPort.{InPort}
 use Rattle.rank_threads.specs.declared.ports.OutPort.{OutPort}
 use Rattle.rank_threads.specs.Lists.{Each}

@@ -1,4 +1,4 @@
-use Rattle.std.proofs.Common.{arith, ◌+◌, ◌≡◌, ◌<◌, ◌++◌, ◌∷◌, [], length, length-append, sym, ap, ◌∙◌, subst, refl, take, List}
+use Rattle.std.proofs.Common.{arith, ◌+◌, ◌≡◌, ◌∷◌, [], length, length-append, sym, ap, ◌∙◌, subst, refl, take, List}
 use Rattle.pair_wires.specs.declared.bounds.Bounds.{Bounds}
 use Rattle.pair_wires.specs.Wires.{WireState}
 use Rattle.shape_plans.specs.Drawing.{plan_of}

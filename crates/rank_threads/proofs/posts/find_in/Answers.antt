@@ -1,4 +1,4 @@
-use Rattle.std.proofs.Common.{◌≡◌, ◌<◌, arith, refl}
+use Rattle.std.proofs.Common.{arith, refl}
 use Rattle.atomic_table.proofs.Lists.{at_index}
 use Rattle.rank_threads.proofs.posts.find_in.Goals as goal
 

@@ -1,9 +1,7 @@
-use Rattle.std.proofs.Common.{◌≡◌, ◌≢◌, ◌<◌, ◌≤◌, ◌∙◌, ℕ, List, true, sym, ap, subst, length, set, arith, length-set}
-use mathlib.Core.Option.{some}
+use Rattle.std.proofs.Common.{◌≡◌, ◌∙◌, List, sym, ap, length, set, arith, length-set}
 use lib.ListN.{get_elem?}
 use Rattle.atomic_table.proofs.Lists.{set_else}
 use Rattle.rank_threads.specs.declared.ports.OutPort.{OutPort}
-use Rattle.rank_threads.specs.Ports.{Flushed}
 use Rattle.rank_threads.proofs.Pairs.{within}
 use Rattle.rank_threads.proofs.Gates.{both-true, free-more, regated-after, tried-more}
 use Rattle.rank_threads.proofs.posts.flush_all.Goals as goal

@@ -1,4 +1,4 @@
-use Rattle.std.proofs.Common.{◌≡◌, ◌∙◌, Bool, true, false, true≢false, sym, refl, subst}
+use Rattle.std.proofs.Common.{◌≡◌, ◌∙◌, Bool, true, false, true≢false, sym, refl}
 use Rattle.std.specs.Prelude.{IsTrue, IsFalse}
 use Rattle.atomic_table.proofs.Lists.{at_index}
 use Rattle.rank_threads.proofs.posts.flush_at.Goals as goal

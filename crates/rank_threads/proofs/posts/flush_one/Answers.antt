@@ -1,6 +1,4 @@
-use Rattle.std.proofs.Common.{◌≡◌, ◌<◌, ◌∙◌, Bool, true, false, List, sym, refl, ap, subst, length, set, get_or-set_same}
-use mathlib.Core.Option.{some}
-use lib.ListN.{get_elem?}
+use Rattle.std.proofs.Common.{◌≡◌, ◌<◌, ◌∙◌, Bool, false, List, sym, refl, ap, subst, length, set, get_or-set_same}
 use Rattle.atomic_table.proofs.Lists.{at_index, set_again}
 use Rattle.rank_node.specs.Node.{NodeState}
 use Rattle.rank_threads.specs.declared.ports.OutPort.{OutPort}

@@ -1,7 +1,6 @@
-use Rattle.std.proofs.Common.{◌≡◌, subst}
+use Rattle.std.proofs.Common.{subst}
 use Rattle.std.specs.Prelude.{Option}
 use Rattle.ptl_types.specs.Messages.{Sent}
-use Rattle.rank_threads.specs.declared.ports.OutPort.{OutPort}
 use Rattle.rank_threads.specs.Lists.{Each}
 use Rattle.rank_threads.specs.Ports.{MayPost}
 use Rattle.rank_threads.proofs.posts.pass_on.Goals as goal

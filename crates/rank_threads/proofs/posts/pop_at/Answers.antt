@@ -4,7 +4,6 @@ use Rattle.atomic_table.proofs.Lists.{at_index}
 use Rattle.ptl_types.specs.Messages.{Sent}
 use Rattle.pair_wires.specs.declared.bounds.Bounds.{Bounds}
 use Rattle.pair_wires.specs.Bounds.{KeepsBounds}
-use Rattle.pair_wires.specs.Wires.{IsInOf}
 use Rattle.rank_threads.proofs.posts.pop_at.Goals as goal
 
 pub pop-requires : goal.pop-requires

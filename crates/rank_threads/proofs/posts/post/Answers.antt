@@ -1,5 +1,4 @@
-use Rattle.std.proofs.Common.{◌≡◌, ◌<◌, ◌∙◌, ◌++◌, ◌∷◌, [], Bool, List, sym, refl, ap, subst, length, set, get_or-set_same}
-use mathlib.Core.Option.{some}
+use Rattle.std.proofs.Common.{◌<◌, ◌∙◌, Bool, List, sym, ap, subst, length, set, get_or-set_same}
 use lib.ListN.{get_elem?}
 use Rattle.ptl_types.specs.declared.headers.Header.{Header}
 use Rattle.ptl_types.specs.Kinds.{lane_of}

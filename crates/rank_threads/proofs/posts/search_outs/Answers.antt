@@ -1,5 +1,4 @@
-use Rattle.std.proofs.Common.{◌≡◌, ◌<◌, ◌≤◌, ⊎_elim, ℕ, arith, true≢false, sym, ap, ◌∙◌, refl}
-use mathlib.Core.Option.{some}
+use Rattle.std.proofs.Common.{◌≡◌, ⊎_elim, arith, true≢false, sym, ap, ◌∙◌, refl}
 use lib.ListN.{get_elem?}
 use Rattle.std.proofs.lemmas.Bool.{cases_eq}
 use Rattle.atomic_table.proofs.Lists.{at_index}

@@ -1,4 +1,4 @@
-use Rattle.std.proofs.Common.{◌≡◌, ◌<◌, ℕ, List, length, get_or, arith, rules}
+use Rattle.std.proofs.Common.{arith, rules}
 use Rattle.turn_table.specs.States.{HandState}
 use Rattle.rank_threads.specs.declared.slot.Slot.{Slot}
 use Rattle.rank_threads.proofs.Parts.{sum-each}

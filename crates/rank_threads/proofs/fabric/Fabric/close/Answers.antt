@@ -1,27 +1,22 @@
-use Rattle.std.proofs.Common.{◌≡◌, ◌<◌, ◌≤◌, ◌++◌, ◌∙◌, ℕ, false, List, length, map, get_or, refl, sym, ap, subst, take, drop, arith}
+use Rattle.std.proofs.Common.{◌≡◌, ◌<◌, ◌++◌, ◌∙◌, ℕ, false, List, length, map, sym, ap, subst, take, drop, arith}
 use mathlib.Core.Option.{some}
 use lib.ListN.{get_elem?}
 use Rattle.ptl_types.specs.declared.headers.Lane.{Lane}
-use Rattle.pair_wires.specs.Lanes.{Plain}
-use Rattle.pair_wires.specs.Wires.{WireState}
 use Rattle.coll_shape.specs.Outline.{Outline}
 use Rattle.plan_calls.specs.Lanes.{is_used_lane}
 use Rattle.plan_orders.specs.Chosen.{Scene}
 use Rattle.plan_worlds.specs.Places.{lane_place}
 use Rattle.shape_plans.specs.Drawing.{plan_of}
-use Rattle.rank_node.specs.Node.{IsNode, NodeState}
-use Rattle.turn_table.specs.Hands.{Left}
+use Rattle.rank_node.specs.Node.{NodeState}
 use Rattle.world_open.specs.Frames.{frame_lane}
-use Rattle.world_parts.specs.Layout.{lane_at, node_at, scene_of}
-use Rattle.worlds.specs.FrameState.{FrameState}
-use Rattle.worlds.specs.Frames.{IsClosed, MayClose}
+use Rattle.world_parts.specs.Layout.{lane_at}
 use Rattle.worlds.proofs.Ends.{barriers_in}
 use Rattle.rank_threads.specs.declared.slot.Slot.{Slot}
 use Rattle.rank_threads.specs.Closing.{IsLifted, IsWorldOf}
 use Rattle.rank_threads.specs.Fabrics.{FabricState, IsNamed}
 use Rattle.rank_threads.specs.Lanes.{AreLanes}
-use Rattle.rank_threads.specs.Moves.{AllLaid, SameNode, Slotwise}
-use Rattle.rank_threads.specs.Names.{history, plate}
+use Rattle.rank_threads.specs.Moves.{AllLaid}
+use Rattle.rank_threads.specs.Names.{plate}
 use Rattle.rank_threads.specs.Wiring.{bounds_of}
 use Rattle.rank_threads.proofs.Closing.{may-close}
 use Rattle.rank_threads.proofs.Ending.{as-many, kept-at, laid-left, may-frame, named-left, node-of-slot}

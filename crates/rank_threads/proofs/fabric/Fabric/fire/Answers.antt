@@ -1,4 +1,4 @@
-use Rattle.std.proofs.Common.{◌≡◌, ap, ◌∙◌, sym, subst}
+use Rattle.std.proofs.Common.{ap, ◌∙◌, sym, subst}
 use Rattle.turn_table.specs.Hands.{Took}
 use Rattle.rank_threads.specs.Names.{Plate, history, mark, plate}
 use Rattle.rank_threads.specs.Fabrics.{FabricState, IsFabric}

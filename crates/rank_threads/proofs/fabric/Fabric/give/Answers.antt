@@ -1,4 +1,4 @@
-use Rattle.std.proofs.Common.{◌≡◌, ap, subst}
+use Rattle.std.proofs.Common.{ap, subst}
 use Rattle.shape_plans.specs.Drawing.{plan_of}
 use Rattle.turn_table.specs.declared.views.HandView.{HandView}
 use Rattle.rank_node.specs.Node.{IsNode}

@@ -1,8 +1,7 @@
-use Rattle.std.proofs.Common.{rules, arith, ◌≡◌, ◌<◌, ◌++◌, [], ℕ, List, length, get_or, sym, ap, ◌∙◌, subst, take, drop}
+use Rattle.std.proofs.Common.{arith, ◌≡◌, ◌<◌, ◌++◌, [], ℕ, List, length, get_or, sym, ap, ◌∙◌, subst, take, drop}
 use mathlib.Core.Option.{some}
 use lib.ListN.{get_elem?}
 use Rattle.coll_shape.specs.Outline.{Outline}
-use Rattle.pair_wires.specs.declared.bounds.Bounds.{Bounds}
 use Rattle.shape_plans.specs.Drawing.{plan_of}
 use Rattle.rank_threads.specs.declared.slot.Slot.{Slot}
 use Rattle.schedule_compiler.specs.Jobs.{JobOf}
@@ -11,7 +10,6 @@ use Rattle.rank_threads.specs.Fabrics.{IsFabric, IsNamed}
 use Rattle.rank_threads.specs.Lanes.{AreLanes}
 use Rattle.rank_threads.specs.Moves.{AllFresh, AllLaid}
 use Rattle.rank_threads.specs.Names.{history, plate}
-use Rattle.rank_threads.specs.Wiring.{bounds_of}
 use Rattle.rank_threads.proofs.Pairs.{exists_at}
 use Rattle.rank_threads.proofs.Snocs.{read, written}
 use Rattle.rank_threads.proofs.fabric.Fabric.open.Goals as goal

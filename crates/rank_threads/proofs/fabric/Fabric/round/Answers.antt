@@ -1,4 +1,4 @@
-use Rattle.std.proofs.Common.{◌<◌, ◌≤◌, arith}
+use Rattle.std.proofs.Common.{arith}
 use Rattle.rank_threads.proofs.fabric.Fabric.round.Goals as goal
 
 pub visit-requires-clause-rank : goal.visit-requires-clause-rank

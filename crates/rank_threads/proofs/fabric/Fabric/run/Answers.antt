@@ -1,5 +1,4 @@
-use Rattle.std.proofs.Common.{◌≡◌, ◌∙◌}
-use Rattle.turn_table.specs.Hands.{IsFree}
+use Rattle.std.proofs.Common.{◌∙◌}
 use Rattle.rank_threads.proofs.fabric.Fabric.run.Goals as goal
 
 pub loop-preserved : goal.loop-preserved

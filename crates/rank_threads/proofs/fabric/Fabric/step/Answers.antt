@@ -1,8 +1,5 @@
-use Rattle.std.proofs.Common.{◌≡◌, ap, ◌∙◌, sym, subst}
-use Rattle.shape_plans.specs.Drawing.{plan_of}
-use Rattle.turn_table.specs.declared.views.HandView.{HandView}
+use Rattle.std.proofs.Common.{ap, ◌∙◌, sym, subst}
 use Rattle.turn_table.specs.Hands.{Took}
-use Rattle.rank_threads.specs.declared.slot.Slot.{Slot}
 use Rattle.rank_threads.specs.Names.{Plate, history, mark, plate}
 use Rattle.rank_threads.specs.Fabrics.{FabricState, IsFabric}
 use Rattle.rank_threads.specs.Sound.{IsSound}

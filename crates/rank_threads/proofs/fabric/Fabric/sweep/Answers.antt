@@ -1,4 +1,4 @@
-use Rattle.std.proofs.Common.{◌≡◌, ◌<◌, ◌≤◌, ⊎_elim, ℕ, ap, inl, inr, arith}
+use Rattle.std.proofs.Common.{◌<◌, ◌≤◌, ⊎_elim, ap, inr, arith}
 use Rattle.std.proofs.lemmas.Bool.{cases_lt}
 use Rattle.rank_threads.specs.Fabrics.{FabricState, HasSwept}
 use Rattle.rank_threads.proofs.fabric.Fabric.sweep.Goals as goal

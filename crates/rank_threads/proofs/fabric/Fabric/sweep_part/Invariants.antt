@@ -1,4 +1,4 @@
-use Rattle.std.proofs.Common.{◌≡◌, ◌≢◌, ◌<◌, ◌≤◌, ◌⊎◌, ℕ}
+use Rattle.std.proofs.Common.{◌≡◌, ◌<◌, ◌≤◌, ◌⊎◌, ℕ}
 use Rattle.turn_table.specs.Hands.{IsFree}
 use Rattle.rank_threads.specs.Turns.{FoundIdle}
 use Rattle.rank_threads.proofs.fabric.Fabric.sweep_part.Given as goal

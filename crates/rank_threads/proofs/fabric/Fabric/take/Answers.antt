@@ -1,5 +1,4 @@
-use Rattle.std.proofs.Common.{◌≡◌, ◌<◌, ℕ, List, length, ap, ◌∙◌, sym, subst, arith}
-use mathlib.Core.Option.{some}
+use Rattle.std.proofs.Common.{◌≡◌, List, ap, ◌∙◌, sym, subst, arith}
 use lib.ListN.{get_elem?}
 use Rattle.turn_table.specs.declared.views.HandView.{HandView}
 use Rattle.rank_node.specs.Node.{IsNode}

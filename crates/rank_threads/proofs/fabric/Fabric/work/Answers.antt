@@ -1,7 +1,6 @@
-use Rattle.std.proofs.Common.{◌≡◌, ◌≢◌, ◌∙◌, ℕ, false, refl}
+use Rattle.std.proofs.Common.{◌≡◌, ◌∙◌, false, refl}
 use Rattle.std.specs.Prelude.{Option, Some, None, is_some}
 use Rattle.ptl_types.specs.declared.steps.LocalStep.{LocalStep}
-use Rattle.rank_threads.specs.Turns.{FoundIdle}
 use Rattle.rank_threads.proofs.Turns.{made-else, none-idle, same-parts}
 use Rattle.rank_threads.proofs.fabric.Fabric.work.Goals as goal
 

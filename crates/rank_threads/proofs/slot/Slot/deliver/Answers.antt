@@ -1,5 +1,4 @@
-use Rattle.std.proofs.Common.{◌≡◌, ◌<◌, ◌∙◌, List, length, ap, sym, subst}
-use mathlib.Core.Option.{some}
+use Rattle.std.proofs.Common.{◌∙◌, List, ap, sym, subst}
 use lib.ListN.{get_elem?}
 use Rattle.rank_threads.specs.declared.ports.InPort.{InPort}
 use Rattle.rank_threads.specs.Names.{IsWired, Plate}

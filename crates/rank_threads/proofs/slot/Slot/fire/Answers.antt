@@ -1,6 +1,4 @@
-use Rattle.std.proofs.Common.{◌≡◌, ◌∙◌, List, map, sym, ap, refl, subst}
-use Rattle.std.specs.Prelude.{Option, Some}
-use Rattle.ptl_types.specs.Messages.{Sent}
+use Rattle.std.proofs.Common.{◌≡◌, ◌∙◌, map, sym, ap, refl, subst}
 use Rattle.shape_plans.specs.Drawing.{plan_of}
 use Rattle.plan_cuts.specs.History.{made_by}
 use Rattle.plan_cuts.specs.History.Local.{Fire}

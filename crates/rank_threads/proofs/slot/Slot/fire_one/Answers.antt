@@ -1,4 +1,4 @@
-use Rattle.std.proofs.Common.{◌≡◌, ◌∙◌, ap, sym, subst}
+use Rattle.std.proofs.Common.{◌∙◌, ap, sym, subst}
 use Rattle.rank_threads.specs.Names.{IsWired, Plate}
 use Rattle.rank_threads.specs.Sound.{IsSound}
 use Rattle.rank_threads.proofs.Singles.{fired-from, shut-from}

@@ -1,4 +1,4 @@
-use Rattle.std.proofs.Common.{◌≡◌, List, map, sym, ap, subst}
+use Rattle.std.proofs.Common.{map, sym, ap, subst}
 use Rattle.shape_plans.specs.Drawing.{plan_of}
 use Rattle.rank_node.specs.Node.{IsNode, NodeState}
 use Rattle.rank_threads.specs.Joints.{out_joint}

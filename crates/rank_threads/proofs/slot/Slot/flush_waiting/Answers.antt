@@ -1,5 +1,4 @@
-use Rattle.std.proofs.Common.{◌≡◌}
-use Rattle.rank_threads.proofs.Onwards.{onward-flushed, onward-still}
+use Rattle.rank_threads.proofs.Onwards.{onward-flushed}
 use Rattle.rank_threads.proofs.slot.Slot.flush_waiting.Goals as goal
 
 pub returns : goal.returns

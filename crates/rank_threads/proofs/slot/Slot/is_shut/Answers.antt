@@ -1,5 +1,4 @@
-use Rattle.std.proofs.Common.{◌≡◌, ◌<◌, ◌∙◌, List, length, sym, ap, subst}
-use mathlib.Core.Option.{some}
+use Rattle.std.proofs.Common.{◌<◌, ◌∙◌, List, sym, ap, subst}
 use lib.ListN.{get_elem?}
 use Rattle.atomic_table.proofs.Lists.{at_index}
 use Rattle.rank_threads.specs.declared.ports.OutPort.{OutPort}

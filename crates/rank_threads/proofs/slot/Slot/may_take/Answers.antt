@@ -1,10 +1,8 @@
-use Rattle.std.proofs.Common.{◌≡◌, ◌∙◌, Bool, true, false, List, sym, ap, refl, inl, inr, subst}
+use Rattle.std.proofs.Common.{◌∙◌, Bool, true, false, sym, ap, refl, inl, inr, subst}
 use Rattle.std.specs.Prelude.{IsFalse, IsTrue, not}
 use Rattle.ptl_types.specs.declared.headers.Lane.TheVariants.{Answer}
 use Rattle.rank_threads.specs.Missing.{IsShut}
 use Rattle.rank_threads.specs.Ports.{IsOpen}
-use mathlib.Core.Option.{some}
-use lib.ListN.{get_elem?}
 use Rattle.ni_model.specs.Answers.{is_awaited}
 use Rattle.atomic_table.proofs.Lists.{at_index}
 use Rattle.rank_node.specs.Node.{NodeState}

@@ -1,5 +1,4 @@
-use Rattle.std.proofs.Common.{◌≡◌, refl, subst, inr}
-use lib.ListN.{get_elem?}
+use Rattle.std.proofs.Common.{refl, subst, inr}
 use Rattle.rank_threads.specs.declared.ports.InPort.{InPort}
 use Rattle.rank_threads.specs.Missing.{Missed}
 use Rattle.rank_threads.proofs.Pairs.{same_at}

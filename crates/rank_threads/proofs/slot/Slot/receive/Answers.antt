@@ -1,8 +1,4 @@
-use Rattle.std.proofs.Common.{◌≡◌, ◌<◌, ◌≤◌, ◌∙◌, ℕ, List, map, length, set, sym, ap, refl, subst, inl, length-set}
-use Rattle.std.specs.Prelude.{Option, Some, IsTrue}
-use mathlib.Core.Option.{some}
-use lib.ListN.{get_elem?}
-use Rattle.ptl_types.specs.Messages.{Sent}
+use Rattle.std.proofs.Common.{◌≡◌, ◌<◌, ◌≤◌, ◌∙◌, map, length, set, sym, ap, refl, subst, inl, length-set}
 use Rattle.shape_plans.specs.Drawing.{plan_of}
 use Rattle.plan_cuts.specs.History.{IsDue, got, made_by}
 use Rattle.plan_cuts.specs.History.Local.{Receive}

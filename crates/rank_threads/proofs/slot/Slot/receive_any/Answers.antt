@@ -1,15 +1,11 @@
-use Rattle.std.proofs.Common.{◌≡◌, ◌≢◌, ◌<◌, ◌≤◌, ◌∙◌, ◌++◌, ◌∷◌, [], ⊎_elim, ℕ, false, List, length, sym, ap, refl, subst, arith}
-use mathlib.Core.Option.{some}
+use Rattle.std.proofs.Common.{◌≡◌, ◌≢◌, ◌<◌, ◌∙◌, ◌++◌, ◌∷◌, [], ⊎_elim, false, List, length, sym, ap, refl, subst, arith}
 use lib.ListN.{get_elem?}
 use Rattle.std.proofs.lemmas.Bool.{cases_eq}
-use Rattle.ptl_types.specs.declared.steps.LocalStep.{LocalStep}
 use Rattle.ptl_types.specs.declared.steps.LocalStep.TheVariants.{Receive}
 use Rattle.plan_cuts.specs.History.Local.{Receive as Received}
-use Rattle.schedule_compiler.specs.Jobs.{JobOf}
 use Rattle.atomic_table.proofs.Lists.{at_index}
 use Rattle.rank_node.specs.Node.{NodeState}
 use Rattle.rank_threads.specs.declared.ports.OutPort.{OutPort}
-use Rattle.rank_threads.specs.declared.ports.InPort.{InPort}
 use Rattle.rank_threads.specs.Lists.{Each}
 use Rattle.rank_threads.specs.Names.{IsWired, Plate}
 use Rattle.rank_threads.specs.Sound.{IsSound}

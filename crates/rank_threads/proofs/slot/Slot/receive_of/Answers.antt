@@ -1,4 +1,3 @@
-use Rattle.std.proofs.Common.{◌≡◌}
 use Rattle.rank_threads.proofs.Onwards.{onward-received, onward-still}
 use Rattle.rank_threads.proofs.slot.Slot.receive_of.Goals as goal
 

@@ -1,4 +1,3 @@
-use Rattle.std.proofs.Common.{◌≡◌}
 use Rattle.rank_threads.proofs.Onwards.{onward-after, onward-sound, onward-still, onward-wired}
 use Rattle.rank_threads.proofs.slot.Slot.receive_pending.Goals as goal
 

@@ -1,4 +1,3 @@
-use Rattle.std.proofs.Common.{◌≡◌}
 use Rattle.rank_threads.specs.Onward.{Onward}
 use Rattle.rank_threads.proofs.slot.Slot.receive_pending.Given as goal
 

@@ -1,4 +1,4 @@
-use Rattle.std.proofs.Common.{◌≡◌, ◌∙◌, ap, refl, sym}
+use Rattle.std.proofs.Common.{◌∙◌, ap, refl, sym}
 use Rattle.rank_node.specs.Copies.{has_start}
 use Rattle.rank_node.specs.Node.{NodeState}
 use Rattle.rank_threads.proofs.slot.Slot.start_once.Goals as goal

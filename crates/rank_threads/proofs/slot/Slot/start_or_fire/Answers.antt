@@ -1,4 +1,3 @@
-use Rattle.std.proofs.Common.{◌≡◌}
 use Rattle.rank_threads.proofs.Onwards.{onward-after, onward-begun, onward-fired, onward-sound, onward-wired}
 use Rattle.rank_threads.proofs.slot.Slot.start_or_fire.Goals as goal
 
