@@ -20,6 +20,7 @@ fn main(rt: HostRuntime) -> ExitCode {
     let mut sink = StdSink::new(std::io::writer(&rt));
     let mut ran = Ran::new();
     let status = portals_main(
+        &rt,
         rt.alloc(),
         words.as_slice(),
         &mut source,

@@ -4,4 +4,5 @@ pub mod Interleavings
 pub mod Judging
 pub mod Rests
 pub mod Steps
+pub mod Summing
 pub mod Told

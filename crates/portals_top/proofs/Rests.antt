@@ -13,7 +13,6 @@ use Rattle.plan_orders.specs.Chosen.{Scene, first_scene}
 use Rattle.plan_orders.specs.Taking.{listed}
 use Rattle.shape_plans.specs.Drawing.{plan_of}
 use Rattle.job_laws.specs.Results.{AreMeant}
-use Rattle.run_text.specs.Lines.{result_text}
 use Rattle.run_text.specs.Orders.{order_line}
 use Rattle.run_text.specs.Putting.{EndsWith}
 use Rattle.worlds.specs.Standing.{IsStanding}
@@ -22,7 +21,8 @@ use Rattle.worlds.specs.Runs.{Running, chosen_run}
 use Rattle.worlds.specs.World.{AreSlots, WorldState, histories_in, memory_in, ranks_in, scene_in, steps_in}
 use Rattle.portals_top.specs.declared.status.Status.TheVariants.{Done}
 use Rattle.portals_top.specs.Answered.{HandsBack}
-use Rattle.portals_top.specs.Due.{done}
+use Rattle.portals_top.specs.declared.words.Mode.{Mode}
+use Rattle.portals_top.specs.Due.{done, mode_text}
 use Rattle.portals_top.specs.Runs.{IsRun, chosen_number, generator, words_left}
 use Rattle.portals_top.specs.Written.{Written, status_of}
 
@@ -47,17 +47,11 @@ run-of w o inputs shape given standing own none rest complete meant =
     record { shape = shape; inputs = given; standing = standing; own = own; none = none; rest = rest; complete = complete; meant = meant }
 
 -- the text of a world is that of its shape and inputs
-pub same-text : (sink sink' : Outflow) (r : Result (Unit {0}) Failed) (o p : Outline) (inputs given : Lists) → o ≡ p → inputs ≡ given
-    → EndsWith sink sink' (result_text o inputs) r → EndsWith sink sink' (result_text p given) r
-same-text sink sink' r o p inputs given shape same ends =
-    subst (λ (i : Lists). EndsWith sink sink' (result_text p i) r) same
-    (subst (λ (x : Outline). EndsWith sink sink' (result_text x inputs) r) shape ends)
-
-pub same-run : (sink sink' : Outflow) (r : Result (Unit {0}) Failed) (o p : Outline) (inputs given : Lists) (orders : List ℕ) → o ≡ p → inputs ≡ given
-    → EndsWith sink sink' (result_text o inputs ++ orders) r → EndsWith sink sink' (result_text p given ++ orders) r
-same-run sink sink' r o p inputs given orders shape same ends =
-    subst (λ (i : Lists). EndsWith sink sink' (result_text p i ++ orders) r) same
-    (subst (λ (x : Outline). EndsWith sink sink' (result_text x inputs ++ orders) r) shape ends)
+pub same-mode : (mode : Mode) (sink sink' : Outflow) (r : Result (Unit {0}) Failed) (o p : Outline) (inputs given : Lists) (ran : Option WorldState)
+    → o ≡ p → inputs ≡ given → EndsWith sink sink' (mode_text mode o inputs ran) r → EndsWith sink sink' (mode_text mode p given ran) r
+same-mode mode sink sink' r o p inputs given ran shape same ends =
+    subst (λ (i : Lists). EndsWith sink sink' (mode_text mode p i ran) r) same
+    (subst (λ (x : Outline). EndsWith sink sink' (mode_text mode x inputs ran) r) shape ends)
 
 -- so many steps from a scene on
 after : System → ℕ → ℕ → Scene → Lcg → Running Lcg

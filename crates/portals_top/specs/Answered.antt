@@ -11,8 +11,10 @@ use Rattle.run_text.specs.Putting.{Ends, FailsWithin}
 use Rattle.worlds.specs.World.{WorldState}
 use Rattle.portals_top.specs.declared.status.Status.{Status}
 use Rattle.portals_top.specs.declared.status.Status.TheVariants.{Done, Usage, Refused, ReadFault, WriteFault, NoMemory}
+use Rattle.portals_top.specs.declared.words.Mode.{Mode}
+use Rattle.portals_top.specs.declared.words.Mode.TheVariants.{Once, Sim, Run, Trace}
 use Rattle.portals_top.specs.declared.words.Command.{Command}
-use Rattle.portals_top.specs.declared.words.Command.TheVariants.{Once, Sim, Plan}
+use Rattle.portals_top.specs.declared.words.Command.TheVariants.{Execute, Plan}
 use Rattle.portals_top.specs.Due.{due, unread}
 use Rattle.portals_top.specs.Runs.{IsInOrder, IsRun}
 
@@ -49,12 +51,20 @@ Leaves ReadFault source' rest = Unit {0}
 Leaves WriteFault source' rest = IsTold source'.left rest
 Leaves NoMemory source' rest = Unit {0}
 
--- the world that a command leaves of a description: one that ran, and for `sim` in the order that is chosen
+-- Whether a world ran in the order that a mode asks for: `sim` chooses one, and the others any.
+abbrev pub IsInMode : Mode → WorldState → Type 0
+IsInMode Once w = Unit {0}
+IsInMode (Sim seed) w = IsInOrder seed w
+IsInMode (Run workers) w = Unit {0}
+IsInMode (Trace workers) w = Unit {0}
+
+-- the world that a run of a description leaves
+abbrev pub LeavesRun : Mode → Outline → Lists → Option WorldState → Type 0
+LeavesRun mode o inputs None = ⊥
+LeavesRun mode o inputs (Some w) = IsRun o inputs w × IsInMode mode w
+
 abbrev pub LeavesWorld : Command → Outline → Lists → Option WorldState → Type 0
-LeavesWorld Once o inputs None = ⊥
-LeavesWorld Once o inputs (Some w) = IsRun o inputs w
-LeavesWorld (Sim seed) o inputs None = ⊥
-LeavesWorld (Sim seed) o inputs (Some w) = IsRun o inputs w × IsInOrder seed w
+LeavesWorld (Execute mode) o inputs ran = LeavesRun mode o inputs ran
 LeavesWorld Plan o inputs ran = ran ≡ None
 
 abbrev pub LeavesOf : Command → Result Program (ℕ × Refusal) → Option WorldState → Type 0

@@ -22,9 +22,10 @@ use Rattle.worlds.specs.World.{WorldState}
 use Rattle.portals_top.specs.declared.status.Status.{Status}
 use Rattle.portals_top.specs.declared.status.Status.TheVariants.{Done, Usage, Refused, ReadFault, WriteFault, NoMemory}
 use Rattle.portals_top.specs.declared.words.Request.{Request}
-use Rattle.portals_top.specs.declared.words.Request.TheVariants.{Do, Check}
+use Rattle.portals_top.specs.declared.words.Request.TheVariants.{Do, Large, Check}
 use Rattle.portals_top.specs.Answered.{Answered, Leaves, MayAnswer, Stands}
 use Rattle.portals_top.specs.Due.{Due, done, excess_name, refused, step_line}
+use Rattle.portals_top.specs.Large.{Summed}
 use Rattle.portals_top.specs.Written.{Written}
 
 abbrev pub holds_line : List ℕ
@@ -87,4 +88,5 @@ pub record Checked (bytes : List ℕ) (source source' : Inflow) (sink sink' : Ou
 abbrev pub AnswersTo : Option Request → List ℕ → Inflow → Inflow → Outflow → Outflow → Option WorldState → Status → Type 0
 AnswersTo None bytes source source' sink sink' ran status = Answered None bytes source source' sink sink' ran status
 AnswersTo (Some (Do c)) bytes source source' sink sink' ran status = Answered (Some c) bytes source source' sink sink' ran status
+AnswersTo (Some (Large number workers)) bytes source source' sink sink' ran status = Summed number workers source source' sink sink' ran status
 AnswersTo (Some Check) bytes source source' sink sink' ran status = Checked bytes source source' sink sink' ran status

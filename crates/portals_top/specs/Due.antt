@@ -1,7 +1,6 @@
 -- What the program owes for its words and the bytes that it is given.
-use Rattle.std.specs.Prelude.{ℕ, ◌+◌, ◌*◌, List, [], ◌∷◌, ◌++◌, length, map, Option, Some, None, Result, Ok, Err, drop, codes, if◌then◌else◌, option_map}
-use Rattle.std.specs.Str.{bytes_eq}
-use Rattle.coll_text.specs.Text.{line, number_between}
+use Rattle.std.specs.Prelude.{ℕ, ◌+◌, ◌*◌, List, [], ◌∷◌, ◌++◌, length, map, Option, Some, None, Result, Ok, Err, drop, codes, if◌then◌else◌}
+use Rattle.coll_text.specs.Text.{line}
 use Rattle.coll_shape.specs.Outline.{Outline}
 use Rattle.coll_shape.specs.Meaning.{Lists}
 use Rattle.coll_lang.specs.declared.fault.Refusal.{Refusal}
@@ -19,34 +18,13 @@ use Rattle.run_text.specs.Refused.{refusal_line}
 use Rattle.worlds.specs.World.{WorldState, histories_in}
 use Rattle.portals_top.specs.declared.status.Status.{Status}
 use Rattle.portals_top.specs.declared.status.Status.TheVariants.{Done, Usage, Refused, ReadFault, WriteFault, NoMemory}
+use Rattle.portals_top.specs.declared.words.Mode.{Mode}
+use Rattle.portals_top.specs.declared.words.Mode.TheVariants.{Once, Sim, Run, Trace}
 use Rattle.portals_top.specs.declared.words.Command.{Command}
-use Rattle.portals_top.specs.declared.words.Command.TheVariants.{Once, Sim, Plan}
-use Rattle.portals_top.specs.declared.words.Request.{Request}
-use Rattle.portals_top.specs.declared.words.Request.TheVariants.{Do, Check}
-
--- a number below 2^64, in its one spelling
-abbrev pub seed_of : List ℕ → Option ℕ
-seed_of word = number_between 0 18446744073709551615 word
-
-abbrev pub one_word : List ℕ → Option Request
-one_word word =
-    if bytes_eq word (codes "once") then Some (Do Once)
-    else if bytes_eq word (codes "plan") then Some (Do Plan)
-    else if bytes_eq word (codes "check") then Some Check
-    else None
-
-abbrev pub two_words : List ℕ → List ℕ → Option Request
-two_words word number = if bytes_eq word (codes "sim") then option_map (λ x. Do (Sim x)) (seed_of number) else None
-
--- what the words ask for: `once`, `sim X`, `plan` or `check`
-abbrev pub request : List (List ℕ) → Option Request
-request [] = None
-request (word ∷ []) = one_word word
-request (word ∷ number ∷ []) = two_words word number
-request (word ∷ number ∷ other ∷ words) = None
+use Rattle.portals_top.specs.declared.words.Command.TheVariants.{Execute, Plan}
 
 abbrev pub usage_line : List ℕ
-usage_line = line (codes "usage: portals_run once | sim X | plan | check" ∷ [])
+usage_line = line (codes "usage: portals_run once | sim X | plan | run W | trace W | large K W | check" ∷ [])
 
 -- the status that is owed, which is Done, Usage or Refused, and the text
 pub record Due : Type 0 where
@@ -75,10 +53,16 @@ abbrev pub orders_of : Option WorldState → List ℕ
 orders_of None = []
 orders_of (Some w) = order_text w.shape.ranks (λ r. map listed (histories_in w r))
 
--- What is written of a description whose shape isn't refused. Where something is run, the run leaves a world.
+-- What is written of a run, which leaves a world.
+abbrev pub mode_text : Mode → Outline → Lists → Option WorldState → List ℕ
+mode_text Once o inputs ran = result_text o inputs
+mode_text (Sim seed) o inputs ran = result_text o inputs ++ orders_of ran
+mode_text (Run workers) o inputs ran = result_text o inputs
+mode_text (Trace workers) o inputs ran = result_text o inputs ++ orders_of ran
+
+-- what is written of a description whose shape isn't refused
 abbrev pub done_text : Command → Outline → Lists → Option WorldState → List ℕ
-done_text Once o inputs ran = result_text o inputs
-done_text (Sim seed) o inputs ran = result_text o inputs ++ orders_of ran
+done_text (Execute mode) o inputs ran = mode_text mode o inputs ran
 done_text Plan o inputs ran = plan_text (plan_of o)
 
 -- the plan may be too large, from a step on

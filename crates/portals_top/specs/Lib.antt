@@ -2,6 +2,8 @@ pub mod Answered
 pub mod Checked
 pub mod Due
 pub mod Headline
+pub mod Large
 pub mod ReadText
 pub mod Runs
+pub mod Words
 pub mod Written

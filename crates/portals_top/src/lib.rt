@@ -4,6 +4,7 @@
 mod checking;
 mod drawing;
 mod headline;
+mod large;
 #[cfg(test)]
 mod memory_walk;
 mod planning;
@@ -16,9 +17,10 @@ mod status;
 mod tests;
 mod top;
 mod words;
+mod writing;
 
 pub use headline::every_interleaving_is_meant;
 pub use ran::Ran;
 pub use status::Status;
-pub use top::portals_main;
-pub use words::{Command, Request};
+pub use top::{portals_main, run_with_gate};
+pub use words::{Command, Mode, Request};

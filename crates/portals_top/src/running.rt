@@ -1,167 +1,136 @@
-//! Running a description on one thread, and writing what the world then holds.
+//! Running a job, and writing what the world then holds.
 
-ghost use Rattle.std.specs.Prelude.{◌≡◌, ◌++◌, None, Some, [], IfOk, map};
-ghost use Rattle.coll_shape.specs.Meaning.{AreInputs};
-ghost use Rattle.coll_shape.specs.WellFormed.{IsWellFormed};
-ghost use Rattle.plan_orders.specs.Taking.{listed};
-ghost use Rattle.job_laws.specs.Results.{AreMeant};
-ghost use Rattle.run_text.specs.Lines.{result_text};
-ghost use Rattle.run_text.specs.Orders.{order_text};
-ghost use Rattle.run_text.specs.Putting.{EndsWith, Puts};
-ghost use Rattle.worlds.specs.Later.{IsOpened};
-ghost use Rattle.worlds.specs.World.{histories_in, memory_in};
-ghost use Rattle.portals_top.specs.Answered.{HandsBack, LeavesWorld};
-ghost use Rattle.portals_top.specs.Due.{done, done_text, orders_of};
-ghost use Rattle.portals_top.specs.Written.{Written, status_of};
+ghost use Rattle.std.specs.Prelude.{◌≡◌, ◌<◌, ◌^◌, All, IfOk, None, Some, length};
+ghost use Rattle.turn_table.specs.Hands.{IsFree, parts_of};
+ghost use Rattle.portals_top.specs.Answered.{HandsBack, LeavesRun};
+ghost use Rattle.portals_top.specs.Due.{done, mode_text};
+ghost use Rattle.portals_top.specs.Runs.{IsInOrder, IsRun};
+ghost use Rattle.portals_top.specs.Words.{HasWorkers};
+ghost use Rattle.portals_top.specs.Written.{Written};
 
 use crate::drawing::Words;
 use crate::ran::Ran;
 use crate::status::Status;
-use crate::words::Command;
-use coll_shape::{Inputs, Shape};
-use port_io::{Failed, Sink};
-use ptl_types::{NoMemory, Rank};
-use run_text::{Pieces, ResultLists, order_line, put_result, write_result};
-use schedule_compiler::{Job, Schedule};
+use crate::words::Mode;
+use crate::writing::{Rested, status_of, write_run};
+use port_io::Sink;
+use ptl_types::NoMemory;
+use rank_threads::{Fabric, Gate, Hand, run_workers};
+use run_text::Pieces;
+use schedule_compiler::Job;
 use std::alloc::Global;
+use std::sync::Wait;
+use std::thread::Threads;
 use worlds::{World, runs_by_words};
 
-/// A world whose buffers are what the description means of the inputs.
-#[derive(Drop)]
-struct Rested(World);
-
-impl ResultLists for Rested {
-    ghost use Rattle.std.specs.Prelude.{◌<◌, length};
-    ghost use Rattle.coll_shape.specs.Meaning.{meaning_of};
-    ghost use Rattle.job_laws.specs.Results.{AreMeant};
-    ghost use Rattle.worlds.specs.World.{memory_in};
-
-    ghost lists = { λ rested. meaning_of rested.0.shape rested.0.inputs };
-
-    ghost can_give = { λ rested b r.
-        AreMeant rested.0.shape rested.0.inputs (memory_in rested.0) × (b < length rested.0.shape.buffers) × (r < rested.0.shape.ranks) };
-
-    fn list(&self, buffer: u32, rank: Rank) -> &[u8] {
-        self.0.result(buffer, rank)
-    }
-}
-
-/// The world of a schedule with these inputs, in which nothing was done.
-fn opened(alloc: Global, schedule: Schedule, inputs: Inputs) -> Result<World, NoMemory>
-    requires { AreInputs schedule inputs }
-    ensures { IfOk result (λ world. IsOpened (record { shape = schedule; inputs = inputs }) u64.MAX 0 world) }
+/// Makes all that is left of a world.
+fn finished(world: World) -> World
+    requires { world.spare ≡ 0 }
+    ensures { IsRun world.shape world.inputs result }
 {
-    let job = Job::new(alloc, schedule, inputs)?;
-    World::open(alloc, &job)
-}
-
-/// Adds a line for each rank with the steps that it made.
-fn put_orders<K: Sink>(out: &mut Pieces, sink: &mut K, world: &World) -> Result<(), Failed>
-    ensures { Puts (K.outflow sink.old) (K.outflow sink.new) out.old out.new (order_text world.now.shape.ranks (λ r. map listed (histories_in world.now r))) result }
-{
-    for rank in 0..world.schedule().shape().ranks() {
-        order_line(out, sink, rank, world.history(rank))?;
-    }
-    Ok(())
-}
-
-/// The shape that was run.
-fn shape_of(rested: &Rested) -> &Shape
-    ensures told { result.now ≡ rested.now.0.shape }
-    ensures formed { IsWellFormed result.now }
-{
-    let shape = rested.0.schedule().shape();
-    shape.keeps_form();
-    shape
-}
-
-/// Writes the results.
-fn write_results<K: Sink>(out: &mut Pieces, sink: &mut K, rested: &Rested) -> Result<(), Failed>
-    requires empty { out.old ≡ [] }
-    requires meant { AreMeant rested.now.0.shape rested.now.0.inputs (memory_in rested.now.0) }
-    ensures { EndsWith (K.outflow sink.old) (K.outflow sink.new) (result_text rested.now.0.shape rested.now.0.inputs) result }
-{
-    let shape = shape_of(rested);
-    write_result(out, sink, shape, rested)
-}
-
-/// Writes the results and the order.
-fn write_run<K: Sink>(out: &mut Pieces, sink: &mut K, rested: &Rested) -> Result<(), Failed>
-    requires empty { out.old ≡ [] }
-    requires meant { AreMeant rested.now.0.shape rested.now.0.inputs (memory_in rested.now.0) }
-    ensures { EndsWith (K.outflow sink.old) (K.outflow sink.new) (result_text rested.now.0.shape rested.now.0.inputs ++ orders_of (Some rested.now.0)) result }
-{
-    let shape = shape_of(rested);
-    put_result(out, sink, shape, rested)?;
-    put_orders(out, sink, &rested.0)?;
-    out.end(sink)
-}
-
-/// The status of what was written.
-fn status_of(written: Result<(), Failed>) -> Status
-    ensures { result ≡ status_of written }
-{
-    match written {
-        Ok(()) => Status::Done,
-        Err(_) => Status::WriteFault,
-    }
-}
-
-/// Runs a description in the program's own order, writes the results, and hands back the world.
-pub(crate) fn once<K: Sink>(
-    alloc: Global,
-    sink: &mut K,
-    schedule: Schedule,
-    inputs: Inputs,
-    ran: &mut Ran,
-) -> Status
-    requires given { AreInputs schedule inputs }
-    requires none { ran.old.world ≡ None }
-    ensures written { Written (done (done_text Command.Once schedule inputs ran.new.world)) (K.outflow sink.old) (K.outflow sink.new) result }
-    ensures world { HandsBack result Status.Done (LeavesWorld Command.Once schedule inputs) ran.new.world }
-{
-    let Ok(mut out) = Pieces::open(alloc) else {
-        return Status::NoMemory;
-    };
-    let Ok(mut world) = opened(alloc, schedule, inputs) else {
-        return Status::NoMemory;
-    };
+    let mut world = world;
     world.run_to_rest();
     let _ = world.enabled();
-    let rested = Rested(world);
-    let written = write_results(&mut out, sink, &rested);
-    let Rested(world) = rested;
-    ran.world = Some(world);
-    status_of(written)
+    world
 }
 
-/// Runs a description in the order that the words of a generator choose, writes the results and the order, and hands back the
-/// world.
-pub(crate) fn sim<K: Sink>(
-    alloc: Global,
-    sink: &mut K,
-    seed: u64,
-    schedule: Schedule,
-    inputs: Inputs,
-    ran: &mut Ran,
-) -> Status
-    requires given { AreInputs schedule inputs }
-    requires none { ran.old.world ≡ None }
-    ensures written { Written (done (done_text (Command.Sim seed) schedule inputs ran.new.world)) (K.outflow sink.old) (K.outflow sink.new) result }
-    ensures world { HandsBack result Status.Done (LeavesWorld (Command.Sim seed) schedule inputs) ran.new.world }
+/// Runs a job on one thread in the program's own order.
+fn run_once(alloc: Global, job: &Job) -> Result<World, NoMemory>
+    ensures { IfOk result (λ w. IsRun job.now.shape job.now.inputs w) }
 {
-    let Ok(mut out) = Pieces::open(alloc) else {
-        return Status::NoMemory;
-    };
-    let Ok(mut world) = opened(alloc, schedule, inputs) else {
-        return Status::NoMemory;
-    };
+    Ok(finished(World::open(alloc, job)?))
+}
+
+/// Runs a job on one thread in the order that the words of a generator choose.
+fn run_chosen(alloc: Global, job: &Job, seed: u64) -> Result<World, NoMemory>
+    ensures { IfOk result (λ w. IsRun job.now.shape job.now.inputs w × IsInOrder seed w) }
+{
+    let mut world = World::open(alloc, job)?;
     let mut words = Words::of(seed);
     world.run_chosen(&mut words);
     runs_by_words::<Words>();
     let _ = world.enabled();
+    Ok(world)
+}
+
+/// Lets a worker for each hand make steps, and closes the fabric.
+fn close_worked<R: Threads + Wait + Sync, G: Gate + Drop>(
+    rt: &R,
+    fabric: Fabric<G>,
+    hands: Vec<Hand>,
+) -> World
+    requires hands { All (λ h. IsFree fabric.turns h) hands.items }
+    requires all { parts_of hands.items ≡ 2 ^ 32 }
+    requires some { 0 < length hands.items }
+    requires few { length hands.items < 2 ^ 32 }
+    ensures shape { result.shape ≡ fabric.job.shape }
+    ensures inputs { result.inputs ≡ fabric.job.inputs }
+    ensures own { result.spare ≡ 0 }
+{
+    let mut hands = hands;
+    run_workers(rt, &fabric, &mut hands);
+    fabric.close(rt, hands)
+}
+
+/// Runs a job by workers on threads; what they leave is made at the end. Where no thread can be started, the call does a worker's
+/// part itself.
+pub(crate) fn run_by_workers<R: Threads + Wait + Sync, G: Gate>(
+    rt: &R,
+    alloc: Global,
+    gate: &G,
+    workers: u32,
+    job: &Job,
+) -> Result<World, NoMemory>
+    requires { 0 < workers }
+    ensures { IfOk result (λ w. IsRun job.now.shape job.now.inputs w) }
+{
+    let (fabric, hands) = Fabric::open(alloc, job, workers, gate)?;
+    Ok(finished(close_worked(rt, fabric, hands)))
+}
+
+/// Runs a job in this mode.
+fn run_in<R: Threads + Wait + Sync, G: Gate>(
+    rt: &R,
+    alloc: Global,
+    gate: &G,
+    mode: Mode,
+    job: &Job,
+) -> Result<World, NoMemory>
+    requires { HasWorkers mode }
+    ensures { IfOk result (λ w. LeavesRun mode job.now.shape job.now.inputs (Some w)) }
+{
+    match mode {
+        Mode::Once => run_once(alloc, job),
+        Mode::Sim { seed } => run_chosen(alloc, job, seed),
+        Mode::Run { workers } | Mode::Trace { workers } => {
+            run_by_workers(rt, alloc, gate, workers, job)
+        }
+    }
+}
+
+/// Runs a job in this mode, writes what is due, and hands back the world.
+pub(crate) fn run<R: Threads + Wait + Sync, G: Gate, K: Sink>(
+    rt: &R,
+    alloc: Global,
+    gate: &G,
+    mode: Mode,
+    job: &Job,
+    sink: &mut K,
+    ran: &mut Ran,
+) -> Status
+    requires workers { HasWorkers mode }
+    requires none { ran.old.world ≡ None }
+    ensures written { Written (done (mode_text mode job.now.shape job.now.inputs ran.new.world)) (K.outflow sink.old) (K.outflow sink.new) result }
+    ensures world { HandsBack result Status.Done (LeavesRun mode job.now.shape job.now.inputs) ran.new.world }
+{
+    let Ok(mut out) = Pieces::open(alloc) else {
+        return Status::NoMemory;
+    };
+    let Ok(world) = run_in(rt, alloc, gate, mode, job) else {
+        return Status::NoMemory;
+    };
     let rested = Rested(world);
-    let written = write_run(&mut out, sink, &rested);
+    let written = write_run(&mut out, sink, mode, &rested);
     let Rested(world) = rested;
     ran.world = Some(world);
     status_of(written)

@@ -5,7 +5,11 @@ use port_io::{IoTurn, IoTurns, MemorySink, MemorySource, Sink, Source, SureSink,
 use ptl_types::Bytes;
 use std::alloc::{AllocError, Global};
 use std::process::Abort;
+use std::sync::Wait;
 use std::test::Fail;
+use std::thread::Threads;
+
+mod workers;
 
 const ONE_RANK: &str = "coll 1\nranks 1\ninput a u8 1\n7\nbroadcast 0 a b\nprint b\nend\n";
 
@@ -16,7 +20,7 @@ const ONE_RANK_PLAN: &str =
 cell 3 0 u8 - 1 1\nlink 0 0 0 0 1 0 bump\nlink 1 0 0 0 2 0 bump\nlink 2 1 0 1 2 0 put\nlink 3 2 0 1 3 0 put\n\
 done 0 4\nend\n";
 
-fn words(alloc: Global, list: &[&str]) -> Result<Vec<String>, Fail> {
+pub(crate) fn words(alloc: Global, list: &[&str]) -> Result<Vec<String>, Fail> {
     let mut words = Vec::new(alloc);
     for word in list {
         words.push(String::from_str(alloc, word)?)?;
@@ -24,7 +28,7 @@ fn words(alloc: Global, list: &[&str]) -> Result<Vec<String>, Fail> {
     Ok(words)
 }
 
-fn source_of(alloc: Global, text: &str) -> Result<SureSource, Fail> {
+pub(crate) fn source_of(alloc: Global, text: &str) -> Result<SureSource, Fail> {
     Ok(SureSource::new(Bytes::of(alloc, text.as_bytes())?))
 }
 
@@ -41,8 +45,8 @@ fn turns_of(alloc: Global, list: &[IoTurn]) -> Result<IoTurns, Fail> {
 }
 
 /// Runs a command on a text, with all that it may leave.
-fn gives(
-    rt: &impl Abort,
+pub(crate) fn gives(
+    rt: &(impl Abort + Threads + Wait + Sync),
     alloc: Global,
     ran: &mut Ran,
     command: &[&str],
@@ -51,9 +55,9 @@ fn gives(
     output: &str,
 ) -> Result<(), Fail> {
     let mut source = source_of(alloc, text)?;
-    let mut sink = SureSink::with_room(alloc, 4096)?;
+    let mut sink = SureSink::with_room(alloc, 32_768)?;
     let words = words(alloc, command)?;
-    let answer = portals_main(alloc, words.as_slice(), &mut source, &mut sink, ran);
+    let answer = portals_main(rt, alloc, words.as_slice(), &mut source, &mut sink, ran);
     assert_eq!(rt; sink.as_slice(), output.as_bytes(), "at {text}");
     assert_eq!(rt; answer, status, "at {text}");
     assert_eq!(rt; sink.finishes(), 1, "at {text}");
@@ -231,7 +235,14 @@ fn a_barrier_of_256_ranks_has_a_plan(rt: HostRuntime) -> Result<(), Fail> {
     let mut source = source_of(alloc, "coll 2\nranks 256\nbarrier\nend\n")?;
     let mut sink = SureSink::with_room(alloc, 200_000)?;
     let words = words(alloc, &["plan"])?;
-    let answer = portals_main(alloc, words.as_slice(), &mut source, &mut sink, &mut ran);
+    let answer = portals_main(
+        &rt,
+        alloc,
+        words.as_slice(),
+        &mut source,
+        &mut sink,
+        &mut ran,
+    );
     assert_eq!(rt; answer, Status::Done);
     assert_eq!(rt; sink.as_slice().len(), 188_329);
     let head = b"plan 256 2560 4352 local\ncell 0 0 u8 - 0 1\n";
@@ -461,12 +472,23 @@ fn check_writes_the_verdict_on_orders(rt: HostRuntime) -> Result<(), Fail> {
 const THREE_RESULTS: &[u8] = b"c 0 10\nc 1 20\nc 2 30\nc 3 40\nrest\n";
 
 /// The three steps, and behind them the orders that a seed chooses.
-fn with_chosen_orders(rt: &impl Abort, alloc: Global, seed: &str) -> Result<Vec<u8>, Fail> {
+fn with_chosen_orders(
+    rt: &(impl Abort + Threads + Wait + Sync),
+    alloc: Global,
+    seed: &str,
+) -> Result<Vec<u8>, Fail> {
     let mut source = source_of(alloc, THREE_STEPS)?;
     let mut sink = SureSink::with_room(alloc, 4096)?;
     let mut ran = Ran::new();
     let words = words(alloc, &["sim", seed])?;
-    let answer = portals_main(alloc, words.as_slice(), &mut source, &mut sink, &mut ran);
+    let answer = portals_main(
+        rt,
+        alloc,
+        words.as_slice(),
+        &mut source,
+        &mut sink,
+        &mut ran,
+    );
     assert_eq!(rt; answer, Status::Done);
     let written = sink.as_slice();
     assert!(rt; written.len() > THREE_RESULTS.len());
@@ -485,7 +507,14 @@ fn the_orders_that_seeds_choose_hold(rt: HostRuntime) -> Result<(), Fail> {
         let mut sink = SureSink::with_room(alloc, 64)?;
         let mut ran = Ran::new();
         let words = words(alloc, &["check"])?;
-        let answer = portals_main(alloc, words.as_slice(), &mut source, &mut sink, &mut ran);
+        let answer = portals_main(
+            &rt,
+            alloc,
+            words.as_slice(),
+            &mut source,
+            &mut sink,
+            &mut ran,
+        );
         assert_eq!(rt; sink.as_slice(), b"holds\n".as_slice());
         assert_eq!(rt; answer, Status::Done);
     }
@@ -494,7 +523,7 @@ fn the_orders_that_seeds_choose_hold(rt: HostRuntime) -> Result<(), Fail> {
 
 /// Runs a command on a text of so many bytes, which is three too many to be read whole.
 fn reads_no_further(
-    rt: &impl Abort,
+    rt: &(impl Abort + Threads + Wait + Sync),
     alloc: Global,
     command: &str,
     count: usize,
@@ -504,7 +533,14 @@ fn reads_no_further(
     let mut source = SureSource::new(Bytes::from_vec(long));
     let mut sink = SureSink::with_room(alloc, 64)?;
     let words = words(alloc, &[command])?;
-    let answer = portals_main(alloc, words.as_slice(), &mut source, &mut sink, &mut ran);
+    let answer = portals_main(
+        rt,
+        alloc,
+        words.as_slice(),
+        &mut source,
+        &mut sink,
+        &mut ran,
+    );
     assert_eq!(rt; answer, Status::Refused);
     assert_eq!(rt; sink.as_slice(), b"refused 0 TooLong\n".as_slice());
     let mut left = [0u8; 8];
@@ -520,16 +556,27 @@ fn a_text_past_the_limit_is_read_no_further(rt: HostRuntime) -> Result<(), Fail>
 }
 
 /// Runs other words, and looks at what is left in the source.
-fn usage_at(rt: &impl Abort, alloc: Global, list: &[&str]) -> Result<(), Fail> {
+fn usage_at(
+    rt: &(impl Abort + Threads + Wait + Sync),
+    alloc: Global,
+    list: &[&str],
+) -> Result<(), Fail> {
     let mut source = source_of(alloc, "ab")?;
-    let mut sink = SureSink::with_room(alloc, 64)?;
+    let mut sink = SureSink::with_room(alloc, 96)?;
     let mut ran = Ran::new();
     let words = words(alloc, list)?;
-    let answer = portals_main(alloc, words.as_slice(), &mut source, &mut sink, &mut ran);
+    let answer = portals_main(
+        rt,
+        alloc,
+        words.as_slice(),
+        &mut source,
+        &mut sink,
+        &mut ran,
+    );
     assert_eq!(rt; answer, Status::Usage);
     assert_eq!(rt;
         sink.as_slice(),
-        b"usage: portals_run once | sim X | plan | check\n".as_slice()
+        b"usage: portals_run once | sim X | plan | run W | trace W | large K W | check\n".as_slice()
     );
     assert_eq!(rt; sink.finishes(), 1);
     let mut left = [0u8; 4];
@@ -548,12 +595,24 @@ fn other_words_leave_the_source_unread(rt: HostRuntime) -> Result<(), Fail> {
     usage_at(&rt, alloc, &["sim", "18446744073709551616"])?;
     usage_at(&rt, alloc, &["sim", "1", "2"])?;
     usage_at(&rt, alloc, &["check", "1"])?;
-    usage_at(&rt, alloc, &["run", "2"])
+    usage_at(&rt, alloc, &["run"])?;
+    usage_at(&rt, alloc, &["run", "0"])?;
+    usage_at(&rt, alloc, &["run", "17"])?;
+    usage_at(&rt, alloc, &["run", "02"])?;
+    usage_at(&rt, alloc, &["run", "2", "2"])?;
+    usage_at(&rt, alloc, &["trace"])?;
+    usage_at(&rt, alloc, &["trace", "0"])?;
+    usage_at(&rt, alloc, &["trace", "17"])?;
+    usage_at(&rt, alloc, &["large", "1"])?;
+    usage_at(&rt, alloc, &["large", "65536", "1"])?;
+    usage_at(&rt, alloc, &["large", "1", "0"])?;
+    usage_at(&rt, alloc, &["large", "1", "17"])?;
+    usage_at(&rt, alloc, &["large", "1", "1", "1"])
 }
 
 /// Runs `once` by scripts of the source and of the sink.
 fn scripted(
-    rt: &impl Abort,
+    rt: &(impl Abort + Threads + Wait + Sync),
     alloc: Global,
     reads: &[IoTurn],
     writes: &[IoTurn],
@@ -566,7 +625,14 @@ fn scripted(
     let mut sink = MemorySink::with_room(alloc, turns_of(alloc, writes)?, 64)?;
     let mut ran = Ran::new();
     let words = words(alloc, &["once"])?;
-    let answer = portals_main(alloc, words.as_slice(), &mut source, &mut sink, &mut ran);
+    let answer = portals_main(
+        rt,
+        alloc,
+        words.as_slice(),
+        &mut source,
+        &mut sink,
+        &mut ran,
+    );
     assert_eq!(rt; answer, status);
     assert_eq!(rt; sink.as_slice(), output.as_bytes());
     assert_eq!(rt; sink.finishes(), finishes);

@@ -1,30 +1,35 @@
 //! The whole program.
 
-ghost use Rattle.std.specs.Prelude.{◌≡◌, ◌≢◌, List, ℕ, Option, None, Err, [], map, string_bytes};
-ghost use Rattle.coll_shape.specs.Meaning.{AreInputs, Lists};
+ghost use Rattle.std.specs.Prelude.{◌≡◌, List, ℕ, Option, None, [], map, string_bytes};
+ghost use Rattle.coll_shape.specs.Meaning.{Lists};
 ghost use Rattle.coll_lang.specs.Language.{read};
 ghost use Rattle.shape_plans.specs.Footprint.{refusal};
 ghost use Rattle.worlds.specs.World.{WorldState};
-ghost use Rattle.portals_top.specs.Answered.{Answered, HandsBack, IsTold, LeavesOf, LeavesWorld};
+ghost use Rattle.portals_top.specs.Answered.{Answered, HandsBack, IsTold, LeavesOf, LeavesRun, LeavesWorld};
 ghost use Rattle.portals_top.specs.Checked.{AnswersTo, Checked};
-ghost use Rattle.portals_top.specs.Due.{done, done_text, due, due_compiled, due_described, due_of, request};
+ghost use Rattle.portals_top.specs.Due.{due, due_compiled, due_described, due_of};
+ghost use Rattle.portals_top.specs.Words.{CanDo, HasWorkers, request};
 ghost use Rattle.portals_top.specs.Written.{Written};
 
 use crate::checking::judged_text;
+use crate::large::large;
 use crate::planning::plan;
 use crate::ran::Ran;
 use crate::reading::{ReadError, read_text};
 use crate::refusing::{refuse, refuse_plan};
-use crate::running::{once, sim};
+use crate::running::run;
 use crate::status::Status;
-use crate::words::{Command, Request, request_in};
+use crate::words::{Command, Mode, Request, request_in};
 use coll_lang::{Description, ParseFault, Refusal, parse};
-use coll_shape::{Inputs, Shape};
+use coll_shape::Shape;
 use plan_done::counted_shape;
 use port_io::{Sink, Source};
+use rank_threads::{Gate, OpenGate};
 use run_text::write_short;
-use schedule_compiler::{Schedule, compile};
+use schedule_compiler::{Job, compile};
 use std::alloc::Global;
+use std::sync::Wait;
+use std::thread::Threads;
 
 /// How many bytes the longest description has.
 const LONGEST: usize = 1_048_576;
@@ -32,7 +37,8 @@ const LONGEST: usize = 1_048_576;
 /// How many bytes the longest description with orders has.
 const LONGEST_CHECKED: usize = 16_777_216;
 
-const USAGE: &[u8] = b"usage: portals_run once | sim X | plan | check\n";
+const USAGE: &[u8] =
+    b"usage: portals_run once | sim X | plan | run W | trace W | large K W | check\n";
 
 /// Writes the usage line.
 fn usage<K: Sink>(sink: &mut K) -> Status
@@ -41,49 +47,6 @@ fn usage<K: Sink>(sink: &mut K) -> Status
     match write_short(sink, USAGE) {
         Ok(()) => Status::Usage,
         Err(_) => Status::WriteFault,
-    }
-}
-
-/// Runs a schedule with its inputs, as a command asks.
-fn run<K: Sink>(
-    alloc: Global,
-    command: Command,
-    schedule: Schedule,
-    inputs: Inputs,
-    sink: &mut K,
-    ran: &mut Ran,
-) -> Status
-    requires runs { command ≢ Command.Plan }
-    requires given { AreInputs schedule inputs }
-    requires none { ran.old.world ≡ None }
-    ensures written { Written (done (done_text command schedule inputs ran.new.world)) (K.outflow sink.old) (K.outflow sink.new) result }
-    ensures world { HandsBack result Status.Done (LeavesWorld command schedule inputs) ran.new.world }
-{
-    match command {
-        Command::Once => once(alloc, sink, schedule, inputs, ran),
-        Command::Sim { seed } => sim(alloc, sink, seed, schedule, inputs, ran),
-        Command::Plan => unreachable!(),
-    }
-}
-
-/// Compiles a shape, and runs it.
-fn executed<K: Sink>(
-    alloc: Global,
-    command: Command,
-    shape: &Shape,
-    inputs: Inputs,
-    sink: &mut K,
-    ran: &mut Ran,
-) -> Status
-    requires runs { command ≢ Command.Plan }
-    requires given { AreInputs shape.now inputs }
-    requires none { ran.old.world ≡ None }
-    ensures written { Written (due_compiled command shape.now inputs ran.new.world (refusal shape.now)) (K.outflow sink.old) (K.outflow sink.new) result }
-    ensures world { HandsBack result (due_compiled command shape.now inputs ran.new.world (refusal shape.now)).status (LeavesWorld command shape.now inputs) ran.new.world }
-{
-    match compile(alloc, shape) {
-        Ok(schedule) => run(alloc, command, schedule, inputs, sink, ran),
-        Err(fault) => refuse_plan(alloc, sink, shape, fault),
     }
 }
 
@@ -98,76 +61,114 @@ fn planned<K: Sink>(alloc: Global, shape: &Shape, sink: &mut K) -> Status
     }
 }
 
-/// Compiles a description and answers it.
-fn compiled<K: Sink>(
+/// Compiles a description, and runs it.
+fn executed<R: Threads + Wait + Sync, G: Gate, K: Sink>(
+    rt: &R,
     alloc: Global,
+    gate: &G,
+    mode: Mode,
+    d: Description,
+    sink: &mut K,
+    ran: &mut Ran,
+) -> Status
+    requires workers { HasWorkers mode }
+    requires none { ran.old.world ≡ None }
+    ensures written { Written (due_compiled (Command.Execute mode) d.shape d.inputs ran.new.world (refusal d.shape)) (K.outflow sink.old) (K.outflow sink.new) result }
+    ensures world { HandsBack result (due_compiled (Command.Execute mode) d.shape d.inputs ran.new.world (refusal d.shape)).status (LeavesRun mode d.shape d.inputs) ran.new.world }
+{
+    let (shape, inputs) = d.into_parts();
+    match compile(alloc, &shape) {
+        Ok(schedule) => {
+            let Ok(job) = Job::new(alloc, schedule, inputs) else {
+                return Status::NoMemory;
+            };
+            run(rt, alloc, gate, mode, &job, sink, ran)
+        }
+        Err(fault) => refuse_plan(alloc, sink, &shape, fault),
+    }
+}
+
+/// Compiles a description and answers it.
+fn compiled<R: Threads + Wait + Sync, G: Gate, K: Sink>(
+    rt: &R,
+    alloc: Global,
+    gate: &G,
     command: Command,
     d: Description,
     sink: &mut K,
     ran: &mut Ran,
 ) -> Status
+    requires workers { CanDo command }
     requires none { ran.old.world ≡ None }
     ensures written { Written (due_compiled command d.shape d.inputs ran.new.world (refusal d.shape)) (K.outflow sink.old) (K.outflow sink.new) result }
     ensures world { HandsBack result (due_compiled command d.shape d.inputs ran.new.world (refusal d.shape)).status (LeavesWorld command d.shape d.inputs) ran.new.world }
 {
-    let (shape, inputs) = d.into_parts();
     match command {
-        Command::Plan => planned(alloc, &shape, sink),
-        _ => executed(alloc, command, &shape, inputs, sink, ran),
+        Command::Execute(mode) => executed(rt, alloc, gate, mode, d, sink, ran),
+        Command::Plan => planned(alloc, d.shape(), sink),
     }
 }
 
 /// Answers a description.
-fn described<K: Sink>(
+fn described<R: Threads + Wait + Sync, G: Gate, K: Sink>(
+    rt: &R,
     alloc: Global,
+    gate: &G,
     command: Command,
     d: Description,
     sink: &mut K,
     ran: &mut Ran,
 ) -> Status
+    requires workers { CanDo command }
     requires none { ran.old.world ≡ None }
     ensures written { Written (due_described command d ran.new.world d.choices) (K.outflow sink.old) (K.outflow sink.new) result }
     ensures world { HandsBack result (due_described command d ran.new.world d.choices).status (LeavesWorld command d.shape d.inputs) ran.new.world }
 {
     match d.choices() {
         Some(_) => refuse(alloc, sink, 0, Refusal::OneThread),
-        None => compiled(alloc, command, d, sink, ran),
+        None => compiled(rt, alloc, gate, command, d, sink, ran),
     }
 }
 
 /// Answers a text that was read.
-fn answer<K: Sink>(
+fn answer<R: Threads + Wait + Sync, G: Gate, K: Sink>(
+    rt: &R,
     alloc: Global,
+    gate: &G,
     command: Command,
     text: &[u8],
     sink: &mut K,
     ran: &mut Ran,
 ) -> Status
+    requires workers { CanDo command }
     requires none { ran.old.world ≡ None }
     ensures written { Written (due_of command ran.new.world (read text.now)) (K.outflow sink.old) (K.outflow sink.new) result }
     ensures world { HandsBack result (due_of command ran.new.world (read text.now)).status (LeavesOf command (read text.now)) ran.new.world }
 {
     match parse(alloc, text) {
-        Ok(d) => described(alloc, command, d, sink, ran),
+        Ok(d) => described(rt, alloc, gate, command, d, sink, ran),
         Err(ParseFault::Refused { line, name }) => refuse(alloc, sink, line, name),
         Err(ParseFault::NoMemory) => Status::NoMemory,
     }
 }
 
 /// Reads a text and answers it.
-fn read_and_answer<S: Source, K: Sink>(
+fn read_and_answer<R: Threads + Wait + Sync, G: Gate, S: Source, K: Sink>(
+    rt: &R,
     alloc: Global,
+    gate: &G,
     command: Command,
     source: &mut S,
     sink: &mut K,
     ran: &mut Ran,
 ) -> Status
+    requires workers { CanDo command }
     requires none { ran.old.world ≡ None }
     ensures { (bytes : List ℕ) × IsTold (S.inflow source.old).left bytes
         × Answered (Some command) bytes (S.inflow source.old) (S.inflow source.new) (K.outflow sink.old) (K.outflow sink.new) ran.new.world result }
 {
     match read_text(alloc, LONGEST, source) {
-        Ok(text) => answer(alloc, command, text.as_slice(), sink, ran),
+        Ok(text) => answer(rt, alloc, gate, command, text.as_slice(), sink, ran),
         Err(ReadError::Failed) => Status::ReadFault,
         Err(ReadError::NoMemory) => Status::NoMemory,
     }
@@ -185,18 +186,48 @@ fn read_and_check<S: Source, K: Sink>(alloc: Global, source: &mut S, sink: &mut 
     }
 }
 
+/// The whole program, with a gate that workers pass: each passes it while it has the turn of a rank, before a start and a firing, and
+/// between the pop of a message and its receipt. All else is as `portals_main` says.
+pub fn run_with_gate<R: Threads + Wait + Sync, S: Source, K: Sink, G: Gate>(
+    rt: &R,
+    alloc: Global,
+    words: &[String],
+    source: &mut S,
+    sink: &mut K,
+    gate: &G,
+    ran: &mut Ran,
+) -> Status
+    ensures { (bytes : List ℕ) × IsTold (S.inflow source.old).left bytes
+        × AnswersTo (request (map string_bytes words.now)) bytes (S.inflow source.old) (S.inflow source.new) (K.outflow sink.old) (K.outflow sink.new) ran.new.world result }
+{
+    ran.world = None;
+    match request_in(words) {
+        Some(Request::Do(command)) => {
+            read_and_answer(rt, alloc, gate, command, source, sink, ran)
+        }
+        Some(Request::Large { number, workers }) => {
+            large(rt, alloc, gate, number, workers, sink, ran)
+        }
+        Some(Request::Check) => read_and_check(alloc, source, sink),
+        None => usage(sink),
+    }
+}
+
 /// The whole program: reads what the words ask for from the source, writes the text that is owed to the sink, and answers
 /// how it ended. The words are those of the command line without the program's name.
 ///
 /// `once` reads a description and runs it on one thread. `sim X` runs it in the order that the words of a generator with the
-/// seed X choose, and writes that order too. `plan` writes the plan that the description is compiled to; nothing is run.
-/// `check` reads a description and behind it, for each rank, the line of its local steps, and writes the verdict on these. All
-/// other words get the usage line, and leave the source unread.
+/// seed X choose, and writes that order too. `run W` runs it by W workers on threads, from 1 to 16, and `trace W` writes the order of
+/// each rank's steps too; where no thread can be started, the call does a worker's part itself. `large K W` reads nothing: W workers
+/// run the description that the number K, below 65,536, chooses, and its summary is written. `plan` writes the plan that the
+/// description is compiled to; nothing is run. `check` reads a description and behind it, for each rank, the line of its local steps,
+/// and writes the verdict on these. All other words get the usage line, and leave the source unread.
 ///
 /// The world that ran is handed back in `ran`, where a result was owed and the run was made; after every other answer it is
 /// none, whatever it was before. Of a source that doesn't tell its bytes there are bytes for which all this holds; of a
 /// sink that doesn't tell what it took nothing is said of the text.
-pub fn portals_main<S: Source, K: Sink>(
+pub fn portals_main<R: Threads + Wait + Sync, S: Source, K: Sink>(
+    rt: &R,
     alloc: Global,
     words: &[String],
     source: &mut S,
@@ -206,10 +237,5 @@ pub fn portals_main<S: Source, K: Sink>(
     ensures { (bytes : List ℕ) × IsTold (S.inflow source.old).left bytes
         × AnswersTo (request (map string_bytes words.now)) bytes (S.inflow source.old) (S.inflow source.new) (K.outflow sink.old) (K.outflow sink.new) ran.new.world result }
 {
-    ran.world = None;
-    match request_in(words) {
-        Some(Request::Do(command)) => read_and_answer(alloc, command, source, sink, ran),
-        Some(Request::Check) => read_and_check(alloc, source, sink),
-        None => usage(sink),
-    }
+    run_with_gate(rt, alloc, words, source, sink, &OpenGate, ran)
 }

@@ -1,20 +1,37 @@
 //! The words of the command line.
 
-ghost use Rattle.std.specs.Prelude.{◌≡◌, map, string_bytes, Some};
-ghost use Rattle.portals_top.specs.Due.{request, seed_of};
+ghost use Rattle.std.specs.Prelude.{◌≡◌, map, string_bytes, IfSome};
+ghost use Rattle.portals_top.specs.Words.{CanAnswer, chosen_of, large_of, request, run_of, seed_of, sim_of, trace_of, workers_of};
 
-use coll_text::{Number, number_at};
+use coll_text::{Number, number_at, number_between};
 
-/// What is done with a description.
+/// How a description is run, and what is written of the run.
 #[derive(Clone, Copy, Debug, PartialEq, Eq)]
-pub enum Command {
-    /// Run it on one thread in the program's own order, and write the results.
+pub enum Mode {
+    /// On one thread in the program's own order. The results are written.
     Once,
-    /// Run it on one thread in the order that the words of a generator choose, and write the results and the order.
+    /// On one thread in the order that the words of a generator choose. The results and the order are written.
     Sim {
         /// What the generator is seeded by.
         seed: u64,
     },
+    /// By workers on threads. The results are written.
+    Run {
+        /// How many workers there are, from 1 to 16.
+        workers: u32,
+    },
+    /// By workers on threads. The results and the order of each rank's steps are written.
+    Trace {
+        /// How many workers there are, from 1 to 16.
+        workers: u32,
+    },
+}
+
+/// What is done with a description.
+#[derive(Clone, Copy, Debug, PartialEq, Eq)]
+pub enum Command {
+    /// Run it.
+    Execute(Mode),
     /// Write the plan that it is compiled to. Nothing is run.
     Plan,
 }
@@ -24,6 +41,13 @@ pub enum Command {
 pub enum Request {
     /// Read a description, and do this with it.
     Do(Command),
+    /// Run the generated description by workers on threads, and write its summary. Nothing is read.
+    Large {
+        /// What chooses the values of the description, below 65,536.
+        number: u32,
+        /// How many workers there are, from 1 to 16.
+        workers: u32,
+    },
     /// Read a description and orders of its ranks' local steps, and write the verdict on these.
     Check,
 }
@@ -38,18 +62,64 @@ fn seed_in(word: &[u8]) -> Option<u64>
     }
 }
 
+/// What `sim` and this word ask for.
+fn sim_in(word: &[u8]) -> Option<Request>
+    ensures value { result ≡ sim_of (seed_of word.now) }
+    ensures possible { IfSome result CanAnswer }
+{
+    match seed_in(word) {
+        Some(seed) => Some(Request::Do(Command::Execute(Mode::Sim { seed }))),
+        None => None,
+    }
+}
+
+/// What `run` and this word ask for.
+fn run_in(word: &[u8]) -> Option<Request>
+    ensures value { result ≡ run_of (workers_of word.now) }
+    ensures possible { IfSome result CanAnswer }
+{
+    match number_between(1, 16, word) {
+        Some(workers) => Some(Request::Do(Command::Execute(Mode::Run { workers }))),
+        None => None,
+    }
+}
+
+/// What `trace` and this word ask for.
+fn trace_in(word: &[u8]) -> Option<Request>
+    ensures value { result ≡ trace_of (workers_of word.now) }
+    ensures possible { IfSome result CanAnswer }
+{
+    match number_between(1, 16, word) {
+        Some(workers) => Some(Request::Do(Command::Execute(Mode::Trace { workers }))),
+        None => None,
+    }
+}
+
+/// What `large` and these words ask for.
+fn large_in(number: &[u8], workers: &[u8]) -> Option<Request>
+    ensures value { result ≡ large_of (chosen_of number.now) (workers_of workers.now) }
+    ensures possible { IfSome result CanAnswer }
+{
+    let number = number_between(0, 65_535, number)?;
+    let workers = number_between(1, 16, workers)?;
+    Some(Request::Large { number, workers })
+}
+
 /// What the words ask for. None for all other words.
 pub(crate) fn request_in(words: &[String]) -> Option<Request>
-    ensures { result ≡ request (map string_bytes words.now) }
+    ensures value { result ≡ request (map string_bytes words.now) }
+    ensures possible { IfSome result CanAnswer }
 {
     match words {
-        [word] if word.as_str() == "once" => Some(Request::Do(Command::Once)),
+        [word] if word.as_str() == "once" => Some(Request::Do(Command::Execute(Mode::Once))),
         [word] if word.as_str() == "plan" => Some(Request::Do(Command::Plan)),
         [word] if word.as_str() == "check" => Some(Request::Check),
-        [word, number] if word.as_str() == "sim" => match seed_in(number.as_bytes()) {
-            Some(seed) => Some(Request::Do(Command::Sim { seed })),
-            None => None,
-        },
+        [word, number] if word.as_str() == "sim" => sim_in(number.as_bytes()),
+        [word, number] if word.as_str() == "run" => run_in(number.as_bytes()),
+        [word, number] if word.as_str() == "trace" => trace_in(number.as_bytes()),
+        [word, number, workers] if word.as_str() == "large" => {
+            large_in(number.as_bytes(), workers.as_bytes())
+        }
         _ => None,
     }
 }

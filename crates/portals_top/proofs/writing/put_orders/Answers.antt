@@ -5,7 +5,7 @@ use Rattle.run_text.specs.Putting.{Takes, FailsWithin}
 use Rattle.run_text.proofs.Taking.{Takes-next, Fails-next, Puts-stops}
 use Rattle.run_text.proofs.Wording.{rows_from, rows_from-next}
 use Rattle.portals_top.proofs.Rests.{order_at}
-use Rattle.portals_top.proofs.running.put_orders.Goals as goal
+use Rattle.portals_top.proofs.writing.put_orders.Goals as goal
 
 pub history-requires : goal.history-requires
 history-requires g c =

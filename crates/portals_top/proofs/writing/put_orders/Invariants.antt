@@ -2,7 +2,7 @@ use Rattle.std.proofs.Common.{◌++◌, ◌-◌}
 use Rattle.run_text.specs.Putting.{Takes}
 use Rattle.run_text.proofs.Wording.{rows_from}
 use Rattle.portals_top.proofs.Rests.{order_at}
-use Rattle.portals_top.proofs.running.put_orders.Given as goal
+use Rattle.portals_top.proofs.writing.put_orders.Given as goal
 
 abbrev pub invariant-loop-rank : goal.invariant-loop-rank
 invariant-loop-rank g l =

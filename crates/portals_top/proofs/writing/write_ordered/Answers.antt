@@ -3,7 +3,7 @@ use Rattle.coll_shape.specs.Outline.{Outline}
 use Rattle.run_text.specs.Lines.{result_text}
 use Rattle.run_text.proofs.Taking.{Takes-more, Takes-then, Fails-more, Fails-then, EndsWith-then, EndsWith-stops}
 use Rattle.portals_top.specs.Due.{orders_of}
-use Rattle.portals_top.proofs.running.write_run.Goals as goal
+use Rattle.portals_top.proofs.writing.write_ordered.Goals as goal
 
 pub put_result-requires : goal.put_result-requires
 put_result-requires g c =

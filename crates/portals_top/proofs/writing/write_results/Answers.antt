@@ -3,7 +3,7 @@ use Rattle.coll_shape.specs.Meaning.{meaning_of}
 use Rattle.coll_shape.specs.Outline.{Outline}
 use Rattle.run_text.specs.Lines.{text_of}
 use Rattle.run_text.specs.Putting.{EndsWith}
-use Rattle.portals_top.proofs.running.write_results.Goals as goal
+use Rattle.portals_top.proofs.writing.write_results.Goals as goal
 
 pub write_result-requires : goal.write_result-requires
 write_result-requires g c =

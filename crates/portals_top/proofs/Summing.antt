@@ -1,0 +1,57 @@
+-- The run of the generated description.
+use Rattle.std.proofs.Common.{◌≡◌, ℕ, List, Option, None, Some, Result, Err, ◌∙◌, ap, refl, subst}
+use Rattle.coll_lang.specs.Generated.{generated, generated_shape}
+use Rattle.coll_lang.specs.Program.{Program}
+use Rattle.coll_shape.specs.Outline.{Outline}
+use Rattle.coll_shape.specs.WellFormed.{IsWellFormed}
+use Rattle.plan_rounds.specs.Rounds.{rounds}
+use Rattle.port_io.specs.Ends.{Inflow, Outflow}
+use Rattle.schedule_compiler.specs.Answers.{Compiles}
+use Rattle.shape_plans.specs.declared.faults.CompileFault.{CompileFault}
+use Rattle.shape_plans.specs.declared.faults.CompileFault.TheVariants.{TooMany, TooLarge, NoMemory}
+use Rattle.shape_plans.specs.Footprint.{refusal}
+use Rattle.shape_plans.specs.Footprint.Excess.{Links, Bytes}
+use Rattle.shape_plans.proofs.Sizes.{are-steps, refusal-found}
+use Rattle.worlds.specs.World.{WorldState}
+use Rattle.portals_top.specs.declared.status.Status.{Status}
+use Rattle.portals_top.specs.declared.status.Status.TheVariants.{Done}
+use Rattle.portals_top.specs.declared.words.Mode.TheVariants.{Run}
+use Rattle.portals_top.specs.Answered.{HandsBack, IsTold, LeavesRun, Stands}
+use Rattle.portals_top.specs.Due.{done}
+use Rattle.portals_top.specs.Large.{Summed, summary_text}
+use Rattle.portals_top.specs.Written.{Written}
+use Rattle.portals_top.proofs.Told.{told-any}
+
+-- its plan is within the limits
+pub fits : IsWellFormed generated_shape → refusal generated_shape ≡ None
+unfolding rounds
+fits formed = refusal-found generated_shape (are-steps generated_shape formed) ∙ refl
+
+-- and so is that of a shape which is its
+pub accepted : (d : Program) (o : Outline) (k : ℕ) → d ≡ generated k → o ≡ d.shape → IsWellFormed d.shape → refusal o ≡ None
+accepted d o k is same formed =
+    ap refusal (same ∙ ap (λ (x : Program). x.shape) is) ∙ fits (subst (λ (x : Program). IsWellFormed x.shape) is formed)
+
+-- so a compiler that answers it with a fault had no memory
+pub no-excess : (o : Outline) (r : Result Outline CompileFault) (f : CompileFault) → refusal o ≡ None → Compiles o r → r ≡ Err f → f ≡ NoMemory
+no-excess o r (TooMany k) none compiles is =
+    let over : refusal o ≡ Some (record { step = k; name = Links }) = subst (λ x. Compiles o x) is compiles in absurd (cc)
+no-excess o r (TooLarge k) none compiles is =
+    let over : refusal o ≡ Some (record { step = k; name = Bytes }) = subst (λ x. Compiles o x) is compiles in absurd (cc)
+no-excess o r NoMemory none compiles is = refl
+
+pub summed : (number workers : ℕ) (source : Inflow) (sink sink' : Outflow) (ran : Option WorldState) (status : Status)
+    → Written (done (summary_text number)) sink sink' status
+    → HandsBack status Done (LeavesRun (Run workers) (generated number).shape (generated number).inputs) ran
+    → (bytes : List ℕ) × IsTold source.left bytes × Summed number workers source source sink sink' ran status
+summed number workers source sink sink' ran status written handed =
+    let any = told-any source.left in (
+      any.0,
+      any.1,
+      record {
+        written = written;
+        write_fault = λ is. (subst (λ s. Stands s sink sink' (summary_text number)) is written.text).rose;
+        untouched = refl;
+        world = handed;
+      },
+    )

@@ -1,0 +1,14 @@
+use Rattle.portals_top.specs.Answered.{LeavesRun}
+use Rattle.portals_top.proofs.Rests.{handed-of, same-mode, written-of}
+use Rattle.portals_top.proofs.running.run.Goals as goal
+
+pub write_run-written-requires-clause-meant : goal.write_run-written-requires-clause-meant
+write_run-written-requires-clause-meant g c = c.in-Ok-run_in.ensures.0.meant
+
+pub returns : goal.returns
+returns g c =
+    let left = c.in-Ok-run_in.ensures in
+    rw c.status_of.ensures (record {
+      written = written-of _ _ _ _ (same-mode c.args.mode _ _ _ _ _ _ _ _ left.0.shape left.0.inputs c.write_run-written.ensures);
+      world = handed-of (LeavesRun c.args.mode c.args.job.now.shape c.args.job.now.inputs) _ _ left;
+    })

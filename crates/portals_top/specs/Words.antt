@@ -1,0 +1,74 @@
+-- What the words of the command line ask for.
+use Rattle.std.specs.Prelude.{ℕ, ◌<◌, List, [], ◌∷◌, Option, Some, None, codes, if◌then◌else◌, option_map}
+use Rattle.std.specs.Str.{bytes_eq}
+use Rattle.coll_text.specs.Text.{number_between}
+use Rattle.portals_top.specs.declared.words.Mode.{Mode}
+use Rattle.portals_top.specs.declared.words.Mode.TheVariants.{Once, Sim, Run, Trace}
+use Rattle.portals_top.specs.declared.words.Command.{Command}
+use Rattle.portals_top.specs.declared.words.Command.TheVariants.{Execute, Plan}
+use Rattle.portals_top.specs.declared.words.Request.{Request}
+use Rattle.portals_top.specs.declared.words.Request.TheVariants.{Do, Large, Check}
+
+-- Numbers in their one spelling: a seed below 2^64, a number of workers, and the number that chooses generated values.
+abbrev pub seed_of : List ℕ → Option ℕ
+seed_of word = number_between 0 18446744073709551615 word
+
+abbrev pub workers_of : List ℕ → Option ℕ
+workers_of word = number_between 1 16 word
+
+abbrev pub chosen_of : List ℕ → Option ℕ
+chosen_of word = number_between 0 65535 word
+
+abbrev pub one_word : List ℕ → Option Request
+one_word word =
+    if bytes_eq word (codes "once") then Some (Do (Execute Once))
+    else if bytes_eq word (codes "plan") then Some (Do Plan)
+    else if bytes_eq word (codes "check") then Some Check
+    else None
+
+abbrev pub sim_of : Option ℕ → Option Request
+sim_of seed = option_map (λ x. Do (Execute (Sim x))) seed
+
+abbrev pub run_of : Option ℕ → Option Request
+run_of workers = option_map (λ w. Do (Execute (Run w))) workers
+
+abbrev pub trace_of : Option ℕ → Option Request
+trace_of workers = option_map (λ w. Do (Execute (Trace w))) workers
+
+abbrev pub two_words : List ℕ → List ℕ → Option Request
+two_words word number =
+    if bytes_eq word (codes "sim") then sim_of (seed_of number)
+    else if bytes_eq word (codes "run") then run_of (workers_of number)
+    else if bytes_eq word (codes "trace") then trace_of (workers_of number)
+    else None
+
+abbrev pub large_of : Option ℕ → Option ℕ → Option Request
+large_of None workers = None
+large_of (Some k) workers = option_map (λ w. Large k w) workers
+
+abbrev pub three_words : List ℕ → List ℕ → List ℕ → Option Request
+three_words word number workers = if bytes_eq word (codes "large") then large_of (chosen_of number) (workers_of workers) else None
+
+-- `once`, `plan`, `check`, `sim X`, `run W`, `trace W` or `large K W`
+abbrev pub request : List (List ℕ) → Option Request
+request [] = None
+request (word ∷ []) = one_word word
+request (word ∷ number ∷ []) = two_words word number
+request (word ∷ number ∷ workers ∷ []) = three_words word number workers
+request (word ∷ number ∷ workers ∷ other ∷ words) = None
+
+-- There is a worker, and the number that chooses generated values is in its range.
+abbrev pub HasWorkers : Mode → Type 0
+HasWorkers Once = Unit {0}
+HasWorkers (Sim seed) = Unit {0}
+HasWorkers (Run workers) = 0 < workers
+HasWorkers (Trace workers) = 0 < workers
+
+abbrev pub CanDo : Command → Type 0
+CanDo (Execute mode) = HasWorkers mode
+CanDo Plan = Unit {0}
+
+abbrev pub CanAnswer : Request → Type 0
+CanAnswer (Do command) = CanDo command
+CanAnswer (Large number workers) = (number < 65536) × (0 < workers)
+CanAnswer Check = Unit {0}

@@ -1,0 +1,71 @@
+//! Running the generated description.
+
+ghost use Rattle.std.specs.Prelude.{◌≡◌, ◌<◌, IfOk, None};
+ghost use Rattle.coll_lang.specs.Generated.{generated};
+ghost use Rattle.portals_top.specs.Answered.{HandsBack, LeavesRun};
+ghost use Rattle.portals_top.specs.Due.{done};
+ghost use Rattle.portals_top.specs.Large.{summary_text};
+ghost use Rattle.portals_top.specs.Written.{Written};
+
+use crate::ran::Ran;
+use crate::running::run_by_workers;
+use crate::status::Status;
+use crate::words::Mode;
+use crate::writing::{Rested, status_of, write_sums};
+use coll_lang::generated;
+use port_io::Sink;
+use ptl_types::NoMemory;
+use rank_threads::Gate;
+use run_text::Pieces;
+use schedule_compiler::{CompileFault, Job, compile};
+use std::alloc::Global;
+use std::sync::Wait;
+use std::thread::Threads;
+
+/// The job of the description that a number chooses.
+fn generated_job(alloc: Global, number: u32) -> Result<Job, NoMemory>
+    requires { number < 65536 }
+    ensures shape { IfOk result (λ job. job.shape ≡ (generated number).shape) }
+    ensures inputs { IfOk result (λ job. job.inputs ≡ (generated number).inputs) }
+{
+    let (shape, inputs) = generated(alloc, number)?.into_parts();
+    match compile(alloc, &shape) {
+        Ok(schedule) => Job::new(alloc, schedule, inputs),
+        Err(CompileFault::NoMemory) => Err(NoMemory),
+        // Its plan is within the limits.
+        Err(CompileFault::TooMany { .. }) => unreachable!(),
+        Err(CompileFault::TooLarge { .. }) => unreachable!(),
+    }
+}
+
+/// Runs the description that a number chooses by workers on threads, writes its summary, and hands back the world.
+pub(crate) fn large<R: Threads + Wait + Sync, G: Gate, K: Sink>(
+    rt: &R,
+    alloc: Global,
+    gate: &G,
+    number: u32,
+    workers: u32,
+    sink: &mut K,
+    ran: &mut Ran,
+) -> Status
+    requires number { number < 65536 }
+    requires workers { 0 < workers }
+    requires none { ran.old.world ≡ None }
+    ensures written { Written (done (summary_text number)) (K.outflow sink.old) (K.outflow sink.new) result }
+    ensures world { HandsBack result Status.Done (LeavesRun (Mode.Run workers) (generated number).shape (generated number).inputs) ran.new.world }
+{
+    let Ok(mut out) = Pieces::open(alloc) else {
+        return Status::NoMemory;
+    };
+    let Ok(job) = generated_job(alloc, number) else {
+        return Status::NoMemory;
+    };
+    let Ok(world) = run_by_workers(rt, alloc, gate, workers, &job) else {
+        return Status::NoMemory;
+    };
+    let rested = Rested(world);
+    let written = write_sums(&mut out, sink, number, &rested);
+    let Rested(world) = rested;
+    ran.world = Some(world);
+    status_of(written)
+}

@@ -1,0 +1,344 @@
+//! Runs by workers on threads.
+
+use crate::tests::{gives, source_of, words};
+use crate::{Ran, Status, portals_main, run_with_gate};
+use port_io::SureSink;
+use ptl_types::{LocalStep, Rank};
+use rank_threads::Gate;
+use std::alloc::{AllocError, Global};
+use std::process::Abort;
+use std::sync::Wait;
+use std::sync::atomic::{AtomicU64, Ordering};
+use std::test::Fail;
+use std::thread;
+use std::thread::Threads;
+
+const TWO_RANKS: &str = "coll 1\nranks 2\nbarrier\nend\n";
+
+const FOUR_RANKS: &str = "coll 1\nranks 4\nbarrier\nend\n";
+
+/// A reduction, a barrier and a scan on four ranks.
+const THREE_STEPS: &str =
+    "coll 1\nranks 4\ninput a u32 1\n1\n2\n3\n4\nallreduce sum a b\nbarrier\nscan sum b c\nprint c\nend\n";
+
+const THREE_RESULTS: &str = "c 0 10\nc 1 20\nc 2 30\nc 3 40\nrest\n";
+
+/// Sixteen ranks, of which each holds eight values: the greatest ones, and all of them.
+fn sixteen_ranks(alloc: Global, head: &str) -> Result<String, AllocError> {
+    let mut text = String::from_str(alloc, head)?;
+    text.push_str("input load u64 8\n")?;
+    for rank in 0..16u32 {
+        for place in 0..7u32 {
+            let value = 100 * rank + place;
+            text.push_str(format!(in alloc; "{value} ")?.as_str())?;
+        }
+        let last = 100 * rank + 7;
+        text.push_str(format!(in alloc; "{last}\n")?.as_str())?;
+    }
+    text.push_str(
+        "allreduce max load peak\nallgather load all\nbarrier\nprint peak\nprint all\nend\n",
+    )?;
+    Ok(text)
+}
+
+/// What they write.
+fn sixteen_results(alloc: Global) -> Result<String, AllocError> {
+    let mut text = String::new(alloc);
+    for rank in 0..16u32 {
+        let line = format!(in alloc; "peak {rank} 1500 1501 1502 1503 1504 1505 1506 1507\n")?;
+        text.push_str(line.as_str())?;
+    }
+    let mut all = String::new(alloc);
+    for rank in 0..16u32 {
+        for place in 0..8u32 {
+            let value = 100 * rank + place;
+            all.push_str(format!(in alloc; " {value}")?.as_str())?;
+        }
+    }
+    for rank in 0..16u32 {
+        text.push_str(format!(in alloc; "all {rank}")?.as_str())?;
+        text.push_str(all.as_str())?;
+        text.push_str("\n")?;
+    }
+    text.push_str("rest\n")?;
+    Ok(text)
+}
+
+#[test]
+fn workers_write_what_each_rank_holds(rt: HostRuntime) -> Result<(), Fail> {
+    let alloc = rt.alloc();
+    let mut ran = Ran::new();
+    for (workers, text, output) in [
+        (
+            "2",
+            "coll 1\nranks 2\ninput a u8 1\n200\n100\nallreduce sum a b\nprint b\nend\n",
+            "b 0 44\nb 1 44\nrest\n",
+        ),
+        ("3", FOUR_RANKS, "rest\n"),
+        ("4", THREE_STEPS, THREE_RESULTS),
+        ("16", "coll 1\nranks 1\nend\n", "rest\n"),
+        (
+            "2",
+            "coll 2\nranks 4\ngroup odd 1 3\ninput a u8 1\n1\n2\n3\n4\non odd allreduce sum a b\n\
+on odd broadcast 1 a c\nprint b\nprint c\nend\n",
+            "b 0\nb 1 6\nb 2\nb 3 6\nc 0\nc 1 4\nc 2\nc 3 4\nrest\n",
+        ),
+        ("8", "coll 2\nranks 256\nbarrier\nend\n", "rest\n"),
+        (
+            "3",
+            "coll 2\nranks 3\ngroup g 0 2\ninput a u8 1\n1\n2\n3\non g allreduce sum a b\n\
+gatherv 1 b c\nprint c\nend\n",
+            "c 0\nc 1 4 4\nc 2\nrest\n",
+        ),
+    ] {
+        let words = ["run", workers];
+        gives(&rt, alloc, &mut ran, &words, text, Status::Done, output)?;
+    }
+    Ok(())
+}
+
+#[test]
+fn workers_run_nothing_that_is_refused(rt: HostRuntime) -> Result<(), Fail> {
+    let alloc = rt.alloc();
+    let mut ran = Ran::new();
+    for (text, output) in [
+        (
+            "coll 2\nranks 3\ngroup g 0 2\ninput a u8 1\n1\n2\n3\non g allreduce sum a b\n\
+on g scatter 0 b c\nprint c\nend\n",
+            "refused 9 WrongShape\n",
+        ),
+        (
+            "coll 2\nranks 1\nelect e\ntickets t\nprint e\nprint t\nend\n",
+            "refused 0 OneThread\n",
+        ),
+        ("coll 1\nranks 2\nbarrier\nend", "refused 4 Unended\n"),
+    ] {
+        for command in ["run", "trace"] {
+            gives(
+                &rt,
+                alloc,
+                &mut ran,
+                &[command, "2"],
+                text,
+                Status::Refused,
+                output,
+            )?;
+        }
+    }
+    Ok(())
+}
+
+#[test]
+fn four_workers_run_sixteen_ranks(rt: HostRuntime) -> Result<(), Fail> {
+    let alloc = rt.alloc();
+    let mut ran = Ran::new();
+    let output = sixteen_results(alloc)?;
+    for head in ["coll 1\nranks 16\n", "coll 1\nranks 16\ncomplete remote\n"] {
+        let text = sixteen_ranks(alloc, head)?;
+        gives(
+            &rt,
+            alloc,
+            &mut ran,
+            &["run", "4"],
+            text.as_str(),
+            Status::Done,
+            output.as_str(),
+        )?;
+    }
+    Ok(())
+}
+
+#[test]
+fn traces_begin_with_the_results(rt: HostRuntime) -> Result<(), Fail> {
+    let alloc = rt.alloc();
+    let words = words(alloc, &["trace", "4"])?;
+    for _ in 0..50 {
+        let mut source = source_of(alloc, THREE_STEPS)?;
+        let mut sink = SureSink::with_room(alloc, 4096)?;
+        let mut ran = Ran::new();
+        let answer = portals_main(
+            &rt,
+            alloc,
+            words.as_slice(),
+            &mut source,
+            &mut sink,
+            &mut ran,
+        );
+        assert_eq!(rt; answer, Status::Done);
+        assert!(rt; ran.world.is_some());
+        assert!(rt; sink.as_slice().starts_with(THREE_RESULTS.as_bytes()));
+        let orders = &sink.as_slice()[THREE_RESULTS.len()..];
+        assert!(rt; orders.starts_with(b"order 0 ".as_slice()));
+        assert_eq!(rt; orders.iter().filter(|byte| **byte == b'\n').count(), 4);
+    }
+    Ok(())
+}
+
+#[test]
+fn a_generated_run_writes_its_sums(rt: HostRuntime) -> Result<(), Fail> {
+    let alloc = rt.alloc();
+    let mut ran = Ran::new();
+    for (words, output) in [
+        (
+            ["large", "1", "4"],
+            "large 1 ranks 64 cells 5632 links 14719\na 262144\nb 16777216\nc 262144\nd 16777216\n\
+e 262144\nrest\n",
+        ),
+        (
+            ["large", "1", "1"],
+            "large 1 ranks 64 cells 5632 links 14719\na 262144\nb 16777216\nc 262144\nd 16777216\n\
+e 262144\nrest\n",
+        ),
+        (
+            ["large", "0", "1"],
+            "large 0 ranks 64 cells 5632 links 14719\na 129024\nb 8257536\nc 129024\nd 8257536\n\
+e 129024\nrest\n",
+        ),
+    ] {
+        gives(&rt, alloc, &mut ran, &words, "", Status::Done, output)?;
+    }
+    Ok(())
+}
+
+/// Runs these words on a text with a gate, and answers how many steps the ranks of the world made.
+fn steps_through<G: Gate>(
+    rt: &(impl Abort + Threads + Wait + Sync),
+    alloc: Global,
+    gate: &G,
+    command: &[&str],
+    text: &str,
+    output: &str,
+) -> Result<u64, Fail> {
+    let mut source = source_of(alloc, text)?;
+    let mut sink = SureSink::with_room(alloc, 32_768)?;
+    let mut ran = Ran::new();
+    let words = words(alloc, command)?;
+    let answer = run_with_gate(
+        rt,
+        alloc,
+        words.as_slice(),
+        &mut source,
+        &mut sink,
+        gate,
+        &mut ran,
+    );
+    assert_eq!(rt; answer, Status::Done);
+    assert_eq!(rt; sink.as_slice(), output.as_bytes());
+    let mut steps = 0u64;
+    if let Some(world) = ran.world {
+        for rank in 0..world.schedule().shape().ranks() {
+            steps = steps.wrapping_add(world.history(rank).len() as u64);
+        }
+    }
+    Ok(steps)
+}
+
+/// Counts the steps.
+#[derive(Drop)]
+struct Counting {
+    passes: AtomicU64,
+}
+
+impl Gate for Counting {
+    fn pass(&self, _rank: Rank, _step: LocalStep) {
+        self.passes.fetch_add(1, Ordering::SeqCst);
+    }
+}
+
+#[test]
+fn one_worker_makes_every_step(rt: HostRuntime) -> Result<(), Fail> {
+    let gate = Counting {
+        passes: AtomicU64::new(0),
+    };
+    let steps = steps_through(&rt, rt.alloc(), &gate, &["run", "1"], FOUR_RANKS, "rest\n")?;
+    assert!(rt; steps > 0);
+    assert_eq!(rt; gate.passes.load(Ordering::SeqCst), steps);
+    Ok(())
+}
+
+/// How often a gate looks again at most.
+const PATIENCE: u32 = 1_000_000;
+
+/// Yields until a count reaches a number. False: it never did.
+fn reaches(count: &AtomicU64, number: u64) -> bool {
+    for _ in 0..PATIENCE {
+        if count.load(Ordering::SeqCst) >= number {
+            return true;
+        }
+        thread::yield_now();
+    }
+    false
+}
+
+/// Holds the first step that it sees until another rank makes one.
+#[derive(Drop)]
+struct Meeting {
+    // How many steps of rank 0 were seen, and of the others.
+    first: AtomicU64,
+    others: AtomicU64,
+    failures: AtomicU64,
+}
+
+impl Gate for Meeting {
+    fn pass(&self, rank: Rank, _step: LocalStep) {
+        let (own, other) = if rank == 0 {
+            (&self.first, &self.others)
+        } else {
+            (&self.others, &self.first)
+        };
+        own.fetch_add(1, Ordering::SeqCst);
+        if !reaches(other, 1) {
+            self.failures.fetch_add(1, Ordering::SeqCst);
+        }
+    }
+}
+
+#[test]
+fn two_workers_at_once(rt: HostRuntime) -> Result<(), Fail> {
+    let gate = Meeting {
+        first: AtomicU64::new(0),
+        others: AtomicU64::new(0),
+        failures: AtomicU64::new(0),
+    };
+    steps_through(&rt, rt.alloc(), &gate, &["run", "2"], TWO_RANKS, "rest\n")?;
+    assert_eq!(rt; gate.failures.load(Ordering::SeqCst), 0);
+    assert!(rt; gate.first.load(Ordering::SeqCst) > 0);
+    assert!(rt; gate.others.load(Ordering::SeqCst) > 0);
+    Ok(())
+}
+
+/// Holds the start of rank 0 until 50 steps of other ranks were seen.
+#[derive(Drop)]
+struct LateStart {
+    others: AtomicU64,
+}
+
+impl Gate for LateStart {
+    fn pass(&self, rank: Rank, step: LocalStep) {
+        if rank != 0 {
+            self.others.fetch_add(1, Ordering::SeqCst);
+        } else if step == LocalStep::Start {
+            let _ = reaches(&self.others, 50);
+        }
+    }
+}
+
+#[test]
+fn a_rank_that_starts_late_misses_nothing(rt: HostRuntime) -> Result<(), Fail> {
+    let alloc = rt.alloc();
+    let gate = LateStart {
+        others: AtomicU64::new(0),
+    };
+    let text = sixteen_ranks(alloc, "coll 1\nranks 16\n")?;
+    let output = sixteen_results(alloc)?;
+    steps_through(
+        &rt,
+        alloc,
+        &gate,
+        &["run", "4"],
+        text.as_str(),
+        output.as_str(),
+    )?;
+    assert!(rt; gate.others.load(Ordering::SeqCst) >= 50);
+    Ok(())
+}

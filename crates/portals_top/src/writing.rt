@@ -1,0 +1,131 @@
+//! Writing what a world at rest holds.
+
+ghost use Rattle.std.specs.Prelude.{◌≡◌, ◌++◌, Some, [], map};
+ghost use Rattle.coll_lang.specs.Generated.{generated};
+ghost use Rattle.coll_shape.specs.WellFormed.{IsWellFormed};
+ghost use Rattle.plan_orders.specs.Taking.{listed};
+ghost use Rattle.job_laws.specs.Results.{AreMeant};
+ghost use Rattle.run_text.specs.Lines.{result_text};
+ghost use Rattle.run_text.specs.Orders.{order_text};
+ghost use Rattle.run_text.specs.Putting.{EndsWith, Puts};
+ghost use Rattle.worlds.specs.World.{histories_in, memory_in};
+ghost use Rattle.portals_top.specs.Due.{mode_text, orders_of};
+ghost use Rattle.portals_top.specs.Large.{summary_text};
+ghost use Rattle.portals_top.specs.Written.{status_of};
+
+use crate::status::Status;
+use crate::words::Mode;
+use coll_shape::Shape;
+use port_io::{Failed, Sink};
+use ptl_types::Rank;
+use run_text::{Pieces, ResultLists, order_line, put_result, write_result, write_summary};
+use worlds::World;
+
+/// A world whose buffers are what the description means of the inputs.
+#[derive(Drop)]
+pub(crate) struct Rested(pub(crate) World);
+
+impl ResultLists for Rested {
+    ghost use Rattle.std.specs.Prelude.{◌<◌, length};
+    ghost use Rattle.coll_shape.specs.Meaning.{meaning_of};
+    ghost use Rattle.job_laws.specs.Results.{AreMeant};
+    ghost use Rattle.worlds.specs.World.{memory_in};
+
+    ghost lists = { λ rested. meaning_of rested.0.shape rested.0.inputs };
+
+    ghost can_give = { λ rested b r.
+        AreMeant rested.0.shape rested.0.inputs (memory_in rested.0) × (b < length rested.0.shape.buffers) × (r < rested.0.shape.ranks) };
+
+    fn list(&self, buffer: u32, rank: Rank) -> &[u8] {
+        self.0.result(buffer, rank)
+    }
+}
+
+/// Adds a line for each rank with the steps that it made.
+fn put_orders<K: Sink>(out: &mut Pieces, sink: &mut K, world: &World) -> Result<(), Failed>
+    ensures { Puts (K.outflow sink.old) (K.outflow sink.new) out.old out.new (order_text world.now.shape.ranks (λ r. map listed (histories_in world.now r))) result }
+{
+    for rank in 0..world.schedule().shape().ranks() {
+        order_line(out, sink, rank, world.history(rank))?;
+    }
+    Ok(())
+}
+
+/// The shape that was run.
+fn shape_of(rested: &Rested) -> &Shape
+    ensures told { result.now ≡ rested.now.0.shape }
+    ensures formed { IsWellFormed result.now }
+{
+    let shape = rested.0.schedule().shape();
+    shape.keeps_form();
+    shape
+}
+
+/// Writes the results.
+fn write_results<K: Sink>(out: &mut Pieces, sink: &mut K, rested: &Rested) -> Result<(), Failed>
+    requires empty { out.old ≡ [] }
+    requires meant { AreMeant rested.now.0.shape rested.now.0.inputs (memory_in rested.now.0) }
+    ensures { EndsWith (K.outflow sink.old) (K.outflow sink.new) (result_text rested.now.0.shape rested.now.0.inputs) result }
+{
+    let shape = shape_of(rested);
+    write_result(out, sink, shape, rested)
+}
+
+/// Writes the results and the order.
+fn write_ordered<K: Sink>(out: &mut Pieces, sink: &mut K, rested: &Rested) -> Result<(), Failed>
+    requires empty { out.old ≡ [] }
+    requires meant { AreMeant rested.now.0.shape rested.now.0.inputs (memory_in rested.now.0) }
+    ensures { EndsWith (K.outflow sink.old) (K.outflow sink.new) (result_text rested.now.0.shape rested.now.0.inputs ++ orders_of (Some rested.now.0)) result }
+{
+    let shape = shape_of(rested);
+    put_result(out, sink, shape, rested)?;
+    put_orders(out, sink, &rested.0)?;
+    out.end(sink)
+}
+
+/// Writes what a run in this mode owes.
+pub(crate) fn write_run<K: Sink>(
+    out: &mut Pieces,
+    sink: &mut K,
+    mode: Mode,
+    rested: &Rested,
+) -> Result<(), Failed>
+    requires empty { out.old ≡ [] }
+    requires meant { AreMeant rested.now.0.shape rested.now.0.inputs (memory_in rested.now.0) }
+    ensures { EndsWith (K.outflow sink.old) (K.outflow sink.new) (mode_text mode rested.now.0.shape rested.now.0.inputs (Some rested.now.0)) result }
+{
+    match mode {
+        Mode::Once | Mode::Run { .. } => write_results(out, sink, rested),
+        Mode::Sim { .. } | Mode::Trace { .. } => write_ordered(out, sink, rested),
+    }
+}
+
+/// Writes the summary of a run of the description that a number chooses.
+pub(crate) fn write_sums<K: Sink>(
+    out: &mut Pieces,
+    sink: &mut K,
+    number: u32,
+    rested: &Rested,
+) -> Result<(), Failed>
+    requires empty { out.old ≡ [] }
+    requires shape { rested.now.0.shape ≡ (generated number).shape }
+    requires inputs { rested.now.0.inputs ≡ (generated number).inputs }
+    requires meant { AreMeant rested.now.0.shape rested.now.0.inputs (memory_in rested.now.0) }
+    ensures { EndsWith (K.outflow sink.old) (K.outflow sink.new) (summary_text number) result }
+{
+    let shape = shape_of(rested);
+    let plan = rested.0.schedule().plan();
+    let cells = plan.cells().len() as u64;
+    let links = plan.links().len() as u64;
+    write_summary(out, sink, number, cells, links, shape, rested)
+}
+
+/// The status of what was written.
+pub(crate) fn status_of(written: Result<(), Failed>) -> Status
+    ensures { result ≡ status_of written }
+{
+    match written {
+        Ok(()) => Status::Done,
+        Err(_) => Status::WriteFault,
+    }
+}
