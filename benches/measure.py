@@ -102,4 +102,5 @@ def main():
             print(f"meaning_load: {peak:.1f} MB, {peak / cells:.2f} times the {cells:.0f} MB of its cells")
 
 
-main()
+if __name__ == "__main__":
+    main()
