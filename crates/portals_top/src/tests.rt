@@ -9,8 +9,6 @@ use std::sync::Wait;
 use std::test::Fail;
 use std::thread::Threads;
 
-mod workers;
-
 const ONE_RANK: &str = "coll 1\nranks 1\ninput a u8 1\n7\nbroadcast 0 a b\nprint b\nend\n";
 
 const ONE_RANK_RESULT: &str = "b 0 7\nrest\n";
@@ -20,7 +18,7 @@ const ONE_RANK_PLAN: &str =
 cell 3 0 u8 - 1 1\nlink 0 0 0 0 1 0 bump\nlink 1 0 0 0 2 0 bump\nlink 2 1 0 1 2 0 put\nlink 3 2 0 1 3 0 put\n\
 done 0 4\nend\n";
 
-pub(crate) fn words(alloc: Global, list: &[&str]) -> Result<Vec<String>, Fail> {
+fn words(alloc: Global, list: &[&str]) -> Result<Vec<String>, Fail> {
     let mut words = Vec::new(alloc);
     for word in list {
         words.push(String::from_str(alloc, word)?)?;
@@ -28,7 +26,7 @@ pub(crate) fn words(alloc: Global, list: &[&str]) -> Result<Vec<String>, Fail> {
     Ok(words)
 }
 
-pub(crate) fn source_of(alloc: Global, text: &str) -> Result<SureSource, Fail> {
+fn source_of(alloc: Global, text: &str) -> Result<SureSource, Fail> {
     Ok(SureSource::new(Bytes::of(alloc, text.as_bytes())?))
 }
 
@@ -45,7 +43,7 @@ fn turns_of(alloc: Global, list: &[IoTurn]) -> Result<IoTurns, Fail> {
 }
 
 /// Runs a command on a text, with all that it may leave.
-pub(crate) fn gives(
+fn gives(
     rt: &(impl Abort + Threads + Wait + Sync),
     alloc: Global,
     ran: &mut Ran,

@@ -1,10 +1,9 @@
 //! Runs by workers on threads.
 
-use crate::tests::{gives, source_of, words};
-use crate::{Ran, Status, portals_main, run_with_gate};
-use port_io::SureSink;
+use crate::runs::{Made, run};
+use portals_top::Status;
 use ptl_types::{LocalStep, Rank};
-use rank_threads::Gate;
+use rank_threads::{Gate, OpenGate};
 use std::alloc::{AllocError, Global};
 use std::process::Abort;
 use std::sync::Wait;
@@ -64,10 +63,30 @@ fn sixteen_results(alloc: Global) -> Result<String, AllocError> {
     Ok(text)
 }
 
+/// Runs a command on a text: the status, the whole output, and whether a world is left.
+fn gives(
+    rt: &(impl Abort + Threads + Wait + Sync),
+    alloc: Global,
+    command: &[&str],
+    text: &str,
+    status: Status,
+    output: &str,
+) -> Result<(), Fail> {
+    let made = run(rt, alloc, &OpenGate, command, text)?;
+    assert_eq!(rt; made.sink.as_slice(), output.as_bytes(), "at {text}");
+    assert_eq!(rt; made.status, status, "at {text}");
+    assert_eq!(rt; made.sink.finishes(), 1, "at {text}");
+    assert_eq!(rt;
+        made.ran.world.is_some(),
+        status == Status::Done,
+        "at {text}"
+    );
+    Ok(())
+}
+
 #[test]
 fn workers_write_what_each_rank_holds(rt: HostRuntime) -> Result<(), Fail> {
     let alloc = rt.alloc();
-    let mut ran = Ran::new();
     for (workers, text, output) in [
         (
             "2",
@@ -92,7 +111,7 @@ gatherv 1 b c\nprint c\nend\n",
         ),
     ] {
         let words = ["run", workers];
-        gives(&rt, alloc, &mut ran, &words, text, Status::Done, output)?;
+        gives(&rt, alloc, &words, text, Status::Done, output)?;
     }
     Ok(())
 }
@@ -100,7 +119,6 @@ gatherv 1 b c\nprint c\nend\n",
 #[test]
 fn workers_run_nothing_that_is_refused(rt: HostRuntime) -> Result<(), Fail> {
     let alloc = rt.alloc();
-    let mut ran = Ran::new();
     for (text, output) in [
         (
             "coll 2\nranks 3\ngroup g 0 2\ninput a u8 1\n1\n2\n3\non g allreduce sum a b\n\
@@ -114,15 +132,7 @@ on g scatter 0 b c\nprint c\nend\n",
         ("coll 1\nranks 2\nbarrier\nend", "refused 4 Unended\n"),
     ] {
         for command in ["run", "trace"] {
-            gives(
-                &rt,
-                alloc,
-                &mut ran,
-                &[command, "2"],
-                text,
-                Status::Refused,
-                output,
-            )?;
+            gives(&rt, alloc, &[command, "2"], text, Status::Refused, output)?;
         }
     }
     Ok(())
@@ -131,14 +141,12 @@ on g scatter 0 b c\nprint c\nend\n",
 #[test]
 fn four_workers_run_sixteen_ranks(rt: HostRuntime) -> Result<(), Fail> {
     let alloc = rt.alloc();
-    let mut ran = Ran::new();
     let output = sixteen_results(alloc)?;
     for head in ["coll 1\nranks 16\n", "coll 1\nranks 16\ncomplete remote\n"] {
         let text = sixteen_ranks(alloc, head)?;
         gives(
             &rt,
             alloc,
-            &mut ran,
             &["run", "4"],
             text.as_str(),
             Status::Done,
@@ -151,23 +159,12 @@ fn four_workers_run_sixteen_ranks(rt: HostRuntime) -> Result<(), Fail> {
 #[test]
 fn traces_begin_with_the_results(rt: HostRuntime) -> Result<(), Fail> {
     let alloc = rt.alloc();
-    let words = words(alloc, &["trace", "4"])?;
     for _ in 0..50 {
-        let mut source = source_of(alloc, THREE_STEPS)?;
-        let mut sink = SureSink::with_room(alloc, 4096)?;
-        let mut ran = Ran::new();
-        let answer = portals_main(
-            &rt,
-            alloc,
-            words.as_slice(),
-            &mut source,
-            &mut sink,
-            &mut ran,
-        );
-        assert_eq!(rt; answer, Status::Done);
-        assert!(rt; ran.world.is_some());
-        assert!(rt; sink.as_slice().starts_with(THREE_RESULTS.as_bytes()));
-        let orders = &sink.as_slice()[THREE_RESULTS.len()..];
+        let made = run(&rt, alloc, &OpenGate, &["trace", "4"], THREE_STEPS)?;
+        assert_eq!(rt; made.status, Status::Done);
+        assert!(rt; made.ran.world.is_some());
+        assert!(rt; made.sink.as_slice().starts_with(THREE_RESULTS.as_bytes()));
+        let orders = &made.sink.as_slice()[THREE_RESULTS.len()..];
         assert!(rt; orders.starts_with(b"order 0 ".as_slice()));
         assert_eq!(rt; orders.iter().filter(|byte| **byte == b'\n').count(), 4);
     }
@@ -177,7 +174,6 @@ fn traces_begin_with_the_results(rt: HostRuntime) -> Result<(), Fail> {
 #[test]
 fn a_generated_run_writes_its_sums(rt: HostRuntime) -> Result<(), Fail> {
     let alloc = rt.alloc();
-    let mut ran = Ran::new();
     for (words, output) in [
         (
             ["large", "1", "4"],
@@ -195,7 +191,7 @@ e 262144\nrest\n",
 e 129024\nrest\n",
         ),
     ] {
-        gives(&rt, alloc, &mut ran, &words, "", Status::Done, output)?;
+        gives(&rt, alloc, &words, "", Status::Done, output)?;
     }
     Ok(())
 }
@@ -209,20 +205,8 @@ fn steps_through<G: Gate>(
     text: &str,
     output: &str,
 ) -> Result<u64, Fail> {
-    let mut source = source_of(alloc, text)?;
-    let mut sink = SureSink::with_room(alloc, 32_768)?;
-    let mut ran = Ran::new();
-    let words = words(alloc, command)?;
-    let answer = run_with_gate(
-        rt,
-        alloc,
-        words.as_slice(),
-        &mut source,
-        &mut sink,
-        gate,
-        &mut ran,
-    );
-    assert_eq!(rt; answer, Status::Done);
+    let Made { status, sink, ran } = run(rt, alloc, gate, command, text)?;
+    assert_eq!(rt; status, Status::Done);
     assert_eq!(rt; sink.as_slice(), output.as_bytes());
     let mut steps = 0u64;
     if let Some(world) = ran.world {
