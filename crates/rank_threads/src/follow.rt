@@ -31,6 +31,7 @@ impl Slot {
             return false;
         }
         if !self.may_take(at, false) {
+            self.hints.note_held_back(number);
             return false;
         }
         let received = self.receive(rt, wires, mail, gate, at);

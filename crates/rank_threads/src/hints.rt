@@ -97,6 +97,14 @@ impl Hints {
         }
     }
 
+    /// Nothing may be taken of the lane of this number now. Where it is one of answers none is awaited, so none is on its way, and it
+    /// isn't looked at before there is mail for it; else a rank at rest would be looked at for ever.
+    pub(crate) fn note_held_back(&mut self, number: usize) {
+        if number % 2 == 1 {
+            self.note_look(number, false);
+        }
+    }
+
     /// Notes whether nothing waits at the out ends after all was tried again.
     pub(crate) fn note_flushed(&mut self, free: bool) {
         self.waits = !free;

@@ -1,8 +1,5 @@
-use Rattle.rank_threads.proofs.Onwards.{onward-received, onward-still}
+use Rattle.rank_threads.proofs.Onwards.{onward-received}
 use Rattle.rank_threads.proofs.slot.Slot.receive_of.Goals as goal
-
-pub returns-then-not-may_take : goal.returns-then-not-may_take
-returns-then-not-may_take g c = onward-still c.args.self.now
 
 pub returns : goal.returns
 returns g c = let e = c.receive-received.ensures in
