@@ -1,18 +1,15 @@
 -- A world behind a listed step.
-use Rattle.std.proofs.Common.{ℕ, Bool, true, false, cond, ◌&&◌, ◌<◌, ◌≡◌, ◌⊎◌, ◌∙◌, ◌++◌, List, [], ◌∷◌, Option, Some, None, refl, sym, ap, ap₂, subst, inl, inr, arith, length, map, filter, count_by, append-nil, append_assoc, IsTrue, if◌then◌else◌}
+use Rattle.std.proofs.Common.{ℕ, false, cond, ◌&&◌, ◌<◌, ◌≡◌, ◌⊎◌, ◌∙◌, ◌++◌, List, [], ◌∷◌, Option, Some, None, refl, sym, ap, ap₂, subst, inl, inr, arith, length, map, filter, count_by, append-nil, append_assoc, IsTrue}
 use Rattle.std.proofs.lemmas.Bool.{cases_eq, ne_eqb}
 use Rattle.std.proofs.lemmas.List.{map-append}
 use Rattle.std.proofs.lemmas.List.Elements.{filter-append}
 use Rattle.op_laws.proofs.OpLaws.{op_laws}
 use Rattle.op_laws.proofs.Starts.{combined-starts}
 use Rattle.op_laws.proofs.Swaps.{combined-swaps}
-use Rattle.ptl_types.specs.Kinds.{is_no_ack, is_put_or_atomic}
 use Rattle.ptl_types.specs.Messages.{Sent, message}
-use Rattle.ptl_types.specs.declared.headers.Header.{Header}
 use Rattle.ptl_types.specs.declared.headers.Lane.{Lane}
 use Rattle.ptl_types.specs.declared.steps.LocalStep.{LocalStep}
 use Rattle.ptl_types.specs.declared.steps.LocalStep.TheVariants.{Start as Starts, Receive as Receives, Fire as Fires}
-use Rattle.ni_model.specs.Arrive.{ack_header, answer, reply_header}
 use Rattle.ni_model.specs.Ready.{is_ready, target_at}
 use Rattle.ni_model.specs.State.{State}
 use Rattle.plan_view.specs.Slots.{Slots}
@@ -22,7 +19,8 @@ use Rattle.plan_cuts.specs.Moment.{IsEnabled}
 use Rattle.plan_cuts.specs.Plans.{system_of}
 use Rattle.plan_cuts.specs.System.{Histories, System, sent_by, state_at}
 use Rattle.plan_cuts.proofs.Fronts.{made-append}
-use Rattle.plan_cuts.proofs.Origin.{some_one, target_answers}
+use Rattle.plan_cuts.proofs.LaneAnswers.{answer_target}
+use Rattle.plan_cuts.proofs.Origin.{target_answers}
 use Rattle.plan_rest.proofs.Next.{next_held}
 use Rattle.plan_orders.specs.Chosen.{Scene, delivered, step_made}
 use Rattle.plan_orders.specs.Reached.{IsReached}
@@ -73,18 +71,6 @@ grown_by k w r (Receives s lane) allows known nic = at ((scene_in w).held s r la
     }
 
 -- ---- whom its message is for
--- an answer goes back to where the request came from
-answer_target : (ok : Bool) (n : ℕ) (bs : List ℕ) (h : Header) (m : Sent) → answer ok n bs h ≡ Some m → m.header.target ≡ h.source
-answer_target ok n bs h m e = at (is_put_or_atomic h.kind) (is_no_ack h.ack) e
-  where
-    at : (a b : Bool)
-        → (if a then (if b then None else Some (message (ack_header ok n h) []))
-        else Some (message (reply_header ok n h) (if ok then bs else [])))
-        ≡ Some m → m.header.target ≡ h.source
-    at true true e = cc
-    at true false e = sym (ap (λ (x : Sent). x.header.target) (some_one e))
-    at false b e = sym (ap (λ (x : Sent). x.header.target) (some_one e))
-
 module _ (w : WorldState) (is : IsStanding w) (slots : ℕ → Slots) (agree : AreSlots w slots) (r : ℕ) (hr : r < w.shape.ranks) where
   source_is : (s : ℕ) (lane : Lane) (m : Sent) → IsEnabled (ranks_in w slots) (scene_in w).world (scene_in w).held r (Receive s lane m)
       → m.header.source ≡ s

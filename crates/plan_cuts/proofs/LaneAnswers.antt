@@ -15,7 +15,7 @@ use Rattle.plan_cuts.specs.History.Local.{Fire, Receive, Start}
 use Rattle.plan_cuts.proofs.Origin.{IsOf, after_of, fired_link, from_link-request, some_one, target_answers}
 
 -- an answer goes back to where the request came from
-answer_target : (ok : Bool) (n : ℕ) (bs : List ℕ) (h : Header) (m : Sent) → answer ok n bs h ≡ Some m → m.header.target ≡ h.source
+pub answer_target : (ok : Bool) (n : ℕ) (bs : List ℕ) (h : Header) (m : Sent) → answer ok n bs h ≡ Some m → m.header.target ≡ h.source
 answer_target ok n bs h m e = at (is_put_or_atomic h.kind) (is_no_ack h.ack) e
   where
     at : (a b : Bool) → (if a then (if b then None else Some (message (ack_header ok n h) [])) else Some (message (reply_header ok n h) (if ok then bs else []))) ≡ Some m → m.header.target ≡ h.source

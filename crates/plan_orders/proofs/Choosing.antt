@@ -183,7 +183,7 @@ module _ (k : System) (z : Scene) where
   nothing_in : {X : Type 0} (xs : List X) (x : X) → xs ≡ [] → In x xs → ⊥
   nothing_in xs x e i = subst (λ v. In x v) e i
 
-  ready_listed : (s : State) (t : ℕ) → is_ready s t ≡ true → In t (ready_numbers s)
+  pub ready_listed : (s : State) (t : ℕ) → is_ready s t ≡ true → In t (ready_numbers s)
   ready_listed s t e = at (posted_at t s.pending) refl e
     where
       at : (o : Option Posted) → posted_at t s.pending ≡ o → is_ready_op s.cts o ≡ true → In t (ready_numbers s)

@@ -78,11 +78,11 @@ all_listed [] = refl
 all_listed (e ∷ es) = ap₂ (λ x xs. x ∷ xs) (listed-bare e) (all_listed es)
 
 -- ---- what a history's bare steps tell
-abbrev is_begin : Bare → Bool
+abbrev pub is_begin : Bare → Bool
 is_begin BStart = true
 is_begin _ = false
 
-starts-bare : (es : List Local) → count_by is_start es ≡ count_by is_begin (bares es)
+pub starts-bare : (es : List Local) → count_by is_start es ≡ count_by is_begin (bares es)
 starts-bare [] = refl
 starts-bare (e ∷ es) =
     count-cons is_start e es ∙ ap₂ (λ b n. cond b 1 0 + n) (one e) (starts-bare es) ∙ sym (count-cons is_begin (bare e) (bares es))
@@ -199,10 +199,10 @@ module _ (starts : CombineStarts) (p : Plan) (inputs : Inputs) (sound : SoundPla
   abbrev pub Made : (ℕ → Slots) → List Move → Type 0
   Made k es = IsInterleaving (system_of p inputs k) es
 
-  moment_of : (k : ℕ → Slots) (es : List Move) (made : Made k es) → IsMoment (system_of p inputs k) (histories es) (moves_reach (system_of p inputs k) es made).0
+  pub moment_of : (k : ℕ → Slots) (es : List Move) (made : Made k es) → IsMoment (system_of p inputs k) (histories es) (moves_reach (system_of p inputs k) es made).0
   moment_of k es made = let x = moves_reach (system_of p inputs k) es made in reached_moment starts p inputs k sound fit swaps (histories es) x.0 x.1
 
-  cut_of : (k : ℕ → Slots) (es : List Move) → Made k es → IsCut (system_of p inputs k) (histories es)
+  pub cut_of : (k : ℕ → Slots) (es : List Move) → Made k es → IsCut (system_of p inputs k) (histories es)
   cut_of k es made = (moment_of k es made).cut
 
   front_of : (k : ℕ → Slots) (es : List Move) → Made k es → (s d : ℕ) (lane : Lane) → IsPrefixOf (got (histories es d) s lane) (sent_by (system_of p inputs k) (histories es) s d lane)
@@ -233,7 +233,7 @@ module _ (starts : CombineStarts) (p : Plan) (inputs : Inputs) (sound : SoundPla
     same_seen : (r : ℕ) → r < p.ranks → all_seen p (moves_at p (histories es)) r ≡ all_seen p (moves_at p (histories fs)) r
     same_seen r h = ap (seen p nothing_seen) (same_moves r h)
 
-    same_ready : (r t : ℕ) → r < p.ranks → is_ready (state_at (system_of p inputs k) (histories es) r) t ≡ true → is_ready (state_at (system_of p inputs l) (histories fs) r) t ≡ true
+    pub same_ready : (r t : ℕ) → r < p.ranks → is_ready (state_at (system_of p inputs k) (histories es) r) t ≡ true → is_ready (state_at (system_of p inputs l) (histories fs) r) t ≡ true
     same_ready r t h e =
         let a = shape starts p inputs sound fit k (histories es) (cut_of k es made) r h in
         let b = shape starts p inputs sound fit l (histories fs) (cut_of l fs other) r h in
@@ -244,7 +244,7 @@ module _ (starts : CombineStarts) (p : Plan) (inputs : Inputs) (sound : SoundPla
         ∙ ap (λ v. is_ready (view b.annex p inputs (l r) r v) t) (sym (same_seen r h))
         ∙ subst (λ n. is_ready (view b.annex p inputs (l r) r g) n ≡ true) w.1.number z
 
-    same_requests : (s d : ℕ) → s < p.ranks → map to_came (sent_by (system_of p inputs k) (histories es) s d Request) ≡ map to_came (sent_by (system_of p inputs l) (histories fs) s d Request)
+    pub same_requests : (s d : ℕ) → s < p.ranks → map to_came (sent_by (system_of p inputs k) (histories es) s d Request) ≡ map to_came (sent_by (system_of p inputs l) (histories fs) s d Request)
     same_requests s d h =
         ap (map to_came) (sent_requests starts p inputs sound fit k (histories es) (cut_of k es made) s d h)
         ∙ sent-came p (k s) _
@@ -252,13 +252,13 @@ module _ (starts : CombineStarts) (p : Plan) (inputs : Inputs) (sound : SoundPla
         ∙ sym (sent-came p (l s) _)
         ∙ sym (ap (map to_came) (sent_requests starts p inputs sound fit l (histories fs) (cut_of l fs other) s d h))
 
-    same_asks : (s r : ℕ) → map to_came (got (histories es r) s Request) ≡ map to_came (got (histories fs r) s Request)
+    pub same_asks : (s r : ℕ) → map to_came (got (histories es r) s Request) ≡ map to_came (got (histories fs r) s Request)
     same_asks s r = got-asks s (histories es r) ∙ ap (asks_from s) (same r) ∙ sym (got-asks s (histories fs r))
 
-    same_told : (s r : ℕ) → length (got (histories es r) s Answer) ≡ length (got (histories fs r) s Answer)
+    pub same_told : (s r : ℕ) → length (got (histories es r) s Answer) ≡ length (got (histories fs r) s Answer)
     same_told s r = got-told s (histories es r) ∙ ap (told_by s) (same r) ∙ sym (got-told s (histories fs r))
 
-    same_answers : (s d : ℕ) → s < p.ranks → length (sent_by (system_of p inputs k) (histories es) s d Answer) ≡ length (sent_by (system_of p inputs l) (histories fs) s d Answer)
+    pub same_answers : (s d : ℕ) → s < p.ranks → length (sent_by (system_of p inputs k) (histories es) s d Answer) ≡ length (sent_by (system_of p inputs l) (histories fs) s d Answer)
     same_answers s d h = at p.remote refl
       where
         at : (b : Bool) → p.remote ≡ b → length (sent_by (system_of p inputs k) (histories es) s d Answer) ≡ length (sent_by (system_of p inputs l) (histories fs) s d Answer)
@@ -344,7 +344,7 @@ module _ (starts : CombineStarts) (p : Plan) (inputs : Inputs) (sound : SoundPla
     likewise r (Receive s Request m) h t = ask r s m (known r s Request m t) t
     likewise r (Receive s Answer m) h t = tell r s m (known r s Answer m t) t
 
-    same_listed : (r : ℕ) → map listed (histories es r) ≡ map listed (histories fs r)
+    pub same_listed : (r : ℕ) → map listed (histories es r) ≡ map listed (histories fs r)
     same_listed r = all_listed (histories es r) ∙ ap (map listed_of) (same r) ∙ sym (all_listed (histories fs r))
 
     -- a rank that rests there rests here

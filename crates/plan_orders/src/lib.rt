@@ -119,3 +119,12 @@ pub fn chosen_runs_of_plans()
         SoundPlan plan (length inputs) → AreInputsOf plan inputs →
         ((world : Histories) × IsChosen (system_of plan inputs slots) words world) }
 {}
+
+/// Words choose one run of a sound plan, whatever slots the tables of its interfaces gave out: the local steps of each rank are the
+/// same.
+pub fn one_run_is_chosen()
+    ensures { (plan : Plan) (inputs : Inputs) (slots others : ℕ → Slots) (words : ℕ → ℕ) (one other : Histories) →
+        SoundPlan plan (length inputs) → AreInputsOf plan inputs →
+        IsChosen (system_of plan inputs slots) words one → IsChosen (system_of plan inputs others) words other →
+        (r : ℕ) → r < plan.ranks → map listed (one r) ≡ map listed (other r) }
+{}

@@ -1,25 +1,14 @@
 -- Counting members, summing rounds, and the first excess.
-use Rattle.std.proofs.Common.{ℕ, zero, suc, Bool, true, false, cond, ◌+◌, ◌-◌, ◌≡◌, ◌<◌, ◌≤◌, List, [], ◌∷◌, ◌++◌, refl, length, map, filter, sum_by, Option, Some, None, ap, ◌∙◌, sym, arith, length-append, nat_lt}
+use Rattle.std.proofs.Common.{ℕ, suc, cond, ◌+◌, ◌-◌, ◌≡◌, ◌<◌, ◌≤◌, [], ◌∷◌, sum_by, Some, None, ap, ◌∙◌, arith, nat_lt}
 use Rattle.std.proofs.lemmas.Bool.{lt-ltb, le-ltb}
 use Rattle.std.proofs.lemmas.List.Sums.{sum_by-append, sum_by-cons}
 use Rattle.plan_core.specs.Plan.{from_to}
 use Rattle.plan_core.proofs.Drawing.{from_to-more}
 use Rattle.coll_shape.specs.Outline.{Outline}
-use Rattle.plan_steps.proofs.Leaving.{filter-more}
 use Rattle.shape_plans.specs.declared.footprints.Size.{Size}
-use Rattle.shape_plans.specs.Footprint.{Excess, Refused, judged, refused_at}
+use Rattle.shape_plans.specs.Footprint.{Excess, judged, refused_at}
 use Rattle.shape_plans.specs.Footprint.Excess.{Links, Bytes}
 use Rattle.shape_plans.specs.Judging.{add_sizes, found_from, size_upto, step_size}
-
-pub count-more : (t : ℕ → Bool) (k : ℕ) → length (filter t (from_to 0 (k + 1))) ≡ length (filter t (from_to 0 k)) + cond (t k) 1 0
-count-more t k =
-    ap length (filter-more t k)
-    ∙ length-append (filter t (from_to 0 k)) (cond (t k) (k ∷ []) [])
-    ∙ ap (λ v. length (filter t (from_to 0 k)) + v) (at (t k))
-  where
-    at : (b : Bool) → length (cond b (k ∷ []) []) ≡ cond b 1 0
-    at true = refl
-    at false = refl
 
 pub sum-more : (f : ℕ → ℕ) (k : ℕ) → sum_by f (from_to 0 (k + 1)) ≡ sum_by f (from_to 0 k) + f k
 sum-more f k =
