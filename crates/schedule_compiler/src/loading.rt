@@ -21,10 +21,10 @@ use std::alloc::Global;
 fn add_zeros(bytes: &mut Vec<u8>, n: u64) -> Result<(), NoMemory>
     ensures { IfOk result (λ u. bytes.new.items ≡ bytes.old.items ++ replicate n 0) }
 {
-    for place in 0..n {
-        let _ = place;
-        bytes.push(0)?;
-    }
+    let Some(end) = bytes.len().checked_add(n as usize) else {
+        return Err(NoMemory);
+    };
+    bytes.resize(end, 0)?;
     Ok(())
 }
 
@@ -71,24 +71,17 @@ fn add_list(bytes: &mut Vec<u8>, list: &[u8]) -> Result<(), NoMemory>
 }
 
 /// Starting values of an operation behind the bytes, as many as whole elements fit into n bytes.
-fn add_starting(
-    alloc: Global,
-    bytes: &mut Vec<u8>,
-    op: AtomicOp,
-    ty: ElemType,
-    n: u64,
-) -> Result<(), NoMemory>
+fn add_starting(bytes: &mut Vec<u8>, op: AtomicOp, ty: ElemType, n: u64) -> Result<(), NoMemory>
     ensures { IfOk result (λ u. bytes.new.items ≡ bytes.old.items ++ starting op ty n) }
 {
-    let mut part = Vec::new(alloc);
-    add_zeros(&mut part, n - n % ty.size())?;
-    start_values(op, ty, part.as_mut_slice());
-    add_list(bytes, part.as_slice())
+    let start = bytes.len();
+    add_zeros(bytes, n - n % ty.size())?;
+    start_values(op, ty, &mut bytes[start..]);
+    Ok(())
 }
 
 /// What n blank bytes hold behind the bytes: starting values where something is combined there, else zeros.
 fn add_blank(
-    alloc: Global,
     bytes: &mut Vec<u8>,
     op: Option<AtomicOp>,
     ty: ElemType,
@@ -97,7 +90,7 @@ fn add_blank(
     ensures { IfOk result (λ u. bytes.new.items ≡ bytes.old.items ++ blank_as op ty n) }
 {
     match op {
-        Some(op) => add_starting(alloc, bytes, op, ty, n),
+        Some(op) => add_starting(bytes, op, ty, n),
         None => add_zeros(bytes, n),
     }
 }
@@ -124,7 +117,6 @@ fn add_input(bytes: &mut Vec<u8>, inputs: &Inputs, ranks: u32, i: u32) -> Result
 
 /// What a cell holds at the beginning, behind the bytes.
 fn add_cell(
-    alloc: Global,
     bytes: &mut Vec<u8>,
     plan: &Plan,
     inputs: &Inputs,
@@ -146,14 +138,13 @@ fn add_cell(
         Ok(())
     } else {
         let cell = plan.cells()[c as usize];
-        add_blank(alloc, bytes, cell.op, cell.ty, cell.length)?;
+        add_blank(bytes, cell.op, cell.ty, cell.length)?;
         Ok(())
     }
 }
 
 /// What these cells hold at the beginning, one behind the other.
 fn add_cells(
-    alloc: Global,
     bytes: &mut Vec<u8>,
     plan: &Plan,
     inputs: &Inputs,
@@ -169,38 +160,32 @@ fn add_cells(
     ensures { IfOk result (λ u. bytes.new.items ≡ bytes.old.items ++ flat_map (initial plan.now inputs.now) own.now) }
 {
     for c in own {
-        add_cell(alloc, bytes, plan, inputs, count, *c)?;
+        add_cell(bytes, plan, inputs, count, *c)?;
     }
     Ok(())
 }
 
 /// What the area of a class holds at the beginning, behind the bytes.
-fn add_area(alloc: Global, bytes: &mut Vec<u8>, class: u32, n: u64) -> Result<(), NoMemory>
+fn add_area(bytes: &mut Vec<u8>, class: u32, n: u64) -> Result<(), NoMemory>
     ensures { IfOk result (λ u. bytes.new.items ≡ bytes.old.items ++ blank_area class n) }
 {
     if class == 0 {
-        add_blank(alloc, bytes, None, ElemType::U8, n)
+        add_blank(bytes, None, ElemType::U8, n)
     } else {
         let op = op_at((class - 1) / 8);
-        add_blank(alloc, bytes, Some(op), type_at((class - 1) % 8), n)
+        add_blank(bytes, Some(op), type_at((class - 1) % 8), n)
     }
 }
 
 /// What the areas of a rank hold at the beginning, behind the bytes. A class without messages has no bytes.
-fn add_areas(
-    alloc: Global,
-    bytes: &mut Vec<u8>,
-    plan: &Plan,
-    tables: &Tables,
-    r: Rank,
-) -> Result<(), NoMemory>
+fn add_areas(bytes: &mut Vec<u8>, plan: &Plan, tables: &Tables, r: Rank) -> Result<(), NoMemory>
     requires tables { IsTables plan.now tables.now }
     requires rank { r < plan.now.ranks }
     requires few { plan.now.ranks ≤ 256 }
     ensures { IfOk result (λ u. bytes.new.items ≡ bytes.old.items ++ blank_areas plan.now r) }
 {
     for class in 0..81u32 {
-        add_area(alloc, bytes, class, tables.area(plan, r, class))?;
+        add_area(bytes, class, tables.area(plan, r, class))?;
     }
     Ok(())
 }
@@ -221,7 +206,7 @@ pub fn load(alloc: Global, schedule: &Schedule, inputs: &Inputs, r: Rank) -> Res
     let shape = schedule.shape();
     shape.keeps_form();
     let count = shape.input_count();
-    add_cells(alloc, &mut bytes, plan, inputs, count, schedule.cells(r))?;
-    add_areas(alloc, &mut bytes, plan, schedule.tables(), r)?;
+    add_cells(&mut bytes, plan, inputs, count, schedule.cells(r))?;
+    add_areas(&mut bytes, plan, schedule.tables(), r)?;
     Ok(Bytes::from_vec(bytes))
 }
