@@ -18,7 +18,7 @@ use ptl_types::{
 };
 
 /// Allocates portal table index 0, without a queue.
-fn alloc_index(nic: &mut Nic) -> Result<(), NoMemory>
+pub fn alloc_index(nic: &mut Nic) -> Result<(), NoMemory>
     ensures { OnOk result (nic.new ≡ with_index 0 None nic.old) }
 {
     match nic.pt_alloc(0, None) {
@@ -62,7 +62,7 @@ fn link(nic: &mut Nic, list: List, entry: Entry) -> Result<Handle, NoMemory>
 }
 
 /// Posts a triggered operation.
-fn post(nic: &mut Nic, deed: Deed, ct: Handle, threshold: u64) -> Result<(), NoMemory>
+pub fn post(nic: &mut Nic, deed: Deed, ct: Handle, threshold: u64) -> Result<(), NoMemory>
     requires { MayStart deed nic.old.ranks nic.old.limits }
     ensures { OnOk result (nic.new ≡ with_operation deed ct threshold nic.old) }
 {
@@ -73,7 +73,7 @@ fn post(nic: &mut Nic, deed: Deed, ct: Handle, threshold: u64) -> Result<(), NoM
 }
 
 /// A counting event more, whose handle is kept.
-fn make_counter(nic: &mut Nic, kept: &mut Kept) -> Result<(), NoMemory>
+pub fn make_counter(nic: &mut Nic, kept: &mut Kept) -> Result<(), NoMemory>
     requires all { AreAllOf nic.old kept.old }
     requires room { length kept.old.counters < kept.old.room.counters }
     ensures { OnOk result (NewCounter nic.old nic.new kept.old kept.new) }
@@ -84,7 +84,7 @@ fn make_counter(nic: &mut Nic, kept: &mut Kept) -> Result<(), NoMemory>
 }
 
 /// A descriptor more, whose handle is kept.
-fn make_descriptor(nic: &mut Nic, kept: &mut Kept, md: Descriptor) -> Result<(), NoMemory>
+pub fn make_descriptor(nic: &mut Nic, kept: &mut Kept, md: Descriptor) -> Result<(), NoMemory>
     requires all { AreAllOf nic.old kept.old }
     requires room { length kept.old.descriptors < kept.old.room.descriptors }
     ensures { OnOk result (NewDescriptor md nic.old nic.new kept.old kept.new) }
@@ -95,7 +95,7 @@ fn make_descriptor(nic: &mut Nic, kept: &mut Kept, md: Descriptor) -> Result<(),
 }
 
 /// A persistent entry more, whose handle is kept.
-fn make_entry(nic: &mut Nic, kept: &mut Kept, list: List, entry: Entry) -> Result<(), NoMemory>
+pub fn make_entry(nic: &mut Nic, kept: &mut Kept, list: List, entry: Entry) -> Result<(), NoMemory>
     requires all { AreAllOf nic.old kept.old }
     requires room { length kept.old.entries < kept.old.room.entries }
     requires persistent { entry.use_once ≡ false }

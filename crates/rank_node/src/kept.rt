@@ -98,4 +98,12 @@ impl Kept {
     {
         self.descriptors[0]
     }
+
+    /// Descriptor number `i`.
+    pub fn descriptor_at(&self, i: usize) -> Handle
+        requires { i < length self.now.descriptors }
+        ensures { (f : ℕ → ℕ) → Tells f self.now.descriptors → result ≡ handle (f i) i }
+    {
+        self.descriptors[i]
+    }
 }

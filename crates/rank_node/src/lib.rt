@@ -12,5 +12,9 @@ mod node;
 mod start;
 
 pub use compiled::Compiled;
+pub use history::History;
+pub use install::{alloc_index, make_counter, make_descriptor, make_entry, one, post};
+pub use kept::Kept;
 pub use laws::{compiled_plans, node_runs};
 pub use node::Node;
+pub use start::raise_go;
