@@ -1,5 +1,5 @@
 -- What comes over a lane is for its rank and isn't lost, and what a step makes goes onto a lane that is used.
-use Rattle.std.proofs.Common.{ℕ, Bool, true, false, ◌==◌, ◌≡◌, ◌<◌, ◌⊎◌, List, [], ◌∷◌, refl, ap, ap₂, ◌∙◌, sym, subst, inl, inr, arith, Some, None, if◌then◌else◌}
+use Rattle.std.proofs.Common.{ℕ, Bool, true, false, ◌==◌, ◌+◌, ◌*◌, ◌≡◌, ◌<◌, ◌≤◌, ◌⊎◌, List, [], ◌∷◌, refl, length, ap, ap₂, ◌∙◌, sym, subst, inl, inr, arith, Some, None, if◌then◌else◌}
 use Rattle.std.proofs.lemmas.Bool.{cases_eq}
 use Rattle.ptl_types.specs.declared.calls.Outcome.TheVariants.{Answered as IsAnswered, Matched}
 use Rattle.ptl_types.specs.declared.headers.Lane.{Lane}
@@ -16,7 +16,9 @@ use Rattle.coll_lang.specs.declared.choices.ChoiceKind.TheVariants.{Elect, Ticke
 use Rattle.choice_machine.specs.Machine.{Answer, Ask, Phase, answer, ask}
 use Rattle.choice_machine.specs.Machine.Phase.{Answered, Asked, Idle, Learned, Read, Reading, Served, Told}
 use Rattle.choice_machine.specs.Lawful.{Holds, is_plain}
-use Rattle.choice_view.specs.Install.{Slots, answer_message, ask_header, ask_message, seat_of}
+use Rattle.choice_view.specs.Install.{Slots, answer_message, ask_header, ask_message, given_word, seat_of, step_bytes, word}
+use Rattle.choice_view.proofs.Memory.{inside_step}
+use Rattle.choice_view.proofs.StepStart.{length-step}
 use Rattle.choice_view.proofs.Firings.{step_fire}
 use Rattle.choice_view.specs.Steps.{sent_message}
 use Rattle.choice_view.proofs.StepServe.{step_serve}
@@ -30,6 +32,20 @@ use Rattle.choice_laws.proofs.Serving.{first_of, word_small}
 -- a request's lane, and an answer's
 ask_lane : (k : Slots) (ks : List ChoiceKind) (r s : ℕ) (reads : Bool) → lane_of (ask_header k ks r s reads).kind ≡ Request
 ask_lane k ks r s reads = ap (λ b. if b then AnswerLane else Request) (ask_goes k ks r s reads).kind
+
+-- what they carry
+length-word : (x : ℕ) → length (word x) ≡ 8
+length-word x = refl
+
+ask_short : (k : Slots) (ks : List ChoiceKind) (r : ℕ) (a : Ask) → length (ask_message k ks r a).bytes ≤ 8
+ask_short k ks r a = at a.reads (given_word (choice_at ks a.step) r)
+  where
+    at : (b : Bool) (x : ℕ) → length (if b then [] else word x) ≤ 8
+    at true x = omega arith
+    at false x = let e = length-word x in omega (arith, e)
+
+answer_short : (k : Slots) (ks : List ChoiceKind) (r : ℕ) (a : Answer) → length (answer_message k ks r a).bytes ≤ 8
+answer_short k ks r a = let e = length-word a.value in omega (arith, e)
 
 answer_source : (k : Slots) (ks : List ChoiceKind) (r : ℕ) (a : Answer) → (answer_message k ks r a).header.source ≡ 0
 answer_source k ks r a = (ask_goes k ks r a.step a.reads).target
@@ -120,6 +136,7 @@ module _ (ranks : ℕ) (ks : List ChoiceKind) (slots : ℕ → Slots) (in_range 
             target = ap (λ (x : Sent). x.header.target) (sym k.is) ∙ (ask_goes (slots s) ks s k.a.step k.a.reads).target;
             of_lane = ap (λ (x : Sent). lane_of x.header.kind) (sym k.is) ∙ ask_lane (slots s) ks s k.a.step k.a.reads;
             outcome = ap (λ (x : Delivers). x.delivered.outcome) k.does;
+            short = subst (λ (x : Sent). length x.bytes ≤ 8) k.is (ask_short (slots s) ks s k.a);
           })
   comes s d AnswerLane m rest i j e = at (cases_eq s 0)
     where
@@ -132,6 +149,7 @@ module _ (ranks : ℕ) (ks : List ChoiceKind) (slots : ℕ → Slots) (in_range 
             target = ap (λ (x : Sent). x.header.target) (sym k.is) ∙ (answer_goes (slots d) ks d k.a).target;
             of_lane = ap (λ (x : Sent). lane_of x.header.kind) (sym k.is);
             outcome = ap (λ (x : Delivers). x.delivered.outcome) k.does;
+            short = subst (λ (x : Sent). length x.bytes ≤ 8) k.is (answer_short (slots d) ks d k.a);
           })
 
   some_one : (a b : Sent) → Some a ≡ Some b → a ≡ b
@@ -140,22 +158,27 @@ module _ (ranks : ℕ) (ks : List ChoiceKind) (slots : ℕ → Slots) (in_range 
   no_some : {X : Type 0} (a : Sent) → None ≡ Some a → X
   no_some a e = cc
 
+  -- an answer of rank d to what came from rank s
+  abbrev pub IsBack : ℕ → ℕ → Sent → Type 0
+  IsBack s d n = IsMade ranks d n × (n.header.target ≡ s)
+
   pub receipt_makes : (s d : ℕ) (lane : Lane) (m n : Sent) (rest : List Sent) → s < ranks → d < ranks → held s d lane ≡ m ∷ rest
-      → (target (state_at (choice_system ranks ks slots) w d) m).delivered.answer ≡ Some n → IsMade ranks d n
+      → (target (state_at (choice_system ranks ks slots) w d) m).delivered.answer ≡ Some n → IsBack s d n
   receipt_makes s d Request m n rest i j e f = at (cases_eq d 0)
     where
-      at : ((d ≡ 0) ⊎ (d ≡ 0 → ⊥)) → IsMade ranks d n
+      at : ((d ≡ 0) ⊎ (d ≡ 0 → ⊥)) → IsBack s d n
       at (inr q) = nothing (sym (now.no_request s d (λ q'. q (sym q'))) ∙ e)
       at (inl q) =
           let k = asking s m rest i (subst (λ v. held s v Request ≡ m ∷ rest) q e) in
-          subst (λ v. IsMade ranks v n) (sym q) (subst (IsMade ranks 0)
-          (some_one (answer_message (slots s) ks s (answer k.a.step k.a.reads k.value)) n
+          let a = answer k.a.step k.a.reads k.value in
+          subst (λ v. IsBack s v n) (sym q) (subst (IsBack s 0)
+          (some_one (answer_message (slots s) ks s a) n
           (sym (ap (λ (x : Delivers). x.delivered.answer) k.does)
           ∙ subst (λ v. (target (state_at (choice_system ranks ks slots) w v) m).delivered.answer ≡ Some n) q f))
-          (answer_made s (answer k.a.step k.a.reads k.value) i))
+          (answer_made s a i, (answer_goes (slots s) ks s a).target))
   receipt_makes s d AnswerLane m n rest i j e f = at (cases_eq s 0)
     where
-      at : ((s ≡ 0) ⊎ (s ≡ 0 → ⊥)) → IsMade ranks d n
+      at : ((s ≡ 0) ⊎ (s ≡ 0 → ⊥)) → IsBack s d n
       at (inr q) = nothing (sym (now.no_answer s d q) ∙ e)
       at (inl q) =
           let k = answering d m rest j (subst (λ v. held v d AnswerLane ≡ m ∷ rest) q e) in
@@ -183,3 +206,10 @@ module _ (ranks : ℕ) (ks : List ChoiceKind) (slots : ℕ → Slots) (in_range 
 
   pub no_violations : (r : ℕ) → (state_at (choice_system ranks ks slots) w r).violations ≡ 0
   no_violations r = ap (λ (v : State). v.violations) (now.states r)
+
+  -- the four words of a step are within the memory
+  pub words_within : (r s : ℕ) → s < length ks → 32 * s + 32 ≤ length (state_at (choice_system ranks ks slots) w r).memory
+  words_within r s h =
+      let seat = seat_of ks now.m r in
+      subst (λ (v : State). 32 * s + 32 ≤ length v.memory) (sym (now.states r))
+      (inside_step ks s h (step_bytes ks r seat) (λ t i. length-step ks r seat t))

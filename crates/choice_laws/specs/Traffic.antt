@@ -1,5 +1,5 @@
 -- What comes over the lanes of a choice text, and what goes onto them.
-use Rattle.std.specs.Prelude.{ℕ, true, ◌≡◌, ◌<◌}
+use Rattle.std.specs.Prelude.{ℕ, true, ◌≡◌, ◌<◌, ◌≤◌, length}
 use Rattle.ptl_types.specs.declared.calls.Outcome.{Outcome}
 use Rattle.ptl_types.specs.declared.calls.Outcome.TheVariants.{Answered, Matched}
 use Rattle.ptl_types.specs.declared.headers.Lane.{Lane}
@@ -20,6 +20,8 @@ pub record IsComing (s d : ℕ) (lane : Lane) (v : State) (m : Sent) : Type 0 wh
   pub target : m.header.target ≡ d
   pub of_lane : lane_of m.header.kind ≡ lane
   pub outcome : (received v m).delivered.outcome ≡ outcome_on lane
+  -- a word, or nothing
+  pub short : length m.bytes ≤ 8
 
 -- a message that a step of rank r makes goes to a rank, on a lane that is used
 pub record IsMade (ranks r : ℕ) (m : Sent) : Type 0 where

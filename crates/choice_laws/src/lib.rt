@@ -1,7 +1,7 @@
 //! Every interleaving of a choice text: what is right where nothing is left to do, how long it is, and what goes over its lanes.
 #![tactic(auto)]
 
-ghost use Rattle.std.specs.Prelude.{ℕ, List, ◌≡◌, ◌<◌, ◌≤◌, ◌∷◌, Some, IsTrue, length};
+ghost use Rattle.std.specs.Prelude.{ℕ, List, ◌≡◌, ◌<◌, ◌≤◌, ◌+◌, ◌*◌, ◌∷◌, Some, IsTrue, length};
 ghost use Rattle.ptl_types.specs.declared.headers.Lane.{Lane};
 ghost use Rattle.ptl_types.specs.Messages.{Sent};
 ghost use Rattle.ni_model.specs.Ready.{is_ready, fired};
@@ -44,8 +44,9 @@ pub fn interleavings_end()
         IsStill (choice_system ranks choices slots) histories held }
 {}
 
-/// A lane holds at most one message for each step of the text. Its first is for the rank that it leads to, and finds its entry or is
-/// awaited there. What a receipt or a firing makes goes onto a lane that is used.
+/// A lane holds at most one message for each step of the text. Its first is for the rank that it leads to, finds its entry or is
+/// awaited there, and carries one word at most. What a receipt or a firing makes goes onto a lane that is used, and an answer goes
+/// back to where its request came from.
 pub fn messages_come()
     ensures few { (ranks : ℕ) (choices : List ChoiceKind) (slots : ℕ → Slots) (histories : Histories)
         (held : Lanes) (s d : ℕ) (lane : Lane) →
@@ -62,6 +63,12 @@ pub fn messages_come()
         s < ranks → d < ranks → held s d lane ≡ m ∷ rest →
         (target (state_at (choice_system ranks choices slots) histories d) m).delivered.answer ≡ Some made →
         IsMade ranks d made }
+    ensures back { (ranks : ℕ) (choices : List ChoiceKind) (slots : ℕ → Slots) (histories : Histories)
+        (held : Lanes) (s d : ℕ) (lane : Lane) (m made : Sent) (rest : List Sent) →
+        IsInRange ranks choices → IsReached (choice_system ranks choices slots) histories held →
+        s < ranks → d < ranks → held s d lane ≡ m ∷ rest →
+        (target (state_at (choice_system ranks choices slots) histories d) m).delivered.answer ≡ Some made →
+        made.header.target ≡ s }
     ensures firing { (ranks : ℕ) (choices : List ChoiceKind) (slots : ℕ → Slots)
         (histories : Histories) (held : Lanes) (r t : ℕ) (made : Sent) →
         IsInRange ranks choices → IsReached (choice_system ranks choices slots) histories held →
@@ -80,4 +87,13 @@ pub fn nothing_is_lost()
         (histories : Histories) (held : Lanes) (r : ℕ) →
         IsInRange ranks choices → IsReached (choice_system ranks choices slots) histories held →
         (state_at (choice_system ranks choices slots) histories r).violations ≡ 0 }
+{}
+
+/// The four words of each step of the text are within the memory of each rank.
+pub fn words_are_within()
+    ensures { (ranks : ℕ) (choices : List ChoiceKind) (slots : ℕ → Slots) (histories : Histories)
+        (held : Lanes) (r s : ℕ) →
+        IsInRange ranks choices → IsReached (choice_system ranks choices slots) histories held →
+        s < length choices →
+        32 * s + 32 ≤ length (state_at (choice_system ranks choices slots) histories r).memory }
 {}

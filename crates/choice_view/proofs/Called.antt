@@ -19,7 +19,7 @@ use Rattle.choice_view.proofs.Unrefused.{In-split, counter_made, done_made, entr
 
 -- ---- what they leave
 module _ (k : Slots) (ks : List ChoiceKind) where
-  made-append : (xs ys : List Call) (s : State) → calls_made k ks (xs ++ ys) s ≡ calls_made k ks ys (calls_made k ks xs s)
+  pub made-append : (xs ys : List Call) (s : State) → calls_made k ks (xs ++ ys) s ≡ calls_made k ks ys (calls_made k ks xs s)
   made-append [] ys s = refl
   made-append (x ∷ xs) ys s = made-append xs ys (call_made k ks x s)
 

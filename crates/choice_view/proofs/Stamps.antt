@@ -19,7 +19,8 @@ pub steps-In : (ks : List ChoiceKind) (s : ℕ) → In s (steps ks) → s < leng
 steps-In ks s h = let k = from_to-In 0 (length ks) s h in omega arith
 
 -- ---- places in steps
-before-le : (many : ChoiceKind → ℕ) (ks : List ChoiceKind) (s t : ℕ) → s < t → before many ks s + many (choice_at ks s) ≤ before many ks t
+pub before-le : (many : ChoiceKind → ℕ) (ks : List ChoiceKind) (s t : ℕ) → s < t
+    → before many ks s + many (choice_at ks s) ≤ before many ks t
 before-le many ks s zero h = absurd (omega arith)
 before-le many ks s (suc t) h = at (cases_eq s t) (before-le many ks s t)
   where

@@ -68,15 +68,16 @@ In-split [] x back = inl refl
 In-split (y ∷ front) x back = inr (In-split front x back)
 
 -- ---- how many things the steps before one have
-counters_two : (k : ChoiceKind) → counters_in k ≤ 2
+pub counters_two : (k : ChoiceKind) → counters_in k ≤ 2
 counters_two Elect = omega arith
 counters_two Tickets = omega arith
 
-things_three : (k : ChoiceKind) → things_in k ≤ 3
+pub things_three : (k : ChoiceKind) → things_in k ≤ 3
 things_three Elect = omega arith
 things_three Tickets = omega arith
 
-before_le : (many : ChoiceKind → ℕ) (n : ℕ) → ((k : ChoiceKind) → many k ≤ n) → (ks : List ChoiceKind) (t : ℕ) → before many ks t ≤ t * n
+pub before_le : (many : ChoiceKind → ℕ) (n : ℕ) → ((k : ChoiceKind) → many k ≤ n) → (ks : List ChoiceKind) (t : ℕ)
+    → before many ks t ≤ t * n
 before_le many n h ks zero = omega arith
 before_le many n h ks (suc t) =
     let a = before_le many n h ks t in
