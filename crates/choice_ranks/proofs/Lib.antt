@@ -1,0 +1,5 @@
+pub mod Numbers
+pub mod Made
+pub mod Elected
+pub mod Whole
+pub mod Installed

@@ -1,0 +1,21 @@
+-- One step of the text more in each turn.
+use Rattle.std.proofs.Common.{◌+◌, ◌∙◌, ap, ap₂, arith, sym}
+use Rattle.std.proofs.lemmas.List.{get_or_default}
+use Rattle.coll_lang.specs.declared.choices.ChoiceKind.TheVariants.{Elect}
+use Rattle.choice_machine.specs.Choices.{choice_at}
+use Rattle.choice_machine.specs.Counted.{told_requests}
+use Rattle.choice_ranks.proofs.Numbers.{sum-more}
+use Rattle.choice_ranks.proofs.installing.asked_in.Goals as goal
+
+pub loop-i-preserved : goal.loop-i-preserved
+loop-i-preserved c =
+    let ks = c.args.kinds.now in
+    let few = c.loop-i.invariant.few in
+    let more = c.asked-sum.ensures.few in
+    record {
+      sum =
+          ap₂ (λ x y. x + y) c.loop-i.invariant.sum
+          (c.asked-sum.ensures.told ∙ ap told_requests (get_or_default ks c.loop-i.i _ Elect c.loop-i-test.true))
+          ∙ sym (sum-more (λ s. told_requests (choice_at ks s)) c.loop-i.i);
+      few = omega (arith, few, more);
+    }
