@@ -3,7 +3,6 @@ use Rattle.std.proofs.Common.{◌≡◌, ◌≢◌, ℕ, ◌+◌, ◌≤◌, Lis
 use Rattle.port_io.specs.Counts.{Rose}
 use Rattle.port_io.specs.Ends.{Inflow, Outflow}
 use Rattle.coll_lang.specs.declared.fault.Refusal.{Refusal}
-use Rattle.coll_lang.specs.Language.{read}
 use Rattle.coll_lang.specs.Program.{Chosen, Program}
 use Rattle.coll_shape.specs.Outline.{Outline}
 use Rattle.coll_shape.specs.Meaning.{Lists}
@@ -17,13 +16,16 @@ use Rattle.portals_top.specs.declared.status.Status.TheVariants.{Done, Usage, Re
 use Rattle.portals_top.specs.declared.words.Command.{Command}
 use Rattle.portals_top.specs.declared.words.Command.TheVariants.{Plan}
 use Rattle.portals_top.specs.Due.{done, due, due_compiled, due_described, due_of, excess_name, refused, step_line}
+use Rattle.portals_top.specs.declared.words.Task.{Task}
+use Rattle.portals_top.specs.Formats.{read_as}
 use Rattle.portals_top.specs.Answered.{IsTold, MayAnswer, Stands, Leaves, LeavesOf, HandsBack, Answered}
 use Rattle.portals_top.specs.Written.{Written}
 use Rattle.portals_top.proofs.Told.{Told, read-long, same-read, short-text, told-any}
 
-done-short : (command : Command) (ran : Option WorldState) (text : List ℕ) → (due_of command ran (read text)).status ≡ Done → length text ≤ 1048576
-done-short command ran text done =
-    short-text 1048576 text (λ long. let refused : Refused ≡ Done = subst (λ r. (due_of command ran r).status ≡ Done) (read-long text long) done in absurd (cc))
+done-short : (task : Task) (ran : Option WorldState) (text : List ℕ) → (due_of task.command ran (read_as task.format text)).status ≡ Done → length text ≤ 1048576
+done-short task ran text done =
+    short-text 1048576 text (λ long.
+    let refused : Refused ≡ Done = subst (λ r. (due_of task.command ran r).status ≡ Done) (read-long task.format text long) done in absurd (cc))
 
 -- what stays in the source
 pub leaves : (longest : ℕ) (owed status : Status) (text : List ℕ) (source source' : Inflow) (told : Told longest source.left source'.left text)
@@ -36,17 +38,17 @@ leaves longest owed WriteFault text source source' told short allowed = told.res
 leaves longest owed NoMemory text source source' told short allowed = tt
 
 -- after a text was read, and answered
-pub answered-read : (command : Command) (text : List ℕ) (source source' : Inflow) (sink sink' : Outflow) (ran : Option WorldState) (status : Status) (told : Told 1048576 source.left source'.left text)
-    → Written (due_of command ran (read text)) sink sink' status → HandsBack status (due_of command ran (read text)).status (LeavesOf command (read text)) ran
-    → Answered (Some command) told.bytes source source' sink sink' ran status
-answered-read command text source source' sink sink' ran status told written handed = let same = sym (same-read told.bytes text told.alike) in record {
-  allowed = subst (λ r. MayAnswer status (due_of command ran r).status) same written.allowed;
+pub answered-read : (task : Task) (text : List ℕ) (source source' : Inflow) (sink sink' : Outflow) (ran : Option WorldState) (status : Status) (told : Told 1048576 source.left source'.left text)
+    → Written (due_of task.command ran (read_as task.format text)) sink sink' status → HandsBack status (due_of task.command ran (read_as task.format text)).status (LeavesOf task.command (read_as task.format text)) ran
+    → Answered (Some task) told.bytes source source' sink sink' ran status
+answered-read task text source source' sink sink' ran status told written handed = let same = sym (same-read task.format told.bytes text told.alike) in record {
+  allowed = subst (λ r. MayAnswer status (due_of task.command ran r).status) same written.allowed;
   read_fault = λ is. absurd (written.no_read is);
-  write_fault = λ is. (subst (λ s. Stands s sink sink' (due_of command ran (read text)).text) is written.text).rose;
-  text = subst (λ r. Stands status sink sink' (due_of command ran r).text) same written.text;
-  rest = leaves 1048576 (due_of command ran (read text)).status status text source source' told (done-short command ran text) written.allowed;
+  write_fault = λ is. (subst (λ s. Stands s sink sink' (due_of task.command ran (read_as task.format text)).text) is written.text).rose;
+  text = subst (λ r. Stands status sink sink' (due_of task.command ran r).text) same written.text;
+  rest = leaves 1048576 (due_of task.command ran (read_as task.format text)).status status text source source' told (done-short task ran text) written.allowed;
   untouched = λ is. absurd (cc);
-  world = subst (λ r. HandsBack status (due_of command ran r).status (LeavesOf command r) ran) same handed;
+  world = subst (λ r. HandsBack status (due_of task.command ran r).status (LeavesOf task.command r) ran) same handed;
 }
 
 compiled-owed : (command : Command) (o : Outline) (inputs : Lists) (ran : Option WorldState) (r : Option Excessive) → (due_compiled command o inputs ran r).status ≢ Usage
@@ -63,14 +65,14 @@ reads-owed command ran (Ok d) = described-owed command d ran d.choices
 reads-owed command ran (Err refusal) = λ is. absurd (cc)
 
 -- the source failed
-pub answered-failed : (command : Command) (source source' : Inflow) (sink : Outflow) → Rose source.faults source'.faults
-    → (bytes : List ℕ) × IsTold source.left bytes × Answered (Some command) bytes source source' sink sink None ReadFault
-answered-failed command source source' sink rose =
+pub answered-failed : (task : Task) (source source' : Inflow) (sink : Outflow) → Rose source.faults source'.faults
+    → (bytes : List ℕ) × IsTold source.left bytes × Answered (Some task) bytes source source' sink sink None ReadFault
+answered-failed task source source' sink rose =
     let any = told-any source.left in (
       any.0,
       any.1,
       record {
-        allowed = reads-owed command None (read any.0);
+        allowed = reads-owed task.command None (read_as task.format any.0);
         read_fault = λ is. rose;
         write_fault = λ is. absurd (cc);
         text = refl;
@@ -81,14 +83,14 @@ answered-failed command source source' sink rose =
     )
 
 -- there was no memory to read
-pub answered-no_memory : (command : Command) (source source' : Inflow) (sink : Outflow)
-    → (bytes : List ℕ) × IsTold source.left bytes × Answered (Some command) bytes source source' sink sink None NoMemory
-answered-no_memory command source source' sink =
+pub answered-no_memory : (task : Task) (source source' : Inflow) (sink : Outflow)
+    → (bytes : List ℕ) × IsTold source.left bytes × Answered (Some task) bytes source source' sink sink None NoMemory
+answered-no_memory task source source' sink =
     let any = told-any source.left in (
       any.0,
       any.1,
       record {
-        allowed = reads-owed command None (read any.0);
+        allowed = reads-owed task.command None (read_as task.format any.0);
         read_fault = λ is. absurd (cc);
         write_fault = λ is. absurd (cc);
         text = refl;

@@ -3,6 +3,7 @@ pub mod Fronts
 pub mod Interleavings
 pub mod Judging
 pub mod Rests
+pub mod Spellings
 pub mod Steps
 pub mod Summing
 pub mod Told

@@ -5,7 +5,6 @@ use Rattle.port_io.specs.Ends.{Inflow, Outflow}
 use Rattle.coll_shape.specs.Outline.{Outline}
 use Rattle.coll_shape.specs.Meaning.{Lists}
 use Rattle.coll_lang.specs.declared.fault.Refusal.{Refusal}
-use Rattle.coll_lang.specs.Language.{read}
 use Rattle.coll_lang.specs.Program.{Program}
 use Rattle.run_text.specs.Putting.{Ends, FailsWithin}
 use Rattle.worlds.specs.World.{WorldState}
@@ -15,7 +14,9 @@ use Rattle.portals_top.specs.declared.words.Mode.{Mode}
 use Rattle.portals_top.specs.declared.words.Mode.TheVariants.{Once, Sim, Run, Trace}
 use Rattle.portals_top.specs.declared.words.Command.{Command}
 use Rattle.portals_top.specs.declared.words.Command.TheVariants.{Execute, Plan}
+use Rattle.portals_top.specs.declared.words.Task.{Task}
 use Rattle.portals_top.specs.Due.{due, unread}
+use Rattle.portals_top.specs.Formats.{read_as}
 use Rattle.portals_top.specs.Runs.{IsInOrder, IsRun}
 
 -- These are the bytes, where they are told.
@@ -71,9 +72,9 @@ abbrev pub LeavesOf : Command → Result Program (ℕ × Refusal) → Option Wor
 LeavesOf c (Ok d) ran = LeavesWorld c d.shape d.inputs ran
 LeavesOf c (Err refusal) ran = ran ≡ None
 
-abbrev pub RunLeaves : Option Command → List ℕ → Option WorldState → Type 0
+abbrev pub RunLeaves : Option Task → List ℕ → Option WorldState → Type 0
 RunLeaves None bytes ran = ran ≡ None
-RunLeaves (Some c) bytes ran = LeavesOf c (read bytes) ran
+RunLeaves (Some t) bytes ran = LeavesOf t.command (read_as t.format bytes) ran
 
 -- What is handed back: what the run leaves, where a result was owed, and it or a beginning of it was written; and else none.
 abbrev pub HandsBack : Status → Status → (Option WorldState → Type 0) → Option WorldState → Type 0
@@ -89,13 +90,13 @@ HandsBack Refused owed leaves ran = ran ≡ None
 HandsBack ReadFault owed leaves ran = ran ≡ None
 HandsBack NoMemory owed leaves ran = ran ≡ None
 
--- All that holds after a call with this command, the source having these bytes.
-pub record Answered (command : Option Command) (bytes : List ℕ) (source source' : Inflow) (sink sink' : Outflow)
+-- All that holds after a call with this task, the source having these bytes.
+pub record Answered (task : Option Task) (bytes : List ℕ) (source source' : Inflow) (sink sink' : Outflow)
     (ran : Option WorldState) (status : Status) : Type 0 where
-  pub allowed : MayAnswer status (due command bytes ran).status
+  pub allowed : MayAnswer status (due task bytes ran).status
   pub read_fault : status ≡ ReadFault → Rose source.faults source'.faults
   pub write_fault : status ≡ WriteFault → Rose sink.faults sink'.faults
-  pub text : Stands status sink sink' (due command bytes ran).text
-  pub rest : Leaves status source' (unread command bytes)
-  pub untouched : command ≡ None → source' ≡ source
-  pub world : HandsBack status (due command bytes ran).status (RunLeaves command bytes) ran
+  pub text : Stands status sink sink' (due task bytes ran).text
+  pub rest : Leaves status source' (unread task bytes)
+  pub untouched : task ≡ None → source' ≡ source
+  pub world : HandsBack status (due task bytes ran).status (RunLeaves task bytes) ran

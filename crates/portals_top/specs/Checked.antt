@@ -87,6 +87,6 @@ pub record Checked (bytes : List ℕ) (source source' : Inflow) (sink sink' : Ou
 -- all that holds after a call with these words
 abbrev pub AnswersTo : Option Request → List ℕ → Inflow → Inflow → Outflow → Outflow → Option WorldState → Status → Type 0
 AnswersTo None bytes source source' sink sink' ran status = Answered None bytes source source' sink sink' ran status
-AnswersTo (Some (Do c)) bytes source source' sink sink' ran status = Answered (Some c) bytes source source' sink sink' ran status
+AnswersTo (Some (Do task)) bytes source source' sink sink' ran status = Answered (Some task) bytes source source' sink sink' ran status
 AnswersTo (Some (Large number workers)) bytes source source' sink sink' ran status = Summed number workers source source' sink sink' ran status
 AnswersTo (Some Check) bytes source source' sink sink' ran status = Checked bytes source source' sink sink' ran status

@@ -5,7 +5,6 @@ use Rattle.coll_shape.specs.Outline.{Outline}
 use Rattle.coll_shape.specs.Meaning.{Lists}
 use Rattle.coll_lang.specs.declared.fault.Refusal.{Refusal}
 use Rattle.coll_lang.specs.declared.fault.Refusal.TheVariants.{TooMany, TooLarge, OneThread}
-use Rattle.coll_lang.specs.Language.{read}
 use Rattle.coll_lang.specs.Program.{Chosen, Program}
 use Rattle.plan_orders.specs.Taking.{listed}
 use Rattle.shape_plans.specs.Drawing.{plan_of}
@@ -22,9 +21,11 @@ use Rattle.portals_top.specs.declared.words.Mode.{Mode}
 use Rattle.portals_top.specs.declared.words.Mode.TheVariants.{Once, Sim, Run, Trace}
 use Rattle.portals_top.specs.declared.words.Command.{Command}
 use Rattle.portals_top.specs.declared.words.Command.TheVariants.{Execute, Plan}
+use Rattle.portals_top.specs.declared.words.Task.{Task}
+use Rattle.portals_top.specs.Formats.{read_as}
 
 abbrev pub usage_line : List ℕ
-usage_line = line (codes "usage: portals_run once | sim X | plan | run W | trace W | large K W | check" ∷ [])
+usage_line = line (codes "usage: portals_run once | sim X | plan | run W | trace W | large K W | check | json W" ∷ [])
 
 -- the status that is owed, which is Done, Usage or Refused, and the text
 pub record Due : Type 0 where
@@ -75,20 +76,20 @@ abbrev pub due_described : Command → Program → Option WorldState → Option 
 due_described c d ran None = due_compiled c d.shape d.inputs ran (refusal d.shape)
 due_described c d ran (Some choices) = refused 0 OneThread
 
--- what a text describes, or its first refusal with its line
+-- what is read as a description, or its first refusal with its line
 abbrev pub due_of : Command → Option WorldState → Result Program (ℕ × Refusal) → Due
 due_of c ran (Ok d) = due_described c d ran d.choices
 due_of c ran (Err refusal) = refused refusal.0 refusal.1
 
 -- where the call leaves this world, if any
-abbrev pub due : Option Command → List ℕ → Option WorldState → Due
+abbrev pub due : Option Task → List ℕ → Option WorldState → Due
 due None bytes ran = record { status = Usage; text = usage_line }
-due (Some c) bytes ran = due_of c ran (read bytes)
+due (Some t) bytes ran = due_of t.command ran (read_as t.format bytes)
 
 -- what stays in the source: one byte more than the longest description is read, and for other words nothing
-abbrev pub unread : Option Command → List ℕ → List ℕ
+abbrev pub unread : Option Task → List ℕ → List ℕ
 unread None bytes = bytes
-unread (Some c) bytes = drop 1048577 bytes
+unread (Some t) bytes = drop 1048577 bytes
 
 -- the number with which the program ends
 abbrev pub number_of : Status → ℕ

@@ -1,6 +1,7 @@
 pub mod Answered
 pub mod Checked
 pub mod Due
+pub mod Formats
 pub mod Headline
 pub mod Large
 pub mod ReadText

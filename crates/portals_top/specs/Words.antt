@@ -6,6 +6,9 @@ use Rattle.portals_top.specs.declared.words.Mode.{Mode}
 use Rattle.portals_top.specs.declared.words.Mode.TheVariants.{Once, Sim, Run, Trace}
 use Rattle.portals_top.specs.declared.words.Command.{Command}
 use Rattle.portals_top.specs.declared.words.Command.TheVariants.{Execute, Plan}
+use Rattle.portals_top.specs.declared.words.Format.{Format}
+use Rattle.portals_top.specs.declared.words.Format.TheVariants.{Text, Json}
+use Rattle.portals_top.specs.declared.words.Task.{Task}
 use Rattle.portals_top.specs.declared.words.Request.{Request}
 use Rattle.portals_top.specs.declared.words.Request.TheVariants.{Do, Large, Check}
 
@@ -19,27 +22,35 @@ workers_of word = number_between 1 16 word
 abbrev pub chosen_of : List ℕ → Option ℕ
 chosen_of word = number_between 0 65535 word
 
+-- what is done with a text of the description language
+abbrev pub text_task : Command → Task
+text_task command = record { format = Text; command = command }
+
 abbrev pub one_word : List ℕ → Option Request
 one_word word =
-    if bytes_eq word (codes "once") then Some (Do (Execute Once))
-    else if bytes_eq word (codes "plan") then Some (Do Plan)
+    if bytes_eq word (codes "once") then Some (Do (text_task (Execute Once)))
+    else if bytes_eq word (codes "plan") then Some (Do (text_task Plan))
     else if bytes_eq word (codes "check") then Some Check
     else None
 
 abbrev pub sim_of : Option ℕ → Option Request
-sim_of seed = option_map (λ x. Do (Execute (Sim x))) seed
+sim_of seed = option_map (λ x. Do (text_task (Execute (Sim x)))) seed
 
 abbrev pub run_of : Option ℕ → Option Request
-run_of workers = option_map (λ w. Do (Execute (Run w))) workers
+run_of workers = option_map (λ w. Do (text_task (Execute (Run w)))) workers
 
 abbrev pub trace_of : Option ℕ → Option Request
-trace_of workers = option_map (λ w. Do (Execute (Trace w))) workers
+trace_of workers = option_map (λ w. Do (text_task (Execute (Trace w)))) workers
+
+abbrev pub json_of : Option ℕ → Option Request
+json_of workers = option_map (λ w. Do (record { format = Json; command = Execute (Run w) })) workers
 
 abbrev pub two_words : List ℕ → List ℕ → Option Request
 two_words word number =
     if bytes_eq word (codes "sim") then sim_of (seed_of number)
     else if bytes_eq word (codes "run") then run_of (workers_of number)
     else if bytes_eq word (codes "trace") then trace_of (workers_of number)
+    else if bytes_eq word (codes "json") then json_of (workers_of number)
     else None
 
 abbrev pub large_of : Option ℕ → Option ℕ → Option Request
@@ -49,7 +60,7 @@ large_of (Some k) workers = option_map (λ w. Large k w) workers
 abbrev pub three_words : List ℕ → List ℕ → List ℕ → Option Request
 three_words word number workers = if bytes_eq word (codes "large") then large_of (chosen_of number) (workers_of workers) else None
 
--- `once`, `plan`, `check`, `sim X`, `run W`, `trace W` or `large K W`
+-- `once`, `plan`, `check`, `sim X`, `run W`, `trace W`, `json W` or `large K W`
 abbrev pub request : List (List ℕ) → Option Request
 request [] = None
 request (word ∷ []) = one_word word
@@ -69,6 +80,6 @@ CanDo (Execute mode) = HasWorkers mode
 CanDo Plan = Unit {0}
 
 abbrev pub CanAnswer : Request → Type 0
-CanAnswer (Do command) = CanDo command
+CanAnswer (Do task) = CanDo task.command
 CanAnswer (Large number workers) = (number < 65536) × (0 < workers)
 CanAnswer Check = Unit {0}

@@ -7,6 +7,7 @@ mod headline;
 mod large;
 #[cfg(test)]
 mod memory_walk;
+mod parsing;
 mod planning;
 mod ran;
 mod reading;
@@ -23,4 +24,4 @@ pub use headline::every_interleaving_is_meant;
 pub use ran::Ran;
 pub use status::Status;
 pub use top::{portals_main, run_with_gate};
-pub use words::{Command, Mode, Request};
+pub use words::{Command, Format, Mode, Request, Task};

@@ -574,7 +574,7 @@ fn usage_at(
     assert_eq!(rt; answer, Status::Usage);
     assert_eq!(rt;
         sink.as_slice(),
-        b"usage: portals_run once | sim X | plan | run W | trace W | large K W | check\n".as_slice()
+        b"usage: portals_run once | sim X | plan | run W | trace W | large K W | check | json W\n".as_slice()
     );
     assert_eq!(rt; sink.finishes(), 1);
     let mut left = [0u8; 4];
@@ -601,6 +601,8 @@ fn other_words_leave_the_source_unread(rt: HostRuntime) -> Result<(), Fail> {
     usage_at(&rt, alloc, &["trace"])?;
     usage_at(&rt, alloc, &["trace", "0"])?;
     usage_at(&rt, alloc, &["trace", "17"])?;
+    usage_at(&rt, alloc, &["json", "0"])?;
+    usage_at(&rt, alloc, &["json", "17"])?;
     usage_at(&rt, alloc, &["large", "1"])?;
     usage_at(&rt, alloc, &["large", "65536", "1"])?;
     usage_at(&rt, alloc, &["large", "1", "0"])?;

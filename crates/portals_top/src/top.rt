@@ -2,25 +2,26 @@
 
 ghost use Rattle.std.specs.Prelude.{◌≡◌, List, ℕ, Option, None, [], map, string_bytes};
 ghost use Rattle.coll_shape.specs.Meaning.{Lists};
-ghost use Rattle.coll_lang.specs.Language.{read};
 ghost use Rattle.shape_plans.specs.Footprint.{refusal};
 ghost use Rattle.worlds.specs.World.{WorldState};
 ghost use Rattle.portals_top.specs.Answered.{Answered, HandsBack, IsTold, LeavesOf, LeavesRun, LeavesWorld};
 ghost use Rattle.portals_top.specs.Checked.{AnswersTo, Checked};
 ghost use Rattle.portals_top.specs.Due.{due, due_compiled, due_described, due_of};
+ghost use Rattle.portals_top.specs.Formats.{read_as};
 ghost use Rattle.portals_top.specs.Words.{CanDo, HasWorkers, request};
 ghost use Rattle.portals_top.specs.Written.{Written};
 
 use crate::checking::judged_text;
 use crate::large::large;
+use crate::parsing::parse_as;
 use crate::planning::plan;
 use crate::ran::Ran;
 use crate::reading::{ReadError, read_text};
 use crate::refusing::{refuse, refuse_plan};
 use crate::running::run;
 use crate::status::Status;
-use crate::words::{Command, Mode, Request, request_in};
-use coll_lang::{Description, ParseFault, Refusal, parse};
+use crate::words::{Command, Mode, Request, Task, request_in};
+use coll_lang::{Description, ParseFault, Refusal};
 use coll_shape::Shape;
 use plan_done::counted_shape;
 use port_io::{Sink, Source};
@@ -38,7 +39,7 @@ const LONGEST: usize = 1_048_576;
 const LONGEST_CHECKED: usize = 16_777_216;
 
 const USAGE: &[u8] =
-    b"usage: portals_run once | sim X | plan | run W | trace W | large K W | check\n";
+    b"usage: portals_run once | sim X | plan | run W | trace W | large K W | check | json W\n";
 
 /// Writes the usage line.
 fn usage<K: Sink>(sink: &mut K) -> Status
@@ -130,45 +131,45 @@ fn described<R: Threads + Wait + Sync, G: Gate, K: Sink>(
     }
 }
 
-/// Answers a text that was read.
+/// Answers what was read.
 fn answer<R: Threads + Wait + Sync, G: Gate, K: Sink>(
     rt: &R,
     alloc: Global,
     gate: &G,
-    command: Command,
+    task: Task,
     text: &[u8],
     sink: &mut K,
     ran: &mut Ran,
 ) -> Status
-    requires workers { CanDo command }
+    requires workers { CanDo task.command }
     requires none { ran.old.world ≡ None }
-    ensures written { Written (due_of command ran.new.world (read text.now)) (K.outflow sink.old) (K.outflow sink.new) result }
-    ensures world { HandsBack result (due_of command ran.new.world (read text.now)).status (LeavesOf command (read text.now)) ran.new.world }
+    ensures written { Written (due_of task.command ran.new.world (read_as task.format text.now)) (K.outflow sink.old) (K.outflow sink.new) result }
+    ensures world { HandsBack result (due_of task.command ran.new.world (read_as task.format text.now)).status (LeavesOf task.command (read_as task.format text.now)) ran.new.world }
 {
-    match parse(alloc, text) {
-        Ok(d) => described(rt, alloc, gate, command, d, sink, ran),
+    match parse_as(alloc, task.format, text) {
+        Ok(d) => described(rt, alloc, gate, task.command, d, sink, ran),
         Err(ParseFault::Refused { line, name }) => refuse(alloc, sink, line, name),
         Err(ParseFault::NoMemory) => Status::NoMemory,
     }
 }
 
-/// Reads a text and answers it.
+/// Reads a description and answers it.
 fn read_and_answer<R: Threads + Wait + Sync, G: Gate, S: Source, K: Sink>(
     rt: &R,
     alloc: Global,
     gate: &G,
-    command: Command,
+    task: Task,
     source: &mut S,
     sink: &mut K,
     ran: &mut Ran,
 ) -> Status
-    requires workers { CanDo command }
+    requires workers { CanDo task.command }
     requires none { ran.old.world ≡ None }
     ensures { (bytes : List ℕ) × IsTold (S.inflow source.old).left bytes
-        × Answered (Some command) bytes (S.inflow source.old) (S.inflow source.new) (K.outflow sink.old) (K.outflow sink.new) ran.new.world result }
+        × Answered (Some task) bytes (S.inflow source.old) (S.inflow source.new) (K.outflow sink.old) (K.outflow sink.new) ran.new.world result }
 {
     match read_text(alloc, LONGEST, source) {
-        Ok(text) => answer(rt, alloc, gate, command, text.as_slice(), sink, ran),
+        Ok(text) => answer(rt, alloc, gate, task, text.as_slice(), sink, ran),
         Err(ReadError::Failed) => Status::ReadFault,
         Err(ReadError::NoMemory) => Status::NoMemory,
     }
@@ -202,9 +203,7 @@ pub fn run_with_gate<R: Threads + Wait + Sync, S: Source, K: Sink, G: Gate>(
 {
     ran.world = None;
     match request_in(words) {
-        Some(Request::Do(command)) => {
-            read_and_answer(rt, alloc, gate, command, source, sink, ran)
-        }
+        Some(Request::Do(task)) => { read_and_answer(rt, alloc, gate, task, source, sink, ran) }
         Some(Request::Large { number, workers }) => {
             large(rt, alloc, gate, number, workers, sink, ran)
         }
@@ -218,7 +217,8 @@ pub fn run_with_gate<R: Threads + Wait + Sync, S: Source, K: Sink, G: Gate>(
 ///
 /// `once` reads a description and runs it on one thread. `sim X` runs it in the order that the words of a generator with the
 /// seed X choose, and writes that order too. `run W` runs it by W workers on threads, from 1 to 16, and `trace W` writes the order of
-/// each rank's steps too; where no thread can be started, the call does a worker's part itself. `large K W` reads nothing: W workers
+/// each rank's steps too; where no thread can be started, the call does a worker's part itself. `json W` does what `run W` does with a
+/// description in JSON. `large K W` reads nothing: W workers
 /// run the description that the number K, below 65,536, chooses, and its summary is written. `plan` writes the plan that the
 /// description is compiled to; nothing is run. `check` reads a description and behind it, for each rank, the line of its local steps,
 /// and writes the verdict on these. All other words get the usage line, and leave the source unread.

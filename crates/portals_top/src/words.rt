@@ -1,7 +1,7 @@
 //! The words of the command line.
 
 ghost use Rattle.std.specs.Prelude.{◌≡◌, map, string_bytes, IfSome};
-ghost use Rattle.portals_top.specs.Words.{CanAnswer, chosen_of, large_of, request, run_of, seed_of, sim_of, trace_of, workers_of};
+ghost use Rattle.portals_top.specs.Words.{CanAnswer, chosen_of, json_of, large_of, request, run_of, seed_of, sim_of, text_task, trace_of, workers_of};
 
 use coll_text::{Number, number_at, number_between};
 
@@ -36,11 +36,29 @@ pub enum Command {
     Plan,
 }
 
+/// How a description is spelled.
+#[derive(Clone, Copy, Debug, PartialEq, Eq)]
+pub enum Format {
+    /// As a text of the description language.
+    Text,
+    /// In JSON.
+    Json,
+}
+
+/// What is done with a description of which spelling.
+#[derive(Clone, Copy, Debug, PartialEq, Eq)]
+pub struct Task {
+    /// How the description is spelled.
+    pub format: Format,
+    /// What is done with it.
+    pub command: Command,
+}
+
 /// What the program is asked to do.
 #[derive(Clone, Copy, Debug, PartialEq, Eq)]
 pub enum Request {
     /// Read a description, and do this with it.
-    Do(Command),
+    Do(Task),
     /// Run the generated description by workers on threads, and write its summary. Nothing is read.
     Large {
         /// What chooses the values of the description, below 65,536.
@@ -50,6 +68,16 @@ pub enum Request {
     },
     /// Read a description and orders of its ranks' local steps, and write the verdict on these.
     Check,
+}
+
+/// What is done with a text of the description language.
+fn text_task(command: Command) -> Task
+    ensures { result ≡ text_task command }
+{
+    Task {
+        format: Format::Text,
+        command,
+    }
 }
 
 /// The seed that a word is. None: it is no number below 2^64.
@@ -68,7 +96,7 @@ fn sim_in(word: &[u8]) -> Option<Request>
     ensures possible { IfSome result CanAnswer }
 {
     match seed_in(word) {
-        Some(seed) => Some(Request::Do(Command::Execute(Mode::Sim { seed }))),
+        Some(seed) => Some(Request::Do(text_task(Command::Execute(Mode::Sim { seed })))),
         None => None,
     }
 }
@@ -79,7 +107,7 @@ fn run_in(word: &[u8]) -> Option<Request>
     ensures possible { IfSome result CanAnswer }
 {
     match number_between(1, 16, word) {
-        Some(workers) => Some(Request::Do(Command::Execute(Mode::Run { workers }))),
+        Some(workers) => Some(Request::Do(text_task(Command::Execute(Mode::Run { workers })))),
         None => None,
     }
 }
@@ -90,7 +118,21 @@ fn trace_in(word: &[u8]) -> Option<Request>
     ensures possible { IfSome result CanAnswer }
 {
     match number_between(1, 16, word) {
-        Some(workers) => Some(Request::Do(Command::Execute(Mode::Trace { workers }))),
+        Some(workers) => Some(Request::Do(text_task(Command::Execute(Mode::Trace { workers })))),
+        None => None,
+    }
+}
+
+/// What `json` and this word ask for.
+fn json_in(word: &[u8]) -> Option<Request>
+    ensures value { result ≡ json_of (workers_of word.now) }
+    ensures possible { IfSome result CanAnswer }
+{
+    match number_between(1, 16, word) {
+        Some(workers) => Some(Request::Do(Task {
+            format: Format::Json,
+            command: Command::Execute(Mode::Run { workers }),
+        })),
         None => None,
     }
 }
@@ -111,12 +153,15 @@ pub(crate) fn request_in(words: &[String]) -> Option<Request>
     ensures possible { IfSome result CanAnswer }
 {
     match words {
-        [word] if word.as_str() == "once" => Some(Request::Do(Command::Execute(Mode::Once))),
-        [word] if word.as_str() == "plan" => Some(Request::Do(Command::Plan)),
+        [word] if word.as_str() == "once" => Some(Request::Do(text_task(Command::Execute(
+            Mode::Once,
+        )))),
+        [word] if word.as_str() == "plan" => Some(Request::Do(text_task(Command::Plan))),
         [word] if word.as_str() == "check" => Some(Request::Check),
         [word, number] if word.as_str() == "sim" => sim_in(number.as_bytes()),
         [word, number] if word.as_str() == "run" => run_in(number.as_bytes()),
         [word, number] if word.as_str() == "trace" => trace_in(number.as_bytes()),
+        [word, number] if word.as_str() == "json" => json_in(number.as_bytes()),
         [word, number, workers] if word.as_str() == "large" => {
             large_in(number.as_bytes(), workers.as_bytes())
         }

@@ -23,7 +23,7 @@ const THREE_STEPS: &str =
 const THREE_RESULTS: &str = "c 0 10\nc 1 20\nc 2 30\nc 3 40\nrest\n";
 
 /// Sixteen ranks, of which each holds eight values: the greatest ones, and all of them.
-fn sixteen_ranks(alloc: Global, head: &str) -> Result<String, AllocError> {
+pub(crate) fn sixteen_ranks(alloc: Global, head: &str) -> Result<String, AllocError> {
     let mut text = String::from_str(alloc, head)?;
     text.push_str("input load u64 8\n")?;
     for rank in 0..16u32 {
@@ -41,7 +41,7 @@ fn sixteen_ranks(alloc: Global, head: &str) -> Result<String, AllocError> {
 }
 
 /// What they write.
-fn sixteen_results(alloc: Global) -> Result<String, AllocError> {
+pub(crate) fn sixteen_results(alloc: Global) -> Result<String, AllocError> {
     let mut text = String::new(alloc);
     for rank in 0..16u32 {
         let line = format!(in alloc; "peak {rank} 1500 1501 1502 1503 1504 1505 1506 1507\n")?;
@@ -64,7 +64,7 @@ fn sixteen_results(alloc: Global) -> Result<String, AllocError> {
 }
 
 /// Runs a command on a text: the status, the whole output, and whether a world is left.
-fn gives(
+pub(crate) fn gives(
     rt: &(impl Abort + Threads + Wait + Sync),
     alloc: Global,
     command: &[&str],
@@ -171,29 +171,45 @@ fn traces_begin_with_the_results(rt: HostRuntime) -> Result<(), Fail> {
     Ok(())
 }
 
+/// What the sums of the values that 1 chooses are.
+const SUMS_OF_ONE: &str =
+    "large 1 ranks 64 cells 5632 links 14719\na 262144\nb 16777216\nc 262144\nd 16777216\n\
+e 262144\nrest\n";
+
 #[test]
-fn a_generated_run_writes_its_sums(rt: HostRuntime) -> Result<(), Fail> {
-    let alloc = rt.alloc();
-    for (words, output) in [
-        (
-            ["large", "1", "4"],
-            "large 1 ranks 64 cells 5632 links 14719\na 262144\nb 16777216\nc 262144\nd 16777216\n\
-e 262144\nrest\n",
-        ),
-        (
-            ["large", "1", "1"],
-            "large 1 ranks 64 cells 5632 links 14719\na 262144\nb 16777216\nc 262144\nd 16777216\n\
-e 262144\nrest\n",
-        ),
-        (
-            ["large", "0", "1"],
-            "large 0 ranks 64 cells 5632 links 14719\na 129024\nb 8257536\nc 129024\nd 8257536\n\
-e 129024\nrest\n",
-        ),
-    ] {
-        gives(&rt, alloc, &words, "", Status::Done, output)?;
-    }
-    Ok(())
+fn four_workers_write_sums(rt: HostRuntime) -> Result<(), Fail> {
+    gives(
+        &rt,
+        rt.alloc(),
+        &["large", "1", "4"],
+        "",
+        Status::Done,
+        SUMS_OF_ONE,
+    )
+}
+
+#[test]
+fn one_worker_writes_the_same_sums(rt: HostRuntime) -> Result<(), Fail> {
+    gives(
+        &rt,
+        rt.alloc(),
+        &["large", "1", "1"],
+        "",
+        Status::Done,
+        SUMS_OF_ONE,
+    )
+}
+
+#[test]
+fn other_values_have_other_sums(rt: HostRuntime) -> Result<(), Fail> {
+    gives(
+        &rt,
+        rt.alloc(),
+        &["large", "0", "1"],
+        "",
+        Status::Done,
+        "large 0 ranks 64 cells 5632 links 14719\na 129024\nb 8257536\nc 129024\nd 8257536\ne 129024\nrest\n",
+    )
 }
 
 /// Runs these words on a text with a gate, and answers how many steps the ranks of the world made.

@@ -1,17 +1,17 @@
 use Rattle.std.proofs.Common.{◌≡◌, Err}
-use Rattle.coll_lang.specs.Language.{read}
+use Rattle.portals_top.specs.Formats.{read_as}
 use Rattle.portals_top.proofs.Answering.{no-world-refused}
 use Rattle.portals_top.proofs.top.answer.Goals as goal
 
 pub returns-in-Ok : goal.returns-in-Ok
 returns-in-Ok g c = record {
-  written = rw c.in-Ok.ensures.exact c.described.ensures.written;
-  world = rw c.in-Ok.ensures.exact c.described.ensures.world;
+  written = rw c.in-Ok.ensures c.described.ensures.written;
+  world = rw c.in-Ok.ensures c.described.ensures.world;
 }
 
 pub returns-in-Err-Refused : goal.returns-in-Err-Refused
 returns-in-Err-Refused g c =
-    let refused : read c.args.text.now ≡ Err (c.in-Err-Refused.line, c.in-Err-Refused.name) = rw c.in-Err-Refused.field-0-is at c.in-Err-Refused.ensures.exact in
+    let refused : read_as c.args.task.format c.args.text.now ≡ Err (c.in-Err-Refused.line, c.in-Err-Refused.name) = rw c.in-Err-Refused.field-0-is at c.in-Err-Refused.ensures in
     record {
       written = rw refused (rw c.in-Err-Refused.field-0-is at c.refuse.ensures);
       world = rw (refused, c.requires.none) (no-world-refused _ _ c.refuse.ensures.allowed);

@@ -8,10 +8,10 @@ returns-in-Ok g c =
     let source' = g.S.Source.inflow c.read_text.new.source in
     let read = c.in-Ok.ensures.text in
     let told = told-read 1048576 source.left source'.left c.in-Ok.text.items read.front read.short read.whole in
-    (told.bytes, told.told, answered-read c.args.command c.in-Ok.text.items source source' _ _ _ _ told (rw c.as_slice.ensures.value at c.answer.ensures.written) (rw c.as_slice.ensures.value at c.answer.ensures.world))
+    (told.bytes, told.told, answered-read c.args.task c.in-Ok.text.items source source' _ _ _ _ told (rw c.as_slice.ensures.value at c.answer.ensures.written) (rw c.as_slice.ensures.value at c.answer.ensures.world))
 
 pub returns-in-Err-Failed : goal.returns-in-Err-Failed
-returns-in-Err-Failed g c = rw c.requires.none (answered-failed c.args.command _ _ _ (c.in-Err-Failed.ensures.failed c.in-Err-Failed.field-0-is))
+returns-in-Err-Failed g c = rw c.requires.none (answered-failed c.args.task _ _ _ (c.in-Err-Failed.ensures.failed c.in-Err-Failed.field-0-is))
 
 pub returns-in-Err-NoMemory : goal.returns-in-Err-NoMemory
-returns-in-Err-NoMemory g c = rw c.requires.none (answered-no_memory c.args.command _ _ _)
+returns-in-Err-NoMemory g c = rw c.requires.none (answered-no_memory c.args.task _ _ _)

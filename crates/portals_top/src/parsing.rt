@@ -1,0 +1,37 @@
+//! Reading bytes as a description, in either spelling.
+
+ghost use Rattle.coll_lang.specs.Verdicts.{Reads};
+ghost use Rattle.portals_top.specs.Formats.{read_as, with_line};
+ghost use Rattle.json_lang.specs.Reading.{read_json};
+
+use crate::words::Format;
+use coll_lang::{Description, ParseFault, parse};
+use json_lang::parse_json;
+use std::alloc::Global;
+
+/// Reads JSON as a description.
+fn parse_in_json(alloc: Global, bytes: &[u8]) -> Result<Description, ParseFault>
+    ensures { Reads (λ d. d) result (with_line (read_json bytes.now)) }
+{
+    match parse_json(alloc, bytes) {
+        Ok(d) => Ok(d),
+        Err(fault) => match fault.refusal() {
+            Some((line, name)) => Err(ParseFault::Refused { line, name }),
+            None => Err(ParseFault::NoMemory),
+        },
+    }
+}
+
+/// Reads bytes as a description that is spelled so.
+pub(crate) fn parse_as(
+    alloc: Global,
+    format: Format,
+    bytes: &[u8],
+) -> Result<Description, ParseFault>
+    ensures { Reads (λ d. d) result (read_as format bytes.now) }
+{
+    match format {
+        Format::Text => parse(alloc, bytes),
+        Format::Json => parse_in_json(alloc, bytes),
+    }
+}
