@@ -3,7 +3,6 @@ pub mod Counting
 pub mod Exchanging
 pub mod Headers
 pub mod Kept
-pub mod Naming
 pub mod Placed
 pub mod Records
 pub mod Swapping

@@ -1,5 +1,8 @@
 -- One header that an entry takes, with its record.
-use Rattle.std.proofs.Common.{◌≡◌, ℕ, ◌+◌, ◌<◌, true, false, List, Option, [], ◌∷◌, ◌++◌, length, drop, get_or, if◌then◌else◌, refl, ap, arith, add-one, drop-cons}
+use Rattle.std.proofs.Common.{◌≡◌, ℕ, ◌+◌, ◌<◌, Bool, true, false, not, List, Option, [], ◌∷◌, ◌++◌, length, take, drop, get_or, set, if◌then◌else◌, refl, ap, sym, ◌∙◌, arith, add-one, drop-cons, append-nil}
+use Rattle.std.proofs.lemmas.List.{get_or-drop, get_or_default}
+use Rattle.std.proofs.lemmas.List.Elements.{filter_more}
+use Rattle.std.proofs.lemmas.List.Filters.{FiltersInPlace, FiltersInPlace-more_no, FiltersInPlace-more_set}
 use Rattle.ptl_types.specs.declared.entries.Entry.{Entry}
 use Rattle.ni_model.specs.declared.Noted.{Noted}
 use Rattle.ni_model.specs.Tables.{Table}
@@ -7,7 +10,7 @@ use Rattle.ni_model.specs.Queues.{Waiting}
 use Rattle.ni_model.specs.Lists.{Index}
 use Rattle.ni_model.specs.Headers.{held, finds, found_in}
 use Rattle.ni_model.specs.Events.{kind_taken}
-use Rattle.ni_model.specs.Append.{each_gone}
+use Rattle.ni_model.specs.Append.{each_gone, counted_by, overflow_counter}
 use Rattle.target_engine.specs.declared.places.Placed.{Placed}
 use Rattle.target_engine.specs.Shelves.{ArePlaced, frees_at, placed_by, one_fewer}
 use Rattle.target_engine.specs.Sides.{side, told_gone}
@@ -29,8 +32,55 @@ taken-placed is left found x t a = placed-fewer x.header.entry is (left ++ x ∷
 found-drop : (pt : ℕ) (e : Entry) (hs : List Noted) (i : ℕ) (d : Noted) → i < length hs → found_in pt e (drop i hs) ≡ (if finds pt e (get_or hs i d) then get_or hs i d ∷ found_in pt e (drop (i + 1) hs) else found_in pt e (drop (i + 1) hs))
 found-drop pt e hs i d lt = rw (add-one, drop-cons hs i d) refl
 
-pub found-here : (pt : ℕ) (e : Entry) (hs : List Noted) (i : ℕ) (d : Noted) → i < length hs → finds pt e (get_or hs i d) ≡ true → found_in pt e (drop i hs) ≡ get_or hs i d ∷ found_in pt e (drop (i + 1) hs)
+found-here : (pt : ℕ) (e : Entry) (hs : List Noted) (i : ℕ) (d : Noted) → i < length hs → finds pt e (get_or hs i d) ≡ true → found_in pt e (drop i hs) ≡ get_or hs i d ∷ found_in pt e (drop (i + 1) hs)
 found-here pt e hs i d lt f = let s = found-drop pt e hs i d lt in rw f at s
 
-pub found-later : (pt : ℕ) (e : Entry) (hs : List Noted) (i : ℕ) (d : Noted) → i < length hs → finds pt e (get_or hs i d) ≡ false → found_in pt e (drop i hs) ≡ found_in pt e (drop (i + 1) hs)
+found-later : (pt : ℕ) (e : Entry) (hs : List Noted) (i : ℕ) (d : Noted) → i < length hs → finds pt e (get_or hs i d) ≡ false → found_in pt e (drop i hs) ≡ found_in pt e (drop (i + 1) hs)
 found-later pt e hs i d lt f = let s = found-drop pt e hs i d lt in rw f at s
+
+-- ---- the counting event that rises
+
+counted-more : (e : Entry) (found : List Noted) (x : Noted) → counted_by e (found ++ x ∷ []) ≡ overflow_counter e
+counted-more e [] x = refl
+counted-more e (y ∷ found) x = refl
+
+-- ---- one turn of the walk over the headers: those that stay have moved down in ys, and from i on all is as it was
+
+abbrev pub stays : ℕ → Entry → Noted → Bool
+stays pt e a = not (finds pt e a)
+
+same-there : (p : Noted → Bool) (xs ys : List Noted) (k i : ℕ) (d : Noted) → FiltersInPlace p xs ys k i → get_or ys i d ≡ get_or xs i d
+same-there p xs ys k i d s =
+    let z : i + 0 ≡ i = omega arith in
+    let a = rw z at (get_or-drop i ys 0 d) in
+    let b = rw z at (get_or-drop i xs 0 d) in
+    sym a ∙ ap (λ (zs : List Noted). get_or zs 0 d) s.rest ∙ b
+
+-- what was looked at, through the slice zs
+module _ (pt : ℕ) (e : Entry) (xs ys zs : List Noted) (k i : ℕ) (d : Noted) (r : Bool) (is : r ≡ finds pt e (get_or zs i d)) (lent : zs ≡ ys) (s : FiltersInPlace (stays pt e) xs ys k i) (lt : i < length xs) where
+  one : get_or zs i d ≡ get_or xs i d
+  one = ap (λ (l : List Noted). get_or l i d) lent ∙ same-there (stays pt e) xs ys k i d s
+
+  looked : finds pt e (get_or xs i d) ≡ r
+  looked = ap (λ x. finds pt e x) (sym one) ∙ sym is
+
+  itself : get_or zs i d ≡ get_or ys i (get_or zs i d)
+  itself = ap (λ (l : List Noted). get_or l i d) lent ∙ get_or_default ys i d (get_or zs i d) (omega (arith, s.long))
+
+  pub step-found : r ≡ true → found_in pt e (drop i xs) ≡ get_or zs i d ∷ found_in pt e (drop (i + 1) xs)
+  step-found t = rw one (found-here pt e xs i d lt (looked ∙ t))
+
+  pub step-later : r ≡ false → found_in pt e (drop i xs) ≡ found_in pt e (drop (i + 1) xs)
+  step-later f = found-later pt e xs i d lt (looked ∙ f)
+
+  pub step-rose : r ≡ true → counted_by e (found_in pt e (take (i + 1) xs)) ≡ overflow_counter e
+  step-rose t = rw (filter_more (finds pt e) xs i d lt, looked, t) (counted-more e (found_in pt e (take i xs)) (get_or xs i d))
+
+  pub step-same : r ≡ false → found_in pt e (take (i + 1) xs) ≡ found_in pt e (take i xs)
+  step-same f = rw (filter_more (finds pt e) xs i d lt, looked, f) (append-nil (found_in pt e (take i xs)))
+
+  pub step-gone : r ≡ true → FiltersInPlace (stays pt e) xs ys k (i + 1)
+  step-gone t = FiltersInPlace-more_no {x = get_or zs i d} s (omega (arith, s.long)) (ap not (sym is ∙ t)) itself
+
+  pub step-kept : r ≡ false → FiltersInPlace (stays pt e) xs (set ys k (get_or zs i d)) (k + 1) (i + 1)
+  step-kept f = FiltersInPlace-more_set {x = get_or zs i d} s (omega (arith, s.long)) (ap not (sym is ∙ f)) itself

@@ -12,47 +12,16 @@ ghost use Rattle.target_engine.specs.Sides.{has_appended, SlotBelow, AppendsSome
 
 use crate::calls::is_allocated;
 use crate::events::entry_event;
-use crate::gone::{frees, kind_taken, raise_gone, raise_taken};
 use crate::index::{link_at, queue_at};
 use crate::places::Placed;
+use crate::takes::{overflow_counter, take_found, take_header};
 use crate::target::Target;
 use counters::Counter;
-use event_delivery::{count, raise, successes};
+use event_delivery::raise;
 use event_queues::Queue;
-use handle_store::{Store, is_live_or_none, where_set};
+use handle_store::{Store, is_live_or_none};
 use memory_desc::Region;
-use ni_model::Noted;
 use ptl_types::{Appended, Entry, EventKind, Handle, List as Place, NiFault};
-use unexpected::{Headers, finds};
-
-/// The counting event of an entry that counts the headers that it takes.
-fn overflow_counter(entry: &Entry) -> Option<Handle>
-    ensures { result ≡ counter_of entry.now }
-{
-    where_set(entry.count_overflow, entry.ct)
-}
-
-/// One success for each header that the entry takes.
-fn count_taken(cts: &mut Store<Counter>, noted: &[Noted], pt: u32, entry: &Entry)
-    ensures { cts.new ≡ each_counted (counter_of entry.now) (found_in pt entry.now noted.now) cts.old }
-{
-    let ct = overflow_counter(entry);
-    for x in noted {
-        if finds(x, pt, entry) {
-            count(cts, ct, successes(1));
-        }
-    }
-}
-
-/// The counting event that rises where the entry takes all headers that it finds.
-fn counted_by(headers: &Headers, pt: u32, entry: &Entry) -> Option<Handle>
-    ensures { result ≡ counts_by entry.now (found_in pt entry.now headers.now.noted) }
-{
-    match headers.search(pt, entry) {
-        Some(_) => overflow_counter(entry),
-        None => None,
-    }
-}
 
 impl Target {
     /// Whether no further entry can be linked: as many as the limit are, or all stamps were given.
@@ -105,12 +74,16 @@ impl Target {
         ensures events { eqs.new ≡ each_gone self.old (left_in pt entry.now self.old.headers.noted) (found_in pt entry.now self.old.headers.noted) eqs.old }
         ensures counted { result ≡ counts_by entry.now (found_in pt entry.now self.old.headers.noted) }
     {
-        let counted = counted_by(&self.headers, pt, entry);
-        count_taken(cts, self.headers.as_slice(), pt, entry);
-        let noted = self.headers.as_slice();
-        raise_taken(&self.indices, &mut self.places, noted, eqs, pt, entry);
-        self.headers.drop_found(pt, entry);
-        counted
+        let places = &mut self.places;
+        take_found(
+            &self.indices,
+            places,
+            &mut self.headers,
+            cts,
+            eqs,
+            pt,
+            entry,
+        )
     }
 
     /// A use-once entry takes the oldest header that it finds, else it is linked.
@@ -135,12 +108,8 @@ impl Target {
                 return (Appended::Linked(me), None);
             }
         };
-        let ct = overflow_counter(&entry);
-        count(cts, ct, successes(1));
-        let freed = frees(&self.indices, &mut self.places, &noted);
-        let kind = kind_taken(noted.header.header.kind);
-        raise_gone(&self.indices, eqs, kind, &noted, freed);
-        (Appended::Consumed(noted.header), ct)
+        take_header(&self.indices, &mut self.places, cts, eqs, &entry, &noted);
+        (Appended::Consumed(noted.header), overflow_counter(&entry))
     }
 
     /// Appends an entry to one of the lists of an index (Portals 4.3, appending list entries). To the priority list, a

@@ -1,12 +1,10 @@
 //! What tells that an unexpected header went, and that the entry in which it lay is free.
 
-ghost use Rattle.std.specs.Prelude.{◌≡◌, []};
+ghost use Rattle.std.specs.Prelude.{◌≡◌};
 ghost use Rattle.ni_model.specs.Lists.{index_at, is_linked_at};
-ghost use Rattle.ni_model.specs.Headers.{held, found_in, left_in};
 ghost use Rattle.ni_model.specs.Events.{header_event as event_of, kind_taken as kind_of};
-ghost use Rattle.ni_model.specs.Append.{each_gone};
-ghost use Rattle.target_engine.specs.Shelves.{seen_in, ArePlaced, frees_at, placed_by, one_fewer};
-ghost use Rattle.target_engine.specs.Sides.{side, told_gone};
+ghost use Rattle.target_engine.specs.Shelves.{seen_in, frees_at, placed_by, one_fewer};
+ghost use Rattle.target_engine.specs.Sides.{told_gone};
 
 use crate::events::{entry_event, message_event};
 use crate::index::{Index, queue_at, shelf_at};
@@ -15,8 +13,7 @@ use event_delivery::raise;
 use event_queues::Queue;
 use handle_store::Store;
 use ni_model::Noted;
-use ptl_types::{Entry, Event, EventKind, Handle, List as Place, MessageKind};
-use unexpected::finds;
+use ptl_types::{Event, EventKind, Handle, List as Place, MessageKind};
 
 /// Whether the overflow list of this index holds the entry.
 pub fn is_in_overflow(indices: &[Index], pt: u32, entry: Handle) -> bool
@@ -72,28 +69,5 @@ pub fn raise_gone(
     raise(eqs, eq, header_event(kind, gone));
     if freed {
         raise(eqs, eq, entry_event(EventKind::AutoFree, gone.pt, 0, true));
-    }
-}
-
-/// Tells of all headers that an entry takes, oldest first, and counts each out of the record of its entry.
-pub fn raise_taken(
-    indices: &[Index],
-    places: &mut Store<Placed>,
-    noted: &[Noted],
-    eqs: &mut Store<Queue>,
-    pt: u32,
-    entry: &Entry,
-)
-    requires { ArePlaced (seen_in indices.now) noted.now places.old }
-    ensures placed { ArePlaced (seen_in indices.now) (left_in pt entry.now noted.now) places.new }
-    ensures given { places.new.given ≡ places.old.given }
-    ensures limit { places.new.limit ≡ places.old.limit }
-    ensures told { eqs.new ≡ each_gone (side 0 0 (seen_in indices.now) 0 (held [] 0)) (left_in pt entry.now noted.now) (found_in pt entry.now noted.now) eqs.old }
-{
-    for x in noted {
-        if finds(x, pt, entry) {
-            let freed = frees(indices, places, x);
-            raise_gone(indices, eqs, kind_taken(x.header.header.kind), x, freed);
-        }
     }
 }

@@ -12,6 +12,7 @@ mod index;
 mod measures;
 mod places;
 mod swap;
+mod takes;
 mod target;
 #[cfg(test)]
 mod tests;

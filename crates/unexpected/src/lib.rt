@@ -1,9 +1,9 @@
 //! The unexpected headers of an interface, in the order of arrival (Portals 4.3, unexpected messages).
 #![tactic(auto)]
 
-ghost use Rattle.std.specs.Prelude.{◌≡◌, ◌<◌, ◌≤◌, ◌+◌, ◌++◌, ◌∷◌, [], ◌↔◌, IsTrue, IfOk, vec_capacity, vec_len, drop, IfNone, IfSome, Some, None, slice_index_or, remove, length, nat_lt, option_copied};
+ghost use Rattle.std.specs.Prelude.{◌≡◌, ◌<◌, ◌≤◌, ◌+◌, ◌++◌, ◌∷◌, [], ◌↔◌, IsTrue, IfOk, vec_capacity, vec_len, drop, take, slice_set, IfNone, IfSome, Some, None, slice_index_or, remove, length, nat_lt, option_copied};
 ghost use Rattle.ni_model.specs.declared.Noted.{Noted as Header};
-ghost use Rattle.ni_model.specs.Headers.{held, allows as allowed_by, finds as found_by, oldest, without_oldest, names_entry, headers_of, no_room, left_in};
+ghost use Rattle.ni_model.specs.Headers.{held, allows as allowed_by, finds as found_by, oldest, without_oldest, names_entry, headers_of, no_room};
 ghost use Rattle.unexpected.specs.Places.{noted as as_noted, header_at};
 
 use ni_model::Noted;
@@ -71,14 +71,6 @@ fn some_lies_in(noted: &[Noted], entry: Handle) -> bool
         }
     }
     false
-}
-
-/// Takes out all headers that the entry finds.
-fn drop_found(noted: &mut Vec<Noted>, pt: u32, entry: &Entry)
-    ensures left { noted.new.items ≡ left_in pt entry.now noted.old.items }
-    ensures room { vec_capacity noted.new ≡ vec_capacity noted.old }
-{
-    noted.retain(|x| !finds(x, pt, entry));
 }
 
 /// Whether a header of this index is among them.
@@ -215,13 +207,22 @@ impl Headers {
         &self.noted[self.gone..]
     }
 
-    /// Takes out all headers of this index that the entry matches and allows, in one pass. The others keep their order.
-    pub fn drop_found(&mut self, pt: u32, entry: &Entry)
-        ensures { self.new ≡ held (left_in pt entry.now self.old.noted) self.old.limit }
+    /// Puts a header at a place, counted from the oldest, over the one that stands there.
+    pub fn put_at(&mut self, place: usize, noted: Noted)
+        requires { place < length self.old.noted }
+        ensures { self.new ≡ held (slice_set self.old.noted place noted) self.old.limit }
     {
-        settle(&mut self.noted, self.gone);
-        self.gone = 0;
-        drop_found(&mut self.noted, pt, entry);
+        let at = self.gone + place;
+        self.noted[at] = noted;
+    }
+
+    /// Keeps the oldest `len` headers, and lets the others go.
+    pub fn truncate(&mut self, len: usize)
+        requires { len ≤ length self.old.noted }
+        ensures { self.new ≡ held (take len self.old.noted) self.old.limit }
+    {
+        let end = self.gone + len;
+        self.noted.truncate(end);
     }
 
     /// Whether the bytes of a header lie in this entry's memory.

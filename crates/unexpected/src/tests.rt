@@ -84,7 +84,7 @@ fn the_oldest_that_matches_is_taken(rt: HostRuntime) -> Result<(), Fail> {
 }
 
 #[test]
-fn all_that_an_entry_finds_go_at_once(rt: HostRuntime) -> Result<(), Fail> {
+fn a_header_is_put_over_another_and_the_youngest_go(rt: HostRuntime) -> Result<(), Fail> {
     let mut headers = Headers::open(rt.alloc(), 2)?;
     let me = Handle { slot: 0, stamp: 0 };
     for (match_bits, place) in [(6, 0), (5, 1)] {
@@ -92,10 +92,13 @@ fn all_that_an_entry_finds_go_at_once(rt: HostRuntime) -> Result<(), Fail> {
             headers.add(1, put(match_bits, place));
         }
     }
-    headers.drop_found(1, &entry(5));
+    assert_eq!(rt; headers.as_slice().len(), 2);
+    let youngest = headers.as_slice()[1];
+    headers.put_at(0, youngest);
+    headers.truncate(1);
     assert!(rt; headers.names(me));
     assert_eq!(rt; headers.as_slice().len(), 1);
-    assert_eq!(rt; headers.at(1, 0).map(|header| header.place), Some(0));
+    assert_eq!(rt; headers.at(1, 0).map(|header| header.place), Some(1));
     assert!(rt; headers.at(1, 1).is_none());
     Ok(())
 }

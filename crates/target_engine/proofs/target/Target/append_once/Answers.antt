@@ -14,7 +14,7 @@ by-once slot pt e p u = rw u refl
 pub invariant_of-self-2 : goal.invariant_of-self-2
 invariant_of-self-2 c =
     let o : oldest c.args.pt c.args.entry c.self.inside.headers.noted ≡ Some c.in-Some.noted = sym c.take_oldest.ensures.oldest ∙ c.in-Some.is in
-    kept-fewer c.self.inside.limit c.self.inside.linked c.args.pt c.args.entry c.in-Some.noted c.self.inside.indices.items c.self.inside.places c.frees-freed.new.places c.self.inside.headers c.take_oldest.new.self c.self.invariant o c.take_oldest.ensures.rest c.frees-freed.ensures.counted
+    kept-fewer c.self.inside.limit c.self.inside.linked c.args.pt c.args.entry c.in-Some.noted c.self.inside.indices.items c.self.inside.places c.take_header.new.places c.self.inside.headers c.take_oldest.new.self c.self.invariant o c.take_oldest.ensures.rest c.take_header.ensures.placed
 
 pub returns-clause-appends : goal.returns-clause-appends
 unfolding append
@@ -28,5 +28,5 @@ returns-clause-appends c =
       free = s.1;
       ended =
           rw (← by-once s.0 c.args.pt c.args.entry (parts c.args.self.now region c.args.cts.now c.args.eqs.now) c.requires.once)
-          (rw (← c.self.view_is, o, c.count.ensures.does, c.raise_gone.ensures, c.frees-freed.ensures.freed, c.frees-freed.ensures.counted, given-by, c.kind_taken-kind.ensures, c.overflow_counter-ct.ensures, c.successes.ensures.told, c.deref.ensures.value, c.deref-2.ensures.value, c.take_oldest.ensures.rest, freed) refl);
+          (rw (← c.self.view_is, o, c.take_header.ensures.counts, c.take_header.ensures.told, c.take_header.ensures.placed, given-by, c.overflow_counter.ensures, c.deref.ensures.value, c.take_oldest.ensures.rest, freed) refl);
     }

@@ -1,0 +1,63 @@
+use Rattle.std.proofs.Common.{◌<◌, ◌++◌, length, refl, sym, ap, ◌∙◌, arith}
+use Rattle.ni_model.specs.Headers.{found_in, left_in}
+use Rattle.target_engine.specs.Shelves.{seen_in}
+use Rattle.target_engine.proofs.Headers.{noted-parts}
+use Rattle.target_engine.proofs.Placed.{placed-noted}
+use Rattle.target_engine.proofs.Records.{given-by, limit-by}
+use Rattle.target_engine.proofs.Taking.{taken-told, taken-placed, step-found, step-later, step-rose, step-same, step-gone, step-kept}
+use Rattle.target_engine.proofs.takes.take_found.Goals as goal
+use Rattle.target_engine.proofs.takes.take_found.Goals.{then-finds, else-finds}
+
+pub loop-at-init : goal.loop-at-init
+loop-at-init c =
+    let xs = c.args.headers.now.noted in
+    record {
+      sifted = record { front = refl; rest = refl; behind = omega arith; within = omega arith; long = refl };
+      room = refl;
+      told = refl;
+      counts = refl;
+      rose = refl;
+      placed = placed-noted (seen_in c.args.indices.now) xs (left_in c.args.pt c.args.entry.now xs ++ found_in c.args.pt c.args.entry.now xs) c.args.places.now c.requires (λ p. noted-parts p c.args.pt c.args.entry.now xs);
+      given = refl;
+      limit = refl;
+    }
+
+pub loop-at-preserved : goal.loop-at-preserved
+loop-at-preserved c =
+    let pt = c.args.pt in
+    let e = c.args.entry.now in
+    let xs = c.args.headers.now.noted in
+    let ys = c.loop-at.headers.noted in
+    let zs = c.as_slice.result.now in
+    let k = c.loop-at.kept in
+    let i = c.loop-at.at in
+    let h = c.loop-at.invariant in
+    let lt : i < length xs = omega (arith, ap length c.as_slice-waiting.ensures, c.loop-at-test.true) in
+    elim c.if-finds.branch [
+      | then-finds w ↦
+          let step = step-found pt e xs ys zs k i _ _ c.finds.ensures c.as_slice.ensures h.sifted lt w.if-finds.true in
+          let was = rw step at h.placed in
+          let told = rw step at h.told in
+          record {
+            sifted = rw (w.headers-is, w.kept-is) (step-gone pt e xs ys zs k i _ _ c.finds.ensures c.as_slice.ensures h.sifted lt w.if-finds.true);
+            room = rw w.headers-is h.room;
+            told = rw (w.eqs-is, w.take_header.ensures.told) (taken-told _ _ _ _ _ _ was ∙ told);
+            counts = rw (w.cts-is, w.take_header.ensures.counts) (rw step at h.counts);
+            rose = rw (w.counted-is, w.overflow_counter-counted.ensures) (sym (step-rose pt e xs ys zs k i _ _ c.finds.ensures c.as_slice.ensures h.sifted lt w.if-finds.true));
+            placed = rw (w.places-is, w.take_header.ensures.placed) (taken-placed _ _ _ _ _ was);
+            given = rw (w.places-is, w.take_header.ensures.placed, given-by) h.given;
+            limit = rw (w.places-is, w.take_header.ensures.placed, limit-by) h.limit;
+          }
+      | else-finds w ↦
+          let step = step-later pt e xs ys zs k i _ _ c.finds.ensures c.as_slice.ensures h.sifted lt w.if-finds.false in
+          record {
+            sifted = rw (w.headers-is, w.kept-is, w.put_at.ensures) (step-kept pt e xs ys zs k i _ _ c.finds.ensures c.as_slice.ensures h.sifted lt w.if-finds.false);
+            room = rw (w.headers-is, w.put_at.ensures) h.room;
+            told = rw w.eqs-is (rw step at h.told);
+            counts = rw w.cts-is (rw step at h.counts);
+            rose = rw (w.counted-is, step-same pt e xs ys zs k i _ _ c.finds.ensures c.as_slice.ensures h.sifted lt w.if-finds.false) h.rose;
+            placed = rw w.places-is (rw step at h.placed);
+            given = rw w.places-is h.given;
+            limit = rw w.places-is h.limit;
+          }
+    ]
