@@ -1,3 +1,4 @@
 pub mod Bounds
+pub mod Naming
 pub mod Starting
 pub mod SlotWalks

@@ -6,9 +6,8 @@ use Rattle.std.proofs.lemmas.List.Elements.{All-head, All-tail, All-cons, All-ni
 use Rattle.ptl_types.specs.declared.handles.Handle.{Handle}
 use Rattle.ptl_types.specs.Handles.{same_handle}
 use Rattle.ni_model.specs.declared.Bound.{Bound}
-use Rattle.ni_model.specs.Tables.{Live, lookup, has_slot, names}
+use Rattle.ni_model.specs.Tables.{Live, lookup, has_slot}
 use Rattle.ni_model.specs.Answers.{is_awaited}
-use Rattle.ni_model.specs.Refusals.{md_names_ct, md_names_eq}
 
 -- no thing below this slot passes the test
 abbrev pub NoneBelow : (Bound → Bool) → ℕ → List (Live Bound) → Type 0
@@ -64,22 +63,6 @@ slots-found f h v (x ∷ xs) e is =
       | true ↦ λ e. let same : x.value ≡ v = cc in let first : f x.value ≡ true = ap f same ∙ is in rw first refl
       | false ↦ λ e. rw (slots-found f h v xs e is) (or-true (f x.value))
     ] e
-
--- ---- counting events and event queues
-
-abbrev pub uses_ct : Handle → Bound → Bool
-uses_ct ct b = names b.md.ct ct
-
-pub ct-named : (ct : Handle) (xs : List (Live Bound)) → md_names_ct ct xs ≡ some_thing (uses_ct ct) xs
-ct-named ct [] = refl
-ct-named ct (x ∷ xs) = rw (ct-named ct xs) refl
-
-abbrev pub uses_eq : Handle → Bound → Bool
-uses_eq eq b = names b.md.eq eq
-
-pub eq-named : (eq : Handle) (xs : List (Live Bound)) → md_names_eq eq xs ≡ some_thing (uses_eq eq) xs
-eq-named eq [] = refl
-eq-named eq (x ∷ xs) = rw (eq-named eq xs) refl
 
 -- ---- answers that are awaited
 

@@ -1,5 +1,5 @@
 -- What an initiator is seen as, and what its calls ask for and answer.
-use Rattle.std.specs.Prelude.{ℕ, Bool, true, false, List, [], Option, Some, None, Result, Ok, Err, All}
+use Rattle.std.specs.Prelude.{ℕ, ◌≡◌, ◌≤◌, Bool, true, false, List, [], length, Option, Some, None, Result, Ok, Err, All}
 use Rattle.ptl_types.specs.declared.handles.Handle.{Handle}
 use Rattle.ptl_types.specs.declared.calls.Limits.{Limits}
 use Rattle.ptl_types.specs.declared.calls.NiFault.{NiFault}
@@ -19,6 +19,8 @@ use Rattle.ni_model.specs.Answers.{Home, Returned, bound_at}
 use Rattle.ni_model.specs.Starts.{Started, bytes_at, awaits_more, send_counter, send_queue, counted_on}
 use Rattle.ni_model.specs.Refusals.{put_fits}
 use Rattle.ni_model.specs.Conditions.{IsBoundIn}
+use Rattle.user_counts.specs.Rows.{one_at, Counts}
+use Rattle.user_counts.specs.Sums.{sum_of, named_as}
 
 -- its rank, the number of ranks, its limits, and the memory descriptors with the answers that each awaits
 pub record Initiating : Type 0 where
@@ -101,3 +103,22 @@ sent_by mds cts eqs d h =
     (counted (send_counter (bound_at (counted_on d) mds)) (successes 1) cts)
     (raised (send_queue (bound_at (counted_on d) mds)) (send_event h) eqs)
     (send_counter (bound_at (counted_on d) mds))
+
+-- ---- what the descriptors name
+
+-- how many name a counting event of the slot k
+abbrev pub ct_users : Table Bound → ℕ → ℕ
+ct_users mds k = sum_of (λ h (b : Bound). one_at b.md.ct k) mds.live
+
+-- how many name an event queue of the slot k
+abbrev pub eq_users : Table Bound → ℕ → ℕ
+eq_users mds k = sum_of (λ h (b : Bound). one_at b.md.eq k) mds.live
+
+-- the rows count by slot the descriptors that name a counting event and a queue, and have a slot for each of these; no two
+-- descriptors have one handle
+pub record AreUsers (limits : Limits) (mds : Table Bound) (cts eqs : List ℕ) : Type 0 where
+  pub cts_count : Counts (ct_users mds) cts
+  pub eqs_count : Counts (eq_users mds) eqs
+  pub cts_long : length cts ≡ limits.cts
+  pub eqs_long : length eqs ≡ limits.eqs
+  pub once : (h : Handle) → sum_of (named_as h) mds.live ≤ 1

@@ -1,18 +1,19 @@
 //! The initiator.
 
-ghost use Rattle.std.specs.Prelude.{◌≡◌, ◌<◌, ◌≤◌, ◌+◌, true, false, Some, None, IfOk, IfErr, OnErr, length};
+ghost use Rattle.std.specs.Prelude.{◌≡◌, ◌<◌, ◌≤◌, ◌+◌, true, false, Some, None, IsTrue, IfOk, IfErr, OnErr, All, length};
 ghost use Rattle.ni_model.specs.Tables.{no_things, lookup, with_new, without, has_slot, handle, is_live as lives};
 ghost use Rattle.ni_model.specs.Calls.{bound as as_bound, awaits_of};
 ghost use Rattle.ni_model.specs.Answers.{home, answered, is_awaited};
 ghost use Rattle.ni_model.specs.Starts.{started};
 ghost use Rattle.ni_model.specs.Refusals.{bind_fault, deed_fault, own_release_fault, md_names_ct, md_names_eq};
 ghost use Rattle.ni_model.specs.Conditions.{MayStart};
+ghost use Rattle.user_counts.specs.Rows.{IsAlone, HasOwnSlot};
 ghost use Rattle.initiator_engine.specs.Initiators.{sent_as, sent_by, initiating, with_mds, AreBoundIn, by_fault, is_start, room_for, has_started, has_returned};
 
 use crate::answers::{await_less, bound_of, bring, counter_home, is_due, one_answer, raise_answer};
 use crate::checks::{deed_fits, deed_is_live, is_live};
 use crate::headers::{counted_on, header_of, put_args};
-use crate::named::{some_awaits, some_names_ct, some_names_eq};
+use crate::named::some_awaits;
 use crate::starts::{await_more, read_bytes, send_counter, send_event, send_queue};
 use counters::Counter;
 use event_delivery::{count, raise, successes};
@@ -25,23 +26,28 @@ use ptl_types::{
 };
 use std::alloc::Global;
 use std::marker::Model;
+use user_counts::Users;
 
 /// An initiator. Its value is its rank, the number of ranks, its limits, and its memory descriptors with the answers that
-/// each awaits.
+/// each awaits. `cts` and `eqs` count by slot the descriptors that name a counting event and an event queue.
 #[derive(Drop)]
 pub struct Initiator {
     rank: Rank,
     ranks: u32,
     limits: Limits,
     mds: Store<Bound>,
+    cts: Users,
+    eqs: Users,
 }
 
 impl Model for Initiator {
-    ghost use Rattle.initiator_engine.specs.Initiators.{Initiating, initiating};
+    ghost use Rattle.initiator_engine.specs.Initiators.{Initiating, initiating, AreUsers};
 
     ghost Value = { Initiating };
 
     ghost view = { λ i. initiating i.rank i.ranks i.limits i.mds };
+
+    ghost invariant = { λ i. AreUsers i.limits i.mds i.cts i.eqs };
 }
 
 /// What a start does to the descriptors, the counting events and the queues; the counting event that rose.
@@ -73,11 +79,15 @@ impl Initiator {
         ensures makes { IfOk result (λ i. i ≡ initiating rank ranks limits.now (no_things limits.now.mds)) }
     {
         let mds = Store::open(alloc, limits.mds)?;
+        let cts = Users::open(alloc, limits.cts)?;
+        let eqs = Users::open(alloc, limits.eqs)?;
         Ok(Initiator {
             rank,
             ranks,
             limits: *limits,
             mds,
+            cts,
+            eqs,
         })
     }
 
@@ -129,10 +139,15 @@ impl Initiator {
         if !region.fits(md.start, md.length) {
             return Err(NiFault::OutOfRegion);
         }
-        match self.mds.insert(Bound { md, awaits: 0 }) {
-            Ok(handle) => Ok(handle),
-            Err(_) => Err(NiFault::NoSpace),
-        }
+        // Brings the bound of the number of descriptors to the proof.
+        let _slots = self.mds.slots();
+        let handle = match self.mds.insert(Bound { md, awaits: 0 }) {
+            Ok(handle) => handle,
+            Err(_) => return Err(NiFault::NoSpace),
+        };
+        self.cts.add(md.ct);
+        self.eqs.add(md.eq);
+        Ok(handle)
     }
 
     /// Releases a descriptor. `Stale` where it isn't bound, `InUse` where it awaits an answer; a refused call changes
@@ -145,17 +160,22 @@ impl Initiator {
         match bound_of(&self.mds, Some(md)) {
             None => Err(NiFault::Stale),
             Some(bound) if bound.awaits > 0 => Err(NiFault::InUse),
-            Some(_) => {
+            Some(bound) => {
                 let _ = self.mds.remove(md);
+                self.cts.remove(bound.md.ct);
+                self.eqs.remove(bound.md.eq);
                 Ok(())
             }
         }
     }
 
-    /// Whether the descriptor is bound.
+    /// Whether the descriptor is bound. Then no other bound one has its slot.
     pub fn is_bound(&self, md: Handle) -> bool
         ensures told { result ≡ lives md self.now.mds }
+        ensures alone { IsTrue result → HasOwnSlot md self.now.mds }
     {
+        // Brings what is known of its slot to the proof.
+        let _found = self.mds.at(md.slot);
         is_live(&self.mds, md)
     }
 
@@ -176,18 +196,24 @@ impl Initiator {
         some_awaits(&self.mds)
     }
 
-    /// Whether a descriptor names the counting event.
+    /// Whether a descriptor names the counting event. Conditions: its slot is below the limit of counting events, and no
+    /// descriptor names another one of this slot.
     pub fn names_ct(&self, ct: Handle) -> bool
+        requires within { ct.slot < self.now.limits.cts }
+        requires alone { All (λ x. IsAlone ct x.value.md.ct) self.now.mds.live }
         ensures told { result ≡ md_names_ct ct self.now.mds.live }
     {
-        some_names_ct(&self.mds, ct)
+        self.cts.is_used(ct.slot)
     }
 
-    /// Whether a descriptor names the event queue.
+    /// Whether a descriptor names the event queue. Conditions: its slot is below the limit of queues, and no descriptor names
+    /// another one of this slot.
     pub fn names_eq(&self, eq: Handle) -> bool
+        requires within { eq.slot < self.now.limits.eqs }
+        requires alone { All (λ x. IsAlone eq x.value.md.eq) self.now.mds.live }
         ensures told { result ≡ md_names_eq eq self.now.mds.live }
     {
-        some_names_eq(&self.mds, eq)
+        self.eqs.is_used(eq.slot)
     }
 
     /// Whether the deed may start as far as its descriptors go: `Stale` where one of them isn't bound, `OutOfRegion` where a

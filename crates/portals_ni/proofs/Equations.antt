@@ -29,22 +29,22 @@ use Rattle.ni_model.specs.Calls.{ends, Makes, MayLackMemory, enough, lacking, An
 use Rattle.handle_store.proofs.StoreLemmas.{change-absent}
 use Rattle.initiator_engine.specs.Initiators.{Initiating, with_mds, is_start, has_started, has_returned}
 use Rattle.target_engine.specs.Sides.{has_searched, has_appended, AppendsSome}
-use Rattle.triggered_ops.specs.Operations.{Operations, deed_of, operation_at, is_ready, with_posted, without_number, waiting_on, cancelled, posted_all}
+use Rattle.triggered_ops.specs.Operations.{Operations, deed_of, operation_at, is_ready, told, with_posted, without_number, waiting_on, cancelled, posted_all}
 use Rattle.std.specs.Prelude.{slice_set}
 use Rattle.portals_ni.specs.declared.armed.Armed.{Armed}
 use Rattle.portals_ni.specs.Answers.{MakesIfMemory, event_taken, deed_counts}
-use Rattle.portals_ni.specs.Pendings.{deed_in, told_by, told_new}
+use Rattle.portals_ni.specs.Pendings.{deed_in, told_by}
 use Rattle.portals_ni.specs.Sound.{IsTold, Stands, state_of}
 use Rattle.portals_ni.proofs.Ends.{ends-done, ends-refused, free_slot, is-free, free_entry_slot, entry-is-free}
-use Rattle.portals_ni.proofs.Firing.{new-forgotten, posted-cancelled, length-waiting, posted-push, posted-without, ready-is, fired-is, done-start, done-count}
+use Rattle.portals_ni.proofs.Firing.{posted-new, posted-cancelled, length-waiting, posted-without, ready-is, fired-is, done-start, done-count}
 use Rattle.portals_ni.proofs.Stands.{fewer-stands, done-stands}
-use Rattle.portals_ni.proofs.Told.{posted-told_by}
+use Rattle.portals_ni.proofs.Told.{posted-tells, posted-told_by}
 
 -- what was told is forgotten
 pub told-forgotten : (ct : Option Handle) (c : Table Count) (ops left : Operations Armed) → left ≡ told_by ct c ops → posted_all deed_in left ≡ posted_all deed_in ops
 told-forgotten ct c ops left e = ap (posted_all deed_in) e ∙ posted-told_by ct c ops
 
-live-true : {A : Type 0} (b : Bool) (o : Option A) → (IsTrue b ↔ IsSome o) → b ≡ true → is_some o ≡ true
+pub live-true : {A : Type 0} (b : Bool) (o : Option A) → (IsTrue b ↔ IsSome o) → b ≡ true → is_some o ≡ true
 live-true true None r e = cc (r.0 refl)
 live-true true (Some x) r e = refl
 live-true false o r e = cc
@@ -55,6 +55,10 @@ not-full t e = rw e refl
 module _ (t : Side) (r : List ℕ) (c : Table Count) (e : Table Waiting) (i : Initiating) (ops : Operations Armed) (d v : ℕ) where
   abbrev pub before : State
   before = state_of t r c e i ops d v
+
+  -- what was told isn't seen
+  pub told-state : (ct : Handle) (sum : ℕ) (left : Operations Armed) → left ≡ told ct sum ops → before ≡ state_of t r c e i left d v
+  told-state ct sum left made = sym (rw (ap (posted_all deed_in) made ∙ posted-tells ct sum ops) refl)
 
   -- ---- the engines' parts
 
@@ -163,15 +167,15 @@ module _ (t : Side) (r : List ℕ) (c : Table Count) (e : Table Waiting) (i : In
       let same : has_started (home j.mds r k f) m ct ≡ started t.rank (home i.mds r c e) deed = is ∙ ap (λ n. started n (home i.mds r c e) deed) rank in
       rw (none, ← same, home-state j r k f left ct rest told) refl
 
-  pub post-ends : (deed : Deed) (ct : Handle) (threshold n : ℕ) (a : Armed) (left : Operations Armed) → triggered_fault deed ct c i.mds (posted_all deed_in ops) ≡ None → a.deed ≡ deed → n ≡ ops.given → left ≡ told_new n ct c (with_posted a ct threshold ops) → ends (state_of t r c e i left d v) (Ok n) ≡ triggered deed ct threshold before
-  post-ends deed ct threshold n a left none is number told =
-      rw (none, new-forgotten n ct c (with_posted a ct threshold ops) left told, posted-push a ct threshold ops, is, number) refl
+  pub post-ends : (deed : Deed) (ct : Handle) (threshold sum n : ℕ) (a : Armed) (left : Operations Armed) → triggered_fault deed ct c i.mds (posted_all deed_in ops) ≡ None → a.deed ≡ deed → n ≡ ops.given → left ≡ with_posted a ct threshold sum (told ct sum ops) → ends (state_of t r c e i left d v) (Ok n) ≡ triggered deed ct threshold before
+  post-ends deed ct threshold sum n a left none is number made =
+      rw (none, posted-new a ct threshold sum ops left made, is, number) refl
 
   pub start-may : (deed : Deed) (j : Initiating) (k : Table Count) (f : Table Waiting) (left : Operations Armed) (m : Sent) (ct : Option Handle) → deed_fault deed i.mds ≡ None → i.rank ≡ t.rank → has_started (home j.mds r k f) m ct ≡ started i.rank (home i.mds r c e) deed → j ≡ with_mds j.mds i → left ≡ told_by ct k ops → MayLackMemory (start deed before) before (ends (state_of t r k f j left d v) (Ok (Some m)))
   start-may deed j k f left m ct none rank is rest told = subst (λ x. MayLackMemory (start deed before) before x) (sym (start-ends deed j k f left m ct none rank is rest told)) enough
 
-  pub post-may : (deed : Deed) (ct : Handle) (threshold n : ℕ) (a : Armed) (left : Operations Armed) → triggered_fault deed ct c i.mds (posted_all deed_in ops) ≡ None → a.deed ≡ deed → n ≡ ops.given → left ≡ told_new n ct c (with_posted a ct threshold ops) → MayLackMemory (triggered deed ct threshold before) before (ends (state_of t r c e i left d v) (Ok n))
-  post-may deed ct threshold n a left none is number told = subst (λ x. MayLackMemory (triggered deed ct threshold before) before x) (sym (post-ends deed ct threshold n a left none is number told)) enough
+  pub post-may : (deed : Deed) (ct : Handle) (threshold sum n : ℕ) (a : Armed) (left : Operations Armed) → triggered_fault deed ct c i.mds (posted_all deed_in ops) ≡ None → a.deed ≡ deed → n ≡ ops.given → left ≡ with_posted a ct threshold sum (told ct sum ops) → MayLackMemory (triggered deed ct threshold before) before (ends (state_of t r c e i left d v) (Ok n))
+  post-may deed ct threshold sum n a left none is number made = subst (λ x. MayLackMemory (triggered deed ct threshold before) before x) (sym (post-ends deed ct threshold sum n a left none is number made)) enough
 
   -- ---- arrivals
 

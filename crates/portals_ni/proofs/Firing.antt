@@ -1,7 +1,6 @@
 -- The pending operations as the model has them: which are ready, and what firing one does.
 use Rattle.std.proofs.Common.{◌≡◌, ℕ, ◌==◌, Bool, true, false, not, List, [], ◌∷◌, ◌++◌, Option, Some, None, nat_le, length, find, filter, if◌then◌else◌, refl, sym, subst, ap, ◌∙◌, arith}
 use Rattle.std.specs.Prelude.{All, map, option_map}
-use Rattle.std.proofs.lemmas.Bool.{eq-eqb}
 use Rattle.std.proofs.lemmas.Bool.Decides.{nat_tests}
 use Rattle.std.proofs.lemmas.List.Elements.{All-push}
 use Rattle.ptl_types.specs.declared.handles.Handle.{Handle}
@@ -18,12 +17,12 @@ use Rattle.ni_model.specs.Ready.{is_reached, is_ready_op, fires, done, fired_op,
 use Rattle.ni_model.specs.Starts.{started}
 use Rattle.target_engine.proofs.Within.{find_has}
 use Rattle.initiator_engine.specs.Initiators.{is_start}
-use Rattle.triggered_ops.specs.Operations.{Operation, Operations, is_number, waits_on, deed_of, operation_at, is_due_op, is_ready, with_posted, told_if, without_number, waiting_on, cancelled, posted, posted_all}
+use Rattle.triggered_ops.specs.Operations.{Operation, Operations, is_number, waits_on, deed_of, operation_at, is_due_op, is_ready, with_posted, told, without_number, waiting_on, cancelled, posted, posted_all}
 use Rattle.portals_ni.specs.declared.armed.Armed.{Armed}
 use Rattle.portals_ni.specs.Answers.{deed_counts}
-use Rattle.portals_ni.specs.Pendings.{deed_in, tell_new, told_new}
+use Rattle.portals_ni.specs.Pendings.{deed_in}
 use Rattle.portals_ni.specs.Sound.{IsArmed, IsTold}
-use Rattle.portals_ni.proofs.Told.{posted-told, deeds-told}
+use Rattle.portals_ni.proofs.Told.{posted-tells, told-again}
 
 abbrev pub Op : Type 0
 Op = Operation Armed
@@ -67,18 +66,18 @@ map-push : (ws : List Op) (w : Op) → map (posted deed_in) (ws ++ w ∷ []) ≡
 map-push [] w = refl
 map-push (v ∷ ws) w = rw (map-push ws w) refl
 
-pub posted-push : (a : Armed) (ct : Handle) (threshold : ℕ) (ops : Ops) → posted_all deed_in (with_posted a ct threshold ops) ≡ model.with_posted a.deed ct threshold (posted_all deed_in ops)
-posted-push a ct threshold ops = rw (map-push ops.waiting _) refl
+posted-push : (a : Armed) (ct : Handle) (threshold sum : ℕ) (ops : Ops) → posted_all deed_in (with_posted a ct threshold sum ops) ≡ model.with_posted a.deed ct threshold (posted_all deed_in ops)
+posted-push a ct threshold sum ops = rw (map-push ops.waiting _) refl
 
 -- ---- readiness
 
-reached-told : (o : Option Count) (threshold sum : ℕ) → option_map total o ≡ Some sum → is_reached o threshold ≡ nat_le threshold sum
-reached-told None threshold sum e = cc
-reached-told (Some c) threshold sum e = let same : total c ≡ sum = cc in rw same refl
+reached-told : (o : Option Count) (threshold : ℕ) (due : Bool) → option_map (λ c. nat_le threshold (total c)) o ≡ Some due → is_reached o threshold ≡ due
+reached-told None threshold due e = cc
+reached-told (Some c) threshold due e = let same : nat_le threshold (total c) ≡ due = cc in same
 
 ready-told : (t : ℕ) (cts : Table Count) (o : Option Op) → ((w : Op) → o ≡ Some w → IsTold cts w) → is_ready_op cts (option_map (posted deed_in) o) ≡ is_due_op o
 ready-told t cts None knows = refl
-ready-told t cts (Some w) knows = reached-told (lookup w.ct cts.live) w.threshold w.told (knows w refl)
+ready-told t cts (Some w) knows = reached-told (lookup w.ct cts.live) w.threshold w.due (knows w refl)
 
 pub ready-is : (t : ℕ) (cts : Table Count) (ops : Ops) → All (IsTold cts) ops.waiting → is_ready_op cts (model.posted_at t (posted_all deed_in ops)) ≡ is_ready t ops
 ready-is t cts ops all = rw (find-posted t ops.waiting) (ready-told t cts (operation_at t ops) (λ w e. find_has (IsTold cts) (is_number t) ops.waiting w all e))
@@ -143,32 +142,12 @@ done-count s (Swap g a op ty operand) is = cc
 done-count s (Inc ct by) is = refl
 done-count s (Set ct to) is = refl
 
--- ---- an operation more, which is told at once
+-- ---- an operation more
 
--- those before it have other numbers
-newest-told : (t sum : ℕ) (ws : List Op) (w : Op) → find (is_number t) ws ≡ None → w.number ≡ t → map (told_if (is_number t) sum) (ws ++ w ∷ []) ≡ ws ++ (record w { told = sum }) ∷ []
-newest-told t sum [] w none same = let is : (w.number == t) ≡ true = eq-eqb w.number t same in rw is refl
-newest-told t sum (v ∷ vs) w none same =
-    elim (v.number == t) as (λ b. (if b then Some v else find (is_number t) vs) ≡ None → (record v { told = if b then sum else v.told }) ∷ map (told_if (is_number t) sum) (vs ++ w ∷ []) ≡ v ∷ (vs ++ (record w { told = sum }) ∷ [])) [
-      | true ↦ λ is. cc
-      | false ↦ λ is. ap (λ xs. v ∷ xs) (newest-told t sum vs w is same)
-    ] none
+pub post-told : (ct : Handle) (c : Count) (cts : Table Count) (ops : Ops) (a : Armed) (threshold : ℕ) → lookup ct cts.live ≡ Some c → All (IsTold cts) ops.waiting → All (IsTold cts) (with_posted a ct threshold (total c) (told ct (total c) ops)).waiting
+post-told ct c cts ops a threshold now all =
+    All-push (IsTold cts) (told ct (total c) ops).waiting _ (told-again ct c cts ops now all) (ap (option_map (λ x. nat_le threshold (total x))) now)
 
-pub post-told : (ct : Handle) (c : Count) (cts : Table Count) (ops : Ops) (a : Armed) (threshold : ℕ) → lookup ct cts.live ≡ Some c → operation_at ops.given ops ≡ None → All (IsTold cts) ops.waiting → All (IsTold cts) (told_new ops.given ct cts (with_posted a ct threshold ops)).waiting
-post-told ct c cts ops a threshold now fresh all =
-    rw now (rw (newest-told ops.given (total c) ops.waiting (record { number = ops.given; deed = a; ct = ct; threshold = threshold; told = 0 }) fresh refl) (All-push (IsTold cts) ops.waiting _ all (ap (option_map total) now)))
-
--- it is told, and nothing else changes
-new-at : (t : ℕ) (o : Option Count) (ops : Ops) → posted_all deed_in (tell_new t o ops) ≡ posted_all deed_in ops
-new-at t None ops = refl
-new-at t (Some c) ops = rw (posted-told (is_number t) (total c) ops.waiting) refl
-
-pub new-forgotten : (t : ℕ) (h : Handle) (cts : Table Count) (ops left : Ops) → left ≡ told_new t h cts ops → posted_all deed_in left ≡ posted_all deed_in ops
-new-forgotten t h cts ops left e = ap (posted_all deed_in) e ∙ new-at t (lookup h cts.live) ops
-
-deeds-at : (P : Armed → Type 0) (t : ℕ) (o : Option Count) (ops : Ops) → All (λ w. P w.deed) ops.waiting → All (λ w. P w.deed) (tell_new t o ops).waiting
-deeds-at P t None ops all = all
-deeds-at P t (Some c) ops all = deeds-told P (is_number t) (total c) ops.waiting all
-
-pub deeds-new : (P : Armed → Type 0) (t : ℕ) (h : Handle) (cts : Table Count) (ops : Ops) → All (λ w. P w.deed) ops.waiting → All (λ w. P w.deed) (told_new t h cts ops).waiting
-deeds-new P t h cts ops all = deeds-at P t (lookup h cts.live) ops all
+-- whether it is due is forgotten
+pub posted-new : (a : Armed) (ct : Handle) (threshold sum : ℕ) (ops left : Ops) → left ≡ with_posted a ct threshold sum (told ct sum ops) → posted_all deed_in left ≡ model.with_posted a.deed ct threshold (posted_all deed_in ops)
+posted-new a ct threshold sum ops left made = ap (posted_all deed_in) made ∙ posted-push a ct threshold sum (told ct sum ops) ∙ ap (model.with_posted a.deed ct threshold) (posted-tells ct sum ops)

@@ -15,6 +15,7 @@ use Rattle.ptl_types.specs.Handles.{top}
 use Rattle.ptl_types.specs.declared.calls.Deed.{Deed}
 use Rattle.ptl_types.specs.declared.calls.Deed.TheVariants.{Put, Get, Atomic, FetchAtomic, Swap, Inc, Set}
 use Rattle.ni_model.specs.declared.Bound.{Bound}
+use Rattle.ni_model.specs.Counts.{total}
 use Rattle.ni_model.specs.Tables.{Table, lookup, with_new, is_live_or_none}
 use Rattle.ptl_types.specs.declared.entries.List.{List as Place}
 use Rattle.ptl_types.specs.declared.calls.Appended.{Appended}
@@ -30,18 +31,18 @@ use Rattle.ni_model.specs.Answers.{home}
 use Rattle.ni_model.specs.Conditions.{HasPartsIn, IsBoundIn, MayStart}
 use Rattle.initiator_engine.specs.Initiators.{Initiating, with_mds, room_for}
 use Rattle.target_engine.specs.Sides.{has_searched, has_appended, AppendsSome}
-use Rattle.triggered_ops.specs.Operations.{Operation, Operations, operation_at, is_number, waits_on, with_posted, without_number, cancelled}
+use Rattle.triggered_ops.specs.Operations.{Operation, Operations, is_number, waits_on, told, with_posted, without_number, cancelled}
 use Rattle.portals_ni.specs.declared.armed.Armed.{Armed}
 use Rattle.portals_ni.specs.Answers.{deed_counts, deed_counter}
-use Rattle.portals_ni.specs.Pendings.{told_by, told_new}
+use Rattle.portals_ni.specs.Pendings.{told_by}
 use Rattle.portals_ni.specs.Sound.{IsArmed, IsTold, IsSound}
 use Rattle.initiator_engine.proofs.Starting.{need-test, need-later}
 use Rattle.portals_ni.proofs.Counts.{ChangesAt, changes-none, changes-one, changes-counted, changes-new}
 use Rattle.portals_ni.proofs.Parts.{unlink-parts}
 use Rattle.portals_ni.proofs.Targets.{Keeps, search-keeps, AppendKeeps, append-keeps}
 use Rattle.portals_ni.proofs.Homes.{HoldsOn, skips_none, skips-none, fits-on, holds-push, bound-push, KeepsHome}
-use Rattle.portals_ni.proofs.Told.{all-told, deeds-told_by}
-use Rattle.portals_ni.proofs.Firing.{post-told, deeds-new}
+use Rattle.portals_ni.proofs.Told.{all-told, told-again, deeds-told, deeds-told_by}
+use Rattle.portals_ni.proofs.Firing.{post-told}
 
 -- what was armed stays so where the descriptors hold what they held
 pub still-armed : (old new : Table Bound) (ranks : ℕ) (limits : Limits) (ws : List (Operation Armed)) → HoldsOn skips_none old new → All (λ w. IsArmed old ranks limits w.deed) ws → All (λ w. IsArmed new ranks limits w.deed) ws
@@ -120,15 +121,26 @@ bound-sound t r c e i j ops md (Ok h) is unchanged ok made =
     })
 bound-sound t r c e i j ops md (Err fault) is unchanged ok made = rw unchanged is
 
--- an operation more, which is told at once
-pub post-sound : (t : Side) (r : List ℕ) (c : Table Count) (i : Initiating) (ops : Operations Armed) (a : Armed) (ct : Handle) (threshold : ℕ) (count : Count) → IsSound t r c i ops → IsArmed i.mds i.ranks i.limits a → lookup ct c.live ≡ Some count → operation_at ops.given ops ≡ None → IsSound t r c i (told_new ops.given ct c (with_posted a ct threshold ops))
-post-sound t r c i ops a ct threshold count is armed live fresh = record {
+-- how far a counting event is, told again
+pub told-sound : (t : Side) (r : List ℕ) (c : Table Count) (i : Initiating) (ops : Operations Armed) (ct : Handle) (count : Count) → IsSound t r c i ops → lookup ct c.live ≡ Some count → IsSound t r c i (told ct (total count) ops)
+told-sound t r c i ops ct count is live = record {
   rank = is.rank;
   limit = is.limit;
   parts = is.parts;
   bound = is.bound;
-  armed = deeds-new (IsArmed i.mds i.ranks i.limits) ops.given ct c (with_posted a ct threshold ops) (All-push (λ (w : Operation Armed). IsArmed i.mds i.ranks i.limits w.deed) ops.waiting _ is.armed armed);
-  told = post-told ct count c ops a threshold live fresh is.told;
+  armed = deeds-told (IsArmed i.mds i.ranks i.limits) (waits_on ct) (total count) ops.waiting is.armed;
+  told = told-again ct count c ops live is.told;
+}
+
+-- an operation more
+pub post-sound : (t : Side) (r : List ℕ) (c : Table Count) (i : Initiating) (ops : Operations Armed) (a : Armed) (ct : Handle) (threshold : ℕ) (count : Count) → IsSound t r c i ops → IsArmed i.mds i.ranks i.limits a → lookup ct c.live ≡ Some count → IsSound t r c i (with_posted a ct threshold (total count) (told ct (total count) ops))
+post-sound t r c i ops a ct threshold count is armed live = record {
+  rank = is.rank;
+  limit = is.limit;
+  parts = is.parts;
+  bound = is.bound;
+  armed = All-push (λ (w : Operation Armed). IsArmed i.mds i.ranks i.limits w.deed) (told ct (total count) ops).waiting _ (told-sound t r c i ops ct count is live).armed armed;
+  told = post-told ct count c ops a threshold live is.told;
 }
 
 -- ---- the counting event of a deed that counts

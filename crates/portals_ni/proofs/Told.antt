@@ -1,5 +1,5 @@
--- The pending operations know how far their counting events are.
-use Rattle.std.proofs.Common.{◌≡◌, ℕ, Bool, true, false, List, [], ◌∷◌, Option, Some, None, is_some, if◌then◌else◌, refl, sym, ap, ◌∙◌, arith}
+-- The pending operations are due by how far their counting events are.
+use Rattle.std.proofs.Common.{◌≡◌, ℕ, nat_le, Bool, true, false, List, [], ◌∷◌, Option, Some, None, is_some, if◌then◌else◌, refl, sym, ap, ◌∙◌, arith}
 use Rattle.std.specs.Prelude.{All, map, option_map}
 use Rattle.std.proofs.lemmas.Bool.Decides.{nat_tests}
 use Rattle.std.proofs.lemmas.List.Elements.{All-head, All-tail, All-cons, All-nil}
@@ -8,15 +8,19 @@ use Rattle.ptl_types.specs.declared.handles.Count.{Count}
 use Rattle.ptl_types.specs.Handles.{same_handle}
 use Rattle.ni_model.specs.Tables.{Table, lookup, names}
 use Rattle.ni_model.specs.Counts.{total}
-use Rattle.triggered_ops.specs.Operations.{Operation, Operations, waits_on, told_if, posted, posted_all}
-use Rattle.target_engine.proofs.Records.{same-is}
+use Rattle.triggered_ops.specs.Operations.{Operation, Operations, waits_on, told, told_if, posted, posted_all}
+use Rattle.user_counts.proofs.SumLemmas.{same-is}
 use Rattle.portals_ni.specs.declared.armed.Armed.{Armed}
 use Rattle.portals_ni.specs.Pendings.{deed_in, tell_at, told_by}
 use Rattle.portals_ni.specs.Sound.{IsTold}
-use Rattle.portals_ni.proofs.Counts.{ChangesAt}
+use Rattle.portals_ni.proofs.Counts.{ChangesAt, changes-none}
 
 pub same-sym : (a b : Handle) → same_handle a b ≡ same_handle b a
 same-sym a b = grind (arith, nat_tests)
+
+-- a count that reaches its threshold
+abbrev pub reaches : Operation Armed → Count → Bool
+reaches w c = nat_le w.threshold (total c)
 
 some-there : {A B : Type 0} (f : A → B) (o : Option A) (v : B) → option_map f o ≡ Some v → is_some o ≡ true
 some-there f None v e = cc
@@ -24,13 +28,13 @@ some-there f (Some x) v e = refl
 
 -- what was told of a counter that did not change
 stays : (ct : Option Handle) (old new : Table Count) (w : Operation Armed) → ChangesAt ct old new → IsTold old w → names ct w.ct ≡ false → IsTold new w
-stays ct old new w changes is apart = ap (option_map total) (changes.others w.ct apart (some-there total (lookup w.ct old.live) w.told is)) ∙ is
+stays ct old new w changes is apart = ap (option_map (reaches w)) (changes.others w.ct apart (some-there (reaches w) (lookup w.ct old.live) w.due is)) ∙ is
 
 -- what is told of the one that did
 anew : (h : Handle) (c : Count) (old new : Table Count) (w : Operation Armed) → ChangesAt (Some h) old new → lookup h new.live ≡ Some c → IsTold old w → IsTold new (told_if (waits_on h) (total c) w)
 anew h c old new w changes now is =
-    elim (same_handle w.ct h) as (λ b. same_handle w.ct h ≡ b → IsTold new (record w { told = if b then total c else w.told })) [
-      | true ↦ λ same. let e : w.ct ≡ h = same-is w.ct h same in ap (λ k. option_map total (lookup k new.live)) e ∙ ap (option_map total) now
+    elim (same_handle w.ct h) as (λ b. same_handle w.ct h ≡ b → IsTold new (record w { due = if b then nat_le w.threshold (total c) else w.due })) [
+      | true ↦ λ same. let e : w.ct ≡ h = same-is w.ct h same in ap (λ k. option_map (reaches w) (lookup k new.live)) e ∙ ap (option_map (reaches w)) now
       | false ↦ λ apart. stays (Some h) old new w changes is (same-sym h w.ct ∙ apart)
     ] refl
 
@@ -39,7 +43,7 @@ gone h old new w changes now is =
     elim (same_handle h w.ct) as (λ b. same_handle h w.ct ≡ b → IsTold new w) [
       | true ↦ λ same.
           let e : h ≡ w.ct = same-is h w.ct same in
-          let live : is_some (lookup w.ct new.live) ≡ true = changes.live w.ct (some-there total (lookup w.ct old.live) w.told is) in
+          let live : is_some (lookup w.ct new.live) ≡ true = changes.live w.ct (some-there (reaches w) (lookup w.ct old.live) w.due is) in
           let none : lookup w.ct new.live ≡ None = ap (λ k. lookup k new.live) (sym e) ∙ now in
           cc
       | false ↦ λ apart. stays (Some h) old new w changes is apart
@@ -67,15 +71,22 @@ pub all-told : (ct : Option Handle) (old new : Table Count) (ops : Operations Ar
 all-told None old new ops changes all = each-none old new ops.waiting changes all
 all-told (Some h) old new ops changes all = at-told h (lookup h new.live) old new ops changes refl all
 
+-- what stands already is told again
+pub told-again : (h : Handle) (c : Count) (cts : Table Count) (ops : Operations Armed) → lookup h cts.live ≡ Some c → All (IsTold cts) ops.waiting → All (IsTold cts) (told h (total c) ops).waiting
+told-again h c cts ops now all = each-anew h c cts cts ops.waiting (changes-none (Some h) cts) now all
+
 -- ---- telling changes nothing else
 
 pub posted-told : (test : Operation Armed → Bool) (sum : ℕ) (ws : List (Operation Armed)) → map (posted deed_in) (map (told_if test sum) ws) ≡ map (posted deed_in) ws
 posted-told test sum [] = refl
 posted-told test sum (w ∷ ws) = rw (posted-told test sum ws) refl
 
+pub posted-tells : (ct : Handle) (sum : ℕ) (ops : Operations Armed) → posted_all deed_in (told ct sum ops) ≡ posted_all deed_in ops
+posted-tells ct sum ops = rw (posted-told (waits_on ct) sum ops.waiting) refl
+
 pub posted-tell_at : (h : Handle) (o : Option Count) (ops : Operations Armed) → posted_all deed_in (tell_at h o ops) ≡ posted_all deed_in ops
 posted-tell_at h None ops = refl
-posted-tell_at h (Some c) ops = rw (posted-told (waits_on h) (total c) ops.waiting) refl
+posted-tell_at h (Some c) ops = posted-tells h (total c) ops
 
 pub posted-told_by : (ct : Option Handle) (cts : Table Count) (ops : Operations Armed) → posted_all deed_in (told_by ct cts ops) ≡ posted_all deed_in ops
 posted-told_by None cts ops = refl

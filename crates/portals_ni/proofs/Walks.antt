@@ -10,7 +10,6 @@ use Rattle.ptl_types.specs.declared.calls.NiFault.{NiFault}
 use Rattle.ptl_types.specs.Handles.{same_handle}
 use Rattle.ni_model.specs.declared.Bound.{Bound}
 use Rattle.ni_model.specs.Tables.{Table, without}
-use Rattle.ni_model.specs.Counts.{total}
 use Rattle.ni_model.specs.Arrive.{Side}
 use Rattle.ni_model.specs.Refusals.{deed_names_md, deed_names_ct, operation_names_md, operation_names_ct}
 use Rattle.initiator_engine.specs.Initiators.{Initiating, with_mds}
@@ -18,6 +17,7 @@ use Rattle.triggered_ops.specs.Operations.{Operation, Operations, is_number, num
 use Rattle.portals_ni.specs.declared.armed.Armed.{Armed}
 use Rattle.portals_ni.specs.Pendings.{deed_in}
 use Rattle.portals_ni.specs.Sound.{IsArmed, IsTold, IsSound}
+use Rattle.portals_ni.proofs.Told.{reaches}
 use Rattle.portals_ni.proofs.Counts.{lookup-without}
 use Rattle.portals_ni.proofs.Homes.{neither, fits-on, holds-without, skips-md, bound-without}
 
@@ -127,7 +127,7 @@ told-without ct cts (w ∷ ws) none all =
     let apart = neither (same_handle w.ct ct || deed_names_ct ct w.deed.deed) (operation_names_ct ct (map (posted deed_in) ws)) none in
     let other = neither (same_handle w.ct ct) (deed_names_ct ct w.deed.deed) apart.0 in
     All-cons (IsTold (without ct cts)) w ws
-    (ap (option_map total) (lookup-without w.ct ct cts.live other.0) ∙ All-head (IsTold cts) w ws all)
+    (ap (option_map (reaches w)) (lookup-without w.ct ct cts.live other.0) ∙ All-head (IsTold cts) w ws all)
     (told-without ct cts ws apart.1 (All-tail (IsTold cts) w ws all))
 
 pub freed-sound : (t : Side) (r : List ℕ) (c : Table Count) (i : Initiating) (ops : Operations Armed) (ct : Handle) → IsSound t r c i ops → operation_names_ct ct (posted_all deed_in ops).waiting ≡ false → IsSound t r (without ct c) i ops

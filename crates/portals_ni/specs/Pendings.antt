@@ -6,7 +6,7 @@ use Rattle.ptl_types.specs.declared.calls.Deed.{Deed}
 use Rattle.ni_model.specs.Tables.{Table, lookup}
 use Rattle.ni_model.specs.Counts.{total}
 use Rattle.ni_model.specs.Ready.{is_rank, posted_at, target_of}
-use Rattle.triggered_ops.specs.Operations.{Operations, told, told_one, due_numbers, posted_all}
+use Rattle.triggered_ops.specs.Operations.{Operations, told, due_numbers, posted_all}
 use Rattle.portals_ni.specs.declared.armed.Armed.{Armed}
 
 -- the deed of a pending operation
@@ -23,14 +23,10 @@ abbrev pub told_by : Option Handle → Table Count → Operations Armed → Oper
 told_by None cts ops = ops
 told_by (Some h) cts ops = tell_at h (lookup h cts.live) ops
 
--- the operation of this number alone is told the sum of a counting event, where that is live
-abbrev pub tell_new : ℕ → Option Count → Operations Armed → Operations Armed
-tell_new t None ops = ops
-tell_new t (Some c) ops = told_one t (total c) ops
-
--- by the counting event in its table
-abbrev pub told_new : ℕ → Handle → Table Count → Operations Armed → Operations Armed
-told_new t h cts ops = tell_new t (lookup h cts.live) ops
+-- the sum of a counting event, where it is live
+abbrev pub sum_at : Option Count → ℕ
+sum_at None = 0
+sum_at (Some c) = total c
 
 -- the numbers of those that are due and whose message is for rank d, rising
 abbrev pub due_numbers_to : ℕ → Operations Armed → List ℕ

@@ -1,5 +1,5 @@
 -- What is seen of an interface, and what it keeps.
-use Rattle.std.specs.Prelude.{◌≡◌, ◌≤◌, ℕ, true, false, List, length, Some, option_map, All}
+use Rattle.std.specs.Prelude.{◌≡◌, ◌≤◌, ℕ, nat_le, true, false, List, length, Some, option_map, All}
 use Rattle.ptl_types.specs.declared.handles.Count.{Count}
 use Rattle.ptl_types.specs.declared.calls.Limits.{Limits}
 use Rattle.ni_model.specs.declared.Bound.{Bound}
@@ -16,7 +16,7 @@ use Rattle.portals_ni.specs.declared.armed.Armed.{Armed}
 use Rattle.portals_ni.specs.Pendings.{deed_in}
 use Rattle.portals_ni.specs.Lasting.{HasLimits, SumsFit, NamesLive}
 
--- the model's state of the parts: of the pending operations, not what they were told, nor their room
+-- the model's state of the parts: of the pending operations, not whether they are due, nor their room
 abbrev pub state_of : Side → List ℕ → Table Count → Table Waiting → Initiating → Operations Armed → ℕ → ℕ → State
 state_of t memory cts eqs i ops drops violations = record {
   rank = t.rank;
@@ -41,9 +41,9 @@ pub record IsArmed (mds : Table Bound) (ranks : ℕ) (limits : Limits) (a : Arme
   pub room : room_for a.deed ≤ a.room.room
   pub counts : deed_passes a.deed ≡ false
 
--- its counting event is live and stands at the sum that it was last told
+-- its counting event is live, and it is due where that has reached its threshold
 abbrev pub IsTold : Table Count → Operation Armed → Type 0
-IsTold cts w = option_map total (lookup w.ct cts.live) ≡ Some w.told
+IsTold cts w = option_map (λ c. nat_le w.threshold (total c)) (lookup w.ct cts.live) ≡ Some w.due
 
 -- what an interface keeps of its parts, and so what each of its calls may rely on
 pub record IsSound (t : Side) (memory : List ℕ) (cts : Table Count) (i : Initiating) (ops : Operations Armed) : Type 0 where
@@ -53,7 +53,7 @@ pub record IsSound (t : Side) (memory : List ℕ) (cts : Table Count) (i : Initi
   -- the parts of entries and descriptors lie in the region
   pub parts : All (HasPartsIn (length memory)) t.indices
   pub bound : AreBoundIn (length memory) i.mds
-  -- every pending operation can be fired, and knows how far its counting event is
+  -- every pending operation can be fired, and is due by how far its counting event is
   pub armed : All (λ w. IsArmed i.mds i.ranks i.limits w.deed) ops.waiting
   pub told : All (IsTold cts) ops.waiting
 

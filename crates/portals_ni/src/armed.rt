@@ -1,7 +1,8 @@
 //! What a pending operation waits with, and how it learns how far its counting event is.
 
 ghost use Rattle.std.specs.Prelude.{◌≡◌};
-ghost use Rattle.portals_ni.specs.Pendings.{told_by, told_new};
+ghost use Rattle.ni_model.specs.Tables.{lookup};
+ghost use Rattle.portals_ni.specs.Pendings.{told_by, sum_at};
 
 use counters::Counter;
 use handle_store::Store;
@@ -29,12 +30,15 @@ pub fn tell(pending: &mut Pending<Armed>, cts: &Store<Counter>, ct: Option<Handl
     }
 }
 
-/// Tells the operation of this number, which was just posted on a counting event, how far that is. Every other one knows.
-pub fn tell_new(pending: &mut Pending<Armed>, cts: &Store<Counter>, ct: Handle, number: u32)
-    ensures { pending.new ≡ told_new number ct cts.now pending.old }
+/// How far a counting event is, success and failure together; 0 where it isn't live.
+pub fn sum_of(cts: &Store<Counter>, ct: Handle) -> u64
+    ensures { result ≡ sum_at (lookup ct cts.now.live) }
 {
-    if let Some(counter) = cts.get(ct) {
-        let count = counter.count();
-        pending.tell(number, count.success + count.failure);
+    match cts.get(ct) {
+        Some(counter) => {
+            let count = counter.count();
+            count.success + count.failure
+        }
+        None => 0,
     }
 }

@@ -81,6 +81,8 @@ impl Nic {
         if !self.cts.is_live(ct) {
             return Err(NiFault::Stale);
         }
+        // Brings to the proof that no other counting event has its slot.
+        let _found = self.cts.at(ct.slot);
         if self.initiator.names_ct(ct) || self.target.names_ct(ct) || names_ct(&self.pending, ct) {
             return Err(NiFault::InUse);
         }
@@ -96,6 +98,8 @@ impl Nic {
         if !self.eqs.is_live(eq) {
             return Err(NiFault::Stale);
         }
+        // Brings to the proof that no other queue has its slot.
+        let _found = self.eqs.at(eq.slot);
         if self.target.names_eq(eq) || self.initiator.names_eq(eq) {
             return Err(NiFault::InUse);
         }

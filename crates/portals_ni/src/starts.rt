@@ -12,7 +12,7 @@ ghost use Rattle.triggered_ops.specs.Operations.{posted_all};
 ghost use Rattle.portals_ni.specs.Pendings.{deed_in};
 ghost use Rattle.portals_ni.specs.Answers.{as_started};
 
-use crate::armed::{Armed, tell, tell_new};
+use crate::armed::{Armed, sum_of, tell};
 use crate::nic::Nic;
 use counters::Counter;
 use handle_store::Store;
@@ -196,12 +196,11 @@ impl Nic {
             Ok(room) => room,
             Err(_) => return Err(NiFault::NoMemory),
         };
-        match self.pending.post(Armed { deed, room }, ct, threshold) {
-            Ok(number) => {
-                tell_new(&mut self.pending, &self.cts, ct, number);
-                Ok(number)
-            }
-            Err(_) => Err(NiFault::NoMemory),
-        }
+        let sum = sum_of(&self.cts, ct);
+        let number = match self.pending.post(Armed { deed, room }, ct, threshold, sum) {
+            Ok(number) => number,
+            Err(_) => return Err(NiFault::NoMemory),
+        };
+        Ok(number)
     }
 }

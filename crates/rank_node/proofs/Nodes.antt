@@ -14,7 +14,7 @@ use Rattle.ni_model.specs.Ready.{fired, is_ready, is_ready_op, posted_at}
 use Rattle.ni_model.specs.Refusals.{ct_inc_fault}
 use Rattle.ni_model.specs.State.{State, Posted, Operations, target, opened}
 use Rattle.ni_model.specs.Tables.{Table, Live, lookup, handle, changed}
-use Rattle.target_engine.proofs.Records.{same-self}
+use Rattle.user_counts.proofs.SumLemmas.{same-self}
 use Rattle.plan_view.specs.Slots.{Slots, done_ct}
 use Rattle.plan_cuts.specs.History.{Beginning, Local, Legal, May, after, state, is_start}
 use Rattle.plan_cuts.specs.History.Local.{Start as Started, Receive as Received, Fire as Fired}

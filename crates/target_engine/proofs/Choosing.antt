@@ -15,7 +15,7 @@ use Rattle.target_engine.specs.declared.places.Placed.{Placed}
 use Rattle.target_engine.specs.Shelves.{entries_by, index_by, linked_in, ArePlaced}
 use Rattle.target_engine.proofs.Counting.{is_handle, named-none}
 use Rattle.target_engine.proofs.Placed.{is_linked-some, few-here}
-use Rattle.target_engine.proofs.Records.{same-self}
+use Rattle.user_counts.proofs.SumLemmas.{same-self}
 use Rattle.target_engine.proofs.Within.{find-linked, cases_has}
 
 other-one : (b : Bool) (n : ℕ) → (if b then 1 else 0) + n ≤ 1 → 0 < n → b ≡ false

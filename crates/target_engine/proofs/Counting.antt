@@ -15,25 +15,25 @@ use Rattle.target_engine.specs.Shelves.{entries_by, index_by, linked_by}
 -- ---- tests of a handle and an index
 
 abbrev pub Test : Type 0
-Test = Handle → ℕ → Bool
+Test = Handle → Option Handle → ℕ → Bool
 
-abbrev pub any_handle : Handle → ℕ → Bool
-any_handle x k = true
+abbrev pub any_handle : Handle → Option Handle → ℕ → Bool
+any_handle x c k = true
 
 -- this handle, at any index
-abbrev pub is_handle : Handle → Handle → ℕ → Bool
-is_handle h x k = same_handle x h
+abbrev pub is_handle : Handle → Handle → Option Handle → ℕ → Bool
+is_handle h x c k = same_handle x h
 
-abbrev pub is_slot : ℕ → Handle → ℕ → Bool
-is_slot s x k = nat_eq x.slot s
+abbrev pub is_slot : ℕ → Handle → Option Handle → ℕ → Bool
+is_slot s x c k = nat_eq x.slot s
 
 -- those that pass and aren't this handle
-abbrev pub but : Handle → (Handle → ℕ → Bool) → Handle → ℕ → Bool
-but me p x k = p x k && not (same_handle x me)
+abbrev pub but : Handle → (Handle → Option Handle → ℕ → Bool) → Handle → Option Handle → ℕ → Bool
+but me p x c k = p x c k && not (same_handle x me)
 
 -- this handle at another index
-abbrev pub elsewhere : Handle → ℕ → Handle → ℕ → Bool
-elsewhere me pt x k = same_handle x me && not (nat_eq k pt)
+abbrev pub elsewhere : Handle → ℕ → Handle → Option Handle → ℕ → Bool
+elsewhere me pt x c k = same_handle x me && not (nat_eq k pt)
 
 -- ---- a search is a count
 
@@ -41,7 +41,7 @@ pub or-one : (b r : Bool) (n : ℕ) → r ≡ nat_lt 0 n → (b || r) ≡ nat_lt
 or-one true r n e = grind (arith, nat_tests)
 or-one false r n e = rw zero-add e
 
-or-sum : (a b : Bool) (m n : ℕ) → a ≡ nat_lt 0 m → b ≡ nat_lt 0 n → (a || b) ≡ nat_lt 0 (m + n)
+pub or-sum : (a b : Bool) (m n : ℕ) → a ≡ nat_lt 0 m → b ≡ nat_lt 0 n → (a || b) ≡ nat_lt 0 (m + n)
 or-sum a b m n ea eb = grind (arith, nat_tests)
 
 is_linked-count : (h : Handle) (k : ℕ) (xs : List Linked) → is_linked h xs ≡ nat_lt 0 (entries_by (is_handle h) k xs)
@@ -87,25 +87,25 @@ one-but true false m n e = omega arith
 one-but false true m n e = omega arith
 one-but false false m n e = omega arith
 
-entries-unlinked : (me : Handle) (p : Handle → ℕ → Bool) (k : ℕ) (xs : List Linked) → entries_by p k (unlinked me xs) ≡ entries_by (but me p) k xs
+entries-unlinked : (me : Handle) (p : Handle → Option Handle → ℕ → Bool) (k : ℕ) (xs : List Linked) → entries_by p k (unlinked me xs) ≡ entries_by (but me p) k xs
 entries-unlinked me p k [] = refl
 entries-unlinked me p k (x ∷ xs) =
-    elim (same_handle x.handle me) as (λ s. entries_by p k (if not s then x ∷ unlinked me xs else unlinked me xs) ≡ (if p x.handle k && not s then 1 else 0) + entries_by (but me p) k xs) [
-      | true ↦ one-but (p x.handle k) true _ _ (entries-unlinked me p k xs)
-      | false ↦ one-but (p x.handle k) false _ _ (entries-unlinked me p k xs)
+    elim (same_handle x.handle me) as (λ s. entries_by p k (if not s then x ∷ unlinked me xs else unlinked me xs) ≡ (if p x.handle x.entry.ct k && not s then 1 else 0) + entries_by (but me p) k xs) [
+      | true ↦ one-but (p x.handle x.entry.ct k) true _ _ (entries-unlinked me p k xs)
+      | false ↦ one-but (p x.handle x.entry.ct k) false _ _ (entries-unlinked me p k xs)
     ]
 
-index-unlinked : (me : Handle) (p : Handle → ℕ → Bool) (k : ℕ) (o : Option Index) → index_by p k (unlinked_in me o) ≡ index_by (but me p) k o
+index-unlinked : (me : Handle) (p : Handle → Option Handle → ℕ → Bool) (k : ℕ) (o : Option Index) → index_by p k (unlinked_in me o) ≡ index_by (but me p) k o
 index-unlinked me p k None = refl
 index-unlinked me p k (Some i) = rw (entries-unlinked me p k i.priority, entries-unlinked me p k i.overflow) refl
 
-pub linked-unlinked : (me : Handle) (p : Handle → ℕ → Bool) (k : ℕ) (is : List (Option Index)) → linked_by p k (map (unlinked_in me) is) ≡ linked_by (but me p) k is
+pub linked-unlinked : (me : Handle) (p : Handle → Option Handle → ℕ → Bool) (k : ℕ) (is : List (Option Index)) → linked_by p k (map (unlinked_in me) is) ≡ linked_by (but me p) k is
 linked-unlinked me p k [] = refl
 linked-unlinked me p k (o ∷ is) = rw (index-unlinked me p k o, linked-unlinked me p (k + 1) is) refl
 
 -- ---- lists with one more
 
-pub entries-push : (p : Handle → ℕ → Bool) (k : ℕ) (xs : List Linked) (x : Linked) → entries_by p k (xs ++ x ∷ []) ≡ entries_by p k xs + (if p x.handle k then 1 else 0)
+pub entries-push : (p : Handle → Option Handle → ℕ → Bool) (k : ℕ) (xs : List Linked) (x : Linked) → entries_by p k (xs ++ x ∷ []) ≡ entries_by p k xs + (if p x.handle x.entry.ct k then 1 else 0)
 entries-push p k [] x = omega arith
 entries-push p k (y ∷ ys) x = omega (arith, entries-push p k ys x)
 
@@ -114,13 +114,16 @@ entries-push p k (y ∷ ys) x = omega (arith, entries-push p k ys x)
 kept-handle : (me : Handle) (to : ℕ) (x : Linked) → (advance_one me to x).handle ≡ x.handle
 kept-handle me to x = elim (same_handle x.handle me) as (λ b. (if b then record x { running = to } else x).handle ≡ x.handle) [ true ↦ refl | false ↦ refl ]
 
-pub entries-advanced : (me : Handle) (to : ℕ) (p : Handle → ℕ → Bool) (k : ℕ) (xs : List Linked) → entries_by p k (advanced me to xs) ≡ entries_by p k xs
+kept-ct : (me : Handle) (to : ℕ) (x : Linked) → (advance_one me to x).entry.ct ≡ x.entry.ct
+kept-ct me to x = elim (same_handle x.handle me) as (λ b. (if b then record x { running = to } else x).entry.ct ≡ x.entry.ct) [ true ↦ refl | false ↦ refl ]
+
+pub entries-advanced : (me : Handle) (to : ℕ) (p : Handle → Option Handle → ℕ → Bool) (k : ℕ) (xs : List Linked) → entries_by p k (advanced me to xs) ≡ entries_by p k xs
 entries-advanced me to p k [] = refl
-entries-advanced me to p k (x ∷ xs) = rw (kept-handle me to x, entries-advanced me to p k xs) refl
+entries-advanced me to p k (x ∷ xs) = rw (kept-handle me to x, kept-ct me to x, entries-advanced me to p k xs) refl
 
 -- ---- one place of the portal table changes
 
-pub linked-set : (p : Handle → ℕ → Bool) (k d : ℕ) (is : List (Option Index)) (o : Option Index) → d < length is → linked_by p k (set is d o) + index_by p (k + d) (get_or is d None) ≡ linked_by p k is + index_by p (k + d) o
+pub linked-set : (p : Handle → Option Handle → ℕ → Bool) (k d : ℕ) (is : List (Option Index)) (o : Option Index) → d < length is → linked_by p k (set is d o) + index_by p (k + d) (get_or is d None) ≡ linked_by p k is + index_by p (k + d) o
 linked-set p k d [] o lt = absurd (omega arith)
 linked-set p k zero (x ∷ is) o lt = let z : k + 0 ≡ k = omega arith in rw z (omega arith)
 linked-set p k (suc d) (x ∷ is) o lt =
@@ -128,7 +131,7 @@ linked-set p k (suc d) (x ∷ is) o lt =
     let r = linked-set p (k + 1) d is o (omega arith) in
     rw z (omega (arith, r))
 
-pub linked-same : (p : Handle → ℕ → Bool) (k d : ℕ) (is : List (Option Index)) (o : Option Index) → index_by p (k + d) o ≡ index_by p (k + d) (get_or is d None) → linked_by p k (set is d o) ≡ linked_by p k is
+pub linked-same : (p : Handle → Option Handle → ℕ → Bool) (k d : ℕ) (is : List (Option Index)) (o : Option Index) → index_by p (k + d) o ≡ index_by p (k + d) (get_or is d None) → linked_by p k (set is d o) ≡ linked_by p k is
 linked-same p k d [] o e = refl
 linked-same p k zero (x ∷ is) o e = let z : k + 0 ≡ k = omega arith in let f = rw z at e in omega (arith, f)
 linked-same p k (suc d) (x ∷ is) o e =

@@ -23,7 +23,7 @@ use Rattle.ni_model.specs.Append.{fresh, linked_at}
 use Rattle.ni_model.specs.Calls.{unlinked_in, slot_in, entry_slot}
 use Rattle.target_engine.specs.declared.index.Index.{Index as Shelf}
 use Rattle.target_engine.specs.declared.places.Placed.{Placed}
-use Rattle.target_engine.specs.Shelves.{index, seen, seen_in, settled_in, HasLists, IsShelf, IsUnused, MayLink, ArePlaced, IsKept, headers_in, frees_at, placed_by, not_linked, noted_places, places_after, linked_after, one_more, one_fewer}
+use Rattle.target_engine.specs.Shelves.{index, seen, seen_in, settled_in, HasLists, IsShelf, IsUnused, MayLink, ArePlaced, IsKept, lies_in, headers_in, frees_at, placed_by, not_linked, noted_places, places_after, linked_after, one_more, one_fewer}
 use Rattle.target_engine.proofs.Headers.{is_entry, noted-few, noted-all, noted-oldest, noted-both}
 use Rattle.target_engine.proofs.Records.{given-by, limit-by}
 use Rattle.target_engine.proofs.Placed.{placed-slot, settled-handle, placed-few, placed-headers, placed-more, placed-fewer, placed-frees, placed-none, many-none, placed-settled, many-settled, placed-empty, many-empty, placed-unlinked, one-off, placed-linked, many-linked, fresh_at, placed-on, linked-anywhere, unlinked-at}
@@ -137,7 +137,7 @@ kept-settled most n linked f h is was new t u hs s k e len after keeps gone seen
     (still-shelves most linked is was new t u hs k e keeps given) (ap (λ (x : Table Placed). x.limit) gone ∙ limit-after f h t ∙ k.limit) (ap (linked_after f h) k.count ∙ many-settled f h (seen_in is) hs.noted t k.placed at) k.held k.small
 
 pub kept-few : (most linked : ℕ) (is : List Shelf) (t : Table Placed) (hs : Held) (me : Handle) → IsKept most is linked t hs → headers_in (lookup me t.live) < 2 ^ 32
-kept-few most linked is t hs me k = omega (arith, placed-headers me (seen_in is) hs.noted t k.placed, noted-few (is_entry me) hs.noted, k.held, k.small)
+kept-few most linked is t hs me k = omega (arith, placed-headers me (seen_in is) hs.noted t k.placed, noted-few (lies_in (is_entry me)) hs.noted, k.held, k.small)
 
 -- a header comes
 kept-more : (most linked : ℕ) (a : Noted) (is : List Shelf) (t : Table Placed) (hs : Held) → IsKept most is linked t hs → (w : Placed) → lookup a.header.entry t.live ≡ Some w → length hs.noted < hs.limit → IsKept most is linked (placed_by a.header.entry one_more t) (held (hs.noted ++ a ∷ []) hs.limit)
@@ -165,10 +165,10 @@ kept-noted most linked f h is t u hs gs s k room seen_as there eg eu =
 -- the oldest header that an entry finds goes
 pub kept-fewer : (most linked pt : ℕ) (e : Entry) (a : Noted) (is : List Shelf) (t u : Table Placed) (hs gs : Held) → IsKept most is linked t hs → oldest pt e hs.noted ≡ Some a → gs ≡ held (without_oldest pt e hs.noted) hs.limit → u ≡ placed_by a.header.entry one_fewer t → IsKept most is linked u gs
 kept-fewer most linked pt e a is t u hs gs k o eg eu =
-    let n = noted-oldest (λ h. true) pt e hs.noted a o in
+    let n = noted-oldest (lies_in (λ h. true)) pt e hs.noted a o in
     rw (eg, eu)
     (record {
-      placed = placed-fewer a.header.entry (seen_in is) hs.noted (without_oldest pt e hs.noted) t k.placed (λ p. noted-oldest p pt e hs.noted a o);
+      placed = placed-fewer a (seen_in is) hs.noted (without_oldest pt e hs.noted) t k.placed (λ p. noted-oldest p pt e hs.noted a o);
       shelves = same-shelves most linked is t (placed_by a.header.entry one_fewer t) hs k (given-by a.header.entry one_fewer t);
       limit = limit-by a.header.entry one_fewer t ∙ k.limit;
       count = k.count;
@@ -188,7 +188,7 @@ kept-left most linked pt e is t u hs gs k placed limit given eg =
       shelves = same-shelves most linked is t u hs k given;
       limit = limit ∙ k.limit;
       count = k.count;
-      held = omega (arith, noted-both (λ h. true) pt e hs.noted, k.held, noted-all hs.noted, noted-all (left_in pt e hs.noted));
+      held = omega (arith, noted-both (lies_in (λ h. true)) pt e hs.noted, k.held, noted-all hs.noted, noted-all (left_in pt e hs.noted));
       small = k.small;
     })
 
@@ -216,7 +216,7 @@ kept-unlinked most n linked me w is was new t u hs k e len after keeps gone at o
 
 pub kept-linked : (most n pt slot linked : ℕ) (place : Place) (entry : Entry) (me : Handle) (is was new : List Shelf) (t u : Table Placed) (hs : Held) → IsKept most is linked t hs → was ≡ is → length new ≡ n
     → seen_in new ≡ slice_set (seen_in was) pt (linked_at place (fresh me entry) (index_at pt (seen_in was))) → ((most records given : ℕ) → All (IsShelf most records given) was → All (IsShelf most records (given + 1)) new)
-    → u ≡ with_new slot (fresh_at pt) t → me ≡ handle slot t.given → is_some (index_at pt (seen_in is)) ≡ true → has_slot slot t.live ≡ false → IsKept most (take n (new ++ drop (length new) is)) (linked + 1) u hs
+    → u ≡ with_new slot (fresh_at pt entry.ct) t → me ≡ handle slot t.given → is_some (index_at pt (seen_in is)) ≡ true → has_slot slot t.live ≡ false → IsKept most (take n (new ++ drop (length new) is)) (linked + 1) u hs
 kept-linked most n pt slot linked place entry me is was new t u hs k e len after keeps more named there free =
     let ks : List (Option Index) = slice_set (seen_in is) pt (linked_at place (fresh me entry) (index_at pt (seen_in is))) in
     let placed : ArePlaced ks hs.noted u = rw (more, named) (placed-linked slot pt place entry (seen_in is) hs.noted t k.placed there free) in

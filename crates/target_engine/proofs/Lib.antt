@@ -1,4 +1,5 @@
 pub mod Choosing
+pub mod Counted
 pub mod Counting
 pub mod Exchanging
 pub mod Headers

@@ -18,11 +18,13 @@ use Rattle.ni_model.specs.Arrive.{is_over, running_after, entries_after, settled
 use Rattle.ni_model.specs.Refusals.{is_linked_anywhere}
 use Rattle.ni_model.specs.Append.{fresh, linked_at}
 use Rattle.ni_model.specs.Calls.{slot_in, entry_slot, unlinked_in}
+use Rattle.user_counts.specs.Sums.{sum_of, named_as}
+use Rattle.user_counts.proofs.SumLemmas.{one_if, same-self, number_at, sum-split, but-zero, but-same, sum-push, once-new}
 use Rattle.target_engine.specs.declared.places.Placed.{Placed}
-use Rattle.target_engine.specs.Shelves.{entries_by, index_by, linked_by, noted_by, sum_of, named_as, linked_as, headers_as, idle_as, is_idle, is_on, where_on, headers_in, frees_at, one_more, one_fewer, not_linked, placed_anew, changed_by, placed_by, places_after, linked_after, advanced_in, settled_in, ArePlaced}
+use Rattle.target_engine.specs.Shelves.{entries_by, index_by, linked_by, noted_by, lies_in, linked_as, headers_as, idle_as, is_idle, is_on, where_on, headers_in, frees_at, one_more, one_fewer, not_linked, placed_anew, changed_by, placed_by, places_after, linked_after, advanced_in, settled_in, ArePlaced}
 use Rattle.target_engine.proofs.Counting.{any_handle, is_handle, is_slot, but, elsewhere, is_linked_anywhere-count, entry_slot-count, linked-all, linked-unlinked, entries-push, entries-advanced, linked-set, linked-same, linked-split, unlinked-none, advanced-none, map-at}
 use Rattle.target_engine.proofs.Headers.{is_entry, names-count, noted-all, noted-append}
-use Rattle.target_engine.proofs.Records.{one_if, same-self, number_at, sum-split, but-zero, but-same, sum-push, sum-anew, named-anew, busy-anew}
+use Rattle.target_engine.proofs.Records.{sum-anew, named-anew, busy-anew}
 
 -- ---- what the records tell of the entries and of the headers
 
@@ -60,7 +62,7 @@ headers-number : (me : Handle) (o : Option Placed) → number_at (headers_as (is
 headers-number me None = refl
 headers-number me (Some v) = rw (same-self me) refl
 
-pub placed-headers : (me : Handle) (is : List (Option Index)) (hs : List Noted) (t : Table Placed) → ArePlaced is hs t → noted_by (is_entry me) hs ≡ headers_in (lookup me t.live)
+pub placed-headers : (me : Handle) (is : List (Option Index)) (hs : List Noted) (t : Table Placed) → ArePlaced is hs t → noted_by (lies_in (is_entry me)) hs ≡ headers_in (lookup me t.live)
 placed-headers me is hs t a =
     a.lies (is_entry me) ∙ there-alone (headers_as (is_entry me)) me is hs t a (λ h v e. rw e refl) ∙ headers-number me (lookup me t.live)
 
@@ -99,9 +101,9 @@ placed-few is hs t a = omega (arith, live-few t.live a.busy, a.same any_handle, 
 
 -- ---- a record is put in the place of the old one
 
-fits-linked : (p : Handle → ℕ → Bool) (me : Handle) (v : Placed) → is_idle v ≡ true → linked_as p me v ≡ 0
+pub fits-linked : (p : Handle → Option Handle → ℕ → Bool) (me : Handle) (v : Placed) → is_idle v ≡ true → linked_as p me v ≡ 0
 fits-linked p me v e =
-    elim v.linked as (λ b. (not b && nat_eq v.headers 0) ≡ true → (if b && p me v.pt then 1 else 0) ≡ 0) [
+    elim v.linked as (λ b. (not b && nat_eq v.headers 0) ≡ true → (if b && p me v.ct v.pt then 1 else 0) ≡ 0) [
       | true ↦ λ f. cc
       | false ↦ λ f. refl
     ] e
@@ -114,7 +116,7 @@ fits-headers p me v e =
     ] e in
     elim (p me) as (λ b. (if b then v.headers else 0) ≡ 0) [ true ↦ none | false ↦ refl ]
 
-placed-anew : (me : Handle) (w v : Placed) (is ks : List (Option Index)) (hs gs : List Noted) (t : Table Placed) → ArePlaced is hs t → lookup me t.live ≡ Some w → ((p : Handle → ℕ → Bool) → linked_by p 0 ks + linked_as p me w ≡ linked_by p 0 is + linked_as p me v) → ((p : Handle → Bool) → noted_by p gs + headers_as p me w ≡ noted_by p hs + headers_as p me v) → ArePlaced ks gs (placed_anew me v t)
+placed-anew : (me : Handle) (w v : Placed) (is ks : List (Option Index)) (hs gs : List Noted) (t : Table Placed) → ArePlaced is hs t → lookup me t.live ≡ Some w → ((p : Handle → Option Handle → ℕ → Bool) → linked_by p 0 ks + linked_as p me w ≡ linked_by p 0 is + linked_as p me v) → ((p : Handle → Bool) → noted_by (lies_in p) gs + headers_as p me w ≡ noted_by (lies_in p) hs + headers_as p me v) → ArePlaced ks gs (placed_anew me v t)
 placed-anew me w v is ks hs gs t a at linked lies = record {
   same = λ p.
       let s = rw at at (sum-split me (linked_as p) t.live (a.once me)) in
@@ -137,27 +139,30 @@ pub placed-more : (a : Noted) (w : Placed) (is : List (Option Index)) (hs : List
 placed-more a w is hs t p at =
     rw at
     (placed-anew a.header.entry w (one_more w) is is hs (hs ++ a ∷ []) t p at (λ q. refl)
-    (λ q. omega (arith, noted-append q hs (a ∷ []), one-header q a.header.entry w)))
+    (λ q. omega (arith, noted-append (lies_in q) hs (a ∷ []), one-header q a.header.entry w)))
 
 less-header : (p : Handle → Bool) (me : Handle) (v : Placed) → 1 ≤ v.headers → (if p me then 1 else 0) + headers_as p me (one_fewer v) ≡ headers_as p me v
 less-header p me v le = elim (p me) as (λ b. (if b then 1 else 0) + (if b then v.headers - 1 else 0) ≡ (if b then v.headers else 0)) [ true ↦ omega arith | false ↦ refl ]
 
--- the headers with one more of this entry
-abbrev pub HasOneOf : Handle → List Noted → List Noted → Type 0
-HasOneOf me hs left = (p : Handle → Bool) → noted_by p hs ≡ (if p me then 1 else 0) + noted_by p left
+-- the headers with this one more
+abbrev pub HasOneOf : Noted → List Noted → List Noted → Type 0
+HasOneOf a hs left = (p : Noted → Bool) → noted_by p hs ≡ (if p a then 1 else 0) + noted_by p left
 
-one-there : (me : Handle) (is : List (Option Index)) (hs left : List Noted) (t : Table Placed) → ArePlaced is hs t → HasOneOf me hs left → headers_in (lookup me t.live) ≡ 1 + noted_by (is_entry me) left
-one-there me is hs left t a one =
-    let o = rw (same-self me) at (one (is_entry me)) in
+one-there : (gone : Noted) (is : List (Option Index)) (hs left : List Noted) (t : Table Placed) → ArePlaced is hs t → HasOneOf gone hs left
+    → headers_in (lookup gone.header.entry t.live) ≡ 1 + noted_by (lies_in (is_entry gone.header.entry)) left
+one-there gone is hs left t a one =
+    let me : Handle = gone.header.entry in
+    let o = rw (same-self me) at (one (lies_in (is_entry me))) in
     omega (arith, placed-headers me is hs t a, o)
 
-fewer-by : (me : Handle) (is : List (Option Index)) (hs left : List Noted) (t : Table Placed) (o : Option Placed) → ArePlaced is hs t → HasOneOf me hs left → lookup me t.live ≡ o → 1 ≤ headers_in o → ArePlaced is left (changed_by me one_fewer o t)
-fewer-by me is hs left t None a one at le = absurd (omega arith)
-fewer-by me is hs left t (Some w) a one at le =
-    placed-anew me w (one_fewer w) is is hs left t a at (λ p. refl) (λ p. omega (arith, one p, less-header p me w le))
+fewer-by : (gone : Noted) (is : List (Option Index)) (hs left : List Noted) (t : Table Placed) (o : Option Placed) → ArePlaced is hs t → HasOneOf gone hs left → lookup gone.header.entry t.live ≡ o → 1 ≤ headers_in o
+    → ArePlaced is left (changed_by gone.header.entry one_fewer o t)
+fewer-by gone is hs left t None a one at le = absurd (omega arith)
+fewer-by gone is hs left t (Some w) a one at le =
+    placed-anew gone.header.entry w (one_fewer w) is is hs left t a at (λ p. refl) (λ p. omega (arith, one (lies_in p), less-header p gone.header.entry w le))
 
-pub placed-fewer : (me : Handle) (is : List (Option Index)) (hs left : List Noted) (t : Table Placed) → ArePlaced is hs t → HasOneOf me hs left → ArePlaced is left (placed_by me one_fewer t)
-placed-fewer me is hs left t a one = fewer-by me is hs left t (lookup me t.live) a one refl (omega (arith, one-there me is hs left t a one))
+pub placed-fewer : (gone : Noted) (is : List (Option Index)) (hs left : List Noted) (t : Table Placed) → ArePlaced is hs t → HasOneOf gone hs left → ArePlaced is left (placed_by gone.header.entry one_fewer t)
+placed-fewer gone is hs left t a one = fewer-by gone is hs left t (lookup gone.header.entry t.live) a one refl (omega (arith, one-there gone is hs left t a one))
 
 last-one : (n : ℕ) → nat_le (1 + n) 1 ≡ not (nat_lt 0 n)
 last-one n = grind (arith, nat_tests)
@@ -169,15 +174,15 @@ both-not false true = refl
 both-not false false = refl
 
 -- what the record tells of the entry's freeing
-pub placed-frees : (gone : Noted) (is : List (Option Index)) (hs left : List Noted) (t : Table Placed) → ArePlaced is hs t → HasOneOf gone.header.entry hs left → frees_at is t gone ≡ not (is_linked_at Overflow gone.header.entry (index_at gone.pt is) || names_entry gone.header.entry left)
+pub placed-frees : (gone : Noted) (is : List (Option Index)) (hs left : List Noted) (t : Table Placed) → ArePlaced is hs t → HasOneOf gone hs left → frees_at is t gone ≡ not (is_linked_at Overflow gone.header.entry (index_at gone.pt is) || names_entry gone.header.entry left)
 placed-frees gone is hs left t a one =
     let me : Handle = gone.header.entry in
     let n : nat_le (headers_in (lookup me t.live)) 1 ≡ not (names_entry me left) =
-    ap (λ k. nat_le k 1) (one-there me is hs left t a one) ∙ last-one (noted_by (is_entry me) left) ∙ ap not (sym (names-count me left)) in
+    ap (λ k. nat_le k 1) (one-there gone is hs left t a one) ∙ last-one (noted_by (lies_in (is_entry me)) left) ∙ ap not (sym (names-count me left)) in
     rw n (both-not (names_entry me left) (is_linked_at Overflow me (index_at gone.pt is)))
 
 -- other headers that lie in the same entries
-pub placed-noted : (is : List (Option Index)) (hs gs : List Noted) (t : Table Placed) → ArePlaced is hs t → ((p : Handle → Bool) → noted_by p gs ≡ noted_by p hs) → ArePlaced is gs t
+pub placed-noted : (is : List (Option Index)) (hs gs : List Noted) (t : Table Placed) → ArePlaced is hs t → ((p : Handle → Bool) → noted_by (lies_in p) gs ≡ noted_by (lies_in p) hs) → ArePlaced is gs t
 placed-noted is hs gs t a e = record { same = a.same; lies = λ p. e p ∙ a.lies p; once = a.once; busy = a.busy }
 
 -- ---- an entry at its place
@@ -206,12 +211,12 @@ off-zero true true = refl
 off-zero true false = refl
 off-zero false q = refl
 
-off-sum : (me : Handle) (w : Placed) (p : Handle → ℕ → Bool) (is : List (Option Index)) (hs : List Noted) (t : Table Placed) → ArePlaced is hs t → lookup me t.live ≡ Some w → linked_by p 0 (map (unlinked_in me) is) + linked_as p me w ≡ linked_by p 0 is
+off-sum : (me : Handle) (w : Placed) (p : Handle → Option Handle → ℕ → Bool) (is : List (Option Index)) (hs : List Noted) (t : Table Placed) → ArePlaced is hs t → lookup me t.live ≡ Some w → linked_by p 0 (map (unlinked_in me) is) + linked_as p me w ≡ linked_by p 0 is
 off-sum me w p is hs t a at =
     let s = rw at at (sum-split me (linked_as p) t.live (a.once me)) in
     let b = rw at at (sum-split me (linked_as (but me p)) t.live (a.once me)) in
-    let e = but-same me (linked_as (but me p)) (linked_as p) t.live (λ h v f. apart-but v.linked (p h v.pt) (same_handle h me) f) in
-    let z : linked_as (but me p) me w ≡ 0 = rw (same-self me) (off-zero w.linked (p me w.pt)) in
+    let e = but-same me (linked_as (but me p)) (linked_as p) t.live (λ h v f. apart-but v.linked (p h v.ct v.pt) (same_handle h me) f) in
+    let z : linked_as (but me p) me w ≡ 0 = rw (same-self me) (off-zero w.linked (p me w.ct w.pt)) in
     omega (arith, linked-unlinked me p 0 is, a.same (but me p), a.same p, s, b, e, z)
 
 pub placed-unlinked : (me : Handle) (w : Placed) (is : List (Option Index)) (hs : List Noted) (t : Table Placed) → ArePlaced is hs t → lookup me t.live ≡ Some w → ArePlaced (map (unlinked_in me) is) hs (placed_by me not_linked t)
@@ -345,7 +350,7 @@ linked-anywhere place me pt is e =
     let some : 0 < linked_by (is_handle me) 0 is = omega arith in
     is_linked_anywhere-count me 0 is ∙ grind (arith, nat_tests)
 
-entries-stay : (x : Linked) (h : Header) (p : Handle → ℕ → Bool) (k : ℕ) (xs : List Linked) → is_over x h ≡ false → entries_by p k (entries_after x h xs) ≡ entries_by p k xs
+entries-stay : (x : Linked) (h : Header) (p : Handle → Option Handle → ℕ → Bool) (k : ℕ) (xs : List Linked) → is_over x h ≡ false → entries_by p k (entries_after x h xs) ≡ entries_by p k xs
 entries-stay x h p k xs over =
     rw over
     (elim x.entry.manage_local as (λ b. entries_by p k (if b then advanced x.handle (running_after x h) xs else xs) ≡ entries_by p k xs) [
@@ -353,16 +358,16 @@ entries-stay x h p k xs over =
       | false ↦ refl
     ])
 
-list-stays : (place : Place) (x : Linked) (h : Header) (p : Handle → ℕ → Bool) (k : ℕ) (i : Index) → is_over x h ≡ false → index_by p k (Some (with_list place (entries_after x h) i)) ≡ index_by p k (Some i)
+list-stays : (place : Place) (x : Linked) (h : Header) (p : Handle → Option Handle → ℕ → Bool) (k : ℕ) (i : Index) → is_over x h ≡ false → index_by p k (Some (with_list place (entries_after x h) i)) ≡ index_by p k (Some i)
 list-stays Priority x h p k i over = rw (entries-stay x h p k i.priority over) refl
 list-stays Overflow x h p k i over = rw (entries-stay x h p k i.overflow over) refl
 
-index-stays : (f : Found) (h : Header) (p : Handle → ℕ → Bool) (k : ℕ) (o : Option Index) → is_over f.linked h ≡ false → index_by p k (settled_at f h o) ≡ index_by p k o
+index-stays : (f : Found) (h : Header) (p : Handle → Option Handle → ℕ → Bool) (k : ℕ) (o : Option Index) → is_over f.linked h ≡ false → index_by p k (settled_at f h o) ≡ index_by p k o
 index-stays f h p k None over = refl
 index-stays f h p k (Some i) over = list-stays f.list f.linked h p k i over
 
 -- where the handles of an index stay, so do all
-pub placed-same : (pt : ℕ) (is : List (Option Index)) (hs : List Noted) (t : Table Placed) (o : Option Index) → ArePlaced is hs t → ((p : Handle → ℕ → Bool) → index_by p pt o ≡ index_by p pt (get_or is pt None)) → ArePlaced (set is pt o) hs t
+pub placed-same : (pt : ℕ) (is : List (Option Index)) (hs : List Noted) (t : Table Placed) (o : Option Index) → ArePlaced is hs t → ((p : Handle → Option Handle → ℕ → Bool) → index_by p pt o ≡ index_by p pt (get_or is pt None)) → ArePlaced (set is pt o) hs t
 placed-same pt is hs t o a e = record {
   same = λ p. let z : 0 + pt ≡ pt = omega arith in linked-same p 0 pt is o (rw z (e p)) ∙ a.same p;
   lies = a.lies;
@@ -371,7 +376,7 @@ placed-same pt is hs t o a e = record {
 }
 
 -- as many entries are linked then
-pub same-many : (pt : ℕ) (is : List (Option Index)) (o : Option Index) → ((p : Handle → ℕ → Bool) → index_by p pt o ≡ index_by p pt (get_or is pt None)) → sum_by entries_in (set is pt o) ≡ sum_by entries_in is
+pub same-many : (pt : ℕ) (is : List (Option Index)) (o : Option Index) → ((p : Handle → Option Handle → ℕ → Bool) → index_by p pt o ≡ index_by p pt (get_or is pt None)) → sum_by entries_in (set is pt o) ≡ sum_by entries_in is
 same-many pt is o e =
     let z : 0 + pt ≡ pt = omega arith in
     sym (linked-all 0 (set is pt o)) ∙ linked-same any_handle 0 pt is o (rw z (e any_handle)) ∙ linked-all 0 is
@@ -394,37 +399,20 @@ many-settled f h is hs t a e =
 
 -- ---- an entry comes
 
-some-below : {A : Type 0} → (xs : List (Option A)) (d : ℕ) (x : A) → get_or xs d None ≡ Some x → d < length xs
+pub some-below : {A : Type 0} → (xs : List (Option A)) (d : ℕ) (x : A) → get_or xs d None ≡ Some x → d < length xs
 some-below [] d x e = cc
 some-below (y ∷ ys) zero x e = omega arith
 some-below (y ∷ ys) (suc d) x e = omega (arith, some-below ys d x e)
 
-index-push : (place : Place) (p : Handle → ℕ → Bool) (k : ℕ) (i : Index) (x : Linked) → index_by p k (linked_at place x (Some i)) ≡ index_by p k (Some i) + (if p x.handle k then 1 else 0)
+index-push : (place : Place) (p : Handle → Option Handle → ℕ → Bool) (k : ℕ) (i : Index) (x : Linked) → index_by p k (linked_at place x (Some i)) ≡ index_by p k (Some i) + (if p x.handle x.entry.ct k then 1 else 0)
 index-push Priority p k i x = omega (arith, entries-push p k i.priority x)
 index-push Overflow p k i x = omega (arith, entries-push p k i.overflow x)
 
-slot-none : (g : Handle) (s : ℕ) (xs : List (Live Placed)) → has_slot s xs ≡ false → g.slot ≡ s → sum_of (named_as g) xs ≡ 0
-slot-none g s [] e is = refl
-slot-none g s (x ∷ xs) e is =
-    elim (nat_eq x.handle.slot s) as (λ b. nat_eq x.handle.slot s ≡ b → (b || has_slot s xs) ≡ false → (if same_handle x.handle g then 1 else 0) + sum_of (named_as g) xs ≡ 0) [
-      | true ↦ λ f n. cc
-      | false ↦ λ f n. let h : same_handle x.handle g ≡ false = grind (arith, nat_tests) in rw (h, slot-none g s xs n is) refl
-    ] refl e
-
 -- the record of an entry that is linked now
-abbrev pub fresh_at : ℕ → Placed
-fresh_at pt = record { pt = pt; linked = true; headers = 0 }
+abbrev pub fresh_at : ℕ → Option Handle → Placed
+fresh_at pt ct = record { pt = pt; ct = ct; linked = true; headers = 0 }
 
-once-more : (slot pt : ℕ) (t : Table Placed) (g : Handle) → has_slot slot t.live ≡ false → sum_of (named_as g) t.live ≤ 1 → sum_of (named_as g) (with_new slot (fresh_at pt) t).live ≤ 1
-once-more slot pt t g free one =
-    let h : Handle = handle slot t.given in
-    let e = sum-push (named_as g) t.live (record { handle = h; value = fresh_at pt }) in
-    elim (same_handle h g) as (λ b. same_handle h g ≡ b → sum_of (named_as g) (with_new slot (fresh_at pt) t).live ≡ sum_of (named_as g) t.live + (if b then 1 else 0) → sum_of (named_as g) (with_new slot (fresh_at pt) t).live ≤ 1) [
-      | true ↦ λ s f. let same : g.slot ≡ slot = grind (arith, nat_tests) in omega (arith, slot-none g slot t.live free same)
-      | false ↦ λ s f. omega arith
-    ] refl e
-
-linked-more : (slot pt given : ℕ) (place : Place) (entry : Entry) (i : Index) (is : List (Option Index)) (p : Handle → ℕ → Bool) → index_at pt is ≡ Some i → linked_by p 0 (slice_set is pt (linked_at place (fresh (handle slot given) entry) (index_at pt is))) ≡ linked_by p 0 is + (if p (handle slot given) pt then 1 else 0)
+linked-more : (slot pt given : ℕ) (place : Place) (entry : Entry) (i : Index) (is : List (Option Index)) (p : Handle → Option Handle → ℕ → Bool) → index_at pt is ≡ Some i → linked_by p 0 (slice_set is pt (linked_at place (fresh (handle slot given) entry) (index_at pt is))) ≡ linked_by p 0 is + (if p (handle slot given) entry.ct pt then 1 else 0)
 linked-more slot pt given place entry i is p e =
     let x : Linked = fresh (handle slot given) entry in
     let z : 0 + pt ≡ pt = omega arith in
@@ -432,24 +420,24 @@ linked-more slot pt given place entry i is p e =
     let g = index-push place p pt i x in
     rw e (omega arith)
 
-none-lies : (p : Handle → Bool) (h : Handle) (pt : ℕ) → headers_as p h (fresh_at pt) ≡ 0
-none-lies p h pt = elim (p h) as (λ b. (if b then (fresh_at pt).headers else 0) ≡ 0) [ true ↦ refl | false ↦ refl ]
+none-lies : (p : Handle → Bool) (h : Handle) (pt : ℕ) (ct : Option Handle) → headers_as p h (fresh_at pt ct) ≡ 0
+none-lies p h pt ct = elim (p h) as (λ b. (if b then (fresh_at pt ct).headers else 0) ≡ 0) [ true ↦ refl | false ↦ refl ]
 
-placed-linked_at : (slot pt : ℕ) (place : Place) (entry : Entry) (i : Index) (is : List (Option Index)) (hs : List Noted) (t : Table Placed) → ArePlaced is hs t → index_at pt is ≡ Some i → has_slot slot t.live ≡ false → ArePlaced (slice_set is pt (linked_at place (fresh (handle slot t.given) entry) (index_at pt is))) hs (with_new slot (fresh_at pt) t)
+placed-linked_at : (slot pt : ℕ) (place : Place) (entry : Entry) (i : Index) (is : List (Option Index)) (hs : List Noted) (t : Table Placed) → ArePlaced is hs t → index_at pt is ≡ Some i → has_slot slot t.live ≡ false → ArePlaced (slice_set is pt (linked_at place (fresh (handle slot t.given) entry) (index_at pt is))) hs (with_new slot (fresh_at pt entry.ct) t)
 placed-linked_at slot pt place entry i is hs t a e free =
-    let x : Live Placed = record { handle = handle slot t.given; value = fresh_at pt } in
+    let x : Live Placed = record { handle = handle slot t.given; value = fresh_at pt entry.ct } in
     record {
       same = λ p. omega (arith, linked-more slot pt t.given place entry i is p e, sum-push (linked_as p) t.live x, a.same p);
-      lies = λ p. omega (arith, sum-push (headers_as p) t.live x, none-lies p x.handle pt, a.lies p);
-      once = λ g. once-more slot pt t g free (a.once g);
+      lies = λ p. omega (arith, sum-push (headers_as p) t.live x, none-lies p x.handle pt entry.ct, a.lies p);
+      once = once-new slot (fresh_at pt entry.ct) t a.once free;
       busy = omega (arith, sum-push idle_as t.live x, a.busy);
     }
 
-some-index : (o : Option Index) → is_some o ≡ true → (i : Index) × (o ≡ Some i)
+pub some-index : (o : Option Index) → is_some o ≡ true → (i : Index) × (o ≡ Some i)
 some-index None e = cc
 some-index (Some i) e = (i, refl)
 
-pub placed-linked : (slot pt : ℕ) (place : Place) (entry : Entry) (is : List (Option Index)) (hs : List Noted) (t : Table Placed) → ArePlaced is hs t → is_some (index_at pt is) ≡ true → has_slot slot t.live ≡ false → ArePlaced (slice_set is pt (linked_at place (fresh (handle slot t.given) entry) (index_at pt is))) hs (with_new slot (fresh_at pt) t)
+pub placed-linked : (slot pt : ℕ) (place : Place) (entry : Entry) (is : List (Option Index)) (hs : List Noted) (t : Table Placed) → ArePlaced is hs t → is_some (index_at pt is) ≡ true → has_slot slot t.live ≡ false → ArePlaced (slice_set is pt (linked_at place (fresh (handle slot t.given) entry) (index_at pt is))) hs (with_new slot (fresh_at pt entry.ct) t)
 placed-linked slot pt place entry is hs t a there free = let i = some-index (index_at pt is) there in placed-linked_at slot pt place entry i.0 is hs t a i.1 free
 
 pub many-linked : (slot pt given : ℕ) (place : Place) (entry : Entry) (is : List (Option Index)) → is_some (index_at pt is) ≡ true → sum_by entries_in (slice_set is pt (linked_at place (fresh (handle slot given) entry) (index_at pt is))) ≡ sum_by entries_in is + 1
@@ -460,11 +448,11 @@ many-linked slot pt given place entry is there =
 
 -- ---- an index comes or goes
 
-none-by : (p : Handle → ℕ → Bool) (k : ℕ) (xs : List Linked) → length xs ≡ 0 → entries_by p k xs ≡ 0
+none-by : (p : Handle → Option Handle → ℕ → Bool) (k : ℕ) (xs : List Linked) → length xs ≡ 0 → entries_by p k xs ≡ 0
 none-by p k [] e = refl
 none-by p k (x ∷ xs) e = absurd (omega arith)
 
-empty-by : (p : Handle → ℕ → Bool) (k : ℕ) (o : Option Index) → entries_in o ≡ 0 → index_by p k o ≡ 0
+empty-by : (p : Handle → Option Handle → ℕ → Bool) (k : ℕ) (o : Option Index) → entries_in o ≡ 0 → index_by p k o ≡ 0
 empty-by p k None e = refl
 empty-by p k (Some i) e = omega (arith, none-by p k i.priority (omega arith), none-by p k i.overflow (omega arith))
 
@@ -475,7 +463,7 @@ placed-empty pt is hs t o a none was = placed-same pt is hs t o a (λ p. empty-b
 pub many-empty : (pt : ℕ) (is : List (Option Index)) (o : Option Index) → entries_in o ≡ 0 → entries_in (index_at pt is) ≡ 0 → sum_by entries_in (set is pt o) ≡ sum_by entries_in is
 many-empty pt is o none was = same-many pt is o (λ p. empty-by p pt o none ∙ sym (empty-by p pt (index_at pt is) was))
 
-none-linked : (p : Handle → ℕ → Bool) (k n : ℕ) → linked_by p k (replicate n None) ≡ 0
+none-linked : (p : Handle → Option Handle → ℕ → Bool) (k n : ℕ) → linked_by p k (replicate n None) ≡ 0
 none-linked p k zero = refl
 none-linked p k (suc n) = omega (arith, none-linked p (k + 1) n)
 

@@ -17,7 +17,7 @@ use Rattle.target_engine.specs.Sides.{side, told_gone}
 use Rattle.target_engine.proofs.Headers.{noted-append}
 use Rattle.target_engine.proofs.Placed.{HasOneOf, placed-fewer, placed-frees}
 
-one-between : (left found : List Noted) (x : Noted) → HasOneOf x.header.entry (left ++ x ∷ found) (left ++ found)
+pub one-between : (left found : List Noted) (x : Noted) → HasOneOf x (left ++ x ∷ found) (left ++ found)
 one-between left found x = λ p. omega (arith, noted-append p left (x ∷ found), noted-append p left found)
 
 pub taken-told : (is : List (Option Index)) (left found : List Noted) (x : Noted) (t : Table Placed) (eqs : Table Waiting) → ArePlaced is (left ++ x ∷ found) t → each_gone (side 0 0 is 0 (held [] 0)) left found (told_gone (kind_taken x.header.header.kind) is (frees_at is t x) x eqs) ≡ each_gone (side 0 0 is 0 (held [] 0)) left (x ∷ found) eqs
@@ -25,7 +25,7 @@ taken-told is left found x t eqs a =
     ap (λ b. each_gone (side 0 0 is 0 (held [] 0)) left found (told_gone (kind_taken x.header.header.kind) is b x eqs)) (placed-frees x is (left ++ x ∷ found) (left ++ found) t a (one-between left found x))
 
 pub taken-placed : (is : List (Option Index)) (left found : List Noted) (x : Noted) (t : Table Placed) → ArePlaced is (left ++ x ∷ found) t → ArePlaced is (left ++ found) (placed_by x.header.entry one_fewer t)
-taken-placed is left found x t a = placed-fewer x.header.entry is (left ++ x ∷ found) (left ++ found) t a (one-between left found x)
+taken-placed is left found x t a = placed-fewer x is (left ++ x ∷ found) (left ++ found) t a (one-between left found x)
 
 -- ---- the headers from one on, where the entry finds it and where it doesn't
 

@@ -9,13 +9,16 @@ use Rattle.ni_model.specs.declared.Linked.{Linked}
 use Rattle.ni_model.specs.declared.Found.{Found}
 use Rattle.ni_model.specs.declared.Noted.{Noted}
 use Rattle.ptl_types.specs.declared.headers.Header.{Header}
-use Rattle.ni_model.specs.Tables.{Live, Table, lookup, changed, without}
+use Rattle.ni_model.specs.Tables.{Live, Table, lookup, changed, without, with_new}
 use Rattle.ni_model.specs.Arrive.{or_else, is_over, running_after}
-use Rattle.ni_model.specs.Headers.{Held}
-use Rattle.ni_model.specs.Lists.{Index, index_at, entries_in, is_linked_at, advanced}
+use Rattle.ni_model.specs.Headers.{Held, is_of}
+use Rattle.ni_model.specs.Lists.{Index, index_at, queue_of, entries_in, is_linked_at, advanced}
 use Rattle.ni_model.specs.Calls.{unlinked_in}
+use Rattle.user_counts.specs.Rows.{one_at, raised, lowered, more, fewer, Counts}
+use Rattle.user_counts.specs.Sums.{sum_of, named_as}
 use Rattle.target_engine.specs.declared.index.Index.{Index as Shelf}
 use Rattle.target_engine.specs.declared.places.Placed.{Placed}
+use Rattle.target_engine.specs.declared.places.Records.{Records}
 
 -- an index of the model, from its queue and its lists
 abbrev pub index : Option Handle → Both → Index
@@ -92,38 +95,33 @@ settled_in f h o =
 
 -- ---- the records of the entries: those that are linked, and those in which headers lie
 
--- how many entries of a list at index k pass
-abbrev pub entries_by : (Handle → ℕ → Bool) → ℕ → List Linked → ℕ
+-- how many entries of a list at index k pass, by handle, counting event and index
+abbrev pub entries_by : (Handle → Option Handle → ℕ → Bool) → ℕ → List Linked → ℕ
 entries_by p k [] = 0
-entries_by p k (x ∷ xs) = (if p x.handle k then 1 else 0) + entries_by p k xs
+entries_by p k (x ∷ xs) = (if p x.handle x.entry.ct k then 1 else 0) + entries_by p k xs
 
 -- of one index
-abbrev pub index_by : (Handle → ℕ → Bool) → ℕ → Option Index → ℕ
+abbrev pub index_by : (Handle → Option Handle → ℕ → Bool) → ℕ → Option Index → ℕ
 index_by p k None = 0
 index_by p k (Some i) = entries_by p k i.priority + entries_by p k i.overflow
 
 -- of the indices from k on
-abbrev pub linked_by : (Handle → ℕ → Bool) → ℕ → List (Option Index) → ℕ
+abbrev pub linked_by : (Handle → Option Handle → ℕ → Bool) → ℕ → List (Option Index) → ℕ
 linked_by p k [] = 0
 linked_by p k (i ∷ is) = index_by p k i + linked_by p (k + 1) is
 
--- how many headers lie in entries that pass
-abbrev pub noted_by : (Handle → Bool) → List Noted → ℕ
+-- how many headers pass
+abbrev pub noted_by : (Noted → Bool) → List Noted → ℕ
 noted_by p [] = 0
-noted_by p (a ∷ hs) = (if p a.header.entry then 1 else 0) + noted_by p hs
+noted_by p (a ∷ hs) = (if p a then 1 else 0) + noted_by p hs
 
--- a number of each record, added up
-abbrev pub sum_of : (Handle → Placed → ℕ) → List (Live Placed) → ℕ
-sum_of f [] = 0
-sum_of f (x ∷ xs) = f x.handle x.value + sum_of f xs
-
--- 1 where the record is of this entry
-abbrev pub named_as : Handle → Handle → Placed → ℕ
-named_as me h v = if same_handle h me then 1 else 0
+-- the header lies in an entry that passes
+abbrev pub lies_in : (Handle → Bool) → Noted → Bool
+lies_in p a = p a.header.entry
 
 -- 1 where the entry is linked and passes
-abbrev pub linked_as : (Handle → ℕ → Bool) → Handle → Placed → ℕ
-linked_as p h v = if v.linked && p h v.pt then 1 else 0
+abbrev pub linked_as : (Handle → Option Handle → ℕ → Bool) → Handle → Placed → ℕ
+linked_as p h v = if v.linked && p h v.ct v.pt then 1 else 0
 
 -- the headers that lie in it, where it passes
 abbrev pub headers_as : (Handle → Bool) → Handle → Placed → ℕ
@@ -138,10 +136,10 @@ abbrev pub idle_as : Handle → Placed → ℕ
 idle_as h v = if is_idle v then 1 else 0
 
 -- the records agree with the entries that are linked and with the headers: each linked entry has one with the number of its
--- index, each has as many headers as lie in its entry, no two are of one entry, and each is needed
+-- index and its counting event, each has as many headers as lie in its entry, no two are of one entry, and each is needed
 pub record ArePlaced (is : List (Option Index)) (noted : List Noted) (places : Table Placed) : Type 0 where
-  pub same : (p : Handle → ℕ → Bool) → linked_by p 0 is ≡ sum_of (linked_as p) places.live
-  pub lies : (p : Handle → Bool) → noted_by p noted ≡ sum_of (headers_as p) places.live
+  pub same : (p : Handle → Option Handle → ℕ → Bool) → linked_by p 0 is ≡ sum_of (linked_as p) places.live
+  pub lies : (p : Handle → Bool) → noted_by (lies_in p) noted ≡ sum_of (headers_as p) places.live
   pub once : (h : Handle) → sum_of (named_as h) places.live ≤ 1
   pub busy : sum_of idle_as places.live ≡ 0
 
@@ -197,6 +195,10 @@ frees_at is t a = nat_le (headers_in (lookup a.header.entry t.live)) 1 && not (i
 abbrev pub noted_places : Found → Table Placed → Table Placed
 noted_places f t = elim f.list [ Priority ↦ t | Overflow ↦ placed_by f.linked.handle one_more t ]
 
+-- a header more waits at the index
+abbrev pub waiting_after : Found → Header → List ℕ → List ℕ
+waiting_after f h row = elim f.list [ Priority ↦ row | Overflow ↦ raised h.pt row ]
+
 -- an entry that the message unlinks is linked no longer
 abbrev pub places_after : Found → Header → Table Placed → Table Placed
 places_after f h t = if is_over f.linked h then placed_by f.linked.handle not_linked t else t
@@ -204,6 +206,37 @@ places_after f h t = if is_over f.linked h then placed_by f.linked.handle not_li
 -- and one entry fewer is linked
 abbrev pub linked_after : Found → Header → ℕ → ℕ
 linked_after f h n = if is_over f.linked h then n - 1 else n
+
+-- the counting event that the entry of a record names, where it is linked
+abbrev pub linked_ct : Option Placed → Option Handle
+linked_ct None = None
+linked_ct (Some v) = if v.linked then v.ct else None
+
+-- one user fewer of the counting event that an unlinked entry named
+abbrev pub cts_after : Found → Header → Table Placed → List ℕ → List ℕ
+cts_after f h t row = if is_over f.linked h then fewer (linked_ct (lookup f.linked.handle t.live)) row else row
+
+-- ---- the records with their rows of counts
+
+-- a message in the overflow list left its header
+abbrev pub noted_records : Found → Header → Records → Records
+noted_records f h r = record r { places = noted_places f r.places; waiting = waiting_after f h r.waiting }
+
+-- a header went
+abbrev pub without_header : Noted → Records → Records
+without_header a r = record r { places = placed_by a.header.entry one_fewer r.places; waiting = lowered a.pt r.waiting }
+
+-- an entry is linked
+abbrev pub linked_records : ℕ → Placed → Records → Records
+linked_records slot v r = record r { places = with_new slot v r.places; cts = more v.ct r.cts }
+
+-- an entry isn't linked any more
+abbrev pub unlinked_records : Handle → Records → Records
+unlinked_records me r = record r { places = placed_by me not_linked r.places; cts = fewer (linked_ct (lookup me r.places.live)) r.cts }
+
+-- what became of the entry that took a message
+abbrev pub records_after : Found → Header → Records → Records
+records_after f h r = record r { places = places_after f h r.places; cts = cts_after f h r.places r.cts }
 
 -- what a target keeps: the records agree with its entries and headers, the lists and the table of records have room, and the
 -- lists a slot for each record; `linked` counts the linked entries, and no more headers wait than may
@@ -214,3 +247,39 @@ pub record IsKept (most : ℕ) (is : List Shelf) (linked : ℕ) (places : Table 
   pub count : linked ≡ sum_by entries_in (map seen is)
   pub held : length hs.noted ≤ hs.limit
   pub small : hs.limit < 2 ^ 32
+
+-- ---- what the entries and the indices name, and where headers wait, counted by slot
+
+-- a handle of this slot is named
+abbrev pub is_at : ℕ → Option Handle → Bool
+is_at slot None = false
+is_at slot (Some h) = nat_eq h.slot slot
+
+-- an entry's counting event has this slot
+abbrev pub counts_at : ℕ → Handle → Option Handle → ℕ → Bool
+counts_at slot h ct k = is_at slot ct
+
+-- how many linked entries name a counting event of the slot, by their records
+abbrev pub ct_users : Table Placed → ℕ → ℕ
+ct_users places slot = sum_of (linked_as (counts_at slot)) places.live
+
+-- how many indices have a queue of the slot
+abbrev pub eq_users : List (Option Index) → ℕ → ℕ
+eq_users is slot = sum_by (λ o. one_at (queue_of o) slot) is
+
+-- how many headers of an index wait
+abbrev pub waiting_at : List Noted → ℕ → ℕ
+waiting_at noted pt = noted_by (is_of pt) noted
+
+-- the rows of the records count the linked entries that name a counting event, and the headers that wait
+pub record AreCounted (noted : List Noted) (r : Records) : Type 0 where
+  pub cts : Counts (ct_users r.places) r.cts
+  pub waiting : Counts (waiting_at noted) r.waiting
+
+-- what a target keeps, with its rows: each index has a place in the row of waiting headers
+pub record IsWhole (most : ℕ) (is : List Shelf) (linked : ℕ) (r : Records) (hs : Held) (eqs : List ℕ) : Type 0 where
+  pub kept : IsKept most is linked r.places hs
+  pub counted : AreCounted hs.noted r
+  pub queues : Counts (eq_users (map seen is)) eqs
+  pub long : length r.waiting ≡ length is
+  pub small : length is < 2 ^ 32

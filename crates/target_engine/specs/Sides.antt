@@ -1,12 +1,13 @@
 -- What a target is seen as, and how its parts make up the model's.
-use Rattle.std.specs.Prelude.{ℕ, ◌≡◌, ◌<◌, Bool, false, if◌then◌else◌, List, Option}
+use Rattle.std.specs.Prelude.{ℕ, ◌≡◌, ◌<◌, Bool, false, if◌then◌else◌, List, Option, Some, None, All}
 use Rattle.ptl_types.specs.declared.handles.Handle.{Handle}
 use Rattle.ptl_types.specs.declared.entries.Entry.{Entry}
 use Rattle.ptl_types.specs.declared.entries.List.{List as Place}
 use Rattle.ptl_types.specs.declared.calls.Appended.{Appended}
-use Rattle.ptl_types.specs.declared.calls.Appended.TheVariants.{Linked, Consumed}
+use Rattle.ptl_types.specs.declared.calls.Appended.TheVariants.{Linked as IsLinked, Consumed}
 use Rattle.ptl_types.specs.declared.entries.UnexpectedHeader.{UnexpectedHeader}
 use Rattle.ptl_types.specs.declared.events.EventKind.{EventKind}
+use Rattle.ni_model.specs.declared.Linked.{Linked}
 use Rattle.ni_model.specs.declared.Noted.{Noted}
 use Rattle.ni_model.specs.Tables.{Table}
 use Rattle.ni_model.specs.Queues.{Waiting, raised}
@@ -16,6 +17,7 @@ use Rattle.ni_model.specs.Headers.{Held}
 use Rattle.ni_model.specs.Arrive.{Side, Parts}
 use Rattle.ni_model.specs.Append.{Appends, Searched, append}
 use Rattle.ni_model.specs.Calls.{entry_slot}
+use Rattle.user_counts.specs.Rows.{IsAlone}
 
 -- a target: its rank, how many entries may be linked, its indices, the stamps given to entries, its headers
 abbrev pub side : ℕ → ℕ → List (Option Index) → ℕ → Held → Side
@@ -37,7 +39,7 @@ has_appended p appended counted = record { parts = p; appended = appended; count
 
 -- the handle of an entry that was linked has a slot below n
 abbrev pub SlotBelow : ℕ → Appended → Type 0
-SlotBelow n (Linked h) = h.slot < n
+SlotBelow n (IsLinked h) = h.slot < n
 SlotBelow n (Consumed x) = Unit {0}
 
 -- the append, with some slot that no linked entry has
@@ -45,3 +47,8 @@ pub record AppendsSome (pt : ℕ) (place : Place) (e : Entry) (old : Parts) (end
   pub slot : ℕ
   pub free : entry_slot old.side.indices slot ≡ false
   pub ended : end ≡ append slot pt place e old
+
+-- the counting event of each entry of an index, if it has one, is ct or has another slot
+abbrev pub EntriesAlone : Handle → Option Index → Type 0
+EntriesAlone ct None = Unit {0}
+EntriesAlone ct (Some i) = All (λ (x : Linked). IsAlone ct x.entry.ct) i.priority × All (λ (x : Linked). IsAlone ct x.entry.ct) i.overflow

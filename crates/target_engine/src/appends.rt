@@ -28,7 +28,7 @@ impl Target {
     fn is_full(&self) -> bool
         ensures { result ≡ (nat_le self.now.limit (linked_count self.now) || nat_le top self.now.given) }
     {
-        self.linked >= self.limit || self.places.is_full()
+        self.linked >= self.limit || self.records.places.is_full()
     }
 
     /// Links an entry at the end of a list, and tells so.
@@ -43,14 +43,16 @@ impl Target {
     {
         let record = Placed {
             pt,
+            ct: entry.ct,
             linked: true,
             headers: 0,
         };
-        let me = match self.places.insert(record) {
+        let me = match self.records.places.insert(record) {
             Ok(me) => me,
             Err(_) => unreachable!(),
         };
         self.linked += 1;
+        self.records.cts.add(entry.ct);
         link_at(&mut self.indices, pt, list, me, entry);
         let eq = queue_at(&self.indices, pt);
         raise(
@@ -74,10 +76,10 @@ impl Target {
         ensures events { eqs.new ≡ each_gone self.old (left_in pt entry.now self.old.headers.noted) (found_in pt entry.now self.old.headers.noted) eqs.old }
         ensures counted { result ≡ counts_by entry.now (found_in pt entry.now self.old.headers.noted) }
     {
-        let places = &mut self.places;
+        let records = &mut self.records;
         take_found(
             &self.indices,
-            places,
+            records,
             &mut self.headers,
             cts,
             eqs,
@@ -108,7 +110,7 @@ impl Target {
                 return (Appended::Linked(me), None);
             }
         };
-        take_header(&self.indices, &mut self.places, cts, eqs, &entry, &noted);
+        take_header(&self.indices, &mut self.records, cts, eqs, &entry, &noted);
         (Appended::Consumed(noted.header), overflow_counter(&entry))
     }
 

@@ -1,9 +1,10 @@
 //! The calls of a target that its host makes: allocating and freeing a portal table index, and searching the headers.
 
-ghost use Rattle.std.specs.Prelude.{◌≡◌, ℕ, List, true, false, None, Some, OnOk, OnErr, IfOk, IfErr, is_some, nat_lt, slice_set};
+ghost use Rattle.std.specs.Prelude.{◌≡◌, ℕ, List, length, true, false, None, Some, OnOk, OnErr, IfOk, IfErr, is_some, nat_lt, slice_set};
 ghost use Rattle.ptl_types.specs.declared.handles.Count.{Count};
 ghost use Rattle.ni_model.specs.Tables.{Table};
 ghost use Rattle.ni_model.specs.Lists.{index_at, entries_in};
+ghost use Rattle.ni_model.specs.Headers.{headers_of};
 ghost use Rattle.ni_model.specs.Events.{missed_event as missed_of};
 ghost use Rattle.ni_model.specs.Arrive.{parts};
 ghost use Rattle.ni_model.specs.Calls.{new_index};
@@ -70,7 +71,16 @@ impl Target {
             return Err(NiFault::InUse);
         }
         allocate_at(&mut self.indices, index, eq);
+        self.eqs.add(eq);
         Ok(())
+    }
+
+    /// Whether a header of an allocated index waits.
+    fn waits_at(&self, pt: u32) -> bool
+        requires { allocated pt self.now ≡ true }
+        ensures { result ≡ nat_lt 0 (length (headers_of pt self.now.headers.noted)) }
+    {
+        self.records.waiting.is_used(pt)
     }
 
     /// Frees a portal table index. `Stale` where it isn't allocated, `InUse` where one of its lists holds an entry or a
@@ -84,9 +94,10 @@ impl Target {
         if !is_allocated(&self.indices, index) {
             return Err(NiFault::Stale);
         }
-        if holds_entries(&self.indices, index) || self.headers.waits_at(index) {
+        if holds_entries(&self.indices, index) || self.waits_at(index) {
             return Err(NiFault::InUse);
         }
+        self.eqs.remove(queue_at(&self.indices, index));
         free_at(&mut self.indices, index);
         Ok(())
     }
@@ -142,7 +153,7 @@ impl Target {
                 return None;
             }
         };
-        let freed = frees(&self.indices, &mut self.places, &noted);
+        let freed = frees(&self.indices, &mut self.records, &noted);
         raise_gone(&self.indices, eqs, EventKind::Search, &noted, freed);
         Some(noted.header)
     }

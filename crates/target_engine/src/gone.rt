@@ -3,12 +3,12 @@
 ghost use Rattle.std.specs.Prelude.{◌≡◌};
 ghost use Rattle.ni_model.specs.Lists.{index_at, is_linked_at};
 ghost use Rattle.ni_model.specs.Events.{header_event as event_of, kind_taken as kind_of};
-ghost use Rattle.target_engine.specs.Shelves.{seen_in, frees_at, placed_by, one_fewer};
+ghost use Rattle.target_engine.specs.Shelves.{seen_in, frees_at, without_header};
 ghost use Rattle.target_engine.specs.Sides.{told_gone};
 
 use crate::events::{entry_event, message_event};
 use crate::index::{Index, queue_at, shelf_at};
-use crate::places::{Placed, drop_header, headers_of};
+use crate::places::{Records, drop_header, headers_of};
 use event_delivery::raise;
 use event_queues::Queue;
 use handle_store::Store;
@@ -43,15 +43,16 @@ pub fn kind_taken(kind: MessageKind) -> EventKind
     }
 }
 
-/// Counts a header that goes out of the record of its entry. Whether the entry is free: it was the last that lay there, and the
-/// entry isn't linked.
-pub fn frees(indices: &[Index], places: &mut Store<Placed>, gone: &Noted) -> bool
-    ensures freed { result ≡ frees_at (seen_in indices.now) places.old gone.now }
-    ensures counted { places.new ≡ placed_by gone.now.header.entry one_fewer places.old }
+/// Counts a header that goes out of the record of its entry and out of its index. Whether the entry is free: it was the last
+/// that lay there, and the entry isn't linked.
+pub fn frees(indices: &[Index], records: &mut Records, gone: &Noted) -> bool
+    ensures freed { result ≡ frees_at (seen_in indices.now) records.old.places gone.now }
+    ensures gone { records.new ≡ without_header gone.now records.old }
 {
     let entry = gone.header.entry;
-    let last = headers_of(places, entry) <= 1;
-    drop_header(places, entry);
+    let last = headers_of(&records.places, entry) <= 1;
+    drop_header(&mut records.places, entry);
+    records.waiting.lower(gone.pt);
     last && !is_in_overflow(indices, gone.pt, entry)
 }
 

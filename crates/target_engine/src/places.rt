@@ -2,22 +2,37 @@
 
 ghost use Rattle.std.specs.Prelude.{◌≡◌, ◌<◌, ◌^◌};
 ghost use Rattle.ni_model.specs.Tables.{lookup};
-ghost use Rattle.target_engine.specs.Shelves.{is_idle, placed_anew, placed_by, one_more, one_fewer, not_linked, where_on, headers_in, places_after, linked_after};
+ghost use Rattle.target_engine.specs.Shelves.{is_idle, placed_anew, placed_by, one_more, one_fewer, where_on, headers_in, unlinked_records, records_after, linked_after};
 
 use crate::measures::is_over;
-use handle_store::Store;
+use handle_store::{Store, where_set};
 use ni_model::Found;
 use ptl_types::{Handle, Header};
+use user_counts::Users;
 
 /// A match entry that is linked, or in whose memory unexpected headers lie.
 #[derive(Clone, Copy)]
 pub struct Placed {
     /// The portal table index that it was appended to.
     pub pt: u32,
+    /// The counting event that it names.
+    pub ct: Option<Handle>,
     /// Whether it is linked.
     pub linked: bool,
     /// How many headers lie in its memory.
     pub headers: u64,
+}
+
+/// The records of the entries, and what is counted over them: by slot the linked entries that name a counting event, and by
+/// index the headers that wait.
+#[derive(Drop)]
+pub struct Records {
+    /// The record of each entry that is linked, or in whose memory headers lie.
+    pub places: Store<Placed>,
+    /// How many linked entries name the counting event of each slot.
+    pub cts: Users,
+    /// How many headers wait at each index.
+    pub waiting: Users,
 }
 
 impl Placed {
@@ -81,23 +96,24 @@ pub fn drop_header(places: &mut Store<Placed>, entry: Handle)
     }
 }
 
-/// The entry isn't linked any more.
-pub fn unlink_place(places: &mut Store<Placed>, entry: Handle)
-    ensures { places.new ≡ placed_by entry not_linked places.old }
+/// The entry isn't linked any more, and doesn't use the counting event that it names.
+pub fn unlink_place(records: &mut Records, entry: Handle)
+    ensures { records.new ≡ unlinked_records entry records.old }
 {
-    if let Some(placed) = places.get(entry).copied() {
+    if let Some(placed) = records.places.get(entry).copied() {
+        records.cts.remove(where_set(placed.linked, placed.ct));
         let linked = false;
-        place_anew(places, entry, Placed { linked, ..placed });
+        place_anew(&mut records.places, entry, Placed { linked, ..placed });
     }
 }
 
 /// An entry that a message unlinks is linked no longer, and one fewer is.
-pub fn forget(places: &mut Store<Placed>, linked: &mut u32, found: &Found, header: &Header)
-    ensures places { places.new ≡ places_after found.now header.now places.old }
+pub fn forget(records: &mut Records, linked: &mut u32, found: &Found, header: &Header)
+    ensures records { records.new ≡ records_after found.now header.now records.old }
     ensures linked { linked.new ≡ linked_after found.now header.now linked.old }
 {
     if is_over(&found.linked, header) {
-        unlink_place(places, found.linked.handle);
+        unlink_place(records, found.linked.handle);
         *linked = linked.saturating_sub(1);
     }
 }

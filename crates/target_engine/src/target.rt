@@ -1,6 +1,6 @@
 //! The target.
 
-ghost use Rattle.std.specs.Prelude.{◌≡◌, ◌+◌, ◌<◌, ◌^◌, [], None, Some, true, false, IfOk, option_copied, length, All, replicate};
+ghost use Rattle.std.specs.Prelude.{◌≡◌, ◌+◌, ◌<◌, ◌-◌, ◌^◌, [], None, Some, true, false, IfOk, option_copied, length, All, replicate};
 ghost use Rattle.ptl_types.specs.Kinds.{is_answer};
 ghost use Rattle.ni_model.specs.Headers.{held};
 ghost use Rattle.ni_model.specs.Arrive.{parts, received, request as request_of, accepted, counts_after, headers_after, indices_after, is_overflow as overflows, outcome_in as outcome_of};
@@ -8,7 +8,8 @@ ghost use Rattle.ni_model.specs.Conditions.{IsPartIn, HasPartsIn, HasRoom};
 ghost use Rattle.ni_model.specs.Lists.{index_at, is_linked_at};
 ghost use Rattle.unexpected.specs.Places.{header_at};
 ghost use Rattle.ni_model.specs.Tables.{lookup};
-ghost use Rattle.target_engine.specs.Shelves.{headers_in, noted_places, linked_in, IsUnused};
+ghost use Rattle.user_counts.specs.Rows.{count_at};
+ghost use Rattle.target_engine.specs.Shelves.{headers_in, noted_records, linked_in, IsUnused};
 ghost use Rattle.target_engine.specs.Sides.{side};
 
 use crate::answers::refused;
@@ -16,7 +17,7 @@ use crate::events::raise_events;
 use crate::exchange::exchange;
 use crate::index::{Index, chosen_in, queue_at, settle_at};
 use crate::measures::{delivered, place};
-use crate::places::{Placed, add_header, forget};
+use crate::places::{Records, add_header, forget};
 use counters::Counter;
 use event_delivery::{count, successes};
 use event_queues::Queue;
@@ -27,6 +28,7 @@ use ptl_types::{Header, Limits, List, Message, NoMemory, Outcome, Rank, Unexpect
 use std::alloc::Global;
 use std::marker::Model;
 use unexpected::{Headers, allows};
+use user_counts::Users;
 
 /// One success on the entry's counting event, where it counts communication.
 fn count_message(cts: &mut Store<Counter>, linked: &Linked)
@@ -37,12 +39,13 @@ fn count_message(cts: &mut Store<Counter>, linked: &Linked)
 }
 
 /// A message in the overflow list leaves its header, and its entry counts it.
-fn note_header(headers: &mut Headers, places: &mut Store<Placed>, found: &Found, header: &Header)
+fn note_header(headers: &mut Headers, records: &mut Records, found: &Found, header: &Header)
     requires room { HasRoom found.now.list headers.old }
     requires part { found.now.linked.entry.start + found.now.linked.entry.length < 2 ^ 64 }
-    requires few { headers_in (lookup found.now.linked.handle places.old.live) < 2 ^ 32 }
+    requires few { headers_in (lookup found.now.linked.handle records.old.places.live) < 2 ^ 32 }
+    requires index { count_at header.now.pt records.old.waiting < 2 ^ 64 - 1 }
     ensures headers { headers.new ≡ headers_after found.now header.now headers.old }
-    ensures places { places.new ≡ noted_places found.now places.old }
+    ensures records { records.new ≡ noted_records found.now header.now records.old }
 {
     if let List::Overflow = found.list {
         headers.add(
@@ -54,7 +57,8 @@ fn note_header(headers: &mut Headers, places: &mut Store<Placed>, found: &Found,
                 header: *header,
             },
         );
-        add_header(places, found.linked.handle);
+        add_header(&mut records.places, found.linked.handle);
+        records.waiting.raise(header.pt);
     }
 }
 
@@ -78,16 +82,17 @@ fn outcome_in(list: List) -> Outcome
     }
 }
 
-/// A target: its rank, its portal table indices, and the headers that wait. Its value is the model's `Side`. `places` has a
-/// record of each entry that is linked, or in whose memory headers lie; `linked` counts those that are linked.
+/// A target: its rank, its portal table indices, and the headers that wait. Its value is the model's `Side`. `linked` counts the
+/// entries that are linked, and `eqs` by slot the indices that have an event queue.
 #[derive(Drop)]
 pub struct Target {
     rank: Rank,
     pub(crate) limit: u32,
     pub(crate) indices: Vec<Index>,
     pub(crate) linked: u32,
-    pub(crate) places: Store<Placed>,
+    pub(crate) records: Records,
     pub(crate) headers: Headers,
+    pub(crate) eqs: Users,
 }
 
 impl Model for Target {
@@ -96,11 +101,11 @@ impl Model for Target {
 
     ghost Value = { Side };
 
-    ghost use Rattle.target_engine.specs.Shelves.{seen_in, IsKept};
+    ghost use Rattle.target_engine.specs.Shelves.{seen_in, IsWhole};
 
-    ghost view = { λ t. side t.rank t.limit (seen_in t.indices.items) t.places.given t.headers };
+    ghost view = { λ t. side t.rank t.limit (seen_in t.indices.items) t.records.places.given t.headers };
 
-    ghost invariant = { λ t. IsKept t.limit t.indices.items t.linked t.places t.headers };
+    ghost invariant = { λ t. IsWhole t.limit t.indices.items t.linked t.records t.headers t.eqs };
 }
 
 /// As many places for indices as the limit, none of them allocated, each with its lists.
@@ -136,13 +141,21 @@ impl Target {
         let indices = empty_indices(alloc, limits, records)?;
         let places = Store::open(alloc, records)?;
         let headers = Headers::open(alloc, limits.unexpected)?;
+        let cts = Users::open(alloc, limits.cts)?;
+        let eqs = Users::open(alloc, limits.eqs)?;
+        let waiting = Users::open(alloc, limits.pts)?;
         Ok(Target {
             rank,
             limit: limits.entries,
             indices,
             linked: 0,
-            places,
+            records: Records {
+                places,
+                cts,
+                waiting,
+            },
             headers,
+            eqs,
         })
     }
 
@@ -195,7 +208,7 @@ impl Target {
         requires there { is_linked_at found.now.list found.now.linked.handle (index_at header.now.pt self.old.indices) ≡ true }
         ensures { self.new ≡ record self.old { headers = headers_after found.now header.now self.old.headers } }
     {
-        note_header(&mut self.headers, &mut self.places, found, header);
+        note_header(&mut self.headers, &mut self.records, found, header);
     }
 
     /// What becomes of the entry that took the message.
@@ -205,7 +218,7 @@ impl Target {
         ensures { self.new ≡ record self.old { indices = indices_after found.now header.now self.old.indices } }
     {
         settle_at(&mut self.indices, found, header);
-        forget(&mut self.places, &mut self.linked, found, header);
+        forget(&mut self.records, &mut self.linked, found, header);
     }
 
     /// The delivery to the entry that was found: memory, count, header, entry, events and the answer.

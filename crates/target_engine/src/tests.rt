@@ -135,8 +135,15 @@ fn indices_come_and_go(rt: HostRuntime) -> Result<(), Fail> {
     assert_eq!(rt; host.pt_alloc(2, None), Err(NiFault::NoSpace));
     assert_eq!(rt; host.pt_alloc(0, None), Ok(()));
     assert_eq!(rt; host.pt_alloc(0, None), Err(NiFault::InUse));
-    assert!(rt; !host.target.names_eq(DEAD));
     assert_eq!(rt; host.target.pt_free(0), Ok(()));
+    Ok(())
+}
+
+#[test]
+fn nothing_is_named_at_first(rt: HostRuntime) -> Result<(), Fail> {
+    let target = Target::open(rt.alloc(), 0, &LIMITS)?;
+    assert!(rt; !target.names_ct(DEAD));
+    assert!(rt; !target.names_eq(DEAD));
     Ok(())
 }
 
@@ -160,7 +167,6 @@ fn entries_come_and_go(rt: HostRuntime) -> Result<(), Fail> {
     );
     assert!(rt; host.append(List::Overflow, ENTRY).is_ok());
     assert_eq!(rt; host.append(list, past_the_end), Err(NiFault::NoSpace));
-    assert!(rt; !host.target.names_ct(DEAD));
     assert_eq!(rt; host.target.pt_free(0), Err(NiFault::InUse));
     assert_eq!(rt; host.target.unlink(first), Ok(()));
     assert_eq!(rt; host.target.unlink(first), Err(NiFault::Stale));
@@ -173,7 +179,6 @@ fn headers_are_searched_and_taken(rt: HostRuntime) -> Result<(), Fail> {
     assert_eq!(rt; host.search(false), Err(NiFault::Stale));
     let eq = host.open_queue(rt.alloc()).ok_or("a queue has room")?;
     assert_eq!(rt; host.pt_alloc(0, Some(eq)), Ok(()));
-    assert!(rt; host.target.names_eq(eq));
     let over = Handle { slot: 0, stamp: 0 };
     let linked = host.append(List::Overflow, ENTRY);
     assert_eq!(rt; linked, Ok((Appended::Linked(over), None)));

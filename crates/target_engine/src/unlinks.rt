@@ -1,9 +1,12 @@
 //! Unlinking an entry, and whether an entry or an index names something.
 
-ghost use Rattle.std.specs.Prelude.{◌≡◌, None, Some, IfErr, OnErr, OnOk, map};
+ghost use Rattle.std.specs.Prelude.{◌≡◌, None, Some, All, IfErr, OnErr, OnOk, map};
 ghost use Rattle.ni_model.specs.Calls.{unlinked_in};
 ghost use Rattle.ni_model.specs.Refusals.{unlink_fault, index_names_ct, index_names_eq};
+ghost use Rattle.ni_model.specs.Lists.{queue_of};
+ghost use Rattle.user_counts.specs.Rows.{IsAlone};
 ghost use Rattle.target_engine.specs.Shelves.{seen_in};
+ghost use Rattle.target_engine.specs.Sides.{EntriesAlone};
 
 use crate::index::{Index, unlink_at};
 use crate::places::{linked_record, unlink_place};
@@ -44,7 +47,7 @@ impl Target {
         ensures ok { OnOk result (unlink_fault me self.old ≡ None) }
         ensures unlinked { OnOk result (self.new ≡ record self.old { indices = map (unlinked_in me) self.old.indices }) }
     {
-        let placed = match linked_record(&self.places, me) {
+        let placed = match linked_record(&self.records.places, me) {
             Some(placed) => placed,
             None => return Err(NiFault::Stale),
         };
@@ -52,22 +55,31 @@ impl Target {
             return Err(NiFault::InUse);
         }
         unlink_at(&mut self.indices, placed.pt, me);
-        unlink_place(&mut self.places, me);
+        unlink_place(&mut self.records, me);
         self.linked = self.linked.saturating_sub(1);
         Ok(())
     }
 
-    /// Whether a linked entry names the counting event.
+    /// Whether a linked entry names the counting event, by the count of its slot; a slot that was none of the limit's is looked
+    /// up entry by entry. Condition: no entry names another counting event of this slot.
     pub fn names_ct(&self, ct: Handle) -> bool
+        requires alone { All (EntriesAlone ct) self.now.indices }
         ensures told { result ≡ index_names_ct ct self.now.indices }
     {
-        some_names_ct(&self.indices, ct)
+        match self.records.cts.at(ct.slot) {
+            Some(users) => users > 0,
+            None => some_names_ct(&self.indices, ct),
+        }
     }
 
-    /// Whether a portal table index has the event queue.
+    /// Whether a portal table index has the event queue, likewise. Condition: no index has another queue of this slot.
     pub fn names_eq(&self, eq: Handle) -> bool
+        requires alone { All (λ o. IsAlone eq (queue_of o)) self.now.indices }
         ensures told { result ≡ index_names_eq eq self.now.indices }
     {
-        some_names_eq(&self.indices, eq)
+        match self.eqs.at(eq.slot) {
+            Some(users) => users > 0,
+            None => some_names_eq(&self.indices, eq),
+        }
     }
 }

@@ -4,5 +4,8 @@ pub mod Indexed
 pub mod Keys
 pub mod Marks
 pub mod Numbers
+pub mod Ranks
 pub mod Rising
+pub mod Settled
+pub mod Sums
 pub mod Views

@@ -7,12 +7,13 @@ use Rattle.std.proofs.lemmas.List.{length-map}
 use Rattle.std.proofs.lemmas.List.Filters.{length-filter_both}
 use Rattle.std.specs.List.Sorted.{IsStrictlySortedBy}
 use Rattle.std.specs.BTreeMap.{BTreeMap}
+use Rattle.std.proofs.lemmas.Bool.{eq-eqb}
 use Rattle.std.proofs.lemmas.Bool.Decides.{nat_tests}
 use Rattle.std.proofs.lemmas.List.Elements.{All-head, All-tail, All-cons, All-nil}
 use Rattle.std.proofs.lemmas.List.Kept.{AllPairs-cons}
 use Rattle.number_marks.specs.Marking.{Marking, is_in, unmarked}
 use Rattle.triggered_ops.specs.declared.held.Held.{Held}
-use Rattle.triggered_ops.specs.Layout.{operation, operations_of, found_at, with_told, AreMarked}
+use Rattle.triggered_ops.specs.Layout.{operation, operations_of, found_at, with_due, AreMarked}
 use Rattle.triggered_ops.specs.Operations.{Operation, Operations, IsKept, is_number, is_due, is_due_op, due_numbers}
 use Rattle.triggered_ops.proofs.Found.{find-found, rising-sorted, find-behind}
 use Rattle.triggered_ops.proofs.Numbers.{no-pairs, same_numbers, in-push, in-last, or-true}
@@ -62,33 +63,44 @@ module _ {D : Type 0} where
       same_numbers k.marked _ up (numbers-rising ps rising) (λ t. marked.due t ∙ ap is_due_op (sym (find-found m t) ∙ ap (find (is_number t)) is) ∙ sym (numbers-in t ps rising))
 
   -- ---- what the parts keep
-  some-told : (sum : ℕ) (o : Option (Operation D)) → is_some (option_map (with_told sum) o) ≡ is_some o
-  some-told sum None = refl
-  some-told sum (Some p) = refl
+  some-due : (due : Bool) (o : Option (Operation D)) → is_some (option_map (with_due due) o) ≡ is_some o
+  some-due due None = refl
+  some-due due (Some p) = refl
 
-  -- an operation is told, and marked where it is due
-  pub marked-told : (m n : BTreeMap ℕ (Held D)) (k l : Marking) (number sum : ℕ) (due : Bool) → ((t : ℕ) → found_at n t ≡ (if t == number then option_map (with_told sum) (found_at m t) else found_at m t)) → is_due_op (found_at n number) ≡ due → ((t : ℕ) → is_in t l.marked ≡ (if t == number then due else is_in t k.marked)) → l.held ≡ k.held → AreMarked m k → AreMarked n l
-  marked-told m n k l number sum due found is marked held old = record {
-    placed = λ t some. rw held (old.placed t (elim (t == number) as (λ b. is_some (if b then option_map (with_told sum) (found_at m t) else found_at m t) ≡ true → is_some (found_at m t) ≡ true) [
-      | true ↦ λ e. sym (some-told sum (found_at m t)) ∙ e
-      | false ↦ λ e. e
-    ] (ap is_some (sym (found t)) ∙ some)));
-    due = λ t. elim (t == number) as (λ b. (t == number) ≡ b → is_in t l.marked ≡ is_due_op (found_at n t)) [
-      | true ↦ λ same.
-          let e : t ≡ number = grind (arith, nat_tests) in
-          marked t ∙ rw same (sym is ∙ ap (λ (x : ℕ). is_due_op (found_at n x)) (sym e))
-      | false ↦ λ other. let e : found_at n t ≡ found_at m t = found t ∙ rw other refl in marked t ∙ rw other (old.due t ∙ ap is_due_op (sym e))
-    ] refl;
-  }
+  due-some : (due : Bool) (o : Option (Operation D)) → is_some (option_map (with_due due) o) ≡ true → is_due_op (option_map (with_due due) o) ≡ due
+  due-some due None e = cc
+  due-some due (Some p) e = refl
 
-  -- nothing waits under the number that is told
-  pub marked-absent : (m n : BTreeMap ℕ (Held D)) (k : Marking) (number sum : ℕ) → ((t : ℕ) → found_at n t ≡ (if t == number then option_map (with_told sum) (found_at m t) else found_at m t)) → found_at n number ≡ None → AreMarked m k → AreMarked n k
-  marked-absent m n k number sum found none old = record {
+  due-there : (m n : BTreeMap ℕ (Held D)) (number : ℕ) (due : Bool) → ((t : ℕ) → found_at n t ≡ (if t == number then option_map (with_due due) (found_at m t) else found_at m t)) → is_some (found_at n number) ≡ true → is_due_op (found_at n number) ≡ due
+  due-there m n number due found here =
+      let e : found_at n number ≡ option_map (with_due due) (found_at m number) = found number ∙ rw (eq-eqb number number refl) refl in
+      ap is_due_op e ∙ due-some due (found_at m number) (ap is_some (sym e) ∙ here)
+
+  -- an operation is due or isn't, and marked so
+  pub marked-due : (m n : BTreeMap ℕ (Held D)) (k l : Marking) (number : ℕ) (due : Bool) → ((t : ℕ) → found_at n t ≡ (if t == number then option_map (with_due due) (found_at m t) else found_at m t)) → is_some (found_at n number) ≡ true → ((t : ℕ) → is_in t l.marked ≡ (if t == number then due else is_in t k.marked)) → l.held ≡ k.held → AreMarked m k → AreMarked n l
+  marked-due m n k l number due found here marked held old =
+      let is : is_due_op (found_at n number) ≡ due = due-there m n number due found here in
+      record {
+        placed = λ t some. rw held (old.placed t (elim (t == number) as (λ b. is_some (if b then option_map (with_due due) (found_at m t) else found_at m t) ≡ true → is_some (found_at m t) ≡ true) [
+          | true ↦ λ e. sym (some-due due (found_at m t)) ∙ e
+          | false ↦ λ e. e
+        ] (ap is_some (sym (found t)) ∙ some)));
+        due = λ t. elim (t == number) as (λ b. (t == number) ≡ b → is_in t l.marked ≡ is_due_op (found_at n t)) [
+          | true ↦ λ same.
+              let e : t ≡ number = grind (arith, nat_tests) in
+              marked t ∙ rw same (sym is ∙ ap (λ (x : ℕ). is_due_op (found_at n x)) (sym e))
+          | false ↦ λ other. let e : found_at n t ≡ found_at m t = found t ∙ rw other refl in marked t ∙ rw other (old.due t ∙ ap is_due_op (sym e))
+        ] refl;
+      }
+
+  -- nothing waits under the number
+  pub marked-absent : (m n : BTreeMap ℕ (Held D)) (k : Marking) (number : ℕ) (due : Bool) → ((t : ℕ) → found_at n t ≡ (if t == number then option_map (with_due due) (found_at m t) else found_at m t)) → found_at n number ≡ None → AreMarked m k → AreMarked n k
+  marked-absent m n k number due found none old = record {
     placed = λ t some. old.placed t (ap is_some (sym (same t)) ∙ some);
     due = λ t. old.due t ∙ ap is_due_op (sym (same t));
   }
     where
-      gone : (o : Option (Operation D)) → option_map (with_told sum) o ≡ None → o ≡ None
+      gone : (o : Option (Operation D)) → option_map (with_due due) o ≡ None → o ≡ None
       gone None e = refl
       gone (Some p) e = cc
 
@@ -97,7 +109,7 @@ module _ {D : Type 0} where
         | true ↦ λ is.
             let e : t ≡ number = grind (arith, nat_tests) in
             let f : found_at n t ≡ None = ap (found_at n) e ∙ none in
-            let g : option_map (with_told sum) (found_at m t) ≡ None = sym (found t ∙ rw is refl) ∙ f in
+            let g : option_map (with_due due) (found_at m t) ≡ None = sym (found t ∙ rw is refl) ∙ f in
             f ∙ sym (gone (found_at m t) g)
         | false ↦ λ is. found t ∙ rw is refl
       ] refl

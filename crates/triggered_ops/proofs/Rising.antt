@@ -1,5 +1,5 @@
 -- Operations whose numbers rise: what keeps it, and finding one by its number.
-use Rattle.std.proofs.Common.{◌≡◌, ℕ, suc, ◌+◌, ◌-◌, ◌^◌, ◌<◌, ◌≤◌, Bool, true, false, not, List, [], ◌∷◌, Option, Some, None, find, filter, length, map, if◌then◌else◌, refl, ap, subst, arith}
+use Rattle.std.proofs.Common.{◌≡◌, ℕ, suc, ◌+◌, ◌-◌, ◌^◌, ◌<◌, ◌≤◌, Bool, true, false, not, nat_le, List, [], ◌∷◌, Option, Some, None, find, filter, length, map, if◌then◌else◌, refl, ap, subst, arith}
 use Rattle.std.specs.Prelude.{All, AllPairs, IfSome, IfNone, option_map}
 use Rattle.std.proofs.lemmas.Bool.Decides.{nat_tests}
 use Rattle.std.proofs.lemmas.List.{length-map, length_push}
@@ -57,11 +57,11 @@ module _ {D : Type 0} where
   Rises p q = p.number < q.number
 
   -- ---- what the calls keep
-  pub IsKept-posted : (ops : Operations D) (deed : D) (ct : Handle) (threshold : ℕ) → IsKept ops → length ops.waiting < ops.limit → ops.given < 2 ^ 32 - 1 → IsKept (with_posted deed ct threshold ops)
-  IsKept-posted ops deed ct threshold kept room numbers = record {
+  pub IsKept-posted : (ops : Operations D) (deed : D) (ct : Handle) (threshold sum : ℕ) → IsKept ops → length ops.waiting < ops.limit → ops.given < 2 ^ 32 - 1 → IsKept (with_posted deed ct threshold sum ops)
+  IsKept-posted ops deed ct threshold sum kept room numbers = record {
     rising = all_pairs_push Rises ops.waiting _ kept.rising kept.were_given;
     were_given = All-push (λ p. p.number < ops.given + 1) ops.waiting _ (All-weaker (λ p. p.number < ops.given) (λ p. p.number < ops.given + 1) (λ p lt. omega arith) ops.waiting kept.were_given) (omega arith);
-    limited = omega (arith, length_push ops.waiting (record { number = ops.given; deed = deed; ct = ct; threshold = threshold; told = 0 }));
+    limited = omega (arith, length_push ops.waiting (record { number = ops.given; deed = deed; ct = ct; threshold = threshold; due = nat_le threshold sum }));
     numbers = omega arith;
   }
 

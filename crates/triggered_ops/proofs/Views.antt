@@ -16,7 +16,7 @@ use Rattle.std.proofs.lemmas.Option.{slice_get-map}
 use Rattle.std.proofs.lemmas.List.Filters.{length-filter_both}
 use Rattle.ptl_types.specs.declared.handles.Handle.{Handle}
 use Rattle.triggered_ops.specs.declared.held.Held.{Held}
-use Rattle.triggered_ops.specs.Layout.{operation, operations_of, found_at, is_from, without_those, Key, AreMarked, IsIndexed, IsLaid, waits_in}
+use Rattle.triggered_ops.specs.Layout.{operation, operations_of, found_at, is_from, without_those, Key, AreMarked, AreTold, IsIndexed, IsLaid, waits_at}
 use Rattle.triggered_ops.specs.Operations.{Operation, Operations, IsKept, is_number, operation_at, told_if, told_where, waits_on, waiting_on, with_posted, without_number, cancelled, deed_of, numbered}
 use Rattle.triggered_ops.proofs.Found.{find-found, rising-sorted, same_rising, find-posted, find-told, find-without, find-cancelled}
 use Rattle.triggered_ops.proofs.Rising.{Rises, IsKept-told, IsKept-filter, found_number, find_has, without-absent}
@@ -65,9 +65,9 @@ module _ {D : Type 0} where
   pub waiting-is : (n : BTreeMap ℕ (Held D)) (ps : List (Operation D)) → IsOrdered nat_cmp n → AllPairs Rises ps → ((t : ℕ) → found_at n t ≡ find (is_number t) ps) → map operation n.entries ≡ ps
   waiting-is n ps ordered rising same = same_rising (map operation n.entries) ps (rising-sorted n.entries ordered) rising (λ t. find-found n t ∙ same t)
 
-  pub waiting-posted : (m n : BTreeMap ℕ (Held D)) (given limit : ℕ) (h : Held D) → h.told ≡ 0 → IsKept (with_posted h.deed h.ct h.threshold (operations_of m.entries given limit)) → IsKept (operations_of m.entries given limit) → IsOrdered nat_cmp n → ((t : ℕ) → found_at n t ≡ (if t == given then Some (operation (given, h)) else found_at m t)) → operations_of n.entries (given + 1) limit ≡ with_posted h.deed h.ct h.threshold (operations_of m.entries given limit)
-  waiting-posted m n given limit h unheard more kept ordered found =
-      let p : Operation D = record { number = given; deed = h.deed; ct = h.ct; threshold = h.threshold; told = 0 } in
+  pub waiting-posted : (m n : BTreeMap ℕ (Held D)) (given limit sum : ℕ) (h : Held D) → h.due ≡ nat_le h.threshold sum → IsKept (with_posted h.deed h.ct h.threshold sum (operations_of m.entries given limit)) → IsKept (operations_of m.entries given limit) → IsOrdered nat_cmp n → ((t : ℕ) → found_at n t ≡ (if t == given then Some (operation (given, h)) else found_at m t)) → operations_of n.entries (given + 1) limit ≡ with_posted h.deed h.ct h.threshold sum (operations_of m.entries given limit)
+  waiting-posted m n given limit sum h unheard more kept ordered found =
+      let p : Operation D = record { number = given; deed = h.deed; ct = h.ct; threshold = h.threshold; due = nat_le h.threshold sum } in
       let same : operation (given, h) ≡ p = rw unheard refl in
       let e : map operation n.entries ≡ map operation m.entries ++ p ∷ [] = waiting-is n (map operation m.entries ++ p ∷ []) ordered more.rising (λ t.
       let a : find (is_number t) (map operation m.entries ++ p ∷ []) ≡ (if t == given then Some p else find (is_number t) (map operation m.entries)) = find-posted (map operation m.entries) p t kept.were_given in
@@ -120,12 +120,13 @@ module _ {D : Type 0} where
       ] (in_range a x.0)
 
   -- ---- the parts behind a call, and the whole
-  pub laid : (n : BTreeMap ℕ (Held D)) (index : BTreeSet Key) (old new : Marking) (given limit : ℕ) (ops : Operations D) → operations_of n.entries given limit ≡ ops → IsKept ops → IsOrdered nat_cmp n → IsIndexed n index → AreMarked n new → new.held ≡ old.held → new.room ≡ old.room → All (λ k. k < given) old.held → old.room ≡ 2 * limit → limit ≤ 2 ^ 27 → IsLaid n index new given limit
-  laid n index old new given limit ops is kept ordered indexed marked held same below room small = record {
+  pub laid : (n : BTreeMap ℕ (Held D)) (index : BTreeSet Key) (old new : Marking) (given limit : ℕ) (ops : Operations D) → operations_of n.entries given limit ≡ ops → IsKept ops → IsOrdered nat_cmp n → IsIndexed n index → AreMarked n new → AreTold n → new.held ≡ old.held → new.room ≡ old.room → All (λ k. k < given) old.held → old.room ≡ 2 * limit → limit ≤ 2 ^ 27 → IsLaid n index new given limit
+  laid n index old new given limit ops is kept ordered indexed marked told held same below room small = record {
     kept = rw is kept;
     ordered = ordered;
     indexed = indexed;
     marked = marked;
+    told = told;
     below = rw held below;
     room = same ∙ room;
     small = small;
@@ -151,11 +152,11 @@ module _ {D : Type 0} where
 
   -- what is told keeps its counting event
   pub indexed-told : (m n : BTreeMap ℕ (Held D)) (index : BTreeSet Key) (test : Operation D → Bool) (sum : ℕ) → IsIndexed m index → ((t : ℕ) → found_at n t ≡ option_map (told_if test sum) (found_at m t)) → IsIndexed n index
-  indexed-told m n index test sum indexed found = λ slot stamp t. indexed slot stamp t ∙ sym (ap (waits_in (record { slot = slot; stamp = stamp })) (found t) ∙ still (record { slot = slot; stamp = stamp }) (found_at m t))
+  indexed-told m n index test sum indexed found = λ slot stamp h t. indexed slot stamp h t ∙ sym (ap (waits_at (record { slot = slot; stamp = stamp }) h) (found t) ∙ still (record { slot = slot; stamp = stamp }) h (found_at m t))
     where
-      still : (h : Handle) (o : Option (Operation D)) → waits_in h (option_map (told_if test sum) o) ≡ waits_in h o
-      still h None = refl
-      still h (Some p) = refl
+      still : (ct : Handle) (h : ℕ) (o : Option (Operation D)) → waits_at ct h (option_map (told_if test sum) o) ≡ waits_at ct h o
+      still ct h None = refl
+      still ct h (Some p) = refl
 
   pub shown-at : (es : List (ℕ × Held D)) (given limit : ℕ) (ops : Operations D) (i : ℕ) (e : ℕ × Held D) → operations_of es given limit ≡ ops → Some e ≡ slice_get es i → option_map numbered (slice_get ops.waiting i) ≡ Some (numbered (operation e))
   shown-at es given limit ops i e view is = rw (← view, slice_get-map operation es i, ← is) refl

@@ -1,15 +1,22 @@
 -- How pending operations are stored: as the tuple of their parts.
-use Rattle.std.specs.Prelude.{ℕ, List, refl}
-use Rattle.std.specs.Coded.{Coded, code_by, coded×, coded_ℕ, coded_list}
+use Rattle.std.specs.Prelude.{ℕ, Bool, List, refl}
+use Rattle.std.specs.Coded.{Coded, code_by, coded×, coded_ℕ, coded_bool, coded_list}
 use Rattle.triggered_ops.specs.Operations.{Operation, Operations}
 
 abbrev pub operation_code : {D : Type 0} → Coded D → Coded (Operation D)
 operation_code {D} code =
     code_by
-    (ℕ × (D × (ℕ × (ℕ × (ℕ × ℕ)))))
-    (coded× coded_ℕ (coded× code (coded× coded_ℕ (coded× coded_ℕ (coded× coded_ℕ coded_ℕ)))))
-    (λ p. (p.number, (p.deed, (p.ct.slot, (p.ct.stamp, (p.threshold, p.told))))))
-    (λ q. record { number = q.0; deed = q.1.0; ct = record { slot = q.1.1.0; stamp = q.1.1.1.0 }; threshold = q.1.1.1.1.0; told = q.1.1.1.1.1 })
+    (ℕ × (D × (ℕ × (ℕ × (ℕ × Bool)))))
+    (coded× coded_ℕ (coded× code (coded× coded_ℕ (coded× coded_ℕ (coded× coded_ℕ coded_bool)))))
+    (λ p. (p.number, (p.deed, (p.ct.slot, (p.ct.stamp, (p.threshold, p.due))))))
+    (λ q.
+    record {
+      number = q.0;
+      deed = q.1.0;
+      ct = record { slot = q.1.1.0; stamp = q.1.1.1.0 };
+      threshold = q.1.1.1.1.0;
+      due = q.1.1.1.1.1;
+    })
     (λ _. refl)
 
 abbrev pub operations_code : {D : Type 0} → Coded D → Coded (Operations D)

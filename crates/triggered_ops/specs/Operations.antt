@@ -1,17 +1,18 @@
--- The triggered operations that wait, each with the sum of its counting event that it was last told (Portals 4.3, triggered operations).
+-- The triggered operations that wait, each with whether it is due by what was last told of its counting event (Portals 4.3,
+-- triggered operations).
 use Rattle.std.specs.Prelude.{ℕ, Bool, false, ◌==◌, ◌||◌, not, nat_le, ◌+◌, ◌-◌, ◌^◌, ◌<◌, ◌≤◌, List, [], ◌∷◌, ◌++◌, length, map, filter, find, Option, Some, None, All, AllPairs, if◌then◌else◌}
 use Rattle.ptl_types.specs.declared.handles.Handle.{Handle}
 use Rattle.ptl_types.specs.declared.calls.Deed.{Deed}
 use Rattle.ptl_types.specs.Handles.{same_handle}
 use Rattle.ni_model.specs.State as model
 
--- an operation that waits on ct; its counter was last told to stand at `told`, success and failure together
+-- an operation that waits on ct; it is due where the sum, success and failure together, that was last told of ct is at least its threshold
 pub record Operation (D : Type 0) : Type 0 where
   pub number : ℕ
   pub deed : D
   pub ct : Handle
   pub threshold : ℕ
-  pub told : ℕ
+  pub due : Bool
 
 -- those that wait, by rising number; how many numbers were given, and how many may wait
 pub record Operations (D : Type 0) : Type 0 where
@@ -38,9 +39,9 @@ module _ {D : Type 0} where
   abbrev pub waits_on : Handle → Operation D → Bool
   waits_on ct p = same_handle p.ct ct
 
-  -- the sum that it was told is at least its threshold
+  -- the sum that was last told of its counting event is at least its threshold
   abbrev pub is_due : Operation D → Bool
-  is_due p = nat_le p.threshold p.told
+  is_due p = p.due
 
   -- its deed, its counting event and its threshold
   abbrev pub shown : Operation D → D × Handle × ℕ
@@ -65,7 +66,7 @@ module _ {D : Type 0} where
   is_due_op None = false
   is_due_op (Some p) = is_due p
 
-  -- operation t waits, and the sum that it was told is at least its threshold
+  -- operation t waits, and is due
   abbrev pub is_ready : ℕ → Operations D → Bool
   is_ready t ops = is_due_op (operation_at t ops)
 
@@ -75,13 +76,17 @@ module _ {D : Type 0} where
 
   -- ---- what the calls make of them
 
-  -- one operation more, the newest; it was told 0
-  abbrev pub with_posted : D → Handle → ℕ → Operations D → Operations D
-  with_posted deed ct threshold ops = record ops { waiting = ops.waiting ++ (record { number = ops.given; deed = deed; ct = ct; threshold = threshold; told = 0 }) ∷ []; given = ops.given + 1 }
+  -- one operation more, the newest, which is told this sum
+  abbrev pub with_posted : D → Handle → ℕ → ℕ → Operations D → Operations D
+  with_posted deed ct threshold sum ops = record ops {
+    waiting =
+        ops.waiting ++ (record { number = ops.given; deed = deed; ct = ct; threshold = threshold; due = nat_le threshold sum }) ∷ [];
+    given = ops.given + 1;
+  }
 
   -- an operation that passes a test is told this sum
   abbrev pub told_if : (Operation D → Bool) → ℕ → Operation D → Operation D
-  told_if test sum p = record p { told = if test p then sum else p.told }
+  told_if test sum p = record p { due = if test p then nat_le p.threshold sum else p.due }
 
   -- those that pass it
   abbrev pub told_where : (Operation D → Bool) → ℕ → Operations D → Operations D
@@ -90,10 +95,6 @@ module _ {D : Type 0} where
   -- each that waits on ct
   abbrev pub told : Handle → ℕ → Operations D → Operations D
   told ct sum ops = told_where (waits_on ct) sum ops
-
-  -- the operation of this number alone
-  abbrev pub told_one : ℕ → ℕ → Operations D → Operations D
-  told_one t sum ops = told_where (is_number t) sum ops
 
   -- the operations without the one of this number
   abbrev pub without_number : ℕ → Operations D → Operations D
@@ -118,7 +119,7 @@ module _ {D : Type 0} where
 
   -- ---- as the interface's state has them, where `f` tells what an operation does
 
-  -- without the sum
+  -- without whether it is due
   abbrev pub posted : (D → Deed) → Operation D → model.Posted
   posted f p = record { number = p.number; deed = f p.deed; ct = p.ct; threshold = p.threshold }
 

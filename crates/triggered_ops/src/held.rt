@@ -4,8 +4,8 @@ ghost use Rattle.std.specs.Prelude.{◌≡◌, ◌==◌, ℕ, Bool, true, false,
 ghost use Rattle.std.specs.Ordering.{nat_cmp};
 ghost use Rattle.std.specs.BTreeMap.{IsOrdered, btree_map_len};
 ghost use Rattle.number_marks.specs.Marking.{is_in};
-ghost use Rattle.triggered_ops.specs.Operations.{is_due, is_due_op};
-ghost use Rattle.triggered_ops.specs.Layout.{found_at, with_told, AreMarked};
+ghost use Rattle.triggered_ops.specs.Operations.{is_due_op};
+ghost use Rattle.triggered_ops.specs.Layout.{found_at, with_due, AreMarked};
 
 use number_marks::Marks;
 use ptl_types::Handle;
@@ -20,24 +20,24 @@ pub struct Held<D> {
     pub ct: Handle,
     /// The sum from which on it is due.
     pub threshold: u64,
-    /// The sum that it was last told, 0 at first.
-    pub told: u64,
+    /// Whether it is, as far as its counting event was last told to have come.
+    pub due: bool,
 }
 
-/// Tells an operation a sum, where it waits, and answers whether it is due then.
-fn put_told<D>(operations: &mut BTreeMap<u32, Held<D>>, number: u32, sum: u64) -> Option<bool>
+/// Notes of an operation that it is due or isn't, where it waits, and answers whether it does.
+fn put_due<D>(operations: &mut BTreeMap<u32, Held<D>>, number: u32, due: bool) -> bool
     requires { IsOrdered nat_cmp operations.old }
-    ensures found { (t : ℕ) → found_at operations.new t ≡ (if t == number then option_map (with_told sum) (found_at operations.old t) else found_at operations.old t) }
-    ensures due { result ≡ option_map is_due (found_at operations.new number) }
+    ensures found { (t : ℕ) → found_at operations.new t ≡ (if t == number then option_map (with_due due) (found_at operations.old t) else found_at operations.old t) }
+    ensures waits { result ≡ is_some (found_at operations.new number) }
     ensures len { btree_map_len operations.new ≡ btree_map_len operations.old }
     ensures ordered { IsOrdered nat_cmp operations.new }
 {
     match operations.get_mut(&number) {
         Some(held) => {
-            held.told = sum;
-            Some(held.threshold <= sum)
+            held.due = due;
+            true
         }
-        None => None,
+        None => false,
     }
 }
 
@@ -46,7 +46,7 @@ pub fn is_due_at<D>(operations: &BTreeMap<u32, Held<D>>, number: u32) -> bool
     ensures { result ≡ is_due_op (found_at operations.now number) }
 {
     match operations.get(&number) {
-        Some(held) => held.threshold <= held.told,
+        Some(held) => held.due,
         None => false,
     }
 }
@@ -63,18 +63,18 @@ pub fn unmark<D>(operations: &BTreeMap<u32, Held<D>>, marks: &mut Marks, number:
     }
 }
 
-/// Tells an operation a sum, where it waits, and marks it exactly where it is due.
-pub fn tell<D>(operations: &mut BTreeMap<u32, Held<D>>, marks: &mut Marks, number: u32, sum: u64)
+/// From now on an operation is due or isn't, where it waits.
+pub fn settle<D>(operations: &mut BTreeMap<u32, Held<D>>, marks: &mut Marks, number: u32, due: bool)
     requires ordered { IsOrdered nat_cmp operations.old }
     requires marked { AreMarked operations.old marks.old }
     ensures marked { AreMarked operations.new marks.new }
     ensures held { marks.new.held ≡ marks.old.held }
     ensures room { marks.new.room ≡ marks.old.room }
-    ensures found { (t : ℕ) → found_at operations.new t ≡ (if t == number then option_map (with_told sum) (found_at operations.old t) else found_at operations.old t) }
+    ensures found { (t : ℕ) → found_at operations.new t ≡ (if t == number then option_map (with_due due) (found_at operations.old t) else found_at operations.old t) }
     ensures len { btree_map_len operations.new ≡ btree_map_len operations.old }
     ensures ordered { IsOrdered nat_cmp operations.new }
 {
-    if let Some(due) = put_told(operations, number, sum) {
+    if put_due(operations, number, due) {
         marks.mark(number, due);
     }
 }

@@ -2,13 +2,15 @@
 #![tactic(auto)]
 
 ghost use Rattle.std.specs.Prelude.{◌≡◌, ◌≤◌, ◌<◌, ◌^◌, ◌-◌, ℕ, true, false, Some, None, All, IfSome, IfNone, IfOk, OnOk, OnErr, length, slice_get, option_map};
-ghost use Rattle.triggered_ops.specs.Operations.{no_operations, is_full, operation_at, is_ready, due_numbers, shown, numbered, deed_of, with_posted, told, told_one, without_number, waiting_on, cancelled, IsKept};
+ghost use Rattle.triggered_ops.specs.Operations.{no_operations, is_full, operation_at, is_ready, due_numbers, shown, numbered, deed_of, with_posted, told, without_number, waiting_on, cancelled, IsKept};
+ghost use Rattle.triggered_ops.specs.Layout.{WasTold};
 
 mod held;
 mod index;
 mod parts;
 #[cfg(test)]
 mod tests;
+mod told;
 
 use crate::held::Held;
 use number_marks::Marks;
@@ -21,15 +23,17 @@ use std::marker::Model;
 const MOST: u32 = 1 << 27;
 
 /// The operations that wait, each with a number, a deed of the caller's, its counting event and its threshold. Its value is the
-/// list of them by rising number, with the sum that each was last told, how many numbers were given, and how many may wait.
+/// list of them by rising number, each with whether it is due by what was last told of its counting event, how many numbers were
+/// given, and how many may wait.
 ///
-/// With n that wait, `len` and `ready_count` take a constant number of steps, and `post` (over many of them), `tell`, `is_ready`,
-/// `ready`, `ready_at`, `get`, `next` and `take` the order of log n; `reached` and `cancel` take as many for each operation that waits on that counting event, and touch no other. `at`
-/// passes over the operations before its place.
+/// With n that wait, `len` and `ready_count` take a constant number of steps, and `post` (over many of them), `is_ready`, `ready`,
+/// `ready_at`, `get`, `next` and `take` the order of log n. `reached` takes as many, and as many again for each operation that
+/// becomes due or no longer is, however many wait on that counting event; `cancel` for each that waits on it. `at` passes over the
+/// operations before its place.
 #[derive(Drop)]
 pub struct Pending<D> {
     operations: BTreeMap<u32, Held<D>>,
-    index: BTreeSet<(u32, u64, u32)>,
+    index: BTreeSet<(u32, u64, u64, u32)>,
     marks: Marks,
     alloc: Global,
     given: u32,
@@ -78,18 +82,10 @@ impl<D> Pending<D> {
     pub fn reached(&mut self, ct: Handle, sum: u64)
         ensures does { self.new ≡ told ct sum self.old }
     {
-        parts::tell_all(&mut self.operations, &self.index, &mut self.marks, ct, sum);
+        told::tell_all(&mut self.operations, &self.index, &mut self.marks, ct, sum);
     }
 
-    /// Tells a sum to the operation of this number alone; nothing changes where it doesn't wait.
-    pub fn tell(&mut self, number: u32, sum: u64)
-        ensures does { self.new ≡ told_one number sum self.old }
-    {
-        held::tell(&mut self.operations, &mut self.marks, number, sum);
-    }
-
-    /// The number of an operation whose told sum is at least its threshold; `None` exactly where there is none. Which of
-    /// them it is stays open.
+    /// The number of an operation that is due; `None` exactly where there is none. Which of them it is stays open.
     pub fn ready(&self) -> Option<u32>
         ensures some { IfSome result (λ t. is_ready t self.now ≡ true) }
         ensures none { IfNone result ((t : ℕ) → is_ready t self.now ≡ false) }
@@ -101,17 +97,17 @@ impl<D> Pending<D> {
         }
     }
 
-    /// Whether the operation of this number waits and its told sum is at least its threshold.
+    /// Whether the operation of this number waits and is due.
     pub fn is_ready(&self, number: u32) -> bool
         ensures told { result ≡ is_ready number self.now }
     {
         match self.operations.get(&number) {
-            Some(held) => held.threshold <= held.told,
+            Some(held) => held.due,
             None => false,
         }
     }
 
-    /// How many there are whose told sum is at least their threshold.
+    /// How many are due.
     pub fn ready_count(&self) -> u32
         ensures told { result ≡ length (due_numbers self.now) }
         ensures kept { IsKept self.now }
@@ -205,14 +201,28 @@ impl<D: Drop> Pending<D> {
         })
     }
 
-    /// Posts an operation and answers its number, which none that waits has; it was told 0. Where memory is wanting the deed is dropped and nothing else
-    /// changes.
-    pub fn post(&mut self, deed: D, ct: Handle, threshold: u64) -> Result<u32, NoMemory>
+    /// Tells the sum of a counting event, posts an operation that waits on it and answers its number, which none that waits has.
+    /// Where memory is wanting the deed is dropped, and the sum alone is told.
+    pub fn post(&mut self, deed: D, ct: Handle, threshold: u64, sum: u64) -> Result<u32, NoMemory>
         requires room { length self.old.waiting < self.old.limit }
         requires numbers { self.old.given < 2 ^ 32 - 1 }
         ensures number { IfOk result (λ t. t ≡ self.old.given) }
         ensures fresh { IfOk result (λ t. operation_at t self.old ≡ None) }
-        ensures ok { OnOk result (self.new ≡ with_posted deed ct threshold self.old) }
+        ensures ok { OnOk result (self.new ≡ with_posted deed ct threshold sum (told ct sum self.old)) }
+        ensures err { OnErr result (self.new ≡ told ct sum self.old) }
+    {
+        self.reached(ct, sum);
+        self.enter(deed, ct, threshold, sum)
+    }
+
+    /// Puts an operation in that waits on a counting event which was last told this sum.
+    fn enter(&mut self, deed: D, ct: Handle, threshold: u64, sum: u64) -> Result<u32, NoMemory>
+        requires room { length self.old.waiting < self.old.limit }
+        requires numbers { self.old.given < 2 ^ 32 - 1 }
+        requires told { WasTold ct sum self.old }
+        ensures number { IfOk result (λ t. t ≡ self.old.given) }
+        ensures fresh { IfOk result (λ t. operation_at t self.old ≡ None) }
+        ensures ok { OnOk result (self.new ≡ with_posted deed ct threshold sum self.old) }
         ensures err { OnErr result (self.new ≡ self.old) }
     {
         let number = self.given;
@@ -220,7 +230,7 @@ impl<D: Drop> Pending<D> {
             deed,
             ct,
             threshold,
-            told: 0,
+            due: threshold <= sum,
         };
         parts::make_room(
             self.alloc,

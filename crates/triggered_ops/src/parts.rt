@@ -1,14 +1,14 @@
 //! The calls over the parts of the pending operations: the operations by number, the index by counting event and the marks
 //! on those that are due.
 
-ghost use Rattle.std.specs.Prelude.{◌≡◌, ◌<◌, ◌==◌, ◌+◌, ◌-◌, ◌^◌, ◌≤◌, ◌++◌, ◌∷◌, [], ◌⊎◌, ℕ, Some, None, IsSome, is_some, IfOk, OnOk, OnErr, if◌then◌else◌, option_map, length, All};
+ghost use Rattle.std.specs.Prelude.{◌≡◌, ◌<◌, ◌==◌, ◌+◌, ◌^◌, ◌≤◌, ◌++◌, ◌∷◌, [], ◌⊎◌, ℕ, Some, None, is_some, IfOk, OnOk, OnErr, if◌then◌else◌, option_map, length, All};
 ghost use Rattle.std.specs.Map.{keys_of};
 ghost use Rattle.std.specs.Ordering.{nat_cmp};
 ghost use Rattle.std.specs.BTreeMap.{IsOrdered, btree_map_len};
-ghost use Rattle.triggered_ops.specs.Operations.{deed_of, told_if, waits_on};
+ghost use Rattle.triggered_ops.specs.Operations.{deed_of};
 ghost use Rattle.triggered_ops.specs.Layout.{operation, found_at, without_those, AreMarked, IsIndexed};
 
-use crate::held::{Held, is_due_at, tell, unmark};
+use crate::held::{Held, is_due_at, unmark};
 use crate::index::first_on;
 use number_marks::Marks;
 use ptl_types::{Handle, NoMemory};
@@ -18,7 +18,7 @@ use std::collections::{BTreeMap, BTreeSet};
 /// Puts a further operation in, with no place. Where memory is wanting it is dropped and nothing changes.
 fn add<D: Drop>(
     operations: &mut BTreeMap<u32, Held<D>>,
-    index: &mut BTreeSet<(u32, u64, u32)>,
+    index: &mut BTreeSet<(u32, u64, u64, u32)>,
     number: u32,
     held: Held<D>,
 ) -> Result<(), NoMemory>
@@ -31,7 +31,7 @@ fn add<D: Drop>(
     ensures err { OnErr result (operations.new.entries ≡ operations.old.entries) }
     ensures len { OnOk result (btree_map_len operations.new ≡ btree_map_len operations.old + 1) }
 {
-    let key = (held.ct.slot, held.ct.stamp, number);
+    let key = (held.ct.slot, held.ct.stamp, held.threshold, number);
     match index.insert(key) {
         Ok(_) => {}
         Err(_) => return Err(NoMemory),
@@ -45,16 +45,15 @@ fn add<D: Drop>(
     }
 }
 
-/// Puts a further operation in, which was told 0, and marks it where it is due.
+/// Puts a further operation in, and marks it where it is due.
 pub fn post<D: Drop>(
     operations: &mut BTreeMap<u32, Held<D>>,
-    index: &mut BTreeSet<(u32, u64, u32)>,
+    index: &mut BTreeSet<(u32, u64, u64, u32)>,
     marks: &mut Marks,
     number: u32,
     held: Held<D>,
 ) -> Result<(), NoMemory>
     requires apart { found_at operations.old number ≡ None }
-    requires told { held.told ≡ 0 }
     requires indexed { IsIndexed operations.old index.old }
     requires marked { AreMarked operations.old marks.old }
     requires above { All (λ n. n < number) marks.old.held }
@@ -122,7 +121,7 @@ pub fn make_room<D>(
 /// Takes an operation out of all parts.
 pub fn take_out<D>(
     operations: &mut BTreeMap<u32, Held<D>>,
-    index: &mut BTreeSet<(u32, u64, u32)>,
+    index: &mut BTreeSet<(u32, u64, u64, u32)>,
     marks: &mut Marks,
     number: u32,
 ) -> Option<D>
@@ -141,42 +140,17 @@ pub fn take_out<D>(
     unmark(operations, marks, number);
     match operations.remove(&number) {
         Some(held) => {
-            let _ = index.remove(&(held.ct.slot, held.ct.stamp, number));
+            let _ = index.remove(&(held.ct.slot, held.ct.stamp, held.threshold, number));
             Some(held.deed)
         }
         None => None,
     }
 }
 
-/// Tells a sum to the operations that wait on a counting event.
-pub fn tell_all<D>(
-    operations: &mut BTreeMap<u32, Held<D>>,
-    index: &BTreeSet<(u32, u64, u32)>,
-    marks: &mut Marks,
-    ct: Handle,
-    sum: u64,
-)
-    requires indexed { IsIndexed operations.old index.now }
-    requires marked { AreMarked operations.old marks.old }
-    requires ordered { IsOrdered nat_cmp operations.old }
-    requires below { (t : ℕ) → IsSome (found_at operations.old t) → t < 2 ^ 32 - 1 }
-    ensures marked { AreMarked operations.new marks.new }
-    ensures found { (t : ℕ) → found_at operations.new t ≡ option_map (told_if (waits_on ct) sum) (found_at operations.old t) }
-    ensures held { marks.new.held ≡ marks.old.held }
-    ensures room { marks.new.room ≡ marks.old.room }
-    ensures ordered { IsOrdered nat_cmp operations.new }
-{
-    let mut from = 0;
-    while let Some(number) = first_on(index, ct, from) {
-        tell(operations, marks, number, sum);
-        from = number + 1;
-    }
-}
-
 /// Takes the operations that wait on a counting event out of all parts.
 pub fn drop_all<D: Drop>(
     operations: &mut BTreeMap<u32, Held<D>>,
-    index: &mut BTreeSet<(u32, u64, u32)>,
+    index: &mut BTreeSet<(u32, u64, u64, u32)>,
     marks: &mut Marks,
     ct: Handle,
 )
@@ -190,7 +164,7 @@ pub fn drop_all<D: Drop>(
     ensures room { marks.new.room ≡ marks.old.room }
     ensures ordered { IsOrdered nat_cmp operations.new }
 {
-    while let Some(number) = first_on(index, ct, 0) {
+    while let Some((_, number)) = first_on(index, ct, (0, 0)) {
         let _ = take_out(operations, index, marks, number);
     }
 }

@@ -26,8 +26,8 @@ fn none_pends_at_first(rt: HostRuntime) -> Result<(), Fail> {
 #[test]
 fn an_operation_is_ready_while_its_sum_is_at_its_threshold(rt: HostRuntime) -> Result<(), Fail> {
     let mut pending = Pending::open(rt.alloc(), 2)?;
-    assert_eq!(rt; pending.post(7u8, GO, 2), Ok(0));
-    assert_eq!(rt; pending.post(8, AGAIN, 2), Ok(1));
+    assert_eq!(rt; pending.post(7u8, GO, 2, 0), Ok(0));
+    assert_eq!(rt; pending.post(8, AGAIN, 2, 0), Ok(1));
     assert!(rt; pending.is_full());
     pending.reached(GO, 3);
     assert_eq!(rt; pending.ready(), Some(0));
@@ -35,14 +35,13 @@ fn an_operation_is_ready_while_its_sum_is_at_its_threshold(rt: HostRuntime) -> R
     assert!(rt; !pending.is_ready(1));
     pending.reached(GO, 1);
     assert_eq!(rt; pending.ready(), None);
-    pending.tell(0, 2);
-    pending.tell(2, 2);
+    pending.reached(GO, 2);
     assert_eq!(rt; pending.ready(), Some(0));
     assert!(rt; !pending.is_ready(1));
     assert_eq!(rt; pending.take(0), Some(7));
     assert_eq!(rt; pending.ready(), None);
     assert_eq!(rt; pending.len(), 1);
-    assert_eq!(rt; pending.post(9, GO, 0), Ok(2));
+    assert_eq!(rt; pending.post(9, GO, 0, 2), Ok(2));
     assert_eq!(rt; pending.ready(), Some(2));
     assert_eq!(rt; pending.given(), 3);
     Ok(())
@@ -51,9 +50,9 @@ fn an_operation_is_ready_while_its_sum_is_at_its_threshold(rt: HostRuntime) -> R
 #[test]
 fn a_walk_passes_those_that_were_cancelled(rt: HostRuntime) -> Result<(), Fail> {
     let mut pending = Pending::open(rt.alloc(), 3)?;
-    assert_eq!(rt; pending.post(7u8, GO, 1), Ok(0));
-    assert_eq!(rt; pending.post(8, AGAIN, 1), Ok(1));
-    assert_eq!(rt; pending.post(9, GO, 1), Ok(2));
+    assert_eq!(rt; pending.post(7u8, GO, 1, 0), Ok(0));
+    assert_eq!(rt; pending.post(8, AGAIN, 1, 0), Ok(1));
+    assert_eq!(rt; pending.post(9, GO, 1, 0), Ok(2));
     pending.reached(AGAIN, 1);
     pending.reached(GO, 1);
     assert_eq!(rt; pending.cancel(AGAIN), 1);
@@ -76,9 +75,9 @@ fn a_walk_passes_those_that_were_cancelled(rt: HostRuntime) -> Result<(), Fail> 
 #[test]
 fn the_ready_ones_are_told_in_order_of_their_numbers(rt: HostRuntime) -> Result<(), Fail> {
     let mut pending = Pending::open(rt.alloc(), 3)?;
-    assert_eq!(rt; pending.post(7u8, GO, 2), Ok(0));
-    assert_eq!(rt; pending.post(8, AGAIN, 1), Ok(1));
-    assert_eq!(rt; pending.post(9, GO, 1), Ok(2));
+    assert_eq!(rt; pending.post(7u8, GO, 2, 0), Ok(0));
+    assert_eq!(rt; pending.post(8, AGAIN, 1, 0), Ok(1));
+    assert_eq!(rt; pending.post(9, GO, 1, 0), Ok(2));
     assert_eq!(rt; pending.ready_count(), 0);
     pending.reached(GO, 2);
     assert_eq!(rt; pending.ready_count(), 2);
@@ -92,16 +91,38 @@ fn the_ready_ones_are_told_in_order_of_their_numbers(rt: HostRuntime) -> Result<
 #[test]
 fn one_stays_ready_while_many_come_and_go(rt: HostRuntime) -> Result<(), Fail> {
     let mut pending = Pending::open(rt.alloc(), 2)?;
-    assert_eq!(rt; pending.post(7u8, GO, 1), Ok(0));
+    assert_eq!(rt; pending.post(7u8, GO, 1, 0), Ok(0));
     pending.reached(GO, 1);
     for number in 1..20 {
         if !pending.is_full() {
-            assert_eq!(rt; pending.post(8, AGAIN, 0), Ok(number));
+            assert_eq!(rt; pending.post(8, AGAIN, 0, 0), Ok(number));
             assert_eq!(rt; pending.ready_count(), 2);
             assert_eq!(rt; pending.ready(), Some(0));
             assert_eq!(rt; pending.take(number), Some(8));
         }
     }
     assert_eq!(rt; pending.ready_count(), 1);
+    Ok(())
+}
+
+#[test]
+fn a_change_makes_ready_what_its_sum_reaches(rt: HostRuntime) -> Result<(), Fail> {
+    let mut pending = Pending::open(rt.alloc(), 6)?;
+    for threshold in [3, 1, 3, 2, 5] {
+        if !pending.is_full() {
+            pending.post(7u8, GO, threshold, 2)?;
+        }
+    }
+    if !pending.is_full() {
+        assert_eq!(rt; pending.post(8, AGAIN, 4, 3), Ok(5));
+    }
+    let counts = [0, 1, 2, 3, 9, 2, u64::MAX, 0].map(|sum| {
+        pending.reached(GO, sum);
+        pending.ready_count()
+    });
+    assert_eq!(rt; counts, [0, 1, 2, 4, 5, 2, 5, 0]);
+    pending.reached(GO, 3);
+    let numbers = [0, 1, 2, 3, 4, 5].map(|number| pending.is_ready(number));
+    assert_eq!(rt; numbers, [true, true, true, true, false, false]);
     Ok(())
 }

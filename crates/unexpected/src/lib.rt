@@ -1,9 +1,9 @@
 //! The unexpected headers of an interface, in the order of arrival (Portals 4.3, unexpected messages).
 #![tactic(auto)]
 
-ghost use Rattle.std.specs.Prelude.{◌≡◌, ◌<◌, ◌≤◌, ◌+◌, ◌++◌, ◌∷◌, [], ◌↔◌, IsTrue, IfOk, vec_capacity, vec_len, drop, take, slice_set, IfNone, IfSome, Some, None, slice_index_or, remove, length, nat_lt, option_copied};
+ghost use Rattle.std.specs.Prelude.{◌≡◌, ◌<◌, ◌≤◌, ◌+◌, ◌++◌, ◌∷◌, [], ◌↔◌, IsTrue, IfOk, vec_capacity, vec_len, drop, take, slice_set, IfNone, IfSome, Some, None, slice_index_or, remove, length, option_copied};
 ghost use Rattle.ni_model.specs.declared.Noted.{Noted as Header};
-ghost use Rattle.ni_model.specs.Headers.{held, allows as allowed_by, finds as found_by, oldest, without_oldest, names_entry, headers_of, no_room};
+ghost use Rattle.ni_model.specs.Headers.{held, allows as allowed_by, finds as found_by, oldest, without_oldest, names_entry, no_room};
 ghost use Rattle.unexpected.specs.Places.{noted as as_noted, header_at};
 
 use ni_model::Noted;
@@ -67,18 +67,6 @@ fn some_lies_in(noted: &[Noted], entry: Handle) -> bool
 {
     for x in noted {
         if x.header.entry.is(entry) {
-            return true;
-        }
-    }
-    false
-}
-
-/// Whether a header of this index is among them.
-fn some_is_of(noted: &[Noted], pt: u32) -> bool
-    ensures { result ≡ nat_lt 0 (length (headers_of pt noted.now)) }
-{
-    for x in noted {
-        if x.pt == pt {
             return true;
         }
     }
@@ -230,13 +218,6 @@ impl Headers {
         ensures { result ≡ names_entry entry self.now.noted }
     {
         some_lies_in(self.as_slice(), entry)
-    }
-
-    /// Whether a header of this index waits.
-    pub fn waits_at(&self, pt: u32) -> bool
-        ensures { result ≡ nat_lt 0 (length (headers_of pt self.now.noted)) }
-    {
-        some_is_of(self.as_slice(), pt)
     }
 
     /// Header number i of an index in the order of arrival, from 0; `None` exactly where the index has no more than i.

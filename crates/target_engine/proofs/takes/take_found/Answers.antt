@@ -1,10 +1,11 @@
 use Rattle.std.proofs.Common.{◌<◌, ◌++◌, length, refl, sym, ap, ◌∙◌, arith}
 use Rattle.ni_model.specs.Headers.{found_in, left_in}
-use Rattle.target_engine.specs.Shelves.{seen_in}
+use Rattle.target_engine.specs.Shelves.{seen_in, lies_in}
+use Rattle.target_engine.proofs.Counted.{counted-same, counted-gone, long-taken}
 use Rattle.target_engine.proofs.Headers.{noted-parts}
 use Rattle.target_engine.proofs.Placed.{placed-noted}
 use Rattle.target_engine.proofs.Records.{given-by, limit-by}
-use Rattle.target_engine.proofs.Taking.{taken-told, taken-placed, step-found, step-later, step-rose, step-same, step-gone, step-kept}
+use Rattle.target_engine.proofs.Taking.{one-between, taken-told, taken-placed, step-found, step-later, step-rose, step-same, step-gone, step-kept}
 use Rattle.target_engine.proofs.takes.take_found.Goals as goal
 use Rattle.target_engine.proofs.takes.take_found.Goals.{then-finds, else-finds}
 
@@ -17,7 +18,9 @@ loop-at-init c =
       told = refl;
       counts = refl;
       rose = refl;
-      placed = placed-noted (seen_in c.args.indices.now) xs (left_in c.args.pt c.args.entry.now xs ++ found_in c.args.pt c.args.entry.now xs) c.args.places.now c.requires (λ p. noted-parts p c.args.pt c.args.entry.now xs);
+      placed = placed-noted (seen_in c.args.indices.now) xs (left_in c.args.pt c.args.entry.now xs ++ found_in c.args.pt c.args.entry.now xs) c.args.records.now.places c.requires.placed (λ p. noted-parts (lies_in p) c.args.pt c.args.entry.now xs);
+      users = counted-same xs (left_in c.args.pt c.args.entry.now xs ++ found_in c.args.pt c.args.entry.now xs) c.args.records.now c.requires.counted (λ p. noted-parts p c.args.pt c.args.entry.now xs);
+      long = refl;
       given = refl;
       limit = refl;
     }
@@ -38,15 +41,19 @@ loop-at-preserved c =
           let step = step-found pt e xs ys zs k i _ _ c.finds.ensures c.as_slice.ensures h.sifted lt w.if-finds.true in
           let was = rw step at h.placed in
           let told = rw step at h.told in
+          let users = rw step at h.users in
+          let gone = w.take_header.ensures.gone in
           record {
             sifted = rw (w.headers-is, w.kept-is) (step-gone pt e xs ys zs k i _ _ c.finds.ensures c.as_slice.ensures h.sifted lt w.if-finds.true);
             room = rw w.headers-is h.room;
             told = rw (w.eqs-is, w.take_header.ensures.told) (taken-told _ _ _ _ _ _ was ∙ told);
             counts = rw (w.cts-is, w.take_header.ensures.counts) (rw step at h.counts);
             rose = rw (w.counted-is, w.overflow_counter-counted.ensures) (sym (step-rose pt e xs ys zs k i _ _ c.finds.ensures c.as_slice.ensures h.sifted lt w.if-finds.true));
-            placed = rw (w.places-is, w.take_header.ensures.placed) (taken-placed _ _ _ _ _ was);
-            given = rw (w.places-is, w.take_header.ensures.placed, given-by) h.given;
-            limit = rw (w.places-is, w.take_header.ensures.placed, limit-by) h.limit;
+            placed = rw (w.records-is, gone) (taken-placed _ _ _ _ _ was);
+            users = rw (w.records-is, gone) (counted-gone _ _ _ _ users was.once (one-between _ _ _));
+            long = rw w.records-is (long-taken _ _ _ _ _ users gone ∙ h.long);
+            given = rw (w.records-is, gone, given-by) h.given;
+            limit = rw (w.records-is, gone, limit-by) h.limit;
           }
       | else-finds w ↦
           let step = step-later pt e xs ys zs k i _ _ c.finds.ensures c.as_slice.ensures h.sifted lt w.if-finds.false in
@@ -56,8 +63,10 @@ loop-at-preserved c =
             told = rw w.eqs-is (rw step at h.told);
             counts = rw w.cts-is (rw step at h.counts);
             rose = rw (w.counted-is, step-same pt e xs ys zs k i _ _ c.finds.ensures c.as_slice.ensures h.sifted lt w.if-finds.false) h.rose;
-            placed = rw w.places-is (rw step at h.placed);
-            given = rw w.places-is h.given;
-            limit = rw w.places-is h.limit;
+            placed = rw w.records-is (rw step at h.placed);
+            users = rw w.records-is (rw step at h.users);
+            long = rw w.records-is h.long;
+            given = rw w.records-is h.given;
+            limit = rw w.records-is h.limit;
           }
     ]

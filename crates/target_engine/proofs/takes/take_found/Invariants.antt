@@ -1,9 +1,9 @@
-use Rattle.std.proofs.Common.{◌≡◌, [], ◌++◌, not, take, drop}
+use Rattle.std.proofs.Common.{◌≡◌, [], ◌++◌, not, length, take, drop}
 use Rattle.std.proofs.lemmas.List.Filters.{FiltersInPlace}
 use Rattle.ni_model.specs.declared.Noted.{Noted}
 use Rattle.ni_model.specs.Headers.{held, finds, found_in, left_in}
 use Rattle.ni_model.specs.Append.{overflow_counter, each_counted, each_gone, counted_by}
-use Rattle.target_engine.specs.Shelves.{seen_in, ArePlaced}
+use Rattle.target_engine.specs.Shelves.{seen_in, ArePlaced, AreCounted}
 use Rattle.target_engine.specs.Sides.{side}
 use Rattle.target_engine.proofs.takes.take_found.Given as goal
 
@@ -20,7 +20,9 @@ invariant-loop-at l =
           each_counted (overflow_counter l.entry) (found_in l.pt l.entry (drop l.at xs)) l.cts
           ≡ each_counted (overflow_counter l.entry) (found_in l.pt l.entry xs) l.fn.cts;
       rose : l.counted ≡ counted_by l.entry (found_in l.pt l.entry (take l.at xs));
-      placed : ArePlaced (seen_in l.indices) (left_in l.pt l.entry xs ++ found_in l.pt l.entry (drop l.at xs)) l.places;
-      given : l.places.given ≡ l.fn.places.given;
-      limit : l.places.limit ≡ l.fn.places.limit;
+      placed : ArePlaced (seen_in l.indices) (left_in l.pt l.entry xs ++ found_in l.pt l.entry (drop l.at xs)) l.records.places;
+      users : AreCounted (left_in l.pt l.entry xs ++ found_in l.pt l.entry (drop l.at xs)) l.records;
+      long : length l.records.waiting ≡ length l.fn.records.waiting;
+      given : l.records.places.given ≡ l.fn.records.places.given;
+      limit : l.records.places.limit ≡ l.fn.records.places.limit;
     }

@@ -11,5 +11,5 @@ returns-in-Ok-insert-clause-indexed g c =
 
 pub returns-clause-indexed : goal.returns-clause-indexed
 returns-clause-indexed g c =
-    tells-undo (contains key_cmp c.args.index.now) (contains key_cmp c.insert.new.self) (contains key_cmp c.remove.new.self) (found_at c.args.operations.now) (found_at c.insert-2.new.self) (c.args.held.ct.slot, c.args.held.ct.stamp, c.args.number) c.in-Ok.ensures.updates.0 c.remove.ensures.updates.0
+    tells-undo (contains key_cmp c.args.index.now) (contains key_cmp c.insert.new.self) (contains key_cmp c.remove.new.self) (found_at c.args.operations.now) (found_at c.insert-2.new.self) (c.args.held.ct.slot, c.args.held.ct.stamp, c.args.held.threshold, c.args.number) c.in-Ok.ensures.updates.0 c.remove.ensures.updates.0
     (found-same c.args.operations.now c.insert-2.new.self c.in-Err-insert.ensures.err) c.requires.apart c.requires.indexed

@@ -1,9 +1,33 @@
-use Rattle.std.proofs.Common.{sym, ◌∙◌}
-use Rattle.portals_ni.proofs.Equations.{free-ends}
+use Rattle.std.proofs.Common.{◌≡◌, true, sym, ◌∙◌, arith}
+use Rattle.ni_model.specs.Tables.{is_live}
+use Rattle.user_counts.specs.Rows.{HasOwnSlot}
+use Rattle.user_counts.proofs.SlotLemmas.{own-slot, slot-found}
+use Rattle.portals_ni.proofs.Alone.{indices-alone, bound-cts-alone}
+use Rattle.portals_ni.proofs.Equations.{free-ends, live-true}
 use Rattle.portals_ni.proofs.Walks.{freed-sound}
 use Rattle.portals_ni.proofs.Stands.{ended-stands}
 use Rattle.portals_ni.proofs.Freed.{ct_free-stands}
 use Rattle.portals_ni.proofs.nic.Nic.ct_free.Goals as goal
+
+pub names_ct-requires : goal.names_ct-requires
+names_ct-requires c =
+    let n = c.self.inside in
+    let at = c.at-found.ensures in
+    let live : is_live c.args.ct n.cts ≡ true = live-true c.is_live.result _ c.is_live.ensures c.if-not-is_live.false in
+    let own : HasOwnSlot c.args.ct n.cts = own-slot c.at-found.result (λ p. p.0) c.args.ct n.cts live at.none at.alone in
+    let below = at.below (slot-found c.at-found.result c.args.ct n.cts live at.none) in
+    record {
+      within = omega (arith, below, c.self.invariant.stands.limits.counting_events);
+      alone = bound-cts-alone c.args.ct n.cts n.eqs n.initiator.mds.live own c.self.invariant.stands.names.descriptors;
+    }
+
+pub names_ct-requires-else-names_ct : goal.names_ct-requires-else-names_ct
+names_ct-requires-else-names_ct c =
+    let n = c.self.inside in
+    let at = c.at-found.ensures in
+    let live : is_live c.args.ct n.cts ≡ true = live-true c.is_live.result _ c.is_live.ensures c.if-not-is_live.false in
+    let own : HasOwnSlot c.args.ct n.cts = own-slot c.at-found.result (λ p. p.0) c.args.ct n.cts live at.none at.alone in
+    record { alone = indices-alone c.args.ct n.cts n.target.indices own c.self.invariant.stands.names.entries }
 
 pub invariant_of-self : goal.invariant_of-self
 invariant_of-self c =

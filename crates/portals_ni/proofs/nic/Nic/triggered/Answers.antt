@@ -1,16 +1,17 @@
-use Rattle.std.proofs.Common.{◌≡◌, ℕ, ◌≤◌, None, refl, sym, ap, subst, ◌∙◌, arith}
+use Rattle.std.proofs.Common.{◌≡◌, ◌≤◌, None, refl, sym, ap, subst, ◌∙◌, arith}
 use Rattle.std.proofs.lemmas.Result.{err_from_is_err_and}
 use Rattle.ni_model.specs.Refusals.{triggered_fault}
 use Rattle.ni_model.specs.Conditions.{MayStart}
 use Rattle.ni_model.specs.State.{State}
 use Rattle.initiator_engine.specs.Initiators.{room_for}
-use Rattle.triggered_ops.specs.Operations.{posted_all, operation_at, with_posted}
+use Rattle.ni_model.specs.Counts.{total}
+use Rattle.triggered_ops.specs.Operations.{posted_all, told, with_posted}
 use Rattle.portals_ni.specs.declared.armed.Armed.{Armed}
-use Rattle.portals_ni.specs.Pendings.{deed_in, told_new}
-use Rattle.portals_ni.specs.Sound.{IsSound}
-use Rattle.portals_ni.proofs.Kept.{post-sound, posts-armed, posts-live, may-start}
+use Rattle.portals_ni.specs.Pendings.{deed_in, sum_at}
+use Rattle.portals_ni.specs.Sound.{IsSound, Stands}
+use Rattle.portals_ni.proofs.Kept.{post-sound, told-sound, posts-armed, posts-live, may-start}
 use Rattle.portals_ni.proofs.Ends.{no-fault, fault-is, enough-refused, lacks}
-use Rattle.portals_ni.proofs.Equations.{post-may}
+use Rattle.portals_ni.proofs.Equations.{post-may, told-state}
 use Rattle.portals_ni.proofs.Stands.{may-stands, triggered-stands}
 use Rattle.portals_ni.proofs.nic.Nic.triggered.Goals as goal
 
@@ -23,31 +24,42 @@ pub returns-in-Err : goal.returns-in-Err
 returns-in-Err c =
     record { does = rw (← c.self.view_is) (lacks _ _ _ _ (no-fault _ (sym c.check_triggered.ensures ∙ c.in_ok-check_triggered.was))) }
 
-pub invariant_of-self : goal.invariant_of-self
-invariant_of-self c =
+pub invariant_of-self-2 : goal.invariant_of-self-2
+invariant_of-self-2 c =
     let n = c.self.inside in
     let armed : Armed = record { deed = c.args.deed; room = c.in-Ok.room } in
     let none : triggered_fault c.args.deed c.args.ct n.cts n.initiator.mds (posted_all deed_in n.pending) ≡ None = no-fault _ (sym c.check_triggered.ensures ∙ c.in_ok-check_triggered.was) in
     let may : MayStart c.args.deed n.initiator.ranks n.initiator.limits = may-start c.args.deed n.initiator.ranks n.target.limit n.initiator.limits c.self.invariant.sound.limit (subst (λ (s : State). MayStart c.args.deed s.ranks s.limits) (sym c.self.view_is) c.requires) in
     let room : room_for c.args.deed ≤ c.in-Ok.room.room = rw (c.in-Ok.ensures, c.room_for.ensures) (omega arith) in
     let live = posts-live c.args.deed c.args.ct n.cts n.initiator.mds (posted_all deed_in n.pending) none in
-    let told : c.tell_new.new.pending ≡ told_new n.pending.given c.args.ct n.cts (with_posted armed c.args.ct c.args.threshold n.pending) = c.tell_new.ensures ∙ rw (c.in-Ok-post.ensures.number, c.in-Ok-post.ensures.ok) refl in
-    let fresh : operation_at n.pending.given n.pending ≡ None = subst (λ (t : ℕ). operation_at t n.pending ≡ None) c.in-Ok-post.ensures.number c.in-Ok-post.ensures.fresh in
-    let may-be = post-may n.target n.region n.cts n.eqs n.initiator n.pending n.drops n.violations c.args.deed c.args.ct c.args.threshold n.pending.given armed c.tell_new.new.pending none refl refl told in
+    let sum : c.sum_of-sum.result ≡ total live.0 = c.sum_of-sum.ensures ∙ ap sum_at live.1 in
+    let made : c.post.new.self ≡ with_posted armed c.args.ct c.args.threshold (total live.0) (told c.args.ct (total live.0) n.pending) = rw sum at c.in-Ok-post.ensures.ok in
+    let may-be = post-may n.target n.region n.cts n.eqs n.initiator n.pending n.drops n.violations c.args.deed c.args.ct c.args.threshold (total live.0) n.pending.given armed c.post.new.self none refl refl made in
     record {
-      sound = subst (IsSound n.target n.region n.cts n.initiator) (sym told) (post-sound n.target n.region n.cts n.initiator n.pending armed c.args.ct c.args.threshold live.0 c.self.invariant.sound (posts-armed c.args.deed c.args.ct n.cts n.initiator.mds (posted_all deed_in n.pending) n.initiator.ranks n.initiator.limits c.in-Ok.room none may room) live.1 fresh);
+      sound = subst (IsSound n.target n.region n.cts n.initiator) (sym made) (post-sound n.target n.region n.cts n.initiator n.pending armed c.args.ct c.args.threshold live.0 c.self.invariant.sound (posts-armed c.args.deed c.args.ct n.cts n.initiator.mds (posted_all deed_in n.pending) n.initiator.ranks n.initiator.limits c.in-Ok.room none may room) live.1);
       stands = may-stands _ _ _ _ may-be c.self.invariant.stands (triggered-stands c.args.deed c.args.ct c.args.threshold _ c.self.invariant.stands);
     }
 
-pub returns-in-Ok-post : goal.returns-in-Ok-post
-returns-in-Ok-post c =
+pub invariant_of-self : goal.invariant_of-self
+invariant_of-self c =
+    let n = c.self.inside in
+    let none : triggered_fault c.args.deed c.args.ct n.cts n.initiator.mds (posted_all deed_in n.pending) ≡ None = no-fault _ (sym c.check_triggered.ensures ∙ c.in_ok-check_triggered.was) in
+    let live = posts-live c.args.deed c.args.ct n.cts n.initiator.mds (posted_all deed_in n.pending) none in
+    let sum : c.sum_of-sum.result ≡ total live.0 = c.sum_of-sum.ensures ∙ ap sum_at live.1 in
+    let made : c.post.new.self ≡ told c.args.ct (total live.0) n.pending = rw sum at c.in-Err-post.ensures.err in
+    record {
+      sound = subst (IsSound n.target n.region n.cts n.initiator) (sym made) (told-sound n.target n.region n.cts n.initiator n.pending c.args.ct live.0 c.self.invariant.sound live.1);
+      stands = subst Stands (told-state n.target n.region n.cts n.eqs n.initiator n.pending n.drops n.violations c.args.ct (total live.0) c.post.new.self made) c.self.invariant.stands;
+    }
+
+pub returns : goal.returns
+returns c =
     let n = c.self.inside in
     let armed : Armed = record { deed = c.args.deed; room = c.in-Ok.room } in
     let none : triggered_fault c.args.deed c.args.ct n.cts n.initiator.mds (posted_all deed_in n.pending) ≡ None = no-fault _ (sym c.check_triggered.ensures ∙ c.in_ok-check_triggered.was) in
-    let told : c.tell_new.new.pending ≡ told_new c.in-Ok-post.number c.args.ct n.cts (with_posted armed c.args.ct c.args.threshold n.pending) = c.tell_new.ensures ∙ ap (told_new c.in-Ok-post.number c.args.ct n.cts) c.in-Ok-post.ensures.ok in
-    record { does = rw (← c.self.view_is) (post-may n.target n.region n.cts n.eqs n.initiator n.pending n.drops n.violations c.args.deed c.args.ct c.args.threshold c.in-Ok-post.number armed c.tell_new.new.pending none refl c.in-Ok-post.ensures.number told) }
+    record { does = rw (← c.self.view_is) (post-may n.target n.region n.cts n.eqs n.initiator n.pending n.drops n.violations c.args.deed c.args.ct c.args.threshold c.sum_of-sum.result c.in-Ok-post.number armed c.post.new.self none refl c.in-Ok-post.ensures.number c.in-Ok-post.ensures.ok) }
 
 pub returns-in-Err-post : goal.returns-in-Err-post
 returns-in-Err-post c =
     let n = c.self.inside in
-    record { does = rw (c.in-Err-post.ensures.err, ← c.self.view_is) (lacks _ _ _ _ (no-fault _ (sym c.check_triggered.ensures ∙ c.in_ok-check_triggered.was))) }
+    record { does = rw (← told-state n.target n.region n.cts n.eqs n.initiator n.pending n.drops n.violations c.args.ct c.sum_of-sum.result c.post.new.self c.in-Err-post.ensures.err, ← c.self.view_is) (lacks _ _ _ _ (no-fault _ (sym c.check_triggered.ensures ∙ c.in_ok-check_triggered.was))) }

@@ -1,8 +1,11 @@
-use Rattle.std.proofs.Common.{◌≡◌, ℕ, true, Some, sym, refl, ◌∙◌}
+use Rattle.std.proofs.Common.{◌≡◌, ℕ, true, Some, length, sym, refl, ap, ◌∙◌}
 use Rattle.ptl_types.specs.declared.entries.Entry.{Entry}
 use Rattle.ni_model.specs.Arrive.{Parts, parts}
-use Rattle.ni_model.specs.Headers.{oldest}
+use Rattle.ni_model.specs.Headers.{oldest, without_oldest}
 use Rattle.ni_model.specs.Append.{append, append_once, append_priority}
+use Rattle.target_engine.specs.declared.places.Records.{Records}
+use Rattle.target_engine.proofs.Counted.{counted-gone, long-gone}
+use Rattle.target_engine.proofs.Headers.{noted-oldest}
 use Rattle.target_engine.proofs.Kept.{kept-fewer, kept-frees}
 use Rattle.target_engine.proofs.Placed.{free_slot}
 use Rattle.target_engine.proofs.Records.{given-by}
@@ -14,7 +17,21 @@ by-once slot pt e p u = rw u refl
 pub invariant_of-self-2 : goal.invariant_of-self-2
 invariant_of-self-2 c =
     let o : oldest c.args.pt c.args.entry c.self.inside.headers.noted ≡ Some c.in-Some.noted = sym c.take_oldest.ensures.oldest ∙ c.in-Some.is in
-    kept-fewer c.self.inside.limit c.self.inside.linked c.args.pt c.args.entry c.in-Some.noted c.self.inside.indices.items c.self.inside.places c.take_header.new.places c.self.inside.headers c.take_oldest.new.self c.self.invariant o c.take_oldest.ensures.rest c.take_header.ensures.placed
+    let i = c.self.inside in
+    let hs = i.headers.noted in
+    let noted = c.in-Some.noted in
+    let gone = c.take_header.ensures.gone in
+    record {
+      kept =
+          kept-fewer i.limit i.linked c.args.pt c.args.entry noted i.indices.items i.records.places c.take_header.new.records.places i.headers c.take_oldest.new.self c.self.invariant.kept o c.take_oldest.ensures.rest
+          (ap (λ (r : Records). r.places) gone);
+      counted =
+          rw (c.take_oldest.ensures.rest, gone)
+          (counted-gone noted hs (without_oldest c.args.pt c.args.entry hs) i.records c.self.invariant.counted c.self.invariant.kept.placed.once (λ p. noted-oldest p c.args.pt c.args.entry hs noted o));
+      queues = c.self.invariant.queues;
+      long = ap (λ (r : Records). length r.waiting) gone ∙ long-gone noted i.records ∙ c.self.invariant.long;
+      small = c.self.invariant.small;
+    }
 
 pub returns-clause-appends : goal.returns-clause-appends
 unfolding append
@@ -22,11 +39,11 @@ returns-clause-appends c =
     λ region.
     let s = free_slot c.args.self.now.indices in
     let o : oldest c.args.pt c.args.entry c.self.inside.headers.noted ≡ Some c.in-Some.noted = sym c.take_oldest.ensures.oldest ∙ c.in-Some.is in
-    let freed = kept-frees c.self.inside.limit c.self.inside.linked c.args.pt c.args.entry c.in-Some.noted c.self.inside.indices.items c.self.inside.places c.self.inside.headers c.self.invariant o in
+    let freed = kept-frees c.self.inside.limit c.self.inside.linked c.args.pt c.args.entry c.in-Some.noted c.self.inside.indices.items c.self.inside.records.places c.self.inside.headers c.self.invariant.kept o in
     record {
       slot = s.0;
       free = s.1;
       ended =
           rw (← by-once s.0 c.args.pt c.args.entry (parts c.args.self.now region c.args.cts.now c.args.eqs.now) c.requires.once)
-          (rw (← c.self.view_is, o, c.take_header.ensures.counts, c.take_header.ensures.told, c.take_header.ensures.placed, given-by, c.overflow_counter.ensures, c.deref.ensures.value, c.take_oldest.ensures.rest, freed) refl);
+          (rw (← c.self.view_is, o, c.take_header.ensures.counts, c.take_header.ensures.told, c.take_header.ensures.gone, given-by, c.overflow_counter.ensures, c.deref.ensures.value, c.take_oldest.ensures.rest, freed) refl);
     }

@@ -1,7 +1,10 @@
-use Rattle.std.proofs.Common.{ap, refl, ◌∙◌}
+use Rattle.std.proofs.Common.{length, ap, refl, ◌∙◌}
 use Rattle.std.proofs.lemmas.List.{with_items_is}
-use Rattle.target_engine.specs.Shelves.{seen_in, linked_in}
+use Rattle.target_engine.specs.Shelves.{seen_in, linked_in, linked_after}
 use Rattle.ni_model.specs.Lists.{index_at}
+use Rattle.ni_model.specs.Arrive.{indices_after}
+use Rattle.target_engine.specs.declared.places.Records.{Records}
+use Rattle.target_engine.proofs.Counted.{counted-settled, queues-settled, whole-lent}
 use Rattle.target_engine.proofs.Kept.{kept-settled, seen-settled, given-after}
 use Rattle.target_engine.proofs.target.Target.settle.Goals as goal
 
@@ -12,11 +15,27 @@ settle_at-requires c =
 
 pub invariant_of-self : goal.invariant_of-self
 invariant_of-self c =
+    let i = c.self.inside in
+    let f = c.args.found.now in
+    let h = c.args.header.now in
+    let was = c.deref_mut.result.now in
+    let new = c.settle_at.new.indices in
+    let stays = c.settle_at.auto.indices in
+    let after = c.forget.ensures.records in
+    let place = ap (λ s. s.indices) c.self.view_is in
+    let shown =
+    seen-settled i.limit i.linked f h i.indices.items was new i.records.places i.headers c.args.self.now.indices c.self.invariant.kept c.deref_mut.ensures.value c.settle_at.ensures.after place c.requires.there in
     rw c.forget.ensures.linked
-    (kept-settled c.self.inside.limit c.self.inside.indices.len c.self.inside.linked c.args.found.now c.args.header.now c.self.inside.indices.items c.deref_mut.result.now c.settle_at.new.indices c.self.inside.places c.forget.new.places c.self.inside.headers c.args.self.now.indices c.self.invariant c.deref_mut.ensures.value (c.settle_at.auto.indices ∙ c.deref_mut.ensures.len) c.settle_at.ensures.after c.settle_at.ensures.kept c.forget.ensures.places (ap (λ s. s.indices) c.self.view_is) c.requires.there)
+    (whole-lent i.limit i.indices.len (linked_after f h i.linked) i.indices.items was new (indices_after f h (seen_in i.indices.items)) c.forget.new.records i.headers i.eqs
+    c.deref_mut.ensures.value stays (stays ∙ c.deref_mut.ensures.len)
+    (kept-settled i.limit i.indices.len i.linked f h i.indices.items was new i.records.places c.forget.new.records.places i.headers c.args.self.now.indices c.self.invariant.kept c.deref_mut.ensures.value (stays ∙ c.deref_mut.ensures.len)
+    c.settle_at.ensures.after c.settle_at.ensures.kept (ap (λ (r : Records). r.places) after) place c.requires.there)
+    (rw after (counted-settled f h i.headers.noted i.records c.self.invariant.counted c.self.invariant.kept.placed.once))
+    shown (queues-settled f h (seen_in i.indices.items) i.eqs c.self.invariant.queues)
+    (ap (λ (r : Records). length r.waiting) after ∙ c.self.invariant.long) c.self.invariant.small)
 
 pub returns : goal.returns
 returns c =
     let whole = with_items_is c.self.inside.indices c.settle_at.new.indices (c.settle_at.auto.indices ∙ c.deref_mut.ensures.len) in
-    let e = seen-settled c.self.inside.limit c.self.inside.linked c.args.found.now c.args.header.now c.self.inside.indices.items c.deref_mut.result.now c.settle_at.new.indices c.self.inside.places c.self.inside.headers c.args.self.now.indices c.self.invariant c.deref_mut.ensures.value c.settle_at.ensures.after (ap (λ s. s.indices) c.self.view_is) c.requires.there in
-    rw (← c.self.view_is, whole, e, c.forget.ensures.places, given-after) refl
+    let e = seen-settled c.self.inside.limit c.self.inside.linked c.args.found.now c.args.header.now c.self.inside.indices.items c.deref_mut.result.now c.settle_at.new.indices c.self.inside.records.places c.self.inside.headers c.args.self.now.indices c.self.invariant.kept c.deref_mut.ensures.value c.settle_at.ensures.after (ap (λ s. s.indices) c.self.view_is) c.requires.there in
+    rw (← c.self.view_is, whole, e, c.forget.ensures.records, given-after) refl

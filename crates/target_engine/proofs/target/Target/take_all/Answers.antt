@@ -1,7 +1,23 @@
+use Rattle.std.proofs.Common.{◌∙◌}
 use Rattle.target_engine.proofs.Kept.{kept-left}
 use Rattle.target_engine.proofs.target.Target.take_all.Goals as goal
 
+pub take_found-requires-clause-placed : goal.take_found-requires-clause-placed
+take_found-requires-clause-placed c = rw c.deref.ensures.value c.self.invariant.kept.placed
+
+pub take_found-requires-clause-counted : goal.take_found-requires-clause-counted
+take_found-requires-clause-counted c = c.self.invariant.counted
+
 pub invariant_of-self : goal.invariant_of-self
 invariant_of-self c =
-    kept-left c.self.inside.limit c.self.inside.linked c.args.pt c.args.entry.now c.self.inside.indices.items c.self.inside.places c.take_found.new.places c.self.inside.headers c.take_found.new.headers c.self.invariant
-    (rw c.deref.ensures.value at c.take_found.ensures.placed) c.take_found.ensures.limit c.take_found.ensures.given c.take_found.ensures.left
+    let i = c.self.inside in
+    let taken = c.take_found.ensures in
+    record {
+      kept =
+          kept-left i.limit i.linked c.args.pt c.args.entry.now i.indices.items i.records.places c.take_found.new.records.places i.headers c.take_found.new.headers c.self.invariant.kept (rw c.deref.ensures.value at taken.placed) taken.limit
+          taken.given taken.left;
+      counted = rw taken.left taken.users;
+      queues = c.self.invariant.queues;
+      long = taken.long ∙ c.self.invariant.long;
+      small = c.self.invariant.small;
+    }
