@@ -1,0 +1,31 @@
+use Rattle.std.proofs.Common.{◌≡◌, ◌<◌, ◌∙◌, ◌++◌, ◌∷◌, [], ℕ, List, length, length-append, ap, arith, subst, sym}
+use mathlib.Core.Option.{some}
+use lib.ListN.{get_elem?}
+use Rattle.coll_shape.specs.Outline.{Outline}
+use Rattle.shape_plans.specs.Drawing.{plan_of}
+use Rattle.rest_probe.specs.declared.notes.LaneCount.{LaneCount}
+use Rattle.rest_probe.specs.declared.notes.Noted.{Noted}
+use Rattle.rest_probe.specs.Counted.{cleared}
+use Rattle.rest_probe.specs.Waves.{IsFor, IsRoomFor}
+use Rattle.rest_probe.proofs.Elements.{all-more}
+use Rattle.rest_probe.proofs.Gathered.{cleared-from, cleared-to}
+use Rattle.rest_probe.proofs.waves.Wave.open.Goals as goal
+
+pub loop-r-preserved : goal.loop-r-preserved
+loop-r-preserved c =
+    let i = c.loop-r.invariant in let p = c.in_ok-push.ensures.items in let old = c.loop-r.places.items in let x = c.in_ok-bare.field-0 in let e = c.in_ok-bare.ensures in
+    let plan = plan_of c.args.schedule.now in
+    let here : IsRoomFor plan c.loop-r.r x = record { there = e.there; sent = e.sent; got = e.got } in record {
+      count = (let a = ap (λ (l : List Noted). length l) p in let b = length-append old (x ∷ []) in let k = i.count in omega (arith, a, b, k));
+      each = λ r y at. all-more (IsRoomFor plan) old x i.each (subst (λ n. IsRoomFor plan n x) (sym i.count) here) r y (ap (λ (l : List Noted). get_elem? l r) (sym p) ∙ at);
+    }
+
+pub returns-clause-lanes : goal.returns-clause-lanes
+returns-clause-lanes c =
+    let i = c.loop-r.invariant in let plan = plan_of c.args.schedule.now in
+    let told = c.ranks-ranks.ensures.told ∙ ap (λ (o : Outline). o.ranks) c.shape.ensures.told in let same = c.plan.ensures.ranks in
+    let test = c.loop-r-test.false in let end = c.loop-r.auto.r-end in let count = i.count in record {
+      count = omega (arith, told, same, test, end, count);
+      sent = λ r x at. let e = (i.each r x at).sent in ap cleared e ∙ (cleared-from plan r ∙ sym e) ∙ e;
+      got = λ r x at. let e = (i.each r x at).got in ap cleared e ∙ (cleared-to plan r ∙ sym e) ∙ e;
+    }

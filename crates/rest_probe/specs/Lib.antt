@@ -1,0 +1,4 @@
+pub mod Counted
+pub mod Lanes
+pub mod Waves
+pub mod Answered

@@ -1,0 +1,14 @@
+//! One wave of probes: what is noted of each rank of a job, and whether the notes show that the job is at rest.
+#![tactic(auto)]
+
+mod answers;
+mod notes;
+mod opening;
+mod partners;
+#[cfg(test)]
+mod tests;
+mod waves;
+
+pub use answers::WaveAnswer;
+pub use notes::{Counts, LaneCount, Noted, ProbeNote};
+pub use waves::Wave;
