@@ -39,6 +39,15 @@ none-due k f (suc n) each =
     let c = none-due (suc k) f n (λ s low high. each s (omega arith) (omega arith)) in
     omega (arith, a, b, c)
 
+-- lanes without a message hold nothing, between any ranks
+pub none-held : (n : ℕ) (lanes : List Plain)
+    → ((s d : ℕ) (lane : Lane) → s < n → d < n → (lane_at lanes (lane_place n s d lane)).messages ≡ [])
+    → (s d : ℕ) (lane : Lane) → held_in n lanes s d lane ≡ []
+none-held n lanes empty s d lane = elim (cases_Bool (nat_lt s n && nat_lt d n)) [
+  | inl e ↦ (let both = and_parts (nat_lt s n) (nat_lt d n) e in ap (λ b. if b then (lane_at lanes (lane_place n s d lane)).messages else []) e ∙ empty s d lane (ltb-true s n both.0) (ltb-true d n both.1))
+  | inr e ↦ ap (λ b. if b then (lane_at lanes (lane_place n s d lane)).messages else []) e
+]
+
 -- nodes without a step, and lanes without a message, are the first scene
 module _ (n : ℕ) (nodes : List NodeState) (lanes : List Plain) (size : length nodes ≡ n) (bare : (r : ℕ) → r < n → (node_at nodes r).diary.locals ≡ [])
     (empty : (s d : ℕ) (lane : Lane) → s < n → d < n → (lane_at lanes (lane_place n s d lane)).messages ≡ []) where
@@ -49,14 +58,8 @@ module _ (n : ℕ) (nodes : List NodeState) (lanes : List Plain) (size : length 
     | inr le ↦ ap (λ (k : NodeState). k.diary.locals) (get_or_past nodes r no_node (omega (arith, size, le)))
   ]
 
-  none-held : (s d : ℕ) (lane : Lane) → held_in n lanes s d lane ≡ []
-  none-held s d lane = elim (cases_Bool (nat_lt s n && nat_lt d n)) [
-    | inl e ↦ (let both = and_parts (nat_lt s n) (nat_lt d n) e in ap (λ b. if b then (lane_at lanes (lane_place n s d lane)).messages else []) e ∙ empty s d lane (ltb-true s n both.0) (ltb-true d n both.1))
-    | inr e ↦ ap (λ b. if b then (lane_at lanes (lane_place n s d lane)).messages else []) e
-  ]
-
   pub first-by : scene_of n nodes lanes ≡ first_scene
-  first-by = scene_by (λ r. (node_at nodes r).diary.locals) (λ r. []) (held_in n lanes) (λ s d lane. []) none-done none-held
+  first-by = scene_by (λ r. (node_at nodes r).diary.locals) (λ r. []) (held_in n lanes) (λ s d lane. []) none-done (none-held n lanes empty)
 
 module _ (p : Plan) (inputs : Inputs) (n : ℕ) (nodes : List NodeState) (lanes : List Plain) (window strays : ℕ)
     (few : n ≤ 256) (count : p.ranks ≡ n) (sound : SoundPlan p (length inputs)) (fit : AreInputsOf p inputs) (some : 0 < window)

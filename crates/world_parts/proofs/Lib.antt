@@ -3,6 +3,7 @@ pub mod Placed
 pub mod Strays
 pub mod Held
 pub mod Gated
+pub mod Marked
 pub mod Renewed
 pub mod Moving
 pub mod Steps

@@ -1,6 +1,6 @@
 -- Lists of which one member is set anew, and sums of which one part changes.
 use Rattle.std.proofs.Common.{ℕ, zero, suc, ◌+◌, ◌<◌, ◌≤◌, ◌≡◌, ◌∙◌, List, get_or, length, sum_by, sym, ap, subst, inl, inr, arith}
-use Rattle.std.proofs.Math.ListN.{set}
+use Rattle.std.proofs.Math.ListN.{set, length-set}
 use Rattle.std.proofs.lemmas.Bool.{cases_eq}
 use Rattle.std.proofs.lemmas.List.{get_or-set_same, get_or-set_other}
 use Rattle.std.proofs.lemmas.List.Sums.{sum_by-cons}
@@ -12,6 +12,13 @@ at_set P xs a i v d h here there = elim (cases_eq i a) [
   | inl e ↦ subst P (sym (ap (λ j. get_or (set xs a v) j d) e ∙ get_or-set_same xs a v d h)) (here e)
   | inr n ↦ subst P (sym (get_or-set_other xs a i v d n)) (there n)
 ]
+
+-- two counts set anew
+pub two_marks : (f : ℕ → ℕ) (xs : List ℕ) (a b i : ℕ) → a < length xs → b < length xs → ((i ≡ a → ⊥) → (i ≡ b → ⊥) → get_or xs i 0 ≡ f i) → get_or (set (set xs a (f a)) b (f b)) i 0 ≡ f i
+two_marks f xs a b i ha hb rest =
+    let l = length-set xs a (f a) in
+    at_set (λ x. x ≡ f i) (set xs a (f a)) b i (f b) 0 (omega arith) (λ e. ap f (sym e))
+    (λ y. at_set (λ x. x ≡ f i) xs a i (f a) 0 ha (λ e. ap f (sym e)) (λ x. rest x y))
 
 -- sums, part by part
 pub sum_le : (f g : ℕ → ℕ) (k n : ℕ) → ((i : ℕ) → k ≤ i → i < k + n → g i ≤ f i) → sum_by g (from_to k n) ≤ sum_by f (from_to k n)

@@ -1,4 +1,5 @@
 pub mod Places
+pub mod Numbered
 pub mod Listed
 pub mod Standing
 pub mod Ends

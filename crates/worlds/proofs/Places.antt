@@ -11,7 +11,7 @@ use Rattle.plan_core.specs.Values.{Inputs}
 use Rattle.plan_view.specs.Slots.{Slots}
 use Rattle.plan_cuts.specs.History.{is_start}
 use Rattle.plan_cuts.specs.Plans.{system_of}
-use Rattle.plan_cuts.specs.System.{System}
+use Rattle.plan_cuts.specs.System.{Histories, System}
 use Rattle.plan_nodes.specs.Ranks.{AreGates, IsRank}
 use Rattle.plan_nodes.proofs.Firing.{open-possible}
 use Rattle.plan_nodes.proofs.Receiving.{rank-state}
@@ -38,12 +38,12 @@ held_past n lanes s d lane le = at (nat_lt s n) (nat_lt d n) (le-ltb d n le)
     at false b e = refl
 
 -- one start, where there is one
-one_start : (x : Step) (b : Bool) → (if b then 0 else 1) ≡ length (if b then [] else x ∷ [])
+pub one_start : (x : Step) (b : Bool) → (if b then 0 else 1) ≡ length (if b then [] else x ∷ [])
 one_start x true = refl
 one_start x false = refl
 
 -- one delivery, where there is a message and it may be made
-one_delivery : (p : Step → Bool) (s d : ℕ) (lane : Lane) (ms : List Sent)
+pub one_delivery : (p : Step → Bool) (s d : ℕ) (lane : Lane) (ms : List Sent)
     → (if nat_lt 0 (length ms) && p (Deliver s d lane) then 1 else 0) ≡ length (filter p (first_of s d lane ms))
 one_delivery p s d lane [] = refl
 one_delivery p s d lane (m ∷ later) =
@@ -56,6 +56,17 @@ one_delivery p s d lane (m ∷ later) =
 and-true : (b : Bool) → (b && true) ≡ b
 and-true true = refl
 and-true false = refl
+
+-- whether a lane's first message may be delivered, by the lane and the one back
+pub lane_may_be : (k : System) (w : Histories) (n : ℕ) (lanes : List Plain) (window s d : ℕ) (lane : Lane) → s < n → d < n
+    → (nat_lt 0 (length (held_in n lanes s d lane))
+    && is_possible k window (let x : Scene = record { world = w; held = held_in n lanes } in x) (Deliver s d lane))
+    ≡ lane_may lanes n window s d lane
+lane_may_be k w n lanes window s d Answer hs hd = and-true (nat_lt 0 (length (held_in n lanes s d Answer)))
+    ∙ ap (λ ms. nat_lt 0 (length ms)) (held_here n lanes s d Answer hs hd)
+lane_may_be k w n lanes window s d Request hs hd =
+    ap₂ (λ a b. nat_lt 0 (length a) && nat_lt (length b) window) (held_here n lanes s d Request hs hd)
+    (held_here n lanes d s Answer hd hs)
 
 module _ (p : Plan) (inputs : Inputs) (n : ℕ) (nodes : List NodeState) (lanes : List Plain) (starts deliveries firings : List ℕ)
     (window strays spare : ℕ)
@@ -92,11 +103,7 @@ module _ (p : Plan) (inputs : Inputs) (n : ℕ) (nodes : List NodeState) (lanes 
   -- whether a lane's first message may be delivered
   pub may_be : (s d : ℕ) (lane : Lane) → s < n → d < n
       → (nat_lt 0 (length (held_in n lanes s d lane)) && is_possible ranks window z (Deliver s d lane)) ≡ lane_may lanes n window s d lane
-  may_be s d Answer hs hd = and-true (nat_lt 0 (length (held_in n lanes s d Answer)))
-      ∙ ap (λ ms. nat_lt 0 (length ms)) (held_here n lanes s d Answer hs hd)
-  may_be s d Request hs hd =
-      ap₂ (λ a b. nat_lt 0 (length a) && nat_lt (length b) window) (held_here n lanes s d Request hs hd)
-      (held_here n lanes d s Answer hd hs)
+  may_be = lane_may_be ranks z.world n lanes window
 
   starts_right : (i : ℕ) → i < n → get_or starts i 0 ≡ length (start_at z i)
   starts_right i h = world.counted.of_starts i h ∙ one_start (Start i) (nat_lt 0 (count_by is_start (node_at nodes i).diary.locals))

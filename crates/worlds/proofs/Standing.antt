@@ -1,9 +1,6 @@
 -- What the fields of a world keep is what is said of it.
-use Rattle.std.proofs.Common.{ℕ, ◌+◌, ◌*◌, ◌<◌, ◌≡◌, ◌∙◌, List, Some, sym, ap, ap₂, subst, arith, length, get_or, sum, take}
-use Rattle.std.proofs.lemmas.Option.{slice_get-get_or, slice_get_within, unwrap_or-slice_get}
-use Rattle.std.proofs.lemmas.List.{get_or-map}
+use Rattle.std.proofs.Common.{ℕ, ◌+◌, ◌*◌, ◌<◌, ◌≡◌, ◌∙◌, List, Some, sym, ap, subst, arith, length, get_or, sum, take}
 use Rattle.std.specs.List.{slice_get}
-use Rattle.std.specs.Option.{unwrap_or}
 use Rattle.pair_wires.specs.Lanes.{Plain}
 use Rattle.plan_core.specs.Plan.{Plan}
 use Rattle.plan_core.specs.Values.{Inputs}
@@ -14,8 +11,6 @@ use Rattle.plan_nodes.proofs.Receiving.{rank-state}
 use Rattle.plan_orders.specs.Chosen.{Scene, start_at}
 use Rattle.plan_orders.specs.declared.Step.{Step}
 use Rattle.plan_orders.specs.declared.Step.TheVariants.{Deliver, Fire, Start}
-use Rattle.plan_worlds.proofs.Counted.{length-counts}
-use Rattle.plan_worlds.proofs.Found.{found_delivery, found_firing, found_start, length-possible}
 use Rattle.plan_worlds.specs.Places.{counts, delivery_at, fires_at, goal_at, kind_at, source_at}
 use Rattle.plan_worlds.specs.Possible.{possible_steps}
 use Rattle.rank_node.specs.Gates.{open_numbers}
@@ -27,6 +22,7 @@ use Rattle.world_parts.specs.Keeps.{AgreeAll, IsWorld}
 use Rattle.world_parts.specs.Layout.{node_at, scene_of}
 use Rattle.worlds.specs.Standing.{AreFields, IsStanding}
 use Rattle.worlds.specs.World.{AreSlots, state_of, steps_in}
+use Rattle.worlds.proofs.Numbered.{delivery_numbered, firing_numbered, start_numbered, total_of}
 use Rattle.worlds.proofs.Places.{deliveries_are, fires_are, firings_are, rank_is, starts_are}
 
 -- ---- the step of a number
@@ -53,63 +49,28 @@ module _ (p : Plan) (inputs : Inputs) (n : ℕ) (nodes : List NodeState) (lanes 
   firings_is = firings_are p inputs n nodes lanes starts deliveries firings window strays spare world slots agree
 
   pub total : sum starts + (sum deliveries + sum firings) ≡ length steps
-  total =
-      let a = ap sum starts_is in
-      let b = ap sum deliveries_is in
-      let c = ap sum firings_is in
-      let d = length-possible ranks window z in
-      omega (arith, a, b, c, d)
-
-  -- a step that stands at a number, whatever else is said past the last
-  stands_at : (i : ℕ) (x : Step) → i < length steps → get_or steps i x ≡ x → slice_get steps i ≡ Some x
-  stands_at i x h e = slice_get-get_or steps i x h ∙ ap (λ y. Some y) e
+  total = total_of ranks z window starts deliveries firings starts_is deliveries_is firings_is
 
   pub start_found : (r rest i : ℕ) → r < length starts → sum (take r starts) + rest ≡ i → rest < get_or starts r 0 → i < sum starts
       → slice_get steps i ≡ Some (Start r)
-  start_found r rest i h before within small =
-      let size = ap length starts_is ∙ length-counts (start_at z) ranks.count in
-      let t = total in
-      stands_at i (Start r) (omega (arith, t, small))
-      (found_start ranks window z r rest i (Start r) (omega (arith, h, size))
-      (subst (λ xs. sum (take r xs) + rest ≡ i) starts_is before) (subst (λ xs. rest < get_or xs r 0) starts_is within)
-      (subst (λ xs. i < sum xs) starts_is small))
+  start_found = start_numbered ranks z window starts deliveries firings starts_is deliveries_is firings_is
 
   pub delivery_found : (j rest i : ℕ) → j < length deliveries → sum (take j deliveries) + rest ≡ i → rest < get_or deliveries j 0
       → i < sum deliveries
       → slice_get steps (sum starts + i) ≡ Some (Deliver (source_at n j) (goal_at n j) (kind_at j))
   delivery_found j rest i h before within small =
-      let size = ap length deliveries_is ∙ length-counts (delivery_at ranks window z) (2 * (ranks.count * ranks.count)) in
-      let t = total in
-      let there : get_or steps (sum starts + i) (Deliver (source_at n j) (goal_at n j) (kind_at j)) ≡ Deliver (source_at ranks.count j)
-      (goal_at ranks.count j) (kind_at j) =
-      ap (λ k. get_or steps (k + i) (Deliver (source_at n j) (goal_at n j) (kind_at j))) (ap sum starts_is)
-      ∙ found_delivery ranks window z j rest i (Deliver (source_at n j) (goal_at n j) (kind_at j)) (omega (arith, h, size))
-      (subst (λ xs. sum (take j xs) + rest ≡ i) deliveries_is before) (subst (λ xs. rest < get_or xs j 0) deliveries_is within)
-      (subst (λ xs. i < sum xs) deliveries_is small) in
-      stands_at (sum starts + i) (Deliver (source_at n j) (goal_at n j) (kind_at j)) (omega (arith, t, small))
-      (there ∙ ap (λ m. Deliver (source_at m j) (goal_at m j) (kind_at j)) world.parts.count)
+      delivery_numbered ranks z window starts deliveries firings starts_is deliveries_is firings_is j rest i h before within small
+      ∙ ap (λ m. Some (Deliver (source_at m j) (goal_at m j) (kind_at j))) world.parts.count
 
   pub firing_found : (r rest i t : ℕ) → r < n → sum (take r firings) + rest ≡ i → rest < get_or firings r 0 → i < sum firings
       → slice_get (open_numbers (node_at nodes r).closed (node_at nodes r).nic) rest ≡ Some t
       → slice_get steps (sum starts + (sum deliveries + i)) ≡ Some (Fire r t)
   firing_found r rest i t h before within small number =
-      let ready = open_numbers (node_at nodes r).closed (node_at nodes r).nic in
-      let long = slice_get_within ready rest t number in
       let c = world.parts.count in
-      let tot = total in
-      let there : get_or steps (sum starts + (sum deliveries + i)) (Fire r t) ≡ get_or (fires_at ranks window z r) rest (Fire r t) =
-      ap₂ (λ k l. get_or steps (k + (l + i)) (Fire r t)) (ap sum starts_is) (ap sum deliveries_is)
-      ∙ found_firing ranks window z r rest i (Fire r t) (omega (arith, h, c))
-      (subst (λ xs. sum (take r xs) + rest ≡ i) firings_is before) (subst (λ xs. rest < get_or xs r 0) firings_is within) in
-      stands_at (sum starts + (sum deliveries + i)) (Fire r t) (omega (arith, tot, small))
-      (there
-      ∙ ap (λ xs. get_or xs rest (Fire r t)) (fires_are p inputs n nodes lanes starts deliveries firings window strays spare world slots
-      agree r h)
-      ∙ get_or-map (Fire r) ready rest t (Fire r t) long
-      ∙ ap (Fire r) (at ready rest t number))
-    where
-      at : (xs : List ℕ) (i t : ℕ) → slice_get xs i ≡ Some t → get_or xs i t ≡ t
-      at xs i t e = sym (unwrap_or-slice_get xs i t) ∙ ap (λ o. unwrap_or o t) e
+      firing_numbered ranks z window starts deliveries firings starts_is deliveries_is firings_is r rest i t
+      (open_numbers (node_at nodes r).closed (node_at nodes r).nic)
+      (fires_are p inputs n nodes lanes starts deliveries firings window strays spare world slots agree r h) (omega (arith, h, c)) before
+      within small number
 
 -- ---- the world
 

@@ -46,7 +46,7 @@ begins_with w v x stood made r =
     subst (λ (z : Scene). IsPrefixOf (histories_in w r) (z.world r)) (sym (made (given_slots v) (slots_given v stood)))
     (begins (ranks_in w (given_slots v)) (scene_in w) x r)
 
-prefix_on : {A : Type 0} (xs ys zs : List A) → IsPrefixOf xs ys → IsPrefixOf ys zs → IsPrefixOf xs zs
+pub prefix_on : {A : Type 0} (xs ys zs : List A) → IsPrefixOf xs ys → IsPrefixOf ys zs → IsPrefixOf xs zs
 prefix_on xs ys zs a b = (a.0 ++ b.0, sym (append_assoc xs a.0 b.0) ∙ ap (λ q. q ++ b.0) a.1 ∙ b.1)
 
 pub same_world : (w : WorldState) → IsLater w w
@@ -125,7 +125,7 @@ module _ {C : Type 0} (answer : C → ℕ → ℕ) (after : C → ℕ → C) whe
   no_run u b slots agree = (0, refl)
 
   -- the step that stands at the number that was answered
-  next_chosen : (k : System) (xs : List Step) (c d : C) (i : ℕ) (x : Step) (z y : Scene) → i ≡ answer c (length xs)
+  pub next_chosen : (k : System) (xs : List Step) (c d : C) (i : ℕ) (x : Step) (z y : Scene) → i ≡ answer c (length xs)
       → slice_get xs i ≡ Some x → d ≡ after c (length xs)
       → y ≡ step_made k x z → chosen_step k answer after xs (let q : Running C = record { scene = z; chooser = c } in q) ≡
       (let q : Running C = record { scene = y; chooser = d } in q)

@@ -83,7 +83,7 @@ module _ (k : System) (window : ℕ) (z : Scene) where
   listed_may x i = let q = In-filter_cases (is_possible k window z) x (enabled_steps k z) i in may_be_made x (offered k z x q.0) q.1
 
 -- ---- where no lane between ranks is full
-filter-all : {X : Type 0} (p : X → Bool) (xs : List X) → ((x : X) → In x xs → p x ≡ true) → filter p xs ≡ xs
+pub filter-all : {X : Type 0} (p : X → Bool) (xs : List X) → ((x : X) → In x xs → p x ≡ true) → filter p xs ≡ xs
 filter-all p [] e = refl
 filter-all p (x ∷ xs) e = ap₂ (λ b ys. if b then x ∷ ys else ys) (e x (inl refl)) (filter-all p xs (λ y i. e y (inr i)))
 

@@ -8,6 +8,7 @@ mod laws;
 mod making;
 mod world;
 
+pub use finding::delivery_at;
 pub use frame::Frame;
 pub use laws::{possible_steps_of_worlds, runs_by_words, slots_agree, worlds_stand};
 pub use plan_orders::Step;
