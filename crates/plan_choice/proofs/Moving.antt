@@ -1,0 +1,278 @@
+-- A choice world behind a local step of one rank: its seat has a step more, and what that makes goes to the end of a lane.
+use Rattle.std.proofs.Common.{ℕ, Bool, true, false, ◌+◌, ◌*◌, ◌<◌, ◌≤◌, ◌≡◌, ◌⊎◌, ◌==◌, ◌∙◌, List, [], ◌∷◌, ◌++◌, Option, Some, None, cond, get_or, length, filter, if◌then◌else◌, refl, sym, ap, ap₂, subst, inl, inr, arith, eq-eqb, length-append}
+use Rattle.std.proofs.Math.ListN.{set, length-set}
+use Rattle.std.proofs.Math.Path.{fun_ext}
+use Rattle.std.proofs.lemmas.Bool.{cases_eq, ne_eqb}
+use Rattle.std.proofs.lemmas.List.{get_or-set_same, get_or-set_other}
+use Rattle.ptl_types.specs.declared.handles.Handle.{Handle}
+use Rattle.ptl_types.specs.declared.headers.Lane.{Lane}
+use Rattle.ptl_types.specs.Kinds.{lane_of}
+use Rattle.ptl_types.specs.Messages.{Sent}
+use Rattle.ni_model.specs.Tables.{handle}
+use Rattle.pair_wires.specs.Lanes.{Plain, plain}
+use Rattle.plan_core.specs.Members.{In}
+use Rattle.plan_cuts.specs.Cut.{IsPrefixOf}
+use Rattle.plan_cuts.specs.History.{Local, after, and_then, is_for, made_by, state}
+use Rattle.plan_cuts.specs.Moment.{sent_more}
+use Rattle.plan_cuts.specs.System.{System, state_at}
+use Rattle.plan_cuts.proofs.Fronts.{state-append}
+use Rattle.plan_orders.specs.Chosen.{Scene, step_made}
+use Rattle.plan_orders.specs.Reached.{IsReached}
+use Rattle.plan_orders.specs.Reached.IsReached.{Stepped}
+use Rattle.plan_orders.specs.Taking.{with_step}
+use Rattle.plan_orders.proofs.Choosing.{listed_made}
+use Rattle.plan_worlds.proofs.Lanes.{begins}
+use Rattle.plan_worlds.specs.Named.{named}
+use Rattle.plan_worlds.specs.Places.{lane_place}
+use Rattle.rank_node.specs.Handles.{Handles}
+use Rattle.world_parts.specs.Layout.{held_in, lane_at}
+use Rattle.world_parts.specs.Marks.{HasPlace, out_with, sent_out}
+use Rattle.world_parts.proofs.Gated.{scene_by}
+use Rattle.world_parts.proofs.Held.{held_here, held_out, set_capacity, set_here, set_size}
+use Rattle.world_parts.proofs.Sets.{at_set}
+use Rattle.choice_machine.specs.Counted.{steps_due}
+use Rattle.choice_view.specs.Install.{Slots, ct_of}
+use Rattle.choice_view.specs.Install.Counter.{Go}
+use Rattle.choice_laws.specs.Decided.{choice_system, count_from, is_choice_lane}
+use Rattle.choice_laws.specs.Traffic.{IsMade as IsSent}
+use Rattle.choice_laws.proofs.Agreement.{Agrees}
+use Rattle.choice_laws.proofs.Ends.{history_le, lane_few}
+use Rattle.choice_laws.proofs.Resting.{agrees_reached}
+use Rattle.choice_ranks.specs.Seats.{Seated, slots_in}
+use Rattle.choice_ranks.proofs.Installed.{slots_by}
+use Rattle.plan_choice.specs.Acts.{made_at, no_seated, seat_at}
+use Rattle.plan_choice.specs.World.{ChoiceState, HasGo, HasRoom, IsLater, IsStanding, histories_in, nic_in, ranks_in, scene_in, steps_in}
+
+-- lanes of which messages were taken
+pub record SameRoom (lanes mid : List Plain) : Type 0 where
+  pub size : length mid ≡ length lanes
+  pub capacity : (i : ℕ) → (lane_at mid i).capacity ≡ (lane_at lanes i).capacity
+
+pub same_lanes : (lanes : List Plain) → SameRoom lanes lanes
+same_lanes lanes = record { size = refl; capacity = λ i. refl }
+
+-- a seat behind a step of its rank, of which this is the go counter
+pub record Moved (go : Handle) (old new : Seated) (e : Local) : Type 0 where
+  pub kept : new.kept ≡ old.kept
+  pub locals : new.diary.locals ≡ old.diary.locals ++ e ∷ []
+  pub nic : new.nic ≡ after (count_from go) old.nic e
+  pub room : old.diary.room ≤ new.diary.room + 1
+  pub receipts : old.diary.receipts ≤ new.diary.receipts + 1
+  pub bytes : old.diary.bytes ≤ new.diary.bytes + 8
+
+-- the go counter of a rank
+abbrev pub go_in : ChoiceState → ℕ → Handle
+go_in w r = ct_of (slots_in (seat_at w.seats r)) w.kinds Go
+
+-- the slots of each rank
+abbrev pub slots_at : ChoiceState → ℕ → Slots
+slots_at w r = slots_in (seat_at w.seats r)
+
+-- the machine's moment that a moment agrees with
+pub moment_in : (w : ChoiceState) → IsStanding w → Agrees w.ranks w.kinds (slots_at w) (histories_in w) (scene_in w).held
+moment_in w is = agrees_reached w.ranks w.kinds (slots_at w) is.in_range (histories_in w) (scene_in w).held is.reached
+
+module _ (w : ChoiceState) (is : IsStanding w) (enough : HasRoom w) (gone : HasGo w) (r : ℕ) (hr : r < w.ranks) (e : Local)
+    (mid : List Plain) (left : SameRoom w.lanes mid) (listed : In (named r e) (steps_in w)) where
+  abbrev k : System
+  k = ranks_in w
+
+  abbrev z : Scene
+  z = scene_in w
+
+  abbrev n : ℕ
+  n = w.ranks
+
+  -- what it makes
+  abbrev o : Option Sent
+  o = made_at w.seats r e
+
+  -- the scene behind it
+  abbrev pub behind : Scene
+  behind = record {
+    world = with_step r e z.world;
+    held = λ q u l. held_in n mid q u l ++ sent_more k z.world r e q u l;
+  }
+
+  module _ (so : step_made k (named r e) z ≡ behind) (goes : (m : Sent) → o ≡ Some m → IsSent n r m) where
+    reached_behind : IsReached k behind.world behind.held
+    reached_behind = subst (λ (v : Scene). IsReached k v.world v.held) so (Stepped is.reached (listed_made k z (named r e) listed))
+
+    agrees_behind : Agrees n w.kinds (slots_at w) behind.world behind.held
+    agrees_behind = agrees_reached n w.kinds (slots_at w) is.in_range behind.world behind.held reached_behind
+
+    makes_at : made_by (state_at k z.world r) e ≡ o
+    makes_at = ap (λ v. made_by v e) (sym (is.nic r hr))
+
+    goes_to : (m : Sent) → o ≡ Some m → m.header.target < n
+    goes_to m q = (goes m q).in_range
+
+    mid_size : length mid ≡ 2 * (n * n)
+    mid_size = left.size ∙ enough.wide
+
+    world_here : behind.world r ≡ z.world r ++ e ∷ []
+    world_here = ap (λ b. cond b (z.world r ++ e ∷ []) (z.world r)) (eq-eqb r r refl)
+
+    world_there : (q : ℕ) → (q ≡ r → ⊥) → behind.world q ≡ z.world q
+    world_there q x = ap (λ b. cond b (z.world q ++ e ∷ []) (z.world q)) (ne_eqb r q (λ h. x (sym h)))
+
+    -- the step is due
+    pub one_due : length (z.world r) + 1 ≤ steps_due n w.kinds r
+    one_due =
+        let a = history_le n w.kinds (slots_at w) is.in_range behind.world behind.held agrees_behind r hr in
+        let b = ap length world_here in
+        let c = length-append (z.world r) (e ∷ []) in
+        omega (arith, a, b, c)
+
+    -- ---- the lanes behind it
+    abbrev pub later : List Plain
+    later = out_with n r o mid
+
+    held_later : (q u : ℕ) (l : Lane) → held_in n later q u l ≡ behind.held q u l
+    held_later q u l =
+        held_out n mid mid_size r hr o goes_to q u l
+        ∙ ap (λ x. held_in n mid q u l ++ (if q == r then filter (is_for u l) (and_then x []) else [])) (sym makes_at)
+
+    -- there is room for what it makes
+    pub may_go_out : HasPlace n r mid o
+    may_go_out = at o refl
+      where
+        at : (x : Option Sent) → o ≡ x → HasPlace n r mid x
+        at None q = tt
+        at (Some m) q =
+            let d = m.header.target in
+            let lane = lane_of m.header.kind in
+            let i = lane_place n r m.header.target (lane_of m.header.kind) in
+            let sent = goes m q in
+            let full : behind.held r m.header.target (lane_of m.header.kind)
+            ≡ (lane_at mid (lane_place n r m.header.target (lane_of m.header.kind))).messages ++ m ∷ [] =
+            sym (held_later r d lane)
+            ∙ ap (λ x. held_in n (out_with n r x mid) r d lane) q
+            ∙ held_here n (sent_out n r m mid) r d lane hr sent.in_range
+            ∙ set_here n mid mid_size r d lane hr sent.in_range ((lane_at mid i).messages ++ m ∷ []) in
+            let size = ap length full in
+            let one = length-append (lane_at mid i).messages (m ∷ []) in
+            let few = lane_few n w.kinds (slots_at w) is.in_range behind.world behind.held agrees_behind r d lane hr sent.in_range in
+            let cap = left.capacity i in
+            let room = enough.lanes r d lane hr sent.in_range in
+            let used = ap (λ b. if b then length w.kinds else 0) sent.used in
+            (sent.in_range, omega (arith, size, one, few, cap, room, used))
+
+    later_size : length later ≡ 2 * (n * n)
+    later_size = at o refl
+      where
+        at : (x : Option Sent) → o ≡ x → length (out_with n r x mid) ≡ 2 * (n * n)
+        at None q = mid_size
+        at (Some m) q = set_size n mid mid_size r m.header.target (lane_of m.header.kind) hr (goes_to m q)
+            ((lane_at mid (lane_place n r m.header.target (lane_of m.header.kind))).messages ++ m ∷ [])
+
+    later_capacity : (i : ℕ) → (lane_at later i).capacity ≡ (lane_at w.lanes i).capacity
+    later_capacity i = at o refl
+      where
+        at : (x : Option Sent) → o ≡ x → (lane_at (out_with n r x mid) i).capacity ≡ (lane_at w.lanes i).capacity
+        at None q = left.capacity i
+        at (Some m) q =
+            set_capacity n mid mid_size r m.header.target (lane_of m.header.kind) hr (goes_to m q)
+            ((lane_at mid (lane_place n r m.header.target (lane_of m.header.kind))).messages ++ m ∷ []) i ∙ left.capacity i
+
+    -- ---- the seats behind it
+    module _ (new : Seated) (moved : Moved (go_in w r) (seat_at w.seats r) new e) where
+      abbrev news : List Seated
+      news = set w.seats r new
+
+      abbrev pub next : ChoiceState
+      next = record { ranks = w.ranks; kinds = w.kinds; seats = news; lanes = later }
+
+      inside : r < length w.seats
+      inside = let a = is.size in omega (arith, a, hr)
+
+      pub news_size : length news ≡ n
+      news_size = length-set w.seats r new ∙ is.size
+
+      new_here : seat_at news r ≡ new
+      new_here = get_or-set_same w.seats r new no_seated inside
+
+      pub news_other : (q : ℕ) → (q ≡ r → ⊥) → seat_at news q ≡ seat_at w.seats q
+      news_other q x = get_or-set_other w.seats r q new no_seated x
+
+      kept_same : (q : ℕ) → (seat_at news q).kept ≡ (seat_at w.seats q).kept
+      kept_same q = at_set (λ (s : Seated). s.kept ≡ (seat_at w.seats q).kept) w.seats r q new no_seated inside
+          (λ i. moved.kept ∙ ap (λ t. (seat_at w.seats t).kept) (sym i)) (λ x. refl)
+
+      system_same : ranks_in next ≡ ranks_in w
+      system_same = ap (choice_system w.ranks w.kinds) (fun_ext (λ q. ap slots_by (kept_same q)))
+
+      world_news : (q : ℕ) → (seat_at news q).diary.locals ≡ behind.world q
+      world_news q = at_set (λ (s : Seated). s.diary.locals ≡ behind.world q) w.seats r q new no_seated inside
+          (λ i. moved.locals ∙ sym world_here ∙ ap behind.world (sym i)) (λ x. sym (world_there q x))
+
+      scene_news : scene_in next ≡ behind
+      scene_news = scene_by (λ q. (seat_at news q).diary.locals) behind.world (held_in n later) behind.held world_news held_later
+
+      pub made_news : scene_in next ≡ step_made k (named r e) z
+      made_news = scene_news ∙ sym so
+
+      reached_news : IsReached (ranks_in next) (histories_in next) (scene_in next).held
+      reached_news =
+          subst (λ (x : System). IsReached x (scene_in next).world (scene_in next).held) (sym system_same)
+          (subst (λ (y : Scene). IsReached k y.world y.held) (sym scene_news) reached_behind)
+
+      -- the interface of each rank
+      state_news : (q : ℕ) → state_at (ranks_in next) (histories_in next) q ≡ state_at k behind.world q
+      state_news q = ap₂ (λ (x : System) (y : Scene). state_at x y.world q) system_same scene_news
+
+      state_here : state_at k behind.world r ≡ after (k.go r) (state_at k z.world r) e
+      state_here = ap (state (k.go r) (k.first r)) world_here ∙ state-append (k.go r) (k.first r) (z.world r) (e ∷ [])
+
+      nic_news : (q : ℕ) → q < n → nic_in next q ≡ state_at (ranks_in next) (histories_in next) q
+      nic_news q h = elim (cases_eq q r) [
+        | inl i ↦
+            ap (nic_in next) i ∙ ap (λ (s : Seated). s.nic) new_here ∙ moved.nic
+            ∙ ap (λ v. after (k.go r) v e) (is.nic r hr) ∙ sym state_here ∙ ap (state_at k behind.world) (sym i) ∙ sym (state_news q)
+        | inr x ↦
+            ap (λ (s : Seated). s.nic) (news_other q x) ∙ is.nic q h
+            ∙ ap (state (k.go q) (k.first q)) (sym (world_there q x)) ∙ sym (state_news q)
+      ]
+
+      pub standing_news : IsStanding next
+      standing_news = record {
+        in_range = is.in_range;
+        few_steps = is.few_steps;
+        size = news_size;
+        reached = reached_news;
+        nic = nic_news;
+      }
+
+      pub later_news : IsLater w next
+      later_news = record {
+        ranks = refl;
+        kinds = refl;
+        system = system_same;
+        begins = λ q. subst (λ (y : Scene). IsPrefixOf (histories_in w q) (y.world q)) (sym made_news) (begins k z (named r e) q);
+      }
+
+      longer : length new.diary.locals ≡ length (seat_at w.seats r).diary.locals + 1
+      longer = ap length moved.locals ∙ length-append (seat_at w.seats r).diary.locals (e ∷ [])
+
+      pub room_news : HasRoom next
+      room_news = record {
+        steps = λ q h. at_set (λ (s : Seated). steps_due n w.kinds q ≤ length s.diary.locals + s.diary.room) w.seats r q new no_seated inside
+            (λ i. let a = enough.steps r hr in let b = ap (steps_due n w.kinds) i in let c = longer in let d = moved.room in
+            omega (arith, a, b, c, d)) (λ x. enough.steps q h);
+        receipts = λ q h. at_set (λ (s : Seated). steps_due n w.kinds q ≤ length s.diary.locals + s.diary.receipts) w.seats r q new no_seated
+            inside
+            (λ i. let a = enough.receipts r hr in let b = ap (steps_due n w.kinds) i in let c = longer in let d = moved.receipts in
+            omega (arith, a, b, c, d)) (λ x. enough.receipts q h);
+        bytes = λ q h. at_set (λ (s : Seated). 8 * steps_due n w.kinds q ≤ 8 * length s.diary.locals + s.diary.bytes) w.seats r q new no_seated
+            inside
+            (λ i. let a = enough.bytes r hr in let b = ap (steps_due n w.kinds) i in let c = longer in let d = moved.bytes in
+            omega (arith, a, b, c, d)) (λ x. enough.bytes q h);
+        wide = later_size;
+        lanes = λ s d lane hs hd. let a = enough.lanes s d lane hs hd in let b = later_capacity (lane_place n s d lane) in omega (arith, a, b);
+      }
+
+      pub go_news : HasGo next
+      go_news = record {
+        some = λ q h. subst (λ (x : Handles). 0 < length x.counters) (sym (kept_same q)) (gone.some q h);
+        go = λ q h. subst (λ (x : Handles). get_or x.counters 0 (handle 0 0) ≡ ct_of (slots_by x) w.kinds Go) (sym (kept_same q)) (gone.go q h);
+      }

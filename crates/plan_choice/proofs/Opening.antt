@@ -1,0 +1,97 @@
+-- Seats that were just installed, and lanes without a message, are a choice world of which nothing was done.
+use Rattle.std.proofs.Common.{ℕ, false, ◌&&◌, ◌*◌, ◌<◌, ◌≤◌, ◌≡◌, ◌∙◌, List, [], get_or, length, nat_lt, replicate, if◌then◌else◌, sym, ap, subst, inl, inr, arith}
+use Rattle.std.proofs.lemmas.Bool.{cases_lt}
+use Rattle.std.proofs.lemmas.List.{get_or-replicate, get_or_past, length-replicate}
+use Rattle.coll_lang.specs.declared.choices.ChoiceKind.{ChoiceKind}
+use Rattle.ptl_types.specs.declared.headers.Lane.{Lane}
+use Rattle.ptl_types.specs.declared.headers.Lane.TheVariants.{Answer, Request}
+use Rattle.ptl_types.specs.Handles.{top}
+use Rattle.pair_wires.specs.Lanes.{Plain}
+use Rattle.plan_cuts.specs.History.{state}
+use Rattle.plan_cuts.specs.System.{System, state_at}
+use Rattle.plan_orders.specs.Chosen.{Scene, first_scene}
+use Rattle.plan_orders.specs.Reached.{IsReached}
+use Rattle.plan_orders.specs.Reached.IsReached.{Begun}
+use Rattle.plan_worlds.specs.Places.{lane_place}
+use Rattle.rank_node.specs.Copies.{Diary}
+use Rattle.world_parts.specs.Layout.{held_in, lane_at}
+use Rattle.world_parts.specs.Marks.{delivery_count, lane_has}
+use Rattle.world_parts.proofs.Gated.{scene_by}
+use Rattle.world_parts.proofs.Placed.{lane_in}
+use Rattle.world_open.proofs.Begun.{none-held}
+use Rattle.choice_laws.specs.Decided.{IsInRange}
+use Rattle.choice_ranks.specs.Seats.{IsInstalled, Seated}
+use Rattle.plan_choice.specs.Acts.{firing_count, no_seated, seat_at, start_count}
+use Rattle.plan_choice.specs.Laying.{laid_lane}
+use Rattle.plan_choice.specs.World.{AreCounted, AreFields, ChoiceState, HasGo, HasRoom, IsStanding, histories_in, nic_in, ranks_in, scene_in}
+
+module _ (n : ℕ) (ks : List ChoiceKind) (some : 0 < n) (few : n ≤ 256) (few_steps : length ks ≤ 64) (seats : List Seated)
+    (size : length seats ≡ n) (installed : (r : ℕ) → r < n → IsInstalled n ks r (seat_at seats r)) (lanes : List Plain)
+    (wide : length lanes ≡ 2 * (n * n))
+    (laid : (s d : ℕ) (lane : Lane) → s < n → d < n → lane_at lanes (lane_place n s d lane) ≡ laid_lane (length ks) s d lane) where
+  abbrev pub fresh : ChoiceState
+  fresh = record { ranks = n; kinds = ks; seats = seats; lanes = lanes }
+
+  -- at any rank, and on any lane
+  nothing_done : (r : ℕ) → histories_in fresh r ≡ []
+  nothing_done r = elim (cases_lt r n) [
+    | inl lt ↦ ap (λ (d : Diary). d.locals) (installed r lt).diary
+    | inr le ↦ ap (λ (s : Seated). s.diary.locals) (get_or_past seats r no_seated (omega (arith, size, le)))
+  ]
+
+  empty : (s d : ℕ) (lane : Lane) → s < n → d < n → (lane_at lanes (lane_place n s d lane)).messages ≡ []
+  empty s d lane hs hd = ap (λ (l : Plain). l.messages) (laid s d lane hs hd)
+
+  pub is_first : scene_in fresh ≡ first_scene
+  is_first = scene_by (histories_in fresh) (λ r. []) (held_in n lanes) (λ s d lane. []) nothing_done (none-held n lanes empty)
+
+  in_range : IsInRange n ks
+  in_range = record { some = some; few_ranks = few; few_steps = omega (arith, few_steps) }
+
+  reached : IsReached (ranks_in fresh) (histories_in fresh) (scene_in fresh).held
+  reached = subst (λ (z : Scene). IsReached (ranks_in fresh) z.world z.held) (sym is_first) Begun
+
+  nic : (r : ℕ) → r < n → nic_in fresh r ≡ state_at (ranks_in fresh) (histories_in fresh) r
+  nic r h = (installed r h).nic ∙ ap (state ((ranks_in fresh).go r) ((ranks_in fresh).first r)) (sym (nothing_done r))
+
+  pub standing : IsStanding fresh
+  standing = record { in_range = in_range; few_steps = few_steps; size = size; reached = reached; nic = nic }
+
+  go : HasGo fresh
+  go = record { some = λ r h. (installed r h).some; go = λ r h. (installed r h).go }
+
+  room : HasRoom fresh
+  room = record {
+    steps = λ r h. let a = ap (λ (d : Diary). d.room) (installed r h).diary in omega (arith, a);
+    receipts = λ r h. let a = ap (λ (d : Diary). d.receipts) (installed r h).diary in omega (arith, a);
+    bytes = λ r h. let a = ap (λ (d : Diary). d.bytes) (installed r h).diary in omega (arith, a);
+    wide = wide;
+    lanes = λ s d lane hs hd. let a = ap (λ (l : Plain). l.capacity) (laid s d lane hs hd) in omega (arith, a);
+  }
+
+  -- no delivery is enabled
+  none_come : (s d : ℕ) (lane : Lane) → s < n → d < n → delivery_count lanes n top s d lane ≡ 0
+  none_come s d Request hs hd =
+      ap (λ (l : Plain). if nat_lt 0 (length l.messages) && lane_has lanes n top d s Answer then 1 else 0) (laid s d Request hs hd)
+  none_come s d Answer hs hd = ap (λ (l : Plain). if nat_lt 0 (length l.messages) then 1 else 0) (laid s d Answer hs hd)
+
+  pub opened_fields : (starts deliveries firings : List ℕ) → length starts ≡ length seats
+      → ((r : ℕ) → r < length seats → get_or starts r 0 ≡ start_count (seat_at seats r)) → deliveries ≡ replicate (2 * (n * n)) 0
+      → length firings ≡ length seats → ((r : ℕ) → r < length seats → get_or firings r 0 ≡ firing_count (seat_at seats r))
+      → AreFields fresh starts deliveries firings
+  opened_fields starts deliveries firings wide_starts of_starts none wide_firings of_firings = record {
+    standing = standing;
+    go = go;
+    room = room;
+    counted = record {
+      wide_starts = wide_starts ∙ size;
+      wide_deliveries = ap length none ∙ length-replicate (2 * (n * n)) 0;
+      wide_firings = wide_firings ∙ size;
+      of_starts = λ r h. of_starts r (omega (arith, h, size));
+      of_firings = λ r h. of_firings r (omega (arith, h, size));
+      of_deliveries = λ s d lane hs hd.
+          ap (λ xs. get_or xs (lane_place n s d lane) 0) none
+          ∙ get_or-replicate (2 * (n * n)) (lane_place n s d lane) 0 0 (lane_in n s d lane hs hd)
+          ∙ sym (none_come s d lane hs hd);
+    };
+  }

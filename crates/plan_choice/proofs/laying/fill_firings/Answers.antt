@@ -1,0 +1,20 @@
+-- One rank more in each turn.
+use Rattle.std.proofs.Common.{ℕ, ◌+◌, ◌<◌, ◌≡◌, ◌∙◌, List, ap, get_or, length, subst, sym, arith}
+use Rattle.std.proofs.Math.ListN.{length-set}
+use Rattle.world_open.proofs.Lists.{written}
+use Rattle.plan_choice.specs.Acts.{firing_count, seat_at}
+use Rattle.plan_choice.proofs.laying.fill_firings.Goals as goal
+
+pub loop-r-preserved : goal.loop-r-preserved
+loop-r-preserved c =
+    let seats = c.args.seats.now in
+    let r = c.loop-r.r in
+    let xs = c.loop-r.firings in
+    let t = c.loop-r-test.true in
+    let size : length xs ≡ length seats = c.loop-r.invariant.size in
+    let lt : r < length xs = omega arith in
+    record {
+      size = ap length c.mark_firings.ensures ∙ length-set xs r (firing_count (seat_at seats r)) ∙ size;
+      counts = subst (λ (v : List ℕ). (k : ℕ) → k < r + 1 → get_or v k 0 ≡ firing_count (seat_at seats k)) (sym c.mark_firings.ensures)
+          (written (λ k. firing_count (seat_at seats k)) xs r lt c.loop-r.invariant.counts);
+    }

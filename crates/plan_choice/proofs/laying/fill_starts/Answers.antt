@@ -1,0 +1,20 @@
+-- One rank more in each turn.
+use Rattle.std.proofs.Common.{ℕ, ◌+◌, ◌<◌, ◌≡◌, ◌∙◌, List, ap, get_or, length, subst, sym, arith}
+use Rattle.std.proofs.Math.ListN.{length-set}
+use Rattle.world_open.proofs.Lists.{written}
+use Rattle.plan_choice.specs.Acts.{start_count, seat_at}
+use Rattle.plan_choice.proofs.laying.fill_starts.Goals as goal
+
+pub loop-r-preserved : goal.loop-r-preserved
+loop-r-preserved c =
+    let seats = c.args.seats.now in
+    let r = c.loop-r.r in
+    let xs = c.loop-r.starts in
+    let t = c.loop-r-test.true in
+    let size : length xs ≡ length seats = c.loop-r.invariant.size in
+    let lt : r < length xs = omega arith in
+    record {
+      size = ap length c.mark_start.ensures ∙ length-set xs r (start_count (seat_at seats r)) ∙ size;
+      counts = subst (λ (v : List ℕ). (k : ℕ) → k < r + 1 → get_or v k 0 ≡ start_count (seat_at seats k)) (sym c.mark_start.ensures)
+          (written (λ k. start_count (seat_at seats k)) xs r lt c.loop-r.invariant.counts);
+    }

@@ -1,0 +1,112 @@
+//! The parts of a choice world before its first step.
+
+ghost use Rattle.std.specs.Prelude.{ℕ, ◌≡◌, ◌<◌, ◌≤◌, ◌*◌, [], IfOk, length, slice_index_or, if◌then◌else◌};
+ghost use Rattle.ptl_types.specs.declared.headers.Lane.{Lane as LaneOf};
+ghost use Rattle.plan_worlds.specs.Places.{lane_place};
+ghost use Rattle.world_parts.specs.Layout.{lane_at};
+ghost use Rattle.choice_ranks.specs.Seats.{IsInstalled};
+ghost use Rattle.plan_choice.specs.Acts.{firing_count, seat_at, start_count};
+ghost use Rattle.plan_choice.specs.Laying.{laid_lane};
+
+use crate::acts::{mark_firings, mark_start};
+use choice_ranks::{Seat, install};
+use coll_lang::ChoiceKind;
+use count_tree::CountTree;
+use pair_wires::PlainLane;
+use ptl_types::NoMemory;
+use std::alloc::Global;
+
+/// The seats of all ranks, by rank.
+pub(crate) fn seat_all(
+    alloc: Global,
+    ranks: u32,
+    kinds: &[ChoiceKind],
+) -> Result<Vec<Seat>, NoMemory>
+    requires { length kinds.now ≤ 64 }
+    ensures size { IfOk result (λ v. length v.items ≡ ranks) }
+    ensures seats { IfOk result (λ v. (r : ℕ) → r < ranks → IsInstalled ranks kinds.now r (seat_at v.items r)) }
+{
+    let mut seats = Vec::with_capacity(alloc, ranks as usize)?;
+    for r in 0..ranks {
+        let seat = install(alloc, r, ranks, kinds)?;
+        seats.push(seat)?;
+    }
+    Ok(seats)
+}
+
+/// How many messages a lane has room for: one of each step where it is used.
+fn room_for(used: bool, steps: u32) -> u32
+    ensures { result ≡ (if used then steps else 0) }
+{
+    if used { steps } else { 0 }
+}
+
+/// Empty lanes by their places, with room for one message of each step where they are used: requests to rank 0, and its answers.
+pub(crate) fn lay_all(alloc: Global, ranks: u32, steps: u32) -> Result<Vec<PlainLane>, NoMemory>
+    requires { ranks ≤ 256 }
+    ensures size { IfOk result (λ v. length v.items ≡ 2 * (ranks * ranks)) }
+    ensures laid { IfOk result (λ v. (s d : ℕ) (lane : LaneOf) → s < ranks → d < ranks →
+        lane_at v.items (lane_place ranks s d lane) ≡ laid_lane steps s d lane) }
+{
+    let pairs = ranks * ranks;
+    let mut lanes = Vec::with_capacity(alloc, 2 * pairs as usize)?;
+    for pair in 0..pairs {
+        let s = pair / ranks;
+        let d = pair % ranks;
+        let requests = room_for(d == 0, steps);
+        let request = PlainLane::open(alloc, requests)?;
+        lanes.push(request)?;
+        let answers = room_for(s == 0, steps);
+        let answer = PlainLane::open(alloc, answers)?;
+        lanes.push(answer)?;
+    }
+    Ok(lanes)
+}
+
+/// Counts the starts that are enabled, by rank.
+fn fill_starts(starts: &mut CountTree, seats: &[Seat])
+    requires few { length seats.now ≤ 256 }
+    requires size { length starts.old ≡ length seats.now }
+    ensures size { length starts.new ≡ length seats.now }
+    ensures counts { (r : ℕ) → r < length seats.now → slice_index_or starts.new r 0 ≡ start_count (seat_at seats.now r) }
+{
+    for r in 0..seats.len() as u32 {
+        mark_start(starts, seats, r);
+    }
+}
+
+/// Counts the firings that are enabled, by rank.
+fn fill_firings(firings: &mut CountTree, seats: &[Seat])
+    requires few { length seats.now ≤ 256 }
+    requires size { length firings.old ≡ length seats.now }
+    ensures size { length firings.new ≡ length seats.now }
+    ensures counts { (r : ℕ) → r < length seats.now → slice_index_or firings.new r 0 ≡ firing_count (seat_at seats.now r) }
+{
+    for r in 0..seats.len() as u32 {
+        mark_firings(firings, seats, r);
+    }
+}
+
+/// The starts that are enabled, by rank.
+pub(crate) fn count_starts(alloc: Global, seats: &[Seat]) -> Result<CountTree, NoMemory>
+    requires { length seats.now ≤ 256 }
+    ensures size { IfOk result (λ t. length t ≡ length seats.now) }
+    ensures counts { IfOk result (λ t. (r : ℕ) → r < length seats.now →
+        slice_index_or t r 0 ≡ start_count (seat_at seats.now r)) }
+{
+    let mut starts = CountTree::open(alloc, seats.len() as u32)?;
+    fill_starts(&mut starts, seats);
+    Ok(starts)
+}
+
+/// The firings that are enabled, by rank.
+pub(crate) fn count_firings(alloc: Global, seats: &[Seat]) -> Result<CountTree, NoMemory>
+    requires { length seats.now ≤ 256 }
+    ensures size { IfOk result (λ t. length t ≡ length seats.now) }
+    ensures counts { IfOk result (λ t. (r : ℕ) → r < length seats.now →
+        slice_index_or t r 0 ≡ firing_count (seat_at seats.now r)) }
+{
+    let mut firings = CountTree::open(alloc, seats.len() as u32)?;
+    fill_firings(&mut firings, seats);
+    Ok(firings)
+}

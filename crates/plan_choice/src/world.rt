@@ -1,0 +1,232 @@
+//! The choice world and its steps.
+
+ghost use Rattle.std.specs.Prelude.{ℕ, true, ◌≡◌, ◌+◌, ◌<◌, ◌≤◌, ◌↔◌, IsTrue, IfOk, Some, [], length, map, slice_get};
+ghost use Rattle.ptl_types.specs.Elements.{part, pattern};
+ghost use Rattle.ptl_types.specs.Handles.{top};
+ghost use Rattle.plan_core.specs.Members.{In};
+ghost use Rattle.plan_cuts.specs.Moment.{IsStill};
+ghost use Rattle.plan_cuts.specs.System.{state_at};
+ghost use Rattle.plan_orders.specs.Chosen.{first_scene, step_made};
+ghost use Rattle.plan_orders.specs.Taking.{listed};
+ghost use Rattle.worlds.specs.Runs.{IsRun, chosen_run};
+ghost use Rattle.choice_ranks.specs.Seats.{kinds_of};
+ghost use Rattle.plan_choice.specs.World.{IsDecidedWorld, IsLater, IsStanding, histories_in, nic_in, ranks_in, scene_in, steps_in, value_in};
+
+use crate::acts::make;
+use crate::laying::{count_firings, count_starts, lay_all, seat_all};
+use choice_ranks::{Seat, kinds};
+use coll_lang::{ChoiceKind, Choices};
+use count_tree::CountTree;
+use element_bytes::read_pattern;
+use pair_wires::PlainLane;
+use plan_orders::Step;
+use portals_ni::Nic;
+use ptl_types::{ElemType, LocalStep, NoMemory, Rank};
+use std::alloc::Global;
+use std::marker::Model;
+use worlds::{Chooser, delivery_at};
+
+/// All ranks of a choice text on one thread, with the messages that are on their way. After its opening no call takes memory.
+///
+/// With N ranks and S steps, `enabled` and `at_rest` take a constant number of steps, `enabled_step` and a step of the world the
+/// order of the logarithm of N and S.
+#[derive(Drop)]
+pub struct ChoiceWorld {
+    ranks: u32,
+    kinds: Vec<ChoiceKind>,
+    seats: Vec<Seat>,
+    lanes: Vec<PlainLane>,
+    starts: CountTree,
+    deliveries: CountTree,
+    firings: CountTree,
+}
+
+impl Model for ChoiceWorld {
+    ghost use Rattle.plan_choice.specs.World.{AreFields, ChoiceState};
+
+    ghost Value = { ChoiceState };
+
+    ghost view = { λ w. record { ranks = w.ranks; kinds = w.kinds.items; seats = w.seats.items; lanes = w.lanes.items } };
+
+    ghost invariant = { λ w. AreFields (record { ranks = w.ranks; kinds = w.kinds.items; seats = w.seats.items; lanes = w.lanes.items }) w.starts w.deliveries w.firings };
+}
+
+/// The word at a place of a memory, its lowest byte first.
+fn word_at(memory: &[u8], from: usize) -> u64
+    requires { from + 8 ≤ length memory.now }
+    ensures { result ≡ pattern (part from 8 memory.now) }
+{
+    read_pattern(ElemType::U64, &memory[from..])
+}
+
+impl ChoiceWorld {
+    /// The world of a choice text on so many ranks: each rank is installed, nothing was done, and nothing is on its way. Condition:
+    /// there are 1 to 256 ranks. `kept` is what holds of a choice world whatever was done with it.
+    ///
+    /// # Errors
+    ///
+    /// There was no memory for it.
+    pub fn open(alloc: Global, ranks: u32, choices: &Choices) -> Result<ChoiceWorld, NoMemory>
+        requires some { 0 < ranks }
+        requires few { ranks ≤ 256 }
+        ensures ranks { IfOk result (λ w. w.ranks ≡ ranks) }
+        ensures steps { IfOk result (λ w. w.kinds ≡ kinds_of choices.now.steps) }
+        ensures first { IfOk result (λ w. scene_in w ≡ first_scene) }
+        ensures kept { IfOk result (λ w. IsStanding w) }
+    {
+        let kinds = kinds(alloc, choices.steps())?;
+        let seats = seat_all(alloc, ranks, &kinds)?;
+        let lanes = lay_all(alloc, ranks, kinds.len() as u32)?;
+        let starts = count_starts(alloc, &seats)?;
+        let places = 2 * (ranks * ranks);
+        let deliveries = CountTree::open(alloc, places)?;
+        let firings = count_firings(alloc, &seats)?;
+        Ok(ChoiceWorld {
+            ranks,
+            kinds,
+            seats,
+            lanes,
+            starts,
+            deliveries,
+            firings,
+        })
+    }
+
+    /// How many ranks there are.
+    pub fn ranks(&self) -> u32
+        ensures { result ≡ self.now.ranks }
+    {
+        self.ranks
+    }
+
+    /// What the steps of the text do, in order.
+    pub fn kinds(&self) -> &[ChoiceKind]
+        ensures { result.now ≡ self.now.kinds }
+    {
+        self.kinds.as_slice()
+    }
+
+    /// How many steps are enabled. `kept` is what holds of a choice world whatever was done with it.
+    pub fn enabled(&self) -> u64
+        ensures number { result ≡ length (steps_in self.now) }
+        ensures kept { IsStanding self.now }
+    {
+        self.starts.total() + self.deliveries.total() + self.firings.total()
+    }
+
+    /// The enabled step number `i`, from 0: starts by rank; deliveries by source, target, request before answer; firings by rank,
+    /// then number.
+    pub fn enabled_step(&self, i: u64) -> Step
+        requires { i < length (steps_in self.now) }
+        ensures { slice_get (steps_in self.now) i ≡ Some result }
+    {
+        let starts = self.starts.total();
+        if i < starts {
+            let (r, _) = self.starts.find(i);
+            return Step::Start(r as u32);
+        }
+        let later = i - starts;
+        let deliveries = self.deliveries.total();
+        if later < deliveries {
+            let (place, _) = self.deliveries.find(later);
+            return delivery_at(self.ranks, place);
+        }
+        let (r, rest) = self.firings.find(later - deliveries);
+        let seat = &self.seats[r];
+        let _ = seat.ready();
+        Step::Fire(r as u32, seat.ready_at(rest as u32))
+    }
+
+    /// Makes a step that is enabled: one local step of one rank, whose message, if any, goes to the end of its lane. `kept` is what
+    /// holds of a choice world whatever was done with it.
+    pub fn step(&mut self, step: Step)
+        requires { In step (steps_in self.old) }
+        ensures made { scene_in self.new ≡ step_made (ranks_in self.old) step (scene_in self.old) }
+        ensures kept { IsStanding self.new }
+        ensures later { IsLater self.old self.new }
+    {
+        make(
+            &mut self.seats,
+            &mut self.lanes,
+            &mut self.starts,
+            &mut self.deliveries,
+            &mut self.firings,
+            self.ranks,
+            step,
+        );
+    }
+
+    /// Whether no step is enabled: each rank has started, no message is on its way, and no operation is ready. Then the results are
+    /// decided: each rank has told all steps, each elect names one rank at every rank, and the results of each tickets are the
+    /// numbers of the ranks, each once.
+    pub fn at_rest(&self) -> bool
+        ensures exact { IsTrue result ↔ (steps_in self.now ≡ []) }
+        ensures rest { IsTrue result → IsStill (ranks_in self.now) (histories_in self.now) (scene_in self.now).held }
+        ensures decided { IsTrue result → IsDecidedWorld self.now }
+    {
+        self.enabled() == 0
+    }
+
+    /// Makes enabled steps until there is none. Then the results are decided.
+    pub fn run_to_rest(&mut self)
+        ensures none { steps_in self.new ≡ [] }
+        ensures rest { IsStill (ranks_in self.new) (histories_in self.new) (scene_in self.new).held }
+        ensures decided { IsDecidedWorld self.new }
+        ensures later { IsLater self.old self.new }
+        ensures steps { IsRun (ranks_in self.old) top (scene_in self.old) (scene_in self.new) }
+    {
+        while 0 < self.enabled() {
+            let step = self.enabled_step(0);
+            self.step(step);
+        }
+    }
+
+    /// Makes the steps that a chooser names among the enabled ones, until there is none. Then the results are decided.
+    pub fn run_chosen<C: Chooser>(&mut self, chooser: &mut C)
+        ensures none { steps_in self.new ≡ [] }
+        ensures rest { IsStill (ranks_in self.new) (histories_in self.new) (scene_in self.new).held }
+        ensures decided { IsDecidedWorld self.new }
+        ensures later { IsLater self.old self.new }
+        ensures chosen { (n : ℕ) ×
+            (chosen_run (ranks_in self.old) top C.answer C.after n
+            (record { scene = scene_in self.old; chooser = chooser.old }) ≡
+            record { scene = scene_in self.new; chooser = chooser.new }) }
+    {
+        loop {
+            let n = self.enabled();
+            if n == 0 {
+                return;
+            }
+            let i = chooser.choose(n);
+            let step = self.enabled_step(i);
+            self.step(step);
+        }
+    }
+
+    /// The local steps of a rank, oldest first.
+    pub fn history(&self, r: Rank) -> &[LocalStep]
+        requires { r < self.now.ranks }
+        ensures { result.now ≡ map listed (histories_in self.now r) }
+    {
+        self.seats[r as usize].history()
+    }
+
+    /// The interface of a rank.
+    pub fn nic(&self, r: Rank) -> &Nic
+        requires { r < self.now.ranks }
+        ensures told { result.now ≡ nic_in self.now r }
+        ensures state { result.now ≡ state_at (ranks_in self.now) (histories_in self.now) r }
+    {
+        self.seats[r as usize].nic()
+    }
+
+    /// The result of a step at a rank, as it stands in its memory now: 0 before it is home.
+    pub fn value(&self, step: u32, r: Rank) -> u64
+        requires step { step < length self.now.kinds }
+        requires rank { r < self.now.ranks }
+        ensures { result ≡ value_in self.now step r }
+    {
+        let memory = self.seats[r as usize].nic().memory();
+        word_at(memory, 32 * step as usize + 24)
+    }
+}
