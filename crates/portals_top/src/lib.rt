@@ -14,8 +14,6 @@ mod reading;
 mod refusing;
 mod running;
 mod status;
-#[cfg(test)]
-mod tests;
 mod top;
 mod words;
 mod writing;

@@ -1,16 +1,26 @@
-//! The program under faults of its source and its sink, texts that it refuses under each command, and orders of whole runs beside a
-//! verdict that is found step by step.
+//! Whole runs of the program: what each command writes, faults of a source and a sink, texts that are refused, orders and their
+//! verdicts, runs by workers on threads with gates that watch the steps, and descriptions in JSON.
 #![tactic(auto)]
 
 #[cfg(test)]
 mod faults;
 #[cfg(test)]
+mod json;
+#[cfg(test)]
 mod orders;
+#[cfg(test)]
+mod plans;
 #[cfg(test)]
 mod refused;
 #[cfg(test)]
-mod running;
+mod results;
+#[cfg(test)]
+mod runs;
 #[cfg(test)]
 mod texts;
 #[cfg(test)]
 mod verdicts;
+#[cfg(test)]
+mod words;
+#[cfg(test)]
+mod workers;

@@ -1,133 +1,235 @@
-//! Orders of whole runs: they hold, and with two neighbours exchanged they have the verdict that is found step by step.
+//! Orders of runs: those that `sim` chooses and `trace` finds, and what `check` says of them and of others.
 
-use crate::running::run;
-use crate::texts::{TEN, THREE_RESULTS, THREE_STEPS};
-use crate::verdicts::{job_of, verdict_by_steps};
-use plan_orders::Verdict;
-use port_io::SureSink;
+use crate::runs::{gives, run};
+use crate::texts::{BARRIER_WITH_ORDERS, TEN, THREE_RESULTS, THREE_STEPS};
+use crate::verdicts::EXCHANGED;
 use portals_top::Status;
-use ptl_types::{LocalStep, Rank};
-use run_text::{Pieces, fails_line, order_line};
-use std::alloc::Global;
+use std::alloc::{AllocError, Global};
 use std::process::Abort;
+use std::str;
 use std::sync::Wait;
 use std::test::Fail;
 use std::thread::Threads;
-use worlds::World;
 
-/// Adds the line of a rank's steps to a text.
-fn push_order(
+#[test]
+fn check_writes_the_verdict_on_orders(rt: HostRuntime) -> Result<(), Fail> {
+    let alloc = rt.alloc();
+    for (text, status, output) in [
+        (BARRIER_WITH_ORDERS, Status::Done, "holds\n"),
+        (
+            "coll 1\nranks 2\nbarrier\nend\norder 0 s f0 f1 f2 f3 f4 f5 r1\norder 1 s f0 f1 f2 f3 f4 r0 f5\n",
+            Status::Refused,
+            "fails 0 7 NotReady\n",
+        ),
+        (
+            "coll 1\nranks 1\nbarrier\nend\norder 0 s f0 f1\n",
+            Status::Refused,
+            "fails 0 4 NotAtRest\n",
+        ),
+        (
+            "coll 1\nranks 1\nbarrier\nend\norder 0 s f1 f0 f2\n",
+            Status::Done,
+            "holds\n",
+        ),
+        (
+            "coll 1\nranks 1\nbarrier\nend\norder 0 s s f0 f1 f2\n",
+            Status::Refused,
+            "fails 0 2 StartedTwice\n",
+        ),
+        (
+            "coll 1\nranks 1\nbarrier\nend\norder 0 s r0\n",
+            Status::Refused,
+            "fails 0 2 NotSent\n",
+        ),
+        (
+            "coll 1\nranks 1\nbarrier\nend\norder 0 x\n",
+            Status::Refused,
+            "refused 5 BadOrder\n",
+        ),
+        (
+            "coll 1\nranks 2\nbarrier\nend\norder 0 s\n",
+            Status::Refused,
+            "refused 6 Unended\n",
+        ),
+        (
+            "coll 2\nranks 1\nelect e\nend\norder 0 x\n",
+            Status::Refused,
+            "refused 0 OneThread\n",
+        ),
+    ] {
+        gives(&rt, alloc, &["check"], text, status, output)?;
+    }
+    Ok(())
+}
+
+/// A description, and orders behind it.
+fn joined(alloc: Global, text: &str, orders: &str) -> Result<String, AllocError> {
+    let mut both = String::from_str(alloc, text)?;
+    both.push_str(orders)?;
+    Ok(both)
+}
+
+#[test]
+fn sim_writes_the_order_that_a_seed_chooses(rt: HostRuntime) -> Result<(), Fail> {
+    let alloc = rt.alloc();
+    for (seed, orders) in [
+        (
+            "1",
+            "order 0 s f0 f1 f19 f20 f2 r1 r0 f21 f3 r2 r0 f4 r0 f22 f6 f23 f5 f7 f8 f24 f13 f9 r0 r2 r3 f25 f10 f11 f26 f12 f27 f14 r0 f16 f15 f28 r0 f29 f18 f17 r0 f30\n\
+order 1 s f0 f19 f1 f2 r1 f3 r1 f20 f21 r3 f5 f22 f4 r0 r0 f13 f23 r1 f6 f7 f8 f9 f11 f24 f25 f10 r3 f26 f12 f27 f14 r1 f28 f15 r1 f16 r0 f17 f29 f18 r1 f30\n\
+order 2 s f0 f18 f17 f1 f2 r2 f19 f3 r2 f20 f5 f4 r0 f12 f21 r2 f6 f22 f7 f8 r1 f9 f10 f23 r1 r0 f24 r0 f11 f13 f25 r2 f14 f15 f26 r2 f16 r2 f27 f28\n\
+order 3 s f0 f16 f1 f2 r3 f18 f3 r3 f5 f17 f4 f19 r1 f6 f20 f7 f12 r1 f8 r3 r2 f9 f10 f23 f11 f22 f24 f21 f13 r3 f25 f14 r3 r1 r2 f15 r3 f26 f27\n",
+        ),
+        (
+            "2",
+            "order 0 s f19 f1 f0 f2 f20 r0 r2 f3 r0 f21 r1 f4 r0 f5 f13 r0 f6 f7 f8 f9 f23 f22 r3 f24 f11 f25 f10 r2 f12 f14 f26 f27 r0 f15 f16 r0 f18 f28 f17 f29 r0 f30\n\
+order 1 s f0 f20 f19 f1 f2 r3 r1 f21 f3 r1 f22 f4 f5 r0 f6 f13 f7 r1 f23 f9 r0 f24 r3 f8 f11 f10 f25 f26 f12 f27 f14 r1 f28 f16 f15 r0 r1 f18 f29 f17 r1 f30\n\
+order 2 s f0 f18 f2 f1 f17 r2 f3 f19 r2 f4 f20 f5 r0 f12 f6 r2 r1 f8 f7 f23 f21 f10 f22 r0 f11 f9 f13 r2 f26 f24 f14 f15 f25 r2 r1 r0 f27 f16 r2 f28\n\
+order 3 s f0 f16 f2 f17 r3 f1 f18 f3 r3 f19 f4 f5 r1 f12 f6 r3 f21 f7 f8 r2 f10 f9 f22 f20 r1 f23 r2 f11 f13 r3 f14 f25 f24 r3 f15 f26 r3 r1 f27\n",
+        ),
+    ] {
+        let output = joined(alloc, THREE_RESULTS, orders)?;
+        let words = ["sim", seed];
+        gives(
+            &rt,
+            alloc,
+            &words,
+            THREE_STEPS,
+            Status::Done,
+            output.as_str(),
+        )?;
+        let checked = joined(alloc, THREE_STEPS, orders)?;
+        gives(
+            &rt,
+            alloc,
+            &["check"],
+            checked.as_str(),
+            Status::Done,
+            "holds\n",
+        )?;
+    }
+    Ok(())
+}
+
+/// Runs words on a description, and answers the orders that are written behind the results.
+fn orders_of(
+    rt: &(impl Abort + Threads + Wait + Sync),
     alloc: Global,
-    text: &mut Vec<u8>,
-    rank: Rank,
-    steps: &[LocalStep],
-) -> Result<(), Fail> {
-    let mut sink = SureSink::with_room(alloc, 16_384)?;
-    let mut out = Pieces::open(alloc)?;
-    let _ = order_line(&mut out, &mut sink, rank, steps);
-    let _ = out.end(&mut sink);
-    text.extend_from_slice(sink.as_slice())?;
-    Ok(())
-}
-
-/// Adds the lines of the steps that the ranks of a world made.
-pub(crate) fn push_orders(alloc: Global, text: &mut Vec<u8>, world: &World) -> Result<(), Fail> {
-    for rank in 0..world.schedule().shape().ranks() {
-        push_order(alloc, text, rank, world.history(rank))?;
-    }
-    Ok(())
-}
-
-/// The steps that the ranks of a world made.
-fn lists_of(alloc: Global, world: &World) -> Result<Vec<Vec<LocalStep>>, Fail> {
-    let mut lists = Vec::new(alloc);
-    for rank in 0..world.schedule().shape().ranks() {
-        lists.push(world.history(rank).to_vec(alloc)?)?;
-    }
-    Ok(lists)
-}
-
-/// The line of a verdict.
-fn line_of(alloc: Global, verdict: Verdict) -> Result<Vec<u8>, Fail> {
-    let Verdict::Fails { rank, place, cause } = verdict else {
-        return Ok(b"holds\n".to_vec(alloc)?);
+    command: &[&str],
+    text: &str,
+) -> Result<String, Fail> {
+    let made = run(rt, alloc, command, text.as_bytes())?;
+    assert_eq!(rt; made.status, Status::Done);
+    let Some((_, orders)) = str::from_utf8(made.sink.as_slice())?.split_once("rest\n") else {
+        panic!(rt; "no results")
     };
-    let mut sink = SureSink::with_room(alloc, 64)?;
-    let mut out = Pieces::open(alloc)?;
-    let _ = fails_line(&mut out, &mut sink, rank, place, cause);
-    let _ = out.end(&mut sink);
-    Ok(sink.as_slice().to_vec(alloc)?)
+    Ok(String::from_str(alloc, orders)?)
 }
 
-/// Exchanges two neighbours in one of the lists, which a seed chooses.
-fn exchange(lists: &mut Vec<Vec<LocalStep>>, seed: u32) {
-    let count = lists.len();
-    if count == 0 {
-        return;
+/// Adds a line of orders, of which two neighbours are exchanged: a number says which.
+fn push_exchanged(
+    alloc: Global,
+    text: &mut String,
+    line: &str,
+    number: usize,
+) -> Result<(), AllocError> {
+    let mut words: Vec<&str> = line.split_whitespace().collect(alloc)?;
+    // The line begins with `order` and its rank.
+    if words.len() > 3 {
+        let place = 2 + number % (words.len() - 3);
+        words.swap(place, place + 1);
     }
-    let list = &mut lists[seed as usize % count];
-    let steps = list.len();
-    if steps < 2 {
-        return;
+    let mut gap = "";
+    for word in words.iter() {
+        text.push_str(gap)?;
+        text.push_str(word)?;
+        gap = " ";
     }
-    let place = seed as usize % (steps - 1);
-    list.swap(place, place + 1);
+    text.push_str("\n")
 }
 
-/// The orders of a run in a chosen order hold; with two neighbours exchanged they have the verdict that is found step by step.
-fn sim_and_check(
+/// A description, and orders behind it of which two neighbours are exchanged at one rank: a number says at which, and where.
+fn with_exchanged(
+    alloc: Global,
+    text: &str,
+    orders: &str,
+    number: usize,
+) -> Result<String, AllocError> {
+    let mut both = String::from_str(alloc, text)?;
+    let ranks = orders.lines().count().max(1);
+    for (rank, line) in orders.lines().enumerate() {
+        if rank == number % ranks {
+            push_exchanged(alloc, &mut both, line, number)?;
+        } else {
+            both.push_str(line)?;
+            both.push_str("\n")?;
+        }
+    }
+    Ok(both)
+}
+
+/// The orders that 50 seeds choose hold; with two neighbours exchanged they have the verdicts of a program of its own.
+fn checks_chosen_orders(
     rt: &(impl Abort + Threads + Wait + Sync),
     alloc: Global,
     text: &str,
-    seed: u32,
+    verdicts: &str,
 ) -> Result<(), Fail> {
-    let number = format!(in alloc; "{seed}")?;
-    let outcome = run(rt, alloc, &["sim", number.as_str()], text.as_bytes())?;
-    assert_eq!(rt; outcome.status, Status::Done);
-    let Some(world) = outcome.ran.world else {
-        panic!(rt; "a world")
-    };
-    let mut lists = lists_of(alloc, &world)?;
-    let mut held = text.as_bytes().to_vec(alloc)?;
-    push_orders(alloc, &mut held, &world)?;
-    let verdict = run(rt, alloc, &["check"], held.as_slice())?;
-    assert_eq!(rt; verdict.text.as_slice(), b"holds\n".as_slice());
-    exchange(&mut lists, seed);
-    let mut exchanged = text.as_bytes().to_vec(alloc)?;
-    for rank in 0..lists.len() {
-        push_order(alloc, &mut exchanged, rank as u32, lists[rank].as_slice())?;
+    let mut seed = 0usize;
+    for verdict in verdicts.lines() {
+        seed = seed.saturating_add(1);
+        let number = format!(in alloc; "{seed}")?;
+        let orders = orders_of(rt, alloc, &["sim", number.as_str()], text)?;
+        let chosen = joined(alloc, text, orders.as_str())?;
+        gives(
+            rt,
+            alloc,
+            &["check"],
+            chosen.as_str(),
+            Status::Done,
+            "holds\n",
+        )?;
+        let exchanged = with_exchanged(alloc, text, orders.as_str(), seed)?;
+        let made = run(rt, alloc, &["check"], exchanged.as_bytes())?;
+        let line = format!(in alloc; "{verdict}\n")?;
+        assert_eq!(rt;
+            made.sink.as_slice(),
+            line.as_bytes(),
+            "at {seed} of {text}"
+        );
+        assert_eq!(rt; made.status == Status::Done, verdict == "holds");
     }
-    let mut fresh = World::open(alloc, &job_of(rt, alloc, text.as_bytes()))?;
-    let expected = verdict_by_steps(alloc, &mut fresh, &lists)?;
-    let verdict = run(rt, alloc, &["check"], exchanged.as_slice())?;
-    assert_eq!(rt;
-        verdict.text.as_slice(),
-        line_of(alloc, expected)?.as_slice()
-    );
+    assert_eq!(rt; seed, 50);
     Ok(())
 }
 
 #[test]
 fn chosen_orders_hold_and_exchanged_ones_have_their_verdict(rt: HostRuntime) -> Result<(), Fail> {
-    for text in TEN {
-        for seed in 1..51u32 {
-            sim_and_check(&rt, rt.alloc(), text, seed)?;
-        }
+    for (text, verdicts) in TEN.iter().zip(EXCHANGED) {
+        checks_chosen_orders(&rt, rt.alloc(), text, verdicts)?;
     }
     Ok(())
 }
 
 #[test]
-fn traced_orders_hold(rt: HostRuntime) -> Result<(), Fail> {
+fn traces_begin_with_the_results_and_their_orders_hold(rt: HostRuntime) -> Result<(), Fail> {
     let alloc = rt.alloc();
-    for _ in 0..20 {
-        let outcome = run(&rt, alloc, &["trace", "4"], THREE_STEPS.as_bytes())?;
-        assert_eq!(rt; outcome.status, Status::Done);
-        assert!(rt; outcome.text.starts_with(THREE_RESULTS.as_bytes()));
-        let mut text = THREE_STEPS.as_bytes().to_vec(alloc)?;
-        text.extend_from_slice(&outcome.text[THREE_RESULTS.len()..])?;
-        let verdict = run(&rt, alloc, &["check"], text.as_slice())?;
-        assert_eq!(rt; verdict.text.as_slice(), b"holds\n".as_slice());
+    for _ in 0..50 {
+        let made = run(&rt, alloc, &["trace", "4"], THREE_STEPS.as_bytes())?;
+        assert_eq!(rt; made.status, Status::Done);
+        assert!(rt; made.ran.world.is_some());
+        let Some(orders) = str::from_utf8(made.sink.as_slice())?.strip_prefix(THREE_RESULTS) else {
+            panic!(rt; "other results")
+        };
+        let checked = joined(alloc, THREE_STEPS, orders)?;
+        gives(
+            &rt,
+            alloc,
+            &["check"],
+            checked.as_str(),
+            Status::Done,
+            "holds\n",
+        )?;
     }
     Ok(())
 }

@@ -1,13 +1,27 @@
 //! Texts that are refused, under each command that reads a description.
 
-use crate::running::run;
+use crate::runs::{gives, run_between};
+use port_io::{Source, SureSink, SureSource};
 use portals_top::Status;
+use ptl_types::Bytes;
+use rank_threads::OpenGate;
+use std::alloc::Global;
+use std::process::Abort;
+use std::sync::Wait;
 use std::test::Fail;
+use std::thread::Threads;
 
-const REFUSED: [(&str, &str); 11] = [
+/// Texts that are refused alike under all commands.
+const REFUSED: [(&str, &str); 22] = [
     ("", "refused 1 Unended\n"),
-    ("coll 3\nranks 1\nend\n", "refused 1 BadHeader\n"),
-    ("coll 1\nranks 65\nend\n", "refused 2 BadRanks\n"),
+    (
+        "coll 3\nranks 1\ninput a u8 1\n7\nbroadcast 0 a b\nprint b\nend\n",
+        "refused 1 BadHeader\n",
+    ),
+    (
+        "coll 1\nranks 65\ninput a u8 1\n7\nbroadcast 0 a b\nprint b\nend\n",
+        "refused 2 BadRanks\n",
+    ),
     (
         "coll 1\nranks 1\ninput a u8 1 \n7\nbroadcast 0 a b\nprint b\nend\n",
         "refused 3 BadLine\n",
@@ -25,6 +39,14 @@ const REFUSED: [(&str, &str); 11] = [
         "refused 4 BadLine\n",
     ),
     (
+        "coll 1\nranks 1\ninput a u8 1\n256\nbroadcast 0 a b\nprint b\nend\n",
+        "refused 4 BadNumber\n",
+    ),
+    (
+        "coll 1\nranks 1\ninput a u8 1\n007\nbroadcast 0 a b\nprint b\nend\n",
+        "refused 4 BadNumber\n",
+    ),
+    (
         "coll 1\nranks 1\ninput a u8 1\n7\nbroadcast 1 a b\nprint b\nend\n",
         "refused 5 BadRoot\n",
     ),
@@ -40,42 +62,125 @@ const REFUSED: [(&str, &str); 11] = [
         "coll 1\nranks 1\ninput a u8 1\n7\nbroadcast 0 a b\nprint b\nbarrier\nend\n",
         "refused 7 BadLine\n",
     ),
+    (
+        "coll 1\nranks 1\ninput a u8 1\n7\nbroadcast 0 a b\nprint b\n",
+        "refused 7 Unended\n",
+    ),
+    (
+        "coll 1\nranks 1\ninput a u8 1\n7\nbroadcast 0 a b\nprint b\nend",
+        "refused 7 Unended\n",
+    ),
+    (
+        "coll 1\nranks 1\ninput a u8 1\ncomplete remote\nend\n",
+        "refused 4 BadLine\n",
+    ),
+    (
+        "coll 1\nranks 2\ninput a u8 3\n1 2 3\n4 5 6\nalltoall a b\nend\n",
+        "refused 6 WrongShape\n",
+    ),
+    (
+        "coll 1\nranks 3\ninput a u8 1\n1\n2\n3\nreduce 1 sum a b\nbroadcast 0 b c\nprint c\nend\n",
+        "refused 8 WrongShape\n",
+    ),
+    (
+        "coll 2\nranks 4\ngroup odd 3 1\nend\n",
+        "refused 3 BadGroup\n",
+    ),
+    (
+        "coll 2\nranks 4\ngroup odd 1 3\non odd broadcast 2 a b\nend\n",
+        "refused 4 UnknownBuffer\n",
+    ),
+    (
+        "coll 2\nranks 3\ngroup g 0 2\ninput a u8 1\n1\n2\n3\non g allreduce sum a b\n\
+on g scatter 0 b c\nprint c\nend\n",
+        "refused 9 WrongShape\n",
+    ),
+    (
+        "coll 2\nranks 1\nelect e\nbarrier\nend\n",
+        "refused 4 BadLine\n",
+    ),
 ];
 
 #[test]
-fn a_malformed_text_is_refused_under_each_command(rt: HostRuntime) -> Result<(), Fail> {
+fn a_refused_text_gets_its_line_under_each_command(rt: HostRuntime) -> Result<(), Fail> {
     let alloc = rt.alloc();
-    for (text, output) in REFUSED {
-        for command in [
-            ["once", ""],
-            ["plan", ""],
-            ["check", ""],
-            ["sim", "1"],
-            ["run", "2"],
-            ["trace", "2"],
-        ] {
-            let words = if command[1].is_empty() {
-                &command[..1]
-            } else {
-                &command[..]
-            };
-            let outcome = run(&rt, alloc, words, text.as_bytes())?;
-            assert_eq!(rt; outcome.status, Status::Refused);
-            assert_eq!(rt; outcome.text.as_slice(), output.as_bytes());
-            assert!(rt; outcome.ran.world.is_none());
+    let commands: [&[&str]; 6] = [
+        &["once"],
+        &["plan"],
+        &["check"],
+        &["sim", "1"],
+        &["run", "2"],
+        &["trace", "2"],
+    ];
+    for command in commands {
+        for (text, output) in REFUSED {
+            gives(&rt, alloc, command, text, Status::Refused, output)?;
         }
     }
     Ok(())
 }
 
 #[test]
-fn a_text_of_a_byte_too_many_is_too_long(rt: HostRuntime) -> Result<(), Fail> {
+fn commands_that_refuse_in_their_own_way(rt: HostRuntime) -> Result<(), Fail> {
     let alloc = rt.alloc();
-    for (command, count) in [("once", 1_048_577), ("check", 16_777_217)] {
-        let long = vec![in alloc; b'\n'; count]?;
-        let outcome = run(&rt, alloc, &[command], long.as_slice())?;
-        assert_eq!(rt; outcome.status, Status::Refused);
-        assert_eq!(rt; outcome.text.as_slice(), b"refused 0 TooLong\n".as_slice());
+    let behind = "coll 1\nranks 1\nend\nx";
+    let choice = "coll 2\nranks 1\nelect e\ntickets t\nprint e\nprint t\nend\n";
+    let cases: [(&[&str], &str, &str); 7] = [
+        // What stands behind a description is an order line that isn't ended, where orders are due.
+        (&["once"], behind, "refused 4 AfterEnd\n"),
+        (&["check"], behind, "refused 4 Unended\n"),
+        (&["plan"], choice, "refused 0 OneThread\n"),
+        (&["run", "2"], choice, "refused 0 OneThread\n"),
+        (&["trace", "2"], choice, "refused 0 OneThread\n"),
+        (&["check"], choice, "refused 0 OneThread\n"),
+        (
+            &["json", "2"],
+            "coll 1\nranks 1\nend\n",
+            "refused 0 BadJson\n",
+        ),
+    ];
+    for (command, text, output) in cases {
+        gives(&rt, alloc, command, text, Status::Refused, output)?;
+    }
+    Ok(())
+}
+
+/// Runs a command on so many bytes, of which so many stay unread.
+fn reads_no_further(
+    rt: &(impl Abort + Threads + Wait + Sync),
+    alloc: Global,
+    command: &[&str],
+    count: usize,
+    unread: usize,
+    output: &str,
+) -> Result<(), Fail> {
+    let long = vec![in alloc; b'x'; count]?;
+    let mut source = SureSource::new(Bytes::from_vec(long));
+    let mut sink = SureSink::with_room(alloc, 64)?;
+    let (answer, ran) = run_between(rt, alloc, &OpenGate, command, &mut source, &mut sink)?;
+    assert_eq!(rt; answer, Status::Refused, "at {count}");
+    assert_eq!(rt; sink.as_slice(), output.as_bytes(), "at {count}");
+    assert!(rt; ran.world.is_none());
+    let mut left = [0u8; 8];
+    assert_eq!(rt; source.read(&mut left), Ok(unread), "at {count}");
+    Ok(())
+}
+
+#[test]
+fn a_text_past_the_limit_is_read_no_further(rt: HostRuntime) -> Result<(), Fail> {
+    let alloc = rt.alloc();
+    let cases: [(&[&str], usize, usize, &str); 7] = [
+        (&["once"], 1_048_576, 0, "refused 1 Unended\n"),
+        (&["once"], 1_048_577, 0, "refused 0 TooLong\n"),
+        (&["plan"], 1_048_580, 3, "refused 0 TooLong\n"),
+        (&["json", "2"], 1_048_580, 3, "refused 0 TooLong\n"),
+        // No line ends the description.
+        (&["check"], 1_048_576, 0, "refused 1 Unended\n"),
+        (&["check"], 1_048_577, 0, "refused 0 TooLong\n"),
+        (&["check"], 16_777_220, 3, "refused 0 TooLong\n"),
+    ];
+    for (command, count, unread, output) in cases {
+        reads_no_further(&rt, alloc, command, count, unread, output)?;
     }
     Ok(())
 }

@@ -1,126 +1,73 @@
-//! The verdict on given orders, found on a world whose steps are made one by one.
+//! What `check` says of the orders of the ten descriptions under 50 seeds, with two neighbours exchanged at one rank: of a program of
+//! its own.
 
-use coll_lang::parse;
-use plan_orders::{Step, Verdict};
-use ptl_types::{Cause, LocalStep, Rank};
-use schedule_compiler::{Job, compile};
-use std::alloc::{AllocError, Global};
-use std::process::Abort;
-use worlds::World;
-
-/// The job of a text.
-pub(crate) fn job_of(rt: &impl Abort, alloc: Global, text: &[u8]) -> Job {
-    let Ok(description) = parse(alloc, text) else {
-        panic!(rt; "a description")
-    };
-    let (shape, inputs) = description.into_parts();
-    let Ok(schedule) = compile(alloc, &shape) else {
-        panic!(rt; "a schedule")
-    };
-    let Ok(job) = Job::new(alloc, schedule, inputs) else {
-        panic!(rt; "a job")
-    };
-    job
-}
-
-/// The step of a world that a rank's local step is.
-fn step_of(rank: Rank, step: LocalStep) -> Step {
-    match step {
-        LocalStep::Start => Step::Start(rank),
-        LocalStep::Receive { source, lane } => Step::Deliver(source, rank, lane),
-        LocalStep::Fire { number } => Step::Fire(rank, number),
-    }
-}
-
-/// Why a step can't be taken.
-fn cause_of(step: LocalStep) -> Cause {
-    match step {
-        LocalStep::Start => Cause::StartedTwice,
-        LocalStep::Receive { .. } => Cause::NotSent,
-        LocalStep::Fire { .. } => Cause::NotReady,
-    }
-}
-
-/// The rank that makes a step.
-fn rank_of(step: Step) -> Rank {
-    match step {
-        Step::Start(rank) | Step::Fire(rank, _) | Step::Deliver(_, rank, _) => rank,
-    }
-}
-
-/// Takes the next step of a list, if it is enabled.
-fn take_next(world: &mut World, rank: Rank, list: &[LocalStep], place: usize) -> bool {
-    let Some(next) = list.get(place) else {
-        return false;
-    };
-    let step = step_of(rank, *next);
-    if !world.is_enabled(step) {
-        return false;
-    }
-    world.step(step);
-    true
-}
-
-/// Takes once through all ranks what can be taken, and answers whether anything was.
-fn take_round(world: &mut World, lists: &[Vec<LocalStep>], places: &mut [usize]) -> bool {
-    let mut taken = false;
-    for rank in 0..lists.len().min(places.len()) {
-        for _ in 0..lists[rank].len() {
-            if !take_next(world, rank as u32, lists[rank].as_slice(), places[rank]) {
-                break;
-            }
-            places[rank] = places[rank].saturating_add(1);
-            taken = true;
-        }
-    }
-    taken
-}
-
-/// The lowest rank that can still make a step.
-fn lowest_enabled(world: &World) -> Option<Rank> {
-    let mut lowest = None;
-    for at in 0..world.enabled() {
-        let rank = rank_of(world.enabled_step(at));
-        lowest = match lowest {
-            Some(low) if low <= rank => Some(low),
-            _ => Some(rank),
-        };
-    }
-    lowest
-}
-
-/// The verdict: each rank's next step is taken whenever it is enabled, until none is; then it is read off the lowest rank of which a
-/// step is left, or else off the lowest one that can still make one.
-pub(crate) fn verdict_by_steps(
-    alloc: Global,
-    world: &mut World,
-    lists: &[Vec<LocalStep>],
-) -> Result<Verdict, AllocError> {
-    let mut places = vec![in alloc; 0usize; lists.len()]?;
-    let mut steps = 1usize;
-    for list in lists {
-        steps = steps.saturating_add(list.len());
-    }
-    for _ in 0..steps {
-        if !take_round(world, lists, places.as_mut_slice()) {
-            break;
-        }
-    }
-    for rank in 0..lists.len().min(places.len()) {
-        if let Some(step) = lists[rank].get(places[rank]) {
-            return Ok(Verdict::Fails {
-                rank: rank as u32,
-                place: (places[rank] as u64).saturating_add(1),
-                cause: cause_of(*step),
-            });
-        }
-    }
-    match lowest_enabled(world) {
-        Some(rank) => Ok(Verdict::Fails {
-            rank,
-            place: (lists.get(rank as usize).map_or(0, |list| list.len()) as u64).saturating_add(1),
-            cause: Cause::NotAtRest,
-        }),
-        None => Ok(Verdict::Holds),
-    }
-}
+/// The verdicts on each description, the first seed's first.
+pub(crate) const EXCHANGED: [&str; 10] = [
+    // allgather
+    "holds\nholds\nfails 0 4 NotReady\nfails 0 15 NotSent\nholds\nholds\nfails 0 13 NotSent\nholds\nholds\nholds\nholds\n\
+holds\nholds\nfails 0 20 NotSent\nholds\nfails 0 20 NotSent\nholds\nholds\nholds\nholds\nholds\nfails 1 23 NotReady\n\
+fails 0 9 NotSent\nholds\nfails 0 19 NotSent\nholds\nfails 0 5 NotSent\nholds\nfails 0 13 NotSent\nholds\n\
+fails 0 20 NotSent\nfails 0 15 NotSent\nholds\nholds\nholds\nholds\nfails 1 15 NotReady\nholds\nfails 0 17 NotSent\n\
+holds\nholds\nfails 0 20 NotReady\nholds\nfails 2 22 NotSent\nfails 0 23 NotReady\nfails 0 15 NotSent\nholds\nholds\n\
+holds\nholds\n",
+    // allreduce
+    "holds\nholds\nfails 0 11 NotSent\nholds\nholds\nholds\nholds\nholds\nholds\nholds\nholds\nholds\nfails 0 11 NotSent\n\
+fails 0 9 NotSent\nholds\nholds\nholds\nholds\nholds\nholds\nholds\nholds\nholds\nholds\nholds\nholds\n\
+fails 3 14 NotReady\nfails 0 12 NotReady\nholds\nholds\nholds\nholds\nfails 0 12 NotSent\nholds\nholds\nholds\nholds\n\
+holds\nholds\nfails 0 7 NotReady\nholds\nfails 0 11 NotSent\nholds\nholds\nfails 0 12 NotSent\nholds\n\
+fails 0 12 NotSent\nfails 0 15 NotReady\nholds\nfails 0 12 NotSent\n",
+    // allreduce_and_scan
+    "holds\nholds\nfails 0 14 NotSent\nholds\nfails 0 14 NotSent\nholds\nholds\nholds\nfails 0 12 NotSent\n\
+fails 0 13 NotSent\nholds\nholds\nholds\nholds\nholds\nholds\nfails 0 21 NotSent\nfails 0 30 NotSent\nholds\nholds\n\
+holds\nholds\nholds\nholds\nholds\nholds\nfails 0 44 NotSent\nholds\nholds\nholds\nfails 0 51 NotSent\n\
+fails 0 33 NotReady\nholds\nfails 0 56 NotSent\nholds\nfails 0 37 NotReady\nholds\nholds\nholds\nfails 0 41 NotReady\n\
+holds\nholds\nholds\nholds\nholds\nfails 2 47 NotSent\nfails 1 52 NotSent\nholds\nholds\nfails 0 10 NotSent\n",
+    // alltoall
+    "holds\nholds\nfails 0 4 NotReady\nholds\nholds\nfails 0 7 NotSent\nholds\nfails 0 14 NotSent\nholds\nholds\n\
+fails 2 12 NotSent\nholds\nfails 1 14 NotReady\nfails 0 13 NotSent\nholds\nholds\nholds\nfails 0 5 NotSent\nholds\n\
+holds\nfails 0 8 NotSent\nfails 0 13 NotSent\nholds\nholds\nholds\nholds\nholds\nfails 0 12 NotSent\nholds\nholds\n\
+holds\nholds\nfails 0 6 NotSent\nfails 0 9 NotSent\nholds\nholds\nholds\nholds\nholds\nholds\nfails 2 14 NotReady\n\
+fails 0 1 NotReady\nholds\nholds\nholds\nholds\nholds\nfails 0 7 NotReady\nholds\nfails 1 12 NotSent\n",
+    // barrier
+    "fails 0 11 NotSent\nholds\nholds\nholds\nholds\nfails 0 15 NotSent\nholds\nholds\nholds\nholds\nholds\nholds\nholds\n\
+fails 4 15 NotReady\nfails 0 1 NotReady\nholds\nholds\nfails 0 7 NotSent\nholds\nholds\nfails 0 11 NotSent\nholds\n\
+holds\nholds\nholds\nholds\nholds\nholds\nfails 4 15 NotReady\nfails 0 1 NotReady\nholds\nholds\nholds\nholds\nholds\n\
+holds\nfails 0 15 NotSent\nholds\nholds\nholds\nholds\nholds\nholds\nholds\nfails 0 1 NotReady\nfails 0 11 NotSent\n\
+fails 0 11 NotSent\nholds\nholds\nholds\n",
+    // gather
+    "holds\nholds\nfails 0 4 NotReady\nfails 1 5 NotSent\nholds\nfails 0 7 NotReady\nfails 1 8 NotSent\n\
+fails 1 12 NotSent\nholds\nholds\nfails 1 12 NotSent\nholds\nholds\nfails 1 5 NotSent\nholds\nfails 1 5 NotReady\n\
+holds\nholds\nfails 1 8 NotSent\nholds\nfails 0 6 NotSent\nholds\nholds\nfails 0 1 NotReady\nfails 1 2 NotReady\n\
+holds\nfails 0 4 NotReady\nholds\nfails 1 12 NotSent\nholds\nholds\nfails 1 8 NotSent\nholds\nfails 1 11 NotSent\n\
+holds\nholds\nholds\nfails 1 12 NotSent\nholds\nfails 1 5 NotReady\nholds\nfails 0 3 NotReady\nfails 1 8 NotSent\n\
+holds\nfails 0 6 NotReady\nholds\nholds\nfails 0 1 NotReady\nfails 1 2 NotReady\nholds\n",
+    // exscan
+    "holds\nholds\nfails 3 4 NotSent\nholds\nholds\nholds\nfails 3 8 NotReady\nfails 0 9 NotSent\nfails 1 10 NotReady\n\
+fails 2 11 NotReady\nfails 3 12 NotSent\nfails 0 13 NotSent\nholds\nfails 2 15 NotReady\nholds\nfails 0 17 NotSent\n\
+holds\nholds\nholds\nholds\nholds\nholds\nholds\nfails 0 6 NotReady\nfails 1 3 NotReady\nfails 2 4 NotReady\n\
+fails 3 7 NotReady\nfails 0 10 NotReady\nfails 1 7 NotReady\nholds\nholds\nfails 0 14 NotReady\nfails 1 11 NotSent\n\
+holds\nholds\nfails 0 18 NotReady\nfails 1 15 NotReady\nfails 2 16 NotReady\nfails 3 19 NotReady\nholds\nholds\n\
+holds\nholds\nfails 0 7 NotReady\nfails 1 23 NotReady\nfails 2 1 NotReady\nfails 3 6 NotSent\nholds\n\
+fails 1 4 NotReady\nholds\n",
+    // gatherv
+    "holds\nholds\nfails 0 8 NotSent\nholds\nfails 0 8 NotSent\nholds\nholds\nfails 0 9 NotReady\nholds\n\
+fails 2 1 NotReady\nholds\nholds\nholds\nfails 2 5 NotReady\nholds\nholds\nholds\nholds\nfails 0 8 NotSent\nholds\n\
+holds\nholds\nholds\nholds\nfails 0 8 NotSent\nholds\nfails 0 8 NotSent\nholds\nholds\nfails 2 1 NotReady\n\
+fails 0 8 NotSent\nholds\nfails 0 8 NotSent\nholds\nfails 0 8 NotSent\nfails 0 1 NotReady\nfails 0 9 NotSent\nholds\n\
+holds\nholds\nholds\nholds\nholds\nfails 0 9 NotReady\nholds\nholds\nfails 0 8 NotSent\nholds\nholds\n\
+fails 2 1 NotReady\n",
+    // groups
+    "holds\nholds\nholds\nholds\nholds\nholds\nholds\nfails 0 12 NotSent\nfails 1 23 NotSent\nholds\nholds\nholds\n\
+fails 1 14 NotReady\nfails 0 7 NotSent\nholds\nholds\nfails 1 22 NotSent\nholds\nfails 1 20 NotReady\n\
+fails 0 12 NotSent\nholds\nfails 0 7 NotSent\nholds\nholds\nholds\nholds\nholds\nfails 0 12 NotSent\n\
+fails 1 20 NotSent\nfails 0 14 NotSent\nfails 1 9 NotReady\nholds\nholds\nfails 0 12 NotSent\nholds\nholds\nholds\n\
+holds\nfails 3 17 NotSent\nholds\nholds\nfails 0 9 NotReady\nholds\nholds\nfails 3 23 NotReady\nholds\n\
+fails 1 23 NotSent\nfails 0 15 NotReady\nholds\nfails 0 11 NotSent\n",
+    // reducescatter
+    "holds\nholds\nfails 0 11 NotSent\nholds\nfails 0 10 NotSent\nfails 0 7 NotReady\nholds\nholds\nholds\n\
+fails 0 11 NotReady\nholds\nholds\nfails 1 14 NotReady\nholds\nfails 0 5 NotSent\nfails 0 2 NotReady\nholds\nholds\n\
+fails 0 11 NotSent\nfails 0 6 NotSent\nholds\nholds\nfails 0 11 NotSent\nholds\nholds\nholds\nholds\n\
+fails 0 14 NotReady\nholds\nfails 0 1 NotReady\nholds\nholds\nfails 0 8 NotSent\nholds\nfails 0 11 NotSent\n\
+fails 0 7 NotReady\nfails 0 11 NotSent\nholds\nholds\nfails 0 11 NotReady\nfails 1 14 NotReady\nholds\nholds\n\
+fails 0 15 NotReady\nfails 0 1 NotSent\nholds\nholds\nholds\nholds\nholds\n",
+];

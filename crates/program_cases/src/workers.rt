@@ -1,10 +1,14 @@
 //! Runs by workers on threads.
 
-use crate::runs::{Made, run};
+use crate::runs::{Made, gives, run_through};
+use crate::texts::{
+    GROUPS, GROUPS_RESULT, HELD, HELD_RESULT, THREE_RESULTS, THREE_STEPS, sixteen_ranks,
+    sixteen_results,
+};
 use portals_top::Status;
 use ptl_types::{LocalStep, Rank};
-use rank_threads::{Gate, OpenGate};
-use std::alloc::{AllocError, Global};
+use rank_threads::Gate;
+use std::alloc::Global;
 use std::process::Abort;
 use std::sync::Wait;
 use std::sync::atomic::{AtomicU64, Ordering};
@@ -15,74 +19,6 @@ use std::thread::Threads;
 const TWO_RANKS: &str = "coll 1\nranks 2\nbarrier\nend\n";
 
 const FOUR_RANKS: &str = "coll 1\nranks 4\nbarrier\nend\n";
-
-/// A reduction, a barrier and a scan on four ranks.
-const THREE_STEPS: &str =
-    "coll 1\nranks 4\ninput a u32 1\n1\n2\n3\n4\nallreduce sum a b\nbarrier\nscan sum b c\nprint c\nend\n";
-
-const THREE_RESULTS: &str = "c 0 10\nc 1 20\nc 2 30\nc 3 40\nrest\n";
-
-/// Sixteen ranks, of which each holds eight values: the greatest ones, and all of them.
-pub(crate) fn sixteen_ranks(alloc: Global, head: &str) -> Result<String, AllocError> {
-    let mut text = String::from_str(alloc, head)?;
-    text.push_str("input load u64 8\n")?;
-    for rank in 0..16u32 {
-        for place in 0..7u32 {
-            let value = 100 * rank + place;
-            text.push_str(format!(in alloc; "{value} ")?.as_str())?;
-        }
-        let last = 100 * rank + 7;
-        text.push_str(format!(in alloc; "{last}\n")?.as_str())?;
-    }
-    text.push_str(
-        "allreduce max load peak\nallgather load all\nbarrier\nprint peak\nprint all\nend\n",
-    )?;
-    Ok(text)
-}
-
-/// What they write.
-pub(crate) fn sixteen_results(alloc: Global) -> Result<String, AllocError> {
-    let mut text = String::new(alloc);
-    for rank in 0..16u32 {
-        let line = format!(in alloc; "peak {rank} 1500 1501 1502 1503 1504 1505 1506 1507\n")?;
-        text.push_str(line.as_str())?;
-    }
-    let mut all = String::new(alloc);
-    for rank in 0..16u32 {
-        for place in 0..8u32 {
-            let value = 100 * rank + place;
-            all.push_str(format!(in alloc; " {value}")?.as_str())?;
-        }
-    }
-    for rank in 0..16u32 {
-        text.push_str(format!(in alloc; "all {rank}")?.as_str())?;
-        text.push_str(all.as_str())?;
-        text.push_str("\n")?;
-    }
-    text.push_str("rest\n")?;
-    Ok(text)
-}
-
-/// Runs a command on a text: the status, the whole output, and whether a world is left.
-pub(crate) fn gives(
-    rt: &(impl Abort + Threads + Wait + Sync),
-    alloc: Global,
-    command: &[&str],
-    text: &str,
-    status: Status,
-    output: &str,
-) -> Result<(), Fail> {
-    let made = run(rt, alloc, &OpenGate, command, text)?;
-    assert_eq!(rt; made.sink.as_slice(), output.as_bytes(), "at {text}");
-    assert_eq!(rt; made.status, status, "at {text}");
-    assert_eq!(rt; made.sink.finishes(), 1, "at {text}");
-    assert_eq!(rt;
-        made.ran.world.is_some(),
-        status == Status::Done,
-        "at {text}"
-    );
-    Ok(())
-}
 
 #[test]
 fn workers_write_what_each_rank_holds(rt: HostRuntime) -> Result<(), Fail> {
@@ -96,44 +32,12 @@ fn workers_write_what_each_rank_holds(rt: HostRuntime) -> Result<(), Fail> {
         ("3", FOUR_RANKS, "rest\n"),
         ("4", THREE_STEPS, THREE_RESULTS),
         ("16", "coll 1\nranks 1\nend\n", "rest\n"),
-        (
-            "2",
-            "coll 2\nranks 4\ngroup odd 1 3\ninput a u8 1\n1\n2\n3\n4\non odd allreduce sum a b\n\
-on odd broadcast 1 a c\nprint b\nprint c\nend\n",
-            "b 0\nb 1 6\nb 2\nb 3 6\nc 0\nc 1 4\nc 2\nc 3 4\nrest\n",
-        ),
+        ("2", GROUPS, GROUPS_RESULT),
         ("8", "coll 2\nranks 256\nbarrier\nend\n", "rest\n"),
-        (
-            "3",
-            "coll 2\nranks 3\ngroup g 0 2\ninput a u8 1\n1\n2\n3\non g allreduce sum a b\n\
-gatherv 1 b c\nprint c\nend\n",
-            "c 0\nc 1 4 4\nc 2\nrest\n",
-        ),
+        ("3", HELD, HELD_RESULT),
     ] {
         let words = ["run", workers];
         gives(&rt, alloc, &words, text, Status::Done, output)?;
-    }
-    Ok(())
-}
-
-#[test]
-fn workers_run_nothing_that_is_refused(rt: HostRuntime) -> Result<(), Fail> {
-    let alloc = rt.alloc();
-    for (text, output) in [
-        (
-            "coll 2\nranks 3\ngroup g 0 2\ninput a u8 1\n1\n2\n3\non g allreduce sum a b\n\
-on g scatter 0 b c\nprint c\nend\n",
-            "refused 9 WrongShape\n",
-        ),
-        (
-            "coll 2\nranks 1\nelect e\ntickets t\nprint e\nprint t\nend\n",
-            "refused 0 OneThread\n",
-        ),
-        ("coll 1\nranks 2\nbarrier\nend", "refused 4 Unended\n"),
-    ] {
-        for command in ["run", "trace"] {
-            gives(&rt, alloc, &[command, "2"], text, Status::Refused, output)?;
-        }
     }
     Ok(())
 }
@@ -152,21 +56,6 @@ fn four_workers_run_sixteen_ranks(rt: HostRuntime) -> Result<(), Fail> {
             Status::Done,
             output.as_str(),
         )?;
-    }
-    Ok(())
-}
-
-#[test]
-fn traces_begin_with_the_results(rt: HostRuntime) -> Result<(), Fail> {
-    let alloc = rt.alloc();
-    for _ in 0..50 {
-        let made = run(&rt, alloc, &OpenGate, &["trace", "4"], THREE_STEPS)?;
-        assert_eq!(rt; made.status, Status::Done);
-        assert!(rt; made.ran.world.is_some());
-        assert!(rt; made.sink.as_slice().starts_with(THREE_RESULTS.as_bytes()));
-        let orders = &made.sink.as_slice()[THREE_RESULTS.len()..];
-        assert!(rt; orders.starts_with(b"order 0 ".as_slice()));
-        assert_eq!(rt; orders.iter().filter(|byte| **byte == b'\n').count(), 4);
     }
     Ok(())
 }
@@ -221,7 +110,7 @@ fn steps_through<G: Gate>(
     text: &str,
     output: &str,
 ) -> Result<u64, Fail> {
-    let Made { status, sink, ran } = run(rt, alloc, gate, command, text)?;
+    let Made { status, sink, ran } = run_through(rt, alloc, gate, command, text.as_bytes())?;
     assert_eq!(rt; status, Status::Done);
     assert_eq!(rt; sink.as_slice(), output.as_bytes());
     let mut steps = 0u64;

@@ -1,9 +1,11 @@
 //! Descriptions in JSON.
 
-use crate::runs::run;
-use crate::workers::{gives, sixteen_ranks, sixteen_results};
+use crate::runs::{gives, run};
+use crate::texts::{
+    ALLREDUCE_AND_SCAN, ONE_RANK, ONE_RANK_IN_JSON, ONE_RANK_RESULT, STEPS_ON_GROUPS,
+    sixteen_ranks, sixteen_results,
+};
 use portals_top::Status;
-use rank_threads::OpenGate;
 use std::alloc::{AllocError, Global};
 use std::process::Abort;
 use std::sync::Wait;
@@ -14,11 +16,7 @@ use std::thread::Threads;
 fn json_is_run_or_refused(rt: HostRuntime) -> Result<(), Fail> {
     let alloc = rt.alloc();
     for (text, status, output) in [
-        (
-            r#"{"coll":1,"ranks":1,"inputs":[{"name":"a","type":"u8","rows":[[7]]}],"steps":[["broadcast",0,"a","b"]],"prints":["b"]}"#,
-            Status::Done,
-            "b 0 7\nrest\n",
-        ),
+        (ONE_RANK_IN_JSON, Status::Done, ONE_RANK_RESULT),
         (
             r#"{"coll":1,"ranks":1,"inputs":[{"name":"a","type":"u8","rows":[[256]]}],"steps":[["broadcast",0,"a","b"]],"prints":["b"]}"#,
             Status::Refused,
@@ -36,11 +34,6 @@ fn json_is_run_or_refused(rt: HostRuntime) -> Result<(), Fail> {
         ),
         (r#"{"coll":1"#, Status::Refused, "refused 0 BadJson\n"),
         (
-            "coll 1\nranks 1\nend\n",
-            Status::Refused,
-            "refused 0 BadJson\n",
-        ),
-        (
             r#"{"coll":2,"ranks":1,"steps":[["elect","e"]],"prints":["e"]}"#,
             Status::Refused,
             "refused 0 OneThread\n",
@@ -51,27 +44,21 @@ fn json_is_run_or_refused(rt: HostRuntime) -> Result<(), Fail> {
     Ok(())
 }
 
-/// Both spellings of a description.
+/// Example descriptions in both spellings.
 const BOTH: [(&str, &str); 3] = [
     (
         r#"{"coll": 1, "ranks": 4, "remote": true, "inputs": [{"name": "a", "type": "u32", "rows": [[1], [2], [3], [4]]}],
 "steps": [["allreduce", "sum", "a", "b"], ["barrier"], ["scan", "sum", "b", "c"]], "prints": ["b", "c"]}"#,
-        "coll 1\nranks 4\ncomplete remote\ninput a u32 1\n1\n2\n3\n4\nallreduce sum a b\nbarrier\nscan sum b c\n\
-print b\nprint c\nend\n",
+        ALLREDUCE_AND_SCAN,
     ),
     (
         r#"{"coll": 2, "ranks": 6, "groups": [["even", 0, 2, 4], ["odd", 1, 3, 5]],
 "inputs": [{"name": "a", "type": "u8", "rows": [[1], [2], [3], [4], [5], [6]]}],
 "steps": [["on", "even", "allreduce", "sum", "a", "sums"], ["on", "odd", "scan", "max", "a", "greatest"],
 ["on", "odd", "broadcast", 2, "a", "last"]], "prints": ["sums", "greatest", "last"]}"#,
-        "coll 2\nranks 6\ngroup even 0 2 4\ngroup odd 1 3 5\ninput a u8 1\n1\n2\n3\n4\n5\n6\non even allreduce sum a sums\n\
-on odd scan max a greatest\non odd broadcast 2 a last\nprint sums\nprint greatest\nprint last\nend\n",
+        STEPS_ON_GROUPS,
     ),
-    (
-        r#"{"coll": 1, "ranks": 1, "inputs": [{"name": "a", "type": "u8", "rows": [[7]]}],
-"steps": [["broadcast", 0, "a", "b"]], "prints": ["b"]}"#,
-        "coll 1\nranks 1\ninput a u8 1\n7\nbroadcast 0 a b\nprint b\nend\n",
-    ),
+    (ONE_RANK_IN_JSON, ONE_RANK),
 ];
 
 /// What four workers write of a text under this word.
@@ -81,7 +68,7 @@ fn written(
     command: &str,
     text: &str,
 ) -> Result<Vec<u8>, Fail> {
-    let made = run(rt, alloc, &OpenGate, &[command, "4"], text)?;
+    let made = run(rt, alloc, &[command, "4"], text.as_bytes())?;
     assert_eq!(rt; made.status, Status::Done);
     Ok(made.sink.as_slice().to_vec(alloc)?)
 }
