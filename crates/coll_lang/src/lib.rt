@@ -8,8 +8,6 @@ mod choices;
 mod description;
 mod fault;
 mod forms;
-#[cfg(test)]
-mod generated_tests;
 mod generating;
 mod naming;
 mod printing;
@@ -18,8 +16,6 @@ mod reader;
 mod stage;
 mod stepping;
 mod take;
-#[cfg(test)]
-mod tests;
 mod text;
 mod whole;
 

@@ -6,8 +6,6 @@
 mod names;
 mod numerals;
 mod splitting;
-#[cfg(test)]
-mod tests;
 mod values;
 mod writing;
 

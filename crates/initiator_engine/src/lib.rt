@@ -8,7 +8,5 @@ mod headers;
 mod initiator;
 mod named;
 mod starts;
-#[cfg(test)]
-mod tests;
 
 pub use initiator::Initiator;

@@ -5,8 +5,6 @@
 mod fault;
 mod form;
 mod reading;
-#[cfg(test)]
-mod tests;
 mod values;
 mod writing;
 

@@ -8,8 +8,6 @@ ghost use Rattle.triggered_ops.specs.Layout.{WasTold};
 mod held;
 mod index;
 mod parts;
-#[cfg(test)]
-mod tests;
 mod told;
 
 use crate::held::Held;

@@ -1,6 +1,6 @@
 //! What no clause says: whole texts and their answers, from outside.
 
-use crate::{ChoiceStep, Description, ParseFault, parse, print};
+use coll_lang::{ChoiceStep, Description, ParseFault, parse, print};
 use std::test::Fail;
 
 /// The line and the name of a refusal; nothing where the text is read.

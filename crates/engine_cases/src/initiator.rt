@@ -1,9 +1,9 @@
 //! A descriptor from its binding to its release, and an answer that nobody awaits.
 
-use crate::Initiator;
 use counters::Counter;
 use event_queues::Queue;
 use handle_store::Store;
+use initiator_engine::Initiator;
 use memory_desc::Region;
 use ptl_types::{
     AckRequest, Bytes, Deed, Descriptor, ElemType, GetArgs, Handle, Header, Limits, Message,

@@ -1,6 +1,6 @@
 //! Words, values, lines and names whose readings were found by hand.
 
-use crate::{
+use coll_text::{
     Flaw, Number, ValuesFault, Words, cut, data_line, is, is_name, number_at, number_between,
     push_data_line, push_line, push_value, value_of,
 };

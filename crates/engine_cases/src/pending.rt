@@ -1,8 +1,8 @@
 //! Pending operations from the first post to the last firing.
 
-use crate::Pending;
 use ptl_types::Handle;
 use std::test::Fail;
+use triggered_ops::Pending;
 
 const GO: Handle = Handle { slot: 0, stamp: 4 };
 

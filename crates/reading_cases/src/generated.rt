@@ -2,7 +2,7 @@
 
 ghost use Rattle.std.specs.Prelude.{◌<◌};
 
-use crate::{Text, generated, print};
+use coll_lang::{Text, generated, print};
 use std::process::Abort;
 use std::test::Fail;
 

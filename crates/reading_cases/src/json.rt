@@ -1,8 +1,8 @@
 //! What no clause says: whole values and their line texts or refusals, from outside. The expected answers are another
 //! program's, written apart from this one.
 
-use crate::{JsonFault, lines_of, parse_json};
 use coll_lang::print;
+use json_lang::{JsonFault, lines_of, parse_json};
 use serde_json::Value;
 use std::alloc::{AllocError, Global};
 use std::test::Fail;
