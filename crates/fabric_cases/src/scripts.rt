@@ -1,16 +1,15 @@
 //! Scripts whose calls one caller makes.
 
-ghost use Rattle.std.specs.Prelude.{true, ◌≡◌, ◌<◌, length};
+ghost use Rattle.std.specs.Prelude.{true, ◌≡◌, length};
 ghost use Rattle.ptl_types.specs.declared.headers.Lane.TheVariants.{Request};
 ghost use Rattle.plan_calls.specs.Lanes.{is_used_lane};
 ghost use Rattle.shape_plans.specs.Drawing.{plan_of};
 ghost use Rattle.turn_table.specs.Hands.{IsFree};
 
-use crate::hands::{close_with, close_with_one, one_hand, opened, two_hands};
+use crate::hands::{close_with, opened, two_hands};
 use crate::jobs::{TWO_RANKS, is_pair, job_of};
-use ptl_types::{Lane, LocalStep, NoMemory, Rank};
+use ptl_types::Lane;
 use rank_threads::{Fabric, Hand, OpenGate, StartAnswer};
-use std::alloc::Global;
 use std::sync::Wait;
 use std::test::*;
 use worlds::World;
@@ -77,76 +76,6 @@ fn two_hands_take_turns(rt: HostRuntime) -> Result<(), Fail> {
     assert_eq!(rt; answers.made, [2, 0]);
     let mut world = close_with(&rt, alloc, fabric, one, two)?;
     world.run_to_rest();
-    assert!(rt; world.at_rest());
-    assert!(rt; all_done(&world, 3));
-    Ok(())
-}
-
-/// The steps that a rank makes until there is none, twenty at most.
-fn steps_at<R: Wait>(
-    rt: &R,
-    alloc: Global,
-    fabric: &Fabric<OpenGate>,
-    hand: &mut Hand,
-    rank: Rank,
-) -> Result<Vec<LocalStep>, NoMemory>
-    requires hand { IsFree fabric.now.turns hand.old }
-    requires rank { rank < fabric.now.job.shape.ranks }
-    ensures hand { IsFree fabric.now.turns hand.new }
-    ensures parts { hand.new.knows.parts ≡ hand.old.knows.parts }
-{
-    let mut steps = Vec::new(alloc);
-    for _ in 0..20 {
-        let Some(step) = fabric.step(rt, hand, rank) else {
-            break;
-        };
-        steps.push(step)?;
-    }
-    Ok(steps)
-}
-
-/// A start, and the firings of the operations from 0 to 4 in some order.
-fn begins(steps: &[LocalStep]) -> bool {
-    if steps.len() < 6 || steps[0] != LocalStep::Start {
-        return false;
-    }
-    for number in 0..5u32 {
-        if !steps[1..6].contains(&LocalStep::Fire { number }) {
-            return false;
-        }
-    }
-    true
-}
-
-/// What stands behind the start and the five firings: a message of the other rank, and the last firing.
-fn ends(source: Rank) -> [LocalStep; 2] {
-    [
-        LocalStep::Receive {
-            source,
-            lane: Lane::Request,
-        },
-        LocalStep::Fire { number: 5 },
-    ]
-}
-
-#[test]
-fn one_hand_makes_all_steps_of_both_ranks(rt: HostRuntime) -> Result<(), Fail> {
-    let alloc = rt.alloc();
-    let job = job_of(&rt, alloc, TWO_RANKS);
-    assert!(rt; is_pair(&job));
-    let (fabric, hands) = opened(alloc, &job, 1, OpenGate)?;
-    let mut hand = one_hand(&fabric, hands);
-    let first = steps_at(&rt, alloc, &fabric, &mut hand, 0)?;
-    assert_eq!(rt; first.len(), 6);
-    assert!(rt; begins(first.as_slice()));
-    let second = steps_at(&rt, alloc, &fabric, &mut hand, 1)?;
-    assert_eq!(rt; second.len(), 8);
-    assert!(rt; begins(second.as_slice()));
-    assert_eq!(rt; &second[6..], ends(0).as_slice());
-    let last = steps_at(&rt, alloc, &fabric, &mut hand, 0)?;
-    assert_eq!(rt; last.as_slice(), ends(1).as_slice());
-    assert_eq!(rt; [hand.made(0), hand.made(1)], [8, 8]);
-    let world = close_with_one(&rt, alloc, fabric, hand)?;
     assert!(rt; world.at_rest());
     assert!(rt; all_done(&world, 3));
     Ok(())
