@@ -1,5 +1,6 @@
 -- Values of the element types, and lines of them.
-use Rattle.std.specs.Prelude.{ℕ, ◌-◌, List, [], ◌∷◌, ◌++◌, length, Option, Some, None, Result, Ok, Err, ◌&&◌, not, ◌==◌, nat_lt, nat_le, if◌then◌else◌, option_and_then, option_map}
+use Rattle.std.specs.Prelude.{ℕ, ◌-◌, List, [], ◌∷◌, ◌++◌, length, Option, Some, None, Result, Ok, Err, ◌&&◌, not, ◌==◌, nat_lt, nat_le,
+    if◌then◌else◌, option_and_then, option_map}
 use Rattle.std.specs.List.{list_any}
 use Rattle.ptl_types.specs.declared.elements.ElemType.{ElemType}
 use Rattle.ptl_types.specs.Operations.{bytes_of, is_signed, span}
@@ -29,7 +30,8 @@ value_of ty (b ∷ bs) = if is_signed ty && b == 45 then negative_of ty bs else 
 -- the bytes of the values, if each word is one
 abbrev pub all_values : ElemType → List (List ℕ) → Option (List ℕ)
 all_values ty [] = Some []
-all_values ty (w ∷ ws) = option_and_then (λ n. option_map (λ more. little_endian (bytes_of ty) n ++ more) (all_values ty ws)) (value_of ty w)
+all_values ty (w ∷ ws) =
+    option_and_then (λ n. option_map (λ more. little_endian (bytes_of ty) n ++ more) (all_values ty ws)) (value_of ty w)
 
 abbrev pub or_no_value : Option (List ℕ) → Result (List ℕ) Flaw
 or_no_value None = Err NoValue

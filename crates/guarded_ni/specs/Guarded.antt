@@ -7,7 +7,8 @@ use Rattle.guarded_ni.specs.declared.faults.CallFault.TheVariants.{Misused, Refu
 use Rattle.guarded_ni.specs.declared.faults.Misuse.{Misuse}
 
 -- where its arguments break a rule that is said, and nothing changed; else it answers as the interface does
-pub data Guards {A : Type 0} (misuse : Option Misuse) (old new : State) (made : Result A NiFault → Type 0) : Result A CallFault → Type 0 where
+pub data Guards {A : Type 0} (misuse : Option Misuse) (old new : State) (made : Result A NiFault → Type 0)
+    : Result A CallFault → Type 0 where
   Answers : (x : A) → misuse ≡ None → made (Ok x) → Guards misuse old new made (Ok x)
   Refuses : (fault : NiFault) → misuse ≡ None → made (Err fault) → Guards misuse old new made (Err (Refused fault))
   Misuses : (m : Misuse) → misuse ≡ Some m → new ≡ old → Guards misuse old new made (Err (Misused m))

@@ -30,7 +30,8 @@ length_misuse length most = if nat_lt most length then Some TooLong else None
 
 -- the two halves of a fetching operation agree
 abbrev pub agree : GetArgs → PutArgs → Bool
-agree g a = (g.length == a.length) && ((g.target == a.target) && ((g.pt == a.pt) && ((g.match_bits == a.match_bits) && (g.remote_offset == a.remote_offset))))
+agree g a = (g.length == a.length)
+    && ((g.target == a.target) && ((g.pt == a.pt) && ((g.match_bits == a.match_bits) && (g.remote_offset == a.remote_offset))))
 
 -- and no acknowledgement is asked for
 abbrev pub halves_misuse : GetArgs → PutArgs → Option Misuse

@@ -42,7 +42,8 @@ is_due h b = nat_lt 0 b.awaits && (not (is_reply h.kind && h.ok) || nat_le (h.ho
 
 -- a reply that is ok writes its bytes where the operation said
 abbrev pub memory_home : Bound → Sent → List ℕ → List ℕ
-memory_home b m memory = if is_reply m.header.kind && m.header.ok then written (b.md.start + m.header.home_offset) m.bytes memory else memory
+memory_home b m memory =
+    if is_reply m.header.kind && m.header.ok then written (b.md.start + m.header.home_offset) m.bytes memory else memory
 
 -- a failure where the answer isn't ok
 abbrev pub one_answer : Bool → Count
@@ -68,7 +69,9 @@ awaits_less (Some h) mds = changed h one_less mds
 -- an answer that is due: memory, count, event, and one answer fewer to come
 abbrev pub came_home : Home → Sent → Bound → Returned
 came_home p m b = record {
-  home = home (awaits_less m.header.home p.mds) (memory_home b m p.region) (counted (counter_home m.header b) (one_answer m.header.ok) p.cts) (events_home m.header b p.eqs);
+  home =
+      home (awaits_less m.header.home p.mds) (memory_home b m p.region) (counted (counter_home m.header b) (one_answer m.header.ok) p.cts)
+          (events_home m.header b p.eqs);
   outcome = Answered;
   counted = counter_home m.header b;
 }

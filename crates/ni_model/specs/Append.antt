@@ -1,6 +1,7 @@
 -- Appending an entry (Portals 4.3, match list entries), with the unexpected headers that it takes, and searching them: the headers, the
 -- search and what is told of them are this profile's own.
-use Rattle.std.specs.Prelude.{ℕ, Bool, ◌||◌, not, nat_le, ◌+◌, List, Option, Some, None, [], ◌∷◌, ◌++◌, if◌then◌else◌, length, sum_by, is_some, slice_set}
+use Rattle.std.specs.Prelude.{ℕ, Bool, ◌||◌, not, nat_le, ◌+◌, List, Option, Some, None, [], ◌∷◌, ◌++◌, if◌then◌else◌, length, sum_by,
+    is_some, slice_set}
 use Rattle.ptl_types.specs.declared.handles.Handle.{Handle}
 use Rattle.ptl_types.specs.declared.handles.Count.{Count}
 use Rattle.ptl_types.specs.declared.entries.Entry.{Entry}
@@ -67,7 +68,10 @@ linked_at place x (Some i) = Some (with_list place (λ xs. xs ++ x ∷ []) i)
 
 -- the target with one entry more
 abbrev pub link_side : ℕ → ℕ → Place → Entry → Side → Side
-link_side slot pt place e s = record s { indices = slice_set s.indices pt (linked_at place (fresh (next_handle slot s) e) (index_at pt s.indices)); given = s.given + 1 }
+link_side slot pt place e s =
+    record s {
+        indices = slice_set s.indices pt (linked_at place (fresh (next_handle slot s) e) (index_at pt s.indices));
+        given = s.given + 1 }
 
 -- the event queue of an index, if it has one
 abbrev pub queue_at : ℕ → Side → Option Handle
@@ -75,7 +79,8 @@ queue_at pt s = queue_of (index_at pt s.indices)
 
 -- the linking, told by Link
 abbrev pub link_entry : ℕ → ℕ → Place → Entry → Parts → Parts
-link_entry slot pt place e p = record p { side = link_side slot pt place e p.side; eqs = raised (queue_at pt p.side) (link_event pt e.match_bits) p.eqs }
+link_entry slot pt place e p =
+    record p { side = link_side slot pt place e p.side; eqs = raised (queue_at pt p.side) (link_event pt e.match_bits) p.eqs }
 
 -- ---- headers go
 
@@ -140,7 +145,8 @@ counted_by e (a ∷ hs) = overflow_counter e
 
 -- the entry is linked, behind the headers that it took
 abbrev pub linked_as : ℕ → ℕ → Place → Entry → List Noted → Parts → Appends
-linked_as slot pt place e found p = record { parts = link_entry slot pt place e p; appended = IsLinked (next_handle slot p.side); counted = counted_by e found }
+linked_as slot pt place e found p =
+    record { parts = link_entry slot pt place e p; appended = IsLinked (next_handle slot p.side); counted = counted_by e found }
 
 -- a use-once entry takes the oldest header, else it is linked
 abbrev pub append_once : ℕ → ℕ → Entry → Parts → Option Noted → Appends
@@ -174,12 +180,14 @@ search_fault pt p = need (is_allocated pt p.side) Stale None
 abbrev pub found_header : ℕ → Entry → Bool → Noted → Parts → Parts
 found_header pt e delete a p =
     if delete
-    then record p { side = with_noted (without_oldest pt e p.side.headers.noted) p.side; eqs = gone_raised Search p.side (without_oldest pt e p.side.headers.noted) a p.eqs }
+    then record p { side = with_noted (without_oldest pt e p.side.headers.noted) p.side;
+        eqs = gone_raised Search p.side (without_oldest pt e p.side.headers.noted) a p.eqs }
     else record p { eqs = raised (queue_at pt p.side) (header_event Search a) p.eqs }
 
 -- by what was found
 abbrev pub searched_at : ℕ → Entry → Bool → Parts → Option Noted → Searched
-searched_at pt e delete p None = record { parts = record p { eqs = raised (queue_at pt p.side) (missed_event pt e.match_bits) p.eqs }; found = None }
+searched_at pt e delete p None =
+    record { parts = record p { eqs = raised (queue_at pt p.side) (missed_event pt e.match_bits) p.eqs }; found = None }
 searched_at pt e delete p (Some a) = record { parts = found_header pt e delete a p; found = Some a.header }
 
 -- a search of the headers of an index

@@ -8,17 +8,20 @@ use Rattle.ptl_types.specs.declared.headers.AckRequest.{AckRequest}
 use Rattle.ptl_types.specs.declared.headers.AckRequest.TheVariants.{Ack}
 use Rattle.ptl_types.specs.declared.events.Event.{Event}
 use Rattle.ptl_types.specs.declared.events.EventKind.{EventKind}
-use Rattle.ptl_types.specs.declared.events.EventKind.TheVariants.{Put as PutEvent, Get as GetEvent, Atomic as AtomicEvent, FetchAtomic as FetchAtomicEvent, PutOverflow, AtomicOverflow, Reply as ReplyEvent, Ack as AckEvent, Send, Link, AutoUnlink, AutoFree, Search}
+use Rattle.ptl_types.specs.declared.events.EventKind.TheVariants.{Put as PutEvent, Get as GetEvent, Atomic as AtomicEvent, FetchAtomic as
+    FetchAtomicEvent, PutOverflow, AtomicOverflow, Reply as ReplyEvent, Ack as AckEvent, Send, Link, AutoUnlink, AutoFree, Search}
 use Rattle.ni_model.specs.declared.Bound.{Bound}
 use Rattle.ni_model.specs.declared.Noted.{Noted}
 
 -- an event of a message, or of its unexpected header: `delivered` bytes at this place
 abbrev pub message_event : EventKind → Header → ℕ → ℕ → Event
-message_event kind h delivered place = record { kind = kind; source = h.source; pt = h.pt; match_bits = h.match_bits; hdr_data = h.hdr_data; requested = h.length; delivered = delivered; place = place; ok = true }
+message_event kind h delivered place = record { kind = kind; source = h.source; pt = h.pt; match_bits = h.match_bits;
+    hdr_data = h.hdr_data; requested = h.length; delivered = delivered; place = place; ok = true }
 
 -- an event of an entry
 abbrev pub entry_event : EventKind → ℕ → ℕ → Bool → Event
-entry_event kind pt match_bits ok = record { kind = kind; source = 0; pt = pt; match_bits = match_bits; hdr_data = 0; requested = 0; delivered = 0; place = 0; ok = ok }
+entry_event kind pt match_bits ok =
+    record { kind = kind; source = 0; pt = pt; match_bits = match_bits; hdr_data = 0; requested = 0; delivered = 0; place = 0; ok = ok }
 
 -- a message delivered to a priority entry; a swap is told as a fetching atomic
 abbrev pub kind_delivered : MessageKind → EventKind

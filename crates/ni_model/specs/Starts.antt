@@ -7,7 +7,8 @@ use Rattle.ptl_types.specs.declared.elements.AtomicOp.{AtomicOp}
 use Rattle.ptl_types.specs.declared.elements.SwapOp.{SwapOp}
 use Rattle.ptl_types.specs.declared.headers.Header.{Header}
 use Rattle.ptl_types.specs.declared.headers.MessageKind.{MessageKind}
-use Rattle.ptl_types.specs.declared.headers.MessageKind.TheVariants.{Put as PutKind, Get as GetKind, Atomic as AtomicKind, FetchAtomic as FetchAtomicKind, Swap as SwapKind}
+use Rattle.ptl_types.specs.declared.headers.MessageKind.TheVariants.{Put as PutKind, Get as GetKind, Atomic as AtomicKind, FetchAtomic as
+    FetchAtomicKind, Swap as SwapKind}
 use Rattle.ptl_types.specs.declared.headers.AckRequest.TheVariants.{NoAck}
 use Rattle.ptl_types.specs.declared.calls.PutArgs.{PutArgs}
 use Rattle.ptl_types.specs.declared.calls.GetArgs.{GetArgs}
@@ -165,7 +166,8 @@ pub record Started : Type 0 where
 -- none of a deed that sends nothing
 abbrev pub started_by : Home → Deed → Option Header → Started
 started_by p d None = record { home = p; message = None; counted = None }
-started_by p d (Some h) = record { home = sent_from p d h; message = Some (message h (bytes_read p d)); counted = send_counter (bound_at (counted_on d) p.mds) }
+started_by p d (Some h) =
+    record { home = sent_from p d h; message = Some (message h (bytes_read p d)); counted = send_counter (bound_at (counted_on d) p.mds) }
 
 -- a start at rank `rank`
 unfoldable pub started : ℕ → Home → Deed → Started

@@ -10,4 +10,5 @@ CombineSwaps = (o : AtomicOp) (ty : ElemType) (x a b : List ℕ) → combined o 
 
 -- what was combined with starting values combines as it is: op(x, op(e, d)) = op(x, d), element by element
 abbrev pub CombineStarts : Type 0
-CombineStarts = (o : AtomicOp) (ty : ElemType) (x d : List ℕ) → length x ≡ length d → combined o ty x (combined o ty (starting o ty (length d)) d) ≡ combined o ty x d
+CombineStarts = (o : AtomicOp) (ty : ElemType) (x d : List ℕ) → length x ≡ length d
+    → combined o ty x (combined o ty (starting o ty (length d)) d) ≡ combined o ty x d

@@ -1,5 +1,6 @@
 -- What a drawn cell must be, and what it holds.
-use Rattle.std.specs.Prelude.{ℕ, suc, ◌+◌, ◌%◌, ◌<◌, ◌≤◌, ◌≡◌, ◌⊎◌, List, Option, Some, None, [], ◌∷◌, ◌++◌, if◌then◌else◌, length, map, sum_by}
+use Rattle.std.specs.Prelude.{ℕ, suc, ◌+◌, ◌%◌, ◌<◌, ◌≤◌, ◌≡◌, ◌⊎◌, List, Option, Some, None, [], ◌∷◌, ◌++◌, if◌then◌else◌, length, map,
+    sum_by}
 use Rattle.ptl_types.specs.declared.elements.AtomicOp.{AtomicOp}
 use Rattle.ptl_types.specs.Operations.{bytes_of}
 use Rattle.ptl_types.specs.Elements.{part}
@@ -45,12 +46,14 @@ pub record SoundIncoming (k : ℕ → Cell) (c : ℕ) (n : NewCell) (i : Incomin
   pub bump_stays : i.kind ≡ Bump → (k i.source).rank ≡ n.rank
   pub bump_empty : i.kind ≡ Bump → i.length ≡ 0
   pub atomic_here : (o : AtomicOp) → n.op ≡ Some o → i.kind ≡ Atomic
-  pub atomic_whole : i.kind ≡ Atomic → (i.target_offset ≡ 0) × (i.length ≡ n.length) × ((k i.source).ty ≡ n.ty) × ((k i.source).length ≡ n.length)
+  pub atomic_whole : i.kind ≡ Atomic
+      → (i.target_offset ≡ 0) × (i.length ≡ n.length) × ((k i.source).ty ≡ n.ty) × ((k i.source).length ≡ n.length)
   pub no_atomic : n.op ≡ None → i.kind ≡ Atomic → ⊥
 
 -- two Puts written disjoint parts
 abbrev pub ArePartsApart : Incoming → Incoming → Type 0
-ArePartsApart i j = i.kind ≡ Put → j.kind ≡ Put → (i.target_offset + i.length ≤ j.target_offset) ⊎ (j.target_offset + j.length ≤ i.target_offset)
+ArePartsApart i j =
+    i.kind ≡ Put → j.kind ≡ Put → (i.target_offset + i.length ≤ j.target_offset) ⊎ (j.target_offset + j.length ≤ i.target_offset)
 
 abbrev pub FromAll : Incoming → List Incoming → Type 0
 FromAll i [] = Unit {0}
@@ -86,9 +89,11 @@ pub record WellBuilt (p : Plan) (inputs : ℕ) : Type 0 where
   pub links_sound : (l : ℕ) → l < length p.links → SoundLink p l
   pub needs : (c : ℕ) → c < length p.cells → p.ranks ≤ c → (cell p c).needs ≡ length (in_links p c)
   pub go_needs : (r : ℕ) → r < p.ranks → ((cell p r).needs ≡ 1) × (in_links p r ≡ []) × ((cell p r).rank ≡ r) × ((cell p r).length ≡ 0)
-  pub apart : (l m : ℕ) → l < length p.links → m < length p.links → (l ≡ m → ⊥) → (link p l).target ≡ (link p m).target → (link p l).kind ≡ Put → (link p m).kind ≡ Put → AreApart p l m
+  pub apart : (l m : ℕ) → l < length p.links → m < length p.links → (l ≡ m → ⊥) → (link p l).target ≡ (link p m).target
+      → (link p l).kind ≡ Put → (link p m).kind ≡ Put → AreApart p l m
   pub covered : (c : ℕ) → c < length p.cells → p.ranks + inputs ≤ c → (cell p c).op ≡ None → put_bytes p c ≡ (cell p c).length
-  pub input_cells : (i : ℕ) → i < inputs → (p.ranks + i < length p.cells) × ((cell p (p.ranks + i)).op ≡ None) × ((cell p (p.ranks + i)).rank ≡ i % p.ranks)
+  pub input_cells : (i : ℕ) → i < inputs
+      → (p.ranks + i < length p.cells) × ((cell p (p.ranks + i)).op ≡ None) × ((cell p (p.ranks + i)).rank ≡ i % p.ranks)
   pub input_links : (l : ℕ) → l < length p.links → (link p l).target < p.ranks + inputs → (link p l).kind ≡ Bump
   pub ranks_known : (c : ℕ) → c < length p.cells → (cell p c).rank < p.ranks
   pub whole : (c : ℕ) → c < length p.cells → (cell p c).length % bytes_of (cell p c).ty ≡ 0

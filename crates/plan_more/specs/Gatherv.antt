@@ -21,7 +21,8 @@ abbrev pub holder_put : Site → ℕ → Incoming
 holder_put s i = put s.length (entry s (get_or s.holding i 0)) 0 (i * s.length)
 
 abbrev pub concatenated : Site → ℕ → NewCell
-concatenated s root = holding s (length s.holding * s.length) (rank_at s root) (bump (entry s root) ∷ map (holder_put s) (from_to 0 (length s.holding)))
+concatenated s root =
+    holding s (length s.holding * s.length) (rank_at s root) (bump (entry s root) ∷ map (holder_put s) (from_to 0 (length s.holding)))
 
 abbrev pub gatherv_cells : Site → ℕ → List NewCell
 gatherv_cells s root = map (held_entry s) (places s) ++ concatenated s root ∷ []

@@ -15,7 +15,8 @@ use Rattle.ni_model.specs.State.{State}
 use Rattle.ni_model.specs.Calls.{Done, MayLackMemory}
 
 -- a call that makes a thing, under some slot that no live thing of its table has, unless it lacks memory
-pub record MakesIfMemory {A : Type 0} (taken : ℕ → Bool) (call : ℕ → Done (Result A NiFault)) (old : State) (end : Done (Result A NiFault)) : Type 0 where
+pub record MakesIfMemory {A : Type 0} (taken : ℕ → Bool) (call : ℕ → Done (Result A NiFault)) (old : State) (end : Done (Result A NiFault))
+    : Type 0 where
   pub slot : ℕ
   pub free : taken slot ≡ false
   pub ended : MayLackMemory (call slot) old end

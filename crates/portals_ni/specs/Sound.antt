@@ -67,6 +67,7 @@ pub record Stands (s : State) : Type 0 where
   pub names : NamesLive s
 
 -- both
-pub record IsWhole (t : Side) (memory : List ℕ) (cts : Table Count) (eqs : Table Waiting) (i : Initiating) (ops : Operations Armed) (drops violations : ℕ) : Type 0 where
+pub record IsWhole (t : Side) (memory : List ℕ) (cts : Table Count) (eqs : Table Waiting) (i : Initiating) (ops : Operations Armed)
+    (drops violations : ℕ) : Type 0 where
   pub sound : IsSound t memory cts i ops
   pub stands : Stands (state_of t memory cts eqs i ops drops violations)

@@ -74,7 +74,8 @@ abbrev pub Judges : (Option Verdict → Due) → (Option Verdict → Type 0) →
 Judges owed finds sink sink' status = (found : Option Verdict) × Written (owed found) sink sink' status × Found status finds found
 
 -- All that holds after a check, the source having these bytes: of them one more than the longest input is read.
-pub record Checked (bytes : List ℕ) (source source' : Inflow) (sink sink' : Outflow) (ran : Option WorldState) (status : Status) : Type 0 where
+pub record Checked (bytes : List ℕ) (source source' : Inflow) (sink sink' : Outflow) (ran : Option WorldState) (status : Status)
+    : Type 0 where
   pub verdict : Option Verdict
   pub found : Found status (FindsIn (read_check bytes)) verdict
   pub allowed : MayAnswer status (due_checked verdict (read_check bytes)).status
@@ -88,5 +89,6 @@ pub record Checked (bytes : List ℕ) (source source' : Inflow) (sink sink' : Ou
 abbrev pub AnswersTo : Option Request → List ℕ → Inflow → Inflow → Outflow → Outflow → Option WorldState → Status → Type 0
 AnswersTo None bytes source source' sink sink' ran status = Answered None bytes source source' sink sink' ran status
 AnswersTo (Some (Do task)) bytes source source' sink sink' ran status = Answered (Some task) bytes source source' sink sink' ran status
-AnswersTo (Some (Large number workers)) bytes source source' sink sink' ran status = Summed number workers source source' sink sink' ran status
+AnswersTo (Some (Large number workers)) bytes source source' sink sink' ran status =
+    Summed number workers source source' sink sink' ran status
 AnswersTo (Some Check) bytes source source' sink sink' ran status = Checked bytes source source' sink sink' ran status

@@ -23,7 +23,8 @@ summary_text k =
     summary_of k (length p.cells) (length p.links) d.shape (meaning_of d.shape d.inputs)
 
 -- All that holds after the call: nothing is read, the summary is written, and the world that workers ran is handed back.
-pub record Summed (number workers : ℕ) (source source' : Inflow) (sink sink' : Outflow) (ran : Option WorldState) (status : Status) : Type 0 where
+pub record Summed (number workers : ℕ) (source source' : Inflow) (sink sink' : Outflow) (ran : Option WorldState) (status : Status)
+    : Type 0 where
   pub written : Written (done (summary_text number)) sink sink' status
   pub write_fault : status ≡ WriteFault → Rose sink.faults sink'.faults
   pub untouched : source' ≡ source

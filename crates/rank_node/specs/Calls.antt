@@ -16,7 +16,8 @@ use Rattle.ni_model.specs.Calls.{with_counter, with_bound}
 use Rattle.plan_core.specs.Places.{place_in}
 use Rattle.plan_view.specs.Slots.{Slots}
 use Rattle.plan_view.specs.Calls.{args_at, calls_made, sending_deed, with_entry}
-use Rattle.rank_node.specs.Handles.{Handles, Agrees, AreAllOf, Counted, counted_in, with_counter_handle, with_descriptor_handle, with_entry_handle}
+use Rattle.rank_node.specs.Handles.{Handles, Agrees, AreAllOf, Counted, counted_in, with_counter_handle, with_descriptor_handle,
+    with_entry_handle}
 
 -- ---- what each call names was made before it
 
@@ -36,7 +37,8 @@ IsWired cells n BumpDone = 0 < n.counters
 
 -- a message may be sent: its target is a rank, and its length within the limits
 abbrev pub MaySend : ℕ → Limits → Act → Type 0
-MaySend ranks limits (Send local size target bits remote hdr op ty ack) = MayStart (sending_deed (args_at (handle 0 0) local size target bits remote hdr ack) op ty) ranks limits
+MaySend ranks limits (Send local size target bits remote hdr op ty ack) =
+    MayStart (sending_deed (args_at (handle 0 0) local size target bits remote hdr ack) op ty) ranks limits
 MaySend ranks limits _ = Unit {0}
 
 -- the call may be made

@@ -59,4 +59,5 @@ with_step step e d = record d { locals = d.locals ++ e ∷ []; steps = d.steps +
 
 -- a receipt more
 abbrev pub with_receipt : ℕ → Lane → Sent → Diary → Diary
-with_receipt source lane m d = record (with_step (Receive source lane) (Received source lane m) d) { receipts = d.receipts - 1; bytes = d.bytes - length m.bytes }
+with_receipt source lane m d =
+    record (with_step (Receive source lane) (Received source lane m) d) { receipts = d.receipts - 1; bytes = d.bytes - length m.bytes }

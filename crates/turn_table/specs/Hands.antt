@@ -65,11 +65,14 @@ module _ {T : Type 0} where
     -- a hand with this view, and those in `rest`, are what became of the hands hs
     pub record Gathered (hs : List (HandState T)) (v : HandView T) (rest : List (HandState T)) : Type 0 where
       pub parts : v.parts + sum_by (λ h. h.knows.parts) rest ≡ sum_by (λ h. h.knows.parts) hs
-      pub placed : (k p : ℕ) → times p (places v k) + sum_by (λ h. times p (places h.knows k)) rest ≡ sum_by (λ h. times p (places h.knows k)) hs
+      pub placed : (k p : ℕ) → times p (places v k) + sum_by (λ h. times p (places h.knows k)) rest
+          ≡ sum_by (λ h. times p (places h.knows k)) hs
       pub long : (k : ℕ) → length (places v k) + sum_by (λ h. length (places h.knows k)) rest ≡ sum_by (λ h. length (places h.knows k)) hs
-      pub begun : (k : ℕ) (x : T) → Follows past name v.slots k x → All (λ h. Follows past name h.knows.slots k x) rest → All (λ h. Follows past name h.knows.slots k x) hs
+      pub begun : (k : ℕ) (x : T) → Follows past name v.slots k x → All (λ h. Follows past name h.knows.slots k x) rest
+          → All (λ h. Follows past name h.knows.slots k x) hs
 
-    -- what is left of the slot k: a value with its name, whose past begins with each that a hand saw there, and whose places are those of the hands, each once
+    -- what is left of the slot k: a value with its name, whose past begins with each that a hand saw there, and whose places are those
+    -- of the hands, each once
     pub record Left (start : List T) (hs : List (HandState T)) (k : ℕ) (x : T) : Type 0 where
       pub named : (y : T) → get_elem? start k ≡ some y → name x ≡ name y
       pub begun : All (λ h. Follows past name h.knows.slots k x) hs

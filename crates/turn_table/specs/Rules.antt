@@ -27,7 +27,8 @@ module _ {T N I : Type 0} (past : T → List I) (name : T → N) where
   Shows words homes k (out j x) = (slice_index_or words k 0 ≡ length (past x) + 2 ^ 63) × (get_elem? homes k ≡ some none)
 
   -- of the slot k, whose value is where c says: it is so, and where the value is out its holder has just that turn
-  pub record SlotOk (start : List T) (words : List ℕ) (homes : List (maybe.Option (Option T))) (views : List (HandView T)) (k : ℕ) (c : Where T) : Type 0 where
+  pub record SlotOk (start : List T) (words : List ℕ) (homes : List (maybe.Option (Option T))) (views : List (HandView T)) (k : ℕ)
+      (c : Where T) : Type 0 where
     pub shows : Shows words homes k c
     pub short : length (past (value_of c)) < 2 ^ 62
     pub named : (x : T) → get_elem? start k ≡ some x → name (value_of c) ≡ name x
@@ -35,7 +36,8 @@ module _ {T N I : Type 0} (past : T → List I) (name : T → N) where
 
   -- each past that was seen is a beginning of the slot's past
   abbrev pub Begun : (ℕ → Where T) → List (SlotView T) → Type 0
-  Begun cells slots = (k : ℕ) (s : SlotView T) (i : ℕ) (t : EndedTurn T) → get_elem? slots k ≡ some s → get_elem? s.seen i ≡ some t → IsPrefix (past t.given) (past (value_of (cells k)))
+  Begun cells slots = (k : ℕ) (s : SlotView T) (i : ℕ) (t : EndedTurn T) → get_elem? slots k ≡ some s → get_elem? s.seen i ≡ some t
+      → IsPrefix (past t.given) (past (value_of (cells k)))
 
   -- of the seat j with the view v: a turn that it has is out with it, and what it saw at each slot begins the past there
   pub record SeatOk (start : List T) (cells : ℕ → Where T) (j : ℕ) (v : HandView T) : Type 0 where
@@ -52,12 +54,14 @@ module _ {T N I : Type 0} (past : T → List I) (name : T → N) where
     pub parts : sum_by (λ v. v.parts) s.views ≡ 2 ^ 32
     pub slot_ok : (k : ℕ) → k < length start → SlotOk start s.words s.homes s.views k (cells k)
     pub seat_ok : (j : ℕ) (v : HandView T) → get_elem? s.views j ≡ some v → SeatOk start cells j v
-    pub placed : (k p : ℕ) → k < length start → sum_by (λ v. times p (places v k)) s.views ≡ once_below p (length (past (value_of (cells k))))
+    pub placed : (k p : ℕ) → k < length start
+        → sum_by (λ v. times p (places v k)) s.views ≡ once_below p (length (past (value_of (cells k))))
     pub long : (k : ℕ) → k < length start → sum_by (λ v. length (places v k)) s.views ≡ length (past (value_of (cells k)))
 
   -- a past that begins with each that was seen at the slot k
   abbrev pub Follows : List (SlotView T) → ℕ → T → Type 0
-  Follows slots k x = (s : SlotView T) (i : ℕ) (t : EndedTurn T) → get_elem? slots k ≡ some s → get_elem? s.seen i ≡ some t → IsPrefix (past t.given) (past x)
+  Follows slots k x = (s : SlotView T) (i : ℕ) (t : EndedTurn T) → get_elem? slots k ≡ some s → get_elem? s.seen i ≡ some t
+      → IsPrefix (past t.given) (past x)
 
   -- a value at the end: its name, its past, and the places of a view that has all
   pub record Ends (start : List T) (v : HandView T) (k : ℕ) (x : T) : Type 0 where
@@ -70,10 +74,13 @@ module _ {T N I : Type 0} (past : T → List I) (name : T → N) where
   abbrev pub try_tells : Step (Option T) → Me (Option T) (HandView T) → ℕ → Me (Option T) (HandView T) → Type 0
   try_tells st m r m' =
       (2 ^ 63 ≤ r → m' ≡ (after_busy m.0 st.word, m.1))
-      × (r < 2 ^ 63 → (x : T) × (m' ≡ (after_take m.0 st.word x, (st.word, Some x) ∷ m.1)) × (length (past x) ≡ r) × (length (past x) < 2 ^ 62)
-      × (length (places m.0 st.word) ≤ length (past x)) × Follows m.0.slots st.word x × ((y : T) → get_elem? m.0.start st.word ≡ some y → name x ≡ name y))
+      × (r < 2 ^ 63 → (x : T) × (m' ≡ (after_take m.0 st.word x, (st.word, Some x) ∷ m.1)) × (length (past x) ≡ r)
+          × (length (past x) < 2 ^ 62)
+      × (length (places m.0 st.word) ≤ length (past x)) × Follows m.0.slots st.word x
+          × ((y : T) → get_elem? m.0.start st.word ≡ some y → name x ≡ name y))
 
 module _ {T I : Type 0} (past : T → List I) where
   -- the count tells: the value is home, and the turn is over
   abbrev pub count_tells : Step (Option T) → Me (Option T) (HandView T) → ℕ → Me (Option T) (HandView T) → Type 0
-  count_tells st m r m' = (x y : T) → m.0.turn ≡ Some (open_turn st.word x) → m.1 ≡ (st.word, Some y) ∷ rest m.1 → m' ≡ (after_give past m.0 st.word x y, rest m.1)
+  count_tells st m r m' = (x y : T) → m.0.turn ≡ Some (open_turn st.word x) → m.1 ≡ (st.word, Some y) ∷ rest m.1
+      → m' ≡ (after_give past m.0 st.word x y, rest m.1)

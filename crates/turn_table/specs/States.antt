@@ -35,10 +35,12 @@ module _ {T : Type 0} where
       pub seen_long : length seen ≡ n
       pub made_is : (k : ℕ) → k < n → slice_index_or made k 0 ≡ length (places v k)
       pub seen_is : (k : ℕ) → k < n → slice_index_or seen k 0 ≡ last_seen past v k
-      pub found_is : (k : ℕ) (x : T) → v.turn ≡ Some (open_turn k x) → (k < n) × (found ≡ length (past x)) × (length (places v k) ≤ length (past x))
+      pub found_is : (k : ℕ) (x : T) → v.turn ≡ Some (open_turn k x)
+          → (k < n) × (found ≡ length (past x)) × (length (places v k) ≤ length (past x))
 
     -- a hand has a part, knows n slots, and has room for their values
-    pub record HandKeeps (n : ℕ) (me : Me (Option T) (HandView T)) (room : List T) (capacity : ℕ) (made seen : List ℕ) (found : ℕ) : Type 0 where
+    pub record HandKeeps (n : ℕ) (me : Me (Option T) (HandView T)) (room : List T) (capacity : ℕ) (made seen : List ℕ) (found : ℕ)
+        : Type 0 where
       pub alive : 0 < me.0.parts
       pub slots : length me.0.slots ≡ n
       pub start : length me.0.start ≡ n

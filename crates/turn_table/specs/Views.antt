@@ -89,7 +89,8 @@ module _ {T : Type 0} where
   module _ {I : Type 0} (past : T → List I) where
     -- x was taken and y given: the places that the past grew by are the hand's
     abbrev pub after_turn : T → T → SlotView T → SlotView T
-    after_turn x y s = record { busy = s.busy; seen = ended_turn x y ∷ []; places = s.places ++ numbers_from (length (past x)) (length (past y) - length (past x)) }
+    after_turn x y s = record { busy = s.busy; seen = ended_turn x y ∷ [];
+        places = s.places ++ numbers_from (length (past x)) (length (past y) - length (past x)) }
 
     -- the turn at the slot k is over
     abbrev pub after_give : HandView T → ℕ → T → T → HandView T
@@ -112,7 +113,8 @@ module _ {T : Type 0} where
   abbrev pub joined_slots : List (SlotView T) → List (SlotView T) → List (SlotView T)
   joined_slots [] ys = []
   joined_slots (x ∷ xs) [] = x ∷ xs
-  joined_slots (x ∷ xs) (y ∷ ys) = record { busy = x.busy + y.busy; seen = x.seen ++ y.seen; places = x.places ++ y.places } ∷ joined_slots xs ys
+  joined_slots (x ∷ xs) (y ∷ ys) =
+      record { busy = x.busy + y.busy; seen = x.seen ++ y.seen; places = x.places ++ y.places } ∷ joined_slots xs ys
 
   -- one view with the places, the last turns and the parts of both
   abbrev pub after_join : HandView T → HandView T → HandView T
