@@ -4,8 +4,6 @@
 mod allowing;
 mod judging;
 mod taking;
-#[cfg(test)]
-mod tests;
 
 pub use judging::check;
 pub use order_lines::Orders;

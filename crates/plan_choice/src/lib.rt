@@ -5,8 +5,6 @@
 mod acts;
 mod laws;
 mod laying;
-#[cfg(test)]
-mod tests;
 mod world;
 
 pub use laws::choices_by_words;

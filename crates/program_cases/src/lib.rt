@@ -9,6 +9,8 @@ mod json;
 #[cfg(test)]
 mod orders;
 #[cfg(test)]
+mod pieces;
+#[cfg(test)]
 mod plans;
 #[cfg(test)]
 mod refused;

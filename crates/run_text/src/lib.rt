@@ -8,8 +8,6 @@ mod plans;
 mod refused;
 mod results;
 mod summary;
-#[cfg(test)]
-mod tests;
 mod words;
 
 pub use lines::{rest_line, result_line};

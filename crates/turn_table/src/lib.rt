@@ -10,8 +10,6 @@
 mod life;
 mod plays;
 mod table;
-#[cfg(test)]
-mod tests;
 mod turns;
 mod views;
 

@@ -1,9 +1,11 @@
 //! Runs of whole worlds, and what stands in them: the buffers of each rank under many orders and windows, strays, messages that
-//! come before a rank's start, and the possible steps one after the other. What is expected comes from outside: worked out by
-//! hand, or by another program that knows the language alone.
+//! come before a rank's start, and the possible steps one after the other; worlds of choices, and verdicts on orders. What is
+//! expected comes from outside: worked out by hand, or by another program that knows the language alone.
 #![tactic(auto)]
 
 pub mod cases;
+#[cfg(test)]
+mod choices;
 #[cfg(test)]
 mod choosing;
 #[cfg(test)]
@@ -18,3 +20,5 @@ mod sizes;
 mod stepping;
 #[cfg(test)]
 mod strays;
+#[cfg(test)]
+mod verdicts;

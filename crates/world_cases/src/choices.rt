@@ -1,7 +1,7 @@
 //! Runs of choice worlds in several orders: what is decided, and that orders differ.
 
-use crate::{ChoiceWorld, Chooser, LocalStep, Step};
 use coll_lang::parse;
+use plan_choice::{ChoiceWorld, Chooser, LocalStep, Step};
 use std::alloc::Global;
 use std::test::Fail;
 

@@ -1,6 +1,6 @@
 //! What no clause says: verdicts on the orders of small jobs, from outside.
 
-use crate::{Cause, Verdict, check};
+use order_check::{Cause, Verdict, check};
 use order_lines::parse_check;
 use schedule_compiler::{Job, compile};
 use std::alloc::Global;

@@ -5,12 +5,12 @@ ghost use mathlib.Core.List.{IsPrefix};
 ghost use Rattle.turn_table.specs.Views.{open_turn};
 ghost use Rattle.turn_table.specs.Hands.{IsFree, IsHandOf, parts_of};
 
-use crate::{Past, Turn, TurnHand, Turns};
 use std::alloc::{AllocError, Global};
 use std::sync::Wait;
 use std::test::*;
 use std::thread;
 use std::thread::Threads;
+use turn_table::{Past, Turn, TurnHand, Turns};
 
 // Marks in the order in which they were written, at most a thousand.
 #[derive(Drop)]

@@ -6,7 +6,7 @@ ghost use Rattle.ptl_types.specs.Kinds.{lane_of};
 ghost use Rattle.pair_wires.specs.Bounds.{KeepsBounds};
 ghost use Rattle.pair_wires.specs.Wires.{IsOutOf, IsInOf};
 
-use crate::{Bounds, InEnd, OutEnd, PlainLane, Wire};
+use pair_wires::{Bounds, InEnd, OutEnd, PlainLane, Wire};
 use ptl_types::{AckRequest, Bytes, ElemType, Header, Lane, Message, MessageKind};
 use std::alloc::Global;
 use std::sync::Wait;

@@ -1,6 +1,6 @@
 use Rattle.std.proofs.Common.{refl}
 use Rattle.turn_table.proofs.Sums.{prefix_refl}
-use Rattle.turn_table.proofs.tests.give_back.Goals as goal
+use Rattle.wire_cases.proofs.turns.give_back.Goals as goal
 
 pub give-requires-clause-turn : goal.give-requires-clause-turn
 give-requires-clause-turn c = record {

@@ -1,7 +1,7 @@
 //! The size of the pieces, which no contract says.
 
-use crate::{PIECE, Pieces};
 use port_io::{Failed, Sink};
+use run_text::{PIECE, Pieces};
 use std::test::Fail;
 
 /// A sink that notes how much each write was offered, and takes all of it. Its count of finishes stands at its end.

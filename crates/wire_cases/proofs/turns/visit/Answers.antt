@@ -1,6 +1,6 @@
 use Rattle.std.proofs.Common.{ap, ◌∙◌, sym, ℕ, Some}
 use Rattle.turn_table.specs.Views.{open_turn}
-use Rattle.turn_table.proofs.tests.visit.Goals as goal
+use Rattle.wire_cases.proofs.turns.visit.Goals as goal
 
 pub give-requires-clause-turn : goal.give-requires-clause-turn
 give-requires-clause-turn g c = let t = c.take-slot.ensures.taken in let a = c.add.ensures in record {
