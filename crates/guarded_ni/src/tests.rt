@@ -6,7 +6,8 @@ use crate::{
 };
 use portals_ni::Nic;
 use ptl_types::{
-    AckRequest, AtomicOp, Bytes, Deed, ElemType, GetArgs, Handle, Limits, NiFault, PutArgs, SwapOp,
+    AckRequest, AtomicOp, Bytes, Deed, ElemType, GetArgs, Handle, Limits, NiFault, PutArgs, Rank,
+    SwapOp,
 };
 use std::alloc::Global;
 use std::process::Abort;
@@ -35,9 +36,18 @@ const GET: GetArgs = GetArgs {
     remote_offset: 0,
 };
 
-fn side<R: Abort + Alloc<A = Global>>(rt: &R) -> Nic {
+/// An interface of one of two ranks. The limits are handed over, so that no proof counts them out.
+fn opens<R: Abort + Alloc<A = Global>>(
+    rt: &R,
+    rank: Rank,
+    limits: Limits,
+) -> Result<Nic, CallFault> {
     let region = Bytes::of(rt.alloc(), &[0; 4]).expect(rt, "a region");
-    open(rt.alloc(), 0, 2, Limits::SMALL, region).expect(rt, "an interface")
+    open(rt.alloc(), rank, 2, limits, region)
+}
+
+fn side<R: Abort + Alloc<A = Global>>(rt: &R) -> Nic {
+    opens(rt, 0, Limits::SMALL).expect(rt, "an interface")
 }
 
 fn misused<T: Drop>(made: Result<T, CallFault>) -> Option<Misuse> {
@@ -109,8 +119,7 @@ fn atomics_and_swaps(rt: HostRuntime) {
 
 #[test]
 fn other_calls(rt: HostRuntime) {
-    let region = Bytes::of(rt.alloc(), &[0; 4]).expect(&rt, "a region");
-    let none = open(rt.alloc(), 2, 2, Limits::SMALL, region);
+    let none = opens(&rt, 2, Limits::SMALL);
     assert_eq!(rt; misused(none), Some(Misuse::UnknownRank));
     let mut nic = side(&rt);
     assert_eq!(rt; misused(eq_alloc(&mut nic, 0)), Some(Misuse::NoRoom));
