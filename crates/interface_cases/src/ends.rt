@@ -2,7 +2,7 @@
 
 use crate::sides::{Side, over};
 use crate::steps::Answer;
-use crate::values::NOTHING;
+use crate::values::{LIMITS, NOTHING};
 use ptl_types::{
     Count, Deed, Descriptor, Entry, GetArgs, Handle, Header, Limits, NiFault, PutArgs, Rank,
     UnexpectedHeader,
@@ -72,7 +72,7 @@ impl End {
     pub fn open<R: Abort + Alloc<A = Global>>(rt: &R, rank: Rank, bytes: &[u8]) -> End {
         assert!(rt; rank < 2);
         End {
-            side: over(rt, rank, bytes),
+            side: over(rt, rank, LIMITS, bytes),
             cts: [NOTHING; 8],
             eqs: [NOTHING; 8],
             mds: [NOTHING; 8],

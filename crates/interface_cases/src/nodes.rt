@@ -2,7 +2,7 @@
 //! answer is awaited.
 
 use crate::sides::{Side, over};
-use crate::values::{DESCRIPTOR, ENTRY, FIRST, ONE, PUT};
+use crate::values::{DESCRIPTOR, ENTRY, FIRST, LIMITS, ONE, PUT};
 use ptl_types::{AckRequest, Appended, Deed, List, PutArgs};
 use std::process::Abort;
 
@@ -24,7 +24,7 @@ fn post_three(rt: &impl Abort, side: &mut Side) {
 
 #[test]
 fn ready_operations_by_number_and_by_rank(rt: HostRuntime) {
-    let mut side = over(&rt, 0, &[0; 16]);
+    let mut side = over(&rt, 0, LIMITS, &[0; 16]);
     post_three(&rt, &mut side);
     assert_eq!(rt; side.ready_count(), 0);
     assert_eq!(rt; side.ready_at(0), None);
@@ -45,7 +45,7 @@ fn ready_operations_by_number_and_by_rank(rt: HostRuntime) {
 
 #[test]
 fn an_answer_is_awaited_from_the_firing_on(rt: HostRuntime) {
-    let mut side = over(&rt, 0, &[0; 16]);
+    let mut side = over(&rt, 0, LIMITS, &[0; 16]);
     post_three(&rt, &mut side);
     assert!(rt; side.ct_inc(FIRST, ONE).is_ok());
     assert!(rt; side.ct_inc(FIRST, ONE).is_ok());
@@ -56,7 +56,7 @@ fn an_answer_is_awaited_from_the_firing_on(rt: HostRuntime) {
 
 #[test]
 fn headers_in_the_order_of_arrival(rt: HostRuntime) {
-    let mut side = over(&rt, 0, &[0; 16]);
+    let mut side = over(&rt, 0, LIMITS, &[0; 16]);
     assert!(rt; side.pt_alloc(0, None).is_ok());
     assert!(rt; side.md_bind(DESCRIPTOR).is_ok());
     let linked = side.me_append(0, List::Overflow, ENTRY);

@@ -7,7 +7,7 @@ use crate::steps::Step::{self, *};
 use crate::values::{
     ENTRY, FIRST, FREED, GET, HEADER, LINKED, NOTHING, ONCE, PUT, SECOND, UNLINKED,
 };
-use ptl_types::NiFault::{InUse, NoSpace};
+use ptl_types::NiFault::{InUse, NoSpace, Stale};
 use ptl_types::{
     AckRequest, Deed, Entry, Event, EventKind, Header, List, MessageKind, Outcome, PutArgs,
     UnexpectedHeader,
@@ -336,6 +336,57 @@ fn a_search_deletes_the_oldest_header_where_asked(rt: HostRuntime) {
         HereTells(FIRST, &[THREE_FOUND, THREE_FOUND, TWO_FOUND, FREED, MISSED]),
     ];
     play(&rt, &[FILLED, SCRIPT]);
+}
+
+#[test]
+fn headers_are_searched_and_taken(rt: HostRuntime) {
+    const ONE_BYTE: UnexpectedHeader = UnexpectedHeader {
+        delivered: 1,
+        header: Header {
+            pt: 1,
+            length: 1,
+            ..HEADER
+        },
+        ..THREE_BYTES
+    };
+    const ONE_TAKEN: Event = Event {
+        requested: 1,
+        delivered: 1,
+        ..THREE_TAKEN
+    };
+    const ONE_FOUND: Event = Event {
+        kind: EventKind::Search,
+        ..ONE_TAKEN
+    };
+    const TWO_AT_THE_START: Event = Event {
+        place: 0,
+        ..TWO_TAKEN
+    };
+    const SCRIPT: &[Step] = &[
+        Here(MeSearch(1, ENTRY, false), Refused(Stale)),
+        Here(EqAlloc(8), Made(0)),
+        Here(PtAlloc(1, Some(FIRST)), Done),
+        Here(MeAppend(1, List::Overflow, ENTRY), Linked(0)),
+        Comes(TO_ONE, &[1], Outcome::Overflow),
+        Comes(TO_ONE, &[1, 2], Outcome::Overflow),
+        Here(MeUnlink(FIRST), Refused(InUse)),
+        Here(MeSearch(1, ENTRY, false), Found(ONE_BYTE)),
+        Here(MeAppend(1, List::Priority, ONCE), Consumed(ONE_BYTE)),
+        Here(MeAppend(1, List::Priority, ENTRY), Linked(1)),
+        Here(MeSearch(1, ENTRY, false), Nothing),
+        HereTells(
+            FIRST,
+            &[
+                LINKED,
+                ONE_FOUND,
+                ONE_TAKEN,
+                TWO_AT_THE_START,
+                LINKED,
+                MISSED,
+            ],
+        ),
+    ];
+    play(&rt, &[SCRIPT]);
 }
 
 #[test]

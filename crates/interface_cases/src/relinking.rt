@@ -1,7 +1,7 @@
 //! Entries come and go in a table of four, which took all its memory when it was opened.
 
 use crate::sides::{Side, over};
-use crate::values::ENTRY;
+use crate::values::{ENTRY, LIMITS};
 use ptl_types::{Appended, Handle, List, NiFault};
 use std::process::Abort;
 
@@ -15,7 +15,7 @@ fn linked(rt: &impl Abort, side: &mut Side, list: List) -> Handle {
 
 #[test]
 fn four_entries_are_unlinked_and_linked_again_a_thousand_times(rt: HostRuntime) {
-    let mut side = over(&rt, 0, &[0; 16]);
+    let mut side = over(&rt, 0, LIMITS, &[0; 16]);
     assert!(rt; side.pt_alloc(0, None).is_ok());
     let mut older = linked(&rt, &mut side, List::Priority);
     let mut old = linked(&rt, &mut side, List::Overflow);
@@ -37,7 +37,7 @@ fn four_entries_are_unlinked_and_linked_again_a_thousand_times(rt: HostRuntime) 
 
 #[test]
 fn an_index_is_allocated_and_freed_a_thousand_times(rt: HostRuntime) {
-    let mut side = over(&rt, 0, &[0; 16]);
+    let mut side = over(&rt, 0, LIMITS, &[0; 16]);
     for _ in 0..1000 {
         assert!(rt; side.pt_alloc(1, None) == Ok(()));
         let me = side.me_append(1, List::Overflow, ENTRY);

@@ -3,7 +3,6 @@
 ghost use Rattle.std.specs.Prelude.{◌≡◌, ◌<◌};
 ghost use Rattle.ni_model.specs.Conditions.{MayGo, MayCombine, MayFetch, MayStart};
 
-use crate::values::LIMITS;
 use portals_ni::Nic;
 use ptl_types::{
     AckRequest, Appended, Bytes, Count, Deed, Delivered, Descriptor, ElemType, Entry, EqGot,
@@ -19,12 +18,13 @@ pub struct Side {
     nic: Nic,
 }
 
-/// An interface of one of two ranks, over a region of these bytes.
-pub fn over<R: Abort + Alloc<A = Global>>(rt: &R, rank: Rank, bytes: &[u8]) -> Side
+/// An interface of one of two ranks with these limits, over a region of these bytes. The limits are handed over, so that the proof of
+/// what an interface begins with counts none of them out.
+pub fn over<R: Abort + Alloc<A = Global>>(rt: &R, rank: Rank, limits: Limits, bytes: &[u8]) -> Side
     requires { rank < 2 }
 {
     let region = Bytes::of(rt.alloc(), bytes).expect(rt, "a region");
-    let nic = Nic::open(rt.alloc(), rank, 2, LIMITS, region).expect(rt, "an interface");
+    let nic = Nic::open(rt.alloc(), rank, 2, limits, region).expect(rt, "an interface");
     Side { nic }
 }
 
