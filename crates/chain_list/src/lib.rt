@@ -7,8 +7,6 @@ mod filling;
 mod nodes;
 mod row;
 mod steps;
-#[cfg(test)]
-mod tests;
 
 // A crate can name a chain in a contract only if the types of its fields are exported.
 #[doc(hidden)]

@@ -1,7 +1,7 @@
 //! Short lives of chains: what is listed by `first` and `next`, and what keys find.
 ghost use Rattle.std.specs.Prelude.{◌≡◌};
 
-use crate::{Chain, Steps};
+use chain_list::{Chain, Steps};
 use std::alloc::Global;
 use std::marker::Brand;
 use std::process::Abort;

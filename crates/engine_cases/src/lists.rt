@@ -2,8 +2,8 @@
 
 ghost use Rattle.std.specs.Prelude.{◌≡◌};
 
-use crate::Lists;
 use chain_list::Steps;
+use match_lists::Lists;
 use ptl_types::{AckRequest, ElemType, Entry, Handle, Header, List, MessageKind};
 use std::alloc::Global;
 use std::marker::Brand;

@@ -1,18 +1,16 @@
-//! Each call of a target once, and each of its refusals.
+//! Each call of a target once, and each of its refusals. Headers that are left, searched and taken are a script of `interface_cases`.
 
-use crate::Target;
-use crate::gone::is_in_overflow;
 use counters::Counter;
 use event_queues::Queue;
 use handle_store::Store;
 use memory_desc::Region;
-use ni_model::{Found, Linked};
 use ptl_types::{
-    AckRequest, Appended, Bytes, ElemType, Entry, EqGot, EventKind, Handle, Header, Limits, List,
-    Message, MessageKind, NiFault, NoMemory, Outcome, UnexpectedHeader,
+    AckRequest, Appended, Bytes, ElemType, Entry, Handle, Header, Limits, List, Message,
+    MessageKind, NiFault, NoMemory, Outcome,
 };
 use std::alloc::Global;
 use std::test::Fail;
+use target_engine::Target;
 
 const LIMITS: Limits = Limits {
     entries: 2,
@@ -84,58 +82,33 @@ impl Host {
         })
     }
 
-    fn open_queue(&mut self, alloc: Global) -> Option<Handle> {
-        let queue = Queue::open(alloc, 8).ok()?;
-        self.eqs.insert(queue).ok()
-    }
-
     fn pt_alloc(&mut self, index: u32, eq: Option<Handle>) -> Result<(), NiFault> {
         self.target.pt_alloc(&self.eqs, index, eq)
+    }
+
+    fn pt_free(&mut self, index: u32) -> Result<(), NiFault> {
+        self.target.pt_free(index)
+    }
+
+    fn unlink(&mut self, me: Handle) -> Result<(), NiFault> {
+        self.target.unlink(me)
     }
 
     fn append(&mut self, list: List, entry: Entry) -> Result<(Appended, Option<Handle>), NiFault> {
         self.target
             .append(&self.region, &mut self.cts, &mut self.eqs, 0, list, entry)
     }
-
-    fn search(&mut self, delete: bool) -> Result<Option<UnexpectedHeader>, NiFault> {
-        self.target.search(&mut self.eqs, 0, &ENTRY, delete)
-    }
-
-    /// Leaves a header of this length in the overflow entry, at index 0.
-    fn leave_header(&mut self, entry: Handle, length: u64) {
-        let header = Header { length, ..PUT };
-        let found = Found {
-            list: List::Overflow,
-            linked: Linked {
-                handle: entry,
-                running: 0,
-                entry: ENTRY,
-            },
-        };
-        if !self.target.headers.is_full() && is_in_overflow(&self.target.indices, 0, entry) {
-            self.target.note(&found, &header);
-        }
-    }
-
-    /// The kind of the oldest event of a queue.
-    fn next_kind(&mut self, eq: Handle) -> Option<EventKind> {
-        match self.eqs.get_mut(eq)?.take() {
-            EqGot::Got(event) => Some(event.kind),
-            _ => None,
-        }
-    }
 }
 
 #[test]
 fn indices_come_and_go(rt: HostRuntime) -> Result<(), Fail> {
     let mut host = Host::open(rt.alloc())?;
-    assert_eq!(rt; host.target.pt_free(0), Err(NiFault::Stale));
+    assert_eq!(rt; host.pt_free(0), Err(NiFault::Stale));
     assert_eq!(rt; host.pt_alloc(0, Some(DEAD)), Err(NiFault::Stale));
     assert_eq!(rt; host.pt_alloc(2, None), Err(NiFault::NoSpace));
     assert_eq!(rt; host.pt_alloc(0, None), Ok(()));
     assert_eq!(rt; host.pt_alloc(0, None), Err(NiFault::InUse));
-    assert_eq!(rt; host.target.pt_free(0), Ok(()));
+    assert_eq!(rt; host.pt_free(0), Ok(()));
     Ok(())
 }
 
@@ -167,42 +140,9 @@ fn entries_come_and_go(rt: HostRuntime) -> Result<(), Fail> {
     );
     assert!(rt; host.append(List::Overflow, ENTRY).is_ok());
     assert_eq!(rt; host.append(list, past_the_end), Err(NiFault::NoSpace));
-    assert_eq!(rt; host.target.pt_free(0), Err(NiFault::InUse));
-    assert_eq!(rt; host.target.unlink(first), Ok(()));
-    assert_eq!(rt; host.target.unlink(first), Err(NiFault::Stale));
-    Ok(())
-}
-
-#[test]
-fn headers_are_searched_and_taken(rt: HostRuntime) -> Result<(), Fail> {
-    let mut host = Host::open(rt.alloc())?;
-    assert_eq!(rt; host.search(false), Err(NiFault::Stale));
-    let eq = host.open_queue(rt.alloc()).ok_or("a queue has room")?;
-    assert_eq!(rt; host.pt_alloc(0, Some(eq)), Ok(()));
-    let over = Handle { slot: 0, stamp: 0 };
-    let linked = host.append(List::Overflow, ENTRY);
-    assert_eq!(rt; linked, Ok((Appended::Linked(over), None)));
-    host.leave_header(over, 1);
-    host.leave_header(over, 2);
-    assert_eq!(rt; host.target.unlink(over), Err(NiFault::InUse));
-    let length = host.target.header(0, 1).map(|header| header.delivered);
-    assert_eq!(rt; length, Some(2));
-    let found = host.search(false)?;
-    assert_eq!(rt; found.map(|header| header.delivered), Some(1));
-    let once = Entry {
-        use_once: true,
-        ..ENTRY
-    };
-    let taken = host.append(List::Priority, once);
-    assert!(rt; matches!(taken, Ok((Appended::Consumed(_), None))));
-    let linked = host.append(List::Priority, ENTRY);
-    assert!(rt; matches!(linked, Ok((Appended::Linked(_), None))));
-    assert!(rt; host.target.header(0, 0).is_none());
-    assert_eq!(rt; host.next_kind(eq), Some(EventKind::Link));
-    assert_eq!(rt; host.next_kind(eq), Some(EventKind::Search));
-    assert_eq!(rt; host.next_kind(eq), Some(EventKind::PutOverflow));
-    assert_eq!(rt; host.next_kind(eq), Some(EventKind::PutOverflow));
-    assert_eq!(rt; host.next_kind(eq), Some(EventKind::Link));
+    assert_eq!(rt; host.pt_free(0), Err(NiFault::InUse));
+    assert_eq!(rt; host.unlink(first), Ok(()));
+    assert_eq!(rt; host.unlink(first), Err(NiFault::Stale));
     Ok(())
 }
 

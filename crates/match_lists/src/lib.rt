@@ -3,8 +3,6 @@
 
 mod lists;
 mod match_list;
-#[cfg(test)]
-mod tests;
 mod walk;
 
 pub use lists::{Lists, Placed};

@@ -4,8 +4,6 @@
 
 mod ends;
 mod links;
-#[cfg(test)]
-mod tests;
 mod threads;
 
 // A crate can name threads in a contract only if the types of their fields are exported.

@@ -14,8 +14,6 @@ mod places;
 mod swap;
 mod takes;
 mod target;
-#[cfg(test)]
-mod tests;
 mod unlinks;
 
 pub use target::Target;
