@@ -9,16 +9,61 @@ use std::process::Abort;
 use std::sync::Wait;
 use std::test::Fail;
 use std::thread::Threads;
+use worlds::World;
 
 /// Room for all that a run here writes.
 const ROOM: u64 = 262_144;
+
+/// What a run left. It holds no world, so that the tests need to know none.
+#[derive(Clone, Copy)]
+pub(crate) struct Left {
+    /// How many steps the ranks of the world made, where one is left.
+    pub(crate) world: Option<u64>,
+}
 
 /// What a run wrote and left.
 #[derive(Drop)]
 pub(crate) struct Made {
     pub(crate) status: Status,
     pub(crate) sink: SureSink,
-    pub(crate) ran: Ran,
+    pub(crate) ran: Left,
+}
+
+/// How many steps the ranks of a world made.
+fn steps_of(world: &World) -> u64 {
+    let mut steps = 0u64;
+    for rank in 0..world.schedule().shape().ranks() {
+        steps = steps.wrapping_add(world.history(rank).len() as u64);
+    }
+    steps
+}
+
+fn left_by(ran: &Ran) -> Left {
+    Left {
+        world: ran.world.as_ref().map(steps_of),
+    }
+}
+
+/// Runs these words: the only call of the program.
+fn run_words<S: Source, K: Sink, G: Gate>(
+    rt: &(impl Threads + Wait + Sync),
+    alloc: Global,
+    gate: &G,
+    words: &[String],
+    source: &mut S,
+    sink: &mut K,
+) -> (Status, Left) {
+    let mut ran = Ran::new();
+    let status = run_with_gate(rt, alloc, words, source, sink, gate, &mut ran);
+    (status, left_by(&ran))
+}
+
+fn words_of(alloc: Global, command: &[&str]) -> Result<Vec<String>, AllocError> {
+    let mut words = Vec::new(alloc);
+    for word in command {
+        words.push(String::from_str(alloc, word)?)?;
+    }
+    Ok(words)
 }
 
 /// Runs words between these ends, with a gate.
@@ -29,14 +74,9 @@ pub(crate) fn run_between<S: Source, K: Sink, G: Gate>(
     command: &[&str],
     source: &mut S,
     sink: &mut K,
-) -> Result<(Status, Ran), AllocError> {
-    let mut words = Vec::new(alloc);
-    for word in command {
-        words.push(String::from_str(alloc, word)?)?;
-    }
-    let mut ran = Ran::new();
-    let status = run_with_gate(rt, alloc, words.as_slice(), source, sink, gate, &mut ran);
-    Ok((status, ran))
+) -> Result<(Status, Left), AllocError> {
+    let words = words_of(alloc, command)?;
+    Ok(run_words(rt, alloc, gate, words.as_slice(), source, sink))
 }
 
 /// Runs words on bytes with a gate.

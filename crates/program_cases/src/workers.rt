@@ -113,13 +113,7 @@ fn steps_through<G: Gate>(
     let Made { status, sink, ran } = run_through(rt, alloc, gate, command, text.as_bytes())?;
     assert_eq!(rt; status, Status::Done);
     assert_eq!(rt; sink.as_slice(), output.as_bytes());
-    let mut steps = 0u64;
-    if let Some(world) = ran.world {
-        for rank in 0..world.schedule().shape().ranks() {
-            steps = steps.wrapping_add(world.history(rank).len() as u64);
-        }
-    }
-    Ok(steps)
+    Ok(ran.world.unwrap_or(0))
 }
 
 /// Counts the steps.
