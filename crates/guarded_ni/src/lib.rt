@@ -8,8 +8,6 @@
 mod calls;
 mod faults;
 mod starts;
-#[cfg(test)]
-mod tests;
 
 pub use calls::{deliver, eq_alloc, fire, open, ready_at, write_memory};
 pub use faults::{CallFault, Misuse};

@@ -4,7 +4,8 @@
 //! can reach, but want of memory, and every call once with ample memory.
 //!
 //! A script is a list of steps, and each step has a call and its answer (`steps`). `scene` plays it: it makes the calls,
-//! compares the answers, and compares all that the interface tells before and after each call that is refused.
+//! compares the answers, and compares all that the interface tells before and after each call that is refused. `guarded` has the calls
+//! of `guarded_ni` that test their conditions themselves, each rule once.
 #![tactic(auto)]
 
 #[cfg(test)]
@@ -25,6 +26,8 @@ mod ends;
 mod example;
 #[cfg(test)]
 mod firing;
+#[cfg(test)]
+mod guarded;
 #[cfg(test)]
 mod managed;
 #[cfg(test)]

@@ -39,8 +39,11 @@ fn steps_of(world: &World) -> u64 {
 }
 
 fn left_by(ran: &Ran) -> Left {
-    Left {
-        world: ran.world.as_ref().map(steps_of),
+    match &ran.world {
+        Some(world) => Left {
+            world: Some(steps_of(world)),
+        },
+        None => Left { world: None },
     }
 }
 

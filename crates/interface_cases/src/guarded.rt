@@ -1,0 +1,167 @@
+//! Each rule that the arguments of a guarded call can break, by name; and that the interface is as it was.
+
+use guarded_ni::{
+    CallFault, Misuse, atomic, eq_alloc, fetch_atomic, fire, get, open, put, ready_at, swap,
+    triggered, write_memory,
+};
+use portals_ni::Nic;
+use ptl_types::{
+    AckRequest, AtomicOp, Bytes, Deed, ElemType, GetArgs, Handle, Limits, NiFault, PutArgs, Rank,
+    SwapOp,
+};
+use std::alloc::Global;
+use std::process::Abort;
+
+const MD: Handle = Handle { slot: 0, stamp: 0 };
+
+const PUT: PutArgs = PutArgs {
+    md: MD,
+    local_offset: 0,
+    length: 4,
+    ack: AckRequest::NoAck,
+    target: 1,
+    pt: 0,
+    match_bits: 5,
+    remote_offset: 0,
+    hdr_data: 0,
+};
+
+const GET: GetArgs = GetArgs {
+    md: MD,
+    local_offset: 0,
+    length: 4,
+    target: 1,
+    pt: 0,
+    match_bits: 5,
+    remote_offset: 0,
+};
+
+const LONG: PutArgs = PutArgs {
+    length: 4097,
+    ..PUT
+};
+
+const STALE: CallFault = CallFault::Refused(NiFault::Stale);
+
+/// An interface of one of two ranks. What a call is given comes here as a parameter, so that no proof works its promise out.
+fn opens<R: Abort + Alloc<A = Global>>(
+    rt: &R,
+    rank: Rank,
+    limits: Limits,
+) -> Result<Nic, CallFault> {
+    let region = Bytes::of(rt.alloc(), &[0; 4]).expect(rt, "a region");
+    open(rt.alloc(), rank, 2, limits, region)
+}
+
+fn side<R: Abort + Alloc<A = Global>>(rt: &R) -> Nic {
+    opens(rt, 0, Limits::SMALL).expect(rt, "an interface")
+}
+
+/// Why a start by the call of its kind isn't made; a deed that counts starts none.
+fn start_fault(nic: &mut Nic, deed: Deed) -> Option<CallFault> {
+    match deed {
+        Deed::Put(args) => put(nic, args).err(),
+        Deed::Get(args) => get(nic, args).err(),
+        Deed::Atomic(args, op, ty) => atomic(nic, args, op, ty).err(),
+        Deed::FetchAtomic(back, args, op, ty) => fetch_atomic(nic, back, args, op, ty).err(),
+        Deed::Swap(back, args, op, ty, operand) => swap(nic, back, args, op, ty, operand).err(),
+        Deed::Inc(_, _) | Deed::Set(_, _) => None,
+    }
+}
+
+fn triggered_fault(nic: &mut Nic, deed: Deed, ct: Handle, threshold: u64) -> Option<CallFault> {
+    triggered(nic, deed, ct, threshold).err()
+}
+
+fn queue_fault(nic: &mut Nic, room: u32) -> Option<CallFault> {
+    eq_alloc(nic, room).err()
+}
+
+fn writes(nic: &mut Nic, start: u64, bytes: &[u8]) -> Result<(), Misuse> {
+    write_memory(nic, start, bytes)
+}
+
+fn ready_fault(nic: &Nic, i: u32) -> Option<Misuse> {
+    ready_at(nic, i).err()
+}
+
+fn firing_fault(nic: &mut Nic, number: u32) -> Option<Misuse> {
+    fire(nic, number).err()
+}
+
+#[test]
+fn puts_and_gets(rt: HostRuntime) {
+    let mut nic = side(&rt);
+    for (deed, fault) in [
+        (
+            Deed::Put(PutArgs { target: 2, ..PUT }),
+            CallFault::Misused(Misuse::UnknownRank),
+        ),
+        (Deed::Put(LONG), CallFault::Misused(Misuse::TooLong)),
+        (
+            Deed::Get(GetArgs {
+                target: 2,
+                length: 4097,
+                ..GET
+            }),
+            CallFault::Misused(Misuse::UnknownRank),
+        ),
+        (Deed::Put(PUT), STALE),
+        (Deed::Get(GET), STALE),
+    ] {
+        assert_eq!(rt; start_fault(&mut nic, deed), Some(fault));
+    }
+}
+
+#[test]
+fn atomics_and_swaps(rt: HostRuntime) {
+    let mut nic = side(&rt);
+    let sum = AtomicOp::Sum;
+    for (deed, fault) in [
+        (
+            Deed::Atomic(PutArgs { length: 3, ..PUT }, sum, ElemType::U16),
+            CallFault::Misused(Misuse::PartialElement),
+        ),
+        (
+            Deed::FetchAtomic(GetArgs { pt: 1, ..GET }, PUT, sum, ElemType::U16),
+            CallFault::Misused(Misuse::HalvesDiffer),
+        ),
+        (
+            Deed::FetchAtomic(
+                GET,
+                PutArgs {
+                    ack: AckRequest::Ack,
+                    ..PUT
+                },
+                sum,
+                ElemType::U16,
+            ),
+            CallFault::Misused(Misuse::AsksAcknowledgement),
+        ),
+        (
+            Deed::Swap(GET, PUT, SwapOp::Swap, ElemType::U16, 7),
+            CallFault::Misused(Misuse::PartialElement),
+        ),
+        (Deed::Swap(GET, PUT, SwapOp::Swap, ElemType::U32, 7), STALE),
+    ] {
+        assert_eq!(rt; start_fault(&mut nic, deed), Some(fault));
+    }
+    assert_eq!(rt;
+        triggered_fault(&mut nic, Deed::Put(LONG), MD, 1),
+        Some(CallFault::Misused(Misuse::TooLong))
+    );
+}
+
+#[test]
+fn other_calls(rt: HostRuntime) {
+    let unknown = CallFault::Misused(Misuse::UnknownRank);
+    assert_eq!(rt; opens(&rt, 2, Limits::SMALL).err(), Some(unknown));
+    let mut nic = side(&rt);
+    let no_room = CallFault::Misused(Misuse::NoRoom);
+    assert_eq!(rt; queue_fault(&mut nic, 0), Some(no_room));
+    assert_eq!(rt; writes(&mut nic, 3, &[1, 2]), Err(Misuse::OutsideRegion));
+    assert_eq!(rt; writes(&mut nic, 2, &[1, 2]), Ok(()));
+    assert_eq!(rt; nic.memory(), [0u8, 0, 1, 2].as_slice());
+    assert_eq!(rt; ready_fault(&nic, 0), Some(Misuse::NotReady));
+    assert_eq!(rt; firing_fault(&mut nic, 0), Some(Misuse::NotReady));
+}
