@@ -5,8 +5,6 @@ mod checking;
 mod drawing;
 mod headline;
 mod large;
-#[cfg(test)]
-mod memory_walk;
 mod parsing;
 mod planning;
 mod ran;

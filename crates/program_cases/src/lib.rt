@@ -1,11 +1,13 @@
 //! Whole runs of the program: what each command writes, faults of a source and a sink, texts that are refused, orders and their
-//! verdicts, runs by workers on threads with gates that watch the steps, and descriptions in JSON.
+//! verdicts, runs by workers on threads with gates that watch the steps, descriptions in JSON, and runs in which memory may run out.
 #![tactic(auto)]
 
 #[cfg(test)]
 mod faults;
 #[cfg(test)]
 mod json;
+#[cfg(test)]
+mod memory_walk;
 #[cfg(test)]
 mod orders;
 #[cfg(test)]

@@ -1,7 +1,7 @@
 //! Memory may run out at any allocation: a run then writes nothing, else all that the description means.
 
-use crate::{Ran, Status, portals_main};
 use port_io::{IoTurns, MemorySink, SureSource};
+use portals_top::{Ran, Status, portals_main};
 use ptl_types::Bytes;
 use std::alloc::Global;
 use std::process::Abort;
