@@ -4,8 +4,6 @@
 mod checking;
 mod orders;
 mod reading;
-#[cfg(test)]
-mod tests;
 
 pub use checking::parse_check;
 pub use orders::Orders;

@@ -7,8 +7,6 @@ mod memory_sink;
 mod memory_source;
 mod std_ends;
 mod sure;
-#[cfg(test)]
-mod tests;
 mod turns;
 
 pub use ends::{Failed, Sink, Source};

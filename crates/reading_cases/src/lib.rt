@@ -1,12 +1,16 @@
 //! What no clause of the language's crates says: words, values and lines whose readings were found by hand; whole texts and whole JSON
-//! values with their answers, from outside; the generated description. Here, so that those crates are proved once and not a
-//! second time with their tests.
+//! values with their answers, from outside; the generated description; texts with orders; sources and sinks. Here,
+//! so that those crates are proved once and not a second time with their tests.
 #![tactic(auto)]
 
+#[cfg(test)]
+mod ends;
 #[cfg(test)]
 mod generated;
 #[cfg(test)]
 mod json;
+#[cfg(test)]
+mod orders;
 #[cfg(test)]
 mod texts;
 #[cfg(test)]

@@ -1,6 +1,6 @@
 //! The ends over the system's traits, and the ends in memory.
 
-use crate::{
+use port_io::{
     Failed, IoTurn, IoTurns, MemorySink, MemorySource, Sink, Source, StdSink, StdSource, SureSink,
     SureSource,
 };

@@ -1,7 +1,7 @@
 //! What no clause says: whole inputs and their answers, from outside.
 
-use crate::{Orders, parse_check};
 use coll_lang::{Description, ParseFault};
+use order_lines::{Orders, parse_check};
 use ptl_types::{Lane, LocalStep};
 
 /// The line and the name of a refusal; nothing where the input is read.
