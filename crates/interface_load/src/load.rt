@@ -81,33 +81,33 @@ fn entry(match_bits: u64, ct: Handle) -> Entry {
 }
 
 /// The interface of the one rank, over one byte.
-fn open(alloc: Global) -> Result<Nic, NiFault> {
+fn open(alloc: Global, limits: Limits) -> Result<Nic, NiFault> {
     let Ok(region) = Bytes::of(alloc, &[7]) else {
         return Err(NiFault::NoMemory);
     };
-    match Nic::open(alloc, 0, 1, LIMITS, region) {
+    match Nic::open(alloc, 0, 1, limits, region) {
         Ok(nic) => Ok(nic),
         Err(_) => Err(NiFault::NoMemory),
     }
 }
 
 // Each of the next functions is one call of the interface, without what its contract says of the whole state: so the functions
-// behind them have nothing of it to prove.
+// behind them have nothing of it to prove. What the call is given are parameters, so that no proof works its clause out for a number.
 
-fn allocate_index(nic: &mut Nic) -> Result<(), NiFault> {
-    nic.pt_alloc(0, None)
+fn allocate_index(nic: &mut Nic, pt: u32) -> Result<(), NiFault> {
+    nic.pt_alloc(pt, None)
 }
 
 fn allocate(nic: &mut Nic) -> Result<Handle, NiFault> {
     nic.ct_alloc()
 }
 
-fn append(nic: &mut Nic, match_bits: u64, ct: Handle) -> Result<Appended, NiFault> {
-    nic.me_append(0, List::Priority, entry(match_bits, ct))
+fn append(nic: &mut Nic, pt: u32, list: List, entry: Entry) -> Result<Appended, NiFault> {
+    nic.me_append(pt, list, entry)
 }
 
-fn raise(nic: &mut Nic, ct: Handle) -> Result<(), NiFault> {
-    nic.ct_inc(ct, ONE)
+fn raise(nic: &mut Nic, ct: Handle, by: Count) -> Result<(), NiFault> {
+    nic.ct_inc(ct, by)
 }
 
 fn count_of(nic: &Nic, ct: Handle) -> Result<Count, NiFault> {
@@ -119,8 +119,23 @@ fn pending(nic: &Nic) -> u32 {
 }
 
 /// Posts an increment of a counting event.
-fn post_increment(nic: &mut Nic, next: Handle, ct: Handle, threshold: u64) -> Result<u32, NiFault> {
-    nic.triggered(Deed::Inc(next, ONE), ct, threshold)
+fn post_increment(
+    nic: &mut Nic,
+    next: Handle,
+    by: Count,
+    ct: Handle,
+    threshold: u64,
+) -> Result<u32, NiFault> {
+    nic.triggered(Deed::Inc(next, by), ct, threshold)
+}
+
+/// Posts a put that passes neither the ranks nor the limit.
+fn post_message(nic: &mut Nic, args: PutArgs, ct: Handle, threshold: u64) -> Result<u32, NiFault> {
+    if args.target < nic.ranks() && args.length <= nic.limits().msg {
+        nic.triggered(Deed::Put(args), ct, threshold)
+    } else {
+        Err(NiFault::OutOfRegion)
+    }
 }
 
 /// All counting events.
@@ -138,7 +153,7 @@ fn count_on(alloc: Global, nic: &mut Nic) -> Result<Vec<Handle>, NiFault> {
 /// An entry for each counting event, whose number is its match bits: how many were linked.
 fn link(nic: &mut Nic, cts: &[Handle]) -> Result<u64, NiFault> {
     for (number, ct) in cts.iter().enumerate() {
-        append(nic, number as u64, *ct)?;
+        append(nic, 0, List::Priority, entry(number as u64, *ct))?;
     }
     Ok(cts.len() as u64)
 }
@@ -175,11 +190,7 @@ fn post_put(
         remote_offset: 0,
         hdr_data: 0,
     };
-    if args.target < nic.ranks() && args.length <= nic.limits().msg {
-        nic.triggered(Deed::Put(args), ct, threshold)
-    } else {
-        Err(NiFault::OutOfRegion)
-    }
+    post_message(nic, args, ct, threshold)
 }
 
 /// The counting event of this number, counted on from the first again behind the last.
@@ -199,7 +210,7 @@ fn post(nic: &mut Nic, cts: &[Handle], md: Handle, kind: Kind, number: u32) -> R
     let next = nth(cts, number + 1)?;
     let threshold = u64::from(1 + number / COUNTERS);
     match kind {
-        Kind::Increment => post_increment(nic, next, ct, threshold),
+        Kind::Increment => post_increment(nic, next, ONE, ct, threshold),
         Kind::Put => post_put(nic, md, u64::from((number + 1) % COUNTERS), ct, threshold),
     }
 }
@@ -241,7 +252,7 @@ fn run_with(nic: &mut Nic, cts: &[Handle], kind: Kind) -> Result<Made, NiFault> 
     }
     let posted = pending(nic);
     let first = nth(cts, 0)?;
-    raise(nic, first)?;
+    raise(nic, first, ONE)?;
     let (fired, delivered) = fire_all(nic);
     Ok(Made {
         counters: cts.len() as u64,
@@ -255,7 +266,7 @@ fn run_with(nic: &mut Nic, cts: &[Handle], kind: Kind) -> Result<Made, NiFault> 
 
 /// The same on an interface without anything, which it fills first.
 fn run_on(alloc: Global, nic: &mut Nic, kind: Kind) -> Result<Made, NiFault> {
-    allocate_index(nic)?;
+    allocate_index(nic, 0)?;
     let cts = count_on(alloc, nic)?;
     run_with(nic, &cts, kind)
 }
@@ -263,6 +274,6 @@ fn run_on(alloc: Global, nic: &mut Nic, kind: Kind) -> Result<Made, NiFault> {
 /// Makes an interface and a chain of operations on it, each of which fires by the count of the one before. Each fault is one
 /// that the interface answered, or want of memory.
 pub fn run_chain(alloc: Global, kind: Kind) -> Result<Made, NiFault> {
-    let mut nic = open(alloc)?;
+    let mut nic = open(alloc, LIMITS)?;
     run_on(alloc, &mut nic, kind)
 }
