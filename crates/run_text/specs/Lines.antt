@@ -14,6 +14,10 @@ use Rattle.coll_shape.specs.Meaning.{Lists, lists_of, meaning_of}
 abbrev pub result_line : List ℕ → ℕ → ElemType → List ℕ → List ℕ
 result_line name rank ty bytes = line (name ∷ decimal rank ∷ map (value_word ty) (elements ty bytes))
 
+-- the result of a step of a choice text at a rank: the step's name, the rank and the value
+abbrev pub value_line : List ℕ → ℕ → ℕ → List ℕ
+value_line name rank value = line (name ∷ decimal rank ∷ decimal value ∷ [])
+
 -- what follows the last of them
 abbrev pub rest_line : List ℕ
 rest_line = line (codes "rest" ∷ [])

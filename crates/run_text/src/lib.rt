@@ -10,7 +10,7 @@ mod results;
 mod summary;
 mod words;
 
-pub use lines::{rest_line, result_line};
+pub use lines::{rest_line, result_line, value_line};
 pub use orders::{fails_line, order_line};
 pub use pieces::{PIECE, Pieces, write_short};
 pub use plans::{PlanLine, PlanTables, plan_line, write_plan};

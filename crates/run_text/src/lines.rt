@@ -5,11 +5,11 @@ ghost use Rattle.std.specs.List.{flat_map};
 ghost use Rattle.std.specs.Fmt.{decimal};
 ghost use Rattle.ptl_types.specs.Operations.{span};
 ghost use Rattle.coll_text.specs.Elements.{elements, value_word};
-ghost use Rattle.run_text.specs.Lines.{result_line, rest_line};
+ghost use Rattle.run_text.specs.Lines.{result_line, rest_line, value_line};
 ghost use Rattle.run_text.specs.Putting.{Puts};
 
 use crate::pieces::Pieces;
-use crate::words::put_spaced;
+use crate::words::{Word, put_line, put_spaced};
 use coll_text::printed_value;
 use element_bytes::read_pattern;
 use itoa::Buffer;
@@ -86,6 +86,22 @@ pub fn result_line<K: Sink>(
     put_number(out, sink, rank)?;
     put_values(out, sink, ty, list)?;
     out.put(sink, b"\n")
+}
+
+/// Adds the line of the result of a step at a rank, in a choice text: the step's name, the rank and the value, parted by one space.
+///
+/// At `Failed` the count of the sink's faults rose, and a beginning of the text stands. It takes no memory.
+pub fn value_line<K: Sink>(
+    out: &mut Pieces,
+    sink: &mut K,
+    name: &[u8],
+    rank: Rank,
+    value: u64,
+) -> Result<(), Failed>
+    ensures { Puts (K.outflow sink.old) (K.outflow sink.new) out.old out.new (value_line name.now rank value) result }
+{
+    let words = [Word::Number(u64::from(rank)), Word::Number(value)];
+    put_line(out, sink, name, &words)
 }
 
 /// Adds the line that follows the last result: `rest`.
