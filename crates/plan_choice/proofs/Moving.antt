@@ -1,5 +1,5 @@
 -- A choice world behind a local step of one rank: its seat has a step more, and what that makes goes to the end of a lane.
-use Rattle.std.proofs.Common.{ℕ, Bool, true, false, ◌+◌, ◌*◌, ◌<◌, ◌≤◌, ◌≡◌, ◌⊎◌, ◌==◌, ◌∙◌, List, [], ◌∷◌, ◌++◌, Option, Some, None, cond, get_or, length, filter, if◌then◌else◌, refl, sym, ap, ap₂, subst, inl, inr, arith, eq-eqb, length-append}
+use Rattle.std.proofs.Common.{ℕ, ◌+◌, ◌*◌, ◌<◌, ◌≤◌, ◌≡◌, ◌==◌, ◌∙◌, List, [], ◌∷◌, ◌++◌, Option, Some, None, cond, get_or, length, filter, if◌then◌else◌, refl, sym, ap, ap₂, subst, inl, inr, arith, eq-eqb, length-append}
 use Rattle.std.proofs.Math.ListN.{set, length-set}
 use Rattle.std.proofs.Math.Path.{fun_ext}
 use Rattle.std.proofs.lemmas.Bool.{cases_eq, ne_eqb}
@@ -9,7 +9,7 @@ use Rattle.ptl_types.specs.declared.headers.Lane.{Lane}
 use Rattle.ptl_types.specs.Kinds.{lane_of}
 use Rattle.ptl_types.specs.Messages.{Sent}
 use Rattle.ni_model.specs.Tables.{handle}
-use Rattle.pair_wires.specs.Lanes.{Plain, plain}
+use Rattle.pair_wires.specs.Lanes.{Plain}
 use Rattle.plan_core.specs.Members.{In}
 use Rattle.plan_cuts.specs.Cut.{IsPrefixOf}
 use Rattle.plan_cuts.specs.History.{Local, after, and_then, is_for, made_by, state}
@@ -33,7 +33,7 @@ use Rattle.world_parts.proofs.Sets.{at_set}
 use Rattle.choice_machine.specs.Counted.{steps_due}
 use Rattle.choice_view.specs.Install.{Slots, ct_of}
 use Rattle.choice_view.specs.Install.Counter.{Go}
-use Rattle.choice_laws.specs.Decided.{choice_system, count_from, is_choice_lane}
+use Rattle.choice_laws.specs.Decided.{choice_system, count_from}
 use Rattle.choice_laws.specs.Traffic.{IsMade as IsSent}
 use Rattle.choice_laws.proofs.Agreement.{Agrees}
 use Rattle.choice_laws.proofs.Ends.{history_le, lane_few}

@@ -1,5 +1,5 @@
 -- Seats that were just installed, and lanes without a message, are a choice world of which nothing was done.
-use Rattle.std.proofs.Common.{ℕ, false, ◌&&◌, ◌*◌, ◌<◌, ◌≤◌, ◌≡◌, ◌∙◌, List, [], get_or, length, nat_lt, replicate, if◌then◌else◌, sym, ap, subst, inl, inr, arith}
+use Rattle.std.proofs.Common.{ℕ, ◌&&◌, ◌*◌, ◌<◌, ◌≤◌, ◌≡◌, ◌∙◌, List, [], get_or, length, nat_lt, replicate, if◌then◌else◌, sym, ap, subst, inl, inr, arith}
 use Rattle.std.proofs.lemmas.Bool.{cases_lt}
 use Rattle.std.proofs.lemmas.List.{get_or-replicate, get_or_past, length-replicate}
 use Rattle.coll_lang.specs.declared.choices.ChoiceKind.{ChoiceKind}
@@ -8,7 +8,7 @@ use Rattle.ptl_types.specs.declared.headers.Lane.TheVariants.{Answer, Request}
 use Rattle.ptl_types.specs.Handles.{top}
 use Rattle.pair_wires.specs.Lanes.{Plain}
 use Rattle.plan_cuts.specs.History.{state}
-use Rattle.plan_cuts.specs.System.{System, state_at}
+use Rattle.plan_cuts.specs.System.{state_at}
 use Rattle.plan_orders.specs.Chosen.{Scene, first_scene}
 use Rattle.plan_orders.specs.Reached.{IsReached}
 use Rattle.plan_orders.specs.Reached.IsReached.{Begun}
@@ -23,7 +23,7 @@ use Rattle.choice_laws.specs.Decided.{IsInRange}
 use Rattle.choice_ranks.specs.Seats.{IsInstalled, Seated}
 use Rattle.plan_choice.specs.Acts.{firing_count, no_seated, seat_at, start_count}
 use Rattle.plan_choice.specs.Laying.{laid_lane}
-use Rattle.plan_choice.specs.World.{AreCounted, AreFields, ChoiceState, HasGo, HasRoom, IsStanding, histories_in, nic_in, ranks_in, scene_in}
+use Rattle.plan_choice.specs.World.{AreFields, ChoiceState, HasGo, HasRoom, IsStanding, histories_in, nic_in, ranks_in, scene_in}
 
 module _ (n : ℕ) (ks : List ChoiceKind) (some : 0 < n) (few : n ≤ 256) (few_steps : length ks ≤ 64) (seats : List Seated)
     (size : length seats ≡ n) (installed : (r : ℕ) → r < n → IsInstalled n ks r (seat_at seats r)) (lanes : List Plain)

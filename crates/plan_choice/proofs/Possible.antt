@@ -1,5 +1,5 @@
 -- In a choice world every enabled step is possible under the widest window: a lane holds at most a message for each step of the text.
-use Rattle.std.proofs.Common.{ℕ, true, ◌<◌, ◌≤◌, ◌≡◌, List, Option, Some, None, length, filter, map, refl, subst, arith, lt-ltb}
+use Rattle.std.proofs.Common.{ℕ, true, ◌<◌, ◌≤◌, ◌≡◌, List, Option, Some, None, length, map, refl, subst, arith, lt-ltb}
 use Rattle.coll_lang.specs.declared.choices.ChoiceKind.{ChoiceKind}
 use Rattle.ptl_types.specs.Handles.{top}
 use Rattle.ptl_types.specs.Messages.{Sent}

@@ -1,11 +1,11 @@
 -- Runs of a choice world: each step leads to a later world and leaves fewer to be made.
-use Rattle.std.proofs.Common.{ℕ, suc, ◌+◌, ◌-◌, ◌<◌, ◌≤◌, ◌≡◌, ◌∙◌, List, [], ◌∷◌, ◌++◌, Some, refl, sym, ap, ap₂, subst, arith, length, sum_by, append-nil, length-append}
+use Rattle.std.proofs.Common.{ℕ, suc, ◌+◌, ◌-◌, ◌<◌, ◌≤◌, ◌≡◌, ◌∙◌, [], ◌∷◌, Some, refl, sym, ap, ap₂, subst, arith, length, sum_by, append-nil, length-append}
 use Rattle.std.specs.List.{slice_get}
 use Rattle.ptl_types.specs.Handles.{top}
 use Rattle.plan_core.specs.Members.{In}
 use Rattle.plan_core.specs.Plan.{from_to}
 use Rattle.plan_cuts.specs.Moment.{IsLocalStep}
-use Rattle.plan_cuts.specs.System.{Histories, System}
+use Rattle.plan_cuts.specs.System.{System}
 use Rattle.plan_orders.proofs.Choosing.{listed_made}
 use Rattle.plan_orders.specs.Chosen.{Scene, step_made}
 use Rattle.plan_orders.specs.declared.Step.{Step}

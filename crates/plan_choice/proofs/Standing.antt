@@ -1,5 +1,5 @@
 -- What the fields of a choice world keep is what is said of it: the number of its enabled steps, and which stands at a number.
-use Rattle.std.proofs.Common.{ℕ, ◌+◌, ◌*◌, ◌<◌, ◌≡◌, ◌∙◌, List, [], Some, refl, sym, ap, subst, arith, count_by, get_or, length, map, nat_lt, sum, take, if◌then◌else◌}
+use Rattle.std.proofs.Common.{ℕ, ◌+◌, ◌*◌, ◌<◌, ◌≡◌, ◌∙◌, List, [], Some, sym, ap, arith, count_by, get_or, length, map, nat_lt, sum, take, if◌then◌else◌}
 use Rattle.std.proofs.lemmas.List.{length-map}
 use Rattle.std.specs.List.{slice_get}
 use Rattle.ptl_types.specs.Handles.{top}
@@ -11,7 +11,6 @@ use Rattle.plan_cuts.specs.Moment.{IsStill}
 use Rattle.plan_cuts.specs.System.{System, state_at}
 use Rattle.plan_orders.proofs.Choosing.{none_listed_still}
 use Rattle.plan_orders.specs.Chosen.{Scene, start_at}
-use Rattle.plan_orders.specs.declared.Step.{Step}
 use Rattle.plan_orders.specs.declared.Step.TheVariants.{Deliver, Fire, Start}
 use Rattle.plan_worlds.proofs.Counted.{counts_by}
 use Rattle.plan_worlds.specs.Places.{counts, delivery_at, fires_at, goal_at, kind_at, source_at}

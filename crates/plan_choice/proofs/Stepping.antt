@@ -1,6 +1,5 @@
 -- The kinds of step of a choice world: what each finds, and what it leaves.
-use Rattle.std.proofs.Common.{ℕ, true, ◌+◌, ◌*◌, ◌-◌, ◌<◌, ◌≤◌, ◌≡◌, ◌⊎◌, ◌∙◌, List, [], ◌∷◌, ◌++◌, Option, Some, None, drop, length, refl, sym, ap, subst, inl, inr, arith}
-use Rattle.std.proofs.Math.ListN.{set}
+use Rattle.std.proofs.Common.{ℕ, true, ◌+◌, ◌<◌, ◌≤◌, ◌≡◌, ◌⊎◌, ◌∙◌, List, [], ◌∷◌, ◌++◌, Option, Some, None, drop, length, refl, sym, ap, subst, inl, inr, arith}
 use Rattle.ptl_types.specs.declared.headers.Lane.{Lane}
 use Rattle.ptl_types.specs.Kinds.{lane_of}
 use Rattle.ptl_types.specs.Messages.{Sent}
@@ -20,7 +19,7 @@ use Rattle.plan_orders.specs.declared.Step.TheVariants.{Deliver, Fire, Start}
 use Rattle.plan_worlds.specs.Named.{named}
 use Rattle.plan_worlds.specs.Places.{lane_place}
 use Rattle.world_parts.specs.Layout.{held_in, lane_at}
-use Rattle.world_parts.specs.Marks.{HasPlace, out_with, popped, receiver}
+use Rattle.world_parts.specs.Marks.{out_with, popped, receiver}
 use Rattle.world_parts.proofs.Gated.{scene_by}
 use Rattle.world_parts.proofs.Held.{held_here, held_set, set_capacity, set_other, set_size}
 use Rattle.worlds.proofs.Listed.{offered, ready_is}

@@ -1,5 +1,5 @@
 -- By the kind of the step.
-use Rattle.std.proofs.Common.{◌<◌, arith, length, refl, subst}
+use Rattle.std.proofs.Common.{arith, refl, subst}
 use Rattle.plan_choice.specs.Acts.{MayMake}
 use Rattle.plan_choice.proofs.acts.act.Goals as goal
 

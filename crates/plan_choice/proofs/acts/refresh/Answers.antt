@@ -1,5 +1,5 @@
 -- Two counts set anew, of starts and of firings.
-use Rattle.std.proofs.Common.{◌<◌, ◌≡◌, ◌∙◌, ap, arith, length}
+use Rattle.std.proofs.Common.{◌∙◌, ap, arith, length}
 use Rattle.std.proofs.Math.ListN.{length-set}
 use Rattle.plan_choice.specs.Acts.{firing_count, firing_mark, seat_at, start_count, start_mark}
 use Rattle.plan_choice.proofs.acts.refresh.Goals as goal

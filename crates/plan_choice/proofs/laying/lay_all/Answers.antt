@@ -1,6 +1,5 @@
 -- Two lanes more in each turn.
-use Rattle.std.proofs.Common.{ℕ, ◌+◌, ◌*◌, ◌/◌, ◌%◌, ◌<◌, ◌≡◌, ◌∙◌, List, [], ◌∷◌, ◌++◌, ap, length, subst, sym, arith}
-use Rattle.ptl_types.specs.declared.headers.Lane.TheVariants.{Request, Answer}
+use Rattle.std.proofs.Common.{ℕ, ◌+◌, ◌*◌, ◌<◌, ◌≡◌, ◌∙◌, List, [], ◌∷◌, ◌++◌, ap, length, subst, sym, arith}
 use Rattle.pair_wires.specs.Lanes.{Plain, plain}
 use Rattle.world_open.proofs.Laid.{IsLaid, all-laid, few-pairs, one-pair, two-more}
 use Rattle.plan_choice.specs.Laying.{laid_lane}

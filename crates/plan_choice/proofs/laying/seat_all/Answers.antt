@@ -1,5 +1,5 @@
 -- One seat more in each turn.
-use Rattle.std.proofs.Common.{ℕ, ◌+◌, ◌<◌, ◌≡◌, ◌∙◌, List, [], ◌∷◌, ◌++◌, ap, length, subst, sym, arith}
+use Rattle.std.proofs.Common.{ℕ, ◌+◌, ◌<◌, ◌≡◌, ◌∙◌, List, ap, length, subst, sym, arith}
 use Rattle.std.proofs.lemmas.List.{length_push}
 use Rattle.world_open.proofs.Lists.{pushed}
 use Rattle.choice_ranks.specs.Seats.{IsInstalled, Seated}

@@ -1,5 +1,5 @@
 -- The place that the counts tell is that of the list.
-use Rattle.std.proofs.Common.{ℕ, ◌+◌, ◌-◌, ◌<◌, ◌≡◌, ◌∙◌, Some, ap, arith, length, subst, sum, sym}
+use Rattle.std.proofs.Common.{◌+◌, ◌-◌, ◌<◌, ◌≡◌, ◌∙◌, Some, ap, arith, length, subst, sum, sym}
 use Rattle.std.proofs.lemmas.List.{get_or_read}
 use Rattle.std.specs.List.{slice_get}
 use Rattle.ni_model.specs.Ready.{ready_numbers}

@@ -1,5 +1,5 @@
 -- What was laid out is a world of which nothing was done.
-use Rattle.std.proofs.Common.{ℕ, ◌+◌, ◌*◌, ◌<◌, ◌≡◌, ◌≤◌, ◌∙◌, List, ap, arith, get_or, length, map, subst, sym}
+use Rattle.std.proofs.Common.{ℕ, ◌<◌, ◌≡◌, ◌≤◌, ◌∙◌, List, ap, arith, get_or, length, subst}
 use Rattle.std.proofs.lemmas.List.{length-map}
 use Rattle.coll_lang.specs.declared.choices.ChoiceKind.{ChoiceKind}
 use Rattle.coll_lang.specs.declared.choices.ChoiceStep.{ChoiceStep}

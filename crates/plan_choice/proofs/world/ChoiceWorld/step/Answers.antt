@@ -3,7 +3,7 @@ use Rattle.std.proofs.Common.{◌≡◌, ap, arith, length, subst, sym}
 use Rattle.std.proofs.lemmas.List.{with_items_is}
 use Rattle.std.specs.Vec.{with_items}
 use Rattle.plan_core.specs.Members.{In}
-use Rattle.plan_choice.specs.World.{ChoiceState, IsLater, scene_in, steps_in}
+use Rattle.plan_choice.specs.World.{ChoiceState, IsLater, steps_in}
 use Rattle.plan_choice.proofs.Running.{IsMadeBy}
 use Rattle.plan_choice.proofs.Stepping.{lent_done, lent_may, lent_sized, with_parts}
 use Rattle.plan_choice.proofs.world.ChoiceWorld.step.Goals as goal
