@@ -11,18 +11,23 @@ use Rattle.shape_plans.specs.Drawing.{plan_of}
 use Rattle.shape_plans.specs.Footprint.{Excess, Refused as Excessive, refusal}
 use Rattle.run_text.specs.Plans.{plan_text}
 use Rattle.worlds.specs.World.{WorldState}
+use Rattle.plan_choice.specs.World.{ChoiceState}
+use Rattle.portals_top.specs.declared.ran.Ran.{Ran}
 use Rattle.portals_top.specs.declared.status.Status.{Status}
 use Rattle.portals_top.specs.declared.status.Status.TheVariants.{Done, Usage, Refused, ReadFault, WriteFault, NoMemory}
 use Rattle.portals_top.specs.declared.words.Command.{Command}
-use Rattle.portals_top.specs.declared.words.Command.TheVariants.{Plan}
-use Rattle.portals_top.specs.Due.{done, due, due_compiled, due_described, due_of, excess_name, refused, step_line}
+use Rattle.portals_top.specs.declared.words.Command.TheVariants.{Execute, Plan}
+use Rattle.portals_top.specs.declared.words.Mode.{Mode}
+use Rattle.portals_top.specs.declared.words.Mode.TheVariants.{Once, Sim, Run, Trace}
+use Rattle.portals_top.specs.Due.{done, due, due_chosen, due_compiled, due_described, due_in_mode, due_of, excess_name, refused, step_line}
 use Rattle.portals_top.specs.declared.words.Task.{Task}
 use Rattle.portals_top.specs.Formats.{read_as}
+use Rattle.portals_top.specs.Left.{nothing_ran}
 use Rattle.portals_top.specs.Answered.{IsTold, MayAnswer, Stands, Leaves, LeavesOf, HandsBack, Answered}
 use Rattle.portals_top.specs.Written.{Written}
 use Rattle.portals_top.proofs.Told.{Told, read-long, same-read, short-text, told-any}
 
-done-short : (task : Task) (ran : Option WorldState) (text : List ℕ) → (due_of task.command ran (read_as task.format text)).status ≡ Done → length text ≤ 1048576
+done-short : (task : Task) (ran : Ran) (text : List ℕ) → (due_of task.command ran (read_as task.format text)).status ≡ Done → length text ≤ 1048576
 done-short task ran text done =
     short-text 1048576 text (λ long.
     let refused : Refused ≡ Done = subst (λ r. (due_of task.command ran r).status ≡ Done) (read-long task.format text long) done in absurd (cc))
@@ -38,7 +43,7 @@ leaves longest owed WriteFault text source source' told short allowed = told.res
 leaves longest owed NoMemory text source source' told short allowed = tt
 
 -- after a text was read, and answered
-pub answered-read : (task : Task) (text : List ℕ) (source source' : Inflow) (sink sink' : Outflow) (ran : Option WorldState) (status : Status) (told : Told 1048576 source.left source'.left text)
+pub answered-read : (task : Task) (text : List ℕ) (source source' : Inflow) (sink sink' : Outflow) (ran : Ran) (status : Status) (told : Told 1048576 source.left source'.left text)
     → Written (due_of task.command ran (read_as task.format text)) sink sink' status → HandsBack status (due_of task.command ran (read_as task.format text)).status (LeavesOf task.command (read_as task.format text)) ran
     → Answered (Some task) told.bytes source source' sink sink' ran status
 answered-read task text source source' sink sink' ran status told written handed = let same = sym (same-read task.format told.bytes text told.alike) in record {
@@ -55,24 +60,34 @@ compiled-owed : (command : Command) (o : Outline) (inputs : Lists) (ran : Option
 compiled-owed command o inputs ran None = λ is. absurd (cc)
 compiled-owed command o inputs ran (Some r) = λ is. absurd (cc)
 
-described-owed : (command : Command) (d : Program) (ran : Option WorldState) (choices : Option Chosen) → (due_described command d ran choices).status ≢ Usage
-described-owed command d ran None = compiled-owed command d.shape d.inputs ran (refusal d.shape)
-described-owed command d ran (Some choices) = λ is. absurd (cc)
+mode-owed : (mode : Mode) (c : Chosen) (ran : Option ChoiceState) → (due_in_mode mode c ran).status ≢ Usage
+mode-owed Once c ran = λ is. absurd (cc)
+mode-owed (Sim seed) c ran = λ is. absurd (cc)
+mode-owed (Run workers) c ran = λ is. absurd (cc)
+mode-owed (Trace workers) c ran = λ is. absurd (cc)
+
+chosen-owed : (command : Command) (c : Chosen) (ran : Option ChoiceState) → (due_chosen command c ran).status ≢ Usage
+chosen-owed (Execute mode) c ran = mode-owed mode c ran
+chosen-owed Plan c ran = λ is. absurd (cc)
+
+described-owed : (command : Command) (d : Program) (ran : Ran) (choices : Option Chosen) → (due_described command d ran choices).status ≢ Usage
+described-owed command d ran None = compiled-owed command d.shape d.inputs ran.world (refusal d.shape)
+described-owed command d ran (Some choices) = chosen-owed command choices ran.choice
 
 -- a command owes no usage line
-pub reads-owed : (command : Command) (ran : Option WorldState) (r : Result Program (ℕ × Refusal)) → (due_of command ran r).status ≢ Usage
+pub reads-owed : (command : Command) (ran : Ran) (r : Result Program (ℕ × Refusal)) → (due_of command ran r).status ≢ Usage
 reads-owed command ran (Ok d) = described-owed command d ran d.choices
 reads-owed command ran (Err refusal) = λ is. absurd (cc)
 
 -- the source failed
 pub answered-failed : (task : Task) (source source' : Inflow) (sink : Outflow) → Rose source.faults source'.faults
-    → (bytes : List ℕ) × IsTold source.left bytes × Answered (Some task) bytes source source' sink sink None ReadFault
+    → (bytes : List ℕ) × IsTold source.left bytes × Answered (Some task) bytes source source' sink sink nothing_ran ReadFault
 answered-failed task source source' sink rose =
     let any = told-any source.left in (
       any.0,
       any.1,
       record {
-        allowed = reads-owed task.command None (read_as task.format any.0);
+        allowed = reads-owed task.command nothing_ran (read_as task.format any.0);
         read_fault = λ is. rose;
         write_fault = λ is. absurd (cc);
         text = refl;
@@ -84,13 +99,13 @@ answered-failed task source source' sink rose =
 
 -- there was no memory to read
 pub answered-no_memory : (task : Task) (source source' : Inflow) (sink : Outflow)
-    → (bytes : List ℕ) × IsTold source.left bytes × Answered (Some task) bytes source source' sink sink None NoMemory
+    → (bytes : List ℕ) × IsTold source.left bytes × Answered (Some task) bytes source source' sink sink nothing_ran NoMemory
 answered-no_memory task source source' sink =
     let any = told-any source.left in (
       any.0,
       any.1,
       record {
-        allowed = reads-owed task.command None (read_as task.format any.0);
+        allowed = reads-owed task.command nothing_ran (read_as task.format any.0);
         read_fault = λ is. absurd (cc);
         write_fault = λ is. absurd (cc);
         text = refl;
@@ -108,7 +123,7 @@ stays ReadFault source bytes told allowed = tt
 stays WriteFault source bytes told allowed = told
 stays NoMemory source bytes told allowed = tt
 
-no-world-usage : (leaves : Option WorldState → Type 0) (status : Status) → MayAnswer status Usage → HandsBack status Usage leaves None
+no-world-usage : (leaves : Ran → Type 0) (status : Status) → MayAnswer status Usage → HandsBack status Usage leaves nothing_ran
 no-world-usage leaves Done allowed = absurd (cc)
 no-world-usage leaves Usage allowed = refl
 no-world-usage leaves Refused allowed = refl
@@ -117,7 +132,7 @@ no-world-usage leaves WriteFault allowed = refl
 no-world-usage leaves NoMemory allowed = refl
 
 -- where a text is refused, no world is handed back
-pub no-world-refused : (leaves : Option WorldState → Type 0) (status : Status) → MayAnswer status Refused → HandsBack status Refused leaves None
+pub no-world-refused : (leaves : Ran → Type 0) (status : Status) → MayAnswer status Refused → HandsBack status Refused leaves nothing_ran
 no-world-refused leaves Done allowed = absurd (cc)
 no-world-refused leaves Usage allowed = refl
 no-world-refused leaves Refused allowed = refl
@@ -126,7 +141,7 @@ no-world-refused leaves WriteFault allowed = refl
 no-world-refused leaves NoMemory allowed = refl
 
 -- where none is to be left, none is handed back
-pub no-world : (leaves : Option WorldState → Type 0) (status owed : Status) → leaves None → HandsBack status owed leaves None
+pub no-world : (leaves : Ran → Type 0) (status owed : Status) → leaves nothing_ran → HandsBack status owed leaves nothing_ran
 no-world leaves Done owed none = none
 no-world leaves Usage owed none = refl
 no-world leaves Refused owed none = refl
@@ -140,9 +155,9 @@ no-world leaves WriteFault NoMemory none = refl
 no-world leaves NoMemory owed none = refl
 
 -- nor where the plan is too large, or there was no memory
-pub no-world-excess : (leaves : Option WorldState → Type 0) (command : Command) (o : Outline) (inputs : Lists) (ran : Option WorldState) (r : Option Excessive) (status : Status)
-    → MayAnswer status (due_compiled command o inputs ran r).status → (r ≡ None → status ≡ NoMemory) → HandsBack status (due_compiled command o inputs ran r).status leaves None
-no-world-excess leaves command o inputs ran None status allowed memory = subst (λ s. HandsBack s Done leaves None) (sym (memory refl)) refl
+pub no-world-excess : (leaves : Ran → Type 0) (command : Command) (o : Outline) (inputs : Lists) (ran : Option WorldState) (r : Option Excessive) (status : Status)
+    → MayAnswer status (due_compiled command o inputs ran r).status → (r ≡ None → status ≡ NoMemory) → HandsBack status (due_compiled command o inputs ran r).status leaves nothing_ran
+no-world-excess leaves command o inputs ran None status allowed memory = subst (λ s. HandsBack s Done leaves nothing_ran) (sym (memory refl)) refl
 no-world-excess leaves command o inputs ran (Some r) status allowed memory = no-world-refused leaves status allowed
 
 -- what is owed where the plan is too large, where there was no memory, and where it was written
@@ -165,8 +180,8 @@ plan-owed o r plan is same inputs ran sink sink' status written =
     (subst (λ p. Written (done (plan_text p)) sink sink' status) same written)
 
 -- the words are no command
-pub answered-usage : (source : Inflow) (sink sink' : Outflow) (status : Status) → Written (due None [] None) sink sink' status
-    → (bytes : List ℕ) × IsTold source.left bytes × Answered None bytes source source sink sink' None status
+pub answered-usage : (source : Inflow) (sink sink' : Outflow) (status : Status) → Written (due None [] nothing_ran) sink sink' status
+    → (bytes : List ℕ) × IsTold source.left bytes × Answered None bytes source source sink sink' nothing_ran status
 answered-usage source sink sink' status written =
     let any = told-any source.left in (
       any.0,
@@ -174,7 +189,7 @@ answered-usage source sink sink' status written =
       record {
         allowed = written.allowed;
         read_fault = λ is. absurd (written.no_read is);
-        write_fault = λ is. (subst (λ s. Stands s sink sink' (due None [] None).text) is written.text).rose;
+        write_fault = λ is. (subst (λ s. Stands s sink sink' (due None [] nothing_ran).text) is written.text).rose;
         text = written.text;
         rest = stays status source any.0 any.1 written.allowed;
         untouched = λ is. refl;

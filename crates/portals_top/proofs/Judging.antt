@@ -19,6 +19,7 @@ use Rattle.portals_top.specs.declared.words.Command.{Command}
 use Rattle.portals_top.specs.Answered.{IsTold, MayAnswer, Stands}
 use Rattle.portals_top.specs.Checked.{Checked, FindsFor, FindsIn, Found, IsVerdictOn, Judges, due_checked, due_judged, due_verdict}
 use Rattle.portals_top.specs.Due.{due_compiled}
+use Rattle.portals_top.specs.Left.{nothing_ran}
 use Rattle.portals_top.specs.Written.{Written}
 use Rattle.portals_top.proofs.Answering.{leaves}
 use Rattle.portals_top.proofs.Told.{Told, check-long, same-check, short-text, told-any}
@@ -124,7 +125,7 @@ check-short found text done =
 pub checked-read : (text : List ℕ) (source source' : Inflow) (sink sink' : Outflow) (status : Status)
     (told : Told 16777216 source.left source'.left text)
     → Judges (λ found. due_checked found (read_check text)) (λ found. FindsIn (read_check text) found) sink sink' status
-    → Checked told.bytes source source' sink sink' None status
+    → Checked told.bytes source source' sink sink' nothing_ran status
 checked-read text source source' sink sink' status told j =
     let same = sym (same-check told.bytes text told.alike) in
     record {
@@ -139,7 +140,7 @@ checked-read text source source' sink sink' status told j =
     }
 
 pub checked-failed : (source source' : Inflow) (sink : Outflow) → Rose source.faults source'.faults
-    → (bytes : List ℕ) × IsTold source.left bytes × Checked bytes source source' sink sink None ReadFault
+    → (bytes : List ℕ) × IsTold source.left bytes × Checked bytes source source' sink sink nothing_ran ReadFault
 checked-failed source source' sink rose =
     let any = told-any source.left in (
       any.0,
@@ -157,7 +158,7 @@ checked-failed source source' sink rose =
     )
 
 pub checked-no_memory : (source source' : Inflow) (sink : Outflow)
-    → (bytes : List ℕ) × IsTold source.left bytes × Checked bytes source source' sink sink None NoMemory
+    → (bytes : List ℕ) × IsTold source.left bytes × Checked bytes source source' sink sink nothing_ran NoMemory
 checked-no_memory source source' sink =
     let any = told-any source.left in (
       any.0,

@@ -4,6 +4,7 @@ pub mod Interleavings
 pub mod Judging
 pub mod Rests
 pub mod Spellings
+pub mod StepNames
 pub mod Steps
 pub mod Summing
 pub mod Told

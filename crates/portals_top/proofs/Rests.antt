@@ -1,5 +1,5 @@
 -- What was run, and what was written of it.
-use Rattle.std.proofs.Common.{◌≡◌, ◌<◌, ◌++◌, ℕ, List, [], map, Option, Some, Result, Ok, Err, refl, sym, ◌∙◌, ap, subst}
+use Rattle.std.proofs.Common.{◌≡◌, ◌<◌, ℕ, List, [], Option, Result, Ok, Err, refl, sym, ◌∙◌, ap, subst}
 use Rattle.port_io.specs.declared.ends.Failed.{Failed}
 use Rattle.port_io.specs.Ends.{Outflow}
 use Rattle.rand_pcg.specs.Lcg.{Lcg}
@@ -10,15 +10,14 @@ use Rattle.plan_cuts.specs.Cut.{IsAtRest}
 use Rattle.plan_cuts.specs.Plans.{IsComplete, system_of}
 use Rattle.plan_cuts.specs.System.{System}
 use Rattle.plan_orders.specs.Chosen.{Scene, first_scene}
-use Rattle.plan_orders.specs.Taking.{listed}
 use Rattle.shape_plans.specs.Drawing.{plan_of}
 use Rattle.job_laws.specs.Results.{AreMeant}
-use Rattle.run_text.specs.Orders.{order_line}
 use Rattle.run_text.specs.Putting.{EndsWith}
 use Rattle.worlds.specs.Standing.{IsStanding}
 use Rattle.worlds.specs.Later.{IsLater}
 use Rattle.worlds.specs.Runs.{Running, chosen_run}
 use Rattle.worlds.specs.World.{AreSlots, WorldState, histories_in, memory_in, ranks_in, scene_in, steps_in}
+use Rattle.portals_top.specs.declared.ran.Ran.{Ran}
 use Rattle.portals_top.specs.declared.status.Status.TheVariants.{Done}
 use Rattle.portals_top.specs.Answered.{HandsBack}
 use Rattle.portals_top.specs.declared.words.Mode.{Mode}
@@ -26,15 +25,11 @@ use Rattle.portals_top.specs.Due.{done, mode_text}
 use Rattle.portals_top.specs.Runs.{IsRun, chosen_number, generator, words_left}
 use Rattle.portals_top.specs.Written.{Written, status_of}
 
--- the line of a rank
-abbrev pub order_at : WorldState → ℕ → List ℕ
-order_at w r = order_line r (map listed (histories_in w r))
-
 pub written-of : (sink sink' : Outflow) (text : List ℕ) (r : Result (Unit {0}) Failed) → EndsWith sink sink' text r → Written (done text) sink sink' (status_of r)
 written-of sink sink' text (Ok x) ends = record { allowed = refl; no_read = λ is. absurd (cc); text = ends }
 written-of sink sink' text (Err failed) fails = record { allowed = tt; no_read = λ is. absurd (cc); text = fails }
 
-pub handed-of : (leaves : Option WorldState → Type 0) (r : Result (Unit {0}) Failed) (w : WorldState) → leaves (Some w) → HandsBack (status_of r) Done leaves (Some w)
+pub handed-of : (leaves : Ran → Type 0) (r : Result (Unit {0}) Failed) (w : Ran) → leaves w → HandsBack (status_of r) Done leaves w
 handed-of leaves (Ok x) w left = left
 handed-of leaves (Err failed) w left = left
 
@@ -57,15 +52,21 @@ same-mode mode sink sink' r o p inputs given ran shape same ends =
 after : System → ℕ → ℕ → Scene → Lcg → Running Lcg
 after k window n scene g = chosen_run k window chosen_number words_left n (record { scene = scene; chooser = g })
 
+-- the run from a scene that is the first one, by a generator that is the seed's
+pub seeded : (seed : ℕ) (k : System) (window n : ℕ) (z : Scene) (g : Lcg) (r : Running Lcg) → z ≡ first_scene → g ≡ generator seed
+    → chosen_run k window chosen_number words_left n (record { scene = z; chooser = g }) ≡ r
+    → chosen_run k window chosen_number words_left n (record { scene = first_scene; chooser = generator seed }) ≡ r
+unfolding after
+seeded seed k window n z g r first same run =
+    ap (λ (y : Scene). after k window n y (generator seed)) (sym first) ∙ (ap (λ (x : Lcg). after k window n z x) (sym same) ∙ run)
+
 -- the run of a world from its opening on, with what the world then is
 pub moved : (seed : ℕ) (w v : WorldState) (g h : Lcg) (slots : ℕ → Slots) (n : ℕ) → IsLater w v → scene_in w ≡ first_scene → g ≡ generator seed
     → chosen_run (ranks_in w slots) w.window chosen_number words_left n (record { scene = scene_in w; chooser = g }) ≡ record { scene = scene_in v; chooser = h }
     → chosen_run (ranks_in v slots) v.window chosen_number words_left n (record { scene = first_scene; chooser = generator seed }) ≡ record { scene = scene_in v; chooser = h }
 unfolding after
-moved seed w v g h slots n later first seeded run =
+moved seed w v g h slots n later first same run =
     ap (λ (o : Outline). after (system_of (plan_of o) v.inputs slots) v.window n first_scene (generator seed)) later.shape
     ∙ (ap (λ (i : Lists). after (system_of (plan_of w.shape) i slots) v.window n first_scene (generator seed)) later.inputs
     ∙ (ap (λ (m : ℕ). after (ranks_in w slots) m n first_scene (generator seed)) later.window
-    ∙ (ap (λ (z : Scene). after (ranks_in w slots) w.window n z (generator seed)) (sym first)
-    ∙ (ap (λ (x : Lcg). after (ranks_in w slots) w.window n (scene_in w) x) (sym seeded)
-    ∙ run))))
+    ∙ seeded seed (ranks_in w slots) w.window n (scene_in w) g (record { scene = scene_in v; chooser = h }) first same run))

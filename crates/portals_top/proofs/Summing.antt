@@ -1,5 +1,5 @@
 -- The run of the generated description.
-use Rattle.std.proofs.Common.{◌≡◌, ℕ, List, Option, None, Some, Result, Err, ◌∙◌, ap, refl, subst}
+use Rattle.std.proofs.Common.{◌≡◌, ℕ, List, None, Some, Result, Err, ◌∙◌, ap, refl, subst}
 use Rattle.coll_lang.specs.Generated.{generated, generated_shape}
 use Rattle.coll_lang.specs.Program.{Program}
 use Rattle.coll_shape.specs.Outline.{Outline}
@@ -12,11 +12,12 @@ use Rattle.shape_plans.specs.declared.faults.CompileFault.TheVariants.{TooMany, 
 use Rattle.shape_plans.specs.Footprint.{refusal}
 use Rattle.shape_plans.specs.Footprint.Excess.{Links, Bytes}
 use Rattle.shape_plans.proofs.Sizes.{are-steps, refusal-found}
-use Rattle.worlds.specs.World.{WorldState}
+use Rattle.portals_top.specs.declared.ran.Ran.{Ran}
 use Rattle.portals_top.specs.declared.status.Status.{Status}
 use Rattle.portals_top.specs.declared.status.Status.TheVariants.{Done}
+use Rattle.portals_top.specs.declared.words.Command.TheVariants.{Execute}
 use Rattle.portals_top.specs.declared.words.Mode.TheVariants.{Run}
-use Rattle.portals_top.specs.Answered.{HandsBack, IsTold, LeavesRun, Stands}
+use Rattle.portals_top.specs.Answered.{HandsBack, IsTold, LeavesWorld, Stands}
 use Rattle.portals_top.specs.Due.{done}
 use Rattle.portals_top.specs.Large.{Summed, summary_text}
 use Rattle.portals_top.specs.Written.{Written}
@@ -40,9 +41,9 @@ no-excess o r (TooLarge k) none compiles is =
     let over : refusal o ≡ Some (record { step = k; name = Bytes }) = subst (λ x. Compiles o x) is compiles in absurd (cc)
 no-excess o r NoMemory none compiles is = refl
 
-pub summed : (number workers : ℕ) (source : Inflow) (sink sink' : Outflow) (ran : Option WorldState) (status : Status)
+pub summed : (number workers : ℕ) (source : Inflow) (sink sink' : Outflow) (ran : Ran) (status : Status)
     → Written (done (summary_text number)) sink sink' status
-    → HandsBack status Done (LeavesRun (Run workers) (generated number).shape (generated number).inputs) ran
+    → HandsBack status Done (LeavesWorld (Execute (Run workers)) (generated number).shape (generated number).inputs) ran
     → (bytes : List ℕ) × IsTold source.left bytes × Summed number workers source source sink sink' ran status
 summed number workers source sink sink' ran status written handed =
     let any = told-any source.left in (

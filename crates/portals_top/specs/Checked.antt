@@ -18,14 +18,15 @@ use Rattle.shape_plans.specs.Drawing.{plan_of}
 use Rattle.shape_plans.specs.Footprint.{Refused as Excessive, refusal}
 use Rattle.order_check.specs.Listing.{lists_of}
 use Rattle.run_text.specs.Orders.{fails_line}
-use Rattle.worlds.specs.World.{WorldState}
 use Rattle.portals_top.specs.declared.status.Status.{Status}
 use Rattle.portals_top.specs.declared.status.Status.TheVariants.{Done, Usage, Refused, ReadFault, WriteFault, NoMemory}
+use Rattle.portals_top.specs.declared.ran.Ran.{Ran}
 use Rattle.portals_top.specs.declared.words.Request.{Request}
 use Rattle.portals_top.specs.declared.words.Request.TheVariants.{Do, Large, Check}
 use Rattle.portals_top.specs.Answered.{Answered, Leaves, MayAnswer, Stands}
 use Rattle.portals_top.specs.Due.{Due, done, excess_name, refused, step_line}
 use Rattle.portals_top.specs.Large.{Summed}
+use Rattle.portals_top.specs.Left.{nothing_ran}
 use Rattle.portals_top.specs.Written.{Written}
 
 abbrev pub holds_line : List ℕ
@@ -74,8 +75,7 @@ abbrev pub Judges : (Option Verdict → Due) → (Option Verdict → Type 0) →
 Judges owed finds sink sink' status = (found : Option Verdict) × Written (owed found) sink sink' status × Found status finds found
 
 -- All that holds after a check, the source having these bytes: of them one more than the longest input is read.
-pub record Checked (bytes : List ℕ) (source source' : Inflow) (sink sink' : Outflow) (ran : Option WorldState) (status : Status)
-    : Type 0 where
+pub record Checked (bytes : List ℕ) (source source' : Inflow) (sink sink' : Outflow) (ran : Ran) (status : Status) : Type 0 where
   pub verdict : Option Verdict
   pub found : Found status (FindsIn (read_check bytes)) verdict
   pub allowed : MayAnswer status (due_checked verdict (read_check bytes)).status
@@ -83,10 +83,10 @@ pub record Checked (bytes : List ℕ) (source source' : Inflow) (sink sink' : Ou
   pub write_fault : status ≡ WriteFault → Rose sink.faults sink'.faults
   pub text : Stands status sink sink' (due_checked verdict (read_check bytes)).text
   pub rest : Leaves status source' (drop 16777217 bytes)
-  pub world : ran ≡ None
+  pub world : ran ≡ nothing_ran
 
 -- all that holds after a call with these words
-abbrev pub AnswersTo : Option Request → List ℕ → Inflow → Inflow → Outflow → Outflow → Option WorldState → Status → Type 0
+abbrev pub AnswersTo : Option Request → List ℕ → Inflow → Inflow → Outflow → Outflow → Ran → Status → Type 0
 AnswersTo None bytes source source' sink sink' ran status = Answered None bytes source source' sink sink' ran status
 AnswersTo (Some (Do task)) bytes source source' sink sink' ran status = Answered (Some task) bytes source source' sink sink' ran status
 AnswersTo (Some (Large number workers)) bytes source source' sink sink' ran status =

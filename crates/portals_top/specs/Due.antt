@@ -16,6 +16,7 @@ use Rattle.run_text.specs.Orders.{order_text}
 use Rattle.run_text.specs.Plans.{plan_text}
 use Rattle.run_text.specs.Refused.{refusal_line}
 use Rattle.worlds.specs.World.{WorldState, histories_in}
+use Rattle.plan_choice.specs.World.{ChoiceState}
 use Rattle.portals_top.specs.declared.status.Status.{Status}
 use Rattle.portals_top.specs.declared.status.Status.TheVariants.{Done, Usage, Refused, ReadFault, WriteFault, NoMemory}
 use Rattle.portals_top.specs.declared.words.Mode.{Mode}
@@ -23,6 +24,8 @@ use Rattle.portals_top.specs.declared.words.Mode.TheVariants.{Once, Sim, Run, Tr
 use Rattle.portals_top.specs.declared.words.Command.{Command}
 use Rattle.portals_top.specs.declared.words.Command.TheVariants.{Execute, Plan}
 use Rattle.portals_top.specs.declared.words.Task.{Task}
+use Rattle.portals_top.specs.declared.ran.Ran.{Ran}
+use Rattle.portals_top.specs.Choosing.{choice_orders_of, values_of}
 use Rattle.portals_top.specs.Formats.{read_as}
 
 abbrev pub usage_line : List ℕ
@@ -72,18 +75,30 @@ abbrev pub due_compiled : Command → Outline → Lists → Option WorldState �
 due_compiled c o inputs ran None = done (done_text c o inputs ran)
 due_compiled c o inputs ran (Some r) = refused (step_line o r.step) (excess_name r.name)
 
--- a choice text isn't run yet, and its steps have no plan
-abbrev pub due_described : Command → Program → Option WorldState → Option Chosen → Due
-due_described c d ran None = due_compiled c d.shape d.inputs ran (refusal d.shape)
-due_described c d ran (Some choices) = refused 0 OneThread
+-- A choice text is run on one thread alone: its results, and by `sim` the order too.
+abbrev pub due_in_mode : Mode → Chosen → Option ChoiceState → Due
+due_in_mode Once c ran = done (values_of c ran)
+due_in_mode (Sim seed) c ran = done (values_of c ran ++ choice_orders_of ran)
+due_in_mode (Run workers) c ran = refused 0 OneThread
+due_in_mode (Trace workers) c ran = refused 0 OneThread
+
+-- its steps have no plan
+abbrev pub due_chosen : Command → Chosen → Option ChoiceState → Due
+due_chosen (Execute mode) c ran = due_in_mode mode c ran
+due_chosen Plan c ran = refused 0 OneThread
+
+-- for the description, or for its choices where it is a choice text
+abbrev pub due_described : Command → Program → Ran → Option Chosen → Due
+due_described c d ran None = due_compiled c d.shape d.inputs ran.world (refusal d.shape)
+due_described c d ran (Some choices) = due_chosen c choices ran.choice
 
 -- what is read as a description, or its first refusal with its line
-abbrev pub due_of : Command → Option WorldState → Result Program (ℕ × Refusal) → Due
+abbrev pub due_of : Command → Ran → Result Program (ℕ × Refusal) → Due
 due_of c ran (Ok d) = due_described c d ran d.choices
 due_of c ran (Err refusal) = refused refusal.0 refusal.1
 
--- where the call leaves this world, if any
-abbrev pub due : Option Task → List ℕ → Option WorldState → Due
+-- where the call leaves this
+abbrev pub due : Option Task → List ℕ → Ran → Due
 due None bytes ran = record { status = Usage; text = usage_line }
 due (Some t) bytes ran = due_of t.command ran (read_as t.format bytes)
 

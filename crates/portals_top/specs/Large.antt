@@ -1,16 +1,17 @@
 -- What a run of the generated description owes, and what it leaves.
-use Rattle.std.specs.Prelude.{ℕ, ◌≡◌, ◌≢◌, List, length, Option}
+use Rattle.std.specs.Prelude.{ℕ, ◌≡◌, List, length}
 use Rattle.coll_lang.specs.Generated.{generated}
 use Rattle.coll_shape.specs.Meaning.{meaning_of}
 use Rattle.port_io.specs.Counts.{Rose}
 use Rattle.port_io.specs.Ends.{Inflow, Outflow}
 use Rattle.run_text.specs.Summary.{summary_of}
 use Rattle.shape_plans.specs.Drawing.{plan_of}
-use Rattle.worlds.specs.World.{WorldState}
 use Rattle.portals_top.specs.declared.status.Status.{Status}
 use Rattle.portals_top.specs.declared.status.Status.TheVariants.{Done, WriteFault}
+use Rattle.portals_top.specs.declared.ran.Ran.{Ran}
+use Rattle.portals_top.specs.declared.words.Command.TheVariants.{Execute}
 use Rattle.portals_top.specs.declared.words.Mode.TheVariants.{Run}
-use Rattle.portals_top.specs.Answered.{HandsBack, LeavesRun}
+use Rattle.portals_top.specs.Answered.{HandsBack, LeavesWorld}
 use Rattle.portals_top.specs.Due.{done}
 use Rattle.portals_top.specs.Written.{Written}
 
@@ -23,9 +24,8 @@ summary_text k =
     summary_of k (length p.cells) (length p.links) d.shape (meaning_of d.shape d.inputs)
 
 -- All that holds after the call: nothing is read, the summary is written, and the world that workers ran is handed back.
-pub record Summed (number workers : ℕ) (source source' : Inflow) (sink sink' : Outflow) (ran : Option WorldState) (status : Status)
-    : Type 0 where
+pub record Summed (number workers : ℕ) (source source' : Inflow) (sink sink' : Outflow) (ran : Ran) (status : Status) : Type 0 where
   pub written : Written (done (summary_text number)) sink sink' status
   pub write_fault : status ≡ WriteFault → Rose sink.faults sink'.faults
   pub untouched : source' ≡ source
-  pub world : HandsBack status Done (LeavesRun (Run workers) (generated number).shape (generated number).inputs) ran
+  pub world : HandsBack status Done (LeavesWorld (Execute (Run workers)) (generated number).shape (generated number).inputs) ran

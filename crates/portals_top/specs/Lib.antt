@@ -1,5 +1,7 @@
 pub mod Answered
 pub mod Checked
+pub mod Choosing
+pub mod Left
 pub mod Due
 pub mod Formats
 pub mod Headline

@@ -1,16 +1,17 @@
 //! Running the generated description.
 
-ghost use Rattle.std.specs.Prelude.{◌≡◌, ◌<◌, IfOk, None};
+ghost use Rattle.std.specs.Prelude.{◌≡◌, ◌<◌, IfOk};
 ghost use Rattle.coll_lang.specs.Generated.{generated};
-ghost use Rattle.portals_top.specs.Answered.{HandsBack, LeavesRun};
+ghost use Rattle.portals_top.specs.Answered.{HandsBack, LeavesWorld};
 ghost use Rattle.portals_top.specs.Due.{done};
 ghost use Rattle.portals_top.specs.Large.{summary_text};
+ghost use Rattle.portals_top.specs.Left.{nothing_ran};
 ghost use Rattle.portals_top.specs.Written.{Written};
 
 use crate::ran::Ran;
 use crate::running::run_by_workers;
 use crate::status::Status;
-use crate::words::Mode;
+use crate::words::{Command, Mode};
 use crate::writing::{Rested, status_of, write_sums};
 use coll_lang::generated;
 use port_io::Sink;
@@ -50,9 +51,10 @@ pub(crate) fn large<R: Threads + Wait + Sync, G: Gate, K: Sink>(
 ) -> Status
     requires number { number < 65536 }
     requires workers { 0 < workers }
-    requires none { ran.old.world ≡ None }
+    requires none { ran.old ≡ nothing_ran }
     ensures written { Written (done (summary_text number)) (K.outflow sink.old) (K.outflow sink.new) result }
-    ensures world { HandsBack result Status.Done (LeavesRun (Mode.Run workers) (generated number).shape (generated number).inputs) ran.new.world }
+    ensures world { HandsBack result Status.Done
+        (LeavesWorld (Command.Execute (Mode.Run workers)) (generated number).shape (generated number).inputs) ran.new }
 {
     let Ok(mut out) = Pieces::open(alloc) else {
         return Status::NoMemory;

@@ -2,6 +2,7 @@
 #![tactic(auto)]
 
 mod checking;
+mod choosing;
 mod drawing;
 mod headline;
 mod large;
@@ -13,6 +14,7 @@ mod refusing;
 mod running;
 mod status;
 mod top;
+mod values;
 mod words;
 mod writing;
 

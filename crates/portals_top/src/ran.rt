@@ -1,22 +1,29 @@
 //! What a run leaves for the caller to look at.
 
 ghost use Rattle.std.specs.Prelude.{◌≡◌};
+ghost use Rattle.portals_top.specs.Left.{nothing_ran};
 
+use plan_choice::ChoiceWorld;
 use worlds::World;
 
 /// The world that was run, beside the text that was written.
 #[derive(Drop)]
 pub struct Ran {
-    /// The world at rest, where a result was due and the run was made. Else none.
+    /// The world at rest, where a result was due and the run was made. Else none, and none of a choice text.
     pub world: Option<World>,
+    /// The choice world at rest, where the result of a choice text was due and the run was made. Else none.
+    pub choice: Option<ChoiceWorld>,
 }
 
 impl Ran {
     /// No world.
     pub fn new() -> Ran
-        ensures { result.world ≡ None }
+        ensures { result ≡ nothing_ran }
     {
-        Ran { world: None }
+        Ran {
+            world: None,
+            choice: None,
+        }
     }
 }
 

@@ -1,9 +1,10 @@
 //! Running a job, and writing what the world then holds.
 
-ghost use Rattle.std.specs.Prelude.{◌≡◌, ◌<◌, ◌^◌, All, IfOk, None, Some, length};
+ghost use Rattle.std.specs.Prelude.{◌≡◌, ◌<◌, ◌^◌, All, IfOk, Some, length};
 ghost use Rattle.turn_table.specs.Hands.{IsFree, parts_of};
-ghost use Rattle.portals_top.specs.Answered.{HandsBack, LeavesRun};
+ghost use Rattle.portals_top.specs.Answered.{HandsBack, LeavesRun, LeavesWorld};
 ghost use Rattle.portals_top.specs.Due.{done, mode_text};
+ghost use Rattle.portals_top.specs.Left.{nothing_ran};
 ghost use Rattle.portals_top.specs.Runs.{IsInOrder, IsRun};
 ghost use Rattle.portals_top.specs.Words.{HasWorkers};
 ghost use Rattle.portals_top.specs.Written.{Written};
@@ -11,7 +12,7 @@ ghost use Rattle.portals_top.specs.Written.{Written};
 use crate::drawing::Words;
 use crate::ran::Ran;
 use crate::status::Status;
-use crate::words::Mode;
+use crate::words::{Command, Mode};
 use crate::writing::{Rested, status_of, write_run};
 use port_io::Sink;
 use ptl_types::NoMemory;
@@ -119,9 +120,9 @@ pub(crate) fn run<R: Threads + Wait + Sync, G: Gate, K: Sink>(
     ran: &mut Ran,
 ) -> Status
     requires workers { HasWorkers mode }
-    requires none { ran.old.world ≡ None }
+    requires none { ran.old ≡ nothing_ran }
     ensures written { Written (done (mode_text mode job.now.shape job.now.inputs ran.new.world)) (K.outflow sink.old) (K.outflow sink.new) result }
-    ensures world { HandsBack result Status.Done (LeavesRun mode job.now.shape job.now.inputs) ran.new.world }
+    ensures world { HandsBack result Status.Done (LeavesWorld (Command.Execute mode) job.now.shape job.now.inputs) ran.new }
 {
     let Ok(mut out) = Pieces::open(alloc) else {
         return Status::NoMemory;

@@ -4,14 +4,16 @@ ghost use Rattle.std.specs.Prelude.{◌≡◌, List, ℕ, Option, None, [], map,
 ghost use Rattle.coll_shape.specs.Meaning.{Lists};
 ghost use Rattle.shape_plans.specs.Footprint.{refusal};
 ghost use Rattle.worlds.specs.World.{WorldState};
-ghost use Rattle.portals_top.specs.Answered.{Answered, HandsBack, IsTold, LeavesOf, LeavesRun, LeavesWorld};
+ghost use Rattle.portals_top.specs.Answered.{Answered, HandsBack, IsTold, LeavesDescribed, LeavesOf, LeavesWorld};
 ghost use Rattle.portals_top.specs.Checked.{AnswersTo, Checked};
 ghost use Rattle.portals_top.specs.Due.{due, due_compiled, due_described, due_of};
 ghost use Rattle.portals_top.specs.Formats.{read_as};
+ghost use Rattle.portals_top.specs.Left.{nothing_ran};
 ghost use Rattle.portals_top.specs.Words.{CanDo, HasWorkers, request};
 ghost use Rattle.portals_top.specs.Written.{Written};
 
 use crate::checking::judged_text;
+use crate::choosing::chosen;
 use crate::large::large;
 use crate::parsing::parse_as;
 use crate::planning::plan;
@@ -21,7 +23,7 @@ use crate::refusing::{refuse, refuse_plan};
 use crate::running::run;
 use crate::status::Status;
 use crate::words::{Command, Mode, Request, Task, request_in};
-use coll_lang::{Description, ParseFault, Refusal};
+use coll_lang::{Description, ParseFault};
 use coll_shape::Shape;
 use plan_done::counted_shape;
 use port_io::{Sink, Source};
@@ -43,7 +45,7 @@ const USAGE: &[u8] =
 
 /// Writes the usage line.
 fn usage<K: Sink>(sink: &mut K) -> Status
-    ensures { Written (due None [] None) (K.outflow sink.old) (K.outflow sink.new) result }
+    ensures { Written (due None [] nothing_ran) (K.outflow sink.old) (K.outflow sink.new) result }
 {
     match write_short(sink, USAGE) {
         Ok(()) => Status::Usage,
@@ -73,9 +75,9 @@ fn executed<R: Threads + Wait + Sync, G: Gate, K: Sink>(
     ran: &mut Ran,
 ) -> Status
     requires workers { HasWorkers mode }
-    requires none { ran.old.world ≡ None }
+    requires none { ran.old ≡ nothing_ran }
     ensures written { Written (due_compiled (Command.Execute mode) d.shape d.inputs ran.new.world (refusal d.shape)) (K.outflow sink.old) (K.outflow sink.new) result }
-    ensures world { HandsBack result (due_compiled (Command.Execute mode) d.shape d.inputs ran.new.world (refusal d.shape)).status (LeavesRun mode d.shape d.inputs) ran.new.world }
+    ensures world { HandsBack result (due_compiled (Command.Execute mode) d.shape d.inputs ran.new.world (refusal d.shape)).status (LeavesWorld (Command.Execute mode) d.shape d.inputs) ran.new }
 {
     let (shape, inputs) = d.into_parts();
     match compile(alloc, &shape) {
@@ -100,9 +102,9 @@ fn compiled<R: Threads + Wait + Sync, G: Gate, K: Sink>(
     ran: &mut Ran,
 ) -> Status
     requires workers { CanDo command }
-    requires none { ran.old.world ≡ None }
+    requires none { ran.old ≡ nothing_ran }
     ensures written { Written (due_compiled command d.shape d.inputs ran.new.world (refusal d.shape)) (K.outflow sink.old) (K.outflow sink.new) result }
-    ensures world { HandsBack result (due_compiled command d.shape d.inputs ran.new.world (refusal d.shape)).status (LeavesWorld command d.shape d.inputs) ran.new.world }
+    ensures world { HandsBack result (due_compiled command d.shape d.inputs ran.new.world (refusal d.shape)).status (LeavesWorld command d.shape d.inputs) ran.new }
 {
     match command {
         Command::Execute(mode) => executed(rt, alloc, gate, mode, d, sink, ran),
@@ -121,12 +123,12 @@ fn described<R: Threads + Wait + Sync, G: Gate, K: Sink>(
     ran: &mut Ran,
 ) -> Status
     requires workers { CanDo command }
-    requires none { ran.old.world ≡ None }
-    ensures written { Written (due_described command d ran.new.world d.choices) (K.outflow sink.old) (K.outflow sink.new) result }
-    ensures world { HandsBack result (due_described command d ran.new.world d.choices).status (LeavesWorld command d.shape d.inputs) ran.new.world }
+    requires none { ran.old ≡ nothing_ran }
+    ensures written { Written (due_described command d ran.new d.choices) (K.outflow sink.old) (K.outflow sink.new) result }
+    ensures world { HandsBack result (due_described command d ran.new d.choices).status (LeavesDescribed command d d.choices) ran.new }
 {
     match d.choices() {
-        Some(_) => refuse(alloc, sink, 0, Refusal::OneThread),
+        Some(choices) => chosen(alloc, command, d.shape(), choices, sink, ran),
         None => compiled(rt, alloc, gate, command, d, sink, ran),
     }
 }
@@ -142,9 +144,9 @@ fn answer<R: Threads + Wait + Sync, G: Gate, K: Sink>(
     ran: &mut Ran,
 ) -> Status
     requires workers { CanDo task.command }
-    requires none { ran.old.world ≡ None }
-    ensures written { Written (due_of task.command ran.new.world (read_as task.format text.now)) (K.outflow sink.old) (K.outflow sink.new) result }
-    ensures world { HandsBack result (due_of task.command ran.new.world (read_as task.format text.now)).status (LeavesOf task.command (read_as task.format text.now)) ran.new.world }
+    requires none { ran.old ≡ nothing_ran }
+    ensures written { Written (due_of task.command ran.new (read_as task.format text.now)) (K.outflow sink.old) (K.outflow sink.new) result }
+    ensures world { HandsBack result (due_of task.command ran.new (read_as task.format text.now)).status (LeavesOf task.command (read_as task.format text.now)) ran.new }
 {
     match parse_as(alloc, task.format, text) {
         Ok(d) => described(rt, alloc, gate, task.command, d, sink, ran),
@@ -164,9 +166,9 @@ fn read_and_answer<R: Threads + Wait + Sync, G: Gate, S: Source, K: Sink>(
     ran: &mut Ran,
 ) -> Status
     requires workers { CanDo task.command }
-    requires none { ran.old.world ≡ None }
+    requires none { ran.old ≡ nothing_ran }
     ensures { (bytes : List ℕ) × IsTold (S.inflow source.old).left bytes
-        × Answered (Some task) bytes (S.inflow source.old) (S.inflow source.new) (K.outflow sink.old) (K.outflow sink.new) ran.new.world result }
+        × Answered (Some task) bytes (S.inflow source.old) (S.inflow source.new) (K.outflow sink.old) (K.outflow sink.new) ran.new result }
 {
     match read_text(alloc, LONGEST, source) {
         Ok(text) => answer(rt, alloc, gate, task, text.as_slice(), sink, ran),
@@ -178,7 +180,7 @@ fn read_and_answer<R: Threads + Wait + Sync, G: Gate, S: Source, K: Sink>(
 /// Reads a description with orders and answers it. No world is left.
 fn read_and_check<S: Source, K: Sink>(alloc: Global, source: &mut S, sink: &mut K) -> Status
     ensures { (bytes : List ℕ) × IsTold (S.inflow source.old).left bytes
-        × Checked bytes (S.inflow source.old) (S.inflow source.new) (K.outflow sink.old) (K.outflow sink.new) None result }
+        × Checked bytes (S.inflow source.old) (S.inflow source.new) (K.outflow sink.old) (K.outflow sink.new) nothing_ran result }
 {
     match read_text(alloc, LONGEST_CHECKED, source) {
         Ok(text) => judged_text(alloc, text.as_slice(), sink),
@@ -199,9 +201,10 @@ pub fn run_with_gate<R: Threads + Wait + Sync, S: Source, K: Sink, G: Gate>(
     ran: &mut Ran,
 ) -> Status
     ensures { (bytes : List ℕ) × IsTold (S.inflow source.old).left bytes
-        × AnswersTo (request (map string_bytes words.now)) bytes (S.inflow source.old) (S.inflow source.new) (K.outflow sink.old) (K.outflow sink.new) ran.new.world result }
+        × AnswersTo (request (map string_bytes words.now)) bytes (S.inflow source.old) (S.inflow source.new) (K.outflow sink.old) (K.outflow sink.new) ran.new result }
 {
     ran.world = None;
+    ran.choice = None;
     match request_in(words) {
         Some(Request::Do(task)) => { read_and_answer(rt, alloc, gate, task, source, sink, ran) }
         Some(Request::Large { number, workers }) => {
@@ -215,17 +218,17 @@ pub fn run_with_gate<R: Threads + Wait + Sync, S: Source, K: Sink, G: Gate>(
 /// The whole program: reads what the words ask for from the source, writes the text that is owed to the sink, and answers
 /// how it ended. The words are those of the command line without the program's name.
 ///
-/// `once` reads a description and runs it on one thread. `sim X` runs it in the order that the words of a generator with the
-/// seed X choose, and writes that order too. `run W` runs it by W workers on threads, from 1 to 16, and `trace W` writes the order of
-/// each rank's steps too; where no thread can be started, the call does a worker's part itself. `json W` does what `run W` does with a
-/// description in JSON. `large K W` reads nothing: W workers
-/// run the description that the number K, below 65,536, chooses, and its summary is written. `plan` writes the plan that the
-/// description is compiled to; nothing is run. `check` reads a description and behind it, for each rank, the line of its local steps,
-/// and writes the verdict on these. All other words get the usage line, and leave the source unread.
+/// `once` reads a description and runs it on one thread. `sim X` runs it in the order that the words of a generator with the seed X
+/// choose, and writes that order too. A choice text is run by these two alone. `run W` runs it by W workers on threads, from 1 to
+/// 16, and `trace W` writes the order of each rank's steps too; where no thread can be started, the call does a worker's part
+/// itself. `json W` does what `run W` does with a description in JSON. `large K W` reads nothing: W workers run the description
+/// that the number K, below 65,536, chooses, and its summary is written. `plan` writes the plan that the description is compiled
+/// to; nothing is run. `check` reads a description and behind it, for each rank, the line of its local steps, and writes the
+/// verdict on these. All other words get the usage line, and leave the source unread.
 ///
-/// The world that ran is handed back in `ran`, where a result was owed and the run was made; after every other answer it is
-/// none, whatever it was before. Of a source that doesn't tell its bytes there are bytes for which all this holds; of a
-/// sink that doesn't tell what it took nothing is said of the text.
+/// The world that ran, or the choice world, is handed back in `ran`, where a result was owed and the run was made; after every
+/// other answer there is none, whatever there was before. Of a source that doesn't tell its bytes there are bytes for which all
+/// this holds; of a sink that doesn't tell what it took nothing is said of the text.
 pub fn portals_main<R: Threads + Wait + Sync, S: Source, K: Sink>(
     rt: &R,
     alloc: Global,
@@ -235,7 +238,7 @@ pub fn portals_main<R: Threads + Wait + Sync, S: Source, K: Sink>(
     ran: &mut Ran,
 ) -> Status
     ensures { (bytes : List ℕ) × IsTold (S.inflow source.old).left bytes
-        × AnswersTo (request (map string_bytes words.now)) bytes (S.inflow source.old) (S.inflow source.new) (K.outflow sink.old) (K.outflow sink.new) ran.new.world result }
+        × AnswersTo (request (map string_bytes words.now)) bytes (S.inflow source.old) (S.inflow source.new) (K.outflow sink.old) (K.outflow sink.new) ran.new result }
 {
     run_with_gate(rt, alloc, words, source, sink, &OpenGate, ran)
 }

@@ -1,14 +1,14 @@
 //! Writing what a world at rest holds.
 
-ghost use Rattle.std.specs.Prelude.{◌≡◌, ◌++◌, Some, [], map};
+ghost use Rattle.std.specs.Prelude.{ℕ, List, ◌≡◌, ◌<◌, ◌++◌, Some, []};
+ghost use Rattle.ptl_types.specs.declared.steps.LocalStep.{LocalStep as StepOf};
 ghost use Rattle.coll_lang.specs.Generated.{generated};
 ghost use Rattle.coll_shape.specs.WellFormed.{IsWellFormed};
-ghost use Rattle.plan_orders.specs.Taking.{listed};
 ghost use Rattle.job_laws.specs.Results.{AreMeant};
 ghost use Rattle.run_text.specs.Lines.{result_text};
 ghost use Rattle.run_text.specs.Orders.{order_text};
 ghost use Rattle.run_text.specs.Putting.{EndsWith, Puts};
-ghost use Rattle.worlds.specs.World.{histories_in, memory_in};
+ghost use Rattle.worlds.specs.World.{memory_in};
 ghost use Rattle.portals_top.specs.Due.{mode_text, orders_of};
 ghost use Rattle.portals_top.specs.Large.{summary_text};
 ghost use Rattle.portals_top.specs.Written.{status_of};
@@ -16,8 +16,9 @@ ghost use Rattle.portals_top.specs.Written.{status_of};
 use crate::status::Status;
 use crate::words::Mode;
 use coll_shape::Shape;
+use plan_choice::ChoiceWorld;
 use port_io::{Failed, Sink};
-use ptl_types::Rank;
+use ptl_types::{LocalStep, Rank};
 use run_text::{Pieces, ResultLists, order_line, put_result, write_result, write_summary};
 use worlds::World;
 
@@ -41,12 +42,68 @@ impl ResultLists for Rested {
     }
 }
 
+/// Whose steps are written.
+pub(crate) trait Histories {
+    /// How many ranks there are.
+    ghost count: { Self → ℕ };
+
+    /// The steps of each rank, oldest first.
+    ghost steps: { Self → ℕ → List StepOf };
+
+    /// How many ranks there are.
+    fn rank_count(&self) -> u32
+        ensures { result ≡ count self.now };
+
+    /// The steps of a rank, oldest first.
+    fn steps_of(&self, r: Rank) -> &[LocalStep]
+        requires { r < count self.now }
+        ensures { result.now ≡ steps self.now r };
+}
+
+impl Histories for World {
+    ghost use Rattle.std.specs.Prelude.{map};
+    ghost use Rattle.plan_orders.specs.Taking.{listed};
+    ghost use Rattle.worlds.specs.World.{histories_in};
+
+    ghost count = { λ w. w.shape.ranks };
+
+    ghost steps = { λ w r. map listed (histories_in w r) };
+
+    fn rank_count(&self) -> u32 {
+        self.schedule().shape().ranks()
+    }
+
+    fn steps_of(&self, r: Rank) -> &[LocalStep] {
+        self.history(r)
+    }
+}
+
+impl Histories for ChoiceWorld {
+    ghost use Rattle.portals_top.specs.Choosing.{choice_steps};
+
+    ghost count = { λ w. w.ranks };
+
+    ghost steps = { choice_steps };
+
+    fn rank_count(&self) -> u32 {
+        self.ranks()
+    }
+
+    fn steps_of(&self, r: Rank) -> &[LocalStep] {
+        self.history(r)
+    }
+}
+
 /// Adds a line for each rank with the steps that it made.
-fn put_orders<K: Sink>(out: &mut Pieces, sink: &mut K, world: &World) -> Result<(), Failed>
-    ensures { Puts (K.outflow sink.old) (K.outflow sink.new) out.old out.new (order_text world.now.shape.ranks (λ r. map listed (histories_in world.now r))) result }
+pub(crate) fn put_orders<K: Sink, H: Histories>(
+    out: &mut Pieces,
+    sink: &mut K,
+    held: &H,
+) -> Result<(), Failed>
+    ensures { Puts (K.outflow sink.old) (K.outflow sink.new) out.old out.new (order_text (H.count held.now) (H.steps held.now)) result }
 {
-    for rank in 0..world.schedule().shape().ranks() {
-        order_line(out, sink, rank, world.history(rank))?;
+    for rank in 0..held.rank_count() {
+        order_line(out, sink, rank, held.steps_of(rank))?;
     }
     Ok(())
 }

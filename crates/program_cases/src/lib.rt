@@ -1,7 +1,10 @@
 //! Whole runs of the program: what each command writes, faults of a source and a sink, texts that are refused, orders and their
-//! verdicts, runs by workers on threads with gates that watch the steps, descriptions in JSON, and runs in which memory may run out.
+//! verdicts, runs by workers on threads with gates that watch the steps, choice texts, descriptions in JSON, and runs in which
+//! memory may run out.
 #![tactic(auto)]
 
+#[cfg(test)]
+mod choices;
 #[cfg(test)]
 mod faults;
 #[cfg(test)]

@@ -14,15 +14,22 @@ const SUMS: &str =
 
 const SUMS_RESULT: &str = "c 0 10\nc 1 20\nc 2 30\nc 3 40\nrest\n";
 
-/// A command of these words on the text, which writes orders too or not. The sink takes its room before the run, so that it can't lack any in it.
+const CHOICES: &str = "coll 2\nranks 2\nelect e\ntickets t\nprint e\nprint t\nend\n";
+
+const CHOICES_RESULT: &str = "e 0 0\ne 1 0\nt 0 0\nt 1 1\nrest\n";
+
+/// A command of these words on a text, which writes this result, and orders too or not. The sink takes its room before the run, so
+/// that it can't lack any in it.
 fn runs_or_lacks_memory(
     rt: &(impl Abort + Threads + Wait + Sync),
     alloc: Global,
     command: &[&str],
+    text: &str,
+    result: &str,
     orders: bool,
 ) -> Result<(), Fail> {
     let mut sink = MemorySink::with_room(alloc, IoTurns::new(alloc), 1024)?;
-    let mut source = SureSource::new(Bytes::of(alloc, SUMS.as_bytes())?);
+    let mut source = SureSource::new(Bytes::of(alloc, text.as_bytes())?);
     let mut words = Vec::new(alloc);
     for word in command {
         words.push(String::from_str(alloc, word)?)?;
@@ -40,9 +47,9 @@ fn runs_or_lacks_memory(
     if answer == Status::NoMemory {
         assert!(rt; sink.as_slice().is_empty());
     } else if orders {
-        assert!(rt; sink.as_slice().starts_with(SUMS_RESULT.as_bytes()));
+        assert!(rt; sink.as_slice().starts_with(result.as_bytes()));
     } else {
-        assert_eq!(rt; sink.as_slice(), SUMS_RESULT.as_bytes());
+        assert_eq!(rt; sink.as_slice(), result.as_bytes());
     }
     Ok(())
 }
@@ -50,7 +57,9 @@ fn runs_or_lacks_memory(
 /// Run with a refused allocation, this walks to it.
 #[test]
 fn memory_walk(rt: HostRuntime) -> Result<(), Fail> {
-    runs_or_lacks_memory(&rt, rt.alloc(), &["once"], false)?;
-    runs_or_lacks_memory(&rt, rt.alloc(), &["trace", "2"], true)?;
-    runs_or_lacks_memory(&rt, rt.alloc(), &["run", "2"], false)
+    let alloc = rt.alloc();
+    runs_or_lacks_memory(&rt, alloc, &["once"], SUMS, SUMS_RESULT, false)?;
+    runs_or_lacks_memory(&rt, alloc, &["once"], CHOICES, CHOICES_RESULT, false)?;
+    runs_or_lacks_memory(&rt, alloc, &["trace", "2"], SUMS, SUMS_RESULT, true)?;
+    runs_or_lacks_memory(&rt, alloc, &["run", "2"], SUMS, SUMS_RESULT, false)
 }

@@ -1,6 +1,8 @@
-use Rattle.std.proofs.Common.{◌∙◌}
+use Rattle.std.proofs.Common.{◌∙◌, ap}
 use Rattle.coll_lang.specs.Generated.{generated}
-use Rattle.portals_top.specs.Answered.{LeavesRun}
+use Rattle.portals_top.specs.Answered.{LeavesWorld}
+use Rattle.portals_top.specs.declared.ran.Ran.{Ran}
+use Rattle.portals_top.specs.declared.words.Command.TheVariants.{Execute}
 use Rattle.portals_top.specs.declared.words.Mode.TheVariants.{Run}
 use Rattle.portals_top.proofs.Rests.{handed-of, written-of}
 use Rattle.portals_top.proofs.large.large.Goals as goal
@@ -21,5 +23,6 @@ returns g c =
     let d = generated c.args.number in
     rw c.status_of.ensures (record {
       written = written-of _ _ _ _ c.write_sums-written.ensures;
-      world = handed-of (LeavesRun (Run c.args.workers) d.shape d.inputs) _ _ (rw (job.shape, job.inputs) at run, tt);
+      world = handed-of (LeavesWorld (Execute (Run c.args.workers)) d.shape d.inputs) _ _
+          ((rw (job.shape, job.inputs) at run, tt), ap (λ (r : Ran). r.choice) c.requires.none);
     })

@@ -1,4 +1,7 @@
-use Rattle.portals_top.specs.Answered.{LeavesRun}
+use Rattle.std.proofs.Common.{ap}
+use Rattle.portals_top.specs.Answered.{LeavesWorld}
+use Rattle.portals_top.specs.declared.ran.Ran.{Ran}
+use Rattle.portals_top.specs.declared.words.Command.TheVariants.{Execute}
 use Rattle.portals_top.proofs.Rests.{handed-of, same-mode, written-of}
 use Rattle.portals_top.proofs.running.run.Goals as goal
 
@@ -10,5 +13,6 @@ returns g c =
     let left = c.in-Ok-run_in.ensures in
     rw c.status_of.ensures (record {
       written = written-of _ _ _ _ (same-mode c.args.mode _ _ _ _ _ _ _ _ left.0.shape left.0.inputs c.write_run-written.ensures);
-      world = handed-of (LeavesRun c.args.mode c.args.job.now.shape c.args.job.now.inputs) _ _ left;
+      world = handed-of (LeavesWorld (Execute c.args.mode) c.args.job.now.shape c.args.job.now.inputs) _ _
+          (left, ap (λ (r : Ran). r.choice) c.requires.none);
     })

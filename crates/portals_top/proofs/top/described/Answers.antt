@@ -1,10 +1,9 @@
-use Rattle.portals_top.proofs.Answering.{no-world-refused}
 use Rattle.portals_top.proofs.top.described.Goals as goal
 
 pub returns-in-Some : goal.returns-in-Some
 returns-in-Some g c = record {
-  written = rw (← c.in-Some.ensures.told) c.refuse.ensures;
-  world = rw (← c.in-Some.ensures.told, c.requires.none) (no-world-refused _ _ c.refuse.ensures.allowed);
+  written = rw (← c.in-Some.ensures.told, ← c.shape.ensures.shape) c.chosen.ensures.written;
+  world = rw (← c.in-Some.ensures.told, ← c.shape.ensures.shape) c.chosen.ensures.world;
 }
 
 pub returns-in-None : goal.returns-in-None

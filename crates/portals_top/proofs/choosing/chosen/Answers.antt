@@ -1,0 +1,14 @@
+use Rattle.portals_top.proofs.Answering.{no-world-refused}
+use Rattle.portals_top.proofs.choosing.chosen.Goals as goal
+
+pub returns-in-Execute : goal.returns-in-Execute
+returns-in-Execute g c = rw (c.in-Execute.is, ← c.ranks.ensures.told) (record {
+  written = c.in_mode.ensures.written;
+  world = c.in_mode.ensures.world;
+})
+
+pub returns-in-Plan : goal.returns-in-Plan
+returns-in-Plan g c = rw (c.in-Plan.is, c.requires) (record {
+  written = c.refuse.ensures;
+  world = no-world-refused _ _ c.refuse.ensures.allowed;
+})
