@@ -19,6 +19,8 @@ const ROOM: u64 = 262_144;
 pub(crate) struct Left {
     /// How many steps the ranks of the world made, where one is left.
     pub(crate) world: Option<u64>,
+    /// Whether a choice world is left.
+    pub(crate) choice: Option<()>,
 }
 
 /// What a run wrote and left.
@@ -39,12 +41,15 @@ fn steps_of(world: &World) -> u64 {
 }
 
 fn left_by(ran: &Ran) -> Left {
-    match &ran.world {
-        Some(world) => Left {
-            world: Some(steps_of(world)),
-        },
-        None => Left { world: None },
-    }
+    let world = match &ran.world {
+        Some(world) => Some(steps_of(world)),
+        None => None,
+    };
+    let choice = match &ran.choice {
+        Some(_) => Some(()),
+        None => None,
+    };
+    Left { world, choice }
 }
 
 /// Runs these words: the only call of the program.
