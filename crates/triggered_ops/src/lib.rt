@@ -1,8 +1,8 @@
 //! The triggered operations of an interface that wait for their counting events (Portals 4.3, triggered operations).
 #![tactic(auto)]
 
-ghost use Rattle.std.specs.Prelude.{◌≡◌, ◌≤◌, ◌<◌, ◌^◌, ◌-◌, ℕ, true, false, Some, None, All, IfSome, IfNone, IfOk, OnOk, OnErr, length, slice_get, option_map};
-ghost use Rattle.triggered_ops.specs.Operations.{no_operations, is_full, operation_at, is_ready, due_numbers, shown, numbered, deed_of, with_posted, told, without_number, waiting_on, cancelled, IsKept};
+ghost use Rattle.std.specs.Prelude.{◌≡◌, ◌≤◌, ◌<◌, ◌^◌, ◌-◌, [], ℕ, true, false, Some, None, All, IfSome, IfNone, IfOk, OnOk, OnErr, length, slice_get, option_map};
+ghost use Rattle.triggered_ops.specs.Operations.{no_operations, is_full, operation_at, is_ready, due_numbers, shown, numbered, deed_of, with_posted, told, without_number, waits_on, waiting_on, cancelled, IsKept};
 ghost use Rattle.triggered_ops.specs.Layout.{WasTold};
 
 mod held;
@@ -160,6 +160,17 @@ impl<D> Pending<D> {
     {
         match self.operations.range(from..).next() {
             Some((number, held)) => Some((*number, &held.deed, held.ct, held.threshold)),
+            None => None,
+        }
+    }
+
+    /// The number of an operation that waits on a counting event; `None` exactly where none does.
+    pub fn first_on(&self, ct: Handle) -> Option<u32>
+        ensures found { IfSome result (λ t. option_map (waits_on ct) (operation_at t self.now) ≡ Some true) }
+        ensures none { IfNone result (waiting_on ct self.now ≡ []) }
+    {
+        match index::first_on(&self.index, ct, (0, 0)) {
+            Some((_, number)) => Some(number),
             None => None,
         }
     }
