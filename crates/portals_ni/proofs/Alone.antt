@@ -1,18 +1,28 @@
 -- What is named is live, and no two live things share a slot: so whatever is named with the slot of a live thing is that thing.
-use Rattle.std.proofs.Common.{List, Option, Some, None}
+use Rattle.std.proofs.Common.{◌≡◌, ℕ, ◌&&◌, Bool, true, false, List, [], ◌∷◌, Option, Some, None, is_some, map, refl}
 use Rattle.std.specs.Prelude.{All}
-use Rattle.std.proofs.lemmas.List.Elements.{All-weaker}
+use Rattle.std.proofs.lemmas.List.Elements.{All-weaker, All-head, All-tail, All-cons, All-nil}
 use Rattle.ptl_types.specs.declared.handles.Handle.{Handle}
 use Rattle.ptl_types.specs.declared.handles.Count.{Count}
+use Rattle.ptl_types.specs.declared.calls.Deed.{Deed}
+use Rattle.ptl_types.specs.declared.calls.Deed.TheVariants.{Put, Get, Atomic, FetchAtomic, Swap, Inc, Set}
 use Rattle.ni_model.specs.declared.Bound.{Bound}
 use Rattle.ni_model.specs.declared.Linked.{Linked}
-use Rattle.ni_model.specs.Tables.{Live, Table}
+use Rattle.ni_model.specs.Tables.{Live, Table, lookup, is_live_or_none}
+use Rattle.ni_model.specs.Refusals.{holds_part, put_fits, get_fits, deed_fits, counts_on_live}
+use Rattle.triggered_ops.specs.Operations.{Operation, posted}
 use Rattle.ni_model.specs.Queues.{Waiting}
 use Rattle.ni_model.specs.Lists.{Index, queue_of}
 use Rattle.user_counts.specs.Rows.{IsAlone, HasOwnSlot}
 use Rattle.user_counts.proofs.SlotLemmas.{named-alone}
 use Rattle.target_engine.specs.Sides.{EntriesAlone}
-use Rattle.portals_ni.specs.Lasting.{HasEntries, EntryIsLive, QueueIsLive, BoundIsLive}
+use Rattle.ptl_types.specs.declared.calls.Limits.{Limits}
+use Rattle.portals_ni.specs.declared.armed.Armed.{Armed}
+use Rattle.portals_ni.specs.Answers.{deed_counter}
+use Rattle.portals_ni.specs.Lasting.{HasEntries, EntryIsLive, QueueIsLive, BoundIsLive, OperationIsLive}
+use Rattle.portals_ni.specs.Pendings.{deed_in}
+use Rattle.portals_ni.specs.Sound.{IsArmed}
+use Rattle.portals_ni.specs.Uses.{put_md, get_md, CtsAlone, MdsAlone}
 
 entries-alone : (ct : Handle) (cts : Table Count) → HasOwnSlot ct cts → (o : Option Index) → HasEntries (EntryIsLive cts) o → EntriesAlone ct o
 entries-alone ct cts own None live = tt
@@ -31,3 +41,53 @@ bound-cts-alone ct cts eqs xs own live = All-weaker (BoundIsLive cts eqs) (λ (x
 
 pub bound-eqs-alone : (eq : Handle) (cts : Table Count) (eqs : Table Waiting) (xs : List (Live Bound)) → HasOwnSlot eq eqs → All (BoundIsLive cts eqs) xs → All (λ (x : Live Bound). IsAlone eq x.value.md.eq) xs
 bound-eqs-alone eq cts eqs xs own live = All-weaker (BoundIsLive cts eqs) (λ (x : Live Bound). IsAlone eq x.value.md.eq) (λ x e. named-alone eq x.value.md.eq eqs own e.1) xs live
+
+-- ---- pending operations
+
+counter-live : (d : Deed) (cts : Table Count) → counts_on_live d cts ≡ true → is_live_or_none (deed_counter d) cts ≡ true
+counter-live (Put a) cts e = refl
+counter-live (Get g) cts e = refl
+counter-live (Atomic a op ty) cts e = refl
+counter-live (FetchAtomic g a op ty) cts e = refl
+counter-live (Swap g a op ty operand) cts e = refl
+counter-live (Inc h by) cts e = e
+counter-live (Set h to) cts e = e
+
+pub operation-cts-alone : (ct : Handle) (cts : Table Count) (ws : List (Operation Armed)) → HasOwnSlot ct cts → All (OperationIsLive cts) (map (posted deed_in) ws) → All (CtsAlone ct) ws
+operation-cts-alone ct cts [] own all = All-nil (CtsAlone ct)
+operation-cts-alone ct cts (w ∷ ws) own all =
+    let live = All-head (OperationIsLive cts) (posted deed_in w) (map (posted deed_in) ws) all in
+    All-cons (CtsAlone ct) w ws
+    (named-alone ct (Some w.ct) cts own live.0, named-alone ct (deed_counter w.deed.deed) cts own (counter-live w.deed.deed cts live.1))
+    (operation-cts-alone ct cts ws own (All-tail (OperationIsLive cts) (posted deed_in w) (map (posted deed_in) ws) all))
+
+holds-live : (o : Option Bound) (at n : ℕ) → holds_part o at n ≡ true → is_some o ≡ true
+holds-live None at n e = cc
+holds-live (Some b) at n e = refl
+
+both-true : (a b : Bool) → (a && b) ≡ true → (a ≡ true) × (b ≡ true)
+both-true true b e = (refl, e)
+both-true false b e = cc
+
+put-live : (d : Deed) (mds : Table Bound) → deed_fits d mds ≡ true → is_live_or_none (put_md d) mds ≡ true
+put-live (Put a) mds e = holds-live (lookup a.md mds.live) a.local_offset a.length e
+put-live (Get g) mds e = refl
+put-live (Atomic a op ty) mds e = holds-live (lookup a.md mds.live) a.local_offset a.length e
+put-live (FetchAtomic g a op ty) mds e = holds-live (lookup a.md mds.live) a.local_offset a.length (both-true (get_fits g mds) (put_fits a mds) e).1
+put-live (Swap g a op ty operand) mds e = holds-live (lookup a.md mds.live) a.local_offset a.length (both-true (get_fits g mds) (put_fits a mds) e).1
+put-live (Inc h by) mds e = refl
+put-live (Set h to) mds e = refl
+
+get-live : (d : Deed) (mds : Table Bound) → deed_fits d mds ≡ true → is_live_or_none (get_md d) mds ≡ true
+get-live (Put a) mds e = refl
+get-live (Get g) mds e = holds-live (lookup g.md mds.live) g.local_offset g.length e
+get-live (Atomic a op ty) mds e = refl
+get-live (FetchAtomic g a op ty) mds e = holds-live (lookup g.md mds.live) g.local_offset g.length (both-true (get_fits g mds) (put_fits a mds) e).0
+get-live (Swap g a op ty operand) mds e = holds-live (lookup g.md mds.live) g.local_offset g.length (both-true (get_fits g mds) (put_fits a mds) e).0
+get-live (Inc h by) mds e = refl
+get-live (Set h to) mds e = refl
+
+pub operation-mds-alone : (md : Handle) (mds : Table Bound) (ranks : ℕ) (limits : Limits) (ws : List (Operation Armed)) → HasOwnSlot md mds → All (λ (w : Operation Armed). IsArmed mds ranks limits w.deed) ws → All (MdsAlone md) ws
+operation-mds-alone md mds ranks limits ws own all =
+    All-weaker (λ (w : Operation Armed). IsArmed mds ranks limits w.deed) (MdsAlone md)
+    (λ w armed. (named-alone md (get_md w.deed.deed) mds own (get-live w.deed.deed mds armed.fits), named-alone md (put_md w.deed.deed) mds own (put-live w.deed.deed mds armed.fits))) ws all

@@ -15,3 +15,4 @@ pub mod Leads
 pub mod Stands
 pub mod Freed
 pub mod Lasting
+pub mod Uses

@@ -2,3 +2,4 @@ pub mod Pendings
 pub mod Lasting
 pub mod Sound
 pub mod Answers
+pub mod Uses

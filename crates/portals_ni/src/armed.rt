@@ -4,10 +4,10 @@ ghost use Rattle.std.specs.Prelude.{◌≡◌};
 ghost use Rattle.ni_model.specs.Tables.{lookup};
 ghost use Rattle.portals_ni.specs.Pendings.{told_by, sum_at};
 
+use crate::triggers::Triggers;
 use counters::Counter;
 use handle_store::Store;
 use ptl_types::{Bytes, Deed, Handle};
-use triggered_ops::Pending;
 
 /// A triggered operation's deed, and the room for its bytes.
 #[derive(Drop)]
@@ -19,7 +19,7 @@ pub struct Armed {
 }
 
 /// Tells how far a counting event is to the operations that wait on it.
-pub fn tell(pending: &mut Pending<Armed>, cts: &Store<Counter>, ct: Option<Handle>)
+pub fn tell(pending: &mut Triggers, cts: &Store<Counter>, ct: Option<Handle>)
     ensures { pending.new ≡ told_by ct cts.now pending.old }
 {
     if let Some(h) = ct {

@@ -91,21 +91,21 @@ impl Nic {
     pub fn is_ready(&self, number: u32) -> bool
         ensures told { result ≡ is_ready self.now number }
     {
-        self.pending.is_ready(number)
+        self.pending.waiting().is_ready(number)
     }
 
     /// The number of an operation that is ready; `None` exactly where none is. Which of them it is stays open.
     pub fn ready(&self) -> Option<u32>
         ensures told { AnswersReady self.now result }
     {
-        self.pending.ready()
+        self.pending.waiting().ready()
     }
 
     /// How many operations are ready.
     pub fn ready_count(&self) -> u32
         ensures told { result ≡ length (ready_numbers self.now) }
     {
-        self.pending.ready_count()
+        self.pending.waiting().ready_count()
     }
 
     /// The number of the ready operation at place `i` among them, by rising number, from 0. Condition: there are more than `i`.
@@ -114,15 +114,16 @@ impl Nic {
         ensures told { slice_get (ready_numbers self.now) i ≡ Some result }
     {
         // Brings what the pending operations keep to the proof.
-        let _waiting = self.pending.len();
-        self.pending.ready_at(i)
+        let waiting = self.pending.waiting();
+        let _many = waiting.len();
+        waiting.ready_at(i)
     }
 
     /// How many operations are ready whose message is for this rank.
     pub fn ready_count_to(&self, target: Rank) -> u32
         ensures told { result ≡ length (ready_numbers_to target self.now) }
     {
-        count_to(&self.pending, target)
+        count_to(self.pending.waiting(), target)
     }
 
     /// The rank that the message of a pending operation is for; `None` exactly for an increment or a set, and where the
@@ -130,7 +131,7 @@ impl Nic {
     pub fn lane_of(&self, number: u32) -> Option<Rank>
         ensures told { result ≡ target_at self.now number }
     {
-        target_of(&self.pending, number)
+        target_of(self.pending.waiting(), number)
     }
 
     /// Fires a ready operation: it leaves the pending ones and its deed is done. Its bytes are read now, and the message is the

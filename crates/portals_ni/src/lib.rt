@@ -67,6 +67,7 @@ mod nic;
 mod queues;
 mod starts;
 mod tables;
+mod triggers;
 
 pub use nic::Nic;
 pub use ptl_types::{Appended, Deed, Delivered, EqGot, GetArgs, Limits, NiFault, Outcome, PutArgs};

@@ -5,7 +5,7 @@ ghost use Rattle.ni_model.specs.State.{opened};
 ghost use Rattle.ni_model.specs.Calls.{write_memory as memory_written};
 ghost use Rattle.portals_ni.specs.Lasting.{HasLimits, Lasts};
 
-use crate::armed::Armed;
+use crate::triggers::Triggers;
 use counters::Counter;
 use event_queues::Queue;
 use handle_store::Store;
@@ -15,7 +15,6 @@ use ptl_types::{Bytes, Limits, NoMemory, Rank};
 use std::alloc::Global;
 use std::marker::Model;
 use target_engine::Target;
-use triggered_ops::Pending;
 
 /// One network interface. Its value is the model's `State`.
 #[derive(Drop)]
@@ -26,7 +25,7 @@ pub struct Nic {
     pub(crate) region: Region,
     pub(crate) cts: Store<Counter>,
     pub(crate) eqs: Store<Queue>,
-    pub(crate) pending: Pending<Armed>,
+    pub(crate) pending: Triggers,
     pub(crate) drops: u64,
     pub(crate) violations: u64,
 }
@@ -63,7 +62,7 @@ impl Nic {
         let initiator = Initiator::open(alloc, rank, ranks, &limits)?;
         let cts = Store::open(alloc, limits.cts)?;
         let eqs = Store::open(alloc, limits.eqs)?;
-        let pending = Pending::open(alloc, limits.triggered)?;
+        let pending = Triggers::open(alloc, &limits)?;
         Ok(Nic {
             alloc,
             target,
@@ -135,6 +134,6 @@ impl Nic {
         ensures told { result ≡ length self.now.pending.waiting }
         ensures kept { Lasts self.now }
     {
-        self.pending.len()
+        self.pending.waiting().len()
     }
 }

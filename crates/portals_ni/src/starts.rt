@@ -191,7 +191,13 @@ impl Nic {
         requires { MayStart deed self.old.ranks self.old.limits }
         ensures does { MayLackMemory (triggered_of deed ct threshold self.old) self.old (ends self.new result) }
     {
-        check_triggered(&self.cts, &self.initiator, &self.pending, &deed, ct)?;
+        check_triggered(
+            &self.cts,
+            &self.initiator,
+            self.pending.waiting(),
+            &deed,
+            ct,
+        )?;
         let room = match Bytes::with_room(self.alloc, room_for(&deed)) {
             Ok(room) => room,
             Err(_) => return Err(NiFault::NoMemory),

@@ -1,7 +1,7 @@
 use Rattle.std.proofs.Common.{◌≡◌, true, sym, ◌∙◌}
 use Rattle.ni_model.specs.Refusals.{deed_names_md}
 use Rattle.portals_ni.proofs.Walks.{uses_md, md-named, walk-found, walk-end}
-use Rattle.portals_ni.proofs.named.names_md.Goals as goal
+use Rattle.portals_ni.proofs.triggers.some_names_md.Goals as goal
 
 pub returns-then-deed_names_md : goal.returns-then-deed_names_md
 returns-then-deed_names_md c =

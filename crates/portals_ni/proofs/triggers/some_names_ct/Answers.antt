@@ -1,6 +1,6 @@
 use Rattle.std.proofs.Common.{◌≡◌, true, false, sym, ◌∙◌}
 use Rattle.portals_ni.proofs.Walks.{uses_ct, ct-named, walk-next, walk-found, walk-end}
-use Rattle.portals_ni.proofs.named.names_ct.Goals as goal
+use Rattle.portals_ni.proofs.triggers.some_names_ct.Goals as goal
 
 pub returns-then-counts_on : goal.returns-then-counts_on
 returns-then-counts_on c =

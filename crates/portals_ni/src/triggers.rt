@@ -1,0 +1,271 @@
+//! The pending operations of an interface, and what they name.
+
+ghost use Rattle.std.specs.Prelude.{◌≡◌, ◌<◌, ◌-◌, ◌^◌, ◌||◌, None, IfNone, IfOk, OnOk, OnErr, All, length, option_map};
+ghost use Rattle.ptl_types.specs.Handles.{same_handle};
+ghost use Rattle.ni_model.specs.Refusals.{deed_names_ct as deed_counts_on, deed_names_md as deed_uses, operation_names_md, operation_names_ct};
+ghost use Rattle.triggered_ops.specs.Operations.{no_operations, operation_at, deed_of, with_posted, told, without_number, waiting_on, cancelled, posted_all};
+ghost use Rattle.portals_ni.specs.Answers.{deed_counter as counter_of};
+ghost use Rattle.portals_ni.specs.Pendings.{deed_in};
+ghost use Rattle.portals_ni.specs.Uses.{put_md as put_md_of, get_md as get_md_of, AreUsed, CtsAlone, MdsAlone};
+
+use crate::armed::Armed;
+use ptl_types::{Deed, Handle, Limits, NoMemory};
+use std::alloc::Global;
+use std::marker::Model;
+use triggered_ops::Pending;
+use user_counts::Users;
+
+/// The pending operations. `cts` and `mds` count by slot how often they name a counting event and a descriptor.
+#[derive(Drop)]
+pub struct Triggers {
+    pending: Pending<Armed>,
+    cts: Users,
+    mds: Users,
+}
+
+impl Model for Triggers {
+    ghost use Rattle.triggered_ops.specs.Operations.{Operations};
+    ghost use Rattle.portals_ni.specs.declared.armed.Armed.{Armed};
+    ghost use Rattle.portals_ni.specs.Uses.{AreUsed};
+
+    ghost Value = { Operations Armed };
+
+    ghost view = { λ t. t.pending };
+
+    ghost invariant = { λ t. AreUsed t.pending t.cts t.mds };
+}
+
+/// The counting event that a deed counts on, if it does.
+fn deed_counter(deed: &Deed) -> Option<Handle>
+    ensures { result ≡ counter_of deed.now }
+{
+    match deed {
+        Deed::Inc(ct, _) => Some(*ct),
+        Deed::Set(ct, _) => Some(*ct),
+        _ => None,
+    }
+}
+
+/// The descriptor of a deed's put arguments, if it has any.
+fn put_md(deed: &Deed) -> Option<Handle>
+    ensures { result ≡ put_md_of deed.now }
+{
+    match deed {
+        Deed::Put(args) => Some(args.md),
+        Deed::Atomic(args, _, _) => Some(args.md),
+        Deed::FetchAtomic(_, args, _, _) => Some(args.md),
+        Deed::Swap(_, args, _, _, _) => Some(args.md),
+        _ => None,
+    }
+}
+
+/// The descriptor of a deed's get arguments, if it has any.
+fn get_md(deed: &Deed) -> Option<Handle>
+    ensures { result ≡ get_md_of deed.now }
+{
+    match deed {
+        Deed::Get(args) => Some(args.md),
+        Deed::FetchAtomic(args, _, _, _) => Some(args.md),
+        Deed::Swap(args, _, _, _, _) => Some(args.md),
+        _ => None,
+    }
+}
+
+/// Takes an operation out, and counts down what it names.
+fn take_out(
+    pending: &mut Pending<Armed>,
+    cts: &mut Users,
+    mds: &mut Users,
+    number: u32,
+) -> Option<Armed>
+    requires { AreUsed pending.old cts.old mds.old }
+    ensures used { AreUsed pending.new cts.new mds.new }
+    ensures value { result ≡ option_map deed_of (operation_at number pending.old) }
+    ensures rest { pending.new ≡ without_number number pending.old }
+    ensures none { IfNone result (pending.new ≡ pending.old) }
+{
+    // Brings to the proof that no two have one number.
+    let _many = pending.len();
+    let ct = match pending.get(number) {
+        Some((_, ct, _)) => ct,
+        None => return None,
+    };
+    let armed = match pending.take(number) {
+        Some(armed) => armed,
+        None => unreachable!(),
+    };
+    cts.lower(ct.slot);
+    cts.remove(deed_counter(&armed.deed));
+    mds.remove(get_md(&armed.deed));
+    mds.remove(put_md(&armed.deed));
+    Some(armed)
+}
+
+/// Takes the operations out that wait on a counting event.
+fn drop_on(pending: &mut Pending<Armed>, cts: &mut Users, mds: &mut Users, ct: Handle)
+    requires { AreUsed pending.old cts.old mds.old }
+    ensures used { AreUsed pending.new cts.new mds.new }
+    ensures rest { pending.new ≡ cancelled ct pending.old }
+{
+    // Brings to the proof that no two have one number.
+    let _many = pending.len();
+    while let Some(number) = pending.first_on(ct) {
+        let _ = take_out(pending, cts, mds, number);
+    }
+}
+
+/// Whether the deed names the descriptor.
+fn deed_names_md(deed: &Deed, md: Handle) -> bool
+    ensures { result ≡ deed_uses md deed.now }
+{
+    match deed {
+        Deed::Put(args) => args.md.is(md),
+        Deed::Get(args) => args.md.is(md),
+        Deed::Atomic(args, _, _) => args.md.is(md),
+        Deed::FetchAtomic(back, args, _, _) => back.md.is(md) || args.md.is(md),
+        Deed::Swap(back, args, _, _, _) => back.md.is(md) || args.md.is(md),
+        _ => false,
+    }
+}
+
+/// Whether a pending operation names the descriptor.
+fn some_names_md(pending: &Pending<Armed>, md: Handle) -> bool
+    ensures { result ≡ operation_names_md md (posted_all deed_in pending.now).waiting }
+{
+    let mut from = 0;
+    while let Some((number, armed, _, _)) = pending.next(from) {
+        if deed_names_md(&armed.deed, md) {
+            return true;
+        }
+        from = number + 1;
+    }
+    false
+}
+
+/// Whether the deed counts on the counting event.
+fn deed_names_ct(deed: &Deed, ct: Handle) -> bool
+    ensures { result ≡ deed_counts_on ct deed.now }
+{
+    match deed {
+        Deed::Inc(handle, _) => handle.is(ct),
+        Deed::Set(handle, _) => handle.is(ct),
+        _ => false,
+    }
+}
+
+/// Whether an operation waits on the counting event, or counts on it.
+fn counts_on(deed: &Deed, waits_on: Handle, ct: Handle) -> bool
+    ensures { result ≡ (same_handle waits_on ct || deed_counts_on ct deed.now) }
+{
+    waits_on.is(ct) || deed_names_ct(deed, ct)
+}
+
+/// Whether a pending operation waits or counts on the counting event.
+fn some_names_ct(pending: &Pending<Armed>, ct: Handle) -> bool
+    ensures { result ≡ operation_names_ct ct (posted_all deed_in pending.now).waiting }
+{
+    let mut from = 0;
+    while let Some((number, armed, waits_on, _)) = pending.next(from) {
+        if counts_on(&armed.deed, waits_on, ct) {
+            return true;
+        }
+        from = number + 1;
+    }
+    false
+}
+
+impl Triggers {
+    /// None, with the room of these limits for what they name.
+    pub fn open(alloc: Global, limits: &Limits) -> Result<Triggers, NoMemory>
+        ensures makes { IfOk result (λ t. t ≡ no_operations limits.now.triggered) }
+    {
+        let pending = Pending::open(alloc, limits.triggered)?;
+        let cts = Users::open(alloc, limits.cts)?;
+        let mds = Users::open(alloc, limits.mds)?;
+        Ok(Triggers { pending, cts, mds })
+    }
+
+    /// Those that wait.
+    pub fn waiting(&self) -> &Pending<Armed>
+        ensures told { result.now ≡ self.now }
+    {
+        &self.pending
+    }
+
+    /// Tells those that wait on a counting event how far it is.
+    pub fn reached(&mut self, ct: Handle, sum: u64)
+        ensures does { self.new ≡ told ct sum self.old }
+    {
+        self.pending.reached(ct, sum);
+    }
+
+    /// Posts an operation and answers its number; the sum of its counting event is told.
+    pub fn post(
+        &mut self,
+        armed: Armed,
+        ct: Handle,
+        threshold: u64,
+        sum: u64,
+    ) -> Result<u32, NoMemory>
+        requires room { length self.old.waiting < self.old.limit }
+        requires numbers { self.old.given < 2 ^ 32 - 1 }
+        ensures number { IfOk result (λ t. t ≡ self.old.given) }
+        ensures fresh { IfOk result (λ t. operation_at t self.old ≡ None) }
+        ensures ok { OnOk result (self.new ≡ with_posted armed ct threshold sum (told ct sum self.old)) }
+        ensures err { OnErr result (self.new ≡ told ct sum self.old) }
+    {
+        // Brings the bound of how many wait to the proof.
+        let _many = self.pending.len();
+        let counter = deed_counter(&armed.deed);
+        let get = get_md(&armed.deed);
+        let put = put_md(&armed.deed);
+        let number = self.pending.post(armed, ct, threshold, sum)?;
+        self.cts.raise(ct.slot);
+        self.cts.add(counter);
+        self.mds.add(get);
+        self.mds.add(put);
+        Ok(number)
+    }
+
+    /// Takes the deed of the operation of this number out; `None` exactly where it doesn't wait, and then nothing changes.
+    pub fn take(&mut self, number: u32) -> Option<Armed>
+        ensures value { result ≡ option_map deed_of (operation_at number self.old) }
+        ensures rest { self.new ≡ without_number number self.old }
+        ensures none { IfNone result (self.new ≡ self.old) }
+    {
+        take_out(&mut self.pending, &mut self.cts, &mut self.mds, number)
+    }
+
+    /// Removes the operations that wait on a counting event, and answers how many they were.
+    pub fn cancel(&mut self, ct: Handle) -> u32
+        ensures number { result ≡ length (waiting_on ct self.old) }
+        ensures rest { self.new ≡ cancelled ct self.old }
+    {
+        let before = self.pending.len();
+        drop_on(&mut self.pending, &mut self.cts, &mut self.mds, ct);
+        before - self.pending.len()
+    }
+
+    /// Whether an operation waits or counts on the counting event, by the count of its slot; a slot past the row's end is
+    /// looked up operation by operation. Condition: none names another counting event of this slot.
+    pub fn names_ct(&self, ct: Handle) -> bool
+        requires alone { All (CtsAlone ct) self.now.waiting }
+        ensures told { result ≡ operation_names_ct ct (posted_all deed_in self.now).waiting }
+    {
+        match self.cts.at(ct.slot) {
+            Some(uses) => uses > 0,
+            None => some_names_ct(&self.pending, ct),
+        }
+    }
+
+    /// Whether an operation names the descriptor, likewise. Condition: none names another descriptor of this slot.
+    pub fn names_md(&self, md: Handle) -> bool
+        requires alone { All (MdsAlone md) self.now.waiting }
+        ensures told { result ≡ operation_names_md md (posted_all deed_in self.now).waiting }
+    {
+        match self.mds.at(md.slot) {
+            Some(uses) => uses > 0,
+            None => some_names_md(&self.pending, md),
+        }
+    }
+}
