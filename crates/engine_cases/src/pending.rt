@@ -19,6 +19,7 @@ fn none_pends_at_first(rt: HostRuntime) -> Result<(), Fail> {
     assert!(rt; pending.at(0).is_none());
     assert!(rt; pending.next(0).is_none());
     assert_eq!(rt; pending.take(0), None);
+    assert_eq!(rt; pending.first_on(GO), None);
     assert_eq!(rt; pending.cancel(GO), 0);
     Ok(())
 }
@@ -29,6 +30,7 @@ fn an_operation_is_ready_while_its_sum_is_at_its_threshold(rt: HostRuntime) -> R
     assert_eq!(rt; pending.post(7u8, GO, 2, 0), Ok(0));
     assert_eq!(rt; pending.post(8, AGAIN, 2, 0), Ok(1));
     assert!(rt; pending.is_full());
+    assert_eq!(rt; pending.first_on(AGAIN), Some(1));
     pending.reached(GO, 3);
     assert_eq!(rt; pending.ready(), Some(0));
     assert!(rt; pending.is_ready(0));
