@@ -18,14 +18,14 @@ const CHOICES: &str = "coll 2\nranks 2\nelect e\ntickets t\nprint e\nprint t\nen
 
 const CHOICES_RESULT: &str = "e 0 0\ne 1 0\nt 0 0\nt 1 1\nrest\n";
 
-/// A command of these words on a text, which writes this result, and orders too or not. The sink takes its room before the run, so
+/// A command of these words on a text, which writes this output, and orders too or not. The sink takes its room before the run, so
 /// that it can't lack any in it.
 fn runs_or_lacks_memory(
     rt: &(impl Abort + Threads + Wait + Sync),
     alloc: Global,
     command: &[&str],
     text: &str,
-    result: &str,
+    output: &str,
     orders: bool,
 ) -> Result<(), Fail> {
     let mut sink = MemorySink::with_room(alloc, IoTurns::new(alloc), 1024)?;
@@ -47,9 +47,9 @@ fn runs_or_lacks_memory(
     if answer == Status::NoMemory {
         assert!(rt; sink.as_slice().is_empty());
     } else if orders {
-        assert!(rt; sink.as_slice().starts_with(result.as_bytes()));
+        assert!(rt; sink.as_slice().starts_with(output.as_bytes()));
     } else {
-        assert_eq!(rt; sink.as_slice(), result.as_bytes());
+        assert_eq!(rt; sink.as_slice(), output.as_bytes());
     }
     Ok(())
 }
