@@ -1,7 +1,7 @@
 //! Where a rank's ends are likely to stand, and where messages are likely to lie. These are guesses: each is looked at before it is
 //! used, and a wrong one costs time alone.
 
-use crate::mail::{Mail, WORD, lane_number, words};
+use crate::mail::{Mail, WORD, is_of_answers, lane_number, words};
 use ptl_types::{Lane, NoMemory, Rank};
 use std::alloc::Global;
 
@@ -100,7 +100,7 @@ impl Hints {
     /// Nothing may be taken of the lane of this number now. Where it is one of answers none is awaited, so none is on its way, and it
     /// isn't looked at before there is mail for it; else a rank at rest would be looked at for ever.
     pub(crate) fn note_held_back(&mut self, number: usize) {
-        if number % 2 == 1 {
+        if is_of_answers(number) {
             self.note_look(number, false);
         }
     }

@@ -22,6 +22,11 @@ pub(crate) fn lane_number(rank: Rank, lane: Lane) -> usize {
     }
 }
 
+/// Whether the lane of this number is one of answers.
+pub(crate) fn is_of_answers(number: usize) -> bool {
+    number % 2 == 1
+}
+
 /// How many words the lanes to a rank need.
 pub(crate) fn words(ranks: u32) -> usize
     ensures { result < 2 ^ 32 }
