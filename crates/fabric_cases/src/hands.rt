@@ -4,7 +4,7 @@ ghost use Rattle.std.specs.Prelude.{◌≡◌, ◌+◌, ◌<◌, ◌^◌, All, I
 ghost use Rattle.turn_table.specs.Hands.{IsFree, parts_of};
 
 use ptl_types::NoMemory;
-use rank_threads::{Fabric, Gate, Hand, run_workers};
+use rank_threads::{Fabric, Gate, Hand};
 use schedule_compiler::Job;
 use std::alloc::Global;
 use std::sync::Wait;
@@ -12,7 +12,8 @@ use std::thread::Threads;
 use worlds::World;
 
 /// A fabric of a job, and its hands.
-pub(crate) fn opened<G: Gate + Drop>(
+pub(crate) fn opened<R: Threads + Sync, G: Gate + Drop>(
+    rt: &R,
     alloc: Global,
     job: &Job,
     count: u32,
@@ -25,23 +26,7 @@ pub(crate) fn opened<G: Gate + Drop>(
     ensures hands { IfOk result (λ r. All (λ h. IsFree r.0.turns h) r.1.items) }
     ensures parts { IfOk result (λ r. parts_of r.1.items ≡ 2 ^ 32) }
 {
-    Fabric::open(alloc, job, count, gate)
-}
-
-/// Lets a worker for each hand run, and closes the fabric.
-pub(crate) fn run_and_close<R: Threads + Wait + Sync, G: Gate + Drop>(
-    rt: &R,
-    fabric: Fabric<G>,
-    hands: Vec<Hand>,
-) -> World
-    requires hands { All (λ h. IsFree fabric.turns h) hands.items }
-    requires all { parts_of hands.items ≡ 2 ^ 32 }
-    requires some { 0 < length hands.items }
-    requires few { length hands.items < 2 ^ 32 }
-{
-    let mut hands = hands;
-    run_workers(rt, &fabric, &mut hands);
-    fabric.close(rt, hands)
+    Fabric::open(rt, alloc, job, count, gate)
 }
 
 /// The two hands of a fabric.

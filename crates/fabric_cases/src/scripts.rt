@@ -63,7 +63,7 @@ fn two_hands_take_turns(rt: HostRuntime) -> Result<(), Fail> {
     let alloc = rt.alloc();
     let job = job_of(&rt, alloc, TWO_RANKS);
     assert!(rt; is_pair(&job));
-    let (fabric, hands) = opened(alloc, &job, 2, OpenGate)?;
+    let (fabric, hands) = opened(&rt, alloc, &job, 2, OpenGate)?;
     let (mut one, mut two) = two_hands(&fabric, hands);
     let answers = script(&rt, &fabric, &mut one, &mut two);
     assert_eq!(rt;

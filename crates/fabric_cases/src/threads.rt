@@ -4,9 +4,9 @@ ghost use Rattle.std.specs.Prelude.{◌≡◌, ◌<◌};
 ghost use Rattle.turn_table.specs.Hands.{IsFree};
 
 use crate::gates::{Counting, Meeting};
-use crate::hands::{close_with, opened, run_and_close, two_hands};
+use crate::hands::{close_with, opened, two_hands};
 use crate::jobs::{FOUR_RANKS, TWO_RANKS, is_pair, job_of};
-use rank_threads::{Fabric, Gate, Hand};
+use rank_threads::{Fabric, Gate, Hand, run_and_close};
 use std::sync::Wait;
 use std::test::*;
 use std::thread;
@@ -27,7 +27,7 @@ fn one_worker_makes_every_step(rt: HostRuntime) -> Result<(), Fail> {
     let alloc = rt.alloc();
     let job = job_of(&rt, alloc, FOUR_RANKS);
     let gate = Counting::new();
-    let (fabric, hands) = opened(alloc, &job, 1, &gate)?;
+    let (fabric, hands) = opened(&rt, alloc, &job, 1, &gate)?;
     let world = run_and_close(&rt, fabric, hands);
     assert!(rt; world.at_rest());
     assert_eq!(rt; gate.passes(), steps(&world));
@@ -39,7 +39,7 @@ fn four_workers_and_then_one(rt: HostRuntime) -> Result<(), Fail> {
     let alloc = rt.alloc();
     let job = job_of(&rt, alloc, FOUR_RANKS);
     let gate = Counting::new();
-    let (fabric, hands) = opened(alloc, &job, 4, &gate)?;
+    let (fabric, hands) = opened(&rt, alloc, &job, 4, &gate)?;
     let mut world = run_and_close(&rt, fabric, hands);
     assert_eq!(rt; gate.passes(), steps(&world));
     world.run_to_rest();
@@ -90,7 +90,7 @@ fn two_interfaces_at_once(rt: HostRuntime) -> Result<(), Fail> {
     let job = job_of(&rt, alloc, TWO_RANKS);
     assert!(rt; is_pair(&job));
     let gate = Meeting::new();
-    let (fabric, hands) = opened(alloc, &job, 2, &gate)?;
+    let (fabric, hands) = opened(&rt, alloc, &job, 2, &gate)?;
     let (one, two) = two_hands(&fabric, hands);
     let (one, two) = start_both(&rt, &fabric, one, two);
     let world = close_with(&rt, alloc, fabric, one, two)?;

@@ -85,7 +85,7 @@ pub fn as_fabric<R: Threads + Wait + Sync + Clock>(
     requires { 0 < workers }
 {
     let start = Instant::now(rt)?;
-    let Ok((fabric, hands)) = Fabric::open(alloc, job, workers, OpenGate) else {
+    let Ok((fabric, hands)) = Fabric::open(rt, alloc, job, workers, OpenGate) else {
         return Err(io::Error::from(std::alloc::AllocError));
     };
     let open = start.elapsed(rt)?.as_micros();

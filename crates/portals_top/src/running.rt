@@ -1,7 +1,6 @@
 //! Running a job, and writing what the world then holds.
 
-ghost use Rattle.std.specs.Prelude.{◌≡◌, ◌<◌, ◌^◌, All, IfOk, Some, length};
-ghost use Rattle.turn_table.specs.Hands.{IsFree, parts_of};
+ghost use Rattle.std.specs.Prelude.{◌≡◌, ◌<◌, IfOk, Some};
 ghost use Rattle.portals_top.specs.Answered.{HandsBack, LeavesRun, LeavesWorld};
 ghost use Rattle.portals_top.specs.Due.{done, mode_text};
 ghost use Rattle.portals_top.specs.Left.{nothing_ran};
@@ -16,7 +15,7 @@ use crate::words::{Command, Mode};
 use crate::writing::{Rested, status_of, write_run};
 use port_io::Sink;
 use ptl_types::NoMemory;
-use rank_threads::{Fabric, Gate, Hand, run_workers};
+use rank_threads::{Fabric, Gate, run_and_close};
 use run_text::Pieces;
 use schedule_compiler::Job;
 use std::alloc::Global;
@@ -54,25 +53,6 @@ fn run_chosen(alloc: Global, job: &Job, seed: u64) -> Result<World, NoMemory>
     Ok(world)
 }
 
-/// Lets a worker for each hand make steps, and closes the fabric.
-fn close_worked<R: Threads + Wait + Sync, G: Gate + Drop>(
-    rt: &R,
-    fabric: Fabric<G>,
-    hands: Vec<Hand>,
-) -> World
-    requires hands { All (λ h. IsFree fabric.turns h) hands.items }
-    requires all { parts_of hands.items ≡ 2 ^ 32 }
-    requires some { 0 < length hands.items }
-    requires few { length hands.items < 2 ^ 32 }
-    ensures shape { result.shape ≡ fabric.job.shape }
-    ensures inputs { result.inputs ≡ fabric.job.inputs }
-    ensures own { result.spare ≡ 0 }
-{
-    let mut hands = hands;
-    run_workers(rt, &fabric, &mut hands);
-    fabric.close(rt, hands)
-}
-
 /// Runs a job by workers on threads; what they leave is made at the end. Where no thread can be started, the call does a worker's
 /// part itself.
 pub(crate) fn run_by_workers<R: Threads + Wait + Sync, G: Gate>(
@@ -85,8 +65,8 @@ pub(crate) fn run_by_workers<R: Threads + Wait + Sync, G: Gate>(
     requires { 0 < workers }
     ensures { IfOk result (λ w. IsRun job.now.shape job.now.inputs w) }
 {
-    let (fabric, hands) = Fabric::open(alloc, job, workers, gate)?;
-    Ok(finished(close_worked(rt, fabric, hands)))
+    let (fabric, hands) = Fabric::open(rt, alloc, job, workers, gate)?;
+    Ok(finished(run_and_close(rt, fabric, hands)))
 }
 
 /// Runs a job in this mode.

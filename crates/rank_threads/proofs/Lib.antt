@@ -14,6 +14,7 @@ pub mod Turns
 pub mod Onwards
 pub mod Parts
 pub mod Slotwise
+pub mod Places
 pub mod UsedLanes
 pub mod Lifts
 pub mod Closing

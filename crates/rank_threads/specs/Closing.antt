@@ -1,16 +1,16 @@
 -- What is left of a fabric: on each lane what was sent is what was received, and then what its wire held.
-use Rattle.std.specs.Prelude.{ℕ, ◌≡◌, ◌<◌, ◌≤◌, ◌++◌, List, length}
+use Rattle.std.specs.Prelude.{ℕ, ◌≡◌, ◌<◌, ◌≤◌, ◌^◌, ◌++◌, All, List, length}
 use mathlib.Core.Option.{some}
 use lib.ListN.{get_elem?}
 use Rattle.pair_wires.specs.declared.bounds.Bounds.{Bounds}
 use Rattle.pair_wires.specs.Lanes.{Plain}
 use Rattle.plan_cuts.specs.History.{Local, got}
 use Rattle.shape_plans.specs.Drawing.{plan_of}
-use Rattle.turn_table.specs.Hands.{Left}
+use Rattle.turn_table.specs.Hands.{Left, parts_of}
 use Rattle.turn_table.specs.States.{HandState}
 use Rattle.worlds.specs.World.{WorldState, histories_in}
 use Rattle.rank_threads.specs.declared.slot.Slot.{Slot}
-use Rattle.rank_threads.specs.Fabrics.{FabricState}
+use Rattle.rank_threads.specs.Fabrics.{FabricState, HasSwept}
 use Rattle.rank_threads.specs.Names.{history, plate}
 use Rattle.rank_threads.specs.Slots.{HasSent}
 
@@ -41,3 +41,10 @@ pub record IsWorldOf (f : FabricState) (hands : List (HandState Slot)) (w : Worl
   pub strays : w.strays ≡ 0
   pub spare : w.spare ≡ 0
   pub ranks : (r : ℕ) → r < f.job.shape.ranks → IsLeft f.turns.start hands r (histories_in w r)
+
+-- such a world, where hands that are together all of the fabric's swept all ranks
+pub record IsWorked (f : FabricState) (w : WorldState) : Type 0 where
+  pub hands : List (HandState Slot)
+  pub swept : All (λ h. HasSwept f h) hands
+  pub all : parts_of hands ≡ 2 ^ 32
+  pub world : IsWorldOf f hands w

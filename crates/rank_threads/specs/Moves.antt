@@ -35,6 +35,12 @@ pub record IsFresh (job : JobOf) (r : ℕ) (x : Slot) : Type 0 where
   pub history_is : history x ≡ []
   pub closed : x.node.value.closed ≡ replicate job.shape.ranks false
 
+-- such a slot with no ends
+pub record IsBare (job : JobOf) (r : ℕ) (x : Slot) : Type 0 where
+  pub fresh : IsFresh job r x
+  pub outs : x.outs.items ≡ []
+  pub ins : x.ins.items ≡ []
+
 abbrev pub AllFresh : JobOf → List Slot → Type 0
 AllFresh job slots = (r : ℕ) (x : Slot) → get_elem? slots r ≡ some x → IsFresh job r x
 

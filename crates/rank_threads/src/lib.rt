@@ -22,4 +22,4 @@ mod workers;
 pub use fabric::{Fabric, Hand};
 pub use gate::{Gate, OpenGate, StartAnswer};
 pub use slot::Slot;
-pub use workers::run_workers;
+pub use workers::{run_and_close, run_workers};

@@ -1,12 +1,13 @@
 //! How a fabric is opened.
 
-ghost use Rattle.std.specs.Prelude.{◌≡◌, ◌<◌, ◌++◌, ◌∷◌, ◌^◌, [], ℕ, All, List, IfOk, length};
+ghost use Rattle.std.specs.Prelude.{◌≡◌, ◌<◌, ◌++◌, ◌∷◌, ◌^◌, [], ℕ, All, List, Option, Some, IfOk, IfSome, length, map, slice_index_or};
 ghost use Rattle.pair_wires.specs.declared.bounds.Bounds.{Bounds};
 ghost use Rattle.pair_wires.specs.Wires.{WireState};
 ghost use Rattle.shape_plans.specs.Drawing.{plan_of};
 ghost use Rattle.turn_table.specs.Hands.{IsNew, parts_of};
+ghost use Rattle.rank_threads.specs.declared.slot.Slot.{Slot};
 ghost use Rattle.rank_threads.specs.Lanes.{AreLanes, IsLane};
-ghost use Rattle.rank_threads.specs.Moves.{AllFresh, AllLaid, AreWires, AreWithout, IsFresh};
+ghost use Rattle.rank_threads.specs.Moves.{AllFresh, AllLaid, AreWires, AreWithout, IsBare};
 ghost use Rattle.rank_threads.specs.Sound.{IsSound};
 
 use crate::fabric::{Fabric, Hand};
@@ -22,6 +23,8 @@ use ptl_types::{NoMemory, Rank};
 use rank_tasks::install;
 use schedule_compiler::Job;
 use std::alloc::Global;
+use std::thread;
+use std::thread::Threads;
 use turn_table::Turns;
 use worlds::Frame;
 
@@ -31,8 +34,7 @@ const WIRE_ROOM: u32 = 3;
 // A rank with no wires.
 fn bare_slot(alloc: Global, job: &Job, rank: Rank) -> Result<Slot, NoMemory>
     requires { rank < job.now.shape.ranks }
-    ensures fresh { IfOk result (λ x. IsFresh job.now rank x) }
-    ensures bare { IfOk result (λ x. (x.outs.items ≡ []) × (x.ins.items ≡ [])) }
+    ensures { IfOk result (λ x. IsBare job.now rank x) }
 {
     let shared = job.share()?;
     let node = Box::new(alloc, install(alloc, job, rank, 0)?)?;
@@ -46,18 +48,64 @@ fn bare_slot(alloc: Global, job: &Job, rank: Rank) -> Result<Slot, NoMemory>
     })
 }
 
-// All ranks, with no wires.
-fn bare_slots(alloc: Global, job: &Job) -> Result<Vec<Slot>, NoMemory>
+// Puts each rank, with no wires, at its place, by as many threads. Where there is no memory for one its place may stay empty.
+fn fill_places<R: Threads + Sync>(
+    rt: &R,
+    alloc: Global,
+    job: &Job,
+    places: &mut [Option<Slot>],
+    threads: u32,
+)
+    requires threads { 0 < threads }
+    requires count { length places.old ≡ job.now.shape.ranks }
+    requires few { length places.old < 2 ^ 32 }
+    ensures count { length places.new ≡ length places.old }
+    ensures made { (r : ℕ) (d : Option Slot) → r < job.now.shape.ranks → IfSome (slice_index_or places.new r d) (λ x. IsBare job.now r x) }
+{
+    thread::for_each_mut(
+        rt,
+        places,
+        threads as usize,
+        &|i: usize, place: &mut Option<Slot>|
+            requires { (i < job.now.shape.ranks) × (i < 2 ^ 32) }
+            ensures { IfSome place.exit.now (λ x. IsBare job.entry.now i x) }
+        {
+            *place = bare_slot(alloc, job, i as Rank).ok();
+        },
+    );
+}
+
+// What lies at the places, which must all be full.
+fn take_all(alloc: Global, places: Vec<Option<Slot>>) -> Result<Vec<Slot>, NoMemory>
+    ensures { IfOk result (λ v. places.items ≡ map Some v.items) }
+{
+    let mut slots = Vec::with_capacity(alloc, places.len())?;
+    for place in places {
+        let Some(slot) = place else {
+            return Err(NoMemory);
+        };
+        slots.push(slot)?;
+    }
+    Ok(slots)
+}
+
+// All ranks, with no wires. As many threads make them.
+fn bare_slots<R: Threads + Sync>(
+    rt: &R,
+    alloc: Global,
+    job: &Job,
+    threads: u32,
+) -> Result<Vec<Slot>, NoMemory>
+    requires { 0 < threads }
     ensures count { IfOk result (λ v. length v.items ≡ job.now.shape.ranks) }
     ensures fresh { IfOk result (λ v. AllFresh job.now v.items) }
     ensures bare { IfOk result (λ v. AllLaid [] v.items) }
 {
     let ranks = job.schedule().shape().ranks();
-    let mut slots = Vec::with_capacity(alloc, ranks as usize)?;
-    for rank in 0..ranks {
-        slots.push(bare_slot(alloc, job, rank)?)?;
-    }
-    Ok(slots)
+    let mut places = Vec::new(alloc);
+    places.resize_with(ranks as usize, || None)?;
+    fill_places(rt, alloc, job, &mut places, threads);
+    take_all(alloc, places)
 }
 
 // One wire more, with its ends in the slots of its ranks.
@@ -124,12 +172,14 @@ fn lay_wires(
 
 impl<G: Gate + Drop> Fabric<G> {
     /// A fabric of a job, in which nothing was done, with this many hands. All the memory that it needs is taken here, and that of the
-    /// world that it ends as. The gate is passed at each step.
+    /// world that it ends as. The gate is passed at each step. The ranks are installed by as many threads as there are hands, which
+    /// changes nothing of the fabric; where no thread can be started, the call does its part itself.
     ///
     /// # Errors
     ///
     /// There was no memory for it. The job is as it was.
-    pub fn open(
+    pub fn open<R: Threads + Sync>(
+        rt: &R,
         alloc: Global,
         job: &Job,
         hands: u32,
@@ -145,7 +195,7 @@ impl<G: Gate + Drop> Fabric<G> {
         let shared = job.share()?;
         let frame = Frame::open(alloc, job)?;
         let lanes = used_lanes(alloc, job.schedule())?;
-        let mut slots = bare_slots(alloc, job)?;
+        let mut slots = bare_slots(rt, alloc, job, hands)?;
         let wires = lay_wires(alloc, job, &lanes, &mut slots)?;
         let room = Vec::with_capacity(alloc, ranks as usize)?;
         let (turns, hands) = Turns::open(alloc, slots, hands)?;

@@ -1,7 +1,12 @@
 //! Workers that sweep all ranks until a sweep makes no step.
 
 ghost use Rattle.std.specs.Prelude.{◌≡◌, ◌≢◌, ◌<◌, ◌≤◌, ◌⊎◌, ◌^◌, ℕ, length, All};
+ghost use Rattle.plan_view.specs.Slots.{Slots};
+ghost use Rattle.job_laws.specs.Barriers.{AreBarriersKept};
 ghost use Rattle.turn_table.specs.Hands.{IsFree, parts_of};
+ghost use Rattle.worlds.specs.Standing.{IsStanding};
+ghost use Rattle.worlds.specs.World.{AreSlots, histories_in};
+ghost use Rattle.rank_threads.specs.Closing.{IsWorked};
 ghost use Rattle.rank_threads.specs.Fabrics.{HasSwept};
 ghost use Rattle.rank_threads.specs.Turns.{FoundIdle};
 
@@ -12,6 +17,7 @@ use std::sync::Wait;
 use std::thread;
 use std::thread::Threads;
 use turn_table::Turn;
+use worlds::World;
 
 impl<G: Gate + Drop> Fabric<G> {
     // Makes steps of a rank until there is none, and answers whether there was one.
@@ -216,4 +222,25 @@ pub fn run_workers<G: Gate + Drop, R: Threads + Wait + Sync>(
             fabric.run(rt, hand, first, end)
         },
     );
+}
+
+/// Lets one worker for each hand make steps until a sweep over all ranks makes none, and closes the fabric: the world is of the same
+/// job, and what the hands saw and made at each rank is what its history tells.
+pub fn run_and_close<G: Gate + Drop, R: Threads + Wait + Sync>(
+    rt: &R,
+    fabric: Fabric<G>,
+    hands: Vec<Hand>,
+) -> World
+    requires hands { All (λ h. IsFree fabric.turns h) hands.items }
+    requires all { parts_of hands.items ≡ 2 ^ 32 }
+    requires some { 0 < length hands.items }
+    requires few { length hands.items < 2 ^ 32 }
+    ensures world { IsWorked fabric result }
+    ensures kept { IsStanding result }
+    ensures barriers { (slots : ℕ → Slots) → AreSlots result slots →
+        AreBarriersKept result.shape result.inputs slots (histories_in result) }
+{
+    let mut hands = hands;
+    run_workers(rt, &fabric, &mut hands);
+    fabric.close(rt, hands)
 }

@@ -1,15 +1,29 @@
-use Rattle.std.proofs.Common.{◌∷◌, [], List, length, ap, arith, length-append, sym, subst}
+use Rattle.std.proofs.Common.{◌≡◌, ◌++◌, ◌∙◌, List, Option, ap, arith, drop, length, sym, take}
+use Rattle.coll_shape.specs.Outline.{Outline}
 use Rattle.rank_threads.specs.declared.slot.Slot.{Slot}
-use Rattle.rank_threads.specs.Moves.{AllFresh, AllLaid, IsFresh, SlotLaid}
-use Rattle.rank_threads.proofs.Slotwise.{bare-laid, slots-more}
+use Rattle.rank_threads.proofs.Places.{all-bare, all-fresh}
+use Rattle.rank_threads.proofs.Slotwise.{on_ok}
+use Rattle.rank_threads.proofs.Snocs.{written}
 use Rattle.rank_threads.proofs.open.bare_slots.Goals as goal
 
-pub loop-rank-preserved : goal.loop-rank-preserved
-loop-rank-preserved c =
-    let i = c.loop-rank.invariant in let x = c.in_ok-bare_slot.field-0 in let e = c.in_ok-bare_slot.ensures in let p = c.in_ok-push.ensures.items in
-    let old = c.loop-rank.slots.items in record {
-      count = (let n = ap (λ (l : List Slot). length l) p in let m = length-append old (x ∷ []) in let k = i.count in omega (arith, n, m, k));
-      fresh = subst (AllFresh c.args.job.now) (sym p)
-          (slots-more (λ r y. IsFresh c.args.job.now r y) old x i.fresh (subst (λ r. IsFresh c.args.job.now r x) (sym i.count) e.fresh));
-      bare = subst (AllLaid []) (sym p) (slots-more (λ r y. SlotLaid [] r y) old x i.bare (bare-laid (length old) x e.bare.0 e.bare.1));
-    }
+pub returns-clause-fresh : goal.returns-clause-fresh
+returns-clause-fresh g c =
+    let job = c.args.job.now in let new = c.fill_places.new.places in
+    let same = c.fill_places.ensures.count in let old = c.deref_mut.ensures.len in let long = c.in_ok-resize_with.ensures.len in
+    let ranks : c.ranks-ranks.result ≡ job.shape.ranks =
+    c.ranks-ranks.ensures.told ∙ ap (λ (o : Outline). o.ranks) (c.shape.ensures.told ∙ c.schedule.ensures) in
+    let count : length new ≡ job.shape.ranks = omega (arith, same, old, long, ranks) in
+    let whole : take c.resize_with.new.self.len (new ++ drop (length new) c.resize_with.new.self.items) ≡ new =
+    written c.resize_with.new.self.len new _ (sym (same ∙ old)) in
+    on_ok c.take_all.result (λ v is. all-fresh job new v.items count c.fill_places.ensures.made (sym whole ∙ is)) c.take_all.ensures
+
+pub returns-clause-bare : goal.returns-clause-bare
+returns-clause-bare g c =
+    let job = c.args.job.now in let new = c.fill_places.new.places in
+    let same = c.fill_places.ensures.count in let old = c.deref_mut.ensures.len in let long = c.in_ok-resize_with.ensures.len in
+    let ranks : c.ranks-ranks.result ≡ job.shape.ranks =
+    c.ranks-ranks.ensures.told ∙ ap (λ (o : Outline). o.ranks) (c.shape.ensures.told ∙ c.schedule.ensures) in
+    let count : length new ≡ job.shape.ranks = omega (arith, same, old, long, ranks) in
+    let whole : take c.resize_with.new.self.len (new ++ drop (length new) c.resize_with.new.self.items) ≡ new =
+    written c.resize_with.new.self.len new _ (sym (same ∙ old)) in
+    on_ok c.take_all.result (λ v is. all-bare job new v.items count c.fill_places.ensures.made (sym whole ∙ is)) c.take_all.ensures
