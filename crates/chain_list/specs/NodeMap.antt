@@ -1,6 +1,6 @@
 -- Nodes as a contract sees them: a map from live places to nodes.
-use Rattle.std.specs.Prelude.{◌≡◌, ℕ, ◌+◌, ◌^◌, ◌<◌, ◌≤◌, List, [], ◌++◌, length, replicate, get_or, slice_set, Option, Some, None,
-    is_some, IsSome, vec_capacity, refl}
+use Rattle.std.specs.Prelude.{◌≡◌, ℕ, ◌+◌, ◌^◌, ◌<◌, ◌≤◌, List, [], ◌++◌, length, replicate, get_or, slice_set, Option, Some, None}
+use Rattle.std.specs.Prelude.{is_some, IsSome, vec_capacity, refl}
 use Rattle.std.specs.List.{count_by}
 use Rattle.std.specs.Coded.{Coded, code_by, coded×, coded_list, coded_option, coded_ℕ}
 use Rattle.std.specs.declared.alloc.Global.{Global}

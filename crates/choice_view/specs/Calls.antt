@@ -11,8 +11,8 @@ use Rattle.plan_view.specs.Calls.{with_entry}
 use Rattle.coll_lang.specs.declared.choices.ChoiceKind.{ChoiceKind}
 use Rattle.choice_machine.specs.Choices.{choice_at}
 use Rattle.choice_machine.specs.Machine.{first_word, opened as nothing_done}
-use Rattle.choice_view.specs.Install.{Counter, Part, Seat, Slots, Work, counters_of, ct_of, deed_of, descriptor_of, four_words,
-    given_word, limits_of, parts_of, seat_of, steps, word_entry, work_counter, works}
+use Rattle.choice_view.specs.Install.{Counter, Part, Seat, Slots, Work, counters_of, ct_of, deed_of, descriptor_of, four_words}
+use Rattle.choice_view.specs.Install.{given_word, limits_of, parts_of, seat_of, steps, word_entry, work_counter, works}
 use Rattle.choice_view.specs.Install.Counter.{Done, Go}
 
 -- ---- the calls

@@ -1,6 +1,6 @@
 -- An interface of a choice text in closed form: the state of a rank that is so far with each step.
-use Rattle.std.specs.Prelude.{ℕ, zero, suc, Bool, true, false, not, ◌==◌, ◌+◌, ◌*◌, List, Option, Some, None, [], ◌∷◌, ◌++◌,
-    if◌then◌else◌, length, map, filter, flat_map, count_by, min}
+use Rattle.std.specs.Prelude.{ℕ, zero, suc, Bool, true, false, not, ◌==◌, ◌+◌, ◌*◌, List, Option, Some, None, [], ◌∷◌, ◌++◌}
+use Rattle.std.specs.Prelude.{if◌then◌else◌, length, map, filter, flat_map, count_by, min}
 use Rattle.ptl_types.specs.declared.handles.Handle.{Handle}
 use Rattle.ptl_types.specs.declared.handles.Count.{Count}
 use Rattle.ptl_types.specs.declared.elements.AtomicOp.TheVariants.{Sum}
@@ -15,8 +15,8 @@ use Rattle.ptl_types.specs.declared.calls.Limits.{Limits}
 use Rattle.ptl_types.specs.declared.calls.PutArgs.{PutArgs}
 use Rattle.ptl_types.specs.declared.calls.GetArgs.{GetArgs}
 use Rattle.ptl_types.specs.declared.calls.Deed.{Deed}
-use Rattle.ptl_types.specs.declared.calls.Deed.TheVariants.{FetchAtomic as FetchAtomicDeed, Get as GetDeed, Inc as IncDeed, Swap as
-    SwapDeed}
+use Rattle.ptl_types.specs.declared.calls.Deed.TheVariants.{FetchAtomic as FetchAtomicDeed, Get as GetDeed, Inc as IncDeed}
+use Rattle.ptl_types.specs.declared.calls.Deed.TheVariants.{Swap as SwapDeed}
 use Rattle.ptl_types.specs.Handles.{top}
 use Rattle.ptl_types.specs.Elements.{little_endian}
 use Rattle.ptl_types.specs.Messages.{Sent, message}

@@ -1,6 +1,6 @@
 -- The language: which line may stand where, what it says, and which refusal comes first.
-use Rattle.std.specs.Prelude.{ℕ, zero, suc, ◌+◌, ◌-◌, List, [], ◌∷◌, ◌++◌, length, Option, Some, None, Result, Ok, Err, Bool, true,
-    false, ◌&&◌, ◌||◌, not, nat_lt, nat_le, is_some, option_map, if◌then◌else◌, codes, option_and_then}
+use Rattle.std.specs.Prelude.{ℕ, zero, suc, ◌+◌, ◌-◌, List, [], ◌∷◌, ◌++◌, length, Option, Some, None, Result, Ok, Err, Bool, true, false}
+use Rattle.std.specs.Prelude.{◌&&◌, ◌||◌, not, nat_lt, nat_le, is_some, option_map, if◌then◌else◌, codes, option_and_then}
 use Rattle.std.specs.List.{list_all, position, slice_get}
 use Rattle.std.specs.Str.{bytes_eq}
 use Rattle.ptl_types.specs.declared.elements.ElemType.{ElemType}
@@ -27,11 +27,12 @@ use Rattle.coll_lang.specs.declared.choices.ChoiceKind.TheVariants as kinds
 use Rattle.coll_lang.specs.declared.choices.ChoiceStep.{ChoiceStep}
 use Rattle.coll_lang.specs.declared.choices.ChoiceStep.TheVariants.{Elect, Tickets}
 use Rattle.coll_lang.specs.declared.stage.Stage.{Stage}
-use Rattle.coll_lang.specs.declared.stage.Stage.TheVariants.{Header, Ranks, Options, Groups, Inputs, Data, Steps, Choosing, Prints,
-    Finished}
+use Rattle.coll_lang.specs.declared.stage.Stage.TheVariants.{Header, Ranks, Options, Groups, Inputs, Data, Steps, Choosing, Prints}
+use Rattle.coll_lang.specs.declared.stage.Stage.TheVariants.{Finished}
 use Rattle.coll_lang.specs.declared.fault.Refusal.{Refusal}
-use Rattle.coll_lang.specs.declared.fault.Refusal.TheVariants.{TooLong, BadByte, BadHeader, BadRanks, BadLine, BadNumber, NameTaken,
-    UnknownBuffer, BadRoot, WrongShape, TooMany, TooLarge, Unended, AfterEnd, BadGroup}
+use Rattle.coll_lang.specs.declared.fault.Refusal.TheVariants.{TooLong, BadByte, BadHeader, BadRanks, BadLine, BadNumber, NameTaken}
+use Rattle.coll_lang.specs.declared.fault.Refusal.TheVariants.{UnknownBuffer, BadRoot, WrongShape, TooMany, TooLarge, Unended, AfterEnd}
+use Rattle.coll_lang.specs.declared.fault.Refusal.TheVariants.{BadGroup}
 
 -- What the earlier lines say.
 pub record Past : Type 0 where

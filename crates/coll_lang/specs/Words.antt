@@ -9,8 +9,9 @@ use Rattle.coll_shape.specs.declared.types.Version.TheVariants as versions
 use Rattle.coll_lang.specs.declared.choices.ChoiceKind.{ChoiceKind}
 use Rattle.coll_lang.specs.declared.choices.ChoiceKind.TheVariants as choices
 use Rattle.coll_lang.specs.declared.fault.Refusal.{Refusal}
-use Rattle.coll_lang.specs.declared.fault.Refusal.TheVariants.{TooLong, BadByte, BadHeader, BadRanks, BadLine, BadNumber, NameTaken,
-    UnknownBuffer, BadRoot, WrongShape, TooMany, TooLarge, Unended, AfterEnd, BadOrder, BadGroup, BadJson, BadForm, OneThread}
+use Rattle.coll_lang.specs.declared.fault.Refusal.TheVariants.{TooLong, BadByte, BadHeader, BadRanks, BadLine, BadNumber, NameTaken}
+use Rattle.coll_lang.specs.declared.fault.Refusal.TheVariants.{UnknownBuffer, BadRoot, WrongShape, TooMany, TooLarge, Unended, AfterEnd}
+use Rattle.coll_lang.specs.declared.fault.Refusal.TheVariants.{BadOrder, BadGroup, BadJson, BadForm, OneThread}
 
 abbrev pub refusal_word : Refusal → List ℕ
 refusal_word TooLong = codes "TooLong"

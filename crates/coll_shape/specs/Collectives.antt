@@ -1,7 +1,7 @@
 -- The collectives (the MPI standard's collective communication), one row each: the word, the version from which on it stands, the
 -- root and the operation, the buffers, what is asked of A, who holds B and how long it is, and what each place gets of it.
-use Rattle.std.specs.Prelude.{ℕ, suc, ◌*◌, ◌/◌, ◌<◌, ◌≡◌, ◌%◌, ◌==◌, ◌&&◌, ◌||◌, Bool, true, false, List, Option, Some, None, [], ◌∷◌,
-    if◌then◌else◌, length, filter, get_or, codes}
+use Rattle.std.specs.Prelude.{ℕ, suc, ◌*◌, ◌/◌, ◌<◌, ◌≡◌, ◌%◌, ◌==◌, ◌&&◌, ◌||◌, Bool, true, false, List, Option, Some, None, [], ◌∷◌}
+use Rattle.std.specs.Prelude.{if◌then◌else◌, length, filter, get_or, codes}
 use Rattle.std.specs.List.{list_all, list_any}
 use Rattle.ptl_types.specs.declared.elements.AtomicOp.{AtomicOp}
 use Rattle.ptl_types.specs.declared.elements.ElemType.{ElemType}
@@ -13,8 +13,8 @@ use Rattle.coll_shape.specs.declared.types.Version.{Version}
 use Rattle.coll_shape.specs.declared.types.Version.TheVariants.{One, Two}
 use Rattle.coll_shape.specs.declared.types.Buffer.{Buffer}
 use Rattle.coll_shape.specs.declared.types.CollStep.{CollStep}
-use Rattle.coll_shape.specs.declared.types.CollStep.TheVariants.{Barrier, Broadcast, Reduce, Allreduce, Gather, Allgather, Alltoall,
-    Scan, Scatter, Reducescatter, Exscan, Gatherv}
+use Rattle.coll_shape.specs.declared.types.CollStep.TheVariants.{Barrier, Broadcast, Reduce, Allreduce, Gather, Allgather, Alltoall, Scan}
+use Rattle.coll_shape.specs.declared.types.CollStep.TheVariants.{Scatter, Reducescatter, Exscan, Gatherv}
 
 -- What is asked of A. In blocks: its length is a multiple of the number of members.
 pub data Asked : Type 0 where

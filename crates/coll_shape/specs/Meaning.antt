@@ -1,6 +1,6 @@
 -- What a description means: each buffer's list at each rank, in bytes. No trees, rounds, counters or messages.
-use Rattle.std.specs.Prelude.{ℕ, zero, suc, ◌==◌, ◌≡◌, ◌<◌, List, Option, Some, None, [], ◌∷◌, ◌++◌, if◌then◌else◌, length, map, get_or,
-    All}
+use Rattle.std.specs.Prelude.{ℕ, zero, suc, ◌==◌, ◌≡◌, ◌<◌, List, Option, Some, None, [], ◌∷◌, ◌++◌, if◌then◌else◌, length, map, get_or}
+use Rattle.std.specs.Prelude.{All}
 use Rattle.ptl_types.specs.declared.elements.ElemType.{ElemType}
 use Rattle.number_lists.specs.Numbers.{from_to}
 use Rattle.coll_shape.specs.declared.types.CollStep.{CollStep}

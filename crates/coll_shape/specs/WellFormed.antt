@@ -1,6 +1,6 @@
 -- What every description meets.
-use Rattle.std.specs.Prelude.{◌≡◌, ℕ, zero, suc, ◌+◌, ◌*◌, ◌<◌, ◌≤◌, List, Option, Some, None, [], ◌∷◌, ◌++◌, length, map, get_or, true,
-    Bool}
+use Rattle.std.specs.Prelude.{◌≡◌, ℕ, zero, suc, ◌+◌, ◌*◌, ◌<◌, ◌≤◌, List, Option, Some, None, [], ◌∷◌, ◌++◌, length, map, get_or, true}
+use Rattle.std.specs.Prelude.{Bool}
 use Rattle.std.specs.List.{sum_by}
 use Rattle.coll_text.specs.Text.{is_name}
 use Rattle.ptl_types.specs.Operations.{bytes_of}

@@ -1,6 +1,6 @@
 -- Lines, words, numbers and names.
-use Rattle.std.specs.Prelude.{ℕ, ◌+◌, ◌-◌, ◌*◌, List, [], ◌∷◌, ◌++◌, length, Option, Some, None, Bool, false, ◌&&◌, ◌||◌, not, ◌==◌,
-    nat_le, if◌then◌else◌, option_and_then}
+use Rattle.std.specs.Prelude.{ℕ, ◌+◌, ◌-◌, ◌*◌, List, [], ◌∷◌, ◌++◌, length, Option, Some, None, Bool, false, ◌&&◌, ◌||◌, not, ◌==◌}
+use Rattle.std.specs.Prelude.{nat_le, if◌then◌else◌, option_and_then}
 use Rattle.std.specs.List.{slice_split, list_all, join_with_byte}
 
 -- The bytes cut at each LF. No LF stands behind the last piece.

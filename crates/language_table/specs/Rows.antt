@@ -1,6 +1,6 @@
 -- The table of refusals: for each row a test that is true exactly where a line offends it, given the lines before it.
-use Rattle.std.specs.Prelude.{◌≡◌, ◌≤◌, ◌↔◌, ℕ, ◌+◌, List, length, Option, Some, None, Ok, Err, Bool, false, ◌&&◌, ◌||◌, not, ◌==◌,
-    nat_lt, nat_le, is_none, is_some, codes}
+use Rattle.std.specs.Prelude.{◌≡◌, ◌≤◌, ◌↔◌, ℕ, ◌+◌, List, length, Option, Some, None, Ok, Err, Bool, false, ◌&&◌, ◌||◌, not, ◌==◌}
+use Rattle.std.specs.Prelude.{nat_lt, nat_le, is_none, is_some, codes}
 use Rattle.std.specs.List.{list_all, list_any}
 use Rattle.std.specs.Str.{bytes_eq}
 use Rattle.ptl_types.specs.declared.elements.ElemType.{ElemType}
@@ -13,13 +13,13 @@ use Rattle.coll_shape.specs.WellFormed.{most_ranks, most_elements, elements_of, 
 use Rattle.coll_shape.specs.declared.types.Buffer.{Buffer}
 use Rattle.coll_shape.specs.declared.types.CollStep.{CollStep}
 use Rattle.coll_lang.specs.Forms.{Form, StepWords, group, input, step, choice, print, form_of}
-use Rattle.coll_lang.specs.Language.{Past, holds_of, is_allowed, ranks_in, all_numbers, are_members, is_taken, buffer_named, group_named,
-    members_in, root_number, is_finished, judge, plain}
+use Rattle.coll_lang.specs.Language.{Past, holds_of, is_allowed, ranks_in, all_numbers, are_members, is_taken, buffer_named, group_named}
+use Rattle.coll_lang.specs.Language.{members_in, root_number, is_finished, judge, plain}
 use Rattle.coll_lang.specs.declared.stage.Stage.{Stage}
 use Rattle.coll_lang.specs.declared.stage.Stage.TheVariants.{Header, Ranks, Data}
 use Rattle.coll_lang.specs.declared.fault.Refusal.{Refusal}
-use Rattle.coll_lang.specs.declared.fault.Refusal.TheVariants.{BadByte, BadHeader, BadRanks, BadLine, BadNumber, NameTaken,
-    UnknownBuffer, BadRoot, WrongShape, TooMany, TooLarge, BadGroup}
+use Rattle.coll_lang.specs.declared.fault.Refusal.TheVariants.{BadByte, BadHeader, BadRanks, BadLine, BadNumber, NameTaken, UnknownBuffer}
+use Rattle.coll_lang.specs.declared.fault.Refusal.TheVariants.{BadRoot, WrongShape, TooMany, TooLarge, BadGroup}
 use Rattle.language_table.specs.Table.{IsLowest}
 use Rattle.language_table.specs.Grammar.{may_be}
 

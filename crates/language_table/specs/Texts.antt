@@ -1,6 +1,6 @@
 -- The table of refusals on whole texts: the length first, then the lowest line, then the lowest row.
-use Rattle.std.specs.Prelude.{◌≡◌, ◌≤◌, ◌<◌, ◌↔◌, ℕ, ◌+◌, List, [], ◌∷◌, ◌++◌, length, Option, Some, None, Result, Ok, Err, Bool, false,
-    ◌&&◌, not, option_and_then, ◌⊎◌}
+use Rattle.std.specs.Prelude.{◌≡◌, ◌≤◌, ◌<◌, ◌↔◌, ℕ, ◌+◌, List, [], ◌∷◌, ◌++◌, length, Option, Some, None, Result, Ok, Err, Bool, false}
+use Rattle.std.specs.Prelude.{◌&&◌, not, option_and_then, ◌⊎◌}
 use Rattle.coll_text.specs.Text.{lines, is_empty}
 use Rattle.coll_lang.specs.Language.{Past, nothing, judge, is_finished, read}
 use Rattle.coll_lang.specs.declared.fault.Refusal.{Refusal}

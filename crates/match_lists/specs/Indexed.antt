@@ -57,7 +57,7 @@ first_on h limit xs k = key_of (find (takes h) (on_thread limit k xs))
 abbrev pub first_of_threads : Header → ℕ → List (Keyed Linked) → Option ChainKey
 first_of_threads h limit xs =
     earlier_of
-        (earlier_of (first_on h limit xs (whole_thread limit h.match_bits)) (first_on h limit xs (upper_48_thread limit h.match_bits)))
+    (earlier_of (first_on h limit xs (whole_thread limit h.match_bits)) (first_on h limit xs (upper_48_thread limit h.match_bits)))
     (earlier_of (first_on h limit xs (upper_24_thread limit h.match_bits)) (first_on h limit xs (last_thread limit)))
 
 -- how many entries stand on the threads of match bits

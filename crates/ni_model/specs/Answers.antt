@@ -71,7 +71,7 @@ abbrev pub came_home : Home → Sent → Bound → Returned
 came_home p m b = record {
   home =
       home (awaits_less m.header.home p.mds) (memory_home b m p.region) (counted (counter_home m.header b) (one_answer m.header.ok) p.cts)
-          (events_home m.header b p.eqs);
+      (events_home m.header b p.eqs);
   outcome = Answered;
   counted = counter_home m.header b;
 }

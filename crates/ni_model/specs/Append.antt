@@ -1,7 +1,7 @@
 -- Appending an entry (Portals 4.3, match list entries), with the unexpected headers that it takes, and searching them: the headers, the
 -- search and what is told of them are this profile's own.
-use Rattle.std.specs.Prelude.{ℕ, Bool, ◌||◌, not, nat_le, ◌+◌, List, Option, Some, None, [], ◌∷◌, ◌++◌, if◌then◌else◌, length, sum_by,
-    is_some, slice_set}
+use Rattle.std.specs.Prelude.{ℕ, Bool, ◌||◌, not, nat_le, ◌+◌, List, Option, Some, None, [], ◌∷◌, ◌++◌, if◌then◌else◌, length, sum_by}
+use Rattle.std.specs.Prelude.{is_some, slice_set}
 use Rattle.ptl_types.specs.declared.handles.Handle.{Handle}
 use Rattle.ptl_types.specs.declared.handles.Count.{Count}
 use Rattle.ptl_types.specs.declared.entries.Entry.{Entry}
@@ -70,8 +70,9 @@ linked_at place x (Some i) = Some (with_list place (λ xs. xs ++ x ∷ []) i)
 abbrev pub link_side : ℕ → ℕ → Place → Entry → Side → Side
 link_side slot pt place e s =
     record s {
-        indices = slice_set s.indices pt (linked_at place (fresh (next_handle slot s) e) (index_at pt s.indices));
-        given = s.given + 1 }
+      indices = slice_set s.indices pt (linked_at place (fresh (next_handle slot s) e) (index_at pt s.indices));
+      given = s.given + 1;
+    }
 
 -- the event queue of an index, if it has one
 abbrev pub queue_at : ℕ → Side → Option Handle
@@ -180,8 +181,10 @@ search_fault pt p = need (is_allocated pt p.side) Stale None
 abbrev pub found_header : ℕ → Entry → Bool → Noted → Parts → Parts
 found_header pt e delete a p =
     if delete
-    then record p { side = with_noted (without_oldest pt e p.side.headers.noted) p.side;
-        eqs = gone_raised Search p.side (without_oldest pt e p.side.headers.noted) a p.eqs }
+    then record p {
+      side = with_noted (without_oldest pt e p.side.headers.noted) p.side;
+      eqs = gone_raised Search p.side (without_oldest pt e p.side.headers.noted) a p.eqs;
+    }
     else record p { eqs = raised (queue_at pt p.side) (header_event Search a) p.eqs }
 
 -- by what was found

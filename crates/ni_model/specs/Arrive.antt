@@ -1,7 +1,7 @@
 -- What a request does at its target: an entry is chosen and judged, and then five effects that don't look at one another
 -- (Portals 4.3, matching and the operations at the target). Overflow, and what is counted and told, is this profile's own.
-use Rattle.std.specs.Prelude.{ℕ, Bool, true, false, ◌&&◌, ◌||◌, ◌==◌, nat_lt, ◌+◌, ◌-◌, ◌/◌, ◌%◌, List, Option, Some, None, [], ◌∷◌,
-    ◌++◌, min, if◌then◌else◌, length, find, take, slice_set}
+use Rattle.std.specs.Prelude.{ℕ, Bool, true, false, ◌&&◌, ◌||◌, ◌==◌, nat_lt, ◌+◌, ◌-◌, ◌/◌, ◌%◌, List, Option, Some, None, [], ◌∷◌, ◌++◌}
+use Rattle.std.specs.Prelude.{min, if◌then◌else◌, length, find, take, slice_set}
 use Rattle.ptl_types.specs.declared.handles.Handle.{Handle}
 use Rattle.ptl_types.specs.declared.handles.Count.{Count}
 use Rattle.ptl_types.specs.declared.elements.ElemType.{ElemType}
@@ -45,7 +45,7 @@ as_found place (Some x) = Some (record { list = place; linked = x })
 abbrev pub choose : Header → Index → Option Found
 choose h i =
     or_else (as_found Priority (find (fits h) i.priority))
-        (if is_put_or_atomic h.kind then as_found InOverflow (find (fits h) i.overflow) else None)
+    (if is_put_or_atomic h.kind then as_found InOverflow (find (fits h) i.overflow) else None)
 
 -- none in an index that is not allocated
 abbrev pub chosen_at : Header → Option Index → Option Found
@@ -106,7 +106,7 @@ abbrev pub memory_after : Linked → Sent → List ℕ → List ℕ
 memory_after x m memory =
     if writes m.header.kind
     then written (place x m.header)
-        (new_bytes m.header.kind m.header (old_bytes x m.header memory) (take (delivered x m.header) m.bytes)) memory
+    (new_bytes m.header.kind m.header (old_bytes x m.header memory) (take (delivered x m.header) m.bytes)) memory
     else memory
 
 -- ---- 2. counting events: one success for each message delivered, in either list
@@ -155,8 +155,12 @@ abbrev pub headers_after : Found → Header → Held → Held
 headers_after f h hs =
     elim f.list [
       | Priority ↦ hs
-      | InOverflow ↦ record hs { noted = hs.noted ++ (record { pt = h.pt;
-          header = record { entry = f.linked.handle; place = place f.linked h; delivered = delivered f.linked h; header = h } }) ∷ [] }
+      | InOverflow ↦ record hs {
+        noted = hs.noted ++ (record {
+          pt = h.pt;
+          header = record { entry = f.linked.handle; place = place f.linked h; delivered = delivered f.linked h; header = h };
+        }) ∷ [];
+      }
     ]
 
 -- ---- 5. events: the message's, in the priority list alone, and then the unlinking's
@@ -165,26 +169,46 @@ headers_after f h hs =
 abbrev pub delivery_raised : Found → Header → Option Handle → Table Waiting → Table Waiting
 delivery_raised f h eq eqs =
     elim f.list [
-        Priority ↦ raised eq (message_event (kind_delivered h.kind) h (delivered f.linked h) (place f.linked h)) eqs
-      | InOverflow ↦ eqs ]
+      | Priority ↦ raised eq (message_event (kind_delivered h.kind) h (delivered f.linked h) (place f.linked h)) eqs
+      | InOverflow ↦ eqs
+    ]
 
 -- and behind it that of the unlinking
 abbrev pub events_after : Found → Header → Option Handle → Table Waiting → Table Waiting
 events_after f h eq eqs =
     if is_over f.linked h then raised eq (unlink_event h.pt f.linked.entry.match_bits) (delivery_raised f h eq eqs)
-        else delivery_raised f h eq eqs
+    else delivery_raised f h eq eqs
 
 -- ---- the answer: an acknowledgement where a put or an atomic asked for one, else a reply
 
 -- the message's header with the ranks exchanged
 abbrev pub ack_header : Bool → ℕ → Header → Header
-ack_header ok count h = record h { kind = AckKind; source = h.target; target = h.source; offset = 0; length = if ok then count else 0;
-    op = None; swap = None; operand = 0; ok = ok }
+ack_header ok count h = record h {
+  kind = AckKind;
+  source = h.target;
+  target = h.source;
+  offset = 0;
+  length = if ok then count else 0;
+  op = None;
+  swap = None;
+  operand = 0;
+  ok = ok;
+}
 
 -- a reply asks for no acknowledgement
 abbrev pub reply_header : Bool → ℕ → Header → Header
-reply_header ok count h = record h { kind = Reply; source = h.target; target = h.source; offset = 0; length = if ok then count else 0;
-    op = None; swap = None; operand = 0; ack = NoAck; ok = ok }
+reply_header ok count h = record h {
+  kind = Reply;
+  source = h.target;
+  target = h.source;
+  offset = 0;
+  length = if ok then count else 0;
+  op = None;
+  swap = None;
+  operand = 0;
+  ack = NoAck;
+  ok = ok;
+}
 
 -- by the operation, and by what the message asked for
 abbrev pub answer : Bool → ℕ → List ℕ → Header → Option Sent
@@ -250,8 +274,11 @@ accepted p m f =
     (memory_after f.linked m p.region)
     (counts_after f.linked p.cts)
     (events_after f m.header (queue_of (index_at m.header.pt p.side.indices)) p.eqs))
-    (record { outcome = outcome_in f.list;
-        answer = answer true (delivered f.linked m.header) (old_bytes f.linked m.header p.region) m.header; counted = counter_of f.linked })
+    (record {
+      outcome = outcome_in f.list;
+      answer = answer true (delivered f.linked m.header) (old_bytes f.linked m.header p.region) m.header;
+      counted = counter_of f.linked;
+    })
 
 -- the first match ends the search: it must allow the operation, and in the overflow list there must be room for the header
 abbrev pub judged : Parts → Sent → Option Found → Received

@@ -1,6 +1,6 @@
 -- Every call of an interface: from the state before to the state and the answer after it. A refused call changes nothing.
-use Rattle.std.specs.Prelude.{ℕ, Bool, false, ◌≡◌, ◌==◌, ◌||◌, List, [], ◌∷◌, Option, Some, None, Result, Ok, Err, IsTrue, length, map,
-    filter, is_ok, slice_set}
+use Rattle.std.specs.Prelude.{ℕ, Bool, false, ◌≡◌, ◌==◌, ◌||◌, List, [], ◌∷◌, Option, Some, None, Result, Ok, Err, IsTrue, length, map}
+use Rattle.std.specs.Prelude.{filter, is_ok, slice_set}
 use Rattle.ptl_types.specs.declared.handles.Handle.{Handle}
 use Rattle.ptl_types.specs.declared.handles.Count.{Count}
 use Rattle.ptl_types.specs.declared.entries.Entry.{Entry}
@@ -24,8 +24,8 @@ use Rattle.ni_model.specs.Starts.{started}
 use Rattle.ni_model.specs.Ready.{is_ready, with_posted, cancelled, waits_on}
 use Rattle.ni_model.specs.Append.{append, append_fault, search, search_fault}
 use Rattle.ni_model.specs.State.{State, parts_of, with_parts, home_of, with_home, side_of}
-use Rattle.ni_model.specs.Refusals.{pt_alloc_fault, pt_free_fault, unlink_fault, ct_free_fault, eq_free_fault, ct_set_fault,
-    ct_inc_fault, alloc_fault, stale_fault, bind_fault, release_fault, deed_fault, triggered_fault}
+use Rattle.ni_model.specs.Refusals.{pt_alloc_fault, pt_free_fault, unlink_fault, ct_free_fault, eq_free_fault, ct_set_fault, ct_inc_fault}
+use Rattle.ni_model.specs.Refusals.{alloc_fault, stale_fault, bind_fault, release_fault, deed_fault, triggered_fault}
 
 -- ---- how a call ends
 

@@ -8,15 +8,26 @@ use Rattle.ptl_types.specs.declared.headers.AckRequest.{AckRequest}
 use Rattle.ptl_types.specs.declared.headers.AckRequest.TheVariants.{Ack}
 use Rattle.ptl_types.specs.declared.events.Event.{Event}
 use Rattle.ptl_types.specs.declared.events.EventKind.{EventKind}
-use Rattle.ptl_types.specs.declared.events.EventKind.TheVariants.{Put as PutEvent, Get as GetEvent, Atomic as AtomicEvent, FetchAtomic as
-    FetchAtomicEvent, PutOverflow, AtomicOverflow, Reply as ReplyEvent, Ack as AckEvent, Send, Link, AutoUnlink, AutoFree, Search}
+use Rattle.ptl_types.specs.declared.events.EventKind.TheVariants.{Put as PutEvent, Get as GetEvent, Atomic as AtomicEvent}
+use Rattle.ptl_types.specs.declared.events.EventKind.TheVariants.{FetchAtomic as FetchAtomicEvent, PutOverflow, AtomicOverflow}
+use Rattle.ptl_types.specs.declared.events.EventKind.TheVariants.{Reply as ReplyEvent, Ack as AckEvent, Send, Link, AutoUnlink, AutoFree}
+use Rattle.ptl_types.specs.declared.events.EventKind.TheVariants.{Search}
 use Rattle.ni_model.specs.declared.Bound.{Bound}
 use Rattle.ni_model.specs.declared.Noted.{Noted}
 
 -- an event of a message, or of its unexpected header: `delivered` bytes at this place
 abbrev pub message_event : EventKind → Header → ℕ → ℕ → Event
-message_event kind h delivered place = record { kind = kind; source = h.source; pt = h.pt; match_bits = h.match_bits;
-    hdr_data = h.hdr_data; requested = h.length; delivered = delivered; place = place; ok = true }
+message_event kind h delivered place = record {
+  kind = kind;
+  source = h.source;
+  pt = h.pt;
+  match_bits = h.match_bits;
+  hdr_data = h.hdr_data;
+  requested = h.length;
+  delivered = delivered;
+  place = place;
+  ok = true;
+}
 
 -- an event of an entry
 abbrev pub entry_event : EventKind → ℕ → ℕ → Bool → Event

@@ -1,6 +1,6 @@
 -- The linked entries of a portal table index, which of them takes a message, and what becomes of one (Portals 4.3, matching and lists).
-use Rattle.std.specs.Prelude.{ℕ, Bool, false, not, ◌-◌, ◌+◌, ◌||◌, ◌&&◌, nat_le, List, [], ◌∷◌, map, filter, length, Option, Some, None,
-    if◌then◌else◌, slice_index_or}
+use Rattle.std.specs.Prelude.{ℕ, Bool, false, not, ◌-◌, ◌+◌, ◌||◌, ◌&&◌, nat_le, List, [], ◌∷◌, map, filter, length, Option, Some, None}
+use Rattle.std.specs.Prelude.{if◌then◌else◌, slice_index_or}
 use Rattle.ptl_types.specs.declared.handles.Handle.{Handle}
 use Rattle.ptl_types.specs.declared.headers.Header.{Header}
 use Rattle.ptl_types.specs.declared.entries.List.{List as Place}

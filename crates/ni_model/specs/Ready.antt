@@ -67,8 +67,9 @@ ready_numbers_to d s = filter (λ t. is_rank d (target_at s t)) (ready_numbers s
 -- one operation more, the newest: its number is that of those given before
 abbrev pub with_posted : Deed → Handle → ℕ → Operations → Operations
 with_posted deed ct threshold ops = record ops {
-    waiting = ops.waiting ++ (record { number = ops.given; deed = deed; ct = ct; threshold = threshold }) ∷ [];
-    given = ops.given + 1 }
+  waiting = ops.waiting ++ (record { number = ops.given; deed = deed; ct = ct; threshold = threshold }) ∷ [];
+  given = ops.given + 1;
+}
 
 -- the operations without the one of this number
 abbrev pub without_number : ℕ → Operations → Operations

@@ -77,8 +77,14 @@ parts_of s = parts (side_of s) s.memory s.cts s.eqs
 
 -- the state with these parts
 abbrev pub with_parts : Parts → State → State
-with_parts p s = record s { memory = p.region; indices = p.side.indices; entries_given = p.side.given; headers = p.side.headers;
-    cts = p.cts; eqs = p.eqs }
+with_parts p s = record s {
+  memory = p.region;
+  indices = p.side.indices;
+  entries_given = p.side.given;
+  headers = p.side.headers;
+  cts = p.cts;
+  eqs = p.eqs;
+}
 
 -- what an initiator has, and what it is handed
 abbrev pub home_of : State → Home

@@ -1,6 +1,6 @@
 -- A table of an interface: the live things in the order of their making, how many stamps it gave, and how many may be live.
-use Rattle.std.specs.Prelude.{ℕ, Bool, true, false, ◌==◌, ◌||◌, not, nat_le, ◌+◌, List, [], ◌∷◌, ◌++◌, length, map, filter, Option, Some,
-    None, if◌then◌else◌, is_some}
+use Rattle.std.specs.Prelude.{ℕ, Bool, true, false, ◌==◌, ◌||◌, not, nat_le, ◌+◌, List, [], ◌∷◌, ◌++◌, length, map, filter, Option, Some}
+use Rattle.std.specs.Prelude.{None, if◌then◌else◌, is_some}
 use Rattle.ptl_types.specs.declared.handles.Handle.{Handle}
 use Rattle.ptl_types.specs.Handles.{same_handle, top}
 

@@ -1,7 +1,7 @@
 -- The region of a rank: its cells one after the other, and behind them one area for each class of messages that come to it, where
 -- those lie that come before its start.
-use Rattle.std.specs.Prelude.{ℕ, Bool, false, ◌||◌, ◌&&◌, ◌==◌, ◌+◌, List, Option, Some, None, [], ◌∷◌, ◌++◌, filter, flat_map, sum_by,
-    replicate, max}
+use Rattle.std.specs.Prelude.{ℕ, Bool, false, ◌||◌, ◌&&◌, ◌==◌, ◌+◌, List, Option, Some, None, [], ◌∷◌, ◌++◌, filter, flat_map, sum_by}
+use Rattle.std.specs.Prelude.{replicate, max}
 use Rattle.ptl_types.specs.declared.elements.AtomicOp.{AtomicOp}
 use Rattle.ptl_types.specs.declared.elements.ElemType.{ElemType}
 use Rattle.ptl_types.specs.Elements.{starting}

@@ -1,6 +1,6 @@
 -- What a step makes of the seats and lanes of a choice world.
-use Rattle.std.specs.Prelude.{ℕ, true, ◌*◌, ◌<◌, ◌≤◌, ◌≡◌, nat_lt, List, Option, [], ◌∷◌, length, count_by, slice_index_or, slice_set,
-    if◌then◌else◌}
+use Rattle.std.specs.Prelude.{ℕ, true, ◌*◌, ◌<◌, ◌≤◌, ◌≡◌, nat_lt, List, Option, [], ◌∷◌, length, count_by, slice_index_or, slice_set}
+use Rattle.std.specs.Prelude.{if◌then◌else◌}
 use Rattle.ptl_types.specs.declared.headers.Lane.{Lane}
 use Rattle.ptl_types.specs.declared.headers.Lane.TheVariants.{Answer, Request}
 use Rattle.ptl_types.specs.Handles.{top}

@@ -1,6 +1,6 @@
 -- Local histories: the steps of one rank, oldest first, from a state on.
-use Rattle.std.specs.Prelude.{ℕ, Bool, true, false, not, ◌&&◌, ◌||◌, ◌==◌, ◌≡◌, List, Option, Some, None, [], ◌∷◌, if◌then◌else◌, filter,
-    IsTrue}
+use Rattle.std.specs.Prelude.{ℕ, Bool, true, false, not, ◌&&◌, ◌||◌, ◌==◌, ◌≡◌, List, Option, Some, None, [], ◌∷◌, if◌then◌else◌, filter}
+use Rattle.std.specs.Prelude.{IsTrue}
 use Rattle.ptl_types.specs.declared.headers.Lane.{Lane}
 use Rattle.ptl_types.specs.declared.headers.Lane.TheVariants.{Request, Answer}
 use Rattle.ptl_types.specs.declared.headers.MessageKind.{MessageKind}

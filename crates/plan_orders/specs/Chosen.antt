@@ -1,6 +1,6 @@
 -- The enabled steps of a moment in their fixed order, what each does, and the run that a list of words chooses. Strays are left aside.
-use Rattle.std.specs.Prelude.{ℕ, zero, suc, ◌&&◌, ◌==◌, ◌%◌, ◌<◌, ◌≡◌, nat_lt, List, [], ◌∷◌, ◌++◌, map, flat_map, length, get_or,
-    count_by, if◌then◌else◌}
+use Rattle.std.specs.Prelude.{ℕ, zero, suc, ◌&&◌, ◌==◌, ◌%◌, ◌<◌, ◌≡◌, nat_lt, List, [], ◌∷◌, ◌++◌, map, flat_map, length, get_or}
+use Rattle.std.specs.Prelude.{count_by, if◌then◌else◌}
 use Rattle.ptl_types.specs.Messages.{Sent}
 use Rattle.ptl_types.specs.declared.headers.Lane.{Lane}
 use Rattle.ptl_types.specs.declared.headers.Lane.TheVariants.{Request, Answer}

@@ -1,6 +1,6 @@
 -- The interface of a rank that hasn't started, in closed form: these messages of its links came, and lie in the areas.
-use Rattle.std.specs.Prelude.{ℕ, Bool, ◌==◌, ◌+◌, ◌-◌, ◌*◌, ◌^◌, List, Option, Some, None, [], ◌∷◌, ◌++◌, if◌then◌else◌, length, map,
-    filter, flat_map, sum_by}
+use Rattle.std.specs.Prelude.{ℕ, Bool, ◌==◌, ◌+◌, ◌-◌, ◌*◌, ◌^◌, List, Option, Some, None, [], ◌∷◌, ◌++◌, if◌then◌else◌, length, map}
+use Rattle.std.specs.Prelude.{filter, flat_map, sum_by}
 use Rattle.ptl_types.specs.declared.handles.Handle.{Handle}
 use Rattle.ptl_types.specs.declared.elements.AtomicOp.{AtomicOp}
 use Rattle.ptl_types.specs.declared.elements.ElemType.{ElemType}

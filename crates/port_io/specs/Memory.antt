@@ -1,6 +1,6 @@
 -- What the sources and sinks in memory hold, and what their calls do.
-use Rattle.std.specs.Prelude.{ℕ, ◌+◌, ◌-◌, ◌^◌, List, ◌++◌, length, take, drop, Option, Some, None, Result, Ok, Err, ◌==◌, nat_le,
-    if◌then◌else◌, min, option_and_then}
+use Rattle.std.specs.Prelude.{ℕ, ◌+◌, ◌-◌, ◌^◌, List, ◌++◌, length, take, drop, Option, Some, None, Result, Ok, Err, ◌==◌, nat_le}
+use Rattle.std.specs.Prelude.{if◌then◌else◌, min, option_and_then}
 use Rattle.port_io.specs.declared.turns.IoTurn.{IoTurn}
 use Rattle.port_io.specs.declared.ends.Failed.{Failed}
 use Rattle.port_io.specs.Counts.{raised}

@@ -1,6 +1,6 @@
 -- What the program owes for its words and the bytes that it is given.
-use Rattle.std.specs.Prelude.{ℕ, ◌+◌, ◌*◌, List, [], ◌∷◌, ◌++◌, length, map, Option, Some, None, Result, Ok, Err, drop, codes,
-    if◌then◌else◌}
+use Rattle.std.specs.Prelude.{ℕ, ◌+◌, ◌*◌, List, [], ◌∷◌, ◌++◌, length, map, Option, Some, None, Result, Ok, Err, drop, codes}
+use Rattle.std.specs.Prelude.{if◌then◌else◌}
 use Rattle.coll_text.specs.Text.{line}
 use Rattle.coll_shape.specs.Outline.{Outline}
 use Rattle.coll_shape.specs.Meaning.{Lists}

@@ -1,7 +1,7 @@
 -- The atomic operations and their starting values on bit patterns, and the swaps (Portals 4.3, atomic and swap operations).
 -- A bit pattern of a type is a number below its span.
-use Rattle.std.specs.Prelude.{ℕ, Bool, true, false, ◌&&◌, ◌||◌, not, ◌==◌, nat_le, ◌+◌, ◌-◌, ◌*◌, ◌/◌, ◌%◌, ◌^◌, bit_and, bit_or,
-    bit_xor, if◌then◌else◌}
+use Rattle.std.specs.Prelude.{ℕ, Bool, true, false, ◌&&◌, ◌||◌, not, ◌==◌, nat_le, ◌+◌, ◌-◌, ◌*◌, ◌/◌, ◌%◌, ◌^◌, bit_and, bit_or, bit_xor}
+use Rattle.std.specs.Prelude.{if◌then◌else◌}
 use Rattle.ptl_types.specs.declared.elements.ElemType.{ElemType}
 use Rattle.ptl_types.specs.declared.elements.ElemType.TheVariants.{U8, I8, U16, I16, U32, I32, U64, I64}
 use Rattle.ptl_types.specs.declared.elements.AtomicOp.{AtomicOp}

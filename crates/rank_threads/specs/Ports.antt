@@ -1,6 +1,6 @@
 -- What becomes of a rank's ends in a turn, and of its node beside its steps.
-use Rattle.std.specs.Prelude.{ℕ, Bool, true, false, ◌≡◌, ◌<◌, ◌++◌, ◌∷◌, [], List, Option, Some, None, filter, length, slice_index_or,
-    slice_set}
+use Rattle.std.specs.Prelude.{ℕ, Bool, true, false, ◌≡◌, ◌<◌, ◌++◌, ◌∷◌, [], List, Option, Some, None, filter, length, slice_index_or}
+use Rattle.std.specs.Prelude.{slice_set}
 use mathlib.Core.Option.{some}
 use lib.ListN.{get_elem?}
 use Rattle.ptl_types.specs.declared.headers.Lane.{Lane}

@@ -1,6 +1,6 @@
 -- What the fields of a target make of the model's lists. No public clause cites this module.
-use Rattle.std.specs.Prelude.{ℕ, ◌≡◌, ◌≤◌, ◌<◌, ◌+◌, ◌-◌, ◌^◌, Bool, false, not, ◌&&◌, nat_eq, nat_le, sum_by, length, List, [], ◌∷◌,
-    Option, Some, None, map, find, All, if◌then◌else◌}
+use Rattle.std.specs.Prelude.{ℕ, ◌≡◌, ◌≤◌, ◌<◌, ◌+◌, ◌-◌, ◌^◌, Bool, false, not, ◌&&◌, nat_eq, nat_le, sum_by, length, List, [], ◌∷◌}
+use Rattle.std.specs.Prelude.{Option, Some, None, map, find, All, if◌then◌else◌}
 use Rattle.std.specs.Borrow.{Bor}
 use Rattle.ptl_types.specs.declared.handles.Handle.{Handle}
 use Rattle.ptl_types.specs.Handles.{same_handle}

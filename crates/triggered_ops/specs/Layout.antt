@@ -1,7 +1,7 @@
 -- How pending operations are laid out: by number, with an index by counting event and threshold, and a mark on each that is
 -- due. No public clause cites this module.
-use Rattle.std.specs.Prelude.{◌≡◌, ℕ, Bool, true, false, ◌==◌, ◌&&◌, ◌*◌, ◌^◌, ◌<◌, ◌≤◌, ◌⊎◌, ⊤, nat_le, nat_lt, List, map, Option, Some,
-    None, is_some, option_map, if◌then◌else◌, All}
+use Rattle.std.specs.Prelude.{◌≡◌, ℕ, Bool, true, false, ◌==◌, ◌&&◌, ◌*◌, ◌^◌, ◌<◌, ◌≤◌, ◌⊎◌, ⊤, nat_le, nat_lt, List, map, Option, Some}
+use Rattle.std.specs.Prelude.{None, is_some, option_map, if◌then◌else◌, All}
 use Rattle.std.specs.Ordering.{nat_cmp, ordering_then}
 use Rattle.std.specs.declared.cmp.Ordering.{Ordering}
 use Rattle.std.specs.BTreeMap.{BTreeMap, get, IsOrdered}

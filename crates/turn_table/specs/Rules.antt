@@ -75,9 +75,9 @@ module _ {T N I : Type 0} (past : T → List I) (name : T → N) where
   try_tells st m r m' =
       (2 ^ 63 ≤ r → m' ≡ (after_busy m.0 st.word, m.1))
       × (r < 2 ^ 63 → (x : T) × (m' ≡ (after_take m.0 st.word x, (st.word, Some x) ∷ m.1)) × (length (past x) ≡ r)
-          × (length (past x) < 2 ^ 62)
+      × (length (past x) < 2 ^ 62)
       × (length (places m.0 st.word) ≤ length (past x)) × Follows m.0.slots st.word x
-          × ((y : T) → get_elem? m.0.start st.word ≡ some y → name x ≡ name y))
+      × ((y : T) → get_elem? m.0.start st.word ≡ some y → name x ≡ name y))
 
 module _ {T I : Type 0} (past : T → List I) where
   -- the count tells: the value is home, and the turn is over

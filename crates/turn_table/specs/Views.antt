@@ -89,8 +89,11 @@ module _ {T : Type 0} where
   module _ {I : Type 0} (past : T → List I) where
     -- x was taken and y given: the places that the past grew by are the hand's
     abbrev pub after_turn : T → T → SlotView T → SlotView T
-    after_turn x y s = record { busy = s.busy; seen = ended_turn x y ∷ [];
-        places = s.places ++ numbers_from (length (past x)) (length (past y) - length (past x)) }
+    after_turn x y s = record {
+      busy = s.busy;
+      seen = ended_turn x y ∷ [];
+      places = s.places ++ numbers_from (length (past x)) (length (past y) - length (past x));
+    }
 
     -- the turn at the slot k is over
     abbrev pub after_give : HandView T → ℕ → T → T → HandView T
