@@ -1,7 +1,7 @@
 //! Draws the text of a plan, or with the word `order` an order text, from standard input as SVG on standard output.
 //!
-//! The status is 0; 2 for other words; 3 where the text is refused, and then the whole output is `refused LINE NAME`; and 6
-//! where there is no memory.
+//! The status is 0; 1 where reading or writing fails; 2 for other words; 3 where the text is refused, and then the whole output
+//! is `refused LINE NAME`; and 6 where there is no memory to draw it.
 #![tactic(auto)]
 
 use plan_lines::TextFault;
