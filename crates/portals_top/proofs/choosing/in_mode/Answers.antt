@@ -1,4 +1,3 @@
-use Rattle.portals_top.proofs.Answering.{no-world-refused}
 use Rattle.portals_top.proofs.choosing.in_mode.Goals as goal
 
 pub returns-in-Once : goal.returns-in-Once
