@@ -2,7 +2,7 @@ use Rattle.portals_top.proofs.top.described.Goals as goal
 
 pub returns-in-Some : goal.returns-in-Some
 returns-in-Some g c = record {
-  written = rw (← c.in-Some.ensures.told, ← c.shape.ensures.shape) c.chosen.ensures.written;
+  written = rw (← c.in-Some.ensures.told) c.chosen.ensures.written;
   world = rw (← c.in-Some.ensures.told, ← c.shape.ensures.shape) c.chosen.ensures.world;
 }
 
