@@ -11,3 +11,5 @@ mod jobs;
 mod scripts;
 #[cfg(test)]
 mod threads;
+#[cfg(test)]
+mod waves;

@@ -16,7 +16,7 @@ use worlds::World;
 
 /// What the calls of the script answered, and how many steps each hand then had made at rank 0.
 #[derive(Drop)]
-struct Answers {
+pub(crate) struct Answers {
     starts: [StartAnswer; 2],
     fired_early: Option<u32>,
     moved_early: bool,
@@ -24,7 +24,12 @@ struct Answers {
     made: [u64; 2],
 }
 
-fn script<R: Wait>(rt: &R, fabric: &Fabric<OpenGate>, one: &mut Hand, two: &mut Hand) -> Answers
+pub(crate) fn script<R: Wait>(
+    rt: &R,
+    fabric: &Fabric<OpenGate>,
+    one: &mut Hand,
+    two: &mut Hand,
+) -> Answers
     requires one { IsFree fabric.now.turns one.old }
     requires two { IsFree fabric.now.turns two.old }
     requires ranks { fabric.now.job.shape.ranks ≡ 2 }

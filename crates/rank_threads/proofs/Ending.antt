@@ -1,10 +1,14 @@
 -- What the slots of a closed table are, and what is taken out of them.
 use Rattle.std.proofs.Common.{◌≡◌, ◌<◌, ◌∙◌, ℕ, List, length, map, sym, ap, subst, arith}
+use Rattle.std.specs.Prelude.{sum_by}
 use mathlib.Core.Option.{some}
 use lib.ListN.{get_elem?}
 use Rattle.atomic_table.proofs.Lists.{at_map}
 use Rattle.pair_wires.specs.Wires.{WireState}
 use Rattle.schedule_compiler.specs.Jobs.{JobOf}
+use Rattle.turn_table.specs.Hands.{Left}
+use Rattle.turn_table.specs.States.{HandState}
+use Rattle.turn_table.specs.Views.{once_below, places, times}
 use Rattle.rank_node.specs.Node.{IsNode, NodeState}
 use Rattle.world_parts.specs.Layout.{no_node, node_at}
 use Rattle.worlds.specs.FrameState.{FrameState}
@@ -13,7 +17,9 @@ use Rattle.rank_threads.specs.declared.slot.Slot.{Slot}
 use Rattle.rank_threads.specs.Fabrics.{IsNamed}
 use Rattle.rank_threads.specs.Lists.{Each}
 use Rattle.rank_threads.specs.Moves.{AllLaid, SameNode, Slotwise}
-use Rattle.rank_threads.specs.Names.{plate}
+use Rattle.rank_threads.specs.Chronicles.{chronicle}
+use Rattle.rank_threads.specs.Names.{history, plate}
+use Rattle.rank_threads.proofs.Chronicles.{as-long, begins-history}
 use Rattle.rank_threads.proofs.Closing.{IsNodeOf}
 use Rattle.rank_threads.proofs.Pairs.{exists_at, within}
 use Rattle.rank_threads.proofs.Snocs.{length_map, read}
@@ -51,3 +57,12 @@ as-many last nodes is = ap (λ (l : List NodeState). length l) is ∙ length_map
 pub may-frame : (job : JobOf) (f : FrameState) (nodes : List NodeState) → f.shape ≡ job.shape → f.inputs ≡ job.inputs
     → MayClose (record { shape = job.shape; inputs = job.inputs; lanes = f.lanes }) nodes → MayClose f nodes
 may-frame job f nodes shape inputs may = subst (λ (z : FrameState). MayClose z nodes) (λ i. record { shape = sym shape i; inputs = sym inputs i; lanes = f.lanes }) may
+
+-- ---- what is left, told by the history alone
+pub left-history : (start : List Slot) (hs : List (HandState Slot)) (r : ℕ) (x : Slot) → Left chronicle plate start hs r x → Left history plate start hs r x
+left-history start hs r x l = record {
+  named = l.named;
+  begun = λ k d low s i t a b. begins-history t.given x (l.begun k d low s i t a b);
+  placed = λ p. subst (λ n. sum_by (λ (h : HandState Slot). times p (places h.knows r)) hs ≡ once_below p n) (as-long x) (l.placed p);
+  long = l.long ∙ as-long x;
+}

@@ -120,14 +120,14 @@ module _ (job : JobOf) (sound : IsSound job) (wires : List WireState) (lanes : A
   tied = subst (λ (j : JobOf). Tied (plan_of j.shape) j.inputs n x.outs.items x.ins.items) named.job_is x.tied
 
   -- the end of a lane from the rank
-  record OutAt (d : ℕ) (lane : Lane) : Type 0 where
-    at : ℕ
-    port : OutPort
-    there : get_elem? x.outs.items at ≡ some port
-    target : port.target ≡ d
-    lane_is : port.lane ≡ lane
+  pub record OutAt (d : ℕ) (lane : Lane) : Type 0 where
+    pub at : ℕ
+    pub port : OutPort
+    pub there : get_elem? x.outs.items at ≡ some port
+    pub target : port.target ≡ d
+    pub lane_is : port.lane ≡ lane
 
-  out-at : (d : ℕ) (lane : Lane) → is_used_lane p r d lane ≡ true → OutAt d lane
+  pub out-at : (d : ℕ) (lane : Lane) → is_used_lane p r d lane ≡ true → OutAt d lane
   out-at d lane used =
       let h = lanes.all r d lane used in
       let w = at_map_back (λ (w : WireState). w.bounds) wires h.at h.bounds h.there in

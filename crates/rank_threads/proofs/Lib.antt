@@ -1,4 +1,6 @@
 pub mod Pairs
+pub mod Snocs
+pub mod Chronicles
 pub mod Gates
 pub mod Sends
 pub mod Ties
@@ -6,7 +8,6 @@ pub mod Fires
 pub mod Budget
 pub mod Receives
 pub mod Readies
-pub mod Snocs
 pub mod Rows
 pub mod Idles
 pub mod Singles
@@ -19,3 +20,8 @@ pub mod UsedLanes
 pub mod Lifts
 pub mod Closing
 pub mod Ending
+pub mod Strays
+pub mod Probing
+pub mod Fronts
+pub mod Rested
+pub mod Hands

@@ -5,21 +5,25 @@ use mathlib.Core.List.{IsPrefix}
 use lib.ListN.{get_elem?}
 use Rattle.ptl_types.specs.declared.steps.LocalStep.{LocalStep}
 use Rattle.atomic_table.proofs.Lists.{at_map}
+use Rattle.turn_table.specs.declared.views.EndedTurn.{EndedTurn}
 use Rattle.turn_table.specs.declared.views.HandView.{HandView}
 use Rattle.turn_table.specs.declared.views.SlotView.{SlotView}
 use Rattle.turn_table.specs.Views.{adjusted, after_give, after_turn, numbers_from, places_in, without_busy_slot}
 use Rattle.turn_table.specs.Hands.{LastTurn, Took, marks}
 use Rattle.turn_table.proofs.Sums.{adjusted_length}
 use Rattle.schedule_compiler.specs.Jobs.{JobOf}
+use Rattle.plan_cuts.specs.History.{Local}
 use Rattle.plan_cuts.specs.History.Local.{Start}
 use Rattle.rank_threads.specs.declared.gate.StartAnswer.{StartAnswer}
 use Rattle.rank_threads.specs.declared.gate.StartAnswer.TheVariants.{Started, AlreadyStarted}
 use Rattle.rank_threads.specs.declared.slot.Slot.{Slot}
-use Rattle.rank_threads.specs.Names.{Mark, history, mark, note, plate}
+use Rattle.rank_threads.specs.Chronicles.{Entry, KeepsHandles, chronicle}
+use Rattle.rank_threads.specs.Names.{Mark, Note, history, mark, note, plate}
 use Rattle.rank_threads.specs.Steps.{Begun, IsIdle, Made}
 use Rattle.rank_node.specs.Node.{NodeState}
 use Rattle.rank_threads.specs.Missing.{Idled}
 use Rattle.rank_threads.specs.Turns.{FoundIdle, MayEnd, Turned}
+use Rattle.rank_threads.proofs.Chronicles.{as-long, bare-history, begins-chronicle, begins-history}
 use Rattle.rank_threads.proofs.Pairs.{at_map_back, within}
 
 -- ---- the views without the counts of busy tries
@@ -30,9 +34,9 @@ adjusted-else (x ∷ xs) zero (suc q) f apart = refl
 adjusted-else (x ∷ xs) (suc k) zero f apart = refl
 adjusted-else (x ∷ xs) (suc k) (suc q) f apart = adjusted-else xs k q f (λ e. apart (ap suc e))
 
-places-here : (l : List (SlotView Slot)) (k : ℕ) (x y : Slot) → k < length l → places_in (adjusted l k (after_turn history x y)) k ≡ places_in l k ++ numbers_from (length (history x)) (length (history y) - length (history x))
+places-here : (l : List (SlotView Slot)) (k : ℕ) (x y : Slot) → k < length l → places_in (adjusted l k (after_turn chronicle x y)) k ≡ places_in l k ++ numbers_from (length (history x)) (length (history y) - length (history x))
 places-here [] k x y h = absurd (omega (arith, h))
-places-here (s ∷ l) zero x y h = refl
+places-here (s ∷ l) zero x y h = λ k. s.places ++ numbers_from (as-long x k) (as-long y k - as-long x k)
 places-here (s ∷ l) (suc k) x y h = places-here l k x y (omega (arith, h))
 
 places-still : (l : List (SlotView Slot)) (k : ℕ) → places_in (map without_busy_slot l) k ≡ places_in l k
@@ -40,21 +44,45 @@ places-still [] k = refl
 places-still (s ∷ l) zero = refl
 places-still (s ∷ l) (suc k) = places-still l k
 
+-- ---- the chronicle for the history
+abbrev bare-mark : List Entry × Note → Mark
+bare-mark m = (map (λ (e : Entry). e.0) m.0, m.1)
+
+abbrev bare-marks : (List Entry × Note) × (List Entry × Note) → Mark × Mark
+bare-marks m = (bare-mark m.0, bare-mark m.1)
+
+is-mark : (x : Slot) → bare-mark (chronicle x, note x) ≡ mark x
+is-mark x = ap (λ (h : List Local). (h, note x)) (bare-history x.node.value.kept (history x))
+
+are-marks : (t : EndedTurn Slot) → bare-marks (marks chronicle note t) ≡ marks history note t
+are-marks t = λ k. (is-mark t.taken k, is-mark t.given k)
+
+all-marks : (ts : List (EndedTurn Slot)) → map bare-marks (map (marks chronicle note) ts) ≡ map (marks history note) ts
+all-marks [] = refl
+all-marks (t ∷ ts) = λ k. are-marks t k ∷ all-marks ts k
+
+pub last-history : (w : HandView Slot) (r : ℕ) (x y : Slot) → LastTurn chronicle note w r (chronicle x, note x) (chronicle y, note y) → LastTurn history note w r (mark x) (mark y)
+last-history w r x y last = record {
+  slot = last.slot;
+  slot_is = last.slot_is;
+  turn_is = sym (all-marks last.slot.seen) ∙ (ap (map bare-marks) last.turn_is ∙ (λ k. (is-mark x k, is-mark y k) ∷ []));
+}
+
 -- ---- one turn
-pub turned : (v u w : HandView Slot) (r : ℕ) (x y : Slot) → Took history plate v r x u → w ≡ after_give history u r x y → LastTurn history note w r (mark x) (mark y) → Turned v w r (mark x) (mark y)
+pub turned : (v u w : HandView Slot) (r : ℕ) (x y : Slot) → Took chronicle plate v r x u → w ≡ after_give chronicle u r x y → LastTurn chronicle note w r (chronicle x, note x) (chronicle y, note y) → Turned v w r (mark x) (mark y)
 turned v u w r x y took given last =
     let alike : map without_busy_slot took.tried.slots ≡ map without_busy_slot v.slots = ap (λ (z : HandView Slot). z.slots) took.alike in
-    let slots : w.slots ≡ adjusted took.tried.slots r (after_turn history x y) = ap (λ (z : HandView Slot). z.slots) given ∙ ap (λ (z : HandView Slot). adjusted z.slots r (after_turn history x y)) took.taken in
-    let low : r < length took.tried.slots = (let k = within w.slots r last.slot last.slot_is in let a = ap (λ (l : List (SlotView Slot)). length l) slots in let b = adjusted_length took.tried.slots r (after_turn history x y) in omega (arith, k, a, b)) in
+    let slots : w.slots ≡ adjusted took.tried.slots r (after_turn chronicle x y) = ap (λ (z : HandView Slot). z.slots) given ∙ ap (λ (z : HandView Slot). adjusted z.slots r (after_turn chronicle x y)) took.taken in
+    let low : r < length took.tried.slots = (let k = within w.slots r last.slot last.slot_is in let a = ap (λ (l : List (SlotView Slot)). length l) slots in let b = adjusted_length took.tried.slots r (after_turn chronicle x y) in omega (arith, k, a, b)) in
     record {
       parts = ap (λ (z : HandView Slot). z.parts) given ∙ (ap (λ (z : HandView Slot). z.parts) took.taken ∙ ap (λ (z : HandView Slot). z.parts) took.alike);
       begins = λ s i t a b. (let z = at_map_back without_busy_slot took.tried.slots r (without_busy_slot s) (ap (λ (l : List (SlotView Slot)). get_elem? l r) alike ∙ at_map without_busy_slot v.slots r s a) in
-          took.found.follows z.0 i t z.1 (ap (λ (s : SlotView Slot). get_elem? s.seen i) z.2 ∙ b));
-      last = last;
+          begins-history t.given x (took.found.follows z.0 i t z.1 (ap (λ (s : SlotView Slot). get_elem? s.seen i) z.2 ∙ b)));
+      last = last-history w r x y last;
       mine = ap (λ (l : List (SlotView Slot)). places_in l r) slots
           ∙ (places-here took.tried.slots r x y low
           ∙ ap (λ ps. ps ++ numbers_from (length (history x)) (length (history y) - length (history x))) (sym (places-still took.tried.slots r) ∙ (ap (λ (l : List (SlotView Slot)). places_in l r) alike ∙ places-still v.slots r)));
-      others = λ q apart. ap (λ (l : List (SlotView Slot)). get_elem? (map without_busy_slot l) q) slots ∙ (adjusted-else took.tried.slots r q (after_turn history x y) apart ∙ ap (λ (l : List (SlotView Slot)). get_elem? l q) alike);
+      others = λ q apart. ap (λ (l : List (SlotView Slot)). get_elem? (map without_busy_slot l) q) slots ∙ (adjusted-else took.tried.slots r q (after_turn chronicle x y) apart ∙ ap (λ (l : List (SlotView Slot)). get_elem? l q) alike);
     }
 
 -- ---- the last turns of a hand
@@ -91,8 +119,14 @@ pub longer-step : (x y : Slot) (e : Option LocalStep) → IfSome e (λ step. Mad
 longer-step x y None made idled = ([], append-nil (history x) ∙ sym (ap (λ (m : NodeState). m.diary.locals) idled.missed.node ∙ ap (λ (m : NodeState). m.diary.locals) idled.flushed.node.same))
 longer-step x y (Some step) made idled = (made.0 ∷ [], sym made.2)
 
-pub may-end : (k r : ℕ) (v w : HandView Slot) (x y : Slot) → k ≡ r → Took history plate v r x w → plate y ≡ plate x → IsPrefix (history x) (history y) → MayEnd k y w
-may-end k r v w x y is took named grows = record { before = v; taken = x; took = subst (λ k. Took history plate v k x w) (sym is) took; named = named; grows = grows }
+pub may-end : (k r : ℕ) (v w : HandView Slot) (x y : Slot) → k ≡ r → Took chronicle plate v r x w → plate y ≡ plate x → IsPrefix (history x) (history y) → KeepsHandles x y → MayEnd k y w
+may-end k r v w x y is took named grows keeps = record {
+  before = v;
+  taken = x;
+  took = subst (λ k. Took chronicle plate v k x w) (sym is) took;
+  named = named;
+  grows = begins-chronicle x y grows keeps;
+}
 
 pub with-some : {P Q : LocalStep → Type 0} (e : Option LocalStep) → ((step : LocalStep) → P step → Q step) → IfSome e P → IfSome e Q
 with-some None f h = tt

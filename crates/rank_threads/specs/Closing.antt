@@ -4,13 +4,17 @@ use mathlib.Core.Option.{some}
 use lib.ListN.{get_elem?}
 use Rattle.pair_wires.specs.declared.bounds.Bounds.{Bounds}
 use Rattle.pair_wires.specs.Lanes.{Plain}
-use Rattle.plan_cuts.specs.History.{Local, got}
+use Rattle.plan_cuts.specs.History.{got}
+use Rattle.plan_view.specs.Slots.{Slots}
+use Rattle.rank_node.specs.Handles.{Agrees}
 use Rattle.shape_plans.specs.Drawing.{plan_of}
 use Rattle.turn_table.specs.Hands.{Left, parts_of}
+use Rattle.turn_table.specs.Rules.{Follows}
 use Rattle.turn_table.specs.States.{HandState}
-use Rattle.worlds.specs.World.{WorldState, histories_in}
+use Rattle.worlds.specs.World.{AreSlots, WorldState, histories_in}
 use Rattle.rank_threads.specs.declared.slot.Slot.{Slot}
 use Rattle.rank_threads.specs.Fabrics.{FabricState, HasSwept}
+use Rattle.rank_threads.specs.Chronicles.{chronicle}
 use Rattle.rank_threads.specs.Names.{history, plate}
 use Rattle.rank_threads.specs.Slots.{HasSent}
 
@@ -28,10 +32,13 @@ pub record IsLifted (b : Bounds) (slots : List Slot) (l : Plain) : Type 0 where
 
 -- ---- the ranks
 -- what is left of rank r: a history that begins with what each hand saw there, and whose places are those of the hands, each once
-pub record IsLeft (start : List Slot) (hands : List (HandState Slot)) (r : ℕ) (h : List Local) : Type 0 where
+pub record IsLeft (start : List Slot) (hands : List (HandState Slot)) (r : ℕ) (w : WorldState) : Type 0 where
   pub slot : Slot
-  pub history_is : h ≡ history slot
+  pub history_is : histories_in w r ≡ history slot
   pub left : Left history plate start hands r slot
+  -- no handle was given after a start that a hand saw, and the world has those that were given
+  pub dated : All (λ (h : HandState Slot). Follows chronicle plate h.knows.slots r slot) hands
+  pub slots : (k : ℕ → Slots) → AreSlots w k → Agrees (k r) slot.node.value.kept
 
 -- a world of the fabric's job, under a window of four messages on a lane and without strays, with what is left of each rank
 pub record IsWorldOf (f : FabricState) (hands : List (HandState Slot)) (w : WorldState) : Type 0 where
@@ -40,7 +47,7 @@ pub record IsWorldOf (f : FabricState) (hands : List (HandState Slot)) (w : Worl
   pub window : w.window ≡ 4
   pub strays : w.strays ≡ 0
   pub spare : w.spare ≡ 0
-  pub ranks : (r : ℕ) → r < f.job.shape.ranks → IsLeft f.turns.start hands r (histories_in w r)
+  pub ranks : (r : ℕ) → r < f.job.shape.ranks → IsLeft f.turns.start hands r w
 
 -- such a world, where hands that are together all of the fabric's swept all ranks
 pub record IsWorked (f : FabricState) (w : WorldState) : Type 0 where

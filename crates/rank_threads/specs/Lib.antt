@@ -4,6 +4,7 @@ pub mod Lanes
 pub mod Ports
 pub mod Slots
 pub mod Names
+pub mod Chronicles
 pub mod Onward
 pub mod Sound
 pub mod Missing
@@ -13,3 +14,5 @@ pub mod Wiring
 pub mod Fabrics
 pub mod Moves
 pub mod Closing
+pub mod Probes
+pub mod Resting

@@ -2,8 +2,9 @@
 use Rattle.std.specs.Prelude.{◌≡◌}
 use mathlib.Core.List.{IsPrefix}
 use Rattle.rank_threads.specs.declared.slot.Slot.{Slot}
+use Rattle.rank_threads.specs.Chronicles.{KeepsHandles}
 use Rattle.rank_threads.specs.Names.{history, plate}
 
--- its name stays, and its history only grows
+-- its name stays, its history only grows, and no handle is given after the start
 abbrev pub Onward : Slot → Slot → Type 0
-Onward old new = (plate new ≡ plate old) × IsPrefix (history old) (history new)
+Onward old new = (plate new ≡ plate old) × IsPrefix (history old) (history new) × KeepsHandles old new

@@ -11,6 +11,7 @@ use Rattle.turn_table.specs.Hands.{LastTurn, Took}
 use Rattle.plan_cuts.specs.History.{Local}
 use Rattle.schedule_compiler.specs.Jobs.{JobOf}
 use Rattle.rank_threads.specs.declared.slot.Slot.{Slot}
+use Rattle.rank_threads.specs.Chronicles.{chronicle}
 use Rattle.rank_threads.specs.Names.{Mark, history, note, plate}
 use Rattle.rank_threads.specs.Steps.{IsIdle}
 
@@ -28,13 +29,13 @@ pub record Turned (v w : HandView Slot) (r : ℕ) (a b : Mark) : Type 0 where
   pub mine : places w r ≡ places v r ++ numbers_from (length a.0) (length b.0 - length a.0)
   pub others : (q : ℕ) → q ≢ r → get_elem? (map without_busy_slot w.slots) q ≡ get_elem? (map without_busy_slot v.slots) q
 
--- the slot may be given back as y: the hand took x, and the history only grew
+-- the slot may be given back as y: the hand took x, the history only grew, and no handle was given after the start
 pub record MayEnd (k : ℕ) (y : Slot) (w : HandView Slot) : Type 0 where
   pub before : HandView Slot
   pub taken : Slot
-  pub took : Took history plate before k taken w
+  pub took : Took chronicle plate before k taken w
   pub named : plate y ≡ plate taken
-  pub grows : IsPrefix (history taken) (history y)
+  pub grows : IsPrefix (chronicle taken) (chronicle y)
 
 -- the hand had a turn at rank r, and at its last one there it made no step, since it found none to make
 abbrev pub FoundIdle : JobOf → HandView Slot → ℕ → Type 0

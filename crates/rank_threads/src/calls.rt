@@ -8,7 +8,8 @@ ghost use Rattle.rank_node.specs.Node.{IsNode};
 ghost use Rattle.shape_plans.specs.Drawing.{plan_of};
 ghost use Rattle.rank_threads.specs.declared.slot.Slot.{Slot};
 ghost use Rattle.rank_threads.specs.Fabrics.{IsNamed};
-ghost use Rattle.rank_threads.specs.Names.{IsWired, Mark, history, mark, plate};
+ghost use Rattle.rank_threads.specs.Chronicles.{chronicle};
+ghost use Rattle.rank_threads.specs.Names.{IsWired, Mark, mark, plate};
 ghost use Rattle.rank_threads.specs.Sound.{IsSound};
 ghost use Rattle.rank_threads.specs.Steps.{Begun, Delivered, Fired, IsIdle, IsOfHistory, Made};
 ghost use Rattle.rank_threads.specs.Turns.{MayEnd, Turned};
@@ -31,7 +32,7 @@ impl<G: Gate + Drop> Fabric<G> {
         ensures wired { IsWired self.now.wires (plate result.value) }
         ensures kept { IsNode result.value.node.value }
         ensures hand { IsHandOf self.now.turns hand.new }
-        ensures took { Took history plate hand.old.knows rank result.value hand.new.knows }
+        ensures took { Took chronicle plate hand.old.knows rank result.value hand.new.knows }
     {
         let _ = self.ranks;
         let turn = self.turns.take(rt, hand, rank);
@@ -46,7 +47,7 @@ impl<G: Gate + Drop> Fabric<G> {
         requires sound { IsSound turn.value.job }
         requires taken { MayEnd turn.slot turn.value hand.old.knows }
         ensures hand { IsFree self.now.turns hand.new }
-        ensures turned { (v : HandView Slot) (x : Slot) → Took history plate v turn.slot x hand.old.knows → Turned v hand.new.knows turn.slot (mark x) (mark turn.value) }
+        ensures turned { (v : HandView Slot) (x : Slot) → Took chronicle plate v turn.slot x hand.old.knows → Turned v hand.new.knows turn.slot (mark x) (mark turn.value) }
     {
         let _ = self.ranks;
         // What every node keeps is told here.

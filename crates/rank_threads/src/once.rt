@@ -7,6 +7,7 @@ ghost use Rattle.ptl_types.specs.Messages.{Sent};
 ghost use Rattle.ni_model.specs.Ready.{is_ready};
 ghost use Rattle.plan_cuts.specs.History.Local.{Receive as Receives, Fire as Fires};
 ghost use Rattle.rank_threads.specs.declared.ports.InPort.{InPort};
+ghost use Rattle.rank_threads.specs.Chronicles.{KeepsHandles};
 ghost use Rattle.rank_threads.specs.Lists.{Each};
 ghost use Rattle.rank_threads.specs.Names.{IsWired, mark, plate};
 ghost use Rattle.rank_threads.specs.Sound.{IsSound};
@@ -26,6 +27,7 @@ impl Slot {
     pub(crate) fn start_once<G: Gate>(&mut self, gate: &G) -> StartAnswer
         requires sound { IsSound self.old.job }
         ensures begun { Begun result (mark self.old) (mark self.new) }
+        ensures handles { KeepsHandles self.old self.new }
         ensures name { plate self.new ≡ plate self.old }
     {
         if self.node.started() {
@@ -48,6 +50,7 @@ impl Slot {
         requires wired { IsWired wires.now (plate self.old) }
         ensures some { IfSome result (λ t. (is_ready self.old.node.value.nic t ≡ true) × Grew (Fires t) (mark self.old) (mark self.new)) }
         ensures none { IfNone result (HasFlushed self.old self.new × AreShut self.new.node.value) }
+        ensures handles { KeepsHandles self.old self.new }
         ensures name { plate self.new ≡ plate self.old }
     {
         self.flush(rt, wires, mail);
@@ -77,6 +80,7 @@ impl Slot {
         requires end { (i : _) × (p : InPort) × (get_elem? self.old.ins.items i ≡ some p) × (p.source ≡ source) × (p.lane ≡ lane) }
         ensures some { IsTrue result → (m : Sent) × Grew (Receives source lane m) (mark self.old) (mark self.new) }
         ensures none { IsFalse result → PassedAt source lane self.old self.new }
+        ensures handles { KeepsHandles self.old self.new }
         ensures name { plate self.new ≡ plate self.old }
     {
         let free = self.flush(rt, wires, mail);

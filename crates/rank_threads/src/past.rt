@@ -1,21 +1,21 @@
-//! A slot's past is its history; its name the job, the rank and the wires; its note the interface and the ends' counts.
+//! A slot's past is its chronicle; its name the job, the rank and the wires; its note the interface and the ends' counts.
 
 use crate::slot::Slot;
 use turn_table::Past;
 
 impl Past for Slot {
-    ghost use Rattle.plan_cuts.specs.History.{Local};
-    ghost use Rattle.rank_threads.specs.Names.{Note, Plate, history, note, plate};
+    ghost use Rattle.rank_threads.specs.Chronicles.{Entry, chronicle};
+    ghost use Rattle.rank_threads.specs.Names.{Note, Plate, note, plate};
 
     ghost Name = { Plate };
 
-    ghost Item = { Local };
+    ghost Item = { Entry };
 
     ghost Note = { Note };
 
     ghost name = { plate };
 
-    ghost past = { history };
+    ghost past = { chronicle };
 
     ghost note = { note };
 

@@ -12,6 +12,7 @@ ghost use Rattle.rank_node.specs.Copies.{has_start};
 ghost use Rattle.rank_node.specs.Gates.{goes_out};
 ghost use Rattle.rank_threads.specs.declared.ports.OutPort.{OutPort};
 ghost use Rattle.rank_threads.specs.declared.ports.InPort.{InPort};
+ghost use Rattle.rank_threads.specs.Chronicles.{KeepsHandles};
 ghost use Rattle.rank_threads.specs.Lists.{Each};
 ghost use Rattle.rank_threads.specs.Names.{IsWired, history, mark, plate};
 ghost use Rattle.rank_threads.specs.Ports.{IsOpen};
@@ -33,6 +34,7 @@ impl Slot {
         requires sound { IsSound self.old.job }
         requires first { has_start (history self.old) ≡ false }
         ensures grew { history self.new ≡ history self.old ++ Started ∷ [] }
+        ensures handles { KeepsHandles self.old self.new }
         ensures name { plate self.new ≡ plate self.old }
     {
         // What every node keeps is told here.
@@ -60,6 +62,7 @@ impl Slot {
         requires ready { is_ready self.old.node.value.nic number ≡ true }
         requires open { goes_out self.old.node.value.closed (target_at self.old.node.value.nic number) ≡ true }
         ensures grew { history self.new ≡ history self.old ++ Fired number ∷ [] }
+        ensures handles { KeepsHandles self.old self.new }
         ensures name { plate self.new ≡ plate self.old }
     {
         let _ = self.node.history();
@@ -125,6 +128,7 @@ impl Slot {
         requires open { IsOpenAt at self.old }
         ensures some { IsTrue result → ReceivedAt at self.old self.new }
         ensures none { IsFalse result → MissedAt at self.old self.new }
+        ensures handles { KeepsHandles self.old self.new }
         ensures name { plate self.new ≡ plate self.old }
     {
         let _ = self.node.history();
@@ -167,6 +171,7 @@ impl Slot {
         requires free { IsTrue free → Each (λ (p : OutPort). p.end.waits ≡ false) self.old.outs.items }
         ensures some { IsTrue result → ReceivedAt at self.old self.new }
         ensures none { IsFalse result → MissedAt at self.old self.new }
+        ensures handles { KeepsHandles self.old self.new }
         ensures name { plate self.new ≡ plate self.old }
     {
         if !self.may_take(at, free) {
@@ -189,6 +194,7 @@ impl Slot {
         requires free { IsTrue free → Each (λ (p : OutPort). p.end.waits ≡ false) self.old.outs.items }
         ensures some { IfSome result (λ step. Made step (mark self.old) (mark self.new)) }
         ensures none { IfNone result (MissedAll self.old self.new) }
+        ensures handles { KeepsHandles self.old self.new }
         ensures name { plate self.new ≡ plate self.old }
     {
         let count = self.ins.len();
@@ -214,6 +220,7 @@ impl Slot {
         requires wired { IsWired wires.now (plate self.old) }
         ensures some { IfSome result (λ t. (is_ready self.old.node.value.nic t ≡ true) × Grew (Fired t) (mark self.old) (mark self.new)) }
         ensures none { IfNone result ((self.new ≡ self.old) × AreShut self.old.node.value) }
+        ensures handles { KeepsHandles self.old self.new }
         ensures name { plate self.new ≡ plate self.old }
     {
         if self.node.ready() == 0 {
@@ -237,6 +244,7 @@ impl Slot {
         requires wired { IsWired wires.now (plate self.old) }
         ensures some { IfSome result (λ step. Made step (mark self.old) (mark self.new)) }
         ensures none { IfNone result (Idled self.old self.new) }
+        ensures handles { KeepsHandles self.old self.new }
         ensures name { plate self.new ≡ plate self.old }
     {
         let free = self.flush(rt, wires, mail);

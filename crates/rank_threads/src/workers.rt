@@ -58,7 +58,7 @@ impl<G: Gate + Drop> Fabric<G> {
     }
 
     // Works once at each rank, beginning at `first`, and answers whether there was a step.
-    fn sweep<R: Wait>(&self, rt: &R, hand: &mut Hand, first: Rank) -> bool
+    pub(crate) fn sweep<R: Wait>(&self, rt: &R, hand: &mut Hand, first: Rank) -> bool
         requires hand { IsFree self.now.turns hand.old }
         requires first { first ≤ self.now.job.shape.ranks }
         ensures hand { IsFree self.now.turns hand.new }
@@ -137,7 +137,7 @@ impl<G: Gate + Drop> Fabric<G> {
     }
 
     // Works as the hints lead until there is no word, and nobody is at work who may leave some.
-    fn settle_all<R: Wait>(&self, rt: &R, hand: &mut Hand, first: Rank, end: Rank)
+    pub(crate) fn settle_all<R: Wait>(&self, rt: &R, hand: &mut Hand, first: Rank, end: Rank)
         requires hand { IsFree self.now.turns hand.old }
         requires end { end ≤ self.now.job.shape.ranks }
         ensures hand { IsFree self.now.turns hand.new }
@@ -164,7 +164,7 @@ impl<G: Gate + Drop> Fabric<G> {
     }
 
     // Follows the hints, and then sweeps all ranks, until a sweep makes no step. The sweep heeds no hint.
-    fn run<R: Wait>(&self, rt: &R, hand: &mut Hand, first: Rank, end: Rank)
+    pub(crate) fn run<R: Wait>(&self, rt: &R, hand: &mut Hand, first: Rank, end: Rank)
         requires hand { IsFree self.now.turns hand.old }
         requires first { first ≤ self.now.job.shape.ranks }
         requires end { end ≤ self.now.job.shape.ranks }
@@ -183,7 +183,7 @@ impl<G: Gate + Drop> Fabric<G> {
 }
 
 // The first of a worker's own ranks: the workers' ranks are as many as may be equal blocks.
-fn block_start(worker: u64, workers: u64, ranks: u32) -> u32
+pub(crate) fn block_start(worker: u64, workers: u64, ranks: u32) -> u32
     requires some { 0 < workers }
     requires few { workers < 2 ^ 32 }
     requires worker { worker ≤ workers }

@@ -7,6 +7,7 @@ use Rattle.plan_calls.specs.Lanes.{is_used_lane}
 use Rattle.plan_orders.specs.Chosen.{Scene}
 use Rattle.plan_worlds.specs.Places.{lane_place}
 use Rattle.shape_plans.specs.Drawing.{plan_of}
+use Rattle.rank_node.specs.Handles.{Agrees}
 use Rattle.rank_node.specs.Node.{NodeState}
 use Rattle.world_open.specs.Frames.{frame_lane}
 use Rattle.world_parts.specs.Layout.{lane_at}
@@ -19,7 +20,7 @@ use Rattle.rank_threads.specs.Moves.{AllLaid}
 use Rattle.rank_threads.specs.Names.{plate}
 use Rattle.rank_threads.specs.Wiring.{bounds_of}
 use Rattle.rank_threads.proofs.Closing.{may-close}
-use Rattle.rank_threads.proofs.Ending.{as-many, kept-at, laid-left, may-frame, named-left, node-of-slot}
+use Rattle.rank_threads.proofs.Ending.{as-many, kept-at, laid-left, left-history, may-frame, named-left, node-of-slot}
 use Rattle.rank_threads.proofs.Snocs.{written}
 use Rattle.rank_threads.proofs.fabric.Fabric.close.Goals as goal
 
@@ -101,7 +102,9 @@ returns-clause-world g c =
           (let x = node-of-slot now last nodes v.nodes v.count is r (omega (arith, h, many)) in record {
             slot = x.slot;
             history_is = ap (λ (z : Scene). z.world r) w.scene ∙ ap (λ (n : NodeState). n.diary.locals) x.node_is;
-            left = e.values r x.slot (ap (λ (l : List Slot). get_elem? l r) (sym c.deref_mut.ensures.value) ∙ x.there);
+            left = left-history s.turns.start c.args.hands.items r x.slot (e.values r x.slot (ap (λ (l : List Slot). get_elem? l r) (sym c.deref_mut.ensures.value) ∙ x.there));
+            dated = (e.values r x.slot (ap (λ (l : List Slot). get_elem? l r) (sym c.deref_mut.ensures.value) ∙ x.there)).begun;
+            slots = λ k a. subst (λ (n : NodeState). Agrees (k r) n.kept) x.node_is (w.slots k a r (subst (λ (o : Outline). r < o.ranks) (sym shape) h));
           });
     })
 

@@ -1,6 +1,7 @@
 use Rattle.std.proofs.Common.{ap, ◌∙◌, sym, subst}
 use Rattle.turn_table.specs.Hands.{Took}
-use Rattle.rank_threads.specs.Names.{Plate, history, mark, plate}
+use Rattle.rank_threads.specs.Chronicles.{chronicle}
+use Rattle.rank_threads.specs.Names.{Plate, mark, plate}
 use Rattle.rank_threads.specs.Fabrics.{FabricState, IsFabric}
 use Rattle.rank_threads.specs.Sound.{IsSound}
 use Rattle.rank_threads.specs.Steps.{Delivered}
@@ -29,12 +30,12 @@ give-requires-clause-taken g c = λ _ _. let t = c.take-slot in let m = c.delive
       no = λ h. passed-at now.job t.ensures.sound now.wires f.lanes c.args.target x t.ensures.named y c.args.source c.args.lane (m.ensures.none h);
     } in
     may-end t.result.slot c.args.target c.args.hand.now.knows t.new.hand.knows x y t.ensures.slot t.ensures.took m.ensures.name
-    (longer-came m.result c.args.source c.args.lane (mark x) (mark y) told)
+    (longer-came m.result c.args.source c.args.lane (mark x) (mark y) told) m.ensures.handles
 
 pub returns-clause-delivered : goal.returns-clause-delivered
 returns-clause-delivered g c = let t = c.take-slot in let m = c.deliver-moved in let x = t.result.value in let y = m.new.self in let now = c.args.self.now in
     let f = subst (λ (f : FabricState). IsFabric f.job f.turns.start f.wires) c.self.view_is c.self.invariant.fabric in
-    let took = subst (λ k. Took history plate c.args.hand.now.knows k x t.new.hand.knows) (sym t.ensures.slot) t.ensures.took in
+    let took = subst (λ k. Took chronicle plate c.args.hand.now.knows k x t.new.hand.knows) (sym t.ensures.slot) t.ensures.took in
     let one = subst (λ k. Turned c.args.hand.now.knows c.give.new.hand.knows k (mark x) (mark y)) t.ensures.slot (c.give.ensures.turned c.args.hand.now.knows x took) in (
       mark x,
       mark y,

@@ -1,9 +1,10 @@
-use Rattle.std.proofs.Common.{ap, subst}
+use Rattle.std.proofs.Common.{◌^◌, ◌<◌, ap, subst, sym}
 use Rattle.shape_plans.specs.Drawing.{plan_of}
 use Rattle.turn_table.specs.declared.views.HandView.{HandView}
 use Rattle.rank_node.specs.Node.{IsNode}
 use Rattle.rank_threads.specs.declared.slot.Slot.{Slot}
 use Rattle.rank_threads.proofs.Budget.{short-history}
+use Rattle.rank_threads.proofs.Chronicles.{as-long}
 use Rattle.rank_threads.proofs.Turns.{turned}
 use Rattle.rank_threads.proofs.fabric.Fabric.give.Goals as goal
 
@@ -13,7 +14,7 @@ give-requires-clause-turn g c = let t = c.requires.taken in let s = c.args.turn.
   turn = ap (λ (v : HandView Slot). v.turn) t.took.taken;
   grows = t.grows;
   named = t.named;
-  short = short-history (plan_of s.job.shape) s.job.inputs c.requires.sound.plan s.node.value s.tied.compiled (subst IsNode c.deref.ensures c.history.ensures.kept) s.tied.strays;
+  short = subst (λ n. n < 2 ^ 62) (sym (as-long s)) (short-history (plan_of s.job.shape) s.job.inputs c.requires.sound.plan s.node.value s.tied.compiled (subst IsNode c.deref.ensures c.history.ensures.kept) s.tied.strays);
 }
 
 pub returns-clause-turned : goal.returns-clause-turned

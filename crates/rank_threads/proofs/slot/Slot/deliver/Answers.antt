@@ -5,6 +5,7 @@ use Rattle.rank_threads.specs.Names.{IsWired, Plate}
 use Rattle.rank_threads.specs.Sound.{IsSound}
 use Rattle.rank_threads.proofs.Pairs.{within}
 use Rattle.rank_threads.proofs.Singles.{came-from, passed-from}
+use Rattle.rank_threads.proofs.Chronicles.{handles-flushed}
 use Rattle.rank_threads.proofs.slot.Slot.deliver.Goals as goal
 
 pub unreachable-requires : goal.unreachable-requires
@@ -34,3 +35,6 @@ returns-clause-none g c = λ t. let f = (c.in-Some.ensures).some in let z = c.fl
 
 pub returns-clause-name : goal.returns-clause-name
 returns-clause-name g c = c.pull.ensures.name ∙ c.flush-free.ensures.name
+
+pub returns-clause-handles : goal.returns-clause-handles
+returns-clause-handles g c = handles-flushed c.args.self.now c.flush-free.new.self c.pull.new.self c.flush-free.ensures.flushed c.pull.ensures.handles

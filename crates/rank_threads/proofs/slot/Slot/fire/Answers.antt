@@ -46,3 +46,9 @@ returns-clause-name g c = let s = c.args.self.now in let n = s.node.value in let
     let re = subst (λ (m : NodeState). Regated m c.pass_on-waits.new.node) c.deref_mut-2.ensures.value e.node in
     named s.job _ n.task c.pass_on-waits.new.node.task (map out_joint s.outs.items) (map out_joint c.pass_on-waits.new.outs.items) (ap (λ (n : NodeState). n.task) re.same ∙ ap (λ (n : NodeState). n.task) step)
     (pairs_map (Posted c.fire-made.result) out_joint s.outs.items c.pass_on-waits.new.outs.items (λ x y f. sym (same-joint x y f.same)) e.posted)
+
+pub returns-clause-handles : goal.returns-clause-handles
+returns-clause-handles g c = λ _. let n = c.args.self.now.node.value in let t = c.args.number in
+    let step : c.fire-made.new.self ≡ fired_node t n = c.fire-made.ensures.step ∙ ap (fired_node t) c.deref_mut.ensures.value in
+    let re = subst (λ (m : NodeState). Regated m c.pass_on-waits.new.node) c.deref_mut-2.ensures.value c.pass_on-waits.ensures.node in
+    ap (λ (n : NodeState). n.kept) re.same ∙ ap (λ (n : NodeState). n.kept) step

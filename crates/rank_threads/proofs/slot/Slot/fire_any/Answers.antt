@@ -20,3 +20,9 @@ returns-then-ready-eq0-clause-none g c = let n = c.args.self.now.node.value in
 pub returns-clause-some : goal.returns-clause-some
 returns-clause-some g c = let n = c.args.self.now.node.value in let t = c.ready_at-number.result in
     ((first-open n.closed n.nic t (subst (λ (m : NodeState). slice_get (open_numbers m.closed m.nic) 0 ≡ Some t) c.deref-2.ensures c.ready_at-number.ensures)).ready, c.fire.ensures.grew)
+
+pub returns-then-ready-eq0-clause-handles : goal.returns-then-ready-eq0-clause-handles
+returns-then-ready-eq0-clause-handles g c = λ _. refl
+
+pub returns-clause-handles : goal.returns-clause-handles
+returns-clause-handles g c = c.fire.ensures.handles

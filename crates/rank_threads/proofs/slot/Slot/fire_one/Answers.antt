@@ -2,6 +2,7 @@ use Rattle.std.proofs.Common.{◌∙◌, ap, sym, subst}
 use Rattle.rank_threads.specs.Names.{IsWired, Plate}
 use Rattle.rank_threads.specs.Sound.{IsSound}
 use Rattle.rank_threads.proofs.Singles.{fired-from, shut-from}
+use Rattle.rank_threads.proofs.Chronicles.{handles-flushed}
 use Rattle.rank_threads.proofs.slot.Slot.fire_one.Goals as goal
 
 pub fire_any-requires-clause-sound : goal.fire_any-requires-clause-sound
@@ -18,3 +19,6 @@ returns-clause-none g c = shut-from c.fire_any.result c.args.self.now c.flush.ne
 
 pub returns-clause-name : goal.returns-clause-name
 returns-clause-name g c = c.fire_any.ensures.name ∙ c.flush.ensures.name
+
+pub returns-clause-handles : goal.returns-clause-handles
+returns-clause-handles g c = handles-flushed c.args.self.now c.flush.new.self c.fire_any.new.self c.flush.ensures.flushed c.fire_any.ensures.handles

@@ -188,3 +188,12 @@ returns-clause-name g c =
     (ap (λ (x : NodeState). x.task) re.same ∙ ap (λ (x : NodeState). x.task) step)
     (pairs_map (Posted c.receive-answer.result) out_joint s.outs.items c.pass_on-waits.new.outs.items (λ x y f. sym (same-joint x y f.same)) e.posted)
     (pairs_map (Heard (Receive o.source o.lane m)) in_joint ins (set ins c.args.at q) (λ x y f. same-in-joint x y f.same) (heard-set ins c.args.at o q m there c.pop_at.ensures.same got_it.0 s.tied.ins_differ))
+
+pub returns-in_default-clause-handles : goal.returns-in_default-clause-handles
+returns-in_default-clause-handles g c = λ _. refl
+
+pub returns-clause-handles : goal.returns-clause-handles
+returns-clause-handles g c = λ _. let n = c.args.self.now.node.value in let o = c.index_mut-port.result.now in let m = c.in-Some.message in
+    let step : c.receive-answer.new.self ≡ received_node o.source o.lane m n = c.receive-answer.ensures.step ∙ ap (received_node o.source o.lane m) c.deref_mut.ensures.value in
+    let re = subst (λ (x : NodeState). Regated x c.pass_on-waits.new.node) c.deref_mut-2.ensures.value c.pass_on-waits.ensures.node in
+    ap (λ (x : NodeState). x.kept) re.same ∙ ap (λ (x : NodeState). x.kept) step

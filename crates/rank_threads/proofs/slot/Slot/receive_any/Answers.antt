@@ -11,6 +11,7 @@ use Rattle.rank_threads.specs.Names.{IsWired, Plate}
 use Rattle.rank_threads.specs.Sound.{IsSound}
 use Rattle.rank_threads.specs.Missing.{Missed}
 use Rattle.rank_threads.proofs.Pairs.{same_at, within}
+use Rattle.rank_node.specs.Copies.{has_start}
 use Rattle.rank_threads.proofs.slot.Slot.receive_any.Goals as goal
 
 pub loop-at-init : goal.loop-at-init
@@ -67,3 +68,10 @@ returns-then-pull-clause-some g c =
       (λ k. Receive (sym one k).source (sym two k).lane),
       h.grew ∙ ap (λ es. es ++ Received h.port.source h.port.lane h.message ∷ []) (ap (λ (n : NodeState). n.diary.locals) i.node),
     )
+
+pub returns-then-pull-clause-handles : goal.returns-then-pull-clause-handles
+returns-then-pull-clause-handles g c = λ started. let i = c.loop-at.invariant in
+    c.pull.ensures.handles (ap (λ (n : NodeState). has_start n.diary.locals) i.node ∙ started) ∙ ap (λ (n : NodeState). n.kept) i.node
+
+pub returns-clause-handles : goal.returns-clause-handles
+returns-clause-handles g c = λ _. ap (λ (n : NodeState). n.kept) c.loop-at.invariant.node

@@ -11,3 +11,9 @@ begin-requires-clause-first g c = sym (c.if-started.ensures ∙ ap (λ (n : Node
 
 pub returns-clause-begun : goal.returns-clause-begun
 returns-clause-begun g c = (sym (c.if-started.ensures ∙ ap (λ (n : NodeState). has_start n.diary.locals) c.deref.ensures), c.begin.ensures.grew)
+
+pub returns-then-started-clause-handles : goal.returns-then-started-clause-handles
+returns-then-started-clause-handles g c = λ _. refl
+
+pub returns-clause-handles : goal.returns-clause-handles
+returns-clause-handles g c = c.begin.ensures.handles

@@ -6,11 +6,13 @@ use Rattle.rank_node.specs.Node.{NodeState}
 use Rattle.rank_node.specs.Copies.{has_start}
 use Rattle.rank_threads.specs.declared.slot.Slot.{Slot}
 use Rattle.rank_threads.specs.declared.ports.OutPort.{OutPort}
+use Rattle.rank_threads.specs.Chronicles.{KeepsHandles}
 use Rattle.rank_threads.specs.Lists.{Each}
 use Rattle.rank_threads.specs.Names.{IsWired, Mark, Plate, history, mark, plate}
 use Rattle.rank_threads.specs.Sound.{IsSound}
 use Rattle.rank_threads.specs.Steps.{Made}
 use Rattle.rank_threads.specs.Missing.{AreShut, HasFlushed, Idled, MissedAll}
+use Rattle.rank_threads.proofs.Chronicles.{handles-flushed}
 use Rattle.rank_threads.proofs.slot.Slot.step.Goals as goal
 
 -- the same history before
@@ -64,3 +66,14 @@ returns-clause-none g c = let s = c.args.self.now in let z = c.flush-free.new.se
 
 pub returns-clause-name : goal.returns-clause-name
 returns-clause-name g c = c.receive_any.ensures.name ∙ (ap plate (c.in_default.ensures).none.0 ∙ c.flush-free.ensures.name)
+
+pub returns-then-not-started-clause-handles : goal.returns-then-not-started-clause-handles
+returns-then-not-started-clause-handles g c = handles-flushed c.args.self.now c.flush-free.new.self c.begin.new.self c.flush-free.ensures.flushed c.begin.ensures.handles
+
+pub returns-in-Some-clause-handles : goal.returns-in-Some-clause-handles
+returns-in-Some-clause-handles g c = handles-flushed c.args.self.now c.flush-free.new.self c.fire_any.new.self c.flush-free.ensures.flushed c.fire_any.ensures.handles
+
+pub returns-clause-handles : goal.returns-clause-handles
+returns-clause-handles g c = let z = c.flush-free.new.self in
+    handles-flushed c.args.self.now z c.receive_any.new.self c.flush-free.ensures.flushed
+    (subst (λ (s : Slot). KeepsHandles s c.receive_any.new.self) (c.in_default.ensures).none.0 c.receive_any.ensures.handles)

@@ -1,0 +1,56 @@
+//! Waves of probes between the calls of a script.
+
+ghost use Rattle.std.specs.Prelude.{true, ◌≡◌, length};
+ghost use Rattle.ptl_types.specs.declared.headers.Lane.TheVariants.{Request};
+ghost use Rattle.plan_calls.specs.Lanes.{is_used_lane};
+ghost use Rattle.rest_probe.specs.Waves.{IsFor};
+ghost use Rattle.shape_plans.specs.Drawing.{plan_of};
+ghost use Rattle.turn_table.specs.Hands.{IsFree};
+
+use crate::hands::{opened, two_hands};
+use crate::jobs::{TWO_RANKS, is_pair, job_of};
+use crate::scripts::script;
+use rank_threads::{Fabric, Hand, OpenGate};
+use rest_probe::{Wave, WaveAnswer};
+use std::sync::Wait;
+use std::test::*;
+
+/// What a wave answers after the script, and what one answers once both ranks have started.
+fn waves<R: Wait>(
+    rt: &R,
+    fabric: &Fabric<OpenGate>,
+    one: &mut Hand,
+    two: &mut Hand,
+    wave: &mut Wave,
+) -> [WaveAnswer; 2]
+    requires one { IsFree fabric.now.turns one.old }
+    requires two { IsFree fabric.now.turns two.old }
+    requires ranks { fabric.now.job.shape.ranks ≡ 2 }
+    requires slots { length fabric.now.turns.start ≡ 2 }
+    requires lane { is_used_lane (plan_of fabric.now.job.shape) 0 1 Request ≡ true }
+    requires wave { IsFor (plan_of fabric.now.job.shape) wave.old }
+{
+    let _ = script(rt, fabric, one, two);
+    fabric.probe_all(rt, one, wave);
+    let first = wave.answer();
+    fabric.start(rt, two, 1);
+    fabric.probe_all(rt, one, wave);
+    [first, wave.answer()]
+}
+
+#[test]
+fn waves_name_what_is_left(rt: HostRuntime) -> Result<(), Fail> {
+    let alloc = rt.alloc();
+    let job = job_of(&rt, alloc, TWO_RANKS);
+    assert!(rt; is_pair(&job));
+    let mut wave = Wave::open(alloc, job.schedule())?;
+    let (fabric, hands) = opened(&rt, alloc, &job, 2, OpenGate)?;
+    let (mut one, mut two) = two_hands(&fabric, hands);
+    let [first, second] = waves(&rt, &fabric, &mut one, &mut two, &mut wave);
+    assert_eq!(rt; first, WaveAnswer::NotStarted(1));
+    let WaveAnswer::Ready { rank, .. } = second else {
+        panic!(rt; "an operation of rank 0 is ready")
+    };
+    assert_eq!(rt; rank, 0);
+    Ok(())
+}

@@ -1,0 +1,40 @@
+use Rattle.std.proofs.Common.{◌≡◌, ◌<◌, ◌∙◌, ℕ, List, ap, sym, subst, arith}
+use Rattle.plan_view.specs.Slots.{Slots}
+use Rattle.plan_cuts.specs.Plans.{system_of}
+use Rattle.plan_cuts.specs.System.{Histories}
+use Rattle.plan_cuts.specs.Wave.{IsWave}
+use Rattle.shape_plans.specs.Drawing.{plan_of}
+use Rattle.schedule_compiler.specs.Jobs.{JobOf}
+use Rattle.worlds.specs.World.{histories_in, ranks_in}
+use Rattle.world_parts.specs.Layout.{node_at}
+use Rattle.rank_node.specs.Handles.{slots_of}
+use Rattle.rank_threads.specs.Fabrics.{FabricState}
+use Rattle.rank_threads.specs.Sound.{IsSound}
+use Rattle.rank_threads.proofs.Rested.{is-wave, job-of, no-stray, rest-same, some-slots}
+use Rattle.rank_threads.proofs.fabric.Fabric.close_at_rest.Goals as goal
+
+pub returns-clause-rest : goal.returns-clause-rest
+returns-clause-rest g c = λ k agree. let f = c.args.self in let w = c.close.result in let e = c.close.ensures in let fronts = c.requires.noted in
+    let sound : IsSound f.job = subst (λ (f : FabricState). IsSound f.job) c.self.view_is c.sound.ensures in
+    let job = job-of f c.args.hands.items w e.world in
+    let fit = subst IsSound job sound in
+    let wave = subst (λ (j : JobOf). IsWave (system_of (plan_of j.shape) j.inputs k) fronts.0 (histories_in w)) job
+    (is-wave f sound c.args.hands.items w e.world c.args.wave c.requires.lanes c.requires.answer fronts.0 fronts.1 k agree) in
+    let cut = (e.kept.moment k agree).cut in
+    let clean = no-stray w k e.kept e.world.spare fit.ranks in
+    rest-same (ranks_in w k) fronts.0 (histories_in w)
+    (λ r low. c.one_wave.ensures.whole (plan_of w.shape) w.inputs k fronts.0 (histories_in w) fit.plan fit.inputs cut clean wave r low)
+    (c.one_wave.ensures.rest (plan_of w.shape) w.inputs k fronts.0 (histories_in w) fit.plan fit.inputs cut clean wave)
+
+pub returns-clause-whole : goal.returns-clause-whole
+returns-clause-whole g c = λ fronts seen r low. let f = c.args.self in let w = c.close.result in let e = c.close.ensures in
+    let k : ℕ → Slots = λ r. slots_of (node_at w.nodes r).kept in let agree = some-slots w e.kept in
+    let sound : IsSound f.job = subst (λ (f : FabricState). IsSound f.job) c.self.view_is c.sound.ensures in
+    let job = job-of f c.args.hands.items w e.world in
+    let fit = subst IsSound job sound in
+    let wave = subst (λ (j : JobOf). IsWave (system_of (plan_of j.shape) j.inputs k) fronts (histories_in w)) job
+    (is-wave f sound c.args.hands.items w e.world c.args.wave c.requires.lanes c.requires.answer fronts seen k agree) in
+    let cut = (e.kept.moment k agree).cut in
+    let clean = no-stray w k e.kept e.world.spare fit.ranks in
+    sym (c.one_wave.ensures.whole (plan_of w.shape) w.inputs k fronts (histories_in w) fit.plan fit.inputs cut clean wave r
+    (let a = fit.ranks in let b = ap (λ (j : JobOf). j.shape.ranks) job in omega (arith, low, a, b)))

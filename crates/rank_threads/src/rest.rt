@@ -1,0 +1,50 @@
+//! How a fabric is closed that a wave of probes found at rest.
+
+ghost use Rattle.std.specs.Prelude.{ℕ, ◌≡◌, ◌<◌, ◌^◌, All};
+ghost use Rattle.plan_view.specs.Slots.{Slots};
+ghost use Rattle.plan_cuts.specs.Cut.{IsAtRest};
+ghost use Rattle.plan_cuts.specs.System.{Histories};
+ghost use Rattle.shape_plans.specs.Drawing.{plan_of};
+ghost use Rattle.job_laws.specs.Barriers.{AreBarriersKept};
+ghost use Rattle.rest_probe.specs.declared.answers.WaveAnswer.TheVariants.{Rest};
+ghost use Rattle.rest_probe.specs.Answered.{Answered};
+ghost use Rattle.rest_probe.specs.Waves.{IsFor};
+ghost use Rattle.turn_table.specs.Hands.{IsFree, parts_of};
+ghost use Rattle.worlds.specs.Standing.{IsStanding};
+ghost use Rattle.worlds.specs.World.{AreSlots, histories_in, ranks_in};
+ghost use Rattle.rank_threads.specs.Closing.{IsWorldOf};
+ghost use Rattle.rank_threads.specs.Resting.{AreFrontsOf};
+
+use crate::fabric::{Fabric, Hand};
+use crate::gate::Gate;
+use crate::lanes::sound;
+use plan_rest::one_wave;
+use rest_probe::Wave;
+use std::sync::Wait;
+use worlds::World;
+
+impl<G: Gate + Drop> Fabric<G> {
+    /// Ends the fabric as `close` does, where a wave of probes answered that the job is at rest. The note of each rank is what a
+    /// beginning of a history says that one of these hands has seen there. The world is at rest, and each of its histories is that
+    /// beginning: no rank made a further step.
+    pub fn close_at_rest<R: Wait>(self, rt: &R, hands: Vec<Hand>, wave: Wave) -> World
+        requires hands { All (λ h. IsFree self.turns h) hands.items }
+        requires all { parts_of hands.items ≡ 2 ^ 32 }
+        requires lanes { IsFor (plan_of self.job.shape) wave }
+        requires answer { Answered wave Rest }
+        requires noted { (fronts : Histories) × AreFrontsOf self.job hands.items fronts wave }
+        ensures world { IsWorldOf self hands.items result }
+        ensures kept { IsStanding result }
+        ensures barriers { (slots : ℕ → Slots) → AreSlots result slots →
+            AreBarriersKept result.shape result.inputs slots (histories_in result) }
+        ensures rest { (slots : ℕ → Slots) → AreSlots result slots → IsAtRest (ranks_in result slots) (histories_in result) }
+        ensures whole { (fronts : Histories) → AreFrontsOf self.job hands.items fronts wave → (r : ℕ) → r < self.job.shape.ranks →
+            histories_in result r ≡ fronts r }
+    {
+        // What every job is, and the law of one wave, are told here.
+        sound(&self.job);
+        one_wave();
+        let _wave = wave;
+        self.close(rt, hands)
+    }
+}
