@@ -1,6 +1,6 @@
 //! Waves of probes between the calls of a script.
 
-ghost use Rattle.std.specs.Prelude.{true, ◌≡◌, length};
+ghost use Rattle.std.specs.Prelude.{true, ◌≡◌, IfOk, length};
 ghost use Rattle.ptl_types.specs.declared.headers.Lane.TheVariants.{Request};
 ghost use Rattle.plan_calls.specs.Lanes.{is_used_lane};
 ghost use Rattle.rest_probe.specs.Waves.{IsFor};
@@ -10,10 +10,21 @@ ghost use Rattle.turn_table.specs.Hands.{IsFree};
 use crate::hands::{opened, two_hands};
 use crate::jobs::{TWO_RANKS, is_pair, job_of};
 use crate::scripts::script;
+use ptl_types::NoMemory;
 use rank_threads::{Fabric, Hand, OpenGate};
 use rest_probe::{Wave, WaveAnswer};
+use schedule_compiler::Job;
+use std::alloc::Global;
 use std::sync::Wait;
 use std::test::*;
+
+/// The room of a wave for a fabric of this job.
+fn room(alloc: Global, fabric: &Fabric<OpenGate>, job: &Job) -> Result<Wave, NoMemory>
+    requires { fabric.now.job ≡ job.now }
+    ensures { IfOk result (λ w. IsFor (plan_of fabric.now.job.shape) w) }
+{
+    Wave::open(alloc, job.schedule())
+}
 
 /// What a wave answers after the script, and what one answers once both ranks have started.
 fn waves<R: Wait>(
@@ -43,8 +54,8 @@ fn waves_name_what_is_left(rt: HostRuntime) -> Result<(), Fail> {
     let alloc = rt.alloc();
     let job = job_of(&rt, alloc, TWO_RANKS);
     assert!(rt; is_pair(&job));
-    let mut wave = Wave::open(alloc, job.schedule())?;
     let (fabric, hands) = opened(&rt, alloc, &job, 2, OpenGate)?;
+    let mut wave = room(alloc, &fabric, &job)?;
     let (mut one, mut two) = two_hands(&fabric, hands);
     let [first, second] = waves(&rt, &fabric, &mut one, &mut two, &mut wave);
     assert_eq!(rt; first, WaveAnswer::NotStarted(1));

@@ -1,4 +1,4 @@
-use Rattle.std.proofs.Common.{arith, ◌≡◌, ◌<◌, ◌++◌, [], ℕ, List, length, get_or, sym, ap, ◌∙◌, subst, take, drop}
+use Rattle.std.proofs.Common.{arith, ◌≡◌, ◌<◌, ◌++◌, [], ℕ, List, length, map, get_or, sym, ap, ◌∙◌, subst, take, drop}
 use mathlib.Core.Option.{some}
 use lib.ListN.{get_elem?}
 use Rattle.coll_shape.specs.Outline.{Outline}
@@ -6,10 +6,11 @@ use Rattle.shape_plans.specs.Drawing.{plan_of}
 use Rattle.rank_threads.specs.declared.slot.Slot.{Slot}
 use Rattle.schedule_compiler.specs.Jobs.{JobOf}
 use Rattle.worlds.specs.Frames.{IsFrameOf}
+use Rattle.rank_threads.specs.Chronicles.{chronicle, entry}
 use Rattle.rank_threads.specs.Fabrics.{IsFabric, IsNamed}
 use Rattle.rank_threads.specs.Lanes.{AreLanes}
 use Rattle.rank_threads.specs.Moves.{AllFresh, AllLaid}
-use Rattle.rank_threads.specs.Names.{history, plate}
+use Rattle.rank_threads.specs.Names.{plate}
 use Rattle.rank_threads.proofs.Pairs.{exists_at}
 use Rattle.rank_threads.proofs.Snocs.{read, written}
 use Rattle.rank_threads.proofs.fabric.Fabric.open.Goals as goal
@@ -29,8 +30,8 @@ pub open-requires-2-clause-empty : goal.open-requires-2-clause-empty
 open-requires-2-clause-empty g c =
     let e = c.lay_wires.ensures in let new = c.lay_wires.new.slots in
     let slots : take c.in_ok-slots.slots.len (new ++ drop (length new) c.in_ok-slots.slots.items) ≡ new = written c.in_ok-slots.slots.len new _ (sym (e.count ∙ c.deref_mut.ensures.len)) in
-    subst (λ (l : List Slot). (k : ℕ) (d : Slot) → k < length l → history (get_or l k d) ≡ []) (sym slots)
-    (λ k d h. let x = exists_at new k h in ap history (read new k x.0 d x.1) ∙ (e.fresh k x.0 x.1).history_is)
+    subst (λ (l : List Slot). (k : ℕ) (d : Slot) → k < length l → chronicle (get_or l k d) ≡ []) (sym slots)
+    (λ k d h. let x = exists_at new k h in ap chronicle (read new k x.0 d x.1) ∙ ap (map (entry x.0.node.value.kept)) (e.fresh k x.0 x.1).history_is)
 
 pub invariant_of-fabric : goal.invariant_of-fabric
 invariant_of-fabric g c =
