@@ -109,7 +109,7 @@ module _ (f : FabricState) (sound : IsSound f.job) (hands : List (HandState Slot
   is-wave = record {
     front = λ r low. (let x = note-at r low in (told r low x.0 x.1).begins);
     started = λ r low. (let x = note-at r low in ltb-true 0 (count_by is_start (fronts r)) (told r low x.0 x.1).started);
-    idle = λ r t low. (let x = note-at r low in none-ready _ x.0.note.ready (answer.1 (suc r) r x.0 (omega arith) x.1) (told r low x.0 x.1).ready t);
+    idle = λ r t low. (let x = note-at r low in none-ready (state_after f.job r (k r) (fronts r)) x.0.note.ready (answer.1 (suc r) r x.0 (omega arith) x.1) (told r low x.0 x.1).ready t);
     balanced = even;
   }
 

@@ -8,11 +8,13 @@ ghost use Rattle.rank_node.specs.Node.{IsNode};
 ghost use Rattle.shape_plans.specs.Drawing.{plan_of};
 ghost use Rattle.rank_threads.specs.declared.slot.Slot.{Slot};
 ghost use Rattle.rank_threads.specs.Fabrics.{IsNamed};
+ghost use Rattle.rank_threads.specs.Lanes.{AreLanes};
 ghost use Rattle.rank_threads.specs.Chronicles.{chronicle};
 ghost use Rattle.rank_threads.specs.Names.{IsWired, Mark, mark, plate};
 ghost use Rattle.rank_threads.specs.Sound.{IsSound};
 ghost use Rattle.rank_threads.specs.Steps.{Begun, Delivered, Fired, IsIdle, IsOfHistory, Made};
 ghost use Rattle.rank_threads.specs.Turns.{MayEnd, Turned};
+ghost use Rattle.rank_threads.specs.Wiring.{bounds_of};
 
 use crate::fabric::{Fabric, Hand};
 use crate::gate::{Gate, StartAnswer};
@@ -28,6 +30,7 @@ impl<G: Gate + Drop> Fabric<G> {
         requires rank { rank < self.now.job.shape.ranks }
         ensures slot { result.slot ≡ rank }
         ensures sound { IsSound self.now.job }
+        ensures lanes { AreLanes (plan_of self.now.job.shape) (bounds_of self.now.wires) }
         ensures named { IsNamed self.now.job self.now.wires rank (plate result.value) }
         ensures wired { IsWired self.now.wires (plate result.value) }
         ensures kept { IsNode result.value.node.value }

@@ -8,7 +8,6 @@ use Rattle.rest_probe.specs.declared.notes.Noted.{Noted}
 use Rattle.rest_probe.specs.Waves.{IsFor}
 use Rattle.rest_probe.proofs.Kept.{for-set}
 use Rattle.rank_threads.specs.Chronicles.{chronicle}
-use Rattle.rank_threads.specs.Fabrics.{FabricState, IsFabric}
 use Rattle.rank_threads.specs.Names.{history, mark, plate}
 use Rattle.rank_threads.specs.Probes.{Says}
 use Rattle.rank_threads.specs.Sound.{IsSound}
@@ -24,24 +23,21 @@ note_in-requires-clause-rank g c = let n = c.requires.lanes.count in let s = c.t
 
 pub note_in-requires-clause-outs : goal.note_in-requires-clause-outs
 note_in-requires-clause-outs g c = let t = c.take-slot in let now = c.args.self.now in
-    let f = subst (λ (f : FabricState). IsFabric f.job f.turns.start f.wires) c.self.view_is c.self.invariant.fabric in
-    has-out now.job t.ensures.sound now.wires f.lanes c.args.rank t.result.value t.ensures.named c.args.wave.now c.requires.lanes
+    has-out now.job t.ensures.sound now.wires t.ensures.lanes c.args.rank t.result.value t.ensures.named c.args.wave.now c.requires.lanes
 
 pub note_in-requires-clause-ins : goal.note_in-requires-clause-ins
 note_in-requires-clause-ins g c = let t = c.take-slot in let now = c.args.self.now in
-    let f = subst (λ (f : FabricState). IsFabric f.job f.turns.start f.wires) c.self.view_is c.self.invariant.fabric in
-    has-in now.job t.ensures.sound now.wires f.lanes c.args.rank t.result.value t.ensures.named c.args.wave.now c.requires.lanes
+    has-in now.job t.ensures.sound now.wires t.ensures.lanes c.args.rank t.result.value t.ensures.named c.args.wave.now c.requires.lanes
 
 pub give-requires-clause-sound : goal.give-requires-clause-sound
-give-requires-clause-sound g c = subst IsSound (sym c.take-slot.ensures.named.job_is) c.take-slot.ensures.sound
+give-requires-clause-sound g c = λ _ _. subst IsSound (sym c.take-slot.ensures.named.job_is) c.take-slot.ensures.sound
 
 pub give-requires-clause-taken : goal.give-requires-clause-taken
-give-requires-clause-taken g c = let t = c.take-slot in let x = t.result.value in
+give-requires-clause-taken g c = λ _ _. let t = c.take-slot in let x = t.result.value in
     may-end t.result.slot c.args.rank c.args.hand.now.knows t.new.hand.knows x x t.ensures.slot t.ensures.took refl ([], append-nil (history x)) (keeps-still x x refl)
 
 pub returns-clause-noted : goal.returns-clause-noted
 returns-clause-noted g c = let t = c.take-slot in let x = t.result.value in let now = c.args.self.now in let w = c.args.wave.now in let r = c.args.rank in
-    let f = subst (λ (f : FabricState). IsFabric f.job f.turns.start f.wires) c.self.view_is c.self.invariant.fabric in
     let took = subst (λ k. Took chronicle plate c.args.hand.now.knows k x t.new.hand.knows) (sym t.ensures.slot) t.ensures.took in
     let one = subst (λ k. Turned c.args.hand.now.knows c.give.new.hand.knows k (mark x) (mark x)) t.ensures.slot (c.give.ensures.turned c.args.hand.now.knows x took) in
     let low : r < length w = (let n = c.requires.lanes.count in let s = t.ensures.sound.ranks in let h = c.requires.rank in omega (arith, n, s, h)) in
@@ -51,7 +47,7 @@ returns-clause-noted g c = let t = c.take-slot in let x = t.result.value in let 
       λ z at. (let same = same_at (slice_set w r e.0) r e.0 z (set_here w r e.0 low) (ap (λ (l : List Noted). get_elem? l r) (sym e.1) ∙ at) in (
         sym (ap (λ (v : Noted). v.there) same) ∙ e.2.there,
         subst (λ (v : Noted). Says now.job r (history x) x.node.value.kept v.note) same
-            (says now.job t.ensures.sound now.wires f.lanes r x t.ensures.named w c.requires.lanes y.0 e.0 t.ensures.kept e.2),
+            (says now.job t.ensures.sound now.wires t.ensures.lanes r x t.ensures.named w c.requires.lanes y.0 e.0 t.ensures.kept e.2),
       )),
     )
 

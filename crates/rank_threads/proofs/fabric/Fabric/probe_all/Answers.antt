@@ -24,7 +24,7 @@ pub probe-requires-clause-rank : goal.probe-requires-clause-rank
 probe-requires-clause-rank g c = let k = c.self.invariant.ranks_are in let e = ap (λ (f : FabricState). f.job.shape.ranks) c.self.view_is in let t = c.loop-rank-test.true in omega (arith, t, k, e)
 
 pub probe-requires-clause-empty : goal.probe-requires-clause-empty
-probe-requires-clause-empty g c = λ x at. c.loop-rank.invariant.later c.loop-rank.rank x (omega arith) at
+probe-requires-clause-empty g c = λ _ _ x at. c.loop-rank.invariant.later c.loop-rank.rank x (omega arith) at
 
 pub loop-rank-preserved : goal.loop-rank-preserved
 loop-rank-preserved g c = let i = c.loop-rank.invariant in let e = c.probe.ensures in let rank = c.loop-rank.rank in let z = c.probe.new.wave in record {

@@ -11,6 +11,9 @@ use Rattle.rank_threads.proofs.fabric.Fabric.take.Goals as goal
 pub returns-clause-sound : goal.returns-clause-sound
 returns-clause-sound g c = let f = subst (λ (f : FabricState). IsFabric f.job f.turns.start f.wires) c.self.view_is c.self.invariant.fabric in f.sound
 
+pub returns-clause-lanes : goal.returns-clause-lanes
+returns-clause-lanes g c = let f = subst (λ (f : FabricState). IsFabric f.job f.turns.start f.wires) c.self.view_is c.self.invariant.fabric in f.lanes
+
 pub returns-clause-named : goal.returns-clause-named
 returns-clause-named g c =
     let f = subst (λ (f : FabricState). IsFabric f.job f.turns.start f.wires) c.self.view_is c.self.invariant.fabric in

@@ -14,12 +14,12 @@ use Rattle.rank_threads.proofs.slot.Slot.note_sent.Goals as goal
 pub loop-i-init : goal.loop-i-init
 loop-i-init c = λ x at. let s = c.args.self.now in none-sofar with_sent (HasSentOn s) x.note.sent c.args.rank x c.args.wave.now at refl
 
-pub note-in-loop-i-requires-clause-rank : goal.note-in-loop-i-requires-clause-rank
-note-in-loop-i-requires-clause-rank c = let w = c.args.wave.now in let r = c.args.rank in let y = exists_at w r c.requires.rank in
+pub note-requires-in-loop-i-clause-rank : goal.note-requires-in-loop-i-clause-rank
+note-requires-in-loop-i-clause-rank c = let w = c.args.wave.now in let r = c.args.rank in let y = exists_at w r c.requires.rank in
     let h = c.loop-i.invariant y.0 y.1 in let n = set-long w c.loop-i.wave r (with_sent y.0 h.counts) h.wave in let low = c.requires.rank in omega (arith, n, low)
 
-pub note-in-loop-i-requires-clause-there : goal.note-in-loop-i-requires-clause-there
-note-in-loop-i-requires-clause-there c = λ z at. let w = c.args.wave.now in let r = c.args.rank in let y = exists_at w r c.requires.rank in
+pub note-requires-in-loop-i-clause-there : goal.note-requires-in-loop-i-clause-there
+note-requires-in-loop-i-clause-there c = λ z at. let w = c.args.wave.now in let r = c.args.rank in let y = exists_at w r c.requires.rank in
     let h = c.loop-i.invariant y.0 y.1 in let here = set-is w c.loop-i.wave r (with_sent y.0 h.counts) c.requires.rank h.wave in
     ap (λ (v : Noted). v.there) (sym (same_at c.loop-i.wave r (with_sent y.0 h.counts) z here at)) ∙ c.requires.there y.0 y.1
 

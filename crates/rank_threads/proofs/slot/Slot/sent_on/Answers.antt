@@ -15,8 +15,8 @@ pub unreachable-requires : goal.unreachable-requires
 unreachable-requires c = let e = c.requires in
     (c.in-None.ensures).none e.0 e.1 (ap (λ (l : List OutPort). get_elem? l e.0) c.deref.ensures.value ∙ e.2) e.3 e.4
 
-pub returns-in-Some : goal.returns-in-Some
-returns-in-Some c = λ k agree. let s = c.args.self.now in let f = (c.in-Some.ensures).some in let p = c.index.result.now in
+pub returns : goal.returns
+returns c = λ k agree. let s = c.args.self.now in let f = (c.in-Some.ensures).some in let p = c.index.result.now in
     let was = ap (λ (l : List OutPort). get_elem? l c.in-Some.at) (sym c.deref.ensures.value) ∙ f.1 in
     let there = at_index s.outs.items c.in-Some.at p (within s.outs.items c.in-Some.at f.0 was) c.index.ensures in
     let one = same_at s.outs.items c.in-Some.at p f.0 there was in
