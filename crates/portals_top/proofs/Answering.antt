@@ -18,7 +18,7 @@ use Rattle.portals_top.specs.declared.status.Status.TheVariants.{Done, Usage, Re
 use Rattle.portals_top.specs.declared.words.Command.{Command}
 use Rattle.portals_top.specs.declared.words.Command.TheVariants.{Execute, Plan}
 use Rattle.portals_top.specs.declared.words.Mode.{Mode}
-use Rattle.portals_top.specs.declared.words.Mode.TheVariants.{Once, Sim, Run, Trace}
+use Rattle.portals_top.specs.declared.words.Mode.TheVariants.{Once, Sim, Run, Trace, Steady}
 use Rattle.portals_top.specs.Due.{done, due, due_chosen, due_compiled, due_described, due_in_mode, due_of, excess_name, refused, step_line}
 use Rattle.portals_top.specs.declared.words.Task.{Task}
 use Rattle.portals_top.specs.Formats.{read_as}
@@ -65,6 +65,7 @@ mode-owed Once c ran = λ is. absurd (cc)
 mode-owed (Sim seed) c ran = λ is. absurd (cc)
 mode-owed (Run workers) c ran = λ is. absurd (cc)
 mode-owed (Trace workers) c ran = λ is. absurd (cc)
+mode-owed (Steady workers) c ran = λ is. absurd (cc)
 
 chosen-owed : (command : Command) (c : Chosen) (ran : Option ChoiceState) → (due_chosen command c ran).status ≢ Usage
 chosen-owed (Execute mode) c ran = mode-owed mode c ran

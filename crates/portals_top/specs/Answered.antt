@@ -13,7 +13,7 @@ use Rattle.portals_top.specs.declared.ran.Ran.{Ran}
 use Rattle.portals_top.specs.declared.status.Status.{Status}
 use Rattle.portals_top.specs.declared.status.Status.TheVariants.{Done, Usage, Refused, ReadFault, WriteFault, NoMemory}
 use Rattle.portals_top.specs.declared.words.Mode.{Mode}
-use Rattle.portals_top.specs.declared.words.Mode.TheVariants.{Once, Sim, Run, Trace}
+use Rattle.portals_top.specs.declared.words.Mode.TheVariants.{Once, Sim, Run, Trace, Steady}
 use Rattle.portals_top.specs.declared.words.Command.{Command}
 use Rattle.portals_top.specs.declared.words.Command.TheVariants.{Execute, Plan}
 use Rattle.portals_top.specs.declared.words.Task.{Task}
@@ -62,6 +62,7 @@ IsInMode Once w = Unit {0}
 IsInMode (Sim seed) w = IsInOrder seed w
 IsInMode (Run workers) w = Unit {0}
 IsInMode (Trace workers) w = Unit {0}
+IsInMode (Steady workers) w = Unit {0}
 
 -- the world that a run of a description leaves
 abbrev pub LeavesRun : Mode → Outline → Lists → Option WorldState → Type 0
@@ -78,6 +79,7 @@ IsChoiceInMode Once w = Unit {0}
 IsChoiceInMode (Sim seed) w = IsChoiceInOrder seed w
 IsChoiceInMode (Run workers) w = ⊥
 IsChoiceInMode (Trace workers) w = ⊥
+IsChoiceInMode (Steady workers) w = ⊥
 
 -- the choice world that a run of a choice text on n ranks leaves
 abbrev pub LeavesChoice : Mode → ℕ → Chosen → Option ChoiceState → Type 0

@@ -20,7 +20,7 @@ use Rattle.plan_choice.specs.World.{ChoiceState}
 use Rattle.portals_top.specs.declared.status.Status.{Status}
 use Rattle.portals_top.specs.declared.status.Status.TheVariants.{Done, Usage, Refused, ReadFault, WriteFault, NoMemory}
 use Rattle.portals_top.specs.declared.words.Mode.{Mode}
-use Rattle.portals_top.specs.declared.words.Mode.TheVariants.{Once, Sim, Run, Trace}
+use Rattle.portals_top.specs.declared.words.Mode.TheVariants.{Once, Sim, Run, Trace, Steady}
 use Rattle.portals_top.specs.declared.words.Command.{Command}
 use Rattle.portals_top.specs.declared.words.Command.TheVariants.{Execute, Plan}
 use Rattle.portals_top.specs.declared.words.Task.{Task}
@@ -29,7 +29,7 @@ use Rattle.portals_top.specs.Choosing.{choice_orders_of, values_of}
 use Rattle.portals_top.specs.Formats.{read_as}
 
 abbrev pub usage_line : List ℕ
-usage_line = line (codes "usage: portals_run once | sim X | plan | run W | trace W | large K W | check | json W" ∷ [])
+usage_line = line (codes "usage: portals_run once | sim X | plan | run W | trace W | large K W | check | steady W | json W" ∷ [])
 
 -- the status that is owed, which is Done, Usage or Refused, and the text
 pub record Due : Type 0 where
@@ -64,6 +64,7 @@ mode_text Once o inputs ran = result_text o inputs
 mode_text (Sim seed) o inputs ran = result_text o inputs ++ orders_of ran
 mode_text (Run workers) o inputs ran = result_text o inputs
 mode_text (Trace workers) o inputs ran = result_text o inputs ++ orders_of ran
+mode_text (Steady workers) o inputs ran = result_text o inputs
 
 -- what is written of a description whose shape isn't refused
 abbrev pub done_text : Command → Outline → Lists → Option WorldState → List ℕ
@@ -81,6 +82,7 @@ due_in_mode Once c ran = done (values_of c ran)
 due_in_mode (Sim seed) c ran = done (values_of c ran ++ choice_orders_of ran)
 due_in_mode (Run workers) c ran = refused 0 OneThread
 due_in_mode (Trace workers) c ran = refused 0 OneThread
+due_in_mode (Steady workers) c ran = refused 0 OneThread
 
 -- its steps have no plan
 abbrev pub due_chosen : Command → Chosen → Option ChoiceState → Due

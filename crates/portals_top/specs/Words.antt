@@ -3,7 +3,7 @@ use Rattle.std.specs.Prelude.{ℕ, ◌<◌, List, [], ◌∷◌, Option, Some, N
 use Rattle.std.specs.Str.{bytes_eq}
 use Rattle.coll_text.specs.Text.{number_between}
 use Rattle.portals_top.specs.declared.words.Mode.{Mode}
-use Rattle.portals_top.specs.declared.words.Mode.TheVariants.{Once, Sim, Run, Trace}
+use Rattle.portals_top.specs.declared.words.Mode.TheVariants.{Once, Sim, Run, Trace, Steady}
 use Rattle.portals_top.specs.declared.words.Command.{Command}
 use Rattle.portals_top.specs.declared.words.Command.TheVariants.{Execute, Plan}
 use Rattle.portals_top.specs.declared.words.Format.{Format}
@@ -42,6 +42,9 @@ run_of workers = option_map (λ w. Do (text_task (Execute (Run w)))) workers
 abbrev pub trace_of : Option ℕ → Option Request
 trace_of workers = option_map (λ w. Do (text_task (Execute (Trace w)))) workers
 
+abbrev pub steady_of : Option ℕ → Option Request
+steady_of workers = option_map (λ w. Do (text_task (Execute (Steady w)))) workers
+
 abbrev pub json_of : Option ℕ → Option Request
 json_of workers = option_map (λ w. Do (record { format = Json; command = Execute (Run w) })) workers
 
@@ -50,6 +53,7 @@ two_words word number =
     if bytes_eq word (codes "sim") then sim_of (seed_of number)
     else if bytes_eq word (codes "run") then run_of (workers_of number)
     else if bytes_eq word (codes "trace") then trace_of (workers_of number)
+    else if bytes_eq word (codes "steady") then steady_of (workers_of number)
     else if bytes_eq word (codes "json") then json_of (workers_of number)
     else None
 
@@ -60,7 +64,7 @@ large_of (Some k) workers = option_map (λ w. Large k w) workers
 abbrev pub three_words : List ℕ → List ℕ → List ℕ → Option Request
 three_words word number workers = if bytes_eq word (codes "large") then large_of (chosen_of number) (workers_of workers) else None
 
--- `once`, `plan`, `check`, `sim X`, `run W`, `trace W`, `json W` or `large K W`
+-- `once`, `plan`, `check`, `sim X`, `run W`, `trace W`, `steady W`, `json W` or `large K W`
 abbrev pub request : List (List ℕ) → Option Request
 request [] = None
 request (word ∷ []) = one_word word
@@ -74,6 +78,7 @@ HasWorkers Once = Unit {0}
 HasWorkers (Sim seed) = Unit {0}
 HasWorkers (Run workers) = 0 < workers
 HasWorkers (Trace workers) = 0 < workers
+HasWorkers (Steady workers) = 0 < workers
 
 abbrev pub CanDo : Command → Type 0
 CanDo (Execute mode) = HasWorkers mode

@@ -123,7 +123,9 @@ fn in_mode<K: Sink>(
     match mode {
         Mode::Once => once(alloc, ranks, choices, sink, ran),
         Mode::Sim { seed } => sim(alloc, ranks, choices, seed, sink, ran),
-        Mode::Run { .. } | Mode::Trace { .. } => refuse(alloc, sink, 0, Refusal::OneThread),
+        Mode::Run { .. } | Mode::Trace { .. } | Mode::Steady { .. } => {
+            refuse(alloc, sink, 0, Refusal::OneThread)
+        }
     }
 }
 

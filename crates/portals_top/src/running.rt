@@ -1,6 +1,9 @@
 //! Running a job, and writing what the world then holds.
 
-ghost use Rattle.std.specs.Prelude.{◌≡◌, ◌<◌, IfOk, Some};
+ghost use Rattle.std.specs.Prelude.{◌≡◌, ◌<◌, ◌^◌, All, IfOk, Some, length};
+ghost use Rattle.rest_probe.specs.Waves.{IsFor};
+ghost use Rattle.shape_plans.specs.Drawing.{plan_of};
+ghost use Rattle.turn_table.specs.Hands.{IsFree, parts_of};
 ghost use Rattle.portals_top.specs.Answered.{HandsBack, LeavesRun, LeavesWorld};
 ghost use Rattle.portals_top.specs.Due.{done, mode_text};
 ghost use Rattle.portals_top.specs.Left.{nothing_ran};
@@ -15,7 +18,8 @@ use crate::words::{Command, Mode};
 use crate::writing::{Rested, status_of, write_run};
 use port_io::Sink;
 use ptl_types::NoMemory;
-use rank_threads::{Fabric, Gate, run_and_close};
+use rank_threads::{Fabric, Gate, Hand, run_and_close, run_steady};
+use rest_probe::Wave;
 use run_text::Pieces;
 use schedule_compiler::Job;
 use std::alloc::Global;
@@ -69,6 +73,44 @@ pub(crate) fn run_by_workers<R: Threads + Wait + Sync, G: Gate>(
     Ok(finished(run_and_close(rt, fabric, hands)))
 }
 
+/// Lets a worker for each hand make steps until a wave of probes has found rest, and closes the fabric.
+fn close_steady<R: Threads + Wait + Sync, G: Gate + Drop>(
+    rt: &R,
+    fabric: Fabric<G>,
+    hands: Vec<Hand>,
+    wave: Wave,
+) -> World
+    requires hands { All (λ h. IsFree fabric.turns h) hands.items }
+    requires all { parts_of hands.items ≡ 2 ^ 32 }
+    requires some { 0 < length hands.items }
+    requires few { length hands.items < 2 ^ 32 }
+    requires lanes { IsFor (plan_of fabric.job.shape) wave }
+    ensures shape { result.shape ≡ fabric.job.shape }
+    ensures inputs { result.inputs ≡ fabric.job.inputs }
+    ensures own { result.spare ≡ 0 }
+{
+    let mut hands = hands;
+    let mut wave = wave;
+    run_steady(rt, &fabric, &mut hands, &mut wave);
+    fabric.close_at_rest(rt, hands, wave)
+}
+
+/// Runs a job by workers on threads that leave nothing. Where no thread can be started, the call does a worker's part itself.
+fn run_steadily<R: Threads + Wait + Sync, G: Gate>(
+    rt: &R,
+    alloc: Global,
+    gate: &G,
+    workers: u32,
+    job: &Job,
+) -> Result<World, NoMemory>
+    requires { 0 < workers }
+    ensures { IfOk result (λ w. IsRun job.now.shape job.now.inputs w) }
+{
+    let wave = Wave::open(alloc, job.schedule())?;
+    let (fabric, hands) = Fabric::open(rt, alloc, job, workers, gate)?;
+    Ok(finished(close_steady(rt, fabric, hands, wave)))
+}
+
 /// Runs a job in this mode.
 fn run_in<R: Threads + Wait + Sync, G: Gate>(
     rt: &R,
@@ -86,6 +128,7 @@ fn run_in<R: Threads + Wait + Sync, G: Gate>(
         Mode::Run { workers } | Mode::Trace { workers } => {
             run_by_workers(rt, alloc, gate, workers, job)
         }
+        Mode::Steady { workers } => run_steadily(rt, alloc, gate, workers, job),
     }
 }
 

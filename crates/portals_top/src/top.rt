@@ -41,7 +41,7 @@ const LONGEST: usize = 1_048_576;
 const LONGEST_CHECKED: usize = 16_777_216;
 
 const USAGE: &[u8] =
-    b"usage: portals_run once | sim X | plan | run W | trace W | large K W | check | json W\n";
+    b"usage: portals_run once | sim X | plan | run W | trace W | large K W | check | steady W | json W\n";
 
 /// Writes the usage line.
 fn usage<K: Sink>(sink: &mut K) -> Status
@@ -221,10 +221,11 @@ pub fn run_with_gate<R: Threads + Wait + Sync, S: Source, K: Sink, G: Gate>(
 /// `once` reads a description and runs it on one thread. `sim X` runs it in the order that the words of a generator with the seed X
 /// choose, and writes that order too. A choice text is run by these two alone. `run W` runs it by W workers on threads, from 1 to
 /// 16, and `trace W` writes the order of each rank's steps too; where no thread can be started, the call does a worker's part
-/// itself. `json W` does what `run W` does with a description in JSON. `large K W` reads nothing: W workers run the description
-/// that the number K, below 65,536, chooses, and its summary is written. `plan` writes the plan that the description is compiled
-/// to; nothing is run. `check` reads a description and behind it, for each rank, the line of its local steps, and writes the
-/// verdict on these. All other words get the usage line, and leave the source unread.
+/// itself. `steady W` does what `run W` does, by workers that go on until a wave of probes has found that nothing is left. `json W`
+/// does what `run W` does with a description in JSON. `large K W` reads nothing: W workers run the description that the number K,
+/// below 65,536, chooses, and its summary is written. `plan` writes the plan that the description is compiled to; nothing is run.
+/// `check` reads a description and behind it, for each rank, the line of its local steps, and writes the verdict on these. All
+/// other words get the usage line, and leave the source unread.
 ///
 /// The world that ran, or the choice world, is handed back in `ran`, where a result was owed and the run was made; after every
 /// other answer there is none, whatever there was before. Of a source that doesn't tell its bytes there are bytes for which all

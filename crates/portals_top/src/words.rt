@@ -1,7 +1,7 @@
 //! The words of the command line.
 
 ghost use Rattle.std.specs.Prelude.{◌≡◌, map, string_bytes, IfSome};
-ghost use Rattle.portals_top.specs.Words.{CanAnswer, chosen_of, json_of, large_of, request, run_of, seed_of, sim_of, text_task, trace_of, workers_of};
+ghost use Rattle.portals_top.specs.Words.{CanAnswer, chosen_of, json_of, large_of, request, run_of, seed_of, sim_of, steady_of, text_task, trace_of, workers_of};
 
 use coll_text::{Number, number_at, number_between};
 
@@ -22,6 +22,11 @@ pub enum Mode {
     },
     /// By workers on threads. The results and the order of each rank's steps are written.
     Trace {
+        /// How many workers there are, from 1 to 16.
+        workers: u32,
+    },
+    /// By workers on threads that go on until a wave of probes has found rest. The results are written.
+    Steady {
         /// How many workers there are, from 1 to 16.
         workers: u32,
     },
@@ -123,6 +128,17 @@ fn trace_in(word: &[u8]) -> Option<Request>
     }
 }
 
+/// What `steady` and this word ask for.
+fn steady_in(word: &[u8]) -> Option<Request>
+    ensures value { result ≡ steady_of (workers_of word.now) }
+    ensures possible { IfSome result CanAnswer }
+{
+    match number_between(1, 16, word) {
+        Some(workers) => Some(Request::Do(text_task(Command::Execute(Mode::Steady { workers })))),
+        None => None,
+    }
+}
+
 /// What `json` and this word ask for.
 fn json_in(word: &[u8]) -> Option<Request>
     ensures value { result ≡ json_of (workers_of word.now) }
@@ -161,6 +177,7 @@ pub(crate) fn request_in(words: &[String]) -> Option<Request>
         [word, number] if word.as_str() == "sim" => sim_in(number.as_bytes()),
         [word, number] if word.as_str() == "run" => run_in(number.as_bytes()),
         [word, number] if word.as_str() == "trace" => trace_in(number.as_bytes()),
+        [word, number] if word.as_str() == "steady" => steady_in(number.as_bytes()),
         [word, number] if word.as_str() == "json" => json_in(number.as_bytes()),
         [word, number, workers] if word.as_str() == "large" => {
             large_in(number.as_bytes(), workers.as_bytes())

@@ -152,7 +152,7 @@ pub(crate) fn write_run<K: Sink>(
     ensures { EndsWith (K.outflow sink.old) (K.outflow sink.new) (mode_text mode rested.now.0.shape rested.now.0.inputs (Some rested.now.0)) result }
 {
     match mode {
-        Mode::Once | Mode::Run { .. } => write_results(out, sink, rested),
+        Mode::Once | Mode::Run { .. } | Mode::Steady { .. } => write_results(out, sink, rested),
         Mode::Sim { .. } | Mode::Trace { .. } => write_ordered(out, sink, rested),
     }
 }

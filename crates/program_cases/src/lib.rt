@@ -24,6 +24,8 @@ mod results;
 #[cfg(test)]
 mod runs;
 #[cfg(test)]
+mod steady;
+#[cfg(test)]
 mod texts;
 #[cfg(test)]
 mod verdicts;

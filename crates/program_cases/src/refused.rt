@@ -104,13 +104,14 @@ on g scatter 0 b c\nprint c\nend\n",
 #[test]
 fn a_refused_text_gets_its_line_under_each_command(rt: HostRuntime) -> Result<(), Fail> {
     let alloc = rt.alloc();
-    let commands: [&[&str]; 6] = [
+    let commands: [&[&str]; 7] = [
         &["once"],
         &["plan"],
         &["check"],
         &["sim", "1"],
         &["run", "2"],
         &["trace", "2"],
+        &["steady", "2"],
     ];
     for command in commands {
         for (text, output) in REFUSED {
@@ -125,13 +126,14 @@ fn commands_that_refuse_in_their_own_way(rt: HostRuntime) -> Result<(), Fail> {
     let alloc = rt.alloc();
     let behind = "coll 1\nranks 1\nend\nx";
     let choice = "coll 2\nranks 1\nelect e\ntickets t\nprint e\nprint t\nend\n";
-    let cases: [(&[&str], &str, &str); 7] = [
+    let cases: [(&[&str], &str, &str); 8] = [
         // What stands behind a description is an order line that isn't ended, where orders are due.
         (&["once"], behind, "refused 4 AfterEnd\n"),
         (&["check"], behind, "refused 4 Unended\n"),
         (&["plan"], choice, "refused 0 OneThread\n"),
         (&["run", "2"], choice, "refused 0 OneThread\n"),
         (&["trace", "2"], choice, "refused 0 OneThread\n"),
+        (&["steady", "2"], choice, "refused 0 OneThread\n"),
         (&["check"], choice, "refused 0 OneThread\n"),
         (
             &["json", "2"],

@@ -8,12 +8,12 @@ use rank_threads::OpenGate;
 use std::test::Fail;
 
 const USAGE: &[u8] =
-    b"usage: portals_run once | sim X | plan | run W | trace W | large K W | check | json W\n";
+    b"usage: portals_run once | sim X | plan | run W | trace W | large K W | check | steady W | json W\n";
 
 #[test]
 fn other_words_leave_the_source_unread(rt: HostRuntime) -> Result<(), Fail> {
     let alloc = rt.alloc();
-    let cases: [&[&str]; 23] = [
+    let cases: [&[&str]; 26] = [
         &[],
         &["once", "now"],
         &["Plan"],
@@ -30,6 +30,9 @@ fn other_words_leave_the_source_unread(rt: HostRuntime) -> Result<(), Fail> {
         &["trace"],
         &["trace", "0"],
         &["trace", "17"],
+        &["steady"],
+        &["steady", "0"],
+        &["steady", "17"],
         &["json", "0"],
         &["json", "17"],
         &["large", "1"],
@@ -40,7 +43,7 @@ fn other_words_leave_the_source_unread(rt: HostRuntime) -> Result<(), Fail> {
     ];
     for command in cases {
         let mut source = SureSource::new(Bytes::of(alloc, b"ab")?);
-        let mut sink = SureSink::with_room(alloc, 96)?;
+        let mut sink = SureSink::with_room(alloc, 128)?;
         let (answer, ran) = run_between(&rt, alloc, &OpenGate, command, &mut source, &mut sink)?;
         assert_eq!(rt; answer, Status::Usage);
         assert_eq!(rt; sink.as_slice(), USAGE);

@@ -16,7 +16,8 @@ use std::test::Fail;
 use std::thread;
 use std::thread::Threads;
 
-const TWO_RANKS: &str = "coll 1\nranks 2\nbarrier\nend\n";
+/// A barrier of two ranks.
+pub(crate) const TWO_RANKS: &str = "coll 1\nranks 2\nbarrier\nend\n";
 
 const FOUR_RANKS: &str = "coll 1\nranks 4\nbarrier\nend\n";
 
@@ -102,7 +103,7 @@ fn other_values_have_other_sums(rt: HostRuntime) -> Result<(), Fail> {
 }
 
 /// Runs these words on a text with a gate, and answers how many steps the ranks of the world made.
-fn steps_through<G: Gate>(
+pub(crate) fn steps_through<G: Gate>(
     rt: &(impl Abort + Threads + Wait + Sync),
     alloc: Global,
     gate: &G,
@@ -118,8 +119,21 @@ fn steps_through<G: Gate>(
 
 /// Counts the steps.
 #[derive(Drop)]
-struct Counting {
+pub(crate) struct Counting {
     passes: AtomicU64,
+}
+
+impl Counting {
+    pub(crate) fn new() -> Counting {
+        Counting {
+            passes: AtomicU64::new(0),
+        }
+    }
+
+    /// How many steps it saw.
+    pub(crate) fn passes(&self) -> u64 {
+        self.passes.load(Ordering::SeqCst)
+    }
 }
 
 impl Gate for Counting {
@@ -130,12 +144,10 @@ impl Gate for Counting {
 
 #[test]
 fn one_worker_makes_every_step(rt: HostRuntime) -> Result<(), Fail> {
-    let gate = Counting {
-        passes: AtomicU64::new(0),
-    };
+    let gate = Counting::new();
     let steps = steps_through(&rt, rt.alloc(), &gate, &["run", "1"], FOUR_RANKS, "rest\n")?;
     assert!(rt; steps > 0);
-    assert_eq!(rt; gate.passes.load(Ordering::SeqCst), steps);
+    assert_eq!(rt; gate.passes(), steps);
     Ok(())
 }
 
@@ -155,11 +167,28 @@ fn reaches(count: &AtomicU64, number: u64) -> bool {
 
 /// Holds the first step that it sees until another rank makes one.
 #[derive(Drop)]
-struct Meeting {
+pub(crate) struct Meeting {
     // How many steps of rank 0 were seen, and of the others.
     first: AtomicU64,
     others: AtomicU64,
     failures: AtomicU64,
+}
+
+impl Meeting {
+    pub(crate) fn new() -> Meeting {
+        Meeting {
+            first: AtomicU64::new(0),
+            others: AtomicU64::new(0),
+            failures: AtomicU64::new(0),
+        }
+    }
+
+    /// Whether steps of both kinds were seen, and each first one met another rank's.
+    pub(crate) fn met(&self) -> bool {
+        self.failures.load(Ordering::SeqCst) == 0
+            && self.first.load(Ordering::SeqCst) > 0
+            && self.others.load(Ordering::SeqCst) > 0
+    }
 }
 
 impl Gate for Meeting {
@@ -178,15 +207,9 @@ impl Gate for Meeting {
 
 #[test]
 fn two_workers_at_once(rt: HostRuntime) -> Result<(), Fail> {
-    let gate = Meeting {
-        first: AtomicU64::new(0),
-        others: AtomicU64::new(0),
-        failures: AtomicU64::new(0),
-    };
+    let gate = Meeting::new();
     steps_through(&rt, rt.alloc(), &gate, &["run", "2"], TWO_RANKS, "rest\n")?;
-    assert_eq!(rt; gate.failures.load(Ordering::SeqCst), 0);
-    assert!(rt; gate.first.load(Ordering::SeqCst) > 0);
-    assert!(rt; gate.others.load(Ordering::SeqCst) > 0);
+    assert!(rt; gate.met());
     Ok(())
 }
 

@@ -1,0 +1,72 @@
+//! Runs by workers that go on until a wave of probes has found rest.
+
+use crate::runs::gives;
+use crate::texts::{
+    GROUPS, GROUPS_RESULT, THREE_RESULTS, THREE_STEPS, sixteen_ranks, sixteen_results,
+};
+use crate::workers::{Counting, Meeting, TWO_RANKS, steps_through};
+use portals_top::Status;
+use std::test::Fail;
+
+#[test]
+fn steady_workers_write_what_each_rank_holds(rt: HostRuntime) -> Result<(), Fail> {
+    let alloc = rt.alloc();
+    for (workers, text, output) in [
+        ("3", THREE_STEPS, THREE_RESULTS),
+        ("1", TWO_RANKS, "rest\n"),
+        ("16", "coll 1\nranks 1\nend\n", "rest\n"),
+        ("2", GROUPS, GROUPS_RESULT),
+    ] {
+        gives(&rt, alloc, &["steady", workers], text, Status::Done, output)?;
+    }
+    Ok(())
+}
+
+#[test]
+fn four_steady_workers_run_sixteen_ranks(rt: HostRuntime) -> Result<(), Fail> {
+    let alloc = rt.alloc();
+    let output = sixteen_results(alloc)?;
+    for head in ["coll 1\nranks 16\n", "coll 1\nranks 16\ncomplete remote\n"] {
+        let text = sixteen_ranks(alloc, head)?;
+        gives(
+            &rt,
+            alloc,
+            &["steady", "4"],
+            text.as_str(),
+            Status::Done,
+            output.as_str(),
+        )?;
+    }
+    Ok(())
+}
+
+#[test]
+fn steady_workers_make_every_step(rt: HostRuntime) -> Result<(), Fail> {
+    let gate = Counting::new();
+    let steps = steps_through(
+        &rt,
+        rt.alloc(),
+        &gate,
+        &["steady", "2"],
+        THREE_STEPS,
+        THREE_RESULTS,
+    )?;
+    assert!(rt; steps > 0);
+    assert_eq!(rt; gate.passes(), steps);
+    Ok(())
+}
+
+#[test]
+fn two_steady_workers_at_once(rt: HostRuntime) -> Result<(), Fail> {
+    let gate = Meeting::new();
+    steps_through(
+        &rt,
+        rt.alloc(),
+        &gate,
+        &["steady", "2"],
+        TWO_RANKS,
+        "rest\n",
+    )?;
+    assert!(rt; gate.met());
+    Ok(())
+}
