@@ -1,10 +1,8 @@
 -- Histories with the handles that were given by their start.
-use Rattle.std.proofs.Common.{◌≡◌, ◌++◌, ◌∷◌, [], ◌∙◌, ℕ, Bool, true, false, List, length, map, sym, ap, refl, subst, true≢false}
-use Rattle.std.specs.Prelude.{Option, Some, None}
+use Rattle.std.proofs.Common.{◌≡◌, ◌++◌, ◌∷◌, [], ◌∙◌, Bool, true, false, List, length, map, sym, ap, refl, subst, true≢false}
+use Rattle.std.specs.Prelude.{Some, None}
 use Rattle.std.proofs.lemmas.List.{map-append}
-use mathlib.Core.Option.{some, some-injective}
 use mathlib.Core.List.{IsPrefix}
-use lib.ListN.{get_elem?}
 use Rattle.plan_cuts.specs.History.{Local}
 use Rattle.plan_cuts.specs.History.Local.{Start, Receive, Fire}
 use Rattle.rank_node.specs.Copies.{has_start}

@@ -1,10 +1,9 @@
 -- What a hand has seen at a rank where it noted its history, and what its further turns leave of that.
-use Rattle.std.proofs.Common.{append-nil, ◌≡◌, ◌≢◌, ◌<◌, ◌+◌, [], ◌∙◌, ⊎_elim, ℕ, List, cond, eqb, eq-eqb, ne_eqb, map, ap, sym, subst, arith}
+use Rattle.std.proofs.Common.{append-nil, ◌≡◌, ◌≢◌, ◌<◌, ◌+◌, [], ◌∙◌, ⊎_elim, ℕ, List, cond, eqb, eq-eqb, ne_eqb, ap, sym, subst, arith}
 use Rattle.std.proofs.lemmas.Bool.{cases_eq}
 use mathlib.Core.Option.{some}
 use lib.ListN.{get_elem?}
 use Rattle.atomic_table.proofs.Lists.{at_map}
-use Rattle.turn_table.specs.declared.views.EndedTurn.{EndedTurn}
 use Rattle.turn_table.specs.declared.views.HandView.{HandView}
 use Rattle.turn_table.specs.declared.views.SlotView.{SlotView}
 use Rattle.turn_table.specs.Views.{without_busy_slot}

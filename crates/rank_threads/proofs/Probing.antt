@@ -1,33 +1,28 @@
 -- What is noted of a rank in its turn.
-use Rattle.std.proofs.Common.{◌≡◌, ◌≢◌, ◌<◌, ◌+◌, ◌∙◌, ⊎_elim, ℕ, true, List, length, length-set, set, set-set, ap, sym, refl, subst, arith}
+use Rattle.std.proofs.Common.{◌≡◌, ◌≢◌, ◌<◌, ◌+◌, ◌∙◌, ⊎_elim, ℕ, List, length, length-set, set, set-set, ap, sym, refl, subst, arith}
 use Rattle.std.specs.Prelude.{slice_set}
 use mathlib.Core.Option.{some}
 use Rattle.ptl_types.specs.declared.headers.Lane.{Lane}
 use lib.ListN.{get_elem?}
-use Rattle.atomic_table.proofs.Lists.{at_map, at_set, set_again, set_else, set_here}
-use Rattle.std.proofs.lemmas.Bool.{cases_eq}
-use Rattle.coll_shape.specs.Outline.{Outline}
+use Rattle.atomic_table.proofs.Lists.{at_map, at_set, set_again, set_here}
 use Rattle.pair_wires.specs.Wires.{WireState}
 use Rattle.plan_core.specs.Plan.{Plan}
-use Rattle.plan_view.specs.Slots.{Slots}
-use Rattle.plan_cuts.specs.History.{Local}
 use Rattle.shape_plans.specs.Drawing.{plan_of}
 use Rattle.schedule_compiler.specs.Jobs.{JobOf}
 use Rattle.ni_model.specs.Calls.{AnswersReady}
 use Rattle.ni_model.specs.State.{State}
-use Rattle.rank_node.specs.Node.{IsNode, NodeState}
+use Rattle.rank_node.specs.Node.{IsNode}
 use Rattle.rest_probe.specs.declared.notes.LaneCount.{LaneCount}
 use Rattle.rest_probe.specs.declared.notes.Noted.{Noted}
 use Rattle.rest_probe.specs.Counted.{cleared, counted}
-use Rattle.rest_probe.specs.Waves.{IsFor, SameLanes, begun, with_got, with_sent}
-use Rattle.rest_probe.proofs.Kept.{as-many, cleared-set, for-set, twice-cleared}
+use Rattle.rest_probe.specs.Waves.{IsFor}
+use Rattle.rest_probe.proofs.Kept.{as-many, cleared-set}
 use Rattle.rest_probe.proofs.Used.{from-used, to-used}
 use Rattle.rank_threads.specs.declared.slot.Slot.{Slot}
 use Rattle.rank_threads.specs.Fabrics.{IsNamed}
 use Rattle.rank_threads.specs.Lanes.{AreLanes}
-use Rattle.rank_threads.specs.Lists.{Each}
-use Rattle.rank_threads.specs.Names.{history, mark, plate}
-use Rattle.rank_threads.specs.Probes.{CountsGot, CountsSent, HasIn, HasNote, HasOut, HasSentOn, IsNoted, Recounted, Says}
+use Rattle.rank_threads.specs.Names.{history, plate}
+use Rattle.rank_threads.specs.Probes.{CountsSent, HasIn, HasOut, IsNoted, Recounted, Says}
 use Rattle.rank_threads.specs.Sound.{IsSound}
 use Rattle.rank_threads.specs.Wiring.{bounds_of}
 use Rattle.rank_threads.proofs.Idles.{in-at, of-history, out-at}

@@ -1,5 +1,5 @@
 -- A rank that counts no stray received none.
-use Rattle.std.proofs.Common.{◌≡◌, ◌⊎◌, inl, inr, ⊎_elim, ◌∷◌, [], ◌∙◌, ◌+◌, ℕ, Bool, true, false, cond, List, ap, sym, arith, refl}
+use Rattle.std.proofs.Common.{◌≡◌, ◌⊎◌, inr, ⊎_elim, ◌∷◌, [], ◌∙◌, ◌+◌, ℕ, Bool, true, false, cond, List, ap, sym, arith, refl}
 use Rattle.std.specs.Prelude.{count_by, ◌==◌, ◌&&◌, if◌then◌else◌}
 use Rattle.ptl_types.specs.Messages.{Sent}
 use Rattle.ptl_types.specs.declared.headers.Lane.{Lane}

@@ -1,6 +1,5 @@
-use Rattle.std.proofs.Common.{◌≡◌, ◌++◌, ◌∙◌, List, Option, ap, arith, drop, length, sym, take}
+use Rattle.std.proofs.Common.{◌≡◌, ◌++◌, ◌∙◌, ap, arith, drop, length, sym, take}
 use Rattle.coll_shape.specs.Outline.{Outline}
-use Rattle.rank_threads.specs.declared.slot.Slot.{Slot}
 use Rattle.rank_threads.proofs.Places.{all-bare, all-fresh}
 use Rattle.rank_threads.proofs.Slotwise.{on_ok}
 use Rattle.rank_threads.proofs.Snocs.{written}

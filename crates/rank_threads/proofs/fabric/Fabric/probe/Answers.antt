@@ -1,4 +1,4 @@
-use Rattle.std.proofs.Common.{append-nil, ◌≡◌, ◌<◌, [], ◌∙◌, List, length, ap, refl, sym, subst, arith}
+use Rattle.std.proofs.Common.{append-nil, ◌<◌, [], ◌∙◌, List, length, ap, refl, sym, subst, arith}
 use Rattle.std.specs.Prelude.{slice_set}
 use lib.ListN.{get_elem?}
 use Rattle.atomic_table.proofs.Lists.{set_else, set_here}

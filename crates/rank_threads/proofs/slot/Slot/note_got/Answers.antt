@@ -1,14 +1,12 @@
-use Rattle.std.proofs.Common.{◌≡◌, ◌<◌, ◌∙◌, ℕ, List, length, ap, refl, sym, subst, arith}
-use mathlib.Core.Option.{some}
+use Rattle.std.proofs.Common.{◌∙◌, length, ap, refl, sym, arith}
 use lib.ListN.{get_elem?}
-use Rattle.rest_probe.specs.declared.notes.LaneCount.{LaneCount}
 use Rattle.rest_probe.specs.declared.notes.Noted.{Noted}
 use Rattle.rest_probe.specs.declared.notes.ProbeNote.{ProbeNote}
 use Rattle.rest_probe.specs.Waves.{with_got}
 use Rattle.rest_probe.proofs.Kept.{as-many}
 use Rattle.rank_threads.specs.Names.{history}
 use Rattle.rank_threads.specs.Probes.{CountsGot, HasIn}
-use Rattle.rank_threads.proofs.Pairs.{exists_at, same_at, within}
+use Rattle.rank_threads.proofs.Pairs.{exists_at, same_at}
 use Rattle.rank_threads.proofs.Probing.{all-sofar, more-sofar, none-sofar, same-lanes, set-is, set-long}
 use Rattle.rank_threads.proofs.slot.Slot.note_got.Goals as goal
 

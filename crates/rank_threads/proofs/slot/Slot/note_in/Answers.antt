@@ -1,4 +1,4 @@
-use Rattle.std.proofs.Common.{◌≡◌, ◌<◌, ◌∙◌, List, length, set, set-set, true, ap, refl, sym, subst, arith}
+use Rattle.std.proofs.Common.{◌∙◌, List, set, set-set, ap, refl, sym, subst, arith}
 use lib.ListN.{get_elem?}
 use Rattle.ni_model.specs.Calls.{AnswersReady}
 use Rattle.ni_model.specs.State.{State}

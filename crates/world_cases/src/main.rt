@@ -3,7 +3,8 @@
 //! expected comes from outside: worked out by hand, or by another program that knows the language alone.
 #![tactic(auto)]
 
-pub mod cases;
+#[cfg(test)]
+mod cases;
 #[cfg(test)]
 mod choices;
 #[cfg(test)]
@@ -22,3 +23,6 @@ mod stepping;
 mod strays;
 #[cfg(test)]
 mod verdicts;
+
+/// The tests are all that there is to this crate. It is a program, since nothing stands on it.
+fn main() {}

@@ -13,3 +13,6 @@ mod scripts;
 mod threads;
 #[cfg(test)]
 mod waves;
+
+/// The tests are all that there is to this crate. It is a program, since nothing stands on it.
+fn main() {}

@@ -33,3 +33,6 @@ mod verdicts;
 mod words;
 #[cfg(test)]
 mod workers;
+
+/// The tests are all that there is to this crate. It is a program, since nothing stands on it.
+fn main() {}
