@@ -4,7 +4,7 @@ ghost use Rattle.std.specs.Prelude.{◌≡◌};
 
 use chain_list::Steps;
 use match_lists::Lists;
-use ptl_types::{AckRequest, ElemType, Entry, Handle, Header, List, MessageKind};
+use ptl_types::{Entry, Handle, Header, List};
 use std::alloc::Global;
 use std::marker::Brand;
 use std::process::Abort;
@@ -13,41 +13,20 @@ use std::test::Fail;
 
 fn entry(match_bits: u64, length: u64) -> Entry {
     Entry {
-        start: 0,
         length,
-        ct: None,
-        match_id: None,
         match_bits,
-        ignore_bits: 0,
-        min_free: 0,
-        allow_put: true,
-        allow_get: false,
-        use_once: false,
         manage_local: true,
         no_truncate: true,
-        count_comm: false,
-        count_overflow: false,
+        ..Entry::PLAIN
     }
 }
 
 fn header(match_bits: u64, length: u64) -> Header {
     Header {
-        kind: MessageKind::Put,
         source: 1,
-        target: 0,
-        pt: 0,
         match_bits,
-        offset: 0,
         length,
-        hdr_data: 0,
-        op: None,
-        swap: None,
-        ty: ElemType::U8,
-        operand: 0,
-        ack: AckRequest::NoAck,
-        home: None,
-        home_offset: 0,
-        ok: true,
+        ..Header::PLAIN
     }
 }
 

@@ -5,8 +5,7 @@ use event_queues::Queue;
 use handle_store::Store;
 use memory_desc::Region;
 use ptl_types::{
-    AckRequest, Appended, Bytes, ElemType, Entry, Handle, Header, Limits, List, Message,
-    MessageKind, NiFault, NoMemory, Outcome,
+    Appended, Bytes, Entry, Handle, Header, Limits, List, Message, NiFault, NoMemory, Outcome,
 };
 use std::alloc::Global;
 use std::test::Fail;
@@ -26,39 +25,16 @@ const LIMITS: Limits = Limits {
 };
 
 const ENTRY: Entry = Entry {
-    start: 0,
     length: 4,
-    ct: None,
-    match_id: None,
     match_bits: 5,
-    ignore_bits: 0,
-    min_free: 0,
-    allow_put: true,
-    allow_get: false,
-    use_once: false,
-    manage_local: false,
-    no_truncate: false,
-    count_comm: false,
     count_overflow: true,
+    ..Entry::PLAIN
 };
 
 const PUT: Header = Header {
-    kind: MessageKind::Put,
     source: 1,
-    target: 0,
-    pt: 0,
     match_bits: 5,
-    offset: 0,
-    length: 0,
-    hdr_data: 0,
-    op: None,
-    swap: None,
-    ty: ElemType::U8,
-    operand: 0,
-    ack: AckRequest::NoAck,
-    home: None,
-    home_offset: 0,
-    ok: true,
+    ..Header::PLAIN
 };
 
 const DEAD: Handle = Handle { slot: 0, stamp: 7 };

@@ -1,10 +1,8 @@
 //! Runs by workers that go on until a wave of probes has found rest.
 
 use crate::runs::gives;
-use crate::texts::{
-    GROUPS, GROUPS_RESULT, THREE_RESULTS, THREE_STEPS, sixteen_ranks, sixteen_results,
-};
-use crate::workers::{Counting, Meeting, TWO_RANKS, steps_through};
+use crate::texts::{GROUPS, GROUPS_RESULT, THREE_RESULTS, THREE_STEPS};
+use crate::workers::{Counting, Meeting, TWO_RANKS, gives_sixteen_results, steps_through};
 use portals_top::Status;
 use std::test::Fail;
 
@@ -24,20 +22,7 @@ fn steady_workers_write_what_each_rank_holds(rt: HostRuntime) -> Result<(), Fail
 
 #[test]
 fn four_steady_workers_run_sixteen_ranks(rt: HostRuntime) -> Result<(), Fail> {
-    let alloc = rt.alloc();
-    let output = sixteen_results(alloc)?;
-    for head in ["coll 1\nranks 16\n", "coll 1\nranks 16\ncomplete remote\n"] {
-        let text = sixteen_ranks(alloc, head)?;
-        gives(
-            &rt,
-            alloc,
-            &["steady", "4"],
-            text.as_str(),
-            Status::Done,
-            output.as_str(),
-        )?;
-    }
-    Ok(())
+    gives_sixteen_results(&rt, rt.alloc(), &["steady", "4"])
 }
 
 #[test]

@@ -43,22 +43,30 @@ fn workers_write_what_each_rank_holds(rt: HostRuntime) -> Result<(), Fail> {
     Ok(())
 }
 
-#[test]
-fn four_workers_run_sixteen_ranks(rt: HostRuntime) -> Result<(), Fail> {
-    let alloc = rt.alloc();
+/// Runs sixteen ranks by these words, without and with the wait for remote completion.
+pub(crate) fn gives_sixteen_results(
+    rt: &(impl Abort + Threads + Wait + Sync),
+    alloc: Global,
+    command: &[&str],
+) -> Result<(), Fail> {
     let output = sixteen_results(alloc)?;
     for head in ["coll 1\nranks 16\n", "coll 1\nranks 16\ncomplete remote\n"] {
         let text = sixteen_ranks(alloc, head)?;
         gives(
-            &rt,
+            rt,
             alloc,
-            &["run", "4"],
+            command,
             text.as_str(),
             Status::Done,
             output.as_str(),
         )?;
     }
     Ok(())
+}
+
+#[test]
+fn four_workers_run_sixteen_ranks(rt: HostRuntime) -> Result<(), Fail> {
+    gives_sixteen_results(&rt, rt.alloc(), &["run", "4"])
 }
 
 /// What the sums of the values that 1 chooses are.

@@ -7,7 +7,7 @@ ghost use Rattle.pair_wires.specs.Bounds.{KeepsBounds};
 ghost use Rattle.pair_wires.specs.Wires.{IsOutOf, IsInOf};
 
 use pair_wires::{Bounds, InEnd, OutEnd, PlainLane, Wire};
-use ptl_types::{AckRequest, Bytes, ElemType, Header, Lane, Message, MessageKind};
+use ptl_types::{Bytes, Header, Lane, Message};
 use std::alloc::Global;
 use std::sync::Wait;
 use std::test::*;
@@ -33,22 +33,10 @@ fn put(alloc: Global, number: u64) -> Message
     ensures bytes { result.bytes ≡ [] }
 {
     let header = Header {
-        kind: MessageKind::Put,
-        source: 0,
         target: 1,
-        pt: 0,
         match_bits: 5,
-        offset: 0,
-        length: 0,
         hdr_data: number,
-        op: None,
-        swap: None,
-        ty: ElemType::U8,
-        operand: 0,
-        ack: AckRequest::NoAck,
-        home: None,
-        home_offset: 0,
-        ok: true,
+        ..Header::PLAIN
     };
     Message::new(header, Bytes::empty(alloc))
 }

@@ -1,29 +1,10 @@
 //! Runs of choice worlds in several orders: what is decided, and that orders differ.
 
+use crate::choosing::Linear;
 use coll_lang::parse;
-use plan_choice::{ChoiceWorld, Chooser, LocalStep, Step};
+use plan_choice::{ChoiceWorld, LocalStep, Step};
 use std::alloc::Global;
 use std::test::Fail;
-
-/// The numbers of a linear congruential generator.
-#[derive(Clone, Copy)]
-struct Linear {
-    state: u64,
-}
-
-impl Chooser for Linear {
-    ghost use Rattle.std.specs.Prelude.{◌+◌, ◌*◌, ◌/◌, ◌%◌};
-
-    ghost answer = { λ chooser n. (chooser.state % 2147483648 * 1103515245 + 12345) % 2147483648 / 65536 % n };
-
-    ghost after = { λ chooser n. record { state = chooser.state % 2147483648 * 1103515245 + 12345 } };
-
-    fn choose(&mut self, n: u64) -> u64 {
-        let next = self.state % 2_147_483_648 * 1_103_515_245 + 12_345;
-        self.state = next;
-        next % 2_147_483_648 / 65_536 % n
-    }
-}
 
 /// The world of a choice text. `None`: it is none, or there is no memory.
 fn world_of(alloc: Global, text: &[u8]) -> Option<ChoiceWorld> {
