@@ -1,7 +1,8 @@
 -- The lines, put by put.
-use Rattle.std.proofs.Common.{◌≡◌, ℕ, zero, suc, ◌+◌, ◌-◌, ◌<◌, ◌≤◌, Bool, true, false, cond, List, [], ◌∷◌, ◌++◌, length, get_or, take, drop, map, refl, ◌∙◌, ap, sym, append_assoc, arith}
+use Rattle.std.proofs.Common.{◌≡◌, ℕ, zero, suc, ◌+◌, ◌-◌, ◌*◌, ◌<◌, ◌≤◌, Bool, true, false, cond, List, [], ◌∷◌, ◌++◌, length, get_or, take, drop, map, refl, ◌∙◌, ap, sym, append_assoc, append-nil, arith}
 use Rattle.std.proofs.lemmas.List.Folds.{flat_map-map}
-use Rattle.std.proofs.lemmas.List.{get_or_default, take-take}
+use Rattle.std.proofs.lemmas.List.{drop-append-le, drop_all, get_or_default, length-append, length-drop, take-append-le, take-take, take_all}
+use Rattle.op_laws.proofs.Bytes.{bytes-pos}
 use Rattle.std.specs.List.{flat_map}
 use Rattle.std.specs.Fmt.{decimal}
 use Rattle.ptl_types.specs.declared.elements.ElemType.{ElemType}
@@ -27,11 +28,6 @@ result_line-puts name rank ty list =
     ∙ (append_assoc name ((32 ∷ decimal rank) ++ spaced ty list) (10 ∷ [])
     ∙ ap (λ xs. name ++ xs) (append_assoc (32 ∷ decimal rank) (spaced ty list) (10 ∷ []))))
 
--- a value in two puts
-pub value-puts : (ty : ElemType) (n number : ℕ) (negative : Bool) → value_word ty n ≡ cond negative (45 ∷ decimal number) (decimal number) → 32 ∷ value_word ty n ≡ cond negative (32 ∷ 45 ∷ []) (32 ∷ []) ++ decimal number
-value-puts ty n number true e = ap (λ v. 32 ∷ v) e
-value-puts ty n number false e = ap (λ v. 32 ∷ v) e
-
 -- the lines of a buffer at n ranks from r on
 abbrev pub lines_from : Outline → Lists → ℕ → ℕ → ℕ → List ℕ
 lines_from o lists b r n = flat_map (line_at o lists b) (from_to r n)
@@ -55,6 +51,61 @@ spaced-next ty rest element behind size n e le front back is =
 
 pub spaced-none : (ty : ElemType) (rest : List ℕ) → length rest < bytes_of ty → spaced ty rest ≡ []
 spaced-none ty rest l = ap (flat_map (λ x. 32 ∷ value_word ty x)) (none_of ty rest l)
+
+-- what two parts hold, of which the first is m elements
+pub spaced-append : (ty : ElemType) (m : ℕ) (front back : List ℕ) → length front ≡ m * bytes_of ty
+    → spaced ty (front ++ back) ≡ spaced ty front ++ spaced ty back
+spaced-append ty zero [] back e = ap (λ v. v ++ spaced ty back) (sym (spaced-none ty [] (bytes-pos ty)))
+spaced-append ty zero (x ∷ front) back e = absurd (omega (arith, e))
+spaced-append ty (suc m) front back e =
+    let w = bytes_of ty in
+    let n = pattern (take w front) in
+    let le : w ≤ length front = omega (arith, e) in
+    let more : w ≤ length (front ++ back) = omega (arith, le, length-append front back) in
+    let less : length (drop w front) ≡ m * w = omega (arith, e, length-drop w front) in
+    let own : n ≡ pattern (take w (take w front)) = ap pattern (sym (take-take w w front (omega arith))) in
+    let both = spaced-next ty (front ++ back) (take w front) (drop w front ++ back) w n refl more
+    (sym (take-append-le w front back le)) (sym (drop-append-le w front back le)) own in
+    let alone = spaced-next ty front (take w front) (drop w front) w n refl le refl refl own in
+    both
+    ∙ (ap (λ v. (32 ∷ value_word ty n) ++ v) (spaced-append ty m (drop w front) back less)
+    ∙ (sym (append_assoc (32 ∷ value_word ty n) (spaced ty (drop w front)) (spaced ty back)) ∙ ap (λ v. v ++ spaced ty back) (sym alone)))
+
+-- one element
+pub spaced-one : (ty : ElemType) (element : List ℕ) (n : ℕ) → length element ≡ bytes_of ty → n ≡ pattern (take (bytes_of ty) element)
+    → spaced ty element ≡ 32 ∷ value_word ty n
+spaced-one ty element n e is =
+    let whole : length element ≤ bytes_of ty = omega (arith, e) in
+    spaced-next ty element element [] (bytes_of ty) n refl (omega (arith, e))
+    (sym (take_all (bytes_of ty) element whole)) (sym (drop_all (bytes_of ty) element whole)) is
+    ∙ (ap (λ v. (32 ∷ value_word ty n) ++ v) (spaced-none ty [] (bytes-pos ty)) ∙ append-nil (32 ∷ value_word ty n))
+
+-- the word of a value that has no minus sign, and of one that has
+pub plain-word : (ty : ElemType) (n number : ℕ) (negative : Bool) → negative ≡ false
+    → value_word ty n ≡ cond negative (45 ∷ decimal number) (decimal number) → value_word ty n ≡ decimal number
+plain-word ty n number false is told = told
+plain-word ty n number true is told = absurd (cc)
+
+pub signed-word : (ty : ElemType) (n number : ℕ) (negative : Bool) → negative ≡ true
+    → value_word ty n ≡ cond negative (45 ∷ decimal number) (decimal number) → value_word ty n ≡ 45 ∷ decimal number
+signed-word ty n number true is told = told
+signed-word ty n number false is told = absurd (cc)
+
+-- a number of elements without one
+pub one-less : (w m len : ℕ) → len ≡ m * w → w ≤ len → 0 < w → (k : ℕ) × (m ≡ suc k) × (len - w ≡ k * w)
+one-less w zero len e le some = absurd (omega (arith, e, le, some))
+one-less w (suc k) len e le some = (k, refl, omega (arith, e))
+
+-- the last of some elements comes before what is already written
+pub spaced-back : (ty : ElemType) (m n : ℕ) (bytes rest front element old new : List ℕ) → rest ≡ front ++ element
+    → length front ≡ m * bytes_of ty → length element ≡ bytes_of ty → n ≡ pattern (take (bytes_of ty) element)
+    → new ≡ (32 ∷ value_word ty n) ++ old → spaced ty bytes ≡ spaced ty rest ++ old → spaced ty bytes ≡ spaced ty front ++ new
+spaced-back ty m n bytes rest front element old new cut whole one is written before =
+    let parted : spaced ty rest ≡ spaced ty front ++ (32 ∷ value_word ty n) =
+    ap (spaced ty) cut ∙ (spaced-append ty m front element whole ∙ ap (λ v. spaced ty front ++ v) (spaced-one ty element n one is)) in
+    before
+    ∙ (ap (λ v. v ++ old) parted
+    ∙ (append_assoc (spaced ty front) (32 ∷ value_word ty n) old ∙ ap (λ v. spaced ty front ++ v) (sym written)))
 
 -- the line of a rank, from what its parts tell
 pub line-is : (o : Outline) (lists : Lists) (b rank : ℕ) (x : Buffer) (bs : List Buffer) (name list : List ℕ) → b < length o.buffers → bs ≡ o.buffers → x ≡ get_or bs b x → name ≡ x.name → list ≡ at (lists_of lists b) rank

@@ -8,6 +8,7 @@ mod plans;
 mod refused;
 mod results;
 mod summary;
+mod values;
 mod words;
 
 pub use lines::{rest_line, result_line, value_line};

@@ -1,18 +1,13 @@
 //! The lines of a result.
 
-ghost use Rattle.std.specs.Prelude.{◌∷◌, ◌≡◌, ◌<◌, [], if◌then◌else◌};
-ghost use Rattle.std.specs.List.{flat_map};
+ghost use Rattle.std.specs.Prelude.{◌∷◌};
 ghost use Rattle.std.specs.Fmt.{decimal};
-ghost use Rattle.ptl_types.specs.Operations.{span};
-ghost use Rattle.coll_text.specs.Elements.{elements, value_word};
 ghost use Rattle.run_text.specs.Lines.{result_line, rest_line, value_line};
 ghost use Rattle.run_text.specs.Putting.{Puts};
 
 use crate::pieces::Pieces;
+use crate::values::put_values;
 use crate::words::{Word, put_line, put_spaced};
-use coll_text::printed_value;
-use element_bytes::read_pattern;
-use itoa::Buffer;
 use port_io::{Failed, Sink};
 use ptl_types::{ElemType, Rank};
 
@@ -29,43 +24,6 @@ pub(crate) fn put_number<K: Sink>(out: &mut Pieces, sink: &mut K, number: u32) -
     ensures { Puts (K.outflow sink.old) (K.outflow sink.new) out.old out.new (32 ∷ decimal number) result }
 {
     put_spaced(out, sink, number as u64)
-}
-
-/// What stands before the number of a value.
-fn lead(negative: bool) -> &'static [u8]
-    ensures { result.now ≡ (if negative then 32 ∷ 45 ∷ [] else 32 ∷ []) }
-{
-    if negative { b" -" } else { b" " }
-}
-
-/// Adds a space and a value, from its bit pattern.
-fn put_value<K: Sink>(out: &mut Pieces, sink: &mut K, ty: ElemType, n: u64) -> Result<(), Failed>
-    requires { n < span ty }
-    ensures { Puts (K.outflow sink.old) (K.outflow sink.new) out.old out.new (32 ∷ value_word ty n) result }
-{
-    let (negative, number) = printed_value(ty, n);
-    let mut buffer = Buffer::new();
-    out.put(sink, lead(negative))?;
-    out.put(sink, buffer.format(number).as_bytes())
-}
-
-/// Adds a space and a value for each element.
-fn put_values<K: Sink>(
-    out: &mut Pieces,
-    sink: &mut K,
-    ty: ElemType,
-    bytes: &[u8],
-) -> Result<(), Failed>
-    ensures { Puts (K.outflow sink.old) (K.outflow sink.new) out.old out.new (flat_map (λ x. 32 ∷ value_word ty x) (elements ty bytes.now)) result }
-{
-    let size = ty.size() as usize;
-    let mut rest = bytes;
-    while rest.len() >= size {
-        let (element, behind) = rest.split_at(size);
-        put_value(out, sink, ty, read_pattern(ty, element))?;
-        rest = behind;
-    }
-    Ok(())
 }
 
 /// Adds the line of one rank's list of a buffer: the buffer's name, the rank and the values of the list's elements, parted by

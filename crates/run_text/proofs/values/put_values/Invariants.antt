@@ -2,7 +2,7 @@ use Rattle.std.proofs.Common.{◌≡◌, ◌++◌, length}
 use Rattle.ptl_types.specs.Operations.{bytes_of}
 use Rattle.run_text.specs.Putting.{Takes}
 use Rattle.run_text.proofs.Spaced.{spaced}
-use Rattle.run_text.proofs.lines.put_values.Given as goal
+use Rattle.run_text.proofs.values.put_values.Given as goal
 
 abbrev pub invariant-loop-rest : goal.invariant-loop-rest
 invariant-loop-rest g l = record {
