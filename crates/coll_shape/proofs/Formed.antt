@@ -30,21 +30,21 @@ number_set = Coded-set coded_ℕ
 numbers_set : IsSet (List ℕ)
 numbers_set = Coded-set (coded_list coded_ℕ)
 
-type_number : ElemType → ℕ
-type_number U8 = 0
-type_number I8 = 1
-type_number U16 = 2
-type_number I16 = 3
-type_number U32 = 4
-type_number I32 = 5
-type_number U64 = 6
-type_number I64 = 7
+type_code : ElemType → ℕ
+type_code U8 = 0
+type_code I8 = 1
+type_code U16 = 2
+type_code I16 = 3
+type_code U32 = 4
+type_code I32 = 5
+type_code U64 = 6
+type_code I64 = 7
 
 type_from : ℕ → ElemType
 type_from n = cond (n == 0) U8 (cond (n == 1) I8 (cond (n == 2) U16 (cond (n == 3) I16 (cond (n == 4) U32 (cond (n == 5) I32 (cond (n == 6) U64 I64))))))
 
-type_back : (t : ElemType) → type_from (type_number t) ≡ t
-unfolding type_number type_from
+type_back : (t : ElemType) → type_from (type_code t) ≡ t
+unfolding type_code type_from
 type_back U8 = refl
 type_back I8 = refl
 type_back U16 = refl
@@ -55,7 +55,7 @@ type_back U64 = refl
 type_back I64 = refl
 
 types_set : IsSet ElemType
-types_set = Coded-set (code_by ℕ coded_ℕ type_number type_from type_back)
+types_set = Coded-set (code_by ℕ coded_ℕ type_code type_from type_back)
 
 buffer_set : IsSet Buffer
 buffer_set = hlevel (types_set, numbers_set, number_set)

@@ -5,6 +5,8 @@ use Rattle.std.specs.List.{sum_by}
 use Rattle.coll_text.specs.Text.{is_name}
 use Rattle.ptl_types.specs.Operations.{bytes_of}
 use Rattle.number_lists.specs.Numbers.{from_to}
+use Rattle.coll_shape.specs.declared.limits.TheConstants.{MOST_RANKS, MOST_RANKS_IN_ONE, MOST_GROUPS, MOST_BUFFERS, MOST_STEPS, MOST_PRINTS}
+use Rattle.coll_shape.specs.declared.limits.TheConstants.{MOST_GIVEN, MOST_ELEMENTS}
 use Rattle.coll_shape.specs.declared.types.Version.{Version}
 use Rattle.coll_shape.specs.declared.types.Version.TheVariants.{One, Two}
 use Rattle.coll_shape.specs.declared.types.Buffer.{Buffer}
@@ -14,8 +16,8 @@ use Rattle.coll_shape.specs.Outline.{Outline, buffer_at, step_at, group_at, read
 use Rattle.coll_shape.specs.Collectives.{source_of, result_of, since, IsRoot, Reads, buffer_after, named}
 
 abbrev pub most_ranks : Version → ℕ
-most_ranks One = 64
-most_ranks Two = 256
+most_ranks One = MOST_RANKS_IN_ONE
+most_ranks Two = MOST_RANKS
 
 -- what stands from a version on stands in a text of a version
 abbrev pub StandsIn : Version → Version → Type 0
@@ -23,14 +25,10 @@ StandsIn One version = Unit {0}
 StandsIn Two One = ⊥
 StandsIn Two Two = Unit {0}
 
--- the most elements of a buffer at one rank, and of all prints together over all ranks
-abbrev pub most_elements : ℕ
-most_elements = 16777216
-
 -- the members are ranks, rising
 pub record AreMembers (n : ℕ) (g : List ℕ) : Type 0 where
   pub some : 0 < length g
-  pub few : length g ≤ 256
+  pub few : length g ≤ MOST_RANKS
   pub ranks : (i : ℕ) → i < length g → get_or g i 0 < n
   pub rising : (i j : ℕ) → i < j → j < length g → get_or g i 0 < get_or g j 0
 
@@ -47,19 +45,19 @@ IsGroup o (Some i) = i < length o.groups
 -- the limits, and numbers in range
 pub record IsShape (o : Outline) : Type 0 where
   pub some_rank : 1 ≤ o.ranks
-  pub few_ranks : o.ranks ≤ 256
-  pub few_buffers : length o.buffers ≤ 128
+  pub few_ranks : o.ranks ≤ MOST_RANKS
+  pub few_buffers : length o.buffers ≤ MOST_BUFFERS
   pub few_inputs : o.inputs ≤ length o.buffers
-  pub few_steps : length o.steps ≤ 64
-  pub few_prints : length o.prints ≤ 128
-  pub few_groups : length o.groups ≤ 64
+  pub few_steps : length o.steps ≤ MOST_STEPS
+  pub few_prints : length o.prints ≤ MOST_PRINTS
+  pub few_groups : length o.groups ≤ MOST_GROUPS
   pub on_groups : length o.on ≡ length o.steps
   pub on_group : (k : ℕ) → k < length o.steps → IsGroup o (get_or o.on k None)
   pub named_members : (i : ℕ) → i < length o.groups → AreMembers o.ranks (get_or o.groups i no_group).members
   pub members : (k : ℕ) → k < length o.steps → AreMembers o.ranks (group_at o k)
   pub sources : (k : ℕ) → k < length o.steps → IsNumber o (source_of (step_at o k))
   pub results : (k : ℕ) → k < length o.steps → IsNumber o (result_of (step_at o k))
-  pub short : (b : ℕ) → b < length o.buffers → (buffer_at o b).spread.length ≤ most_elements
+  pub short : (b : ℕ) → b < length o.buffers → (buffer_at o b).spread.length ≤ MOST_ELEMENTS
   pub printed : (i : ℕ) → i < length o.prints → get_or o.prints i 0 < length o.buffers
 
 -- how many buffers there are before step k: the inputs, and one for each step that makes one
@@ -94,7 +92,7 @@ printed_elements o = sum_by (λ b. elements_of (buffer_at o b)) o.prints
 abbrev pub names : Outline → List (List ℕ)
 names o = map (λ (g : Group). g.name) o.groups ++ map (λ (b : Buffer). b.name) o.buffers
 
--- what version 1 hasn't: more than 64 ranks, groups, and the later steps
+-- what version 1 hasn't: as many ranks, groups, and the later steps
 pub record FitsVersion (o : Outline) : Type 0 where
   pub few_ranks : o.ranks ≤ most_ranks o.version
   pub groups : (i : ℕ) → i < length o.groups → StandsIn Two o.version
@@ -106,7 +104,7 @@ pub record IsWellFormed (o : Outline) : Type 0 where
   -- inputs are held by all ranks
   pub held : (b : ℕ) → b < o.inputs → (buffer_at o b).spread.holders ≡ from_to 0 o.ranks
   pub some : (b : ℕ) → b < o.inputs → 1 ≤ (buffer_at o b).spread.length
-  pub short : (b : ℕ) → b < o.inputs → (buffer_at o b).spread.length ≤ 4096
+  pub short : (b : ℕ) → b < o.inputs → (buffer_at o b).spread.length ≤ MOST_GIVEN
   -- each step fits what was made before it, and makes the next buffer
   pub fits : (k : ℕ) → k < length o.steps → StepFits o (made_upto o k) (group_at o k) (step_at o k)
   -- all buffers are inputs, or made by a step
@@ -114,4 +112,4 @@ pub record IsWellFormed (o : Outline) : Type 0 where
   pub spelled : (i : ℕ) → i < length (names o) → is_name (get_or (names o) i []) ≡ true
   pub distinct : (i j : ℕ) → i < length (names o) → j < length (names o)
       → get_or (names o) i [] ≡ get_or (names o) j [] → i ≡ j
-  pub few_printed : printed_elements o ≤ most_elements
+  pub few_printed : printed_elements o ≤ MOST_ELEMENTS

@@ -3,6 +3,7 @@
 ghost use Rattle.std.specs.Prelude.{◌≡◌, ◌≤◌, ◌*◌, ◌%◌, ◌==◌, ◌<◌, ◌^◌, length, get_or, count_by, IfOk, OnOk};
 ghost use Rattle.std.specs.List.{list_all, list_any};
 ghost use Rattle.coll_shape.specs.Collectives.{can_read, holding_places, is_in, made_holders, made_length, op_of, result_of, root_of, source_of, spread_so};
+ghost use Rattle.coll_shape.specs.declared.limits.TheConstants.{MOST_ELEMENTS, MOST_RANKS};
 
 use crate::lists::RankList;
 use crate::types::CollStep;
@@ -160,10 +161,10 @@ pub fn can_read(step: CollStep, members: &[Rank], len: u64, holders: &[Rank]) ->
 /// How long the buffer is that a step on these members makes of one of this length that these ranks hold.
 pub fn made_length(step: CollStep, members: &[Rank], len: u64, holders: &[Rank]) -> u64
     requires some { 0 < length members.now }
-    requires few { length members.now ≤ 256 }
-    requires short { len ≤ 2 ^ 24 }
+    requires few { length members.now ≤ MOST_RANKS }
+    requires short { len ≤ MOST_ELEMENTS }
     ensures told { result ≡ made_length members.now step (spread_so len holders.now) }
-    ensures most { result ≤ 2 ^ 32 }
+    ensures most { result ≤ MOST_RANKS * MOST_ELEMENTS }
 {
     let members_count = members.len() as u64;
     match step {

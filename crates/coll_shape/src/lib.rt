@@ -8,6 +8,7 @@
 mod collectives;
 mod inputs;
 mod kinds;
+mod limits;
 mod lists;
 mod shape;
 mod types;
@@ -15,6 +16,10 @@ mod types;
 pub use collectives::{can_read, holders_among, is_in, made_holders, made_length};
 pub use inputs::{InputList, Inputs};
 pub use kinds::StepKind;
+pub use limits::{
+    MOST_BUFFERS, MOST_ELEMENTS, MOST_GIVEN, MOST_GROUPS, MOST_PRINTS, MOST_RANKS,
+    MOST_RANKS_IN_ONE, MOST_STEPS,
+};
 pub use lists::{Holders, Name, RankList};
 pub use shape::{Parts, Shape, members_of};
 pub use types::{Buffer, CollStep, Group, Spread, Version};

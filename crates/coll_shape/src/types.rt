@@ -1,7 +1,8 @@
 //! Buffers, groups and steps.
 
-ghost use Rattle.std.specs.Prelude.{◌≡◌, ◌≤◌, ◌^◌, IfOk};
+ghost use Rattle.std.specs.Prelude.{◌≡◌, ◌≤◌, ◌*◌, IfOk};
 ghost use Rattle.coll_shape.specs.Outline.{list_bytes};
+ghost use Rattle.coll_shape.specs.declared.limits.TheConstants.{MOST_ELEMENTS};
 
 use crate::lists::{Holders, Name, RankList};
 use ptl_types::{AtomicOp, ElemType, Rank};
@@ -156,9 +157,9 @@ pub enum CollStep {
 impl Buffer {
     /// The bytes of a list of the buffer at a rank that holds it.
     pub fn list_bytes(&self) -> u64
-        requires { self.now.spread.length ≤ 2 ^ 24 }
+        requires { self.now.spread.length ≤ MOST_ELEMENTS }
         ensures told { result ≡ list_bytes self.now }
-        ensures most { result ≤ 2 ^ 27 }
+        ensures most { result ≤ 8 * MOST_ELEMENTS }
     {
         self.spread.length * self.ty.size()
     }
