@@ -11,7 +11,8 @@ use Rattle.coll_shape.specs.declared.types.Version.{Version}
 use Rattle.coll_shape.specs.declared.types.Version.TheVariants.{One, Two}
 use Rattle.coll_shape.specs.declared.types.Buffer.{Buffer}
 use Rattle.coll_shape.specs.Outline.{no_buffer}
-use Rattle.coll_shape.specs.WellFormed.{StandsIn, most_elements, elements_of, printed_elements}
+use Rattle.coll_shape.specs.WellFormed.{StandsIn, elements_of, printed_elements}
+use Rattle.coll_shape.specs.declared.limits.TheConstants.{MOST_RANKS, MOST_BUFFERS, MOST_STEPS, MOST_PRINTS, MOST_ELEMENTS}
 use Rattle.coll_lang.specs.Words.{version_word}
 use Rattle.coll_lang.specs.Forms.{Form, StepWords, complete, group, input, step, choice, print, last}
 use Rattle.coll_lang.specs.Language.{Past, stands_in, stands_at, form_since, form_line, nothing, choice_buffer, choice_step, choice_line, print_line, data_due, is_taken, buffer_named, buffer_number, group_number}
@@ -38,18 +39,18 @@ choice_made ranks c = choice_buffer ranks (choice_name c)
 pub record AtChoices (past : Past) : Type 0 where
   pub version : past.version ≡ Two
   pub some_ranks : 1 ≤ past.ranks
-  pub few_ranks : past.ranks ≤ 256
+  pub few_ranks : past.ranks ≤ MOST_RANKS
   pub no_remote : past.remote ≡ false
   pub no_groups : past.groups ≡ []
   pub no_inputs : past.inputs ≡ 0
   pub no_given : past.given ≡ []
   pub no_steps : past.steps ≡ []
   pub no_on : past.on ≡ []
-  pub few : length past.choices ≤ 64
+  pub few : length past.choices ≤ MOST_STEPS
   pub made : past.buffers ≡ map (choice_made past.ranks) past.choices
   pub spelled : (x : List ℕ) → In x (map choice_name past.choices) → is_name x ≡ true
   pub distinct : Distinct (map choice_name past.choices)
-  pub few_prints : length past.prints ≤ 128
+  pub few_prints : length past.prints ≤ MOST_PRINTS
   pub printed : (i : ℕ) → i < length past.prints → get_or past.prints i 0 < length past.choices
 
 -- with a step at least
@@ -131,8 +132,8 @@ pub choice_goes : (past next : Past) (kind : ChoiceKind) (name : List ℕ) → A
 unfolding choice_line
 choice_goes past next kind name a none named h =
     let t = passed (is_taken past name) NameTaken _ next h in
-    let full = passed (nat_le 64 (length past.choices) || nat_le 128 (length past.buffers)) TooMany _ next t.1 in
-    let two = some_split (nat_le 64 (length past.choices)) (nat_le 128 (length past.buffers)) full.0 in
+    let full = passed (nat_le MOST_STEPS (length past.choices) || nat_le MOST_BUFFERS (length past.buffers)) TooMany _ next t.1 in
+    let two = some_split (nat_le MOST_STEPS (length past.choices)) (nat_le MOST_BUFFERS (length past.buffers)) full.0 in
     let c = choice_step kind name in
     let after : Past = record past {
       stage = Choosing;
@@ -140,7 +141,7 @@ choice_goes past next kind name a none named h =
       choices = past.choices ++ c ∷ [];
     } in
     let l = longer past.choices c in
-    let room_left = room 64 (length past.choices) two.0 in
+    let room_left = room MOST_STEPS (length past.choices) two.0 in
     let names_more : map choice_name (past.choices ++ c ∷ []) ≡ map choice_name past.choices ++ name ∷ [] =
     map_more choice_name past.choices c ∙ ap (λ (x : List ℕ). map choice_name past.choices ++ x ∷ []) (choice_named kind name) in
     let new : In name (map choice_name past.choices) → ⊥ =
@@ -204,12 +205,12 @@ unfolding print_line
 choice_print_goes past next name chosen h =
     let a = chosen.choices in
     let from = some_of UnknownBuffer (buffer_named past.buffers name) _ next h in
-    let full = passed (nat_le 128 (length past.prints)) TooMany _ next from.2 in
-    let large = passed (nat_lt most_elements (past.printed + elements_of from.0.1)) TooLarge _ next full.1 in
+    let full = passed (nat_le MOST_PRINTS (length past.prints)) TooMany _ next from.2 in
+    let large = passed (nat_lt MOST_ELEMENTS (past.printed + elements_of from.0.1)) TooLarge _ next full.1 in
     let is = found past.buffers name from.0 from.1 in
     let i = from.0.0 in
     let l = longer past.prints i in
-    let room_left = room 128 (length past.prints) full.0 in
+    let room_left = room MOST_PRINTS (length past.prints) full.0 in
     let there = is.there in
     let many = ap length a.made ∙ long_map (choice_made past.ranks) past.choices in
     let after : Past = record past { stage = Prints; prints = past.prints ++ i ∷ []; printed = past.printed + elements_of from.0.1 } in

@@ -14,7 +14,8 @@ use Rattle.coll_shape.specs.declared.types.Buffer.{Buffer}
 use Rattle.coll_shape.specs.declared.types.Group.{Group}
 use Rattle.coll_shape.specs.declared.types.CollStep.{CollStep}
 use Rattle.coll_shape.specs.Outline.{Outline, no_buffer}
-use Rattle.coll_shape.specs.WellFormed.{elements_of, most_elements, most_ranks}
+use Rattle.coll_shape.specs.WellFormed.{elements_of, most_ranks}
+use Rattle.coll_shape.specs.declared.limits.TheConstants.{MOST_RANKS, MOST_PRINTS, MOST_ELEMENTS}
 use Rattle.coll_lang.specs.Program.{Chosen, Program}
 use Rattle.coll_lang.specs.Language.{Past, chosen, nothing, read, stands_in}
 use Rattle.coll_lang.specs.Spelling.{choice_words, choices_text, head_text, name_at, no_choice, prints_text, text}
@@ -31,6 +32,7 @@ use Rattle.coll_lang.proofs.Leading.{Leads, Wider, choosing_wider, options_choos
 use Rattle.coll_lang.proofs.SoundSteps.{from_to-long}
 use Rattle.coll_lang.proofs.PrintsBack.{choice_leads, in_all, prints_led}
 use Rattle.coll_lang.proofs.TextBack.{last_on, last_text, none_more, whole_read}
+use Rattle.coll_lang.specs.declared.whole.TheConstants.{LONGEST_TEXT}
 
 -- what the steps make
 abbrev made : ℕ → Chosen → List Buffer
@@ -120,23 +122,23 @@ choices_led v n c two a =
     options_choosing)))
 
 -- ---- the prints
-one_each : (n : ℕ) (c : Chosen) (i : ℕ) → n ≤ 256 → i < length c.steps → elements_of (get_or (made n c) i no_buffer) ≤ 256
+one_each : (n : ℕ) (c : Chosen) (i : ℕ) → n ≤ MOST_RANKS → i < length c.steps → elements_of (get_or (made n c) i no_buffer) ≤ MOST_RANKS
 one_each n c i few l =
     let e = from_to-long 0 n in
-    subst (λ (b : Buffer). elements_of b ≤ 256) (sym (made_at n c i l)) (small (length (from_to 0 n)) (omega (arith, e, few)))
+    subst (λ (b : Buffer). elements_of b ≤ MOST_RANKS) (sym (made_at n c i l)) (small (length (from_to 0 n)) (omega (arith, e, few)))
   where
-    small : (m : ℕ) → m ≤ 256 → 1 * m ≤ 256
+    small : (m : ℕ) → m ≤ MOST_RANKS → 1 * m ≤ MOST_RANKS
     small m h = omega (arith, h)
 
-few_elements : (n : ℕ) (c : Chosen) → n ≤ 256 → AreChoices c → in_all (made n c) c.prints ≤ most_elements
+few_elements : (n : ℕ) (c : Chosen) → n ≤ MOST_RANKS → AreChoices c → in_all (made n c) c.prints ≤ MOST_ELEMENTS
 few_elements n c few a =
-    let each : All (λ i. elements_of (get_or (made n c) i no_buffer) ≤ 256) c.prints =
+    let each : All (λ i. elements_of (get_or (made n c) i no_buffer) ≤ MOST_RANKS) c.prints =
     λ i d l. one_each n c (get_or c.prints i d) few (subst (λ k. k < length c.steps) (get_or_default c.prints i 0 d l) (a.printed i l)) in
-    let all = sum_by-le (λ i. elements_of (get_or (made n c) i no_buffer)) 256 c.prints each in
+    let all = sum_by-le (λ i. elements_of (get_or (made n c) i no_buffer)) MOST_RANKS c.prints each in
     let most = a.few_prints in
     omega (arith, all, most)
 
-prints_on : (v : Version) (n : ℕ) (c : Chosen) → n ≤ 256 → AreChoices c → (s : Stage) → Wider s Choosing
+prints_on : (v : Version) (n : ℕ) (c : Chosen) → n ≤ MOST_RANKS → AreChoices c → (s : Stage) → Wider s Choosing
     → Leads (at s (record (start v n) { buffers = made n c; choices = c.steps })) (all_said v n c)
     (prints_text (name_at (made n c)) c.prints ++ last_text)
 prints_on v n c few a s w =
@@ -146,8 +148,8 @@ prints_on v n c few a s w =
     all all Prints
     (prints_led all (parts n c a (made n c) [] (sym (append-nil (made n c)))) named s [] c.prints 0
     (λ form h. w form (choosing_wider form h)) there
-    (none_more 0 (length c.prints) 128 refl a.few_prints)
-    (none_more 0 (in_all (made n c) c.prints) most_elements refl (few_elements n c few a)))
+    (none_more 0 (length c.prints) MOST_PRINTS refl a.few_prints)
+    (none_more 0 (in_all (made n c) c.prints) MOST_ELEMENTS refl (few_elements n c few a)))
     (λ s w. last_on all s w)
   where
     named : (i : ℕ) → i < length (made n c) → is_name (name_at (made n c) i) ≡ true
@@ -171,8 +173,8 @@ text_of v n c a =
     (prints_alike (name_at (made n c)) (chosen_name c) c.prints
     (λ i l. named_made n c (get_or c.prints i 0) (let e = count_made n c in let p = a.printed i l in omega (arith, e, p))))
 
-chosen_back : (v : Version) (n : ℕ) (c : Chosen) → stands_in Two v ≡ true → AreChoices c → 1 ≤ n → n ≤ most_ranks v → n ≤ 256
-    → length (text (chosen v n c)) ≤ 1048576 → read (text (chosen v n c)) ≡ Ok (chosen v n c)
+chosen_back : (v : Version) (n : ℕ) (c : Chosen) → stands_in Two v ≡ true → AreChoices c → 1 ≤ n → n ≤ most_ranks v → n ≤ MOST_RANKS
+    → length (text (chosen v n c)) ≤ LONGEST_TEXT → read (text (chosen v n c)) ≡ Ok (chosen v n c)
 chosen_back v n c two a some most few short =
     let all = all_said v n c in
     let later = choices_text c.steps ++ (prints_text (name_at (made n c)) c.prints ++ last_text) in
@@ -212,8 +214,8 @@ two_stands One h = h
 two_stands Two h = refl
 
 pub choices_back : (o : Outline) (lists : List (List (List ℕ))) (c : Chosen) → AreChoices c → IsBare o → length lists ≡ o.inputs
-    → 1 ≤ o.ranks → o.ranks ≤ most_ranks o.version → o.ranks ≤ 256
-    → (d : Program) → d ≡ record { shape = o; inputs = lists; choices = Some c } → length (text d) ≤ 1048576 → read (text d) ≡ Ok d
+    → 1 ≤ o.ranks → o.ranks ≤ most_ranks o.version → o.ranks ≤ MOST_RANKS
+    → (d : Program) → d ≡ record { shape = o; inputs = lists; choices = Some c } → length (text d) ≤ LONGEST_TEXT → read (text d) ≡ Ok d
 choices_back o lists c a b many some most few d e short =
     let is : chosen o.version o.ranks c ≡ d =
     ap (λ (x : Outline). record { shape = x; inputs = []; choices = Some c }) (bare_is o c b)
@@ -221,4 +223,4 @@ choices_back o lists c a b many some most few d e short =
     ∙ sym e) in
     subst (λ (x : Program). read (text x) ≡ Ok x) is
     (chosen_back o.version o.ranks c (two_stands o.version b.version) a some most few
-    (subst (λ (x : Program). length (text x) ≤ 1048576) (sym is) short))
+    (subst (λ (x : Program). length (text x) ≤ LONGEST_TEXT) (sym is) short))

@@ -11,6 +11,7 @@ use Rattle.coll_shape.specs.Outline.{Outline, no_buffer, list_bytes}
 use Rattle.coll_shape.specs.WellFormed.{most_ranks}
 use Rattle.coll_shape.specs.Meaning.{AreInputs}
 use Rattle.coll_shape.proofs.Rows.{rows-many, rows-joined, row-long}
+use Rattle.coll_shape.specs.declared.limits.TheConstants.{MOST_RANKS}
 use Rattle.coll_lang.specs.Program.{Chosen, Program}
 use Rattle.coll_lang.specs.Language.{Past, nothing, plain, chosen, described_by, described, program_in, read_from, read}
 use Rattle.coll_lang.specs.Spelling.{head_text, remote_text, groups_text, inputs_text, steps_text, choices_text, prints_text, name_at, choice_name, no_choice, text}
@@ -27,6 +28,7 @@ use Rattle.coll_lang.proofs.Lines.{bare_facts}
 use Rattle.coll_lang.proofs.Sound.{outline, body, AtPrints, not_above}
 use Rattle.coll_lang.proofs.AllLines.{choice_made, long_map, AtChoices, AtChosen, AtEnd, Sound, written}
 use Rattle.coll_lang.proofs.WholeText.{all_go, accepted, finished_is}
+use Rattle.coll_lang.specs.declared.whole.TheConstants.{LONGEST_TEXT}
 
 -- ---- the lists of the inputs by rows
 rows_filled : (ranks : ℕ) (bs : List Buffer) (lists : List (List ℕ)) → Filled ranks bs lists → (b r : ℕ) → b < length bs → r < ranks
@@ -170,7 +172,7 @@ choices_are past d =
       printed = a.printed;
     }
 
-few_two : (n : ℕ) → n ≤ 256 → n ≤ most_ranks Two
+few_two : (n : ℕ) → n ≤ MOST_RANKS → n ≤ most_ranks Two
 few_two n l = l
 
 no_inputs : (o : Outline) → o.inputs ≡ 0 → AreInputs o []
@@ -184,14 +186,14 @@ no_inputs o e = record {
     none : (b : ℕ) → b < o.inputs → ⊥
     none b l = omega (arith, l, e)
 
-pub readable_at : (past : Past) → AtEnd past → length (text (described past)) ≤ 1048576 → IsReadable (described past)
+pub readable_at : (past : Past) → AtEnd past → length (text (described past)) ≤ LONGEST_TEXT → IsReadable (described past)
 readable_at past (inl a) short =
     let e = described_plain past a.no_choices in
     subst IsReadable (sym e) (record {
       formed = formed (outline past) a.facts;
       given = inputs_are past a.facts a.filled;
       choices = tt;
-      short = subst (λ (d : Program). length (text d) ≤ 1048576) e short;
+      short = subst (λ (d : Program). length (text d) ≤ LONGEST_TEXT) e short;
     })
 readable_at past (inr d) short =
     let a = d.choices in
@@ -204,7 +206,7 @@ readable_at past (inr d) short =
         choices_are past d,
         record { version = refl; remote = refl; groups = refl; buffers = refl; inputs = refl; steps = refl; on = refl; prints = refl },
       );
-      short = subst (λ (d : Program). length (text d) ≤ 1048576) e short;
+      short = subst (λ (d : Program). length (text d) ≤ LONGEST_TEXT) e short;
     })
 
 -- ---- a text that is read
@@ -244,13 +246,13 @@ pub record Comes (bytes : List ℕ) (d : Program) : Type 0 where
 pub comes : (bytes : List ℕ) (d : Program) → read bytes ≡ Ok d → Comes bytes d
 unfolding read
 comes bytes d h =
-    let limit = unlimited (nat_lt 1048576 (length bytes)) (0, TooLong) (program_in (read_from nothing 1 (lines bytes))) d h in
+    let limit = unlimited (nat_lt LONGEST_TEXT (length bytes)) (0, TooLong) (program_in (read_from nothing 1 (lines bytes))) d h in
     let f = described_in (read_from nothing 1 (lines bytes)) d limit.1 in
     let w = whole bytes f.0 f.1 in
-    let short = not_above 1048576 (length bytes) limit.0 in
+    let short = not_above LONGEST_TEXT (length bytes) limit.0 in
     let spelled : bytes ≡ text d = w.spelled ∙ ap text f.2 in
     record {
-      readable = subst IsReadable f.2 (readable_at f.0 w.at_end (subst (λ (x : List ℕ). length x ≤ 1048576) w.spelled short));
+      readable = subst IsReadable f.2 (readable_at f.0 w.at_end (subst (λ (x : List ℕ). length x ≤ LONGEST_TEXT) w.spelled short));
       spelled = spelled;
     }
 
@@ -259,11 +261,11 @@ pub record IsKept (past : Past) : Type 0 where
   pub readable : IsReadable (described past)
   pub lists : past.choices ≡ [] → length past.given ≡ past.inputs * past.ranks
 
-pub kept : (bytes : List ℕ) (final : Past) → length bytes ≤ 1048576 → read_from nothing 1 (lines bytes) ≡ Ok final → IsKept final
+pub kept : (bytes : List ℕ) (final : Past) → length bytes ≤ LONGEST_TEXT → read_from nothing 1 (lines bytes) ≡ Ok final → IsKept final
 kept bytes final short h =
     let w = whole bytes final h in
     record {
-      readable = readable_at final w.at_end (subst (λ (x : List ℕ). length x ≤ 1048576) w.spelled short);
+      readable = readable_at final w.at_end (subst (λ (x : List ℕ). length x ≤ LONGEST_TEXT) w.spelled short);
       lists = lists_of w.at_end;
     }
   where

@@ -13,6 +13,7 @@ use Rattle.coll_shape.specs.declared.types.Buffer.{Buffer}
 use Rattle.coll_shape.specs.declared.types.Group.{Group}
 use Rattle.coll_shape.specs.Outline.{no_group}
 use Rattle.coll_shape.specs.WellFormed.{most_ranks, StandsIn, AreMembers}
+use Rattle.coll_shape.specs.declared.limits.TheConstants.{MOST_RANKS, MOST_GROUPS}
 use Rattle.coll_lang.specs.Words.{version_word}
 use Rattle.coll_lang.specs.Forms.{complete, group, form_of}
 use Rattle.coll_lang.specs.Language.{Past, nothing, ranks_in, all_numbers, are_members, is_rising, is_taken, buffer_number, group_line, form_line, line_at, judge, is_allowed, stands_in}
@@ -110,23 +111,23 @@ numbers_solid [] h = tt
 numbers_solid (m ∷ ms) h = (number_solid m (h 0 (omega arith)), numbers_solid ms (λ i l. h (suc i) (omega (arith, l))))
 
 group_taken : (past : Past) (g : Group) → all_numbers (map decimal g.members) ≡ Some g.members → is_taken past g.name ≡ false
-    → length past.groups < 64 → are_members past.ranks g.members ≡ true
+    → length past.groups < MOST_GROUPS → are_members past.ranks g.members ≡ true
     → form_line past (group g.name (map decimal g.members)) ≡ Ok (record past { stage = Groups; groups = past.groups ++ g ∷ [] })
 unfolding form_line group_line
 group_taken past g en ef few em =
-    let full = isnt_full (length past.groups) 64 few in
+    let full = isnt_full (length past.groups) MOST_GROUPS few in
     rw (en, ef, full, em) refl
 
 -- a group's line
 group_leads : (past : Past) (g : Group) → stands_in Two past.version ≡ true → Wider past.stage Groups → is_name g.name ≡ true
-    → AreMembers past.ranks g.members → past.ranks ≤ 256 → is_taken past g.name ≡ false → length past.groups < 64
+    → AreMembers past.ranks g.members → past.ranks ≤ MOST_RANKS → is_taken past g.name ≡ false → length past.groups < MOST_GROUPS
     → Leads past (record past { stage = Groups; groups = past.groups ++ g ∷ [] }) (group_text g)
 group_leads past g v w named a few fresh room =
     let small : (i : ℕ) → i < length g.members → get_or g.members i 0 < 2 ^ 64 =
     λ i l. below (get_or g.members i 0) past.ranks (a.ranks i l) few in
     cut g.members refl small a.some
   where
-    below : (m n : ℕ) → m < n → n ≤ 256 → m < 2 ^ 64
+    below : (m n : ℕ) → m < n → n ≤ MOST_RANKS → m < 2 ^ 64
     below m n l few = omega (arith, l, few)
 
     cut : (ms : List ℕ) → g.members ≡ ms → ((i : ℕ) → i < length g.members → get_or g.members i 0 < 2 ^ 64) → 0 < length g.members
@@ -144,7 +145,7 @@ group_leads past g v w named a few fresh room =
 
 -- all groups, one after the other
 pub record AreGroups (n : ℕ) (v : Version) (gs : List Group) : Type 0 where
-  pub few : length gs ≤ 64
+  pub few : length gs ≤ MOST_GROUPS
   pub stands : (i : ℕ) → i < length gs → StandsIn Two v
   pub members : (i : ℕ) → i < length gs → AreMembers n (get_or gs i no_group).members
   pub spelled : (i : ℕ) → i < length gs → is_name (get_or gs i no_group).name ≡ true
@@ -154,7 +155,8 @@ two_stands : (v : Version) → StandsIn Two v → stands_in Two v ≡ true
 two_stands One h = absurd h
 two_stands Two h = refl
 
-pub groups_led : (base : Past) (gs : List Group) → base.buffers ≡ [] → base.ranks ≤ 256 → AreGroups base.ranks base.version gs → (s : Stage)
+pub groups_led : (base : Past) (gs : List Group) → base.buffers ≡ [] → base.ranks ≤ MOST_RANKS → AreGroups base.ranks base.version gs
+    → (s : Stage)
     → Wider s Groups → Led (at s (record base { groups = [] })) (groups_text gs) (record base { groups = gs }) Groups
 groups_led base gs none few a s w =
     let st : ℕ → Past = λ i. record base { groups = take i gs } in

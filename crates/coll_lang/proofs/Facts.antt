@@ -7,30 +7,31 @@ use Rattle.coll_shape.specs.declared.types.Version.{Version}
 use Rattle.coll_shape.specs.declared.types.Version.TheVariants.{One, Two}
 use Rattle.coll_shape.specs.Outline.{Outline, buffer_at, step_at, group_at, no_group}
 use Rattle.coll_shape.specs.Collectives.{source_of, result_of, since}
-use Rattle.coll_shape.specs.WellFormed.{most_ranks, most_elements, StandsIn, AreMembers, IsNumber, IsGroup, and_one, made_upto, StepFits, printed_elements, names, IsWellFormed}
+use Rattle.coll_shape.specs.WellFormed.{most_ranks, StandsIn, AreMembers, IsNumber, IsGroup, and_one, made_upto, StepFits, printed_elements, names, IsWellFormed}
+use Rattle.coll_shape.specs.declared.limits.TheConstants.{MOST_RANKS, MOST_GROUPS, MOST_BUFFERS, MOST_STEPS, MOST_PRINTS, MOST_GIVEN, MOST_ELEMENTS}
 
 pub record Facts (o : Outline) : Type 0 where
   pub some_rank : 1 ≤ o.ranks
   pub few_ranks : o.ranks ≤ most_ranks o.version
-  pub few_buffers : length o.buffers ≤ 128
-  pub few_steps : length o.steps ≤ 64
-  pub few_prints : length o.prints ≤ 128
-  pub few_groups : length o.groups ≤ 64
+  pub few_buffers : length o.buffers ≤ MOST_BUFFERS
+  pub few_steps : length o.steps ≤ MOST_STEPS
+  pub few_prints : length o.prints ≤ MOST_PRINTS
+  pub few_groups : length o.groups ≤ MOST_GROUPS
   pub on_groups : length o.on ≡ length o.steps
   pub on_group : (k : ℕ) → k < length o.steps → IsGroup o (get_or o.on k None)
   pub named_members : (i : ℕ) → i < length o.groups → AreMembers o.ranks (get_or o.groups i no_group).members
-  pub short : (b : ℕ) → b < length o.buffers → (buffer_at o b).spread.length ≤ most_elements
+  pub short : (b : ℕ) → b < length o.buffers → (buffer_at o b).spread.length ≤ MOST_ELEMENTS
   pub printed : (i : ℕ) → i < length o.prints → get_or o.prints i 0 < length o.buffers
   pub groups : (i : ℕ) → i < length o.groups → StandsIn Two o.version
   pub steps : (k : ℕ) → k < length o.steps → StandsIn (since (step_at o k)) o.version
   pub held : (b : ℕ) → b < o.inputs → (buffer_at o b).spread.holders ≡ from_to 0 o.ranks
   pub some : (b : ℕ) → b < o.inputs → 1 ≤ (buffer_at o b).spread.length
-  pub small : (b : ℕ) → b < o.inputs → (buffer_at o b).spread.length ≤ 4096
+  pub small : (b : ℕ) → b < o.inputs → (buffer_at o b).spread.length ≤ MOST_GIVEN
   pub fits : (k : ℕ) → k < length o.steps → StepFits o (made_upto o k) (group_at o k) (step_at o k)
   pub all : made_upto o (length o.steps) ≡ length o.buffers
   pub spelled : (x : List ℕ) → In x (names o) → is_name x ≡ true
   pub distinct : Distinct (names o)
-  pub few_printed : printed_elements o ≤ most_elements
+  pub few_printed : printed_elements o ≤ MOST_ELEMENTS
 
 -- ---- members and places
 pub in_at : {X : Type 0} (xs : List X) (i : ℕ) (d : X) → i < length xs → In (get_or xs i d) xs
@@ -109,7 +110,7 @@ made_below o k (suc n) =
 pub made_most : (o : Outline) (k l : ℕ) → k ≤ l → made_upto o k ≤ made_upto o l
 made_most o k l le = subst (λ v. made_upto o k ≤ made_upto o v) (let e : k + (l - k) ≡ l = omega arith in e) (made_below o k (l - k))
 
-pub few_of : (v : Version) (n : ℕ) → n ≤ most_ranks v → n ≤ 256
+pub few_of : (v : Version) (n : ℕ) → n ≤ most_ranks v → n ≤ MOST_RANKS
 few_of One n h = omega (arith, h)
 few_of Two n h = h
 

@@ -13,7 +13,8 @@ use Rattle.coll_shape.specs.declared.types.CollStep.{CollStep}
 use Rattle.coll_shape.specs.declared.types.CollStep.TheVariants.{Allreduce, Allgather, Alltoall, Scan}
 use Rattle.coll_shape.specs.Outline.{Outline, buffer_at, group_at, members_of, read_buffer, step_at}
 use Rattle.coll_shape.specs.Collectives.{AllHold, IsRoot, Reads, buffer_after, named, result_of, since, source_of}
-use Rattle.coll_shape.specs.WellFormed.{AreMembers, FitsVersion, IsGroup, IsNumber, IsShape, IsWellFormed, StandsIn, StepFits, made_upto, most_elements, names, printed_elements}
+use Rattle.coll_shape.specs.WellFormed.{AreMembers, FitsVersion, IsGroup, IsNumber, IsShape, IsWellFormed, StandsIn, StepFits, made_upto, names, printed_elements}
+use Rattle.coll_shape.specs.declared.limits.TheConstants.{MOST_RANKS, MOST_GIVEN, MOST_ELEMENTS}
 use Rattle.coll_lang.specs.Generated.{even_words, everyone, generated_shape}
 use Rattle.coll_lang.specs.Held.{IsSmall}
 use Rattle.coll_lang.proofs.Facts.{in_at}
@@ -126,7 +127,7 @@ results_at (suc (suc (suc zero))) l = omega arith
 results_at (suc (suc (suc (suc zero)))) l = tt
 results_at (suc (suc (suc (suc (suc k))))) l = never 5 k (omega (arith, l))
 
-short_at : (b : ℕ) → b < 5 → (buffer_at o b).spread.length ≤ most_elements
+short_at : (b : ℕ) → b < 5 → (buffer_at o b).spread.length ≤ MOST_ELEMENTS
 short_at zero l = omega arith
 short_at (suc zero) l = omega arith
 short_at (suc (suc zero)) l = omega arith
@@ -215,7 +216,7 @@ generated_formed = record {
   version = version;
   held = one_alone (λ b. (buffer_at o b).spread.holders ≡ from_to 0 64) all_of_them;
   some = one_alone (λ b. 1 ≤ (buffer_at o b).spread.length) (omega arith);
-  short = one_alone (λ b. (buffer_at o b).spread.length ≤ 4096) (omega arith);
+  short = one_alone (λ b. (buffer_at o b).spread.length ≤ MOST_GIVEN) (omega arith);
   fits = λ k l. subst (λ (m : List ℕ). StepFits o (made_upto o k) m (step_at o k)) (sym (on_all k)) (fits_at k l);
   all = refl;
   spelled = spelled_at;
@@ -224,11 +225,11 @@ generated_formed = record {
 }
 
 -- each buffer is small
-everyone_few : length everyone ≤ 256
+everyone_few : length everyone ≤ MOST_RANKS
 everyone_few = let e = ap length all_of_them in omega (arith, e)
 
 abbrev words_are_small : List (List ℕ × ℕ) → Type 0
-words_are_small ws = AllByRecursion (λ w. w.1 ≤ most_elements) ws
+words_are_small ws = AllByRecursion (λ w. w.1 ≤ MOST_ELEMENTS) ws
 
 abbrev words_of : List (List ℕ × ℕ) → List Buffer
 words_of ws = map (λ w. even_words w.0 w.1) ws

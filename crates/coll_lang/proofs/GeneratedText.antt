@@ -26,6 +26,7 @@ use Rattle.coll_lang.specs.Readable.{IsReadable}
 use Rattle.coll_lang.specs.Generated.{all_elements, even_words, generated, generated_lists, generated_shape, rank_elements, value_at}
 use Rattle.coll_lang.proofs.AllLines.{long_map}
 use Rattle.coll_lang.proofs.GeneratedShape.{generated_formed}
+use Rattle.coll_lang.specs.declared.whole.TheConstants.{LONGEST_TEXT}
 
 -- ---- the lists
 rows_count : (k : ℕ) → length (all_elements k) ≡ 64
@@ -173,7 +174,7 @@ behind_long : length behind_data ≡ 110
 unfolding step_words
 behind_long = refl
 
-short : (k : ℕ) → length (text (generated k)) ≤ 1048576
+short : (k : ℕ) → length (text (generated k)) ≤ LONGEST_TEXT
 short k =
     let lists = generated_lists k in
     let same : take 64 (lists ++ []) ≡ lists = ap (take 64) (append-nil lists) ∙ one_row k in

@@ -16,6 +16,7 @@ use Rattle.coll_shape.specs.declared.types.Buffer.{Buffer}
 use Rattle.coll_shape.specs.declared.types.Spread.{Spread}
 use Rattle.coll_shape.specs.declared.types.Group.{Group}
 use Rattle.coll_shape.specs.Outline.{no_buffer, no_group}
+use Rattle.coll_shape.specs.declared.limits.TheConstants.{MOST_BUFFERS, MOST_GIVEN}
 use Rattle.coll_lang.specs.Words.{type_word}
 use Rattle.coll_lang.specs.Forms.{input}
 use Rattle.coll_lang.specs.Language.{Past, judge, line_at, form_line, input_line, input_buffer, values_line, group_number, buffer_number, buffer_named, is_taken, read_from, data_due}
@@ -123,20 +124,20 @@ rows_lead base buffers inputs b given (row ∷ rows) some h =
 pub record IsInput (n : ℕ) (b : Buffer) : Type 0 where
   pub held : b.spread.holders ≡ from_to 0 n
   pub some : 1 ≤ b.spread.length
-  pub small : b.spread.length ≤ 4096
+  pub small : b.spread.length ≤ MOST_GIVEN
   pub named : is_name b.name ≡ true
 
 held_so : (n : ℕ) (b : Buffer) → b.spread.holders ≡ from_to 0 n → input_buffer n b.name b.ty b.spread.length ≡ b
 held_so n b e = ap (λ (h : List ℕ). let s : Spread = record { length = b.spread.length; holders = h } in
     let c : Buffer = record { name = b.name; ty = b.ty; spread = s } in c) (sym e)
 
-input_taken : (past : Past) (b : Buffer) → IsInput past.ranks b → is_taken past b.name ≡ false → length past.buffers < 128
+input_taken : (past : Past) (b : Buffer) → IsInput past.ranks b → is_taken past b.name ≡ false → length past.buffers < MOST_BUFFERS
     → form_line past (input b.name b.ty (decimal b.spread.length))
     ≡ Ok (record past { stage = data_due past.ranks b.ty b.spread.length; buffers = past.buffers ++ b ∷ []; inputs = past.inputs + 1 })
 unfolding form_line input_line
 input_taken past b i new few =
-    let number = between_read 1 4096 b.spread.length i.some i.small (omega arith) in
-    let full = isnt_full (length past.buffers) 128 few in
+    let number = between_read 1 MOST_GIVEN b.spread.length i.some i.small (omega arith) in
+    let full = isnt_full (length past.buffers) MOST_BUFFERS few in
     rw (number, new, full)
     (ap (λ (c : Buffer). let p : Past = record past {
       stage = data_due past.ranks b.ty b.spread.length;
@@ -144,7 +145,8 @@ input_taken past b i new few =
       inputs = past.inputs + 1;
     } in Ok p) (held_so past.ranks b i.held))
 
-one_input : (base : Past) (s : Stage) (all done rest : List Buffer) (b : Buffer) (n : ℕ) (given rows : List (List ℕ)) → length all ≤ 128
+one_input : (base : Past) (s : Stage) (all done rest : List Buffer) (b : Buffer) (n : ℕ) (given rows : List (List ℕ))
+    → length all ≤ MOST_BUFFERS
     → Wider s Inputs → Parts base.groups all done (b ∷ rest) → IsInput base.ranks b → length rows ≡ base.ranks
     → AllByRecursion (IsListOf b) rows
     → Leads (record base { stage = s; buffers = done; inputs = n; given = given })
@@ -168,7 +170,7 @@ one_input base s all done rest b n given rows many wider p i count lists =
     (rows_lead base bs (n + 1) b given rows i.some lists))
 
 -- all inputs, one after the other
-pub inputs_led : (base : Past) (all : List Buffer) → length all ≤ 128
+pub inputs_led : (base : Past) (all : List Buffer) → length all ≤ MOST_BUFFERS
     → (s : Stage) (done bs rest : List Buffer) (n : ℕ) (given lists : List (List ℕ)) → Wider s Inputs
     → Parts base.groups all done (bs ++ rest) → AllByRecursion (IsInput base.ranks) bs → Filled base.ranks bs lists
     → Led (record base { stage = s; buffers = done; inputs = n; given = given }) (inputs_text base.ranks bs lists)

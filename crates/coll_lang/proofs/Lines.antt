@@ -13,7 +13,8 @@ use Rattle.coll_shape.specs.declared.types.CollStep.{CollStep}
 use Rattle.coll_shape.specs.declared.types.CollStep.TheVariants.{Barrier}
 use Rattle.coll_shape.specs.Outline.{Outline, no_buffer, no_group, buffer_at, step_at, group_at, members_of}
 use Rattle.coll_shape.specs.Collectives.{result_of, since}
-use Rattle.coll_shape.specs.WellFormed.{most_ranks, StandsIn, AreMembers, IsGroup, and_one, made_upto, StepFits, elements_of, printed_elements, names, most_elements}
+use Rattle.coll_shape.specs.WellFormed.{most_ranks, StandsIn, AreMembers, IsGroup, and_one, made_upto, StepFits, elements_of, printed_elements, names}
+use Rattle.coll_shape.specs.declared.limits.TheConstants.{MOST_GROUPS, MOST_BUFFERS, MOST_STEPS, MOST_PRINTS, MOST_GIVEN, MOST_ELEMENTS}
 use Rattle.coll_lang.proofs.Facts.{Facts, made_most, in_inserted, apart_too}
 use Rattle.coll_lang.proofs.Growing.{old_at, new_at, longer, split, each_more, none_there, fit_stays, step_old, made_same}
 
@@ -26,12 +27,12 @@ abbrev pub grown : Outline → CollStep → Option ℕ → List Buffer → Outli
 grown o s i c = record o { buffers = o.buffers ++ c; steps = o.steps ++ s ∷ []; on = o.on ++ i ∷ [] }
 
 pub record IsStep (o : Outline) (s : CollStep) (i : Option ℕ) (c : List Buffer) : Type 0 where
-  pub few_buffers : length (o.buffers ++ c) ≤ 128
-  pub few_steps : length o.steps < 64
+  pub few_buffers : length (o.buffers ++ c) ≤ MOST_BUFFERS
+  pub few_steps : length o.steps < MOST_STEPS
   pub no_prints : o.prints ≡ []
   pub group : IsGroup o i
   pub stands : StandsIn (since s) o.version
-  pub short : (b : ℕ) → b < length (o.buffers ++ c) → (get_or (o.buffers ++ c) b no_buffer).spread.length ≤ most_elements
+  pub short : (b : ℕ) → b < length (o.buffers ++ c) → (get_or (o.buffers ++ c) b no_buffer).spread.length ≤ MOST_ELEMENTS
   pub fits : StepFits (grown o s i c) (length o.buffers) (members_of (from_to 0 o.ranks) o.groups i) s
   pub counts : and_one (result_of s) (length o.buffers) ≡ length (o.buffers ++ c)
   pub spelled : (x : List ℕ) → In x (names (grown o s i c)) → is_name x ≡ true
@@ -54,12 +55,12 @@ step_facts o s i c f h = record {
   steps = each_more (λ (t : CollStep). StandsIn (since t) o.version) o.steps s Barrier f.steps h.stands;
   held = λ b l. subst (λ (x : Buffer). x.spread.holders ≡ from_to 0 o.ranks) (sym (input_same b l)) (f.held b l);
   some = λ b l. subst (λ (x : Buffer). 1 ≤ x.spread.length) (sym (input_same b l)) (f.some b l);
-  small = λ b l. subst (λ (x : Buffer). x.spread.length ≤ 4096) (sym (input_same b l)) (f.small b l);
+  small = λ b l. subst (λ (x : Buffer). x.spread.length ≤ MOST_GIVEN) (sym (input_same b l)) (f.small b l);
   fits = λ k l. fits_each k (split k (length o.steps) (length p.steps) steps_longer l);
   all = all_made;
   spelled = h.spelled;
   distinct = h.distinct;
-  few_printed = subst (λ (ps : List ℕ). sum_by (λ b. elements_of (buffer_at p b)) ps ≤ most_elements) (sym h.no_prints) (omega arith);
+  few_printed = subst (λ (ps : List ℕ). sum_by (λ b. elements_of (buffer_at p b)) ps ≤ MOST_ELEMENTS) (sym h.no_prints) (omega arith);
 }
   where
     p : Outline
@@ -119,8 +120,8 @@ step_facts o s i c f h = record {
 abbrev pub with_print : Outline → ℕ → Outline
 with_print o i = record o { prints = o.prints ++ i ∷ [] }
 
-pub print_facts : (o : Outline) (i : ℕ) → Facts o → i < length o.buffers → length o.prints < 128
-    → printed_elements (with_print o i) ≤ most_elements → Facts (with_print o i)
+pub print_facts : (o : Outline) (i : ℕ) → Facts o → i < length o.buffers → length o.prints < MOST_PRINTS
+    → printed_elements (with_print o i) ≤ MOST_ELEMENTS → Facts (with_print o i)
 print_facts o i f there few le = record {
   some_rank = f.some_rank;
   few_ranks = f.few_ranks;
@@ -162,15 +163,15 @@ pub record IsEarly (o : Outline) : Type 0 where
   pub no_prints : o.prints ≡ []
   pub counted : o.inputs ≡ length o.buffers
 
-none_printed : (o : Outline) → o.prints ≡ [] → printed_elements o ≤ most_elements
-none_printed o e = subst (λ (ps : List ℕ). sum_by (λ b. elements_of (buffer_at o b)) ps ≤ most_elements) (sym e) (omega arith)
+none_printed : (o : Outline) → o.prints ≡ [] → printed_elements o ≤ MOST_ELEMENTS
+none_printed o e = subst (λ (ps : List ℕ). sum_by (λ b. elements_of (buffer_at o b)) ps ≤ MOST_ELEMENTS) (sym e) (omega arith)
 
 -- the steps' facts of an outline without steps
 no_made : (o : Outline) → o.steps ≡ [] → made_upto o (length o.steps) ≡ o.inputs
 no_made o e = ap (λ (ss : List CollStep). made_upto o (length ss)) e
 
 pub record IsGroupLine (o : Outline) (g : Group) : Type 0 where
-  pub few : length o.groups < 64
+  pub few : length o.groups < MOST_GROUPS
   pub members : AreMembers o.ranks g.members
   pub stands : StandsIn Two o.version
   pub named : is_name g.name ≡ true
@@ -227,10 +228,10 @@ group_facts o g f a h = record {
 }
 
 pub record IsInputLine (o : Outline) (b : Buffer) : Type 0 where
-  pub few : length o.buffers < 128
+  pub few : length o.buffers < MOST_BUFFERS
   pub held : b.spread.holders ≡ from_to 0 o.ranks
   pub some : 1 ≤ b.spread.length
-  pub small : b.spread.length ≤ 4096
+  pub small : b.spread.length ≤ MOST_GIVEN
   pub named : is_name b.name ≡ true
   pub fresh : In b.name (names o) → ⊥
 
@@ -269,14 +270,14 @@ input_facts o b f a h = record {
   on_groups = f.on_groups;
   on_group = λ k l. none_there o.steps a.no_steps k l;
   named_members = f.named_members;
-  short = each_more (λ (b : Buffer). b.spread.length ≤ most_elements) o.buffers b no_buffer f.short (let w = h.small in omega (arith, w));
+  short = each_more (λ (b : Buffer). b.spread.length ≤ MOST_ELEMENTS) o.buffers b no_buffer f.short (let w = h.small in omega (arith, w));
   printed = λ j l. none_there o.prints a.no_prints j l;
   groups = f.groups;
   steps = f.steps;
   held = λ i k. each_more (λ (b : Buffer). b.spread.holders ≡ from_to 0 o.ranks) o.buffers b no_buffer (λ i k. f.held i (below i k)) h.held
       i (inside i k);
   some = λ i k. each_more (λ (b : Buffer). 1 ≤ b.spread.length) o.buffers b no_buffer (λ i k. f.some i (below i k)) h.some i (inside i k);
-  small = λ i k. each_more (λ (b : Buffer). b.spread.length ≤ 4096) o.buffers b no_buffer (λ i k. f.small i (below i k)) h.small i
+  small = λ i k. each_more (λ (b : Buffer). b.spread.length ≤ MOST_GIVEN) o.buffers b no_buffer (λ i k. f.small i (below i k)) h.small i
       (inside i k);
   fits = λ k l. none_there o.steps a.no_steps k l;
   all = no_made (with_input o b) a.no_steps ∙ (let c = a.counted in omega (arith, c, l));

@@ -7,7 +7,8 @@ use Rattle.coll_text.specs.Text.{lines, line, is_name}
 use Rattle.coll_shape.specs.declared.types.Version.TheVariants.{Two}
 use Rattle.coll_shape.specs.declared.types.Buffer.{Buffer}
 use Rattle.coll_shape.specs.Outline.{no_buffer}
-use Rattle.coll_shape.specs.WellFormed.{most_elements, elements_of}
+use Rattle.coll_shape.specs.WellFormed.{elements_of}
+use Rattle.coll_shape.specs.declared.limits.TheConstants.{MOST_BUFFERS, MOST_STEPS, MOST_PRINTS, MOST_ELEMENTS}
 use Rattle.coll_lang.specs.Words.{choice_word}
 use Rattle.coll_lang.specs.Forms.{choice, print, last}
 use Rattle.coll_lang.specs.Language.{Past, form_line, print_line, choice_line, choice_step, choice_buffer, buffer_named, is_taken, read_from, stands_in}
@@ -24,14 +25,15 @@ use Rattle.coll_lang.proofs.Leaders.{at, Led, led_none, isnt_full, isnt_above}
 use Rattle.coll_lang.proofs.InputsBack.{Parts, named_there}
 
 -- ---- prints
-print_taken : (past : Past) (name : List ℕ) (i : ℕ) (b : Buffer) → buffer_named past.buffers name ≡ Some (i, b) → length past.prints < 128
-    → past.printed + elements_of b ≤ most_elements
+print_taken : (past : Past) (name : List ℕ) (i : ℕ) (b : Buffer) → buffer_named past.buffers name ≡ Some (i, b)
+    → length past.prints < MOST_PRINTS
+    → past.printed + elements_of b ≤ MOST_ELEMENTS
     → form_line past (print name)
     ≡ Ok (record past { stage = Prints; prints = past.prints ++ i ∷ []; printed = past.printed + elements_of b })
 unfolding form_line print_line
 print_taken past name i b found few le =
-    let full = isnt_full (length past.prints) 128 few in
-    let large = isnt_above (past.printed + elements_of b) most_elements le in
+    let full = isnt_full (length past.prints) MOST_PRINTS few in
+    let large = isnt_above (past.printed + elements_of b) MOST_ELEMENTS le in
     rw (found, full, large) refl
 
 -- the elements of so many prints
@@ -41,8 +43,8 @@ in_all bs prints = sum_by (λ i. elements_of (get_or bs i no_buffer)) prints
 pub prints_led : (base : Past) → Parts base.groups base.buffers base.buffers []
     → ((i : ℕ) → i < length base.buffers → is_name (name_at base.buffers i) ≡ true) → (s : Stage) (before prints : List ℕ) (printed : ℕ)
     → Wider s Prints
-    → AllByRecursion (λ i. i < length base.buffers) prints → length before + length prints ≤ 128
-    → printed + in_all base.buffers prints ≤ most_elements
+    → AllByRecursion (λ i. i < length base.buffers) prints → length before + length prints ≤ MOST_PRINTS
+    → printed + in_all base.buffers prints ≤ MOST_ELEMENTS
     → Led (record base { stage = s; prints = before; printed = printed }) (prints_text (name_at base.buffers) prints)
     (record base { prints = before ++ prints; printed = printed + in_all base.buffers prints }) Prints
 prints_led base p named s before [] printed wider there few le =
@@ -90,8 +92,8 @@ prints_led base p named s before (i ∷ prints) printed wider there few le =
     sums a b c = omega arith
 
 -- ---- a step of a choice text
-choice_taken : (past : Past) (kind : ChoiceKind) (name : List ℕ) → is_taken past name ≡ false → length past.choices < 64
-    → length past.buffers < 128
+choice_taken : (past : Past) (kind : ChoiceKind) (name : List ℕ) → is_taken past name ≡ false → length past.choices < MOST_STEPS
+    → length past.buffers < MOST_BUFFERS
     → form_line past (choice kind name)
     ≡ Ok (record past {
       stage = Choosing;
@@ -100,8 +102,8 @@ choice_taken : (past : Past) (kind : ChoiceKind) (name : List ℕ) → is_taken 
     })
 unfolding form_line choice_line
 choice_taken past kind name new few room =
-    let full = isnt_full (length past.choices) 64 few in
-    let filled = isnt_full (length past.buffers) 128 room in
+    let full = isnt_full (length past.choices) MOST_STEPS few in
+    let filled = isnt_full (length past.buffers) MOST_BUFFERS room in
     rw (new, full, filled) refl
 
 -- what is said behind it
@@ -113,7 +115,8 @@ with_choice past c = record past {
 }
 
 pub choice_leads : (past : Past) (c : ChoiceStep) → stands_in Two past.version ≡ true → Wider past.stage Choosing
-    → is_name (choice_name c) ≡ true → is_taken past (choice_name c) ≡ false → length past.choices < 64 → length past.buffers < 128
+    → is_name (choice_name c) ≡ true → is_taken past (choice_name c) ≡ false → length past.choices < MOST_STEPS
+    → length past.buffers < MOST_BUFFERS
     → Leads past (with_choice past c) (line (choice_words c))
 choice_leads past (Elect name) v w named new few room =
     form_leads past (with_choice past (Elect name)) (choice kinds.Elect name) (choice_word kinds.Elect) (name ∷ [])

@@ -7,6 +7,7 @@ use Rattle.coll_lang.specs.Readable.{FitsChoices, IsReadable, ReadsExactly}
 use Rattle.coll_lang.proofs.ChoiceBack.{choices_back}
 use Rattle.coll_lang.proofs.Coming.{comes}
 use Rattle.coll_lang.proofs.TextBack.{unchosen, unchosen_back}
+use Rattle.coll_lang.specs.declared.whole.TheConstants.{LONGEST_TEXT}
 
 abbrev with : Program → Option Chosen → Program
 with d c = record { shape = d.shape; inputs = d.inputs; choices = c }
@@ -15,7 +16,7 @@ by_choices : (d : Program) → IsReadable d → (c : Option Chosen) → d.choice
 by_choices d r None e =
     let is : d ≡ unchosen d.shape d.inputs = ap (with d) e in
     subst (λ (x : Program). read (text x) ≡ Ok x) (sym is)
-    (unchosen_back d.shape d.inputs r.formed r.given (subst (λ (x : Program). length (text x) ≤ 1048576) is r.short))
+    (unchosen_back d.shape d.inputs r.formed r.given (subst (λ (x : Program). length (text x) ≤ LONGEST_TEXT) is r.short))
 by_choices d r (Some c) e =
     let fits : FitsChoices d.shape (Some c) = subst (FitsChoices d.shape) e r.choices in
     let s = r.formed.shape in

@@ -19,6 +19,7 @@ use Rattle.coll_shape.specs.declared.types.Version.TheVariants.{Two}
 use Rattle.coll_shape.specs.declared.types.Buffer.{Buffer}
 use Rattle.coll_shape.specs.declared.types.Group.{Group}
 use Rattle.coll_shape.specs.WellFormed.{StandsIn, AreMembers}
+use Rattle.coll_shape.specs.declared.limits.TheConstants.{MOST_RANKS, MOST_GROUPS, MOST_BUFFERS, MOST_GIVEN}
 use Rattle.coll_lang.specs.Words.{type_word}
 use Rattle.coll_lang.specs.Forms.{group, input}
 use Rattle.coll_lang.specs.Language.{Past, is_taken, data_due, input_line, input_buffer, group_line, values_line, unless_flawed, all_numbers, are_members, is_rising}
@@ -68,11 +69,11 @@ many n m (k ∷ ks) h b =
     let r = many n k ks p.1 (both_true (nat_lt m n) (list_all (λ m. nat_lt m n) (k ∷ ks)) b).1 in
     omega (arith, l, r)
 
-few_members : (n : ℕ) (ms : List ℕ) → n ≤ 256 → is_rising ms ≡ true → list_all (λ m. nat_lt m n) ms ≡ true → length ms ≤ 256
+few_members : (n : ℕ) (ms : List ℕ) → n ≤ MOST_RANKS → is_rising ms ≡ true → list_all (λ m. nat_lt m n) ms ≡ true → length ms ≤ MOST_RANKS
 few_members n [] le h b = omega arith
 few_members n (m ∷ ms) le h b = let r = many n m ms h b in omega (arith, le, r)
 
-pub members_are : (n : ℕ) (ms : List ℕ) → n ≤ 256 → are_members n ms ≡ true → AreMembers n ms
+pub members_are : (n : ℕ) (ms : List ℕ) → n ≤ MOST_RANKS → are_members n ms ≡ true → AreMembers n ms
 members_are n ms le h =
     let p = both_true (list_all (λ m. nat_lt m n) ms && is_rising ms) (nat_lt 0 (length ms)) h in
     let q = both_true (list_all (λ m. nat_lt m n) ms) (is_rising ms) p.0 in
@@ -108,7 +109,8 @@ pub record Goes (At : Past → Type 0) (before : List ℕ) (next : Past) (x : Li
   pub holds : At next
   pub written_is : body next ≡ before ++ x
 
-pub group_goes : (past next : Past) (name : List ℕ) (members : List (List ℕ)) → past.ranks ≤ 256 → AtGroups past → StandsIn Two past.version
+pub group_goes : (past next : Past) (name : List ℕ) (members : List (List ℕ)) → past.ranks ≤ MOST_RANKS → AtGroups past
+    → StandsIn Two past.version
     → is_name name ≡ true
     → group_line past name members ≡ Ok next
     → Goes (λ p. AtGroups p × (p.stage ≡ Groups)) (body past) next (line (form_words (group name members)))
@@ -116,7 +118,7 @@ unfolding group_line
 group_goes past next name members le a stands named h =
     let n = some_of BadNumber (all_numbers members) _ next h in
     let t = passed (is_taken past name) NameTaken _ next n.2 in
-    let few = passed (nat_le 64 (length past.groups)) TooMany _ next t.1 in
+    let few = passed (nat_le MOST_GROUPS (length past.groups)) TooMany _ next t.1 in
     let good = passed _ BadGroup _ next few.1 in
     let ms = n.0 in
     let are = members_are past.ranks ms le (not_not (are_members past.ranks ms) good.0) in
@@ -132,7 +134,7 @@ group_goes past next name members le a stands named h =
             early = record {
               facts = group_facts (outline past) g e.facts e.early
                   (record {
-                    few = room 64 (length past.groups) few.0;
+                    few = room MOST_GROUPS (length past.groups) few.0;
                     members = are;
                     stands = stands;
                     named = named;
@@ -164,7 +166,7 @@ group_goes past next name members le a stands named h =
           ∙ ap (λ (x : List (List ℕ)). body past ++ line (codes "group" ∷ name ∷ x)) (sym spelled);
     })
   where
-    small : (m n : ℕ) → n ≤ 256 → m < n → m < 2 ^ 64
+    small : (m n : ℕ) → n ≤ MOST_RANKS → m < n → m < 2 ^ 64
     small m n few l = omega (arith, l, few)
 
 -- ---- an input
@@ -174,10 +176,10 @@ pub input_goes : (past next : Past) (name : List ℕ) (ty : ElemType) (count : L
     (line (form_words (input name ty count))))
 unfolding input_line
 input_goes past next name ty count a named h =
-    let n = some_of BadNumber (number_between 1 4096 count) _ next h in
+    let n = some_of BadNumber (number_between 1 MOST_GIVEN count) _ next h in
     let t = passed (is_taken past name) NameTaken _ next n.2 in
-    let full = passed (nat_le 128 (length past.buffers)) TooMany _ next t.1 in
-    let range = in_range 1 4096 n.0 count n.1 in
+    let full = passed (nat_le MOST_BUFFERS (length past.buffers)) TooMany _ next t.1 in
+    let range = in_range 1 MOST_GIVEN n.0 count n.1 in
     let c : Buffer = input_buffer past.ranks name ty n.0 in
     let after : Past = record past { stage = data_due past.ranks ty n.0; buffers = past.buffers ++ c ∷ []; inputs = past.inputs + 1 } in
     let e = a.early in
@@ -192,7 +194,7 @@ input_goes past next name ty count a named h =
                 early = record {
                   facts = input_facts (outline past) c e.facts e.early
                       (record {
-                        few = room 128 (length past.buffers) full.0;
+                        few = room MOST_BUFFERS (length past.buffers) full.0;
                         held = refl;
                         some = range.least;
                         small = range.most;
@@ -230,7 +232,7 @@ input_goes past next name ty count a named h =
                 (inputs_text past.ranks (take past.inputs past.buffers) past.given) (input_text c) (tail past) (tail after)
                 (no_tail past e.early.no_steps e.no_choices e.early.no_prints) (no_tail after e.early.no_steps e.no_choices e.early.no_prints)
                 ∙ ap (λ (x : List ℕ). body past ++ line (codes "input" ∷ name ∷ type_word ty ∷ x ∷ []))
-                (sym (between_spelled 1 4096 n.0 count (omega arith) n.1));
+                (sym (between_spelled 1 MOST_GIVEN n.0 count (omega arith) n.1));
           }),
     )
 

@@ -22,8 +22,9 @@ use Rattle.coll_shape.specs.declared.types.CollStep.TheVariants.{Barrier}
 use Rattle.coll_shape.specs.Outline.{Outline, no_buffer, no_group, buffer_at, read_buffer}
 use Rattle.coll_shape.specs.Kinds.{kind_since, step_of, takes_buffers, takes_root}
 use Rattle.coll_shape.specs.Collectives.{buffer_after, IsPlace, Reads, can_read, made_length, named, result_of, source_of}
-use Rattle.coll_shape.specs.WellFormed.{StandsIn, AreMembers, IsGroup, and_one, StepFits, elements_of, printed_elements, most_elements}
+use Rattle.coll_shape.specs.WellFormed.{StandsIn, AreMembers, IsGroup, and_one, StepFits, elements_of, printed_elements}
 use Rattle.coll_shape.proofs.Asking.{reads-can}
+use Rattle.coll_shape.specs.declared.limits.TheConstants.{MOST_RANKS, MOST_BUFFERS, MOST_STEPS, MOST_PRINTS, MOST_ELEMENTS}
 use Rattle.coll_lang.specs.Forms.{StepWords, step, print}
 use Rattle.coll_lang.specs.Language.{Past, form_since, or_refuse, stands_in, holds_of, is_taken, group_number, buffer_number, buffer_named, root_number, source_named, group_named, members_in, new_buffer, with_made, step_on, rooted_line, step_line, print_line}
 use Rattle.coll_lang.specs.Spelling.{head_text, remote_text, groups_text, inputs_text, if_there, name_at, step_words, on_words, steps_text, choices_text, prints_text}
@@ -124,7 +125,7 @@ from_to-at k zero i l = absurd (omega arith)
 from_to-at k (suc n) zero l = omega arith
 from_to-at k (suc n) (suc i) l = from_to-at (suc k) n i (omega arith) ∙ (let e : suc k + i ≡ k + suc i = omega arith in e)
 
-pub everyone_are : (n : ℕ) → 1 ≤ n → n ≤ 256 → AreMembers n (from_to 0 n)
+pub everyone_are : (n : ℕ) → 1 ≤ n → n ≤ MOST_RANKS → AreMembers n (from_to 0 n)
 everyone_are n some few =
     let l = from_to-long 0 n in
     record {
@@ -135,7 +136,7 @@ everyone_are n some few =
           omega (arith, a, b, lt);
     }
 
-pub members_there : (past : Past) (i : Option ℕ) → past.ranks ≤ 256 → Facts (outline past) → IsGroup (outline past) i
+pub members_there : (past : Past) (i : Option ℕ) → past.ranks ≤ MOST_RANKS → Facts (outline past) → IsGroup (outline past) i
     → AreMembers past.ranks (members_in past i)
 members_there past None few f g = everyone_are past.ranks f.some_rank few
 members_there past (Some i) few f g = f.named_members i g
@@ -224,7 +225,7 @@ source_said past (Some n) from h =
 
 -- what a step of the line fits
 pub record IsTaken (past : Past) (w : StepWords) (r : ℕ) (from : ℕ × Buffer) (i : Option ℕ) : Type 0 where
-  pub few : past.ranks ≤ 256
+  pub few : past.ranks ≤ MOST_RANKS
   pub facts : Facts (outline past)
   pub group : IsGroup (outline past) i
   pub takes : Takes w
@@ -298,19 +299,19 @@ new_fits past w r from i h = record {
 
 -- ---- the names and lengths with B
 pub record Kept (past : Past) (c : List Buffer) : Type 0 where
-  pub short : (b : ℕ) → b < length (past.buffers ++ c) → (get_or (past.buffers ++ c) b no_buffer).spread.length ≤ most_elements
+  pub short : (b : ℕ) → b < length (past.buffers ++ c) → (get_or (past.buffers ++ c) b no_buffer).spread.length ≤ MOST_ELEMENTS
   pub spelled : (x : List ℕ) → In x (map (λ (g : Group). g.name) past.groups ++ map (λ (b : Buffer). b.name) (past.buffers ++ c))
       → is_name x ≡ true
   pub distinct : Distinct (map (λ (g : Group). g.name) past.groups ++ map (λ (b : Buffer). b.name) (past.buffers ++ c))
 
 kept_with : (past : Past) (g : List ℕ) (s : CollStep) (x : Buffer) (names : Option (List ℕ × List ℕ)) → Facts (outline past)
     → SecondNamed names
-    → ((n : List ℕ × List ℕ) → names ≡ Some n → is_taken past n.1 ≡ false) → made_length g s x ≤ most_elements
+    → ((n : List ℕ × List ℕ) → names ≡ Some n → is_taken past n.1 ≡ false) → made_length g s x ≤ MOST_ELEMENTS
     → Kept past (made_list g s x names)
 kept_with past g s x None f named fresh small =
     let same : past.buffers ≡ past.buffers ++ [] = sym (append-nil past.buffers) in
     record {
-      short = subst (λ (bs : List Buffer). (b : ℕ) → b < length bs → (get_or bs b no_buffer).spread.length ≤ most_elements) same f.short;
+      short = subst (λ (bs : List Buffer). (b : ℕ) → b < length bs → (get_or bs b no_buffer).spread.length ≤ MOST_ELEMENTS) same f.short;
       spelled = subst (λ (bs : List Buffer). (x : List ℕ)
           → In x (map (λ (g : Group). g.name) past.groups ++ map (λ (b : Buffer). b.name) bs) → is_name x ≡ true) same f.spelled;
       distinct = subst (λ (bs : List Buffer). Distinct (map (λ (g : Group). g.name) past.groups ++ map (λ (b : Buffer). b.name) bs)) same
@@ -319,24 +320,24 @@ kept_with past g s x None f named fresh small =
 kept_with past g s x (Some n) f named fresh small =
     let b = new_buffer g s x n.1 in
     record {
-      short = each_more (λ (b : Buffer). b.spread.length ≤ most_elements) past.buffers b no_buffer f.short small;
+      short = each_more (λ (b : Buffer). b.spread.length ≤ MOST_ELEMENTS) past.buffers b no_buffer f.short small;
       spelled = spelled_more (outline past) b f named;
       distinct = distinct_more (outline past) b f (new_name past n.1 (fresh n refl));
     }
 
-few_with : (past : Past) (g : List ℕ) (s : CollStep) (x : Buffer) (names : Option (List ℕ × List ℕ)) → length past.buffers ≤ 128
-    → (is_some names && nat_le 128 (length past.buffers)) ≡ false → length (past.buffers ++ made_list g s x names) ≤ 128
+few_with : (past : Past) (g : List ℕ) (s : CollStep) (x : Buffer) (names : Option (List ℕ × List ℕ)) → length past.buffers ≤ MOST_BUFFERS
+    → (is_some names && nat_le MOST_BUFFERS (length past.buffers)) ≡ false → length (past.buffers ++ made_list g s x names) ≤ MOST_BUFFERS
 few_with past g s x None few h = let e = longer_by past.buffers g s x None in omega (arith, e, few)
 few_with past g s x (Some n) few h =
-    let e = longer_by past.buffers g s x (Some n) in let l = room 128 (length past.buffers) h in omega (arith, e, l)
+    let e = longer_by past.buffers g s x (Some n) in let l = room MOST_BUFFERS (length past.buffers) h in omega (arith, e, l)
 
 counts_with : (due : Bool) (r : Option ℕ) (n m : ℕ) → r ≡ cond due (Some n) None → m ≡ cond due (suc n) n → and_one r n ≡ m
 counts_with true r n m e f = ap (λ v. and_one v n) e ∙ sym f
 counts_with false r n m e f = ap (λ v. and_one v n) e ∙ sym f
 
 pub is_step : (past : Past) (w : StepWords) (r : ℕ) (from : ℕ × Buffer) (i : Option ℕ) → IsTaken past w r from i → past.prints ≡ []
-    → length past.steps < 64 → (is_some w.names && nat_le 128 (length past.buffers)) ≡ false
-    → made_length (members_in past i) (new_step past w r from.0) from.1 ≤ most_elements → StandsIn (kind_since w.kind) past.version
+    → length past.steps < MOST_STEPS → (is_some w.names && nat_le MOST_BUFFERS (length past.buffers)) ≡ false
+    → made_length (members_in past i) (new_step past w r from.0) from.1 ≤ MOST_ELEMENTS → StandsIn (kind_since w.kind) past.version
     → IsStep (outline past) (new_step past w r from.0) i (made_list (members_in past i) (new_step past w r from.0) from.1 w.names)
 is_step past w r from i h none few full small stands =
     let g = members_in past i in
@@ -422,9 +423,9 @@ pub record StepTaken (past next : Past) (on : Option (List ℕ)) (w : StepWords)
   pub group : group_named past.groups on ≡ Some i
   pub root : r < length (members_in past i)
   pub reads : can_read (members_in past i) (new_step past w r from.0) from.1 ≡ true
-  pub few : length past.steps < 64
-  pub full : (is_some w.names && nat_le 128 (length past.buffers)) ≡ false
-  pub small : made_length (members_in past i) (new_step past w r from.0) from.1 ≤ most_elements
+  pub few : length past.steps < MOST_STEPS
+  pub full : (is_some w.names && nat_le MOST_BUFFERS (length past.buffers)) ≡ false
+  pub small : made_length (members_in past i) (new_step past w r from.0) from.1 ≤ MOST_ELEMENTS
   pub next_is : record past {
     stage = Steps;
     buffers = with_made past.buffers (members_in past i) (new_step past w r from.0) from.1 w.names;
@@ -441,10 +442,11 @@ step_taken past next on w h =
     let s = new_step past w r.0 from.0.0 in
     let bad_root = passed (holds_of (λ on. nat_le (length (members_in past on)) r.0) found) BadRoot _ next from.2 in
     let shape = passed (holds_of (λ on. not (can_read (members_in past on) s from.0.1)) found) WrongShape _ next bad_root.1 in
-    let full = passed (nat_le 64 (length past.steps) || (is_some w.names && nat_le 128 (length past.buffers))) TooMany _ next shape.1 in
-    let large = passed (holds_of (λ on. nat_lt most_elements (made_length (members_in past on) s from.0.1)) found) TooLarge _ next full.1 in
+    let full = passed (nat_le MOST_STEPS (length past.steps) || (is_some w.names && nat_le MOST_BUFFERS (length past.buffers)))
+    TooMany _ next shape.1 in
+    let large = passed (holds_of (λ on. nat_lt MOST_ELEMENTS (made_length (members_in past on) s from.0.1)) found) TooLarge _ next full.1 in
     let i = some_of BadGroup found _ next large.1 in
-    let two = split_or (nat_le 64 (length past.steps)) (is_some w.names && nat_le 128 (length past.buffers)) full.0 in
+    let two = split_or (nat_le MOST_STEPS (length past.steps)) (is_some w.names && nat_le MOST_BUFFERS (length past.buffers)) full.0 in
     record {
       r = r.0;
       from = from.0;
@@ -455,10 +457,10 @@ step_taken past next on w h =
       root = past_no (length (members_in past i.0)) r.0 (held_at (λ on. nat_le (length (members_in past on)) r.0) found i.0 i.1 bad_root.0);
       reads = not_not (can_read (members_in past i.0) s from.0.1)
           (held_at (λ on. not (can_read (members_in past on) s from.0.1)) found i.0 i.1 shape.0);
-      few = room 64 (length past.steps) two.0;
+      few = room MOST_STEPS (length past.steps) two.0;
       full = two.1;
-      small = not_above most_elements (made_length (members_in past i.0) s from.0.1)
-          (held_at (λ on. nat_lt most_elements (made_length (members_in past on) s from.0.1)) found i.0 i.1 large.0);
+      small = not_above MOST_ELEMENTS (made_length (members_in past i.0) s from.0.1)
+          (held_at (λ on. nat_lt MOST_ELEMENTS (made_length (members_in past on) s from.0.1)) found i.0 i.1 large.0);
       next_is = ok_is (record
           past {
             stage = Steps;
@@ -485,7 +487,7 @@ line_names past g s from (Some m) said n e =
     some_is a b e = cc
 
 -- a step keeps what is said and written
-pub step_goes : (past next : Past) (on : Option (List ℕ)) (w : StepWords) → past.ranks ≤ 256 → AtSteps past → Takes w
+pub step_goes : (past next : Past) (on : Option (List ℕ)) (w : StepWords) → past.ranks ≤ MOST_RANKS → AtSteps past → Takes w
     → stands_in (form_since (step on w)) past.version ≡ true
     → step_line past on w ≡ Ok next → Goes (λ p. AtSteps p × (p.stage ≡ Steps)) (body past) next (line (form_words (step on w)))
 unfolding with_step
@@ -525,7 +527,7 @@ step_goes past next on w few_ranks a takes stands h =
           (line_names past g s t.from w.names said));
     })
   where
-    small_root : (r m : ℕ) → r < m → m ≤ 256 → r < 2 ^ 64
+    small_root : (r m : ℕ) → r < m → m ≤ MOST_RANKS → r < 2 ^ 64
     small_root r m l few = omega (arith, l, few)
 
 -- a print
@@ -537,8 +539,8 @@ pub print_goes : (past next : Past) (name : List ℕ) → AtPrints past → prin
 unfolding print_line
 print_goes past next name a h =
     let from = some_of UnknownBuffer (buffer_named past.buffers name) _ next h in
-    let full = passed (nat_le 128 (length past.prints)) TooMany _ next from.2 in
-    let large = passed (nat_lt most_elements (past.printed + elements_of from.0.1)) TooLarge _ next full.1 in
+    let full = passed (nat_le MOST_PRINTS (length past.prints)) TooMany _ next from.2 in
+    let large = passed (nat_lt MOST_ELEMENTS (past.printed + elements_of from.0.1)) TooLarge _ next full.1 in
     let is = found past.buffers name from.0 from.1 in
     let i = from.0.0 in
     let after : Past = record past { stage = Prints; prints = past.prints ++ i ∷ []; printed = past.printed + elements_of from.0.1 } in
@@ -549,8 +551,8 @@ print_goes past next name a h =
     (record {
       holds = (
         record {
-          facts = print_facts (outline past) i a.facts is.there (room 128 (length past.prints) full.0)
-              (subst (λ n. n ≤ most_elements) sum (not_above most_elements (past.printed + elements_of from.0.1) large.0));
+          facts = print_facts (outline past) i a.facts is.there (room MOST_PRINTS (length past.prints) full.0)
+              (subst (λ n. n ≤ MOST_ELEMENTS) sum (not_above MOST_ELEMENTS (past.printed + elements_of from.0.1) large.0));
           filled = a.filled;
           no_choices = a.no_choices;
           counted = sum;

@@ -16,8 +16,9 @@ use Rattle.coll_shape.specs.declared.types.CollStep.TheVariants.{Barrier}
 use Rattle.coll_shape.specs.Outline.{no_buffer, no_group, buffer_at, read_buffer}
 use Rattle.coll_shape.specs.Kinds.{kind_of, kind_since, kind_word, step_of, takes_op}
 use Rattle.coll_shape.specs.Collectives.{IsPlace, Reads, buffer_after, can_read, made_length, named, result_of, since, source_of, root_of}
-use Rattle.coll_shape.specs.WellFormed.{StandsIn, StepFits, most_elements}
+use Rattle.coll_shape.specs.WellFormed.{StandsIn, StepFits}
 use Rattle.coll_shape.proofs.Asking.{can-reads}
+use Rattle.coll_shape.specs.declared.limits.TheConstants.{MOST_RANKS, MOST_BUFFERS, MOST_STEPS, MOST_ELEMENTS}
 use Rattle.coll_lang.specs.Forms.{StepWords, step}
 use Rattle.coll_lang.specs.Language.{Past, form_line, form_since, source_named, buffer_named, is_taken, group_named, members_in, new_buffer, stands_in, with_made}
 use Rattle.coll_lang.specs.Spelling.{name_at, on_words, step_words}
@@ -149,7 +150,7 @@ pub makes_leads : (base : Past) (st : Stage) (done rest : List Buffer) (c : Buff
     (s : CollStep) (k : Option ℕ) (a b : ℕ)
     → Wider st Steps → Parts base.groups base.buffers done (c ∷ rest) → StepFits (outline base) (length done) (members_in base k) s
     → source_of s ≡ Some a → result_of s ≡ Some b
-    → base.ranks ≤ 256 → length base.buffers ≤ 128 → length steps < 64 → c.spread.length ≤ most_elements
+    → base.ranks ≤ MOST_RANKS → length base.buffers ≤ MOST_BUFFERS → length steps < MOST_STEPS → c.spread.length ≤ MOST_ELEMENTS
     → ((i : ℕ) → i < length base.buffers → is_name (name_at base.buffers i) ≡ true) → Apart base.groups → IsOn base.groups base.version k
     → StandsIn (since s) base.version
     → Leads (record base { stage = st; buffers = done; steps = steps; on = ons })
@@ -183,17 +184,17 @@ makes_leads base st done rest c steps ons s k a b wider p f es er ranks few room
     sym at_b ∙ f.makes b er ∙ ap (λ (y : Buffer). named y.name (buffer_after g s (read_buffer (outline base) (source_of s)))) at_b
     ∙ ap (λ (y : Buffer). named c.name (buffer_after g s y)) read_is in
     let new : new_buffer g s x c.name ≡ c = makes_it base g s x c b er made in
-    let long : made_length g s x ≤ most_elements = subst (λ (y : Buffer). y.spread.length ≤ most_elements) (sym new) small in
+    let long : made_length g s x ≤ MOST_ELEMENTS = subst (λ (y : Buffer). y.spread.length ≤ MOST_ELEMENTS) (sym new) small in
     let root_small : (r : ℕ) → root_of s ≡ Some r → r < 2 ^ 64 =
     λ r e. few_place r (length g) (subst (λ o. IsPlace (length g) o) e f.root) f.members.few in
     let sp = spelled_of all s root_small (λ i e. names i (of_source i e)) (λ i e. names i (f.result i e)) in
     let taken : form_line past (step (on_name base.groups k) w) ≡ Ok next =
     step_taken past w (on_name base.groups k) k (place_of s) a x (root_said (root_of s) root_small) read
     (on_found base.groups base.version k apart on) (root_below (length g) (root_of s) f.root f.members.some)
-    (ap (λ t. can_read g t x) is ∙ reads) (isnt_full (length steps) 64 room)
-    (ap (λ (o : Option (List ℕ × List ℕ)). is_some o && nat_le 128 (length done)) pair
-    ∙ isnt_full (length done) 128 (omega (arith, l, few)))
-    (ap (λ t. nat_lt most_elements (made_length g t x)) is ∙ isnt_above (made_length g s x) most_elements long)
+    (ap (λ t. can_read g t x) is ∙ reads) (isnt_full (length steps) MOST_STEPS room)
+    (ap (λ (o : Option (List ℕ × List ℕ)). is_some o && nat_le MOST_BUFFERS (length done)) pair
+    ∙ isnt_full (length done) MOST_BUFFERS (omega (arith, l, few)))
+    (ap (λ t. nat_lt MOST_ELEMENTS (made_length g t x)) is ∙ isnt_above (made_length g s x) MOST_ELEMENTS long)
     ∙ ap (λ (o : Option (List ℕ × List ℕ)).
     let q : Past = record base {
       stage = Steps;
@@ -215,7 +216,7 @@ makes_leads base st done rest c steps ons s k a b wider p f es er ranks few room
     (step_form_leads past next (on_name base.groups k) w sp (on_full base.groups base.version k on) (words_solid all s root_small sp)
     (form_stands base.groups base.version k all s on since) wider taken)
   where
-    few_place : (r n : ℕ) → r < n → n ≤ 256 → r < 2 ^ 64
+    few_place : (r n : ℕ) → r < n → n ≤ MOST_RANKS → r < 2 ^ 64
     few_place r n l few = omega (arith, l, few)
 
     of_source : (i : ℕ) → source_of s ≡ Some i → i < length base.buffers
@@ -227,7 +228,7 @@ unfolding source_named
 no_source past = refl
 
 pub meets_leads : (base : Past) (st : Stage) (done : List Buffer) (steps : List CollStep) (ons : List (Option ℕ)) (k : Option ℕ)
-    → Wider st Steps → 0 < length (members_in base k) → length steps < 64 → Apart base.groups → IsOn base.groups base.version k
+    → Wider st Steps → 0 < length (members_in base k) → length steps < MOST_STEPS → Apart base.groups → IsOn base.groups base.version k
     → Leads (record base { stage = st; buffers = done; steps = steps; on = ons })
     (record base { stage = Steps; buffers = done; steps = steps ++ Barrier ∷ []; on = ons ++ k ∷ [] })
     (line (on_words base.groups k ++ step_words base.buffers Barrier))
@@ -240,7 +241,7 @@ meets_leads base st done steps ons k wider some room apart on =
     let sp = spelled_of all Barrier small (λ i e. absurd (clash i e)) (λ i e. absurd (clash i e)) in
     let taken : form_line past (step (on_name base.groups k) w) ≡ Ok next =
     step_taken past w (on_name base.groups k) k 0 0 no_buffer refl (no_source past) (on_found base.groups base.version k apart on)
-    (root_below (length (members_in base k)) None tt some) refl (isnt_full (length steps) 64 room) refl refl in
+    (root_below (length (members_in base k)) None tt some) refl (isnt_full (length steps) MOST_STEPS room) refl refl in
     subst (λ (ws : List (List ℕ)). Leads past next (line ws))
     (ap (λ (v : List (List ℕ)). v ++ said_words w) (sym (on_spelled base.groups k))
     ∙ ap (λ (v : List (List ℕ)). on_words base.groups k ++ v) (sym (words_said all Barrier)))

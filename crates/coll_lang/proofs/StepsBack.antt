@@ -11,7 +11,7 @@ use Rattle.coll_shape.specs.declared.types.CollStep.{CollStep}
 use Rattle.coll_shape.specs.declared.types.CollStep.TheVariants.{Barrier, Broadcast, Reduce, Allreduce, Gather, Allgather, Alltoall, Scan, Scatter, Reducescatter, Exscan, Gatherv}
 use Rattle.coll_shape.specs.Kinds.{kind_of, step_of}
 use Rattle.coll_shape.specs.Collectives.{IsPlace, can_read, made_length, op_of, result_of, root_of, source_of}
-use Rattle.coll_shape.specs.WellFormed.{most_elements}
+use Rattle.coll_shape.specs.declared.limits.TheConstants.{MOST_BUFFERS, MOST_STEPS, MOST_ELEMENTS}
 use Rattle.coll_lang.specs.Forms.{StepWords, step}
 use Rattle.coll_lang.specs.Language.{Past, form_line, step_line, rooted_line, step_on, root_number, source_named, group_named, members_in, with_made}
 use Rattle.coll_lang.specs.Spelling.{name_at, step_words}
@@ -129,9 +129,10 @@ root_below n (Some r) h some = isnt_full r n h
 pub step_taken : (past : Past) (w : StepWords) (on : Option (List ℕ)) (k : Option ℕ) (root a : ℕ) (x : Buffer)
     → root_number w.root ≡ Some root → source_named past w.names ≡ Ok (a, x) → group_named past.groups on ≡ Some k
     → nat_le (length (members_in past k)) root ≡ false
-    → can_read (members_in past k) (step_of w.kind root w.op a (length past.buffers)) x ≡ true → nat_le 64 (length past.steps) ≡ false
-    → (is_some w.names && nat_le 128 (length past.buffers)) ≡ false
-    → nat_lt most_elements (made_length (members_in past k) (step_of w.kind root w.op a (length past.buffers)) x) ≡ false
+    → can_read (members_in past k) (step_of w.kind root w.op a (length past.buffers)) x ≡ true
+    → nat_le MOST_STEPS (length past.steps) ≡ false
+    → (is_some w.names && nat_le MOST_BUFFERS (length past.buffers)) ≡ false
+    → nat_lt MOST_ELEMENTS (made_length (members_in past k) (step_of w.kind root w.op a (length past.buffers)) x) ≡ false
     → form_line past (step on w) ≡ Ok (record past {
       stage = Steps;
       buffers = with_made past.buffers (members_in past k) (step_of w.kind root w.op a (length past.buffers)) x w.names;

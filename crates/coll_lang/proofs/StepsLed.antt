@@ -8,7 +8,8 @@ use Rattle.coll_shape.specs.declared.types.CollStep.{CollStep}
 use Rattle.coll_shape.specs.declared.types.CollStep.TheVariants.{Barrier}
 use Rattle.coll_shape.specs.Outline.{group_at, step_at}
 use Rattle.coll_shape.specs.Collectives.{result_of, since, source_of}
-use Rattle.coll_shape.specs.WellFormed.{FitsVersion, IsGroup, IsWellFormed, StandsIn, StepFits, and_one, made_upto, most_elements}
+use Rattle.coll_shape.specs.WellFormed.{FitsVersion, IsGroup, IsWellFormed, StandsIn, StepFits, and_one, made_upto}
+use Rattle.coll_shape.specs.declared.limits.TheConstants.{MOST_STEPS, MOST_ELEMENTS}
 use Rattle.coll_lang.specs.Language.{Past, members_in}
 use Rattle.coll_lang.specs.Spelling.{on_words, step_words, steps_text}
 use Rattle.coll_lang.specs.declared.stage.Stage.{Stage}
@@ -52,7 +53,7 @@ record Next (base : Past) (before : List CollStep) (done : List Buffer) (s : Col
   fits : StepFits (outline base) (length done) (members_in base k) s
   on : IsOn base.groups base.version k
   since : StandsIn (since s) base.version
-  room : length before < 64
+  room : length before < MOST_STEPS
   count : made_upto (outline base) (length (before ++ s ∷ [])) ≡ and_one (result_of s) (length done)
 
 one_more : (n m : ℕ) → m ≡ n + 1 → m ≡ suc n
@@ -117,8 +118,8 @@ makes base f n st done [] before ons_before s k a b wider p h ea eb =
     absurd (omega (arith, l, next, there))
 makes base f n st done (c ∷ rest) before ons_before s k a b wider p h ea eb =
     let l = inputs.longer base.buffers done (c ∷ rest) p.are in
-    let small : c.spread.length ≤ most_elements =
-    subst (λ (x : Buffer). x.spread.length ≤ most_elements) (comes_next base.buffers done rest c p.are)
+    let small : c.spread.length ≤ MOST_ELEMENTS =
+    subst (λ (x : Buffer). x.spread.length ≤ MOST_ELEMENTS) (comes_next base.buffers done rest c p.are)
     (f.shape.short (length done) (omega (arith, l))) in
     record {
       more = done ++ c ∷ [];

@@ -9,6 +9,7 @@ use Rattle.coll_shape.specs.Outline.{Outline, no_buffer}
 use Rattle.coll_shape.specs.Rows.{joined}
 use Rattle.coll_shape.specs.WellFormed.{IsWellFormed}
 use Rattle.coll_shape.specs.Meaning.{AreInputs, Lists}
+use Rattle.coll_shape.specs.declared.limits.TheConstants.{MOST_PRINTS, MOST_ELEMENTS}
 use Rattle.coll_lang.specs.Program.{Program}
 use Rattle.coll_lang.specs.Language.{Past, described, nothing, read, read_from}
 use Rattle.coll_lang.specs.Spelling.{groups_text, head_text, inputs_text, name_at, prints_text, remote_text, steps_text, text}
@@ -22,6 +23,7 @@ use Rattle.coll_lang.proofs.NamesBack.{are_names}
 use Rattle.coll_lang.proofs.PrintsBack.{ends, in_all, last_leads, prints_led}
 use Rattle.coll_lang.proofs.RowsBack.{inputs_filled, rows_back}
 use Rattle.coll_lang.proofs.StepsLed.{said, steps_led, unprinted}
+use Rattle.coll_lang.specs.declared.whole.TheConstants.{LONGEST_TEXT}
 
 -- what all lines say
 abbrev all_said : Outline → Lists → Past
@@ -83,7 +85,8 @@ prints_on o lists f s w =
     let p : Parts o.groups o.buffers o.buffers [] = record { are = sym (append-nil o.buffers); distinct = n.distinct; apart = n.apart } in
     lead_then (at s (unprinted all)) (prints_text (name_at o.buffers) o.prints) last_text all all Prints
     (prints_led all p n.spelled s [] o.prints 0 (λ form h. w form (steps_wider form h)) (prints_there o f)
-    (none_more 0 (length o.prints) 128 refl f.shape.few_prints) (none_more 0 (in_all o.buffers o.prints) 16777216 refl f.few_printed))
+    (none_more 0 (length o.prints) MOST_PRINTS refl f.shape.few_prints)
+    (none_more 0 (in_all o.buffers o.prints) MOST_ELEMENTS refl f.few_printed))
     (λ s w. last_on all s w)
 
 -- ---- steps
@@ -181,11 +184,12 @@ later_on o lists f g =
 
 -- ---- the whole text
 -- what a whole text leads to is what is read of it
-pub whole_read : (bytes : List ℕ) (final : Past) (d : Program) → final.stage ≡ Finished → Leads nothing final bytes → length bytes ≤ 1048576
+pub whole_read : (bytes : List ℕ) (final : Past) (d : Program) → final.stage ≡ Finished → Leads nothing final bytes
+    → length bytes ≤ LONGEST_TEXT
     → described final ≡ d → read bytes ≡ Ok d
 unfolding read
 whole_read bytes final d done leads short is =
-    let fits = isnt_above (length bytes) 1048576 short in
+    let fits = isnt_above (length bytes) LONGEST_TEXT short in
     let reads : read_from nothing 1 (lines bytes) ≡ Ok final =
     ap (λ (x : List ℕ). read_from nothing 1 (lines x)) (sym (append-nil bytes)) ∙ leads final [] (λ k. ends final k done) 1 in
     rw (fits, reads) (ap (λ (p : Program). Ok p) is)
@@ -201,7 +205,7 @@ text_of : (o : Outline) (lists : Lists) → head_text o.version o.ranks ++ from_
 unfolding text
 text_of o lists = refl
 
-pub unchosen_back : (o : Outline) (lists : Lists) → IsWellFormed o → AreInputs o lists → length (text (unchosen o lists)) ≤ 1048576
+pub unchosen_back : (o : Outline) (lists : Lists) → IsWellFormed o → AreInputs o lists → length (text (unchosen o lists)) ≤ LONGEST_TEXT
     → read (text (unchosen o lists)) ≡ Ok (unchosen o lists)
 unchosen_back o lists f g short =
     let all = all_said o lists in

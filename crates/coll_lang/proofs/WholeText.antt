@@ -10,6 +10,7 @@ use Rattle.coll_shape.specs.declared.types.Version.{Version}
 use Rattle.coll_shape.specs.declared.types.Version.TheVariants.{One, Two}
 use Rattle.coll_shape.specs.declared.types.Buffer.{Buffer}
 use Rattle.coll_shape.specs.WellFormed.{most_ranks}
+use Rattle.coll_shape.specs.declared.limits.TheConstants.{MOST_STEPS}
 use Rattle.coll_lang.specs.Words.{version_word}
 use Rattle.coll_lang.specs.Forms.{Form, complete, group, input, step, choice, print, last, form_of}
 use Rattle.coll_lang.specs.Language.{Past, data_due, version_of, ranks_in, stands_in, stands_at, form_since, may_stand, form_line, later_line, line_at, judge, is_allowed, is_finished, numbered, read_from, nothing}
@@ -52,7 +53,7 @@ first_choice past a v =
       no_given = subst (λ (bs : List Buffer). Filled past.ranks bs past.given) a.groups.none a.groups.inputs.filled;
       no_steps = e.early.no_steps;
       no_on = e.early.no_on;
-      few = subst (λ (l : List ChoiceStep). length l ≤ 64) (sym e.no_choices) (omega arith);
+      few = subst (λ (l : List ChoiceStep). length l ≤ MOST_STEPS) (sym e.no_choices) (omega arith);
       made = a.groups.none ∙ sym (ap (map (choice_made past.ranks)) e.no_choices);
       spelled = λ x i. absurd (nothing_in x (subst (λ (l : List ChoiceStep). In x (map choice_name l)) e.no_choices i));
       distinct = subst (λ (l : List ChoiceStep). Distinct (map choice_name l)) (sym e.no_choices) tt;

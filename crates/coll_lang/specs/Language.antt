@@ -14,12 +14,13 @@ use Rattle.coll_shape.specs.Outline.{no_buffer, members_of}
 use Rattle.coll_shape.specs.Rows.{in_rows}
 use Rattle.coll_shape.specs.Kinds.{step_of, kind_since}
 use Rattle.coll_shape.specs.Collectives.{can_read, made_length, made_holders}
-use Rattle.coll_shape.specs.WellFormed.{most_ranks, most_elements, elements_of}
+use Rattle.coll_shape.specs.WellFormed.{most_ranks, elements_of}
 use Rattle.coll_shape.specs.declared.types.Version.{Version}
 use Rattle.coll_shape.specs.declared.types.Version.TheVariants.{One, Two}
 use Rattle.coll_shape.specs.declared.types.Buffer.{Buffer}
 use Rattle.coll_shape.specs.declared.types.Group.{Group}
 use Rattle.coll_shape.specs.declared.types.CollStep.{CollStep}
+use Rattle.coll_shape.specs.declared.limits.TheConstants.{MOST_GROUPS, MOST_BUFFERS, MOST_STEPS, MOST_PRINTS, MOST_GIVEN, MOST_ELEMENTS}
 use Rattle.coll_lang.specs.Forms.{Form, StepWords, complete, group, input, step, choice, print, last, form_of}
 use Rattle.coll_lang.specs.Program.{Chosen, Program}
 use Rattle.coll_lang.specs.declared.choices.ChoiceKind.{ChoiceKind}
@@ -33,6 +34,7 @@ use Rattle.coll_lang.specs.declared.fault.Refusal.{Refusal}
 use Rattle.coll_lang.specs.declared.fault.Refusal.TheVariants.{TooLong, BadByte, BadHeader, BadRanks, BadLine, BadNumber, NameTaken}
 use Rattle.coll_lang.specs.declared.fault.Refusal.TheVariants.{UnknownBuffer, BadRoot, WrongShape, TooMany, TooLarge, Unended, AfterEnd}
 use Rattle.coll_lang.specs.declared.fault.Refusal.TheVariants.{BadGroup}
+use Rattle.coll_lang.specs.declared.whole.TheConstants.{LONGEST_TEXT}
 
 -- What the earlier lines say.
 pub record Past : Type 0 where
@@ -186,7 +188,7 @@ unfoldable pub group_line : Past → List ℕ → List (List ℕ) → Result Pas
 group_line past name members = do
   ms ← or_refuse BadNumber (all_numbers members)
   _ ← refuse (is_taken past name) NameTaken
-  _ ← refuse (nat_le 64 (length past.groups)) TooMany
+  _ ← refuse (nat_le MOST_GROUPS (length past.groups)) TooMany
   _ ← refuse (not (are_members past.ranks ms)) BadGroup
   Ok (record past { stage = Groups; groups = past.groups ++ record { name = name; members = ms } ∷ [] })
 
@@ -203,9 +205,9 @@ input_buffer ranks name ty count = record { name = name; ty = ty; spread = recor
 
 unfoldable pub input_line : Past → List ℕ → ElemType → List ℕ → Result Past Refusal
 input_line past name ty count = do
-  len ← or_refuse BadNumber (number_between 1 4096 count)
+  len ← or_refuse BadNumber (number_between 1 MOST_GIVEN count)
   _ ← refuse (is_taken past name) NameTaken
-  _ ← refuse (nat_le 128 (length past.buffers)) TooMany
+  _ ← refuse (nat_le MOST_BUFFERS (length past.buffers)) TooMany
   Ok (record past {
     stage = data_due past.ranks ty len;
     buffers = past.buffers ++ input_buffer past.ranks name ty len ∷ [];
@@ -248,8 +250,8 @@ step_on past words root from found =
     let s = step_of words.kind root words.op from.0 (length past.buffers) in do
       _ ← refuse (holds_of (λ on. nat_le (length (members_in past on)) root) found) BadRoot
       _ ← refuse (holds_of (λ on. not (can_read (members_in past on) s from.1)) found) WrongShape
-      _ ← refuse (nat_le 64 (length past.steps) || (is_some words.names && nat_le 128 (length past.buffers))) TooMany
-      _ ← refuse (holds_of (λ on. nat_lt most_elements (made_length (members_in past on) s from.1)) found) TooLarge
+      _ ← refuse (nat_le MOST_STEPS (length past.steps) || (is_some words.names && nat_le MOST_BUFFERS (length past.buffers))) TooMany
+      _ ← refuse (holds_of (λ on. nat_lt MOST_ELEMENTS (made_length (members_in past on) s from.1)) found) TooLarge
       on ← or_refuse BadGroup found
       Ok (record past {
         stage = Steps;
@@ -277,7 +279,7 @@ choice_buffer ranks name = input_buffer ranks name U64 1
 unfoldable pub choice_line : Past → ChoiceKind → List ℕ → Result Past Refusal
 choice_line past kind name = do
   _ ← refuse (is_taken past name) NameTaken
-  _ ← refuse (nat_le 64 (length past.choices) || nat_le 128 (length past.buffers)) TooMany
+  _ ← refuse (nat_le MOST_STEPS (length past.choices) || nat_le MOST_BUFFERS (length past.buffers)) TooMany
   Ok (record past {
     stage = Choosing;
     buffers = past.buffers ++ choice_buffer past.ranks name ∷ [];
@@ -289,8 +291,8 @@ choice_line past kind name = do
 unfoldable pub print_line : Past → List ℕ → Result Past Refusal
 print_line past name = do
   from ← or_refuse UnknownBuffer (buffer_named past.buffers name)
-  _ ← refuse (nat_le 128 (length past.prints)) TooMany
-  _ ← refuse (nat_lt most_elements (past.printed + elements_of from.1)) TooLarge
+  _ ← refuse (nat_le MOST_PRINTS (length past.prints)) TooMany
+  _ ← refuse (nat_lt MOST_ELEMENTS (past.printed + elements_of from.1)) TooLarge
   Ok (record past { stage = Prints; prints = past.prints ++ from.0 ∷ []; printed = past.printed + elements_of from.1 })
 
 -- ---- lines
@@ -407,4 +409,4 @@ program_in (Err refusal) = Err refusal
 
 -- What a text of at most a mebibyte describes, or its first refusal with its line.
 unfoldable pub read : List ℕ → Result Program (ℕ × Refusal)
-read bytes = if nat_lt 1048576 (length bytes) then Err (0, TooLong) else program_in (read_from nothing 1 (lines bytes))
+read bytes = if nat_lt LONGEST_TEXT (length bytes) then Err (0, TooLong) else program_in (read_from nothing 1 (lines bytes))

@@ -1,6 +1,7 @@
 -- What definitions see of a step that may be taken.
 use Rattle.std.specs.Prelude.{ℕ, ◌≡◌, ◌≤◌, List, [], ◌∷◌, ◌++◌, Option, Some, None, Result, option_map, if◌then◌else◌, ◌&&◌, nat_le, nat_lt}
 use Rattle.coll_shape.specs.declared.types.Buffer.{Buffer}
+use Rattle.coll_shape.specs.declared.limits.TheConstants.{MOST_RANKS}
 use Rattle.coll_lang.specs.Held.{IsSmall}
 use Rattle.coll_lang.specs.declared.stage.Stage.TheVariants.{Steps}
 use Rattle.coll_lang.specs.declared.stepping.Source.{Source}
@@ -35,9 +36,9 @@ put past m = record past {
   on = past.on ++ m.on ∷ [];
 }
 
--- the place that a root is, as it is held; none of any group from 256 on
+-- the place that a root is, as it is held; none of any group from MOST_RANKS on
 abbrev pub Places : Option ℕ → ℕ → Type 0
-Places None root = 256 ≤ root
+Places None root = MOST_RANKS ≤ root
 Places (Some place) root = root ≡ place
 
 -- the members that the words are: BadNumber where one isn't a number, and none where they aren't rising ranks

@@ -6,9 +6,11 @@ use Rattle.coll_shape.specs.declared.types.Version.TheVariants.{One, Two}
 use Rattle.coll_shape.specs.Outline.{Outline}
 use Rattle.coll_shape.specs.WellFormed.{IsWellFormed}
 use Rattle.coll_shape.specs.Meaning.{AreInputs}
+use Rattle.coll_shape.specs.declared.limits.TheConstants.{MOST_STEPS, MOST_PRINTS}
 use Rattle.coll_lang.specs.Program.{Chosen, Program}
 use Rattle.coll_lang.specs.Language.{read}
 use Rattle.coll_lang.specs.Spelling.{text, choice_name, no_choice}
+use Rattle.coll_lang.specs.declared.whole.TheConstants.{LONGEST_TEXT}
 
 -- the name of a choice step by its number
 abbrev pub chosen_name : Chosen → ℕ → List ℕ
@@ -21,8 +23,8 @@ is_two Two = true
 -- the steps and prints of a choice text
 pub record AreChoices (c : Chosen) : Type 0 where
   pub some : 1 ≤ length c.steps
-  pub few : length c.steps ≤ 64
-  pub few_prints : length c.prints ≤ 128
+  pub few : length c.steps ≤ MOST_STEPS
+  pub few_prints : length c.prints ≤ MOST_PRINTS
   pub spelled : (i : ℕ) → i < length c.steps → is_name (chosen_name c i) ≡ true
   pub distinct : (i j : ℕ) → i < length c.steps → j < length c.steps → chosen_name c i ≡ chosen_name c j → i ≡ j
   pub printed : (i : ℕ) → i < length c.prints → get_or c.prints i 0 < length c.steps
@@ -48,7 +50,7 @@ pub record IsReadable (d : Program) : Type 0 where
   pub formed : IsWellFormed d.shape
   pub given : AreInputs d.shape d.inputs
   pub choices : FitsChoices d.shape d.choices
-  pub short : length (text d) ≤ 1048576
+  pub short : length (text d) ≤ LONGEST_TEXT
 
 -- a text is read as a description exactly where the description is readable and the text is its one spelling
 abbrev pub ReadsExactly : Type 0

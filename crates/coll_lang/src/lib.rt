@@ -29,4 +29,4 @@ pub use generating::generated;
 pub use printing::{op_word, print, type_word};
 pub use readable::reads_exactly;
 pub use text::Text;
-pub use whole::parse;
+pub use whole::{LONGEST_TEXT, parse};

@@ -2,7 +2,8 @@
 
 ghost use Rattle.std.specs.Prelude.{◌≡◌, ◌≤◌, ◌*◌, ◌||◌, length, All, IfSome, is_some, option_map};
 ghost use Rattle.coll_shape.specs.Outline.{members_of};
-ghost use Rattle.coll_shape.specs.WellFormed.{elements_of, most_elements};
+ghost use Rattle.coll_shape.specs.WellFormed.{elements_of};
+ghost use Rattle.coll_shape.specs.declared.limits.TheConstants.{MOST_RANKS, MOST_GROUPS, MOST_BUFFERS, MOST_ELEMENTS};
 ghost use Rattle.coll_lang.specs.Held.{HasMembers, IsSmall};
 ghost use Rattle.coll_lang.specs.Language.{buffer_number, buffer_named, group_number, group_named};
 ghost use Rattle.coll_lang.specs.Seen.{now, at_now, found_group};
@@ -35,11 +36,11 @@ pub fn is_taken(groups: &[Group], buffers: &[Buffer], name: &[u8]) -> bool
 /// The buffer of that name, with its number.
 #[tactic(auto, unfolding(crate::specs::Language::buffer_named))]
 pub fn buffer_named<'a>(buffers: &'a [Buffer], name: &[u8]) -> Option<(u32, &'a Buffer)>
-    requires few { length buffers.now ≤ 128 }
+    requires few { length buffers.now ≤ MOST_BUFFERS }
     requires small { All IsSmall buffers.now }
     ensures named { option_map at_now result ≡ buffer_named buffers.now name.now }
     ensures small { IfSome result (λ b. IsSmall b.1.now) }
-    ensures number { IfSome result (λ b. b.0 ≤ 128) }
+    ensures number { IfSome result (λ b. b.0 ≤ MOST_BUFFERS) }
 {
     let at = buffer_number(buffers, name)?;
     Some((at as u32, &buffers[at]))
@@ -51,14 +52,14 @@ pub fn group_named<'a>(
     groups: &'a [Group],
     on: Option<&[u8]>,
 ) -> Option<(Option<u32>, &'a [Rank])>
-    requires few { length groups.now ≤ 64 }
+    requires few { length groups.now ≤ MOST_GROUPS }
     requires everyone_some { 1 ≤ length everyone.now }
-    requires everyone_few { length everyone.now ≤ 256 }
+    requires everyone_few { length everyone.now ≤ MOST_RANKS }
     requires members { All HasMembers groups.now }
     ensures named { option_map found_group result ≡ group_named groups.now (now on.entry) }
     ensures members { IfSome result (λ f. f.1.now ≡ members_of everyone.now groups.now f.0) }
     ensures some { IfSome result (λ f. 1 ≤ length f.1.now) }
-    ensures few { IfSome result (λ f. length f.1.now ≤ 256) }
+    ensures few { IfSome result (λ f. length f.1.now ≤ MOST_RANKS) }
 {
     let Some(name) = on else {
         return Some((None, everyone));
@@ -71,7 +72,7 @@ pub fn group_named<'a>(
 pub fn elements_of(buffer: &Buffer) -> u64
     requires { IsSmall buffer.now }
     ensures value { result ≡ elements_of buffer.now }
-    ensures most { result ≤ 256 * most_elements }
+    ensures most { result ≤ MOST_RANKS * MOST_ELEMENTS }
 {
     buffer.spread.length * buffer.spread.holders.as_slice().len() as u64
 }

@@ -2,7 +2,7 @@
 
 ghost use Rattle.std.specs.Prelude.{◌≡◌, ◌≤◌, length, vec_len, All};
 ghost use Rattle.number_lists.specs.Numbers.{from_to};
-ghost use Rattle.coll_shape.specs.WellFormed.{most_elements};
+ghost use Rattle.coll_shape.specs.declared.limits.TheConstants.{MOST_RANKS, MOST_GROUPS, MOST_BUFFERS, MOST_ELEMENTS};
 ghost use Rattle.coll_lang.specs.Held.{HasMembers, IsSmall};
 
 use crate::choices::ChoiceStep;
@@ -44,14 +44,14 @@ pub struct Reader {
     /// The elements of all prints so far, over all ranks.
     pub printed: u64,
     ghost some_ranks: { 1 ≤ ranks },
-    ghost few_ranks: { ranks ≤ 256 },
+    ghost few_ranks: { ranks ≤ MOST_RANKS },
     ghost are_all: { everyone ≡ from_to 0 ranks },
     ghost some_everyone: { 1 ≤ length everyone },
-    ghost few_everyone: { length everyone ≤ 256 },
-    ghost few_groups: { vec_len groups ≤ 64 },
+    ghost few_everyone: { length everyone ≤ MOST_RANKS },
+    ghost few_groups: { vec_len groups ≤ MOST_GROUPS },
     ghost have_members: { All HasMembers groups.items },
-    ghost few_buffers: { vec_len buffers ≤ 128 },
+    ghost few_buffers: { vec_len buffers ≤ MOST_BUFFERS },
     ghost few_inputs: { inputs ≤ vec_len buffers },
-    ghost little_printed: { printed ≤ most_elements },
+    ghost little_printed: { printed ≤ MOST_ELEMENTS },
     ghost are_small: { All IsSmall buffers.items },
 }

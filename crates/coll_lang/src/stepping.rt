@@ -2,7 +2,6 @@
 
 ghost use Rattle.std.specs.Prelude.{ℕ, if◌then◌else◌, ◌+◌, ◌≡◌, ◌≤◌, ◌<◌, ◌||◌, ◌&&◌, length, IfOk, IfSome, nat_le, is_some, option_map, Some, None};
 ghost use Rattle.coll_text.specs.Cuts.{ReadsNumber};
-ghost use Rattle.coll_shape.specs.WellFormed.{most_elements};
 ghost use Rattle.coll_lang.specs.Answers.{Gives};
 ghost use Rattle.coll_lang.specs.Language.{members_in, root_number, rooted_line, source_named, step_on, step_line};
 ghost use Rattle.coll_lang.specs.Made.{IfMade, Places, made_count, put, source_seen};
@@ -13,21 +12,12 @@ use crate::fault::{LineFault, Refusal};
 use crate::forms::StepLine;
 use crate::naming::{buffer_named, group_named, is_taken};
 use crate::reader::Reader;
-use coll_shape::{Buffer, CollStep, Name, Spread, can_read, made_holders, made_length};
+use coll_shape::{
+    Buffer, CollStep, MOST_BUFFERS, MOST_ELEMENTS, MOST_RANKS, MOST_STEPS, Name, Spread, can_read,
+    made_holders, made_length,
+};
 use coll_text::{Number, number_at};
 use ptl_types::{ElemType, Rank};
-
-/// The most steps.
-pub const MOST_STEPS: usize = 64;
-
-/// The most buffers.
-pub const MOST_BUFFERS: usize = 128;
-
-/// The most elements of a buffer at one rank, and of all prints over all ranks.
-pub const MOST_ELEMENTS: u64 = 16_777_216;
-
-/// More places than any group has.
-const PAST_PLACES: u64 = 256;
 
 /// The buffer that a step reads. A step without buffers has an empty one in its stead.
 #[derive(Clone, Copy)]
@@ -72,8 +62,8 @@ fn source_named<'a>(
     names: Option<(&'a [u8], &'a [u8])>,
 ) -> Result<Source<'a>, LineFault>
     ensures told { Gives source_seen result (source_named (past reader.now) (option_map both_now names.entry)) }
-    ensures small { IfOk result (λ s. s.len ≤ most_elements) }
-    ensures number { IfOk result (λ s. s.number ≤ 128) }
+    ensures small { IfOk result (λ s. s.len ≤ MOST_ELEMENTS) }
+    ensures number { IfOk result (λ s. s.number ≤ MOST_BUFFERS) }
 {
     let Some((a, b)) = names else {
         return Ok(Source {
@@ -101,14 +91,16 @@ fn source_named<'a>(
 
 /// Whether no such step may be added, or no buffer that it makes.
 fn is_full(reader: &Reader, makes: bool) -> bool
-    ensures { result ≡ (nat_le 64 (length reader.now.steps.items) || (makes && nat_le 128 (length reader.now.buffers.items))) }
+    ensures { result ≡ (nat_le MOST_STEPS (length reader.now.steps.items)
+        || (makes && nat_le MOST_BUFFERS (length reader.now.buffers.items))) }
 {
     reader.steps.len() >= MOST_STEPS || (makes && reader.buffers.len() >= MOST_BUFFERS)
 }
 
 /// How a step is refused whose group isn't one.
 fn without_group(reader: &Reader, makes: bool) -> LineFault
-    ensures { result ≡ LineFault.Refused (if nat_le 64 (length reader.now.steps.items) || (makes && nat_le 128 (length reader.now.buffers.items)) then Refusal.TooMany else Refusal.BadGroup) }
+    ensures { result ≡ LineFault.Refused (if nat_le MOST_STEPS (length reader.now.steps.items)
+        || (makes && nat_le MOST_BUFFERS (length reader.now.buffers.items)) then Refusal.TooMany else Refusal.BadGroup) }
 {
     if is_full(reader, makes) {
         LineFault::Refused(Refusal::TooMany)
@@ -128,13 +120,13 @@ fn step_on(
     members: &[Rank],
 ) -> Result<Made, LineFault>
     requires some { 1 ≤ length members.now }
-    requires few { length members.now ≤ 256 }
+    requires few { length members.now ≤ MOST_RANKS }
     requires place { root < length members.now }
-    requires small { source.len ≤ most_elements }
+    requires small { source.len ≤ MOST_ELEMENTS }
     requires are { members.now ≡ members_in (past reader.now) on }
     ensures told { Gives (put (past reader.now)) result (step_on (past reader.now) (step_seen words.entry) root (source_seen source.entry) (Some on)) }
     ensures small { IfOk result (λ made. IfMade made.buffer) }
-    ensures room { IfOk result (λ made. length reader.now.buffers.items + made_count made.buffer ≤ 128) }
+    ensures room { IfOk result (λ made. length reader.now.buffers.items + made_count made.buffer ≤ MOST_BUFFERS) }
 {
     let step = words
         .kind
@@ -173,7 +165,7 @@ fn judge_rooted(
 ) -> Result<Made, LineFault>
     ensures told { (root : ℕ) → Places place root → Gives (put (past reader.now)) result (rooted_line (past reader.now) (now on.entry) (step_seen words.entry) root) }
     ensures small { IfOk result (λ made. IfMade made.buffer) }
-    ensures room { IfOk result (λ made. length reader.now.buffers.items + made_count made.buffer ≤ 128) }
+    ensures room { IfOk result (λ made. length reader.now.buffers.items + made_count made.buffer ≤ MOST_BUFFERS) }
 {
     let source = source_named(reader, words.names)?;
     let everyone = reader.everyone.as_slice();
@@ -193,11 +185,16 @@ fn judge_rooted(
 pub fn judge_step(reader: &Reader, on: Option<&[u8]>, words: StepLine) -> Result<Made, LineFault>
     ensures told { Gives (put (past reader.now)) result (step_line (past reader.now) (now on.entry) (step_seen words.entry)) }
     ensures small { IfOk result (λ made. IfMade made.buffer) }
-    ensures room { IfOk result (λ made. length reader.now.buffers.items + made_count made.buffer ≤ 128) }
+    ensures room { IfOk result (λ made. length reader.now.buffers.items + made_count made.buffer ≤ MOST_BUFFERS) }
 {
     match root_at(words.root) {
         Number::Malformed => Err(LineFault::Refused(Refusal::BadNumber)),
-        Number::Small(n) if n < PAST_PLACES => judge_rooted(reader, on, words, Some(n as u32)),
+        Number::Small(n) if n < u64::from(MOST_RANKS) => judge_rooted(
+            reader,
+            on,
+            words,
+            Some(n as u32),
+        ),
         Number::Small(_) => judge_rooted(reader, on, words, None),
         Number::Huge => judge_rooted(reader, on, words, None),
     }

@@ -19,24 +19,23 @@ use crate::forms::{Line, StepLine, line_of};
 use crate::naming::{buffer_named, elements_of, is_taken};
 use crate::reader::Reader;
 use crate::stage::Stage;
-use crate::stepping::{MOST_BUFFERS, MOST_ELEMENTS, MOST_STEPS, Made, judge_step};
-use coll_shape::{Buffer, Group, InputList, Name, RankList, Spread, Version};
+use crate::stepping::{Made, judge_step};
+use coll_shape::{
+    Buffer, Group, InputList, MOST_BUFFERS, MOST_ELEMENTS, MOST_GIVEN, MOST_GROUPS, MOST_PRINTS,
+    MOST_RANKS, MOST_RANKS_IN_ONE, MOST_STEPS, Name, RankList, Spread, Version,
+};
 use coll_text::{Flaw, Number, ValuesFault, Words, data_line, is, number_at, number_between};
 use ptl_types::{ElemType, Rank};
 use std::alloc::{AllocError, Global};
 
-const MOST_GROUPS: usize = 64;
-
-const MOST_PRINTS: usize = 128;
-
 /// The most ranks of a version.
 fn most_ranks(version: Version) -> u32
     ensures told { result ≡ most_ranks version }
-    ensures most { result ≤ 256 }
+    ensures most { result ≤ MOST_RANKS }
 {
     match version {
-        Version::One => 64,
-        Version::Two => 256,
+        Version::One => MOST_RANKS_IN_ONE,
+        Version::Two => MOST_RANKS,
     }
 }
 
@@ -160,10 +159,10 @@ fn members_said(
     ranks: u32,
     mut members: Words,
 ) -> Result<Option<RankList>, LineFault>
-    requires { ranks ≤ 256 }
+    requires { ranks ≤ MOST_RANKS }
     ensures told { Gives (λ list. list) result (members_said ranks members.entry) }
     ensures some { IfOk result (λ list. IfSome list (λ l. 1 ≤ length l)) }
-    ensures few { IfOk result (λ list. IfSome list (λ l. length l ≤ 256)) }
+    ensures few { IfOk result (λ list. IfSome list (λ l. length l ≤ MOST_RANKS)) }
 {
     let mut list = Vec::new(alloc);
     let mut least = 0u32;
@@ -230,7 +229,7 @@ fn held_by_all(
 fn input_line(reader: &mut Reader, name: &[u8], ty: ElemType, count: &[u8]) -> Result<(), LineFault>
     ensures { Takes result reader.new (input_line (past reader.old) name.now ty count.now) }
 {
-    let Some(count) = number_between(1, 4096, count) else {
+    let Some(count) = number_between(1, MOST_GIVEN, count) else {
         return Err(LineFault::Refused(Refusal::BadNumber));
     };
     if is_taken(reader.groups.as_slice(), reader.buffers.as_slice(), name) {

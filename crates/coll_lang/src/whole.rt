@@ -18,7 +18,8 @@ use coll_shape::Version;
 use coll_text::cut;
 use std::alloc::{AllocError, Global};
 
-const LONGEST: usize = 1_048_576;
+/// The most bytes of a description, and of the line text of one in JSON.
+pub const LONGEST_TEXT: usize = 1_048_576;
 
 /// A reader that no line was given yet.
 fn new_reader(alloc: Global) -> Result<Reader, AllocError>
@@ -53,7 +54,7 @@ fn is_finished(stage: Stage) -> bool
 /// What the lines say, taken one after the other.
 #[tactic(auto, using(crate::proofs::Reading::goes_on, crate::proofs::Reading::breaks_off))]
 fn read_lines(alloc: Global, bytes: &[u8]) -> Result<Reader, ParseFault>
-    requires { length bytes.now ≤ 1048576 }
+    requires { length bytes.now ≤ LONGEST_TEXT }
     ensures { Reads past result (read_from nothing 1 (lines bytes.now)) }
 {
     let mut reader = new_reader(alloc)?;
@@ -98,7 +99,7 @@ fn refused(line: u32, name: Refusal) -> ParseFault
 fn parsed(alloc: Global, bytes: &[u8]) -> Result<Description, ParseFault>
     ensures { Reads (λ d. d) result (read bytes.now) }
 {
-    if bytes.len() > LONGEST {
+    if bytes.len() > LONGEST_TEXT {
         return Err(refused(0, Refusal::TooLong));
     }
     let reader = read_lines(alloc, bytes)?;
