@@ -11,10 +11,11 @@ use Rattle.number_lists.specs.Numbers.{from_to}
 use Rattle.coll_shape.specs.Outline.{no_buffer, no_group}
 use Rattle.coll_shape.specs.Collectives.{can_read, made_length}
 use Rattle.coll_shape.specs.Kinds.{step_of}
-use Rattle.coll_shape.specs.WellFormed.{most_ranks, most_elements, elements_of}
+use Rattle.coll_shape.specs.WellFormed.{most_ranks, elements_of}
 use Rattle.coll_shape.specs.declared.types.Buffer.{Buffer}
 use Rattle.coll_shape.specs.declared.types.Group.{Group}
 use Rattle.coll_shape.specs.declared.types.CollStep.{CollStep}
+use Rattle.coll_shape.specs.declared.limits.TheConstants.{MOST_GROUPS, MOST_BUFFERS, MOST_STEPS, MOST_PRINTS, MOST_GIVEN, MOST_ELEMENTS}
 use Rattle.coll_lang.specs.Forms.{Form, StepWords, complete, group, input, step, choice, print, last, form_of}
 use Rattle.coll_lang.specs.Language.{Past, ◌>>=◌, refuse, or_refuse, holds_of, nothing, is_allowed, version_of, ranks_in, may_stand, all_numbers, are_members, is_taken, buffer_named, group_named, members_in, with_made, root_number, source_named, step_on, rooted_line, step_line, group_line, input_line, choice_line, print_line, form_line, unless_flawed, values_line, later_line, line_at, judge}
 use Rattle.coll_lang.specs.declared.choices.ChoiceKind.{ChoiceKind}
@@ -108,7 +109,7 @@ unfolding group_line
 groups_held past name members h =
     of_or BadNumber (all_numbers members) _ (λ ms _.
     of_refuse (is_taken past name) NameTaken _ (λ _.
-    of_refuse (nat_le 64 (length past.groups)) TooMany _ (λ _.
+    of_refuse (nat_le MOST_GROUPS (length past.groups)) TooMany _ (λ _.
     of_refuse (not (are_members past.ranks ms)) BadGroup _ (λ right.
     record {
       counted = h.counted;
@@ -121,24 +122,24 @@ groups_held past name members h =
 inputs_held : (past : Past) (name : List ℕ) (ty : ElemType) (count : List ℕ) → Held past → Of (input_line past name ty count)
 unfolding input_line
 inputs_held past name ty count h =
-    of_or BadNumber (number_between 1 4096 count) _ (λ len _.
+    of_or BadNumber (number_between 1 MOST_GIVEN count) _ (λ len _.
     of_refuse (is_taken past name) NameTaken _ (λ _.
-    of_refuse (nat_le 128 (length past.buffers)) TooMany _ (λ _.
+    of_refuse (nat_le MOST_BUFFERS (length past.buffers)) TooMany _ (λ _.
     record { counted = counted_with past _ h; below = below_with past _ h; some_ranks = h.some_ranks; peopled = h.peopled })))
 
 choices_held : (past : Past) (kind : ChoiceKind) (name : List ℕ) → Held past → Of (choice_line past kind name)
 unfolding choice_line
 choices_held past kind name h =
     of_refuse (is_taken past name) NameTaken _ (λ _.
-    of_refuse (nat_le 64 (length past.choices) || nat_le 128 (length past.buffers)) TooMany _ (λ _.
+    of_refuse (nat_le MOST_STEPS (length past.choices) || nat_le MOST_BUFFERS (length past.buffers)) TooMany _ (λ _.
     record { counted = counted_with past _ h; below = below_with past _ h; some_ranks = h.some_ranks; peopled = h.peopled }))
 
 prints_held : (past : Past) (name : List ℕ) → Held past → Of (print_line past name)
 unfolding print_line
 prints_held past name h =
     of_or UnknownBuffer (buffer_named past.buffers name) _ (λ from is.
-    of_refuse (nat_le 128 (length past.prints)) TooMany _ (λ _.
-    of_refuse (nat_lt most_elements (past.printed + elements_of from.1)) TooLarge _ (λ _.
+    of_refuse (nat_le MOST_PRINTS (length past.prints)) TooMany _ (λ _.
+    of_refuse (nat_lt MOST_ELEMENTS (past.printed + elements_of from.1)) TooLarge _ (λ _.
     let f = found past.buffers name from is in
     record {
       counted = ap (λ n. n + elements_of from.1) h.counted
@@ -157,8 +158,8 @@ steps_held past on words h =
     let s = step_of words.kind root words.op from.0 (length past.buffers) in
     of_refuse (holds_of (λ on. nat_le (length (members_in past on)) root) (group_named past.groups on)) BadRoot _ (λ _.
     of_refuse (holds_of (λ on. not (can_read (members_in past on) s from.1)) (group_named past.groups on)) WrongShape _ (λ _.
-    of_refuse (nat_le 64 (length past.steps) || (is_some words.names && nat_le 128 (length past.buffers))) TooMany _ (λ _.
-    of_refuse (holds_of (λ on. nat_lt most_elements (made_length (members_in past on) s from.1)) (group_named past.groups on)) TooLarge _
+    of_refuse (nat_le MOST_STEPS (length past.steps) || (is_some words.names && nat_le MOST_BUFFERS (length past.buffers))) TooMany _ (λ _.
+    of_refuse (holds_of (λ on. nat_lt MOST_ELEMENTS (made_length (members_in past on) s from.1)) (group_named past.groups on)) TooLarge _
     (λ _.
     of_or BadGroup (group_named past.groups on) _ (λ g _.
     record {

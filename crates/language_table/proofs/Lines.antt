@@ -12,10 +12,11 @@ use Rattle.coll_text.specs.Values.{value_of, all_values, or_no_value, data_line}
 use Rattle.coll_text.specs.declared.values.Flaw.TheVariants.{Malformed}
 use Rattle.coll_shape.specs.Kinds.{step_of}
 use Rattle.coll_shape.specs.Collectives.{can_read, made_length}
-use Rattle.coll_shape.specs.WellFormed.{most_ranks, most_elements, elements_of}
+use Rattle.coll_shape.specs.WellFormed.{most_ranks, elements_of}
 use Rattle.coll_shape.specs.declared.types.Version.{Version}
 use Rattle.coll_shape.specs.declared.types.Version.TheVariants.{One, Two}
 use Rattle.coll_shape.specs.declared.types.Buffer.{Buffer}
+use Rattle.coll_shape.specs.declared.limits.TheConstants.{MOST_GROUPS, MOST_BUFFERS, MOST_STEPS, MOST_PRINTS, MOST_GIVEN, MOST_ELEMENTS}
 use Rattle.coll_lang.specs.Forms.{Form, StepWords, complete, group, input, step, choice, print, last, form_of}
 use Rattle.coll_lang.specs.Language.{Past, ◌>>=◌, refuse, or_refuse, holds_of, is_allowed, ranks_in, may_stand, all_numbers, are_members, is_taken, buffer_named, group_named, members_in, root_number, source_named, step_on, rooted_line, step_line, group_line, input_line, choice_line, print_line, form_line, unless_flawed, values_line, later_line, line_at, judge, is_finished}
 use Rattle.coll_lang.specs.declared.stage.Stage.{Stage}
@@ -92,11 +93,11 @@ abbrev unread : Past → StepWords → Option ℕ → ℕ × Buffer → ℕ → 
 unread past words g from root = not (can_read (members_in past g) (step_of words.kind root words.op from.0 (length past.buffers)) from.1)
 
 abbrev too_long : Past → StepWords → Option ℕ → ℕ × Buffer → ℕ → Bool
-too_long past words g from root = nat_lt most_elements
+too_long past words g from root = nat_lt MOST_ELEMENTS
     (made_length (members_in past g) (step_of words.kind root words.op from.0 (length past.buffers)) from.1)
 
 abbrev is_full : Past → StepWords → Bool
-is_full past words = nat_le 64 (length past.steps) || (is_some words.names && nat_le 128 (length past.buffers))
+is_full past words = nat_le MOST_STEPS (length past.steps) || (is_some words.names && nat_le MOST_BUFFERS (length past.buffers))
 
 -- the rows of a step, with ROOT's number: 0 where it has none
 abbrev step_rows : Past → StepWords → Option (List ℕ × List ℕ) → Option ℕ → Option (Option ℕ) → List (Refusal × Bool)
@@ -180,17 +181,19 @@ forms : (past : Past) (form : Form) → Counts past → refusal_in (form_line pa
 unfolding form_line group_line input_line choice_line print_line
 forms past complete counts = refl
 forms past (group name members) counts =
-    groups (all_numbers members) (is_taken past name) (nat_le 64 (length past.groups)) (λ ms. not (are_members past.ranks ms)) _
-    ∙ ap (λ b. first_row ((BadNumber, b) ∷ (NameTaken, is_taken past name) ∷ (TooMany, nat_le 64 (length past.groups))
+    groups (all_numbers members) (is_taken past name) (nat_le MOST_GROUPS (length past.groups)) (λ ms. not (are_members past.ranks ms)) _
+    ∙ ap (λ b. first_row ((BadNumber, b) ∷ (NameTaken, is_taken past name) ∷ (TooMany, nat_le MOST_GROUPS (length past.groups))
     ∷ (BadGroup, holds_of (λ ms. not (are_members past.ranks ms)) (all_numbers members)) ∷ [])) (numbers_there members)
-forms past (input name ty count) counts = inputs (number_between 1 4096 count) (is_taken past name) (nat_le 128 (length past.buffers)) _
+forms past (input name ty count) counts = inputs (number_between 1 MOST_GIVEN count) (is_taken past name)
+    (nat_le MOST_BUFFERS (length past.buffers)) _
 forms past (step on words) counts = steps past on words counts
-forms past (choice kind name) counts = choices (is_taken past name) (nat_le 64 (length past.choices) || nat_le 128 (length past.buffers)) _
+forms past (choice kind name) counts = choices (is_taken past name)
+    (nat_le MOST_STEPS (length past.choices) || nat_le MOST_BUFFERS (length past.buffers)) _
 forms past (print name) counts =
-    prints (buffer_named past.buffers name) (nat_le 128 (length past.prints))
-    (λ from. nat_lt most_elements (past.printed + elements_of from.1)) _
-    ∙ ap (λ n. first_row ((UnknownBuffer, is_none (buffer_named past.buffers name)) ∷ (TooMany, nat_le 128 (length past.prints))
-    ∷ (TooLarge, holds_of (λ from. nat_lt most_elements (n + elements_of from.1)) (buffer_named past.buffers name))
+    prints (buffer_named past.buffers name) (nat_le MOST_PRINTS (length past.prints))
+    (λ from. nat_lt MOST_ELEMENTS (past.printed + elements_of from.1)) _
+    ∙ ap (λ n. first_row ((UnknownBuffer, is_none (buffer_named past.buffers name)) ∷ (TooMany, nat_le MOST_PRINTS (length past.prints))
+    ∷ (TooLarge, holds_of (λ from. nat_lt MOST_ELEMENTS (n + elements_of from.1)) (buffer_named past.buffers name))
     ∷ [])) counts.counted
 forms past last counts = refl
 

@@ -11,6 +11,7 @@ use Rattle.coll_lang.specs.declared.stage.Stage.TheVariants.{Header, Ranks, Opti
 use Rattle.coll_lang.specs.declared.fault.Refusal.{Refusal}
 use Rattle.coll_lang.specs.declared.fault.Refusal.TheVariants.{TooLong, BadByte, Unended, AfterEnd}
 use Rattle.coll_lang.proofs.Sound.{not_above}
+use Rattle.coll_lang.specs.declared.whole.TheConstants.{LONGEST_TEXT}
 use Rattle.language_table.specs.Rows.{offends}
 use Rattle.language_table.specs.Texts.{said_by, piece_offends, IsRefusedAt, IsFirstRefusal, TextsByTheRows}
 use Rattle.language_table.proofs.Lowest.{way, first_of, all_names, lowest_of, first_is, refusal_in}
@@ -237,13 +238,13 @@ too_long k name h = (sym (ap line_in h), same_name (sym (ap name_in h)))
     same_name : Some name ≡ Some TooLong → name ≡ TooLong
     same_name e = cc
 
-above : (n : ℕ) → nat_lt 1048576 n ≡ true → 1048576 < n
+above : (n : ℕ) → nat_lt LONGEST_TEXT n ≡ true → LONGEST_TEXT < n
 above n h = grind (arith, nat_tests)
 
-is_above : (n : ℕ) → 1048576 < n → nat_lt 1048576 n ≡ true
+is_above : (n : ℕ) → LONGEST_TEXT < n → nat_lt LONGEST_TEXT n ≡ true
 is_above n h = grind (arith, nat_tests)
 
-isnt_above : (n : ℕ) → n ≤ 1048576 → nat_lt 1048576 n ≡ false
+isnt_above : (n : ℕ) → n ≤ LONGEST_TEXT → nat_lt LONGEST_TEXT n ≡ false
 isnt_above n h = grind (arith, nat_tests)
 
 reading : (bytes : List ℕ) (k : ℕ) (name : Refusal) → read_from nothing 1 (lines bytes) ≡ Err (k, name) → IsRefusedAt bytes k name
@@ -264,10 +265,10 @@ reading bytes k name h =
 
 there : (bytes : List ℕ) (k : ℕ) (name : Refusal) → read bytes ≡ Err (k, name) → IsFirstRefusal bytes k name
 unfolding read
-there bytes k name h = elim (way (nat_lt 1048576 (length bytes))) [
+there bytes k name h = elim (way (nat_lt LONGEST_TEXT (length bytes))) [
   | inl long ↦ inl ((above (length bytes) long, (too_long k name (sym (rw long refl) ∙ h)).0, (too_long k name (sym (rw long refl) ∙ h)).1))
   | inr short ↦ inr ((
-    not_above 1048576 (length bytes) short,
+    not_above LONGEST_TEXT (length bytes) short,
     reading bytes k name
         (program_refused (read_from nothing 1 (lines bytes)) k name (sym (rw short refl) ∙ h)),
   ))

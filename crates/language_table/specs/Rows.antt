@@ -9,9 +9,10 @@ use Rattle.coll_text.specs.Values.{value_of}
 use Rattle.coll_shape.specs.Outline.{no_buffer}
 use Rattle.coll_shape.specs.Kinds.{step_of}
 use Rattle.coll_shape.specs.Collectives.{can_read, made_length}
-use Rattle.coll_shape.specs.WellFormed.{most_ranks, most_elements, elements_of, printed_elements}
+use Rattle.coll_shape.specs.WellFormed.{most_ranks, elements_of, printed_elements}
 use Rattle.coll_shape.specs.declared.types.Buffer.{Buffer}
 use Rattle.coll_shape.specs.declared.types.CollStep.{CollStep}
+use Rattle.coll_shape.specs.declared.limits.TheConstants.{MOST_GROUPS, MOST_BUFFERS, MOST_STEPS, MOST_PRINTS, MOST_GIVEN, MOST_ELEMENTS}
 use Rattle.coll_lang.specs.Forms.{Form, StepWords, group, input, step, choice, print, form_of}
 use Rattle.coll_lang.specs.Language.{Past, holds_of, is_allowed, ranks_in, all_numbers, are_members, is_taken, buffer_named, group_named}
 use Rattle.coll_lang.specs.Language.{members_in, root_number, is_finished, judge, plain}
@@ -58,10 +59,10 @@ abbrev pub form_in : Kind → Option Form
 form_in (other ws) = form_of ws
 form_in _ = None
 
--- COUNT isn't from 1 to 4096, or ROOT or a member is no number
+-- COUNT isn't from 1 to MOST_GIVEN, or ROOT or a member is no number
 abbrev pub no_number : Form → Bool
 no_number (group name members) = list_any (λ w. is_none (number_of w)) members
-no_number (input name ty count) = is_none (number_between 1 4096 count)
+no_number (input name ty count) = is_none (number_between 1 MOST_GIVEN count)
 no_number (step on words) = is_none (root_number words.root)
 no_number _ = false
 
@@ -111,11 +112,11 @@ wrong_shape past _ = false
 
 -- this is the 65th step, the 129th buffer, the 129th print or the 65th group
 abbrev pub too_many : Past → Form → Bool
-too_many past (group name members) = nat_le 64 (length past.groups)
-too_many past (input name ty count) = nat_le 128 (length past.buffers)
-too_many past (step on words) = nat_le 64 (length past.steps) || (is_some words.names && nat_le 128 (length past.buffers))
-too_many past (choice kind name) = nat_le 64 (length past.choices) || nat_le 128 (length past.buffers)
-too_many past (print name) = nat_le 128 (length past.prints)
+too_many past (group name members) = nat_le MOST_GROUPS (length past.groups)
+too_many past (input name ty count) = nat_le MOST_BUFFERS (length past.buffers)
+too_many past (step on words) = nat_le MOST_STEPS (length past.steps) || (is_some words.names && nat_le MOST_BUFFERS (length past.buffers))
+too_many past (choice kind name) = nat_le MOST_STEPS (length past.choices) || nat_le MOST_BUFFERS (length past.buffers)
+too_many past (print name) = nat_le MOST_PRINTS (length past.prints)
 too_many past _ = false
 
 -- the elements of the prints so far, over all ranks
@@ -124,9 +125,9 @@ printed_so_far past = printed_elements (plain past).shape
 
 -- the new buffer has more than 16,777,216 elements at some rank, or the prints up to this one have more over all ranks
 abbrev pub too_large : Past → Form → Bool
-too_large past (step on words) = of_step (λ members s a. nat_lt most_elements (made_length members s a)) past on words
+too_large past (step on words) = of_step (λ members s a. nat_lt MOST_ELEMENTS (made_length members s a)) past on words
 too_large past (print name) =
-    holds_of (λ from. nat_lt most_elements (printed_so_far past + elements_of from.1)) (buffer_named past.buffers name)
+    holds_of (λ from. nat_lt MOST_ELEMENTS (printed_so_far past + elements_of from.1)) (buffer_named past.buffers name)
 too_large past _ = false
 
 -- the members aren't ranks, or don't rise; or the word after `on` is no group

@@ -5,6 +5,7 @@ use Rattle.coll_text.specs.Text.{lines, is_empty}
 use Rattle.coll_lang.specs.Language.{Past, nothing, judge, is_finished, read}
 use Rattle.coll_lang.specs.declared.fault.Refusal.{Refusal}
 use Rattle.coll_lang.specs.declared.fault.Refusal.TheVariants.{TooLong, Unended, AfterEnd}
+use Rattle.coll_lang.specs.declared.whole.TheConstants.{LONGEST_TEXT}
 use Rattle.language_table.specs.Table.{IsLowest}
 use Rattle.language_table.specs.Rows.{Counts, offends}
 
@@ -39,7 +40,7 @@ pub record IsRefusedAt (bytes : List ℕ) (k : ℕ) (name : Refusal) : Type 0 wh
 
 abbrev pub IsFirstRefusal : List ℕ → ℕ → Refusal → Type 0
 IsFirstRefusal bytes k name =
-    ((1048576 < length bytes) × (k ≡ 0) × (name ≡ TooLong)) ⊎ ((length bytes ≤ 1048576) × IsRefusedAt bytes k name)
+    ((LONGEST_TEXT < length bytes) × (k ≡ 0) × (name ≡ TooLong)) ⊎ ((length bytes ≤ LONGEST_TEXT) × IsRefusedAt bytes k name)
 
 -- What reading answers is the first refusal of the table, both ways.
 abbrev pub TextsByTheRows : Type 0
