@@ -1,5 +1,5 @@
 -- Buckets lie below their number, and an entry that takes a message is on one of the threads of its match bits.
-use Rattle.std.proofs.Common.{◌≡◌, ◌≢◌, ℕ, zero, suc, ◌+◌, ◌-◌, ◌*◌, ◌/◌, ◌%◌, ◌^◌, ◌<◌, ◌≤◌, Bool, true, false, cond, nat_eq, nat_lt, ◌||◌, ◌&&◌, not, bit_and, bit_xor, refl, sym, ap, subst, ◌∙◌, inl, inr, ◌⊎◌, arith}
+use Rattle.std.proofs.Common.{◌≡◌, ℕ, zero, suc, ◌+◌, ◌-◌, ◌*◌, ◌/◌, ◌%◌, ◌^◌, ◌<◌, ◌≤◌, Bool, true, false, cond, nat_eq, nat_lt, ◌||◌, bit_and, bit_xor, refl, sym, ap, subst, ◌∙◌, inl, inr, ◌⊎◌, arith}
 use Rattle.std.proofs.lemmas.Bool.{eq-eqb, ne_eqb, eqb-true, and_parts, lt-ltb, le-ltb}
 use Rattle.std.proofs.lemmas.Bool.Decides.{eqb_tells, leb_tells}
 use Rattle.std.proofs.lemmas.Nat.{and_mask, xor_mod, mul-mod_first, div_below, mul-le, and_assoc, and_xor_apart}
@@ -8,7 +8,7 @@ use Rattle.std.specs.Int.Bits.{xor_self, xor_zero_l, xor_zero_r, xor_assoc}
 use Rattle.ptl_types.specs.declared.headers.Header.{Header}
 use Rattle.ptl_types.specs.Matching.{bits_match, is_match}
 use Rattle.ni_model.specs.declared.Linked.{Linked}
-use Rattle.ni_model.specs.Lists.{fits, space_in}
+use Rattle.ni_model.specs.Lists.{fits}
 use Rattle.match_lists.specs.Buckets.{bucket_of, buckets_of, thread_of, whole_thread, upper_48, upper_24, upper_48_thread, upper_24_thread, last_thread, is_one, may_take}
 
 -- the upper half of a product of 64 bits

@@ -1,21 +1,20 @@
 -- What the calls of a match list keep of its threads.
-use Rattle.std.proofs.Common.{◌≡◌, ◌≢◌, ℕ, zero, suc, ◌+◌, ◌-◌, ◌<◌, ◌≤◌, Bool, true, false, cond, nat_eq, ◌||◌, List, [], ◌∷◌, ◌++◌, map, filter, replicate, length, get_or, set, Option, Some, None, refl, sym, ap, subst, ◌∙◌, inl, inr, arith}
+use Rattle.std.proofs.Common.{◌≡◌, ℕ, suc, ◌+◌, ◌-◌, ◌<◌, Bool, true, false, cond, nat_eq, List, [], ◌∷◌, ◌++◌, filter, replicate, length, get_or, set, Some, None, refl, sym, ap, subst, ◌∙◌, inl, inr, arith}
 use Rattle.std.proofs.lemmas.Bool.{cases_Bool, ne_eqb, eq-eqb, or_right}
 use Rattle.std.proofs.lemmas.Bool.Decides.{eqb_tells}
 use Rattle.std.proofs.lemmas.List.{map-append, append-nil, length-append, length-set, length-map, length-replicate, get_or-set_same, get_or-set_other, get_or-replicate}
 use Rattle.std.proofs.lemmas.List.Elements.{filter-append}
-use Rattle.std.specs.Option.{is_some, IfSome}
+use Rattle.std.specs.Option.{is_some}
 use Rattle.chain_list.specs.declared.chain.ChainKey.{ChainKey}
-use Rattle.chain_list.specs.NodeMap.{Node, node}
-use Rattle.chain_list.specs.Chain.{Keyed, ChainList, chain_list, keyed, value_at, without, changed, stamp_at, first_or, Linked as IsLinked, NotAt, Apart}
-use Rattle.chain_list.proofs.ChainLemmas.{NotAt-cut, NotAt-append, Apart-cut, Apart-before, stamp-here}
-use Rattle.chain_list.proofs.KeyLemmas.{IsSplit, split-live, without-append, without-here, changed-append, changed-here, value-append, value-here}
-use Rattle.place_threads.specs.Threads.{Woven, woven, thread, is_on, is_in, is_threaded, first_place, place_after, with_place, without_place, without as off}
+use Rattle.chain_list.specs.Chain.{Keyed, ChainList, chain_list, keyed, value_at, without, changed, stamp_at, first_or, NotAt, Apart}
+use Rattle.chain_list.proofs.ChainLemmas.{Apart-cut, Apart-before, stamp-here}
+use Rattle.chain_list.proofs.KeyLemmas.{split-live, without-append, without-here, changed-append, changed-here, value-append, value-here}
+use Rattle.place_threads.specs.Threads.{Woven, woven, thread, is_on, is_threaded, first_place, place_after, with_place, without_place, without as off}
 use Rattle.place_threads.proofs.ThreadLemmas.{get-map, off_all, on_one}
 use Rattle.ni_model.specs.declared.Linked.{Linked}
 use Rattle.match_lists.specs.Lists.{running_at}
 use Rattle.match_lists.specs.Buckets.{thread_of, on_thread, last_thread}
-use Rattle.match_lists.specs.Indexed.{places_of, Later, Rising, room, IsIndexed}
+use Rattle.match_lists.specs.Indexed.{places_of, Later, Rising, IsIndexed}
 use Rattle.match_lists.proofs.BucketLemmas.{thread-le}
 
 -- the test of a thread
@@ -181,6 +180,12 @@ live chain key a some =
       away_behind = (Apart-cut s.before (keyed key s.entry.value ∷ s.behind) parts).1.0;
     }
 
+-- another value at a live key
+pub changed-live : (chain : ChainList Linked) (key : ChainKey) (l : IsLive chain key) (v : Linked) → changed key v chain.entries ≡ l.before ++ keyed key v ∷ l.behind
+changed-live chain key l v =
+    let x = keyed key l.value in
+    ap (λ ys. changed key v ys) l.is ∙ changed-append key v l.before (x ∷ l.behind) l.away ∙ ap (λ r. l.before ++ r) (changed-here x v l.behind l.away_behind)
+
 module _ (chain : ChainList Linked) (threads : Woven) (limit : ℕ) (key : ChainKey) (c : IsIndexed chain threads limit) (l : IsLive chain key) where
   pub threaded-place : is_threaded key.place threads ≡ true
   threaded-place =
@@ -210,9 +215,7 @@ module _ (chain : ChainList Linked) (threads : Woven) (limit : ℕ) (key : Chain
   IsIndexed-advance to =
       let x = keyed key l.value in
       let y = keyed key (running_at to l.value) in
-      let now : changed key (running_at to l.value) chain.entries ≡ l.before ++ y ∷ l.behind =
-      ap (λ ys. changed key (running_at to l.value) ys) l.is ∙ changed-append key (running_at to l.value) l.before (x ∷ l.behind) l.away
-      ∙ ap (λ r. l.before ++ r) (changed-here x (running_at to l.value) l.behind l.away_behind) in
+      let now = changed-live chain key l (running_at to l.value) in
       subst (λ ys. IsIndexed (chain_list ys chain.spare chain.given) threads limit) (sym now) (record {
         full = omega (arith, c.full, ap length l.is, length-swap l.before x y l.behind);
         long = c.long;
@@ -233,30 +236,6 @@ Each-filter P q (x ∷ xs) h = elim (cases_Bool (q x)) [ inl e ↦ rw e (h.0, Ea
 Each-middle : (P : Keyed Linked → Type 0) (xs : List (Keyed Linked)) (x : Keyed Linked) (ys : List (Keyed Linked)) → Each P (xs ++ x ∷ ys) → P x
 Each-middle P [] x ys h = h.0
 Each-middle P (z ∷ xs) x ys h = Each-middle P xs x ys h.1
-
--- the value of a node
-abbrev pub node_value : Option (Node Linked) → Option Linked
-node_value None = None
-node_value (Some n) = Some n.value
-
-pub node-live : (o : Option (Node Linked)) (v : Linked) → node_value o ≡ Some v → is_some o ≡ true
-node-live None v e = cc
-node-live (Some n) v e = refl
-
-pub node-read : (o : Option (Node Linked)) (v x : Linked) → IfSome o (λ n. x ≡ n.value) → node_value o ≡ Some v → x ≡ v
-node-read None v x h e = cc
-node-read (Some n) v x h e = let same : n.value ≡ v = cc in h ∙ same
-
-abbrev pub Holds : List (Option (Node Linked)) → Keyed Linked → Type 0
-Holds cs x = node_value (get_or cs x.key.place None) ≡ Some x.value
-
-Each-linked : (cs : List (Option (Node Linked))) (b : Option ℕ) (xs : List (Keyed Linked)) (a : Option ℕ) → IsLinked cs b xs a → Each (Holds cs) xs
-Each-linked cs b [] a l = tt
-Each-linked cs b (x ∷ xs) a l = (ap node_value l.0, Each-linked cs (Some x.key.place) xs a l.1)
-
-pub part-holds : (cs : List (Option (Node Linked))) (q : Keyed Linked → Bool) (xs front : List (Keyed Linked)) (x : Keyed Linked) (behind : List (Keyed Linked)) → IsLinked cs None xs None
-    → filter q xs ≡ front ++ x ∷ behind → Holds cs x
-part-holds cs q xs front x behind l e = Each-middle (Holds cs) front x behind (subst (λ ys. Each (Holds cs) ys) e (Each-filter (Holds cs) q xs (Each-linked cs None xs None l)))
 
 abbrev IsStamped : List (Keyed Linked) → Keyed Linked → Type 0
 IsStamped zs x = stamp_at x.key.place zs ≡ Some x.key.stamp

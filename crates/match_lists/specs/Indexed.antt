@@ -6,6 +6,8 @@ use Rattle.chain_list.specs.Chain.{Keyed, ChainList}
 use Rattle.place_threads.specs.Threads.{Woven, thread}
 use Rattle.ni_model.specs.declared.Linked.{Linked}
 use Rattle.ni_model.specs.Lists.{fits}
+use Rattle.match_lists.specs.declared.look.Look.{Look}
+use Rattle.match_lists.specs.Looks.{AllSeen}
 use Rattle.match_lists.specs.Buckets.{on_thread, whole_thread, upper_48_thread, upper_24_thread, last_thread}
 
 -- where the entries lie
@@ -37,6 +39,12 @@ pub record IsIndexed (chain : ChainList Linked) (threads : Woven) (limit : ℕ) 
   pub places : threads.places ≡ limit
   pub threaded : (k : ℕ) → k < last_thread limit + 1 → thread k threads ≡ places_of (on_thread limit k chain.entries)
   pub rising : Rising chain.entries chain.given
+
+-- and there is a look for each place, by which an entry is seen without the rest of its node
+pub record IsMatchList (chain : ChainList Linked) (threads : Woven) (looks : List Look) (limit : ℕ) : Type 0 where
+  pub indexed : IsIndexed chain threads limit
+  pub room_of_looks : length looks ≡ limit
+  pub seen : AllSeen looks chain.entries
 
 -- the key of an entry
 abbrev pub key_of : Option (Keyed Linked) → Option ChainKey

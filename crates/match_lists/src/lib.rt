@@ -2,11 +2,14 @@
 #![tactic(auto)]
 
 mod lists;
+mod look;
 mod match_list;
 mod walk;
 
 pub use lists::{Lists, Placed};
 // A crate can name the lists in a contract only if the types of their fields are exported.
+#[doc(hidden)]
+pub use look::Look;
 #[doc(hidden)]
 pub use match_list::MatchList;
 pub use walk::{fits, offset_in, space_in};

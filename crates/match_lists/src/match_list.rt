@@ -3,10 +3,11 @@ ghost use Rattle.std.specs.Prelude.{◌≡◌, ◌<◌, ◌≤◌, ◌+◌, ◌-
 ghost use Rattle.chain_list.specs.Chain.{chain_list, keyed, value_at, without, changed, Linked as IsLinked, Apart};
 ghost use Rattle.ni_model.specs.Lists.{fits as fits_it};
 ghost use Rattle.match_lists.specs.Buckets.{bucket_of, buckets_of, thread_of, on_thread, last_thread, candidates_in};
-ghost use Rattle.match_lists.specs.Indexed.{IsIndexed, room, takes, key_of, earlier_of, first_of_threads, on_threads};
+ghost use Rattle.match_lists.specs.Indexed.{IsIndexed, room, takes as takes_it, key_of, earlier_of, first_of_threads, on_threads};
 ghost use Rattle.match_lists.specs.Lists.{values, running_at};
+ghost use Rattle.match_lists.specs.Looks.{AllSeen};
 
-use crate::walk::fits;
+use crate::look::{Look, look_of, no_look, takes};
 use chain_list::{Chain, ChainKey, Nodes, Steps};
 use ni_model::Linked;
 use place_threads::Threads;
@@ -72,23 +73,27 @@ fn earlier(a: Option<ChainKey>, b: Option<ChainKey>) -> Option<ChainKey>
 fn first_on<L: Ledger>(
     chain: &Chain<Linked>,
     threads: &Threads,
+    looks: &[Look],
     limit: u32,
     thread: u32,
     header: &Header,
     steps: &mut Steps<L>,
 ) -> Option<ChainKey>
     requires indexed { IsIndexed chain.now threads.now limit }
+    requires seen { AllSeen looks.now chain.now.entries }
     requires thread { thread ≤ last_thread limit }
-    ensures key { result ≡ key_of (first_that (takes header.now) (on_thread limit thread chain.now.entries)) }
+    ensures key { result ≡ key_of (first_that (takes_it header.now) (on_thread limit thread chain.now.entries)) }
     ensures steps { steps.new ≤ steps.old + length (on_thread limit thread chain.now.entries) }
 {
-    let nodes = chain.nodes();
+    let _nodes = chain.nodes();
     let mut next = threads.first(thread);
     while let Some(place) = next {
-        if fits(nodes.value(place, steps), header) {
+        // Read before the look, so that the way to the next entry waits for nothing but itself.
+        next = threads.next(place);
+        steps.tick();
+        if takes(&looks[place as usize], header) {
             return Some(chain.key(place));
         }
-        next = threads.next(place);
     }
     None
 }
@@ -98,11 +103,13 @@ fn first_on<L: Ledger>(
 fn first_key<L: Ledger>(
     chain: &Chain<Linked>,
     threads: &Threads,
+    looks: &[Look],
     limit: u32,
     header: &Header,
     steps: &mut Steps<L>,
 ) -> Option<ChainKey>
-    requires { IsIndexed chain.now threads.now limit }
+    requires indexed { IsIndexed chain.now threads.now limit }
+    requires seen { AllSeen looks.now chain.now.entries }
     ensures key { result ≡ first_of_threads header.now limit chain.now.entries }
     ensures steps { steps.new ≤ steps.old + on_threads limit header.now.match_bits chain.now.entries }
 {
@@ -111,31 +118,33 @@ fn first_key<L: Ledger>(
     let whole = bucket(bits, count);
     let upper_48 = count + bucket(bits & UPPER_48, count);
     let upper_24 = 2 * count + bucket(bits & UPPER_24, count);
-    let by_whole = first_on(chain, threads, limit, whole, header, steps);
-    let by_48 = first_on(chain, threads, limit, upper_48, header, steps);
-    let by_24 = first_on(chain, threads, limit, upper_24, header, steps);
-    let other = first_on(chain, threads, limit, 3 * count, header, steps);
+    let by_whole = first_on(chain, threads, looks, limit, whole, header, steps);
+    let by_48 = first_on(chain, threads, looks, limit, upper_48, header, steps);
+    let by_24 = first_on(chain, threads, looks, limit, upper_24, header, steps);
+    let other = first_on(chain, threads, looks, limit, 3 * count, header, steps);
     earlier(earlier(by_whole, by_48), earlier(by_24, other))
 }
 
-/// The list. Its value is that of the chain of its entries: the threads only tell where to look.
+/// The list. Its value is that of the chain of its entries: the threads only tell where to look, and the looks, one for each
+/// place, what a search has to know of the entry there. A look is a part of its entry's node.
 #[derive(Drop)]
 pub struct MatchList {
     chain: Chain<Linked>,
     threads: Threads,
+    looks: Vec<Look>,
     limit: u32,
 }
 
 impl Model for MatchList {
     ghost use Rattle.chain_list.specs.Chain.{ChainList};
     ghost use Rattle.ni_model.specs.declared.Linked.{Linked};
-    ghost use Rattle.match_lists.specs.Indexed.{IsIndexed};
+    ghost use Rattle.match_lists.specs.Indexed.{IsMatchList};
 
     ghost Value = { ChainList Linked };
 
     ghost view = { λ l. l.chain };
 
-    ghost invariant = { λ l. IsIndexed l.chain l.threads l.limit };
+    ghost invariant = { λ l. IsMatchList l.chain l.threads l.looks.items l.limit };
 }
 
 impl MatchList {
@@ -145,9 +154,13 @@ impl MatchList {
     {
         let chain = Chain::with_room(alloc, limit as u64)?;
         let threads = Threads::open(alloc, 3 * buckets(limit) as usize + 1, limit as usize)?;
+        let Ok(looks) = Vec::from_elem(alloc, no_look(), limit as usize) else {
+            return Err(NoMemory);
+        };
         Ok(MatchList {
             chain,
             threads,
+            looks,
             limit,
         })
     }
@@ -160,9 +173,11 @@ impl MatchList {
         ensures steps { steps.new ≤ steps.old + 3 }
     {
         let thread = thread(&linked, self.limit);
+        let look = look_of(&linked);
         let key = self.chain.push_back(linked, steps);
         let _nodes = self.chain.nodes();
         self.threads.push_back(thread, key.place);
+        self.looks[key.place as usize] = look;
         key
     }
 
@@ -203,6 +218,7 @@ impl MatchList {
             unreachable!()
         };
         linked.running += by;
+        self.looks[key.place as usize] = look_of(linked);
     }
 
     /// The first entry that takes the message. Touches at most two nodes for each entry that may take its match bits.
@@ -215,7 +231,14 @@ impl MatchList {
         ensures steps { steps.new ≤ steps.old + 2 * candidates_in (room self.now) header.now.match_bits (values self.now.entries) }
     {
         let _nodes = self.chain.nodes();
-        let key = first_key(&self.chain, &self.threads, self.limit, header, steps)?;
+        let key = first_key(
+            &self.chain,
+            &self.threads,
+            &self.looks,
+            self.limit,
+            header,
+            steps,
+        )?;
         match self.chain.get(key, steps) {
             Some(linked) => Some(*linked),
             None => None,

@@ -1,7 +1,5 @@
-use Rattle.std.proofs.Common.{◌≡◌, ◌<◌, ◌≤◌, ◌+◌, ℕ, true, false, [], ◌∷◌, ◌++◌, Option, Some, None, get_or, find, length, refl, sym, ap, subst, ◌∙◌, arith}
+use Rattle.std.proofs.Common.{◌≡◌, true, ◌∷◌, ◌++◌, Some, None, find, length, sym, ap, ◌∙◌, arith}
 use Rattle.std.specs.Option.{is_some}
-use Rattle.ni_model.specs.Lists.{fits}
-use Rattle.chain_list.specs.declared.chain.ChainKey.{ChainKey}
 use Rattle.chain_list.specs.Chain.{stamp_at, first_or}
 use Rattle.place_threads.specs.Threads.{thread, is_on, first_place, place_after}
 use Rattle.place_threads.proofs.ThreadLemmas.{on_one}
@@ -9,7 +7,8 @@ use Rattle.match_lists.specs.Buckets.{on_thread}
 use Rattle.match_lists.specs.Indexed.{places_of, takes, key_of}
 use Rattle.match_lists.proofs.Walking.{from_place, place-first, there}
 use Rattle.match_lists.proofs.FirstOfThreads.{find-hit, find-pass}
-use Rattle.match_lists.proofs.IndexLemmas.{stands, Apart-filter, first-places, on-places, after-places, node_value, node-live, node-read, part-holds, part-stamped}
+use Rattle.match_lists.proofs.IndexLemmas.{stands, Apart-filter, first-places, on-places, after-places, part-stamped}
+use Rattle.match_lists.proofs.LookLemmas.{seen-part, seen-look}
 use Rattle.match_lists.proofs.match_list.first_on.Goals as goal
 
 pub loop-next-init : goal.loop-next-init
@@ -20,15 +19,14 @@ loop-next-init g c =
     let all : from_place c.first-next.result ys ≡ ys = ap (λ o. from_place o ys) at ∙ place-first ys in
     record { live = at ∙ ap (λ l. first_or l None) (sym all); first = ap (λ l. find (takes c.args.header.now) l) (sym all); steps = omega (arith, ap length all) }
 
-pub value-requires : goal.value-requires
-value-requires g c =
+pub bounds-looks-place : goal.bounds-looks-place
+bounds-looks-place g c =
     let ys = on_thread c.args.limit c.args.thread c.args.chain.now.entries in
     let apart = Apart-filter (stands c.args.limit c.args.thread) c.args.chain.now.entries c.nodes-nodes.ensures.apart in
     let inv = c.loop-next.invariant in
     let r = there c.in-Some.place c.loop-next.next ys apart c.in-Some.is inv.live in
-    let holds = part-holds c.nodes-nodes.result.now.places (stands c.args.limit c.args.thread) c.args.chain.now.entries r.front r.entry r.behind c.nodes-nodes.ensures.linked r.is in
-    let node = subst (λ p. node_value (get_or c.nodes-nodes.result.now.places p None) ≡ Some r.entry.value) r.at holds in
-    node-live _ r.entry.value node
+    let seen = seen-part c.args.looks.now (stands c.args.limit c.args.thread) c.args.chain.now.entries r.front r.entry r.behind c.requires.seen r.is in
+    omega (arith, seen.0, r.at)
 
 pub key-requires : goal.key-requires
 key-requires g c =
@@ -39,15 +37,15 @@ key-requires g c =
     let stamped = part-stamped (stands c.args.limit c.args.thread) c.args.chain.now.entries r.front r.entry r.behind c.nodes-nodes.ensures.apart r.is in
     ap is_some (ap (λ p. stamp_at p c.args.chain.now.entries) (sym r.at) ∙ stamped)
 
-pub returns-then-fits-clause-key : goal.returns-then-fits-clause-key
-returns-then-fits-clause-key g c =
+pub returns-then-takes-clause-key : goal.returns-then-takes-clause-key
+returns-then-takes-clause-key g c =
     let ys = on_thread c.args.limit c.args.thread c.args.chain.now.entries in
     let apart = Apart-filter (stands c.args.limit c.args.thread) c.args.chain.now.entries c.nodes-nodes.ensures.apart in
     let inv = c.loop-next.invariant in
     let r = there c.in-Some.place c.loop-next.next ys apart c.in-Some.is inv.live in
-    let holds = part-holds c.nodes-nodes.result.now.places (stands c.args.limit c.args.thread) c.args.chain.now.entries r.front r.entry r.behind c.nodes-nodes.ensures.linked r.is in
-    let node = subst (λ p. node_value (get_or c.nodes-nodes.result.now.places p None) ≡ Some r.entry.value) r.at holds in
-    let value : c.value.result.now ≡ r.entry.value = node-read _ r.entry.value c.value.result.now c.value.ensures.value node in
+    let seen = seen-part c.args.looks.now (stands c.args.limit c.args.thread) c.args.chain.now.entries r.front r.entry r.behind c.requires.seen r.is in
+    let look = seen-look c.args.looks.now r.entry c.in-Some.place _ seen r.at in
+    let told = c.takes.ensures r.entry.value look in
     let rest : from_place c.loop-next.next ys ≡ r.entry ∷ r.behind = ap (λ o. from_place o ys) c.in-Some.is ∙ r.rest_is in
     let stamped = part-stamped (stands c.args.limit c.args.thread) c.args.chain.now.entries r.front r.entry r.behind c.nodes-nodes.ensures.apart r.is in
     let stamps : Some c.key.result.stamp ≡ Some r.entry.key.stamp = c.key.ensures.stamp ∙ ap (λ p. stamp_at p c.args.chain.now.entries) (sym r.at) ∙ stamped in
@@ -56,7 +54,7 @@ returns-then-fits-clause-key g c =
     let key : c.key.result ≡ r.entry.key = λ i. record { place = place i; stamp = stamp i } in
     ap (λ k. Some k) key
     ∙ ap key_of (sym (inv.first ∙ ap (λ l. find (takes c.args.header.now) l) rest
-    ∙ find-hit (takes c.args.header.now) r.entry r.behind (ap (fits c.args.header.now) (sym value) ∙ sym c.fits.ensures ∙ c.if-fits.true)))
+    ∙ find-hit (takes c.args.header.now) r.entry r.behind (sym told ∙ c.if-takes.true)))
 
 pub next-next-requires : goal.next-next-requires
 next-next-requires g c =
@@ -90,9 +88,9 @@ loop-next-preserved g c =
     let apart = Apart-filter (stands c.args.limit c.args.thread) c.args.chain.now.entries c.nodes-nodes.ensures.apart in
     let inv = c.loop-next.invariant in
     let r = there c.in-Some.place c.loop-next.next ys apart c.in-Some.is inv.live in
-    let holds = part-holds c.nodes-nodes.result.now.places (stands c.args.limit c.args.thread) c.args.chain.now.entries r.front r.entry r.behind c.nodes-nodes.ensures.linked r.is in
-    let node = subst (λ p. node_value (get_or c.nodes-nodes.result.now.places p None) ≡ Some r.entry.value) r.at holds in
-    let value : c.value.result.now ≡ r.entry.value = node-read _ r.entry.value c.value.result.now c.value.ensures.value node in
+    let seen = seen-part c.args.looks.now (stands c.args.limit c.args.thread) c.args.chain.now.entries r.front r.entry r.behind c.requires.seen r.is in
+    let look = seen-look c.args.looks.now r.entry c.in-Some.place _ seen r.at in
+    let takes_it = c.takes.ensures r.entry.value look in
     let told = c.requires.indexed.threaded c.args.thread (omega arith) in
     let on : is_on c.in-Some.place (thread c.args.thread c.args.threads.now) ≡ true =
     ap (λ ps. is_on c.in-Some.place ps) (told ∙ ap places_of r.is) ∙ ap (λ p. is_on p (places_of (r.front ++ r.entry ∷ r.behind))) (sym r.at) ∙ on-places r.front r.entry r.behind in
@@ -103,6 +101,6 @@ loop-next-preserved g c =
     record {
       live = next ∙ ap (λ l. first_or l None) (sym then);
       first = inv.first ∙ ap (λ l. find (takes c.args.header.now) l) rest
-          ∙ find-pass (takes c.args.header.now) r.entry r.behind (ap (fits c.args.header.now) (sym value) ∙ sym c.fits.ensures ∙ c.if-fits.false) ∙ ap (λ l. find (takes c.args.header.now) l) (sym then);
-      steps = omega (arith, inv.steps, ap length then, ap length rest, c.value.ensures.steps);
+          ∙ find-pass (takes c.args.header.now) r.entry r.behind (sym takes_it ∙ c.if-takes.false) ∙ ap (λ l. find (takes c.args.header.now) l) (sym then);
+      steps = omega (arith, inv.steps, ap length then, ap length rest, c.tick.ensures);
     }

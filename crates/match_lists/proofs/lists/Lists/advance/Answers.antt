@@ -1,6 +1,6 @@
 use Rattle.std.proofs.Common.{◌≡◌, ◌<◌, ◌^◌, true, ◌+◌, Option, Some, None, get_or, sym, ap, subst, ◌∙◌}
 use Rattle.std.specs.Option.{is_some, IfSome}
-use Rattle.chain_list.specs.Chain.{ChainList, chain_list, value_at, changed}
+use Rattle.chain_list.specs.Chain.{ChainList, chain_list, changed}
 use Rattle.ni_model.specs.declared.Linked.{Linked}
 use Rattle.ni_model.specs.Arrive.{or_else}
 use Rattle.match_lists.specs.Fields.{IsLists}

@@ -1,6 +1,9 @@
-use Rattle.std.proofs.Common.{◌≡◌, true, sym, ap, ◌∙◌}
+use Rattle.std.proofs.Common.{◌≡◌, true, sym, ap, subst, ◌∙◌}
 use Rattle.std.specs.Option.{is_some}
-use Rattle.chain_list.specs.Chain.{value_at}
+use Rattle.chain_list.specs.Chain.{ChainList, value_at}
+use Rattle.ni_model.specs.declared.Linked.{Linked}
+use Rattle.match_lists.specs.Looks.{AllSeen}
+use Rattle.match_lists.proofs.LookLemmas.{seen-unlink}
 use Rattle.match_lists.proofs.IndexLemmas.{live, threaded-place, IsIndexed-unlink}
 use Rattle.match_lists.proofs.match_list.MatchList.unlink.Goals as goal
 
@@ -8,10 +11,14 @@ pub unlink-requires-2 : goal.unlink-requires-2
 unlink-requires-2 g c =
     let some : is_some (value_at c.args.key c.self.inside.chain.entries) ≡ true = ap is_some (sym c.unlink.ensures.value ∙ c.in_ok-linked.was) in
     let l = live c.self.inside.chain c.args.key c.nodes-nodes.ensures.apart some in
-    threaded-place c.self.inside.chain c.self.inside.threads c.self.inside.limit c.args.key c.self.invariant l
+    threaded-place c.self.inside.chain c.self.inside.threads c.self.inside.limit c.args.key c.self.invariant.indexed l
 
 pub invariant_of-self-2 : goal.invariant_of-self-2
 invariant_of-self-2 g c =
     let some : is_some (value_at c.args.key c.self.inside.chain.entries) ≡ true = ap is_some (sym c.unlink.ensures.value ∙ c.in_ok-linked.was) in
     let l = live c.self.inside.chain c.args.key c.nodes-nodes.ensures.apart some in
-    IsIndexed-unlink c.self.inside.chain c.self.inside.threads c.self.inside.limit c.args.key c.self.invariant l _ _ c.in_ok-linked.ensures.taken c.unlink-2.ensures
+    record {
+      indexed = IsIndexed-unlink c.self.inside.chain c.self.inside.threads c.self.inside.limit c.args.key c.self.invariant.indexed l _ _ c.in_ok-linked.ensures.taken c.unlink-2.ensures;
+      room_of_looks = c.self.invariant.room_of_looks;
+      seen = subst (λ (v : ChainList Linked). AllSeen c.self.inside.looks.items v.entries) (sym c.in_ok-linked.ensures.taken) (seen-unlink c.self.inside.looks.items c.self.inside.chain.entries c.self.invariant.seen c.args.key);
+    }
