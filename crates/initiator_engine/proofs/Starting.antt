@@ -1,5 +1,5 @@
 -- A start that is allowed has a header, its parts fit, and what it sends belongs together.
-use Rattle.std.proofs.Common.{◌≡◌, ℕ, ◌%◌, ◌≤◌, Bool, true, false, ◌&&◌, List, length, Option, Some, None, is_some, refl, subst, arith}
+use Rattle.std.proofs.Common.{◌≡◌, ℕ, ◌%◌, ◌≤◌, Bool, true, false, ◌&&◌, List, length, Option, Some, None, is_some, refl, sym, ap, subst, arith}
 use Rattle.std.proofs.Math.Nat.{mod_self}
 use Rattle.ptl_types.specs.declared.headers.Header.{Header}
 use Rattle.ptl_types.specs.declared.headers.MessageKind.TheVariants.{Put as PutKind, Atomic as AtomicKind, FetchAtomic as FetchAtomicKind, Swap as SwapKind}
@@ -10,17 +10,18 @@ use Rattle.ptl_types.specs.declared.calls.Deed.{Deed}
 use Rattle.ptl_types.specs.declared.calls.Deed.TheVariants.{Put, Get, Atomic, FetchAtomic, Swap, Inc, Set}
 use Rattle.ptl_types.specs.Operations.{bytes_of}
 use Rattle.ptl_types.specs.Filled.{Filled}
-use Rattle.ptl_types.specs.Messages.{FillsHeader}
+use Rattle.ptl_types.specs.Messages.{Sent, FillsHeader, message}
+use Rattle.ptl_types.specs.declared.handles.Handle.{Handle}
 use Rattle.ptl_types.specs.declared.handles.Count.{Count}
 use Rattle.ni_model.specs.declared.Bound.{Bound}
 use Rattle.ni_model.specs.Tables.{Table}
 use Rattle.ni_model.specs.Queues.{Waiting}
 use Rattle.ni_model.specs.Append.{need}
-use Rattle.ni_model.specs.Answers.{home}
-use Rattle.ni_model.specs.Starts.{header_of, put_header, get_header, fetch_header, put_args, bytes_read}
+use Rattle.ni_model.specs.Answers.{Home, home, bound_at}
+use Rattle.ni_model.specs.Starts.{header_of, put_header, get_header, fetch_header, put_args, bytes_read, counted_on, send_counter, sent_from, started, started_by}
 use Rattle.ni_model.specs.Refusals.{deed_fault}
 use Rattle.ni_model.specs.Conditions.{MayStart}
-use Rattle.initiator_engine.specs.Initiators.{is_start, room_for, args_fit, args_length, args_bytes}
+use Rattle.initiator_engine.specs.Initiators.{is_start, room_for, args_fit, args_length, args_bytes, has_started}
 
 pub start-has_header : (rank : ℕ) (d : Deed) → is_start d ≡ true → is_some (header_of rank d) ≡ true
 start-has_header rank (Put a) is = refl
@@ -85,5 +86,10 @@ start-fills rank (Swap g a op ty operand) h b ranks l e may len room =
     same-header b (fetch_header rank SwapKind g a None (Some op) ty operand) h e (record { bytes = len; room = omega arith; whole = λ is. whole; op = refl; swap = refl; one = λ is. may.1 })
 start-fills rank (Inc ct by) h b ranks l e may len room = cc
 start-fills rank (Set ct to) h b ranks l e may len room = cc
+
+-- a start by its header, its message, what it does to the descriptors, the counting events and the queues, and the counting event
+pub started-is : (rank : ℕ) (p q : Home) (d : Deed) (h : Header) (m : Sent) (ct : Option Handle) → header_of rank d ≡ Some h → m ≡ message h (bytes_read p d) → q ≡ sent_from p d h → ct ≡ send_counter (bound_at (counted_on d) p.mds) → has_started q m ct ≡ started rank p d
+unfolding started
+started-is rank p q d h m ct e sent after counted = rw (sent, after, counted) (ap (λ (o : Option Header). started_by p d o) (sym e))
 
 pub ruleset starting = (start-has_header, args-fit, args-room, bytes-read, start-fills)

@@ -10,13 +10,8 @@ use Rattle.ptl_types.specs.declared.calls.Deed.TheVariants.{Put, Get, Atomic, Fe
 use Rattle.ptl_types.specs.Messages.{Sent}
 use Rattle.ni_model.specs.declared.Bound.{Bound}
 use Rattle.ni_model.specs.Tables.{Table, Live, lookup}
-use Rattle.ptl_types.specs.declared.handles.Count.{Count}
-use Rattle.ptl_types.specs.declared.headers.Header.{Header}
-use Rattle.ni_model.specs.Counts.{counted, successes}
-use Rattle.ni_model.specs.Queues.{Waiting, raised}
-use Rattle.ni_model.specs.Events.{send_event}
-use Rattle.ni_model.specs.Answers.{Home, Returned, bound_at}
-use Rattle.ni_model.specs.Starts.{Started, bytes_at, awaits_more, send_counter, send_queue, counted_on}
+use Rattle.ni_model.specs.Answers.{Home, Returned}
+use Rattle.ni_model.specs.Starts.{Started, bytes_at}
 use Rattle.ni_model.specs.Refusals.{put_fits}
 use Rattle.ni_model.specs.Conditions.{IsBoundIn}
 use Rattle.user_counts.specs.Rows.{one_at, Counts}
@@ -83,26 +78,6 @@ has_started home message counted = record { home = home; message = Some message;
 -- an answer that came home, as `answered` has it
 abbrev pub has_returned : Home → Outcome → Option Handle → Returned
 has_returned home outcome counted = record { home = home; outcome = outcome; counted = counted }
-
--- what a start does to the descriptors, the counting events and the queues
-pub record Sending : Type 0 where
-  pub mds : Table Bound
-  pub cts : Table Count
-  pub eqs : Table Waiting
-  pub counted : Option Handle
-
--- the four together
-abbrev pub sent_as : Table Bound → Table Count → Table Waiting → Option Handle → Sending
-sent_as mds cts eqs counted = record { mds = mds; cts = cts; eqs = eqs; counted = counted }
-
--- one answer more is awaited, and the start is counted and told
-abbrev pub sent_by : Table Bound → Table Count → Table Waiting → Deed → Header → Sending
-sent_by mds cts eqs d h =
-    sent_as
-    (awaits_more h.home mds)
-    (counted (send_counter (bound_at (counted_on d) mds)) (successes 1) cts)
-    (raised (send_queue (bound_at (counted_on d) mds)) (send_event h) eqs)
-    (send_counter (bound_at (counted_on d) mds))
 
 -- ---- what the descriptors name
 

@@ -1,14 +1,14 @@
 //! The initiator.
 
-ghost use Rattle.std.specs.Prelude.{◌≡◌, ◌<◌, ◌≤◌, ◌+◌, true, false, Some, None, IsTrue, IfOk, IfErr, OnErr, All, length};
+ghost use Rattle.std.specs.Prelude.{◌≡◌, ◌<◌, ◌≤◌, ℕ, List, true, false, Some, None, IsTrue, IfOk, IfErr, OnErr, All, length};
 ghost use Rattle.ni_model.specs.Tables.{no_things, lookup, with_new, without, has_slot, handle, is_live as lives};
 ghost use Rattle.ni_model.specs.Calls.{bound as as_bound, awaits_of};
-ghost use Rattle.ni_model.specs.Answers.{home, answered, is_awaited};
-ghost use Rattle.ni_model.specs.Starts.{started};
+ghost use Rattle.ni_model.specs.Answers.{home, answered, bound_at, is_awaited};
+ghost use Rattle.ni_model.specs.Starts.{started, sent_from, counted_on as counted_in, send_counter as counter_of};
 ghost use Rattle.ni_model.specs.Refusals.{bind_fault, deed_fault, own_release_fault, md_names_ct, md_names_eq};
 ghost use Rattle.ni_model.specs.Conditions.{MayStart};
 ghost use Rattle.user_counts.specs.Rows.{IsAlone, HasOwnSlot};
-ghost use Rattle.initiator_engine.specs.Initiators.{sent_as, sent_by, initiating, with_mds, AreBoundIn, by_fault, is_start, room_for, has_started, has_returned};
+ghost use Rattle.initiator_engine.specs.Initiators.{initiating, with_mds, AreBoundIn, by_fault, is_start, room_for, has_started, has_returned};
 
 use crate::answers::{await_less, bound_of, bring, counter_home, is_due, one_answer, raise_answer};
 use crate::checks::{deed_fits, deed_is_live, is_live};
@@ -58,7 +58,8 @@ fn started_with(
     deed: &Deed,
     header: &Header,
 ) -> Option<Handle>
-    ensures { sent_as mds.new cts.new eqs.new result ≡ sent_by mds.old cts.old eqs.old deed.now header.now }
+    ensures sent { (memory : List ℕ) → home mds.new memory cts.new eqs.new ≡ sent_from (home mds.old memory cts.old eqs.old) deed.now header.now }
+    ensures counted { result ≡ counter_of (bound_at (counted_in deed.now) mds.old) }
 {
     let bound = bound_of(mds, counted_on(deed));
     let ct = send_counter(bound);

@@ -1,5 +1,5 @@
 -- The two lists of a portal table index, as a contract sees them (Portals 4.3, match lists).
-use Rattle.std.specs.Prelude.{ℕ, ◌+◌, Bool, ◌||◌, List, map, length, Option, Some, None, find, if◌then◌else◌}
+use Rattle.std.specs.Prelude.{ℕ, ◌+◌, Bool, ◌||◌, List, map, length, Option, Some, None, find}
 use Rattle.std.specs.Borrow.{Bor}
 use Rattle.ptl_types.specs.declared.handles.Handle.{Handle}
 use Rattle.ptl_types.specs.declared.headers.Header.{Header}
@@ -10,8 +10,8 @@ use Rattle.ptl_types.specs.Handles.{same_handle}
 use Rattle.chain_list.specs.Chain.{Keyed}
 use Rattle.ni_model.specs.declared.Linked.{Linked}
 use Rattle.ni_model.specs.declared.Found.{Found}
-use Rattle.ni_model.specs.Lists.{fits, unlinked, advanced}
-use Rattle.ni_model.specs.Arrive.{or_else, as_found}
+use Rattle.ni_model.specs.Lists.{unlinked, advanced}
+use Rattle.ni_model.specs.Arrive.{or_else}
 use Rattle.match_lists.specs.Buckets.{candidates_in}
 use Rattle.ni_model.specs.Calls.{slot_in}
 
@@ -50,11 +50,6 @@ linked_count b = length b.priority + length b.overflow
 -- a linked entry has this slot
 abbrev pub has_slot : ℕ → Both → Bool
 has_slot slot b = slot_in slot b.priority || slot_in slot b.overflow
-
--- the first of the priority entries that fits, else, where asked, the first of the overflow entries
-abbrev pub first_fit : Header → Bool → Both → Option Found
-first_fit h overflow b =
-    or_else (as_found Priority (find (fits h) b.priority)) (if overflow then as_found Overflow (find (fits h) b.overflow) else None)
 
 -- the entry of this handle
 abbrev pub is_named : Handle → Linked → Bool

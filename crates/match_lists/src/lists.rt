@@ -2,9 +2,10 @@
 ghost use Rattle.std.specs.Prelude.{◌≡◌, ◌<◌, ◌≤◌, ◌+◌, ◌-◌, ◌*◌, ◌^◌, ◌++◌, ◌∷◌, [], ◌||◌, ◌↔◌, Some, None, false, is_some, IsSome, IsTrue, IfOk, IfSome, length, get_or, option_copied};
 ghost use Rattle.match_lists.specs.Slots.{placed_as, same_list as is_same_list};
 ghost use Rattle.ni_model.specs.Append.{fresh};
+ghost use Rattle.ni_model.specs.Arrive.{first_fit as first_of};
 ghost use Rattle.ni_model.specs.Lists.{is_linked as holds};
 ghost use Rattle.ni_model.specs.Refusals.{entry_names_ct};
-ghost use Rattle.match_lists.specs.Lists.{both, entries, with_entries, linked_count, candidates, has_slot, first_fit as first_of, linked_as, named, entry_of, running_of, with_running, without_entry, advanced_to, values};
+ghost use Rattle.match_lists.specs.Lists.{both, entries, with_entries, linked_count, candidates, has_slot, linked_as, named, entry_of, running_of, with_running, without_entry, advanced_to, values};
 
 use crate::match_list::MatchList;
 use crate::walk::some_names;
@@ -196,7 +197,7 @@ impl Lists {
         overflow: bool,
         steps: &mut Steps<L>,
     ) -> Option<Found>
-        ensures first { result ≡ first_of header.now overflow self.now }
+        ensures first { result ≡ first_of header.now overflow self.now.priority self.now.overflow }
         ensures steps { steps.new ≤ steps.old + 2 * linked_count self.now }
         ensures few { steps.new ≤ steps.old + 2 * candidates header.now self.now }
     {
@@ -225,7 +226,7 @@ impl Lists {
         overflow: bool,
         steps: &mut Steps<L>,
     ) -> Option<(List, Handle)>
-        ensures first { result ≡ named (first_of header.now overflow self.now) }
+        ensures first { result ≡ named (first_of header.now overflow self.now.priority self.now.overflow) }
         ensures steps { steps.new ≤ steps.old + 2 * linked_count self.now }
         ensures few { steps.new ≤ steps.old + 2 * candidates header.now self.now }
     {

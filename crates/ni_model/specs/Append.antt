@@ -89,11 +89,15 @@ link_entry slot pt place e p =
 abbrev pub frees : Side → List Noted → Noted → Bool
 frees s left a = not (is_linked_at Overflow a.header.entry (index_at a.pt s.indices) || names_entry a.header.entry left)
 
--- the event of a header that goes, and directly after it the freeing of its entry
+-- the event of a header that goes, and directly after it the freeing of its entry, where it is free
+abbrev pub told_gone : EventKind → List (Option Index) → Bool → Noted → Table Waiting → Table Waiting
+told_gone kind is freed a eqs =
+    let told = raised (queue_of (index_at a.pt is)) (header_event kind a) eqs in
+    if freed then raised (queue_of (index_at a.pt is)) (free_event a.pt) told else told
+
+-- the same, where the headers in `left` stay
 abbrev pub gone_raised : EventKind → Side → List Noted → Noted → Table Waiting → Table Waiting
-gone_raised kind s left a eqs =
-    let told = raised (queue_at a.pt s) (header_event kind a) eqs in
-    if frees s left a then raised (queue_at a.pt s) (free_event a.pt) told else told
+gone_raised kind s left a eqs = told_gone kind s.indices (frees s left a) a eqs
 
 -- found headers go one after the other, while those in `stay` stay
 abbrev pub each_gone : Side → List Noted → List Noted → Table Waiting → Table Waiting

@@ -29,7 +29,7 @@ use Rattle.ni_model.specs.Lists.{Index, index_at, queue_of, offset_in, space_in,
 use Rattle.ni_model.specs.Headers.{Held, no_room, allows}
 use Rattle.ni_model.specs.Events.{message_event, unlink_event, kind_delivered}
 
--- ---- choose: the first of the priority entries that fits, else, for a put or an atomic, the first of the overflow entries
+-- ---- choose
 
 -- the first of two, where there is one
 abbrev pub or_else : {A : Type 0} → Option A → Option A → Option A
@@ -41,11 +41,14 @@ abbrev pub as_found : Place → Option Linked → Option Found
 as_found place None = None
 as_found place (Some x) = Some (record { list = place; linked = x })
 
--- in an allocated index
+-- the first of the priority entries that fits, else, where asked, the first of the overflow entries
+abbrev pub first_fit : Header → Bool → List Linked → List Linked → Option Found
+first_fit h asked priority overflow =
+    or_else (as_found Priority (find (fits h) priority)) (if asked then as_found InOverflow (find (fits h) overflow) else None)
+
+-- in an allocated index; the overflow list is for puts and atomics alone
 abbrev pub choose : Header → Index → Option Found
-choose h i =
-    or_else (as_found Priority (find (fits h) i.priority))
-    (if is_put_or_atomic h.kind then as_found InOverflow (find (fits h) i.overflow) else None)
+choose h i = first_fit h (is_put_or_atomic h.kind) i.priority i.overflow
 
 -- none in an index that is not allocated
 abbrev pub chosen_at : Header → Option Index → Option Found

@@ -10,10 +10,10 @@ use Rattle.ni_model.specs.Queues.{Waiting}
 use Rattle.ni_model.specs.Lists.{Index}
 use Rattle.ni_model.specs.Headers.{held, finds, found_in}
 use Rattle.ni_model.specs.Events.{kind_taken}
-use Rattle.ni_model.specs.Append.{each_gone, counted_by, overflow_counter}
+use Rattle.ni_model.specs.Append.{each_gone, counted_by, overflow_counter, told_gone}
 use Rattle.target_engine.specs.declared.places.Placed.{Placed}
 use Rattle.target_engine.specs.Shelves.{ArePlaced, frees_at, placed_by, one_fewer}
-use Rattle.target_engine.specs.Sides.{side, told_gone}
+use Rattle.target_engine.specs.Sides.{side}
 use Rattle.target_engine.proofs.Headers.{noted-append}
 use Rattle.target_engine.proofs.Placed.{HasOneOf, placed-fewer, placed-frees}
 

@@ -1,18 +1,13 @@
 -- What a target is seen as, and how its parts make up the model's.
-use Rattle.std.specs.Prelude.{ℕ, ◌≡◌, ◌<◌, Bool, false, if◌then◌else◌, List, Option, Some, None, All}
+use Rattle.std.specs.Prelude.{ℕ, ◌≡◌, ◌<◌, false, List, Option, Some, None, All}
 use Rattle.ptl_types.specs.declared.handles.Handle.{Handle}
 use Rattle.ptl_types.specs.declared.entries.Entry.{Entry}
 use Rattle.ptl_types.specs.declared.entries.List.{List as Place}
 use Rattle.ptl_types.specs.declared.calls.Appended.{Appended}
 use Rattle.ptl_types.specs.declared.calls.Appended.TheVariants.{Linked as IsLinked, Consumed}
 use Rattle.ptl_types.specs.declared.entries.UnexpectedHeader.{UnexpectedHeader}
-use Rattle.ptl_types.specs.declared.events.EventKind.{EventKind}
 use Rattle.ni_model.specs.declared.Linked.{Linked}
-use Rattle.ni_model.specs.declared.Noted.{Noted}
-use Rattle.ni_model.specs.Tables.{Table}
-use Rattle.ni_model.specs.Queues.{Waiting, raised}
-use Rattle.ni_model.specs.Events.{header_event, free_event}
-use Rattle.ni_model.specs.Lists.{Index, index_at, queue_of}
+use Rattle.ni_model.specs.Lists.{Index}
 use Rattle.ni_model.specs.Headers.{Held}
 use Rattle.ni_model.specs.Arrive.{Side, Parts}
 use Rattle.ni_model.specs.Append.{Appends, Searched, append}
@@ -26,12 +21,6 @@ side rank limit indices given headers = record { rank = rank; limit = limit; ind
 -- what a search leaves, and the header that it found
 abbrev pub has_searched : Parts → Option UnexpectedHeader → Searched
 has_searched p found = record { parts = p; found = found }
-
--- the event of a header that goes, and directly after it the freeing of its entry, where it is free
-abbrev pub told_gone : EventKind → List (Option Index) → Bool → Noted → Table Waiting → Table Waiting
-told_gone kind is freed a eqs =
-    let told = raised (queue_of (index_at a.pt is)) (header_event kind a) eqs in
-    if freed then raised (queue_of (index_at a.pt is)) (free_event a.pt) told else told
 
 -- what an append leaves, its answer, and the counting event that rose
 abbrev pub has_appended : Parts → Appended → Option Handle → Appends

@@ -3,8 +3,8 @@
 ghost use Rattle.std.specs.Prelude.{◌≡◌};
 ghost use Rattle.ni_model.specs.Lists.{index_at, is_linked_at};
 ghost use Rattle.ni_model.specs.Events.{header_event as event_of, kind_taken as kind_of};
+ghost use Rattle.ni_model.specs.Append.{told_gone};
 ghost use Rattle.target_engine.specs.Shelves.{seen_in, frees_at, without_header};
-ghost use Rattle.target_engine.specs.Sides.{told_gone};
 
 use crate::events::{entry_event, message_event};
 use crate::index::{Index, queue_at, shelf_at};

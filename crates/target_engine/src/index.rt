@@ -2,11 +2,11 @@
 
 ghost use Rattle.std.specs.Prelude.{◌≡◌, ◌+◌, ◌++◌, ◌∷◌, [], ℕ, true, None, Some, All, IfOk, is_some, nat_lt, slice_set};
 ghost use Rattle.ptl_types.specs.Kinds.{is_put_or_atomic as puts};
-ghost use Rattle.ni_model.specs.Arrive.{choose, chosen};
+ghost use Rattle.ni_model.specs.Arrive.{choose, chosen, first_fit};
 ghost use Rattle.ni_model.specs.Append.{fresh, linked_at};
 ghost use Rattle.ni_model.specs.Calls.{unlinked_in, new_index};
 ghost use Rattle.ni_model.specs.Lists.{queue_of, index_at, entries_in, is_linked};
-ghost use Rattle.match_lists.specs.Lists.{with_entries, without_entry, linked_as as named_in, first_fit};
+ghost use Rattle.match_lists.specs.Lists.{with_entries, without_entry, linked_as as named_in};
 ghost use Rattle.target_engine.specs.Shelves.{index, seen, seen_ref, seen_in, linked_in, settled_lists, settled_in, AreEmpty, HasLists, IsShelf, IsUnused, MayAppend, MayLink};
 
 use crate::measures::{delivered, is_over, is_put_or_atomic, running_after};
@@ -36,7 +36,7 @@ fn find_entry<L: Ledger>(blank: Blank, lists: &Lists, header: &Header) -> Option
     requires name { blank.name ≡ L.name }
     requires parts { blank.parts ≡ L.parts }
     requires one { blank.parts ≡ 1 }
-    ensures { result ≡ first_fit header.now (puts header.now.kind) lists.now }
+    ensures { result ≡ first_fit header.now (puts header.now.kind) lists.now.priority lists.now.overflow }
 {
     let mut steps = Steps::<L>::start(blank);
     lists.find_entry(header, is_put_or_atomic(header.kind), &mut steps)

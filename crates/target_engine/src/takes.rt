@@ -4,9 +4,9 @@ ghost use Rattle.std.specs.Prelude.{◌≡◌, [], None, length};
 ghost use Rattle.ni_model.specs.Counts.{counted, successes as success_of};
 ghost use Rattle.ni_model.specs.Headers.{held, found_in, left_in};
 ghost use Rattle.ni_model.specs.Events.{kind_taken as kind_of};
-ghost use Rattle.ni_model.specs.Append.{overflow_counter as counter_of, each_counted, each_gone, counted_by};
+ghost use Rattle.ni_model.specs.Append.{overflow_counter as counter_of, each_counted, each_gone, counted_by, told_gone};
 ghost use Rattle.target_engine.specs.Shelves.{seen_in, ArePlaced, AreCounted, frees_at, without_header};
-ghost use Rattle.target_engine.specs.Sides.{side, told_gone};
+ghost use Rattle.target_engine.specs.Sides.{side};
 
 use crate::gone::{frees, kind_taken, raise_gone};
 use crate::index::Index;

@@ -1,8 +1,10 @@
-use Rattle.std.proofs.Common.{◌≡◌, ◌≤◌, Some, length, sym, ap, ◌∙◌}
-use Rattle.ni_model.specs.Starts.{header_of, put_args, awaits_more}
-use Rattle.initiator_engine.specs.Initiators.{Sending, args_length, room_for}
+use Rattle.std.proofs.Common.{◌≡◌, ℕ, ◌≤◌, Some, List, [], length, sym, ap, ◌∙◌}
+use Rattle.ptl_types.specs.Messages.{message}
+use Rattle.ni_model.specs.Answers.{Home, home}
+use Rattle.ni_model.specs.Starts.{header_of, put_args, bytes_read, awaits_more}
+use Rattle.initiator_engine.specs.Initiators.{args_length, room_for}
 use Rattle.initiator_engine.proofs.Naming.{users-awaiting}
-use Rattle.initiator_engine.proofs.Starting.{start-fills}
+use Rattle.initiator_engine.proofs.Starting.{bytes-read, start-fills, started-is}
 use Rattle.initiator_engine.proofs.initiator.Initiator.start.Goals as goal
 
 pub new-message-requires : goal.new-message-requires
@@ -15,5 +17,19 @@ new-message-requires c =
 pub invariant_of-self : goal.invariant_of-self
 invariant_of-self c =
     let i = c.self.inside in
-    let after : c.started_with-counted.new.mds ≡ awaits_more c.in-Some.header.home i.mds = ap (λ (s : Sending). s.mds) c.started_with-counted.ensures in
+    let after : c.started_with-counted.new.mds ≡ awaits_more c.in-Some.header.home i.mds = ap (λ (h : Home). h.mds) (c.started_with-counted.ensures.sent []) in
     rw after (users-awaiting i.limits i.mds i.cts i.eqs c.in-Some.header.home c.self.invariant)
+
+pub returns-clause-started : goal.returns-clause-started
+returns-clause-started c =
+    let i = c.self.inside in
+    let d = c.args.deed.now in
+    let h = c.in-Some.header in
+    let p = home i.mds c.args.region.now c.args.cts.now c.args.eqs.now in
+    let bytes : c.read_bytes-bytes.result.list ≡ bytes_read p d = c.read_bytes-bytes.ensures.list ∙ rw c.put_args.ensures (bytes-read d i.mds c.args.region.now c.args.cts.now c.args.eqs.now) in
+    rw (← c.self.view_is)
+    (started-is i.rank p (home c.started_with-counted.new.mds c.args.region.now c.started_with-counted.new.cts c.started_with-counted.new.eqs) d h c.new-message.result c.started_with-counted.result
+    (sym c.header_of.ensures ∙ c.in-Some.is)
+    (c.new-message.ensures ∙ ap (λ (bs : List ℕ). message h bs) bytes)
+    (c.started_with-counted.ensures.sent c.args.region.now)
+    c.started_with-counted.ensures.counted)
