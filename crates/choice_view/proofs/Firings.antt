@@ -1,20 +1,21 @@
 -- What each operation of a choice text does when it fires.
-use Rattle.std.proofs.Common.{ℕ, suc, true, false, not, ◌+◌, ◌*◌, ◌≡◌, ◌≤◌, ◌<◌, ◌⊎◌, List, refl, length, map, filter, ap, ap₂, ◌∙◌, sym, subst, inl, inr, arith, flat_map, count_by, min, Option, Some, None, add-zero}
+use Rattle.std.proofs.Common.{ℕ, suc, true, false, not, ◌+◌, ◌*◌, ◌≡◌, ◌≤◌, ◌<◌, ◌⊎◌, List, refl, length, map, filter, ap, ap₂, ◌∙◌, sym, subst, inl, inr, arith, flat_map, count_by, min, Some, None, add-zero}
 use Rattle.std.proofs.lemmas.Bool.{cases_eq}
 use Rattle.ptl_types.specs.declared.elements.AtomicOp.TheVariants.{Sum}
 use Rattle.ptl_types.specs.declared.elements.SwapOp.TheVariants.{Cswap}
 use Rattle.ptl_types.specs.declared.elements.ElemType.TheVariants.{U64}
-use Rattle.ptl_types.specs.Handles.{top}
+use Rattle.ptl_types.specs.Handles.{top, one_more}
 use Rattle.ptl_types.specs.Elements.{part}
-use Rattle.ptl_types.specs.Messages.{Sent, message}
+use Rattle.ptl_types.specs.Messages.{message}
 use Rattle.ni_model.specs.State.{Posted, State}
 use Rattle.ni_model.specs.Tables.{change, changed, lookup}
-use Rattle.ni_model.specs.Counts.{bump, one_more, successes}
+use Rattle.ni_model.specs.Counts.{bump, successes}
 use Rattle.ni_model.specs.Starts.{bytes_at, get_header, one_awaited}
 use Rattle.ni_model.specs.Ready.{done, fired, fired_op, fires, is_ready, is_number}
 use Rattle.plan_core.specs.Members.{In}
 use Rattle.plan_core.proofs.Links.{Distinct-from_to}
 use Rattle.plan_view.proofs.Tables.{bump-successes}
+use Rattle.plan_view.proofs.StepFire.{fired_pair}
 use Rattle.coll_lang.specs.declared.choices.ChoiceKind.{ChoiceKind}
 use Rattle.choice_machine.specs.Choices.{choice_at}
 use Rattle.coll_lang.specs.declared.choices.ChoiceKind.TheVariants.{Elect, Tickets}
@@ -45,9 +46,6 @@ In-home ks s h = at (choice_at ks s) refl
     at : (c : ChoiceKind) → choice_at ks s ≡ c → In (home_part c s) (parts ks)
     at Elect e = In-old ks s h e
     at Tickets e = In-result ks s h
-
-pub fired_pair : (a b : State) (m n : Option Sent) → a ≡ b → m ≡ n → fires a m ≡ fires b n
-fired_pair a b m n e f = ap₂ fires e f
 
 module _ (k : Slots) (ranks : ℕ) (ks : List ChoiceKind) (r : ℕ) (seat : Seat) (s : ℕ) (h : s < length ks) where
   -- the seat behind a firing in step s

@@ -6,9 +6,9 @@ use Rattle.ptl_types.specs.declared.entries.List.TheVariants.{Priority, Overflow
 use Rattle.ptl_types.specs.declared.events.Event.{Event}
 use Rattle.ptl_types.specs.declared.calls.NiFault.{NiFault}
 use Rattle.ptl_types.specs.declared.calls.EqGot.TheVariants.{Got, Empty, Dropped}
-use Rattle.ptl_types.specs.Handles.{top}
+use Rattle.ptl_types.specs.Handles.{top, one_more}
 use Rattle.ni_model.specs.Append.{append}
-use Rattle.ni_model.specs.Counts.{bump, failures, total, one_more}
+use Rattle.ni_model.specs.Counts.{bump, failures, total}
 use Rattle.ni_model.specs.Tables.{has_slot}
 use Rattle.ni_model.specs.State.{State, opened}
 use Rattle.ni_model.specs.Calls.{Done, Makes, ct_alloc, entry_slot, eq_alloc, eq_get, me_append, pt_alloc}

@@ -1,6 +1,6 @@
 -- Counting events: success and failure, together at most 2^64 - 1. Portals 4.3 has the two numbers (lightweight counting events); how
 -- they are counted, and their end, is this profile's own.
-use Rattle.std.specs.Prelude.{ℕ, suc, Bool, nat_lt, ◌+◌, ◌-◌, min, Option, Some, None}
+use Rattle.std.specs.Prelude.{ℕ, Bool, nat_lt, ◌+◌, ◌-◌, min, Option, Some, None}
 use Rattle.ptl_types.specs.declared.handles.Handle.{Handle}
 use Rattle.ptl_types.specs.declared.handles.Count.{Count}
 use Rattle.ptl_types.specs.Handles.{top}
@@ -36,7 +36,3 @@ plus by c = record { success = c.success + by.success; failure = c.failure + by.
 abbrev pub counted : Option Handle → Count → Table Count → Table Count
 counted None by t = t
 counted (Some h) by t = changed h (bump by) t
-
--- a register that stays at its greatest value
-abbrev pub one_more : ℕ → ℕ
-one_more n = min (suc n) top

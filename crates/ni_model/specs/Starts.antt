@@ -19,7 +19,8 @@ use Rattle.ptl_types.specs.Elements.{part}
 use Rattle.ptl_types.specs.Messages.{Sent, message}
 use Rattle.ni_model.specs.declared.Bound.{Bound}
 use Rattle.ni_model.specs.Tables.{Table, lookup, changed, where_set}
-use Rattle.ni_model.specs.Counts.{successes, counted, one_more}
+use Rattle.ni_model.specs.Counts.{successes, counted}
+use Rattle.ptl_types.specs.Handles.{one_more}
 use Rattle.ni_model.specs.Queues.{raised}
 use Rattle.ni_model.specs.Answers.{Home, home, bound_at}
 use Rattle.ni_model.specs.Events.{send_event}

@@ -11,7 +11,7 @@ use Rattle.ptl_types.specs.Kinds.{is_answer}
 use Rattle.ptl_types.specs.Messages.{Sent}
 use Rattle.ni_model.specs.declared.Bound.{Bound}
 use Rattle.ni_model.specs.Tables.{Table, no_things}
-use Rattle.ni_model.specs.Counts.{one_more}
+use Rattle.ptl_types.specs.Handles.{one_more}
 use Rattle.ni_model.specs.Queues.{Waiting}
 use Rattle.ni_model.specs.Lists.{Index}
 use Rattle.ni_model.specs.Headers.{Held, held}

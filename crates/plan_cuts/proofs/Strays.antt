@@ -3,7 +3,7 @@ use Rattle.std.proofs.Common.{ℕ, Bool, true, false, cond, ◌≡◌, ◌<◌, 
 use Rattle.ptl_types.specs.Messages.{Sent}
 use Rattle.ptl_types.specs.declared.calls.Outcome.TheVariants.{Dropped}
 use Rattle.ptl_types.specs.declared.headers.Lane.TheVariants.{Answer, Request}
-use Rattle.ni_model.specs.Counts.{one_more}
+use Rattle.ptl_types.specs.Handles.{one_more}
 use Rattle.ni_model.specs.State.{State, delivers, target}
 use Rattle.op_laws.specs.Combining.{CombineStarts}
 use Rattle.plan_core.specs.Plan.{Plan}

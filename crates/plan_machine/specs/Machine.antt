@@ -1,6 +1,7 @@
 -- The machine of a plan: the same steps without messages, handles or match bits.
 use Rattle.std.specs.Prelude.{ℕ, suc, Bool, true, false, ◌≡◌, ◌<◌, ◌≤◌, ◌-◌, List, [], ◌∷◌, ◌++◌, if◌then◌else◌, length, map}
-use Rattle.ni_model.specs.Counts.{one_more, bump, failures, successes}
+use Rattle.ni_model.specs.Counts.{bump, failures, successes}
+use Rattle.ptl_types.specs.Handles.{one_more}
 use Rattle.plan_core.specs.Members.{Distinct, In}
 use Rattle.plan_core.specs.Plan.{in_links, Plan, cell, is_bump, link}
 use Rattle.plan_core.specs.Values.{Inputs, carried_of, initial}

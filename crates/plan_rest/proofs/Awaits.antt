@@ -6,8 +6,7 @@ use Rattle.plan_calls.specs.Works.Work.{Along, Tell}
 use Rattle.plan_machine.specs.Machine.{Move, note, seen}
 use Rattle.plan_machine.specs.Machine.Move.{Began, Did, Heard, Strayed, Took}
 use Rattle.plan_core.proofs.Lists.{count-cons}
-use Rattle.ptl_types.specs.Handles.{top}
-use Rattle.ni_model.specs.Counts.{one_more}
+use Rattle.ptl_types.specs.Handles.{top, one_more}
 use Rattle.plan_cuts.proofs.Told.{heard}
 
 -- the descriptor awaits at least what was sent and isn't answered

@@ -9,7 +9,7 @@ ghost use Rattle.ptl_types.specs.declared.headers.Lane.TheVariants.{Answer};
 ghost use Rattle.ptl_types.specs.Messages.{Sent};
 ghost use Rattle.ptl_types.specs.declared.calls.Outcome.TheVariants.{Dropped};
 ghost use Rattle.ni_model.specs.Conditions.{IsKept};
-ghost use Rattle.ni_model.specs.Counts.{one_more};
+ghost use Rattle.ptl_types.specs.Handles.{one_more};
 ghost use Rattle.ni_model.specs.State.{delivers, target};
 ghost use Rattle.plan_core.specs.Members.{In};
 ghost use Rattle.plan_core.specs.Plan.{Plan, cell, link};

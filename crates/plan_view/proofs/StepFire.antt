@@ -5,7 +5,7 @@ use Rattle.ptl_types.specs.declared.handles.Count.{Count}
 use Rattle.ptl_types.specs.declared.handles.Handle.{Handle}
 use Rattle.ptl_types.specs.Messages.{Sent, message}
 use Rattle.ptl_types.specs.declared.elements.AtomicOp.{AtomicOp}
-use Rattle.ptl_types.specs.Handles.{same_handle, top}
+use Rattle.ptl_types.specs.Handles.{same_handle, top, one_more}
 use Rattle.ptl_types.specs.Kinds.{is_no_ack}
 use Rattle.ptl_types.specs.declared.headers.AckRequest.TheVariants.{CtAck, NoAck}
 use Rattle.ptl_types.specs.declared.calls.Deed.TheVariants.{Inc as IncDeed}
@@ -14,7 +14,7 @@ use Rattle.ptl_types.specs.Elements.{part}
 use Rattle.ni_model.specs.State.{Posted, State}
 use Rattle.ni_model.specs.Tables.{Live, change, lookup, Table}
 use Rattle.ni_model.specs.declared.Bound.{Bound}
-use Rattle.ni_model.specs.Counts.{bump, successes, one_more, counted}
+use Rattle.ni_model.specs.Counts.{bump, successes, counted}
 use Rattle.ni_model.specs.Queues.{raised}
 use Rattle.ni_model.specs.Starts.{started, put_header, send_counter, send_queue, one_awaited, awaits_more, bytes_at}
 use Rattle.ni_model.specs.Ready.{Fires, fires, fired, fired_op, is_ready, is_ready_op, is_reached, is_number, posted_at, without_number, done}
@@ -98,7 +98,7 @@ left_pending p s r fired w h (v ∷ vs) sub = at (was_fired fired v) (is_same_wo
 
 -- ---- a firing, one lemma for each kind of operation
 
-fired_pair : (a b : State) (m n : Option Sent) → a ≡ b → m ≡ n → fires a m ≡ fires b n
+pub fired_pair : (a b : State) (m n : Option Sent) → a ≡ b → m ≡ n → fires a m ≡ fires b n
 fired_pair a b m n e f = ap₂ fires e f
 
 count_same_head : {X : Type 0} (t : X → Bool) (x : X) (xs : List X) → t x ≡ false → count_by t (x ∷ xs) ≡ count_by t xs
