@@ -3,7 +3,8 @@
 ghost use Rattle.std.specs.Prelude.{◌≡◌, true, ◌+◌, ◌≤◌, ◌<◌, [], ◌∷◌, ◌++◌, List, length, IfOk, IfErr, OnOk, IfSome, IfNone, IsTrue, IsFalse, false};
 ghost use Rattle.ptl_types.specs.Messages.{Sent};
 ghost use Rattle.crossbeam_queue.specs.Passes.{view, IsPassOf};
-ghost use Rattle.pair_wires.specs.Wires.{IsOutOf, IsInOf, Opens, raised, one_if};
+ghost use Rattle.ptl_types.specs.Handles.{one_more};
+ghost use Rattle.pair_wires.specs.Wires.{IsOutOf, IsInOf, Opens, one_if};
 ghost use Rattle.pair_wires.specs.Bounds.{KeepsBounds};
 ghost use Rattle.pair_wires.specs.Rules.{Drains};
 ghost use Rattle.pair_wires.specs.Lanes.{plain};
@@ -43,7 +44,7 @@ impl Model for Wire {
 }
 
 fn risen(count: u64) -> u64
-    ensures { result ≡ raised count }
+    ensures { result ≡ one_more count }
 {
     count.saturating_add(1)
 }
@@ -120,7 +121,7 @@ impl Wire {
         ensures wire { IsOutOf self.now end.new }
         ensures free { end.new.waits ≡ false }
         ensures pushed { OnOk result ((end.new.sent ≡ end.old.sent ++ message ∷ []) × (end.new.refused ≡ end.old.refused)) }
-        ensures full { IfErr result (λ m. (m ≡ message) × (end.new.sent ≡ end.old.sent) × (end.new.refused ≡ raised end.old.refused)) }
+        ensures full { IfErr result (λ m. (m ≡ message) × (end.new.sent ≡ end.old.sent) × (end.new.refused ≡ one_more end.old.refused)) }
         ensures only_when_full { IfErr result (λ _. self.now.capacity ≤ length end.old.sent) }
     {
         match self.line.push_as::<PushStep, R>(rt, &mut end.pass, message) {
@@ -147,7 +148,7 @@ impl Wire {
         ensures wire { IsOutOf self.now end.new }
         ensures sent { end.new.sent ≡ end.old.sent ++ message ∷ [] }
         ensures pushed { end.new.waits ≡ false → end.new.refused ≡ end.old.refused }
-        ensures full { end.new.waits ≡ true → (end.new.refused ≡ raised end.old.refused) × (self.now.capacity ≤ length end.old.sent) }
+        ensures full { end.new.waits ≡ true → (end.new.refused ≡ one_more end.old.refused) × (self.now.capacity ≤ length end.old.sent) }
     {
         if let Err(back) = self.push(rt, end, message) {
             end.waiting = Some(back);
@@ -164,7 +165,7 @@ impl Wire {
         ensures sent { end.new.sent ≡ end.old.sent }
         ensures flushed { IsTrue result → (end.new.waits ≡ false) × (end.new.refused ≡ end.old.refused) }
         ensures waits { IsFalse result → (end.old.waits ≡ true) × (end.new.waits ≡ true) }
-        ensures full { IsFalse result → (end.new.refused ≡ raised end.old.refused) × (self.now.capacity < length end.old.sent) }
+        ensures full { IsFalse result → (end.new.refused ≡ one_more end.old.refused) × (self.now.capacity < length end.old.sent) }
     {
         let Some(message) = end.waiting.take() else {
             return true;
@@ -187,7 +188,7 @@ impl Wire {
         ensures wire { IsInOf self.now end.new }
         ensures popped { IfSome result (λ m. (end.new.received ≡ end.old.received ++ m ∷ []) × (end.new.empty ≡ end.old.empty)) }
         ensures bounds { IfSome result (λ _. KeepsBounds self.now.bounds end.new.received) }
-        ensures empty { IfNone result ((end.new.received ≡ end.old.received) × (end.new.empty ≡ raised end.old.empty)) }
+        ensures empty { IfNone result ((end.new.received ≡ end.old.received) × (end.new.empty ≡ one_more end.old.empty)) }
     {
         match self.line.pop_as::<PopStep, R>(rt, &mut end.pass) {
             Some(message) => {

@@ -1,9 +1,5 @@
--- Counts that rise by one at a time and stop at the end of a `u64`.
-use Rattle.std.specs.Prelude.{ℕ, ◌≡◌, ◌+◌, ◌-◌, ◌^◌, ◌<◌, ◌⊎◌, min}
-
--- one more, or the end of the type
-abbrev pub raised : ℕ → ℕ
-raised count = min (count + 1) (2 ^ 64 - 1)
+-- Counts that rise, and stop at the end of a `u64`.
+use Rattle.std.specs.Prelude.{ℕ, ◌≡◌, ◌-◌, ◌^◌, ◌<◌, ◌⊎◌}
 
 -- It rose: it is greater, or it stands at the end of its type, where nobody can tell.
 abbrev pub Rose : ℕ → ℕ → Type 0

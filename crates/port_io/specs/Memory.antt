@@ -3,7 +3,7 @@ use Rattle.std.specs.Prelude.{ℕ, ◌+◌, ◌-◌, ◌^◌, List, ◌++◌, le
 use Rattle.std.specs.Prelude.{if◌then◌else◌, min, option_and_then}
 use Rattle.port_io.specs.declared.turns.IoTurn.{IoTurn}
 use Rattle.port_io.specs.declared.ends.Failed.{Failed}
-use Rattle.port_io.specs.Counts.{raised}
+use Rattle.ptl_types.specs.Handles.{one_more}
 use Rattle.port_io.specs.Ends.{Inflow, Outflow}
 use Rattle.port_io.specs.Turns.{passing}
 
@@ -18,7 +18,7 @@ inflow_of feed = record { left = Some feed.left; faults = feed.faults }
 
 -- a read that may take so many bytes, or fails
 abbrev pub feed_after : Feed → Option ℕ → Feed
-feed_after feed None = record feed { turns = drop 1 feed.turns; faults = raised feed.faults }
+feed_after feed None = record feed { turns = drop 1 feed.turns; faults = one_more feed.faults }
 feed_after feed (Some n) = record feed { left = drop n feed.left; turns = drop 1 feed.turns }
 
 abbrev pub count_or_failed : Option ℕ → Result ℕ Failed
@@ -41,13 +41,13 @@ abbrev pub accepted : Tray → ℕ → Option ℕ
 accepted tray bytes = option_and_then (λ n. if nat_le (length tray.taken + n) tray.room then Some n else None) (passing tray.turns bytes)
 
 abbrev pub tray_after : Tray → List ℕ → Option ℕ → Tray
-tray_after tray piece None = record tray { turns = drop 1 tray.turns; faults = raised tray.faults }
+tray_after tray piece None = record tray { turns = drop 1 tray.turns; faults = one_more tray.faults }
 tray_after tray piece (Some n) = record tray { taken = tray.taken ++ take n piece; turns = drop 1 tray.turns }
 
 -- a finish, which fails where its turn says so
 abbrev pub finished_tray : Tray → Option ℕ → Tray
-finished_tray tray None = record tray { turns = drop 1 tray.turns; faults = raised tray.faults }
-finished_tray tray (Some n) = record tray { turns = drop 1 tray.turns; finishes = raised tray.finishes }
+finished_tray tray None = record tray { turns = drop 1 tray.turns; faults = one_more tray.faults }
+finished_tray tray (Some n) = record tray { turns = drop 1 tray.turns; finishes = one_more tray.finishes }
 
 -- a sink that keeps its first `room` bytes: what it kept, how many more it took, and its finishes
 pub record Jar : Type 0 where

@@ -1,7 +1,8 @@
 //! The two traits.
 
 ghost use Rattle.std.specs.Prelude.{◌≡◌, ℕ, ◌<◌, ◌≤◌, [], length, take, IfOk, OnOk, OnErr};
-ghost use Rattle.port_io.specs.Counts.{raised, Rose};
+ghost use Rattle.ptl_types.specs.Handles.{one_more};
+ghost use Rattle.port_io.specs.Counts.{Rose};
 ghost use Rattle.port_io.specs.Ends.{Inflow, Outflow, GivesFront, IsAtEnd, Appends};
 
 use std::fmt;
@@ -63,7 +64,7 @@ pub trait Sink {
     /// count of faults rose.
     fn finish(&mut self) -> Result<(), Failed>
         ensures nothing { Appends (outflow self.old).taken (outflow self.new).taken [] }
-        ensures finished { OnOk result ((outflow self.new).finishes ≡ raised (outflow self.old).finishes) }
+        ensures finished { OnOk result ((outflow self.new).finishes ≡ one_more (outflow self.old).finishes) }
         ensures unfinished { OnErr result ((outflow self.new).finishes ≡ (outflow self.old).finishes) }
         ensures failed { OnErr result (Rose (outflow self.old).faults (outflow self.new).faults) }
         ensures faults { (outflow self.old).faults ≤ (outflow self.new).faults };

@@ -1,7 +1,8 @@
 //! A sink in memory that takes and fails by a script.
 
 ghost use Rattle.std.specs.Prelude.{◌≡◌, ◌<◌, ◌≤◌, ◌↔◌, IfOk, OnOk, OnErr, IsErr, [], length};
-ghost use Rattle.port_io.specs.Counts.{raised, Rose};
+ghost use Rattle.ptl_types.specs.Handles.{one_more};
+ghost use Rattle.port_io.specs.Counts.{Rose};
 ghost use Rattle.port_io.specs.Turns.{passing};
 ghost use Rattle.port_io.specs.Memory.{count_or_failed, accepted, tray_after, finished_tray};
 
@@ -111,7 +112,7 @@ impl Sink for MemorySink {
     fn finish(&mut self) -> Result<(), Failed>
         ensures exact { IsErr result ↔ (passing self.old.turns 1 ≡ None) }
         ensures after { self.new ≡ finished_tray self.old (passing self.old.turns 1) }
-        ensures finished { OnOk result (self.new.finishes ≡ raised self.old.finishes) }
+        ensures finished { OnOk result (self.new.finishes ≡ one_more self.old.finishes) }
         ensures unfinished { OnErr result (self.new.finishes ≡ self.old.finishes) }
         ensures failed { OnErr result (Rose self.old.faults self.new.faults) }
         ensures faults { self.old.faults ≤ self.new.faults }

@@ -1,7 +1,7 @@
 //! A source and a sink in memory that never fail.
 
 ghost use Rattle.std.specs.Prelude.{◌≡◌, ◌+◌, ◌<◌, ◌≤◌, IfOk, OnOk, IsOk, [], length, take, drop, min, ◌++◌};
-ghost use Rattle.port_io.specs.Counts.{raised};
+ghost use Rattle.ptl_types.specs.Handles.{one_more};
 ghost use Rattle.port_io.specs.Ends.{Appends};
 ghost use Rattle.port_io.specs.Memory.{jar_after, told};
 
@@ -134,7 +134,7 @@ impl Sink for SureSink {
 
     fn finish(&mut self) -> Result<(), Failed>
         ensures exact { IsOk result }
-        ensures after { self.new ≡ record self.old { finishes = raised self.old.finishes } }
+        ensures after { self.new ≡ record self.old { finishes = one_more self.old.finishes } }
     {
         self.finishes = self.finishes.saturating_add(1);
         Ok(())

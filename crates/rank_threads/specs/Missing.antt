@@ -8,7 +8,7 @@ use Rattle.ptl_types.specs.Messages.{Sent}
 use Rattle.plan_cuts.specs.History.Local.{Receive}
 use Rattle.ni_model.specs.Answers.{is_awaited}
 use Rattle.ni_model.specs.Ready.{is_ready, target_at}
-use Rattle.pair_wires.specs.Wires.{raised}
+use Rattle.ptl_types.specs.Handles.{one_more}
 use Rattle.rank_node.specs.Copies.{has_start}
 use Rattle.rank_node.specs.Gates.{goes_out}
 use Rattle.rank_node.specs.Node.{NodeState}
@@ -35,7 +35,7 @@ AreShut n = (t : ℕ) → is_ready n.nic t ≡ true → goes_out n.closed (targe
 -- the lane's queue was found empty; or no answer is awaited, and it is a lane of answers; or its message's answer would have to wait
 abbrev pub Why : NodeState → List OutPort → InPort → InPort → Type 0
 Why n outs old new =
-    (new.end.empty ≡ raised old.end.empty)
+    (new.end.empty ≡ one_more old.end.empty)
     ⊎ (((old.lane ≡ Answer) × (is_awaited n.nic.mds.live ≡ false)) ⊎ ((old.lane ≡ Request) × IsShut old.source Answer outs))
 
 -- ---- the in end of a place

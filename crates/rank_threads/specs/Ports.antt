@@ -7,7 +7,8 @@ use Rattle.ptl_types.specs.declared.headers.Lane.{Lane}
 use Rattle.ptl_types.specs.declared.headers.Lane.TheVariants.{Request, Answer}
 use Rattle.ptl_types.specs.Messages.{Sent}
 use Rattle.pair_wires.specs.Bounds.{KeepsBounds}
-use Rattle.pair_wires.specs.Wires.{WireState, raised}
+use Rattle.ptl_types.specs.Handles.{one_more}
+use Rattle.pair_wires.specs.Wires.{WireState}
 use Rattle.plan_cuts.specs.History.{Local, and_then, got, is_for}
 use Rattle.rank_node.specs.Node.{NodeState}
 use Rattle.rank_threads.specs.declared.ports.OutPort.{OutPort}
@@ -34,7 +35,7 @@ pub record SameIn (old new : InPort) : Type 0 where
 pub record Flushed (old new : OutPort) : Type 0 where
   pub same : SameOut old new
   pub sent : new.end.sent ≡ old.end.sent
-  pub full : new.end.waits ≡ true → new.end.refused ≡ raised old.end.refused
+  pub full : new.end.waits ≡ true → new.end.refused ≡ one_more old.end.refused
 
 -- the message, if there is one, was sent by the end of its lane; no other end changed
 pub record Posted (made : Option Sent) (old new : OutPort) : Type 0 where

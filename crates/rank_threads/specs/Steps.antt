@@ -8,7 +8,7 @@ use Rattle.ptl_types.specs.declared.steps.LocalStep.{LocalStep}
 use Rattle.ptl_types.specs.Messages.{Sent}
 use Rattle.ni_model.specs.Answers.{is_awaited}
 use Rattle.ni_model.specs.Ready.{is_ready, target_at}
-use Rattle.pair_wires.specs.Wires.{raised}
+use Rattle.ptl_types.specs.Handles.{one_more}
 use Rattle.plan_calls.specs.Lanes.{is_used_lane}
 use Rattle.plan_view.specs.Slots.{Slots}
 use Rattle.plan_cuts.specs.History.{Local}
@@ -43,7 +43,7 @@ pub record IsFull (d : ℕ) (lane : Lane) (old new : Note) : Type 0 where
   pub target : after.target ≡ d
   pub lane_is : after.lane ≡ lane
   pub waits : after.waits ≡ true
-  pub rose : after.refused ≡ raised before.refused
+  pub rose : after.refused ≡ one_more before.refused
 
 -- the queue of the lane from rank s was found empty
 pub record IsEmpty (s : ℕ) (lane : Lane) (old new : Note) : Type 0 where
@@ -54,7 +54,7 @@ pub record IsEmpty (s : ℕ) (lane : Lane) (old new : Note) : Type 0 where
   pub is : get_elem? new.ins at ≡ some after
   pub source : after.source ≡ s
   pub lane_is : after.lane ≡ lane
-  pub rose : after.empty ≡ raised before.empty
+  pub rose : after.empty ≡ one_more before.empty
 
 -- each operation that was ready sends a message, and the queue of its lane was found full
 abbrev pub NoneFires : Note → Note → Type 0

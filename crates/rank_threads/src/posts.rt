@@ -4,7 +4,7 @@ ghost use Rattle.std.specs.Prelude.{◌≡◌, ◌<◌, ◌++◌, ◌∷◌, [],
 ghost use mathlib.Core.Option.{some};
 ghost use lib.ListN.{get_elem?};
 ghost use Rattle.pair_wires.specs.Bounds.{KeepsBounds};
-ghost use Rattle.pair_wires.specs.Wires.{raised};
+ghost use Rattle.ptl_types.specs.Handles.{one_more};
 ghost use Rattle.rank_threads.specs.declared.ports.OutPort.{OutPort};
 ghost use Rattle.rank_threads.specs.declared.ports.InPort.{InPort};
 ghost use Rattle.rank_threads.specs.Lists.{Each, Pairwise};
@@ -100,7 +100,7 @@ pub(crate) fn pop_at<R: Wait>(rt: &R, wires: &[Wire], port: &mut InPort) -> Opti
     requires { Fits wires.now (in_joint port.old) }
     ensures same { SameIn port.old port.new }
     ensures some { IfSome result (λ m. (port.new.end.received ≡ port.old.end.received ++ m ∷ []) × KeepsBounds port.old.end.bounds port.new.end.received) }
-    ensures none { IfNone result ((port.new.end.received ≡ port.old.end.received) × (port.new.end.empty ≡ raised port.old.end.empty)) }
+    ensures none { IfNone result ((port.new.end.received ≡ port.old.end.received) × (port.new.end.empty ≡ one_more port.old.end.empty)) }
 {
     wires[port.wire as usize].pop(rt, &mut port.end)
 }

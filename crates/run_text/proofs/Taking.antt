@@ -2,7 +2,8 @@
 use Rattle.std.proofs.Common.{ℕ, ◌≡◌, ◌≤◌, ◌<◌, List, [], ◌++◌, Option, Some, None, Result, Ok, Err, refl, sym, ◌∙◌, ap, subst, append_assoc, take, drop, arith, inl, inr}
 use Rattle.std.proofs.lemmas.List.{append-nil, take-append-drop}
 use Rattle.port_io.specs.declared.ends.Failed.{Failed}
-use Rattle.port_io.specs.Counts.{raised, Rose}
+use Rattle.ptl_types.specs.Handles.{one_more}
+use Rattle.port_io.specs.Counts.{Rose}
 use Rattle.port_io.specs.Ends.{Outflow, Appends}
 use Rattle.std.specs.Result.{IsErr}
 use Rattle.std.specs.List.{flat_map}
@@ -134,7 +135,7 @@ pub EndsWith-then : (a b c : Outflow) (text rest : List ℕ) (r : Result (Unit {
 EndsWith-then a b c text rest (Ok done) first ends = record {
   appended = subst (λ xs. Appends a.taken c.taken xs) (sym first.whole) (Appends-then a.taken b.taken c.taken first.out rest first.appended ends.appended);
   faults = let before = first.faults in let after = ends.faults in omega arith;
-  finishes = ends.finishes ∙ ap (λ n. raised n) first.finishes;
+  finishes = ends.finishes ∙ ap (λ n. one_more n) first.finishes;
 }
 EndsWith-then a b c text rest (Err failed) first fails = Fails-then a b c text rest first fails
 

@@ -1,7 +1,8 @@
 -- What becomes of a text that is handed to a sink in pieces.
 use Rattle.std.specs.Prelude.{ℕ, ◌≡◌, ◌≤◌, List, ◌++◌, Result, Ok, Err}
 use Rattle.port_io.specs.declared.ends.Failed.{Failed}
-use Rattle.port_io.specs.Counts.{raised, Rose}
+use Rattle.ptl_types.specs.Handles.{one_more}
+use Rattle.port_io.specs.Counts.{Rose}
 use Rattle.port_io.specs.Ends.{Outflow, Appends}
 
 -- Of the text the sink took all but the rest. It wasn't finished.
@@ -27,7 +28,7 @@ Puts old new before held list (Err failed) = FailsWithin old new (before ++ list
 pub record Ends (old new : Outflow) (text : List ℕ) : Type 0 where
   pub appended : Appends old.taken new.taken text
   pub faults : old.faults ≤ new.faults
-  pub finishes : new.finishes ≡ raised old.finishes
+  pub finishes : new.finishes ≡ one_more old.finishes
 
 -- The text is to end: it is whole and finished, or the sink fails.
 abbrev pub EndsWith : Outflow → Outflow → List ℕ → Result (Unit {0}) Failed → Type 0
