@@ -259,22 +259,12 @@ fn make_call(nic: &mut Nic, kept: &mut Kept, cells: &[u32], call: &Call) -> Resu
     ensures { OnOk result (AreMade cells.now (call.now ∷ []) nic.old nic.new kept.old kept.new) }
 {
     match *call {
-        Call::PtAlloc => {
-            alloc_index(nic)?;
-            Ok(())
-        }
-        Call::CtDone => {
-            make_counter(nic, kept)?;
-            Ok(())
-        }
-        Call::CtCell { .. } => {
-            make_counter(nic, kept)?;
-            Ok(())
-        }
+        Call::PtAlloc => alloc_index(nic),
+        Call::CtDone => make_counter(nic, kept),
+        Call::CtCell { .. } => make_counter(nic, kept),
         Call::MdBind { length, remote } => {
             let md = region_descriptor(kept.counter(0), length, remote);
-            make_descriptor(nic, kept, md)?;
-            Ok(())
+            make_descriptor(nic, kept, md)
         }
         Call::Overflow {
             start,
@@ -283,8 +273,7 @@ fn make_call(nic: &mut Nic, kept: &mut Kept, cells: &[u32], call: &Call) -> Resu
             ignore_bits,
         } => {
             let entry = entry_of_area(start, length, match_bits, ignore_bits);
-            make_entry(nic, kept, List::Overflow, entry)?;
-            Ok(())
+            make_entry(nic, kept, List::Overflow, entry)
         }
         Call::MeAppend {
             cell,
@@ -295,8 +284,7 @@ fn make_call(nic: &mut Nic, kept: &mut Kept, cells: &[u32], call: &Call) -> Resu
         } => {
             let ct = counter_of(kept, cells, cell);
             let entry = entry_of_cell(ct, start, length, match_bits, ignore_bits);
-            make_entry(nic, kept, List::Priority, entry)?;
-            Ok(())
+            make_entry(nic, kept, List::Priority, entry)
         }
         Call::Trigger {
             cell,
@@ -305,8 +293,7 @@ fn make_call(nic: &mut Nic, kept: &mut Kept, cells: &[u32], call: &Call) -> Resu
         } => {
             let ct = counter_of(kept, cells, cell);
             let deed = deed_of(kept, cells, &act);
-            post(nic, deed, ct, threshold)?;
-            Ok(())
+            post(nic, deed, ct, threshold)
         }
     }
 }
