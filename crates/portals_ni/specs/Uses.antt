@@ -1,5 +1,5 @@
 -- What pending operations name, counted by slot.
-use Rattle.std.specs.Prelude.{ℕ, ◌+◌, Option, Some, None, List, sum_by}
+use Rattle.std.specs.Prelude.{ℕ, ◌+◌, ◌<◌, Option, Some, None, IfSome, List, length, All, sum_by}
 use Rattle.ptl_types.specs.declared.handles.Handle.{Handle}
 use Rattle.ptl_types.specs.declared.calls.Deed.{Deed}
 use Rattle.ptl_types.specs.declared.calls.Deed.TheVariants.{Put, Get, Atomic, FetchAtomic, Swap}
@@ -31,10 +31,22 @@ ct_uses k p = one_if_slot p.ct.slot k + one_at (deed_counter p.deed.deed) k
 abbrev pub md_uses : ℕ → Operation Armed → ℕ
 md_uses k p = one_at (get_md p.deed.deed) k + one_at (put_md p.deed.deed) k
 
--- the rows count these
+-- the counting events that an operation names have slots below c, and its descriptors below m
+pub record NamesBelow (c m : ℕ) (ct : Handle) (d : Deed) : Type 0 where
+  pub waits : ct.slot < c
+  pub counts : IfSome (deed_counter d) (λ h. h.slot < c)
+  pub gets : IfSome (get_md d) (λ h. h.slot < m)
+  pub puts : IfSome (put_md d) (λ h. h.slot < m)
+
+-- the rows have these slots
+abbrev pub HasSlots : List ℕ → List ℕ → Operation Armed → Type 0
+HasSlots cts mds p = NamesBelow (length cts) (length mds) p.ct p.deed.deed
+
+-- the rows count what the operations name, all of it
 pub record AreUsed (ops : Operations Armed) (cts mds : List ℕ) : Type 0 where
   pub counters : Counts (λ k. sum_by (ct_uses k) ops.waiting) cts
   pub descriptors : Counts (λ k. sum_by (md_uses k) ops.waiting) mds
+  pub slots : All (HasSlots cts mds) ops.waiting
 
 -- ---- the rows, as an operation comes and goes
 
