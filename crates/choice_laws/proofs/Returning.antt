@@ -9,7 +9,7 @@ use Rattle.ni_model.specs.State.{Delivers, delivers, target}
 use Rattle.plan_cuts.specs.History.{and_then, is_for}
 use Rattle.plan_cuts.specs.History.Local.{Receive}
 use Rattle.plan_cuts.specs.Moment.{IsLocalStep, Lanes}
-use Rattle.plan_rest.proofs.Longer.{got_one}
+use Rattle.plan_rest.proofs.Longer.{got_one, got_other}
 use Rattle.plan_core.specs.Members.{In}
 use Rattle.coll_lang.specs.declared.choices.ChoiceKind.{ChoiceKind}
 use Rattle.choice_machine.specs.Choices.{choice_at}
@@ -26,7 +26,7 @@ use Rattle.choice_view.proofs.StepReturn.{step_return}
 use Rattle.plan_cuts.specs.System.{Histories, System, state_at}
 use Rattle.choice_laws.specs.Decided.{choice_system}
 use Rattle.choice_laws.proofs.Agreement.{Agrees, left_here, left_there, lengths_next, starts_stay, state_here, state_there, taken_here, taken_there, untaken}
-use Rattle.choice_laws.proofs.Serving.{first_of, got_lane, got_none}
+use Rattle.choice_laws.proofs.Serving.{first_of, got_lane}
 
 module _ (ranks : ℕ) (ks : List ChoiceKind) (slots : ℕ → Slots) (w : Histories) (held : Lanes) (now : Agrees ranks ks slots w held)
     (next : Histories) (later : Lanes) (step : IsLocalStep (choice_system ranks ks slots) w held next later) where
@@ -108,7 +108,7 @@ module _ (ranks : ℕ) (ks : List ChoiceKind) (slots : ℕ → Slots) (w : Histo
       no_request = λ q d n. return_requests q d ∙ now.no_request q d n;
       no_answer = λ q d n. return_left q d AnswerLane
           ∙ untaken here w held next later step (Receive 0 AnswerLane msg) is q d AnswerLane
-          (got_none 0 q AnswerLane AnswerLane msg (λ e. n (sym e))) ∙ now.no_answer q d n;
+          (got_other 0 q AnswerLane AnswerLane msg (λ e. n (sym e))) ∙ now.no_answer q d n;
     }
 
   -- any answer that comes

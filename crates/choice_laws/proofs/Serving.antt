@@ -10,7 +10,7 @@ use Rattle.ni_model.specs.State.{Delivers, delivers, target}
 use Rattle.plan_cuts.specs.History.{and_then, got, is_for, same_lane}
 use Rattle.plan_cuts.specs.History.Local.{Receive}
 use Rattle.plan_cuts.specs.Moment.{IsLocalStep, Lanes}
-use Rattle.plan_rest.proofs.Longer.{got_one}
+use Rattle.plan_rest.proofs.Longer.{got_one, got_other}
 use Rattle.plan_core.specs.Members.{In}
 use Rattle.coll_lang.specs.declared.choices.ChoiceKind.{ChoiceKind}
 use Rattle.choice_machine.specs.Choices.{choice_at}
@@ -40,9 +40,6 @@ pub record IsFirst {X Y : Type 0} (f : X → Y) (xs : List X) (y : Y) (ys : List
 pub first_of : {X Y : Type 0} (f : X → Y) (xs : List X) (y : Y) (ys : List Y) → map f xs ≡ y ∷ ys → IsFirst f xs y ys
 first_of f [] y ys e = cc
 first_of f (x ∷ xs) y ys e = record { x = x; later = xs; whole = refl; is = cc; rest = cc }
-
-pub got_none : (s t : ℕ) (l lane : Lane) (m : Sent) → (s ≡ t → ⊥) → got (Receive s l m ∷ []) t lane ≡ []
-got_none s t l lane m n = ap (λ a. cond (a && same_lane l lane) (m ∷ []) []) (ne_eqb s t n)
 
 pub got_lane : (s t : ℕ) (l lane : Lane) (m : Sent) → same_lane l lane ≡ false → got (Receive s l m ∷ []) t lane ≡ []
 got_lane s t l lane m e = ap (λ b. cond b (m ∷ []) []) (ap (λ v. (s == t) && v) e ∙ both_false (s == t))
@@ -122,7 +119,7 @@ module _ (ranks : ℕ) (ks : List ChoiceKind) (slots : ℕ → Slots) (in_range 
       | inr m ↦ taken_there here w held next later step q d lane (λ e. m (e ∙ at_zero))
       | inl i ↦ elim (cases_eq s q) [
         | inl j ↦ untaken here w held next later step (Receive s Request msg) is q d lane (got_lane s q Request lane msg (other i (sym j)))
-        | inr m ↦ untaken here w held next later step (Receive s Request msg) is q d lane (got_none s q Request lane msg m)
+        | inr m ↦ untaken here w held next later step (Receive s Request msg) is q d lane (got_other s q Request lane msg m)
       ]
     ]
 

@@ -1,5 +1,5 @@
 -- Histories in two parts, and what can follow where no operation is pending.
-use Rattle.std.proofs.Common.{ℕ, Bool, true, false, cond, not, ◌&&◌, ◌||◌, ◌≡◌, ◌<◌, ◌==◌, List, [], ◌∷◌, ◌++◌, refl, length, ap, ap₂, ◌∙◌, subst, inl, inr, filter, find, Option, Some, None, arith, count_by, length-append}
+use Rattle.std.proofs.Common.{ℕ, Bool, true, false, cond, not, ◌&&◌, ◌||◌, ◌≡◌, ◌<◌, ◌==◌, List, [], ◌∷◌, ◌++◌, refl, length, ap, ap₂, ◌∙◌, subst, inl, inr, find, Option, Some, None, arith, count_by, length-append}
 use Rattle.std.proofs.lemmas.Bool.{not_from_false}
 use Rattle.std.proofs.lemmas.List.{nil_from_length}
 use Rattle.ptl_types.specs.Messages.{Sent}
@@ -13,6 +13,7 @@ use Rattle.plan_cuts.specs.History.{Beginning, Legal, Local, after, and_then, go
 use Rattle.plan_cuts.specs.History.Local.{Fire, Receive, Start}
 use Rattle.plan_cuts.specs.Cut.{is_stray, owned}
 use Rattle.plan_core.proofs.Lists.{count-cons}
+use Rattle.plan_core.proofs.Growth.{filter-none}
 use Rattle.plan_cuts.proofs.Origin.{answer_kind, got_first, target_answers, target_stays}
 
 -- ---- histories in two parts
@@ -88,10 +89,6 @@ made-answers go v (Receive s lane x ∷ es) o m i = at ((target v x).delivered.a
     at None e i rest = rest i
     at (Some y) e (inr i) rest = rest i
     at (Some y) e (inl f) rest = let a = (target_answers v x y e).1 in subst (λ (u : Sent). is_answer u.header.kind ≡ true) f (answer_kind a.ok a.length a.bytes x.header y a.is)
-
-pub filter-none : {X : Type 0} (t : X → Bool) (xs : List X) → ((x : X) → In x xs → t x ≡ false) → filter t xs ≡ []
-filter-none t [] h = refl
-filter-none t (x ∷ xs) h = rw (h x (inl refl)) (filter-none t xs (λ y i. h y (inr i)))
 
 pub no-requests : (go : Beginning) (v : State) (es : List Local) (d : ℕ) → OnlyReceipts es → sent go v es d Request ≡ []
 no-requests go v es d o = filter-none (is_for d Request) (made go v es) (λ m i. at (m.header.target == d) (is_answer m.header.kind) (made-answers go v es o m i))

@@ -210,10 +210,6 @@ tells_works p r =
     all [] = refl
     all (c ∷ cs) = count-cons tells (Tell c) (map Tell cs) ∙ (let k = all cs in let q : 1 + count_by tells (map Tell cs) ≡ suc (length cs) = omega (arith, k) in q)
 
-pub filter-none : {X : Type 0} (t : X → Bool) (xs : List X) → ((x : X) → In x xs → t x ≡ false) → filter t xs ≡ []
-filter-none t [] h = refl
-filter-none t (x ∷ xs) h = rw (h x (inl refl)) (filter-none t xs (λ y i. h y (inr i)))
-
 pub length-own-le : (p : Plan) (r : ℕ) → length (own p r) ≤ length p.cells
 length-own-le p r =
     let f = length-filter (λ c. (cell p c).rank == r) (all_cells p) in

@@ -8,9 +8,9 @@ use Rattle.op_laws.proofs.Swaps.{combined-swaps}
 use Rattle.op_laws.specs.Combining.{CombineSwaps}
 use Rattle.plan_core.proofs.Links.{Distinct-from_to, In-from_to, from_to-In}
 use Rattle.plan_core.proofs.Lists.{Distinct-map, In-map_cases, each, each_same, length-map'}
+use Rattle.plan_core.proofs.Growth.{from_to-append}
 use Rattle.plan_core.specs.Members.{Distinct, In, Within}
 use Rattle.plan_core.specs.Plan.{from_to}
-use Rattle.plan_laws.proofs.Grow.{from_to-append}
 use Rattle.plan_laws.proofs.Join.{combined-assoc, combined-start}
 use Rattle.coll_shape.specs.Folding.{folded}
 use Rattle.ptl_types.specs.Elements.{combined, starting}

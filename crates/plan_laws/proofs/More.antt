@@ -11,13 +11,13 @@ use Rattle.op_laws.proofs.Bytes.{length-part, written_all}
 use Rattle.plan_core.specs.declared.Cell.{Cell}
 use Rattle.plan_core.specs.Plan.{from_to}
 use Rattle.plan_core.specs.Draw.{NewCell, cell_of}
-use Rattle.plan_steps.specs.Site.{Site, bare_entry, bump, count, entries, entry, exit_at, full_entry, further, places, put, rank_at, rows, source_at}
+use Rattle.plan_steps.specs.Site.{Site, bare_entry, bump, count, entries, entry, exit_at, full_entry, further, places, put, rank_at, rows, source_at, block_length}
 use Rattle.plan_tree.specs.Trees.{turned, up, up_cell, up_number}
 use Rattle.plan_tree.specs.Reduce.{reduce_cells}
 use Rattle.plan_tree.specs.Broadcast.{first_cell}
 use Rattle.plan_rounds.specs.Rounds.{rounds}
 use Rattle.plan_rounds.specs.Scan.{scan_cell, scan_cells, scan_number, scan_rows}
-use Rattle.plan_more.specs.Scatter.{block_length, scatter_cells, scattered}
+use Rattle.plan_more.specs.Scatter.{scatter_cells, scattered}
 use Rattle.plan_more.specs.Reducescatter.{reducescatter_cells, result_block}
 use Rattle.plan_more.specs.Exscan.{exscan_cells, shifted}
 use Rattle.plan_laws.specs.Sounding.{EachAt, SoundIncoming, SoundNewCell, new_value, put_length}

@@ -4,8 +4,8 @@ use Rattle.std.proofs.lemmas.Bool.{leb-true, leb-false}
 use Rattle.std.proofs.lemmas.List.{map-append}
 use Rattle.op_laws.proofs.Bytes.{length-repeated}
 use Rattle.plan_core.specs.Plan.{from_to}
+use Rattle.plan_core.proofs.Growth.{from_to-append}
 use Rattle.plan_laws.proofs.Folds.{folded-append, folded-join, folded-swap, length-folded}
-use Rattle.plan_laws.proofs.Grow.{from_to-append}
 use Rattle.coll_shape.specs.Folding.{folded}
 use Rattle.ptl_types.specs.Elements.{combined, starting}
 use Rattle.ptl_types.specs.Operations.{bytes_of}

@@ -1,30 +1,23 @@
 -- The nodes behind a step are the ranks of the moment behind it.
-use Rattle.std.proofs.Common.{ℕ, cond, ◌≡◌, ◌<◌, ◌==◌, ◌∙◌, List, [], ◌∷◌, ◌++◌, refl, ap, sym, subst, eq-eqb}
-use Rattle.std.proofs.lemmas.Bool.{ne_eqb}
+use Rattle.std.proofs.Common.{ℕ, ◌≡◌, ◌<◌, ◌==◌, ◌∙◌, List, [], ◌∷◌, ◌++◌, refl, ap, sym, subst}
 use Rattle.ptl_types.specs.Messages.{Sent}
 use Rattle.ptl_types.specs.declared.headers.Lane.{Lane}
 use Rattle.plan_core.specs.Plan.{Plan}
 use Rattle.plan_core.specs.Values.{Inputs}
 use Rattle.plan_view.specs.Slots.{Slots}
-use Rattle.plan_cuts.specs.History.{Local}
 use Rattle.plan_cuts.specs.History.Local.{Start as Started, Receive as Received, Fire as Fired}
 use Rattle.plan_cuts.specs.Plans.{system_of}
-use Rattle.plan_cuts.specs.System.{Histories, System}
+use Rattle.plan_cuts.specs.System.{System}
 use Rattle.plan_nodes.specs.Ranks.{IsRank, mover}
 use Rattle.plan_orders.specs.Chosen.{Scene, delivered, step_made}
-use Rattle.plan_orders.specs.Taking.{with_step}
 use Rattle.plan_orders.specs.declared.Step.{Step}
 use Rattle.plan_orders.specs.declared.Step.TheVariants.{Start, Deliver, Fire}
+use Rattle.plan_orders.proofs.Ending.{here}
+use Rattle.plan_orders.proofs.Choosing.{elsewhere}
 use Rattle.rank_node.specs.Copies.{Diary}
 use Rattle.rank_node.specs.Handles.{Agrees}
 use Rattle.rank_node.specs.Node.{IsNode, IsStarted, NodeState, fired_node, received_node}
 use Rattle.rank_node.specs.Plans.{IsCompiledFor}
-
-here : (r : ℕ) (e : Local) (w : Histories) → with_step r e w r ≡ w r ++ e ∷ []
-here r e w = ap (λ b. cond b (w r ++ e ∷ []) (w r)) (eq-eqb r r refl)
-
-elsewhere : (r : ℕ) (e : Local) (w : Histories) (q : ℕ) → (q ≡ r → ⊥) → with_step r e w q ≡ w q
-elsewhere r e w q n = ap (λ b. cond b (w q ++ e ∷ []) (w q)) (ne_eqb r q (λ h. n (sym h)))
 
 module _ (p : Plan) (inputs : Inputs) (slots : ℕ → Slots) (z : Scene) (r : ℕ) where
   pub fired-rank : (t : ℕ) (n : NodeState) → IsRank p inputs slots z r n → IsNode (fired_node t n) → IsRank p inputs slots (step_made (system_of p inputs slots) (Fire r t) z) r (fired_node t n)

@@ -35,7 +35,7 @@ In-flat_cases f (x ∷ xs) y i = elim (In-append_cases y (f x) (flat_map f xs) i
   | inr j ↦ (let q = In-flat_cases f xs y j in (q.0, inr q.1, q.2))
 ]
 
-In-flat : {X Y : Type 0} (f : X → List Y) (xs : List X) (x : X) (y : Y) → In x xs → In y (f x) → In y (flat_map f xs)
+pub In-flat : {X Y : Type 0} (f : X → List Y) (xs : List X) (x : X) (y : Y) → In x xs → In y (f x) → In y (flat_map f xs)
 In-flat f [] x y i j = absurd i
 In-flat f (z ∷ xs) x y (inl e) j = In-append_left y (f z) (flat_map f xs) (subst (λ v. In y (f v)) (sym e) j)
 In-flat f (z ∷ xs) x y (inr i) j = In-append_right y (f z) (flat_map f xs) (In-flat f xs x y i j)
@@ -61,7 +61,7 @@ none (suc n) e = absurd (both (lt-ltb 0 (suc n) (omega arith)) e)
 here : (r : ℕ) (e : Local) (w : Histories) → with_step r e w r ≡ w r ++ e ∷ []
 here r e w = ap (λ b. cond b (w r ++ e ∷ []) (w r)) (eq-eqb r r refl)
 
-elsewhere : (r : ℕ) (e : Local) (w : Histories) (q : ℕ) → (q ≡ r → ⊥) → with_step r e w q ≡ w q
+pub elsewhere : (r : ℕ) (e : Local) (w : Histories) (q : ℕ) → (q ≡ r → ⊥) → with_step r e w q ≡ w q
 elsewhere r e w q n = ap (λ b. cond b (w q ++ e ∷ []) (w q)) (ne_eqb r q (λ h. n (sym h)))
 
 either : {X : Type 0} (b : Bool) (xs : List X) → xs ≡ cond b [] [] ++ xs

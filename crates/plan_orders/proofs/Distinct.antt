@@ -7,7 +7,7 @@ use Rattle.ni_model.specs.Ready.{ready_numbers}
 use Rattle.plan_core.specs.Members.{Distinct, In}
 use Rattle.plan_core.specs.Plan.{from_to}
 use Rattle.plan_core.proofs.Links.{Distinct-from_to}
-use Rattle.plan_core.proofs.Lists.{In-append_cases, In-map_cases}
+use Rattle.plan_core.proofs.Lists.{In-append_cases, In-map_cases, Distinct-append}
 use Rattle.plan_cuts.specs.History.{is_start}
 use Rattle.plan_cuts.specs.System.{System, state_at}
 use Rattle.plan_orders.specs.declared.Step.{Step}
@@ -20,18 +20,11 @@ pub rises-distinct : (xs : List ℕ) → Rises xs → Distinct xs
 rises-distinct [] h = tt
 rises-distinct (x ∷ xs) h = ((λ i. let l = h.0 x i in absurd (omega (arith, l))), rises-distinct xs h.1)
 
-distinct-append : {X : Type 0} (xs ys : List X) → Distinct xs → Distinct ys → ((x : X) → In x xs → In x ys → ⊥) → Distinct (xs ++ ys)
-distinct-append [] ys a b apart = b
-distinct-append (x ∷ xs) ys a b apart = (
-  (λ i. elim (In-append_cases x xs ys i) [ inl j ↦ a.0 j | inr j ↦ apart x (inl refl) j ]),
-  distinct-append xs ys a.1 b (λ y i j. apart y (inr i) j),
-)
-
 -- members of different parts differ, as their marks do
 distinct-flat : {X : Type 0} (f : ℕ → List X) (mark : X → ℕ) (xs : List ℕ) → Distinct xs → ((x : ℕ) → In x xs → Distinct (f x)) → ((x : ℕ) (y : X) → In y (f x) → mark y ≡ x) → Distinct (flat_map f xs)
 distinct-flat f mark [] d each marks = tt
 distinct-flat f mark (x ∷ xs) d each marks =
-    distinct-append (f x) (flat_map f xs) (each x (inl refl)) (distinct-flat f mark xs d.1 (λ y i. each y (inr i)) marks)
+    Distinct-append (f x) (flat_map f xs) (each x (inl refl)) (distinct-flat f mark xs d.1 (λ y i. each y (inr i)) marks)
     (λ y i j. let q = In-flat_cases f xs y j in d.0 (subst (λ v. In v xs) (sym (marks q.0 y q.2) ∙ marks x y i) q.1))
 
 distinct-map : {X : Type 0} (f : ℕ → X) (mark : X → ℕ) → ((x : ℕ) → mark (f x) ≡ x) → (xs : List ℕ) → Distinct xs → Distinct (map f xs)
@@ -90,15 +83,15 @@ module _ (k : System) (z : Scene) where
   between_one : (s d : ℕ) → Distinct (deliveries_between z s d)
   unfolding kind_of
   between_one s d =
-      distinct-append (first_of s d Request (z.held s d Request)) (first_of s d Answer (z.held s d Answer)) (first_one s d Request (z.held s d Request)) (first_one s d Answer (z.held s d Answer))
+      Distinct-append (first_of s d Request (z.held s d Request)) (first_of s d Answer (z.held s d Answer)) (first_one s d Request (z.held s d Request)) (first_one s d Answer (z.held s d Answer))
       (λ x i j. let a = ap kind_of (first_is s d Request (z.held s d Request) x i ∙ sym (first_is s d Answer (z.held s d Answer) x j)) in absurd (omega (arith, a)))
 
   pub once_each : ((r : ℕ) → r < k.count → Rises (ready_numbers (state_at k z.world r))) → Distinct (enabled_steps k z)
   unfolding kind_of first_mark second_mark
   once_each rises =
-      distinct-append (flat_map (start_at z) ranks) (deliveries ++ firings)
+      Distinct-append (flat_map (start_at z) ranks) (deliveries ++ firings)
       (distinct-flat (start_at z) first_mark ranks (Distinct-from_to 0 k.count) (λ r i. start_one r) (λ r x i. sym (ap first_mark (start_is r x i))))
-      (distinct-append deliveries firings
+      (Distinct-append deliveries firings
       (distinct-flat (λ s. flat_map (deliveries_between z s) ranks) first_mark ranks (Distinct-from_to 0 k.count)
       (λ s i. distinct-flat (deliveries_between z s) second_mark ranks (Distinct-from_to 0 k.count) (λ d j. between_one s d) (λ d x i. sym (ap second_mark (between_is s d x i).1)))
       (λ s x i. let q = In-flat_cases (deliveries_between z s) ranks x i in sym (ap first_mark (between_is s q.0 x q.2).1)))

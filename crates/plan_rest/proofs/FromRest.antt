@@ -15,6 +15,7 @@ use Rattle.op_laws.specs.Combining.{CombineStarts, CombineSwaps}
 use Rattle.plan_core.proofs.Flat.{part_flat}
 use Rattle.plan_core.proofs.Links.{Distinct-out_links, In-out_links, In-own, out_links-In, own-In}
 use Rattle.plan_core.proofs.Lists.{Distinct-filter, In-filter, In-filter_cases, In-map, In-map_cases, count_same, length-Within, length-map'}
+use Rattle.plan_core.proofs.Growth.{filter-none}
 use Rattle.plan_core.specs.Members.{Distinct, In, Within}
 use Rattle.plan_core.specs.Places.{cell_length, start_in}
 use Rattle.plan_core.specs.Plan.{Plan, cell, is_bump, link, out_links, own}
@@ -23,7 +24,6 @@ use Rattle.plan_core.specs.Values.{Inputs, initial, value}
 use Rattle.plan_cuts.proofs.Conform.{stray_request}
 use Rattle.plan_cuts.proofs.Told.{answers_in, answers_in-got, count-out-le, done_min, done_seen, heard, heard_is, length-own-le, ready_from, tells_works}
 use Rattle.plan_cuts.proofs.Traffic.{In-owned, ack, all_distinct, as_message, came_from, goes_to, got-own_received, number_in, outs_are, own_received, own_received-got, owned-In, to_came}
-use Rattle.plan_cuts.proofs.Fronts.{filter-none}
 use Rattle.plan_cuts.specs.History.{got, is_for, made, state}
 use Rattle.plan_cuts.proofs.RunFacts.{Ended, has_start-of, run_ended, run_heard, run_ok, run_started, run_strays}
 use Rattle.plan_cuts.proofs.FromCut.{answer_is, came_all, moves_at, machine_cut, received_once, request_is, sender, sent_requests, simulation}

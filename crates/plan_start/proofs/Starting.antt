@@ -61,10 +61,10 @@ use Rattle.ptl_types.specs.declared.elements.ElemType.{ElemType}
 use Rattle.ptl_types.specs.declared.handles.Count.{Count}
 
 -- ---- small facts
-above : (n m : ℕ) → n < m → nat_le m n ≡ false
+pub above : (n m : ℕ) → n < m → nat_le m n ≡ false
 above n m h = false_from_ne_true _ (λ e. let l = leb-true _ _ e in absurd (omega arith))
 
-none_of : (a b : Bool) → a ≡ false → b ≡ false → not (a || b) ≡ true
+pub none_of : (a b : Bool) → a ≡ false → b ≡ false → not (a || b) ≡ true
 none_of a b e f = ap₂ (λ x y. not (x || y)) e f
 
 pub room : (limit n given : ℕ) → n < limit → given < top → not (nat_le limit n || nat_le top given) ≡ true

@@ -1,6 +1,5 @@
 -- None of the calls of a preparation is refused.
 use Rattle.std.proofs.Common.{ℕ, suc, Bool, true, false, not, ◌&&◌, ◌||◌, ◌+◌, ◌-◌, ◌*◌, ◌^◌, ◌≡◌, ◌≤◌, ◌<◌, ◌==◌, nat_le, List, [], ◌∷◌, ◌++◌, refl, length, ap, ap₂, ◌∙◌, sym, subst, inl, inr, arith, map, Option, Some, None, zero-add, if◌then◌else◌, flat_map, le-leb, is_some, sum_by, length-append, append-nil, append_assoc, ◌%◌}
-use Rattle.std.proofs.lemmas.Bool.{leb-true, false_from_ne_true}
 use Rattle.std.proofs.lemmas.List.Sums.{sum_by-cons, length-filter, count_by-le-length}
 use Rattle.ptl_types.specs.declared.elements.AtomicOp.{AtomicOp}
 use Rattle.ptl_types.specs.declared.calls.Deed.{Deed}
@@ -49,18 +48,12 @@ use Rattle.ptl_types.specs.declared.steps.Call.TheVariants.{CtCell, CtDone}
 use Rattle.plan_view.proofs.StepFire.{lookup_counter, cell_of-own}
 use Rattle.plan_view.proofs.Tables.{same_handle-refl}
 use Rattle.plan_start.proofs.Areas.{length-blank, length-links}
-use Rattle.plan_start.proofs.Starting.{flat-length, length-from_to, need4, room}
+use Rattle.plan_start.proofs.Starting.{flat-length, length-from_to, need4, room, none_of, above}
 
 abbrev nothing_beside : Annex
 nothing_beside = record { tail = []; behind = 0; before = []; unexpected = 0 }
 
 -- ---- small facts
-above : (n m : ℕ) → n < m → nat_le m n ≡ false
-above n m h = false_from_ne_true _ (λ e. let l = leb-true _ _ e in absurd (omega arith))
-
-none_of : (a b : Bool) → a ≡ false → b ≡ false → not (a || b) ≡ true
-none_of a b e f = ap₂ (λ x y. not (x || y)) e f
-
 length-placed : {X Y : Type 0} (f : ℕ → X → Y) (i : ℕ) (xs : List X) → length (placed f i xs) ≡ length xs
 length-placed f i [] = refl
 length-placed f i (x ∷ xs) = ap suc (length-placed f (suc i) xs)

@@ -34,7 +34,7 @@ use Rattle.plan_view.specs.Deeds.{send_args, send_deed}
 use Rattle.std.proofs.Common.{Option}
 use Rattle.ni_model.specs.Calls.{with_counter, with_operation}
 use Rattle.std.proofs.Math.Numerals.{add-one}
-use Rattle.plan_core.proofs.Lists.{In-append_right}
+use Rattle.plan_core.proofs.Lists.{In-append_right, length-map'}
 use Rattle.plan_core.proofs.Links.{Distinct-out_links, Distinct-own, own-In}
 
 -- f of each place, from i on, and the element there
@@ -178,10 +178,6 @@ cts_are p k r =
 all_pending : (ws : List Work) → filter (λ w. not (was_fired [] w)) ws ≡ ws
 all_pending [] = refl
 all_pending (w ∷ ws) = ap (λ v. w ∷ v) (all_pending ws)
-
-length-map' : {X Y : Type 0} (f : X → Y) (xs : List X) → length (map f xs) ≡ length xs
-length-map' f [] = refl
-length-map' f (x ∷ xs) = ap suc (length-map' f xs)
 
 pub pending_are : (p : Plan) (k : Slots) (r : ℕ) → placed (new_op p k) 0 (works p r) ≡ map (operation p k r) (filter (λ w. not (was_fired [] w)) (works p r))
 pending_are p k r =

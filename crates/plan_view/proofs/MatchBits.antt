@@ -9,10 +9,10 @@ use Rattle.ptl_types.specs.Matching.{bits_match}
 bit_at-mod : (m k i : ℕ) → i < k → bit_at (m % 2 ^ k) i ≡ bit_at m i
 bit_at-mod m k i h = sym (bit_at_cat_low (m / 2 ^ k) k (m % 2 ^ k) i h) ∙ ap (λ v. bit_at v i) (div-add-mod' m (2 ^ k))
 
-two_bits : (x y : ℕ) → x < 2 → y < 2 → (x + y) % 2 ≡ 0 → x ≡ y
+pub two_bits : (x y : ℕ) → x < 2 → y < 2 → (x + y) % 2 ≡ 0 → x ≡ y
 two_bits x y h k e = omega arith
 
-xor_zero : (a b : ℕ) → bit_xor a b ≡ 0 → a ≡ b
+pub xor_zero : (a b : ℕ) → bit_xor a b ≡ 0 → a ≡ b
 xor_zero a b e = same_from_bits a b (λ i. two_bits (bit_at a i) (bit_at b i) (bit_at-lt a i) (bit_at-lt b i) (sym (bit_at_xor a b i) ∙ ap (λ v. bit_at v i) e ∙ bit_at-zero i))
 
 -- the hi bits above the low lo

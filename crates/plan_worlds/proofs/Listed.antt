@@ -1,5 +1,5 @@
 -- Each step that a rank may make is listed, among the enabled ones and under a window.
-use Rattle.std.proofs.Common.{eqb-true, ℕ, Bool, true, ◌≡◌, ◌<◌, nat_lt, List, [], ◌∷◌, ◌++◌, Option, Some, None, refl, length, map, filter, flat_map, if◌then◌else◌, ap₂, sym, subst, inl, inr, arith, lt-ltb, zero-le}
+use Rattle.std.proofs.Common.{eqb-true, ℕ, Bool, true, ◌≡◌, ◌<◌, nat_lt, List, [], ◌∷◌, ◌++◌, Option, Some, None, refl, length, map, filter, flat_map, if◌then◌else◌, ap₂, sym, subst, inl, arith, lt-ltb, zero-le}
 use Rattle.ptl_types.specs.Messages.{Sent}
 use Rattle.ptl_types.specs.declared.headers.Lane.{Lane}
 use Rattle.ptl_types.specs.declared.headers.Lane.TheVariants.{Request, Answer}
@@ -17,15 +17,11 @@ use Rattle.plan_cuts.specs.Moment.{HasWindow, IsEnabled, IsPossible}
 use Rattle.plan_orders.specs.declared.Step.{Step}
 use Rattle.plan_orders.specs.declared.Step.TheVariants.{Start, Deliver, Fire}
 use Rattle.plan_orders.specs.Chosen.{Scene, deliveries_between, enabled_steps, firings_at, first_of, start_at}
+use Rattle.plan_orders.proofs.Choosing.{In-flat}
 use Rattle.plan_worlds.specs.Named.{named}
 use Rattle.plan_worlds.specs.Possible.{finds_room, is_possible, possible_steps}
 
 -- ---- lists
-In-flat : {X Y : Type 0} (f : X → List Y) (xs : List X) (x : X) (y : Y) → In x xs → In y (f x) → In y (flat_map f xs)
-In-flat f [] x y i j = absurd i
-In-flat f (z ∷ xs) x y (inl e) j = In-append_left y (f z) (flat_map f xs) (subst (λ v. In y (f v)) (sym e) j)
-In-flat f (z ∷ xs) x y (inr i) j = In-append_right y (f z) (flat_map f xs) (In-flat f xs x y i j)
-
 above : (n r : ℕ) → r < n → In r (from_to 0 n)
 above n r h = In-from_to 0 n r zero-le (omega arith)
 

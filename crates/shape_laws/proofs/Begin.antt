@@ -14,7 +14,7 @@ use Rattle.plan_core.specs.Members.{In}
 use Rattle.plan_core.specs.Plan.{Plan, cell, from_to, in_links, link, no_cell}
 use Rattle.plan_core.specs.Values.{Inputs, blank, initial, input_bytes, is_input, land_as, value, due}
 use Rattle.plan_core.proofs.Lists.{each, length-map'}
-use Rattle.plan_core.proofs.Links.{in_links-In}
+use Rattle.plan_core.proofs.Links.{in_links-In, In-from_to}
 use Rattle.plan_core.proofs.Values.{step, value-eq}
 use Rattle.coll_shape.specs.declared.types.Buffer.{Buffer}
 use Rattle.coll_shape.specs.Outline.{Outline, buffer_at, list_bytes}
@@ -278,9 +278,6 @@ get_or-row n r h = ap (λ xs. get_or xs r 0) (sym (same 0 n)) ∙ get_or-each (�
     same k zero = refl
     same k (suc n) = ap (λ xs. k ∷ xs) (same (suc k) n)
 
-in-from_to : (k n r : ℕ) → k ≤ r → r < k + n → In r (from_to k n)
-in-from_to k n r a b = Rattle.plan_core.proofs.Links.In-from_to k n r a b
-
 pub fine-begun : (o : Outline) (p : Plan) (h : HeldCells) (e : List ℕ) → ((b : ℕ) → b < o.inputs → (buffer_at o b).spread.holders ≡ from_to 0 o.ranks) → Begun o o.inputs p h e → Fine o o.inputs p h e
 fine-begun o p h e all be = record {
   built = be.built;
@@ -295,7 +292,7 @@ fine-begun o p h e all be = record {
   holders = λ b r k l m. record { number = o.ranks + (b * o.ranks + r); is = be.row b r k l; in_plan = (let f = be.full in let w = in_rows b r o.inputs o.ranks k l in omega (arith, f, w)); rank = row_rank b r k l; ty = be.row_ty b r k l; long = be.row_long b r k l };
   held_in = λ b r c k l z. (
     (let f = be.full in let w = in_rows b r o.inputs o.ranks k l in let y = one (sym (be.row b r k l) ∙ z) in omega (arith, f, w, y)),
-    subst (In r) (sym (all b k)) (in-from_to 0 o.ranks r (omega arith) (omega (arith, l))),
+    subst (In r) (sym (all b k)) (In-from_to 0 o.ranks r (omega arith) (omega (arith, l))),
   );
   unheld = be.none;
 }

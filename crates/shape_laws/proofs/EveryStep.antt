@@ -13,7 +13,7 @@ use Rattle.plan_core.specs.Plan.{from_to, no_cell}
 use Rattle.coll_shape.specs.declared.types.CollStep.{CollStep}
 use Rattle.coll_shape.specs.declared.types.CollStep.TheVariants.{Barrier, Broadcast, Reduce, Allreduce, Gather, Allgather, Alltoall, Scan, Scatter, Reducescatter, Exscan, Gatherv}
 use Rattle.plan_steps.specs.declared.ends.End.{End}
-use Rattle.plan_steps.specs.Site.{Site, bare_entry, count, entries, entry, full_entry, further, in_row, places, rank_at, source_at}
+use Rattle.plan_steps.specs.Site.{Site, bare_entry, count, entries, entry, full_entry, further, in_row, places, rank_at, source_at, block_length}
 use Rattle.plan_steps.specs.Steps.{giving, passing}
 use Rattle.coll_shape.specs.Collectives.{IsRoot, is_in, list_after}
 use Rattle.plan_tree.specs.Trees.{down_cell, turned, unturned, up, up_cell, up_number}
@@ -26,7 +26,7 @@ use Rattle.plan_mesh.specs.Alltoall.{alltoall_cells, exchanged}
 use Rattle.plan_rounds.specs.Rounds.{rounds}
 use Rattle.plan_rounds.specs.Scan.{scan_cell, scan_cells, scan_number, scan_rows}
 use Rattle.plan_rounds.specs.Barrier.{barrier_cells, round_rows}
-use Rattle.plan_more.specs.Scatter.{block_length, scatter_cells, scattered}
+use Rattle.plan_more.specs.Scatter.{scatter_cells, scattered}
 use Rattle.plan_more.specs.Reducescatter.{reducescatter_cells, result_block}
 use Rattle.plan_more.specs.Exscan.{exscan_cells, shifted}
 use Rattle.plan_more.specs.Gatherv.{concatenated, gatherv_cells, held_entry}

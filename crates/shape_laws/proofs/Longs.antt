@@ -7,7 +7,7 @@ use Rattle.coll_shape.specs.declared.types.Buffer.{Buffer}
 use Rattle.coll_shape.specs.declared.types.CollStep.{CollStep}
 use Rattle.coll_shape.specs.declared.types.CollStep.TheVariants.{Barrier, Broadcast, Reduce, Allreduce, Gather, Allgather, Alltoall, Scan, Scatter, Reducescatter, Exscan, Gatherv}
 use Rattle.coll_shape.specs.Collectives.{Reads, buffer_after, holding_places, is_in}
-use Rattle.shape_laws.proofs.Whole.{In-is_in}
+use Rattle.coll_shape.proofs.Asking.{In-is_in}
 
 one-times : (m n : ℕ) → 0 < m → 1 ≤ n → 1 ≤ m * n
 one-times m n h k = let a : 1 * n ≤ m * n = mul-le-mul_right n h in omega (arith, a, k)

@@ -27,10 +27,11 @@ use Rattle.shape_plans.specs.Steps.{cells_of, end_of, ends_of}
 use Rattle.coll_shape.specs.WellFormed.{StepFits, and_one}
 use Rattle.shape_laws.specs.Results.{IsResult}
 use Rattle.coll_shape.specs.Meaning.{at_place, lists_of, made_lists, place_from, taken, type_read, with_step}
+use Rattle.coll_shape.proofs.Asking.{In-is_in}
 use Rattle.shape_laws.specs.Results.IsResult.{Holds, IsEmpty}
 use Rattle.shape_laws.proofs.Places.{place-of}
 use Rattle.shape_laws.proofs.EveryStep.{AsksValues, step-value}
-use Rattle.shape_laws.proofs.Whole.{Fine, HeldCell, In-is_in, blocks, does_hold, held_is, holder_of, holding, length_is, sound_cells, test_is, whole_site}
+use Rattle.shape_laws.proofs.Whole.{Fine, HeldCell, blocks, does_hold, held_is, holder_of, holding, length_is, sound_cells, test_is, whole_site}
 use Rattle.shape_laws.proofs.Kept.{Kind, fine_after, held_new, held_old, kind_of}
 use Rattle.shape_laws.proofs.Kept.Kind.{Makes, Plain}
 

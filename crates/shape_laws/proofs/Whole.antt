@@ -1,5 +1,5 @@
 -- What is kept from step to step, and why each step's cells are sound.
-use Rattle.std.proofs.Common.{ℕ, zero, suc, Bool, true, false, cond, ◌||◌, ◌+◌, ◌-◌, ◌*◌, ◌/◌, ◌%◌, ◌≡◌, ◌≤◌, ◌<◌, ◌==◌, List, [], ◌∷◌, refl, length, map, filter, get_or, ap, ap₂, ◌∙◌, sym, subst, inl, inr, arith, Option, Some, None, eqb-true, eq-eqb, div-add-mod'}
+use Rattle.std.proofs.Common.{ℕ, zero, suc, Bool, true, cond, ◌+◌, ◌-◌, ◌*◌, ◌/◌, ◌%◌, ◌≡◌, ◌≤◌, ◌<◌, List, [], ◌∷◌, refl, length, map, filter, get_or, ap, ap₂, ◌∙◌, sym, subst, arith, Option, Some, None, div-add-mod'}
 use Rattle.std.proofs.Math.Nat.{mod-eq_of_lt, add-mul-mod_self_right, mul-div_right}
 use Rattle.op_laws.proofs.Bytes.{bytes-pos}
 use Rattle.ptl_types.specs.Operations.{bytes_of}
@@ -12,9 +12,8 @@ use Rattle.coll_shape.specs.declared.types.CollStep.{CollStep}
 use Rattle.coll_shape.specs.declared.types.CollStep.TheVariants.{Barrier, Broadcast, Reduce, Allreduce, Gather, Allgather, Alltoall, Scan, Scatter, Reducescatter, Exscan, Gatherv}
 use Rattle.coll_shape.specs.Outline.{Outline, buffer_at, list_bytes, read_buffer}
 use Rattle.coll_shape.specs.Collectives.{source_of, IsRoot, is_in, AllHold, HasBlocks}
-use Rattle.plan_steps.specs.Site.{Site, count, exit_at, source_at}
+use Rattle.plan_steps.specs.Site.{Site, count, exit_at, source_at, block_length}
 use Rattle.plan_steps.specs.Beginning.{or_0, site_of, source_in}
-use Rattle.plan_more.specs.Scatter.{block_length}
 use Rattle.plan_laws.specs.Sounding.{EachAt, Ground, HasA, SoundNewCell, WellBuilt, with_cell, with_cells}
 use Rattle.plan_laws.proofs.Grow.{cell-new, get_or-map, length-cells}
 use Rattle.plan_laws.proofs.Drawn.{Extends, extends-all}
@@ -22,6 +21,7 @@ use Rattle.plan_laws.proofs.Entries.{cells_all}
 use Rattle.plan_laws.proofs.HeldSizes.{is_in-filter}
 use Rattle.shape_plans.specs.Steps.{cells_of}
 use Rattle.coll_shape.specs.WellFormed.{StepFits}
+use Rattle.coll_shape.proofs.Asking.{is_in-In}
 use Rattle.shape_laws.proofs.EveryStep.{AllHave, Asks, Blocks, Holding, step-sound}
 
 -- ---- what is kept
@@ -79,23 +79,6 @@ blocks_all n m w pos e =
     ap (λ v. v * w) q ∙ (let z : m * (n / m) * w ≡ m * (n / m * w) = omega arith in z) ∙ ap (λ v. m * v) (sym (blocks_long n m w pos e))
 
 -- ---- members of lists
-pub is_in-In : (x : ℕ) (ys : List ℕ) → is_in x ys ≡ true → In x ys
-is_in-In x [] e = cc
-is_in-In x (y ∷ ys) e = at (y == x) refl e (λ f. is_in-In x ys f)
-  where
-    at : (b : Bool) → (y == x) ≡ b → (b || is_in x ys) ≡ true → (is_in x ys ≡ true → In x ys) → In x (y ∷ ys)
-    at true f g later = inl (eqb-true _ _ f)
-    at false f g later = inr (later g)
-
-pub In-is_in : (x : ℕ) (ys : List ℕ) → In x ys → is_in x ys ≡ true
-In-is_in x [] h = absurd h
-In-is_in x (y ∷ ys) (inl e) = ap (λ b. b || is_in x ys) (eq-eqb y x e)
-In-is_in x (y ∷ ys) (inr h) = ap (λ b. (y == x) || b) (In-is_in x ys h) ∙ at (y == x)
-  where
-    at : (b : Bool) → (b || true) ≡ true
-    at true = refl
-    at false = refl
-
 -- ---- a step
 module _ (o : Outline) (m : ℕ) (p : Plan) (h : HeldCells) (e : List ℕ) (g : List ℕ) (step : CollStep) (fine : Fine o m p h e) (fits : StepFits o m g step) where
   abbrev pub s : Site
