@@ -13,12 +13,13 @@ use Rattle.coll_lang.specs.declared.fault.Refusal.{Refusal}
 use Rattle.coll_lang.specs.declared.fault.Refusal.TheVariants.{AfterEnd}
 use Rattle.order_lines.specs.Check.{description_bytes, line_behind, orders_behind, read_check, with_lists, with_orders}
 use Rattle.order_lines.specs.Orders.{and_later, order_at, read_orders}
+use Rattle.order_lines.specs.declared.checking.TheConstants.{LONGEST_CHECK}
 
-not_above : (n : ℕ) → n ≤ 16777216 → nat_lt 16777216 n ≡ false
+not_above : (n : ℕ) → n ≤ LONGEST_CHECK → nat_lt LONGEST_CHECK n ≡ false
 not_above n le = grind (arith, nat_tests)
 
 -- an input that isn't too long, by its parts
-pub parted : (bytes : List ℕ) (front next : ℕ) → length bytes ≤ 16777216 → front ≡ description_bytes (lines bytes)
+pub parted : (bytes : List ℕ) (front next : ℕ) → length bytes ≤ LONGEST_CHECK → front ≡ description_bytes (lines bytes)
     → next ≡ line_behind 1 (lines bytes)
     → read_check bytes ≡ with_orders (read (take front bytes)) next (lines (drop front bytes))
 unfolding read_check

@@ -8,6 +8,7 @@ use Rattle.coll_lang.specs.Program.{Chosen, Program}
 use Rattle.coll_lang.specs.declared.fault.Refusal.{Refusal}
 use Rattle.coll_lang.specs.declared.fault.Refusal.TheVariants.{OneThread, TooLong}
 use Rattle.order_lines.specs.Orders.{read_orders}
+use Rattle.order_lines.specs.declared.checking.TheConstants.{LONGEST_CHECK}
 
 -- how many bytes the lines up to and including the first line `end` have; all, where there is no such line
 unfoldable pub description_bytes : List (List ℕ) → ℕ
@@ -35,9 +36,9 @@ abbrev pub with_orders : Result Program (ℕ × Refusal) → ℕ → List (List 
 with_orders (Err refusal) k pieces = Err refusal
 with_orders (Ok d) k pieces = orders_behind d d.choices k pieces
 
--- What an input of at most 16 mebibytes says, or its first refusal with its line. A description is judged before the lines behind it.
+-- What an input says, or its first refusal with its line: first too long, then the description, then the lines behind it.
 unfoldable pub read_check : List ℕ → Result (Program × List (List LocalStep)) (ℕ × Refusal)
 read_check bytes =
     let front = description_bytes (lines bytes) in
-    if nat_lt 16777216 (length bytes) then Err (0, TooLong)
+    if nat_lt LONGEST_CHECK (length bytes) then Err (0, TooLong)
     else with_orders (read (take front bytes)) (line_behind 1 (lines bytes)) (lines (drop front bytes))

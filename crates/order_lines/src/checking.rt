@@ -12,13 +12,14 @@ use coll_lang::{Description, ParseFault, Refusal, parse};
 use coll_text::{cut, is};
 use std::alloc::Global;
 
-const LONGEST: usize = 16_777_216;
+/// The most bytes of a check's input: a description and the order lines behind it.
+pub const LONGEST_CHECK: usize = 16_777_216;
 
 /// How many bytes the lines up to and including the first line `end` have, and the number of the line behind them: all bytes,
 /// where there is no such line.
 #[tactic(auto, using(crate::proofs::Ends::goes_on, crate::proofs::Ends::stops, crate::proofs::Ends::breaks_off))]
 fn first_end(bytes: &[u8]) -> (usize, u32)
-    requires { length bytes.now ≤ 16777216 }
+    requires { length bytes.now ≤ LONGEST_CHECK }
     ensures bytes { result.0 ≡ description_bytes (lines bytes.now) }
     ensures within { result.0 ≤ length bytes.now }
     ensures line { result.1 ≡ line_behind 1 (lines bytes.now) }
@@ -76,7 +77,7 @@ pub fn parse_check(alloc: Global, bytes: &[u8]) -> Result<(Description, Orders),
     ensures steps { IfOk result (λ both. both.0.choices ≡ None) }
     ensures orders { IfOk result (λ both. length both.1 ≡ both.0.shape.ranks) }
 {
-    if bytes.len() > LONGEST {
+    if bytes.len() > LONGEST_CHECK {
         return Err(refused(0, Refusal::TooLong));
     }
     let (at, next) = first_end(bytes);

@@ -5,5 +5,5 @@ mod checking;
 mod orders;
 mod reading;
 
-pub use checking::parse_check;
+pub use checking::{LONGEST_CHECK, parse_check};
 pub use orders::Orders;

@@ -16,7 +16,8 @@ use Rattle.coll_text.proofs.ReadBack.{line_of, none_is}
 use Rattle.coll_text.proofs.Spelled.{same}
 use Rattle.coll_shape.specs.Kinds.{step_of}
 use Rattle.coll_shape.specs.Collectives.{can_read, made_length}
-use Rattle.coll_shape.specs.WellFormed.{most_elements, most_ranks, elements_of}
+use Rattle.coll_shape.specs.WellFormed.{most_ranks, elements_of}
+use Rattle.coll_shape.specs.declared.limits.TheConstants.{MOST_GROUPS, MOST_BUFFERS, MOST_STEPS, MOST_PRINTS, MOST_GIVEN, MOST_ELEMENTS}
 use Rattle.coll_lang.specs.Forms.{Form, complete, group, input, step, choice, print, last, form_of}
 use Rattle.coll_lang.specs.Language.{Past, all_numbers, buffer_named, choice_line, data_due, form_line, group_line, group_named, holds_of, input_line, is_allowed, is_finished, is_taken, judge, later_line, line_at, may_stand, members_in, nothing, numbered, print_line, program_in, ranks_in, read, read_from, root_number, rooted_line, source_named, step_line, step_on, unless_flawed, values_line, version_of, are_members}
 use Rattle.coll_lang.specs.Program.{Program}
@@ -28,6 +29,7 @@ use Rattle.coll_lang.proofs.FormSaid.{form_said, form_words}
 use Rattle.coll_lang.proofs.Reading.{not_empty}
 use Rattle.coll_lang.proofs.Sound.{ok_is, ok_of, passed, some_of}
 use Rattle.coll_lang.proofs.WholeText.{allowed}
+use Rattle.coll_lang.specs.declared.whole.TheConstants.{LONGEST_TEXT}
 use Rattle.order_lines.specs.Check.{description_bytes}
 use Rattle.order_lines.proofs.Ends.{bytes_at, bytes_on}
 
@@ -47,13 +49,13 @@ form_ends past next complete h t = absurd (no_way _ next (ok_is _ next h) refl t
 form_ends past next (group name members) h t =
     let n = some_of BadNumber (all_numbers members) _ next h in
     let a = passed (is_taken past name) NameTaken _ next n.2 in
-    let b = passed (nat_le 64 (length past.groups)) TooMany _ next a.1 in
+    let b = passed (nat_le MOST_GROUPS (length past.groups)) TooMany _ next a.1 in
     let c = passed (not (are_members past.ranks n.0)) BadGroup _ next b.1 in
     absurd (no_way _ next (ok_is _ next c.1) refl t)
 form_ends past next (input name ty count) h t =
-    let n = some_of BadNumber (number_between 1 4096 count) _ next h in
+    let n = some_of BadNumber (number_between 1 MOST_GIVEN count) _ next h in
     let a = passed (is_taken past name) NameTaken _ next n.2 in
-    let b = passed (nat_le 128 (length past.buffers)) TooMany _ next a.1 in
+    let b = passed (nat_le MOST_BUFFERS (length past.buffers)) TooMany _ next a.1 in
     absurd (no_way _ next (ok_is _ next b.1) (due_open past.ranks ty n.0) t)
 form_ends past next (step on w) h t =
     let r = some_of BadNumber (root_number w.root) _ next h in
@@ -62,18 +64,19 @@ form_ends past next (step on w) h t =
     let s = step_of w.kind r.0 w.op from.0.0 (length past.buffers) in
     let a = passed (holds_of (λ on. nat_le (length (members_in past on)) r.0) found) BadRoot _ next from.2 in
     let b = passed (holds_of (λ on. not (can_read (members_in past on) s from.0.1)) found) WrongShape _ next a.1 in
-    let c = passed (nat_le 64 (length past.steps) || (is_some w.names && nat_le 128 (length past.buffers))) TooMany _ next b.1 in
-    let d = passed (holds_of (λ on. nat_lt most_elements (made_length (members_in past on) s from.0.1)) found) TooLarge _ next c.1 in
+    let c = passed (nat_le MOST_STEPS (length past.steps) || (is_some w.names && nat_le MOST_BUFFERS (length past.buffers)))
+    TooMany _ next b.1 in
+    let d = passed (holds_of (λ on. nat_lt MOST_ELEMENTS (made_length (members_in past on) s from.0.1)) found) TooLarge _ next c.1 in
     let i = some_of BadGroup found _ next d.1 in
     absurd (no_way _ next (ok_is _ next i.2) refl t)
 form_ends past next (choice kind name) h t =
     let a = passed (is_taken past name) NameTaken _ next h in
-    let b = passed (nat_le 64 (length past.choices) || nat_le 128 (length past.buffers)) TooMany _ next a.1 in
+    let b = passed (nat_le MOST_STEPS (length past.choices) || nat_le MOST_BUFFERS (length past.buffers)) TooMany _ next a.1 in
     absurd (no_way _ next (ok_is _ next b.1) refl t)
 form_ends past next (print name) h t =
     let from = some_of UnknownBuffer (buffer_named past.buffers name) _ next h in
-    let a = passed (nat_le 128 (length past.prints)) TooMany _ next from.2 in
-    let b = passed (nat_lt most_elements (past.printed + elements_of from.0.1)) TooLarge _ next a.1 in
+    let a = passed (nat_le MOST_PRINTS (length past.prints)) TooMany _ next from.2 in
+    let b = passed (nat_lt MOST_ELEMENTS (past.printed + elements_of from.0.1)) TooLarge _ next a.1 in
     absurd (no_way _ next (ok_is _ next b.1) refl t)
 form_ends past next last h t = refl
 
@@ -225,6 +228,6 @@ pub whole_front : (bytes rest : List ℕ) (d : Program) → read bytes ≡ Ok d 
 unfolding read
 whole_front bytes rest d h =
     let f = read_there (read_from nothing 1 (lines bytes)) d
-    (unlimited (nat_lt 1048576 (length bytes)) (0, TooLong) (program_in (read_from nothing 1 (lines bytes))) d h) in
+    (unlimited (nat_lt LONGEST_TEXT (length bytes)) (0, TooLong) (program_in (read_from nothing 1 (lines bytes))) d h) in
     subst (λ x. description_bytes (lines (x ++ rest)) ≡ length x) (join_with_byte-slice_split 10 bytes)
     (front nothing f.0 1 (lines bytes) rest refl f.1)

@@ -10,6 +10,7 @@ use Rattle.coll_lang.proofs.Coming.{comes}
 use Rattle.run_text.specs.Orders.{order_text}
 use Rattle.order_lines.specs.Check.{line_behind, orders_behind, read_check, with_lists, with_orders}
 use Rattle.order_lines.specs.Orders.{read_orders}
+use Rattle.order_lines.specs.declared.checking.TheConstants.{LONGEST_CHECK}
 use Rattle.order_lines.proofs.Inputs.{parted}
 use Rattle.order_texts.specs.Named.{AreNamed}
 use Rattle.order_texts.proofs.Back.{orders_back}
@@ -21,7 +22,7 @@ behind : (d : Program) (k : ℕ) (pieces : List (List ℕ)) (lists : List (List 
 behind d k pieces lists choices none h = ap (λ c. orders_behind d c k pieces) none ∙ ap (with_lists d) h
 
 pub whole_back : (bytes : List ℕ) (d : Program) (steps : ℕ → List LocalStep) → read bytes ≡ Ok d → d.choices ≡ None
-    → length (bytes ++ order_text d.shape.ranks steps) ≤ 16777216 → ((r : ℕ) → r < d.shape.ranks → AreNamed d.shape.ranks (steps r))
+    → length (bytes ++ order_text d.shape.ranks steps) ≤ LONGEST_CHECK → ((r : ℕ) → r < d.shape.ranks → AreNamed d.shape.ranks (steps r))
     → read_check (bytes ++ order_text d.shape.ranks steps) ≡ Ok (d, map steps (from_to 0 d.shape.ranks))
 whole_back bytes d steps is none short named =
     let ranks = d.shape.ranks in

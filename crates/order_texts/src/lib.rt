@@ -10,6 +10,7 @@ ghost use Rattle.coll_lang.specs.Program.{Program};
 ghost use Rattle.run_text.specs.Orders.{order_text};
 ghost use Rattle.order_lines.specs.Check.{read_check};
 ghost use Rattle.order_lines.specs.Orders.{read_orders};
+ghost use Rattle.order_lines.specs.declared.checking.TheConstants.{LONGEST_CHECK};
 ghost use Rattle.order_texts.specs.Named.{AreNamed};
 
 /// The order lines that are written of lists are read as these lists, whatever the number of the first line is. In each list a
@@ -24,7 +25,7 @@ pub fn orders_are_read_back()
 /// read as the description and these lists: the first line `end` of such a text is its last.
 pub fn checks_are_read_back()
     ensures { (bytes : List ℕ) (d : Program) (steps : ℕ → List LocalStep) → read bytes ≡ Ok d → d.choices ≡ None →
-        length (bytes ++ order_text d.shape.ranks steps) ≤ 16777216 →
+        length (bytes ++ order_text d.shape.ranks steps) ≤ LONGEST_CHECK →
         ((r : ℕ) → r < d.shape.ranks → AreNamed d.shape.ranks (steps r)) →
         read_check (bytes ++ order_text d.shape.ranks steps) ≡ Ok (d, map steps (from_to 0 d.shape.ranks)) }
 {}
