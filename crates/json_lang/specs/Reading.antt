@@ -5,6 +5,7 @@ use Rattle.serde_json.specs.Data.{Data}
 use Rattle.serde_json.specs.Read as json
 use Rattle.coll_lang.specs.Program.{Program}
 use Rattle.coll_lang.specs.Language.{read}
+use Rattle.coll_lang.specs.declared.whole.TheConstants.{LONGEST_TEXT}
 use Rattle.coll_lang.specs.declared.fault.Refusal.{Refusal}
 use Rattle.coll_lang.specs.declared.fault.Refusal.TheVariants.{TooLong}
 use Rattle.json_lang.specs.Form.{is_form}
@@ -31,4 +32,4 @@ described_by (Some value) = described value
 
 -- what JSON bytes describe, or why they are refused: first too long, then no JSON, then not of the form, then by a line
 unfoldable pub read_json : List ℕ → Result Program JsonRefusal
-read_json bytes = if nat_lt 1048576 (length bytes) then Err (Refused 0 TooLong) else described_by (value_in bytes)
+read_json bytes = if nat_lt LONGEST_TEXT (length bytes) then Err (Refused 0 TooLong) else described_by (value_in bytes)

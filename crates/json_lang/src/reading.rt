@@ -12,11 +12,9 @@ ghost use Rattle.json_lang.specs.Answers.{Holds, Reads};
 use crate::fault::{JsonFault, JsonRefusal};
 use crate::form::is_form;
 use crate::writing::push_all;
-use coll_lang::{Description, ParseFault, Refusal, Text, parse};
+use coll_lang::{Description, LONGEST_TEXT, ParseFault, Refusal, Text, parse};
 use serde_json::Value;
 use std::alloc::Global;
-
-const LONGEST: usize = 1_048_576;
 
 /// The line text of a JSON value: the text of the description language that it stands for. Whether that text describes
 /// anything, `parse` says.
@@ -84,10 +82,10 @@ pub fn parse_json(alloc: Global, bytes: &[u8]) -> Result<Description, JsonRefusa
     // Unless memory runs out, it is what reading gives, both ways.
     ensures exact { Reads result (read_json bytes.now) }
     // Whatever memory there is.
-    ensures too_long { 1048576 < length bytes.now → result ≡ Err (JsonRefusal.Refused 0 names.TooLong) }
+    ensures too_long { LONGEST_TEXT < length bytes.now → result ≡ Err (JsonRefusal.Refused 0 names.TooLong) }
     ensures readable { IfOk result (λ d. IsReadable d) }
 {
-    if bytes.len() > LONGEST {
+    if bytes.len() > LONGEST_TEXT {
         return Err(JsonRefusal::Refused {
             line: 0,
             name: Refusal::TooLong,

@@ -1,14 +1,12 @@
 //! The descriptions in JSON that are read, each of nearly 1,048,576 bytes.
 
+use coll_lang::LONGEST_TEXT;
 use std::alloc::{AllocError, Global};
 
 /// How many ranks the rows are of, and how many values each row has.
 const RANKS: usize = 64;
 
 const VALUES: usize = 4_096;
-
-/// The longest JSON.
-const LONGEST: usize = 1_048_576;
 
 /// Adds a row of values of two digits.
 fn put_row(json: &mut Vec<u8>) -> Result<(), AllocError> {
@@ -38,8 +36,8 @@ pub fn rows(alloc: Global) -> Result<Vec<u8>, AllocError> {
 /// As many barriers as fit: the 65th is refused.
 pub fn barriers(alloc: Global) -> Result<Vec<u8>, AllocError> {
     let mut json = Vec::from_slice(alloc, b"{\"coll\":1,\"ranks\":1,\"steps\":[[\"barrier\"]")?;
-    for _ in 0..LONGEST {
-        if json.len() >= LONGEST - 16 {
+    for _ in 0..LONGEST_TEXT {
+        if json.len() >= LONGEST_TEXT - 16 {
             break;
         }
         json.extend_from_slice(b",[\"barrier\"]")?;
@@ -51,8 +49,8 @@ pub fn barriers(alloc: Global) -> Result<Vec<u8>, AllocError> {
 /// As many members of different names as fit, in no order: it isn't of the form.
 pub fn names(alloc: Global) -> Result<Vec<u8>, AllocError> {
     let mut json = Vec::from_slice(alloc, b"{\"coll\":1")?;
-    for k in 0..LONGEST {
-        if json.len() >= LONGEST - 32 {
+    for k in 0..LONGEST_TEXT {
+        if json.len() >= LONGEST_TEXT - 32 {
             break;
         }
         let name = k.wrapping_mul(7_919_777) % 1_000_003;
