@@ -35,6 +35,7 @@ use Rattle.coll_shape.specs.Meaning.{AreInputs, lists_of}
 use Rattle.shape_laws.specs.Results.IsResult.{Holds}
 use Rattle.shape_laws.proofs.Whole.{Fine, Inside, inside_all, whole_list}
 use Rattle.shape_laws.proofs.Means.{Means}
+use Rattle.coll_shape.specs.declared.limits.TheConstants.{MOST_RANKS}
 
 -- ---- go cells
 go-cell : (n : ℕ) (remote : Bool) (c : ℕ) → c < n → cell (go_plan n remote) c ≡ go_cell_of c
@@ -53,7 +54,7 @@ go-ranks : (n : ℕ) (remote : Bool) → (go_plan n remote).ranks ≡ n
 unfolding go_plan
 go-ranks n remote = refl
 
-go-built : (n : ℕ) (remote : Bool) → 1 ≤ n → n ≤ 256 → WellBuilt (go_plan n remote) 0
+go-built : (n : ℕ) (remote : Bool) → 1 ≤ n → n ≤ MOST_RANKS → WellBuilt (go_plan n remote) 0
 unfolding go_plan
 go-built n remote some few = record {
   some_rank = some;
@@ -248,7 +249,7 @@ get_or-nothing zero i = refl
 get_or-nothing (suc n) zero = refl
 get_or-nothing (suc n) (suc i) = get_or-nothing n i
 
-begun-none : (o : Outline) → 1 ≤ o.ranks → o.ranks ≤ 256 → Begun o 0 (opened o).plan (opened o).held (opened o).exits
+begun-none : (o : Outline) → 1 ≤ o.ranks → o.ranks ≤ MOST_RANKS → Begun o 0 (opened o).plan (opened o).held (opened o).exits
 begun-none o some few = record {
   ranks = go-ranks o.ranks o.remote;
   built = subst (WellBuilt (go_plan o.ranks o.remote)) (let e : 0 ≡ 0 * o.ranks = omega arith in e) (go-built o.ranks o.remote some few);
@@ -263,7 +264,7 @@ begun-none o some few = record {
   row_long = λ b r h. absurd (omega arith);
 }
 
-pub begun : (o : Outline) → 1 ≤ o.ranks → o.ranks ≤ 256 → (m : ℕ) → m ≤ length o.buffers → Begun o m (drawn_inputs o m).plan (drawn_inputs o m).held (drawn_inputs o m).exits
+pub begun : (o : Outline) → 1 ≤ o.ranks → o.ranks ≤ MOST_RANKS → (m : ℕ) → m ≤ length o.buffers → Begun o m (drawn_inputs o m).plan (drawn_inputs o m).held (drawn_inputs o m).exits
 unfolding drawn_inputs
 begun o some few zero h = begun-none o some few
 begun o some few (suc m) h =

@@ -43,6 +43,8 @@ use Rattle.shape_laws.proofs.Kept.Kind.{Plain, Makes}
 use Rattle.shape_laws.proofs.Longs.{after-long}
 use Rattle.shape_laws.proofs.Means.{Means, fit_after, means_after, result-at}
 use Rattle.shape_laws.proofs.Begin.{Begun, begun, fine-begun, in_rows, input-is, means-begun}
+use Rattle.coll_shape.specs.declared.limits.TheConstants.{MOST_GIVEN}
+use Rattle.shape_plans.specs.declared.judging.TheConstants.{MOST_LINKS, MOST_BYTES}
 
 -- a drawing that keeps what is kept
 abbrev IsFine : Outline → ℕ → Drawing → Type 0
@@ -126,7 +128,7 @@ sum_le (x ∷ xs) m h =
     let q : suc (length xs) * m ≡ m + length xs * m = omega arith in
     omega (arith, e, a, b, q)
 
-small_enough : (p : Plan) (inputs : ℕ) → WellBuilt p (inputs * p.ranks) → length p.links ≤ 500000 → sum_by (λ k. k.length) p.cells ≤ 1073741824 → SoundPlan p inputs
+small_enough : (p : Plan) (inputs : ℕ) → WellBuilt p (inputs * p.ranks) → length p.links ≤ MOST_LINKS → sum_by (λ k. k.length) p.cells ≤ 1073741824 → SoundPlan p inputs
 small_enough p inputs b few small = record {
   some_rank = b.some_rank;
   few_ranks = b.few_ranks;
@@ -143,12 +145,12 @@ small_enough p inputs b few small = record {
   few_cells = (let m = b.many_links in let n = b.few_ranks in omega arith);
   few_together = (let m = b.many_links in let n = b.few_ranks in omega arith);
   few_bytes = (let s = sum_le p.links 1073741824 (λ l h. let k = b.links_sound l h in let w = k.within_source in let up = k.rising in let top = k.cells in let i = member_le (λ k. k.length) p.cells (link p l).source (omega arith) in omega arith) in
-      let t : length p.links * 1073741824 ≤ 500000 * 1073741824 = mul-le-mul_right 1073741824 few in omega arith);
+      let t : length p.links * 1073741824 ≤ MOST_LINKS * 1073741824 = mul-le-mul_right 1073741824 few in omega arith);
 }
 
 -- a shape that isn't refused is within the limits at its end
 record Within (p : Plan) : Type 0 where
-  links : length p.links ≤ 500000
+  links : length p.links ≤ MOST_LINKS
   bytes : sum_by (λ k. k.length) p.cells ≤ 1073741824
 
 no_name : {n : Excess} → Some n ≡ None → ⊥
@@ -158,13 +160,13 @@ no_refusal : {n : Refused} → Some n ≡ None → ⊥
 no_refusal e = cc
 
 judged_within : (p : Plan) → judged (size_of p) ≡ None → Within p
-judged_within p e = at_links (nat_lt 500000 (length p.links)) refl e
+judged_within p e = at_links (nat_lt MOST_LINKS (length p.links)) refl e
   where
-    at_links : (b : Bool) → nat_lt 500000 (length p.links) ≡ b → cond b (Some Excess.Links) (cond (nat_lt 134217728 (sum_by (λ k. k.length) p.cells)) (Some Excess.Bytes) None) ≡ None → Within p
+    at_links : (b : Bool) → nat_lt MOST_LINKS (length p.links) ≡ b → cond b (Some Excess.Links) (cond (nat_lt MOST_BYTES (sum_by (λ k. k.length) p.cells)) (Some Excess.Bytes) None) ≡ None → Within p
     at_links true f e = absurd (no_name e)
-    at_links false f e = at_bytes (nat_lt 134217728 (sum_by (λ k. k.length) p.cells)) refl e
+    at_links false f e = at_bytes (nat_lt MOST_BYTES (sum_by (λ k. k.length) p.cells)) refl e
       where
-        at_bytes : (c : Bool) → nat_lt 134217728 (sum_by (λ k. k.length) p.cells) ≡ c → cond c (Some Excess.Bytes) None ≡ None → Within p
+        at_bytes : (c : Bool) → nat_lt MOST_BYTES (sum_by (λ k. k.length) p.cells) ≡ c → cond c (Some Excess.Bytes) None ≡ None → Within p
         at_bytes true g e = absurd (no_name e)
         at_bytes false g e = record { links = ltb-false _ _ f; bytes = (let i = ltb-false _ _ g in omega arith) }
 
@@ -200,7 +202,7 @@ few_upto o a (suc b) h =
     let y = f.bytes in
     let e = eight (buffer_at o b).ty in
     let n = a.short b (omega arith) in
-    let x : list_bytes (buffer_at o b) ≤ 4096 * bytes_of (buffer_at o b).ty = mul-le-mul_right (bytes_of (buffer_at o b).ty) n in
+    let x : list_bytes (buffer_at o b) ≤ MOST_GIVEN * bytes_of (buffer_at o b).ty = mul-le-mul_right (bytes_of (buffer_at o b).ty) n in
     let z : list_bytes (buffer_at o b) ≤ 32768 = omega (arith, x, e) in
     let w : o.ranks * list_bytes (buffer_at o b) ≤ o.ranks * 32768 = mul-le-mul_left o.ranks z in
     let q : suc b * (o.ranks * 32768) ≡ b * (o.ranks * 32768) + o.ranks * 32768 = omega arith in

@@ -9,6 +9,7 @@ use Rattle.shape_plans.specs.declared.footprints.Size.{Size}
 use Rattle.shape_plans.specs.Footprint.{Excess, judged, refused_at}
 use Rattle.shape_plans.specs.Footprint.Excess.{Links, Bytes}
 use Rattle.shape_plans.specs.Judging.{add_sizes, found_from, size_upto, step_size}
+use Rattle.shape_plans.specs.declared.judging.TheConstants.{MOST_LINKS, MOST_BYTES}
 
 pub sum-more : (f : ℕ → ℕ) (k : ℕ) → sum_by f (from_to 0 (k + 1)) ≡ sum_by f (from_to 0 k) + f k
 sum-more f k =
@@ -18,20 +19,20 @@ sum-more f k =
     ∙ ap (λ v. sum_by f (from_to 0 k) + v) (sum_by-cons f (0 + k) [] ∙ ap (λ v. f v + 0) (let e : 0 + k ≡ k = omega arith in e) ∙ (let e : f k + 0 ≡ f k = omega arith in e))
 
 -- ---- the first excess
-within_limits : (l b : ℕ) → l ≤ 500000 → b ≤ 134217728 → judged (record { links = l; bytes = b }) ≡ None
+within_limits : (l b : ℕ) → l ≤ MOST_LINKS → b ≤ MOST_BYTES → judged (record { links = l; bytes = b }) ≡ None
 within_limits l b h i =
-    ap (λ t. cond t (Some Links) (cond (nat_lt 134217728 b) (Some Bytes) None)) (le-ltb _ _ h)
+    ap (λ t. cond t (Some Links) (cond (nat_lt MOST_BYTES b) (Some Bytes) None)) (le-ltb _ _ h)
     ∙ ap (λ t. cond t (Some Bytes) None) (le-ltb _ _ i)
 
-pub judged-none : (f : Size) → f.links ≤ 500000 → f.bytes ≤ 134217728 → judged f ≡ None
+pub judged-none : (f : Size) → f.links ≤ MOST_LINKS → f.bytes ≤ MOST_BYTES → judged f ≡ None
 judged-none f h i = within_limits f.links f.bytes h i
 
-pub judged-links : (f : Size) → 500000 < f.links → judged f ≡ Some Links
-judged-links f h = ap (λ t. cond t (Some Links) (cond (nat_lt 134217728 f.bytes) (Some Bytes) None)) (lt-ltb _ _ h)
+pub judged-links : (f : Size) → MOST_LINKS < f.links → judged f ≡ Some Links
+judged-links f h = ap (λ t. cond t (Some Links) (cond (nat_lt MOST_BYTES f.bytes) (Some Bytes) None)) (lt-ltb _ _ h)
 
-pub judged-bytes : (f : Size) → f.links ≤ 500000 → 134217728 < f.bytes → judged f ≡ Some Bytes
+pub judged-bytes : (f : Size) → f.links ≤ MOST_LINKS → MOST_BYTES < f.bytes → judged f ≡ Some Bytes
 judged-bytes f h i =
-    ap (λ t. cond t (Some Links) (cond (nat_lt 134217728 f.bytes) (Some Bytes) None)) (le-ltb _ _ h)
+    ap (λ t. cond t (Some Links) (cond (nat_lt MOST_BYTES f.bytes) (Some Bytes) None)) (le-ltb _ _ h)
     ∙ ap (λ t. cond t (Some Bytes) None) (lt-ltb _ _ i)
 
 pub size-more : (o : Outline) (k : ℕ) → size_upto o (k + 1) ≡ add_sizes (size_upto o k) (step_size o k)

@@ -22,6 +22,8 @@ use Rattle.plan_more.specs.Exscan.{shifted}
 use Rattle.plan_more.specs.Gatherv.{concatenated, held_entry}
 use Rattle.plan_laws.proofs.StepSizes.{links-append, links-cons}
 use Rattle.shape_plans.specs.Steps.{cells_of}
+use Rattle.coll_shape.specs.declared.limits.TheConstants.{MOST_RANKS}
+use Rattle.shape_plans.specs.declared.judging.TheConstants.{MOST_LINKS}
 
 abbrev Linked : List NewCell → Type 0
 Linked ns = length ns ≤ links_of ns
@@ -100,9 +102,9 @@ step-linked s (Gatherv root a b) p =
     (in_row (held_entry s) 0 (count s) (λ i. either (is_in i s.holding) (full_entry s i) (bare_entry s i) (some 1) (some 0))) (one (concatenated s root) (some _))
 
 -- with few links in the end there is room for the step
-pub room-for : (p : Plan) (s : Site) (step : CollStep) → 0 < count s → length p.cells ≤ 256 + length p.links → length p.links + links_of (cells_of s step) ≤ 500000 → HasRoom p (cells_of s step)
+pub room-for : (p : Plan) (s : Site) (step : CollStep) → 0 < count s → length p.cells ≤ MOST_RANKS + length p.links → length p.links + links_of (cells_of s step) ≤ MOST_LINKS → HasRoom p (cells_of s step)
 room-for p s step pos h l = let a = step-linked s step pos in record { cells = omega (arith, a, h, l); links = omega (arith, l) }
 
 -- and there are still few cells
-pub few-after : (p : Plan) (s : Site) (step : CollStep) → 0 < count s → length p.cells ≤ 256 + length p.links → length (add_all p (cells_of s step)).cells ≤ 256 + length (add_all p (cells_of s step)).links
+pub few-after : (p : Plan) (s : Site) (step : CollStep) → 0 < count s → length p.cells ≤ MOST_RANKS + length p.links → length (add_all p (cells_of s step)).cells ≤ MOST_RANKS + length (add_all p (cells_of s step)).links
 few-after p s step pos h = let a = step-linked s step pos in let b = many-cells p (cells_of s step) in let c = links-in_all p (cells_of s step) in omega (arith, a, b, c, h)

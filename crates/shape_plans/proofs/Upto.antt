@@ -26,6 +26,8 @@ use Rattle.shape_plans.specs.Judging.{AreSteps, Judges, found_from, inputs_size,
 use Rattle.shape_plans.specs.Compiling.{Draws}
 use Rattle.shape_plans.proofs.Linked.{few-after, room-for}
 use Rattle.shape_plans.proofs.Sizes.{refusal-found, size-inputs, size-steps}
+use Rattle.coll_shape.specs.declared.limits.TheConstants.{MOST_RANKS}
+use Rattle.shape_plans.specs.declared.judging.TheConstants.{MOST_LINKS, MOST_BYTES}
 
 -- ---- one more
 next : (k : ℕ) → k + 1 ≡ suc k
@@ -74,7 +76,7 @@ pub record Tables (o : Outline) (d : Drawing) : Type 0 where
   pub exits : length d.exits ≡ o.ranks
   pub ranks : d.held.ranks ≡ o.ranks
   pub buffers : d.held.buffers ≡ length o.buffers
-  pub few : length d.plan.cells ≤ 256 + length d.plan.links
+  pub few : length d.plan.cells ≤ MOST_RANKS + length d.plan.links
 
 ranks-row : (h : HeldCells) (b first n : ℕ) → (hold_row h b first n).ranks ≡ h.ranks
 unfolding hold_row hold
@@ -90,14 +92,14 @@ length-numbers : (k n : ℕ) → length (from_to k n) ≡ n
 length-numbers k zero = refl
 length-numbers k (suc n) = ap suc (length-numbers (suc k) n)
 
-go-few : (n : ℕ) (remote : Bool) → n ≤ 256 → length (go_plan n remote).cells ≤ 256 + length (go_plan n remote).links
+go-few : (n : ℕ) (remote : Bool) → n ≤ MOST_RANKS → length (go_plan n remote).cells ≤ MOST_RANKS + length (go_plan n remote).links
 unfolding go_plan
 go-few n remote h = let e = length-row Rattle.plan_core.specs.Draw.go_cell_of 0 n in omega (arith, e, h)
 
 row-links : (o : Outline) (b : ℕ) → links_of (map (input_cell (buffer_at o b)) (from_to 0 o.ranks)) ≡ o.ranks
 row-links o b = links-row (input_cell (buffer_at o b)) 0 o.ranks 1 (λ i. refl) ∙ (let e : o.ranks * 1 ≡ o.ranks = omega arith in e)
 
-tables-opened : (o : Outline) → o.ranks ≤ 256 → Tables o (opened o)
+tables-opened : (o : Outline) → o.ranks ≤ MOST_RANKS → Tables o (opened o)
 tables-opened o h = record { exits = length-numbers 0 o.ranks; ranks = refl; buffers = refl; few = go-few o.ranks o.remote h }
 
 tables-input : (o : Outline) (d : Drawing) (b : ℕ) → Tables o d → Tables o (drawn_input o d b)
@@ -113,7 +115,7 @@ tables-input o d b t = record {
       omega (arith, f, c, l, n, m));
 }
 
-pub tables-inputs : (o : Outline) → o.ranks ≤ 256 → (b : ℕ) → Tables o (drawn_inputs o b)
+pub tables-inputs : (o : Outline) → o.ranks ≤ MOST_RANKS → (b : ℕ) → Tables o (drawn_inputs o b)
 tables-inputs o h zero = subst (Tables o) (sym (inputs-none o)) (tables-opened o h)
 tables-inputs o h (suc b) = subst (Tables o) (sym (inputs-suc o b)) (tables-input o (drawn_inputs o b) b (tables-inputs o h b))
 
@@ -133,7 +135,7 @@ tables-step o d t g pos w = record {
   few = few-after d.plan (site o d t g) t pos w.few;
 }
 
-pub tables-upto : (o : Outline) → o.ranks ≤ 256 → AreSteps o → (k : ℕ) → k ≤ length o.steps → Tables o (drawn_upto o k)
+pub tables-upto : (o : Outline) → o.ranks ≤ MOST_RANKS → AreSteps o → (k : ℕ) → k ≤ length o.steps → Tables o (drawn_upto o k)
 tables-upto o h are zero l = subst (Tables o) (sym (upto-none o)) (tables-inputs o h o.inputs)
 tables-upto o h are (suc k) l = subst (Tables o) (sym (upto-suc o k)) (tables-step o (drawn_upto o k) (step_at o k) (group_at o k) (are.some k (omega arith)) (tables-upto o h are k (omega arith)))
 
@@ -184,7 +186,7 @@ size-most o k h = let a = size-grows o (left k (length o.steps)) k in let e = ap
     there : (k n : ℕ) → k ≤ n → k + left k n ≡ n
     there k n h = omega arith
 
-module _ (o : Outline) (shape : IsShape o) (are : AreSteps o) (few : (size_upto o (length o.steps)).links ≤ 500000) (k : ℕ) (h : k < length o.steps) where
+module _ (o : Outline) (shape : IsShape o) (are : AreSteps o) (few : (size_upto o (length o.steps)).links ≤ MOST_LINKS) (k : ℕ) (h : k < length o.steps) where
   abbrev d : Drawing
   d = drawn_upto o k
 
@@ -197,7 +199,7 @@ module _ (o : Outline) (shape : IsShape o) (are : AreSteps o) (few : (size_upto 
   links-now : length d.plan.links ≡ (size_upto o k).links
   links-now = ap (λ (z : Size). z.links) (size-steps o are k (omega arith))
 
-  links-then : length d.plan.links + links_of (cells_of (site o d t g) t) ≤ 500000
+  links-then : length d.plan.links + links_of (cells_of (site o d t g) t) ≤ MOST_LINKS
   links-then =
       let e = links-in_all d.plan (cells_of (site o d t g) t) in
       let u = ap (λ (z : Drawing). length z.plan.links) (upto-suc o k) in
@@ -225,28 +227,28 @@ module _ (o : Outline) (shape : IsShape o) (are : AreSteps o) (few : (size_upto 
 no-name : {n : Rattle.shape_plans.specs.Footprint.Excess} → Some n ≡ None → ⊥
 no-name e = cc
 
-judged-few : (f : Size) → judged f ≡ None → f.links ≤ 500000
-judged-few f e = at (nat_lt 500000 f.links) refl e
+judged-few : (f : Size) → judged f ≡ None → f.links ≤ MOST_LINKS
+judged-few f e = at (nat_lt MOST_LINKS f.links) refl e
   where
-    at : (b : Bool) → nat_lt 500000 f.links ≡ b → cond b (Some Rattle.shape_plans.specs.Footprint.Excess.Links) (cond (nat_lt 134217728 f.bytes) (Some Rattle.shape_plans.specs.Footprint.Excess.Bytes) None) ≡ None → f.links ≤ 500000
+    at : (b : Bool) → nat_lt MOST_LINKS f.links ≡ b → cond b (Some Rattle.shape_plans.specs.Footprint.Excess.Links) (cond (nat_lt MOST_BYTES f.bytes) (Some Rattle.shape_plans.specs.Footprint.Excess.Bytes) None) ≡ None → f.links ≤ MOST_LINKS
     at true g e = absurd (no-name e)
     at false g e = ltb-false _ _ g
 
-found-few : (o : Outline) (n k : ℕ) → (size_upto o k).links ≤ 500000 → found_from o k n ≡ None → (size_upto o (k + n)).links ≤ 500000
-found-few o zero k w e = subst (λ v. (size_upto o v).links ≤ 500000) (let z : k ≡ k + 0 = omega arith in z) w
+found-few : (o : Outline) (n k : ℕ) → (size_upto o k).links ≤ MOST_LINKS → found_from o k n ≡ None → (size_upto o (k + n)).links ≤ MOST_LINKS
+found-few o zero k w e = subst (λ v. (size_upto o v).links ≤ MOST_LINKS) (let z : k ≡ k + 0 = omega arith in z) w
 found-few o (suc n) k w e = by (judged (size_upto o (suc k))) refl e (λ v f. found-few o n (suc k) v f)
   where
     no-refusal : {r : Rattle.shape_plans.specs.Footprint.Refused} → Some r ≡ None → ⊥
     no-refusal f = cc
 
     by : (x : Option Rattle.shape_plans.specs.Footprint.Excess) → judged (size_upto o (suc k)) ≡ x → Rattle.shape_plans.specs.Footprint.refused_at k x (found_from o (suc k) n) ≡ None
-        → ((size_upto o (suc k)).links ≤ 500000 → found_from o (suc k) n ≡ None → (size_upto o (suc k + n)).links ≤ 500000) → (size_upto o (k + suc n)).links ≤ 500000
-    by None j f later = subst (λ v. (size_upto o v).links ≤ 500000) (let z : suc k + n ≡ k + suc n = omega arith in z) (later (judged-few (size_upto o (suc k)) j) f)
+        → ((size_upto o (suc k)).links ≤ MOST_LINKS → found_from o (suc k) n ≡ None → (size_upto o (suc k + n)).links ≤ MOST_LINKS) → (size_upto o (k + suc n)).links ≤ MOST_LINKS
+    by None j f later = subst (λ v. (size_upto o v).links ≤ MOST_LINKS) (let z : suc k + n ≡ k + suc n = omega arith in z) (later (judged-few (size_upto o (suc k)) j) f)
     by (Some name) j f later = absurd (no-refusal f)
 
-pub not-refused : (o : Outline) → IsShape o → found_from o 0 (length o.steps) ≡ None → (size_upto o (length o.steps)).links ≤ 500000
+pub not-refused : (o : Outline) → IsShape o → found_from o 0 (length o.steps) ≡ None → (size_upto o (length o.steps)).links ≤ MOST_LINKS
 not-refused o shape e =
-    subst (λ v. (size_upto o v).links ≤ 500000) (let z : 0 + length o.steps ≡ length o.steps = omega arith in z)
+    subst (λ v. (size_upto o v).links ≤ MOST_LINKS) (let z : 0 + length o.steps ≡ length o.steps = omega arith in z)
     (found-few o (length o.steps) 0 (let l = (few-inputs o shape o.inputs (omega arith)).0 in let s = ap (λ (z : Size). z.links) (size-inputs o o.inputs) in omega (arith, l, s)) e)
 
 -- what is judged is answered

@@ -8,6 +8,7 @@ use Rattle.coll_shape.specs.declared.types.CollStep.TheVariants.{Scatter, Reduce
 use Rattle.coll_shape.specs.Outline.{Outline}
 use Rattle.plan_rounds.specs.Rounds.{rounds}
 use Rattle.shape_plans.specs.Drawing.{drawn_upto}
+use Rattle.shape_plans.specs.declared.judging.TheConstants.{MOST_LINKS, MOST_BYTES}
 
 abbrev pub size_of : Plan → Size
 size_of p = record { links = length p.links; bytes = sum_by (λ k. k.length) p.cells }
@@ -21,7 +22,7 @@ pub data Excess : Type 0 where
 
 -- more than 500,000 links, or else more than 134,217,728 bytes
 abbrev pub judged : Size → Option Excess
-judged f = if nat_lt 500000 f.links then Some Links else (if nat_lt 134217728 f.bytes then Some Bytes else None)
+judged f = if nat_lt MOST_LINKS f.links then Some Links else (if nat_lt MOST_BYTES f.bytes then Some Bytes else None)
 
 pub record Refused : Type 0 where
   pub step : ℕ

@@ -4,11 +4,13 @@ ghost use Rattle.std.specs.Prelude.{◌≡◌, ◌<◌, ◌≤◌, ◌+◌, ◌^
 ghost use Rattle.plan_core.specs.Draw.{HasRoom, add, add_all};
 ghost use Rattle.plan_core.specs.Plan.{from_to};
 ghost use Rattle.coll_shape.specs.Outline.{list_bytes};
+ghost use Rattle.coll_shape.specs.declared.limits.TheConstants.{MOST_ELEMENTS};
 ghost use Rattle.shape_plans.specs.Drawing.{drawing_of, drawn_inputs, drawn_upto, hold_row, input_cell, opened, plan_of};
 ghost use Rattle.shape_plans.specs.Judging.{AreSteps, size_upto};
+ghost use Rattle.shape_plans.specs.declared.judging.TheConstants.{MOST_LINKS};
 
 use crate::stepping::add_step;
-use coll_shape::{Buffer, Shape};
+use coll_shape::{Buffer, MOST_RANKS, Shape};
 use plan_core::{Exits, Held, Part, Plan};
 use plan_steps::bump;
 use ptl_types::{NoMemory, Rank};
@@ -31,7 +33,7 @@ fn draw_input(plan: &mut Plan, buffer: &Buffer, length: u64, r: Rank) -> Result<
 
 /// The cells of an input, one a rank.
 fn draw_inputs(plan: &mut Plan, buffer: &Buffer, ranks: u32) -> Result<(), NoMemory>
-    requires short { buffer.now.spread.length ≤ 2 ^ 24 }
+    requires short { buffer.now.spread.length ≤ MOST_ELEMENTS }
     requires room { HasRoom plan.old (map (input_cell buffer.now) (from_to 0 ranks)) }
     ensures { IfOk result (λ u. plan.new ≡ add_all plan.old (map (input_cell buffer.now) (from_to 0 ranks))) }
 {
@@ -80,7 +82,7 @@ fn add_steps(
     exits: &mut Exits,
 ) -> Result<(), NoMemory>
     requires steps { AreSteps shape.now }
-    requires few { (size_upto shape.now (length shape.now.steps)).links ≤ 500000 }
+    requires few { (size_upto shape.now (length shape.now.steps)).links ≤ MOST_LINKS }
     requires plan { plan.old ≡ (drawn_inputs shape.now shape.now.inputs).plan }
     requires held { held.old ≡ (drawn_inputs shape.now shape.now.inputs).held }
     requires exits { exits.old ≡ (drawn_inputs shape.now shape.now.inputs).exits }
@@ -107,8 +109,8 @@ pub struct DrawnShape {
 /// Draws a shape whose plan has so many links.
 pub(crate) fn draw(alloc: Global, shape: &Shape, links: u64) -> Result<DrawnShape, NoMemory>
     requires steps { AreSteps shape.now }
-    requires few { (size_upto shape.now (length shape.now.steps)).links ≤ 500000 }
-    requires told { links ≤ 500000 }
+    requires few { (size_upto shape.now (length shape.now.steps)).links ≤ MOST_LINKS }
+    requires told { links ≤ MOST_LINKS }
     ensures plan { IfOk result (λ c. c.plan ≡ plan_of shape.now) }
     ensures held { IfOk result (λ c. c.held ≡ (drawing_of shape.now).held) }
 {
@@ -116,7 +118,7 @@ pub(crate) fn draw(alloc: Global, shape: &Shape, links: u64) -> Result<DrawnShap
     let ranks = shape.ranks();
     let buffers = shape.buffers().len() as u32;
     let room = links as u32;
-    let mut plan = Plan::open(alloc, ranks, shape.remote(), room + 256, room)?;
+    let mut plan = Plan::open(alloc, ranks, shape.remote(), room + MOST_RANKS, room)?;
     let mut held = Held::open(alloc, buffers, ranks)?;
     let mut exits = Exits::open(alloc, ranks)?;
     add_inputs(&mut plan, shape, &mut held)?;

@@ -3,6 +3,7 @@
 ghost use Rattle.std.specs.Prelude.{◌≡◌, ◌≤◌, ◌<◌, ◌+◌, ◌*◌, ◌^◌, ◌-◌, sum_by};
 ghost use Rattle.plan_core.specs.Plan.{from_to};
 ghost use Rattle.plan_rounds.specs.Rounds.{rounds as rounds_of};
+ghost use Rattle.coll_shape.specs.declared.limits.TheConstants.{MOST_RANKS, MOST_ELEMENTS};
 ghost use Rattle.shape_plans.specs.Footprint.{step_bytes as step_bytes_of, step_links as step_links_of};
 
 use coll_shape::CollStep;
@@ -19,7 +20,7 @@ pub struct Size {
 
 /// The links of the rounds of a scan on m members behind its first row.
 fn round_links(m: u32) -> u64
-    requires { m ≤ 256 }
+    requires { m ≤ MOST_RANKS }
     ensures told { result ≡ sum_by (λ k. m + (m - 2 ^ k)) (from_to 0 (rounds_of m)) }
     ensures few { result ≤ 4096 }
 {
@@ -33,7 +34,7 @@ fn round_links(m: u32) -> u64
 /// The links that a step on m members adds, of which h hold the buffer that it reads.
 pub(crate) fn step_links(step: &CollStep, m: u32, h: u32) -> u64
     requires some { 1 ≤ m }
-    requires few { m ≤ 256 }
+    requires few { m ≤ MOST_RANKS }
     requires held { h ≤ m }
     ensures told { result ≡ step_links_of step.now m h }
     ensures few { result ≤ 2 ^ 18 }
@@ -59,9 +60,9 @@ pub(crate) fn step_links(step: &CollStep, m: u32, h: u32) -> u64
 /// The bytes of the cells that a step on m members adds, of which h hold the buffer that it reads, a list of n bytes.
 pub(crate) fn step_bytes(step: &CollStep, m: u32, h: u32, n: u64) -> u64
     requires some { 1 ≤ m }
-    requires few { m ≤ 256 }
+    requires few { m ≤ MOST_RANKS }
     requires held { h ≤ m }
-    requires short { n ≤ 2 ^ 27 }
+    requires short { n ≤ 8 * MOST_ELEMENTS }
     ensures told { result ≡ step_bytes_of step.now m h n }
     ensures few { result ≤ 2 ^ 45 }
 {

@@ -8,10 +8,10 @@ use crate::footprints::{Size, step_bytes, step_links};
 use coll_shape::{Shape, holders_among};
 
 /// The most links of a plan.
-const MOST_LINKS: u64 = 500_000;
+pub const MOST_LINKS: u64 = 500_000;
 
-/// The most bytes of a plan's cells.
-const MOST_BYTES: u64 = 134_217_728;
+/// The most bytes of a plan's cells, over all ranks.
+pub const MOST_BYTES: u64 = 134_217_728;
 
 /// Two sizes together.
 fn add_sizes(a: Size, b: Size) -> Size

@@ -18,6 +18,7 @@ pub use compiling::drawn_shape;
 pub use drawing::DrawnShape;
 pub use faults::CompileFault;
 pub use footprints::Size;
+pub use judging::{MOST_BYTES, MOST_LINKS};
 
 /// The first excess of the closed forms is that of the plan, drawn step by step.
 pub fn refusal_laws()
