@@ -9,6 +9,7 @@ use Rattle.std.specs.Result.{IsErr}
 use Rattle.std.specs.List.{flat_map}
 use Rattle.std.proofs.Common.{length, get_or, ◌+◌, ◌%◌, add-one, drop-cons}
 use Rattle.run_text.specs.Putting.{Takes, FailsWithin, Puts, EndsWith}
+use Rattle.run_text.specs.declared.pieces.TheConstants.{PIECE}
 
 pub Appends-nothing : (told : Option (List ℕ)) → Appends told told []
 Appends-nothing None = refl
@@ -144,5 +145,5 @@ EndsWith-stops a b text (Ok done) exit fails = absurd (cc)
 EndsWith-stops a b text (Err failed) exit fails = fails
 
 -- a whole piece more leaves as much over
-pub left_over : (less more : ℕ) → more ≡ 65536 + less → less % 65536 ≡ more % 65536
+pub left_over : (less more : ℕ) → more ≡ PIECE + less → less % PIECE ≡ more % PIECE
 left_over less more whole = omega arith

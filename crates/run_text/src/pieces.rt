@@ -8,10 +8,10 @@ use ptl_types::NoMemory;
 use std::alloc::Global;
 use std::marker::Model;
 
-/// How many bytes a piece has. The last piece of a text may be shorter.
+/// How many bytes a piece of a text has that is handed to a sink or asked of a source. The last one may be shorter.
 pub const PIECE: usize = 65_536;
 
-/// Hands a text to a sink in pieces of 65,536 bytes. It means the bytes that it holds back, fewer than a piece.
+/// Hands a text to a sink piece by piece. It means the bytes that it holds back, fewer than a piece.
 ///
 /// Its buffer is taken when it is opened. No later call takes memory.
 #[derive(Drop)]
@@ -21,12 +21,13 @@ pub struct Pieces {
 
 impl Model for Pieces {
     ghost use Rattle.std.specs.Prelude.{◌<◌, ◌≤◌, List, ℕ, vec_len, vec_capacity};
+    ghost use Rattle.run_text.specs.declared.pieces.TheConstants.{PIECE};
 
     ghost Value = { List ℕ };
 
     ghost view = { λ p. p.held.items };
 
-    ghost invariant = { λ p. (vec_len p.held < 65536) × (65536 ≤ vec_capacity p.held) };
+    ghost invariant = { λ p. (vec_len p.held < PIECE) × (PIECE ≤ vec_capacity p.held) };
 }
 
 /// Writes until the sink has taken all of the piece.
@@ -59,7 +60,7 @@ fn write_piece<K: Sink>(held: &mut Vec<u8>, sink: &mut K, list: &[u8]) -> Result
 ///
 /// At `Failed` the count of the sink's faults rose, and a beginning of the text stands.
 pub fn write_short<K: Sink>(sink: &mut K, text: &[u8]) -> Result<(), Failed>
-    requires { length text.now ≤ 65536 }
+    requires { length text.now ≤ PIECE }
     ensures { EndsWith (K.outflow sink.old) (K.outflow sink.new) text.now result }
 {
     write_all(sink, text)?;
@@ -79,7 +80,7 @@ impl Pieces {
 
     /// Adds a list by which a piece is filled at least.
     fn put_long<K: Sink>(&mut self, sink: &mut K, list: &[u8]) -> Result<(), Failed>
-        ensures held { OnOk result (length self.new ≡ (length self.old + length list.now) % 65536) }
+        ensures held { OnOk result (length self.new ≡ (length self.old + length list.now) % PIECE) }
         ensures puts { Puts (K.outflow sink.old) (K.outflow sink.new) self.old self.new list.now result }
     {
         let mut rest = list;
@@ -97,7 +98,7 @@ impl Pieces {
     #[inline]
     pub fn put<K: Sink>(&mut self, sink: &mut K, list: &[u8]) -> Result<(), Failed>
         // What is held back is what fills no piece.
-        ensures held { OnOk result (length self.new ≡ (length self.old + length list.now) % 65536) }
+        ensures held { OnOk result (length self.new ≡ (length self.old + length list.now) % PIECE) }
         ensures puts { Puts (K.outflow sink.old) (K.outflow sink.new) self.old self.new list.now result }
     {
         if list.len() >= PIECE - self.held.len() {
