@@ -2,8 +2,9 @@
 
 use crate::fault::{Refusal, TextFault};
 use crate::lines::Lines;
-use crate::plan_text::{MOST_RANKS, PlanText, plan_in};
+use crate::plan_text::{PlanText, plan_in};
 use crate::words::{take_number, take_word};
+use coll_shape::MOST_RANKS;
 use coll_text::{Words, number_between};
 use ptl_types::{Lane, LocalStep, Rank};
 use std::alloc::Global;

@@ -12,12 +12,10 @@ use crate::words::{
     take_between, take_completion, take_end, take_kind, take_long, take_number, take_op, take_type,
     take_word,
 };
+use coll_shape::MOST_RANKS;
 use coll_text::Words;
 use plan_core::{Cell, Link};
 use std::alloc::Global;
-
-/// The most ranks of a plan.
-pub const MOST_RANKS: u32 = 256;
 
 /// The most links that are read.
 const MOST_LINKS: u32 = 20_000;
