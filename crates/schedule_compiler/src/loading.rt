@@ -7,6 +7,7 @@ ghost use Rattle.plan_calls.specs.Areas.{blank_area, blank_areas, blank_as, init
 ghost use Rattle.plan_calls.specs.Bits.{op_at as op_at_of, type_at as type_at_of};
 ghost use Rattle.plan_tables.specs.Ranks.{IsTables};
 ghost use Rattle.coll_shape.specs.Meaning.{AreInputs};
+ghost use Rattle.coll_shape.specs.declared.limits.TheConstants.{MOST_RANKS, MOST_BUFFERS};
 ghost use Rattle.shape_plans.specs.Drawing.{plan_of};
 
 use crate::schedule::Schedule;
@@ -97,8 +98,8 @@ fn add_blank(
 
 /// Whether a cell is one of the input cells, of which there are so many a rank behind the go cells.
 fn is_input(ranks: u32, count: u32, c: u32) -> bool
-    requires ranks { ranks ≤ 256 }
-    requires count { count ≤ 128 }
+    requires ranks { ranks ≤ MOST_RANKS }
+    requires count { count ≤ MOST_BUFFERS }
     ensures { result ≡ (nat_le ranks c && nat_lt c (ranks + count * ranks)) }
 {
     ranks <= c && c < ranks + count * ranks
@@ -124,10 +125,10 @@ fn add_cell(
     c: u32,
 ) -> Result<(), NoMemory>
     requires count { count ≡ length inputs.now }
-    requires few_inputs { count ≤ 128 }
+    requires few_inputs { count ≤ MOST_BUFFERS }
     requires cell { c < length plan.now.cells }
     requires some { 1 ≤ plan.now.ranks }
-    requires few { plan.now.ranks ≤ 256 }
+    requires few { plan.now.ranks ≤ MOST_RANKS }
     requires lists { (b : ℕ) → b < length inputs.now → length (get_or inputs.now b []) ≡ plan.now.ranks }
     ensures { IfOk result (λ u. bytes.new.items ≡ bytes.old.items ++ initial plan.now inputs.now c) }
 {
@@ -152,10 +153,10 @@ fn add_cells(
     own: &[u32],
 ) -> Result<(), NoMemory>
     requires count { count ≡ length inputs.now }
-    requires few_inputs { count ≤ 128 }
+    requires few_inputs { count ≤ MOST_BUFFERS }
     requires own { (i : ℕ) → i < length own.now → get_or own.now i 0 < length plan.now.cells }
     requires some { 1 ≤ plan.now.ranks }
-    requires few { plan.now.ranks ≤ 256 }
+    requires few { plan.now.ranks ≤ MOST_RANKS }
     requires lists { (b : ℕ) → b < length inputs.now → length (get_or inputs.now b []) ≡ plan.now.ranks }
     ensures { IfOk result (λ u. bytes.new.items ≡ bytes.old.items ++ flat_map (initial plan.now inputs.now) own.now) }
 {
@@ -181,7 +182,7 @@ fn add_area(bytes: &mut Vec<u8>, class: u32, n: u64) -> Result<(), NoMemory>
 fn add_areas(bytes: &mut Vec<u8>, plan: &Plan, tables: &Tables, r: Rank) -> Result<(), NoMemory>
     requires tables { IsTables plan.now tables.now }
     requires rank { r < plan.now.ranks }
-    requires few { plan.now.ranks ≤ 256 }
+    requires few { plan.now.ranks ≤ MOST_RANKS }
     ensures { IfOk result (λ u. bytes.new.items ≡ bytes.old.items ++ blank_areas plan.now r) }
 {
     for class in 0..81u32 {
