@@ -4,6 +4,7 @@ use Rattle.port_io.specs.Counts.{Rose}
 use Rattle.port_io.specs.Ends.{Inflow, Outflow}
 use Rattle.coll_lang.specs.declared.fault.Refusal.{Refusal}
 use Rattle.coll_lang.specs.Program.{Chosen, Program}
+use Rattle.coll_lang.specs.declared.whole.TheConstants.{LONGEST_TEXT}
 use Rattle.coll_shape.specs.Outline.{Outline}
 use Rattle.coll_shape.specs.Meaning.{Lists}
 use Rattle.plan_core.specs.Plan.{Plan as Drawn}
@@ -27,9 +28,9 @@ use Rattle.portals_top.specs.Answered.{IsTold, MayAnswer, Stands, Leaves, Leaves
 use Rattle.portals_top.specs.Written.{Written}
 use Rattle.portals_top.proofs.Told.{Told, read-long, same-read, short-text, told-any}
 
-done-short : (task : Task) (ran : Ran) (text : List ℕ) → (due_of task.command ran (read_as task.format text)).status ≡ Done → length text ≤ 1048576
+done-short : (task : Task) (ran : Ran) (text : List ℕ) → (due_of task.command ran (read_as task.format text)).status ≡ Done → length text ≤ LONGEST_TEXT
 done-short task ran text done =
-    short-text 1048576 text (λ long.
+    short-text LONGEST_TEXT text (λ long.
     let refused : Refused ≡ Done = subst (λ r. (due_of task.command ran r).status ≡ Done) (read-long task.format text long) done in absurd (cc))
 
 -- what stays in the source
@@ -43,7 +44,7 @@ leaves longest owed WriteFault text source source' told short allowed = told.res
 leaves longest owed NoMemory text source source' told short allowed = tt
 
 -- after a text was read, and answered
-pub answered-read : (task : Task) (text : List ℕ) (source source' : Inflow) (sink sink' : Outflow) (ran : Ran) (status : Status) (told : Told 1048576 source.left source'.left text)
+pub answered-read : (task : Task) (text : List ℕ) (source source' : Inflow) (sink sink' : Outflow) (ran : Ran) (status : Status) (told : Told LONGEST_TEXT source.left source'.left text)
     → Written (due_of task.command ran (read_as task.format text)) sink sink' status → HandsBack status (due_of task.command ran (read_as task.format text)).status (LeavesOf task.command (read_as task.format text)) ran
     → Answered (Some task) told.bytes source source' sink sink' ran status
 answered-read task text source source' sink sink' ran status told written handed = let same = sym (same-read task.format told.bytes text told.alike) in record {
@@ -51,7 +52,7 @@ answered-read task text source source' sink sink' ran status told written handed
   read_fault = λ is. absurd (written.no_read is);
   write_fault = λ is. (subst (λ s. Stands s sink sink' (due_of task.command ran (read_as task.format text)).text) is written.text).rose;
   text = subst (λ r. Stands status sink sink' (due_of task.command ran r).text) same written.text;
-  rest = leaves 1048576 (due_of task.command ran (read_as task.format text)).status status text source source' told (done-short task ran text) written.allowed;
+  rest = leaves LONGEST_TEXT (due_of task.command ran (read_as task.format text)).status status text source source' told (done-short task ran text) written.allowed;
   untouched = λ is. absurd (cc);
   world = subst (λ r. HandsBack status (due_of task.command ran r).status (LeavesOf task.command r) ran) same handed;
 }

@@ -8,6 +8,7 @@ use Rattle.coll_shape.specs.Meaning.{Lists}
 use Rattle.coll_lang.specs.declared.fault.Refusal.{Refusal}
 use Rattle.coll_lang.specs.Program.{Program}
 use Rattle.order_lines.specs.Check.{read_check}
+use Rattle.order_lines.specs.declared.checking.TheConstants.{LONGEST_CHECK}
 use Rattle.plan_orders.specs.declared.Verdict.{Verdict}
 use Rattle.plan_orders.specs.declared.Verdict.TheVariants.{Holds, Fails}
 use Rattle.shape_plans.specs.Footprint.{Refused as Excessive, refusal}
@@ -118,12 +119,12 @@ text-no_memory text sink =
     (None, record { allowed = checked-owed None (read_check text); no_read = λ e. absurd (cc); text = refl }, refl)
 
 -- ---- the bytes of the source
-check-short : (found : Option Verdict) (text : List ℕ) → (due_checked found (read_check text)).status ≡ Done → length text ≤ 16777216
+check-short : (found : Option Verdict) (text : List ℕ) → (due_checked found (read_check text)).status ≡ Done → length text ≤ LONGEST_CHECK
 check-short found text done =
-    short-text 16777216 text (λ long. let refused : Refused ≡ Done = subst (λ r. (due_checked found r).status ≡ Done) (check-long text long) done in absurd (cc))
+    short-text LONGEST_CHECK text (λ long. let refused : Refused ≡ Done = subst (λ r. (due_checked found r).status ≡ Done) (check-long text long) done in absurd (cc))
 
 pub checked-read : (text : List ℕ) (source source' : Inflow) (sink sink' : Outflow) (status : Status)
-    (told : Told 16777216 source.left source'.left text)
+    (told : Told LONGEST_CHECK source.left source'.left text)
     → Judges (λ found. due_checked found (read_check text)) (λ found. FindsIn (read_check text) found) sink sink' status
     → Checked told.bytes source source' sink sink' nothing_ran status
 checked-read text source source' sink sink' status told j =
@@ -135,7 +136,7 @@ checked-read text source source' sink sink' status told j =
       read_fault = λ is. absurd (j.1.no_read is);
       write_fault = λ is. (subst (λ s. Stands s sink sink' (due_checked j.0 (read_check text)).text) is j.1.text).rose;
       text = subst (λ r. Stands status sink sink' (due_checked j.0 r).text) same j.1.text;
-      rest = leaves 16777216 (due_checked j.0 (read_check text)).status status text source source' told (check-short j.0 text) j.1.allowed;
+      rest = leaves LONGEST_CHECK (due_checked j.0 (read_check text)).status status text source source' told (check-short j.0 text) j.1.allowed;
       world = refl;
     }
 

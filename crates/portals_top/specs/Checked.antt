@@ -1,5 +1,5 @@
 -- What is owed for a description with orders, and what a check of them leaves.
-use Rattle.std.specs.Prelude.{◌≡◌, ℕ, List, [], ◌∷◌, Option, Some, None, Result, Ok, Err, codes, drop, IsSomeAnd}
+use Rattle.std.specs.Prelude.{◌≡◌, ℕ, ◌+◌, List, [], ◌∷◌, Option, Some, None, Result, Ok, Err, codes, drop, IsSomeAnd}
 use Rattle.port_io.specs.Counts.{Rose}
 use Rattle.port_io.specs.Ends.{Inflow, Outflow}
 use Rattle.ptl_types.specs.declared.steps.LocalStep.{LocalStep}
@@ -9,6 +9,7 @@ use Rattle.coll_shape.specs.Meaning.{Lists}
 use Rattle.coll_lang.specs.declared.fault.Refusal.{Refusal}
 use Rattle.coll_lang.specs.Program.{Program}
 use Rattle.order_lines.specs.Check.{read_check}
+use Rattle.order_lines.specs.declared.checking.TheConstants.{LONGEST_CHECK}
 use Rattle.plan_view.specs.Slots.{Slots}
 use Rattle.plan_cuts.specs.Plans.{system_of}
 use Rattle.plan_orders.specs.Verdict.{IsVerdict}
@@ -82,7 +83,7 @@ pub record Checked (bytes : List ℕ) (source source' : Inflow) (sink sink' : Ou
   pub read_fault : status ≡ ReadFault → Rose source.faults source'.faults
   pub write_fault : status ≡ WriteFault → Rose sink.faults sink'.faults
   pub text : Stands status sink sink' (due_checked verdict (read_check bytes)).text
-  pub rest : Leaves status source' (drop 16777217 bytes)
+  pub rest : Leaves status source' (drop (LONGEST_CHECK + 1) bytes)
   pub world : ran ≡ nothing_ran
 
 -- all that holds after a call with these words

@@ -7,6 +7,7 @@ use Rattle.coll_shape.specs.Meaning.{Lists}
 use Rattle.coll_lang.specs.declared.fault.Refusal.{Refusal}
 use Rattle.coll_lang.specs.declared.fault.Refusal.TheVariants.{TooMany, TooLarge, OneThread}
 use Rattle.coll_lang.specs.Program.{Chosen, Program}
+use Rattle.coll_lang.specs.declared.whole.TheConstants.{LONGEST_TEXT}
 use Rattle.plan_orders.specs.Taking.{listed}
 use Rattle.shape_plans.specs.Drawing.{plan_of}
 use Rattle.shape_plans.specs.Footprint.{Excess, Refused as Excessive, refusal}
@@ -107,7 +108,7 @@ due (Some t) bytes ran = due_of t.command ran (read_as t.format bytes)
 -- what stays in the source: one byte more than the longest description is read, and for other words nothing
 abbrev pub unread : Option Task → List ℕ → List ℕ
 unread None bytes = bytes
-unread (Some t) bytes = drop 1048577 bytes
+unread (Some t) bytes = drop (LONGEST_TEXT + 1) bytes
 
 -- the number with which the program ends
 abbrev pub number_of : Status → ℕ

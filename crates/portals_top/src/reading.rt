@@ -6,10 +6,8 @@ ghost use Rattle.port_io.specs.Ends.{GivesFront, IsAtEnd};
 ghost use Rattle.portals_top.specs.ReadText.{IsReadText};
 
 use port_io::Source;
+use run_text::PIECE;
 use std::alloc::Global;
-
-/// How many bytes are read at once, at most.
-const PIECE: usize = 65_536;
 
 /// Why a text wasn't read.
 #[derive(Clone, Copy, Debug, PartialEq, Eq)]

@@ -23,8 +23,9 @@ use crate::refusing::{refuse, refuse_plan};
 use crate::running::run;
 use crate::status::Status;
 use crate::words::{Command, Mode, Request, Task, request_in};
-use coll_lang::{Description, ParseFault};
+use coll_lang::{Description, LONGEST_TEXT, ParseFault};
 use coll_shape::Shape;
+use order_lines::LONGEST_CHECK;
 use plan_done::counted_shape;
 use port_io::{Sink, Source};
 use rank_threads::{Gate, OpenGate};
@@ -33,12 +34,6 @@ use schedule_compiler::{Job, compile};
 use std::alloc::Global;
 use std::sync::Wait;
 use std::thread::Threads;
-
-/// How many bytes the longest description has.
-const LONGEST: usize = 1_048_576;
-
-/// How many bytes the longest description with orders has.
-const LONGEST_CHECKED: usize = 16_777_216;
 
 const USAGE: &[u8] =
     b"usage: portals_run once | sim X | plan | run W | trace W | large K W | check | steady W | json W\n";
@@ -170,7 +165,7 @@ fn read_and_answer<R: Threads + Wait + Sync, G: Gate, S: Source, K: Sink>(
     ensures { (bytes : List ℕ) × IsTold (S.inflow source.old).left bytes
         × Answered (Some task) bytes (S.inflow source.old) (S.inflow source.new) (K.outflow sink.old) (K.outflow sink.new) ran.new result }
 {
-    match read_text(alloc, LONGEST, source) {
+    match read_text(alloc, LONGEST_TEXT, source) {
         Ok(text) => answer(rt, alloc, gate, task, text.as_slice(), sink, ran),
         Err(ReadError::Failed) => Status::ReadFault,
         Err(ReadError::NoMemory) => Status::NoMemory,
@@ -182,7 +177,7 @@ fn read_and_check<S: Source, K: Sink>(alloc: Global, source: &mut S, sink: &mut 
     ensures { (bytes : List ℕ) × IsTold (S.inflow source.old).left bytes
         × Checked bytes (S.inflow source.old) (S.inflow source.new) (K.outflow sink.old) (K.outflow sink.new) nothing_ran result }
 {
-    match read_text(alloc, LONGEST_CHECKED, source) {
+    match read_text(alloc, LONGEST_CHECK, source) {
         Ok(text) => judged_text(alloc, text.as_slice(), sink),
         Err(ReadError::Failed) => Status::ReadFault,
         Err(ReadError::NoMemory) => Status::NoMemory,

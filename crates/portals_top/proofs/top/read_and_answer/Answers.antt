@@ -1,5 +1,6 @@
 use Rattle.portals_top.proofs.Told.{told-read}
 use Rattle.portals_top.proofs.Answering.{answered-read, answered-failed, answered-no_memory}
+use Rattle.coll_lang.specs.declared.whole.TheConstants.{LONGEST_TEXT}
 use Rattle.portals_top.proofs.top.read_and_answer.Goals as goal
 
 pub returns-in-Ok : goal.returns-in-Ok
@@ -7,7 +8,7 @@ returns-in-Ok g c =
     let source = g.S.Source.inflow c.args.source.now in
     let source' = g.S.Source.inflow c.read_text.new.source in
     let read = c.in-Ok.ensures.text in
-    let told = told-read 1048576 source.left source'.left c.in-Ok.text.items read.front read.short read.whole in
+    let told = told-read LONGEST_TEXT source.left source'.left c.in-Ok.text.items read.front read.short read.whole in
     (told.bytes, told.told, answered-read c.args.task c.in-Ok.text.items source source' _ _ _ _ told (rw c.as_slice.ensures.value at c.answer.ensures.written) (rw c.as_slice.ensures.value at c.answer.ensures.world))
 
 pub returns-in-Err-Failed : goal.returns-in-Err-Failed

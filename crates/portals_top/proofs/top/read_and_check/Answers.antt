@@ -1,5 +1,6 @@
 use Rattle.portals_top.proofs.Told.{told-read}
 use Rattle.portals_top.proofs.Judging.{checked-failed, checked-no_memory, checked-read}
+use Rattle.order_lines.specs.declared.checking.TheConstants.{LONGEST_CHECK}
 use Rattle.portals_top.proofs.top.read_and_check.Goals as goal
 
 pub returns-in-Ok : goal.returns-in-Ok
@@ -7,7 +8,7 @@ returns-in-Ok g c =
     let source = g.S.Source.inflow c.args.source.now in
     let source' = g.S.Source.inflow c.read_text.new.source in
     let read = c.in-Ok.ensures.text in
-    let told = told-read 16777216 source.left source'.left c.in-Ok.text.items read.front read.short read.whole in
+    let told = told-read LONGEST_CHECK source.left source'.left c.in-Ok.text.items read.front read.short read.whole in
     (told.bytes, told.told, checked-read c.in-Ok.text.items source source' _ _ _ told (rw c.as_slice.ensures.value at c.judged_text.ensures))
 
 pub returns-in-Err-Failed : goal.returns-in-Err-Failed
