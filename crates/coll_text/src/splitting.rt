@@ -7,13 +7,14 @@ ghost use Rattle.std.specs.Iterator.{YieldsFirstRef, item_count};
 ghost use Rattle.coll_text.specs.Text.{words, words_left};
 ghost use Rattle.coll_text.specs.Cuts.{parts_behind};
 
+use memchr::memchr;
 use std::marker::Model;
 
 /// Where the first separator stands.
 fn find(bytes: &[u8], separator: u8) -> Option<usize>
     ensures { result ≡ position (λ b. b == separator) bytes.now }
 {
-    bytes.iter().position(|b| *b == separator)
+    memchr(separator, bytes)
 }
 
 /// The bytes before the first separator, and those behind it where there is one.
