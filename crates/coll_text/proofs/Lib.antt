@@ -5,3 +5,4 @@ pub mod DataSpelled
 pub mod Writes
 pub mod ReadBack
 pub mod WordsBack
+pub mod Leading

@@ -81,7 +81,7 @@ no_sign true b h = not_minus b h
     not_minus b h = grind (arith, nat_tests)
 no_sign false b h = refl
 
-unsigned_read : (ty : ElemType) (w : List ℕ) (n : ℕ) → list_all is_digit w ≡ true → number_of w ≡ Some n → n < too_large ty → value_of ty w ≡ Some n
+pub unsigned_read : (ty : ElemType) (w : List ℕ) (n : ℕ) → list_all is_digit w ≡ true → number_of w ≡ Some n → n < too_large ty → value_of ty w ≡ Some n
 unfolding value_of
 unsigned_read ty [] n digits is lt = cc
 unsigned_read ty (b ∷ bs) n digits is lt =

@@ -1,7 +1,8 @@
 //! Numbers in decimal, with one spelling each.
 
-ghost use Rattle.std.specs.Prelude.{◌≡◌, ℕ, ◌+◌, ◌*◌, ◌≤◌, IfSome};
-ghost use Rattle.coll_text.specs.Text.{number_of, number_between};
+ghost use Rattle.std.specs.Prelude.{◌≡◌, ℕ, ◌+◌, ◌*◌, ◌≤◌, IfSome, length, take, true};
+ghost use Rattle.std.specs.List.{list_all};
+ghost use Rattle.coll_text.specs.Text.{is_digit, number_of, number_between, with_digits};
 ghost use Rattle.coll_text.specs.Cuts.{ReadsNumber, Holds, goes_on};
 
 use crate::names::is_digit;
@@ -52,6 +53,25 @@ fn more(number: Option<u64>, digit: u8) -> Option<u64>
     ensures { (n : ℕ) → Holds number n → Holds result (10 * n + digit) }
 {
     number?.checked_mul(10)?.checked_add(u64::from(digit))
+}
+
+/// A number below this one has room for one more digit in a `u64`.
+const ROOMY: u64 = 1_000_000_000_000_000_000;
+
+/// The number that the first digits are, and how many these are. It ends early where one more may not fit.
+#[tactic(auto, using(crate::proofs::Leading::value_more, crate::proofs::Leading::digits_more))]
+pub(crate) fn leading_digits(bytes: &[u8]) -> (u64, usize)
+    ensures within { result.1 ≤ length bytes.now }
+    ensures digits { list_all is_digit (take result.1 bytes.now) ≡ true }
+    ensures value { with_digits 0 (take result.1 bytes.now) ≡ result.0 }
+{
+    let mut number = 0u64;
+    let mut count = 0usize;
+    while count < bytes.len() && number < ROOMY && is_digit(bytes[count]) {
+        number = 10 * number + u64::from(bytes[count] - b'0');
+        count += 1;
+    }
+    (number, count)
 }
 
 /// The number that the word is, where it is one from `low` to `high`.

@@ -31,7 +31,7 @@ pub fn cut(bytes: &[u8], separator: u8) -> (&[u8], Option<&[u8]>)
 /// The words of a line that are left to read. Two spaces beside each other have an empty word between them.
 #[derive(Drop)]
 pub struct Words<'a> {
-    left: Option<&'a [u8]>,
+    pub(crate) left: Option<&'a [u8]>,
 }
 
 impl<'a> Model for Words<'a> {

@@ -1,16 +1,18 @@
 //! Values of the element types, and data lines.
 
-ghost use Rattle.std.specs.Prelude.{◌≡◌, ◌+◌, ◌<◌, ◌++◌, OnOk, OnErr, IfSome, MatchResult, Ok};
+ghost use Rattle.std.specs.Prelude.{◌≡◌, ◌∷◌, ◌+◌, ◌<◌, ◌++◌, [], OnOk, OnErr, IfNone, IfSome, MatchResult, Ok, true};
+ghost use Rattle.std.specs.List.{list_all};
 ghost use Rattle.ptl_types.specs.Operations.{span, bytes_of, is_signed};
 ghost use Rattle.ptl_types.specs.Elements.{little_endian};
-ghost use Rattle.coll_text.specs.Text.{words};
+ghost use Rattle.coll_text.specs.Cuts.{parts_behind};
+ghost use Rattle.coll_text.specs.Text.{is_digit, is_number, words};
 ghost use Rattle.coll_text.specs.Elements.{half};
 ghost use Rattle.coll_text.specs.Values.{too_large, value_of, negative_of, unsigned_of, data_line};
 ghost use Rattle.coll_text.specs.Answers.{Fails};
 ghost use Rattle.coll_text.specs.declared.values.ValuesFault.TheVariants.{NoMemory};
 
-use crate::numerals::{Number, number_at};
-use crate::splitting::Words;
+use crate::numerals::{Number, leading_digits, number_at};
+use crate::splitting::{Words, cut};
 use element_bytes::write_pattern;
 use ptl_types::ElemType;
 use std::alloc::{AllocError, AllocFailed, Global};
@@ -122,6 +124,84 @@ pub fn value_of(ty: ElemType, word: &[u8]) -> Option<u64>
     }
 }
 
+/// The first word of a line, the value that it is, and what follows it where it isn't the last.
+#[derive(Clone, Copy)]
+struct ValueWord<'a> {
+    word: &'a [u8],
+    value: Option<u64>,
+    rest: Option<&'a [u8]>,
+}
+
+/// Whether a word of digits is a number: it has some, and no 0 before others.
+#[tactic(auto, using(crate::proofs::Leading::lone_digit, crate::proofs::Leading::more_digits))]
+fn is_one_spelling(digits: &[u8]) -> bool
+    requires { list_all is_digit digits.now ≡ true }
+    ensures { result ≡ is_number digits.now }
+{
+    match digits.split_first() {
+        None => false,
+        Some((first, others)) => others.is_empty() || *first != b'0',
+    }
+}
+
+/// The first word, where it is a number of few digits up to `most`, the greatest value. `None`: it may be any word.
+fn plain_value<'a>(ty: ElemType, most: u64, line: &'a [u8]) -> Option<ValueWord<'a>>
+    requires { most + 1 ≡ too_large ty }
+    ensures parts { IfSome result (λ first. words line.now ≡ first.word.now ∷ parts_behind 32 first.rest) }
+    ensures value { IfSome result (λ first. first.value ≡ value_of ty first.word.now) }
+{
+    let (number, count) = leading_digits(line);
+    let (word, behind) = line.split_at(count);
+    if number > most || !is_one_spelling(word) {
+        return None;
+    }
+    let value = Some(number);
+    match behind.split_first() {
+        None => Some(ValueWord {
+            word,
+            value,
+            rest: None,
+        }),
+        Some((b' ', rest)) => Some(ValueWord {
+            word,
+            value,
+            rest: Some(rest),
+        }),
+        Some(_) => None,
+    }
+}
+
+/// The first word of a line and its value.
+fn first_value<'a>(ty: ElemType, most: u64, line: &'a [u8]) -> ValueWord<'a>
+    requires { most + 1 ≡ too_large ty }
+    ensures parts { words line.now ≡ result.word.now ∷ parts_behind 32 result.rest }
+    ensures value { result.value ≡ value_of ty result.word.now }
+{
+    if let Some(first) = plain_value(ty, most, line) {
+        return first;
+    }
+    let (word, rest) = cut(line, b' ');
+    ValueWord {
+        word,
+        value: value_of(ty, word),
+        rest,
+    }
+}
+
+/// The next word of a line and its value.
+#[tactic(auto, using(crate::proofs::DataSpelled::value_small))]
+fn next_value<'a>(words: &mut Words<'a>, ty: ElemType, most: u64) -> Option<(&'a [u8], Option<u64>)>
+    requires { most + 1 ≡ too_large ty }
+    ensures word { IfSome result (λ next. words.old ≡ next.0.now ∷ words.new) }
+    ensures value { IfSome result (λ next. next.1 ≡ value_of ty next.0.now) }
+    ensures fits { IfSome result (λ next. IfSome next.1 (λ n. n < span ty)) }
+    ensures none { IfNone result (words.old ≡ []) }
+{
+    let first = first_value(ty, most, words.left?);
+    words.left = first.rest;
+    Some((first.word, first.value))
+}
+
 /// Adds the bytes of an element, lowest first, from its bit pattern.
 ///
 /// # Errors
@@ -154,13 +234,14 @@ pub fn data_line(
     let mut out = Vec::new(alloc);
     let mut left = count;
     let mut is_bad = false;
+    let most = largest(ty);
     let mut words = Words::of(line);
-    while let Some(word) = words.next() {
+    while let Some((word, value)) = next_value(&mut words, ty, most) {
         if word.is_empty() || left == 0 {
             return Err(ValuesFault::Flawed(Flaw::Malformed));
         }
         left -= 1;
-        match value_of(ty, word) {
+        match value {
             Some(n) => push_value(&mut out, ty, n)?,
             None => is_bad = true,
         }
