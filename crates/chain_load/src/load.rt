@@ -27,9 +27,12 @@ pub struct Times {
     pub found: u64,
 }
 
-fn linked(slot: u32) -> Linked
+/// An entry that takes the match bits of its number, but for those that it ignores. One that ignores all of them is too short
+/// for any message, unless it is the last.
+pub(crate) fn linked(slot: u32, ignored: u64) -> Linked
     ensures { result.handle.slot ≡ slot }
 {
+    let short = ignored == u64::MAX && slot < ENTRIES - 1;
     Linked {
         handle: Handle {
             slot,
@@ -38,11 +41,11 @@ fn linked(slot: u32) -> Linked
         running: 0,
         entry: Entry {
             start: 0,
-            length: 8,
+            length: if short { 2 } else { 8 },
             ct: None,
             match_id: None,
             match_bits: slot as u64,
-            ignore_bits: 0,
+            ignore_bits: ignored,
             min_free: 0,
             allow_put: true,
             allow_get: false,
@@ -55,7 +58,7 @@ fn linked(slot: u32) -> Linked
     }
 }
 
-fn header(match_bits: u64) -> Header {
+pub(crate) fn header(match_bits: u64) -> Header {
     Header {
         kind: MessageKind::Put,
         source: 1,
@@ -88,7 +91,7 @@ fn fill<L: Ledger>(
     ensures given { chain.new.given ≡ chain.old.given + count }
 {
     for slot in 0..count {
-        let key = chain.push_back(linked(slot), steps);
+        let key = chain.push_back(linked(slot, 0), steps);
         keys.push_reserved(key);
     }
 }
@@ -205,7 +208,7 @@ fn first_in(entries: &[Linked], header: &Header) -> Option<Linked> {
     None
 }
 
-fn vector_walks(entries: &[Linked]) -> u64 {
+pub(crate) fn vector_walks(entries: &[Linked]) -> u64 {
     let mut found = 0u64;
     for walk in 0..WALKS {
         if first_in(entries, &header(1_000_000 + walk as u64)).is_some() {
@@ -224,7 +227,7 @@ pub fn on_vector<C: Clock>(rt: &C, alloc: Global) -> io::Result<Times> {
     let mut entries = Vec::with_capacity(alloc, ENTRIES as usize)?;
     let start = Instant::now(rt)?;
     for slot in 0..ENTRIES {
-        entries.push(linked(slot))?;
+        entries.push(linked(slot, 0))?;
     }
     let append = start.elapsed(rt)?;
     let start = Instant::now(rt)?;
@@ -232,7 +235,7 @@ pub fn on_vector<C: Clock>(rt: &C, alloc: Global) -> io::Result<Times> {
     let walk = start.elapsed(rt)?;
     let start = Instant::now(rt)?;
     for slot in 0..ENTRIES {
-        let handle = linked(slot.wrapping_add(ENTRIES / 2) % ENTRIES).handle;
+        let handle = linked(slot.wrapping_add(ENTRIES / 2) % ENTRIES, 0).handle;
         unlink_in(&mut entries, handle);
     }
     let unlink = start.elapsed(rt)?;
@@ -245,11 +248,17 @@ pub fn on_vector<C: Clock>(rt: &C, alloc: Global) -> io::Result<Times> {
     })
 }
 
-fn fill_lists<L: Ledger>(lists: &mut Lists, count: u32, steps: &mut Steps<L>)
+/// Links so many entries, of ascending numbers.
+pub(crate) fn fill_lists<L: Ledger>(
+    lists: &mut Lists,
+    count: u32,
+    ignored: u64,
+    steps: &mut Steps<L>,
+)
     requires { lists.old ≡ both [] [] count count 0 }
 {
     for slot in 0..count {
-        let linked = linked(slot);
+        let linked = linked(slot, ignored);
         lists.append(List::Priority, linked.handle, linked.entry, steps);
     }
 }
@@ -276,7 +285,7 @@ pub fn on_lists<L: Ledger, C: Clock>(rt: &C, alloc: Global, blank: Blank) -> io:
         return Err(io::Error::from(AllocError));
     };
     let start = Instant::now(rt)?;
-    fill_lists(&mut lists, ENTRIES, &mut steps);
+    fill_lists(&mut lists, ENTRIES, 0, &mut steps);
     let append = start.elapsed(rt)?;
     let start = Instant::now(rt)?;
     let mut found = 0u64;
@@ -286,7 +295,7 @@ pub fn on_lists<L: Ledger, C: Clock>(rt: &C, alloc: Global, blank: Blank) -> io:
     let walk = start.elapsed(rt)?;
     let start = Instant::now(rt)?;
     for slot in 0..ENTRIES {
-        let handle = linked(slot.wrapping_add(ENTRIES / 2) % ENTRIES).handle;
+        let handle = linked(slot.wrapping_add(ENTRIES / 2) % ENTRIES, 0).handle;
         if lists.unlink(handle, &mut steps).is_some() {
             found = found.wrapping_add(1);
         }

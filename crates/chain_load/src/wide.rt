@@ -1,0 +1,65 @@
+//! Entries that stand in no bucket, so that a find looks at each in order.
+ghost use Rattle.std.specs.Prelude.{◌≡◌};
+
+use crate::load::{ENTRIES, WALKS, fill_lists, header, linked, vector_walks};
+use chain_list::Steps;
+use match_lists::Lists;
+use std::alloc::{AllocError, Global};
+use std::io;
+use std::sync::ledger::{Blank, Ledger};
+use std::time::{Clock, Duration, Instant};
+
+/// What the walks took, and how many of them found an entry.
+#[derive(Drop)]
+pub struct Walks {
+    pub took: Duration,
+    pub found: u64,
+}
+
+/// Looks for an entry again and again.
+fn finds_again<L: Ledger>(lists: &Lists, steps: &mut Steps<L>) -> u64 {
+    let mut found = 0u64;
+    for walk in 0..WALKS {
+        if lists
+            .find(&header(1_000_000 + walk as u64), false, steps)
+            .is_some()
+        {
+            found = found.wrapping_add(1);
+        }
+    }
+    found
+}
+
+/// The walks along the lists of an index.
+pub fn along_lists<L: Ledger, C: Clock>(
+    rt: &C,
+    alloc: Global,
+    blank: Blank,
+    ignored: u64,
+) -> io::Result<Walks>
+    requires name { blank.name ≡ L.name }
+    requires parts { blank.parts ≡ L.parts }
+    requires one { blank.parts ≡ 1 }
+{
+    let mut steps = Steps::<L>::start(blank);
+    let Ok(mut lists) = Lists::open(alloc, ENTRIES, ENTRIES) else {
+        return Err(io::Error::from(AllocError));
+    };
+    fill_lists(&mut lists, ENTRIES, ignored, &mut steps);
+    let start = Instant::now(rt)?;
+    let found = finds_again(&lists, &mut steps);
+    let took = start.elapsed(rt)?;
+    Ok(Walks { took, found })
+}
+
+/// The walks along a vector.
+pub fn along_vector<C: Clock>(rt: &C, alloc: Global, ignored: u64) -> io::Result<Walks> {
+    let mut entries = Vec::with_capacity(alloc, ENTRIES as usize)?;
+    for slot in 0..ENTRIES {
+        entries.push(linked(slot, ignored))?;
+    }
+    let start = Instant::now(rt)?;
+    let found = vector_walks(&entries);
+    let took = start.elapsed(rt)?;
+    Ok(Walks { took, found })
+}
