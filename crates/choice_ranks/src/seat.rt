@@ -13,7 +13,6 @@ use rank_node::{History, Kept, raise_go};
 use std::marker::Model;
 
 /// One rank: its interface, the handles that it gave, and its history.
-#[derive(Drop)]
 pub struct Seat {
     nic: Nic,
     kept: Kept,
@@ -26,6 +25,18 @@ impl Model for Seat {
     ghost Value = { Seated };
 
     ghost view = { λ s. record { kept = s.kept; diary = s.history; nic = s.nic } };
+}
+
+// Written out, so that a caller that lets one go makes one call: a derived one is spelled out, down to each vector, at every return of a
+// caller that has one, and the caller's proof with it.
+impl Drop for Seat {
+    fn drop(self) {
+        let Seat {
+            nic: _,
+            kept: _,
+            history: _,
+        } = self;
+    }
 }
 
 impl Seat {

@@ -12,7 +12,6 @@ use coll_shape::{Inputs, Parts, Shape};
 use std::marker::Model;
 
 /// What a text describes. It keeps that it is readable: its one spelling is read as it.
-#[derive(Drop)]
 pub struct Description {
     shape: Shape,
     inputs: Inputs,
@@ -28,6 +27,18 @@ impl Model for Description {
     ghost view = { λ d. record { shape = d.shape; inputs = d.inputs; choices = d.choices } };
 
     ghost invariant = { λ d. ∥ IsReadable (record { shape = d.shape; inputs = d.inputs; choices = d.choices }) ∥₁ };
+}
+
+// Written out, so that a caller that lets one go makes one call: a derived one is spelled out, down to each vector, at every return of a
+// caller that has one, and the caller's proof with it.
+impl Drop for Description {
+    fn drop(self) {
+        let Description {
+            shape: _,
+            inputs: _,
+            choices: _,
+        } = self;
+    }
 }
 
 impl Description {
@@ -124,6 +135,11 @@ impl Description {
         ensures inputs { result.1 ≡ self.inputs }
         ensures readable { IsReadable self }
     {
-        (self.shape, self.inputs)
+        let Description {
+            shape,
+            inputs,
+            choices: _,
+        } = self;
+        (shape, inputs)
     }
 }

@@ -59,7 +59,7 @@ pub struct Parts {
 }
 
 /// A description without the values of its inputs. It keeps that it is well formed.
-#[derive(Debug, Drop)]
+#[derive(Debug)]
 pub struct Shape {
     parts: Parts,
     /// All ranks, the members of a step that names no group.
@@ -78,6 +78,17 @@ impl Model for Shape {
     ghost view = { λ s. said s.parts };
 
     ghost invariant = { λ s. ∥ IsWellFormed (said s.parts) × (s.everyone ≡ from_to 0 s.parts.ranks) ∥₁ };
+}
+
+// Written out, so that a caller that lets one go makes one call: a derived one is spelled out, down to each vector, at every return of a
+// caller that has one, and the caller's proof with it.
+impl Drop for Shape {
+    fn drop(self) {
+        let Shape {
+            parts: _,
+            everyone: _,
+        } = self;
+    }
 }
 
 /// Copies of these buffers.

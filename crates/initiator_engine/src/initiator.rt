@@ -30,7 +30,6 @@ use user_counts::Users;
 
 /// An initiator. Its value is its rank, the number of ranks, its limits, and its memory descriptors with the answers that
 /// each awaits. `cts` and `eqs` count by slot the descriptors that name a counting event and an event queue.
-#[derive(Drop)]
 pub struct Initiator {
     rank: Rank,
     ranks: u32,
@@ -48,6 +47,21 @@ impl Model for Initiator {
     ghost view = { λ i. initiating i.rank i.ranks i.limits i.mds };
 
     ghost invariant = { λ i. AreUsers i.limits i.mds i.cts i.eqs };
+}
+
+// Written out, so that a caller that lets one go makes one call: a derived one is spelled out, down to each vector, at every return of a
+// caller that has one, and the caller's proof with it.
+impl Drop for Initiator {
+    fn drop(self) {
+        let Initiator {
+            rank: _,
+            ranks: _,
+            limits: _,
+            mds: _,
+            cts: _,
+            eqs: _,
+        } = self;
+    }
 }
 
 /// What a start does to the descriptors, the counting events and the queues; the counting event that rose.

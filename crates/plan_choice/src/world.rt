@@ -30,7 +30,6 @@ use worlds::{Chooser, delivery_at};
 ///
 /// With N ranks and S steps, `enabled` and `at_rest` take a constant number of steps, `enabled_step` and a step of the world the
 /// order of the logarithm of N and S.
-#[derive(Drop)]
 pub struct ChoiceWorld {
     ranks: u32,
     kinds: Vec<ChoiceKind>,
@@ -49,6 +48,22 @@ impl Model for ChoiceWorld {
     ghost view = { λ w. record { ranks = w.ranks; kinds = w.kinds.items; seats = w.seats.items; lanes = w.lanes.items } };
 
     ghost invariant = { λ w. AreFields (record { ranks = w.ranks; kinds = w.kinds.items; seats = w.seats.items; lanes = w.lanes.items }) w.starts w.deliveries w.firings };
+}
+
+// Written out, so that a caller that lets one go makes one call: a derived one is spelled out, down to each vector, at every return of a
+// caller that has one, and the caller's proof with it.
+impl Drop for ChoiceWorld {
+    fn drop(self) {
+        let ChoiceWorld {
+            ranks: _,
+            kinds: _,
+            seats: _,
+            lanes: _,
+            starts: _,
+            deliveries: _,
+            firings: _,
+        } = self;
+    }
 }
 
 /// The word at a place of a memory, its lowest byte first.

@@ -29,7 +29,6 @@ const STRAY_BYTES: u64 = 64;
 
 /// One rank: what is compiled for it, its interface with the handles that it gave, its history, and a buffer for what came before
 /// the start.
-#[derive(Drop)]
 pub struct Node {
     compiled: Compiled,
     nic: Nic,
@@ -49,6 +48,22 @@ impl Model for Node {
     ghost view = { λ n. record { task = task_of n.compiled; kept = n.kept; diary = n.history; nic = n.nic; strays = n.strays; closed = n.gates } };
 
     ghost invariant = { λ n. IsNode (record { task = task_of n.compiled; kept = n.kept; diary = n.history; nic = n.nic; strays = n.strays; closed = n.gates }) × (length n.buffer.items ≡ n.compiled.longest) };
+}
+
+// Written out, so that a caller that lets one go makes one call: a derived one is spelled out, down to each vector, at every return of a
+// caller that has one, and the caller's proof with it.
+impl Drop for Node {
+    fn drop(self) {
+        let Node {
+            compiled: _,
+            nic: _,
+            kept: _,
+            history: _,
+            buffer: _,
+            strays: _,
+            gates: _,
+        } = self;
+    }
 }
 
 /// So many zeros.

@@ -18,7 +18,6 @@ struct Shared {
 }
 
 /// A schedule with inputs of its shape. It is kept once, and shared by all that run it.
-#[derive(Drop)]
 pub struct Job {
     shared: Arc<Shared>,
 }
@@ -32,6 +31,14 @@ impl Model for Job {
     ghost view = { λ j. record { shape = j.shared.value.schedule; inputs = j.shared.value.inputs } };
 
     ghost invariant = { λ j. AreInputs j.shared.value.schedule j.shared.value.inputs };
+}
+
+// Written out, so that a caller that lets one go makes one call: a derived one is spelled out, down to each vector, at every return of a
+// caller that has one, and the caller's proof with it.
+impl Drop for Job {
+    fn drop(self) {
+        let Job { shared: _ } = self;
+    }
 }
 
 impl Job {

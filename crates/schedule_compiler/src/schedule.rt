@@ -40,7 +40,7 @@ pub struct Place {
 
 /// The schedule of a shape: its plan, and what each rank installs. Contracts see it as its shape. It keeps a copy of the shape,
 /// that the shape isn't refused, and that all else is what the shape says.
-#[derive(Debug, Drop)]
+#[derive(Debug)]
 pub struct Schedule {
     shape: Shape,
     plan: Plan,
@@ -57,6 +57,19 @@ impl Model for Schedule {
     ghost view = { λ s. s.shape };
 
     ghost invariant = { λ s. Keeps s.shape s.plan s.held s.tables };
+}
+
+// Written out, so that a caller that lets one go makes one call: a derived one is spelled out, down to each vector, at every return of a
+// caller that has one, and the caller's proof with it.
+impl Drop for Schedule {
+    fn drop(self) {
+        let Schedule {
+            shape: _,
+            plan: _,
+            held: _,
+            tables: _,
+        } = self;
+    }
 }
 
 /// The table of a rank.

@@ -84,7 +84,6 @@ fn outcome_in(list: List) -> Outcome
 
 /// A target: its rank, its portal table indices, and the headers that wait. Its value is the model's `Side`. `linked` counts the
 /// entries that are linked, and `eqs` by slot the indices that have an event queue.
-#[derive(Drop)]
 pub struct Target {
     rank: Rank,
     pub(crate) limit: u32,
@@ -106,6 +105,22 @@ impl Model for Target {
     ghost view = { λ t. side t.rank t.limit (seen_in t.indices.items) t.records.places.given t.headers };
 
     ghost invariant = { λ t. IsWhole t.limit t.indices.items t.linked t.records t.headers t.eqs };
+}
+
+// Written out, so that a caller that lets one go makes one call: a derived one is spelled out, down to each vector, at every return of a
+// caller that has one, and the caller's proof with it.
+impl Drop for Target {
+    fn drop(self) {
+        let Target {
+            rank: _,
+            limit: _,
+            indices: _,
+            linked: _,
+            records: _,
+            headers: _,
+            eqs: _,
+        } = self;
+    }
 }
 
 /// As many places for indices as the limit, none of them allocated, each with its lists.
