@@ -17,7 +17,6 @@ use std::marker::Model;
 use target_engine::Target;
 
 /// One network interface. Its value is the model's `State`.
-#[derive(Drop)]
 pub struct Nic {
     pub(crate) alloc: Global,
     pub(crate) target: Target,
@@ -40,6 +39,24 @@ impl Model for Nic {
     ghost view = { λ n. state_of n.target n.region n.cts n.eqs n.initiator n.pending n.drops n.violations };
 
     ghost invariant = { λ n. IsWhole n.target n.region n.cts n.eqs n.initiator n.pending n.drops n.violations };
+}
+
+// Written out, so that wherever an interface goes there is one call: a derived one is spelled out, field by field and down to each
+// vector, at every return of a caller that has an interface, and the caller's proof with it.
+impl Drop for Nic {
+    fn drop(self) {
+        let Nic {
+            alloc: _,
+            target: _,
+            initiator: _,
+            region: _,
+            cts: _,
+            eqs: _,
+            pending: _,
+            drops: _,
+            violations: _,
+        } = self;
+    }
 }
 
 impl Nic {
