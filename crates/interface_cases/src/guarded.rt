@@ -43,7 +43,7 @@ const LONG: PutArgs = PutArgs {
 
 const STALE: CallFault = CallFault::Refused(NiFault::Stale);
 
-/// An interface of one of two ranks. What a call is given comes here as a parameter, so that no proof works its promise out.
+/// An interface of one of two ranks.
 fn opens<R: Abort + Alloc<A = Global>>(
     rt: &R,
     rank: Rank,

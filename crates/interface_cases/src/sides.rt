@@ -18,8 +18,7 @@ pub struct Side {
     nic: Nic,
 }
 
-/// An interface of one of two ranks with these limits, over a region of these bytes. The limits are handed over, so that the proof of
-/// what an interface begins with counts none of them out.
+/// An interface of one of two ranks with these limits, over a region of these bytes.
 pub fn over<R: Abort + Alloc<A = Global>>(rt: &R, rank: Rank, limits: Limits, bytes: &[u8]) -> Side
     requires { rank < 2 }
 {

@@ -92,7 +92,7 @@ fn open(alloc: Global, limits: Limits) -> Result<Nic, NiFault> {
 }
 
 // Each of the next functions is one call of the interface, without what its contract says of the whole state: so the functions
-// behind them have nothing of it to prove. What the call is given are parameters, so that no proof works its clause out for a number.
+// behind them have nothing of it to prove.
 
 fn allocate_index(nic: &mut Nic, pt: u32) -> Result<(), NiFault> {
     nic.pt_alloc(pt, None)

@@ -1,7 +1,4 @@
 //! The two interfaces, made ready for a put from rank 0 to rank 1.
-//!
-//! What a call of an interface is given comes here as a parameter of a small function, and no number stands in the call itself: what the
-//! call promises is then said of names, and the proof works none of it out.
 
 use guarded_ni::{CallFault, eq_alloc, open, put};
 use portals_ni::Nic;
