@@ -40,12 +40,23 @@ const PUT: Header = Header {
 const DEAD: Handle = Handle { slot: 0, stamp: 7 };
 
 /// A target with what is handed to it. Its calls tell the prover nothing, so that a test is proved line by line.
-#[derive(Drop)]
 struct Host {
     region: Region,
     cts: Store<Counter>,
     eqs: Store<Queue>,
     target: Target,
+}
+
+// Written out, so that wherever one goes there is one call.
+impl Drop for Host {
+    fn drop(self) {
+        let Host {
+            region: _,
+            cts: _,
+            eqs: _,
+            target: _,
+        } = self;
+    }
 }
 
 impl Host {

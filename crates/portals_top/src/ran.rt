@@ -7,12 +7,21 @@ use plan_choice::ChoiceWorld;
 use worlds::World;
 
 /// The world that was run, beside the text that was written.
-#[derive(Drop)]
 pub struct Ran {
     /// The world at rest, where a result was due and the run was made. Else none, and none of a choice text.
     pub world: Option<World>,
     /// The choice world at rest, where the result of a choice text was due and the run was made. Else none.
     pub choice: Option<ChoiceWorld>,
+}
+
+// Written out, so that wherever one goes there is one call.
+impl Drop for Ran {
+    fn drop(self) {
+        let Ran {
+            world: _,
+            choice: _,
+        } = self;
+    }
 }
 
 impl Ran {
