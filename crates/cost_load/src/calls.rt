@@ -1,5 +1,5 @@
-//! The calls of an interface, each in a function without clauses that is given what the call is given: so no proof works a call's
-//! clause out, and the functions that use these have nothing of it to prove. Calls that have conditions are made by `guarded_ni`.
+//! The calls of an interface, each in a function without clauses, so that the functions that use these have nothing of it to prove. Calls
+//! that have conditions are made by `guarded_ni`.
 
 ghost use Rattle.std.specs.Prelude.{◌≤◌};
 

@@ -263,7 +263,7 @@ fn last(full: &mut Full) -> Handle {
 /// A handle of nothing.
 const NOTHING: Handle = Handle { slot: 0, stamp: 0 };
 
-/// A handle by its place, counted on from the first again behind the last.
+/// A handle by its place, counted on from the first again after the last.
 fn nth(handles: &[Handle], number: u32) -> Handle {
     if handles.is_empty() {
         return NOTHING;
