@@ -51,7 +51,7 @@ module _ {X : Type 0} where
   pub settled : (m : NodeMap X) (ss : List (Option ℕ)) (first last : Option ℕ) (xs : List (Keyed X)) → IsChain m ss first last xs → IsChain m ss first last (entries_of m ss first)
   settled m ss first last xs c = subst (λ ys. IsChain m ss first last ys) (sym (entries-chain m ss first last xs c)) c
 
-  -- an entry is put behind the last
+  -- an entry is put after the last
   pub IsChain-push : (m : NodeMap X) (ss : List (Option ℕ)) (first last : Option ℕ) (xs : List (Keyed X)) (p stamp spare : ℕ) (v : X)
       → IsChain m ss first last xs → p < length m.places → get_or m.places p None ≡ None
       → IsChain (relinked_before (Some p) last (relinked_after last (Some p) (with_node p (Some (node v None None)) spare m))) (set ss p (Some stamp)) (cond (is_some last) first (Some p)) (Some p)
@@ -149,7 +149,7 @@ module _ {X : Type 0} where
           away_behind = (ChainLemmas.Apart-cut s.before (keyed key s.entry.value ∷ s.behind) apart).1.0;
         }
 
-    -- the key behind it
+    -- the key after it
     pub after-seen : (s : IsSeen) → key_after key xs ≡ first_key s.behind
     after-seen s = ap (λ ys. key_after key ys) s.is ∙ KeyLemmas.after-append key s.before (keyed key s.value ∷ s.behind) s.away ∙ KeyLemmas.after-here (keyed key s.value) s.behind
 
@@ -161,7 +161,7 @@ module _ {X : Type 0} where
     changed-seen s w =
         ap (λ ys. changed key w ys) s.is ∙ KeyLemmas.changed-append key w s.before (keyed key s.value ∷ s.behind) s.away ∙ ap (λ r. s.before ++ r) (KeyLemmas.changed-here (keyed key s.value) w s.behind s.away_behind)
 
-    -- the key behind it, by the after-link
+    -- the key after it, by the after-link
     pub next-key : (s : IsSeen) (place : ℕ) → first_or s.behind None ≡ Some place
         → (is_some (get_or ss place None) ≡ true) × (key_after key xs ≡ Some (record { place = place; stamp = stamp_or (get_or ss place None) }))
     next-key s place e =

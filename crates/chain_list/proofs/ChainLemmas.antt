@@ -66,7 +66,7 @@ module _ {X : Type 0} where
   Apart-cut [] ys a = (tt, a)
   Apart-cut (x ∷ xs) ys a = let rest = Apart-cut xs ys a.1 in (((NotAt-cut x.key.place xs ys a.0).0, rest.0), rest.1)
 
-  -- what stands behind the last entry lies elsewhere
+  -- what stands after the last entry lies elsewhere
   pub Apart-last : (b : Option ℕ) (xs ys : List (Keyed X)) (q : ℕ) → Apart (xs ++ ys) → (b ≡ Some q → NotAt q ys) → last_or b xs ≡ Some q → NotAt q ys
   Apart-last b [] ys q a h e = h e
   Apart-last b (x ∷ xs) ys q a h e =
@@ -156,7 +156,7 @@ module _ {X : Type 0} where
       Linked-set (places_before (first_or ys None) (last_or None xs) (places_after (last_or None xs) (first_or ys None) cs)) None (xs ++ ys) None x.key.place None
       (NotAt-append x.key.place xs ys (Apart-before xs x ys a) (Apart-cut xs (x ∷ ys) a).1.0) (Linked-joined cs xs x ys a l)
 
-  -- ---- an entry is put behind the last
+  -- ---- an entry is put after the last
   pub NotAt-free : (cs : List (Option (Node X))) (b : Option ℕ) (xs : List (Keyed X)) (a : Option ℕ) (p : ℕ) → Linked cs b xs a → get_or cs p None ≡ None → NotAt p xs
   NotAt-free cs b [] a p l e = tt
   NotAt-free cs b (x ∷ xs) a p l e = (λ at. let full = l.0 in let none = subst (λ q. get_or cs q None ≡ None) (sym at) e in cc, NotAt-free cs (Some x.key.place) xs a p l.1 e)
@@ -182,7 +182,7 @@ module _ {X : Type 0} where
       (Linked-set c2 None xs (Some p) p (with_before last (get_or c2 p None)) away left)
       (here c2 p _ _ still ∙ ap (with_before last) still, tt)
 
-  -- ---- the ends after an entry is put behind the last, or taken out
+  -- ---- the ends after an entry is put after the last, or taken out
   pub last-some : (b : Option ℕ) (xs : List (Keyed X)) → is_some b ≡ true → is_some (last_or b xs) ≡ true
   last-some b [] e = e
   last-some b (x ∷ xs) e = last-some (Some x.key.place) xs refl

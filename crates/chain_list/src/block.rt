@@ -1,7 +1,7 @@
 //! A row of places in one block of memory, each empty or holding a value. A contract sees the list of them.
 ghost use Rattle.std.specs.Prelude.{◌≡◌, ◌+◌, ◌<◌, ◌^◌, Some, None, [], ◌++◌, length, replicate, get_or, slice_set, is_some, IsSome, IfOk, OnOk, OnErr};
 ghost use Rattle.std.specs.Borrow.{Lends, sem};
-ghost use Rattle.std.specs.contracts.option.Option.{the_row as row_of_option};
+ghost use Rattle.std.specs.contracts.option.Option.{the_row};
 
 use crate::filling::fill_up;
 use ptl_types::NoMemory;
@@ -29,7 +29,7 @@ impl<T> Model for Block<T> {
 /// The value of a place that holds one, to write to.
 fn held_mut<T>(place: &mut Option<T>) -> &mut T
     requires { IsSome place.old }
-    ensures* writes_back { sem 𝓛 (Lends (row_of_option T.row) T.row place.entry result Some) }
+    ensures* writes_back { sem 𝓛 (Lends (the_row T.row) T.row place.entry result Some) }
     ensures value { place.old ≡ Some result.now }
 {
     match place {

@@ -2,7 +2,7 @@
 ghost use Rattle.std.specs.Prelude.{◌≡◌, ◌+◌, ◌-◌, ◌*◌, ◌<◌, ◌≤◌, ◌^◌, [], ◌∷◌, ◌++◌, Some, None, is_some, IsSome, IsTrue, length, replicate, get_or, vec_len, vec_capacity, IfOk, IfSome, IfNone, OnOk, OnErr, option_copied, if◌then◌else◌};
 ghost use Rattle.std.specs.Option.{option_copied_mut};
 ghost use Rattle.std.specs.Borrow.{sem};
-ghost use Rattle.chain_list.specs.NodeMap.{IsLive as IsLiveAt, live_count as count_of_live};
+ghost use Rattle.chain_list.specs.NodeMap.{IsLive};
 ghost use Rattle.chain_list.specs.Relinked.{relinked_after, relinked_before};
 
 use crate::filling::fill_up;
@@ -31,7 +31,7 @@ fn set_next<T, L: Ledger>(
     after: Option<u32>,
     steps: &mut Steps<L>,
 )
-    requires { IfSome before (λ place. IsLiveAt place nodes.old) }
+    requires { IfSome before (λ place. IsLive place nodes.old) }
     ensures nodes { nodes.new ≡ relinked_after before after nodes.old }
     ensures first { first.new ≡ (if is_some before then first.old else after) }
     ensures steps { steps.new ≤ steps.old + 1 }
@@ -50,7 +50,7 @@ fn set_previous<T, L: Ledger>(
     before: Option<u32>,
     steps: &mut Steps<L>,
 )
-    requires { IfSome after (λ place. IsLiveAt place nodes.old) }
+    requires { IfSome after (λ place. IsLive place nodes.old) }
     ensures nodes { nodes.new ≡ relinked_before after before nodes.old }
     ensures last { last.new ≡ (if is_some after then last.old else before) }
     ensures steps { steps.new ≤ steps.old + 1 }
@@ -162,7 +162,7 @@ impl<T> Chain<T> {
         self.grow(more)
     }
 
-    /// Puts a value behind the last, under a key of its own. Touches at most three nodes.
+    /// Puts a value after the last, under a key of its own. Touches at most three nodes.
     pub fn push_back<L: Ledger>(&mut self, value: T, steps: &mut Steps<L>) -> ChainKey
         requires room { 0 < self.old.spare }
         requires keys { self.old.given < 2 ^ 64 - 1 }

@@ -104,7 +104,7 @@ fn further(at: usize, len: usize) -> usize {
     at.wrapping_add(7919) % len
 }
 
-/// Takes entries out, far apart one after the other, and puts each behind the last: so the places lie in no order.
+/// Takes entries out, far apart one after the other, and puts each after the last: so the places lie in no order.
 fn scatter<L: Ledger>(chain: &mut Chain<Linked>, keys: &mut [ChainKey], steps: &mut Steps<L>)
     requires { chain.old.given < 2 ^ 63 }
 {

@@ -43,7 +43,7 @@ drawing given = record (choice_system 2 tickets (λ r. slots)) {
   first = λ r. record ((choice_system 2 tickets (λ r. slots)).first r) { memory = four_words 0 given 0 0 ++ [] };
 }
 
--- the only step of the text, at rank r behind this run
+-- the only step of the text, at rank r after this run
 abbrev value : System → (ℕ → ℕ) → ℕ → ℕ → ℕ
 value k words n r = result_of 0 (state_at k (chosen k words n).world r)
 
@@ -81,7 +81,7 @@ abbrev hasty : System
 hasty = electing (operation slots elect (Send 0) ∷ record
     (operation slots elect (Look 0)) { ct = ct_of slots elect Go } ∷ operation slots elect (Tell 0) ∷ [])
 
--- behind both starts rank 0 fires its get
+-- after both starts rank 0 fires its get
 abbrev get_first : ℕ → ℕ
 get_first n = if n == 2 then 1 else 0
 

@@ -38,11 +38,11 @@ module _ (ranks : ℕ) (ks : List ChoiceKind) (slots : ℕ → Slots) (w : Histo
   module _ (msg : Sent) (is : step.e ≡ Receive 0 AnswerLane msg) (a : Answer) (answers : List Answer)
       (whole : now.m.answers step.r ≡ a ∷ answers) (same : answer_message (slots step.r) ks step.r a ≡ msg)
       (left_over : map (answer_message (slots step.r) ks step.r) answers ≡ step.rest 0 step.r AnswerLane) where
-    -- the machine's moment behind it
+    -- the machine's moment after it
     abbrev pub return_next : Moment
     return_next = returned ks step.r a answers now.m
 
-    -- the phase behind it
+    -- the phase after it
     abbrev pub home_phase : Phase
     home_phase = at_home (choice_at ks a.step) (now.m.phase step.r a.step)
 

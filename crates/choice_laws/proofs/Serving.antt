@@ -60,7 +60,7 @@ module _ (ranks : ℕ) (ks : List ChoiceKind) (slots : ℕ → Slots) (in_range 
   module _ (s : ℕ) (msg : Sent) (is : step.e ≡ Receive s Request msg) (source : s < ranks) (at_zero : step.r ≡ 0) (a : Ask)
       (asks : List Ask) (whole : now.m.asks s ≡ a ∷ asks) (same : ask_message (slots s) ks s a ≡ msg)
       (left_over : map (ask_message (slots s) ks s) asks ≡ step.rest s 0 Request) where
-    -- the machine's moment behind it
+    -- the machine's moment after it
     abbrev pub serve_next : Moment
     serve_next = taken ks s a asks now.m
 
@@ -74,7 +74,7 @@ module _ (ranks : ℕ) (ks : List ChoiceKind) (slots : ℕ → Slots) (in_range 
     abbrev pub given : Answer
     given = answer a.step a.reads (now.m.word a.step)
 
-    -- the word behind it
+    -- the word after it
     abbrev pub word_next : ℕ
     word_next = word_after (choice_at ks a.step) a.reads s (now.m.word a.step)
 

@@ -85,7 +85,7 @@ module _ (ranks : ℕ) (ks : List ChoiceKind) (slots : ℕ → Slots) (w : Histo
       (does : fired (view (slots step.r) ranks ks step.r (seat_of ks now.m step.r)) t
       ≡ fires (view (slots step.r) ranks ks step.r (with_phase s (advanced (now.m.phase step.r s)) (seat_of ks now.m step.r)))
       (sent_message (slots step.r) ks step.r s (now.m.phase step.r s))) where
-    -- the machine's moment behind it
+    -- the machine's moment after it
     abbrev pub fire_next : Moment
     fire_next = fired_in step.r s now.m
 

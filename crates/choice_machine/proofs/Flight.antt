@@ -1,4 +1,4 @@
--- What is under way, behind each move.
+-- What is under way, after each move.
 use Rattle.std.proofs.Common.{ℕ, Bool, true, false, ◌≡◌, ◌<◌, List, [], ◌∷◌, ◌++◌, refl, map, ap, ◌∙◌, sym, subst, inl, inr, append-nil}
 use Rattle.std.proofs.lemmas.Bool.{cases_eq}
 use Rattle.std.proofs.lemmas.List.{map-append}

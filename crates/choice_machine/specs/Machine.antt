@@ -85,7 +85,7 @@ is_ready Elect (Answered old) = true
 is_ready k (Learned old value) = true
 is_ready k _ = false
 
--- behind the firing
+-- after the firing
 abbrev pub advanced : Phase → Phase
 advanced Idle = Asked
 advanced (Answered old) = Reading old
@@ -104,7 +104,7 @@ fired r s m = record m { phase = put_in r s (advanced (m.phase r s)) m.phase; as
 
 -- ---- a request at rank 0
 
--- the word behind a request of rank r: a get leaves it
+-- the word after a request of rank r: a get leaves it
 abbrev pub word_after : ChoiceKind → Bool → ℕ → ℕ → ℕ
 word_after k true r w = w
 word_after Elect false r w = if w == top then r else w
@@ -116,7 +116,7 @@ served w Asked = Served w
 served w (Reading old) = Read old w
 served w p = p
 
--- rank 0 takes request a of rank r, behind which `rest` is under way
+-- rank 0 takes request a of rank r, after which `rest` is under way
 abbrev pub taken : List ChoiceKind → ℕ → Ask → List Ask → Moment → Moment
 taken ks r a rest m = record m {
   phase = put_in r a.step (served (m.word a.step) (m.phase r a.step)) m.phase;
@@ -134,7 +134,7 @@ at_home Tickets (Served old) = Learned 0 old
 at_home k (Read old value) = Learned old value
 at_home k p = p
 
--- answer a comes to rank r, behind which `rest` is under way
+-- answer a comes to rank r, after which `rest` is under way
 abbrev pub returned : List ChoiceKind → ℕ → Answer → List Answer → Moment → Moment
 returned ks r a rest m = record m {
   phase = put_in r a.step (at_home (choice_at ks a.step) (m.phase r a.step)) m.phase;

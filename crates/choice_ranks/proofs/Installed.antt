@@ -1,4 +1,4 @@
--- The interface behind all calls.
+-- The interface after all calls.
 use Rattle.std.proofs.Common.{ℕ, ◌+◌, ◌<◌, ◌≡◌, ◌∙◌, List, ◌∷◌, ◌++◌, ap, arith, flat_map, get_or, length, map, refl, subst, sym}
 use Rattle.std.specs.Prelude.{sum_by}
 use Rattle.std.proofs.lemmas.List.Sums.{sum_by-cons}

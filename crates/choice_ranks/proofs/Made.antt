@@ -1,4 +1,4 @@
--- What single calls leave, and one list of calls behind another.
+-- What single calls leave, and one list of calls after another.
 use Rattle.std.proofs.Common.{ℕ, ◌+◌, ◌≡◌, ◌∙◌, List, [], ◌∷◌, ◌++◌, ap, ap₂, add-zero, arith, length, refl, subst, sym}
 use Rattle.std.specs.Prelude.{sum_by}
 use Rattle.std.proofs.lemmas.List.Sums.{sum_by-append}
@@ -38,7 +38,7 @@ made-none ks s hs all = record {
   limits = refl;
 }
 
--- ---- one list behind another
+-- ---- one list after another
 more : (f : Call → ℕ) (xs ys : List Call) (a b c : ℕ) → b ≡ a + sum_by f xs → c ≡ b + sum_by f ys → c ≡ a + sum_by f (xs ++ ys)
 more f xs ys a b c e h = let q = sum_by-append f xs ys in omega (arith, e, h, q)
 

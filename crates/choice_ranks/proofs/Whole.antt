@@ -32,7 +32,7 @@ wide_on s t w e f = record {
   fetches = subst (λ (x : Limits). 8 ≤ x.fetch_atomic) (sym f) w.fetches;
 }
 
--- ---- the counters and descriptors of step t behind those of the steps before it
+-- ---- the counters and descriptors of step t after those of the steps before it
 module _ (ks : List ChoiceKind) (few : length ks ≤ 64) (s0 s : State) (a b : Handles) (t : ℕ) (two : length a.counters ≡ 2)
     (none : length a.descriptors ≡ 0) (room : HasRoom (flat_map (step_calls ks) (steps ks)) a)
     (made : AreMade ks (flat_map (step_calls ks) (from_to 0 t)) s0 s a b) where
@@ -72,7 +72,7 @@ counters_small ks t h = let l = before_le counters_in 2 counters_two ks t in ome
 pub descriptors_small : (ks : List ChoiceKind) (t : ℕ) → t < 64 → before things_in ks t ≤ 192
 descriptors_small ks t h = let l = before_le things_in 3 things_three ks t in omega (arith, l, h)
 
--- ---- the operations of step t behind those of the steps before it
+-- ---- the operations of step t after those of the steps before it
 -- those of the first steps
 abbrev pub works_until : List ChoiceKind → ℕ → List Work
 works_until ks t = flat_map (λ s. works_of (choice_at ks s) s) (from_to 0 t)

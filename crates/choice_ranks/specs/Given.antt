@@ -32,7 +32,7 @@ pub record HasRoom (calls : List Call) (hs : Handles) : Type 0 where
   pub entries : length hs.entries + sum_by entries_by calls ≤ hs.room.entries
   pub descriptors : length hs.descriptors + sum_by descriptors_by calls ≤ hs.room.descriptors
 
--- behind the calls
+-- after the calls
 pub record AreMade (ks : List ChoiceKind) (calls : List Call) (old new : State) (before after : Handles) : Type 0 where
   -- whatever the slots of what is made later: the state is that of the calls
   pub state : (k : Slots) → Agrees k after → new ≡ calls_made k ks calls old

@@ -2,7 +2,7 @@
 
 ghost use Rattle.std.specs.Prelude.{ℕ, List, None, true, false, ◌≡◌, ◌<◌, ◌≤◌, ◌+◌, ◌*◌, ◌^◌, [], ◌∷◌, IfOk, OnOk, is_some, flat_map, length, map, sum_by};
 ghost use Rattle.ptl_types.specs.declared.headers.AckRequest.TheVariants.{NoAck};
-ghost use Rattle.coll_lang.specs.declared.choices.ChoiceKind.{ChoiceKind as KindOf};
+ghost use Rattle.coll_lang.specs.declared.choices.ChoiceKind.{ChoiceKind};
 ghost use Rattle.coll_lang.specs.declared.choices.ChoiceKind.TheVariants.{Elect, Tickets};
 ghost use Rattle.plan_core.specs.Plan.{from_to};
 ghost use Rattle.rank_node.specs.Handles.{AreAllOf, no_handles, room_under};
@@ -28,7 +28,7 @@ use std::alloc::Global;
 /// What an interface is opened with for so many steps.
 fn limits_for(steps: u32) -> Limits
     requires { steps ≤ 64 }
-    ensures { (ks : List KindOf) → length ks ≡ steps → result ≡ limits_of ks }
+    ensures { (ks : List ChoiceKind) → length ks ≡ steps → result ≡ limits_of ks }
 {
     Limits {
         entries: steps,
@@ -67,7 +67,7 @@ fn make_elect(nic: &mut Nic, kept: &mut Kept, step: u32, counter: usize) -> Resu
     requires small { counter ≤ 130 }
     requires counters { length kept.old.counters + 2 ≤ kept.old.room.counters }
     requires descriptors { length kept.old.descriptors + 3 ≤ kept.old.room.descriptors }
-    ensures { OnOk result ((ks : List KindOf) →
+    ensures { OnOk result ((ks : List ChoiceKind) →
         choice_at ks step ≡ Elect → counter ≡ 2 + before counters_in ks step →
         AreMade ks (step_calls ks step) nic.old nic.new kept.old kept.new) }
 {
@@ -89,7 +89,7 @@ fn make_tickets(nic: &mut Nic, kept: &mut Kept, step: u32, counter: usize) -> Re
     requires all { AreAllOf nic.old kept.old }
     requires counters { length kept.old.counters + 1 ≤ kept.old.room.counters }
     requires descriptors { length kept.old.descriptors + 2 ≤ kept.old.room.descriptors }
-    ensures { OnOk result ((ks : List KindOf) →
+    ensures { OnOk result ((ks : List ChoiceKind) →
         choice_at ks step ≡ Tickets → counter ≡ 2 + before counters_in ks step →
         AreMade ks (step_calls ks step) nic.old nic.new kept.old kept.new) }
 {
@@ -137,7 +137,7 @@ fn make_step(
     requires small { counter ≤ 130 }
     requires counters { length kept.old.counters + counters_in kind ≤ kept.old.room.counters }
     requires descriptors { length kept.old.descriptors + things_in kind ≤ kept.old.room.descriptors }
-    ensures { OnOk result ((ks : List KindOf) →
+    ensures { OnOk result ((ks : List ChoiceKind) →
         choice_at ks step ≡ kind → counter ≡ 2 + before counters_in ks step →
         AreMade ks (step_calls ks step) nic.old nic.new kept.old kept.new) }
 {
@@ -193,7 +193,7 @@ fn make_words(nic: &mut Nic, kept: &mut Kept, count: u32) -> Result<(), NoMemory
     requires few { count ≤ 64 }
     requires all { AreAllOf nic.old kept.old }
     requires room { length kept.old.entries + count ≤ kept.old.room.entries }
-    ensures { OnOk result ((ks : List KindOf) → AreMade ks (map MeAppend (from_to 0 count)) nic.old nic.new kept.old kept.new) }
+    ensures { OnOk result ((ks : List ChoiceKind) → AreMade ks (map MeAppend (from_to 0 count)) nic.old nic.new kept.old kept.new) }
 {
     for step in 0..count {
         make_entry(nic, kept, MatchList::Priority, entry_of(u64::from(step)))?;
@@ -249,7 +249,7 @@ fn post_elect(
     requires first { 1 < length kept.now.counters }
     requires descriptors { descriptor + 2 < length kept.now.descriptors }
     requires small { (counter ≤ 130) × (descriptor ≤ 192) }
-    ensures { OnOk result ((ks : List KindOf) →
+    ensures { OnOk result ((ks : List ChoiceKind) →
         choice_at ks step ≡ Elect → counter ≡ 2 + before counters_in ks step → descriptor ≡ before things_in ks step →
         AreMade ks (map Trigger (works_of Elect step)) nic.old nic.new kept.now kept.now) }
 {
@@ -283,7 +283,7 @@ fn post_tickets(
     requires first { 1 < length kept.now.counters }
     requires descriptors { descriptor + 1 < length kept.now.descriptors }
     requires small { descriptor ≤ 192 }
-    ensures { OnOk result ((ks : List KindOf) →
+    ensures { OnOk result ((ks : List ChoiceKind) →
         choice_at ks step ≡ Tickets → counter ≡ 2 + before counters_in ks step → descriptor ≡ before things_in ks step →
         AreMade ks (map Trigger (works_of Tickets step)) nic.old nic.new kept.now kept.now) }
 {
@@ -316,7 +316,7 @@ fn post_step(
     requires first { 1 < length kept.now.counters }
     requires descriptors { descriptor + things_in kind ≤ length kept.now.descriptors }
     requires small { (counter ≤ 130) × (descriptor ≤ 192) }
-    ensures { OnOk result ((ks : List KindOf) →
+    ensures { OnOk result ((ks : List ChoiceKind) →
         choice_at ks step ≡ kind → counter ≡ 2 + before counters_in ks step → descriptor ≡ before things_in ks step →
         AreMade ks (map Trigger (works_of kind step)) nic.old nic.new kept.now kept.now) }
 {

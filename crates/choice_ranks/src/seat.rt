@@ -4,7 +4,7 @@ ghost use Rattle.std.specs.Prelude.{◌≡◌, ◌<◌, ◌≤◌, ◌+◌, ◌*
 ghost use Rattle.ni_model.specs.Ready.{is_ready, ready_numbers};
 ghost use Rattle.plan_cuts.specs.History.{is_start, made_by};
 ghost use Rattle.plan_cuts.specs.History.Local.{Fire as Fired, Receive as Received};
-ghost use Rattle.rank_node.specs.Copies.{listed as step_of};
+ghost use Rattle.rank_node.specs.Copies.{listed};
 ghost use Rattle.choice_ranks.specs.Seats.{fired_seat, received_seat, started_seat};
 
 use portals_ni::Nic;
@@ -57,7 +57,7 @@ impl Seat {
     /// Its steps, oldest first.
     pub fn history(&self) -> &[LocalStep]
         ensures told { result.now ≡ self.now.diary.steps }
-        ensures listed { map step_of self.now.diary.locals ≡ self.now.diary.steps }
+        ensures listed { map listed self.now.diary.locals ≡ self.now.diary.steps }
     {
         self.history.steps()
     }

@@ -64,7 +64,7 @@ module _ (k : Slots) (ks : List ChoiceKind) where
   pass-append [] ys s h i = i
   pass-append (x ∷ xs) ys s h i = (h.0, h.1, pass-append xs ys (call_made k ks x s) h.2 i)
 
-  -- each passes behind those before it
+  -- each passes after those before it
   pass-map : {X : Type 0} (f : X → Call) (xs : List X) (s : State)
       → ((front : List X) (x : X) (back : List X) → front ++ x ∷ back ≡ xs
       → MayMake k ks (f x) (calls_made k ks (map f front) s) × (call_fault k ks (f x) (calls_made k ks (map f front) s) ≡ None))
@@ -140,7 +140,7 @@ module _ (k : Slots) (ranks : ℕ) (ks : List ChoiceKind) (r : ℕ) where
   blank_is : blank ranks ks r ≡ opened_so
   blank_is = ap (opened r ranks (limits_of ks)) (bytes_are ks r (steps ks))
 
-  -- behind the calls for each step, and behind the words
+  -- after the calls for each step, and after the words
   abbrev pub stepped : State
   stepped = calls_made k ks (flat_map (step_calls ks) (steps ks)) (fresh k ranks ks r)
 

@@ -48,7 +48,7 @@ In-home ks s h = at (choice_at ks s) refl
     at Tickets e = In-result ks s h
 
 module _ (k : Slots) (ranks : ℕ) (ks : List ChoiceKind) (r : ℕ) (seat : Seat) (s : ℕ) (h : s < length ks) where
-  -- the seat behind a firing in step s
+  -- the seat after a firing in step s
   abbrev pub next : Seat
   next = with_phase s (advanced (seat.phase s)) seat
 

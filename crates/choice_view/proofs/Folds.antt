@@ -36,7 +36,7 @@ made_all k ks [] s = s
 made_all k ks (t ∷ ts) s =
     made_all k ks ts (parts_all k ks (parts_of (choice_at ks t) t) (counters_all k (counters_of (choice_at ks t) t) s))
 
--- the counters cs of step t, and its descriptors xs, behind the steps before it
+-- the counters cs of step t, and its descriptors xs, after the steps before it
 abbrev pub made_part : Slots → List ChoiceKind → ℕ → List Counter → List Part → State → State
 made_part k ks t cs xs s = parts_all k ks xs (counters_all k cs (made_all k ks (from_to 0 t) s))
 

@@ -7,7 +7,7 @@ use Rattle.ptl_types.specs.declared.handles.Count.{Count}
 use Rattle.ni_model.specs.Append.{append}
 use Rattle.ni_model.specs.Calls.{with_bound, with_counter, with_operation}
 use Rattle.ni_model.specs.Counts.{successes}
-use Rattle.ni_model.specs.Headers.{held}
+use Rattle.ni_model.specs.Headers.{unexpected_list}
 use Rattle.ni_model.specs.State.{Posted, State}
 use Rattle.ni_model.specs.Tables.{Live, handle}
 use Rattle.plan_core.specs.Plan.{from_to}
@@ -169,7 +169,7 @@ entries_with s xs n = record s {
   indices = Some (record { eq = None; priority = xs; overflow = [] }) ∷ [];
   entries_given = n;
   headers =
-      held [] 0;
+      unexpected_list [] 0;
 }
 
 pub after_entries : (k : Slots) (ts : List ℕ) (s : State) (xs : List Linked) (n : ℕ) → Runs same_number n ts

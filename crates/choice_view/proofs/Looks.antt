@@ -1,4 +1,4 @@
--- What an interface shows of a phase, behind each move.
+-- What an interface shows of a phase, after each move.
 use Rattle.std.proofs.Common.{ℕ, ◌≡◌, refl}
 use Rattle.coll_lang.specs.declared.choices.ChoiceKind.{ChoiceKind}
 use Rattle.coll_lang.specs.declared.choices.ChoiceKind.TheVariants.{Elect, Tickets}

@@ -68,9 +68,9 @@ module _ (k : Slots) (ranks : ℕ) (ks : List ChoiceKind) (r : ℕ) (seat : Seat
       due : is_due (reply_header true 8 h) (bound_for k ks seat x) ≡ true
       due = ap₂ (λ n m. nat_lt 0 n && nat_le (m + 8) 8) awaits no_offset
 
--- ---- a home that has the seat behind the answer
+-- ---- a home that has the seat after the answer
 module _ (k : Slots) (ranks : ℕ) (ks : List ChoiceKind) (r : ℕ) (seat : Seat) (s : ℕ) (h : s < length ks) (p : Phase) where
-  -- the seat behind the answer
+  -- the seat after the answer
   abbrev pub after_home : Seat
   after_home = with_phase s p seat
 

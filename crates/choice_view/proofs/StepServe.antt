@@ -32,7 +32,7 @@ use Rattle.choice_view.proofs.Memory.{read_first, read_part, write_first, write_
 use Rattle.choice_view.proofs.Stamps.{In-steps, steps-In}
 use Rattle.choice_view.proofs.StepStart.{length-step}
 
--- the words behind an operation
+-- the words after an operation
 pattern_word : (x : ℕ) → x < 2 ^ 64 → pattern (word x) ≡ x
 pattern_word x h = pattern-little 8 x h
 

@@ -126,7 +126,7 @@ module _ (k : Slots) (ranks : ℕ) (ks : List ChoiceKind) (r : ℕ) (few : 3 * l
     parts_long_before = let a = flat_long things_in ks (λ s. parts_of (choice_at ks s) s) (λ s. parts_long ks (choice_at ks s) s) 0 t in
         let q : 0 + t ≡ t = omega arith in let e = ap (before things_in ks) q in omega (arith, a, e)
 
-    -- the state behind them
+    -- the state after them
     abbrev pub made_before : State
     made_before = tables_with (fresh k ranks ks r) (map (new_counter k ks) (Go ∷ Done ∷ counters_before)) (2 + length counters_before)
         (map (new_part k ks) parts_before) (0 + length parts_before)

@@ -24,7 +24,7 @@ use Rattle.ni_model.specs.declared.Linked.{Linked}
 use Rattle.ni_model.specs.declared.Bound.{Bound}
 use Rattle.ni_model.specs.Tables.{Live, handle, no_things}
 use Rattle.ni_model.specs.Counts.{successes}
-use Rattle.ni_model.specs.Headers.{held}
+use Rattle.ni_model.specs.Headers.{unexpected_list}
 use Rattle.ni_model.specs.Arrive.{reply_header}
 use Rattle.ni_model.specs.Starts.{fetch_header, get_header}
 use Rattle.ni_model.specs.State.{Posted, State}
@@ -405,7 +405,7 @@ view k ranks ks r seat = record {
   memory = flat_map (step_bytes ks r seat) (steps ks);
   indices = Some (record { eq = None; priority = entries_of k ks r; overflow = [] }) ∷ [];
   entries_given = if r == 0 then length ks else 0;
-  headers = held [] 0;
+  headers = unexpected_list [] 0;
   cts = record { live = map (live_counter k ks seat) (counters ks); given = length (counters ks); limit = 2 * length ks + 2 };
   eqs = no_things 0;
   mds = record { live = map (live_part k ks seat) (parts ks); given = length (parts ks); limit = 3 * length ks };

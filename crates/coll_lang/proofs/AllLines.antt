@@ -304,7 +304,7 @@ leads_to At stage before next x sound whole is g = record {
   written_is = subst (λ s. written s next ≡ before ++ x) (sym is) (whole next ∙ g.written_is);
 }
 
--- the stage behind an input line or a data line
+-- the stage after an input line or a data line
 pub at_due : (left : ℕ) (ty : ElemType) (count : ℕ) (p : Past) → Given left ty count p → Sound (data_due left ty count) p
 at_due zero ty count p g = g.done refl
 at_due (suc left) ty count p g = g.more (omega arith)

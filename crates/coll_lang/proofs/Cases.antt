@@ -109,7 +109,7 @@ groups_described : read (text_of
 unfolding text_of head read read_from judge line_at later_line values_line form_line print_line step_line rooted_line step_on source_named input_line group_line buffer_named ranks_in form_of root_in op_in names_in step_in on_in group_in input_in name_in data_line value_of described
 groups_described = refl
 
--- one line more behind the input, and what is refused first on it
+-- one line more after the input, and what is refused first on it
 last_line : List ℕ → Result (Unit {0}) (ℕ × Refusal)
 last_line l = answer (read (text_of (head (l ∷ []))))
 

@@ -38,7 +38,7 @@ use Rattle.coll_lang.specs.declared.whole.TheConstants.{LONGEST_TEXT}
 abbrev made : ℕ → Chosen → List Buffer
 made n c = map (choice_made n) c.steps
 
--- what is said behind the first i steps
+-- what is said after the first i steps
 abbrev chosen_upto : Version → ℕ → Chosen → ℕ → Past
 chosen_upto v n c i = record (start v n) { buffers = take i (made n c); choices = take i c.steps }
 

@@ -1,4 +1,4 @@
--- What a line says that may stand behind the first two: its words are spelled so, and its names are names.
+-- What a line says that may stand after the first two: its words are spelled so, and its names are names.
 use Rattle.std.proofs.Common.{◌≡◌, ℕ, List, [], ◌∷◌, ◌++◌, Option, Some, None, Bool, true, false, cond, ◌&&◌, not, refl, sym, ap, ◌∙◌, codes, subst}
 use Rattle.std.specs.Prelude.{is_some, option_map}
 use Rattle.std.specs.List.{list_any}

@@ -36,7 +36,7 @@ take_none (suc n) = refl
 behind : (b d i t : List ℕ) → b ++ (d ++ (i ++ t)) ≡ (b ++ (d ++ i)) ++ t
 behind b d i t = simp append_assoc
 
--- a new input stands behind the others, with no data lines yet
+-- a new input stands after the others, with no data lines yet
 pub one_input : (ranks : ℕ) (bs : List Buffer) (c : Buffer) (lists : List (List ℕ)) → Filled ranks bs lists
     → inputs_text ranks (bs ++ c ∷ []) lists ≡ inputs_text ranks bs lists ++ input_text c
 one_input ranks [] c lists h = rw (h, take_none ranks) (append-nil (input_text c))
@@ -89,7 +89,7 @@ fills ranks left (b ∷ bs) c lists x lt is h =
           (fills ranks left bs c (drop ranks lists) x lt is h.2),
     )
 
--- a data line stands behind the others of the newest input
+-- a data line stands after the others of the newest input
 pub one_data_line : (ranks left : ℕ) (bs : List Buffer) (c : Buffer) (lists : List (List ℕ)) (x : List ℕ) → 0 < left
     → Filling ranks left bs c lists
     → inputs_text ranks (bs ++ c ∷ []) (lists ++ x ∷ []) ≡ inputs_text ranks (bs ++ c ∷ []) lists ++ data_text c x

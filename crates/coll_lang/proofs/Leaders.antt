@@ -35,7 +35,7 @@ abbrev pub texts : (ℕ → List ℕ) → ℕ → ℕ → List ℕ
 texts item k zero = []
 texts item k (suc m) = item k ++ texts item (suc k) m
 
--- each leads from what is said before it to what is said behind it
+-- each leads from what is said before it to what is said after it
 pub each_leads : (st : ℕ → Past) (item : ℕ → List ℕ) (wide : Stage) (n : ℕ)
     → ((i : ℕ) → i < n → (s : Stage) → Wider s wide → Leads (at s (st i)) (at wide (st (suc i))) (item i))
     → (k m : ℕ) → k + m ≡ n → (s : Stage) → Wider s wide → Led (at s (st k)) (texts item k m) (st n) wide

@@ -30,7 +30,7 @@ one_line past next l going allowed taken = λ final rest h k.
     ∙ goes_on past next k l rest going taken
     ∙ h (k + 1)
 
--- lines behind lines
+-- lines after lines
 pub then : (past mid next : Past) (x y : List ℕ) → Leads past mid x → Leads mid next y → Leads past next (x ++ y)
 then past mid next x y f g = λ final rest h k.
     ap (λ (z : List ℕ). read_from past k (lines z)) (append_assoc x y rest) ∙ f final (y ++ rest) (g final rest h) k

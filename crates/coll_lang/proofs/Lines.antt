@@ -180,7 +180,7 @@ pub record IsGroupLine (o : Outline) (g : Group) : Type 0 where
 abbrev pub with_group : Outline → Group → Outline
 with_group o g = record o { groups = o.groups ++ g ∷ [] }
 
--- the names with a group's behind those of the groups
+-- the names with a group's after those of the groups
 pub map_more : {X Y : Type 0} (f : X → Y) (xs : List X) (x : X) → map f (xs ++ x ∷ []) ≡ map f xs ++ f x ∷ []
 map_more f [] x = refl
 map_more f (y ∷ xs) x = ap (λ v. f y ∷ v) (map_more f xs x)
@@ -238,7 +238,7 @@ pub record IsInputLine (o : Outline) (b : Buffer) : Type 0 where
 abbrev pub with_input : Outline → Buffer → Outline
 with_input o b = record o { buffers = o.buffers ++ b ∷ []; inputs = o.inputs + 1 }
 
--- the names with a buffer's behind all others
+-- the names with a buffer's after all others
 pub buffer_names : (gs : List Group) (bs : List Buffer) (b : Buffer)
     → map (λ (g : Group). g.name) gs ++ map (λ (b : Buffer). b.name) (bs ++ b ∷ [])
     ≡ (map (λ (g : Group). g.name) gs ++ map (λ (b : Buffer). b.name) bs) ++ b.name ∷ []

@@ -106,7 +106,7 @@ choice_taken past kind name new few room =
     let filled = isnt_full (length past.buffers) MOST_BUFFERS room in
     rw (new, full, filled) refl
 
--- what is said behind it
+-- what is said after it
 abbrev pub with_choice : Past → ChoiceStep → Past
 with_choice past c = record past {
   stage = Choosing;

@@ -1,4 +1,4 @@
--- Words behind others, as they are written one after the other.
+-- Words after others, as they are written one after the other.
 use Rattle.std.proofs.Common.{◌≡◌, ℕ, List, [], ◌∷◌, ◌++◌, length, map, take, get_or, Option, Some, None, refl, sym, ap, ◌∙◌, arith, codes, append_assoc}
 use Rattle.std.specs.List.{flat_map, join_with_byte}
 use Rattle.std.specs.Fmt.{decimal}
@@ -51,7 +51,7 @@ first_words out groups i word =
     ∙ ap (λ (x : List ℕ). out ++ (codes "on" ++ ((32 ∷ (get_or groups i no_group).name) ++ x))) (sym (append-nil (32 ∷ word)))
     ∙ ap (λ (x : List ℕ). out ++ x) (sym (join_spaced (codes "on") ((get_or groups i no_group).name ∷ word ∷ [])))
 
--- more words behind a line's first ones
+-- more words after a line's first ones
 join_more : (w : List ℕ) (ws zs : List (List ℕ)) → join_with_byte 32 (w ∷ (ws ++ zs)) ≡ join_with_byte 32 (w ∷ ws) ++ spaced zs
 join_more w ws zs =
     join_spaced w (ws ++ zs)
@@ -102,7 +102,7 @@ step_line out groups bs s on =
     ∙ ap (λ (x : List ℕ). out ++ (x ++ 10 ∷ [])) (sym (first_more groups on (kind_word (kind_of s)) (r ++ (o ++ (a ++ b)))))
     ∙ ap (λ (w : List ℕ). out ++ line (on_words groups on ++ w ∷ (r ++ (o ++ (a ++ b))))) (kind_is s)
 
--- all parts behind what stands there
+-- all parts after what stands there
 pub all_parts : (o h m g i s p c e : List ℕ)
     → ((((o ++ (h ++ (m ++ (g ++ i)))) ++ s) ++ p) ++ c) ++ e ≡ o ++ (h ++ (m ++ (g ++ (i ++ (s ++ (p ++ (c ++ e)))))))
 all_parts o h m g i s p c e = simp append_assoc

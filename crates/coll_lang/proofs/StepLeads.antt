@@ -1,4 +1,4 @@
--- A step's line leads to what is said behind it.
+-- A step's line leads to what is said after it.
 use Rattle.std.proofs.Common.{◌≡◌, ℕ, ◌<◌, ◌≤◌, ◌^◌, List, [], ◌∷◌, ◌++◌, length, get_or, Option, Some, None, Ok, Bool, true, false, ◌&&◌, refl, sym, ap, ◌∙◌, arith, codes, subst}
 use Rattle.std.specs.Prelude.{nat_lt, nat_le, is_some, option_map}
 use Rattle.std.specs.List.{AllByRecursion, list_all}

@@ -79,7 +79,7 @@ options_go past next (choice kind name) a fits v h =
 options_go past next (print name) a fits v h = groups_go past next (print name) a.groups fits v refl h
 options_go past next last a fits v h = groups_go past next last a.groups fits v refl h
 
--- ---- a line behind the first two is its form, which may stand there
+-- ---- a line after the first two is its form, which may stand there
 pub record FormOf (past next : Past) (l : List ℕ) : Type 0 where
   pub form : Form
   pub fits : Fits form

@@ -21,7 +21,7 @@ pub record StepWords : Type 0 where
   pub op : AtomicOp
   pub names : Option (List ℕ × List ℕ)
 
--- A line that may stand behind the first two. Numbers are still words.
+-- A line that may stand after the first two. Numbers are still words.
 pub data Form : Type 0 where
   complete : Form
   group : (name : List ℕ) (members : List (List ℕ)) → Form
@@ -61,13 +61,13 @@ infixl 10 ◌>>=◌
 abbrev pub ◌>>=◌ : {A B : Type 0} → Option A → (A → Option B) → Option B
 o >>= f = option_and_then f o
 
--- the word of the root, where one is due, and the words behind it
+-- the word of the root, where one is due, and the words after it
 unfoldable pub root_in : Bool → List (List ℕ) → Option (Option (List ℕ) × List (List ℕ))
 root_in false ws = Some (None, ws)
 root_in true [] = None
 root_in true (word ∷ ws) = if is_empty word then None else Some (Some word, ws)
 
--- the operation, where one is due, and the words behind it
+-- the operation, where one is due, and the words after it
 unfoldable pub op_in : Bool → List (List ℕ) → Option (AtomicOp × List (List ℕ))
 op_in false ws = Some (ops.Sum, ws)
 op_in true [] = None

@@ -297,7 +297,7 @@ print_line past name = do
 
 -- ---- lines
 
--- a line behind the first two that may stand where it does
+-- a line after the first two that may stand where it does
 unfoldable pub form_line : Past → Form → Result Past Refusal
 form_line past complete = Ok (record past { stage = Groups; remote = true })
 form_line past (group name members) = group_line past name members
@@ -351,7 +351,7 @@ abbrev pub numbered : {A B : Type 0} → ℕ → Result A Refusal → (A → Res
 numbered line (Ok x) f = f x
 numbered line (Err name) f = Err (line, name)
 
--- The pieces of a text from line k on. No LF stands behind the last piece.
+-- The pieces of a text from line k on. No LF stands after the last piece.
 unfoldable pub read_from : Past → ℕ → List (List ℕ) → Result Past (ℕ × Refusal)
 read_from past k [] = Err (k, Unended)
 read_from past k (piece ∷ []) = if is_finished past.stage then (if is_empty piece then Ok past else Err (k, AfterEnd)) else Err (k, Unended)

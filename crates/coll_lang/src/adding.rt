@@ -1,4 +1,4 @@
-//! Adding a buffer or a group behind the others.
+//! Adding a buffer or a group after the others.
 
 ghost use Rattle.std.specs.Prelude.{◌≡◌, ◌+◌, ◌++◌, ◌∷◌, [], vec_len, All, OnErr, OnOk, Some};
 ghost use Rattle.coll_lang.specs.Held.{HasMembers, IsSmall};

@@ -40,7 +40,7 @@ pub enum Refusal {
     AfterEnd,
     /// An order line is malformed.
     BadOrder,
-    /// A member is no rank, or the members don't rise, or the word behind `on` is no group.
+    /// A member is no rank, or the members don't rise, or the word after `on` is no group.
     BadGroup,
     /// The bytes aren't JSON.
     BadJson,

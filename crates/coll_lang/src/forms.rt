@@ -11,7 +11,7 @@ use coll_shape::StepKind;
 use coll_text::{Words, is, is_name};
 use ptl_types::{AtomicOp, ElemType};
 
-/// A line behind the first two. Numbers are still words.
+/// A line after the first two. Numbers are still words.
 #[derive(Drop)]
 pub enum Line<'a> {
     /// `complete remote`
@@ -158,7 +158,7 @@ fn names_in<'a>(is_due: bool, mut words: Words<'a>) -> Option<Option<(&'a [u8], 
     }
 }
 
-/// The words of a step behind its first.
+/// The words of a step after its first.
 #[tactic(auto, unfolding(crate::specs::Forms::step_in))]
 fn step_in<'a>(key: &[u8], mut words: Words<'a>) -> Option<StepLine<'a>>
     ensures { option_map step_seen result ≡ step_in key.now words.entry }
@@ -182,7 +182,7 @@ fn plain_step<'a>(key: &[u8], words: Words<'a>) -> Option<Line<'a>>
     Some(Line::Step(None, step_in(key, words)?))
 }
 
-/// The words behind `on`.
+/// The words after `on`.
 #[tactic(auto, unfolding(crate::specs::Forms::on_in))]
 fn on_in<'a>(mut words: Words<'a>) -> Option<Line<'a>>
     ensures { option_map form result ≡ on_in words.entry }
@@ -207,7 +207,7 @@ fn is_some_empty(mut words: Words) -> bool
     false
 }
 
-/// The words behind `group`.
+/// The words after `group`.
 #[tactic(auto, unfolding(crate::specs::Forms::group_in))]
 fn group_in<'a>(mut words: Words<'a>) -> Option<Line<'a>>
     ensures { option_map form result ≡ group_in words.entry }
@@ -220,7 +220,7 @@ fn group_in<'a>(mut words: Words<'a>) -> Option<Line<'a>>
     Some(Line::Group { name, members })
 }
 
-/// The words of an input line behind its first.
+/// The words of an input line after its first.
 #[tactic(auto, unfolding(crate::specs::Forms::input_in))]
 fn input_in<'a>(mut words: Words<'a>) -> Option<Line<'a>>
     ensures { option_map form result ≡ input_in words.entry }
@@ -235,7 +235,7 @@ fn input_in<'a>(mut words: Words<'a>) -> Option<Line<'a>>
     Some(Line::Input { name, ty, count })
 }
 
-/// The word behind `complete`.
+/// The word after `complete`.
 #[tactic(auto, unfolding(crate::specs::Forms::complete_in))]
 fn complete_in<'a>(mut words: Words<'a>) -> Option<Line<'a>>
     ensures { option_map form result ≡ complete_in words.entry }

@@ -118,7 +118,7 @@ fn steps(alloc: Global) -> Result<Vec<CollStep>, AllocError>
     Vec::from_slice(alloc, &steps)
 }
 
-/// What a reader holds behind the last line of the description's text.
+/// What a reader holds after the last line of the description's text.
 fn generated_reader(alloc: Global, k: u32) -> Result<Reader, AllocError>
     requires { k < 65536 }
     ensures value { IfOk result (λ reader. described (past reader) ≡ generated k) }

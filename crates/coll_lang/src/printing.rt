@@ -110,7 +110,7 @@ fn push_number(out: &mut Vec<u8>, n: u32) -> Result<(), AllocError>
     push_word(out, digits.format(n).as_bytes())
 }
 
-/// The members of a group, each behind a space.
+/// The members of a group, each after a space.
 fn print_members(out: &mut Vec<u8>, members: &[Rank]) -> Result<(), AllocError>
     ensures { OnOk result (out.new.items ≡ out.old.items ++ flat_map (λ r. 32 ∷ decimal r) members.now) }
 {
@@ -199,7 +199,7 @@ fn print_inputs(
     Ok(())
 }
 
-/// The root behind a space, where there is one.
+/// The root after a space, where there is one.
 #[tactic(auto, using(crate::proofs::Spacing::one_word, crate::proofs::Spacing::no_word))]
 fn print_root(out: &mut Vec<u8>, root: Option<Rank>) -> Result<(), AllocError>
     ensures { OnOk result (out.new.items ≡ out.old.items ++ spaced (if_there decimal root)) }
@@ -210,7 +210,7 @@ fn print_root(out: &mut Vec<u8>, root: Option<Rank>) -> Result<(), AllocError>
     }
 }
 
-/// The operation behind a space, where there is one.
+/// The operation after a space, where there is one.
 #[tactic(auto, using(crate::proofs::Spacing::one_word, crate::proofs::Spacing::no_word))]
 fn print_op(out: &mut Vec<u8>, op: Option<AtomicOp>) -> Result<(), AllocError>
     ensures { OnOk result (out.new.items ≡ out.old.items ++ spaced (if_there op_word op)) }
@@ -221,7 +221,7 @@ fn print_op(out: &mut Vec<u8>, op: Option<AtomicOp>) -> Result<(), AllocError>
     }
 }
 
-/// The name of a buffer behind a space, where there is one.
+/// The name of a buffer after a space, where there is one.
 #[tactic(auto, using(crate::proofs::Spacing::one_word, crate::proofs::Spacing::no_word))]
 fn print_name(out: &mut Vec<u8>, buffers: &[Buffer], i: Option<u32>) -> Result<(), AllocError>
     ensures { OnOk result (out.new.items ≡ out.old.items ++ spaced (if_there (name_at buffers.now) i)) }
@@ -242,7 +242,7 @@ fn group_name(groups: &[Group], i: u32) -> &[u8]
     }
 }
 
-/// The first word of a step, behind the group that it names.
+/// The first word of a step, after the group that it names.
 #[tactic(auto, using(crate::proofs::Spacing::first_words))]
 fn print_first(
     out: &mut Vec<u8>,
@@ -400,7 +400,7 @@ fn print_before_steps(out: &mut Vec<u8>, d: &Description) -> Result<(), AllocErr
     )
 }
 
-/// The whole text behind what stands there.
+/// The whole text after what stands there.
 fn print_all(out: &mut Vec<u8>, d: &Description) -> Result<(), AllocError>
     ensures { OnOk result (out.new.items ≡ out.old.items ++ text d.now) }
 {

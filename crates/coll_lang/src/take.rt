@@ -302,7 +302,7 @@ fn print_line(reader: &mut Reader, name: &[u8]) -> Result<(), LineFault>
     Ok(())
 }
 
-/// A line behind the first two that may stand where it does.
+/// A line after the first two that may stand where it does.
 #[tactic(auto, unfolding(crate::specs::Language::form_line))]
 fn form_line(reader: &mut Reader, line: Line) -> Result<(), LineFault>
     ensures { Takes result reader.new (form_line (past reader.old) (form line.entry)) }
@@ -354,7 +354,7 @@ fn values_line(
     Ok(())
 }
 
-/// A line behind the first two that is no data line.
+/// A line after the first two that is no data line.
 #[tactic(auto, unfolding(crate::specs::Language::later_line))]
 fn later_line(reader: &mut Reader, line: &[u8]) -> Result<(), LineFault>
     ensures { Takes result reader.new (later_line (past reader.old) line.now) }

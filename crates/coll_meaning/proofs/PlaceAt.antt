@@ -86,14 +86,14 @@ place_is k (m ∷ ms) r = here (m == r) refl (place_from (suc k) ms r) (place_is
     apart : (x y : ℕ) → (x == y) ≡ false → x ≡ y → ⊥
     apart x y e f = grind (arith, nat_tests)
 
-    behind : (b : Option ℕ) → (m == r) ≡ false → PlaceIs (suc k) ms r b → PlaceIs k (m ∷ ms) r b
-    behind None e h = λ i l is. elsewhere i l is
+    after : (b : Option ℕ) → (m == r) ≡ false → PlaceIs (suc k) ms r b → PlaceIs k (m ∷ ms) r b
+    after None e h = λ i l is. elsewhere i l is
       where
         elsewhere : (i : ℕ) → i < length (m ∷ ms) → get_or (m ∷ ms) i 0 ≡ r → ⊥
         elsewhere zero l is = apart m r e is
         elsewhere (suc i) l is = h i (omega arith) is
-    behind (Some p) e h = let l = h.2 in let q = h.1 in (suc h.0, omega (arith, q), omega (arith, l), h.3)
+    after (Some p) e h = let l = h.2 in let q = h.1 in (suc h.0, omega (arith, q), omega (arith, l), h.3)
 
     here : (b : Bool) → (m == r) ≡ b → (o : Option ℕ) → PlaceIs (suc k) ms r o → PlaceIs k (m ∷ ms) r (cond b (Some k) o)
     here true e o h = (0, omega arith, omega arith, same m r e)
-    here false e o h = behind o e h
+    here false e o h = after o e h

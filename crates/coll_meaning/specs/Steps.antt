@@ -8,7 +8,7 @@ use Rattle.coll_shape.specs.Meaning.{Lists, lists_of, made_lists, meant_upto, ta
 use Rattle.coll_meaning.specs.Lengths.{AreAsked}
 use Rattle.coll_meaning.specs.Needed.{is_needed}
 
--- the steps behind step k
+-- the steps after step k
 abbrev pub later : Outline → ℕ → List CollStep
 later o k = drop (suc k) o.steps
 

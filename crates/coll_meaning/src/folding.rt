@@ -79,7 +79,7 @@ pub fn reduced(
     Ok(ByteList::of(so_far))
 }
 
-/// For each of the first `count` places the fold of the lists up to its own, behind what is there.
+/// For each of the first `count` places the fold of the lists up to its own, after what is there.
 #[tactic(auto, using(crate::proofs::Rows::row_more, crate::proofs::Folds::reduced_more, crate::proofs::Folds::whole_reduced, crate::proofs::Folds::same_reduced))]
 pub fn push_folds(
     alloc: Global,

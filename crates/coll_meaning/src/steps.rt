@@ -64,7 +64,7 @@ fn step_at(shape: &Shape, k: u32) -> CollStep
     shape.steps()[k as usize]
 }
 
-/// The steps behind one.
+/// The steps after one.
 fn later(shape: &Shape, k: u32) -> &[CollStep]
     requires { k < length shape.now.steps }
     ensures { result.now ≡ later shape.now k }
@@ -117,7 +117,7 @@ fn keep_if_needed(alloc: Global, held: &mut Buffers, kept: &[u32], later: &[Coll
     }
 }
 
-/// Makes a step, and lets go what nothing behind it needs.
+/// Makes a step, and lets go what nothing after it needs.
 pub fn take_step(
     alloc: Global,
     shape: &Shape,
@@ -137,10 +137,10 @@ pub fn take_step(
         return Ok(());
     };
     let ty = type_read(shape, step);
-    let behind = later(shape, k);
-    let needed = is_needed(kept, behind, held.count() as u32);
+    let after = later(shape, k);
+    let needed = is_needed(kept, after, held.count() as u32);
     let made = made_if(alloc, needed, ranks, ty, step, held, a, shape.group(k))?;
-    keep_if_needed(alloc, held, kept, behind, a);
+    keep_if_needed(alloc, held, kept, after, a);
     held.push(made)?;
     Ok(())
 }

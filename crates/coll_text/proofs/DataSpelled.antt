@@ -44,7 +44,7 @@ is_le m high h = grind (arith, nat_tests)
 not_le : (m high : ℕ) → high < m → nat_le m high ≡ false
 not_le m high h = grind (arith, nat_tests)
 
--- a value behind `-`: its digits' number, and its bit pattern
+-- a value after `-`: its digits' number, and its bit pattern
 record Negative (ty : ElemType) (w : List ℕ) (v n : ℕ) : Type 0 where
   is : number_of w ≡ Some n
   above : 0 < n
@@ -127,7 +127,7 @@ value_small ty (b ∷ bs) v h = go (is_signed ty && b == 45) h
     go true h = negative_small ty bs v h
     go false h = unsigned_small ty (b ∷ bs) v h
 
--- an element's bytes stand at the front, and the others behind them
+-- an element's bytes stand at the front, and the others after them
 take_front : (n : ℕ) (xs ys : List ℕ) → length xs ≡ n → take n (xs ++ ys) ≡ xs
 take_front n xs ys e = grind (arith, common_steps)
 

@@ -168,7 +168,7 @@ first_back w zero (b ∷ bs) e h = absurd (omega (arith, e))
 first_back w (suc n) bytes e h =
     let more : suc n * w ≡ w + n * w = once_more n w in
     ap (λ (x : List ℕ). x ++ flat_map (little_endian w) (first_elements w n (drop w bytes))) (bytes_back w (take w bytes) (front w (n * w) bytes (e ∙ more)) (recursion_from_All (λ b. b < 256) (take w bytes) (All-take (λ b. b < 256) w bytes h)))
-    ∙ ap (λ (x : List ℕ). take w bytes ++ x) (first_back w n (drop w bytes) (behind w (n * w) bytes (e ∙ more)) (All-drop (λ b. b < 256) w bytes h)) ∙ split w bytes
+    ∙ ap (λ (x : List ℕ). take w bytes ++ x) (first_back w n (drop w bytes) (others w (n * w) bytes (e ∙ more)) (All-drop (λ b. b < 256) w bytes h)) ∙ split w bytes
   where
     once_more : (n w : ℕ) → suc n * w ≡ w + n * w
     once_more n w = grind arith
@@ -176,8 +176,8 @@ first_back w (suc n) bytes e h =
     front : (w m : ℕ) (bytes : List ℕ) → length bytes ≡ w + m → length (take w bytes) ≡ w
     front w m bytes e = grind (arith, common_steps)
 
-    behind : (w m : ℕ) (bytes : List ℕ) → length bytes ≡ w + m → length (drop w bytes) ≡ m
-    behind w m bytes e = grind (arith, common_steps)
+    others : (w m : ℕ) (bytes : List ℕ) → length bytes ≡ w + m → length (drop w bytes) ≡ m
+    others w m bytes e = grind (arith, common_steps)
 
 first_small : (ty : ElemType) (n : ℕ) (bytes : List ℕ) → AllByRecursion (λ v. v < span ty) (first_elements (bytes_of ty) n bytes)
 first_small ty zero bytes = tt

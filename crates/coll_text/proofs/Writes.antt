@@ -16,7 +16,7 @@ pub join_spaced : (x : List ℕ) (xs : List (List ℕ)) → join_with_byte 32 (x
 join_spaced x [] = sym (append-nil x)
 join_spaced x (y ∷ xs) = ap (λ rest. x ++ (32 ∷ rest)) (join_spaced y xs)
 
--- the first element, and those behind it
+-- the first element, and those after it
 fewer : (ty : ElemType) (n : ℕ) → bytes_of ty ≤ n → n / bytes_of ty ≡ suc ((n - bytes_of ty) / bytes_of ty)
 fewer ty n le = div-eq-sub-div (bytes-pos ty) le ∙ add-one ((n - bytes_of ty) / bytes_of ty)
 

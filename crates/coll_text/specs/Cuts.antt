@@ -6,10 +6,10 @@ use Rattle.coll_text.specs.Text.{is_digit, with_digits}
 use Rattle.coll_text.specs.declared.numerals.Number.{Number}
 use Rattle.coll_text.specs.declared.numerals.Number.TheVariants.{Malformed, Huge, Small}
 
--- the pieces behind a separator, if there was one
-abbrev pub parts_behind : ℕ → Option (Bor (List ℕ)) → List (List ℕ)
-parts_behind separator None = []
-parts_behind separator (Some rest) = slice_split (λ b. b == separator) rest.now
+-- the pieces after a separator, if there was one
+abbrev pub parts_after : ℕ → Option (Bor (List ℕ)) → List (List ℕ)
+parts_after separator None = []
+parts_after separator (Some rest) = slice_split (λ b. b == separator) rest.now
 
 -- the word is that number, or is none, or one too large to hold
 abbrev pub ReadsNumber : Number → Option ℕ → Type 0

@@ -3,7 +3,7 @@ use Rattle.std.specs.Prelude.{ℕ, ◌+◌, ◌-◌, ◌*◌, List, [], ◌∷�
 use Rattle.std.specs.Prelude.{nat_le, if◌then◌else◌, option_and_then}
 use Rattle.std.specs.List.{slice_split, list_all, join_with_byte}
 
--- The bytes cut at each LF. No LF stands behind the last piece.
+-- The bytes cut at each LF. No LF stands after the last piece.
 abbrev pub lines : List ℕ → List (List ℕ)
 lines = slice_split (λ b. b == 10)
 

@@ -18,7 +18,7 @@ too_large ty = if is_signed ty then half ty else span ty
 abbrev pub unsigned_of : ElemType → List ℕ → Option ℕ
 unsigned_of ty word = option_and_then (λ n. if nat_lt n (too_large ty) then Some n else None) (number_of word)
 
--- the bit pattern of a value behind `-`, in two's complement
+-- the bit pattern of a value after `-`, in two's complement
 abbrev pub negative_of : ElemType → List ℕ → Option ℕ
 negative_of ty digits = option_and_then (λ n. if nat_lt 0 n && nat_le n (half ty) then Some (span ty - n) else None) (number_of digits)
 

@@ -5,7 +5,7 @@ ghost use Rattle.std.specs.List.{slice_split, position};
 ghost use Rattle.std.specs.Option.{option_copied};
 ghost use Rattle.std.specs.Iterator.{YieldsFirstRef, item_count};
 ghost use Rattle.coll_text.specs.Text.{words, words_left};
-ghost use Rattle.coll_text.specs.Cuts.{parts_behind};
+ghost use Rattle.coll_text.specs.Cuts.{parts_after};
 
 use memchr::memchr;
 use std::marker::Model;
@@ -17,9 +17,9 @@ fn find(bytes: &[u8], separator: u8) -> Option<usize>
     memchr(separator, bytes)
 }
 
-/// The bytes before the first separator, and those behind it where there is one.
+/// The bytes before the first separator, and those after it where there is one.
 pub fn cut(bytes: &[u8], separator: u8) -> (&[u8], Option<&[u8]>)
-    ensures parts { slice_split (λ b. b == separator) bytes.now ≡ result.0.now ∷ parts_behind separator result.1 }
+    ensures parts { slice_split (λ b. b == separator) bytes.now ≡ result.0.now ∷ parts_after separator result.1 }
     ensures shorter { IfSome result.1 (λ rest. length rest.now < length bytes.now) }
 {
     match find(bytes, separator) {

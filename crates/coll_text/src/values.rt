@@ -4,7 +4,7 @@ ghost use Rattle.std.specs.Prelude.{◌≡◌, ◌∷◌, ◌+◌, ◌<◌, ◌+
 ghost use Rattle.std.specs.List.{list_all};
 ghost use Rattle.ptl_types.specs.Operations.{span, bytes_of, is_signed};
 ghost use Rattle.ptl_types.specs.Elements.{little_endian};
-ghost use Rattle.coll_text.specs.Cuts.{parts_behind};
+ghost use Rattle.coll_text.specs.Cuts.{parts_after};
 ghost use Rattle.coll_text.specs.Text.{is_digit, is_number, words};
 ghost use Rattle.coll_text.specs.Elements.{half};
 ghost use Rattle.coll_text.specs.Values.{too_large, value_of, negative_of, unsigned_of, data_line};
@@ -99,7 +99,7 @@ fn unsigned_of(ty: ElemType, word: &[u8]) -> Option<u64>
     }
 }
 
-/// The bit pattern of the value behind a `-`.
+/// The bit pattern of the value after a `-`.
 fn negative_of(ty: ElemType, digits: &[u8]) -> Option<u64>
     ensures { result ≡ negative_of ty digits.now }
 {
@@ -147,16 +147,16 @@ fn is_one_spelling(digits: &[u8]) -> bool
 /// The first word, where it is a number of few digits up to `most`, the greatest value. `None`: it may be any word.
 fn plain_value<'a>(ty: ElemType, most: u64, line: &'a [u8]) -> Option<ValueWord<'a>>
     requires { most + 1 ≡ too_large ty }
-    ensures parts { IfSome result (λ first. words line.now ≡ first.word.now ∷ parts_behind 32 first.rest) }
+    ensures parts { IfSome result (λ first. words line.now ≡ first.word.now ∷ parts_after 32 first.rest) }
     ensures value { IfSome result (λ first. first.value ≡ value_of ty first.word.now) }
 {
     let (number, count) = leading_digits(line);
-    let (word, behind) = line.split_at(count);
+    let (word, others) = line.split_at(count);
     if number > most || !is_one_spelling(word) {
         return None;
     }
     let value = Some(number);
-    match behind.split_first() {
+    match others.split_first() {
         None => Some(ValueWord {
             word,
             value,
@@ -174,7 +174,7 @@ fn plain_value<'a>(ty: ElemType, most: u64, line: &'a [u8]) -> Option<ValueWord<
 /// The first word of a line and its value.
 fn first_value<'a>(ty: ElemType, most: u64, line: &'a [u8]) -> ValueWord<'a>
     requires { most + 1 ≡ too_large ty }
-    ensures parts { words line.now ≡ result.word.now ∷ parts_behind 32 result.rest }
+    ensures parts { words line.now ≡ result.word.now ∷ parts_after 32 result.rest }
     ensures value { result.value ≡ value_of ty result.word.now }
 {
     if let Some(first) = plain_value(ty, most, line) {

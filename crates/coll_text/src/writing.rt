@@ -50,7 +50,7 @@ fn push_number(out: &mut Vec<u8>, n: u64) -> Result<(), AllocError>
     out.extend_from_slice(buffer.format(n).as_bytes())
 }
 
-/// A value as it is printed, from its bit pattern: whether a minus sign stands before it, and the number behind that.
+/// A value as it is printed, from its bit pattern: whether a minus sign stands before it, and the number after that.
 pub fn printed_value(ty: ElemType, n: u64) -> (bool, u64)
     requires pattern { n < span ty }
     ensures told { value_word ty n ≡ (if result.0 then 45 ∷ decimal result.1 else decimal result.1) }
@@ -83,10 +83,10 @@ fn push_spaced_values(out: &mut Vec<u8>, ty: ElemType, bytes: &[u8]) -> Result<(
     let size = ty.size() as usize;
     let mut rest = bytes;
     while rest.len() >= size {
-        let (element, behind) = rest.split_at(size);
+        let (element, others) = rest.split_at(size);
         out.push(b' ')?;
         push_value_word(out, ty, read_pattern(ty, element))?;
-        rest = behind;
+        rest = others;
     }
     Ok(())
 }
@@ -104,9 +104,9 @@ pub fn push_data_line(out: &mut Vec<u8>, ty: ElemType, bytes: &[u8]) -> Result<(
         out.push(b'\n')?;
         return Ok(());
     }
-    let (element, behind) = bytes.split_at(size);
+    let (element, others) = bytes.split_at(size);
     push_value_word(out, ty, read_pattern(ty, element))?;
-    push_spaced_values(out, ty, behind)?;
+    push_spaced_values(out, ty, others)?;
     out.push(b'\n')?;
     Ok(())
 }

@@ -2,7 +2,7 @@
 #![tactic(auto)]
 
 ghost use Rattle.std.specs.Prelude.{◌≡◌, ◌≤◌, ◌+◌, ◌<◌, ◌^◌, ◌↔◌, IsOk, OnOk, OnErr};
-ghost use Rattle.ni_model.specs.Counts.{bump as bumped, plus};
+ghost use Rattle.ni_model.specs.Counts.{bump, plus};
 
 use ptl_types::Count;
 use std::marker::Model;
@@ -91,7 +91,7 @@ impl Counter {
 
     /// Counts what the network or a firing counts: first the successes, then the failures, each as far as the sum allows.
     pub fn bump(&mut self, by: Count)
-        ensures { self.new ≡ bumped by self.old }
+        ensures { self.new ≡ bump by self.old }
     {
         let success = cmp::min(by.success, u64::MAX - (self.success + self.failure));
         self.success += success;

@@ -3,15 +3,15 @@
 ghost use Rattle.std.specs.Prelude.{◌≡◌, ◌<◌, ◌≤◌, ◌++◌, ◌^◌, length, take, drop};
 ghost use Rattle.ptl_types.specs.Elements.{pattern, little_endian};
 ghost use Rattle.ptl_types.specs.Operations.{bytes_of, span};
-ghost use Rattle.ptl_types.specs.declared.elements.ElemType.{ElemType as ElementType};
-ghost use Rattle.ptl_types.specs.declared.elements.ElemType.TheVariants.{U8 as U8Type, I8 as I8Type, U16 as U16Type, I16 as I16Type, U32 as U32Type, I32 as I32Type, U64 as U64Type, I64 as I64Type};
+ghost use Rattle.ptl_types.specs.declared.elements.ElemType.{ElemType};
+ghost use Rattle.ptl_types.specs.declared.elements.ElemType.TheVariants.{U8, I8, U16, I16, U32, I32, U64, I64};
 
 use byteorder::{ByteOrder, LittleEndian};
 use ptl_types::ElemType;
 
 /// A type of element, known when the program is built, so that a loop over elements has no test of the type.
 pub trait Element {
-    ghost ty: { ElementType };
+    ghost ty: { ElemType };
 
     /// The type.
     fn ty() -> ElemType
@@ -135,7 +135,7 @@ pub fn write_pattern(ty: ElemType, bytes: &mut [u8], x: u64)
 pub struct Unsigned8;
 
 impl Element for Unsigned8 {
-    ghost ty = { U8Type };
+    ghost ty = { U8 };
 
     fn ty() -> ElemType {
         ElemType::U8
@@ -158,7 +158,7 @@ impl Element for Unsigned8 {
 pub struct Signed8;
 
 impl Element for Signed8 {
-    ghost ty = { I8Type };
+    ghost ty = { I8 };
 
     fn ty() -> ElemType {
         ElemType::I8
@@ -181,7 +181,7 @@ impl Element for Signed8 {
 pub struct Unsigned16;
 
 impl Element for Unsigned16 {
-    ghost ty = { U16Type };
+    ghost ty = { U16 };
 
     fn ty() -> ElemType {
         ElemType::U16
@@ -204,7 +204,7 @@ impl Element for Unsigned16 {
 pub struct Signed16;
 
 impl Element for Signed16 {
-    ghost ty = { I16Type };
+    ghost ty = { I16 };
 
     fn ty() -> ElemType {
         ElemType::I16
@@ -227,7 +227,7 @@ impl Element for Signed16 {
 pub struct Unsigned32;
 
 impl Element for Unsigned32 {
-    ghost ty = { U32Type };
+    ghost ty = { U32 };
 
     fn ty() -> ElemType {
         ElemType::U32
@@ -250,7 +250,7 @@ impl Element for Unsigned32 {
 pub struct Signed32;
 
 impl Element for Signed32 {
-    ghost ty = { I32Type };
+    ghost ty = { I32 };
 
     fn ty() -> ElemType {
         ElemType::I32
@@ -273,7 +273,7 @@ impl Element for Signed32 {
 pub struct Unsigned64;
 
 impl Element for Unsigned64 {
-    ghost ty = { U64Type };
+    ghost ty = { U64 };
 
     fn ty() -> ElemType {
         ElemType::U64
@@ -296,7 +296,7 @@ impl Element for Unsigned64 {
 pub struct Signed64;
 
 impl Element for Signed64 {
-    ghost ty = { I64Type };
+    ghost ty = { I64 };
 
     fn ty() -> ElemType {
         ElemType::I64

@@ -63,7 +63,7 @@ fn ignoring(match_bits: u64, ignore_bits: u64) -> Entry {
     }
 }
 
-/// 2, those below 8, 5; then without those below 8; then with them behind the others.
+/// 2, those below 8, 5; then without those below 8; then with them after the others.
 fn wild_entries<L: Ledger>(rt: &impl Abort, alloc: Global, blank: Blank) -> Result<(), Fail>
     requires name { blank.name ≡ L.name }
     requires parts { blank.parts ≡ L.parts }

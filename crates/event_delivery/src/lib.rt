@@ -3,7 +3,7 @@
 #![tactic(auto)]
 
 ghost use Rattle.std.specs.Prelude.{◌≡◌};
-ghost use Rattle.ni_model.specs.Counts.{counted, successes as success_of};
+ghost use Rattle.ni_model.specs.Counts.{counted, successes};
 ghost use Rattle.ni_model.specs.Queues.{raised};
 
 use counters::Counter;
@@ -16,7 +16,7 @@ mod tests;
 
 /// That many successes, and no failure.
 pub fn successes(success: u64) -> Count
-    ensures told { result ≡ success_of success }
+    ensures told { result ≡ successes success }
 {
     Count {
         success,

@@ -39,7 +39,7 @@ impl Queue {
         }
     }
 
-    /// Adds the event behind the others. Where the queue is full it is this event that is lost.
+    /// Adds the event after the others. Where the queue is full it is this event that is lost.
     pub fn add(&mut self, event: Event)
         ensures { self.new ≡ add_event event self.old }
     {

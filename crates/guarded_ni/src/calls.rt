@@ -1,14 +1,14 @@
 //! The other calls that have conditions.
 
 ghost use Rattle.std.specs.Prelude.{◌≡◌, ◌==◌, ◌+◌, ◌<◌, nat_lt, IfOk, IfErr, Some, length, slice_get, if◌then◌else◌};
-ghost use Rattle.ptl_types.specs.declared.calls.NiFault.TheVariants.{NoMemory as OutOfMemory};
-ghost use Rattle.ni_model.specs.Calls.{ends, eq_alloc as eq_alloc_of, write_memory as memory_written};
+ghost use Rattle.ptl_types.specs.declared.calls.NiFault.TheVariants.{NoMemory};
+ghost use Rattle.ni_model.specs.Calls.{ends, eq_alloc, write_memory};
 ghost use Rattle.ni_model.specs.Ready.{fired, fires, is_ready, ready_numbers};
 ghost use Rattle.ni_model.specs.State.{opened, target};
 ghost use Rattle.ni_model.specs.Tables.{has_slot};
 ghost use Rattle.portals_ni.specs.Answers.{MakesIfMemory};
-ghost use Rattle.guarded_ni.specs.declared.faults.CallFault.TheVariants.{Misused as MisusedBy, Refused as RefusedBy};
-ghost use Rattle.guarded_ni.specs.declared.faults.Misuse.TheVariants.{Elsewhere as IsElsewhere, NoRoom as HasNoRoom, NotReady as IsNotReady, OutsideRegion as IsOutside, UnknownRank as IsUnknown};
+ghost use Rattle.guarded_ni.specs.declared.faults.CallFault.TheVariants.{Misused, Refused};
+ghost use Rattle.guarded_ni.specs.declared.faults.Misuse.TheVariants.{Elsewhere, NoRoom, NotReady, OutsideRegion, UnknownRank};
 ghost use Rattle.guarded_ni.specs.Guarded.{Guards, Tests};
 ghost use Rattle.guarded_ni.specs.Misuses.{unless};
 
@@ -27,7 +27,7 @@ pub fn open(
     region: Bytes,
 ) -> Result<Nic, CallFault>
     ensures makes { IfOk result (λ nic. (rank < ranks) × (nic ≡ opened rank ranks limits region.list)) }
-    ensures fault { IfErr result (λ fault. fault ≡ (if nat_lt rank ranks then RefusedBy OutOfMemory else MisusedBy IsUnknown)) }
+    ensures fault { IfErr result (λ fault. fault ≡ (if nat_lt rank ranks then Refused NoMemory else Misused UnknownRank)) }
 {
     if rank >= ranks {
         return Err(CallFault::Misused(Misuse::UnknownRank));
@@ -40,8 +40,8 @@ pub fn open(
 
 /// Allocates an event queue, as `Nic::eq_alloc` does. `Misused` exactly where its room is 0.
 pub fn eq_alloc(nic: &mut Nic, room: u32) -> Result<Handle, CallFault>
-    ensures { Guards (unless (nat_lt 0 room) HasNoRoom) nic.old nic.new
-        (λ r. MakesIfMemory (λ slot. has_slot slot nic.old.eqs.live) (λ slot. eq_alloc_of slot room nic.old) nic.old (ends nic.new r)) result }
+    ensures { Guards (unless (nat_lt 0 room) NoRoom) nic.old nic.new
+        (λ r. MakesIfMemory (λ slot. has_slot slot nic.old.eqs.live) (λ slot. eq_alloc slot room nic.old) nic.old (ends nic.new r)) result }
 {
     if room == 0 {
         return Err(CallFault::Misused(Misuse::NoRoom));
@@ -54,8 +54,8 @@ pub fn eq_alloc(nic: &mut Nic, room: u32) -> Result<Handle, CallFault>
 
 /// Writes bytes into a part of the region, as `Nic::write_memory` does; `OutsideRegion` exactly where the part reaches past its end.
 pub fn write_memory(nic: &mut Nic, start: u64, bytes: &[u8]) -> Result<(), Misuse>
-    ensures { Tests (if nat_lt (length nic.old.memory) (start + length bytes.now) then Some IsOutside else None) nic.old nic.new
-        (λ _. nic.new ≡ memory_written start bytes.now nic.old) result }
+    ensures { Tests (if nat_lt (length nic.old.memory) (start + length bytes.now) then Some OutsideRegion else None) nic.old nic.new
+        (λ _. nic.new ≡ write_memory start bytes.now nic.old) result }
 {
     let size = nic.memory().len() as u64;
     let count = bytes.len() as u64;
@@ -69,7 +69,7 @@ pub fn write_memory(nic: &mut Nic, start: u64, bytes: &[u8]) -> Result<(), Misus
 /// Handles a message that arrived, as `Nic::deliver` does; `Elsewhere` exactly where it is for another rank, and it is dropped then
 /// without a trace in the interface.
 pub fn deliver(nic: &mut Nic, message: Message) -> Result<Delivered, Misuse>
-    ensures { Tests (unless (message.header.target == nic.old.rank) IsElsewhere) nic.old nic.new
+    ensures { Tests (unless (message.header.target == nic.old.rank) Elsewhere) nic.old nic.new
         (λ d. record { state = nic.new; delivered = d } ≡ target nic.old message) result }
 {
     if message.header().target != nic.rank() {
@@ -80,7 +80,7 @@ pub fn deliver(nic: &mut Nic, message: Message) -> Result<Delivered, Misuse>
 
 /// The number of the ready operation at a place, as `Nic::ready_at` has it; `NotReady` exactly where there are no more than so many.
 pub fn ready_at(nic: &Nic, i: u32) -> Result<u32, Misuse>
-    ensures { Tests (unless (nat_lt i (length (ready_numbers nic.now))) IsNotReady) nic.now nic.now
+    ensures { Tests (unless (nat_lt i (length (ready_numbers nic.now))) NotReady) nic.now nic.now
         (λ number. slice_get (ready_numbers nic.now) i ≡ Some number) result }
 {
     if i >= nic.ready_count() {
@@ -91,7 +91,7 @@ pub fn ready_at(nic: &Nic, i: u32) -> Result<u32, Misuse>
 
 /// Fires a triggered operation, as `Nic::fire` does; `NotReady` exactly where it isn't ready.
 pub fn fire(nic: &mut Nic, number: u32) -> Result<Option<Message>, Misuse>
-    ensures { Tests (unless (is_ready nic.old number) IsNotReady) nic.old nic.new (λ made. fires nic.new made ≡ fired nic.old number) result }
+    ensures { Tests (unless (is_ready nic.old number) NotReady) nic.old nic.new (λ made. fires nic.new made ≡ fired nic.old number) result }
 {
     if !nic.is_ready(number) {
         return Err(Misuse::NotReady);

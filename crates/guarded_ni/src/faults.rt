@@ -1,7 +1,7 @@
 //! Why a call wasn't made.
 
 ghost use Rattle.std.specs.Prelude.{◌≡◌};
-ghost use Rattle.guarded_ni.specs.declared.faults.CallFault.TheVariants.{Misused as MisusedBy, Refused as RefusedBy};
+ghost use Rattle.guarded_ni.specs.declared.faults.CallFault.TheVariants.{Misused, Refused};
 
 use ptl_types::NiFault;
 use std::fmt;
@@ -68,7 +68,7 @@ impl fmt::Display for CallFault {
 impl std::error::Error for CallFault {}
 
 impl From<NiFault> for CallFault {
-    ghost from_gives = { λ fault f. f ≡ RefusedBy fault };
+    ghost from_gives = { λ fault f. f ≡ Refused fault };
 
     fn from(fault: NiFault) -> CallFault {
         CallFault::Refused(fault)
@@ -76,7 +76,7 @@ impl From<NiFault> for CallFault {
 }
 
 impl From<Misuse> for CallFault {
-    ghost from_gives = { λ misuse f. f ≡ MisusedBy misuse };
+    ghost from_gives = { λ misuse f. f ≡ Misused misuse };
 
     fn from(misuse: Misuse) -> CallFault {
         CallFault::Misused(misuse)

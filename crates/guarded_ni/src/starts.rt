@@ -3,11 +3,11 @@
 ghost use Rattle.std.specs.Prelude.{◌≡◌, ◌==◌, ◌%◌};
 ghost use Rattle.ptl_types.specs.declared.calls.Deed.TheVariants.{Put, Get, Atomic, FetchAtomic, Swap};
 ghost use Rattle.ptl_types.specs.Operations.{bytes_of};
-ghost use Rattle.ni_model.specs.Calls.{MayLackMemory, ends, start as start_of, triggered as triggered_of};
+ghost use Rattle.ni_model.specs.Calls.{MayLackMemory, ends, start, triggered};
 ghost use Rattle.portals_ni.specs.Answers.{as_started};
-ghost use Rattle.guarded_ni.specs.declared.faults.Misuse.TheVariants.{PartialElement as NotWhole};
+ghost use Rattle.guarded_ni.specs.declared.faults.Misuse.TheVariants.{PartialElement};
 ghost use Rattle.guarded_ni.specs.Guarded.{Guards};
-ghost use Rattle.guarded_ni.specs.Misuses.{agree, halves_misuse, length_misuse, or_else, rank_misuse, start_misuse as misuse_of_start, unless};
+ghost use Rattle.guarded_ni.specs.Misuses.{agree, halves_misuse, length_misuse, or_else, rank_misuse, start_misuse, unless};
 
 use crate::faults::{CallFault, Misuse};
 use portals_ni::Nic;
@@ -49,7 +49,7 @@ fn bad_length(length: u64, most: u64) -> Option<Misuse>
 }
 
 fn bad_elements(length: u64, ty: ElemType) -> Option<Misuse>
-    ensures { result ≡ unless ((length % bytes_of ty) == 0) NotWhole }
+    ensures { result ≡ unless ((length % bytes_of ty) == 0) PartialElement }
 {
     broken(length % ty.size() == 0, Misuse::PartialElement)
 }
@@ -76,7 +76,7 @@ fn bad_halves(back: &GetArgs, args: &PutArgs) -> Option<Misuse>
 
 /// The rule that the arguments of a start break, if they break one.
 fn bad_start(nic: &Nic, deed: &Deed) -> Option<Misuse>
-    ensures { result ≡ misuse_of_start deed.now nic.now.ranks nic.now.limits }
+    ensures { result ≡ start_misuse deed.now nic.now.ranks nic.now.limits }
 {
     let ranks = nic.ranks();
     let limits = nic.limits();
@@ -111,8 +111,8 @@ fn bad_start(nic: &Nic, deed: &Deed) -> Option<Misuse>
 
 /// Starts a put, as `Nic::put` does. `Misused` where the target is no rank or the length passes the limit of messages.
 pub fn put(nic: &mut Nic, args: PutArgs) -> Result<Message, CallFault>
-    ensures { Guards (misuse_of_start (Put args) nic.old.ranks nic.old.limits) nic.old nic.new
-        (λ r. MayLackMemory (start_of (Put args) nic.old) nic.old (ends nic.new (as_started r))) result }
+    ensures { Guards (start_misuse (Put args) nic.old.ranks nic.old.limits) nic.old nic.new
+        (λ r. MayLackMemory (start (Put args) nic.old) nic.old (ends nic.new (as_started r))) result }
 {
     if let Some(misuse) = bad_start(nic, &Deed::Put(args)) {
         return Err(CallFault::Misused(misuse));
@@ -125,8 +125,8 @@ pub fn put(nic: &mut Nic, args: PutArgs) -> Result<Message, CallFault>
 
 /// Starts a get, as `Nic::get` does. `Misused` as for a put.
 pub fn get(nic: &mut Nic, args: GetArgs) -> Result<Message, CallFault>
-    ensures { Guards (misuse_of_start (Get args) nic.old.ranks nic.old.limits) nic.old nic.new
-        (λ r. MayLackMemory (start_of (Get args) nic.old) nic.old (ends nic.new (as_started r))) result }
+    ensures { Guards (start_misuse (Get args) nic.old.ranks nic.old.limits) nic.old nic.new
+        (λ r. MayLackMemory (start (Get args) nic.old) nic.old (ends nic.new (as_started r))) result }
 {
     if let Some(misuse) = bad_start(nic, &Deed::Get(args)) {
         return Err(CallFault::Misused(misuse));
@@ -145,8 +145,8 @@ pub fn atomic(
     op: AtomicOp,
     ty: ElemType,
 ) -> Result<Message, CallFault>
-    ensures { Guards (misuse_of_start (Atomic args op ty) nic.old.ranks nic.old.limits) nic.old nic.new
-        (λ r. MayLackMemory (start_of (Atomic args op ty) nic.old) nic.old (ends nic.new (as_started r))) result }
+    ensures { Guards (start_misuse (Atomic args op ty) nic.old.ranks nic.old.limits) nic.old nic.new
+        (λ r. MayLackMemory (start (Atomic args op ty) nic.old) nic.old (ends nic.new (as_started r))) result }
 {
     if let Some(misuse) = bad_start(nic, &Deed::Atomic(args, op, ty)) {
         return Err(CallFault::Misused(misuse));
@@ -166,8 +166,8 @@ pub fn fetch_atomic(
     op: AtomicOp,
     ty: ElemType,
 ) -> Result<Message, CallFault>
-    ensures { Guards (misuse_of_start (FetchAtomic back args op ty) nic.old.ranks nic.old.limits) nic.old nic.new
-        (λ r. MayLackMemory (start_of (FetchAtomic back args op ty) nic.old) nic.old (ends nic.new (as_started r))) result }
+    ensures { Guards (start_misuse (FetchAtomic back args op ty) nic.old.ranks nic.old.limits) nic.old nic.new
+        (λ r. MayLackMemory (start (FetchAtomic back args op ty) nic.old) nic.old (ends nic.new (as_started r))) result }
 {
     if let Some(misuse) = bad_start(nic, &Deed::FetchAtomic(back, args, op, ty)) {
         return Err(CallFault::Misused(misuse));
@@ -188,8 +188,8 @@ pub fn swap(
     ty: ElemType,
     operand: u64,
 ) -> Result<Message, CallFault>
-    ensures { Guards (misuse_of_start (Swap back args op ty operand) nic.old.ranks nic.old.limits) nic.old nic.new
-        (λ r. MayLackMemory (start_of (Swap back args op ty operand) nic.old) nic.old (ends nic.new (as_started r))) result }
+    ensures { Guards (start_misuse (Swap back args op ty operand) nic.old.ranks nic.old.limits) nic.old nic.new
+        (λ r. MayLackMemory (start (Swap back args op ty operand) nic.old) nic.old (ends nic.new (as_started r))) result }
 {
     if let Some(misuse) = bad_start(nic, &Deed::Swap(back, args, op, ty, operand)) {
         return Err(CallFault::Misused(misuse));
@@ -202,8 +202,8 @@ pub fn swap(
 
 /// Posts a triggered operation, as `Nic::triggered` does. `Misused` as for the plain operation.
 pub fn triggered(nic: &mut Nic, deed: Deed, ct: Handle, threshold: u64) -> Result<u32, CallFault>
-    ensures { Guards (misuse_of_start deed nic.old.ranks nic.old.limits) nic.old nic.new
-        (λ r. MayLackMemory (triggered_of deed ct threshold nic.old) nic.old (ends nic.new r)) result }
+    ensures { Guards (start_misuse deed nic.old.ranks nic.old.limits) nic.old nic.new
+        (λ r. MayLackMemory (triggered deed ct threshold nic.old) nic.old (ends nic.new r)) result }
 {
     if let Some(misuse) = bad_start(nic, &deed) {
         return Err(CallFault::Misused(misuse));

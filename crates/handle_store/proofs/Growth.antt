@@ -3,7 +3,7 @@ use Rattle.std.proofs.Common.{◌≡◌, ℕ, zero, suc, ◌+◌, ◌<◌, true,
 use Rattle.std.proofs.lemmas.List.Sums.{sum_by-cons}
 use Rattle.std.proofs.lemmas.Bool.Decides.{nat_tests}
 use Rattle.slab.specs.Slab.{Slab, get, slab_len, Updates}
-use Rattle.handle_store.specs.declared.Held.{Held}
+use Rattle.handle_store.specs.declared.Stamped.{Stamped}
 use Rattle.ni_model.specs.Tables.{Live, Table, with_new}
 use Rattle.handle_store.specs.Layout.{live_from, put_in, by_stamp, table_of}
 
@@ -17,12 +17,12 @@ module _ {A : Type 0} where
   length-by_stamp [] = refl
   length-by_stamp (x ∷ xs) = grind (arith, length-put_in x (by_stamp xs), length-by_stamp xs)
 
-  pub length-live_from : (k : ℕ) (xs : List (Option (Held A))) → length (live_from k xs) ≡ count_by is_some xs
+  pub length-live_from : (k : ℕ) (xs : List (Option (Stamped A))) → length (live_from k xs) ≡ count_by is_some xs
   length-live_from k [] = refl
   length-live_from k (None ∷ xs) = length-live_from (k + 1) xs
-  length-live_from k (Some x ∷ xs) = omega (arith, length-live_from (k + 1) xs, sum_by-cons (λ (o : Option (Held A)). cond (is_some o) 1 0) (Some x) xs)
+  length-live_from k (Some x ∷ xs) = omega (arith, length-live_from (k + 1) xs, sum_by-cons (λ (o : Option (Stamped A)). cond (is_some o) 1 0) (Some x) xs)
 
-  pub length-table_of : (s : Slab (Held A)) (n m : ℕ) (t : Table A) → table_of s n m ≡ t → length t.live ≡ slab_len s
+  pub length-table_of : (s : Slab (Stamped A)) (n m : ℕ) (t : Table A) → table_of s n m ≡ t → length t.live ≡ slab_len s
   length-table_of s n m t is = rw (← is) (length-by_stamp (live_from 0 s.slots) ∙ length-live_from 0 s.slots)
 
   -- ---- the youngest comes last
@@ -34,17 +34,17 @@ module _ {A : Type 0} where
   put_in-append x z (y ∷ ys) lt = grind (arith, put_in-append x z ys lt)
 
   -- the slots n and m differ in that m has this thing at d
-  pub record Puts (d : ℕ) (w : Held A) (xs ys : List (Option (Held A))) : Type 0 where
+  pub record Puts (d : ℕ) (w : Stamped A) (xs ys : List (Option (Stamped A))) : Type 0 where
     pub before : get_or xs d None ≡ None
     pub after : get_or ys d None ≡ Some w
     pub others : (e : ℕ) → (e ≡ d → ⊥) → get_or ys e None ≡ get_or xs e None
 
-  pub live_from-none : (k : ℕ) (xs : List (Option (Held A))) → ((e : ℕ) → get_or xs e None ≡ None) → live_from k xs ≡ []
+  pub live_from-none : (k : ℕ) (xs : List (Option (Stamped A))) → ((e : ℕ) → get_or xs e None ≡ None) → live_from k xs ≡ []
   live_from-none k [] none = refl
   live_from-none k (None ∷ xs) none = live_from-none (k + 1) xs (λ e. none (suc e))
   live_from-none k (Some x ∷ xs) none = let e : Some x ≡ None = none 0 in cc
 
-  pub live_from-same : (k : ℕ) (xs ys : List (Option (Held A))) → ((e : ℕ) → get_or ys e None ≡ get_or xs e None) → live_from k ys ≡ live_from k xs
+  pub live_from-same : (k : ℕ) (xs ys : List (Option (Stamped A))) → ((e : ℕ) → get_or ys e None ≡ get_or xs e None) → live_from k ys ≡ live_from k xs
   live_from-same k [] ys same = live_from-none k ys same
   live_from-same k (x ∷ xs) [] same = sym (live_from-none k (x ∷ xs) (λ e. sym (same e)))
   live_from-same k (None ∷ xs) (None ∷ ys) same = live_from-same (k + 1) xs ys (λ e. same (suc e))
@@ -71,10 +71,10 @@ module _ {A : Type 0} where
   AllOlder-by_stamp n [] all = tt
   AllOlder-by_stamp n (x ∷ xs) all = AllOlder-put_in n x (by_stamp xs) all.0 (AllOlder-by_stamp n xs all.1)
 
-  abbrev pub StampsBelow : ℕ → List (Option (Held A)) → Type 0
-  StampsBelow n xs = (e : ℕ) (x : Held A) → get_or xs e None ≡ Some x → x.stamp < n
+  abbrev pub StampsBelow : ℕ → List (Option (Stamped A)) → Type 0
+  StampsBelow n xs = (e : ℕ) (x : Stamped A) → get_or xs e None ≡ Some x → x.stamp < n
 
-  pub AllOlder-live_from : (n k : ℕ) (xs : List (Option (Held A))) → StampsBelow n xs → AllOlder n (live_from k xs)
+  pub AllOlder-live_from : (n k : ℕ) (xs : List (Option (Stamped A))) → StampsBelow n xs → AllOlder n (live_from k xs)
   AllOlder-live_from n k [] below = tt
   AllOlder-live_from n k (None ∷ xs) below = AllOlder-live_from n (k + 1) xs (λ e. below (suc e))
   AllOlder-live_from n k (Some x ∷ xs) below = (below 0 x refl, AllOlder-live_from n (k + 1) xs (λ e. below (suc e)))
@@ -83,13 +83,13 @@ module _ {A : Type 0} where
   put_in-last z [] all = refl
   put_in-last z (x ∷ xs) all = grind (arith, nat_tests, put_in-last z xs all.1, all.0)
 
-  abbrev pub live_at : ℕ → Held A → Live A
+  abbrev pub live_at : ℕ → Stamped A → Live A
   live_at k w = record { handle = record { slot = k; stamp = w.stamp }; value = w.value }
 
-  pub Puts-tail : (d : ℕ) (w : Held A) (x y : Option (Held A)) (xs ys : List (Option (Held A))) → Puts (suc d) w (x ∷ xs) (y ∷ ys) → Puts d w xs ys
+  pub Puts-tail : (d : ℕ) (w : Stamped A) (x y : Option (Stamped A)) (xs ys : List (Option (Stamped A))) → Puts (suc d) w (x ∷ xs) (y ∷ ys) → Puts d w xs ys
   Puts-tail d w x y xs ys p = record { before = p.before; after = p.after; others = λ e ne. p.others (suc e) (λ same. ne (omega arith)) }
 
-  pub live_from-put : (k d : ℕ) (w : Held A) (xs ys : List (Option (Held A))) → StampsBelow w.stamp xs → Puts d w xs ys → by_stamp (live_from k ys) ≡ by_stamp (live_from k xs) ++ live_at (k + d) w ∷ []
+  pub live_from-put : (k d : ℕ) (w : Stamped A) (xs ys : List (Option (Stamped A))) → StampsBelow w.stamp xs → Puts d w xs ys → by_stamp (live_from k ys) ≡ by_stamp (live_from k xs) ++ live_at (k + d) w ∷ []
   live_from-put k d w xs [] below p = let e : None ≡ Some w = p.after in cc
   live_from-put k zero w [] (y ∷ ys) below p =
       let e : y ≡ Some w = p.after in
@@ -121,7 +121,7 @@ module _ {A : Type 0} where
       rw (g, r, z) (put_in-append (live_at k x) (live_at (k + suc d) w) (by_stamp (live_from (k + 1) xs)) lt)
 
   -- ---- for the answers
-  pub table-put : (d : ℕ) (w : Held A) (s r : Slab (Held A)) (m : ℕ) (t : Table A) → table_of s w.stamp m ≡ t → StampsBelow w.stamp s.slots → get s d ≡ None → Updates s r d (Some w) → table_of r (w.stamp + 1) m ≡ with_new d w.value t
+  pub table-put : (d : ℕ) (w : Stamped A) (s r : Slab (Stamped A)) (m : ℕ) (t : Table A) → table_of s w.stamp m ≡ t → StampsBelow w.stamp s.slots → get s d ≡ None → Updates s r d (Some w) → table_of r (w.stamp + 1) m ≡ with_new d w.value t
   table-put d w s r m t is below vacant u =
       let e : by_stamp (live_from 0 r.slots) ≡ by_stamp (live_from 0 s.slots) ++ live_at (0 + d) w ∷ [] = live_from-put 0 d w s.slots r.slots below (record { before = vacant; after = u.changed; others = u.others }) in
       let z : 0 + d ≡ d = omega arith in

@@ -2,7 +2,7 @@
 use Rattle.std.proofs.Common.{◌≡◌, ℕ, zero, suc, ◌+◌, ◌<◌, ◌≤◌, Bool, true, false, not, List, [], ◌∷◌, Option, Some, None, filter, get_or, set, if◌then◌else◌, nat_lt, refl, arith}
 use Rattle.std.proofs.lemmas.Bool.Decides.{nat_tests}
 use Rattle.slab.specs.Slab.{Slab, get}
-use Rattle.handle_store.specs.declared.Held.{Held}
+use Rattle.handle_store.specs.declared.Stamped.{Stamped}
 use Rattle.ni_model.specs.Tables.{Live, Table, lookup, without}
 use Rattle.handle_store.specs.Layout.{live_from, put_in, by_stamp, table_of}
 use Rattle.ptl_types.specs.declared.handles.Handle.{Handle}
@@ -74,12 +74,12 @@ module _ {A : Type 0} where
   filter-by_stamp p [] = refl
   filter-by_stamp p (x ∷ xs) = grind (arith, filter-put_in p x (by_stamp xs) (Rising-by_stamp xs), filter-by_stamp p xs)
 
-  pub filter-past : (h : Handle) (k : ℕ) (xs : List (Option (Held A))) → h.slot < k → filter (keep h) (live_from k xs) ≡ live_from k xs
+  pub filter-past : (h : Handle) (k : ℕ) (xs : List (Option (Stamped A))) → h.slot < k → filter (keep h) (live_from k xs) ≡ live_from k xs
   filter-past h k [] lt = refl
   filter-past h k (None ∷ xs) lt = filter-past h (k + 1) xs (omega arith)
   filter-past h k (Some x ∷ xs) lt = grind (arith, nat_tests, filter-past h (k + 1) xs (omega arith))
 
-  pub live_from-drop : (h : Handle) (k d : ℕ) (xs : List (Option (Held A))) (v : A) → h.slot ≡ k + d → get_or xs d None ≡ Some (record { stamp = h.stamp; value = v }) → live_from k (set xs d None) ≡ filter (keep h) (live_from k xs)
+  pub live_from-drop : (h : Handle) (k d : ℕ) (xs : List (Option (Stamped A))) (v : A) → h.slot ≡ k + d → get_or xs d None ≡ Some (record { stamp = h.stamp; value = v }) → live_from k (set xs d None) ≡ filter (keep h) (live_from k xs)
   live_from-drop h k d [] v e is = cc
   live_from-drop h k zero (None ∷ xs) v e is = cc
   live_from-drop h k (suc d) (None ∷ xs) v e is = live_from-drop h (k + 1) d xs v (omega arith) is
@@ -90,7 +90,7 @@ module _ {A : Type 0} where
   filter-absent h [] e = refl
   filter-absent h (x ∷ xs) e = grind (arith, filter-absent h xs)
 
-  pub table-without : (h : Handle) (s r : Slab (Held A)) (n m : ℕ) (t : Table A) (x : Held A) → table_of s n m ≡ t → get s h.slot ≡ Some x → x.stamp ≡ h.stamp → r.slots ≡ set s.slots h.slot None → table_of r n m ≡ without h t
+  pub table-without : (h : Handle) (s r : Slab (Stamped A)) (n m : ℕ) (t : Table A) (x : Stamped A) → table_of s n m ≡ t → get s h.slot ≡ Some x → x.stamp ≡ h.stamp → r.slots ≡ set s.slots h.slot None → table_of r n m ≡ without h t
   table-without h s r n m t x is at same slots =
       let e : get s h.slot ≡ Some (record { stamp = h.stamp; value = x.value }) = grind arith in
       let a : live_from 0 (set s.slots h.slot None) ≡ filter (keep h) (live_from 0 s.slots) = live_from-drop h 0 h.slot s.slots x.value (omega arith) e in

@@ -4,7 +4,7 @@
 ghost use Rattle.std.specs.Prelude.{◌≡◌, ◌<◌, ◌↔◌, Some, IsSome, IsErr, IsTrue, IfSome, IfNone, IfOk, IfErr, false, length, option_copied, All};
 ghost use Rattle.std.specs.Option.{option_copied_mut};
 ghost use Rattle.std.specs.Borrow.{sem};
-ghost use Rattle.ptl_types.specs.declared.handles.Handle.{Handle as NamedBy};
+ghost use Rattle.ptl_types.specs.declared.handles.Handle.{Handle};
 ghost use Rattle.ni_model.specs.Tables.{lookup, change, with_new, without, no_things, is_full, has_slot};
 
 use ptl_types::{Handle, NoMemory};
@@ -19,7 +19,7 @@ mod tests;
 pub use named::{is_live_or_none, names, where_set};
 
 #[derive(Drop)]
-struct Held<T> {
+struct Stamped<T> {
     stamp: u64,
     value: T,
 }
@@ -29,7 +29,7 @@ struct Held<T> {
 /// Every call takes a constant number of steps.
 #[derive(Drop)]
 pub struct Store<T> {
-    slab: Slab<Held<T>>,
+    slab: Slab<Stamped<T>>,
     given: u64,
     limit: u32,
 }
@@ -80,7 +80,7 @@ impl<T> Store<T> {
             return Err(value);
         }
         let stamp = self.given;
-        let slot = self.slab.insert_reserved(Held { stamp, value }) as u32;
+        let slot = self.slab.insert_reserved(Stamped { stamp, value }) as u32;
         self.given += 1;
         Ok(Handle { slot, stamp })
     }
@@ -108,7 +108,7 @@ impl<T> Store<T> {
         ensures none { IfNone result (has_slot slot self.now.live ≡ false) }
 
         // No other live handle has that slot, and the slot is below the limit.
-        ensures alone { (h : NamedBy) → h.slot ≡ slot → IsSome (lookup h self.now.live) → IfSome result (λ p. p.0 ≡ h) }
+        ensures alone { (h : Handle) → h.slot ≡ slot → IsSome (lookup h self.now.live) → IfSome result (λ p. p.0 ≡ h) }
         ensures below { IsSome result → slot < self.now.limit }
         ensures only { IfSome result (λ p. All (λ x. x.handle.slot ≡ slot → x.value ≡ p.1.now) self.now.live) }
     {

@@ -1,8 +1,8 @@
 //! Acknowledgements and replies that come home.
 
 ghost use Rattle.std.specs.Prelude.{◌≡◌, ◌+◌, ◌≤◌, true, length};
-ghost use Rattle.ni_model.specs.Events.{is_reply as replies, asks_event as asks, answer_event as event_of};
-ghost use Rattle.ni_model.specs.Answers.{bound_at, is_due as due, memory_home, one_answer as count_of_answer, counter_home as counter_of, events_home, awaits_less};
+ghost use Rattle.ni_model.specs.Events.{is_reply, asks_event, answer_event};
+ghost use Rattle.ni_model.specs.Answers.{bound_at, is_due, memory_home, one_answer, counter_home, events_home, awaits_less};
 ghost use Rattle.ni_model.specs.Conditions.{IsBoundIn};
 ghost use Rattle.ptl_types.specs.Handles.{top};
 
@@ -15,14 +15,14 @@ use ptl_types::{AckRequest, Count, Event, EventKind, Handle, Header, Message, Me
 
 /// Whether the answer is a reply, to a get, fetch-atomic or swap, and not an acknowledgement.
 fn is_reply(kind: MessageKind) -> bool
-    ensures { result ≡ replies kind }
+    ensures { result ≡ is_reply kind }
 {
     matches!(kind, MessageKind::Reply)
 }
 
 /// Whether an acknowledgement raises an event: where one was asked for, and not a count alone.
 fn asks_event(ack: AckRequest) -> bool
-    ensures { result ≡ asks ack }
+    ensures { result ≡ asks_event ack }
 {
     matches!(ack, AckRequest::Ack)
 }
@@ -39,7 +39,7 @@ pub fn bound_of(mds: &Store<Bound>, home: Option<Handle>) -> Option<Bound>
 
 /// Whether the descriptor awaits an answer, and the bytes of a reply that is ok fit it.
 pub fn is_due(header: &Header, bound: &Bound) -> bool
-    ensures { result ≡ due header.now bound.now }
+    ensures { result ≡ is_due header.now bound.now }
 {
     let fits = match header.home_offset.checked_add(header.length) {
         Some(end) => end <= bound.md.length,
@@ -53,7 +53,7 @@ pub fn is_due(header: &Header, bound: &Bound) -> bool
 /// A reply that is ok writes its bytes where the operation said.
 pub fn bring(region: &mut Region, bound: &Bound, message: &Message)
     requires part { IsBoundIn (length region.old) bound.now }
-    requires due { due message.now.header bound.now ≡ true }
+    requires due { is_due message.now.header bound.now ≡ true }
     ensures { region.new ≡ memory_home bound.now message.now region.old }
 {
     // Brings the bound of the region's length to the proof.
@@ -67,7 +67,7 @@ pub fn bring(region: &mut Region, bound: &Bound, message: &Message)
 
 /// A failure where the answer isn't ok.
 pub fn one_answer(ok: bool) -> Count
-    ensures { result ≡ count_of_answer ok }
+    ensures { result ≡ one_answer ok }
 {
     if ok {
         Count {
@@ -84,7 +84,7 @@ pub fn one_answer(ok: bool) -> Count
 
 /// The counting event that an answer counts on.
 pub fn counter_home(header: &Header, bound: &Bound) -> Option<Handle>
-    ensures { result ≡ counter_of header.now bound.now }
+    ensures { result ≡ counter_home header.now bound.now }
 {
     let counts = if is_reply(header.kind) {
         bound.md.count_reply
@@ -96,9 +96,9 @@ pub fn counter_home(header: &Header, bound: &Bound) -> Option<Handle>
 
 /// The first byte that a reply wrote, in bytes of the region; 0 where it wrote none.
 fn place_home(header: &Header, bound: &Bound) -> u64
-    requires due { due header.now bound.now ≡ true }
+    requires due { is_due header.now bound.now ≡ true }
     requires part { bound.now.md.start + bound.now.md.length ≤ top }
-    ensures { result ≡ (event_of bound.now header.now).place }
+    ensures { result ≡ (answer_event bound.now header.now).place }
 {
     if is_reply(header.kind) && header.ok && header.length > 0 {
         bound.md.start + header.home_offset
@@ -109,9 +109,9 @@ fn place_home(header: &Header, bound: &Bound) -> u64
 
 /// The event of an answer that comes home (Portals 4.3, event types).
 fn answer_event(header: &Header, bound: &Bound) -> Event
-    requires due { due header.now bound.now ≡ true }
+    requires due { is_due header.now bound.now ≡ true }
     requires part { bound.now.md.start + bound.now.md.length ≤ top }
-    ensures { result ≡ event_of bound.now header.now }
+    ensures { result ≡ answer_event bound.now header.now }
 {
     Event {
         kind: if is_reply(header.kind) {
@@ -132,7 +132,7 @@ fn answer_event(header: &Header, bound: &Bound) -> Event
 
 /// A reply raises its event, and an acknowledgement where one was asked for.
 pub fn raise_answer(eqs: &mut Store<Queue>, header: &Header, bound: &Bound)
-    requires due { due header.now bound.now ≡ true }
+    requires due { is_due header.now bound.now ≡ true }
     requires part { bound.now.md.start + bound.now.md.length ≤ top }
     ensures { eqs.new ≡ events_home header.now bound.now eqs.old }
 {

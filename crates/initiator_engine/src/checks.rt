@@ -1,8 +1,8 @@
 //! Whether the descriptors of a deed are live and hold the parts that it names.
 
 ghost use Rattle.std.specs.Prelude.{◌≡◌};
-ghost use Rattle.ni_model.specs.Tables.{is_live as lives};
-ghost use Rattle.ni_model.specs.Refusals.{holds_part as holds_it, put_fits as put_fit, get_fits as get_fit, deed_is_live as deed_lives, deed_fits as deed_fit};
+ghost use Rattle.ni_model.specs.Tables.{is_live};
+ghost use Rattle.ni_model.specs.Refusals.{holds_part, put_fits, get_fits, deed_is_live, deed_fits};
 
 use crate::answers::bound_of;
 use handle_store::Store;
@@ -11,14 +11,14 @@ use ptl_types::{Deed, GetArgs, Handle, PutArgs};
 
 /// Whether the descriptor is live.
 pub fn is_live(mds: &Store<Bound>, md: Handle) -> bool
-    ensures { result ≡ lives md mds.now }
+    ensures { result ≡ is_live md mds.now }
 {
     bound_of(mds, Some(md)).is_some()
 }
 
 /// Whether `n` bytes from `at` on lie in a live descriptor.
 fn holds_part(bound: Option<Bound>, at: u64, n: u64) -> bool
-    ensures { result ≡ holds_it bound at n }
+    ensures { result ≡ holds_part bound at n }
 {
     match bound {
         Some(bound) => match at.checked_add(n) {
@@ -31,21 +31,21 @@ fn holds_part(bound: Option<Bound>, at: u64, n: u64) -> bool
 
 /// Whether the bytes to be sent lie in their descriptor.
 fn put_fits(mds: &Store<Bound>, args: &PutArgs) -> bool
-    ensures { result ≡ put_fit args.now mds.now }
+    ensures { result ≡ put_fits args.now mds.now }
 {
     holds_part(bound_of(mds, Some(args.md)), args.local_offset, args.length)
 }
 
 /// Whether the bytes that a reply brings lie in their descriptor.
 fn get_fits(mds: &Store<Bound>, args: &GetArgs) -> bool
-    ensures { result ≡ get_fit args.now mds.now }
+    ensures { result ≡ get_fits args.now mds.now }
 {
     holds_part(bound_of(mds, Some(args.md)), args.local_offset, args.length)
 }
 
 /// Whether the descriptors that a deed names are live.
 pub fn deed_is_live(mds: &Store<Bound>, deed: &Deed) -> bool
-    ensures { result ≡ deed_lives deed.now mds.now }
+    ensures { result ≡ deed_is_live deed.now mds.now }
 {
     match deed {
         Deed::Put(args) => is_live(mds, args.md),
@@ -59,7 +59,7 @@ pub fn deed_is_live(mds: &Store<Bound>, deed: &Deed) -> bool
 
 /// Whether the parts that a deed names lie in their descriptors.
 pub fn deed_fits(mds: &Store<Bound>, deed: &Deed) -> bool
-    ensures { result ≡ deed_fit deed.now mds.now }
+    ensures { result ≡ deed_fits deed.now mds.now }
 {
     match deed {
         Deed::Put(args) => put_fits(mds, args),

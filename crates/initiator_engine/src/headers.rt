@@ -1,7 +1,7 @@
 //! The header of each start.
 
 ghost use Rattle.std.specs.Prelude.{◌≡◌};
-ghost use Rattle.ni_model.specs.Starts.{put_header as put_of, get_header as get_of, fetch_header as fetch_of, header_of as header_by, put_args as args_of, counted_on as counted_by};
+ghost use Rattle.ni_model.specs.Starts.{put_header, get_header, fetch_header, header_of, put_args, counted_on};
 
 use ptl_types::{
     AckRequest, AtomicOp, Deed, ElemType, GetArgs, Handle, Header, MessageKind, PutArgs, Rank,
@@ -16,7 +16,7 @@ fn put_header(
     op: Option<AtomicOp>,
     ty: ElemType,
 ) -> Header
-    ensures { result ≡ put_of rank kind args.now op ty }
+    ensures { result ≡ put_header rank kind args.now op ty }
 {
     Header {
         kind,
@@ -43,7 +43,7 @@ fn put_header(
 
 /// The header of a get.
 fn get_header(rank: Rank, args: &GetArgs) -> Header
-    ensures { result ≡ get_of rank args.now }
+    ensures { result ≡ get_header rank args.now }
 {
     Header {
         kind: MessageKind::Get,
@@ -77,7 +77,7 @@ struct Change {
 
 /// The header of a fetch-atomic or a swap: the reply goes to the place of the get arguments, the rest is of the put arguments.
 fn fetch_header(rank: Rank, back: &GetArgs, args: &PutArgs, change: Change) -> Header
-    ensures { result ≡ fetch_of rank change.kind back.now args.now change.op change.swap change.ty change.operand }
+    ensures { result ≡ fetch_header rank change.kind back.now args.now change.op change.swap change.ty change.operand }
 {
     Header {
         kind: change.kind,
@@ -97,7 +97,7 @@ fn fetch_header(rank: Rank, back: &GetArgs, args: &PutArgs, change: Change) -> H
 
 /// The header of a deed that starts an operation; none of one that counts.
 pub fn header_of(rank: Rank, deed: &Deed) -> Option<Header>
-    ensures { result ≡ header_by rank deed.now }
+    ensures { result ≡ header_of rank deed.now }
 {
     match deed {
         Deed::Put(args) => Some(put_header(rank, MessageKind::Put, args, None, ElemType::U8)),
@@ -131,7 +131,7 @@ pub fn header_of(rank: Rank, deed: &Deed) -> Option<Header>
 
 /// The arguments of what the deed sends.
 pub fn put_args(deed: &Deed) -> Option<PutArgs>
-    ensures { result ≡ args_of deed.now }
+    ensures { result ≡ put_args deed.now }
 {
     match deed {
         Deed::Put(args) => Some(*args),
@@ -144,7 +144,7 @@ pub fn put_args(deed: &Deed) -> Option<PutArgs>
 
 /// The descriptor that the start counts on and tells.
 pub fn counted_on(deed: &Deed) -> Option<Handle>
-    ensures { result ≡ counted_by deed.now }
+    ensures { result ≡ counted_on deed.now }
 {
     match deed {
         Deed::Put(args) => Some(args.md),

@@ -1,10 +1,10 @@
 //! The initiator.
 
 ghost use Rattle.std.specs.Prelude.{◌≡◌, ◌<◌, ◌≤◌, ℕ, List, true, false, Some, None, IsTrue, IfOk, IfErr, OnErr, All, length};
-ghost use Rattle.ni_model.specs.Tables.{no_things, lookup, with_new, without, has_slot, handle, is_live as lives};
-ghost use Rattle.ni_model.specs.Calls.{bound as as_bound, awaits_of};
+ghost use Rattle.ni_model.specs.Tables.{no_things, lookup, with_new, without, has_slot, handle, is_live};
+ghost use Rattle.ni_model.specs.Calls.{bound, awaits_of};
 ghost use Rattle.ni_model.specs.Answers.{home, answered, bound_at, is_awaited};
-ghost use Rattle.ni_model.specs.Starts.{started, sent_from, counted_on as counted_in, send_counter as counter_of};
+ghost use Rattle.ni_model.specs.Starts.{started, sent_from, counted_on, send_counter};
 ghost use Rattle.ni_model.specs.Refusals.{bind_fault, deed_fault, own_release_fault, md_names_ct, md_names_eq};
 ghost use Rattle.ni_model.specs.Conditions.{MayStart};
 ghost use Rattle.user_counts.specs.Rows.{IsAlone, HasOwnSlot};
@@ -73,7 +73,7 @@ fn started_with(
     header: &Header,
 ) -> Option<Handle>
     ensures sent { (memory : List ℕ) → home mds.new memory cts.new eqs.new ≡ sent_from (home mds.old memory cts.old eqs.old) deed.now header.now }
-    ensures counted { result ≡ counter_of (bound_at (counted_in deed.now) mds.old) }
+    ensures counted { result ≡ send_counter (bound_at (counted_on deed.now) mds.old) }
 {
     let bound = bound_of(mds, counted_on(deed));
     let ct = send_counter(bound);
@@ -143,7 +143,7 @@ impl Initiator {
         ensures stamp { IfOk result (λ h. h ≡ handle h.slot self.old.mds.given) }
         ensures slot { IfOk result (λ h. h.slot < self.old.mds.limit) }
         ensures free { IfOk result (λ h. has_slot h.slot self.old.mds.live ≡ false) }
-        ensures bound { IfOk result (λ h. self.new ≡ with_mds (with_new h.slot (as_bound md) self.old.mds) self.old) }
+        ensures bound { IfOk result (λ h. self.new ≡ with_mds (with_new h.slot (bound md) self.old.mds) self.old) }
     {
         if !(is_live_or_none(eqs, md.eq) && is_live_or_none(cts, md.ct)) {
             return Err(NiFault::Stale);
@@ -186,7 +186,7 @@ impl Initiator {
 
     /// Whether the descriptor is bound. Then no other bound one has its slot.
     pub fn is_bound(&self, md: Handle) -> bool
-        ensures told { result ≡ lives md self.now.mds }
+        ensures told { result ≡ is_live md self.now.mds }
         ensures alone { IsTrue result → HasOwnSlot md self.now.mds }
     {
         // Brings what is known of its slot to the proof.

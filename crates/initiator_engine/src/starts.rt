@@ -1,8 +1,8 @@
 //! What a start sends, counts and tells.
 
 ghost use Rattle.std.specs.Prelude.{◌≡◌, ◌≤◌, true, length};
-ghost use Rattle.ni_model.specs.Starts.{send_counter as send_counter_of, send_queue as send_queue_of, awaits_more};
-ghost use Rattle.ni_model.specs.Events.{send_event as event_of};
+ghost use Rattle.ni_model.specs.Starts.{send_counter, send_queue, awaits_more};
+ghost use Rattle.ni_model.specs.Events.{send_event};
 ghost use Rattle.initiator_engine.specs.Initiators.{AreBoundIn, args_fit, args_length, args_bytes};
 
 use crate::answers::bound_of;
@@ -39,7 +39,7 @@ pub fn read_bytes(
 
 /// The counting event that a start counts on, where its descriptor counts sends.
 pub fn send_counter(bound: Option<Bound>) -> Option<Handle>
-    ensures { result ≡ send_counter_of bound }
+    ensures { result ≡ send_counter bound }
 {
     match bound {
         Some(bound) => where_set(bound.md.count_send, bound.md.ct),
@@ -49,7 +49,7 @@ pub fn send_counter(bound: Option<Bound>) -> Option<Handle>
 
 /// The event queue that a start tells.
 pub fn send_queue(bound: Option<Bound>) -> Option<Handle>
-    ensures { result ≡ send_queue_of bound }
+    ensures { result ≡ send_queue bound }
 {
     match bound {
         Some(bound) => bound.md.eq,
@@ -59,7 +59,7 @@ pub fn send_queue(bound: Option<Bound>) -> Option<Handle>
 
 /// The event of a start: its bytes were read, so its room may be used again (Portals 4.3, event types).
 pub fn send_event(header: &Header) -> Event
-    ensures { result ≡ event_of header.now }
+    ensures { result ≡ send_event header.now }
 {
     Event {
         kind: EventKind::Send,

@@ -115,7 +115,7 @@ pub const LISTS_STAND: &[Step] = &[
     Here(PtFree(1), Done),
 ];
 
-/// Behind that: the two operations that were posted wait on the first counting event, and no other does. The put is of the second
+/// After that: the two operations that were posted wait on the first counting event, and no other does. The put is of the second
 /// descriptor; the increment counts on the second counting event, which the list's put counted on once.
 pub const DEEDS_STAND: &[Step] = &[
     Here(Fire(1), Sent),

@@ -30,7 +30,7 @@ const STALE_BACK: GetArgs = GetArgs {
     ..BACK
 };
 
-/// The same of the byte behind the descriptor.
+/// The same of the byte after the descriptor.
 const BEHIND: PutArgs = PutArgs {
     local_offset: 8,
     ..BYTE
@@ -41,7 +41,7 @@ const BEHIND_BACK: GetArgs = GetArgs {
     ..BACK
 };
 
-/// The same of a byte as far behind it as can be.
+/// The same of a byte as far after it as can be.
 const FAR: PutArgs = PutArgs {
     local_offset: u64::MAX,
     ..BYTE

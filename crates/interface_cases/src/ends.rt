@@ -35,7 +35,7 @@ pub struct Seen {
     are_ready: [bool; 6],
 }
 
-/// The first sixteen bytes of a region, which are all that the regions of the scripts have; zeros behind a shorter one.
+/// The first sixteen bytes of a region, which are all that the regions of the scripts have; zeros after a shorter one.
 fn sixteen(memory: &[u8]) -> [u8; 16] {
     let mut bytes = [0; 16];
     for (to, from) in bytes.iter_mut().zip(memory) {

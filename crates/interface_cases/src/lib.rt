@@ -1,7 +1,7 @@
 //! Scripts over the whole interface, run through its public calls: one interface of rank 0 and one of rank 1, at the two
 //! ends of a wire. What each call answers is what the profile says of it, worked out by hand: messages and their matching,
 //! unexpected headers, operations and their answers, counting and triggered operations, every refusal that calls
-//! can reach, but want of memory, and every call once with ample memory.
+//! can reach, but running out of memory, and every call once with ample memory.
 //!
 //! A script is a list of steps, and each step has a call and its answer (`steps`). `scene` plays it: it makes the calls,
 //! compares the answers, and compares all that the interface tells before and after each call that is refused. `guarded` has the calls

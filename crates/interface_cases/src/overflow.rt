@@ -47,7 +47,7 @@ const THREE_BYTES: UnexpectedHeader = UnexpectedHeader {
     },
 };
 
-/// The header of a put of two bytes, behind them.
+/// The header of a put of two bytes, after them.
 const TWO_BYTES: UnexpectedHeader = UnexpectedHeader {
     entry: FIRST,
     place: 3,

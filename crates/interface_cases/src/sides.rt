@@ -1,4 +1,4 @@
-//! One interface behind calls without clauses. A call that has conditions is made behind a test of them.
+//! One interface after calls without clauses. A call that has conditions is made after a test of them.
 
 ghost use Rattle.std.specs.Prelude.{◌≡◌, ◌<◌};
 ghost use Rattle.ni_model.specs.Conditions.{MayGo, MayCombine, MayFetch, MayStart};

@@ -92,7 +92,7 @@ fn open(alloc: Global, limits: Limits) -> Result<Nic, NiFault> {
 }
 
 // Each of the next functions is one call of the interface, without what its contract says of the whole state: so the functions
-// behind them have nothing of it to prove.
+// after them have nothing of it to prove.
 
 fn allocate_index(nic: &mut Nic, pt: u32) -> Result<(), NiFault> {
     nic.pt_alloc(pt, None)
@@ -193,7 +193,7 @@ fn post_put(
     post_message(nic, args, ct, threshold)
 }
 
-/// The counting event of this number, counted on from the first again behind the last.
+/// The counting event of this number, counted on from the first again after the last.
 fn nth(cts: &[Handle], number: u32) -> Result<Handle, NiFault> {
     match cts.get((number % COUNTERS) as usize) {
         Some(ct) => Ok(*ct),
@@ -201,7 +201,7 @@ fn nth(cts: &[Handle], number: u32) -> Result<Handle, NiFault> {
     }
 }
 
-/// Posts the operation of this number: it waits for the first count of its counting event, or behind the last one for the
+/// Posts the operation of this number: it waits for the first count of its counting event, or after the last one for the
 /// second, and counts on the next.
 fn post(nic: &mut Nic, cts: &[Handle], md: Handle, kind: Kind, number: u32) -> Result<u32, NiFault>
     requires { number < 20000 }
@@ -272,7 +272,7 @@ fn run_on(alloc: Global, nic: &mut Nic, kind: Kind) -> Result<Made, NiFault> {
 }
 
 /// Makes an interface and a chain of operations on it, each of which fires by the count of the one before. Each fault is one
-/// that the interface answered, or want of memory.
+/// that the interface answered, or that memory ran out.
 pub fn run_chain(alloc: Global, kind: Kind) -> Result<Made, NiFault> {
     let mut nic = open(alloc, LIMITS)?;
     run_on(alloc, &mut nic, kind)

@@ -6,14 +6,14 @@ use Rattle.ptl_types.specs.Elements.{by_element, little_endian, part, pattern, r
 use Rattle.lane_ops.specs.Places.{combined_at}
 use Rattle.op_laws.proofs.Bytes.{length-little_endian}
 
--- the element behind the first i
+-- the element after the first i
 next : (i w : ℕ) → (i + 1) * w ≡ i * w + w
 next i w = add-mul i 1 w ∙ (let e : i * w + 1 * w ≡ i * w + w = omega arith in e)
 
 within : (i n w : ℕ) → i < n → i * w + w ≤ n * w
 within i n w lt = let e = next i w in let le : (i + 1) * w ≤ n * w = mul-le-mul_right w (omega (arith, lt)) in omega (arith, e, le)
 
--- after a write of the bytes of one element behind the first `at` bytes
+-- after a write of the bytes of one element after the first `at` bytes
 take-written : (at n : ℕ) (bs xs : List ℕ) → at ≤ length xs → n ≡ at + length bs → take n (written at bs xs) ≡ take at xs ++ bs
 take-written at n bs xs le e =
     ap (take n) (sym (append_assoc (take at xs) bs (drop (at + length bs) xs)))

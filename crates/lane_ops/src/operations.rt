@@ -4,8 +4,8 @@ ghost use Rattle.std.specs.Prelude.{◌≡◌, ◌<◌, ◌+◌, ◌*◌, ◌%�
 ghost use Rattle.ptl_types.specs.Operations.{op, start_value, span, order_key, one_if};
 ghost use Rattle.op_laws.specs.Laws.{Swaps, Commutes, Associates, Starts, Stays, Absorbs};
 ghost use Rattle.op_laws.proofs.OpLaws.{swaps, commutes, associates, starts, stays, absorbs};
-ghost use Rattle.ptl_types.specs.declared.elements.AtomicOp.{AtomicOp as Operation};
-ghost use Rattle.ptl_types.specs.declared.elements.AtomicOp.TheVariants.{Min as MinOp, Max as MaxOp, Sum as SumOp, Prod as ProdOp, Lor as LorOp, Land as LandOp, Bor as BorOp, Band as BandOp, Lxor as LxorOp, Bxor as BxorOp};
+ghost use Rattle.ptl_types.specs.declared.elements.AtomicOp.{AtomicOp};
+ghost use Rattle.ptl_types.specs.declared.elements.AtomicOp.TheVariants.{Min, Max, Sum, Prod, Lor, Land, Bor, Band, Lxor, Bxor};
 
 use ptl_types::{AtomicOp, ElemType};
 
@@ -13,7 +13,7 @@ use ptl_types::{AtomicOp, ElemType};
 /// complement. Each implementation proves that partial results may be combined in any order, beginning with the starting
 /// value.
 pub trait Combine {
-    ghost operation: { Operation };
+    ghost operation: { AtomicOp };
 
     /// The operation of two elements.
     fn op(&self, ty: ElemType, x: u64, y: u64) -> u64
@@ -91,7 +91,7 @@ fn all_ones(ty: ElemType) -> u64
 
 /// The pattern of the type's greatest value.
 fn greatest(ty: ElemType) -> u64
-    ensures { result ≡ start_value MinOp ty }
+    ensures { result ≡ start_value Min ty }
 {
     match ty {
         ElemType::I8 => (1 << 7) - 1,
@@ -104,7 +104,7 @@ fn greatest(ty: ElemType) -> u64
 
 /// The pattern of the type's least value.
 fn least(ty: ElemType) -> u64
-    ensures { result ≡ start_value MaxOp ty }
+    ensures { result ≡ start_value Max ty }
 {
     match ty {
         ElemType::I8 => 1 << 7,
@@ -120,7 +120,7 @@ fn least(ty: ElemType) -> u64
 pub struct Minimum;
 
 impl Combine for Minimum {
-    ghost operation = { MinOp };
+    ghost operation = { Min };
 
     fn op(&self, ty: ElemType, x: u64, y: u64) -> u64 {
         if key(ty, x) <= key(ty, y) { x } else { y }
@@ -130,17 +130,17 @@ impl Combine for Minimum {
         greatest(ty)
     }
 
-    ghost operands_swap = { swaps MinOp };
+    ghost operands_swap = { swaps Min };
 
-    ghost operands_commute = { commutes MinOp };
+    ghost operands_commute = { commutes Min };
 
-    ghost operands_associate = { associates MinOp };
+    ghost operands_associate = { associates Min };
 
-    ghost start_stays = { starts MinOp };
+    ghost start_stays = { starts Min };
 
-    ghost values_stay = { stays MinOp };
+    ghost values_stay = { stays Min };
 
-    ghost start_is_absorbed = { absorbs MinOp };
+    ghost start_is_absorbed = { absorbs Min };
 }
 
 /// The greater by the type's order; it begins with the type's least value.
@@ -148,7 +148,7 @@ impl Combine for Minimum {
 pub struct Maximum;
 
 impl Combine for Maximum {
-    ghost operation = { MaxOp };
+    ghost operation = { Max };
 
     fn op(&self, ty: ElemType, x: u64, y: u64) -> u64 {
         if key(ty, x) <= key(ty, y) { y } else { x }
@@ -158,17 +158,17 @@ impl Combine for Maximum {
         least(ty)
     }
 
-    ghost operands_swap = { swaps MaxOp };
+    ghost operands_swap = { swaps Max };
 
-    ghost operands_commute = { commutes MaxOp };
+    ghost operands_commute = { commutes Max };
 
-    ghost operands_associate = { associates MaxOp };
+    ghost operands_associate = { associates Max };
 
-    ghost start_stays = { starts MaxOp };
+    ghost start_stays = { starts Max };
 
-    ghost values_stay = { stays MaxOp };
+    ghost values_stay = { stays Max };
 
-    ghost start_is_absorbed = { absorbs MaxOp };
+    ghost start_is_absorbed = { absorbs Max };
 }
 
 /// The sum, which wraps; it begins with 0.
@@ -176,7 +176,7 @@ impl Combine for Maximum {
 pub struct Sum;
 
 impl Combine for Sum {
-    ghost operation = { SumOp };
+    ghost operation = { Sum };
 
     fn op(&self, ty: ElemType, x: u64, y: u64) -> u64 {
         sum_of(ty, x, y)
@@ -186,17 +186,17 @@ impl Combine for Sum {
         0
     }
 
-    ghost operands_swap = { swaps SumOp };
+    ghost operands_swap = { swaps Sum };
 
-    ghost operands_commute = { commutes SumOp };
+    ghost operands_commute = { commutes Sum };
 
-    ghost operands_associate = { associates SumOp };
+    ghost operands_associate = { associates Sum };
 
-    ghost start_stays = { starts SumOp };
+    ghost start_stays = { starts Sum };
 
-    ghost values_stay = { stays SumOp };
+    ghost values_stay = { stays Sum };
 
-    ghost start_is_absorbed = { absorbs SumOp };
+    ghost start_is_absorbed = { absorbs Sum };
 }
 
 /// The product, which wraps; it begins with 1.
@@ -204,7 +204,7 @@ impl Combine for Sum {
 pub struct Product;
 
 impl Combine for Product {
-    ghost operation = { ProdOp };
+    ghost operation = { Prod };
 
     fn op(&self, ty: ElemType, x: u64, y: u64) -> u64 {
         product_of(ty, x, y)
@@ -214,17 +214,17 @@ impl Combine for Product {
         1
     }
 
-    ghost operands_swap = { swaps ProdOp };
+    ghost operands_swap = { swaps Prod };
 
-    ghost operands_commute = { commutes ProdOp };
+    ghost operands_commute = { commutes Prod };
 
-    ghost operands_associate = { associates ProdOp };
+    ghost operands_associate = { associates Prod };
 
-    ghost start_stays = { starts ProdOp };
+    ghost start_stays = { starts Prod };
 
-    ghost values_stay = { stays ProdOp };
+    ghost values_stay = { stays Prod };
 
-    ghost start_is_absorbed = { absorbs ProdOp };
+    ghost start_is_absorbed = { absorbs Prod };
 }
 
 /// 1 where either isn't 0, else 0; it begins with 0.
@@ -232,7 +232,7 @@ impl Combine for Product {
 pub struct LogicalOr;
 
 impl Combine for LogicalOr {
-    ghost operation = { LorOp };
+    ghost operation = { Lor };
 
     fn op(&self, ty: ElemType, x: u64, y: u64) -> u64 {
         u64::from(x != 0 || y != 0)
@@ -242,17 +242,17 @@ impl Combine for LogicalOr {
         0
     }
 
-    ghost operands_swap = { swaps LorOp };
+    ghost operands_swap = { swaps Lor };
 
-    ghost operands_commute = { commutes LorOp };
+    ghost operands_commute = { commutes Lor };
 
-    ghost operands_associate = { associates LorOp };
+    ghost operands_associate = { associates Lor };
 
-    ghost start_stays = { starts LorOp };
+    ghost start_stays = { starts Lor };
 
-    ghost values_stay = { stays LorOp };
+    ghost values_stay = { stays Lor };
 
-    ghost start_is_absorbed = { absorbs LorOp };
+    ghost start_is_absorbed = { absorbs Lor };
 }
 
 /// 1 where neither is 0, else 0; it begins with 1.
@@ -260,7 +260,7 @@ impl Combine for LogicalOr {
 pub struct LogicalAnd;
 
 impl Combine for LogicalAnd {
-    ghost operation = { LandOp };
+    ghost operation = { Land };
 
     fn op(&self, ty: ElemType, x: u64, y: u64) -> u64 {
         u64::from(x != 0 && y != 0)
@@ -270,17 +270,17 @@ impl Combine for LogicalAnd {
         1
     }
 
-    ghost operands_swap = { swaps LandOp };
+    ghost operands_swap = { swaps Land };
 
-    ghost operands_commute = { commutes LandOp };
+    ghost operands_commute = { commutes Land };
 
-    ghost operands_associate = { associates LandOp };
+    ghost operands_associate = { associates Land };
 
-    ghost start_stays = { starts LandOp };
+    ghost start_stays = { starts Land };
 
-    ghost values_stay = { stays LandOp };
+    ghost values_stay = { stays Land };
 
-    ghost start_is_absorbed = { absorbs LandOp };
+    ghost start_is_absorbed = { absorbs Land };
 }
 
 /// Bitwise or; it begins with 0.
@@ -288,7 +288,7 @@ impl Combine for LogicalAnd {
 pub struct BitwiseOr;
 
 impl Combine for BitwiseOr {
-    ghost operation = { BorOp };
+    ghost operation = { Bor };
 
     fn op(&self, ty: ElemType, x: u64, y: u64) -> u64 {
         x | y
@@ -298,17 +298,17 @@ impl Combine for BitwiseOr {
         0
     }
 
-    ghost operands_swap = { swaps BorOp };
+    ghost operands_swap = { swaps Bor };
 
-    ghost operands_commute = { commutes BorOp };
+    ghost operands_commute = { commutes Bor };
 
-    ghost operands_associate = { associates BorOp };
+    ghost operands_associate = { associates Bor };
 
-    ghost start_stays = { starts BorOp };
+    ghost start_stays = { starts Bor };
 
-    ghost values_stay = { stays BorOp };
+    ghost values_stay = { stays Bor };
 
-    ghost start_is_absorbed = { absorbs BorOp };
+    ghost start_is_absorbed = { absorbs Bor };
 }
 
 /// Bitwise and; it begins with all ones.
@@ -316,7 +316,7 @@ impl Combine for BitwiseOr {
 pub struct BitwiseAnd;
 
 impl Combine for BitwiseAnd {
-    ghost operation = { BandOp };
+    ghost operation = { Band };
 
     fn op(&self, ty: ElemType, x: u64, y: u64) -> u64 {
         x & y
@@ -326,17 +326,17 @@ impl Combine for BitwiseAnd {
         all_ones(ty)
     }
 
-    ghost operands_swap = { swaps BandOp };
+    ghost operands_swap = { swaps Band };
 
-    ghost operands_commute = { commutes BandOp };
+    ghost operands_commute = { commutes Band };
 
-    ghost operands_associate = { associates BandOp };
+    ghost operands_associate = { associates Band };
 
-    ghost start_stays = { starts BandOp };
+    ghost start_stays = { starts Band };
 
-    ghost values_stay = { stays BandOp };
+    ghost values_stay = { stays Band };
 
-    ghost start_is_absorbed = { absorbs BandOp };
+    ghost start_is_absorbed = { absorbs Band };
 }
 
 /// 1 where exactly one isn't 0, else 0; it begins with 0.
@@ -344,7 +344,7 @@ impl Combine for BitwiseAnd {
 pub struct LogicalXor;
 
 impl Combine for LogicalXor {
-    ghost operation = { LxorOp };
+    ghost operation = { Lxor };
 
     fn op(&self, ty: ElemType, x: u64, y: u64) -> u64 {
         u64::from((x != 0) != (y != 0))
@@ -354,17 +354,17 @@ impl Combine for LogicalXor {
         0
     }
 
-    ghost operands_swap = { swaps LxorOp };
+    ghost operands_swap = { swaps Lxor };
 
-    ghost operands_commute = { commutes LxorOp };
+    ghost operands_commute = { commutes Lxor };
 
-    ghost operands_associate = { associates LxorOp };
+    ghost operands_associate = { associates Lxor };
 
-    ghost start_stays = { starts LxorOp };
+    ghost start_stays = { starts Lxor };
 
-    ghost values_stay = { stays LxorOp };
+    ghost values_stay = { stays Lxor };
 
-    ghost start_is_absorbed = { absorbs LxorOp };
+    ghost start_is_absorbed = { absorbs Lxor };
 }
 
 /// Bitwise exclusive or; it begins with 0.
@@ -372,7 +372,7 @@ impl Combine for LogicalXor {
 pub struct BitwiseXor;
 
 impl Combine for BitwiseXor {
-    ghost operation = { BxorOp };
+    ghost operation = { Bxor };
 
     fn op(&self, ty: ElemType, x: u64, y: u64) -> u64 {
         x ^ y
@@ -382,17 +382,17 @@ impl Combine for BitwiseXor {
         0
     }
 
-    ghost operands_swap = { swaps BxorOp };
+    ghost operands_swap = { swaps Bxor };
 
-    ghost operands_commute = { commutes BxorOp };
+    ghost operands_commute = { commutes Bxor };
 
-    ghost operands_associate = { associates BxorOp };
+    ghost operands_associate = { associates Bxor };
 
-    ghost start_stays = { starts BxorOp };
+    ghost start_stays = { starts Bxor };
 
-    ghost values_stay = { stays BxorOp };
+    ghost values_stay = { stays Bxor };
 
-    ghost start_is_absorbed = { absorbs BxorOp };
+    ghost start_is_absorbed = { absorbs Bxor };
 }
 
 /// The operation of two elements, each its bit pattern.

@@ -16,13 +16,13 @@ const JOB: &[u8] = b"coll 1\nranks 1\n";
 /// The same of version 2.
 const JOB_2: &[u8] = b"coll 2\nranks 1\n";
 
-/// A group behind them.
+/// A group after them.
 const GROUP: &[u8] = b"coll 2\nranks 1\ngroup g 0\n";
 
 /// A choice text with one step.
 const CHOICE: &[u8] = b"coll 2\nranks 1\nelect e\n";
 
-/// A head, a line, how many times it stands there, the lines behind it, and the answer.
+/// A head, a line, how many times it stands there, the lines after it, and the answer.
 type Repeated = (&'static [u8], &'static [u8], u32, &'static [u8], Answer);
 
 /// Steps and prints: the 64th and the 65th step of each kind, the 128th and the 129th print.
@@ -275,7 +275,7 @@ fn steps_and_prints(rt: HostRuntime) -> Result<(), Fail> {
     Ok(())
 }
 
-/// A head, a line before and behind its number, how many of these stand there, the lines behind them, and the answer.
+/// A head, a line before and after its number, how many of these stand there, the lines after them, and the answer.
 type Numbered = (
     &'static [u8],
     (&'static str, &'static str),
@@ -541,7 +541,7 @@ fn bytes_of_a_text_of_version_2(rt: HostRuntime) -> Result<(), Fail> {
     Ok(())
 }
 
-/// Behind an input of 4096 elements at each of 64 ranks, on the lines 1 to 67.
+/// After an input of 4096 elements at each of 64 ranks, on the lines 1 to 67.
 static ELEMENTS: [(&[u8], Answer); 5] = [
     (
         b"allgather a b\nallgather b c\ngather 0 c d\n",
@@ -559,7 +559,7 @@ static ELEMENTS: [(&[u8], Answer); 5] = [
     ),
 ];
 
-/// Of version 2: behind an input of 256 elements at each of 256 ranks and two groups, on the lines 1 to 261.
+/// Of version 2: after an input of 256 elements at each of 256 ranks and two groups, on the lines 1 to 261.
 static ELEMENTS_2: [(&[u8], Answer); 18] = [
     (
         b"allgather a b\nallgather b c\non two gather 0 c d\n",

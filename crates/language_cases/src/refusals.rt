@@ -41,10 +41,10 @@ const CHOICE: &[u8] = b"coll 2\nranks 4\nelect e\n";
 /// The lines 1 to 4; prints or the last line may follow.
 const CHOSEN: &[u8] = b"coll 2\nranks 4\nelect e\nprint e\n";
 
-/// A head, a line behind it, and the line's number and name of its refusal.
+/// A head, a line after it, and the line's number and name of its refusal.
 type Case = (&'static [u8], &'static [u8], u32, &'static str);
 
-/// Where `complete remote`, a group, an input or a choice step may stand, and behind data lines.
+/// Where `complete remote`, a group, an input or a choice step may stand, and after data lines.
 static EARLY_LINES: [Case; 39] = [
     (JOB_2, b"input a u8 4097", 3, "BadNumber"),
     (JOB_2, b"input a u8 0", 3, "BadNumber"),
@@ -145,7 +145,7 @@ static DATA_LINES: [Case; 17] = [
     (DATA_2, b"1\r", 4, "BadByte"),
 ];
 
-/// Behind prints and the steps of a choice text.
+/// After prints and the steps of a choice text.
 static LATE_LINES: [Case; 42] = [
     (PRINT, b"complete remote", 6, "BadLine"),
     (PRINT, b"input c u8 1", 6, "BadLine"),
@@ -437,7 +437,7 @@ fn lines_before_the_steps(rt: HostRuntime) -> Result<(), Fail> {
 }
 
 #[test]
-fn steps_and_lines_behind_them(rt: HostRuntime) -> Result<(), Fail> {
+fn steps_and_lines_after_them(rt: HostRuntime) -> Result<(), Fail> {
     assert_eq!(rt; otherwise(rt.alloc(), &STEP_WORDS)?, None);
     assert_eq!(rt; otherwise(rt.alloc(), &STEP_NAMES)?, None);
     assert_eq!(rt; otherwise(rt.alloc(), &STEP_SHAPES)?, None);

@@ -44,10 +44,10 @@ pub fn numbered(
     times: u32,
     last: &[u8],
 ) -> Result<Answer, Fail> {
-    let (before, behind) = line;
+    let (before, after) = line;
     let mut text = Vec::from_slice(alloc, head)?;
     for i in 0..times {
-        let one = format!(in alloc; "{before}{i}{behind}")?;
+        let one = format!(in alloc; "{before}{i}{after}")?;
         text.extend_from_slice(one.as_bytes())?;
     }
     text.extend_from_slice(last)?;

@@ -321,7 +321,7 @@ on_fit version stage (n ∷ key ∷ ws) =
     ∙ with_both (stands_in Two version && has_part stage 3) (λ kind. all_fit (places_of kind) ws)
     (λ kind. stands_in (kind_since kind) Two) (kind_named key)))
 
--- ---- the words behind a first word
+-- ---- the words after a first word
 abbrev By : List ℕ → Type 0
 By key = (version : Version) (stage : Stage) (ws : List (List ℕ))
     → holds_of (may_stand version stage) (form_of (key ∷ ws)) ≡ may_be version stage (key ∷ ws)

@@ -50,7 +50,7 @@ last_there past piece = tests (is_finished past.stage) (is_empty piece)
     tests true false = refl
     tests false empty = refl
 
--- a piece with others behind it
+-- a piece with others after it
 when_finished : (past : Past) (piece next : List ℕ) (pieces : List (List ℕ)) → is_finished past.stage ≡ true
     → first_there past piece (next ∷ pieces) ≡ Some AfterEnd
 when_finished past piece next pieces done = rw done refl
@@ -84,19 +84,19 @@ due past next line h = at past.stage (list_all is_allowed line) h
 record Found (past : Past) (pieces : List (List ℕ)) (k j : ℕ) (name : Refusal) : Type 0 where
   before : List (List ℕ)
   piece : List ℕ
-  behind : List (List ℕ)
+  after : List (List ℕ)
   last : Past
-  are : pieces ≡ before ++ piece ∷ behind
+  are : pieces ≡ before ++ piece ∷ after
   number : j ≡ length before + k
   says : said_by past before ≡ Some last
-  row : first_there last piece behind ≡ Some name
+  row : first_there last piece after ≡ Some name
 
 here : (past : Past) (piece : List ℕ) (pieces : List (List ℕ)) (k j : ℕ) (name : Refusal) → k ≡ j
     → first_there past piece pieces ≡ Some name → Found past (piece ∷ pieces) k j name
 here past piece pieces k j name e row = record {
   before = [];
   piece = piece;
-  behind = pieces;
+  after = pieces;
   last = past;
   are = refl;
   number = omega
@@ -134,7 +134,7 @@ finds past piece (other ∷ pieces) k j name held h = elim (way (is_finished pas
         record {
           before = piece ∷ f.before;
           piece = f.piece;
-          behind = f.behind;
+          after = f.after;
           last = f.last;
           are = ap (λ (x : List (List ℕ)). piece ∷ x) f.are;
           number = longer f.before f.number;
@@ -178,38 +178,38 @@ line_refused past piece other pieces k j name held e h = elim (way (is_finished 
 some_is : (x y : Past) → Some x ≡ Some y → x ≡ y
 some_is x y e = cc
 
-some_pieces : (before : List (List ℕ)) (piece : List ℕ) (behind : List (List ℕ))
-    → (first : List ℕ) × (others : List (List ℕ)) × (before ++ piece ∷ behind ≡ first ∷ others)
-some_pieces [] piece behind = (piece, behind, refl)
-some_pieces (line ∷ before) piece behind = (line, before ++ piece ∷ behind, refl)
+some_pieces : (before : List (List ℕ)) (piece : List ℕ) (after : List (List ℕ))
+    → (first : List ℕ) × (others : List (List ℕ)) × (before ++ piece ∷ after ≡ first ∷ others)
+some_pieces [] piece after = (piece, after, refl)
+some_pieces (line ∷ before) piece after = (line, before ++ piece ∷ after, refl)
 
-goes_on : (past next : Past) (k : ℕ) (line : List ℕ) (before : List (List ℕ)) (piece : List ℕ) (behind : List (List ℕ))
+goes_on : (past next : Past) (k : ℕ) (line : List ℕ) (before : List (List ℕ)) (piece : List ℕ) (after : List (List ℕ))
     → judge past line ≡ Ok next
-    → read_from past k (line ∷ (before ++ piece ∷ behind)) ≡ read_from next (k + 1) (before ++ piece ∷ behind)
+    → read_from past k (line ∷ (before ++ piece ∷ after)) ≡ read_from next (k + 1) (before ++ piece ∷ after)
 unfolding read_from
-goes_on past next k line before piece behind e =
-    let some = some_pieces before piece behind in
+goes_on past next k line before piece after e =
+    let some = some_pieces before piece after in
     let going = due past next line e in
     rw (some.2, going, e) refl
 
-refuses : (past last : Past) (before : List (List ℕ)) (piece : List ℕ) (behind : List (List ℕ)) (k j : ℕ) (name : Refusal) → Held past
+refuses : (past last : Past) (before : List (List ℕ)) (piece : List ℕ) (after : List (List ℕ)) (k j : ℕ) (name : Refusal) → Held past
     → j ≡ length before + k → said_by past before ≡ Some last
-    → first_there last piece behind ≡ Some name → read_from past k (before ++ piece ∷ behind) ≡ Err (j, name)
+    → first_there last piece after ≡ Some name → read_from past k (before ++ piece ∷ after) ≡ Err (j, name)
 unfolding read_from
-refuses past last [] piece behind k j name held e says row = at_once behind
-    (subst (λ p. first_there p piece behind ≡ Some name) (sym (some_is past last says)) row)
+refuses past last [] piece after k j name held e says row = at_once after
+    (subst (λ p. first_there p piece after ≡ Some name) (sym (some_is past last says)) row)
   where
     start : j ≡ k
     start = omega (arith, e)
 
-    at_once : (behind : List (List ℕ)) → first_there past piece behind ≡ Some name → read_from past k (piece ∷ behind) ≡ Err (j, name)
+    at_once : (after : List (List ℕ)) → first_there past piece after ≡ Some name → read_from past k (piece ∷ after) ≡ Err (j, name)
     at_once [] row = last_refused (is_finished past.stage) (is_empty piece) past k j name start (sym (last_there past piece) ∙ row)
     at_once (other ∷ pieces) row = line_refused past piece other pieces k j name held start row
-refuses past last (line ∷ before) piece behind k j name held e says row = elim (answered (judge past line)) [
+refuses past last (line ∷ before) piece after k j name held e says row = elim (answered (judge past line)) [
   | inl next ↦
       let more : said_by next.0 before ≡ Some last = sym (rw next.1 refl) ∙ says in
-      goes_on past next.0 k line before piece behind next.1
-      ∙ refuses next.0 last before piece behind (k + 1) j name (held_on past next.0 line held next.1) (omega (arith, e)) more row
+      goes_on past next.0 k line before piece after next.1
+      ∙ refuses next.0 last before piece after (k + 1) j name (held_on past next.0 line held next.1) (omega (arith, e)) more row
   | inr fault ↦ absurd (nothing_said (sym (rw fault.1 refl) ∙ says))
 ]
   where
@@ -254,13 +254,13 @@ reading bytes k name h =
     record {
       before = f.before;
       piece = f.piece;
-      behind = f.behind;
+      after = f.after;
       past = f.last;
       are = some.2
           ∙ f.are;
       number = f.number;
       says = f.says;
-      row = lowest_of (piece_offends f.last f.piece f.behind) name f.row;
+      row = lowest_of (piece_offends f.last f.piece f.after) name f.row;
     }
 
 there : (bytes : List ℕ) (k : ℕ) (name : Refusal) → read bytes ≡ Err (k, name) → IsFirstRefusal bytes k name
@@ -285,8 +285,8 @@ back bytes k name (inr at) =
     let r = at.1 in
     let e : read_from nothing 1 (lines bytes)
     ≡ Err (k, name) = ap (read_from nothing 1) r.are
-    ∙ refuses nothing r.past r.before r.piece r.behind 1 k name held_first r.number r.says
-    (first_is (piece_offends r.past r.piece r.behind) name r.row) in
+    ∙ refuses nothing r.past r.before r.piece r.after 1 k name held_first r.number r.says
+    (first_is (piece_offends r.past r.piece r.after) name r.row) in
     rw (t, e) refl
 
 pub texts_by_the_rows : TextsByTheRows

@@ -1,4 +1,4 @@
--- The lines behind the first two that are no data lines: their words, and where they may stand. The steps are those of the
+-- The lines after the first two that are no data lines: their words, and where they may stand. The steps are those of the
 -- collectives' rows.
 use Rattle.std.specs.Prelude.{◌≡◌, ℕ, List, [], ◌∷◌, ◌++◌, Bool, true, false, ◌&&◌, ◌||◌, ◌==◌, not, if◌then◌else◌, is_some, codes}
 use Rattle.std.specs.List.{list_all, list_any}

@@ -18,7 +18,7 @@ abbrev pub said_by : Past → List (List ℕ) → Option Past
 said_by past [] = Some past
 said_by past (line ∷ lines) = option_and_then (λ next. said_by next lines) (taken (judge past line))
 
--- A piece of a text offends the row of that name, by what the lines before it say and the pieces behind it. No LF stands behind
+-- A piece of a text offends the row of that name, by what the lines before it say and the pieces after it. No LF stands after
 -- the last piece: where a line is due it is Unended, whatever it holds. Where none is due, bytes are AfterEnd, whatever they are.
 abbrev pub piece_offends : Past → List ℕ → List (List ℕ) → Refusal → Bool
 piece_offends past piece [] Unended = not (is_finished past.stage)
@@ -31,12 +31,12 @@ piece_offends past piece (next ∷ pieces) name = not (is_finished past.stage) &
 pub record IsRefusedAt (bytes : List ℕ) (k : ℕ) (name : Refusal) : Type 0 where
   pub before : List (List ℕ)
   pub piece : List ℕ
-  pub behind : List (List ℕ)
+  pub after : List (List ℕ)
   pub past : Past
-  pub are : lines bytes ≡ before ++ piece ∷ behind
+  pub are : lines bytes ≡ before ++ piece ∷ after
   pub number : k ≡ length before + 1
   pub says : said_by nothing before ≡ Some past
-  pub row : IsLowest (piece_offends past piece behind) name
+  pub row : IsLowest (piece_offends past piece after) name
 
 abbrev pub IsFirstRefusal : List ℕ → ℕ → Refusal → Type 0
 IsFirstRefusal bytes k name =

@@ -7,7 +7,7 @@ ghost use Rattle.language_table.specs.Rows.{ByTheRows};
 ghost use Rattle.language_table.specs.Texts.{LinesCount, TextsByTheRows};
 
 /// A line that is due is refused by the lowest row that it offends, and taken exactly where it offends none. This stands wherever
-/// the earlier lines' prints are counted and their groups have members, as is so behind all lines that are taken from the
+/// the earlier lines' prints are counted and their groups have members, as is so after all lines that are taken from the
 /// first one on.
 pub fn refused_by_the_rows()
     ensures rows { ByTheRows }
@@ -15,8 +15,8 @@ pub fn refused_by_the_rows()
 {}
 
 /// A text is refused exactly where it offends a row: TooLong first, with the line 0, then the lowest line, counted from 1, and on
-/// it the lowest row. A line that is due but has no LF is Unended, and bytes behind the last line are AfterEnd, with the
-/// line behind it.
+/// it the lowest row. A line that is due but has no LF is Unended, and bytes after the last line are AfterEnd, with the
+/// line after it.
 pub fn texts_refused_by_the_rows()
     ensures rows { TextsByTheRows }
 {}

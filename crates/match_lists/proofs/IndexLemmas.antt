@@ -117,7 +117,7 @@ IsIndexed-none chain threads limit e f = subst (λ (q : ChainList Linked × Wove
     none : List ℕ
     none = []
 
--- ---- an entry is put behind the last
+-- ---- an entry is put after the last
 module _ (chain : ChainList Linked) (threads : Woven) (limit : ℕ) (x : Keyed Linked) (c : IsIndexed chain threads limit) where
   pub free-place : NotAt x.key.place chain.entries → is_threaded x.key.place threads ≡ false
   free-place n = off_all x.key.place threads.threads (λ j lt.

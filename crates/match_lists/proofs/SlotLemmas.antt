@@ -3,11 +3,11 @@ use Rattle.std.proofs.Common.{◌≡◌, ◌≢◌, ℕ, suc, ◌-◌, ◌<◌, 
 use Rattle.std.proofs.lemmas.Bool.{ne_eqb, eq-eqb}
 use Rattle.std.proofs.lemmas.Bool.Decides.{eqb_tells}
 use Rattle.std.proofs.lemmas.List.{length-set, length-append, get_or-set_same, get_or-set_other}
-use Rattle.ptl_types.specs.declared.entries.List.{List as Place}
+use Rattle.ptl_types.specs.declared.entries.List.{List as EntryList}
 use Rattle.ptl_types.specs.declared.entries.List.TheVariants.{Priority, Overflow}
 use Rattle.chain_list.specs.Chain.{Keyed, ChainList, chain_list}
 use Rattle.ni_model.specs.declared.Linked.{Linked}
-use Rattle.match_lists.specs.declared.lists.Placed.{Placed}
+use Rattle.match_lists.specs.declared.lists.LinkedAt.{LinkedAt}
 use Rattle.ni_model.specs.Calls.{slot_in}
 use Rattle.match_lists.specs.Lists.{values}
 use Rattle.match_lists.specs.Slots.{Tagged, tag, tagged, slot_of, placed_of, NoSlot, SlotsApart, placed_at}
@@ -46,7 +46,7 @@ placed-insert s [] t ys n = let e : nat_eq (slot_of t) s ≡ false = ne_eqb (slo
 placed-insert s (x ∷ xs) t ys n = ap (λ r. cond (nat_eq (slot_of x) s) (Some (placed_of x)) r) (placed-insert s xs t ys n)
 
 -- ---- no linked entry has a slot
-pub NoSlot-tagged : (place : Place) (s : ℕ) (xs : List (Keyed Linked)) → slot_in s (values xs) ≡ false → NoSlot s (tagged place xs)
+pub NoSlot-tagged : (place : EntryList) (s : ℕ) (xs : List (Keyed Linked)) → slot_in s (values xs) ≡ false → NoSlot s (tagged place xs)
 NoSlot-tagged place s [] e = tt
 NoSlot-tagged place s (x ∷ xs) e = elim (eqb_tells x.value.handle.slot s) [
   | inl t ↦ let f : true ≡ false = rw t.0 at e in cc
@@ -62,12 +62,12 @@ NoSlot-all s p o e =
     let both = or_false (slot_in s (values p.entries)) (slot_in s (values o.entries)) e in
     NoSlot-join s (tagged Priority p.entries) (tagged Overflow o.entries) (NoSlot-tagged Priority s p.entries both.0) (NoSlot-tagged Overflow s o.entries both.1)
 
-pub tagged-append : (place : Place) (xs ys : List (Keyed Linked)) → tagged place (xs ++ ys) ≡ tagged place xs ++ tagged place ys
+pub tagged-append : (place : EntryList) (xs ys : List (Keyed Linked)) → tagged place (xs ++ ys) ≡ tagged place xs ++ tagged place ys
 tagged-append place [] ys = refl
 tagged-append place (x ∷ xs) ys = ap (λ r. tag place x ∷ r) (tagged-append place xs ys)
 
 -- ---- the table after one more entry
-pub table-insert : (table : List (Option Placed)) (xs : List Tagged) (t : Tagged) (ys all all' : List Tagged)
+pub table-insert : (table : List (Option LinkedAt)) (xs : List Tagged) (t : Tagged) (ys all all' : List Tagged)
     → all ≡ xs ++ ys → all' ≡ xs ++ t ∷ ys → SlotsApart all → NoSlot (slot_of t) all → slot_of t < length table → ((s : ℕ) → get_or table s None ≡ placed_at s all)
     → SlotsApart all' × ((s : ℕ) → get_or (set table (slot_of t) (Some (placed_of t))) s None ≡ placed_at s all')
 table-insert table xs t ys all all' e e' a n lt told =
@@ -82,7 +82,7 @@ table-insert table xs t ys all all' e e' a n lt told =
     )
 
 -- ---- the table after one entry fewer
-pub table-remove : (table : List (Option Placed)) (xs : List Tagged) (t : Tagged) (ys all all' : List Tagged)
+pub table-remove : (table : List (Option LinkedAt)) (xs : List Tagged) (t : Tagged) (ys all all' : List Tagged)
     → all ≡ xs ++ t ∷ ys → all' ≡ xs ++ ys → SlotsApart all → slot_of t < length table → ((s : ℕ) → get_or table s None ≡ placed_at s all)
     → SlotsApart all' × ((s : ℕ) → get_or (set table (slot_of t) None) s None ≡ placed_at s all')
 table-remove table xs t ys all all' e e' a lt told =
@@ -95,8 +95,8 @@ table-remove table xs t ys all all' e e' a lt told =
       ],
     )
 
--- ---- an entry behind the last of a list
-pub IsLists-priority : (p p' o : ChainList Linked) (table : List (Option Placed)) (limit slots given : ℕ) (x : Keyed Linked)
+-- ---- an entry after the last of a list
+pub IsLists-priority : (p p' o : ChainList Linked) (table : List (Option LinkedAt)) (limit slots given : ℕ) (x : Keyed Linked)
     → IsLists p o table limit slots → p' ≡ chain_list (p.entries ++ x ∷ []) (p.spare - 1) given → 0 < p.spare → x.value.handle.slot < slots
     → (slot_in x.value.handle.slot (values p.entries) || slot_in x.value.handle.slot (values o.entries)) ≡ false
     → IsLists p' o (set table x.value.handle.slot (Some (placed_of (tag Priority x)))) limit slots
@@ -113,7 +113,7 @@ IsLists-priority p p' o table limit slots given x l e spare lt free =
       told = made.1;
     })
 
-pub IsLists-overflow : (p o o' : ChainList Linked) (table : List (Option Placed)) (limit slots given : ℕ) (x : Keyed Linked)
+pub IsLists-overflow : (p o o' : ChainList Linked) (table : List (Option LinkedAt)) (limit slots given : ℕ) (x : Keyed Linked)
     → IsLists p o table limit slots → o' ≡ chain_list (o.entries ++ x ∷ []) (o.spare - 1) given → 0 < o.spare → x.value.handle.slot < slots
     → (slot_in x.value.handle.slot (values p.entries) || slot_in x.value.handle.slot (values o.entries)) ≡ false
     → IsLists p o' (set table x.value.handle.slot (Some (placed_of (tag Overflow x)))) limit slots

@@ -6,7 +6,7 @@ use Rattle.std.proofs.lemmas.Bool.{ne_eqb}
 use Rattle.std.proofs.lemmas.Bool.Decides.{eqb_tells, nat_tests}
 use Rattle.std.proofs.lemmas.List.{length-set, length-append, get_or_past}
 use Rattle.ptl_types.specs.declared.handles.Handle.{Handle}
-use Rattle.ptl_types.specs.declared.entries.List.{List as Place}
+use Rattle.ptl_types.specs.declared.entries.List.{List as EntryList}
 use Rattle.ptl_types.specs.declared.entries.List.TheVariants.{Priority, Overflow}
 use Rattle.ptl_types.specs.Handles.{same_handle}
 use Rattle.chain_list.specs.Chain.{Keyed, ChainList, chain_list, keyed, value_at, without, changed}
@@ -15,7 +15,7 @@ use Rattle.chain_list.proofs.ChainLemmas.{Apart-before, Apart-cut}
 use Rattle.chain_list.proofs.KeyLemmas.{value-append, value-here, without-append, without-here, changed-append, changed-here}
 use Rattle.ni_model.specs.declared.Linked.{Linked}
 use Rattle.ni_model.specs.Lists.{unlinked, advanced, is_linked}
-use Rattle.match_lists.specs.declared.lists.Placed.{Placed}
+use Rattle.match_lists.specs.declared.lists.LinkedAt.{LinkedAt}
 use Rattle.ni_model.specs.Arrive.{or_else}
 use Rattle.match_lists.specs.Lists.{running_at, both, entries, values, is_named}
 use Rattle.match_lists.specs.Slots.{Tagged, tag, tagged, slot_of, placed_of, NoSlot, SlotsApart, placed_at, placed_as, same_list}
@@ -36,7 +36,7 @@ abbrev pub NoHandle : Handle → List (Keyed Linked) → Type 0
 NoHandle h [] = Unit {0}
 NoHandle h (x ∷ xs) = (same_handle x.value.handle h ≡ false) × NoHandle h xs
 
-no_slot : (place : Place) (h : Handle) (xs : List (Keyed Linked)) → NoSlot h.slot (tagged place xs) → NoHandle h xs
+no_slot : (place : EntryList) (h : Handle) (xs : List (Keyed Linked)) → NoSlot h.slot (tagged place xs) → NoHandle h xs
 no_slot place h [] n = tt
 no_slot place h (x ∷ xs) n = (other_slot x.value.handle h n.0, no_slot place h xs n.1)
 
@@ -59,22 +59,22 @@ find-one h [] x ys m e = rw e
 find-one h (z ∷ xs) x ys m e = rw m.0 (find-one h xs x ys m.1 e)
 
 -- ---- where the table says that the handle isn't linked
-placed_test : (h : Handle) (p : Placed) → placed_as h (Some p) ≡ None → same_handle p.handle h ≡ false
+placed_test : (h : Handle) (p : LinkedAt) → placed_as h (Some p) ≡ None → same_handle p.handle h ≡ false
 placed_test h p e = tested (same_handle p.handle h) p e
   where
-    tested : (t : Bool) (p : Placed) → cond t (Some p) None ≡ None → t ≡ false
+    tested : (t : Bool) (p : LinkedAt) → cond t (Some p) None ≡ None → t ≡ false
     tested true p e = cc
     tested false p e = refl
 
-placed_some : (h : Handle) (o : Option Placed) (p : Placed) → placed_as h o ≡ Some p → (o ≡ Some p) × (same_handle p.handle h ≡ true)
+placed_some : (h : Handle) (o : Option LinkedAt) (p : LinkedAt) → placed_as h o ≡ Some p → (o ≡ Some p) × (same_handle p.handle h ≡ true)
 placed_some h None p e = cc
 placed_some h (Some q) p e = tested (same_handle q.handle h) q p refl e
   where
-    tested : (t : Bool) (q p : Placed) → same_handle q.handle h ≡ t → cond t (Some q) None ≡ Some p → (Some q ≡ Some p) × (same_handle p.handle h ≡ true)
-    tested true q p s e = let same : q ≡ p = cc in (e, subst (λ (r : Placed). same_handle r.handle h ≡ true) same s)
+    tested : (t : Bool) (q p : LinkedAt) → same_handle q.handle h ≡ t → cond t (Some q) None ≡ Some p → (Some q ≡ Some p) × (same_handle p.handle h ≡ true)
+    tested true q p s e = let same : q ≡ p = cc in (e, subst (λ (r : LinkedAt). same_handle r.handle h ≡ true) same s)
     tested false q p s e = cc
 
-absent-list : (place : Place) (h : Handle) (xs : List (Keyed Linked)) (rest : List Tagged) → SlotsApart (tagged place xs ++ rest) → placed_as h (placed_at h.slot (tagged place xs ++ rest)) ≡ None
+absent-list : (place : EntryList) (h : Handle) (xs : List (Keyed Linked)) (rest : List Tagged) → SlotsApart (tagged place xs ++ rest) → placed_as h (placed_at h.slot (tagged place xs ++ rest)) ≡ None
     → NoHandle h xs
 absent-list place h [] rest a e = tt
 absent-list place h (x ∷ xs) rest a e = elim (eqb_tells x.value.handle.slot h.slot) [
@@ -82,7 +82,7 @@ absent-list place h (x ∷ xs) rest a e = elim (eqb_tells x.value.handle.slot h.
   | inr f ↦ (other_slot x.value.handle h f.1, absent-list place h xs rest a.1 (rw f.0 at e))
 ]
 
-skip_list : (place : Place) (s : ℕ) (xs : List (Keyed Linked)) (rest : List Tagged) → SlotsApart (tagged place xs ++ rest) → (placed_at s (tagged place xs ++ rest) ≡ placed_at s rest) ⊎ NoSlot s rest
+skip_list : (place : EntryList) (s : ℕ) (xs : List (Keyed Linked)) (rest : List Tagged) → SlotsApart (tagged place xs ++ rest) → (placed_at s (tagged place xs ++ rest) ≡ placed_at s rest) ⊎ NoSlot s rest
 skip_list place s [] rest a = inl refl
 skip_list place s (x ∷ xs) rest a = elim (eqb_tells x.value.handle.slot s) [
   | inl t ↦ inr (subst (λ i. NoSlot i rest) t.1 (NoSlot-cut x.value.handle.slot (tagged place xs) rest a.0).1)
@@ -93,11 +93,11 @@ apart_rest : (xs ys : List Tagged) → SlotsApart (xs ++ ys) → SlotsApart ys
 apart_rest [] ys a = a
 apart_rest (x ∷ xs) ys a = apart_rest xs ys a.1
 
-pub absent : (p o : ChainList Linked) (table : List (Option Placed)) (limit slots : ℕ) (h : Handle) → IsLists p o table limit slots → placed_as h (get_or table h.slot None) ≡ None
+pub absent : (p o : ChainList Linked) (table : List (Option LinkedAt)) (limit slots : ℕ) (h : Handle) → IsLists p o table limit slots → placed_as h (get_or table h.slot None) ≡ None
     → (unlinked h (values p.entries) ≡ values p.entries) × (unlinked h (values o.entries) ≡ values o.entries)
     × (find (is_named h) (values p.entries) ≡ None) × (find (is_named h) (values o.entries) ≡ None)
 absent p o table limit slots h l e =
-    let none : placed_as h (placed_at h.slot (all_of p o)) ≡ None = subst (λ (x : Option Placed). placed_as h x ≡ None) (l.told h.slot) e in
+    let none : placed_as h (placed_at h.slot (all_of p o)) ≡ None = subst (λ (x : Option LinkedAt). placed_as h x ≡ None) (l.told h.slot) e in
     let left = absent-list Priority h p.entries (tagged Overflow o.entries) l.apart none in
     let apart = apart_rest (tagged Priority p.entries) (tagged Overflow o.entries) l.apart in
     let right : NoHandle h o.entries = elim (skip_list Priority h.slot p.entries (tagged Overflow o.entries) l.apart) [
@@ -108,7 +108,7 @@ absent p o table limit slots h l e =
     (unlinked-none h p.entries left, unlinked-none h o.entries right, find-none h p.entries left, find-none h o.entries right)
 
 -- ---- where the table says that it is
-pub slot-below : (p o : ChainList Linked) (table : List (Option Placed)) (limit slots : ℕ) (h : Handle) (placed : Placed) → IsLists p o table limit slots
+pub slot-below : (p o : ChainList Linked) (table : List (Option LinkedAt)) (limit slots : ℕ) (h : Handle) (placed : LinkedAt) → IsLists p o table limit slots
     → placed_as h (get_or table h.slot None) ≡ Some placed → h.slot < slots
 slot-below p o table limit slots h placed l e =
     elim (nat_lt h.slot (length table)) as (λ b. nat_lt h.slot (length table) ≡ b → h.slot < slots) [
@@ -120,14 +120,14 @@ slot-below p o table limit slots h placed l e =
           cc
     ] refl
 
-pub record IsIn (place : Place) (xs : List (Keyed Linked)) (placed : Placed) : Type 0 where
+pub record IsIn (place : EntryList) (xs : List (Keyed Linked)) (placed : LinkedAt) : Type 0 where
   pub before : List (Keyed Linked)
   pub entry : Keyed Linked
   pub behind : List (Keyed Linked)
   pub is : xs ≡ before ++ entry ∷ behind
   pub placed_is : placed ≡ placed_of (tag place entry)
 
-found_in : (place : Place) (s : ℕ) (xs : List (Keyed Linked)) (rest : List Tagged) (placed : Placed) → placed_at s (tagged place xs ++ rest) ≡ Some placed → IsIn place xs placed ⊎ (placed_at s rest ≡ Some placed)
+found_in : (place : EntryList) (s : ℕ) (xs : List (Keyed Linked)) (rest : List Tagged) (placed : LinkedAt) → placed_at s (tagged place xs ++ rest) ≡ Some placed → IsIn place xs placed ⊎ (placed_at s rest ≡ Some placed)
 found_in place s [] rest placed e = inr e
 found_in place s (x ∷ xs) rest placed e = elim (eqb_tells x.value.handle.slot s) [
   | inl t ↦ let found : Some (placed_of (tag place x)) ≡ Some placed = rw t.0 at e in let same : placed ≡ placed_of (tag place x) = cc in
@@ -138,18 +138,18 @@ found_in place s (x ∷ xs) rest placed e = elim (eqb_tells x.value.handle.slot 
   ]
 ]
 
-in_priority : (s : ℕ) (ps os : List (Keyed Linked)) (placed : Placed) → placed_at s (tagged Priority ps ++ tagged Overflow os) ≡ Some placed → placed.list ≡ Priority → IsIn Priority ps placed
+in_priority : (s : ℕ) (ps os : List (Keyed Linked)) (placed : LinkedAt) → placed_at s (tagged Priority ps ++ tagged Overflow os) ≡ Some placed → placed.list ≡ Priority → IsIn Priority ps placed
 in_priority s ps os placed e l = elim (found_in Priority s ps (tagged Overflow os) placed e) [
   | inl r ↦ r
   | inr q ↦ elim (found_in Overflow s os [] placed (ap (λ r. placed_at s r) (append-nil (tagged Overflow os)) ∙ q)) [
-    | inl r ↦ let other : Priority ≡ Overflow = sym l ∙ ap (λ (k : Placed). k.list) r.placed_is in cc
+    | inl r ↦ let other : Priority ≡ Overflow = sym l ∙ ap (λ (k : LinkedAt). k.list) r.placed_is in cc
     | inr r ↦ cc
   ]
 ]
 
-in_overflow : (s : ℕ) (ps os : List (Keyed Linked)) (placed : Placed) → placed_at s (tagged Priority ps ++ tagged Overflow os) ≡ Some placed → placed.list ≡ Overflow → IsIn Overflow os placed
+in_overflow : (s : ℕ) (ps os : List (Keyed Linked)) (placed : LinkedAt) → placed_at s (tagged Priority ps ++ tagged Overflow os) ≡ Some placed → placed.list ≡ Overflow → IsIn Overflow os placed
 in_overflow s ps os placed e l = elim (found_in Priority s ps (tagged Overflow os) placed e) [
-  | inl r ↦ let other : Overflow ≡ Priority = sym l ∙ ap (λ (k : Placed). k.list) r.placed_is in cc
+  | inl r ↦ let other : Overflow ≡ Priority = sym l ∙ ap (λ (k : LinkedAt). k.list) r.placed_is in cc
   | inr q ↦ elim (found_in Overflow s os [] placed (ap (λ r. placed_at s r) (append-nil (tagged Overflow os)) ∙ q)) [
     | inl r ↦ r
     | inr r ↦ cc
@@ -157,9 +157,9 @@ in_overflow s ps os placed e l = elim (found_in Priority s ps (tagged Overflow o
 ]
 
 -- what a chain does with the key
-chain_key : (place : Place) (xs : List (Keyed Linked)) (placed : Placed) (r : IsIn place xs placed) → Apart xs → (value_at placed.key xs ≡ Some r.entry.value) × (without placed.key xs ≡ r.before ++ r.behind)
+chain_key : (place : EntryList) (xs : List (Keyed Linked)) (placed : LinkedAt) (r : IsIn place xs placed) → Apart xs → (value_at placed.key xs ≡ Some r.entry.value) × (without placed.key xs ≡ r.before ++ r.behind)
 chain_key place xs placed r a =
-    let key : placed.key ≡ r.entry.key = ap (λ (k : Placed). k.key) r.placed_is in
+    let key : placed.key ≡ r.entry.key = ap (λ (k : LinkedAt). k.key) r.placed_is in
     let parts : Apart (r.before ++ r.entry ∷ r.behind) = subst (λ l. Apart l) r.is a in
     let away = Apart-before r.before r.entry r.behind parts in
     let behind = (Apart-cut r.before (r.entry ∷ r.behind) parts).1.0 in (
@@ -167,7 +167,7 @@ chain_key place xs placed r a =
       (λ i. without (key i) (r.is i)) ∙ without-append r.entry.key r.before (r.entry ∷ r.behind) away ∙ ap (λ l. r.before ++ l) (without-here r.entry r.behind behind),
     )
 
-pub record Unlinks (xs : List (Keyed Linked)) (h : Handle) (others : List (Keyed Linked)) (placed : Placed) : Type 0 where
+pub record Unlinks (xs : List (Keyed Linked)) (h : Handle) (others : List (Keyed Linked)) (placed : LinkedAt) : Type 0 where
   pub value : Linked
   pub value_is : value_at placed.key xs ≡ Some value
   pub named_is : find (is_named h) (values xs) ≡ Some value
@@ -175,14 +175,14 @@ pub record Unlinks (xs : List (Keyed Linked)) (h : Handle) (others : List (Keyed
   pub others_are : unlinked h (values others) ≡ values others
   pub others_lack : find (is_named h) (values others) ≡ None
 
-pub unlink-priority : (p o : ChainList Linked) (table : List (Option Placed)) (limit slots given : ℕ) (h : Handle) (placed : Placed) → IsLists p o table limit slots → Apart p.entries
+pub unlink-priority : (p o : ChainList Linked) (table : List (Option LinkedAt)) (limit slots given : ℕ) (h : Handle) (placed : LinkedAt) → IsLists p o table limit slots → Apart p.entries
     → placed_as h (get_or table h.slot None) ≡ Some placed → placed.list ≡ Priority → h.slot < slots
     → IsLists (chain_list (without placed.key p.entries) (p.spare + 1) given) o (set table h.slot None) limit slots × Unlinks p.entries h o.entries placed
 unlink-priority p o table limit slots given h placed l a e list lt =
     let some = placed_some h (get_or table h.slot None) placed e in
     let r = in_priority h.slot p.entries o.entries placed (sym (l.told h.slot) ∙ some.0) list in
     let t = tag Priority r.entry in
-    let named : same_handle r.entry.value.handle h ≡ true = subst (λ (k : Placed). same_handle k.handle h ≡ true) r.placed_is some.1 in
+    let named : same_handle r.entry.value.handle h ≡ true = subst (λ (k : LinkedAt). same_handle k.handle h ≡ true) r.placed_is some.1 in
     let slot : r.entry.value.handle.slot ≡ h.slot = same_slot r.entry.value.handle h named in
     let rest = tagged Priority r.behind ++ tagged Overflow o.entries in
     let all : all_of p o ≡ tagged Priority r.before ++ t ∷ rest =
@@ -216,17 +216,17 @@ unlink-priority p o table limit slots given h placed l a e list lt =
       },
     )
   where
-    nowhere : Option Placed
+    nowhere : Option LinkedAt
     nowhere = None
 
-pub unlink-overflow : (p o : ChainList Linked) (table : List (Option Placed)) (limit slots given : ℕ) (h : Handle) (placed : Placed) → IsLists p o table limit slots → Apart o.entries
+pub unlink-overflow : (p o : ChainList Linked) (table : List (Option LinkedAt)) (limit slots given : ℕ) (h : Handle) (placed : LinkedAt) → IsLists p o table limit slots → Apart o.entries
     → placed_as h (get_or table h.slot None) ≡ Some placed → placed.list ≡ Overflow → h.slot < slots
     → IsLists p (chain_list (without placed.key o.entries) (o.spare + 1) given) (set table h.slot None) limit slots × Unlinks o.entries h p.entries placed
 unlink-overflow p o table limit slots given h placed l a e list lt =
     let some = placed_some h (get_or table h.slot None) placed e in
     let r = in_overflow h.slot p.entries o.entries placed (sym (l.told h.slot) ∙ some.0) list in
     let t = tag Overflow r.entry in
-    let named : same_handle r.entry.value.handle h ≡ true = subst (λ (k : Placed). same_handle k.handle h ≡ true) r.placed_is some.1 in
+    let named : same_handle r.entry.value.handle h ≡ true = subst (λ (k : LinkedAt). same_handle k.handle h ≡ true) r.placed_is some.1 in
     let slot : r.entry.value.handle.slot ≡ h.slot = same_slot r.entry.value.handle h named in
     let first = tagged Priority p.entries in
     let front = first ++ tagged Overflow r.before in
@@ -260,11 +260,11 @@ unlink-overflow p o table limit slots given h placed l a e list lt =
       },
     )
   where
-    nowhere : Option Placed
+    nowhere : Option LinkedAt
     nowhere = None
 
 -- ---- the same, by what the calls say
-pub taken-priority : (p p' o : ChainList Linked) (table : List (Option Placed)) (limit slots : ℕ) (h : Handle) (placed : Placed) (x : Linked) → IsLists p o table limit slots → Apart p.entries
+pub taken-priority : (p p' o : ChainList Linked) (table : List (Option LinkedAt)) (limit slots : ℕ) (h : Handle) (placed : LinkedAt) (x : Linked) → IsLists p o table limit slots → Apart p.entries
     → placed_as h (get_or table h.slot None) ≡ Some placed → placed.list ≡ Priority → h.slot < slots → Some x ≡ value_at placed.key p.entries → p' ≡ chain_list (without placed.key p.entries) (p.spare + 1) p.given
     → IsLists p' o (set table h.slot None) limit slots × (or_else (find (is_named h) (values p.entries)) (find (is_named h) (values o.entries)) ≡ Some x)
     × (both (values p'.entries) (values o.entries) limit slots (p'.given + o.given) ≡ both (unlinked h (values p.entries)) (unlinked h (values o.entries)) limit slots (p.given + o.given))
@@ -277,7 +277,7 @@ taken-priority p p' o table limit slots h placed x l a e list lt found left =
           ∙ (λ i. both (u.1.list_is i) (sym u.1.others_are i) limit slots (p.given + o.given)),
     )
 
-pub taken-overflow : (p o o' : ChainList Linked) (table : List (Option Placed)) (limit slots : ℕ) (h : Handle) (placed : Placed) (x : Linked) → IsLists p o table limit slots → Apart o.entries
+pub taken-overflow : (p o o' : ChainList Linked) (table : List (Option LinkedAt)) (limit slots : ℕ) (h : Handle) (placed : LinkedAt) (x : Linked) → IsLists p o table limit slots → Apart o.entries
     → placed_as h (get_or table h.slot None) ≡ Some placed → placed.list ≡ Overflow → h.slot < slots → Some x ≡ value_at placed.key o.entries → o' ≡ chain_list (without placed.key o.entries) (o.spare + 1) o.given
     → IsLists p o' (set table h.slot None) limit slots × (or_else (find (is_named h) (values p.entries)) (find (is_named h) (values o.entries)) ≡ Some x)
     × (both (values p.entries) (values o'.entries) limit slots (p.given + o'.given) ≡ both (unlinked h (values p.entries)) (unlinked h (values o.entries)) limit slots (p.given + o.given))
@@ -302,30 +302,30 @@ advanced-one h to (z ∷ xs) x ys m e n = (λ i. cond (m.0 i) (record { handle =
 
 -- an entry is replaced by one of its handle and key
 NoSlot-swap : (s : ℕ) (xs : List Tagged) (t u : Tagged) (ys : List Tagged) → placed_of t ≡ placed_of u → NoSlot s (xs ++ t ∷ ys) → NoSlot s (xs ++ u ∷ ys)
-NoSlot-swap s [] t u ys e n = ((λ q. n.0 (ap (λ (k : Placed). k.handle.slot) e ∙ q)), n.1)
+NoSlot-swap s [] t u ys e n = ((λ q. n.0 (ap (λ (k : LinkedAt). k.handle.slot) e ∙ q)), n.1)
 NoSlot-swap s (x ∷ xs) t u ys e n = (n.0, NoSlot-swap s xs t u ys e n.1)
 
 SlotsApart-swap : (xs : List Tagged) (t u : Tagged) (ys : List Tagged) → placed_of t ≡ placed_of u → SlotsApart (xs ++ t ∷ ys) → SlotsApart (xs ++ u ∷ ys)
-SlotsApart-swap [] t u ys e a = (subst (λ (k : Placed). NoSlot k.handle.slot ys) e a.0, a.1)
+SlotsApart-swap [] t u ys e a = (subst (λ (k : LinkedAt). NoSlot k.handle.slot ys) e a.0, a.1)
 SlotsApart-swap (x ∷ xs) t u ys e a = (NoSlot-swap (slot_of x) xs t u ys e a.0, SlotsApart-swap xs t u ys e a.1)
 
 placed-swap : (s : ℕ) (xs : List Tagged) (t u : Tagged) (ys : List Tagged) → placed_of t ≡ placed_of u → placed_at s (xs ++ t ∷ ys) ≡ placed_at s (xs ++ u ∷ ys)
-placed-swap s [] t u ys e = ap (λ (k : Placed). cond (nat_eq k.handle.slot s) (Some k) (placed_at s ys)) e
+placed-swap s [] t u ys e = ap (λ (k : LinkedAt). cond (nat_eq k.handle.slot s) (Some k) (placed_at s ys)) e
 placed-swap s (x ∷ xs) t u ys e = ap (λ r. cond (nat_eq (slot_of x) s) (Some (placed_of x)) r) (placed-swap s xs t u ys e)
 
 length-swap : (xs : List (Keyed Linked)) (x y : Keyed Linked) (ys : List (Keyed Linked)) → length (xs ++ x ∷ ys) ≡ length (xs ++ y ∷ ys)
 length-swap [] x y ys = refl
 length-swap (z ∷ xs) x y ys = ap (λ n. suc n) (length-swap xs x y ys)
 
-changed_key : (place : Place) (xs : List (Keyed Linked)) (placed : Placed) (r : IsIn place xs placed) (w : Linked) → Apart xs → changed placed.key w xs ≡ r.before ++ keyed r.entry.key w ∷ r.behind
+changed_key : (place : EntryList) (xs : List (Keyed Linked)) (placed : LinkedAt) (r : IsIn place xs placed) (w : Linked) → Apart xs → changed placed.key w xs ≡ r.before ++ keyed r.entry.key w ∷ r.behind
 changed_key place xs placed r w a =
-    let key : placed.key ≡ r.entry.key = ap (λ (k : Placed). k.key) r.placed_is in
+    let key : placed.key ≡ r.entry.key = ap (λ (k : LinkedAt). k.key) r.placed_is in
     let parts : Apart (r.before ++ r.entry ∷ r.behind) = subst (λ l. Apart l) r.is a in
     let away = Apart-before r.before r.entry r.behind parts in
     let behind = (Apart-cut r.before (r.entry ∷ r.behind) parts).1.0 in
     (λ i. changed (key i) w (r.is i)) ∙ changed-append r.entry.key w r.before (r.entry ∷ r.behind) away ∙ ap (λ l. r.before ++ l) (changed-here r.entry w r.behind behind)
 
-pub advance-priority : (p o : ChainList Linked) (table : List (Option Placed)) (limit slots to : ℕ) (h : Handle) (placed : Placed) (x : Linked) → IsLists p o table limit slots → Apart p.entries
+pub advance-priority : (p o : ChainList Linked) (table : List (Option LinkedAt)) (limit slots to : ℕ) (h : Handle) (placed : LinkedAt) (x : Linked) → IsLists p o table limit slots → Apart p.entries
     → placed_as h (get_or table h.slot None) ≡ Some placed → placed.list ≡ Priority → h.slot < slots → Some x ≡ value_at placed.key p.entries
     → IsLists (chain_list (changed placed.key (running_at to x) p.entries) p.spare p.given) o table limit slots
     × (values (changed placed.key (running_at to x) p.entries) ≡ advanced h to (values p.entries)) × (advanced h to (values o.entries) ≡ values o.entries)
@@ -336,7 +336,7 @@ advance-priority p o table limit slots to h placed x l a e list lt found =
     let same : x ≡ r.entry.value = cc in
     let t = tag Priority r.entry in
     let y = keyed r.entry.key (running_at to r.entry.value) in
-    let named : same_handle r.entry.value.handle h ≡ true = subst (λ (k : Placed). same_handle k.handle h ≡ true) r.placed_is some.1 in
+    let named : same_handle r.entry.value.handle h ≡ true = subst (λ (k : LinkedAt). same_handle k.handle h ≡ true) r.placed_is some.1 in
     let slot : r.entry.value.handle.slot ≡ h.slot = same_slot r.entry.value.handle h named in
     let rest = tagged Priority r.behind ++ tagged Overflow o.entries in
     let all : all_of p o ≡ tagged Priority r.before ++ t ∷ rest =
@@ -363,7 +363,7 @@ advance-priority p o table limit slots to h placed x l a e list lt found =
       advanced-none h to o.entries others,
     )
 
-pub advance-overflow : (p o : ChainList Linked) (table : List (Option Placed)) (limit slots to : ℕ) (h : Handle) (placed : Placed) (x : Linked) → IsLists p o table limit slots → Apart o.entries
+pub advance-overflow : (p o : ChainList Linked) (table : List (Option LinkedAt)) (limit slots to : ℕ) (h : Handle) (placed : LinkedAt) (x : Linked) → IsLists p o table limit slots → Apart o.entries
     → placed_as h (get_or table h.slot None) ≡ Some placed → placed.list ≡ Overflow → h.slot < slots → Some x ≡ value_at placed.key o.entries
     → IsLists p (chain_list (changed placed.key (running_at to x) o.entries) o.spare o.given) table limit slots
     × (values (changed placed.key (running_at to x) o.entries) ≡ advanced h to (values o.entries)) × (advanced h to (values p.entries) ≡ values p.entries)
@@ -374,7 +374,7 @@ advance-overflow p o table limit slots to h placed x l a e list lt found =
     let same : x ≡ r.entry.value = cc in
     let t = tag Overflow r.entry in
     let y = keyed r.entry.key (running_at to r.entry.value) in
-    let named : same_handle r.entry.value.handle h ≡ true = subst (λ (k : Placed). same_handle k.handle h ≡ true) r.placed_is some.1 in
+    let named : same_handle r.entry.value.handle h ≡ true = subst (λ (k : LinkedAt). same_handle k.handle h ≡ true) r.placed_is some.1 in
     let slot : r.entry.value.handle.slot ≡ h.slot = same_slot r.entry.value.handle h named in
     let first = tagged Priority p.entries in
     let front = first ++ tagged Overflow r.before in
@@ -405,11 +405,11 @@ pub copied_mut-some : {X : Type 0} (o : Option (MutBor X)) (v : X) {p : Option X
 copied_mut-some None v e f h = cc
 copied_mut-some (Some x) v e f h = h x refl
 
-pub linked-priority : (p o : ChainList Linked) (h : Handle) (placed : Placed) (x : Linked) → Unlinks p.entries h o.entries placed → Some x ≡ value_at placed.key p.entries
+pub linked-priority : (p o : ChainList Linked) (h : Handle) (placed : LinkedAt) (x : Linked) → Unlinks p.entries h o.entries placed → Some x ≡ value_at placed.key p.entries
     → or_else (find (is_named h) (values p.entries)) (find (is_named h) (values o.entries)) ≡ Some x
 linked-priority p o h placed x u found = ap (λ f. or_else f (find (is_named h) (values o.entries))) u.named_is ∙ sym (found ∙ u.value_is)
 
-pub linked-overflow : (p o : ChainList Linked) (h : Handle) (placed : Placed) (x : Linked) → Unlinks o.entries h p.entries placed → Some x ≡ value_at placed.key o.entries
+pub linked-overflow : (p o : ChainList Linked) (h : Handle) (placed : LinkedAt) (x : Linked) → Unlinks o.entries h p.entries placed → Some x ≡ value_at placed.key o.entries
     → or_else (find (is_named h) (values p.entries)) (find (is_named h) (values o.entries)) ≡ Some x
 linked-overflow p o h placed x u found = (λ i. or_else (u.others_lack i) (u.named_is i)) ∙ sym (found ∙ u.value_is)
 
@@ -419,7 +419,7 @@ linked-find h [] = refl
 linked-find h (x ∷ xs) =
     elim (same_handle x.handle h) as (λ b. (b || is_linked h xs) ≡ is_some (cond b (Some x) (find (is_named h) xs))) [ true ↦ refl | false ↦ linked-find h xs ]
 
-pub linked-absent : (p o : ChainList Linked) (table : List (Option Placed)) (limit slots given : ℕ) (list : Place) (h : Handle) → IsLists p o table limit slots
+pub linked-absent : (p o : ChainList Linked) (table : List (Option LinkedAt)) (limit slots given : ℕ) (list : EntryList) (h : Handle) → IsLists p o table limit slots
     → placed_as h (get_or table h.slot None) ≡ None → is_linked h (entries list (both (values p.entries) (values o.entries) limit slots given)) ≡ false
 linked-absent p o table limit slots given list h l e =
     let none = absent p o table limit slots h l e in
@@ -429,7 +429,7 @@ linked-absent p o table limit slots given list h l e =
     ]
 
 -- it stands in the list that the table says, and in no other
-pub linked-there : (p o : ChainList Linked) (table : List (Option Placed)) (limit slots given : ℕ) (list : Place) (h : Handle) (placed : Placed) → IsLists p o table limit slots
+pub linked-there : (p o : ChainList Linked) (table : List (Option LinkedAt)) (limit slots given : ℕ) (list : EntryList) (h : Handle) (placed : LinkedAt) → IsLists p o table limit slots
     → Apart p.entries → Apart o.entries → placed_as h (get_or table h.slot None) ≡ Some placed
     → is_linked h (entries list (both (values p.entries) (values o.entries) limit slots given)) ≡ same_list placed.list list
 linked-there p o table limit slots given list h placed l pa oa e =

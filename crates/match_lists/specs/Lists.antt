@@ -4,7 +4,7 @@ use Rattle.std.specs.Borrow.{Bor}
 use Rattle.ptl_types.specs.declared.handles.Handle.{Handle}
 use Rattle.ptl_types.specs.declared.headers.Header.{Header}
 use Rattle.ptl_types.specs.declared.entries.Entry.{Entry}
-use Rattle.ptl_types.specs.declared.entries.List.{List as Place}
+use Rattle.ptl_types.specs.declared.entries.List.{List as EntryList}
 use Rattle.ptl_types.specs.declared.entries.List.TheVariants.{Priority, Overflow}
 use Rattle.ptl_types.specs.Handles.{same_handle}
 use Rattle.chain_list.specs.Chain.{Keyed}
@@ -34,12 +34,12 @@ abbrev pub values : List (Keyed Linked) → List Linked
 values xs = map (λ x. x.value) xs
 
 -- one of the lists
-abbrev pub entries : Place → Both → List Linked
+abbrev pub entries : EntryList → Both → List Linked
 entries Priority b = b.priority
 entries Overflow b = b.overflow
 
 -- one of the lists changed by f, and the number of appended entries
-abbrev pub with_entries : Place → (List Linked → List Linked) → ℕ → Both → Both
+abbrev pub with_entries : EntryList → (List Linked → List Linked) → ℕ → Both → Both
 with_entries Priority f n b = record b { priority = f b.priority; appended = n }
 with_entries Overflow f n b = record b { overflow = f b.overflow; appended = n }
 
@@ -81,7 +81,7 @@ entry_of None = None
 entry_of (Some x) = Some x.entry
 
 -- the list and the handle of what was found
-abbrev pub named : Option Found → Option (Place × Handle)
+abbrev pub named : Option Found → Option (EntryList × Handle)
 named None = None
 named (Some f) = Some (f.list, f.linked.handle)
 
@@ -90,7 +90,7 @@ abbrev pub running_of : Option Linked → Option (Entry × ℕ)
 running_of None = None
 running_of (Some x) = Some (x.entry, x.running)
 
--- the same, behind a reference
+-- the same, after a reference
 abbrev pub with_running : Option (Bor Entry × ℕ) → Option (Entry × ℕ)
 with_running None = None
 with_running (Some p) = Some (p.0.now, p.1)

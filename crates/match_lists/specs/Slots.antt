@@ -1,22 +1,22 @@
 -- Entries with the list that they stand in, and where the entry of a slot stands.
 use Rattle.std.specs.Prelude.{◌≡◌, ℕ, Bool, true, false, nat_eq, List, [], ◌∷◌, Option, Some, None, if◌then◌else◌}
 use Rattle.ptl_types.specs.declared.handles.Handle.{Handle}
-use Rattle.ptl_types.specs.declared.entries.List.{List as Place}
+use Rattle.ptl_types.specs.declared.entries.List.{List as EntryList}
 use Rattle.ptl_types.specs.declared.entries.List.TheVariants.{Priority, Overflow}
 use Rattle.ptl_types.specs.Handles.{same_handle}
 use Rattle.chain_list.specs.Chain.{Keyed}
 use Rattle.ni_model.specs.declared.Linked.{Linked}
-use Rattle.match_lists.specs.declared.lists.Placed.{Placed}
+use Rattle.match_lists.specs.declared.lists.LinkedAt.{LinkedAt}
 
 -- an entry, with its list
 pub record Tagged : Type 0 where
-  pub list : Place
+  pub list : EntryList
   pub entry : Keyed Linked
 
-abbrev pub tag : Place → Keyed Linked → Tagged
+abbrev pub tag : EntryList → Keyed Linked → Tagged
 tag list x = record { list = list; entry = x }
 
-abbrev pub tagged : Place → List (Keyed Linked) → List Tagged
+abbrev pub tagged : EntryList → List (Keyed Linked) → List Tagged
 tagged list [] = []
 tagged list (x ∷ xs) = tag list x ∷ tagged list xs
 
@@ -24,7 +24,7 @@ tagged list (x ∷ xs) = tag list x ∷ tagged list xs
 abbrev pub slot_of : Tagged → ℕ
 slot_of t = t.entry.value.handle.slot
 
-abbrev pub placed_of : Tagged → Placed
+abbrev pub placed_of : Tagged → LinkedAt
 placed_of t = record { list = t.list; handle = t.entry.value.handle; key = t.entry.key }
 
 -- no entry has the slot
@@ -38,17 +38,17 @@ SlotsApart [] = Unit {0}
 SlotsApart (t ∷ ts) = NoSlot (slot_of t) ts × SlotsApart ts
 
 -- where the entry of a slot stands
-abbrev pub placed_at : ℕ → List Tagged → Option Placed
+abbrev pub placed_at : ℕ → List Tagged → Option LinkedAt
 placed_at slot [] = None
 placed_at slot (t ∷ ts) = if nat_eq (slot_of t) slot then Some (placed_of t) else placed_at slot ts
 
 -- the same, where it is the entry of this handle
-abbrev pub placed_as : Handle → Option Placed → Option Placed
+abbrev pub placed_as : Handle → Option LinkedAt → Option LinkedAt
 placed_as h None = None
 placed_as h (Some p) = if same_handle p.handle h then Some p else None
 
 -- both are the same list
-abbrev pub same_list : Place → Place → Bool
+abbrev pub same_list : EntryList → EntryList → Bool
 same_list Priority Priority = true
 same_list Priority Overflow = false
 same_list Overflow Priority = false

@@ -6,7 +6,7 @@ mod look;
 mod match_list;
 mod walk;
 
-pub use lists::{Lists, Placed};
+pub use lists::{LinkedAt, Lists};
 // A crate can name the lists in a contract only if the types of their fields are exported.
 #[doc(hidden)]
 pub use look::Look;

@@ -1,9 +1,9 @@
 //! The two lists, each on linked nodes, and the table that tells where the entry of a slot is linked.
 ghost use Rattle.std.specs.Prelude.{◌≡◌, ◌<◌, ◌≤◌, ◌+◌, ◌-◌, ◌*◌, ◌^◌, ◌++◌, ◌∷◌, [], ◌||◌, ◌↔◌, Some, None, false, is_some, IsSome, IsTrue, IfOk, IfSome, length, get_or, option_copied};
-ghost use Rattle.match_lists.specs.Slots.{placed_as, same_list as is_same_list};
+ghost use Rattle.match_lists.specs.Slots.{placed_as, same_list};
 ghost use Rattle.ni_model.specs.Append.{fresh};
-ghost use Rattle.ni_model.specs.Arrive.{first_fit as first_of};
-ghost use Rattle.ni_model.specs.Lists.{is_linked as holds};
+ghost use Rattle.ni_model.specs.Arrive.{first_fit};
+ghost use Rattle.ni_model.specs.Lists.{is_linked};
 ghost use Rattle.ni_model.specs.Refusals.{entry_names_ct};
 ghost use Rattle.match_lists.specs.Lists.{both, entries, with_entries, linked_count, candidates, has_slot, linked_as, named, entry_of, running_of, with_running, without_entry, advanced_to, values};
 
@@ -18,14 +18,14 @@ use std::sync::ledger::{Blank, Ledger};
 
 /// Where the entry of a slot is linked.
 #[derive(Clone, Copy, Debug)]
-pub struct Placed {
+pub struct LinkedAt {
     list: List,
     handle: Handle,
     key: ChainKey,
 }
 
 /// Where the entry of a handle is linked, by the table.
-fn place_of(table: &[Option<Placed>], handle: Handle) -> Option<Placed>
+fn where_linked(table: &[Option<LinkedAt>], handle: Handle) -> Option<LinkedAt>
     ensures { result ≡ placed_as handle (get_or table.now handle.slot None) }
 {
     if handle.slot as usize >= table.len() {
@@ -41,7 +41,7 @@ fn place_of(table: &[Option<Placed>], handle: Handle) -> Option<Placed>
 
 /// Whether both are the same list.
 fn same_list(a: List, b: List) -> bool
-    ensures { result ≡ is_same_list a b }
+    ensures { result ≡ same_list a b }
 {
     a == b
 }
@@ -52,7 +52,7 @@ fn same_list(a: List, b: List) -> bool
 pub struct Lists {
     priority: MatchList,
     overflow: MatchList,
-    placed: Vec<Option<Placed>>,
+    placed: Vec<Option<LinkedAt>>,
     limit: u32,
     slots: u32,
 }
@@ -112,11 +112,11 @@ impl Lists {
         match list {
             List::Priority => {
                 let key = self.priority.push_back(linked, steps);
-                self.placed[handle.slot as usize] = Some(Placed { list, handle, key });
+                self.placed[handle.slot as usize] = Some(LinkedAt { list, handle, key });
             }
             List::Overflow => {
                 let key = self.overflow.push_back(linked, steps);
-                self.placed[handle.slot as usize] = Some(Placed { list, handle, key });
+                self.placed[handle.slot as usize] = Some(LinkedAt { list, handle, key });
             }
         }
     }
@@ -128,7 +128,7 @@ impl Lists {
         ensures steps { steps.new ≤ steps.old + 4 }
     {
         let (_priority, _overflow) = (self.priority.nodes(), self.overflow.nodes());
-        let placed = place_of(&self.placed, handle)?;
+        let placed = where_linked(&self.placed, handle)?;
         match placed.list {
             List::Priority => {
                 let Some(linked) = self.priority.unlink(placed.key, steps) else {
@@ -153,7 +153,7 @@ impl Lists {
         ensures steps { steps.new ≤ steps.old + 1 }
     {
         let (_priority, _overflow) = (self.priority.nodes(), self.overflow.nodes());
-        let placed = place_of(&self.placed, handle)?;
+        let placed = where_linked(&self.placed, handle)?;
         match placed.list {
             List::Priority => self.priority.get(placed.key, steps),
             List::Overflow => self.overflow.get(placed.key, steps),
@@ -179,7 +179,7 @@ impl Lists {
         ensures steps { steps.new ≤ steps.old + 1 }
     {
         let (_priority, _overflow) = (self.priority.nodes(), self.overflow.nodes());
-        let Some(placed) = place_of(&self.placed, handle) else {
+        let Some(placed) = where_linked(&self.placed, handle) else {
             unreachable!()
         };
         match placed.list {
@@ -197,7 +197,7 @@ impl Lists {
         overflow: bool,
         steps: &mut Steps<L>,
     ) -> Option<Found>
-        ensures first { result ≡ first_of header.now overflow self.now.priority self.now.overflow }
+        ensures first { result ≡ first_fit header.now overflow self.now.priority self.now.overflow }
         ensures steps { steps.new ≤ steps.old + 2 * linked_count self.now }
         ensures few { steps.new ≤ steps.old + 2 * candidates header.now self.now }
     {
@@ -226,7 +226,7 @@ impl Lists {
         overflow: bool,
         steps: &mut Steps<L>,
     ) -> Option<(List, Handle)>
-        ensures first { result ≡ named (first_of header.now overflow self.now.priority self.now.overflow) }
+        ensures first { result ≡ named (first_fit header.now overflow self.now.priority self.now.overflow) }
         ensures steps { steps.new ≤ steps.old + 2 * linked_count self.now }
         ensures few { steps.new ≤ steps.old + 2 * candidates header.now self.now }
     {
@@ -245,10 +245,10 @@ impl Lists {
 
     /// Whether the entry of this handle is linked in one of the lists. Touches no node.
     pub fn is_linked(&self, list: List, handle: Handle) -> bool
-        ensures { result ≡ holds handle (entries list self.now) }
+        ensures { result ≡ is_linked handle (entries list self.now) }
     {
         let (_priority, _overflow) = (self.priority.nodes(), self.overflow.nodes());
-        match place_of(&self.placed, handle) {
+        match where_linked(&self.placed, handle) {
             Some(placed) => same_list(placed.list, list),
             None => false,
         }

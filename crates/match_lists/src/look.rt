@@ -1,8 +1,8 @@
 //! What the search for the entry that takes a message reads of each entry.
 ghost use Rattle.std.specs.Prelude.{◌≡◌};
-ghost use Rattle.match_lists.specs.Looks.{look_of as is_look_of};
-ghost use Rattle.ni_model.specs.declared.Linked.{Linked as AnyLinked};
-ghost use Rattle.ni_model.specs.Lists.{fits as fits_it};
+ghost use Rattle.match_lists.specs.Looks.{look_of};
+ghost use Rattle.ni_model.specs.declared.Linked.{Linked};
+ghost use Rattle.ni_model.specs.Lists.{fits};
 
 use ni_model::Linked;
 use ptl_types::{Header, Rank};
@@ -22,7 +22,7 @@ pub struct Look {
 
 /// The look of an entry.
 pub(crate) fn look_of(linked: &Linked) -> Look
-    ensures { result ≡ is_look_of linked.now }
+    ensures { result ≡ look_of linked.now }
 {
     Look {
         match_bits: linked.entry.match_bits,
@@ -50,7 +50,7 @@ pub(crate) fn no_look() -> Look {
 
 /// Whether the entry of this look takes the message.
 pub(crate) fn takes(look: &Look, header: &Header) -> bool
-    ensures { (x : AnyLinked) → look.now ≡ is_look_of x → result ≡ fits_it header.now x }
+    ensures { (x : Linked) → look.now ≡ look_of x → result ≡ fits header.now x }
 {
     let offset = if look.manage_local {
         look.running

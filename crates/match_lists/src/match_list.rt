@@ -1,9 +1,9 @@
 //! One match list: its entries in order, and threads through them by their match bits.
-ghost use Rattle.std.specs.Prelude.{◌≡◌, ◌<◌, ◌≤◌, ◌+◌, ◌-◌, ◌*◌, ◌^◌, ◌++◌, ◌∷◌, [], None, IsSome, IfOk, IfSome, IfNone, length, find as first_that, option_copied};
+ghost use Rattle.std.specs.Prelude.{◌≡◌, ◌<◌, ◌≤◌, ◌+◌, ◌-◌, ◌*◌, ◌^◌, ◌++◌, ◌∷◌, [], None, IsSome, IfOk, IfSome, IfNone, length, find, option_copied};
 ghost use Rattle.chain_list.specs.Chain.{chain_list, keyed, value_at, without, changed, Linked as IsLinked, Apart};
-ghost use Rattle.ni_model.specs.Lists.{fits as fits_it};
+ghost use Rattle.ni_model.specs.Lists.{fits};
 ghost use Rattle.match_lists.specs.Buckets.{bucket_of, buckets_of, thread_of, on_thread, last_thread, candidates_in};
-ghost use Rattle.match_lists.specs.Indexed.{IsIndexed, room, takes as takes_it, key_of, earlier_of, first_of_threads, on_threads};
+ghost use Rattle.match_lists.specs.Indexed.{IsIndexed, room, takes, key_of, earlier_of, first_of_threads, on_threads};
 ghost use Rattle.match_lists.specs.Lists.{values, running_at};
 ghost use Rattle.match_lists.specs.Looks.{AllSeen};
 
@@ -82,7 +82,7 @@ fn first_on<L: Ledger>(
     requires indexed { IsIndexed chain.now threads.now limit }
     requires seen { AllSeen looks.now chain.now.entries }
     requires thread { thread ≤ last_thread limit }
-    ensures key { result ≡ key_of (first_that (takes_it header.now) (on_thread limit thread chain.now.entries)) }
+    ensures key { result ≡ key_of (find (takes header.now) (on_thread limit thread chain.now.entries)) }
     ensures steps { steps.new ≤ steps.old + length (on_thread limit thread chain.now.entries) }
 {
     let _nodes = chain.nodes();
@@ -165,7 +165,7 @@ impl MatchList {
         })
     }
 
-    /// Puts an entry behind the last. Touches at most three nodes.
+    /// Puts an entry after the last. Touches at most three nodes.
     pub(crate) fn push_back<L: Ledger>(&mut self, linked: Linked, steps: &mut Steps<L>) -> ChainKey
         requires room { 0 < self.old.spare }
         requires keys { self.old.given < 2 ^ 64 - 1 }
@@ -227,7 +227,7 @@ impl MatchList {
         header: &Header,
         steps: &mut Steps<L>,
     ) -> Option<Linked>
-        ensures first { result ≡ first_that (fits_it header.now) (values self.now.entries) }
+        ensures first { result ≡ find (fits header.now) (values self.now.entries) }
         ensures steps { steps.new ≤ steps.old + 2 * candidates_in (room self.now) header.now.match_bits (values self.now.entries) }
     {
         let _nodes = self.chain.nodes();

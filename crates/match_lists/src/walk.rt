@@ -1,8 +1,8 @@
 //! What one entry takes, and the walk along a list for the entries that name a counting event.
 ghost use Rattle.std.specs.Prelude.{◌≡◌, None};
-ghost use Rattle.ni_model.specs.Lists.{fits as fits_it, offset_in as offset_of, space_in as space_of};
+ghost use Rattle.ni_model.specs.Lists.{fits, offset_in, space_in};
 ghost use Rattle.ni_model.specs.Refusals.{entry_names_ct};
-ghost use Rattle.ni_model.specs.Tables.{names as names_it};
+ghost use Rattle.ni_model.specs.Tables.{names};
 ghost use Rattle.chain_list.specs.Chain.{first_or};
 ghost use Rattle.match_lists.specs.Lists.{values};
 
@@ -14,7 +14,7 @@ use std::sync::ledger::Ledger;
 /// The offset at which an entry takes a message, in bytes: its own running offset where it is locally managed, else the
 /// message's.
 pub fn offset_in(linked: &Linked, header: &Header) -> u64
-    ensures { result ≡ offset_of linked.now header.now }
+    ensures { result ≡ offset_in linked.now header.now }
 {
     if linked.entry.manage_local {
         linked.running
@@ -25,7 +25,7 @@ pub fn offset_in(linked: &Linked, header: &Header) -> u64
 
 /// How many bytes of the entry are left from that offset on; 0 where the offset is beyond its length.
 pub fn space_in(linked: &Linked, header: &Header) -> u64
-    ensures { result ≡ space_of linked.now header.now }
+    ensures { result ≡ space_in linked.now header.now }
 {
     linked
         .entry
@@ -35,7 +35,7 @@ pub fn space_in(linked: &Linked, header: &Header) -> u64
 
 /// Whether the entry takes the message: it matches, and holds the whole message where it forbids truncation.
 pub fn fits(linked: &Linked, header: &Header) -> bool
-    ensures { result ≡ fits_it header.now linked.now }
+    ensures { result ≡ fits header.now linked.now }
 {
     matches(&linked.entry, header)
         && (!linked.entry.no_truncate || header.length <= space_in(linked, header))
@@ -53,7 +53,7 @@ fn first_place(chain: &Chain<Linked>) -> Option<u32>
 
 /// Whether the entry names the counting event.
 fn names(linked: &Linked, ct: Handle) -> bool
-    ensures { result ≡ names_it linked.now.entry.ct ct }
+    ensures { result ≡ names linked.now.entry.ct ct }
 {
     match linked.entry.ct {
         Some(named) => named.is(ct),

@@ -8,7 +8,7 @@ use Rattle.ptl_types.specs.declared.elements.ElemType.TheVariants.{U8, U16}
 use Rattle.ptl_types.specs.declared.elements.AtomicOp.TheVariants.{Sum}
 use Rattle.ptl_types.specs.declared.elements.SwapOp.TheVariants.{Mswap}
 use Rattle.ptl_types.specs.declared.entries.Entry.{Entry}
-use Rattle.ptl_types.specs.declared.entries.List.{List as Place}
+use Rattle.ptl_types.specs.declared.entries.List.{List as EntryList}
 use Rattle.ptl_types.specs.declared.entries.List.TheVariants.{Priority, Overflow}
 use Rattle.ptl_types.specs.Messages.{Sent, message}
 use Rattle.ni_model.specs.Append.{append}
@@ -21,7 +21,7 @@ use Rattle.model_cases.proofs.Wide.{asks, many, region}
 abbrev empty : State
 empty = (pt_alloc 1 None (opened 0 2 many region)).state
 
-abbrev holding : Place → Entry → State
+abbrev holding : EntryList → Entry → State
 holding place e = (me_append 0 1 place e empty).state
 
 -- bytes 4 to 9, so that offset 1 is byte 5

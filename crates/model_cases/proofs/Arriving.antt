@@ -90,7 +90,7 @@ second_of_overflow : memory_of two_overflow one ≡ 10 ∷ 11 ∷ 12 ∷ 13 ∷ 
 unfolding target request append
 second_of_overflow = refl
 
--- ---- the whole message, where truncation is forbidden: five bytes are left behind offset 1
+-- ---- the whole message, where truncation is forbidden: five bytes are left after offset 1
 abbrev whole : State
 whole = holding (record (entry 4 6) { no_truncate = true })
 
@@ -118,7 +118,7 @@ puts_have_no_elements :
 unfolding target request append
 puts_have_no_elements = refl
 
--- of three bytes behind offset 1 one element of two comes, and none of four
+-- of three bytes after offset 1 one element of two comes, and none of four
 abbrev fetch_of : ElemType → Delivers
 fetch_of ty = target (holding (entry 4 4)) (message (record (asks FetchAtomic 4) { op = Some Sum; ty = ty }) (1 ∷ 0 ∷ 1 ∷ 0 ∷ []))
 

@@ -18,7 +18,7 @@ use Rattle.ptl_types.specs.Matching.{bits_match, takes_source, is_match}
 use Rattle.ptl_types.specs.Messages.{message, room_due}
 use Rattle.ni_model.specs.declared.Linked.{Linked}
 use Rattle.ni_model.specs.Conditions.{MayStart, MayFetch, IsKept, IsPartIn, HasPartsIn, IsBoundIn, HasRoom}
-use Rattle.ni_model.specs.Headers.{held}
+use Rattle.ni_model.specs.Headers.{unexpected_list}
 use Rattle.ni_model.specs.Lists.{Index}
 use Rattle.ni_model.specs.Calls.{bound}
 use Rattle.model_cases.proofs.Setting.{entry, first, part_of}
@@ -120,10 +120,10 @@ descriptor_to_the_end = lit≤ tt
 descriptor_past_the_end : IsBoundIn 16 (bound (part_of 12 5)) → ⊥
 descriptor_past_the_end h = absurd (omega (arith, h))
 
-no_room_at_all : HasRoom Overflow (held [] 0) → ⊥
+no_room_at_all : HasRoom Overflow (unexpected_list [] 0) → ⊥
 no_room_at_all h = absurd (omega (arith, h))
 
-room_in_priority : HasRoom Priority (held [] 0)
+room_in_priority : HasRoom Priority (unexpected_list [] 0)
 room_in_priority = tt
 
 -- ---- bytes that go with a header: of a put, a get, an acknowledgement, a reply, and one that failed

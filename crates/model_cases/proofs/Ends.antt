@@ -23,7 +23,7 @@ starts_empty : opened 1 4 many region ≡ record {
   memory = region;
   indices = None ∷ None ∷ None ∷ [];
   entries_given = 0;
-  headers = record { noted = []; limit = 5 };
+  headers = record { unexpected = []; limit = 5 };
   cts = record { live = []; given = 0; limit = 3 };
   eqs = record { live = []; given = 0; limit = 2 };
   mds = record { live = []; given = 0; limit = 2 };
@@ -94,7 +94,7 @@ none_then : (eq_get first (behind (behind (behind three_links)))).answer ≡ Ok 
 unfolding append
 none_then = refl
 
--- once, however many were lost; and there is room again behind a get
+-- once, however many were lost; and there is room again after a get
 loss_is_told_once : (eq_get first (behind (link 4 three_links))).answer ≡ Ok (Got (of_link 1))
 unfolding append
 loss_is_told_once = refl

@@ -224,7 +224,7 @@ unfolding target request append
 refused_acknowledgement = refl
 
 -- a message in the priority list leaves no header
-priority_leaves_none : (target (persistent (entry 0 4)) (put (7 ∷ []))).state.headers.noted ≡ []
+priority_leaves_none : (target (persistent (entry 0 4)) (put (7 ∷ []))).state.headers.unexpected ≡ []
 unfolding target request append
 priority_leaves_none = refl
 

@@ -85,7 +85,7 @@ bytes_stay : append_all.memory ≡ 1 ∷ 2 ∷ 3 ∷ 4 ∷ 5 ∷ replicate 11 0
 unfolding target request append
 bytes_stay = refl
 
-none_waits : append_all.headers.noted ≡ []
+none_waits : append_all.headers.unexpected ≡ []
 unfolding target request append
 none_waits = refl
 
@@ -137,7 +137,7 @@ atomic_first : place_of (me_append 0 0 Priority (once (entry 8 4)) two_kinds).an
 unfolding target request append
 atomic_first = refl
 
--- ---- a message delivered to a priority entry is told with all that it says, and the unlinking behind it
+-- ---- a message delivered to a priority entry is told with all that it says, and the unlinking after it
 abbrev put_event : Event
 put_event = record { kind = PutEvent; source = 1; pt = 1; match_bits = 5; hdr_data = 77; requested = 3; delivered = 2; place = 5; ok = true }
 

@@ -8,7 +8,7 @@ use Rattle.ptl_types.specs.declared.elements.ElemType.TheVariants.{U16}
 use Rattle.ptl_types.specs.declared.elements.AtomicOp.TheVariants.{Sum}
 use Rattle.ptl_types.specs.declared.elements.SwapOp.TheVariants.{Cswap}
 use Rattle.ptl_types.specs.declared.entries.Entry.{Entry}
-use Rattle.ptl_types.specs.declared.entries.List.{List as Place}
+use Rattle.ptl_types.specs.declared.entries.List.{List as EntryList}
 use Rattle.ptl_types.specs.declared.entries.List.TheVariants.{Priority, Overflow}
 use Rattle.ptl_types.specs.declared.calls.Appended.TheVariants.{Linked as IsLinked}
 use Rattle.ptl_types.specs.declared.calls.NiFault.{NiFault}
@@ -42,7 +42,7 @@ index_past_the_limit = refl
 abbrev two_indices : State
 two_indices = (pt_alloc 2 None (pt_alloc 0 None base).state).state
 
-abbrev entry_at : ℕ → Place → State
+abbrev entry_at : ℕ → EntryList → State
 entry_at pt place = (me_append 0 pt place (entry 0 4) two_indices).state
 
 not_allocated : (pt_free 1 two_indices).answer ≡ Err Stale
@@ -110,7 +110,7 @@ unnamed_counter = refl
 descriptor_counts : (ct_free second (bound_both source goal)).answer ≡ Err InUse
 descriptor_counts = refl
 
-abbrev counted_at : ℕ → Place → State
+abbrev counted_at : ℕ → EntryList → State
 counted_at pt place = (me_append 0 pt place (counting second (entry 0 4)) two_indices).state
 
 priority_entry_counts : (ct_free second (counted_at 2 Priority)).answer ≡ Err InUse

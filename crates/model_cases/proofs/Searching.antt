@@ -11,7 +11,7 @@ use Rattle.ptl_types.specs.declared.calls.Appended.TheVariants.{Linked as IsLink
 use Rattle.ptl_types.specs.declared.calls.NiFault.{NiFault}
 use Rattle.ptl_types.specs.declared.calls.NiFault.TheVariants.{Stale, InUse}
 use Rattle.ptl_types.specs.Messages.{Sent, message}
-use Rattle.ni_model.specs.declared.Noted.{Noted}
+use Rattle.ni_model.specs.declared.IndexedHeader.{IndexedHeader}
 use Rattle.ni_model.specs.Append.{append, search}
 use Rattle.ni_model.specs.Arrive.{request}
 use Rattle.ni_model.specs.Counts.{successes}
@@ -46,18 +46,18 @@ two = (target (target two_open (put 0 1 5 1 (1 ∷ []))).state (put 1 1 5 7 (2 �
 abbrev five : State
 five = (target (target (target two (put 0 0 5 2 (3 ∷ 3 ∷ []))).state atomic).state (put 0 1 6 4 (5 ∷ 5 ∷ 5 ∷ 5 ∷ []))).state
 
-abbrev length_of : Noted → ℕ
+abbrev length_of : IndexedHeader → ℕ
 length_of a = a.header.header.length
 
 -- the headers by their lengths
 abbrev lengths : State → List ℕ
-lengths s = map length_of s.headers.noted
+lengths s = map length_of s.headers.unexpected
 
 in_order_of_arrival : lengths five ≡ 1 ∷ 7 ∷ 2 ∷ 3 ∷ 4 ∷ []
 unfolding target request append
 in_order_of_arrival = refl
 
-of_index_zero : map length_of (headers_of 0 five.headers.noted) ≡ 1 ∷ 2 ∷ 3 ∷ 4 ∷ []
+of_index_zero : map length_of (headers_of 0 five.headers.unexpected) ≡ 1 ∷ 2 ∷ 3 ∷ 4 ∷ []
 unfolding target request append
 of_index_zero = refl
 

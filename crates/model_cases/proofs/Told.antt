@@ -7,7 +7,7 @@ use Rattle.ptl_types.specs.declared.elements.ElemType.TheVariants.{U16}
 use Rattle.ptl_types.specs.declared.elements.AtomicOp.TheVariants.{Sum}
 use Rattle.ptl_types.specs.declared.elements.SwapOp.TheVariants.{Cswap}
 use Rattle.ptl_types.specs.declared.entries.Entry.{Entry}
-use Rattle.ptl_types.specs.declared.entries.List.{List as Place}
+use Rattle.ptl_types.specs.declared.entries.List.{List as EntryList}
 use Rattle.ptl_types.specs.declared.entries.List.TheVariants.{Priority, Overflow as InOverflow}
 use Rattle.ptl_types.specs.declared.events.Event.{Event}
 use Rattle.ptl_types.specs.declared.events.EventKind.{EventKind}
@@ -28,7 +28,7 @@ empty = (pt_alloc 1 (Some first) (eq_alloc 0 8 (opened 0 2 many region)).state).
 abbrev part : Entry
 part = record (entry 4 6) { ignore_bits = 2 }
 
-abbrev holding : Place → Entry → State
+abbrev holding : EntryList → Entry → State
 holding place e = (me_append 0 1 place e empty).state
 
 -- ---- requests with match bits 7 at offset 1
@@ -114,7 +114,7 @@ unfolding target request append
 overflow_unlinks = refl
 
 header_is_kept :
-    (kept part put).headers.noted
+    (kept part put).headers.unexpected
     ≡ record { pt = 1; header = record { entry = first; place = 5; delivered = 5; header = with_seven Put 9 } } ∷ []
 unfolding target request append
 header_is_kept = refl

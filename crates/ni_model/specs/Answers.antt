@@ -25,7 +25,7 @@ pub record Home : Type 0 where
 abbrev pub home : Table Bound → List ℕ → Table Count → Table Waiting → Home
 home mds region cts eqs = record { mds = mds; region = region; cts = cts; eqs = eqs }
 
--- what is left behind an answer: the parts, the outcome, and the counting event that rose
+-- what is left after an answer: the parts, the outcome, and the counting event that rose
 pub record Returned : Type 0 where
   pub home : Home
   pub outcome : Outcome

@@ -1,11 +1,11 @@
--- Appending an entry (Portals 4.3, match list entries), with the unexpected headers that it takes, and searching them: the headers, the
--- search and what is told of them are this profile's own.
+-- Appending an entry, with the unexpected headers that it takes, and searching them: this profile's own, under the names that Portals 4.3
+-- has for the calls and for what an entry says.
 use Rattle.std.specs.Prelude.{ℕ, Bool, ◌||◌, not, nat_le, ◌+◌, List, Option, Some, None, [], ◌∷◌, ◌++◌, if◌then◌else◌, length, sum_by}
 use Rattle.std.specs.Prelude.{is_some, slice_set}
 use Rattle.ptl_types.specs.declared.handles.Handle.{Handle}
 use Rattle.ptl_types.specs.declared.handles.Count.{Count}
 use Rattle.ptl_types.specs.declared.entries.Entry.{Entry}
-use Rattle.ptl_types.specs.declared.entries.List.{List as Place}
+use Rattle.ptl_types.specs.declared.entries.List.{List as EntryList}
 use Rattle.ptl_types.specs.declared.entries.List.TheVariants.{Priority, Overflow}
 use Rattle.ptl_types.specs.declared.entries.UnexpectedHeader.{UnexpectedHeader}
 use Rattle.ptl_types.specs.declared.events.EventKind.{EventKind}
@@ -16,7 +16,7 @@ use Rattle.ptl_types.specs.declared.calls.NiFault.{NiFault}
 use Rattle.ptl_types.specs.declared.calls.NiFault.TheVariants.{Stale, NoSpace, OutOfRegion}
 use Rattle.ptl_types.specs.Handles.{top}
 use Rattle.ni_model.specs.declared.Linked.{Linked}
-use Rattle.ni_model.specs.declared.Noted.{Noted}
+use Rattle.ni_model.specs.declared.IndexedHeader.{IndexedHeader}
 use Rattle.ni_model.specs.Tables.{Table, handle, where_set, is_live_or_none}
 use Rattle.ni_model.specs.Counts.{successes, counted}
 use Rattle.ni_model.specs.Queues.{Waiting, raised}
@@ -62,12 +62,12 @@ abbrev pub fresh : Handle → Entry → Linked
 fresh me e = record { handle = me; running = 0; entry = e }
 
 -- an entry at the end of a list of the index
-abbrev pub linked_at : Place → Linked → Option Index → Option Index
+abbrev pub linked_at : EntryList → Linked → Option Index → Option Index
 linked_at place x None = None
 linked_at place x (Some i) = Some (with_list place (λ xs. xs ++ x ∷ []) i)
 
 -- the target with one entry more
-abbrev pub link_side : ℕ → ℕ → Place → Entry → Side → Side
+abbrev pub link_side : ℕ → ℕ → EntryList → Entry → Side → Side
 link_side slot pt place e s =
     record s {
       indices = slice_set s.indices pt (linked_at place (fresh (next_handle slot s) e) (index_at pt s.indices));
@@ -79,33 +79,33 @@ abbrev pub queue_at : ℕ → Side → Option Handle
 queue_at pt s = queue_of (index_at pt s.indices)
 
 -- the linking, told by Link
-abbrev pub link_entry : ℕ → ℕ → Place → Entry → Parts → Parts
+abbrev pub link_entry : ℕ → ℕ → EntryList → Entry → Parts → Parts
 link_entry slot pt place e p =
     record p { side = link_side slot pt place e p.side; eqs = raised (queue_at pt p.side) (link_event pt e.match_bits) p.eqs }
 
 -- ---- headers go
 
 -- the overflow entry that the header a names is free: it is unlinked, and none of the headers that are left names it
-abbrev pub frees : Side → List Noted → Noted → Bool
+abbrev pub frees : Side → List IndexedHeader → IndexedHeader → Bool
 frees s left a = not (is_linked_at Overflow a.header.entry (index_at a.pt s.indices) || names_entry a.header.entry left)
 
 -- the event of a header that goes, and directly after it the freeing of its entry, where it is free
-abbrev pub told_gone : EventKind → List (Option Index) → Bool → Noted → Table Waiting → Table Waiting
+abbrev pub told_gone : EventKind → List (Option Index) → Bool → IndexedHeader → Table Waiting → Table Waiting
 told_gone kind is freed a eqs =
     let told = raised (queue_of (index_at a.pt is)) (header_event kind a) eqs in
     if freed then raised (queue_of (index_at a.pt is)) (free_event a.pt) told else told
 
 -- the same, where the headers in `left` stay
-abbrev pub gone_raised : EventKind → Side → List Noted → Noted → Table Waiting → Table Waiting
+abbrev pub gone_raised : EventKind → Side → List IndexedHeader → IndexedHeader → Table Waiting → Table Waiting
 gone_raised kind s left a eqs = told_gone kind s.indices (frees s left a) a eqs
 
 -- found headers go one after the other, while those in `stay` stay
-abbrev pub each_gone : Side → List Noted → List Noted → Table Waiting → Table Waiting
+abbrev pub each_gone : Side → List IndexedHeader → List IndexedHeader → Table Waiting → Table Waiting
 each_gone s stay [] eqs = eqs
 each_gone s stay (a ∷ found) eqs = each_gone s stay found (gone_raised (kind_taken a.header.header.kind) s (stay ++ found) a eqs)
 
 -- one count for each header that is taken
-abbrev pub each_counted : Option Handle → List Noted → Table Count → Table Count
+abbrev pub each_counted : Option Handle → List IndexedHeader → Table Count → Table Count
 each_counted ct [] cts = cts
 each_counted ct (a ∷ found) cts = each_counted ct found (counted ct (successes 1) cts)
 
@@ -114,47 +114,47 @@ abbrev pub overflow_counter : Entry → Option Handle
 overflow_counter e = where_set e.count_overflow e.ct
 
 -- the target with these headers
-abbrev pub with_noted : List Noted → Side → Side
-with_noted hs s = record s { headers = record s.headers { noted = hs } }
+abbrev pub with_unexpected : List IndexedHeader → Side → Side
+with_unexpected hs s = record s { headers = record s.headers { unexpected = hs } }
 
 -- a persistent entry takes all found headers, in order of arrival
 abbrev pub take_all : ℕ → Entry → Parts → Parts
 take_all pt e p =
     parts
-    (with_noted (left_in pt e p.side.headers.noted) p.side)
+    (with_unexpected (left_in pt e p.side.headers.unexpected) p.side)
     p.region
-    (each_counted (overflow_counter e) (found_in pt e p.side.headers.noted) p.cts)
-    (each_gone p.side (left_in pt e p.side.headers.noted) (found_in pt e p.side.headers.noted) p.eqs)
+    (each_counted (overflow_counter e) (found_in pt e p.side.headers.unexpected) p.cts)
+    (each_gone p.side (left_in pt e p.side.headers.unexpected) (found_in pt e p.side.headers.unexpected) p.eqs)
 
 -- a use-once entry takes the oldest
-abbrev pub take_oldest : ℕ → Entry → Noted → Parts → Parts
+abbrev pub take_oldest : ℕ → Entry → IndexedHeader → Parts → Parts
 take_oldest pt e a p =
     parts
-    (with_noted (without_oldest pt e p.side.headers.noted) p.side)
+    (with_unexpected (without_oldest pt e p.side.headers.unexpected) p.side)
     p.region
     (counted (overflow_counter e) (successes 1) p.cts)
-    (gone_raised (kind_taken a.header.header.kind) p.side (without_oldest pt e p.side.headers.noted) a p.eqs)
+    (gone_raised (kind_taken a.header.header.kind) p.side (without_oldest pt e p.side.headers.unexpected) a p.eqs)
 
 -- ---- the append, where it isn't refused; `slot` is the slot that the new handle gets
 
--- what is left behind an append: the parts, the answer, and the counting event that rose
+-- what is left after an append: the parts, the answer, and the counting event that rose
 pub record Appends : Type 0 where
   pub parts : Parts
   pub appended : Appended
   pub counted : Option Handle
 
 -- the counter that rose: that of the entry, where a header was taken
-abbrev pub counted_by : Entry → List Noted → Option Handle
+abbrev pub counted_by : Entry → List IndexedHeader → Option Handle
 counted_by e [] = None
 counted_by e (a ∷ hs) = overflow_counter e
 
--- the entry is linked, behind the headers that it took
-abbrev pub linked_as : ℕ → ℕ → Place → Entry → List Noted → Parts → Appends
+-- the entry is linked, after the headers that it took
+abbrev pub linked_as : ℕ → ℕ → EntryList → Entry → List IndexedHeader → Parts → Appends
 linked_as slot pt place e found p =
     record { parts = link_entry slot pt place e p; appended = IsLinked (next_handle slot p.side); counted = counted_by e found }
 
 -- a use-once entry takes the oldest header, else it is linked
-abbrev pub append_once : ℕ → ℕ → Entry → Parts → Option Noted → Appends
+abbrev pub append_once : ℕ → ℕ → Entry → Parts → Option IndexedHeader → Appends
 append_once slot pt e p None = linked_as slot pt Priority e [] p
 append_once slot pt e p (Some a) = record { parts = take_oldest pt e a p; appended = Consumed a.header; counted = overflow_counter e }
 
@@ -162,17 +162,17 @@ append_once slot pt e p (Some a) = record { parts = take_oldest pt e a p; append
 abbrev pub append_priority : ℕ → ℕ → Entry → Parts → Appends
 append_priority slot pt e p =
     if e.use_once
-    then append_once slot pt e p (oldest pt e p.side.headers.noted)
-    else linked_as slot pt Priority e (found_in pt e p.side.headers.noted) (take_all pt e p)
+    then append_once slot pt e p (oldest pt e p.side.headers.unexpected)
+    else linked_as slot pt Priority e (found_in pt e p.side.headers.unexpected) (take_all pt e p)
 
 -- to either list; an overflow entry takes no header
-unfoldable pub append : ℕ → ℕ → Place → Entry → Parts → Appends
+unfoldable pub append : ℕ → ℕ → EntryList → Entry → Parts → Appends
 append slot pt Priority e p = append_priority slot pt e p
 append slot pt Overflow e p = linked_as slot pt Overflow e [] p
 
 -- ---- the search finds the oldest header alone, whether the entry is use-once or persistent, and deletes it where asked
 
--- what is left behind a search, and the header that was found
+-- what is left after a search, and the header that was found
 pub record Searched : Type 0 where
   pub parts : Parts
   pub found : Option UnexpectedHeader
@@ -182,21 +182,21 @@ abbrev pub search_fault : ℕ → Parts → Option NiFault
 search_fault pt p = need (is_allocated pt p.side) Stale None
 
 -- the header that a search found is told, and goes where it is to be deleted
-abbrev pub found_header : ℕ → Entry → Bool → Noted → Parts → Parts
+abbrev pub found_header : ℕ → Entry → Bool → IndexedHeader → Parts → Parts
 found_header pt e delete a p =
     if delete
     then record p {
-      side = with_noted (without_oldest pt e p.side.headers.noted) p.side;
-      eqs = gone_raised Search p.side (without_oldest pt e p.side.headers.noted) a p.eqs;
+      side = with_unexpected (without_oldest pt e p.side.headers.unexpected) p.side;
+      eqs = gone_raised Search p.side (without_oldest pt e p.side.headers.unexpected) a p.eqs;
     }
     else record p { eqs = raised (queue_at pt p.side) (header_event Search a) p.eqs }
 
 -- by what was found
-abbrev pub searched_at : ℕ → Entry → Bool → Parts → Option Noted → Searched
+abbrev pub searched_at : ℕ → Entry → Bool → Parts → Option IndexedHeader → Searched
 searched_at pt e delete p None =
     record { parts = record p { eqs = raised (queue_at pt p.side) (missed_event pt e.match_bits) p.eqs }; found = None }
 searched_at pt e delete p (Some a) = record { parts = found_header pt e delete a p; found = Some a.header }
 
 -- a search of the headers of an index
 unfoldable pub search : ℕ → Entry → Bool → Parts → Searched
-search pt e delete p = searched_at pt e delete p (oldest pt e p.side.headers.noted)
+search pt e delete p = searched_at pt e delete p (oldest pt e p.side.headers.unexpected)

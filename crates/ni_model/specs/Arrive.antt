@@ -11,7 +11,7 @@ use Rattle.ptl_types.specs.declared.headers.Header.{Header}
 use Rattle.ptl_types.specs.declared.headers.MessageKind.{MessageKind}
 use Rattle.ptl_types.specs.declared.headers.MessageKind.TheVariants.{Put, Atomic, FetchAtomic, Swap, Ack as AckKind, Reply}
 use Rattle.ptl_types.specs.declared.headers.AckRequest.TheVariants.{NoAck}
-use Rattle.ptl_types.specs.declared.entries.List.{List as Place}
+use Rattle.ptl_types.specs.declared.entries.List.{List as EntryList}
 use Rattle.ptl_types.specs.declared.entries.List.TheVariants.{Priority, Overflow as InOverflow}
 use Rattle.ptl_types.specs.declared.calls.Outcome.{Outcome}
 use Rattle.ptl_types.specs.declared.calls.Outcome.TheVariants.{Matched, Overflow, Dropped, Violation}
@@ -26,7 +26,7 @@ use Rattle.ni_model.specs.Tables.{Table, where_set}
 use Rattle.ni_model.specs.Counts.{successes, counted}
 use Rattle.ni_model.specs.Queues.{Waiting, raised}
 use Rattle.ni_model.specs.Lists.{Index, index_at, queue_of, offset_in, space_in, fits, unlinked, advanced, with_list}
-use Rattle.ni_model.specs.Headers.{Held, no_room, allows}
+use Rattle.ni_model.specs.Headers.{UnexpectedList, no_room, allows}
 use Rattle.ni_model.specs.Events.{message_event, unlink_event, kind_delivered}
 
 -- ---- choose
@@ -37,7 +37,7 @@ or_else None y = y
 or_else (Some x) y = Some x
 
 -- an entry with the list that it stands in
-abbrev pub as_found : Place → Option Linked → Option Found
+abbrev pub as_found : EntryList → Option Linked → Option Found
 as_found place None = None
 as_found place (Some x) = Some (record { list = place; linked = x })
 
@@ -154,12 +154,12 @@ indices_after f h is = slice_set is h.pt (settled_at f h (index_at h.pt is))
 -- ---- 4. unexpected headers: a message in the overflow list leaves one
 
 -- the headers, with that of an overflow delivery at the end
-abbrev pub headers_after : Found → Header → Held → Held
+abbrev pub headers_after : Found → Header → UnexpectedList → UnexpectedList
 headers_after f h hs =
     elim f.list [
       | Priority ↦ hs
       | InOverflow ↦ record hs {
-        noted = hs.noted ++ (record {
+        unexpected = hs.unexpected ++ (record {
           pt = h.pt;
           header = record { entry = f.linked.handle; place = place f.linked h; delivered = delivered f.linked h; header = h };
         }) ∷ [];
@@ -176,7 +176,7 @@ delivery_raised f h eq eqs =
       | InOverflow ↦ eqs
     ]
 
--- and behind it that of the unlinking
+-- and after it that of the unlinking
 abbrev pub events_after : Found → Header → Option Handle → Table Waiting → Table Waiting
 events_after f h eq eqs =
     if is_over f.linked h then raised eq (unlink_event h.pt f.linked.entry.match_bits) (delivery_raised f h eq eqs)
@@ -228,7 +228,7 @@ pub record Side : Type 0 where
   pub limit : ℕ
   pub indices : List (Option Index)
   pub given : ℕ
-  pub headers : Held
+  pub headers : UnexpectedList
 
 -- and with it what is handed to a target: the region, the counting events and the event queues
 pub record Parts : Type 0 where
@@ -241,7 +241,7 @@ pub record Parts : Type 0 where
 abbrev pub parts : Side → List ℕ → Table Count → Table Waiting → Parts
 parts side region cts eqs = record { side = side; region = region; cts = cts; eqs = eqs }
 
--- what is left behind a request: the parts, and what became of it
+-- what is left after a request: the parts, and what became of it
 pub record Received : Type 0 where
   pub parts : Parts
   pub arrived : Arrived
@@ -255,16 +255,16 @@ abbrev pub refused : Outcome → Header → Arrived
 refused outcome h = record { outcome = outcome; answer = answer false 0 [] h; counted = None }
 
 -- the outcome of a delivery
-abbrev pub outcome_in : Place → Outcome
+abbrev pub outcome_in : EntryList → Outcome
 outcome_in Priority = Matched
 outcome_in InOverflow = Overflow
 
 -- the overflow list
-abbrev pub is_overflow : Place → Bool
+abbrev pub is_overflow : EntryList → Bool
 is_overflow Priority = false
 is_overflow InOverflow = true
 
--- the target behind a delivery
+-- the target after a delivery
 abbrev pub side_after : Found → Header → Side → Side
 side_after f h s = record s { indices = indices_after f h s.indices; headers = headers_after f h s.headers }
 

@@ -5,7 +5,7 @@ use Rattle.ptl_types.specs.declared.handles.Handle.{Handle}
 use Rattle.ptl_types.specs.declared.handles.Count.{Count}
 use Rattle.ptl_types.specs.declared.entries.Entry.{Entry}
 use Rattle.ptl_types.specs.declared.entries.Descriptor.{Descriptor}
-use Rattle.ptl_types.specs.declared.entries.List.{List as Place}
+use Rattle.ptl_types.specs.declared.entries.List.{List as EntryList}
 use Rattle.ptl_types.specs.declared.entries.UnexpectedHeader.{UnexpectedHeader}
 use Rattle.ptl_types.specs.declared.calls.NiFault.{NiFault}
 use Rattle.ptl_types.specs.declared.calls.NiFault.TheVariants.{NoMemory, Stale}
@@ -29,7 +29,7 @@ use Rattle.ni_model.specs.Refusals.{alloc_fault, stale_fault, bind_fault, releas
 
 -- ---- how a call ends
 
--- the state and the answer behind a call
+-- the state and the answer after a call
 pub record Done (A : Type 0) : Type 0 where
   pub state : State
   pub answer : A
@@ -43,7 +43,7 @@ abbrev pub ends_by : {A : Type 0} → Option NiFault → State → State → A �
 ends_by (Some fault) old new x = ends old (Err fault)
 ends_by None old new x = ends new (Ok x)
 
--- want of memory may end a call that nothing else refuses, and changes nothing
+-- running out of memory may end a call that nothing else refuses, and changes nothing
 pub data MayLackMemory {A : Type 0} (call : Done (Result A NiFault)) (old : State) : Done (Result A NiFault) → Type 0 where
   enough : MayLackMemory call old call
   lacking : IsTrue (is_ok call.answer) → MayLackMemory call old (ends old (Err NoMemory))
@@ -164,7 +164,7 @@ awaits md s = awaits_of (lookup md s.mds.live)
 -- ---- match entries
 
 -- PtlMEAppend
-abbrev pub me_append : ℕ → ℕ → Place → Entry → State → Done (Result Appended NiFault)
+abbrev pub me_append : ℕ → ℕ → EntryList → Entry → State → Done (Result Appended NiFault)
 me_append slot pt place e s =
     let a = append slot pt place e (parts_of s) in
     ends_by (append_fault pt e (parts_of s)) s (with_parts a.parts s) a.appended

@@ -2,7 +2,7 @@
 use Rattle.std.specs.Prelude.{ℕ, ◌≡◌, ◌<◌, ◌≤◌, ◌+◌, ◌%◌, length, Option, Some, None, All}
 use Rattle.ptl_types.specs.declared.elements.ElemType.{ElemType}
 use Rattle.ptl_types.specs.declared.headers.AckRequest.TheVariants.{NoAck}
-use Rattle.ptl_types.specs.declared.entries.List.{List as Place}
+use Rattle.ptl_types.specs.declared.entries.List.{List as EntryList}
 use Rattle.ptl_types.specs.declared.entries.List.TheVariants.{Priority, Overflow}
 use Rattle.ptl_types.specs.declared.calls.PutArgs.{PutArgs}
 use Rattle.ptl_types.specs.declared.calls.GetArgs.{GetArgs}
@@ -14,7 +14,7 @@ use Rattle.ptl_types.specs.Messages.{Sent, bytes_due}
 use Rattle.ni_model.specs.declared.Linked.{Linked}
 use Rattle.ni_model.specs.declared.Bound.{Bound}
 use Rattle.ni_model.specs.Lists.{Index}
-use Rattle.ni_model.specs.Headers.{Held}
+use Rattle.ni_model.specs.Headers.{UnexpectedList}
 
 -- ---- starts
 
@@ -62,9 +62,9 @@ abbrev pub IsBoundIn : ℕ → Bound → Type 0
 IsBoundIn size b = b.md.start + b.md.length ≤ size
 
 -- a header can be added
-abbrev pub HasRoom : Place → Held → Type 0
+abbrev pub HasRoom : EntryList → UnexpectedList → Type 0
 HasRoom Priority hs = Unit {0}
-HasRoom Overflow hs = length hs.noted < hs.limit
+HasRoom Overflow hs = length hs.unexpected < hs.limit
 
 -- ---- what a message keeps of its bytes
 abbrev pub IsKept : Sent → Type 0

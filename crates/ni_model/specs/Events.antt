@@ -13,7 +13,7 @@ use Rattle.ptl_types.specs.declared.events.EventKind.TheVariants.{FetchAtomic as
 use Rattle.ptl_types.specs.declared.events.EventKind.TheVariants.{Reply as ReplyEvent, Ack as AckEvent, Send, Link, AutoUnlink, AutoFree}
 use Rattle.ptl_types.specs.declared.events.EventKind.TheVariants.{Search}
 use Rattle.ni_model.specs.declared.Bound.{Bound}
-use Rattle.ni_model.specs.declared.Noted.{Noted}
+use Rattle.ni_model.specs.declared.IndexedHeader.{IndexedHeader}
 
 -- an event of a message, or of its unexpected header: `delivered` bytes at this place
 abbrev pub message_event : EventKind → Header → ℕ → ℕ → Event
@@ -47,7 +47,7 @@ kind_taken Put = PutOverflow
 kind_taken _ = AtomicOverflow
 
 -- an event of an unexpected header
-abbrev pub header_event : EventKind → Noted → Event
+abbrev pub header_event : EventKind → IndexedHeader → Event
 header_event kind a = message_event kind a.header.header a.header.delivered a.header.place
 
 -- an entry is linked

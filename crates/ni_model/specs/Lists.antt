@@ -1,9 +1,10 @@
 -- The linked entries of a portal table index, which of them takes a message, and what becomes of one (Portals 4.3, matching and lists).
+-- What the overflow list is for is this profile's own.
 use Rattle.std.specs.Prelude.{ℕ, Bool, false, not, ◌-◌, ◌+◌, ◌||◌, ◌&&◌, nat_le, List, [], ◌∷◌, map, filter, length, Option, Some, None}
 use Rattle.std.specs.Prelude.{if◌then◌else◌, slice_index_or}
 use Rattle.ptl_types.specs.declared.handles.Handle.{Handle}
 use Rattle.ptl_types.specs.declared.headers.Header.{Header}
-use Rattle.ptl_types.specs.declared.entries.List.{List as Place}
+use Rattle.ptl_types.specs.declared.entries.List.{List as EntryList}
 use Rattle.ptl_types.specs.declared.entries.List.TheVariants.{Priority, Overflow}
 use Rattle.ptl_types.specs.Handles.{same_handle}
 use Rattle.ptl_types.specs.Matching.{is_match}
@@ -54,12 +55,12 @@ is_linked me [] = false
 is_linked me (x ∷ xs) = same_handle x.handle me || is_linked me xs
 
 -- the list named
-abbrev pub list_of : Place → Index → List Linked
+abbrev pub list_of : EntryList → Index → List Linked
 list_of Priority i = i.priority
 list_of Overflow i = i.overflow
 
 -- the index with one list changed
-abbrev pub with_list : Place → (List Linked → List Linked) → Index → Index
+abbrev pub with_list : EntryList → (List Linked → List Linked) → Index → Index
 with_list Priority f i = record i { priority = f i.priority }
 with_list Overflow f i = record i { overflow = f i.overflow }
 
@@ -69,6 +70,6 @@ entries_in None = 0
 entries_in (Some i) = length i.priority + length i.overflow
 
 -- in a list of an allocated index
-abbrev pub is_linked_at : Place → Handle → Option Index → Bool
+abbrev pub is_linked_at : EntryList → Handle → Option Index → Bool
 is_linked_at place me None = false
 is_linked_at place me (Some i) = is_linked me (list_of place i)

@@ -25,7 +25,7 @@ abbrev pub first_event : List Event → EqGot
 first_event [] = Empty
 first_event (e ∷ es) = Got e
 
--- the events behind the oldest
+-- the events after the oldest
 abbrev pub later_events : List Event → List Event
 later_events [] = []
 later_events (e ∷ es) = es
@@ -34,7 +34,7 @@ later_events (e ∷ es) = es
 abbrev pub taken_from : Waiting → EqGot
 taken_from q = if q.lost then Lost else first_event q.events
 
--- the queue behind a get
+-- the queue after a get
 abbrev pub after_take : Waiting → Waiting
 after_take q = if q.lost then record q { lost = false } else record q { events = later_events q.events }
 

@@ -75,7 +75,7 @@ with_posted deed ct threshold ops = record ops {
 abbrev pub without_number : ℕ → Operations → Operations
 without_number t ops = record ops { waiting = filter (λ p. not (is_number t p)) ops.waiting }
 
--- the state and the message behind a firing
+-- the state and the message after a firing
 pub record Fires : Type 0 where
   pub state : State
   pub message : Option Sent

@@ -32,7 +32,7 @@ pt_alloc_fault pt eq s eqs =
 
 -- one of its lists holds an entry, or a header of it waits
 abbrev pub holds_something : ℕ → Side → Bool
-holds_something pt s = nat_lt 0 (entries_in (index_at pt s.indices)) || nat_lt 0 (length (headers_of pt s.headers.noted))
+holds_something pt s = nat_lt 0 (entries_in (index_at pt s.indices)) || nat_lt 0 (length (headers_of pt s.headers.unexpected))
 
 -- not allocated, in use
 abbrev pub pt_free_fault : ℕ → Side → Option NiFault
@@ -52,7 +52,7 @@ is_linked_anywhere me (i ∷ is) = is_linked_in me i || is_linked_anywhere me is
 
 -- it is not linked, or a header lies in its memory
 abbrev pub unlink_fault : Handle → Side → Option NiFault
-unlink_fault me s = need (is_linked_anywhere me s.indices) Stale (need (not (names_entry me s.headers.noted)) InUse None)
+unlink_fault me s = need (is_linked_anywhere me s.indices) Stale (need (not (names_entry me s.headers.unexpected)) InUse None)
 
 -- ---- counting events and event queues
 

@@ -1,4 +1,5 @@
--- The start of each operation: its header, its bytes, and what it does to the initiator (Portals 4.3, data movement operations).
+-- The start of each operation: its header, its bytes, and what it does to the initiator (Portals 4.3, data movement operations). How a
+-- header is made up, and what is counted and told of a start, is this profile's own.
 use Rattle.std.specs.Prelude.{ℕ, true, ◌+◌, List, Option, Some, None, [], if◌then◌else◌}
 use Rattle.ptl_types.specs.declared.handles.Handle.{Handle}
 use Rattle.ptl_types.specs.declared.elements.ElemType.{ElemType}
@@ -149,7 +150,7 @@ abbrev pub awaits_more : Option Handle → Table Bound → Table Bound
 awaits_more None mds = mds
 awaits_more (Some h) mds = changed h one_awaited mds
 
--- the initiator behind a start
+-- the initiator after a start
 abbrev pub sent_from : Home → Deed → Header → Home
 sent_from p d h =
     home
@@ -158,7 +159,7 @@ sent_from p d h =
     (counted (send_counter (bound_at (counted_on d) p.mds)) (successes 1) p.cts)
     (raised (send_queue (bound_at (counted_on d) p.mds)) (send_event h) p.eqs)
 
--- what is left behind a start: the parts, the message, and the counting event that rose
+-- what is left after a start: the parts, the message, and the counting event that rose
 pub record Started : Type 0 where
   pub home : Home
   pub message : Option Sent

@@ -14,7 +14,7 @@ use Rattle.ni_model.specs.Tables.{Table, no_things}
 use Rattle.ptl_types.specs.Handles.{one_more}
 use Rattle.ni_model.specs.Queues.{Waiting}
 use Rattle.ni_model.specs.Lists.{Index}
-use Rattle.ni_model.specs.Headers.{Held, held}
+use Rattle.ni_model.specs.Headers.{UnexpectedList, unexpected_list}
 use Rattle.ni_model.specs.Arrive.{Side, Parts, parts, Received, request}
 use Rattle.ni_model.specs.Answers.{Home, home, Returned, answered}
 
@@ -39,7 +39,7 @@ pub record State : Type 0 where
   pub memory : List ℕ
   pub indices : List (Option Index)
   pub entries_given : ℕ
-  pub headers : Held
+  pub headers : UnexpectedList
   pub cts : Table Count
   pub eqs : Table Waiting
   pub mds : Table Bound
@@ -56,7 +56,7 @@ opened rank ranks limits region = record {
   memory = region;
   indices = replicate limits.pts None;
   entries_given = 0;
-  headers = held [] limits.unexpected;
+  headers = unexpected_list [] limits.unexpected;
   cts = no_things limits.cts;
   eqs = no_things limits.eqs;
   mds = no_things limits.mds;
@@ -107,12 +107,12 @@ violations_after Violation n = one_more n
 violations_after _ n = n
 
 -- both, by the outcome
-abbrev pub noted : Outcome → State → State
-noted outcome s = record s { drops = drops_after outcome s.drops; violations = violations_after outcome s.violations }
+abbrev pub with_outcome : Outcome → State → State
+with_outcome outcome s = record s { drops = drops_after outcome s.drops; violations = violations_after outcome s.violations }
 
 -- ---- a message arrives
 
--- the state behind a message, the outcome and the answer
+-- the state after a message, the outcome and the answer
 pub record Delivers : Type 0 where
   pub state : State
   pub delivered : Delivered
@@ -121,13 +121,13 @@ pub record Delivers : Type 0 where
 abbrev pub delivers : State → Outcome → Option Sent → Delivers
 delivers s outcome answer = record { state = s; delivered = record { outcome = outcome; answer = answer } }
 
--- behind a request
+-- after a request
 abbrev pub after_request : State → Received → Delivers
-after_request s r = delivers (noted r.arrived.outcome (with_parts r.parts s)) r.arrived.outcome r.arrived.answer
+after_request s r = delivers (with_outcome r.arrived.outcome (with_parts r.parts s)) r.arrived.outcome r.arrived.answer
 
--- behind an answer
+-- after an answer
 abbrev pub after_answer : State → Returned → Delivers
-after_answer s r = delivers (noted r.outcome (with_home r.home s)) r.outcome None
+after_answer s r = delivers (with_outcome r.outcome (with_home r.home s)) r.outcome None
 
 -- any message that comes to this interface
 unfoldable pub target : State → Sent → Delivers

@@ -36,7 +36,7 @@ pub struct Bound {
 
 /// An unexpected header that waits in the header list of its portal table index.
 #[derive(Clone, Copy, Debug)]
-pub struct Noted {
+pub struct IndexedHeader {
     /// The portal table index.
     pub pt: u32,
     /// The header, and where its bytes lie.

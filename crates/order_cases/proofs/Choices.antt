@@ -51,7 +51,7 @@ came_early : enabled_steps system early ≡ Start 1 ∷ Fire 0 1 ∷ Fire 0 3 �
 unfolding target request answered started fired append call_made cell_started bring
 came_early = refl
 
-waits_there : length (state_at system early.world 1).headers.noted ≡ 1
+waits_there : length (state_at system early.world 1).headers.unexpected ≡ 1
 unfolding target request answered started fired append call_made cell_started bring
 waits_there = refl
 
@@ -60,7 +60,7 @@ then_started : enabled_steps system (step_made system (Start 1) early) ≡ Fire 
 unfolding target request answered started fired append call_made cell_started bring
 then_started = refl
 
-none_waits : (state_at system (step_made system (Start 1) early).world 1).headers.noted ≡ []
+none_waits : (state_at system (step_made system (Start 1) early).world 1).headers.unexpected ≡ []
 unfolding target request answered started fired append call_made cell_started bring
 none_waits = refl
 

@@ -1,7 +1,7 @@
 //! Taking: a list of the ranks to look at; each look takes a rank's next listed step where it is enabled.
 
 ghost use Rattle.std.specs.Prelude.{ℕ, ◌<◌, ◌≡◌, ◌⊎◌, [], ◌∷◌, ◌++◌, length, IfOk, IfSome, MatchOption, Some};
-ghost use Rattle.ptl_types.specs.declared.headers.Lane.{Lane as LaneOf};
+ghost use Rattle.ptl_types.specs.declared.headers.Lane.{Lane};
 ghost use Rattle.ptl_types.specs.declared.steps.LocalStep.TheVariants.{Receive};
 ghost use Rattle.plan_core.specs.Members.{In};
 ghost use Rattle.plan_orders.specs.Chosen.{first_scene};
@@ -72,7 +72,7 @@ fn waiter(world: &World, orders: &Orders, r: Rank, to: Option<Rank>) -> Option<R
     requires driven { IsDriven world.now (lists_of orders.now) }
     ensures known { IfSome result (λ d. d < world.now.shape.ranks) }
     ensures others { (q : ℕ) → q < world.now.shape.ranks → to ≡ Some q → ((result ≡ Some q)
-        ⊎ ((lane : LaneOf) → IsNext (lists_of orders.now) (histories_in world.now) q (Receive r lane) → ⊥)) }
+        ⊎ ((lane : Lane) → IsNext (lists_of orders.now) (histories_in world.now) q (Receive r lane) → ⊥)) }
 {
     match to {
         None => None,

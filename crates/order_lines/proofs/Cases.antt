@@ -6,7 +6,7 @@ use Rattle.ptl_types.specs.declared.steps.LocalStep.TheVariants.{Start, Receive,
 use Rattle.coll_text.specs.Text.{lines}
 use Rattle.coll_lang.specs.declared.fault.Refusal.TheVariants.{AfterEnd, BadByte, BadOrder, Unended}
 use Rattle.order_lines.specs.Orders.{order_at, order_of, read_orders, step_of}
-use Rattle.order_lines.specs.Check.{description_bytes, line_behind}
+use Rattle.order_lines.specs.Check.{description_bytes, line_after}
 
 whole_order : order_at 2 0 5 (codes "order 0 s f0 f10 r1 a0") ≡ Ok (Start ∷ Fire 0 ∷ Fire 10 ∷ Receive 1 Request ∷ Receive 0 Answer ∷ [])
 unfolding order_at order_of step_of
@@ -76,6 +76,6 @@ front : description_bytes (lines (one_barrier ++ codes "order 0 x" ++ 10 ∷ [])
 unfolding description_bytes
 front = refl
 
-next : line_behind 1 (lines (one_barrier ++ codes "order 0 x" ++ 10 ∷ [])) ≡ 5
-unfolding line_behind
+next : line_after 1 (lines (one_barrier ++ codes "order 0 x" ++ 10 ∷ [])) ≡ 5
+unfolding line_after
 next = refl

@@ -4,10 +4,10 @@ use Rattle.std.specs.List.{join_with_byte}
 use Rattle.std.specs.Str.{bytes_eq}
 use Rattle.std.proofs.lemmas.List.Splits.{join_with_byte-slice_split}
 use Rattle.coll_text.specs.Text.{lines}
-use Rattle.order_lines.specs.Check.{description_bytes, line_behind}
+use Rattle.order_lines.specs.Check.{description_bytes, line_after}
 use Rattle.order_lines.proofs.Lines.{some_piece}
 
--- a line that is cut off has its LF behind it
+-- a line that is cut off has its LF after it
 pub cut_long : (xs line ys : List ℕ) → lines xs ≡ line ∷ lines ys → length xs ≡ length line + 1 + length ys
 cut_long xs line ys h =
     let p = some_piece ys in
@@ -24,7 +24,7 @@ last_long xs line h = ap length (sym (join_with_byte-slice_split 10 xs) ∙ ap (
 -- where so much of a text is left, from line k on, the first line `end` stands in it
 pub record IsLeft (text rest : List ℕ) (k : ℕ) : Type 0 where
   pub bytes : description_bytes (lines text) + length rest ≡ length text + description_bytes (lines rest)
-  pub line : line_behind 1 (lines text) ≡ line_behind k (lines rest)
+  pub line : line_after 1 (lines text) ≡ line_after k (lines rest)
   pub within : length rest ≤ length text
   pub few : k + length rest ≤ length text + 1
 
@@ -42,8 +42,8 @@ unfolding description_bytes
 bytes_on xs line ys h other = let p = some_piece ys in rw (h, p.2, other) refl
 
 line_on : (xs line ys : List ℕ) (k : ℕ) → lines xs ≡ line ∷ lines ys → bytes_eq line (codes "end") ≡ false
-    → line_behind k (lines xs) ≡ line_behind (k + 1) (lines ys)
-unfolding line_behind
+    → line_after k (lines xs) ≡ line_after (k + 1) (lines ys)
+unfolding line_after
 line_on xs line ys k h other = let p = some_piece ys in rw (h, p.2, other) refl
 
 pub bytes_at : (xs line ys : List ℕ) → lines xs ≡ line ∷ lines ys → bytes_eq line (codes "end") ≡ true
@@ -52,8 +52,8 @@ unfolding description_bytes
 bytes_at xs line ys h same = let p = some_piece ys in rw (h, p.2, same) refl
 
 line_at : (xs line ys : List ℕ) (k : ℕ) → lines xs ≡ line ∷ lines ys → bytes_eq line (codes "end") ≡ true
-    → line_behind k (lines xs) ≡ k + 1
-unfolding line_behind
+    → line_after k (lines xs) ≡ k + 1
+unfolding line_after
 line_at xs line ys k h same = let p = some_piece ys in rw (h, p.2, same) refl
 
 pub goes_on : (text xs line ys : List ℕ) (k : ℕ) → IsLeft text xs k → lines xs ≡ line ∷ lines ys → bytes_eq line (codes "end") ≡ false
@@ -71,11 +71,11 @@ goes_on text xs line ys k left h other =
       few = omega (arith, n, f);
     }
 
--- what is found: how many bytes, and which line stands behind them
+-- what is found: how many bytes, and which line stands after them
 pub record IsFound (text : List ℕ) (bytes line : ℕ) : Type 0 where
   pub front : bytes ≡ description_bytes (lines text)
   pub within : bytes ≤ length text
-  pub next : line ≡ line_behind 1 (lines text)
+  pub next : line ≡ line_after 1 (lines text)
   pub few : line ≤ bytes + 1
 
 pub stops : (text xs line ys : List ℕ) (k n : ℕ) → IsLeft text xs k → lines xs ≡ line ∷ lines ys → bytes_eq line (codes "end") ≡ true
@@ -96,8 +96,8 @@ bytes_all : (xs line : List ℕ) → lines xs ≡ line ∷ [] → description_by
 unfolding description_bytes
 bytes_all xs line h = ap description_bytes h ∙ sym (last_long xs line h)
 
-line_same : (xs line : List ℕ) (k : ℕ) → lines xs ≡ line ∷ [] → line_behind k (lines xs) ≡ k
-unfolding line_behind
+line_same : (xs line : List ℕ) (k : ℕ) → lines xs ≡ line ∷ [] → line_after k (lines xs) ≡ k
+unfolding line_after
 line_same xs line k h = rw h refl
 
 pub breaks_off : (text xs line : List ℕ) (k : ℕ) → IsLeft text xs k → lines xs ≡ line ∷ [] → IsFound text (length text) k

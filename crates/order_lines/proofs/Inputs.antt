@@ -1,4 +1,4 @@
--- A description and the order lines behind it.
+-- A description and the order lines after it.
 use Rattle.std.proofs.Common.{◌≡◌, ℕ, zero, suc, ◌+◌, ◌≤◌, List, [], ◌∷◌, length, take, drop, Result, Ok, Err, Bool, true, false, cond, refl, ap, arith}
 use Rattle.std.specs.Prelude.{nat_lt}
 use Rattle.std.proofs.lemmas.Bool.Decides.{nat_tests}
@@ -11,7 +11,7 @@ use Rattle.coll_lang.specs.declared.fault.ParseFault.{ParseFault}
 use Rattle.coll_lang.specs.declared.fault.ParseFault.TheVariants.{NoMemory, Refused}
 use Rattle.coll_lang.specs.declared.fault.Refusal.{Refusal}
 use Rattle.coll_lang.specs.declared.fault.Refusal.TheVariants.{AfterEnd}
-use Rattle.order_lines.specs.Check.{description_bytes, line_behind, orders_behind, read_check, with_lists, with_orders}
+use Rattle.order_lines.specs.Check.{description_bytes, line_after, orders_after, read_check, with_lists, with_orders}
 use Rattle.order_lines.specs.Orders.{and_later, order_at, read_orders}
 use Rattle.order_lines.specs.declared.checking.TheConstants.{LONGEST_CHECK}
 
@@ -20,7 +20,7 @@ not_above n le = grind (arith, nat_tests)
 
 -- an input that isn't too long, by its parts
 pub parted : (bytes : List ℕ) (front next : ℕ) → length bytes ≤ LONGEST_CHECK → front ≡ description_bytes (lines bytes)
-    → next ≡ line_behind 1 (lines bytes)
+    → next ≡ line_after 1 (lines bytes)
     → read_check bytes ≡ with_orders (read (take front bytes)) next (lines (drop front bytes))
 unfolding read_check
 parted bytes front next short f n = rw (f, n, not_above (length bytes) short) refl
@@ -37,9 +37,9 @@ pub lists_fail : (fault : ParseFault) (d : Program) (r : Result (List (List Loca
 lists_fail (Refused line name) d r h = rw h refl
 lists_fail NoMemory d r h = tt
 
--- the rest is what is read behind the description
+-- the rest is what is read after the description
 pub reads_on : (d : Program) (r : Result Program (ℕ × Refusal)) (k : ℕ) (pieces : List (List ℕ)) → r ≡ Ok d
-    → with_orders r k pieces ≡ orders_behind d d.choices k pieces
+    → with_orders r k pieces ≡ orders_after d d.choices k pieces
 reads_on d r k pieces h = ap (λ x. with_orders x k pieces) h
 
 -- there are as many orders as were due

@@ -22,7 +22,7 @@ some_piece bytes = at (lines bytes) (let n = length-slice_split (λ b. b == 10) 
     at [] h = absurd (omega (arith, h))
     at (piece ∷ later) h = (piece, later, refl)
 
--- what is read behind these
+-- what is read after these
 abbrev pub and_then : List (List LocalStep) → Result (List (List LocalStep)) (ℕ × Refusal) → Result (List (List LocalStep)) (ℕ × Refusal)
 and_then done (Err refusal) = Err refusal
 and_then done (Ok lists) = Ok (done ++ lists)
@@ -73,7 +73,7 @@ pub breaks_off : (ranks r k : ℕ) (done : List (List LocalStep)) (line : List �
 unfolding left_over read_orders
 breaks_off ranks r k done line lt = rw (one_less ranks r lt) refl
 
--- ---- behind the last line
+-- ---- after the last line
 full : (ranks r k b : ℕ) (piece : List ℕ) (pieces : List (List ℕ)) → read_orders ranks 0 r k ((b ∷ piece) ∷ pieces) ≡ Err (k, AfterEnd)
 unfolding read_orders
 full ranks r k b piece [] = rw (not_empty b piece) refl

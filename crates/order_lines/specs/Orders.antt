@@ -56,7 +56,7 @@ and_later (Err refusal) later = Err refusal
 and_later (Ok steps) (Err refusal) = Err refusal
 and_later (Ok steps) (Ok lists) = Ok (steps ∷ lists)
 
--- The pieces of a text from line k on, where the orders of so many ranks are due, that of rank r first. No LF stands behind the last
+-- The pieces of a text from line k on, where the orders of so many ranks are due, that of rank r first. No LF stands after the last
 -- piece.
 unfoldable pub read_orders : ℕ → ℕ → ℕ → ℕ → List (List ℕ) → Result (List (List LocalStep)) (ℕ × Refusal)
 read_orders ranks zero r k [] = Ok []

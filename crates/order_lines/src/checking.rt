@@ -4,7 +4,7 @@ ghost use Rattle.std.specs.Prelude.{◌+◌, ◌^◌, ◌<◌, ◌≡◌, ◌≤
 ghost use Rattle.coll_text.specs.Text.{lines};
 ghost use Rattle.coll_lang.specs.Readable.{IsReadable};
 ghost use Rattle.coll_lang.specs.Verdicts.{Reads};
-ghost use Rattle.order_lines.specs.Check.{description_bytes, line_behind, orders_behind, read_check};
+ghost use Rattle.order_lines.specs.Check.{description_bytes, line_after, orders_after, read_check};
 
 use crate::orders::Orders;
 use crate::reading::{orders_in, refused};
@@ -12,26 +12,26 @@ use coll_lang::{Description, ParseFault, Refusal, parse};
 use coll_text::{cut, is};
 use std::alloc::Global;
 
-/// The most bytes of a check's input: a description and the order lines behind it.
+/// The most bytes of a check's input: a description and the order lines after it.
 pub const LONGEST_CHECK: usize = 16_777_216;
 
-/// How many bytes the lines up to and including the first line `end` have, and the number of the line behind them: all bytes,
+/// How many bytes the lines up to and including the first line `end` have, and the number of the line after them: all bytes,
 /// where there is no such line.
 #[tactic(auto, using(crate::proofs::Ends::goes_on, crate::proofs::Ends::stops, crate::proofs::Ends::breaks_off))]
 fn first_end(bytes: &[u8]) -> (usize, u32)
     requires { length bytes.now ≤ LONGEST_CHECK }
     ensures bytes { result.0 ≡ description_bytes (lines bytes.now) }
     ensures within { result.0 ≤ length bytes.now }
-    ensures line { result.1 ≡ line_behind 1 (lines bytes.now) }
+    ensures line { result.1 ≡ line_after 1 (lines bytes.now) }
     ensures few { result.1 ≤ result.0 + 1 }
 {
     let mut rest = bytes;
     let mut number = 1u32;
     loop {
-        let (line, Some(behind)) = cut(rest, b'\n') else {
+        let (line, Some(after)) = cut(rest, b'\n') else {
             return (bytes.len(), number);
         };
-        rest = behind;
+        rest = after;
         number += 1;
         if is(line, b"end") {
             return (bytes.len() - rest.len(), number);
@@ -39,7 +39,7 @@ fn first_end(bytes: &[u8]) -> (usize, u32)
     }
 }
 
-/// The order lines behind a description, the first of them with this number.
+/// The order lines after a description, the first of them with this number.
 #[tactic(auto, using(crate::proofs::Inputs::lists_fail))]
 fn with_orders(
     alloc: Global,
@@ -49,7 +49,7 @@ fn with_orders(
 ) -> Result<(Description, Orders), ParseFault>
     requires few { next + length rest.now < 2 ^ 32 }
     requires readable { IsReadable description }
-    ensures exact { Reads (λ both. both) result (orders_behind description description.choices next (lines rest.now)) }
+    ensures exact { Reads (λ both. both) result (orders_after description description.choices next (lines rest.now)) }
     ensures same { IfOk result (λ both. both.0 ≡ description) }
     ensures steps { IfOk result (λ both. both.0.choices ≡ None) }
     ensures orders { IfOk result (λ both. length both.1 ≡ both.0.shape.ranks) }
@@ -63,7 +63,7 @@ fn with_orders(
     }
 }
 
-/// Reads the input of a check in one pass: a description, which ends with the first line `end`, and behind it for each rank, rank 0
+/// Reads the input of a check in one pass: a description, which ends with the first line `end`, and after it for each rank, rank 0
 /// first, the line of its local steps.
 ///
 /// # Errors

@@ -1,4 +1,4 @@
-//! Reading the input of a check: a description, and behind it for each rank the line of its local steps.
+//! Reading the input of a check: a description, and after it for each rank the line of its local steps.
 #![tactic(auto)]
 
 mod checking;

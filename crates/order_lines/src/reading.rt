@@ -81,7 +81,7 @@ fn steps_of(alloc: Global, ranks: u32, number: u32, mut words: Words) -> Result<
     Ok(Order::of(steps))
 }
 
-/// The steps behind `order` and the rank that is due.
+/// The steps after `order` and the rank that is due.
 #[tactic(auto, unfolding(crate::specs::Orders::order_of))]
 fn order_of(
     alloc: Global,
@@ -130,7 +130,7 @@ fn order_at(
     order_of(alloc, ranks, r, number, Words::of(line))
 }
 
-/// The lines of all ranks, the first of them with this number. Nothing may stand behind them.
+/// The lines of all ranks, the first of them with this number. Nothing may stand after them.
 #[tactic(auto, using(crate::proofs::Lines::begins, crate::proofs::Lines::takes, crate::proofs::Lines::breaks_off))]
 pub(crate) fn orders_in(
     alloc: Global,
@@ -146,14 +146,14 @@ pub(crate) fn orders_in(
     let mut rest = bytes;
     let mut number = first;
     for r in 0..ranks {
-        let (line, Some(behind)) = cut(rest, b'\n') else {
+        let (line, Some(after)) = cut(rest, b'\n') else {
             return Err(refused(number, Refusal::Unended));
         };
         match order_at(alloc, ranks, r, number, line) {
             Ok(order) => lists.push(order)?,
             Err(fault) => return Err(fault),
         }
-        rest = behind;
+        rest = after;
         number += 1;
     }
     if rest.is_empty() {

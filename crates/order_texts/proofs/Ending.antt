@@ -180,7 +180,7 @@ taken : (k : ℕ) (r : Result Past Refusal) (f : Past → Result Past (ℕ × Re
 taken k (Err e) f final h = cc
 taken k (Ok next) f final h = (next, refl, h)
 
--- behind the last line there is nothing
+-- after the last line there is nothing
 nothing_behind : (past final : Past) (k : ℕ) (piece : List ℕ) (pieces : List (List ℕ)) → is_finished past.stage ≡ true
     → read_from past k (piece ∷ pieces) ≡ Ok final → join_with_byte 10 (piece ∷ pieces) ≡ []
 unfolding read_from
@@ -223,7 +223,7 @@ read_there : (r : Result Past (ℕ × Refusal)) (d : Program) → program_in r �
 read_there (Ok final) d h = (final, refl)
 read_there (Err e) d h = cc
 
--- what stands behind an accepted text is no part of the description
+-- what stands after an accepted text is no part of the description
 pub whole_front : (bytes rest : List ℕ) (d : Program) → read bytes ≡ Ok d → description_bytes (lines (bytes ++ rest)) ≡ length bytes
 unfolding read
 whole_front bytes rest d h =

@@ -21,7 +21,7 @@ pub fn orders_are_read_back()
         read_orders ranks ranks 0 k (lines (order_text ranks steps)) ≡ Ok (map steps (from_to 0 ranks)) }
 {}
 
-/// An accepted text that chooses nothing, and behind it the order lines that are written of lists, one for each of its ranks, are
+/// An accepted text that chooses nothing, and after it the order lines that are written of lists, one for each of its ranks, are
 /// read as the description and these lists: the first line `end` of such a text is its last.
 pub fn checks_are_read_back()
     ensures { (bytes : List ℕ) (d : Program) (steps : ℕ → List LocalStep) → read bytes ≡ Ok d → d.choices ≡ None →

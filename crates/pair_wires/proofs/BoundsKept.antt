@@ -6,7 +6,7 @@ use Rattle.std.proofs.lemmas.List.Elements.{All-nil, All-cons, All-head, All-tai
 use Rattle.ptl_types.specs.Messages.{Sent}
 use Rattle.pair_wires.specs.declared.bounds.Bounds.{Bounds}
 use Rattle.pair_wires.specs.Bounds.{Travels, KeepsBounds}
-use Rattle.pair_wires.specs.Ends.{behind}
+use Rattle.pair_wires.specs.Ends.{followed_by}
 
 All-left : {X : Type 0} (P : X → Type 0) (xs ys : List X) → All P (xs ++ ys) → All P xs
 All-left P [] ys h = All-nil P
@@ -24,14 +24,14 @@ pub KeepsBounds-nil : (b : Bounds) → KeepsBounds b []
 KeepsBounds-nil b = record { travel = All-nil (Travels b); few = omega arith; short = omega arith }
 
 -- what was pushed keeps the bounds where what was sent does
-pub pushed-keeps : (b : Bounds) (ms : List Sent) (waiting : Option Sent) → KeepsBounds b (behind ms waiting) → KeepsBounds b ms
+pub pushed-keeps : (b : Bounds) (ms : List Sent) (waiting : Option Sent) → KeepsBounds b (followed_by ms waiting) → KeepsBounds b ms
 pushed-keeps b ms None h = h
 pushed-keeps b ms (Some m) h = KeepsBounds-left b ms (m ∷ []) h
 
 -- what waits makes the list no shorter
-pub length-behind : (ms : List Sent) (waiting : Option Sent) → length ms ≤ length (behind ms waiting)
-length-behind ms None = omega arith
-length-behind ms (Some m) = omega (arith, length-append ms (m ∷ []))
+pub length-followed_by : (ms : List Sent) (waiting : Option Sent) → length ms ≤ length (followed_by ms waiting)
+length-followed_by ms None = omega arith
+length-followed_by ms (Some m) = omega (arith, length-append ms (m ∷ []))
 
 -- where as many were moved as were held, nothing is left
 pub all-moved : (received held moved left sent : List Sent) → sent ≡ received ++ held → sent ≡ (received ++ moved) ++ left → length held ≤ length moved → sent ≡ received ++ moved

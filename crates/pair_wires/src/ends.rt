@@ -22,12 +22,12 @@ pub struct OutEnd {
 }
 
 impl Model for OutEnd {
-    ghost use Rattle.pair_wires.specs.Ends.{Outgoing, behind, is_there};
+    ghost use Rattle.pair_wires.specs.Ends.{Outgoing, followed_by, is_there};
     ghost use Rattle.pair_wires.specs.Keeping.{OutKeeps};
 
     ghost Value = { Outgoing };
 
-    ghost view = { λ e. record { wire = e.pass.table_id; bounds = e.pass.me.0.client.bounds; sent = behind e.pass.me.0.client.sent e.waiting; waits = is_there e.waiting; refused = e.refused } };
+    ghost view = { λ e. record { wire = e.pass.table_id; bounds = e.pass.me.0.client.bounds; sent = followed_by e.pass.me.0.client.sent e.waiting; waits = is_there e.waiting; refused = e.refused } };
 
     ghost invariant = { λ e. OutKeeps e.pass.me.0.client e.pass.me.1 e.waiting e.pushed };
 }

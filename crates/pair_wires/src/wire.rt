@@ -110,7 +110,7 @@ impl Wire {
         self.bounds
     }
 
-    /// Sends a message behind all that was sent. It may wait inside the queue, and never for room.
+    /// Sends a message after all that was sent. It may wait inside the queue, and never for room.
     ///
     /// `Err` gives the message back, only where the wire was full at this call's own step: so never before as many were sent
     /// as the wire holds. Then nothing was sent, and the count of refused pushes rose.
@@ -136,7 +136,7 @@ impl Wire {
         }
     }
 
-    /// Sends a message behind all that was sent: it goes into the queue, or waits at the end. The call may wait inside the
+    /// Sends a message after all that was sent: it goes into the queue, or waits at the end. The call may wait inside the
     /// queue, and never for room.
     ///
     /// The message waits only where the queue was full at this call's own step: so never before as many went into the queue as

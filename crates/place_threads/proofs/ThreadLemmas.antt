@@ -156,7 +156,7 @@ viewed cs es xss t = threads-same cs es xss t.long (λ k lt.
 pub settled : (cs : List (Option (Node ℕ))) (es : List Ends) (xss : List (List ℕ)) → IsThreads cs es xss → IsThreads cs es (threads_of cs es)
 settled cs es xss t = subst (λ yss. IsThreads cs es yss) (sym (viewed cs es xss t)) t
 
--- ---- a place is put behind the last of a thread
+-- ---- a place is put after the last of a thread
 module _ (cs : List (Option (Node ℕ))) (k p : ℕ) (e e' : Ends) (ps : List ℕ) where
   pushed-here : IsThread cs k e ps → p < length cs → is_on p ps ≡ false → e'.first ≡ cond (is_some e.last) e.first (Some p) → e'.last ≡ Some p
       → IsThread (places_before (Some p) e.last (places_after e.last (Some p) (set cs p (Some (node k None None))))) k e' (ps ++ p ∷ [])

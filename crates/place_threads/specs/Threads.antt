@@ -42,7 +42,7 @@ abbrev pub without : ℕ → List ℕ → List ℕ
 without place [] = []
 without place (p ∷ ps) = if nat_eq p place then without place ps else p ∷ without place ps
 
--- the threads with a place behind the last of one
+-- the threads with a place after the last of one
 abbrev pub with_place : ℕ → ℕ → Woven → Woven
 with_place k place w = woven (slice_set w.threads k (thread k w ++ place ∷ [])) w.places
 

@@ -1,4 +1,4 @@
-//! Threads: lists of places, each place on one of them at most, which are all linked in one row. A place is put behind the last
+//! Threads: lists of places, each place on one of them at most, which are all linked in one row. A place is put after the last
 //! of a thread, or taken off its thread, in a number of steps that is the same however many there are.
 #![tactic(auto)]
 

@@ -45,7 +45,7 @@ impl Threads {
         Ok(Threads { links, ends })
     }
 
-    /// Puts a place behind the last of a thread. O(1).
+    /// Puts a place after the last of a thread. O(1).
     pub fn push_back(&mut self, thread: u32, place: u32)
         requires thread { thread < length self.old.threads }
         requires place { place < self.old.places }

@@ -1,4 +1,4 @@
--- The region of a rank: its cells one after the other, and behind them one area for each class of messages that come to it, where
+-- The region of a rank: its cells one after the other, and after them one area for each class of messages that come to it, where
 -- those lie that come before its start.
 use Rattle.std.specs.Prelude.{ℕ, Bool, false, ◌||◌, ◌&&◌, ◌==◌, ◌+◌, List, Option, Some, None, [], ◌∷◌, ◌++◌, filter, flat_map, sum_by}
 use Rattle.std.specs.Prelude.{replicate, max}
@@ -57,7 +57,7 @@ region_length p r = sum_by (λ c. (cell p c).length) (own p r)
 abbrev pub area_length : Plan → ℕ → ℕ → ℕ
 area_length p r k = sum_by (λ l. (link p l).length) (filter (is_class p k) (links_to p r))
 
--- the areas stand behind the cells
+-- the areas stand after the cells
 abbrev pub area_start : Plan → ℕ → ℕ → ℕ
 area_start p r k = region_length p r + start_by (area_length p r) (classes p r) k
 

@@ -102,7 +102,7 @@ good_drops : (state go begin good).drops ≡ 0
 unfolding target request answered started fired call_made append cell_started bring
 good_drops = refl
 
--- the cells, and behind them the area of two bytes, which nothing came to before the start
+-- the cells, and after them the area of two bytes, which nothing came to before the start
 good_memory : (state go begin good).memory ≡ 7 ∷ 7 ∷ 7 ∷ 0 ∷ 0 ∷ []
 unfolding target request answered started fired call_made append cell_started bring
 good_memory = refl

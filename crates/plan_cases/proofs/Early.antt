@@ -7,7 +7,7 @@ use Rattle.ptl_types.specs.declared.headers.Lane.{Lane}
 use Rattle.ptl_types.specs.Elements.{part}
 use Rattle.ptl_types.specs.Messages.{Sent}
 use Rattle.ptl_types.specs.Operations.{bytes_of}
-use Rattle.ni_model.specs.declared.Noted.{Noted}
+use Rattle.ni_model.specs.declared.IndexedHeader.{IndexedHeader}
 use Rattle.ni_model.specs.Answers.{answered}
 use Rattle.ni_model.specs.Arrive.{request}
 use Rattle.ni_model.specs.Counts.{successes}
@@ -87,12 +87,12 @@ broadcast-sent : sent (start_at plan_two 0) (begin 0) order-0 1 Request ≡ put_
 unfolding target request answered started fired call_made append cell_started bring
 broadcast-sent = refl
 
-broadcast-early : (map {B = ℕ × ℕ} (λ (a : Noted). (a.header.delivered, a.header.place)) waiting.headers.noted ≡ (1, 2) ∷ []) × (waiting.memory ≡ 9 ∷ 0 ∷ 7 ∷ []) × (lookup (cell_ct plan_two slots1 7) waiting.cts.live ≡ Some (successes 0))
+broadcast-early : (map {B = ℕ × ℕ} (λ (a : IndexedHeader). (a.header.delivered, a.header.place)) waiting.headers.unexpected ≡ (1, 2) ∷ []) × (waiting.memory ≡ 9 ∷ 0 ∷ 7 ∷ []) × (lookup (cell_ct plan_two slots1 7) waiting.cts.live ≡ Some (successes 0))
 unfolding target request answered started fired call_made append cell_started bring
 broadcast-early = (refl, refl, refl)
 
 -- the start takes it
-broadcast-start : (((start_at plan_two 1).by waiting).headers.noted ≡ []) × (((start_at plan_two 1).by waiting).memory ≡ 9 ∷ 7 ∷ 7 ∷ []) × (lookup (cell_ct plan_two slots1 7) ((start_at plan_two 1).by waiting).cts.live ≡ Some (successes 1))
+broadcast-start : (((start_at plan_two 1).by waiting).headers.unexpected ≡ []) × (((start_at plan_two 1).by waiting).memory ≡ 9 ∷ 7 ∷ 7 ∷ []) × (lookup (cell_ct plan_two slots1 7) ((start_at plan_two 1).by waiting).cts.live ≡ Some (successes 1))
 unfolding target request answered started fired call_made append cell_started bring
 broadcast-start = (refl, refl, refl)
 

@@ -90,7 +90,7 @@ none_pending_there : (state (go 1) (begin 1) order1).pending.waiting ≡ []
 unfolding target request answered started fired call_made append cell_started bring
 none_pending_there = refl
 
--- before the other rank's message the last operation isn't ready, behind it it is
+-- before the other rank's message the last operation isn't ready, after it it is
 not_before_the_message : is_ready (state (go 0) (begin 0) front) 5 ≡ false
 unfolding target request answered started fired call_made append cell_started bring
 not_before_the_message = refl

@@ -60,7 +60,7 @@ unfolding value
 least = refl
 
 -- the memory of rank 0 is its cells, one after the other: go, input, entry, result, which begins with 0 or, for a minimum, with 255;
--- and behind them its areas: a byte for what is put, two for what is combined
+-- and after them its areas: a byte for what is put, two for what is combined
 memory_at_first : (prepare (plan Sum) inputs slots 0).memory ≡ 200 ∷ 0 ∷ 0 ∷ 0 ∷ 0 ∷ 0 ∷ []
 unfolding append call_made
 memory_at_first = refl

@@ -16,11 +16,11 @@ use Rattle.ni_model.specs.Headers.{allows}
 use Rattle.ni_model.specs.Lists.{fits}
 use Rattle.plan_cases.proofs.Moments.{stray}
 
--- a cell of four bytes behind the first byte of the region
+-- a cell of four bytes after the first byte of the region
 abbrev cell : Option AtomicOp → ElemType → OwnCell
 cell o ty = record { number = 0; start = 1; length = 4; op = o; ty = ty; match_bits = 0; ignore_bits = 0 }
 
--- n bytes that lie behind the cell, for this offset in it
+-- n bytes that lie after the cell, for this offset in it
 abbrev came : ℕ → ℕ → UnexpectedHeader
 came at n = record { entry = handle 0 0; place = 5; delivered = n; header = record stray.header { offset = at } }
 

@@ -131,7 +131,7 @@ rest = record {
   idle = λ r t h. below3 (λ r. is_ready (state_at system world r) t ≡ false) refl refl refl r h;
 }
 
--- rank 0 holds its input, its entry and the sum; behind them lie the areas: nothing came early that is put, one that is combined
+-- rank 0 holds its input, its entry and the sum; after them lie the areas: nothing came early that is put, one that is combined
 memory_of_rank_0 : (state_at system world 0).memory ≡ 200 ∷ 200 ∷ 94 ∷ 0 ∷ 100 ∷ 0 ∷ 0 ∷ []
 unfolding target request answered started fired append call_made cell_started bring
 memory_of_rank_0 = refl
@@ -148,6 +148,6 @@ nothing_violated : (state_at system world 0).violations ≡ 0
 unfolding target request answered started fired append call_made cell_started bring
 nothing_violated = refl
 
-no_header_left : (state_at system world 0).headers.noted ≡ []
+no_header_left : (state_at system world 0).headers.unexpected ≡ []
 unfolding target request answered started fired append call_made cell_started bring
 no_header_left = refl

@@ -1,4 +1,4 @@
--- A choice world behind a local step of one rank: its seat has a step more, and what that makes goes to the end of a lane.
+-- A choice world after a local step of one rank: its seat has a step more, and what that makes goes to the end of a lane.
 use Rattle.std.proofs.Common.{ℕ, ◌+◌, ◌*◌, ◌<◌, ◌≤◌, ◌≡◌, ◌==◌, ◌∙◌, List, [], ◌∷◌, ◌++◌, Option, Some, None, cond, get_or, length, filter, if◌then◌else◌, refl, sym, ap, ap₂, subst, inl, inr, arith, eq-eqb, length-append}
 use Rattle.std.proofs.Math.ListN.{set, length-set}
 use Rattle.std.proofs.Math.Path.{fun_ext}
@@ -51,7 +51,7 @@ pub record SameRoom (lanes mid : List Plain) : Type 0 where
 pub same_lanes : (lanes : List Plain) → SameRoom lanes lanes
 same_lanes lanes = record { size = refl; capacity = λ i. refl }
 
--- a seat behind a step of its rank, of which this is the go counter
+-- a seat after a step of its rank, of which this is the go counter
 pub record Moved (go : Handle) (old new : Seated) (e : Local) : Type 0 where
   pub kept : new.kept ≡ old.kept
   pub locals : new.diary.locals ≡ old.diary.locals ++ e ∷ []
@@ -87,7 +87,7 @@ module _ (w : ChoiceState) (is : IsStanding w) (enough : HasRoom w) (gone : HasG
   abbrev o : Option Sent
   o = made_at w.seats r e
 
-  -- the scene behind it
+  -- the scene after it
   abbrev pub behind : Scene
   behind = record {
     world = with_step r e z.world;
@@ -124,7 +124,7 @@ module _ (w : ChoiceState) (is : IsStanding w) (enough : HasRoom w) (gone : HasG
         let c = length-append (z.world r) (e ∷ []) in
         omega (arith, a, b, c)
 
-    -- ---- the lanes behind it
+    -- ---- the lanes after it
     abbrev pub later : List Plain
     later = out_with n r o mid
 
@@ -175,7 +175,7 @@ module _ (w : ChoiceState) (is : IsStanding w) (enough : HasRoom w) (gone : HasG
             set_capacity n mid mid_size r m.header.target (lane_of m.header.kind) hr (goes_to m q)
             ((lane_at mid (lane_place n r m.header.target (lane_of m.header.kind))).messages ++ m ∷ []) i ∙ left.capacity i
 
-    -- ---- the seats behind it
+    -- ---- the seats after it
     module _ (new : Seated) (moved : Moved (go_in w r) (seat_at w.seats r) new e) where
       abbrev news : List Seated
       news = set w.seats r new

@@ -76,7 +76,7 @@ pub record AreLeft (nexts new : List Seated) (out mid : List Plain) (a s b d : �
   pub source : a ≡ s
   pub goal : b ≡ d
 
--- by the step: a rank's seat is that behind its local step, and what it makes goes to the end of its lane
+-- by the step: a rank's seat is that after its local step, and what it makes goes to the end of its lane
 abbrev pub IsMade : ℕ → List Seated → List Plain → Step → List Seated → List Plain → ℕ → ℕ → Type 0
 IsMade n seats lanes (Start r) nexts later a b =
     AreLeft nexts (slice_set seats r (started_seat (seat_at seats r))) later lanes a r b r
@@ -125,7 +125,7 @@ pub record AreMarked (n : ℕ) (seats : List Seated) (lanes : List Plain) (s d :
   pub deliveries : b ≡ lane_marks n lanes s d y
   pub firings : c ≡ firing_mark seats d (firing_mark seats s z)
 
--- behind a step, with its counts
+-- after a step, with its counts
 pub record IsStepped (n : ℕ) (seats : List Seated) (lanes : List Plain) (starts deliveries firings : List ℕ) (step : Step)
     (nexts : List Seated) (later : List Plain) (a b c : List ℕ) : Type 0 where
   pub s : ℕ

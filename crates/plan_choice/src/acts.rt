@@ -1,4 +1,4 @@
-//! The steps of a choice world over its seats and lanes, each with the counts of what is enabled made anew behind it.
+//! The steps of a choice world over its seats and lanes, each with the counts of what is enabled made anew after it.
 
 ghost use Rattle.std.specs.Prelude.{ℕ, List, ◌≡◌, ◌<◌, ◌≤◌, ◌*◌, ◌∷◌, IsTrue, length, slice_set};
 ghost use Rattle.ptl_types.specs.Messages.{Sent};

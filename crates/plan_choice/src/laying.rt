@@ -1,7 +1,7 @@
 //! The parts of a choice world before its first step.
 
 ghost use Rattle.std.specs.Prelude.{ℕ, ◌≡◌, ◌<◌, ◌≤◌, ◌*◌, [], IfOk, length, slice_index_or, if◌then◌else◌};
-ghost use Rattle.ptl_types.specs.declared.headers.Lane.{Lane as LaneOf};
+ghost use Rattle.ptl_types.specs.declared.headers.Lane.{Lane};
 ghost use Rattle.plan_worlds.specs.Places.{lane_place};
 ghost use Rattle.world_parts.specs.Layout.{lane_at};
 ghost use Rattle.choice_ranks.specs.Seats.{IsInstalled};
@@ -45,7 +45,7 @@ fn room_for(used: bool, steps: u32) -> u32
 pub(crate) fn lay_all(alloc: Global, ranks: u32, steps: u32) -> Result<Vec<PlainLane>, NoMemory>
     requires { ranks ≤ 256 }
     ensures size { IfOk result (λ v. length v.items ≡ 2 * (ranks * ranks)) }
-    ensures laid { IfOk result (λ v. (s d : ℕ) (lane : LaneOf) → s < ranks → d < ranks →
+    ensures laid { IfOk result (λ v. (s d : ℕ) (lane : Lane) → s < ranks → d < ranks →
         lane_at v.items (lane_place ranks s d lane) ≡ laid_lane steps s d lane) }
 {
     let pairs = ranks * ranks;

@@ -143,7 +143,7 @@ same-front {X} (x ∷ xs) us (y ∷ ys) vs e l = ap₂ (λ a b. a ∷ b) (head_o
     tail_one : {a b : X} {us : List X} {vs : List X} → a ∷ us ≡ b ∷ vs → us ≡ vs
     tail_one e = cc
 
--- a front with nothing behind it
+-- a front with nothing after it
 pub nothing-behind : {X : Type 0} (xs ys zs : List X) → (xs ++ ys) ++ zs ≡ xs → ys ≡ []
 nothing-behind xs ys zs e = nil_from_length ys (let l = ap length e in let a = length-append (xs ++ ys) zs in let b = length-append xs ys in omega arith)
 

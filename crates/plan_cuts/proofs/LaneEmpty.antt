@@ -7,7 +7,7 @@ use Rattle.ptl_types.specs.declared.calls.Deed.TheVariants.{Put as PutDeed, Get 
 use Rattle.ptl_types.specs.declared.calls.NiFault.{NiFault}
 use Rattle.ptl_types.specs.declared.calls.Outcome.TheVariants.{Dropped, Violation}
 use Rattle.ptl_types.specs.declared.entries.Entry.{Entry}
-use Rattle.ptl_types.specs.declared.entries.List.{List as Place}
+use Rattle.ptl_types.specs.declared.entries.List.{List as EntryList}
 use Rattle.ptl_types.specs.declared.entries.List.TheVariants.{Priority, Overflow as InOverflow}
 use Rattle.ptl_types.specs.declared.handles.Handle.{Handle}
 use Rattle.ptl_types.specs.declared.headers.Header.{Header}
@@ -100,7 +100,7 @@ settled-no_gets : (f : Found) (h : Header) (o : Option Index) → NoGetsAt o →
 settled-no_gets f h None g = tt
 settled-no_gets f h (Some i) g = at f.list
   where
-    at : (l : Place) → NoGetsAt (settled_at (record { list = l; linked = f.linked }) h (Some i))
+    at : (l : EntryList) → NoGetsAt (settled_at (record { list = l; linked = f.linked }) h (Some i))
     at Priority = (entries-no_gets f.linked h i.priority g.0, g.1)
     at InOverflow = (g.0, entries-no_gets f.linked h i.overflow g.1)
 

@@ -115,7 +115,7 @@ sized_all p inputs sound r (a ∷ early) h g sized =
     subst (Sized p inputs) (ap (λ v. record g { came = v }) (append_assoc g.came (a ∷ []) early))
     (sized_all p inputs sound r early (record { here = λ b i. h.here b (inr i); size = λ b i. h.size b (inr i); once = h.once.1 }) (note p g (tk a)) (sized_took p inputs sound r a.link g (h.here a (inl refl)) sized a.bytes (h.size a (inl refl))))
 
--- behind a start there is none
+-- after a start there is none
 accepted-behind : (p : Plan) (k : Slots) (r : ℕ) (v : State) (es : List Local) → Legal (start_of p k r) true v es → StartsPass p k r v es
 accepted-behind p k r v [] l = tt
 accepted-behind p k r v (Start ∷ es) l = let q = l.0 in cc

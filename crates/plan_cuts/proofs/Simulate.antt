@@ -31,7 +31,7 @@ use Rattle.plan_view.proofs.StepArrive.{bits-job, due-here, step_ack, step_link,
 use Rattle.plan_start.proofs.Sized.{sized_took}
 use Rattle.ptl_types.specs.declared.handles.Handle.{Handle}
 
--- a start that raises the go counter alone: behind a rank's start it is of no matter what a start does
+-- a start that raises the go counter alone: after a rank's start it is of no matter what a start does
 abbrev pub go_up : Handle → Beginning
 go_up go = record { by = raise_go go; rank = λ s. refl; pending = λ s. refl }
 

@@ -81,7 +81,7 @@ few_firings p s r go es b v h l =
     let z = length-from_to 0 (length (works p r)) in
     omega (arith, q, z)
 
--- one start at most, and none behind one
+-- one start at most, and none after one
 few_starts : (go : Beginning) (es : List Local) (b : Bool) (v : State) → Legal go b v es → count_by is_start es + cond b 1 0 ≤ 1
 few_starts go [] true v l = omega arith
 few_starts go [] false v l = omega arith

@@ -10,7 +10,7 @@ use Rattle.ni_model.specs.State.{Delivers, Posted, State, home_of, target, after
 use Rattle.ni_model.specs.declared.Linked.{Linked}
 use Rattle.op_laws.specs.Combining.{CombineStarts}
 use Rattle.ni_model.specs.Counts.{successes}
-use Rattle.ni_model.specs.Headers.{Held}
+use Rattle.ni_model.specs.Headers.{UnexpectedList}
 use Rattle.ni_model.specs.Refusals.{ct_inc_fault}
 use Rattle.ptl_types.specs.Messages.{message, Sent}
 use Rattle.ptl_types.specs.declared.calls.Outcome.TheVariants.{Answered, Dropped}
@@ -51,16 +51,16 @@ use Rattle.ptl_types.specs.Kinds.{is_answer}
 use Rattle.ptl_types.specs.Matching.{is_match}
 
 -- ---- a step that looks at no entry and no header
-abbrev pub framed : State → List (Option Index) → Held → ℕ → State
+abbrev pub framed : State → List (Option Index) → UnexpectedList → ℕ → State
 framed v is hs n = record v { indices = is; headers = hs; entries_given = n }
 
-abbrev pub framed_delivers : Delivers → List (Option Index) → Held → ℕ → Delivers
+abbrev pub framed_delivers : Delivers → List (Option Index) → UnexpectedList → ℕ → Delivers
 framed_delivers d is hs n = delivers (framed d.state is hs n) d.delivered.outcome d.delivered.answer
 
-abbrev pub framed_fires : Fires → List (Option Index) → Held → ℕ → Fires
+abbrev pub framed_fires : Fires → List (Option Index) → UnexpectedList → ℕ → Fires
 framed_fires d is hs n = fires (framed d.state is hs n) d.message
 
-pub answer_framed : (v : State) (is : List (Option Index)) (hs : Held) (n : ℕ) (m : Sent) → is_answer m.header.kind ≡ true → target (framed v is hs n) m ≡ framed_delivers (target v m) is hs n
+pub answer_framed : (v : State) (is : List (Option Index)) (hs : UnexpectedList) (n : ℕ) (m : Sent) → is_answer m.header.kind ≡ true → target (framed v is hs n) m ≡ framed_delivers (target v m) is hs n
 unfolding target
 answer_framed v is hs n m e =
     ap (λ b. cond b (after_answer (framed v is hs n) (answered (home_of v) m)) (after_request (framed v is hs n) (request (parts_of (framed v is hs n)) m))) e
@@ -70,7 +70,7 @@ answer_framed v is hs n m e =
     told : (r : Returned) → after_answer (framed v is hs n) r ≡ framed_delivers (after_answer v r) is hs n
     told r = refl
 
-done_framed : (v : State) (is : List (Option Index)) (hs : Held) (n : ℕ) (d : Deed) → done (framed v is hs n) d ≡ framed_fires (done v d) is hs n
+done_framed : (v : State) (is : List (Option Index)) (hs : UnexpectedList) (n : ℕ) (d : Deed) → done (framed v is hs n) d ≡ framed_fires (done v d) is hs n
 done_framed v is hs n (PutDeed a) = refl
 done_framed v is hs n (GetDeed g) = refl
 done_framed v is hs n (AtomicDeed a o t) = refl
@@ -79,7 +79,7 @@ done_framed v is hs n (SwapDeed g a w t x) = refl
 done_framed v is hs n (IncDeed c b) = refl
 done_framed v is hs n (SetDeed c t) = refl
 
-pub fire_framed : (v : State) (is : List (Option Index)) (hs : Held) (n : ℕ) (t : ℕ) → fired (framed v is hs n) t ≡ framed_fires (fired v t) is hs n
+pub fire_framed : (v : State) (is : List (Option Index)) (hs : UnexpectedList) (n : ℕ) (t : ℕ) → fired (framed v is hs n) t ≡ framed_fires (fired v t) is hs n
 unfolding fired
 fire_framed v is hs n t = at (posted_at t v.pending)
   where

@@ -35,7 +35,7 @@ made_by s Start = None
 made_by s (Receive source lane m) = (target s m).delivered.answer
 made_by s (Fire t) = (fired s t).message
 
--- the state behind a history
+-- the state after a history
 abbrev pub state : Beginning → State → List Local → State
 state go s [] = s
 state go s (e ∷ es) = state go (after go s e) es

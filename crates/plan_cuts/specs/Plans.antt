@@ -65,7 +65,7 @@ StartsPass p k r s (Fire t ∷ es) = StartsPass p k r (after (start_of p k r) s 
 pub record IsComplete (p : Plan) (inputs : Inputs) (slots : ℕ → Slots) (w : Histories) (r : ℕ) : Type 0 where
   pub done : lookup (done_ct (slots r)) (state_at (system_of p inputs slots) w r).cts.live ≡ Some (successes (done_threshold p r))
   pub none_pending : (state_at (system_of p inputs slots) w r).pending.waiting ≡ []
-  pub no_header : (state_at (system_of p inputs slots) w r).headers.noted ≡ []
+  pub no_header : (state_at (system_of p inputs slots) w r).headers.unexpected ≡ []
   pub drops : (state_at (system_of p inputs slots) w r).drops ≡ min (count_by is_received_stray (w r)) top
   pub violations : (state_at (system_of p inputs slots) w r).violations ≡ 0
   pub cells : (c : ℕ) → c < length p.cells → (cell p c).rank ≡ r →

@@ -23,10 +23,10 @@ pub struct CountedPlan {
 }
 
 impl Model for CountedPlan {
-    ghost use Rattle.plan_core.specs.Plan.{Plan as Drawn};
+    ghost use Rattle.plan_core.specs.Plan.{Plan};
     ghost use Rattle.plan_done.specs.Counts.{AreCounted};
 
-    ghost Value = { Drawn };
+    ghost Value = { Plan };
 
     ghost view = { λ c. c.plan };
 

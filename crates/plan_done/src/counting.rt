@@ -1,7 +1,7 @@
 //! The cells of each rank, and the messages that it sends.
 
 ghost use Rattle.std.specs.Prelude.{◌≡◌, ◌<◌, ◌+◌, ◌^◌, IfOk, get_or, length, nat_lt, set, if◌then◌else◌};
-ghost use Rattle.plan_tables.specs.Tables.{IsTabled, rank_of as rank_of_cell};
+ghost use Rattle.plan_tables.specs.Tables.{IsTabled, rank_of};
 ghost use Rattle.plan_done.specs.Counts.{own_counts, sent_counts, sent_key};
 
 use plan_core::{LinkKind, Plan};
@@ -13,7 +13,7 @@ use std::alloc::Global;
 fn rank_of(plan: &Plan, c: u32) -> Rank
     requires tabled { IsTabled plan.now }
     requires cell { c < length plan.now.cells }
-    ensures told { result ≡ rank_of_cell plan.now c }
+    ensures told { result ≡ rank_of plan.now c }
     ensures rank { result < plan.now.ranks }
 {
     plan.cells()[c as usize].rank

@@ -38,7 +38,7 @@ of_places P s c f h i l = subst (λ j. P (c + i) (f j)) (zero_add i) (each_of_ma
 pub length-places : (s : Site) (f : ℕ → NewCell) → length (map f (places s)) ≡ count s
 length-places s f = length-map-from f 0 (count s)
 
--- what stands behind one list of places
+-- what stands after one list of places
 pub behind : (P : ℕ → NewCell → Type 0) (s : Site) (c : ℕ) (f : ℕ → NewCell) (ns : List NewCell) → EachAt P c (map f (places s) ++ ns) → EachAt P (c + count s) ns
 behind P s c f ns h = subst (λ v. EachAt P (c + v) ns) (length-places s f) (each_back P c (map f (places s)) ns h)
 

@@ -82,7 +82,7 @@ pub record SoundNewCell (ranks : ℕ) (k : ℕ → Cell) (c : ℕ) (n : NewCell)
   pub apart : AllApart n.into
   pub covered : n.op ≡ None → sum_by put_length n.into ≡ n.length
 
--- a sound plan but for its size; `inputs` is the number of input cells; each cell behind the go cells has a link
+-- a sound plan but for its size; `inputs` is the number of input cells; each cell after the go cells has a link
 pub record WellBuilt (p : Plan) (inputs : ℕ) : Type 0 where
   pub some_rank : 1 ≤ p.ranks
   pub few_ranks : p.ranks ≤ 256

@@ -28,7 +28,7 @@ numbered_more f n (y ∷ ys) x =
     ap (λ (l : List ℕ). f n y ++ l) (numbered_more f (suc n) ys x ∙ ap (λ k. numbered f (suc n) ys ++ f k x) e)
     ∙ sym (append_assoc (f n y) (numbered f (suc n) ys) (f (n + suc (length ys)) x))
 
--- what was read, with one more line read behind it
+-- what was read, with one more line read after it
 pub one_more : {A : Type 0} (f : ℕ → A → List ℕ) (text before rest : List ℕ) (xs : List A) (x : A) (n : ℕ) → text ≡ numbered f 0 xs ++ before
     → before ≡ f n x ++ rest → length xs ≡ n → text ≡ numbered f 0 (xs ++ x ∷ []) ++ rest
 one_more f text before rest xs x n e split count =

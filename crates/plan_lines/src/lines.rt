@@ -35,8 +35,8 @@ impl<'a> Lines<'a> {
     pub fn take(&mut self) -> Option<Words<'a>>
         ensures taken { IfSome result (λ words. self.old ≡ line words ++ self.new) }
     {
-        let (line, behind) = cut(self.rest, b'\n');
-        self.rest = behind?;
+        let (line, after) = cut(self.rest, b'\n');
+        self.rest = after?;
         self.number = self.number.saturating_add(1);
         Some(Words::of(line))
     }

@@ -82,7 +82,7 @@ fn steps_in(alloc: Global, due: Due, words: Words) -> Result<Vec<LocalStep>, Tex
     Ok(steps)
 }
 
-/// The steps behind `order` and the rank that is due.
+/// The steps after `order` and the rank that is due.
 fn order_in(alloc: Global, due: Due, mut words: Words) -> Result<Order, TextFault> {
     let refused = due.refused(Refusal::NotAnOrder);
     take_word(&mut words, b"order").ok_or(refused)?;

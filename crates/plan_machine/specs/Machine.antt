@@ -29,7 +29,7 @@ note_work p g (Along l) = record g {
 }
 note_work p g (Tell c) = record g { fired = Tell c ∷ g.fired; done = bump (successes 1) g.done }
 
--- what was seen behind a move
+-- what was seen after a move
 abbrev pub note : Plan → Seen → Move → Seen
 note p g Began = record g { started = true }
 note p g (Took l bytes) = record g { came = g.came ++ came l bytes ∷ [] }
@@ -40,7 +40,7 @@ note p g (Heard ok) = record g {
 }
 note p g Strayed = record g { strays = suc g.strays }
 
--- and behind a list of moves
+-- and after a list of moves
 abbrev pub seen : Plan → Seen → List Move → Seen
 seen p g [] = g
 seen p g (e ∷ es) = seen p (note p g e) es

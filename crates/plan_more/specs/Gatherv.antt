@@ -1,6 +1,6 @@
 -- Gather of what is held (MPI gatherv): the root's last cell gets the lists of the members that hold one.
 --
--- | Cells behind the entries, in order | Incoming links of each |
+-- | Cells after the entries, in order | Incoming links of each |
 -- | O at ROOT, length n times the holders | Bump from E(ROOT), then Put whole from E(q) to offset i * n for the i-th holder q, i from 0 |
 --
 -- The entry has data at members that hold A. O holds B, at ROOT alone. The exit is O at ROOT, else E.

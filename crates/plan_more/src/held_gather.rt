@@ -3,8 +3,8 @@
 ghost use Rattle.std.specs.Prelude.{◌≡◌, ◌<◌, ◌+◌, ◌∷◌, [], IfOk, length, map};
 ghost use Rattle.plan_core.specs.Plan.{from_to};
 ghost use Rattle.plan_core.specs.Draw.{HasRoom, add, add_all};
-ghost use Rattle.plan_steps.specs.Site.{bump as bump_of, count, entry, places};
-ghost use Rattle.plan_more.specs.Gatherv.{concatenated, gatherv_cells, gatherv_end as gatherv_end_of, held_entry, holder_put as holder_put_of};
+ghost use Rattle.plan_steps.specs.Site.{bump, count, entry, places};
+ghost use Rattle.plan_more.specs.Gatherv.{concatenated, gatherv_cells, gatherv_end, held_entry, holder_put};
 
 use coll_shape::is_in;
 use plan_core::{Incoming, Plan};
@@ -39,7 +39,7 @@ fn draw_held_entries(plan: &mut Plan, site: &Site) -> Result<(), NoMemory>
 /// Where a gather of what is held leaves a place.
 fn gatherv_end(site: &Site, root: u32, place: u32) -> End
     requires { place < count site.now }
-    ensures { result ≡ gatherv_end_of site.now root place }
+    ensures { result ≡ gatherv_end site.now root place }
 {
     let _ = site.count();
     if place == root {
@@ -51,7 +51,7 @@ fn gatherv_end(site: &Site, root: u32, place: u32) -> End
 
 /// Where it leaves all places.
 fn gatherv_ends(alloc: Global, site: &Site, root: u32) -> Result<Vec<End>, NoMemory>
-    ensures { IfOk result (λ ends. ends.items ≡ map (gatherv_end_of site.now root) (places site.now)) }
+    ensures { IfOk result (λ ends. ends.items ≡ map (gatherv_end site.now root) (places site.now)) }
 {
     let mut ends = Vec::new(alloc);
     for place in 0..site.count() {
@@ -63,7 +63,7 @@ fn gatherv_ends(alloc: Global, site: &Site, root: u32) -> Result<Vec<End>, NoMem
 /// What the i-th holder sends.
 fn holder_put(site: &Site, i: u32) -> Incoming
     requires { i < length site.now.holding }
-    ensures { result ≡ holder_put_of site.now i }
+    ensures { result ≡ holder_put site.now i }
 {
     let _ = site.count();
     let place = site.holders()[i as usize];
@@ -78,7 +78,7 @@ fn holder_put(site: &Site, i: u32) -> Incoming
 /// What comes to the root's last cell: an increment, and the lists of the holders.
 fn concatenated_links(alloc: Global, site: &Site, root: u32) -> Result<Vec<Incoming>, AllocError>
     requires { root < count site.now }
-    ensures { IfOk result (λ links. links.items ≡ bump_of (entry site.now root) ∷ map (holder_put_of site.now) (from_to 0 (length site.now.holding))) }
+    ensures { IfOk result (λ links. links.items ≡ bump (entry site.now root) ∷ map (holder_put site.now) (from_to 0 (length site.now.holding))) }
 {
     let _ = site.count();
     let holders = site.holders().len() as u32;
@@ -110,7 +110,7 @@ pub fn gatherv(alloc: Global, plan: &mut Plan, site: &Site, root: u32) -> Result
     requires root { root < count site.now }
     requires room { HasRoom plan.old (gatherv_cells site.now root) }
     ensures drawn { IfOk result (λ ends. plan.new ≡ add_all plan.old (gatherv_cells site.now root)) }
-    ensures ends { IfOk result (λ ends. ends.items ≡ map (gatherv_end_of site.now root) (places site.now)) }
+    ensures ends { IfOk result (λ ends. ends.items ≡ map (gatherv_end site.now root) (places site.now)) }
 {
     draw_held_entries(plan, site)?;
     draw_concatenated(alloc, plan, site, root)?;

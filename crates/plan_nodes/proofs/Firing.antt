@@ -1,4 +1,4 @@
--- What a node finds ready behind its open lanes.
+-- What a node finds ready after its open lanes.
 use Rattle.std.proofs.Common.{ℕ, zero, suc, Bool, true, false, not, ◌≡◌, ◌<◌, ◌≤◌, ◌∙◌, List, [], ◌∷◌, Option, Some, None, refl, ap, ap₂, sym, arith, inl, inr, map, filter, length, get_or, nat_lt, if◌then◌else◌, lt-ltb}
 use Rattle.std.proofs.lemmas.Bool.{cases_lt}
 use Rattle.std.proofs.lemmas.List.{get_or_default}

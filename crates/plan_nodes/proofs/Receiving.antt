@@ -66,7 +66,7 @@ module _ (p : Plan) (inputs : Inputs) (sound : SoundPlan p (length inputs)) (fit
   abbrev behind : List Sent → Scene
   behind ms = delivered (system_of p inputs slots) s r lane ms z
 
-  -- the moment behind the receipt
+  -- the moment after the receipt
   moment_behind : IsMoment (system_of p inputs slots) (behind (m ∷ later)).world (behind (m ∷ later)).held
   moment_behind =
       let k = system_of p inputs slots in

@@ -2,7 +2,7 @@
 #![tactic(auto)]
 
 ghost use Rattle.std.specs.Prelude.{ℕ, ◌<◌, ◌≡◌, ◌∷◌, List, Bool, IsTrue, false, filter, map, length};
-ghost use Rattle.ptl_types.specs.declared.headers.Lane.{Lane as LaneOf};
+ghost use Rattle.ptl_types.specs.declared.headers.Lane.{Lane};
 ghost use Rattle.ptl_types.specs.Messages.{Sent};
 ghost use Rattle.plan_core.specs.Plan.{Plan};
 ghost use Rattle.plan_core.specs.Sound.{SoundPlan, AreInputsOf};
@@ -31,7 +31,7 @@ pub fn nodes_are_ranks()
 /// The first message of a lane meets the conditions under which its target's node receives it: there is room for it, if there is
 /// room for one stray more where it is one.
 pub fn next_message_finds_room()
-    ensures { (plan : Plan) (inputs : Inputs) (slots : ℕ → Slots) (scene : Scene) (r s : ℕ) (lane : LaneOf)
+    ensures { (plan : Plan) (inputs : Inputs) (slots : ℕ → Slots) (scene : Scene) (r s : ℕ) (lane : Lane)
         (m : Sent) (later : List Sent) (node : NodeState) →
         SoundPlan plan (length inputs) → AreInputsOf plan inputs → r < plan.ranks → s < plan.ranks →
         IsMoment (system_of plan inputs slots) scene.world scene.held → scene.held s r lane ≡ m ∷ later →
@@ -39,7 +39,7 @@ pub fn next_message_finds_room()
         MayReceive node s lane m }
 {}
 
-/// What a node counts as ready behind its open lanes are the firings of its rank that are possible under the window.
+/// What a node counts as ready after its open lanes are the firings of its rank that are possible under the window.
 pub fn open_firings_are_possible()
     ensures { (plan : Plan) (inputs : Inputs) (slots : ℕ → Slots) (scene : Scene) (window r : ℕ) (node : NodeState)
         (closed : List Bool) →
@@ -48,13 +48,13 @@ pub fn open_firings_are_possible()
         map (Fire r) (open_numbers closed node.nic) }
 {}
 
-/// A step of a node is the step of its rank: the node behind it stands for the rank of the moment behind it, and the nodes of the
-/// other ranks for theirs. A start is so under all slots that agree with the handles that there are behind it.
+/// A step of a node is the step of its rank: the node after it stands for the rank of the moment after it, and the nodes of the
+/// other ranks for theirs. A start is so under all slots that agree with the handles that there are after it.
 pub fn each_step_of_a_node()
     ensures fired { (plan : Plan) (inputs : Inputs) (slots : ℕ → Slots) (scene : Scene) (r t : ℕ) (node : NodeState) →
         IsRank plan inputs slots scene r node → IsNode (fired_node t node) →
         IsRank plan inputs slots (step_made (system_of plan inputs slots) (Fire r t) scene) r (fired_node t node) }
-    ensures received { (plan : Plan) (inputs : Inputs) (slots : ℕ → Slots) (scene : Scene) (r s : ℕ) (lane : LaneOf)
+    ensures received { (plan : Plan) (inputs : Inputs) (slots : ℕ → Slots) (scene : Scene) (r s : ℕ) (lane : Lane)
         (m : Sent) (later : List Sent) (node : NodeState) →
         scene.held s r lane ≡ m ∷ later → IsRank plan inputs slots scene r node →
         IsNode (received_node s lane m node) →

@@ -145,7 +145,7 @@ module _ (k : System) where
   step-enabled es r (Fire t) held balanced h = h
   step-enabled es r (Receive s lane m) held balanced h = (h.1.0, ap (λ v. got (histories es r) s lane ++ v) (sym h.1.1) ∙ balanced s r lane)
 
-  -- what moves stand behind runs and lanes
+  -- what moves stand after runs and lanes
   pub record AreMoves (w : Histories) (held : Lanes) : Type 0 where
     pub moves : List Move
     pub made : IsInterleaving k moves

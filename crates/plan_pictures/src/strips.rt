@@ -2,7 +2,7 @@
 //!
 //! The first cells of a step are its entries, one for each member by rising rank. An entry has no operation, waits for a bump,
 //! and, where it has data, for a put of a buffer that lies on its own rank; no other cell does. So the steps can be told from
-//! the links alone, but for a step of one entry, as a barrier on one rank: it counts to the step behind it where that one's
+//! the links alone, but for a step of one entry, as a barrier on one rank: it counts to the step after it where that one's
 //! first rank is higher.
 
 use crate::layout::{Layout, Place};

@@ -258,7 +258,7 @@ module _ (starts : CombineStarts) (p : Plan) (inputs : Inputs) (sound : SoundPla
   completes r h = record {
     done = ap (λ (s : State). lookup (done_ct (slots r)) s.cts.live) (end_is r h) ∙ ap (λ b. cond b (Some g.done) (lookup (done_ct (slots r)) (map (counter_of p (slots r) r g) (own p r)))) (same_handle-refl (done_ct (slots r))) ∙ ap Some (done_is r h);
     none_pending = ap (λ (s : State). s.pending.waiting) (end_is r h) ∙ ap (map (operation p (slots r) r)) (filter-none (λ v. not (was_fired g.fired v)) (works p r) (λ v i. not_from_true _ (all_fired r h v i)));
-    no_header = ap (λ (s : State). s.headers.noted) (end_is r h);
+    no_header = ap (λ (s : State). s.headers.unexpected) (end_is r h);
     drops = ap (λ (s : State). s.drops) (end_is r h) ∙ ap (λ n. min n top) (run_strays p r (w r) [] nothing_seen (answer_clean r h) ∙ (let q : 0 + count_by is_received_stray (w r) ≡ count_by is_received_stray (w r) = omega arith in q));
     violations = ap (λ (s : State). s.violations) (end_is r h);
     cells = λ c i e.

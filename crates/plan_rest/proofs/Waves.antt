@@ -30,7 +30,7 @@ pub record IsWholeWave (k : System) (v w : Histories) : Type 0 where
   pub idle : (r t : ℕ) → r < k.count → is_ready (state_at k v r) t ≡ false
   pub balanced : (s d : ℕ) (lane : Lane) → s < k.count → d < k.count → length (got (v d) s lane) ≡ length (sent_by k v s d lane)
 
--- what stands behind the fronts
+-- what stands after the fronts
 module _ (k : System) (v w : Histories) (front : (r : ℕ) → r < k.count → IsPrefixOf (v r) (w r)) where
   behind_by : (r : ℕ) → ((r < k.count) ⊎ (k.count ≤ r)) → List Local
   behind_by r (inl h) = (front r h).0

@@ -2,7 +2,7 @@
 use Rattle.std.proofs.Common.{if◌then◌else◌, ℕ, suc, true, false, cond, ◌+◌, ◌-◌, ◌*◌, ◌^◌, ◌≡◌, ◌≤◌, ◌<◌, ◌⊎◌, ◌==◌, nat_le, nat_lt, List, [], ◌∷◌, ◌++◌, refl, length, ap, ap₂, ◌∙◌, sym, subst, inl, inr, arith, map, flat_map, Option, Some, None, eqb-true, eq-eqb, append-nil, append_assoc, sum_by, length-append, take, take_all, le-leb}
 use Rattle.std.proofs.lemmas.Bool.{ne_eqb, and_from, and_parts, cases_eq, false_from_ne_true, leb-true}
 use Rattle.ni_model.specs.Arrive.{accepted, chosen, delivered, entries_after, headers_after, judged, memory_after, new_bytes, old_bytes, place, refused, request, running_after, as_found, events_after, is_over, received}
-use Rattle.ni_model.specs.Headers.{allows, Held, held}
+use Rattle.ni_model.specs.Headers.{allows, UnexpectedList, unexpected_list}
 use Rattle.ni_model.specs.Lists.{advance_one, fits, unlinked}
 use Rattle.ni_model.specs.State.{State, home_of, target, after_answer, after_request, delivers, parts_of}
 use Rattle.ni_model.specs.declared.Linked.{Linked}
@@ -203,16 +203,16 @@ module _ (p : Plan) (inputs : Inputs) (sound : SoundPlan p (length inputs)) (s :
     length-early_from senders front (b ∷ xs) = ap suc (length-early_from senders (front ++ b ∷ []) xs)
 
     headers-area : (senders : ℕ → Slots) → let k = senders (cell p (link p l).source).rank in
-        headers_after found_area_of (link_header p k l) (held (map (arrived_of p) (early_all p s r senders early)) (length (links_to p r))) ≡ held (map (arrived_of p) (early_all p s r senders (early ++ came l bs ∷ []))) (length (links_to p r))
+        headers_after found_area_of (link_header p k l) (unexpected_list (map (arrived_of p) (early_all p s r senders early)) (length (links_to p r))) ≡ unexpected_list (map (arrived_of p) (early_all p s r senders (early ++ came l bs ∷ []))) (length (links_to p r))
     headers-area senders =
         let k = senders (cell p (link p l).source).rank in
-        ap (λ n. held (map (arrived_of p) (early_all p s r senders early) ++ (record { pt = 0; header = record { entry = area_me p s r (link_class p l); place = if n == 0 then 0 else area_start p r (link_class p l) + filled p (link_class p l) early; delivered = n; header = link_header p k l } }) ∷ []) (length (links_to p r))) (delivered-area k)
-        ∙ ap (λ v. held v (length (links_to p r)))
+        ap (λ n. unexpected_list (map (arrived_of p) (early_all p s r senders early) ++ (record { pt = 0; header = record { entry = area_me p s r (link_class p l); place = if n == 0 then 0 else area_start p r (link_class p l) + filled p (link_class p l) early; delivered = n; header = link_header p k l } }) ∷ []) (length (links_to p r))) (delivered-area k)
+        ∙ ap (λ v. unexpected_list v (length (links_to p r)))
         (sym (map-append (arrived_of p) (early_all p s r senders early) (early_of p s r senders early (came l bs) ∷ []))
         ∙ ap (map (arrived_of p)) (sym (early_from-push senders [] early)))
 
     -- ---- the step
-    abbrev state_as : Seen → List ℕ → List Linked → Held → Table Waiting → ℕ → State
+    abbrev state_as : Seen → List ℕ → List Linked → UnexpectedList → Table Waiting → ℕ → State
     state_as g m es hs q n = record (view (annex_of p s r early) p inputs s r g) {
       limits = record (view (annex_of p s r early) p inputs s r g).limits { entries = n + length (own p r) };
       memory = m;

@@ -4,10 +4,10 @@ use Rattle.std.proofs.lemmas.Bool.{ne_eqb, and_from, false_from_ne_true, cases_e
 use Rattle.std.proofs.lemmas.List.Elements.{filter-append}
 use Rattle.ni_model.specs.Append.{each_counted, append, append_fault, each_gone, frees, is_within, need}
 use Rattle.ni_model.specs.Counts.{bump, successes, plus}
-use Rattle.ni_model.specs.Headers.{allows, finds, found_in, left_in, Held, held}
+use Rattle.ni_model.specs.Headers.{allows, finds, found_in, left_in, UnexpectedList, unexpected_list}
 use Rattle.ni_model.specs.Tables.{Live, change, Table, change_one, changed, handle, is_live}
 use Rattle.ni_model.specs.declared.Linked.{Linked}
-use Rattle.ni_model.specs.declared.Noted.{Noted}
+use Rattle.ni_model.specs.declared.IndexedHeader.{IndexedHeader}
 use Rattle.op_laws.proofs.Bytes.{length-combined, length-part}
 use Rattle.op_laws.specs.Combining.{CombineStarts}
 use Rattle.plan_core.proofs.Flat.{flat-same, part_flat, write_flat, within_flat}
@@ -129,7 +129,7 @@ with_true false a e = refl
 pub record IsEarly (annex : Annex) (p : Plan) (r : ℕ) (x : Early) : Type 0 where
   pub here : IsLinkHere p r x.came.link
   pub size : length x.came.bytes ≡ (link p x.came.link).length
-  -- its bytes lie behind the cells, at its place
+  -- its bytes lie after the cells, at its place
   pub lies : (cells : List ℕ) → length cells ≡ region_length p r → part x.place (link p x.came.link).length (cells ++ annex.tail) ≡ stored p x.came
   pub inside : x.place + (link p x.came.link).length ≤ region_length p r + length annex.tail
 
@@ -353,7 +353,7 @@ module _ (starts : CombineStarts) (annex : Annex) (p : Plan) (inputs : Inputs) (
   of_here c xs x i = let q = In-filter_cases (goes p c) x xs i in (q.0, eqb-true _ _ q.1)
 
   -- the headers go, and no queue hears of it
-  none-gone : (rank limit given : ℕ) (es : List Linked) (hs : Held) (stay : List Noted) (xs : List Early) (eqs : Table Waiting)
+  none-gone : (rank limit given : ℕ) (es : List Linked) (hs : UnexpectedList) (stay : List IndexedHeader) (xs : List Early) (eqs : Table Waiting)
       → each_gone (record { rank = rank; limit = limit; indices = Some (record { eq = None; priority = es; overflow = annex.before }) ∷ []; given = given; headers = hs }) stay (map (arrived_of p) xs) eqs ≡ eqs
   none-gone rank limit given es hs stay [] eqs = refl
   none-gone rank limit given es hs stay (x ∷ xs) eqs =
@@ -366,10 +366,10 @@ module _ (starts : CombineStarts) (annex : Annex) (p : Plan) (inputs : Inputs) (
       either false e = refl
 
   -- the state in which cell c is appended, once its bytes are there
-  abbrev filled_by : Seen → List Noted → List Linked → ℕ → List ℕ → State
+  abbrev filled_by : Seen → List IndexedHeader → List Linked → ℕ → List ℕ → State
   filled_by g hs es n m = record (view annex p inputs s r g) {
     memory = m;
-    headers = held hs annex.unexpected;
+    headers = unexpected_list hs annex.unexpected;
     indices = Some (record { eq = None; priority = es; overflow = annex.before }) ∷ [];
     entries_given = n;
   }
@@ -382,7 +382,7 @@ module _ (starts : CombineStarts) (annex : Annex) (p : Plan) (inputs : Inputs) (
       omega (arith, inside, whole)
 
   -- the append isn't refused
-  fault_at : (c : ℕ) → In c (own p r) → (g : Seen) (hs : List Noted) (es : List Linked) (n : ℕ) (m : List ℕ) → start_in p (own p r) c + (cell p c).length ≤ length m
+  fault_at : (c : ℕ) → In c (own p r) → (g : Seen) (hs : List IndexedHeader) (es : List Linked) (n : ℕ) (m : List ℕ) → start_in p (own p r) c + (cell p c).length ≤ length m
       → length es < length (own p r) → n < top → append_fault 0 (appended_entry p s c) (parts_of (filled_by g hs es n m)) ≡ None
   fault_at c own_c g hs es n m fits few stamps =
       need4 true (is_live (cell_ct p s c) (view annex p inputs s r g).cts) _ (is_within (start_in p (own p (cell p c).rank) c) (cell p c).length (length m)) Stale Stale NoSpace OutOfRegion
@@ -444,7 +444,7 @@ module _ (starts : CombineStarts) (annex : Annex) (p : Plan) (inputs : Inputs) (
               eqs = each_gone (side_of (filled_by g (map (arrived_of p) xs) es n (view annex p inputs s r (took g (map early_came (here_of c xs)))).memory)) u t (view annex p inputs s r g).eqs;
             }) found (left-is c i xs facts)
             ∙ ap₂ (λ k q. record (filled_by g (map (arrived_of p) (left_of c xs)) (es ++ cell_linked n c ∷ []) (n + 1) (view annex p inputs s r (took g (map early_came (here_of c xs)))).memory) { cts = k; eqs = q })
-            b.cts (none-gone r (length annex.before + length (own p r)) n es (held (map (arrived_of p) xs) annex.unexpected) (map (arrived_of p) (left_of c xs)) (here_of c xs) (view annex p inputs s r g).eqs);
+            b.cts (none-gone r (length annex.before + length (own p r)) n es (unexpected_list (map (arrived_of p) xs) annex.unexpected) (map (arrived_of p) (left_of c xs)) (here_of c xs) (view annex p inputs s r g).eqs);
         sized = b.sized;
       }
 

@@ -51,7 +51,7 @@ use Rattle.plan_start.proofs.Areas.{length-blank, length-links}
 use Rattle.plan_start.proofs.Starting.{flat-length, length-from_to, need4, room, none_of, above}
 
 abbrev nothing_beside : Annex
-nothing_beside = record { tail = []; behind = 0; before = []; unexpected = 0 }
+nothing_beside = record { tail = []; after = 0; before = []; unexpected = 0 }
 
 -- ---- small facts
 length-placed : {X Y : Type 0} (f : ℕ → X → Y) (i : ℕ) (xs : List X) → length (placed f i xs) ≡ length xs
@@ -322,9 +322,9 @@ module _ (p : Plan) (inputs : Inputs) (sound : SoundPlan p (length inputs)) (fit
       at true = tt
       at false = may-start l (works-along p r l i) (cell p (link p l).target).op refl
 
-  -- ---- all calls, one behind the other
+  -- ---- all calls, one after the other
 
-  -- calls that are made for the members of a list: each passes behind those of the members before it
+  -- calls that are made for the members of a list: each passes after those of the members before it
   pass-list : {X : Type 0} (f : X → Call) (s : State) (front back : List X) (ys : List Call)
       → ((before : List X) (x : X) (after : List X) → front ++ back ≡ before ++ x ∷ after → MayMake k (own p r) (f x) (calls_made k (own p r) (map f before) s) × (call_fault k (own p r) (f x) (calls_made k (own p r) (map f before) s) ≡ None))
       → AllPass k (own p r) ys (calls_made k (own p r) (map f (front ++ back)) s)

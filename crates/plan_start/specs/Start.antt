@@ -9,7 +9,7 @@ use Rattle.ptl_types.specs.declared.entries.UnexpectedHeader.{UnexpectedHeader}
 use Rattle.ptl_types.specs.declared.entries.List.TheVariants.{Priority}
 use Rattle.ptl_types.specs.Operations.{bytes_of}
 use Rattle.ptl_types.specs.Elements.{part, written, combined}
-use Rattle.ni_model.specs.declared.Noted.{Noted}
+use Rattle.ni_model.specs.declared.IndexedHeader.{IndexedHeader}
 use Rattle.ni_model.specs.Headers.{found_in}
 use Rattle.ni_model.specs.Append.{append_fault}
 use Rattle.ni_model.specs.State.{State, parts_of}
@@ -56,7 +56,7 @@ unfoldable pub bring : ℕ → OwnCell → UnexpectedHeader → List ℕ → Lis
 bring longest c u memory = if is_used longest c u && lies_in c u (length memory) then brought c u memory else memory
 
 -- these headers, one after the other
-abbrev pub bring_all : ℕ → OwnCell → List Noted → List ℕ → List ℕ
+abbrev pub bring_all : ℕ → OwnCell → List IndexedHeader → List ℕ → List ℕ
 bring_all longest c [] memory = memory
 bring_all longest c (a ∷ hs) memory = bring_all longest c hs (bring longest c a.header memory)
 
@@ -64,7 +64,7 @@ bring_all longest c (a ∷ hs) memory = bring_all longest c hs (bring longest c 
 
 -- what the headers that the cell's entry finds brought is in the cell
 abbrev pub with_brought : ℕ → Handle → OwnCell → State → State
-with_brought longest ct c s = record s { memory = bring_all longest c (found_in 0 (entry_of ct c) s.headers.noted) s.memory }
+with_brought longest ct c s = record s { memory = bring_all longest c (found_in 0 (entry_of ct c) s.headers.unexpected) s.memory }
 
 -- and then its entry is appended; a refused append changes nothing
 unfoldable pub cell_started : ℕ → (ℕ → ℕ) → Handle → OwnCell → State → State
@@ -86,7 +86,7 @@ rank_started longest k cells go own s = go_raised (counter_at k cells go) (cells
 -- ---- what holds of each start of a plan's ranks
 
 -- what each of these headers brought is used, and lies in a region of this size
-abbrev pub AllUsed : ℕ → OwnCell → ℕ → List Noted → Type 0
+abbrev pub AllUsed : ℕ → OwnCell → ℕ → List IndexedHeader → Type 0
 AllUsed longest c size [] = Unit {0}
 AllUsed longest c size (a ∷ hs) =
     (is_used longest c a.header ≡ true) × (lies_in c a.header size ≡ true) × AllUsed longest c size hs
@@ -95,7 +95,7 @@ AllUsed longest c size (a ∷ hs) =
 abbrev pub AreAccepted : ℕ → Slots → List ℕ → List OwnCell → State → Type 0
 AreAccepted longest k cells [] s = Unit {0}
 AreAccepted longest k cells (c ∷ cs) s =
-    AllUsed longest c (length s.memory) (found_in 0 (entry_of (counter_at k cells c.number) c) s.headers.noted)
+    AllUsed longest c (length s.memory) (found_in 0 (entry_of (counter_at k cells c.number) c) s.headers.unexpected)
     × (append_fault 0 (entry_of (counter_at k cells c.number) c)
     (parts_of (with_brought longest (counter_at k cells c.number) c s)) ≡ None)
     × AreAccepted longest k cells cs (cell_started longest k.me (counter_at k cells c.number) c s)

@@ -6,8 +6,8 @@ use Rattle.ptl_types.specs.declared.elements.AtomicOp.{AtomicOp}
 use Rattle.ptl_types.specs.declared.elements.ElemType.{ElemType}
 use Rattle.ptl_types.specs.Elements.{combined, starting}
 use Rattle.ni_model.specs.declared.Linked.{Linked}
-use Rattle.ni_model.specs.declared.Noted.{Noted}
-use Rattle.ni_model.specs.Headers.{held}
+use Rattle.ni_model.specs.declared.IndexedHeader.{IndexedHeader}
+use Rattle.ni_model.specs.Headers.{unexpected_list}
 use Rattle.ni_model.specs.Tables.{handle}
 use Rattle.ni_model.specs.State.{State}
 use Rattle.plan_core.specs.Plan.{Plan, cell, link}
@@ -29,7 +29,7 @@ pub record Early : Type 0 where
   pub place : ℕ
 
 -- its header
-abbrev pub arrived_of : Plan → Early → Noted
+abbrev pub arrived_of : Plan → Early → IndexedHeader
 arrived_of p x = record {
   pt = 0;
   header = record { entry = x.entry; place = x.place; delivered = (link p x.came.link).length; header = link_header p x.slots x.came.link };
@@ -77,7 +77,7 @@ area_linked p s r early k = record {
 abbrev pub annex_of : Plan → Slots → ℕ → List Came → Annex
 annex_of p s r early = record {
   tail = flat_map (area p r early) (classes p r);
-  behind = areas_length p r;
+  after = areas_length p r;
   before = map (area_linked p s r early) (classes p r);
   unexpected = length (links_to p r);
 }
@@ -103,7 +103,7 @@ early_all p s r senders early = early_from p s r senders [] early
 -- the interface of rank r that has appended the entries of some of its cells, with these headers left
 abbrev pub partly : Annex → Plan → Inputs → Slots → ℕ → Seen → List Early → List Linked → ℕ → State
 partly annex p inputs s r g xs entries stamps = record (view annex p inputs s r g) {
-  headers = held (map (arrived_of p) xs) annex.unexpected;
+  headers = unexpected_list (map (arrived_of p) xs) annex.unexpected;
   indices = Some (record { eq = None; priority = entries; overflow = annex.before }) ∷ [];
   entries_given = stamps;
 }
@@ -119,6 +119,6 @@ waiting_view p inputs s r senders early g =
 abbrev pub early_came : Early → Came
 early_came x = x.came
 
--- behind what came before
+-- after what came before
 abbrev pub took : Seen → List Came → Seen
 took g arrived = record g { came = g.came ++ arrived }

@@ -26,9 +26,9 @@ pub struct Site {
 }
 
 impl Model for Site {
-    ghost use Rattle.plan_steps.specs.Site.{IsSite, Site as Begun};
+    ghost use Rattle.plan_steps.specs.Site.{IsSite, Site};
 
-    ghost Value = { Begun };
+    ghost Value = { Site };
 
     ghost view = { λ s. record { members = s.members.items; first = s.first; exits = s.exits.items; sources = s.sources.items; ty = s.ty; length = s.length; holding = s.holding.items } };
 
@@ -166,7 +166,7 @@ impl Site {
         self.first + place
     }
 
-    /// A cell behind the entries.
+    /// A cell after the entries.
     pub fn further(&self, j: u32) -> u32
         requires { j ≤ 262144 }
         ensures told { result ≡ further self.now j }

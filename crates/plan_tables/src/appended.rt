@@ -5,8 +5,8 @@ ghost use Rattle.ptl_types.specs.declared.steps.Call.TheVariants.{CtCell, Overfl
 ghost use Rattle.plan_core.specs.Plan.{all_cells, cell};
 ghost use Rattle.plan_calls.specs.Works.Work.{Along, Tell};
 ghost use Rattle.plan_calls.specs.Areas.{areas_length, classes, region_length};
-ghost use Rattle.plan_calls.specs.Bits.{bits_above as bits};
-ghost use Rattle.plan_calls.specs.Calls.{append_call as append_call_of, area_call, cell_start, trigger};
+ghost use Rattle.plan_calls.specs.Bits.{bits_above};
+ghost use Rattle.plan_calls.specs.Calls.{append_call, area_call, cell_start, trigger};
 ghost use Rattle.plan_tables.specs.Tables.{IsTabled};
 ghost use Rattle.plan_tables.specs.AreaTables.{area_counts, area_sums};
 
@@ -24,7 +24,7 @@ fn push_area(
     length: u64,
 ) -> Result<(), NoMemory>
     requires { class < 256 }
-    ensures { IfOk result (λ u. calls.new.items ≡ calls.old.items ++ (if nat_lt 0 count then Overflow start length (bits class 0 * 2 ^ 16) (2 ^ 40 - 1) ∷ [] else [])) }
+    ensures { IfOk result (λ u. calls.new.items ≡ calls.old.items ++ (if nat_lt 0 count then Overflow start length (bits_above class 0 * 2 ^ 16) (2 ^ 40 - 1) ∷ [] else [])) }
 {
     if 0 < count {
         let area = Call::Overflow {
@@ -38,25 +38,25 @@ fn push_area(
     Ok(())
 }
 
-/// The areas of a rank, by class, behind so many bytes of its cells. Answers where the last ends. The counts decide which areas
+/// The areas of a rank, by class, after so many bytes of its cells. Answers where the last ends. The counts decide which areas
 /// there are, not the bytes: a barrier's messages carry none.
 pub(crate) fn add_area_calls(
     calls: &mut Vec<Call>,
     plan: &Plan,
     areas: &Areas,
     r: Rank,
-    behind: u64,
+    after_cells: u64,
 ) -> Result<u64, NoMemory>
     requires tabled { IsTabled plan.now }
     requires rank { r < plan.now.ranks }
     requires counts { areas.now.counts ≡ area_counts plan.now }
     requires bytes { areas.now.bytes ≡ area_sums plan.now }
-    requires behind { behind ≡ region_length plan.now r }
+    requires after_cells { after_cells ≡ region_length plan.now r }
     ensures calls { IfOk result (λ end. calls.new.items ≡ calls.old.items ++ map (area_call plan.now r) (classes plan.now r)) }
     ensures end { IfOk result (λ end. end ≡ region_length plan.now r + areas_length plan.now r) }
 {
     let _ = plan.ranks();
-    let mut start = behind;
+    let mut start = after_cells;
     for class in 0..81u32 {
         let key = r as usize * 81 + class as usize;
         let count = areas.counts.at(key);
@@ -122,7 +122,7 @@ pub(crate) fn add_append_calls(
     requires cells { (i : ℕ) → i < length own.now → get_or own.now i 0 < length plan.now.cells }
     requires rank { (i : ℕ) → i < length own.now → (cell plan.now (get_or own.now i 0)).rank ≡ r }
     requires starts { starts.now ≡ map (cell_start plan.now) (all_cells plan.now) }
-    ensures { IfOk result (λ u. calls.new.items ≡ calls.old.items ++ map (append_call_of plan.now r) own.now) }
+    ensures { IfOk result (λ u. calls.new.items ≡ calls.old.items ++ map (append_call plan.now r) own.now) }
 {
     for c in own {
         push_call(calls, append_call(plan, starts, r, *c))?;

@@ -4,8 +4,8 @@ ghost use Rattle.std.specs.Prelude.{◌≡◌, ◌<◌, ◌≤◌, ◌+◌, ◌*
 ghost use Rattle.ptl_types.specs.declared.steps.Call.TheVariants.{CtCell};
 ghost use Rattle.plan_core.specs.Plan.{all_cells, cell, link};
 ghost use Rattle.plan_calls.specs.Works.Work.{Along, Tell};
-ghost use Rattle.plan_calls.specs.Bits.{bits_above as bits, cell_bits as cell_bits_of, class_of as class, op_number as op_number_of, type_number as type_number_of};
-ghost use Rattle.plan_calls.specs.Calls.{append_call as append_call_of, cell_start, send_act as send_act_of, trigger};
+ghost use Rattle.plan_calls.specs.Bits.{bits_above, cell_bits, class_of, op_number, type_number};
+ghost use Rattle.plan_calls.specs.Calls.{append_call, cell_start, send_act, trigger};
 ghost use Rattle.plan_tables.specs.Tables.{IsTabled};
 
 use crate::reading::{cell_at, from_rank, link_at, to_rank};
@@ -14,7 +14,7 @@ use ptl_types::{AckRequest, Act, AtomicOp, Call, ElemType, NoMemory, Rank};
 
 /// The number of an operation in the match bits.
 fn op_number(op: AtomicOp) -> u64
-    ensures told { result ≡ op_number_of op }
+    ensures told { result ≡ op_number op }
     ensures few { result < 10 }
 {
     match op {
@@ -33,7 +33,7 @@ fn op_number(op: AtomicOp) -> u64
 
 /// The number of a type in the match bits.
 fn type_number(ty: ElemType) -> u64
-    ensures told { result ≡ type_number_of ty }
+    ensures told { result ≡ type_number ty }
     ensures few { result < 8 }
 {
     match ty {
@@ -50,7 +50,7 @@ fn type_number(ty: ElemType) -> u64
 
 /// The class of what comes to a cell: 0 for puts, else by operation and type, below 81.
 pub(crate) fn class_of(op: Option<AtomicOp>, ty: ElemType) -> u64
-    ensures told { result ≡ class op ty }
+    ensures told { result ≡ class_of op ty }
     ensures few { result < 81 }
 {
     match op {
@@ -63,7 +63,7 @@ pub(crate) fn class_of(op: Option<AtomicOp>, ty: ElemType) -> u64
 pub(crate) fn bits_of(class: u64, cell: u64) -> u64
     requires class { class < 256 }
     requires cell { cell < 2 ^ 24 }
-    ensures told { result ≡ bits class cell * 2 ^ 16 }
+    ensures told { result ≡ bits_above class cell * 2 ^ 16 }
     ensures few { result + 65536 ≤ 2 ^ 56 }
 {
     ((256 + class) * 16777216 + cell) * 65536
@@ -73,7 +73,7 @@ pub(crate) fn bits_of(class: u64, cell: u64) -> u64
 fn cell_bits(plan: &Plan, c: u32) -> u64
     requires tabled { IsTabled plan.now }
     requires cell { c < length plan.now.cells }
-    ensures told { result ≡ cell_bits_of plan.now c * 2 ^ 16 }
+    ensures told { result ≡ cell_bits plan.now c * 2 ^ 16 }
     ensures few { result + 65536 ≤ 2 ^ 56 }
 {
     let cell = cell_at(plan, c);
@@ -96,7 +96,7 @@ pub(crate) fn append_call(plan: &Plan, starts: &[u64], r: Rank, c: u32) -> Call
     requires cell { c < length plan.now.cells }
     requires rank { (cell plan.now c).rank ≡ r }
     requires starts { starts.now ≡ map (cell_start plan.now) (all_cells plan.now) }
-    ensures { result ≡ append_call_of plan.now r c }
+    ensures { result ≡ append_call plan.now r c }
 {
     let _ = r;
     Call::MeAppend {
@@ -113,7 +113,7 @@ fn send_act(plan: &Plan, starts: &[u64], l: u32) -> Act
     requires tabled { IsTabled plan.now }
     requires link { l < length plan.now.links }
     requires starts { starts.now ≡ map (cell_start plan.now) (all_cells plan.now) }
-    ensures { result ≡ send_act_of plan.now l }
+    ensures { result ≡ send_act plan.now l }
 {
     let link = link_at(plan, l);
     let target = cell_at(plan, link.target);

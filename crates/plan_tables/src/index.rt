@@ -1,7 +1,7 @@
 //! The tables over a whole plan from which each rank's calls are made.
 
 ghost use Rattle.std.specs.Prelude.{ℕ, ◌≡◌, ◌<◌, ◌≤◌, ◌^◌, IfOk, get_or, length};
-ghost use Rattle.plan_core.specs.Plan.{cell, out_links, own as own_of};
+ghost use Rattle.plan_core.specs.Plan.{cell, out_links, own};
 ghost use Rattle.plan_calls.specs.Areas.{links_to, region_length};
 ghost use Rattle.plan_tables.specs.Tables.{IsTabled};
 ghost use Rattle.plan_tables.specs.Ranks.{IsIndex};
@@ -62,7 +62,7 @@ impl Index {
         requires tabled { IsTabled plan.now }
         requires index { IsIndex plan.now self.now }
         requires rank { r < plan.now.ranks }
-        ensures told { result.now ≡ own_of plan.now r }
+        ensures told { result.now ≡ own plan.now r }
         ensures cells { (i : ℕ) → i < length result.now → get_or result.now i 0 < length plan.now.cells }
         ensures ranks { (i : ℕ) → i < length result.now → (cell plan.now (get_or result.now i 0)).rank ≡ r }
         ensures few { length result.now ≤ length plan.now.cells }
@@ -98,7 +98,7 @@ impl Index {
     }
 
     /// The bytes of a rank's cells.
-    pub(crate) fn behind(&self, plan: &Plan, r: Rank) -> u64
+    pub(crate) fn after_cells(&self, plan: &Plan, r: Rank) -> u64
         requires index { IsIndex plan.now self.now }
         requires rank { r < plan.now.ranks }
         ensures { result ≡ region_length plan.now r }

@@ -2,7 +2,7 @@
 
 ghost use Rattle.std.specs.Prelude.{ℕ, ◌≡◌, ◌<◌, ◌≤◌, ◌+◌, ◌*◌, ◌^◌, ◌++◌, ◌∷◌, [], IfOk, count_by, get_or, length, map, max, if◌then◌else◌};
 ghost use Rattle.plan_core.specs.Plan.{from_to, link, own as own_of, out_links};
-ghost use Rattle.plan_calls.specs.Works.{done_threshold, is_message as is_message_of};
+ghost use Rattle.plan_calls.specs.Works.{done_threshold, is_message};
 ghost use Rattle.plan_calls.specs.Areas.{areas_length, classes, longest as longest_of, region_length};
 ghost use Rattle.plan_calls.specs.Calls.{late_calls, prepare_calls};
 ghost use Rattle.plan_calls.specs.Limits.{limits_for};
@@ -44,7 +44,7 @@ impl Model for RankTable {
 /// Whether a link sends a message.
 fn is_message(plan: &Plan, l: u32) -> bool
     requires { l < length plan.now.links }
-    ensures { result ≡ is_message_of plan.now l }
+    ensures { result ≡ is_message plan.now l }
 {
     !matches!(link_at(plan, l).kind, LinkKind::Bump)
 }
@@ -52,7 +52,7 @@ fn is_message(plan: &Plan, l: u32) -> bool
 /// 1 for a message, else 0.
 fn one_message(plan: &Plan, l: u32) -> u64
     requires { l < length plan.now.links }
-    ensures told { result ≡ (if is_message_of plan.now l then 1 else 0) }
+    ensures told { result ≡ (if is_message plan.now l then 1 else 0) }
     ensures few { result ≤ 1 }
 {
     if is_message(plan, l) { 1 } else { 0 }
@@ -61,7 +61,7 @@ fn one_message(plan: &Plan, l: u32) -> u64
 /// How many of these links send messages.
 fn count_messages(plan: &Plan, links: &[u32]) -> u64
     requires links { (i : ℕ) → i < length links.now → get_or links.now i 0 < length plan.now.links }
-    ensures told { result ≡ count_by (is_message_of plan.now) links.now }
+    ensures told { result ≡ count_by (is_message plan.now) links.now }
     ensures few { result ≤ length links.now }
 {
     let mut count = 0u64;
@@ -100,10 +100,10 @@ fn prepare(alloc: Global, plan: &Plan, index: &Index, r: Rank) -> Result<(Vec<Ca
 {
     let own = index.own_at(plan, r);
     let out = index.out_at(plan, r);
-    let behind = index.behind(plan, r);
+    let after_cells = index.after_cells(plan, r);
     let mut calls = Vec::new(alloc);
     push_call(&mut calls, Call::PtAlloc)?;
-    let length = add_area_calls(&mut calls, plan, &index.areas, r, behind)?;
+    let length = add_area_calls(&mut calls, plan, &index.areas, r, after_cells)?;
     push_call(&mut calls, Call::CtDone)?;
     add_counter_calls(&mut calls, own)?;
     let remote = plan.remote();
@@ -274,7 +274,7 @@ impl RankTable {
         self.done
     }
 
-    /// The bytes of its region: its cells, and behind them its areas.
+    /// The bytes of its region: its cells, and after them its areas.
     pub fn region(&self) -> u64
         ensures { result ≡ self.now.region }
     {

@@ -4,7 +4,7 @@ ghost use Rattle.std.specs.Prelude.{◌≡◌, ◌<◌, ◌+◌, ◌^◌, ◌++�
 ghost use Rattle.plan_core.specs.Plan.{all_cells, cell};
 ghost use Rattle.plan_calls.specs.Areas.{region_length};
 ghost use Rattle.plan_calls.specs.Calls.{cell_start};
-ghost use Rattle.plan_tables.specs.Tables.{IsTabled, all_ranks, rank_of as rank_of_cell};
+ghost use Rattle.plan_tables.specs.Tables.{IsTabled, all_ranks, rank_of};
 
 use crate::reading::{cell_at, rank_of};
 use crate::tallies::Tallies;
@@ -21,14 +21,14 @@ pub(crate) struct Starts {
     pub lengths: Tallies,
 }
 
-/// Places a cell behind those of its rank that are placed.
+/// Places a cell after those of its rank that are placed.
 fn place(starts: &mut Vec<u64>, lengths: &mut Tallies, plan: &Plan, c: u32) -> Result<(), NoMemory>
     requires tabled { IsTabled plan.now }
     requires cell { c < length plan.now.cells }
     requires ranks { length lengths.old ≡ plan.now.ranks }
-    requires fits { get_or lengths.old (rank_of_cell plan.now c) 0 + (cell plan.now c).length < 2 ^ 64 }
-    ensures starts { IfOk result (λ u. starts.new.items ≡ starts.old.items ++ get_or lengths.old (rank_of_cell plan.now c) 0 ∷ []) }
-    ensures lengths { IfOk result (λ u. lengths.new ≡ set lengths.old (rank_of_cell plan.now c) (get_or lengths.old (rank_of_cell plan.now c) 0 + (cell plan.now c).length)) }
+    requires fits { get_or lengths.old (rank_of plan.now c) 0 + (cell plan.now c).length < 2 ^ 64 }
+    ensures starts { IfOk result (λ u. starts.new.items ≡ starts.old.items ++ get_or lengths.old (rank_of plan.now c) 0 ∷ []) }
+    ensures lengths { IfOk result (λ u. lengths.new ≡ set lengths.old (rank_of plan.now c) (get_or lengths.old (rank_of plan.now c) 0 + (cell plan.now c).length)) }
 {
     let rank = rank_of(plan, c) as usize;
     let start = lengths.at(rank);

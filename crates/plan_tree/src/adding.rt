@@ -31,7 +31,7 @@ fn draw(alloc: Global, plan: &mut Plan, step: &CollStep, site: &Site) -> Result<
     }
 }
 
-/// Adds a step of the shape to the plan: its cells with their links, behind those that are there. The members' exits become
+/// Adds a step of the shape to the plan: its cells with their links, after those that are there. The members' exits become
 /// the step's, and the cells that hold the new buffer are kept.
 ///
 /// # Errors

@@ -92,14 +92,14 @@ new_op p k i w = record { number = i; deed = deed_of p k w; ct = cell_ct p k (ce
 pub sum_step : (i n : ℕ) → i + 1 + n ≡ i + suc n
 sum_step i n = omega arith
 
--- a list that was put behind another from place i + 1 on
+-- a list that was put after another from place i + 1 on
 pub placed_step : {X Y : Type 0} (f : ℕ → X → Y) (ys : List Y) (i : ℕ) (x : X) (xs : List X) → (ys ++ f i x ∷ []) ++ placed f (i + 1) xs ≡ ys ++ placed f i (x ∷ xs)
 placed_step f ys i x xs = append_assoc ys (f i x ∷ []) (placed f (i + 1) xs) ∙ ap (λ n. ys ++ f i x ∷ placed f n xs) (add-one i)
 
 abbrev pub cts_with : State → List (Live Count) → ℕ → State
 cts_with s xs n = record s { cts = record s.cts { live = xs; given = n } }
 
--- the calls of two lists are those of one behind the other
+-- the calls of two lists are those of one after the other
 pub calls-append : (k : Slots) (cells : List ℕ) (xs ys : List Call) (s : State) → calls_made k cells (xs ++ ys) s ≡ calls_made k cells ys (calls_made k cells xs s)
 calls-append k cells [] ys s = refl
 calls-append k cells (x ∷ xs) ys s = calls-append k cells xs ys (call_made k cells x s)

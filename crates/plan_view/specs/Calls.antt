@@ -7,7 +7,7 @@ use Rattle.ptl_types.specs.declared.elements.ElemType.{ElemType}
 use Rattle.ptl_types.specs.declared.headers.AckRequest.{AckRequest}
 use Rattle.ptl_types.specs.declared.entries.Entry.{Entry}
 use Rattle.ptl_types.specs.declared.entries.Descriptor.{Descriptor}
-use Rattle.ptl_types.specs.declared.entries.List.{List as Place}
+use Rattle.ptl_types.specs.declared.entries.List.{List as EntryList}
 use Rattle.ptl_types.specs.declared.entries.List.TheVariants.{Priority, Overflow as InOverflow}
 use Rattle.ptl_types.specs.declared.calls.NiFault.{NiFault}
 use Rattle.ptl_types.specs.declared.calls.PutArgs.{PutArgs}
@@ -110,7 +110,7 @@ deed_at k cells BumpDone = IncDeed (done_ct k) (successes 1)
 -- ---- the calls
 
 -- an entry at the end of a list of index 0
-abbrev pub with_entry : ℕ → Place → Entry → State → State
+abbrev pub with_entry : ℕ → EntryList → Entry → State → State
 with_entry slot place e s = with_parts (append slot 0 place e (parts_of s)).parts s
 
 -- one call, where it isn't refused, on an interface whose own cells are these

@@ -15,7 +15,7 @@ pub record Slots : Type 0 where
 abbrev pub done_ct : Slots → Handle
 done_ct s = handle (s.ct 0) 0
 
--- the counters of these cells come behind it, in their order
+-- the counters of these cells come after it, in their order
 abbrev pub counter_at : Slots → List ℕ → ℕ → Handle
 counter_at s cells c = handle (s.ct (suc (place_in cells c))) (suc (place_in cells c))
 

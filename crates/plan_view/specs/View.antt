@@ -10,7 +10,7 @@ use Rattle.ni_model.specs.declared.Linked.{Linked}
 use Rattle.ni_model.specs.declared.Bound.{Bound}
 use Rattle.ni_model.specs.Tables.{Table, Live, handle, changed, no_things}
 use Rattle.ni_model.specs.Counts.{successes, bump}
-use Rattle.ni_model.specs.Headers.{held}
+use Rattle.ni_model.specs.Headers.{unexpected_list}
 use Rattle.ni_model.specs.State.{State}
 use Rattle.plan_core.specs.Plan.{Plan, cell, own, out_links}
 use Rattle.plan_core.specs.Values.{Inputs, initial}
@@ -23,11 +23,11 @@ use Rattle.plan_view.specs.Slots.{Slots, done_ct, cell_ct, the_md}
 use Rattle.plan_view.specs.Deeds.{operation}
 use Rattle.plan_view.specs.Calls.{cell_entry as entry_with, whole_region}
 
--- what an interface has beside its cells: the bytes behind them in the region, the overflow entries, which were appended before
+-- what an interface has beside its cells: the bytes after them in the region, the overflow entries, which were appended before
 -- theirs, and the room for headers
 pub record Annex : Type 0 where
   pub tail : List ℕ
-  pub behind : ℕ  -- the length of the tail
+  pub after : ℕ  -- the length of the tail
   pub before : List Linked
   pub unexpected : ℕ
 
@@ -65,7 +65,7 @@ limits_of annex p r = record {
 
 -- the whole region
 abbrev pub descriptor_of : Annex → Plan → Slots → ℕ → Descriptor
-descriptor_of annex p s r = whole_region (done_ct s) (region_length p r + annex.behind) p.remote
+descriptor_of annex p s r = whole_region (done_ct s) (region_length p r + annex.after) p.remote
 
 -- the counting event of cell c
 abbrev pub counter_of : Plan → Slots → ℕ → Seen → ℕ → Live Count
@@ -88,7 +88,7 @@ view annex p inputs s r g = record {
   memory = flat_map (λ c. content p g.came c (initial p inputs c)) (own p r) ++ annex.tail;
   indices = Some (record { eq = None; priority = map (entry_of annex p s) (own p r); overflow = annex.before }) ∷ [];
   entries_given = length annex.before + length (own p r);
-  headers = held [] annex.unexpected;
+  headers = unexpected_list [] annex.unexpected;
   cts = record {
     live = record { handle = done_ct s; value = g.done } ∷ map (counter_of p s r g) (own p r);
     given = suc (length (own p r));

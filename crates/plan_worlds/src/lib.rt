@@ -3,7 +3,7 @@
 #![tactic(auto)]
 
 ghost use Rattle.std.specs.Prelude.{ℕ, ◌<◌, ◌≤◌, ◌≡◌, ◌+◌, ◌*◌, [], length, count_by, sum, take, slice_index_or};
-ghost use Rattle.ptl_types.specs.declared.headers.Lane.{Lane as LaneOf};
+ghost use Rattle.ptl_types.specs.declared.headers.Lane.{Lane};
 ghost use Rattle.plan_core.specs.Members.{In};
 ghost use Rattle.plan_core.specs.Plan.{Plan};
 ghost use Rattle.plan_core.specs.Sound.{SoundPlan, AreInputsOf};
@@ -63,19 +63,19 @@ pub fn none_possible_is_rest()
 /// Under a window that no lane fills each enabled step is possible.
 pub fn wide_windows()
     ensures { (ranks : System) (window : ℕ) (scene : Scene) →
-        ((s d : ℕ) (lane : LaneOf) → length (scene.held s d lane) < window) →
+        ((s d : ℕ) (lane : Lane) → length (scene.held s d lane) < window) →
         possible_steps ranks window scene ≡ enabled_steps ranks scene }
 {}
 
 /// At a moment a lane holds, without strays, at most the plan's messages on it.
 pub fn lanes_have_room()
-    ensures { (plan : Plan) (inputs : Inputs) (slots : ℕ → Slots) (scene : Scene) (s d : ℕ) (lane : LaneOf) →
+    ensures { (plan : Plan) (inputs : Inputs) (slots : ℕ → Slots) (scene : Scene) (s d : ℕ) (lane : Lane) →
         SoundPlan plan (length inputs) → AreInputsOf plan inputs →
         IsMoment (system_of plan inputs slots) scene.world scene.held → s < plan.ranks → d < plan.ranks →
         length (owned (scene.held s d lane)) ≤ lane_messages plan s d lane }
 {}
 
-/// Behind a step each history begins with what it was.
+/// After a step each history begins with what it was.
 pub fn histories_go_on()
     ensures { (ranks : System) (scene : Scene) (step : Step) (r : ℕ) →
         IsPrefixOf (scene.world r) ((step_made ranks step scene).world r) }

@@ -45,7 +45,7 @@ impl IoTurns {
         }
     }
 
-    /// Adds a turn at the end. Want of memory changes nothing.
+    /// Adds a turn at the end. Running out of memory changes nothing.
     pub fn add(&mut self, turn: IoTurn) -> Result<(), NoMemory>
         requires { IsTurn turn }
         ensures ok { OnOk result (self.new ≡ self.old ++ turn ∷ []) }

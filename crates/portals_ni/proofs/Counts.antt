@@ -12,7 +12,7 @@ use Rattle.ni_model.specs.Append.{need}
 use Rattle.ni_model.specs.Refusals.{ct_set_fault}
 use Rattle.handle_store.proofs.StoreLemmas.{change-absent}
 use Rattle.initiator_engine.specs.Initiators.{by_fault}
-use Rattle.ni_model.specs.declared.Noted.{Noted}
+use Rattle.ni_model.specs.declared.IndexedHeader.{IndexedHeader}
 use Rattle.ni_model.specs.Tables.{Live, Table, lookup, change, changed, is_live, names, with_new}
 use Rattle.ni_model.specs.Counts.{successes, bump, counted}
 use Rattle.ni_model.specs.Append.{each_counted}
@@ -106,7 +106,7 @@ changes-twice ct a b c p q = record {
   live = λ k is. q.live k (p.live k is);
 }
 
-pub changes-each : (ct : Option Handle) (found : List Noted) (cts : Table Count) → ChangesAt ct cts (each_counted ct found cts)
+pub changes-each : (ct : Option Handle) (found : List IndexedHeader) (cts : Table Count) → ChangesAt ct cts (each_counted ct found cts)
 changes-each ct [] cts = changes-none ct cts
 changes-each ct (a ∷ found) cts = changes-twice ct cts (counted ct (successes 1) cts) _ (changes-counted ct (successes 1) cts) (changes-each ct found (counted ct (successes 1) cts))
 

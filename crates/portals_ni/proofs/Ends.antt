@@ -26,7 +26,7 @@ pub no-fault : (o : Option NiFault) → by_fault o ≡ Ok tt → o ≡ None
 no-fault None e = refl
 no-fault (Some f) e = cc
 
--- ---- want of memory
+-- ---- running out of memory
 
 pub enough-done : {A : Type 0} (o : Option NiFault) (old new : State) (x : A) → o ≡ None → MayLackMemory (ends_by o old new x) old (ends new (Ok x))
 enough-done o old new x e = rw e enough

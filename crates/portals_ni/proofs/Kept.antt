@@ -17,7 +17,7 @@ use Rattle.ptl_types.specs.declared.calls.Deed.TheVariants.{Put, Get, Atomic, Fe
 use Rattle.ni_model.specs.declared.Bound.{Bound}
 use Rattle.ni_model.specs.Counts.{total}
 use Rattle.ni_model.specs.Tables.{Table, lookup, with_new, is_live_or_none}
-use Rattle.ptl_types.specs.declared.entries.List.{List as Place}
+use Rattle.ptl_types.specs.declared.entries.List.{List as EntryList}
 use Rattle.ptl_types.specs.declared.calls.Appended.{Appended}
 use Rattle.ni_model.specs.Append.{Searched, need, search, is_within, is_allocated, linked_count, append_fault}
 use Rattle.ni_model.specs.Calls.{bound, unlinked_in}
@@ -168,7 +168,7 @@ searched-sound t u r c e f i ops pt en delete (Ok found) is unchanged searched =
     record { rank = is.rank ∙ sym keeps.rank; limit = is.limit ∙ sym keeps.limit; parts = keeps.parts; bound = is.bound; armed = is.armed; told = is.told }
 searched-sound t u r c e f i ops pt en delete (Err fault) is unchanged searched = rw unchanged.0 is
 
--- the rank and the limit of a target behind a search
+-- the rank and the limit of a target after a search
 pub search-rank : (t u : Side) (r : List ℕ) (c : Table Count) (e f : Table Waiting) (pt : ℕ) (en : Entry) (delete : Bool) (res : Result (Option UnexpectedHeader) NiFault) → All (HasPartsIn (length r)) t.indices → IfOk res (λ found. has_searched (parts u r c f) found ≡ search pt en delete (parts t r c e)) → OnOk res ((u.rank ≡ t.rank) × (u.limit ≡ t.limit))
 search-rank t u r c e f pt en delete (Ok found) all searched =
     let keeps : Keeps (parts t r c e) (parts u r c f) None = subst (λ (s : Searched). Keeps (parts t r c e) s.parts None) (sym searched) (search-keeps pt en delete (parts t r c e) all) in
@@ -220,8 +220,8 @@ append-le pt e p none =
     let part : need within OutOfRegion None ≡ None = need-later (not full) NoSpace _ room in
     within-le e.start e.length (length p.region) (need-test within OutOfRegion None part)
 
--- a target behind an append
-pub appended-keeps : (pt : ℕ) (place : Place) (en : Entry) (p q : Parts) (answer : Appended) (ct : Option Handle) → All (HasPartsIn (length p.region)) p.side.indices → append_fault pt en p ≡ None → AppendsSome pt place en p (has_appended q answer ct) → Keeps p q ct
+-- a target after an append
+pub appended-keeps : (pt : ℕ) (place : EntryList) (en : Entry) (p q : Parts) (answer : Appended) (ct : Option Handle) → All (HasPartsIn (length p.region)) p.side.indices → append_fault pt en p ≡ None → AppendsSome pt place en p (has_appended q answer ct) → Keeps p q ct
 appended-keeps pt place en p q answer ct all none is =
     subst (AppendKeeps p) (sym is.ended) (append-keeps is.slot pt place en p all (append-le pt en p none))
 

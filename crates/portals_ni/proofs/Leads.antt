@@ -6,7 +6,7 @@ use Rattle.std.proofs.lemmas.List.Elements.{All-map, All-set, All-weaker}
 use Rattle.ptl_types.specs.declared.handles.Handle.{Handle}
 use Rattle.ptl_types.specs.declared.headers.Header.{Header}
 use Rattle.ptl_types.specs.declared.entries.Entry.{Entry}
-use Rattle.ptl_types.specs.declared.entries.List.{List as Place}
+use Rattle.ptl_types.specs.declared.entries.List.{List as EntryList}
 use Rattle.ptl_types.specs.declared.entries.List.TheVariants.{Priority, Overflow}
 use Rattle.ptl_types.specs.declared.events.EventKind.TheVariants.{Search}
 use Rattle.ptl_types.specs.declared.calls.Limits.{Limits}
@@ -18,12 +18,12 @@ use Rattle.ptl_types.specs.Messages.{Sent}
 use Rattle.ni_model.specs.declared.Bound.{Bound}
 use Rattle.ni_model.specs.declared.Found.{Found}
 use Rattle.ni_model.specs.declared.Linked.{Linked}
-use Rattle.ni_model.specs.declared.Noted.{Noted}
+use Rattle.ni_model.specs.declared.IndexedHeader.{IndexedHeader}
 use Rattle.ni_model.specs.Tables.{Live, Table, change_one, changed, is_live_or_none}
 use Rattle.ni_model.specs.Counts.{successes}
 use Rattle.ni_model.specs.Queues.{Waiting, raised}
 use Rattle.ni_model.specs.Lists.{Index, index_at, queue_of}
-use Rattle.ni_model.specs.Headers.{Held, allows, no_room, oldest, found_in, left_in, without_oldest}
+use Rattle.ni_model.specs.Headers.{UnexpectedList, allows, no_room, oldest, found_in, left_in, without_oldest}
 use Rattle.ni_model.specs.Events.{message_event, unlink_event, kind_delivered, link_event, header_event, kind_taken, missed_event, is_reply, asks_event, answer_event, send_event}
 use Rattle.ni_model.specs.Arrive.{Parts, Received, received, refused, request, judged, accepted, chosen, is_overflow, is_over, counter_of, delivered, place, settled_at, settled, headers_after, delivery_raised, events_after}
 use Rattle.ni_model.specs.Answers.{Home, Returned, answered, answered_at, bound_at, came_home, lost_answer, is_due, counter_home, one_answer, awaits_less, one_less, events_home}
@@ -107,7 +107,7 @@ settled-queue : (f : Found) (h : Header) (o : Option Index) → queue_of (settle
 settled-queue f h None = refl
 settled-queue f h (Some i) = elim f.list as (λ l. queue_of (Some (settled (record f { list = l }) h i)) ≡ i.eq) [ Priority ↦ refl | Overflow ↦ refl ]
 
-headers-limit : (f : Found) (h : Header) (hs : Held) → (headers_after f h hs).limit ≡ hs.limit
+headers-limit : (f : Found) (h : Header) (hs : UnexpectedList) → (headers_after f h hs).limit ≡ hs.limit
 headers-limit f h hs = elim f.list as (λ l. (headers_after (record f { list = l }) h hs).limit ≡ hs.limit) [ Priority ↦ refl | Overflow ↦ refl ]
 
 delivery-grows : (f : Found) (h : Header) (eq : Option Handle) (eqs : Table Waiting) → Grows eqs (delivery_raised f h eq eqs)
@@ -157,12 +157,12 @@ request-lead p m = judged-lead p m (chosen m.header p.side.indices)
 
 -- ---- an append
 
-linked-queue : (place : Place) (x : Linked) (o : Option Index) → queue_of (linked_at place x o) ≡ queue_of o
+linked-queue : (place : EntryList) (x : Linked) (o : Option Index) → queue_of (linked_at place x o) ≡ queue_of o
 linked-queue place x None = refl
 linked-queue Priority x (Some i) = refl
 linked-queue Overflow x (Some i) = refl
 
-linked-lead : (slot pt : ℕ) (place : Place) (e : Entry) (p : Parts) (found : List Noted) → is_live_or_none e.ct p.cts ≡ true → PartsLead p (linked_as slot pt place e found p).parts
+linked-lead : (slot pt : ℕ) (place : EntryList) (e : Entry) (p : Parts) (found : List IndexedHeader) → is_live_or_none e.ct p.cts ≡ true → PartsLead p (linked_as slot pt place e found p).parts
 linked-lead slot pt place e p found live = record {
   indices = length-set p.side.indices pt (linked_at place (fresh (next_handle slot p.side) e) (index_at pt p.side.indices));
   headers = refl;
@@ -172,11 +172,11 @@ linked-lead slot pt place e p found live = record {
   indices_live = queue-set (linked_as slot pt place e found p).parts.eqs p.side.indices pt (linked_at place (fresh (next_handle slot p.side) e) (index_at pt p.side.indices)) (linked-queue place (fresh (next_handle slot p.side) e) (index_at pt p.side.indices));
 }
 
-taken-lead : (slot pt : ℕ) (e : Entry) (p : Parts) (found : List Noted) → is_live_or_none e.ct p.cts ≡ true → PartsLead p (linked_as slot pt Priority e found (take_all pt e p)).parts
+taken-lead : (slot pt : ℕ) (e : Entry) (p : Parts) (found : List IndexedHeader) → is_live_or_none e.ct p.cts ≡ true → PartsLead p (linked_as slot pt Priority e found (take_all pt e p)).parts
 taken-lead slot pt e p found live =
     let q : Parts = take_all pt e p in
-    let counts : CountsOn p.cts q.cts = counts-each (overflow_counter e) (found_in pt e p.side.headers.noted) p.cts in
-    let gone : Grows p.eqs q.eqs = grows-each_gone p.side (left_in pt e p.side.headers.noted) (found_in pt e p.side.headers.noted) p.eqs in
+    let counts : CountsOn p.cts q.cts = counts-each (overflow_counter e) (found_in pt e p.side.headers.unexpected) p.cts in
+    let gone : Grows p.eqs q.eqs = grows-each_gone p.side (left_in pt e p.side.headers.unexpected) (found_in pt e p.side.headers.unexpected) p.eqs in
     let linked : PartsLead q (linked_as slot pt Priority e found q).parts = linked-lead slot pt Priority e q found (grows-or-none e.ct p.cts q.cts counts.grows live) in
     record {
       indices = linked.indices;
@@ -187,13 +187,13 @@ taken-lead slot pt e p found live =
       indices_live = linked.indices_live;
     }
 
-once-lead : (slot pt : ℕ) (e : Entry) (p : Parts) (o : Option Noted) → is_live_or_none e.ct p.cts ≡ true → PartsLead p (append_once slot pt e p o).parts
+once-lead : (slot pt : ℕ) (e : Entry) (p : Parts) (o : Option IndexedHeader) → is_live_or_none e.ct p.cts ≡ true → PartsLead p (append_once slot pt e p o).parts
 once-lead slot pt e p None live = linked-lead slot pt Priority e p [] live
 once-lead slot pt e p (Some a) live = record {
   indices = refl;
   headers = refl;
   counts = counts-counted (overflow_counter e) (successes 1) p.cts;
-  queues = grows-gone (kind_taken a.header.header.kind) p.side (without_oldest pt e p.side.headers.noted) a p.eqs;
+  queues = grows-gone (kind_taken a.header.header.kind) p.side (without_oldest pt e p.side.headers.unexpected) a p.eqs;
   entries_live = λ all. all;
   indices_live = λ all. all;
 }
@@ -201,24 +201,24 @@ once-lead slot pt e p (Some a) live = record {
 abbrev AppendLead : Parts → Appends → Type 0
 AppendLead p a = PartsLead p a.parts
 
-pub append-lead : (slot pt : ℕ) (place : Place) (e : Entry) (p : Parts) → is_live_or_none e.ct p.cts ≡ true → PartsLead p (append slot pt place e p).parts
+pub append-lead : (slot pt : ℕ) (place : EntryList) (e : Entry) (p : Parts) → is_live_or_none e.ct p.cts ≡ true → PartsLead p (append slot pt place e p).parts
 unfolding append
 append-lead slot pt Priority e p live =
     either (AppendLead p) e.use_once
-    (append_once slot pt e p (oldest pt e p.side.headers.noted))
-    (linked_as slot pt Priority e (found_in pt e p.side.headers.noted) (take_all pt e p))
-    (once-lead slot pt e p (oldest pt e p.side.headers.noted) live)
-    (taken-lead slot pt e p (found_in pt e p.side.headers.noted) live)
+    (append_once slot pt e p (oldest pt e p.side.headers.unexpected))
+    (linked_as slot pt Priority e (found_in pt e p.side.headers.unexpected) (take_all pt e p))
+    (once-lead slot pt e p (oldest pt e p.side.headers.unexpected) live)
+    (taken-lead slot pt e p (found_in pt e p.side.headers.unexpected) live)
 append-lead slot pt Overflow e p live = linked-lead slot pt Overflow e p [] live
 
 -- ---- a search
 
-found-lead : (pt : ℕ) (e : Entry) (delete : Bool) (a : Noted) (p : Parts) → PartsLead p (found_header pt e delete a p)
+found-lead : (pt : ℕ) (e : Entry) (delete : Bool) (a : IndexedHeader) (p : Parts) → PartsLead p (found_header pt e delete a p)
 found-lead pt e true a p = record {
   indices = refl;
   headers = refl;
   counts = counts-same p.cts;
-  queues = grows-gone Search p.side (without_oldest pt e p.side.headers.noted) a p.eqs;
+  queues = grows-gone Search p.side (without_oldest pt e p.side.headers.unexpected) a p.eqs;
   entries_live = λ all. all;
   indices_live = λ all. all;
 }
@@ -231,7 +231,7 @@ found-lead pt e false a p = record {
   indices_live = λ all. all;
 }
 
-searched-lead : (pt : ℕ) (e : Entry) (delete : Bool) (p : Parts) (o : Option Noted) → PartsLead p (searched_at pt e delete p o).parts
+searched-lead : (pt : ℕ) (e : Entry) (delete : Bool) (p : Parts) (o : Option IndexedHeader) → PartsLead p (searched_at pt e delete p o).parts
 searched-lead pt e delete p None = record {
   indices = refl;
   headers = refl;
@@ -244,7 +244,7 @@ searched-lead pt e delete p (Some a) = found-lead pt e delete a p
 
 pub search-lead : (pt : ℕ) (e : Entry) (delete : Bool) (p : Parts) → PartsLead p (search pt e delete p).parts
 unfolding search
-search-lead pt e delete p = searched-lead pt e delete p (oldest pt e p.side.headers.noted)
+search-lead pt e delete p = searched-lead pt e delete p (oldest pt e p.side.headers.unexpected)
 
 -- ---- the initiator's parts
 

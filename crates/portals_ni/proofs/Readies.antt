@@ -18,7 +18,7 @@ use Rattle.portals_ni.specs.Pendings.{deed_in}
 use Rattle.portals_ni.specs.Sound.{IsTold}
 use Rattle.portals_ni.proofs.Firing.{Op, Ops, find-posted, ready-is}
 
--- an operation that waits behind others is found by its number
+-- an operation that waits after others is found by its number
 later : (w : Op) (ws vs : List Op) → All (λ (v : Op). w.number < v.number) vs → All (λ (v : Op). find (is_number v.number) ws ≡ Some v) vs → All (λ (v : Op). find (is_number v.number) (w ∷ ws) ≡ Some v) vs
 later w ws [] above all = All-nil (λ (v : Op). find (is_number v.number) (w ∷ ws) ≡ Some v)
 later w ws (v ∷ vs) above all =

@@ -8,7 +8,7 @@ use Rattle.ptl_types.specs.declared.handles.Handle.{Handle}
 use Rattle.ptl_types.specs.declared.handles.Count.{Count}
 use Rattle.ptl_types.specs.declared.entries.Entry.{Entry}
 use Rattle.ptl_types.specs.declared.entries.Descriptor.{Descriptor}
-use Rattle.ptl_types.specs.declared.entries.List.{List as Place}
+use Rattle.ptl_types.specs.declared.entries.List.{List as EntryList}
 use Rattle.ptl_types.specs.declared.calls.NiFault.{NiFault}
 use Rattle.ptl_types.specs.declared.calls.Deed.{Deed}
 use Rattle.ptl_types.specs.declared.calls.Deed.TheVariants.{Put, Get, Atomic, FetchAtomic, Swap, Inc, Set}
@@ -25,7 +25,7 @@ use Rattle.ni_model.specs.Arrive.{Side, request}
 use Rattle.ni_model.specs.Answers.{answered}
 use Rattle.ni_model.specs.Starts.{started}
 use Rattle.ni_model.specs.Append.{append}
-use Rattle.ni_model.specs.State.{State, Operations, Delivers, parts_of, with_parts, home_of, with_home, noted, after_request, after_answer}
+use Rattle.ni_model.specs.State.{State, Operations, Delivers, parts_of, with_parts, home_of, with_home, with_outcome, after_request, after_answer}
 use Rattle.ni_model.specs.Ready.{Fires, fires, with_posted, without_number, is_number, cancelled, waits_on, done}
 use Rattle.ni_model.specs.Refusals.{inc_passes, counts_on_live, deed_is_live, deed_passes}
 use Rattle.ni_model.specs.Append.{search}
@@ -58,7 +58,7 @@ ended-stands {A} q x call e is = subst (λ (d : Done A). Stands d.state) (sym e)
 pub made-stands : {A : Type 0} (taken : ℕ → Bool) (call : ℕ → Done A) (q : State) (x : A) → Makes taken call (ends q x) → ((slot : ℕ) → Stands (call slot).state) → Stands q
 made-stands taken call q x makes each = ended-stands q x (call makes.slot) makes.ended (each makes.slot)
 
--- want of memory changes nothing
+-- running out of memory changes nothing
 lacks-stands : {A : Type 0} (call end : Done (Result A NiFault)) (old : State) → MayLackMemory call old end → Stands old → Stands call.state → Stands end.state
 lacks-stands call end old enough is made = made
 lacks-stands call end old (lacking ok) is made = is
@@ -153,8 +153,8 @@ operations-lead s ops limit live = record {
 }
 
 -- the registers don't matter
-noted-lead : (s q : State) (o : Outcome) → Leads s q → Leads s (noted o q)
-noted-lead s q o leads = record {
+with_outcome-lead : (s q : State) (o : Outcome) → Leads s q → Leads s (with_outcome o q)
+with_outcome-lead s q o leads = record {
   limits = leads.limits;
   indices = leads.indices;
   headers = leads.headers;
@@ -187,7 +187,7 @@ freed-stands t r c e i ops d v u pt (Err fault) is unchanged freed = rw unchange
 
 -- ---- entries
 
-pub me_append-stands : (slot pt : ℕ) (place : Place) (e : Entry) (s : State) → Stands s → Stands (me_append slot pt place e s).state
+pub me_append-stands : (slot pt : ℕ) (place : EntryList) (e : Entry) (s : State) → Stands s → Stands (me_append slot pt place e s).state
 me_append-stands slot pt place e s is =
     call-stands _ s (with_parts (append slot pt place e (parts_of s)).parts s) (append slot pt place e (parts_of s)).appended is
     (λ none. parts-lead s (append slot pt place e (parts_of s)).parts (append-lead slot pt place e (parts_of s) (need-test _ _ _ (need-later _ _ _ none))))
@@ -304,9 +304,9 @@ done-stands s (Set ct to) fits is =
 pub request-stands : (s : State) (m : Sent) → Stands s → Stands (after_request s (request (parts_of s) m)).state
 request-stands s m is =
     let q = with_parts (request (parts_of s) m).parts s in
-    leads-stands s (noted (request (parts_of s) m).arrived.outcome q) (noted-lead s q (request (parts_of s) m).arrived.outcome (parts-lead s (request (parts_of s) m).parts (request-lead (parts_of s) m))) is
+    leads-stands s (with_outcome (request (parts_of s) m).arrived.outcome q) (with_outcome-lead s q (request (parts_of s) m).arrived.outcome (parts-lead s (request (parts_of s) m).parts (request-lead (parts_of s) m))) is
 
 pub answer-stands : (s : State) (m : Sent) → Stands s → Stands (after_answer s (answered (home_of s) m)).state
 answer-stands s m is =
     let q = with_home (answered (home_of s) m).home s in
-    leads-stands s (noted (answered (home_of s) m).outcome q) (noted-lead s q (answered (home_of s) m).outcome (home-lead s (answered (home_of s) m).home (answered-lead (home_of s) m))) is
+    leads-stands s (with_outcome (answered (home_of s) m).outcome q) (with_outcome-lead s q (answered (home_of s) m).outcome (home-lead s (answered (home_of s) m).home (answered-lead (home_of s) m))) is

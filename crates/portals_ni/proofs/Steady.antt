@@ -11,7 +11,7 @@ use Rattle.ptl_types.specs.declared.calls.Deed.{Deed}
 use Rattle.ptl_types.specs.declared.calls.Deed.TheVariants.{Put, Get, Atomic, FetchAtomic, Swap, Inc, Set}
 use Rattle.ptl_types.specs.Handles.{same_handle, top}
 use Rattle.ni_model.specs.declared.Bound.{Bound}
-use Rattle.ni_model.specs.declared.Noted.{Noted}
+use Rattle.ni_model.specs.declared.IndexedHeader.{IndexedHeader}
 use Rattle.ni_model.specs.Tables.{Live, Table, lookup, change, changed, is_live, is_live_or_none, with_new, without}
 use Rattle.ni_model.specs.Counts.{total, successes, bump, counted}
 use Rattle.ni_model.specs.Queues.{Waiting, add_event, raised}
@@ -54,7 +54,7 @@ pub grows-raised : (eq : Option Handle) (e : Event) (t : Table Waiting) → Grow
 grows-raised None e t = grows-same t
 grows-raised (Some h) e t = grows-changed h (add_event e) t
 
-pub grows-gone : (kind : EventKind) (s : Side) (left : List Noted) (a : Noted) (t : Table Waiting) → Grows t (gone_raised kind s left a t)
+pub grows-gone : (kind : EventKind) (s : Side) (left : List IndexedHeader) (a : IndexedHeader) (t : Table Waiting) → Grows t (gone_raised kind s left a t)
 grows-gone kind s left a t =
     let told : Table Waiting = raised (queue_at a.pt s) (header_event kind a) t in
     elim (frees s left a) as (λ b. Grows t (if b then raised (queue_at a.pt s) (free_event a.pt) told else told)) [
@@ -62,7 +62,7 @@ grows-gone kind s left a t =
       | false ↦ grows-raised (queue_at a.pt s) (header_event kind a) t
     ]
 
-pub grows-each_gone : (s : Side) (stay found : List Noted) (t : Table Waiting) → Grows t (each_gone s stay found t)
+pub grows-each_gone : (s : Side) (stay found : List IndexedHeader) (t : Table Waiting) → Grows t (each_gone s stay found t)
 grows-each_gone s stay [] t = grows-same t
 grows-each_gone s stay (a ∷ found) t =
     let next : Table Waiting = gone_raised (kind_taken a.header.header.kind) s (stay ++ found) a t in
@@ -132,7 +132,7 @@ pub counts-counted : (ct : Option Handle) (by : Count) (t : Table Count) → Cou
 counts-counted None by t = counts-same t
 counts-counted (Some h) by t = counts-changed h (bump by) t (λ c found fits. bump-fits by c fits)
 
-pub counts-each : (ct : Option Handle) (found : List Noted) (t : Table Count) → CountsOn t (each_counted ct found t)
+pub counts-each : (ct : Option Handle) (found : List IndexedHeader) (t : Table Count) → CountsOn t (each_counted ct found t)
 counts-each ct [] t = counts-same t
 counts-each ct (a ∷ found) t = counts-twice t (counted ct (successes 1) t) (each_counted ct found (counted ct (successes 1) t)) (counts-counted ct (successes 1) t) (counts-each ct found (counted ct (successes 1) t))
 

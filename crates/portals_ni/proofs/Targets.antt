@@ -3,12 +3,12 @@ use Rattle.std.proofs.Common.{◌≡◌, ℕ, ◌+◌, ◌≤◌, ◌&&◌, Bool
 use Rattle.std.specs.Prelude.{All}
 use Rattle.ptl_types.specs.declared.handles.Handle.{Handle}
 use Rattle.ptl_types.specs.declared.entries.Entry.{Entry}
-use Rattle.ptl_types.specs.declared.entries.List.{List as Place}
+use Rattle.ptl_types.specs.declared.entries.List.{List as EntryList}
 use Rattle.ptl_types.specs.declared.entries.List.TheVariants.{Priority, Overflow}
 use Rattle.ptl_types.specs.declared.calls.Outcome.TheVariants.{Dropped, Violation}
 use Rattle.ptl_types.specs.Messages.{Sent}
 use Rattle.ni_model.specs.declared.Found.{Found}
-use Rattle.ni_model.specs.declared.Noted.{Noted}
+use Rattle.ni_model.specs.declared.IndexedHeader.{IndexedHeader}
 use Rattle.ni_model.specs.Counts.{successes}
 use Rattle.ni_model.specs.Headers.{allows, no_room, oldest, found_in}
 use Rattle.ni_model.specs.Arrive.{Parts, Received, received, refused, request, judged, accepted, chosen, is_overflow, counter_of}
@@ -66,7 +66,7 @@ request-keeps p m all = judged-keeps p m (chosen m.header p.side.indices) all (�
 abbrev pub AppendKeeps : Parts → Appends → Type 0
 AppendKeeps p a = Keeps p a.parts a.counted
 
-linked-keeps : (slot pt : ℕ) (place : Place) (e : Entry) (p : Parts) (found : List Noted) → All (HasPartsIn (length p.region)) p.side.indices → e.start + e.length ≤ length p.region → AppendKeeps p (linked_as slot pt place e found p)
+linked-keeps : (slot pt : ℕ) (place : EntryList) (e : Entry) (p : Parts) (found : List IndexedHeader) → All (HasPartsIn (length p.region)) p.side.indices → e.start + e.length ≤ length p.region → AppendKeeps p (linked_as slot pt place e found p)
 linked-keeps slot pt place e p found all part = record {
   size = refl;
   parts = append-parts (length p.region) pt place (fresh (next_handle slot p.side) e) p.side.indices part all;
@@ -75,7 +75,7 @@ linked-keeps slot pt place e p found all part = record {
   counts = changes-none (counted_by e found) p.cts;
 }
 
-taken-keeps : (slot pt : ℕ) (e : Entry) (p : Parts) (found : List Noted) → found ≡ found_in pt e p.side.headers.noted → All (HasPartsIn (length p.region)) p.side.indices → e.start + e.length ≤ length p.region → AppendKeeps p (linked_as slot pt Priority e found (take_all pt e p))
+taken-keeps : (slot pt : ℕ) (e : Entry) (p : Parts) (found : List IndexedHeader) → found ≡ found_in pt e p.side.headers.unexpected → All (HasPartsIn (length p.region)) p.side.indices → e.start + e.length ≤ length p.region → AppendKeeps p (linked_as slot pt Priority e found (take_all pt e p))
 taken-keeps slot pt e p [] is all part = record {
   size = refl;
   parts = append-parts (length p.region) pt Priority (fresh (next_handle slot p.side) e) p.side.indices part all;
@@ -91,7 +91,7 @@ taken-keeps slot pt e p (a ∷ hs) is all part = record {
   counts = rw (← is) (changes-each (overflow_counter e) (a ∷ hs) p.cts);
 }
 
-once-keeps : (slot pt : ℕ) (e : Entry) (p : Parts) (o : Option Noted) → All (HasPartsIn (length p.region)) p.side.indices → e.start + e.length ≤ length p.region → AppendKeeps p (append_once slot pt e p o)
+once-keeps : (slot pt : ℕ) (e : Entry) (p : Parts) (o : Option IndexedHeader) → All (HasPartsIn (length p.region)) p.side.indices → e.start + e.length ≤ length p.region → AppendKeeps p (append_once slot pt e p o)
 once-keeps slot pt e p None all part = linked-keeps slot pt Priority e p [] all part
 once-keeps slot pt e p (Some a) all part = record {
   size = refl;
@@ -101,24 +101,24 @@ once-keeps slot pt e p (Some a) all part = record {
   counts = changes-counted (overflow_counter e) (successes 1) p.cts;
 }
 
-pub append-keeps : (slot pt : ℕ) (place : Place) (e : Entry) (p : Parts) → All (HasPartsIn (length p.region)) p.side.indices → e.start + e.length ≤ length p.region → AppendKeeps p (append slot pt place e p)
+pub append-keeps : (slot pt : ℕ) (place : EntryList) (e : Entry) (p : Parts) → All (HasPartsIn (length p.region)) p.side.indices → e.start + e.length ≤ length p.region → AppendKeeps p (append slot pt place e p)
 unfolding append
 append-keeps slot pt Priority e p all part =
-    either (AppendKeeps p) e.use_once (append_once slot pt e p (oldest pt e p.side.headers.noted)) (linked_as slot pt Priority e (found_in pt e p.side.headers.noted) (take_all pt e p))
-    (once-keeps slot pt e p (oldest pt e p.side.headers.noted) all part)
-    (taken-keeps slot pt e p (found_in pt e p.side.headers.noted) refl all part)
+    either (AppendKeeps p) e.use_once (append_once slot pt e p (oldest pt e p.side.headers.unexpected)) (linked_as slot pt Priority e (found_in pt e p.side.headers.unexpected) (take_all pt e p))
+    (once-keeps slot pt e p (oldest pt e p.side.headers.unexpected) all part)
+    (taken-keeps slot pt e p (found_in pt e p.side.headers.unexpected) refl all part)
 append-keeps slot pt Overflow e p all part = linked-keeps slot pt Overflow e p [] all part
 
 -- ---- a search
 
-found-keeps : (pt : ℕ) (e : Entry) (delete : Bool) (a : Noted) (p : Parts) → All (HasPartsIn (length p.region)) p.side.indices → Keeps p (found_header pt e delete a p) None
+found-keeps : (pt : ℕ) (e : Entry) (delete : Bool) (a : IndexedHeader) (p : Parts) → All (HasPartsIn (length p.region)) p.side.indices → Keeps p (found_header pt e delete a p) None
 found-keeps pt e true a p all = record { size = refl; parts = all; rank = refl; limit = refl; counts = changes-none None p.cts }
 found-keeps pt e false a p all = record { size = refl; parts = all; rank = refl; limit = refl; counts = changes-none None p.cts }
 
-searched-keeps : (pt : ℕ) (e : Entry) (delete : Bool) (p : Parts) (o : Option Noted) → All (HasPartsIn (length p.region)) p.side.indices → Keeps p (searched_at pt e delete p o).parts None
+searched-keeps : (pt : ℕ) (e : Entry) (delete : Bool) (p : Parts) (o : Option IndexedHeader) → All (HasPartsIn (length p.region)) p.side.indices → Keeps p (searched_at pt e delete p o).parts None
 searched-keeps pt e delete p None all = record { size = refl; parts = all; rank = refl; limit = refl; counts = changes-none None p.cts }
 searched-keeps pt e delete p (Some a) all = found-keeps pt e delete a p all
 
 pub search-keeps : (pt : ℕ) (e : Entry) (delete : Bool) (p : Parts) → All (HasPartsIn (length p.region)) p.side.indices → Keeps p (search pt e delete p).parts None
 unfolding search
-search-keeps pt e delete p all = searched-keeps pt e delete p (oldest pt e p.side.headers.noted) all
+search-keeps pt e delete p all = searched-keeps pt e delete p (oldest pt e p.side.headers.unexpected) all

@@ -1,11 +1,9 @@
 -- What pending operations name, as they come, go and are told.
-use Rattle.std.proofs.Common.{◌≡◌, ℕ, ◌+◌, ◌*◌, ◌<◌, ◌≤◌, ◌^◌, ◌-◌, ◌==◌, Bool, true, false, not, ◌||◌, nat_eq, nat_lt, List, [], ◌∷◌, ◌++◌, Option, Some, None, is_some, map, filter, find, length, replicate, if◌then◌else◌, refl, ap, sym, subst, ◌∙◌, arith}
+use Rattle.std.proofs.Common.{◌≡◌, ℕ, ◌+◌, ◌*◌, ◌<◌, ◌≤◌, ◌^◌, ◌-◌, ◌==◌, Bool, true, false, not, ◌||◌, nat_lt, List, [], ◌∷◌, ◌++◌, Option, Some, None, map, filter, find, length, replicate, if◌then◌else◌, refl, ap, sym, subst, ◌∙◌, arith}
 use Rattle.std.specs.Prelude.{All, AllPairs, IfSome, sum_by, slice_get, option_map}
-use Rattle.std.specs.Option.{unwrap_or}
 use Rattle.std.proofs.lemmas.Bool.Decides.{nat_tests}
-use Rattle.std.proofs.lemmas.List.{get_or_past}
-use Rattle.std.proofs.lemmas.Option.{unwrap_or-slice_get, slice_get_past}
-use Rattle.std.proofs.lemmas.List.Elements.{All-head, All-tail, All-nil, All-map, All-filter, All-push, All-weaker}
+use Rattle.std.proofs.lemmas.Option.{get_or_from_slice_get, slice_get_within}
+use Rattle.std.proofs.lemmas.List.Elements.{All-head, All-tail}
 use Rattle.std.proofs.lemmas.List.Filters.{length-filter_both}
 use Rattle.std.proofs.lemmas.List.Kept.{AllPairs-filter}
 use Rattle.std.proofs.lemmas.List.Sums.{sum_by-cons, sum_by-append}
@@ -18,12 +16,12 @@ use Rattle.ni_model.specs.Refusals.{deed_names_ct, deed_names_md, operation_name
 use Rattle.triggered_ops.specs.Operations.{Operation, Operations, is_number, waits_on, waiting_on, cancelled, shown, deed_of, told_if, told_where, without_number, operation_at, no_operations, posted, posted_all}
 use Rattle.triggered_ops.proofs.Rising.{Rises, pairs-head, pairs-tail, length-filter_le}
 use Rattle.triggered_ops.proofs.Found.{find-behind}
-use Rattle.user_counts.specs.Rows.{one_if_slot, one_at, count_at, raised, lowered, more, fewer, Counts}
-use Rattle.user_counts.proofs.RowLemmas.{counts-same, counts-none, counts-raised, counts-lowered, counts-more, counts-fewer, counts-few, more-long, fewer-long, add-room, one-few, names-step}
+use Rattle.user_counts.specs.Rows.{one_if_slot, one_at, count_at, incremented, decremented, more, fewer, Counts}
+use Rattle.user_counts.proofs.RowLemmas.{counts-same, counts-none, counts-incremented, counts-decremented, counts-more, counts-fewer, counts-few, add-room, one-few, names-step}
 use Rattle.portals_ni.specs.declared.armed.Armed.{Armed}
 use Rattle.portals_ni.specs.Answers.{deed_counter}
 use Rattle.portals_ni.specs.Pendings.{deed_in}
-use Rattle.portals_ni.specs.Uses.{put_md, get_md, ct_uses, md_uses, AreUsed, HasSlots, cts_with, mds_with, cts_without, mds_without, CtsAlone, MdsAlone}
+use Rattle.portals_ni.specs.Uses.{put_md, get_md, ct_uses, md_uses, AreUsed, cts_with, mds_with, cts_without, mds_without, CtsAlone, MdsAlone}
 
 abbrev Op : Type 0
 Op = Operation Armed
@@ -67,34 +65,28 @@ uses-few f (w ∷ ws) few = omega (arith, sum_by-cons f w ws, few w, uses-few f 
 
 -- ---- the rows
 
--- the slots stay as long as the rows do
-slots-same : (cts mds news others : List ℕ) (ws : List Op) → length news ≡ length cts → length others ≡ length mds → All (HasSlots cts mds) ws → All (HasSlots news others) ws
-slots-same cts mds news others ws e f all = rw (e, f) all
-
 pub used-none : (limit a b : ℕ) → AreUsed (no_operations limit) (replicate a 0) (replicate b 0)
 used-none limit a b = record {
   counters = counts-none (λ k. 0) a (λ k. refl);
   descriptors = counts-none (λ k. 0) b (λ k. refl);
-  slots = All-nil (HasSlots (replicate a 0) (replicate b 0));
 }
 
 pub used-told : (test : Op → Bool) (sum : ℕ) (ops : Operations Armed) (cts mds : List ℕ) → AreUsed ops cts mds → AreUsed (told_where test sum ops) cts mds
 used-told test sum ops cts mds u = record {
   counters = counts-same (λ k. sum_by (ct_uses k) ops.waiting) (λ k. sum_by (ct_uses k) (map (told_if test sum) ops.waiting)) cts u.counters (λ k. uses-mapped (ct_uses k) (told_if test sum) ops.waiting (λ w. refl));
   descriptors = counts-same (λ k. sum_by (md_uses k) ops.waiting) (λ k. sum_by (md_uses k) (map (told_if test sum) ops.waiting)) mds u.descriptors (λ k. uses-mapped (md_uses k) (told_if test sum) ops.waiting (λ w. refl));
-  slots = All-map (HasSlots cts mds) (told_if test sum) ops.waiting u.slots;
 }
 
 module _ (f g : ℕ → ℕ) (row : List ℕ) (c : Counts f row) where
   cts-come : (ct : Handle) (d : Deed) → ((k : ℕ) → g k ≡ f k + (one_if_slot ct.slot k + one_at (deed_counter d) k)) → Counts g (cts_with ct d row)
   cts-come ct d up =
       let first = λ (k : ℕ). f k + one_if_slot ct.slot k in
-      counts-more first g (raised ct.slot row) (counts-raised f first row c ct.slot (λ k. refl)) (deed_counter d) (λ k. omega (arith, up k))
+      counts-more first g (incremented ct.slot row) (counts-incremented f first row c ct.slot (λ k. refl)) (deed_counter d) (λ k. omega (arith, up k))
 
   cts-go : (ct : Handle) (d : Deed) → ((k : ℕ) → f k ≡ g k + (one_if_slot ct.slot k + one_at (deed_counter d) k)) → Counts g (cts_without ct d row)
   cts-go ct d down =
       let first = λ (k : ℕ). g k + one_at (deed_counter d) k in
-      counts-fewer first g (lowered ct.slot row) (counts-lowered f first row c ct.slot (λ k. omega (arith, down k))) (deed_counter d) (λ k. refl)
+      counts-fewer first g (decremented ct.slot row) (counts-decremented f first row c ct.slot (λ k. omega (arith, down k))) (deed_counter d) (λ k. refl)
 
   mds-come : (d : Deed) → ((k : ℕ) → g k ≡ f k + (one_at (get_md d) k + one_at (put_md d) k)) → Counts g (mds_with d row)
   mds-come d up =
@@ -106,26 +98,16 @@ module _ (f g : ℕ → ℕ) (row : List ℕ) (c : Counts f row) where
       let first = λ (k : ℕ). g k + one_at (put_md d) k in
       counts-fewer first g (fewer (get_md d) row) (counts-fewer f first row c (get_md d) (λ k. omega (arith, down k))) (put_md d) (λ k. refl)
 
-pub used-posted : (ops new : Operations Armed) (w : Op) (cts mds : List ℕ) → AreUsed ops cts mds → HasSlots cts mds w → new.waiting ≡ ops.waiting ++ w ∷ [] → AreUsed new (cts_with w.ct w.deed.deed cts) (mds_with w.deed.deed mds)
-used-posted ops new w cts mds u has e = record {
+pub used-posted : (ops new : Operations Armed) (w : Op) (cts mds : List ℕ) → AreUsed ops cts mds → new.waiting ≡ ops.waiting ++ w ∷ [] → AreUsed new (cts_with w.ct w.deed.deed cts) (mds_with w.deed.deed mds)
+used-posted ops new w cts mds u e = record {
   counters = cts-come (λ k. sum_by (ct_uses k) ops.waiting) (λ k. sum_by (ct_uses k) new.waiting) cts u.counters w.ct w.deed.deed (λ k. ap (sum_by (ct_uses k)) e ∙ uses-push (ct_uses k) ops.waiting w);
   descriptors = mds-come (λ k. sum_by (md_uses k) ops.waiting) (λ k. sum_by (md_uses k) new.waiting) mds u.descriptors w.deed.deed (λ k. ap (sum_by (md_uses k)) e ∙ uses-push (md_uses k) ops.waiting w);
-  slots =
-      slots-same cts mds (cts_with w.ct w.deed.deed cts) (mds_with w.deed.deed mds) new.waiting
-      (more-long (deed_counter w.deed.deed) (raised w.ct.slot cts) ∙ more-long (Some w.ct) cts)
-      (more-long (put_md w.deed.deed) (more (get_md w.deed.deed) mds) ∙ more-long (get_md w.deed.deed) mds)
-      (subst (All (HasSlots cts mds)) (sym e) (All-push (HasSlots cts mds) ops.waiting w u.slots has));
 }
 
 pub used-taken : (ops : Operations Armed) (t : ℕ) (w : Op) (cts mds : List ℕ) → AreUsed ops cts mds → AllPairs Rises ops.waiting → operation_at t ops ≡ Some w → AreUsed (without_number t ops) (cts_without w.ct w.deed.deed cts) (mds_without w.deed.deed mds)
 used-taken ops t w cts mds u all at = record {
   counters = cts-go (λ k. sum_by (ct_uses k) ops.waiting) (λ k. sum_by (ct_uses k) (without_number t ops).waiting) cts u.counters w.ct w.deed.deed (λ k. uses-without (ct_uses k) t ops.waiting w all at);
   descriptors = mds-go (λ k. sum_by (md_uses k) ops.waiting) (λ k. sum_by (md_uses k) (without_number t ops).waiting) mds u.descriptors w.deed.deed (λ k. uses-without (md_uses k) t ops.waiting w all at);
-  slots =
-      slots-same cts mds (cts_without w.ct w.deed.deed cts) (mds_without w.deed.deed mds) (without_number t ops).waiting
-      (fewer-long (deed_counter w.deed.deed) (lowered w.ct.slot cts) ∙ fewer-long (Some w.ct) cts)
-      (fewer-long (put_md w.deed.deed) (fewer (get_md w.deed.deed) mds) ∙ fewer-long (get_md w.deed.deed) mds)
-      (All-filter (λ p. not (is_number t p)) (HasSlots cts mds) ops.waiting u.slots);
 }
 
 -- by what was shown of it, and the deed that was taken
@@ -216,10 +198,10 @@ pub room-raise : (ops : Operations Armed) (cts mds : List ℕ) (ct : Handle) →
 room-raise ops cts mds ct u small =
     omega (arith, counts-few (λ k. sum_by (ct_uses k) ops.waiting) (2 * length ops.waiting) ct.slot cts u.counters (uses-few (ct_uses ct.slot) ops.waiting (ct-few ct.slot)))
 
-pub room-counter : (ops : Operations Armed) (cts mds : List ℕ) (ct : Handle) (o : Option Handle) → AreUsed ops cts mds → length ops.waiting < 2 ^ 32 → IfSome o (λ h. count_at h.slot (raised ct.slot cts) < 2 ^ 64 - 1)
+pub room-counter : (ops : Operations Armed) (cts mds : List ℕ) (ct : Handle) (o : Option Handle) → AreUsed ops cts mds → length ops.waiting < 2 ^ 32 → IfSome o (λ h. count_at h.slot (incremented ct.slot cts) < 2 ^ 64 - 1)
 room-counter ops cts mds ct o u small =
     let first = λ (k : ℕ). sum_by (ct_uses k) ops.waiting + one_if_slot ct.slot k in
-    add-room first (2 * length ops.waiting + 1) (raised ct.slot cts) o (counts-raised (λ k. sum_by (ct_uses k) ops.waiting) first cts u.counters ct.slot (λ k. refl))
+    add-room first (2 * length ops.waiting + 1) (incremented ct.slot cts) o (counts-incremented (λ k. sum_by (ct_uses k) ops.waiting) first cts u.counters ct.slot (λ k. refl))
     (λ k. omega (arith, uses-few (ct_uses k) ops.waiting (ct-few k), one-few (Some ct) k)) (omega arith)
 
 pub room-get : (ops : Operations Armed) (cts mds : List ℕ) (o : Option Handle) → AreUsed ops cts mds → length ops.waiting < 2 ^ 32 → IfSome o (λ h. count_at h.slot mds < 2 ^ 64 - 1)
@@ -231,50 +213,6 @@ room-put ops cts mds p o u small =
     let first = λ (k : ℕ). sum_by (md_uses k) ops.waiting + one_at p k in
     add-room first (2 * length ops.waiting + 1) (more p mds) o (counts-more (λ k. sum_by (md_uses k) ops.waiting) first mds u.descriptors p (λ k. refl))
     (λ k. omega (arith, uses-few (md_uses k) ops.waiting (md-few k), one-few p k)) (omega arith)
-
--- ---- no operation names a thing of a slot past the rows' ends
-
-one-past : (o : Option Handle) (n k : ℕ) → IfSome o (λ h. h.slot < n) → n ≤ k → one_at o k ≡ 0
-one-past None n k below past = refl
-one-past (Some h) n k below past =
-    elim (nat_eq h.slot k) as (λ b. nat_eq h.slot k ≡ b → (if b then 1 else 0) ≡ 0) [
-      | true ↦ λ e. let same : h.slot ≡ k = grind (arith, nat_tests) in absurd (omega (arith, below, past, same))
-      | false ↦ λ e. refl
-    ] refl
-
-sum-none : (f : Op → ℕ) (ws : List Op) → All (λ (w : Op). f w ≡ 0) ws → sum_by f ws ≡ 0
-sum-none f [] all = refl
-sum-none f (w ∷ ws) all = omega (arith, sum_by-cons f w ws, All-head (λ (v : Op). f v ≡ 0) w ws all, sum-none f ws (All-tail (λ (v : Op). f v ≡ 0) w ws all))
-
-cts-past : (k : ℕ) (ops : Operations Armed) (cts mds : List ℕ) → AreUsed ops cts mds → length cts ≤ k → sum_by (ct_uses k) ops.waiting ≡ 0
-cts-past k ops cts mds u past =
-    sum-none (ct_uses k) ops.waiting
-    (All-weaker (HasSlots cts mds) (λ (w : Op). ct_uses k w ≡ 0) (λ w has. omega (arith, one-past (Some w.ct) (length cts) k has.waits past, one-past (deed_counter w.deed.deed) (length cts) k has.counts past)) ops.waiting u.slots)
-
-mds-past : (k : ℕ) (ops : Operations Armed) (cts mds : List ℕ) → AreUsed ops cts mds → length mds ≤ k → sum_by (md_uses k) ops.waiting ≡ 0
-mds-past k ops cts mds u past =
-    sum-none (md_uses k) ops.waiting
-    (All-weaker (HasSlots cts mds) (λ (w : Op). md_uses k w ≡ 0) (λ w has. omega (arith, one-past (get_md w.deed.deed) (length mds) k has.gets past, one-past (put_md w.deed.deed) (length mds) k has.puts past)) ops.waiting u.slots)
-
--- a slot of which a row tells something is one of its
-pub slot-within : (row : List ℕ) (k : ℕ) (b : Bool) → b ≡ is_some (slice_get row k) → b ≡ true → k < length row
-slot-within row k b e is =
-    elim (nat_lt k (length row)) as (λ t. nat_lt k (length row) ≡ t → k < length row) [
-      | true ↦ λ lt. grind (arith, nat_tests)
-      | false ↦ λ lt.
-          let past : length row ≤ k = grind (arith, nat_tests) in
-          let none : slice_get row k ≡ None = slice_get_past row k past in
-          let not : is_some (slice_get row k) ≡ false = rw none refl in
-          absurd (cc (e, is, not))
-    ] refl
-
--- so the rows count of every slot
-counts-all : (f : ℕ → ℕ) (row : List ℕ) (k : ℕ) → Counts f row → (length row ≤ k → f k ≡ 0) → count_at k row ≡ f k
-counts-all f row k c none =
-    elim (nat_lt k (length row)) as (λ b. nat_lt k (length row) ≡ b → count_at k row ≡ f k) [
-      | true ↦ λ e. let within : k < length row = grind (arith, nat_tests) in c k within
-      | false ↦ λ e. let past : length row ≤ k = grind (arith, nat_tests) in get_or_past row k 0 past ∙ sym (none past)
-    ] refl
 
 -- ---- what is named is what is counted
 
@@ -330,12 +268,12 @@ ops-name-md md (w ∷ ws) all =
     (names-step md (put_md w.deed.deed) rest n alone.1 (ops-name-md md ws (All-tail (MdsAlone md) w ws all)))
     ∙ ap (λ m. nat_lt 0 m) whole
 
-pub used-ct : (ct : Handle) (n : ℕ) (ops : Operations Armed) (cts mds : List ℕ) → AreUsed ops cts mds → n ≡ unwrap_or (slice_get cts ct.slot) 0 → All (CtsAlone ct) ops.waiting → nat_lt 0 n ≡ operation_names_ct ct (posted_all deed_in ops).waiting
+pub used-ct : (ct : Handle) (n : ℕ) (ops : Operations Armed) (cts mds : List ℕ) → AreUsed ops cts mds → slice_get cts ct.slot ≡ Some n → All (CtsAlone ct) ops.waiting → nat_lt 0 n ≡ operation_names_ct ct (posted_all deed_in ops).waiting
 used-ct ct n ops cts mds u at all =
-    let uses = counts-all (λ k. sum_by (ct_uses k) ops.waiting) cts ct.slot u.counters (cts-past ct.slot ops cts mds u) in
-    ap (λ m. nat_lt 0 m) (at ∙ unwrap_or-slice_get cts ct.slot 0 ∙ uses) ∙ sym (ops-name-ct ct ops.waiting all)
+    let uses : n ≡ sum_by (ct_uses ct.slot) ops.waiting = sym (get_or_from_slice_get cts ct.slot n 0 at) ∙ u.counters ct.slot (slice_get_within cts ct.slot n at) in
+    ap (λ m. nat_lt 0 m) uses ∙ sym (ops-name-ct ct ops.waiting all)
 
-pub used-md : (md : Handle) (n : ℕ) (ops : Operations Armed) (cts mds : List ℕ) → AreUsed ops cts mds → n ≡ unwrap_or (slice_get mds md.slot) 0 → All (MdsAlone md) ops.waiting → nat_lt 0 n ≡ operation_names_md md (posted_all deed_in ops).waiting
+pub used-md : (md : Handle) (n : ℕ) (ops : Operations Armed) (cts mds : List ℕ) → AreUsed ops cts mds → slice_get mds md.slot ≡ Some n → All (MdsAlone md) ops.waiting → nat_lt 0 n ≡ operation_names_md md (posted_all deed_in ops).waiting
 used-md md n ops cts mds u at all =
-    let uses = counts-all (λ k. sum_by (md_uses k) ops.waiting) mds md.slot u.descriptors (mds-past md.slot ops cts mds u) in
-    ap (λ m. nat_lt 0 m) (at ∙ unwrap_or-slice_get mds md.slot 0 ∙ uses) ∙ sym (ops-name-md md ops.waiting all)
+    let uses : n ≡ sum_by (md_uses md.slot) ops.waiting = sym (get_or_from_slice_get mds md.slot n 0 at) ∙ u.descriptors md.slot (slice_get_within mds md.slot n at) in
+    ap (λ m. nat_lt 0 m) uses ∙ sym (ops-name-md md ops.waiting all)

@@ -1,6 +1,7 @@
--- What no pending operation names may go.
-use Rattle.std.proofs.Common.{◌≡◌, ℕ, false, ◌||◌, List, [], ◌∷◌, Result, Ok, Err, length, sym, ap, subst, ◌∙◌}
+-- A walk over the pending operations, and what it tells of what they name.
+use Rattle.std.proofs.Common.{◌≡◌, ℕ, ◌+◌, ◌<◌, ◌≤◌, ◌==◌, nat_lt, Bool, true, false, ◌||◌, List, [], ◌∷◌, Some, Result, Ok, Err, find, length, if◌then◌else◌, refl, sym, ap, subst, ◌∙◌, arith}
 use Rattle.std.specs.Prelude.{All, map, option_map, OnErr, IfOk}
+use Rattle.std.proofs.lemmas.Bool.Decides.{nat_tests}
 use Rattle.std.proofs.lemmas.List.Elements.{All-head, All-tail, All-cons, All-nil}
 use Rattle.ptl_types.specs.declared.handles.Handle.{Handle}
 use Rattle.ptl_types.specs.declared.handles.Count.{Count}
@@ -12,13 +13,94 @@ use Rattle.ni_model.specs.Tables.{Table, without}
 use Rattle.ni_model.specs.Arrive.{Side}
 use Rattle.ni_model.specs.Refusals.{deed_names_md, deed_names_ct, operation_names_md, operation_names_ct}
 use Rattle.initiator_engine.specs.Initiators.{Initiating, with_mds}
-use Rattle.triggered_ops.specs.Operations.{Operation, Operations, posted, posted_all}
+use Rattle.triggered_ops.specs.Operations.{Operation, Operations, is_number, numbered, posted, posted_all}
 use Rattle.portals_ni.specs.declared.armed.Armed.{Armed}
 use Rattle.portals_ni.specs.Pendings.{deed_in}
 use Rattle.portals_ni.specs.Sound.{IsArmed, IsTold, IsSound}
 use Rattle.portals_ni.proofs.Told.{reaches}
 use Rattle.portals_ni.proofs.Counts.{lookup-without}
 use Rattle.portals_ni.proofs.Homes.{neither, fits-on, holds-without, skips-md, bound-without}
+
+-- a test of what an operation names
+abbrev pub Test : Type 0
+Test = Armed → Handle → Bool
+
+-- some operation passes it
+abbrev pub some_op : Test → List (Operation Armed) → Bool
+some_op f [] = false
+some_op f (w ∷ ws) = f w.deed w.ct || some_op f ws
+
+-- those below a number don't
+abbrev pub NoneBelow : Test → ℕ → List (Operation Armed) → Type 0
+NoneBelow f from ws = All (λ (q : Operation Armed). q.number < from → f q.deed q.ct ≡ false) ws
+
+pub walk-start : (f : Test) (ws : List (Operation Armed)) → NoneBelow f 0 ws
+walk-start f [] = All-nil (λ (q : Operation Armed). q.number < 0 → f q.deed q.ct ≡ false)
+walk-start f (w ∷ ws) = All-cons (λ (q : Operation Armed). q.number < 0 → f q.deed q.ct ≡ false) w ws (λ lt. absurd (omega arith)) (walk-start f ws)
+
+-- from a number on, no other waits up to the one that was found
+abbrev pub AloneAt : ℕ → ℕ × Armed × Handle × ℕ → List (Operation Armed) → Type 0
+AloneAt from p ws = All (λ (q : Operation Armed). from ≤ q.number → q.number ≤ p.0 → numbered q ≡ p) ws
+
+same-parts : (q : Operation Armed) (n : ℕ) (a : Armed) (h : Handle) (th : ℕ) (f : Test) → numbered q ≡ (n, a, h, th) → f a h ≡ false → f q.deed q.ct ≡ false
+same-parts q n a h th f e none = let P : ℕ × Armed × Handle × ℕ → Type 0 = λ p. f p.1 p.2 ≡ false in subst P (sym e) none
+
+walk-one : (f : Test) (from n : ℕ) (a : Armed) (h : Handle) (th : ℕ) (q : Operation Armed) → (q.number < from → f q.deed q.ct ≡ false) → (from ≤ q.number → q.number ≤ n → numbered q ≡ (n, a, h, th)) → f a h ≡ false → q.number < n + 1 → f q.deed q.ct ≡ false
+walk-one f from n a h th q below alone none lt =
+    elim (nat_lt q.number from) as (λ b. nat_lt q.number from ≡ b → f q.deed q.ct ≡ false) [
+      | true ↦ λ is. below (grind (arith, nat_tests))
+      | false ↦ λ is. same-parts q n a h th f (alone (grind (arith, nat_tests)) (omega arith)) none
+    ] refl
+
+pub walk-next : (f : Test) (from n : ℕ) (a : Armed) (h : Handle) (th : ℕ) (ws : List (Operation Armed)) → NoneBelow f from ws → AloneAt from (n, a, h, th) ws → f a h ≡ false → NoneBelow f (n + 1) ws
+walk-next f from n a h th [] below alone none = All-nil (λ (q : Operation Armed). q.number < n + 1 → f q.deed q.ct ≡ false)
+walk-next f from n a h th (w ∷ ws) below alone none =
+    All-cons (λ (q : Operation Armed). q.number < n + 1 → f q.deed q.ct ≡ false) w ws
+    (walk-one f from n a h th w (All-head (λ (q : Operation Armed). q.number < from → f q.deed q.ct ≡ false) w ws below) (All-head (λ (q : Operation Armed). from ≤ q.number → q.number ≤ n → numbered q ≡ (n, a, h, th)) w ws alone) none)
+    (walk-next f from n a h th ws (All-tail (λ (q : Operation Armed). q.number < from → f q.deed q.ct ≡ false) w ws below) (All-tail (λ (q : Operation Armed). from ≤ q.number → q.number ≤ n → numbered q ≡ (n, a, h, th)) w ws alone) none)
+
+pub walk-end : (f : Test) (from : ℕ) (ws : List (Operation Armed)) → NoneBelow f from ws → All (λ (q : Operation Armed). q.number < from) ws → some_op f ws ≡ false
+walk-end f from [] below all = refl
+walk-end f from (w ∷ ws) below all =
+    let first : f w.deed w.ct ≡ false = All-head (λ (q : Operation Armed). q.number < from → f q.deed q.ct ≡ false) w ws below (All-head (λ (q : Operation Armed). q.number < from) w ws all) in
+    let rest : some_op f ws ≡ false = walk-end f from ws (All-tail (λ (q : Operation Armed). q.number < from → f q.deed q.ct ≡ false) w ws below) (All-tail (λ (q : Operation Armed). q.number < from) w ws all) in
+    rw (first, rest) refl
+
+or-true : (a : Bool) → a || true ≡ true
+or-true true = refl
+or-true false = refl
+
+pub walk-found : (f : Test) (t : ℕ) (a : Armed) (h : Handle) (th : ℕ) (ws : List (Operation Armed)) → option_map numbered (find (is_number t) ws) ≡ Some (t, a, h, th) → f a h ≡ true → some_op f ws ≡ true
+walk-found f t a h th [] e is = cc
+walk-found f t a h th (w ∷ ws) e is =
+    elim (w.number == t) as (λ b. option_map numbered (if b then Some w else find (is_number t) ws) ≡ Some (t, a, h, th) → some_op f (w ∷ ws) ≡ true) [
+      | true ↦ λ e.
+          let same : numbered w ≡ (t, a, h, th) = cc in
+          let P : ℕ × Armed × Handle × ℕ → Type 0 = λ p. f p.1 p.2 ≡ true in
+          let first : f w.deed w.ct ≡ true = subst P (sym same) is in
+          rw first refl
+      | false ↦ λ e. rw (walk-found f t a h th ws e is) (or-true (f w.deed w.ct))
+    ] e
+
+-- ---- descriptors
+
+abbrev pub uses_md : Handle → Test
+uses_md md = λ a h. deed_names_md md a.deed
+
+pub md-named : (md : Handle) (ws : List (Operation Armed)) → operation_names_md md (map (posted deed_in) ws) ≡ some_op (uses_md md) ws
+md-named md [] = refl
+md-named md (w ∷ ws) = rw (md-named md ws) refl
+
+-- ---- counting events
+
+abbrev pub uses_ct : Handle → Test
+uses_ct ct = λ a h. same_handle h ct || deed_names_ct ct a.deed
+
+pub ct-named : (ct : Handle) (ws : List (Operation Armed)) → operation_names_ct ct (map (posted deed_in) ws) ≡ some_op (uses_ct ct) ws
+ct-named ct [] = refl
+ct-named ct (w ∷ ws) = rw (ct-named ct ws) refl
+
+-- ---- what none of them names may go
 
 armed-without : (md : Handle) (mds : Table Bound) (ranks : ℕ) (limits : Limits) (ws : List (Operation Armed)) → operation_names_md md (map (posted deed_in) ws) ≡ false → All (λ w. IsArmed mds ranks limits w.deed) ws → All (λ w. IsArmed (without md mds) ranks limits w.deed) ws
 armed-without md mds ranks limits [] none all = All-nil (λ (w : Operation Armed). IsArmed (without md mds) ranks limits w.deed)

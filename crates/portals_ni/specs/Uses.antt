@@ -1,10 +1,10 @@
 -- What pending operations name, counted by slot.
-use Rattle.std.specs.Prelude.{ℕ, ◌+◌, ◌<◌, Option, Some, None, IfSome, List, length, All, sum_by}
+use Rattle.std.specs.Prelude.{ℕ, ◌+◌, Option, Some, None, List, sum_by}
 use Rattle.ptl_types.specs.declared.handles.Handle.{Handle}
 use Rattle.ptl_types.specs.declared.calls.Deed.{Deed}
 use Rattle.ptl_types.specs.declared.calls.Deed.TheVariants.{Put, Get, Atomic, FetchAtomic, Swap}
 use Rattle.triggered_ops.specs.Operations.{Operation, Operations}
-use Rattle.user_counts.specs.Rows.{one_if_slot, one_at, raised, lowered, more, fewer, Counts, IsAlone}
+use Rattle.user_counts.specs.Rows.{one_if_slot, one_at, incremented, decremented, more, fewer, Counts, IsAlone}
 use Rattle.portals_ni.specs.declared.armed.Armed.{Armed}
 use Rattle.portals_ni.specs.Answers.{deed_counter}
 
@@ -31,33 +31,21 @@ ct_uses k p = one_if_slot p.ct.slot k + one_at (deed_counter p.deed.deed) k
 abbrev pub md_uses : ℕ → Operation Armed → ℕ
 md_uses k p = one_at (get_md p.deed.deed) k + one_at (put_md p.deed.deed) k
 
--- the counting events that an operation names have slots below c, and its descriptors below m
-pub record NamesBelow (c m : ℕ) (ct : Handle) (d : Deed) : Type 0 where
-  pub waits : ct.slot < c
-  pub counts : IfSome (deed_counter d) (λ h. h.slot < c)
-  pub gets : IfSome (get_md d) (λ h. h.slot < m)
-  pub puts : IfSome (put_md d) (λ h. h.slot < m)
-
--- the rows have these slots
-abbrev pub HasSlots : List ℕ → List ℕ → Operation Armed → Type 0
-HasSlots cts mds p = NamesBelow (length cts) (length mds) p.ct p.deed.deed
-
--- the rows count what the operations name, all of it
+-- the rows count these
 pub record AreUsed (ops : Operations Armed) (cts mds : List ℕ) : Type 0 where
   pub counters : Counts (λ k. sum_by (ct_uses k) ops.waiting) cts
   pub descriptors : Counts (λ k. sum_by (md_uses k) ops.waiting) mds
-  pub slots : All (HasSlots cts mds) ops.waiting
 
 -- ---- the rows, as an operation comes and goes
 
 abbrev pub cts_with : Handle → Deed → List ℕ → List ℕ
-cts_with ct d row = more (deed_counter d) (raised ct.slot row)
+cts_with ct d row = more (deed_counter d) (incremented ct.slot row)
 
 abbrev pub mds_with : Deed → List ℕ → List ℕ
 mds_with d row = more (put_md d) (more (get_md d) row)
 
 abbrev pub cts_without : Handle → Deed → List ℕ → List ℕ
-cts_without ct d row = fewer (deed_counter d) (lowered ct.slot row)
+cts_without ct d row = fewer (deed_counter d) (decremented ct.slot row)
 
 abbrev pub mds_without : Deed → List ℕ → List ℕ
 mds_without d row = fewer (put_md d) (fewer (get_md d) row)

@@ -6,18 +6,18 @@ ghost use Rattle.target_engine.specs.Sides.{SlotBelow};
 ghost use Rattle.unexpected.specs.Places.{header_at};
 ghost use Rattle.ni_model.specs.Answers.{is_awaited};
 ghost use Rattle.ni_model.specs.Tables.{has_slot};
-ghost use Rattle.ni_model.specs.Calls.{ends, Makes, entry_slot, pt_alloc as pt_alloc_of, pt_free as pt_free_of, me_append as me_append_of, me_unlink as me_unlink_of, me_search as me_search_of, md_bind as md_bind_of, awaits as awaits_of};
+ghost use Rattle.ni_model.specs.Calls.{ends, Makes, entry_slot, pt_alloc, pt_free, me_append, me_unlink, me_search, md_bind, awaits};
 
 use crate::armed::tell;
 use crate::nic::Nic;
-use ni_model::Noted;
+use ni_model::IndexedHeader;
 use ptl_types::{Appended, Descriptor, Entry, Handle, List, NiFault, UnexpectedHeader};
 
 impl Nic {
     /// Allocates a portal table index, with an event queue or none. `Stale` where the queue isn't allocated, `NoSpace` where
     /// the index is at or past the limit, `InUse` where it is allocated already.
     pub fn pt_alloc(&mut self, index: u32, eq: Option<Handle>) -> Result<(), NiFault>
-        ensures does { ends self.new result ≡ pt_alloc_of index eq self.old }
+        ensures does { ends self.new result ≡ pt_alloc index eq self.old }
     {
         self.target.pt_alloc(&self.eqs, index, eq)
     }
@@ -25,7 +25,7 @@ impl Nic {
     /// Frees a portal table index. `Stale` where it isn't allocated, `InUse` where one of its lists holds an entry or a header
     /// of it waits.
     pub fn pt_free(&mut self, index: u32) -> Result<(), NiFault>
-        ensures does { ends self.new result ≡ pt_free_of index self.old }
+        ensures does { ends self.new result ≡ pt_free index self.old }
     {
         self.target.pt_free(index)
     }
@@ -37,7 +37,7 @@ impl Nic {
     /// part reaches past the region. An unlinked entry keeps its record while a header lies in its memory, so that slots are
     /// below the limits of entries and of headers together.
     pub fn me_append(&mut self, pt: u32, list: List, entry: Entry) -> Result<Appended, NiFault>
-        ensures makes { Makes (entry_slot self.old.indices) (λ slot. me_append_of slot pt list entry self.old) (ends self.new result) }
+        ensures makes { Makes (entry_slot self.old.indices) (λ slot. me_append slot pt list entry self.old) (ends self.new result) }
         ensures slot { IfOk result (SlotBelow (self.old.limits.entries + self.old.limits.unexpected)) }
     {
         let (appended, counted) = self.target.append(
@@ -54,7 +54,7 @@ impl Nic {
 
     /// Unlinks a match entry. `Stale` where it isn't linked, `InUse` where an unexpected header lies in its memory.
     pub fn me_unlink(&mut self, me: Handle) -> Result<(), NiFault>
-        ensures does { ends self.new result ≡ me_unlink_of me self.old }
+        ensures does { ends self.new result ≡ me_unlink me self.old }
     {
         self.target.unlink(me)
     }
@@ -68,7 +68,7 @@ impl Nic {
         entry: &Entry,
         delete: bool,
     ) -> Result<Option<UnexpectedHeader>, NiFault>
-        ensures does { ends self.new result ≡ me_search_of pt entry.now delete self.old }
+        ensures does { ends self.new result ≡ me_search pt entry.now delete self.old }
     {
         self.target.search(&mut self.eqs, pt, entry, delete)
     }
@@ -76,14 +76,14 @@ impl Nic {
     /// The unexpected header number `i` of an index in the order of arrival, from 0; `None` exactly where there are no more
     /// than `i`. It goes through the headers before it: a walk over all takes `headers`.
     pub fn header(&self, pt: u32, i: u32) -> Option<&UnexpectedHeader>
-        ensures told { option_copied result ≡ header_at pt i self.now.headers.noted }
+        ensures told { option_copied result ≡ header_at pt i self.now.headers.unexpected }
     {
         self.target.header(pt, i)
     }
 
     /// The unexpected headers of all indices, in the order of arrival.
-    pub fn headers(&self) -> &[Noted]
-        ensures told { result.now ≡ self.now.headers.noted }
+    pub fn headers(&self) -> &[IndexedHeader]
+        ensures told { result.now ≡ self.now.headers.unexpected }
     {
         self.target.headers()
     }
@@ -92,7 +92,7 @@ impl Nic {
     /// `NoSpace` where as many as the limit are bound or all 2^64 - 1 stamps were given, `OutOfRegion` where its part reaches
     /// past the region.
     pub fn md_bind(&mut self, md: Descriptor) -> Result<Handle, NiFault>
-        ensures makes { Makes (λ slot. has_slot slot self.old.mds.live) (λ slot. md_bind_of slot md self.old) (ends self.new result) }
+        ensures makes { Makes (λ slot. has_slot slot self.old.mds.live) (λ slot. md_bind slot md self.old) (ends self.new result) }
         ensures slot { IfOk result (λ h. h.slot < self.old.limits.mds) }
     {
         self.initiator.bind(&self.region, &self.cts, &self.eqs, md)
@@ -100,7 +100,7 @@ impl Nic {
 
     /// How many answers a descriptor awaits; `Stale` exactly where it isn't bound.
     pub fn awaits(&self, md: Handle) -> Result<u64, NiFault>
-        ensures told { result ≡ awaits_of md self.now }
+        ensures told { result ≡ awaits md self.now }
     {
         self.initiator.awaits(md)
     }

@@ -1,7 +1,7 @@
 //! Which triggered operations are ready, and what firing one does (Portals 4.3, triggered operations).
 
 ghost use Rattle.std.specs.Prelude.{◌≡◌, ◌<◌, IsTrue, Some, false, length, slice_get};
-ghost use Rattle.ni_model.specs.Ready.{is_ready, is_rank, fired, fires, posted_at, ready_numbers, ready_numbers_to, target_at, message_target as target_named, target_of as target_posted};
+ghost use Rattle.ni_model.specs.Ready.{is_ready, is_rank, fired, fires, posted_at, ready_numbers, ready_numbers_to, target_at, message_target, target_of};
 ghost use Rattle.ni_model.specs.Refusals.{deed_passes};
 ghost use Rattle.ni_model.specs.Calls.{AnswersReady};
 ghost use Rattle.triggered_ops.specs.Operations.{posted_all, IsKept};
@@ -39,7 +39,7 @@ fn count_deed(cts: &mut Store<Counter>, deed: &Deed) -> Option<Handle>
 
 /// The rank that the deed's message is for.
 fn message_target(deed: &Deed) -> Option<Rank>
-    ensures { result ≡ target_named deed.now }
+    ensures { result ≡ message_target deed.now }
 {
     match deed {
         Deed::Put(args) => Some(args.target),
@@ -53,7 +53,7 @@ fn message_target(deed: &Deed) -> Option<Rank>
 
 /// The rank that the message of an operation is for, where it waits and has one.
 fn target_of(pending: &Pending<Armed>, number: u32) -> Option<Rank>
-    ensures { result ≡ target_posted (posted_at number (posted_all deed_in pending.now)) }
+    ensures { result ≡ target_of (posted_at number (posted_all deed_in pending.now)) }
 {
     match pending.get(number) {
         Some((armed, _, _)) => message_target(&armed.deed),
@@ -63,7 +63,7 @@ fn target_of(pending: &Pending<Armed>, number: u32) -> Option<Rank>
 
 /// Whether it is for this rank.
 fn goes_to(pending: &Pending<Armed>, number: u32, target: Rank) -> bool
-    ensures { result ≡ is_rank target (target_posted (posted_at number (posted_all deed_in pending.now))) }
+    ensures { result ≡ is_rank target (target_of (posted_at number (posted_all deed_in pending.now))) }
 {
     match target_of(pending, number) {
         Some(rank) => rank == target,

@@ -1,7 +1,7 @@
 //! The calls that free what nothing names.
 
 ghost use Rattle.std.specs.Prelude.{◌≡◌};
-ghost use Rattle.ni_model.specs.Calls.{ends, ct_free as ct_free_of, eq_free as eq_free_of, md_release as md_release_of};
+ghost use Rattle.ni_model.specs.Calls.{ends, ct_free, eq_free, md_release};
 
 use crate::nic::Nic;
 use ptl_types::{Handle, NiFault};
@@ -10,7 +10,7 @@ impl Nic {
     /// Frees a counting event. `Stale` where it isn't allocated, `InUse` where a descriptor, a linked entry or a pending
     /// operation names it.
     pub fn ct_free(&mut self, ct: Handle) -> Result<(), NiFault>
-        ensures does { ends self.new result ≡ ct_free_of ct self.old }
+        ensures does { ends self.new result ≡ ct_free ct self.old }
     {
         if !self.cts.is_live(ct) {
             return Err(NiFault::Stale);
@@ -27,7 +27,7 @@ impl Nic {
     /// Frees an event queue, with the events that wait in it. `Stale` where it isn't allocated, `InUse` where a portal table
     /// index or a descriptor names it.
     pub fn eq_free(&mut self, eq: Handle) -> Result<(), NiFault>
-        ensures does { ends self.new result ≡ eq_free_of eq self.old }
+        ensures does { ends self.new result ≡ eq_free eq self.old }
     {
         if !self.eqs.is_live(eq) {
             return Err(NiFault::Stale);
@@ -44,7 +44,7 @@ impl Nic {
     /// Releases a memory descriptor. `Stale` where it isn't bound, `InUse` where a pending operation names it or it awaits an
     /// answer.
     pub fn md_release(&mut self, md: Handle) -> Result<(), NiFault>
-        ensures does { ends self.new result ≡ md_release_of md self.old }
+        ensures does { ends self.new result ≡ md_release md self.old }
     {
         if !self.initiator.is_bound(md) {
             return Err(NiFault::Stale);

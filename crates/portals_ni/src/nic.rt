@@ -2,7 +2,7 @@
 
 ghost use Rattle.std.specs.Prelude.{◌≡◌, ◌<◌, ◌≤◌, ◌+◌, IfOk, length};
 ghost use Rattle.ni_model.specs.State.{opened};
-ghost use Rattle.ni_model.specs.Calls.{write_memory as memory_written};
+ghost use Rattle.ni_model.specs.Calls.{write_memory};
 ghost use Rattle.portals_ni.specs.Lasting.{HasLimits, Lasts};
 
 use crate::triggers::Triggers;
@@ -125,7 +125,7 @@ impl Nic {
     /// The host writes bytes from `start` on. Condition: they lie in the region. Nothing else changes.
     pub fn write_memory(&mut self, start: u64, bytes: &[u8])
         requires { start + length bytes.now ≤ length self.old.memory }
-        ensures does { self.new ≡ memory_written start bytes.now self.old }
+        ensures does { self.new ≡ write_memory start bytes.now self.old }
     {
         self.region.write(start, bytes);
     }

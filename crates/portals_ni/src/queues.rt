@@ -3,7 +3,7 @@
 ghost use Rattle.std.specs.Prelude.{◌≡◌, ◌≤◌, ◌<◌, IfOk};
 ghost use Rattle.ni_model.specs.Tables.{has_slot, lookup, changed};
 ghost use Rattle.ni_model.specs.Queues.{after_take};
-ghost use Rattle.ni_model.specs.Calls.{ends, eq_alloc as eq_alloc_of, eq_get as eq_get_of};
+ghost use Rattle.ni_model.specs.Calls.{ends, eq_alloc, eq_get};
 ghost use Rattle.portals_ni.specs.Answers.{MakesIfMemory, event_taken};
 
 use crate::nic::Nic;
@@ -28,7 +28,7 @@ impl Nic {
     /// limit are allocated or all 2^64 - 1 stamps were given, `NoMemory` for its room. Condition: the room is at least 1.
     pub fn eq_alloc(&mut self, room: u32) -> Result<Handle, NiFault>
         requires { 1 ≤ room }
-        ensures makes { MakesIfMemory (λ slot. has_slot slot self.old.eqs.live) (λ slot. eq_alloc_of slot room self.old) self.old (ends self.new result) }
+        ensures makes { MakesIfMemory (λ slot. has_slot slot self.old.eqs.live) (λ slot. eq_alloc slot room self.old) self.old (ends self.new result) }
         ensures slot { IfOk result (λ h. h.slot < self.old.limits.eqs) }
     {
         if self.eqs.is_full() {
@@ -45,7 +45,7 @@ impl Nic {
     /// this queue or, before any, since its making; else `Empty` where it holds none. `Stale` exactly where the queue isn't
     /// allocated.
     pub fn eq_get(&mut self, eq: Handle) -> Result<EqGot, NiFault>
-        ensures does { ends self.new result ≡ eq_get_of eq self.old }
+        ensures does { ends self.new result ≡ eq_get eq self.old }
     {
         take_event(&mut self.eqs, eq)
     }

@@ -2,12 +2,11 @@
 
 ghost use Rattle.std.specs.Prelude.{◌≡◌, ◌&&◌, ◌||◌, true, false};
 ghost use Rattle.ptl_types.specs.declared.calls.Deed.TheVariants.{Put, Get, Atomic, FetchAtomic, Swap};
-ghost use Rattle.ni_model.specs.Counts.{passes_end as passes};
-ghost use Rattle.ni_model.specs.Tables.{is_live as lives};
+ghost use Rattle.ni_model.specs.Counts.{passes_end};
 ghost use Rattle.ni_model.specs.Conditions.{MayStart};
-ghost use Rattle.ni_model.specs.Refusals.{counts_on_live as counts_live, deed_passes as deed_past, triggered_fault};
-ghost use Rattle.ni_model.specs.Calls.{ends, MayLackMemory, start as start_of, triggered as triggered_of};
-ghost use Rattle.initiator_engine.specs.Initiators.{by_fault, is_start as starts, room_for as room_of};
+ghost use Rattle.ni_model.specs.Refusals.{counts_on_live, deed_passes, triggered_fault};
+ghost use Rattle.ni_model.specs.Calls.{ends, MayLackMemory, start, triggered};
+ghost use Rattle.initiator_engine.specs.Initiators.{by_fault, is_start, room_for};
 ghost use Rattle.triggered_ops.specs.Operations.{posted_all};
 ghost use Rattle.portals_ni.specs.Pendings.{deed_in};
 ghost use Rattle.portals_ni.specs.Answers.{as_started};
@@ -24,14 +23,14 @@ use triggered_ops::Pending;
 
 /// Whether the deed starts an operation; the others count.
 pub fn is_start(deed: &Deed) -> bool
-    ensures { result ≡ starts deed.now }
+    ensures { result ≡ is_start deed.now }
 {
     !matches!(deed, Deed::Inc(_, _) | Deed::Set(_, _))
 }
 
 /// The room that a start needs: for the bytes that it sends, and of a get for the reply.
 fn room_for(deed: &Deed) -> u64
-    ensures { result ≡ room_of deed.now }
+    ensures { result ≡ room_for deed.now }
 {
     match deed {
         Deed::Put(args) => args.length,
@@ -45,7 +44,7 @@ fn room_for(deed: &Deed) -> u64
 
 /// Whether the counting event that an increment or a set names is live.
 fn counts_on_live(cts: &Store<Counter>, deed: &Deed) -> bool
-    ensures { result ≡ counts_live deed.now cts.now }
+    ensures { result ≡ counts_on_live deed.now cts.now }
 {
     match deed {
         Deed::Inc(ct, _) => cts.is_live(*ct),
@@ -56,14 +55,14 @@ fn counts_on_live(cts: &Store<Counter>, deed: &Deed) -> bool
 
 /// Whether both numbers together pass the end of a counting event.
 fn passes_end(count: &Count) -> bool
-    ensures { result ≡ passes count.now }
+    ensures { result ≡ passes_end count.now }
 {
     count.success.checked_add(count.failure).is_none()
 }
 
 /// Whether the numbers of an increment or a set do.
 fn deed_passes(deed: &Deed) -> bool
-    ensures { result ≡ deed_past deed.now }
+    ensures { result ≡ deed_passes deed.now }
 {
     match deed {
         Deed::Inc(_, by) => passes_end(by),
@@ -106,7 +105,7 @@ impl Nic {
     /// target is a rank, and the length is within the limit.
     pub fn put(&mut self, args: PutArgs) -> Result<Message, NiFault>
         requires { MayStart (Put args) self.old.ranks self.old.limits }
-        ensures does { MayLackMemory (start_of (Put args) self.old) self.old (ends self.new (as_started result)) }
+        ensures does { MayLackMemory (start (Put args) self.old) self.old (ends self.new (as_started result)) }
     {
         self.start(&Deed::Put(args))
     }
@@ -115,7 +114,7 @@ impl Nic {
     /// put, and awaits the reply. Refusals and conditions are those of a put.
     pub fn get(&mut self, args: GetArgs) -> Result<Message, NiFault>
         requires { MayStart (Get args) self.old.ranks self.old.limits }
-        ensures does { MayLackMemory (start_of (Get args) self.old) self.old (ends self.new (as_started result)) }
+        ensures does { MayLackMemory (start (Get args) self.old) self.old (ends self.new (as_started result)) }
     {
         self.start(&Deed::Get(args))
     }
@@ -124,7 +123,7 @@ impl Nic {
     /// a put, and beside them the length is of whole elements and within the limit of atomics.
     pub fn atomic(&mut self, args: PutArgs, op: AtomicOp, ty: ElemType) -> Result<Message, NiFault>
         requires { MayStart (Atomic args op ty) self.old.ranks self.old.limits }
-        ensures does { MayLackMemory (start_of (Atomic args op ty) self.old) self.old (ends self.new (as_started result)) }
+        ensures does { MayLackMemory (start (Atomic args op ty) self.old) self.old (ends self.new (as_started result)) }
     {
         self.start(&Deed::Atomic(args, op, ty))
     }
@@ -142,7 +141,7 @@ impl Nic {
         ty: ElemType,
     ) -> Result<Message, NiFault>
         requires { MayStart (FetchAtomic back args op ty) self.old.ranks self.old.limits }
-        ensures does { MayLackMemory (start_of (FetchAtomic back args op ty) self.old) self.old (ends self.new (as_started result)) }
+        ensures does { MayLackMemory (start (FetchAtomic back args op ty) self.old) self.old (ends self.new (as_started result)) }
     {
         self.start(&Deed::FetchAtomic(back, args, op, ty))
     }
@@ -159,16 +158,16 @@ impl Nic {
         operand: u64,
     ) -> Result<Message, NiFault>
         requires { MayStart (Swap back args op ty operand) self.old.ranks self.old.limits }
-        ensures does { MayLackMemory (start_of (Swap back args op ty operand) self.old) self.old (ends self.new (as_started result)) }
+        ensures does { MayLackMemory (start (Swap back args op ty operand) self.old) self.old (ends self.new (as_started result)) }
     {
         self.start(&Deed::Swap(back, args, op, ty, operand))
     }
 
     /// Starts what the deed says, with room for its bytes.
     fn start(&mut self, deed: &Deed) -> Result<Message, NiFault>
-        requires start { starts deed.now ≡ true }
+        requires start { is_start deed.now ≡ true }
         requires may { MayStart deed.now self.old.ranks self.old.limits }
-        ensures { MayLackMemory (start_of deed.now self.old) self.old (ends self.new (as_started result)) }
+        ensures { MayLackMemory (start deed.now self.old) self.old (ends self.new (as_started result)) }
     {
         self.initiator.check(deed)?;
         let room = match Bytes::with_room(self.alloc, room_for(deed)) {
@@ -189,7 +188,7 @@ impl Nic {
     /// or a set together pass 2^64 - 1, `NoMemory`. Conditions: those of the plain operation.
     pub fn triggered(&mut self, deed: Deed, ct: Handle, threshold: u64) -> Result<u32, NiFault>
         requires { MayStart deed self.old.ranks self.old.limits }
-        ensures does { MayLackMemory (triggered_of deed ct threshold self.old) self.old (ends self.new result) }
+        ensures does { MayLackMemory (triggered deed ct threshold self.old) self.old (ends self.new result) }
     {
         check_triggered(
             &self.cts,

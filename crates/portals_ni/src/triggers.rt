@@ -1,11 +1,12 @@
 //! The pending operations of an interface, and what they name.
 
-ghost use Rattle.std.specs.Prelude.{◌≡◌, ◌<◌, ◌-◌, ◌^◌, None, IfNone, IfSome, IsTrue, IfOk, OnOk, OnErr, All, length, option_map};
-ghost use Rattle.ni_model.specs.Refusals.{operation_names_md, operation_names_ct};
+ghost use Rattle.std.specs.Prelude.{◌≡◌, ◌<◌, ◌-◌, ◌^◌, ◌||◌, None, IfNone, IfOk, OnOk, OnErr, All, length, option_map};
+ghost use Rattle.ptl_types.specs.Handles.{same_handle};
+ghost use Rattle.ni_model.specs.Refusals.{deed_names_ct, deed_names_md, operation_names_md, operation_names_ct};
 ghost use Rattle.triggered_ops.specs.Operations.{no_operations, operation_at, deed_of, with_posted, told, without_number, waiting_on, cancelled, posted_all};
-ghost use Rattle.portals_ni.specs.Answers.{deed_counter as counter_of};
+ghost use Rattle.portals_ni.specs.Answers.{deed_counter};
 ghost use Rattle.portals_ni.specs.Pendings.{deed_in};
-ghost use Rattle.portals_ni.specs.Uses.{put_md as put_md_of, get_md as get_md_of, AreUsed, NamesBelow, CtsAlone, MdsAlone};
+ghost use Rattle.portals_ni.specs.Uses.{put_md, get_md, AreUsed, CtsAlone, MdsAlone};
 
 use crate::armed::Armed;
 use ptl_types::{Deed, Handle, Limits, NoMemory};
@@ -36,7 +37,7 @@ impl Model for Triggers {
 
 /// The counting event that a deed counts on, if it does.
 fn deed_counter(deed: &Deed) -> Option<Handle>
-    ensures { result ≡ counter_of deed.now }
+    ensures { result ≡ deed_counter deed.now }
 {
     match deed {
         Deed::Inc(ct, _) => Some(*ct),
@@ -47,7 +48,7 @@ fn deed_counter(deed: &Deed) -> Option<Handle>
 
 /// The descriptor of a deed's put arguments, if it has any.
 fn put_md(deed: &Deed) -> Option<Handle>
-    ensures { result ≡ put_md_of deed.now }
+    ensures { result ≡ put_md deed.now }
 {
     match deed {
         Deed::Put(args) => Some(args.md),
@@ -60,7 +61,7 @@ fn put_md(deed: &Deed) -> Option<Handle>
 
 /// The descriptor of a deed's get arguments, if it has any.
 fn get_md(deed: &Deed) -> Option<Handle>
-    ensures { result ≡ get_md_of deed.now }
+    ensures { result ≡ get_md deed.now }
 {
     match deed {
         Deed::Get(args) => Some(args.md),
@@ -113,24 +114,64 @@ fn drop_on(pending: &mut Pending<Armed>, cts: &mut Users, mds: &mut Users, ct: H
     }
 }
 
-/// Whether a row has the slot of what is named, if anything is.
-fn has_slot(row: &Users, named: Option<Handle>) -> bool
-    ensures { IsTrue result → IfSome named (λ h. h.slot < length row.now) }
+/// Whether the deed names the descriptor.
+fn deed_names_md(deed: &Deed, md: Handle) -> bool
+    ensures { result ≡ deed_names_md md deed.now }
 {
-    match named {
-        Some(h) => row.at(h.slot).is_some(),
-        None => true,
+    match deed {
+        Deed::Put(args) => args.md.is(md),
+        Deed::Get(args) => args.md.is(md),
+        Deed::Atomic(args, _, _) => args.md.is(md),
+        Deed::FetchAtomic(back, args, _, _) => back.md.is(md) || args.md.is(md),
+        Deed::Swap(back, args, _, _, _) => back.md.is(md) || args.md.is(md),
+        _ => false,
     }
 }
 
-/// Whether the rows have the slots of all that an operation names.
-fn have_slots(cts: &Users, mds: &Users, ct: Handle, deed: &Deed) -> bool
-    ensures { IsTrue result → NamesBelow (length cts.now) (length mds.now) ct deed.now }
+/// Whether a pending operation names the descriptor.
+fn some_names_md(pending: &Pending<Armed>, md: Handle) -> bool
+    ensures { result ≡ operation_names_md md (posted_all deed_in pending.now).waiting }
 {
-    has_slot(cts, Some(ct))
-        && has_slot(cts, deed_counter(deed))
-        && has_slot(mds, get_md(deed))
-        && has_slot(mds, put_md(deed))
+    let mut from = 0;
+    while let Some((number, armed, _, _)) = pending.next(from) {
+        if deed_names_md(&armed.deed, md) {
+            return true;
+        }
+        from = number + 1;
+    }
+    false
+}
+
+/// Whether the deed counts on the counting event.
+fn deed_names_ct(deed: &Deed, ct: Handle) -> bool
+    ensures { result ≡ deed_names_ct ct deed.now }
+{
+    match deed {
+        Deed::Inc(handle, _) => handle.is(ct),
+        Deed::Set(handle, _) => handle.is(ct),
+        _ => false,
+    }
+}
+
+/// Whether an operation waits on the counting event, or counts on it.
+fn counts_on(deed: &Deed, waits_on: Handle, ct: Handle) -> bool
+    ensures { result ≡ (same_handle waits_on ct || deed_names_ct ct deed.now) }
+{
+    waits_on.is(ct) || deed_names_ct(deed, ct)
+}
+
+/// Whether a pending operation waits or counts on the counting event.
+fn some_names_ct(pending: &Pending<Armed>, ct: Handle) -> bool
+    ensures { result ≡ operation_names_ct ct (posted_all deed_in pending.now).waiting }
+{
+    let mut from = 0;
+    while let Some((number, armed, waits_on, _)) = pending.next(from) {
+        if counts_on(&armed.deed, waits_on, ct) {
+            return true;
+        }
+        from = number + 1;
+    }
+    false
 }
 
 impl Triggers {
@@ -173,11 +214,6 @@ impl Triggers {
         ensures ok { OnOk result (self.new ≡ with_posted armed ct threshold sum (told ct sum self.old)) }
         ensures err { OnErr result (self.new ≡ told ct sum self.old) }
     {
-        // The rows have the slots of all live things; of another none is counted, and nothing is posted.
-        if !have_slots(&self.cts, &self.mds, ct, &armed.deed) {
-            self.pending.reached(ct, sum);
-            return Err(NoMemory);
-        }
         // Brings the bound of how many wait to the proof.
         let _many = self.pending.len();
         let counter = deed_counter(&armed.deed);
@@ -210,19 +246,26 @@ impl Triggers {
         before - self.pending.len()
     }
 
-    /// Whether an operation waits or counts on the counting event. Condition: none names another counting event of its slot.
+    /// Whether an operation waits or counts on the counting event, by the count of its slot; a slot past the row's end is
+    /// looked up operation by operation. Condition: none names another counting event of this slot.
     pub fn names_ct(&self, ct: Handle) -> bool
         requires alone { All (CtsAlone ct) self.now.waiting }
         ensures told { result ≡ operation_names_ct ct (posted_all deed_in self.now).waiting }
     {
-        self.cts.at(ct.slot).unwrap_or(0) > 0
+        match self.cts.at(ct.slot) {
+            Some(uses) => uses > 0,
+            None => some_names_ct(&self.pending, ct),
+        }
     }
 
-    /// Whether an operation names the descriptor. Condition: none names another descriptor of its slot.
+    /// Whether an operation names the descriptor, likewise. Condition: none names another descriptor of this slot.
     pub fn names_md(&self, md: Handle) -> bool
         requires alone { All (MdsAlone md) self.now.waiting }
         ensures told { result ≡ operation_names_md md (posted_all deed_in self.now).waiting }
     {
-        self.mds.at(md.slot).unwrap_or(0) > 0
+        match self.mds.at(md.slot) {
+            Some(uses) => uses > 0,
+            None => some_names_md(&self.pending, md),
+        }
     }
 }

@@ -44,7 +44,7 @@ abbrev pub due_judged : Outline → Option Verdict → Option Excessive → Due
 due_judged o found None = due_verdict found
 due_judged o found (Some r) = refused (step_line o r.step) (excess_name r.name)
 
--- a description and the orders behind it, or the first refusal with its line
+-- a description and the orders after it, or the first refusal with its line
 abbrev pub due_checked : Option Verdict → Result (Program × List (List LocalStep)) (ℕ × Refusal) → Due
 due_checked found (Ok both) = due_judged both.0.shape found (refusal both.0.shape)
 due_checked found (Err refusal) = refused refusal.0 refusal.1

@@ -44,7 +44,7 @@ done text = record { status = Done; text = text }
 abbrev pub refused : ℕ → Refusal → Due
 refused number name = record { status = Refused; text = refusal_line number name }
 
--- The line of step k, both counted as they are: behind the two lines of the head stand `complete remote`, where it is said, a line
+-- The line of step k, both counted as they are: after the two lines of the head stand `complete remote`, where it is said, a line
 -- for each group, and for each input a line and one for each rank.
 abbrev pub step_line : Outline → ℕ → ℕ
 step_line o k = 3 + (if o.remote then 1 else 0) + length o.groups + o.inputs * (o.ranks + 1) + k

@@ -219,7 +219,7 @@ pub fn run_with_gate<R: Threads + Wait + Sync, S: Source, K: Sink, G: Gate>(
 /// itself. `steady W` does what `run W` does, by workers that go on until a wave of probes has found that nothing is left. `json W`
 /// does what `run W` does with a description in JSON. `large K W` reads nothing: W workers run the description that the number K,
 /// below 65,536, chooses, and its summary is written. `plan` writes the plan that the description is compiled to; nothing is run.
-/// `check` reads a description and behind it, for each rank, the line of its local steps, and writes the verdict on these. All
+/// `check` reads a description and after it, for each rank, the line of its local steps, and writes the verdict on these. All
 /// other words get the usage line, and leave the source unread.
 ///
 /// The world that ran, or the choice world, is handed back in `ran`, where a result was owed and the run was made; after every

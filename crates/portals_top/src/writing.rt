@@ -1,7 +1,7 @@
 //! Writing what a world at rest holds.
 
 ghost use Rattle.std.specs.Prelude.{ℕ, List, ◌≡◌, ◌<◌, ◌++◌, Some, []};
-ghost use Rattle.ptl_types.specs.declared.steps.LocalStep.{LocalStep as StepOf};
+ghost use Rattle.ptl_types.specs.declared.steps.LocalStep.{LocalStep};
 ghost use Rattle.coll_lang.specs.Generated.{generated};
 ghost use Rattle.coll_shape.specs.WellFormed.{IsWellFormed};
 ghost use Rattle.job_laws.specs.Results.{AreMeant};
@@ -48,7 +48,7 @@ pub(crate) trait Histories {
     ghost count: { Self → ℕ };
 
     /// The steps of each rank, oldest first.
-    ghost steps: { Self → ℕ → List StepOf };
+    ghost steps: { Self → ℕ → List LocalStep };
 
     /// How many ranks there are.
     fn rank_count(&self) -> u32

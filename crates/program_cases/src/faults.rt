@@ -15,7 +15,7 @@ use std::thread::Threads;
 /// How many calls of a source and of a sink fail, one after the other.
 const CALLS: u32 = 50;
 
-/// So many turns that take at most so many bytes each, and behind them one that fails or none.
+/// So many turns that take at most so many bytes each, and after them one that fails or none.
 fn turns(alloc: Global, takes: u32, most: u64, fails: bool) -> Result<IoTurns, Fail> {
     let mut turns = IoTurns::new(alloc);
     for _ in 0..takes {

@@ -62,7 +62,7 @@ fn check_writes_the_verdict_on_orders(rt: HostRuntime) -> Result<(), Fail> {
     Ok(())
 }
 
-/// A description, and orders behind it.
+/// A description, and orders after it.
 fn joined(alloc: Global, text: &str, orders: &str) -> Result<String, AllocError> {
     let mut both = String::from_str(alloc, text)?;
     both.push_str(orders)?;
@@ -111,7 +111,7 @@ order 3 s f0 f16 f2 f17 r3 f1 f18 f3 r3 f19 f4 f5 r1 f12 f6 r3 f21 f7 f8 r2 f10 
     Ok(())
 }
 
-/// Runs words on a description, and answers the orders that are written behind the results.
+/// Runs words on a description, and answers the orders that are written after the results.
 fn orders_of(
     rt: &(impl Abort + Threads + Wait + Sync),
     alloc: Global,
@@ -148,7 +148,7 @@ fn push_exchanged(
     text.push_str("\n")
 }
 
-/// A description, and orders behind it of which two neighbours are exchanged at one rank: a number says at which, and where.
+/// A description, and orders after it of which two neighbours are exchanged at one rank: a number says at which, and where.
 fn with_exchanged(
     alloc: Global,
     text: &str,

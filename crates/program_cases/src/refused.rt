@@ -124,12 +124,12 @@ fn a_refused_text_gets_its_line_under_each_command(rt: HostRuntime) -> Result<()
 #[test]
 fn commands_that_refuse_in_their_own_way(rt: HostRuntime) -> Result<(), Fail> {
     let alloc = rt.alloc();
-    let behind = "coll 1\nranks 1\nend\nx";
+    let after = "coll 1\nranks 1\nend\nx";
     let choice = "coll 2\nranks 1\nelect e\ntickets t\nprint e\nprint t\nend\n";
     let cases: [(&[&str], &str, &str); 8] = [
-        // What stands behind a description is an order line that isn't ended, where orders are due.
-        (&["once"], behind, "refused 4 AfterEnd\n"),
-        (&["check"], behind, "refused 4 Unended\n"),
+        // What stands after a description is an order line that isn't ended, where orders are due.
+        (&["once"], after, "refused 4 AfterEnd\n"),
+        (&["check"], after, "refused 4 Unended\n"),
         (&["plan"], choice, "refused 0 OneThread\n"),
         (&["run", "2"], choice, "refused 0 OneThread\n"),
         (&["trace", "2"], choice, "refused 0 OneThread\n"),

@@ -1,7 +1,7 @@
 //! The arguments and answers of an interface's calls.
 
 ghost use Rattle.std.specs.Prelude.{◌≡◌};
-ghost use Rattle.ptl_types.specs.declared.calls.NiFault.TheVariants.{NoMemory as NoMemoryFault};
+ghost use Rattle.ptl_types.specs.declared.calls.NiFault.TheVariants.{NoMemory};
 
 use crate::{
     AckRequest, AtomicOp, Count, ElemType, Event, Handle, Message, NoMemory, Rank, SwapOp,
@@ -83,7 +83,7 @@ impl fmt::Display for NiFault {
 impl std::error::Error for NiFault {}
 
 impl From<NoMemory> for NiFault {
-    ghost from_gives = { λ _ e. e ≡ NoMemoryFault };
+    ghost from_gives = { λ _ e. e ≡ NoMemory };
 
     fn from(_e: NoMemory) -> NiFault {
         NiFault::NoMemory

@@ -1,4 +1,4 @@
-//! Ranks, handles, counts, and the want of memory.
+//! Ranks, handles, counts, and what says that memory ran out.
 
 ghost use Rattle.std.specs.Prelude.{◌≡◌};
 ghost use Rattle.ptl_types.specs.Handles.{same_handle};

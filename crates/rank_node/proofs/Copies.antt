@@ -14,7 +14,7 @@ use Rattle.ptl_types.specs.declared.steps.LocalStep.{LocalStep}
 use Rattle.ptl_types.specs.declared.steps.LocalStep.TheVariants.{Start, Receive, Fire}
 use Rattle.rank_node.specs.Copies.{told, due_of, AreCopied, has_start, bytes_received, listed}
 
--- a history behind another step
+-- a history after another step
 abbrev pub Grows : List LocalStep → List Header → List ℕ → List LocalStep → List Header → List ℕ → Local → Type 0
 Grows es hs bs fs js cs e = (told fs js cs ≡ told es hs bs ++ e ∷ []) × AreCopied fs js cs
 

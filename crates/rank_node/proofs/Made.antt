@@ -3,7 +3,7 @@ use Rattle.std.proofs.Common.{◌≡◌, ◌<◌, ℕ, suc, ◌+◌, List, [], �
 use Rattle.std.proofs.lemmas.List.{map-append, take_more, drop_more}
 use Rattle.ptl_types.specs.declared.handles.Handle.{Handle}
 use Rattle.ptl_types.specs.declared.entries.Entry.{Entry}
-use Rattle.ptl_types.specs.declared.entries.List.{List as Place}
+use Rattle.ptl_types.specs.declared.entries.List.{List as EntryList}
 use Rattle.ptl_types.specs.declared.entries.List.TheVariants.{Priority, Overflow as InOverflow}
 use Rattle.ptl_types.specs.declared.calls.Deed.{Deed}
 use Rattle.ptl_types.specs.declared.calls.Limits.{Limits}
@@ -117,7 +117,7 @@ made-bound cells n remote done s t hs left new is all =
     }
 
 -- ---- an entry, in either list
-made-linked : (cells : List ℕ) (call : Call) (place : Place) (e : Entry) (s t : State) (hs left : Handles) → e.use_once ≡ false → NewEntry place e s t hs left → AreAllOf s hs
+made-linked : (cells : List ℕ) (call : Call) (place : EntryList) (e : Entry) (s t : State) (hs left : Handles) → e.use_once ≡ false → NewEntry place e s t hs left → AreAllOf s hs
     → ((k : Slots) → Agrees k hs → call_made k cells call s ≡ with_entry (k.me s.entries_given) place e s) → count_call call (counted_in hs) ≡ record (counted_in hs) { entries = suc (length hs.entries) } → AreMade cells (call ∷ []) s t hs left
 made-linked cells call place e s t hs left persistent new all is counts =
     subst (λ (x : Handles). AreMade cells (call ∷ []) s t hs x) (sym new.left) (subst (λ (x : State). AreMade cells (call ∷ []) s x hs (with_entry_handle new.made hs)) (sym new.state) there)

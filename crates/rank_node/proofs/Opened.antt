@@ -38,7 +38,7 @@ below-none closed (Some d) = let e : nat_lt d 0 ≡ false = grind (arith, nat_te
 pub start-all : (closed : List Bool) (target : ℕ → Option ℕ) (xs : List ℕ) → below_of closed 0 target xs ≡ xs
 start-all closed target xs = filter-all _ xs (λ x. below-none closed (target x))
 
--- behind the last
+-- after the last
 order : (d k : ℕ) → nat_lt d k ≡ true → d < k
 order d k e = grind (arith, nat_tests)
 
@@ -212,6 +212,6 @@ drop-all [] (suc n) le = refl
 drop-all (x ∷ xs) zero le = absurd (omega arith)
 drop-all (x ∷ xs) (suc n) le = drop-all xs n (omega arith)
 
--- behind the last there is none
+-- after the last there is none
 pub ahead-ends : (p : ℕ → Bool) (xs : List ℕ) (i place rest : ℕ) → length xs ≤ place → IsAhead p xs i place rest → ⊥
 ahead-ends p xs i place rest le a = let there : rest < 0 = subst (λ ys. rest < length (filter p ys)) (drop-all xs place le) a.there in absurd (omega arith)

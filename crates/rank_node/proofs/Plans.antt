@@ -67,7 +67,7 @@ rising-filter t k (suc n) = at (t k) (rising-filter t (suc k) n)
     at true rest = rising-cons k (filter t (from_to (suc k) n)) above rest
     at false rest = rest
 
--- ---- lists of calls, one behind the other
+-- ---- lists of calls, one after the other
 may-append : (cells : List ℕ) (ranks : ℕ) (limits : Limits) (n : Counted) (xs ys : List Call) → MayCallAll cells ranks limits n xs → MayCallAll cells ranks limits (count_calls xs n) ys → MayCallAll cells ranks limits n (xs ++ ys)
 may-append cells ranks limits n [] ys a b = b
 may-append cells ranks limits n (x ∷ xs) ys a b = (a.0, may-append cells ranks limits (count_call x n) xs ys a.1 b)
@@ -169,7 +169,7 @@ module _ (p : Plan) (inputs : Inputs) (sound : SoundPlan p (length inputs)) (r :
   own_have [] sub = All-nil IsPlaced
   own_have (c ∷ cs) sub = All-cons IsPlaced (own_cell p r c) (map (own_cell p r) cs) (place_in-lt (own p r) c (sub c (inl refl))) (own_have cs (λ d i. sub d (inr i)))
 
-  -- the calls behind those of the areas, and behind those of the counters
+  -- the calls after those of the areas, and after those of the counters
   abbrev operations : List Call
   operations = map (trigger p) (works p r)
 

@@ -81,10 +81,10 @@ started-one longest cells ct c s t a b one is = record {
   only = one.only;
 }
 
--- the entry and the state behind the copying as they were computed
-pub started-by : (longest : ℕ) (cells : List ℕ) (ct : Handle) (c : OwnCell) (e : Entry) (s v t : State) (a b : Handles) → e ≡ entry_of ct c → v ≡ record s { memory = bring_all longest c (found_in 0 e s.headers.noted) s.memory } → IsAppended e v t a b → ((k : Slots) → Agrees k a → ct ≡ counter_at k cells c.number) → AreStarted longest cells (c ∷ []) s t a b
+-- the entry and the state after the copying as they were computed
+pub started-by : (longest : ℕ) (cells : List ℕ) (ct : Handle) (c : OwnCell) (e : Entry) (s v t : State) (a b : Handles) → e ≡ entry_of ct c → v ≡ record s { memory = bring_all longest c (found_in 0 e s.headers.unexpected) s.memory } → IsAppended e v t a b → ((k : Slots) → Agrees k a → ct ≡ counter_at k cells c.number) → AreStarted longest cells (c ∷ []) s t a b
 started-by longest cells ct c e s v t a b is brought one counter =
-    let there : v ≡ with_brought longest ct c s = brought ∙ ap (λ x. record s { memory = bring_all longest c (found_in 0 x s.headers.noted) s.memory }) is in
+    let there : v ≡ with_brought longest ct c s = brought ∙ ap (λ x. record s { memory = bring_all longest c (found_in 0 x s.headers.unexpected) s.memory }) is in
     started-one longest cells ct c s t a b (subst (λ x. IsAppended x (with_brought longest ct c s) t a b) is (subst (λ x. IsAppended e x t a b) there one)) counter
 
 -- ---- the cells of a list, and one more

@@ -6,7 +6,7 @@ use Rattle.ptl_types.specs.declared.handles.Handle.{Handle}
 use Rattle.ptl_types.specs.declared.handles.Count.{Count}
 use Rattle.ptl_types.specs.declared.headers.Header.{Header}
 use Rattle.ptl_types.specs.declared.entries.Entry.{Entry}
-use Rattle.ptl_types.specs.declared.entries.List.{List as Place}
+use Rattle.ptl_types.specs.declared.entries.List.{List as EntryList}
 use Rattle.ptl_types.specs.declared.entries.List.TheVariants.{Priority, Overflow as InOverflow}
 use Rattle.ptl_types.specs.declared.calls.Deed.{Deed}
 use Rattle.ptl_types.specs.declared.calls.Deed.TheVariants.{Put, Get, Atomic, FetchAtomic, Swap, Inc, Set}
@@ -17,7 +17,7 @@ use Rattle.ni_model.specs.declared.Bound.{Bound}
 use Rattle.ni_model.specs.declared.Found.{Found}
 use Rattle.ni_model.specs.Tables.{Table, Live, change, changed}
 use Rattle.ni_model.specs.Counts.{counted, successes}
-use Rattle.ni_model.specs.declared.Noted.{Noted}
+use Rattle.ni_model.specs.declared.IndexedHeader.{IndexedHeader}
 use Rattle.ni_model.specs.Headers.{allows, no_room, oldest, found_in}
 use Rattle.ni_model.specs.Append.{append, append_once, linked_as, take_all, each_counted, overflow_counter}
 use Rattle.ni_model.specs.Arrive.{Parts, Received, received, refused, request, judged, accepted, chosen, is_overflow, counter_of}
@@ -49,19 +49,19 @@ pub same-counted : (ct : Option Handle) (by : Count) (t : Table Count) → SameT
 same-counted None by t = same-things t
 same-counted (Some h) by t = same-changed h _ t
 
-pub same-each : (ct : Option Handle) (found : List Noted) (t : Table Count) → SameThings t (each_counted ct found t)
+pub same-each : (ct : Option Handle) (found : List IndexedHeader) (t : Table Count) → SameThings t (each_counted ct found t)
 same-each ct [] t = same-things t
 same-each ct (a ∷ found) t = same-twice t (counted ct (successes 1) t) (each_counted ct found (counted ct (successes 1) t)) (same-counted ct (successes 1) t) (same-each ct found (counted ct (successes 1) t))
 
 -- a persistent entry that is linked
-pub linked-counters : (slot pt : ℕ) (place : Place) (e : Entry) (p : Parts) → e.use_once ≡ false → SameThings p.cts (append slot pt place e p).parts.cts
+pub linked-counters : (slot pt : ℕ) (place : EntryList) (e : Entry) (p : Parts) → e.use_once ≡ false → SameThings p.cts (append slot pt place e p).parts.cts
 unfolding append
-linked-counters slot pt Priority e p persistent = subst (λ b. SameThings p.cts (if b then append_once slot pt e p (oldest pt e p.side.headers.noted) else linked_as slot pt Priority e (found_in pt e p.side.headers.noted) (take_all pt e p)).parts.cts) (sym persistent) (same-each (overflow_counter e) (found_in pt e p.side.headers.noted) p.cts)
+linked-counters slot pt Priority e p persistent = subst (λ b. SameThings p.cts (if b then append_once slot pt e p (oldest pt e p.side.headers.unexpected) else linked_as slot pt Priority e (found_in pt e p.side.headers.unexpected) (take_all pt e p)).parts.cts) (sym persistent) (same-each (overflow_counter e) (found_in pt e p.side.headers.unexpected) p.cts)
 linked-counters slot pt InOverflow e p persistent = same-things p.cts
 
-pub linked-given : (slot pt : ℕ) (place : Place) (e : Entry) (p : Parts) → e.use_once ≡ false → (append slot pt place e p).parts.side.given ≡ p.side.given + 1
+pub linked-given : (slot pt : ℕ) (place : EntryList) (e : Entry) (p : Parts) → e.use_once ≡ false → (append slot pt place e p).parts.side.given ≡ p.side.given + 1
 unfolding append
-linked-given slot pt Priority e p persistent = subst (λ b. (if b then append_once slot pt e p (oldest pt e p.side.headers.noted) else linked_as slot pt Priority e (found_in pt e p.side.headers.noted) (take_all pt e p)).parts.side.given ≡ p.side.given + 1) (sym persistent) refl
+linked-given slot pt Priority e p persistent = subst (λ b. (if b then append_once slot pt e p (oldest pt e p.side.headers.unexpected) else linked_as slot pt Priority e (found_in pt e p.side.headers.unexpected) (take_all pt e p)).parts.side.given ≡ p.side.given + 1) (sym persistent) refl
 linked-given slot pt InOverflow e p persistent = refl
 
 same-more : (h : Option Handle) (t : Table Bound) → SameThings t (awaits_more h t)

@@ -3,7 +3,7 @@ use Rattle.std.specs.Prelude.{ℕ, suc, ◌<◌, ◌≡◌, List, [], ◌∷◌,
 use Rattle.ptl_types.specs.declared.handles.Handle.{Handle}
 use Rattle.ptl_types.specs.declared.entries.Entry.{Entry}
 use Rattle.ptl_types.specs.declared.entries.Descriptor.{Descriptor}
-use Rattle.ptl_types.specs.declared.entries.List.{List as Place}
+use Rattle.ptl_types.specs.declared.entries.List.{List as EntryList}
 use Rattle.ptl_types.specs.declared.calls.Limits.{Limits}
 use Rattle.ptl_types.specs.declared.steps.Act.{Act}
 use Rattle.ptl_types.specs.declared.steps.Act.TheVariants.{Send, BumpCell, BumpDone}
@@ -51,7 +51,7 @@ MayCall cells ranks limits n (Overflow start size bits ignored) = Unit {0}
 MayCall cells ranks limits n (MeAppend c start size bits ignored) = HasCounter cells n.counters c
 MayCall cells ranks limits n (Trigger c threshold act) = HasCounter cells n.counters c × IsWired cells n act × MaySend ranks limits act
 
--- how many things there are behind it
+-- how many things there are after it
 abbrev pub count_call : Call → Counted → Counted
 count_call CtDone n = record n { counters = suc n.counters }
 count_call (CtCell c) n = record n { counters = suc n.counters }
@@ -61,7 +61,7 @@ count_call (MeAppend c start size bits ignored) n = record n { entries = suc n.e
 count_call PtAlloc n = n
 count_call (Trigger c threshold act) n = n
 
--- and behind a list of calls
+-- and after a list of calls
 abbrev pub count_calls : List Call → Counted → Counted
 count_calls [] n = n
 count_calls (call ∷ calls) n = count_calls calls (count_call call n)
@@ -99,7 +99,7 @@ pub record NewDescriptor (md : Descriptor) (old new : State) (before after : Han
   pub left : after ≡ with_descriptor_handle made before
 
 -- an entry
-pub record NewEntry (place : Place) (e : Entry) (old new : State) (before after : Handles) : Type 0 where
+pub record NewEntry (place : EntryList) (e : Entry) (old new : State) (before after : Handles) : Type 0 where
   pub made : Handle
   pub state : new ≡ with_entry made.slot place e old
   pub left : after ≡ with_entry_handle made before

@@ -1,4 +1,4 @@
--- A history as a node keeps it: the steps, and of what was received the headers and copies of the bytes, one behind the other.
+-- A history as a node keeps it: the steps, and of what was received the headers and copies of the bytes, one after the other.
 use Rattle.std.specs.Prelude.{ℕ, Bool, nat_lt, ◌+◌, ◌-◌, ◌≡◌, ◌≤◌, List, [], ◌∷◌, ◌++◌, length, take, drop, count_by}
 use Rattle.ptl_types.specs.declared.headers.Header.{Header}
 use Rattle.ptl_types.specs.declared.headers.Lane.{Lane}

@@ -63,7 +63,7 @@ start_of t k = beginning t.longest k t.cells t.go t.own
 abbrev pub made_in_all : Task → Counted
 made_in_all t = let n = count_calls t.calls none_made in record n { entries = n.entries + length t.own }
 
--- the calls can be made one after the other; behind them there are a counter for each own cell beside that of what is done, and
+-- the calls can be made one after the other; after them there are a counter for each own cell beside that of what is done, and
 -- one descriptor; and the limits suffice
 pub record IsCompiled (t : Task) : Type 0 where
   pub rank : t.rank < t.ranks
@@ -76,7 +76,7 @@ pub record IsCompiled (t : Task) : Type 0 where
   pub own : All (λ (x : OwnCell). place_in t.cells x.number < length t.cells) t.own
   pub few : t.receipts < 2 ^ 33
 
--- the interface and its handles behind the calls
+-- the interface and its handles after the calls
 pub record IsPrepared (t : Task) (nic : State) (hs : Handles) : Type 0 where
   pub state : (k : Slots) → Agrees k hs → nic ≡ prepared t k
   pub all : AreAllOf nic hs

@@ -27,7 +27,7 @@ pub fn may_fire(nic: &Nic, gates: &Gates, number: u32) -> bool
 }
 
 /// How many operations are ready whose message would find its lane to this rank closed.
-fn behind(nic: &Nic, gates: &Gates, d: Rank) -> u32
+fn held_up(nic: &Nic, gates: &Gates, d: Rank) -> u32
     ensures { result ≡ (if slice_index_or gates.now d false then length (ready_numbers_to d nic.now) else 0) }
 {
     if gates.is_closed(d) {
@@ -46,7 +46,7 @@ pub fn open_count(nic: &Nic, gates: &Gates) -> u32
         return count;
     }
     for d in 0..gates.len() {
-        count -= behind(nic, gates, d);
+        count -= held_up(nic, gates, d);
     }
     count
 }

@@ -4,7 +4,7 @@ ghost use Rattle.std.specs.Prelude.{◌≡◌, ◌<◌, ◌≤◌, [], IfOk, len
 ghost use Rattle.ni_model.specs.Conditions.{IsKept};
 ghost use Rattle.plan_cuts.specs.History.Local.{Start as Started, Fire as Fired};
 ghost use Rattle.ptl_types.specs.declared.steps.LocalStep.TheVariants.{Start as StartStep, Fire as FireStep};
-ghost use Rattle.rank_node.specs.Copies.{has_start, listed as step_of, with_receipt, with_step};
+ghost use Rattle.rank_node.specs.Copies.{has_start, listed, with_receipt, with_step};
 
 use ptl_types::{Header, Lane, LocalStep, Message, NoMemory, Rank};
 use std::alloc::Global;
@@ -67,7 +67,7 @@ impl History {
     /// The steps, oldest first.
     pub fn steps(&self) -> &[LocalStep]
         ensures told { result.now ≡ self.now.steps }
-        ensures listed { map step_of self.now.locals ≡ self.now.steps }
+        ensures listed { map listed self.now.locals ≡ self.now.steps }
     {
         self.steps.as_slice()
     }

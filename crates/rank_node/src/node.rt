@@ -7,7 +7,7 @@ ghost use Rattle.ni_model.specs.Tables.{lookup};
 ghost use Rattle.plan_view.specs.Slots.{Slots, done_ct};
 ghost use Rattle.plan_cuts.specs.History.{IsDue, is_lane, is_start, made_by};
 ghost use Rattle.plan_cuts.specs.History.Local.{Receive as Received, Fire as Fired};
-ghost use Rattle.rank_node.specs.Copies.{listed as step_of};
+ghost use Rattle.rank_node.specs.Copies.{listed};
 ghost use Rattle.rank_node.specs.Gates.{may_go, open_numbers};
 ghost use Rattle.rank_node.specs.Handles.{Agrees};
 ghost use Rattle.rank_node.specs.Node.{IsCompiled, IsPrepared, IsNode, IsStarted, fired_node, gated_node, received_node, task_of};
@@ -138,7 +138,7 @@ impl Node {
     /// The steps, oldest first. `kept` is what holds of a node whatever was done with it.
     pub fn history(&self) -> &[LocalStep]
         ensures told { result.now ≡ self.now.diary.steps }
-        ensures listed { map step_of self.now.diary.locals ≡ self.now.diary.steps }
+        ensures listed { map listed self.now.diary.locals ≡ self.now.diary.steps }
         ensures kept { IsNode self.now }
     {
         self.history.steps()

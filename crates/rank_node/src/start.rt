@@ -3,10 +3,10 @@
 ghost use Rattle.std.specs.Prelude.{◌≡◌, ◌<◌, ◌≤◌, ◌+◌, ℕ, List, All, IsTrue, nat_le, [], ◌∷◌, true, false, length};
 ghost use Rattle.ptl_types.specs.Elements.{part};
 ghost use Rattle.ni_model.specs.Headers.{found_in};
-ghost use Rattle.plan_calls.specs.declared.OwnCell.{OwnCell as Own};
+ghost use Rattle.plan_calls.specs.declared.OwnCell.{OwnCell};
 ghost use Rattle.rank_node.specs.Handles.{AreAllOf, IsRising};
 ghost use Rattle.rank_node.specs.Calls.{HasCounter};
-ghost use Rattle.plan_start.specs.Start.{is_used as uses, lies_in as lies, fits_elements as fits, brought_by, bring, bring_all, go_raised, entry_of, with_brought};
+ghost use Rattle.plan_start.specs.Start.{is_used, lies_in, fits_elements, brought_by, bring, bring_all, go_raised, entry_of, with_brought};
 ghost use Rattle.rank_node.specs.Start.{IsAppended, AreStarted};
 
 use crate::install::{counter_of, entry_of_cell, one};
@@ -19,7 +19,7 @@ use unexpected::finds;
 
 /// Whether so many bytes are whole elements, where the cell has an operation.
 fn fits_elements(op: Option<AtomicOp>, ty: ElemType, count: u64) -> bool
-    ensures { result ≡ fits op ty count }
+    ensures { result ≡ fits_elements op ty count }
 {
     match op {
         None => true,
@@ -39,7 +39,7 @@ fn is_within(start: u64, length: u64, size: u64) -> bool
 
 /// Whether what a header brought is used.
 fn is_used(longest: u64, cell: &OwnCell, header: &UnexpectedHeader) -> bool
-    ensures { result ≡ uses longest cell.now header.now }
+    ensures { result ≡ is_used longest cell.now header.now }
 {
     is_within(header.header.offset, header.delivered, cell.length)
         && header.delivered <= longest
@@ -48,7 +48,7 @@ fn is_used(longest: u64, cell: &OwnCell, header: &UnexpectedHeader) -> bool
 
 /// Whether the cell and the header's bytes lie in a region of this size.
 fn lies_in(cell: &OwnCell, header: &UnexpectedHeader, size: u64) -> bool
-    ensures { result ≡ lies cell.now header.now size }
+    ensures { result ≡ lies_in cell.now header.now size }
 {
     is_within(cell.start, cell.length, size) && is_within(header.place, header.delivered, size)
 }
@@ -64,7 +64,7 @@ fn fill_brought(
 )
     requires old { at + length bytes.old ≤ length memory.now }
     requires new { place + length bytes.old ≤ length memory.now }
-    requires whole { fits op ty (length bytes.old) ≡ true }
+    requires whole { fits_elements op ty (length bytes.old) ≡ true }
     ensures { bytes.new ≡ brought_by op ty (part at (length bytes.old) memory.now) (part place (length bytes.old) memory.now) }
 {
     let count = bytes.len();
@@ -101,7 +101,7 @@ fn bring_one(nic: &mut Nic, buffer: &mut [u8], cell: &OwnCell, header: &Unexpect
 
 /// Brings what the headers brought that the entry finds, in order of arrival.
 fn bring_found(nic: &mut Nic, buffer: &mut [u8], cell: &OwnCell, entry: &Entry)
-    ensures { nic.new ≡ record nic.old { memory = bring_all (length buffer.old) cell.now (found_in 0 entry.now nic.old.headers.noted) nic.old.memory } }
+    ensures { nic.new ≡ record nic.old { memory = bring_all (length buffer.old) cell.now (found_in 0 entry.now nic.old.headers.unexpected) nic.old.memory } }
 {
     for i in 0..nic.headers().len() {
         let noted = nic.headers()[i];
@@ -155,7 +155,7 @@ pub fn start_cells(
 )
     requires all { AreAllOf nic.old kept.old }
     requires rising { IsRising cells.now }
-    requires there { All (λ (c : Own). HasCounter cells.now (length kept.old.counters) c.number) own.now }
+    requires there { All (λ (c : OwnCell). HasCounter cells.now (length kept.old.counters) c.number) own.now }
     requires room { length kept.old.entries + length own.now ≤ kept.old.room.entries }
     ensures { AreStarted (length buffer.old) cells.now own.now nic.old nic.new kept.old kept.new }
 {

@@ -1,7 +1,7 @@
 //! The own cells of a rank, as its start reads them.
 
 ghost use Rattle.std.specs.Prelude.{ℕ, Some, ◌≡◌, ◌<◌, IfOk, length};
-ghost use Rattle.plan_calls.specs.Calls.{append_call, own_cell as own_cell_of, own_cells as own_cells_of};
+ghost use Rattle.plan_calls.specs.Calls.{append_call, own_cell, own_cells};
 ghost use Rattle.shape_plans.specs.Drawing.{plan_of};
 
 use plan_calls::OwnCell;
@@ -13,7 +13,7 @@ use std::alloc::Global;
 /// The cell that a start appends an entry for, with its operation and the type of its elements. `None` only for another call.
 fn own_cell(plan: &Plan, call: &Call) -> Option<OwnCell>
     ensures { (r c : ℕ) → c < length plan.now.cells → call.now ≡ append_call plan.now r c →
-        result ≡ Some (own_cell_of plan.now r c) }
+        result ≡ Some (own_cell plan.now r c) }
 {
     match *call {
         Call::MeAppend {
@@ -45,7 +45,7 @@ pub(crate) fn own_cells(
     r: Rank,
 ) -> Result<Vec<OwnCell>, NoMemory>
     requires { r < schedule.now.ranks }
-    ensures { IfOk result (λ cells. cells.items ≡ own_cells_of (plan_of schedule.now) r) }
+    ensures { IfOk result (λ cells. cells.items ≡ own_cells (plan_of schedule.now) r) }
 {
     let plan = schedule.plan();
     let late = schedule.late(r);

@@ -2,7 +2,7 @@
 
 ghost use Rattle.std.specs.Prelude.{◌<◌, IfOk};
 ghost use Rattle.shape_plans.specs.Drawing.{plan_of};
-ghost use Rattle.rank_node.specs.Node.{task_of as as_task};
+ghost use Rattle.rank_node.specs.Node.{task_of};
 ghost use Rattle.rank_node.specs.Plans.{IsCompiledFor};
 
 use crate::own::own_cells;
@@ -20,7 +20,7 @@ use std::alloc::Global;
 /// There was no memory for it. The job is as it was.
 pub fn task_of(alloc: Global, job: &Job, r: Rank) -> Result<Compiled, NoMemory>
     requires { r < job.now.shape.ranks }
-    ensures { IfOk result (λ c. IsCompiledFor (plan_of job.now.shape) job.now.inputs r (as_task c)) }
+    ensures { IfOk result (λ c. IsCompiledFor (plan_of job.now.shape) job.now.inputs r (task_of c)) }
 {
     let schedule = job.schedule();
     let region = load(alloc, schedule, job.inputs(), r)?;

@@ -11,7 +11,7 @@ use Rattle.turn_table.specs.Hands.{marks}
 use Rattle.plan_cuts.specs.History.{Local}
 use Rattle.plan_cuts.specs.System.{Histories}
 use Rattle.schedule_compiler.specs.Jobs.{JobOf}
-use Rattle.rest_probe.specs.declared.notes.Noted.{Noted}
+use Rattle.rest_probe.specs.declared.notes.RankNote.{RankNote}
 use Rattle.rest_probe.specs.declared.notes.ProbeNote.{ProbeNote}
 use Rattle.rank_threads.specs.declared.slot.Slot.{Slot}
 use Rattle.rank_threads.specs.Names.{Mark, history, note}
@@ -46,14 +46,14 @@ seen-else job v w r q a b front n t apart h =
     }
 
 -- the notes of the ranks below n say what these fronts say
-abbrev pub AreNoted : JobOf → HandView Slot → ℕ → List Noted → Type 0
-AreNoted job v n w = (fronts : Histories) × ((r : ℕ) (x : Noted) → r < n → get_elem? w r ≡ some x → SaysSeen job v r (fronts r) x.note)
+abbrev pub AreNoted : JobOf → HandView Slot → ℕ → List RankNote → Type 0
+AreNoted job v n w = (fronts : Histories) × ((r : ℕ) (x : RankNote) → r < n → get_elem? w r ≡ some x → SaysSeen job v r (fronts r) x.note)
 
-pub none-noted : (job : JobOf) (v : HandView Slot) (w : List Noted) → AreNoted job v 0 w
+pub none-noted : (job : JobOf) (v : HandView Slot) (w : List RankNote) → AreNoted job v 0 w
 none-noted job v w = ((λ _. []), λ r x low at. absurd (omega (arith, low)))
 
 -- one note more
-pub more-noted : (job : JobOf) (v u : HandView Slot) (n : ℕ) (a : Mark) (w z : List Noted) → Turned v u n a a → HasNote job n a.0 a.1.kept z
+pub more-noted : (job : JobOf) (v u : HandView Slot) (n : ℕ) (a : Mark) (w z : List RankNote) → Turned v u n a a → HasNote job n a.0 a.1.kept z
     → ((r : ℕ) → r ≢ n → get_elem? z r ≡ get_elem? w r) → AreNoted job v n w → AreNoted job u (n + 1) z
 more-noted job v u n a w z t note others h = (
   (λ r. cond (eqb r n) a.0 (h.0 r)),

@@ -13,7 +13,7 @@ use Rattle.ni_model.specs.Calls.{AnswersReady}
 use Rattle.ni_model.specs.State.{State}
 use Rattle.rank_node.specs.Node.{IsNode}
 use Rattle.rest_probe.specs.declared.notes.LaneCount.{LaneCount}
-use Rattle.rest_probe.specs.declared.notes.Noted.{Noted}
+use Rattle.rest_probe.specs.declared.notes.RankNote.{RankNote}
 use Rattle.rest_probe.specs.Counted.{cleared, counted}
 use Rattle.rest_probe.specs.Waves.{IsFor}
 use Rattle.rest_probe.proofs.Kept.{as-many, cleared-set}
@@ -30,13 +30,13 @@ use Rattle.rank_threads.proofs.Pairs.{at_map_back, within}
 
 -- ---- lane by lane
 -- the counts of the lanes before a place were noted; `with` puts the counts into the note
-pub record Sofar (with : Noted → List LaneCount → Noted) (P : LaneCount → Type 0) (old : List LaneCount) (n r : ℕ) (x : Noted) (before after : List Noted) : Type 0 where
+pub record Sofar (with : RankNote → List LaneCount → RankNote) (P : LaneCount → Type 0) (old : List LaneCount) (n r : ℕ) (x : RankNote) (before after : List RankNote) : Type 0 where
   pub counts : List LaneCount
   pub wave : after ≡ set before r (with x counts)
   pub lanes : cleared counts ≡ cleared old
   pub each : (i : ℕ) (c : LaneCount) → i < n → get_elem? counts i ≡ some c → P c
 
-pub none-sofar : (with : Noted → List LaneCount → Noted) (P : LaneCount → Type 0) (old : List LaneCount) (r : ℕ) (x : Noted) (w : List Noted)
+pub none-sofar : (with : RankNote → List LaneCount → RankNote) (P : LaneCount → Type 0) (old : List LaneCount) (r : ℕ) (x : RankNote) (w : List RankNote)
     → get_elem? w r ≡ some x → with x old ≡ x → Sofar with P old 0 r x w w
 none-sofar with P old r x w at same = record {
   counts = old;
@@ -46,19 +46,19 @@ none-sofar with P old r x w at same = record {
 }
 
 -- one lane more
-pub more-sofar : (with : Noted → List LaneCount → Noted) (P : LaneCount → Type 0) (old : List LaneCount) (n r : ℕ) (x : Noted) (before after last : List Noted)
+pub more-sofar : (with : RankNote → List LaneCount → RankNote) (P : LaneCount → Type 0) (old : List LaneCount) (n r : ℕ) (x : RankNote) (before after last : List RankNote)
     → (h : Sofar with P old n r x before after) (c : LaneCount) (k : ℕ) → get_elem? h.counts n ≡ some c → P (counted c k)
     → last ≡ set after r (with x (set h.counts n (counted c k))) → Sofar with P old (n + 1) r x before last
 more-sofar with P old n r x before after last h c k there is now = record {
   counts = set h.counts n (counted c k);
-  wave = now ∙ (ap (λ (w : List Noted). set w r (with x (set h.counts n (counted c k)))) h.wave ∙ set-set before r (with x h.counts) (with x (set h.counts n (counted c k))));
+  wave = now ∙ (ap (λ (w : List RankNote). set w r (with x (set h.counts n (counted c k)))) h.wave ∙ set-set before r (with x h.counts) (with x (set h.counts n (counted c k))));
   lanes = cleared-set h.counts n c k there ∙ h.lanes;
   each = λ i d low at. ⊎_elim
       (λ (e : (i ≡ n) × (counted c k ≡ d)). subst P e.1 is)
       (λ (e : (i ≢ n) × (get_elem? h.counts i ≡ some d)). h.each i d (let apart = e.0 in omega (arith, low, apart)) e.1) (at_set h.counts n i (counted c k) d at);
 }
 
-pub all-sofar : (with : Noted → List LaneCount → Noted) (P : LaneCount → Type 0) (old : List LaneCount) (n r : ℕ) (x : Noted) (before after : List Noted)
+pub all-sofar : (with : RankNote → List LaneCount → RankNote) (P : LaneCount → Type 0) (old : List LaneCount) (n r : ℕ) (x : RankNote) (before after : List RankNote)
     → n ≡ length old → Sofar with P old n r x before after → (cs : List LaneCount) × (after ≡ slice_set before r (with x cs)) × Recounted P old cs
 all-sofar with P old n r x before after all h = (
   h.counts,
@@ -68,22 +68,22 @@ all-sofar with P old n r x before after all h = (
 
 -- ---- the ends of a rank's lanes
 module _ (job : JobOf) (sound : IsSound job) (wires : List WireState) (lanes : AreLanes (plan_of job.shape) (bounds_of wires))
-    (r : ℕ) (x : Slot) (named : IsNamed job wires r (plate x)) (w : List Noted) (for : IsFor (plan_of job.shape) w) where
+    (r : ℕ) (x : Slot) (named : IsNamed job wires r (plate x)) (w : List RankNote) (for : IsFor (plan_of job.shape) w) where
   abbrev p : Plan
   p = plan_of job.shape
 
-  pub has-out : (y : Noted) (i : ℕ) (c : LaneCount) → get_elem? w r ≡ some y → get_elem? y.note.sent i ≡ some c → HasOut x c.rank c.lane
+  pub has-out : (y : RankNote) (i : ℕ) (c : LaneCount) → get_elem? w r ≡ some y → get_elem? y.note.sent i ≡ some c → HasOut x c.rank c.lane
   has-out y i c at there =
       let u = from-used p r i (counted c 0) (ap (λ (l : List LaneCount). get_elem? l i) (sym (for.sent r y at)) ∙ at_map (λ (z : LaneCount). counted z 0) y.note.sent i c there) in
       let o = out-at job sound wires lanes r x named c.rank c.lane u.used in (o.at, o.port, o.there, o.target, o.lane_is)
 
-  pub has-in : (y : Noted) (i : ℕ) (c : LaneCount) → get_elem? w r ≡ some y → get_elem? y.note.got i ≡ some c → HasIn x c.rank c.lane
+  pub has-in : (y : RankNote) (i : ℕ) (c : LaneCount) → get_elem? w r ≡ some y → get_elem? y.note.got i ≡ some c → HasIn x c.rank c.lane
   has-in y i c at there =
       let u = to-used p r i (counted c 0) (ap (λ (l : List LaneCount). get_elem? l i) (sym (for.got r y at)) ∙ at_map (λ (z : LaneCount). counted z 0) y.note.got i c there) in
       in-at job sound wires lanes r x named c.rank c.lane u.used
 
   -- the note of the slot says what its history says
-  pub says : (y z : Noted) → IsNode x.node.value → IsNoted x y z → Says job r (history x) x.node.value.kept z.note
+  pub says : (y z : RankNote) → IsNode x.node.value → IsNoted x y z → Says job r (history x) x.node.value.kept z.note
   says y z is noted = record {
     started = noted.started;
     ready = λ k agree. subst (λ (s : State). AnswersReady s z.note.ready) (of-history job sound wires lanes r x named is (λ _. k) agree) noted.ready;
@@ -99,8 +99,8 @@ same-lanes P cs ds e h i c at =
     subst (λ (d : LaneCount). P d.rank d.lane) z.2 (h i z.0 z.1)
 
 -- what stands at a place that was set
-pub set-is : (before after : List Noted) (r : ℕ) (y : Noted) → r < length before → after ≡ set before r y → get_elem? after r ≡ some y
-set-is before after r y low e = ap (λ (l : List Noted). get_elem? l r) e ∙ set_here before r y low
+pub set-is : (before after : List RankNote) (r : ℕ) (y : RankNote) → r < length before → after ≡ set before r y → get_elem? after r ≡ some y
+set-is before after r y low e = ap (λ (l : List RankNote). get_elem? l r) e ∙ set_here before r y low
 
-pub set-long : (before after : List Noted) (r : ℕ) (y : Noted) → after ≡ set before r y → length after ≡ length before
-set-long before after r y e = ap (λ (l : List Noted). length l) e ∙ length-set before r y
+pub set-long : (before after : List RankNote) (r : ℕ) (y : RankNote) → after ≡ set before r y → length after ≡ length before
+set-long before after r y e = ap (λ (l : List RankNote). length l) e ∙ length-set before r y

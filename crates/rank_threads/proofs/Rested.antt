@@ -26,7 +26,7 @@ use Rattle.rank_node.specs.Handles.{Agrees, slots_of}
 use Rattle.rank_node.proofs.Nodes.{agrees}
 use Rattle.rest_probe.specs.declared.answers.WaveAnswer.TheVariants.{Rest}
 use Rattle.rest_probe.specs.declared.notes.LaneCount.{LaneCount}
-use Rattle.rest_probe.specs.declared.notes.Noted.{Noted}
+use Rattle.rest_probe.specs.declared.notes.RankNote.{RankNote}
 use Rattle.rest_probe.specs.Answered.{Answered}
 use Rattle.rest_probe.specs.Counted.{Tells, TellsNone, counted}
 use Rattle.rest_probe.specs.Waves.{IsFor}
@@ -48,14 +48,14 @@ use Rattle.rank_threads.proofs.Snocs.{read}
 use Rattle.rank_threads.proofs.Strays.{none-stray}
 
 -- what is said of a rank's front, once the fabric is closed
-record AtRank (job : JobOf) (w : WorldState) (k : Slots) (r : ℕ) (front : List Local) (x : Noted) : Type 0 where
+record AtRank (job : JobOf) (w : WorldState) (k : Slots) (r : ℕ) (front : List Local) (x : RankNote) : Type 0 where
   begins : IsPrefix front (histories_in w r)
   started : has_start front ≡ true
   ready : AnswersReady (state_after job r k front) x.note.ready
   sent : (i : ℕ) (c : LaneCount) → get_elem? x.note.sent i ≡ some c → c.number ≡ sent_on job r k front c.rank c.lane
   got_is : (i : ℕ) (c : LaneCount) → get_elem? x.note.got i ≡ some c → c.number ≡ length (got front c.rank c.lane)
 
-at-rank : (f : FabricState) (hands : List (HandState Slot)) (w : WorldState) (k : ℕ → Slots) (r : ℕ) (fronts : Histories) (x : Noted)
+at-rank : (f : FabricState) (hands : List (HandState Slot)) (w : WorldState) (k : ℕ → Slots) (r : ℕ) (fronts : Histories) (x : RankNote)
     → IsLeft f.turns.start hands r w → SeenBy f.job hands r fronts x.note → x.note.started ≡ true → AreSlots w k → AtRank f.job w (k r) r (fronts r) x
 at-rank f hands w k r fronts x l s started agree =
     let says = s.says in let n = says.says in
@@ -77,15 +77,15 @@ none-ready s None e a = a
 none-ready s (Some t) e a = absurd (let h = e in cc)
 
 module _ (f : FabricState) (sound : IsSound f.job) (hands : List (HandState Slot)) (w : WorldState) (is : IsWorldOf f hands w)
-    (v : List Noted) (for : IsFor (plan_of f.job.shape) v) (answer : Answered v Rest) (fronts : Histories) (seen : AreFrontsOf f.job hands fronts v)
+    (v : List RankNote) (for : IsFor (plan_of f.job.shape) v) (answer : Answered v Rest) (fronts : Histories) (seen : AreFrontsOf f.job hands fronts v)
     (k : ℕ → Slots) (agree : AreSlots w k) where
   abbrev p : Plan
   p = plan_of f.job.shape
 
-  note-at : (r : ℕ) → r < p.ranks → (x : Noted) × (get_elem? v r ≡ some x)
+  note-at : (r : ℕ) → r < p.ranks → (x : RankNote) × (get_elem? v r ≡ some x)
   note-at r low = exists_at v r (let e = for.count in omega (arith, low, e))
 
-  told : (r : ℕ) (low : r < p.ranks) (x : Noted) → get_elem? v r ≡ some x → AtRank f.job w (k r) r (fronts r) x
+  told : (r : ℕ) (low : r < p.ranks) (x : RankNote) → get_elem? v r ≡ some x → AtRank f.job w (k r) r (fronts r) x
   told r low x at = at-rank f hands w k r fronts x (is.ranks r (let e = sound.ranks in omega (arith, low, e))) (seen r x at) (answer.0 (suc r) r x (omega arith) at) agree
 
   -- as much was received on a used lane as was sent

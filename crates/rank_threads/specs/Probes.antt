@@ -13,7 +13,7 @@ use Rattle.plan_cuts.specs.Plans.{start_of}
 use Rattle.rank_node.specs.Copies.{has_start}
 use Rattle.rank_node.specs.Handles.{Agrees, Handles}
 use Rattle.rest_probe.specs.declared.notes.LaneCount.{LaneCount}
-use Rattle.rest_probe.specs.declared.notes.Noted.{Noted}
+use Rattle.rest_probe.specs.declared.notes.RankNote.{RankNote}
 use Rattle.rest_probe.specs.declared.notes.ProbeNote.{ProbeNote}
 use Rattle.rest_probe.specs.Counted.{cleared}
 use Rattle.rest_probe.specs.Waves.{SameLanes}
@@ -51,8 +51,8 @@ pub record Says (job : JobOf) (r : ℕ) (h : List Local) (hs : Handles) (n : Pro
   pub got : Each (CountsGot h) n.got
 
 -- the rank has its note in the wave, which says what this history says
-abbrev pub HasNote : JobOf → ℕ → List Local → Handles → List Noted → Type 0
-HasNote job r h hs w = (x : Noted) → get_elem? w r ≡ some x → (x.there ≡ true) × Says job r h hs x.note
+abbrev pub HasNote : JobOf → ℕ → List Local → Handles → List RankNote → Type 0
+HasNote job r h hs w = (x : RankNote) → get_elem? w r ≡ some x → (x.there ≡ true) × Says job r h hs x.note
 
 -- a history that was seen at rank r begins with this front, and the note says what the front says
 pub record SaysSeen (job : JobOf) (v : HandView Slot) (r : ℕ) (front : List Local) (n : ProbeNote) : Type 0 where
@@ -82,7 +82,7 @@ pub record Recounted (P : LaneCount → Type 0) (old new : List LaneCount) : Typ
   pub each : Each P new
 
 -- in place of the room x there is the note of this slot
-pub record IsNoted (s : Slot) (x y : Noted) : Type 0 where
+pub record IsNoted (s : Slot) (x y : RankNote) : Type 0 where
   pub there : y.there ≡ true
   pub lanes : SameLanes x y
   pub started : y.note.started ≡ has_start (history s)

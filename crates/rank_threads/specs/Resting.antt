@@ -4,7 +4,7 @@ use mathlib.Core.Option.{some}
 use lib.ListN.{get_elem?}
 use Rattle.plan_cuts.specs.System.{Histories}
 use Rattle.rest_probe.specs.declared.answers.WaveAnswer.TheVariants.{Rest}
-use Rattle.rest_probe.specs.declared.notes.Noted.{Noted}
+use Rattle.rest_probe.specs.declared.notes.RankNote.{RankNote}
 use Rattle.rest_probe.specs.declared.notes.ProbeNote.{ProbeNote}
 use Rattle.rest_probe.specs.Answered.{Answered}
 use Rattle.rest_probe.specs.Waves.{IsFor}
@@ -18,8 +18,8 @@ use Rattle.rank_threads.specs.Fabrics.{FabricState}
 use Rattle.rank_threads.specs.Probes.{SaysSeen}
 
 -- each note says what its rank's front says, with which a history begins that was seen there
-abbrev pub AreFronts : JobOf → HandView Slot → Histories → List Noted → Type 0
-AreFronts job v fronts w = (r : ℕ) (x : Noted) → get_elem? w r ≡ some x → SaysSeen job v r (fronts r) x.note
+abbrev pub AreFronts : JobOf → HandView Slot → Histories → List RankNote → Type 0
+AreFronts job v fronts w = (r : ℕ) (x : RankNote) → get_elem? w r ≡ some x → SaysSeen job v r (fronts r) x.note
 
 -- by one of these hands
 pub record SeenBy (job : JobOf) (hands : List (HandState Slot)) (r : ℕ) (fronts : Histories) (n : ProbeNote) : Type 0 where
@@ -28,11 +28,11 @@ pub record SeenBy (job : JobOf) (hands : List (HandState Slot)) (r : ℕ) (front
   pub hand_is : get_elem? hands at ≡ some hand
   pub says : SaysSeen job hand.knows r (fronts r) n
 
-abbrev pub AreFrontsOf : JobOf → List (HandState Slot) → Histories → List Noted → Type 0
-AreFrontsOf job hands fronts w = (r : ℕ) (x : Noted) → get_elem? w r ≡ some x → SeenBy job hands r fronts x.note
+abbrev pub AreFrontsOf : JobOf → List (HandState Slot) → Histories → List RankNote → Type 0
+AreFrontsOf job hands fronts w = (r : ℕ) (x : RankNote) → get_elem? w r ≡ some x → SeenBy job hands r fronts x.note
 
 -- what becomes of the hand and the wave of the first worker: the wave has found the job at rest
-pub record Led (f : FabricState) (old new : HandState Slot) (w : List Noted) : Type 0 where
+pub record Led (f : FabricState) (old new : HandState Slot) (w : List RankNote) : Type 0 where
   pub hand : IsFree f.turns new
   pub parts : new.knows.parts ≡ old.knows.parts
   pub lanes : IsFor (plan_of f.job.shape) w

@@ -3,7 +3,7 @@
 ghost use Rattle.std.specs.Prelude.{ℕ, true, false, ◌≡◌, ◌+◌, ◌*◌, ◌<◌, ◌≤◌, ◌^◌, ◌++◌, ◌∷◌, [], All, List, length, map, vec_capacity};
 ghost use mathlib.Core.Option.{some};
 ghost use lib.ListN.{get_elem?};
-ghost use Rattle.ptl_types.specs.declared.headers.Lane.{Lane as LaneOf};
+ghost use Rattle.ptl_types.specs.declared.headers.Lane.{Lane};
 ghost use Rattle.pair_wires.specs.Lanes.{Plain, plain};
 ghost use Rattle.pair_wires.specs.Wires.{WireState};
 ghost use Rattle.plan_calls.specs.Lanes.{is_used_lane};
@@ -61,7 +61,7 @@ fn lift_wires<R: Wait>(rt: &R, wires: Vec<Wire>, slots: &mut [Slot], frame: &mut
     requires count { (plan_of frame.old.shape).ranks ≡ frame.old.shape.ranks }
     requires lanes { AreLanes (plan_of frame.old.shape) (bounds_of wires.items) }
     requires rooms { Each (λ (w : WireState). w.capacity ≡ 3) wires.items }
-    requires empty { (s d : ℕ) (lane : LaneOf) → s < frame.old.shape.ranks → d < frame.old.shape.ranks →
+    requires empty { (s d : ℕ) (lane : Lane) → s < frame.old.shape.ranks → d < frame.old.shape.ranks →
         lane_in frame.old s d lane ≡ frame_lane (plan_of frame.old.shape) s d lane }
     ensures count { length slots.new ≡ length slots.old }
     ensures nodes { Slotwise SameNode slots.old slots.new }
@@ -69,7 +69,7 @@ fn lift_wires<R: Wait>(rt: &R, wires: Vec<Wire>, slots: &mut [Slot], frame: &mut
     ensures inputs { frame.new.inputs ≡ frame.old.inputs }
     ensures lifted { (k : ℕ) (w : WireState) → get_elem? wires.items k ≡ some w →
         IsLifted w.bounds slots.old (lane_in frame.new w.bounds.source w.bounds.target w.bounds.lane) }
-    ensures unused { (s d : ℕ) (lane : LaneOf) → s < frame.old.shape.ranks → d < frame.old.shape.ranks →
+    ensures unused { (s d : ℕ) (lane : Lane) → s < frame.old.shape.ranks → d < frame.old.shape.ranks →
         is_used_lane (plan_of frame.old.shape) s d lane ≡ false → lane_in frame.new s d lane ≡ frame_lane (plan_of frame.old.shape) s d lane }
 {
     let mut wires = wires;

@@ -40,7 +40,7 @@ fn bounds(schedule: &Schedule, s: Rank, d: Rank, lane: Lane) -> Bounds
     }
 }
 
-/// Puts a lane behind these, if messages go on it.
+/// Puts a lane after these, if messages go on it.
 fn push_lane(
     lanes: &mut Vec<Bounds>,
     schedule: &Schedule,

@@ -74,7 +74,7 @@ impl Slot {
     }
 }
 
-/// An out end comes to a rank, behind its others.
+/// An out end comes to a rank, after its others.
 pub(crate) fn put_out(slots: &mut [Slot], rank: Rank, port: OutPort) -> Result<(), NoMemory>
     requires rank { rank < length slots.old }
     requires port { (x : Slot) → get_elem? slots.old rank ≡ some x → MayGainOut x port }
@@ -85,7 +85,7 @@ pub(crate) fn put_out(slots: &mut [Slot], rank: Rank, port: OutPort) -> Result<(
     slots[rank as usize].add_out(port)
 }
 
-/// An in end comes to a rank, behind its others.
+/// An in end comes to a rank, after its others.
 pub(crate) fn put_in(slots: &mut [Slot], rank: Rank, port: InPort) -> Result<(), NoMemory>
     requires rank { rank < length slots.old }
     requires port { (x : Slot) → get_elem? slots.old rank ≡ some x → MayGainIn x port }

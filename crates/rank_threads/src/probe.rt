@@ -5,8 +5,8 @@ ghost use mathlib.Core.Option.{some};
 ghost use lib.ListN.{get_elem?};
 ghost use Rattle.plan_cuts.specs.History.{got};
 ghost use Rattle.shape_plans.specs.Drawing.{plan_of};
-ghost use Rattle.rest_probe.specs.declared.notes.LaneCount.{LaneCount as Count};
-ghost use Rattle.rest_probe.specs.declared.notes.Noted.{Noted as Place};
+ghost use Rattle.rest_probe.specs.declared.notes.LaneCount.{LaneCount};
+ghost use Rattle.rest_probe.specs.declared.notes.RankNote.{RankNote};
 ghost use Rattle.rest_probe.specs.Waves.{IsFor, with_got, with_sent};
 ghost use Rattle.turn_table.specs.Hands.{IsFree};
 ghost use Rattle.rank_threads.specs.Names.{Mark, history};
@@ -48,10 +48,10 @@ impl Slot {
     // Notes how many messages the rank sent, lane by lane.
     fn note_sent(&self, rank: Rank, wave: &mut Wave)
         requires rank { rank < length wave.old }
-        requires there { (x : Place) → get_elem? wave.old rank ≡ some x → x.there ≡ true }
-        requires ends { (x : Place) (i : ℕ) (c : Count) → get_elem? wave.old rank ≡ some x → get_elem? x.note.sent i ≡ some c → HasOut self.now c.rank c.lane }
-        ensures { (x : Place) → get_elem? wave.old rank ≡ some x →
-            (cs : List Count) × (wave.new ≡ slice_set wave.old rank (with_sent x cs)) × Recounted (HasSentOn self.now) x.note.sent cs }
+        requires there { (x : RankNote) → get_elem? wave.old rank ≡ some x → x.there ≡ true }
+        requires ends { (x : RankNote) (i : ℕ) (c : LaneCount) → get_elem? wave.old rank ≡ some x → get_elem? x.note.sent i ≡ some c → HasOut self.now c.rank c.lane }
+        ensures { (x : RankNote) → get_elem? wave.old rank ≡ some x →
+            (cs : List LaneCount) × (wave.new ≡ slice_set wave.old rank (with_sent x cs)) × Recounted (HasSentOn self.now) x.note.sent cs }
     {
         let count = wave.note(rank).sent.len();
         for i in 0..count {
@@ -64,10 +64,10 @@ impl Slot {
     // Notes how many messages it received.
     fn note_got(&self, rank: Rank, wave: &mut Wave)
         requires rank { rank < length wave.old }
-        requires there { (x : Place) → get_elem? wave.old rank ≡ some x → x.there ≡ true }
-        requires ends { (x : Place) (i : ℕ) (c : Count) → get_elem? wave.old rank ≡ some x → get_elem? x.note.got i ≡ some c → HasIn self.now c.rank c.lane }
-        ensures { (x : Place) → get_elem? wave.old rank ≡ some x →
-            (cs : List Count) × (wave.new ≡ slice_set wave.old rank (with_got x cs)) × Recounted (CountsGot (history self.now)) x.note.got cs }
+        requires there { (x : RankNote) → get_elem? wave.old rank ≡ some x → x.there ≡ true }
+        requires ends { (x : RankNote) (i : ℕ) (c : LaneCount) → get_elem? wave.old rank ≡ some x → get_elem? x.note.got i ≡ some c → HasIn self.now c.rank c.lane }
+        ensures { (x : RankNote) → get_elem? wave.old rank ≡ some x →
+            (cs : List LaneCount) × (wave.new ≡ slice_set wave.old rank (with_got x cs)) × Recounted (CountsGot (history self.now)) x.note.got cs }
     {
         let count = wave.note(rank).got.len();
         for i in 0..count {
@@ -80,10 +80,10 @@ impl Slot {
     // Notes the rank.
     fn note_in(&self, rank: Rank, wave: &mut Wave)
         requires rank { rank < length wave.old }
-        requires empty { (x : Place) → get_elem? wave.old rank ≡ some x → x.there ≡ false }
-        requires outs { (x : Place) (i : ℕ) (c : Count) → get_elem? wave.old rank ≡ some x → get_elem? x.note.sent i ≡ some c → HasOut self.now c.rank c.lane }
-        requires ins { (x : Place) (i : ℕ) (c : Count) → get_elem? wave.old rank ≡ some x → get_elem? x.note.got i ≡ some c → HasIn self.now c.rank c.lane }
-        ensures { (x : Place) → get_elem? wave.old rank ≡ some x → (y : Place) × (wave.new ≡ slice_set wave.old rank y) × IsNoted self.now x y }
+        requires empty { (x : RankNote) → get_elem? wave.old rank ≡ some x → x.there ≡ false }
+        requires outs { (x : RankNote) (i : ℕ) (c : LaneCount) → get_elem? wave.old rank ≡ some x → get_elem? x.note.sent i ≡ some c → HasOut self.now c.rank c.lane }
+        requires ins { (x : RankNote) (i : ℕ) (c : LaneCount) → get_elem? wave.old rank ≡ some x → get_elem? x.note.got i ≡ some c → HasIn self.now c.rank c.lane }
+        ensures { (x : RankNote) → get_elem? wave.old rank ≡ some x → (y : RankNote) × (wave.new ≡ slice_set wave.old rank y) × IsNoted self.now x y }
     {
         wave.begin(rank, self.node.started(), self.node.nic().ready());
         self.note_sent(rank, wave);
@@ -99,7 +99,7 @@ impl<G: Gate + Drop> Fabric<G> {
         requires hand { IsFree self.now.turns hand.old }
         requires rank { rank < self.now.job.shape.ranks }
         requires lanes { IsFor (plan_of self.now.job.shape) wave.old }
-        requires empty { (x : Place) → get_elem? wave.old rank ≡ some x → x.there ≡ false }
+        requires empty { (x : RankNote) → get_elem? wave.old rank ≡ some x → x.there ≡ false }
         ensures hand { IsFree self.now.turns hand.new }
         ensures noted { (a : Mark) × Turned hand.old.knows hand.new.knows rank a a × HasNote self.now.job rank a.0 a.1.kept wave.new }
         ensures others { (r : ℕ) → r ≢ rank → get_elem? wave.new r ≡ get_elem? wave.old r }

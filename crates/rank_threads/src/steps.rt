@@ -3,7 +3,7 @@
 ghost use Rattle.std.specs.Prelude.{true, false, ◌≡◌, ◌<◌, ◌++◌, ◌∷◌, [], length, IsTrue, IsFalse, IfSome, IfNone};
 ghost use mathlib.Core.Option.{some};
 ghost use lib.ListN.{get_elem?};
-ghost use Rattle.ptl_types.specs.declared.headers.Lane.TheVariants.{Request as Requests, Answer as Answers};
+ghost use Rattle.ptl_types.specs.declared.headers.Lane.TheVariants.{Answer};
 ghost use Rattle.ptl_types.specs.Messages.{Sent};
 ghost use Rattle.ni_model.specs.Answers.{is_awaited};
 ghost use Rattle.ni_model.specs.Ready.{is_ready, target_at};
@@ -82,8 +82,8 @@ impl Slot {
 
     /// Whether a message waits at the out end of answers to a rank.
     fn is_shut(&self, d: Rank) -> bool
-        ensures shut { IsTrue result → IsShut d Answers self.now.outs.items }
-        ensures open { IsFalse result → IsOpen d Answers self.now.outs.items }
+        ensures shut { IsTrue result → IsShut d Answer self.now.outs.items }
+        ensures open { IsFalse result → IsOpen d Answer self.now.outs.items }
     {
         match find_out(&self.outs, &self.hints.outs, d, Lane::Answer) {
             Some(at) => self.outs[at].end.waits(),

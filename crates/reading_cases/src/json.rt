@@ -7,7 +7,7 @@ use serde_json::Value;
 use std::alloc::{AllocError, Global};
 use std::test::Fail;
 
-/// The members of one broadcast of a 7, behind the first ones.
+/// The members of one broadcast of a 7, after the first ones.
 const BEHIND: &str =
     r#""inputs":[{"name":"a","type":"u8","rows":[[7]]}],"steps":[["broadcast",0,"a","b"]],"prints":["b"]}"#;
 

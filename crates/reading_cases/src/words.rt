@@ -176,9 +176,9 @@ fn lines_are_cut(rt: HostRuntime) {
         (b"", b"", None),
     ];
     for (bytes, line, rest) in rows {
-        let (first, behind) = cut(bytes, b'\n');
+        let (first, after) = cut(bytes, b'\n');
         assert!(rt; first == line);
-        assert!(rt; behind == rest);
+        assert!(rt; after == rest);
     }
     let words: [&[u8]; 4] = [b"a", b"", b"b", b""];
     let mut read = Words::of(b"a  b ");

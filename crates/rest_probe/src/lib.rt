@@ -10,5 +10,5 @@ mod tests;
 mod waves;
 
 pub use answers::WaveAnswer;
-pub use notes::{Counts, LaneCount, Noted, ProbeNote};
+pub use notes::{Counts, LaneCount, ProbeNote, RankNote};
 pub use waves::Wave;

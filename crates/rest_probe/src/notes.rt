@@ -140,7 +140,7 @@ pub struct ProbeNote {
 
 /// A rank in a wave: its note, if it is there.
 #[derive(Debug, Drop)]
-pub struct Noted {
+pub struct RankNote {
     /// Whether the rank has its note.
     pub there: bool,
     /// The note; where it isn't there, its room.

@@ -5,18 +5,18 @@ ghost use mathlib.Core.Option.{some};
 ghost use lib.ListN.{get_elem?};
 ghost use Rattle.plan_calls.specs.Lanes.{is_used_lane};
 ghost use Rattle.shape_plans.specs.Drawing.{plan_of};
-ghost use Rattle.rest_probe.specs.declared.notes.Noted.{Noted as Place};
+ghost use Rattle.rest_probe.specs.declared.notes.RankNote.{RankNote};
 ghost use Rattle.rest_probe.specs.Lanes.{lane_if, lanes_from, lanes_to, pair_lanes};
 ghost use Rattle.rest_probe.specs.Waves.{IsFor};
 
-use crate::notes::{Counts, LaneCount, Noted, ProbeNote};
+use crate::notes::{Counts, LaneCount, ProbeNote, RankNote};
 use crate::partners::Partners;
 use crate::waves::Wave;
 use ptl_types::{Lane, NoMemory, Rank};
 use schedule_compiler::Schedule;
 use std::alloc::Global;
 
-// Puts a lane behind these, if messages go on it.
+// Puts a lane after these, if messages go on it.
 fn push_lane(
     counts: &mut Vec<LaneCount>,
     used: bool,
@@ -44,7 +44,7 @@ fn is_used(schedule: &Schedule, s: Rank, d: Rank, lane: Lane) -> bool
     0 < schedule.lane(s, d, lane)
 }
 
-// Puts the lanes between two ranks behind these.
+// Puts the lanes between two ranks after these.
 fn push_pair(
     counts: &mut Vec<LaneCount>,
     schedule: &Schedule,
@@ -92,7 +92,7 @@ fn counts_to(alloc: Global, schedule: &Schedule, r: Rank) -> Result<Counts, NoMe
 }
 
 // The room of a rank's note.
-fn bare(alloc: Global, schedule: &Schedule, r: Rank) -> Result<Noted, NoMemory>
+fn bare(alloc: Global, schedule: &Schedule, r: Rank) -> Result<RankNote, NoMemory>
     requires { r < schedule.now.ranks }
     ensures there { IfOk result (λ x. x.there ≡ false) }
     ensures sent { IfOk result (λ x. x.note.sent ≡ lanes_from (plan_of schedule.now) r) }
@@ -100,7 +100,7 @@ fn bare(alloc: Global, schedule: &Schedule, r: Rank) -> Result<Noted, NoMemory>
 {
     let sent = counts_from(alloc, schedule, r)?;
     let got = counts_to(alloc, schedule, r)?;
-    Ok(Noted {
+    Ok(RankNote {
         there: false,
         note: ProbeNote {
             started: false,
@@ -119,7 +119,7 @@ impl Wave {
     /// There was no memory for it.
     pub fn open(alloc: Global, schedule: &Schedule) -> Result<Wave, NoMemory>
         ensures lanes { IfOk result (λ w. IsFor (plan_of schedule.now) w) }
-        ensures empty { IfOk result (λ w. (r : _) (x : Place) → get_elem? w r ≡ some x → x.there ≡ false) }
+        ensures empty { IfOk result (λ w. (r : _) (x : RankNote) → get_elem? w r ≡ some x → x.there ≡ false) }
     {
         let _ = schedule.plan();
         let ranks = schedule.shape().ranks();

@@ -1,7 +1,7 @@
 //! Where the number of a lane is likely to stand at its target. These are guesses: each is looked at before it is used, and a wrong one
 //! costs time alone.
 
-use crate::notes::{Counts, Noted};
+use crate::notes::{Counts, RankNote};
 use ptl_types::{NoMemory, Rank};
 use std::alloc::Global;
 
@@ -31,7 +31,7 @@ fn row_of(alloc: Global, sent: &Counts, taken: &mut Vec<u32>) -> Result<Vec<u32>
 
 impl Partners {
     /// Of the lanes of these ranks, which stand by source and then by target.
-    pub(crate) fn of(alloc: Global, ranks: &[Noted]) -> Result<Partners, NoMemory> {
+    pub(crate) fn of(alloc: Global, ranks: &[RankNote]) -> Result<Partners, NoMemory> {
         let mut taken = vec![in alloc; 0; ranks.len()]?;
         let mut rows = Vec::with_capacity(alloc, ranks.len())?;
         for rank in ranks {

@@ -4,7 +4,7 @@ ghost use Rattle.std.specs.Prelude.{true, ◌≡◌, IfOk};
 ghost use Rattle.rest_probe.specs.Waves.{AllThere};
 
 use crate::answers::WaveAnswer;
-use crate::notes::{Counts, LaneCount, Noted, ProbeNote};
+use crate::notes::{Counts, LaneCount, ProbeNote, RankNote};
 use crate::partners::Partners;
 use crate::waves::Wave;
 use ptl_types::{Lane, NoMemory, Rank};
@@ -39,12 +39,12 @@ fn one_lane(alloc: Global, rank: Rank, number: u64) -> Result<Counts, NoMemory> 
     Ok(Counts::of(items))
 }
 
-fn noted(alloc: Global, other: Rank, case: Case) -> Result<Noted, NoMemory>
+fn noted(alloc: Global, other: Rank, case: Case) -> Result<RankNote, NoMemory>
     ensures { IfOk result (λ x. x.there ≡ true) }
 {
     let sent = one_lane(alloc, other, case.sent)?;
     let got = one_lane(alloc, other, case.got)?;
-    Ok(Noted {
+    Ok(RankNote {
         there: true,
         note: ProbeNote {
             started: case.started,

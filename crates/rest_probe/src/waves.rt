@@ -4,14 +4,14 @@ ghost use Rattle.std.specs.Prelude.{ℕ, true, false, ◌≡◌, ◌<◌, IfSome
 ghost use mathlib.Core.Option.{some};
 ghost use lib.ListN.{get_elem?};
 ghost use Rattle.rest_probe.specs.declared.answers.WaveAnswer.TheVariants.{NotStarted};
-ghost use Rattle.rest_probe.specs.declared.notes.LaneCount.{LaneCount as Count};
-ghost use Rattle.rest_probe.specs.declared.notes.Noted.{Noted as Place};
+ghost use Rattle.rest_probe.specs.declared.notes.LaneCount.{LaneCount};
+ghost use Rattle.rest_probe.specs.declared.notes.RankNote.{RankNote as NoteAt};
 ghost use Rattle.rest_probe.specs.Counted.{counted};
 ghost use Rattle.rest_probe.specs.Waves.{AllThere, begun, emptied, with_got, with_sent};
 ghost use Rattle.rest_probe.specs.Answered.{AllStarted, Answered, EvenBelow, IsEven, IsReadyOne, IsUneven, NoneReady};
 
 use crate::answers::WaveAnswer;
-use crate::notes::{Noted, ProbeNote};
+use crate::notes::{ProbeNote, RankNote};
 use crate::partners::Partners;
 use ptl_types::Rank;
 use std::marker::Model;
@@ -19,15 +19,15 @@ use std::marker::Model;
 /// The notes of all ranks of a job, in rank order. It takes no memory after its opening.
 #[derive(Debug, Drop)]
 pub struct Wave {
-    pub(crate) ranks: Vec<Noted>,
+    pub(crate) ranks: Vec<RankNote>,
     pub(crate) partners: Partners,
 }
 
 impl Model for Wave {
     ghost use Rattle.std.specs.Prelude.{◌<◌, ◌^◌, List, length};
-    ghost use Rattle.rest_probe.specs.declared.notes.Noted.{Noted};
+    ghost use Rattle.rest_probe.specs.declared.notes.RankNote.{RankNote};
 
-    ghost Value = { List Noted };
+    ghost Value = { List RankNote };
 
     ghost view = { λ w. w.ranks.items };
 
@@ -38,8 +38,8 @@ impl Wave {
     /// A rank's note.
     pub fn note(&self, r: Rank) -> &ProbeNote
         requires rank { r < length self.now }
-        requires there { (x : Place) → get_elem? self.now r ≡ some x → x.there ≡ true }
-        ensures { (x : Place) → get_elem? self.now r ≡ some x → result.now ≡ x.note }
+        requires there { (x : NoteAt) → get_elem? self.now r ≡ some x → x.there ≡ true }
+        ensures { (x : NoteAt) → get_elem? self.now r ≡ some x → result.now ≡ x.note }
     {
         &self.ranks[r as usize].note
     }
@@ -47,8 +47,8 @@ impl Wave {
     /// Gives a rank its note, whose numbers are 0.
     pub fn begin(&mut self, r: Rank, started: bool, ready: Option<u32>)
         requires rank { r < length self.old }
-        requires empty { (x : Place) → get_elem? self.old r ≡ some x → x.there ≡ false }
-        ensures { (x : Place) → get_elem? self.old r ≡ some x → self.new ≡ slice_set self.old r (begun started ready x) }
+        requires empty { (x : NoteAt) → get_elem? self.old r ≡ some x → x.there ≡ false }
+        ensures { (x : NoteAt) → get_elem? self.old r ≡ some x → self.new ≡ slice_set self.old r (begun started ready x) }
     {
         let place = &mut self.ranks[r as usize];
         place.there = true;
@@ -61,9 +61,9 @@ impl Wave {
     /// Notes how many messages a rank sent on a lane, which is given by its place among the rank's lanes.
     pub fn set_sent(&mut self, r: Rank, i: u32, number: u64)
         requires rank { r < length self.old }
-        requires there { (x : Place) → get_elem? self.old r ≡ some x → x.there ≡ true }
-        requires lane { (x : Place) → get_elem? self.old r ≡ some x → i < length x.note.sent }
-        ensures { (x : Place) (c : Count) → get_elem? self.old r ≡ some x → get_elem? x.note.sent i ≡ some c →
+        requires there { (x : NoteAt) → get_elem? self.old r ≡ some x → x.there ≡ true }
+        requires lane { (x : NoteAt) → get_elem? self.old r ≡ some x → i < length x.note.sent }
+        ensures { (x : NoteAt) (c : LaneCount) → get_elem? self.old r ≡ some x → get_elem? x.note.sent i ≡ some c →
             self.new ≡ slice_set self.old r (with_sent x (slice_set x.note.sent i (counted c number))) }
     {
         let place = &mut self.ranks[r as usize];
@@ -73,9 +73,9 @@ impl Wave {
     /// Notes how many messages a rank received on a lane, which is given by its place among the rank's lanes.
     pub fn set_got(&mut self, r: Rank, i: u32, number: u64)
         requires rank { r < length self.old }
-        requires there { (x : Place) → get_elem? self.old r ≡ some x → x.there ≡ true }
-        requires lane { (x : Place) → get_elem? self.old r ≡ some x → i < length x.note.got }
-        ensures { (x : Place) (c : Count) → get_elem? self.old r ≡ some x → get_elem? x.note.got i ≡ some c →
+        requires there { (x : NoteAt) → get_elem? self.old r ≡ some x → x.there ≡ true }
+        requires lane { (x : NoteAt) → get_elem? self.old r ≡ some x → i < length x.note.got }
+        ensures { (x : NoteAt) (c : LaneCount) → get_elem? self.old r ≡ some x → get_elem? x.note.got i ≡ some c →
             self.new ≡ slice_set self.old r (with_got x (slice_set x.note.got i (counted c number))) }
     {
         let place = &mut self.ranks[r as usize];
@@ -124,7 +124,7 @@ impl Wave {
     // The numbers of the lane at a place among those from rank s, if they differ.
     fn uneven_at(&self, s: Rank, at: u32) -> Option<WaveAnswer>
         requires rank { s < length self.now }
-        requires lane { (x : Place) → get_elem? self.now s ≡ some x → at < length x.note.sent }
+        requires lane { (x : NoteAt) → get_elem? self.now s ≡ some x → at < length x.note.sent }
         ensures some { IfSome result (λ a. IsUneven self.now s at a) }
         ensures none { IfNone result (IsEven self.now s at) }
     {

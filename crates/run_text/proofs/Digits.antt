@@ -1,4 +1,4 @@
--- A number at the end of a buffer, behind a space.
+-- A number at the end of a buffer, after a space.
 use Rattle.std.proofs.Common.{ℕ, ◌≡◌, ◌<◌, ◌≤◌, ◌+◌, ◌-◌, ◌∙◌, ◌∷◌, ◌++◌, ◌^◌, List, [], arith, ap, drop, set, length, append-nil}
 use Rattle.std.specs.Fmt.{decimal}
 use Rattle.std.proofs.lemmas.Fmt.{length-decimal-le}

@@ -4,7 +4,7 @@ ghost use Rattle.std.specs.Prelude.{ℕ, [], nat_le, nat_lt, ◌&&◌, ◌≡◌
 ghost use Rattle.ptl_types.specs.Elements.{starting};
 ghost use Rattle.plan_core.specs.Values.{initial};
 ghost use Rattle.plan_calls.specs.Areas.{blank_area, blank_areas, blank_as, initial_region};
-ghost use Rattle.plan_calls.specs.Bits.{op_at as op_at_of, type_at as type_at_of};
+ghost use Rattle.plan_calls.specs.Bits.{op_at, type_at};
 ghost use Rattle.plan_tables.specs.Ranks.{IsTables};
 ghost use Rattle.coll_shape.specs.Meaning.{AreInputs};
 ghost use Rattle.coll_shape.specs.declared.limits.TheConstants.{MOST_RANKS, MOST_BUFFERS};
@@ -18,7 +18,7 @@ use plan_tables::Tables;
 use ptl_types::{AtomicOp, Bytes, ElemType, NoMemory, Rank};
 use std::alloc::Global;
 
-/// So many zeros behind the bytes.
+/// So many zeros after the bytes.
 fn add_zeros(bytes: &mut Vec<u8>, n: u64) -> Result<(), NoMemory>
     ensures { IfOk result (λ u. bytes.new.items ≡ bytes.old.items ++ replicate n 0) }
 {
@@ -31,7 +31,7 @@ fn add_zeros(bytes: &mut Vec<u8>, n: u64) -> Result<(), NoMemory>
 
 /// The operation of a number, from 0.
 fn op_at(number: u32) -> AtomicOp
-    ensures { result ≡ op_at_of number }
+    ensures { result ≡ op_at number }
 {
     match number {
         0 => AtomicOp::Min,
@@ -49,7 +49,7 @@ fn op_at(number: u32) -> AtomicOp
 
 /// The type of a number, from 0.
 fn type_at(number: u32) -> ElemType
-    ensures { result ≡ type_at_of number }
+    ensures { result ≡ type_at number }
 {
     match number {
         0 => ElemType::U8,
@@ -63,7 +63,7 @@ fn type_at(number: u32) -> ElemType
     }
 }
 
-/// A list behind the bytes.
+/// A list after the bytes.
 fn add_list(bytes: &mut Vec<u8>, list: &[u8]) -> Result<(), NoMemory>
     ensures { IfOk result (λ u. bytes.new.items ≡ bytes.old.items ++ list.now) }
 {
@@ -71,7 +71,7 @@ fn add_list(bytes: &mut Vec<u8>, list: &[u8]) -> Result<(), NoMemory>
     Ok(())
 }
 
-/// Starting values of an operation behind the bytes, as many as whole elements fit into n bytes.
+/// Starting values of an operation after the bytes, as many as whole elements fit into n bytes.
 fn add_starting(bytes: &mut Vec<u8>, op: AtomicOp, ty: ElemType, n: u64) -> Result<(), NoMemory>
     ensures { IfOk result (λ u. bytes.new.items ≡ bytes.old.items ++ starting op ty n) }
 {
@@ -81,7 +81,7 @@ fn add_starting(bytes: &mut Vec<u8>, op: AtomicOp, ty: ElemType, n: u64) -> Resu
     Ok(())
 }
 
-/// What n blank bytes hold behind the bytes: starting values where something is combined there, else zeros.
+/// What n blank bytes hold after the bytes: starting values where something is combined there, else zeros.
 fn add_blank(
     bytes: &mut Vec<u8>,
     op: Option<AtomicOp>,
@@ -96,7 +96,7 @@ fn add_blank(
     }
 }
 
-/// Whether a cell is one of the input cells, of which there are so many a rank behind the go cells.
+/// Whether a cell is one of the input cells, of which there are so many a rank after the go cells.
 fn is_input(ranks: u32, count: u32, c: u32) -> bool
     requires ranks { ranks ≤ MOST_RANKS }
     requires count { count ≤ MOST_BUFFERS }
@@ -105,7 +105,7 @@ fn is_input(ranks: u32, count: u32, c: u32) -> bool
     ranks <= c && c < ranks + count * ranks
 }
 
-/// The list of input cell number i, counted over all inputs, behind the bytes.
+/// The list of input cell number i, counted over all inputs, after the bytes.
 fn add_input(bytes: &mut Vec<u8>, inputs: &Inputs, ranks: u32, i: u32) -> Result<(), NoMemory>
     requires some { 1 ≤ ranks }
     requires lists { (b : ℕ) → b < length inputs.now → length (get_or inputs.now b []) ≡ ranks }
@@ -116,7 +116,7 @@ fn add_input(bytes: &mut Vec<u8>, inputs: &Inputs, ranks: u32, i: u32) -> Result
     Ok(())
 }
 
-/// What a cell holds at the beginning, behind the bytes.
+/// What a cell holds at the beginning, after the bytes.
 fn add_cell(
     bytes: &mut Vec<u8>,
     plan: &Plan,
@@ -144,7 +144,7 @@ fn add_cell(
     }
 }
 
-/// What these cells hold at the beginning, one behind the other.
+/// What these cells hold at the beginning, one after the other.
 fn add_cells(
     bytes: &mut Vec<u8>,
     plan: &Plan,
@@ -166,7 +166,7 @@ fn add_cells(
     Ok(())
 }
 
-/// What the area of a class holds at the beginning, behind the bytes.
+/// What the area of a class holds at the beginning, after the bytes.
 fn add_area(bytes: &mut Vec<u8>, class: u32, n: u64) -> Result<(), NoMemory>
     ensures { IfOk result (λ u. bytes.new.items ≡ bytes.old.items ++ blank_area class n) }
 {
@@ -178,7 +178,7 @@ fn add_area(bytes: &mut Vec<u8>, class: u32, n: u64) -> Result<(), NoMemory>
     }
 }
 
-/// What the areas of a rank hold at the beginning, behind the bytes. A class without messages has no bytes.
+/// What the areas of a rank hold at the beginning, after the bytes. A class without messages has no bytes.
 fn add_areas(bytes: &mut Vec<u8>, plan: &Plan, tables: &Tables, r: Rank) -> Result<(), NoMemory>
     requires tables { IsTables plan.now tables.now }
     requires rank { r < plan.now.ranks }
@@ -191,7 +191,7 @@ fn add_areas(bytes: &mut Vec<u8>, plan: &Plan, tables: &Tables, r: Rank) -> Resu
     Ok(())
 }
 
-/// The memory with which a rank begins: its cells in order of their numbers, and behind them its areas. An input cell holds the
+/// The memory with which a rank begins: its cells in order of their numbers, and after them its areas. An input cell holds the
 /// rank's list, a cell that combines and an area of what is combined hold starting values, and all else holds zeros.
 ///
 /// # Errors

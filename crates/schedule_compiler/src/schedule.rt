@@ -7,7 +7,7 @@ ghost use Rattle.plan_core.specs.Plan.{from_to, own};
 ghost use Rattle.plan_core.specs.Sound.{SoundPlan};
 ghost use Rattle.plan_calls.specs.Areas.{areas_length, longest_to, region_length};
 ghost use Rattle.plan_calls.specs.Calls.{cell_start, late_calls, prepare_calls};
-ghost use Rattle.plan_calls.specs.Lanes.{lane_bytes as lane_bytes_of, lane_messages};
+ghost use Rattle.plan_calls.specs.Lanes.{lane_bytes, lane_messages};
 ghost use Rattle.plan_calls.specs.Limits.{limits_for};
 ghost use Rattle.plan_calls.specs.Works.{done_threshold};
 ghost use Rattle.plan_tables.specs.Installed.{installed};
@@ -181,7 +181,7 @@ impl Schedule {
         self.table(r).cells()
     }
 
-    /// The bytes of a rank's region: its cells, and behind them its areas.
+    /// The bytes of a rank's region: its cells, and after them its areas.
     pub fn region(&self, r: Rank) -> u64
         requires { r < self.now.ranks }
         ensures { result ≡ region_length (plan_of self.now) r + areas_length (plan_of self.now) r }
@@ -230,7 +230,7 @@ impl Schedule {
     pub fn lane_bytes(&self, s: Rank, d: Rank) -> u64
         requires source { s < self.now.ranks }
         requires target { d < self.now.ranks }
-        ensures { result ≡ lane_bytes_of (plan_of self.now) s d }
+        ensures { result ≡ lane_bytes (plan_of self.now) s d }
     {
         self.shape.keeps_form();
         self.tables.lanes.sent_bytes(&self.plan, s, d)

@@ -137,7 +137,7 @@ module _ (P : ℕ → NewCell → Type 0) (s : Site) (pos : 0 < count s) where
   shift : (x y : ℕ) (ns : List NewCell) → x ≡ y → EachAt P x ns → EachAt P y ns
   shift x y ns e h = subst (λ c. EachAt P c ns) e h
 
-  -- behind the row of entries
+  -- after the row of entries
   second : (f g : ℕ → NewCell) → EachAt P s.first (map f (places s) ++ map g (places s)) → (i : ℕ) → i < count s → P (further s i) (g i)
   second f g h i l = moved (s.first + count s + i) (further s i) (g i) (omega arith) (of_places P s (s.first + count s) g (behind P s s.first f (map g (places s)) h) i l)
 

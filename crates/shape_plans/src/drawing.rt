@@ -16,7 +16,7 @@ use plan_steps::bump;
 use ptl_types::{NoMemory, Rank};
 use std::alloc::Global;
 
-/// The cell of an input at a rank, behind the go cell there.
+/// The cell of an input at a rank, after the go cell there.
 fn draw_input(plan: &mut Plan, buffer: &Buffer, length: u64, r: Rank) -> Result<(), NoMemory>
     requires length { length ≡ list_bytes buffer.now }
     requires room { HasRoom plan.old (input_cell buffer.now r ∷ []) }

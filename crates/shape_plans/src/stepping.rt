@@ -5,10 +5,10 @@ ghost use Rattle.plan_core.specs.Draw.{HasRoom, add_all};
 ghost use Rattle.coll_shape.specs.Collectives.{result_of};
 ghost use Rattle.plan_steps.specs.Steps.{exits_by};
 ghost use Rattle.plan_steps.specs.Beginning.{IsBegun, begun, held_after};
-ghost use Rattle.plan_tree.specs.Tree.{is_tree as is_tree_of};
-ghost use Rattle.plan_mesh.specs.Mesh.{is_mesh as is_mesh_of};
-ghost use Rattle.plan_rounds.specs.Round_steps.{is_round as is_round_of};
-ghost use Rattle.plan_more.specs.More.{is_more as is_more_of};
+ghost use Rattle.plan_tree.specs.Tree.{is_tree};
+ghost use Rattle.plan_mesh.specs.Mesh.{is_mesh};
+ghost use Rattle.plan_rounds.specs.Round_steps.{is_round};
+ghost use Rattle.plan_more.specs.More.{is_more};
 ghost use Rattle.shape_plans.specs.Steps.{cells_of, ends_of};
 
 use coll_shape::{CollStep, Shape};
@@ -18,7 +18,7 @@ use std::alloc::Global;
 
 /// Whether `plan_tree` makes the step.
 fn is_tree(step: &CollStep) -> bool
-    ensures { result ≡ is_tree_of step.now }
+    ensures { result ≡ is_tree step.now }
 {
     matches!(
         step,
@@ -36,7 +36,7 @@ fn add_tree(
     held: &mut Held,
     exits: &mut Exits,
 ) -> Result<(), NoMemory>
-    requires kind { is_tree_of step.now ≡ true }
+    requires kind { is_tree step.now ≡ true }
     requires begun { IsBegun shape.now plan.old held.old exits.old step.now members.now }
     requires room { HasRoom plan.old (cells_of (begun shape.now plan.old held.old exits.old step.now members.now) step.now) }
     ensures plan { IfOk result (λ u.
@@ -54,7 +54,7 @@ fn add_tree(
 
 /// Whether `plan_mesh` makes the step.
 fn is_mesh(step: &CollStep) -> bool
-    ensures { result ≡ is_mesh_of step.now }
+    ensures { result ≡ is_mesh step.now }
 {
     matches!(
         step,
@@ -72,7 +72,7 @@ fn add_mesh(
     held: &mut Held,
     exits: &mut Exits,
 ) -> Result<(), NoMemory>
-    requires kind { is_mesh_of step.now ≡ true }
+    requires kind { is_mesh step.now ≡ true }
     requires begun { IsBegun shape.now plan.old held.old exits.old step.now members.now }
     requires room { HasRoom plan.old (cells_of (begun shape.now plan.old held.old exits.old step.now members.now) step.now) }
     ensures plan { IfOk result (λ u.
@@ -90,7 +90,7 @@ fn add_mesh(
 
 /// Whether `plan_rounds` makes the step.
 fn is_round(step: &CollStep) -> bool
-    ensures { result ≡ is_round_of step.now }
+    ensures { result ≡ is_round step.now }
 {
     matches!(step, CollStep::Scan { .. } | CollStep::Barrier)
 }
@@ -105,7 +105,7 @@ fn add_round(
     held: &mut Held,
     exits: &mut Exits,
 ) -> Result<(), NoMemory>
-    requires kind { is_round_of step.now ≡ true }
+    requires kind { is_round step.now ≡ true }
     requires begun { IsBegun shape.now plan.old held.old exits.old step.now members.now }
     requires room { HasRoom plan.old (cells_of (begun shape.now plan.old held.old exits.old step.now members.now) step.now) }
     ensures plan { IfOk result (λ u.
@@ -123,7 +123,7 @@ fn add_round(
 
 /// Whether `plan_more` makes the step.
 fn is_more(step: &CollStep) -> bool
-    ensures { result ≡ is_more_of step.now }
+    ensures { result ≡ is_more step.now }
 {
     matches!(
         step,
@@ -144,7 +144,7 @@ fn add_more(
     held: &mut Held,
     exits: &mut Exits,
 ) -> Result<(), NoMemory>
-    requires kind { is_more_of step.now ≡ true }
+    requires kind { is_more step.now ≡ true }
     requires begun { IsBegun shape.now plan.old held.old exits.old step.now members.now }
     requires room { HasRoom plan.old (cells_of (begun shape.now plan.old held.old exits.old step.now members.now) step.now) }
     ensures plan { IfOk result (λ u.
@@ -160,7 +160,7 @@ fn add_more(
     Ok(())
 }
 
-/// Adds a step of the shape: its cells with their links behind those that are there, the members' exits, and the cells that hold
+/// Adds a step of the shape: its cells with their links after those that are there, the members' exits, and the cells that hold
 /// the new buffer.
 ///
 /// # Errors

@@ -6,15 +6,15 @@ use Rattle.ptl_types.specs.Handles.{same_handle}
 use Rattle.ptl_types.specs.Kinds.{is_put_or_atomic}
 use Rattle.ni_model.specs.declared.Linked.{Linked}
 use Rattle.ni_model.specs.declared.Found.{Found}
-use Rattle.ni_model.specs.declared.Noted.{Noted}
+use Rattle.ni_model.specs.declared.IndexedHeader.{IndexedHeader}
 use Rattle.ni_model.specs.Tables.{Table}
 use Rattle.ni_model.specs.Lists.{Index, index_at, fits}
 use Rattle.ni_model.specs.Arrive.{or_else, chosen, chosen_at}
 use Rattle.match_lists.specs.Lists.{is_named}
-use Rattle.target_engine.specs.declared.places.Placed.{Placed}
-use Rattle.target_engine.specs.Shelves.{entries_by, index_by, linked_in, ArePlaced}
+use Rattle.target_engine.specs.declared.entry_records.EntryRecord.{EntryRecord}
+use Rattle.target_engine.specs.PortalTable.{entries_by, index_by, linked_in, AreRecorded}
 use Rattle.target_engine.proofs.Counting.{is_handle, named-none}
-use Rattle.target_engine.proofs.Placed.{is_linked-some, few-here}
+use Rattle.target_engine.proofs.Recorded.{is_linked-some, few-here}
 use Rattle.user_counts.proofs.SumLemmas.{same-self}
 use Rattle.target_engine.proofs.Within.{find-linked, cases_has}
 
@@ -50,5 +50,5 @@ chosen_at-named h k (Some i) f few e =
     rw (none, named) refl)
     e
 
-pub chosen-named : (h : Header) (is : List (Option Index)) (f : Found) (hs : List Noted) (t : Table Placed) → ArePlaced is hs t → chosen h is ≡ Some f → linked_in f.linked.handle (index_at h.pt is) ≡ Some f.linked
+pub chosen-named : (h : Header) (is : List (Option Index)) (f : Found) (hs : List IndexedHeader) (t : Table EntryRecord) → AreRecorded is hs t → chosen h is ≡ Some f → linked_in f.linked.handle (index_at h.pt is) ≡ Some f.linked
 chosen-named h is f hs t a e = chosen_at-named h h.pt (index_at h.pt is) f (λ me. few-here me h.pt is hs t a) e

@@ -10,7 +10,7 @@ use Rattle.ni_model.specs.Lists.{Index, entries_in, is_linked, unlinked, advance
 use Rattle.ni_model.specs.Refusals.{is_linked_in, is_linked_anywhere}
 use Rattle.ni_model.specs.Calls.{slot_in, entry_slot, unlinked_in}
 use Rattle.match_lists.specs.Lists.{is_named}
-use Rattle.target_engine.specs.Shelves.{entries_by, index_by, linked_by}
+use Rattle.target_engine.specs.PortalTable.{entries_by, index_by, linked_by}
 
 -- ---- tests of a handle and an index
 

@@ -4,7 +4,7 @@ pub mod Counting
 pub mod Exchanging
 pub mod Headers
 pub mod Kept
-pub mod Placed
+pub mod Recorded
 pub mod Records
 pub mod Swapping
 pub mod Taking

@@ -2,20 +2,20 @@
 use Rattle.std.specs.Prelude.{ℕ, ◌≡◌, ◌<◌, false, List, Option, Some, None, All}
 use Rattle.ptl_types.specs.declared.handles.Handle.{Handle}
 use Rattle.ptl_types.specs.declared.entries.Entry.{Entry}
-use Rattle.ptl_types.specs.declared.entries.List.{List as Place}
+use Rattle.ptl_types.specs.declared.entries.List.{List as EntryList}
 use Rattle.ptl_types.specs.declared.calls.Appended.{Appended}
 use Rattle.ptl_types.specs.declared.calls.Appended.TheVariants.{Linked as IsLinked, Consumed}
 use Rattle.ptl_types.specs.declared.entries.UnexpectedHeader.{UnexpectedHeader}
 use Rattle.ni_model.specs.declared.Linked.{Linked}
 use Rattle.ni_model.specs.Lists.{Index}
-use Rattle.ni_model.specs.Headers.{Held}
+use Rattle.ni_model.specs.Headers.{UnexpectedList}
 use Rattle.ni_model.specs.Arrive.{Side, Parts}
 use Rattle.ni_model.specs.Append.{Appends, Searched, append}
 use Rattle.ni_model.specs.Calls.{entry_slot}
 use Rattle.user_counts.specs.Rows.{IsAlone}
 
 -- a target: its rank, how many entries may be linked, its indices, the stamps given to entries, its headers
-abbrev pub side : ℕ → ℕ → List (Option Index) → ℕ → Held → Side
+abbrev pub side : ℕ → ℕ → List (Option Index) → ℕ → UnexpectedList → Side
 side rank limit indices given headers = record { rank = rank; limit = limit; indices = indices; given = given; headers = headers }
 
 -- what a search leaves, and the header that it found
@@ -32,7 +32,7 @@ SlotBelow n (IsLinked h) = h.slot < n
 SlotBelow n (Consumed x) = Unit {0}
 
 -- the append, with some slot that no linked entry has
-pub record AppendsSome (pt : ℕ) (place : Place) (e : Entry) (old : Parts) (end : Appends) : Type 0 where
+pub record AppendsSome (pt : ℕ) (place : EntryList) (e : Entry) (old : Parts) (end : Appends) : Type 0 where
   pub slot : ℕ
   pub free : entry_slot old.side.indices slot ≡ false
   pub ended : end ≡ append slot pt place e old

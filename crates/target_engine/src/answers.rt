@@ -1,9 +1,9 @@
 //! Acknowledgements and replies.
 
-ghost use Rattle.std.specs.Prelude.{◌≡◌, [], None, Some, true, false, length as size, if◌then◌else◌};
-ghost use Rattle.ptl_types.specs.Messages.{message as sent};
+ghost use Rattle.std.specs.Prelude.{◌≡◌, [], None, Some, true, false, length, if◌then◌else◌};
+ghost use Rattle.ptl_types.specs.Messages.{message};
 ghost use Rattle.ptl_types.specs.Kinds.{is_no_ack};
-ghost use Rattle.ni_model.specs.Arrive.{ack_header as ack_of, reply_header as reply_of, answer as answer_of, refused as refused_of};
+ghost use Rattle.ni_model.specs.Arrive.{ack_header, reply_header, answer, refused};
 
 use crate::measures::is_put_or_atomic;
 use ni_model::Arrived;
@@ -11,7 +11,7 @@ use ptl_types::{AckRequest, Bytes, Header, Message, MessageKind, Outcome};
 
 /// The header of the acknowledgement: the message's with the ranks exchanged.
 fn ack_header(ok: bool, count: u64, header: &Header) -> Header
-    ensures { result ≡ ack_of ok count header.now }
+    ensures { result ≡ ack_header ok count header.now }
 {
     Header {
         kind: MessageKind::Ack,
@@ -29,7 +29,7 @@ fn ack_header(ok: bool, count: u64, header: &Header) -> Header
 
 /// The header of the reply; it asks for no acknowledgement.
 fn reply_header(ok: bool, count: u64, header: &Header) -> Header
-    ensures { result ≡ reply_of ok count header.now }
+    ensures { result ≡ reply_header ok count header.now }
 {
     Header {
         kind: MessageKind::Reply,
@@ -48,7 +48,7 @@ fn reply_header(ok: bool, count: u64, header: &Header) -> Header
 
 /// The acknowledgement, where one was asked for. It has no bytes.
 pub fn acknowledge(ok: bool, count: u64, header: &Header, mut bytes: Bytes) -> Option<Message>
-    ensures { result ≡ (if is_no_ack header.now.ack then None else Some (sent (ack_of ok count header.now) [])) }
+    ensures { result ≡ (if is_no_ack header.now.ack then None else Some (message (ack_header ok count header.now) [])) }
 {
     bytes.clear();
     match header.ack {
@@ -59,15 +59,15 @@ pub fn acknowledge(ok: bool, count: u64, header: &Header, mut bytes: Bytes) -> O
 
 /// The reply with these bytes.
 pub fn reply(header: &Header, count: u64, bytes: Bytes) -> Message
-    requires { size bytes.list ≡ count }
-    ensures { result ≡ sent (reply_of true count header.now) bytes.list }
+    requires { length bytes.list ≡ count }
+    ensures { result ≡ message (reply_header true count header.now) bytes.list }
 {
     Message::new(reply_header(true, count, header), bytes)
 }
 
 /// The answer, not ok, to a message that wasn't delivered, where it asked for one.
 fn refusal(message: Message) -> Option<Message>
-    ensures { result ≡ answer_of false 0 [] message.header }
+    ensures { result ≡ answer false 0 [] message.header }
 {
     let (header, mut bytes) = message.into_parts();
     if is_put_or_atomic(header.kind) {
@@ -79,7 +79,7 @@ fn refusal(message: Message) -> Option<Message>
 
 /// A message that wasn't delivered.
 pub fn refused(outcome: Outcome, message: Message) -> Arrived
-    ensures { result ≡ refused_of outcome message.header }
+    ensures { result ≡ refused outcome message.header }
 {
     Arrived {
         outcome,

@@ -7,13 +7,13 @@ ghost use Rattle.ni_model.specs.Arrive.{parts};
 ghost use Rattle.ni_model.specs.Queues.{raised};
 ghost use Rattle.ni_model.specs.Events.{link_event};
 ghost use Rattle.ni_model.specs.Calls.{entry_slot};
-ghost use Rattle.ni_model.specs.Append.{append_fault, is_allocated as allocated, linked_count, next_handle, link_side, queue_at as queue_of_index, overflow_counter as counter_of, each_counted, each_gone, with_noted, counted_by as counts_by};
+ghost use Rattle.ni_model.specs.Append.{append_fault, is_allocated, linked_count, next_handle, link_side, queue_at, overflow_counter, each_counted, each_gone, with_unexpected, counted_by};
 ghost use Rattle.target_engine.specs.Sides.{has_appended, SlotBelow, AppendsSome};
 
 use crate::calls::is_allocated;
+use crate::entry_records::EntryRecord;
 use crate::events::entry_event;
 use crate::index::{link_at, queue_at};
-use crate::places::Placed;
 use crate::takes::{overflow_counter, take_found, take_header};
 use crate::target::Target;
 use counters::Counter;
@@ -28,26 +28,26 @@ impl Target {
     fn is_full(&self) -> bool
         ensures { result ≡ (nat_le self.now.limit (linked_count self.now) || nat_le top self.now.given) }
     {
-        self.linked >= self.limit || self.records.places.is_full()
+        self.linked >= self.limit || self.records.by_entry.is_full()
     }
 
     /// Links an entry at the end of a list, and tells so.
     fn link(&mut self, eqs: &mut Store<Queue>, pt: u32, list: Place, entry: Entry) -> Handle
-        requires index { allocated pt self.old ≡ true }
+        requires index { is_allocated pt self.old ≡ true }
         requires room { (nat_le self.old.limit (linked_count self.old) || nat_le top self.old.given) ≡ false }
         ensures named { result ≡ next_handle result.slot self.old }
         ensures free { entry_slot self.old.indices result.slot ≡ false }
         ensures below { result.slot < self.old.limit + self.old.headers.limit }
         ensures linked { self.new ≡ link_side result.slot pt list entry self.old }
-        ensures told { eqs.new ≡ raised (queue_of_index pt self.old) (link_event pt entry.match_bits) eqs.old }
+        ensures told { eqs.new ≡ raised (queue_at pt self.old) (link_event pt entry.match_bits) eqs.old }
     {
-        let record = Placed {
+        let record = EntryRecord {
             pt,
             ct: entry.ct,
             linked: true,
             headers: 0,
         };
-        let me = match self.records.places.insert(record) {
+        let me = match self.records.by_entry.insert(record) {
             Ok(me) => me,
             Err(_) => unreachable!(),
         };
@@ -71,10 +71,10 @@ impl Target {
         pt: u32,
         entry: &Entry,
     ) -> Option<Handle>
-        ensures left { self.new ≡ with_noted (left_in pt entry.now self.old.headers.noted) self.old }
-        ensures counts { cts.new ≡ each_counted (counter_of entry.now) (found_in pt entry.now self.old.headers.noted) cts.old }
-        ensures events { eqs.new ≡ each_gone self.old (left_in pt entry.now self.old.headers.noted) (found_in pt entry.now self.old.headers.noted) eqs.old }
-        ensures counted { result ≡ counts_by entry.now (found_in pt entry.now self.old.headers.noted) }
+        ensures left { self.new ≡ with_unexpected (left_in pt entry.now self.old.headers.unexpected) self.old }
+        ensures counts { cts.new ≡ each_counted (overflow_counter entry.now) (found_in pt entry.now self.old.headers.unexpected) cts.old }
+        ensures events { eqs.new ≡ each_gone self.old (left_in pt entry.now self.old.headers.unexpected) (found_in pt entry.now self.old.headers.unexpected) eqs.old }
+        ensures counted { result ≡ counted_by entry.now (found_in pt entry.now self.old.headers.unexpected) }
     {
         let records = &mut self.records;
         take_found(
@@ -97,21 +97,31 @@ impl Target {
         pt: u32,
         entry: Entry,
     ) -> (Appended, Option<Handle>)
-        requires index { allocated pt self.old ≡ true }
+        requires index { is_allocated pt self.old ≡ true }
         requires room { (nat_le self.old.limit (linked_count self.old) || nat_le top self.old.given) ≡ false }
         requires once { entry.use_once ≡ true }
         ensures appends { (region : List ℕ) → AppendsSome pt Place.Priority entry (parts self.old region cts.old eqs.old) (has_appended (parts self.new region cts.new eqs.new) result.0 result.1) }
         ensures slot { SlotBelow (self.old.limit + self.old.headers.limit) result.0 }
     {
-        let noted = match self.headers.take_oldest(pt, &entry) {
-            Some(noted) => noted,
+        let unexpected = match self.headers.take_oldest(pt, &entry) {
+            Some(unexpected) => unexpected,
             None => {
                 let me = self.link(eqs, pt, Place::Priority, entry);
                 return (Appended::Linked(me), None);
             }
         };
-        take_header(&self.indices, &mut self.records, cts, eqs, &entry, &noted);
-        (Appended::Consumed(noted.header), overflow_counter(&entry))
+        take_header(
+            &self.indices,
+            &mut self.records,
+            cts,
+            eqs,
+            &entry,
+            &unexpected,
+        );
+        (
+            Appended::Consumed(unexpected.header),
+            overflow_counter(&entry),
+        )
     }
 
     /// Appends an entry to one of the lists of an index (Portals 4.3, appending list entries). To the priority list, a

@@ -5,17 +5,17 @@ ghost use Rattle.ptl_types.specs.declared.handles.Count.{Count};
 ghost use Rattle.ni_model.specs.Tables.{Table};
 ghost use Rattle.ni_model.specs.Lists.{index_at, entries_in};
 ghost use Rattle.ni_model.specs.Headers.{headers_of};
-ghost use Rattle.ni_model.specs.Events.{missed_event as missed_of};
+ghost use Rattle.ni_model.specs.Events.{missed_event};
 ghost use Rattle.ni_model.specs.Arrive.{parts};
 ghost use Rattle.ni_model.specs.Calls.{new_index};
 ghost use Rattle.ni_model.specs.Refusals.{pt_alloc_fault, pt_free_fault};
-ghost use Rattle.ni_model.specs.Append.{is_allocated as allocated, search as search_of};
-ghost use Rattle.target_engine.specs.Shelves.{seen_in};
+ghost use Rattle.ni_model.specs.Append.{is_allocated, search};
+ghost use Rattle.target_engine.specs.PortalTable.{seen_in};
 ghost use Rattle.target_engine.specs.Sides.{has_searched};
 
 use crate::events::entry_event;
 use crate::gone::{frees, header_event, raise_gone};
-use crate::index::{Index, allocate_at, free_at, queue_at, shelf_at};
+use crate::index::{Index, allocate_at, free_at, portal_entry_at, queue_at};
 use crate::target::Target;
 use event_delivery::raise;
 use event_queues::Queue;
@@ -26,22 +26,22 @@ use ptl_types::{Entry, Event, EventKind, Handle, NiFault, UnexpectedHeader};
 pub fn is_allocated(indices: &[Index], pt: u32) -> bool
     ensures { result ≡ is_some (index_at pt (seen_in indices.now)) }
 {
-    shelf_at(indices, pt).is_some()
+    portal_entry_at(indices, pt).is_some()
 }
 
 /// Whether one of its lists holds an entry.
 fn holds_entries(indices: &[Index], pt: u32) -> bool
     ensures { result ≡ nat_lt 0 (entries_in (index_at pt (seen_in indices.now))) }
 {
-    match shelf_at(indices, pt) {
-        Some(shelf) => shelf.holds_entries(),
+    match portal_entry_at(indices, pt) {
+        Some(portal_entry) => portal_entry.holds_entries(),
         None => false,
     }
 }
 
 /// A search that finds nothing.
 fn missed_event(pt: u32, entry: &Entry) -> Event
-    ensures { result ≡ missed_of pt entry.now.match_bits }
+    ensures { result ≡ missed_event pt entry.now.match_bits }
 {
     entry_event(EventKind::Search, pt, entry.match_bits, false)
 }
@@ -77,8 +77,8 @@ impl Target {
 
     /// Whether a header of an allocated index waits.
     fn waits_at(&self, pt: u32) -> bool
-        requires { allocated pt self.now ≡ true }
-        ensures { result ≡ nat_lt 0 (length (headers_of pt self.now.headers.noted)) }
+        requires { is_allocated pt self.now ≡ true }
+        ensures { result ≡ nat_lt 0 (length (headers_of pt self.now.headers.unexpected)) }
     {
         self.records.waiting.is_used(pt)
     }
@@ -112,10 +112,10 @@ impl Target {
         entry: &Entry,
         delete: bool,
     ) -> Result<Option<UnexpectedHeader>, NiFault>
-        ensures err { IfErr result (λ fault. (fault ≡ NiFault.Stale) × (allocated pt self.old ≡ false)) }
+        ensures err { IfErr result (λ fault. (fault ≡ NiFault.Stale) × (is_allocated pt self.old ≡ false)) }
         ensures unchanged { OnErr result ((self.new ≡ self.old) × (eqs.new ≡ eqs.old)) }
-        ensures ok { OnOk result (allocated pt self.old ≡ true) }
-        ensures searched { IfOk result (λ found. (region : List ℕ) (cts : Table Count) → has_searched (parts self.new region cts eqs.new) found ≡ search_of pt entry.now delete (parts self.old region cts eqs.old)) }
+        ensures ok { OnOk result (is_allocated pt self.old ≡ true) }
+        ensures searched { IfOk result (λ found. (region : List ℕ) (cts : Table Count) → has_searched (parts self.new region cts eqs.new) found ≡ search pt entry.now delete (parts self.old region cts eqs.old)) }
     {
         if !is_allocated(&self.indices, pt) {
             return Err(NiFault::Stale);
@@ -124,15 +124,15 @@ impl Target {
             return Ok(self.delete_oldest(eqs, pt, entry));
         }
         let eq = queue_at(&self.indices, pt);
-        let noted = match self.headers.search(pt, entry) {
-            Some(noted) => noted,
+        let unexpected = match self.headers.search(pt, entry) {
+            Some(unexpected) => unexpected,
             None => {
                 raise(eqs, eq, missed_event(pt, entry));
                 return Ok(None);
             }
         };
-        raise(eqs, eq, header_event(EventKind::Search, &noted));
-        Ok(Some(noted.header))
+        raise(eqs, eq, header_event(EventKind::Search, &unexpected));
+        Ok(Some(unexpected.header))
     }
 
     /// Takes out the oldest header that the entry finds, and tells of it.
@@ -143,18 +143,18 @@ impl Target {
         pt: u32,
         entry: &Entry,
     ) -> Option<UnexpectedHeader>
-        ensures { (region : List ℕ) (cts : Table Count) → has_searched (parts self.new region cts eqs.new) result ≡ search_of pt entry.now true (parts self.old region cts eqs.old) }
+        ensures { (region : List ℕ) (cts : Table Count) → has_searched (parts self.new region cts eqs.new) result ≡ search pt entry.now true (parts self.old region cts eqs.old) }
     {
         let eq = queue_at(&self.indices, pt);
-        let noted = match self.headers.take_oldest(pt, entry) {
-            Some(noted) => noted,
+        let unexpected = match self.headers.take_oldest(pt, entry) {
+            Some(unexpected) => unexpected,
             None => {
                 raise(eqs, eq, missed_event(pt, entry));
                 return None;
             }
         };
-        let freed = frees(&self.indices, &mut self.records, &noted);
-        raise_gone(&self.indices, eqs, EventKind::Search, &noted, freed);
-        Some(noted.header)
+        let freed = frees(&self.indices, &mut self.records, &unexpected);
+        raise_gone(&self.indices, eqs, EventKind::Search, &unexpected, freed);
+        Some(unexpected.header)
     }
 }

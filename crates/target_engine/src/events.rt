@@ -1,7 +1,7 @@
 //! The events that a message raises at its target.
 
 ghost use Rattle.std.specs.Prelude.{◌≡◌, ◌+◌, ◌<◌, ◌^◌};
-ghost use Rattle.ni_model.specs.Events.{kind_delivered as kind_of, message_event as event_of, entry_event as entry_event_of};
+ghost use Rattle.ni_model.specs.Events.{kind_delivered, message_event, entry_event};
 ghost use Rattle.ni_model.specs.Arrive.{delivery_raised, events_after};
 
 use crate::measures::{delivered, is_over, place};
@@ -13,7 +13,7 @@ use ptl_types::{Event, EventKind, Handle, Header, List, MessageKind};
 
 /// The event of a message that a priority entry took; a swap is told as a fetch-atomic.
 fn kind_delivered(kind: MessageKind) -> EventKind
-    ensures { result ≡ kind_of kind }
+    ensures { result ≡ kind_delivered kind }
 {
     match kind {
         MessageKind::Put => EventKind::Put,
@@ -25,7 +25,7 @@ fn kind_delivered(kind: MessageKind) -> EventKind
 
 /// The event of a message, or of its unexpected header.
 pub fn message_event(kind: EventKind, header: &Header, delivered: u64, place: u64) -> Event
-    ensures { result ≡ event_of kind header.now delivered place }
+    ensures { result ≡ message_event kind header.now delivered place }
 {
     Event {
         kind,
@@ -42,7 +42,7 @@ pub fn message_event(kind: EventKind, header: &Header, delivered: u64, place: u6
 
 /// The event of an entry.
 pub fn entry_event(kind: EventKind, pt: u32, match_bits: u64, ok: bool) -> Event
-    ensures { result ≡ entry_event_of kind pt match_bits ok }
+    ensures { result ≡ entry_event kind pt match_bits ok }
 {
     Event {
         kind,

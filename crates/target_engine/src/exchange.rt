@@ -5,7 +5,7 @@ ghost use Rattle.ptl_types.specs.Elements.{part, written};
 ghost use Rattle.ptl_types.specs.Operations.{bytes_of};
 ghost use Rattle.ptl_types.specs.Kinds.{is_answer, has_op, is_swap, has_elements};
 ghost use Rattle.ptl_types.specs.Messages.{message as sent, FillsHeader};
-ghost use Rattle.ni_model.specs.Arrive.{memory_after, answer as answer_of, new_bytes, old_bytes, delivered as delivered_of, place as place_of, reply_header as reply_of};
+ghost use Rattle.ni_model.specs.Arrive.{memory_after, answer, new_bytes, old_bytes, delivered, place, reply_header};
 ghost use Rattle.ni_model.specs.Conditions.{IsPartIn};
 
 use crate::answers::{acknowledge, reply};
@@ -34,7 +34,7 @@ fn write_put(region: &mut Region, linked: &Linked, message: &Message)
 fn read_get(region: &Region, linked: &Linked, message: Message) -> Message
     requires get { message.header.kind ≡ MessageKind.Get }
     requires part { IsPartIn (length region.now) linked.now }
-    ensures { result ≡ sent (reply_of true (delivered_of linked.now message.header) message.header) (old_bytes linked.now message.header region.now) }
+    ensures { result ≡ sent (reply_header true (delivered linked.now message.header) message.header) (old_bytes linked.now message.header region.now) }
 {
     let _size = region.len();
     let (header, mut bytes) = message.into_parts();
@@ -95,9 +95,9 @@ fn exchange_part(region: &mut Region, linked: &Linked, header: &Header, bytes: B
     requires part { IsPartIn (length region.old) linked.now }
     requires elements { has_elements header.now.kind ≡ true }
     requires kept { FillsHeader header.now bytes }
-    ensures memory { region.new ≡ written (place_of linked.now header.now) (new_bytes header.now.kind header.now (old_bytes linked.now header.now region.old) (take (delivered_of linked.now header.now) bytes.list)) region.old }
+    ensures memory { region.new ≡ written (place linked.now header.now) (new_bytes header.now.kind header.now (old_bytes linked.now header.now region.old) (take (delivered linked.now header.now) bytes.list)) region.old }
     ensures old { result.items ≡ old_bytes linked.now header.now region.old }
-    ensures size { length result.items ≡ delivered_of linked.now header.now }
+    ensures size { length result.items ≡ delivered linked.now header.now }
 {
     let _size = region.len();
     let count = delivered(linked, header);
@@ -112,7 +112,7 @@ fn exchange_elements(region: &mut Region, linked: &Linked, message: Message) -> 
     requires part { IsPartIn (length region.old) linked.now }
     requires elements { has_elements message.header.kind ≡ true }
     ensures memory { region.new ≡ memory_after linked.now message region.old }
-    ensures answer { result ≡ answer_of true (delivered_of linked.now message.header) (old_bytes linked.now message.header region.old) message.header }
+    ensures answer { result ≡ answer true (delivered linked.now message.header) (old_bytes linked.now message.header region.old) message.header }
 {
     let (header, bytes) = message.into_parts();
     let count = delivered(linked, &header);
@@ -130,7 +130,7 @@ pub fn exchange(region: &mut Region, linked: &Linked, message: Message) -> Optio
     requires request { is_answer message.header.kind ≡ false }
     requires part { IsPartIn (length region.old) linked.now }
     ensures memory { region.new ≡ memory_after linked.now message region.old }
-    ensures answer { result ≡ answer_of true (delivered_of linked.now message.header) (old_bytes linked.now message.header region.old) message.header }
+    ensures answer { result ≡ answer true (delivered linked.now message.header) (old_bytes linked.now message.header region.old) message.header }
 {
     match message.header().kind {
         MessageKind::Put => {

@@ -2,40 +2,40 @@
 
 ghost use Rattle.std.specs.Prelude.{◌≡◌};
 ghost use Rattle.ni_model.specs.Lists.{index_at, is_linked_at};
-ghost use Rattle.ni_model.specs.Events.{header_event as event_of, kind_taken as kind_of};
+ghost use Rattle.ni_model.specs.Events.{header_event, kind_taken};
 ghost use Rattle.ni_model.specs.Append.{told_gone};
-ghost use Rattle.target_engine.specs.Shelves.{seen_in, frees_at, without_header};
+ghost use Rattle.target_engine.specs.PortalTable.{seen_in, frees_at, without_header};
 
+use crate::entry_records::{Records, drop_header, headers_of};
 use crate::events::{entry_event, message_event};
-use crate::index::{Index, queue_at, shelf_at};
-use crate::places::{Records, drop_header, headers_of};
+use crate::index::{Index, portal_entry_at, queue_at};
 use event_delivery::raise;
 use event_queues::Queue;
 use handle_store::Store;
-use ni_model::Noted;
+use ni_model::IndexedHeader;
 use ptl_types::{Event, EventKind, Handle, List as Place, MessageKind};
 
 /// Whether the overflow list of this index holds the entry.
 pub fn is_in_overflow(indices: &[Index], pt: u32, entry: Handle) -> bool
     ensures { result ≡ is_linked_at Place.Overflow entry (index_at pt (seen_in indices.now)) }
 {
-    match shelf_at(indices, pt) {
-        Some(shelf) => shelf.is_in_overflow(entry),
+    match portal_entry_at(indices, pt) {
+        Some(portal_entry) => portal_entry.is_in_overflow(entry),
         None => false,
     }
 }
 
 /// The event of a header that is taken or found.
-pub fn header_event(kind: EventKind, noted: &Noted) -> Event
-    ensures { result ≡ event_of kind noted.now }
+pub fn header_event(kind: EventKind, unexpected: &IndexedHeader) -> Event
+    ensures { result ≡ header_event kind unexpected.now }
 {
-    let header = &noted.header;
+    let header = &unexpected.header;
     message_event(kind, &header.header, header.delivered, header.place)
 }
 
 /// The event of a header that an append takes.
 pub fn kind_taken(kind: MessageKind) -> EventKind
-    ensures { result ≡ kind_of kind }
+    ensures { result ≡ kind_taken kind }
 {
     match kind {
         MessageKind::Put => EventKind::PutOverflow,
@@ -45,13 +45,13 @@ pub fn kind_taken(kind: MessageKind) -> EventKind
 
 /// Counts a header that goes out of the record of its entry and out of its index. Whether the entry is free: it was the last
 /// that lay there, and the entry isn't linked.
-pub fn frees(indices: &[Index], records: &mut Records, gone: &Noted) -> bool
-    ensures freed { result ≡ frees_at (seen_in indices.now) records.old.places gone.now }
+pub fn frees(indices: &[Index], records: &mut Records, gone: &IndexedHeader) -> bool
+    ensures freed { result ≡ frees_at (seen_in indices.now) records.old.by_entry gone.now }
     ensures gone { records.new ≡ without_header gone.now records.old }
 {
     let entry = gone.header.entry;
-    let last = headers_of(&records.places, entry) <= 1;
-    drop_header(&mut records.places, entry);
+    let last = headers_of(&records.by_entry, entry) <= 1;
+    drop_header(&mut records.by_entry, entry);
     records.waiting.lower(gone.pt);
     last && !is_in_overflow(indices, gone.pt, entry)
 }
@@ -61,7 +61,7 @@ pub fn raise_gone(
     indices: &[Index],
     eqs: &mut Store<Queue>,
     kind: EventKind,
-    gone: &Noted,
+    gone: &IndexedHeader,
     freed: bool,
 )
     ensures { eqs.new ≡ told_gone kind (seen_in indices.now) freed gone.now eqs.old }

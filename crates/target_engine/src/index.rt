@@ -1,13 +1,13 @@
 //! A place of the portal table: whether an index is allocated there, its event queue and its two lists.
 
 ghost use Rattle.std.specs.Prelude.{◌≡◌, ◌+◌, ◌++◌, ◌∷◌, [], ℕ, true, None, Some, All, IfOk, is_some, nat_lt, slice_set};
-ghost use Rattle.ptl_types.specs.Kinds.{is_put_or_atomic as puts};
+ghost use Rattle.ptl_types.specs.Kinds.{is_put_or_atomic};
 ghost use Rattle.ni_model.specs.Arrive.{choose, chosen, first_fit};
 ghost use Rattle.ni_model.specs.Append.{fresh, linked_at};
 ghost use Rattle.ni_model.specs.Calls.{unlinked_in, new_index};
 ghost use Rattle.ni_model.specs.Lists.{queue_of, index_at, entries_in, is_linked};
-ghost use Rattle.match_lists.specs.Lists.{with_entries, without_entry, linked_as as named_in};
-ghost use Rattle.target_engine.specs.Shelves.{index, seen, seen_ref, seen_in, linked_in, settled_lists, settled_in, AreEmpty, HasLists, IsShelf, IsUnused, MayAppend, MayLink};
+ghost use Rattle.match_lists.specs.Lists.{with_entries, without_entry, linked_as};
+ghost use Rattle.target_engine.specs.PortalTable.{index, seen, seen_ref, seen_in, linked_in, settled_lists, settled_in, AreEmpty, HasLists, IsPortalEntry, IsUnused, MayAppend, MayLink};
 
 use crate::measures::{delivered, is_over, is_put_or_atomic, running_after};
 use chain_list::Steps;
@@ -36,7 +36,7 @@ fn find_entry<L: Ledger>(blank: Blank, lists: &Lists, header: &Header) -> Option
     requires name { blank.name ≡ L.name }
     requires parts { blank.parts ≡ L.parts }
     requires one { blank.parts ≡ 1 }
-    ensures { result ≡ first_fit header.now (puts header.now.kind) lists.now.priority lists.now.overflow }
+    ensures { result ≡ first_fit header.now (is_put_or_atomic header.now.kind) lists.now.priority lists.now.overflow }
 {
     let mut steps = Steps::<L>::start(blank);
     lists.find_entry(header, is_put_or_atomic(header.kind), &mut steps)
@@ -70,7 +70,7 @@ fn settle<L: Ledger>(blank: Blank, lists: &mut Lists, found: &Found, header: &He
     requires name { blank.name ≡ L.name }
     requires parts { blank.parts ≡ L.parts }
     requires one { blank.parts ≡ 1 }
-    requires there { named_in found.now.linked.handle lists.old ≡ Some found.now.linked }
+    requires there { linked_as found.now.linked.handle lists.old ≡ Some found.now.linked }
     ensures { lists.new ≡ settled_lists found.now header.now lists.old }
 {
     let mut steps = Steps::<L>::start(blank);
@@ -121,7 +121,7 @@ impl Index {
     fn allocate(&mut self, eq: Option<Handle>)
         requires { AreEmpty self.old.lists }
         ensures after { seen self.new ≡ Some (new_index eq) }
-        ensures kept { (most slots given : ℕ) → IsShelf most slots given self.old → IsShelf most slots given self.new }
+        ensures kept { (most slots given : ℕ) → IsPortalEntry most slots given self.old → IsPortalEntry most slots given self.new }
     {
         self.allocated = true;
         self.eq = eq;
@@ -131,7 +131,7 @@ impl Index {
     fn free(&mut self)
         requires { AreEmpty self.old.lists }
         ensures after { seen self.new ≡ None }
-        ensures kept { (most slots given : ℕ) → IsShelf most slots given self.old → IsShelf most slots given self.new }
+        ensures kept { (most slots given : ℕ) → IsPortalEntry most slots given self.old → IsPortalEntry most slots given self.new }
     {
         self.allocated = false;
         self.eq = None;
@@ -142,7 +142,7 @@ impl Index {
         requires there { self.old.allocated ≡ true }
         requires may { MayAppend handle.slot self.old.lists }
         ensures after { seen self.new ≡ linked_at list (fresh handle entry) (seen self.old) }
-        ensures kept { (most slots given : ℕ) → IsShelf most slots given self.old → IsShelf most slots (given + 1) self.new }
+        ensures kept { (most slots given : ℕ) → IsPortalEntry most slots given self.old → IsPortalEntry most slots (given + 1) self.new }
     {
         append::<Brand>(Blank::new(1), &mut self.lists, list, handle, entry);
     }
@@ -150,7 +150,7 @@ impl Index {
     /// Unlinks an entry from both lists.
     fn unlink(&mut self, me: Handle)
         ensures after { seen self.new ≡ unlinked_in me (seen self.old) }
-        ensures kept { (most slots given : ℕ) → IsShelf most slots given self.old → IsShelf most slots given self.new }
+        ensures kept { (most slots given : ℕ) → IsPortalEntry most slots given self.old → IsPortalEntry most slots given self.new }
     {
         unlink::<Brand>(Blank::new(1), &mut self.lists, me);
     }
@@ -159,14 +159,14 @@ impl Index {
     fn settle(&mut self, found: &Found, header: &Header)
         requires { linked_in found.now.linked.handle (seen self.old) ≡ Some found.now.linked }
         ensures after { seen self.new ≡ settled_in found.now header.now (seen self.old) }
-        ensures kept { (most slots given : ℕ) → IsShelf most slots given self.old → IsShelf most slots given self.new }
+        ensures kept { (most slots given : ℕ) → IsPortalEntry most slots given self.old → IsPortalEntry most slots given self.new }
     {
         settle::<Brand>(Blank::new(1), &mut self.lists, found, header);
     }
 }
 
 /// The index of this number, where it is allocated.
-pub fn shelf_at(indices: &[Index], pt: u32) -> Option<&Index>
+pub fn portal_entry_at(indices: &[Index], pt: u32) -> Option<&Index>
     ensures { seen_ref result ≡ index_at pt (seen_in indices.now) }
 {
     let at = pt as usize;
@@ -181,8 +181,8 @@ pub fn shelf_at(indices: &[Index], pt: u32) -> Option<&Index>
 pub fn chosen_in(indices: &[Index], header: &Header) -> Option<Found>
     ensures { result ≡ chosen header.now (seen_in indices.now) }
 {
-    match shelf_at(indices, header.pt) {
-        Some(shelf) => shelf.choose(header),
+    match portal_entry_at(indices, header.pt) {
+        Some(portal_entry) => portal_entry.choose(header),
         None => None,
     }
 }
@@ -191,8 +191,8 @@ pub fn chosen_in(indices: &[Index], header: &Header) -> Option<Found>
 pub fn queue_at(indices: &[Index], pt: u32) -> Option<Handle>
     ensures { result ≡ queue_of (index_at pt (seen_in indices.now)) }
 {
-    match shelf_at(indices, pt) {
-        Some(shelf) => shelf.eq,
+    match portal_entry_at(indices, pt) {
+        Some(portal_entry) => portal_entry.eq,
         None => None,
     }
 }
@@ -202,7 +202,7 @@ pub fn allocate_at(indices: &mut [Index], pt: u32, eq: Option<Handle>)
     requires empty { entries_in (index_at pt (seen_in indices.old)) ≡ 0 }
     requires lists { All HasLists indices.old }
     ensures after { seen_in indices.new ≡ slice_set (seen_in indices.old) pt (Some (new_index eq)) }
-    ensures kept { (most slots given : ℕ) → All (IsShelf most slots given) indices.old → All (IsShelf most slots given) indices.new }
+    ensures kept { (most slots given : ℕ) → All (IsPortalEntry most slots given) indices.old → All (IsPortalEntry most slots given) indices.new }
 {
     let at = pt as usize;
     if at < indices.len() {
@@ -215,7 +215,7 @@ pub fn free_at(indices: &mut [Index], pt: u32)
     requires empty { entries_in (index_at pt (seen_in indices.old)) ≡ 0 }
     requires lists { All HasLists indices.old }
     ensures after { seen_in indices.new ≡ slice_set (seen_in indices.old) pt None }
-    ensures kept { (most slots given : ℕ) → All (IsShelf most slots given) indices.old → All (IsShelf most slots given) indices.new }
+    ensures kept { (most slots given : ℕ) → All (IsPortalEntry most slots given) indices.old → All (IsPortalEntry most slots given) indices.new }
 {
     let at = pt as usize;
     if at < indices.len() {
@@ -227,7 +227,7 @@ pub fn free_at(indices: &mut [Index], pt: u32)
 pub fn settle_at(indices: &mut [Index], found: &Found, header: &Header)
     requires { linked_in found.now.linked.handle (index_at header.now.pt (seen_in indices.old)) ≡ Some found.now.linked }
     ensures after { seen_in indices.new ≡ slice_set (seen_in indices.old) header.now.pt (settled_in found.now header.now (index_at header.now.pt (seen_in indices.old))) }
-    ensures kept { (most slots given : ℕ) → All (IsShelf most slots given) indices.old → All (IsShelf most slots given) indices.new }
+    ensures kept { (most slots given : ℕ) → All (IsPortalEntry most slots given) indices.old → All (IsPortalEntry most slots given) indices.new }
 {
     let at = header.pt as usize;
     if at < indices.len() {
@@ -240,7 +240,7 @@ pub fn link_at(indices: &mut [Index], pt: u32, list: List, handle: Handle, entry
     requires there { is_some (index_at pt (seen_in indices.old)) ≡ true }
     requires may { All (MayLink handle.slot) indices.old }
     ensures after { seen_in indices.new ≡ slice_set (seen_in indices.old) pt (linked_at list (fresh handle entry) (index_at pt (seen_in indices.old))) }
-    ensures kept { (most slots given : ℕ) → All (IsShelf most slots given) indices.old → All (IsShelf most slots (given + 1)) indices.new }
+    ensures kept { (most slots given : ℕ) → All (IsPortalEntry most slots given) indices.old → All (IsPortalEntry most slots (given + 1)) indices.new }
 {
     let at = pt as usize;
     if at < indices.len() {
@@ -251,7 +251,7 @@ pub fn link_at(indices: &mut [Index], pt: u32, list: List, handle: Handle, entry
 /// Unlinks an entry from this index.
 pub fn unlink_at(indices: &mut [Index], pt: u32, me: Handle)
     ensures after { seen_in indices.new ≡ slice_set (seen_in indices.old) pt (unlinked_in me (index_at pt (seen_in indices.old))) }
-    ensures kept { (most slots given : ℕ) → All (IsShelf most slots given) indices.old → All (IsShelf most slots given) indices.new }
+    ensures kept { (most slots given : ℕ) → All (IsPortalEntry most slots given) indices.old → All (IsPortalEntry most slots given) indices.new }
 {
     let at = pt as usize;
     if at < indices.len() {

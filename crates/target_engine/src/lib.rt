@@ -5,12 +5,12 @@
 mod answers;
 mod appends;
 mod calls;
+mod entry_records;
 mod events;
 mod exchange;
 mod gone;
 mod index;
 mod measures;
-mod places;
 mod swap;
 mod takes;
 mod target;

@@ -1,8 +1,8 @@
 //! How much of a message an entry takes, where, and what becomes of the entry.
 
 ghost use Rattle.std.specs.Prelude.{◌≡◌, ◌+◌, ◌<◌, ◌≤◌, ◌^◌, ◌%◌, true};
-ghost use Rattle.ptl_types.specs.Kinds.{is_put_or_atomic as puts, has_elements as elements};
-ghost use Rattle.ni_model.specs.Arrive.{whole as whole_of, delivered as delivered_of, place as place_of, running_after as running_of, is_over as over};
+ghost use Rattle.ptl_types.specs.Kinds.{is_put_or_atomic, has_elements};
+ghost use Rattle.ni_model.specs.Arrive.{whole, delivered, place, running_after, is_over};
 
 use match_lists::{offset_in, space_in};
 use ni_model::Linked;
@@ -11,14 +11,14 @@ use std::cmp;
 
 /// The operations that may go to the overflow list.
 pub fn is_put_or_atomic(kind: MessageKind) -> bool
-    ensures { result ≡ puts kind }
+    ensures { result ≡ is_put_or_atomic kind }
 {
     matches!(kind, MessageKind::Put | MessageKind::Atomic)
 }
 
 /// The operations on elements.
 pub fn has_elements(kind: MessageKind) -> bool
-    ensures { result ≡ elements kind }
+    ensures { result ≡ has_elements kind }
 {
     matches!(
         kind,
@@ -28,7 +28,7 @@ pub fn has_elements(kind: MessageKind) -> bool
 
 /// The bytes of whole elements, for the operations on elements.
 fn whole(kind: MessageKind, ty: ElemType, n: u64) -> u64
-    ensures { result ≡ whole_of kind ty n }
+    ensures { result ≡ whole kind ty n }
 {
     if has_elements(kind) {
         n - n % ty.size()
@@ -39,7 +39,7 @@ fn whole(kind: MessageKind, ty: ElemType, n: u64) -> u64
 
 /// How many bytes of the message are delivered.
 pub fn delivered(linked: &Linked, header: &Header) -> u64
-    ensures { result ≡ delivered_of linked.now header.now }
+    ensures { result ≡ delivered linked.now header.now }
 {
     whole(
         header.kind,
@@ -51,7 +51,7 @@ pub fn delivered(linked: &Linked, header: &Header) -> u64
 /// Where the first of them goes; 0 where none is delivered.
 pub fn place(linked: &Linked, header: &Header) -> u64
     requires { linked.now.entry.start + linked.now.entry.length < 2 ^ 64 }
-    ensures { result ≡ place_of linked.now header.now }
+    ensures { result ≡ place linked.now header.now }
 {
     if delivered(linked, header) == 0 {
         0
@@ -63,7 +63,7 @@ pub fn place(linked: &Linked, header: &Header) -> u64
 /// The running offset after the message.
 pub fn running_after(linked: &Linked, header: &Header) -> u64
     requires { linked.now.entry.manage_local ≡ true }
-    ensures { result ≡ running_of linked.now header.now }
+    ensures { result ≡ running_after linked.now header.now }
 {
     // Brings the bound of the length to the proof.
     let _length = linked.entry.length;
@@ -72,7 +72,7 @@ pub fn running_after(linked: &Linked, header: &Header) -> u64
 
 /// Whether the message unlinks the entry.
 pub fn is_over(linked: &Linked, header: &Header) -> bool
-    ensures { result ≡ over linked.now header.now }
+    ensures { result ≡ is_over linked.now header.now }
 {
     linked.entry.use_once
         || linked.entry.manage_local

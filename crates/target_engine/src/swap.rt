@@ -2,7 +2,7 @@
 
 ghost use Rattle.std.specs.Prelude.{◌≡◌, ◌+◌, ◌/◌, ◌%◌, ◌<◌, length};
 ghost use Rattle.ptl_types.specs.Elements.{by_element};
-ghost use Rattle.ptl_types.specs.Operations.{bytes_of, span, swapped as swapped_of};
+ghost use Rattle.ptl_types.specs.Operations.{bytes_of, span, swapped};
 
 use element_bytes::{read_pattern, write_pattern};
 use ptl_types::{ElemType, SwapOp};
@@ -37,7 +37,7 @@ fn element_bits(ty: ElemType, operand: u64) -> u64
 fn swapped(op: SwapOp, ty: ElemType, operand: u64, old: u64, new: u64) -> u64
     requires old { old < span ty }
     requires new { new < span ty }
-    ensures value { result ≡ swapped_of op ty operand old new }
+    ensures value { result ≡ swapped op ty operand old new }
     ensures pattern { result < span ty }
 {
     match op {
@@ -51,7 +51,7 @@ fn swapped(op: SwapOp, ty: ElemType, operand: u64, old: u64, new: u64) -> u64
 pub fn swap_element(op: SwapOp, ty: ElemType, operand: u64, old: &[u8], new: &mut [u8])
     requires old { length old.now ≡ bytes_of ty }
     requires new { length new.old ≡ bytes_of ty }
-    ensures { new.new ≡ by_element (swapped_of op ty operand) (bytes_of ty) (length old.now / bytes_of ty) old.now new.old }
+    ensures { new.new ≡ by_element (swapped op ty operand) (bytes_of ty) (length old.now / bytes_of ty) old.now new.old }
 {
     let before = read_pattern(ty, old);
     let came = read_pattern(ty, new);

@@ -2,28 +2,28 @@
 
 ghost use Rattle.std.specs.Prelude.{◌≡◌, ◌+◌, ◌<◌, ◌-◌, ◌^◌, [], None, Some, true, false, IfOk, option_copied, length, All, replicate};
 ghost use Rattle.ptl_types.specs.Kinds.{is_answer};
-ghost use Rattle.ni_model.specs.Headers.{held};
-ghost use Rattle.ni_model.specs.Arrive.{parts, received, request as request_of, accepted, counts_after, headers_after, indices_after, is_overflow as overflows, outcome_in as outcome_of};
+ghost use Rattle.ni_model.specs.Headers.{unexpected_list};
+ghost use Rattle.ni_model.specs.Arrive.{parts, received, request, accepted, counts_after, headers_after, indices_after, is_overflow, outcome_in};
 ghost use Rattle.ni_model.specs.Conditions.{IsPartIn, HasPartsIn, HasRoom};
 ghost use Rattle.ni_model.specs.Lists.{index_at, is_linked_at};
 ghost use Rattle.unexpected.specs.Places.{header_at};
 ghost use Rattle.ni_model.specs.Tables.{lookup};
 ghost use Rattle.user_counts.specs.Rows.{count_at};
-ghost use Rattle.target_engine.specs.Shelves.{headers_in, noted_records, linked_in, IsUnused};
+ghost use Rattle.target_engine.specs.PortalTable.{headers_in, all_with_header, linked_in, IsUnused};
 ghost use Rattle.target_engine.specs.Sides.{side};
 
 use crate::answers::refused;
+use crate::entry_records::{Records, add_header, forget};
 use crate::events::raise_events;
 use crate::exchange::exchange;
 use crate::index::{Index, chosen_in, queue_at, settle_at};
 use crate::measures::{delivered, place};
-use crate::places::{Records, add_header, forget};
 use counters::Counter;
 use event_delivery::{count, successes};
 use event_queues::Queue;
 use handle_store::{Store, where_set};
 use memory_desc::Region;
-use ni_model::{Arrived, Found, Linked, Noted};
+use ni_model::{Arrived, Found, IndexedHeader, Linked};
 use ptl_types::{Header, Limits, List, Message, NoMemory, Outcome, Rank, UnexpectedHeader};
 use std::alloc::Global;
 use std::marker::Model;
@@ -42,10 +42,10 @@ fn count_message(cts: &mut Store<Counter>, linked: &Linked)
 fn note_header(headers: &mut Headers, records: &mut Records, found: &Found, header: &Header)
     requires room { HasRoom found.now.list headers.old }
     requires part { found.now.linked.entry.start + found.now.linked.entry.length < 2 ^ 64 }
-    requires few { headers_in (lookup found.now.linked.handle records.old.places.live) < 2 ^ 32 }
+    requires few { headers_in (lookup found.now.linked.handle records.old.by_entry.live) < 2 ^ 32 }
     requires index { count_at header.now.pt records.old.waiting < 2 ^ 64 - 1 }
     ensures headers { headers.new ≡ headers_after found.now header.now headers.old }
-    ensures records { records.new ≡ noted_records found.now header.now records.old }
+    ensures records { records.new ≡ all_with_header found.now header.now records.old }
 {
     if let List::Overflow = found.list {
         headers.add(
@@ -57,14 +57,14 @@ fn note_header(headers: &mut Headers, records: &mut Records, found: &Found, head
                 header: *header,
             },
         );
-        add_header(&mut records.places, found.linked.handle);
+        add_header(&mut records.by_entry, found.linked.handle);
         records.waiting.raise(header.pt);
     }
 }
 
 /// Whether it is the overflow list.
 fn is_overflow(list: List) -> bool
-    ensures { result ≡ overflows list }
+    ensures { result ≡ is_overflow list }
 {
     match list {
         List::Priority => false,
@@ -74,7 +74,7 @@ fn is_overflow(list: List) -> bool
 
 /// The outcome of a delivery to this list.
 fn outcome_in(list: List) -> Outcome
-    ensures { result ≡ outcome_of list }
+    ensures { result ≡ outcome_in list }
 {
     match list {
         List::Priority => Outcome::Matched,
@@ -100,9 +100,9 @@ impl Model for Target {
 
     ghost Value = { Side };
 
-    ghost use Rattle.target_engine.specs.Shelves.{seen_in, IsWhole};
+    ghost use Rattle.target_engine.specs.PortalTable.{seen_in, IsWhole};
 
-    ghost view = { λ t. side t.rank t.limit (seen_in t.indices.items) t.records.places.given t.headers };
+    ghost view = { λ t. side t.rank t.limit (seen_in t.indices.items) t.records.by_entry.given t.headers };
 
     ghost invariant = { λ t. IsWhole t.limit t.indices.items t.linked t.records t.headers t.eqs };
 }
@@ -150,11 +150,11 @@ impl Target {
     /// A target of this rank with no index allocated, no entry linked and no header. It has the room of its limits, each place of
     /// the portal table for as many entries as may be linked: no later call takes memory.
     pub fn open(alloc: Global, rank: Rank, limits: &Limits) -> Result<Target, NoMemory>
-        ensures makes { IfOk result (λ t. t ≡ side rank limits.now.entries (replicate limits.now.pts None) 0 (held [] limits.now.unexpected)) }
+        ensures makes { IfOk result (λ t. t ≡ side rank limits.now.entries (replicate limits.now.pts None) 0 (unexpected_list [] limits.now.unexpected)) }
     {
         let records = records(limits)?;
         let indices = empty_indices(alloc, limits, records)?;
-        let places = Store::open(alloc, records)?;
+        let by_entry = Store::open(alloc, records)?;
         let headers = Headers::open(alloc, limits.unexpected)?;
         let cts = Users::open(alloc, limits.cts)?;
         let eqs = Users::open(alloc, limits.eqs)?;
@@ -165,7 +165,7 @@ impl Target {
             indices,
             linked: 0,
             records: Records {
-                places,
+                by_entry,
                 cts,
                 waiting,
             },
@@ -176,14 +176,14 @@ impl Target {
 
     /// Header number i of an index in the order of arrival, from 0; `None` exactly where the index has no more than i.
     pub fn header(&self, pt: u32, i: u32) -> Option<&UnexpectedHeader>
-        ensures told { option_copied result ≡ header_at pt i self.now.headers.noted }
+        ensures told { option_copied result ≡ header_at pt i self.now.headers.unexpected }
     {
         self.headers.at(pt, i)
     }
 
     /// The headers of all indices, in the order of arrival.
-    pub fn headers(&self) -> &[Noted]
-        ensures told { result.now ≡ self.now.headers.noted }
+    pub fn headers(&self) -> &[IndexedHeader]
+        ensures told { result.now ≡ self.now.headers.unexpected }
     {
         self.headers.as_slice()
     }
@@ -200,7 +200,7 @@ impl Target {
     ) -> Arrived
         requires request { is_answer message.header.kind ≡ false }
         requires inside { All (HasPartsIn (length region.old)) self.old.indices }
-        ensures does { received (parts self.new region.new cts.new eqs.new) result ≡ request_of (parts self.old region.old cts.old eqs.old) message }
+        ensures does { received (parts self.new region.new cts.new eqs.new) result ≡ request (parts self.old region.old cts.old eqs.old) message }
     {
         let header = *message.header();
         let found = match chosen_in(&self.indices, &header) {

@@ -5,11 +5,11 @@ ghost use Rattle.ni_model.specs.Calls.{unlinked_in};
 ghost use Rattle.ni_model.specs.Refusals.{unlink_fault, index_names_ct, index_names_eq};
 ghost use Rattle.ni_model.specs.Lists.{queue_of};
 ghost use Rattle.user_counts.specs.Rows.{IsAlone};
-ghost use Rattle.target_engine.specs.Shelves.{seen_in};
+ghost use Rattle.target_engine.specs.PortalTable.{seen_in};
 ghost use Rattle.target_engine.specs.Sides.{EntriesAlone};
 
+use crate::entry_records::{linked_record, unlink_record};
 use crate::index::{Index, unlink_at};
-use crate::places::{linked_record, unlink_place};
 use crate::target::Target;
 use handle_store::names;
 use ptl_types::{Handle, NiFault};
@@ -18,8 +18,8 @@ use ptl_types::{Handle, NiFault};
 fn some_names_ct(indices: &[Index], ct: Handle) -> bool
     ensures { result ≡ index_names_ct ct (seen_in indices.now) }
 {
-    for shelf in indices {
-        if shelf.allocated && shelf.lists.names_ct(ct) {
+    for portal_entry in indices {
+        if portal_entry.allocated && portal_entry.lists.names_ct(ct) {
             return true;
         }
     }
@@ -30,8 +30,8 @@ fn some_names_ct(indices: &[Index], ct: Handle) -> bool
 fn some_names_eq(indices: &[Index], eq: Handle) -> bool
     ensures { result ≡ index_names_eq eq (seen_in indices.now) }
 {
-    for shelf in indices {
-        if shelf.allocated && names(shelf.eq, eq) {
+    for portal_entry in indices {
+        if portal_entry.allocated && names(portal_entry.eq, eq) {
             return true;
         }
     }
@@ -47,7 +47,7 @@ impl Target {
         ensures ok { OnOk result (unlink_fault me self.old ≡ None) }
         ensures unlinked { OnOk result (self.new ≡ record self.old { indices = map (unlinked_in me) self.old.indices }) }
     {
-        let placed = match linked_record(&self.records.places, me) {
+        let placed = match linked_record(&self.records.by_entry, me) {
             Some(placed) => placed,
             None => return Err(NiFault::Stale),
         };
@@ -55,7 +55,7 @@ impl Target {
             return Err(NiFault::InUse);
         }
         unlink_at(&mut self.indices, placed.pt, me);
-        unlink_place(&mut self.records, me);
+        unlink_record(&mut self.records, me);
         self.linked = self.linked.saturating_sub(1);
         Ok(())
     }

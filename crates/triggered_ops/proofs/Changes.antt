@@ -8,7 +8,7 @@ use Rattle.std.proofs.lemmas.Bool.{cases_eq, eq-eqb, ne_eqb}
 use Rattle.std.proofs.lemmas.Bool.Decides.{nat_tests}
 use Rattle.std.proofs.lemmas.Cmp.{ranked}
 use Rattle.ptl_types.specs.declared.handles.Handle.{Handle}
-use Rattle.triggered_ops.specs.declared.held.Held.{Held}
+use Rattle.triggered_ops.specs.declared.held.PostedOperation.{PostedOperation}
 use Rattle.triggered_ops.specs.Layout.{operation, found_at, waits_in, waits_at, without_those}
 use Rattle.triggered_ops.specs.Operations.{Operation, waits_on, told_if, deed_of}
 
@@ -35,16 +35,16 @@ module _ {A : Type 0} where
   if_no b x y e = rw e refl
 
 module _ {D : Type 0} where
-  pub found-same : (m n : BTreeMap ℕ (Held D)) → n.entries ≡ m.entries → (t : ℕ) → found_at n t ≡ found_at m t
+  pub found-same : (m n : BTreeMap ℕ (PostedOperation D)) → n.entries ≡ m.entries → (t : ℕ) → found_at n t ≡ found_at m t
   found-same m n e t = rw e refl
 
-  pub found-put : (m n : BTreeMap ℕ (Held D)) (k : ℕ) (h : Held D) → ((q : ℕ) → get nat_cmp n q ≡ cond (is_eq (nat_cmp k q)) (Some h) (get nat_cmp m q)) → (t : ℕ) → found_at n t ≡ (if t == k then Some (operation (k, h)) else found_at m t)
+  pub found-put : (m n : BTreeMap ℕ (PostedOperation D)) (k : ℕ) (h : PostedOperation D) → ((q : ℕ) → get nat_cmp n q ≡ cond (is_eq (nat_cmp k q)) (Some h) (get nat_cmp m q)) → (t : ℕ) → found_at n t ≡ (if t == k then Some (operation (k, h)) else found_at m t)
   found-put m n k h is t = ⊎_elim
       (λ e. let f : get nat_cmp n t ≡ Some h = is t ∙ number_test k t (Some h) (get nat_cmp m t) ∙ rw (eq-eqb t k e) in rw (f, eq-eqb t k e, e) refl)
       (λ ne. let f : get nat_cmp n t ≡ get nat_cmp m t = is t ∙ number_test k t (Some h) (get nat_cmp m t) ∙ rw (ne_eqb t k ne) in rw (f, ne_eqb t k ne) refl)
       (cases_eq t k)
 
-  pub found-out : (m n : BTreeMap ℕ (Held D)) (k : ℕ) → ((q : ℕ) → get nat_cmp n q ≡ cond (is_eq (nat_cmp k q)) None (get nat_cmp m q)) → (t : ℕ) → found_at n t ≡ (if t == k then None else found_at m t)
+  pub found-out : (m n : BTreeMap ℕ (PostedOperation D)) (k : ℕ) → ((q : ℕ) → get nat_cmp n q ≡ cond (is_eq (nat_cmp k q)) None (get nat_cmp m q)) → (t : ℕ) → found_at n t ≡ (if t == k then None else found_at m t)
   found-out m n k is t = ⊎_elim
       (λ e. let f : get nat_cmp n t ≡ None = is t ∙ number_test k t None (get nat_cmp m t) ∙ rw (eq-eqb t k e) in rw (f, eq-eqb t k e) refl)
       (λ ne. let f : get nat_cmp n t ≡ get nat_cmp m t = is t ∙ number_test k t None (get nat_cmp m t) ∙ rw (ne_eqb t k ne) in rw (f, ne_eqb t k ne) refl)

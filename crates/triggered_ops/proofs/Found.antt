@@ -14,7 +14,7 @@ use Rattle.std.proofs.lemmas.List.Elements.{All-head, All-tail, All-nil, All-con
 use Rattle.std.proofs.lemmas.List.Kept.{AllPairs-cons}
 use Rattle.std.proofs.lemmas.Map.Keys.{sorted_head, sorted_tail}
 use Rattle.ptl_types.specs.declared.handles.Handle.{Handle}
-use Rattle.triggered_ops.specs.declared.held.Held.{Held}
+use Rattle.triggered_ops.specs.declared.held.PostedOperation.{PostedOperation}
 use Rattle.triggered_ops.specs.Layout.{operation, found_at, without_those}
 use Rattle.triggered_ops.specs.Operations.{Operation, is_number, told_if, waits_on}
 use Rattle.triggered_ops.proofs.Changes.{number_eq}
@@ -25,7 +25,7 @@ less a b e = subst (λ (o : Ordering). MatchOrdering o (a < b) (a ≡ b) (b < a)
 
 module _ {D : Type 0} where
   -- ---- from the map to the list
-  pub find-lookup : (t : ℕ) (es : List (ℕ × Held D)) → find (is_number t) (map operation es) ≡ option_map (λ h. operation (t, h)) (lookup (is_at (nat_cmp t)) es)
+  pub find-lookup : (t : ℕ) (es : List (ℕ × PostedOperation D)) → find (is_number t) (map operation es) ≡ option_map (λ h. operation (t, h)) (lookup (is_at (nat_cmp t)) es)
   find-lookup t [] = refl
   find-lookup t (e ∷ es) = ⊎_elim
       (λ same.
@@ -38,14 +38,14 @@ module _ {D : Type 0} where
       rw (a, b) (find-lookup t es))
       (cases_eq e.0 t)
 
-  pub find-found : (m : BTreeMap ℕ (Held D)) (t : ℕ) → find (is_number t) (map operation m.entries) ≡ found_at m t
+  pub find-found : (m : BTreeMap ℕ (PostedOperation D)) (t : ℕ) → find (is_number t) (map operation m.entries) ≡ found_at m t
   find-found m t = find-lookup t m.entries
 
-  pub above-head : (n : ℕ) (es : List (ℕ × Held D)) → AllByRecursion (λ y. nat_cmp n y ≡ Less) (keys_of es) → All (λ (p : Operation D). n < p.number) (map operation es)
+  pub above-head : (n : ℕ) (es : List (ℕ × PostedOperation D)) → AllByRecursion (λ y. nat_cmp n y ≡ Less) (keys_of es) → All (λ (p : Operation D). n < p.number) (map operation es)
   above-head n [] all = All-nil (λ p. n < p.number)
   above-head n (e ∷ es) all = All-cons (λ p. n < p.number) (operation e) (map operation es) (less n e.0 all.0) (above-head n es all.1)
 
-  pub rising-sorted : (es : List (ℕ × Held D)) → IsStrictlySortedBy nat_cmp (keys_of es) → AllPairs Rises (map operation es)
+  pub rising-sorted : (es : List (ℕ × PostedOperation D)) → IsStrictlySortedBy nat_cmp (keys_of es) → AllPairs Rises (map operation es)
   rising-sorted [] all = λ i j d lt within. absurd (omega arith)
   rising-sorted (e ∷ es) all =
       AllPairs-cons Rises (operation e) (map operation es) (above-head e.0 es (sorted_head nat_cmp e.0 (keys_of es) all)) (rising-sorted es (sorted_tail nat_cmp e.0 (keys_of es) all))
@@ -87,7 +87,7 @@ module _ {D : Type 0} where
       (cases_eq x.number t)) in
       cc
 
-  -- ---- under each number, behind a call
+  -- ---- under each number, after a call
   pub find-posted : (ps : List (Operation D)) (p : Operation D) (t : ℕ) → All (λ q. q.number < p.number) ps → find (is_number t) (ps ++ p ∷ []) ≡ (if t == p.number then Some p else find (is_number t) ps)
   find-posted [] p t all = ⊎_elim
       (λ e. rw (eq-eqb p.number t (sym e), eq-eqb t p.number e) refl)

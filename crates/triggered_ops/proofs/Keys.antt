@@ -105,7 +105,7 @@ before_self slot stamp a b lt =
     not-same : (a b : ℕ × ℕ) → IsBefore a b → a.0 ≡ b.0 → a.1 ≡ b.1 → ⊥
     not-same a b lt x y = ⊎_elim (λ u. omega (arith, u, x)) (λ u. omega (arith, u.1, y)) lt
 
--- a key that isn't behind one of a counting event, and not before another: it is of that one
+-- a key that isn't after one of a counting event, and not before another: it is of that one
 abbrev pub IsOf : ℕ → ℕ → Key → Type 0
 IsOf slot stamp k = (k.0 ≡ slot) × (k.1 ≡ stamp)
 

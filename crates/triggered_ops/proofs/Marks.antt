@@ -12,7 +12,7 @@ use Rattle.std.proofs.lemmas.Bool.Decides.{nat_tests}
 use Rattle.std.proofs.lemmas.List.Elements.{All-head, All-tail, All-cons, All-nil}
 use Rattle.std.proofs.lemmas.List.Kept.{AllPairs-cons}
 use Rattle.number_marks.specs.Marking.{Marking, is_in, unmarked}
-use Rattle.triggered_ops.specs.declared.held.Held.{Held}
+use Rattle.triggered_ops.specs.declared.held.PostedOperation.{PostedOperation}
 use Rattle.triggered_ops.specs.Layout.{operation, operations_of, found_at, with_due, AreMarked}
 use Rattle.triggered_ops.specs.Operations.{Operation, Operations, IsKept, is_number, is_due, is_due_op, due_numbers}
 use Rattle.triggered_ops.proofs.Found.{find-found, rising-sorted, find-behind}
@@ -58,7 +58,7 @@ module _ {D : Type 0} where
             ]
       ] refl
 
-  pub marked-are : (m : BTreeMap ℕ (Held D)) (k : Marking) (ps : List (Operation D)) → map operation m.entries ≡ ps → AllPairs Rises ps → AllPairs (λ a b. a < b) k.marked → AreMarked m k → k.marked ≡ map (λ (p : Operation D). p.number) (filter is_due ps)
+  pub marked-are : (m : BTreeMap ℕ (PostedOperation D)) (k : Marking) (ps : List (Operation D)) → map operation m.entries ≡ ps → AllPairs Rises ps → AllPairs (λ a b. a < b) k.marked → AreMarked m k → k.marked ≡ map (λ (p : Operation D). p.number) (filter is_due ps)
   marked-are m k ps is rising up marked =
       same_numbers k.marked _ up (numbers-rising ps rising) (λ t. marked.due t ∙ ap is_due_op (sym (find-found m t) ∙ ap (find (is_number t)) is) ∙ sym (numbers-in t ps rising))
 
@@ -71,13 +71,13 @@ module _ {D : Type 0} where
   due-some due None e = cc
   due-some due (Some p) e = refl
 
-  due-there : (m n : BTreeMap ℕ (Held D)) (number : ℕ) (due : Bool) → ((t : ℕ) → found_at n t ≡ (if t == number then option_map (with_due due) (found_at m t) else found_at m t)) → is_some (found_at n number) ≡ true → is_due_op (found_at n number) ≡ due
+  due-there : (m n : BTreeMap ℕ (PostedOperation D)) (number : ℕ) (due : Bool) → ((t : ℕ) → found_at n t ≡ (if t == number then option_map (with_due due) (found_at m t) else found_at m t)) → is_some (found_at n number) ≡ true → is_due_op (found_at n number) ≡ due
   due-there m n number due found here =
       let e : found_at n number ≡ option_map (with_due due) (found_at m number) = found number ∙ rw (eq-eqb number number refl) refl in
       ap is_due_op e ∙ due-some due (found_at m number) (ap is_some (sym e) ∙ here)
 
   -- an operation is due or isn't, and marked so
-  pub marked-due : (m n : BTreeMap ℕ (Held D)) (k l : Marking) (number : ℕ) (due : Bool) → ((t : ℕ) → found_at n t ≡ (if t == number then option_map (with_due due) (found_at m t) else found_at m t)) → is_some (found_at n number) ≡ true → ((t : ℕ) → is_in t l.marked ≡ (if t == number then due else is_in t k.marked)) → l.held ≡ k.held → AreMarked m k → AreMarked n l
+  pub marked-due : (m n : BTreeMap ℕ (PostedOperation D)) (k l : Marking) (number : ℕ) (due : Bool) → ((t : ℕ) → found_at n t ≡ (if t == number then option_map (with_due due) (found_at m t) else found_at m t)) → is_some (found_at n number) ≡ true → ((t : ℕ) → is_in t l.marked ≡ (if t == number then due else is_in t k.marked)) → l.held ≡ k.held → AreMarked m k → AreMarked n l
   marked-due m n k l number due found here marked held old =
       let is : is_due_op (found_at n number) ≡ due = due-there m n number due found here in
       record {
@@ -94,7 +94,7 @@ module _ {D : Type 0} where
       }
 
   -- nothing waits under the number
-  pub marked-absent : (m n : BTreeMap ℕ (Held D)) (k : Marking) (number : ℕ) (due : Bool) → ((t : ℕ) → found_at n t ≡ (if t == number then option_map (with_due due) (found_at m t) else found_at m t)) → found_at n number ≡ None → AreMarked m k → AreMarked n k
+  pub marked-absent : (m n : BTreeMap ℕ (PostedOperation D)) (k : Marking) (number : ℕ) (due : Bool) → ((t : ℕ) → found_at n t ≡ (if t == number then option_map (with_due due) (found_at m t) else found_at m t)) → found_at n number ≡ None → AreMarked m k → AreMarked n k
   marked-absent m n k number due found none old = record {
     placed = λ t some. old.placed t (ap is_some (sym (same t)) ∙ some);
     due = λ t. old.due t ∙ ap is_due_op (sym (same t));
@@ -115,7 +115,7 @@ module _ {D : Type 0} where
       ] refl
 
   -- one goes
-  pub marked-out : (m n : BTreeMap ℕ (Held D)) (k l : Marking) (number : ℕ) → ((t : ℕ) → found_at n t ≡ (if t == number then None else found_at m t)) → ((t : ℕ) → is_in t l.marked ≡ (if t == number then false else is_in t k.marked)) → l.held ≡ k.held → AreMarked m k → AreMarked n l
+  pub marked-out : (m n : BTreeMap ℕ (PostedOperation D)) (k l : Marking) (number : ℕ) → ((t : ℕ) → found_at n t ≡ (if t == number then None else found_at m t)) → ((t : ℕ) → is_in t l.marked ≡ (if t == number then false else is_in t k.marked)) → l.held ≡ k.held → AreMarked m k → AreMarked n l
   marked-out m n k l number found marked held old = record {
     placed = λ t some. rw held (old.placed t (elim (t == number) as (λ b. (t == number) ≡ b → is_some (found_at m t) ≡ true) [
       | true ↦ λ is. let none : found_at n t ≡ None = found t ∙ rw is refl in let e : false ≡ true = ap is_some (sym none) ∙ some in cc
@@ -128,7 +128,7 @@ module _ {D : Type 0} where
   }
 
   -- one comes
-  pub marked-more : (m n : BTreeMap ℕ (Held D)) (k l : Marking) (number : ℕ) (p : Operation D) (due : Bool) → ((t : ℕ) → found_at n t ≡ (if t == number then Some p else found_at m t)) → is_due_op (found_at n number) ≡ due → ((t : ℕ) → is_in t l.marked ≡ (if t == number then due else is_in t k.marked)) → l.held ≡ k.held ++ number ∷ [] → AreMarked m k → AreMarked n l
+  pub marked-more : (m n : BTreeMap ℕ (PostedOperation D)) (k l : Marking) (number : ℕ) (p : Operation D) (due : Bool) → ((t : ℕ) → found_at n t ≡ (if t == number then Some p else found_at m t)) → is_due_op (found_at n number) ≡ due → ((t : ℕ) → is_in t l.marked ≡ (if t == number then due else is_in t k.marked)) → l.held ≡ k.held ++ number ∷ [] → AreMarked m k → AreMarked n l
   marked-more m n k l number p due found is_it marked held old = record {
     placed = λ t some. rw (held, in-push t k.held number) (elim (t == number) as (λ b. (t == number) ≡ b → (is_in t k.held || (number == t)) ≡ true) [
       | true ↦ λ is. let e : (number == t) ≡ true = grind (arith, nat_tests) in rw e (or-true (is_in t k.held))
@@ -141,14 +141,14 @@ module _ {D : Type 0} where
   }
 
   -- nothing changed under any number
-  pub marked-same : (m n : BTreeMap ℕ (Held D)) (k : Marking) → ((t : ℕ) → found_at n t ≡ found_at m t) → AreMarked m k → AreMarked n k
+  pub marked-same : (m n : BTreeMap ℕ (PostedOperation D)) (k : Marking) → ((t : ℕ) → found_at n t ≡ found_at m t) → AreMarked m k → AreMarked n k
   marked-same m n k same old = record {
     placed = λ t some. old.placed t (ap is_some (sym (same t)) ∙ some);
     due = λ t. old.due t ∙ ap is_due_op (sym (same t));
   }
 
   -- ---- laid anew
-  keys-in : (t : ℕ) (es : List (ℕ × Held D)) → is_in t (keys_of es) ≡ is_some (find (is_number t) (map operation es))
+  keys-in : (t : ℕ) (es : List (ℕ × PostedOperation D)) → is_in t (keys_of es) ≡ is_some (find (is_number t) (map operation es))
   keys-in t [] = refl
   keys-in t (e ∷ es) = elim (e.0 == t) as (λ b. (b || is_in t (keys_of es)) ≡ is_some (if b then Some (operation e) else find (is_number t) (map operation es))) [
     | true ↦ refl
@@ -156,13 +156,13 @@ module _ {D : Type 0} where
   ]
 
   -- the numbers in the list have their marks, and no other has one
-  abbrev pub MarkedSoFar : BTreeMap ℕ (Held D) → Marking → Type 0
+  abbrev pub MarkedSoFar : BTreeMap ℕ (PostedOperation D) → Marking → Type 0
   MarkedSoFar m k = (t : ℕ) → is_in t k.marked ≡ (is_in t k.held && is_due_op (found_at m t))
 
-  pub so_far-none : (m : BTreeMap ℕ (Held D)) (room : ℕ) → MarkedSoFar m (unmarked [] room)
+  pub so_far-none : (m : BTreeMap ℕ (PostedOperation D)) (room : ℕ) → MarkedSoFar m (unmarked [] room)
   so_far-none m room t = refl
 
-  pub so_far-more : (m : BTreeMap ℕ (Held D)) (k l : Marking) (number : ℕ) (due : Bool) → is_due_op (found_at m number) ≡ due → l.held ≡ k.held ++ number ∷ [] → ((t : ℕ) → is_in t l.marked ≡ (if t == number then due else is_in t k.marked)) → MarkedSoFar m k → MarkedSoFar m l
+  pub so_far-more : (m : BTreeMap ℕ (PostedOperation D)) (k l : Marking) (number : ℕ) (due : Bool) → is_due_op (found_at m number) ≡ due → l.held ≡ k.held ++ number ∷ [] → ((t : ℕ) → is_in t l.marked ≡ (if t == number then due else is_in t k.marked)) → MarkedSoFar m k → MarkedSoFar m l
   so_far-more m k l number due is held marked old t =
       elim (t == number) as (λ b. (t == number) ≡ b → is_in t l.marked ≡ (is_in t l.held && is_due_op (found_at m t))) [
         | true ↦ λ same.
@@ -180,7 +180,7 @@ module _ {D : Type 0} where
       or-false true = refl
       or-false false = refl
 
-  pub so_far-all : (m : BTreeMap ℕ (Held D)) (k : Marking) → k.held ≡ keys_of m.entries → MarkedSoFar m k → AreMarked m k
+  pub so_far-all : (m : BTreeMap ℕ (PostedOperation D)) (k : Marking) → k.held ≡ keys_of m.entries → MarkedSoFar m k → AreMarked m k
   so_far-all m k held marked = record {
     placed = λ t some. here t ∙ some;
     due = λ t. marked t ∙ rw (here t) (both (found_at m t));
@@ -193,33 +193,33 @@ module _ {D : Type 0} where
       both None = refl
       both (Some p) = refl
 
-  keys-numbers : (es : List (ℕ × Held D)) → AllPairs Rises (map operation es) → AllPairs (λ a b. a < b) (keys_of es)
+  keys-numbers : (es : List (ℕ × PostedOperation D)) → AllPairs Rises (map operation es) → AllPairs (λ a b. a < b) (keys_of es)
   keys-numbers [] all = no-pairs
   keys-numbers (e ∷ es) all =
       AllPairs-cons (λ a b. a < b) e.0 (keys_of es) (keys-above e.0 es (pairs-head Rises (operation e) (map operation es) all)) (keys-numbers es (pairs-tail Rises (operation e) (map operation es) all))
     where
-      keys-above : (n : ℕ) (es : List (ℕ × Held D)) → All (λ (p : Operation D). n < p.number) (map operation es) → All (λ z. n < z) (keys_of es)
+      keys-above : (n : ℕ) (es : List (ℕ × PostedOperation D)) → All (λ (p : Operation D). n < p.number) (map operation es) → All (λ z. n < z) (keys_of es)
       keys-above n [] all = All-nil (λ z. n < z)
       keys-above n (e ∷ es) all = All-cons (λ z. n < z) e.0 (keys_of es) (All-head (λ (p : Operation D). n < p.number) (operation e) (map operation es) all) (keys-above n es (All-tail (λ (p : Operation D). n < p.number) (operation e) (map operation es) all))
 
-  pub keys-rising : (es : List (ℕ × Held D)) → IsStrictlySortedBy nat_cmp (keys_of es) → AllPairs (λ a b. a < b) (keys_of es)
+  pub keys-rising : (es : List (ℕ × PostedOperation D)) → IsStrictlySortedBy nat_cmp (keys_of es) → AllPairs (λ a b. a < b) (keys_of es)
   keys-rising es sorted = keys-numbers es (rising-sorted es sorted)
 
   -- the keys were given, and so was what has a place
-  pub keys-below : (given : ℕ) (es : List (ℕ × Held D)) → All (λ (p : Operation D). p.number < given) (map operation es) → All (λ n. n < given) (keys_of es)
+  pub keys-below : (given : ℕ) (es : List (ℕ × PostedOperation D)) → All (λ (p : Operation D). p.number < given) (map operation es) → All (λ n. n < given) (keys_of es)
   keys-below given [] all = All-nil (λ n. n < given)
   keys-below given (e ∷ es) all =
       All-cons (λ n. n < given) e.0 (keys_of es) (All-head (λ (p : Operation D). p.number < given) (operation e) (map operation es) all)
       (keys-below given es (All-tail (λ (p : Operation D). p.number < given) (operation e) (map operation es) all))
 
-  pub made-below : (given : ℕ) (held old : List ℕ) (es : List (ℕ × Held D)) → (held ≡ old) ⊎ (held ≡ keys_of es) → All (λ n. n < given) old → All (λ (p : Operation D). p.number < given) (map operation es) → All (λ n. n < given) held
+  pub made-below : (given : ℕ) (held old : List ℕ) (es : List (ℕ × PostedOperation D)) → (held ≡ old) ⊎ (held ≡ keys_of es) → All (λ n. n < given) old → All (λ (p : Operation D). p.number < given) (map operation es) → All (λ n. n < given) held
   made-below given held old es made below all = ⊎_elim
       (λ same. rw same below)
       (λ keys. rw keys (keys-below given es all))
       made
 
   -- the numbers that are marked are those that are due
-  pub due-are : (m : BTreeMap ℕ (Held D)) (k : Marking) (given limit : ℕ) (ops : Operations D) → operations_of m.entries given limit ≡ ops → IsKept (operations_of m.entries given limit) → AllPairs (λ a b. a < b) k.marked → AreMarked m k → k.marked ≡ due_numbers ops
+  pub due-are : (m : BTreeMap ℕ (PostedOperation D)) (k : Marking) (given limit : ℕ) (ops : Operations D) → operations_of m.entries given limit ≡ ops → IsKept (operations_of m.entries given limit) → AllPairs (λ a b. a < b) k.marked → AreMarked m k → k.marked ≡ due_numbers ops
   due-are m k given limit ops is kept up marked = rw (← is) (marked-are m k (map operation m.entries) refl kept.rising up marked)
 
   length-filter_le : (p : Operation D → Bool) (xs : List (Operation D)) → length (filter p xs) ≤ length xs

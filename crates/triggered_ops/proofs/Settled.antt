@@ -229,7 +229,7 @@ module _ {D : Type 0} where
       (λ over. absurd (nowhere ct (f0 t) p at on (none p.threshold t (small t (some-at (f0 t) p at)) over)))
       (cases_lt (rank p.threshold t) c)) ∙ and-yes (waits_above ct sum p)))
 
-  -- the next isn't due, and so is none behind it
+  -- the next isn't due, and so is none after it
   pub lowered-stop : (ct : Handle) (sum c s : ℕ) (f0 f : ℕ → Option (Operation D)) (h n : ℕ) → LoweredTo ct sum c f0 f → waits_at ct h (f0 n) ≡ true → n < 2 ^ 32 - 1 → c ≤ rank h n → rank sum (2 ^ 32 - 1) ≤ c → NoneIn ct c (rank h n) f0 → AreSmall f0 → ((t : ℕ) → IsDueAt (waits_above ct sum) s (f0 t)) → is_due_op (f n) ≡ false → (t : ℕ) → f t ≡ option_map (told_if (waits_above ct sum) sum) (f0 t)
   lowered-stop ct sum c s f0 f h n so_far waits few from top none small as_one undue t =
       let lt : sum < h = omega (arith, few, from, top) in

@@ -7,7 +7,7 @@ use Rattle.std.proofs.lemmas.Bool.Decides.{nat_tests}
 use Rattle.std.proofs.lemmas.List.Elements.{All-cons, All-nil}
 use Rattle.ptl_types.specs.declared.handles.Handle.{Handle}
 use Rattle.ptl_types.specs.Handles.{same_handle}
-use Rattle.triggered_ops.specs.declared.held.Held.{Held}
+use Rattle.triggered_ops.specs.declared.held.PostedOperation.{PostedOperation}
 use Rattle.triggered_ops.specs.Layout.{found_at, operation, operations_of, waits_upto, waits_above, without_those, waits_in, IsDueAt, AreDueAsOne, AreTold, WasTold}
 use Rattle.triggered_ops.specs.Operations.{Operation, Operations, is_number, operation_at, told, told_if, waits_on}
 use Rattle.triggered_ops.proofs.Changes.{if_yes, if_no}
@@ -20,18 +20,18 @@ same-self h = grind (arith, nat_tests)
 
 module _ {D : Type 0} where
   -- ---- fewer pass another test
-  pub one-fewer : (test other : Operation D → Bool) (m : BTreeMap ℕ (Held D)) → ((p : Operation D) → other p ≡ true → test p ≡ true) → AreDueAsOne test m → AreDueAsOne other m
+  pub one-fewer : (test other : Operation D → Bool) (m : BTreeMap ℕ (PostedOperation D)) → ((p : Operation D) → other p ≡ true → test p ≡ true) → AreDueAsOne test m → AreDueAsOne other m
   one-fewer test other m fewer one = record { sum = one.sum; due = λ t. still (found_at m t) (one.due t) }
     where
       still : (o : Option (Operation D)) → IsDueAt test one.sum o → IsDueAt other one.sum o
       still None is = tt
       still (Some p) is = λ passes. is (fewer p passes)
 
-  pub one-upto : (ct : Handle) (sum : ℕ) (m : BTreeMap ℕ (Held D)) → AreDueAsOne (waits_on ct) m → AreDueAsOne (waits_upto ct sum) m
+  pub one-upto : (ct : Handle) (sum : ℕ) (m : BTreeMap ℕ (PostedOperation D)) → AreDueAsOne (waits_on ct) m → AreDueAsOne (waits_upto ct sum) m
   one-upto ct sum m one = one-fewer (waits_on ct) (waits_upto ct sum) m (λ p e. and-fst (waits_on ct p) (nat_le p.threshold sum) e) one
 
   -- those above the sum stay as they were while those up to it are told
-  pub one-above : (ct : Handle) (sum : ℕ) (m n : BTreeMap ℕ (Held D)) → ((t : ℕ) → found_at n t ≡ option_map (told_if (waits_upto ct sum) sum) (found_at m t)) → AreDueAsOne (waits_on ct) m → AreDueAsOne (waits_above ct sum) n
+  pub one-above : (ct : Handle) (sum : ℕ) (m n : BTreeMap ℕ (PostedOperation D)) → ((t : ℕ) → found_at n t ≡ option_map (told_if (waits_upto ct sum) sum) (found_at m t)) → AreDueAsOne (waits_on ct) m → AreDueAsOne (waits_above ct sum) n
   one-above ct sum m n found one = record { sum = one.sum; due = λ t. rw (found t) (still (found_at m t) (one.due t)) }
     where
       not-upto : (a : Bool) (x y : ℕ) → (a && nat_lt x y) ≡ true → (a && nat_le y x) ≡ false
@@ -58,7 +58,7 @@ module _ {D : Type 0} where
   -- ---- after a call
 
   -- a sum is told
-  pub sums-told : (ct : Handle) (sum : ℕ) (m n : BTreeMap ℕ (Held D)) → ((t : ℕ) → found_at n t ≡ option_map (told_if (waits_on ct) sum) (found_at m t)) → AreTold m → AreTold n
+  pub sums-told : (ct : Handle) (sum : ℕ) (m n : BTreeMap ℕ (PostedOperation D)) → ((t : ℕ) → found_at n t ≡ option_map (told_if (waits_on ct) sum) (found_at m t)) → AreTold m → AreTold n
   sums-told ct sum m n found old = λ h. ⊎_elim
       (λ same. record { sum = sum; due = λ t. rw (found t) (anew h same (found_at m t)) })
       (λ apart. record { sum = (old h).sum; due = λ t. rw (found t) (still h apart (found_at m t) ((old h).due t)) })
@@ -79,20 +79,20 @@ module _ {D : Type 0} where
       still h apart (Some p) is = λ passes. if_no (waits_on ct p) (nat_le p.threshold sum) p.due (apart-from p.ct h passes apart) ∙ is passes
 
   -- some are gone
-  pub sums-fewer : (m n : BTreeMap ℕ (Held D)) → ((t : ℕ) → (found_at n t ≡ None) ⊎ (found_at n t ≡ found_at m t)) → AreTold m → AreTold n
+  pub sums-fewer : (m n : BTreeMap ℕ (PostedOperation D)) → ((t : ℕ) → (found_at n t ≡ None) ⊎ (found_at n t ≡ found_at m t)) → AreTold m → AreTold n
   sums-fewer m n fewer old = λ h. record {
     sum = (old h).sum;
     due = λ t. ⊎_elim (λ none. rw none tt) (λ same. rw same ((old h).due t)) (fewer t);
   }
 
-  pub sums-out : (m n : BTreeMap ℕ (Held D)) (k : ℕ) → ((t : ℕ) → found_at n t ≡ (if t == k then None else found_at m t)) → AreTold m → AreTold n
+  pub sums-out : (m n : BTreeMap ℕ (PostedOperation D)) (k : ℕ) → ((t : ℕ) → found_at n t ≡ (if t == k then None else found_at m t)) → AreTold m → AreTold n
   sums-out m n k found old = sums-fewer m n (λ t. split t (t == k) (found t)) old
     where
       split : (t : ℕ) (b : Bool) → found_at n t ≡ (if b then None else found_at m t) → (found_at n t ≡ None) ⊎ (found_at n t ≡ found_at m t)
       split t true e = inl e
       split t false e = inr e
 
-  pub sums-cancelled : (m n : BTreeMap ℕ (Held D)) (ct : Handle) → ((t : ℕ) → found_at n t ≡ without_those ct (found_at m t)) → AreTold m → AreTold n
+  pub sums-cancelled : (m n : BTreeMap ℕ (PostedOperation D)) (ct : Handle) → ((t : ℕ) → found_at n t ≡ without_those ct (found_at m t)) → AreTold m → AreTold n
   sums-cancelled m n ct found old = sums-fewer m n (λ t. split t (waits_in ct (found_at m t)) (found t)) old
     where
       split : (t : ℕ) (b : Bool) → found_at n t ≡ (if b then None else found_at m t) → (found_at n t ≡ None) ⊎ (found_at n t ≡ found_at m t)
@@ -100,14 +100,14 @@ module _ {D : Type 0} where
       split t false e = inr e
 
   -- one comes, which is due by the sum that was last told
-  was-at : (ct : Handle) (sum : ℕ) (m : BTreeMap ℕ (Held D)) (given limit : ℕ) → WasTold ct sum (operations_of m.entries given limit) → (t : ℕ) → IsDueAt (waits_on ct) sum (found_at m t)
+  was-at : (ct : Handle) (sum : ℕ) (m : BTreeMap ℕ (PostedOperation D)) (given limit : ℕ) → WasTold ct sum (operations_of m.entries given limit) → (t : ℕ) → IsDueAt (waits_on ct) sum (found_at m t)
   was-at ct sum m given limit was t = split (found_at m t) refl
     where
       split : (o : Option (Operation D)) → found_at m t ≡ o → IsDueAt (waits_on ct) sum o
       split None e = tt
       split (Some p) e = find_has (λ (q : Operation D). waits_on ct q ≡ true → q.due ≡ nat_le q.threshold sum) (is_number t) (map operation m.entries) p was (find-found m t ∙ e)
 
-  pub sums-more : (ct : Handle) (sum : ℕ) (m n : BTreeMap ℕ (Held D)) (given limit : ℕ) (p : Operation D) → same_handle p.ct ct ≡ true → p.due ≡ nat_le p.threshold sum → WasTold ct sum (operations_of m.entries given limit) → ((t : ℕ) → found_at n t ≡ (if t == given then Some p else found_at m t)) → AreTold m → AreTold n
+  pub sums-more : (ct : Handle) (sum : ℕ) (m n : BTreeMap ℕ (PostedOperation D)) (given limit : ℕ) (p : Operation D) → same_handle p.ct ct ≡ true → p.due ≡ nat_le p.threshold sum → WasTold ct sum (operations_of m.entries given limit) → ((t : ℕ) → found_at n t ≡ (if t == given then Some p else found_at m t)) → AreTold m → AreTold n
   sums-more ct sum m n given limit p on due was found old = λ h. ⊎_elim
       (λ same. record { sum = sum; due = λ t. rw (found t) (one h sum t (λ passes. due) (like h same (found_at m t) (was-at ct sum m given limit was t))) })
       (λ apart. record { sum = (old h).sum; due = λ t. rw (found t) (one h (old h).sum t (λ passes. let e = other h apart passes in cc) ((old h).due t)) })

@@ -8,7 +8,7 @@ use Rattle.std.specs.BTreeMap.{BTreeMap, get, IsOrdered}
 use Rattle.std.specs.BTreeSet.{BTreeSet, contains}
 use Rattle.ptl_types.specs.declared.handles.Handle.{Handle}
 use Rattle.number_marks.specs.Marking.{Marking, is_in}
-use Rattle.triggered_ops.specs.declared.held.Held.{Held}
+use Rattle.triggered_ops.specs.declared.held.PostedOperation.{PostedOperation}
 use Rattle.triggered_ops.specs.Operations.{Operation, Operations, IsKept, waits_on, is_due_op}
 
 -- the slot and the stamp of a counting event, and the threshold and the number of an operation that waits on it
@@ -29,10 +29,10 @@ IsUpto a b = (a.0 < b.0) ⊎ ((a.0 ≡ b.0) × (a.1 ≤ b.1))
 
 module _ {D : Type 0} where
   -- what stands under a number
-  abbrev pub operation : ℕ × Held D → Operation D
+  abbrev pub operation : ℕ × PostedOperation D → Operation D
   operation e = record { number = e.0; deed = e.1.deed; ct = e.1.ct; threshold = e.1.threshold; due = e.1.due }
 
-  abbrev pub operations_of : List (ℕ × Held D) → ℕ → ℕ → Operations D
+  abbrev pub operations_of : List (ℕ × PostedOperation D) → ℕ → ℕ → Operations D
   operations_of es given limit = record { waiting = map operation es; given = given; limit = limit }
 
   abbrev pub number_of : Operation D → ℕ
@@ -46,7 +46,7 @@ module _ {D : Type 0} where
   is_from n p = nat_le n p.number
 
   -- operation t
-  abbrev pub found_at : BTreeMap ℕ (Held D) → ℕ → Option (Operation D)
+  abbrev pub found_at : BTreeMap ℕ (PostedOperation D) → ℕ → Option (Operation D)
   found_at m t = option_map (λ h. operation (t, h)) (get nat_cmp m t)
 
   abbrev pub waits_in : Handle → Option (Operation D) → Bool
@@ -71,12 +71,12 @@ module _ {D : Type 0} where
   without_those ct o = if waits_in ct o then None else o
 
   -- each has a place among the numbers, and those that are marked are those that are due
-  pub record AreMarked (m : BTreeMap ℕ (Held D)) (k : Marking) : Type 0 where
+  pub record AreMarked (m : BTreeMap ℕ (PostedOperation D)) (k : Marking) : Type 0 where
     pub placed : (t : ℕ) → is_some (found_at m t) ≡ true → is_in t k.held ≡ true
     pub due : (t : ℕ) → is_in t k.marked ≡ is_due_op (found_at m t)
 
   -- the index has those that wait on each counting event, with their thresholds
-  abbrev pub IsIndexed : BTreeMap ℕ (Held D) → BTreeSet Key → Type 0
+  abbrev pub IsIndexed : BTreeMap ℕ (PostedOperation D) → BTreeSet Key → Type 0
   IsIndexed m index =
       (slot stamp threshold t : ℕ)
       → contains key_cmp index (slot, stamp, threshold, t) ≡ waits_at (record { slot = slot; stamp = stamp }) threshold (found_at m t)
@@ -87,7 +87,7 @@ module _ {D : Type 0} where
   IsDueAt test sum (Some p) = test p ≡ true → p.due ≡ nat_le p.threshold sum
 
   -- those that pass the test are due as at one sum
-  pub record AreDueAsOne (test : Operation D → Bool) (m : BTreeMap ℕ (Held D)) : Type 0 where
+  pub record AreDueAsOne (test : Operation D → Bool) (m : BTreeMap ℕ (PostedOperation D)) : Type 0 where
     pub sum : ℕ
     pub due : (t : ℕ) → IsDueAt test sum (found_at m t)
 
@@ -96,10 +96,10 @@ module _ {D : Type 0} where
   WasTold ct sum ops = All (λ p. waits_on ct p ≡ true → p.due ≡ nat_le p.threshold sum) ops.waiting
 
   -- for each counting event those that wait on it are
-  abbrev pub AreTold : BTreeMap ℕ (Held D) → Type 0
+  abbrev pub AreTold : BTreeMap ℕ (PostedOperation D) → Type 0
   AreTold m = (ct : Handle) → AreDueAsOne (waits_on ct) m
 
-  pub record IsLaid (m : BTreeMap ℕ (Held D)) (index : BTreeSet Key) (k : Marking) (given limit : ℕ) : Type 0 where
+  pub record IsLaid (m : BTreeMap ℕ (PostedOperation D)) (index : BTreeSet Key) (k : Marking) (given limit : ℕ) : Type 0 where
     pub kept : IsKept (operations_of m.entries given limit)
     pub ordered : IsOrdered nat_cmp m
     pub indexed : IsIndexed m index

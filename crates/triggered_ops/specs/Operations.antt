@@ -48,7 +48,7 @@ module _ {D : Type 0} where
   abbrev pub shown : Operation D → D × Handle × ℕ
   shown p = (p.deed, p.ct, p.threshold)
 
-  -- the same behind its number
+  -- the same after its number
   abbrev pub numbered : Operation D → ℕ × D × Handle × ℕ
   numbered p = (p.number, p.deed, p.ct, p.threshold)
 

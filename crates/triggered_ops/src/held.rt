@@ -13,7 +13,7 @@ use std::collections::BTreeMap;
 
 /// An operation without its number.
 #[derive(Drop)]
-pub struct Held<D> {
+pub struct PostedOperation<D> {
     /// What it does when it fires.
     pub deed: D,
     /// The counting event that it waits on.
@@ -25,7 +25,7 @@ pub struct Held<D> {
 }
 
 /// Notes of an operation that it is due or isn't, where it waits, and answers whether it does.
-fn put_due<D>(operations: &mut BTreeMap<u32, Held<D>>, number: u32, due: bool) -> bool
+fn put_due<D>(operations: &mut BTreeMap<u32, PostedOperation<D>>, number: u32, due: bool) -> bool
     requires { IsOrdered nat_cmp operations.old }
     ensures found { (t : ℕ) → found_at operations.new t ≡ (if t == number then option_map (with_due due) (found_at operations.old t) else found_at operations.old t) }
     ensures waits { result ≡ is_some (found_at operations.new number) }
@@ -42,7 +42,7 @@ fn put_due<D>(operations: &mut BTreeMap<u32, Held<D>>, number: u32, due: bool) -
 }
 
 /// Whether an operation waits and is due.
-pub fn is_due_at<D>(operations: &BTreeMap<u32, Held<D>>, number: u32) -> bool
+pub fn is_due_at<D>(operations: &BTreeMap<u32, PostedOperation<D>>, number: u32) -> bool
     ensures { result ≡ is_due_op (found_at operations.now number) }
 {
     match operations.get(&number) {
@@ -52,7 +52,7 @@ pub fn is_due_at<D>(operations: &BTreeMap<u32, Held<D>>, number: u32) -> bool
 }
 
 /// Takes an operation's mark away.
-pub fn unmark<D>(operations: &BTreeMap<u32, Held<D>>, marks: &mut Marks, number: u32)
+pub fn unmark<D>(operations: &BTreeMap<u32, PostedOperation<D>>, marks: &mut Marks, number: u32)
     requires { AreMarked operations.now marks.old }
     ensures marked { (t : ℕ) → is_in t marks.new.marked ≡ (if t == number then false else is_in t marks.old.marked) }
     ensures held { marks.new.held ≡ marks.old.held }
@@ -64,7 +64,12 @@ pub fn unmark<D>(operations: &BTreeMap<u32, Held<D>>, marks: &mut Marks, number:
 }
 
 /// From now on an operation is due or isn't, where it waits.
-pub fn settle<D>(operations: &mut BTreeMap<u32, Held<D>>, marks: &mut Marks, number: u32, due: bool)
+pub fn settle<D>(
+    operations: &mut BTreeMap<u32, PostedOperation<D>>,
+    marks: &mut Marks,
+    number: u32,
+    due: bool,
+)
     requires ordered { IsOrdered nat_cmp operations.old }
     requires marked { AreMarked operations.old marks.old }
     ensures marked { AreMarked operations.new marks.new }

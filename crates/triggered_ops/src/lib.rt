@@ -10,7 +10,7 @@ mod index;
 mod parts;
 mod told;
 
-use crate::held::Held;
+use crate::held::PostedOperation;
 use number_marks::Marks;
 use ptl_types::{Handle, NoMemory};
 use std::alloc::Global;
@@ -30,7 +30,7 @@ const MOST: u32 = 1 << 27;
 /// operations before its place.
 #[derive(Drop)]
 pub struct Pending<D> {
-    operations: BTreeMap<u32, Held<D>>,
+    operations: BTreeMap<u32, PostedOperation<D>>,
     index: BTreeSet<(u32, u64, u64, u32)>,
     marks: Marks,
     alloc: Global,
@@ -235,7 +235,7 @@ impl<D: Drop> Pending<D> {
         ensures err { OnErr result (self.new ≡ self.old) }
     {
         let number = self.given;
-        let held = Held {
+        let held = PostedOperation {
             deed,
             ct,
             threshold,

@@ -8,7 +8,7 @@ ghost use Rattle.std.specs.BTreeMap.{IsOrdered, btree_map_len};
 ghost use Rattle.triggered_ops.specs.Operations.{deed_of};
 ghost use Rattle.triggered_ops.specs.Layout.{operation, found_at, without_those, AreMarked, IsIndexed};
 
-use crate::held::{Held, is_due_at, unmark};
+use crate::held::{PostedOperation, is_due_at, unmark};
 use crate::index::first_on;
 use number_marks::Marks;
 use ptl_types::{Handle, NoMemory};
@@ -17,10 +17,10 @@ use std::collections::{BTreeMap, BTreeSet};
 
 /// Puts a further operation in, with no place. Where memory is wanting it is dropped and nothing changes.
 fn add<D: Drop>(
-    operations: &mut BTreeMap<u32, Held<D>>,
+    operations: &mut BTreeMap<u32, PostedOperation<D>>,
     index: &mut BTreeSet<(u32, u64, u64, u32)>,
     number: u32,
-    held: Held<D>,
+    held: PostedOperation<D>,
 ) -> Result<(), NoMemory>
     requires apart { found_at operations.old number ≡ None }
     requires indexed { IsIndexed operations.old index.old }
@@ -47,11 +47,11 @@ fn add<D: Drop>(
 
 /// Puts a further operation in, and marks it where it is due.
 pub fn post<D: Drop>(
-    operations: &mut BTreeMap<u32, Held<D>>,
+    operations: &mut BTreeMap<u32, PostedOperation<D>>,
     index: &mut BTreeSet<(u32, u64, u64, u32)>,
     marks: &mut Marks,
     number: u32,
-    held: Held<D>,
+    held: PostedOperation<D>,
 ) -> Result<(), NoMemory>
     requires apart { found_at operations.old number ≡ None }
     requires indexed { IsIndexed operations.old index.old }
@@ -77,7 +77,7 @@ pub fn post<D: Drop>(
 /// The marks laid anew: a place for each operation that waits, and none for those that are gone.
 fn laid_anew<D>(
     alloc: Global,
-    operations: &BTreeMap<u32, Held<D>>,
+    operations: &BTreeMap<u32, PostedOperation<D>>,
     room: u32,
 ) -> Result<Marks, NoMemory>
     requires ordered { IsOrdered nat_cmp operations.now }
@@ -98,7 +98,7 @@ fn laid_anew<D>(
 /// Makes room for a further number, where there is none.
 pub fn make_room<D>(
     alloc: Global,
-    operations: &BTreeMap<u32, Held<D>>,
+    operations: &BTreeMap<u32, PostedOperation<D>>,
     marks: &mut Marks,
     room: u32,
 ) -> Result<(), NoMemory>
@@ -120,7 +120,7 @@ pub fn make_room<D>(
 
 /// Takes an operation out of all parts.
 pub fn take_out<D>(
-    operations: &mut BTreeMap<u32, Held<D>>,
+    operations: &mut BTreeMap<u32, PostedOperation<D>>,
     index: &mut BTreeSet<(u32, u64, u64, u32)>,
     marks: &mut Marks,
     number: u32,
@@ -149,7 +149,7 @@ pub fn take_out<D>(
 
 /// Takes the operations that wait on a counting event out of all parts.
 pub fn drop_all<D: Drop>(
-    operations: &mut BTreeMap<u32, Held<D>>,
+    operations: &mut BTreeMap<u32, PostedOperation<D>>,
     index: &mut BTreeSet<(u32, u64, u64, u32)>,
     marks: &mut Marks,
     ct: Handle,

@@ -8,7 +8,7 @@ ghost use Rattle.std.specs.BTreeMap.{IsOrdered};
 ghost use Rattle.triggered_ops.specs.Operations.{told_if, waits_on};
 ghost use Rattle.triggered_ops.specs.Layout.{found_at, waits_above, waits_upto, AreDueAsOne, AreMarked, IsIndexed};
 
-use crate::held::{Held, is_due_at, settle};
+use crate::held::{PostedOperation, is_due_at, settle};
 use crate::index::{first_on, last_on};
 use number_marks::Marks;
 use ptl_types::Handle;
@@ -16,7 +16,7 @@ use std::collections::{BTreeMap, BTreeSet};
 
 /// Those with a threshold up to the sum are due.
 fn raise<D>(
-    operations: &mut BTreeMap<u32, Held<D>>,
+    operations: &mut BTreeMap<u32, PostedOperation<D>>,
     index: &BTreeSet<(u32, u64, u64, u32)>,
     marks: &mut Marks,
     ct: Handle,
@@ -43,8 +43,8 @@ fn raise<D>(
     }
 }
 
-/// Where a search upwards goes on behind an operation.
-fn behind(threshold: u64, number: u32) -> (u64, u32)
+/// Where a search upwards goes on after an operation.
+fn just_after(threshold: u64, number: u32) -> (u64, u32)
     requires { number < 2 ^ 32 - 1 }
     ensures place { (result.0 ≡ threshold) × (result.1 ≡ number + 1) }
     ensures range { result.0 < 2 ^ 64 }
@@ -54,7 +54,7 @@ fn behind(threshold: u64, number: u32) -> (u64, u32)
 
 /// Those with a threshold above it aren't.
 fn lower<D>(
-    operations: &mut BTreeMap<u32, Held<D>>,
+    operations: &mut BTreeMap<u32, PostedOperation<D>>,
     index: &BTreeSet<(u32, u64, u64, u32)>,
     marks: &mut Marks,
     ct: Handle,
@@ -77,13 +77,13 @@ fn lower<D>(
             return;
         }
         settle(operations, marks, number, false);
-        from = behind(threshold, number);
+        from = just_after(threshold, number);
     }
 }
 
 /// Tells a sum to the operations that wait on a counting event.
 pub fn tell_all<D>(
-    operations: &mut BTreeMap<u32, Held<D>>,
+    operations: &mut BTreeMap<u32, PostedOperation<D>>,
     index: &BTreeSet<(u32, u64, u64, u32)>,
     marks: &mut Marks,
     ct: Handle,

@@ -18,7 +18,7 @@ module _ {A : Type 0} where
       let next : at + 1 ≡ suc at = add-one at in
       rw (s-is, next) (one (drop at xs) (take at xs) (drop (suc at) xs) (omega (arith, within, length-drop at xs)))
 
-  -- behind the first `gone`
+  -- after the first `gone`
   pub mid : (xs s : List A) (gone at n : ℕ) → gone + at < length xs → n ≡ at + 1 → s ≡ drop (length (take n (drop gone xs)) - 1) (take n (drop gone xs)) ++ take (length (take n (drop gone xs)) - 1) (take n (drop gone xs)) → drop (gone + 1) (take gone xs ++ (s ++ drop n (drop gone xs))) ≡ remove (drop gone xs) at
   mid xs s gone at n within next is =
       let whole : List A = take gone xs ++ (s ++ drop n (drop gone xs)) in

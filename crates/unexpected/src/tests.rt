@@ -64,19 +64,21 @@ fn the_oldest_that_matches_is_taken(rt: HostRuntime) -> Result<(), Fail> {
     assert!(rt; headers.names(Handle { slot: 0, stamp: 0 }));
     assert!(rt; headers.search(1, &entry(6)).is_none());
     assert_eq!(rt;
-        headers.search(1, &entry(5)).map(|noted| noted.header.place),
+        headers
+            .search(1, &entry(5))
+            .map(|unexpected| unexpected.header.place),
         Some(0)
     );
     assert_eq!(rt;
         headers
             .take_oldest(1, &entry(5))
-            .map(|noted| noted.header.place),
+            .map(|unexpected| unexpected.header.place),
         Some(0)
     );
     assert_eq!(rt;
         headers
             .take_oldest(1, &entry(5))
-            .map(|noted| noted.header.place),
+            .map(|unexpected| unexpected.header.place),
         Some(1)
     );
     assert!(rt; headers.take_oldest(1, &entry(5)).is_none());
@@ -113,7 +115,7 @@ fn one_after_the_other_is_taken_where_one_has_room(rt: HostRuntime) -> Result<()
             assert!(rt; headers.is_full());
             let taken = headers
                 .take_oldest(1, &entry(5))
-                .map(|noted| noted.header.place);
+                .map(|unexpected| unexpected.header.place);
             assert_eq!(rt; taken, Some(place));
         }
     }

@@ -7,7 +7,7 @@ use Rattle.ptl_types.specs.declared.handles.Handle.{Handle}
 use Rattle.ptl_types.specs.Handles.{same_handle}
 use Rattle.ni_model.specs.Tables.{names}
 use Rattle.user_counts.proofs.SumLemmas.{one_if, same-self, apart-slot}
-use Rattle.user_counts.specs.Rows.{count_at, raised, lowered, more, fewer, one_if_slot, one_at, Counts, IsAlone}
+use Rattle.user_counts.specs.Rows.{count_at, incremented, decremented, more, fewer, one_if_slot, one_at, Counts, IsAlone}
 
 same-slot : (a b : ℕ) → nat_eq a b ≡ true → a ≡ b
 same-slot a b e = grind (arith, nat_tests)
@@ -17,8 +17,8 @@ other-slot a b e = λ s. grind (arith, nat_tests)
 
 -- past the row's end nothing is counted, and nothing is asked
 module _ (f g : ℕ → ℕ) (row : List ℕ) (c : Counts f row) where
-  pub counts-raised : (slot : ℕ) → ((k : ℕ) → g k ≡ f k + one_if_slot slot k) → Counts g (raised slot row)
-  counts-raised slot up = λ k lt.
+  pub counts-incremented : (slot : ℕ) → ((k : ℕ) → g k ≡ f k + one_if_slot slot k) → Counts g (incremented slot row)
+  counts-incremented slot up = λ k lt.
       let within : k < length row = omega (arith, lt, length-set row slot (count_at slot row + 1)) in
       elim (nat_eq slot k) as (λ b. nat_eq slot k ≡ b → get_or (set row slot (count_at slot row + 1)) k 0 ≡ g k) [
         | true ↦ λ e.
@@ -33,8 +33,8 @@ module _ (f g : ℕ → ℕ) (row : List ℕ) (c : Counts f row) where
             omega (arith, get_or-set_other row slot k (count_at slot row + 1) 0 (other-slot slot k e), c k within, u)
       ] refl
 
-  pub counts-lowered : (slot : ℕ) → ((k : ℕ) → f k ≡ g k + one_if_slot slot k) → Counts g (lowered slot row)
-  counts-lowered slot down = λ k lt.
+  pub counts-decremented : (slot : ℕ) → ((k : ℕ) → f k ≡ g k + one_if_slot slot k) → Counts g (decremented slot row)
+  counts-decremented slot down = λ k lt.
       let within : k < length row = omega (arith, lt, length-set row slot (count_at slot row - 1)) in
       elim (nat_eq slot k) as (λ b. nat_eq slot k ≡ b → get_or (set row slot (count_at slot row - 1)) k 0 ≡ g k) [
         | true ↦ λ e.
@@ -54,11 +54,11 @@ module _ (f g : ℕ → ℕ) (row : List ℕ) (c : Counts f row) where
 
 pub counts-more : (f g : ℕ → ℕ) (row : List ℕ) → Counts f row → (named : Option Handle) → ((k : ℕ) → g k ≡ f k + one_at named k) → Counts g (more named row)
 counts-more f g row c None up = counts-same f g row c (λ k. omega (arith, up k))
-counts-more f g row c (Some h) up = counts-raised f g row c h.slot up
+counts-more f g row c (Some h) up = counts-incremented f g row c h.slot up
 
 pub counts-fewer : (f g : ℕ → ℕ) (row : List ℕ) → Counts f row → (named : Option Handle) → ((k : ℕ) → f k ≡ g k + one_at named k) → Counts g (fewer named row)
 counts-fewer f g row c None down = counts-same f g row c (λ k. omega (arith, down k))
-counts-fewer f g row c (Some h) down = counts-lowered f g row c h.slot down
+counts-fewer f g row c (Some h) down = counts-decremented f g row c h.slot down
 
 -- where nothing is named yet
 abbrev zeros : ℕ → List ℕ

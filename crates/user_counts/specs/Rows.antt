@@ -8,22 +8,22 @@ abbrev pub count_at : ℕ → List ℕ → ℕ
 count_at slot row = slice_index row slot
 
 -- one user of a slot more; nothing changes past the row's end
-abbrev pub raised : ℕ → List ℕ → List ℕ
-raised slot row = slice_set row slot (count_at slot row + 1)
+abbrev pub incremented : ℕ → List ℕ → List ℕ
+incremented slot row = slice_set row slot (count_at slot row + 1)
 
 -- one fewer
-abbrev pub lowered : ℕ → List ℕ → List ℕ
-lowered slot row = slice_set row slot (count_at slot row - 1)
+abbrev pub decremented : ℕ → List ℕ → List ℕ
+decremented slot row = slice_set row slot (count_at slot row - 1)
 
 -- one user more of what is named, if anything is
 abbrev pub more : Option Handle → List ℕ → List ℕ
 more None row = row
-more (Some h) row = raised h.slot row
+more (Some h) row = incremented h.slot row
 
 -- one fewer
 abbrev pub fewer : Option Handle → List ℕ → List ℕ
 fewer None row = row
-fewer (Some h) row = lowered h.slot row
+fewer (Some h) row = decremented h.slot row
 
 -- 1 where this is the slot
 abbrev pub one_if_slot : ℕ → ℕ → ℕ

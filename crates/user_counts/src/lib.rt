@@ -3,7 +3,7 @@
 #![tactic(auto)]
 
 ghost use Rattle.std.specs.Prelude.{◌≡◌, ◌<◌, ◌-◌, ◌^◌, IfOk, IfSome, length, nat_lt, replicate, slice_get};
-ghost use Rattle.user_counts.specs.Rows.{count_at, raised, lowered, more, fewer};
+ghost use Rattle.user_counts.specs.Rows.{count_at, incremented, decremented, more, fewer};
 
 use ptl_types::{Handle, NoMemory};
 use std::alloc::Global;
@@ -55,7 +55,7 @@ impl Users {
     /// One user more of a slot. One past the row's end isn't counted.
     pub fn raise(&mut self, slot: u32)
         requires room { count_at slot self.old < 2 ^ 64 - 1 }
-        ensures does { self.new ≡ raised slot self.old }
+        ensures does { self.new ≡ incremented slot self.old }
     {
         let at = slot as usize;
         if at < self.counts.len() {
@@ -65,7 +65,7 @@ impl Users {
 
     /// One user fewer of a slot.
     pub fn lower(&mut self, slot: u32)
-        ensures does { self.new ≡ lowered slot self.old }
+        ensures does { self.new ≡ decremented slot self.old }
     {
         let at = slot as usize;
         if at < self.counts.len() {

@@ -123,7 +123,7 @@ fn a_message_waits_for_room(rt: HostRuntime) -> Result<(), Fail> {
 }
 
 #[test]
-fn what_a_wire_holds_goes_behind_what_the_lane_holds(rt: HostRuntime) -> Result<(), Fail> {
+fn what_a_wire_holds_goes_after_what_the_lane_holds(rt: HostRuntime) -> Result<(), Fail> {
     let (wire, mut out, mut into) = Wire::open(rt.alloc(), 3, requests(3))?;
     let mut rest = PlainLane::open(rt.alloc(), 4)?;
     rest.push_back(put(rt.alloc(), 7));

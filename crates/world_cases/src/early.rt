@@ -1,4 +1,4 @@
-//! Messages that come before a rank's start: they lie in the areas behind its cells until it starts.
+//! Messages that come before a rank's start: they lie in the areas after its cells until it starts.
 
 use crate::scene::{
     check_history, check_lists, check_memory, check_rest, first_header_at, make_step, nth_step,

@@ -44,7 +44,7 @@ pub fn windowed(alloc: Global, text: &[u8], window: u32) -> Option<World> {
     }
 }
 
-// Each of the next functions is one call of a world, without what its contract says of the whole world: so the functions behind
+// Each of the next functions is one call of a world, without what its contract says of the whole world: so the functions after
 // them have nothing of it to prove.
 
 /// How many links the plan of a job has.

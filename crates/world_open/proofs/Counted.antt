@@ -1,4 +1,4 @@
--- The counts of deliveries behind the first pairs of ranks.
+-- The counts of deliveries after the first pairs of ranks.
 use Rattle.std.proofs.Common.{ℕ, ◌+◌, ◌*◌, ◌/◌, ◌%◌, ◌<◌, ◌≡◌, ◌∙◌, List, length, arith}
 use Rattle.std.proofs.Math.ListN.{length-set}
 use Rattle.ptl_types.specs.declared.headers.Lane.TheVariants.{Request, Answer}

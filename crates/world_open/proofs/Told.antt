@@ -47,7 +47,7 @@ module _ (lanes : List Plain) (n window s d : ℕ) (nodes : List NodeState) (the
         | inr other ↦ before r e hr he (omega (arith, h, other))
       ])
 
--- the nodes behind the first pairs of ranks
+-- the nodes after the first pairs of ranks
 pub record AreTold (n window : ℕ) (lanes : List Plain) (old nodes : List NodeState) (i : ℕ) : Type 0 where
   pub size : length nodes ≡ n
   pub told : (r : ℕ) → IsTold (node_at old r) (node_at nodes r)

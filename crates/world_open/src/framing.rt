@@ -1,7 +1,7 @@
 //! The parts of a world whose nodes come from elsewhere.
 
 ghost use Rattle.std.specs.Prelude.{ℕ, false, not, ◌≡◌, ◌<◌, ◌≤◌, ◌*◌, IfOk, length, slice_index_or};
-ghost use Rattle.ptl_types.specs.declared.headers.Lane.{Lane as LaneOf};
+ghost use Rattle.ptl_types.specs.declared.headers.Lane.{Lane};
 ghost use Rattle.ptl_types.specs.declared.headers.Lane.TheVariants.{Answer, Request};
 ghost use Rattle.plan_worlds.specs.Places.{lane_place};
 ghost use Rattle.shape_plans.specs.Drawing.{plan_of};
@@ -48,7 +48,7 @@ pub fn open_bare(alloc: Global, job: &Job) -> Result<Bare, NoMemory>
     ensures ranks { IfOk result (λ b. b.ranks ≡ job.now.shape.ranks) }
     ensures bare { IfOk result (λ b. IsBare (plan_of job.now.shape) job.now.inputs job.now.shape.ranks b.lanes.items b.starts b.deliveries
         b.firings) }
-    ensures lanes { IfOk result (λ b. (s d : ℕ) (lane : LaneOf) → s < job.now.shape.ranks → d < job.now.shape.ranks →
+    ensures lanes { IfOk result (λ b. (s d : ℕ) (lane : Lane) → s < job.now.shape.ranks → d < job.now.shape.ranks →
         lane_at b.lanes.items (lane_place job.now.shape.ranks s d lane) ≡ frame_lane (plan_of job.now.shape) s d lane) }
 {
     let schedule = job.schedule();
@@ -128,7 +128,7 @@ fn fill_deliveries(deliveries: &mut CountTree, lanes: &[PlainLane], ranks: u32, 
     requires counted { length deliveries.old ≡ 2 * (ranks * ranks) }
     requires lanes { length lanes.now ≡ 2 * (ranks * ranks) }
     ensures size { length deliveries.new ≡ 2 * (ranks * ranks) }
-    ensures counts { (s d : ℕ) (lane : LaneOf) → s < ranks → d < ranks →
+    ensures counts { (s d : ℕ) (lane : Lane) → s < ranks → d < ranks →
         slice_index_or deliveries.new (lane_place ranks s d lane) 0 ≡ delivery_count lanes.now ranks window s d lane }
 {
     let pairs = ranks * ranks;

@@ -1,7 +1,7 @@
 //! The lanes of a world before its first step.
 
 ghost use Rattle.std.specs.Prelude.{ℕ, ◌≡◌, ◌<◌, ◌+◌, ◌*◌, IfOk, IfSome, length};
-ghost use Rattle.ptl_types.specs.declared.headers.Lane.{Lane as LaneOf};
+ghost use Rattle.ptl_types.specs.declared.headers.Lane.{Lane};
 ghost use Rattle.plan_worlds.specs.Places.{lane_place};
 ghost use Rattle.shape_plans.specs.Drawing.{plan_of};
 ghost use Rattle.world_parts.specs.Keeps.{spare_on};
@@ -76,7 +76,7 @@ pub(crate) fn lay_all(
     room: Room,
 ) -> Result<Vec<PlainLane>, NoMemory>
     ensures size { IfOk result (λ v. length v.items ≡ 2 * (schedule.now.ranks * schedule.now.ranks)) }
-    ensures laid { IfOk result (λ v. (s d : ℕ) (lane : LaneOf) → s < schedule.now.ranks → d < schedule.now.ranks →
+    ensures laid { IfOk result (λ v. (s d : ℕ) (lane : Lane) → s < schedule.now.ranks → d < schedule.now.ranks →
         lane_at v.items (lane_place schedule.now.ranks s d lane) ≡ laid_lane (plan_of schedule.now) room s d lane) }
 {
     let ranks = schedule.shape().ranks();

@@ -16,7 +16,7 @@ use Rattle.world_parts.specs.Layout.{held_in, no_node, node_at, scene_of}
 use Rattle.world_parts.specs.Marks.{gated, lane_has}
 use Rattle.world_parts.proofs.Sets.{at_set}
 
--- a node behind a gate
+-- a node after a gate
 pub record IsGated (old new : NodeState) : Type 0 where
   pub task : new.task ≡ old.task
   pub kept : new.kept ≡ old.kept

@@ -49,7 +49,7 @@ use Rattle.world_parts.proofs.Renewed.{Touches}
 use Rattle.world_parts.proofs.Sets.{at_set, part_le, sum_le}
 use Rattle.world_parts.proofs.Strays.{clean_more, none_count, owned_and_strays, owned_more, short_more}
 
--- a node behind a step of its rank
+-- a node after a step of its rank
 pub record Moved (old new : NodeState) (e : Local) : Type 0 where
   pub task : new.task ≡ old.task
   pub strays : new.strays ≡ old.strays
@@ -114,7 +114,7 @@ module _ (p : Plan) (inputs : Inputs) (n : ℕ) (nodes : List NodeState) (lanes 
   -- ---- rank r makes step e, when the lanes are these
   module _ (r : ℕ) (hr : r < n) (e : Local) (mid : List Plain) (taken : Taken lanes mid)
       (enabled : (slots : ℕ → Slots) → AgreeAll n slots nodes → IsEnabled (system_of p inputs slots) (scene_of n nodes lanes).world (scene_of n nodes lanes).held r e) where
-    -- the moment behind it
+    -- the moment after it
     abbrev behind : (ℕ → Slots) → Scene
     behind slots = record {
       world = with_step r e (scene_of n nodes lanes).world;
@@ -192,7 +192,7 @@ module _ (p : Plan) (inputs : Inputs) (n : ℕ) (nodes : List NodeState) (lanes 
                     ∙ held_here n (sent_out n r m mid) r m.header.target (lane_of m.header.kind) hr hd
                     ∙ set_here n mid mid_size r m.header.target (lane_of m.header.kind) hr hd ((lane_at mid (lane_place n r m.header.target (lane_of m.header.kind))).messages ++ m ∷ [])
 
-        -- ---- the lanes behind it
+        -- ---- the lanes after it
         later_size : length later ≡ 2 * (n * n)
         later_size = at o refl
           where
@@ -251,7 +251,7 @@ module _ (p : Plan) (inputs : Inputs) (n : ℕ) (nodes : List NodeState) (lanes 
                 (λ j. let a = owned_more (lane_at mid (lane_place n r m.header.target (lane_of m.header.kind))).messages m in let b = open_lane m q in omega (arith, a, b))
                 (λ j. mid_within)
 
-        -- ---- the nodes behind it
+        -- ---- the nodes after it
         module _ (new : NodeState) (moved : Moved (node_at nodes r) new e) where
           abbrev news : List NodeState
           news = set nodes r new

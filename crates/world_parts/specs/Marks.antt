@@ -26,7 +26,7 @@ lane_may lanes n window s d Answer = nat_lt 0 (length (lane_at lanes (lane_place
 abbrev pub start_count : NodeState → ℕ
 start_count n = if nat_lt 0 (count_by is_start n.diary.locals) then 0 else 1
 
--- what is ready behind open lanes
+-- what is ready after open lanes
 abbrev pub firing_count : NodeState → ℕ
 firing_count n = length (open_numbers n.closed n.nic)
 

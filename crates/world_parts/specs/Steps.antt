@@ -13,7 +13,7 @@ use Rattle.rank_node.specs.Node.{NodeState}
 use Rattle.world_parts.specs.Keeps.{AgreeAll}
 use Rattle.world_parts.specs.Layout.{scene_of}
 
--- behind a step of the plan's ranks: for all slots that agree with the handles that there are then
+-- after a step of the plan's ranks: for all slots that agree with the handles that there are then
 pub record IsStepped (p : Plan) (inputs : Inputs) (n : ℕ) (step : Step) (nodes : List NodeState) (lanes : List Plain)
     (nexts : List NodeState) (later : List Plain) : Type 0 where
   pub scene : (k : ℕ → Slots) → AgreeAll n k nexts →
@@ -25,7 +25,7 @@ pub record IsStepped (p : Plan) (inputs : Inputs) (n : ℕ) (step : Step) (nodes
 abbrev pub injected : ℕ → ℕ → Sent → Scene → Scene
 injected s d m z = record z { held = λ q u lane. z.held q u lane ++ (if is_request_lane s d q u lane then m ∷ [] else []) }
 
--- behind the injection of a stray
+-- after the injection of a stray
 pub record IsInjected (n s d : ℕ) (m : Sent) (nodes : List NodeState) (lanes : List Plain) (nexts : List NodeState)
     (later : List Plain) : Type 0 where
   pub scene : scene_of n nexts later ≡ injected s d m (scene_of n nodes lanes)

@@ -1,4 +1,4 @@
-//! The steps of a world over its parts, each with the counts of what is possible made anew behind it.
+//! The steps of a world over its parts, each with the counts of what is possible made anew after it.
 
 ghost use Rattle.std.specs.Prelude.{ℕ, true, ◌≡◌, ◌<◌, ◌≤◌, ◌-◌, ◌*◌, ◌++◌, ◌∷◌, [], count_by, length, slice_set};
 ghost use Rattle.ptl_types.specs.declared.headers.Lane.TheVariants.{Request};

@@ -1,4 +1,4 @@
-//! The counts of what is possible, kept up to date behind a step.
+//! The counts of what is possible, kept up to date after a step.
 
 ghost use Rattle.std.specs.Prelude.{ℕ, ◌≡◌, ◌<◌, ◌≤◌, ◌*◌, length};
 ghost use Rattle.ptl_types.specs.declared.headers.Lane.TheVariants.{Request, Answer};

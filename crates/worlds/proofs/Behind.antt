@@ -1,4 +1,4 @@
--- The fields of a world behind a step.
+-- The fields of a world after a step.
 use Rattle.std.proofs.Common.{ℕ, ◌-◌, ◌≡◌, List, refl, sym, subst}
 use Rattle.ptl_types.specs.Messages.{Sent}
 use Rattle.pair_wires.specs.Lanes.{Plain}
@@ -127,7 +127,7 @@ module _ (job : JobOf) (setting : Setting) (nodes : List NodeState) (lanes : Lis
       subst (λ ns. IsWorld (plan_of job.shape) job.inputs setting.ranks ns later a b c setting.window strays setting.spare) (sym e)
       (subst (λ ls. IsWorld (plan_of job.shape) job.inputs setting.ranks new ls a b c setting.window strays setting.spare) (sym f) world)
 
-  -- ---- behind an injection
+  -- ---- after an injection
   abbrev fewer : Setting
   fewer = record setting { strays = setting.strays - 1 }
 

@@ -12,6 +12,6 @@ use Rattle.worlds.specs.contracts.frame.Frame.{the_row}
 abbrev pub with_lane : FrameState → ℕ → Plain → FrameState
 with_lane f at lane = record f { lanes = slice_set f.lanes at lane }
 
--- once the borrow ends, the lane is what was last left behind it
+-- once the borrow ends, the lane is what was last left there
 abbrev pub LendsLane : MutBor FrameState → ℕ → ℕ → Lane → MutBor Plain → Fml
 LendsLane f s d lane r = Lends the_row lane_row f r (with_lane f.now (lane_place f.now.shape.ranks s d lane))

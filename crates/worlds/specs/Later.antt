@@ -1,4 +1,4 @@
--- A world at its opening, and behind what was done with it.
+-- A world at its opening, and after what was done with it.
 use Rattle.std.specs.Prelude.{ℕ, ◌≡◌}
 use Rattle.plan_view.specs.Slots.{Slots}
 use Rattle.plan_cuts.specs.Cut.{IsPrefixOf}

@@ -3,4 +3,4 @@ use Rattle.unexpected.specs.Places.{header_at}
 use Rattle.unexpected.proofs.number_of.Given as goal
 
 abbrev pub invariant-loop-x : goal.invariant-loop-x
-invariant-loop-x l = header_at l.pt l.i l.noted ≡ header_at l.pt l.left (drop l.x-index l.noted)
+invariant-loop-x l = header_at l.pt l.i l.unexpected ≡ header_at l.pt l.left (drop l.x-index l.unexpected)

@@ -4,6 +4,6 @@ use Rattle.unexpected.proofs.place_of.Given as goal
 
 abbrev pub invariant-loop-i : goal.invariant-loop-i
 invariant-loop-i l = record {
-  same : oldest l.pt l.entry l.noted ≡ oldest l.pt l.entry (drop l.i l.noted);
-  rest : without_oldest l.pt l.entry l.noted ≡ take l.i l.noted ++ without_oldest l.pt l.entry (drop l.i l.noted);
+  same : oldest l.pt l.entry l.unexpected ≡ oldest l.pt l.entry (drop l.i l.unexpected);
+  rest : without_oldest l.pt l.entry l.unexpected ≡ take l.i l.unexpected ++ without_oldest l.pt l.entry (drop l.i l.unexpected);
 }

@@ -6,28 +6,28 @@ use Rattle.order_lines.proofs.checking.first_end.Goals as goal
 pub returns-then-is-clause-bytes : goal.returns-then-is-clause-bytes
 returns-then-is-clause-bytes c =
     let text = c.args.bytes.now in
-    let behind = c.in_default-Some.behind.now in
-    let cut : lines c.loop-line.rest.now ≡ c.cut.result.0.now ∷ lines behind = rw c.in_default-Some.is-1 at c.cut.ensures.parts in
-    let long = cut_long c.loop-line.rest.now c.cut.result.0.now behind cut in
+    let after = c.in_default-Some.after.now in
+    let cut : lines c.loop-line.rest.now ≡ c.cut.result.0.now ∷ lines after = rw c.in_default-Some.is-1 at c.cut.ensures.parts in
+    let long = cut_long c.loop-line.rest.now c.cut.result.0.now after cut in
     let within = c.loop-line.invariant.within in
     rw c.in_default-Some.is-1
-    (stops text c.loop-line.rest.now c.cut.result.0.now behind c.loop-line.number (length text - length behind) c.loop-line.invariant cut
+    (stops text c.loop-line.rest.now c.cut.result.0.now after c.loop-line.number (length text - length after) c.loop-line.invariant cut
     (sym c.is.ensures.told ∙ c.if-is.true) (omega (arith, long, within))).front
 
 pub returns-then-is-clause-line : goal.returns-then-is-clause-line
 returns-then-is-clause-line c =
     let text = c.args.bytes.now in
-    let behind = c.in_default-Some.behind.now in
-    let cut : lines c.loop-line.rest.now ≡ c.cut.result.0.now ∷ lines behind = rw c.in_default-Some.is-1 at c.cut.ensures.parts in
-    let long = cut_long c.loop-line.rest.now c.cut.result.0.now behind cut in
+    let after = c.in_default-Some.after.now in
+    let cut : lines c.loop-line.rest.now ≡ c.cut.result.0.now ∷ lines after = rw c.in_default-Some.is-1 at c.cut.ensures.parts in
+    let long = cut_long c.loop-line.rest.now c.cut.result.0.now after cut in
     let within = c.loop-line.invariant.within in
-    (stops text c.loop-line.rest.now c.cut.result.0.now behind c.loop-line.number (length text - length behind) c.loop-line.invariant cut
+    (stops text c.loop-line.rest.now c.cut.result.0.now after c.loop-line.number (length text - length after) c.loop-line.invariant cut
     (sym c.is.ensures.told ∙ c.if-is.true) (omega (arith, long, within))).next
 
 pub loop-line-preserved : goal.loop-line-preserved
 loop-line-preserved c =
-    let cut : lines c.loop-line.rest.now ≡ c.cut.result.0.now ∷ lines c.in_default-Some.behind.now =
+    let cut : lines c.loop-line.rest.now ≡ c.cut.result.0.now ∷ lines c.in_default-Some.after.now =
     rw c.in_default-Some.is-1 at c.cut.ensures.parts in
     rw c.in_default-Some.is-1
-    (goes_on c.args.bytes.now c.loop-line.rest.now c.cut.result.0.now c.in_default-Some.behind.now c.loop-line.number c.loop-line.invariant
+    (goes_on c.args.bytes.now c.loop-line.rest.now c.cut.result.0.now c.in_default-Some.after.now c.loop-line.number c.loop-line.invariant
     cut (sym c.is.ensures.told ∙ c.if-is.false))

@@ -13,12 +13,12 @@ pub overflow_sub-count : goal.overflow_sub-count
 overflow_sub-count c =
     let t = turn-lane c.args.gates.now c.loop-d.d (target_at c.args.nic.now) (ready_numbers c.args.nic.now) in
     let i = c.loop-d.invariant in
-    let b = c.behind-count.ensures in
+    let b = c.held_up-count.ensures in
     omega arith
 
 pub loop-d-preserved : goal.loop-d-preserved
 loop-d-preserved c =
     let t = turn-lane c.args.gates.now c.loop-d.d (target_at c.args.nic.now) (ready_numbers c.args.nic.now) in
     let i = c.loop-d.invariant in
-    let b = c.behind-count.ensures in
+    let b = c.held_up-count.ensures in
     omega arith

@@ -6,4 +6,4 @@ use Rattle.rank_node.proofs.start.bring_found.Given as goal
 abbrev pub invariant-loop-i : goal.invariant-loop-i
 invariant-loop-i l =
     (l.nic ≡ record l.fn.nic { memory = l.nic.memory })
-    × (bring_all (length l.buffer) l.cell (found_in 0 l.entry (drop l.i l.fn.nic.headers.noted)) l.nic.memory ≡ bring_all (length l.fn.buffer) l.cell (found_in 0 l.entry l.fn.nic.headers.noted) l.fn.nic.memory)
+    × (bring_all (length l.buffer) l.cell (found_in 0 l.entry (drop l.i l.fn.nic.headers.unexpected)) l.nic.memory ≡ bring_all (length l.fn.buffer) l.cell (found_in 0 l.entry l.fn.nic.headers.unexpected) l.fn.nic.memory)

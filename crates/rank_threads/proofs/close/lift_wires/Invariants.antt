@@ -4,7 +4,7 @@ use Rattle.rank_threads.specs.Moves.{AllLaid, SameNode, Slotwise}
 use Rattle.rank_threads.proofs.Lifts.{AreLifted}
 use Rattle.rank_threads.proofs.close.lift_wires.Given as goal
 
--- the wires behind these were closed
+-- the wires after these were closed
 abbrev pub invariant-loop-wire : goal.invariant-loop-wire
 invariant-loop-wire g l = record {
   front : (rest : List WireState) × (l.initial.wires.items ≡ l.wires.items ++ rest);

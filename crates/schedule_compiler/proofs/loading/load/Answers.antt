@@ -1,4 +1,4 @@
--- The cells, and the areas behind them.
+-- The cells, and the areas after them.
 use Rattle.std.proofs.Common.{ℕ, ◌==◌, ◌≡◌, ◌≤◌, ◌<◌, ◌++◌, List, [], length, flat_map, get_or, ap, ap₂, ◌∙◌, arith}
 use Rattle.ptl_types.specs.Filled.{Filled}
 use Rattle.plan_core.specs.Plan.{Plan, cell, own}

@@ -1,6 +1,6 @@
 use Rattle.std.proofs.Common.{Some, arith}
 use Rattle.ni_model.specs.Calls.{new_index}
-use Rattle.target_engine.proofs.Views.{empty-at, set-seen, set-shelf}
+use Rattle.target_engine.proofs.Views.{empty-at, set-seen, set-portal_entry}
 use Rattle.target_engine.proofs.index.allocate_at.Goals as goal
 
 pub allocate-requires : goal.allocate-requires
@@ -12,4 +12,4 @@ returns-then-at-indices-clause-after c = set-seen c.args.indices.now c.args.pt c
 pub returns-then-at-indices-clause-kept : goal.returns-then-at-indices-clause-kept
 returns-then-at-indices-clause-kept c =
     λ most records given all.
-    set-shelf c.args.indices.now c.args.pt c.index-indices-at.result c.allocate.new.self most records given given (omega arith) c.if-at-indices.true (c.allocate.ensures.kept most records given) all
+    set-portal_entry c.args.indices.now c.args.pt c.index-indices-at.result c.allocate.new.self most records given given (omega arith) c.if-at-indices.true (c.allocate.ensures.kept most records given) all

@@ -1,6 +1,6 @@
 use Rattle.std.proofs.Common.{arith}
-use Rattle.target_engine.specs.Shelves.{settled_in}
-use Rattle.target_engine.proofs.Views.{set-seen_by, set-shelf}
+use Rattle.target_engine.specs.PortalTable.{settled_in}
+use Rattle.target_engine.proofs.Views.{set-seen_by, set-portal_entry}
 use Rattle.target_engine.proofs.index.settle_at.Goals as goal
 
 pub returns-then-at-indices-clause-after : goal.returns-then-at-indices-clause-after
@@ -9,4 +9,4 @@ returns-then-at-indices-clause-after c = set-seen_by c.args.indices.now c.args.h
 pub returns-then-at-indices-clause-kept : goal.returns-then-at-indices-clause-kept
 returns-then-at-indices-clause-kept c =
     λ most records given all.
-    set-shelf c.args.indices.now c.args.header.now.pt c.index-indices-at.result c.settle.new.self most records given given (omega arith) c.if-at-indices.true (c.settle.ensures.kept most records given) all
+    set-portal_entry c.args.indices.now c.args.header.now.pt c.index-indices-at.result c.settle.new.self most records given given (omega arith) c.if-at-indices.true (c.settle.ensures.kept most records given) all

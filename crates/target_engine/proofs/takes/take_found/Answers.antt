@@ -1,9 +1,9 @@
 use Rattle.std.proofs.Common.{◌<◌, ◌++◌, length, refl, sym, ap, ◌∙◌, arith}
 use Rattle.ni_model.specs.Headers.{found_in, left_in}
-use Rattle.target_engine.specs.Shelves.{seen_in, lies_in}
+use Rattle.target_engine.specs.PortalTable.{seen_in, lies_in}
 use Rattle.target_engine.proofs.Counted.{counted-same, counted-gone, long-taken}
-use Rattle.target_engine.proofs.Headers.{noted-parts}
-use Rattle.target_engine.proofs.Placed.{placed-noted}
+use Rattle.target_engine.proofs.Headers.{unexpected-parts}
+use Rattle.target_engine.proofs.Recorded.{placed-unexpected}
 use Rattle.target_engine.proofs.Records.{given-by, limit-by}
 use Rattle.target_engine.proofs.Taking.{one-between, taken-told, taken-placed, step-found, step-later, step-rose, step-same, step-gone, step-kept}
 use Rattle.target_engine.proofs.takes.take_found.Goals as goal
@@ -11,15 +11,15 @@ use Rattle.target_engine.proofs.takes.take_found.Goals.{then-finds, else-finds}
 
 pub loop-at-init : goal.loop-at-init
 loop-at-init c =
-    let xs = c.args.headers.now.noted in
+    let xs = c.args.headers.now.unexpected in
     record {
       sifted = record { front = refl; rest = refl; behind = omega arith; within = omega arith; long = refl };
       room = refl;
       told = refl;
       counts = refl;
       rose = refl;
-      placed = placed-noted (seen_in c.args.indices.now) xs (left_in c.args.pt c.args.entry.now xs ++ found_in c.args.pt c.args.entry.now xs) c.args.records.now.places c.requires.placed (λ p. noted-parts (lies_in p) c.args.pt c.args.entry.now xs);
-      users = counted-same xs (left_in c.args.pt c.args.entry.now xs ++ found_in c.args.pt c.args.entry.now xs) c.args.records.now c.requires.counted (λ p. noted-parts p c.args.pt c.args.entry.now xs);
+      placed = placed-unexpected (seen_in c.args.indices.now) xs (left_in c.args.pt c.args.entry.now xs ++ found_in c.args.pt c.args.entry.now xs) c.args.records.now.by_entry c.requires.placed (λ p. unexpected-parts (lies_in p) c.args.pt c.args.entry.now xs);
+      users = counted-same xs (left_in c.args.pt c.args.entry.now xs ++ found_in c.args.pt c.args.entry.now xs) c.args.records.now c.requires.counted (λ p. unexpected-parts p c.args.pt c.args.entry.now xs);
       long = refl;
       given = refl;
       limit = refl;
@@ -29,8 +29,8 @@ pub loop-at-preserved : goal.loop-at-preserved
 loop-at-preserved c =
     let pt = c.args.pt in
     let e = c.args.entry.now in
-    let xs = c.args.headers.now.noted in
-    let ys = c.loop-at.headers.noted in
+    let xs = c.args.headers.now.unexpected in
+    let ys = c.loop-at.headers.unexpected in
     let zs = c.as_slice.result.now in
     let k = c.loop-at.kept in
     let i = c.loop-at.at in

@@ -1,7 +1,7 @@
 use Rattle.std.proofs.Common.{◌∷◌, [], arith, sym, subst}
 use Rattle.std.specs.Prelude.{All}
 use Rattle.std.proofs.lemmas.List.Elements.{All-append, All-cons, All-nil}
-use Rattle.target_engine.specs.Shelves.{IsUnused}
+use Rattle.target_engine.specs.PortalTable.{IsUnused}
 use Rattle.target_engine.proofs.target.empty_indices.Goals as goal
 
 pub loop-i-preserved : goal.loop-i-preserved

@@ -1,6 +1,6 @@
 use Rattle.std.proofs.Common.{◌≡◌, ◌≤◌, vec_capacity, vec_len}
 use Rattle.std.specs.Prelude.{All}
-use Rattle.target_engine.specs.Shelves.{IsUnused}
+use Rattle.target_engine.specs.PortalTable.{IsUnused}
 use Rattle.target_engine.proofs.target.empty_indices.Given as goal
 
 abbrev pub invariant-loop-i : goal.invariant-loop-i

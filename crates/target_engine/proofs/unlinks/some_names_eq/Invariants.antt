@@ -1,7 +1,7 @@
 use Rattle.std.proofs.Common.{◌≡◌, drop}
 use Rattle.ni_model.specs.Refusals.{index_names_eq}
-use Rattle.target_engine.specs.Shelves.{seen_in}
+use Rattle.target_engine.specs.PortalTable.{seen_in}
 use Rattle.target_engine.proofs.unlinks.some_names_eq.Given as goal
 
-abbrev pub invariant-loop-shelf : goal.invariant-loop-shelf
-invariant-loop-shelf l = index_names_eq l.eq (seen_in l.indices) ≡ index_names_eq l.eq (seen_in (drop l.shelf-index l.indices))
+abbrev pub invariant-loop-portal_entry : goal.invariant-loop-portal_entry
+invariant-loop-portal_entry l = index_names_eq l.eq (seen_in l.indices) ≡ index_names_eq l.eq (seen_in (drop l.portal_entry-index l.indices))

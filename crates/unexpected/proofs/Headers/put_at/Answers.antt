@@ -1,10 +1,10 @@
 use Rattle.std.proofs.Common.{List, ap}
 use Rattle.std.proofs.lemmas.List.{drop-set-add}
-use Rattle.ni_model.specs.declared.Noted.{Noted}
-use Rattle.ni_model.specs.Headers.{held}
+use Rattle.ni_model.specs.declared.IndexedHeader.{IndexedHeader}
+use Rattle.ni_model.specs.Headers.{unexpected_list}
 use Rattle.unexpected.proofs.Headers.put_at.Goals as goal
 
 pub returns : goal.returns
 returns c =
     let s = c.self.inside in
-    rw (← c.self.view_is) (ap (λ (xs : List Noted). held xs s.limit) (drop-set-add s.gone s.noted.items c.args.place c.args.noted))
+    rw (← c.self.view_is) (ap (λ (xs : List IndexedHeader). unexpected_list xs s.limit) (drop-set-add s.gone s.unexpected.items c.args.place c.args.unexpected))

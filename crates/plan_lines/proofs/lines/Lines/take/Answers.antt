@@ -5,7 +5,7 @@ use Rattle.plan_lines.proofs.lines.Lines.take.Goals as goal
 
 pub returns : goal.returns
 returns c =
-    let behind = c.in_ok-self-inside.field-0.now in
-    let pieces : lines c.self.inside.rest.now ≡ c.cut.result.0.now ∷ lines behind = rw c.in_ok-self-inside.was at c.cut.ensures.parts in
-    let whole : c.self.inside.rest.now ≡ line (words c.cut.result.0.now) ++ behind = first_line _ _ _ pieces in
+    let after = c.in_ok-self-inside.field-0.now in
+    let pieces : lines c.self.inside.rest.now ≡ c.cut.result.0.now ∷ lines after = rw c.in_ok-self-inside.was at c.cut.ensures.parts in
+    let whole : c.self.inside.rest.now ≡ line (words c.cut.result.0.now) ++ after = first_line _ _ _ pieces in
     record { taken = cc (whole, c.self.view_is, c.of.ensures.makes) }

@@ -1,8 +1,5 @@
 use Rattle.std.proofs.Common.{nat_le, refl, arith}
-use Rattle.std.proofs.lemmas.Bool.{not-false}
-use Rattle.triggered_ops.specs.Operations.{Operation, waits_on, told, with_posted}
-use Rattle.portals_ni.specs.declared.armed.Armed.{Armed}
-use Rattle.portals_ni.specs.Uses.{HasSlots}
+use Rattle.triggered_ops.specs.Operations.{waits_on, told, with_posted}
 use Rattle.portals_ni.proofs.Uses.{used-told, used-posted, room-raise, room-counter, room-get, room-put}
 use Rattle.portals_ni.proofs.triggers.Triggers.post.Goals as goal
 
@@ -29,19 +26,13 @@ add-requires-3 c =
 pub invariant_of-self : goal.invariant_of-self
 invariant_of-self c =
     let t = c.self.inside in
-    rw c.reached.ensures.does (used-told (waits_on c.args.ct) c.args.sum t.pending t.cts t.mds c.self.invariant)
+    rw c.in_err-number.ensures.err (used-told (waits_on c.args.ct) c.args.sum t.pending t.cts t.mds c.self.invariant)
 
 pub invariant_of-self-2 : goal.invariant_of-self-2
 invariant_of-self-2 c =
     let t = c.self.inside in
-    rw c.in_err-number.ensures.err (used-told (waits_on c.args.ct) c.args.sum t.pending t.cts t.mds c.self.invariant)
-
-pub invariant_of-self-3 : goal.invariant_of-self-3
-invariant_of-self-3 c =
-    let t = c.self.inside in
     let ops = told c.args.ct c.args.sum t.pending in
-    let w : Operation Armed = record { number = t.pending.given; deed = c.args.armed; ct = c.args.ct; threshold = c.args.threshold; due = nat_le c.args.threshold c.args.sum } in
-    let has : HasSlots t.cts t.mds w = c.have_slots.ensures (not-false c.have_slots.result c.if-not-have_slots.false) in
     rw (c.in_ok-number.ensures.ok, c.add.ensures.does, c.raise.ensures.does, c.deed_counter-counter.ensures, c.add-3.ensures.does, c.add-2.ensures.does, c.get_md-get.ensures, c.put_md-put.ensures)
-    (used-posted ops (with_posted c.args.armed c.args.ct c.args.threshold c.args.sum ops) w t.cts t.mds
-    (used-told (waits_on c.args.ct) c.args.sum t.pending t.cts t.mds c.self.invariant) has refl)
+    (used-posted ops (with_posted c.args.armed c.args.ct c.args.threshold c.args.sum ops)
+    (record { number = t.pending.given; deed = c.args.armed; ct = c.args.ct; threshold = c.args.threshold; due = nat_le c.args.threshold c.args.sum }) t.cts t.mds
+    (used-told (waits_on c.args.ct) c.args.sum t.pending t.cts t.mds c.self.invariant) refl)

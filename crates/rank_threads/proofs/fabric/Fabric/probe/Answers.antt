@@ -4,7 +4,7 @@ use lib.ListN.{get_elem?}
 use Rattle.atomic_table.proofs.Lists.{set_else, set_here}
 use Rattle.shape_plans.specs.Drawing.{plan_of}
 use Rattle.turn_table.specs.Hands.{Took}
-use Rattle.rest_probe.specs.declared.notes.Noted.{Noted}
+use Rattle.rest_probe.specs.declared.notes.RankNote.{RankNote}
 use Rattle.rest_probe.specs.Waves.{IsFor}
 use Rattle.rest_probe.proofs.Kept.{for-set}
 use Rattle.rank_threads.specs.Chronicles.{chronicle}
@@ -44,9 +44,9 @@ returns-clause-noted g c = let t = c.take-slot in let x = t.result.value in let 
     let y = exists_at w r low in let e = c.note_in.ensures y.0 y.1 in (
       mark x,
       one,
-      λ z at. (let same = same_at (slice_set w r e.0) r e.0 z (set_here w r e.0 low) (ap (λ (l : List Noted). get_elem? l r) (sym e.1) ∙ at) in (
-        sym (ap (λ (v : Noted). v.there) same) ∙ e.2.there,
-        subst (λ (v : Noted). Says now.job r (history x) x.node.value.kept v.note) same
+      λ z at. (let same = same_at (slice_set w r e.0) r e.0 z (set_here w r e.0 low) (ap (λ (l : List RankNote). get_elem? l r) (sym e.1) ∙ at) in (
+        sym (ap (λ (v : RankNote). v.there) same) ∙ e.2.there,
+        subst (λ (v : RankNote). Says now.job r (history x) x.node.value.kept v.note) same
             (says now.job t.ensures.sound now.wires t.ensures.lanes r x t.ensures.named w c.requires.lanes y.0 e.0 t.ensures.kept e.2),
       )),
     )
@@ -55,7 +55,7 @@ pub returns-clause-others : goal.returns-clause-others
 returns-clause-others g c = λ q apart. let t = c.take-slot in let w = c.args.wave.now in let r = c.args.rank in
     let low : r < length w = (let n = c.requires.lanes.count in let s = t.ensures.sound.ranks in let h = c.requires.rank in omega (arith, n, s, h)) in
     let y = exists_at w r low in let e = c.note_in.ensures y.0 y.1 in
-    ap (λ (l : List Noted). get_elem? l q) e.1 ∙ set_else w r q e.0 apart
+    ap (λ (l : List RankNote). get_elem? l q) e.1 ∙ set_else w r q e.0 apart
 
 pub returns-clause-lanes : goal.returns-clause-lanes
 returns-clause-lanes g c = let t = c.take-slot in let w = c.args.wave.now in let r = c.args.rank in

@@ -2,7 +2,7 @@ use Rattle.std.proofs.Common.{◌≡◌, ◌≢◌, ◌∙◌, ⊎_elim, false, 
 use Rattle.std.proofs.lemmas.Bool.{cases_eq}
 use lib.ListN.{get_elem?}
 use Rattle.shape_plans.specs.Drawing.{plan_of}
-use Rattle.rest_probe.specs.declared.notes.Noted.{Noted}
+use Rattle.rest_probe.specs.declared.notes.RankNote.{RankNote}
 use Rattle.rest_probe.specs.Waves.{IsFor}
 use Rattle.rest_probe.proofs.Kept.{for-emptied}
 use Rattle.rank_threads.specs.Fabrics.{FabricState, IsFabric}
@@ -17,7 +17,7 @@ loop-rank-init g c = let now = c.args.self.now in let p = plan_of now.job.shape 
   lanes = subst (IsFor p) (sym c.clear.ensures) (for-emptied p c.args.wave.now c.requires.lanes);
   there = λ r x low at. absurd (omega (arith, low));
   noted = none-noted now.job c.args.hand.now.knows c.clear.new.self;
-  later = λ r x low at. (let z = at_map_back (λ (v : Noted). record v { there = false }) c.args.wave.now r x (ap (λ (l : List Noted). get_elem? l r) (sym c.clear.ensures) ∙ at) in ap (λ (v : Noted). v.there) (sym z.2));
+  later = λ r x low at. (let z = at_map_back (λ (v : RankNote). record v { there = false }) c.args.wave.now r x (ap (λ (l : List RankNote). get_elem? l r) (sym c.clear.ensures) ∙ at) in ap (λ (v : RankNote). v.there) (sym z.2));
 }
 
 pub probe-requires-clause-rank : goal.probe-requires-clause-rank

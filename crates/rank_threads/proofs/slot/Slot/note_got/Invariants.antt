@@ -1,7 +1,7 @@
 use Rattle.std.proofs.Common.{◌≡◌}
 use mathlib.Core.Option.{some}
 use lib.ListN.{get_elem?}
-use Rattle.rest_probe.specs.declared.notes.Noted.{Noted}
+use Rattle.rest_probe.specs.declared.notes.RankNote.{RankNote}
 use Rattle.rest_probe.specs.Waves.{with_got}
 use Rattle.rank_threads.specs.Names.{history}
 use Rattle.rank_threads.specs.Probes.{CountsGot}
@@ -9,4 +9,4 @@ use Rattle.rank_threads.proofs.Probing.{Sofar}
 use Rattle.rank_threads.proofs.slot.Slot.note_got.Given as goal
 
 abbrev pub invariant-loop-i : goal.invariant-loop-i
-invariant-loop-i l = (x : Noted) → get_elem? l.initial.wave l.rank ≡ some x → Sofar with_got (CountsGot (history l.self)) x.note.got l.i l.rank x l.initial.wave l.wave
+invariant-loop-i l = (x : RankNote) → get_elem? l.initial.wave l.rank ≡ some x → Sofar with_got (CountsGot (history l.self)) x.note.got l.i l.rank x l.initial.wave l.wave

@@ -1,6 +1,6 @@
 use Rattle.std.proofs.Common.{◌∙◌, length, ap, refl, sym, arith}
 use lib.ListN.{get_elem?}
-use Rattle.rest_probe.specs.declared.notes.Noted.{Noted}
+use Rattle.rest_probe.specs.declared.notes.RankNote.{RankNote}
 use Rattle.rest_probe.specs.declared.notes.ProbeNote.{ProbeNote}
 use Rattle.rest_probe.specs.Waves.{with_sent}
 use Rattle.rest_probe.proofs.Kept.{as-many}
@@ -19,7 +19,7 @@ note-requires-in-loop-i-clause-rank c = let w = c.args.wave.now in let r = c.arg
 pub note-requires-in-loop-i-clause-there : goal.note-requires-in-loop-i-clause-there
 note-requires-in-loop-i-clause-there c = λ z at. let w = c.args.wave.now in let r = c.args.rank in let y = exists_at w r c.requires.rank in
     let h = c.loop-i.invariant y.0 y.1 in let here = set-is w c.loop-i.wave r (with_sent y.0 h.counts) c.requires.rank h.wave in
-    ap (λ (v : Noted). v.there) (sym (same_at c.loop-i.wave r (with_sent y.0 h.counts) z here at)) ∙ c.requires.there y.0 y.1
+    ap (λ (v : RankNote). v.there) (sym (same_at c.loop-i.wave r (with_sent y.0 h.counts) z here at)) ∙ c.requires.there y.0 y.1
 
 pub at-lane-requires : goal.at-lane-requires
 at-lane-requires c = let w = c.args.wave.now in let r = c.args.rank in let y = exists_at w r c.requires.rank in
@@ -41,12 +41,12 @@ set_sent-requires-clause-rank c = let w = c.args.wave.now in let r = c.args.rank
 pub set_sent-requires-clause-there : goal.set_sent-requires-clause-there
 set_sent-requires-clause-there c = λ z at. let w = c.args.wave.now in let r = c.args.rank in let y = exists_at w r c.requires.rank in
     let h = c.loop-i.invariant y.0 y.1 in let here = set-is w c.loop-i.wave r (with_sent y.0 h.counts) c.requires.rank h.wave in
-    ap (λ (v : Noted). v.there) (sym (same_at c.loop-i.wave r (with_sent y.0 h.counts) z here at)) ∙ c.requires.there y.0 y.1
+    ap (λ (v : RankNote). v.there) (sym (same_at c.loop-i.wave r (with_sent y.0 h.counts) z here at)) ∙ c.requires.there y.0 y.1
 
 pub set_sent-requires-clause-lane : goal.set_sent-requires-clause-lane
 set_sent-requires-clause-lane c = λ z at. let w = c.args.wave.now in let r = c.args.rank in let y = exists_at w r c.requires.rank in
     let h = c.loop-i.invariant y.0 y.1 in let here = set-is w c.loop-i.wave r (with_sent y.0 h.counts) c.requires.rank h.wave in
-    let one = ap (λ (v : Noted). length v.note.sent) (same_at c.loop-i.wave r (with_sent y.0 h.counts) z here at) in
+    let one = ap (λ (v : RankNote). length v.note.sent) (same_at c.loop-i.wave r (with_sent y.0 h.counts) z here at) in
     let many = as-many y.0.note.sent h.counts h.lanes in
     let first = ap (λ (v : ProbeNote). length v.sent) (c.note.ensures y.0 y.1) in let count = c.len-count.ensures in let t = c.loop-i-test.true in
     omega (arith, one, many, first, count, t)

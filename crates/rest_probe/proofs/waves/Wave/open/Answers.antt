@@ -4,7 +4,7 @@ use lib.ListN.{get_elem?}
 use Rattle.coll_shape.specs.Outline.{Outline}
 use Rattle.shape_plans.specs.Drawing.{plan_of}
 use Rattle.rest_probe.specs.declared.notes.LaneCount.{LaneCount}
-use Rattle.rest_probe.specs.declared.notes.Noted.{Noted}
+use Rattle.rest_probe.specs.declared.notes.RankNote.{RankNote}
 use Rattle.rest_probe.specs.Counted.{cleared}
 use Rattle.rest_probe.specs.Waves.{IsFor, IsRoomFor}
 use Rattle.rest_probe.proofs.Elements.{all-more}
@@ -16,8 +16,8 @@ loop-r-preserved c =
     let i = c.loop-r.invariant in let p = c.in_ok-push.ensures.items in let old = c.loop-r.places.items in let x = c.in_ok-bare.field-0 in let e = c.in_ok-bare.ensures in
     let plan = plan_of c.args.schedule.now in
     let here : IsRoomFor plan c.loop-r.r x = record { there = e.there; sent = e.sent; got = e.got } in record {
-      count = (let a = ap (λ (l : List Noted). length l) p in let b = length-append old (x ∷ []) in let k = i.count in omega (arith, a, b, k));
-      each = λ r y at. all-more (IsRoomFor plan) old x i.each (subst (λ n. IsRoomFor plan n x) (sym i.count) here) r y (ap (λ (l : List Noted). get_elem? l r) (sym p) ∙ at);
+      count = (let a = ap (λ (l : List RankNote). length l) p in let b = length-append old (x ∷ []) in let k = i.count in omega (arith, a, b, k));
+      each = λ r y at. all-more (IsRoomFor plan) old x i.each (subst (λ n. IsRoomFor plan n x) (sym i.count) here) r y (ap (λ (l : List RankNote). get_elem? l r) (sym p) ∙ at);
     }
 
 pub returns-clause-lanes : goal.returns-clause-lanes

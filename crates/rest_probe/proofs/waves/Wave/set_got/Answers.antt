@@ -3,7 +3,7 @@ use Rattle.std.specs.Prelude.{slice_set}
 use lib.ListN.{get_elem?}
 use Rattle.atomic_table.proofs.Lists.{at_index}
 use Rattle.rest_probe.specs.declared.notes.LaneCount.{LaneCount}
-use Rattle.rest_probe.specs.declared.notes.Noted.{Noted}
+use Rattle.rest_probe.specs.declared.notes.RankNote.{RankNote}
 use Rattle.rest_probe.specs.Counted.{counted}
 use Rattle.rest_probe.specs.Waves.{with_got}
 use Rattle.rest_probe.proofs.Elements.{same-at}
@@ -11,13 +11,13 @@ use Rattle.rest_probe.proofs.waves.Wave.set_got.Goals as goal
 
 pub set-requires : goal.set-requires
 set-requires c = let is = c.self.view_is in let old = c.self.inside.ranks.items in let m = c.index_mut-place.result.now in
-    let here = at_index old c.args.r m (subst (λ (l : List Noted). c.args.r < length l) (sym is) c.requires.rank) c.index_mut-place.ensures.value in
-    c.requires.lane m (ap (λ (l : List Noted). get_elem? l c.args.r) (sym is) ∙ here)
+    let here = at_index old c.args.r m (subst (λ (l : List RankNote). c.args.r < length l) (sym is) c.requires.rank) c.index_mut-place.ensures.value in
+    c.requires.lane m (ap (λ (l : List RankNote). get_elem? l c.args.r) (sym is) ∙ here)
 
 pub returns : goal.returns
 returns c = λ x count there at. let is = c.self.view_is in let old = c.self.inside.ranks.items in let m = c.index_mut-place.result.now in
-    let here = at_index old c.args.r m (subst (λ (l : List Noted). c.args.r < length l) (sym is) c.requires.rank) c.index_mut-place.ensures.value in
-    let one = same-at old c.args.r m x here (ap (λ (l : List Noted). get_elem? l c.args.r) is ∙ there) in
+    let here = at_index old c.args.r m (subst (λ (l : List RankNote). c.args.r < length l) (sym is) c.requires.rank) c.index_mut-place.ensures.value in
+    let one = same-at old c.args.r m x here (ap (λ (l : List RankNote). get_elem? l c.args.r) is ∙ there) in
     let now : c.set.new.self ≡ slice_set x.note.got c.args.i (counted count c.args.number) =
-    c.set.ensures count (ap (λ (z : Noted). get_elem? z.note.got c.args.i) one ∙ at) ∙ ap (λ (z : Noted). slice_set z.note.got c.args.i (counted count c.args.number)) one in
+    c.set.ensures count (ap (λ (z : RankNote). get_elem? z.note.got c.args.i) one ∙ at) ∙ ap (λ (z : RankNote). slice_set z.note.got c.args.i (counted count c.args.number)) one in
     λ k. set (is k) c.args.r (with_got (one k) (now k))

@@ -3,16 +3,16 @@ use Rattle.std.specs.Prelude.{is_some, slice_set}
 use Rattle.ni_model.specs.Tables.{handle, is_full}
 use Rattle.ni_model.specs.Lists.{index_at}
 use Rattle.ni_model.specs.Append.{is_allocated, fresh, linked_at}
-use Rattle.target_engine.specs.Shelves.{seen_in}
+use Rattle.target_engine.specs.PortalTable.{seen_in}
 use Rattle.target_engine.proofs.Counted.{counted-linked, counted-room, queues-linked, whole-lent}
 use Rattle.target_engine.proofs.Kept.{full-kept, or-right, kept-linked, kept-may_link}
-use Rattle.target_engine.proofs.Placed.{placed-slot}
+use Rattle.target_engine.proofs.Recorded.{placed-slot}
 use Rattle.target_engine.proofs.target.Target.link.Goals as goal
 
 pub unreachable-requires : goal.unreachable-requires
 unreachable-requires c =
-    let full : is_full c.self.inside.records.places ≡ true = c.in-Err.ensures.full.0 refl in
-    let not_full : is_full c.self.inside.records.places ≡ false = or-right _ _ (full-kept c.self.inside.limit c.self.inside.linked c.self.inside.indices.items c.self.inside.records.places c.self.inside.headers c.self.invariant.kept ∙ rw (← c.self.view_is) at c.requires.room) in
+    let full : is_full c.self.inside.records.by_entry ≡ true = c.in-Err.ensures.full.0 refl in
+    let not_full : is_full c.self.inside.records.by_entry ≡ false = or-right _ _ (full-kept c.self.inside.limit c.self.inside.linked c.self.inside.indices.items c.self.inside.records.by_entry c.self.inside.headers c.self.invariant.kept ∙ rw (← c.self.view_is) at c.requires.room) in
     cc
 
 pub add-requires : goal.add-requires
@@ -26,7 +26,7 @@ link_at-requires-clause-there c = ap (λ x. is_some (index_at c.args.pt (seen_in
 pub link_at-requires-clause-may : goal.link_at-requires-clause-may
 link_at-requires-clause-may c =
     let room = rw (← c.self.view_is) at c.requires.room in
-    rw c.deref_mut.ensures.value (kept-may_link c.in-Ok.me.slot c.self.inside.limit c.self.inside.linked c.self.inside.indices.items c.self.inside.records.places c.self.inside.headers c.self.invariant.kept room c.in-Ok.ensures.slot c.in-Ok.ensures.free)
+    rw c.deref_mut.ensures.value (kept-may_link c.in-Ok.me.slot c.self.inside.limit c.self.inside.linked c.self.inside.indices.items c.self.inside.records.by_entry c.self.inside.headers c.self.invariant.kept room c.in-Ok.ensures.slot c.in-Ok.ensures.free)
 
 pub invariant_of-self : goal.invariant_of-self
 invariant_of-self c =
@@ -39,17 +39,17 @@ invariant_of-self c =
     let me = c.in-Ok.me in
     let stays = c.link_at.auto.indices in
     let kept =
-    kept-linked i.limit i.indices.len pt me.slot i.linked c.args.list entry me i.indices.items was new i.records.places c.insert.new.self i.headers c.self.invariant.kept c.deref_mut.ensures.value (stays ∙ c.deref_mut.ensures.len)
+    kept-linked i.limit i.indices.len pt me.slot i.linked c.args.list entry me i.indices.items was new i.records.by_entry c.insert.new.self i.headers c.self.invariant.kept c.deref_mut.ensures.value (stays ∙ c.deref_mut.ensures.len)
     c.link_at.ensures.after c.link_at.ensures.kept c.in-Ok.ensures.ok (ap (λ n. handle me.slot n) c.in-Ok.ensures.stamp) there c.in-Ok.ensures.free in
     whole-lent i.limit i.indices.len (i.linked + 1) i.indices.items was new (slice_set (seen_in i.indices.items) pt (linked_at c.args.list (fresh me entry) (index_at pt (seen_in i.indices.items))))
-    (record i.records { places = c.insert.new.self; cts = c.add.new.self }) i.headers i.eqs
+    (record i.records { by_entry = c.insert.new.self; cts = c.add.new.self }) i.headers i.eqs
     c.deref_mut.ensures.value stays (stays ∙ c.deref_mut.ensures.len) kept
-    (rw (c.in-Ok.ensures.ok, c.add.ensures.does) (counted-linked me.slot pt entry.ct i.headers.noted i.records c.self.invariant.counted))
+    (rw (c.in-Ok.ensures.ok, c.add.ensures.does) (counted-linked me.slot pt entry.ct i.headers.unexpected i.records c.self.invariant.counted))
     (c.link_at.ensures.after ∙ ap (λ x. slice_set (seen_in x) pt (linked_at c.args.list (fresh me entry) (index_at pt (seen_in x)))) c.deref_mut.ensures.value)
     (queues-linked pt c.args.list (fresh me entry) (seen_in i.indices.items) i.eqs c.self.invariant.queues) c.self.invariant.long c.self.invariant.small
 
 pub returns-clause-free : goal.returns-clause-free
-returns-clause-free c = rw (← c.self.view_is) (placed-slot c.in-Ok.me.slot (seen_in c.self.inside.indices.items) c.self.inside.headers.noted c.self.inside.records.places c.self.invariant.kept.placed c.in-Ok.ensures.free)
+returns-clause-free c = rw (← c.self.view_is) (placed-slot c.in-Ok.me.slot (seen_in c.self.inside.indices.items) c.self.inside.headers.unexpected c.self.inside.records.by_entry c.self.invariant.kept.placed c.in-Ok.ensures.free)
 
 pub returns-clause-below : goal.returns-clause-below
 returns-clause-below c = rw (← c.self.view_is) (omega (arith, c.in-Ok.ensures.slot, c.self.invariant.kept.limit))

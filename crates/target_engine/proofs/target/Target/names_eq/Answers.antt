@@ -1,5 +1,5 @@
 use Rattle.std.proofs.Common.{◌≡◌, sym, ◌∙◌}
-use Rattle.target_engine.specs.Shelves.{seen_in}
+use Rattle.target_engine.specs.PortalTable.{seen_in}
 use Rattle.target_engine.proofs.Counted.{names-eq}
 use Rattle.target_engine.proofs.target.Target.names_eq.Goals as goal
 

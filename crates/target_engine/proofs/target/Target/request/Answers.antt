@@ -1,6 +1,6 @@
 use Rattle.std.proofs.Common.{◌≡◌, Some, length, ap, sym, ◌∙◌}
 use Rattle.ni_model.specs.Arrive.{chosen}
-use Rattle.target_engine.specs.Shelves.{seen_in}
+use Rattle.target_engine.specs.PortalTable.{seen_in}
 use Rattle.target_engine.proofs.Within.{chosen-within, chosen-linked}
 use Rattle.target_engine.proofs.Choosing.{chosen-named}
 use Rattle.target_engine.proofs.target.Target.request.Goals as goal
@@ -22,4 +22,4 @@ accept-requires-clause-entry c =
     let at : seen_in c.deref.result.now ≡ c.args.self.now.indices = ap seen_in c.deref.ensures.value ∙ ap (λ s. s.indices) c.self.view_is in
     let e : chosen c.header.result.now c.args.self.now.indices ≡ Some c.in-Some.found = rw (← at) (sym c.chosen_in.ensures ∙ c.in-Some.is) in
     let placed = rw (ap (λ s. s.indices) c.self.view_is) at c.self.invariant.kept.placed in
-    rw (← c.header.ensures) (chosen-named c.header.result.now c.args.self.now.indices c.in-Some.found c.self.inside.headers.noted c.self.inside.records.places placed e)
+    rw (← c.header.ensures) (chosen-named c.header.result.now c.args.self.now.indices c.in-Some.found c.self.inside.headers.unexpected c.self.inside.records.by_entry placed e)

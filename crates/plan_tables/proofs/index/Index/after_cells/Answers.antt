@@ -2,7 +2,7 @@
 use Rattle.std.proofs.Common.{ℕ, ◌≡◌, ◌<◌, ◌∙◌, ap, arith, get_or, length}
 use Rattle.plan_calls.specs.Areas.{region_length}
 use Rattle.plan_tables.proofs.Passes.{get-row, length-table}
-use Rattle.plan_tables.proofs.index.Index.behind.Goals as goal
+use Rattle.plan_tables.proofs.index.Index.after_cells.Goals as goal
 
 pub at-requires : goal.at-requires
 at-requires c = let e = length-table (region_length c.args.plan.now) c.args.plan.now.ranks c.args.self.now.lengths c.requires.index.lengths in let h = c.requires.rank in omega (arith, e, h)

@@ -2,7 +2,7 @@
 
 ghost use Rattle.std.specs.Prelude.{◌≡◌, ◌<◌, ◌^◌};
 ghost use Rattle.ni_model.specs.Tables.{lookup};
-ghost use Rattle.target_engine.specs.Shelves.{is_idle, placed_anew, placed_by, one_more, one_fewer, where_on, headers_in, unlinked_records, records_after, linked_after};
+ghost use Rattle.target_engine.specs.PortalTable.{is_idle, recorded_anew, recorded_by, one_more, one_fewer, where_on, headers_in, unlinked_records, records_after, linked_after};
 
 use crate::measures::is_over;
 use handle_store::{Store, where_set};
@@ -12,7 +12,7 @@ use user_counts::Users;
 
 /// A match entry that is linked, or in whose memory unexpected headers lie.
 #[derive(Clone, Copy)]
-pub struct Placed {
+pub struct EntryRecord {
     /// The portal table index that it was appended to.
     pub pt: u32,
     /// The counting event that it names.
@@ -28,14 +28,14 @@ pub struct Placed {
 #[derive(Drop)]
 pub struct Records {
     /// The record of each entry that is linked, or in whose memory headers lie.
-    pub places: Store<Placed>,
+    pub by_entry: Store<EntryRecord>,
     /// How many linked entries name the counting event of each slot.
     pub cts: Users,
     /// How many headers wait at each index.
     pub waiting: Users,
 }
 
-impl Placed {
+impl EntryRecord {
     /// Whether nothing needs the record any more.
     fn is_idle(&self) -> bool
         ensures { result ≡ is_idle self.now }
@@ -45,65 +45,69 @@ impl Placed {
 }
 
 /// Puts the record of an entry in the place of its old one; it goes where nothing needs it.
-fn place_anew(places: &mut Store<Placed>, entry: Handle, to: Placed)
-    ensures { places.new ≡ placed_anew entry to places.old }
+fn record_anew(by_entry: &mut Store<EntryRecord>, entry: Handle, to: EntryRecord)
+    ensures { by_entry.new ≡ recorded_anew entry to by_entry.old }
 {
     if to.is_idle() {
-        let _ = places.remove(entry);
-    } else if let Some(placed) = places.get_mut(entry) {
+        let _ = by_entry.remove(entry);
+    } else if let Some(placed) = by_entry.get_mut(entry) {
         *placed = to;
     }
 }
 
 /// The record of the entry, where it is linked.
-pub fn linked_record(places: &Store<Placed>, entry: Handle) -> Option<Placed>
-    ensures { result ≡ where_on (lookup entry places.now.live) }
+pub fn linked_record(by_entry: &Store<EntryRecord>, entry: Handle) -> Option<EntryRecord>
+    ensures { result ≡ where_on (lookup entry by_entry.now.live) }
 {
-    match places.get(entry) {
+    match by_entry.get(entry) {
         Some(placed) if placed.linked => Some(*placed),
         _ => None,
     }
 }
 
 /// How many headers lie in the entry's memory.
-pub fn headers_of(places: &Store<Placed>, entry: Handle) -> u64
-    ensures { result ≡ headers_in (lookup entry places.now.live) }
+pub fn headers_of(by_entry: &Store<EntryRecord>, entry: Handle) -> u64
+    ensures { result ≡ headers_in (lookup entry by_entry.now.live) }
 {
-    match places.get(entry) {
+    match by_entry.get(entry) {
         Some(placed) => placed.headers,
         None => 0,
     }
 }
 
 /// A header more lies in the entry's memory.
-pub fn add_header(places: &mut Store<Placed>, entry: Handle)
-    requires { headers_in (lookup entry places.old.live) < 2 ^ 32 }
-    ensures { places.new ≡ placed_by entry one_more places.old }
+pub fn add_header(by_entry: &mut Store<EntryRecord>, entry: Handle)
+    requires { headers_in (lookup entry by_entry.old.live) < 2 ^ 32 }
+    ensures { by_entry.new ≡ recorded_by entry one_more by_entry.old }
 {
-    if let Some(placed) = places.get(entry).copied() {
+    if let Some(placed) = by_entry.get(entry).copied() {
         let headers = placed.headers + 1;
-        place_anew(places, entry, Placed { headers, ..placed });
+        record_anew(by_entry, entry, EntryRecord { headers, ..placed });
     }
 }
 
 /// A header fewer lies there.
-pub fn drop_header(places: &mut Store<Placed>, entry: Handle)
-    ensures { places.new ≡ placed_by entry one_fewer places.old }
+pub fn drop_header(by_entry: &mut Store<EntryRecord>, entry: Handle)
+    ensures { by_entry.new ≡ recorded_by entry one_fewer by_entry.old }
 {
-    if let Some(placed) = places.get(entry).copied() {
+    if let Some(placed) = by_entry.get(entry).copied() {
         let headers = placed.headers.saturating_sub(1);
-        place_anew(places, entry, Placed { headers, ..placed });
+        record_anew(by_entry, entry, EntryRecord { headers, ..placed });
     }
 }
 
 /// The entry isn't linked any more, and doesn't use the counting event that it names.
-pub fn unlink_place(records: &mut Records, entry: Handle)
+pub fn unlink_record(records: &mut Records, entry: Handle)
     ensures { records.new ≡ unlinked_records entry records.old }
 {
-    if let Some(placed) = records.places.get(entry).copied() {
+    if let Some(placed) = records.by_entry.get(entry).copied() {
         records.cts.remove(where_set(placed.linked, placed.ct));
         let linked = false;
-        place_anew(&mut records.places, entry, Placed { linked, ..placed });
+        record_anew(
+            &mut records.by_entry,
+            entry,
+            EntryRecord { linked, ..placed },
+        );
     }
 }
 
@@ -113,7 +117,7 @@ pub fn forget(records: &mut Records, linked: &mut u32, found: &Found, header: &H
     ensures linked { linked.new ≡ linked_after found.now header.now linked.old }
 {
     if is_over(&found.linked, header) {
-        unlink_place(records, found.linked.handle);
+        unlink_record(records, found.linked.handle);
         *linked = linked.saturating_sub(1);
     }
 }
