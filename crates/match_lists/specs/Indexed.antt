@@ -1,5 +1,5 @@
 -- What holds of a match list and the threads by which a message finds its entries.
-use Rattle.std.specs.Prelude.{◌≡◌, ℕ, ◌+◌, ◌<◌, Bool, nat_lt, List, [], ◌∷◌, map, find, length, Option, Some, None, if◌then◌else◌}
+use Rattle.std.specs.Prelude.{◌≡◌, ℕ, ◌+◌, ◌<◌, Bool, nat_lt, List, [], ◌∷◌, map, find, length, All, Option, Some, None, if◌then◌else◌}
 use Rattle.ptl_types.specs.declared.headers.Header.{Header}
 use Rattle.chain_list.specs.declared.chain.ChainKey.{ChainKey}
 use Rattle.chain_list.specs.Chain.{Keyed, ChainList}
@@ -7,7 +7,7 @@ use Rattle.place_threads.specs.Threads.{Woven, thread}
 use Rattle.ni_model.specs.declared.Linked.{Linked}
 use Rattle.ni_model.specs.Lists.{fits}
 use Rattle.match_lists.specs.declared.look.Look.{Look}
-use Rattle.match_lists.specs.Looks.{AllSeen}
+use Rattle.match_lists.specs.Looks.{IsSeen}
 use Rattle.match_lists.specs.Buckets.{on_thread, whole_thread, upper_48_thread, upper_24_thread, last_thread}
 
 -- where the entries lie
@@ -44,7 +44,7 @@ pub record IsIndexed (chain : ChainList Linked) (threads : Woven) (limit : ℕ) 
 pub record IsMatchList (chain : ChainList Linked) (threads : Woven) (looks : List Look) (limit : ℕ) : Type 0 where
   pub indexed : IsIndexed chain threads limit
   pub room_of_looks : length looks ≡ limit
-  pub seen : AllSeen looks chain.entries
+  pub seen : All (IsSeen looks) chain.entries
 
 -- the key of an entry
 abbrev pub key_of : Option (Keyed Linked) → Option ChainKey

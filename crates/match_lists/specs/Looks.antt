@@ -1,5 +1,5 @@
 -- What the search for the entry that takes a message reads of each entry.
-use Rattle.std.specs.Prelude.{◌≡◌, ◌<◌, List, [], ◌∷◌, length, get_or}
+use Rattle.std.specs.Prelude.{◌≡◌, ◌<◌, List, length, get_or}
 use Rattle.ni_model.specs.declared.Linked.{Linked}
 use Rattle.chain_list.specs.Chain.{Keyed}
 use Rattle.match_lists.specs.declared.look.Look.{Look}
@@ -18,8 +18,3 @@ look_of x = record {
 -- at the place of an entry lies its look
 abbrev pub IsSeen : List Look → Keyed Linked → Type 0
 IsSeen looks x = (x.key.place < length looks) × (get_or looks x.key.place (look_of x.value) ≡ look_of x.value)
-
--- at the place of each
-abbrev pub AllSeen : List Look → List (Keyed Linked) → Type 0
-AllSeen looks [] = Unit {0}
-AllSeen looks (x ∷ xs) = IsSeen looks x × AllSeen looks xs

@@ -1,11 +1,11 @@
 //! One match list: its entries in order, and threads through them by their match bits.
-ghost use Rattle.std.specs.Prelude.{◌≡◌, ◌<◌, ◌≤◌, ◌+◌, ◌-◌, ◌*◌, ◌^◌, ◌++◌, ◌∷◌, [], None, IsSome, IfOk, IfSome, IfNone, length, find, option_copied};
+ghost use Rattle.std.specs.Prelude.{◌≡◌, ◌<◌, ◌≤◌, ◌+◌, ◌-◌, ◌*◌, ◌^◌, ◌++◌, ◌∷◌, [], None, IsSome, IfOk, IfSome, IfNone, All, length, find, option_copied};
 ghost use Rattle.chain_list.specs.Chain.{chain_list, keyed, value_at, without, changed, Linked as IsLinked, Apart};
 ghost use Rattle.ni_model.specs.Lists.{fits};
 ghost use Rattle.match_lists.specs.Buckets.{bucket_of, buckets_of, thread_of, on_thread, last_thread, candidates_in};
 ghost use Rattle.match_lists.specs.Indexed.{IsIndexed, room, takes, key_of, earlier_of, first_of_threads, on_threads};
 ghost use Rattle.match_lists.specs.Lists.{values, running_at};
-ghost use Rattle.match_lists.specs.Looks.{AllSeen};
+ghost use Rattle.match_lists.specs.Looks.{IsSeen};
 
 use crate::look::{Look, look_of, no_look, takes};
 use chain_list::{Chain, ChainKey, Nodes, Steps};
@@ -80,7 +80,7 @@ fn first_on<L: Ledger>(
     steps: &mut Steps<L>,
 ) -> Option<ChainKey>
     requires indexed { IsIndexed chain.now threads.now limit }
-    requires seen { AllSeen looks.now chain.now.entries }
+    requires seen { All (IsSeen looks.now) chain.now.entries }
     requires thread { thread ≤ last_thread limit }
     ensures key { result ≡ key_of (find (takes header.now) (on_thread limit thread chain.now.entries)) }
     ensures steps { steps.new ≤ steps.old + length (on_thread limit thread chain.now.entries) }
@@ -109,7 +109,7 @@ fn first_key<L: Ledger>(
     steps: &mut Steps<L>,
 ) -> Option<ChainKey>
     requires indexed { IsIndexed chain.now threads.now limit }
-    requires seen { AllSeen looks.now chain.now.entries }
+    requires seen { All (IsSeen looks.now) chain.now.entries }
     ensures key { result ≡ first_of_threads header.now limit chain.now.entries }
     ensures steps { steps.new ≤ steps.old + on_threads limit header.now.match_bits chain.now.entries }
 {

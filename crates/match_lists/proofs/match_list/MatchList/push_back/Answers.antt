@@ -1,7 +1,8 @@
 use Rattle.std.proofs.Common.{◌<◌, [], ◌∷◌, ◌++◌, length, set, sym, ap, subst, ◌∙◌, arith}
+use Rattle.std.specs.Prelude.{All}
 use Rattle.std.proofs.lemmas.List.{length-set}
 use Rattle.match_lists.specs.declared.look.Look.{Look}
-use Rattle.match_lists.specs.Looks.{AllSeen}
+use Rattle.match_lists.specs.Looks.{IsSeen}
 use Rattle.match_lists.proofs.LookLemmas.{seen-push}
 use Rattle.chain_list.specs.Chain.{ChainList, keyed, Apart}
 use Rattle.chain_list.proofs.ChainLemmas.{Apart-before}
@@ -29,13 +30,13 @@ invariant_of-self g c =
     let apart : Apart (c.self.inside.chain.entries ++ x ∷ []) = subst (λ (l : ChainList Linked). Apart l.entries) c.push_back-key.ensures.chain c.nodes-nodes.ensures.apart in
     let looks = c.self.inside.looks.items in
     let lt : x.key.place < length looks = omega (arith, c.push_back-key.ensures.within, c.self.invariant.indexed.full, c.self.invariant.room_of_looks) in
-    let seen = seen-push looks c.self.inside.chain.entries c.self.invariant.seen x (Apart-before c.self.inside.chain.entries x [] apart) lt in
-    let told : AllSeen (set looks x.key.place c.look_of-look.result) (c.self.inside.chain.entries ++ x ∷ []) =
-    subst (λ (k : Look). AllSeen (set looks x.key.place k) (c.self.inside.chain.entries ++ x ∷ [])) (sym c.look_of-look.ensures) seen in
+    let seen = seen-push looks c.self.inside.chain.entries x c.self.invariant.seen (Apart-before c.self.inside.chain.entries x [] apart) lt in
+    let told : All (IsSeen (set looks x.key.place c.look_of-look.result)) (c.self.inside.chain.entries ++ x ∷ []) =
+    subst (λ (k : Look). All (IsSeen (set looks x.key.place k)) (c.self.inside.chain.entries ++ x ∷ [])) (sym c.look_of-look.ensures) seen in
     record {
       indexed = indexed;
       room_of_looks = length-set looks x.key.place c.look_of-look.result ∙ c.self.invariant.room_of_looks;
-      seen = subst (λ (l : ChainList Linked). AllSeen (set looks x.key.place c.look_of-look.result) l.entries) (sym c.push_back-key.ensures.chain) told;
+      seen = subst (λ (l : ChainList Linked). All (IsSeen (set looks x.key.place c.look_of-look.result)) l.entries) (sym c.push_back-key.ensures.chain) told;
     }
 
 pub index_mut-requires : goal.index_mut-requires

@@ -1,9 +1,10 @@
 use Rattle.std.proofs.Common.{◌≡◌, true, sym, ap, subst, ◌∙◌}
+use Rattle.std.specs.Prelude.{All}
 use Rattle.std.specs.Option.{is_some}
 use Rattle.chain_list.specs.Chain.{ChainList, value_at}
 use Rattle.ni_model.specs.declared.Linked.{Linked}
-use Rattle.match_lists.specs.Looks.{AllSeen}
-use Rattle.match_lists.proofs.LookLemmas.{seen-unlink}
+use Rattle.match_lists.specs.Looks.{IsSeen}
+use Rattle.match_lists.proofs.LookLemmas.{seen-without}
 use Rattle.match_lists.proofs.IndexLemmas.{live, threaded-place, IsIndexed-unlink}
 use Rattle.match_lists.proofs.match_list.MatchList.unlink.Goals as goal
 
@@ -20,5 +21,5 @@ invariant_of-self-2 g c =
     record {
       indexed = IsIndexed-unlink c.self.inside.chain c.self.inside.threads c.self.inside.limit c.args.key c.self.invariant.indexed l _ _ c.in_ok-linked.ensures.taken c.unlink-2.ensures;
       room_of_looks = c.self.invariant.room_of_looks;
-      seen = subst (λ (v : ChainList Linked). AllSeen c.self.inside.looks.items v.entries) (sym c.in_ok-linked.ensures.taken) (seen-unlink c.self.inside.looks.items c.self.inside.chain.entries c.self.invariant.seen c.args.key);
+      seen = subst (λ (v : ChainList Linked). All (IsSeen c.self.inside.looks.items) v.entries) (sym c.in_ok-linked.ensures.taken) (seen-without c.self.inside.looks.items c.args.key c.self.inside.chain.entries c.self.invariant.seen);
     }
