@@ -27,8 +27,7 @@ impl Model for Seat {
     ghost view = { λ s. record { kept = s.kept; diary = s.history; nic = s.nic } };
 }
 
-// Written out, so that a caller that lets one go makes one call: a derived one is spelled out, down to each vector, at every return of a
-// caller that has one, and the caller's proof with it.
+// Written out, so that letting one go is one call: docs/DECISIONS.md, "Large types have a drop of their own".
 impl Drop for Seat {
     fn drop(self) {
         let Seat {

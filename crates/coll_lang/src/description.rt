@@ -29,8 +29,7 @@ impl Model for Description {
     ghost invariant = { λ d. ∥ IsReadable (record { shape = d.shape; inputs = d.inputs; choices = d.choices }) ∥₁ };
 }
 
-// Written out, so that a caller that lets one go makes one call: a derived one is spelled out, down to each vector, at every return of a
-// caller that has one, and the caller's proof with it.
+// Written out, so that letting one go is one call: docs/DECISIONS.md, "Large types have a drop of their own".
 impl Drop for Description {
     fn drop(self) {
         let Description {

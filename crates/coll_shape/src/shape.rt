@@ -80,8 +80,7 @@ impl Model for Shape {
     ghost invariant = { λ s. ∥ IsWellFormed (said s.parts) × (s.everyone ≡ from_to 0 s.parts.ranks) ∥₁ };
 }
 
-// Written out, so that a caller that lets one go makes one call: a derived one is spelled out, down to each vector, at every return of a
-// caller that has one, and the caller's proof with it.
+// Written out, so that letting one go is one call: docs/DECISIONS.md, "Large types have a drop of their own".
 impl Drop for Shape {
     fn drop(self) {
         let Shape {

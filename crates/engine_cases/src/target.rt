@@ -47,7 +47,7 @@ struct Host {
     target: Target,
 }
 
-// Written out, so that wherever one goes there is one call.
+// Written out, so that letting one go is one call: docs/DECISIONS.md, "Large types have a drop of their own".
 impl Drop for Host {
     fn drop(self) {
         let Host {

@@ -49,8 +49,7 @@ impl Model for Initiator {
     ghost invariant = { λ i. AreUsers i.limits i.mds i.cts i.eqs };
 }
 
-// Written out, so that a caller that lets one go makes one call: a derived one is spelled out, down to each vector, at every return of a
-// caller that has one, and the caller's proof with it.
+// Written out, so that letting one go is one call: docs/DECISIONS.md, "Large types have a drop of their own".
 impl Drop for Initiator {
     fn drop(self) {
         let Initiator {

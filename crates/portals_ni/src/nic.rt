@@ -41,8 +41,7 @@ impl Model for Nic {
     ghost invariant = { λ n. IsWhole n.target n.region n.cts n.eqs n.initiator n.pending n.drops n.violations };
 }
 
-// Written out, so that wherever an interface goes there is one call: a derived one is spelled out, field by field and down to each
-// vector, at every return of a caller that has an interface, and the caller's proof with it.
+// Written out, so that letting one go is one call: docs/DECISIONS.md, "Large types have a drop of their own".
 impl Drop for Nic {
     fn drop(self) {
         let Nic {

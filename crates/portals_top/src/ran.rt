@@ -14,7 +14,7 @@ pub struct Ran {
     pub choice: Option<ChoiceWorld>,
 }
 
-// Written out, so that wherever one goes there is one call.
+// Written out, so that letting one go is one call: docs/DECISIONS.md, "Large types have a drop of their own".
 impl Drop for Ran {
     fn drop(self) {
         let Ran {

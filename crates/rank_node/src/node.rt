@@ -50,8 +50,7 @@ impl Model for Node {
     ghost invariant = { λ n. IsNode (record { task = task_of n.compiled; kept = n.kept; diary = n.history; nic = n.nic; strays = n.strays; closed = n.gates }) × (length n.buffer.items ≡ n.compiled.longest) };
 }
 
-// Written out, so that a caller that lets one go makes one call: a derived one is spelled out, down to each vector, at every return of a
-// caller that has one, and the caller's proof with it.
+// Written out, so that letting one go is one call: docs/DECISIONS.md, "Large types have a drop of their own".
 impl Drop for Node {
     fn drop(self) {
         let Node {

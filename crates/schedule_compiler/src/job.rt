@@ -33,8 +33,7 @@ impl Model for Job {
     ghost invariant = { λ j. AreInputs j.shared.value.schedule j.shared.value.inputs };
 }
 
-// Written out, so that a caller that lets one go makes one call: a derived one is spelled out, down to each vector, at every return of a
-// caller that has one, and the caller's proof with it.
+// Written out, so that letting one go is one call: docs/DECISIONS.md, "Large types have a drop of their own".
 impl Drop for Job {
     fn drop(self) {
         let Job { shared: _ } = self;

@@ -59,8 +59,7 @@ impl Model for Schedule {
     ghost invariant = { λ s. Keeps s.shape s.plan s.held s.tables };
 }
 
-// Written out, so that a caller that lets one go makes one call: a derived one is spelled out, down to each vector, at every return of a
-// caller that has one, and the caller's proof with it.
+// Written out, so that letting one go is one call: docs/DECISIONS.md, "Large types have a drop of their own".
 impl Drop for Schedule {
     fn drop(self) {
         let Schedule {

@@ -107,8 +107,7 @@ impl Model for Target {
     ghost invariant = { λ t. IsWhole t.limit t.indices.items t.linked t.records t.headers t.eqs };
 }
 
-// Written out, so that a caller that lets one go makes one call: a derived one is spelled out, down to each vector, at every return of a
-// caller that has one, and the caller's proof with it.
+// Written out, so that letting one go is one call: docs/DECISIONS.md, "Large types have a drop of their own".
 impl Drop for Target {
     fn drop(self) {
         let Target {

@@ -81,8 +81,7 @@ impl Model for World {
     ghost invariant = { λ w. AreFields w.job w.setting w.nodes.items w.lanes.items w.starts w.deliveries w.firings };
 }
 
-// Written out, so that a caller that lets one go makes one call: a derived one is spelled out, down to each vector, at every return of a
-// caller that has one, and the caller's proof with it.
+// Written out, so that letting one go is one call: docs/DECISIONS.md, "Large types have a drop of their own".
 impl Drop for World {
     fn drop(self) {
         let World {
