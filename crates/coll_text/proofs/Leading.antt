@@ -2,6 +2,7 @@
 use Rattle.std.proofs.Common.{◌≡◌, ℕ, zero, suc, ◌+◌, ◌-◌, ◌*◌, ◌<◌, ◌≤◌, List, [], ◌∷◌, ◌++◌, length, get_or, take, drop, Some, Bool, true, false, ◌&&◌, not, refl, arith, ap, sym, ◌∙◌}
 use Rattle.std.specs.Prelude.{◌==◌}
 use Rattle.std.specs.List.{list_all}
+use Rattle.std.proofs.Math.Bool.{and-true}
 use Rattle.std.proofs.lemmas.Bool.Decides.{nat_tests}
 use Rattle.std.proofs.lemmas.List.{append-nil, take-append-drop}
 use Rattle.std.proofs.lemmas.List.Folds.{list_all_more}
@@ -57,8 +58,4 @@ lone_digit ds b e h = ap is_number e ∙ (both (is_digit b) true (sym (ap (list_
 pub more_digits : (ds : List ℕ) (b c : ℕ) (bs : List ℕ) → ds ≡ b ∷ c ∷ bs → list_all is_digit ds ≡ true → is_number ds ≡ not (b == 48)
 more_digits ds b c bs e h =
     let p = both (is_digit b) (list_all is_digit (c ∷ bs)) (sym (ap (list_all is_digit) e) ∙ h) in
-    ap is_number e ∙ rw (p.0, p.1) (plain (not (b == 48)))
-  where
-    plain : (x : Bool) → (x && true) ≡ x
-    plain true = refl
-    plain false = refl
+    ap is_number e ∙ rw (p.0, p.1) (and-true (not (b == 48)))
