@@ -222,13 +222,19 @@ fn unlink_in(entries: &mut Vec<Linked>, handle: Handle) {
     entries.retain(|x| !x.handle.is(handle));
 }
 
+/// Puts all entries into a vector, of ascending numbers.
+pub(crate) fn fill_vector(entries: &mut Vec<Linked>, ignored: u64) -> Result<(), AllocError> {
+    for slot in 0..ENTRIES {
+        entries.push(linked(slot, ignored))?;
+    }
+    Ok(())
+}
+
 /// The vector's times; it has no order of places to be lost.
 pub fn on_vector<C: Clock>(rt: &C, alloc: Global) -> io::Result<Times> {
     let mut entries = Vec::with_capacity(alloc, ENTRIES as usize)?;
     let start = Instant::now(rt)?;
-    for slot in 0..ENTRIES {
-        entries.push(linked(slot, 0))?;
-    }
+    fill_vector(&mut entries, 0)?;
     let append = start.elapsed(rt)?;
     let start = Instant::now(rt)?;
     let found = vector_walks(&entries);
@@ -246,6 +252,16 @@ pub fn on_vector<C: Clock>(rt: &C, alloc: Global) -> io::Result<Times> {
         unlink,
         found: found.wrapping_add(entries.len() as u64),
     })
+}
+
+/// The empty lists of an index, with room for all entries.
+pub(crate) fn open_lists(alloc: Global) -> io::Result<Lists>
+    ensures { IfOk result (λ l. l ≡ both [] [] ENTRIES ENTRIES 0) }
+{
+    match Lists::open(alloc, ENTRIES, ENTRIES) {
+        Ok(lists) => Ok(lists),
+        Err(_) => Err(io::Error::from(AllocError)),
+    }
 }
 
 /// Links so many entries, of ascending numbers.
@@ -281,9 +297,7 @@ pub fn on_lists<L: Ledger, C: Clock>(rt: &C, alloc: Global, blank: Blank) -> io:
     requires one { blank.parts ≡ 1 }
 {
     let mut steps = Steps::<L>::start(blank);
-    let Ok(mut lists) = Lists::open(alloc, ENTRIES, ENTRIES) else {
-        return Err(io::Error::from(AllocError));
-    };
+    let mut lists = open_lists(alloc)?;
     let start = Instant::now(rt)?;
     fill_lists(&mut lists, ENTRIES, 0, &mut steps);
     let append = start.elapsed(rt)?;

@@ -1,10 +1,10 @@
 //! Entries that stand in no bucket, so that a find looks at each in order.
 ghost use Rattle.std.specs.Prelude.{◌≡◌};
 
-use crate::load::{ENTRIES, WALKS, fill_lists, header, linked, vector_walks};
+use crate::load::{ENTRIES, WALKS, fill_lists, fill_vector, header, open_lists, vector_walks};
 use chain_list::Steps;
 use match_lists::Lists;
-use std::alloc::{AllocError, Global};
+use std::alloc::Global;
 use std::io;
 use std::sync::ledger::{Blank, Ledger};
 use std::time::{Clock, Duration, Instant};
@@ -42,9 +42,7 @@ pub fn along_lists<L: Ledger, C: Clock>(
     requires one { blank.parts ≡ 1 }
 {
     let mut steps = Steps::<L>::start(blank);
-    let Ok(mut lists) = Lists::open(alloc, ENTRIES, ENTRIES) else {
-        return Err(io::Error::from(AllocError));
-    };
+    let mut lists = open_lists(alloc)?;
     fill_lists(&mut lists, ENTRIES, ignored, &mut steps);
     let start = Instant::now(rt)?;
     let found = finds_again(&lists, &mut steps);
@@ -55,9 +53,7 @@ pub fn along_lists<L: Ledger, C: Clock>(
 /// The walks along a vector.
 pub fn along_vector<C: Clock>(rt: &C, alloc: Global, ignored: u64) -> io::Result<Walks> {
     let mut entries = Vec::with_capacity(alloc, ENTRIES as usize)?;
-    for slot in 0..ENTRIES {
-        entries.push(linked(slot, ignored))?;
-    }
+    fill_vector(&mut entries, ignored)?;
     let start = Instant::now(rt)?;
     let found = vector_walks(&entries);
     let took = start.elapsed(rt)?;
