@@ -77,7 +77,7 @@ fn entries_match_by_bits_and_source(rt: HostRuntime) {
 }
 
 #[test]
-fn what_is_printed(rt: HostRuntime) -> Result<(), Fail> {
+fn an_event_is_printed(rt: HostRuntime) -> Result<(), Fail> {
     let alloc = rt.alloc();
     let event = Event {
         kind: EventKind::PutOverflow,
@@ -100,18 +100,28 @@ fn what_is_printed(rt: HostRuntime) -> Result<(), Fail> {
         got.as_str(),
         "put from overflow from rank 3 at index 1, match bits 0x1f, header data 9, 4 of 8 bytes at 16"
     );
+    Ok(())
+}
+
+#[test]
+fn an_unexpected_header_is_printed(rt: HostRuntime) -> Result<(), Fail> {
     let taken = UnexpectedHeader {
         entry: Handle { slot: 2, stamp: 7 },
         place: 16,
         delivered: 4,
         header: a_put(5, 3),
     };
-    let text = format!(in alloc; "{taken}")?;
+    let text = format!(in rt.alloc(); "{taken}")?;
     assert_eq!(rt;
         text.as_str(),
         "put from rank 3 to rank 0 at index 0, match bits 0x5, header data 0, 2 bytes at offset 0; 4 of its bytes at 16 by entry number 7 in slot 2"
     );
-    let text = format!(in alloc;
+    Ok(())
+}
+
+#[test]
+fn a_count_an_outcome_and_a_fault_are_printed(rt: HostRuntime) -> Result<(), Fail> {
+    let text = format!(in rt.alloc();
         "{}; {}; {}",
         Count {
             success: 2,
@@ -124,6 +134,10 @@ fn what_is_printed(rt: HostRuntime) -> Result<(), Fail> {
         text.as_str(),
         "2 succeeded, 1 failed; taken by a priority entry; out of memory"
     );
-    assert_eq!(rt; Descriptor::over(3, 5).start, 3);
     Ok(())
+}
+
+#[test]
+fn a_plain_descriptor_lies_over_a_part(rt: HostRuntime) {
+    assert_eq!(rt; Descriptor::over(3, 5).start, 3);
 }

@@ -20,6 +20,20 @@ struct Case {
     got: u64,
 }
 
+const UNSTARTED: Case = Case {
+    started: false,
+    ready: Some(4),
+    sent: 1,
+    got: 0,
+};
+
+const READY: Case = Case {
+    started: true,
+    ready: Some(7),
+    sent: 9,
+    got: 9,
+};
+
 fn at_rest(sent: u64, got: u64) -> Case {
     Case {
         started: true,
@@ -68,26 +82,14 @@ fn wave_of(alloc: Global, first: Case, second: Case) -> Result<Wave, NoMemory>
 #[test]
 fn waves_answer_the_lowest_cause(rt: HostRuntime) -> Result<(), Fail> {
     let alloc = rt.alloc();
-    let unstarted = Case {
-        started: false,
-        ready: Some(4),
-        sent: 1,
-        got: 0,
-    };
-    let ready = Case {
-        started: true,
-        ready: Some(7),
-        sent: 9,
-        got: 9,
-    };
     for (first, second, answer) in [
         (at_rest(2, 3), at_rest(3, 2), WaveAnswer::Rest),
-        (unstarted, unstarted, WaveAnswer::NotStarted(0)),
-        (ready, unstarted, WaveAnswer::NotStarted(1)),
-        (ready, ready, WaveAnswer::Ready { rank: 0, number: 7 }),
+        (UNSTARTED, UNSTARTED, WaveAnswer::NotStarted(0)),
+        (READY, UNSTARTED, WaveAnswer::NotStarted(1)),
+        (READY, READY, WaveAnswer::Ready { rank: 0, number: 7 }),
         (
             at_rest(1, 0),
-            ready,
+            READY,
             WaveAnswer::Ready { rank: 1, number: 7 },
         ),
         (
