@@ -1,6 +1,6 @@
 //! A description: a shape, and the values of its inputs, or the steps of a choice text.
 
-ghost use Rattle.std.specs.Prelude.{◌≡◌, ◌≤◌, ◌*◌, length, [], Option, Some, None};
+ghost use Rattle.std.specs.Prelude.{◌≡◌, ◌*◌, length, [], Option, Some, None};
 ghost use Rattle.coll_lang.specs.Language.{described};
 ghost use Rattle.coll_lang.specs.Readable.{IsReadable};
 ghost use Rattle.coll_lang.specs.Seen.{choices_seen};
@@ -8,14 +8,14 @@ ghost use Rattle.coll_lang.specs.States.{past};
 
 use crate::choices::Choices;
 use crate::reader::Reader;
-use coll_shape::{Inputs, Parts, Shape};
+use coll_shape::{Inputs, Shape};
 use std::marker::Model;
 
 /// What a text describes. It keeps that it is readable: its one spelling is read as it.
 pub struct Description {
-    shape: Shape,
-    inputs: Inputs,
-    choices: Option<Choices>,
+    pub(crate) shape: Shape,
+    pub(crate) inputs: Inputs,
+    pub(crate) choices: Option<Choices>,
 }
 
 impl Model for Description {
@@ -41,57 +41,6 @@ impl Drop for Description {
 }
 
 impl Description {
-    /// The description of a text that is no choice text. It takes no memory.
-    #[tactic(auto, unfolding(crate::specs::Language::described))]
-    fn plain(reader: Reader) -> Description
-        requires readable { IsReadable (described (past reader)) }
-        requires none { reader.choices.items ≡ [] }
-        requires lists { length reader.given.items ≡ reader.inputs * reader.ranks }
-        ensures { result ≡ described (past reader) }
-    {
-        let parts = Parts {
-            version: reader.version,
-            ranks: reader.ranks,
-            remote: reader.remote,
-            groups: reader.groups,
-            buffers: reader.buffers,
-            inputs: reader.inputs,
-            steps: reader.steps,
-            on: reader.on,
-            prints: reader.prints,
-        };
-        Description {
-            shape: Shape::of(parts, reader.everyone),
-            inputs: Inputs::of(reader.ranks, reader.inputs, reader.given),
-            choices: None,
-        }
-    }
-
-    /// The description of a choice text. It takes no memory.
-    #[tactic(auto, unfolding(crate::specs::Language::described))]
-    fn chosen(reader: Reader) -> Description
-        requires readable { IsReadable (described (past reader)) }
-        requires some { 1 ≤ length reader.choices.items }
-        ensures { result ≡ described (past reader) }
-    {
-        let parts = Parts {
-            version: reader.version,
-            ranks: reader.ranks,
-            remote: false,
-            groups: Vec::new(reader.alloc),
-            buffers: Vec::new(reader.alloc),
-            inputs: 0,
-            steps: Vec::new(reader.alloc),
-            on: Vec::new(reader.alloc),
-            prints: Vec::new(reader.alloc),
-        };
-        Description {
-            shape: Shape::of(parts, reader.everyone),
-            inputs: Inputs::of(reader.ranks, 0, Vec::new(reader.alloc)),
-            choices: Some(Choices::of(reader.choices, reader.prints)),
-        }
-    }
-
     /// The description that the lines say, where it is readable. It takes no memory.
     pub(crate) fn of(reader: Reader) -> Description
         requires readable { IsReadable (described (past reader)) }
@@ -99,9 +48,9 @@ impl Description {
         ensures { result ≡ described (past reader) }
     {
         if reader.choices.is_empty() {
-            Description::plain(reader)
+            reader.plain()
         } else {
-            Description::chosen(reader)
+            reader.chosen()
         }
     }
 

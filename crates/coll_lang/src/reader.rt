@@ -5,13 +5,13 @@ ghost use Rattle.number_lists.specs.Numbers.{from_to};
 ghost use Rattle.coll_shape.specs.declared.limits.TheConstants.{MOST_RANKS, MOST_GROUPS, MOST_BUFFERS, MOST_ELEMENTS};
 ghost use Rattle.coll_lang.specs.Held.{HasMembers, IsSmall};
 
-use crate::choices::ChoiceStep;
+use crate::choices::{ChoiceStep, Choices};
+use crate::description::Description;
 use crate::stage::Stage;
-use coll_shape::{Buffer, CollStep, Group, InputList, RankList, Version};
+use coll_shape::{Buffer, CollStep, Group, InputList, Inputs, Parts, RankList, Shape, Version};
 use std::alloc::Global;
 
 /// What the lines so far say.
-#[derive(Drop)]
 pub struct Reader {
     /// Where its lists take memory.
     pub alloc: Global,
@@ -54,4 +54,120 @@ pub struct Reader {
     ghost few_inputs: { inputs ≤ vec_len buffers },
     ghost little_printed: { printed ≤ MOST_ELEMENTS },
     ghost are_small: { All IsSmall buffers.items },
+}
+
+// Written out, so that a caller that lets one go makes one call: a derived one is spelled out, down to each vector, at every return of a
+// caller that has one, and the caller's proof with it.
+impl Drop for Reader {
+    fn drop(self) {
+        let Reader {
+            alloc: _,
+            stage: _,
+            version: _,
+            ranks: _,
+            everyone: _,
+            remote: _,
+            groups: _,
+            buffers: _,
+            inputs: _,
+            given: _,
+            steps: _,
+            on: _,
+            choices: _,
+            prints: _,
+            printed: _,
+        } = self;
+    }
+}
+
+impl Reader {
+    ghost use Rattle.std.specs.Prelude.{◌*◌, []};
+    ghost use Rattle.coll_lang.specs.Language.{described};
+    ghost use Rattle.coll_lang.specs.Readable.{IsReadable};
+    ghost use Rattle.coll_lang.specs.States.{past};
+
+    /// The description of a text that is no choice text. It takes no memory.
+    #[tactic(auto, unfolding(crate::specs::Language::described))]
+    pub(crate) fn plain(self) -> Description
+        requires readable { IsReadable (described (past self)) }
+        requires none { self.choices.items ≡ [] }
+        requires lists { length self.given.items ≡ self.inputs * self.ranks }
+        ensures { result ≡ described (past self) }
+    {
+        let Reader {
+            alloc: _,
+            stage: _,
+            version,
+            ranks,
+            everyone,
+            remote,
+            groups,
+            buffers,
+            inputs,
+            given,
+            steps,
+            on,
+            choices: _,
+            prints,
+            printed: _,
+        } = self;
+        let parts = Parts {
+            version,
+            ranks,
+            remote,
+            groups,
+            buffers,
+            inputs,
+            steps,
+            on,
+            prints,
+        };
+        Description {
+            shape: Shape::of(parts, everyone),
+            inputs: Inputs::of(ranks, inputs, given),
+            choices: None,
+        }
+    }
+
+    /// The description of a choice text. It takes no memory.
+    #[tactic(auto, unfolding(crate::specs::Language::described))]
+    pub(crate) fn chosen(self) -> Description
+        requires readable { IsReadable (described (past self)) }
+        requires some { 1 ≤ length self.choices.items }
+        ensures { result ≡ described (past self) }
+    {
+        let Reader {
+            alloc,
+            stage: _,
+            version,
+            ranks,
+            everyone,
+            remote: _,
+            groups: _,
+            buffers: _,
+            inputs: _,
+            given: _,
+            steps: _,
+            on: _,
+            choices,
+            prints,
+            printed: _,
+        } = self;
+        let parts = Parts {
+            version,
+            ranks,
+            remote: false,
+            groups: Vec::new(alloc),
+            buffers: Vec::new(alloc),
+            inputs: 0,
+            steps: Vec::new(alloc),
+            on: Vec::new(alloc),
+            prints: Vec::new(alloc),
+        };
+        Description {
+            shape: Shape::of(parts, everyone),
+            inputs: Inputs::of(ranks, 0, Vec::new(alloc)),
+            choices: Some(Choices::of(choices, prints)),
+        }
+    }
 }
