@@ -22,7 +22,6 @@ use world_parts::lanes::place;
 
 /// A world of a job without its nodes: the lanes between the ranks, and all room that the world needs. Nodes that ran elsewhere, with
 /// what was still on its way between them, become a world by it, and no memory is taken then.
-#[derive(Drop)]
 pub struct Frame {
     job: Job,
     ranks: u32,
@@ -40,6 +39,21 @@ impl Model for Frame {
     ghost view = { λ f. record { shape = f.job.shape; inputs = f.job.inputs; lanes = f.lanes.items } };
 
     ghost invariant = { λ f. AreFramed f.job f.ranks f.lanes.items f.starts f.deliveries f.firings };
+}
+
+// Written out, so that a caller that lets one go makes one call: a derived one is spelled out, down to each vector, at every return of a
+// caller that has one, and the caller's proof with it.
+impl Drop for Frame {
+    fn drop(self) {
+        let Frame {
+            job: _,
+            ranks: _,
+            lanes: _,
+            starts: _,
+            deliveries: _,
+            firings: _,
+        } = self;
+    }
 }
 
 impl Frame {
@@ -89,11 +103,14 @@ impl Frame {
         ensures { IsClosed self nodes.items result }
     {
         let mut nodes = nodes;
-        let mut starts = self.starts;
-        let mut deliveries = self.deliveries;
-        let mut firings = self.firings;
-        let lanes = self.lanes;
-        let ranks = self.ranks;
+        let Frame {
+            job,
+            ranks,
+            lanes,
+            mut starts,
+            mut deliveries,
+            mut firings,
+        } = self;
         let window = u64::from(FRAME_WINDOW);
         mark_all(
             &mut nodes,
@@ -105,7 +122,7 @@ impl Frame {
             window,
         );
         World::around(
-            self.job,
+            job,
             Parts {
                 setting: Setting {
                     ranks,
