@@ -3,8 +3,8 @@
 
 use port_io::{StdSink, StdSource};
 use portals_top::{Ran, Status, portals_main};
-use std::env;
 use std::process::ExitCode;
+use std::{env, mem};
 
 fn main(rt: HostRuntime) -> ExitCode {
     let mut words = Vec::new(rt.alloc());
@@ -27,5 +27,7 @@ fn main(rt: HostRuntime) -> ExitCode {
         &mut sink,
         &mut ran,
     );
+    // Its memory goes with the process.
+    mem::forget(ran);
     ExitCode::from(status.number())
 }
