@@ -8,8 +8,6 @@ mod fault;
 mod lines;
 mod order_text;
 mod plan_text;
-#[cfg(test)]
-mod tests;
 mod words;
 
 pub use fault::{Refusal, TextFault};

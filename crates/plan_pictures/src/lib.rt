@@ -6,8 +6,6 @@ mod order_drawing;
 mod plan_drawing;
 mod strips;
 mod svg;
-#[cfg(test)]
-mod tests;
 
 use plan_lines::{TextFault, read_orders, read_plan};
 use std::alloc::Global;

@@ -1,6 +1,6 @@
 //! What is read, and where a text is refused.
 
-use crate::{Refusal, TextFault, read_orders, read_plan};
+use plan_lines::{Refusal, TextFault, read_orders, read_plan};
 use ptl_types::{AtomicOp, ElemType, Lane, LocalStep};
 use std::test::Fail;
 

@@ -1,0 +1,11 @@
+//! Texts of plans and of orders as they are read and drawn, and where they are refused. Here, so that those crates are proved once and
+//! not a second time with their tests.
+#![tactic(auto)]
+
+#[cfg(test)]
+mod drawing;
+#[cfg(test)]
+mod reading;
+
+/// The tests are all that there is to this crate. It is a program, since nothing stands on it.
+fn main() {}
