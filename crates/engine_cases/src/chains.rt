@@ -1,6 +1,7 @@
 //! Short lives of chains: what is listed by `first` and `next`, and what keys find.
 ghost use Rattle.std.specs.Prelude.{◌≡◌};
 
+use crate::answers::gives;
 use chain_list::{Chain, Steps};
 use std::alloc::Global;
 use std::marker::Brand;
@@ -38,15 +39,15 @@ fn freed_place<L: Ledger>(
     let x = chain.push_back('x', steps);
     let y = chain.push_back('y', steps);
     let z = chain.push_back('z', steps);
-    assert_eq!(rt; chain.unlink(y, steps), Some('y'));
+    gives!(rt; chain.unlink(y, steps), Some('y'));
     let w = chain.push_back('w', steps);
-    assert_eq!(rt; w.place, y.place);
-    assert_eq!(rt; listed(alloc, &chain, steps)?.as_str(), "xzw");
-    assert_eq!(rt; chain.unlink(y, steps), None);
-    assert_eq!(rt; chain.unlink(x, steps), Some('x'));
-    assert_eq!(rt; chain.unlink(w, steps), Some('w'));
-    assert_eq!(rt; chain.first(), Some(z));
-    assert_eq!(rt; listed(alloc, &chain, steps)?.as_str(), "z");
+    gives!(rt; w.place, y.place);
+    gives!(rt; listed(alloc, &chain, steps)?.as_str(), "xzw");
+    gives!(rt; chain.unlink(y, steps), None);
+    gives!(rt; chain.unlink(x, steps), Some('x'));
+    gives!(rt; chain.unlink(w, steps), Some('w'));
+    gives!(rt; chain.first(), Some(z));
+    gives!(rt; listed(alloc, &chain, steps)?.as_str(), "z");
     Ok(())
 }
 
@@ -65,9 +66,9 @@ fn reserved_again<L: Ledger>(
     if let Some(kept) = chain.get_mut(z, steps) {
         *kept = 'z';
     }
-    assert_eq!(rt; chain.unlink(y, steps), Some('y'));
-    assert_eq!(rt; chain.unlink(y, steps), None);
-    assert_eq!(rt; listed(alloc, &chain, steps)?.as_str(), "xz");
+    gives!(rt; chain.unlink(y, steps), Some('y'));
+    gives!(rt; chain.unlink(y, steps), None);
+    gives!(rt; listed(alloc, &chain, steps)?.as_str(), "xz");
     Ok(())
 }
 
@@ -80,10 +81,10 @@ fn in_one_place<L: Ledger>(
     let mut chain = Chain::with_room(alloc, 1)?;
     for turn in 0..1000u32 {
         let key = chain.push_back(turn, steps);
-        assert_eq!(rt; key.place, 0);
-        assert_eq!(rt; chain.unlink(key, steps), Some(turn));
+        gives!(rt; key.place, 0);
+        gives!(rt; chain.unlink(key, steps), Some(turn));
     }
-    assert_eq!(rt; chain.first(), None);
+    gives!(rt; chain.first(), None);
     Ok(())
 }
 

@@ -1,5 +1,6 @@
 //! A descriptor from its binding to its release, and an answer that nobody awaits.
 
+use crate::answers::gives;
 use counters::Counter;
 use event_queues::Queue;
 use handle_store::Store;
@@ -66,9 +67,9 @@ fn an_answer_that_nobody_awaits_is_dropped(rt: HostRuntime) -> Result<(), Fail> 
     let mut initiator = Initiator::open(rt.alloc(), 0, 2, &LIMITS)?;
     let stray = acknowledgement(rt.alloc(), Handle { slot: 0, stamp: 0 });
     let (outcome, counted) = initiator.answer(&mut region, &mut cts, &mut eqs, stray);
-    assert_eq!(rt; outcome, Outcome::Dropped);
-    assert!(rt; counted.is_none());
-    assert!(rt; region.as_slice() == [9, 1, 2].as_slice());
+    gives!(rt; outcome, Outcome::Dropped);
+    gives!(rt; counted.is_none(), true);
+    gives!(rt; region.as_slice(), [9, 1, 2].as_slice());
     Ok(())
 }
 
@@ -82,16 +83,10 @@ fn a_descriptor_is_bound_checked_and_released(rt: HostRuntime) -> Result<(), Fai
         length: 5,
         ..DESCRIPTOR
     };
-    assert_eq!(rt;
-        initiator.bind(&region, &cts, &eqs, past_the_end),
-        Err(NiFault::OutOfRegion)
-    );
+    gives!(rt; initiator.bind(&region, &cts, &eqs, past_the_end), Err(NiFault::OutOfRegion));
     let md = Handle { slot: 0, stamp: 0 };
-    assert_eq!(rt; initiator.bind(&region, &cts, &eqs, DESCRIPTOR), Ok(md));
-    assert_eq!(rt;
-        initiator.bind(&region, &cts, &eqs, DESCRIPTOR),
-        Err(NiFault::NoSpace)
-    );
+    gives!(rt; initiator.bind(&region, &cts, &eqs, DESCRIPTOR), Ok(md));
+    gives!(rt; initiator.bind(&region, &cts, &eqs, DESCRIPTOR), Err(NiFault::NoSpace));
     let deed = Deed::Put(PutArgs {
         md,
         local_offset: 1,
@@ -103,8 +98,8 @@ fn a_descriptor_is_bound_checked_and_released(rt: HostRuntime) -> Result<(), Fai
         remote_offset: 0,
         hdr_data: 0,
     });
-    assert_eq!(rt; initiator.check(&deed), Err(NiFault::OutOfRegion));
-    assert_eq!(rt; initiator.awaits(md), Ok(0));
+    gives!(rt; initiator.check(&deed), Err(NiFault::OutOfRegion));
+    gives!(rt; initiator.awaits(md), Ok(0));
     let get = Deed::Get(GetArgs {
         md,
         local_offset: 1,
@@ -114,9 +109,9 @@ fn a_descriptor_is_bound_checked_and_released(rt: HostRuntime) -> Result<(), Fai
         match_bits: 5,
         remote_offset: 0,
     });
-    assert_eq!(rt; initiator.check(&get), Ok(()));
-    assert_eq!(rt; initiator.release(md), Ok(()));
-    assert_eq!(rt; initiator.release(md), Err(NiFault::Stale));
-    assert_eq!(rt; initiator.check(&get), Err(NiFault::Stale));
+    gives!(rt; initiator.check(&get), Ok(()));
+    gives!(rt; initiator.release(md), Ok(()));
+    gives!(rt; initiator.release(md), Err(NiFault::Stale));
+    gives!(rt; initiator.check(&get), Err(NiFault::Stale));
     Ok(())
 }

@@ -2,6 +2,7 @@
 
 ghost use Rattle.std.specs.Prelude.{◌≡◌};
 
+use crate::answers::gives;
 use chain_list::Steps;
 use match_lists::Lists;
 use ptl_types::{Entry, Handle, Header, List};
@@ -110,10 +111,10 @@ fn taken_in_turn<L: Ledger>(
     lists.append(List::Priority, fourth, entries[3], steps);
     for handle in [first, second, third, fourth] {
         let found = lists.find(header, false, steps);
-        assert!(rt; found == Some((List::Priority, handle)));
-        assert!(rt; lists.unlink(handle, steps).is_some());
+        gives!(rt; found, Some((List::Priority, handle)));
+        gives!(rt; lists.unlink(handle, steps).is_some(), true);
     }
-    assert!(rt; lists.find(header, false, steps).is_none());
+    gives!(rt; lists.find(header, false, steps).is_none(), true);
     Ok(())
 }
 
@@ -175,10 +176,10 @@ fn in_one_place<L: Ledger>(rt: &impl Abort, alloc: Global, blank: Blank) -> Resu
     for turn in 0..1000u64 {
         lists.append(List::Priority, only, entry(turn, 4), &mut steps);
         let found = lists.find(&header(turn, 3), true, &mut steps);
-        assert!(rt; found == Some((List::Priority, only)));
-        assert!(rt; lists.unlink(only, &mut steps).is_some());
+        gives!(rt; found, Some((List::Priority, only)));
+        gives!(rt; lists.unlink(only, &mut steps).is_some(), true);
         let found = lists.find(&header(turn, 3), true, &mut steps);
-        assert!(rt; found.is_none());
+        gives!(rt; found.is_none(), true);
     }
     Ok(())
 }

@@ -1,5 +1,6 @@
 //! Pending operations from the first post to the last firing.
 
+use crate::answers::gives;
 use ptl_types::Handle;
 use std::test::Fail;
 use triggered_ops::Pending;
@@ -11,16 +12,16 @@ const AGAIN: Handle = Handle { slot: 0, stamp: 5 };
 #[test]
 fn none_pends_at_first(rt: HostRuntime) -> Result<(), Fail> {
     let mut pending = Pending::<u8>::open(rt.alloc(), 2)?;
-    assert_eq!(rt; pending.len(), 0);
-    assert_eq!(rt; pending.given(), 0);
-    assert!(rt; !pending.is_full());
-    assert_eq!(rt; pending.ready(), None);
-    assert!(rt; pending.get(0).is_none());
-    assert!(rt; pending.at(0).is_none());
-    assert!(rt; pending.next(0).is_none());
-    assert_eq!(rt; pending.take(0), None);
-    assert_eq!(rt; pending.first_on(GO), None);
-    assert_eq!(rt; pending.cancel(GO), 0);
+    gives!(rt; pending.len(), 0);
+    gives!(rt; pending.given(), 0);
+    gives!(rt; pending.is_full(), false);
+    gives!(rt; pending.ready(), None);
+    gives!(rt; pending.get(0).is_none(), true);
+    gives!(rt; pending.at(0).is_none(), true);
+    gives!(rt; pending.next(0).is_none(), true);
+    gives!(rt; pending.take(0), None);
+    gives!(rt; pending.first_on(GO), None);
+    gives!(rt; pending.cancel(GO), 0);
     Ok(())
 }
 
@@ -52,40 +53,37 @@ fn an_operation_is_ready_while_its_sum_is_at_its_threshold(rt: HostRuntime) -> R
 #[test]
 fn a_walk_passes_those_that_were_cancelled(rt: HostRuntime) -> Result<(), Fail> {
     let mut pending = Pending::open(rt.alloc(), 3)?;
-    assert_eq!(rt; pending.post(7u8, GO, 1, 0), Ok(0));
-    assert_eq!(rt; pending.post(8, AGAIN, 1, 0), Ok(1));
-    assert_eq!(rt; pending.post(9, GO, 1, 0), Ok(2));
+    gives!(rt; pending.post(7u8, GO, 1, 0), Ok(0));
+    gives!(rt; pending.post(8, AGAIN, 1, 0), Ok(1));
+    gives!(rt; pending.post(9, GO, 1, 0), Ok(2));
     pending.reached(AGAIN, 1);
     pending.reached(GO, 1);
-    assert_eq!(rt; pending.cancel(AGAIN), 1);
+    gives!(rt; pending.cancel(AGAIN), 1);
     let numbers = [pending.next(0), pending.next(1), pending.next(3)].map(|found| found.map(
         |p| p.0,
     ));
-    assert_eq!(rt; numbers, [Some(0), Some(2), None]);
-    assert_eq!(rt;
-        pending.at(1).map(|p| (p.0, *p.1, p.2, p.3)),
-        Some((2, 9, GO, 1))
-    );
-    assert_eq!(rt; pending.get(2).map(|p| (*p.0, p.1, p.2)), Some((9, GO, 1)));
-    assert!(rt; !pending.is_ready(1));
-    assert!(rt; pending.is_ready(2));
-    assert_eq!(rt; pending.cancel(GO), 2);
-    assert_eq!(rt; pending.len(), 0);
+    gives!(rt; numbers, [Some(0), Some(2), None]);
+    gives!(rt; pending.at(1).map(|p| (p.0, *p.1, p.2, p.3)), Some((2, 9, GO, 1)));
+    gives!(rt; pending.get(2).map(|p| (*p.0, p.1, p.2)), Some((9, GO, 1)));
+    gives!(rt; pending.is_ready(1), false);
+    gives!(rt; pending.is_ready(2), true);
+    gives!(rt; pending.cancel(GO), 2);
+    gives!(rt; pending.len(), 0);
     Ok(())
 }
 
 #[test]
 fn the_ready_ones_are_told_in_order_of_their_numbers(rt: HostRuntime) -> Result<(), Fail> {
     let mut pending = Pending::open(rt.alloc(), 3)?;
-    assert_eq!(rt; pending.post(7u8, GO, 2, 0), Ok(0));
-    assert_eq!(rt; pending.post(8, AGAIN, 1, 0), Ok(1));
-    assert_eq!(rt; pending.post(9, GO, 1, 0), Ok(2));
-    assert_eq!(rt; pending.ready_count(), 0);
+    gives!(rt; pending.post(7u8, GO, 2, 0), Ok(0));
+    gives!(rt; pending.post(8, AGAIN, 1, 0), Ok(1));
+    gives!(rt; pending.post(9, GO, 1, 0), Ok(2));
+    gives!(rt; pending.ready_count(), 0);
     pending.reached(GO, 2);
-    assert_eq!(rt; pending.ready_count(), 2);
+    gives!(rt; pending.ready_count(), 2);
     if pending.ready_count() > 1 {
-        assert_eq!(rt; pending.ready_at(0), 0);
-        assert_eq!(rt; pending.ready_at(1), 2);
+        gives!(rt; pending.ready_at(0), 0);
+        gives!(rt; pending.ready_at(1), 2);
     }
     Ok(())
 }
@@ -93,17 +91,17 @@ fn the_ready_ones_are_told_in_order_of_their_numbers(rt: HostRuntime) -> Result<
 #[test]
 fn one_stays_ready_while_many_come_and_go(rt: HostRuntime) -> Result<(), Fail> {
     let mut pending = Pending::open(rt.alloc(), 2)?;
-    assert_eq!(rt; pending.post(7u8, GO, 1, 0), Ok(0));
+    gives!(rt; pending.post(7u8, GO, 1, 0), Ok(0));
     pending.reached(GO, 1);
     for number in 1..20 {
         if !pending.is_full() {
-            assert_eq!(rt; pending.post(8, AGAIN, 0, 0), Ok(number));
-            assert_eq!(rt; pending.ready_count(), 2);
-            assert_eq!(rt; pending.ready(), Some(0));
-            assert_eq!(rt; pending.take(number), Some(8));
+            gives!(rt; pending.post(8, AGAIN, 0, 0), Ok(number));
+            gives!(rt; pending.ready_count(), 2);
+            gives!(rt; pending.ready(), Some(0));
+            gives!(rt; pending.take(number), Some(8));
         }
     }
-    assert_eq!(rt; pending.ready_count(), 1);
+    gives!(rt; pending.ready_count(), 1);
     Ok(())
 }
 
@@ -116,15 +114,15 @@ fn a_change_makes_ready_what_its_sum_reaches(rt: HostRuntime) -> Result<(), Fail
         }
     }
     if !pending.is_full() {
-        assert_eq!(rt; pending.post(8, AGAIN, 4, 3), Ok(5));
+        gives!(rt; pending.post(8, AGAIN, 4, 3), Ok(5));
     }
     let counts = [0, 1, 2, 3, 9, 2, u64::MAX, 0].map(|sum| {
         pending.reached(GO, sum);
         pending.ready_count()
     });
-    assert_eq!(rt; counts, [0, 1, 2, 4, 5, 2, 5, 0]);
+    gives!(rt; counts, [0, 1, 2, 4, 5, 2, 5, 0]);
     pending.reached(GO, 3);
     let numbers = [0, 1, 2, 3, 4, 5].map(|number| pending.is_ready(number));
-    assert_eq!(rt; numbers, [true, true, true, true, false, false]);
+    gives!(rt; numbers, [true, true, true, true, false, false]);
     Ok(())
 }

@@ -1,5 +1,6 @@
 //! Two threads over four places: what each lists, and where a place that was taken off stands when it is put on again.
 
+use crate::answers::gives;
 use place_threads::Threads;
 use std::alloc::Global;
 use std::process::Abort;
@@ -8,19 +9,19 @@ use std::test::Fail;
 /// 2 and 0 on the first thread, 3 on the second; without 2; 2 on the second.
 fn two_threads(rt: &impl Abort, alloc: Global) -> Result<(), Fail> {
     let mut threads = Threads::open(alloc, 2, 4)?;
-    assert_eq!(rt; threads.first(0), None);
+    gives!(rt; threads.first(0), None);
     threads.push_back(0, 2);
     threads.push_back(0, 0);
     threads.push_back(1, 3);
-    assert_eq!(rt; threads.first(0), Some(2));
-    assert_eq!(rt; threads.next(2), Some(0));
-    assert_eq!(rt; threads.next(0), None);
+    gives!(rt; threads.first(0), Some(2));
+    gives!(rt; threads.next(2), Some(0));
+    gives!(rt; threads.next(0), None);
     threads.unlink(2);
-    assert_eq!(rt; threads.first(0), Some(0));
+    gives!(rt; threads.first(0), Some(0));
     threads.push_back(1, 2);
-    assert_eq!(rt; threads.first(1), Some(3));
-    assert_eq!(rt; threads.next(3), Some(2));
-    assert_eq!(rt; threads.next(2), None);
+    gives!(rt; threads.first(1), Some(3));
+    gives!(rt; threads.next(3), Some(2));
+    gives!(rt; threads.next(2), None);
     Ok(())
 }
 

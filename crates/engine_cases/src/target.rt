@@ -1,5 +1,6 @@
 //! Each call of a target once, and each of its refusals. Headers that are left, searched and taken are a script of `interface_cases`.
 
+use crate::answers::gives;
 use counters::Counter;
 use event_queues::Queue;
 use handle_store::Store;
@@ -90,12 +91,12 @@ impl Host {
 #[test]
 fn indices_come_and_go(rt: HostRuntime) -> Result<(), Fail> {
     let mut host = Host::open(rt.alloc())?;
-    assert_eq!(rt; host.pt_free(0), Err(NiFault::Stale));
-    assert_eq!(rt; host.pt_alloc(0, Some(DEAD)), Err(NiFault::Stale));
-    assert_eq!(rt; host.pt_alloc(2, None), Err(NiFault::NoSpace));
-    assert_eq!(rt; host.pt_alloc(0, None), Ok(()));
-    assert_eq!(rt; host.pt_alloc(0, None), Err(NiFault::InUse));
-    assert_eq!(rt; host.pt_free(0), Ok(()));
+    gives!(rt; host.pt_free(0), Err(NiFault::Stale));
+    gives!(rt; host.pt_alloc(0, Some(DEAD)), Err(NiFault::Stale));
+    gives!(rt; host.pt_alloc(2, None), Err(NiFault::NoSpace));
+    gives!(rt; host.pt_alloc(0, None), Ok(()));
+    gives!(rt; host.pt_alloc(0, None), Err(NiFault::InUse));
+    gives!(rt; host.pt_free(0), Ok(()));
     Ok(())
 }
 
@@ -111,25 +112,22 @@ fn nothing_is_named_at_first(rt: HostRuntime) -> Result<(), Fail> {
 fn entries_come_and_go(rt: HostRuntime) -> Result<(), Fail> {
     let mut host = Host::open(rt.alloc())?;
     let list = List::Priority;
-    assert_eq!(rt; host.append(list, ENTRY), Err(NiFault::Stale));
-    assert_eq!(rt; host.pt_alloc(0, None), Ok(()));
+    gives!(rt; host.append(list, ENTRY), Err(NiFault::Stale));
+    gives!(rt; host.pt_alloc(0, None), Ok(()));
     let uncounted = Entry {
         ct: Some(DEAD),
         ..ENTRY
     };
-    assert_eq!(rt; host.append(list, uncounted), Err(NiFault::Stale));
+    gives!(rt; host.append(list, uncounted), Err(NiFault::Stale));
     let past_the_end = Entry { start: 1, ..ENTRY };
-    assert_eq!(rt; host.append(list, past_the_end), Err(NiFault::OutOfRegion));
+    gives!(rt; host.append(list, past_the_end), Err(NiFault::OutOfRegion));
     let first = Handle { slot: 0, stamp: 0 };
-    assert_eq!(rt;
-        host.append(list, ENTRY),
-        Ok((Appended::Linked(first), None))
-    );
-    assert!(rt; host.append(List::Overflow, ENTRY).is_ok());
-    assert_eq!(rt; host.append(list, past_the_end), Err(NiFault::NoSpace));
-    assert_eq!(rt; host.pt_free(0), Err(NiFault::InUse));
-    assert_eq!(rt; host.unlink(first), Ok(()));
-    assert_eq!(rt; host.unlink(first), Err(NiFault::Stale));
+    gives!(rt; host.append(list, ENTRY), Ok((Appended::Linked(first), None)));
+    gives!(rt; host.append(List::Overflow, ENTRY).is_ok(), true);
+    gives!(rt; host.append(list, past_the_end), Err(NiFault::NoSpace));
+    gives!(rt; host.pt_free(0), Err(NiFault::InUse));
+    gives!(rt; host.unlink(first), Ok(()));
+    gives!(rt; host.unlink(first), Err(NiFault::Stale));
     Ok(())
 }
 
