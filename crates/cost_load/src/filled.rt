@@ -1,7 +1,5 @@
 //! An interface that is filled with so many of everything.
 
-ghost use Rattle.std.specs.Prelude.{◌<◌};
-
 use crate::calls;
 use portals_ni::Nic;
 use ptl_types::{AckRequest, Bytes, Descriptor, Entry, Handle, Limits, List};
@@ -54,16 +52,10 @@ fn handles(alloc: Global, size: u32) -> Option<Vec<Handle>> {
     Vec::with_capacity(alloc, size as usize + 4 * CALLS as usize).ok()
 }
 
-fn open_within(alloc: Global, rank: u32, ranks: u32, limits: Limits, region: &[u8]) -> Option<Nic>
-    requires { rank < ranks }
-{
-    let region = Bytes::of(alloc, region).ok()?;
-    Nic::open(alloc, rank, ranks, limits, region).ok()
-}
-
 /// Opens an interface with room for so many things.
 fn open(alloc: Global, size: u32) -> Option<Nic> {
-    open_within(alloc, 0, 1, limits(size), &[1, 2, 3, 4, 5, 6, 7, 8])
+    let region = Bytes::of(alloc, &[1, 2, 3, 4, 5, 6, 7, 8]).ok()?;
+    Nic::open(alloc, 0, 1, limits(size), region).ok()
 }
 
 /// Whether there is memory for a further interface, which goes again.
@@ -75,9 +67,7 @@ pub fn opens(alloc: Global, size: u32) -> bool {
 fn empty(alloc: Global, size: u32) -> Option<Full> {
     let mut nic = open(alloc, size)?;
     for index in 0..3 {
-        if !calls::allocate_index(&mut nic, index, None) {
-            return None;
-        }
+        nic.pt_alloc(index, None).ok()?;
     }
     Some(Full {
         nic,
@@ -94,15 +84,15 @@ impl Full {
     /// So many counting events, queues, descriptors and entries.
     fn make_things(&mut self) -> Option<()> {
         for number in 0..self.size {
-            let ct = calls::allocate_counter(&mut self.nic)?;
+            let ct = self.nic.ct_alloc().ok()?;
             self.cts.push(ct).ok()?;
-            let eq = calls::allocate_queue(&mut self.nic, 1)?;
+            let eq = self.nic.eq_alloc(1).ok()?;
             self.eqs.push(eq).ok()?;
             let descriptor = Descriptor {
                 ct: Some(ct),
                 ..Descriptor::over(0, 8)
             };
-            let md = calls::bind(&mut self.nic, descriptor)?;
+            let md = self.nic.md_bind(descriptor).ok()?;
             self.mds.push(md).ok()?;
             let entry = Entry {
                 ct: Some(ct),

@@ -2,7 +2,7 @@
 
 use crate::calls;
 use crate::filled::{self, CALLS, Full, NEVER};
-use ptl_types::{AckRequest, Descriptor, Entry, Handle, List};
+use ptl_types::{AckRequest, Appended, Descriptor, Entry, Handle, List};
 use std::alloc::Global;
 use std::io;
 use std::time::Instant;
@@ -278,31 +278,30 @@ fn nth(handles: &[Handle], number: u32) -> Handle {
 fn call_tables(full: &mut Full, kind: Table) -> bool {
     match kind {
         Table::CtAlloc => {
-            let made = calls::allocate_counter(&mut full.nic);
+            let made = full.nic.ct_alloc().ok();
             keep(full, made)
         }
         Table::CtFree => {
             let ct = last(full);
-            calls::free_counter(&mut full.nic, ct)
+            full.nic.ct_free(ct).is_ok()
         }
         Table::EqAlloc => {
-            let made = calls::allocate_queue(&mut full.nic, 1);
+            let made = full.nic.eq_alloc(1).ok();
             keep(full, made)
         }
         Table::EqFree => {
             let eq = last(full);
-            calls::free_queue(&mut full.nic, eq)
+            full.nic.eq_free(eq).is_ok()
         }
         Table::MdBind => {
-            let made = calls::bind(&mut full.nic, Descriptor::over(0, 8));
+            let made = full.nic.md_bind(Descriptor::over(0, 8)).ok();
             keep(full, made)
         }
         Table::MdRelease => {
             let md = last(full);
-            calls::release(&mut full.nic, md)
+            full.nic.md_release(md).is_ok()
         }
-        Table::PtAgain => calls::free_index(&mut full.nic, 2)
-            && calls::allocate_index(&mut full.nic, 2, None),
+        Table::PtAgain => full.nic.pt_free(2).is_ok() && full.nic.pt_alloc(2, None).is_ok(),
     }
 }
 
@@ -311,15 +310,15 @@ fn call_things(full: &mut Full, kind: Thing, number: u32) -> bool {
     let ct = nth(&full.cts, 1 + number % 500);
     match kind {
         Thing::Reads => calls::reads(&full.nic),
-        Thing::WriteMemory => calls::write_memory(&mut full.nic, 0, &[1]),
-        Thing::EqGet => calls::get_event(&mut full.nic, nth(&full.eqs, number)),
-        Thing::Awaits => calls::awaits(&full.nic, nth(&full.mds, number)),
-        Thing::AwaitsAny => calls::awaits_any(&full.nic),
-        Thing::CtGet => calls::get_counter(&full.nic, ct),
-        Thing::CtSet => calls::set_counter(&mut full.nic, ct),
-        Thing::CtIncNone => calls::raise_counter(&mut full.nic, nth(&full.cts, 0)),
+        Thing::WriteMemory => guarded_ni::write_memory(&mut full.nic, 0, &[1]).is_ok(),
+        Thing::EqGet => full.nic.eq_get(nth(&full.eqs, number)).is_ok(),
+        Thing::Awaits => full.nic.awaits(nth(&full.mds, number)).is_ok(),
+        Thing::AwaitsAny => !full.nic.awaits_any(),
+        Thing::CtGet => full.nic.ct_get(ct).is_ok(),
+        Thing::CtSet => full.nic.ct_set(ct, calls::ONE).is_ok(),
+        Thing::CtIncNone => full.nic.ct_inc(nth(&full.cts, 0), calls::ONE).is_ok(),
         Thing::CtCancel => {
-            calls::post(&mut full.nic, ct, ct, NEVER).is_some() && calls::cancel(&mut full.nic, ct)
+            calls::post(&mut full.nic, ct, ct, NEVER).is_some() && full.nic.ct_cancel(ct).is_ok()
         }
     }
 }
@@ -368,12 +367,15 @@ fn call_entries(full: &mut Full, kind: Entries, number: u32) -> bool {
     };
     match kind {
         Entries::Append => calls::append(&mut full.nic, 0, List::Priority, fresh).is_some(),
-        Entries::Unlink => calls::unlink(&mut full.nic, nth(&full.entries, number)),
-        Entries::Headers => calls::headers(&full.nic),
-        Entries::Header => calls::header(&full.nic, 1, full.size / 2),
-        Entries::SearchNewest => calls::search(&mut full.nic, 1, &newest, false).is_some(),
-        Entries::TakeOldest => calls::take_header(&mut full.nic, 1, List::Priority, any),
-        Entries::SearchDelete => calls::search(&mut full.nic, 1, &any, true).is_some(),
+        Entries::Unlink => full.nic.me_unlink(nth(&full.entries, number)).is_ok(),
+        Entries::Headers => !full.nic.headers().is_empty(),
+        Entries::Header => full.nic.header(1, full.size / 2).is_some(),
+        Entries::SearchNewest => matches!(full.nic.me_search(1, &newest, false), Ok(Some(_))),
+        Entries::TakeOldest => {
+            let appended = full.nic.me_append(1, List::Priority, any);
+            matches!(appended, Ok(Appended::Consumed(_)))
+        }
+        Entries::SearchDelete => matches!(full.nic.me_search(1, &any, true), Ok(Some(_))),
         Entries::TakeOne => calls::append(&mut full.nic, 1, List::Priority, older).is_some(),
     }
 }
@@ -389,12 +391,12 @@ fn call_triggered(full: &mut Full, kind: Waiting, number: u32) -> bool {
             ct,
             u64::from(number) + 1,
         ).is_some(),
-        Waiting::IsReady => calls::is_waiting(&full.nic, number),
-        Waiting::LaneOf => calls::has_no_lane(&full.nic, number),
-        Waiting::Ready => calls::none_ready(&full.nic),
-        Waiting::CtIncOne => calls::raise_counter(&mut full.nic, ct),
-        Waiting::ReadyAt => calls::has_middle(&full.nic),
-        Waiting::ReadyCountTo => calls::none_to(&full.nic, 0),
+        Waiting::IsReady => !full.nic.is_ready(number),
+        Waiting::LaneOf => full.nic.lane_of(number).is_none(),
+        Waiting::Ready => full.nic.ready().is_none(),
+        Waiting::CtIncOne => full.nic.ct_inc(ct, calls::ONE).is_ok(),
+        Waiting::ReadyAt => guarded_ni::ready_at(&full.nic, full.nic.ready_count() / 2).is_ok(),
+        Waiting::ReadyCountTo => full.nic.ready_count_to(0) == 0,
         Waiting::Fire => calls::fire(&mut full.nic),
     }
 }
