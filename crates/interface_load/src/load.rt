@@ -4,8 +4,8 @@ ghost use Rattle.std.specs.Prelude.{◌<◌};
 
 use portals_ni::Nic;
 use ptl_types::{
-    AckRequest, Appended, Bytes, Count, Deed, Descriptor, Entry, Handle, Limits, List, Message,
-    NiFault, Outcome, PutArgs,
+    AckRequest, Bytes, Count, Deed, Descriptor, Entry, Handle, Limits, List, Message, NiFault,
+    Outcome, PutArgs,
 };
 use std::alloc::Global;
 
@@ -63,78 +63,21 @@ pub struct Made {
 /// A persistent entry over the region's one byte for messages with these match bits, which it counts.
 fn entry(match_bits: u64, ct: Handle) -> Entry {
     Entry {
-        start: 0,
-        length: 1,
         ct: Some(ct),
-        match_id: None,
         match_bits,
-        ignore_bits: 0,
-        min_free: 0,
-        allow_put: true,
-        allow_get: false,
-        use_once: false,
-        manage_local: false,
-        no_truncate: false,
         count_comm: true,
-        count_overflow: false,
+        ..Entry::over(0, 1)
     }
 }
 
 /// The interface of the one rank, over one byte.
-fn open(alloc: Global, limits: Limits) -> Result<Nic, NiFault> {
+fn open(alloc: Global) -> Result<Nic, NiFault> {
     let Ok(region) = Bytes::of(alloc, &[7]) else {
         return Err(NiFault::NoMemory);
     };
-    match Nic::open(alloc, 0, 1, limits, region) {
+    match Nic::open(alloc, 0, 1, LIMITS, region) {
         Ok(nic) => Ok(nic),
         Err(_) => Err(NiFault::NoMemory),
-    }
-}
-
-// Each of the next functions is one call of the interface, without what its contract says of the whole state: so the functions
-// after them have nothing of it to prove.
-
-fn allocate_index(nic: &mut Nic, pt: u32) -> Result<(), NiFault> {
-    nic.pt_alloc(pt, None)
-}
-
-fn allocate(nic: &mut Nic) -> Result<Handle, NiFault> {
-    nic.ct_alloc()
-}
-
-fn append(nic: &mut Nic, pt: u32, list: List, entry: Entry) -> Result<Appended, NiFault> {
-    nic.me_append(pt, list, entry)
-}
-
-fn raise(nic: &mut Nic, ct: Handle, by: Count) -> Result<(), NiFault> {
-    nic.ct_inc(ct, by)
-}
-
-fn count_of(nic: &Nic, ct: Handle) -> Result<Count, NiFault> {
-    nic.ct_get(ct)
-}
-
-fn pending(nic: &Nic) -> u32 {
-    nic.pending()
-}
-
-/// Posts an increment of a counting event.
-fn post_increment(
-    nic: &mut Nic,
-    next: Handle,
-    by: Count,
-    ct: Handle,
-    threshold: u64,
-) -> Result<u32, NiFault> {
-    nic.triggered(Deed::Inc(next, by), ct, threshold)
-}
-
-/// Posts a put that passes neither the ranks nor the limit.
-fn post_message(nic: &mut Nic, args: PutArgs, ct: Handle, threshold: u64) -> Result<u32, NiFault> {
-    if args.target < nic.ranks() && args.length <= nic.limits().msg {
-        nic.triggered(Deed::Put(args), ct, threshold)
-    } else {
-        Err(NiFault::OutOfRegion)
     }
 }
 
@@ -142,7 +85,7 @@ fn post_message(nic: &mut Nic, args: PutArgs, ct: Handle, threshold: u64) -> Res
 fn count_on(alloc: Global, nic: &mut Nic) -> Result<Vec<Handle>, NiFault> {
     let mut cts = Vec::new(alloc);
     for _ in 0..COUNTERS {
-        let ct = allocate(nic)?;
+        let ct = nic.ct_alloc()?;
         if cts.push(ct).is_err() {
             return Err(NiFault::NoMemory);
         }
@@ -153,22 +96,9 @@ fn count_on(alloc: Global, nic: &mut Nic) -> Result<Vec<Handle>, NiFault> {
 /// An entry for each counting event, whose number is its match bits: how many were linked.
 fn link(nic: &mut Nic, cts: &[Handle]) -> Result<u64, NiFault> {
     for (number, ct) in cts.iter().enumerate() {
-        append(nic, 0, List::Priority, entry(number as u64, *ct))?;
+        nic.me_append(0, List::Priority, entry(number as u64, *ct))?;
     }
     Ok(cts.len() as u64)
-}
-
-/// The descriptor over the region.
-fn bind(nic: &mut Nic) -> Result<Handle, NiFault> {
-    nic.md_bind(Descriptor {
-        start: 0,
-        length: 1,
-        eq: None,
-        ct: None,
-        count_send: false,
-        count_reply: false,
-        count_ack: false,
-    })
 }
 
 /// Posts a put of the byte to the rank itself.
@@ -190,7 +120,12 @@ fn post_put(
         remote_offset: 0,
         hdr_data: 0,
     };
-    post_message(nic, args, ct, threshold)
+    // What `triggered` asks of a put.
+    if args.target < nic.ranks() && args.length <= nic.limits().msg {
+        nic.triggered(Deed::Put(args), ct, threshold)
+    } else {
+        Err(NiFault::OutOfRegion)
+    }
 }
 
 /// The counting event of this number, counted on from the first again after the last.
@@ -210,7 +145,7 @@ fn post(nic: &mut Nic, cts: &[Handle], md: Handle, kind: Kind, number: u32) -> R
     let next = nth(cts, number + 1)?;
     let threshold = u64::from(1 + number / COUNTERS);
     match kind {
-        Kind::Increment => post_increment(nic, next, ONE, ct, threshold),
+        Kind::Increment => nic.triggered(Deed::Inc(next, ONE), ct, threshold),
         Kind::Put => post_put(nic, md, u64::from((number + 1) % COUNTERS), ct, threshold),
     }
 }
@@ -246,13 +181,13 @@ fn fire_all(nic: &mut Nic) -> (u32, u64) {
 /// Posts a chain of operations, counts once on the first counting event, and fires what is ready until nothing is.
 fn run_with(nic: &mut Nic, cts: &[Handle], kind: Kind) -> Result<Made, NiFault> {
     let entries = link(nic, cts)?;
-    let md = bind(nic)?;
+    let md = nic.md_bind(Descriptor::over(0, 1))?;
     for number in 0..OPERATIONS {
         post(nic, cts, md, kind, number)?;
     }
-    let posted = pending(nic);
+    let posted = nic.pending();
     let first = nth(cts, 0)?;
-    raise(nic, first, ONE)?;
+    nic.ct_inc(first, ONE)?;
     let (fired, delivered) = fire_all(nic);
     Ok(Made {
         counters: cts.len() as u64,
@@ -260,20 +195,15 @@ fn run_with(nic: &mut Nic, cts: &[Handle], kind: Kind) -> Result<Made, NiFault> 
         posted,
         fired,
         delivered,
-        first: count_of(nic, first)?,
+        first: nic.ct_get(first)?,
     })
-}
-
-/// The same on an interface without anything, which it fills first.
-fn run_on(alloc: Global, nic: &mut Nic, kind: Kind) -> Result<Made, NiFault> {
-    allocate_index(nic, 0)?;
-    let cts = count_on(alloc, nic)?;
-    run_with(nic, &cts, kind)
 }
 
 /// Makes an interface and a chain of operations on it, each of which fires by the count of the one before. Each fault is one
 /// that the interface answered, or that memory ran out.
 pub fn run_chain(alloc: Global, kind: Kind) -> Result<Made, NiFault> {
-    let mut nic = open(alloc, LIMITS)?;
-    run_on(alloc, &mut nic, kind)
+    let mut nic = open(alloc)?;
+    nic.pt_alloc(0, None)?;
+    let cts = count_on(alloc, &mut nic)?;
+    run_with(&mut nic, &cts, kind)
 }
