@@ -36,35 +36,29 @@ pub struct Target {
 }
 
 /// An interface of one of two ranks over a region of these bytes.
-fn side(alloc: Global, rank: u32, limits: Limits, bytes: &[u8]) -> Result<Nic, CallFault> {
+fn side(alloc: Global, rank: u32, bytes: &[u8]) -> Result<Nic, CallFault> {
     match Bytes::of(alloc, bytes) {
-        Ok(region) => open(alloc, rank, 2, limits, region),
+        Ok(region) => open(alloc, rank, 2, Limits::SMALL, region),
         Err(_) => Err(CallFault::Refused(NiFault::NoMemory)),
     }
 }
 
-/// Allocates a portal table index that tells its events to this queue, and links an entry there.
-fn wait_at(nic: &mut Nic, pt: u32, eq: Handle, entry: Entry) -> Result<(), CallFault> {
-    nic.pt_alloc(pt, Some(eq))?;
-    let _ = nic.me_append(pt, List::Priority, entry)?;
-    Ok(())
-}
-
 /// Waits at portal table index 0 with an entry over the whole region.
 fn waiting(alloc: Global) -> Result<Target, CallFault> {
-    let mut nic = side(alloc, 1, Limits::SMALL, &[0; 4])?;
+    let mut nic = side(alloc, 1, &[0; 4])?;
     let eq = eq_alloc(&mut nic, EVENTS)?;
     let entry = Entry {
         match_bits: MATCH_BITS,
         ..Entry::over(0, 4)
     };
-    wait_at(&mut nic, 0, eq, entry)?;
+    nic.pt_alloc(0, Some(eq))?;
+    let _ = nic.me_append(0, List::Priority, entry)?;
     Ok(Target { nic, eq })
 }
 
 /// Binds the whole region, and counts acknowledgements.
 fn ready(alloc: Global) -> Result<Initiator, CallFault> {
-    let mut nic = side(alloc, 0, Limits::SMALL, &[1, 2, 3, 4])?;
+    let mut nic = side(alloc, 0, &[1, 2, 3, 4])?;
     let eq = eq_alloc(&mut nic, EVENTS)?;
     let acknowledged = nic.ct_alloc()?;
     let md = nic.md_bind(Descriptor {
