@@ -1,5 +1,6 @@
 //! Each rule that the arguments of a guarded call can break, by name; and that the interface is as it was.
 
+use crate::comparing::gives;
 use guarded_ni::{
     CallFault, Misuse, atomic, eq_alloc, fetch_atomic, fire, get, open, put, ready_at, swap,
     triggered, write_memory,
@@ -155,13 +156,13 @@ fn atomics_and_swaps(rt: HostRuntime) {
 #[test]
 fn other_calls(rt: HostRuntime) {
     let unknown = CallFault::Misused(Misuse::UnknownRank);
-    assert_eq!(rt; opens(&rt, 2, Limits::SMALL).err(), Some(unknown));
+    gives!(rt; opens(&rt, 2, Limits::SMALL).err(), Some(unknown));
     let mut nic = side(&rt);
     let no_room = CallFault::Misused(Misuse::NoRoom);
-    assert_eq!(rt; queue_fault(&mut nic, 0), Some(no_room));
-    assert_eq!(rt; writes(&mut nic, 3, &[1, 2]), Err(Misuse::OutsideRegion));
-    assert_eq!(rt; writes(&mut nic, 2, &[1, 2]), Ok(()));
-    assert_eq!(rt; nic.memory(), [0u8, 0, 1, 2].as_slice());
-    assert_eq!(rt; ready_fault(&nic, 0), Some(Misuse::NotReady));
-    assert_eq!(rt; firing_fault(&mut nic, 0), Some(Misuse::NotReady));
+    gives!(rt; queue_fault(&mut nic, 0), Some(no_room));
+    gives!(rt; writes(&mut nic, 3, &[1, 2]), Err(Misuse::OutsideRegion));
+    gives!(rt; writes(&mut nic, 2, &[1, 2]), Ok(()));
+    gives!(rt; nic.memory(), [0u8, 0, 1, 2].as_slice());
+    gives!(rt; ready_fault(&nic, 0), Some(Misuse::NotReady));
+    gives!(rt; firing_fault(&mut nic, 0), Some(Misuse::NotReady));
 }

@@ -17,6 +17,8 @@ mod busy;
 #[cfg(test)]
 mod calls;
 #[cfg(test)]
+mod comparing;
+#[cfg(test)]
 mod counting;
 #[cfg(test)]
 mod deeds;

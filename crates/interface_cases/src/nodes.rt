@@ -1,6 +1,7 @@
 //! What a node and a world ask of an interface: its headers, its ready operations by number and by rank, and whether an
 //! answer is awaited.
 
+use crate::comparing::gives;
 use crate::sides::{Side, over};
 use crate::values::{DESCRIPTOR, ENTRY, FIRST, LIMITS, ONE, PUT};
 use ptl_types::{AckRequest, Appended, Deed, List, PutArgs};
@@ -15,61 +16,61 @@ const TO_ONE: PutArgs = PutArgs {
 
 /// Three operations on one counting event, with thresholds 2, 1 and 1: a put to rank 1, one to rank 0, and an increment.
 fn post_three(rt: &impl Abort, side: &mut Side) {
-    assert!(rt; side.ct_alloc().is_ok());
-    assert!(rt; side.md_bind(DESCRIPTOR).is_ok());
-    assert!(rt; side.triggered(rt, Deed::Put(TO_ONE), FIRST, 2) == Ok(0));
-    assert!(rt; side.triggered(rt, Deed::Put(PUT), FIRST, 1) == Ok(1));
-    assert!(rt; side.triggered(rt, Deed::Inc(FIRST, ONE), FIRST, 1) == Ok(2));
+    gives!(rt; side.ct_alloc().is_ok(), true);
+    gives!(rt; side.md_bind(DESCRIPTOR).is_ok(), true);
+    gives!(rt; side.triggered(rt, Deed::Put(TO_ONE), FIRST, 2), Ok(0));
+    gives!(rt; side.triggered(rt, Deed::Put(PUT), FIRST, 1), Ok(1));
+    gives!(rt; side.triggered(rt, Deed::Inc(FIRST, ONE), FIRST, 1), Ok(2));
 }
 
 #[test]
 fn ready_operations_by_number_and_by_rank(rt: HostRuntime) {
     let mut side = over(&rt, 0, LIMITS, &[0; 16]);
     post_three(&rt, &mut side);
-    assert_eq!(rt; side.ready_count(), 0);
-    assert_eq!(rt; side.ready_at(0), None);
-    assert!(rt; side.ct_inc(FIRST, ONE).is_ok());
-    assert_eq!(rt; side.ready_count(), 2);
-    assert_eq!(rt; side.ready_at(0), Some(1));
-    assert_eq!(rt; side.ready_at(1), Some(2));
-    assert_eq!(rt; side.ready_count_to(0), 1);
-    assert_eq!(rt; side.ready_count_to(1), 0);
-    assert!(rt; side.ct_inc(FIRST, ONE).is_ok());
-    assert_eq!(rt; side.ready_at(0), Some(0));
-    assert_eq!(rt; side.ready_count_to(1), 1);
-    assert_eq!(rt; side.lane_of(0), Some(1));
-    assert_eq!(rt; side.lane_of(1), Some(0));
-    assert_eq!(rt; side.lane_of(2), None);
-    assert_eq!(rt; side.lane_of(3), None);
+    gives!(rt; side.ready_count(), 0);
+    gives!(rt; side.ready_at(0), None);
+    gives!(rt; side.ct_inc(FIRST, ONE).is_ok(), true);
+    gives!(rt; side.ready_count(), 2);
+    gives!(rt; side.ready_at(0), Some(1));
+    gives!(rt; side.ready_at(1), Some(2));
+    gives!(rt; side.ready_count_to(0), 1);
+    gives!(rt; side.ready_count_to(1), 0);
+    gives!(rt; side.ct_inc(FIRST, ONE).is_ok(), true);
+    gives!(rt; side.ready_at(0), Some(0));
+    gives!(rt; side.ready_count_to(1), 1);
+    gives!(rt; side.lane_of(0), Some(1));
+    gives!(rt; side.lane_of(1), Some(0));
+    gives!(rt; side.lane_of(2), None);
+    gives!(rt; side.lane_of(3), None);
 }
 
 #[test]
 fn an_answer_is_awaited_from_the_firing_on(rt: HostRuntime) {
     let mut side = over(&rt, 0, LIMITS, &[0; 16]);
     post_three(&rt, &mut side);
-    assert!(rt; side.ct_inc(FIRST, ONE).is_ok());
-    assert!(rt; side.ct_inc(FIRST, ONE).is_ok());
-    assert!(rt; !side.awaits_any());
-    assert!(rt; side.fire(&rt, 0).is_some());
-    assert!(rt; side.awaits_any());
+    gives!(rt; side.ct_inc(FIRST, ONE).is_ok(), true);
+    gives!(rt; side.ct_inc(FIRST, ONE).is_ok(), true);
+    gives!(rt; side.awaits_any(), false);
+    gives!(rt; side.fire(&rt, 0).is_some(), true);
+    gives!(rt; side.awaits_any(), true);
 }
 
 #[test]
 fn headers_in_the_order_of_arrival(rt: HostRuntime) {
     let mut side = over(&rt, 0, LIMITS, &[0; 16]);
-    assert!(rt; side.pt_alloc(0, None).is_ok());
-    assert!(rt; side.md_bind(DESCRIPTOR).is_ok());
+    gives!(rt; side.pt_alloc(0, None).is_ok(), true);
+    gives!(rt; side.md_bind(DESCRIPTOR).is_ok(), true);
     let linked = side.me_append(0, List::Overflow, ENTRY);
-    assert!(rt; matches!(linked, Ok(Appended::Linked(_))));
-    assert_eq!(rt; side.headers(), 0);
+    gives!(rt; matches!(linked, Ok(Appended::Linked(_))), true);
+    gives!(rt; side.headers(), 0);
     for hdr_data in [7, 8] {
         let put = side.start(&rt, Deed::Put(PutArgs { hdr_data, ..PUT }));
         let message = put.expect(&rt, "a message");
         let _came = side.deliver(&rt, message);
     }
-    assert_eq!(rt; side.headers(), 2);
-    assert_eq!(rt; side.header(0, 0).map(|h| h.header.hdr_data), Some(7));
-    assert_eq!(rt; side.header(0, 1).map(|h| h.header.hdr_data), Some(8));
-    assert_eq!(rt; side.header(0, 2), None);
-    assert_eq!(rt; side.header(1, 0), None);
+    gives!(rt; side.headers(), 2);
+    gives!(rt; side.header(0, 0).map(|h| h.header.hdr_data), Some(7));
+    gives!(rt; side.header(0, 1).map(|h| h.header.hdr_data), Some(8));
+    gives!(rt; side.header(0, 2), None);
+    gives!(rt; side.header(1, 0), None);
 }

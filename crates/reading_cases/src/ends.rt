@@ -1,5 +1,6 @@
 //! The ends over the system's traits, and the ends in memory.
 
+use crate::answers::gives;
 use port_io::{
     Failed, IoTurn, IoTurns, MemorySink, MemorySource, Sink, Source, StdSink, StdSource, SureSink,
     SureSource,
@@ -33,21 +34,21 @@ impl Write for Broken {
 fn a_source_over_a_reader(rt: HostRuntime) {
     let mut into = [0u8; 4];
     let mut source = StdSource::new(b"abc".as_slice());
-    assert_eq!(rt; source.read(&mut into), Ok(3));
-    assert_eq!(rt; into.as_slice(), b"abc\0".as_slice());
-    assert_eq!(rt; source.read(&mut into), Ok(0));
-    assert_eq!(rt; StdSource::new(Broken).read(&mut into), Err(Failed));
+    gives!(rt; source.read(&mut into), Ok(3));
+    gives!(rt; into.as_slice(), b"abc\0".as_slice());
+    gives!(rt; source.read(&mut into), Ok(0));
+    gives!(rt; StdSource::new(Broken).read(&mut into), Err(Failed));
 }
 
 #[test]
 fn a_sink_over_a_writer(rt: HostRuntime) {
     let mut sink = StdSink::new(io::sink());
-    assert_eq!(rt; sink.write(b"abc"), Ok(3));
-    assert_eq!(rt; sink.finish(), Ok(()));
+    gives!(rt; sink.write(b"abc"), Ok(3));
+    gives!(rt; sink.finish(), Ok(()));
     let mut broken = StdSink::new(Broken);
-    assert_eq!(rt; broken.write(b"abc"), Err(Failed));
-    assert_eq!(rt; broken.write(b""), Ok(0));
-    assert_eq!(rt; broken.finish(), Err(Failed));
+    gives!(rt; broken.write(b"abc"), Err(Failed));
+    gives!(rt; broken.write(b""), Ok(0));
+    gives!(rt; broken.finish(), Err(Failed));
 }
 
 #[test]
@@ -55,15 +56,15 @@ fn ends_that_never_fail(rt: HostRuntime) -> Result<(), Fail> {
     let alloc = rt.alloc();
     let mut into = [0u8; 2];
     let mut source = SureSource::new(Bytes::of(alloc, b"abc")?);
-    assert_eq!(rt; source.read(&mut into), Ok(2));
-    assert_eq!(rt; source.read(&mut into), Ok(1));
-    assert_eq!(rt; into, [b'c', b'b']);
+    gives!(rt; source.read(&mut into), Ok(2));
+    gives!(rt; source.read(&mut into), Ok(1));
+    gives!(rt; into, [b'c', b'b']);
     let mut sink = SureSink::with_room(alloc, 4)?;
-    assert_eq!(rt; sink.write(b"abcdef"), Ok(6));
-    assert_eq!(rt; sink.as_slice(), b"abcd".as_slice());
-    assert_eq!(rt; sink.more(), 2);
-    assert_eq!(rt; sink.finish(), Ok(()));
-    assert_eq!(rt; sink.finishes(), 1);
+    gives!(rt; sink.write(b"abcdef"), Ok(6));
+    gives!(rt; sink.as_slice(), b"abcd".as_slice());
+    gives!(rt; sink.more(), 2);
+    gives!(rt; sink.finish(), Ok(()));
+    gives!(rt; sink.finishes(), 1);
     Ok(())
 }
 
@@ -75,14 +76,14 @@ fn ends_that_follow_a_script(rt: HostRuntime) -> Result<(), Fail> {
     turns.add(IoTurn::Take(1))?;
     turns.add(IoTurn::Fail)?;
     let mut source = MemorySource::new(Bytes::of(alloc, b"abc")?, turns);
-    assert_eq!(rt; source.read(&mut into), Ok(1));
-    assert_eq!(rt; source.read(&mut into), Err(Failed));
-    assert_eq!(rt; source.read(&mut into), Ok(2));
+    gives!(rt; source.read(&mut into), Ok(1));
+    gives!(rt; source.read(&mut into), Err(Failed));
+    gives!(rt; source.read(&mut into), Ok(2));
     let mut sink = MemorySink::new(alloc, IoTurns::new(alloc));
-    assert_eq!(rt; sink.write(b"a"), Err(Failed));
-    assert_eq!(rt; sink.faults(), 1);
-    assert_eq!(rt; sink.finish(), Ok(()));
-    assert_eq!(rt; sink.finishes(), 1);
-    assert!(rt; sink.as_slice().is_empty());
+    gives!(rt; sink.write(b"a"), Err(Failed));
+    gives!(rt; sink.faults(), 1);
+    gives!(rt; sink.finish(), Ok(()));
+    gives!(rt; sink.finishes(), 1);
+    gives!(rt; sink.as_slice().is_empty(), true);
     Ok(())
 }

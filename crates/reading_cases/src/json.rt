@@ -1,6 +1,7 @@
 //! What no clause says: whole values and their line texts or refusals, from outside. The expected answers are another
 //! program's, written apart from this one.
 
+use crate::answers::gives;
 use coll_lang::print;
 use json_lang::{JsonFault, lines_of, parse_json};
 use serde_json::Value;
@@ -358,33 +359,21 @@ fn limits(rt: HostRuntime) -> Result<(), Fail> {
     // The most bytes, and one more.
     let mut json = Vec::from_slice(alloc, DESCRIBED[0].0.as_bytes())?;
     json.extend_from_slice(vec![in alloc; b' '; 1_048_458]?.as_slice())?;
-    assert_eq!(rt; answer(alloc, json.as_slice()), None);
+    gives!(rt; answer(alloc, json.as_slice()), None);
     json.push(b' ')?;
-    assert_eq!(rt; answer(alloc, json.as_slice()), Some((0, "TooLong")));
+    gives!(rt; answer(alloc, json.as_slice()), Some((0, "TooLong")));
     // What isn't even JSON is too long first.
     let spaces = vec![in alloc; b' '; 1_048_577]?;
-    assert_eq!(rt; answer(alloc, spaces.as_slice()), Some((0, "TooLong")));
-    assert_eq!(rt;
-        answer(alloc, &spaces.as_slice()[1..]),
-        Some((0, "BadJson"))
-    );
+    gives!(rt; answer(alloc, spaces.as_slice()), Some((0, "TooLong")));
+    gives!(rt; answer(alloc, &spaces.as_slice()[1..]), Some((0, "BadJson")));
     // Line texts of 15 bytes, 8 for each print and 4: 1,048,579 bytes, and 1,048,571.
-    assert_eq!(rt;
-        answer(alloc, prints(alloc, 131_070)?.as_slice()),
-        Some((0, "TooLong"))
-    );
-    assert_eq!(rt;
-        answer(alloc, prints(alloc, 131_069)?.as_slice()),
-        Some((3, "UnknownBuffer"))
-    );
+    gives!(rt; answer(alloc, prints(alloc, 131_070)?.as_slice()), Some((0, "TooLong")));
+    gives!(rt; answer(alloc, prints(alloc, 131_069)?.as_slice()), Some((3, "UnknownBuffer")));
     // 128 levels, and 127.
     let mut deep = vec![in alloc; b'['; 128]?;
     deep.extend_from_slice(vec![in alloc; b']'; 128]?.as_slice())?;
-    assert_eq!(rt; answer(alloc, deep.as_slice()), Some((0, "BadJson")));
-    assert_eq!(rt;
-        answer(alloc, &deep.as_slice()[1..255]),
-        Some((0, "BadForm"))
-    );
+    gives!(rt; answer(alloc, deep.as_slice()), Some((0, "BadJson")));
+    gives!(rt; answer(alloc, &deep.as_slice()[1..255]), Some((0, "BadForm")));
     Ok(())
 }
 

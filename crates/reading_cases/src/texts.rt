@@ -1,5 +1,6 @@
 //! What no clause says: whole texts and their answers, from outside.
 
+use crate::answers::gives;
 use coll_lang::{ChoiceStep, Description, ParseFault, parse, print};
 use std::test::Fail;
 
@@ -66,22 +67,22 @@ fn parts_of_a_description(rt: HostRuntime) {
     let Ok(d) = parse(rt.alloc(), text) else {
         panic!(rt; "refused")
     };
-    assert!(rt; d.choices().is_none());
+    gives!(rt; d.choices().is_none(), true);
     let (shape, inputs) = d.into_parts();
-    assert_eq!(rt; shape.ranks(), 2);
-    assert!(rt; !shape.remote());
-    assert_eq!(rt; shape.steps().len(), 1);
-    assert_eq!(rt; shape.prints(), [1].as_slice());
+    gives!(rt; shape.ranks(), 2);
+    gives!(rt; shape.remote(), false);
+    gives!(rt; shape.steps().len(), 1);
+    gives!(rt; shape.prints(), [1].as_slice());
     let [one, other] = inputs.lists() else {
         panic!(rt; "not two lists")
     };
-    assert_eq!(rt; one.as_slice(), [1, 2].as_slice());
-    assert_eq!(rt; other.as_slice(), [3, 4].as_slice());
+    gives!(rt; one.as_slice(), [1, 2].as_slice());
+    gives!(rt; other.as_slice(), [3, 4].as_slice());
     let [first, second] = shape.buffers() else {
         panic!(rt; "not two buffers")
     };
-    assert_eq!(rt; first.name.as_slice(), b"a".as_slice());
-    assert_eq!(rt; second.name.as_slice(), b"b".as_slice());
+    gives!(rt; first.name.as_slice(), b"a".as_slice());
+    gives!(rt; second.name.as_slice(), b"b".as_slice());
 }
 
 #[test]
@@ -90,14 +91,14 @@ fn choices_of_a_description(rt: HostRuntime) {
     let Ok(d) = parse(rt.alloc(), text) else {
         panic!(rt; "refused")
     };
-    assert_eq!(rt; d.shape().ranks(), 3);
+    gives!(rt; d.shape().ranks(), 3);
     let Some(choices) = d.choices() else {
         panic!(rt; "no choices")
     };
-    assert_eq!(rt; choices.prints(), [1].as_slice());
+    gives!(rt; choices.prints(), [1].as_slice());
     let [ChoiceStep::Elect(first), ChoiceStep::Tickets(second)] = choices.steps() else {
         panic!(rt; "other steps")
     };
-    assert_eq!(rt; first.as_slice(), b"a".as_slice());
-    assert_eq!(rt; second.as_slice(), b"b".as_slice());
+    gives!(rt; first.as_slice(), b"a".as_slice());
+    gives!(rt; second.as_slice(), b"b".as_slice());
 }

@@ -1,5 +1,6 @@
 //! Words, values, lines and names whose readings were found by hand.
 
+use crate::answers::gives;
 use coll_text::{
     Flaw, Number, ValuesFault, Words, cut, data_line, is, is_name, number_at, number_between,
     push_data_line, push_line, push_value, value_of,
@@ -33,14 +34,14 @@ fn numbers_have_one_spelling(rt: HostRuntime) {
         (b"", Number::Malformed),
     ];
     for (word, number) in rows {
-        assert!(rt; number_at(word) == number);
+        gives!(rt; number_at(word), number);
     }
-    assert!(rt; number_between(1, 64, b"1") == Some(1));
-    assert!(rt; number_between(1, 64, b"64") == Some(64));
-    assert!(rt; number_between(1, 64, b"65") == None);
-    assert!(rt; number_between(1, 64, b"0") == None);
-    assert!(rt; number_between(1, 64, b"064") == None);
-    assert!(rt; number_between(0, 64, b"18446744073709551616") == None);
+    gives!(rt; number_between(1, 64, b"1"), Some(1));
+    gives!(rt; number_between(1, 64, b"64"), Some(64));
+    gives!(rt; number_between(1, 64, b"65"), None);
+    gives!(rt; number_between(1, 64, b"0"), None);
+    gives!(rt; number_between(1, 64, b"064"), None);
+    gives!(rt; number_between(0, 64, b"18446744073709551616"), None);
 }
 
 /// Least and greatest values, and the values one past each.
@@ -109,13 +110,13 @@ static NO_VALUES: [&[u8]; 11] = [
 #[test]
 fn values_end_at_the_least_and_the_greatest(rt: HostRuntime) {
     for (ty, word, pattern) in EDGES {
-        assert!(rt; value_of(ty, word) == pattern);
+        gives!(rt; value_of(ty, word), pattern);
         for none in NO_VALUES {
-            assert!(rt; value_of(ty, none) == None);
+            gives!(rt; value_of(ty, none), None);
         }
     }
-    assert!(rt; value_of(ElemType::I8, b"-1") == Some(0xff));
-    assert!(rt; value_of(ElemType::I64, b"-1") == Some(0xffff_ffff_ffff_ffff));
+    gives!(rt; value_of(ElemType::I8, b"-1"), Some(0xff));
+    gives!(rt; value_of(ElemType::I64, b"-1"), Some(0xffff_ffff_ffff_ffff));
 }
 
 /// Whether the line holds so many values of the type, and their bytes are these, or it has that flaw.
@@ -177,22 +178,22 @@ fn lines_are_cut(rt: HostRuntime) {
     ];
     for (bytes, line, rest) in rows {
         let (first, after) = cut(bytes, b'\n');
-        assert!(rt; first == line);
-        assert!(rt; after == rest);
+        gives!(rt; first, line);
+        gives!(rt; after, rest);
     }
     let words: [&[u8]; 4] = [b"a", b"", b"b", b""];
     let mut read = Words::of(b"a  b ");
     for word in words {
-        assert!(rt; read.next() == Some(word));
+        gives!(rt; read.next(), Some(word));
     }
-    assert!(rt; read.next() == None);
+    gives!(rt; read.next(), None);
 }
 
 #[test]
 fn names_have_1_to_16_bytes_and_begin_with_a_letter(rt: HostRuntime) {
     let taken: [&[u8]; 4] = [b"a", b"z9", b"a_b_0", b"abcdefghijklmno0"];
     for word in taken {
-        assert!(rt; is_name(word));
+        gives!(rt; is_name(word), true);
     }
     let refused: [&[u8]; 7] = [
         b"",
@@ -204,9 +205,9 @@ fn names_have_1_to_16_bytes_and_begin_with_a_letter(rt: HostRuntime) {
         b"abcdefghijklmno01",
     ];
     for word in refused {
-        assert!(rt; !is_name(word));
+        gives!(rt; is_name(word), false);
     }
-    assert!(rt; is(b"end", b"end") && !is(b"end ", b"end"));
+    gives!(rt; is(b"end", b"end") && !is(b"end ", b"end"), true);
 }
 
 #[test]
