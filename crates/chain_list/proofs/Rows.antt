@@ -1,7 +1,7 @@
 -- What one write to values or links that lie apart makes of the nodes.
-use Rattle.std.proofs.Common.{◌≡◌, ℕ, zero, suc, ◌+◌, ◌-◌, ◌<◌, Bool, true, List, [], ◌∷◌, ◌++◌, length, get_or, set, replicate, Option, Some, None, refl, sym, ap, subst, ◌∙◌, arith}
+use Rattle.std.proofs.Common.{◌≡◌, ℕ, zero, suc, ◌+◌, ◌-◌, ◌<◌, true, List, [], ◌∷◌, ◌++◌, length, get_or, set, replicate, Option, Some, None, refl, ap, arith}
 use Rattle.std.specs.Option.{is_some}
-use Rattle.chain_list.specs.NodeMap.{Node, node}
+use Rattle.chain_list.specs.NodeMap.{node}
 use Rattle.chain_list.specs.declared.row.Links.{Links}
 use Rattle.chain_list.specs.Joined.{no_links, with_links, joined}
 

@@ -1,5 +1,5 @@
 //! A doubly linked list under keys.
-ghost use Rattle.std.specs.Prelude.{◌≡◌, ◌+◌, ◌-◌, ◌*◌, ◌<◌, ◌≤◌, ◌^◌, [], ◌∷◌, ◌++◌, Some, None, is_some, IsSome, IsTrue, length, replicate, get_or, vec_len, vec_capacity, IfOk, IfSome, IfNone, OnOk, OnErr, option_copied, if◌then◌else◌};
+ghost use Rattle.std.specs.Prelude.{◌≡◌, ◌+◌, ◌-◌, ◌*◌, ◌<◌, ◌≤◌, ◌^◌, [], ◌∷◌, ◌++◌, Some, None, is_some, IsSome, length, get_or, IfOk, IfSome, IfNone, OnOk, OnErr, option_copied, if◌then◌else◌};
 ghost use Rattle.std.specs.Option.{option_copied_mut};
 ghost use Rattle.std.specs.Borrow.{sem};
 ghost use Rattle.chain_list.specs.NodeMap.{IsLive};
@@ -97,7 +97,7 @@ impl<T> Model for Chain<T> {
 }
 
 impl<T> Chain<T> {
-    ghost use Rattle.chain_list.specs.Chain.{chain_list, keyed, value_at, without, stamp_at, first_key, key_after, first_or, last_or, Linked, Apart};
+    ghost use Rattle.chain_list.specs.Chain.{chain_list, keyed, value_at, without, stamp_at, first_key, key_after, Linked, Apart};
     ghost use Rattle.chain_list.specs.ChainLends.{lends_at};
 
     /// The empty list. It takes no memory.

@@ -32,7 +32,7 @@ pub fn moves_are_lawful()
 
 /// At rest each step is told at each rank, and its values are right: one rank at every rank, or a ticket of its own for each.
 pub fn rest_is_right()
-    ensures told { (ranks : ℕ) (choices : List ChoiceKind) (m : Moment) (r s : ℕ) →
+    ensures complete { (ranks : ℕ) (choices : List ChoiceKind) (m : Moment) (r s : ℕ) →
         IsLawful ranks choices m → IsResting ranks choices m → r < ranks → s < length choices →
         IsTold (m.phase r s) }
     ensures right { (ranks : ℕ) (choices : List ChoiceKind) (m : Moment) (s : ℕ) →

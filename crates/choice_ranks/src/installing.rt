@@ -1,6 +1,6 @@
 //! The calls that install a choice text on one rank.
 
-ghost use Rattle.std.specs.Prelude.{ℕ, List, None, true, false, ◌≡◌, ◌<◌, ◌≤◌, ◌+◌, ◌*◌, ◌^◌, [], ◌∷◌, IfOk, OnOk, is_some, flat_map, length, map, sum_by};
+ghost use Rattle.std.specs.Prelude.{List, None, true, false, ◌≡◌, ◌<◌, ◌≤◌, ◌+◌, ◌*◌, ◌^◌, [], ◌∷◌, IfOk, OnOk, is_some, flat_map, length, map, sum_by};
 ghost use Rattle.ptl_types.specs.declared.headers.AckRequest.TheVariants.{NoAck};
 ghost use Rattle.coll_lang.specs.declared.choices.ChoiceKind.{ChoiceKind};
 ghost use Rattle.coll_lang.specs.declared.choices.ChoiceKind.TheVariants.{Elect, Tickets};
@@ -103,7 +103,7 @@ fn make_tickets(nic: &mut Nic, kept: &mut Kept, step: u32, counter: usize) -> Re
 
 /// How many counting events a step has.
 fn counters_of(kind: ChoiceKind) -> usize
-    ensures told { result ≡ counters_in kind }
+    ensures value { result ≡ counters_in kind }
     ensures few { result ≤ 2 }
 {
     match kind {
@@ -114,7 +114,7 @@ fn counters_of(kind: ChoiceKind) -> usize
 
 /// How many descriptors and how many operations it has.
 fn things_of(kind: ChoiceKind) -> usize
-    ensures told { result ≡ things_in kind }
+    ensures value { result ≡ things_in kind }
     ensures few { result ≤ 3 }
 {
     match kind {
@@ -348,7 +348,7 @@ fn post_all(nic: &mut Nic, kept: &Kept, kinds: &[ChoiceKind]) -> Result<(), NoMe
 
 /// How many local steps a rank makes for a step of the text: firings and answers.
 fn told(kind: ChoiceKind) -> u64
-    ensures told { result ≡ told_steps kind }
+    ensures value { result ≡ told_steps kind }
     ensures few { result ≤ 5 }
 {
     match kind {
@@ -359,7 +359,7 @@ fn told(kind: ChoiceKind) -> u64
 
 /// How many requests it makes.
 fn asked(kind: ChoiceKind) -> u64
-    ensures told { result ≡ told_requests kind }
+    ensures value { result ≡ told_requests kind }
     ensures few { result ≤ 2 }
 {
     match kind {

@@ -1,6 +1,6 @@
 //! One rank of a choice world.
 
-ghost use Rattle.std.specs.Prelude.{◌≡◌, ◌<◌, ◌≤◌, ◌+◌, ◌*◌, [], IsTrue, IfOk, Some, length, map, count_by, nat_lt, slice_get};
+ghost use Rattle.std.specs.Prelude.{◌≡◌, ◌<◌, ◌≤◌, [], IsTrue, Some, length, map, count_by, nat_lt, slice_get};
 ghost use Rattle.ni_model.specs.Ready.{is_ready, ready_numbers};
 ghost use Rattle.plan_cuts.specs.History.{is_start, made_by};
 ghost use Rattle.plan_cuts.specs.History.Local.{Fire as Fired, Receive as Received};
@@ -55,7 +55,7 @@ impl Seat {
 
     /// Its steps, oldest first.
     pub fn history(&self) -> &[LocalStep]
-        ensures told { result.now ≡ self.now.diary.steps }
+        ensures value { result.now ≡ self.now.diary.steps }
         ensures listed { map listed self.now.diary.locals ≡ self.now.diary.steps }
     {
         self.history.steps()
@@ -75,7 +75,7 @@ impl Seat {
         self.nic.ready_count()
     }
 
-    /// The number of the one at place `i` among these, by rising number, from 0.
+    /// The number of the one at position `i` among these, by rising number, from 0.
     pub fn ready_at(&self, i: u32) -> u32
         requires { i < length (ready_numbers self.now.nic) }
         ensures { slice_get (ready_numbers self.now.nic) i ≡ Some result }

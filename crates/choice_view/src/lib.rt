@@ -2,7 +2,7 @@
 //! the text's machine.
 #![tactic(auto)]
 
-ghost use Rattle.std.specs.Prelude.{ℕ, List, Bool, true, false, None, Some, Ok, ◌≡◌, ◌<◌, ◌≤◌, ◌*◌, ◌-◌, ◌^◌, ◌++◌, ◌∷◌, [], length, flat_map};
+ghost use Rattle.std.specs.Prelude.{ℕ, List, Bool, true, false, None, Some, Ok, ◌≡◌, ◌<◌, ◌≤◌, ◌*◌, ◌-◌, ◌^◌, ◌∷◌, [], length};
 ghost use Rattle.ptl_types.specs.declared.calls.Outcome.TheVariants.{Matched, Answered};
 ghost use Rattle.ni_model.specs.Calls.{ct_inc, ends};
 ghost use Rattle.ni_model.specs.Counts.{successes};

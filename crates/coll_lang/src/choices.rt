@@ -55,7 +55,7 @@ impl Choices {
 
     /// The steps in order.
     pub fn steps(&self) -> &[ChoiceStep]
-        ensures told { result.now ≡ self.now.steps }
+        ensures value { result.now ≡ self.now.steps }
         // This holds of all choices, whichever call tells it.
         ensures are { AreChoices self.now }
     {
@@ -64,7 +64,7 @@ impl Choices {
 
     /// The numbers of the steps whose buffers are printed, in order.
     pub fn prints(&self) -> &[u32]
-        ensures told { result.now ≡ self.now.prints }
+        ensures value { result.now ≡ self.now.prints }
     {
         self.prints.as_slice()
     }

@@ -1,6 +1,6 @@
 //! A description: a shape, and the values of its inputs, or the steps of a choice text.
 
-ghost use Rattle.std.specs.Prelude.{◌≡◌, ◌*◌, length, [], Option, Some, None};
+ghost use Rattle.std.specs.Prelude.{◌≡◌, ◌*◌, length, [], Option};
 ghost use Rattle.coll_lang.specs.Language.{described};
 ghost use Rattle.coll_lang.specs.Readable.{IsReadable};
 ghost use Rattle.coll_lang.specs.Seen.{choices_seen};
@@ -72,7 +72,7 @@ impl Description {
 
     /// The steps of a choice text. `None`: it is no choice text.
     pub fn choices(&self) -> Option<&Choices>
-        ensures told { choices_seen result ≡ self.now.choices }
+        ensures value { choices_seen result ≡ self.now.choices }
     {
         self.choices.as_ref()
     }

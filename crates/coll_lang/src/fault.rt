@@ -53,7 +53,7 @@ pub enum Refusal {
 impl Refusal {
     /// The number, from 1 on.
     pub fn number(&self) -> u32
-        ensures told { result ≡ refusal_number self.now }
+        ensures value { result ≡ refusal_number self.now }
     {
         match self {
             Refusal::TooLong => 1,
@@ -80,7 +80,7 @@ impl Refusal {
 
     /// The name as it is written into a refusal's line.
     pub fn word(&self) -> &'static str
-        ensures told { result.now ≡ refusal_word self.now }
+        ensures value { result.now ≡ refusal_word self.now }
     {
         match self {
             Refusal::TooLong => "TooLong",

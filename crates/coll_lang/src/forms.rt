@@ -1,6 +1,6 @@
 //! What a line is by its words.
 
-ghost use Rattle.std.specs.Prelude.{◌≡◌, option_map, not, IfSome, IfNone, Some, None};
+ghost use Rattle.std.specs.Prelude.{◌≡◌, option_map, IfSome, IfNone, Some, None};
 ghost use Rattle.std.specs.List.{list_any};
 ghost use Rattle.coll_text.specs.Text.{words, is_empty};
 ghost use Rattle.coll_lang.specs.Forms.{choice, last, print, step, type_of, op_of, op_in, root_in, names_in, step_in, on_in, group_in, input_in, name_in, complete_in, form_of, alone};

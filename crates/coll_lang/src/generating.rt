@@ -1,7 +1,6 @@
 //! The description with which large runs are made.
 
-ghost use Rattle.std.specs.Prelude.{◌≡◌, ◌+◌, ◌*◌, ◌<◌, length, vec_len, IfOk, map, Ok};
-ghost use Rattle.std.specs.List.{range_with_len};
+ghost use Rattle.std.specs.Prelude.{◌≡◌, ◌+◌, ◌*◌, ◌<◌, length, vec_len, IfOk, Ok};
 ghost use Rattle.ptl_types.specs.declared.elements.ElemType.TheVariants.{U32};
 ghost use Rattle.coll_text.specs.Elements.{bytes_of_list};
 ghost use Rattle.coll_lang.specs.Language.{described, read};

@@ -56,8 +56,7 @@ pub struct Reader {
     ghost are_small: { All IsSmall buffers.items },
 }
 
-// Written out, so that a caller that lets one go makes one call: a derived one is spelled out, down to each vector, at every return of a
-// caller that has one, and the caller's proof with it.
+// Written out, so that letting one go is one call: docs/DECISIONS.md, "Large types have a drop of their own".
 impl Drop for Reader {
     fn drop(self) {
         let Reader {

@@ -1,6 +1,6 @@
 //! Judging a step.
 
-ghost use Rattle.std.specs.Prelude.{ℕ, if◌then◌else◌, ◌+◌, ◌≡◌, ◌≤◌, ◌<◌, ◌||◌, ◌&&◌, length, IfOk, IfSome, nat_le, is_some, option_map, Some, None};
+ghost use Rattle.std.specs.Prelude.{ℕ, if◌then◌else◌, ◌+◌, ◌≡◌, ◌≤◌, ◌<◌, ◌||◌, ◌&&◌, length, IfOk, nat_le, is_some, option_map, Some, None};
 ghost use Rattle.coll_text.specs.Cuts.{ReadsNumber};
 ghost use Rattle.coll_lang.specs.Answers.{Gives};
 ghost use Rattle.coll_lang.specs.Language.{members_in, root_number, rooted_line, source_named, step_on, step_line};
@@ -61,7 +61,7 @@ fn source_named<'a>(
     reader: &'a Reader,
     names: Option<(&'a [u8], &'a [u8])>,
 ) -> Result<Source<'a>, LineFault>
-    ensures told { Gives source_seen result (source_named (past reader.now) (option_map both_now names.entry)) }
+    ensures exact { Gives source_seen result (source_named (past reader.now) (option_map both_now names.entry)) }
     ensures small { IfOk result (λ s. s.len ≤ MOST_ELEMENTS) }
     ensures number { IfOk result (λ s. s.number ≤ MOST_BUFFERS) }
 {
@@ -124,7 +124,7 @@ fn step_on(
     requires place { root < length members.now }
     requires small { source.len ≤ MOST_ELEMENTS }
     requires are { members.now ≡ members_in (past reader.now) on }
-    ensures told { Gives (put (past reader.now)) result (step_on (past reader.now) (step_seen words.entry) root (source_seen source.entry) (Some on)) }
+    ensures exact { Gives (put (past reader.now)) result (step_on (past reader.now) (step_seen words.entry) root (source_seen source.entry) (Some on)) }
     ensures small { IfOk result (λ made. IfMade made.buffer) }
     ensures room { IfOk result (λ made. length reader.now.buffers.items + made_count made.buffer ≤ MOST_BUFFERS) }
 {
@@ -163,7 +163,7 @@ fn judge_rooted(
     words: StepLine,
     place: Option<Rank>,
 ) -> Result<Made, LineFault>
-    ensures told { (root : ℕ) → Places place root → Gives (put (past reader.now)) result (rooted_line (past reader.now) (now on.entry) (step_seen words.entry) root) }
+    ensures exact { (root : ℕ) → Places place root → Gives (put (past reader.now)) result (rooted_line (past reader.now) (now on.entry) (step_seen words.entry) root) }
     ensures small { IfOk result (λ made. IfMade made.buffer) }
     ensures room { IfOk result (λ made. length reader.now.buffers.items + made_count made.buffer ≤ MOST_BUFFERS) }
 {
@@ -183,7 +183,7 @@ fn judge_rooted(
 /// Judges a step.
 #[tactic(auto, unfolding(crate::specs::Language::step_line))]
 pub fn judge_step(reader: &Reader, on: Option<&[u8]>, words: StepLine) -> Result<Made, LineFault>
-    ensures told { Gives (put (past reader.now)) result (step_line (past reader.now) (now on.entry) (step_seen words.entry)) }
+    ensures exact { Gives (put (past reader.now)) result (step_line (past reader.now) (now on.entry) (step_seen words.entry)) }
     ensures small { IfOk result (λ made. IfMade made.buffer) }
     ensures room { IfOk result (λ made. length reader.now.buffers.items + made_count made.buffer ≤ MOST_BUFFERS) }
 {

@@ -7,7 +7,7 @@ ghost use Rattle.coll_text.specs.Text.{words};
 ghost use Rattle.coll_text.specs.Values.{data_line};
 ghost use Rattle.coll_shape.specs.WellFormed.{most_ranks};
 ghost use Rattle.coll_lang.specs.Answers.{Gives};
-ghost use Rattle.coll_lang.specs.Language.{choice_buffer, choice_line, choice_step, data_due, form_line, form_since, group_line, input_buffer, input_line, is_allowed, judge, later_line, line_at, may_stand, print_line, ranks_in, stands_at, stands_in, step_line, unless_flawed, values_line, version_of};
+ghost use Rattle.coll_lang.specs.Language.{choice_line, data_due, form_line, form_since, group_line, input_line, is_allowed, judge, later_line, line_at, may_stand, print_line, ranks_in, stands_at, stands_in, step_line, unless_flawed, values_line, version_of};
 ghost use Rattle.coll_lang.specs.Made.{members_said, rank_read};
 ghost use Rattle.coll_lang.specs.Seen.{form, now, step_seen};
 ghost use Rattle.coll_lang.specs.States.{past, Takes};
@@ -30,7 +30,7 @@ use std::alloc::{AllocError, Global};
 
 /// The most ranks of a version.
 fn most_ranks(version: Version) -> u32
-    ensures told { result ≡ most_ranks version }
+    ensures value { result ≡ most_ranks version }
     ensures most { result ≤ MOST_RANKS }
 {
     match version {
@@ -141,7 +141,7 @@ fn data_due(left: u32, ty: ElemType, count: u32) -> Stage
 /// The member that a word is. `None`: it is no rank from `least` on.
 #[tactic(auto, unfolding(crate::specs::Made::rank_read))]
 fn rank_at(ranks: u32, least: u32, word: &[u8]) -> Result<Option<Rank>, LineFault>
-    ensures told { Gives (λ rank. rank) result (rank_read ranks least word.now) }
+    ensures exact { Gives (λ rank. rank) result (rank_read ranks least word.now) }
     ensures least { IfOk result (λ rank. IfSome rank (λ r. least ≤ r)) }
     ensures below { IfOk result (λ rank. IfSome rank (λ r. r < ranks)) }
 {
@@ -160,7 +160,7 @@ fn members_said(
     mut members: Words,
 ) -> Result<Option<RankList>, LineFault>
     requires { ranks ≤ MOST_RANKS }
-    ensures told { Gives (λ list. list) result (members_said ranks members.entry) }
+    ensures exact { Gives (λ list. list) result (members_said ranks members.entry) }
     ensures some { IfOk result (λ list. IfSome list (λ l. 1 ≤ length l)) }
     ensures few { IfOk result (λ list. IfSome list (λ l. length l ≤ MOST_RANKS)) }
 {

@@ -26,7 +26,7 @@ impl Text {
 
     /// The bytes of the text.
     pub fn as_slice(&self) -> &[u8]
-        ensures told { result.now ≡ self.now }
+        ensures value { result.now ≡ self.now }
     {
         self.bytes.as_slice()
     }

@@ -1,7 +1,6 @@
 //! Reading a whole text.
 
 ghost use Rattle.std.specs.Prelude.{◌≡◌, ◌≤◌, length, IfOk};
-ghost use Rattle.number_lists.specs.Numbers.{from_to};
 ghost use Rattle.coll_text.specs.Text.{lines};
 ghost use Rattle.coll_lang.specs.Language.{nothing, read, read_from, is_finished};
 ghost use Rattle.coll_lang.specs.States.{past};

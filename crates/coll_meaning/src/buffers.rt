@@ -1,6 +1,6 @@
 //! The buffers of a description while its steps are made.
 
-ghost use Rattle.std.specs.Prelude.{◌≡◌, ◌++◌, ◌∷◌, ◌<◌, ◌^◌, [], List, ℕ, OnOk, OnErr, length, get_or};
+ghost use Rattle.std.specs.Prelude.{◌≡◌, ◌++◌, ◌∷◌, ◌<◌, ◌^◌, [], List, ℕ, OnOk, length, get_or};
 ghost use Rattle.coll_shape.specs.Folding.{at};
 ghost use Rattle.coll_shape.specs.Meaning.{lists_of, taken};
 
@@ -48,7 +48,7 @@ impl<'a> Buffers<'a> {
     /// How many buffers there are.
     pub fn count(&self) -> usize
         requires { length self.now < 2 ^ 32 }
-        ensures told { result ≡ length self.now }
+        ensures value { result ≡ length self.now }
     {
         self.count as usize + self.made.len()
     }
@@ -56,7 +56,7 @@ impl<'a> Buffers<'a> {
     /// The bytes of a buffer's list at a rank: its elements in order, each little-endian. The list is empty where there is no
     /// such buffer or no such rank. It takes no memory.
     pub fn list(&self, buffer: u32, r: Rank) -> &[u8]
-        ensures told { result.now ≡ at (lists_of self.now buffer) r }
+        ensures value { result.now ≡ at (lists_of self.now buffer) r }
     {
         if buffer < self.count {
             if r < self.ranks {

@@ -1,8 +1,7 @@
 //! Buffers as lists of bytes, one a rank.
 
-ghost use Rattle.std.specs.Prelude.{◌≡◌, ◌++◌, ◌<◌, [], List, ℕ, IfOk, length, get_or, slice_set};
+ghost use Rattle.std.specs.Prelude.{◌≡◌, ◌<◌, [], List, ℕ};
 ghost use Rattle.coll_shape.specs.Folding.{at};
-ghost use Rattle.coll_shape.specs.Meaning.{lists_of, taken};
 ghost use Rattle.coll_meaning.specs.Forms.{form_list, rank_lists};
 
 use coll_shape::InputList;

@@ -1,6 +1,6 @@
 //! What a step makes, and which buffers are let go.
 
-ghost use Rattle.std.specs.Prelude.{◌≡◌, ◌<◌, ◌^◌, ℕ, true, length, get_or, IfOk, OnOk};
+ghost use Rattle.std.specs.Prelude.{◌≡◌, ◌<◌, ◌^◌, ℕ, true, length, IfOk, OnOk};
 ghost use Rattle.std.specs.List.{list_any};
 ghost use Rattle.coll_shape.specs.Collectives.{asks_of, source_of};
 ghost use Rattle.coll_shape.specs.Outline.{step_at};

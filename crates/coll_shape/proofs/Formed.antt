@@ -1,10 +1,10 @@
 -- Well formed is a fact that holds in one way, but for who holds what, which a test tells: so what a shape keeps is brought out.
-use Rattle.std.proofs.Common.{◌≡◌, ℕ, zero, suc, ◌<◌, ◌≤◌, Bool, true, List, [], ◌∷◌, Option, Some, None, length, get_or, cond, refl, sym, ap, ◌∙◌, subst}
+use Rattle.std.proofs.Common.{◌≡◌, ℕ, ◌<◌, List, Option, Some, None, length, get_or, cond, refl, sym, ap, ◌∙◌, subst}
 use Rattle.std.proofs.Math.Bridge.{le_prop}
 use Rattle.std.proofs.Math.Bool.{Bool-set}
 use Rattle.std.proofs.Math.Logic.{∥∥₁_elim, ∥∥₁_map}
 use Rattle.std.specs.Prelude.{◌==◌}
-use Rattle.std.specs.Coded.{Coded, code_by, coded_ℕ, coded_list}
+use Rattle.std.specs.Coded.{code_by, coded_ℕ, coded_list}
 use base.Stored.{Coded-set}
 use Rattle.ptl_types.specs.declared.elements.ElemType.{ElemType}
 use Rattle.ptl_types.specs.declared.elements.ElemType.TheVariants.{U8, I8, U16, I16, U32, I32, U64, I64}
@@ -17,7 +17,7 @@ use Rattle.coll_shape.specs.declared.types.Group.{Group}
 use Rattle.coll_shape.specs.declared.shape.Parts.{Parts}
 use Rattle.coll_shape.specs.Said.{said}
 use Rattle.coll_shape.specs.Outline.{Outline, group_at, members_of, step_at, read_buffer}
-use Rattle.coll_shape.specs.Collectives.{IsPlace, IsRoot, root_of, source_of, asks_of}
+use Rattle.coll_shape.specs.Collectives.{IsPlace, root_of, source_of}
 use Rattle.coll_shape.specs.WellFormed.{AreMembers, IsNumber, IsGroup, IsShape, StandsIn, StepFits, FitsVersion, IsWellFormed, made_upto}
 use Rattle.coll_shape.proofs.Asking.{reads-can, can-reads}
 

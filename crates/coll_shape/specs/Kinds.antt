@@ -1,5 +1,5 @@
 -- The kinds of steps. What a kind has is what the row of any step of it has.
-use Rattle.std.specs.Prelude.{ℕ, Bool, true, false, List, Option, Some, None, [], ◌∷◌, is_some, if◌then◌else◌}
+use Rattle.std.specs.Prelude.{ℕ, Bool, List, Option, Some, None, [], ◌∷◌, is_some, if◌then◌else◌}
 use Rattle.std.specs.Str.{bytes_eq}
 use Rattle.ptl_types.specs.declared.elements.AtomicOp.{AtomicOp}
 use Rattle.ptl_types.specs.declared.elements.AtomicOp.TheVariants.{Sum}

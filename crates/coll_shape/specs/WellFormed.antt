@@ -1,9 +1,7 @@
 -- What every description meets.
-use Rattle.std.specs.Prelude.{◌≡◌, ℕ, zero, suc, ◌+◌, ◌*◌, ◌<◌, ◌≤◌, List, Option, Some, None, [], ◌∷◌, ◌++◌, length, map, get_or, true}
-use Rattle.std.specs.Prelude.{Bool}
+use Rattle.std.specs.Prelude.{◌≡◌, ℕ, zero, suc, ◌+◌, ◌*◌, ◌<◌, ◌≤◌, List, Option, Some, None, [], ◌++◌, length, map, get_or, true}
 use Rattle.std.specs.List.{sum_by}
 use Rattle.coll_text.specs.Text.{is_name}
-use Rattle.ptl_types.specs.Operations.{bytes_of}
 use Rattle.number_lists.specs.Numbers.{from_to}
 use Rattle.coll_shape.specs.declared.limits.TheConstants.{MOST_RANKS, MOST_RANKS_IN_ONE, MOST_GROUPS, MOST_BUFFERS, MOST_STEPS, MOST_PRINTS}
 use Rattle.coll_shape.specs.declared.limits.TheConstants.{MOST_GIVEN, MOST_ELEMENTS}
@@ -12,7 +10,7 @@ use Rattle.coll_shape.specs.declared.types.Version.TheVariants.{One, Two}
 use Rattle.coll_shape.specs.declared.types.Buffer.{Buffer}
 use Rattle.coll_shape.specs.declared.types.Group.{Group}
 use Rattle.coll_shape.specs.declared.types.CollStep.{CollStep}
-use Rattle.coll_shape.specs.Outline.{Outline, buffer_at, step_at, group_at, read_buffer, list_bytes, no_group}
+use Rattle.coll_shape.specs.Outline.{Outline, buffer_at, step_at, group_at, read_buffer, no_group}
 use Rattle.coll_shape.specs.Collectives.{source_of, result_of, since, IsRoot, Reads, buffer_after, named}
 
 abbrev pub most_ranks : Version → ℕ

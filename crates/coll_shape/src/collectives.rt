@@ -1,6 +1,6 @@
 //! What the rows of the collectives say, as code.
 
-ghost use Rattle.std.specs.Prelude.{◌≡◌, ◌≤◌, ◌*◌, ◌%◌, ◌==◌, ◌<◌, length, get_or, count_by, IfOk, OnOk};
+ghost use Rattle.std.specs.Prelude.{◌≡◌, ◌≤◌, ◌*◌, ◌%◌, ◌==◌, ◌<◌, length, get_or, IfOk};
 ghost use Rattle.std.specs.List.{list_all, list_any};
 ghost use Rattle.coll_shape.specs.Collectives.{can_read, holding_places, is_in, made_holders, made_length, op_of, result_of, root_of, source_of, spread_so};
 ghost use Rattle.coll_shape.specs.declared.limits.TheConstants.{MOST_ELEMENTS, MOST_RANKS};
@@ -129,7 +129,7 @@ fn some_hold(members: &[Rank], holders: &[Rank]) -> bool
 /// How many members are among the holders.
 #[tactic(auto, using(crate::proofs::Asking::places_counted))]
 pub fn holders_among(members: &[Rank], holders: &[Rank]) -> u64
-    ensures told { result ≡ length (holding_places members.now holders.now) }
+    ensures value { result ≡ length (holding_places members.now holders.now) }
     ensures few { result ≤ length members.now }
 {
     members.iter().filter(|r| is_in(**r, holders)).count() as u64
@@ -163,7 +163,7 @@ pub fn made_length(step: CollStep, members: &[Rank], len: u64, holders: &[Rank])
     requires some { 0 < length members.now }
     requires few { length members.now ≤ MOST_RANKS }
     requires short { len ≤ MOST_ELEMENTS }
-    ensures told { result ≡ made_length members.now step (spread_so len holders.now) }
+    ensures value { result ≡ made_length members.now step (spread_so len holders.now) }
     ensures most { result ≤ MOST_RANKS * MOST_ELEMENTS }
 {
     let members_count = members.len() as u64;

@@ -28,7 +28,7 @@ impl InputList {
 
     /// The bytes of the list.
     pub fn as_slice(&self) -> &[u8]
-        ensures told { result.now ≡ self.now }
+        ensures value { result.now ≡ self.now }
     {
         self.bytes.as_slice()
     }
@@ -69,7 +69,7 @@ impl Inputs {
 
     /// All lists, input by input, and in each input rank by rank.
     pub fn lists(&self) -> &[InputList]
-        ensures told { result.now ≡ joined self.now }
+        ensures value { result.now ≡ joined self.now }
     {
         self.lists.as_slice()
     }
@@ -78,7 +78,7 @@ impl Inputs {
     pub fn list(&self, input: u32, r: Rank) -> &[u8]
         requires input { input < length self.now }
         requires rank { r < length (get_or self.now input []) }
-        ensures told { result.now ≡ get_or (get_or self.now input []) r [] }
+        ensures value { result.now ≡ get_or (get_or self.now input []) r [] }
     {
         self.lists[input as usize * self.ranks as usize + r as usize].as_slice()
     }

@@ -31,7 +31,7 @@ impl Name {
 
     /// The bytes of the name.
     pub fn as_slice(&self) -> &[u8]
-        ensures told { result.now ≡ self.now }
+        ensures value { result.now ≡ self.now }
     {
         self.bytes.as_slice()
     }
@@ -71,7 +71,7 @@ impl RankList {
 
     /// The ranks.
     pub fn as_slice(&self) -> &[Rank]
-        ensures told { result.now ≡ self.now }
+        ensures value { result.now ≡ self.now }
     {
         self.ranks.as_slice()
     }

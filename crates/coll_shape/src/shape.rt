@@ -160,7 +160,7 @@ impl Shape {
 
     /// The version of the language in which it is written.
     pub fn version(&self) -> Version
-        ensures told { result ≡ self.now.version }
+        ensures value { result ≡ self.now.version }
     {
         self.parts.version
     }
@@ -174,56 +174,56 @@ impl Shape {
 
     /// How many ranks the job has.
     pub fn ranks(&self) -> u32
-        ensures told { result ≡ self.now.ranks }
+        ensures value { result ≡ self.now.ranks }
     {
         self.parts.ranks
     }
 
     /// Whether completion also waits for every acknowledgement (`complete remote`).
     pub fn remote(&self) -> bool
-        ensures told { result ≡ self.now.remote }
+        ensures value { result ≡ self.now.remote }
     {
         self.parts.remote
     }
 
     /// The groups that are named.
     pub fn groups(&self) -> &[Group]
-        ensures told { result.now ≡ self.now.groups }
+        ensures value { result.now ≡ self.now.groups }
     {
         self.parts.groups.as_slice()
     }
 
     /// How many groups are named.
     pub fn group_count(&self) -> u32
-        ensures told { result ≡ length self.now.groups }
+        ensures value { result ≡ length self.now.groups }
     {
         self.parts.groups.len() as u32
     }
 
     /// The buffers in the order in which the text names them, the inputs first.
     pub fn buffers(&self) -> &[Buffer]
-        ensures told { result.now ≡ self.now.buffers }
+        ensures value { result.now ≡ self.now.buffers }
     {
         self.parts.buffers.as_slice()
     }
 
     /// How many of the buffers are inputs.
     pub fn input_count(&self) -> u32
-        ensures told { result ≡ self.now.inputs }
+        ensures value { result ≡ self.now.inputs }
     {
         self.parts.inputs
     }
 
     /// The steps in order.
     pub fn steps(&self) -> &[CollStep]
-        ensures told { result.now ≡ self.now.steps }
+        ensures value { result.now ≡ self.now.steps }
     {
         self.parts.steps.as_slice()
     }
 
     /// For each step the number of the group that it names. `None`: it is a step of all ranks.
     pub fn on(&self) -> &[Option<u32>]
-        ensures told { result.now ≡ self.now.on }
+        ensures value { result.now ≡ self.now.on }
     {
         self.parts.on.as_slice()
     }
@@ -231,7 +231,7 @@ impl Shape {
     /// The members of a step, rising ranks.
     pub fn group(&self, step: u32) -> &[Rank]
         requires { step < length self.now.steps }
-        ensures told { result.now ≡ group_at self.now step }
+        ensures value { result.now ≡ group_at self.now step }
     {
         let on = number_at(self.parts.on.as_slice(), step);
         members_of(self.everyone.as_slice(), self.parts.groups.as_slice(), on)
@@ -239,7 +239,7 @@ impl Shape {
 
     /// The numbers of the buffers that are printed, in order.
     pub fn prints(&self) -> &[u32]
-        ensures told { result.now ≡ self.now.prints }
+        ensures value { result.now ≡ self.now.prints }
     {
         self.parts.prints.as_slice()
     }

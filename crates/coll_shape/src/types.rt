@@ -158,7 +158,7 @@ impl Buffer {
     /// The bytes of a list of the buffer at a rank that holds it.
     pub fn list_bytes(&self) -> u64
         requires { self.now.spread.length ≤ MOST_ELEMENTS }
-        ensures told { result ≡ list_bytes self.now }
+        ensures value { result ≡ list_bytes self.now }
         ensures most { result ≤ 8 * MOST_ELEMENTS }
     {
         self.spread.length * self.ty.size()

@@ -7,14 +7,14 @@ ghost use Rattle.coll_text.specs.Text.{is_name, is_name_byte, is_letter, is_digi
 
 /// Whether the word is that text.
 pub fn is(word: &[u8], text: &[u8]) -> bool
-    ensures told { result ≡ bytes_eq word.now text.now }
+    ensures value { result ≡ bytes_eq word.now text.now }
 {
     word == text
 }
 
 /// Whether the word is a name: 1 to 16 bytes of `a` to `z`, `0` to `9` and `_`, the first a letter.
 pub fn is_name(word: &[u8]) -> bool
-    ensures told { result ≡ is_name word.now }
+    ensures value { result ≡ is_name word.now }
 {
     let Some((first, others)) = word.split_first() else {
         return false;

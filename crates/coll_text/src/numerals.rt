@@ -20,7 +20,7 @@ pub enum Number {
 
 /// Reads a word as a number: `0`, or a digit from 1 to 9 followed by digits.
 pub fn number_at(word: &[u8]) -> Number
-    ensures told { ReadsNumber result (number_of word.now) }
+    ensures exact { ReadsNumber result (number_of word.now) }
 {
     let Some((first, others)) = word.split_first() else {
         return Number::Malformed;

@@ -1,6 +1,6 @@
 //! Writing words, numbers, values and lines.
 
-ghost use Rattle.std.specs.Prelude.{◌≡◌, ◌∷◌, ◌++◌, ◌<◌, ◌≤◌, ◌^◌, map, length, OnOk, if◌then◌else◌};
+ghost use Rattle.std.specs.Prelude.{◌≡◌, ◌∷◌, ◌++◌, ◌<◌, map, OnOk, if◌then◌else◌};
 ghost use Rattle.std.specs.List.{flat_map};
 ghost use Rattle.std.specs.Fmt.{decimal};
 ghost use Rattle.ptl_types.specs.Operations.{span};
@@ -53,7 +53,7 @@ fn push_number(out: &mut Vec<u8>, n: u64) -> Result<(), AllocError>
 /// A value as it is printed, from its bit pattern: whether a minus sign stands before it, and the number after that.
 pub fn printed_value(ty: ElemType, n: u64) -> (bool, u64)
     requires pattern { n < span ty }
-    ensures told { value_word ty n ≡ (if result.0 then 45 ∷ decimal result.1 else decimal result.1) }
+    ensures value { value_word ty n ≡ (if result.0 then 45 ∷ decimal result.1 else decimal result.1) }
 {
     if is_signed(ty) && n >= half(ty) {
         (true, half(ty) - (n - half(ty)))

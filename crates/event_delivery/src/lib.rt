@@ -16,7 +16,7 @@ mod tests;
 
 /// That many successes, and no failure.
 pub fn successes(success: u64) -> Count
-    ensures told { result ≡ successes success }
+    ensures value { result ≡ successes success }
 {
     Count {
         success,

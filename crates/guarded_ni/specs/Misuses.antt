@@ -1,6 +1,5 @@
 -- What is wrong with the arguments of a call: the first rule that they break, if they break one.
-use Rattle.std.specs.Prelude.{ℕ, Bool, ◌&&◌, ◌==◌, ◌%◌, ◌+◌, nat_lt, Option, Some, None, if◌then◌else◌}
-use Rattle.ptl_types.specs.declared.elements.ElemType.{ElemType}
+use Rattle.std.specs.Prelude.{ℕ, Bool, ◌&&◌, ◌==◌, ◌%◌, nat_lt, Option, Some, None, if◌then◌else◌}
 use Rattle.ptl_types.specs.declared.calls.PutArgs.{PutArgs}
 use Rattle.ptl_types.specs.declared.calls.GetArgs.{GetArgs}
 use Rattle.ptl_types.specs.declared.calls.Limits.{Limits}

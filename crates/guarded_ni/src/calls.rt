@@ -78,7 +78,7 @@ pub fn deliver(nic: &mut Nic, message: Message) -> Result<Delivered, Misuse>
     Ok(nic.deliver(message))
 }
 
-/// The number of the ready operation at a place, as `Nic::ready_at` has it; `NotReady` exactly where there are no more than so many.
+/// The number of the ready operation at a position, as `Nic::ready_at` has it; `NotReady` exactly where there are no more than so many.
 pub fn ready_at(nic: &Nic, i: u32) -> Result<u32, Misuse>
     ensures { Tests (unless (nat_lt i (length (ready_numbers nic.now))) NotReady) nic.now nic.now
         (λ number. slice_get (ready_numbers nic.now) i ≡ Some number) result }

@@ -1,5 +1,5 @@
 -- What the descriptors name, by slot: as one is bound or released, and as one awaits more or fewer answers.
-use Rattle.std.proofs.Common.{◌≡◌, ℕ, ◌<◌, ◌≤◌, ◌^◌, ◌-◌, Bool, true, false, ◌||◌, List, [], ◌∷◌, length, Option, Some, None, nat_lt, nat_le, refl, ap, ◌∙◌, arith, replicate}
+use Rattle.std.proofs.Common.{◌≡◌, ℕ, ◌<◌, ◌^◌, ◌-◌, Bool, true, false, ◌||◌, List, [], ◌∷◌, length, Option, Some, None, nat_lt, nat_le, refl, ap, ◌∙◌, arith, replicate}
 use Rattle.std.specs.Prelude.{All, IfSome}
 use Rattle.std.proofs.lemmas.List.{length-replicate}
 use Rattle.std.proofs.lemmas.Bool.Decides.{nat_tests}
@@ -8,7 +8,7 @@ use Rattle.ptl_types.specs.declared.handles.Handle.{Handle}
 use Rattle.ptl_types.specs.declared.entries.Descriptor.{Descriptor}
 use Rattle.ptl_types.specs.declared.calls.Limits.{Limits}
 use Rattle.ni_model.specs.declared.Bound.{Bound}
-use Rattle.ni_model.specs.Tables.{Live, Table, lookup, changed, with_new, without, no_things, handle, has_slot, is_full, names}
+use Rattle.ni_model.specs.Tables.{Live, Table, lookup, changed, with_new, without, no_things, handle, has_slot, is_full}
 use Rattle.ni_model.specs.Answers.{awaits_less}
 use Rattle.ni_model.specs.Starts.{awaits_more}
 use Rattle.ni_model.specs.Calls.{bound}

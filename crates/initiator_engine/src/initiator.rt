@@ -107,21 +107,21 @@ impl Initiator {
 
     /// The rank that its messages come from.
     pub fn rank(&self) -> Rank
-        ensures told { result ≡ self.now.rank }
+        ensures value { result ≡ self.now.rank }
     {
         self.rank
     }
 
     /// How many ranks there are.
     pub fn ranks(&self) -> u32
-        ensures told { result ≡ self.now.ranks }
+        ensures value { result ≡ self.now.ranks }
     {
         self.ranks
     }
 
     /// Its limits.
     pub fn limits(&self) -> &Limits
-        ensures told { result.now ≡ self.now.limits }
+        ensures value { result.now ≡ self.now.limits }
     {
         &self.limits
     }
@@ -185,7 +185,7 @@ impl Initiator {
 
     /// Whether the descriptor is bound. Then no other bound one has its slot.
     pub fn is_bound(&self, md: Handle) -> bool
-        ensures told { result ≡ is_live md self.now.mds }
+        ensures value { result ≡ is_live md self.now.mds }
         ensures alone { IsTrue result → HasOwnSlot md self.now.mds }
     {
         // Brings what is known of its slot to the proof.
@@ -195,7 +195,7 @@ impl Initiator {
 
     /// How many answers the descriptor awaits; `Stale` where it isn't bound.
     pub fn awaits(&self, md: Handle) -> Result<u64, NiFault>
-        ensures told { result ≡ awaits_of (lookup md self.now.mds.live) }
+        ensures value { result ≡ awaits_of (lookup md self.now.mds.live) }
     {
         match bound_of(&self.mds, Some(md)) {
             Some(bound) => Ok(bound.awaits),
@@ -205,7 +205,7 @@ impl Initiator {
 
     /// Whether a descriptor awaits an answer.
     pub fn awaits_any(&self) -> bool
-        ensures told { result ≡ is_awaited self.now.mds.live }
+        ensures value { result ≡ is_awaited self.now.mds.live }
     {
         some_awaits(&self.mds)
     }
@@ -215,7 +215,7 @@ impl Initiator {
     pub fn names_ct(&self, ct: Handle) -> bool
         requires within { ct.slot < self.now.limits.cts }
         requires alone { All (λ x. IsAlone ct x.value.md.ct) self.now.mds.live }
-        ensures told { result ≡ md_names_ct ct self.now.mds.live }
+        ensures value { result ≡ md_names_ct ct self.now.mds.live }
     {
         self.cts.is_used(ct.slot)
     }
@@ -225,7 +225,7 @@ impl Initiator {
     pub fn names_eq(&self, eq: Handle) -> bool
         requires within { eq.slot < self.now.limits.eqs }
         requires alone { All (λ x. IsAlone eq x.value.md.eq) self.now.mds.live }
-        ensures told { result ≡ md_names_eq eq self.now.mds.live }
+        ensures value { result ≡ md_names_eq eq self.now.mds.live }
     {
         self.eqs.is_used(eq.slot)
     }
@@ -233,7 +233,7 @@ impl Initiator {
     /// Whether the deed may start as far as its descriptors go: `Stale` where one of them isn't bound, `OutOfRegion` where a
     /// part that it names reaches past its descriptor.
     pub fn check(&self, deed: &Deed) -> Result<(), NiFault>
-        ensures told { result ≡ by_fault (deed_fault deed.now self.now.mds) }
+        ensures value { result ≡ by_fault (deed_fault deed.now self.now.mds) }
     {
         if !deed_is_live(&self.mds, deed) {
             return Err(NiFault::Stale);

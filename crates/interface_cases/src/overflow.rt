@@ -169,32 +169,37 @@ fn the_priority_list_goes_first_and_needs_no_room_for_a_header(rt: HostRuntime) 
     play(&rt, &[SCRIPT]);
 }
 
+/// A put that asks for an acknowledgement that counts.
+const ASKS: PutArgs = PutArgs {
+    ack: AckRequest::CtAck,
+    length: 2,
+    ..PUT
+};
+
+/// Its acknowledgement.
+const ACK: Header = Header {
+    kind: MessageKind::Ack,
+    source: 0,
+    target: 1,
+    length: 2,
+    ack: AckRequest::CtAck,
+    home: Some(FIRST),
+    ..HEADER
+};
+
+/// The acknowledgement of what found no room for its header.
+const NOT_OK: Header = Header {
+    length: 0,
+    ok: false,
+    ..ACK
+};
+
 #[test]
 fn a_message_of_the_overflow_list_is_answered_and_counted(rt: HostRuntime) {
     const COUNTS: Entry = Entry {
         ct: Some(FIRST),
         count_comm: true,
         ..OVERFLOW
-    };
-    const ASKS: PutArgs = PutArgs {
-        ack: AckRequest::CtAck,
-        length: 2,
-        ..PUT
-    };
-    const ACK: Header = Header {
-        kind: MessageKind::Ack,
-        source: 0,
-        target: 1,
-        length: 2,
-        ack: AckRequest::CtAck,
-        home: Some(FIRST),
-        ..HEADER
-    };
-    /// The acknowledgement of what found no room for its header.
-    const NOT_OK: Header = Header {
-        length: 0,
-        ok: false,
-        ..ACK
     };
     const SCRIPT: &[Step] = &[
         Here(CtAlloc, Made(0)),
@@ -338,22 +343,26 @@ fn a_search_deletes_the_oldest_header_where_asked(rt: HostRuntime) {
     play(&rt, &[FILLED, SCRIPT]);
 }
 
+/// The header of a message of one byte to the second index.
+const ONE_BYTE: UnexpectedHeader = UnexpectedHeader {
+    delivered: 1,
+    header: Header {
+        pt: 1,
+        length: 1,
+        ..HEADER
+    },
+    ..THREE_BYTES
+};
+
+/// The event of its taking.
+const ONE_TAKEN: Event = Event {
+    requested: 1,
+    delivered: 1,
+    ..THREE_TAKEN
+};
+
 #[test]
 fn headers_are_searched_and_taken(rt: HostRuntime) {
-    const ONE_BYTE: UnexpectedHeader = UnexpectedHeader {
-        delivered: 1,
-        header: Header {
-            pt: 1,
-            length: 1,
-            ..HEADER
-        },
-        ..THREE_BYTES
-    };
-    const ONE_TAKEN: Event = Event {
-        requested: 1,
-        delivered: 1,
-        ..THREE_TAKEN
-    };
     const ONE_FOUND: Event = Event {
         kind: EventKind::Search,
         ..ONE_TAKEN

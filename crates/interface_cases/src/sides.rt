@@ -1,6 +1,6 @@
 //! One interface after calls without clauses. A call that has conditions is made after a test of them.
 
-ghost use Rattle.std.specs.Prelude.{◌≡◌, ◌<◌};
+ghost use Rattle.std.specs.Prelude.{◌<◌};
 ghost use Rattle.ni_model.specs.Conditions.{MayGo, MayCombine, MayFetch, MayStart};
 
 use portals_ni::Nic;
@@ -169,7 +169,7 @@ impl Side {
         self.nic.ready_count()
     }
 
-    /// The number of the ready operation at place `i` by rising number, where there are more than `i`.
+    /// The number of the ready operation at position `i` by rising number, where there are more than `i`.
     pub fn ready_at(&self, i: u32) -> Option<u32> {
         if i < self.nic.ready_count() {
             Some(self.nic.ready_at(i))

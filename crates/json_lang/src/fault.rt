@@ -36,7 +36,7 @@ impl JsonRefusal {
     /// The line and the name that are written for it: line 0 where no line of the line text is to blame. `None`: there was
     /// no memory, which refuses nothing.
     pub fn refusal(&self) -> Option<(u32, Refusal)>
-        ensures told { result ≡ refusal_of self.now }
+        ensures value { result ≡ refusal_of self.now }
     {
         match self {
             JsonRefusal::BadJson => Some((0, Refusal::BadJson)),

@@ -1,7 +1,7 @@
 //! Each operation on the bit patterns of a type.
 
 ghost use Rattle.std.specs.Prelude.{◌≡◌, ◌<◌, ◌+◌, ◌*◌, ◌%◌};
-ghost use Rattle.ptl_types.specs.Operations.{op, start_value, span, order_key, one_if};
+ghost use Rattle.ptl_types.specs.Operations.{op, start_value, span, order_key};
 ghost use Rattle.op_laws.specs.Laws.{Swaps, Commutes, Associates, Starts, Stays, Absorbs};
 ghost use Rattle.op_laws.proofs.OpLaws.{swaps, commutes, associates, starts, stays, absorbs};
 ghost use Rattle.ptl_types.specs.declared.elements.AtomicOp.{AtomicOp};

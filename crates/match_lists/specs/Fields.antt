@@ -4,7 +4,7 @@ use Rattle.ptl_types.specs.declared.entries.List.TheVariants.{Priority, Overflow
 use Rattle.chain_list.specs.Chain.{ChainList}
 use Rattle.ni_model.specs.declared.Linked.{Linked}
 use Rattle.match_lists.specs.declared.lists.LinkedAt.{LinkedAt}
-use Rattle.match_lists.specs.Slots.{Tagged, tagged, SlotsApart, placed_at}
+use Rattle.match_lists.specs.Slots.{Tagged, tagged, SlotsApart, where_slot}
 
 -- the entries of both lists, each with its list
 abbrev pub all_of : ChainList Linked → ChainList Linked → List Tagged
@@ -15,4 +15,4 @@ pub record IsLists (priority overflow : ChainList Linked) (table : List (Option 
   pub overflow_room : overflow.spare + length overflow.entries ≡ limit
   pub long : length table ≡ slots
   pub apart : SlotsApart (all_of priority overflow)
-  pub told : (slot : ℕ) → get_or table slot None ≡ placed_at slot (all_of priority overflow)
+  pub tabled : (slot : ℕ) → get_or table slot None ≡ where_slot slot (all_of priority overflow)

@@ -24,8 +24,8 @@ tagged list (x ∷ xs) = tag list x ∷ tagged list xs
 abbrev pub slot_of : Tagged → ℕ
 slot_of t = t.entry.value.handle.slot
 
-abbrev pub placed_of : Tagged → LinkedAt
-placed_of t = record { list = t.list; handle = t.entry.value.handle; key = t.entry.key }
+abbrev pub where_tagged : Tagged → LinkedAt
+where_tagged t = record { list = t.list; handle = t.entry.value.handle; key = t.entry.key }
 
 -- no entry has the slot
 abbrev pub NoSlot : ℕ → List Tagged → Type 0
@@ -38,14 +38,14 @@ SlotsApart [] = Unit {0}
 SlotsApart (t ∷ ts) = NoSlot (slot_of t) ts × SlotsApart ts
 
 -- where the entry of a slot stands
-abbrev pub placed_at : ℕ → List Tagged → Option LinkedAt
-placed_at slot [] = None
-placed_at slot (t ∷ ts) = if nat_eq (slot_of t) slot then Some (placed_of t) else placed_at slot ts
+abbrev pub where_slot : ℕ → List Tagged → Option LinkedAt
+where_slot slot [] = None
+where_slot slot (t ∷ ts) = if nat_eq (slot_of t) slot then Some (where_tagged t) else where_slot slot ts
 
 -- the same, where it is the entry of this handle
-abbrev pub placed_as : Handle → Option LinkedAt → Option LinkedAt
-placed_as h None = None
-placed_as h (Some p) = if same_handle p.handle h then Some p else None
+abbrev pub where_linked : Handle → Option LinkedAt → Option LinkedAt
+where_linked h None = None
+where_linked h (Some p) = if same_handle p.handle h then Some p else None
 
 -- both are the same list
 abbrev pub same_list : EntryList → EntryList → Bool

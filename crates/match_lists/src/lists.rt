@@ -1,6 +1,6 @@
 //! The two lists, each on linked nodes, and the table that tells where the entry of a slot is linked.
-ghost use Rattle.std.specs.Prelude.{◌≡◌, ◌<◌, ◌≤◌, ◌+◌, ◌-◌, ◌*◌, ◌^◌, ◌++◌, ◌∷◌, [], ◌||◌, ◌↔◌, Some, None, false, is_some, IsSome, IsTrue, IfOk, IfSome, length, get_or, option_copied};
-ghost use Rattle.match_lists.specs.Slots.{placed_as, same_list};
+ghost use Rattle.std.specs.Prelude.{◌≡◌, ◌<◌, ◌≤◌, ◌+◌, ◌-◌, ◌*◌, ◌^◌, ◌++◌, ◌∷◌, [], ◌||◌, ◌↔◌, Some, None, false, IsSome, IsTrue, IfOk, IfSome, get_or, option_copied};
+ghost use Rattle.match_lists.specs.Slots.{where_linked, same_list};
 ghost use Rattle.ni_model.specs.Append.{fresh};
 ghost use Rattle.ni_model.specs.Arrive.{first_fit};
 ghost use Rattle.ni_model.specs.Lists.{is_linked};
@@ -26,14 +26,14 @@ pub struct LinkedAt {
 
 /// Where the entry of a handle is linked, by the table.
 fn where_linked(table: &[Option<LinkedAt>], handle: Handle) -> Option<LinkedAt>
-    ensures { result ≡ placed_as handle (get_or table.now handle.slot None) }
+    ensures { result ≡ where_linked handle (get_or table.now handle.slot None) }
 {
     if handle.slot as usize >= table.len() {
         return None;
     }
-    let placed = table[handle.slot as usize]?;
-    if placed.handle.is(handle) {
-        Some(placed)
+    let linked_at = table[handle.slot as usize]?;
+    if linked_at.handle.is(handle) {
+        Some(linked_at)
     } else {
         None
     }
@@ -52,7 +52,7 @@ fn same_list(a: List, b: List) -> bool
 pub struct Lists {
     priority: MatchList,
     overflow: MatchList,
-    placed: Vec<Option<LinkedAt>>,
+    by_slot: Vec<Option<LinkedAt>>,
     limit: u32,
     slots: u32,
 }
@@ -66,7 +66,7 @@ impl Model for Lists {
 
     ghost view = { λ l. both (values l.priority.entries) (values l.overflow.entries) l.limit l.slots (l.priority.given + l.overflow.given) };
 
-    ghost invariant = { λ l. IsLists l.priority l.overflow l.placed.items l.limit l.slots };
+    ghost invariant = { λ l. IsLists l.priority l.overflow l.by_slot.items l.limit l.slots };
 }
 
 impl Lists {
@@ -75,7 +75,7 @@ impl Lists {
     pub fn open(alloc: Global, limit: u32, slots: u32) -> Result<Lists, NoMemory>
         ensures { IfOk result (λ l. l ≡ both [] [] limit slots 0) }
     {
-        let Ok(placed) = Vec::from_elem(alloc, None, slots as usize) else {
+        let Ok(by_slot) = Vec::from_elem(alloc, None, slots as usize) else {
             return Err(NoMemory);
         };
         let priority = MatchList::with_room(alloc, limit)?;
@@ -83,7 +83,7 @@ impl Lists {
         Ok(Lists {
             priority,
             overflow,
-            placed,
+            by_slot,
             limit,
             slots,
         })
@@ -112,11 +112,11 @@ impl Lists {
         match list {
             List::Priority => {
                 let key = self.priority.push_back(linked, steps);
-                self.placed[handle.slot as usize] = Some(LinkedAt { list, handle, key });
+                self.by_slot[handle.slot as usize] = Some(LinkedAt { list, handle, key });
             }
             List::Overflow => {
                 let key = self.overflow.push_back(linked, steps);
-                self.placed[handle.slot as usize] = Some(LinkedAt { list, handle, key });
+                self.by_slot[handle.slot as usize] = Some(LinkedAt { list, handle, key });
             }
         }
     }
@@ -128,20 +128,20 @@ impl Lists {
         ensures steps { steps.new ≤ steps.old + 4 }
     {
         let (_priority, _overflow) = (self.priority.nodes(), self.overflow.nodes());
-        let placed = where_linked(&self.placed, handle)?;
-        match placed.list {
+        let linked_at = where_linked(&self.by_slot, handle)?;
+        match linked_at.list {
             List::Priority => {
-                let Some(linked) = self.priority.unlink(placed.key, steps) else {
+                let Some(linked) = self.priority.unlink(linked_at.key, steps) else {
                     unreachable!()
                 };
-                self.placed[handle.slot as usize] = None;
+                self.by_slot[handle.slot as usize] = None;
                 Some(linked.entry)
             }
             List::Overflow => {
-                let Some(linked) = self.overflow.unlink(placed.key, steps) else {
+                let Some(linked) = self.overflow.unlink(linked_at.key, steps) else {
                     unreachable!()
                 };
-                self.placed[handle.slot as usize] = None;
+                self.by_slot[handle.slot as usize] = None;
                 Some(linked.entry)
             }
         }
@@ -153,10 +153,10 @@ impl Lists {
         ensures steps { steps.new ≤ steps.old + 1 }
     {
         let (_priority, _overflow) = (self.priority.nodes(), self.overflow.nodes());
-        let placed = where_linked(&self.placed, handle)?;
-        match placed.list {
-            List::Priority => self.priority.get(placed.key, steps),
-            List::Overflow => self.overflow.get(placed.key, steps),
+        let linked_at = where_linked(&self.by_slot, handle)?;
+        match linked_at.list {
+            List::Priority => self.priority.get(linked_at.key, steps),
+            List::Overflow => self.overflow.get(linked_at.key, steps),
         }
     }
 
@@ -179,12 +179,12 @@ impl Lists {
         ensures steps { steps.new ≤ steps.old + 1 }
     {
         let (_priority, _overflow) = (self.priority.nodes(), self.overflow.nodes());
-        let Some(placed) = where_linked(&self.placed, handle) else {
+        let Some(linked_at) = where_linked(&self.by_slot, handle) else {
             unreachable!()
         };
-        match placed.list {
-            List::Priority => self.priority.advance(placed.key, by, steps),
-            List::Overflow => self.overflow.advance(placed.key, by, steps),
+        match linked_at.list {
+            List::Priority => self.priority.advance(linked_at.key, by, steps),
+            List::Overflow => self.overflow.advance(linked_at.key, by, steps),
         }
     }
 
@@ -248,8 +248,8 @@ impl Lists {
         ensures { result ≡ is_linked handle (entries list self.now) }
     {
         let (_priority, _overflow) = (self.priority.nodes(), self.overflow.nodes());
-        match where_linked(&self.placed, handle) {
-            Some(placed) => same_list(placed.list, list),
+        match where_linked(&self.by_slot, handle) {
+            Some(linked_at) => same_list(linked_at.list, list),
             None => false,
         }
     }

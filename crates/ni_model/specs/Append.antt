@@ -63,14 +63,14 @@ fresh me e = record { handle = me; running = 0; entry = e }
 
 -- an entry at the end of a list of the index
 abbrev pub linked_at : EntryList → Linked → Option Index → Option Index
-linked_at place x None = None
-linked_at place x (Some i) = Some (with_list place (λ xs. xs ++ x ∷ []) i)
+linked_at list x None = None
+linked_at list x (Some i) = Some (with_list list (λ xs. xs ++ x ∷ []) i)
 
 -- the target with one entry more
 abbrev pub link_side : ℕ → ℕ → EntryList → Entry → Side → Side
-link_side slot pt place e s =
+link_side slot pt list e s =
     record s {
-      indices = slice_set s.indices pt (linked_at place (fresh (next_handle slot s) e) (index_at pt s.indices));
+      indices = slice_set s.indices pt (linked_at list (fresh (next_handle slot s) e) (index_at pt s.indices));
       given = s.given + 1;
     }
 
@@ -80,8 +80,8 @@ queue_at pt s = queue_of (index_at pt s.indices)
 
 -- the linking, told by Link
 abbrev pub link_entry : ℕ → ℕ → EntryList → Entry → Parts → Parts
-link_entry slot pt place e p =
-    record p { side = link_side slot pt place e p.side; eqs = raised (queue_at pt p.side) (link_event pt e.match_bits) p.eqs }
+link_entry slot pt list e p =
+    record p { side = link_side slot pt list e p.side; eqs = raised (queue_at pt p.side) (link_event pt e.match_bits) p.eqs }
 
 -- ---- headers go
 
@@ -90,14 +90,14 @@ abbrev pub frees : Side → List IndexedHeader → IndexedHeader → Bool
 frees s left a = not (is_linked_at Overflow a.header.entry (index_at a.pt s.indices) || names_entry a.header.entry left)
 
 -- the event of a header that goes, and directly after it the freeing of its entry, where it is free
-abbrev pub told_gone : EventKind → List (Option Index) → Bool → IndexedHeader → Table Waiting → Table Waiting
-told_gone kind is freed a eqs =
-    let told = raised (queue_of (index_at a.pt is)) (header_event kind a) eqs in
-    if freed then raised (queue_of (index_at a.pt is)) (free_event a.pt) told else told
+abbrev pub gone_events : EventKind → List (Option Index) → Bool → IndexedHeader → Table Waiting → Table Waiting
+gone_events kind is freed a eqs =
+    let with_header = raised (queue_of (index_at a.pt is)) (header_event kind a) eqs in
+    if freed then raised (queue_of (index_at a.pt is)) (free_event a.pt) with_header else with_header
 
 -- the same, where the headers in `left` stay
 abbrev pub gone_raised : EventKind → Side → List IndexedHeader → IndexedHeader → Table Waiting → Table Waiting
-gone_raised kind s left a eqs = told_gone kind s.indices (frees s left a) a eqs
+gone_raised kind s left a eqs = gone_events kind s.indices (frees s left a) a eqs
 
 -- found headers go one after the other, while those in `stay` stay
 abbrev pub each_gone : Side → List IndexedHeader → List IndexedHeader → Table Waiting → Table Waiting
@@ -150,8 +150,8 @@ counted_by e (a ∷ hs) = overflow_counter e
 
 -- the entry is linked, after the headers that it took
 abbrev pub linked_as : ℕ → ℕ → EntryList → Entry → List IndexedHeader → Parts → Appends
-linked_as slot pt place e found p =
-    record { parts = link_entry slot pt place e p; appended = IsLinked (next_handle slot p.side); counted = counted_by e found }
+linked_as slot pt list e found p =
+    record { parts = link_entry slot pt list e p; appended = IsLinked (next_handle slot p.side); counted = counted_by e found }
 
 -- a use-once entry takes the oldest header, else it is linked
 abbrev pub append_once : ℕ → ℕ → Entry → Parts → Option IndexedHeader → Appends

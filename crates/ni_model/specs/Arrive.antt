@@ -38,8 +38,8 @@ or_else (Some x) y = Some x
 
 -- an entry with the list that it stands in
 abbrev pub as_found : EntryList → Option Linked → Option Found
-as_found place None = None
-as_found place (Some x) = Some (record { list = place; linked = x })
+as_found list None = None
+as_found list (Some x) = Some (record { list = list; linked = x })
 
 -- the first of the priority entries that fits, else, where asked, the first of the overflow entries
 abbrev pub first_fit : Header → Bool → List Linked → List Linked → Option Found

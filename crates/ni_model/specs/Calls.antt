@@ -165,8 +165,8 @@ awaits md s = awaits_of (lookup md s.mds.live)
 
 -- PtlMEAppend
 abbrev pub me_append : ℕ → ℕ → EntryList → Entry → State → Done (Result Appended NiFault)
-me_append slot pt place e s =
-    let a = append slot pt place e (parts_of s) in
+me_append slot pt list e s =
+    let a = append slot pt list e (parts_of s) in
     ends_by (append_fault pt e (parts_of s)) s (with_parts a.parts s) a.appended
 
 -- an index without this entry

@@ -71,5 +71,5 @@ entries_in (Some i) = length i.priority + length i.overflow
 
 -- in a list of an allocated index
 abbrev pub is_linked_at : EntryList → Handle → Option Index → Bool
-is_linked_at place me None = false
-is_linked_at place me (Some i) = is_linked me (list_of place i)
+is_linked_at list me None = false
+is_linked_at list me (Some i) = is_linked me (list_of list i)

@@ -78,7 +78,7 @@ impl Marks {
 
     /// Whether there is no room for a further number.
     pub fn is_full(&self) -> bool
-        ensures told { result ≡ nat_le self.now.room (length self.now.held) }
+        ensures value { result ≡ nat_le self.now.room (length self.now.held) }
     {
         self.room <= self.numbers.len()
     }
@@ -107,16 +107,16 @@ impl Marks {
 
     /// How many are marked.
     pub fn count(&self) -> u64
-        ensures told { result ≡ length self.now.marked }
+        ensures value { result ≡ length self.now.marked }
         ensures rising { AllPairs (λ a b. a < b) self.now.marked }
     {
         self.tree.total()
     }
 
-    /// The marked number at place `i` among those that are, from 0.
+    /// The marked number at position `i` among those that are, from 0.
     pub fn at(&self, i: u64) -> u32
         requires { i < length self.now.marked }
-        ensures told { slice_get self.now.marked i ≡ Some result }
+        ensures value { slice_get self.now.marked i ≡ Some result }
         ensures rising { AllPairs (λ a b. a < b) self.now.marked }
     {
         let (place, _) = self.tree.find(i);

@@ -22,7 +22,7 @@ use Rattle.worlds.specs.Later.{IsLater}
 use Rattle.worlds.specs.Standing.{IsStanding}
 use Rattle.worlds.specs.World.{WorldState, histories_in, ranks_in, scene_in}
 use Rattle.order_check.specs.Listing.{IsListed}
-use Rattle.order_check.specs.Open.{IsOpen, told, widest}
+use Rattle.order_check.specs.Open.{IsOpen, message_for, widest}
 use Rattle.order_check.specs.Work.{IsDriven, IsStuckIn, IsWork, is_from, work_left}
 use Rattle.order_check.proofs.Stepping.{IsMade, driven_on, grown, histories_are, opened_by, same_at}
 
@@ -99,29 +99,29 @@ waiter_not lists w r d e next differs lane other = other_step r e lane differs (
 pub waiter_whole : (lists : Lists) (w : Histories) (r d : ℕ) → IsWhole lists w d → WaitsNot lists w r d
 waiter_whole lists w r d whole lane next = none_next lists w d (Receives r lane) whole next
 
--- ---- the ranks that are noted
-abbrev pub noted : Option ℕ → List ℕ → List ℕ
-noted None queue = queue
-noted (Some d) queue = queue ++ d ∷ []
+-- ---- the ranks that are queued
+abbrev pub queued : Option ℕ → List ℕ → List ℕ
+queued None queue = queue
+queued (Some d) queue = queue ++ d ∷ []
 
-noted-old : (to : Option ℕ) (queue : List ℕ) (q : ℕ) → In q queue → In q (noted to queue)
-noted-old None queue q i = i
-noted-old (Some d) queue q i = In-append_left q queue (d ∷ []) i
+queued-old : (to : Option ℕ) (queue : List ℕ) (q : ℕ) → In q queue → In q (queued to queue)
+queued-old None queue q i = i
+queued-old (Some d) queue q i = In-append_left q queue (d ∷ []) i
 
-noted-new : (to : Option ℕ) (queue : List ℕ) (q : ℕ) → to ≡ Some q → In q (noted to queue)
-noted-new None queue q e = cc
-noted-new (Some d) queue q e = In-append_right q queue (d ∷ []) (inl (cc))
+queued-new : (to : Option ℕ) (queue : List ℕ) (q : ℕ) → to ≡ Some q → In q (queued to queue)
+queued-new None queue q e = cc
+queued-new (Some d) queue q e = In-append_right q queue (d ∷ []) (inl (cc))
 
-noted-known : (to : Option ℕ) (queue : List ℕ) (q : ℕ) (P : ℕ → Type 0) → (In q queue → P q) → IfSome to P → In q (noted to queue) → P q
-noted-known None queue q P old new i = old i
-noted-known (Some d) queue q P old new i = elim (In-append_cases q queue (d ∷ []) i) [
+queued-known : (to : Option ℕ) (queue : List ℕ) (q : ℕ) (P : ℕ → Type 0) → (In q queue → P q) → IfSome to P → In q (queued to queue) → P q
+queued-known None queue q P old new i = old i
+queued-known (Some d) queue q P old new i = elim (In-append_cases q queue (d ∷ []) i) [
   | inl j ↦ old j
   | inr j ↦ elim j [ inl e ↦ subst P e new | inr z ↦ absurd z ]
 ]
 
-length-noted : (to : Option ℕ) (queue : List ℕ) → length (noted to queue) ≤ length queue + 1
-length-noted None queue = omega arith
-length-noted (Some d) queue = let a = length-append queue (d ∷ []) in omega (arith, a)
+length-queued : (to : Option ℕ) (queue : List ℕ) → length (queued to queue) ≤ length queue + 1
+length-queued None queue = omega arith
+length-queued (Some d) queue = let a = length-append queue (d ∷ []) in omega (arith, a)
 
 -- ---- a look that takes nothing
 pub take_nothing : (w : WorldState) (lists : Lists) (r : ℕ) (queue : List ℕ) → IsWork w lists (queue ++ r ∷ []) → IsStuckIn w lists r
@@ -163,7 +163,7 @@ module _ (w v : WorldState) (lists : Lists) (r : ℕ) (e : LocalStep) (queue : L
 
     -- another rank that was stuck is stuck, unless it waits for the message
     stays : (q : ℕ) → q < w.shape.ranks → (r ≡ q → ⊥) → IsStuckIn w lists q
-        → ((told w r e ≡ Some q) → WaitsNot lists (histories_in v) r q) → IsStuckIn v lists q
+        → ((message_for w r e ≡ Some q) → WaitsNot lists (histories_in v) r q) → IsStuckIn v lists q
     stays q hq n stuck not f other opened =
         elim (opened_by w v lists work.driven r hr e allows stood later made q hq n f opened) [
           | inl o ↦ stuck f (
@@ -178,33 +178,33 @@ module _ (w v : WorldState) (lists : Lists) (r : ℕ) (e : LocalStep) (queue : L
     is_it None q = inr (λ x. cc)
     is_it (Some d) q = elim (cases_eq d q) [ inl i ↦ inl (ap (λ a. Some a) i) | inr n ↦ inr (λ x. n (cc)) ]
 
-    pub take_one : (waiter : Option ℕ) → IfSome waiter (λ d. d < v.shape.ranks) → IsWaiter v lists r (told w r e) waiter
-        → IsWork v lists (noted waiter (queue ++ r ∷ []))
+    pub take_one : (waiter : Option ℕ) → IfSome waiter (λ d. d < v.shape.ranks) → IsWaiter v lists r (message_for w r e) waiter
+        → IsWork v lists (queued waiter (queue ++ r ∷ []))
     take_one waiter known waits = record {
       driven = driven_behind;
-      known = λ q i. noted-known waiter (queue ++ r ∷ []) q (λ a. a < v.shape.ranks) (λ j. behind q (work.known q j)) known i;
+      known = λ q i. queued-known waiter (queue ++ r ∷ []) q (λ a. a < v.shape.ranks) (λ j. behind q (work.known q j)) known i;
       looked = λ q h. elim (cases_eq r q) [
-        | inl i ↦ inl (noted-old waiter (queue ++ r ∷ []) q (In-append_right q queue (r ∷ []) (inl i)))
+        | inl i ↦ inl (queued-old waiter (queue ++ r ∷ []) q (In-append_right q queue (r ∷ []) (inl i)))
         | inr n ↦ elim (work.looked q (before q h)) [
-          | inl i ↦ inl (noted-old waiter (queue ++ r ∷ []) q i)
+          | inl i ↦ inl (queued-old waiter (queue ++ r ∷ []) q i)
           | inr s ↦ elim (is_it waiter q) [
-            | inl i ↦ inl (noted-new waiter (queue ++ r ∷ []) q i)
+            | inl i ↦ inl (queued-new waiter (queue ++ r ∷ []) q i)
             | inr o ↦ inr (stays q (before q h) n s (λ t. unnamed q h o t))
           ]
         ]
       ];
     }
       where
-        unnamed : (q : ℕ) → q < v.shape.ranks → (waiter ≡ Some q → ⊥) → told w r e ≡ Some q → WaitsNot lists (histories_in v) r q
+        unnamed : (q : ℕ) → q < v.shape.ranks → (waiter ≡ Some q → ⊥) → message_for w r e ≡ Some q → WaitsNot lists (histories_in v) r q
         unnamed q h o t = elim (waits q h t) [ inl i ↦ absurd (o i) | inr x ↦ x ]
 
-    pub less_behind_one : (waiter : Option ℕ) → work_left v lists (noted waiter (queue ++ r ∷ [])) < work_left w lists (queue ++ r ∷ [])
+    pub less_behind_one : (waiter : Option ℕ) → work_left v lists (queued waiter (queue ++ r ∷ [])) < work_left w lists (queue ++ r ∷ [])
     less_behind_one waiter =
         let g = grown w v lists work.driven r hr e allows stood later made in
         let a = untaken-less lists (histories_in w) r g.step w.shape.ranks hr (longer_list lists (histories_in w) r e next) in
         let b = ap (λ h. untaken lists h w.shape.ranks) (histories_are w v lists work.driven r hr e allows stood later made) in
         let d = ap (λ (o : Outline). untaken lists (histories_in v) o.ranks) later.shape in
-        let c = length-noted waiter (queue ++ r ∷ []) in
+        let c = length-queued waiter (queue ++ r ∷ []) in
         omega (arith, a, b, c, d)
 
 -- ---- the beginning

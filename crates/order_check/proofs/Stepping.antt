@@ -6,7 +6,7 @@ use Rattle.std.proofs.lemmas.List.Elements.{filter-append}
 use Rattle.op_laws.proofs.OpLaws.{op_laws}
 use Rattle.op_laws.proofs.Starts.{combined-starts}
 use Rattle.op_laws.proofs.Swaps.{combined-swaps}
-use Rattle.ptl_types.specs.Messages.{Sent, message}
+use Rattle.ptl_types.specs.Messages.{Sent}
 use Rattle.ptl_types.specs.declared.headers.Lane.{Lane}
 use Rattle.ptl_types.specs.declared.steps.LocalStep.{LocalStep}
 use Rattle.ptl_types.specs.declared.steps.LocalStep.TheVariants.{Start as Starts, Receive as Receives, Fire as Fires}
@@ -39,7 +39,7 @@ use Rattle.worlds.specs.Standing.{IsStanding}
 use Rattle.worlds.specs.World.{AreSlots, WorldState, histories_in, nic_in, ranks_in, scene_in}
 use Rattle.worlds.proofs.Ends.{given_slots, slots_given}
 use Rattle.order_check.specs.Listing.{IsListed}
-use Rattle.order_check.specs.Open.{IsOpen, step_at, told}
+use Rattle.order_check.specs.Open.{IsOpen, step_at, message_for}
 use Rattle.order_check.specs.Work.{IsDriven}
 use Rattle.order_check.proofs.Open.{balanced, enabled_at, known_there}
 
@@ -80,7 +80,7 @@ module _ (w : WorldState) (is : IsStanding w) (slots : ℕ → Slots) (agree : A
       (is.moment slots agree) false r s lane m e.1.0 (known_there w is slots agree r hr) e.0 e.1.1).0
 
   pub told_is : (x : Local) (m : Sent) → IsEnabled (ranks_in w slots) (scene_in w).world (scene_in w).held r x
-      → made_by (state_at (ranks_in w slots) (histories_in w) r) x ≡ Some m → told w r (listed x) ≡ Some m.header.target
+      → made_by (state_at (ranks_in w slots) (histories_in w) r) x ≡ Some m → message_for w r (listed x) ≡ Some m.header.target
   told_is Start m e q = cc
   told_is (Fire t) m e q =
       let s = state_at (ranks_in w slots) (histories_in w) r in
@@ -171,16 +171,16 @@ module _ (w v : WorldState) (lists : Lists) (driven : IsDriven w lists) (r : ℕ
     elsewhere_sent : (s : ℕ) (lane : Lane) → (r ≡ s → ⊥) → sent_by k (histories_in v) s q lane ≡ sent_by k (histories_in w) s q lane
     elsewhere_sent s lane o = ap (λ h. sent (k.go s) (k.first s) h q lane) (same_at s o)
 
-    here_sent : (lane : Lane) → (told w r e ≡ Some q → ⊥) → sent_by k (histories_in v) r q lane ≡ sent_by k (histories_in w) r q lane
+    here_sent : (lane : Lane) → (message_for w r e ≡ Some q → ⊥) → sent_by k (histories_in v) r q lane ≡ sent_by k (histories_in w) r q lane
     here_sent lane o =
         ap (λ (h : Histories). sent_by k h r q lane) histories_are
         ∙ sent_here k (histories_in w) r grown.step q
-        (λ m a b. o (ap (told w r) (sym grown.named) ∙ told_is w driven.standing slots agreed r hr grown.step m grown.enabled a
+        (λ m a b. o (ap (message_for w r) (sym grown.named) ∙ told_is w driven.standing slots agreed r hr grown.step m grown.enabled a
         ∙ ap (λ x. Some x) b)) lane
 
     -- what it may do now it could do before, or it waits for the message that was sent
     pub opened_by : (f : LocalStep) → IsOpen v q f
-        → IsOpen w q f ⊎ ((lane : Lane) × (f ≡ Receives r lane) × (told w r e ≡ Some q))
+        → IsOpen w q f ⊎ ((lane : Lane) × (f ≡ Receives r lane) × (message_for w r e ≡ Some q))
     opened_by Starts o = inl (subst (λ h. count_by is_start h ≡ 0) (same_at q n) o)
     opened_by (Fires t) o = inl (subst (λ s. IsTrue (is_ready s t)) nic_same o)
     opened_by (Receives s lane) o =
@@ -189,7 +189,7 @@ module _ (w v : WorldState) (lists : Lists) (driven : IsDriven w lists) (r : ℕ
         let known : s < w.shape.ranks = omega (arith, a, b) in
         elim (cases_eq r s) [
           | inr d ↦ inl (known, subst (λ ms. 0 < length ms) (held_same s lane (elsewhere_sent s lane d)) o.1)
-          | inl i ↦ elim (is_told (told w r e) q) [
+          | inl i ↦ elim (is_told (message_for w r e) q) [
             | inl t ↦ inr (lane, ap (λ a. Receives a lane) (sym i), t)
             | inr d ↦ inl (
               known,

@@ -26,10 +26,10 @@ IsOpen w r (Receives s lane) = (s < w.shape.ranks) × (0 < length ((scene_in w).
 IsOpen w r (Fires t) = IsTrue (is_ready (nic_in w r) t)
 
 -- the rank that the message of a step is for, if it makes one: an answer goes back to the source
-abbrev pub told : WorldState → ℕ → LocalStep → Option ℕ
-told w r Starts = None
-told w r (Receives s lane) = Some s
-told w r (Fires t) = target_at (nic_in w r) t
+abbrev pub message_for : WorldState → ℕ → LocalStep → Option ℕ
+message_for w r Starts = None
+message_for w r (Receives s lane) = Some s
+message_for w r (Fires t) = target_at (nic_in w r) t
 
 -- no message from rank s waits for rank r
 abbrev pub HearsNoneOf : WorldState → ℕ → ℕ → Type 0

@@ -1,4 +1,4 @@
--- Work that is under way: some listed steps were taken, and the ranks to look at again are noted.
+-- Work that is under way: some listed steps were taken, and the ranks to look at again are queued.
 use Rattle.std.specs.Prelude.{ℕ, ◌+◌, ◌*◌, ◌<◌, ◌≡◌, ◌⊎◌, ◌==◌, Bool, false, List, length}
 use Rattle.ptl_types.specs.declared.steps.LocalStep.{LocalStep}
 use Rattle.ptl_types.specs.declared.steps.LocalStep.TheVariants.{Receive}
@@ -26,7 +26,7 @@ pub record IsDriven (w : WorldState) (lists : Lists) : Type 0 where
 abbrev pub IsStuckIn : WorldState → Lists → ℕ → Type 0
 IsStuckIn w lists r = (e : LocalStep) → IsNext lists (histories_in w) r e → IsOpen w r e → ⊥
 
--- a rank that isn't noted is stuck
+-- a rank that isn't queued is stuck
 pub record IsWork (w : WorldState) (lists : Lists) (queue : List ℕ) : Type 0 where
   pub driven : IsDriven w lists
   pub known : (r : ℕ) → In r queue → r < w.shape.ranks

@@ -3,7 +3,7 @@
 ghost use Rattle.std.specs.Prelude.{◌<◌, ◌≡◌, ◌↔◌, IsTrue};
 ghost use Rattle.ptl_types.specs.declared.steps.LocalStep.TheVariants.{Receive};
 ghost use Rattle.worlds.specs.Standing.{IsStanding};
-ghost use Rattle.order_check.specs.Open.{HearsNoneOf, HearsNothing, IsOpen, IsQuiet, step_at, told, widest};
+ghost use Rattle.order_check.specs.Open.{HearsNoneOf, HearsNothing, IsOpen, IsQuiet, step_at, message_for, widest};
 
 use plan_orders::Step;
 use ptl_types::{Lane, LocalStep, Rank};
@@ -38,9 +38,9 @@ pub fn is_open(world: &World, r: Rank, step: LocalStep) -> bool
 }
 
 /// The rank that the message of a step is for, if it makes one: an answer goes back to the source.
-pub fn told(world: &World, r: Rank, step: LocalStep) -> Option<Rank>
+pub fn message_for(world: &World, r: Rank, step: LocalStep) -> Option<Rank>
     requires { r < world.now.shape.ranks }
-    ensures { result ≡ told world.now r step }
+    ensures { result ≡ message_for world.now r step }
 {
     match step {
         LocalStep::Start => None,

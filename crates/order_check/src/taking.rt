@@ -13,7 +13,7 @@ ghost use Rattle.order_check.specs.Listing.{IsListed, lists_of};
 ghost use Rattle.order_check.specs.Open.{IsOpen, widest};
 ghost use Rattle.order_check.specs.Work.{IsDriven, IsStuckIn, IsWork, is_from, work_left};
 
-use crate::allowing::{is_open, ranks, step_at, told};
+use crate::allowing::{is_open, message_for, ranks, step_at};
 use order_lines::Orders;
 use ptl_types::{LocalStep, NoMemory, Rank};
 use std::alloc::Global;
@@ -99,7 +99,7 @@ fn look_again(queue: &mut Vec<Rank>, r: Rank) -> Result<(), NoMemory>
     }
 }
 
-/// Looks at a rank: takes its next listed step where it is enabled, and notes it again, and the rank that waited for its message.
+/// Looks at a rank: takes its next listed step where it is enabled, and queues it again, and the rank that waited for its message.
 fn look(world: &mut World, orders: &Orders, r: Rank, queue: &mut Vec<Rank>) -> Result<(), NoMemory>
     requires lists { length orders.now ≡ world.old.shape.ranks }
     requires work { IsWork world.old (lists_of orders.now) (queue.old.items ++ r ∷ []) }
@@ -111,7 +111,7 @@ fn look(world: &mut World, orders: &Orders, r: Rank, queue: &mut Vec<Rank>) -> R
     match next_enabled(world, orders, r) {
         None => Ok(()),
         Some(step) => {
-            let to = told(world, r, step);
+            let to = message_for(world, r, step);
             world.step(step_at(r, step));
             look_again(queue, r)?;
             let woken = waiter(world, orders, r, to);

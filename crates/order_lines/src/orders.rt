@@ -62,7 +62,7 @@ impl Orders {
     /// The steps of a rank, the first one first.
     pub fn steps(&self, r: Rank) -> &[LocalStep]
         requires rank { r < length self.now }
-        ensures told { result.now ≡ get_or self.now r [] }
+        ensures value { result.now ≡ get_or self.now r [] }
     {
         self.lists[r as usize].as_slice()
     }

@@ -1,6 +1,5 @@
 -- What one write to a link makes of the nodes.
-use Rattle.std.proofs.Common.{◌≡◌, ℕ, zero, suc, ◌<◌, List, [], ◌∷◌, length, get_or, set, replicate, Option, Some, None, refl, sym, ap, ◌∙◌, arith}
-use Rattle.chain_list.specs.NodeMap.{Node, node}
+use Rattle.std.proofs.Common.{◌≡◌, ℕ, zero, suc, ◌<◌, List, [], ◌∷◌, length, get_or, set, replicate, None, refl, ap, arith}
 use Rattle.place_threads.specs.declared.links.Link.{Link}
 use Rattle.place_threads.specs.Nodes.{node_of, nodes_of}
 

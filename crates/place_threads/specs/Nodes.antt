@@ -1,5 +1,5 @@
 -- Links as the nodes of a linked list: the value of each is its thread.
-use Rattle.std.specs.Prelude.{ℕ, List, [], ◌∷◌, Option, Some, None}
+use Rattle.std.specs.Prelude.{ℕ, List, [], ◌∷◌, Option, Some}
 use Rattle.chain_list.specs.NodeMap.{Node, node}
 use Rattle.place_threads.specs.declared.links.Link.{Link}
 

@@ -1,12 +1,10 @@
 -- Classes of messages, what lanes carry, and what a link sends, by worked values.
-use Rattle.std.proofs.Common.{ℕ, true, false, ◌≡◌, List, Option, Some, None, [], ◌∷◌, refl}
+use Rattle.std.proofs.Common.{true, false, ◌≡◌, Some, None, [], ◌∷◌, refl}
 use Rattle.ptl_types.specs.declared.elements.AtomicOp.TheVariants.{Min, Sum, Bxor}
 use Rattle.ptl_types.specs.declared.elements.ElemType.TheVariants.{U8, U32, I64}
 use Rattle.ptl_types.specs.declared.headers.AckRequest.TheVariants.{CtAck, NoAck}
 use Rattle.ptl_types.specs.declared.headers.Lane.TheVariants.{Answer, Request}
 use Rattle.ptl_types.specs.declared.steps.Act.TheVariants.{Send}
-use Rattle.plan_core.specs.declared.Cell.{Cell}
-use Rattle.plan_core.specs.declared.Link.{Link}
 use Rattle.plan_core.specs.declared.LinkKind.TheVariants.{Put, Bump}
 use Rattle.plan_core.specs.Plan.{Plan}
 use Rattle.plan_calls.specs.Areas.{links_to}

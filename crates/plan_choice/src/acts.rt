@@ -1,15 +1,14 @@
 //! The steps of a choice world over its seats and lanes, each with the counts of what is enabled made anew after it.
 
-ghost use Rattle.std.specs.Prelude.{ℕ, List, ◌≡◌, ◌<◌, ◌≤◌, ◌*◌, ◌∷◌, IsTrue, length, slice_set};
+ghost use Rattle.std.specs.Prelude.{List, ◌≡◌, ◌<◌, ◌≤◌, ◌*◌, ◌∷◌, length, slice_set};
 ghost use Rattle.ptl_types.specs.Messages.{Sent};
-ghost use Rattle.ni_model.specs.Ready.{is_ready};
 ghost use Rattle.plan_cuts.specs.History.Local.{Fire as Fired};
 ghost use Rattle.plan_orders.specs.declared.Step.TheVariants.{Deliver, Fire, Start};
 ghost use Rattle.plan_worlds.specs.Places.{lane_place};
 ghost use Rattle.world_parts.specs.Layout.{lane_at};
-ghost use Rattle.world_parts.specs.Marks.{HasPlace, out_with, receiver};
+ghost use Rattle.world_parts.specs.Marks.{out_with, receiver};
 ghost use Rattle.choice_ranks.specs.Seats.{fired_seat, started_seat};
-ghost use Rattle.plan_choice.specs.Acts.{AreMarked, AreSized, IsFirst, IsMade, IsStepped, MayFire, MayMake, MayReceive, MayStart, firing_mark, lane_marks, made_at, seat_at, start_mark};
+ghost use Rattle.plan_choice.specs.Acts.{AreMarked, AreSized, IsFirst, IsMade, IsStepped, MayFire, MayMake, MayReceive, MayStart, firing_mark, made_at, seat_at, start_mark};
 
 use choice_ranks::Seat;
 use count_tree::CountTree;

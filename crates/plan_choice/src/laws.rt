@@ -3,7 +3,7 @@
 ghost use Rattle.std.specs.Prelude.{ℕ, suc, ◌≡◌, ◌%◌, []};
 ghost use Rattle.ptl_types.specs.Handles.{top};
 ghost use Rattle.plan_orders.specs.Chosen.{IsChosen, Scene, enabled_steps, first_scene};
-ghost use Rattle.worlds.specs.Runs.{Running, chosen_run};
+ghost use Rattle.worlds.specs.Runs.{chosen_run};
 ghost use Rattle.plan_choice.specs.World.{ChoiceState, IsStanding, ranks_in};
 
 /// From the first scene the run of a chooser that answers with words, each modulo the number of enabled steps, is the chosen run of

@@ -1,6 +1,6 @@
 //! The choice world and its steps.
 
-ghost use Rattle.std.specs.Prelude.{ℕ, true, ◌≡◌, ◌+◌, ◌<◌, ◌≤◌, ◌↔◌, IsTrue, IfOk, Some, [], length, map, slice_get};
+ghost use Rattle.std.specs.Prelude.{ℕ, ◌≡◌, ◌+◌, ◌<◌, ◌≤◌, ◌↔◌, IsTrue, IfOk, Some, [], length, map, slice_get};
 ghost use Rattle.ptl_types.specs.Elements.{part, pattern};
 ghost use Rattle.ptl_types.specs.Handles.{top};
 ghost use Rattle.plan_core.specs.Members.{In};
@@ -228,7 +228,7 @@ impl ChoiceWorld {
     /// The interface of a rank.
     pub fn nic(&self, r: Rank) -> &Nic
         requires { r < self.now.ranks }
-        ensures told { result.now ≡ nic_in self.now r }
+        ensures value { result.now ≡ nic_in self.now r }
         ensures state { result.now ≡ state_at (ranks_in self.now) (histories_in self.now) r }
     {
         self.seats[r as usize].nic()

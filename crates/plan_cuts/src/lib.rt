@@ -3,7 +3,7 @@
 //! ranks in a cut are histories of the plan's machine. The laws of cuts stand in the crate above.
 #![tactic(auto)]
 
-ghost use Rattle.std.specs.Prelude.{ℕ, Bool, false, suc, ◌+◌, ◌<◌, ◌≤◌, ◌≡◌, count_by, IsTrue, List, [], ◌∷◌, ◌++◌, length};
+ghost use Rattle.std.specs.Prelude.{ℕ, Bool, false, suc, ◌+◌, ◌≤◌, ◌≡◌, count_by, IsTrue, List, [], ◌∷◌, ◌++◌, length};
 ghost use Rattle.ptl_types.specs.declared.headers.Lane.{Lane};
 ghost use Rattle.ptl_types.specs.declared.headers.Lane.TheVariants.{Answer, Request};
 ghost use Rattle.ptl_types.specs.Messages.{Sent};

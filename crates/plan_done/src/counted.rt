@@ -1,7 +1,7 @@
 //! A plan with its counts.
 
-ghost use Rattle.std.specs.Prelude.{◌≡◌, ◌<◌, ◌+◌, ◌^◌, IfOk, IsTrue, length, if◌then◌else◌};
-ghost use Rattle.plan_calls.specs.Works.{done_threshold, sends_of};
+ghost use Rattle.std.specs.Prelude.{◌≡◌, ◌<◌, ◌+◌, ◌^◌, IfOk, length};
+ghost use Rattle.plan_calls.specs.Works.{done_threshold};
 ghost use Rattle.plan_tables.specs.Tables.{IsTabled};
 ghost use Rattle.plan_done.specs.Counts.{AreCounted, AreSent};
 
@@ -62,7 +62,7 @@ impl CountedPlan {
 
     /// The plan.
     pub fn plan(&self) -> &Plan
-        ensures told { result.now ≡ self.now }
+        ensures value { result.now ≡ self.now }
         // This holds of every such plan.
         ensures few { length self.now.cells + length self.now.links < 2 ^ 32 }
     {

@@ -13,7 +13,7 @@ use std::alloc::Global;
 fn rank_of(plan: &Plan, c: u32) -> Rank
     requires tabled { IsTabled plan.now }
     requires cell { c < length plan.now.cells }
-    ensures told { result ≡ rank_of plan.now c }
+    ensures value { result ≡ rank_of plan.now c }
     ensures rank { result < plan.now.ranks }
 {
     plan.cells()[c as usize].rank

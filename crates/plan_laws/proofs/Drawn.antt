@@ -11,7 +11,7 @@ use Rattle.plan_core.specs.declared.Cell.{Cell}
 use Rattle.plan_core.specs.declared.Incoming.{Incoming}
 use Rattle.plan_core.specs.declared.Link.{Link}
 use Rattle.plan_core.specs.declared.LinkKind.TheVariants.{Atomic, Bump}
-use Rattle.plan_laws.proofs.Grow.{InPlan, cell-new, cell-old, in_links-new, in_links-old, length-cells, length-links, link-new, link-old, no_incoming, value-new, value-old}
+use Rattle.plan_laws.proofs.Grow.{cell-new, cell-old, in_links-new, in_links-old, length-cells, length-links, link-new, link-old, no_incoming, value-new, value-old}
 use Rattle.plan_laws.proofs.Sound.{grows, node_fits}
 use Rattle.plan_laws.specs.Sounding.{EachAt, SoundNewCell, WellBuilt, land_each, land_incoming, new_value, with_cell, with_cells}
 use Rattle.ptl_types.specs.Elements.{part}

@@ -1,13 +1,13 @@
 -- What a step begins with, and its entries.
-use Rattle.std.proofs.Common.{ℕ, zero, suc, ◌+◌, ◌%◌, ◌≡◌, ◌<◌, ◌≤◌, List, [], ◌∷◌, ◌++◌, length, map, get_or, ap, ◌∙◌, sym, subst, arith}
-use Rattle.plan_core.specs.Draw.{NewCell, cell_of}
+use Rattle.std.proofs.Common.{ℕ, zero, suc, ◌+◌, ◌%◌, ◌≡◌, ◌<◌, List, [], ◌∷◌, ◌++◌, length, map, get_or, ap, ◌∙◌, sym, subst, arith}
+use Rattle.plan_core.specs.Draw.{NewCell}
 use Rattle.plan_core.specs.Plan.{Plan, cell, from_to}
 use Rattle.plan_core.specs.declared.Cell.{Cell}
 use Rattle.plan_laws.proofs.CellKinds.{bumped-sound, copying-sound, copying-value}
-use Rattle.plan_laws.proofs.Drawn.{each_back, each_front, each_map, each_of_map, extends-all, length-map-from}
+use Rattle.plan_laws.proofs.Drawn.{each_back, each_map, each_of_map, extends-all, length-map-from}
 use Rattle.plan_laws.proofs.Grow.{cell-new, length-cells}
 pub use Rattle.plan_laws.specs.Sounding.{Ground, HasA, IsCell, Known}
-use Rattle.plan_laws.specs.Sounding.{EachAt, SoundNewCell, new_value, with_cell, with_cells}
+use Rattle.plan_laws.specs.Sounding.{EachAt, SoundNewCell, with_cell, with_cells}
 use Rattle.plan_steps.specs.Site.{Site, bare_entry, count, entries, entry, full_entry, places, rank_at, exit_at, source_at}
 use Rattle.ptl_types.specs.Operations.{bytes_of}
 

@@ -1,10 +1,9 @@
 -- Gather of what is held: sound, and what it holds.
-use Rattle.std.proofs.Common.{ℕ, zero, suc, Bool, true, false, cond, ◌+◌, ◌*◌, ◌%◌, ◌≡◌, ◌≤◌, ◌<◌, List, [], ◌∷◌, ◌++◌, refl, length, map, filter, flat_map, get_or, ap, ap₂, ◌∙◌, sym, subst, arith, le_of_suc-le-suc}
+use Rattle.std.proofs.Common.{ℕ, zero, suc, Bool, true, false, cond, ◌+◌, ◌*◌, ◌%◌, ◌≡◌, ◌<◌, List, [], ◌∷◌, ◌++◌, refl, length, map, filter, flat_map, get_or, ap, ap₂, ◌∙◌, sym, subst, arith, le_of_suc-le-suc}
 use Rattle.op_laws.proofs.Bytes.{part_all}
-use Rattle.ptl_types.specs.Elements.{part}
 use Rattle.ptl_types.specs.Operations.{bytes_of}
 use Rattle.plan_core.specs.declared.Cell.{Cell}
-use Rattle.plan_core.specs.Draw.{NewCell, cell_of}
+use Rattle.plan_core.specs.Draw.{cell_of}
 use Rattle.plan_core.specs.Plan.{from_to}
 use Rattle.plan_steps.specs.Site.{Site, bare_entry, count, entry, exit_at, full_entry, further, places, rank_at, source_at}
 use Rattle.coll_shape.specs.Collectives.{is_in}

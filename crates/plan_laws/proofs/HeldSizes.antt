@@ -1,5 +1,5 @@
 -- The size of a gather of what is held.
-use Rattle.std.proofs.Common.{ℕ, zero, suc, Bool, true, false, cond, ◌||◌, ◌+◌, ◌*◌, ◌≡◌, ◌<◌, ◌≤◌, ◌==◌, List, [], ◌∷◌, ◌++◌, refl, length, map, filter, ap, ap₂, ◌∙◌, sym, subst, arith, eq-eqb, eqb-true}
+use Rattle.std.proofs.Common.{ℕ, zero, suc, Bool, true, false, cond, ◌||◌, ◌+◌, ◌*◌, ◌≡◌, ◌<◌, ◌≤◌, ◌==◌, [], ◌∷◌, refl, length, map, filter, ap, ap₂, ◌∙◌, sym, arith, eq-eqb, eqb-true}
 use Rattle.std.proofs.lemmas.Bool.{ne_eqb}
 use Rattle.plan_core.specs.Plan.{from_to}
 use Rattle.plan_core.specs.Draw.{NewCell, bytes_in, links_of}

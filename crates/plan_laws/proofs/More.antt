@@ -1,5 +1,5 @@
 -- Reduce-scatter, exclusive scan and scatter: sound, and what they hold.
-use Rattle.std.proofs.Common.{ℕ, zero, suc, Bool, true, false, cond, ◌+◌, ◌-◌, ◌*◌, ◌/◌, ◌%◌, ◌≡◌, ◌≤◌, ◌<◌, ◌==◌, List, [], ◌∷◌, ◌++◌, refl, length, map, replicate, sum_by, None, ap, ◌∙◌, sym, subst, inl, inr, arith, append_assoc, length-append, eqb-true, eq-eqb, mod-lt}
+use Rattle.std.proofs.Common.{ℕ, zero, suc, ◌+◌, ◌-◌, ◌*◌, ◌/◌, ◌%◌, ◌≡◌, ◌≤◌, ◌<◌, List, [], ◌∷◌, ◌++◌, refl, length, map, replicate, None, ap, ◌∙◌, sym, subst, inl, inr, arith, append_assoc, length-append}
 use Rattle.std.proofs.Math.Nat.{mod-eq_of_lt, mul-le-mul_right}
 use Rattle.std.proofs.lemmas.List.{length-replicate}
 use Rattle.std.proofs.lemmas.List.Sums.{sum_by-cons}
@@ -11,21 +11,19 @@ use Rattle.op_laws.proofs.Bytes.{length-part, written_all}
 use Rattle.plan_core.specs.declared.Cell.{Cell}
 use Rattle.plan_core.specs.Plan.{from_to}
 use Rattle.plan_core.specs.Draw.{NewCell, cell_of}
-use Rattle.plan_steps.specs.Site.{Site, bare_entry, bump, count, entries, entry, exit_at, full_entry, further, places, put, rank_at, rows, source_at, block_length}
+use Rattle.plan_steps.specs.Site.{Site, bump, count, entries, full_entry, further, places, put, rank_at, source_at, block_length}
 use Rattle.plan_tree.specs.Trees.{turned, up, up_cell, up_number}
 use Rattle.plan_tree.specs.Reduce.{reduce_cells}
-use Rattle.plan_tree.specs.Broadcast.{first_cell}
 use Rattle.plan_rounds.specs.Rounds.{rounds}
 use Rattle.plan_rounds.specs.Scan.{scan_cell, scan_cells, scan_number, scan_rows}
-use Rattle.plan_more.specs.Scatter.{scatter_cells, scattered}
 use Rattle.plan_more.specs.Reducescatter.{reducescatter_cells, result_block}
 use Rattle.plan_more.specs.Exscan.{exscan_cells, shifted}
 use Rattle.plan_laws.specs.Sounding.{EachAt, SoundIncoming, SoundNewCell, new_value, put_length}
 use Rattle.coll_shape.specs.Folding.{folded}
-use Rattle.plan_laws.proofs.CellKinds.{bump-sound, bumped-sound, copying-sound, copying-value, put-sound}
+use Rattle.plan_laws.proofs.CellKinds.{bump-sound, copying-sound, copying-value, put-sound}
 use Rattle.plan_laws.proofs.Drawn.{each_append, each_back, each_front, each_map, each_of_map, length-map-from, length-rows}
-use Rattle.plan_laws.proofs.Entries.{Ground, HasA, IsCell, Known, behind, both_parts, each_places, entry-value, of_places}
-use Rattle.plan_laws.proofs.Trees.{reduce-sound, reduce-value, turned-lt, up-at}
+use Rattle.plan_laws.proofs.Entries.{Ground, HasA, IsCell, Known, behind, each_places, of_places}
+use Rattle.plan_laws.proofs.Trees.{reduce-sound, reduce-value, up-at}
 use Rattle.plan_laws.proofs.Rounds.{scan-at, scan-sound, scan-value}
 
 -- ---- a part of another cell, with and without an increment before it

@@ -1,5 +1,5 @@
 -- Scan and barrier: sound, what a scan holds, and that a barrier's exit comes after every entry.
-use Rattle.std.proofs.Common.{ℕ, zero, suc, Bool, true, false, cond, ◌+◌, ◌-◌, ◌*◌, ◌%◌, ◌^◌, ◌≡◌, ◌≤◌, ◌<◌, ◌⊎◌, List, [], ◌∷◌, ◌++◌, refl, length, map, ap, ap₂, ◌∙◌, sym, subst, inl, inr, arith, Option, Some, None, nat_le, mod-lt, pow-suc, pow_pos, le_refl}
+use Rattle.std.proofs.Common.{ℕ, zero, suc, Bool, true, false, cond, ◌+◌, ◌-◌, ◌*◌, ◌%◌, ◌^◌, ◌≡◌, ◌≤◌, ◌<◌, List, [], ◌∷◌, refl, length, map, ap, ◌∙◌, sym, subst, inl, inr, arith, nat_le, mod-lt, pow-suc, pow_pos, le_refl}
 use Rattle.std.proofs.lemmas.Bool.{leb-true, leb-false}
 use Rattle.plan_core.specs.Values.{Inputs}
 use Rattle.plan_core.specs.Draw.{NewCell}
@@ -19,7 +19,7 @@ use Rattle.plan_laws.specs.Sounding.{EachAt, SoundNewCell}
 use Rattle.plan_rounds.specs.Barrier.{barrier_cells, round_links}
 use Rattle.plan_rounds.specs.Rounds.{rounds, rounds_from}
 use Rattle.plan_rounds.specs.Scan.{scan_cell, scan_cells, scan_number}
-use Rattle.plan_steps.specs.Site.{Site, bare_entry, bump, count, entry, full_entry, in_row, places, put, rank_at, rows, silent, exit_at, source_at}
+use Rattle.plan_steps.specs.Site.{Site, bare_entry, bump, count, entry, full_entry, in_row, places, put, rank_at, rows, silent, source_at}
 use Rattle.ptl_types.specs.Elements.{combined, starting}
 use Rattle.ptl_types.specs.Operations.{bytes_of}
 use Rattle.ptl_types.specs.declared.elements.AtomicOp.{AtomicOp}

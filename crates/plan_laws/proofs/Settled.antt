@@ -1,5 +1,5 @@
 -- After a step: a member's exit and the cell that holds the new buffer there are those of its place, and all others stay.
-use Rattle.std.proofs.Common.{ℕ, zero, suc, Bool, true, false, nat_lt, ◌+◌, ◌-◌, ◌*◌, ◌≡◌, ◌<◌, ◌≤◌, List, Option, Some, None, refl, length, get_or, set, ap, ◌∙◌, sym, subst, arith, get_or-set_same, get_or-set_other, ◌≢◌, ◌⊎◌, inl, inr, eq-or-lt_of_le}
+use Rattle.std.proofs.Common.{ℕ, zero, suc, Bool, true, false, nat_lt, ◌+◌, ◌-◌, ◌*◌, ◌≡◌, ◌<◌, ◌≤◌, List, Option, Some, None, refl, length, get_or, set, ap, ◌∙◌, sym, subst, arith, get_or-set_same, get_or-set_other, ◌⊎◌, inl, inr, eq-or-lt_of_le}
 use Rattle.std.proofs.Math.Nat.{mul-le-mul_right}
 use Rattle.std.proofs.lemmas.Bool.{ltb-true, ltb-false}
 use Rattle.std.proofs.lemmas.List.{length-set}

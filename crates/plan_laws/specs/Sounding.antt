@@ -1,5 +1,5 @@
 -- What a drawn cell must be, and what it holds.
-use Rattle.std.specs.Prelude.{ℕ, suc, ◌+◌, ◌%◌, ◌<◌, ◌≤◌, ◌≡◌, ◌⊎◌, List, Option, Some, None, [], ◌∷◌, ◌++◌, if◌then◌else◌, length, map}
+use Rattle.std.specs.Prelude.{ℕ, suc, ◌+◌, ◌%◌, ◌<◌, ◌≤◌, ◌≡◌, ◌⊎◌, List, Some, None, [], ◌∷◌, ◌++◌, if◌then◌else◌, length, map}
 use Rattle.std.specs.Prelude.{sum_by}
 use Rattle.ptl_types.specs.declared.elements.AtomicOp.{AtomicOp}
 use Rattle.ptl_types.specs.Operations.{bytes_of}

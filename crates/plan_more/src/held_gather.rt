@@ -1,6 +1,6 @@
 //! Gather of what is held: the lists of the members that hold one go to the root.
 
-ghost use Rattle.std.specs.Prelude.{◌≡◌, ◌<◌, ◌+◌, ◌∷◌, [], IfOk, length, map};
+ghost use Rattle.std.specs.Prelude.{◌≡◌, ◌<◌, ◌∷◌, [], IfOk, length, map};
 ghost use Rattle.plan_core.specs.Plan.{from_to};
 ghost use Rattle.plan_core.specs.Draw.{HasRoom, add, add_all};
 ghost use Rattle.plan_steps.specs.Site.{bump, count, entry, places};

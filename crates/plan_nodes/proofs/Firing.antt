@@ -4,8 +4,8 @@ use Rattle.std.proofs.lemmas.Bool.{cases_lt}
 use Rattle.std.proofs.lemmas.List.{get_or_default}
 use Rattle.ptl_types.specs.Messages.{Sent}
 use Rattle.ptl_types.specs.declared.headers.Lane.TheVariants.{Request}
-use Rattle.ni_model.specs.Ready.{done, fired, fired_op, message_target, posted_at, ready_numbers, target_at, target_of, without_number}
-use Rattle.ni_model.specs.State.{Posted, State}
+use Rattle.ni_model.specs.Ready.{fired, ready_numbers, target_at}
+use Rattle.ni_model.specs.State.{State}
 use Rattle.plan_cuts.specs.System.{System, state_at}
 use Rattle.plan_nodes.specs.Ranks.{AreGates}
 use Rattle.plan_orders.specs.Chosen.{Scene, firings_at}
@@ -40,7 +40,7 @@ module _ (z : Scene) (window r : ℕ) (some : 0 < window) (closed : List Bool) (
   room : (o : Option Sent) → finds_room window z r o ≡ goes_out closed (rank_of o)
   room None = refl
   room (Some m) = elim (cases_lt m.header.target (length closed)) [
-    | inl lt ↦ sym (ap not (get_or_default closed m.header.target false true lt ∙ gates.told m.header.target lt) ∙ not-not (nat_lt (length (z.held r m.header.target Request)) window))
+    | inl lt ↦ sym (ap not (get_or_default closed m.header.target false true lt ∙ gates.full m.header.target lt) ∙ not-not (nat_lt (length (z.held r m.header.target Request)) window))
     | inr le ↦ ap (λ ms. nat_lt (length ms) window) (gates.past m.header.target le) ∙ lt-ltb 0 window some ∙ sym (ap not (get-past closed m.header.target le))
   ]
 

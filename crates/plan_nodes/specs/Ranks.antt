@@ -46,7 +46,7 @@ pub record MayReceive (n : NodeState) (source : ℕ) (lane : Lane) (m : Sent) : 
 
 -- its gates say of each rank whether the request lane to it holds as many messages as the window
 pub record AreGates (z : Scene) (window r : ℕ) (closed : List Bool) : Type 0 where
-  pub told : (d : ℕ) → d < length closed → slice_index_or closed d true ≡ not (nat_lt (length (z.held r d Request)) window)
+  pub full : (d : ℕ) → d < length closed → slice_index_or closed d true ≡ not (nat_lt (length (z.held r d Request)) window)
   -- past the last rank no lane holds any
   pub past : (d : ℕ) → length closed ≤ d → z.held r d Request ≡ []
 

@@ -12,7 +12,7 @@ ghost use Rattle.ni_model.specs.Conditions.{IsKept};
 ghost use Rattle.ptl_types.specs.Handles.{one_more};
 ghost use Rattle.ni_model.specs.State.{delivers, target};
 ghost use Rattle.plan_core.specs.Members.{In};
-ghost use Rattle.plan_core.specs.Plan.{Plan, cell, link};
+ghost use Rattle.plan_core.specs.Plan.{Plan, link};
 ghost use Rattle.plan_core.specs.Sound.{SoundPlan, AreInputsOf};
 ghost use Rattle.plan_core.specs.Values.{Inputs, value};
 ghost use Rattle.plan_calls.specs.Areas.{links_to};

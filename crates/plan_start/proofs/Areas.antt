@@ -1,6 +1,6 @@
 -- The areas of an interface before its start: room for every message of its links, and what lies where.
-use Rattle.std.proofs.Common.{if◌then◌else◌, ℕ, zero, suc, Bool, true, false, cond, ◌+◌, ◌-◌, ◌*◌, ◌/◌, ◌%◌, ◌≡◌, ◌≤◌, ◌<◌, ◌==◌, List, [], ◌∷◌, ◌++◌, refl, length, ap, ap₂, ◌∙◌, sym, subst, inl, inr, arith, map, filter, flat_map, Option, Some, None, eqb-true, eq-eqb, append-nil, append_assoc, add-zero, zero-add, sum_by, length-append, replicate, zero-le}
-use Rattle.std.proofs.lemmas.Bool.{ne_eqb, eqb-false, and_from, cases_eq}
+use Rattle.std.proofs.Common.{if◌then◌else◌, ℕ, zero, suc, Bool, true, false, cond, ◌+◌, ◌-◌, ◌*◌, ◌/◌, ◌%◌, ◌≡◌, ◌≤◌, ◌<◌, ◌==◌, List, [], ◌∷◌, ◌++◌, refl, length, ap, ap₂, ◌∙◌, sym, subst, inl, inr, arith, map, filter, flat_map, Option, Some, None, eqb-true, eq-eqb, append-nil, append_assoc, add-zero, zero-add, sum_by, length-append, zero-le}
+use Rattle.std.proofs.lemmas.Bool.{ne_eqb, eqb-false, and_from}
 use Rattle.std.proofs.lemmas.List.{replicate-append-replicate, length-replicate}
 use Rattle.std.proofs.lemmas.List.Elements.{filter-append}
 use Rattle.std.proofs.lemmas.List.Sums.{sum_by-cons, sum_by-append}

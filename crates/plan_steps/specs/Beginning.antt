@@ -1,5 +1,5 @@
 -- What a step of a shape begins with, and what it asks of what was drawn before it.
-use Rattle.std.specs.Prelude.{ℕ, ◌<◌, ◌≡◌, ◌^◌, List, Option, Some, None, [], length, map, get_or}
+use Rattle.std.specs.Prelude.{ℕ, ◌<◌, ◌≡◌, ◌^◌, List, Option, Some, None, length, map, get_or}
 use Rattle.plan_core.specs.Plan.{Plan}
 use Rattle.plan_core.specs.Draw.{HeldCells, held_cell}
 use Rattle.coll_shape.specs.declared.types.CollStep.{CollStep}
@@ -8,7 +8,7 @@ use Rattle.coll_shape.specs.Collectives.{IsRoot, holding_places, result_of, sour
 use Rattle.coll_shape.specs.WellFormed.{AreMembers, IsNumber}
 use Rattle.plan_steps.specs.declared.ends.End.{End}
 use Rattle.plan_steps.specs.Site.{Site}
-use Rattle.plan_steps.specs.Steps.{exits_by, held_by}
+use Rattle.plan_steps.specs.Steps.{held_by}
 
 -- a cell that isn't there reads as cell 0: where a step reads a buffer, a cell holds it
 abbrev pub or_0 : Option ℕ → ℕ

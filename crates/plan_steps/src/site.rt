@@ -96,7 +96,7 @@ impl Site {
 
     /// How many members there are: from 1 to 256.
     pub fn count(&self) -> u32
-        ensures told { result ≡ count self.now }
+        ensures value { result ≡ count self.now }
         ensures some { 1 ≤ result }
         ensures few { result ≤ 256 }
     {
@@ -105,7 +105,7 @@ impl Site {
 
     /// The bytes of a list of the buffer that is read.
     pub fn length(&self) -> u64
-        ensures told { result ≡ self.now.length }
+        ensures value { result ≡ self.now.length }
         ensures most { result ≤ 2 ^ 27 }
     {
         let _ = self.members.len();
@@ -138,7 +138,7 @@ impl Site {
 
     /// The places of the members that hold the buffer, rising.
     pub fn holders(&self) -> &[u32]
-        ensures told { result.now ≡ self.now.holding }
+        ensures value { result.now ≡ self.now.holding }
         ensures few { length result.now ≤ count self.now }
         ensures low { (i : ℕ) → i < length result.now → get_or result.now i 0 < count self.now }
     {
@@ -150,7 +150,7 @@ impl Site {
     pub fn in_row(&self, row: u32, place: u32) -> u32
         requires row { row ≤ 1024 }
         requires place { place ≤ 1024 }
-        ensures told { result ≡ in_row self.now row place }
+        ensures value { result ≡ in_row self.now row place }
         ensures few { result < 2 ^ 25 }
     {
         self.first + (row * self.members.len() as u32 + place)
@@ -159,7 +159,7 @@ impl Site {
     /// The entry of a place.
     pub fn entry(&self, place: u32) -> u32
         requires { place ≤ 1024 }
-        ensures told { result ≡ entry self.now place }
+        ensures value { result ≡ entry self.now place }
         ensures few { result < 2 ^ 25 }
     {
         let _ = self.members.len();
@@ -169,7 +169,7 @@ impl Site {
     /// A cell after the entries.
     pub fn further(&self, j: u32) -> u32
         requires { j ≤ 262144 }
-        ensures told { result ≡ further self.now j }
+        ensures value { result ≡ further self.now j }
         ensures few { result < 2 ^ 25 }
     {
         self.first + (self.members.len() as u32 + j)

@@ -1,10 +1,10 @@
 -- The calls of a rank, joined from their parts.
-use Rattle.std.proofs.Common.{ℕ, suc, Bool, true, false, cond, ◌+◌, ◌*◌, ◌≡◌, ◌≤◌, ◌<◌, ◌==◌, List, [], ◌∷◌, ◌++◌, refl, length, map, filter, get_or, max, count_by, ap, ap₂, ◌∙◌, sym, arith, eqb-true, length-append, append_assoc}
+use Rattle.std.proofs.Common.{ℕ, ◌+◌, ◌*◌, ◌≡◌, ◌≤◌, List, [], ◌∷◌, ◌++◌, refl, length, map, max, ap, ap₂, ◌∙◌, sym, arith, length-append, append_assoc}
 use Rattle.std.proofs.lemmas.List.{length-map, map-append}
 use Rattle.ptl_types.specs.declared.steps.Call.{Call}
 use Rattle.ptl_types.specs.declared.steps.Call.TheVariants.{PtAlloc, CtDone, CtCell, MdBind}
-use Rattle.plan_core.specs.Plan.{Plan, cell, from_to, link, own, out_links}
-use Rattle.plan_calls.specs.Works.{Work, works}
+use Rattle.plan_core.specs.Plan.{Plan, link, own, out_links}
+use Rattle.plan_calls.specs.Works.{works}
 use Rattle.plan_calls.specs.Works.Work.{Along, Tell}
 use Rattle.plan_calls.specs.Areas.{areas_length, classes, has_class, links_to, longest, region_length}
 use Rattle.plan_calls.specs.Calls.{area_call, prepare_calls, trigger}

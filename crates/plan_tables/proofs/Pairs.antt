@@ -1,10 +1,10 @@
 -- The table of lanes by pair is that of the lanes.
-use Rattle.std.proofs.Common.{ℕ, suc, Bool, true, false, ◌&&◌, not, ◌==◌, nat_lt, ◌+◌, ◌*◌, ◌≡◌, ◌<◌, ◌≤◌, List, refl, length, filter, get_or, map, sum_by, ap, ap₂, ◌∙◌, sym, arith, eqb-true, eq-eqb}
+use Rattle.std.proofs.Common.{ℕ, suc, Bool, true, false, ◌&&◌, not, ◌==◌, nat_lt, ◌+◌, ◌*◌, ◌≡◌, ◌<◌, ◌≤◌, refl, length, get_or, sum_by, ap, ◌∙◌, sym, arith, eqb-true, eq-eqb}
 use Rattle.std.proofs.Math.Nat.{mul-le-mul_right}
 use Rattle.std.proofs.lemmas.Bool.{ltb-true, ltb-false, ne_eqb}
 use Rattle.plan_core.specs.declared.LinkKind.{LinkKind}
 use Rattle.plan_core.specs.declared.LinkKind.TheVariants.{Put, Atomic, Bump}
-use Rattle.plan_core.specs.Plan.{Plan, from_to, is_bump, link}
+use Rattle.plan_core.specs.Plan.{Plan, is_bump, link}
 use Rattle.plan_calls.specs.Lanes.{goes_along, lane_bytes, lane_links}
 use Rattle.plan_tables.specs.Rising.{of_key}
 use Rattle.plan_tables.specs.Tables.{IsTabled, from_rank, key_of, lane_counts, lane_key, lane_sums, link_length, to_rank}

@@ -1,5 +1,5 @@
 -- The tables of areas at one rank, class by class.
-use Rattle.std.proofs.Common.{ℕ, zero, suc, Bool, true, false, cond, nat_lt, ◌+◌, ◌-◌, ◌*◌, ◌^◌, ◌≡◌, ◌<◌, ◌≤◌, List, [], ◌∷◌, ◌++◌, refl, length, map, filter, get_or, sum_by, ap, ◌∙◌, sym, arith, append-nil}
+use Rattle.std.proofs.Common.{ℕ, suc, Bool, true, false, cond, nat_lt, ◌+◌, ◌-◌, ◌*◌, ◌^◌, ◌≡◌, ◌<◌, ◌≤◌, [], ◌∷◌, ◌++◌, refl, length, map, filter, get_or, sum_by, ap, ◌∙◌, arith}
 use Rattle.std.proofs.Math.Nat.{mul-le-mul_right}
 use Rattle.std.proofs.lemmas.List.{map-append}
 use Rattle.plan_core.specs.Plan.{Plan, from_to}
@@ -7,7 +7,6 @@ use Rattle.plan_core.proofs.Drawing.{from_to-more}
 use Rattle.plan_tables.specs.Rising.{of_key}
 use Rattle.ptl_types.specs.declared.steps.Call.{Call}
 use Rattle.ptl_types.specs.declared.steps.Call.TheVariants.{Overflow}
-use Rattle.plan_calls.specs.Areas.{region_length}
 use Rattle.plan_calls.specs.Bits.{bits_above}
 use Rattle.plan_tables.specs.AreaTables.{area_bytes, area_counts, area_links, area_sums, counted_start, message_key}
 use Rattle.plan_tables.specs.Tables.{link_length}

@@ -3,14 +3,12 @@ use Rattle.std.proofs.Common.{ℕ, zero, suc, Bool, true, false, cond, ◌==◌,
 use Rattle.std.proofs.lemmas.Bool.{ne_eqb}
 use Rattle.std.proofs.lemmas.List.Sums.{sum_by-cons}
 use Rattle.plan_core.specs.declared.Link.{Link}
-use Rattle.plan_core.specs.declared.LinkKind.{LinkKind}
-use Rattle.plan_core.specs.Plan.{Plan, cell, from_to, link, no_cell, no_link}
+use Rattle.plan_core.specs.Plan.{Plan, from_to, link, no_cell, no_link}
 use Rattle.plan_core.specs.Places.{cell_length}
 use Rattle.plan_core.specs.Sound.{SoundPlan}
-use Rattle.plan_calls.specs.Areas.{region_length}
 use Rattle.plan_calls.specs.Calls.{cell_start}
 use Rattle.plan_tables.specs.Tables.{IsTabled, rank_of, link_length}
-use Rattle.plan_tables.specs.AreaTables.{area_bytes, counted_start, message_key}
+use Rattle.plan_tables.specs.AreaTables.{counted_start, message_key}
 use Rattle.plan_tables.proofs.Sums.{few-bytes, numbered, start-own, sum-filter_le}
 
 numbered-links : (xs ys : List Link) (k : ℕ) → ((i : ℕ) → get_or ys (k + i) no_link ≡ get_or xs i no_link) → sum_by (λ l. (get_or ys l no_link).length) (from_to k (length xs)) ≡ sum_by (λ (x : Link). x.length) xs

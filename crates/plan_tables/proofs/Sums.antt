@@ -1,12 +1,12 @@
 -- Sums and counts by key, and where a cell begins in its rank's memory.
-use Rattle.std.proofs.Common.{ℕ, zero, suc, Bool, true, false, cond, ◌+◌, ◌-◌, ◌*◌, ◌≡◌, ◌<◌, ◌≤◌, ◌==◌, ◌^◌, List, [], ◌∷◌, ◌++◌, refl, length, map, set, get_or, filter, replicate, sum_by, ap, ap₂, ◌∙◌, sym, arith, subst, inl, inr, eq-eqb, length-append, nat_lt}
+use Rattle.std.proofs.Common.{ℕ, zero, suc, Bool, true, false, cond, ◌+◌, ◌-◌, ◌≡◌, ◌<◌, ◌≤◌, ◌==◌, List, [], ◌∷◌, ◌++◌, refl, length, map, set, get_or, filter, replicate, sum_by, ap, ap₂, ◌∙◌, sym, arith, inl, inr, eq-eqb, length-append, nat_lt}
 use Rattle.std.proofs.lemmas.List.Elements.{filter-append}
 use Rattle.std.proofs.lemmas.List.Sums.{sum_by-cons, sum_by-append}
 use Rattle.std.proofs.lemmas.Bool.{ne_eqb, ltb-true, ltb-false}
 use Rattle.plan_core.specs.declared.Cell.{Cell}
 use Rattle.plan_core.specs.Members.{In}
-use Rattle.plan_core.specs.Plan.{Plan, cell, from_to, own, no_cell}
-use Rattle.plan_core.specs.Places.{start_by, start_in, cell_length}
+use Rattle.plan_core.specs.Plan.{Plan, from_to, no_cell}
+use Rattle.plan_core.specs.Places.{start_by, cell_length}
 use Rattle.plan_core.proofs.Growth.{from_to-append}
 use Rattle.plan_core.proofs.Links.{from_to-In}
 use Rattle.plan_core.proofs.Lists.{In-filter_cases}

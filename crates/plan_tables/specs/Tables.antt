@@ -1,7 +1,7 @@
 -- What the tables over a plan ask of it, and how its links are counted by rank and by pair of ranks.
 use Rattle.std.specs.Prelude.{ℕ, ◌+◌, ◌-◌, ◌*◌, ◌<◌, ◌≤◌, ◌^◌, List, length, map, sum_by}
 use Rattle.plan_core.specs.declared.LinkKind.{LinkKind}
-use Rattle.plan_core.specs.declared.LinkKind.TheVariants.{Put, Atomic, Bump}
+use Rattle.plan_core.specs.declared.LinkKind.TheVariants.{Bump}
 use Rattle.plan_core.specs.Plan.{Plan, cell, link, from_to}
 use Rattle.plan_tables.specs.Rising.{of_key}
 

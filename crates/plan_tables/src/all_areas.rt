@@ -1,8 +1,8 @@
 //! The areas for messages that come before a rank's start.
 
-ghost use Rattle.std.specs.Prelude.{◌≡◌, ◌<◌, ◌≤◌, ◌+◌, ◌*◌, ◌^◌, IfOk, get_or, length, set, sum_by, nat_lt, if◌then◌else◌};
-ghost use Rattle.plan_core.specs.Plan.{from_to, link};
-ghost use Rattle.plan_tables.specs.Tables.{IsTabled, link_length};
+ghost use Rattle.std.specs.Prelude.{◌≡◌, ◌<◌, ◌+◌, ◌*◌, ◌^◌, IfOk, get_or, length, set, nat_lt, if◌then◌else◌};
+ghost use Rattle.plan_core.specs.Plan.{link};
+ghost use Rattle.plan_tables.specs.Tables.{IsTabled};
 ghost use Rattle.plan_tables.specs.AreaTables.{area_counts, area_sums, message_key};
 
 use crate::calls::class_of;

@@ -1,6 +1,6 @@
 //! The calls of a rank's preparation and start, appended part by part.
 
-ghost use Rattle.std.specs.Prelude.{ℕ, ◌≡◌, ◌<◌, ◌≤◌, ◌+◌, ◌^◌, ◌-◌, ◌*◌, ◌++◌, ◌∷◌, [], IfOk, get_or, length, map, nat_lt, if◌then◌else◌};
+ghost use Rattle.std.specs.Prelude.{ℕ, ◌≡◌, ◌<◌, ◌+◌, ◌^◌, ◌-◌, ◌*◌, ◌++◌, ◌∷◌, [], IfOk, get_or, length, map, nat_lt, if◌then◌else◌};
 ghost use Rattle.ptl_types.specs.declared.steps.Call.TheVariants.{CtCell, Overflow};
 ghost use Rattle.plan_core.specs.Plan.{all_cells, cell};
 ghost use Rattle.plan_calls.specs.Works.Work.{Along, Tell};

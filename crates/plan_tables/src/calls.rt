@@ -1,7 +1,6 @@
 //! The single calls by which a rank prepares its interface and appends its cells' entries.
 
-ghost use Rattle.std.specs.Prelude.{◌≡◌, ◌<◌, ◌≤◌, ◌+◌, ◌*◌, ◌^◌, ◌++◌, ◌∷◌, [], ℕ, IfOk, length, map, get_or};
-ghost use Rattle.ptl_types.specs.declared.steps.Call.TheVariants.{CtCell};
+ghost use Rattle.std.specs.Prelude.{◌≡◌, ◌<◌, ◌≤◌, ◌+◌, ◌*◌, ◌^◌, ◌++◌, ◌∷◌, [], IfOk, length, map};
 ghost use Rattle.plan_core.specs.Plan.{all_cells, cell, link};
 ghost use Rattle.plan_calls.specs.Works.Work.{Along, Tell};
 ghost use Rattle.plan_calls.specs.Bits.{bits_above, cell_bits, class_of, op_number, type_number};
@@ -14,7 +13,7 @@ use ptl_types::{AckRequest, Act, AtomicOp, Call, ElemType, NoMemory, Rank};
 
 /// The number of an operation in the match bits.
 fn op_number(op: AtomicOp) -> u64
-    ensures told { result ≡ op_number op }
+    ensures value { result ≡ op_number op }
     ensures few { result < 10 }
 {
     match op {
@@ -33,7 +32,7 @@ fn op_number(op: AtomicOp) -> u64
 
 /// The number of a type in the match bits.
 fn type_number(ty: ElemType) -> u64
-    ensures told { result ≡ type_number ty }
+    ensures value { result ≡ type_number ty }
     ensures few { result < 8 }
 {
     match ty {
@@ -50,7 +49,7 @@ fn type_number(ty: ElemType) -> u64
 
 /// The class of what comes to a cell: 0 for puts, else by operation and type, below 81.
 pub(crate) fn class_of(op: Option<AtomicOp>, ty: ElemType) -> u64
-    ensures told { result ≡ class_of op ty }
+    ensures value { result ≡ class_of op ty }
     ensures few { result < 81 }
 {
     match op {
@@ -63,7 +62,7 @@ pub(crate) fn class_of(op: Option<AtomicOp>, ty: ElemType) -> u64
 pub(crate) fn bits_of(class: u64, cell: u64) -> u64
     requires class { class < 256 }
     requires cell { cell < 2 ^ 24 }
-    ensures told { result ≡ bits_above class cell * 2 ^ 16 }
+    ensures value { result ≡ bits_above class cell * 2 ^ 16 }
     ensures few { result + 65536 ≤ 2 ^ 56 }
 {
     ((256 + class) * 16777216 + cell) * 65536
@@ -73,7 +72,7 @@ pub(crate) fn bits_of(class: u64, cell: u64) -> u64
 fn cell_bits(plan: &Plan, c: u32) -> u64
     requires tabled { IsTabled plan.now }
     requires cell { c < length plan.now.cells }
-    ensures told { result ≡ cell_bits plan.now c * 2 ^ 16 }
+    ensures value { result ≡ cell_bits plan.now c * 2 ^ 16 }
     ensures few { result + 65536 ≤ 2 ^ 56 }
 {
     let cell = cell_at(plan, c);

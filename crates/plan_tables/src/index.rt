@@ -1,6 +1,6 @@
 //! The tables over a whole plan from which each rank's calls are made.
 
-ghost use Rattle.std.specs.Prelude.{ℕ, ◌≡◌, ◌<◌, ◌≤◌, ◌^◌, IfOk, get_or, length};
+ghost use Rattle.std.specs.Prelude.{ℕ, ◌≡◌, ◌<◌, ◌≤◌, IfOk, get_or, length};
 ghost use Rattle.plan_core.specs.Plan.{cell, out_links, own};
 ghost use Rattle.plan_calls.specs.Areas.{links_to, region_length};
 ghost use Rattle.plan_tables.specs.Tables.{IsTabled};
@@ -62,7 +62,7 @@ impl Index {
         requires tabled { IsTabled plan.now }
         requires index { IsIndex plan.now self.now }
         requires rank { r < plan.now.ranks }
-        ensures told { result.now ≡ own plan.now r }
+        ensures value { result.now ≡ own plan.now r }
         ensures cells { (i : ℕ) → i < length result.now → get_or result.now i 0 < length plan.now.cells }
         ensures ranks { (i : ℕ) → i < length result.now → (cell plan.now (get_or result.now i 0)).rank ≡ r }
         ensures few { length result.now ≤ length plan.now.cells }
@@ -76,7 +76,7 @@ impl Index {
         requires tabled { IsTabled plan.now }
         requires index { IsIndex plan.now self.now }
         requires rank { r < plan.now.ranks }
-        ensures told { result.now ≡ out_links plan.now r }
+        ensures value { result.now ≡ out_links plan.now r }
         ensures links { (i : ℕ) → i < length result.now → get_or result.now i 0 < length plan.now.links }
         ensures few { length result.now ≤ length plan.now.links }
     {
@@ -89,7 +89,7 @@ impl Index {
         requires tabled { IsTabled plan.now }
         requires index { IsIndex plan.now self.now }
         requires rank { r < plan.now.ranks }
-        ensures told { result.now ≡ links_to plan.now r }
+        ensures value { result.now ≡ links_to plan.now r }
         ensures links { (i : ℕ) → i < length result.now → get_or result.now i 0 < length plan.now.links }
         ensures few { length result.now ≤ length plan.now.links }
     {

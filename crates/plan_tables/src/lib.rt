@@ -2,7 +2,7 @@
 //! and from them each rank's calls, limits and done threshold. It knows no shapes.
 #![tactic(auto)]
 
-ghost use Rattle.std.specs.Prelude.{ℕ, true, ◌≡◌, ◌<◌};
+ghost use Rattle.std.specs.Prelude.{ℕ};
 ghost use Rattle.plan_core.specs.Plan.{Plan};
 ghost use Rattle.plan_core.specs.Sound.{SoundPlan};
 ghost use Rattle.plan_tables.specs.Tables.{IsTabled};

@@ -1,7 +1,7 @@
 //! What each rank of a plan installs.
 
-ghost use Rattle.std.specs.Prelude.{ℕ, ◌≡◌, ◌<◌, ◌≤◌, ◌+◌, ◌*◌, ◌^◌, ◌++◌, ◌∷◌, [], IfOk, count_by, get_or, length, map, max, if◌then◌else◌};
-ghost use Rattle.plan_core.specs.Plan.{from_to, link, own as own_of, out_links};
+ghost use Rattle.std.specs.Prelude.{ℕ, ◌≡◌, ◌<◌, ◌≤◌, ◌+◌, ◌*◌, ◌++◌, ◌∷◌, [], IfOk, count_by, get_or, length, map, max, if◌then◌else◌};
+ghost use Rattle.plan_core.specs.Plan.{from_to, own as own_of, out_links};
 ghost use Rattle.plan_calls.specs.Works.{done_threshold, is_message};
 ghost use Rattle.plan_calls.specs.Areas.{areas_length, classes, longest as longest_of, region_length};
 ghost use Rattle.plan_calls.specs.Calls.{late_calls, prepare_calls};
@@ -52,7 +52,7 @@ fn is_message(plan: &Plan, l: u32) -> bool
 /// 1 for a message, else 0.
 fn one_message(plan: &Plan, l: u32) -> u64
     requires { l < length plan.now.links }
-    ensures told { result ≡ (if is_message plan.now l then 1 else 0) }
+    ensures value { result ≡ (if is_message plan.now l then 1 else 0) }
     ensures few { result ≤ 1 }
 {
     if is_message(plan, l) { 1 } else { 0 }
@@ -61,7 +61,7 @@ fn one_message(plan: &Plan, l: u32) -> u64
 /// How many of these links send messages.
 fn count_messages(plan: &Plan, links: &[u32]) -> u64
     requires links { (i : ℕ) → i < length links.now → get_or links.now i 0 < length plan.now.links }
-    ensures told { result ≡ count_by (is_message plan.now) links.now }
+    ensures value { result ≡ count_by (is_message plan.now) links.now }
     ensures few { result ≤ length links.now }
 {
     let mut count = 0u64;
@@ -130,7 +130,7 @@ fn area_count(plan: &Plan, r: Rank, calls: &[Call], own: &[u32], out: &[u32]) ->
     requires calls { calls.now ≡ prepare_calls plan.now r }
     requires own { own.now ≡ own_of plan.now r }
     requires out { out.now ≡ out_links plan.now r }
-    ensures told { result ≡ length (classes plan.now r) }
+    ensures value { result ≡ length (classes plan.now r) }
     ensures few { result ≤ 81 }
 {
     let _ = (plan.ranks(), r);

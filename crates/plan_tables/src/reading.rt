@@ -1,6 +1,6 @@
 //! Cells and links by their numbers.
 
-ghost use Rattle.std.specs.Prelude.{◌≡◌, ◌<◌, ◌≤◌, ◌+◌, ◌*◌, length};
+ghost use Rattle.std.specs.Prelude.{◌≡◌, ◌<◌, ◌+◌, ◌*◌, length};
 ghost use Rattle.plan_core.specs.Plan.{cell, link};
 ghost use Rattle.plan_tables.specs.Tables.{IsTabled, from_rank, lane_key, rank_of, to_rank};
 
@@ -27,7 +27,7 @@ pub(crate) fn link_at(plan: &Plan, l: u32) -> Link
 pub(crate) fn rank_of(plan: &Plan, c: u32) -> Rank
     requires tabled { IsTabled plan.now }
     requires cell { c < length plan.now.cells }
-    ensures told { result ≡ rank_of plan.now c }
+    ensures value { result ≡ rank_of plan.now c }
     ensures rank { result < plan.now.ranks }
 {
     cell_at(plan, c).rank
@@ -37,7 +37,7 @@ pub(crate) fn rank_of(plan: &Plan, c: u32) -> Rank
 pub(crate) fn from_rank(plan: &Plan, l: u32) -> Rank
     requires tabled { IsTabled plan.now }
     requires link { l < length plan.now.links }
-    ensures told { result ≡ from_rank plan.now l }
+    ensures value { result ≡ from_rank plan.now l }
     ensures rank { result < plan.now.ranks }
 {
     rank_of(plan, link_at(plan, l).source)
@@ -47,7 +47,7 @@ pub(crate) fn from_rank(plan: &Plan, l: u32) -> Rank
 pub(crate) fn to_rank(plan: &Plan, l: u32) -> Rank
     requires tabled { IsTabled plan.now }
     requires link { l < length plan.now.links }
-    ensures told { result ≡ to_rank plan.now l }
+    ensures value { result ≡ to_rank plan.now l }
     ensures rank { result < plan.now.ranks }
 {
     rank_of(plan, link_at(plan, l).target)

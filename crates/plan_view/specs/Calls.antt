@@ -111,7 +111,7 @@ deed_at k cells BumpDone = IncDeed (done_ct k) (successes 1)
 
 -- an entry at the end of a list of index 0
 abbrev pub with_entry : ℕ → EntryList → Entry → State → State
-with_entry slot place e s = with_parts (append slot 0 place e (parts_of s)).parts s
+with_entry slot list e s = with_parts (append slot 0 list e (parts_of s)).parts s
 
 -- one call, where it isn't refused, on an interface whose own cells are these
 unfoldable pub call_made : Slots → List ℕ → Call → State → State

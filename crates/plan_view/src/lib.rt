@@ -2,26 +2,24 @@
 //! interface makes the moves of its plan's machine.
 #![tactic(auto)]
 
-ghost use Rattle.std.specs.Prelude.{ℕ, List, Bool, true, false, None, IsTrue, ◌<◌, ◌≡◌, ◌++◌, ◌∷◌, ◌/◌, ◌%◌, ◌^◌, ◌==◌, length};
+ghost use Rattle.std.specs.Prelude.{ℕ, List, true, false, None, IsTrue, ◌<◌, ◌≡◌, ◌∷◌, ◌/◌, ◌%◌, ◌^◌, ◌==◌, length};
 ghost use Rattle.ptl_types.specs.declared.calls.Outcome.TheVariants.{Matched, Answered, Dropped};
 ghost use Rattle.ptl_types.specs.Kinds.{is_put_or_atomic, is_no_ack};
 ghost use Rattle.ptl_types.specs.Messages.{Sent};
 ghost use Rattle.ni_model.specs.Answers.{is_awaited};
 ghost use Rattle.ni_model.specs.Ready.{is_ready, fired, fires};
-ghost use Rattle.ni_model.specs.Append.{append_fault};
-ghost use Rattle.ni_model.specs.Refusals.{pt_alloc_fault, alloc_fault, bind_fault, triggered_fault};
-ghost use Rattle.ni_model.specs.State.{target, delivers, parts_of, side_of};
+ghost use Rattle.ni_model.specs.State.{target, delivers};
 ghost use Rattle.plan_core.specs.Members.{In};
-ghost use Rattle.plan_core.specs.Plan.{Plan, link, own};
+ghost use Rattle.plan_core.specs.Plan.{Plan, link};
 ghost use Rattle.plan_core.specs.Values.{Inputs};
-ghost use Rattle.plan_core.specs.Sound.{SoundPlan, AreInputsOf};
+ghost use Rattle.plan_core.specs.Sound.{SoundPlan};
 ghost use Rattle.plan_machine.specs.Seen.{Seen, was_fired};
-ghost use Rattle.plan_calls.specs.Works.{Work, works, cell_of};
+ghost use Rattle.plan_calls.specs.Works.{Work, works};
 ghost use Rattle.plan_machine.specs.Machine.{note, note_work};
 ghost use Rattle.plan_machine.specs.Machine.Move.{Began, Took, Heard, Strayed};
-ghost use Rattle.plan_view.specs.View.{Annex, view, cell_entry, descriptor_of, raise_go};
+ghost use Rattle.plan_view.specs.View.{Annex, view, raise_go};
 ghost use Rattle.plan_view.specs.Slots.{Slots, cell_ct};
-ghost use Rattle.plan_view.specs.Deeds.{deed_of, link_message, ack_of};
+ghost use Rattle.plan_view.specs.Deeds.{link_message, ack_of};
 ghost use Rattle.plan_view.specs.Steps.{Sized, sent_message, IsLinkHere, IsAckHere, IsQuiet};
 
 /// A start raises the go counter: the machine's rank has begun.

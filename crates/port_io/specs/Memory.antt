@@ -64,8 +64,8 @@ jar_after jar piece = record jar {
 }
 
 -- it tells what it took as long as that fits
-abbrev pub told : Jar → Option (List ℕ)
-told jar = if jar.more == 0 then Some jar.kept else None
+abbrev pub taken_in : Jar → Option (List ℕ)
+taken_in jar = if jar.more == 0 then Some jar.kept else None
 
 abbrev pub outflow_of_jar : Jar → Outflow
-outflow_of_jar jar = record { taken = told jar; faults = 0; finishes = jar.finishes }
+outflow_of_jar jar = record { taken = taken_in jar; faults = 0; finishes = jar.finishes }

@@ -1,6 +1,6 @@
 //! The two traits.
 
-ghost use Rattle.std.specs.Prelude.{◌≡◌, ℕ, ◌<◌, ◌≤◌, [], length, take, IfOk, OnOk, OnErr};
+ghost use Rattle.std.specs.Prelude.{◌≡◌, ◌<◌, ◌≤◌, [], length, take, IfOk, OnOk, OnErr};
 ghost use Rattle.ptl_types.specs.Handles.{one_more};
 ghost use Rattle.port_io.specs.Counts.{Rose};
 ghost use Rattle.port_io.specs.Ends.{Inflow, Outflow, GivesFront, IsAtEnd, Appends};

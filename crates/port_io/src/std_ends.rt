@@ -19,7 +19,6 @@ impl<R: Read + Drop> StdSource<R> {
 
 impl<R: Read + Drop> Source for StdSource<R> {
     ghost use Rattle.std.specs.Prelude.{None};
-    ghost use Rattle.port_io.specs.Ends.{Inflow};
 
     ghost inflow = { λ s. record { left = None; faults = s.faults } };
 
@@ -56,7 +55,6 @@ impl<W: Write + Drop> StdSink<W> {
 
 impl<W: Write + Drop> Sink for StdSink<W> {
     ghost use Rattle.std.specs.Prelude.{None};
-    ghost use Rattle.port_io.specs.Ends.{Outflow};
 
     ghost outflow = { λ s. record { taken = None; faults = s.faults; finishes = s.finishes } };
 

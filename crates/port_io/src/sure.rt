@@ -1,9 +1,9 @@
 //! A source and a sink in memory that never fail.
 
-ghost use Rattle.std.specs.Prelude.{◌≡◌, ◌+◌, ◌<◌, ◌≤◌, IfOk, OnOk, IsOk, [], length, take, drop, min, ◌++◌};
+ghost use Rattle.std.specs.Prelude.{◌≡◌, ◌+◌, ◌<◌, ◌≤◌, IfOk, IsOk, [], length, take, drop, min};
 ghost use Rattle.ptl_types.specs.Handles.{one_more};
 ghost use Rattle.port_io.specs.Ends.{Appends};
-ghost use Rattle.port_io.specs.Memory.{jar_after, told};
+ghost use Rattle.port_io.specs.Memory.{jar_after, taken_in};
 
 use crate::ends::{Failed, Sink, Source};
 use ptl_types::{Bytes, NoMemory};
@@ -38,7 +38,6 @@ impl SureSource {
 
 impl Source for SureSource {
     ghost use Rattle.std.specs.Prelude.{Some};
-    ghost use Rattle.port_io.specs.Ends.{Inflow};
 
     ghost inflow = { λ left. record { left = Some left; faults = 0 } };
 
@@ -123,7 +122,7 @@ impl Sink for SureSink {
     fn write(&mut self, piece: &[u8]) -> Result<usize, Failed>
         ensures exact { result ≡ Ok (length piece.now) }
         ensures after { self.new ≡ jar_after self.old piece.now }
-        ensures appended { IfOk result (λ n. Appends (told self.old) (told self.new) (take n piece.now)) }
+        ensures appended { IfOk result (λ n. Appends (taken_in self.old) (taken_in self.new) (take n piece.now)) }
     {
         let free = (self.room - self.kept.len() as u64) as usize;
         let (fitting, others) = piece.split_at(piece.len().min(free));

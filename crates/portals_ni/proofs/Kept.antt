@@ -221,9 +221,9 @@ append-le pt e p none =
     within-le e.start e.length (length p.region) (need-test within OutOfRegion None part)
 
 -- a target after an append
-pub appended-keeps : (pt : ℕ) (place : EntryList) (en : Entry) (p q : Parts) (answer : Appended) (ct : Option Handle) → All (HasPartsIn (length p.region)) p.side.indices → append_fault pt en p ≡ None → AppendsSome pt place en p (has_appended q answer ct) → Keeps p q ct
-appended-keeps pt place en p q answer ct all none is =
-    subst (AppendKeeps p) (sym is.ended) (append-keeps is.slot pt place en p all (append-le pt en p none))
+pub appended-keeps : (pt : ℕ) (list : EntryList) (en : Entry) (p q : Parts) (answer : Appended) (ct : Option Handle) → All (HasPartsIn (length p.region)) p.side.indices → append_fault pt en p ≡ None → AppendsSome pt list en p (has_appended q answer ct) → Keeps p q ct
+appended-keeps pt list en p q answer ct all none is =
+    subst (AppendKeeps p) (sym is.ended) (append-keeps is.slot pt list en p all (append-le pt en p none))
 
 -- an index that changed, and has its entries' parts in the region
 pub indices-sound : (t u : Side) (r : List ℕ) (c : Table Count) (i : Initiating) (ops : Operations Armed) (pt : ℕ) (o : Option Index) (res : Result (Unit {0}) NiFault) → HasPartsIn (length r) o → IsSound t r c i ops → OnErr res (u ≡ t) → OnOk res (u ≡ record t { indices = slice_set t.indices pt o }) → IsSound u r c i ops

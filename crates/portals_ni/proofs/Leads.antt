@@ -157,19 +157,19 @@ request-lead p m = judged-lead p m (chosen m.header p.side.indices)
 
 -- ---- an append
 
-linked-queue : (place : EntryList) (x : Linked) (o : Option Index) → queue_of (linked_at place x o) ≡ queue_of o
-linked-queue place x None = refl
+linked-queue : (list : EntryList) (x : Linked) (o : Option Index) → queue_of (linked_at list x o) ≡ queue_of o
+linked-queue list x None = refl
 linked-queue Priority x (Some i) = refl
 linked-queue Overflow x (Some i) = refl
 
-linked-lead : (slot pt : ℕ) (place : EntryList) (e : Entry) (p : Parts) (found : List IndexedHeader) → is_live_or_none e.ct p.cts ≡ true → PartsLead p (linked_as slot pt place e found p).parts
-linked-lead slot pt place e p found live = record {
-  indices = length-set p.side.indices pt (linked_at place (fresh (next_handle slot p.side) e) (index_at pt p.side.indices));
+linked-lead : (slot pt : ℕ) (list : EntryList) (e : Entry) (p : Parts) (found : List IndexedHeader) → is_live_or_none e.ct p.cts ≡ true → PartsLead p (linked_as slot pt list e found p).parts
+linked-lead slot pt list e p found live = record {
+  indices = length-set p.side.indices pt (linked_at list (fresh (next_handle slot p.side) e) (index_at pt p.side.indices));
   headers = refl;
   counts = counts-same p.cts;
   queues = grows-raised (queue_at pt p.side) (link_event pt e.match_bits) p.eqs;
-  entries_live = append-entries (EntryIsLive p.cts) pt place (fresh (next_handle slot p.side) e) p.side.indices live;
-  indices_live = queue-set (linked_as slot pt place e found p).parts.eqs p.side.indices pt (linked_at place (fresh (next_handle slot p.side) e) (index_at pt p.side.indices)) (linked-queue place (fresh (next_handle slot p.side) e) (index_at pt p.side.indices));
+  entries_live = append-entries (EntryIsLive p.cts) pt list (fresh (next_handle slot p.side) e) p.side.indices live;
+  indices_live = queue-set (linked_as slot pt list e found p).parts.eqs p.side.indices pt (linked_at list (fresh (next_handle slot p.side) e) (index_at pt p.side.indices)) (linked-queue list (fresh (next_handle slot p.side) e) (index_at pt p.side.indices));
 }
 
 taken-lead : (slot pt : ℕ) (e : Entry) (p : Parts) (found : List IndexedHeader) → is_live_or_none e.ct p.cts ≡ true → PartsLead p (linked_as slot pt Priority e found (take_all pt e p)).parts
@@ -201,7 +201,7 @@ once-lead slot pt e p (Some a) live = record {
 abbrev AppendLead : Parts → Appends → Type 0
 AppendLead p a = PartsLead p a.parts
 
-pub append-lead : (slot pt : ℕ) (place : EntryList) (e : Entry) (p : Parts) → is_live_or_none e.ct p.cts ≡ true → PartsLead p (append slot pt place e p).parts
+pub append-lead : (slot pt : ℕ) (list : EntryList) (e : Entry) (p : Parts) → is_live_or_none e.ct p.cts ≡ true → PartsLead p (append slot pt list e p).parts
 unfolding append
 append-lead slot pt Priority e p live =
     either (AppendLead p) e.use_once

@@ -98,8 +98,8 @@ settled-entries P stays f h (Some i) has =
       | Overflow ↦ (has.0, entries-all P stays f.linked h i.overflow has.1)
     ]
 
-linked-entries : (P : Linked → Type 0) (place : EntryList) (x : Linked) (o : Option Index) → P x → HasEntries P o → HasEntries P (linked_at place x o)
-linked-entries P place x None is has = tt
+linked-entries : (P : Linked → Type 0) (list : EntryList) (x : Linked) (o : Option Index) → P x → HasEntries P o → HasEntries P (linked_at list x o)
+linked-entries P list x None is has = tt
 linked-entries P Priority x (Some i) is has = (All-push P i.priority x has.0 is, has.1)
 linked-entries P Overflow x (Some i) is has = (has.0, All-push P i.overflow x has.1 is)
 
@@ -117,8 +117,8 @@ pub indices-entries : (P : Linked → Type 0) → StaysAt P → (f : Found) (h :
 indices-entries P stays f h is all = All-set (HasEntries P) is h.pt (settled_at f h (index_at h.pt is)) (settled-entries P stays f h (index_at h.pt is) (at-entries P h.pt is all)) all
 
 -- one entry more, and one fewer
-pub append-entries : (P : Linked → Type 0) (pt : ℕ) (place : EntryList) (x : Linked) (is : List (Option Index)) → P x → All (HasEntries P) is → All (HasEntries P) (slice_set is pt (linked_at place x (index_at pt is)))
-append-entries P pt place x is new all = All-set (HasEntries P) is pt (linked_at place x (index_at pt is)) (linked-entries P place x (index_at pt is) new (at-entries P pt is all)) all
+pub append-entries : (P : Linked → Type 0) (pt : ℕ) (list : EntryList) (x : Linked) (is : List (Option Index)) → P x → All (HasEntries P) is → All (HasEntries P) (slice_set is pt (linked_at list x (index_at pt is)))
+append-entries P pt list x is new all = All-set (HasEntries P) is pt (linked_at list x (index_at pt is)) (linked-entries P list x (index_at pt is) new (at-entries P pt is all)) all
 
 pub unlink-entries : (P : Linked → Type 0) (me : Handle) (is : List (Option Index)) → All (HasEntries P) is → All (HasEntries P) (map (unlinked_in me) is)
 unlink-entries P me is all = All-map (HasEntries P) (unlinked_in me) is (All-weaker (HasEntries P) (λ o. HasEntries P (unlinked_in me o)) (λ o has. unlinked-entries P me o has) is all)
@@ -154,8 +154,8 @@ to n is all = All-weaker (HasEntries (IsPartIn n)) (HasPartsIn n) (one-to n) is 
 pub indices-parts : (n : ℕ) (f : Found) (h : Header) (is : List (Option Index)) → All (HasPartsIn n) is → All (HasPartsIn n) (indices_after f h is)
 indices-parts n f h is all = to n (indices_after f h is) (indices-entries (IsPartIn n) (λ x at is. is) f h is (from n is all))
 
-pub append-parts : (n pt : ℕ) (place : EntryList) (x : Linked) (is : List (Option Index)) → IsPartIn n x → All (HasPartsIn n) is → All (HasPartsIn n) (slice_set is pt (linked_at place x (index_at pt is)))
-append-parts n pt place x is part all = to n (slice_set is pt (linked_at place x (index_at pt is))) (append-entries (IsPartIn n) pt place x is part (from n is all))
+pub append-parts : (n pt : ℕ) (list : EntryList) (x : Linked) (is : List (Option Index)) → IsPartIn n x → All (HasPartsIn n) is → All (HasPartsIn n) (slice_set is pt (linked_at list x (index_at pt is)))
+append-parts n pt list x is part all = to n (slice_set is pt (linked_at list x (index_at pt is))) (append-entries (IsPartIn n) pt list x is part (from n is all))
 
 pub unlink-parts : (n : ℕ) (me : Handle) (is : List (Option Index)) → All (HasPartsIn n) is → All (HasPartsIn n) (map (unlinked_in me) is)
 unlink-parts n me is all = to n (map (unlinked_in me) is) (unlink-entries (IsPartIn n) me is (from n is all))

@@ -187,10 +187,10 @@ freed-stands t r c e i ops d v u pt (Err fault) is unchanged freed = rw unchange
 
 -- ---- entries
 
-pub me_append-stands : (slot pt : ℕ) (place : EntryList) (e : Entry) (s : State) → Stands s → Stands (me_append slot pt place e s).state
-me_append-stands slot pt place e s is =
-    call-stands _ s (with_parts (append slot pt place e (parts_of s)).parts s) (append slot pt place e (parts_of s)).appended is
-    (λ none. parts-lead s (append slot pt place e (parts_of s)).parts (append-lead slot pt place e (parts_of s) (need-test _ _ _ (need-later _ _ _ none))))
+pub me_append-stands : (slot pt : ℕ) (list : EntryList) (e : Entry) (s : State) → Stands s → Stands (me_append slot pt list e s).state
+me_append-stands slot pt list e s is =
+    call-stands _ s (with_parts (append slot pt list e (parts_of s)).parts s) (append slot pt list e (parts_of s)).appended is
+    (λ none. parts-lead s (append slot pt list e (parts_of s)).parts (append-lead slot pt list e (parts_of s) (need-test _ _ _ (need-later _ _ _ none))))
 
 unlinked-queue : (me : Handle) (o : Option Index) → queue_of (unlinked_in me o) ≡ queue_of o
 unlinked-queue me None = refl

@@ -66,10 +66,10 @@ request-keeps p m all = judged-keeps p m (chosen m.header p.side.indices) all (�
 abbrev pub AppendKeeps : Parts → Appends → Type 0
 AppendKeeps p a = Keeps p a.parts a.counted
 
-linked-keeps : (slot pt : ℕ) (place : EntryList) (e : Entry) (p : Parts) (found : List IndexedHeader) → All (HasPartsIn (length p.region)) p.side.indices → e.start + e.length ≤ length p.region → AppendKeeps p (linked_as slot pt place e found p)
-linked-keeps slot pt place e p found all part = record {
+linked-keeps : (slot pt : ℕ) (list : EntryList) (e : Entry) (p : Parts) (found : List IndexedHeader) → All (HasPartsIn (length p.region)) p.side.indices → e.start + e.length ≤ length p.region → AppendKeeps p (linked_as slot pt list e found p)
+linked-keeps slot pt list e p found all part = record {
   size = refl;
-  parts = append-parts (length p.region) pt place (fresh (next_handle slot p.side) e) p.side.indices part all;
+  parts = append-parts (length p.region) pt list (fresh (next_handle slot p.side) e) p.side.indices part all;
   rank = refl;
   limit = refl;
   counts = changes-none (counted_by e found) p.cts;
@@ -101,7 +101,7 @@ once-keeps slot pt e p (Some a) all part = record {
   counts = changes-counted (overflow_counter e) (successes 1) p.cts;
 }
 
-pub append-keeps : (slot pt : ℕ) (place : EntryList) (e : Entry) (p : Parts) → All (HasPartsIn (length p.region)) p.side.indices → e.start + e.length ≤ length p.region → AppendKeeps p (append slot pt place e p)
+pub append-keeps : (slot pt : ℕ) (list : EntryList) (e : Entry) (p : Parts) → All (HasPartsIn (length p.region)) p.side.indices → e.start + e.length ≤ length p.region → AppendKeeps p (append slot pt list e p)
 unfolding append
 append-keeps slot pt Priority e p all part =
     either (AppendKeeps p) e.use_once (append_once slot pt e p (oldest pt e p.side.headers.unexpected)) (linked_as slot pt Priority e (found_in pt e p.side.headers.unexpected) (take_all pt e p))

@@ -1,6 +1,6 @@
 //! What a message does where it arrives.
 
-ghost use Rattle.std.specs.Prelude.{◌≡◌, true, false};
+ghost use Rattle.std.specs.Prelude.{◌≡◌, false};
 ghost use Rattle.ptl_types.specs.Kinds.{is_answer};
 ghost use Rattle.ni_model.specs.Arrive.{request};
 ghost use Rattle.ni_model.specs.Answers.{answered};

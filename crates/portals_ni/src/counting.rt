@@ -2,9 +2,9 @@
 
 ghost use Rattle.std.specs.Prelude.{◌≡◌, OnOk, OnErr, ◌<◌, IfOk};
 ghost use Rattle.ptl_types.specs.declared.handles.Count.{Count};
-ghost use Rattle.ni_model.specs.Tables.{has_slot, changed, without};
+ghost use Rattle.ni_model.specs.Tables.{has_slot, changed};
 ghost use Rattle.ni_model.specs.Counts.{plus};
-ghost use Rattle.ni_model.specs.Refusals.{ct_set_fault, ct_inc_fault, ct_free_fault};
+ghost use Rattle.ni_model.specs.Refusals.{ct_set_fault, ct_inc_fault};
 ghost use Rattle.ni_model.specs.Calls.{ends, Makes, ct_alloc, ct_get, ct_set, ct_inc, ct_cancel};
 ghost use Rattle.initiator_engine.specs.Initiators.{by_fault};
 
@@ -57,7 +57,7 @@ impl Nic {
 
     /// What a counting event holds; `Stale` exactly where it isn't allocated.
     pub fn ct_get(&self, ct: Handle) -> Result<Count, NiFault>
-        ensures told { result ≡ ct_get ct self.now }
+        ensures value { result ≡ ct_get ct self.now }
     {
         match self.cts.get(ct) {
             Some(counter) => Ok(counter.count()),

@@ -76,14 +76,14 @@ impl Nic {
     /// The unexpected header number `i` of an index in the order of arrival, from 0; `None` exactly where there are no more
     /// than `i`. It goes through the headers before it: a walk over all takes `headers`.
     pub fn header(&self, pt: u32, i: u32) -> Option<&UnexpectedHeader>
-        ensures told { option_copied result ≡ header_at pt i self.now.headers.unexpected }
+        ensures value { option_copied result ≡ header_at pt i self.now.headers.unexpected }
     {
         self.target.header(pt, i)
     }
 
     /// The unexpected headers of all indices, in the order of arrival.
     pub fn headers(&self) -> &[IndexedHeader]
-        ensures told { result.now ≡ self.now.headers.unexpected }
+        ensures value { result.now ≡ self.now.headers.unexpected }
     {
         self.target.headers()
     }
@@ -100,14 +100,14 @@ impl Nic {
 
     /// How many answers a descriptor awaits; `Stale` exactly where it isn't bound.
     pub fn awaits(&self, md: Handle) -> Result<u64, NiFault>
-        ensures told { result ≡ awaits md self.now }
+        ensures value { result ≡ awaits md self.now }
     {
         self.initiator.awaits(md)
     }
 
     /// Whether a descriptor awaits an answer.
     pub fn awaits_any(&self) -> bool
-        ensures told { result ≡ is_awaited self.now.mds.live }
+        ensures value { result ≡ is_awaited self.now.mds.live }
     {
         self.initiator.awaits_any()
     }

@@ -73,7 +73,7 @@ fn goes_to(pending: &Pending<Armed>, number: u32, target: Rank) -> bool
 
 /// How many operations are due whose message is for this rank.
 fn count_to(pending: &Pending<Armed>, target: Rank) -> u32
-    ensures told { result ≡ length (due_numbers_to target pending.now) }
+    ensures value { result ≡ length (due_numbers_to target pending.now) }
     ensures kept { IsKept pending.now }
 {
     let mut count = 0;
@@ -89,29 +89,29 @@ impl Nic {
     /// Whether the operation of this number is pending and its counting event's success and failure together have reached its
     /// threshold.
     pub fn is_ready(&self, number: u32) -> bool
-        ensures told { result ≡ is_ready self.now number }
+        ensures value { result ≡ is_ready self.now number }
     {
         self.pending.waiting().is_ready(number)
     }
 
     /// The number of an operation that is ready; `None` exactly where none is. Which of them it is stays open.
     pub fn ready(&self) -> Option<u32>
-        ensures told { AnswersReady self.now result }
+        ensures value { AnswersReady self.now result }
     {
         self.pending.waiting().ready()
     }
 
     /// How many operations are ready.
     pub fn ready_count(&self) -> u32
-        ensures told { result ≡ length (ready_numbers self.now) }
+        ensures value { result ≡ length (ready_numbers self.now) }
     {
         self.pending.waiting().ready_count()
     }
 
-    /// The number of the ready operation at place `i` among them, by rising number, from 0. Condition: there are more than `i`.
+    /// The number of the ready operation at position `i` among them, by rising number, from 0. Condition: there are more than `i`.
     pub fn ready_at(&self, i: u32) -> u32
         requires { i < length (ready_numbers self.now) }
-        ensures told { slice_get (ready_numbers self.now) i ≡ Some result }
+        ensures value { slice_get (ready_numbers self.now) i ≡ Some result }
     {
         // Brings what the pending operations keep to the proof.
         let waiting = self.pending.waiting();
@@ -121,7 +121,7 @@ impl Nic {
 
     /// How many operations are ready whose message is for this rank.
     pub fn ready_count_to(&self, target: Rank) -> u32
-        ensures told { result ≡ length (ready_numbers_to target self.now) }
+        ensures value { result ≡ length (ready_numbers_to target self.now) }
     {
         count_to(self.pending.waiting(), target)
     }
@@ -129,7 +129,7 @@ impl Nic {
     /// The rank that the message of a pending operation is for; `None` exactly for an increment or a set, and where the
     /// operation isn't pending.
     pub fn lane_of(&self, number: u32) -> Option<Rank>
-        ensures told { result ≡ target_at self.now number }
+        ensures value { result ≡ target_at self.now number }
     {
         target_of(self.pending.waiting(), number)
     }

@@ -94,21 +94,21 @@ impl Nic {
 
     /// Its rank, by which others address it.
     pub fn rank(&self) -> Rank
-        ensures told { result ≡ self.now.rank }
+        ensures value { result ≡ self.now.rank }
     {
         self.initiator.rank()
     }
 
     /// How many ranks there are.
     pub fn ranks(&self) -> u32
-        ensures told { result ≡ self.now.ranks }
+        ensures value { result ≡ self.now.ranks }
     {
         self.initiator.ranks()
     }
 
     /// The actual limits, which are those that were asked for, and stand in each table.
     pub fn limits(&self) -> &Limits
-        ensures told { result.now ≡ self.now.limits }
+        ensures value { result.now ≡ self.now.limits }
         ensures stand { HasLimits self.now }
     {
         self.initiator.limits()
@@ -116,7 +116,7 @@ impl Nic {
 
     /// All bytes of the region.
     pub fn memory(&self) -> &[u8]
-        ensures told { result.now ≡ self.now.memory }
+        ensures value { result.now ≡ self.now.memory }
     {
         self.region.as_slice()
     }
@@ -132,14 +132,14 @@ impl Nic {
     /// The drop register (Portals 4.3, status registers): messages that no entry took, and answers that weren't awaited or
     /// didn't fit. It stops at 2^64 - 1.
     pub fn drops(&self) -> u64
-        ensures told { result ≡ self.now.drops }
+        ensures value { result ≡ self.now.drops }
     {
         self.drops
     }
 
     /// The violation register: messages that their entry didn't allow. It stops at 2^64 - 1.
     pub fn violations(&self) -> u64
-        ensures told { result ≡ self.now.violations }
+        ensures value { result ≡ self.now.violations }
     {
         self.violations
     }
@@ -147,7 +147,7 @@ impl Nic {
     /// How many triggered operations are pending. `kept` is what holds of an interface whatever calls were made: a caller has it
     /// without following them.
     pub fn pending(&self) -> u32
-        ensures told { result ≡ length self.now.pending.waiting }
+        ensures value { result ≡ length self.now.pending.waiting }
         ensures kept { Lasts self.now }
     {
         self.pending.waiting().len()

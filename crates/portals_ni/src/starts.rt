@@ -1,6 +1,6 @@
 //! The starts of operations, and triggered operations (Portals 4.3, data movement operations and triggered operations).
 
-ghost use Rattle.std.specs.Prelude.{◌≡◌, ◌&&◌, ◌||◌, true, false};
+ghost use Rattle.std.specs.Prelude.{◌≡◌, ◌&&◌, true, false};
 ghost use Rattle.ptl_types.specs.declared.calls.Deed.TheVariants.{Put, Get, Atomic, FetchAtomic, Swap};
 ghost use Rattle.ni_model.specs.Counts.{passes_end};
 ghost use Rattle.ni_model.specs.Conditions.{MayStart};

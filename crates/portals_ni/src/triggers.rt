@@ -187,7 +187,7 @@ impl Triggers {
 
     /// Those that wait.
     pub fn waiting(&self) -> &Pending<Armed>
-        ensures told { result.now ≡ self.now }
+        ensures value { result.now ≡ self.now }
     {
         &self.pending
     }
@@ -250,7 +250,7 @@ impl Triggers {
     /// looked up operation by operation. Condition: none names another counting event of this slot.
     pub fn names_ct(&self, ct: Handle) -> bool
         requires alone { All (CtsAlone ct) self.now.waiting }
-        ensures told { result ≡ operation_names_ct ct (posted_all deed_in self.now).waiting }
+        ensures value { result ≡ operation_names_ct ct (posted_all deed_in self.now).waiting }
     {
         match self.cts.at(ct.slot) {
             Some(uses) => uses > 0,
@@ -261,7 +261,7 @@ impl Triggers {
     /// Whether an operation names the descriptor, likewise. Condition: none names another descriptor of this slot.
     pub fn names_md(&self, md: Handle) -> bool
         requires alone { All (MdsAlone md) self.now.waiting }
-        ensures told { result ≡ operation_names_md md (posted_all deed_in self.now).waiting }
+        ensures value { result ≡ operation_names_md md (posted_all deed_in self.now).waiting }
     {
         match self.mds.at(md.slot) {
             Some(uses) => uses > 0,

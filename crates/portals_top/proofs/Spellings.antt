@@ -1,5 +1,5 @@
 -- Refusals of JSON, with the line that is written for them.
-use Rattle.std.proofs.Common.{◌≡◌, ℕ, Option, Some, None, Result, Ok, Err, ap, ◌∙◌}
+use Rattle.std.proofs.Common.{◌≡◌, ℕ, Some, Result, Err, ap, ◌∙◌}
 use Rattle.coll_lang.specs.declared.fault.Refusal.{Refusal}
 use Rattle.coll_lang.specs.Program.{Program}
 use Rattle.json_lang.specs.Answers.{Fails, refusal_of}

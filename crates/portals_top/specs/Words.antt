@@ -6,7 +6,6 @@ use Rattle.portals_top.specs.declared.words.Mode.{Mode}
 use Rattle.portals_top.specs.declared.words.Mode.TheVariants.{Once, Sim, Run, Trace, Steady}
 use Rattle.portals_top.specs.declared.words.Command.{Command}
 use Rattle.portals_top.specs.declared.words.Command.TheVariants.{Execute, Plan}
-use Rattle.portals_top.specs.declared.words.Format.{Format}
 use Rattle.portals_top.specs.declared.words.Format.TheVariants.{Text, Json}
 use Rattle.portals_top.specs.declared.words.Task.{Task}
 use Rattle.portals_top.specs.declared.words.Request.{Request}

@@ -110,7 +110,7 @@ pub(crate) fn put_orders<K: Sink, H: Histories>(
 
 /// The shape that was run.
 fn shape_of(rested: &Rested) -> &Shape
-    ensures told { result.now ≡ rested.now.0.shape }
+    ensures value { result.now ≡ rested.now.0.shape }
     ensures formed { IsWellFormed result.now }
 {
     let shape = rested.0.schedule().shape();

@@ -13,7 +13,6 @@ struct Sizes {
 
 impl Sink for Sizes {
     ghost use Rattle.std.specs.Prelude.{None};
-    ghost use Rattle.port_io.specs.Ends.{Outflow};
 
     ghost outflow = { λ s. record { taken = None; faults = 0; finishes = 18446744073709551615 } };
 

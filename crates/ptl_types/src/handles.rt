@@ -35,11 +35,11 @@ impl<T: Drop> From<AllocFailed<T>> for NoMemory {
 
 /// The name of a memory descriptor, match entry, counting event or event queue of one interface.
 ///
-/// `slot` is the place of the thing's record in the interface's table, which is used again; `stamp` rises by one with each
+/// `slot` is the number of the thing's record in the interface's table, which is used again; `stamp` rises by one with each
 /// thing made in that table, from 0, so that the handle of a thing that is gone is never live again.
 #[derive(Clone, Copy, Debug, PartialEq, Eq)]
 pub struct Handle {
-    /// The place of its record: of a descriptor, a counting event or a queue below that table's limit, of a match entry
+    /// The number of its record: of a descriptor, a counting event or a queue below that table's limit, of a match entry
     /// below the limits of entries and of unexpected headers together, since an unlinked overflow entry keeps its record
     /// while a header names it.
     pub slot: u32,

@@ -12,11 +12,11 @@ use Rattle.plan_cuts.specs.History.{Local, is_start}
 use Rattle.plan_cuts.specs.History.Local.{Start as Started, Receive as Received, Fire as Fired}
 use Rattle.ptl_types.specs.declared.steps.LocalStep.{LocalStep}
 use Rattle.ptl_types.specs.declared.steps.LocalStep.TheVariants.{Start, Receive, Fire}
-use Rattle.rank_node.specs.Copies.{told, due_of, AreCopied, has_start, bytes_received, listed}
+use Rattle.rank_node.specs.Copies.{locals_of, due_of, AreCopied, has_start, bytes_received, listed}
 
 -- a history after another step
 abbrev pub Grows : List LocalStep → List Header → List ℕ → List LocalStep → List Header → List ℕ → Local → Type 0
-Grows es hs bs fs js cs e = (told fs js cs ≡ told es hs bs ++ e ∷ []) × AreCopied fs js cs
+Grows es hs bs fs js cs e = (locals_of fs js cs ≡ locals_of es hs bs ++ e ∷ []) × AreCopied fs js cs
 
 pub grows-start : (es : List LocalStep) (hs : List Header) (bs : List ℕ) → AreCopied es hs bs → Grows es hs bs (es ++ Start ∷ []) hs bs Started
 grows-start [] hs bs all = (refl, all)
@@ -58,12 +58,12 @@ grows-receive source lane h b (Receive s l ∷ es) (j ∷ hs) bs size all =
     let front : take (due_of j) (bs ++ b) ≡ take (due_of j) bs = take-append-le _ _ _ all.0 in
     let back : drop (due_of j) (bs ++ b) ≡ drop (due_of j) bs ++ b = drop-append-le _ _ _ all.0 in
     let long : due_of j ≤ length (bs ++ b) = omega (arith, length-append bs b, all.0) in (
-      ap₂ (λ x y. Received s l (message j x) ∷ told (es ++ Receive source lane ∷ []) (hs ++ h ∷ []) y) front back ∙ ap (λ r. Received s l (message j (take (due_of j) bs)) ∷ r) q.0,
+      ap₂ (λ x y. Received s l (message j x) ∷ locals_of (es ++ Receive source lane ∷ []) (hs ++ h ∷ []) y) front back ∙ ap (λ r. Received s l (message j (take (due_of j) bs)) ∷ r) q.0,
       (long, subst (λ y. AreCopied (es ++ Receive source lane ∷ []) (hs ++ h ∷ []) y) (sym back) q.1),
     )
 
 -- ---- the steps are those of the history
-pub steps-listed : (es : List LocalStep) (hs : List Header) (bs : List ℕ) → AreCopied es hs bs → map listed (told es hs bs) ≡ es
+pub steps-listed : (es : List LocalStep) (hs : List Header) (bs : List ℕ) → AreCopied es hs bs → map listed (locals_of es hs bs) ≡ es
 steps-listed [] hs bs all = refl
 steps-listed (Start ∷ es) hs bs all = ap (λ l. Start ∷ l) (steps-listed es hs bs all)
 steps-listed (Fire t ∷ es) hs bs all = ap (λ l. Fire t ∷ l) (steps-listed es hs bs all)

@@ -47,17 +47,17 @@ got taken o old q given new h makes =
     record { state = w.state ∙ ap new (sym (ap (λ (k : Handle). k.slot) w.answer)); stamp = ap (λ (k : Handle). k.stamp) w.answer }
 
 -- a persistent entry is linked, in either list
-pub linked-persistent : (slot pt : ℕ) (place : EntryList) (e : Entry) (s : State) → e.use_once ≡ false → (append slot pt place e (parts_of s)).appended ≡ Linked (handle slot s.entries_given)
+pub linked-persistent : (slot pt : ℕ) (list : EntryList) (e : Entry) (s : State) → e.use_once ≡ false → (append slot pt list e (parts_of s)).appended ≡ Linked (handle slot s.entries_given)
 unfolding append
 linked-persistent slot pt Priority e s persistent = rw persistent refl
 linked-persistent slot pt Overflow e s persistent = refl
 
-pub linked : (taken : ℕ → Bool) (pt : ℕ) (place : EntryList) (e : Entry) (old q : State) (h : Handle) → e.use_once ≡ false → Makes taken (λ slot. me_append slot pt place e old) (ends q (Ok (Linked h))) → Got q h old.entries_given (λ slot. with_parts (append slot pt place e (parts_of old)).parts old)
-linked taken pt place e old q h persistent makes =
-    let w = went (append_fault pt e (parts_of old)) old (with_parts (append makes.slot pt place e (parts_of old)).parts old) q (append makes.slot pt place e (parts_of old)).appended (Linked h) makes.ended in
-    let same : Linked h ≡ Linked (handle makes.slot old.entries_given) = w.answer ∙ linked-persistent makes.slot pt place e old persistent in
+pub linked : (taken : ℕ → Bool) (pt : ℕ) (list : EntryList) (e : Entry) (old q : State) (h : Handle) → e.use_once ≡ false → Makes taken (λ slot. me_append slot pt list e old) (ends q (Ok (Linked h))) → Got q h old.entries_given (λ slot. with_parts (append slot pt list e (parts_of old)).parts old)
+linked taken pt list e old q h persistent makes =
+    let w = went (append_fault pt e (parts_of old)) old (with_parts (append makes.slot pt list e (parts_of old)).parts old) q (append makes.slot pt list e (parts_of old)).appended (Linked h) makes.ended in
+    let same : Linked h ≡ Linked (handle makes.slot old.entries_given) = w.answer ∙ linked-persistent makes.slot pt list e old persistent in
     let is : h ≡ handle makes.slot old.entries_given = cc in
-    record { state = w.state ∙ ap (λ (k : Handle). with_parts (append k.slot pt place e (parts_of old)).parts old) (sym is); stamp = ap (λ (k : Handle). k.stamp) is }
+    record { state = w.state ∙ ap (λ (k : Handle). with_parts (append k.slot pt list e (parts_of old)).parts old) (sym is); stamp = ap (λ (k : Handle). k.stamp) is }
 
 -- a call that answers a fault changed nothing
 pub record Refused (o : Option NiFault) (q old : State) (fault : NiFault) : Type 0 where

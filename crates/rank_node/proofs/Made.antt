@@ -117,19 +117,19 @@ made-bound cells n remote done s t hs left new is all =
     }
 
 -- ---- an entry, in either list
-made-linked : (cells : List ℕ) (call : Call) (place : EntryList) (e : Entry) (s t : State) (hs left : Handles) → e.use_once ≡ false → NewEntry place e s t hs left → AreAllOf s hs
-    → ((k : Slots) → Agrees k hs → call_made k cells call s ≡ with_entry (k.me s.entries_given) place e s) → count_call call (counted_in hs) ≡ record (counted_in hs) { entries = suc (length hs.entries) } → AreMade cells (call ∷ []) s t hs left
-made-linked cells call place e s t hs left persistent new all is counts =
+made-linked : (cells : List ℕ) (call : Call) (list : EntryList) (e : Entry) (s t : State) (hs left : Handles) → e.use_once ≡ false → NewEntry list e s t hs left → AreAllOf s hs
+    → ((k : Slots) → Agrees k hs → call_made k cells call s ≡ with_entry (k.me s.entries_given) list e s) → count_call call (counted_in hs) ≡ record (counted_in hs) { entries = suc (length hs.entries) } → AreMade cells (call ∷ []) s t hs left
+made-linked cells call list e s t hs left persistent new all is counts =
     subst (λ (x : Handles). AreMade cells (call ∷ []) s t hs x) (sym new.left) (subst (λ (x : State). AreMade cells (call ∷ []) s x hs (with_entry_handle new.made hs)) (sym new.state) there)
   where
     front : (k : Slots) → Agrees k (with_entry_handle new.made hs) → Agrees k hs
     front k g = record { counters = g.counters; entries = tells-front k.me hs.entries new.made g.entries; descriptors = g.descriptors }
 
-    there : AreMade cells (call ∷ []) s (with_entry new.made.slot place e s) hs (with_entry_handle new.made hs)
+    there : AreMade cells (call ∷ []) s (with_entry new.made.slot list e s) hs (with_entry_handle new.made hs)
     there = record {
-      state = λ k g. ap (λ slot. with_entry slot place e s) (sym (tells-last k.me hs.entries new.made g.entries) ∙ ap k.me (sym all.entries)) ∙ sym (is k (front k g));
+      state = λ k g. ap (λ slot. with_entry slot list e s) (sym (tells-last k.me hs.entries new.made g.entries) ∙ ap k.me (sym all.entries)) ∙ sym (is k (front k g));
       kept = front;
-      all = record { counters = (linked-counters new.made.slot 0 place e (parts_of s) persistent).given ∙ all.counters; entries = linked-given new.made.slot 0 place e (parts_of s) persistent ∙ ap (λ n. n + 1) all.entries ∙ sym (length-push hs.entries new.made); descriptors = all.descriptors; live = (linked-counters new.made.slot 0 place e (parts_of s) persistent).handles ∙ all.live };
+      all = record { counters = (linked-counters new.made.slot 0 list e (parts_of s) persistent).given ∙ all.counters; entries = linked-given new.made.slot 0 list e (parts_of s) persistent ∙ ap (λ n. n + 1) all.entries ∙ sym (length-push hs.entries new.made); descriptors = all.descriptors; live = (linked-counters new.made.slot 0 list e (parts_of s) persistent).handles ∙ all.live };
       counted = ap (λ n. record (counted_in hs) { entries = n }) (length-push hs.entries new.made ∙ add-one (length hs.entries)) ∙ sym counts;
       room = refl;
       ranks = refl;

@@ -159,7 +159,7 @@ waits : (cts : Table Count) (o : Option Posted) → is_ready_op cts o ≡ true �
 waits cts None e = absurd cc
 waits cts (Some p) e = refl
 
--- so the operation at a place waits
+-- so the operation at a position waits
 pub ready-posted : (s : State) (i t : ℕ) → slice_get (ready_numbers s) i ≡ Some t → IsSome (posted_at t s.pending)
 ready-posted s i t e = waits s.cts (posted_at t s.pending) (passes (is_ready s) _ i t e)
 
@@ -168,42 +168,42 @@ pub is-posted : (s : State) (t : ℕ) → is_ready s t ≡ true → IsSome (post
 is-posted s t e = waits s.cts (posted_at t s.pending) e
 
 -- what is still to look at, and how far the wanted one is
-pub record IsAhead (p : ℕ → Bool) (xs : List ℕ) (i place rest : ℕ) : Type 0 where
-  pub same : slice_get (filter p (drop place xs)) rest ≡ slice_get (filter p xs) i
-  pub there : rest < length (filter p (drop place xs))
+pub record IsAhead (p : ℕ → Bool) (xs : List ℕ) (i position rest : ℕ) : Type 0 where
+  pub same : slice_get (filter p (drop position xs)) rest ≡ slice_get (filter p xs) i
+  pub there : rest < length (filter p (drop position xs))
 
 pub ahead-first : (p : ℕ → Bool) (xs : List ℕ) (i : ℕ) → i < length (filter p xs) → IsAhead p xs i 0 i
 ahead-first p xs i lt = record { same = refl; there = lt }
 
-front : (xs : List ℕ) (place t : ℕ) → slice_get xs place ≡ Some t → drop place xs ≡ t ∷ drop (place + 1) xs
-front xs place t e =
-    let lt = slice_get_within xs place t e in
-    drop_more xs place t lt ∙ ap (λ y. y ∷ drop (place + 1) xs) (get_or_from_slice_get xs place t t e)
+front : (xs : List ℕ) (position t : ℕ) → slice_get xs position ≡ Some t → drop position xs ≡ t ∷ drop (position + 1) xs
+front xs position t e =
+    let lt = slice_get_within xs position t e in
+    drop_more xs position t lt ∙ ap (λ y. y ∷ drop (position + 1) xs) (get_or_from_slice_get xs position t t e)
 
--- at a place where t stands
-pub ahead-found : (p : ℕ → Bool) (xs : List ℕ) (i place rest t : ℕ) → slice_get xs place ≡ Some t → IsAhead p xs i place rest → p t ≡ true → rest ≡ 0 → slice_get (filter p xs) i ≡ Some t
-ahead-found p xs i place rest t e a ok none =
-    let same : slice_get (filter p (drop place xs)) 0 ≡ slice_get (filter p xs) i = subst (λ n. slice_get (filter p (drop place xs)) n ≡ slice_get (filter p xs) i) none a.same in
-    let there : slice_get (if p t then t ∷ filter p (drop (place + 1) xs) else filter p (drop (place + 1) xs)) 0 ≡ slice_get (filter p xs) i = subst (λ ys. slice_get (filter p ys) 0 ≡ slice_get (filter p xs) i) (front xs place t e) same in
-    sym (subst (λ b. slice_get (if b then t ∷ filter p (drop (place + 1) xs) else filter p (drop (place + 1) xs)) 0 ≡ slice_get (filter p xs) i) ok there)
+-- at a position where t stands
+pub ahead-found : (p : ℕ → Bool) (xs : List ℕ) (i position rest t : ℕ) → slice_get xs position ≡ Some t → IsAhead p xs i position rest → p t ≡ true → rest ≡ 0 → slice_get (filter p xs) i ≡ Some t
+ahead-found p xs i position rest t e a ok none =
+    let same : slice_get (filter p (drop position xs)) 0 ≡ slice_get (filter p xs) i = subst (λ n. slice_get (filter p (drop position xs)) n ≡ slice_get (filter p xs) i) none a.same in
+    let there : slice_get (if p t then t ∷ filter p (drop (position + 1) xs) else filter p (drop (position + 1) xs)) 0 ≡ slice_get (filter p xs) i = subst (λ ys. slice_get (filter p ys) 0 ≡ slice_get (filter p xs) i) (front xs position t e) same in
+    sym (subst (λ b. slice_get (if b then t ∷ filter p (drop (position + 1) xs) else filter p (drop (position + 1) xs)) 0 ≡ slice_get (filter p xs) i) ok there)
 
-pub ahead-next : (p : ℕ → Bool) (xs : List ℕ) (i place rest t : ℕ) → slice_get xs place ≡ Some t → IsAhead p xs i place rest → p t ≡ true → (rest ≡ 0 → ⊥) → IsAhead p xs i (place + 1) (rest - 1)
-ahead-next p xs i place zero t e a ok some = absurd (some refl)
-ahead-next p xs i place (suc rest) t e a ok some =
-    let same : slice_get (if p t then t ∷ filter p (drop (place + 1) xs) else filter p (drop (place + 1) xs)) (suc rest) ≡ slice_get (filter p xs) i = subst (λ ys. slice_get (filter p ys) (suc rest) ≡ slice_get (filter p xs) i) (front xs place t e) a.same in
-    let there : suc rest < length (if p t then t ∷ filter p (drop (place + 1) xs) else filter p (drop (place + 1) xs)) = subst (λ ys. suc rest < length (filter p ys)) (front xs place t e) a.there in
-    let same2 : slice_get (t ∷ filter p (drop (place + 1) xs)) (suc rest) ≡ slice_get (filter p xs) i = subst (λ b. slice_get (if b then t ∷ filter p (drop (place + 1) xs) else filter p (drop (place + 1) xs)) (suc rest) ≡ slice_get (filter p xs) i) ok same in
-    let there2 : suc rest < length (t ∷ filter p (drop (place + 1) xs)) = subst (λ b. suc rest < length (if b then t ∷ filter p (drop (place + 1) xs) else filter p (drop (place + 1) xs))) ok there in
+pub ahead-next : (p : ℕ → Bool) (xs : List ℕ) (i position rest t : ℕ) → slice_get xs position ≡ Some t → IsAhead p xs i position rest → p t ≡ true → (rest ≡ 0 → ⊥) → IsAhead p xs i (position + 1) (rest - 1)
+ahead-next p xs i position zero t e a ok some = absurd (some refl)
+ahead-next p xs i position (suc rest) t e a ok some =
+    let same : slice_get (if p t then t ∷ filter p (drop (position + 1) xs) else filter p (drop (position + 1) xs)) (suc rest) ≡ slice_get (filter p xs) i = subst (λ ys. slice_get (filter p ys) (suc rest) ≡ slice_get (filter p xs) i) (front xs position t e) a.same in
+    let there : suc rest < length (if p t then t ∷ filter p (drop (position + 1) xs) else filter p (drop (position + 1) xs)) = subst (λ ys. suc rest < length (filter p ys)) (front xs position t e) a.there in
+    let same2 : slice_get (t ∷ filter p (drop (position + 1) xs)) (suc rest) ≡ slice_get (filter p xs) i = subst (λ b. slice_get (if b then t ∷ filter p (drop (position + 1) xs) else filter p (drop (position + 1) xs)) (suc rest) ≡ slice_get (filter p xs) i) ok same in
+    let there2 : suc rest < length (t ∷ filter p (drop (position + 1) xs)) = subst (λ b. suc rest < length (if b then t ∷ filter p (drop (position + 1) xs) else filter p (drop (position + 1) xs))) ok there in
     let one : suc rest - 1 ≡ rest = omega arith in
-    subst (IsAhead p xs i (place + 1)) (sym one) (record { same = same2; there = omega arith })
+    subst (IsAhead p xs i (position + 1)) (sym one) (record { same = same2; there = omega arith })
 
-pub ahead-passed : (p : ℕ → Bool) (xs : List ℕ) (i place rest t : ℕ) → slice_get xs place ≡ Some t → IsAhead p xs i place rest → p t ≡ false → IsAhead p xs i (place + 1) rest
-ahead-passed p xs i place rest t e a fails =
-    let same : slice_get (if p t then t ∷ filter p (drop (place + 1) xs) else filter p (drop (place + 1) xs)) rest ≡ slice_get (filter p xs) i = subst (λ ys. slice_get (filter p ys) rest ≡ slice_get (filter p xs) i) (front xs place t e) a.same in
-    let there : rest < length (if p t then t ∷ filter p (drop (place + 1) xs) else filter p (drop (place + 1) xs)) = subst (λ ys. rest < length (filter p ys)) (front xs place t e) a.there in
+pub ahead-passed : (p : ℕ → Bool) (xs : List ℕ) (i position rest t : ℕ) → slice_get xs position ≡ Some t → IsAhead p xs i position rest → p t ≡ false → IsAhead p xs i (position + 1) rest
+ahead-passed p xs i position rest t e a fails =
+    let same : slice_get (if p t then t ∷ filter p (drop (position + 1) xs) else filter p (drop (position + 1) xs)) rest ≡ slice_get (filter p xs) i = subst (λ ys. slice_get (filter p ys) rest ≡ slice_get (filter p xs) i) (front xs position t e) a.same in
+    let there : rest < length (if p t then t ∷ filter p (drop (position + 1) xs) else filter p (drop (position + 1) xs)) = subst (λ ys. rest < length (filter p ys)) (front xs position t e) a.there in
     record {
-      same = subst (λ b. slice_get (if b then t ∷ filter p (drop (place + 1) xs) else filter p (drop (place + 1) xs)) rest ≡ slice_get (filter p xs) i) fails same;
-      there = subst (λ b. rest < length (if b then t ∷ filter p (drop (place + 1) xs) else filter p (drop (place + 1) xs))) fails there;
+      same = subst (λ b. slice_get (if b then t ∷ filter p (drop (position + 1) xs) else filter p (drop (position + 1) xs)) rest ≡ slice_get (filter p xs) i) fails same;
+      there = subst (λ b. rest < length (if b then t ∷ filter p (drop (position + 1) xs) else filter p (drop (position + 1) xs))) fails there;
     }
 
 drop-all : (xs : List ℕ) (n : ℕ) → length xs ≤ n → drop n xs ≡ []
@@ -213,5 +213,5 @@ drop-all (x ∷ xs) zero le = absurd (omega arith)
 drop-all (x ∷ xs) (suc n) le = drop-all xs n (omega arith)
 
 -- after the last there is none
-pub ahead-ends : (p : ℕ → Bool) (xs : List ℕ) (i place rest : ℕ) → length xs ≤ place → IsAhead p xs i place rest → ⊥
-ahead-ends p xs i place rest le a = let there : rest < 0 = subst (λ ys. rest < length (filter p ys)) (drop-all xs place le) a.there in absurd (omega arith)
+pub ahead-ends : (p : ℕ → Bool) (xs : List ℕ) (i position rest : ℕ) → length xs ≤ position → IsAhead p xs i position rest → ⊥
+ahead-ends p xs i position rest le a = let there : rest < 0 = subst (λ ys. rest < length (filter p ys)) (drop-all xs position le) a.there in absurd (omega arith)

@@ -54,12 +54,12 @@ same-each ct [] t = same-things t
 same-each ct (a ∷ found) t = same-twice t (counted ct (successes 1) t) (each_counted ct found (counted ct (successes 1) t)) (same-counted ct (successes 1) t) (same-each ct found (counted ct (successes 1) t))
 
 -- a persistent entry that is linked
-pub linked-counters : (slot pt : ℕ) (place : EntryList) (e : Entry) (p : Parts) → e.use_once ≡ false → SameThings p.cts (append slot pt place e p).parts.cts
+pub linked-counters : (slot pt : ℕ) (list : EntryList) (e : Entry) (p : Parts) → e.use_once ≡ false → SameThings p.cts (append slot pt list e p).parts.cts
 unfolding append
 linked-counters slot pt Priority e p persistent = subst (λ b. SameThings p.cts (if b then append_once slot pt e p (oldest pt e p.side.headers.unexpected) else linked_as slot pt Priority e (found_in pt e p.side.headers.unexpected) (take_all pt e p)).parts.cts) (sym persistent) (same-each (overflow_counter e) (found_in pt e p.side.headers.unexpected) p.cts)
 linked-counters slot pt InOverflow e p persistent = same-things p.cts
 
-pub linked-given : (slot pt : ℕ) (place : EntryList) (e : Entry) (p : Parts) → e.use_once ≡ false → (append slot pt place e p).parts.side.given ≡ p.side.given + 1
+pub linked-given : (slot pt : ℕ) (list : EntryList) (e : Entry) (p : Parts) → e.use_once ≡ false → (append slot pt list e p).parts.side.given ≡ p.side.given + 1
 unfolding append
 linked-given slot pt Priority e p persistent = subst (λ b. (if b then append_once slot pt e p (oldest pt e p.side.headers.unexpected) else linked_as slot pt Priority e (found_in pt e p.side.headers.unexpected) (take_all pt e p)).parts.side.given ≡ p.side.given + 1) (sym persistent) refl
 linked-given slot pt InOverflow e p persistent = refl

@@ -99,7 +99,7 @@ pub record NewDescriptor (md : Descriptor) (old new : State) (before after : Han
   pub left : after ≡ with_descriptor_handle made before
 
 -- an entry
-pub record NewEntry (place : EntryList) (e : Entry) (old new : State) (before after : Handles) : Type 0 where
+pub record NewEntry (list : EntryList) (e : Entry) (old new : State) (before after : Handles) : Type 0 where
   pub made : Handle
-  pub state : new ≡ with_entry made.slot place e old
+  pub state : new ≡ with_entry made.slot list e old
   pub left : after ≡ with_entry_handle made before

@@ -13,12 +13,13 @@ abbrev pub due_of : Header → ℕ
 due_of h = bytes_due h.kind h.ok h.length
 
 -- the steps with the messages that were received
-abbrev pub told : List LocalStep → List Header → List ℕ → List Local
-told [] hs bs = []
-told (Start ∷ es) hs bs = Started ∷ told es hs bs
-told (Fire t ∷ es) hs bs = Fired t ∷ told es hs bs
-told (Receive source lane ∷ es) [] bs = []
-told (Receive source lane ∷ es) (h ∷ hs) bs = Received source lane (message h (take (due_of h) bs)) ∷ told es hs (drop (due_of h) bs)
+abbrev pub locals_of : List LocalStep → List Header → List ℕ → List Local
+locals_of [] hs bs = []
+locals_of (Start ∷ es) hs bs = Started ∷ locals_of es hs bs
+locals_of (Fire t ∷ es) hs bs = Fired t ∷ locals_of es hs bs
+locals_of (Receive source lane ∷ es) [] bs = []
+locals_of (Receive source lane ∷ es) (h ∷ hs) bs =
+    Received source lane (message h (take (due_of h) bs)) ∷ locals_of es hs (drop (due_of h) bs)
 
 -- a step without its message
 abbrev pub listed : Local → LocalStep

@@ -51,7 +51,7 @@ pub fn open_count(nic: &Nic, gates: &Gates) -> u32
     count
 }
 
-/// The number of the one at place `i` among these, by rising number, from 0. Where a lane is closed it goes through those that are
+/// The number of the one at position `i` among these, by rising number, from 0. Where a lane is closed it goes through those that are
 /// ready.
 pub fn open_at(nic: &Nic, gates: &Gates, i: u32) -> u32
     requires { i < length (open_numbers gates.now nic.now) }
@@ -61,8 +61,8 @@ pub fn open_at(nic: &Nic, gates: &Gates, i: u32) -> u32
         return nic.ready_at(i);
     }
     let mut rest = i;
-    for place in 0..nic.ready_count() {
-        let number = nic.ready_at(place);
+    for position in 0..nic.ready_count() {
+        let number = nic.ready_at(position);
         if is_open(nic, gates, number) {
             if rest == 0 {
                 return number;

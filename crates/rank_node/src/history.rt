@@ -25,13 +25,13 @@ pub struct History {
 
 impl Model for History {
     ghost use Rattle.std.specs.Prelude.{◌≡◌, ◌≤◌, ◌+◌, vec_capacity, vec_len};
-    ghost use Rattle.rank_node.specs.Copies.{Diary, told, has_start, AreCopied};
+    ghost use Rattle.rank_node.specs.Copies.{Diary, locals_of, has_start, AreCopied};
 
     ghost Value = { Diary };
 
-    ghost view = { λ h. record { locals = told h.steps.items h.headers.items h.copies.items; steps = h.steps.items; room = h.room; receipts = h.receipts; bytes = h.bytes } };
+    ghost view = { λ h. record { locals = locals_of h.steps.items h.headers.items h.copies.items; steps = h.steps.items; room = h.room; receipts = h.receipts; bytes = h.bytes } };
 
-    ghost invariant = { λ h. AreCopied h.steps.items h.headers.items h.copies.items × (h.started ≡ has_start (told h.steps.items h.headers.items h.copies.items)) × (vec_len h.steps + h.room ≤ vec_capacity h.steps) × (vec_len h.headers + h.receipts ≤ vec_capacity h.headers) × (vec_len h.copies + h.bytes ≤ vec_capacity h.copies) };
+    ghost invariant = { λ h. AreCopied h.steps.items h.headers.items h.copies.items × (h.started ≡ has_start (locals_of h.steps.items h.headers.items h.copies.items)) × (vec_len h.steps + h.room ≤ vec_capacity h.steps) × (vec_len h.headers + h.receipts ≤ vec_capacity h.headers) × (vec_len h.copies + h.bytes ≤ vec_capacity h.copies) };
 }
 
 impl History {
@@ -66,7 +66,7 @@ impl History {
 
     /// The steps, oldest first.
     pub fn steps(&self) -> &[LocalStep]
-        ensures told { result.now ≡ self.now.steps }
+        ensures value { result.now ≡ self.now.steps }
         ensures listed { map listed self.now.locals ≡ self.now.steps }
     {
         self.steps.as_slice()
@@ -103,7 +103,7 @@ impl History {
         requires room { 0 < self.old.room }
         requires receipts { 0 < self.old.receipts }
         requires bytes { length message.now.bytes ≤ self.old.bytes }
-        ensures noted { self.new ≡ with_receipt source lane message.now self.old }
+        ensures does { self.new ≡ with_receipt source lane message.now self.old }
         ensures kept { IsKept message.now }
     {
         let bytes = message.bytes().as_slice();

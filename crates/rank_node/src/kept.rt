@@ -86,7 +86,7 @@ impl Kept {
     pub fn counter(&self, i: usize) -> Handle
         requires { i < length self.now.counters }
         ensures kept { result ≡ slice_index_or self.now.counters i (handle 0 0) }
-        ensures told { (f : ℕ → ℕ) → Tells f self.now.counters → result ≡ handle (f i) i }
+        ensures value { (f : ℕ → ℕ) → Tells f self.now.counters → result ≡ handle (f i) i }
     {
         self.counters[i]
     }

@@ -136,7 +136,7 @@ impl Node {
 
     /// The steps, oldest first. `kept` is what holds of a node whatever was done with it.
     pub fn history(&self) -> &[LocalStep]
-        ensures told { result.now ≡ self.now.diary.steps }
+        ensures value { result.now ≡ self.now.diary.steps }
         ensures listed { map listed self.now.diary.locals ≡ self.now.diary.steps }
         ensures kept { IsNode self.now }
     {
@@ -189,7 +189,7 @@ impl Node {
         open_count(&self.nic, &self.gates)
     }
 
-    /// The number of the one at place `i` among these, by rising number, from 0.
+    /// The number of the one at position `i` among these, by rising number, from 0.
     pub fn ready_at(&self, i: u32) -> u32
         requires { i < length (open_numbers self.now.closed self.now.nic) }
         ensures { slice_get (open_numbers self.now.closed self.now.nic) i ≡ Some result }

@@ -1,12 +1,12 @@
 //! The start of a rank: what came early is brought into its cells, and their entries are appended.
 
-ghost use Rattle.std.specs.Prelude.{◌≡◌, ◌<◌, ◌≤◌, ◌+◌, ℕ, List, All, IsTrue, nat_le, [], ◌∷◌, true, false, length};
+ghost use Rattle.std.specs.Prelude.{◌≡◌, ◌<◌, ◌≤◌, ◌+◌, List, All, nat_le, [], ◌∷◌, true, false, length};
 ghost use Rattle.ptl_types.specs.Elements.{part};
 ghost use Rattle.ni_model.specs.Headers.{found_in};
 ghost use Rattle.plan_calls.specs.declared.OwnCell.{OwnCell};
 ghost use Rattle.rank_node.specs.Handles.{AreAllOf, IsRising};
 ghost use Rattle.rank_node.specs.Calls.{HasCounter};
-ghost use Rattle.plan_start.specs.Start.{is_used, lies_in, fits_elements, brought_by, bring, bring_all, go_raised, entry_of, with_brought};
+ghost use Rattle.plan_start.specs.Start.{is_used, lies_in, fits_elements, brought_by, bring, bring_all, go_raised};
 ghost use Rattle.rank_node.specs.Start.{IsAppended, AreStarted};
 
 use crate::install::{counter_of, entry_of_cell, one};
@@ -104,9 +104,9 @@ fn bring_found(nic: &mut Nic, buffer: &mut [u8], cell: &OwnCell, entry: &Entry)
     ensures { nic.new ≡ record nic.old { memory = bring_all (length buffer.old) cell.now (found_in 0 entry.now nic.old.headers.unexpected) nic.old.memory } }
 {
     for i in 0..nic.headers().len() {
-        let noted = nic.headers()[i];
-        if finds(&noted, 0, entry) {
-            bring_one(nic, buffer, cell, &noted.header);
+        let unexpected = nic.headers()[i];
+        if finds(&unexpected, 0, entry) {
+            bring_one(nic, buffer, cell, &unexpected.header);
         }
     }
 }

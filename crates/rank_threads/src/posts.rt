@@ -1,6 +1,6 @@
 //! How messages enter and leave the wires at the ends of one rank.
 
-ghost use Rattle.std.specs.Prelude.{◌≡◌, ◌<◌, ◌++◌, ◌∷◌, [], true, false, IsTrue, IsFalse, IfSome, IfNone, Some, ◌↔◌, length, slice_set};
+ghost use Rattle.std.specs.Prelude.{◌≡◌, ◌<◌, ◌++◌, ◌∷◌, [], true, false, IsTrue, IfSome, IfNone, Some, ◌↔◌, length, slice_set};
 ghost use mathlib.Core.Option.{some};
 ghost use lib.ListN.{get_elem?};
 ghost use Rattle.pair_wires.specs.Bounds.{KeepsBounds};

@@ -2,16 +2,12 @@
 
 ghost use Rattle.std.specs.Prelude.{true, false, ◌≡◌, ◌<◌, ◌++◌, ◌∷◌, [], length, IsTrue, IsFalse, IfSome, IfNone};
 ghost use mathlib.Core.Option.{some};
-ghost use lib.ListN.{get_elem?};
 ghost use Rattle.ptl_types.specs.declared.headers.Lane.TheVariants.{Answer};
-ghost use Rattle.ptl_types.specs.Messages.{Sent};
-ghost use Rattle.ni_model.specs.Answers.{is_awaited};
 ghost use Rattle.ni_model.specs.Ready.{is_ready, target_at};
-ghost use Rattle.plan_cuts.specs.History.Local.{Start as Started, Receive as Received, Fire as Fired};
+ghost use Rattle.plan_cuts.specs.History.Local.{Start as Started, Fire as Fired};
 ghost use Rattle.rank_node.specs.Copies.{has_start};
 ghost use Rattle.rank_node.specs.Gates.{goes_out};
 ghost use Rattle.rank_threads.specs.declared.ports.OutPort.{OutPort};
-ghost use Rattle.rank_threads.specs.declared.ports.InPort.{InPort};
 ghost use Rattle.rank_threads.specs.Chronicles.{KeepsHandles};
 ghost use Rattle.rank_threads.specs.Lists.{Each};
 ghost use Rattle.rank_threads.specs.Names.{IsWired, history, mark, plate};

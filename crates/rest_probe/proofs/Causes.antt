@@ -1,5 +1,5 @@
 -- What a wave answers, from what was looked for.
-use Rattle.std.proofs.Common.{◌≡◌, ◌<◌, ◌⊎◌, inl, inr, ⊎_elim, ◌∙◌, ℕ, List, subst, sym}
+use Rattle.std.proofs.Common.{◌≡◌, ◌<◌, ◌⊎◌, ⊎_elim, ℕ, List, subst, sym}
 use Rattle.rest_probe.specs.declared.answers.WaveAnswer.{WaveAnswer}
 use Rattle.rest_probe.specs.declared.answers.WaveAnswer.TheVariants.{Rest, NotStarted, Ready, Between}
 use Rattle.rest_probe.specs.declared.notes.RankNote.{RankNote}

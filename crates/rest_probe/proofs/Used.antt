@@ -1,5 +1,5 @@
 -- A lane stands among the gathered ones exactly where messages go on it.
-use Rattle.std.proofs.Common.{◌≡◌, ◌<◌, ◌≤◌, ◌+◌, ◌++◌, ◌∷◌, [], ◌⊎◌, ◌∙◌, ⊎_elim, inl, inr, ℕ, Bool, true, false, zero, suc, List, length, flat_map, ap, sym, refl, arith, true≢false}
+use Rattle.std.proofs.Common.{◌≡◌, ◌<◌, ◌≤◌, ◌+◌, ◌++◌, ◌∷◌, [], ◌⊎◌, ◌∙◌, ⊎_elim, inl, inr, ℕ, Bool, true, false, zero, suc, List, flat_map, ap, sym, refl, arith, true≢false}
 use Rattle.std.proofs.lemmas.Bool.{cases_eq}
 use mathlib.Core.Option.{some, some-injective, some-ne-none}
 use lib.ListN.{get_elem?}

@@ -1,10 +1,9 @@
 -- A wave of probes: a note for each rank.
-use Rattle.std.specs.Prelude.{ℕ, Bool, true, false, ◌≡◌, ◌<◌, List, Option, length, map}
+use Rattle.std.specs.Prelude.{ℕ, Bool, true, false, ◌≡◌, List, Option, length, map}
 use mathlib.Core.Option.{some}
 use lib.ListN.{get_elem?}
 use Rattle.plan_core.specs.Plan.{Plan}
 use Rattle.rest_probe.specs.declared.notes.LaneCount.{LaneCount}
-use Rattle.rest_probe.specs.declared.notes.ProbeNote.{ProbeNote}
 use Rattle.rest_probe.specs.declared.notes.RankNote.{RankNote}
 use Rattle.rest_probe.specs.Counted.{cleared}
 use Rattle.rest_probe.specs.Lanes.{lanes_from, lanes_to}

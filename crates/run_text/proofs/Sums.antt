@@ -1,5 +1,5 @@
 -- Sums, one more value at a time.
-use Rattle.std.proofs.Common.{◌≡◌, ℕ, zero, suc, ◌+◌, ◌-◌, ◌%◌, ◌^◌, ◌<◌, ◌≤◌, List, [], ◌∷◌, length, get_or, take, drop, sym, ◌∙◌, ap, subst, arith}
+use Rattle.std.proofs.Common.{◌≡◌, ℕ, suc, ◌+◌, ◌-◌, ◌%◌, ◌^◌, ◌<◌, ◌≤◌, List, length, get_or, take, drop, sym, ◌∙◌, ap, arith}
 use Rattle.std.specs.Prelude.{sum, sum_by}
 use Rattle.std.proofs.lemmas.List.{get_or_default, take-take}
 use Rattle.std.proofs.lemmas.List.Sums.{sum_by-cons}

@@ -2,7 +2,6 @@
 use Rattle.std.specs.Prelude.{ℕ, ◌%◌, ◌^◌, List, [], ◌∷◌, ◌++◌, codes, sum, sum_by}
 use Rattle.std.specs.List.{flat_map}
 use Rattle.std.specs.Fmt.{decimal}
-use Rattle.ptl_types.specs.declared.elements.ElemType.{ElemType}
 use Rattle.number_lists.specs.Numbers.{from_to}
 use Rattle.coll_text.specs.Text.{line}
 use Rattle.coll_text.specs.Elements.{elements}

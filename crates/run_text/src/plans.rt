@@ -1,6 +1,6 @@
 //! The text of a plan.
 
-ghost use Rattle.std.specs.Prelude.{◌≡◌, ◌<◌, ◌+◌, ◌^◌, [], ℕ, length};
+ghost use Rattle.std.specs.Prelude.{◌≡◌, ◌<◌, ◌+◌, ◌^◌, [], length};
 ghost use Rattle.std.specs.List.{flat_map};
 ghost use Rattle.number_lists.specs.Numbers.{from_to};
 ghost use Rattle.coll_lang.specs.Words.{op_word, type_word};
@@ -160,7 +160,7 @@ pub trait PlanTables {
 
     /// The plan. It has fewer than 2^32 cells and links.
     fn plan(&self) -> &Plan
-        ensures told { result.now ≡ drawn self.now }
+        ensures value { result.now ≡ drawn self.now }
         ensures few { length (drawn self.now).cells + length (drawn self.now).links < 2 ^ 32 };
 
     /// Where a rank's counter of what is done stands when all is done.

@@ -1,6 +1,6 @@
 //! The whole text of a result.
 
-ghost use Rattle.std.specs.Prelude.{◌≡◌, ◌<◌, [], ℕ, List, length, get_or};
+ghost use Rattle.std.specs.Prelude.{◌≡◌, ◌<◌, [], ℕ, length, get_or};
 ghost use Rattle.std.specs.List.{flat_map};
 ghost use Rattle.coll_shape.specs.Folding.{at};
 ghost use Rattle.coll_shape.specs.Meaning.{Lists, lists_of};

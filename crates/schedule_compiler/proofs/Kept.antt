@@ -1,15 +1,13 @@
 -- What follows from what a schedule keeps.
-use Rattle.std.proofs.Common.{ℕ, ◌≡◌, ◌<◌, None, Some, length, map, get_or, sym, subst, ap, ◌∙◌}
-use Rattle.plan_core.specs.Draw.{HeldCells, held_cell}
+use Rattle.std.proofs.Common.{◌≡◌, None, length, sym, subst, ap, ◌∙◌}
+use Rattle.plan_core.specs.Draw.{HeldCells}
 use Rattle.plan_core.specs.Plan.{Plan}
-use Rattle.plan_core.specs.Sound.{SoundPlan}
 use Rattle.plan_tables.specs.declared.tables.Tables.{Tables}
-use Rattle.plan_tables.specs.Ranks.{IsTables}
 use Rattle.plan_tables.specs.Tables.{IsTabled}
 use Rattle.plan_tables.proofs.Room.{sound-tabled}
-use Rattle.coll_shape.specs.Outline.{Outline, buffer_at}
+use Rattle.coll_shape.specs.Outline.{Outline}
 use Rattle.coll_shape.specs.WellFormed.{IsWellFormed}
-use Rattle.shape_plans.specs.Drawing.{drawing_of, plan_of}
+use Rattle.shape_plans.specs.Drawing.{plan_of}
 use Rattle.shape_plans.specs.Footprint.{refusal}
 use Rattle.shape_laws.proofs.Final.{fine-shape, sound}
 use Rattle.schedule_compiler.specs.Keeping.{Keeps}

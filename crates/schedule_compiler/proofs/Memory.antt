@@ -1,5 +1,5 @@
 -- What a rank's memory holds at the beginning, put together part by part.
-use Rattle.std.proofs.Common.{ℕ, zero, suc, Bool, true, false, cond, ◌+◌, ◌-◌, ◌*◌, ◌/◌, ◌%◌, ◌≡◌, ◌≤◌, ◌<◌, List, [], ◌∷◌, ◌++◌, Option, Some, None, refl, length, map, filter, flat_map, replicate, get_or, sum_by, ap, ap₂, ◌∙◌, sym, subst, arith, append_assoc, append-nil, div-add-mod', nat_le, nat_lt, ◌&&◌}
+use Rattle.std.proofs.Common.{ℕ, zero, suc, Bool, true, false, cond, ◌+◌, ◌-◌, ◌*◌, ◌/◌, ◌%◌, ◌≡◌, ◌≤◌, ◌<◌, List, [], ◌∷◌, ◌++◌, Option, Some, None, refl, length, filter, flat_map, replicate, get_or, sum_by, ap, ◌∙◌, sym, arith, append_assoc, append-nil, div-add-mod', nat_le, nat_lt, ◌&&◌}
 use Rattle.std.proofs.Math.Nat.{mul-div_right, mod-eq_of_lt, add-mul-mod_self_right, lt_of_mul-lt-mul_right}
 use Rattle.std.proofs.lemmas.Bool.{leb-true, ltb-true}
 use Rattle.ptl_types.specs.declared.elements.AtomicOp.{AtomicOp}
@@ -11,7 +11,7 @@ use Rattle.plan_core.specs.declared.Cell.{Cell}
 use Rattle.plan_core.specs.Plan.{Plan, cell, from_to}
 use Rattle.plan_core.specs.Values.{Inputs, blank, initial}
 use Rattle.plan_core.proofs.Drawing.{from_to-more}
-use Rattle.plan_calls.specs.Areas.{area_length, blank_area, blank_areas, blank_as, classes, has_class, links_to}
+use Rattle.plan_calls.specs.Areas.{area_length, blank_area, blank_areas, blank_as, has_class, links_to}
 use Rattle.plan_calls.specs.Bits.{class_op, class_type}
 use Rattle.plan_tables.proofs.ByClass.{none-of}
 

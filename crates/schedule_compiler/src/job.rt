@@ -77,7 +77,7 @@ impl Job {
 
     /// The inputs.
     pub fn inputs(&self) -> &Inputs
-        ensures told { result.now ≡ self.now.inputs }
+        ensures value { result.now ≡ self.now.inputs }
         // This holds of every job, whichever call tells it.
         ensures inputs { AreInputs self.now.shape self.now.inputs }
     {

@@ -107,7 +107,7 @@ impl Schedule {
 
     /// The shape that was compiled.
     pub fn shape(&self) -> &Shape
-        ensures told { result.now ≡ self.now }
+        ensures value { result.now ≡ self.now }
         // This holds of every schedule, whichever call tells it.
         ensures accepted { refusal self.now ≡ None }
     {
@@ -116,7 +116,7 @@ impl Schedule {
 
     /// The plan.
     pub fn plan(&self) -> &Plan
-        ensures told { result.now ≡ plan_of self.now }
+        ensures value { result.now ≡ plan_of self.now }
         ensures sound { SoundPlan (plan_of self.now) self.now.inputs }
         ensures ranks { (plan_of self.now).ranks ≡ self.now.ranks }
     {
@@ -252,7 +252,7 @@ impl Schedule {
     pub fn result(&self, buffer: u32, r: Rank) -> Option<u32>
         requires buffer { buffer < length self.now.buffers }
         requires rank { r < self.now.ranks }
-        ensures told { result ≡ held_cell (drawing_of self.now).held buffer r }
+        ensures value { result ≡ held_cell (drawing_of self.now).held buffer r }
         ensures cell { (c : ℕ) → held_cell (drawing_of self.now).held buffer r ≡ Some c →
             IsResultCell (plan_of self.now) (buffer_at self.now buffer) r c }
         ensures none { (inputs : Lists) → AreInputs self.now inputs →

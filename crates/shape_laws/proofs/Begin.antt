@@ -8,17 +8,15 @@ use Rattle.op_laws.proofs.Bytes.{bytes-pos}
 use Rattle.ptl_types.specs.Operations.{bytes_of}
 use Rattle.plan_core.specs.declared.Cell.{Cell}
 use Rattle.plan_core.specs.declared.Incoming.{Incoming}
-use Rattle.plan_core.specs.declared.LinkKind.TheVariants.{Bump}
 use Rattle.plan_core.specs.Draw.{HeldCells, NewCell, cell_of, go_cell_of, go_plan, held_cell, hold, place_of}
 use Rattle.plan_core.specs.Members.{In}
 use Rattle.plan_core.specs.Plan.{Plan, cell, from_to, in_links, link, no_cell}
-use Rattle.plan_core.specs.Values.{Inputs, blank, initial, input_bytes, is_input, land_as, value, due}
+use Rattle.plan_core.specs.Values.{Inputs, blank, initial, input_bytes, land_as, value, due}
 use Rattle.plan_core.proofs.Lists.{each, length-map'}
 use Rattle.plan_core.proofs.Links.{in_links-In, In-from_to}
 use Rattle.plan_core.proofs.Values.{step, value-eq}
 use Rattle.coll_shape.specs.declared.types.Buffer.{Buffer}
 use Rattle.coll_shape.specs.Outline.{Outline, buffer_at, list_bytes}
-use Rattle.plan_steps.specs.Site.{bump}
 use Rattle.plan_laws.specs.Sounding.{SoundIncoming, WellBuilt, with_cell, with_cells}
 use Rattle.coll_shape.specs.Folding.{at}
 use Rattle.plan_laws.proofs.Bridge.{add_all-with}
@@ -29,9 +27,8 @@ use Rattle.plan_laws.proofs.Grow.{cell-old, length-cells, length-from_to}
 use Rattle.plan_laws.proofs.Settled.{rows-apart}
 use Rattle.plan_laws.proofs.Sound.{grows}
 use Rattle.shape_plans.specs.Drawing.{drawn_inputs, hold_row, input_cell, opened}
-use Rattle.coll_shape.specs.WellFormed.{IsWellFormed}
 use Rattle.shape_laws.specs.Results.{IsResult}
-use Rattle.coll_shape.specs.Meaning.{AreInputs, lists_of}
+use Rattle.coll_shape.specs.Meaning.{lists_of}
 use Rattle.shape_laws.specs.Results.IsResult.{Holds}
 use Rattle.shape_laws.proofs.Whole.{Fine, Inside, inside_all, whole_list}
 use Rattle.shape_laws.proofs.Means.{Means}

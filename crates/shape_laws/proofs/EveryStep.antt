@@ -1,5 +1,5 @@
 -- All twelve steps together: sound, their exits and holders are among their cells, and what the holders hold.
-use Rattle.std.proofs.Common.{ℕ, zero, suc, Bool, true, false, cond, ◌+◌, ◌-◌, ◌*◌, ◌/◌, ◌%◌, ◌≡◌, ◌≤◌, ◌<◌, ◌==◌, List, [], ◌∷◌, ◌++◌, refl, length, map, filter, flat_map, get_or, ap, ap₂, ◌∙◌, sym, subst, inl, inr, arith, Option, Some, None, eqb-true, eq-eqb, le_refl, div-add-mod', append_assoc, length-append}
+use Rattle.std.proofs.Common.{ℕ, zero, suc, Bool, true, false, cond, ◌+◌, ◌-◌, ◌*◌, ◌/◌, ◌%◌, ◌≡◌, ◌≤◌, ◌<◌, ◌==◌, List, [], ◌∷◌, ◌++◌, refl, length, map, filter, flat_map, ap, ap₂, ◌∙◌, sym, subst, arith, Some, eqb-true, le_refl, div-add-mod'}
 use Rattle.std.proofs.Math.Nat.{mod-eq_of_lt, add-mul-mod_self_left}
 use Rattle.ptl_types.specs.declared.elements.AtomicOp.{AtomicOp}
 use Rattle.ptl_types.specs.declared.elements.ElemType.{ElemType}
@@ -7,32 +7,30 @@ use Rattle.ptl_types.specs.Operations.{bytes_of}
 use Rattle.ptl_types.specs.Elements.{part, starting}
 use Rattle.op_laws.proofs.Bytes.{bytes-pos, length-repeated}
 use Rattle.plan_core.specs.declared.Cell.{Cell}
-use Rattle.plan_core.specs.Draw.{NewCell, cell_of}
-use Rattle.plan_core.specs.Members.{In}
+use Rattle.plan_core.specs.Draw.{NewCell}
 use Rattle.plan_core.specs.Plan.{from_to, no_cell}
 use Rattle.coll_shape.specs.declared.types.CollStep.{CollStep}
 use Rattle.coll_shape.specs.declared.types.CollStep.TheVariants.{Barrier, Broadcast, Reduce, Allreduce, Gather, Allgather, Alltoall, Scan, Scatter, Reducescatter, Exscan, Gatherv}
-use Rattle.plan_steps.specs.declared.ends.End.{End}
 use Rattle.plan_steps.specs.Site.{Site, bare_entry, count, entries, entry, full_entry, further, in_row, places, rank_at, source_at, block_length}
 use Rattle.plan_steps.specs.Steps.{giving, passing}
 use Rattle.coll_shape.specs.Collectives.{IsRoot, is_in, list_after}
-use Rattle.plan_tree.specs.Trees.{down_cell, turned, unturned, up, up_cell, up_number}
-use Rattle.plan_tree.specs.Broadcast.{copy_cell, first_cell, broadcast_cells}
+use Rattle.plan_tree.specs.Trees.{turned, unturned, up, up_cell, up_number}
+use Rattle.plan_tree.specs.Broadcast.{copy_cell, first_cell}
 use Rattle.plan_tree.specs.Reduce.{reduce_cells}
-use Rattle.plan_tree.specs.Allreduce.{allreduce_cells, result_cell}
-use Rattle.plan_mesh.specs.Gather.{gather_cells, gathered}
+use Rattle.plan_tree.specs.Allreduce.{result_cell}
+use Rattle.plan_mesh.specs.Gather.{gathered}
 use Rattle.plan_mesh.specs.Allgather.{allgather_cells, collected}
-use Rattle.plan_mesh.specs.Alltoall.{alltoall_cells, exchanged}
+use Rattle.plan_mesh.specs.Alltoall.{exchanged}
 use Rattle.plan_rounds.specs.Rounds.{rounds}
 use Rattle.plan_rounds.specs.Scan.{scan_cell, scan_cells, scan_number, scan_rows}
 use Rattle.plan_rounds.specs.Barrier.{barrier_cells, round_rows}
-use Rattle.plan_more.specs.Scatter.{scatter_cells, scattered}
-use Rattle.plan_more.specs.Reducescatter.{reducescatter_cells, result_block}
+use Rattle.plan_more.specs.Scatter.{scattered}
+use Rattle.plan_more.specs.Reducescatter.{result_block}
 use Rattle.plan_more.specs.Exscan.{exscan_cells, shifted}
-use Rattle.plan_more.specs.Gatherv.{concatenated, gatherv_cells, held_entry}
+use Rattle.plan_more.specs.Gatherv.{concatenated, held_entry}
 use Rattle.plan_laws.specs.Sounding.{EachAt, Ground, HasA, IsCell, Known, SoundNewCell}
-use Rattle.coll_shape.specs.Folding.{at, folded, reduced, before_place, block, joined_lists}
-use Rattle.plan_laws.proofs.Drawn.{each_back, each_front, each_of_map, length-map-from, length-rows}
+use Rattle.coll_shape.specs.Folding.{at, folded, reduced, block, joined_lists}
+use Rattle.plan_laws.proofs.Drawn.{each_back, each_front, each_of_map, length-rows}
 use Rattle.plan_laws.proofs.Entries.{behind, of_places}
 use Rattle.plan_laws.proofs.Folds.{length-folded}
 use Rattle.plan_laws.proofs.Trees.{allreduce-sound, allreduce-value, broadcast-sound, broadcast-value, reduce-sound, reduce-value, turned-back, unturned-lt, up-at}

@@ -1,5 +1,5 @@
 -- The plan of a shape is sound, and the cells that hold its buffers hold what they mean.
-use Rattle.std.proofs.Common.{ℕ, zero, suc, Bool, true, false, cond, ◌+◌, ◌-◌, ◌*◌, ◌/◌, ◌%◌, ◌^◌, div-add-mod', mod-lt, ◌≡◌, ◌≤◌, ◌<◌, ◌⊎◌, inl, inr, eq-or-lt_of_le, List, [], ◌∷◌, ◌++◌, refl, length, get_or, ap, ap₂, ◌∙◌, sym, subst, arith, Option, Some, None, nat_lt, sum_by, le_of_suc-le-suc}
+use Rattle.std.proofs.Common.{ℕ, zero, suc, Bool, true, false, cond, ◌+◌, ◌-◌, ◌*◌, ◌/◌, ◌%◌, ◌^◌, div-add-mod', mod-lt, ◌≡◌, ◌≤◌, ◌<◌, ◌⊎◌, inl, inr, eq-or-lt_of_le, List, [], ◌∷◌, refl, length, get_or, ap, ap₂, ◌∙◌, sym, subst, arith, Option, Some, None, nat_lt, sum_by, le_of_suc-le-suc}
 use Rattle.std.proofs.Math.Nat.{mul-le-mul_right, mul-le-mul_left, lt_of_mul-lt-mul_right}
 use Rattle.std.proofs.lemmas.Bool.{ltb-false}
 use Rattle.std.proofs.lemmas.List.Sums.{sum_by-cons}
@@ -8,26 +8,25 @@ use Rattle.ptl_types.specs.declared.elements.ElemType.{ElemType}
 use Rattle.ptl_types.specs.declared.elements.ElemType.TheVariants.{U8, I8, U16, I16, U32, I32, U64, I64}
 use Rattle.plan_core.specs.declared.Cell.{Cell}
 use Rattle.plan_core.specs.declared.Link.{Link}
-use Rattle.plan_core.specs.Draw.{HeldCells, held_cell, add_all}
+use Rattle.plan_core.specs.Draw.{HeldCells, held_cell}
 use Rattle.plan_core.specs.Members.{In}
 use Rattle.plan_core.specs.Plan.{Plan, cell, link, no_cell, no_link}
 use Rattle.plan_core.specs.Rounds.{Comes, IsRounds}
 use Rattle.coll_shape.specs.declared.types.Buffer.{Buffer}
 use Rattle.plan_core.specs.Values.{Inputs, value}
 use Rattle.plan_core.specs.Sound.{AreInputsOf, SoundPlan}
-use Rattle.coll_shape.specs.declared.types.CollStep.{CollStep}
 use Rattle.coll_shape.specs.declared.types.CollStep.TheVariants.{Barrier}
 use Rattle.coll_shape.specs.Outline.{Outline, buffer_at, group_at, list_bytes, read_buffer, step_at}
-use Rattle.coll_shape.specs.Collectives.{buffer_after, named, result_of, source_of}
+use Rattle.coll_shape.specs.Collectives.{buffer_after, named, source_of}
 use Rattle.plan_steps.specs.Site.{Site, count, in_row}
 use Rattle.plan_rounds.specs.Rounds.{rounds}
-use Rattle.plan_laws.specs.Sounding.{EachAt, WellBuilt, with_cells}
+use Rattle.plan_laws.specs.Sounding.{WellBuilt, with_cells}
 use Rattle.coll_shape.specs.Folding.{at}
 use Rattle.plan_laws.proofs.Bridge.{add_all-with}
-use Rattle.plan_laws.proofs.Drawn.{Drawn, Extends, drawn_all, extends-all, extends-refl, extends-trans, comes-extends}
+use Rattle.plan_laws.proofs.Drawn.{Extends, drawn_all, extends-all, extends-refl, extends-trans, comes-extends}
 use Rattle.plan_laws.proofs.Lengths.{length-value}
 use Rattle.plan_laws.proofs.Rounds.{round-comes, round-inside, round-stays, rounds-enough}
-use Rattle.shape_plans.specs.Steps.{cells_of, end_of, ends_of}
+use Rattle.shape_plans.specs.Steps.{cells_of}
 use Rattle.shape_plans.specs.Drawing.{Drawing, drawing_of, drawn_inputs, drawn_step, drawn_upto, plan_of, site}
 use Rattle.shape_plans.specs.Footprint.{Excess, Refused, footprint, judged, refusal, refusal_from, refused_at, size_of}
 use Rattle.shape_plans.specs.Judging.{inputs_size}
@@ -36,13 +35,12 @@ use Rattle.coll_shape.specs.WellFormed.{IsWellFormed, StepFits, and_one, made_up
 use Rattle.shape_laws.specs.Results.{IsResult, IsResultCell}
 use Rattle.shape_laws.specs.Results.IsResult.{IsEmpty}
 use Rattle.coll_shape.specs.Meaning.{AreInputs, lists_of, meaning_of, meant_upto}
-use Rattle.shape_laws.proofs.EveryStep.{exit_node}
-use Rattle.shape_laws.proofs.Whole.{Fine, Inside, inside_all, sound_cells}
+use Rattle.shape_laws.proofs.Whole.{Fine, sound_cells}
 use Rattle.shape_laws.proofs.Kept.{Kind, fine_after, kind_of}
 use Rattle.shape_laws.proofs.Kept.Kind.{Plain, Makes}
 use Rattle.shape_laws.proofs.Longs.{after-long}
 use Rattle.shape_laws.proofs.Means.{Means, fit_after, means_after, result-at}
-use Rattle.shape_laws.proofs.Begin.{Begun, begun, fine-begun, in_rows, input-is, means-begun}
+use Rattle.shape_laws.proofs.Begin.{Begun, begun, fine-begun, means-begun}
 use Rattle.coll_shape.specs.declared.limits.TheConstants.{MOST_GIVEN}
 use Rattle.shape_plans.specs.declared.judging.TheConstants.{MOST_LINKS, MOST_BYTES}
 

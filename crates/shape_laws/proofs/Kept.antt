@@ -1,22 +1,22 @@
 -- A step keeps what is kept.
-use Rattle.std.proofs.Common.{ℕ, zero, suc, Bool, true, false, cond, ◌+◌, ◌*◌, ◌/◌, ◌≡◌, ◌≤◌, ◌<◌, ◌⊎◌, ◌==◌, List, [], ◌∷◌, refl, length, map, get_or, ap, ap₂, ◌∙◌, sym, subst, inl, inr, arith, Option, Some, None, eq-eqb, eqb-true, eq-or-lt_of_le, le_of_suc-le-suc}
+use Rattle.std.proofs.Common.{ℕ, zero, suc, Bool, true, false, cond, ◌+◌, ◌*◌, ◌/◌, ◌≡◌, ◌≤◌, ◌<◌, ◌⊎◌, ◌==◌, List, [], ◌∷◌, refl, length, get_or, ap, ap₂, ◌∙◌, sym, subst, inl, inr, arith, Option, Some, None, eq-eqb, eqb-true, eq-or-lt_of_le, le_of_suc-le-suc}
 use Rattle.ptl_types.specs.Operations.{bytes_of}
 use Rattle.plan_core.specs.declared.Cell.{Cell}
-use Rattle.plan_core.specs.Draw.{HeldCells, NewCell, held_cell}
+use Rattle.plan_core.specs.Draw.{HeldCells, held_cell}
 use Rattle.plan_core.specs.Members.{In}
-use Rattle.plan_core.specs.Plan.{Plan, cell, from_to}
+use Rattle.plan_core.specs.Plan.{Plan, cell}
 use Rattle.coll_shape.specs.declared.types.Buffer.{Buffer}
 use Rattle.coll_shape.specs.declared.types.CollStep.{CollStep}
 use Rattle.coll_shape.specs.declared.types.CollStep.TheVariants.{Barrier, Broadcast, Reduce, Allreduce, Gather, Allgather, Alltoall, Scan, Scatter, Reducescatter, Exscan, Gatherv}
 use Rattle.coll_shape.specs.Outline.{Outline, buffer_at, list_bytes, read_buffer}
-use Rattle.coll_shape.specs.Collectives.{result_of, source_of, IsRoot, holding_places, HasBlocks, all_but_first, buffer_after, named, Reads}
+use Rattle.coll_shape.specs.Collectives.{result_of, source_of, IsRoot, holding_places, all_but_first, buffer_after, named, Reads}
 use Rattle.coll_shape.specs.WellFormed.{AreMembers, StepFits, and_one}
 use Rattle.plan_steps.specs.declared.ends.End.{End}
-use Rattle.plan_steps.specs.Site.{Site, count, entry, further, places}
+use Rattle.plan_steps.specs.Site.{Site, entry, further}
 use Rattle.plan_steps.specs.Steps.{end_at, exits_by, giving, held_by, passing}
 use Rattle.plan_steps.specs.Beginning.{held_after}
 use Rattle.plan_tree.specs.Trees.{unturned, up_number}
-use Rattle.plan_laws.specs.Sounding.{EachAt, SoundNewCell, with_cells}
+use Rattle.plan_laws.specs.Sounding.{EachAt, with_cells}
 use Rattle.plan_laws.proofs.Grow.{In-get_or}
 use Rattle.plan_laws.proofs.Drawn.{Extends, extends-all, grows_all}
 use Rattle.plan_laws.proofs.Entries.{get_or-each}

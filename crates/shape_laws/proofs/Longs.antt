@@ -1,5 +1,5 @@
 -- A buffer that is held has at least one element: a step makes none that is empty.
-use Rattle.std.proofs.Common.{ℕ, zero, suc, Bool, true, false, cond, ◌+◌, ◌*◌, ◌/◌, ◌%◌, ◌≡◌, ◌≤◌, ◌<◌, List, [], ◌∷◌, length, filter, get_or, ap, ◌∙◌, subst, sym, inl, inr, arith, div-add-mod'}
+use Rattle.std.proofs.Common.{ℕ, zero, suc, Bool, true, false, cond, ◌+◌, ◌*◌, ◌/◌, ◌%◌, ◌≡◌, ◌≤◌, ◌<◌, List, ◌∷◌, length, filter, get_or, ap, ◌∙◌, arith, div-add-mod'}
 use Rattle.std.proofs.Math.Nat.{mul-le-mul_right}
 use Rattle.plan_core.specs.Members.{In}
 use Rattle.plan_core.specs.Plan.{from_to}

@@ -1,21 +1,18 @@
 -- What the held cells hold is what the buffers mean, and a step keeps that.
-use Rattle.std.proofs.Common.{ℕ, zero, suc, Bool, true, false, ◌+◌, ◌*◌, ◌/◌, ◌%◌, ◌≡◌, ◌≤◌, ◌<◌, List, [], ◌∷◌, ◌++◌, refl, length, map, get_or, ap, ◌∙◌, sym, subst, inl, inr, arith, Option, Some, None}
+use Rattle.std.proofs.Common.{ℕ, suc, true, false, ◌+◌, ◌*◌, ◌/◌, ◌%◌, ◌≡◌, ◌<◌, List, [], ◌∷◌, refl, length, get_or, ap, ◌∙◌, sym, subst, inl, inr, arith, Option, Some, None}
 use Rattle.std.proofs.lemmas.List.{get_or_append_left, get_or_at, length_push}
-use Rattle.ptl_types.specs.Operations.{bytes_of}
 use Rattle.plan_core.specs.declared.Cell.{Cell}
 use Rattle.plan_core.specs.Draw.{HeldCells, held_cell}
 use Rattle.plan_core.specs.Members.{In}
-use Rattle.plan_core.specs.Plan.{Plan, cell, from_to}
+use Rattle.plan_core.specs.Plan.{Plan, cell}
 use Rattle.plan_core.specs.Values.{Inputs, value}
 use Rattle.plan_core.specs.Sound.{AreInputsOf}
 use Rattle.plan_core.proofs.Lists.{length-map'}
-use Rattle.coll_shape.specs.declared.types.Buffer.{Buffer}
 use Rattle.coll_shape.specs.declared.types.CollStep.{CollStep}
 use Rattle.coll_shape.specs.declared.types.CollStep.TheVariants.{Barrier, Broadcast, Reduce, Allreduce, Gather, Allgather, Alltoall, Scan, Scatter, Reducescatter, Exscan, Gatherv}
-use Rattle.coll_shape.specs.Outline.{Outline, buffer_at, list_bytes, read_buffer}
+use Rattle.coll_shape.specs.Outline.{Outline, buffer_at, read_buffer}
 use Rattle.coll_shape.specs.Collectives.{result_of, source_of, is_in, AllHold, list_after}
-use Rattle.plan_steps.specs.Site.{Site, count, source_at}
-use Rattle.plan_steps.specs.Steps.{exits_by}
+use Rattle.plan_steps.specs.Site.{Site, source_at}
 use Rattle.plan_steps.specs.Beginning.{held_after}
 use Rattle.plan_laws.specs.Sounding.{EachAt, Known, with_cells}
 use Rattle.coll_shape.specs.Folding.{at}
@@ -31,7 +28,7 @@ use Rattle.coll_shape.proofs.Asking.{In-is_in}
 use Rattle.shape_laws.specs.Results.IsResult.{Holds, IsEmpty}
 use Rattle.shape_laws.proofs.Places.{place-of}
 use Rattle.shape_laws.proofs.EveryStep.{AsksValues, step-value}
-use Rattle.shape_laws.proofs.Whole.{Fine, HeldCell, blocks, does_hold, held_is, holder_of, holding, length_is, sound_cells, test_is, whole_site}
+use Rattle.shape_laws.proofs.Whole.{Fine, blocks, does_hold, held_is, holder_of, holding, length_is, sound_cells, test_is, whole_site}
 use Rattle.shape_laws.proofs.Kept.{Kind, fine_after, held_new, held_old, kind_of}
 use Rattle.shape_laws.proofs.Kept.Kind.{Makes, Plain}
 

@@ -1,5 +1,5 @@
 -- The places of ranks among the members.
-use Rattle.std.proofs.Common.{ℕ, zero, suc, Bool, true, false, cond, ◌+◌, ◌-◌, ◌≡◌, ◌≤◌, ◌<◌, ◌==◌, List, [], ◌∷◌, refl, length, get_or, ap, ◌∙◌, sym, subst, inl, inr, arith, Option, Some, None, eqb-true, eq-eqb, le_of_suc-le-suc}
+use Rattle.std.proofs.Common.{ℕ, zero, suc, Bool, true, false, cond, ◌+◌, ◌-◌, ◌≡◌, ◌≤◌, ◌<◌, ◌==◌, List, [], ◌∷◌, refl, length, get_or, ap, ◌∙◌, sym, subst, inl, inr, arith, Some, None, eqb-true, eq-eqb, le_of_suc-le-suc}
 use Rattle.std.proofs.lemmas.Bool.{ne_eqb}
 use Rattle.plan_core.specs.Members.{In}
 use Rattle.coll_shape.specs.WellFormed.{AreMembers}

@@ -1,18 +1,18 @@
 -- What is kept from step to step, and why each step's cells are sound.
-use Rattle.std.proofs.Common.{ℕ, zero, suc, Bool, true, cond, ◌+◌, ◌-◌, ◌*◌, ◌/◌, ◌%◌, ◌≡◌, ◌≤◌, ◌<◌, List, [], ◌∷◌, refl, length, map, filter, get_or, ap, ap₂, ◌∙◌, sym, subst, arith, Option, Some, None, div-add-mod'}
+use Rattle.std.proofs.Common.{ℕ, Bool, true, ◌+◌, ◌-◌, ◌*◌, ◌/◌, ◌%◌, ◌≡◌, ◌≤◌, ◌<◌, List, [], ◌∷◌, refl, length, get_or, ap, ◌∙◌, sym, subst, arith, Some, None, div-add-mod'}
 use Rattle.std.proofs.Math.Nat.{mod-eq_of_lt, add-mul-mod_self_right, mul-div_right}
 use Rattle.op_laws.proofs.Bytes.{bytes-pos}
 use Rattle.ptl_types.specs.Operations.{bytes_of}
 use Rattle.plan_core.specs.declared.Cell.{Cell}
 use Rattle.plan_core.specs.Draw.{HeldCells, NewCell, cell_of, held_cell}
 use Rattle.plan_core.specs.Members.{In}
-use Rattle.plan_core.specs.Plan.{Plan, cell, from_to}
+use Rattle.plan_core.specs.Plan.{Plan, cell}
 use Rattle.coll_shape.specs.declared.types.Buffer.{Buffer}
 use Rattle.coll_shape.specs.declared.types.CollStep.{CollStep}
 use Rattle.coll_shape.specs.declared.types.CollStep.TheVariants.{Barrier, Broadcast, Reduce, Allreduce, Gather, Allgather, Alltoall, Scan, Scatter, Reducescatter, Exscan, Gatherv}
 use Rattle.coll_shape.specs.Outline.{Outline, buffer_at, list_bytes, read_buffer}
-use Rattle.coll_shape.specs.Collectives.{source_of, IsRoot, is_in, AllHold, HasBlocks}
-use Rattle.plan_steps.specs.Site.{Site, count, exit_at, source_at, block_length}
+use Rattle.coll_shape.specs.Collectives.{source_of, is_in, AllHold, HasBlocks}
+use Rattle.plan_steps.specs.Site.{Site, exit_at, source_at}
 use Rattle.plan_steps.specs.Beginning.{or_0, site_of, source_in}
 use Rattle.plan_laws.specs.Sounding.{EachAt, Ground, HasA, SoundNewCell, WellBuilt, with_cell, with_cells}
 use Rattle.plan_laws.proofs.Grow.{cell-new, get_or-map, length-cells}
@@ -22,7 +22,7 @@ use Rattle.plan_laws.proofs.HeldSizes.{is_in-filter}
 use Rattle.shape_plans.specs.Steps.{cells_of}
 use Rattle.coll_shape.specs.WellFormed.{StepFits}
 use Rattle.coll_shape.proofs.Asking.{is_in-In}
-use Rattle.shape_laws.proofs.EveryStep.{AllHave, Asks, Blocks, Holding, step-sound}
+use Rattle.shape_laws.proofs.EveryStep.{Asks, Blocks, Holding, step-sound}
 
 -- ---- what is kept
 pub record HeldCell (p : Plan) (h : HeldCells) (b r : ℕ) (x : Buffer) : Type 0 where

@@ -1,9 +1,8 @@
 -- What a crate draws of its steps is what the compiler means by them.
-use Rattle.std.proofs.Common.{ℕ, Bool, true, false, ◌≡◌, List, refl, map, ap}
-use Rattle.plan_core.specs.Draw.{NewCell}
+use Rattle.std.proofs.Common.{true, false, ◌≡◌, refl}
 use Rattle.coll_shape.specs.declared.types.CollStep.{CollStep}
 use Rattle.coll_shape.specs.declared.types.CollStep.TheVariants.{Barrier, Broadcast, Reduce, Allreduce, Gather, Allgather, Alltoall, Scan, Scatter, Reducescatter, Exscan, Gatherv}
-use Rattle.plan_steps.specs.Site.{Site, places}
+use Rattle.plan_steps.specs.Site.{Site}
 use Rattle.plan_tree.specs.Tree.{is_tree, tree_cells, tree_ends}
 use Rattle.plan_mesh.specs.Mesh.{is_mesh, mesh_cells, mesh_ends}
 use Rattle.plan_rounds.specs.Round_steps.{is_round, round_cells, round_ends}

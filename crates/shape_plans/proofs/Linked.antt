@@ -1,5 +1,5 @@
 -- Each new cell of a step has a link, so that a plan with few links has few cells.
-use Rattle.std.proofs.Common.{ℕ, zero, suc, Bool, true, false, cond, ◌+◌, ◌*◌, ◌-◌, ◌^◌, ◌≡◌, ◌<◌, ◌≤◌, ◌==◌, nat_le, List, [], ◌∷◌, ◌++◌, refl, length, map, ap, ◌∙◌, sym, arith, length-append, flat_map}
+use Rattle.std.proofs.Common.{ℕ, zero, suc, Bool, true, false, cond, ◌+◌, ◌-◌, ◌<◌, ◌≤◌, ◌==◌, List, [], ◌∷◌, ◌++◌, length, map, arith, length-append}
 use Rattle.plan_core.specs.Plan.{Plan, from_to}
 use Rattle.plan_core.specs.Draw.{NewCell, links_of, add_all, HasRoom}
 use Rattle.plan_core.proofs.Drawing.{length-row, links-in_all, many-cells}

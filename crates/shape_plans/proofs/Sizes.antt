@@ -1,5 +1,5 @@
 -- The judgement by closed forms is that of the plan.
-use Rattle.std.proofs.Common.{ℕ, zero, suc, Bool, ◌+◌, ◌-◌, ◌*◌, ◌≡◌, ◌<◌, ◌≤◌, List, [], ◌∷◌, ◌++◌, refl, length, map, filter, get_or, sum_by, Option, Some, None, ap, ap₂, ◌∙◌, sym, arith}
+use Rattle.std.proofs.Common.{ℕ, zero, suc, Bool, ◌+◌, ◌-◌, ◌*◌, ◌≡◌, ◌<◌, ◌≤◌, List, [], ◌∷◌, refl, length, map, filter, get_or, sum_by, ap, ap₂, ◌∙◌, arith}
 use Rattle.std.proofs.lemmas.List.Sums.{sum_by-cons, sum_by-append}
 use Rattle.plan_core.specs.declared.Cell.{Cell}
 use Rattle.plan_core.specs.Plan.{Plan, from_to}
@@ -15,11 +15,10 @@ use Rattle.plan_laws.proofs.StepSizes.{allgather-bytes, allgather-links, alltoal
 use Rattle.plan_laws.proofs.MoreSizes.{allreduce-links, exscan-links, reduce-links, reducescatter-links, scan-links, scatter-links}
 use Rattle.plan_laws.proofs.StepBytes.{allreduce-bytes, alltoall-bytes, barrier-bytes, broadcast-bytes, exscan-bytes, gather-bytes, reduce-bytes, reducescatter-bytes, scan-bytes, scatter-bytes}
 use Rattle.plan_laws.proofs.HeldSizes.{gatherv-bytes, gatherv-links}
-use Rattle.shape_plans.specs.declared.footprints.Size.{Size}
 use Rattle.shape_plans.specs.Steps.{cells_of}
-use Rattle.shape_plans.specs.Drawing.{Drawing, drawn_inputs, drawn_step, drawn_upto, input_cell, site}
-use Rattle.shape_plans.specs.Footprint.{footprint, judged, refusal, refusal_from, refused_at, size_of, step_bytes, step_links}
-use Rattle.shape_plans.specs.Judging.{AreSteps, add_sizes, found_from, inputs_size, size_upto, step_size}
+use Rattle.shape_plans.specs.Drawing.{drawn_inputs, drawn_upto, input_cell, site}
+use Rattle.shape_plans.specs.Footprint.{judged, refusal, refusal_from, refused_at, size_of, step_bytes, step_links}
+use Rattle.shape_plans.specs.Judging.{AreSteps, add_sizes, found_from, inputs_size, size_upto}
 
 -- ---- one step
 module _ (s : Site) (t : ℕ → Bool) (held : s.holding ≡ filter t (from_to 0 (count s))) (pos : 0 < count s) where

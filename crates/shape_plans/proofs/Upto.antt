@@ -1,9 +1,9 @@
 -- The drawing after some inputs, and after some steps: its tables, and room for the next step.
-use Rattle.std.proofs.Common.{ℕ, zero, suc, Bool, true, false, cond, nat_lt, Result, Ok, Err, ◌+◌, ◌-◌, ◌*◌, ◌^◌, ◌≡◌, ◌<◌, ◌≤◌, List, [], ◌∷◌, Option, Some, None, refl, length, map, get_or, ap, ◌∙◌, sym, subst, arith}
+use Rattle.std.proofs.Common.{ℕ, zero, suc, Bool, true, false, cond, nat_lt, Err, ◌+◌, ◌-◌, ◌*◌, ◌≡◌, ◌<◌, ◌≤◌, List, Option, Some, None, refl, length, map, get_or, ap, ◌∙◌, sym, subst, arith}
 use Rattle.std.proofs.Math.Nat.{mul-le-mul_right}
 use Rattle.std.proofs.lemmas.Bool.{ltb-false}
 use Rattle.std.proofs.lemmas.List.{get_or_read_under}
-use Rattle.plan_core.specs.Draw.{HasRoom, HeldCells, NewCell, add_all, go_plan, hold, links_of}
+use Rattle.plan_core.specs.Draw.{HasRoom, HeldCells, add_all, go_plan, hold, links_of}
 use Rattle.plan_core.specs.Plan.{Plan, from_to}
 use Rattle.plan_core.proofs.Drawing.{length-row, links-in_all, many-cells}
 use Rattle.coll_shape.specs.declared.types.CollStep.{CollStep}

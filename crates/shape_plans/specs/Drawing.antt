@@ -1,5 +1,5 @@
 -- The plan of a shape, step by step.
-use Rattle.std.specs.Prelude.{ℕ, zero, suc, ◌+◌, ◌*◌, List, Option, Some, None, [], ◌∷◌, length, map, replicate}
+use Rattle.std.specs.Prelude.{ℕ, zero, suc, ◌+◌, ◌*◌, List, None, [], ◌∷◌, length, map, replicate}
 use Rattle.plan_core.specs.declared.Part.{Part}
 use Rattle.plan_core.specs.Plan.{Plan, from_to}
 use Rattle.plan_core.specs.Draw.{NewCell, HeldCells, add_all, go_plan, hold, new_cell}

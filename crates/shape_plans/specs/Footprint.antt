@@ -1,5 +1,5 @@
 -- How large a plan is, and which shapes are refused for it.
-use Rattle.std.specs.Prelude.{ℕ, zero, suc, ◌+◌, ◌-◌, ◌*◌, ◌/◌, ◌^◌, List, Option, Some, None, length, sum_by, nat_lt, if◌then◌else◌}
+use Rattle.std.specs.Prelude.{ℕ, zero, suc, ◌+◌, ◌-◌, ◌*◌, ◌/◌, ◌^◌, Option, Some, None, length, sum_by, nat_lt, if◌then◌else◌}
 use Rattle.shape_plans.specs.declared.footprints.Size.{Size}
 use Rattle.plan_core.specs.Plan.{Plan, from_to}
 use Rattle.coll_shape.specs.declared.types.CollStep.{CollStep}

@@ -1,13 +1,12 @@
 -- The judgement of a shape by closed forms, and what `compile` answers.
-use Rattle.std.specs.Prelude.{ℕ, zero, suc, ◌+◌, ◌*◌, ◌≡◌, ◌<◌, List, Option, Some, None, length, nat_lt, if◌then◌else◌, Result, Ok, Err}
-use Rattle.coll_shape.specs.declared.types.CollStep.{CollStep}
+use Rattle.std.specs.Prelude.{ℕ, zero, suc, ◌+◌, ◌*◌, ◌≡◌, ◌<◌, Option, Some, None, length, Result, Ok, Err}
 use Rattle.coll_shape.specs.Outline.{Outline, buffer_at, group_at, list_bytes, step_at, read_buffer}
 use Rattle.coll_shape.specs.Collectives.{source_of, IsRoot, holding_places}
 use Rattle.shape_plans.specs.Footprint.Excess.{Links, Bytes}
 use Rattle.shape_plans.specs.declared.footprints.Size.{Size}
 use Rattle.shape_plans.specs.declared.faults.CompileFault.{CompileFault}
 use Rattle.shape_plans.specs.declared.faults.CompileFault.TheVariants.{TooMany, TooLarge, NoMemory}
-use Rattle.shape_plans.specs.Footprint.{Excess, judged, refused_at, Refused, step_bytes, step_links}
+use Rattle.shape_plans.specs.Footprint.{judged, refused_at, Refused, step_bytes, step_links}
 
 -- what step k adds
 abbrev pub step_size : Outline → ℕ → Size

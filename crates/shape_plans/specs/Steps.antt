@@ -1,11 +1,10 @@
 -- The cells and links of each step, and where it leaves its members: one line for each collective, whose own file has the rest.
-use Rattle.std.specs.Prelude.{ℕ, List, [], map}
+use Rattle.std.specs.Prelude.{ℕ, List, map}
 use Rattle.plan_core.specs.Draw.{NewCell}
 use Rattle.coll_shape.specs.declared.types.CollStep.{CollStep}
 use Rattle.coll_shape.specs.declared.types.CollStep.TheVariants.{Barrier, Broadcast, Reduce, Allreduce, Gather, Allgather, Alltoall, Scan}
 use Rattle.coll_shape.specs.declared.types.CollStep.TheVariants.{Scatter, Reducescatter, Exscan, Gatherv}
 use Rattle.plan_steps.specs.declared.ends.End.{End}
-use Rattle.plan_steps.specs.Steps.{passing}
 use Rattle.plan_steps.specs.Site.{Site, places}
 use Rattle.plan_tree.specs.Broadcast.{broadcast_cells, broadcast_end}
 use Rattle.plan_tree.specs.Reduce.{reduce_cells, reduce_end}

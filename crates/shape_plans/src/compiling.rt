@@ -1,6 +1,5 @@
 //! From a shape to its plan.
 
-ghost use Rattle.std.specs.Prelude.{◌≡◌};
 ghost use Rattle.shape_plans.specs.Compiling.{Draws};
 
 use crate::drawing::{DrawnShape, draw};

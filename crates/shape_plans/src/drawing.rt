@@ -5,7 +5,7 @@ ghost use Rattle.plan_core.specs.Draw.{HasRoom, add, add_all};
 ghost use Rattle.plan_core.specs.Plan.{from_to};
 ghost use Rattle.coll_shape.specs.Outline.{list_bytes};
 ghost use Rattle.coll_shape.specs.declared.limits.TheConstants.{MOST_ELEMENTS};
-ghost use Rattle.shape_plans.specs.Drawing.{drawing_of, drawn_inputs, drawn_upto, hold_row, input_cell, opened, plan_of};
+ghost use Rattle.shape_plans.specs.Drawing.{drawing_of, drawn_inputs, hold_row, input_cell, opened, plan_of};
 ghost use Rattle.shape_plans.specs.Judging.{AreSteps, size_upto};
 ghost use Rattle.shape_plans.specs.declared.judging.TheConstants.{MOST_LINKS};
 
@@ -110,7 +110,7 @@ pub struct DrawnShape {
 pub(crate) fn draw(alloc: Global, shape: &Shape, links: u64) -> Result<DrawnShape, NoMemory>
     requires steps { AreSteps shape.now }
     requires few { (size_upto shape.now (length shape.now.steps)).links ≤ MOST_LINKS }
-    requires told { links ≤ MOST_LINKS }
+    requires most { links ≤ MOST_LINKS }
     ensures plan { IfOk result (λ c. c.plan ≡ plan_of shape.now) }
     ensures held { IfOk result (λ c. c.held ≡ (drawing_of shape.now).held) }
 {

@@ -1,6 +1,6 @@
 //! How large the steps are, before anything is drawn.
 
-ghost use Rattle.std.specs.Prelude.{◌≡◌, ◌≤◌, ◌<◌, ◌+◌, ◌*◌, ◌^◌, ◌-◌, sum_by};
+ghost use Rattle.std.specs.Prelude.{◌≡◌, ◌≤◌, ◌+◌, ◌*◌, ◌^◌, ◌-◌, sum_by};
 ghost use Rattle.plan_core.specs.Plan.{from_to};
 ghost use Rattle.plan_rounds.specs.Rounds.{rounds};
 ghost use Rattle.coll_shape.specs.declared.limits.TheConstants.{MOST_RANKS, MOST_ELEMENTS};
@@ -21,7 +21,7 @@ pub struct Size {
 /// The links of the rounds of a scan on m members after its first row.
 fn round_links(m: u32) -> u64
     requires { m ≤ MOST_RANKS }
-    ensures told { result ≡ sum_by (λ k. m + (m - 2 ^ k)) (from_to 0 (rounds m)) }
+    ensures value { result ≡ sum_by (λ k. m + (m - 2 ^ k)) (from_to 0 (rounds m)) }
     ensures few { result ≤ 4096 }
 {
     let mut links = 0u64;
@@ -36,7 +36,7 @@ pub(crate) fn step_links(step: &CollStep, m: u32, h: u32) -> u64
     requires some { 1 ≤ m }
     requires few { m ≤ MOST_RANKS }
     requires held { h ≤ m }
-    ensures told { result ≡ step_links step.now m h }
+    ensures value { result ≡ step_links step.now m h }
     ensures few { result ≤ 2 ^ 18 }
 {
     let m64 = u64::from(m);
@@ -63,7 +63,7 @@ pub(crate) fn step_bytes(step: &CollStep, m: u32, h: u32, n: u64) -> u64
     requires few { m ≤ MOST_RANKS }
     requires held { h ≤ m }
     requires short { n ≤ 8 * MOST_ELEMENTS }
-    ensures told { result ≡ step_bytes step.now m h n }
+    ensures value { result ≡ step_bytes step.now m h n }
     ensures few { result ≤ 2 ^ 45 }
 {
     let k = u64::from(rounds(m));

@@ -1,7 +1,7 @@
 //! The judgement of a shape by the sizes of its steps, before anything is drawn.
 
 ghost use Rattle.std.specs.Prelude.{◌≡◌, ◌≤◌, ◌<◌, ◌^◌, length};
-ghost use Rattle.shape_plans.specs.Judging.{Judges, add_sizes, inputs_size, size_upto, step_size};
+ghost use Rattle.shape_plans.specs.Judging.{Judges, add_sizes, inputs_size, step_size};
 
 use crate::faults::CompileFault;
 use crate::footprints::{Size, step_bytes, step_links};
@@ -30,7 +30,7 @@ fn add_sizes(a: Size, b: Size) -> Size
 /// What a step adds.
 fn step_size(shape: &Shape, k: u32) -> Size
     requires { k < length shape.now.steps }
-    ensures told { result ≡ step_size shape.now k }
+    ensures value { result ≡ step_size shape.now k }
     ensures links { result.links ≤ 2 ^ 18 }
     ensures bytes { result.bytes ≤ 2 ^ 45 }
 {
@@ -56,7 +56,7 @@ fn step_size(shape: &Shape, k: u32) -> Size
 
 /// What the inputs add.
 fn inputs_size(shape: &Shape) -> Size
-    ensures told { result ≡ inputs_size shape.now shape.now.inputs }
+    ensures value { result ≡ inputs_size shape.now shape.now.inputs }
     ensures links { result.links ≤ 2 ^ 15 }
     ensures bytes { result.bytes ≤ 2 ^ 42 }
 {

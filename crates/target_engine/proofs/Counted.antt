@@ -1,6 +1,6 @@
 -- The rows of counts through each call: what linked entries and indices name, and where headers wait.
-use Rattle.std.proofs.Common.{◌≡◌, ℕ, zero, suc, ◌+◌, ◌-◌, ◌<◌, ◌≤◌, ◌^◌, Bool, true, false, ◌&&◌, ◌||◌, List, [], ◌∷◌, ◌++◌, Option, Some, None, map, length, take, drop, get_or, set, if◌then◌else◌, nat_eq, nat_lt, zero-add, refl, sym, ap, subst, ◌∙◌, arith, replicate}
-use Rattle.std.specs.Prelude.{All, IfSome, slice_set, slice_get, sum_by, is_some}
+use Rattle.std.proofs.Common.{◌≡◌, ℕ, zero, suc, ◌+◌, ◌-◌, ◌<◌, ◌≤◌, ◌^◌, Bool, true, false, ◌&&◌, List, [], ◌∷◌, ◌++◌, Option, Some, None, length, take, drop, get_or, set, if◌then◌else◌, nat_lt, zero-add, refl, sym, ap, subst, ◌∙◌, arith, replicate}
+use Rattle.std.specs.Prelude.{All, IfSome, slice_set, slice_get, is_some}
 use Rattle.std.proofs.Math.Seq.{take-append_seam}
 use Rattle.std.proofs.lemmas.Option.{get_or_from_slice_get, slice_get_within}
 use Rattle.std.proofs.lemmas.List.{length-set, length-map}
@@ -20,7 +20,7 @@ use Rattle.ni_model.specs.Append.{linked_at}
 use Rattle.ni_model.specs.Calls.{new_index, unlinked_in}
 use Rattle.ni_model.specs.Headers.{UnexpectedList, unexpected_list, is_of, headers_of}
 use Rattle.ni_model.specs.Refusals.{entry_names_ct, index_names_ct, index_names_eq}
-use Rattle.user_counts.specs.Rows.{count_at, one_if_slot, one_at, incremented, decremented, more, fewer, Counts, IsAlone}
+use Rattle.user_counts.specs.Rows.{count_at, one_if_slot, one_at, incremented, more, fewer, Counts, IsAlone}
 use Rattle.user_counts.specs.Sums.{sum_of, named_as}
 use Rattle.user_counts.proofs.RowLemmas.{counts-none, counts-same, counts-incremented, counts-decremented, counts-more, counts-fewer, counts-few, add-room, one-few, names-step}
 use Rattle.user_counts.proofs.SumLemmas.{one_if, sum-split, sum-push, sum-few}
@@ -32,7 +32,7 @@ use Rattle.target_engine.specs.Sides.{EntriesAlone}
 use Rattle.target_engine.proofs.Headers.{unexpected-few, unexpected-append, unexpected-of}
 use Rattle.target_engine.proofs.Counting.{or-sum}
 use Rattle.target_engine.proofs.Records.{sum-anew}
-use Rattle.target_engine.proofs.Recorded.{fits-linked, fresh_at, HasOneOf, placed-few, some-below, some-index}
+use Rattle.target_engine.proofs.Recorded.{fits-linked, fresh_at, HasOneOf, recorded-few, some-below, some-index}
 
 -- ---- counting events, by the records of the entries
 
@@ -174,7 +174,7 @@ pub counted-room : (most linked : ℕ) (is : List PortalEntry) (hs : UnexpectedL
     → IfSome ct (λ h. count_at h.slot r.cts < 2 ^ 64 - 1)
 counted-room most linked is hs r ct k u small =
     add-room (ct_users r.by_entry) (length r.by_entry.live) r.cts ct u.cts (λ s. sum-few (linked_as (counts_at s)) r.by_entry.live (λ h v. one-linked (v.linked && is_at s v.ct)))
-    (omega (arith, placed-few (seen_in is) hs.unexpected r.by_entry k.placed, k.count, k.held, k.small))
+    (omega (arith, recorded-few (seen_in is) hs.unexpected r.by_entry k.recorded, k.count, k.held, k.small))
 
 -- an entry isn't linked any more
 pub counted-unlinked : (me : Handle) (hs : List IndexedHeader) (r : Records) → AreCounted hs r → AreOnce r.by_entry → AreCounted hs (unlinked_records me r)
@@ -201,20 +201,20 @@ eq-nothing k (suc n) = omega (arith, sum_by-cons (by_queue k) None (replicate n 
 pub queues-none : (n slots : ℕ) → Counts (eq_users (replicate n None)) (replicate slots 0)
 queues-none n slots = counts-none (eq_users (replicate n None)) slots (λ k. eq-nothing k n)
 
-queue-list : (place : EntryList) (g : List Linked → List Linked) (i : Index) → (with_list place g i).eq ≡ i.eq
+queue-list : (list : EntryList) (g : List Linked → List Linked) (i : Index) → (with_list list g i).eq ≡ i.eq
 queue-list Priority g i = refl
 queue-list Overflow g i = refl
 
-queue-linked : (place : EntryList) (x : Linked) (o : Option Index) → queue_of (linked_at place x o) ≡ queue_of o
-queue-linked place x None = refl
-queue-linked place x (Some i) = queue-list place (λ xs. xs ++ x ∷ []) i
+queue-linked : (list : EntryList) (x : Linked) (o : Option Index) → queue_of (linked_at list x o) ≡ queue_of o
+queue-linked list x None = refl
+queue-linked list x (Some i) = queue-list list (λ xs. xs ++ x ∷ []) i
 
 -- an index changes, and keeps its queue
 queues-same : (pt : ℕ) (is : List (Option Index)) (o : Option Index) (e : List ℕ) → Counts (eq_users is) e → queue_of o ≡ queue_of (index_at pt is) → Counts (eq_users (slice_set is pt o)) e
 queues-same pt is o e u same = counts-same (eq_users is) (eq_users (set is pt o)) e u (λ k. eq-same k pt is o same)
 
-pub queues-linked : (pt : ℕ) (place : EntryList) (x : Linked) (is : List (Option Index)) (e : List ℕ) → Counts (eq_users is) e → Counts (eq_users (slice_set is pt (linked_at place x (index_at pt is)))) e
-queues-linked pt place x is e u = queues-same pt is (linked_at place x (index_at pt is)) e u (queue-linked place x (index_at pt is))
+pub queues-linked : (pt : ℕ) (list : EntryList) (x : Linked) (is : List (Option Index)) (e : List ℕ) → Counts (eq_users is) e → Counts (eq_users (slice_set is pt (linked_at list x (index_at pt is)))) e
+queues-linked pt list x is e u = queues-same pt is (linked_at list x (index_at pt is)) e u (queue-linked list x (index_at pt is))
 
 queue-settled : (f : Found) (h : Header) (o : Option Index) → queue_of (settled_at f h o) ≡ queue_of o
 queue-settled f h None = refl

@@ -121,7 +121,7 @@ pub entries-advanced : (me : Handle) (to : ℕ) (p : Handle → Option Handle �
 entries-advanced me to p k [] = refl
 entries-advanced me to p k (x ∷ xs) = rw (kept-handle me to x, kept-ct me to x, entries-advanced me to p k xs) refl
 
--- ---- one place of the portal table changes
+-- ---- one portal table entry changes
 
 pub linked-set : (p : Handle → Option Handle → ℕ → Bool) (k d : ℕ) (is : List (Option Index)) (o : Option Index) → d < length is → linked_by p k (set is d o) + index_by p (k + d) (get_or is d None) ≡ linked_by p k is + index_by p (k + d) o
 linked-set p k d [] o lt = absurd (omega arith)

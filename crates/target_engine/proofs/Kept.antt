@@ -26,7 +26,7 @@ use Rattle.target_engine.specs.declared.entry_records.EntryRecord.{EntryRecord}
 use Rattle.target_engine.specs.PortalTable.{index, seen, seen_in, settled_in, HasLists, IsPortalEntry, IsUnused, MayLink, AreRecorded, IsKept, lies_in, headers_in, frees_at, recorded_by, not_linked, records_with_header, unlinked_after, linked_after, one_more, one_fewer}
 use Rattle.target_engine.proofs.Headers.{is_entry, unexpected-few, unexpected-all, unexpected-oldest, unexpected-both}
 use Rattle.target_engine.proofs.Records.{given-by, limit-by}
-use Rattle.target_engine.proofs.Recorded.{placed-slot, settled-handle, placed-few, placed-headers, placed-more, placed-fewer, placed-frees, placed-none, many-none, placed-settled, many-settled, placed-empty, many-empty, placed-unlinked, one-off, placed-linked, many-linked, fresh_at, placed-on, linked-anywhere, unlinked-at}
+use Rattle.target_engine.proofs.Recorded.{recorded-slot, settled-handle, recorded-few, recorded-headers, recorded-more, recorded-fewer, recorded-frees, recorded-none, many-none, recorded-settled, many-settled, recorded-empty, many-empty, recorded-unlinked, one-off, recorded-linked, many-linked, fresh_at, recorded-on, linked-anywhere, unlinked-at}
 use Rattle.target_engine.proofs.Views.{seen-on, seen-off, portal_entries-lists, unused-portal_entries, unused-seen}
 
 or-none : (a b : Bool) → (a || b) ≡ false → (a ≡ false) × (b ≡ false)
@@ -75,16 +75,16 @@ not-full most n given e = let both = or-none (nat_le most n) (nat_le top given) 
 pub kept-may_link : (slot most linked : ℕ) (is : List PortalEntry) (t : Table EntryRecord) (hs : UnexpectedList) → IsKept most is linked t hs → (nat_le most (sum_by entries_in (seen_in is)) || nat_le top t.given) ≡ false → slot < t.limit → has_slot slot t.live ≡ false → All (MayLink slot) is
 kept-may_link slot most linked is t hs k room below free =
     let few = not-full most (sum_by entries_in (seen_in is)) t.given room in
-    may-all slot most (most + hs.limit) t.given is k.portal_entries few.0 (placed-slot slot (seen_in is) hs.unexpected t k.placed free) (omega (arith, k.limit)) few.1
+    may-all slot most (most + hs.limit) t.given is k.portal_entries few.0 (recorded-slot slot (seen_in is) hs.unexpected t k.recorded free) (omega (arith, k.limit)) few.1
 
 pub kept-lists : (most linked : ℕ) (is : List PortalEntry) (t : Table EntryRecord) (hs : UnexpectedList) → IsKept most is linked t hs → All HasLists is
 kept-lists most linked is t hs k = portal_entries-lists is most (most + hs.limit) t.given k.portal_entries
 
 -- ---- what a target keeps, where its indices were lent and came back
 pub kept-lent : (most n linked : ℕ) (is new : List PortalEntry) (after : List (Option Index)) (u : Table EntryRecord) (hs : UnexpectedList) → length new ≡ n → seen_in new ≡ after → AreRecorded after hs.unexpected u → All (IsPortalEntry most (most + hs.limit) u.given) new → u.limit ≡ most + hs.limit → linked ≡ sum_by entries_in after → length hs.unexpected ≤ hs.limit → hs.limit < 2 ^ 32 → IsKept most (take n (new ++ drop (length new) is)) linked u hs
-kept-lent most n linked is new after u hs len e placed portal_entries limit count few small =
+kept-lent most n linked is new after u hs len e recorded portal_entries limit count few small =
     let whole : take n (new ++ drop (length new) is) ≡ new = rw (← len) (take-append_seam new (drop (length new) is)) in
-    rw whole (record { placed = rw e placed; portal_entries = portal_entries; limit = limit; count = rw e count; held = few; small = small })
+    rw whole (record { recorded = rw e recorded; portal_entries = portal_entries; limit = limit; count = rw e count; held = few; small = small })
 
 -- all places keep their lists
 abbrev pub KeepsPortalEntries : List PortalEntry → List PortalEntry → Type 0
@@ -101,7 +101,7 @@ pub kept-none : (most room n : ℕ) (is : List PortalEntry) → room < 2 ^ 32 �
 kept-none most room n is lt many unused =
     let none = unused-seen most (most + room) is unused in
     record {
-      placed = rw none (placed-none (length is) (most + room));
+      recorded = rw none (recorded-none (length is) (most + room));
       portal_entries = unused-portal_entries most (most + room) is unused;
       limit = refl;
       count = rw none (sym (many-none (length is)));
@@ -124,25 +124,25 @@ pub seen-settled : (most linked : ℕ) (f : Found) (h : Header) (is was new : Li
     → seen_in new ≡ slice_set (seen_in was) h.pt (settled_in f h (index_at h.pt (seen_in was))) → seen_in is ≡ s → is_linked_at f.list f.linked.handle (index_at h.pt s) ≡ true → seen_in new ≡ indices_after f h (seen_in is)
 seen-settled most linked f h is was new t hs s k e after seen_as there =
     let at : is_linked_at f.list f.linked.handle (index_at h.pt (seen_in is)) ≡ true = rw seen_as there in
-    after ∙ ap (λ x. slice_set (seen_in x) h.pt (settled_in f h (index_at h.pt (seen_in x)))) e ∙ settled-handle f h (seen_in is) hs.unexpected t k.placed at
+    after ∙ ap (λ x. slice_set (seen_in x) h.pt (settled_in f h (index_at h.pt (seen_in x)))) e ∙ settled-handle f h (seen_in is) hs.unexpected t k.recorded at
 
 pub kept-settled : (most n linked : ℕ) (f : Found) (h : Header) (is was new : List PortalEntry) (t u : Table EntryRecord) (hs : UnexpectedList) (s : List (Option Index)) → IsKept most is linked t hs → was ≡ is → length new ≡ n
     → seen_in new ≡ slice_set (seen_in was) h.pt (settled_in f h (index_at h.pt (seen_in was))) → KeepsPortalEntries was new → u ≡ unlinked_after f h t → seen_in is ≡ s → is_linked_at f.list f.linked.handle (index_at h.pt s) ≡ true
     → IsKept most (take n (new ++ drop (length new) is)) (linked_after f h linked) u hs
 kept-settled most n linked f h is was new t u hs s k e len after keeps gone seen_as there =
     let at : is_linked_at f.list f.linked.handle (index_at h.pt (seen_in is)) ≡ true = rw seen_as there in
-    let placed : AreRecorded (indices_after f h (seen_in is)) hs.unexpected u = rw gone (placed-settled f h (seen_in is) hs.unexpected t k.placed at) in
+    let recorded : AreRecorded (indices_after f h (seen_in is)) hs.unexpected u = rw gone (recorded-settled f h (seen_in is) hs.unexpected t k.recorded at) in
     let given : u.given ≡ t.given = ap (λ (x : Table EntryRecord). x.given) gone ∙ given-after f h t in
-    kept-lent most n (linked_after f h linked) is new (indices_after f h (seen_in is)) u hs len (seen-settled most linked f h is was new t hs s k e after seen_as there) placed
-    (still-portal_entries most linked is was new t u hs k e keeps given) (ap (λ (x : Table EntryRecord). x.limit) gone ∙ limit-after f h t ∙ k.limit) (ap (linked_after f h) k.count ∙ many-settled f h (seen_in is) hs.unexpected t k.placed at) k.held k.small
+    kept-lent most n (linked_after f h linked) is new (indices_after f h (seen_in is)) u hs len (seen-settled most linked f h is was new t hs s k e after seen_as there) recorded
+    (still-portal_entries most linked is was new t u hs k e keeps given) (ap (λ (x : Table EntryRecord). x.limit) gone ∙ limit-after f h t ∙ k.limit) (ap (linked_after f h) k.count ∙ many-settled f h (seen_in is) hs.unexpected t k.recorded at) k.held k.small
 
 pub kept-few : (most linked : ℕ) (is : List PortalEntry) (t : Table EntryRecord) (hs : UnexpectedList) (me : Handle) → IsKept most is linked t hs → headers_in (lookup me t.live) < 2 ^ 32
-kept-few most linked is t hs me k = omega (arith, placed-headers me (seen_in is) hs.unexpected t k.placed, unexpected-few (lies_in (is_entry me)) hs.unexpected, k.held, k.small)
+kept-few most linked is t hs me k = omega (arith, recorded-headers me (seen_in is) hs.unexpected t k.recorded, unexpected-few (lies_in (is_entry me)) hs.unexpected, k.held, k.small)
 
 -- a header comes
 kept-more : (most linked : ℕ) (a : IndexedHeader) (is : List PortalEntry) (t : Table EntryRecord) (hs : UnexpectedList) → IsKept most is linked t hs → (w : EntryRecord) → lookup a.header.entry t.live ≡ Some w → length hs.unexpected < hs.limit → IsKept most is linked (recorded_by a.header.entry one_more t) (unexpected_list (hs.unexpected ++ a ∷ []) hs.limit)
 kept-more most linked a is t hs k w at lt = record {
-  placed = placed-more a w (seen_in is) hs.unexpected t k.placed at;
+  recorded = recorded-more a w (seen_in is) hs.unexpected t k.recorded at;
   portal_entries = same-portal_entries most linked is t (recorded_by a.header.entry one_more t) hs k (given-by a.header.entry one_more t);
   limit = limit-by a.header.entry one_more t ∙ k.limit;
   count = k.count;
@@ -159,7 +159,7 @@ kept-unexpected most linked f h is t u hs gs s k room seen_as there eg eu =
     rw (eg, eu)
     (elim f.list as (λ l. HasRoom l hs → is_linked_at l me (index_at h.pt (seen_in is)) ≡ true → IsKept most is linked (elim l [ Priority ↦ t | Overflow ↦ recorded_by me one_more t ]) (elim l [ Priority ↦ hs | Overflow ↦ unexpected_list (hs.unexpected ++ a ∷ []) hs.limit ])) [
       | Priority ↦ λ r l. k
-      | Overflow ↦ λ r l. let w = placed-on me (seen_in is) hs.unexpected t k.placed (linked-anywhere Overflow me h.pt (seen_in is) l) in kept-more most linked a is t hs k w.0 w.1 r
+      | Overflow ↦ λ r l. let w = recorded-on me (seen_in is) hs.unexpected t k.recorded (linked-anywhere Overflow me h.pt (seen_in is) l) in kept-more most linked a is t hs k w.0 w.1 r
     ] room at)
 
 -- the oldest header that an entry finds goes
@@ -168,7 +168,7 @@ kept-fewer most linked pt e a is t u hs gs k o eg eu =
     let n = unexpected-oldest (lies_in (λ h. true)) pt e hs.unexpected a o in
     rw (eg, eu)
     (record {
-      placed = placed-fewer a (seen_in is) hs.unexpected (without_oldest pt e hs.unexpected) t k.placed (λ p. unexpected-oldest p pt e hs.unexpected a o);
+      recorded = recorded-fewer a (seen_in is) hs.unexpected (without_oldest pt e hs.unexpected) t k.recorded (λ p. unexpected-oldest p pt e hs.unexpected a o);
       portal_entries = same-portal_entries most linked is t (recorded_by a.header.entry one_fewer t) hs k (given-by a.header.entry one_fewer t);
       limit = limit-by a.header.entry one_fewer t ∙ k.limit;
       count = k.count;
@@ -177,14 +177,14 @@ kept-fewer most linked pt e a is t u hs gs k o eg eu =
     })
 
 pub kept-frees : (most linked pt : ℕ) (e : Entry) (a : IndexedHeader) (is : List PortalEntry) (t : Table EntryRecord) (hs : UnexpectedList) → IsKept most is linked t hs → oldest pt e hs.unexpected ≡ Some a → frees_at (seen_in is) t a ≡ not (is_linked_at Overflow a.header.entry (index_at a.pt (seen_in is)) || names_entry a.header.entry (without_oldest pt e hs.unexpected))
-kept-frees most linked pt e a is t hs k o = placed-frees a (seen_in is) hs.unexpected (without_oldest pt e hs.unexpected) t k.placed (λ p. unexpected-oldest p pt e hs.unexpected a o)
+kept-frees most linked pt e a is t hs k o = recorded-frees a (seen_in is) hs.unexpected (without_oldest pt e hs.unexpected) t k.recorded (λ p. unexpected-oldest p pt e hs.unexpected a o)
 
 -- all headers that an entry finds go
 pub kept-left : (most linked pt : ℕ) (e : Entry) (is : List PortalEntry) (t u : Table EntryRecord) (hs gs : UnexpectedList) → IsKept most is linked t hs → AreRecorded (seen_in is) (left_in pt e hs.unexpected) u → u.limit ≡ t.limit → u.given ≡ t.given → gs ≡ unexpected_list (left_in pt e hs.unexpected) hs.limit → IsKept most is linked u gs
-kept-left most linked pt e is t u hs gs k placed limit given eg =
+kept-left most linked pt e is t u hs gs k recorded limit given eg =
     rw eg
     (record {
-      placed = placed;
+      recorded = recorded;
       portal_entries = same-portal_entries most linked is t u hs k given;
       limit = limit ∙ k.limit;
       count = k.count;
@@ -192,12 +192,12 @@ kept-left most linked pt e is t u hs gs k placed limit given eg =
       small = k.small;
     })
 
--- ---- a place of the portal table
+-- ---- a portal table entry
 
 pub kept-put : (most n pt linked : ℕ) (is was new : List PortalEntry) (o : Option Index) (t : Table EntryRecord) (hs : UnexpectedList) → IsKept most is linked t hs → was ≡ is → length new ≡ n → seen_in new ≡ slice_set (seen_in was) pt o
     → KeepsPortalEntries was new → entries_in o ≡ 0 → entries_in (index_at pt (seen_in is)) ≡ 0 → IsKept most (take n (new ++ drop (length new) is)) linked t hs
 kept-put most n pt linked is was new o t hs k e len after keeps none had =
-    kept-lent most n linked is new (slice_set (seen_in is) pt o) t hs len (after ∙ ap (λ x. slice_set (seen_in x) pt o) e) (placed-empty pt (seen_in is) hs.unexpected t o k.placed none had)
+    kept-lent most n linked is new (slice_set (seen_in is) pt o) t hs len (after ∙ ap (λ x. slice_set (seen_in x) pt o) e) (recorded-empty pt (seen_in is) hs.unexpected t o k.recorded none had)
     (still-portal_entries most linked is was new t t hs k e keeps refl) k.limit (k.count ∙ sym (many-empty pt (seen_in is) o none had)) k.held k.small
 
 -- ---- an entry goes
@@ -206,25 +206,25 @@ pub kept-unlinked : (most n linked : ℕ) (me : Handle) (w : EntryRecord) (is wa
     → seen_in new ≡ slice_set (seen_in was) w.pt (unlinked_in me (index_at w.pt (seen_in was))) → KeepsPortalEntries was new → u ≡ recorded_by me not_linked t → lookup me t.live ≡ Some w → w.linked ≡ true
     → IsKept most (take n (new ++ drop (length new) is)) (linked - 1) u hs
 kept-unlinked most n linked me w is was new t u hs k e len after keeps gone at on =
-    let placed : AreRecorded (map (unlinked_in me) (seen_in is)) hs.unexpected u = rw gone (placed-unlinked me w (seen_in is) hs.unexpected t k.placed at) in
+    let recorded : AreRecorded (map (unlinked_in me) (seen_in is)) hs.unexpected u = rw gone (recorded-unlinked me w (seen_in is) hs.unexpected t k.recorded at) in
     let given : u.given ≡ t.given = ap (λ (x : Table EntryRecord). x.given) gone ∙ given-by me not_linked t in
     kept-lent most n (linked - 1) is new (map (unlinked_in me) (seen_in is)) u hs len
-    (after ∙ ap (λ x. slice_set (seen_in x) w.pt (unlinked_in me (index_at w.pt (seen_in x)))) e ∙ sym (unlinked-at me w (seen_in is) hs.unexpected t k.placed at)) placed
-    (still-portal_entries most linked is was new t u hs k e keeps given) (ap (λ (x : Table EntryRecord). x.limit) gone ∙ limit-by me not_linked t ∙ k.limit) (omega (arith, k.count, one-off me w (seen_in is) hs.unexpected t k.placed at on)) k.held k.small
+    (after ∙ ap (λ x. slice_set (seen_in x) w.pt (unlinked_in me (index_at w.pt (seen_in x)))) e ∙ sym (unlinked-at me w (seen_in is) hs.unexpected t k.recorded at)) recorded
+    (still-portal_entries most linked is was new t u hs k e keeps given) (ap (λ (x : Table EntryRecord). x.limit) gone ∙ limit-by me not_linked t ∙ k.limit) (omega (arith, k.count, one-off me w (seen_in is) hs.unexpected t k.recorded at on)) k.held k.small
 
 -- ---- an entry comes
 
-pub kept-linked : (most n pt slot linked : ℕ) (place : EntryList) (entry : Entry) (me : Handle) (is was new : List PortalEntry) (t u : Table EntryRecord) (hs : UnexpectedList) → IsKept most is linked t hs → was ≡ is → length new ≡ n
-    → seen_in new ≡ slice_set (seen_in was) pt (linked_at place (fresh me entry) (index_at pt (seen_in was))) → ((most records given : ℕ) → All (IsPortalEntry most records given) was → All (IsPortalEntry most records (given + 1)) new)
+pub kept-linked : (most n pt slot linked : ℕ) (list : EntryList) (entry : Entry) (me : Handle) (is was new : List PortalEntry) (t u : Table EntryRecord) (hs : UnexpectedList) → IsKept most is linked t hs → was ≡ is → length new ≡ n
+    → seen_in new ≡ slice_set (seen_in was) pt (linked_at list (fresh me entry) (index_at pt (seen_in was))) → ((most records given : ℕ) → All (IsPortalEntry most records given) was → All (IsPortalEntry most records (given + 1)) new)
     → u ≡ with_new slot (fresh_at pt entry.ct) t → me ≡ handle slot t.given → is_some (index_at pt (seen_in is)) ≡ true → has_slot slot t.live ≡ false → IsKept most (take n (new ++ drop (length new) is)) (linked + 1) u hs
-kept-linked most n pt slot linked place entry me is was new t u hs k e len after keeps more named there free =
-    let ks : List (Option Index) = slice_set (seen_in is) pt (linked_at place (fresh me entry) (index_at pt (seen_in is))) in
-    let placed : AreRecorded ks hs.unexpected u = rw (more, named) (placed-linked slot pt place entry (seen_in is) hs.unexpected t k.placed there free) in
-    let many : sum_by entries_in ks ≡ sum_by entries_in (seen_in is) + 1 = rw named (many-linked slot pt t.given place entry (seen_in is) there) in
+kept-linked most n pt slot linked list entry me is was new t u hs k e len after keeps more named there free =
+    let ks : List (Option Index) = slice_set (seen_in is) pt (linked_at list (fresh me entry) (index_at pt (seen_in is))) in
+    let recorded : AreRecorded ks hs.unexpected u = rw (more, named) (recorded-linked slot pt list entry (seen_in is) hs.unexpected t k.recorded there free) in
+    let many : sum_by entries_in ks ≡ sum_by entries_in (seen_in is) + 1 = rw named (many-linked slot pt t.given list entry (seen_in is) there) in
     let given : u.given ≡ t.given + 1 = ap (λ (x : Table EntryRecord). x.given) more in
     let portal_entries : All (IsPortalEntry most (most + hs.limit) u.given) new =
     subst (λ g. All (IsPortalEntry most (most + hs.limit) g) new) (sym given) (keeps most (most + hs.limit) t.given (subst (All (IsPortalEntry most (most + hs.limit) t.given)) (sym e) k.portal_entries)) in
-    kept-lent most n (linked + 1) is new ks u hs len (after ∙ ap (λ x. slice_set (seen_in x) pt (linked_at place (fresh me entry) (index_at pt (seen_in x)))) e) placed
+    kept-lent most n (linked + 1) is new ks u hs len (after ∙ ap (λ x. slice_set (seen_in x) pt (linked_at list (fresh me entry) (index_at pt (seen_in x)))) e) recorded
     portal_entries (ap (λ (x : Table EntryRecord). x.limit) more ∙ k.limit) (omega (arith, k.count, many)) k.held k.small
 
 pub none-in : (o : Option Index) → is_some o ≡ false → entries_in o ≡ 0
@@ -244,7 +244,7 @@ full-by most linked n limit top_given le at =
 
 pub full-kept : (most linked : ℕ) (is : List PortalEntry) (t : Table EntryRecord) (hs : UnexpectedList) → IsKept most is linked t hs → (nat_le most linked || is_full t) ≡ (nat_le most (sum_by entries_in (seen_in is)) || nat_le top t.given)
 full-kept most linked is t hs k =
-    rw (← k.count) (full-by most linked (length t.live) t.limit (nat_le top t.given) (omega (arith, placed-few (seen_in is) hs.unexpected t k.placed, k.count, k.held, k.limit)) (omega (arith, k.limit)))
+    rw (← k.count) (full-by most linked (length t.live) t.limit (nat_le top t.given) (omega (arith, recorded-few (seen_in is) hs.unexpected t k.recorded, k.count, k.held, k.limit)) (omega (arith, k.limit)))
 
 pub or-right : (a b : Bool) → (a || b) ≡ false → b ≡ false
 or-right true b e = cc

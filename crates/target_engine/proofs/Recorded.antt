@@ -18,7 +18,7 @@ use Rattle.ni_model.specs.Arrive.{is_over, running_after, entries_after, settled
 use Rattle.ni_model.specs.Refusals.{is_linked_anywhere}
 use Rattle.ni_model.specs.Append.{fresh, linked_at}
 use Rattle.ni_model.specs.Calls.{slot_in, entry_slot, unlinked_in}
-use Rattle.user_counts.specs.Sums.{sum_of, named_as}
+use Rattle.user_counts.specs.Sums.{sum_of}
 use Rattle.user_counts.proofs.SumLemmas.{one_if, same-self, number_at, sum-split, but-zero, but-same, sum-push, once-new}
 use Rattle.target_engine.specs.declared.entry_records.EntryRecord.{EntryRecord}
 use Rattle.target_engine.specs.PortalTable.{entries_by, index_by, linked_by, headers_by, lies_in, linked_as, headers_as, idle_as, is_idle, is_on, where_on, headers_in, frees_at, one_more, one_fewer, not_linked, recorded_anew, changed_by, recorded_by, unlinked_after, linked_after, advanced_in, settled_in, AreRecorded}
@@ -40,8 +40,8 @@ on-number : (me : Handle) (o : Option EntryRecord) → nat_lt 0 (number_at (link
 on-number me None = refl
 on-number me (Some v) = rw (same-self me) (elim v.linked as (λ b. nat_lt 0 (if b && true then 1 else 0) ≡ b) [ true ↦ refl | false ↦ refl ])
 
-pub placed-anywhere : (me : Handle) (is : List (Option Index)) (hs : List IndexedHeader) (t : Table EntryRecord) → AreRecorded is hs t → is_linked_anywhere me is ≡ is_on (lookup me t.live)
-placed-anywhere me is hs t a =
+pub recorded-anywhere : (me : Handle) (is : List (Option Index)) (hs : List IndexedHeader) (t : Table EntryRecord) → AreRecorded is hs t → is_linked_anywhere me is ≡ is_on (lookup me t.live)
+recorded-anywhere me is hs t a =
     is_linked_anywhere-count me 0 is
     ∙ ap (λ n. nat_lt 0 n) (a.same (is_handle me) ∙ there-alone (linked_as (is_handle me)) me is hs t a (λ h v e. apart-linked v.linked (same_handle h me) e))
     ∙ on-number me (lookup me t.live)
@@ -62,12 +62,12 @@ headers-number : (me : Handle) (o : Option EntryRecord) → number_at (headers_a
 headers-number me None = refl
 headers-number me (Some v) = rw (same-self me) refl
 
-pub placed-headers : (me : Handle) (is : List (Option Index)) (hs : List IndexedHeader) (t : Table EntryRecord) → AreRecorded is hs t → headers_by (lies_in (is_entry me)) hs ≡ headers_in (lookup me t.live)
-placed-headers me is hs t a =
+pub recorded-headers : (me : Handle) (is : List (Option Index)) (hs : List IndexedHeader) (t : Table EntryRecord) → AreRecorded is hs t → headers_by (lies_in (is_entry me)) hs ≡ headers_in (lookup me t.live)
+recorded-headers me is hs t a =
     a.lies (is_entry me) ∙ there-alone (headers_as (is_entry me)) me is hs t a (λ h v e. rw e refl) ∙ headers-number me (lookup me t.live)
 
-pub placed-names : (me : Handle) (is : List (Option Index)) (hs : List IndexedHeader) (t : Table EntryRecord) → AreRecorded is hs t → names_entry me hs ≡ nat_lt 0 (headers_in (lookup me t.live))
-placed-names me is hs t a = names-count me hs ∙ ap (λ n. nat_lt 0 n) (placed-headers me is hs t a)
+pub recorded-names : (me : Handle) (is : List (Option Index)) (hs : List IndexedHeader) (t : Table EntryRecord) → AreRecorded is hs t → names_entry me hs ≡ nat_lt 0 (headers_in (lookup me t.live))
+recorded-names me is hs t a = names-count me hs ∙ ap (λ n. nat_lt 0 n) (recorded-headers me is hs t a)
 
 slot-unlinked : (s : ℕ) (xs : List (Live EntryRecord)) → has_slot s xs ≡ false → sum_of (linked_as (is_slot s)) xs ≡ 0
 slot-unlinked s [] e = refl
@@ -77,8 +77,8 @@ slot-unlinked s (x ∷ xs) e =
       | false ↦ λ f. omega (arith, apart-linked x.value.linked false refl, slot-unlinked s xs f)
     ] e
 
-pub placed-slot : (s : ℕ) (is : List (Option Index)) (hs : List IndexedHeader) (t : Table EntryRecord) → AreRecorded is hs t → has_slot s t.live ≡ false → entry_slot is s ≡ false
-placed-slot s is hs t a free = entry_slot-count s 0 is ∙ ap (λ n. nat_lt 0 n) (a.same (is_slot s) ∙ slot-unlinked s t.live free)
+pub recorded-slot : (s : ℕ) (is : List (Option Index)) (hs : List IndexedHeader) (t : Table EntryRecord) → AreRecorded is hs t → has_slot s t.live ≡ false → entry_slot is s ≡ false
+recorded-slot s is hs t a free = entry_slot-count s 0 is ∙ ap (λ n. nat_lt 0 n) (a.same (is_slot s) ∙ slot-unlinked s t.live free)
 
 -- ---- there is room for a record of each linked entry and of each in which a header lies
 
@@ -96,8 +96,8 @@ live-few : (xs : List (Live EntryRecord)) → sum_of idle_as xs ≡ 0 → length
 live-few [] e = omega arith
 live-few (x ∷ xs) e = omega (arith, live-few xs (omega arith), needed x.value (omega arith))
 
-pub placed-few : (is : List (Option Index)) (hs : List IndexedHeader) (t : Table EntryRecord) → AreRecorded is hs t → length t.live ≤ sum_by entries_in is + length hs
-placed-few is hs t a = omega (arith, live-few t.live a.busy, a.same any_handle, a.lies (λ h. true), linked-all 0 is, unexpected-all hs)
+pub recorded-few : (is : List (Option Index)) (hs : List IndexedHeader) (t : Table EntryRecord) → AreRecorded is hs t → length t.live ≤ sum_by entries_in is + length hs
+recorded-few is hs t a = omega (arith, live-few t.live a.busy, a.same any_handle, a.lies (λ h. true), linked-all 0 is, unexpected-all hs)
 
 -- ---- a record is put in the place of the old one
 
@@ -116,8 +116,8 @@ fits-headers p me v e =
     ] e in
     elim (p me) as (λ b. (if b then v.headers else 0) ≡ 0) [ true ↦ none | false ↦ refl ]
 
-placed-anew : (me : Handle) (w v : EntryRecord) (is ks : List (Option Index)) (hs gs : List IndexedHeader) (t : Table EntryRecord) → AreRecorded is hs t → lookup me t.live ≡ Some w → ((p : Handle → Option Handle → ℕ → Bool) → linked_by p 0 ks + linked_as p me w ≡ linked_by p 0 is + linked_as p me v) → ((p : Handle → Bool) → headers_by (lies_in p) gs + headers_as p me w ≡ headers_by (lies_in p) hs + headers_as p me v) → AreRecorded ks gs (recorded_anew me v t)
-placed-anew me w v is ks hs gs t a at linked lies = record {
+recorded-anew : (me : Handle) (w v : EntryRecord) (is ks : List (Option Index)) (hs gs : List IndexedHeader) (t : Table EntryRecord) → AreRecorded is hs t → lookup me t.live ≡ Some w → ((p : Handle → Option Handle → ℕ → Bool) → linked_by p 0 ks + linked_as p me w ≡ linked_by p 0 is + linked_as p me v) → ((p : Handle → Bool) → headers_by (lies_in p) gs + headers_as p me w ≡ headers_by (lies_in p) hs + headers_as p me v) → AreRecorded ks gs (recorded_anew me v t)
+recorded-anew me w v is ks hs gs t a at linked lies = record {
   same = λ p.
       let s = rw at at (sum-split me (linked_as p) t.live (a.once me)) in
       let n = sum-anew me (linked_as p) t w v (a.once me) at (fits-linked p me v) in
@@ -135,10 +135,10 @@ placed-anew me w v is ks hs gs t a at linked lies = record {
 one-header : (p : Handle → Bool) (me : Handle) (v : EntryRecord) → (if p me then 1 else 0) + headers_as p me v ≡ headers_as p me (one_more v)
 one-header p me v = elim (p me) as (λ b. (if b then 1 else 0) + (if b then v.headers else 0) ≡ (if b then v.headers + 1 else 0)) [ true ↦ omega arith | false ↦ refl ]
 
-pub placed-more : (a : IndexedHeader) (w : EntryRecord) (is : List (Option Index)) (hs : List IndexedHeader) (t : Table EntryRecord) → AreRecorded is hs t → lookup a.header.entry t.live ≡ Some w → AreRecorded is (hs ++ a ∷ []) (recorded_by a.header.entry one_more t)
-placed-more a w is hs t p at =
+pub recorded-more : (a : IndexedHeader) (w : EntryRecord) (is : List (Option Index)) (hs : List IndexedHeader) (t : Table EntryRecord) → AreRecorded is hs t → lookup a.header.entry t.live ≡ Some w → AreRecorded is (hs ++ a ∷ []) (recorded_by a.header.entry one_more t)
+recorded-more a w is hs t p at =
     rw at
-    (placed-anew a.header.entry w (one_more w) is is hs (hs ++ a ∷ []) t p at (λ q. refl)
+    (recorded-anew a.header.entry w (one_more w) is is hs (hs ++ a ∷ []) t p at (λ q. refl)
     (λ q. omega (arith, unexpected-append (lies_in q) hs (a ∷ []), one-header q a.header.entry w)))
 
 less-header : (p : Handle → Bool) (me : Handle) (v : EntryRecord) → 1 ≤ v.headers → (if p me then 1 else 0) + headers_as p me (one_fewer v) ≡ headers_as p me v
@@ -153,16 +153,16 @@ one-there : (gone : IndexedHeader) (is : List (Option Index)) (hs left : List In
 one-there gone is hs left t a one =
     let me : Handle = gone.header.entry in
     let o = rw (same-self me) at (one (lies_in (is_entry me))) in
-    omega (arith, placed-headers me is hs t a, o)
+    omega (arith, recorded-headers me is hs t a, o)
 
 fewer-by : (gone : IndexedHeader) (is : List (Option Index)) (hs left : List IndexedHeader) (t : Table EntryRecord) (o : Option EntryRecord) → AreRecorded is hs t → HasOneOf gone hs left → lookup gone.header.entry t.live ≡ o → 1 ≤ headers_in o
     → AreRecorded is left (changed_by gone.header.entry one_fewer o t)
 fewer-by gone is hs left t None a one at le = absurd (omega arith)
 fewer-by gone is hs left t (Some w) a one at le =
-    placed-anew gone.header.entry w (one_fewer w) is is hs left t a at (λ p. refl) (λ p. omega (arith, one (lies_in p), less-header p gone.header.entry w le))
+    recorded-anew gone.header.entry w (one_fewer w) is is hs left t a at (λ p. refl) (λ p. omega (arith, one (lies_in p), less-header p gone.header.entry w le))
 
-pub placed-fewer : (gone : IndexedHeader) (is : List (Option Index)) (hs left : List IndexedHeader) (t : Table EntryRecord) → AreRecorded is hs t → HasOneOf gone hs left → AreRecorded is left (recorded_by gone.header.entry one_fewer t)
-placed-fewer gone is hs left t a one = fewer-by gone is hs left t (lookup gone.header.entry t.live) a one refl (omega (arith, one-there gone is hs left t a one))
+pub recorded-fewer : (gone : IndexedHeader) (is : List (Option Index)) (hs left : List IndexedHeader) (t : Table EntryRecord) → AreRecorded is hs t → HasOneOf gone hs left → AreRecorded is left (recorded_by gone.header.entry one_fewer t)
+recorded-fewer gone is hs left t a one = fewer-by gone is hs left t (lookup gone.header.entry t.live) a one refl (omega (arith, one-there gone is hs left t a one))
 
 last-one : (n : ℕ) → nat_le (1 + n) 1 ≡ not (nat_lt 0 n)
 last-one n = grind (arith, nat_tests)
@@ -174,16 +174,16 @@ both-not false true = refl
 both-not false false = refl
 
 -- what the record tells of the entry's freeing
-pub placed-frees : (gone : IndexedHeader) (is : List (Option Index)) (hs left : List IndexedHeader) (t : Table EntryRecord) → AreRecorded is hs t → HasOneOf gone hs left → frees_at is t gone ≡ not (is_linked_at Overflow gone.header.entry (index_at gone.pt is) || names_entry gone.header.entry left)
-placed-frees gone is hs left t a one =
+pub recorded-frees : (gone : IndexedHeader) (is : List (Option Index)) (hs left : List IndexedHeader) (t : Table EntryRecord) → AreRecorded is hs t → HasOneOf gone hs left → frees_at is t gone ≡ not (is_linked_at Overflow gone.header.entry (index_at gone.pt is) || names_entry gone.header.entry left)
+recorded-frees gone is hs left t a one =
     let me : Handle = gone.header.entry in
     let n : nat_le (headers_in (lookup me t.live)) 1 ≡ not (names_entry me left) =
     ap (λ k. nat_le k 1) (one-there gone is hs left t a one) ∙ last-one (headers_by (lies_in (is_entry me)) left) ∙ ap not (sym (names-count me left)) in
     rw n (both-not (names_entry me left) (is_linked_at Overflow me (index_at gone.pt is)))
 
 -- other headers that lie in the same entries
-pub placed-unexpected : (is : List (Option Index)) (hs gs : List IndexedHeader) (t : Table EntryRecord) → AreRecorded is hs t → ((p : Handle → Bool) → headers_by (lies_in p) gs ≡ headers_by (lies_in p) hs) → AreRecorded is gs t
-placed-unexpected is hs gs t a e = record { same = a.same; lies = λ p. e p ∙ a.lies p; once = a.once; busy = a.busy }
+pub recorded-unexpected : (is : List (Option Index)) (hs gs : List IndexedHeader) (t : Table EntryRecord) → AreRecorded is hs t → ((p : Handle → Bool) → headers_by (lies_in p) gs ≡ headers_by (lies_in p) hs) → AreRecorded is gs t
+recorded-unexpected is hs gs t a e = record { same = a.same; lies = λ p. e p ∙ a.lies p; once = a.once; busy = a.busy }
 
 -- ---- an entry at its place
 
@@ -219,10 +219,10 @@ off-sum me w p is hs t a at =
     let z : linked_as (but me p) me w ≡ 0 = rw (same-self me) (off-zero w.linked (p me w.ct w.pt)) in
     omega (arith, linked-unlinked me p 0 is, a.same (but me p), a.same p, s, b, e, z)
 
-pub placed-unlinked : (me : Handle) (w : EntryRecord) (is : List (Option Index)) (hs : List IndexedHeader) (t : Table EntryRecord) → AreRecorded is hs t → lookup me t.live ≡ Some w → AreRecorded (map (unlinked_in me) is) hs (recorded_by me not_linked t)
-placed-unlinked me w is hs t a at =
+pub recorded-unlinked : (me : Handle) (w : EntryRecord) (is : List (Option Index)) (hs : List IndexedHeader) (t : Table EntryRecord) → AreRecorded is hs t → lookup me t.live ≡ Some w → AreRecorded (map (unlinked_in me) is) hs (recorded_by me not_linked t)
+recorded-unlinked me w is hs t a at =
     rw at
-    (placed-anew me w (not_linked w) is (map (unlinked_in me) is) hs hs t a at (λ p. omega (arith, off-sum me w p is hs t a at)) (λ p. refl))
+    (recorded-anew me w (not_linked w) is (map (unlinked_in me) is) hs hs t a at (λ p. omega (arith, off-sum me w p is hs t a at)) (λ p. refl))
 
 -- one entry fewer is linked then
 pub one-off : (me : Handle) (w : EntryRecord) (is : List (Option Index)) (hs : List IndexedHeader) (t : Table EntryRecord) → AreRecorded is hs t → lookup me t.live ≡ Some w → w.linked ≡ true → sum_by entries_in (map (unlinked_in me) is) + 1 ≡ sum_by entries_in is
@@ -235,8 +235,8 @@ on-some None e = cc
 on-some (Some w) e = (w, refl, e)
 
 -- the record of an entry that is linked
-pub placed-on : (me : Handle) (is : List (Option Index)) (hs : List IndexedHeader) (t : Table EntryRecord) → AreRecorded is hs t → is_linked_anywhere me is ≡ true → (w : EntryRecord) × (lookup me t.live ≡ Some w) × (w.linked ≡ true)
-placed-on me is hs t a e = on-some (lookup me t.live) (sym (placed-anywhere me is hs t a) ∙ e)
+pub recorded-on : (me : Handle) (is : List (Option Index)) (hs : List IndexedHeader) (t : Table EntryRecord) → AreRecorded is hs t → is_linked_anywhere me is ≡ true → (w : EntryRecord) × (lookup me t.live ≡ Some w) × (w.linked ≡ true)
+recorded-on me is hs t a e = on-some (lookup me t.live) (sym (recorded-anywhere me is hs t a) ∙ e)
 
 -- ---- an entry goes by a message
 
@@ -248,7 +248,7 @@ is_linked-some h k (x ∷ xs) e =
       | false ↦ λ f. omega (arith, is_linked-some h k xs f)
     ] e
 
-one-list : (place : EntryList) (me : Handle) (k : ℕ) (i : Index) → is_linked_at place me (Some i) ≡ true → index_by (is_handle me) k (Some i) ≤ 1 → unlinked_in me (Some i) ≡ Some (with_list place (unlinked me) i)
+one-list : (list : EntryList) (me : Handle) (k : ℕ) (i : Index) → is_linked_at list me (Some i) ≡ true → index_by (is_handle me) k (Some i) ≤ 1 → unlinked_in me (Some i) ≡ Some (with_list list (unlinked me) i)
 one-list Priority me k i e one =
     let s = is_linked-some me k i.priority e in
     let o : entries_by (is_handle me) k i.overflow ≡ 0 = omega arith in
@@ -258,7 +258,7 @@ one-list Overflow me k i e one =
     let o : entries_by (is_handle me) k i.priority ≡ 0 = omega arith in
     rw (unlinked-none me k i.priority o) refl
 
-one-advanced : (place : EntryList) (me : Handle) (to k : ℕ) (i : Index) → is_linked_at place me (Some i) ≡ true → index_by (is_handle me) k (Some i) ≤ 1 → advanced_in me to (Some i) ≡ Some (with_list place (advanced me to) i)
+one-advanced : (list : EntryList) (me : Handle) (to k : ℕ) (i : Index) → is_linked_at list me (Some i) ≡ true → index_by (is_handle me) k (Some i) ≤ 1 → advanced_in me to (Some i) ≡ Some (with_list list (advanced me to) i)
 one-advanced Priority me to k i e one =
     let s = is_linked-some me k i.priority e in
     let o : entries_by (is_handle me) k i.overflow ≡ 0 = omega arith in
@@ -268,15 +268,15 @@ one-advanced Overflow me to k i e one =
     let o : entries_by (is_handle me) k i.priority ≡ 0 = omega arith in
     rw (advanced-none me to k i.priority o) refl
 
-linked_at-some : (place : EntryList) (me : Handle) (k : ℕ) (o : Option Index) → is_linked_at place me o ≡ true → 0 < index_by (is_handle me) k o
-linked_at-some place me k None e = cc
+linked_at-some : (list : EntryList) (me : Handle) (k : ℕ) (o : Option Index) → is_linked_at list me o ≡ true → 0 < index_by (is_handle me) k o
+linked_at-some list me k None e = cc
 linked_at-some Priority me k (Some i) e = omega (arith, is_linked-some me k i.priority e)
 linked_at-some Overflow me k (Some i) e = omega (arith, is_linked-some me k i.overflow e)
 
 entries-over : (x : Linked) (h : Header) (xs : List Linked) → is_over x h ≡ true → entries_after x h xs ≡ unlinked x.handle xs
 entries-over x h xs over = rw over refl
 
-list-over : (place : EntryList) (x : Linked) (h : Header) (i : Index) → is_over x h ≡ true → with_list place (entries_after x h) i ≡ with_list place (unlinked x.handle) i
+list-over : (list : EntryList) (x : Linked) (h : Header) (i : Index) → is_over x h ≡ true → with_list list (entries_after x h) i ≡ with_list list (unlinked x.handle) i
 list-over Priority x h i over = rw (entries-over x h i.priority over) refl
 list-over Overflow x h i over = rw (entries-over x h i.overflow over) refl
 
@@ -288,7 +288,7 @@ over-at f h k (Some i) over e one = ap (λ (j : Index). Some j) (list-over f.lis
 entries-kept : (x : Linked) (h : Header) (xs : List Linked) → is_over x h ≡ false → entries_after x h xs ≡ (if x.entry.manage_local then advanced x.handle (running_after x h) xs else xs)
 entries-kept x h xs over = rw over refl
 
-list-kept : (place : EntryList) (x : Linked) (h : Header) (i : Index) → is_over x h ≡ false → with_list place (entries_after x h) i ≡ (if x.entry.manage_local then with_list place (advanced x.handle (running_after x h)) i else i)
+list-kept : (list : EntryList) (x : Linked) (h : Header) (i : Index) → is_over x h ≡ false → with_list list (entries_after x h) i ≡ (if x.entry.manage_local then with_list list (advanced x.handle (running_after x h)) i else i)
 list-kept Priority x h i over =
     rw (entries-kept x h i.priority over)
     (elim x.entry.manage_local as (λ b. with_list Priority (λ xs. if b then advanced x.handle (running_after x h) i.priority else i.priority) i ≡ (if b then with_list Priority (advanced x.handle (running_after x h)) i else i)) [ true ↦ refl | false ↦ refl ])
@@ -343,9 +343,9 @@ settled-over f h is hs t a e over =
     ap (λ o. set is h.pt o) (over-at f h h.pt (get_or is h.pt None) over e few) ∙ sym (map-at me h.pt 0 h.pt is (omega arith) none)
 
 -- an entry in a list of an index is linked
-pub linked-anywhere : (place : EntryList) (me : Handle) (pt : ℕ) (is : List (Option Index)) → is_linked_at place me (index_at pt is) ≡ true → is_linked_anywhere me is ≡ true
-linked-anywhere place me pt is e =
-    let here = linked_at-some place me pt (get_or is pt None) e in
+pub linked-anywhere : (list : EntryList) (me : Handle) (pt : ℕ) (is : List (Option Index)) → is_linked_at list me (index_at pt is) ≡ true → is_linked_anywhere me is ≡ true
+linked-anywhere list me pt is e =
+    let here = linked_at-some list me pt (get_or is pt None) e in
     let split = linked-split me pt 0 pt is (omega arith) in
     let some : 0 < linked_by (is_handle me) 0 is = omega arith in
     is_linked_anywhere-count me 0 is ∙ grind (arith, nat_tests)
@@ -358,7 +358,7 @@ entries-stay x h p k xs over =
       | false ↦ refl
     ])
 
-list-stays : (place : EntryList) (x : Linked) (h : Header) (p : Handle → Option Handle → ℕ → Bool) (k : ℕ) (i : Index) → is_over x h ≡ false → index_by p k (Some (with_list place (entries_after x h) i)) ≡ index_by p k (Some i)
+list-stays : (list : EntryList) (x : Linked) (h : Header) (p : Handle → Option Handle → ℕ → Bool) (k : ℕ) (i : Index) → is_over x h ≡ false → index_by p k (Some (with_list list (entries_after x h) i)) ≡ index_by p k (Some i)
 list-stays Priority x h p k i over = rw (entries-stay x h p k i.priority over) refl
 list-stays Overflow x h p k i over = rw (entries-stay x h p k i.overflow over) refl
 
@@ -367,8 +367,8 @@ index-stays f h p k None over = refl
 index-stays f h p k (Some i) over = list-stays f.list f.linked h p k i over
 
 -- where the handles of an index stay, so do all
-pub placed-same : (pt : ℕ) (is : List (Option Index)) (hs : List IndexedHeader) (t : Table EntryRecord) (o : Option Index) → AreRecorded is hs t → ((p : Handle → Option Handle → ℕ → Bool) → index_by p pt o ≡ index_by p pt (get_or is pt None)) → AreRecorded (set is pt o) hs t
-placed-same pt is hs t o a e = record {
+pub recorded-same : (pt : ℕ) (is : List (Option Index)) (hs : List IndexedHeader) (t : Table EntryRecord) (o : Option Index) → AreRecorded is hs t → ((p : Handle → Option Handle → ℕ → Bool) → index_by p pt o ≡ index_by p pt (get_or is pt None)) → AreRecorded (set is pt o) hs t
+recorded-same pt is hs t o a e = record {
   same = λ p. let z : 0 + pt ≡ pt = omega arith in linked-same p 0 pt is o (rw z (e p)) ∙ a.same p;
   lies = a.lies;
   once = a.once;
@@ -381,17 +381,17 @@ same-many pt is o e =
     let z : 0 + pt ≡ pt = omega arith in
     sym (linked-all 0 (set is pt o)) ∙ linked-same any_handle 0 pt is o (rw z (e any_handle)) ∙ linked-all 0 is
 
-pub placed-settled : (f : Found) (h : Header) (is : List (Option Index)) (hs : List IndexedHeader) (t : Table EntryRecord) → AreRecorded is hs t → is_linked_at f.list f.linked.handle (index_at h.pt is) ≡ true → AreRecorded (indices_after f h is) hs (unlinked_after f h t)
-placed-settled f h is hs t a e =
-    let w = placed-on f.linked.handle is hs t a (linked-anywhere f.list f.linked.handle h.pt is e) in
+pub recorded-settled : (f : Found) (h : Header) (is : List (Option Index)) (hs : List IndexedHeader) (t : Table EntryRecord) → AreRecorded is hs t → is_linked_at f.list f.linked.handle (index_at h.pt is) ≡ true → AreRecorded (indices_after f h is) hs (unlinked_after f h t)
+recorded-settled f h is hs t a e =
+    let w = recorded-on f.linked.handle is hs t a (linked-anywhere f.list f.linked.handle h.pt is e) in
     elim (is_over f.linked h) as (λ b. is_over f.linked h ≡ b → AreRecorded (indices_after f h is) hs (if b then recorded_by f.linked.handle not_linked t else t)) [
-      | true ↦ λ over. rw (settled-over f h is hs t a e over) (placed-unlinked f.linked.handle w.0 is hs t a w.1)
-      | false ↦ λ over. placed-same h.pt is hs t (settled_at f h (get_or is h.pt None)) a (λ p. index-stays f h p h.pt (get_or is h.pt None) over)
+      | true ↦ λ over. rw (settled-over f h is hs t a e over) (recorded-unlinked f.linked.handle w.0 is hs t a w.1)
+      | false ↦ λ over. recorded-same h.pt is hs t (settled_at f h (get_or is h.pt None)) a (λ p. index-stays f h p h.pt (get_or is h.pt None) over)
     ] refl
 
 pub many-settled : (f : Found) (h : Header) (is : List (Option Index)) (hs : List IndexedHeader) (t : Table EntryRecord) → AreRecorded is hs t → is_linked_at f.list f.linked.handle (index_at h.pt is) ≡ true → linked_after f h (sum_by entries_in is) ≡ sum_by entries_in (indices_after f h is)
 many-settled f h is hs t a e =
-    let w = placed-on f.linked.handle is hs t a (linked-anywhere f.list f.linked.handle h.pt is e) in
+    let w = recorded-on f.linked.handle is hs t a (linked-anywhere f.list f.linked.handle h.pt is e) in
     elim (is_over f.linked h) as (λ b. is_over f.linked h ≡ b → (if b then sum_by entries_in is - 1 else sum_by entries_in is) ≡ sum_by entries_in (indices_after f h is)) [
       | true ↦ λ over. rw (settled-over f h is hs t a e over) (omega (arith, one-off f.linked.handle w.0 is hs t a w.1 w.2))
       | false ↦ λ over. sym (same-many h.pt is (settled_at f h (get_or is h.pt None)) (λ p. index-stays f h p h.pt (get_or is h.pt None) over))
@@ -404,7 +404,7 @@ some-below [] d x e = cc
 some-below (y ∷ ys) zero x e = omega arith
 some-below (y ∷ ys) (suc d) x e = omega (arith, some-below ys d x e)
 
-index-push : (place : EntryList) (p : Handle → Option Handle → ℕ → Bool) (k : ℕ) (i : Index) (x : Linked) → index_by p k (linked_at place x (Some i)) ≡ index_by p k (Some i) + (if p x.handle x.entry.ct k then 1 else 0)
+index-push : (list : EntryList) (p : Handle → Option Handle → ℕ → Bool) (k : ℕ) (i : Index) (x : Linked) → index_by p k (linked_at list x (Some i)) ≡ index_by p k (Some i) + (if p x.handle x.entry.ct k then 1 else 0)
 index-push Priority p k i x = omega (arith, entries-push p k i.priority x)
 index-push Overflow p k i x = omega (arith, entries-push p k i.overflow x)
 
@@ -412,22 +412,22 @@ index-push Overflow p k i x = omega (arith, entries-push p k i.overflow x)
 abbrev pub fresh_at : ℕ → Option Handle → EntryRecord
 fresh_at pt ct = record { pt = pt; ct = ct; linked = true; headers = 0 }
 
-linked-more : (slot pt given : ℕ) (place : EntryList) (entry : Entry) (i : Index) (is : List (Option Index)) (p : Handle → Option Handle → ℕ → Bool) → index_at pt is ≡ Some i → linked_by p 0 (slice_set is pt (linked_at place (fresh (handle slot given) entry) (index_at pt is))) ≡ linked_by p 0 is + (if p (handle slot given) entry.ct pt then 1 else 0)
-linked-more slot pt given place entry i is p e =
+linked-more : (slot pt given : ℕ) (list : EntryList) (entry : Entry) (i : Index) (is : List (Option Index)) (p : Handle → Option Handle → ℕ → Bool) → index_at pt is ≡ Some i → linked_by p 0 (slice_set is pt (linked_at list (fresh (handle slot given) entry) (index_at pt is))) ≡ linked_by p 0 is + (if p (handle slot given) entry.ct pt then 1 else 0)
+linked-more slot pt given list entry i is p e =
     let x : Linked = fresh (handle slot given) entry in
     let z : 0 + pt ≡ pt = omega arith in
-    let s = rw (z, e) at (linked-set p 0 pt is (linked_at place x (get_or is pt None)) (some-below is pt i e)) in
-    let g = index-push place p pt i x in
+    let s = rw (z, e) at (linked-set p 0 pt is (linked_at list x (get_or is pt None)) (some-below is pt i e)) in
+    let g = index-push list p pt i x in
     rw e (omega arith)
 
 none-lies : (p : Handle → Bool) (h : Handle) (pt : ℕ) (ct : Option Handle) → headers_as p h (fresh_at pt ct) ≡ 0
 none-lies p h pt ct = elim (p h) as (λ b. (if b then (fresh_at pt ct).headers else 0) ≡ 0) [ true ↦ refl | false ↦ refl ]
 
-placed-linked_at : (slot pt : ℕ) (place : EntryList) (entry : Entry) (i : Index) (is : List (Option Index)) (hs : List IndexedHeader) (t : Table EntryRecord) → AreRecorded is hs t → index_at pt is ≡ Some i → has_slot slot t.live ≡ false → AreRecorded (slice_set is pt (linked_at place (fresh (handle slot t.given) entry) (index_at pt is))) hs (with_new slot (fresh_at pt entry.ct) t)
-placed-linked_at slot pt place entry i is hs t a e free =
+recorded-linked_at : (slot pt : ℕ) (list : EntryList) (entry : Entry) (i : Index) (is : List (Option Index)) (hs : List IndexedHeader) (t : Table EntryRecord) → AreRecorded is hs t → index_at pt is ≡ Some i → has_slot slot t.live ≡ false → AreRecorded (slice_set is pt (linked_at list (fresh (handle slot t.given) entry) (index_at pt is))) hs (with_new slot (fresh_at pt entry.ct) t)
+recorded-linked_at slot pt list entry i is hs t a e free =
     let x : Live EntryRecord = record { handle = handle slot t.given; value = fresh_at pt entry.ct } in
     record {
-      same = λ p. omega (arith, linked-more slot pt t.given place entry i is p e, sum-push (linked_as p) t.live x, a.same p);
+      same = λ p. omega (arith, linked-more slot pt t.given list entry i is p e, sum-push (linked_as p) t.live x, a.same p);
       lies = λ p. omega (arith, sum-push (headers_as p) t.live x, none-lies p x.handle pt entry.ct, a.lies p);
       once = once-new slot (fresh_at pt entry.ct) t a.once free;
       busy = omega (arith, sum-push idle_as t.live x, a.busy);
@@ -437,14 +437,14 @@ pub some-index : (o : Option Index) → is_some o ≡ true → (i : Index) × (o
 some-index None e = cc
 some-index (Some i) e = (i, refl)
 
-pub placed-linked : (slot pt : ℕ) (place : EntryList) (entry : Entry) (is : List (Option Index)) (hs : List IndexedHeader) (t : Table EntryRecord) → AreRecorded is hs t → is_some (index_at pt is) ≡ true → has_slot slot t.live ≡ false → AreRecorded (slice_set is pt (linked_at place (fresh (handle slot t.given) entry) (index_at pt is))) hs (with_new slot (fresh_at pt entry.ct) t)
-placed-linked slot pt place entry is hs t a there free = let i = some-index (index_at pt is) there in placed-linked_at slot pt place entry i.0 is hs t a i.1 free
+pub recorded-linked : (slot pt : ℕ) (list : EntryList) (entry : Entry) (is : List (Option Index)) (hs : List IndexedHeader) (t : Table EntryRecord) → AreRecorded is hs t → is_some (index_at pt is) ≡ true → has_slot slot t.live ≡ false → AreRecorded (slice_set is pt (linked_at list (fresh (handle slot t.given) entry) (index_at pt is))) hs (with_new slot (fresh_at pt entry.ct) t)
+recorded-linked slot pt list entry is hs t a there free = let i = some-index (index_at pt is) there in recorded-linked_at slot pt list entry i.0 is hs t a i.1 free
 
-pub many-linked : (slot pt given : ℕ) (place : EntryList) (entry : Entry) (is : List (Option Index)) → is_some (index_at pt is) ≡ true → sum_by entries_in (slice_set is pt (linked_at place (fresh (handle slot given) entry) (index_at pt is))) ≡ sum_by entries_in is + 1
-many-linked slot pt given place entry is there =
+pub many-linked : (slot pt given : ℕ) (list : EntryList) (entry : Entry) (is : List (Option Index)) → is_some (index_at pt is) ≡ true → sum_by entries_in (slice_set is pt (linked_at list (fresh (handle slot given) entry) (index_at pt is))) ≡ sum_by entries_in is + 1
+many-linked slot pt given list entry is there =
     let i = some-index (index_at pt is) there in
-    let ks : List (Option Index) = slice_set is pt (linked_at place (fresh (handle slot given) entry) (index_at pt is)) in
-    omega (arith, linked-more slot pt given place entry i.0 is any_handle i.1, linked-all 0 is, linked-all 0 ks)
+    let ks : List (Option Index) = slice_set is pt (linked_at list (fresh (handle slot given) entry) (index_at pt is)) in
+    omega (arith, linked-more slot pt given list entry i.0 is any_handle i.1, linked-all 0 is, linked-all 0 ks)
 
 -- ---- an index comes or goes
 
@@ -457,8 +457,8 @@ empty-by p k None e = refl
 empty-by p k (Some i) e = omega (arith, none-by p k i.priority (omega arith), none-by p k i.overflow (omega arith))
 
 -- an index without entries in the place of one without entries
-pub placed-empty : (pt : ℕ) (is : List (Option Index)) (hs : List IndexedHeader) (t : Table EntryRecord) (o : Option Index) → AreRecorded is hs t → entries_in o ≡ 0 → entries_in (index_at pt is) ≡ 0 → AreRecorded (set is pt o) hs t
-placed-empty pt is hs t o a none was = placed-same pt is hs t o a (λ p. empty-by p pt o none ∙ sym (empty-by p pt (index_at pt is) was))
+pub recorded-empty : (pt : ℕ) (is : List (Option Index)) (hs : List IndexedHeader) (t : Table EntryRecord) (o : Option Index) → AreRecorded is hs t → entries_in o ≡ 0 → entries_in (index_at pt is) ≡ 0 → AreRecorded (set is pt o) hs t
+recorded-empty pt is hs t o a none was = recorded-same pt is hs t o a (λ p. empty-by p pt o none ∙ sym (empty-by p pt (index_at pt is) was))
 
 pub many-empty : (pt : ℕ) (is : List (Option Index)) (o : Option Index) → entries_in o ≡ 0 → entries_in (index_at pt is) ≡ 0 → sum_by entries_in (set is pt o) ≡ sum_by entries_in is
 many-empty pt is o none was = same-many pt is o (λ p. empty-by p pt o none ∙ sym (empty-by p pt (index_at pt is) was))
@@ -467,8 +467,8 @@ none-linked : (p : Handle → Option Handle → ℕ → Bool) (k n : ℕ) → li
 none-linked p k zero = refl
 none-linked p k (suc n) = omega (arith, none-linked p (k + 1) n)
 
-pub placed-none : (n limit : ℕ) → AreRecorded (replicate n None) [] (no_things limit)
-placed-none n limit = record { same = λ p. none-linked p 0 n; lies = λ p. refl; once = λ h. omega arith; busy = refl }
+pub recorded-none : (n limit : ℕ) → AreRecorded (replicate n None) [] (no_things limit)
+recorded-none n limit = record { same = λ p. none-linked p 0 n; lies = λ p. refl; once = λ h. omega arith; busy = refl }
 
 pub many-none : (n : ℕ) → sum_by entries_in (replicate n None) ≡ 0
 many-none n = sym (linked-all 0 (replicate n None)) ∙ none-linked any_handle 0 n

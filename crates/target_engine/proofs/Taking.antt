@@ -10,22 +10,22 @@ use Rattle.ni_model.specs.Queues.{Waiting}
 use Rattle.ni_model.specs.Lists.{Index}
 use Rattle.ni_model.specs.Headers.{unexpected_list, finds, found_in}
 use Rattle.ni_model.specs.Events.{kind_taken}
-use Rattle.ni_model.specs.Append.{each_gone, counted_by, overflow_counter, told_gone}
+use Rattle.ni_model.specs.Append.{each_gone, counted_by, overflow_counter, gone_events}
 use Rattle.target_engine.specs.declared.entry_records.EntryRecord.{EntryRecord}
 use Rattle.target_engine.specs.PortalTable.{AreRecorded, frees_at, recorded_by, one_fewer}
 use Rattle.target_engine.specs.Sides.{side}
 use Rattle.target_engine.proofs.Headers.{unexpected-append}
-use Rattle.target_engine.proofs.Recorded.{HasOneOf, placed-fewer, placed-frees}
+use Rattle.target_engine.proofs.Recorded.{HasOneOf, recorded-fewer, recorded-frees}
 
 pub one-between : (left found : List IndexedHeader) (x : IndexedHeader) → HasOneOf x (left ++ x ∷ found) (left ++ found)
 one-between left found x = λ p. omega (arith, unexpected-append p left (x ∷ found), unexpected-append p left found)
 
-pub taken-told : (is : List (Option Index)) (left found : List IndexedHeader) (x : IndexedHeader) (t : Table EntryRecord) (eqs : Table Waiting) → AreRecorded is (left ++ x ∷ found) t → each_gone (side 0 0 is 0 (unexpected_list [] 0)) left found (told_gone (kind_taken x.header.header.kind) is (frees_at is t x) x eqs) ≡ each_gone (side 0 0 is 0 (unexpected_list [] 0)) left (x ∷ found) eqs
+pub taken-told : (is : List (Option Index)) (left found : List IndexedHeader) (x : IndexedHeader) (t : Table EntryRecord) (eqs : Table Waiting) → AreRecorded is (left ++ x ∷ found) t → each_gone (side 0 0 is 0 (unexpected_list [] 0)) left found (gone_events (kind_taken x.header.header.kind) is (frees_at is t x) x eqs) ≡ each_gone (side 0 0 is 0 (unexpected_list [] 0)) left (x ∷ found) eqs
 taken-told is left found x t eqs a =
-    ap (λ b. each_gone (side 0 0 is 0 (unexpected_list [] 0)) left found (told_gone (kind_taken x.header.header.kind) is b x eqs)) (placed-frees x is (left ++ x ∷ found) (left ++ found) t a (one-between left found x))
+    ap (λ b. each_gone (side 0 0 is 0 (unexpected_list [] 0)) left found (gone_events (kind_taken x.header.header.kind) is b x eqs)) (recorded-frees x is (left ++ x ∷ found) (left ++ found) t a (one-between left found x))
 
-pub taken-placed : (is : List (Option Index)) (left found : List IndexedHeader) (x : IndexedHeader) (t : Table EntryRecord) → AreRecorded is (left ++ x ∷ found) t → AreRecorded is (left ++ found) (recorded_by x.header.entry one_fewer t)
-taken-placed is left found x t a = placed-fewer x is (left ++ x ∷ found) (left ++ found) t a (one-between left found x)
+pub taken-recorded : (is : List (Option Index)) (left found : List IndexedHeader) (x : IndexedHeader) (t : Table EntryRecord) → AreRecorded is (left ++ x ∷ found) t → AreRecorded is (left ++ found) (recorded_by x.header.entry one_fewer t)
+taken-recorded is left found x t a = recorded-fewer x is (left ++ x ∷ found) (left ++ found) t a (one-between left found x)
 
 -- ---- the headers from one on, where the entry finds it and where it doesn't
 

@@ -1,4 +1,4 @@
--- A place of the portal table is seen as its index, where one is allocated: in the table, and after a change of one place.
+-- A portal table entry is seen as its index, where one is allocated: in the table, and after a change of one place.
 use Rattle.std.proofs.Common.{◌≡◌, ℕ, ◌+◌, ◌<◌, ◌≤◌, Bool, true, false, List, Option, Some, None, length, get_or, set, ◌++◌, [], ◌∷◌, if◌then◌else◌, refl, ap, sym, ◌∙◌, arith, replicate}
 use Rattle.std.specs.Prelude.{All, is_some}
 use Rattle.std.proofs.lemmas.List.{map-set, get_or-map, get_or_past, length-map}
@@ -130,8 +130,8 @@ pub linked-portal_entry : (list : EntryList) (x : Linked) (i : PortalEntry) (mos
 linked-portal_entry Priority x i most slots given on k = record { limit = k.limit; slots = k.slots; few = omega (arith, k.few); empty = λ off. let both : true ≡ false = sym on ∙ off in cc }
 linked-portal_entry Overflow x i most slots given on k = record { limit = k.limit; slots = k.slots; few = omega (arith, k.few); empty = λ off. let both : true ≡ false = sym on ∙ off in cc }
 
-pub placed-portal_entry : (allocated : Bool) (eq : Option Handle) (i : PortalEntry) (most slots given : ℕ) → AreEmpty i.lists → IsPortalEntry most slots given i → IsPortalEntry most slots given (record { allocated = allocated; eq = eq; lists = i.lists })
-placed-portal_entry allocated eq i most slots given empty k = record { limit = k.limit; slots = k.slots; few = k.few; empty = λ off. empty }
+pub recorded-portal_entry : (allocated : Bool) (eq : Option Handle) (i : PortalEntry) (most slots given : ℕ) → AreEmpty i.lists → IsPortalEntry most slots given i → IsPortalEntry most slots given (record { allocated = allocated; eq = eq; lists = i.lists })
+recorded-portal_entry allocated eq i most slots given empty k = record { limit = k.limit; slots = k.slots; few = k.few; empty = λ off. empty }
 
 pub portal_entry-more : (i : PortalEntry) (most slots m n : ℕ) → m ≤ n → IsPortalEntry most slots m i → IsPortalEntry most slots n i
 portal_entry-more i most slots m n le k = record { limit = k.limit; slots = k.slots; few = omega (arith, k.few); empty = k.empty }

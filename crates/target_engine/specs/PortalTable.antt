@@ -3,14 +3,13 @@ use Rattle.std.specs.Prelude.{ℕ, ◌≡◌, ◌≤◌, ◌<◌, ◌+◌, ◌-�
 use Rattle.std.specs.Prelude.{Option, Some, None, map, find, All, if◌then◌else◌}
 use Rattle.std.specs.Borrow.{Bor}
 use Rattle.ptl_types.specs.declared.handles.Handle.{Handle}
-use Rattle.ptl_types.specs.Handles.{same_handle}
 use Rattle.match_lists.specs.Lists.{Both, both, linked_count, has_slot, is_named, without_entry, advanced_to}
 use Rattle.ptl_types.specs.declared.entries.List.TheVariants.{Priority, Overflow}
 use Rattle.ni_model.specs.declared.Linked.{Linked}
 use Rattle.ni_model.specs.declared.Found.{Found}
 use Rattle.ni_model.specs.declared.IndexedHeader.{IndexedHeader}
 use Rattle.ptl_types.specs.declared.headers.Header.{Header}
-use Rattle.ni_model.specs.Tables.{Live, Table, lookup, changed, without, with_new}
+use Rattle.ni_model.specs.Tables.{Table, lookup, changed, without, with_new}
 use Rattle.ni_model.specs.Arrive.{or_else, is_over, running_after}
 use Rattle.ni_model.specs.Headers.{UnexpectedList, is_of}
 use Rattle.ni_model.specs.Lists.{Index, index_at, queue_of, entries_in, is_linked_at, advanced}
@@ -25,7 +24,7 @@ use Rattle.target_engine.specs.declared.entry_records.Records.{Records}
 abbrev pub index : Option Handle → Both → Index
 index eq b = record { eq = eq; priority = b.priority; overflow = b.overflow }
 
--- one place of the portal table, and all of them
+-- one portal table entry, and all of them
 abbrev pub seen : PortalEntry → Option Index
 seen i = if i.allocated then Some (index i.eq i.lists) else None
 
@@ -46,7 +45,7 @@ AreEmpty b = (b.priority ≡ []) × (b.overflow ≡ [])
 abbrev pub HasLists : PortalEntry → Type 0
 HasLists i = i.allocated ≡ false → AreEmpty i.lists
 
--- a place of the portal table: its lists have room for as many entries as may be linked, and a slot for each record; they took no
+-- a portal table entry: its lists have room for as many entries as may be linked, and a slot for each record; they took no
 -- more entries than stamps were given; they are empty where no index is allocated
 pub record IsPortalEntry (most records given : ℕ) (i : PortalEntry) : Type 0 where
   pub limit : i.lists.limit ≡ most
@@ -243,7 +242,7 @@ records_after f h r = record r { by_entry = unlinked_after f h r.by_entry; cts =
 -- what a target keeps: the records agree with its entries and headers, the lists and the table of records have room, and the
 -- lists a slot for each record; `linked` counts the linked entries, and no more headers wait than may
 pub record IsKept (most : ℕ) (is : List PortalEntry) (linked : ℕ) (by_entry : Table EntryRecord) (hs : UnexpectedList) : Type 0 where
-  pub placed : AreRecorded (map seen is) hs.unexpected by_entry
+  pub recorded : AreRecorded (map seen is) hs.unexpected by_entry
   pub portal_entries : All (IsPortalEntry most (most + hs.limit) by_entry.given) is
   pub limit : by_entry.limit ≡ most + hs.limit
   pub count : linked ≡ sum_by entries_in (map seen is)

@@ -32,10 +32,10 @@ SlotBelow n (IsLinked h) = h.slot < n
 SlotBelow n (Consumed x) = Unit {0}
 
 -- the append, with some slot that no linked entry has
-pub record AppendsSome (pt : ℕ) (place : EntryList) (e : Entry) (old : Parts) (end : Appends) : Type 0 where
+pub record AppendsSome (pt : ℕ) (list : EntryList) (e : Entry) (old : Parts) (end : Appends) : Type 0 where
   pub slot : ℕ
   pub free : entry_slot old.side.indices slot ≡ false
-  pub ended : end ≡ append slot pt place e old
+  pub ended : end ≡ append slot pt list e old
 
 -- the counting event of each entry of an index, if it has one, is ct or has another slot
 abbrev pub EntriesAlone : Handle → Option Index → Type 0

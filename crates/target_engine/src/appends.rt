@@ -39,7 +39,7 @@ impl Target {
         ensures free { entry_slot self.old.indices result.slot ≡ false }
         ensures below { result.slot < self.old.limit + self.old.headers.limit }
         ensures linked { self.new ≡ link_side result.slot pt list entry self.old }
-        ensures told { eqs.new ≡ raised (queue_at pt self.old) (link_event pt entry.match_bits) eqs.old }
+        ensures events { eqs.new ≡ raised (queue_at pt self.old) (link_event pt entry.match_bits) eqs.old }
     {
         let record = EntryRecord {
             pt,

@@ -50,8 +50,8 @@ fn record_anew(by_entry: &mut Store<EntryRecord>, entry: Handle, to: EntryRecord
 {
     if to.is_idle() {
         let _ = by_entry.remove(entry);
-    } else if let Some(placed) = by_entry.get_mut(entry) {
-        *placed = to;
+    } else if let Some(recorded) = by_entry.get_mut(entry) {
+        *recorded = to;
     }
 }
 
@@ -60,7 +60,7 @@ pub fn linked_record(by_entry: &Store<EntryRecord>, entry: Handle) -> Option<Ent
     ensures { result ≡ where_on (lookup entry by_entry.now.live) }
 {
     match by_entry.get(entry) {
-        Some(placed) if placed.linked => Some(*placed),
+        Some(recorded) if recorded.linked => Some(*recorded),
         _ => None,
     }
 }
@@ -70,7 +70,7 @@ pub fn headers_of(by_entry: &Store<EntryRecord>, entry: Handle) -> u64
     ensures { result ≡ headers_in (lookup entry by_entry.now.live) }
 {
     match by_entry.get(entry) {
-        Some(placed) => placed.headers,
+        Some(recorded) => recorded.headers,
         None => 0,
     }
 }
@@ -80,9 +80,16 @@ pub fn add_header(by_entry: &mut Store<EntryRecord>, entry: Handle)
     requires { headers_in (lookup entry by_entry.old.live) < 2 ^ 32 }
     ensures { by_entry.new ≡ recorded_by entry one_more by_entry.old }
 {
-    if let Some(placed) = by_entry.get(entry).copied() {
-        let headers = placed.headers + 1;
-        record_anew(by_entry, entry, EntryRecord { headers, ..placed });
+    if let Some(recorded) = by_entry.get(entry).copied() {
+        let headers = recorded.headers + 1;
+        record_anew(
+            by_entry,
+            entry,
+            EntryRecord {
+                headers,
+                ..recorded
+            },
+        );
     }
 }
 
@@ -90,9 +97,16 @@ pub fn add_header(by_entry: &mut Store<EntryRecord>, entry: Handle)
 pub fn drop_header(by_entry: &mut Store<EntryRecord>, entry: Handle)
     ensures { by_entry.new ≡ recorded_by entry one_fewer by_entry.old }
 {
-    if let Some(placed) = by_entry.get(entry).copied() {
-        let headers = placed.headers.saturating_sub(1);
-        record_anew(by_entry, entry, EntryRecord { headers, ..placed });
+    if let Some(recorded) = by_entry.get(entry).copied() {
+        let headers = recorded.headers.saturating_sub(1);
+        record_anew(
+            by_entry,
+            entry,
+            EntryRecord {
+                headers,
+                ..recorded
+            },
+        );
     }
 }
 
@@ -100,13 +114,13 @@ pub fn drop_header(by_entry: &mut Store<EntryRecord>, entry: Handle)
 pub fn unlink_record(records: &mut Records, entry: Handle)
     ensures { records.new ≡ unlinked_records entry records.old }
 {
-    if let Some(placed) = records.by_entry.get(entry).copied() {
-        records.cts.remove(where_set(placed.linked, placed.ct));
+    if let Some(recorded) = records.by_entry.get(entry).copied() {
+        records.cts.remove(where_set(recorded.linked, recorded.ct));
         let linked = false;
         record_anew(
             &mut records.by_entry,
             entry,
-            EntryRecord { linked, ..placed },
+            EntryRecord { linked, ..recorded },
         );
     }
 }

@@ -1,6 +1,6 @@
 //! What a message does to the region, and what it is answered with.
 
-ghost use Rattle.std.specs.Prelude.{◌≡◌, ◌+◌, ◌≤◌, ◌<◌, ◌/◌, ◌%◌, true, false, ◌⊎◌, [], IsTrue, is_some, length, take};
+ghost use Rattle.std.specs.Prelude.{◌≡◌, ◌+◌, ◌≤◌, ◌<◌, ◌%◌, true, false, ◌⊎◌, [], IsTrue, is_some, length, take};
 ghost use Rattle.ptl_types.specs.Elements.{part, written};
 ghost use Rattle.ptl_types.specs.Operations.{bytes_of};
 ghost use Rattle.ptl_types.specs.Kinds.{is_answer, has_op, is_swap, has_elements};

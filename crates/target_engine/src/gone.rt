@@ -3,7 +3,7 @@
 ghost use Rattle.std.specs.Prelude.{◌≡◌};
 ghost use Rattle.ni_model.specs.Lists.{index_at, is_linked_at};
 ghost use Rattle.ni_model.specs.Events.{header_event, kind_taken};
-ghost use Rattle.ni_model.specs.Append.{told_gone};
+ghost use Rattle.ni_model.specs.Append.{gone_events};
 ghost use Rattle.target_engine.specs.PortalTable.{seen_in, frees_at, without_header};
 
 use crate::entry_records::{Records, drop_header, headers_of};
@@ -64,7 +64,7 @@ pub fn raise_gone(
     gone: &IndexedHeader,
     freed: bool,
 )
-    ensures { eqs.new ≡ told_gone kind (seen_in indices.now) freed gone.now eqs.old }
+    ensures { eqs.new ≡ gone_events kind (seen_in indices.now) freed gone.now eqs.old }
 {
     let eq = queue_at(indices, gone.pt);
     raise(eqs, eq, header_event(kind, gone));

@@ -1,4 +1,4 @@
-//! A place of the portal table: whether an index is allocated there, its event queue and its two lists.
+//! A portal table entry: whether an index is allocated there, its event queue and its two lists.
 
 ghost use Rattle.std.specs.Prelude.{◌≡◌, ◌+◌, ◌++◌, ◌∷◌, [], ℕ, true, None, Some, All, IfOk, is_some, nat_lt, slice_set};
 ghost use Rattle.ptl_types.specs.Kinds.{is_put_or_atomic};
@@ -18,7 +18,7 @@ use std::alloc::Global;
 use std::marker::Brand;
 use std::sync::ledger::{Blank, Ledger};
 
-/// A place of the portal table. It has its two lists, with all their room, from the opening on.
+/// A portal table entry. It has its two lists, with all their room, from the opening on.
 #[derive(Drop)]
 pub struct Index {
     /// Whether an index is allocated here. Where none is, the lists are empty.
@@ -85,7 +85,7 @@ fn settle<L: Ledger>(blank: Blank, lists: &mut Lists, found: &Found, header: &He
 }
 
 impl Index {
-    /// A place where no index is allocated, whose lists have room for `entries` entries with slots below `slots`.
+    /// A portal table entry where no index is allocated, whose lists have room for `entries` entries with slots below `slots`.
     pub fn new(alloc: Global, entries: u32, slots: u32) -> Result<Index, NoMemory>
         ensures { IfOk result (IsUnused entries slots) }
     {
@@ -197,7 +197,7 @@ pub fn queue_at(indices: &[Index], pt: u32) -> Option<Handle>
     }
 }
 
-/// Allocates an index with this event queue at a place without entries.
+/// Allocates an index with this event queue at a portal table entry without match entries.
 pub fn allocate_at(indices: &mut [Index], pt: u32, eq: Option<Handle>)
     requires empty { entries_in (index_at pt (seen_in indices.old)) ≡ 0 }
     requires lists { All HasLists indices.old }
@@ -210,7 +210,7 @@ pub fn allocate_at(indices: &mut [Index], pt: u32, eq: Option<Handle>)
     }
 }
 
-/// Frees the index at a place without entries.
+/// Frees the index at a portal table entry without match entries.
 pub fn free_at(indices: &mut [Index], pt: u32)
     requires empty { entries_in (index_at pt (seen_in indices.old)) ≡ 0 }
     requires lists { All HasLists indices.old }

@@ -1,6 +1,6 @@
 //! How much of a message an entry takes, where, and what becomes of the entry.
 
-ghost use Rattle.std.specs.Prelude.{◌≡◌, ◌+◌, ◌<◌, ◌≤◌, ◌^◌, ◌%◌, true};
+ghost use Rattle.std.specs.Prelude.{◌≡◌, ◌+◌, ◌<◌, ◌^◌, ◌%◌, true};
 ghost use Rattle.ptl_types.specs.Kinds.{is_put_or_atomic, has_elements};
 ghost use Rattle.ni_model.specs.Arrive.{whole, delivered, place, running_after, is_over};
 

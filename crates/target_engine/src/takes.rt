@@ -4,7 +4,7 @@ ghost use Rattle.std.specs.Prelude.{◌≡◌, [], None, length};
 ghost use Rattle.ni_model.specs.Counts.{counted, successes};
 ghost use Rattle.ni_model.specs.Headers.{unexpected_list, found_in, left_in};
 ghost use Rattle.ni_model.specs.Events.{kind_taken};
-ghost use Rattle.ni_model.specs.Append.{overflow_counter, each_counted, each_gone, counted_by, told_gone};
+ghost use Rattle.ni_model.specs.Append.{overflow_counter, each_counted, each_gone, counted_by, gone_events};
 ghost use Rattle.target_engine.specs.PortalTable.{seen_in, AreRecorded, AreCounted, frees_at, without_header};
 ghost use Rattle.target_engine.specs.Sides.{side};
 
@@ -37,7 +37,7 @@ pub fn take_header(
 )
     ensures counts { cts.new ≡ counted (overflow_counter entry.now) (successes 1) cts.old }
     ensures gone { records.new ≡ without_header gone.now records.old }
-    ensures told { eqs.new ≡ told_gone (kind_taken gone.now.header.header.kind) (seen_in indices.now) (frees_at (seen_in indices.now) records.old.by_entry gone.now) gone.now eqs.old }
+    ensures events { eqs.new ≡ gone_events (kind_taken gone.now.header.header.kind) (seen_in indices.now) (frees_at (seen_in indices.now) records.old.by_entry gone.now) gone.now eqs.old }
 {
     count(cts, overflow_counter(entry), successes(1));
     let freed = frees(indices, records, gone);
@@ -61,16 +61,16 @@ pub fn take_found(
     pt: u32,
     entry: &Entry,
 ) -> Option<Handle>
-    requires placed { AreRecorded (seen_in indices.now) headers.old.unexpected records.old.by_entry }
+    requires recorded { AreRecorded (seen_in indices.now) headers.old.unexpected records.old.by_entry }
     requires counted { AreCounted headers.old.unexpected records.old }
-    ensures placed { AreRecorded (seen_in indices.now) (left_in pt entry.now headers.old.unexpected) records.new.by_entry }
+    ensures recorded { AreRecorded (seen_in indices.now) (left_in pt entry.now headers.old.unexpected) records.new.by_entry }
     ensures users { AreCounted (left_in pt entry.now headers.old.unexpected) records.new }
     ensures long { length records.new.waiting ≡ length records.old.waiting }
     ensures given { records.new.by_entry.given ≡ records.old.by_entry.given }
     ensures limit { records.new.by_entry.limit ≡ records.old.by_entry.limit }
     ensures left { headers.new ≡ unexpected_list (left_in pt entry.now headers.old.unexpected) headers.old.limit }
     ensures counts { cts.new ≡ each_counted (overflow_counter entry.now) (found_in pt entry.now headers.old.unexpected) cts.old }
-    ensures told { eqs.new ≡ each_gone (side 0 0 (seen_in indices.now) 0 (unexpected_list [] 0)) (left_in pt entry.now headers.old.unexpected) (found_in pt entry.now headers.old.unexpected) eqs.old }
+    ensures events { eqs.new ≡ each_gone (side 0 0 (seen_in indices.now) 0 (unexpected_list [] 0)) (left_in pt entry.now headers.old.unexpected) (found_in pt entry.now headers.old.unexpected) eqs.old }
     ensures counted { result ≡ counted_by entry.now (found_in pt entry.now headers.old.unexpected) }
 {
     let mut kept = 0;

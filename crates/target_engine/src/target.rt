@@ -175,14 +175,14 @@ impl Target {
 
     /// Header number i of an index in the order of arrival, from 0; `None` exactly where the index has no more than i.
     pub fn header(&self, pt: u32, i: u32) -> Option<&UnexpectedHeader>
-        ensures told { option_copied result ≡ header_at pt i self.now.headers.unexpected }
+        ensures value { option_copied result ≡ header_at pt i self.now.headers.unexpected }
     {
         self.headers.at(pt, i)
     }
 
     /// The headers of all indices, in the order of arrival.
     pub fn headers(&self) -> &[IndexedHeader]
-        ensures told { result.now ≡ self.now.headers.unexpected }
+        ensures value { result.now ≡ self.now.headers.unexpected }
     {
         self.headers.as_slice()
     }

@@ -47,14 +47,14 @@ impl Target {
         ensures ok { OnOk result (unlink_fault me self.old ≡ None) }
         ensures unlinked { OnOk result (self.new ≡ record self.old { indices = map (unlinked_in me) self.old.indices }) }
     {
-        let placed = match linked_record(&self.records.by_entry, me) {
-            Some(placed) => placed,
+        let recorded = match linked_record(&self.records.by_entry, me) {
+            Some(recorded) => recorded,
             None => return Err(NiFault::Stale),
         };
-        if placed.headers > 0 {
+        if recorded.headers > 0 {
             return Err(NiFault::InUse);
         }
-        unlink_at(&mut self.indices, placed.pt, me);
+        unlink_at(&mut self.indices, recorded.pt, me);
         unlink_record(&mut self.records, me);
         self.linked = self.linked.saturating_sub(1);
         Ok(())
@@ -64,7 +64,7 @@ impl Target {
     /// up entry by entry. Condition: no entry names another counting event of this slot.
     pub fn names_ct(&self, ct: Handle) -> bool
         requires alone { All (EntriesAlone ct) self.now.indices }
-        ensures told { result ≡ index_names_ct ct self.now.indices }
+        ensures value { result ≡ index_names_ct ct self.now.indices }
     {
         match self.records.cts.at(ct.slot) {
             Some(users) => users > 0,
@@ -75,7 +75,7 @@ impl Target {
     /// Whether a portal table index has the event queue, likewise. Condition: no index has another queue of this slot.
     pub fn names_eq(&self, eq: Handle) -> bool
         requires alone { All (λ o. IsAlone eq (queue_of o)) self.now.indices }
-        ensures told { result ≡ index_names_eq eq self.now.indices }
+        ensures value { result ≡ index_names_eq eq self.now.indices }
     {
         match self.eqs.at(eq.slot) {
             Some(users) => users > 0,

@@ -27,7 +27,7 @@ const MOST: u32 = 1 << 27;
 /// With n that wait, `len` and `ready_count` take a constant number of steps, and `post` (over many of them), `is_ready`, `ready`,
 /// `ready_at`, `get`, `next` and `take` the order of log n. `reached` takes as many, and as many again for each operation that
 /// becomes due or no longer is, however many wait on that counting event; `cancel` for each that waits on it. `at` passes over the
-/// operations before its place.
+/// operations before its position.
 #[derive(Drop)]
 pub struct Pending<D> {
     operations: BTreeMap<u32, PostedOperation<D>>,
@@ -64,14 +64,14 @@ impl<D> Pending<D> {
 
     /// How many numbers were given; the next is this one.
     pub fn given(&self) -> u32
-        ensures told { result ≡ self.now.given }
+        ensures value { result ≡ self.now.given }
     {
         self.given
     }
 
     /// Whether none can be posted: as many wait as may, or all 2^32 - 1 numbers were given.
     pub fn is_full(&self) -> bool
-        ensures told { result ≡ is_full self.now }
+        ensures value { result ≡ is_full self.now }
     {
         self.operations.len() >= self.limit as usize || self.given == u32::MAX
     }
@@ -97,7 +97,7 @@ impl<D> Pending<D> {
 
     /// Whether the operation of this number waits and is due.
     pub fn is_ready(&self, number: u32) -> bool
-        ensures told { result ≡ is_ready number self.now }
+        ensures value { result ≡ is_ready number self.now }
     {
         match self.operations.get(&number) {
             Some(held) => held.due,
@@ -107,16 +107,16 @@ impl<D> Pending<D> {
 
     /// How many are due.
     pub fn ready_count(&self) -> u32
-        ensures told { result ≡ length (due_numbers self.now) }
+        ensures value { result ≡ length (due_numbers self.now) }
         ensures kept { IsKept self.now }
     {
         self.marks.count() as u32
     }
 
-    /// The number of the one at place `i` among them, by rising number, from 0.
+    /// The number of the one at position `i` among them, by rising number, from 0.
     pub fn ready_at(&self, i: u32) -> u32
         requires { i < length (due_numbers self.now) }
-        ensures told { slice_get (due_numbers self.now) i ≡ Some result }
+        ensures value { slice_get (due_numbers self.now) i ≡ Some result }
         ensures kept { IsKept self.now }
     {
         // Brings to the proof that the marked numbers rise.
@@ -135,7 +135,7 @@ impl<D> Pending<D> {
         }
     }
 
-    /// The number, deed, counting event and threshold of the operation at place `i` by rising number, from 0; `None` exactly
+    /// The number, deed, counting event and threshold of the operation at position `i` by rising number, from 0; `None` exactly
     /// where no more than `i` wait.
     pub fn at(&self, i: u32) -> Option<(u32, &D, Handle, u64)>
         ensures found { IfSome result (λ p. option_map numbered (slice_get self.now.waiting i) ≡ Some (p.0, p.1.now, p.2, p.3)) }

@@ -46,7 +46,7 @@ fn raise<D>(
 /// Where a search upwards goes on after an operation.
 fn just_after(threshold: u64, number: u32) -> (u64, u32)
     requires { number < 2 ^ 32 - 1 }
-    ensures place { (result.0 ≡ threshold) × (result.1 ≡ number + 1) }
+    ensures value { (result.0 ≡ threshold) × (result.1 ≡ number + 1) }
     ensures range { result.0 < 2 ^ 64 }
 {
     (threshold, number + 1)

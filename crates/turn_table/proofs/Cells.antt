@@ -1,6 +1,6 @@
 -- What stays of the rule when one slot and one seat move.
 use Rattle.std.proofs.Common.{◌≡◌, ◌≢◌, ℕ, ◌+◌, ◌<◌, List, length, get_or, set, sym, ap, ◌∙◌, subst, ⊎_elim, arith, length-set, get_or-set_other}
-use mathlib.Core.Option.{some, none, some-injective}
+use mathlib.Core.Option.{some, some-injective}
 use mathlib.Core.Option as maybe
 use mathlib.Core.List.{IsPrefix}
 use native.Mathlib.Decide.{ℕ_discrete}

@@ -27,7 +27,7 @@ pub struct Turns<T: Past> {
 }
 
 impl<T: Past> Model for Turns<T> {
-    ghost use Rattle.std.specs.Prelude.{◌≡◌, ◌<◌, length};
+    ghost use Rattle.std.specs.Prelude.{◌<◌};
     ghost use Rattle.turn_table.specs.States.{TableState, IsSized};
 
     ghost Value = { TableState T };

@@ -1,7 +1,7 @@
 //! The unexpected headers of an interface, in the order of arrival (Portals 4.3, unexpected messages).
 #![tactic(auto)]
 
-ghost use Rattle.std.specs.Prelude.{◌≡◌, ◌<◌, ◌≤◌, ◌+◌, ◌++◌, ◌∷◌, [], ◌↔◌, IsTrue, IfOk, vec_capacity, vec_len, drop, take, slice_set, IfNone, IfSome, Some, None, slice_index_or, remove, length, option_copied};
+ghost use Rattle.std.specs.Prelude.{◌≡◌, ◌<◌, ◌≤◌, ◌+◌, ◌++◌, ◌∷◌, [], IfOk, vec_capacity, vec_len, drop, take, slice_set, IfNone, IfSome, Some, None, slice_index_or, remove, length, option_copied};
 ghost use Rattle.ni_model.specs.declared.IndexedHeader.{IndexedHeader};
 ghost use Rattle.ni_model.specs.Headers.{unexpected_list, allows, finds, oldest, without_oldest, names_entry, no_room};
 ghost use Rattle.unexpected.specs.Places.{indexed_header, header_at};
@@ -35,8 +35,8 @@ pub fn finds(unexpected: &IndexedHeader, pt: u32, entry: &Entry) -> bool
         && allows(entry, unexpected.header.header.kind)
 }
 
-/// The place of the oldest header that the entry finds, counted from the oldest of all.
-fn place_of(unexpected: &[IndexedHeader], pt: u32, entry: &Entry) -> Option<usize>
+/// The position of the oldest header that the entry finds, counted from the oldest of all.
+fn position_of(unexpected: &[IndexedHeader], pt: u32, entry: &Entry) -> Option<usize>
     ensures none { IfNone result ((oldest pt entry.now unexpected.now ≡ None) × (without_oldest pt entry.now unexpected.now ≡ unexpected.now)) }
     ensures within { IfSome result (λ i. i < length unexpected.now) }
     ensures some { IfSome result (λ i. (d : IndexedHeader) → (oldest pt entry.now unexpected.now ≡ Some (slice_index_or unexpected.now i d)) × (without_oldest pt entry.now unexpected.now ≡ remove unexpected.now i)) }
@@ -89,16 +89,16 @@ fn number_of(unexpected: &[IndexedHeader], pt: u32, i: u32) -> Option<&Unexpecte
     None
 }
 
-/// Takes the header at a place after the first `gone` ones out: the older of them move up by one place.
+/// Takes the header at a position after the first `gone` ones out: the older of them move up by one place.
 fn take_after(unexpected: &mut [IndexedHeader], gone: usize, at: usize) -> IndexedHeader
     requires { gone + at < length unexpected.old }
     ensures taken { (d : IndexedHeader) → result ≡ slice_index_or (drop gone unexpected.old) at d }
     ensures rest { drop (gone + 1) unexpected.new ≡ remove (drop gone unexpected.old) at }
     ensures len { length unexpected.new ≡ length unexpected.old }
 {
-    let place = gone + at;
-    let taken = unexpected[place];
-    unexpected[gone..place + 1].rotate_right(1);
+    let position = gone + at;
+    let taken = unexpected[position];
+    unexpected[gone..position + 1].rotate_right(1);
     taken
 }
 
@@ -175,7 +175,7 @@ impl Headers {
         ensures rest { self.new ≡ unexpected_list (without_oldest pt entry.now self.old.unexpected) self.old.limit }
         ensures none { IfNone result (self.new ≡ self.old) }
     {
-        let at = place_of(self.as_slice(), pt, entry)?;
+        let at = position_of(self.as_slice(), pt, entry)?;
         let taken = take_after(&mut self.unexpected, self.gone, at);
         self.gone += 1;
         Some(taken)
@@ -195,12 +195,12 @@ impl Headers {
         &self.unexpected[self.gone..]
     }
 
-    /// Puts a header at a place, counted from the oldest, over the one that stands there.
-    pub fn put_at(&mut self, place: usize, unexpected: IndexedHeader)
-        requires { place < length self.old.unexpected }
-        ensures { self.new ≡ unexpected_list (slice_set self.old.unexpected place unexpected) self.old.limit }
+    /// Puts a header at a position, counted from the oldest, over the one that stands there.
+    pub fn put_at(&mut self, position: usize, unexpected: IndexedHeader)
+        requires { position < length self.old.unexpected }
+        ensures { self.new ≡ unexpected_list (slice_set self.old.unexpected position unexpected) self.old.limit }
     {
-        let at = self.gone + place;
+        let at = self.gone + position;
         self.unexpected[at] = unexpected;
     }
 

@@ -39,7 +39,7 @@ impl Users {
 
     /// How many users the thing of a slot has; `None` exactly where the row has no such slot.
     pub fn at(&self, slot: u32) -> Option<u64>
-        ensures told { result ≡ slice_get self.now slot }
+        ensures value { result ≡ slice_get self.now slot }
     {
         self.counts.get(slot as usize).copied()
     }
@@ -47,7 +47,7 @@ impl Users {
     /// Whether the thing of a slot has users. Condition: the row has that slot.
     pub fn is_used(&self, slot: u32) -> bool
         requires within { slot < length self.now }
-        ensures told { result ≡ nat_lt 0 (count_at slot self.now) }
+        ensures value { result ≡ nat_lt 0 (count_at slot self.now) }
     {
         self.counts[slot as usize] > 0
     }

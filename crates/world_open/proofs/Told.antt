@@ -11,27 +11,27 @@ use Rattle.world_parts.specs.Marks.{gated, lane_has}
 use Rattle.world_parts.proofs.Gated.{gate_right, gated_size}
 use Rattle.world_parts.proofs.Placed.{lane_apart}
 use Rattle.world_parts.proofs.Sets.{at_set}
-use Rattle.world_open.specs.Frames.{IsTold}
+use Rattle.world_open.specs.Frames.{IsSameButGates}
 
-pub untold : (x : NodeState) → IsTold x x
+pub untold : (x : NodeState) → IsSameButGates x x
 untold x = record { same = refl; wide = refl }
 
-pub told_after : (x y z : NodeState) → IsTold x y → IsTold y z → IsTold x z
+pub told_after : (x y z : NodeState) → IsSameButGates x y → IsSameButGates y z → IsSameButGates x z
 told_after x y z a b = record {
   same = b.same ∙ ap (λ (k : NodeState). let n : NodeState = record k { closed = z.closed } in n) a.same;
   wide = b.wide ∙ a.wide;
 }
 
-one_told : (x : NodeState) (d : ℕ) (b : Bool) → IsTold x (gated_node d b x)
+one_told : (x : NodeState) (d : ℕ) (b : Bool) → IsSameButGates x (gated_node d b x)
 one_told x d b = record { same = refl; wide = length-set x.closed d b }
 
 module _ (lanes : List Plain) (n window s d : ℕ) (nodes : List NodeState) (there : s < length nodes) where
   abbrev shut : Bool
   shut = not (lane_has lanes n window s d Request)
 
-  pub gate_told : (r : ℕ) → IsTold (node_at nodes r) (node_at (gated lanes n window s d nodes) r)
-  gate_told r = at_set (IsTold (node_at nodes r)) nodes s r (gated_node d shut (node_at nodes s)) no_node there
-      (λ e. subst (λ q. IsTold (node_at nodes q) (gated_node d shut (node_at nodes s))) (sym e) (one_told (node_at nodes s) d shut))
+  pub gate_told : (r : ℕ) → IsSameButGates (node_at nodes r) (node_at (gated lanes n window s d nodes) r)
+  gate_told r = at_set (IsSameButGates (node_at nodes r)) nodes s r (gated_node d shut (node_at nodes s)) no_node there
+      (λ e. subst (λ q. IsSameButGates (node_at nodes q) (gated_node d shut (node_at nodes s))) (sym e) (one_told (node_at nodes s) d shut))
       (λ x. untold (node_at nodes r))
 
   -- the gates of the pairs before, and this one
@@ -48,13 +48,13 @@ module _ (lanes : List Plain) (n window s d : ℕ) (nodes : List NodeState) (the
       ])
 
 -- the nodes after the first pairs of ranks
-pub record AreTold (n window : ℕ) (lanes : List Plain) (old nodes : List NodeState) (i : ℕ) : Type 0 where
+pub record AreGatedTo (n window : ℕ) (lanes : List Plain) (old nodes : List NodeState) (i : ℕ) : Type 0 where
   pub size : length nodes ≡ n
-  pub told : (r : ℕ) → IsTold (node_at old r) (node_at nodes r)
+  pub same : (r : ℕ) → IsSameButGates (node_at old r) (node_at nodes r)
   pub gates : (r d : ℕ) → r < n → d < n → r * n + d < i → get_or (node_at nodes r).closed d false ≡ not (lane_has lanes n window r d Request)
 
 module _ (n window : ℕ) (lanes : List Plain) (old nodes : List NodeState) (i : ℕ) (some : 0 < n) (h : i < n * n)
-    (wide : (r : ℕ) → r < n → length (node_at old r).closed ≡ n) (before : AreTold n window lanes old nodes i) where
+    (wide : (r : ℕ) → r < n → length (node_at old r).closed ≡ n) (before : AreGatedTo n window lanes old nodes i) where
   -- the ranks of the pair
   pub source_in : i / n < n
   source_in = div_below i n n some h
@@ -64,7 +64,7 @@ module _ (n window : ℕ) (lanes : List Plain) (old nodes : List NodeState) (i :
 
   pub told_inside : i % n < length (node_at nodes (i / n)).closed
   told_inside =
-      let a = (before.told (i / n)).wide in
+      let a = (before.same (i / n)).wide in
       let b = wide (i / n) source_in in
       let c = goal_in in
       omega (arith, a, b, c)
@@ -72,10 +72,10 @@ module _ (n window : ℕ) (lanes : List Plain) (old nodes : List NodeState) (i :
   there_in : i / n < length nodes
   there_in = let a = before.size in let b = source_in in omega (arith, a, b)
 
-  pub told_more : AreTold n window lanes old (gated lanes n window (i / n) (i % n) nodes) (i + 1)
+  pub told_more : AreGatedTo n window lanes old (gated lanes n window (i / n) (i % n) nodes) (i + 1)
   told_more = record {
     size = gated_size lanes n window (i / n) (i % n) nodes ∙ before.size;
-    told = λ r. told_after (node_at old r) (node_at nodes r) (node_at (gated lanes n window (i / n) (i % n) nodes) r) (before.told r)
+    same = λ r. told_after (node_at old r) (node_at nodes r) (node_at (gated lanes n window (i / n) (i % n) nodes) r) (before.same r)
         (gate_told lanes n window (i / n) (i % n) nodes there_in r);
     gates = λ r d hr hd k.
         let p = div-add-mod' i n in

@@ -34,6 +34,6 @@ pub record IsBare (p : Plan) (inputs : Inputs) (n : ℕ) (lanes : List Plain) (s
   pub sized : AreSized n lanes starts deliveries firings
 
 -- a node that was told which of its lanes have room: else it is as it was
-pub record IsTold (old new : NodeState) : Type 0 where
+pub record IsSameButGates (old new : NodeState) : Type 0 where
   pub same : new ≡ record old { closed = new.closed }
   pub wide : length new.closed ≡ length old.closed

@@ -9,7 +9,7 @@ ghost use Rattle.rank_node.specs.Node.{IsNode};
 ghost use Rattle.world_parts.specs.Keeps.{AreCounted};
 ghost use Rattle.world_parts.specs.Layout.{lane_at, node_at};
 ghost use Rattle.world_parts.specs.Marks.{delivery_count, delivery_mark, lane_has};
-ghost use Rattle.world_open.specs.Frames.{AreSized, IsBare, IsTold, frame_lane};
+ghost use Rattle.world_open.specs.Frames.{AreSized, IsBare, IsSameButGates, frame_lane};
 
 use crate::counting::{fill_firings, fill_starts};
 use crate::laying::{Room, lay_all};
@@ -89,7 +89,7 @@ fn gate_all(nodes: &mut [Node], lanes: &[PlainLane], ranks: u32, window: u64)
     requires lanes { length lanes.now ≡ 2 * (ranks * ranks) }
     requires wide { (r : ℕ) → r < ranks → length (node_at nodes.old r).closed ≡ ranks }
     ensures size { length nodes.new ≡ ranks }
-    ensures told { (r : ℕ) → IsTold (node_at nodes.old r) (node_at nodes.new r) }
+    ensures same { (r : ℕ) → IsSameButGates (node_at nodes.old r) (node_at nodes.new r) }
     ensures gates { (r d : ℕ) → r < ranks → d < ranks →
         slice_index_or (node_at nodes.new r).closed d false ≡ not (lane_has lanes.now ranks window r d Request) }
 {
@@ -154,7 +154,7 @@ pub fn mark_all(
     requires tasks { (r : ℕ) → r < ranks → (node_at nodes.old r).task.ranks ≡ ranks }
     ensures size { length nodes.new ≡ ranks }
     ensures kept { (r : ℕ) → r < ranks → IsNode (node_at nodes.old r) }
-    ensures told { (r : ℕ) → IsTold (node_at nodes.old r) (node_at nodes.new r) }
+    ensures same { (r : ℕ) → IsSameButGates (node_at nodes.old r) (node_at nodes.new r) }
     ensures counted { AreCounted ranks nodes.new lanes.now starts.new deliveries.new firings.new window }
 {
     kept(nodes);

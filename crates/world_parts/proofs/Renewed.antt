@@ -1,6 +1,6 @@
 -- The parts after a step, with the counts of the ranks and lanes that it touched made anew, are those of a world.
 use Rattle.std.proofs.Common.{ℕ, false, not, ◌+◌, ◌<◌, ◌≤◌, ◌≡◌, ◌∙◌, List, get_or, length, nat_lt, count_by, sum_by, sym, ap, ap₂, subst, arith}
-use Rattle.std.proofs.Math.ListN.{set, length-set}
+use Rattle.std.proofs.Math.ListN.{length-set}
 use Rattle.ptl_types.specs.declared.headers.Lane.{Lane}
 use Rattle.ptl_types.specs.declared.headers.Lane.TheVariants.{Request, Answer}
 use Rattle.pair_wires.specs.Lanes.{Plain}

@@ -1,6 +1,6 @@
 //! The steps of a world over its parts, each with the counts of what is possible made anew after it.
 
-ghost use Rattle.std.specs.Prelude.{ℕ, true, ◌≡◌, ◌<◌, ◌≤◌, ◌-◌, ◌*◌, ◌++◌, ◌∷◌, [], count_by, length, slice_set};
+ghost use Rattle.std.specs.Prelude.{true, ◌≡◌, ◌<◌, ◌≤◌, ◌-◌, ◌*◌, ◌++◌, ◌∷◌, [], count_by, length, slice_set};
 ghost use Rattle.ptl_types.specs.declared.headers.Lane.TheVariants.{Request};
 ghost use Rattle.pair_wires.specs.Lanes.{plain};
 ghost use Rattle.plan_core.specs.Plan.{Plan};

@@ -15,7 +15,7 @@ pub fn place(ranks: u32, s: Rank, d: Rank, lane: Lane) -> usize
     requires few { ranks ≤ 256 }
     requires source { s < ranks }
     requires goal { d < ranks }
-    ensures told { result ≡ lane_place ranks s d lane }
+    ensures value { result ≡ lane_place ranks s d lane }
     ensures inside { result < 2 * (ranks * ranks) }
 {
     let pair = s as usize * ranks as usize + d as usize;

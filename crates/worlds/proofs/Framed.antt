@@ -22,14 +22,14 @@ use Rattle.world_parts.specs.Keeps.{AgreeAll, AreCounted, AreParts, AreStrays, I
 use Rattle.world_parts.specs.Layout.{lane_at, node_at, scene_of}
 use Rattle.world_parts.proofs.Gated.{IsGated, scene_gated}
 use Rattle.world_parts.proofs.Strays.{owned_and_strays}
-use Rattle.world_open.specs.Frames.{AreSized, IsTold, frame_window}
+use Rattle.world_open.specs.Frames.{AreSized, IsSameButGates, frame_window}
 use Rattle.worlds.specs.FrameState.{AreFramed, FrameState}
 use Rattle.worlds.specs.Frames.{IsClosed, MayClose}
 use Rattle.worlds.specs.Standing.{AreFields}
 use Rattle.worlds.specs.World.{state_of}
 use Rattle.worlds.proofs.Joined.{joined_moment, joined_room}
 
-pub told_gated : (x y : NodeState) → IsTold x y → IsGated x y
+pub told_gated : (x y : NodeState) → IsSameButGates x y → IsGated x y
 told_gated x y t = record {
   task = ap (λ (k : NodeState). k.task) t.same;
   kept = ap (λ (k : NodeState). k.kept) t.same;
@@ -73,7 +73,7 @@ module _ (job : JobOf) (m : ℕ) (lanes : List Plain) (ss ds fs : List ℕ) (fra
   pub tasks : (r : ℕ) → r < m → (node_at nodes r).task.ranks ≡ m
   tasks r h = (may.of_job.compiled r (subst (λ k. r < k) framed.ranks h)).ranks ∙ framed.bare.count ∙ sym framed.ranks
 
-  module _ (news : List NodeState) (size : length news ≡ m) (told : (r : ℕ) → IsTold (node_at nodes r) (node_at news r))
+  module _ (news : List NodeState) (size : length news ≡ m) (told : (r : ℕ) → IsSameButGates (node_at nodes r) (node_at news r))
       (kept : (r : ℕ) → r < m → IsNode (node_at nodes r)) (starts deliveries firings : List ℕ)
       (counted : AreCounted m news lanes starts deliveries firings frame_window) where
     gated : (r : ℕ) → IsGated (node_at nodes r) (node_at news r)
@@ -148,7 +148,7 @@ module _ (job : JobOf) (m : ℕ) (lanes : List Plain) (ss ds fs : List ℕ) (fra
       strays = refl;
       spare = refl;
       lanes = refl;
-      told = told;
+      same = told;
       scene = same_scene;
       slots = agree_before;
     }
@@ -167,13 +167,13 @@ module _ (job : JobOf) (m : ℕ) (lanes : List Plain) (ss ds fs : List ℕ) (fra
     lent_tasks = subst (λ v. (r : ℕ) → r < m → (node_at v r).task.ranks ≡ m) (sym same_nodes) tasks
 
     module _ (left news : List NodeState) (same : news ≡ left) (size : length left ≡ m)
-        (told : (r : ℕ) → IsTold (node_at lent r) (node_at left r)) (kept : (r : ℕ) → r < m → IsNode (node_at lent r))
+        (told : (r : ℕ) → IsSameButGates (node_at lent r) (node_at left r)) (kept : (r : ℕ) → r < m → IsNode (node_at lent r))
         (starts deliveries firings : List ℕ) (window : ℕ) (four : window ≡ frame_window)
         (counted : AreCounted m left slice starts deliveries firings window) where
-      told_now : (r : ℕ) → IsTold (node_at nodes r) (node_at news r)
+      told_now : (r : ℕ) → IsSameButGates (node_at nodes r) (node_at news r)
       told_now r =
-          subst (λ v. IsTold (node_at v r) (node_at news r)) same_nodes
-          (subst (λ v. IsTold (node_at lent r) (node_at v r)) (sym same) (told r))
+          subst (λ v. IsSameButGates (node_at v r) (node_at news r)) same_nodes
+          (subst (λ v. IsSameButGates (node_at lent r) (node_at v r)) (sym same) (told r))
 
       kept_now : (r : ℕ) → r < m → IsNode (node_at nodes r)
       kept_now = subst (λ v. (r : ℕ) → r < m → IsNode (node_at v r)) same_nodes kept

@@ -87,7 +87,7 @@ module _ (p : Plan) (inputs : Inputs) (n : ℕ) (nodes : List NodeState) (lanes 
   -- a node's gates are those of the moment
   pub gates_are : (r : ℕ) → r < n → AreGates z window r (node_at nodes r).closed
   gates_are r h = record {
-    told = λ d lt.
+    full = λ d lt.
         let wide = gates_wide r h in
         get_or_default (node_at nodes r).closed d true false lt
         ∙ world.counted.gates r d h (omega (arith, wide, lt))

@@ -14,7 +14,7 @@ use Rattle.rank_node.specs.Node.{NodeState}
 use Rattle.rank_node.specs.Plans.{IsCompiledFor}
 use Rattle.world_parts.specs.Keeps.{AgreeAll}
 use Rattle.world_parts.specs.Layout.{lane_at, node_at, scene_of}
-use Rattle.world_open.specs.Frames.{IsTold, frame_lane, frame_window}
+use Rattle.world_open.specs.Frames.{IsSameButGates, frame_lane, frame_window}
 use Rattle.worlds.specs.FrameState.{FrameState}
 use Rattle.worlds.specs.World.{AreSlots, WorldState, scene_in}
 
@@ -57,6 +57,6 @@ pub record IsClosed (f : FrameState) (nodes : List NodeState) (w : WorldState) :
   pub strays : w.strays ≡ 0
   pub spare : w.spare ≡ 0
   pub lanes : w.lanes ≡ f.lanes
-  pub told : (r : ℕ) → IsTold (node_at nodes r) (node_at w.nodes r)
+  pub same : (r : ℕ) → IsSameButGates (node_at nodes r) (node_at w.nodes r)
   pub scene : scene_in w ≡ scene_of f.shape.ranks nodes f.lanes
   pub slots : (k : ℕ → Slots) → AreSlots w k → AgreeAll f.shape.ranks k nodes

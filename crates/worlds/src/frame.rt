@@ -41,8 +41,7 @@ impl Model for Frame {
     ghost invariant = { λ f. AreFramed f.job f.ranks f.lanes.items f.starts f.deliveries f.firings };
 }
 
-// Written out, so that a caller that lets one go makes one call: a derived one is spelled out, down to each vector, at every return of a
-// caller that has one, and the caller's proof with it.
+// Written out, so that letting one go is one call: docs/DECISIONS.md, "Large types have a drop of their own".
 impl Drop for Frame {
     fn drop(self) {
         let Frame {

@@ -11,7 +11,7 @@ ghost use Rattle.plan_orders.specs.declared.Step.{Step};
 ghost use Rattle.plan_worlds.specs.Named.{named};
 ghost use Rattle.plan_worlds.specs.Possible.{possible_steps};
 ghost use Rattle.job_laws.specs.Barriers.{AreBarriersKept};
-ghost use Rattle.worlds.specs.Runs.{Running, chosen_run};
+ghost use Rattle.worlds.specs.Runs.{chosen_run};
 ghost use Rattle.worlds.specs.Standing.{IsStanding};
 ghost use Rattle.worlds.specs.World.{AreSlots, WorldState, histories_in, ranks_in, scene_in, steps_in};
 

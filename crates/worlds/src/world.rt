@@ -18,7 +18,7 @@ ghost use Rattle.job_laws.specs.Results.{AreMeant, result_in};
 ghost use Rattle.world_parts.specs.Steps.{injected};
 ghost use Rattle.worlds.specs.Standing.{AreFields, IsStanding};
 ghost use Rattle.worlds.specs.Later.{IsLater, IsOpened};
-ghost use Rattle.worlds.specs.Runs.{IsRun, Running, chosen_run};
+ghost use Rattle.worlds.specs.Runs.{IsRun, chosen_run};
 ghost use Rattle.worlds.specs.World.{AreSlots, histories_in, memory_in, nic_in, ranks_in, scene_in, state_of, steps_in};
 
 use crate::finding::{delivery_at, part_of};
@@ -355,7 +355,7 @@ impl World {
     /// The interface of a rank.
     pub fn nic(&self, r: Rank) -> &Nic
         requires { r < self.now.shape.ranks }
-        ensures told { result.now ≡ nic_in self.now r }
+        ensures value { result.now ≡ nic_in self.now r }
         ensures state { (slots : ℕ → Slots) → AreSlots self.now slots →
             result.now ≡ state_at (ranks_in self.now slots) (histories_in self.now) r }
     {

@@ -1,4 +1,4 @@
-use Rattle.std.proofs.Common.{◌≡◌, false, IsTrue}
+use Rattle.std.proofs.Common.{false, IsTrue}
 use Rattle.plan_nodes.proofs.Stepping.{fired-rank, other-rank, received-rank, started-rank}
 use Rattle.plan_nodes.proofs.each_step_of_a_node.Goals as goal
 

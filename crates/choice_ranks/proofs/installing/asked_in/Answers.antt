@@ -15,7 +15,7 @@ loop-i-preserved c =
     record {
       sum =
           ap₂ (λ x y. x + y) c.loop-i.invariant.sum
-          (c.asked-sum.ensures.told ∙ ap told_requests (get_or_default ks c.loop-i.i _ Elect c.loop-i-test.true))
+          (c.asked-sum.ensures.value ∙ ap told_requests (get_or_default ks c.loop-i.i _ Elect c.loop-i-test.true))
           ∙ sym (sum-more (λ s. told_requests (choice_at ks s)) c.loop-i.i);
       few = omega (arith, few, more);
     }

@@ -13,4 +13,4 @@ returns c = λ ks e n.
     (c.word_at.ensures ∙ ap (λ n. word_md (32 * n + 8) None) c.from-start.ensures)
     (c.word_at-old.ensures ∙ ap (λ n. word_md (32 * n + 16) (Some c.counter.result)) c.from-start.ensures)
     (c.word_at-result.ensures ∙ ap (λ n. word_md (32 * n + 24) (Some c.counter-2.result)) c.from-start.ensures)
-    c.counter.ensures.told c.counter-2.ensures.told
+    c.counter.ensures.value c.counter-2.ensures.value

@@ -65,7 +65,7 @@ loop-step-preserved c =
           c.requires.room c.loop-step.invariant.made c.make_step.new.nic c.make_step.new.kept
           (c.in_ok-make_step.ensures ks (sym is) c.loop-step.invariant.counter);
       counter =
-          ap₂ (λ x y. x + y) c.loop-step.invariant.counter (c.counters_of-counter.ensures.told ∙ ap counters_in is)
+          ap₂ (λ x y. x + y) c.loop-step.invariant.counter (c.counters_of-counter.ensures.value ∙ ap counters_in is)
           ∙ (let e = before-more counters_in ks t in let q : 2 + before counters_in ks t + counters_in (choice_at ks t)
           ≡ 2 + before counters_in ks (t + 1) = omega (arith, e) in q);
     }

@@ -85,11 +85,11 @@ loop-step-preserved c =
           (subst (λ k. AreMade ks (map Trigger (works_of k t)) c.loop-step.nic c.post_step.new.nic c.args.kept.now c.args.kept.now) is
           (c.in_ok-post_step.ensures ks (sym is) c.loop-step.invariant.counter c.loop-step.invariant.descriptor));
       counter =
-          ap₂ (λ x y. x + y) c.loop-step.invariant.counter (c.counters_of-counter.ensures.told ∙ ap counters_in is)
+          ap₂ (λ x y. x + y) c.loop-step.invariant.counter (c.counters_of-counter.ensures.value ∙ ap counters_in is)
           ∙ (let e = before-more counters_in ks t in let q : 2 + before counters_in ks t + counters_in (choice_at ks t)
           ≡ 2 + before counters_in ks (t + 1) = omega (arith, e) in q);
       descriptor =
-          ap₂ (λ x y. x + y) c.loop-step.invariant.descriptor (c.things_of-descriptor.ensures.told ∙ ap things_in is)
+          ap₂ (λ x y. x + y) c.loop-step.invariant.descriptor (c.things_of-descriptor.ensures.value ∙ ap things_in is)
           ∙ sym (before-more things_in ks t);
     }
 

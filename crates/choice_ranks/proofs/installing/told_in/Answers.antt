@@ -15,7 +15,7 @@ loop-i-preserved c =
     record {
       sum =
           ap₂ (λ x y. x + y) c.loop-i.invariant.sum
-          (c.told-sum.ensures.told ∙ ap told_steps (get_or_default ks c.loop-i.i _ Elect c.loop-i-test.true))
+          (c.told-sum.ensures.value ∙ ap told_steps (get_or_default ks c.loop-i.i _ Elect c.loop-i-test.true))
           ∙ sym (sum-more (λ s. told_steps (choice_at ks s)) c.loop-i.i);
       few = omega (arith, few, more);
     }

@@ -11,12 +11,12 @@ returns c =
       c.in_ok-print_before_steps.ensures,
     )
     (rw (
-      c.choices.ensures.told,
-      c.prints.ensures.told,
-      c.on.ensures.told,
-      c.steps.ensures.told,
-      c.groups.ensures.told,
-      c.buffers-buffers.ensures.told,
+      c.choices.ensures.value,
+      c.prints.ensures.value,
+      c.on.ensures.value,
+      c.steps.ensures.value,
+      c.groups.ensures.value,
+      c.buffers-buffers.ensures.value,
       c.shape-shape.ensures.shape,
     )
     (written c.args.out.now.items c.args.d.now))

@@ -22,6 +22,6 @@ returns c =
     (λ b need. c.keep_if_needed.ensures.others b (subst (λ v. is_needed c.args.kept.now v b ≡ true) (sym c.later-after.ensures) need))
     c.in_ok-push.ensures
     (λ need.
-    c.in_ok-made.ensures (c.is_needed-needed.ensures ∙ ap (λ v. is_needed c.args.kept.now v c.count.result) c.later-after.ensures ∙ ap (is_needed c.args.kept.now (later c.args.shape.now c.args.k)) c.count.ensures.told ∙ need)
-    ∙ same_made _ _ _ _ _ _ _ _ (lists_of c.args.held.now c.in-Some.a) c.ranks-ranks.ensures.told c.group.ensures.told
+    c.in_ok-made.ensures (c.is_needed-needed.ensures ∙ ap (λ v. is_needed c.args.kept.now v c.count.result) c.later-after.ensures ∙ ap (is_needed c.args.kept.now (later c.args.shape.now c.args.k)) c.count.ensures.value ∙ need)
+    ∙ same_made _ _ _ _ _ _ _ _ (lists_of c.args.held.now c.in-Some.a) c.ranks-ranks.ensures.value c.group.ensures.value
     (c.type_read-ty.ensures ∙ ap (type_read c.args.shape.now) c.step_at-step.ensures) c.step_at-step.ensures)

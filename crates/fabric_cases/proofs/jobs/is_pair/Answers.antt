@@ -1,4 +1,4 @@
-use Rattle.std.proofs.Common.{◌≡◌, ◌<◌, true, nat_lt, subst}
+use Rattle.std.proofs.Common.{◌≡◌, true, nat_lt, subst}
 use Rattle.coll_shape.specs.Outline.{Outline}
 use Rattle.ptl_types.specs.declared.headers.Lane.TheVariants.{Request}
 use Rattle.plan_calls.specs.Lanes.{is_used_lane}

@@ -1,4 +1,4 @@
-use Rattle.std.proofs.Common.{◌≡◌, ◌<◌, ◌∙◌, List, length, ap, arith}
+use Rattle.std.proofs.Common.{◌∙◌, List, length, ap, arith}
 use Rattle.rank_threads.specs.declared.slot.Slot.{Slot}
 use Rattle.fabric_cases.proofs.scripts.script.Goals as goal
 

@@ -1,5 +1,5 @@
 -- By the test of the room.
-use Rattle.std.proofs.Common.{◌≡◌, ◌<◌, ◌≤◌, ℕ, refl, arith}
+use Rattle.std.proofs.Common.{refl, arith}
 use Rattle.guarded_ni.specs.declared.faults.Misuse.TheVariants.{NoRoom}
 use Rattle.guarded_ni.specs.Guarded.Guards.{Answers, Misuses, Refuses}
 use Rattle.guarded_ni.proofs.Testing.{above, not_above, positive}

@@ -1,5 +1,5 @@
 -- By the rule that is broken, or the interface's own answer.
-use Rattle.std.proofs.Common.{◌≡◌, refl, sym, ◌∙◌}
+use Rattle.std.proofs.Common.{refl, sym, ◌∙◌}
 use Rattle.guarded_ni.specs.Guarded.Guards.{Answers, Misuses, Refuses}
 use Rattle.guarded_ni.proofs.starts.triggered.Goals as goal
 

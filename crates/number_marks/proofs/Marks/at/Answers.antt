@@ -12,8 +12,8 @@ pub number_at-requires : goal.number_at-requires
 number_at-requires c =
     rw c.deref.ensures.value ((marked-at c.self.inside.numbers.items c.self.inside.tree c.find-place.result.0 c.find-place.result.1 c.args.i c.self.invariant.marks c.find-place.ensures.place c.find-place.ensures.before c.find-place.ensures.within).0)
 
-pub returns-clause-told : goal.returns-clause-told
-returns-clause-told c =
+pub returns-clause-value : goal.returns-clause-value
+returns-clause-value c =
     rw (← c.self.view_is, c.number_at.ensures, c.deref.ensures.value) ((marked-at c.self.inside.numbers.items c.self.inside.tree c.find-place.result.0 c.find-place.result.1 c.args.i c.self.invariant.marks c.find-place.ensures.place c.find-place.ensures.before c.find-place.ensures.within).1)
 
 pub returns-clause-rising : goal.returns-clause-rising

@@ -14,7 +14,7 @@ returns-in-None c =
     let w = c.args.world.now in (
       λ h. record {
         started = begun w c.args.r (λ o. let q = sym c.if-is_open.false ∙ c.is_open.ensures.1 o in cc);
-        idle = λ t. subst (λ s. is_ready s t ≡ false) c.nic.ensures.told (c.in-None.ensures.told t);
+        idle = λ t. subst (λ s. is_ready s t ≡ false) c.nic.ensures.value (c.in-None.ensures.value t);
         hears = c.hears_nothing.ensures.0 h;
       },
       λ quiet. c.hears_nothing.ensures.1 quiet.hears,

@@ -18,8 +18,8 @@ next_enabled-requires-clause-rank c =
 pub next_enabled-requires-clause-driven : goal.next_enabled-requires-clause-driven
 next_enabled-requires-clause-driven c = c.requires.work.driven
 
-pub told-to-requires : goal.told-to-requires
-told-to-requires c = looked_at c.args.world.now (lists_of c.args.orders.now) c.args.r c.args.queue.now.items c.requires.work
+pub message_for-to-requires : goal.message_for-to-requires
+message_for-to-requires c = looked_at c.args.world.now (lists_of c.args.orders.now) c.args.r c.args.queue.now.items c.requires.work
 
 pub step-requires : goal.step-requires
 step-requires c = λ slots agree.
@@ -57,7 +57,7 @@ returns-in-None-woken-clause-work c =
     subst (λ q. IsWork v lists q) (sym c.in_ok-look_again-in-Some.ensures)
     (take_one w v lists c.args.r c.in-Some.step c.args.queue.now.items c.requires.work c.in-Some.ensures.0 c.in-Some.ensures.1
     c.step.ensures.kept c.step.ensures.later made None tt
-    (subst (λ t. IsWaiter v lists c.args.r t None) c.told-to.ensures (λ q h t. c.in-None-woken.ensures.others q h t)))
+    (subst (λ t. IsWaiter v lists c.args.r t None) c.message_for-to.ensures (λ q h t. c.in-None-woken.ensures.others q h t)))
 
 pub returns-in-None-woken-clause-less : goal.returns-in-None-woken-clause-less
 returns-in-None-woken-clause-less c =
@@ -88,7 +88,7 @@ returns-in-Some-woken-clause-work c =
     (λ e. subst (λ q. IsWork v lists q) (sym e) (subst (λ q. IsWork v lists (q ++ d ∷ [])) (sym first)
     (take_one w v lists c.args.r c.in-Some.step c.args.queue.now.items c.requires.work c.in-Some.ensures.0 c.in-Some.ensures.1
     c.step.ensures.kept c.step.ensures.later made (Some d) c.in-Some-woken.ensures.known
-    (subst (λ t. IsWaiter v lists c.args.r t (Some d)) c.told-to.ensures (λ q h t. c.in-Some-woken.ensures.others q h t)))))
+    (subst (λ t. IsWaiter v lists c.args.r t (Some d)) c.message_for-to.ensures (λ q h t. c.in-Some-woken.ensures.others q h t)))))
 
 pub returns-in-Some-woken-clause-less : goal.returns-in-Some-woken-clause-less
 returns-in-Some-woken-clause-less c =

@@ -11,7 +11,7 @@ pub returns-then-place-steps : goal.returns-then-place-steps
 returns-then-place-steps c =
     let w = histories_in c.args.world.now in
     let lists = lists_of c.args.orders.now in
-    let steps = c.steps-steps.ensures.told in
+    let steps = c.steps-steps.ensures.value in
     let made = ap length c.history-place.ensures ∙ length-map (w c.args.r) listed in
     let short : length (w c.args.r) < length (lists c.args.r) =
     let h = ap length steps in

@@ -12,7 +12,7 @@ returns-then-is-clause-bytes c =
     let within = c.loop-line.invariant.within in
     rw c.in_default-Some.is-1
     (stops text c.loop-line.rest.now c.cut.result.0.now after c.loop-line.number (length text - length after) c.loop-line.invariant cut
-    (sym c.is.ensures.told ∙ c.if-is.true) (omega (arith, long, within))).front
+    (sym c.is.ensures.value ∙ c.if-is.true) (omega (arith, long, within))).front
 
 pub returns-then-is-clause-line : goal.returns-then-is-clause-line
 returns-then-is-clause-line c =
@@ -22,7 +22,7 @@ returns-then-is-clause-line c =
     let long = cut_long c.loop-line.rest.now c.cut.result.0.now after cut in
     let within = c.loop-line.invariant.within in
     (stops text c.loop-line.rest.now c.cut.result.0.now after c.loop-line.number (length text - length after) c.loop-line.invariant cut
-    (sym c.is.ensures.told ∙ c.if-is.true) (omega (arith, long, within))).next
+    (sym c.is.ensures.value ∙ c.if-is.true) (omega (arith, long, within))).next
 
 pub loop-line-preserved : goal.loop-line-preserved
 loop-line-preserved c =
@@ -30,4 +30,4 @@ loop-line-preserved c =
     rw c.in_default-Some.is-1 at c.cut.ensures.parts in
     rw c.in_default-Some.is-1
     (goes_on c.args.bytes.now c.loop-line.rest.now c.cut.result.0.now c.in_default-Some.after.now c.loop-line.number c.loop-line.invariant
-    cut (sym c.is.ensures.told ∙ c.if-is.false))
+    cut (sym c.is.ensures.value ∙ c.if-is.false))

@@ -1,5 +1,5 @@
 -- One cell more in each turn.
-use Rattle.std.proofs.Common.{ℕ, ◌≡◌, ◌<◌, ◌+◌, ◌^◌, arith, cond, get_or, set, nat_lt, length, map, ap, ◌∙◌}
+use Rattle.std.proofs.Common.{◌+◌, arith, cond, get_or, set, nat_lt, length, map, ap, ◌∙◌}
 use Rattle.plan_core.specs.Plan.{from_to}
 use Rattle.plan_tables.specs.Rising.{nothing}
 use Rattle.plan_tables.specs.Tables.{rank_of}
@@ -22,5 +22,5 @@ pub loop-c-preserved : goal.loop-c-preserved
 loop-c-preserved c =
     let p = c.args.plan.now in
     c.count.ensures
-    ∙ ap (λ k. cond (nat_lt k (length c.loop-c.counts)) (set c.loop-c.counts k (get_or c.loop-c.counts k 0 + 1)) c.loop-c.counts) c.rank_of-key.ensures.told
+    ∙ ap (λ k. cond (nat_lt k (length c.loop-c.counts)) (set c.loop-c.counts k (get_or c.loop-c.counts k 0 + 1)) c.loop-c.counts) c.rank_of-key.ensures.value
     ∙ counted-more (rank_of p) c.loop-c.c p.ranks c.loop-c.counts c.loop-c.invariant

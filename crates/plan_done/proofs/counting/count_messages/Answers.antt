@@ -1,5 +1,5 @@
 -- One link more in each turn.
-use Rattle.std.proofs.Common.{ℕ, ◌≡◌, ◌<◌, ◌+◌, ◌^◌, arith, cond, get_or, set, nat_lt, length, map, ap, ◌∙◌}
+use Rattle.std.proofs.Common.{◌+◌, arith, cond, get_or, set, nat_lt, length, map, ap, ◌∙◌}
 use Rattle.plan_core.specs.Plan.{from_to}
 use Rattle.plan_tables.specs.Rising.{nothing}
 use Rattle.plan_tables.proofs.Sums.{counted-few, counted-more}

@@ -1,4 +1,4 @@
-use Rattle.std.proofs.Common.{◌≡◌, ◌++◌, ◌∙◌, List, ℕ, ap, arith}
+use Rattle.std.proofs.Common.{◌++◌, ◌∙◌, List, ℕ, ap, arith}
 use Rattle.std.proofs.lemmas.Grind.{common_steps}
 use Rattle.plan_lines.specs.Said.{cell_line}
 use Rattle.plan_lines.proofs.Reading.{one_more}

@@ -1,5 +1,5 @@
 -- One cell more in each turn.
-use Rattle.std.proofs.Common.{ℕ, ◌≡◌, ◌<◌, ◌∷◌, [], arith, map, ap, sym, subst, ◌∙◌}
+use Rattle.std.proofs.Common.{◌≡◌, ◌∷◌, [], arith, map, ap, sym, subst, ◌∙◌}
 use Rattle.plan_core.specs.Plan.{Plan, from_to}
 use Rattle.plan_core.specs.Draw.{HasRoom, add, add_all}
 use Rattle.plan_core.proofs.Drawing.{add_all-none, cells-more, room-at}
@@ -11,7 +11,7 @@ loop-place-init c = sym (add_all-none c.args.plan.now)
 
 pub bare_entry-requires-clause-room : goal.bare_entry-requires-clause-room
 bare_entry-requires-clause-room c =
-    let n = c.count-place-end.ensures.told in
+    let n = c.count-place-end.ensures.value in
     let t = c.loop-place-test.true in
     let P : Plan → Type 0 = λ p. HasRoom p (bare_entry c.args.site.now c.loop-place.place ∷ []) in
     subst P (sym c.loop-place.invariant) (room-at c.args.plan.now (bare_entry c.args.site.now) (count c.args.site.now) c.loop-place.place c.requires (omega (arith, n, t)))
@@ -24,7 +24,7 @@ loop-place-preserved c =
 
 pub returns : goal.returns
 returns c =
-    let n = c.count-place-end.ensures.told in
+    let n = c.count-place-end.ensures.value in
     let t = c.loop-place-test.false in
     let u = c.loop-place.auto in
     c.loop-place.invariant

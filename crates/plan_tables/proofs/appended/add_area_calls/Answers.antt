@@ -1,12 +1,9 @@
 -- One class more in each turn.
-use Rattle.std.proofs.Common.{ℕ, Bool, cond, nat_lt, ◌+◌, ◌-◌, ◌*◌, ◌^◌, ◌≡◌, ◌<◌, List, [], ◌∷◌, ◌++◌, length, map, filter, get_or, ap, ap₂, sym, ◌∙◌, arith, append_assoc, append-nil}
-use Rattle.std.proofs.lemmas.Bool.{lt-ltb}
-use Rattle.ptl_types.specs.declared.steps.Call.{Call}
+use Rattle.std.proofs.Common.{cond, nat_lt, ◌+◌, ◌-◌, ◌*◌, ◌^◌, ◌≡◌, [], ◌∷◌, ◌++◌, map, filter, get_or, ap, ap₂, sym, ◌∙◌, arith, append_assoc}
 use Rattle.ptl_types.specs.declared.steps.Call.TheVariants.{Overflow}
 use Rattle.plan_core.specs.Plan.{from_to}
-use Rattle.plan_calls.specs.Areas.{areas_length, classes, region_length}
 use Rattle.plan_calls.specs.Bits.{bits_above}
-use Rattle.plan_tables.specs.AreaTables.{area_bytes, area_counts, area_links, area_sums, counted_classes, counted_start}
+use Rattle.plan_tables.specs.AreaTables.{area_bytes, counted_start}
 use Rattle.plan_tables.proofs.ByClass.{calls-same, end-same}
 use Rattle.plan_tables.proofs.Passes.{length-table}
 use Rattle.plan_tables.proofs.PerClass.{bytes-at, classes-next, count-at, counted_call, key-in, present, start-most, start-next}

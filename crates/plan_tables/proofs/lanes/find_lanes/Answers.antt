@@ -1,6 +1,6 @@
 -- One message more in each turn.
-use Rattle.std.proofs.Common.{ℕ, ◌*◌, ◌≡◌, ◌<◌, ◌^◌, ◌+◌, arith, cond, get_or, set, nat_lt, length, map, ap, ap₂, sym, subst, ◌∙◌}
-use Rattle.plan_core.specs.Plan.{Plan, from_to}
+use Rattle.std.proofs.Common.{◌*◌, ◌<◌, ◌+◌, arith, cond, get_or, set, nat_lt, length, map, ap, ap₂, ◌∙◌}
+use Rattle.plan_core.specs.Plan.{from_to}
 use Rattle.plan_core.specs.declared.Link.{Link}
 use Rattle.plan_tables.specs.Rising.{nothing}
 use Rattle.plan_tables.specs.Tables.{lane_key, link_length}

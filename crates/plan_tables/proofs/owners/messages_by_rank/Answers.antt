@@ -1,5 +1,5 @@
 -- One number more in each turn, where it is a message's.
-use Rattle.std.proofs.Common.{ℕ, Bool, true, false, cond, nat_lt, refl, ◌≡◌, ◌<◌, ◌+◌, ◌++◌, ◌∷◌, [], arith, length, map, set, get_or, ap, sym, ◌∙◌}
+use Rattle.std.proofs.Common.{ℕ, Bool, true, false, cond, nat_lt, refl, ◌≡◌, ◌+◌, ◌++◌, ◌∷◌, [], arith, length, map, set, get_or, ap, ◌∙◌}
 use Rattle.std.proofs.lemmas.Bool.{ltb-true, ltb-false}
 use Rattle.plan_core.specs.Plan.{from_to}
 use Rattle.plan_core.proofs.Drawing.{row-same}

@@ -1,5 +1,4 @@
 use Rattle.std.proofs.Common.{◌≡◌, map}
-use Rattle.plan_core.specs.Plan.{from_to}
 use Rattle.plan_tables.specs.Rising.{of_key}
 use Rattle.plan_tables.specs.Tables.{all_ranks, arrival_key}
 use Rattle.plan_tables.proofs.owners.messages_by_rank.Given as goal

@@ -1,5 +1,5 @@
 -- The calls are counted.
-use Rattle.std.proofs.Common.{ℕ, ◌+◌, ◌*◌, ◌≡◌, length, ap, arith}
+use Rattle.std.proofs.Common.{length, ap, arith}
 use Rattle.plan_tables.proofs.Assembling.{calls-count, few-classes}
 use Rattle.plan_tables.proofs.ranks.area_count.Goals as goal
 
@@ -12,8 +12,8 @@ overflow_cast-result c =
     let f = few-classes c.args.plan.now c.args.r in
     omega (arith, e, n, o, u, f)
 
-pub returns-clause-told : goal.returns-clause-told
-returns-clause-told c =
+pub returns-clause-value : goal.returns-clause-value
+returns-clause-value c =
     let e = ap length c.requires.calls in
     let n = calls-count c.args.plan.now c.args.r in
     let o = ap length c.requires.own in

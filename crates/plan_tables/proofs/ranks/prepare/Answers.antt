@@ -1,10 +1,9 @@
 -- The parts stand one after the other.
-use Rattle.std.proofs.Common.{ℕ, ◌+◌, ◌≡◌, List, [], ◌∷◌, ◌++◌, map, ap, ap₂, ◌∙◌}
-use Rattle.ptl_types.specs.declared.steps.Call.{Call}
+use Rattle.std.proofs.Common.{◌+◌, [], ◌∷◌, ◌++◌, map, ap, ap₂, ◌∙◌}
 use Rattle.ptl_types.specs.declared.steps.Call.TheVariants.{PtAlloc, CtDone, CtCell, MdBind}
-use Rattle.plan_core.specs.Plan.{own, out_links}
+use Rattle.plan_core.specs.Plan.{own}
 use Rattle.plan_calls.specs.Works.Work.{Along, Tell}
-use Rattle.plan_calls.specs.Areas.{areas_length, classes, region_length}
+use Rattle.plan_calls.specs.Areas.{classes}
 use Rattle.plan_calls.specs.Calls.{area_call, trigger}
 use Rattle.plan_tables.proofs.Assembling.{prepared}
 use Rattle.plan_tables.proofs.ranks.prepare.Goals as goal
@@ -13,8 +12,8 @@ pub returns-clause-calls : goal.returns-clause-calls
 returns-clause-calls c =
     let p = c.args.plan.now in
     let r = c.args.r in
-    let own = c.own_at-own.ensures.told in
-    let out = c.out_at-out.ensures.told in
+    let own = c.own_at-own.ensures.value in
+    let out = c.out_at-out.ensures.value in
     let first = c.in_ok-push_call.ensures ∙ ap (λ v. v ++ PtAlloc ∷ []) c.new-calls.ensures.items in
     let areas = c.in_ok-length.ensures.calls ∙ ap (λ v. v ++ map (area_call p r) (classes p r)) first in
     let second = c.in_ok-push_call-2.ensures ∙ ap (λ v. v ++ CtDone ∷ []) areas in

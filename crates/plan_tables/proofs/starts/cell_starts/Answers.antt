@@ -1,11 +1,10 @@
 -- One cell more in each turn.
-use Rattle.std.proofs.Common.{ℕ, ◌+◌, ◌*◌, ◌^◌, ◌<◌, ◌≡◌, ◌++◌, ◌∷◌, [], arith, length, map, get_or, set, sum_by, ap, ap₂, sym, subst, ◌∙◌}
+use Rattle.std.proofs.Common.{ℕ, ◌+◌, ◌^◌, ◌<◌, ◌≡◌, ◌++◌, ◌∷◌, [], arith, length, map, get_or, set, sum_by, ap, ap₂, sym, subst, ◌∙◌}
 use Rattle.plan_core.specs.Plan.{from_to}
 use Rattle.plan_core.specs.Places.{cell_length}
 use Rattle.plan_core.proofs.Drawing.{row-more}
 use Rattle.plan_tables.specs.Rising.{nothing, of_key}
 use Rattle.plan_calls.specs.Calls.{cell_start}
-use Rattle.plan_calls.specs.Areas.{region_length}
 use Rattle.plan_tables.specs.Tables.{all_ranks, rank_of}
 use Rattle.plan_tables.proofs.Passes.{get-row, length-table}
 use Rattle.plan_tables.proofs.Sums.{start-own, few-bytes, bytes-more}

@@ -1,4 +1,4 @@
-use Rattle.portals_top.proofs.Judging.{judged-text, refused-text, text-no_memory}
+use Rattle.portals_top.proofs.Judging.{judged-text}
 use Rattle.portals_top.proofs.checking.judged_text.Goals as goal
 
 pub returns-in-Ok : goal.returns-in-Ok

@@ -1,4 +1,3 @@
-use Rattle.std.proofs.Common.{sym}
 use Rattle.portals_top.proofs.Answering.{plan-owed}
 use Rattle.shape_plans.specs.Footprint.{refusal}
 use Rattle.portals_top.specs.declared.words.Command.TheVariants.{Plan}

@@ -14,7 +14,7 @@ returns-in_err-put_step g c =
     let before = g.K.Sink.outflow c.loop-step.sink in
     let new = g.K.Sink.outflow c.put_step.new.sink in
     let text = c.args.out.now ++ flat_map lines prints in
-    let same : c.prints-step-items.result.now ≡ prints = c.prints-step-items.ensures.told in
+    let same : c.prints-step-items.result.now ≡ prints = c.prints-step-items.ensures.value in
     let in_range : n < length prints = subst (λ xs. n < length xs) same c.loop-step-test.true in
     Puts-stops old new c.args.out.now c.put_step.new.out (flat_map lines prints) _ c.from_residual.ensures.0
     (Fails-next old before new text c.loop-step.out (lines (get_or prints n 0)) (flat_map lines (drop (n + 1) prints))
@@ -30,7 +30,7 @@ loop-step-preserved g c =
     let before = g.K.Sink.outflow c.loop-step.sink in
     let new = g.K.Sink.outflow c.put_step.new.sink in
     let text = c.args.out.now ++ flat_map lines prints in
-    let same : c.prints-step-items.result.now ≡ prints = c.prints-step-items.ensures.told in
+    let same : c.prints-step-items.result.now ≡ prints = c.prints-step-items.ensures.value in
     let in_range : n < length prints = subst (λ xs. n < length xs) same c.loop-step-test.true in
     Takes-next old before new text c.loop-step.out c.put_step.new.out (lines (get_or prints n 0)) (flat_map lines (drop (n + 1) prints))
     (subst (λ rest. Takes old before text (c.loop-step.out ++ rest)) (flat_map-drop lines prints n 0 in_range) c.loop-step.invariant)

@@ -8,7 +8,7 @@ use Rattle.portals_top.proofs.writing.write_results.Goals as goal
 pub write_result-requires : goal.write_result-requires
 write_result-requires g c =
     let shape = c.shape_of-shape.result.now in
-    let told = c.shape_of-shape.ensures.told in
+    let told = c.shape_of-shape.ensures.value in
     record {
       empty = c.requires.empty;
       gives = λ i r l k. (
@@ -22,4 +22,4 @@ pub returns : goal.returns
 returns g c =
     let w = c.args.rested.now.0 in
     subst (λ (o : Outline). EndsWith (g.K.Sink.outflow c.args.sink.now) (g.K.Sink.outflow c.write_result.new.sink) (text_of o (meaning_of w.shape w.inputs)) c.write_result.result)
-    c.shape_of-shape.ensures.told c.write_result.ensures.ends
+    c.shape_of-shape.ensures.value c.write_result.ensures.ends

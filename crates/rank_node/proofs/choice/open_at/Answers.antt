@@ -13,21 +13,21 @@ ready_at-requires c =
 pub returns-then-not-any : goal.returns-then-not-any
 returns-then-not-any c =
     let all = none-closed c.args.gates.now (target_at c.args.nic.now) (ready_numbers c.args.nic.now) (is-none c.any.result _ c.if-not-any.true c.any.ensures) in
-    rw all c.ready_at.ensures.told
+    rw all c.ready_at.ensures.value
 
 pub is_open-requires : goal.is_open-requires
-is_open-requires c = ready-posted c.args.nic.now c.loop-place.place c.ready_at-number.result c.ready_at-number.ensures.told
+is_open-requires c = ready-posted c.args.nic.now c.loop-position.position c.ready_at-number.result c.ready_at-number.ensures.value
 
 pub returns-then-rest-eq0 : goal.returns-then-rest-eq0
 returns-then-rest-eq0 c =
-    ahead-found (λ t. goes_out c.args.gates.now (target_at c.args.nic.now t)) (ready_numbers c.args.nic.now) c.args.i c.loop-place.place c.loop-place.rest c.ready_at-number.result
-    c.ready_at-number.ensures.told c.loop-place.invariant (sym c.is_open.ensures ∙ c.if-is_open.true) c.if-rest-eq0.true
+    ahead-found (λ t. goes_out c.args.gates.now (target_at c.args.nic.now t)) (ready_numbers c.args.nic.now) c.args.i c.loop-position.position c.loop-position.rest c.ready_at-number.result
+    c.ready_at-number.ensures.value c.loop-position.invariant (sym c.is_open.ensures ∙ c.if-is_open.true) c.if-rest-eq0.true
 
-pub loop-place-preserved : goal.loop-place-preserved
-loop-place-preserved c =
+pub loop-position-preserved : goal.loop-position-preserved
+loop-position-preserved c =
     elim c.if-is_open.branch [
-      | then-is_open+else-rest-eq0 w ↦ rw w.rest-is (ahead-next (λ t. goes_out c.args.gates.now (target_at c.args.nic.now t)) (ready_numbers c.args.nic.now) c.args.i c.loop-place.place c.loop-place.rest c.ready_at-number.result
-          c.ready_at-number.ensures.told c.loop-place.invariant (sym c.is_open.ensures ∙ w.if-is_open.true) w.if-rest-eq0.false)
-      | else-is_open w ↦ rw w.rest-is (ahead-passed (λ t. goes_out c.args.gates.now (target_at c.args.nic.now t)) (ready_numbers c.args.nic.now) c.args.i c.loop-place.place c.loop-place.rest c.ready_at-number.result
-          c.ready_at-number.ensures.told c.loop-place.invariant (sym c.is_open.ensures ∙ w.if-is_open.false))
+      | then-is_open+else-rest-eq0 w ↦ rw w.rest-is (ahead-next (λ t. goes_out c.args.gates.now (target_at c.args.nic.now t)) (ready_numbers c.args.nic.now) c.args.i c.loop-position.position c.loop-position.rest c.ready_at-number.result
+          c.ready_at-number.ensures.value c.loop-position.invariant (sym c.is_open.ensures ∙ w.if-is_open.true) w.if-rest-eq0.false)
+      | else-is_open w ↦ rw w.rest-is (ahead-passed (λ t. goes_out c.args.gates.now (target_at c.args.nic.now t)) (ready_numbers c.args.nic.now) c.args.i c.loop-position.position c.loop-position.rest c.ready_at-number.result
+          c.ready_at-number.ensures.value c.loop-position.invariant (sym c.is_open.ensures ∙ w.if-is_open.false))
     ]

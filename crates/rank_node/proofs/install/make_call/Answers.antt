@@ -14,7 +14,7 @@ returns-in-CtCell c = rw c.in-CtCell.is (on_ok_weaker c.make_counter-in-CtCell.r
 pub returns-in-MdBind : goal.returns-in-MdBind
 returns-in-MdBind c =
     let new = rw c.region_descriptor-md.ensures at c.make_descriptor.ensures in
-    rw c.in-MdBind.is (on_ok_weaker c.make_descriptor.result (λ made. made-bound c.args.cells.now c.in-MdBind.length c.in-MdBind.remote c.counter.result c.args.nic.now c.make_descriptor.new.nic c.args.kept.now c.make_descriptor.new.kept made c.counter.ensures.told c.requires.all) new)
+    rw c.in-MdBind.is (on_ok_weaker c.make_descriptor.result (λ made. made-bound c.args.cells.now c.in-MdBind.length c.in-MdBind.remote c.counter.result c.args.nic.now c.make_descriptor.new.nic c.args.kept.now c.make_descriptor.new.kept made c.counter.ensures.value c.requires.all) new)
 
 pub returns-in-Overflow : goal.returns-in-Overflow
 returns-in-Overflow c =

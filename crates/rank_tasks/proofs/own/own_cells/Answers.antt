@@ -21,7 +21,7 @@ loop-call-preserved c =
     let many = ap length c.late-late.ensures ∙ length-map xs (append_call p r) in
     let lt : i < length xs = omega (arith, t, many) in
     let here : x < length p.cells = all-below (λ k. (cell p k).rank == r) (length p.cells) xs refl i lt in
-    let same = c.plan-plan.ensures.told in
+    let same = c.plan-plan.ensures.value in
     let is_entry : get_or c.late-late.result.now i PtAlloc ≡ append_call p r x =
     ap (λ v. get_or v i PtAlloc) c.late-late.ensures ∙ get_or-map (append_call p r) xs i 0 PtAlloc lt in
     let read : c.own_cell.result ≡ Some (own_cell p r x) =

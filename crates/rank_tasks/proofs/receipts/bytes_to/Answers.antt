@@ -28,6 +28,6 @@ returns c =
     let t = c.loop-source-test.false in
     let u = c.loop-source.auto.source-end in
     let n = c.ranks-source-end.ensures in
-    let e = ap (λ (q : Plan). q.ranks) c.plan.ensures.told in
+    let e = ap (λ (q : Plan). q.ranks) c.plan.ensures.value in
     let all : c.loop-source.source ≡ p.ranks = omega (arith, t, u, n, e) in
     c.loop-source.invariant ∙ ap (bytes_below p c.args.r) all ∙ all-bytes p c.args.schedule.now.inputs c.args.r c.plan.ensures.sound

@@ -13,9 +13,9 @@ use Rattle.rank_tasks.proofs.tasks.task_of.Goals as goal
 pub returns : goal.returns
 returns c = record {
   rank = refl;
-  ranks = c.ranks.ensures ∙ ap (λ (q : Plan). q.ranks) c.plan.ensures.told ∙ ap (λ (o : Outline). (plan_of o).ranks) c.schedule-schedule.ensures;
+  ranks = c.ranks.ensures ∙ ap (λ (q : Plan). q.ranks) c.plan.ensures.value ∙ ap (λ (o : Outline). (plan_of o).ranks) c.schedule-schedule.ensures;
   limits = c.limits.ensures ∙ ap (λ (o : Outline). limits_for (plan_of o) c.args.r) c.schedule-schedule.ensures;
-  region = c.in_ok-region.ensures ∙ ap₂ (λ (o : Outline) (v : Inputs). initial_region (plan_of o) v c.args.r) c.schedule-schedule.ensures c.inputs.ensures.told;
+  region = c.in_ok-region.ensures ∙ ap₂ (λ (o : Outline) (v : Inputs). initial_region (plan_of o) v c.args.r) c.schedule-schedule.ensures c.inputs.ensures.value;
   cells = c.in_ok-cells.ensures.items ∙ c.cells.ensures ∙ ap (λ (o : Outline). own (plan_of o) c.args.r) c.schedule-schedule.ensures;
   calls = c.in_ok-calls.ensures.items ∙ c.calls.ensures ∙ ap (λ (o : Outline). prepare_calls (plan_of o) c.args.r) c.schedule-schedule.ensures;
   own = c.in_ok-own.ensures ∙ ap (λ (o : Outline). own_cells (plan_of o) c.args.r) c.schedule-schedule.ensures;

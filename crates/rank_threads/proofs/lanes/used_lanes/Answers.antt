@@ -14,7 +14,7 @@ pub overflow_mul-pairs : goal.overflow_mul-pairs
 overflow_mul-pairs c =
     let sound = c.plan.ensures.sound in
     let n = c.ranks-ranks.result in
-    let e : n ≡ c.args.schedule.now.ranks = c.ranks-ranks.ensures.told ∙ ap (λ (o : Outline). o.ranks) c.shape.ensures.told in
+    let e : n ≡ c.args.schedule.now.ranks = c.ranks-ranks.ensures.value ∙ ap (λ (o : Outline). o.ranks) c.shape.ensures.value in
     let same = c.plan.ensures.ranks in
     let few : n ≤ 256 = let q = sound.few_ranks in omega (arith, e, same, q) in
     let q = few-pairs n few in
@@ -35,13 +35,13 @@ loop-pair-init c = let p = plan_of c.args.schedule.now in subst (λ (l : List Bo
 
 pub push_lane-requires : goal.push_lane-requires
 push_lane-requires c =
-    let e = c.ranks-ranks.ensures.told ∙ ap (λ (o : Outline). o.ranks) c.shape.ensures.told in
+    let e = c.ranks-ranks.ensures.value ∙ ap (λ (o : Outline). o.ranks) c.shape.ensures.value in
     let q = ranks_of c.ranks-ranks.result c.args.schedule.now.ranks c.loop-pair.pair e c.loop-pair-test.true in
     record { source = q.0; target = q.1 }
 
 pub push_lane-requires-in-loop-pair : goal.push_lane-requires-in-loop-pair
 push_lane-requires-in-loop-pair c =
-    let e = c.ranks-ranks.ensures.told ∙ ap (λ (o : Outline). o.ranks) c.shape.ensures.told in
+    let e = c.ranks-ranks.ensures.value ∙ ap (λ (o : Outline). o.ranks) c.shape.ensures.value in
     let q = ranks_of c.ranks-ranks.result c.args.schedule.now.ranks c.loop-pair.pair e c.loop-pair-test.true in
     record { source = q.0; target = q.1 }
 
@@ -52,7 +52,7 @@ loop-pair-preserved c =
     let n = c.ranks-ranks.result in
     let i = c.loop-pair.pair in
     let lanes = c.loop-pair.lanes.items in
-    let e : n ≡ p.ranks = c.ranks-ranks.ensures.told ∙ (ap (λ (o : Outline). o.ranks) c.shape.ensures.told ∙ sym c.plan.ensures.ranks) in
+    let e : n ≡ p.ranks = c.ranks-ranks.ensures.value ∙ (ap (λ (o : Outline). o.ranks) c.shape.ensures.value ∙ sym c.plan.ensures.ranks) in
     let q = ranks_of n p.ranks i e c.loop-pair-test.true in
     let some = some_rank n i c.loop-pair-test.true in
     let whole : i / n * p.ranks + i % n ≡ i = subst (λ m. i / n * m + i % n ≡ i) e (div-add-mod' i n) in
@@ -66,7 +66,7 @@ returns-clause-lanes c =
     let o = c.args.schedule.now in
     let p = plan_of o in
     let n = c.ranks-ranks.result in
-    let e : n ≡ p.ranks = c.ranks-ranks.ensures.told ∙ (ap (λ (o : Outline). o.ranks) c.shape.ensures.told ∙ sym c.plan.ensures.ranks) in
+    let e : n ≡ p.ranks = c.ranks-ranks.ensures.value ∙ (ap (λ (o : Outline). o.ranks) c.shape.ensures.value ∙ sym c.plan.ensures.ranks) in
     let t = c.loop-pair-test.false in
     let u = c.loop-pair.auto.pair-end in
     let all : c.loop-pair.pair ≡ n * n = omega (arith, t, u) in

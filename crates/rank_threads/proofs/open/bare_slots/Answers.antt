@@ -10,7 +10,7 @@ returns-clause-fresh g c =
     let job = c.args.job.now in let new = c.fill_places.new.places in
     let same = c.fill_places.ensures.count in let old = c.deref_mut.ensures.len in let long = c.in_ok-resize_with.ensures.len in
     let ranks : c.ranks-ranks.result ≡ job.shape.ranks =
-    c.ranks-ranks.ensures.told ∙ ap (λ (o : Outline). o.ranks) (c.shape.ensures.told ∙ c.schedule.ensures) in
+    c.ranks-ranks.ensures.value ∙ ap (λ (o : Outline). o.ranks) (c.shape.ensures.value ∙ c.schedule.ensures) in
     let count : length new ≡ job.shape.ranks = omega (arith, same, old, long, ranks) in
     let whole : take c.resize_with.new.self.len (new ++ drop (length new) c.resize_with.new.self.items) ≡ new =
     written c.resize_with.new.self.len new _ (sym (same ∙ old)) in
@@ -21,7 +21,7 @@ returns-clause-bare g c =
     let job = c.args.job.now in let new = c.fill_places.new.places in
     let same = c.fill_places.ensures.count in let old = c.deref_mut.ensures.len in let long = c.in_ok-resize_with.ensures.len in
     let ranks : c.ranks-ranks.result ≡ job.shape.ranks =
-    c.ranks-ranks.ensures.told ∙ ap (λ (o : Outline). o.ranks) (c.shape.ensures.told ∙ c.schedule.ensures) in
+    c.ranks-ranks.ensures.value ∙ ap (λ (o : Outline). o.ranks) (c.shape.ensures.value ∙ c.schedule.ensures) in
     let count : length new ≡ job.shape.ranks = omega (arith, same, old, long, ranks) in
     let whole : take c.resize_with.new.self.len (new ++ drop (length new) c.resize_with.new.self.items) ≡ new =
     written c.resize_with.new.self.len new _ (sym (same ∙ old)) in

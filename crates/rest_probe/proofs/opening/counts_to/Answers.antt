@@ -1,4 +1,4 @@
-use Rattle.std.proofs.Common.{◌≡◌, ◌<◌, ◌≤◌, ◌*◌, ◌++◌, ◌∙◌, ℕ, List, length, flat_map, ap, sym, subst, arith}
+use Rattle.std.proofs.Common.{◌≡◌, ◌++◌, ◌∙◌, ℕ, List, length, flat_map, ap, sym, arith}
 use Rattle.coll_shape.specs.Outline.{Outline}
 use Rattle.number_lists.specs.Numbers.{from_to}
 use Rattle.shape_plans.specs.Drawing.{plan_of}
@@ -13,11 +13,11 @@ loop-s-preserved c = let f : ℕ → List LaneCount = (λ s. pair_lanes (plan_of
 
 pub of-requires : goal.of-requires
 of-requires c = let n = c.loop-s.s in let e = ap (λ (v : List LaneCount). length v) c.loop-s.invariant in let h = to-short (plan_of c.args.schedule.now) c.args.r n in
-    let told = c.ranks-ranks.ensures.told ∙ ap (λ (o : Outline). o.ranks) c.shape.ensures.told in let same = c.plan.ensures.ranks in let few = c.plan.ensures.sound.few_ranks in
+    let told = c.ranks-ranks.ensures.value ∙ ap (λ (o : Outline). o.ranks) c.shape.ensures.value in let same = c.plan.ensures.ranks in let few = c.plan.ensures.sound.few_ranks in
     let end = c.loop-s.auto.s-end in omega (arith, e, h, told, same, few, end)
 
 pub returns : goal.returns
-returns c = let told = c.ranks-ranks.ensures.told ∙ ap (λ (o : Outline). o.ranks) c.shape.ensures.told in let same = c.plan.ensures.ranks in
+returns c = let told = c.ranks-ranks.ensures.value ∙ ap (λ (o : Outline). o.ranks) c.shape.ensures.value in let same = c.plan.ensures.ranks in
     let test = c.loop-s-test.false in let end = c.loop-s.auto.s-end in
     let all : c.loop-s.s ≡ (plan_of c.args.schedule.now).ranks = omega (arith, told, same, test, end) in
     c.of.ensures ∙ (c.loop-s.invariant ∙ ap (λ n. flat_map (λ s. pair_lanes (plan_of c.args.schedule.now) s c.args.r s) (from_to 0 n)) all)

@@ -16,7 +16,7 @@ returns-in_err-plan_line g c =
     let new = g.K.Sink.outflow c.plan_line.new.sink in
     let rows = rows_from (done_line_of p) in
     let text = c.args.out.now ++ rows 0 (p.ranks) in
-    let ranks : c.ranks-rank-end.result ≡ p.ranks = c.ranks-rank-end.ensures ∙ ap (λ (q : Plan). q.ranks) c.plan.ensures.told in
+    let ranks : c.ranks-rank-end.result ≡ p.ranks = c.ranks-rank-end.ensures ∙ ap (λ (q : Plan). q.ranks) c.plan.ensures.value in
     let lt : n < p.ranks = omega (arith, ranks) in
     let next = rows_from-next (done_line_of p) n (p.ranks) lt in
     Puts-stops old new c.args.out.now c.plan_line.new.out (rows 0 (p.ranks)) _ c.from_residual.ensures.0
@@ -33,7 +33,7 @@ loop-rank-preserved g c =
     let new = g.K.Sink.outflow c.plan_line.new.sink in
     let rows = rows_from (done_line_of p) in
     let text = c.args.out.now ++ rows 0 (p.ranks) in
-    let ranks : c.ranks-rank-end.result ≡ p.ranks = c.ranks-rank-end.ensures ∙ ap (λ (q : Plan). q.ranks) c.plan.ensures.told in
+    let ranks : c.ranks-rank-end.result ≡ p.ranks = c.ranks-rank-end.ensures ∙ ap (λ (q : Plan). q.ranks) c.plan.ensures.value in
     let lt : n < p.ranks = omega (arith, ranks) in
     let next = rows_from-next (done_line_of p) n (p.ranks) lt in
     Takes-next old before new text c.loop-rank.out c.plan_line.new.out (done_line_of p n) (rows (n + 1) (p.ranks - (n + 1)))

@@ -16,14 +16,14 @@ returns-in_err-put_number g c =
 
 pub returns-in_err-put_word : goal.returns-in_err-put_word
 returns-in_err-put_word g c =
-    let failed = rw (c.as_bytes.ensures.value, c.word.ensures.told) at c.in_err-put_word.ensures in
+    let failed = rw (c.as_bytes.ensures.value, c.word.ensures.value) at c.in_err-put_word.ensures in
     rw refusal_line-puts (Puts-then _ _ _ _ _ _ (codes "refused") _ _ c.in_ok-put.ensures.puts
     (Puts-exit-then _ _ _ _ _ _ (32 ∷ decimal c.args.number) (32 ∷ refusal_word c.args.name) _ _
     c.from_residual-in_err-put_word.ensures.0 c.in_ok-put_number.ensures failed))
 
 pub returns : goal.returns
 returns g c =
-    let put = rw (c.as_bytes.ensures.value, c.word.ensures.told) at c.in_ok-put_word.ensures in
+    let put = rw (c.as_bytes.ensures.value, c.word.ensures.value) at c.in_ok-put_word.ensures in
     rw refusal_line-puts (Puts-then _ _ _ _ _ _ (codes "refused") _ _ c.in_ok-put.ensures.puts
     (Puts-then _ _ _ _ _ _ (32 ∷ decimal c.args.number) _ _ c.in_ok-put_number.ensures
     (Puts-then _ _ _ _ _ _ (32 ∷ refusal_word c.args.name) _ _ put c.put-2.ensures.puts)))

@@ -15,9 +15,9 @@ returns-in_err-result_line g c =
     let before = g.K.Sink.outflow c.loop-rank.sink in
     let new = g.K.Sink.outflow c.result_line.new.sink in
     let text = c.args.out.now ++ lines_from o lists b 0 o.ranks in
-    let ranks : c.ranks-rank-end.result ≡ o.ranks = c.ranks-rank-end.ensures.told in
+    let ranks : c.ranks-rank-end.result ≡ o.ranks = c.ranks-rank-end.ensures.value in
     let next = lines_from-next o lists b rank o.ranks (omega arith) in
-    let line = line-is o lists b rank c.index-buffers-buffer.result c.buffers.result.now c.as_slice.result.now c.list.result.now c.requires.buffer c.buffers.ensures.told c.index-buffers-buffer.is c.as_slice.ensures.told c.list.ensures in
+    let line = line-is o lists b rank c.index-buffers-buffer.result c.buffers.result.now c.as_slice.result.now c.list.result.now c.requires.buffer c.buffers.ensures.value c.index-buffers-buffer.is c.as_slice.ensures.value c.list.ensures in
     Puts-stops old new c.args.out.now c.result_line.new.out (lines_from o lists b 0 o.ranks) _ c.from_residual.ensures.0
     (Fails-next old before new text c.loop-rank.out (line_at o lists b rank) (lines_from o lists b (rank + 1) (o.ranks - (rank + 1)))
     (subst (λ rest. Takes old before text (c.loop-rank.out ++ rest)) next c.loop-rank.invariant)
@@ -33,9 +33,9 @@ loop-rank-preserved g c =
     let before = g.K.Sink.outflow c.loop-rank.sink in
     let new = g.K.Sink.outflow c.result_line.new.sink in
     let text = c.args.out.now ++ lines_from o lists b 0 o.ranks in
-    let ranks : c.ranks-rank-end.result ≡ o.ranks = c.ranks-rank-end.ensures.told in
+    let ranks : c.ranks-rank-end.result ≡ o.ranks = c.ranks-rank-end.ensures.value in
     let next = lines_from-next o lists b rank o.ranks (omega arith) in
-    let line = line-is o lists b rank c.index-buffers-buffer.result c.buffers.result.now c.as_slice.result.now c.list.result.now c.requires.buffer c.buffers.ensures.told c.index-buffers-buffer.is c.as_slice.ensures.told c.list.ensures in
+    let line = line-is o lists b rank c.index-buffers-buffer.result c.buffers.result.now c.as_slice.result.now c.list.result.now c.requires.buffer c.buffers.ensures.value c.index-buffers-buffer.is c.as_slice.ensures.value c.list.ensures in
     Takes-next old before new text c.loop-rank.out c.result_line.new.out (line_at o lists b rank) (lines_from o lists b (rank + 1) (o.ranks - (rank + 1)))
     (subst (λ rest. Takes old before text (c.loop-rank.out ++ rest)) next c.loop-rank.invariant)
     (subst (λ xs. Takes before new (c.loop-rank.out ++ xs) c.result_line.new.out) line c.in_ok-result_line.ensures)

@@ -16,8 +16,8 @@ loop-rank-preserved g c =
     let rank = c.loop-rank.rank in
     let at_rank = rank_sum o lists b in
     let all = sum_from at_rank 0 o.ranks in
-    let ranks : c.ranks-rank-end.result ≡ o.ranks = c.ranks-rank-end.ensures.told in
-    let about = buffer-is o b c.index-buffers-buffer.result c.buffers.result.now c.requires.buffer c.buffers.ensures.told c.index-buffers-buffer.is in
+    let ranks : c.ranks-rank-end.result ≡ o.ranks = c.ranks-rank-end.ensures.value in
+    let about = buffer-is o b c.index-buffers-buffer.result c.buffers.result.now c.requires.buffer c.buffers.ensures.value c.index-buffers-buffer.is in
     let part : c.list_sum-total.result ≡ at_rank rank % 2 ^ 64 =
     (rw (← c.index-buffers-buffer.is, c.list.ensures) at c.list_sum-total.ensures)
     ∙ ap (λ (y : Buffer). sum (elements y.ty (at (lists_of lists b) rank)) % 2 ^ 64) about in
@@ -28,7 +28,7 @@ pub returns : goal.returns
 returns g c =
     let o = c.args.shape.now in
     let at_rank = rank_sum o (g.H.ResultLists.lists c.args.held.now) c.args.buffer in
-    let ranks : c.ranks-rank-end.result ≡ o.ranks = c.ranks-rank-end.ensures.told in
+    let ranks : c.ranks-rank-end.result ≡ o.ranks = c.ranks-rank-end.ensures.value in
     let none = sum_from-none at_rank c.loop-rank.rank o.ranks (omega (arith, ranks)) in
     let left = c.loop-rank.invariant in
     omega (arith, none, left)

@@ -14,7 +14,7 @@ returns-in_err-put_sum g c =
     let before = g.K.Sink.outflow c.loop-buffer.sink in
     let new = g.K.Sink.outflow c.put_sum.new.sink in
     let text = c.args.out.now ++ flat_map lines prints in
-    let same : c.prints-buffer-items.result.now ≡ prints = c.prints-buffer-items.ensures.told in
+    let same : c.prints-buffer-items.result.now ≡ prints = c.prints-buffer-items.ensures.value in
     let in_range : n < length prints = subst (λ xs. n < length xs) same c.loop-buffer-test.true in
     Puts-stops old new c.args.out.now c.put_sum.new.out (flat_map lines prints) _ c.from_residual.ensures.0
     (Fails-next old before new text c.loop-buffer.out (lines (get_or prints n 0)) (flat_map lines (drop (n + 1) prints))
@@ -30,7 +30,7 @@ loop-buffer-preserved g c =
     let before = g.K.Sink.outflow c.loop-buffer.sink in
     let new = g.K.Sink.outflow c.put_sum.new.sink in
     let text = c.args.out.now ++ flat_map lines prints in
-    let same : c.prints-buffer-items.result.now ≡ prints = c.prints-buffer-items.ensures.told in
+    let same : c.prints-buffer-items.result.now ≡ prints = c.prints-buffer-items.ensures.value in
     let in_range : n < length prints = subst (λ xs. n < length xs) same c.loop-buffer-test.true in
     Takes-next old before new text c.loop-buffer.out c.put_sum.new.out (lines (get_or prints n 0)) (flat_map lines (drop (n + 1) prints))
     (subst (λ rest. Takes old before text (c.loop-buffer.out ++ rest)) (flat_map-drop lines prints n 0 in_range) c.loop-buffer.invariant)

@@ -1,7 +1,6 @@
 -- A number below 2^64 has at most twenty digits.
-use Rattle.std.proofs.Common.{◌≡◌, ◌<◌, ◌≤◌, ◌+◌, ◌-◌, ◌∷◌, ◌++◌, arith, drop, length}
+use Rattle.std.proofs.Common.{◌-◌, arith}
 use Rattle.std.proofs.Math.ListN.{drop_of_length-le}
-use Rattle.std.specs.Fmt.{decimal}
 use Rattle.run_text.proofs.Digits.{few-digits, spaced-digits}
 use Rattle.run_text.proofs.words.spaced.Goals as goal
 

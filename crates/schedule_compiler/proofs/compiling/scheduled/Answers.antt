@@ -1,5 +1,5 @@
 -- By the laws of plans of shapes.
-use Rattle.std.proofs.Common.{◌≡◌, sym, subst}
+use Rattle.std.proofs.Common.{sym, subst}
 use Rattle.plan_tables.specs.Tables.{IsTabled}
 use Rattle.schedule_compiler.proofs.Kept.{tabled}
 use Rattle.schedule_compiler.proofs.compiling.scheduled.Goals as goal

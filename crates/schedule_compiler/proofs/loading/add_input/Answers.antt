@@ -1,5 +1,5 @@
 -- The number tells the input and the rank.
-use Rattle.std.proofs.Common.{ℕ, ◌≡◌, ◌<◌, ◌+◌, ◌*◌, ◌/◌, ◌%◌, length, get_or, arith, div-add-mod', mod-lt, sym, subst}
+use Rattle.std.proofs.Common.{◌<◌, ◌/◌, ◌%◌, length, arith, mod-lt}
 use Rattle.schedule_compiler.proofs.Memory.{input-in}
 use Rattle.schedule_compiler.proofs.loading.add_input.Goals as goal
 

@@ -1,5 +1,5 @@
 -- The cells, and the areas after them.
-use Rattle.std.proofs.Common.{ℕ, ◌==◌, ◌≡◌, ◌≤◌, ◌<◌, ◌++◌, List, [], length, flat_map, get_or, ap, ap₂, ◌∙◌, arith}
+use Rattle.std.proofs.Common.{◌==◌, ◌++◌, length, flat_map, ap, ap₂, ◌∙◌, arith}
 use Rattle.ptl_types.specs.Filled.{Filled}
 use Rattle.plan_core.specs.Plan.{Plan, cell, own}
 use Rattle.plan_core.specs.Values.{initial}
@@ -10,7 +10,7 @@ use Rattle.schedule_compiler.proofs.loading.load.Goals as goal
 
 pub add_cells-requires-clause-few_inputs : goal.add_cells-requires-clause-few_inputs
 add_cells-requires-clause-few_inputs c =
-    let t = c.input_count-count.ensures.told in
+    let t = c.input_count-count.ensures.value in
     let i = c.keeps_form.ensures.shape.shape.few_inputs in
     let b = c.keeps_form.ensures.shape.shape.few_buffers in
     omega (arith, t, i, b)
@@ -19,7 +19,7 @@ pub add_cells-requires-clause-own : goal.add_cells-requires-clause-own
 add_cells-requires-clause-own c = λ i h.
     let p = plan_of c.args.schedule.now in
     let m = all-below (λ k. (cell p k).rank == c.args.r) (length p.cells) c.cells.result.now c.cells.ensures i h in
-    let e = ap (λ (q : Plan). length q.cells) c.plan-plan.ensures.told in
+    let e = ap (λ (q : Plan). length q.cells) c.plan-plan.ensures.value in
     omega (arith, m, e)
 
 pub returns : goal.returns
@@ -30,4 +30,4 @@ returns c =
     ap (λ (f : Filled). f.list) c.from_vec.ensures
     ∙ c.in_ok-add_areas.ensures
     ∙ ap (λ v. v ++ blank_areas p r) (c.in_ok-add_cells.ensures ∙ ap₂ (λ v w. v ++ flat_map (initial p ins) w) c.in_ok-bytes.ensures.items c.cells.ensures)
-    ∙ ap (λ (q : Plan). flat_map (initial q ins) (own (plan_of c.args.schedule.now) r) ++ blank_areas q r) c.plan-plan.ensures.told
+    ∙ ap (λ (q : Plan). flat_map (initial q ins) (own (plan_of c.args.schedule.now) r) ++ blank_areas q r) c.plan-plan.ensures.value

@@ -1,6 +1,5 @@
 -- A row of the table.
-use Rattle.std.proofs.Common.{ℕ, ◌≡◌, ◌<◌, ap, ◌∙◌, arith, length, map, get_or}
-use Rattle.plan_core.specs.Plan.{from_to}
+use Rattle.std.proofs.Common.{ap, ◌∙◌, arith, get_or}
 use Rattle.plan_tables.specs.Installed.{installed}
 use Rattle.plan_tables.proofs.Passes.{get-row, length-table}
 use Rattle.schedule_compiler.proofs.schedule.rank_at.Goals as goal

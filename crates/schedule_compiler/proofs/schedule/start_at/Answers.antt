@@ -1,6 +1,5 @@
 -- A row of the table.
-use Rattle.std.proofs.Common.{ℕ, ◌≡◌, ◌<◌, ap, ◌∙◌, arith, length, map, get_or}
-use Rattle.plan_core.specs.Plan.{from_to}
+use Rattle.std.proofs.Common.{ap, ◌∙◌, arith, length, get_or}
 use Rattle.plan_calls.specs.Calls.{cell_start}
 use Rattle.plan_tables.proofs.Passes.{get-row, length-table}
 use Rattle.schedule_compiler.proofs.schedule.start_at.Goals as goal

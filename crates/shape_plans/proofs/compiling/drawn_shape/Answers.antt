@@ -11,8 +11,8 @@ returns-in-Err c = judged-fault c.args.shape.now (are-steps c.args.shape.now c.k
 pub draw-requires-clause-few : goal.draw-requires-clause-few
 draw-requires-clause-few c = not-refused c.args.shape.now c.keeps_form.ensures.shape.shape c.in-Ok.ensures.0
 
-pub draw-requires-clause-told : goal.draw-requires-clause-told
-draw-requires-clause-told c =
+pub draw-requires-clause-most : goal.draw-requires-clause-most
+draw-requires-clause-most c =
     let f = not-refused c.args.shape.now c.keeps_form.ensures.shape.shape c.in-Ok.ensures.0 in
     let e = ap (λ (s : Size). s.links) c.in-Ok.ensures.1 in
     omega (arith, f, e)

@@ -1,5 +1,5 @@
 -- One input more in each turn.
-use Rattle.std.proofs.Common.{ℕ, ◌+◌, ◌<◌, ◌≤◌, ◌≡◌, length, map, ap, ap₂, sym, subst, ◌∙◌, arith, get_or}
+use Rattle.std.proofs.Common.{ℕ, ◌<◌, ◌≤◌, ◌≡◌, length, map, ap, ap₂, sym, subst, ◌∙◌, arith}
 use Rattle.plan_core.specs.Plan.{Plan, from_to}
 use Rattle.plan_core.specs.Draw.{HasRoom, HeldCells, add_all}
 use Rattle.coll_shape.specs.declared.types.Buffer.{Buffer}
@@ -16,7 +16,7 @@ loop-b-init c =
 pub overflow_cast-first : goal.overflow_cast-first
 overflow_cast-first c =
     let o = c.args.shape.now in
-    let n = c.input_count-b-end.ensures.told in
+    let n = c.input_count-b-end.ensures.value in
     let t = c.loop-b-test.true in
     let f = (few-inputs o c.keeps_form.ensures.shape.shape c.loop-b.b (let z : c.loop-b.b ≤ o.inputs = omega (arith, n, t) in z)).1 in
     let e = ap length c.cells.ensures ∙ ap (λ (p : Plan). length p.cells) c.loop-b.invariant.plan in
@@ -25,21 +25,21 @@ overflow_cast-first c =
 pub draw_inputs-requires-clause-room : goal.draw_inputs-requires-clause-room
 draw_inputs-requires-clause-room c =
     let o = c.args.shape.now in
-    let n = c.input_count-b-end.ensures.told in
+    let n = c.input_count-b-end.ensures.value in
     let t = c.loop-b-test.true in
     let P : Plan → Buffer → ℕ → Type 0 = λ p x r. HasRoom p (map (input_cell x) (from_to 0 r)) in
     let room = room-input o c.keeps_form.ensures.shape.shape c.loop-b.b (let z : c.loop-b.b ≤ o.inputs = omega (arith, n, t) in z) in
-    let x : buffer_at o c.loop-b.b ≡ c.index-buffers-b.result = the-buffer o c.loop-b.b c.buffers.result.now c.index-buffers-b.result c.buffers.ensures.told (let i = c.keeps_form.ensures.shape.shape.few_inputs in let z : c.loop-b.b < length o.buffers = omega (arith, n, t, i) in z) c.index-buffers-b.is in
+    let x : buffer_at o c.loop-b.b ≡ c.index-buffers-b.result = the-buffer o c.loop-b.b c.buffers.result.now c.index-buffers-b.result c.buffers.ensures.value (let i = c.keeps_form.ensures.shape.shape.few_inputs in let z : c.loop-b.b < length o.buffers = omega (arith, n, t, i) in z) c.index-buffers-b.is in
     subst (λ p. P p c.index-buffers-b.result c.ranks-ranks.result) (sym c.loop-b.invariant.plan)
     (subst (λ v. P (drawn_inputs o c.loop-b.b).plan v c.ranks-ranks.result) x
-    (subst (λ v. P (drawn_inputs o c.loop-b.b).plan (buffer_at o c.loop-b.b) v) (sym c.ranks-ranks.ensures.told) room))
+    (subst (λ v. P (drawn_inputs o c.loop-b.b).plan (buffer_at o c.loop-b.b) v) (sym c.ranks-ranks.ensures.value) room))
 
 pub hold_inputs-requires-clause-ranks : goal.hold_inputs-requires-clause-ranks
 hold_inputs-requires-clause-ranks c =
     let o = c.args.shape.now in
     let e = ap (λ (h : HeldCells). h.ranks) c.loop-b.invariant.held in
     let t = (tables-inputs o c.keeps_form.ensures.shape.shape.few_ranks c.loop-b.b).ranks in
-    let r = c.ranks-ranks.ensures.told in
+    let r = c.ranks-ranks.ensures.value in
     omega (arith, e, t, r)
 
 pub hold_inputs-requires-clause-buffer : goal.hold_inputs-requires-clause-buffer
@@ -47,7 +47,7 @@ hold_inputs-requires-clause-buffer c =
     let o = c.args.shape.now in
     let e = ap (λ (h : HeldCells). h.buffers) c.loop-b.invariant.held in
     let t = (tables-inputs o c.keeps_form.ensures.shape.shape.few_ranks c.loop-b.b).buffers in
-    let n = c.input_count-b-end.ensures.told in
+    let n = c.input_count-b-end.ensures.value in
     let l = c.loop-b-test.true in
     let i = c.keeps_form.ensures.shape.shape.few_inputs in
     omega (arith, e, t, n, l, i)
@@ -55,11 +55,11 @@ hold_inputs-requires-clause-buffer c =
 pub hold_inputs-requires-clause-few : goal.hold_inputs-requires-clause-few
 hold_inputs-requires-clause-few c =
     let o = c.args.shape.now in
-    let n = c.input_count-b-end.ensures.told in
+    let n = c.input_count-b-end.ensures.value in
     let t = c.loop-b-test.true in
     let f = (few-inputs o c.keeps_form.ensures.shape.shape c.loop-b.b (let z : c.loop-b.b ≤ o.inputs = omega (arith, n, t) in z)).1 in
     let e = ap length c.cells.ensures ∙ ap (λ (p : Plan). length p.cells) c.loop-b.invariant.plan in
-    let r = c.ranks-ranks.ensures.told in
+    let r = c.ranks-ranks.ensures.value in
     let q = c.keeps_form.ensures.shape.shape.few_ranks in
     omega (arith, f, e, r, q)
 
@@ -68,10 +68,10 @@ loop-b-preserved c =
     let o = c.args.shape.now in
     let b = c.loop-b.b in
     let d = drawn_inputs o b in
-    let n = c.input_count-b-end.ensures.told in
+    let n = c.input_count-b-end.ensures.value in
     let t = c.loop-b-test.true in
-    let x : buffer_at o b ≡ c.index-buffers-b.result = the-buffer o b c.buffers.result.now c.index-buffers-b.result c.buffers.ensures.told (let i = c.keeps_form.ensures.shape.shape.few_inputs in let z : b < length o.buffers = omega (arith, n, t, i) in z) c.index-buffers-b.is in
-    let r = c.ranks-ranks.ensures.told in
+    let x : buffer_at o b ≡ c.index-buffers-b.result = the-buffer o b c.buffers.result.now c.index-buffers-b.result c.buffers.ensures.value (let i = c.keeps_form.ensures.shape.shape.few_inputs in let z : b < length o.buffers = omega (arith, n, t, i) in z) c.index-buffers-b.is in
+    let r = c.ranks-ranks.ensures.value in
     let e = ap length c.cells.ensures ∙ ap (λ (p : Plan). length p.cells) c.loop-b.invariant.plan in
     record {
       plan =

@@ -1,7 +1,7 @@
 -- One cell more in each turn.
-use Rattle.std.proofs.Common.{ℕ, ◌≡◌, ◌<◌, ◌∷◌, [], arith, map, ap, sym, subst, ◌∙◌}
-use Rattle.plan_core.specs.Plan.{Plan, from_to}
-use Rattle.plan_core.specs.Draw.{HasRoom, add, add_all}
+use Rattle.std.proofs.Common.{◌∷◌, [], ap, sym, subst, ◌∙◌}
+use Rattle.plan_core.specs.Plan.{Plan}
+use Rattle.plan_core.specs.Draw.{HasRoom, add}
 use Rattle.plan_core.proofs.Drawing.{add_all-none, cells-more, room-at}
 use Rattle.shape_plans.specs.Drawing.{input_cell}
 use Rattle.shape_plans.proofs.drawing.draw_inputs.Goals as goal

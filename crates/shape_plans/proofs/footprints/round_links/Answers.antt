@@ -1,5 +1,5 @@
 -- One round more in each turn.
-use Rattle.std.proofs.Common.{ap, ◌∙◌, sym, arith, ◌+◌, ◌-◌, ◌^◌}
+use Rattle.std.proofs.Common.{ap, arith, ◌+◌, ◌-◌, ◌^◌}
 use Rattle.shape_plans.proofs.Counting.{sum-more}
 use Rattle.shape_plans.proofs.footprints.round_links.Goals as goal
 

@@ -9,8 +9,8 @@ at-requires g c =
     let e = due-are s.operations s.marks s.given s.limit c.args.self.now c.self.view_is c.self.invariant.kept c.count-marked.ensures.rising c.self.invariant.marked in
     rw c.from.ensures (subst (λ (xs : List ℕ). c.args.i < length xs) (sym e) c.requires)
 
-pub returns-clause-told : goal.returns-clause-told
-returns-clause-told g c =
+pub returns-clause-value : goal.returns-clause-value
+returns-clause-value g c =
     let s = c.self.inside in
     let e = due-are s.operations s.marks s.given s.limit c.args.self.now c.self.view_is c.self.invariant.kept c.at.ensures.rising c.self.invariant.marked in
-    subst (λ (xs : List ℕ). slice_get xs c.args.i ≡ Some c.at.result) e (rw c.from.ensures at c.at.ensures.told)
+    subst (λ (xs : List ℕ). slice_get xs c.args.i ≡ Some c.at.result) e (rw c.from.ensures at c.at.ensures.value)

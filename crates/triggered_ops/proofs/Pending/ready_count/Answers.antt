@@ -8,9 +8,9 @@ overflow_cast-result g c =
     let s = c.self.inside in
     let e = due-are s.operations s.marks s.given s.limit (operations_of s.operations.entries s.given s.limit) (λ i. operations_of s.operations.entries s.given s.limit) c.self.invariant.kept c.count.ensures.rising c.self.invariant.marked in
     let few = few-due (operations_of s.operations.entries s.given s.limit) c.self.invariant.kept (omega (arith, c.self.invariant.small)) in
-    omega (arith, few, ap length e, c.count.ensures.told)
+    omega (arith, few, ap length e, c.count.ensures.value)
 
-pub returns-clause-told : goal.returns-clause-told
-returns-clause-told g c =
+pub returns-clause-value : goal.returns-clause-value
+returns-clause-value g c =
     let s = c.self.inside in
-    c.count.ensures.told ∙ ap length (due-are s.operations s.marks s.given s.limit c.args.self.now c.self.view_is c.self.invariant.kept c.count.ensures.rising c.self.invariant.marked)
+    c.count.ensures.value ∙ ap length (due-are s.operations s.marks s.given s.limit c.args.self.now c.self.view_is c.self.invariant.kept c.count.ensures.rising c.self.invariant.marked)

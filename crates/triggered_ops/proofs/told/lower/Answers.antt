@@ -40,7 +40,7 @@ loop-threshold-smaller g c =
     let l = c.loop-threshold in
     let k : ℕ × ℕ = (c.in-Some.threshold, c.in-Some.number) in
     let le : rank l.from.0 l.from.1 ≤ rank k.0 k.1 = rank-upto l.from k l.invariant.few c.in-Some.ensures.found.1 in
-    omega (arith, le, l.invariant.few, l.invariant.high, c.just_after-from.ensures.place.0, c.just_after-from.ensures.place.1)
+    omega (arith, le, l.invariant.few, l.invariant.high, c.just_after-from.ensures.value.0, c.just_after-from.ensures.value.1)
 
 pub loop-threshold-preserved : goal.loop-threshold-preserved
 loop-threshold-preserved g c =
@@ -54,10 +54,10 @@ loop-threshold-preserved g c =
       ordered = c.settle.ensures.ordered;
       held = c.settle.ensures.held ∙ l.invariant.held;
       room = c.settle.ensures.room ∙ l.invariant.room;
-      few = omega (arith, few, c.just_after-from.ensures.place.1);
+      few = omega (arith, few, c.just_after-from.ensures.value.1);
       high = c.just_after-from.ensures.range;
-      top = omega (arith, le, l.invariant.top, c.just_after-from.ensures.place.0, c.just_after-from.ensures.place.1);
-      found = rw (c.just_after-from.ensures.place.0, c.just_after-from.ensures.place.1) (lowered-step c.args.ct c.args.sum (rank l.from.0 l.from.1) (found_at c.args.operations.now) (found_at l.operations) (found_at c.settle.new.operations) k.0 k.1 l.invariant.found c.settle.ensures.found waits few le l.invariant.top
+      top = omega (arith, le, l.invariant.top, c.just_after-from.ensures.value.0, c.just_after-from.ensures.value.1);
+      found = rw (c.just_after-from.ensures.value.0, c.just_after-from.ensures.value.1) (lowered-step c.args.ct c.args.sum (rank l.from.0 l.from.1) (found_at c.args.operations.now) (found_at l.operations) (found_at c.settle.new.operations) k.0 k.1 l.invariant.found c.settle.ensures.found waits few le l.invariant.top
           (λ h t few-t low high. sym (c.requires.indexed c.args.ct.slot c.args.ct.stamp h t) ∙ c.in-Some.ensures.least h t (upto-rank l.from (h, t) (omega (arith, few-t)) low) (before-rank (h, t) k (omega (arith, few)) high))
           c.requires.below);
     }

@@ -7,4 +7,4 @@ use Rattle.unexpected.proofs.Headers.put_at.Goals as goal
 pub returns : goal.returns
 returns c =
     let s = c.self.inside in
-    rw (← c.self.view_is) (ap (λ (xs : List IndexedHeader). unexpected_list xs s.limit) (drop-set-add s.gone s.unexpected.items c.args.place c.args.unexpected))
+    rw (← c.self.view_is) (ap (λ (xs : List IndexedHeader). unexpected_list xs s.limit) (drop-set-add s.gone s.unexpected.items c.args.position c.args.unexpected))

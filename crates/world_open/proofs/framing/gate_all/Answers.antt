@@ -4,7 +4,7 @@ use Rattle.std.proofs.lemmas.Nat.{mul-add-lt}
 use Rattle.rank_node.specs.Node.{NodeState}
 use Rattle.world_parts.specs.Layout.{node_at}
 use Rattle.world_open.proofs.Laid.{few-pairs}
-use Rattle.world_open.proofs.Told.{AreTold, goal_in, source_in, told_more, untold}
+use Rattle.world_open.proofs.Told.{AreGatedTo, goal_in, source_in, told_more, untold}
 use Rattle.world_open.proofs.framing.gate_all.Goals as goal
 
 pub overflow_mul-pairs : goal.overflow_mul-pairs
@@ -13,7 +13,7 @@ overflow_mul-pairs c = let q = few-pairs c.args.ranks c.requires.few in omega (a
 pub loop-pair-init : goal.loop-pair-init
 loop-pair-init c = record {
   size = c.requires.nodes;
-  told = λ r. untold (node_at c.args.nodes.now r);
+  same = λ r. untold (node_at c.args.nodes.now r);
   gates = λ r d hr hd h. absurd (omega (arith, h));
 }
 
@@ -29,14 +29,14 @@ gate-requires c =
       source = source_in n c.args.window c.args.lanes.now c.args.nodes.now c.loop-pair.nodes i c.requires.some h c.requires.wide v;
       goal = goal_in n c.args.window c.args.lanes.now c.args.nodes.now c.loop-pair.nodes i c.requires.some h c.requires.wide v;
       nodes = v.size;
-      closed = (v.told (i / n)).wide ∙ c.requires.wide (i / n) (source_in n c.args.window c.args.lanes.now c.args.nodes.now c.loop-pair.nodes i c.requires.some h c.requires.wide v);
+      closed = (v.same (i / n)).wide ∙ c.requires.wide (i / n) (source_in n c.args.window c.args.lanes.now c.args.nodes.now c.loop-pair.nodes i c.requires.some h c.requires.wide v);
     }
 
 pub loop-pair-preserved : goal.loop-pair-preserved
 loop-pair-preserved c =
     let n = c.args.ranks in
     let h : c.loop-pair.pair < n * n = c.loop-pair-test.true in
-    subst (λ (v : List NodeState). AreTold n c.args.window c.args.lanes.now c.args.nodes.now v (c.loop-pair.pair + 1)) (sym c.gate.ensures)
+    subst (λ (v : List NodeState). AreGatedTo n c.args.window c.args.lanes.now c.args.nodes.now v (c.loop-pair.pair + 1)) (sym c.gate.ensures)
     (told_more n c.args.window c.args.lanes.now c.args.nodes.now c.loop-pair.nodes c.loop-pair.pair c.requires.some h c.requires.wide
     c.loop-pair.invariant)
 
@@ -47,6 +47,6 @@ returns c =
     let v = c.loop-pair.invariant in
     record {
       size = v.size;
-      told = v.told;
+      same = v.same;
       gates = λ r d hr hd. let q = mul-add-lt r n d n hr hd in v.gates r d hr hd (omega (arith, q, t));
     }

@@ -17,7 +17,7 @@ returns c =
     record {
       size = size;
       kept = λ r h. c.kept.ensures r (subst (λ n. r < n) (sym c.requires.nodes) h);
-      told = c.gate_all.ensures.told;
+      same = c.gate_all.ensures.same;
       counted = record {
         wide_starts = c.fill_starts.ensures.size ∙ size;
         wide_deliveries = c.fill_deliveries.ensures.size;

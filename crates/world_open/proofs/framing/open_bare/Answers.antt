@@ -16,7 +16,7 @@ use Rattle.world_open.proofs.framing.open_bare.Goals as goal
 pub overflow_mul-places : goal.overflow_mul-places
 overflow_mul-places c =
     let n = c.ranks-ranks.result in
-    let e : n ≡ c.schedule-schedule.result.now.ranks = c.ranks-ranks.ensures.told ∙ ap (λ (o : Outline). o.ranks) c.shape-shape.ensures.told in
+    let e : n ≡ c.schedule-schedule.result.now.ranks = c.ranks-ranks.ensures.value ∙ ap (λ (o : Outline). o.ranks) c.shape-shape.ensures.value in
     let same = c.plan.ensures.ranks in
     let few : n ≤ 256 = let q = c.plan.ensures.sound.few_ranks in omega (arith, e, same, q) in
     let q = few-pairs n few in
@@ -31,9 +31,9 @@ returns c =
     let n = o.ranks in
     let lanes = c.in_ok-lanes.lanes.items in
     let ins = c.inputs.ensures.inputs in
-    let told : c.shape-shape.result.now ≡ o = c.shape-shape.ensures.told ∙ same in
+    let told : c.shape-shape.result.now ≡ o = c.shape-shape.ensures.value ∙ same in
     let well : IsWellFormed o = subst IsWellFormed told c.keeps_form.ensures.shape in
-    let ranks : c.ranks-ranks.result ≡ n = c.ranks-ranks.ensures.told ∙ ap (λ (s : Outline). s.ranks) told in
+    let ranks : c.ranks-ranks.result ≡ n = c.ranks-ranks.ensures.value ∙ ap (λ (s : Outline). s.ranks) told in
     let sound : SoundPlan p (length inputs) = subst (SoundPlan p) (sym ins.many) (subst (λ (s : Outline). SoundPlan (plan_of s) s.inputs) same c.plan.ensures.sound) in
     let count : p.ranks ≡ n = subst (λ (s : Outline). (plan_of s).ranks ≡ s.ranks) same c.plan.ensures.ranks in
     let few : n ≤ 256 = let q = sound.few_ranks in omega (arith, q, count) in

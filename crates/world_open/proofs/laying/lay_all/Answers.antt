@@ -13,7 +13,7 @@ pub overflow_mul-pairs : goal.overflow_mul-pairs
 overflow_mul-pairs c =
     let sound = c.plan.ensures.sound in
     let n = c.ranks-ranks.result in
-    let e : n ≡ c.args.schedule.now.ranks = c.ranks-ranks.ensures.told ∙ ap (λ (o : Outline). o.ranks) c.shape.ensures.told in
+    let e : n ≡ c.args.schedule.now.ranks = c.ranks-ranks.ensures.value ∙ ap (λ (o : Outline). o.ranks) c.shape.ensures.value in
     let same = c.plan.ensures.ranks in
     let few : n ≤ 256 = let q = sound.few_ranks in omega (arith, e, same, q) in
     let q = few-pairs n few in
@@ -31,13 +31,13 @@ ranks_of n m i e h =
 
 pub open_lane-requires : goal.open_lane-requires
 open_lane-requires c =
-    let e = c.ranks-ranks.ensures.told ∙ ap (λ (o : Outline). o.ranks) c.shape.ensures.told in
+    let e = c.ranks-ranks.ensures.value ∙ ap (λ (o : Outline). o.ranks) c.shape.ensures.value in
     let q = ranks_of c.ranks-ranks.result c.args.schedule.now.ranks c.loop-pair.pair e c.loop-pair-test.true in
     record { source = q.0; target = q.1 }
 
 pub open_lane-requires-in-loop-pair : goal.open_lane-requires-in-loop-pair
 open_lane-requires-in-loop-pair c =
-    let e = c.ranks-ranks.ensures.told ∙ ap (λ (o : Outline). o.ranks) c.shape.ensures.told in
+    let e = c.ranks-ranks.ensures.value ∙ ap (λ (o : Outline). o.ranks) c.shape.ensures.value in
     let q = ranks_of c.ranks-ranks.result c.args.schedule.now.ranks c.loop-pair.pair e c.loop-pair-test.true in
     record { source = q.0; target = q.1 }
 
@@ -47,7 +47,7 @@ loop-pair-preserved c =
     let p = plan_of o in
     let f = laid_lane p c.args.room in
     let n = c.ranks-ranks.result in
-    let e : n ≡ o.ranks = c.ranks-ranks.ensures.told ∙ ap (λ (o : Outline). o.ranks) c.shape.ensures.told in
+    let e : n ≡ o.ranks = c.ranks-ranks.ensures.value ∙ ap (λ (o : Outline). o.ranks) c.shape.ensures.value in
     let i = c.loop-pair.pair in
     let lanes = c.loop-pair.lanes.items in
     let before = c.loop-pair.invariant in
@@ -65,7 +65,7 @@ pub returns : goal.returns
 returns c =
     let o = c.args.schedule.now in
     let n = c.ranks-ranks.result in
-    let e : n ≡ o.ranks = c.ranks-ranks.ensures.told ∙ ap (λ (o : Outline). o.ranks) c.shape.ensures.told in
+    let e : n ≡ o.ranks = c.ranks-ranks.ensures.value ∙ ap (λ (o : Outline). o.ranks) c.shape.ensures.value in
     let i = c.loop-pair.pair in
     let t = c.loop-pair-test.false in
     let u = c.loop-pair.auto.pair-end in

@@ -2,7 +2,6 @@ use Rattle.std.proofs.Common.{◌≡◌, ◌+◌, None, true, get_or, sym, subst
 use Rattle.std.specs.Option.{is_some, IfSome}
 use Rattle.chain_list.specs.Chain.{chain_list}
 use Rattle.chain_list.proofs.ChainKept
-use Rattle.chain_list.proofs.ChainKept.{seen}
 use Rattle.chain_list.proofs.chain.Chain.push_back.Goals as goal
 
 pub set_next-requires : goal.set_next-requires

@@ -1,10 +1,8 @@
-use Rattle.std.proofs.Common.{◌≡◌, ◌<◌, ◌+◌, ◌-◌, ◌^◌, ◌++◌, true, Some, None, length, get_or, set, replicate, refl, sym, ap, subst, ◌∙◌, arith}
+use Rattle.std.proofs.Common.{◌≡◌, ◌-◌, true, Some, None, get_or, set, refl, sym, ap, subst, ◌∙◌}
 use Rattle.std.specs.Option.{is_some, IfSome}
-use Rattle.std.specs.Vec.{vec_len}
-use Rattle.chain_list.specs.declared.row.Links.{Links}
-use Rattle.chain_list.specs.NodeMap.{node, valued}
-use Rattle.chain_list.specs.Joined.{no_links, links_of, with_links, joined}
-use Rattle.chain_list.proofs.Rows.{length-joined, set-joined, set-value, set-links, joined-none, joined-more, held_at, empty_at}
+use Rattle.chain_list.specs.NodeMap.{valued}
+use Rattle.chain_list.specs.Joined.{no_links, with_links, joined}
+use Rattle.chain_list.proofs.Rows.{set-value, held_at}
 use Rattle.chain_list.proofs.row.Row.value_mut.Goals as goal
 
 pub get_mut-requires : goal.get_mut-requires

@@ -1,5 +1,5 @@
-use Rattle.std.proofs.Common.{◌≡◌, ◌<◌, None, length, get_or, sym, ap, subst, ◌∙◌, arith}
-use Rattle.place_threads.specs.Nodes.{node_of, nodes_of}
+use Rattle.std.proofs.Common.{◌<◌, length, sym, ap, ◌∙◌, arith}
+use Rattle.place_threads.specs.Nodes.{node_of}
 use Rattle.place_threads.proofs.LinkLemmas.{length-nodes, get-nodes}
 use Rattle.place_threads.proofs.links.Links.at.Goals as goal
 

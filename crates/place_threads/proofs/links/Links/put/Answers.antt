@@ -1,5 +1,4 @@
-use Rattle.std.proofs.Common.{◌≡◌, ◌<◌, None, length, get_or, sym, ap, subst, ◌∙◌, arith}
-use Rattle.place_threads.specs.Nodes.{node_of, nodes_of}
+use Rattle.std.proofs.Common.{length, ap, arith}
 use Rattle.place_threads.proofs.LinkLemmas.{length-nodes, set-nodes}
 use Rattle.place_threads.proofs.links.Links.put.Goals as goal
 

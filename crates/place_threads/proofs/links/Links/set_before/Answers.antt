@@ -1,4 +1,4 @@
-use Rattle.std.proofs.Common.{◌≡◌, ◌<◌, Some, None, length, get_or, set, sym, ap, subst, ◌∙◌, arith}
+use Rattle.std.proofs.Common.{◌<◌, length, set, sym, ap, ◌∙◌, arith}
 use Rattle.chain_list.specs.Relinked.{with_before}
 use Rattle.place_threads.specs.Nodes.{node_of, nodes_of}
 use Rattle.place_threads.proofs.LinkLemmas.{length-nodes, get-nodes, set-nodes}

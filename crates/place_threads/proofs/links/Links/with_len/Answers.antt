@@ -1,4 +1,4 @@
-use Rattle.std.proofs.Common.{◌≡◌, ap, ◌∙◌}
+use Rattle.std.proofs.Common.{ap, ◌∙◌}
 use Rattle.place_threads.specs.Nodes.{nodes_of}
 use Rattle.place_threads.proofs.LinkLemmas.{nodes-replicate}
 use Rattle.place_threads.proofs.links.Links.with_len.Goals as goal

@@ -1,7 +1,7 @@
-use Rattle.std.proofs.Common.{◌≡◌, [], replicate, Some, None, length, sym, ap, subst, ◌∙◌, refl}
+use Rattle.std.proofs.Common.{[], replicate, Some, None, length, sym, ap, subst, ◌∙◌}
 use Rattle.std.proofs.lemmas.List.{length-replicate}
 use Rattle.chain_list.specs.NodeMap.{node}
-use Rattle.place_threads.specs.Fields.{IsThreads, threads_of, no_ends}
+use Rattle.place_threads.specs.Fields.{IsThreads, threads_of}
 use Rattle.place_threads.specs.Threads.{woven}
 use Rattle.place_threads.proofs.ThreadLemmas.{viewed, settled, no_threads}
 use Rattle.place_threads.proofs.threads.Threads.open.Goals as goal

@@ -23,7 +23,7 @@ few_kinds ks xs ys e same few =
 
 pub seat_all-requires : goal.seat_all-requires
 seat_all-requires c =
-    let few = few_kinds c.in_ok-kinds.kinds.items c.steps.result.now c.args.choices.now.steps c.in_ok-kinds.ensures c.steps.ensures.told
+    let few = few_kinds c.in_ok-kinds.kinds.items c.steps.result.now c.args.choices.now.steps c.in_ok-kinds.ensures c.steps.ensures.value
     c.steps.ensures.are.few in
     let here = ap length c.deref.ensures.value in
     omega (arith, few, here)
@@ -49,7 +49,7 @@ pub invariant_of-result : goal.invariant_of-result
 invariant_of-result c =
     let seats = c.in_ok-seats.seats.items in
     let ks = c.in_ok-kinds.kinds.items in
-    let few_steps = few_kinds ks c.steps.result.now c.args.choices.now.steps c.in_ok-kinds.ensures c.steps.ensures.told c.steps.ensures.are.few in
+    let few_steps = few_kinds ks c.steps.result.now c.args.choices.now.steps c.in_ok-kinds.ensures c.steps.ensures.value c.steps.ensures.are.few in
     let installed = subst (λ (k : List ChoiceKind). (r : ℕ) → r < c.args.ranks → IsInstalled c.args.ranks k r (seat_at seats r))
     c.deref.ensures.value c.in_ok-seats.ensures.seats in
     let of_starts = subst (λ (v : List Seated). (r : ℕ) → r < length v → get_or c.in_ok-starts.starts r 0 ≡ start_count (seat_at v r))
@@ -68,7 +68,7 @@ pub returns-clause-first : goal.returns-clause-first
 returns-clause-first c =
     let seats = c.in_ok-seats.seats.items in
     let ks = c.in_ok-kinds.kinds.items in
-    let few_steps = few_kinds ks c.steps.result.now c.args.choices.now.steps c.in_ok-kinds.ensures c.steps.ensures.told c.steps.ensures.are.few in
+    let few_steps = few_kinds ks c.steps.result.now c.args.choices.now.steps c.in_ok-kinds.ensures c.steps.ensures.value c.steps.ensures.are.few in
     let installed = subst (λ (k : List ChoiceKind). (r : ℕ) → r < c.args.ranks → IsInstalled c.args.ranks k r (seat_at seats r))
     c.deref.ensures.value c.in_ok-seats.ensures.seats in
     let count : c.len.result ≡ length ks = (let n = c.len.ensures in let o = c.in_ok-kinds.kinds.ok.0 in omega (arith, n, o)) in
@@ -81,7 +81,7 @@ pub returns-clause-kept : goal.returns-clause-kept
 returns-clause-kept c =
     let seats = c.in_ok-seats.seats.items in
     let ks = c.in_ok-kinds.kinds.items in
-    let few_steps = few_kinds ks c.steps.result.now c.args.choices.now.steps c.in_ok-kinds.ensures c.steps.ensures.told c.steps.ensures.are.few in
+    let few_steps = few_kinds ks c.steps.result.now c.args.choices.now.steps c.in_ok-kinds.ensures c.steps.ensures.value c.steps.ensures.are.few in
     let installed = subst (λ (k : List ChoiceKind). (r : ℕ) → r < c.args.ranks → IsInstalled c.args.ranks k r (seat_at seats r))
     c.deref.ensures.value c.in_ok-seats.ensures.seats in
     let count : c.len.result ≡ length ks = (let n = c.len.ensures in let o = c.in_ok-kinds.kinds.ok.0 in omega (arith, n, o)) in

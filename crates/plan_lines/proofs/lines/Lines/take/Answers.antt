@@ -1,4 +1,4 @@
-use Rattle.std.proofs.Common.{◌≡◌, ◌++◌, ◌∷◌, List, ℕ}
+use Rattle.std.proofs.Common.{◌≡◌, ◌++◌, ◌∷◌}
 use Rattle.coll_text.specs.Text.{line, lines, words}
 use Rattle.plan_lines.proofs.Reading.{first_line}
 use Rattle.plan_lines.proofs.lines.Lines.take.Goals as goal

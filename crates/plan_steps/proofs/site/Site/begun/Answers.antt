@@ -1,5 +1,5 @@
 -- The lists have one entry a member.
-use Rattle.std.proofs.Common.{ap, ◌∙◌, sym, arith, length, get_or, map, ◌<◌}
+use Rattle.std.proofs.Common.{ap, ◌∙◌, sym, arith, length, get_or}
 use Rattle.plan_steps.specs.Beginning.{source_in}
 use Rattle.coll_shape.specs.Collectives.{is_in}
 use Rattle.coll_shape.specs.Outline.{read_buffer}

@@ -1,7 +1,6 @@
 -- A row of the table.
-use Rattle.std.proofs.Common.{ℕ, Bool, ◌==◌, ◌≡◌, ◌<◌, ◌∙◌, ap, arith, eqb-true, get_or, length, []}
-use Rattle.plan_core.specs.Plan.{cell, link, own, out_links}
-use Rattle.plan_calls.specs.Areas.{comes_to, links_to, region_length}
+use Rattle.std.proofs.Common.{◌==◌, ◌∙◌, ap, arith, eqb-true, get_or, length, []}
+use Rattle.plan_core.specs.Plan.{cell, own}
 use Rattle.plan_tables.proofs.Passes.{get-row, length-table}
 use Rattle.plan_tables.proofs.Indexed.{all-below, all-pass, few-listed}
 use Rattle.plan_tables.proofs.index.Index.own_at.Goals as goal
@@ -9,14 +8,14 @@ use Rattle.plan_tables.proofs.index.Index.own_at.Goals as goal
 pub at-requires : goal.at-requires
 at-requires c = let e = length-table (own c.args.plan.now) c.args.plan.now.ranks c.args.self.now.own c.requires.index.own in let h = c.requires.rank in omega (arith, e, h)
 
-pub returns-clause-told : goal.returns-clause-told
-returns-clause-told c = c.at.ensures ∙ ap (λ t. get_or t c.args.r []) c.requires.index.own ∙ get-row (own c.args.plan.now) c.args.plan.now.ranks c.args.r [] c.requires.rank
+pub returns-clause-value : goal.returns-clause-value
+returns-clause-value c = c.at.ensures ∙ ap (λ t. get_or t c.args.r []) c.requires.index.own ∙ get-row (own c.args.plan.now) c.args.plan.now.ranks c.args.r [] c.requires.rank
 
 pub returns-clause-cells : goal.returns-clause-cells
-returns-clause-cells c = λ i h. all-below (λ k. (cell c.args.plan.now k).rank == c.args.r) (length c.args.plan.now.cells) c.at.result.now (returns-clause-told c) i h
+returns-clause-cells c = λ i h. all-below (λ k. (cell c.args.plan.now k).rank == c.args.r) (length c.args.plan.now.cells) c.at.result.now (returns-clause-value c) i h
 
 pub returns-clause-few : goal.returns-clause-few
-returns-clause-few c = few-listed (λ k. (cell c.args.plan.now k).rank == c.args.r) (length c.args.plan.now.cells) c.at.result.now (returns-clause-told c)
+returns-clause-few c = few-listed (λ k. (cell c.args.plan.now k).rank == c.args.r) (length c.args.plan.now.cells) c.at.result.now (returns-clause-value c)
 
 pub returns-clause-ranks : goal.returns-clause-ranks
-returns-clause-ranks c = λ i h. eqb-true _ _ (all-pass (λ k. (cell c.args.plan.now k).rank == c.args.r) (length c.args.plan.now.cells) c.at.result.now (returns-clause-told c) i h)
+returns-clause-ranks c = λ i h. eqb-true _ _ (all-pass (λ k. (cell c.args.plan.now k).rank == c.args.r) (length c.args.plan.now.cells) c.at.result.now (returns-clause-value c) i h)

@@ -1,5 +1,5 @@
 -- A place of the table.
-use Rattle.std.proofs.Common.{ℕ, ◌+◌, ◌*◌, ◌≡◌, ◌<◌, ◌∙◌, ap, ap₂, arith, get_or, length, sum_by}
+use Rattle.std.proofs.Common.{◌+◌, ◌*◌, ◌∙◌, ap, ap₂, arith, get_or, length, sum_by}
 use Rattle.plan_tables.specs.Rising.{of_key}
 use Rattle.plan_tables.specs.Tables.{lane_key, link_length}
 use Rattle.plan_tables.proofs.Passes.{length-table}

@@ -1,5 +1,5 @@
 -- A place of the table.
-use Rattle.std.proofs.Common.{ℕ, ◌+◌, ◌*◌, ◌≡◌, ◌<◌, ◌∙◌, ap, arith, get_or, length, sum_by}
+use Rattle.std.proofs.Common.{◌+◌, ◌*◌, ◌∙◌, ap, arith, get_or}
 use Rattle.plan_tables.proofs.ByClass.{area-length}
 use Rattle.plan_tables.proofs.Passes.{length-table}
 use Rattle.plan_tables.proofs.PerClass.{bytes-at, key-in}

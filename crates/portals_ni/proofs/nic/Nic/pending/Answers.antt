@@ -6,5 +6,5 @@ use Rattle.portals_ni.proofs.nic.Nic.pending.Goals as goal
 pub returns-clause-kept : goal.returns-clause-kept
 returns-clause-kept c =
     let n = c.self.inside in
-    let kept = rw c.waiting.ensures.told at c.len.ensures.kept in
+    let kept = rw c.waiting.ensures.value at c.len.ensures.kept in
     subst Lasts c.self.view_is (lasts n.target n.region n.cts n.eqs n.initiator n.pending n.drops n.violations c.self.invariant kept)

@@ -1,7 +1,7 @@
 use Rattle.std.proofs.Common.{◌≡◌, ◌≤◌, ◌+◌, ◌++◌, true, length, if◌then◌else◌, refl, ap, ◌∙◌, sym, arith}
 use Rattle.std.specs.Prelude.{is_ok, vec_len}
 use Rattle.plan_cuts.specs.History.Local.{Receive}
-use Rattle.rank_node.specs.Copies.{Diary, told}
+use Rattle.rank_node.specs.Copies.{Diary, locals_of}
 use Rattle.rank_node.proofs.Copies.{grows-receive, started-push, or-false}
 use Rattle.rank_node.proofs.history.History.note_receipt.Goals as goal
 
@@ -22,14 +22,14 @@ invariant_of-self c =
     let due = c.bytes.ensures.kept.bytes in
     let g = grows-receive c.args.source c.args.lane c.args.message.now.header c.args.message.now.bytes c.self.inside.steps.items c.self.inside.headers.items c.self.inside.copies.items (ap length (sym c.bytes.ensures.list) ∙ due) c.self.invariant.0 in (
       rw (c.push_reserved.ensures.items, c.push_reserved-2.ensures.items, c.header.ensures, items) g.1,
-      rw (c.push_reserved.ensures.items, c.push_reserved-2.ensures.items, c.header.ensures, items, g.0, started-push (told c.self.inside.steps.items c.self.inside.headers.items c.self.inside.copies.items) (Receive c.args.source c.args.lane c.args.message.now)) (c.self.invariant.1 ∙ sym (or-false _)),
+      rw (c.push_reserved.ensures.items, c.push_reserved-2.ensures.items, c.header.ensures, items, g.0, started-push (locals_of c.self.inside.steps.items c.self.inside.headers.items c.self.inside.copies.items) (Receive c.args.source c.args.lane c.args.message.now)) (c.self.invariant.1 ∙ sym (or-false _)),
       omega arith,
       omega arith,
       omega arith,
     )
 
-pub returns-clause-noted : goal.returns-clause-noted
-returns-clause-noted c =
+pub returns-clause-does : goal.returns-clause-does
+returns-clause-does c =
     let same : c.as_slice-bytes.result.now ≡ c.args.message.now.bytes = c.as_slice-bytes.ensures ∙ c.bytes.ensures.list in
     let size : length c.as_slice-bytes.result.now ≡ length c.args.message.now.bytes = ap length same in
     let room : c.self.inside.room ≡ c.args.self.now.room = ap (λ (d : Diary). d.room) c.self.view_is in

@@ -12,7 +12,7 @@ invariant_of-result c =
     let steps = ap (λ (d : Diary). d.room) c.in_ok-history.ensures in
     let receipts = ap (λ (d : Diary). d.receipts) c.in_ok-history.ensures in
     let bytes = ap (λ (d : Diary). d.bytes) c.in_ok-history.ensures in
-    let waits = c.pending.ensures.told in
+    let waits = c.pending.ensures.value in
     let room : 1 + (length c.in_ok-nic.nic.pending.waiting + c.in_ok-history.history.receipts) ≤ c.in_ok-history.history.room = omega arith in
     let gates = ap length c.in_ok-gates.ensures ∙ length-replicate c.args.compiled.ranks false in
     (installed-node n c.requires c.in_ok-nic.ensures none room receipts bytes gates, c.in_ok-buffer.ensures)

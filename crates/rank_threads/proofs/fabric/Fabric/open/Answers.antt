@@ -41,7 +41,7 @@ invariant_of-fabric g c =
     let start : c.in_ok-turns.turns.start ≡ new = c.in_ok-turns.ensures.table ∙ slots in
     let count : length c.in_ok-turns.turns.start ≡ job.shape.ranks =
     ap (λ (l : List Slot). length l) start ∙ (e.count ∙ (ap (λ (l : List Slot). length l) c.deref_mut.ensures.value ∙ c.in_ok-slots.ensures.count)) in
-    let ranks : c.ranks-ranks.result ≡ job.shape.ranks = c.ranks-ranks.ensures.told ∙ ap (λ (o : Outline). o.ranks) (c.shape.ensures.told ∙ c.schedule.ensures) in
+    let ranks : c.ranks-ranks.result ≡ job.shape.ranks = c.ranks-ranks.ensures.value ∙ ap (λ (o : Outline). o.ranks) (c.shape.ensures.value ∙ c.schedule.ensures) in
     let lanes = subst (λ (o : Outline). AreLanes (plan_of o) c.in_ok-lanes.lanes.items) c.schedule-2.ensures c.in_ok-lanes.ensures.lanes in
     let room = c.in_ok-room.ensures.capacity in
     let fabric : IsFabric job c.in_ok-turns.turns.start wires = record {

@@ -69,7 +69,7 @@ returns c = λ x at. let w = c.args.wave.now in let r = c.args.rank in let s = c
         there = refl;
         lanes = record { sent = two.2.lanes ∙ twice-cleared x.note.sent; got = three.2.lanes ∙ twice-cleared x.note.got };
         started = c.started.ensures ∙ ap (λ (m : NodeState). has_start m.diary.locals) c.deref.ensures;
-        ready = subst (λ (v : State). AnswersReady v c.ready.result) (c.nic.ensures ∙ ap (λ (m : NodeState). m.nic) c.deref-2.ensures) c.ready.ensures.told;
+        ready = subst (λ (v : State). AnswersReady v c.ready.result) (c.nic.ensures ∙ ap (λ (m : NodeState). m.nic) c.deref-2.ensures) c.ready.ensures.value;
         sent = two.2.each;
         got = three.2.each;
       },

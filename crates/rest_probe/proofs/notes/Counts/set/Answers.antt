@@ -1,4 +1,4 @@
-use Rattle.std.proofs.Common.{◌≡◌, ◌<◌, ◌∙◌, List, length, set, ap, ap₂, sym, subst}
+use Rattle.std.proofs.Common.{◌<◌, ◌∙◌, List, length, set, ap, ap₂, sym, subst}
 use lib.ListN.{get_elem?}
 use Rattle.atomic_table.proofs.Lists.{at_index}
 use Rattle.rest_probe.specs.declared.notes.LaneCount.{LaneCount}

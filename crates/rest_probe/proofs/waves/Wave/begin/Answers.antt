@@ -1,7 +1,6 @@
 use Rattle.std.proofs.Common.{◌≡◌, ◌<◌, ◌∙◌, true, List, length, set, ap, sym, subst}
 use lib.ListN.{get_elem?}
 use Rattle.atomic_table.proofs.Lists.{at_index}
-use Rattle.rest_probe.specs.declared.notes.LaneCount.{LaneCount}
 use Rattle.rest_probe.specs.declared.notes.RankNote.{RankNote}
 use Rattle.rest_probe.specs.Counted.{cleared}
 use Rattle.rest_probe.proofs.Elements.{same-at}

@@ -1,12 +1,10 @@
-use Rattle.std.proofs.Common.{◌≡◌, ◌<◌, ◌∙◌, ◌++◌, ◌∷◌, [], ℕ, List, length, length-append, ap, arith, subst, sym}
-use mathlib.Core.Option.{some}
+use Rattle.std.proofs.Common.{◌∙◌, ◌∷◌, [], List, length, length-append, ap, arith, subst, sym}
 use lib.ListN.{get_elem?}
 use Rattle.coll_shape.specs.Outline.{Outline}
 use Rattle.shape_plans.specs.Drawing.{plan_of}
-use Rattle.rest_probe.specs.declared.notes.LaneCount.{LaneCount}
 use Rattle.rest_probe.specs.declared.notes.RankNote.{RankNote}
 use Rattle.rest_probe.specs.Counted.{cleared}
-use Rattle.rest_probe.specs.Waves.{IsFor, IsRoomFor}
+use Rattle.rest_probe.specs.Waves.{IsRoomFor}
 use Rattle.rest_probe.proofs.Elements.{all-more}
 use Rattle.rest_probe.proofs.Gathered.{cleared-from, cleared-to}
 use Rattle.rest_probe.proofs.waves.Wave.open.Goals as goal
@@ -23,7 +21,7 @@ loop-r-preserved c =
 pub returns-clause-lanes : goal.returns-clause-lanes
 returns-clause-lanes c =
     let i = c.loop-r.invariant in let plan = plan_of c.args.schedule.now in
-    let told = c.ranks-ranks.ensures.told ∙ ap (λ (o : Outline). o.ranks) c.shape.ensures.told in let same = c.plan.ensures.ranks in
+    let told = c.ranks-ranks.ensures.value ∙ ap (λ (o : Outline). o.ranks) c.shape.ensures.value in let same = c.plan.ensures.ranks in
     let test = c.loop-r-test.false in let end = c.loop-r.auto.r-end in let count = i.count in record {
       count = omega (arith, told, same, test, end, count);
       sent = λ r x at. let e = (i.each r x at).sent in ap cleared e ∙ (cleared-from plan r ∙ sym e) ∙ e;

@@ -2,7 +2,6 @@ use Rattle.std.proofs.Common.{◌≡◌, ◌<◌, ◌∙◌, List, length, set, 
 use Rattle.std.specs.Prelude.{slice_set}
 use lib.ListN.{get_elem?}
 use Rattle.atomic_table.proofs.Lists.{at_index}
-use Rattle.rest_probe.specs.declared.notes.LaneCount.{LaneCount}
 use Rattle.rest_probe.specs.declared.notes.RankNote.{RankNote}
 use Rattle.rest_probe.specs.Counted.{counted}
 use Rattle.rest_probe.specs.Waves.{with_sent}

@@ -2,7 +2,6 @@ use Rattle.std.proofs.Common.{◌≡◌, ◌<◌, ◌∙◌, ⊎_elim, List, len
 use Rattle.std.proofs.lemmas.Bool.{cases_eq}
 use lib.ListN.{get_elem?}
 use Rattle.atomic_table.proofs.Lists.{at_index}
-use Rattle.rest_probe.specs.declared.notes.LaneCount.{LaneCount}
 use Rattle.rest_probe.specs.declared.notes.RankNote.{RankNote}
 use Rattle.rest_probe.specs.Answered.{IsEven}
 use Rattle.rest_probe.proofs.Elements.{same-at, within}

@@ -1,5 +1,5 @@
 -- By what a job keeps.
-use Rattle.std.proofs.Common.{◌≡◌, subst}
+use Rattle.std.proofs.Common.{subst}
 use Rattle.coll_shape.specs.Meaning.{AreInputs}
 use Rattle.schedule_compiler.specs.Jobs.{JobOf}
 use Rattle.schedule_compiler.proofs.job.Job.inputs.Goals as goal

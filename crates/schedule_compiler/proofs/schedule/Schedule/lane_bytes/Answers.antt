@@ -1,5 +1,5 @@
 -- By what the schedule keeps.
-use Rattle.std.proofs.Common.{ℕ, ◌≡◌, ◌<◌, ap, arith}
+use Rattle.std.proofs.Common.{ap, arith}
 use Rattle.coll_shape.specs.Outline.{Outline}
 use Rattle.schedule_compiler.proofs.Kept.{kept-ranks, kept-tabled}
 use Rattle.schedule_compiler.proofs.schedule.Schedule.lane_bytes.Goals as goal

@@ -1,5 +1,5 @@
 -- By the laws of plans of shapes.
-use Rattle.std.proofs.Common.{ℕ, ◌≡◌, subst}
+use Rattle.std.proofs.Common.{◌≡◌, subst}
 use Rattle.coll_shape.specs.Outline.{Outline}
 use Rattle.plan_core.specs.Sound.{SoundPlan}
 use Rattle.shape_plans.specs.Drawing.{plan_of}

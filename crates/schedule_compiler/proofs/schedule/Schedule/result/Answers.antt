@@ -1,5 +1,5 @@
 -- By the laws of plans of shapes.
-use Rattle.std.proofs.Common.{ℕ, ◌≡◌, ◌<◌, length, ap, arith, subst}
+use Rattle.std.proofs.Common.{length, ap, arith, subst}
 use Rattle.coll_shape.specs.Outline.{Outline}
 use Rattle.coll_shape.specs.WellFormed.{IsWellFormed}
 use Rattle.shape_laws.proofs.Final.{empty-unheld, result-cell, unheld-empty}

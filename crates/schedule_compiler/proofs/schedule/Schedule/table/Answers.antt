@@ -1,5 +1,5 @@
 -- By what the schedule keeps.
-use Rattle.std.proofs.Common.{ℕ, ◌≡◌, ◌<◌, ap, ◌∙◌, arith}
+use Rattle.std.proofs.Common.{ap, ◌∙◌, arith}
 use Rattle.plan_core.specs.Plan.{Plan}
 use Rattle.plan_tables.specs.Installed.{installed}
 use Rattle.coll_shape.specs.Outline.{Outline}

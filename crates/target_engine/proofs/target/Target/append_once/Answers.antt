@@ -27,7 +27,7 @@ invariant_of-self-2 c =
           (ap (λ (r : Records). r.by_entry) gone);
       counted =
           rw (c.take_oldest.ensures.rest, gone)
-          (counted-gone unexpected hs (without_oldest c.args.pt c.args.entry hs) i.records c.self.invariant.counted c.self.invariant.kept.placed.once (λ p. unexpected-oldest p c.args.pt c.args.entry hs unexpected o));
+          (counted-gone unexpected hs (without_oldest c.args.pt c.args.entry hs) i.records c.self.invariant.counted c.self.invariant.kept.recorded.once (λ p. unexpected-oldest p c.args.pt c.args.entry hs unexpected o));
       queues = c.self.invariant.queues;
       long = ap (λ (r : Records). length r.waiting) gone ∙ long-gone unexpected i.records ∙ c.self.invariant.long;
       small = c.self.invariant.small;
@@ -45,5 +45,5 @@ returns-clause-appends c =
       free = s.1;
       ended =
           rw (← by-once s.0 c.args.pt c.args.entry (parts c.args.self.now region c.args.cts.now c.args.eqs.now) c.requires.once)
-          (rw (← c.self.view_is, o, c.take_header.ensures.counts, c.take_header.ensures.told, c.take_header.ensures.gone, given-by, c.overflow_counter.ensures, c.deref.ensures.value, c.take_oldest.ensures.rest, freed) refl);
+          (rw (← c.self.view_is, o, c.take_header.ensures.counts, c.take_header.ensures.events, c.take_header.ensures.gone, given-by, c.overflow_counter.ensures, c.deref.ensures.value, c.take_oldest.ensures.rest, freed) refl);
     }

@@ -21,7 +21,7 @@ invariant_of-self-2 c =
           (ap (λ (r : Records). r.by_entry) gone);
       counted =
           rw (c.take_oldest.ensures.rest, gone)
-          (counted-gone unexpected hs (without_oldest c.args.pt c.args.entry.now hs) i.records c.self.invariant.counted c.self.invariant.kept.placed.once (λ p. unexpected-oldest p c.args.pt c.args.entry.now hs unexpected o));
+          (counted-gone unexpected hs (without_oldest c.args.pt c.args.entry.now hs) i.records c.self.invariant.counted c.self.invariant.kept.recorded.once (λ p. unexpected-oldest p c.args.pt c.args.entry.now hs unexpected o));
       queues = c.self.invariant.queues;
       long = ap (λ (r : Records). length r.waiting) gone ∙ long-gone unexpected i.records ∙ c.self.invariant.long;
       small = c.self.invariant.small;

@@ -6,7 +6,7 @@ use Rattle.ni_model.specs.Append.{is_allocated, fresh, linked_at}
 use Rattle.target_engine.specs.PortalTable.{seen_in}
 use Rattle.target_engine.proofs.Counted.{counted-linked, counted-room, queues-linked, whole-lent}
 use Rattle.target_engine.proofs.Kept.{full-kept, or-right, kept-linked, kept-may_link}
-use Rattle.target_engine.proofs.Recorded.{placed-slot}
+use Rattle.target_engine.proofs.Recorded.{recorded-slot}
 use Rattle.target_engine.proofs.target.Target.link.Goals as goal
 
 pub unreachable-requires : goal.unreachable-requires
@@ -49,7 +49,7 @@ invariant_of-self c =
     (queues-linked pt c.args.list (fresh me entry) (seen_in i.indices.items) i.eqs c.self.invariant.queues) c.self.invariant.long c.self.invariant.small
 
 pub returns-clause-free : goal.returns-clause-free
-returns-clause-free c = rw (← c.self.view_is) (placed-slot c.in-Ok.me.slot (seen_in c.self.inside.indices.items) c.self.inside.headers.unexpected c.self.inside.records.by_entry c.self.invariant.kept.placed c.in-Ok.ensures.free)
+returns-clause-free c = rw (← c.self.view_is) (recorded-slot c.in-Ok.me.slot (seen_in c.self.inside.indices.items) c.self.inside.headers.unexpected c.self.inside.records.by_entry c.self.invariant.kept.recorded c.in-Ok.ensures.free)
 
 pub returns-clause-below : goal.returns-clause-below
 returns-clause-below c = rw (← c.self.view_is) (omega (arith, c.in-Ok.ensures.slot, c.self.invariant.kept.limit))

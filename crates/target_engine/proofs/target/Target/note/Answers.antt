@@ -24,7 +24,7 @@ invariant_of-self c =
       kept =
           kept-unexpected i.limit i.linked f h i.indices.items i.records.by_entry c.note_header.new.records.by_entry i.headers c.note_header.new.headers c.args.self.now.indices c.self.invariant.kept room (ap (λ s. s.indices) c.self.view_is)
           c.requires.there c.note_header.ensures.headers (ap (λ (r : Records). r.by_entry) after);
-      counted = rw (c.note_header.ensures.headers, after) (counted-unexpected f h i.headers i.records c.self.invariant.counted c.self.invariant.kept.placed.once);
+      counted = rw (c.note_header.ensures.headers, after) (counted-unexpected f h i.headers i.records c.self.invariant.counted c.self.invariant.kept.recorded.once);
       queues = c.self.invariant.queues;
       long = ap (λ (r : Records). length r.waiting) after ∙ long-unexpected f h i.records ∙ c.self.invariant.long;
       small = c.self.invariant.small;

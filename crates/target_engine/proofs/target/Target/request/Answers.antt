@@ -21,5 +21,5 @@ pub accept-requires-clause-entry : goal.accept-requires-clause-entry
 accept-requires-clause-entry c =
     let at : seen_in c.deref.result.now ≡ c.args.self.now.indices = ap seen_in c.deref.ensures.value ∙ ap (λ s. s.indices) c.self.view_is in
     let e : chosen c.header.result.now c.args.self.now.indices ≡ Some c.in-Some.found = rw (← at) (sym c.chosen_in.ensures ∙ c.in-Some.is) in
-    let placed = rw (ap (λ s. s.indices) c.self.view_is) at c.self.invariant.kept.placed in
-    rw (← c.header.ensures) (chosen-named c.header.result.now c.args.self.now.indices c.in-Some.found c.self.inside.headers.unexpected c.self.inside.records.by_entry placed e)
+    let recorded = rw (ap (λ s. s.indices) c.self.view_is) at c.self.invariant.kept.recorded in
+    rw (← c.header.ensures) (chosen-named c.header.result.now c.args.self.now.indices c.in-Some.found c.self.inside.headers.unexpected c.self.inside.records.by_entry recorded e)

@@ -30,7 +30,7 @@ invariant_of-self c =
     c.deref_mut.ensures.value stays (stays ∙ c.deref_mut.ensures.len)
     (kept-settled i.limit i.indices.len i.linked f h i.indices.items was new i.records.by_entry c.forget.new.records.by_entry i.headers c.args.self.now.indices c.self.invariant.kept c.deref_mut.ensures.value (stays ∙ c.deref_mut.ensures.len)
     c.settle_at.ensures.after c.settle_at.ensures.kept (ap (λ (r : Records). r.by_entry) after) place c.requires.there)
-    (rw after (counted-settled f h i.headers.unexpected i.records c.self.invariant.counted c.self.invariant.kept.placed.once))
+    (rw after (counted-settled f h i.headers.unexpected i.records c.self.invariant.counted c.self.invariant.kept.recorded.once))
     shown (queues-settled f h (seen_in i.indices.items) i.eqs c.self.invariant.queues)
     (ap (λ (r : Records). length r.waiting) after ∙ c.self.invariant.long) c.self.invariant.small)
 

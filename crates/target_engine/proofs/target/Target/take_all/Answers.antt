@@ -2,8 +2,8 @@ use Rattle.std.proofs.Common.{◌∙◌}
 use Rattle.target_engine.proofs.Kept.{kept-left}
 use Rattle.target_engine.proofs.target.Target.take_all.Goals as goal
 
-pub take_found-requires-clause-placed : goal.take_found-requires-clause-placed
-take_found-requires-clause-placed c = rw c.deref.ensures.value c.self.invariant.kept.placed
+pub take_found-requires-clause-recorded : goal.take_found-requires-clause-recorded
+take_found-requires-clause-recorded c = rw c.deref.ensures.value c.self.invariant.kept.recorded
 
 pub take_found-requires-clause-counted : goal.take_found-requires-clause-counted
 take_found-requires-clause-counted c = c.self.invariant.counted
@@ -14,7 +14,7 @@ invariant_of-self c =
     let taken = c.take_found.ensures in
     record {
       kept =
-          kept-left i.limit i.linked c.args.pt c.args.entry.now i.indices.items i.records.by_entry c.take_found.new.records.by_entry i.headers c.take_found.new.headers c.self.invariant.kept (rw c.deref.ensures.value at taken.placed) taken.limit
+          kept-left i.limit i.linked c.args.pt c.args.entry.now i.indices.items i.records.by_entry c.take_found.new.records.by_entry i.headers c.take_found.new.headers c.self.invariant.kept (rw c.deref.ensures.value at taken.recorded) taken.limit
           taken.given taken.left;
       counted = rw taken.left taken.users;
       queues = c.self.invariant.queues;

@@ -17,4 +17,4 @@ returns c =
     let i = c.self.inside in
     let there : is_some (index_at c.args.pt (seen_in i.indices.items)) ≡ true = ap (is_allocated c.args.pt) c.self.view_is ∙ c.requires in
     let lt = some-within c.args.pt i.indices.items i.records.waiting there c.self.invariant.long in
-    rw (← c.self.view_is) (c.is_used.ensures.told ∙ waits-at c.args.pt i.headers.unexpected i.records c.self.invariant.counted lt)
+    rw (← c.self.view_is) (c.is_used.ensures.value ∙ waits-at c.args.pt i.headers.unexpected i.records c.self.invariant.counted lt)

@@ -21,7 +21,7 @@ place-requires c =
     let hb = subst (λ (w : WorldState). c.args.buffer < length w.shape.buffers) (sym c.self.view_is) c.requires.buffer in
     let hr = subst (λ (w : WorldState). c.args.r < w.shape.ranks) (sym c.self.view_is) c.requires.rank in
     let told = subst (λ (o : Outline). Some c.in-Some.cell ≡ held_cell (drawing_of o).held c.args.buffer c.args.r)
-    c.schedule-schedule.ensures c.in-Some.ensures.told in
+    c.schedule-schedule.ensures c.in-Some.ensures.value in
     subst (λ (o : Outline). c.in-Some.cell < length (plan_of o).cells) (sym c.schedule-schedule.ensures)
     (result-cell s.job.shape c.self.invariant.formed c.args.buffer c.args.r c.in-Some.cell hb hr (sym told)).in_plan
 
@@ -32,13 +32,13 @@ part_of-requires c =
     let hb = subst (λ (w : WorldState). c.args.buffer < length w.shape.buffers) (sym c.self.view_is) c.requires.buffer in
     let hr = subst (λ (w : WorldState). c.args.r < w.shape.ranks) (sym c.self.view_is) c.requires.rank in
     let told = subst (λ (o : Outline). Some c.in-Some.cell ≡ held_cell (drawing_of o).held c.args.buffer c.args.r)
-    c.schedule-schedule.ensures c.in-Some.ensures.told in
+    c.schedule-schedule.ensures c.in-Some.ensures.value in
     let size = is.size in
     let inside : c.args.r < length s.nodes.items = omega (arith, hr, size) in
     let lies = result_lies (state_of s.job s.setting s.nodes.items s.lanes.items) is c.args.buffer c.args.r c.in-Some.cell hb hr
     (sym told) in
     let node = get_or_read s.nodes.items c.args.r c.index.result.now inside c.index.ensures no_node in
-    let memory = ap length (c.memory.ensures.told ∙ ap (λ (x : State). x.memory) (c.nic.ensures ∙ ap (λ (x : NodeState). x.nic) node)) in
+    let memory = ap length (c.memory.ensures.value ∙ ap (λ (x : State). x.memory) (c.nic.ensures ∙ ap (λ (x : NodeState). x.nic) node)) in
     let place = c.place.ensures ∙ ap (λ (o : Outline). place_of (plan_of o) c.in-Some.cell) c.schedule-schedule.ensures in
     let start = ap (λ (p : Place). p.start) place in
     let long = ap (λ (p : Place). p.length) place in

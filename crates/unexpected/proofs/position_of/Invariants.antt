@@ -1,6 +1,6 @@
 use Rattle.std.proofs.Common.{◌≡◌, ◌++◌, take, drop}
 use Rattle.ni_model.specs.Headers.{oldest, without_oldest}
-use Rattle.unexpected.proofs.place_of.Given as goal
+use Rattle.unexpected.proofs.position_of.Given as goal
 
 abbrev pub invariant-loop-i : goal.invariant-loop-i
 invariant-loop-i l = record {
