@@ -1,4 +1,4 @@
-//! Two hands, apart and together.
+//! The hands of a fabric, apart and together.
 
 ghost use Rattle.std.specs.Prelude.{◌≡◌, ◌+◌, ◌<◌, ◌^◌, All, IfOk, length};
 ghost use Rattle.turn_table.specs.Hands.{IsFree, parts_of};
@@ -57,4 +57,32 @@ pub(crate) fn close_with<R: Wait, G: Gate + Drop>(
     both.push_reserved(one);
     both.push_reserved(two);
     Ok(fabric.close(rt, both))
+}
+
+/// The one hand of a fabric.
+pub(crate) fn one_hand<G: Gate + Drop>(fabric: &Fabric<G>, hands: Vec<Hand>) -> Hand
+    requires hands { (length hands.items ≡ 1) × All (λ h. IsFree fabric.now.turns h) hands.items }
+    ensures hand { IsFree fabric.now.turns result }
+    ensures parts { result.knows.parts ≡ parts_of hands.items }
+{
+    let mut hands = hands;
+    let Some(one) = hands.pop() else {
+        unreachable!()
+    };
+    one
+}
+
+/// Closes a fabric with its one hand.
+pub(crate) fn close_with_one<R: Wait, G: Gate + Drop>(
+    rt: &R,
+    alloc: Global,
+    fabric: Fabric<G>,
+    one: Hand,
+) -> Result<World, NoMemory>
+    requires hand { IsFree fabric.turns one }
+    requires all { one.knows.parts ≡ 2 ^ 32 }
+{
+    let mut hands = Vec::with_capacity(alloc, 1)?;
+    hands.push_reserved(one);
+    Ok(fabric.close(rt, hands))
 }

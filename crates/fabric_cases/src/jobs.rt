@@ -17,6 +17,10 @@ pub(crate) const TWO_RANKS: &[u8] = b"coll 1\nranks 2\nbarrier\nend\n";
 /// Four ranks meet.
 pub(crate) const FOUR_RANKS: &[u8] = b"coll 1\nranks 4\nbarrier\nend\n";
 
+/// Two ranks add two numbers each.
+pub(crate) const TWO_SUMS: &[u8] =
+    b"coll 1\nranks 2\ninput a u8 2\n200 2\n100 255\nallreduce sum a b\nprint b\nend\n";
+
 /// The job of a text.
 pub(crate) fn job_of<A: Abort>(rt: &A, alloc: Global, text: &[u8]) -> Job {
     let Ok(description) = parse(alloc, text) else {

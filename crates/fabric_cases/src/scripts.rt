@@ -53,7 +53,7 @@ pub(crate) fn script<R: Wait>(
 }
 
 /// Whether each rank counted so many successes, and no failure.
-fn all_done(world: &World, count: u64) -> bool {
+pub(crate) fn all_done(world: &World, count: u64) -> bool {
     for rank in 0..world.schedule().shape().ranks() {
         let done = world.done(rank);
         if done.success != count || done.failure != 0 {

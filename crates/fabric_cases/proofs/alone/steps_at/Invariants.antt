@@ -1,0 +1,9 @@
+use Rattle.std.proofs.Common.{◌≡◌}
+use Rattle.turn_table.specs.Hands.{IsFree}
+use Rattle.fabric_cases.proofs.alone.steps_at.Given as goal
+
+abbrev pub invariant-loop : goal.invariant-loop
+invariant-loop g l = record {
+  hand : IsFree l.fabric.turns l.hand;
+  parts : l.hand.knows.parts ≡ l.initial.hand.knows.parts;
+}
