@@ -8,9 +8,6 @@ use ptl_types::Count;
 use std::marker::Model;
 use std::{cmp, fmt};
 
-#[cfg(test)]
-mod tests;
-
 /// The sum of success and failure would pass 2^64 - 1. The counter is as it was.
 #[derive(Clone, Copy, Debug, PartialEq, Eq)]
 pub struct CountFull;

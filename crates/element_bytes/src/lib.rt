@@ -3,8 +3,6 @@
 #![tactic(auto)]
 
 mod elements;
-#[cfg(test)]
-mod tests;
 
 pub use elements::{
     Element, Signed8, Signed16, Signed32, Signed64, Unsigned8, Unsigned16, Unsigned32, Unsigned64,

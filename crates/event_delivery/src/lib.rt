@@ -11,9 +11,6 @@ use event_queues::Queue;
 use handle_store::Store;
 use ptl_types::{Count, Event, Handle};
 
-#[cfg(test)]
-mod tests;
-
 /// That many successes, and no failure.
 pub fn successes(success: u64) -> Count
     ensures value { result ≡ successes success }

@@ -9,9 +9,6 @@ use ptl_types::{EqGot, Event, NoMemory};
 use std::alloc::Global;
 use std::marker::Model;
 
-#[cfg(test)]
-mod tests;
-
 /// An event queue. Its value is its room, the events that it keeps, oldest first, and whether one was lost since the last
 /// `take`.
 #[derive(Drop)]

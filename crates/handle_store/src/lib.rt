@@ -13,8 +13,6 @@ use std::alloc::Global;
 use std::marker::Model;
 
 mod named;
-#[cfg(test)]
-mod tests;
 
 pub use named::{is_live_or_none, names, where_set};
 

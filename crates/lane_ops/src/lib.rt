@@ -3,11 +3,7 @@
 #![tactic(auto)]
 
 mod bytes;
-#[cfg(test)]
-mod edges;
 mod operations;
-#[cfg(test)]
-mod tests;
 
 pub use bytes::{combine, start_values};
 pub use operations::{

@@ -8,9 +8,6 @@ ghost use Rattle.ptl_types.specs.Filled.{filled};
 use ptl_types::Bytes;
 use std::marker::Model;
 
-#[cfg(test)]
-mod tests;
-
 /// A region. Its value is the list of its bytes, whose length never changes.
 #[derive(Debug, Drop)]
 pub struct Region {

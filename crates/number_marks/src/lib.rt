@@ -4,9 +4,6 @@
 ghost use Rattle.std.specs.Prelude.{ℕ, ◌≡◌, ◌<◌, ◌≤◌, ◌^◌, ◌==◌, nat_le, nat_lt, ◌++◌, ◌∷◌, [], true, All, AllPairs, length, IfOk, Some, slice_get, slice_index_or, if◌then◌else◌};
 ghost use Rattle.number_marks.specs.Marking.{unmarked, is_in};
 
-#[cfg(test)]
-mod tests;
-
 use count_tree::CountTree;
 use ptl_types::NoMemory;
 use std::alloc::Global;

@@ -14,8 +14,6 @@ mod headers;
 mod matching;
 mod message;
 mod steps;
-#[cfg(test)]
-mod tests;
 
 pub use bytes::Bytes;
 pub use calls::{Appended, Deed, Delivered, EqGot, GetArgs, Limits, NiFault, Outcome, PutArgs};

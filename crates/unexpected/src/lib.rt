@@ -11,9 +11,6 @@ use ptl_types::{Entry, Handle, MessageKind, NoMemory, UnexpectedHeader, matches}
 use std::alloc::Global;
 use std::marker::Model;
 
-#[cfg(test)]
-mod tests;
-
 /// Whether the entry allows an operation of this kind: a put or an atomic needs `allow_put`, a get `allow_get`, and a
 /// fetch-atomic or a swap both.
 pub fn allows(entry: &Entry, kind: MessageKind) -> bool

@@ -9,9 +9,6 @@ use ptl_types::{Handle, NoMemory};
 use std::alloc::Global;
 use std::marker::Model;
 
-#[cfg(test)]
-mod tests;
-
 /// A row of counts by slot. Its value is the list of them. Each call but `open` takes a constant number of steps and no memory.
 #[derive(Drop)]
 pub struct Users {

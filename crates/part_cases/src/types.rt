@@ -1,6 +1,7 @@
 //! That the calls succeed with ample memory, and worked cases of matching.
 
-use crate::{
+use crate::answers::gives;
+use ptl_types::{
     Bytes, Count, Descriptor, Entry, EqGot, Event, EventKind, Handle, Header, NiFault, NoMemory,
     Outcome, UnexpectedHeader, matches,
 };
@@ -9,19 +10,19 @@ use std::test::Fail;
 #[test]
 fn bytes_keep_their_list_and_their_room(rt: HostRuntime) -> Result<(), Fail> {
     let mut bytes = Bytes::with_room(rt.alloc(), 4)?;
-    assert_eq!(rt; bytes.room(), 4);
-    assert_eq!(rt; bytes.len(), 0);
+    gives!(rt; bytes.room(), 4);
+    gives!(rt; bytes.len(), 0);
     bytes.fill(&[7, 8, 9]);
-    assert!(rt; bytes.as_slice() == [7, 8, 9].as_slice());
+    gives!(rt; bytes.as_slice(), [7, 8, 9].as_slice());
     bytes.clear();
-    assert_eq!(rt; bytes.len(), 0);
-    assert_eq!(rt; bytes.room(), 4);
+    gives!(rt; bytes.len(), 0);
+    gives!(rt; bytes.room(), 4);
     let copy = Bytes::of(rt.alloc(), &[1, 2])?;
-    assert!(rt; copy.as_slice() == [1, 2].as_slice());
-    assert_eq!(rt; copy.room(), 2);
-    assert_eq!(rt; Bytes::empty(rt.alloc()).room(), 0);
+    gives!(rt; copy.as_slice(), [1, 2].as_slice());
+    gives!(rt; copy.room(), 2);
+    gives!(rt; Bytes::empty(rt.alloc()).room(), 0);
     let items = copy.into_vec();
-    assert_eq!(rt; Bytes::from_vec(items).len(), 2);
+    gives!(rt; Bytes::from_vec(items).len(), 2);
     Ok(())
 }
 
@@ -139,5 +140,5 @@ fn a_count_an_outcome_and_a_fault_are_printed(rt: HostRuntime) -> Result<(), Fai
 
 #[test]
 fn a_plain_descriptor_lies_over_a_part(rt: HostRuntime) {
-    assert_eq!(rt; Descriptor::over(3, 5).start, 3);
+    gives!(rt; Descriptor::over(3, 5).start, 3);
 }

@@ -1,8 +1,9 @@
 //! Headers are taken in the order of arrival.
 
-use crate::Headers;
+use crate::answers::gives;
 use ptl_types::{AckRequest, ElemType, Entry, Handle, Header, MessageKind, UnexpectedHeader};
 use std::test::Fail;
+use unexpected::Headers;
 
 fn put(match_bits: u64, place: u64) -> UnexpectedHeader {
     UnexpectedHeader {
@@ -52,36 +53,21 @@ fn entry(match_bits: u64) -> Entry {
 #[test]
 fn the_oldest_that_matches_is_taken(rt: HostRuntime) -> Result<(), Fail> {
     let mut headers = Headers::open(rt.alloc(), 2)?;
-    assert!(rt; headers.at(1, 0).is_none());
+    gives!(rt; headers.at(1, 0).is_none(), true);
     for place in 0..2 {
         if !headers.is_full() {
             headers.add(1, put(5, place));
         }
     }
-    assert!(rt; headers.is_full());
-    assert_eq!(rt; headers.at(1, 1).map(|header| header.place), Some(1));
-    assert!(rt; headers.at(0, 0).is_none());
-    assert!(rt; headers.names(Handle { slot: 0, stamp: 0 }));
-    assert!(rt; headers.search(1, &entry(6)).is_none());
-    assert_eq!(rt;
-        headers
-            .search(1, &entry(5))
-            .map(|unexpected| unexpected.header.place),
-        Some(0)
-    );
-    assert_eq!(rt;
-        headers
-            .take_oldest(1, &entry(5))
-            .map(|unexpected| unexpected.header.place),
-        Some(0)
-    );
-    assert_eq!(rt;
-        headers
-            .take_oldest(1, &entry(5))
-            .map(|unexpected| unexpected.header.place),
-        Some(1)
-    );
-    assert!(rt; headers.take_oldest(1, &entry(5)).is_none());
+    gives!(rt; headers.is_full(), true);
+    gives!(rt; headers.at(1, 1).map(|header| header.place), Some(1));
+    gives!(rt; headers.at(0, 0).is_none(), true);
+    gives!(rt; headers.names(Handle { slot: 0, stamp: 0 }), true);
+    gives!(rt; headers.search(1, &entry(6)).is_none(), true);
+    gives!(rt; headers.search(1, &entry(5)).map(|unexpected| unexpected.header.place), Some(0));
+    gives!(rt; headers.take_oldest(1, &entry(5)).map(|unexpected| unexpected.header.place), Some(0));
+    gives!(rt; headers.take_oldest(1, &entry(5)).map(|unexpected| unexpected.header.place), Some(1));
+    gives!(rt; headers.take_oldest(1, &entry(5)).is_none(), true);
     Ok(())
 }
 
@@ -98,10 +84,10 @@ fn a_header_is_put_over_another_and_the_youngest_go(rt: HostRuntime) -> Result<(
     let youngest = headers.as_slice()[1];
     headers.put_at(0, youngest);
     headers.truncate(1);
-    assert!(rt; headers.names(me));
-    assert_eq!(rt; headers.as_slice().len(), 1);
-    assert_eq!(rt; headers.at(1, 0).map(|header| header.place), Some(1));
-    assert!(rt; headers.at(1, 1).is_none());
+    gives!(rt; headers.names(me), true);
+    gives!(rt; headers.as_slice().len(), 1);
+    gives!(rt; headers.at(1, 0).map(|header| header.place), Some(1));
+    gives!(rt; headers.at(1, 1).is_none(), true);
     Ok(())
 }
 
@@ -112,14 +98,14 @@ fn one_after_the_other_is_taken_where_one_has_room(rt: HostRuntime) -> Result<()
     for place in 0..20 {
         if !headers.is_full() {
             headers.add(1, put(5, place));
-            assert!(rt; headers.is_full());
+            gives!(rt; headers.is_full(), true);
             let taken = headers
                 .take_oldest(1, &entry(5))
                 .map(|unexpected| unexpected.header.place);
-            assert_eq!(rt; taken, Some(place));
+            gives!(rt; taken, Some(place));
         }
     }
-    assert_eq!(rt; headers.as_slice().len(), 1);
-    assert_eq!(rt; headers.at(1, 0).map(|header| header.place), Some(100));
+    gives!(rt; headers.as_slice().len(), 1);
+    gives!(rt; headers.at(1, 0).map(|header| header.place), Some(100));
     Ok(())
 }

@@ -2,36 +2,37 @@
 //! and type the starting value, then each of least, greatest, 0, 1, all ones and one bit with the next of them, and with the
 //! one three places on.
 
+use crate::answers::gives;
 use crate::edges::{BAND, BOR, BXOR, LAND, LOR, LXOR, MAX, MIN, PROD, Row, SUM, edges};
-use crate::{combine, combine_elements, start_value, start_values};
+use lane_ops::{combine, combine_elements, start_value, start_values};
 use ptl_types::{AtomicOp, ElemType};
 
 #[test]
 fn bytes_are_combined_in_place(rt: HostRuntime) {
     let mut sum = [0x2c, 1, 0, 0];
     combine(AtomicOp::Sum, ElemType::U32, &mut sum, &[0xff; 4]);
-    assert!(rt; sum == [0x2b, 1, 0, 0]);
+    gives!(rt; sum, [0x2b, 1, 0, 0]);
     let mut least = [0x80, 0x7f];
     combine(AtomicOp::Min, ElemType::I8, &mut least, &[0x7f, 0x80]);
-    assert!(rt; least == [0x80, 0x80]);
+    gives!(rt; least, [0x80, 0x80]);
     let mut differ = [2, 0];
     combine(AtomicOp::Lxor, ElemType::U16, &mut differ, &[3, 0]);
-    assert!(rt; differ == [0, 0]);
+    gives!(rt; differ, [0, 0]);
     let mut product = [0x2c, 1];
     combine(AtomicOp::Prod, ElemType::I16, &mut product, &[0x2c, 1]);
-    assert!(rt; product == [0x90, 0x5f]);
+    gives!(rt; product, [0x90, 0x5f]);
     let mut start = [7, 7];
     start_values(AtomicOp::Max, ElemType::I16, &mut start);
-    assert!(rt; start == [0, 0x80]);
+    gives!(rt; start, [0, 0x80]);
 }
 
 #[test]
 fn elements_are_combined(rt: HostRuntime) {
-    assert!(rt; combine_elements(AtomicOp::Sum, ElemType::U8, 200, 100) == 44);
-    assert!(rt; combine_elements(AtomicOp::Min, ElemType::I8, 0x80, 0x7f) == 0x80);
-    assert!(rt; combine_elements(AtomicOp::Land, ElemType::U16, 2, 1) == 1);
-    assert!(rt; start_value(AtomicOp::Max, ElemType::I16) == 0x8000);
-    assert!(rt; start_value(AtomicOp::Prod, ElemType::U64) == 1);
+    gives!(rt; combine_elements(AtomicOp::Sum, ElemType::U8, 200, 100), 44);
+    gives!(rt; combine_elements(AtomicOp::Min, ElemType::I8, 0x80, 0x7f), 0x80);
+    gives!(rt; combine_elements(AtomicOp::Land, ElemType::U16, 2, 1), 1);
+    gives!(rt; start_value(AtomicOp::Max, ElemType::I16), 0x8000);
+    gives!(rt; start_value(AtomicOp::Prod, ElemType::U64), 1);
 }
 
 /// What the operation makes of two elements, through their bytes.
@@ -77,14 +78,14 @@ fn rows_hold(rows: &[Row]) -> bool {
 
 #[test]
 fn edge_values_of_every_type(rt: HostRuntime) {
-    assert!(rt; rows_hold(&MIN));
-    assert!(rt; rows_hold(&MAX));
-    assert!(rt; rows_hold(&SUM));
-    assert!(rt; rows_hold(&PROD));
-    assert!(rt; rows_hold(&LOR));
-    assert!(rt; rows_hold(&LAND));
-    assert!(rt; rows_hold(&BOR));
-    assert!(rt; rows_hold(&BAND));
-    assert!(rt; rows_hold(&LXOR));
-    assert!(rt; rows_hold(&BXOR));
+    gives!(rt; rows_hold(&MIN), true);
+    gives!(rt; rows_hold(&MAX), true);
+    gives!(rt; rows_hold(&SUM), true);
+    gives!(rt; rows_hold(&PROD), true);
+    gives!(rt; rows_hold(&LOR), true);
+    gives!(rt; rows_hold(&LAND), true);
+    gives!(rt; rows_hold(&BOR), true);
+    gives!(rt; rows_hold(&BAND), true);
+    gives!(rt; rows_hold(&LXOR), true);
+    gives!(rt; rows_hold(&BXOR), true);
 }

@@ -1,6 +1,7 @@
 //! Numbers are marked, counted and found.
 
-use crate::Marks;
+use crate::answers::gives;
+use number_marks::Marks;
 use std::test::Fail;
 
 #[test]
@@ -11,15 +12,15 @@ fn marks_are_counted_and_found_in_order(rt: HostRuntime) -> Result<(), Fail> {
     marks.push(5);
     marks.push(9);
     assert!(rt; marks.is_full());
-    assert_eq!(rt; marks.count(), 0);
+    gives!(rt; marks.count(), 0);
     marks.mark(9, true);
     marks.mark(2, true);
-    assert_eq!(rt; marks.count(), 2);
+    gives!(rt; marks.count(), 2);
     if marks.count() > 1 {
-        assert_eq!(rt; marks.at(0), 2);
-        assert_eq!(rt; marks.at(1), 9);
+        gives!(rt; marks.at(0), 2);
+        gives!(rt; marks.at(1), 9);
     }
     marks.mark(2, false);
-    assert_eq!(rt; marks.count(), 1);
+    gives!(rt; marks.count(), 1);
     Ok(())
 }

@@ -1,13 +1,14 @@
 //! Parts at the edges of a region.
 
-use crate::Region;
+use crate::answers::gives;
+use memory_desc::Region;
 use ptl_types::Bytes;
 use std::test::Fail;
 
 #[test]
 fn parts_are_read_and_written_alone(rt: HostRuntime) -> Result<(), Fail> {
     let mut region = Region::new(Bytes::of(rt.alloc(), &[1, 2, 3, 4])?);
-    assert_eq!(rt; region.len(), 4);
+    gives!(rt; region.len(), 4);
     let fits = [
         (0, 4, true),
         (4, 0, true),
@@ -17,12 +18,12 @@ fn parts_are_read_and_written_alone(rt: HostRuntime) -> Result<(), Fail> {
         (1, u64::MAX, false),
     ];
     for (start, length, want) in fits {
-        assert_eq!(rt; region.fits(start, length), want);
+        gives!(rt; region.fits(start, length), want);
     }
     region.write(1, &[9, 8]);
-    assert!(rt; region.as_slice() == [1, 9, 8, 4].as_slice());
+    gives!(rt; region.as_slice(), [1, 9, 8, 4].as_slice());
     let mut into = Bytes::with_room(rt.alloc(), 3)?;
     region.read_into(2, &mut into, 2);
-    assert!(rt; into.as_slice() == [8, 4].as_slice());
+    gives!(rt; into.as_slice(), [8, 4].as_slice());
     Ok(())
 }

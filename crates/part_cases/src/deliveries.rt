@@ -1,7 +1,8 @@
 //! A count and an event reach what is named, and nothing where none is.
 
-use crate::{count, raise, successes};
+use crate::answers::gives;
 use counters::Counter;
+use event_delivery::{count, raise, successes};
 use event_queues::Queue;
 use handle_store::{Store, is_live_or_none, names, where_set};
 use ptl_types::{EqGot, Event, EventKind, Handle};
@@ -28,9 +29,9 @@ fn what_is_named_counts(rt: HostRuntime) -> Result<(), Fail> {
     count(&mut cts, where_set(true, Some(FIRST)), successes(2));
     count(&mut cts, where_set(false, Some(FIRST)), successes(1));
     let counted = cts.get(FIRST).map(|counter| counter.count());
-    assert_eq!(rt; counted, Some(successes(2)));
-    assert!(rt; is_live_or_none(&cts, None));
-    assert!(rt; names(Some(FIRST), FIRST));
+    gives!(rt; counted, Some(successes(2)));
+    gives!(rt; is_live_or_none(&cts, None), true);
+    gives!(rt; names(Some(FIRST), FIRST), true);
     Ok(())
 }
 
@@ -43,8 +44,8 @@ fn what_is_named_is_told(rt: HostRuntime) -> Result<(), Fail> {
     raise(&mut eqs, Some(FIRST), EVENT);
     raise(&mut eqs, None, EVENT);
     if let Some(queue) = eqs.get_mut(FIRST) {
-        assert_eq!(rt; queue.take(), EqGot::Got(EVENT));
-        assert_eq!(rt; queue.take(), EqGot::Empty);
+        gives!(rt; queue.take(), EqGot::Got(EVENT));
+        gives!(rt; queue.take(), EqGot::Empty);
     }
     Ok(())
 }

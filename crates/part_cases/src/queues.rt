@@ -1,6 +1,7 @@
 //! The event that finds the queue full is the one that is lost, and the next answer tells it.
 
-use crate::Queue;
+use crate::answers::gives;
+use event_queues::Queue;
 use ptl_types::{EqGot, Event, EventKind};
 use std::test::Fail;
 
@@ -21,13 +22,13 @@ fn event(place: u64) -> Event {
 #[test]
 fn a_full_queue_loses_the_newest(rt: HostRuntime) -> Result<(), Fail> {
     let mut queue = Queue::open(rt.alloc(), 1)?;
-    assert_eq!(rt; queue.take(), EqGot::Empty);
+    gives!(rt; queue.take(), EqGot::Empty);
     queue.add(event(1));
     queue.add(event(2));
-    assert_eq!(rt; queue.take(), EqGot::Dropped);
-    assert_eq!(rt; queue.take(), EqGot::Got(event(1)));
-    assert_eq!(rt; queue.take(), EqGot::Empty);
+    gives!(rt; queue.take(), EqGot::Dropped);
+    gives!(rt; queue.take(), EqGot::Got(event(1)));
+    gives!(rt; queue.take(), EqGot::Empty);
     queue.add(event(3));
-    assert_eq!(rt; queue.take(), EqGot::Got(event(3)));
+    gives!(rt; queue.take(), EqGot::Got(event(3)));
     Ok(())
 }
