@@ -1,5 +1,6 @@
 //! Short lives of chains: what is listed by `first` and `next`, and what keys find.
-ghost use Rattle.std.specs.Prelude.{◌≡◌};
+ghost use Rattle.std.specs.Prelude.{◌≡◌, ◌≤◌, []};
+ghost use Rattle.chain_list.specs.Chain.{chain_list};
 
 use crate::answers::gives;
 use chain_list::{Chain, Steps};
@@ -9,26 +10,42 @@ use std::process::Abort;
 use std::sync::ledger::{Blank, Ledger};
 use std::test::Fail;
 
-/// The values in the order of `first` and `next`, at most eight of them.
-fn listed<L: Ledger>(
-    alloc: Global,
-    chain: &Chain<char>,
-    steps: &mut Steps<L>,
-) -> Result<String, Fail> {
-    let mut values = String::new(alloc);
+/// Whether these are the values in the order of `first` and `next`.
+fn lists<L: Ledger>(chain: &Chain<char>, values: &[char], steps: &mut Steps<L>) -> bool {
     let mut next = chain.first();
-    for _ in 0..8 {
-        let Some(key) = next else { break };
+    for wanted in values {
+        let Some(key) = next else { return false };
         let Some(value) = chain.get(key, steps) else {
-            break;
+            return false;
         };
-        values.push(*value)?;
+        if *value != *wanted {
+            return false;
+        }
         next = chain.next(key, steps);
     }
-    Ok(values)
+    next.is_none()
 }
 
-/// Room for 3; x, y, z; without y; w at y's place under another key; without x and w.
+/// x, y, z; without y; w at y's place under another key; without x and w.
+fn place_again<L: Ledger>(rt: &impl Abort, chain: &mut Chain<char>, steps: &mut Steps<L>)
+    requires room { 3 ≤ chain.old.spare }
+    requires empty { chain.old ≡ chain_list [] chain.old.spare 0 }
+{
+    let x = chain.push_back('x', steps);
+    let y = chain.push_back('y', steps);
+    let z = chain.push_back('z', steps);
+    gives!(rt; chain.unlink(y, steps), Some('y'));
+    let w = chain.push_back('w', steps);
+    gives!(rt; w.place, y.place);
+    gives!(rt; lists(chain, &['x', 'z', 'w'], steps), true);
+    gives!(rt; chain.unlink(y, steps), None);
+    gives!(rt; chain.unlink(x, steps), Some('x'));
+    gives!(rt; chain.unlink(w, steps), Some('w'));
+    gives!(rt; chain.first(), Some(z));
+    gives!(rt; lists(chain, &['z'], steps), true);
+}
+
+/// Room for 3.
 fn freed_place<L: Ledger>(
     rt: &impl Abort,
     alloc: Global,
@@ -36,18 +53,7 @@ fn freed_place<L: Ledger>(
 ) -> Result<(), Fail> {
     let mut chain = Chain::new(alloc);
     chain.reserve(3)?;
-    let x = chain.push_back('x', steps);
-    let y = chain.push_back('y', steps);
-    let z = chain.push_back('z', steps);
-    gives!(rt; chain.unlink(y, steps), Some('y'));
-    let w = chain.push_back('w', steps);
-    gives!(rt; w.place, y.place);
-    gives!(rt; listed(alloc, &chain, steps)?.as_str(), "xzw");
-    gives!(rt; chain.unlink(y, steps), None);
-    gives!(rt; chain.unlink(x, steps), Some('x'));
-    gives!(rt; chain.unlink(w, steps), Some('w'));
-    gives!(rt; chain.first(), Some(z));
-    gives!(rt; listed(alloc, &chain, steps)?.as_str(), "z");
+    place_again(rt, &mut chain, steps);
     Ok(())
 }
 
@@ -68,7 +74,7 @@ fn reserved_again<L: Ledger>(
     }
     gives!(rt; chain.unlink(y, steps), Some('y'));
     gives!(rt; chain.unlink(y, steps), None);
-    gives!(rt; listed(alloc, &chain, steps)?.as_str(), "xz");
+    gives!(rt; lists(&chain, &['x', 'z'], steps), true);
     Ok(())
 }
 

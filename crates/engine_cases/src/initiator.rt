@@ -11,6 +11,7 @@ use ptl_types::{
     MessageKind, NiFault, Outcome, PutArgs,
 };
 use std::alloc::Global;
+use std::process::Abort;
 use std::test::Fail;
 
 const LIMITS: Limits = Limits {
@@ -73,20 +74,22 @@ fn an_answer_that_nobody_awaits_is_dropped(rt: HostRuntime) -> Result<(), Fail> 
     Ok(())
 }
 
-#[test]
-fn a_descriptor_is_bound_checked_and_released(rt: HostRuntime) -> Result<(), Fail> {
-    let region = Region::new(Bytes::of(rt.alloc(), &[9, 1, 2, 3, 9])?);
-    let cts: Store<Counter> = Store::open(rt.alloc(), 1)?;
-    let eqs: Store<Queue> = Store::open(rt.alloc(), 1)?;
-    let mut initiator = Initiator::open(rt.alloc(), 0, 2, &LIMITS)?;
+/// The life of a descriptor at an initiator with nothing bound, in a region of five bytes.
+fn bound_and_released(
+    rt: &impl Abort,
+    region: &Region,
+    cts: &Store<Counter>,
+    eqs: &Store<Queue>,
+    initiator: &mut Initiator,
+) {
     let past_the_end = Descriptor {
         length: 5,
         ..DESCRIPTOR
     };
-    gives!(rt; initiator.bind(&region, &cts, &eqs, past_the_end), Err(NiFault::OutOfRegion));
+    gives!(rt; initiator.bind(region, cts, eqs, past_the_end), Err(NiFault::OutOfRegion));
     let md = Handle { slot: 0, stamp: 0 };
-    gives!(rt; initiator.bind(&region, &cts, &eqs, DESCRIPTOR), Ok(md));
-    gives!(rt; initiator.bind(&region, &cts, &eqs, DESCRIPTOR), Err(NiFault::NoSpace));
+    gives!(rt; initiator.bind(region, cts, eqs, DESCRIPTOR), Ok(md));
+    gives!(rt; initiator.bind(region, cts, eqs, DESCRIPTOR), Err(NiFault::NoSpace));
     let deed = Deed::Put(PutArgs {
         md,
         local_offset: 1,
@@ -113,5 +116,14 @@ fn a_descriptor_is_bound_checked_and_released(rt: HostRuntime) -> Result<(), Fai
     gives!(rt; initiator.release(md), Ok(()));
     gives!(rt; initiator.release(md), Err(NiFault::Stale));
     gives!(rt; initiator.check(&get), Err(NiFault::Stale));
+}
+
+#[test]
+fn a_descriptor_is_bound_checked_and_released(rt: HostRuntime) -> Result<(), Fail> {
+    let region = Region::new(Bytes::of(rt.alloc(), &[9, 1, 2, 3, 9])?);
+    let cts: Store<Counter> = Store::open(rt.alloc(), 1)?;
+    let eqs: Store<Queue> = Store::open(rt.alloc(), 1)?;
+    let mut initiator = Initiator::open(rt.alloc(), 0, 2, &LIMITS)?;
+    bound_and_released(&rt, &region, &cts, &eqs, &mut initiator);
     Ok(())
 }

@@ -31,28 +31,52 @@ fn header(match_bits: u64, length: u64) -> Header {
     }
 }
 
-/// Two entries, one in each list: found, and unlinked by handle.
+const FIRST: Handle = Handle { slot: 0, stamp: 0 };
+
+const SECOND: Handle = Handle { slot: 1, stamp: 1 };
+
+const THIRD: Handle = Handle { slot: 2, stamp: 2 };
+
+const FOURTH: Handle = Handle { slot: 3, stamp: 3 };
+
+/// Two entries, one in each list.
+fn two_lists<L: Ledger>(alloc: Global, steps: &mut Steps<L>) -> Result<Lists, Fail> {
+    let mut lists = Lists::open(alloc, 2, 3)?;
+    lists.append(List::Priority, FIRST, entry(5, 4), steps);
+    lists.append(List::Overflow, SECOND, entry(5, 9), steps);
+    Ok(lists)
+}
+
+/// Such two are found, and unlinked by handle.
+fn found_and_unlinked<L: Ledger>(rt: &impl Abort, lists: &mut Lists, steps: &mut Steps<L>) {
+    let found = lists.find(&header(5, 3), true, steps);
+    gives!(rt; found, Some((List::Priority, FIRST)));
+    let found = lists.find(&header(5, 5), true, steps);
+    gives!(rt; found, Some((List::Overflow, SECOND)));
+    gives!(rt; lists.find(&header(5, 5), false, steps), None);
+    gives!(rt; lists.names_ct(FIRST), false);
+    gives!(rt; lists.unlink(FIRST, steps).is_some(), true);
+    gives!(rt; lists.unlink(FIRST, steps).is_none(), true);
+    gives!(rt; lists.get(FIRST, steps).is_none(), true);
+    gives!(rt; lists.get(SECOND, steps).is_some(), true);
+}
+
+/// Two lists are empty at first.
+fn begin_empty(rt: &impl Abort, alloc: Global) -> Result<(), Fail> {
+    let lists = Lists::open(alloc, 2, 3)?;
+    gives!(rt; lists.is_empty(), true);
+    Ok(())
+}
+
 fn two_entries<L: Ledger>(rt: &impl Abort, alloc: Global, blank: Blank) -> Result<(), Fail>
     requires name { blank.name ≡ L.name }
     requires parts { blank.parts ≡ L.parts }
     requires one { blank.parts ≡ 1 }
 {
     let mut steps = Steps::<L>::start(blank);
-    let mut lists = Lists::open(alloc, 2, 3)?;
-    assert!(rt; lists.is_empty());
-    let (old, new) = (Handle { slot: 0, stamp: 0 }, Handle { slot: 1, stamp: 1 });
-    lists.append(List::Priority, old, entry(5, 4), &mut steps);
-    lists.append(List::Overflow, new, entry(5, 9), &mut steps);
-    let found = lists.find(&header(5, 3), true, &mut steps);
-    assert!(rt; found == Some((List::Priority, old)));
-    let found = lists.find(&header(5, 5), true, &mut steps);
-    assert!(rt; found == Some((List::Overflow, new)));
-    assert!(rt; lists.find(&header(5, 5), false, &mut steps).is_none());
-    assert!(rt; !lists.names_ct(old));
-    assert!(rt; lists.unlink(old, &mut steps).is_some());
-    assert!(rt; lists.unlink(old, &mut steps).is_none());
-    assert!(rt; lists.get(old, &mut steps).is_none());
-    assert!(rt; lists.get(new, &mut steps).is_some());
+    begin_empty(rt, alloc)?;
+    let mut lists = two_lists(alloc, &mut steps)?;
+    found_and_unlinked(rt, &mut lists, &mut steps);
     Ok(())
 }
 
@@ -64,34 +88,88 @@ fn ignoring(match_bits: u64, ignore_bits: u64) -> Entry {
     }
 }
 
-/// 2, those below 8, 5; then without those below 8; then with them after the others.
+/// 2, those below 8, 5.
+fn three_lists<L: Ledger>(alloc: Global, steps: &mut Steps<L>) -> Result<Lists, Fail> {
+    let mut lists = Lists::open(alloc, 4, 4)?;
+    lists.append(List::Priority, FIRST, entry(2, 4), steps);
+    lists.append(List::Priority, SECOND, ignoring(0, 7), steps);
+    lists.append(List::Priority, THIRD, entry(5, 4), steps);
+    Ok(lists)
+}
+
+/// The same without those below 8, and then with them after the others.
+fn turned_lists<L: Ledger>(alloc: Global, steps: &mut Steps<L>) -> Result<Lists, Fail> {
+    let mut lists = Lists::open(alloc, 4, 4)?;
+    lists.append(List::Priority, FIRST, entry(2, 4), steps);
+    lists.append(List::Priority, SECOND, ignoring(0, 7), steps);
+    lists.append(List::Priority, THIRD, entry(5, 4), steps);
+    let _older = lists.unlink(SECOND, steps);
+    lists.append(List::Priority, FOURTH, ignoring(0, 7), steps);
+    Ok(lists)
+}
+
+/// Looks for a message of so many match bits.
+fn gives_first<L: Ledger>(
+    rt: &impl Abort,
+    lists: &Lists,
+    match_bits: u64,
+    first: Option<Handle>,
+    steps: &mut Steps<L>,
+) {
+    let found = lists.find(&header(match_bits, 3), false, steps);
+    gives!(rt; found, first.map(|handle| (List::Priority, handle)));
+}
+
+/// Of 2, those below 8, 5 the first takes the message.
+fn first_of_three<L: Ledger>(
+    rt: &impl Abort,
+    alloc: Global,
+    steps: &mut Steps<L>,
+) -> Result<(), Fail> {
+    let mut lists = three_lists(alloc, steps)?;
+    gives_first(rt, &lists, 2, Some(FIRST), steps);
+    gives_first(rt, &lists, 5, Some(SECOND), steps);
+    gives_first(rt, &lists, 10, None, steps);
+    gives!(rt; lists.unlink(SECOND, steps).is_some(), true);
+    Ok(())
+}
+
+/// So it does where those below 8 stand after the others, and then without 5.
+fn first_of_turned<L: Ledger>(
+    rt: &impl Abort,
+    alloc: Global,
+    steps: &mut Steps<L>,
+) -> Result<(), Fail> {
+    let mut lists = turned_lists(alloc, steps)?;
+    gives_first(rt, &lists, 5, Some(THIRD), steps);
+    gives_first(rt, &lists, 6, Some(FOURTH), steps);
+    gives!(rt; lists.unlink(THIRD, steps).is_some(), true);
+    gives_first(rt, &lists, 5, Some(FOURTH), steps);
+    Ok(())
+}
+
 fn wild_entries<L: Ledger>(rt: &impl Abort, alloc: Global, blank: Blank) -> Result<(), Fail>
     requires name { blank.name ≡ L.name }
     requires parts { blank.parts ≡ L.parts }
     requires one { blank.parts ≡ 1 }
 {
     let mut steps = Steps::<L>::start(blank);
+    first_of_three(rt, alloc, &mut steps)?;
+    first_of_turned(rt, alloc, &mut steps)
+}
+
+/// Four entries, one after the other.
+fn four_lists<L: Ledger>(
+    alloc: Global,
+    entries: [Entry; 4],
+    steps: &mut Steps<L>,
+) -> Result<Lists, Fail> {
     let mut lists = Lists::open(alloc, 4, 4)?;
-    let (two, older) = (Handle { slot: 0, stamp: 0 }, Handle { slot: 1, stamp: 1 });
-    let (five, newer) = (Handle { slot: 2, stamp: 2 }, Handle { slot: 3, stamp: 3 });
-    lists.append(List::Priority, two, entry(2, 4), &mut steps);
-    lists.append(List::Priority, older, ignoring(0, 7), &mut steps);
-    lists.append(List::Priority, five, entry(5, 4), &mut steps);
-    let found = lists.find(&header(2, 3), false, &mut steps);
-    assert!(rt; found == Some((List::Priority, two)));
-    let found = lists.find(&header(5, 3), false, &mut steps);
-    assert!(rt; found == Some((List::Priority, older)));
-    assert!(rt; lists.find(&header(10, 3), false, &mut steps).is_none());
-    assert!(rt; lists.unlink(older, &mut steps).is_some());
-    lists.append(List::Priority, newer, ignoring(0, 7), &mut steps);
-    let found = lists.find(&header(5, 3), false, &mut steps);
-    assert!(rt; found == Some((List::Priority, five)));
-    let found = lists.find(&header(6, 3), false, &mut steps);
-    assert!(rt; found == Some((List::Priority, newer)));
-    assert!(rt; lists.unlink(five, &mut steps).is_some());
-    let found = lists.find(&header(5, 3), false, &mut steps);
-    assert!(rt; found == Some((List::Priority, newer)));
-    Ok(())
+    lists.append(List::Priority, FIRST, entries[0], steps);
+    lists.append(List::Priority, SECOND, entries[1], steps);
+    lists.append(List::Priority, THIRD, entries[2], steps);
+    lists.append(List::Priority, FOURTH, entries[3], steps);
+    Ok(lists)
 }
 
 /// Four entries, each of which takes the message: they take it in the order in which they were linked.
@@ -102,14 +180,8 @@ fn taken_in_turn<L: Ledger>(
     header: &Header,
     steps: &mut Steps<L>,
 ) -> Result<(), Fail> {
-    let mut lists = Lists::open(alloc, 4, 4)?;
-    let (first, second) = (Handle { slot: 0, stamp: 0 }, Handle { slot: 1, stamp: 1 });
-    let (third, fourth) = (Handle { slot: 2, stamp: 2 }, Handle { slot: 3, stamp: 3 });
-    lists.append(List::Priority, first, entries[0], steps);
-    lists.append(List::Priority, second, entries[1], steps);
-    lists.append(List::Priority, third, entries[2], steps);
-    lists.append(List::Priority, fourth, entries[3], steps);
-    for handle in [first, second, third, fourth] {
+    let mut lists = four_lists(alloc, entries, steps)?;
+    for handle in [FIRST, SECOND, THIRD, FOURTH] {
         let found = lists.find(header, false, steps);
         gives!(rt; found, Some((List::Priority, handle)));
         gives!(rt; lists.unlink(handle, steps).is_some(), true);
