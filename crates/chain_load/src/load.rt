@@ -166,6 +166,39 @@ fn drain<L: Ledger>(chain: &mut Chain<Linked>, keys: &[ChainKey], steps: &mut St
     found
 }
 
+/// The times of a chain that has room for all entries.
+fn time_chain<L: Ledger, C: Clock>(
+    rt: &C,
+    chain: &mut Chain<Linked>,
+    keys: &mut Vec<ChainKey>,
+    steps: &mut Steps<L>,
+) -> io::Result<Times>
+    requires room { ENTRIES ≤ chain.old.spare }
+    requires given { chain.old.given + ENTRIES < 2 ^ 63 }
+    requires keys { vec_len keys.old + ENTRIES ≤ vec_capacity keys.old }
+{
+    let start = Instant::now(rt)?;
+    fill(chain, keys, ENTRIES, steps);
+    let append = start.elapsed(rt)?;
+    let start = Instant::now(rt)?;
+    let mut found = walks(chain, steps);
+    let walk = start.elapsed(rt)?;
+    scatter(chain, keys, steps);
+    let start = Instant::now(rt)?;
+    found = found.wrapping_add(walks(chain, steps));
+    let scattered = start.elapsed(rt)?;
+    let start = Instant::now(rt)?;
+    found = found.wrapping_add(drain(chain, keys, steps));
+    let unlink = start.elapsed(rt)?;
+    Ok(Times {
+        append,
+        walk,
+        scattered,
+        unlink,
+        found,
+    })
+}
+
 /// The chain's times.
 pub fn on_chain<L: Ledger, C: Clock>(rt: &C, alloc: Global, blank: Blank) -> io::Result<Times>
     requires name { blank.name ≡ L.name }
@@ -177,26 +210,7 @@ pub fn on_chain<L: Ledger, C: Clock>(rt: &C, alloc: Global, blank: Blank) -> io:
         return Err(io::Error::from(AllocError));
     };
     let mut keys = Vec::with_capacity(alloc, ENTRIES as usize)?;
-    let start = Instant::now(rt)?;
-    fill(&mut chain, &mut keys, ENTRIES, &mut steps);
-    let append = start.elapsed(rt)?;
-    let start = Instant::now(rt)?;
-    let mut found = walks(&chain, &mut steps);
-    let walk = start.elapsed(rt)?;
-    scatter(&mut chain, &mut keys, &mut steps);
-    let start = Instant::now(rt)?;
-    found = found.wrapping_add(walks(&chain, &mut steps));
-    let scattered = start.elapsed(rt)?;
-    let start = Instant::now(rt)?;
-    found = found.wrapping_add(drain(&mut chain, &keys, &mut steps));
-    let unlink = start.elapsed(rt)?;
-    Ok(Times {
-        append,
-        walk,
-        scattered,
-        unlink,
-        found,
-    })
+    time_chain(rt, &mut chain, &mut keys, &mut steps)
 }
 
 fn first_in(entries: &[Linked], header: &Header) -> Option<Linked> {
@@ -230,19 +244,18 @@ pub(crate) fn fill_vector(entries: &mut Vec<Linked>, ignored: u64) -> Result<(),
     Ok(())
 }
 
-/// The vector's times; it has no order of places to be lost.
-pub fn on_vector<C: Clock>(rt: &C, alloc: Global) -> io::Result<Times> {
-    let mut entries = Vec::with_capacity(alloc, ENTRIES as usize)?;
+/// The times of a vector; it has no order of places to be lost.
+fn time_vector<C: Clock>(rt: &C, entries: &mut Vec<Linked>) -> io::Result<Times> {
     let start = Instant::now(rt)?;
-    fill_vector(&mut entries, 0)?;
+    fill_vector(entries, 0)?;
     let append = start.elapsed(rt)?;
     let start = Instant::now(rt)?;
-    let found = vector_walks(&entries);
+    let found = vector_walks(entries);
     let walk = start.elapsed(rt)?;
     let start = Instant::now(rt)?;
     for slot in 0..ENTRIES {
         let handle = linked(slot.wrapping_add(ENTRIES / 2) % ENTRIES, 0).handle;
-        unlink_in(&mut entries, handle);
+        unlink_in(entries, handle);
     }
     let unlink = start.elapsed(rt)?;
     Ok(Times {
@@ -252,6 +265,12 @@ pub fn on_vector<C: Clock>(rt: &C, alloc: Global) -> io::Result<Times> {
         unlink,
         found: found.wrapping_add(entries.len() as u64),
     })
+}
+
+/// The vector's times.
+pub fn on_vector<C: Clock>(rt: &C, alloc: Global) -> io::Result<Times> {
+    let mut entries = Vec::with_capacity(alloc, ENTRIES as usize)?;
+    time_vector(rt, &mut entries)
 }
 
 /// The empty lists of an index, with room for all entries.
@@ -291,26 +310,26 @@ fn finds<L: Ledger>(lists: &Lists, steps: &mut Steps<L>) -> u64 {
 }
 
 /// The times of the lists of an index. A walk along all of them for one message becomes a find for each.
-pub fn on_lists<L: Ledger, C: Clock>(rt: &C, alloc: Global, blank: Blank) -> io::Result<Times>
-    requires name { blank.name ≡ L.name }
-    requires parts { blank.parts ≡ L.parts }
-    requires one { blank.parts ≡ 1 }
+fn time_lists<L: Ledger, C: Clock>(
+    rt: &C,
+    lists: &mut Lists,
+    steps: &mut Steps<L>,
+) -> io::Result<Times>
+    requires { lists.old ≡ both [] [] ENTRIES ENTRIES 0 }
 {
-    let mut steps = Steps::<L>::start(blank);
-    let mut lists = open_lists(alloc)?;
     let start = Instant::now(rt)?;
-    fill_lists(&mut lists, ENTRIES, 0, &mut steps);
+    fill_lists(lists, ENTRIES, 0, steps);
     let append = start.elapsed(rt)?;
     let start = Instant::now(rt)?;
     let mut found = 0u64;
     for _walk in 0..WALKS {
-        found = found.wrapping_add(finds(&lists, &mut steps));
+        found = found.wrapping_add(finds(lists, steps));
     }
     let walk = start.elapsed(rt)?;
     let start = Instant::now(rt)?;
     for slot in 0..ENTRIES {
         let handle = linked(slot.wrapping_add(ENTRIES / 2) % ENTRIES, 0).handle;
-        if lists.unlink(handle, &mut steps).is_some() {
+        if lists.unlink(handle, steps).is_some() {
             found = found.wrapping_add(1);
         }
     }
@@ -322,4 +341,15 @@ pub fn on_lists<L: Ledger, C: Clock>(rt: &C, alloc: Global, blank: Blank) -> io:
         unlink,
         found,
     })
+}
+
+/// The lists' times.
+pub fn on_lists<L: Ledger, C: Clock>(rt: &C, alloc: Global, blank: Blank) -> io::Result<Times>
+    requires name { blank.name ≡ L.name }
+    requires parts { blank.parts ≡ L.parts }
+    requires one { blank.parts ≡ 1 }
+{
+    let mut steps = Steps::<L>::start(blank);
+    let mut lists = open_lists(alloc)?;
+    time_lists(rt, &mut lists, &mut steps)
 }

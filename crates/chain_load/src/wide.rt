@@ -1,5 +1,6 @@
 //! Entries that stand in no bucket, so that a find looks at each in order.
-ghost use Rattle.std.specs.Prelude.{◌≡◌};
+ghost use Rattle.std.specs.Prelude.{◌≡◌, []};
+ghost use Rattle.match_lists.specs.Lists.{both};
 
 use crate::load::{ENTRIES, WALKS, fill_lists, fill_vector, header, open_lists, vector_walks};
 use chain_list::Steps;
@@ -30,6 +31,22 @@ fn finds_again<L: Ledger>(lists: &Lists, steps: &mut Steps<L>) -> u64 {
     found
 }
 
+/// Fills the lists of an index, and times the walks along them.
+fn time_walks<L: Ledger, C: Clock>(
+    rt: &C,
+    lists: &mut Lists,
+    ignored: u64,
+    steps: &mut Steps<L>,
+) -> io::Result<Walks>
+    requires { lists.old ≡ both [] [] ENTRIES ENTRIES 0 }
+{
+    fill_lists(lists, ENTRIES, ignored, steps);
+    let start = Instant::now(rt)?;
+    let found = finds_again(lists, steps);
+    let took = start.elapsed(rt)?;
+    Ok(Walks { took, found })
+}
+
 /// The walks along the lists of an index.
 pub fn along_lists<L: Ledger, C: Clock>(
     rt: &C,
@@ -43,11 +60,7 @@ pub fn along_lists<L: Ledger, C: Clock>(
 {
     let mut steps = Steps::<L>::start(blank);
     let mut lists = open_lists(alloc)?;
-    fill_lists(&mut lists, ENTRIES, ignored, &mut steps);
-    let start = Instant::now(rt)?;
-    let found = finds_again(&lists, &mut steps);
-    let took = start.elapsed(rt)?;
-    Ok(Walks { took, found })
+    time_walks(rt, &mut lists, ignored, &mut steps)
 }
 
 /// The walks along a vector.
