@@ -1,4 +1,5 @@
 pub mod Lines
+pub mod Made
 pub mod Orders
 pub mod Plans
 pub mod Putting

@@ -1,27 +1,26 @@
 use Rattle.std.proofs.Common.{◌≡◌, ◌+◌, ◌-◌, ◌++◌, subst, arith}
 use Rattle.run_text.specs.Lines.{line_at}
-use Rattle.run_text.specs.Putting.{Takes, FailsWithin}
+use Rattle.run_text.specs.Putting.{Takes}
 use Rattle.run_text.proofs.Taking.{Takes-next, Fails-next, Puts-stops}
-use Rattle.run_text.proofs.Spaced.{line-is, lines_from, lines_from-next}
+use Rattle.run_text.proofs.Spaced.{lines_from, lines_from-next}
 use Rattle.run_text.proofs.results.put_buffer.Goals as goal
 
-pub returns-in_err-result_line : goal.returns-in_err-result_line
-returns-in_err-result_line g c =
+pub returns-in_err-put_line_at : goal.returns-in_err-put_line_at
+returns-in_err-put_line_at g c =
     let o = c.args.shape.now in
     let lists = g.H.ResultLists.lists c.args.held.now in
     let b = c.args.buffer in
     let rank = c.loop-rank.rank in
     let old = g.K.Sink.outflow c.args.sink.now in
     let before = g.K.Sink.outflow c.loop-rank.sink in
-    let new = g.K.Sink.outflow c.result_line.new.sink in
+    let new = g.K.Sink.outflow c.put_line_at.new.sink in
     let text = c.args.out.now ++ lines_from o lists b 0 o.ranks in
     let ranks : c.ranks-rank-end.result ≡ o.ranks = c.ranks-rank-end.ensures.value in
     let next = lines_from-next o lists b rank o.ranks (omega arith) in
-    let line = line-is o lists b rank c.index-buffers-buffer.result c.buffers.result.now c.as_slice.result.now c.list.result.now c.requires.buffer c.buffers.ensures.value c.index-buffers-buffer.is c.as_slice.ensures.value c.list.ensures in
-    Puts-stops old new c.args.out.now c.result_line.new.out (lines_from o lists b 0 o.ranks) _ c.from_residual.ensures.0
+    Puts-stops old new c.args.out.now c.put_line_at.new.out (lines_from o lists b 0 o.ranks) _ c.from_residual.ensures.0
     (Fails-next old before new text c.loop-rank.out (line_at o lists b rank) (lines_from o lists b (rank + 1) (o.ranks - (rank + 1)))
     (subst (λ rest. Takes old before text (c.loop-rank.out ++ rest)) next c.loop-rank.invariant)
-    (subst (λ xs. FailsWithin before new (c.loop-rank.out ++ xs)) line c.in_err-result_line.ensures))
+    c.in_err-put_line_at.ensures)
 
 pub loop-rank-preserved : goal.loop-rank-preserved
 loop-rank-preserved g c =
@@ -31,11 +30,10 @@ loop-rank-preserved g c =
     let rank = c.loop-rank.rank in
     let old = g.K.Sink.outflow c.args.sink.now in
     let before = g.K.Sink.outflow c.loop-rank.sink in
-    let new = g.K.Sink.outflow c.result_line.new.sink in
+    let new = g.K.Sink.outflow c.put_line_at.new.sink in
     let text = c.args.out.now ++ lines_from o lists b 0 o.ranks in
     let ranks : c.ranks-rank-end.result ≡ o.ranks = c.ranks-rank-end.ensures.value in
     let next = lines_from-next o lists b rank o.ranks (omega arith) in
-    let line = line-is o lists b rank c.index-buffers-buffer.result c.buffers.result.now c.as_slice.result.now c.list.result.now c.requires.buffer c.buffers.ensures.value c.index-buffers-buffer.is c.as_slice.ensures.value c.list.ensures in
-    Takes-next old before new text c.loop-rank.out c.result_line.new.out (line_at o lists b rank) (lines_from o lists b (rank + 1) (o.ranks - (rank + 1)))
+    Takes-next old before new text c.loop-rank.out c.put_line_at.new.out (line_at o lists b rank) (lines_from o lists b (rank + 1) (o.ranks - (rank + 1)))
     (subst (λ rest. Takes old before text (c.loop-rank.out ++ rest)) next c.loop-rank.invariant)
-    (subst (λ xs. Takes before new (c.loop-rank.out ++ xs) c.result_line.new.out) line c.in_ok-result_line.ensures)
+    c.in_ok-put_line_at.ensures
