@@ -1,4 +1,5 @@
 pub mod Reading
+pub mod Ahead
 pub mod Members
 pub mod Ranks
 pub mod Cases

@@ -15,7 +15,7 @@ use Rattle.coll_lang.specs.Verdicts.{fault_at}
 use Rattle.coll_lang.specs.Language.{Past, judge, read_from, is_finished}
 
 -- there is a piece at least, and one that isn't empty where there are bytes
-some_piece : (b : ℕ) (bytes : List ℕ) → (piece : List ℕ) × (pieces : List (List ℕ)) × (lines bytes ≡ piece ∷ pieces)
+pub some_piece : (b : ℕ) (bytes : List ℕ) → (piece : List ℕ) × (pieces : List (List ℕ)) × (lines bytes ≡ piece ∷ pieces)
 some_piece b [] = ([], [], refl)
 some_piece b (c ∷ bytes) =
     elim (c == 10) as (λ t. (piece : List ℕ) × (pieces : List (List ℕ))

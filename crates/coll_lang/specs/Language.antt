@@ -313,10 +313,14 @@ unless_flawed (Ok bytes) = Ok bytes
 unless_flawed (Err Malformed) = Err BadLine
 unless_flawed (Err NoValue) = Err BadNumber
 
+-- the values of a data line are added, and one line fewer is due
+abbrev pub with_values : Past → ℕ → ElemType → ℕ → List ℕ → Past
+with_values past left ty count bytes = record past { stage = data_due (left - 1) ty count; given = past.given ++ bytes ∷ [] }
+
 unfoldable pub values_line : Past → ℕ → ElemType → ℕ → List ℕ → Result Past Refusal
 values_line past left ty count line = do
   bytes ← unless_flawed (data_line ty count (words line))
-  Ok (record past { stage = data_due (left - 1) ty count; given = past.given ++ bytes ∷ [] })
+  Ok (with_values past left ty count bytes)
 
 unfoldable pub later_line : Past → List ℕ → Result Past Refusal
 later_line past line = do

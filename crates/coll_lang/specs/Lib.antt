@@ -6,6 +6,7 @@ pub mod Verdicts
 pub mod Forms
 pub mod Language
 pub mod States
+pub mod Blocks
 pub mod Seen
 pub mod Made
 pub mod Held

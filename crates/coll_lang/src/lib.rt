@@ -4,6 +4,7 @@
 #![tactic(auto)]
 
 mod adding;
+mod block;
 mod choices;
 mod description;
 mod fault;
@@ -29,4 +30,4 @@ pub use generating::generated;
 pub use printing::{op_word, print, type_word};
 pub use readable::reads_exactly;
 pub use text::Text;
-pub use whole::{LONGEST_TEXT, parse};
+pub use whole::{LONGEST_TEXT, parse, parse_by};

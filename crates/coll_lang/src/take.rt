@@ -1,13 +1,13 @@
 //! Taking one line.
 
-ghost use Rattle.std.specs.Prelude.{◌≡◌, ◌≤◌, ◌<◌, IfOk, IfSome, length};
+ghost use Rattle.std.specs.Prelude.{◌≡◌, ◌≤◌, ◌<◌, IfOk, IfSome, Ok, length};
 ghost use Rattle.std.specs.List.{list_all};
 ghost use Rattle.number_lists.specs.Numbers.{from_to};
 ghost use Rattle.coll_text.specs.Text.{words};
 ghost use Rattle.coll_text.specs.Values.{data_line};
 ghost use Rattle.coll_shape.specs.WellFormed.{most_ranks};
 ghost use Rattle.coll_lang.specs.Answers.{Gives};
-ghost use Rattle.coll_lang.specs.Language.{choice_line, data_due, form_line, form_since, group_line, input_line, is_allowed, judge, later_line, line_at, may_stand, print_line, ranks_in, stands_at, stands_in, step_line, unless_flawed, values_line, version_of};
+ghost use Rattle.coll_lang.specs.Language.{choice_line, data_due, form_line, form_since, group_line, input_line, is_allowed, judge, later_line, line_at, may_stand, print_line, ranks_in, stands_at, stands_in, step_line, unless_flawed, values_line, version_of, with_values};
 ghost use Rattle.coll_lang.specs.Made.{members_said, rank_read};
 ghost use Rattle.coll_lang.specs.Seen.{form, now, step_seen};
 ghost use Rattle.coll_lang.specs.States.{past, Takes};
@@ -326,7 +326,12 @@ fn form_line(reader: &mut Reader, line: Line) -> Result<(), LineFault>
 }
 
 /// The values of a data line.
-fn values_of(alloc: Global, ty: ElemType, count: u32, line: &[u8]) -> Result<InputList, LineFault>
+pub(crate) fn values_of(
+    alloc: Global,
+    ty: ElemType,
+    count: u32,
+    line: &[u8],
+) -> Result<InputList, LineFault>
     ensures { Gives (λ list. list) result (unless_flawed (data_line ty count (words line.now))) }
 {
     match data_line(alloc, ty, u64::from(count), line) {
@@ -335,6 +340,21 @@ fn values_of(alloc: Global, ty: ElemType, count: u32, line: &[u8]) -> Result<Inp
         Err(ValuesFault::Flawed(Flaw::NoValue)) => Err(LineFault::Refused(Refusal::BadNumber)),
         Err(ValuesFault::NoMemory) => Err(LineFault::NoMemory),
     }
+}
+
+/// The values of the next data line.
+pub(crate) fn take_values(
+    reader: &mut Reader,
+    left: u32,
+    ty: ElemType,
+    count: u32,
+    values: InputList,
+) -> Result<(), LineFault>
+    ensures { Takes result reader.new (Ok (with_values (past reader.old) left ty count values)) }
+{
+    reader.given.push(values)?;
+    reader.stage = data_due(left.saturating_sub(1), ty, count);
+    Ok(())
 }
 
 /// A data line.
@@ -349,9 +369,7 @@ fn values_line(
     ensures { Takes result reader.new (values_line (past reader.old) left ty count line.now) }
 {
     let values = values_of(reader.alloc, ty, count, line)?;
-    reader.given.push(values)?;
-    reader.stage = data_due(left.saturating_sub(1), ty, count);
-    Ok(())
+    take_values(reader, left, ty, count, values)
 }
 
 /// A line after the first two that is no data line.
@@ -415,7 +433,7 @@ fn line_at(reader: &mut Reader, line: &[u8]) -> Result<(), LineFault>
 }
 
 /// Whether each byte of the line is one from 0x20 to 0x7E.
-fn are_allowed(line: &[u8]) -> bool
+pub(crate) fn are_allowed(line: &[u8]) -> bool
     ensures { result ≡ list_all is_allowed line.now }
 {
     line.iter().all(|b| matches!(*b, b' '..=b'~'))

@@ -1,13 +1,15 @@
 //! Reading a whole text.
 
-ghost use Rattle.std.specs.Prelude.{◌≡◌, ◌≤◌, length, IfOk};
+ghost use Rattle.std.specs.Prelude.{◌≡◌, ◌<◌, ◌≤◌, ◌+◌, ◌^◌, true, false, length, IfOk};
 ghost use Rattle.coll_text.specs.Text.{lines};
 ghost use Rattle.coll_lang.specs.Language.{nothing, read, read_from, is_finished};
 ghost use Rattle.coll_lang.specs.States.{past};
+ghost use Rattle.coll_lang.specs.Blocks.{ReadsOn};
 ghost use Rattle.coll_lang.specs.Verdicts.{Reads, fault_at};
 ghost use Rattle.coll_lang.specs.Spelling.{text};
 ghost use Rattle.coll_lang.specs.Readable.{IsReadable};
 
+use crate::block::read_ahead;
 use crate::description::Description;
 use crate::fault::{LineFault, ParseFault, Refusal};
 use crate::reader::Reader;
@@ -16,6 +18,7 @@ use crate::take::{all_ranks, take_line};
 use coll_shape::Version;
 use coll_text::cut;
 use std::alloc::{AllocError, Global};
+use std::thread::Threads;
 
 /// The most bytes of a description, and of the line text of one in JSON.
 pub const LONGEST_TEXT: usize = 1_048_576;
@@ -50,8 +53,40 @@ fn is_finished(stage: Stage) -> bool
     matches!(stage, Stage::Finished)
 }
 
-/// What the lines say, taken one after the other.
+/// Takes the next line, which has this number. Answers the number of the line after it, and what is left.
 #[tactic(auto, using(crate::proofs::Reading::goes_on, crate::proofs::Reading::breaks_off))]
+fn next_line<'a>(
+    reader: &mut Reader,
+    number: u32,
+    bytes: &'a [u8],
+) -> Result<(u32, &'a [u8]), ParseFault>
+    requires going { is_finished reader.old.stage ≡ false }
+    requires few { number + length bytes.now < 2 ^ 32 }
+    ensures read { ReadsOn result number bytes.now (past reader.old) (past reader.new) }
+    ensures shorter { IfOk result (λ r. length r.1.now < length bytes.now) }
+{
+    let (line, Some(rest)) = cut(bytes, b'\n') else {
+        return Err(refused(number, Refusal::Unended));
+    };
+    match take_line(reader, line) {
+        Ok(()) => Ok((number + 1, rest)),
+        Err(fault) => Err(fault_at(number, fault)),
+    }
+}
+
+/// What was read, where nothing is left after the last line.
+fn ended(reader: Reader, number: u32, rest: &[u8]) -> Result<Reader, ParseFault>
+    requires done { is_finished reader.stage ≡ true }
+    ensures { Reads past result (read_from (past reader) number (lines rest.now)) }
+{
+    if rest.is_empty() {
+        Ok(reader)
+    } else {
+        Err(refused(number, Refusal::AfterEnd))
+    }
+}
+
+/// What the lines say, taken one after the other.
 fn read_lines(alloc: Global, bytes: &[u8]) -> Result<Reader, ParseFault>
     requires { length bytes.now ≤ LONGEST_TEXT }
     ensures { Reads past result (read_from nothing 1 (lines bytes.now)) }
@@ -60,24 +95,34 @@ fn read_lines(alloc: Global, bytes: &[u8]) -> Result<Reader, ParseFault>
     let mut rest = bytes;
     let mut number = 1u32;
     while !is_finished(reader.stage) {
-        let (line, Some(behind)) = cut(rest, b'\n') else {
-            return Err(refused(number, Refusal::Unended));
-        };
-        if let Err(fault) = take_line(&mut reader, line) {
-            return Err(fault_at(number, fault));
-        }
-        rest = behind;
-        number += 1;
+        (number, rest) = next_line(&mut reader, number, rest)?;
     }
-    if rest.is_empty() {
-        Ok(reader)
-    } else {
-        Err(refused(number, Refusal::AfterEnd))
+    ended(reader, number, rest)
+}
+
+/// What the lines say. Long runs of data lines are read by as many threads.
+fn read_lines_by<R: Threads + Sync>(
+    rt: &R,
+    alloc: Global,
+    threads: u32,
+    bytes: &[u8],
+) -> Result<Reader, ParseFault>
+    requires threads { 0 < threads }
+    requires short { length bytes.now ≤ LONGEST_TEXT }
+    ensures { Reads past result (read_from nothing 1 (lines bytes.now)) }
+{
+    let mut reader = new_reader(alloc)?;
+    let mut rest = bytes;
+    let mut number = 1u32;
+    while !is_finished(reader.stage) {
+        let (next, behind) = next_line(&mut reader, number, rest)?;
+        (number, rest) = read_ahead(rt, threads, &mut reader, next, behind)?;
     }
+    ended(reader, number, rest)
 }
 
 /// A line's fault, with its number.
-fn fault_at(line: u32, fault: LineFault) -> ParseFault
+pub(crate) fn fault_at(line: u32, fault: LineFault) -> ParseFault
     ensures { result ≡ fault_at line fault }
 {
     match fault {
@@ -105,6 +150,24 @@ fn parsed(alloc: Global, bytes: &[u8]) -> Result<Description, ParseFault>
     Ok(Description::of(reader))
 }
 
+/// What a text describes, or its first refusal. Long runs of data lines are read by as many threads.
+#[tactic(auto, unfolding(crate::specs::Language::read))]
+fn parsed_by<R: Threads + Sync>(
+    rt: &R,
+    alloc: Global,
+    threads: u32,
+    bytes: &[u8],
+) -> Result<Description, ParseFault>
+    requires threads { 0 < threads }
+    ensures { Reads (λ d. d) result (read bytes.now) }
+{
+    if bytes.len() > LONGEST_TEXT {
+        return Err(refused(0, Refusal::TooLong));
+    }
+    let reader = read_lines_by(rt, alloc, threads, bytes)?;
+    Ok(Description::of(reader))
+}
+
 /// Reads a description in one pass.
 ///
 /// # Errors
@@ -118,4 +181,26 @@ pub fn parse(alloc: Global, bytes: &[u8]) -> Result<Description, ParseFault>
     ensures readable { IfOk result (λ d. IsReadable d) }
 {
     parsed(alloc, bytes)
+}
+
+/// Reads a description, as `parse` does. Long runs of data lines are read by as many threads; where no thread can be started, the call
+/// does its part itself.
+///
+/// # Errors
+///
+/// The first refusal of the text with its line, or that there was no memory for the description.
+pub fn parse_by<R: Threads + Sync>(
+    rt: &R,
+    alloc: Global,
+    threads: u32,
+    bytes: &[u8],
+) -> Result<Description, ParseFault>
+    requires threads { 0 < threads }
+    // Unless memory runs out, it is what reading gives, both ways.
+    ensures exact { Reads (λ d. d) result (read bytes.now) }
+    // What is read has the text as its one spelling.
+    ensures spelled { IfOk result (λ d. bytes.now ≡ text d) }
+    ensures readable { IfOk result (λ d. IsReadable d) }
+{
+    parsed_by(rt, alloc, threads, bytes)
 }

@@ -4,11 +4,11 @@ use Rattle.coll_lang.specs.States.{past}
 use Rattle.coll_lang.specs.Language.{nothing, read_from}
 use Rattle.coll_lang.proofs.whole.read_lines.Given as goal
 
-abbrev pub invariant-loop-rest : goal.invariant-loop-rest
-invariant-loop-rest l = record {
+abbrev pub invariant-loop-reader : goal.invariant-loop-reader
+invariant-loop-reader l = record {
   judged : read_from nothing 1 (lines l.bytes) ≡ read_from (past l.reader) l.number (lines l.rest);
   few : l.number + length l.rest ≤ length l.bytes + 1;
 }
 
-abbrev pub decreases-loop-rest : goal.decreases-loop-rest
-decreases-loop-rest l = length l.rest
+abbrev pub decreases-loop-reader : goal.decreases-loop-reader
+decreases-loop-reader l = length l.rest

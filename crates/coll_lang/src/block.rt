@@ -1,0 +1,194 @@
+//! Data lines that many threads read.
+
+ghost use Rattle.std.specs.Prelude.{◌≡◌, ◌<◌, ◌≤◌, ◌+◌, ◌^◌, ◌++◌, ℕ, List, IfOk, IfSome, length, map, slice_index_or};
+ghost use Rattle.coll_text.specs.Text.{lines};
+ghost use Rattle.coll_lang.specs.Answers.{Gives};
+ghost use Rattle.coll_lang.specs.Blocks.{AreSaid, ReadsOn, TakesBlock, data_said};
+ghost use Rattle.coll_lang.specs.Language.{judge};
+ghost use Rattle.coll_lang.specs.States.{Takes, past};
+
+use crate::fault::{LineFault, ParseFault, Refusal};
+use crate::reader::Reader;
+use crate::stage::Stage;
+use crate::take::{are_allowed, take_line, take_values, values_of};
+use crate::whole::fault_at;
+use coll_shape::InputList;
+use coll_text::cut;
+use ptl_types::ElemType;
+use std::alloc::{AllocError, Global};
+use std::thread;
+use std::thread::Threads;
+
+/// Fewer bytes aren't shared among threads.
+const FEW: usize = 65_536;
+
+/// At most so many lines that end, and what follows them.
+fn cut_lines<'a>(
+    alloc: Global,
+    most: u32,
+    bytes: &'a [u8],
+) -> Result<(Vec<&'a [u8]>, &'a [u8]), AllocError>
+    ensures few { IfOk result (λ r. length r.0.items ≤ most) }
+    ensures short { IfOk result (λ r. length r.1.now + length r.0.items ≤ length bytes.now) }
+    ensures lines { IfOk result (λ r. lines bytes.now ≡ map (λ line. line.now) r.0.items ++ lines r.1.now) }
+{
+    let mut found = Vec::with_capacity(alloc, most as usize)?;
+    let mut rest = bytes;
+    while found.len() < most as usize {
+        let (line, Some(later)) = cut(rest, b'\n') else {
+            break;
+        };
+        found.push(line)?;
+        rest = later;
+    }
+    Ok((found, rest))
+}
+
+/// What a data line says by itself.
+fn data_said(alloc: Global, ty: ElemType, count: u32, line: &[u8]) -> Result<InputList, LineFault>
+    ensures { Gives (λ list. list) result (data_said ty count line.now) }
+{
+    if !are_allowed(line) {
+        return Err(LineFault::Refused(Refusal::BadByte));
+    }
+    values_of(alloc, ty, count, line)
+}
+
+/// Reads each line at its place, by as many threads.
+fn fill_places<R: Threads + Sync>(
+    rt: &R,
+    alloc: Global,
+    threads: u32,
+    ty: ElemType,
+    count: u32,
+    lines: &[&[u8]],
+    places: &mut [Option<Result<InputList, LineFault>>],
+)
+    requires threads { 0 < threads }
+    requires count { length places.old ≡ length lines.now }
+    ensures count { length places.new ≡ length places.old }
+    ensures said { AreSaid ty count lines.now places.new }
+{
+    thread::for_each_mut(
+        rt,
+        places,
+        threads as usize,
+        &|i: usize, place: &mut Option<Result<InputList, LineFault>>|
+            requires { i < length lines.now }
+            ensures { (d : _) → IfSome place.exit.now (λ x. Gives (λ list. list) x (data_said ty count (slice_index_or lines.entry.now i d).now)) }
+        {
+            *place = Some(data_said(alloc, ty, count, lines[i]));
+        },
+    );
+}
+
+/// What each of the lines says, read by as many threads.
+fn all_said<R: Threads + Sync>(
+    rt: &R,
+    alloc: Global,
+    threads: u32,
+    ty: ElemType,
+    count: u32,
+    lines: &[&[u8]],
+) -> Result<Vec<Option<Result<InputList, LineFault>>>, AllocError>
+    requires threads { 0 < threads }
+    ensures count { IfOk result (λ v. length v.items ≡ length lines.now) }
+    ensures said { IfOk result (λ v. AreSaid ty count lines.now v.items) }
+{
+    let mut places = Vec::new(alloc);
+    places.resize_with(lines.len(), || None)?;
+    fill_places(rt, alloc, threads, ty, count, lines, &mut places);
+    Ok(places)
+}
+
+/// Takes a data line. What it says may have been read before.
+fn take_place(
+    reader: &mut Reader,
+    left: u32,
+    ty: ElemType,
+    count: u32,
+    line: &[u8],
+    place: Option<Result<InputList, LineFault>>,
+) -> Result<(), LineFault>
+    requires stage { reader.old.stage ≡ Stage.Data left ty count }
+    requires said { IfSome place (λ x. Gives (λ list. list) x (data_said ty count line.now)) }
+    ensures { Takes result reader.new (judge (past reader.old) line.now) }
+{
+    match place {
+        Some(Ok(values)) => take_values(reader, left, ty, count, values),
+        Some(Err(fault)) => Err(fault),
+        None => take_line(reader, line),
+    }
+}
+
+/// Takes data lines, the first of which has this number, and of which so many are due. What they say may have been read before.
+fn take_block(
+    reader: &mut Reader,
+    left: u32,
+    ty: ElemType,
+    count: u32,
+    lines: &[&[u8]],
+    places: &mut [Option<Result<InputList, LineFault>>],
+    number: u32,
+) -> Result<(), ParseFault>
+    requires stage { reader.old.stage ≡ Stage.Data left ty count }
+    requires due { length lines.now ≤ left }
+    requires places { length places.old ≡ length lines.now }
+    requires said { AreSaid ty count lines.now places.old }
+    requires few { number + length lines.now < 2 ^ 32 }
+    ensures { (bytes : List ℕ) → TakesBlock result number (map (λ line. line.now) lines.now) bytes (past reader.old) (past reader.new) }
+{
+    for i in 0..lines.len() {
+        let due = left - i as u32;
+        let place = places[i].take();
+        if let Err(fault) = take_place(reader, due, ty, count, lines[i], place) {
+            return Err(fault_at(number + i as u32, fault));
+        }
+    }
+    Ok(())
+}
+
+/// Takes the data lines that are due, as far as they are there, each read by one of as many threads.
+fn read_block<'a, R: Threads + Sync>(
+    rt: &R,
+    threads: u32,
+    reader: &mut Reader,
+    left: u32,
+    ty: ElemType,
+    count: u32,
+    number: u32,
+    bytes: &'a [u8],
+) -> Result<(u32, &'a [u8]), ParseFault>
+    requires threads { 0 < threads }
+    requires stage { reader.old.stage ≡ Stage.Data left ty count }
+    requires few { number + length bytes.now < 2 ^ 32 }
+    ensures { ReadsOn result number bytes.now (past reader.old) (past reader.new) }
+{
+    let alloc = reader.alloc;
+    let (lines, rest) = cut_lines(alloc, left, bytes)?;
+    let lines: &[&[u8]] = lines.as_slice();
+    let mut places = all_said(rt, alloc, threads, ty, count, lines)?;
+    take_block(reader, left, ty, count, lines, &mut places, number)?;
+    Ok((number + lines.len() as u32, rest))
+}
+
+/// Where a long run of data lines comes next, takes as many of them as are there. Answers the number of the line after them, and what is
+/// left.
+pub(crate) fn read_ahead<'a, R: Threads + Sync>(
+    rt: &R,
+    threads: u32,
+    reader: &mut Reader,
+    number: u32,
+    bytes: &'a [u8],
+) -> Result<(u32, &'a [u8]), ParseFault>
+    requires threads { 0 < threads }
+    requires few { number + length bytes.now < 2 ^ 32 }
+    ensures { ReadsOn result number bytes.now (past reader.old) (past reader.new) }
+{
+    match reader.stage {
+        Stage::Data { left, ty, count } if FEW <= bytes.len() => {
+            read_block(rt, threads, reader, left, ty, count, number, bytes)
+        }
+        _ => Ok((number, bytes)),
+    }
+}
