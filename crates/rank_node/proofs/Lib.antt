@@ -10,3 +10,4 @@ pub mod Shut
 pub mod Opened
 pub mod Plans
 pub mod Sending
+pub mod Sent

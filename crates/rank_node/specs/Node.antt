@@ -36,12 +36,13 @@ pub record Task : Type 0 where
   pub receipts : ℕ
   pub bytes : ℕ
 
-abbrev pub task_of : Compiled → Task
-task_of c = record {
+-- of a region that begins with these bytes
+abbrev pub task_from : Compiled → List ℕ → Task
+task_from c region = record {
   rank = c.rank;
   ranks = c.ranks;
   limits = c.limits;
-  region = c.region.list;
+  region = region;
   cells = c.cells.items;
   calls = c.calls.items;
   own = c.own.items;
@@ -50,6 +51,9 @@ task_of c = record {
   receipts = c.receipts;
   bytes = c.bytes;
 }
+
+abbrev pub task_of : Compiled → Task
+task_of c = task_from c c.region.list
 
 -- the interface before its start, under the slots k
 abbrev pub prepared : Task → Slots → State

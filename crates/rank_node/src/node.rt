@@ -10,7 +10,7 @@ ghost use Rattle.plan_cuts.specs.History.Local.{Receive as Received, Fire as Fir
 ghost use Rattle.rank_node.specs.Copies.{listed};
 ghost use Rattle.rank_node.specs.Gates.{may_go, open_numbers};
 ghost use Rattle.rank_node.specs.Handles.{Agrees};
-ghost use Rattle.rank_node.specs.Node.{IsCompiled, IsPrepared, IsNode, IsStarted, fired_node, gated_node, received_node, task_of};
+ghost use Rattle.rank_node.specs.Node.{IsCompiled, IsPrepared, IsNode, IsStarted, fired_node, gated_node, received_node, task_from, task_of};
 
 use crate::choice::{may_fire, open_at, open_count};
 use crate::compiled::Compiled;
@@ -23,14 +23,17 @@ use portals_ni::Nic;
 use ptl_types::{Bytes, Count, Lane, LocalStep, Message, NoMemory, Rank};
 use std::alloc::Global;
 use std::marker::Model;
+use std::mem;
+use std::snapshot::Snapshot;
 
 /// How many bytes a message may have that isn't of the plan.
 const STRAY_BYTES: u64 = 64;
 
 /// One rank: what is compiled for it, its interface with the handles that it gave, its history, and a buffer for what came before
-/// the start.
+/// the start. The interface has the region; the bytes that it began with are known in clauses alone.
 pub struct Node {
     compiled: Compiled,
+    began: Snapshot<Bytes>,
     nic: Nic,
     kept: Kept,
     history: History,
@@ -41,13 +44,13 @@ pub struct Node {
 
 impl Model for Node {
     ghost use Rattle.std.specs.Prelude.{◌≡◌, length};
-    ghost use Rattle.rank_node.specs.Node.{NodeState, IsNode, task_of};
+    ghost use Rattle.rank_node.specs.Node.{NodeState, IsNode, task_from};
 
     ghost Value = { NodeState };
 
-    ghost view = { λ n. record { task = task_of n.compiled; kept = n.kept; diary = n.history; nic = n.nic; strays = n.strays; closed = n.gates } };
+    ghost view = { λ n. record { task = task_from n.compiled n.began.value.list; kept = n.kept; diary = n.history; nic = n.nic; strays = n.strays; closed = n.gates } };
 
-    ghost invariant = { λ n. IsNode (record { task = task_of n.compiled; kept = n.kept; diary = n.history; nic = n.nic; strays = n.strays; closed = n.gates }) × (length n.buffer.items ≡ n.compiled.longest) };
+    ghost invariant = { λ n. IsNode (record { task = task_from n.compiled n.began.value.list; kept = n.kept; diary = n.history; nic = n.nic; strays = n.strays; closed = n.gates }) × (length n.buffer.items ≡ n.compiled.longest) };
 }
 
 // Written out, so that letting one go is one call: docs/DECISIONS.md, "Large types have a drop of their own".
@@ -55,6 +58,7 @@ impl Drop for Node {
     fn drop(self) {
         let Node {
             compiled: _,
+            began: _,
             nic: _,
             kept: _,
             history: _,
@@ -76,12 +80,11 @@ fn zeros(alloc: Global, count: u64) -> Result<Vec<u8>, NoMemory>
     }
 }
 
-/// Makes the compiled calls on a new interface. There is room for all handles before the first call.
-fn prepare(alloc: Global, compiled: &Compiled) -> Result<(Nic, Kept), NoMemory>
-    requires { IsCompiled (task_of compiled.now) }
-    ensures { IfOk result (λ p. IsPrepared (task_of compiled.now) p.0 p.1) }
+/// Makes the compiled calls on a new interface of this region. There is room for all handles before the first call.
+fn prepare(alloc: Global, compiled: &Compiled, region: Bytes) -> Result<(Nic, Kept), NoMemory>
+    requires { IsCompiled (task_from compiled.now region.list) }
+    ensures { IfOk result (λ p. IsPrepared (task_from compiled.now region.list) p.0 p.1) }
 {
-    let region = Bytes::of(alloc, compiled.region.as_slice())?;
     let mut kept = Kept::with_room(alloc, &compiled.limits)?;
     let mut nic = Nic::open(
         alloc,
@@ -119,12 +122,16 @@ impl Node {
         ensures strays { IfOk result (λ n. n.strays ≡ strays) }
         ensures gates { IfOk result (λ n. n.closed ≡ replicate compiled.ranks false) }
     {
-        let (nic, kept) = prepare(alloc, &compiled)?;
+        let mut compiled = compiled;
+        let began = Snapshot::of(&compiled.region);
+        let region = mem::replace(&mut compiled.region, Bytes::empty(alloc));
+        let (nic, kept) = prepare(alloc, &compiled, region)?;
         let history = diary(alloc, &compiled, nic.pending(), strays)?;
         let buffer = zeros(alloc, compiled.longest)?;
         let gates = Gates::all_open(alloc, compiled.ranks)?;
         Ok(Node {
             compiled,
+            began,
             nic,
             kept,
             history,

@@ -1,13 +1,19 @@
-use Rattle.std.proofs.Common.{◌≡◌, ◌≤◌, ◌+◌, [], false, ◌∙◌, length, ap, arith}
+use Rattle.std.proofs.Common.{◌≡◌, ◌≤◌, ◌+◌, [], false, ◌∙◌, length, ap, arith, subst, sym}
 use Rattle.std.proofs.lemmas.List.{length-replicate}
+use Rattle.ptl_types.specs.Filled.{Filled}
 use Rattle.rank_node.specs.Copies.{Diary}
-use Rattle.rank_node.specs.Node.{NodeState, task_of}
+use Rattle.rank_node.specs.Node.{IsCompiled, IsPrepared, NodeState, task_from}
 use Rattle.rank_node.proofs.Nodes.{installed-node}
 use Rattle.rank_node.proofs.node.Node.install.Goals as goal
 
 pub invariant_of-result : goal.invariant_of-result
 invariant_of-result c =
-    let n : NodeState = record { task = task_of c.args.compiled; kept = c.in_ok-nic.kept; diary = c.in_ok-history.history; nic = c.in_ok-nic.nic; strays = c.args.strays; closed = c.in_ok-gates.gates } in
+    let began = c.of-began.result.value in
+    let n : NodeState = record { task = task_from c.args.compiled began.list; kept = c.in_ok-nic.kept; diary = c.in_ok-history.history; nic = c.in_ok-nic.nic; strays = c.args.strays; closed = c.in_ok-gates.gates } in
+    let same : c.args.compiled.region ≡ began = sym c.of-began.ensures in
+    let moved : c.replace-region.result ≡ began = c.replace-region.ensures.value ∙ same in
+    let compiled : IsCompiled n.task = subst (λ (f : Filled). IsCompiled (task_from c.args.compiled f.list)) same c.requires in
+    let prepared : IsPrepared n.task n.nic n.kept = subst (λ (f : Filled). IsPrepared (task_from c.args.compiled f.list) n.nic n.kept) moved c.in_ok-nic.ensures in
     let none : c.in_ok-history.history.locals ≡ [] = ap (λ (d : Diary). d.locals) c.in_ok-history.ensures in
     let steps = ap (λ (d : Diary). d.room) c.in_ok-history.ensures in
     let receipts = ap (λ (d : Diary). d.receipts) c.in_ok-history.ensures in
@@ -15,4 +21,4 @@ invariant_of-result c =
     let waits = c.pending.ensures.value in
     let room : 1 + (length c.in_ok-nic.nic.pending.waiting + c.in_ok-history.history.receipts) ≤ c.in_ok-history.history.room = omega arith in
     let gates = ap length c.in_ok-gates.ensures ∙ length-replicate c.args.compiled.ranks false in
-    (installed-node n c.requires c.in_ok-nic.ensures none room receipts bytes gates, c.in_ok-buffer.ensures)
+    (installed-node n compiled prepared none room receipts bytes gates, c.in_ok-buffer.ensures)

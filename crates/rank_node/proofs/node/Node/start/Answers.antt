@@ -8,7 +8,7 @@ use Rattle.plan_start.specs.Start.{go_raised}
 use Rattle.rank_node.specs.Handles.{Agrees, AreAllOf}
 use Rattle.rank_node.specs.Start.{AreStarted}
 use Rattle.rank_node.specs.Copies.{has_start, with_step}
-use Rattle.rank_node.specs.Node.{IsStarted, NodeState, start_of, task_of}
+use Rattle.rank_node.specs.Node.{IsStarted, NodeState, start_of, task_from}
 use Rattle.rank_node.proofs.Nodes.{start-node, go-all}
 use Rattle.rank_node.proofs.node.Node.start.Goals as goal
 
@@ -20,7 +20,7 @@ same_length n new old is same =
 
 pub invariant_of-self : goal.invariant_of-self
 invariant_of-self c =
-    let n : NodeState = record { task = task_of c.self.inside.compiled; kept = c.self.inside.kept; diary = c.self.inside.history; nic = c.self.inside.nic; strays = c.self.inside.strays; closed = c.self.inside.gates } in
+    let n : NodeState = record { task = task_from c.self.inside.compiled c.self.inside.began.value.list; kept = c.self.inside.kept; diary = c.self.inside.history; nic = c.self.inside.nic; strays = c.self.inside.strays; closed = c.self.inside.gates } in
     let fresh : has_start n.diary.locals ≡ false = ap (nat_lt 0) (subst (λ (m : NodeState). count_by is_start m.diary.locals ≡ 0) (sym c.self.view_is) c.requires) in
     let long : length c.deref_mut.result.now ≡ n.task.longest = ap length c.deref_mut.ensures.value ∙ c.self.invariant.1 in
     let began : AreStarted n.task.longest n.task.cells n.task.own n.nic c.start_cells.new.nic n.kept c.start_cells.new.kept = rw (long, c.deref.ensures.value, c.deref-2.ensures.value) at c.start_cells.ensures in
