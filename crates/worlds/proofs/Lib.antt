@@ -9,3 +9,4 @@ pub mod Steps
 pub mod Words
 pub mod Joined
 pub mod Framed
+pub mod Sent
