@@ -15,8 +15,10 @@ pub mod Turns
 pub mod Onwards
 pub mod Parts
 pub mod Slotwise
-pub mod Places
 pub mod UsedLanes
+pub mod Fans
+pub mod Lines
+pub mod Handing
 pub mod Lifts
 pub mod Closing
 pub mod Ending

@@ -88,7 +88,7 @@ fits_more wires w j f = record {
 pub row_nil : (p : Bounds → Bool) → IsRow [] p []
 row_nil p = record { numbers = refl; fits = each_nil (Fits []) }
 
-row_more : (wires : List WireState) (w : WireState) (p : Bounds → Bool) (js : List Joint) (j : Joint) → IsRow wires p js → p w.bounds ≡ true → j.number ≡ length wires → j.wire ≡ w.id → j.bounds ≡ w.bounds → IsRow (wires ++ w ∷ []) p (js ++ j ∷ [])
+pub row_more : (wires : List WireState) (w : WireState) (p : Bounds → Bool) (js : List Joint) (j : Joint) → IsRow wires p js → p w.bounds ≡ true → j.number ≡ length wires → j.wire ≡ w.id → j.bounds ≡ w.bounds → IsRow (wires ++ w ∷ []) p (js ++ j ∷ [])
 row_more wires w p js j r is n id b = record {
   numbers = map_snoc number_of js j ∙ (ap₂ (λ l m. l ++ m ∷ []) r.numbers n ∙ sym (grown wires w p true is));
   fits = each_snoc (Fits (wires ++ w ∷ [])) js j (λ i x e. fits_more wires w x (r.fits i x e)) (record {
@@ -97,7 +97,7 @@ row_more wires w p js j r is n id b = record {
   });
 }
 
-row_same : (wires : List WireState) (w : WireState) (p : Bounds → Bool) (js : List Joint) → IsRow wires p js → p w.bounds ≡ false → IsRow (wires ++ w ∷ []) p js
+pub row_same : (wires : List WireState) (w : WireState) (p : Bounds → Bool) (js : List Joint) → IsRow wires p js → p w.bounds ≡ false → IsRow (wires ++ w ∷ []) p js
 row_same wires w p js r is = record {
   numbers = r.numbers ∙ sym (grown wires w p false is ∙ append-nil (places_of p 0 (bounds_of wires)));
   fits = λ i x e. fits_more wires w x (r.fits i x e);

@@ -1,11 +1,11 @@
 -- What becomes of the slots when ends come and go.
-use Rattle.std.proofs.Common.{◌≡◌, ℕ, zero, suc, ◌+◌, ◌<◌, Bool, true, false, List, [], ◌∷◌, ◌++◌, length, sym, refl, ap, ap₂, map, set, ◌∙◌, subst, arith, append-nil, if◌then◌else◌, ⊎_elim, ◌==◌, eq-eqb, get_or, take, replicate, zero-le}
+use Rattle.std.proofs.Common.{◌≡◌, ℕ, zero, suc, ◌<◌, Bool, true, false, List, [], ◌∷◌, ◌++◌, length, sym, refl, ap, map, set, ◌∙◌, subst, arith, append-nil, if◌then◌else◌, ⊎_elim, ◌==◌, eq-eqb, get_or, replicate, zero-le}
 use Rattle.std.specs.Prelude.{Result, Ok, Err, IfOk}
 use Rattle.std.proofs.lemmas.Bool.{ne_eqb}
 use Rattle.std.proofs.lemmas.List.Elements.{All-nil}
 use mathlib.Core.Option.{some, some-ne-none}
 use lib.ListN.{get_elem?}
-use Rattle.atomic_table.proofs.Lists.{at_map, at_set}
+use Rattle.atomic_table.proofs.Lists.{at_set}
 use Rattle.ptl_types.specs.declared.headers.Lane.TheVariants.{Request}
 use Rattle.pair_wires.specs.declared.bounds.Bounds.{Bounds}
 use Rattle.pair_wires.specs.Bounds.{KeepsBounds, Travels}
@@ -24,14 +24,14 @@ use Rattle.rank_threads.specs.declared.slot.Slot.{Slot}
 use Rattle.rank_threads.specs.declared.ports.OutPort.{OutPort}
 use Rattle.rank_threads.specs.declared.ports.InPort.{InPort}
 use Rattle.rank_threads.specs.Lists.{Each}
-use Rattle.rank_threads.specs.Joints.{Fits, Joint, in_joint, out_joint}
-use Rattle.rank_threads.specs.Lanes.{AreLanes, IsLane, bounds_on}
+use Rattle.rank_threads.specs.Joints.{in_joint, out_joint}
+use Rattle.rank_threads.specs.Lanes.{IsLane, bounds_on}
 use Rattle.rank_threads.specs.Slots.{InOk, OutOk, Tied}
-use Rattle.rank_threads.specs.Wiring.{IsRow, bounds_of, from_rank, to_rank}
-use Rattle.rank_threads.specs.Moves.{AllFresh, AllLaid, AreWires, AreWithout, GainsIn, GainsOut, IsBetween, IsFresh, MayGainIn, MayGainOut, SameNode, SlotLaid, Slotwise, at_rank}
+use Rattle.rank_threads.specs.Wiring.{IsRow, from_rank, to_rank}
+use Rattle.rank_threads.specs.Moves.{AllFresh, AllLaid, GainsIn, GainsOut, IsBetween, IsFresh, MayGainIn, MayGainOut, SameNode, SlotLaid, Slotwise, at_rank}
 use Rattle.rank_threads.proofs.Pairs.{exists_at, same_at, within}
-use Rattle.rank_threads.proofs.Snocs.{each_nil, each_snoc, front_some, length_map, map_if, map_snoc, snoc_at, take_at, take_more}
-use Rattle.rank_threads.proofs.Rows.{row_grows, row_less, row_nil, row_shrinks, row_some}
+use Rattle.rank_threads.proofs.Snocs.{each_nil, each_snoc, front_some, length_map, map_if, map_snoc, snoc_at}
+use Rattle.rank_threads.proofs.Rows.{row_less, row_shrinks, row_some}
 
 -- one slot changes, and the others stay
 pub slotwise_set : (R : ℕ → Slot → Slot → Type 0) (l : List Slot) (i : ℕ) (old new : Slot) → get_elem? l i ≡ some old → R i old new → ((r : ℕ) (y : Slot) → (r ≡ i → ⊥) → R r y y) → Slotwise R l (set l i new)
@@ -200,57 +200,6 @@ tied-less p inputs m outs more ins others tied = record {
   ins_differ = λ i k a b ea eb. tied.ins_differ i k a b (front_some ins others i a ea) (front_some ins others k b eb);
   gated = λ i x e. tied.gated i x (front_some outs more i x e);
 }
-
--- ---- wires come
-pub laid_more : (wires : List WireState) (w : WireState) (out : OutPort) (into : InPort) (old mid new : List Slot) → out.wire ≡ length wires → into.wire ≡ length wires → IsOutOf w out.end → IsInOf w into.end
-    → Slotwise (GainsOut w.bounds.source out) old mid → Slotwise (GainsIn w.bounds.target into) mid new → AllLaid wires old → AllLaid (wires ++ w ∷ []) new
-laid_more wires w out into old mid new on inn oo ii s t h r x e =
-    let y = t r x e in let z = s r y.0 y.1 in let l = h r z.0 z.1 in let b = w.bounds.source == r in let c = w.bounds.target == r in record {
-      outs_are = subst (IsRow (wires ++ w ∷ []) (from_rank r)) (sym (ap (map out_joint) (y.2.outs_are ∙ z.2.outs_are) ∙ map_if out_joint z.0.outs.items out b))
-          (row_grows wires w (from_rank r) (map out_joint z.0.outs.items) (out_joint out) b refl l.outs_are on oo.0 oo.1);
-      ins_are = subst (IsRow (wires ++ w ∷ []) (to_rank r)) (sym (ap (map in_joint) (y.2.ins_are ∙ ap (λ m. m ++ at_rank r w.bounds.target into) z.2.ins_are) ∙ map_if in_joint z.0.ins.items into c))
-          (row_grows wires w (to_rank r) (map in_joint z.0.ins.items) (in_joint into) c refl l.ins_are inn ii.0 ii.1);
-    }
-
-pub bare-laid : (r : ℕ) (x : Slot) → x.outs.items ≡ [] → x.ins.items ≡ [] → SlotLaid [] r x
-bare-laid r x o i = record {
-  outs_are = subst (λ l. IsRow [] (from_rank r) (map out_joint l)) (sym o) (row_nil (from_rank r));
-  ins_are = subst (λ l. IsRow [] (to_rank r) (map in_joint l)) (sym i) (row_nil (to_rank r));
-}
-
-pub slots-more : (R : ℕ → Slot → Type 0) (slots : List Slot) (x : Slot) → ((r : ℕ) (y : Slot) → get_elem? slots r ≡ some y → R r y) → R (length slots) x → (r : ℕ) (y : Slot) → get_elem? (slots ++ x ∷ []) r ≡ some y → R r y
-slots-more R slots x h n r y e = ⊎_elim (λ at. h r y at) (λ (is : (r ≡ length slots) × (x ≡ y)). subst (λ (z : ℕ × Slot). R z.0 z.1) (λ k. (sym is.0 k, is.1 k)) n) (snoc_at slots x r y e)
-
-pub wires_more : (lanes : List Bounds) (n : ℕ) (b : Bounds) (wires : List WireState) (w : WireState) → AreWires (take n lanes) wires → get_elem? lanes n ≡ some b → w.bounds ≡ b → w.capacity ≡ 3 → AreWires (take (n + 1) lanes) (wires ++ w ∷ [])
-wires_more lanes n b wires w h at is room_is = record {
-  bounds_are = map_snoc (λ (v : WireState). v.bounds) wires w ∙ (ap₂ (λ l x. l ++ x ∷ []) h.bounds_are is ∙ (sym (take_more lanes n b at) ∙ ap (λ m. take m lanes) {x = suc n} {y = n + 1} (omega arith)));
-  rooms = each_snoc (λ (v : WireState). v.capacity ≡ 3) wires w h.rooms room_is;
-}
-
--- no slot has an end of a lane whose wire isn't laid yet
-module _ (p : Plan) (lanes : List Bounds) (are : AreLanes p lanes) (n : ℕ) (b : Bounds) (at : get_elem? lanes n ≡ some b) (wires : List WireState) (laid : bounds_of wires ≡ take n lanes) (count : length wires ≡ n) where
-  earlier : (k : ℕ) → k < n → (w : WireState) → get_elem? wires k ≡ some w → get_elem? lanes k ≡ some w.bounds
-  earlier k low w e = take_at lanes n k w.bounds (ap (λ (l : List Bounds). get_elem? l k) (sym laid) ∙ at_map (λ (v : WireState). v.bounds) wires k w e)
-
-  clash : (j : Joint) → Fits wires j → j.bounds.source ≡ b.source → j.bounds.target ≡ b.target → j.bounds.lane ≡ b.lane → ⊥
-  clash j fits es ed el =
-      let w = exists_at wires j.number fits.inside in
-      let low : j.number < n = (let h = fits.inside in omega (arith, h, count)) in
-      let is = (fits.is w.0 w.1).1 in
-      let same = are.once j.number n w.0.bounds b (earlier j.number low w.0 w.1) at (ap (λ (c : Bounds). c.source) (sym is) ∙ es) (ap (λ (c : Bounds). c.target) (sym is) ∙ ed) (ap (λ (c : Bounds). c.lane) (sym is) ∙ el) in
-      omega (arith, low, same)
-
-  pub without : (job : JobOf) (slots : List Slot) → AllLaid wires slots → AllFresh job slots → AreWithout b slots
-  without job slots all fresh = record {
-    outs = λ x there i q e goal lane.
-        (let ok = x.tied.out i q e in
-        clash (out_joint q) ((all b.source x there).outs_are.fits i (out_joint q) (at_map out_joint x.outs.items i q e))
-        (ap (λ (c : Bounds). c.source) ok.bounds ∙ (fresh b.source x there).compiled.rank) (ap (λ (c : Bounds). c.target) ok.bounds ∙ goal) (ap (λ (c : Bounds). c.lane) ok.bounds ∙ lane));
-    ins = λ x there i q e from lane.
-        (let ok = x.tied.into i q e in
-        clash (in_joint q) ((all b.target x there).ins_are.fits i (in_joint q) (at_map in_joint x.ins.items i q e))
-        (ap (λ (c : Bounds). c.source) ok.bounds ∙ from) (ap (λ (c : Bounds). c.target) ok.bounds ∙ (fresh b.target x there).compiled.rank) (ap (λ (c : Bounds). c.lane) ok.bounds ∙ lane));
-  }
 
 -- ---- wires go
 -- the last end of a rank from which the last wire leads

@@ -14,6 +14,9 @@ pub record Joint : Type 0 where
   pub wire : TableId
   pub bounds : Bounds
 
+abbrev pub joint : ℕ → WireState → Joint
+joint n w = record { number = n; wire = w.id; bounds = w.bounds }
+
 abbrev pub out_joint : OutPort → Joint
 out_joint p = record { number = p.wire; wire = p.end.wire; bounds = p.end.bounds }
 

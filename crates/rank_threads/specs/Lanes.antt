@@ -1,5 +1,5 @@
 -- The lanes of a job that messages go on, and what each carries at most.
-use Rattle.std.specs.Prelude.{ℕ, true, ◌≡◌, ◌<◌, List, [], ◌∷◌, if◌then◌else◌}
+use Rattle.std.specs.Prelude.{ℕ, zero, suc, true, ◌≡◌, ◌<◌, List, [], ◌∷◌, ◌++◌, length, if◌then◌else◌}
 use mathlib.Core.Option.{some}
 use lib.ListN.{get_elem?}
 use Rattle.ptl_types.specs.declared.headers.Lane.{Lane}
@@ -7,6 +7,7 @@ use Rattle.ptl_types.specs.declared.headers.Lane.TheVariants.{Request, Answer}
 use Rattle.pair_wires.specs.declared.bounds.Bounds.{Bounds}
 use Rattle.plan_core.specs.Plan.{Plan}
 use Rattle.plan_calls.specs.Lanes.{is_used_lane, lane_bytes, lane_messages}
+use Rattle.rank_threads.specs.declared.lanes.FanOut.{FanOut}
 use Rattle.rank_threads.specs.Lists.{Each}
 
 -- how many bytes go on a lane in all; answers carry none
@@ -21,6 +22,27 @@ bounds_on p s d lane = record { source = s; target = d; lane = lane; messages = 
 -- one lane, if messages go on it
 abbrev pub bounds_if_used : Plan → ℕ → ℕ → Lane → List Bounds
 bounds_if_used p s d lane = if is_used_lane p s d lane then bounds_on p s d lane ∷ [] else []
+
+-- the lanes from rank s to those below d that messages go on
+abbrev pub lanes_below : Plan → ℕ → ℕ → List Bounds
+lanes_below p s zero = []
+lanes_below p s (suc d) = (lanes_below p s d ++ bounds_if_used p s d Request) ++ bounds_if_used p s d Answer
+
+abbrev pub lanes_from : Plan → ℕ → List Bounds
+lanes_from p s = lanes_below p s p.ranks
+
+-- the lanes from the ranks below s
+abbrev pub lanes_before : Plan → ℕ → List Bounds
+lanes_before p zero = []
+lanes_before p (suc s) = lanes_before p s ++ lanes_from p s
+
+-- the lanes from rank s, and how many there are from the ranks below it
+pub record IsFan (p : Plan) (s : ℕ) (f : FanOut) : Type 0 where
+  pub first : f.first ≡ length (lanes_before p s)
+  pub lanes : f.lanes.items ≡ lanes_from p s
+
+abbrev pub AreFans : Plan → List FanOut → Type 0
+AreFans p fans = (s : ℕ) (f : FanOut) → get_elem? fans s ≡ some f → IsFan p s f
 
 -- a lane of the plan between two of its ranks, that messages go on
 pub record IsLane (p : Plan) (b : Bounds) : Type 0 where

@@ -1,21 +1,26 @@
 -- How ends come into the slots at the opening, and leave them at the closing.
-use Rattle.std.specs.Prelude.{ℕ, false, ◌≡◌, ◌<◌, ◌==◌, List, [], ◌∷◌, ◌++◌, if◌then◌else◌, map, replicate, slice_index_or}
+use Rattle.std.specs.Prelude.{ℕ, suc, false, ◌≡◌, ◌<◌, ◌==◌, List, [], ◌∷◌, ◌++◌, All, Option, IfSome, if◌then◌else◌, length, map, replicate, slice_index_or}
+use mathlib.Core.List.{IsPrefix}
 use mathlib.Core.Option.{some}
 use lib.ListN.{get_elem?}
 use Rattle.ptl_types.specs.declared.headers.Lane.TheVariants.{Request}
 use Rattle.pair_wires.specs.declared.bounds.Bounds.{Bounds}
-use Rattle.pair_wires.specs.Wires.{WireState}
+use Rattle.pair_wires.specs.Wires.{IsInOf, WireState}
 use Rattle.shape_plans.specs.Drawing.{plan_of}
 use Rattle.schedule_compiler.specs.Jobs.{JobOf}
 use Rattle.rank_node.specs.Plans.{IsCompiledFor}
 use Rattle.rank_threads.specs.declared.slot.Slot.{Slot}
+use Rattle.rank_threads.specs.declared.open.Berth.{Berth}
+use Rattle.rank_threads.specs.declared.open.Line.{Line}
+use Rattle.rank_threads.specs.declared.open.Load.{Load}
 use Rattle.rank_threads.specs.declared.ports.OutPort.{OutPort}
 use Rattle.rank_threads.specs.declared.ports.InPort.{InPort}
 use Rattle.rank_threads.specs.Lists.{Each}
 use Rattle.rank_threads.specs.Joints.{in_joint, out_joint}
+use Rattle.rank_threads.specs.Lanes.{lanes_before, lanes_from}
 use Rattle.rank_threads.specs.Names.{history}
 use Rattle.rank_threads.specs.Slots.{InOk, OutOk}
-use Rattle.rank_threads.specs.Wiring.{IsLaid, bounds_of}
+use Rattle.rank_threads.specs.Wiring.{IsLaid, IsRow, bounds_of, joints_from, to_rank}
 
 -- ---- what may come to a slot
 -- a further out end tells what the history says, of another lane than the others, and the node knows whether a request waits there
@@ -60,10 +65,74 @@ pub record AreWires (lanes : List Bounds) (wires : List WireState) : Type 0 wher
   pub bounds_are : bounds_of wires ≡ lanes
   pub rooms : Each (λ (w : WireState). w.capacity ≡ wire_room) wires
 
--- no slot has an end of this lane
-pub record AreWithout (b : Bounds) (slots : List Slot) : Type 0 where
-  pub outs : (x : Slot) → get_elem? slots b.source ≡ some x → Each (λ (q : OutPort). q.target ≡ b.target → q.lane ≡ b.lane → ⊥) x.outs.items
-  pub ins : (x : Slot) → get_elem? slots b.target ≡ some x → Each (λ (q : InPort). q.source ≡ b.source → q.lane ≡ b.lane → ⊥) x.ins.items
+-- none of these ends is of this lane
+abbrev pub HasNoOut : Bounds → List OutPort → Type 0
+HasNoOut b outs = Each (λ (q : OutPort). q.target ≡ b.target → q.lane ≡ b.lane → ⊥) outs
+
+abbrev pub HasNoIn : Bounds → List InPort → Type 0
+HasNoIn b ins = Each (λ (q : InPort). q.source ≡ b.source → q.lane ≡ b.lane → ⊥) ins
+
+-- ---- what the thread of a rank makes
+-- a wire with its in end, through which nothing went
+pub record IsLine (number : ℕ) (l : Line) : Type 0 where
+  pub room : l.wire.capacity ≡ wire_room
+  pub number_is : l.into.wire ≡ number
+  pub in_is : IsInOf l.wire l.into.end
+  pub source : l.into.source ≡ l.wire.bounds.source
+  pub lane : l.into.lane ≡ l.wire.bounds.lane
+  pub received : l.into.end.received ≡ []
+
+-- such wires, numbered from n on
+abbrev pub AreLines : ℕ → List Line → Type 0
+AreLines n [] = Unit {0}
+AreLines n (l ∷ ls) = IsLine n l × AreLines (suc n) ls
+
+abbrev pub wires_in : List Line → List WireState
+wires_in lines = map (λ (l : Line). l.wire) lines
+
+-- the slot of rank r with the out ends of these wires, one for each lane from the rank, whose numbers follow those of the ranks below
+pub record IsFanned (job : JobOf) (r : ℕ) (x : Slot) (load : Load) : Type 0 where
+  pub fresh : IsFresh job r x
+  pub ins : x.ins.items ≡ []
+  pub outs : map out_joint x.outs.items ≡ joints_from (length (lanes_before (plan_of job.shape) r)) (wires_in load.lines.items)
+  pub lines : AreLines (length (lanes_before (plan_of job.shape) r)) load.lines.items
+  pub bounds_are : bounds_of (wires_in load.lines.items) ≡ lanes_from (plan_of job.shape) r
+
+-- what was made for a rank, which it names
+abbrev pub IsBerth : JobOf → Berth → Type 0
+IsBerth job b = IsFanned job b.rank b.slot b.load
+
+-- so was what lies at each of these places, some of which may be empty
+abbrev pub AreBerths : JobOf → List (Option Berth) → Type 0
+AreBerths job places = All (λ o. IfSome o (IsBerth job)) places
+
+-- the slots and the wires of all ranks, in their order
+abbrev pub AllFanned : JobOf → List Slot → List Load → Type 0
+AllFanned job slots loads = (r : ℕ) (x : Slot) (load : Load)
+    → get_elem? slots r ≡ some x → get_elem? loads r ≡ some load → IsFanned job r x load
+
+-- ---- how the wires come together
+-- each slot has an in end of each wire to its rank
+abbrev pub AllIn : List WireState → List Slot → Type 0
+AllIn wires slots = (r : ℕ) (x : Slot) → get_elem? slots r ≡ some x → IsRow wires (to_rank r) (map in_joint x.ins.items)
+
+-- the slots of a job that made no step have the in ends of these wires
+pub record IsHanded (job : JobOf) (wires : List WireState) (slots : List Slot) : Type 0 where
+  pub count : length slots ≡ job.shape.ranks
+  pub fresh : AllFresh job slots
+  pub rooms : Each (λ (w : WireState). w.capacity ≡ wire_room) wires
+  pub ins : AllIn wires slots
+
+-- these wires are of the first of all lanes
+abbrev pub AreFirst : JobOf → List WireState → Type 0
+AreFirst job wires = IsPrefix (bounds_of wires) (lanes_before (plan_of job.shape) (plan_of job.shape).ranks)
+
+-- the slots and the wires of a job that made no step
+pub record AreWired (job : JobOf) (slots : List Slot) (wires : List WireState) : Type 0 where
+  pub count : length slots ≡ job.shape.ranks
+  pub fresh : AllFresh job slots
+  pub wires_are : AreWires (lanes_before (plan_of job.shape) (plan_of job.shape).ranks) wires
+  pub laid : AllLaid wires slots
 
 -- ---- what becomes of the slots, one by one
 abbrev pub Slotwise : (ℕ → Slot → Slot → Type 0) → List Slot → List Slot → Type 0
@@ -73,6 +142,11 @@ Slotwise R old new = (r : ℕ) (x : Slot) → get_elem? new r ≡ some x → (y 
 pub record SameNode (r : ℕ) (y x : Slot) : Type 0 where
   pub job_is : x.job ≡ y.job
   pub node : x.node.value ≡ y.node.value
+
+-- with the same node and the same out ends
+pub record SameOuts (r : ℕ) (y x : Slot) : Type 0 where
+  pub same : SameNode r y x
+  pub outs_are : x.outs.items ≡ y.outs.items
 
 -- at rank s alone
 abbrev pub at_rank : {A : Type 0} → ℕ → ℕ → A → List A

@@ -3,7 +3,7 @@ use Rattle.std.specs.Prelude.{ℕ, suc, Bool, ◌==◌, ◌≡◌, List, [], ◌
 use Rattle.pair_wires.specs.declared.bounds.Bounds.{Bounds}
 use Rattle.pair_wires.specs.Wires.{WireState}
 use Rattle.rank_threads.specs.Lists.{Each}
-use Rattle.rank_threads.specs.Joints.{Fits, Joint}
+use Rattle.rank_threads.specs.Joints.{Fits, Joint, joint}
 
 abbrev pub from_rank : ℕ → Bounds → Bool
 from_rank s b = b.source == s
@@ -18,6 +18,11 @@ places_of p n (b ∷ bs) = if p b then n ∷ places_of p (suc n) bs else places_
 
 abbrev pub bounds_of : List WireState → List Bounds
 bounds_of wires = map (λ (w : WireState). w.bounds) wires
+
+-- the ends of wires, one of each in order, which are numbered from n on
+abbrev pub joints_from : ℕ → List WireState → List Joint
+joints_from n [] = []
+joints_from n (w ∷ ws) = joint n w ∷ joints_from (suc n) ws
 
 -- these are ends of the wires of which p holds, one of each, in order
 pub record IsRow (wires : List WireState) (p : Bounds → Bool) (js : List Joint) : Type 0 where

@@ -1,8 +1,8 @@
 //! The lanes of a job, each with what it may carry in all.
 
-ghost use Rattle.std.specs.Prelude.{◌≡◌, ◌<◌, ◌++◌, ◌^◌, IfOk, length};
+ghost use Rattle.std.specs.Prelude.{◌≡◌, ◌<◌, ◌++◌, IfOk, length};
 ghost use Rattle.shape_plans.specs.Drawing.{plan_of};
-ghost use Rattle.rank_threads.specs.Lanes.{AreLanes, bounds_if_used, bounds_on};
+ghost use Rattle.rank_threads.specs.Lanes.{AreFans, bounds_if_used, bounds_on, lanes_from};
 ghost use Rattle.rank_threads.specs.Sound.{IsSound};
 
 use pair_wires::Bounds;
@@ -58,20 +58,44 @@ fn push_lane(
     Ok(())
 }
 
-/// The lanes that messages go on, by source, target, request before answer.
-pub(crate) fn used_lanes(alloc: Global, schedule: &Schedule) -> Result<Vec<Bounds>, NoMemory>
-    ensures lanes { IfOk result (λ v. AreLanes (plan_of schedule.now) v.items) }
-    ensures few { IfOk result (λ v. length v.items < 2 ^ 32) }
+/// The lanes from a rank that messages go on, by target, requests before answers.
+fn lanes_from(alloc: Global, schedule: &Schedule, s: Rank) -> Result<Vec<Bounds>, NoMemory>
+    requires { s < schedule.now.ranks }
+    ensures { IfOk result (λ v. v.items ≡ lanes_from (plan_of schedule.now) s) }
 {
-    let ranks = schedule.shape().ranks();
     let _ = schedule.plan();
-    let pairs = ranks * ranks;
+    let ranks = schedule.shape().ranks();
     let mut lanes = Vec::new(alloc);
-    for pair in 0..pairs {
-        let s = pair / ranks;
-        let d = pair % ranks;
+    for d in 0..ranks {
         push_lane(&mut lanes, schedule, s, d, Lane::Request)?;
         push_lane(&mut lanes, schedule, s, d, Lane::Answer)?;
     }
     Ok(lanes)
+}
+
+/// The lanes from a rank that messages go on.
+#[derive(Drop)]
+pub(crate) struct FanOut {
+    /// How many there are from the ranks before it.
+    pub(crate) first: u32,
+    /// The lanes.
+    pub(crate) lanes: Vec<Bounds>,
+}
+
+/// The lanes from each rank.
+pub(crate) fn all_fans(alloc: Global, schedule: &Schedule) -> Result<Vec<FanOut>, NoMemory>
+    ensures count { IfOk result (λ v. length v.items ≡ schedule.now.ranks) }
+    ensures fans { IfOk result (λ v. AreFans (plan_of schedule.now) v.items) }
+{
+    let _ = schedule.plan();
+    let ranks = schedule.shape().ranks();
+    let mut fans = Vec::with_capacity(alloc, ranks as usize)?;
+    let mut first = 0;
+    for s in 0..ranks {
+        let lanes = lanes_from(alloc, schedule, s)?;
+        let many = lanes.len() as u32;
+        fans.push(FanOut { first, lanes })?;
+        first += many;
+    }
+    Ok(fans)
 }

@@ -6,7 +6,7 @@ ghost use lib.ListN.{get_elem?};
 ghost use Rattle.shape_plans.specs.Drawing.{plan_of};
 ghost use Rattle.rank_threads.specs.declared.slot.Slot.{Slot};
 ghost use Rattle.rank_threads.specs.Slots.{InOk, OutOk};
-ghost use Rattle.rank_threads.specs.Moves.{GainsIn, GainsOut, LosesIn, LosesOut, MayGainIn, MayGainOut, SameNode, Slotwise};
+ghost use Rattle.rank_threads.specs.Moves.{GainsIn, LosesIn, LosesOut, MayGainIn, MayGainOut, SameNode, Slotwise};
 
 use crate::ports::{InPort, OutPort};
 use crate::slot::Slot;
@@ -14,7 +14,7 @@ use ptl_types::{NoMemory, Rank};
 
 impl Slot {
     // One out end more.
-    fn add_out(&mut self, port: OutPort) -> Result<(), NoMemory>
+    pub(crate) fn add_out(&mut self, port: OutPort) -> Result<(), NoMemory>
         requires { MayGainOut self.old port }
         ensures job { self.new.job ≡ self.old.job }
         ensures node { self.new.node.value ≡ self.old.node.value }
@@ -72,17 +72,6 @@ impl Slot {
             None => unreachable!(),
         }
     }
-}
-
-/// An out end comes to a rank, after its others.
-pub(crate) fn put_out(slots: &mut [Slot], rank: Rank, port: OutPort) -> Result<(), NoMemory>
-    requires rank { rank < length slots.old }
-    requires port { (x : Slot) → get_elem? slots.old rank ≡ some x → MayGainOut x port }
-    ensures count { length slots.new ≡ length slots.old }
-    ensures nodes { Slotwise SameNode slots.old slots.new }
-    ensures put { IfOk result (λ _. Slotwise (GainsOut rank port) slots.old slots.new) }
-{
-    slots[rank as usize].add_out(port)
 }
 
 /// An in end comes to a rank, after its others.

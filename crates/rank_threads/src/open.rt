@@ -1,21 +1,20 @@
 //! How a fabric is opened.
 
-ghost use Rattle.std.specs.Prelude.{◌≡◌, ◌<◌, ◌++◌, ◌∷◌, ◌^◌, [], ℕ, All, List, Option, Some, IfOk, IfSome, length, map, slice_index_or};
+ghost use Rattle.std.specs.Prelude.{◌≡◌, ◌<◌, ◌++◌, ◌∷◌, ◌^◌, [], All, IfOk, IfSome, length, map};
 ghost use Rattle.pair_wires.specs.declared.bounds.Bounds.{Bounds};
-ghost use Rattle.pair_wires.specs.Wires.{WireState};
 ghost use Rattle.shape_plans.specs.Drawing.{plan_of};
 ghost use Rattle.turn_table.specs.Hands.{IsNew, parts_of};
-ghost use Rattle.rank_threads.specs.declared.slot.Slot.{Slot};
-ghost use Rattle.rank_threads.specs.Lanes.{AreLanes, IsLane};
-ghost use Rattle.rank_threads.specs.Moves.{AllFresh, AllLaid, AreWires, AreWithout, IsBare};
+ghost use Rattle.rank_threads.specs.Joints.{joint, out_joint};
+ghost use Rattle.rank_threads.specs.Lanes.{AreFans, IsFan, IsLane};
+ghost use Rattle.rank_threads.specs.Moves.{AllFanned, AreBerths, AreFirst, AreLines, AreWired, HasNoOut, IsBare, IsBerth, IsFanned, IsFresh, IsHanded, IsLine, SameOuts, Slotwise, wires_in};
 ghost use Rattle.rank_threads.specs.Sound.{IsSound};
 
 use crate::fabric::{Fabric, Hand};
 use crate::gate::Gate;
 use crate::hints::Hints;
-use crate::lanes::{sound, used_lanes};
+use crate::lanes::{FanOut, all_fans, sound};
 use crate::mail::Mail;
-use crate::moves::{put_in, put_out};
+use crate::moves::put_in;
 use crate::ports::{InPort, OutPort};
 use crate::slot::Slot;
 use pair_wires::{Bounds, Wire};
@@ -31,100 +30,62 @@ use worlds::Frame;
 /// How many messages the queue of a wire holds; one more may wait at its out end.
 const WIRE_ROOM: u32 = 3;
 
-// A rank with no wires.
-fn bare_slot(alloc: Global, job: &Job, rank: Rank) -> Result<Slot, NoMemory>
+// A wire with its in end, which is for the rank that it leads to.
+#[derive(Drop)]
+struct Line {
+    wire: Wire,
+    into: InPort,
+}
+
+// The wires from a rank.
+#[derive(Drop)]
+struct Load {
+    lines: Vec<Line>,
+}
+
+// What the thread of a rank makes for it: its slot, with the out ends of its wires, and the wires.
+#[derive(Drop)]
+struct Berth {
+    rank: Rank,
+    slot: Slot,
+    load: Load,
+}
+
+// A rank with no wires, and with room for the ends of so many. There are as many to a rank as from it where answers are sent.
+fn bare_slot(alloc: Global, job: &Job, rank: Rank, ends: usize) -> Result<Slot, NoMemory>
     requires { rank < job.now.shape.ranks }
     ensures { IfOk result (λ x. IsBare job.now rank x) }
 {
     let shared = job.share()?;
     let node = Box::new(alloc, install(alloc, job, rank, 0)?)?;
     let hints = Box::new(alloc, Hints::open(alloc, job.schedule().shape().ranks())?)?;
+    let outs = Vec::with_capacity(alloc, ends)?;
+    let ins = Vec::with_capacity(alloc, ends)?;
     Ok(Slot {
         job: shared,
         node,
-        outs: Vec::new(alloc),
-        ins: Vec::new(alloc),
+        outs,
+        ins,
         hints,
     })
 }
 
-// Puts each rank, with no wires, at its place, by as many threads. Where there is no memory for one its place may stay empty.
-fn fill_places<R: Threads + Sync>(
-    rt: &R,
-    alloc: Global,
-    job: &Job,
-    places: &mut [Option<Slot>],
-    threads: u32,
-)
-    requires threads { 0 < threads }
-    requires count { length places.old ≡ job.now.shape.ranks }
-    requires few { length places.old < 2 ^ 32 }
-    ensures count { length places.new ≡ length places.old }
-    ensures made { (r : ℕ) (d : Option Slot) → r < job.now.shape.ranks → IfSome (slice_index_or places.new r d) (λ x. IsBare job.now r x) }
-{
-    thread::for_each_mut(
-        rt,
-        places,
-        threads as usize,
-        &|i: usize, place: &mut Option<Slot>|
-            requires { (i < job.now.shape.ranks) × (i < 2 ^ 32) }
-            ensures { IfSome place.exit.now (λ x. IsBare job.entry.now i x) }
-        {
-            *place = bare_slot(alloc, job, i as Rank).ok();
-        },
-    );
-}
-
-// What lies at the places, which must all be full.
-fn take_all(alloc: Global, places: Vec<Option<Slot>>) -> Result<Vec<Slot>, NoMemory>
-    ensures { IfOk result (λ v. places.items ≡ map Some v.items) }
-{
-    let mut slots = Vec::with_capacity(alloc, places.len())?;
-    for place in places {
-        let Some(slot) = place else {
-            return Err(NoMemory);
-        };
-        slots.push(slot)?;
-    }
-    Ok(slots)
-}
-
-// All ranks, with no wires. As many threads make them.
-fn bare_slots<R: Threads + Sync>(
-    rt: &R,
-    alloc: Global,
-    job: &Job,
-    threads: u32,
-) -> Result<Vec<Slot>, NoMemory>
-    requires { 0 < threads }
-    ensures count { IfOk result (λ v. length v.items ≡ job.now.shape.ranks) }
-    ensures fresh { IfOk result (λ v. AllFresh job.now v.items) }
-    ensures bare { IfOk result (λ v. AllLaid [] v.items) }
-{
-    let ranks = job.schedule().shape().ranks();
-    let mut places = Vec::new(alloc);
-    places.resize_with(ranks as usize, || None)?;
-    fill_places(rt, alloc, job, &mut places, threads);
-    take_all(alloc, places)
-}
-
-// One wire more, with its ends in the slots of its ranks.
-fn lay_wire(
+// One wire more from a rank, whose out end goes into the rank's slot.
+fn lay_line(
     alloc: Global,
     job: &Job,
     lane: Bounds,
     number: u32,
-    slots: &mut [Slot],
-) -> Result<Wire, NoMemory>
+    slot: &mut Slot,
+) -> Result<Line, NoMemory>
     requires ranks { (plan_of job.now.shape).ranks ≡ job.now.shape.ranks }
     requires lane { IsLane (plan_of job.now.shape) lane }
-    requires count { length slots.old ≡ job.now.shape.ranks }
-    requires fresh { AllFresh job.now slots.old }
-    requires apart { AreWithout lane slots.old }
-    ensures count { length slots.new ≡ length slots.old }
-    ensures fresh { AllFresh job.now slots.new }
-    ensures wire { IfOk result (λ w. (w.bounds ≡ lane) × (w.capacity ≡ 3)) }
-    ensures laid { IfOk result (λ w. (wires : List WireState) → number ≡ length wires → AllLaid wires slots.old → AllLaid (wires ++ w ∷ []) slots.new) }
+    requires fresh { IsFresh job.now lane.source slot.old }
+    requires apart { HasNoOut lane slot.old.outs.items }
+    ensures fresh { IsFresh job.now lane.source slot.new }
+    ensures ins { slot.new.ins.items ≡ slot.old.ins.items }
+    ensures line { IfOk result (λ l. IsLine number l × (l.wire.bounds ≡ lane)) }
+    ensures out { IfOk result (λ l. map out_joint slot.new.outs.items ≡ map out_joint slot.old.outs.items ++ joint number l.wire ∷ []) }
 {
     let (wire, out, into) = Wire::open(alloc, WIRE_ROOM, lane)?;
     let out = OutPort {
@@ -139,41 +100,257 @@ fn lay_wire(
         source: lane.source,
         lane: lane.lane,
     };
-    put_out(slots, lane.source, out)?;
-    put_in(slots, lane.target, into)?;
-    Ok(wire)
+    slot.add_out(out)?;
+    Ok(Line { wire, into })
 }
 
-// A wire for each lane.
-fn lay_wires(
+// A wire for each lane from a rank.
+fn lay_fan(
     alloc: Global,
     job: &Job,
-    lanes: &[Bounds],
+    rank: Rank,
+    fan: &FanOut,
+    slot: &mut Slot,
+) -> Result<Load, NoMemory>
+    requires sound { IsSound job.now }
+    requires rank { rank < job.now.shape.ranks }
+    requires fan { IsFan (plan_of job.now.shape) rank fan.now }
+    requires bare { IsBare job.now rank slot.old }
+    ensures { IfOk result (λ x. IsFanned job.now rank slot.new x) }
+{
+    let mut lines = Vec::with_capacity(alloc, fan.lanes.len())?;
+    for k in 0..fan.lanes.len() {
+        let line = lay_line(alloc, job, fan.lanes[k], fan.first + k as u32, slot)?;
+        lines.push(line)?;
+    }
+    Ok(Load { lines })
+}
+
+// A rank with its wires.
+fn make_berth(alloc: Global, job: &Job, rank: Rank, fan: &FanOut) -> Result<Berth, NoMemory>
+    requires rank { rank < job.now.shape.ranks }
+    requires fan { IsFan (plan_of job.now.shape) rank fan.now }
+    ensures { IfOk result (λ b. IsBerth job.now b) }
+{
+    sound(job);
+    let mut slot = bare_slot(alloc, job, rank, fan.lanes.len())?;
+    let load = lay_fan(alloc, job, rank, fan, &mut slot)?;
+    Ok(Berth { rank, slot, load })
+}
+
+// What is made for a rank. There is nothing where there is no such rank, or no memory for it.
+fn berth_of(alloc: Global, job: &Job, fans: &[FanOut], rank: usize) -> Option<Berth>
+    requires count { length fans.now ≡ job.now.shape.ranks }
+    requires fans { AreFans (plan_of job.now.shape) fans.now }
+    ensures { IfSome result (λ b. IsBerth job.now b) }
+{
+    if rank >= job.schedule().shape().ranks() as usize {
+        return None;
+    }
+    match make_berth(alloc, job, rank as Rank, &fans[rank]) {
+        Ok(berth) => Some(berth),
+        Err(_) => None,
+    }
+}
+
+// The rank that is made at a place, where each of so many threads has `size` places one after the other. The ranks are dealt out to
+// the threads one by one, since the first ones of a tree have the most to make.
+fn dealt(place: usize, size: usize, threads: usize) -> usize
+    requires { 0 < size }
+{
+    (place % size)
+        .wrapping_mul(threads)
+        .wrapping_add(place / size)
+}
+
+// Where a rank is likely to lie: the place at which it is dealt out.
+fn place_of(rank: Rank, size: usize, threads: usize) -> usize
+    requires { 0 < threads }
+{
+    (rank as usize % threads)
+        .wrapping_mul(size)
+        .wrapping_add(rank as usize / threads)
+}
+
+// Makes each rank, by so many threads. Where there is no memory for one its place stays empty.
+fn fill_places<R: Threads + Sync>(
+    rt: &R,
+    alloc: Global,
+    job: &Job,
+    fans: &[FanOut],
+    places: &mut [Option<Berth>],
+    size: usize,
+    threads: usize,
+)
+    requires threads { 0 < threads }
+    requires size { 0 < size }
+    requires count { length fans.now ≡ job.now.shape.ranks }
+    requires fans { AreFans (plan_of job.now.shape) fans.now }
+    ensures { AreBerths job.now places.new }
+{
+    thread::for_each_mut(
+        rt,
+        places,
+        threads,
+        &|i: usize, place: &mut Option<Berth>|
+            requires { (0 < size) × (length fans.now ≡ job.now.shape.ranks) × AreFans (plan_of job.now.shape) fans.now }
+            ensures { IfSome place.exit.now (λ b. IsBerth job.entry.now b) }
+        {
+            *place = berth_of(alloc, job, fans, dealt(i, size, threads));
+        },
+    );
+}
+
+// What lies at a place, if it was made for this rank.
+fn take_berth(job: &Job, places: &mut [Option<Berth>], place: usize, rank: Rank) -> Option<Berth>
+    requires { AreBerths job.now places.old }
+    ensures left { AreBerths job.now places.new }
+    ensures taken { IfSome result (λ b. IsFanned job.now rank b.slot b.load) }
+{
+    if place >= places.len() {
+        return None;
+    }
+    let Some(berth) = places[place].take() else {
+        return None;
+    };
+    if berth.rank == rank {
+        Some(berth)
+    } else {
+        None
+    }
+}
+
+// All ranks in order, and their wires. Where one is missing there was no memory for it.
+fn in_order(
+    alloc: Global,
+    job: &Job,
+    places: &mut [Option<Berth>],
+    size: usize,
+    threads: usize,
+) -> Result<(Vec<Slot>, Vec<Load>), NoMemory>
+    requires threads { 0 < threads }
+    requires places { AreBerths job.now places.old }
+    ensures count { IfOk result (λ r. (length r.0.items ≡ job.now.shape.ranks) × (length r.1.items ≡ job.now.shape.ranks)) }
+    ensures fanned { IfOk result (λ r. AllFanned job.now r.0.items r.1.items) }
+{
+    let ranks = job.schedule().shape().ranks();
+    let mut slots = Vec::with_capacity(alloc, ranks as usize)?;
+    let mut loads = Vec::with_capacity(alloc, ranks as usize)?;
+    for rank in 0..ranks {
+        let Some(berth) = take_berth(job, places, place_of(rank, size, threads), rank) else {
+            return Err(NoMemory);
+        };
+        let Berth {
+            rank: _,
+            slot,
+            load,
+        } = berth;
+        slots.push(slot)?;
+        loads.push(load)?;
+    }
+    Ok((slots, loads))
+}
+
+// The wires from a rank come after the others, and their in ends to the ranks that they lead to.
+fn hand_load(
+    job: &Job,
+    load: Load,
+    wires: &mut Vec<Wire>,
+    slots: &mut [Slot],
+) -> Result<(), NoMemory>
+    requires sound { IsSound job.now }
+    requires handed { IsHanded job.now wires.old.items slots.old }
+    requires lines { AreLines (length wires.old.items) load.lines.items }
+    requires lanes { AreFirst job.now (wires.old.items ++ wires_in load.lines.items) }
+    ensures count { length slots.new ≡ length slots.old }
+    ensures wires { IfOk result (λ _. wires.new.items ≡ wires.old.items ++ wires_in load.lines.items) }
+    ensures handed { IfOk result (λ _. IsHanded job.now wires.new.items slots.new) }
+    ensures outs { IfOk result (λ _. Slotwise SameOuts slots.old slots.new) }
+{
+    let Load { lines } = load;
+    for line in lines {
+        let Line { wire, into } = line;
+        put_in(slots, wire.bounds().target, into)?;
+        wires.push(wire)?;
+    }
+    Ok(())
+}
+
+// All wires, whose in ends come to their ranks.
+fn hand_all(
+    alloc: Global,
+    job: &Job,
+    many: usize,
+    loads: Vec<Load>,
     slots: &mut [Slot],
 ) -> Result<Vec<Wire>, NoMemory>
     requires sound { IsSound job.now }
-    requires lanes { AreLanes (plan_of job.now.shape) lanes.now }
-    requires few { length lanes.now < 2 ^ 32 }
-    requires count { length slots.old ≡ job.now.shape.ranks }
-    requires fresh { AllFresh job.now slots.old }
-    requires bare { AllLaid [] slots.old }
+    requires count { (length slots.old ≡ job.now.shape.ranks) × (length loads.items ≡ job.now.shape.ranks) }
+    requires fanned { AllFanned job.now slots.old loads.items }
     ensures count { length slots.new ≡ length slots.old }
-    ensures fresh { AllFresh job.now slots.new }
-    ensures wires { IfOk result (λ v. AreWires lanes.now v.items) }
-    ensures laid { IfOk result (λ v. AllLaid v.items slots.new) }
+    ensures wired { IfOk result (λ v. AreWired job.now slots.new v.items) }
 {
-    let mut wires = Vec::with_capacity(alloc, lanes.len())?;
-    for number in 0..lanes.len() {
-        let wire = lay_wire(alloc, job, lanes[number], number as u32, slots)?;
-        wires.push(wire)?;
+    let mut wires = Vec::with_capacity(alloc, many)?;
+    for load in loads {
+        hand_load(job, load, &mut wires, slots)?;
     }
     Ok(wires)
 }
 
+// How many lanes there are in all.
+fn count(fans: &[FanOut]) -> usize {
+    match fans.last() {
+        Some(fan) => fan.lanes.len().wrapping_add(fan.first as usize),
+        None => 0,
+    }
+}
+
+// All ranks and their wires, which so many threads make at these places.
+fn make_ranks<R: Threads + Sync>(
+    rt: &R,
+    alloc: Global,
+    job: &Job,
+    fans: &[FanOut],
+    places: &mut [Option<Berth>],
+    size: usize,
+    threads: usize,
+) -> Result<(Vec<Slot>, Vec<Load>), NoMemory>
+    requires threads { 0 < threads }
+    requires size { 0 < size }
+    requires count { length fans.now ≡ job.now.shape.ranks }
+    requires fans { AreFans (plan_of job.now.shape) fans.now }
+    ensures count { IfOk result (λ r. (length r.0.items ≡ job.now.shape.ranks) × (length r.1.items ≡ job.now.shape.ranks)) }
+    ensures fanned { IfOk result (λ r. AllFanned job.now r.0.items r.1.items) }
+{
+    fill_places(rt, alloc, job, fans, places, size, threads);
+    in_order(alloc, job, places, size, threads)
+}
+
+// All ranks and their wires, which as many threads make.
+fn wired_slots<R: Threads + Sync>(
+    rt: &R,
+    alloc: Global,
+    job: &Job,
+    threads: u32,
+) -> Result<(Vec<Slot>, Vec<Wire>), NoMemory>
+    requires { IsSound job.now }
+    ensures { IfOk result (λ r. AreWired job.now r.0.items r.1.items) }
+{
+    let ranks = job.schedule().shape().ranks() as usize;
+    let threads = (threads as usize).min(ranks).max(1);
+    let size = ranks.div_ceil(threads).max(1);
+    let fans = all_fans(alloc, job.schedule())?;
+    let mut places = Vec::new(alloc);
+    places.resize_with(size.wrapping_mul(threads), || None)?;
+    let (mut slots, loads) = make_ranks(rt, alloc, job, &fans, &mut places, size, threads)?;
+    let wires = hand_all(alloc, job, count(&fans), loads, &mut slots)?;
+    Ok((slots, wires))
+}
+
 impl<G: Gate + Drop> Fabric<G> {
     /// A fabric of a job, in which nothing was done, with this many hands. All the memory that it needs is taken here, and that of the
-    /// world that it ends as. The gate is passed at each step. The ranks are installed by as many threads as there are hands, which
-    /// changes nothing of the fabric; where no thread can be started, the call does its part itself.
+    /// world that it ends as. The gate is passed at each step. As many threads as there are hands make the ranks and their wires,
+    /// which changes nothing of the fabric; where no thread can be started, the call does its part itself.
     ///
     /// # Errors
     ///
@@ -194,9 +371,7 @@ impl<G: Gate + Drop> Fabric<G> {
         let ranks = job.schedule().shape().ranks();
         let shared = job.share()?;
         let frame = Frame::open(alloc, job)?;
-        let lanes = used_lanes(alloc, job.schedule())?;
-        let mut slots = bare_slots(rt, alloc, job, hands)?;
-        let wires = lay_wires(alloc, job, &lanes, &mut slots)?;
+        let (slots, wires) = wired_slots(rt, alloc, job, hands)?;
         let room = Vec::with_capacity(alloc, ranks as usize)?;
         let (turns, hands) = Turns::open(alloc, slots, hands)?;
         let mail = Mail::open(alloc, ranks)?;

@@ -11,9 +11,11 @@ use Rattle.rank_threads.proofs.open.bare_slot.Goals as goal
 pub invariant_of-result : goal.invariant_of-result
 invariant_of-result c =
     let job = c.args.job.now in let e = c.in_ok-install.ensures in let m = c.in_ok-node.node.value in
+    let shared = c.in_ok-shared.shared in
     let bare = bare-tied (plan_of job.shape) job.inputs c.args.rank c.in_ok-install.field-0 e.compiled e.history e.strays in
     let here = subst (λ (n : NodeState). Tied (plan_of job.shape) job.inputs n [] []) (sym c.in_ok-node.ensures.ok) bare in
     let same = subst (λ (j : JobOf). Tied (plan_of j.shape) j.inputs m [] []) (sym c.in_ok-shared.ensures) here in record {
-      tied = subst (λ (outs : List OutPort). Tied (plan_of c.in_ok-shared.shared.shape) c.in_ok-shared.shared.inputs m outs c.new-4.result.items) (sym c.new-3.ensures.items)
-          (subst (λ (ins : List InPort). Tied (plan_of c.in_ok-shared.shared.shape) c.in_ok-shared.shared.inputs m [] ins) (sym c.new-4.ensures.items) same);
+      tied = subst (λ (outs : List OutPort). Tied (plan_of shared.shape) shared.inputs m outs c.in_ok-ins.ins.items)
+          (sym c.in_ok-outs.ensures.items)
+          (subst (λ (ins : List InPort). Tied (plan_of shared.shape) shared.inputs m [] ins) (sym c.in_ok-ins.ensures.items) same);
     }
