@@ -1,11 +1,12 @@
 //! Sources and sinks that take few bytes, or fail, under each command.
 
 use crate::runs::{run, run_between};
-use crate::texts::{BARRIER_WITH_ORDERS, ONE_RANK, ONE_RANK_IN_JSON, ONE_RANK_RESULT, THREE_STEPS};
 use port_io::{IoTurn, IoTurns, MemorySink, MemorySource, Source, SureSink, SureSource};
 use portals_top::Status;
+use program_texts::{
+    BARRIER_WITH_ORDERS, ONE_RANK, ONE_RANK_IN_JSON, ONE_RANK_RESULT, THREE_STEPS,
+};
 use ptl_types::Bytes;
-use rank_threads::OpenGate;
 use std::alloc::Global;
 use std::process::Abort;
 use std::sync::Wait;
@@ -38,7 +39,7 @@ fn scripted(
 ) -> Result<(), Fail> {
     let mut source = MemorySource::new(Bytes::of(alloc, ONE_RANK.as_bytes())?, reads);
     let mut sink = MemorySink::with_room(alloc, writes, 64)?;
-    let (answer, ran) = run_between(rt, alloc, &OpenGate, &["once"], &mut source, &mut sink)?;
+    let (answer, ran) = run_between(rt, alloc, &["once"], &mut source, &mut sink)?;
     assert_eq!(rt; answer, status);
     assert_eq!(rt; sink.as_slice(), output.as_bytes());
     assert_eq!(rt; sink.finishes() == 1, status == Status::Done);
@@ -84,7 +85,7 @@ fn a_usage_line_that_fails_leaves_the_source_unread(rt: HostRuntime) -> Result<(
     let alloc = rt.alloc();
     let mut source = SureSource::new(Bytes::of(alloc, b"ab")?);
     let mut sink = MemorySink::with_room(alloc, turns(alloc, 0, 1, true)?, 96)?;
-    let (answer, ran) = run_between(&rt, alloc, &OpenGate, &["run"], &mut source, &mut sink)?;
+    let (answer, ran) = run_between(&rt, alloc, &["run"], &mut source, &mut sink)?;
     assert_eq!(rt; answer, Status::WriteFault);
     assert!(rt; sink.as_slice().is_empty());
     assert!(rt; ran.world.is_none());
@@ -104,7 +105,7 @@ fn fails_at_the_source(
         let reads = turns(alloc, call, 1, true)?;
         let mut source = MemorySource::new(Bytes::of(alloc, text.as_bytes())?, reads);
         let mut sink = SureSink::with_room(alloc, 64)?;
-        let (status, ran) = run_between(rt, alloc, &OpenGate, command, &mut source, &mut sink)?;
+        let (status, ran) = run_between(rt, alloc, command, &mut source, &mut sink)?;
         assert_eq!(rt; status, Status::ReadFault, "at {call}");
         assert!(rt; sink.as_slice().is_empty(), "at {call}");
         assert_eq!(rt; sink.finishes(), 0, "at {call}");
@@ -144,7 +145,7 @@ fn fails_at_the_sink(
     for call in 0..CALLS {
         let mut source = SureSource::new(Bytes::of(alloc, text.as_bytes())?);
         let mut sink = MemorySink::with_room(alloc, turns(alloc, call, 1, true)?, 16_384)?;
-        let (status, ran) = run_between(rt, alloc, &OpenGate, command, &mut source, &mut sink)?;
+        let (status, ran) = run_between(rt, alloc, command, &mut source, &mut sink)?;
         let taken = due.len().min(call as usize);
         assert_eq!(rt; sink.as_slice(), &due[..taken], "at {call}");
         let fails = call as usize <= due.len();

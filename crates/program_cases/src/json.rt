@@ -1,11 +1,11 @@
 //! Descriptions in JSON.
 
 use crate::runs::{gives, run};
-use crate::texts::{
+use portals_top::Status;
+use program_texts::{
     ALLREDUCE_AND_SCAN, ONE_RANK, ONE_RANK_IN_JSON, ONE_RANK_RESULT, STEPS_ON_GROUPS,
     sixteen_ranks, sixteen_results,
 };
-use portals_top::Status;
 use std::alloc::{AllocError, Global};
 use std::process::Abort;
 use std::sync::Wait;

@@ -1,6 +1,6 @@
-//! Whole runs of the program: what each command writes, faults of a source and a sink, texts that are refused, orders and their
-//! verdicts, runs by workers on threads with gates that watch the steps, choice texts, descriptions in JSON, and runs in which
-//! memory may run out.
+//! Whole runs of the program by the top call: what each command writes of a text, faults of a source and a sink, texts and words
+//! that are refused, choice texts, descriptions in JSON, and runs in which memory may run out. Which steps a run makes, and in which
+//! order, is tested in `step_cases`.
 #![tactic(auto)]
 
 #[cfg(test)]
@@ -12,8 +12,6 @@ mod json;
 #[cfg(test)]
 mod memory_walk;
 #[cfg(test)]
-mod orders;
-#[cfg(test)]
 mod pieces;
 #[cfg(test)]
 mod plans;
@@ -24,15 +22,7 @@ mod results;
 #[cfg(test)]
 mod runs;
 #[cfg(test)]
-mod steady;
-#[cfg(test)]
-mod texts;
-#[cfg(test)]
-mod verdicts;
-#[cfg(test)]
 mod words;
-#[cfg(test)]
-mod workers;
 
 /// The tests are all that there is to this crate. It is a program, since nothing stands on it.
 fn main() {}

@@ -1,8 +1,8 @@
 //! What `plan` writes, and plans that are too large.
 
 use crate::runs::{gives, run};
-use crate::texts::ONE_RANK;
 use portals_top::Status;
+use program_texts::ONE_RANK;
 use std::alloc::{AllocError, Global};
 use std::test::Fail;
 

@@ -4,7 +4,6 @@ use crate::runs::{gives, run_between};
 use port_io::{Source, SureSink, SureSource};
 use portals_top::Status;
 use ptl_types::Bytes;
-use rank_threads::OpenGate;
 use std::alloc::Global;
 use std::process::Abort;
 use std::sync::Wait;
@@ -159,7 +158,7 @@ fn reads_no_further(
     let long = vec![in alloc; b'x'; count]?;
     let mut source = SureSource::new(Bytes::from_vec(long));
     let mut sink = SureSink::with_room(alloc, 64)?;
-    let (answer, ran) = run_between(rt, alloc, &OpenGate, command, &mut source, &mut sink)?;
+    let (answer, ran) = run_between(rt, alloc, command, &mut source, &mut sink)?;
     assert_eq!(rt; answer, Status::Refused, "at {count}");
     assert_eq!(rt; sink.as_slice(), output.as_bytes(), "at {count}");
     assert!(rt; ran.world.is_none());

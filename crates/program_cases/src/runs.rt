@@ -1,15 +1,13 @@
 //! Runs of the program between sources and sinks in memory.
 
 use port_io::{Sink, Source, SureSink, SureSource};
-use portals_top::{Ran, Status, run_with_gate};
+use portals_top::{Ran, Status, portals_main};
 use ptl_types::Bytes;
-use rank_threads::{Gate, OpenGate};
 use std::alloc::{AllocError, Global};
 use std::process::Abort;
 use std::sync::Wait;
 use std::test::Fail;
 use std::thread::Threads;
-use worlds::World;
 
 /// Room for all that a run here writes.
 const ROOM: u64 = 262_144;
@@ -17,8 +15,8 @@ const ROOM: u64 = 262_144;
 /// What a run left. It holds no world, so that the tests need to know none.
 #[derive(Clone, Copy)]
 pub(crate) struct Left {
-    /// How many steps the ranks of the world made, where one is left.
-    pub(crate) world: Option<u64>,
+    /// Whether a world is left.
+    pub(crate) world: Option<()>,
     /// Whether a choice world is left.
     pub(crate) choice: Option<()>,
 }
@@ -31,18 +29,9 @@ pub(crate) struct Made {
     pub(crate) ran: Left,
 }
 
-/// How many steps the ranks of a world made.
-fn steps_of(world: &World) -> u64 {
-    let mut steps = 0u64;
-    for rank in 0..world.schedule().shape().ranks() {
-        steps = steps.wrapping_add(world.history(rank).len() as u64);
-    }
-    steps
-}
-
 fn left_by(ran: &Ran) -> Left {
     let world = match &ran.world {
-        Some(world) => Some(steps_of(world)),
+        Some(_) => Some(()),
         None => None,
     };
     let choice = match &ran.choice {
@@ -53,16 +42,15 @@ fn left_by(ran: &Ran) -> Left {
 }
 
 /// Runs these words: the only call of the program.
-fn run_words<S: Source, K: Sink, G: Gate>(
+fn run_words<S: Source, K: Sink>(
     rt: &(impl Threads + Wait + Sync),
     alloc: Global,
-    gate: &G,
     words: &[String],
     source: &mut S,
     sink: &mut K,
 ) -> (Status, Left) {
     let mut ran = Ran::new();
-    let status = run_with_gate(rt, alloc, words, source, sink, gate, &mut ran);
+    let status = portals_main(rt, alloc, words, source, sink, &mut ran);
     (status, left_by(&ran))
 }
 
@@ -74,31 +62,16 @@ fn words_of(alloc: Global, command: &[&str]) -> Result<Vec<String>, AllocError> 
     Ok(words)
 }
 
-/// Runs words between these ends, with a gate.
-pub(crate) fn run_between<S: Source, K: Sink, G: Gate>(
+/// Runs words between these ends.
+pub(crate) fn run_between<S: Source, K: Sink>(
     rt: &(impl Threads + Wait + Sync),
     alloc: Global,
-    gate: &G,
     command: &[&str],
     source: &mut S,
     sink: &mut K,
 ) -> Result<(Status, Left), AllocError> {
     let words = words_of(alloc, command)?;
-    Ok(run_words(rt, alloc, gate, words.as_slice(), source, sink))
-}
-
-/// Runs words on bytes with a gate.
-pub(crate) fn run_through<G: Gate>(
-    rt: &(impl Threads + Wait + Sync),
-    alloc: Global,
-    gate: &G,
-    command: &[&str],
-    bytes: &[u8],
-) -> Result<Made, Fail> {
-    let mut source = SureSource::new(Bytes::of(alloc, bytes)?);
-    let mut sink = SureSink::with_room(alloc, ROOM)?;
-    let (status, ran) = run_between(rt, alloc, gate, command, &mut source, &mut sink)?;
-    Ok(Made { status, sink, ran })
+    Ok(run_words(rt, alloc, words.as_slice(), source, sink))
 }
 
 /// Runs words on bytes.
@@ -108,7 +81,10 @@ pub(crate) fn run(
     command: &[&str],
     bytes: &[u8],
 ) -> Result<Made, Fail> {
-    run_through(rt, alloc, &OpenGate, command, bytes)
+    let mut source = SureSource::new(Bytes::of(alloc, bytes)?);
+    let mut sink = SureSink::with_room(alloc, ROOM)?;
+    let (status, ran) = run_between(rt, alloc, command, &mut source, &mut sink)?;
+    Ok(Made { status, sink, ran })
 }
 
 /// Runs words on a text: the status, the whole output, and whether a world is left.

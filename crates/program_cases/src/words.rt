@@ -4,7 +4,6 @@ use crate::runs::run_between;
 use port_io::{Source, SureSink, SureSource};
 use portals_top::Status;
 use ptl_types::Bytes;
-use rank_threads::OpenGate;
 use std::test::Fail;
 
 const USAGE: &[u8] =
@@ -44,7 +43,7 @@ fn other_words_leave_the_source_unread(rt: HostRuntime) -> Result<(), Fail> {
     for command in cases {
         let mut source = SureSource::new(Bytes::of(alloc, b"ab")?);
         let mut sink = SureSink::with_room(alloc, 128)?;
-        let (answer, ran) = run_between(&rt, alloc, &OpenGate, command, &mut source, &mut sink)?;
+        let (answer, ran) = run_between(&rt, alloc, command, &mut source, &mut sink)?;
         assert_eq!(rt; answer, Status::Usage);
         assert_eq!(rt; sink.as_slice(), USAGE);
         assert_eq!(rt; sink.finishes(), 1);

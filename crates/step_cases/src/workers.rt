@@ -1,11 +1,11 @@
 //! Runs by workers on threads.
 
 use crate::runs::{Made, gives, run_through};
-use crate::texts::{
+use portals_top::Status;
+use program_texts::{
     GROUPS, GROUPS_RESULT, HELD, HELD_RESULT, THREE_RESULTS, THREE_STEPS, sixteen_ranks,
     sixteen_results,
 };
-use portals_top::Status;
 use ptl_types::{LocalStep, Rank};
 use rank_threads::Gate;
 use std::alloc::Global;

@@ -1,56 +1,56 @@
-//! Descriptions that several tests run, and what they write.
+//! Descriptions that several tests of the whole program run, and what they write. Here, since two crates of tests run them.
+#![tactic(auto)]
 
 use std::alloc::{AllocError, Global};
 
 /// One rank, which has a value.
-pub(crate) const ONE_RANK: &str =
-    "coll 1\nranks 1\ninput a u8 1\n7\nbroadcast 0 a b\nprint b\nend\n";
+pub const ONE_RANK: &str = "coll 1\nranks 1\ninput a u8 1\n7\nbroadcast 0 a b\nprint b\nend\n";
 
 /// The same in JSON.
-pub(crate) const ONE_RANK_IN_JSON: &str =
+pub const ONE_RANK_IN_JSON: &str =
     r#"{"coll":1,"ranks":1,"inputs":[{"name":"a","type":"u8","rows":[[7]]}],"steps":[["broadcast",0,"a","b"]],"prints":["b"]}"#;
 
 /// What it writes.
-pub(crate) const ONE_RANK_RESULT: &str = "b 0 7\nrest\n";
+pub const ONE_RANK_RESULT: &str = "b 0 7\nrest\n";
 
 /// A barrier of two ranks, with orders that hold.
-pub(crate) const BARRIER_WITH_ORDERS: &str =
+pub const BARRIER_WITH_ORDERS: &str =
     "coll 1\nranks 2\nbarrier\nend\norder 0 s f0 f1 f2 f3 f4 r1 f5\norder 1 s f0 f1 f2 f3 f4 r0 f5\n";
 
 /// A reduction, a barrier and a scan on four ranks.
-pub(crate) const THREE_STEPS: &str =
+pub const THREE_STEPS: &str =
     "coll 1\nranks 4\ninput a u32 1\n1\n2\n3\n4\nallreduce sum a b\nbarrier\nscan sum b c\nprint c\nend\n";
 
 /// What they write.
-pub(crate) const THREE_RESULTS: &str = "c 0 10\nc 1 20\nc 2 30\nc 3 40\nrest\n";
+pub const THREE_RESULTS: &str = "c 0 10\nc 1 20\nc 2 30\nc 3 40\nrest\n";
 
 /// A reduction and a scan on groups of four ranks.
-pub(crate) const GROUPS: &str =
+pub const GROUPS: &str =
     "coll 2\nranks 4\ngroup odd 1 3\ninput a u8 1\n1\n2\n3\n4\non odd allreduce sum a b\n\
 on odd broadcast 1 a c\nprint b\nprint c\nend\n";
 
 /// What they write.
-pub(crate) const GROUPS_RESULT: &str = "b 0\nb 1 6\nb 2\nb 3 6\nc 0\nc 1 4\nc 2\nc 3 4\nrest\n";
+pub const GROUPS_RESULT: &str = "b 0\nb 1 6\nb 2\nb 3 6\nc 0\nc 1 4\nc 2\nc 3 4\nrest\n";
 
 /// A reduction on a group of three ranks, and then a gathering of what is held.
-pub(crate) const HELD: &str =
+pub const HELD: &str =
     "coll 2\nranks 3\ngroup g 0 2\ninput a u8 1\n1\n2\n3\non g allreduce sum a b\ngatherv 1 b c\nprint c\nend\n";
 
 /// What it writes.
-pub(crate) const HELD_RESULT: &str = "c 0\nc 1 4 4\nc 2\nrest\n";
+pub const HELD_RESULT: &str = "c 0\nc 1 4 4\nc 2\nrest\n";
 
 /// An allreduce, a barrier and a scan with `complete remote`.
-pub(crate) const ALLREDUCE_AND_SCAN: &str =
+pub const ALLREDUCE_AND_SCAN: &str =
     "coll 1\nranks 4\ncomplete remote\ninput a u32 1\n1\n2\n3\n4\nallreduce sum a b\nbarrier\nscan sum b c\n\
 print b\nprint c\nend\n";
 
 /// Steps on two groups of three ranks.
-pub(crate) const STEPS_ON_GROUPS: &str =
+pub const STEPS_ON_GROUPS: &str =
     "coll 2\nranks 6\ngroup even 0 2 4\ngroup odd 1 3 5\ninput a u8 1\n1\n2\n3\n4\n5\n6\non even allreduce sum a sums\n\
 on odd scan max a greatest\non odd broadcast 2 a last\nprint sums\nprint greatest\nprint last\nend\n";
 
 /// Ten of the example descriptions, of 2 to 6 ranks.
-pub(crate) const TEN: [&str; 10] = [
+pub const TEN: [&str; 10] = [
     "coll 1\nranks 3\ninput reading u8 2\n1 2\n3 4\n5 6\nallgather reading all\nprint all\nend\n",
     "coll 1\nranks 4\ninput load u32 2\n10 400\n20 300\n30 200\n40 100\nallreduce max load peak\nprint peak\nend\n",
     ALLREDUCE_AND_SCAN,
@@ -65,7 +65,7 @@ print all\nend\n",
 ];
 
 /// Sixteen ranks, of which each holds eight values: the greatest ones, and all of them.
-pub(crate) fn sixteen_ranks(alloc: Global, head: &str) -> Result<String, AllocError> {
+pub fn sixteen_ranks(alloc: Global, head: &str) -> Result<String, AllocError> {
     let mut text = String::from_str(alloc, head)?;
     text.push_str("input load u64 8\n")?;
     for rank in 0..16u32 {
@@ -83,7 +83,7 @@ pub(crate) fn sixteen_ranks(alloc: Global, head: &str) -> Result<String, AllocEr
 }
 
 /// What they write.
-pub(crate) fn sixteen_results(alloc: Global) -> Result<String, AllocError> {
+pub fn sixteen_results(alloc: Global) -> Result<String, AllocError> {
     let mut text = String::new(alloc);
     for rank in 0..16u32 {
         let line = format!(in alloc; "peak {rank} 1500 1501 1502 1503 1504 1505 1506 1507\n")?;

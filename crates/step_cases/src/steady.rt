@@ -1,9 +1,9 @@
 //! Runs by workers that go on until a wave of probes has found rest.
 
 use crate::runs::gives;
-use crate::texts::{GROUPS, GROUPS_RESULT, THREE_RESULTS, THREE_STEPS};
 use crate::workers::{Counting, Meeting, TWO_RANKS, gives_sixteen_results, steps_through};
 use portals_top::Status;
+use program_texts::{GROUPS, GROUPS_RESULT, THREE_RESULTS, THREE_STEPS};
 use std::test::Fail;
 
 #[test]

@@ -1,9 +1,9 @@
 //! Orders of runs: those that `sim` chooses and `trace` finds, and what `check` says of them and of others.
 
 use crate::runs::{gives, run};
-use crate::texts::{BARRIER_WITH_ORDERS, TEN, THREE_RESULTS, THREE_STEPS};
 use crate::verdicts::EXCHANGED;
 use portals_top::Status;
+use program_texts::{BARRIER_WITH_ORDERS, TEN, THREE_RESULTS, THREE_STEPS};
 use std::alloc::{AllocError, Global};
 use std::process::Abort;
 use std::str;
