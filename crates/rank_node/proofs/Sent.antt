@@ -13,10 +13,38 @@ use Rattle.rank_node.proofs.kept.Kept.TheSendSync as kept
 
 pub node-send : IsSend the_row
 node-send =
-    view_send inside.the_row _ _ _ _ (recorded_send inside.the_field.row _ _ inside.the_type.to_one (struct_send (shape inside.the_type)
-      (compiled.the_field_send, (search crosses, (nic.the_send, (kept.the_send, (history.the_send, (search (crosses, sendable) depth 20, (search sendable, (gates.the_send, tt))))))))))
+    view_send inside.the_row _ _ _ _ (recorded_send inside.the_field.row _ _ inside.the_type.to_one (struct_send (shape inside.the_type) (
+      compiled.the_field_send,
+      (
+        search crosses,
+        (
+          nic.the_send,
+          (
+            kept.the_send,
+            (
+              history.the_send,
+              (search (crosses, sendable) depth 20, (search sendable, (gates.the_send, tt))),
+            ),
+          ),
+        ),
+      ),
+    )))
 
 pub node-sync : IsSync the_row
 node-sync =
-    view_sync inside.the_row _ _ _ _ (recorded_sync inside.the_field.row _ _ inside.the_type.to_one (struct_sync (shape inside.the_type)
-      (compiled.the_field_sync, (search crosses, (nic.the_sync, (kept.the_sync, (history.the_sync, (search (crosses, sendable) depth 20, (search sendable, (gates.the_sync, tt))))))))))
+    view_sync inside.the_row _ _ _ _ (recorded_sync inside.the_field.row _ _ inside.the_type.to_one (struct_sync (shape inside.the_type) (
+      compiled.the_field_sync,
+      (
+        search crosses,
+        (
+          nic.the_sync,
+          (
+            kept.the_sync,
+            (
+              history.the_sync,
+              (search (crosses, sendable) depth 20, (search sendable, (gates.the_sync, tt))),
+            ),
+          ),
+        ),
+      ),
+    )))

@@ -12,6 +12,16 @@ use Rattle.worlds.specs.contracts.world.World.TheInside as inside
 
 pub world-sync : IsSync the_row
 world-sync =
-    view_sync inside.the_row _ _ _ _ (recorded_sync inside.the_field.row _ _ inside.the_type.to_one (struct_sync (shape inside.the_type)
-      (job.the_sync, (setting.the_field_sync, (search (node-sync, crosses) depth 20, (search (lane.the_sync, crosses) depth 20,
-        (tree.the_sync, (tree.the_sync, (tree.the_sync, tt)))))))))
+    view_sync inside.the_row _ _ _ _ (recorded_sync inside.the_field.row _ _ inside.the_type.to_one (struct_sync (shape inside.the_type) (
+      job.the_sync,
+      (
+        setting.the_field_sync,
+        (
+          search (node-sync, crosses) depth 20,
+          (
+            search (lane.the_sync, crosses) depth 20,
+            (tree.the_sync, (tree.the_sync, (tree.the_sync, tt))),
+          ),
+        ),
+      ),
+    )))
