@@ -27,3 +27,4 @@ pub mod Probing
 pub mod Fronts
 pub mod Rested
 pub mod Hands
+pub mod Sent
