@@ -14,15 +14,17 @@ use Rattle.worlds.proofs.frame.Frame.TheSendSync as frame
 use Rattle.rank_threads.specs.contracts.fabric.Fabric as fabric
 use Rattle.rank_threads.specs.contracts.fabric.Fabric.TheInside as inside
 use Rattle.rank_threads.specs.contracts.slot.Slot as slot
+use Rattle.rank_threads.specs.contracts.open.Berth as berth
 use Rattle.rank_threads.specs.contracts.past.SlotPast.TheImpl as past
 use Rattle.rank_threads.proofs.hints.Hints.TheSendSync as hints
 use Rattle.rank_threads.proofs.mail.Mail.TheSendSync as mail
+use Rattle.rank_threads.proofs.open.Load.TheSendSync as load
 use Rattle.rank_threads.proofs.ports.InPort.TheSendSync as in_port
 use Rattle.rank_threads.proofs.ports.OutPort.TheSendSync as out_port
 
-pub slot-send : IsSend slot.the_row
-slot-send =
-    recorded_send slot.the_field.row _ _ slot.the_type.to_one (struct_send (shape slot.the_type) (
+pub slot-field-send : IsSend slot.the_field.row
+slot-field-send =
+    struct_send (shape slot.the_type) (
       job.the_send,
       (
         search (node-send, crosses) depth 20,
@@ -34,7 +36,15 @@ slot-send =
           ),
         ),
       ),
-    ))
+    )
+
+pub slot-send : IsSend slot.the_row
+slot-send = recorded_send slot.the_field.row _ _ slot.the_type.to_one slot-field-send
+
+pub berth-send : IsSend berth.the_row
+berth-send =
+    recorded_send berth.the_field.row _ _ berth.the_type.to_one
+    (struct_send (shape berth.the_type) (search sendable, (slot-field-send, (load.the_field_send, tt))))
 
 pub hand-send : IsSend (hand.the_row slot.the_row past.ghosts)
 hand-send = hands.the_send slot.the_row past.ghosts slot-send
