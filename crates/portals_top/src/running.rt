@@ -154,7 +154,7 @@ pub(crate) fn run<R: Threads + Wait + Sync, G: Gate, K: Sink>(
         return Status::NoMemory;
     };
     let rested = Rested(world);
-    let written = write_run(&mut out, sink, mode, &rested);
+    let written = write_run(rt, alloc, &mut out, sink, mode, &rested);
     let Rested(world) = rested;
     ran.world = Some(world);
     status_of(written)

@@ -1,6 +1,6 @@
 //! The whole program.
 
-ghost use Rattle.std.specs.Prelude.{◌≡◌, List, ℕ, Option, None, [], map, string_bytes};
+ghost use Rattle.std.specs.Prelude.{◌≡◌, ◌<◌, List, ℕ, Option, None, [], map, string_bytes};
 ghost use Rattle.coll_shape.specs.Meaning.{Lists};
 ghost use Rattle.shape_plans.specs.Footprint.{refusal};
 ghost use Rattle.worlds.specs.World.{WorldState};
@@ -15,7 +15,7 @@ ghost use Rattle.portals_top.specs.Written.{Written};
 use crate::checking::judged_text;
 use crate::choosing::chosen;
 use crate::large::large;
-use crate::parsing::parse_as;
+use crate::parsing::parse_text;
 use crate::planning::plan;
 use crate::ran::Ran;
 use crate::reading::{ReadError, read_text};
@@ -128,22 +128,36 @@ fn described<R: Threads + Wait + Sync, G: Gate, K: Sink>(
     }
 }
 
-/// Answers what was read.
+/// How many threads read a text for a command.
+fn readers_for(command: Command) -> u32
+    requires workers { CanDo command }
+    ensures { 0 < result }
+{
+    match command {
+        Command::Execute(
+            Mode::Run { workers } | Mode::Trace { workers } | Mode::Steady { workers },
+        ) => workers,
+        _ => 1,
+    }
+}
+
+/// Answers what was read. The text is given back once it is read.
 fn answer<R: Threads + Wait + Sync, G: Gate, K: Sink>(
     rt: &R,
     alloc: Global,
     gate: &G,
     task: Task,
-    text: &[u8],
+    text: Vec<u8>,
     sink: &mut K,
     ran: &mut Ran,
 ) -> Status
     requires workers { CanDo task.command }
     requires none { ran.old ≡ nothing_ran }
-    ensures written { Written (due_of task.command ran.new (read_as task.format text.now)) (K.outflow sink.old) (K.outflow sink.new) result }
-    ensures world { HandsBack result (due_of task.command ran.new (read_as task.format text.now)).status (LeavesOf task.command (read_as task.format text.now)) ran.new }
+    ensures written { Written (due_of task.command ran.new (read_as task.format text.items)) (K.outflow sink.old) (K.outflow sink.new) result }
+    ensures world { HandsBack result (due_of task.command ran.new (read_as task.format text.items)).status (LeavesOf task.command (read_as task.format text.items)) ran.new }
 {
-    match parse_as(alloc, task.format, text) {
+    let threads = readers_for(task.command);
+    match parse_text(rt, alloc, threads, task.format, text) {
         Ok(d) => described(rt, alloc, gate, task.command, d, sink, ran),
         Err(ParseFault::Refused { line, name }) => refuse(alloc, sink, line, name),
         Err(ParseFault::NoMemory) => Status::NoMemory,
@@ -166,7 +180,7 @@ fn read_and_answer<R: Threads + Wait + Sync, G: Gate, S: Source, K: Sink>(
         × Answered (Some task) bytes (S.inflow source.old) (S.inflow source.new) (K.outflow sink.old) (K.outflow sink.new) ran.new result }
 {
     match read_text(alloc, LONGEST_TEXT, source) {
-        Ok(text) => answer(rt, alloc, gate, task, text.as_slice(), sink, ran),
+        Ok(text) => answer(rt, alloc, gate, task, text, sink, ran),
         Err(ReadError::Failed) => Status::ReadFault,
         Err(ReadError::NoMemory) => Status::NoMemory,
     }

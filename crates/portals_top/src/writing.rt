@@ -11,6 +11,7 @@ ghost use Rattle.run_text.specs.Putting.{EndsWith, Puts};
 ghost use Rattle.worlds.specs.World.{memory_in};
 ghost use Rattle.portals_top.specs.Due.{mode_text, orders_of};
 ghost use Rattle.portals_top.specs.Large.{summary_text};
+ghost use Rattle.portals_top.specs.Words.{HasWorkers};
 ghost use Rattle.portals_top.specs.Written.{status_of};
 
 use crate::status::Status;
@@ -19,7 +20,11 @@ use coll_shape::Shape;
 use plan_choice::ChoiceWorld;
 use port_io::{Failed, Sink};
 use ptl_types::{LocalStep, Rank};
-use run_text::{Pieces, ResultLists, order_line, put_result, write_result, write_summary};
+use run_text::{
+    Pieces, ResultLists, order_line, put_result, write_result, write_result_by, write_summary,
+};
+use std::alloc::Global;
+use std::thread::Threads;
 use worlds::World;
 
 /// A world whose buffers are what the description means of the inputs.
@@ -128,6 +133,24 @@ fn write_results<K: Sink>(out: &mut Pieces, sink: &mut K, rested: &Rested) -> Re
     write_result(out, sink, shape, rested)
 }
 
+/// Writes the results, whose lines so many threads make.
+fn write_results_by<R: Threads + Sync, K: Sink>(
+    rt: &R,
+    alloc: Global,
+    threads: u32,
+    out: &mut Pieces,
+    sink: &mut K,
+    rested: &Rested,
+) -> Result<(), Failed>
+    requires threads { 0 < threads }
+    requires empty { out.old ≡ [] }
+    requires meant { AreMeant rested.now.0.shape rested.now.0.inputs (memory_in rested.now.0) }
+    ensures { EndsWith (K.outflow sink.old) (K.outflow sink.new) (result_text rested.now.0.shape rested.now.0.inputs) result }
+{
+    let shape = shape_of(rested);
+    write_result_by(rt, alloc, threads, out, sink, shape, rested)
+}
+
 /// Writes the results and the order.
 fn write_ordered<K: Sink>(out: &mut Pieces, sink: &mut K, rested: &Rested) -> Result<(), Failed>
     requires empty { out.old ≡ [] }
@@ -141,18 +164,24 @@ fn write_ordered<K: Sink>(out: &mut Pieces, sink: &mut K, rested: &Rested) -> Re
 }
 
 /// Writes what a run in this mode owes.
-pub(crate) fn write_run<K: Sink>(
+pub(crate) fn write_run<R: Threads + Sync, K: Sink>(
+    rt: &R,
+    alloc: Global,
     out: &mut Pieces,
     sink: &mut K,
     mode: Mode,
     rested: &Rested,
 ) -> Result<(), Failed>
+    requires workers { HasWorkers mode }
     requires empty { out.old ≡ [] }
     requires meant { AreMeant rested.now.0.shape rested.now.0.inputs (memory_in rested.now.0) }
     ensures { EndsWith (K.outflow sink.old) (K.outflow sink.new) (mode_text mode rested.now.0.shape rested.now.0.inputs (Some rested.now.0)) result }
 {
     match mode {
-        Mode::Once | Mode::Run { .. } | Mode::Steady { .. } => write_results(out, sink, rested),
+        Mode::Once => write_results(out, sink, rested),
+        Mode::Run { workers } | Mode::Steady { workers } => {
+            write_results_by(rt, alloc, workers, out, sink, rested)
+        }
         Mode::Sim { .. } | Mode::Trace { .. } => write_ordered(out, sink, rested),
     }
 }

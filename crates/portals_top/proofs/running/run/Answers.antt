@@ -6,7 +6,7 @@ use Rattle.portals_top.proofs.Rests.{handed-of, same-mode, written-of}
 use Rattle.portals_top.proofs.running.run.Goals as goal
 
 pub write_run-written-requires-clause-meant : goal.write_run-written-requires-clause-meant
-write_run-written-requires-clause-meant g c = c.in-Ok-run_in.ensures.0.meant
+write_run-written-requires-clause-meant g c = λ κs within. c.in-Ok-run_in.ensures.0.meant
 
 pub returns : goal.returns
 returns g c =

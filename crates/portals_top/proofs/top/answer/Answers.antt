@@ -11,7 +11,7 @@ returns-in-Ok g c = record {
 
 pub returns-in-Err-Refused : goal.returns-in-Err-Refused
 returns-in-Err-Refused g c =
-    let refused : read_as c.args.task.format c.args.text.now ≡ Err (c.in-Err-Refused.line, c.in-Err-Refused.name) = rw c.in-Err-Refused.field-0-is at c.in-Err-Refused.ensures in
+    let refused : read_as c.args.task.format c.args.text.items ≡ Err (c.in-Err-Refused.line, c.in-Err-Refused.name) = rw c.in-Err-Refused.field-0-is at c.in-Err-Refused.ensures in
     record {
       written = rw refused (rw c.in-Err-Refused.field-0-is at c.refuse.ensures);
       world = rw (refused, c.requires.none) (no-world-refused _ _ c.refuse.ensures.allowed);

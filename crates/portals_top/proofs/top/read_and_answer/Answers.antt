@@ -9,7 +9,7 @@ returns-in-Ok g c =
     let source' = g.S.Source.inflow c.read_text.new.source in
     let read = c.in-Ok.ensures.text in
     let told = told-read LONGEST_TEXT source.left source'.left c.in-Ok.text.items read.front read.short read.whole in
-    (told.bytes, told.told, answered-read c.args.task c.in-Ok.text.items source source' _ _ _ _ told (rw c.as_slice.ensures.value at c.answer.ensures.written) (rw c.as_slice.ensures.value at c.answer.ensures.world))
+    (told.bytes, told.told, answered-read c.args.task c.in-Ok.text.items source source' _ _ _ _ told c.answer.ensures.written c.answer.ensures.world)
 
 pub returns-in-Err-Failed : goal.returns-in-Err-Failed
 returns-in-Err-Failed g c = rw c.requires.none (answered-failed c.args.task _ _ _ (c.in-Err-Failed.ensures.failed c.in-Err-Failed.field-0-is))
