@@ -1,8 +1,11 @@
+use denote.Param.Send.{sendable}
+use Rattle.std.proofs.Crossing.{crosses}
 use Rattle.std.proofs.Common.{◌<◌, get_or, length, subst}
 use Rattle.coll_shape.specs.Meaning.{meaning_of}
 use Rattle.coll_shape.specs.Outline.{Outline}
 use Rattle.run_text.specs.Lines.{text_of}
 use Rattle.run_text.specs.Putting.{EndsWith}
+use Rattle.worlds.proofs.Sent.{world-sync}
 use Rattle.portals_top.proofs.writing.write_results_by.Goals as goal
 
 pub write_result_by-requires-clause-gives : goal.write_result_by-requires-clause-gives
@@ -14,6 +17,9 @@ write_result_by-requires-clause-gives g c = λ κs within.
       subst (λ (o : Outline). get_or shape.prints i 0 < length o.buffers) told (c.shape_of-shape.ensures.formed.shape.printed i l),
       subst (λ (o : Outline). r < o.ranks) told k,
     )
+
+pub write_result_by-requires-sync-H : goal.write_result_by-requires-sync-H
+write_result_by-requires-sync-H g c κs within = search (world-sync, crosses, sendable) depth 40
 
 pub returns : goal.returns
 returns g c =
