@@ -16,6 +16,4 @@ mod orders;
 #[cfg(test)]
 mod texts;
 #[cfg(test)]
-mod threads;
-#[cfg(test)]
 mod words;

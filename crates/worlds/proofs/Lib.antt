@@ -10,4 +10,3 @@ pub mod Words
 pub mod Joined
 pub mod Framed
 pub mod Sent
-pub mod Opened
