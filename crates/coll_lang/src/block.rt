@@ -19,7 +19,7 @@ use std::alloc::{AllocError, Global};
 use std::thread;
 use std::thread::Threads;
 
-/// Fewer bytes aren't shared among threads.
+/// Lines of fewer bytes aren't shared among threads.
 const FEW: usize = 65_536;
 
 /// At most so many lines that end, and what follows them.
@@ -167,6 +167,11 @@ fn read_block<'a, R: Threads + Sync>(
     let alloc = reader.alloc;
     let (lines, rest) = cut_lines(alloc, left, bytes)?;
     let lines: &[&[u8]] = lines.as_slice();
+    let threads = if bytes.len() - rest.len() < FEW {
+        1
+    } else {
+        threads
+    };
     let mut places = all_said(rt, alloc, threads, ty, count, lines)?;
     take_block(reader, left, ty, count, lines, &mut places, number)?;
     Ok((number + lines.len() as u32, rest))

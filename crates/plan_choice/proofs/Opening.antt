@@ -18,7 +18,7 @@ use Rattle.world_parts.specs.Layout.{held_in, lane_at}
 use Rattle.world_parts.specs.Marks.{delivery_count, lane_has}
 use Rattle.world_parts.proofs.Gated.{scene_by}
 use Rattle.world_parts.proofs.Placed.{lane_in}
-use Rattle.world_open.proofs.Begun.{none-held}
+use Rattle.worlds.proofs.Opened.{none-held}
 use Rattle.choice_laws.specs.Decided.{IsInRange}
 use Rattle.choice_ranks.specs.Seats.{IsInstalled, Seated}
 use Rattle.plan_choice.specs.Acts.{firing_count, no_seated, seat_at, start_count}

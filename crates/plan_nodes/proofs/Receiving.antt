@@ -22,9 +22,7 @@ use Rattle.plan_cuts.specs.System.{state_at}
 use Rattle.plan_orders.proofs.Choosing.{listed_made}
 use Rattle.plan_orders.specs.Chosen.{Scene, delivered}
 use Rattle.plan_orders.specs.declared.Step.TheVariants.{Deliver}
-use Rattle.plan_rest.proofs.Moments.{next_local}
-use Rattle.plan_rest.proofs.Next.{next_held}
-use Rattle.plan_rest.proofs.Receipts.{few_receipts, few_received_bytes}
+use Rattle.plan_worlds.proofs.Falling.{few_receipts, few_received_bytes, next_held, next_local}
 use Rattle.plan_worlds.proofs.Listed.{enabled_listed}
 use Rattle.plan_nodes.specs.Ranks.{AreShort, HasStrayRoom, IsRank, MayReceive}
 use Rattle.rank_node.proofs.Copies.{bytes-push, receipts-push}

@@ -21,8 +21,9 @@ use Rattle.plan_cuts.specs.System.{Histories}
 use Rattle.plan_orders.proofs.Choosing.{listed_made}
 use Rattle.plan_orders.specs.Chosen.{Scene, enabled_steps, step_made}
 use Rattle.plan_orders.specs.declared.Step.{Step}
-use Rattle.plan_rest.proofs.Moments.{next_local}
-use Rattle.plan_rest.proofs.Receipts.{few_receipts}
+pub use Rattle.plan_rest.proofs.Moments.{next_local}
+pub use Rattle.plan_rest.proofs.Next.{next_held}
+pub use Rattle.plan_rest.proofs.Receipts.{few_received_bytes, few_receipts}
 use Rattle.plan_worlds.specs.Left.{steps_left, steps_of}
 use Rattle.plan_worlds.specs.Possible.{is_possible, possible_steps}
 

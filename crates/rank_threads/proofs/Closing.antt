@@ -30,9 +30,8 @@ use Rattle.rank_node.specs.Plans.{IsCompiledFor}
 use Rattle.rank_node.proofs.Plans.{run-legal}
 use Rattle.world_parts.specs.Keeps.{AgreeAll}
 use Rattle.world_parts.specs.Layout.{lane_at, node_at, scene_of}
-use Rattle.world_open.specs.Frames.{frame_lane}
 use Rattle.worlds.specs.FrameState.{FrameState}
-use Rattle.worlds.specs.Frames.{MayClose}
+use Rattle.worlds.specs.Frames.{MayClose, frame_lane}
 use Rattle.rank_threads.specs.declared.slot.Slot.{Slot}
 use Rattle.rank_threads.specs.declared.ports.OutPort.{OutPort}
 use Rattle.rank_threads.specs.declared.ports.InPort.{InPort}

@@ -10,7 +10,7 @@ use Rattle.pair_wires.specs.declared.bounds.Bounds.{Bounds}
 use Rattle.plan_core.specs.Plan.{Plan}
 use Rattle.plan_core.specs.Sound.{SoundPlan}
 use Rattle.plan_calls.specs.Lanes.{is_used_lane}
-use Rattle.world_open.proofs.Laid.{few-pairs}
+use Rattle.worlds.proofs.Opened.{few-pairs}
 use Rattle.rank_threads.specs.declared.lanes.FanOut.{FanOut}
 use Rattle.rank_threads.specs.Lists.{Each}
 use Rattle.rank_threads.specs.Lanes.{AreFans, AreLanes, IsFan, IsLane, bounds_if_used, bounds_on, lanes_before, lanes_below, lanes_from}

@@ -16,7 +16,7 @@ use Rattle.plan_worlds.specs.Places.{lane_place}
 use Rattle.shape_plans.specs.Drawing.{plan_of}
 use Rattle.schedule_compiler.specs.Jobs.{JobOf}
 use Rattle.rank_node.specs.Node.{NodeState}
-use Rattle.world_open.specs.Frames.{frame_lane}
+use Rattle.worlds.specs.Frames.{frame_lane}
 use Rattle.world_parts.specs.Layout.{lane_at}
 use Rattle.world_parts.proofs.Placed.{OneLane, lane_apart}
 use Rattle.rank_threads.specs.declared.slot.Slot.{Slot}

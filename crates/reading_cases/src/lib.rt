@@ -16,4 +16,6 @@ mod orders;
 #[cfg(test)]
 mod texts;
 #[cfg(test)]
+mod threads;
+#[cfg(test)]
 mod words;

@@ -5,7 +5,7 @@ use coll_lang::{ChoiceStep, Description, ParseFault, parse, print};
 use std::test::Fail;
 
 /// The line and the name of a refusal; nothing where the text is read.
-fn answer(read: Result<Description, ParseFault>) -> Option<(u32, &'static str)> {
+pub(crate) fn answer(read: Result<Description, ParseFault>) -> Option<(u32, &'static str)> {
     match read {
         Ok(_) => None,
         Err(ParseFault::Refused { line, name }) => Some((line, name.word())),

@@ -16,11 +16,10 @@ use Rattle.plan_cuts.specs.Cut.{is_received_stray, is_stray, owned}
 use Rattle.plan_cuts.specs.Moment.{IsMoment}
 use Rattle.plan_cuts.specs.Plans.{system_of}
 use Rattle.plan_orders.specs.Chosen.{Scene, first_scene}
-use Rattle.plan_nodes.specs.Ranks.{AreShort}
 use Rattle.plan_rest.proofs.Moments.{first_moment}
 use Rattle.plan_worlds.specs.Places.{lane_place}
 use Rattle.rank_node.specs.Node.{NodeState}
-use Rattle.world_parts.specs.Keeps.{AreParts, AreStrays, IsWorld, strays_for}
+use Rattle.world_parts.specs.Keeps.{AreParts, AreShort, AreStrays, IsWorld, strays_for}
 use Rattle.world_parts.specs.Layout.{held_in, lane_at, no_node, node_at, scene_of}
 use Rattle.world_parts.specs.Marks.{delivery_count, firing_count, lane_has, start_count}
 use Rattle.world_parts.proofs.Gated.{scene_by}

@@ -26,7 +26,8 @@ use Rattle.plan_cuts.specs.System.{state_at}
 use Rattle.plan_cuts.proofs.FromCut.{prepared_of}
 use Rattle.plan_cuts.proofs.LaneAnswers.{few_answers}
 use Rattle.plan_cuts.proofs.Origin.{IsOf, answer_kind, target_answers}
-use Rattle.plan_nodes.proofs.Receiving.{finds_room}
+pub use Rattle.plan_nodes.proofs.Firing.{open-possible}
+pub use Rattle.plan_nodes.proofs.Receiving.{finds_room, rank-state}
 use Rattle.plan_nodes.specs.Ranks.{AreShort, HasStrayRoom, IsRank, MayReceive}
 use Rattle.plan_orders.specs.Chosen.{Scene, delivered, step_made, with_lane}
 use Rattle.plan_orders.specs.Taking.{with_step}

@@ -14,7 +14,7 @@ use Rattle.plan_view.specs.Slots.{Slots}
 use Rattle.plan_cuts.specs.Cut.{is_received_stray, is_stray, owned}
 use Rattle.plan_cuts.specs.Moment.{IsMoment}
 use Rattle.plan_cuts.specs.Plans.{system_of}
-use Rattle.plan_nodes.specs.Ranks.{AreShort}
+pub use Rattle.plan_nodes.specs.Ranks.{AreGates, AreShort, IsRank}
 use Rattle.plan_worlds.specs.Places.{lane_place}
 use Rattle.rank_node.specs.Handles.{Agrees}
 use Rattle.rank_node.specs.Node.{IsNode, NodeState, stray_bytes}

@@ -8,7 +8,6 @@ use Rattle.plan_view.specs.Slots.{Slots}
 use Rattle.plan_cuts.specs.Cut.{is_received_stray, is_stray}
 use Rattle.plan_cuts.specs.Moment.{IsMoment}
 use Rattle.plan_cuts.specs.Plans.{system_of}
-use Rattle.plan_nodes.specs.Ranks.{AreShort}
 use Rattle.plan_orders.specs.Chosen.{Scene}
 use Rattle.plan_worlds.specs.Places.{lane_place}
 use Rattle.rank_node.specs.Copies.{Diary}
@@ -18,7 +17,7 @@ use Rattle.rank_node.specs.Plans.{IsCompiledFor}
 use Rattle.schedule_compiler.specs.Jobs.{JobOf}
 use Rattle.shape_plans.specs.Drawing.{plan_of}
 use Rattle.world_parts.specs.declared.acts.Setting.{Setting}
-use Rattle.world_parts.specs.Keeps.{AgreeAll, AreCounted, AreParts, AreStrays, IsWorld, spare_on}
+use Rattle.world_parts.specs.Keeps.{AgreeAll, AreCounted, AreParts, AreShort, AreStrays, IsWorld, spare_on}
 use Rattle.world_parts.specs.Layout.{lane_at, node_at, scene_of}
 use Rattle.world_parts.proofs.Gated.{IsGated, scene_gated}
 use Rattle.world_parts.proofs.Strays.{owned_and_strays}

@@ -21,14 +21,13 @@ use Rattle.plan_cuts.specs.System.{Histories, sent_by}
 use Rattle.plan_cuts.proofs.Clean.{made-clean}
 use Rattle.plan_cuts.proofs.Fronts.{owned-all}
 use Rattle.plan_cuts.proofs.Origin.{got_first, got_later}
-use Rattle.plan_nodes.specs.Ranks.{AreShort}
 use Rattle.plan_worlds.specs.Places.{lane_place}
 use Rattle.rank_node.specs.Handles.{slots_of}
 use Rattle.rank_node.specs.Node.{IsNode, NodeState}
 use Rattle.rank_node.specs.Plans.{IsCompiledFor}
 use Rattle.rank_node.proofs.Nodes.{agrees}
 use Rattle.rank_node.proofs.Plans.{run-legal}
-use Rattle.world_parts.specs.Keeps.{AgreeAll, AreStrays}
+use Rattle.world_parts.specs.Keeps.{AgreeAll, AreShort, AreStrays}
 use Rattle.world_parts.specs.Layout.{held_in, lane_at, node_at, scene_of}
 use Rattle.world_parts.proofs.Held.{held_here}
 use Rattle.world_parts.proofs.Strays.{none_count}

@@ -10,3 +10,4 @@ pub mod Words
 pub mod Joined
 pub mod Framed
 pub mod Sent
+pub mod Opened

@@ -17,7 +17,7 @@ use Rattle.plan_cuts.specs.History.Local.{Start as Started, Receive as Received,
 use Rattle.plan_cuts.specs.Moment.{IsPossible}
 use Rattle.plan_cuts.specs.Plans.{system_of}
 use Rattle.plan_cuts.specs.System.{System, state_at}
-use Rattle.plan_nodes.proofs.Receiving.{rank-state}
+use Rattle.world_parts.proofs.Delivers.{rank-state}
 use Rattle.plan_orders.proofs.Choosing.{In-flat_cases, below}
 use Rattle.plan_orders.specs.Chosen.{Scene, deliveries_between, enabled_steps, firings_at, first_of, start_at}
 use Rattle.plan_orders.specs.declared.Step.{Step}

@@ -12,9 +12,7 @@ use Rattle.plan_view.specs.Slots.{Slots}
 use Rattle.plan_cuts.specs.History.{is_start}
 use Rattle.plan_cuts.specs.Plans.{system_of}
 use Rattle.plan_cuts.specs.System.{Histories, System}
-use Rattle.plan_nodes.specs.Ranks.{AreGates, IsRank}
-use Rattle.plan_nodes.proofs.Firing.{open-possible}
-use Rattle.plan_nodes.proofs.Receiving.{rank-state}
+use Rattle.world_parts.proofs.Delivers.{open-possible, rank-state}
 use Rattle.plan_orders.specs.Chosen.{Scene, first_of, start_at}
 use Rattle.plan_orders.specs.declared.Step.{Step}
 use Rattle.plan_orders.specs.declared.Step.TheVariants.{Deliver, Fire, Start}
@@ -23,7 +21,7 @@ use Rattle.plan_worlds.specs.Places.{counts, delivery_at, delivery_on, fires_at,
 use Rattle.plan_worlds.specs.Possible.{is_possible}
 use Rattle.rank_node.specs.Gates.{open_numbers}
 use Rattle.rank_node.specs.Node.{NodeState}
-use Rattle.world_parts.specs.Keeps.{AgreeAll, IsWorld}
+use Rattle.world_parts.specs.Keeps.{AgreeAll, AreGates, IsRank, IsWorld}
 use Rattle.world_parts.specs.Layout.{held_in, lane_at, node_at, scene_of}
 use Rattle.world_parts.specs.Marks.{lane_may}
 use Rattle.world_parts.proofs.Held.{held_here}

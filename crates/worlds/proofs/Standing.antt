@@ -7,7 +7,7 @@ use Rattle.plan_core.specs.Values.{Inputs}
 use Rattle.plan_view.specs.Slots.{Slots}
 use Rattle.plan_cuts.specs.Plans.{system_of}
 use Rattle.plan_cuts.specs.System.{System}
-use Rattle.plan_nodes.proofs.Receiving.{rank-state}
+use Rattle.world_parts.proofs.Delivers.{rank-state}
 use Rattle.plan_orders.specs.Chosen.{Scene, start_at}
 use Rattle.plan_orders.specs.declared.Step.{Step}
 use Rattle.plan_orders.specs.declared.Step.TheVariants.{Deliver, Fire, Start}

@@ -14,7 +14,8 @@ use Rattle.rank_node.specs.Node.{NodeState}
 use Rattle.rank_node.specs.Plans.{IsCompiledFor}
 use Rattle.world_parts.specs.Keeps.{AgreeAll}
 use Rattle.world_parts.specs.Layout.{lane_at, node_at, scene_of}
-use Rattle.world_open.specs.Frames.{IsSameButGates, frame_lane, frame_window}
+pub use Rattle.world_open.specs.Frames.{frame_lane}
+use Rattle.world_open.specs.Frames.{IsSameButGates, frame_window}
 use Rattle.worlds.specs.FrameState.{FrameState}
 use Rattle.worlds.specs.World.{AreSlots, WorldState, scene_in}
 

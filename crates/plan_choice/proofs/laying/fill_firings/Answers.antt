@@ -1,7 +1,7 @@
 -- One rank more in each turn.
 use Rattle.std.proofs.Common.{ℕ, ◌+◌, ◌<◌, ◌≡◌, ◌∙◌, List, ap, get_or, length, subst, sym, arith}
 use Rattle.std.proofs.Math.ListN.{length-set}
-use Rattle.world_open.proofs.Lists.{written}
+use Rattle.worlds.proofs.Opened.{written}
 use Rattle.plan_choice.specs.Acts.{firing_count, seat_at}
 use Rattle.plan_choice.proofs.laying.fill_firings.Goals as goal
 

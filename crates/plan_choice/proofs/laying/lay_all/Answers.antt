@@ -1,7 +1,7 @@
 -- Two lanes more in each turn.
 use Rattle.std.proofs.Common.{ℕ, ◌+◌, ◌*◌, ◌<◌, ◌≡◌, ◌∙◌, List, [], ◌∷◌, ◌++◌, ap, length, subst, sym, arith}
 use Rattle.pair_wires.specs.Lanes.{Plain, plain}
-use Rattle.world_open.proofs.Laid.{IsLaid, all-laid, few-pairs, one-pair, two-more}
+use Rattle.worlds.proofs.Opened.{IsLaid, all-laid, few-pairs, one-pair, two-more}
 use Rattle.plan_choice.specs.Laying.{laid_lane}
 use Rattle.plan_choice.proofs.laying.lay_all.Goals as goal
 

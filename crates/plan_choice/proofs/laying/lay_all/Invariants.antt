@@ -1,6 +1,6 @@
 use Rattle.std.proofs.Common.{ℕ, [], ◌*◌, ◌<◌, ◌≡◌, length}
 use Rattle.pair_wires.specs.Lanes.{plain}
-use Rattle.world_open.proofs.Laid.{IsLaid}
+use Rattle.worlds.proofs.Opened.{IsLaid}
 use Rattle.plan_choice.specs.Laying.{laid_lane}
 use Rattle.plan_choice.proofs.laying.lay_all.Given as goal
 

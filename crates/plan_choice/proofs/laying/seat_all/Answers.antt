@@ -1,7 +1,7 @@
 -- One seat more in each turn.
 use Rattle.std.proofs.Common.{ℕ, ◌+◌, ◌<◌, ◌≡◌, ◌∙◌, List, ap, length, subst, sym, arith}
 use Rattle.std.proofs.lemmas.List.{length_push}
-use Rattle.world_open.proofs.Lists.{pushed}
+use Rattle.worlds.proofs.Opened.{pushed}
 use Rattle.choice_ranks.specs.Seats.{IsInstalled, Seated}
 use Rattle.plan_choice.specs.Acts.{no_seated, seat_at}
 use Rattle.plan_choice.proofs.laying.seat_all.Goals as goal
