@@ -179,7 +179,8 @@ impl Wire {
         }
     }
 
-    /// Receives the oldest message. It may wait inside the queue, and never for a message.
+    /// Receives the oldest message. It may wait inside the queue, and never for a message. Where as many were received as the bounds allow
+    /// the call costs nothing but the count.
     ///
     /// `None` only where the wire was empty at this call's own step. Then nothing was received, and the count of empty pops
     /// rose.
@@ -190,6 +191,11 @@ impl Wire {
         ensures bounds { IfSome result (λ _. KeepsBounds self.now.bounds end.new.received) }
         ensures empty { IfNone result ((end.new.received ≡ end.old.received) × (end.new.empty ≡ one_more end.old.empty)) }
     {
+        if end.popped >= self.bounds.messages {
+            // All that is ever sent was received: the queue is empty for good, and what other threads write isn't looked at.
+            end.empty = risen(end.empty);
+            return None;
+        }
         match self.line.pop_as::<PopStep, R>(rt, &mut end.pass) {
             Some(message) => {
                 end.popped += 1;
