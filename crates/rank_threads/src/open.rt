@@ -1,9 +1,11 @@
 //! How a fabric is opened.
 
+ghost use denote.Param.Send.{IsSync};
 ghost use Rattle.std.specs.Prelude.{◌≡◌, ◌<◌, ◌++◌, ◌∷◌, ◌^◌, [], All, IfOk, IfSome, length, map};
 ghost use Rattle.pair_wires.specs.declared.bounds.Bounds.{Bounds};
 ghost use Rattle.shape_plans.specs.Drawing.{plan_of};
 ghost use Rattle.turn_table.specs.Hands.{IsNew, parts_of};
+ghost use Rattle.worlds.specs.Frames.{IsFrameOf};
 ghost use Rattle.rank_threads.specs.Joints.{joint, out_joint};
 ghost use Rattle.rank_threads.specs.Lanes.{AreFans, IsFan, IsLane};
 ghost use Rattle.rank_threads.specs.Moves.{AllFanned, AreBerths, AreFirst, AreLines, AreWired, HasNoOut, IsBare, IsBerth, IsFanned, IsFresh, IsHanded, IsLine, SameOuts, Slotwise, wires_in};
@@ -22,6 +24,7 @@ use ptl_types::{NoMemory, Rank};
 use rank_tasks::install;
 use schedule_compiler::Job;
 use std::alloc::Global;
+use std::sync::atomic::{AtomicU64, Ordering};
 use std::thread;
 use std::thread::Threads;
 use turn_table::Turns;
@@ -139,66 +142,63 @@ fn make_berth(alloc: Global, job: &Job, rank: Rank, fan: &FanOut) -> Result<Bert
 }
 
 // What is made for a rank. There is nothing where there is no such rank, or no memory for it.
-fn berth_of(alloc: Global, job: &Job, fans: &[FanOut], rank: usize) -> Option<Berth>
+fn berth_of(alloc: Global, job: &Job, fans: &[FanOut], rank: u64) -> Option<Berth>
     requires count { length fans.now ≡ job.now.shape.ranks }
     requires fans { AreFans (plan_of job.now.shape) fans.now }
     ensures { IfSome result (λ b. IsBerth job.now b) }
 {
-    if rank >= job.schedule().shape().ranks() as usize {
+    if rank >= u64::from(job.schedule().shape().ranks()) {
         return None;
     }
-    match make_berth(alloc, job, rank as Rank, &fans[rank]) {
+    match make_berth(alloc, job, rank as Rank, &fans[rank as usize]) {
         Ok(berth) => Some(berth),
         Err(_) => None,
     }
 }
 
-// The rank that is made at a place, where each of so many threads has `size` places one after the other. The ranks are dealt out to
-// the threads one by one, since the first ones of a tree have the most to make.
-fn dealt(place: usize, size: usize, threads: usize) -> usize
-    requires { 0 < size }
-{
-    (place % size)
-        .wrapping_mul(threads)
-        .wrapping_add(place / size)
-}
-
-// Where a rank is likely to lie: the place at which it is dealt out.
-fn place_of(rank: Rank, size: usize, threads: usize) -> usize
-    requires { 0 < threads }
-{
-    (rank as usize % threads)
-        .wrapping_mul(size)
-        .wrapping_add(rank as usize / threads)
-}
-
-// Makes each rank, by so many threads. Where there is no memory for one its place stays empty.
+// Makes the ranks, by so many threads, each of which has as many places as there are ranks. A thread makes the next rank that none
+// has begun, since one may have more to do than another, or be held up. Where there is no memory for a rank it lies at no place.
 fn fill_places<R: Threads + Sync>(
     rt: &R,
     alloc: Global,
     job: &Job,
     fans: &[FanOut],
     places: &mut [Option<Berth>],
-    size: usize,
     threads: usize,
 )
     requires threads { 0 < threads }
-    requires size { 0 < size }
     requires count { length fans.now ≡ job.now.shape.ranks }
     requires fans { AreFans (plan_of job.now.shape) fans.now }
     ensures { AreBerths job.now places.new }
 {
+    let next = &AtomicU64::new(0);
     thread::for_each_mut(
         rt,
         places,
         threads,
-        &|i: usize, place: &mut Option<Berth>|
-            requires { (0 < size) × (length fans.now ≡ job.now.shape.ranks) × AreFans (plan_of job.now.shape) fans.now }
+        &|_, place: &mut Option<Berth>|
+            requires { (length fans.now ≡ job.now.shape.ranks) × AreFans (plan_of job.now.shape) fans.now }
             ensures { IfSome place.exit.now (λ b. IsBerth job.entry.now b) }
         {
-            *place = berth_of(alloc, job, fans, dealt(i, size, threads));
+            *place = berth_of(alloc, job, fans, next.fetch_add(1, Ordering::SeqCst));
         },
     );
+}
+
+// The place at which each rank lies; past the last one for a rank that wasn't made.
+fn places_of(alloc: Global, places: &[Option<Berth>], ranks: u32) -> Result<Vec<usize>, NoMemory>
+    ensures { IfOk result (λ v. length v.items ≡ ranks) }
+{
+    let mut at = Vec::new(alloc);
+    at.resize(ranks as usize, places.len())?;
+    for place in 0..places.len() {
+        if let Some(berth) = &places[place] {
+            if berth.rank < ranks {
+                at[berth.rank as usize] = place;
+            }
+        }
+    }
+    Ok(at)
 }
 
 // What lies at a place, if it was made for this rank.
@@ -225,19 +225,17 @@ fn in_order(
     alloc: Global,
     job: &Job,
     places: &mut [Option<Berth>],
-    size: usize,
-    threads: usize,
 ) -> Result<(Vec<Slot>, Vec<Load>), NoMemory>
-    requires threads { 0 < threads }
-    requires places { AreBerths job.now places.old }
+    requires { AreBerths job.now places.old }
     ensures count { IfOk result (λ r. (length r.0.items ≡ job.now.shape.ranks) × (length r.1.items ≡ job.now.shape.ranks)) }
     ensures fanned { IfOk result (λ r. AllFanned job.now r.0.items r.1.items) }
 {
     let ranks = job.schedule().shape().ranks();
+    let at = places_of(alloc, places, ranks)?;
     let mut slots = Vec::with_capacity(alloc, ranks as usize)?;
     let mut loads = Vec::with_capacity(alloc, ranks as usize)?;
     for rank in 0..ranks {
-        let Some(berth) = take_berth(job, places, place_of(rank, size, threads), rank) else {
+        let Some(berth) = take_berth(job, places, at[rank as usize], rank) else {
             return Err(NoMemory);
         };
         let Berth {
@@ -312,18 +310,16 @@ fn make_ranks<R: Threads + Sync>(
     job: &Job,
     fans: &[FanOut],
     places: &mut [Option<Berth>],
-    size: usize,
     threads: usize,
 ) -> Result<(Vec<Slot>, Vec<Load>), NoMemory>
     requires threads { 0 < threads }
-    requires size { 0 < size }
     requires count { length fans.now ≡ job.now.shape.ranks }
     requires fans { AreFans (plan_of job.now.shape) fans.now }
     ensures count { IfOk result (λ r. (length r.0.items ≡ job.now.shape.ranks) × (length r.1.items ≡ job.now.shape.ranks)) }
     ensures fanned { IfOk result (λ r. AllFanned job.now r.0.items r.1.items) }
 {
-    fill_places(rt, alloc, job, fans, places, size, threads);
-    in_order(alloc, job, places, size, threads)
+    fill_places(rt, alloc, job, fans, places, threads);
+    in_order(alloc, job, places)
 }
 
 // All ranks and their wires, which as many threads make.
@@ -338,19 +334,66 @@ fn wired_slots<R: Threads + Sync>(
 {
     let ranks = job.schedule().shape().ranks() as usize;
     let threads = (threads as usize).min(ranks).max(1);
-    let size = ranks.div_ceil(threads).max(1);
     let fans = all_fans(alloc, job.schedule())?;
     let mut places = Vec::new(alloc);
-    places.resize_with(size.wrapping_mul(threads), || None)?;
-    let (mut slots, loads) = make_ranks(rt, alloc, job, &fans, &mut places, size, threads)?;
+    places.resize_with(ranks.wrapping_mul(threads), || None)?;
+    let (mut slots, loads) = make_ranks(rt, alloc, job, &fans, &mut places, threads)?;
     let wires = hand_all(alloc, job, count(&fans), loads, &mut slots)?;
     Ok((slots, wires))
 }
 
+// The frame of the world that the ranks end as, and the ranks and their wires. Where there are more threads than one, another opens
+// the frame meanwhile.
+fn frame_and_slots<R: Threads + Sync>(
+    rt: &R,
+    alloc: Global,
+    job: &Job,
+    threads: u32,
+) -> (
+    Result<Frame, NoMemory>,
+    Result<(Vec<Slot>, Vec<Wire>), NoMemory>,
+)
+    requires { IsSound job.now }
+    ensures frame { IfOk result.0 (λ f. IsFrameOf job.now f) }
+    ensures wired { IfOk result.1 (λ r. AreWired job.now r.0.items r.1.items) }
+{
+    if threads < 2 {
+        let frame = Frame::open(alloc, job);
+        return (frame, wired_slots(rt, alloc, job, threads));
+    }
+    thread::join(
+        rt,
+        move ||
+            ensures { IfOk result (λ f. IsFrameOf job.entry.now f) }
+        { Frame::open(alloc, job) },
+        move ||
+            requires { IsSync R.row × IsSound job.now }
+            ensures { IfOk result (λ r. AreWired job.entry.now r.0.items r.1.items) }
+        { wired_slots(rt, alloc, job, threads) },
+    )
+}
+
+// The ranks and their wires, and the frame, if there was memory for all.
+fn framed_slots<R: Threads + Sync>(
+    rt: &R,
+    alloc: Global,
+    job: &Job,
+    threads: u32,
+) -> Result<(Vec<Slot>, Vec<Wire>, Frame), NoMemory>
+    requires { IsSound job.now }
+    ensures wired { IfOk result (λ r. AreWired job.now r.0.items r.1.items) }
+    ensures frame { IfOk result (λ r. IsFrameOf job.now r.2) }
+{
+    let (frame, made) = frame_and_slots(rt, alloc, job, threads);
+    let (slots, wires) = made?;
+    Ok((slots, wires, frame?))
+}
+
 impl<G: Gate + Drop> Fabric<G> {
     /// A fabric of a job, in which nothing was done, with this many hands. All the memory that it needs is taken here, and that of the
-    /// world that it ends as. The gate is passed at each step. As many threads as there are hands make the ranks and their wires,
-    /// which changes nothing of the fabric; where no thread can be started, the call does its part itself.
+    /// world that it ends as. The gate is passed at each step. As many threads as there are hands make the ranks and their wires, and
+    /// where there are two or more, one more makes that world's lanes, which changes nothing of the fabric; where no thread can be started,
+    /// the call does its part itself.
     ///
     /// # Errors
     ///
@@ -370,8 +413,7 @@ impl<G: Gate + Drop> Fabric<G> {
         sound(job);
         let ranks = job.schedule().shape().ranks();
         let shared = job.share()?;
-        let frame = Frame::open(alloc, job)?;
-        let (slots, wires) = wired_slots(rt, alloc, job, hands)?;
+        let (slots, wires, frame) = framed_slots(rt, alloc, job, hands)?;
         let room = Vec::with_capacity(alloc, ranks as usize)?;
         let (turns, hands) = Turns::open(alloc, slots, hands)?;
         let mail = Mail::open(alloc, ranks)?;

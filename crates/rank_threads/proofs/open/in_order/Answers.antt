@@ -13,7 +13,7 @@ loop-rank-init c = let none = c.in_ok-slots.ensures.items in let empty = c.in_ok
   loads = ap (λ (l : List Load). length l) empty;
   fanned = subst (λ (l : List Slot). AllFanned c.args.job.now l c.in_ok-loads.loads.items) (sym none)
       (λ r x load at there. absurd (some-ne-none x (sym at)));
-  places = c.requires.places;
+  places = c.requires;
 }
 
 pub loop-rank-preserved : goal.loop-rank-preserved

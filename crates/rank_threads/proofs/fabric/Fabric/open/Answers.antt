@@ -15,15 +15,15 @@ use Rattle.rank_threads.proofs.Pairs.{exists_at}
 use Rattle.rank_threads.proofs.Snocs.{read}
 use Rattle.rank_threads.proofs.fabric.Fabric.open.Goals as goal
 
-pub open-requires-2-clause-empty : goal.open-requires-2-clause-empty
-open-requires-2-clause-empty g c =
-    let w = c.in_ok-slots.ensures in let slots = c.in_ok-slots.slots.items in
+pub open-requires-clause-empty : goal.open-requires-clause-empty
+open-requires-clause-empty g c =
+    let w = c.in_ok-slots.ensures.wired in let slots = c.in_ok-slots.slots.items in
     λ k d h. let x = exists_at slots k h in
     ap chronicle (read slots k x.0 d x.1) ∙ ap (map (entry x.0.node.value.kept)) (w.fresh k x.0 x.1).history_is
 
 pub invariant_of-fabric : goal.invariant_of-fabric
 invariant_of-fabric g c =
-    let job = c.args.job.now in let p = plan_of job.shape in let w = c.in_ok-slots.ensures in
+    let job = c.args.job.now in let p = plan_of job.shape in let w = c.in_ok-slots.ensures.wired in
     let wires = c.in_ok-slots.wires.items in let same = c.in_ok-shared.ensures in let sound = c.sound.ensures in
     let start : c.in_ok-turns.turns.start ≡ c.in_ok-slots.slots.items = c.in_ok-turns.ensures.table in
     let count : length c.in_ok-turns.turns.start ≡ job.shape.ranks = ap (λ (l : List Slot). length l) start ∙ w.count in
@@ -40,7 +40,7 @@ invariant_of-fabric g c =
       fabric = subst (λ (j : JobOf). IsFabric j c.in_ok-turns.turns.start wires) (sym same) fabric;
       ranks_are = ranks ∙ sym (ap (λ (j : JobOf). j.shape.ranks) same);
       rooms = w.wires_are.rooms;
-      frame_is = subst (λ (j : JobOf). IsFrameOf j c.in_ok-frame.frame) (sym same) c.in_ok-frame.ensures;
+      frame_is = subst (λ (j : JobOf). IsFrameOf j c.in_ok-slots.frame) (sym same) c.in_ok-slots.ensures.frame;
       empty = c.in_ok-room.ensures.items;
       roomy = omega (arith, count, ranks, room);
     }
