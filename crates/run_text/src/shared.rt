@@ -78,12 +78,15 @@ fn fill_places<R: Threads + Sync, H: ResultLists + Sync>(
     );
 }
 
-/// Whether the lists of a buffer are too short to be shared among threads, as told by the first of them.
+/// Whether the lists of a buffer are too short to be shared among threads.
 fn is_short<H: ResultLists>(shape: &Shape, held: &H, buffer: u32) -> bool
     requires gives { (r : ℕ) → r < shape.now.ranks → H.can_give held.now buffer r }
 {
-    let ranks = shape.ranks();
-    ranks == 0 || u64::from(ranks).saturating_mul(held.list(buffer, 0).len() as u64) < FEW
+    let mut bytes = 0u64;
+    for rank in 0..shape.ranks() {
+        bytes = bytes.saturating_add(held.list(buffer, rank).len() as u64);
+    }
+    bytes < FEW
 }
 
 /// The lines of a buffer as texts, made by as many threads. There are none where that isn't worth it, or where there is no memory.
