@@ -4,11 +4,14 @@
 #![tactic(auto)]
 
 #[cfg(test)]
+mod answers;
+#[cfg(test)]
 mod limits;
 #[cfg(test)]
 mod meanings;
 #[cfg(test)]
 mod refusals;
+#[cfg(test)]
 mod texts;
 #[cfg(test)]
 mod values;

@@ -1,8 +1,10 @@
 //! Exactly the most of each quantity, and one more, in both versions.
 
-use crate::texts::{Answer, add_data, answer, numbered, repeated};
+use crate::answers::same;
+use crate::texts::{
+    Answer, NO_MEMORY, Part, add_data_line, add_parts, answer, answer_if, answer_to, numbered,
+};
 use std::alloc::Global;
-use std::test::Fail;
 
 /// One input on one rank: the lines 1 to 4.
 const ONE: &[u8] = b"coll 1\nranks 1\ninput a u8 1\n7\n";
@@ -266,13 +268,17 @@ static REPEATED: [Repeated; 45] = [
     ),
 ];
 
+/// What reading answers to the head, so many times the line, the last lines and `end`.
+fn repeated(alloc: Global, case: &Repeated) -> Answer {
+    let (head, line, times, last, _) = *case;
+    answer_to(alloc, &[(head, 1), (line, times), (last, 1), (b"end\n", 1)])
+}
+
 #[test]
-fn steps_and_prints(rt: HostRuntime) -> Result<(), Fail> {
-    for (i, (head, line, times, last, wanted)) in REPEATED.iter().enumerate() {
-        let found = repeated(rt.alloc(), head, line, *times, last)?;
-        assert_eq!(rt; found, *wanted, "at {i}");
+fn steps_and_prints(rt: HostRuntime) {
+    for (i, case) in REPEATED.iter().enumerate() {
+        same(&rt, "REPEATED", i, repeated(rt.alloc(), case), case.4);
     }
-    Ok(())
 }
 
 /// A head, a line before and after its number, how many of these stand there, the lines after them, and the answer.
@@ -473,72 +479,117 @@ static NUMBERED: [Numbered; 35] = [
     ),
 ];
 
-#[test]
-fn groups_and_buffers(rt: HostRuntime) -> Result<(), Fail> {
-    for (i, (head, line, times, last, wanted)) in NUMBERED.iter().enumerate() {
-        let found = numbered(rt.alloc(), head, *line, *times, last)?;
-        assert_eq!(rt; found, *wanted, "at {i}");
-    }
-    Ok(())
+/// What reading answers to such a case.
+fn numbered_case(alloc: Global, case: &Numbered) -> Answer {
+    let (head, line, times, last, _) = *case;
+    numbered(alloc, &[(head, 1)], line, times, last)
 }
+
+#[test]
+fn groups_and_buffers(rt: HostRuntime) {
+    for (i, case) in NUMBERED.iter().enumerate() {
+        same(&rt, "NUMBERED", i, numbered_case(rt.alloc(), case), case.4);
+    }
+}
+
+static RANKS: [(&[u8], Answer); 4] = [
+    (b"coll 1\nranks 64\nend\n", None),
+    (b"coll 1\nranks 65\nend\n", Some((2, "BadRanks"))),
+    (b"coll 2\nranks 256\nend\n", None),
+    (b"coll 2\nranks 257\nend\n", Some((2, "BadRanks"))),
+];
 
 #[test]
 fn ranks(rt: HostRuntime) {
-    let cases: [(&[u8], Answer); 4] = [
-        (b"coll 1\nranks 64\nend\n", None),
-        (b"coll 1\nranks 65\nend\n", Some((2, "BadRanks"))),
-        (b"coll 2\nranks 256\nend\n", None),
-        (b"coll 2\nranks 257\nend\n", Some((2, "BadRanks"))),
+    for (i, case) in RANKS.iter().enumerate() {
+        same(&rt, "RANKS", i, answer(rt.alloc(), case.0), case.1);
+    }
+}
+
+/// What reading answers to a group of so many members, from 0 on.
+fn members(alloc: Global, count: u32) -> Answer {
+    numbered(
+        alloc,
+        &[(b"coll 2\nranks 256\ngroup g", 1)],
+        (" ", ""),
+        count,
+        b"\n",
+    )
+}
+
+#[test]
+fn members_of_a_group(rt: HostRuntime) {
+    same(&rt, "members", 256, members(rt.alloc(), 256), None);
+    same(
+        &rt,
+        "members",
+        257,
+        members(rt.alloc(), 257),
+        Some((3, "BadGroup")),
+    );
+}
+
+/// What reading answers to the parts, which have to have so many bytes.
+fn answer_at(alloc: Global, parts: &[Part], length: usize) -> Answer {
+    let mut text = Vec::new(alloc);
+    let written = add_parts(&mut text, parts);
+    if text.len() == length {
+        answer_if(alloc, written, &text)
+    } else {
+        Some((0, "another length"))
+    }
+}
+
+/// What reading answers to a text of the version with these two data lines at each rank, which has to have so many bytes.
+fn long_answer<'a>(
+    alloc: Global,
+    version: &'a [u8],
+    name: &'a [u8],
+    first: &'a [u8],
+    second: &'a [u8],
+    length: usize,
+) -> Answer {
+    let parts: [Part; 9] = [
+        (b"coll ", 1),
+        (version, 1),
+        (b"\nranks 12\ninput a u64 4096\n", 1),
+        (first, 12),
+        (b"input ", 1),
+        (name, 1),
+        (b" u8 340\n", 1),
+        (second, 12),
+        (b"end\n", 1),
     ];
-    for (text, wanted) in cases.iter() {
-        assert_eq!(rt; answer(rt.alloc(), text), *wanted);
+    answer_at(alloc, &parts, length)
+}
+
+/// What reading answers to a text of 1,048,563 bytes, and one more for each byte of the name; it has to have so many bytes.
+fn long_text(alloc: Global, version: &[u8], name: &[u8], length: usize) -> Answer {
+    let mut first = Vec::new(alloc);
+    let mut second = Vec::new(alloc);
+    let numbers = add_data_line(&mut first, b"18446744073709551615", 4096).is_ok();
+    let bytes = add_data_line(&mut second, b"255", 340).is_ok();
+    if numbers && bytes {
+        long_answer(alloc, version, name, &first, &second, length)
+    } else {
+        Some(NO_MEMORY)
     }
 }
 
 #[test]
-fn members_of_a_group(rt: HostRuntime) -> Result<(), Fail> {
-    let head = b"coll 2\nranks 256\ngroup g";
-    let most = numbered(rt.alloc(), head, (" ", ""), 256, b"\n")?;
-    assert_eq!(rt; most, None);
-    let more = numbered(rt.alloc(), head, (" ", ""), 257, b"\n")?;
-    assert_eq!(rt; more, Some((3, "BadGroup")));
-    Ok(())
-}
-
-/// A text of 1,048,563 bytes, and one more for each byte of the name.
-fn long_text(alloc: Global, version: u32, name: &str) -> Result<Vec<u8>, Fail> {
-    let head = format!(in alloc; "coll {version}\nranks 12\ninput a u64 4096\n")?;
-    let mut text = Vec::from_slice(alloc, head.as_bytes())?;
-    add_data(alloc, &mut text, b"18446744073709551615", 4096, 12)?;
-    let input = format!(in alloc; "input {name} u8 340\n")?;
-    text.extend_from_slice(input.as_bytes())?;
-    add_data(alloc, &mut text, b"255", 340, 12)?;
-    text.extend_from_slice(b"end\n")?;
-    Ok(text)
-}
-
-/// The answers to the longest text of the version and to one of a byte more.
-fn at_the_most_bytes(alloc: Global, version: u32) -> Result<(Answer, Answer), Fail> {
-    let most = long_text(alloc, version, "thirteen_char")?;
-    let more = long_text(alloc, version, "fourteen_chars")?;
-    if most.len() != 1_048_576 {
-        return Ok((Some((0, "another length")), None));
-    }
-    Ok((answer(alloc, &most), answer(alloc, &more)))
+fn bytes_of_a_text(rt: HostRuntime) {
+    let most = long_text(rt.alloc(), b"1", b"thirteen_char", 1_048_576);
+    same(&rt, "most", 1, most, None);
+    let more = long_text(rt.alloc(), b"1", b"fourteen_chars", 1_048_577);
+    same(&rt, "more", 1, more, Some((0, "TooLong")));
 }
 
 #[test]
-fn bytes_of_a_text(rt: HostRuntime) -> Result<(), Fail> {
-    let found = at_the_most_bytes(rt.alloc(), 1)?;
-    assert_eq!(rt; found, (None, Some((0, "TooLong"))));
-    Ok(())
-}
-
-#[test]
-fn bytes_of_a_text_of_version_2(rt: HostRuntime) -> Result<(), Fail> {
-    let found = at_the_most_bytes(rt.alloc(), 2)?;
-    assert_eq!(rt; found, (None, Some((0, "TooLong"))));
-    Ok(())
+fn bytes_of_a_text_of_version_2(rt: HostRuntime) {
+    let most = long_text(rt.alloc(), b"2", b"thirteen_char", 1_048_576);
+    same(&rt, "most", 2, most, None);
+    let more = long_text(rt.alloc(), b"2", b"fourteen_chars", 1_048_577);
+    same(&rt, "more", 2, more, Some((0, "TooLong")));
 }
 
 /// After an input of 4096 elements at each of 64 ranks, on the lines 1 to 67.
@@ -629,53 +680,74 @@ static ELEMENTS_2: [(&[u8], Answer); 18] = [
     ),
 ];
 
+/// What reading answers to the head, so many times the data line, and the last lines.
+fn lined<'a>(alloc: Global, head: &'a [u8], line: &'a [u8], ranks: u32, last: &'a [u8]) -> Answer {
+    answer_to(alloc, &[(head, 1), (line, ranks), (last, 1), (b"end\n", 1)])
+}
+
 /// What reading answers to the head, data lines of zeros and the last lines.
-fn wide(alloc: Global, head: &[u8], count: u32, ranks: u32, last: &[u8]) -> Result<Answer, Fail> {
-    let mut text = Vec::from_slice(alloc, head)?;
-    add_data(alloc, &mut text, b"0", count, ranks)?;
-    text.extend_from_slice(last)?;
-    text.extend_from_slice(b"end\n")?;
-    Ok(answer(alloc, &text))
+fn wide(alloc: Global, head: &[u8], count: u32, ranks: u32, last: &[u8]) -> Answer {
+    let mut line = Vec::new(alloc);
+    match add_data_line(&mut line, b"0", count) {
+        Ok(()) => lined(alloc, head, &line, ranks, last),
+        Err(_) => Some(NO_MEMORY),
+    }
 }
 
 #[test]
-fn elements_of_a_buffer_and_of_all_prints(rt: HostRuntime) -> Result<(), Fail> {
-    for (i, (last, wanted)) in ELEMENTS.iter().enumerate() {
+fn elements_of_a_buffer_and_of_all_prints(rt: HostRuntime) {
+    for (i, case) in ELEMENTS.iter().enumerate() {
         let head = b"coll 1\nranks 64\ninput a u8 4096\n";
-        let found = wide(rt.alloc(), head, 4096, 64, last)?;
-        assert_eq!(rt; found, *wanted, "at {i}");
+        same(
+            &rt,
+            "ELEMENTS",
+            i,
+            wide(rt.alloc(), head, 4096, 64, case.0),
+            case.1,
+        );
     }
-    Ok(())
 }
 
 #[test]
-fn elements_on_256_ranks(rt: HostRuntime) -> Result<(), Fail> {
-    for (i, (last, wanted)) in ELEMENTS_2.iter().enumerate() {
+fn elements_on_256_ranks(rt: HostRuntime) {
+    for (i, case) in ELEMENTS_2.iter().enumerate() {
         let head = b"coll 2\nranks 256\ngroup one 0\ngroup two 0 1\ninput a u8 256\n";
-        let found = wide(rt.alloc(), head, 256, 256, last)?;
-        assert_eq!(rt; found, *wanted, "at {i}");
+        same(
+            &rt,
+            "ELEMENTS_2",
+            i,
+            wide(rt.alloc(), head, 256, 256, case.0),
+            case.1,
+        );
     }
-    Ok(())
+}
+
+/// So many allgathers of one byte on 64 ranks.
+static ALLGATHERS: [(u32, Answer); 4] = [
+    (60, None),
+    (61, None),
+    (64, None),
+    (65, Some((132, "TooMany"))),
+];
+
+/// What reading answers to them.
+fn allgathers(alloc: Global, steps: u32) -> Answer {
+    let head: [(&[u8], u32); 2] = [(b"coll 1\nranks 64\ninput a u8 1\n", 1), (b"0\n", 64)];
+    numbered(alloc, &head, ("allgather a b", "\n"), steps, b"")
 }
 
 /// What a compiler refuses isn't refused here: many allgathers on 64 ranks, and one of much.
 #[test]
-fn what_a_compiler_refuses(rt: HostRuntime) -> Result<(), Fail> {
-    let ones = Vec::from_slice(rt.alloc(), b"coll 1\nranks 64\ninput a u8 1\n")?;
-    let cases = [
-        (60u32, None),
-        (61, None),
-        (64, None),
-        (65, Some((132, "TooMany"))),
-    ];
-    for (steps, wanted) in cases.iter() {
-        let mut text = ones.clone()?;
-        add_data(rt.alloc(), &mut text, b"0", 1, 64)?;
-        let found = numbered(rt.alloc(), &text, ("allgather a b", "\n"), *steps, b"")?;
-        assert_eq!(rt; found, *wanted, "at {steps}");
+fn what_a_compiler_refuses(rt: HostRuntime) {
+    for (i, case) in ALLGATHERS.iter().enumerate() {
+        same(&rt, "ALLGATHERS", i, allgathers(rt.alloc(), case.0), case.1);
     }
     let head = b"coll 1\nranks 64\ninput a u64 4096\n";
-    let found = wide(rt.alloc(), head, 4096, 64, b"allgather a b\n")?;
-    assert_eq!(rt; found, None);
-    Ok(())
+    same(
+        &rt,
+        "much",
+        0,
+        wide(rt.alloc(), head, 4096, 64, b"allgather a b\n"),
+        None,
+    );
 }

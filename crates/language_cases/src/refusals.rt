@@ -1,8 +1,9 @@
 //! Each refusal at each kind of line where it can stand.
 
-use crate::texts::{Answer, answer};
+use crate::answers::{Refused, are_refused, same};
+use crate::texts::{Answer, answer, answer_to};
 use std::alloc::Global;
-use std::test::Fail;
+use std::process::Abort;
 
 /// The lines 1 and 2.
 const JOB: &[u8] = b"coll 1\nranks 1\n";
@@ -385,7 +386,7 @@ static STEP_SHAPES: [Case; 71] = [
 ];
 
 /// The first two lines and the last one, in whole texts.
-static FIRST_AND_LAST: [(&[u8], u32, &'static str); 26] = [
+static FIRST_AND_LAST: [Refused; 26] = [
     (b"coll 1\r\n", 1, "BadByte"),
     (b"coll 3\nranks 1\n", 1, "BadHeader"),
     (b"coll  1\nranks 1\n", 1, "BadHeader"),
@@ -414,42 +415,77 @@ static FIRST_AND_LAST: [(&[u8], u32, &'static str); 26] = [
     (b"coll 2\nranks 1\nelect e\nend\nprint e\n", 5, "AfterEnd"),
 ];
 
-/// The first of the cases whose answer is another than the one that is written there, with that answer.
-fn otherwise(alloc: Global, cases: &[Case]) -> Result<Option<(usize, Answer)>, Fail> {
-    for (i, (head, line, number, name)) in cases.iter().enumerate() {
-        let mut text = Vec::from_slice(alloc, head)?;
-        text.extend_from_slice(line)?;
-        text.extend_from_slice(b"\nend\n")?;
-        let found = answer(alloc, &text);
-        if found != Some((*number, *name)) {
-            return Ok(Some((i, found)));
-        }
+// Each table has a function of its own: the proof of what names a table carries the whole of it from step to step.
+fn early_lines() -> &'static [Case] {
+    &EARLY_LINES
+}
+
+fn group_lines() -> &'static [Case] {
+    &GROUP_LINES
+}
+
+fn data_lines() -> &'static [Case] {
+    &DATA_LINES
+}
+
+fn step_words() -> &'static [Case] {
+    &STEP_WORDS
+}
+
+fn step_names() -> &'static [Case] {
+    &STEP_NAMES
+}
+
+fn step_shapes() -> &'static [Case] {
+    &STEP_SHAPES
+}
+
+fn late_lines() -> &'static [Case] {
+    &LATE_LINES
+}
+
+fn first_and_last() -> &'static [Refused] {
+    &FIRST_AND_LAST
+}
+
+/// What reading answers to the head, the line and `end`.
+fn case_answer(alloc: Global, case: &Case) -> Answer {
+    let (head, line, _, _) = *case;
+    answer_to(alloc, &[(head, 1), (line, 1), (b"\nend\n", 1)])
+}
+
+/// Stops the test where one of the cases is read otherwise.
+fn each_is_refused(rt: &(impl Abort + AllocGlobal), table: &str, cases: &[Case]) {
+    for (i, case) in cases.iter().enumerate() {
+        let (_, _, number, name) = *case;
+        same(
+            rt,
+            table,
+            i,
+            case_answer(rt.alloc(), case),
+            Some((number, name)),
+        );
     }
-    Ok(None)
 }
 
 #[test]
-fn lines_before_the_steps(rt: HostRuntime) -> Result<(), Fail> {
-    assert_eq!(rt; otherwise(rt.alloc(), &EARLY_LINES)?, None);
-    assert_eq!(rt; otherwise(rt.alloc(), &GROUP_LINES)?, None);
-    assert_eq!(rt; otherwise(rt.alloc(), &DATA_LINES)?, None);
-    Ok(())
+fn lines_before_the_steps(rt: HostRuntime) {
+    each_is_refused(&rt, "EARLY_LINES", early_lines());
+    each_is_refused(&rt, "GROUP_LINES", group_lines());
+    each_is_refused(&rt, "DATA_LINES", data_lines());
 }
 
 #[test]
-fn steps_and_lines_after_them(rt: HostRuntime) -> Result<(), Fail> {
-    assert_eq!(rt; otherwise(rt.alloc(), &STEP_WORDS)?, None);
-    assert_eq!(rt; otherwise(rt.alloc(), &STEP_NAMES)?, None);
-    assert_eq!(rt; otherwise(rt.alloc(), &STEP_SHAPES)?, None);
-    assert_eq!(rt; otherwise(rt.alloc(), &LATE_LINES)?, None);
-    Ok(())
+fn steps_and_lines_after_them(rt: HostRuntime) {
+    each_is_refused(&rt, "STEP_WORDS", step_words());
+    each_is_refused(&rt, "STEP_NAMES", step_names());
+    each_is_refused(&rt, "STEP_SHAPES", step_shapes());
+    each_is_refused(&rt, "LATE_LINES", late_lines());
 }
 
 #[test]
 fn the_first_two_lines_and_the_last(rt: HostRuntime) {
-    for (i, (text, line, name)) in FIRST_AND_LAST.iter().enumerate() {
-        assert_eq!(rt; answer(rt.alloc(), text), Some((*line, *name)), "at {i}");
-    }
+    are_refused(&rt, "FIRST_AND_LAST", first_and_last());
 }
 
 /// The number of lines that end in the text.
@@ -463,14 +499,24 @@ fn ended_lines(text: &[u8]) -> u32 {
     ended
 }
 
+/// The refusal of a text that ends before its last line does.
+fn unended(text: &[u8]) -> Answer {
+    Some((ended_lines(text).saturating_add(1), "Unended"))
+}
+
 #[test]
 fn every_part_of_a_text_is_unended(rt: HostRuntime) {
     let text =
         b"coll 2\nranks 1\ncomplete remote\ngroup g 0\ninput a u8 1\n7\non g barrier\nprint a\nend\n";
     for length in 0..text.len() {
         let part = &text[..length];
-        let due = ended_lines(part).saturating_add(1);
-        assert_eq!(rt; answer(rt.alloc(), part), Some((due, "Unended")));
+        same(
+            &rt,
+            "parts",
+            length,
+            answer(rt.alloc(), part),
+            unended(part),
+        );
     }
-    assert_eq!(rt; answer(rt.alloc(), text), None);
+    same(&rt, "whole", 0, answer(rt.alloc(), text), None);
 }

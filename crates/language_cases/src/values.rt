@@ -1,76 +1,108 @@
 //! The least and the greatest value of each type, and the values beyond them.
 
-use crate::texts::{Answer, answer};
+use crate::answers::same;
+use crate::texts::{Answer, answer_to};
 use std::alloc::Global;
-use std::test::Fail;
+use std::process::Abort;
+
+/// The refusal of a value.
+const REFUSED: Answer = Some((4, "BadNumber"));
+
+/// A type, its least and greatest value, and the values beyond them.
+type Ends = (&'static [u8], [&'static [u8]; 2], [&'static [u8]; 2]);
+
+static ENDS: [Ends; 8] = [
+    (b"u8", [b"0", b"255"], [b"-1", b"256"]),
+    (b"i8", [b"-128", b"127"], [b"-129", b"128"]),
+    (b"u16", [b"0", b"65535"], [b"-1", b"65536"]),
+    (b"i16", [b"-32768", b"32767"], [b"-32769", b"32768"]),
+    (b"u32", [b"0", b"4294967295"], [b"-1", b"4294967296"]),
+    (
+        b"i32",
+        [b"-2147483648", b"2147483647"],
+        [b"-2147483649", b"2147483648"],
+    ),
+    (
+        b"u64",
+        [b"0", b"18446744073709551615"],
+        [b"-1", b"18446744073709551616"],
+    ),
+    (
+        b"i64",
+        [b"-9223372036854775808", b"9223372036854775807"],
+        [b"-9223372036854775809", b"9223372036854775808"],
+    ),
+];
+
+/// A type and a word that is no value of it.
+static NO_VALUES: [(&[u8], &[u8]); 7] = [
+    (b"u8", b"007"),
+    (b"i32", b"-0"),
+    (b"i32", b"-01"),
+    (b"i8", b"+1"),
+    (b"i8", b"-"),
+    (b"u8", b"0x1"),
+    (b"u8", b"1.0"),
+];
 
 /// What reading answers to one value of that type.
-fn value_answer(alloc: Global, ty: &str, value: &str) -> Result<Answer, Fail> {
-    let text = format!(in alloc; "coll 1\nranks 1\ninput a {ty} 1\n{value}\nend\n")?;
-    Ok(answer(alloc, text.as_bytes()))
+fn value_answer<'a>(alloc: Global, ty: &'a [u8], value: &'a [u8]) -> Answer {
+    answer_to(
+        alloc,
+        &[
+            (b"coll 1\nranks 1\ninput a ", 1),
+            (ty, 1),
+            (b" 1\n", 1),
+            (value, 1),
+            (b"\nend\n", 1),
+        ],
+    )
+}
+
+/// Stops the test where one of the two values is read otherwise.
+fn both_give(
+    rt: &(impl Abort + AllocGlobal),
+    place: usize,
+    ty: &[u8],
+    values: [&[u8]; 2],
+    wanted: Answer,
+) {
+    let [first, second] = values;
+    same(
+        rt,
+        "first",
+        place,
+        value_answer(rt.alloc(), ty, first),
+        wanted,
+    );
+    same(
+        rt,
+        "second",
+        place,
+        value_answer(rt.alloc(), ty, second),
+        wanted,
+    );
 }
 
 #[test]
-fn ends_of_each_type(rt: HostRuntime) -> Result<(), Fail> {
-    let cases = [
-        ("u8", "0", "255", "-1", "256"),
-        ("i8", "-128", "127", "-129", "128"),
-        ("u16", "0", "65535", "-1", "65536"),
-        ("i16", "-32768", "32767", "-32769", "32768"),
-        ("u32", "0", "4294967295", "-1", "4294967296"),
-        (
-            "i32",
-            "-2147483648",
-            "2147483647",
-            "-2147483649",
-            "2147483648",
-        ),
-        (
-            "u64",
-            "0",
-            "18446744073709551615",
-            "-1",
-            "18446744073709551616",
-        ),
-        (
-            "i64",
-            "-9223372036854775808",
-            "9223372036854775807",
-            "-9223372036854775809",
-            "9223372036854775808",
-        ),
-    ];
-    let refused: Answer = Some((4, "BadNumber"));
-    for (ty, least, greatest, below, above) in cases.iter() {
-        assert_eq!(rt; value_answer(rt.alloc(), ty, least)?, None, "at {least}");
-        assert_eq!(rt;
-            value_answer(rt.alloc(), ty, greatest)?,
-            None,
-            "at {greatest}"
-        );
-        assert_eq!(rt; value_answer(rt.alloc(), ty, below)?, refused, "at {below}");
-        assert_eq!(rt; value_answer(rt.alloc(), ty, above)?, refused, "at {above}");
+fn ends_of_each_type(rt: HostRuntime) {
+    for (i, case) in ENDS.iter().enumerate() {
+        let (ty, within, beyond) = *case;
+        both_give(&rt, i, ty, within, None);
+        both_give(&rt, i, ty, beyond, REFUSED);
     }
-    Ok(())
 }
 
 #[test]
-fn words_that_are_no_values(rt: HostRuntime) -> Result<(), Fail> {
-    let cases = [
-        ("u8", "007"),
-        ("i32", "-0"),
-        ("i32", "-01"),
-        ("i8", "+1"),
-        ("i8", "-"),
-        ("u8", "0x1"),
-        ("u8", "1.0"),
-    ];
-    for (ty, value) in cases.iter() {
-        assert_eq!(rt;
-            value_answer(rt.alloc(), ty, value)?,
-            Some((4, "BadNumber")),
-            "at {value}"
+fn words_that_are_no_values(rt: HostRuntime) {
+    for (i, case) in NO_VALUES.iter().enumerate() {
+        let (ty, value) = *case;
+        same(
+            &rt,
+            "NO_VALUES",
+            i,
+            value_answer(rt.alloc(), ty, value),
+            REFUSED,
         );
     }
-    Ok(())
 }

@@ -1,7 +1,8 @@
 //! Worked texts and texts that differ from them in one line.
 
-use crate::texts::answer;
-use std::test::Fail;
+use crate::answers::{Refused, are_refused, same};
+use crate::texts::{Answer, answer, answer_to};
+use std::alloc::Global;
 
 /// Accepted texts of both versions: each collective, on all ranks and on groups, and choice texts.
 static ACCEPTED: [&[u8]; 27] = [
@@ -34,15 +35,20 @@ static ACCEPTED: [&[u8]; 27] = [
     b"coll 2\nranks 4\ngroup odd 1 3\ngroup one 2\ninput a u8 3\n1 2 3\n4 5 6\n7 8 9\n10 11 12\nreduce 1 sum a r\non odd exscan sum a x\non one exscan sum a n\non odd gatherv 0 x b0\non odd gatherv 0 r b1\non one alltoall a b2\non one scatter 0 a b3\non odd broadcast 1 x b4\nprint b4\nend\n",
 ];
 
+// The proof of what names a table carries the whole of it from step to step: so a function names it and does nothing else.
+fn accepted() -> &'static [&'static [u8]] {
+    &ACCEPTED
+}
+
 #[test]
 fn accepted_and_printed_back(rt: HostRuntime) {
-    for (i, text) in ACCEPTED.iter().enumerate() {
-        assert_eq!(rt; answer(rt.alloc(), text), None, "at {i}");
+    for (i, text) in accepted().iter().enumerate() {
+        same(&rt, "ACCEPTED", i, answer(rt.alloc(), text), None);
     }
 }
 
 /// Texts that differ from a worked one in one line, each with the line and the name of its refusal.
-static OTHERWISE: [(&[u8], u32, &'static str); 31] = [
+static OTHERWISE: [Refused; 31] = [
     (b"", 1, "Unended"),
     (b"coll 3\nranks 1\nend\n", 1, "BadHeader"),
     (b"coll 1\nranks 65\nend\n", 2, "BadRanks"),
@@ -184,19 +190,31 @@ static OTHERWISE: [(&[u8], u32, &'static str); 31] = [
     ),
 ];
 
+fn otherwise() -> &'static [Refused] {
+    &OTHERWISE
+}
+
 #[test]
 fn one_line_otherwise(rt: HostRuntime) {
-    for (i, (text, line, name)) in OTHERWISE.iter().enumerate() {
-        assert_eq!(rt; answer(rt.alloc(), text), Some((*line, *name)), "at {i}");
-    }
+    are_refused(&rt, "OTHERWISE", otherwise());
+}
+
+/// What reading answers to 1,048,577 of this byte.
+fn one_too_many(alloc: Global, byte: u8) -> Answer {
+    let block = [byte; 256];
+    answer_to(alloc, &[(&block, 4096), (&[byte], 1)])
 }
 
 /// Bytes are counted before anything else is looked at.
 #[test]
-fn one_byte_more_than_a_text_may_have(rt: HostRuntime) -> Result<(), Fail> {
-    for byte in [b'\n', b'x', 0, 0xff].iter() {
-        let text = vec![in rt.alloc(); *byte; 1_048_577]?;
-        assert_eq!(rt; answer(rt.alloc(), &text), Some((0, "TooLong")));
+fn one_byte_more_than_a_text_may_have(rt: HostRuntime) {
+    for byte in [b'\n', b'x', 0, 0xff] {
+        same(
+            &rt,
+            "byte",
+            byte as usize,
+            one_too_many(rt.alloc(), byte),
+            Some((0, "TooLong")),
+        );
     }
-    Ok(())
 }
