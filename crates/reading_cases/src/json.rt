@@ -1,12 +1,11 @@
 //! What no clause says: whole values and their line texts or refusals, from outside. The expected answers are another
 //! program's, written apart from this one.
 
-use crate::answers::gives;
-use coll_lang::print;
+use crate::answers::{Answer, are_equal, holds, is_printed, same_answer};
 use json_lang::{JsonFault, lines_of, parse_json};
 use serde_json::Value;
 use std::alloc::{AllocError, Global};
-use std::test::Fail;
+use std::process::Abort;
 
 /// The members of one broadcast of a 7, after the first ones.
 const BEHIND: &str =
@@ -16,7 +15,7 @@ const BEHIND: &str =
 const TWO_RANKS: &str = r#"{"coll":1,"ranks":2,"inputs":[{"name":"a","type":"u8","rows":"#;
 
 /// The line and the name of a refusal; nothing where the bytes are accepted, or where there was no memory.
-fn answer(alloc: Global, bytes: &[u8]) -> Option<(u32, &'static str)> {
+fn answer(alloc: Global, bytes: &[u8]) -> Answer {
     match parse_json(alloc, bytes) {
         Ok(_) => None,
         Err(fault) => {
@@ -26,14 +25,64 @@ fn answer(alloc: Global, bytes: &[u8]) -> Option<(u32, &'static str)> {
     }
 }
 
+/// Bytes, and how many times they stand there.
+type Part<'a> = (&'a [u8], u32);
+
+/// Adds the bytes so many times.
+fn add(json: &mut Vec<u8>, bytes: &[u8], times: u32) -> Result<(), AllocError> {
+    for _ in 0..times {
+        json.extend_from_slice(bytes)?;
+    }
+    Ok(())
+}
+
+/// Adds the parts, one after the other.
+fn add_parts(json: &mut Vec<u8>, parts: &[Part]) -> Result<(), AllocError> {
+    for part in parts {
+        let (bytes, times) = *part;
+        add(json, bytes, times)?;
+    }
+    Ok(())
+}
+
+/// What reading answers to the parts, one after the other.
+fn answer_to(alloc: Global, parts: &[Part]) -> Answer {
+    let mut json = Vec::new(alloc);
+    match add_parts(&mut json, parts) {
+        Ok(()) => answer(alloc, &json),
+        Err(_) => Some((0, "NoMemory")),
+    }
+}
+
 /// Whether the bytes describe what that text does.
 fn describes(alloc: Global, json: &str, text: &str) -> bool {
-    let Ok(d) = parse_json(alloc, json.as_bytes()) else {
-        return false;
-    };
-    match print(alloc, &d) {
-        Ok(printed) => printed.as_slice() == text.as_bytes(),
+    match parse_json(alloc, json.as_bytes()) {
+        Ok(d) => is_printed(alloc, &d, text.as_bytes()),
         Err(_) => false,
+    }
+}
+
+/// Stops the test where a value doesn't describe what its text does.
+fn each_describes(rt: &(impl Abort + AllocGlobal), table: &str, cases: &[(&str, &str)]) {
+    for (i, case) in cases.iter().enumerate() {
+        holds(rt, table, i, describes(rt.alloc(), case.0, case.1));
+    }
+}
+
+/// Stops the test where one of these is read otherwise.
+fn each_gives(rt: &(impl Abort + AllocGlobal), table: &str, cases: &[&str], wanted: Answer) {
+    for (i, json) in cases.iter().enumerate() {
+        same_answer(rt, table, i, answer(rt.alloc(), json.as_bytes()), wanted);
+    }
+}
+
+/// A value, and what reading answers to it.
+type Case = (&'static str, Answer);
+
+/// Stops the test where one of the cases is read otherwise.
+fn cases_give(rt: &(impl Abort + AllocGlobal), table: &str, cases: &[Case]) {
+    for (i, case) in cases.iter().enumerate() {
+        same_answer(rt, table, i, answer(rt.alloc(), case.0.as_bytes()), case.1);
     }
 }
 
@@ -83,9 +132,7 @@ static DESCRIBED: [(&str, &str); 8] = [
 
 #[test]
 fn a_value_describes_what_its_line_text_describes(rt: HostRuntime) {
-    for (json, text) in DESCRIBED {
-        assert!(rt; describes(rt.alloc(), json, text));
-    }
+    each_describes(&rt, "DESCRIBED", &DESCRIBED);
 }
 
 /// No JSON, by the reading of `serde_json`.
@@ -109,10 +156,14 @@ static NO_JSON: [&str; 15] = [
 
 #[test]
 fn what_is_no_json(rt: HostRuntime) {
-    for json in NO_JSON {
-        assert_eq!(rt; answer(rt.alloc(), json.as_bytes()), Some((0, "BadJson")));
-    }
-    assert_eq!(rt; answer(rt.alloc(), b"\"\xff\""), Some((0, "BadJson")));
+    each_gives(&rt, "NO_JSON", &NO_JSON, Some((0, "BadJson")));
+    same_answer(
+        &rt,
+        "no text",
+        0,
+        answer(rt.alloc(), b"\"\xff\""),
+        Some((0, "BadJson")),
+    );
 }
 
 /// JSON, but no value of the form.
@@ -170,13 +221,11 @@ static NO_FORM: [&str; 49] = [
 
 #[test]
 fn what_is_not_of_the_form(rt: HostRuntime) {
-    for json in NO_FORM {
-        assert_eq!(rt; answer(rt.alloc(), json.as_bytes()), Some((0, "BadForm")));
-    }
+    each_gives(&rt, "NO_FORM", &NO_FORM, Some((0, "BadForm")));
 }
 
 /// Values of the form, refused at a line of their line text.
-static REFUSED: [(&str, Option<(u32, &str)>); 20] = [
+static REFUSED: [Case; 20] = [
     (
         r#"{"coll":1,"ranks":1,"inputs":[{"name":"a","type":"u8","rows":[[256]]}],"steps":[["broadcast",0,"a","b"]],"prints":["b"]}"#,
         Some((4, "BadNumber")),
@@ -246,13 +295,11 @@ static REFUSED: [(&str, Option<(u32, &str)>); 20] = [
 
 #[test]
 fn what_the_language_refuses(rt: HostRuntime) {
-    for (json, wanted) in REFUSED {
-        assert_eq!(rt; answer(rt.alloc(), json.as_bytes()), wanted);
-    }
+    cases_give(&rt, "REFUSED", &REFUSED);
 }
 
 /// Members of one name: the last one stands, and each must be a value.
-static REPEATED: [(&str, Option<(u32, &str)>); 7] = [
+static REPEATED: [Case; 7] = [
     (
         r#"{"coll":1,"ranks":2.5,"remote":true,"ranks":1,"remote":false}"#,
         None,
@@ -273,125 +320,223 @@ static REPEATED: [(&str, Option<(u32, &str)>); 7] = [
 
 #[test]
 fn the_last_of_two_members_of_one_name_stands(rt: HostRuntime) {
-    for (json, wanted) in REPEATED {
-        assert_eq!(rt; answer(rt.alloc(), json.as_bytes()), wanted);
-    }
+    cases_give(&rt, "REPEATED", &REPEATED);
     let json = r#"{"coll":1,"ranks":2.5,"remote":true,"ranks":1,"remote":false}"#;
-    assert!(rt; describes(rt.alloc(), json, "coll 1\nranks 1\nend\n"));
+    holds(
+        &rt,
+        "text",
+        0,
+        describes(rt.alloc(), json, "coll 1\nranks 1\nend\n"),
+    );
+}
+
+/// The first two members, and what reading answers to them before a broadcast.
+static NUMBERS: [Case; 9] = [
+    (r#""coll":1,"ranks":1"#, None),
+    (r#""coll":1,"ranks":1.0"#, Some((0, "BadForm"))),
+    (r#""coll":1,"ranks":1e0"#, Some((0, "BadForm"))),
+    (r#""coll":1,"ranks":-0"#, Some((0, "BadForm"))),
+    (
+        r#""coll":1,"ranks":18446744073709551615"#,
+        Some((2, "BadRanks")),
+    ),
+    (
+        r#""coll":1,"ranks":18446744073709551616"#,
+        Some((0, "BadForm")),
+    ),
+    (
+        r#""coll":1,"ranks":-9223372036854775808"#,
+        Some((2, "BadRanks")),
+    ),
+    (
+        r#""coll":1,"ranks":-9223372036854775809"#,
+        Some((0, "BadForm")),
+    ),
+    (r#""coll":1.0,"ranks":1e999"#, Some((0, "BadJson"))),
+];
+
+/// What reading answers to these members before a broadcast.
+fn with_members(alloc: Global, members: &str) -> Answer {
+    answer_to(
+        alloc,
+        &[
+            (b"{", 1),
+            (members.as_bytes(), 1),
+            (b",", 1),
+            (BEHIND.as_bytes(), 1),
+        ],
+    )
 }
 
 #[test]
-fn what_is_a_whole_number(rt: HostRuntime) -> Result<(), Fail> {
-    let cases: [(&str, Option<(u32, &'static str)>); 9] = [
-        (r#""coll":1,"ranks":1"#, None),
-        (r#""coll":1,"ranks":1.0"#, Some((0, "BadForm"))),
-        (r#""coll":1,"ranks":1e0"#, Some((0, "BadForm"))),
-        (r#""coll":1,"ranks":-0"#, Some((0, "BadForm"))),
-        (
-            r#""coll":1,"ranks":18446744073709551615"#,
-            Some((2, "BadRanks")),
-        ),
-        (
-            r#""coll":1,"ranks":18446744073709551616"#,
-            Some((0, "BadForm")),
-        ),
-        (
-            r#""coll":1,"ranks":-9223372036854775808"#,
-            Some((2, "BadRanks")),
-        ),
-        (
-            r#""coll":1,"ranks":-9223372036854775809"#,
-            Some((0, "BadForm")),
-        ),
-        (r#""coll":1.0,"ranks":1e999"#, Some((0, "BadJson"))),
-    ];
-    for (members, wanted) in cases {
-        let json: String = format!(in rt.alloc(); "{{{members},{BEHIND}")?;
-        assert_eq!(rt; answer(rt.alloc(), json.as_bytes()), wanted);
+fn what_is_a_whole_number(rt: HostRuntime) {
+    for (i, case) in NUMBERS.iter().enumerate() {
+        same_answer(&rt, "NUMBERS", i, with_members(rt.alloc(), case.0), case.1);
     }
-    Ok(())
+}
+
+/// What reading answers to a number of ranks of so many zeros after a one.
+fn with_zeros(alloc: Global, zeros: u32) -> Answer {
+    answer_to(
+        alloc,
+        &[(b"{\"coll\":1,\"ranks\":1", 1), (b"0", zeros), (b"}", 1)],
+    )
 }
 
 #[test]
-fn whole_numbers_of_many_digits(rt: HostRuntime) -> Result<(), Fail> {
-    let alloc = rt.alloc();
+fn whole_numbers_of_many_digits(rt: HostRuntime) {
     // Ten to the power of 308 is no whole number; of 309 it is too large for a double.
-    for (zeros, wanted) in [(308usize, "BadForm"), (309, "BadJson")] {
-        let mut json = Vec::from_slice(alloc, b"{\"coll\":1,\"ranks\":1")?;
-        json.extend_from_slice(vec![in alloc; b'0'; zeros]?.as_slice())?;
-        json.push(b'}')?;
-        assert_eq!(rt; answer(alloc, json.as_slice()), Some((0, wanted)));
-    }
-    Ok(())
+    same_answer(
+        &rt,
+        "zeros",
+        308,
+        with_zeros(rt.alloc(), 308),
+        Some((0, "BadForm")),
+    );
+    same_answer(
+        &rt,
+        "zeros",
+        309,
+        with_zeros(rt.alloc(), 309),
+        Some((0, "BadJson")),
+    );
+}
+
+/// The rows of two ranks, and what reading answers.
+static ROWS: [Case; 7] = [
+    ("[[1,2],[3,4]]", None),
+    ("[[1,2],[3]]", Some((5, "BadLine"))),
+    ("[[1],[2,3]]", Some((5, "BadLine"))),
+    ("[[1],[]]", Some((5, "BadLine"))),
+    ("[[],[1]]", Some((3, "BadNumber"))),
+    ("[[1,2],[3,4],[5,6]]", Some((6, "BadLine"))),
+    ("[[1,2]]", Some((5, "BadLine"))),
+];
+
+/// What reading answers to these rows of two ranks.
+fn with_rows(alloc: Global, rows: &str) -> Answer {
+    answer_to(
+        alloc,
+        &[(TWO_RANKS.as_bytes(), 1), (rows.as_bytes(), 1), (b"}]}", 1)],
+    )
 }
 
 #[test]
-fn rows_of_unequal_length(rt: HostRuntime) -> Result<(), Fail> {
-    let cases: [(&str, Option<(u32, &'static str)>); 7] = [
-        ("[[1,2],[3,4]]", None),
-        ("[[1,2],[3]]", Some((5, "BadLine"))),
-        ("[[1],[2,3]]", Some((5, "BadLine"))),
-        ("[[1],[]]", Some((5, "BadLine"))),
-        ("[[],[1]]", Some((3, "BadNumber"))),
-        ("[[1,2],[3,4],[5,6]]", Some((6, "BadLine"))),
-        ("[[1,2]]", Some((5, "BadLine"))),
-    ];
-    for (rows, wanted) in cases {
-        let json: String = format!(in rt.alloc(); "{TWO_RANKS}{rows}}}]}}")?;
-        assert_eq!(rt; answer(rt.alloc(), json.as_bytes()), wanted);
+fn rows_of_unequal_length(rt: HostRuntime) {
+    for (i, case) in ROWS.iter().enumerate() {
+        same_answer(&rt, "ROWS", i, with_rows(rt.alloc(), case.0), case.1);
     }
-    Ok(())
 }
 
-/// A description that prints a buffer so often.
-fn prints(alloc: Global, count: usize) -> Result<Vec<u8>, AllocError> {
-    let mut json = Vec::from_slice(alloc, b"{\"coll\":1,\"ranks\":1,\"prints\":[\"b\"")?;
-    for _ in 1..count {
-        json.extend_from_slice(b",\"b\"")?;
-    }
-    json.extend_from_slice(b"]}")?;
-    Ok(json)
+/// What reading answers to a description of 118 bytes and so many times 1,024 spaces and so many more.
+fn with_spaces(alloc: Global, blocks: u32, more: u32) -> Answer {
+    answer_to(
+        alloc,
+        &[
+            (DESCRIBED[0].0.as_bytes(), 1),
+            (&[b' '; 1024], blocks),
+            (b" ", more),
+        ],
+    )
+}
+
+/// What reading answers to so many spaces.
+fn spaces(alloc: Global, blocks: u32, more: u32) -> Answer {
+    answer_to(alloc, &[(&[b' '; 1024], blocks), (b" ", more)])
+}
+
+/// What reading answers to a description that prints a buffer so often.
+fn with_prints(alloc: Global, count: u32) -> Answer {
+    answer_to(
+        alloc,
+        &[
+            (b"{\"coll\":1,\"ranks\":1,\"prints\":[\"b\"", 1),
+            (b",\"b\"", count.saturating_sub(1)),
+            (b"]}", 1),
+        ],
+    )
+}
+
+/// What reading answers to so many levels of lists.
+fn levels(alloc: Global, count: u32) -> Answer {
+    answer_to(alloc, &[(b"[", count), (b"]", count)])
 }
 
 #[test]
-fn limits(rt: HostRuntime) -> Result<(), Fail> {
+fn limits(rt: HostRuntime) {
     let alloc = rt.alloc();
-    // The most bytes, and one more.
-    let mut json = Vec::from_slice(alloc, DESCRIBED[0].0.as_bytes())?;
-    json.extend_from_slice(vec![in alloc; b' '; 1_048_458]?.as_slice())?;
-    gives!(rt; answer(alloc, json.as_slice()), None);
-    json.push(b' ')?;
-    gives!(rt; answer(alloc, json.as_slice()), Some((0, "TooLong")));
+    // The most bytes, and one more: 1,048,458 spaces are 1,023 blocks and 906.
+    same_answer(&rt, "spaces", 906, with_spaces(alloc, 1023, 906), None);
+    same_answer(
+        &rt,
+        "spaces",
+        907,
+        with_spaces(alloc, 1023, 907),
+        Some((0, "TooLong")),
+    );
     // What isn't even JSON is too long first.
-    let spaces = vec![in alloc; b' '; 1_048_577]?;
-    gives!(rt; answer(alloc, spaces.as_slice()), Some((0, "TooLong")));
-    gives!(rt; answer(alloc, &spaces.as_slice()[1..]), Some((0, "BadJson")));
+    same_answer(
+        &rt,
+        "spaces",
+        1,
+        spaces(alloc, 1024, 1),
+        Some((0, "TooLong")),
+    );
+    same_answer(
+        &rt,
+        "spaces",
+        0,
+        spaces(alloc, 1024, 0),
+        Some((0, "BadJson")),
+    );
     // Line texts of 15 bytes, 8 for each print and 4: 1,048,579 bytes, and 1,048,571.
-    gives!(rt; answer(alloc, prints(alloc, 131_070)?.as_slice()), Some((0, "TooLong")));
-    gives!(rt; answer(alloc, prints(alloc, 131_069)?.as_slice()), Some((3, "UnknownBuffer")));
-    // 128 levels, and 127.
-    let mut deep = vec![in alloc; b'['; 128]?;
-    deep.extend_from_slice(vec![in alloc; b']'; 128]?.as_slice())?;
-    gives!(rt; answer(alloc, deep.as_slice()), Some((0, "BadJson")));
-    gives!(rt; answer(alloc, &deep.as_slice()[1..255]), Some((0, "BadForm")));
-    Ok(())
+    same_answer(
+        &rt,
+        "prints",
+        131_070,
+        with_prints(alloc, 131_070),
+        Some((0, "TooLong")),
+    );
+    same_answer(
+        &rt,
+        "prints",
+        131_069,
+        with_prints(alloc, 131_069),
+        Some((3, "UnknownBuffer")),
+    );
+    same_answer(&rt, "levels", 128, levels(alloc, 128), Some((0, "BadJson")));
+    same_answer(&rt, "levels", 127, levels(alloc, 127), Some((0, "BadForm")));
+}
+
+/// Whether the value's lines are these, whatever it describes.
+fn has_lines(alloc: Global, value: &Value, wanted: &[u8]) -> bool {
+    match lines_of(alloc, value) {
+        Ok(text) => are_equal(text.as_slice(), wanted),
+        Err(_) => false,
+    }
+}
+
+/// Whether the JSON is a value whose lines are these.
+fn reads_as_lines(alloc: Global, json: &str, wanted: &[u8]) -> bool {
+    match Value::from_str(alloc, json) {
+        Ok(value) => has_lines(alloc, &value, wanted),
+        Err(_) => false,
+    }
+}
+
+/// Whether the value is refused since it isn't of the form.
+fn is_bad_form(alloc: Global, value: &Value) -> bool {
+    matches!(lines_of(alloc, value), Err(JsonFault::BadForm))
 }
 
 #[test]
-fn lines_of_a_value_that_describes_nothing(rt: HostRuntime) -> Result<(), Fail> {
-    let alloc = rt.alloc();
+fn lines_of_a_value_that_describes_nothing(rt: HostRuntime) {
     let json =
         r#"{"coll":3,"ranks":-4,"groups":[["g",0,2],["h"]],"inputs":[{"name":"a","type":"t","rows":[[],[1,2]]},{"name":"b","type":"t","rows":[]}],"steps":[["on","g",7]]}"#;
-    let Ok(text) = lines_of(alloc, &Value::from_str(alloc, json)?) else {
-        panic!(rt; "no text")
-    };
-    assert_eq!(rt;
-        text.as_slice(),
-        b"coll 3\nranks -4\ngroup g 0 2\ngroup h\ninput a t 0\n\n1 2\ninput b t 0\non g 7\nend\n".as_slice()
-    );
-    let refused = lines_of(alloc, &Value::Null);
-    assert!(rt; matches!(refused, Err(JsonFault::BadForm)));
-    Ok(())
+    let wanted =
+        b"coll 3\nranks -4\ngroup g 0 2\ngroup h\ninput a t 0\n\n1 2\ninput b t 0\non g 7\nend\n";
+    holds(&rt, "lines", 0, reads_as_lines(rt.alloc(), json, wanted));
+    holds(&rt, "null", 0, is_bad_form(rt.alloc(), &Value::Null));
 }
 
 /// The examples that stand in both spellings: the JSON, and the text.
@@ -439,7 +584,5 @@ static EXAMPLES: [(&str, &str); 3] = [
 
 #[test]
 fn examples_in_both_spellings(rt: HostRuntime) {
-    for (json, text) in EXAMPLES {
-        assert!(rt; describes(rt.alloc(), json, text));
-    }
+    each_describes(&rt, "EXAMPLES", &EXAMPLES);
 }

@@ -1,81 +1,99 @@
 //! What no clause says: whole inputs and their answers, from outside.
 
-use coll_lang::{Description, ParseFault};
+ghost use Rattle.std.specs.Prelude.{◌<◌, length};
+
+use crate::answers::{Answer, gives, same_answer};
+use crate::texts::refusal;
 use order_lines::{Orders, parse_check};
 use ptl_types::{Lane, LocalStep};
+use std::alloc::Global;
+use std::process::Abort;
 
-/// The line and the name of a refusal; nothing where the input is read.
-fn answer(read: Result<(Description, Orders), ParseFault>) -> Option<(u32, &'static str)> {
-    match read {
+/// What reading answers to the input.
+fn answer(alloc: Global, text: &[u8]) -> Answer {
+    match parse_check(alloc, text) {
         Ok(_) => None,
-        Err(ParseFault::Refused { line, name }) => Some((line, name.word())),
-        Err(ParseFault::NoMemory) => Some((0, "NoMemory")),
+        Err(fault) => Some(refusal(fault)),
     }
 }
 
+static INPUTS: [(&[u8], Answer); 17] = [
+    (b"coll 1\nranks 1\nbarrier\nend\norder 0\n", None),
+    (
+        b"coll 1\nranks 1\nbarrier\nend\norder 0 x\n",
+        Some((5, "BadOrder")),
+    ),
+    (
+        b"coll 1\nranks 2\nbarrier\nend\norder 0 r2\norder 1\n",
+        Some((5, "BadOrder")),
+    ),
+    (
+        b"coll 1\nranks 2\nbarrier\nend\norder 0\norder 0\n",
+        Some((6, "BadOrder")),
+    ),
+    (
+        b"coll 1\nranks 1\nbarrier\nend\norder 0 f4294967296\n",
+        Some((5, "BadOrder")),
+    ),
+    (
+        b"coll 1\nranks 1\nbarrier\nend\norder 0 f99999999999999999999\n",
+        Some((5, "BadOrder")),
+    ),
+    (
+        b"coll 1\nranks 1\nbarrier\nend\norder 0 s \n",
+        Some((5, "BadOrder")),
+    ),
+    (
+        b"coll 1\nranks 1\nbarrier\nend\norder 0\ts\n",
+        Some((5, "BadByte")),
+    ),
+    (
+        b"coll 1\nranks 2\nbarrier\nend\norder 0 s\n",
+        Some((6, "Unended")),
+    ),
+    (
+        b"coll 1\nranks 1\nbarrier\nend\norder 0 s",
+        Some((5, "Unended")),
+    ),
+    (
+        b"coll 1\nranks 1\nbarrier\nend\norder 0 s\n\n",
+        Some((6, "AfterEnd")),
+    ),
+    (b"coll 3\nend\norder 0 x\n", Some((1, "BadHeader"))),
+    (b"coll 1\nranks 1\nbarrier\n", Some((4, "Unended"))),
+    (b"", Some((1, "Unended"))),
+    (
+        b"coll 2\nranks 2\nelect b\nend\norder 0 x\n",
+        Some((0, "OneThread")),
+    ),
+    (
+        b"coll 2\nranks 2\nelect b\nbarrier\nend\n",
+        Some((4, "BadLine")),
+    ),
+    (
+        b"coll 1\nranks 1\ninput end u8 1\n7\nprint end\nend\norder 0 f0\n",
+        None,
+    ),
+];
+
 #[test]
 fn inputs_and_their_refusals(rt: HostRuntime) {
-    let cases: [(&[u8], Option<(u32, &'static str)>); 17] = [
-        (b"coll 1\nranks 1\nbarrier\nend\norder 0\n", None),
-        (
-            b"coll 1\nranks 1\nbarrier\nend\norder 0 x\n",
-            Some((5, "BadOrder")),
-        ),
-        (
-            b"coll 1\nranks 2\nbarrier\nend\norder 0 r2\norder 1\n",
-            Some((5, "BadOrder")),
-        ),
-        (
-            b"coll 1\nranks 2\nbarrier\nend\norder 0\norder 0\n",
-            Some((6, "BadOrder")),
-        ),
-        (
-            b"coll 1\nranks 1\nbarrier\nend\norder 0 f4294967296\n",
-            Some((5, "BadOrder")),
-        ),
-        (
-            b"coll 1\nranks 1\nbarrier\nend\norder 0 f99999999999999999999\n",
-            Some((5, "BadOrder")),
-        ),
-        (
-            b"coll 1\nranks 1\nbarrier\nend\norder 0 s \n",
-            Some((5, "BadOrder")),
-        ),
-        (
-            b"coll 1\nranks 1\nbarrier\nend\norder 0\ts\n",
-            Some((5, "BadByte")),
-        ),
-        (
-            b"coll 1\nranks 2\nbarrier\nend\norder 0 s\n",
-            Some((6, "Unended")),
-        ),
-        (
-            b"coll 1\nranks 1\nbarrier\nend\norder 0 s",
-            Some((5, "Unended")),
-        ),
-        (
-            b"coll 1\nranks 1\nbarrier\nend\norder 0 s\n\n",
-            Some((6, "AfterEnd")),
-        ),
-        (b"coll 3\nend\norder 0 x\n", Some((1, "BadHeader"))),
-        (b"coll 1\nranks 1\nbarrier\n", Some((4, "Unended"))),
-        (b"", Some((1, "Unended"))),
-        (
-            b"coll 2\nranks 2\nelect b\nend\norder 0 x\n",
-            Some((0, "OneThread")),
-        ),
-        (
-            b"coll 2\nranks 2\nelect b\nbarrier\nend\n",
-            Some((4, "BadLine")),
-        ),
-        (
-            b"coll 1\nranks 1\ninput end u8 1\n7\nprint end\nend\norder 0 f0\n",
-            None,
-        ),
-    ];
-    for (text, wanted) in cases.iter() {
-        assert_eq!(rt; answer(parse_check(rt.alloc(), text)), *wanted);
+    for (i, case) in INPUTS.iter().enumerate() {
+        same_answer(&rt, "INPUTS", i, answer(rt.alloc(), case.0), case.1);
     }
+}
+
+/// The orders of two ranks, of which the second has none.
+fn orders_of_two(rt: &impl Abort, orders: &Orders)
+    requires { 1 < length orders.now }
+{
+    let answer = LocalStep::Receive {
+        source: 1,
+        lane: Lane::Answer,
+    };
+    let steps = [LocalStep::Start, LocalStep::Fire { number: 0 }, answer];
+    gives!(rt; orders.steps(0), steps.as_slice());
+    gives!(rt; orders.steps(1).len(), 0);
 }
 
 #[test]
@@ -84,12 +102,7 @@ fn the_orders_of_two_ranks(rt: HostRuntime) {
     let Ok((description, orders)) = parse_check(rt.alloc(), text) else {
         panic!(rt; "refused")
     };
-    let answer = LocalStep::Receive {
-        source: 1,
-        lane: Lane::Answer,
-    };
-    let steps = [LocalStep::Start, LocalStep::Fire { number: 0 }, answer];
+    // What the ranks are is needed below, so it is compared here.
     assert_eq!(rt; description.shape().ranks(), 2);
-    assert_eq!(rt; orders.steps(0), steps.as_slice());
-    assert_eq!(rt; orders.steps(1).len(), 0);
+    orders_of_two(&rt, &orders);
 }
