@@ -1,5 +1,6 @@
 //! What is drawn: each cell and each link of a plan's text once, each local step of an order text once.
 
+use crate::answers::is_fault;
 use plan_lines::{Refusal, TextFault};
 use plan_pictures::{order_picture, plan_picture};
 use std::process::Abort;
@@ -26,110 +27,122 @@ fn count(text: &str, word: &str) -> usize {
     found.saturating_sub(1)
 }
 
-fn draws_each(rt: &impl Abort, picture: &str, ids: &[&str]) {
-    for id in ids {
-        assert_eq!(rt; count(picture, id), 1, "at {id}");
+/// Stops the test where a word doesn't stand so often in the picture.
+fn has_word(rt: &impl Abort, picture: &str, word: &str, times: usize) {
+    assert_eq!(rt; count(picture, word), times, "at {word}");
+}
+
+/// A word, and how many times it stands in a picture.
+type Word = (&'static str, usize);
+
+/// Stops the test where one of the words doesn't stand so often in the picture.
+fn has_words(rt: &impl Abort, picture: &str, words: &[Word]) {
+    for word in words {
+        has_word(rt, picture, word.0, word.1);
     }
 }
 
-#[test]
-fn a_plan_is_drawn_whole(rt: HostRuntime) -> Result<(), Fail> {
-    let picture = plan_picture(rt.alloc(), ONE_RANK.as_bytes())?;
-    let picture = picture.as_str();
-    draws_each(
-        &rt,
-        picture,
-        &[
-            "id=\"cell-0\"",
-            "id=\"cell-1\"",
-            "id=\"cell-2\"",
-            "id=\"cell-3\"",
-            "id=\"link-0\"",
-            "id=\"link-1\"",
-            "id=\"link-2\"",
-            "id=\"link-3\"",
-            ">rank 0<",
-            ">done at 4<",
-            ">step 1<",
-        ],
-    );
-    assert_eq!(rt; count(picture, "id=\"cell-"), 4);
-    assert_eq!(rt; count(picture, "id=\"link-"), 4);
-    assert_eq!(rt; count(picture, "<svg "), 1);
-    assert_eq!(rt; count(picture, "</svg>"), 1);
-    Ok(())
+/// Stops the test where one of the words doesn't stand so often in the plan's picture.
+fn plan_has(rt: &(impl Abort + AllocGlobal), plan: &str, words: &[Word]) {
+    let Ok(picture) = plan_picture(rt.alloc(), plan.as_bytes()) else {
+        panic!(rt; "no picture of the plan")
+    };
+    has_words(rt, picture.as_str(), words);
 }
 
-#[test]
-fn steps_are_told_apart(rt: HostRuntime) -> Result<(), Fail> {
-    let picture = plan_picture(rt.alloc(), TWO_STEPS.as_bytes())?;
-    let picture = picture.as_str();
-    let steps = [
-        ">step 1<",
-        ">step 2<",
-        "class=\"band-1\"",
-        "class=\"band-2\"",
-    ];
-    draws_each(&rt, picture, &steps);
-    assert_eq!(rt; count(picture, ">step 3<"), 0);
-    assert_eq!(rt;
-        count(
-            picture,
-            "class=\"atomic\" marker-end=\"url(#atomic-head)\" d=\"M"
-        ),
-        2
-    );
-    Ok(())
+/// Stops the test where one of the words doesn't stand so often in the orders' picture.
+fn orders_have(rt: &(impl Abort + AllocGlobal), orders: &str, words: &[Word]) {
+    let Ok(picture) = order_picture(rt.alloc(), orders.as_bytes()) else {
+        panic!(rt; "no picture of the orders")
+    };
+    has_words(rt, picture.as_str(), words);
 }
+
+static WHOLE: [Word; 15] = [
+    ("id=\"cell-0\"", 1),
+    ("id=\"cell-1\"", 1),
+    ("id=\"cell-2\"", 1),
+    ("id=\"cell-3\"", 1),
+    ("id=\"link-0\"", 1),
+    ("id=\"link-1\"", 1),
+    ("id=\"link-2\"", 1),
+    ("id=\"link-3\"", 1),
+    (">rank 0<", 1),
+    (">done at 4<", 1),
+    (">step 1<", 1),
+    ("id=\"cell-", 4),
+    ("id=\"link-", 4),
+    ("<svg ", 1),
+    ("</svg>", 1),
+];
+
+#[test]
+fn a_plan_is_drawn_whole(rt: HostRuntime) {
+    plan_has(&rt, ONE_RANK, &WHOLE);
+}
+
+static STEPS: [Word; 6] = [
+    (">step 1<", 1),
+    (">step 2<", 1),
+    ("class=\"band-1\"", 1),
+    ("class=\"band-2\"", 1),
+    (">step 3<", 0),
+    ("class=\"atomic\" marker-end=\"url(#atomic-head)\" d=\"M", 2),
+];
+
+#[test]
+fn steps_are_told_apart(rt: HostRuntime) {
+    plan_has(&rt, TWO_STEPS, &STEPS);
+}
+
+/// The local steps of the plan of one rank.
+const ORDERS: &str = "b 0 7\nrest\norder 0 s f0 f4 f1 f2 f5 r0 f3 f6 r0 f7\n";
+
+static ALONE: [Word; 5] = [
+    ("id=\"step-0-", 11),
+    ("id=\"step-0-1\"", 1),
+    ("id=\"step-0-11\"", 1),
+    (">f7<", 1),
+    ("<path class=\"put\"", 0),
+];
+
+static WITH_PLAN: [Word; 4] = [
+    ("id=\"step-0-", 11),
+    ("<path class=\"put\"", 2),
+    ("from rank 0, step 5 to rank 0, step 7<", 1),
+    ("from rank 0, step 8 to rank 0, step 10<", 1),
+];
 
 #[test]
 fn orders_are_drawn_whole(rt: HostRuntime) -> Result<(), Fail> {
-    let orders = "b 0 7\nrest\norder 0 s f0 f4 f1 f2 f5 r0 f3 f6 r0 f7\n";
-    let alone = order_picture(rt.alloc(), orders.as_bytes())?;
-    assert_eq!(rt; count(alone.as_str(), "id=\"step-0-"), 11);
-    draws_each(
-        &rt,
-        alone.as_str(),
-        &["id=\"step-0-1\"", "id=\"step-0-11\"", ">f7<"],
-    );
-    assert_eq!(rt; count(alone.as_str(), "<path class=\"put\""), 0);
-    let both = format!(in rt.alloc(); "{ONE_RANK}{orders}")?;
-    let with_plan = order_picture(rt.alloc(), both.as_bytes())?;
-    assert_eq!(rt; count(with_plan.as_str(), "id=\"step-0-"), 11);
-    assert_eq!(rt; count(with_plan.as_str(), "<path class=\"put\""), 2);
-    draws_each(
-        &rt,
-        with_plan.as_str(),
-        &[
-            "from rank 0, step 5 to rank 0, step 7<",
-            "from rank 0, step 8 to rank 0, step 10<",
-        ],
-    );
+    orders_have(&rt, ORDERS, &ALONE);
+    let both = format!(in rt.alloc(); "{ONE_RANK}{ORDERS}")?;
+    orders_have(&rt, both.as_str(), &WITH_PLAN);
     Ok(())
 }
 
 #[test]
 fn other_texts_have_no_picture(rt: HostRuntime) {
-    let answer = plan_picture(rt.alloc(), b"plan 1 4 20001 local\n");
-    assert!(rt;
-        matches!(
-            answer,
-            Err(TextFault::Refused {
-                line: 1,
-                name: Refusal::TooManyLinks
-            })
-        ),
-        "too many links"
+    let plan = "plan 1 4 20001 local\n";
+    let fault = plan_picture(rt.alloc(), plan.as_bytes()).err();
+    is_fault(
+        &rt,
+        plan,
+        fault,
+        TextFault::Refused {
+            line: 1,
+            name: Refusal::TooManyLinks,
+        },
     );
-    let answer = order_picture(rt.alloc(), b"rest\n");
-    assert!(rt;
-        matches!(
-            answer,
-            Err(TextFault::Refused {
-                line: 2,
-                name: Refusal::NotAnOrder
-            })
-        ),
-        "no order"
+    let orders = "rest\n";
+    let fault = order_picture(rt.alloc(), orders.as_bytes()).err();
+    is_fault(
+        &rt,
+        orders,
+        fault,
+        TextFault::Refused {
+            line: 2,
+            name: Refusal::NotAnOrder,
+        },
     );
 }
