@@ -68,7 +68,8 @@ fn an_acknowledgement_is_counted_and_told(rt: HostRuntime) {
         HereTells(FIRST, &[START_TOLD, ACK_TOLD]),
         Here(MdRelease(FIRST), Done),
     ];
-    play(&rt, &[PAIR, SCRIPT]);
+    const SCRIPTS: &[&[Step]] = &[PAIR, SCRIPT];
+    play(&rt, SCRIPTS);
 }
 
 #[test]
@@ -90,7 +91,8 @@ fn an_acknowledgement_of_what_was_dropped_counts_a_failure(rt: HostRuntime) {
         Here(CtGet(FIRST), Counts(1, 1)),
         HereTells(FIRST, &[START_TOLD, FAILED]),
     ];
-    play(&rt, &[PAIR, SCRIPT]);
+    const SCRIPTS: &[&[Step]] = &[PAIR, SCRIPT];
+    play(&rt, SCRIPTS);
 }
 
 #[test]
@@ -106,7 +108,8 @@ fn a_counted_acknowledgement_raises_no_event(rt: HostRuntime) {
         Here(CtGet(FIRST), Counts(1, 0)),
         HereTells(FIRST, &[START_TOLD]),
     ];
-    play(&rt, &[PAIR, SCRIPT]);
+    const SCRIPTS: &[&[Step]] = &[PAIR, SCRIPT];
+    play(&rt, SCRIPTS);
 }
 
 #[test]
@@ -120,5 +123,6 @@ fn an_answer_that_nobody_awaits_is_dropped(rt: HostRuntime) {
         Here(CtGet(FIRST), Counts(0, 0)),
         HereTells(FIRST, &[]),
     ];
-    play(&rt, &[PAIR, SCRIPT]);
+    const SCRIPTS: &[&[Step]] = &[PAIR, SCRIPT];
+    play(&rt, SCRIPTS);
 }

@@ -1,6 +1,6 @@
 //! Every call once with ample memory, where no script has it.
 
-use crate::scene::play;
+use crate::scene::play_one;
 use crate::steps::Answer::*;
 use crate::steps::Call::*;
 use crate::steps::Step::{self, *};
@@ -22,7 +22,7 @@ fn a_new_interface_has_nothing(rt: HostRuntime) {
         Here(Ready, Nothing),
         Here(IsReady(0), No),
     ];
-    play(&rt, &[SCRIPT]);
+    play_one(&rt, SCRIPT);
 }
 
 #[test]
@@ -43,7 +43,7 @@ fn what_is_made_goes(rt: HostRuntime) {
         Here(CtFree(FIRST), Done),
         Here(EqFree(FIRST), Done),
     ];
-    play(&rt, &[SCRIPT]);
+    play_one(&rt, SCRIPT);
 }
 
 #[test]
@@ -62,5 +62,5 @@ fn a_handle_never_comes_back(rt: HostRuntime) {
         Here(Awaits(FIRST), Refused(Stale)),
         Here(MeUnlink(FIRST), Refused(Stale)),
     ];
-    play(&rt, &[SCRIPT]);
+    play_one(&rt, SCRIPT);
 }

@@ -1,6 +1,6 @@
 //! Counting events and the triggered operations that wait on them (Portals 4.3, counting events and triggered operations).
 
-use crate::scene::play;
+use crate::scene::play_one;
 use crate::steps::Answer::*;
 use crate::steps::Call::*;
 use crate::steps::Step::{self, *};
@@ -32,7 +32,7 @@ fn an_increment_waits_for_its_threshold(rt: HostRuntime) {
         Here(Pending, Number(0)),
         Here(CtFree(FIRST), Done),
     ];
-    play(&rt, &[SCRIPT]);
+    play_one(&rt, SCRIPT);
 }
 
 #[test]
@@ -54,7 +54,7 @@ fn an_operation_is_ready_only_while_its_sum_is_reached(rt: HostRuntime) {
         Here(Fire(0), Nothing),
         Here(CtGet(SECOND), Counts(1, 0)),
     ];
-    play(&rt, &[SCRIPT]);
+    play_one(&rt, SCRIPT);
 }
 
 #[test]
@@ -97,7 +97,7 @@ fn tables_fill_and_handles_go(rt: HostRuntime) {
         Here(MdRelease(FIRST), Done),
         Here(Start(Deed::Put(INSIDE)), Refused(Stale)),
     ];
-    play(&rt, &[SCRIPT]);
+    play_one(&rt, SCRIPT);
 }
 
 #[test]
@@ -116,5 +116,5 @@ fn a_delivery_counts_no_further_than_the_end(rt: HostRuntime) {
         Comes(PUT, &[2], Outcome::Matched),
         Here(CtGet(FIRST), Counts(u64::MAX - 1, 1)),
     ];
-    play(&rt, &[SCRIPT]);
+    play_one(&rt, SCRIPT);
 }

@@ -1,6 +1,6 @@
 //! Triggered operations of each kind (Portals 4.3, triggered operations).
 
-use crate::scene::play;
+use crate::scene::play_one;
 use crate::steps::Answer::*;
 use crate::steps::Call::*;
 use crate::steps::Step::{self, *};
@@ -52,7 +52,7 @@ fn a_put_reads_its_bytes_when_it_fires(rt: HostRuntime) {
         HereTells(FIRST, &[START_TOLD]),
         Here(IsReady(0), No),
     ];
-    play(&rt, &[SCRIPT]);
+    play_one(&rt, SCRIPT);
 }
 
 /// The other starts, of one byte from rank 0 to itself that comes back to byte 8, and the headers of their messages.
@@ -119,7 +119,7 @@ fn the_other_starts_fire_too(rt: HostRuntime) {
         Here(Carries(SWAP_HEADER, &[6]), Yes),
         Here(Pending, Number(0)),
     ];
-    play(&rt, &[SCRIPT]);
+    play_one(&rt, SCRIPT);
 }
 
 #[test]
@@ -146,7 +146,7 @@ fn a_set_replaces_and_an_increment_stops_at_the_end(rt: HostRuntime) {
         Here(Fire(1), Nothing),
         Here(CtGet(SECOND), Counts(u64::MAX, 0)),
     ];
-    play(&rt, &[SCRIPT]);
+    play_one(&rt, SCRIPT);
 }
 
 #[test]
@@ -170,5 +170,5 @@ fn a_triggered_put_awaits_its_acknowledgement_from_its_firing(rt: HostRuntime) {
         Here(Awaits(FIRST), Number(0)),
         Here(MdRelease(FIRST), Done),
     ];
-    play(&rt, &[SCRIPT]);
+    play_one(&rt, SCRIPT);
 }

@@ -90,67 +90,74 @@ fn firing_fault(nic: &mut Nic, number: u32) -> Option<Misuse> {
     fire(nic, number).err()
 }
 
+/// Starts, and why each isn't made.
+const PUTS_AND_GETS: &[(Deed, CallFault)] = &[
+    (
+        Deed::Put(PutArgs { target: 2, ..PUT }),
+        CallFault::Misused(Misuse::UnknownRank),
+    ),
+    (Deed::Put(LONG), CallFault::Misused(Misuse::TooLong)),
+    (
+        Deed::Get(GetArgs {
+            target: 2,
+            length: 4097,
+            ..GET
+        }),
+        CallFault::Misused(Misuse::UnknownRank),
+    ),
+    (Deed::Put(PUT), STALE),
+    (Deed::Get(GET), STALE),
+];
+
+const SUM: AtomicOp = AtomicOp::Sum;
+
+const ATOMICS_AND_SWAPS: &[(Deed, CallFault)] = &[
+    (
+        Deed::Atomic(PutArgs { length: 3, ..PUT }, SUM, ElemType::U16),
+        CallFault::Misused(Misuse::PartialElement),
+    ),
+    (
+        Deed::FetchAtomic(GetArgs { pt: 1, ..GET }, PUT, SUM, ElemType::U16),
+        CallFault::Misused(Misuse::HalvesDiffer),
+    ),
+    (
+        Deed::FetchAtomic(
+            GET,
+            PutArgs {
+                ack: AckRequest::Ack,
+                ..PUT
+            },
+            SUM,
+            ElemType::U16,
+        ),
+        CallFault::Misused(Misuse::AsksAcknowledgement),
+    ),
+    (
+        Deed::Swap(GET, PUT, SwapOp::Swap, ElemType::U16, 7),
+        CallFault::Misused(Misuse::PartialElement),
+    ),
+    (Deed::Swap(GET, PUT, SwapOp::Swap, ElemType::U32, 7), STALE),
+];
+
+/// None of these starts is made, each for its reason.
+fn are_refused(rt: &impl Abort, nic: &mut Nic, starts: &[(Deed, CallFault)]) {
+    for (deed, fault) in starts {
+        gives!(rt; start_fault(nic, *deed), Some(*fault));
+    }
+}
+
 #[test]
 fn puts_and_gets(rt: HostRuntime) {
     let mut nic = side(&rt);
-    for (deed, fault) in [
-        (
-            Deed::Put(PutArgs { target: 2, ..PUT }),
-            CallFault::Misused(Misuse::UnknownRank),
-        ),
-        (Deed::Put(LONG), CallFault::Misused(Misuse::TooLong)),
-        (
-            Deed::Get(GetArgs {
-                target: 2,
-                length: 4097,
-                ..GET
-            }),
-            CallFault::Misused(Misuse::UnknownRank),
-        ),
-        (Deed::Put(PUT), STALE),
-        (Deed::Get(GET), STALE),
-    ] {
-        assert_eq!(rt; start_fault(&mut nic, deed), Some(fault));
-    }
+    are_refused(&rt, &mut nic, PUTS_AND_GETS);
 }
 
 #[test]
 fn atomics_and_swaps(rt: HostRuntime) {
     let mut nic = side(&rt);
-    let sum = AtomicOp::Sum;
-    for (deed, fault) in [
-        (
-            Deed::Atomic(PutArgs { length: 3, ..PUT }, sum, ElemType::U16),
-            CallFault::Misused(Misuse::PartialElement),
-        ),
-        (
-            Deed::FetchAtomic(GetArgs { pt: 1, ..GET }, PUT, sum, ElemType::U16),
-            CallFault::Misused(Misuse::HalvesDiffer),
-        ),
-        (
-            Deed::FetchAtomic(
-                GET,
-                PutArgs {
-                    ack: AckRequest::Ack,
-                    ..PUT
-                },
-                sum,
-                ElemType::U16,
-            ),
-            CallFault::Misused(Misuse::AsksAcknowledgement),
-        ),
-        (
-            Deed::Swap(GET, PUT, SwapOp::Swap, ElemType::U16, 7),
-            CallFault::Misused(Misuse::PartialElement),
-        ),
-        (Deed::Swap(GET, PUT, SwapOp::Swap, ElemType::U32, 7), STALE),
-    ] {
-        assert_eq!(rt; start_fault(&mut nic, deed), Some(fault));
-    }
-    assert_eq!(rt;
-        triggered_fault(&mut nic, Deed::Put(LONG), MD, 1),
-        Some(CallFault::Misused(Misuse::TooLong))
-    );
+    are_refused(&rt, &mut nic, ATOMICS_AND_SWAPS);
+    let too_long = CallFault::Misused(Misuse::TooLong);
+    gives!(rt; triggered_fault(&mut nic, Deed::Put(LONG), MD, 1), Some(too_long));
 }
 
 #[test]

@@ -1,7 +1,7 @@
 //! Locally managed and use-once entries of the priority list, ignored match bits, headers of atomics, and an overflow entry
 //! that is freed (Portals 4.3, list entries and unexpected messages).
 
-use crate::scene::play;
+use crate::scene::{play, play_one};
 use crate::steps::Answer::*;
 use crate::steps::Call::*;
 use crate::steps::Step::{self, *};
@@ -50,7 +50,8 @@ fn a_locally_managed_entry_fills_and_is_unlinked(rt: HostRuntime) {
         HereHolds(&[1, 2, 3, 4, 0, 0, 0, 0, 0, 0, 0, 0, 0, 0, 0, 0]),
         HereTells(FIRST, &[LINKED, PUT_TOLD, BEHIND_TOLD, UNLINKED]),
     ];
-    play(&rt, &[TELLING, SCRIPT]);
+    const SCRIPTS: &[&[Step]] = &[TELLING, SCRIPT];
+    play(&rt, SCRIPTS);
 }
 
 #[test]
@@ -60,7 +61,8 @@ fn a_use_once_entry_tells_the_put_and_then_its_unlinking(rt: HostRuntime) {
         Comes(TO_ONE, &[1, 2], Outcome::Matched),
         HereTells(FIRST, &[LINKED, PUT_TOLD, UNLINKED]),
     ];
-    play(&rt, &[TELLING, SCRIPT]);
+    const SCRIPTS: &[&[Step]] = &[TELLING, SCRIPT];
+    play(&rt, SCRIPTS);
 }
 
 #[test]
@@ -81,7 +83,8 @@ fn a_persistent_append_takes_the_header_of_an_atomic_and_frees_its_entry(rt: Hos
         Here(MeAppend(1, List::Priority, ENTRY), Linked(1)),
         HereTells(FIRST, &[LINKED, UNLINKED, TAKEN, FREED, LINKED]),
     ];
-    play(&rt, &[TELLING, SCRIPT]);
+    const SCRIPTS: &[&[Step]] = &[TELLING, SCRIPT];
+    play(&rt, SCRIPTS);
 }
 
 #[test]
@@ -110,7 +113,7 @@ fn ignored_bits_are_not_compared(rt: HostRuntime) {
         Comes(LOW, &[1], Outcome::Dropped),
         Comes(HIGH, &[1], Outcome::Dropped),
     ];
-    play(&rt, &[SCRIPT]);
+    play_one(&rt, SCRIPT);
 }
 
 #[test]
@@ -123,5 +126,5 @@ fn a_counter_that_an_increment_alone_counts_on_is_in_use(rt: HostRuntime) {
         Here(CtCancel(FIRST), Number(1)),
         Here(CtFree(SECOND), Done),
     ];
-    play(&rt, &[SCRIPT]);
+    play_one(&rt, SCRIPT);
 }

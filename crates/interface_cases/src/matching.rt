@@ -1,6 +1,6 @@
 //! Which entry takes a message, and how much of it is delivered (Portals 4.3, matching and list entries).
 
-use crate::scene::play;
+use crate::scene::play_one;
 use crate::steps::Answer::*;
 use crate::steps::Call::*;
 use crate::steps::Step::{self, *};
@@ -28,7 +28,7 @@ fn use_once_entries_go_with_their_first_message(rt: HostRuntime) {
         Here(CtGet(FIRST), Counts(2, 0)),
         Here(MeUnlink(FIRST), Refused(Stale)),
     ];
-    play(&rt, &[SCRIPT]);
+    play_one(&rt, SCRIPT);
 }
 
 /// A put that reaches past the end of an entry of four bytes, and one that begins past it.
@@ -52,7 +52,7 @@ fn a_put_is_cut_at_the_end_of_its_entry(rt: HostRuntime) {
         HereHolds(&[0, 1, 2, 3, 0, 0, 0, 0, 0, 0, 0, 0, 0, 0, 0, 0]),
         Here(Drops, Number(0)),
     ];
-    play(&rt, &[SCRIPT]);
+    play_one(&rt, SCRIPT);
 }
 
 #[test]
@@ -68,7 +68,7 @@ fn a_put_that_may_not_be_cut_is_dropped(rt: HostRuntime) {
         HereHolds(&[0, 1, 2, 3, 0, 0, 0, 0, 0, 0, 0, 0, 0, 0, 0, 0]),
         Here(Drops, Number(1)),
     ];
-    play(&rt, &[SCRIPT]);
+    play_one(&rt, SCRIPT);
 }
 
 #[test]
@@ -85,7 +85,7 @@ fn the_first_match_that_forbids_a_put_ends_the_search(rt: HostRuntime) {
         Here(Drops, Number(0)),
         HereHolds(&[0, 0, 0, 0, 0, 0, 0, 0, 0, 0, 0, 0, 0, 0, 0, 0]),
     ];
-    play(&rt, &[SCRIPT]);
+    play_one(&rt, SCRIPT);
 }
 
 #[test]
@@ -102,7 +102,7 @@ fn a_violation_unlinks_nothing(rt: HostRuntime) {
         Here(MeUnlink(FIRST), Done),
         Comes(PUT, &[1], Outcome::Matched),
     ];
-    play(&rt, &[SCRIPT]);
+    play_one(&rt, SCRIPT);
 }
 
 #[test]
@@ -117,7 +117,7 @@ fn an_index_that_is_not_allocated_drops(rt: HostRuntime) {
         Comes(LAST, &[1], Outcome::Dropped),
         Here(Drops, Number(3)),
     ];
-    play(&rt, &[SCRIPT]);
+    play_one(&rt, SCRIPT);
 }
 
 #[test]
@@ -140,5 +140,5 @@ fn a_rank_sends_to_itself(rt: HostRuntime) {
         Comes(PUT, &[3], Outcome::Dropped),
         HereHolds(&[1, 2, 0, 0, 0, 0, 0, 0, 1, 2, 0, 0, 0, 0, 0, 0]),
     ];
-    play(&rt, &[SCRIPT]);
+    play_one(&rt, SCRIPT);
 }

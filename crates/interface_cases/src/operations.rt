@@ -1,6 +1,6 @@
 //! Gets, atomics, fetching atomics and swaps with their replies (Portals 4.3, data movement and atomic operations).
 
-use crate::scene::play;
+use crate::scene::{play, play_one};
 use crate::steps::Answer::*;
 use crate::steps::Call::*;
 use crate::steps::Step::{self, *};
@@ -67,7 +67,7 @@ fn fetching_operations_answer_the_old_element(rt: HostRuntime) {
         There(Deliver, Became(Outcome::Answered)),
         ThereHolds(&[3, 0, 0, 0, 0, 0, 0, 0, 0x9f, 0, 0, 0, 0, 0, 0, 0]),
     ];
-    play(&rt, &[SCRIPT]);
+    play_one(&rt, SCRIPT);
 }
 
 #[test]
@@ -96,7 +96,7 @@ fn an_operand_wider_than_the_element_never_equals_it_and_names_no_bit_beyond(rt:
         Here(Deliver, Replies(Outcome::Matched)),
         HereHolds(&[9, 1, 0, 0, 0, 0, 0, 0, 0, 0, 0, 0, 0, 0, 0, 0]),
     ];
-    play(&rt, &[SCRIPT]);
+    play_one(&rt, SCRIPT);
 }
 
 #[test]
@@ -125,7 +125,7 @@ fn a_get_brings_home_what_an_atomic_left(rt: HostRuntime) {
         There(Deliver, Became(Outcome::Answered)),
         ThereHolds(&[5, 0, 0, 0, 0, 0, 0, 0, 5, 0, 0, 0, 0, 0, 0, 0]),
     ];
-    play(&rt, &[SCRIPT]);
+    play_one(&rt, SCRIPT);
 }
 
 #[test]
@@ -140,7 +140,7 @@ fn an_atomic_is_cut_to_whole_elements(rt: HostRuntime) {
         Here(Deliver, Became(Outcome::Matched)),
         HereHolds(&[1, 2, 0, 0, 0, 0, 0, 0, 0, 0, 0, 0, 0, 0, 0, 0]),
     ];
-    play(&rt, &[SCRIPT]);
+    play_one(&rt, SCRIPT);
 }
 
 /// Rank 0 has a queue at index 1, and an entry there that begins at byte 2 and counts its messages.
@@ -199,7 +199,8 @@ fn puts_and_gets_raise_their_events(rt: HostRuntime) {
         Here(CtGet(FIRST), Counts(2, 0)),
         HereTells(FIRST, &[LINKED, PUT_TOLD, GET_TOLD]),
     ];
-    play(&rt, &[TELLING, SCRIPT]);
+    const SCRIPTS: &[&[Step]] = &[TELLING, SCRIPT];
+    play(&rt, SCRIPTS);
 }
 
 /// The starts of one byte to that byte, and the events that they raise there.
@@ -259,7 +260,8 @@ fn atomics_and_fetching_operations_raise_their_events(rt: HostRuntime) {
         HereHolds(&[0, 0, 0, 9, 0, 0, 0, 0, 0, 0, 0, 0, 0, 0, 0, 0]),
         HereTells(FIRST, &[LINKED, ATOMIC_TOLD, FETCH_TOLD, FETCH_TOLD]),
     ];
-    play(&rt, &[TELLING, SCRIPT]);
+    const SCRIPTS: &[&[Step]] = &[TELLING, SCRIPT];
+    play(&rt, SCRIPTS);
 }
 
 /// An entry that allows puts alone, and one for match bits 6 that allows gets alone.
@@ -319,5 +321,5 @@ fn an_entry_allows_puts_gets_or_both(rt: HostRuntime) {
         Here(Violations, Number(4)),
         Here(Drops, Number(0)),
     ];
-    play(&rt, &[SCRIPT]);
+    play_one(&rt, SCRIPT);
 }

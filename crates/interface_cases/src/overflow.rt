@@ -1,6 +1,6 @@
 //! The overflow list and the unexpected headers that it leaves (Portals 4.3, unexpected messages and searching).
 
-use crate::scene::play;
+use crate::scene::{play, play_one};
 use crate::steps::Answer::*;
 use crate::steps::Call::*;
 use crate::steps::Step::{self, *};
@@ -107,7 +107,8 @@ fn use_once_appends_take_the_headers_in_order(rt: HostRuntime) {
         Here(EqGet(FIRST), Got(LINKED)),
         Here(EqGet(FIRST), Empty),
     ];
-    play(&rt, &[FILLED, SCRIPT]);
+    const SCRIPTS: &[&[Step]] = &[FILLED, SCRIPT];
+    play(&rt, SCRIPTS);
 }
 
 #[test]
@@ -125,7 +126,7 @@ fn a_full_queue_loses_the_newest_event(rt: HostRuntime) {
         Here(EqGet(FIRST), Got(MISSED)),
         Here(EqGet(FIRST), Empty),
     ];
-    play(&rt, &[SCRIPT]);
+    play_one(&rt, SCRIPT);
 }
 
 #[test]
@@ -140,7 +141,7 @@ fn a_loss_is_told_once_however_many_were_lost(rt: HostRuntime) {
         Here(EqGet(FIRST), Got(LINKED)),
         Here(EqGet(FIRST), Empty),
     ];
-    play(&rt, &[SCRIPT]);
+    play_one(&rt, SCRIPT);
 }
 
 /// A put to the entries for match bits 6.
@@ -166,7 +167,7 @@ fn the_priority_list_goes_first_and_needs_no_room_for_a_header(rt: HostRuntime) 
         HereHolds(&[3, 0, 0, 0, 0, 0, 0, 0, 5, 0, 0, 0, 0, 0, 0, 0]),
         Here(Drops, Number(1)),
     ];
-    play(&rt, &[SCRIPT]);
+    play_one(&rt, SCRIPT);
 }
 
 /// A put that asks for an acknowledgement that counts.
@@ -220,7 +221,7 @@ fn a_message_of_the_overflow_list_is_answered_and_counted(rt: HostRuntime) {
         Here(Drops, Number(1)),
         HereHolds(&[7, 8, 1, 0, 0, 0, 0, 0, 0, 0, 0, 0, 0, 0, 0, 0]),
     ];
-    play(&rt, &[SCRIPT]);
+    play_one(&rt, SCRIPT);
 }
 
 #[test]
@@ -250,7 +251,7 @@ fn headers_are_counted_over_all_indices(rt: HostRuntime) {
         Comes(TO_ONE, &[6], Outcome::Dropped),
         HereHolds(&[5, 0, 0, 0, 0, 0, 0, 0, 0, 0, 0, 0, 0, 0, 0, 0]),
     ];
-    play(&rt, &[SCRIPT]);
+    play_one(&rt, SCRIPT);
 }
 
 #[test]
@@ -264,7 +265,8 @@ fn an_append_looks_at_no_length(rt: HostRuntime) {
         Here(MeAppend(1, List::Priority, SHORT), Consumed(THREE_BYTES)),
         HereHolds(&[1, 2, 3, 4, 5, 0, 0, 0, 0, 0, 0, 0, 0, 0, 0, 0]),
     ];
-    play(&rt, &[FILLED, SCRIPT]);
+    const SCRIPTS: &[&[Step]] = &[FILLED, SCRIPT];
+    play(&rt, SCRIPTS);
 }
 
 #[test]
@@ -278,7 +280,8 @@ fn a_search_looks_at_neither_part_nor_counter(rt: HostRuntime) {
         Here(MeSearch(0, STALE, false), Nothing),
         Here(MeSearch(1, STALE, false), Found(THREE_BYTES)),
     ];
-    play(&rt, &[FILLED, SCRIPT]);
+    const SCRIPTS: &[&[Step]] = &[FILLED, SCRIPT];
+    play(&rt, SCRIPTS);
 }
 
 #[test]
@@ -292,7 +295,7 @@ fn a_message_that_finds_no_room_for_its_header_is_dropped(rt: HostRuntime) {
         Here(Violations, Number(0)),
         HereHolds(&[1, 2, 0, 0, 0, 0, 0, 0, 0, 0, 0, 0, 0, 0, 0, 0]),
     ];
-    play(&rt, &[SCRIPT]);
+    play_one(&rt, SCRIPT);
 }
 
 #[test]
@@ -317,7 +320,7 @@ fn a_persistent_append_takes_all_headers_and_is_linked(rt: HostRuntime) {
         HereHolds(&[1, 2, 0, 0, 0, 0, 0, 0, 3, 0, 0, 0, 0, 0, 0, 0]),
         Here(CtGet(FIRST), Counts(2, 0)),
     ];
-    play(&rt, &[SCRIPT]);
+    play_one(&rt, SCRIPT);
 }
 
 #[test]
@@ -340,7 +343,8 @@ fn a_search_deletes_the_oldest_header_where_asked(rt: HostRuntime) {
         Here(PtFree(1), Done),
         HereTells(FIRST, &[THREE_FOUND, THREE_FOUND, TWO_FOUND, FREED, MISSED]),
     ];
-    play(&rt, &[FILLED, SCRIPT]);
+    const SCRIPTS: &[&[Step]] = &[FILLED, SCRIPT];
+    play(&rt, SCRIPTS);
 }
 
 /// The header of a message of one byte to the second index.
@@ -395,7 +399,7 @@ fn headers_are_searched_and_taken(rt: HostRuntime) {
             ],
         ),
     ];
-    play(&rt, &[SCRIPT]);
+    play_one(&rt, SCRIPT);
 }
 
 #[test]
@@ -406,7 +410,7 @@ fn a_get_does_not_look_at_the_overflow_list(rt: HostRuntime) {
         Here(Deliver, Replies(Outcome::Dropped)),
         Here(Drops, Number(1)),
     ];
-    play(&rt, &[SCRIPT]);
+    play_one(&rt, SCRIPT);
 }
 
 #[test]
@@ -430,7 +434,7 @@ fn an_overflow_entry_that_forbids_a_put_leaves_no_header(rt: HostRuntime) {
         Here(MeSearch(0, SIX, false), Nothing),
         HereHolds(&[3, 0, 0, 0, 0, 0, 0, 0, 0, 0, 0, 0, 0, 0, 0, 0]),
     ];
-    play(&rt, &[SCRIPT]);
+    play_one(&rt, SCRIPT);
 }
 
 #[test]
@@ -455,5 +459,5 @@ fn an_append_finds_no_header_whose_operation_it_forbids(rt: HostRuntime) {
         Here(MeAppend(0, List::Priority, GETS), Linked(1)),
         Here(MeAppend(0, List::Priority, ONCE), Consumed(BYTE)),
     ];
-    play(&rt, &[SCRIPT]);
+    play_one(&rt, SCRIPT);
 }

@@ -1,7 +1,7 @@
 //! Every refusal of the calls on match entries.
 
 use crate::busy::{BUSY, DEEDS_STAND, HELD, LISTS_STAND};
-use crate::scene::play;
+use crate::scene::{play, play_one};
 use crate::steps::Answer::*;
 use crate::steps::Call::*;
 use crate::steps::Step::{self, *};
@@ -34,7 +34,8 @@ fn a_refused_call_on_an_entry_changes_nothing(rt: HostRuntime) {
         Here(MeAppend(0, List::Overflow, ENTRY), Linked(2)),
         Here(MeUnlink(THIRD), Done),
     ];
-    play(&rt, &[BUSY, SCRIPT, LISTS_STAND, DEEDS_STAND]);
+    const SCRIPTS: &[&[Step]] = &[BUSY, SCRIPT, LISTS_STAND, DEEDS_STAND];
+    play(&rt, SCRIPTS);
 }
 
 #[test]
@@ -54,7 +55,8 @@ fn an_append_is_refused_also_where_a_header_would_be_found(rt: HostRuntime) {
         Here(MeAppend(0, List::Priority, SIX), Linked(4)),
         Here(MeUnlink(FIFTH), Done),
     ];
-    play(&rt, &[BUSY, SCRIPT, LISTS_STAND, DEEDS_STAND]);
+    const SCRIPTS: &[&[Step]] = &[BUSY, SCRIPT, LISTS_STAND, DEEDS_STAND];
+    play(&rt, SCRIPTS);
 }
 
 #[test]
@@ -73,7 +75,8 @@ fn an_index_below_the_limit_is_stale_while_it_is_not_allocated(rt: HostRuntime) 
         Here(MeUnlink(FIRST), Done),
         Here(PtFree(1), Done),
     ];
-    play(&rt, &[STALE_INDEX, ALLOCATED, STALE_INDEX]);
+    const SCRIPTS: &[&[Step]] = &[STALE_INDEX, ALLOCATED, STALE_INDEX];
+    play(&rt, SCRIPTS);
 }
 
 #[test]
@@ -95,5 +98,5 @@ fn an_index_is_in_use_for_each_reason_alone(rt: HostRuntime) {
         Here(MeSearch(0, ENTRY, true), Found(HELD_BY_THIRD)),
         Here(PtFree(0), Done),
     ];
-    play(&rt, &[SCRIPT]);
+    play_one(&rt, SCRIPT);
 }

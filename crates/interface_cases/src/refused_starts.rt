@@ -21,7 +21,8 @@ fn a_refused_put_get_or_atomic_changes_nothing(rt: HostRuntime) {
         Here(Start(SUM_BEHIND), Refused(OutOfRegion)),
         Here(Start(SUM_FAR), Refused(OutOfRegion)),
     ];
-    play(&rt, &[BUSY, SCRIPT, LISTS_STAND, DEEDS_STAND]);
+    const SCRIPTS: &[&[Step]] = &[BUSY, SCRIPT, LISTS_STAND, DEEDS_STAND];
+    play(&rt, SCRIPTS);
 }
 
 #[test]
@@ -40,5 +41,6 @@ fn a_refused_fetch_atomic_or_swap_changes_nothing(rt: HostRuntime) {
         Here(Start(SWAP_FAR), Refused(OutOfRegion)),
         Here(Start(SWAP_FAR_BACK), Refused(OutOfRegion)),
     ];
-    play(&rt, &[BUSY, SCRIPT, LISTS_STAND, DEEDS_STAND]);
+    const SCRIPTS: &[&[Step]] = &[BUSY, SCRIPT, LISTS_STAND, DEEDS_STAND];
+    play(&rt, SCRIPTS);
 }

@@ -3,7 +3,7 @@
 
 use crate::busy::{BUSY, DEEDS_STAND, LISTS_STAND};
 use crate::deeds::{FETCH_BYTE, GET_BYTE, SUM_BYTE, SWAP_BYTE};
-use crate::scene::play;
+use crate::scene::{play, play_one};
 use crate::steps::Answer::*;
 use crate::steps::Call::*;
 use crate::steps::Step::{self, *};
@@ -21,7 +21,8 @@ fn a_refused_call_on_an_index_changes_nothing(rt: HostRuntime) {
         Here(PtFree(0), Refused(InUse)),
         Here(PtFree(1), Refused(InUse)),
     ];
-    play(&rt, &[BUSY, SCRIPT, LISTS_STAND, DEEDS_STAND]);
+    const SCRIPTS: &[&[Step]] = &[BUSY, SCRIPT, LISTS_STAND, DEEDS_STAND];
+    play(&rt, SCRIPTS);
 }
 
 #[test]
@@ -38,7 +39,8 @@ fn a_refused_call_on_a_counter_changes_nothing(rt: HostRuntime) {
         Here(CtInc(FIRST, u64::MAX, 1), Refused(CountFull)),
         Here(CtCancel(NOTHING), Refused(Stale)),
     ];
-    play(&rt, &[BUSY, SCRIPT, LISTS_STAND, DEEDS_STAND]);
+    const SCRIPTS: &[&[Step]] = &[BUSY, SCRIPT, LISTS_STAND, DEEDS_STAND];
+    play(&rt, SCRIPTS);
 }
 
 #[test]
@@ -49,7 +51,8 @@ fn a_refused_call_on_a_queue_changes_nothing(rt: HostRuntime) {
         Here(EqFree(FIRST), Refused(InUse)),
         Here(EqGet(NOTHING), Refused(Stale)),
     ];
-    play(&rt, &[BUSY, SCRIPT, LISTS_STAND, DEEDS_STAND]);
+    const SCRIPTS: &[&[Step]] = &[BUSY, SCRIPT, LISTS_STAND, DEEDS_STAND];
+    play(&rt, SCRIPTS);
 }
 
 /// A descriptor that reaches past the end of the region.
@@ -77,7 +80,8 @@ fn a_refused_call_on_a_descriptor_changes_nothing(rt: HostRuntime) {
         Here(MdRelease(SECOND), Refused(InUse)),
         Here(Awaits(NOTHING), Refused(Stale)),
     ];
-    play(&rt, &[BUSY, SCRIPT, LISTS_STAND, DEEDS_STAND]);
+    const SCRIPTS: &[&[Step]] = &[BUSY, SCRIPT, LISTS_STAND, DEEDS_STAND];
+    play(&rt, SCRIPTS);
 }
 
 #[test]
@@ -105,7 +109,8 @@ fn a_descriptor_lies_in_the_region(rt: HostRuntime) {
         Here(CtFree(SECOND), Done),
         Here(CtFree(FIRST), Refused(InUse)),
     ];
-    play(&rt, &[BUSY, SCRIPT, LISTS_STAND, COUNTERS_GO]);
+    const SCRIPTS: &[&[Step]] = &[BUSY, SCRIPT, LISTS_STAND, COUNTERS_GO];
+    play(&rt, SCRIPTS);
 }
 
 #[test]
@@ -132,7 +137,7 @@ fn an_operation_that_waits_holds_each_of_its_descriptors(rt: HostRuntime) {
         Here(CtCancel(FIRST), Number(1)),
         Here(MdRelease(SECOND), Done),
     ];
-    play(&rt, &[SCRIPT]);
+    play_one(&rt, SCRIPT);
 }
 
 #[test]
@@ -172,7 +177,7 @@ fn a_counter_is_in_use_for_each_reason_alone(rt: HostRuntime) {
         Here(CtFree(SECOND), Done),
         Here(CtFree(FIRST), Done),
     ];
-    play(&rt, &[SCRIPT]);
+    play_one(&rt, SCRIPT);
 }
 
 #[test]
@@ -191,7 +196,7 @@ fn a_queue_is_in_use_for_each_reason_alone(rt: HostRuntime) {
         Here(MdRelease(FIRST), Done),
         Here(EqFree(FIRST), Done),
     ];
-    play(&rt, &[SCRIPT]);
+    play_one(&rt, SCRIPT);
 }
 
 #[test]
@@ -213,5 +218,5 @@ fn a_refused_call_uses_up_no_stamp(rt: HostRuntime) {
         Here(MdBind(DESCRIPTOR), Made(2)),
         Here(CtGet(THIRD), Counts(0, 0)),
     ];
-    play(&rt, &[SCRIPT]);
+    play_one(&rt, SCRIPT);
 }

@@ -31,7 +31,8 @@ fn a_refused_increment_or_set_changes_nothing(rt: HostRuntime) {
         Here(Triggered(SET_STALE, FIRST, 0), Refused(Stale)),
         Here(Triggered(SET_PAST, FIRST, 0), Refused(CountFull)),
     ];
-    play(&rt, &[BUSY, SCRIPT, LISTS_STAND, DEEDS_STAND]);
+    const SCRIPTS: &[&[Step]] = &[BUSY, SCRIPT, LISTS_STAND, DEEDS_STAND];
+    play(&rt, SCRIPTS);
 }
 
 #[test]
@@ -47,7 +48,8 @@ fn a_refused_triggered_start_changes_nothing(rt: HostRuntime) {
         Here(Triggered(SUM_STALE, FIRST, 0), Refused(Stale)),
         Here(Triggered(SUM_BEHIND, FIRST, 0), Refused(OutOfRegion)),
     ];
-    play(&rt, &[BUSY, SCRIPT, LISTS_STAND, DEEDS_STAND]);
+    const SCRIPTS: &[&[Step]] = &[BUSY, SCRIPT, LISTS_STAND, DEEDS_STAND];
+    play(&rt, SCRIPTS);
 }
 
 #[test]
@@ -64,7 +66,8 @@ fn a_refused_triggered_fetch_changes_nothing(rt: HostRuntime) {
         Here(Triggered(SWAP_BEHIND, FIRST, 0), Refused(OutOfRegion)),
         Here(Triggered(SWAP_BEHIND_BACK, FIRST, 0), Refused(OutOfRegion)),
     ];
-    play(&rt, &[BUSY, SCRIPT, LISTS_STAND, DEEDS_STAND]);
+    const SCRIPTS: &[&[Step]] = &[BUSY, SCRIPT, LISTS_STAND, DEEDS_STAND];
+    play(&rt, SCRIPTS);
 }
 
 #[test]
@@ -84,5 +87,6 @@ fn a_refused_triggered_operation_uses_up_no_number(rt: HostRuntime) {
         Here(Triggered(RAISE, SECOND, 9), Number(4)),
         Here(CtCancel(SECOND), Number(1)),
     ];
-    play(&rt, &[BUSY, SCRIPT, LISTS_STAND, DEEDS_STAND]);
+    const SCRIPTS: &[&[Step]] = &[BUSY, SCRIPT, LISTS_STAND, DEEDS_STAND];
+    play(&rt, SCRIPTS);
 }

@@ -85,7 +85,8 @@ fn a_reply_is_written_counted_and_told(rt: HostRuntime) {
         Here(CtGet(FIRST), Counts(3, 1)),
         HereTells(FIRST, &[START_TOLD, FAILED]),
     ];
-    play(&rt, &[TARGET, SCRIPT]);
+    const SCRIPTS: &[&[Step]] = &[TARGET, SCRIPT];
+    play(&rt, SCRIPTS);
 }
 
 #[test]
@@ -123,5 +124,6 @@ fn a_fetching_start_counts_on_its_put_arguments_alone(rt: HostRuntime) {
         Here(Awaits(FIRST), Number(0)),
         Here(Awaits(SECOND), Number(0)),
     ];
-    play(&rt, &[TARGET, SCRIPT]);
+    const SCRIPTS: &[&[Step]] = &[TARGET, SCRIPT];
+    play(&rt, SCRIPTS);
 }

@@ -22,17 +22,16 @@ struct Scene {
 }
 
 /// Plays scripts one after another, between two interfaces of 16 zero bytes. A failure names the script and the step, each
-/// counted from 0.
+/// counted from 0. A test hands on a constant list: one that is made when the test runs makes its proof a third longer.
 pub fn play<R: Abort + Alloc<A = Global>>(rt: &R, scripts: &[&[Step]]) {
     let mut scene = Scene::open(rt, &[0; 16], &[0; 16]);
-    for step in SETTING {
-        scene.step(rt, (0, 0), *step);
-    }
-    for (number, script) in scripts.iter().enumerate() {
-        for (place, step) in script.iter().enumerate() {
-            scene.step(rt, (number, place), *step);
-        }
-    }
+    scene.script(rt, 0, SETTING);
+    scene.scripts(rt, scripts);
+}
+
+/// Plays one script, as `play`.
+pub fn play_one<R: Abort + Alloc<A = Global>>(rt: &R, script: &[Step]) {
+    play(rt, &[script]);
 }
 
 /// Plays a script between two interfaces over regions of these bytes, with nothing made in them.
@@ -43,9 +42,7 @@ pub fn play_between<R: Abort + Alloc<A = Global>>(
     script: &[Step],
 ) {
     let mut scene = Scene::open(rt, here, there);
-    for (place, step) in script.iter().enumerate() {
-        scene.step(rt, (0, place), *step);
-    }
+    scene.script(rt, 0, script);
 }
 
 /// Makes a call and compares its answer. Where it is refused, all that the interface tells is as it was.
@@ -59,15 +56,22 @@ fn check<R: Abort + Alloc<A = Global>>(
 ) {
     let before = end.seen();
     let answer = end.ask(rt, wire, call);
-    assert_eq!(rt; answer, end.real(want), "script {}, step {}", at.0, at.1);
+    answers(rt, at, answer, end.real(want));
     if matches!(answer, Answer::Refused(_)) {
-        let stays = end.seen() == before;
-        assert!(rt;
-            stays,
-            "a refused call changed something: script {}, step {}",
-            at.0, at.1
-        );
+        changed_nothing(rt, at, end.seen() == before);
     }
+}
+
+fn answers(rt: &impl Abort, at: (usize, usize), answer: Answer, want: Answer) {
+    assert_eq!(rt; answer, want, "script {}, step {}", at.0, at.1);
+}
+
+fn changed_nothing(rt: &impl Abort, at: (usize, usize), stays: bool) {
+    assert!(rt;
+        stays,
+        "a refused call changed something: script {}, step {}",
+        at.0, at.1
+    );
 }
 
 /// The region has these bytes.
@@ -81,6 +85,18 @@ impl Scene {
             here: End::open(rt, 0, here),
             there: End::open(rt, 1, there),
             wire: None,
+        }
+    }
+
+    fn scripts<R: Abort + Alloc<A = Global>>(&mut self, rt: &R, scripts: &[&[Step]]) {
+        for (number, script) in scripts.iter().enumerate() {
+            self.script(rt, number, script);
+        }
+    }
+
+    fn script<R: Abort + Alloc<A = Global>>(&mut self, rt: &R, number: usize, script: &[Step]) {
+        for (place, step) in script.iter().enumerate() {
+            self.step(rt, (number, place), *step);
         }
     }
 

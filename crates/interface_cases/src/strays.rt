@@ -1,7 +1,7 @@
 //! A reply that doesn't fit its descriptor, an answer of another kind than the awaited one, and refusals of which two hold at
 //! once.
 
-use crate::scene::play;
+use crate::scene::play_one;
 use crate::steps::Answer::*;
 use crate::steps::Call::*;
 use crate::steps::Step::{self, *};
@@ -28,7 +28,7 @@ fn a_reply_past_the_end_of_its_descriptor_is_dropped(rt: HostRuntime) {
         Here(Deliver, Became(Outcome::Answered)),
         HereHolds(&[0, 0, 0, 0, 0, 0, 0, 0, 0, 0, 0, 0, 0, 0, 7, 8]),
     ];
-    play(&rt, &[SCRIPT]);
+    play_one(&rt, SCRIPT);
 }
 
 #[test]
@@ -59,7 +59,7 @@ fn an_acknowledgement_answers_for_an_awaited_reply(rt: HostRuntime) {
         Here(CtGet(FIRST), Counts(1, 0)),
         HereHolds(&[0, 0, 0, 0, 0, 0, 0, 0, 0, 0, 0, 0, 0, 0, 0, 0]),
     ];
-    play(&rt, &[SCRIPT]);
+    play_one(&rt, SCRIPT);
 }
 
 #[test]
@@ -79,5 +79,5 @@ fn a_stale_handle_is_told_before_all_else(rt: HostRuntime) {
         Here(PtAlloc(0, Some(NOTHING)), Refused(Stale)),
         Here(PtAlloc(0, None), Refused(InUse)),
     ];
-    play(&rt, &[SCRIPT]);
+    play_one(&rt, SCRIPT);
 }

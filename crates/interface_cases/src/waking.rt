@@ -36,7 +36,8 @@ fn by_an_arrival(rt: HostRuntime) {
         Here(Ready, Nothing),
         Comes(PUT, &[1], Outcome::Matched),
     ];
-    play(&rt, &[WAITING, SCRIPT, WOKEN]);
+    const SCRIPTS: &[&[Step]] = &[WAITING, SCRIPT, WOKEN];
+    play(&rt, SCRIPTS);
 }
 
 #[test]
@@ -61,7 +62,8 @@ fn by_an_append_that_takes_a_header(rt: HostRuntime) {
         Here(Ready, Nothing),
         Here(MeAppend(0, List::Priority, COUNTS), Consumed(HEADER_TAKEN)),
     ];
-    play(&rt, &[WAITING, SCRIPT, WOKEN]);
+    const SCRIPTS: &[&[Step]] = &[WAITING, SCRIPT, WOKEN];
+    play(&rt, SCRIPTS);
 }
 
 #[test]
@@ -76,7 +78,8 @@ fn by_a_start(rt: HostRuntime) {
         Here(Ready, Nothing),
         Here(Start(Deed::Put(PUT)), Sent),
     ];
-    play(&rt, &[WAITING, SCRIPT, WOKEN]);
+    const SCRIPTS: &[&[Step]] = &[WAITING, SCRIPT, WOKEN];
+    play(&rt, SCRIPTS);
 }
 
 #[test]
@@ -100,5 +103,6 @@ fn by_an_answer(rt: HostRuntime) {
         Here(CtGet(FIRST), Counts(0, 1)),
         Here(Ready, Number(0)),
     ];
-    play(&rt, &[WAITING, SCRIPT]);
+    const SCRIPTS: &[&[Step]] = &[WAITING, SCRIPT];
+    play(&rt, SCRIPTS);
 }
