@@ -1,12 +1,12 @@
 //! Messages that come before a rank's start: they lie in the areas after its cells until it starts.
 
+use crate::answers::same_at;
 use crate::scene::{
-    check_history, check_lists, check_memory, check_rest, first_header_at, make_step, nth_step,
-    run, world_of,
+    check_history, check_lists, check_memory, first_header_at, must_make, nth_step, run_and_check,
+    world_of,
 };
 use ptl_types::{Lane, LocalStep, Rank};
 use std::process::Abort;
-use std::test::Fail;
 use worlds::{Step, World};
 
 /// Whether a step is a firing of a rank, or a delivery from it to itself.
@@ -31,34 +31,32 @@ fn next_of(world: &World, r: Rank) -> Option<Step> {
 
 /// Starts a rank, and makes all of its steps that need no other rank.
 fn run_alone(rt: &impl Abort, world: &mut World, r: Rank) {
-    assert!(rt; make_step(world, Step::Start(r)), "rank {r} started before");
+    must_make(rt, world, Step::Start(r));
     for _ in 0..1_000u32 {
         match next_of(world, r) {
-            Some(step) => assert!(rt; make_step(world, step), "{step:?}"),
+            Some(step) => must_make(rt, world, step),
             None => return,
         }
     }
 }
 
-/// A message comes from a rank that ran alone to one that hasn't started, which then starts.
-fn come_early(
-    rt: &impl Abort,
-    world: &mut World,
-    lane: (Rank, Rank),
-    before: &[u8],
-    early: &[u8],
-    started: &[u8],
-) {
+/// The memory of a rank has these bytes, and its oldest unexpected header is of so many bytes, if there is one.
+fn check_seen(rt: &impl Abort, world: &World, r: Rank, bytes: &[u8], header: Option<u64>) {
+    check_memory(rt, world, r, bytes);
+    same_at(rt, (0, r), first_header_at(world, r), header);
+}
+
+/// A message comes from a rank that ran alone to one that hasn't started, which then starts. The memory of the second rank is given
+/// before the message, after it, and after the start.
+fn come_early(rt: &impl Abort, world: &mut World, lane: (Rank, Rank), memories: [&[u8]; 3]) {
     let (from, to) = lane;
+    let [before, early, started] = memories;
     run_alone(rt, world, from);
-    check_memory(rt, world, to, before);
-    assert_eq!(rt; first_header_at(world, to), None);
-    assert!(rt; make_step(world, Step::Deliver(from, to, Lane::Request)));
-    check_memory(rt, world, to, early);
-    assert_eq!(rt; first_header_at(world, to), Some(1));
-    assert!(rt; make_step(world, Step::Start(to)));
-    check_memory(rt, world, to, started);
-    assert_eq!(rt; first_header_at(world, to), None);
+    check_seen(rt, world, to, before, None);
+    must_make(rt, world, Step::Deliver(from, to, Lane::Request));
+    check_seen(rt, world, to, early, Some(1));
+    must_make(rt, world, Step::Start(to));
+    check_seen(rt, world, to, started, None);
     let begins = [
         LocalStep::Receive {
             source: from,
@@ -70,39 +68,42 @@ fn come_early(
 }
 
 #[test]
-fn a_put_comes_before_the_start(rt: HostRuntime) -> Result<(), Fail> {
+fn a_put_comes_before_the_start(rt: HostRuntime) {
     let mut world = world_of(
+        &rt,
         rt.alloc(),
         b"coll 1\nranks 2\ninput a u8 1\n7\n9\nbroadcast 0 a b\nend\n",
-    )
-    .ok_or("no world")?;
+    );
     // The input, what is broadcast, and the area of puts.
-    come_early(&rt, &mut world, (0, 1), &[9, 0, 0], &[9, 0, 7], &[9, 7, 7]);
-    run(&mut world);
-    check_rest(&rt, &world, 0);
+    come_early(
+        &rt,
+        &mut world,
+        (0, 1),
+        [&[9, 0, 0], &[9, 0, 7], &[9, 7, 7]],
+    );
+    run_and_check(&rt, &mut world, 0);
     check_lists(&rt, &world, &[&[&[7], &[9]], &[&[7], &[7]]], 0);
-    Ok(())
 }
 
 #[test]
-fn an_atomic_comes_before_the_start(rt: HostRuntime) -> Result<(), Fail> {
+fn an_atomic_comes_before_the_start(rt: HostRuntime) {
     let mut world = world_of(
+        &rt,
         rt.alloc(),
         b"coll 1\nranks 2\ninput a u8 1\n7\n9\nallreduce sum a b\nend\n",
-    )
-    .ok_or("no world")?;
+    );
     // The input, its copy, the sum, what is broadcast, the area of two puts, and that of two sums.
     come_early(
         &rt,
         &mut world,
         (1, 0),
-        &[7, 0, 0, 0, 0, 0, 0, 0],
-        &[7, 0, 0, 0, 0, 0, 9, 0],
-        &[7, 0, 9, 0, 0, 0, 9, 0],
+        [
+            &[7, 0, 0, 0, 0, 0, 0, 0],
+            &[7, 0, 0, 0, 0, 0, 9, 0],
+            &[7, 0, 9, 0, 0, 0, 9, 0],
+        ],
     );
-    run(&mut world);
-    check_rest(&rt, &world, 0);
+    run_and_check(&rt, &mut world, 0);
     check_memory(&rt, &world, 0, &[7, 7, 16, 16, 0, 0, 9, 0]);
     check_lists(&rt, &world, &[&[&[7], &[9]], &[&[16], &[16]]], 0);
-    Ok(())
 }

@@ -4,6 +4,8 @@
 #![tactic(auto)]
 
 #[cfg(test)]
+mod answers;
+#[cfg(test)]
 mod cases;
 #[cfg(test)]
 mod choices;
@@ -21,6 +23,8 @@ mod sizes;
 mod stepping;
 #[cfg(test)]
 mod strays;
+#[cfg(test)]
+mod texts;
 #[cfg(test)]
 mod verdicts;
 

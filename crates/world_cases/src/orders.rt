@@ -2,9 +2,9 @@
 
 use crate::cases::{CASES, Case};
 use crate::choosing::Linear;
-use crate::scene::{check_lists, check_rest, run, windowed, world_of};
+use crate::scene::{check_lists, check_rest, run_and_check, windowed, world_of};
+use std::alloc::Global;
 use std::process::Abort;
-use std::test::Fail;
 use worlds::World;
 
 fn run_by(world: &mut World, seed: u32) {
@@ -15,39 +15,46 @@ fn run_by(world: &mut World, seed: u32) {
 }
 
 /// The world of a case in the order of a chooser.
-fn check_chosen(rt: &impl Abort, mut world: World, case: &Case, seed: u32, name: u64) {
-    run_by(&mut world, seed);
-    check_lists(rt, &world, case.lists, name);
-    check_rest(rt, &world, name);
+fn check_chosen(rt: &impl Abort, world: &mut World, case: &Case, seed: u32, name: u64) {
+    run_by(world, seed);
+    check_lists(rt, world, case.lists, name);
+    check_rest(rt, world, name);
 }
 
 /// The world of a case in its own order.
-fn check_own(rt: &impl Abort, mut world: World, case: &Case, name: u64) {
-    run(&mut world);
-    check_lists(rt, &world, case.lists, name);
-    check_rest(rt, &world, name);
+fn check_own(rt: &impl Abort, world: &mut World, case: &Case, name: u64) {
+    run_and_check(rt, world, name);
+    check_lists(rt, world, case.lists, name);
+}
+
+/// A case in the order of a chooser.
+fn in_chosen_order(rt: &impl Abort, alloc: Global, case: &Case, seed: u32, name: u64) {
+    let mut world = world_of(rt, alloc, case.text);
+    check_chosen(rt, &mut world, case, seed, name);
+}
+
+/// A case under a window, in its own order and in that of a chooser.
+fn under_window(rt: &impl Abort, alloc: Global, case: &Case, window: u32, name: u64) {
+    let mut own = windowed(rt, alloc, case.text, window);
+    check_own(rt, &mut own, case, name);
+    let mut chosen = windowed(rt, alloc, case.text, window);
+    check_chosen(rt, &mut chosen, case, window, name);
 }
 
 #[test]
-fn all_choosers_end_alike(rt: HostRuntime) -> Result<(), Fail> {
+fn all_choosers_end_alike(rt: HostRuntime) {
     for (i, case) in CASES.iter().enumerate() {
         for seed in 0..20u32 {
-            let world = world_of(rt.alloc(), case.text).ok_or("no world")?;
-            check_chosen(&rt, world, case, seed, i as u64);
+            in_chosen_order(&rt, rt.alloc(), case, seed, i as u64);
         }
     }
-    Ok(())
 }
 
 #[test]
-fn all_windows_end_alike(rt: HostRuntime) -> Result<(), Fail> {
+fn all_windows_end_alike(rt: HostRuntime) {
     for (i, case) in CASES.iter().enumerate() {
         for window in [1u32, 2, 4] {
-            let world = windowed(rt.alloc(), case.text, window).ok_or("no world")?;
-            check_own(&rt, world, case, i as u64);
-            let world = windowed(rt.alloc(), case.text, window).ok_or("no world")?;
-            check_chosen(&rt, world, case, window, i as u64);
+            under_window(&rt, rt.alloc(), case, window, i as u64);
         }
     }
-    Ok(())
 }

@@ -1,5 +1,8 @@
 //! The worlds of texts, and what is asked of them. A call answers `None` or `false` where its condition doesn't hold.
 
+ghost use Rattle.std.specs.Prelude.{◌≡◌};
+
+use crate::answers::{same_at, same_in};
 use coll_lang::parse;
 use portals_ni::Nic;
 use ptl_types::{Count, LocalStep, Rank};
@@ -23,25 +26,33 @@ pub fn job_of(alloc: Global, text: &[u8]) -> Option<Job> {
     }
 }
 
-/// The world of a text. `None`: it is refused, or there is no memory.
-pub fn world_of(alloc: Global, text: &[u8]) -> Option<World> {
-    let job = job_of(alloc, text)?;
-    match World::open(alloc, &job) {
-        Ok(world) => Some(world),
-        Err(_) => None,
-    }
+/// The job of a text that has one.
+pub fn must_job(rt: &impl Abort, alloc: Global, text: &[u8]) -> Job {
+    let Some(job) = job_of(alloc, text) else {
+        panic!(rt; "a job")
+    };
+    job
 }
 
-/// The world of a text under a window. `None`: it is refused, there is no such window, or there is no memory.
-pub fn windowed(alloc: Global, text: &[u8], window: u32) -> Option<World> {
+/// The world of a text that has one.
+pub fn world_of(rt: &impl Abort, alloc: Global, text: &[u8]) -> World {
+    let job = must_job(rt, alloc, text);
+    let Ok(world) = World::open(alloc, &job) else {
+        panic!(rt; "a world")
+    };
+    world
+}
+
+/// The world of a text that has one, under a window.
+pub fn windowed(rt: &impl Abort, alloc: Global, text: &[u8], window: u32) -> World {
     if window == 0 {
-        return None;
+        panic!(rt; "a window")
     }
-    let job = job_of(alloc, text)?;
-    match World::open_windowed(alloc, &job, window) {
-        Ok(world) => Some(world),
-        Err(_) => None,
-    }
+    let job = must_job(rt, alloc, text);
+    let Ok(world) = World::open_windowed(alloc, &job, window) else {
+        panic!(rt; "a world")
+    };
+    world
 }
 
 // Each of the next functions is one call of a world, without what its contract says of the whole world: so the functions after
@@ -97,7 +108,9 @@ pub fn at_rest(world: &World) -> bool {
 }
 
 /// Makes steps until none is possible.
-pub fn run(world: &mut World) {
+pub fn run(world: &mut World)
+    ensures { world.new.strays ≡ world.old.strays }
+{
     world.run_to_rest();
 }
 
@@ -139,10 +152,10 @@ pub fn done_at(world: &World, r: Rank) -> Option<Count> {
 }
 
 /// Where the done counter of a rank stands when it is done. `None`: there is no such rank.
-pub fn threshold_at(world: &World, r: Rank) -> Option<u64> {
+pub fn due_at(world: &World, r: Rank) -> Option<Count> {
     let schedule = world.schedule();
     if r < schedule.shape().ranks() {
-        Some(schedule.done(r))
+        successes(schedule.done(r))
     } else {
         None
     }
@@ -174,57 +187,70 @@ pub fn successes(success: u64) -> Option<Count> {
     })
 }
 
-/// A buffer has these bytes at a rank.
-pub fn check_bytes(rt: &impl Abort, world: &World, place: (u32, Rank), bytes: &[u8]) {
-    let (buffer, r) = place;
+/// Makes a step, which is possible.
+pub fn must_make(rt: &impl Abort, world: &mut World, step: Step) {
+    assert!(rt; make_step(world, step), "{step:?}");
+}
+
+/// A buffer of a case has these bytes at a rank.
+pub fn check_bytes(rt: &impl Abort, world: &World, place: (u64, u32, Rank), bytes: &[u8]) {
+    let (name, buffer, r) = place;
     assert_eq!(rt;
         bytes_at(world, buffer, r),
         Some(bytes),
-        "buffer {buffer} at rank {r}"
+        "case {name}, buffer {buffer} at rank {r}"
     );
 }
 
 /// The memory of a rank has these bytes.
 pub fn check_memory(rt: &impl Abort, world: &World, r: Rank, bytes: &[u8]) {
-    assert_eq!(rt; memory_at(world, r), Some(bytes), "rank {r}");
+    same_at(rt, (0, r), memory_at(world, r), Some(bytes));
 }
 
 /// A rank made these local steps.
 pub fn check_history(rt: &impl Abort, world: &World, r: Rank, steps: &[LocalStep]) {
-    assert_eq!(rt; history_at(world, r), Some(steps), "rank {r}");
+    same_at(rt, (0, r), history_at(world, r), Some(steps));
+}
+
+/// A buffer at the ranks is these lists.
+fn check_buffer(rt: &impl Abort, world: &World, place: (u64, u32), lists: &[&[u8]]) {
+    let (name, buffer) = place;
+    let mut r = 0u32;
+    for list in lists.iter() {
+        check_bytes(rt, world, (name, buffer, r), list);
+        r = r.saturating_add(1);
+    }
+    same_at(rt, (name, r), r, ranks(world));
 }
 
 /// The buffers at the ranks are these lists.
 pub fn check_lists(rt: &impl Abort, world: &World, lists: &[&[&[u8]]], name: u64) {
-    assert_eq!(rt; buffers(world), lists.len(), "case {name}");
+    same_in(rt, name, buffers(world), lists.len());
     let mut buffer = 0u32;
     for at_ranks in lists.iter() {
-        let mut r = 0u32;
-        for list in at_ranks.iter() {
-            assert_eq!(rt;
-                bytes_at(world, buffer, r),
-                Some(*list),
-                "case {name}, buffer {buffer} at rank {r}"
-            );
-            r = r.saturating_add(1);
-        }
-        assert_eq!(rt; r, ranks(world), "case {name}");
+        check_buffer(rt, world, (name, buffer), at_ranks);
         buffer = buffer.saturating_add(1);
     }
 }
 
+/// The counting event of a rank stands at its threshold, nothing was dropped or refused there, and no header is left.
+fn check_rank(rt: &impl Abort, world: &World, name: u64, r: Rank) {
+    same_at(rt, (name, r), done_at(world, r), due_at(world, r));
+    same_at(rt, (name, r), registers_at(world, r), Some((0, 0)));
+    same_at(rt, (name, r), first_header_at(world, r), None);
+}
+
 /// No step is possible, each rank's counting event stands at its threshold, nothing was dropped or refused, and no header is left.
 pub fn check_rest(rt: &impl Abort, world: &World, name: u64) {
-    assert_eq!(rt; enabled(world), 0, "case {name}");
-    assert!(rt; at_rest(world), "case {name}");
+    same_in(rt, name, enabled(world), 0);
+    same_in(rt, name, at_rest(world), true);
     for r in 0..ranks(world) {
-        let due = threshold_at(world, r).expect(rt, "a rank");
-        assert_eq!(rt; done_at(world, r), successes(due), "case {name}, rank {r}");
-        assert_eq!(rt;
-            registers_at(world, r),
-            Some((0, 0)),
-            "case {name}, rank {r}"
-        );
-        assert_eq!(rt; first_header_at(world, r), None, "case {name}, rank {r}");
+        check_rank(rt, world, name, r);
     }
+}
+
+/// Makes steps until none is possible; then all is as at rest.
+pub fn run_and_check(rt: &impl Abort, world: &mut World, name: u64) {
+    run(world);
+    check_rest(rt, world, name);
 }

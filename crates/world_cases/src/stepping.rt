@@ -1,50 +1,40 @@
 //! The possible steps of small worlds, and what their ranks did.
 
+use crate::answers::{gives, same_at};
 use crate::scene::{
-    at_rest, check_history, check_rest, done_at, enabled, is_enabled, make_step, nth_step,
+    at_rest, check_history, check_rest, done_at, enabled, is_enabled, must_make, nth_step,
     successes, world_of,
 };
-use ptl_types::{Lane, LocalStep, Rank};
+use ptl_types::{Lane, LocalStep};
 use std::process::Abort;
-use std::test::Fail;
 use worlds::{Step, World};
 
-const START: LocalStep = LocalStep::Start;
-
-/// The receipt of a request.
-const fn from(source: Rank) -> LocalStep {
-    LocalStep::Receive {
-        source,
-        lane: Lane::Request,
-    }
-}
-
-/// A firing.
-const fn fired(number: u32) -> LocalStep {
-    LocalStep::Fire { number }
+/// This step is possible, at this place.
+fn check_step(rt: &impl Abort, world: &World, i: u64, step: Step) {
+    gives!(rt; nth_step(world, i), Some(step));
+    assert!(rt; is_enabled(world, step), "{step:?}");
 }
 
 /// These steps are possible, in this order, and no others.
 fn check_steps(rt: &impl Abort, world: &World, steps: &[Step]) {
-    assert_eq!(rt; enabled(world), steps.len() as u64);
+    gives!(rt; enabled(world), steps.len() as u64);
     for (i, step) in steps.iter().enumerate() {
-        assert_eq!(rt; nth_step(world, i as u64), Some(*step), "step {i}");
-        assert!(rt; is_enabled(world, *step), "step {i}");
+        check_step(rt, world, i as u64, *step);
     }
-    assert_eq!(rt; at_rest(world), steps.is_empty());
+    gives!(rt; at_rest(world), steps.is_empty());
 }
 
 /// None of these steps is possible.
 fn check_not(rt: &impl Abort, world: &World, steps: &[Step]) {
-    for (i, step) in steps.iter().enumerate() {
-        assert!(rt; !is_enabled(world, *step), "step {i}");
+    for step in steps.iter() {
+        assert!(rt; !is_enabled(world, *step), "{step:?}");
     }
 }
 
 /// Makes steps, each of which is possible.
 fn make_steps(rt: &impl Abort, world: &mut World, steps: &[Step]) {
-    for (i, step) in steps.iter().enumerate() {
-        assert!(rt; make_step(world, *step), "step {i}");
+    for step in steps.iter() {
+        must_make(rt, world, *step);
     }
 }
 
@@ -96,14 +86,18 @@ const SCENES: &[(&[Step], &[Step])] = &[
     ),
 ];
 
-#[test]
-fn possible_steps_have_an_order(rt: HostRuntime) -> Result<(), Fail> {
-    let mut world = world_of(rt.alloc(), TEXT).ok_or("no world")?;
+/// Makes the steps of each scene, and looks at what is possible then.
+fn check_scenes(rt: &impl Abort, world: &mut World) {
     for (made, possible) in SCENES {
-        make_steps(&rt, &mut world, made);
-        check_steps(&rt, &world, possible);
+        make_steps(rt, world, made);
+        check_steps(rt, world, possible);
     }
-    Ok(())
+}
+
+#[test]
+fn possible_steps_have_an_order(rt: HostRuntime) {
+    let mut world = world_of(&rt, rt.alloc(), TEXT);
+    check_scenes(&rt, &mut world);
 }
 
 /// Steps that aren't possible before the first one.
@@ -134,8 +128,8 @@ const NO_MORE: &[Step] = &[
 ];
 
 #[test]
-fn other_steps_are_impossible(rt: HostRuntime) -> Result<(), Fail> {
-    let mut world = world_of(rt.alloc(), TEXT).ok_or("no world")?;
+fn other_steps_are_impossible(rt: HostRuntime) {
+    let mut world = world_of(&rt, rt.alloc(), TEXT);
     check_not(&rt, &world, NONE_OF);
     make_steps(
         &rt,
@@ -143,45 +137,62 @@ fn other_steps_are_impossible(rt: HostRuntime) -> Result<(), Fail> {
         &[Step::Start(0), Step::Fire(0, 0), Step::Fire(0, 2)],
     );
     check_not(&rt, &world, NO_MORE);
-    Ok(())
 }
 
+/// Each of two ranks made these local steps, and counted so many successes.
+fn check_both(rt: &impl Abort, world: &World, histories: &[&[LocalStep]; 2], done: u64) {
+    check_history(rt, world, 0, histories[0]);
+    check_history(rt, world, 1, histories[1]);
+    same_at(rt, (0, 0), done_at(world, 0), successes(done));
+    same_at(rt, (0, 1), done_at(world, 1), successes(done));
+}
+
+/// Makes the first possible step so often.
+fn make_first(rt: &impl Abort, world: &mut World, count: u32) {
+    for _ in 0..count {
+        let Some(step) = nth_step(world, 0) else {
+            panic!(rt; "at rest")
+        };
+        must_make(rt, world, step);
+    }
+}
+
+/// What the two ranks of a barrier did in the end.
+const MET: &[&[LocalStep]; 2] = &[
+    &[
+        LocalStep::Start,
+        LocalStep::Fire { number: 0 },
+        LocalStep::Fire { number: 1 },
+        LocalStep::Fire { number: 2 },
+        LocalStep::Fire { number: 3 },
+        LocalStep::Fire { number: 4 },
+        LocalStep::Receive {
+            source: 1,
+            lane: Lane::Request,
+        },
+        LocalStep::Fire { number: 5 },
+    ],
+    &[
+        LocalStep::Start,
+        LocalStep::Receive {
+            source: 0,
+            lane: Lane::Request,
+        },
+        LocalStep::Fire { number: 0 },
+        LocalStep::Fire { number: 1 },
+        LocalStep::Fire { number: 2 },
+        LocalStep::Fire { number: 3 },
+        LocalStep::Fire { number: 4 },
+        LocalStep::Fire { number: 5 },
+    ],
+];
+
 #[test]
-fn a_barrier_step_by_step(rt: HostRuntime) -> Result<(), Fail> {
-    let mut world = world_of(rt.alloc(), b"coll 1\nranks 2\nbarrier\nend\n").ok_or("no world")?;
-    for r in 0..2u32 {
-        check_history(&rt, &world, r, &[]);
-        assert_eq!(rt; done_at(&world, r), successes(0), "rank {r}");
-    }
+fn a_barrier_step_by_step(rt: HostRuntime) {
+    let mut world = world_of(&rt, rt.alloc(), b"coll 1\nranks 2\nbarrier\nend\n");
+    check_both(&rt, &world, &[&[], &[]], 0);
     // A start, six firings and a receipt at each rank.
-    for i in 0..16u32 {
-        let step = nth_step(&world, 0).ok_or("at rest")?;
-        assert!(rt; make_step(&mut world, step), "step {i}");
-    }
+    make_first(&rt, &mut world, 16);
     check_rest(&rt, &world, 0);
-    let first = [
-        START,
-        fired(0),
-        fired(1),
-        fired(2),
-        fired(3),
-        fired(4),
-        from(1),
-        fired(5),
-    ];
-    let second = [
-        START,
-        from(0),
-        fired(0),
-        fired(1),
-        fired(2),
-        fired(3),
-        fired(4),
-        fired(5),
-    ];
-    check_history(&rt, &world, 0, &first);
-    check_history(&rt, &world, 1, &second);
-    assert_eq!(rt; done_at(&world, 0), successes(3));
-    assert_eq!(rt; done_at(&world, 1), successes(3));
-    Ok(())
+    check_both(&rt, &world, MET, 3);
 }

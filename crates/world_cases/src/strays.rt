@@ -1,13 +1,14 @@
 //! Strays: messages of another job, which are dropped.
 
-ghost use Rattle.std.specs.Prelude.{◌≡◌, ◌<◌, ◌-◌, IsTrue};
+ghost use Rattle.std.specs.Prelude.{◌≡◌, ◌<◌, ◌-◌};
 
-use crate::scene::{at_rest, check_lists, done_at, enabled, job_of, registers_at, successes};
+use crate::answers::{gives, same_at, same_in};
+use crate::scene::{
+    at_rest, check_lists, done_at, enabled, must_job, registers_at, run, successes,
+};
 use ptl_types::{Bytes, Header, Lane, Message};
-use schedule_compiler::Job;
 use std::alloc::Global;
 use std::process::Abort;
-use std::test::Fail;
 use worlds::World;
 
 /// The header of a put of one byte of job 2 from rank 0 to rank 1.
@@ -18,36 +19,43 @@ const STRAY: Header = Header {
     ..Header::PLAIN
 };
 
-/// Puts a stray of one byte at the end of the lane of requests from rank 0 to rank 1. `false`: the job doesn't use it, or there is
-/// no memory.
-fn inject(alloc: Global, world: &mut World) -> bool
+/// Puts a stray of one byte at the end of the lane of requests from rank 0 to rank 1, which the job uses.
+fn inject(rt: &impl Abort, alloc: Global, world: &mut World)
     requires { 0 < world.old.strays }
-    ensures { IsTrue result → world.new.strays ≡ world.old.strays - 1 }
+    ensures { world.new.strays ≡ world.old.strays - 1 }
 {
     let schedule = world.schedule();
     if schedule.shape().ranks() < 2 || schedule.lane(0, 1, Lane::Request) == 0 {
-        return false;
+        panic!(rt; "the lane is used")
     }
     let Ok(bytes) = Bytes::of(alloc, &[1]) else {
-        return false;
+        panic!(rt; "a byte")
     };
     world.inject(0, 1, Message::new(STRAY, bytes));
-    true
 }
 
-/// A world with two strays, one before any step and one at rest.
-fn run_with_strays(rt: &impl Abort, alloc: Global, job: &Job) -> Option<World> {
-    let Ok(mut world) = World::open_with_strays(alloc, job, 2) else {
-        return None;
+/// A world with room for two strays.
+fn opened(rt: &impl Abort, alloc: Global, text: &[u8]) -> World
+    ensures { result.strays ≡ 2 }
+{
+    let job = must_job(rt, alloc, text);
+    let Ok(world) = World::open_with_strays(alloc, &job, 2) else {
+        panic!(rt; "a world")
     };
-    assert!(rt; inject(alloc, &mut world));
-    world.run_to_rest();
-    assert!(rt; at_rest(&world));
-    assert_eq!(rt; registers_at(&world, 1), Some((1, 0)));
-    assert!(rt; inject(alloc, &mut world));
-    assert_eq!(rt; enabled(&world), 1);
-    world.run_to_rest();
-    Some(world)
+    world
+}
+
+/// Runs a world with two strays, one before any step and one at rest.
+fn run_with_strays(rt: &impl Abort, alloc: Global, world: &mut World)
+    requires { world.old.strays ≡ 2 }
+{
+    inject(rt, alloc, world);
+    run(world);
+    gives!(rt; at_rest(world), true);
+    gives!(rt; registers_at(world, 1), Some((1, 0)));
+    inject(rt, alloc, world);
+    gives!(rt; enabled(world), 1);
+    run(world);
 }
 
 /// Two ranks whose lane from rank 0 to rank 1 is used, the lists of the buffers, and where the counting events end.
@@ -65,18 +73,27 @@ const CASES: &[(&[u8], &[&[&[u8]]], u64)] = &[
     ),
 ];
 
+/// What is seen of such a world in the end.
+fn check_end(rt: &impl Abort, world: &World, lists: &[&[&[u8]]], done: u64, name: u64) {
+    same_in(rt, name, at_rest(world), true);
+    check_lists(rt, world, lists, name);
+    same_at(rt, (name, 0), done_at(world, 0), successes(done));
+    same_at(rt, (name, 1), done_at(world, 1), successes(done));
+    same_at(rt, (name, 0), registers_at(world, 0), Some((0, 0)));
+    same_at(rt, (name, 1), registers_at(world, 1), Some((2, 0)));
+}
+
+/// One case.
+fn check_case(rt: &impl Abort, alloc: Global, case: &(&[u8], &[&[&[u8]]], u64), name: u64) {
+    let (text, lists, done) = *case;
+    let mut world = opened(rt, alloc, text);
+    run_with_strays(rt, alloc, &mut world);
+    check_end(rt, &world, lists, done, name);
+}
+
 #[test]
-fn strays_are_dropped(rt: HostRuntime) -> Result<(), Fail> {
-    for (i, (text, lists, done)) in CASES.iter().enumerate() {
-        let job = job_of(rt.alloc(), text).ok_or("no job")?;
-        let world = run_with_strays(&rt, rt.alloc(), &job).ok_or("no world")?;
-        assert!(rt; at_rest(&world), "case {i}");
-        check_lists(&rt, &world, lists, i as u64);
-        for r in 0..2u32 {
-            assert_eq!(rt; done_at(&world, r), successes(*done), "case {i}, rank {r}");
-        }
-        assert_eq!(rt; registers_at(&world, 0), Some((0, 0)), "case {i}");
-        assert_eq!(rt; registers_at(&world, 1), Some((2, 0)), "case {i}");
+fn strays_are_dropped(rt: HostRuntime) {
+    for (i, case) in CASES.iter().enumerate() {
+        check_case(&rt, rt.alloc(), case, i as u64);
     }
-    Ok(())
 }
