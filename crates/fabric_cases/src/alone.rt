@@ -3,14 +3,15 @@
 ghost use Rattle.std.specs.Prelude.{◌≡◌, ◌<◌, length};
 ghost use Rattle.turn_table.specs.Hands.{IsFree};
 
-use crate::hands::{close_with_one, one_hand, opened};
-use crate::jobs::{TWO_RANKS, TWO_SUMS, is_pair, job_of};
-use crate::scripts::all_done;
-use ptl_types::{Lane, LocalStep, NoMemory, Rank};
+use crate::answers::gives;
+use crate::hands::{close_with_one, must_open, one_hand};
+use crate::jobs::{TWO_RANKS, TWO_SUMS, pair_of};
+use crate::scripts::check_rest;
+use ptl_types::{Lane, LocalStep, Rank};
 use rank_threads::{Fabric, Hand, OpenGate};
 use std::alloc::Global;
+use std::process::Abort;
 use std::sync::Wait;
-use std::test::*;
 use worlds::World;
 
 /// Makes a step of a rank, if there is one.
@@ -29,13 +30,13 @@ fn step_at<R: Wait>(
 }
 
 /// The steps that a rank makes until there is none, twenty at most.
-fn steps_at<R: Wait>(
+fn steps_at<R: Wait + Abort>(
     rt: &R,
     alloc: Global,
     fabric: &Fabric<OpenGate>,
     hand: &mut Hand,
     rank: Rank,
-) -> Result<Vec<LocalStep>, NoMemory>
+) -> Vec<LocalStep>
     requires hand { IsFree fabric.now.turns hand.old }
     requires ranks { fabric.now.job.shape.ranks ≡ 2 }
     requires rank { rank < 2 }
@@ -45,11 +46,13 @@ fn steps_at<R: Wait>(
     let mut steps = Vec::new(alloc);
     for _ in 0..20 {
         let Some(step) = step_at(rt, fabric, hand, rank) else {
-            return Ok(steps);
+            return steps;
         };
-        steps.push(step)?;
+        if steps.push(step).is_err() {
+            panic!(rt; "room for a step")
+        }
     }
-    Ok(steps)
+    steps
 }
 
 /// How many steps a hand made at each of two ranks.
@@ -73,57 +76,74 @@ fn begins(steps: &[LocalStep]) -> bool {
     true
 }
 
-/// What is left for a rank after that: the receipt of the other rank's message, and the firing of the last operation.
-fn ends(source: Rank) -> [LocalStep; 2] {
-    [
-        LocalStep::Receive {
-            source,
-            lane: Lane::Request,
-        },
-        LocalStep::Fire { number: 5 },
-    ]
+/// What is left for a rank after that: the receipt of the other rank's message, here of rank 0, and the firing of the last operation.
+const ENDS_AFTER_0: &[LocalStep] = &[
+    LocalStep::Receive {
+        source: 0,
+        lane: Lane::Request,
+    },
+    LocalStep::Fire { number: 5 },
+];
+
+/// The same after the message of rank 1.
+const ENDS_AFTER_1: &[LocalStep] = &[
+    LocalStep::Receive {
+        source: 1,
+        lane: Lane::Request,
+    },
+    LocalStep::Fire { number: 5 },
+];
+
+/// The steps after the first six.
+fn after_six(steps: &[LocalStep]) -> &[LocalStep] {
+    if 6 <= steps.len() { &steps[6..] } else { &[] }
+}
+
+/// So many steps: the first six of a barrier, and these.
+fn check_begun(rt: &impl Abort, steps: &[LocalStep], count: usize, rest: &[LocalStep]) {
+    gives!(rt; steps.len(), count);
+    gives!(rt; begins(steps), true);
+    gives!(rt; after_six(steps), rest);
+}
+
+/// Every step of a barrier, made by one hand.
+fn make_barrier<R: Wait + Abort>(rt: &R, alloc: Global, fabric: &Fabric<OpenGate>, hand: &mut Hand)
+    requires hand { IsFree fabric.now.turns hand.old }
+    requires ranks { fabric.now.job.shape.ranks ≡ 2 }
+    ensures hand { IsFree fabric.now.turns hand.new }
+    ensures parts { hand.new.knows.parts ≡ hand.old.knows.parts }
+{
+    let first = steps_at(rt, alloc, fabric, hand, 0);
+    check_begun(rt, &first, 6, &[]);
+    let second = steps_at(rt, alloc, fabric, hand, 1);
+    check_begun(rt, &second, 8, ENDS_AFTER_0);
+    let last = steps_at(rt, alloc, fabric, hand, 0);
+    gives!(rt; last.as_slice(), ENDS_AFTER_1);
 }
 
 #[test]
-fn one_hand_makes_every_step_of_a_barrier(rt: HostRuntime) -> Result<(), Fail> {
+fn one_hand_makes_every_step_of_a_barrier(rt: HostRuntime) {
     let alloc = rt.alloc();
-    let job = job_of(&rt, alloc, TWO_RANKS);
-    assert!(rt; is_pair(&job));
-    let (fabric, hands) = opened(&rt, alloc, &job, 1, OpenGate)?;
+    let job = pair_of(&rt, alloc, TWO_RANKS);
+    let (fabric, hands) = must_open(&rt, alloc, &job, 1, OpenGate);
     let mut hand = one_hand(&fabric, hands);
-    let first = steps_at(&rt, alloc, &fabric, &mut hand, 0)?;
-    assert_eq!(rt; first.len(), 6);
-    assert!(rt; begins(first.as_slice()));
-    let second = steps_at(&rt, alloc, &fabric, &mut hand, 1)?;
-    assert_eq!(rt; second.len(), 8);
-    assert!(rt; begins(second.as_slice()));
-    assert_eq!(rt; &second[6..], ends(0).as_slice());
-    let last = steps_at(&rt, alloc, &fabric, &mut hand, 0)?;
-    assert_eq!(rt; last.as_slice(), ends(1).as_slice());
-    assert_eq!(rt; made(&fabric, &hand), [8, 8]);
-    let world = close_with_one(&rt, alloc, fabric, hand)?;
-    assert!(rt; world.at_rest());
-    assert!(rt; all_done(&world, 3));
-    Ok(())
+    make_barrier(&rt, alloc, &fabric, &mut hand);
+    gives!(&rt; made(&fabric, &hand), [8, 8]);
+    let world = close_with_one(&rt, alloc, fabric, hand);
+    check_rest(&rt, &world, 3);
 }
 
 /// Lets each of two ranks in turn make the steps that it has, three times.
-fn sweep<R: Wait>(
-    rt: &R,
-    alloc: Global,
-    fabric: &Fabric<OpenGate>,
-    hand: &mut Hand,
-) -> Result<(), NoMemory>
+fn sweep<R: Wait + Abort>(rt: &R, alloc: Global, fabric: &Fabric<OpenGate>, hand: &mut Hand)
     requires hand { IsFree fabric.now.turns hand.old }
     requires ranks { fabric.now.job.shape.ranks ≡ 2 }
     ensures hand { IsFree fabric.now.turns hand.new }
     ensures parts { hand.new.knows.parts ≡ hand.old.knows.parts }
 {
     for _ in 0..3 {
-        steps_at(rt, alloc, fabric, hand, 0)?;
-        steps_at(rt, alloc, fabric, hand, 1)?;
+        let _ = steps_at(rt, alloc, fabric, hand, 0);
+        let _ = steps_at(rt, alloc, fabric, hand, 1);
     }
-    Ok(())
 }
 
 /// Whether a buffer of a world holds these bytes at each rank.
@@ -141,17 +161,14 @@ fn holds(world: &World, buffer: u32, bytes: &[u8]) -> bool {
 }
 
 #[test]
-fn one_hand_makes_every_step_of_a_sum(rt: HostRuntime) -> Result<(), Fail> {
+fn one_hand_makes_every_step_of_a_sum(rt: HostRuntime) {
     let alloc = rt.alloc();
-    let job = job_of(&rt, alloc, TWO_SUMS);
-    assert!(rt; is_pair(&job));
-    let (fabric, hands) = opened(&rt, alloc, &job, 1, OpenGate)?;
+    let job = pair_of(&rt, alloc, TWO_SUMS);
+    let (fabric, hands) = must_open(&rt, alloc, &job, 1, OpenGate);
     let mut hand = one_hand(&fabric, hands);
-    sweep(&rt, alloc, &fabric, &mut hand)?;
-    assert_eq!(rt; made(&fabric, &hand), [16, 15]);
-    let world = close_with_one(&rt, alloc, fabric, hand)?;
-    assert!(rt; world.at_rest());
-    assert!(rt; all_done(&world, 5));
-    assert!(rt; holds(&world, 1, &[44, 1]));
-    Ok(())
+    sweep(&rt, alloc, &fabric, &mut hand);
+    gives!(&rt; made(&fabric, &hand), [16, 15]);
+    let world = close_with_one(&rt, alloc, fabric, hand);
+    check_rest(&rt, &world, 5);
+    gives!(&rt; holds(&world, 1, &[44, 1]), true);
 }

@@ -7,12 +7,13 @@ use ptl_types::NoMemory;
 use rank_threads::{Fabric, Gate, Hand};
 use schedule_compiler::Job;
 use std::alloc::Global;
+use std::process::Abort;
 use std::sync::Wait;
 use std::thread::Threads;
 use worlds::World;
 
 /// A fabric of a job, and its hands.
-pub(crate) fn opened<R: Threads + Sync, G: Gate + Drop>(
+fn opened<R: Threads + Sync, G: Gate + Drop>(
     rt: &R,
     alloc: Global,
     job: &Job,
@@ -29,6 +30,27 @@ pub(crate) fn opened<R: Threads + Sync, G: Gate + Drop>(
     Fabric::open(rt, alloc, job, count, gate)
 }
 
+/// A fabric of a job, and its hands, where there is memory for it.
+pub(crate) fn must_open<R: Threads + Sync + Abort, G: Gate + Drop>(
+    rt: &R,
+    alloc: Global,
+    job: &Job,
+    count: u32,
+    gate: G,
+) -> (Fabric<G>, Vec<Hand>)
+    requires { 0 < count }
+    ensures job { result.0.job ≡ job.now }
+    ensures ranks { length result.0.turns.start ≡ job.now.shape.ranks }
+    ensures count { length result.1.items ≡ count }
+    ensures hands { All (λ h. IsFree result.0.turns h) result.1.items }
+    ensures parts { parts_of result.1.items ≡ 2 ^ 32 }
+{
+    let Ok(both) = opened(rt, alloc, job, count, gate) else {
+        panic!(rt; "a fabric")
+    };
+    both
+}
+
 /// The two hands of a fabric.
 pub(crate) fn two_hands<G: Gate + Drop>(fabric: &Fabric<G>, hands: Vec<Hand>) -> (Hand, Hand)
     requires hands { (length hands.items ≡ 2) × All (λ h. IsFree fabric.now.turns h) hands.items }
@@ -43,20 +65,23 @@ pub(crate) fn two_hands<G: Gate + Drop>(fabric: &Fabric<G>, hands: Vec<Hand>) ->
 }
 
 /// Closes a fabric with its two hands.
-pub(crate) fn close_with<R: Wait, G: Gate + Drop>(
+pub(crate) fn close_with<R: Wait + Abort, G: Gate + Drop>(
     rt: &R,
     alloc: Global,
     fabric: Fabric<G>,
     one: Hand,
     two: Hand,
-) -> Result<World, NoMemory>
+) -> World
     requires hands { IsFree fabric.turns one × IsFree fabric.turns two }
     requires all { one.knows.parts + two.knows.parts ≡ 2 ^ 32 }
 {
-    let mut both = Vec::with_capacity(alloc, 2)?;
+    let Ok(room) = Vec::with_capacity(alloc, 2) else {
+        panic!(rt; "room for two hands")
+    };
+    let mut both = room;
     both.push_reserved(one);
     both.push_reserved(two);
-    Ok(fabric.close(rt, both))
+    fabric.close(rt, both)
 }
 
 /// The one hand of a fabric.
@@ -73,16 +98,19 @@ pub(crate) fn one_hand<G: Gate + Drop>(fabric: &Fabric<G>, hands: Vec<Hand>) -> 
 }
 
 /// Closes a fabric with its one hand.
-pub(crate) fn close_with_one<R: Wait, G: Gate + Drop>(
+pub(crate) fn close_with_one<R: Wait + Abort, G: Gate + Drop>(
     rt: &R,
     alloc: Global,
     fabric: Fabric<G>,
     one: Hand,
-) -> Result<World, NoMemory>
+) -> World
     requires hand { IsFree fabric.turns one }
     requires all { one.knows.parts ≡ 2 ^ 32 }
 {
-    let mut hands = Vec::with_capacity(alloc, 1)?;
+    let Ok(room) = Vec::with_capacity(alloc, 1) else {
+        panic!(rt; "room for a hand")
+    };
+    let mut hands = room;
     hands.push_reserved(one);
-    Ok(fabric.close(rt, hands))
+    fabric.close(rt, hands)
 }

@@ -37,7 +37,7 @@ pub(crate) fn job_of<A: Abort>(rt: &A, alloc: Global, text: &[u8]) -> Job {
 }
 
 /// Whether there are two ranks, of which the first sends requests to the second.
-pub(crate) fn is_pair(job: &Job) -> bool
+fn is_pair(job: &Job) -> bool
     ensures ranks { IsTrue result → job.now.shape.ranks ≡ 2 }
     ensures lane { IsTrue result → is_used_lane (plan_of job.now.shape) 0 1 Request ≡ true }
 {
@@ -46,4 +46,14 @@ pub(crate) fn is_pair(job: &Job) -> bool
         return false;
     }
     0 < schedule.lane(0, 1, Lane::Request)
+}
+
+/// The job of a text of two ranks, of which the first sends requests to the second.
+pub(crate) fn pair_of<A: Abort>(rt: &A, alloc: Global, text: &[u8]) -> Job
+    ensures ranks { result.shape.ranks ≡ 2 }
+    ensures lane { is_used_lane (plan_of result.shape) 0 1 Request ≡ true }
+{
+    let job = job_of(rt, alloc, text);
+    assert!(rt; is_pair(&job));
+    job
 }

@@ -4,6 +4,8 @@
 #[cfg(test)]
 mod alone;
 #[cfg(test)]
+mod answers;
+#[cfg(test)]
 mod gates;
 #[cfg(test)]
 mod hands;

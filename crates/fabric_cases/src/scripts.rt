@@ -6,12 +6,13 @@ ghost use Rattle.plan_calls.specs.Lanes.{is_used_lane};
 ghost use Rattle.shape_plans.specs.Drawing.{plan_of};
 ghost use Rattle.turn_table.specs.Hands.{IsFree};
 
-use crate::hands::{close_with, opened, two_hands};
-use crate::jobs::{TWO_RANKS, is_pair, job_of};
+use crate::answers::gives;
+use crate::hands::{close_with, must_open, two_hands};
+use crate::jobs::{TWO_RANKS, pair_of};
 use ptl_types::Lane;
 use rank_threads::{Fabric, Hand, OpenGate, StartAnswer};
+use std::process::Abort;
 use std::sync::Wait;
-use std::test::*;
 use worlds::World;
 
 /// What the calls of the script answered, and how many steps each hand then had made at rank 0.
@@ -63,25 +64,30 @@ pub(crate) fn all_done(world: &World, count: u64) -> bool {
     true
 }
 
+/// A world is at rest, and each rank counted so many successes.
+pub(crate) fn check_rest(rt: &impl Abort, world: &World, count: u64) {
+    gives!(rt; world.at_rest(), true);
+    gives!(rt; all_done(world, count), true);
+}
+
+/// What the script answers by hand.
+fn check_answers(rt: &impl Abort, answers: &Answers) {
+    gives!(rt; answers.starts, [StartAnswer::Started, StartAnswer::AlreadyStarted]);
+    gives!(rt; answers.fired_early, None);
+    gives!(rt; answers.moved_early, false);
+    gives!(rt; answers.fired == Some(0) || answers.fired == Some(3), true);
+    gives!(rt; answers.made, [2, 0]);
+}
+
 #[test]
-fn two_hands_take_turns(rt: HostRuntime) -> Result<(), Fail> {
+fn two_hands_take_turns(rt: HostRuntime) {
     let alloc = rt.alloc();
-    let job = job_of(&rt, alloc, TWO_RANKS);
-    assert!(rt; is_pair(&job));
-    let (fabric, hands) = opened(&rt, alloc, &job, 2, OpenGate)?;
+    let job = pair_of(&rt, alloc, TWO_RANKS);
+    let (fabric, hands) = must_open(&rt, alloc, &job, 2, OpenGate);
     let (mut one, mut two) = two_hands(&fabric, hands);
     let answers = script(&rt, &fabric, &mut one, &mut two);
-    assert_eq!(rt;
-        answers.starts,
-        [StartAnswer::Started, StartAnswer::AlreadyStarted]
-    );
-    assert_eq!(rt; answers.fired_early, None);
-    assert!(rt; !answers.moved_early);
-    assert!(rt; answers.fired == Some(0) || answers.fired == Some(3));
-    assert_eq!(rt; answers.made, [2, 0]);
-    let mut world = close_with(&rt, alloc, fabric, one, two)?;
+    check_answers(&rt, &answers);
+    let mut world = close_with(&rt, alloc, fabric, one, two);
     world.run_to_rest();
-    assert!(rt; world.at_rest());
-    assert!(rt; all_done(&world, 3));
-    Ok(())
+    check_rest(&rt, &world, 3);
 }

@@ -3,12 +3,12 @@
 ghost use Rattle.std.specs.Prelude.{◌≡◌, ◌<◌};
 ghost use Rattle.turn_table.specs.Hands.{IsFree};
 
+use crate::answers::gives;
 use crate::gates::{Counting, Meeting};
-use crate::hands::{close_with, opened, two_hands};
-use crate::jobs::{FOUR_RANKS, TWO_RANKS, is_pair, job_of};
+use crate::hands::{close_with, must_open, two_hands};
+use crate::jobs::{FOUR_RANKS, TWO_RANKS, job_of, pair_of};
 use rank_threads::{Fabric, Gate, Hand, run_and_close};
 use std::sync::Wait;
-use std::test::*;
 use std::thread;
 use std::thread::Threads;
 use worlds::World;
@@ -23,28 +23,26 @@ fn steps(world: &World) -> u64 {
 }
 
 #[test]
-fn one_worker_makes_every_step(rt: HostRuntime) -> Result<(), Fail> {
+fn one_worker_makes_every_step(rt: HostRuntime) {
     let alloc = rt.alloc();
     let job = job_of(&rt, alloc, FOUR_RANKS);
     let gate = Counting::new();
-    let (fabric, hands) = opened(&rt, alloc, &job, 1, &gate)?;
+    let (fabric, hands) = must_open(&rt, alloc, &job, 1, &gate);
     let world = run_and_close(&rt, fabric, hands);
-    assert!(rt; world.at_rest());
-    assert_eq!(rt; gate.passes(), steps(&world));
-    Ok(())
+    gives!(&rt; world.at_rest(), true);
+    gives!(&rt; gate.passes(), steps(&world));
 }
 
 #[test]
-fn four_workers_and_then_one(rt: HostRuntime) -> Result<(), Fail> {
+fn four_workers_and_then_one(rt: HostRuntime) {
     let alloc = rt.alloc();
     let job = job_of(&rt, alloc, FOUR_RANKS);
     let gate = Counting::new();
-    let (fabric, hands) = opened(&rt, alloc, &job, 4, &gate)?;
+    let (fabric, hands) = must_open(&rt, alloc, &job, 4, &gate);
     let mut world = run_and_close(&rt, fabric, hands);
-    assert_eq!(rt; gate.passes(), steps(&world));
+    gives!(&rt; gate.passes(), steps(&world));
     world.run_to_rest();
-    assert!(rt; world.at_rest());
-    Ok(())
+    gives!(&rt; world.at_rest(), true);
 }
 
 // Each thread starts a rank.
@@ -85,16 +83,14 @@ fn start<R: Wait, G: Gate + Drop>(rt: &R, fabric: &Fabric<G>, hand: Hand, rank: 
 }
 
 #[test]
-fn two_interfaces_at_once(rt: HostRuntime) -> Result<(), Fail> {
+fn two_interfaces_at_once(rt: HostRuntime) {
     let alloc = rt.alloc();
-    let job = job_of(&rt, alloc, TWO_RANKS);
-    assert!(rt; is_pair(&job));
+    let job = pair_of(&rt, alloc, TWO_RANKS);
     let gate = Meeting::new();
-    let (fabric, hands) = opened(&rt, alloc, &job, 2, &gate)?;
+    let (fabric, hands) = must_open(&rt, alloc, &job, 2, &gate);
     let (one, two) = two_hands(&fabric, hands);
     let (one, two) = start_both(&rt, &fabric, one, two);
-    let world = close_with(&rt, alloc, fabric, one, two)?;
-    assert!(rt; gate.met());
-    assert_eq!(rt; steps(&world), 2);
-    Ok(())
+    let world = close_with(&rt, alloc, fabric, one, two);
+    gives!(&rt; gate.met(), true);
+    gives!(&rt; steps(&world), 2);
 }

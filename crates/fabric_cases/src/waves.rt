@@ -7,16 +7,16 @@ ghost use Rattle.rest_probe.specs.Waves.{IsFor};
 ghost use Rattle.shape_plans.specs.Drawing.{plan_of};
 ghost use Rattle.turn_table.specs.Hands.{IsFree};
 
-use crate::hands::{opened, two_hands};
-use crate::jobs::{TWO_RANKS, is_pair, job_of};
+use crate::answers::gives;
+use crate::hands::{must_open, two_hands};
+use crate::jobs::{TWO_RANKS, pair_of};
 use crate::scripts::script;
-use ptl_types::NoMemory;
+use ptl_types::{NoMemory, Rank};
 use rank_threads::{Fabric, Hand, OpenGate};
 use rest_probe::{Wave, WaveAnswer};
 use schedule_compiler::Job;
 use std::alloc::Global;
 use std::sync::Wait;
-use std::test::*;
 
 /// The room of a wave for a fabric of this job.
 fn room(alloc: Global, fabric: &Fabric<OpenGate>, job: &Job) -> Result<Wave, NoMemory>
@@ -49,19 +49,25 @@ fn waves<R: Wait>(
     [first, wave.answer()]
 }
 
+/// The rank whose operation is ready, if the answer is that there is one.
+fn ready_rank(answer: &WaveAnswer) -> Option<Rank> {
+    match answer {
+        WaveAnswer::Ready { rank, .. } => Some(*rank),
+        _ => None,
+    }
+}
+
 #[test]
-fn waves_name_what_is_left(rt: HostRuntime) -> Result<(), Fail> {
+fn waves_name_what_is_left(rt: HostRuntime) {
     let alloc = rt.alloc();
-    let job = job_of(&rt, alloc, TWO_RANKS);
-    assert!(rt; is_pair(&job));
-    let (fabric, hands) = opened(&rt, alloc, &job, 2, OpenGate)?;
-    let mut wave = room(alloc, &fabric, &job)?;
+    let job = pair_of(&rt, alloc, TWO_RANKS);
+    let (fabric, hands) = must_open(&rt, alloc, &job, 2, OpenGate);
+    let Ok(empty) = room(alloc, &fabric, &job) else {
+        panic!(rt; "room for a wave")
+    };
+    let mut wave = empty;
     let (mut one, mut two) = two_hands(&fabric, hands);
     let [first, second] = waves(&rt, &fabric, &mut one, &mut two, &mut wave);
-    assert_eq!(rt; first, WaveAnswer::NotStarted(1));
-    let WaveAnswer::Ready { rank, .. } = second else {
-        panic!(rt; "an operation of rank 0 is ready")
-    };
-    assert_eq!(rt; rank, 0);
-    Ok(())
+    gives!(&rt; first, WaveAnswer::NotStarted(1));
+    gives!(&rt; ready_rank(&second), Some(0));
 }
