@@ -1,7 +1,8 @@
 //! Sources and sinks that take few bytes, or fail, under each command.
 
-use crate::runs::{run, run_between};
-use port_io::{IoTurn, IoTurns, MemorySink, MemorySource, Source, SureSink, SureSource};
+use crate::comparing::{same, same_bytes};
+use crate::runs::{Left, Made, no_world, run, run_between, run_into, same_left, unread};
+use port_io::{IoTurn, IoTurns, MemorySink, MemorySource, SureSink, SureSource};
 use portals_top::Status;
 use program_texts::{
     BARRIER_WITH_ORDERS, ONE_RANK, ONE_RANK_IN_JSON, ONE_RANK_RESULT, THREE_STEPS,
@@ -28,54 +29,82 @@ fn turns(alloc: Global, takes: u32, most: u64, fails: bool) -> Result<IoTurns, F
     Ok(turns)
 }
 
-/// Runs `once` by turns of the source and of the sink.
+/// A source of a text by such turns.
+fn source_of(
+    alloc: Global,
+    text: &str,
+    takes: u32,
+    most: u64,
+    fails: bool,
+) -> Result<MemorySource, Fail> {
+    let turns = turns(alloc, takes, most, fails)?;
+    Ok(MemorySource::new(Bytes::of(alloc, text.as_bytes())?, turns))
+}
+
+/// A sink by such turns, with room for so many bytes.
+fn sink_of(
+    alloc: Global,
+    room: u64,
+    takes: u32,
+    most: u64,
+    fails: bool,
+) -> Result<MemorySink, Fail> {
+    let turns = turns(alloc, takes, most, fails)?;
+    Ok(MemorySink::with_room(alloc, turns, room)?)
+}
+
+/// The turns of one end: how many take something, how much each takes at most, and whether one fails after them.
+type Turns = (u32, u64, bool);
+
+/// Stops the test where a run of one rank ended in another way.
+fn ends_as_due(rt: &impl Abort, left: Left, sink: &MemorySink, status: Status, output: &str) {
+    same(rt, &output, left.status, status);
+    same_bytes(rt, &output, sink.as_slice(), output.as_bytes());
+    same(rt, &output, sink.finishes() == 1, status == Status::Done);
+    same(rt, &output, left.world, status != Status::ReadFault);
+}
+
+/// Runs `once` on one rank by turns of the source and of the sink.
 fn scripted(
     rt: &(impl Abort + Threads + Wait + Sync),
     alloc: Global,
-    reads: IoTurns,
-    writes: IoTurns,
+    reads: Turns,
+    writes: Turns,
     status: Status,
     output: &str,
 ) -> Result<(), Fail> {
-    let mut source = MemorySource::new(Bytes::of(alloc, ONE_RANK.as_bytes())?, reads);
-    let mut sink = MemorySink::with_room(alloc, writes, 64)?;
-    let (answer, ran) = run_between(rt, alloc, &["once"], &mut source, &mut sink)?;
-    assert_eq!(rt; answer, status);
-    assert_eq!(rt; sink.as_slice(), output.as_bytes());
-    assert_eq!(rt; sink.finishes() == 1, status == Status::Done);
-    assert_eq!(rt; ran.world.is_some(), status != Status::ReadFault);
+    let mut source = source_of(alloc, ONE_RANK, reads.0, reads.1, reads.2)?;
+    let mut sink = sink_of(alloc, 64, writes.0, writes.1, writes.2)?;
+    let left = run_between(rt, alloc, &["once"], &mut source, &mut sink);
+    ends_as_due(rt, left, &sink, status, output);
     Ok(())
 }
 
+/// Turns of the source and of the sink, what is answered, and what is written.
+const SCRIPTS: &[(Turns, Turns, Status, &str)] = &[
+    (
+        (200, 1, false),
+        (200, 1, false),
+        Status::Done,
+        ONE_RANK_RESULT,
+    ),
+    ((0, 1, true), (0, 1, false), Status::ReadFault, ""),
+    ((1, 5, true), (0, 1, false), Status::ReadFault, ""),
+    ((0, 1, false), (1, 3, true), Status::WriteFault, "b 0"),
+    // The whole text is taken, and its end fails.
+    (
+        (0, 1, false),
+        (1, 100, true),
+        Status::WriteFault,
+        ONE_RANK_RESULT,
+    ),
+    ((0, 1, false), (0, 1, true), Status::WriteFault, ""),
+];
+
 #[test]
 fn pieces_and_faults_of_both_ends(rt: HostRuntime) -> Result<(), Fail> {
-    let alloc = rt.alloc();
-    for (reads, read_fails, writes, write_fails, status, output) in [
-        (
-            (200, 1),
-            false,
-            (200, 1),
-            false,
-            Status::Done,
-            ONE_RANK_RESULT,
-        ),
-        ((0, 1), true, (0, 1), false, Status::ReadFault, ""),
-        ((1, 5), true, (0, 1), false, Status::ReadFault, ""),
-        ((0, 1), false, (1, 3), true, Status::WriteFault, "b 0"),
-        // The whole text is taken, and its end fails.
-        (
-            (0, 1),
-            false,
-            (1, 100),
-            true,
-            Status::WriteFault,
-            ONE_RANK_RESULT,
-        ),
-        ((0, 1), false, (0, 1), true, Status::WriteFault, ""),
-    ] {
-        let reads = turns(alloc, reads.0, reads.1, read_fails)?;
-        let writes = turns(alloc, writes.0, writes.1, write_fails)?;
-        scripted(&rt, alloc, reads, writes, status, output)?;
+    for (reads, writes, status, output) in SCRIPTS {
+        scripted(&rt, rt.alloc(), *reads, *writes, *status, output)?;
     }
     Ok(())
 }
@@ -84,17 +113,32 @@ fn pieces_and_faults_of_both_ends(rt: HostRuntime) -> Result<(), Fail> {
 fn a_usage_line_that_fails_leaves_the_source_unread(rt: HostRuntime) -> Result<(), Fail> {
     let alloc = rt.alloc();
     let mut source = SureSource::new(Bytes::of(alloc, b"ab")?);
-    let mut sink = MemorySink::with_room(alloc, turns(alloc, 0, 1, true)?, 96)?;
-    let (answer, ran) = run_between(&rt, alloc, &["run"], &mut source, &mut sink)?;
-    assert_eq!(rt; answer, Status::WriteFault);
-    assert!(rt; sink.as_slice().is_empty());
-    assert!(rt; ran.world.is_none());
-    let mut left = [0u8; 4];
-    assert_eq!(rt; source.read(&mut left), Ok(2));
+    let mut sink = sink_of(alloc, 96, 0, 1, true)?;
+    let left = run_between(&rt, alloc, &["run"], &mut source, &mut sink);
+    same_left(&rt, &"run", left, no_world(Status::WriteFault));
+    same_bytes(&rt, &"run", sink.as_slice(), b"");
+    same(&rt, &"run", unread(&mut source), Ok(2));
     Ok(())
 }
 
-/// The source gives a byte at a call, and fails at one of its first calls: nothing is written, and no world is left.
+/// The source gives a byte at so many calls, and fails at the next: nothing is written, and no world is left.
+fn fails_at_a_read(
+    rt: &(impl Abort + Threads + Wait + Sync),
+    alloc: Global,
+    command: &[&str],
+    text: &str,
+    call: u32,
+) -> Result<(), Fail> {
+    let mut source = source_of(alloc, text, call, 1, true)?;
+    let mut sink = SureSink::with_room(alloc, 64)?;
+    let left = run_between(rt, alloc, command, &mut source, &mut sink);
+    same_left(rt, &call, left, no_world(Status::ReadFault));
+    same_bytes(rt, &call, sink.as_slice(), b"");
+    same(rt, &call, sink.finishes(), 0);
+    Ok(())
+}
+
+/// The source fails at one of its first calls.
 fn fails_at_the_source(
     rt: &(impl Abort + Threads + Wait + Sync),
     alloc: Global,
@@ -102,38 +146,63 @@ fn fails_at_the_source(
     text: &str,
 ) -> Result<(), Fail> {
     for call in 0..CALLS {
-        let reads = turns(alloc, call, 1, true)?;
-        let mut source = MemorySource::new(Bytes::of(alloc, text.as_bytes())?, reads);
-        let mut sink = SureSink::with_room(alloc, 64)?;
-        let (status, ran) = run_between(rt, alloc, command, &mut source, &mut sink)?;
-        assert_eq!(rt; status, Status::ReadFault, "at {call}");
-        assert!(rt; sink.as_slice().is_empty(), "at {call}");
-        assert_eq!(rt; sink.finishes(), 0, "at {call}");
-        assert!(rt; ran.world.is_none(), "at {call}");
+        fails_at_a_read(rt, alloc, command, text, call)?;
     }
     Ok(())
 }
+
+/// Commands that read a text, each with one.
+const READING: &[(&[&str], &str)] = &[
+    (&["once"], ONE_RANK),
+    (&["sim", "1"], ONE_RANK),
+    (&["plan"], ONE_RANK),
+    (&["run", "2"], ONE_RANK),
+    (&["trace", "2"], ONE_RANK),
+    (&["json", "2"], ONE_RANK_IN_JSON),
+    (&["check"], BARRIER_WITH_ORDERS),
+];
 
 #[test]
 fn a_source_fails_under_each_command(rt: HostRuntime) -> Result<(), Fail> {
-    let alloc = rt.alloc();
-    let cases: [(&[&str], &str); 7] = [
-        (&["once"], ONE_RANK),
-        (&["sim", "1"], ONE_RANK),
-        (&["plan"], ONE_RANK),
-        (&["run", "2"], ONE_RANK),
-        (&["trace", "2"], ONE_RANK),
-        (&["json", "2"], ONE_RANK_IN_JSON),
-        (&["check"], BARRIER_WITH_ORDERS),
-    ];
-    for (command, text) in cases {
-        fails_at_the_source(&rt, alloc, command, text)?;
+    for (command, text) in READING {
+        fails_at_the_source(&rt, rt.alloc(), command, text)?;
     }
     Ok(())
 }
 
-/// The sink takes a byte at a call, and fails at one of its first calls: it has the bytes of the calls before. A text that is shorter
-/// stands whole, and its end fails or, where the fault would come later, nothing does.
+/// Stops the test where a sink that takes a byte at so many calls, and then fails, has other bytes than those of the calls before. A
+/// text that is shorter stands whole, and its end fails or, where the fault would come later, nothing does.
+fn has_the_beginning(rt: &impl Abort, call: u32, whole: &Made, left: Left, sink: &MemorySink) {
+    let due = whole.sink.as_slice();
+    let taken = due.len().min(call as usize);
+    same_bytes(rt, &call, sink.as_slice(), &due[..taken]);
+    let fails = call as usize <= due.len();
+    let status = if fails {
+        Status::WriteFault
+    } else {
+        whole.left.status
+    };
+    same(rt, &call, left.status, status);
+    same(rt, &call, left.world, whole.left.world);
+    same(rt, &call, sink.finishes() == 0, fails);
+}
+
+/// The sink takes a byte at so many calls, and fails at the next.
+fn fails_at_a_write(
+    rt: &(impl Abort + Threads + Wait + Sync),
+    alloc: Global,
+    command: &[&str],
+    text: &str,
+    whole: &Made,
+    call: u32,
+) -> Result<(), Fail> {
+    let mut sink = sink_of(alloc, 16_384, call, 1, true)?;
+    let left = run_into(rt, alloc, command, text.as_bytes(), &mut sink);
+    has_the_beginning(rt, call, whole, left, &sink);
+    Ok(())
+}
+
+/// The sink fails at one of its first calls.
 fn fails_at_the_sink(
     rt: &(impl Abort + Threads + Wait + Sync),
     alloc: Global,
@@ -141,44 +210,31 @@ fn fails_at_the_sink(
     text: &str,
 ) -> Result<(), Fail> {
     let whole = run(rt, alloc, command, text.as_bytes())?;
-    let due = whole.sink.as_slice();
     for call in 0..CALLS {
-        let mut source = SureSource::new(Bytes::of(alloc, text.as_bytes())?);
-        let mut sink = MemorySink::with_room(alloc, turns(alloc, call, 1, true)?, 16_384)?;
-        let (status, ran) = run_between(rt, alloc, command, &mut source, &mut sink)?;
-        let taken = due.len().min(call as usize);
-        assert_eq!(rt; sink.as_slice(), &due[..taken], "at {call}");
-        let fails = call as usize <= due.len();
-        let answer = if fails {
-            Status::WriteFault
-        } else {
-            whole.status
-        };
-        assert_eq!(rt; status, answer, "at {call}");
-        assert_eq!(rt; sink.finishes() == 0, fails, "at {call}");
-        assert_eq!(rt; ran.world.is_some(), whole.ran.world.is_some());
+        fails_at_a_write(rt, alloc, command, text, &whole, call)?;
     }
     Ok(())
 }
 
+/// Commands that write something, each with a text.
+const WRITING: &[(&[&str], &str)] = &[
+    (&["once"], ONE_RANK),
+    (&["sim", "1"], THREE_STEPS),
+    (&["plan"], ONE_RANK),
+    (&["run", "2"], THREE_STEPS),
+    // One worker makes the steps in one order.
+    (&["trace", "1"], THREE_STEPS),
+    (&["json", "2"], ONE_RANK_IN_JSON),
+    (&["check"], BARRIER_WITH_ORDERS),
+    (&["check"], "coll 1\nranks 1\nbarrier\nend\norder 0 s r0\n"),
+    (&["once"], "coll 1\nranks 65\nend\n"),
+    (&["once", "now"], ""),
+];
+
 #[test]
 fn a_sink_fails_under_each_command(rt: HostRuntime) -> Result<(), Fail> {
-    let alloc = rt.alloc();
-    let cases: [(&[&str], &str); 10] = [
-        (&["once"], ONE_RANK),
-        (&["sim", "1"], THREE_STEPS),
-        (&["plan"], ONE_RANK),
-        (&["run", "2"], THREE_STEPS),
-        // One worker makes the steps in one order.
-        (&["trace", "1"], THREE_STEPS),
-        (&["json", "2"], ONE_RANK_IN_JSON),
-        (&["check"], BARRIER_WITH_ORDERS),
-        (&["check"], "coll 1\nranks 1\nbarrier\nend\norder 0 s r0\n"),
-        (&["once"], "coll 1\nranks 65\nend\n"),
-        (&["once", "now"], ""),
-    ];
-    for (command, text) in cases {
-        fails_at_the_sink(&rt, alloc, command, text)?;
+    for (command, text) in WRITING {
+        fails_at_the_sink(&rt, rt.alloc(), command, text)?;
     }
     Ok(())
 }

@@ -1,6 +1,8 @@
 //! Descriptions in JSON.
 
-use crate::runs::{gives, run};
+use crate::comparing::{same, same_bytes};
+use crate::runs::{Made, gives, run};
+use port_io::SureSink;
 use portals_top::Status;
 use program_texts::{
     ALLREDUCE_AND_SCAN, ONE_RANK, ONE_RANK_IN_JSON, ONE_RANK_RESULT, STEPS_ON_GROUPS,
@@ -12,40 +14,42 @@ use std::sync::Wait;
 use std::test::Fail;
 use std::thread::Threads;
 
+/// Texts in JSON, what is answered, and what is written.
+const IN_JSON: &[(&str, Status, &str)] = &[
+    (ONE_RANK_IN_JSON, Status::Done, ONE_RANK_RESULT),
+    (
+        r#"{"coll":1,"ranks":1,"inputs":[{"name":"a","type":"u8","rows":[[256]]}],"steps":[["broadcast",0,"a","b"]],"prints":["b"]}"#,
+        Status::Refused,
+        "refused 4 BadNumber\n",
+    ),
+    (
+        r#"{"extra":0,"coll":1,"ranks":1,"inputs":[{"name":"a","type":"u8","rows":[[7]]}],"steps":[["broadcast",0,"a","b"]],"prints":["b"]}"#,
+        Status::Refused,
+        "refused 0 BadForm\n",
+    ),
+    (
+        r#"{"coll":1,"ranks":1.0,"inputs":[{"name":"a","type":"u8","rows":[[7]]}],"steps":[["broadcast",0,"a","b"]],"prints":["b"]}"#,
+        Status::Refused,
+        "refused 0 BadForm\n",
+    ),
+    (r#"{"coll":1"#, Status::Refused, "refused 0 BadJson\n"),
+    (
+        r#"{"coll":2,"ranks":1,"steps":[["elect","e"]],"prints":["e"]}"#,
+        Status::Refused,
+        "refused 0 OneThread\n",
+    ),
+];
+
 #[test]
 fn json_is_run_or_refused(rt: HostRuntime) -> Result<(), Fail> {
-    let alloc = rt.alloc();
-    for (text, status, output) in [
-        (ONE_RANK_IN_JSON, Status::Done, ONE_RANK_RESULT),
-        (
-            r#"{"coll":1,"ranks":1,"inputs":[{"name":"a","type":"u8","rows":[[256]]}],"steps":[["broadcast",0,"a","b"]],"prints":["b"]}"#,
-            Status::Refused,
-            "refused 4 BadNumber\n",
-        ),
-        (
-            r#"{"extra":0,"coll":1,"ranks":1,"inputs":[{"name":"a","type":"u8","rows":[[7]]}],"steps":[["broadcast",0,"a","b"]],"prints":["b"]}"#,
-            Status::Refused,
-            "refused 0 BadForm\n",
-        ),
-        (
-            r#"{"coll":1,"ranks":1.0,"inputs":[{"name":"a","type":"u8","rows":[[7]]}],"steps":[["broadcast",0,"a","b"]],"prints":["b"]}"#,
-            Status::Refused,
-            "refused 0 BadForm\n",
-        ),
-        (r#"{"coll":1"#, Status::Refused, "refused 0 BadJson\n"),
-        (
-            r#"{"coll":2,"ranks":1,"steps":[["elect","e"]],"prints":["e"]}"#,
-            Status::Refused,
-            "refused 0 OneThread\n",
-        ),
-    ] {
-        gives(&rt, alloc, &["json", "2"], text, status, output)?;
+    for (text, status, output) in IN_JSON {
+        gives(&rt, rt.alloc(), &["json", "2"], text, *status, output)?;
     }
     Ok(())
 }
 
 /// Example descriptions in both spellings.
-const BOTH: [(&str, &str); 3] = [
+const BOTH: &[(&str, &str)] = &[
     (
         r#"{"coll": 1, "ranks": 4, "remote": true, "inputs": [{"name": "a", "type": "u32", "rows": [[1], [2], [3], [4]]}],
 "steps": [["allreduce", "sum", "a", "b"], ["barrier"], ["scan", "sum", "b", "c"]], "prints": ["b", "c"]}"#,
@@ -67,19 +71,29 @@ fn written(
     alloc: Global,
     command: &str,
     text: &str,
-) -> Result<Vec<u8>, Fail> {
-    let made = run(rt, alloc, &[command, "4"], text.as_bytes())?;
-    assert_eq!(rt; made.status, Status::Done);
-    Ok(made.sink.as_slice().to_vec(alloc)?)
+) -> Result<SureSink, Fail> {
+    let Made { left, sink } = run(rt, alloc, &[command, "4"], text.as_bytes())?;
+    same(rt, &text, left.status, Status::Done);
+    Ok(sink)
+}
+
+/// Both spellings of a description write the same.
+fn write_the_same(
+    rt: &(impl Abort + Threads + Wait + Sync),
+    alloc: Global,
+    json: &str,
+    text: &str,
+) -> Result<SureSink, Fail> {
+    let one = written(rt, alloc, "json", json)?;
+    let other = written(rt, alloc, "run", text)?;
+    same_bytes(rt, &text, one.as_slice(), other.as_slice());
+    Ok(one)
 }
 
 #[test]
 fn both_spellings_write_the_same(rt: HostRuntime) -> Result<(), Fail> {
-    let alloc = rt.alloc();
     for (json, text) in BOTH {
-        let one = written(&rt, alloc, "json", json)?;
-        let other = written(&rt, alloc, "run", text)?;
-        assert_eq!(rt; one.as_slice(), other.as_slice());
+        write_the_same(&rt, rt.alloc(), json, text)?;
     }
     Ok(())
 }
@@ -110,10 +124,9 @@ fn sixteen_ranks_in_json(alloc: Global) -> Result<String, AllocError> {
 fn sixteen_ranks_in_json_write_the_same(rt: HostRuntime) -> Result<(), Fail> {
     let alloc = rt.alloc();
     let json = sixteen_ranks_in_json(alloc)?;
-    let one = written(&rt, alloc, "json", json.as_str())?;
     let text = sixteen_ranks(alloc, "coll 1\nranks 16\n")?;
-    let other = written(&rt, alloc, "run", text.as_str())?;
-    assert_eq!(rt; one.as_slice(), other.as_slice());
-    assert_eq!(rt; one.as_slice(), sixteen_results(alloc)?.as_bytes());
+    let results = sixteen_results(alloc)?;
+    let one = write_the_same(&rt, alloc, json.as_str(), text.as_str())?;
+    same_bytes(&rt, &"sixteen ranks", one.as_slice(), results.as_bytes());
     Ok(())
 }

@@ -6,6 +6,8 @@
 #[cfg(test)]
 mod choices;
 #[cfg(test)]
+mod comparing;
+#[cfg(test)]
 mod faults;
 #[cfg(test)]
 mod json;

@@ -1,5 +1,6 @@
 //! The size of the pieces, which no contract says.
 
+use crate::comparing::same;
 use port_io::{Failed, Sink};
 use run_text::{PIECE, Pieces};
 use std::test::Fail;
@@ -39,9 +40,9 @@ fn every_piece_but_the_last_is_full(rt: HostRuntime) -> Result<(), Fail> {
         writes: 0,
     };
     for _ in 0..3 {
-        assert_eq!(rt; out.put(&mut sink, list.as_slice()), Ok(()));
+        same(&rt, &"a piece", out.put(&mut sink, list.as_slice()), Ok(()));
     }
-    assert_eq!(rt; out.end(&mut sink), Ok(()));
-    assert_eq!(rt; sink.sizes, [65_536, 65_536, 65_533, 0]);
+    same(&rt, &"the end", out.end(&mut sink), Ok(()));
+    same(&rt, &"the sizes", sink.sizes, [65_536, 65_536, 65_533, 0]);
     Ok(())
 }

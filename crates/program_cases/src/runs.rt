@@ -1,9 +1,11 @@
 //! Runs of the program between sources and sinks in memory.
 
-use port_io::{Sink, Source, SureSink, SureSource};
+use crate::comparing::{same, same_bytes};
+use port_io::{Failed, Sink, Source, SureSink, SureSource};
 use portals_top::{Ran, Status, portals_main};
 use ptl_types::Bytes;
 use std::alloc::{AllocError, Global};
+use std::fmt::Display;
 use std::process::Abort;
 use std::sync::Wait;
 use std::test::Fail;
@@ -12,33 +14,38 @@ use std::thread::Threads;
 /// Room for all that a run here writes.
 const ROOM: u64 = 262_144;
 
-/// What a run left. It holds no world, so that the tests need to know none.
+/// What a run answered and left. It holds no world, so that the tests need to know none.
 #[derive(Clone, Copy)]
 pub(crate) struct Left {
+    pub(crate) status: Status,
     /// Whether a world is left.
-    pub(crate) world: Option<()>,
+    pub(crate) world: bool,
     /// Whether a choice world is left.
-    pub(crate) choice: Option<()>,
+    pub(crate) choice: bool,
+}
+
+/// What is left where no world is.
+pub(crate) fn no_world(status: Status) -> Left {
+    Left {
+        status,
+        world: false,
+        choice: false,
+    }
 }
 
 /// What a run wrote and left.
 #[derive(Drop)]
 pub(crate) struct Made {
-    pub(crate) status: Status,
+    pub(crate) left: Left,
     pub(crate) sink: SureSink,
-    pub(crate) ran: Left,
 }
 
-fn left_by(ran: &Ran) -> Left {
-    let world = match &ran.world {
-        Some(_) => Some(()),
-        None => None,
-    };
-    let choice = match &ran.choice {
-        Some(_) => Some(()),
-        None => None,
-    };
-    Left { world, choice }
+fn left_by(status: Status, ran: &Ran) -> Left {
+    Left {
+        status,
+        world: matches!(&ran.world, Some(_)),
+        choice: matches!(&ran.choice, Some(_)),
+    }
 }
 
 /// Runs these words: the only call of the program.
@@ -48,10 +55,10 @@ fn run_words<S: Source, K: Sink>(
     words: &[String],
     source: &mut S,
     sink: &mut K,
-) -> (Status, Left) {
+) -> Left {
     let mut ran = Ran::new();
     let status = portals_main(rt, alloc, words, source, sink, &mut ran);
-    (status, left_by(&ran))
+    left_by(status, &ran)
 }
 
 fn words_of(alloc: Global, command: &[&str]) -> Result<Vec<String>, AllocError> {
@@ -62,32 +69,86 @@ fn words_of(alloc: Global, command: &[&str]) -> Result<Vec<String>, AllocError> 
     Ok(words)
 }
 
-/// Runs words between these ends.
+/// Runs words between these ends. Without memory for the words it is as in a run without memory.
 pub(crate) fn run_between<S: Source, K: Sink>(
     rt: &(impl Threads + Wait + Sync),
     alloc: Global,
     command: &[&str],
     source: &mut S,
     sink: &mut K,
-) -> Result<(Status, Left), AllocError> {
-    let words = words_of(alloc, command)?;
-    Ok(run_words(rt, alloc, words.as_slice(), source, sink))
+) -> Left {
+    match words_of(alloc, command) {
+        Ok(words) => run_words(rt, alloc, words.as_slice(), source, sink),
+        Err(_) => no_world(Status::NoMemory),
+    }
 }
 
-/// Runs words on bytes.
+/// Runs words on bytes. Without memory for these it is as in a run without memory.
+pub(crate) fn run_into<K: Sink>(
+    rt: &(impl Threads + Wait + Sync),
+    alloc: Global,
+    command: &[&str],
+    bytes: &[u8],
+    sink: &mut K,
+) -> Left {
+    match Bytes::of(alloc, bytes) {
+        Ok(bytes) => run_between(rt, alloc, command, &mut SureSource::new(bytes), sink),
+        Err(_) => no_world(Status::NoMemory),
+    }
+}
+
+/// Runs words on bytes, and keeps what is written.
 pub(crate) fn run(
     rt: &(impl Threads + Wait + Sync),
     alloc: Global,
     command: &[&str],
     bytes: &[u8],
 ) -> Result<Made, Fail> {
-    let mut source = SureSource::new(Bytes::of(alloc, bytes)?);
     let mut sink = SureSink::with_room(alloc, ROOM)?;
-    let (status, ran) = run_between(rt, alloc, command, &mut source, &mut sink)?;
-    Ok(Made { status, sink, ran })
+    let left = run_into(rt, alloc, command, bytes, &mut sink);
+    Ok(Made { left, sink })
 }
 
-/// Runs words on a text: the status, the whole output, and whether a world is left.
+/// How many bytes a source still has, of eight at most.
+pub(crate) fn unread(source: &mut SureSource) -> Result<usize, Failed> {
+    let mut left = [0u8; 8];
+    source.read(&mut left)
+}
+
+/// Stops the test where a run answered or left something else.
+pub(crate) fn same_left(rt: &impl Abort, at: &impl Display, left: Left, wanted: Left) {
+    same(rt, at, left.status, wanted.status);
+    same(rt, at, left.world, wanted.world);
+    same(rt, at, left.choice, wanted.choice);
+}
+
+/// Runs words on a text, which leaves this and writes this output.
+pub(crate) fn leaves(
+    rt: &(impl Abort + Threads + Wait + Sync),
+    alloc: Global,
+    command: &[&str],
+    text: &str,
+    left: Left,
+    output: &str,
+) -> Result<(), Fail> {
+    let made = run(rt, alloc, command, text.as_bytes())?;
+    same_bytes(rt, &text, made.sink.as_slice(), output.as_bytes());
+    same_left(rt, &text, made.left, left);
+    same(rt, &text, made.sink.finishes(), 1);
+    Ok(())
+}
+
+/// What words leave on a text without choices: a world where one ran to its end.
+fn left_under(command: &[&str], status: Status) -> Left {
+    let runs = !matches!(command, ["plan" | "check"]);
+    Left {
+        status,
+        world: runs && status == Status::Done,
+        choice: false,
+    }
+}
+
+/// Runs words on a text without choices: the status, the whole output, and whether a world is left.
 pub(crate) fn gives(
     rt: &(impl Abort + Threads + Wait + Sync),
     alloc: Global,
@@ -96,15 +157,12 @@ pub(crate) fn gives(
     status: Status,
     output: &str,
 ) -> Result<(), Fail> {
-    let made = run(rt, alloc, command, text.as_bytes())?;
-    assert_eq!(rt; made.sink.as_slice(), output.as_bytes(), "at {text}");
-    assert_eq!(rt; made.status, status, "at {text}");
-    assert_eq!(rt; made.sink.finishes(), 1, "at {text}");
-    let runs = !matches!(command, ["plan" | "check"]);
-    assert_eq!(rt;
-        made.ran.world.is_some(),
-        runs && status == Status::Done,
-        "at {text}"
-    );
-    Ok(())
+    leaves(
+        rt,
+        alloc,
+        command,
+        text,
+        left_under(command, status),
+        output,
+    )
 }

@@ -1,55 +1,69 @@
 //! Words that ask for nothing, and the numbers of statuses.
 
-use crate::runs::run_between;
-use port_io::{Source, SureSink, SureSource};
+use crate::comparing::{same, same_bytes};
+use crate::runs::{no_world, run_between, same_left, unread};
+use port_io::{SureSink, SureSource};
 use portals_top::Status;
 use ptl_types::Bytes;
+use std::alloc::Global;
+use std::process::Abort;
+use std::sync::Wait;
 use std::test::Fail;
+use std::thread::Threads;
 
 const USAGE: &[u8] =
     b"usage: portals_run once | sim X | plan | run W | trace W | large K W | check | steady W | json W\n";
 
+/// Words that are no command.
+const OTHERS: &[&[&str]] = &[
+    &[],
+    &["once", "now"],
+    &["Plan"],
+    &["sim"],
+    &["sim", "01"],
+    &["sim", "18446744073709551616"],
+    &["sim", "1", "2"],
+    &["check", "1"],
+    &["run"],
+    &["run", "0"],
+    &["run", "17"],
+    &["run", "02"],
+    &["run", "2", "2"],
+    &["trace"],
+    &["trace", "0"],
+    &["trace", "17"],
+    &["steady"],
+    &["steady", "0"],
+    &["steady", "17"],
+    &["json", "0"],
+    &["json", "17"],
+    &["large", "1"],
+    &["large", "65536", "1"],
+    &["large", "1", "0"],
+    &["large", "1", "17"],
+    &["large", "1", "1", "1"],
+];
+
+/// These words get the usage line, and leave the source unread.
+fn gets_the_usage_line(
+    rt: &(impl Abort + Threads + Wait + Sync),
+    alloc: Global,
+    command: &[&str],
+) -> Result<(), Fail> {
+    let mut source = SureSource::new(Bytes::of(alloc, b"ab")?);
+    let mut sink = SureSink::with_room(alloc, 128)?;
+    let left = run_between(rt, alloc, command, &mut source, &mut sink);
+    same_left(rt, &"other words", left, no_world(Status::Usage));
+    same_bytes(rt, &"other words", sink.as_slice(), USAGE);
+    same(rt, &"other words", sink.finishes(), 1);
+    same(rt, &"other words", unread(&mut source), Ok(2));
+    Ok(())
+}
+
 #[test]
 fn other_words_leave_the_source_unread(rt: HostRuntime) -> Result<(), Fail> {
-    let alloc = rt.alloc();
-    let cases: [&[&str]; 26] = [
-        &[],
-        &["once", "now"],
-        &["Plan"],
-        &["sim"],
-        &["sim", "01"],
-        &["sim", "18446744073709551616"],
-        &["sim", "1", "2"],
-        &["check", "1"],
-        &["run"],
-        &["run", "0"],
-        &["run", "17"],
-        &["run", "02"],
-        &["run", "2", "2"],
-        &["trace"],
-        &["trace", "0"],
-        &["trace", "17"],
-        &["steady"],
-        &["steady", "0"],
-        &["steady", "17"],
-        &["json", "0"],
-        &["json", "17"],
-        &["large", "1"],
-        &["large", "65536", "1"],
-        &["large", "1", "0"],
-        &["large", "1", "17"],
-        &["large", "1", "1", "1"],
-    ];
-    for command in cases {
-        let mut source = SureSource::new(Bytes::of(alloc, b"ab")?);
-        let mut sink = SureSink::with_room(alloc, 128)?;
-        let (answer, ran) = run_between(&rt, alloc, command, &mut source, &mut sink)?;
-        assert_eq!(rt; answer, Status::Usage);
-        assert_eq!(rt; sink.as_slice(), USAGE);
-        assert_eq!(rt; sink.finishes(), 1);
-        assert!(rt; ran.world.is_none());
-        let mut left = [0u8; 4];
-        assert_eq!(rt; source.read(&mut left), Ok(2));
+    for command in OTHERS {
+        gets_the_usage_line(&rt, rt.alloc(), command)?;
     }
     Ok(())
 }
