@@ -1,5 +1,6 @@
 //! Runs of the program between a source and a sink in memory, with a gate.
 
+use crate::comparing::{same, same_bytes};
 use port_io::{Sink, Source, SureSink, SureSource};
 use portals_top::{Ran, Status, run_with_gate};
 use ptl_types::Bytes;
@@ -14,19 +15,21 @@ use worlds::World;
 /// Room for all that a run here writes.
 const ROOM: u64 = 262_144;
 
-/// What a run left. It holds no world, so that the tests need to know none.
+/// What a run answered and left. It holds no world, so that the tests need to know none.
 #[derive(Clone, Copy)]
 pub(crate) struct Left {
-    /// How many steps the ranks of the world made, where one is left.
-    pub(crate) world: Option<u64>,
+    pub(crate) status: Status,
+    /// Whether a world is left.
+    pub(crate) world: bool,
+    /// How many steps the ranks of that world made.
+    pub(crate) steps: u64,
 }
 
 /// What a run wrote and left.
 #[derive(Drop)]
 pub(crate) struct Made {
-    pub(crate) status: Status,
+    pub(crate) left: Left,
     pub(crate) sink: SureSink,
-    pub(crate) ran: Left,
 }
 
 /// How many steps the ranks of a world made.
@@ -38,12 +41,16 @@ fn steps_of(world: &World) -> u64 {
     steps
 }
 
-fn left_by(ran: &Ran) -> Left {
-    let world = match &ran.world {
-        Some(world) => Some(steps_of(world)),
-        None => None,
+fn left_by(status: Status, ran: &Ran) -> Left {
+    let (world, steps) = match &ran.world {
+        Some(world) => (true, steps_of(world)),
+        None => (false, 0),
     };
-    Left { world }
+    Left {
+        status,
+        world,
+        steps,
+    }
 }
 
 /// Runs these words: the only call of the program.
@@ -54,10 +61,10 @@ fn run_words<S: Source, K: Sink, G: Gate>(
     words: &[String],
     source: &mut S,
     sink: &mut K,
-) -> (Status, Left) {
+) -> Left {
     let mut ran = Ran::new();
     let status = run_with_gate(rt, alloc, words, source, sink, gate, &mut ran);
-    (status, left_by(&ran))
+    left_by(status, &ran)
 }
 
 fn words_of(alloc: Global, command: &[&str]) -> Result<Vec<String>, AllocError> {
@@ -68,19 +75,6 @@ fn words_of(alloc: Global, command: &[&str]) -> Result<Vec<String>, AllocError> 
     Ok(words)
 }
 
-/// Runs words between these ends, with a gate.
-fn run_between<S: Source, K: Sink, G: Gate>(
-    rt: &(impl Threads + Wait + Sync),
-    alloc: Global,
-    gate: &G,
-    command: &[&str],
-    source: &mut S,
-    sink: &mut K,
-) -> Result<(Status, Left), AllocError> {
-    let words = words_of(alloc, command)?;
-    Ok(run_words(rt, alloc, gate, words.as_slice(), source, sink))
-}
-
 /// Runs words on bytes with a gate.
 pub(crate) fn run_through<G: Gate>(
     rt: &(impl Threads + Wait + Sync),
@@ -89,10 +83,11 @@ pub(crate) fn run_through<G: Gate>(
     command: &[&str],
     bytes: &[u8],
 ) -> Result<Made, Fail> {
+    let words = words_of(alloc, command)?;
     let mut source = SureSource::new(Bytes::of(alloc, bytes)?);
     let mut sink = SureSink::with_room(alloc, ROOM)?;
-    let (status, ran) = run_between(rt, alloc, gate, command, &mut source, &mut sink)?;
-    Ok(Made { status, sink, ran })
+    let left = run_words(rt, alloc, gate, words.as_slice(), &mut source, &mut sink);
+    Ok(Made { left, sink })
 }
 
 /// Runs words on bytes.
@@ -105,6 +100,12 @@ pub(crate) fn run(
     run_through(rt, alloc, &OpenGate, command, bytes)
 }
 
+/// Whether words leave a world after this answer.
+fn leaves_world(command: &[&str], status: Status) -> bool {
+    let runs = !matches!(command, ["plan" | "check"]);
+    runs && status == Status::Done
+}
+
 /// Runs words on a text: the status, the whole output, and whether a world is left.
 pub(crate) fn gives(
     rt: &(impl Abort + Threads + Wait + Sync),
@@ -115,14 +116,10 @@ pub(crate) fn gives(
     output: &str,
 ) -> Result<(), Fail> {
     let made = run(rt, alloc, command, text.as_bytes())?;
-    assert_eq!(rt; made.sink.as_slice(), output.as_bytes(), "at {text}");
-    assert_eq!(rt; made.status, status, "at {text}");
-    assert_eq!(rt; made.sink.finishes(), 1, "at {text}");
-    let runs = !matches!(command, ["plan" | "check"]);
-    assert_eq!(rt;
-        made.ran.world.is_some(),
-        runs && status == Status::Done,
-        "at {text}"
-    );
+    let world = leaves_world(command, status);
+    same_bytes(rt, &text, made.sink.as_slice(), output.as_bytes());
+    same(rt, &text, made.left.status, status);
+    same(rt, &text, made.sink.finishes(), 1);
+    same(rt, &text, made.left.world, world);
     Ok(())
 }

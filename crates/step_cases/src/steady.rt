@@ -6,16 +6,19 @@ use portals_top::Status;
 use program_texts::{GROUPS, GROUPS_RESULT, THREE_RESULTS, THREE_STEPS};
 use std::test::Fail;
 
+/// How many workers, a text, and what is written.
+const STEADY: &[(&str, &str, &str)] = &[
+    ("3", THREE_STEPS, THREE_RESULTS),
+    ("1", TWO_RANKS, "rest\n"),
+    ("16", "coll 1\nranks 1\nend\n", "rest\n"),
+    ("2", GROUPS, GROUPS_RESULT),
+];
+
 #[test]
 fn steady_workers_write_what_each_rank_holds(rt: HostRuntime) -> Result<(), Fail> {
-    let alloc = rt.alloc();
-    for (workers, text, output) in [
-        ("3", THREE_STEPS, THREE_RESULTS),
-        ("1", TWO_RANKS, "rest\n"),
-        ("16", "coll 1\nranks 1\nend\n", "rest\n"),
-        ("2", GROUPS, GROUPS_RESULT),
-    ] {
-        gives(&rt, alloc, &["steady", workers], text, Status::Done, output)?;
+    for (workers, text, output) in STEADY {
+        let words = ["steady", workers];
+        gives(&rt, rt.alloc(), &words, text, Status::Done, output)?;
     }
     Ok(())
 }

@@ -1,6 +1,7 @@
 //! Runs by workers on threads.
 
-use crate::runs::{Made, gives, run_through};
+use crate::comparing::{same, same_bytes};
+use crate::runs::{gives, run_through};
 use portals_top::Status;
 use program_texts::{
     GROUPS, GROUPS_RESULT, HELD, HELD_RESULT, THREE_RESULTS, THREE_STEPS, sixteen_ranks,
@@ -21,26 +22,47 @@ pub(crate) const TWO_RANKS: &str = "coll 1\nranks 2\nbarrier\nend\n";
 
 const FOUR_RANKS: &str = "coll 1\nranks 4\nbarrier\nend\n";
 
+/// How many workers, a text, and what is written.
+const RESULTS: &[(&str, &str, &str)] = &[
+    (
+        "2",
+        "coll 1\nranks 2\ninput a u8 1\n200\n100\nallreduce sum a b\nprint b\nend\n",
+        "b 0 44\nb 1 44\nrest\n",
+    ),
+    ("3", FOUR_RANKS, "rest\n"),
+    ("4", THREE_STEPS, THREE_RESULTS),
+    ("16", "coll 1\nranks 1\nend\n", "rest\n"),
+    ("2", GROUPS, GROUPS_RESULT),
+    ("8", "coll 2\nranks 256\nbarrier\nend\n", "rest\n"),
+    ("3", HELD, HELD_RESULT),
+];
+
 #[test]
 fn workers_write_what_each_rank_holds(rt: HostRuntime) -> Result<(), Fail> {
-    let alloc = rt.alloc();
-    for (workers, text, output) in [
-        (
-            "2",
-            "coll 1\nranks 2\ninput a u8 1\n200\n100\nallreduce sum a b\nprint b\nend\n",
-            "b 0 44\nb 1 44\nrest\n",
-        ),
-        ("3", FOUR_RANKS, "rest\n"),
-        ("4", THREE_STEPS, THREE_RESULTS),
-        ("16", "coll 1\nranks 1\nend\n", "rest\n"),
-        ("2", GROUPS, GROUPS_RESULT),
-        ("8", "coll 2\nranks 256\nbarrier\nend\n", "rest\n"),
-        ("3", HELD, HELD_RESULT),
-    ] {
+    for (workers, text, output) in RESULTS {
         let words = ["run", workers];
-        gives(&rt, alloc, &words, text, Status::Done, output)?;
+        gives(&rt, rt.alloc(), &words, text, Status::Done, output)?;
     }
     Ok(())
+}
+
+/// Runs sixteen ranks after this head of a description.
+fn gives_results_after(
+    rt: &(impl Abort + Threads + Wait + Sync),
+    alloc: Global,
+    command: &[&str],
+    head: &str,
+) -> Result<(), Fail> {
+    let text = sixteen_ranks(alloc, head)?;
+    let output = sixteen_results(alloc)?;
+    gives(
+        rt,
+        alloc,
+        command,
+        text.as_str(),
+        Status::Done,
+        output.as_str(),
+    )
 }
 
 /// Runs sixteen ranks by these words, without and with the wait for remote completion.
@@ -49,19 +71,8 @@ pub(crate) fn gives_sixteen_results(
     alloc: Global,
     command: &[&str],
 ) -> Result<(), Fail> {
-    let output = sixteen_results(alloc)?;
-    for head in ["coll 1\nranks 16\n", "coll 1\nranks 16\ncomplete remote\n"] {
-        let text = sixteen_ranks(alloc, head)?;
-        gives(
-            rt,
-            alloc,
-            command,
-            text.as_str(),
-            Status::Done,
-            output.as_str(),
-        )?;
-    }
-    Ok(())
+    gives_results_after(rt, alloc, command, "coll 1\nranks 16\n")?;
+    gives_results_after(rt, alloc, command, "coll 1\nranks 16\ncomplete remote\n")
 }
 
 #[test]
@@ -119,10 +130,10 @@ pub(crate) fn steps_through<G: Gate>(
     text: &str,
     output: &str,
 ) -> Result<u64, Fail> {
-    let Made { status, sink, ran } = run_through(rt, alloc, gate, command, text.as_bytes())?;
-    assert_eq!(rt; status, Status::Done);
-    assert_eq!(rt; sink.as_slice(), output.as_bytes());
-    Ok(ran.world.unwrap_or(0))
+    let made = run_through(rt, alloc, gate, command, text.as_bytes())?;
+    same(rt, &text, made.left.status, Status::Done);
+    same_bytes(rt, &text, made.sink.as_slice(), output.as_bytes());
+    Ok(made.left.steps)
 }
 
 /// Counts the steps.
@@ -253,6 +264,7 @@ fn a_rank_that_starts_late_misses_nothing(rt: HostRuntime) -> Result<(), Fail> {
         text.as_str(),
         output.as_str(),
     )?;
-    assert!(rt; gate.others.load(Ordering::SeqCst) >= 50);
+    let others = gate.others.load(Ordering::SeqCst);
+    same(&rt, &"50 steps of other ranks", others >= 50, true);
     Ok(())
 }
