@@ -3,9 +3,9 @@
 use json_lang::lines_of;
 use port_io::{SureSink, SureSource};
 use portals_top::{Ran, portals_main};
-use ptl_types::Bytes;
+use ptl_types::{Bytes, NoMemory};
 use serde_json::Value;
-use std::alloc::Global;
+use std::alloc::{AllocError, Global};
 use std::fmt;
 use std::sync::Wait;
 use std::thread::Threads;
@@ -50,6 +50,38 @@ fn compared(text: &[u8], wanted: &[u8]) -> Found {
     Found::DiffersInLine(line)
 }
 
+/// The words that ask for a run on one thread.
+fn words_of_once(alloc: Global) -> Result<Vec<String>, AllocError> {
+    let mut words = Vec::new(alloc);
+    words.push(String::from_str(alloc, "once")?)?;
+    Ok(words)
+}
+
+/// Runs these words: the only call of the program.
+fn run_words<R: Threads + Wait + Sync>(
+    rt: &R,
+    alloc: Global,
+    words: &[String],
+    source: &mut SureSource,
+    sink: &mut SureSink,
+) {
+    let mut ran = Ran::new();
+    let _status = portals_main(rt, alloc, words, source, sink, &mut ran);
+}
+
+/// What `once` writes of a description.
+fn written_by_once<R: Threads + Wait + Sync>(
+    rt: &R,
+    alloc: Global,
+    text: &[u8],
+) -> Result<SureSink, NoMemory> {
+    let words = words_of_once(alloc)?;
+    let mut source = SureSource::new(Bytes::of(alloc, text)?);
+    let mut sink = SureSink::with_room(alloc, ROOM)?;
+    run_words(rt, alloc, words.as_slice(), &mut source, &mut sink);
+    Ok(sink)
+}
+
 /// Runs `once` on a description, and holds what it writes against what is wanted.
 pub fn once_gives<R: Threads + Wait + Sync>(
     rt: &R,
@@ -57,30 +89,10 @@ pub fn once_gives<R: Threads + Wait + Sync>(
     text: &[u8],
     wanted: &[u8],
 ) -> Found {
-    let mut words = Vec::new(alloc);
-    let Ok(once) = String::from_str(alloc, "once") else {
-        return Found::Nothing;
-    };
-    if words.push(once).is_err() {
-        return Found::Nothing;
+    match written_by_once(rt, alloc, text) {
+        Ok(sink) => compared(sink.as_slice(), wanted),
+        Err(_) => Found::Nothing,
     }
-    let Ok(bytes) = Bytes::of(alloc, text) else {
-        return Found::Nothing;
-    };
-    let Ok(mut sink) = SureSink::with_room(alloc, ROOM) else {
-        return Found::Nothing;
-    };
-    let mut source = SureSource::new(bytes);
-    let mut ran = Ran::new();
-    let _status = portals_main(
-        rt,
-        alloc,
-        words.as_slice(),
-        &mut source,
-        &mut sink,
-        &mut ran,
-    );
-    compared(sink.as_slice(), wanted)
 }
 
 /// The lines for which JSON stands, held against a text.

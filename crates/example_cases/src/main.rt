@@ -5,24 +5,52 @@
 mod comparing;
 mod folder;
 
-use comparing::{lines_of_json, once_gives};
+use comparing::{Found, lines_of_json, once_gives};
 use folder::names;
 use std::{fs, io};
 
+/// The text of a file, and the file beside it that says what is wanted.
+#[derive(Drop)]
+struct Pair {
+    text: Vec<u8>,
+    other: String,
+    wanted: Vec<u8>,
+}
+
+/// Reads a file, and the one of the same stem with this ending.
+fn read_pair(rt: &HostRuntime, name: &str, stem: &str, ending: &str) -> io::Result<Pair> {
+    let other = format!(in rt.alloc(); "{stem}.{ending}")?;
+    let text = fs::read(rt, name)?;
+    let wanted = fs::read(rt, other.as_str())?;
+    Ok(Pair {
+        text,
+        other,
+        wanted,
+    })
+}
+
+/// Prints what was found of a file.
+fn print_found(rt: &HostRuntime, name: &str, found: Found, other: &str) -> io::Result<()> {
+    println!(rt; "{name}: {found} {other}")
+}
+
+/// Reads a description in JSON, and prints how its lines are found.
+fn print_json(rt: &HostRuntime, name: &str, stem: &str) -> io::Result<()> {
+    let pair = read_pair(rt, name, stem, "coll")?;
+    let found = lines_of_json(rt.alloc(), pair.text.as_slice(), pair.wanted.as_slice());
+    print_found(rt, name, found, pair.other.as_str())
+}
+
 fn main(rt: HostRuntime) -> io::Result<()> {
     for name in names(&rt)?.iter() {
-        if let Some(stem) = name.as_str().strip_suffix(".coll") {
-            let output = format!(in rt.alloc(); "{stem}.out")?;
-            let text = fs::read(&rt, name.as_str())?;
-            let wanted = fs::read(&rt, output.as_str())?;
-            let found = once_gives(&rt, rt.alloc(), text.as_slice(), wanted.as_slice());
-            println!(rt; "{name}: {found} {output}")?;
-        } else if let Some(stem) = name.as_str().strip_suffix(".json") {
-            let other = format!(in rt.alloc(); "{stem}.coll")?;
-            let json = fs::read(&rt, name.as_str())?;
-            let wanted = fs::read(&rt, other.as_str())?;
-            let found = lines_of_json(rt.alloc(), json.as_slice(), wanted.as_slice());
-            println!(rt; "{name}: {found} {other}")?;
+        let name = name.as_str();
+        if let Some(stem) = name.strip_suffix(".coll") {
+            let pair = read_pair(&rt, name, stem, "out")?;
+            let (text, wanted) = (pair.text.as_slice(), pair.wanted.as_slice());
+            let found = once_gives(&rt, rt.alloc(), text, wanted);
+            print_found(&rt, name, found, pair.other.as_str())?;
+        } else if let Some(stem) = name.strip_suffix(".json") {
+            print_json(&rt, name, stem)?;
         }
     }
     Ok(())
