@@ -30,16 +30,21 @@ fn job_of(alloc: Global, description: Description) -> Option<Job> {
 /// the description that large runs are made with.
 const NAMES: [&str; 4] = ["allreduce", "allgathers", "alltoall", "large"];
 
+/// The job of a text.
+fn job_of_text(alloc: Global, text: Result<Vec<u8>, AllocError>) -> Option<Job> {
+    let text = text.ok()?;
+    job_of(alloc, parse(alloc, text.as_slice()).ok()?)
+}
+
 /// The job of a name.
 fn named(alloc: Global, name: &str) -> Option<Job> {
-    let description = match name {
-        "allreduce" => parse(alloc, &allreduce(alloc).ok()?).ok()?,
-        "allgathers" => parse(alloc, &allgathers(alloc).ok()?).ok()?,
-        "alltoall" => parse(alloc, &alltoall(alloc).ok()?).ok()?,
-        "large" => generated(alloc, 1).ok()?,
-        _ => return None,
-    };
-    job_of(alloc, description)
+    match name {
+        "allreduce" => job_of_text(alloc, allreduce(alloc)),
+        "allgathers" => job_of_text(alloc, allgathers(alloc)),
+        "alltoall" => job_of_text(alloc, alltoall(alloc)),
+        "large" => job_of(alloc, generated(alloc, 1).ok()?),
+        _ => None,
+    }
 }
 
 fn print_times<R: Print>(rt: &R, name: &str, t: Times) -> io::Result<()> {
@@ -49,12 +54,12 @@ fn print_times<R: Print>(rt: &R, name: &str, t: Times) -> io::Result<()> {
     )
 }
 
-/// Prints the least times.
-fn measure<R: Threads + Wait + Sync + Clock + Print>(
+/// The least times of some runs: as a world, and as a fabric with one worker and with four.
+fn least_times<R: Threads + Wait + Sync + Clock>(
     rt: &R,
     alloc: Global,
     job: &Job,
-) -> io::Result<()> {
+) -> io::Result<(Times, Times, Times)> {
     let mut once = as_world(rt, alloc, job)?;
     let mut one = as_fabric(rt, alloc, job, 1)?;
     let mut four = as_fabric(rt, alloc, job, 4)?;
@@ -63,25 +68,43 @@ fn measure<R: Threads + Wait + Sync + Clock + Print>(
         one = one.least(as_fabric(rt, alloc, job, 1)?);
         four = four.least(as_fabric(rt, alloc, job, 4)?);
     }
+    Ok((once, one, four))
+}
+
+/// Prints the least times.
+fn measure<R: Threads + Wait + Sync + Clock + Print>(
+    rt: &R,
+    alloc: Global,
+    job: &Job,
+) -> io::Result<()> {
+    let (once, one, four) = least_times(rt, alloc, job)?;
     print_times(rt, "world", once)?;
     print_times(rt, "one worker", one)?;
     print_times(rt, "four workers", four)
+}
+
+/// Prints the times of the job of a name.
+fn measure_named<R: Threads + Wait + Sync + Clock + Print>(
+    rt: &R,
+    alloc: Global,
+    name: &str,
+) -> io::Result<()> {
+    println!(rt; "{name}:")?;
+    match named(alloc, name) {
+        Some(job) => measure(rt, alloc, &job),
+        None => println!(rt; "  no such job, or no memory"),
+    }
 }
 
 fn main(rt: HostRuntime) -> io::Result<()> {
     let Ok(args) = env::args(&rt) else {
         return Err(io::Error::from(AllocError));
     };
-    let alloc = rt.alloc();
     for name in NAMES {
         println!(&rt; "{name}")?;
     }
     for name in args.skip(1) {
-        println!(&rt; "{name}:")?;
-        match named(alloc, name.as_str()) {
-            Some(job) => measure(&rt, alloc, &job)?,
-            None => println!(&rt; "  no such job, or no memory")?,
-        }
+        measure_named(&rt, rt.alloc(), name.as_str())?;
     }
     Ok(())
 }

@@ -56,22 +56,79 @@ impl Times {
     }
 }
 
+/// How many microseconds passed since a moment.
+fn since<R: Clock>(rt: &R, start: Instant) -> io::Result<u128> {
+    Ok(start.elapsed(rt)?.as_micros())
+}
+
 /// Runs a job as a world.
 pub fn as_world<R: Clock>(rt: &R, alloc: Global, job: &Job) -> io::Result<Times> {
     let start = Instant::now(rt)?;
     let Ok(mut world) = World::open(alloc, job) else {
         return Err(io::Error::from(std::alloc::AllocError));
     };
-    let open = start.elapsed(rt)?.as_micros();
+    run_world(rt, &mut world, since(rt, start)?)
+}
+
+/// Runs a world, which took so long to open.
+fn run_world<R: Clock>(rt: &R, world: &mut World, open: u128) -> io::Result<Times> {
     let start = Instant::now(rt)?;
     world.run_to_rest();
-    let run = start.elapsed(rt)?.as_micros();
+    Ok(Times {
+        open,
+        run: since(rt, start)?,
+        rest: 0,
+        steps: steps(world),
+        left: 0,
+    })
+}
+
+/// Lets what the workers left of a world come to rest: how many steps it had then, and how many of them these are.
+fn rest(world: &mut World) -> (u64, u64) {
+    let before = steps(world);
+    world.run_to_rest();
+    let steps = steps(world);
+    (steps, steps.wrapping_sub(before))
+}
+
+/// Lets the workers run, and answers how long they took.
+fn run_timed<R: Threads + Wait + Sync + Clock>(
+    rt: &R,
+    fabric: &Fabric<OpenGate>,
+    hands: &mut Vec<Hand>,
+) -> io::Result<u128>
+    requires hands { All (λ h. IsFree fabric.now.turns h) hands.old.items }
+    requires all { parts_of hands.old.items ≡ 2 ^ 32 }
+    requires some { 0 < length hands.old.items }
+    requires few { length hands.old.items < 2 ^ 32 }
+    ensures hands { All (λ h. IsFree fabric.now.turns h) hands.new.items }
+    ensures all { parts_of hands.new.items ≡ 2 ^ 32 }
+{
+    let start = Instant::now(rt)?;
+    run(rt, fabric, hands);
+    since(rt, start)
+}
+
+/// Closes a fabric, and lets what its workers left come to rest. Its workers took so long before.
+fn rest_timed<R: Wait + Clock>(
+    rt: &R,
+    fabric: Fabric<OpenGate>,
+    hands: Vec<Hand>,
+    open: u128,
+    run: u128,
+) -> io::Result<Times>
+    requires hands { All (λ h. IsFree fabric.turns h) hands.items }
+    requires all { parts_of hands.items ≡ 2 ^ 32 }
+{
+    let start = Instant::now(rt)?;
+    let mut world = fabric.close(rt, hands);
+    let (steps, left) = rest(&mut world);
     Ok(Times {
         open,
         run,
-        rest: 0,
-        steps: steps(&world),
-        left: 0,
+        rest: since(rt, start)?,
+        steps,
+        left,
     })
 }
 
@@ -88,22 +145,8 @@ pub fn as_fabric<R: Threads + Wait + Sync + Clock>(
     let Ok((fabric, hands)) = Fabric::open(rt, alloc, job, workers, OpenGate) else {
         return Err(io::Error::from(std::alloc::AllocError));
     };
-    let open = start.elapsed(rt)?.as_micros();
-    let start = Instant::now(rt)?;
     let mut hands = hands;
-    run(rt, &fabric, &mut hands);
-    let run = start.elapsed(rt)?.as_micros();
-    let start = Instant::now(rt)?;
-    let mut world = fabric.close(rt, hands);
-    let before = steps(&world);
-    world.run_to_rest();
-    let rest = start.elapsed(rt)?.as_micros();
-    let steps = steps(&world);
-    Ok(Times {
-        open,
-        run,
-        rest,
-        steps,
-        left: steps.wrapping_sub(before),
-    })
+    let open = since(rt, start)?;
+    let run = run_timed(rt, &fabric, &mut hands)?;
+    rest_timed(rt, fabric, hands, open, run)
 }
