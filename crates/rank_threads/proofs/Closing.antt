@@ -1,5 +1,6 @@
 -- What is left of the ranks and of the wires is what a frame closes around.
-use Rattle.std.proofs.Common.{ℕ, zero, suc, Bool, true, false, ◌<◌, ◌≤◌, ◌≡◌, ◌∙◌, List, [], ◌∷◌, ◌++◌, length, min, nat_lt, refl, sym, ap, ap₂, subst, arith, lt-ltb}
+use Rattle.std.proofs.Common.{ℕ, zero, suc, Bool, true, false, ◌<◌, ◌≤◌, ◌≡◌, ◌∙◌, List, [], ◌∷◌, ◌++◌, length, min, nat_lt, refl, sym}
+use Rattle.std.proofs.Common.{ap, ap₂, subst, arith, lt-ltb}
 use mathlib.Core.Option.{some}
 use lib.ListN.{get_elem?}
 use Rattle.ptl_types.specs.declared.headers.Lane.{Lane}
@@ -32,18 +33,18 @@ use Rattle.world_parts.specs.Keeps.{AgreeAll}
 use Rattle.world_parts.specs.Layout.{lane_at, node_at, scene_of}
 use Rattle.worlds.specs.FrameState.{FrameState}
 use Rattle.worlds.specs.Frames.{MayClose, frame_lane}
-use Rattle.rank_threads.specs.declared.slot.Slot.{Slot}
-use Rattle.rank_threads.specs.declared.ports.OutPort.{OutPort}
-use Rattle.rank_threads.specs.declared.ports.InPort.{InPort}
+use Rattle.rank_slots.specs.declared.slot.Slot.{Slot}
+use Rattle.rank_slots.specs.declared.ports.OutPort.{OutPort}
+use Rattle.rank_slots.specs.declared.ports.InPort.{InPort}
 use Rattle.rank_threads.specs.Closing.{IsLifted}
 use Rattle.rank_threads.specs.Fabrics.{IsNamed}
-use Rattle.rank_threads.specs.Lanes.{AreLanes, bounds_on}
-use Rattle.rank_threads.specs.Names.{plate}
-use Rattle.rank_threads.specs.Slots.{HasSent, Tied}
-use Rattle.rank_threads.specs.Sound.{IsSound}
-use Rattle.rank_threads.specs.Wiring.{bounds_of}
-use Rattle.rank_threads.proofs.Pairs.{at_map_back}
-use Rattle.rank_threads.proofs.UsedLanes.{used-within}
+use Rattle.rank_slots.specs.Lanes.{AreLanes, bounds_on}
+use Rattle.rank_slots.specs.Names.{plate}
+use Rattle.rank_slots.specs.Slots.{HasSent, Tied}
+use Rattle.rank_slots.specs.Sound.{IsSound}
+use Rattle.rank_wiring.specs.Wiring.{bounds_of}
+use Rattle.rank_slots.proofs.Pairs.{at_map_back}
+use Rattle.rank_wiring.proofs.UsedLanes.{used-within}
 
 two : {b : Bool} → b ≡ true → b ≡ false → ⊥
 two e f = cc

@@ -13,16 +13,17 @@ use Rattle.rank_node.specs.Node.{IsNode, NodeState}
 use Rattle.world_parts.specs.Layout.{no_node, node_at}
 use Rattle.worlds.specs.FrameState.{FrameState}
 use Rattle.worlds.specs.Frames.{MayClose}
-use Rattle.rank_threads.specs.declared.slot.Slot.{Slot}
+use Rattle.rank_slots.specs.declared.slot.Slot.{Slot}
 use Rattle.rank_threads.specs.Fabrics.{IsNamed}
-use Rattle.rank_threads.specs.Lists.{Each}
-use Rattle.rank_threads.specs.Moves.{AllLaid, SameNode, Slotwise}
-use Rattle.rank_threads.specs.Chronicles.{chronicle}
-use Rattle.rank_threads.specs.Names.{history, plate}
-use Rattle.rank_threads.proofs.Chronicles.{as-long, begins-history}
+use Rattle.rank_slots.specs.Lists.{Each}
+use Rattle.rank_wiring.specs.Opening.{AllLaid}
+use Rattle.rank_slots.specs.Moves.{SameNode, Slotwise}
+use Rattle.rank_slots.specs.Chronicles.{chronicle}
+use Rattle.rank_slots.specs.Names.{history, plate}
+use Rattle.rank_slots.proofs.Chronicles.{as-long, begins-history}
 use Rattle.rank_threads.proofs.Closing.{IsNodeOf}
-use Rattle.rank_threads.proofs.Pairs.{exists_at, within}
-use Rattle.rank_threads.proofs.Snocs.{length_map, read}
+use Rattle.rank_slots.proofs.Pairs.{exists_at, within}
+use Rattle.rank_slots.proofs.Snocs.{length_map, read}
 
 -- the names are those of the opening
 pub named-left : (job : JobOf) (wires : List WireState) (start slots : List Slot) → length slots ≡ length start

@@ -13,11 +13,12 @@ use Rattle.plan_cuts.specs.System.{Histories}
 use Rattle.schedule_compiler.specs.Jobs.{JobOf}
 use Rattle.rest_probe.specs.declared.notes.RankNote.{RankNote}
 use Rattle.rest_probe.specs.declared.notes.ProbeNote.{ProbeNote}
-use Rattle.rank_threads.specs.declared.slot.Slot.{Slot}
-use Rattle.rank_threads.specs.Names.{Mark, history, note}
-use Rattle.rank_threads.specs.Probes.{HasNote, Says, SaysSeen}
+use Rattle.rank_slots.specs.declared.slot.Slot.{Slot}
+use Rattle.rank_slots.specs.Names.{Mark, history, note}
+use Rattle.rank_slots.specs.Probes.{HasNote, Says}
+use Rattle.rank_threads.specs.Resting.{SaysSeen}
 use Rattle.rank_threads.specs.Turns.{Turned}
-use Rattle.rank_threads.proofs.Pairs.{at_map_back}
+use Rattle.rank_slots.proofs.Pairs.{at_map_back}
 
 -- the turn in which the note was made
 pub seen-here : (job : JobOf) (v w : HandView Slot) (r : ℕ) (a : Mark) (n : ProbeNote) → Turned v w r a a → Says job r a.0 a.1.kept n → SaysSeen job w r a.0 n

@@ -1,5 +1,6 @@
 -- What a slot that made no step found, said of the lanes of its job.
-use Rattle.std.proofs.Common.{◌≡◌, ◌∙◌, ℕ, Bool, true, false, cond, List, [], ◌∷◌, length, map, get_or, sym, refl, ap, subst, arith, inl, inr, ◌⊎◌, eq-eqb, zero-le}
+use Rattle.std.proofs.Common.{◌≡◌, ◌∙◌, ℕ, Bool, true, false, cond, List, [], ◌∷◌, length, map, get_or, sym, refl, ap, subst, arith, inl}
+use Rattle.std.proofs.Common.{inr, ◌⊎◌, eq-eqb, zero-le}
 use Rattle.std.specs.Prelude.{Option, Some, None, not, nat_lt}
 use Rattle.std.proofs.lemmas.Bool.{and_from, lt-ltb}
 use mathlib.Core.Option.{some}
@@ -34,21 +35,21 @@ use Rattle.rank_node.proofs.Plans.{run-state}
 use Rattle.schedule_compiler.specs.Jobs.{JobOf}
 use Rattle.shape_plans.specs.Drawing.{plan_of}
 use Rattle.ni_model.specs.Answers.{is_awaited}
-use Rattle.rank_threads.specs.Joints.{Joint, in_joint, out_joint}
-use Rattle.rank_threads.specs.Lanes.{AreLanes, bounds_on}
-use Rattle.rank_threads.specs.Slots.{Tied}
-use Rattle.rank_threads.specs.Names.{Note, history, in_count, mark, note, out_count, plate}
-use Rattle.rank_threads.specs.Sound.{IsSound}
-use Rattle.rank_threads.specs.Missing.{AreShut, HasFlushed, Idled, Missed, PassedAt}
-use Rattle.rank_threads.specs.Steps.{IsEmpty, IsFull, IsIdle, IsOfHistory, NoneFires, PassedOver}
+use Rattle.rank_slots.specs.Joints.{Joint, in_joint, out_joint}
+use Rattle.rank_slots.specs.Lanes.{AreLanes, bounds_on}
+use Rattle.rank_slots.specs.Slots.{Tied}
+use Rattle.rank_slots.specs.Names.{Note, history, in_count, mark, note, out_count, plate}
+use Rattle.rank_slots.specs.Sound.{IsSound}
+use Rattle.rank_slots.specs.Missing.{AreShut, HasFlushed, Idled, Missed, PassedAt}
+use Rattle.rank_slots.specs.Steps.{IsEmpty, IsFull, IsIdle, IsOfHistory, NoneFires, PassedOver}
 use Rattle.rank_threads.specs.Fabrics.{IsNamed}
-use Rattle.rank_threads.specs.Wiring.{bounds_of, from_rank, to_rank}
-use Rattle.rank_threads.proofs.Pairs.{at_map_back, exists_at, within}
-use Rattle.rank_threads.proofs.Rows.{row-has}
-use Rattle.rank_threads.proofs.Sends.{node-of}
-use Rattle.rank_threads.specs.declared.slot.Slot.{Slot}
-use Rattle.rank_threads.specs.declared.ports.OutPort.{OutPort}
-use Rattle.rank_threads.specs.declared.ports.InPort.{InPort}
+use Rattle.rank_wiring.specs.Wiring.{bounds_of, from_rank, to_rank}
+use Rattle.rank_slots.proofs.Pairs.{at_map_back, exists_at, within}
+use Rattle.rank_wiring.proofs.Rows.{row-has}
+use Rattle.rank_slots.proofs.Sends.{node-of}
+use Rattle.rank_slots.specs.declared.slot.Slot.{Slot}
+use Rattle.rank_slots.specs.declared.ports.OutPort.{OutPort}
+use Rattle.rank_slots.specs.declared.ports.InPort.{InPort}
 
 -- ---- a lane is used where an operation that is ready sends on it
 two : {b : Bool} → b ≡ true → b ≡ false → ⊥

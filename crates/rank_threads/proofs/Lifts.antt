@@ -1,5 +1,6 @@
 -- Wires that end one after the other, and the lanes that take what they held.
-use Rattle.std.proofs.Common.{ℕ, zero, suc, Bool, true, false, ◌<◌, ◌≤◌, ◌≡◌, ◌∙◌, ⊎_elim, List, [], ◌∷◌, ◌++◌, length, set, if◌then◌else◌, refl, sym, ap, ap₂, subst, arith, get_or-set_same, get_or-set_other}
+use Rattle.std.proofs.Common.{ℕ, zero, suc, Bool, true, false, ◌<◌, ◌≤◌, ◌≡◌, ◌∙◌, ⊎_elim, List, [], ◌∷◌, ◌++◌, length, set}
+use Rattle.std.proofs.Common.{if◌then◌else◌, refl, sym, ap, ap₂, subst, arith, get_or-set_same, get_or-set_other}
 use Rattle.std.proofs.lemmas.Bool.{cases_eq, cases_lt}
 use mathlib.Core.Option.{some, some-injective}
 use lib.ListN.{get_elem?}
@@ -19,16 +20,16 @@ use Rattle.rank_node.specs.Node.{NodeState}
 use Rattle.worlds.specs.Frames.{frame_lane}
 use Rattle.world_parts.specs.Layout.{lane_at}
 use Rattle.world_parts.proofs.Placed.{OneLane, lane_apart}
-use Rattle.rank_threads.specs.declared.slot.Slot.{Slot}
-use Rattle.rank_threads.specs.declared.ports.OutPort.{OutPort}
-use Rattle.rank_threads.specs.declared.ports.InPort.{InPort}
+use Rattle.rank_slots.specs.declared.slot.Slot.{Slot}
+use Rattle.rank_slots.specs.declared.ports.OutPort.{OutPort}
+use Rattle.rank_slots.specs.declared.ports.InPort.{InPort}
 use Rattle.rank_threads.specs.Closing.{IsHeldOn, IsLifted}
-use Rattle.rank_threads.specs.Lanes.{AreLanes}
-use Rattle.rank_threads.specs.Moves.{SameNode, Slotwise}
-use Rattle.rank_threads.specs.Names.{history}
-use Rattle.rank_threads.specs.Slots.{HasSent, InOk, OutOk}
-use Rattle.rank_threads.specs.Wiring.{bounds_of}
-use Rattle.rank_threads.proofs.Slotwise.{node_before}
+use Rattle.rank_slots.specs.Lanes.{AreLanes}
+use Rattle.rank_slots.specs.Moves.{SameNode, Slotwise}
+use Rattle.rank_slots.specs.Names.{history}
+use Rattle.rank_slots.specs.Slots.{HasSent, InOk, OutOk}
+use Rattle.rank_wiring.specs.Wiring.{bounds_of}
+use Rattle.rank_threads.proofs.Leaving.{node_before}
 
 two : {b : Bool} → b ≡ true → b ≡ false → ⊥
 two e f = cc

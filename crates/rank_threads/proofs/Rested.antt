@@ -34,17 +34,17 @@ use Rattle.rest_probe.proofs.Used.{used-from, used-to}
 use Rattle.world_parts.specs.Layout.{node_at}
 use Rattle.worlds.specs.Standing.{IsStanding}
 use Rattle.worlds.specs.World.{AreSlots, WorldState, histories_in}
-use Rattle.rank_threads.specs.declared.slot.Slot.{Slot}
-use Rattle.rank_threads.specs.Chronicles.{chronicle}
+use Rattle.rank_slots.specs.declared.slot.Slot.{Slot}
+use Rattle.rank_slots.specs.Chronicles.{chronicle}
 use Rattle.rank_threads.specs.Closing.{IsLeft, IsWorldOf}
 use Rattle.rank_threads.specs.Fabrics.{FabricState}
-use Rattle.rank_threads.specs.Names.{history}
-use Rattle.rank_threads.specs.Probes.{sent_on, state_after}
+use Rattle.rank_slots.specs.Names.{history}
+use Rattle.rank_slots.specs.Probes.{sent_on, state_after}
 use Rattle.rank_threads.specs.Resting.{AreFrontsOf, SeenBy}
-use Rattle.rank_threads.specs.Sound.{IsSound}
-use Rattle.rank_threads.proofs.Chronicles.{begins-history, same-handles, started-prefix}
-use Rattle.rank_threads.proofs.Pairs.{at_map_back, exists_at, within}
-use Rattle.rank_threads.proofs.Snocs.{read}
+use Rattle.rank_slots.specs.Sound.{IsSound}
+use Rattle.rank_slots.proofs.Chronicles.{begins-history, same-handles, started-prefix}
+use Rattle.rank_slots.proofs.Pairs.{at_map_back, exists_at, within}
+use Rattle.rank_slots.proofs.Snocs.{read}
 use Rattle.rank_threads.proofs.Strays.{none-stray}
 
 -- what is said of a rank's front, once the fabric is closed

@@ -1,5 +1,6 @@
 -- What a turn leaves of what a hand knows.
-use Rattle.std.proofs.Common.{append-nil, ◌≡◌, ◌≢◌, ◌<◌, ◌-◌, ◌++◌, ◌∷◌, [], ℕ, zero, suc, List, length, map, ap, ◌∙◌, sym, refl, subst, arith}
+use Rattle.std.proofs.Common.{append-nil, ◌≡◌, ◌≢◌, ◌<◌, ◌-◌, ◌++◌, ◌∷◌, [], ℕ, zero, suc, List, length, map, ap, ◌∙◌, sym, refl, subst}
+use Rattle.std.proofs.Common.{arith}
 use Rattle.std.specs.Prelude.{Option, Some, None, IfSome, IfNone}
 use mathlib.Core.List.{IsPrefix}
 use lib.ListN.{get_elem?}
@@ -13,18 +14,15 @@ use Rattle.turn_table.specs.Hands.{LastTurn, Took, marks}
 use Rattle.turn_table.proofs.Sums.{adjusted_length}
 use Rattle.schedule_compiler.specs.Jobs.{JobOf}
 use Rattle.plan_cuts.specs.History.{Local}
-use Rattle.plan_cuts.specs.History.Local.{Start}
-use Rattle.rank_threads.specs.declared.gate.StartAnswer.{StartAnswer}
-use Rattle.rank_threads.specs.declared.gate.StartAnswer.TheVariants.{Started, AlreadyStarted}
-use Rattle.rank_threads.specs.declared.slot.Slot.{Slot}
-use Rattle.rank_threads.specs.Chronicles.{Entry, KeepsHandles, chronicle}
-use Rattle.rank_threads.specs.Names.{Mark, Note, history, mark, note, plate}
-use Rattle.rank_threads.specs.Steps.{Begun, IsIdle, Made}
+use Rattle.rank_slots.specs.declared.slot.Slot.{Slot}
+use Rattle.rank_slots.specs.Chronicles.{Entry, KeepsHandles, chronicle}
+use Rattle.rank_slots.specs.Names.{Mark, Note, history, mark, note, plate}
+use Rattle.rank_slots.specs.Steps.{IsIdle, Made}
 use Rattle.rank_node.specs.Node.{NodeState}
-use Rattle.rank_threads.specs.Missing.{Idled}
+use Rattle.rank_slots.specs.Missing.{Idled}
 use Rattle.rank_threads.specs.Turns.{FoundIdle, MayEnd, Turned}
-use Rattle.rank_threads.proofs.Chronicles.{as-long, bare-history, begins-chronicle, begins-history}
-use Rattle.rank_threads.proofs.Pairs.{at_map_back, within}
+use Rattle.rank_slots.proofs.Chronicles.{as-long, bare-history, begins-chronicle, begins-history}
+use Rattle.rank_slots.proofs.Pairs.{at_map_back, within}
 
 -- ---- the views without the counts of busy tries
 adjusted-else : (l : List (SlotView Slot)) (k q : ℕ) (f : SlotView Slot → SlotView Slot) → q ≢ k → get_elem? (map without_busy_slot (adjusted l k f)) q ≡ get_elem? (map without_busy_slot l) q
@@ -135,7 +133,3 @@ with-some (Some step) f h = f step h
 pub with-none : {P Q : Type 0} (e : Option LocalStep) → (P → Q) → IfNone e P → IfNone e Q
 with-none None f h = f h
 with-none (Some step) f h = tt
-
-pub longer-begun : (x y : Slot) (s : StartAnswer) → Begun s (mark x) (mark y) → IsPrefix (history x) (history y)
-longer-begun x y Started b = (Start ∷ [], sym b.1)
-longer-begun x y AlreadyStarted b = ([], append-nil (history x) ∙ sym b.1)

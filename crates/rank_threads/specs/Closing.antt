@@ -12,11 +12,11 @@ use Rattle.turn_table.specs.Hands.{Left, parts_of}
 use Rattle.turn_table.specs.Rules.{Follows}
 use Rattle.turn_table.specs.States.{HandState}
 use Rattle.worlds.specs.World.{AreSlots, WorldState, histories_in}
-use Rattle.rank_threads.specs.declared.slot.Slot.{Slot}
+use Rattle.rank_slots.specs.declared.slot.Slot.{Slot}
 use Rattle.rank_threads.specs.Fabrics.{FabricState, HasSwept}
-use Rattle.rank_threads.specs.Chronicles.{chronicle}
-use Rattle.rank_threads.specs.Names.{history, plate}
-use Rattle.rank_threads.specs.Slots.{HasSent}
+use Rattle.rank_slots.specs.Chronicles.{chronicle}
+use Rattle.rank_slots.specs.Names.{history, plate}
+use Rattle.rank_slots.specs.Slots.{HasSent}
 
 -- ---- the lanes
 -- the lane holds what was sent on it and not received, in the slots of its ranks

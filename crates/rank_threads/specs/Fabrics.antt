@@ -9,13 +9,13 @@ use Rattle.turn_table.specs.States.{HandState, TableState}
 use Rattle.rank_node.specs.Node.{NodeState}
 use Rattle.worlds.specs.FrameState.{FrameState}
 use Rattle.worlds.specs.Frames.{IsFrameOf}
-use Rattle.rank_threads.specs.declared.slot.Slot.{Slot}
-use Rattle.rank_threads.specs.Lists.{Each}
-use Rattle.rank_threads.specs.Lanes.{AreLanes}
-use Rattle.rank_threads.specs.Names.{Plate, plate}
-use Rattle.rank_threads.specs.Sound.{IsSound}
+use Rattle.rank_slots.specs.declared.slot.Slot.{Slot}
+use Rattle.rank_slots.specs.Lists.{Each}
+use Rattle.rank_slots.specs.Lanes.{AreLanes}
+use Rattle.rank_slots.specs.Names.{Plate, plate}
+use Rattle.rank_slots.specs.Sound.{IsSound}
 use Rattle.rank_threads.specs.Turns.{FoundIdle}
-use Rattle.rank_threads.specs.Wiring.{IsLaid, bounds_of}
+use Rattle.rank_wiring.specs.Wiring.{IsLaid, bounds_of}
 
 -- which job, the table of its ranks, and the wires
 pub record FabricState : Type 0 where

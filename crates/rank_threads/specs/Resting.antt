@@ -13,9 +13,24 @@ use Rattle.shape_plans.specs.Drawing.{plan_of}
 use Rattle.turn_table.specs.declared.views.HandView.{HandView}
 use Rattle.turn_table.specs.Hands.{IsFree}
 use Rattle.turn_table.specs.States.{HandState}
-use Rattle.rank_threads.specs.declared.slot.Slot.{Slot}
+use Rattle.rank_slots.specs.declared.slot.Slot.{Slot}
 use Rattle.rank_threads.specs.Fabrics.{FabricState}
-use Rattle.rank_threads.specs.Probes.{SaysSeen}
+use mathlib.Core.List.{IsPrefix}
+use Rattle.plan_cuts.specs.History.{Local}
+use Rattle.turn_table.specs.declared.views.EndedTurn.{EndedTurn}
+use Rattle.turn_table.specs.declared.views.SlotView.{SlotView}
+use Rattle.rank_slots.specs.Names.{history}
+use Rattle.rank_slots.specs.Probes.{Says}
+
+-- a history that was seen at rank r begins with this front, and the note says what the front says
+pub record SaysSeen (job : JobOf) (v : HandView Slot) (r : ℕ) (front : List Local) (n : ProbeNote) : Type 0 where
+  pub slot : SlotView Slot
+  pub slot_is : get_elem? v.slots r ≡ some slot
+  pub at : ℕ
+  pub turn : EndedTurn Slot
+  pub turn_is : get_elem? slot.seen at ≡ some turn
+  pub begins : IsPrefix front (history turn.given)
+  pub says : Says job r front turn.given.node.value.kept n
 
 -- each note says what its rank's front says, with which a history begins that was seen there
 abbrev pub AreFronts : JobOf → HandView Slot → Histories → List RankNote → Type 0

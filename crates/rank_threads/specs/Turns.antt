@@ -10,10 +10,10 @@ use Rattle.turn_table.specs.Views.{numbers_from, places, without_busy_slot}
 use Rattle.turn_table.specs.Hands.{LastTurn, Took}
 use Rattle.plan_cuts.specs.History.{Local}
 use Rattle.schedule_compiler.specs.Jobs.{JobOf}
-use Rattle.rank_threads.specs.declared.slot.Slot.{Slot}
-use Rattle.rank_threads.specs.Chronicles.{chronicle}
-use Rattle.rank_threads.specs.Names.{Mark, history, note, plate}
-use Rattle.rank_threads.specs.Steps.{IsIdle}
+use Rattle.rank_slots.specs.declared.slot.Slot.{Slot}
+use Rattle.rank_slots.specs.Chronicles.{chronicle}
+use Rattle.rank_slots.specs.Names.{Mark, history, note, plate}
+use Rattle.rank_slots.specs.Steps.{IsIdle}
 
 -- the history begins with each that the hand saw at rank r
 abbrev pub BeginsSeen : HandView Slot → ℕ → List Local → Type 0

@@ -6,20 +6,19 @@ ghost use Rattle.turn_table.specs.Hands.{IsFree, IsHandOf, Took};
 ghost use Rattle.plan_calls.specs.Lanes.{is_used_lane};
 ghost use Rattle.rank_node.specs.Node.{IsNode};
 ghost use Rattle.shape_plans.specs.Drawing.{plan_of};
-ghost use Rattle.rank_threads.specs.declared.slot.Slot.{Slot};
+ghost use Rattle.rank_slots.specs.declared.slot.Slot.{Slot};
 ghost use Rattle.rank_threads.specs.Fabrics.{IsNamed};
-ghost use Rattle.rank_threads.specs.Lanes.{AreLanes};
-ghost use Rattle.rank_threads.specs.Chronicles.{chronicle};
-ghost use Rattle.rank_threads.specs.Names.{IsWired, Mark, mark, plate};
-ghost use Rattle.rank_threads.specs.Sound.{IsSound};
-ghost use Rattle.rank_threads.specs.Steps.{Begun, Delivered, Fired, IsIdle, IsOfHistory, Made};
+ghost use Rattle.rank_slots.specs.Lanes.{AreLanes};
+ghost use Rattle.rank_slots.specs.Chronicles.{chronicle};
+ghost use Rattle.rank_slots.specs.Names.{IsWired, Mark, mark, plate};
+ghost use Rattle.rank_slots.specs.Sound.{IsSound};
+ghost use Rattle.rank_slots.specs.Steps.{Begun, Delivered, Fired, IsIdle, IsOfHistory, Made};
 ghost use Rattle.rank_threads.specs.Turns.{MayEnd, Turned};
-ghost use Rattle.rank_threads.specs.Wiring.{bounds_of};
+ghost use Rattle.rank_wiring.specs.Wiring.{bounds_of};
 
 use crate::fabric::{Fabric, Hand};
-use crate::gate::{Gate, StartAnswer};
-use crate::slot::Slot;
 use ptl_types::{Lane, LocalStep, Rank};
+use rank_slots::{Gate, Slot, StartAnswer};
 use std::sync::Wait;
 use turn_table::Turn;
 

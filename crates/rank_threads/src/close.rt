@@ -17,19 +17,18 @@ ghost use Rattle.worlds.specs.FrameLends.{with_lane};
 ghost use Rattle.worlds.specs.Frames.{frame_lane, lane_in};
 ghost use Rattle.worlds.specs.Standing.{IsStanding};
 ghost use Rattle.worlds.specs.World.{AreSlots, histories_in};
-ghost use Rattle.rank_threads.specs.declared.slot.Slot.{Slot};
+ghost use Rattle.rank_slots.specs.declared.slot.Slot.{Slot};
 ghost use Rattle.rank_threads.specs.Closing.{IsLifted, IsWorldOf};
-ghost use Rattle.rank_threads.specs.Lanes.{AreLanes};
-ghost use Rattle.rank_threads.specs.Lists.{Each};
-ghost use Rattle.rank_threads.specs.Moves.{AllLaid, IsBetween, SameNode, Slotwise};
-ghost use Rattle.rank_threads.specs.Wiring.{bounds_of};
+ghost use Rattle.rank_slots.specs.Lanes.{AreLanes};
+ghost use Rattle.rank_slots.specs.Lists.{Each};
+ghost use Rattle.rank_wiring.specs.Opening.{AllLaid, IsBetween};
+ghost use Rattle.rank_slots.specs.Moves.{SameNode, Slotwise};
+ghost use Rattle.rank_wiring.specs.Wiring.{bounds_of};
 
 use crate::fabric::{Fabric, Hand};
-use crate::gate::Gate;
-use crate::moves::{pull_in, pull_out};
-use crate::slot::Slot;
 use pair_wires::Wire;
 use rank_node::Node;
+use rank_slots::{Gate, Slot, pull_in, pull_out};
 use std::sync::Wait;
 use worlds::{Frame, World};
 

@@ -1,10 +1,8 @@
 //! A fabric: all ranks of a job in a table of turns, and the wires between them.
 
-use crate::gate::Gate;
-use crate::mail::Mail;
-use crate::slot::Slot;
 use pair_wires::Wire;
 use rank_node::Node;
+use rank_slots::{Gate, Mail, Slot};
 use schedule_compiler::Job;
 use std::marker::Model;
 use turn_table::{TurnHand, Turns};

@@ -16,9 +16,8 @@ ghost use Rattle.rank_threads.specs.Closing.{IsWorldOf};
 ghost use Rattle.rank_threads.specs.Resting.{AreFrontsOf};
 
 use crate::fabric::{Fabric, Hand};
-use crate::gate::Gate;
-use crate::lanes::sound;
 use plan_rest::one_wave;
+use rank_slots::{Gate, sound};
 use rest_probe::Wave;
 use std::sync::Wait;
 use worlds::World;

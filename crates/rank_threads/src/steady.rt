@@ -9,15 +9,15 @@ ghost use Rattle.rest_probe.specs.declared.answers.WaveAnswer.TheVariants.{Rest}
 ghost use Rattle.rest_probe.specs.Answered.{Answered};
 ghost use Rattle.rest_probe.specs.Waves.{AllThere, IsFor};
 ghost use Rattle.turn_table.specs.Hands.{IsFree, parts_of};
-ghost use Rattle.rank_threads.specs.declared.slot.Slot.{Slot};
+ghost use Rattle.rank_slots.specs.declared.slot.Slot.{Slot};
 ghost use Rattle.rank_threads.specs.Resting.{AreFronts, Led};
 ghost use Rattle.turn_table.specs.States.{HandState};
 ghost use denote.Param.Send.{IsSync};
 
 use crate::fabric::{Fabric, Hand};
-use crate::gate::Gate;
 use crate::workers::block_start;
 use ptl_types::Rank;
+use rank_slots::Gate;
 use rest_probe::{Wave, WaveAnswer};
 use std::sync::Wait;
 use std::sync::atomic::{AtomicBool, Ordering};

@@ -11,8 +11,8 @@ ghost use Rattle.rank_threads.specs.Fabrics.{HasSwept};
 ghost use Rattle.rank_threads.specs.Turns.{FoundIdle};
 
 use crate::fabric::{Fabric, Hand};
-use crate::gate::Gate;
 use ptl_types::Rank;
+use rank_slots::Gate;
 use std::sync::Wait;
 use std::thread;
 use std::thread::Threads;

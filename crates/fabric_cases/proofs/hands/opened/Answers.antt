@@ -1,4 +1,4 @@
-use Rattle.rank_threads.proofs.Slotwise.{on_ok}
+use Rattle.rank_slots.proofs.Slotwise.{on_ok}
 use Rattle.fabric_cases.proofs.hands.opened.Goals as goal
 
 pub returns-clause-count : goal.returns-clause-count

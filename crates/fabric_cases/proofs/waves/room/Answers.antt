@@ -3,7 +3,7 @@ use Rattle.coll_shape.specs.Outline.{Outline}
 use Rattle.schedule_compiler.specs.Jobs.{JobOf}
 use Rattle.shape_plans.specs.Drawing.{plan_of}
 use Rattle.rest_probe.specs.Waves.{IsFor}
-use Rattle.rank_threads.proofs.Slotwise.{on_ok}
+use Rattle.rank_slots.proofs.Slotwise.{on_ok}
 use Rattle.fabric_cases.proofs.waves.room.Goals as goal
 
 pub returns : goal.returns

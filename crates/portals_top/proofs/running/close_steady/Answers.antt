@@ -3,9 +3,9 @@ use mathlib.Core.Option.{some}
 use lib.ListN.{get_elem?}
 use Rattle.turn_table.specs.Hands.{IsFree, parts_of}
 use Rattle.turn_table.specs.States.{HandState}
-use Rattle.rank_threads.specs.declared.slot.Slot.{Slot}
-use Rattle.rank_threads.proofs.Pairs.{exists_at}
-use Rattle.rank_threads.proofs.Snocs.{written}
+use Rattle.rank_slots.specs.declared.slot.Slot.{Slot}
+use Rattle.rank_slots.proofs.Pairs.{exists_at}
+use Rattle.rank_slots.proofs.Snocs.{written}
 use Rattle.portals_top.proofs.running.close_steady.Goals as goal
 
 pub close_at_rest-requires-clause-hands : goal.close_at_rest-requires-clause-hands

@@ -1,4 +1,4 @@
-use Rattle.rank_threads.proofs.Slotwise.{on_ok}
+use Rattle.rank_slots.proofs.Slotwise.{on_ok}
 use Rattle.portals_top.proofs.running.run_in.Goals as goal
 
 pub returns-in-Once : goal.returns-in-Once

@@ -10,10 +10,11 @@ use Rattle.rank_node.specs.Node.{NodeState}
 use Rattle.schedule_compiler.specs.Jobs.{JobOf}
 use Rattle.worlds.specs.FrameLends.{with_lane}
 use Rattle.worlds.specs.Frames.{lane_in}
-use Rattle.rank_threads.specs.declared.ports.InPort.{InPort}
-use Rattle.rank_threads.specs.Slots.{InOk}
+use Rattle.rank_slots.specs.declared.ports.InPort.{InPort}
+use Rattle.rank_slots.specs.Slots.{InOk}
 use Rattle.rank_threads.proofs.Lifts.{held-between}
-use Rattle.rank_threads.proofs.Slotwise.{chain, laid_less, last_in, last_out, less_in, less_out, lost_in, lost_out, node_before, wire_ends}
+use Rattle.rank_slots.proofs.Slotwise.{chain}
+use Rattle.rank_threads.proofs.Leaving.{laid_less, last_in, last_out, less_in, less_out, lost_in, lost_out, node_before, wire_ends}
 use Rattle.rank_threads.proofs.close.lift_wire.Goals as goal
 
 pub pull_out-out-requires-clause-rank : goal.pull_out-out-requires-clause-rank

@@ -1,4 +1,5 @@
-use Rattle.std.proofs.Common.{rules, arith, ◌≡◌, ◌≤◌, ◌++◌, ◌∷◌, [], suc, true, List, length, sym, ap, ◌∙◌, subst, refl, append-nil, append_assoc, length-append, set}
+use Rattle.std.proofs.Common.{rules, arith, ◌≡◌, ◌≤◌, ◌++◌, ◌∷◌, [], suc, true, List, length, sym, ap, ◌∙◌, subst, refl, append-nil}
+use Rattle.std.proofs.Common.{append_assoc, length-append, set}
 use mathlib.Core.Option.{some}
 use lib.ListN.{get_elem?}
 use Rattle.pair_wires.specs.Lanes.{Plain}
@@ -10,10 +11,11 @@ use Rattle.coll_shape.specs.Outline.{Outline}
 use Rattle.world_parts.specs.Layout.{lane_at}
 use Rattle.worlds.specs.FrameState.{FrameState}
 use Rattle.rank_threads.specs.Closing.{IsLifted}
-use Rattle.rank_threads.specs.Moves.{AllLaid}
-use Rattle.rank_threads.proofs.Lifts.{AreLifted, between, in-lanes, is-used, lane-first, lifted-before, lifted-more, none-lifted, unused-left, used-lane}
-use Rattle.rank_threads.proofs.Slotwise.{chain, stay}
-use Rattle.rank_threads.proofs.Snocs.{front_some, last_at, popped}
+use Rattle.rank_wiring.specs.Opening.{AllLaid}
+use Rattle.rank_threads.proofs.Lifts.{AreLifted, between, in-lanes, is-used, lane-first, lifted-before, lifted-more, none-lifted}
+use Rattle.rank_threads.proofs.Lifts.{unused-left, used-lane}
+use Rattle.rank_slots.proofs.Slotwise.{chain, stay}
+use Rattle.rank_slots.proofs.Snocs.{front_some, last_at, popped}
 use Rattle.rank_threads.proofs.close.lift_wires.Goals as goal
 
 one_more : {A : Type 0} (xs ys : List A) (a : A) → xs ≡ ys ++ a ∷ [] → length xs ≡ suc (length ys)

@@ -1,6 +1,7 @@
 use Rattle.std.proofs.Common.{◌≡◌, ◌++◌, List, length}
 use Rattle.pair_wires.specs.Wires.{WireState}
-use Rattle.rank_threads.specs.Moves.{AllLaid, SameNode, Slotwise}
+use Rattle.rank_wiring.specs.Opening.{AllLaid}
+use Rattle.rank_slots.specs.Moves.{SameNode, Slotwise}
 use Rattle.rank_threads.proofs.Lifts.{AreLifted}
 use Rattle.rank_threads.proofs.close.lift_wires.Given as goal
 

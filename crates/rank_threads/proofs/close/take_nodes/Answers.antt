@@ -1,8 +1,8 @@
 use Rattle.std.proofs.Common.{rules, ◌∙◌, ◌++◌, ◌∷◌, [], ap₂, subst, sym}
 use Rattle.rank_node.specs.Node.{IsNode}
-use Rattle.rank_threads.specs.declared.slot.Slot.{Slot}
-use Rattle.rank_threads.specs.Lists.{Each}
-use Rattle.rank_threads.proofs.Snocs.{each_snoc, map_snoc}
+use Rattle.rank_slots.specs.declared.slot.Slot.{Slot}
+use Rattle.rank_slots.specs.Lists.{Each}
+use Rattle.rank_slots.proofs.Snocs.{each_snoc, map_snoc}
 use Rattle.rank_threads.proofs.close.take_nodes.Goals as goal
 
 pub loop-slot-preserved : goal.loop-slot-preserved

@@ -1,7 +1,7 @@
 use Rattle.std.proofs.Common.{◌≡◌, ◌≤◌, length, map, vec_capacity}
 use Rattle.rank_node.specs.Node.{IsNode}
-use Rattle.rank_threads.specs.declared.slot.Slot.{Slot}
-use Rattle.rank_threads.specs.Lists.{Each}
+use Rattle.rank_slots.specs.declared.slot.Slot.{Slot}
+use Rattle.rank_slots.specs.Lists.{Each}
 use Rattle.rank_threads.proofs.close.take_nodes.Given as goal
 
 abbrev pub invariant-loop-slot : goal.invariant-loop-slot

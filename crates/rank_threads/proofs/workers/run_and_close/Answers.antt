@@ -1,9 +1,9 @@
 use Rattle.std.proofs.Common.{◌≡◌, ◌++◌, ◌∙◌, All, List, ap, drop, length, subst, sym, take}
 use Rattle.turn_table.specs.Hands.{IsFree, parts_of}
 use Rattle.turn_table.specs.States.{HandState}
-use Rattle.rank_threads.specs.declared.slot.Slot.{Slot}
+use Rattle.rank_slots.specs.declared.slot.Slot.{Slot}
 use Rattle.rank_threads.specs.Fabrics.{HasSwept}
-use Rattle.rank_threads.proofs.Snocs.{written}
+use Rattle.rank_slots.proofs.Snocs.{written}
 use Rattle.rank_threads.proofs.workers.run_and_close.Goals as goal
 
 pub close-requires-clause-hands : goal.close-requires-clause-hands

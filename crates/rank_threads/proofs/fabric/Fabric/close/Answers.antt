@@ -12,16 +12,16 @@ use Rattle.rank_node.specs.Node.{NodeState}
 use Rattle.worlds.specs.Frames.{frame_lane}
 use Rattle.world_parts.specs.Layout.{lane_at}
 use Rattle.worlds.proofs.Ends.{barriers_in}
-use Rattle.rank_threads.specs.declared.slot.Slot.{Slot}
+use Rattle.rank_slots.specs.declared.slot.Slot.{Slot}
 use Rattle.rank_threads.specs.Closing.{IsLifted, IsWorldOf}
 use Rattle.rank_threads.specs.Fabrics.{FabricState, IsNamed}
-use Rattle.rank_threads.specs.Lanes.{AreLanes}
-use Rattle.rank_threads.specs.Moves.{AllLaid}
-use Rattle.rank_threads.specs.Names.{plate}
-use Rattle.rank_threads.specs.Wiring.{bounds_of}
+use Rattle.rank_slots.specs.Lanes.{AreLanes}
+use Rattle.rank_wiring.specs.Opening.{AllLaid}
+use Rattle.rank_slots.specs.Names.{plate}
+use Rattle.rank_wiring.specs.Wiring.{bounds_of}
 use Rattle.rank_threads.proofs.Closing.{may-close}
 use Rattle.rank_threads.proofs.Ending.{as-many, kept-at, laid-left, left-history, may-frame, named-left, node-of-slot}
-use Rattle.rank_threads.proofs.Snocs.{written}
+use Rattle.rank_slots.proofs.Snocs.{written}
 use Rattle.rank_threads.proofs.fabric.Fabric.close.Goals as goal
 
 pub lift_wires-requires-clause-laid : goal.lift_wires-requires-clause-laid

@@ -8,7 +8,7 @@ use Rattle.worlds.specs.World.{histories_in, ranks_in}
 use Rattle.world_parts.specs.Layout.{node_at}
 use Rattle.rank_node.specs.Handles.{slots_of}
 use Rattle.rank_threads.specs.Fabrics.{FabricState}
-use Rattle.rank_threads.specs.Sound.{IsSound}
+use Rattle.rank_slots.specs.Sound.{IsSound}
 use Rattle.rank_threads.proofs.Rested.{is-wave, job-of, no-stray, rest-same, some-slots}
 use Rattle.rank_threads.proofs.fabric.Fabric.close_at_rest.Goals as goal
 

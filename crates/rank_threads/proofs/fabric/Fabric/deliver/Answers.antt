@@ -1,13 +1,13 @@
 use Rattle.std.proofs.Common.{ap, ◌∙◌, sym, subst}
 use Rattle.turn_table.specs.Hands.{Took}
-use Rattle.rank_threads.specs.Chronicles.{chronicle}
-use Rattle.rank_threads.specs.Names.{Plate, mark, plate}
+use Rattle.rank_slots.specs.Chronicles.{chronicle}
+use Rattle.rank_slots.specs.Names.{Plate, mark, plate}
 use Rattle.rank_threads.specs.Fabrics.{FabricState, IsFabric}
-use Rattle.rank_threads.specs.Sound.{IsSound}
-use Rattle.rank_threads.specs.Steps.{Delivered}
+use Rattle.rank_slots.specs.Sound.{IsSound}
+use Rattle.rank_slots.specs.Steps.{Delivered}
 use Rattle.rank_threads.specs.Turns.{Turned}
 use Rattle.rank_threads.proofs.Idles.{in-at, of-history, passed-at}
-use Rattle.rank_threads.proofs.Singles.{longer-came}
+use Rattle.rank_slots.proofs.Singles.{longer-came}
 use Rattle.rank_threads.proofs.Turns.{may-end}
 use Rattle.rank_threads.proofs.fabric.Fabric.deliver.Goals as goal
 

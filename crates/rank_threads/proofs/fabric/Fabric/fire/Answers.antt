@@ -1,12 +1,12 @@
 use Rattle.std.proofs.Common.{ap, ◌∙◌, sym, subst}
 use Rattle.turn_table.specs.Hands.{Took}
-use Rattle.rank_threads.specs.Chronicles.{chronicle}
-use Rattle.rank_threads.specs.Names.{Plate, mark, plate}
+use Rattle.rank_slots.specs.Chronicles.{chronicle}
+use Rattle.rank_slots.specs.Names.{Plate, mark, plate}
 use Rattle.rank_threads.specs.Fabrics.{FabricState, IsFabric}
-use Rattle.rank_threads.specs.Sound.{IsSound}
+use Rattle.rank_slots.specs.Sound.{IsSound}
 use Rattle.rank_threads.specs.Turns.{Turned}
 use Rattle.rank_threads.proofs.Idles.{not-fired, of-history}
-use Rattle.rank_threads.proofs.Singles.{fired-told, longer-fired}
+use Rattle.rank_slots.proofs.Singles.{fired-told, longer-fired}
 use Rattle.rank_threads.proofs.Turns.{may-end}
 use Rattle.rank_threads.proofs.fabric.Fabric.fire.Goals as goal
 

@@ -1,8 +1,8 @@
 use Rattle.std.proofs.Common.{ap, ◌∙◌, sym, subst}
 use Rattle.turn_table.specs.Hands.{Took}
-use Rattle.rank_threads.specs.Chronicles.{chronicle}
-use Rattle.rank_threads.specs.Names.{Plate, plate}
-use Rattle.rank_threads.specs.Sound.{IsSound}
+use Rattle.rank_slots.specs.Chronicles.{chronicle}
+use Rattle.rank_slots.specs.Names.{Plate, plate}
+use Rattle.rank_slots.specs.Sound.{IsSound}
 use Rattle.rank_threads.proofs.Turns.{may-end}
 use Rattle.rank_threads.proofs.fabric.Fabric.follow.Goals as goal
 

@@ -2,9 +2,9 @@ use Rattle.std.proofs.Common.{◌^◌, ◌<◌, ap, subst, sym}
 use Rattle.shape_plans.specs.Drawing.{plan_of}
 use Rattle.turn_table.specs.declared.views.HandView.{HandView}
 use Rattle.rank_node.specs.Node.{IsNode}
-use Rattle.rank_threads.specs.declared.slot.Slot.{Slot}
-use Rattle.rank_threads.proofs.Budget.{short-history}
-use Rattle.rank_threads.proofs.Chronicles.{as-long}
+use Rattle.rank_slots.specs.declared.slot.Slot.{Slot}
+use Rattle.rank_slots.proofs.Budget.{short-history}
+use Rattle.rank_slots.proofs.Chronicles.{as-long}
 use Rattle.rank_threads.proofs.Turns.{turned}
 use Rattle.rank_threads.proofs.fabric.Fabric.give.Goals as goal
 

@@ -3,16 +3,16 @@ use mathlib.Core.Option.{some}
 use lib.ListN.{get_elem?}
 use Rattle.coll_shape.specs.Outline.{Outline}
 use Rattle.shape_plans.specs.Drawing.{plan_of}
-use Rattle.rank_threads.specs.declared.slot.Slot.{Slot}
+use Rattle.rank_slots.specs.declared.slot.Slot.{Slot}
 use Rattle.schedule_compiler.specs.Jobs.{JobOf}
 use Rattle.worlds.specs.Frames.{IsFrameOf}
-use Rattle.rank_threads.specs.Chronicles.{chronicle, entry}
+use Rattle.rank_slots.specs.Chronicles.{chronicle, entry}
 use Rattle.rank_threads.specs.Fabrics.{IsFabric, IsNamed}
-use Rattle.rank_threads.specs.Lanes.{AreLanes}
-use Rattle.rank_threads.specs.Names.{plate}
-use Rattle.rank_threads.proofs.Fans.{whole-lanes}
-use Rattle.rank_threads.proofs.Pairs.{exists_at}
-use Rattle.rank_threads.proofs.Snocs.{read}
+use Rattle.rank_slots.specs.Lanes.{AreLanes}
+use Rattle.rank_slots.specs.Names.{plate}
+use Rattle.rank_wiring.proofs.Fans.{whole-lanes}
+use Rattle.rank_slots.proofs.Pairs.{exists_at}
+use Rattle.rank_slots.proofs.Snocs.{read}
 use Rattle.rank_threads.proofs.fabric.Fabric.open.Goals as goal
 
 pub open-requires-clause-empty : goal.open-requires-clause-empty

@@ -7,13 +7,13 @@ use Rattle.turn_table.specs.Hands.{Took}
 use Rattle.rest_probe.specs.declared.notes.RankNote.{RankNote}
 use Rattle.rest_probe.specs.Waves.{IsFor}
 use Rattle.rest_probe.proofs.Kept.{for-set}
-use Rattle.rank_threads.specs.Chronicles.{chronicle}
-use Rattle.rank_threads.specs.Names.{history, mark, plate}
-use Rattle.rank_threads.specs.Probes.{Says}
-use Rattle.rank_threads.specs.Sound.{IsSound}
+use Rattle.rank_slots.specs.Chronicles.{chronicle}
+use Rattle.rank_slots.specs.Names.{history, mark, plate}
+use Rattle.rank_slots.specs.Probes.{Says}
+use Rattle.rank_slots.specs.Sound.{IsSound}
 use Rattle.rank_threads.specs.Turns.{Turned}
-use Rattle.rank_threads.proofs.Chronicles.{keeps-still}
-use Rattle.rank_threads.proofs.Pairs.{exists_at, same_at}
+use Rattle.rank_slots.proofs.Chronicles.{keeps-still}
+use Rattle.rank_slots.proofs.Pairs.{exists_at, same_at}
 use Rattle.rank_threads.proofs.Probing.{has-in, has-out, says}
 use Rattle.rank_threads.proofs.Turns.{may-end}
 use Rattle.rank_threads.proofs.fabric.Fabric.probe.Goals as goal

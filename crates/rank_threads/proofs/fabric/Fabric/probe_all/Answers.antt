@@ -7,7 +7,7 @@ use Rattle.rest_probe.specs.Waves.{IsFor}
 use Rattle.rest_probe.proofs.Kept.{for-emptied}
 use Rattle.rank_threads.specs.Fabrics.{FabricState, IsFabric}
 use Rattle.rank_threads.proofs.Fronts.{more-noted, none-noted}
-use Rattle.rank_threads.proofs.Pairs.{at_map_back, within}
+use Rattle.rank_slots.proofs.Pairs.{at_map_back, within}
 use Rattle.rank_threads.proofs.fabric.Fabric.probe_all.Goals as goal
 
 pub loop-rank-init : goal.loop-rank-init

@@ -1,10 +1,11 @@
 use Rattle.std.proofs.Common.{ap, ◌∙◌, sym, subst}
 use Rattle.turn_table.specs.Hands.{Took}
-use Rattle.rank_threads.specs.Chronicles.{chronicle}
-use Rattle.rank_threads.specs.Names.{Plate, mark, plate}
-use Rattle.rank_threads.specs.Sound.{IsSound}
+use Rattle.rank_slots.specs.Chronicles.{chronicle}
+use Rattle.rank_slots.specs.Names.{Plate, mark, plate}
+use Rattle.rank_slots.specs.Sound.{IsSound}
 use Rattle.rank_threads.specs.Turns.{Turned}
-use Rattle.rank_threads.proofs.Turns.{longer-begun, may-end}
+use Rattle.rank_slots.proofs.Onwards.{longer-begun}
+use Rattle.rank_threads.proofs.Turns.{may-end}
 use Rattle.rank_threads.proofs.fabric.Fabric.start.Goals as goal
 
 pub start_once-answer-requires-clause-sound : goal.start_once-answer-requires-clause-sound

@@ -1,9 +1,9 @@
 use Rattle.std.proofs.Common.{ap, ◌∙◌, sym, subst}
 use Rattle.turn_table.specs.Hands.{Took}
-use Rattle.rank_threads.specs.Chronicles.{chronicle}
-use Rattle.rank_threads.specs.Names.{Plate, mark, plate}
+use Rattle.rank_slots.specs.Chronicles.{chronicle}
+use Rattle.rank_slots.specs.Names.{Plate, mark, plate}
 use Rattle.rank_threads.specs.Fabrics.{FabricState, IsFabric}
-use Rattle.rank_threads.specs.Sound.{IsSound}
+use Rattle.rank_slots.specs.Sound.{IsSound}
 use Rattle.rank_threads.specs.Turns.{Turned}
 use Rattle.rank_threads.proofs.Idles.{idle-told}
 use Rattle.rank_threads.proofs.Turns.{longer-step, may-end, with-none, with-some}

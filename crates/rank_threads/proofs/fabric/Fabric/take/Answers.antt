@@ -2,10 +2,10 @@ use Rattle.std.proofs.Common.{◌≡◌, List, ap, ◌∙◌, sym, subst, arith}
 use lib.ListN.{get_elem?}
 use Rattle.turn_table.specs.declared.views.HandView.{HandView}
 use Rattle.rank_node.specs.Node.{IsNode}
-use Rattle.rank_threads.specs.declared.slot.Slot.{Slot}
-use Rattle.rank_threads.specs.Names.{IsWired, Plate, plate}
+use Rattle.rank_slots.specs.declared.slot.Slot.{Slot}
+use Rattle.rank_slots.specs.Names.{IsWired, Plate, plate}
 use Rattle.rank_threads.specs.Fabrics.{FabricState, IsFabric, IsNamed}
-use Rattle.rank_threads.proofs.Pairs.{exists_at}
+use Rattle.rank_slots.proofs.Pairs.{exists_at}
 use Rattle.rank_threads.proofs.fabric.Fabric.take.Goals as goal
 
 pub returns-clause-sound : goal.returns-clause-sound

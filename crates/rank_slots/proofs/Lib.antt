@@ -1,0 +1,15 @@
+pub mod Pairs
+pub mod Snocs
+pub mod Chronicles
+pub mod Gates
+pub mod Sends
+pub mod Ties
+pub mod Fires
+pub mod Budget
+pub mod Receives
+pub mod Readies
+pub mod Singles
+pub mod Onwards
+pub mod Slotwise
+pub mod Sent
+pub mod Counting

@@ -1,0 +1,17 @@
+use Rattle.rank_slots.proofs.Onwards.{onward-after, onward-sound, onward-still, onward-wired}
+use Rattle.rank_slots.proofs.slot.Slot.receive_pending.Goals as goal
+
+pub loop-init : goal.loop-init
+loop-init g c = onward-still c.args.self.now
+
+pub receive_of-requires-clause-sound : goal.receive_of-requires-clause-sound
+receive_of-requires-clause-sound g c = λ _ _. onward-sound c.args.self.now c.loop.self c.loop.invariant c.requires.sound
+
+pub receive_of-requires-clause-wired : goal.receive_of-requires-clause-wired
+receive_of-requires-clause-wired g c = λ _ _. onward-wired c.args.wires.now c.args.self.now c.loop.self c.loop.invariant c.requires.wired
+
+pub loop-preserved : goal.loop-preserved
+loop-preserved g c = onward-after c.args.self.now c.loop.self c.receive_of.new.self c.loop.invariant c.receive_of.ensures
+
+pub returns-then-receive_of : goal.returns-then-receive_of
+returns-then-receive_of g c = onward-after c.args.self.now c.loop.self c.receive_of.new.self c.loop.invariant c.receive_of.ensures

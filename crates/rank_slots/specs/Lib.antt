@@ -1,0 +1,13 @@
+pub mod Lists
+pub mod Joints
+pub mod Lanes
+pub mod Ports
+pub mod Slots
+pub mod Names
+pub mod Chronicles
+pub mod Onward
+pub mod Sound
+pub mod Missing
+pub mod Steps
+pub mod Moves
+pub mod Probes

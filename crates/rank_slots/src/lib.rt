@@ -1,0 +1,24 @@
+//! A rank as the turns of a fabric hand it on: its node and the ends of its wires, and what is done with them in a turn.
+#![tactic(auto)]
+
+mod follow;
+mod gate;
+mod hints;
+mod mail;
+mod moves;
+mod notes;
+mod once;
+mod past;
+mod ports;
+mod posts;
+mod slot;
+mod sound;
+mod steps;
+
+pub use gate::{Gate, OpenGate, StartAnswer};
+pub use hints::Hints;
+pub use mail::Mail;
+pub use moves::{pull_in, pull_out, put_in};
+pub use ports::{InPort, OutPort};
+pub use slot::Slot;
+pub use sound::sound;

@@ -1,0 +1,258 @@
+//! What a rank does in a turn.
+
+ghost use Rattle.std.specs.Prelude.{true, false, ◌≡◌, ◌<◌, ◌++◌, ◌∷◌, [], length, IsTrue, IsFalse, IfSome, IfNone};
+ghost use mathlib.Core.Option.{some};
+ghost use Rattle.ptl_types.specs.declared.headers.Lane.TheVariants.{Answer};
+ghost use Rattle.ni_model.specs.Ready.{is_ready, target_at};
+ghost use Rattle.plan_cuts.specs.History.Local.{Start as Started, Fire as Fired};
+ghost use Rattle.rank_node.specs.Copies.{has_start};
+ghost use Rattle.rank_node.specs.Gates.{goes_out};
+ghost use Rattle.rank_slots.specs.declared.ports.OutPort.{OutPort};
+ghost use Rattle.rank_slots.specs.Chronicles.{KeepsHandles};
+ghost use Rattle.rank_slots.specs.Lists.{Each};
+ghost use Rattle.rank_slots.specs.Names.{IsWired, history, mark, plate};
+ghost use Rattle.rank_slots.specs.Ports.{IsOpen};
+ghost use Rattle.rank_slots.specs.Missing.{AreShut, HasFlushed, Idled, IsDueAt, IsKeptBack, IsOpenAt, IsShut, MissedAll, MissedAt};
+ghost use Rattle.rank_slots.specs.Missing.{ReceivedAt};
+ghost use Rattle.rank_slots.specs.Steps.{Grew, Made};
+ghost use Rattle.rank_slots.specs.Sound.{IsSound};
+
+use crate::gate::Gate;
+use crate::mail::Mail;
+use crate::posts::{find_out, flush_all, pass_on, pop_at};
+use crate::slot::Slot;
+use pair_wires::Wire;
+use ptl_types::{Lane, LocalStep, Rank};
+use std::sync::Wait;
+
+impl Slot {
+    /// Starts the rank.
+    pub(crate) fn begin(&mut self)
+        requires sound { IsSound self.old.job }
+        requires first { has_start (history self.old) ≡ false }
+        ensures grew { history self.new ≡ history self.old ++ Started ∷ [] }
+        ensures handles { KeepsHandles self.old self.new }
+        ensures name { plate self.new ≡ plate self.old }
+    {
+        // What every node keeps is told here.
+        let _ = self.node.history();
+        self.node.start();
+    }
+
+    /// Tries what waits at the out ends again, and answers whether nothing waits now.
+    pub(crate) fn flush<R: Wait>(&mut self, rt: &R, wires: &[Wire], mail: &Mail) -> bool
+        requires wired { IsWired wires.now (plate self.old) }
+        ensures flushed { HasFlushed self.old self.new }
+        ensures free { IsTrue result → Each (λ (p : OutPort). p.end.waits ≡ false) self.new.outs.items }
+        ensures name { plate self.new ≡ plate self.old }
+    {
+        let _ = self.node.history();
+        let free = flush_all(rt, wires, mail, &mut self.node, &mut self.outs);
+        self.hints.note_flushed(free);
+        free
+    }
+
+    /// Fires an operation, whose message, if it has one, finds room.
+    fn fire<R: Wait>(&mut self, rt: &R, wires: &[Wire], mail: &Mail, number: u32)
+        requires sound { IsSound self.old.job }
+        requires wired { IsWired wires.now (plate self.old) }
+        requires ready { is_ready self.old.node.value.nic number ≡ true }
+        requires open { goes_out self.old.node.value.closed (target_at self.old.node.value.nic number) ≡ true }
+        ensures grew { history self.new ≡ history self.old ++ Fired number ∷ [] }
+        ensures handles { KeepsHandles self.old self.new }
+        ensures name { plate self.new ≡ plate self.old }
+    {
+        let _ = self.node.history();
+        let made = self.node.fire(number);
+        let _ = self.node.history();
+        let waits = pass_on(
+            rt,
+            wires,
+            mail,
+            &self.hints.outs,
+            &mut self.node,
+            &mut self.outs,
+            made,
+        );
+        self.hints.note_waiting(waits);
+    }
+
+    /// Whether a message waits at the out end of answers to a rank.
+    fn is_shut(&self, d: Rank) -> bool
+        ensures shut { IsTrue result → IsShut d Answer self.now.outs.items }
+        ensures open { IsFalse result → IsOpen d Answer self.now.outs.items }
+    {
+        match find_out(&self.outs, &self.hints.outs, d, Lane::Answer) {
+            Some(at) => self.outs[at].end.waits(),
+            None => false,
+        }
+    }
+
+    /// Whether a message may be taken from the in end of this place: on a lane of answers where one is awaited, on a lane of requests
+    /// where an answer would find room.
+    pub(crate) fn may_take(&self, at: usize, free: bool) -> bool
+        requires at { at < length self.now.ins.items }
+        requires free { IsTrue free → Each (λ (p : OutPort). p.end.waits ≡ false) self.now.outs.items }
+        ensures due { IsTrue result → IsDueAt at self.now }
+        ensures open { IsTrue result → IsOpenAt at self.now }
+        ensures no { IsFalse result → IsKeptBack at self.now }
+    {
+        let port = &self.ins[at];
+        match port.lane {
+            Lane::Answer => self.node.awaits(),
+            Lane::Request => {
+                if free {
+                    return true;
+                }
+                !self.is_shut(port.source)
+            }
+        }
+    }
+
+    /// Receives the oldest message of an in end.
+    pub(crate) fn receive<R: Wait, G: Gate>(
+        &mut self,
+        rt: &R,
+        wires: &[Wire],
+        mail: &Mail,
+        gate: &G,
+        at: usize,
+    ) -> bool
+        requires sound { IsSound self.old.job }
+        requires wired { IsWired wires.now (plate self.old) }
+        requires at { at < length self.old.ins.items }
+        requires due { IsDueAt at self.old }
+        requires open { IsOpenAt at self.old }
+        ensures some { IsTrue result → ReceivedAt at self.old self.new }
+        ensures none { IsFalse result → MissedAt at self.old self.new }
+        ensures handles { KeepsHandles self.old self.new }
+        ensures name { plate self.new ≡ plate self.old }
+    {
+        let _ = self.node.history();
+        let rank = self.node.nic().rank();
+        let port = &mut self.ins[at];
+        let source = port.source;
+        let lane = port.lane;
+        let Some(message) = pop_at(rt, wires, port) else {
+            return false;
+        };
+        gate.pass(rank, LocalStep::Receive { source, lane });
+        let answer = self.node.receive(source, lane, message);
+        let _ = self.node.history();
+        let waits = pass_on(
+            rt,
+            wires,
+            mail,
+            &self.hints.outs,
+            &mut self.node,
+            &mut self.outs,
+            answer,
+        );
+        self.hints.note_waiting(waits);
+        true
+    }
+
+    /// Receives the oldest message of an in end, if one may be taken.
+    pub(crate) fn pull<R: Wait, G: Gate>(
+        &mut self,
+        rt: &R,
+        wires: &[Wire],
+        mail: &Mail,
+        gate: &G,
+        at: usize,
+        free: bool,
+    ) -> bool
+        requires sound { IsSound self.old.job }
+        requires wired { IsWired wires.now (plate self.old) }
+        requires at { at < length self.old.ins.items }
+        requires free { IsTrue free → Each (λ (p : OutPort). p.end.waits ≡ false) self.old.outs.items }
+        ensures some { IsTrue result → ReceivedAt at self.old self.new }
+        ensures none { IsFalse result → MissedAt at self.old self.new }
+        ensures handles { KeepsHandles self.old self.new }
+        ensures name { plate self.new ≡ plate self.old }
+    {
+        if !self.may_take(at, free) {
+            return false;
+        }
+        self.receive(rt, wires, mail, gate, at)
+    }
+
+    /// Receives the oldest message of the first in end that has one to be taken.
+    fn receive_any<R: Wait, G: Gate>(
+        &mut self,
+        rt: &R,
+        wires: &[Wire],
+        mail: &Mail,
+        gate: &G,
+        free: bool,
+    ) -> Option<LocalStep>
+        requires sound { IsSound self.old.job }
+        requires wired { IsWired wires.now (plate self.old) }
+        requires free { IsTrue free → Each (λ (p : OutPort). p.end.waits ≡ false) self.old.outs.items }
+        ensures some { IfSome result (λ step. Made step (mark self.old) (mark self.new)) }
+        ensures none { IfNone result (MissedAll self.old self.new) }
+        ensures handles { KeepsHandles self.old self.new }
+        ensures name { plate self.new ≡ plate self.old }
+    {
+        let count = self.ins.len();
+        for at in 0..count {
+            let source = self.ins[at].source;
+            let lane = self.ins[at].lane;
+            if self.pull(rt, wires, mail, gate, at, free) {
+                return Some(LocalStep::Receive { source, lane });
+            }
+        }
+        None
+    }
+
+    /// Fires an operation that is ready and whose message, if it has one, finds room.
+    pub(crate) fn fire_any<R: Wait, G: Gate>(
+        &mut self,
+        rt: &R,
+        wires: &[Wire],
+        mail: &Mail,
+        gate: &G,
+    ) -> Option<u32>
+        requires sound { IsSound self.old.job }
+        requires wired { IsWired wires.now (plate self.old) }
+        ensures some { IfSome result (λ t. (is_ready self.old.node.value.nic t ≡ true) × Grew (Fired t) (mark self.old) (mark self.new)) }
+        ensures none { IfNone result ((self.new ≡ self.old) × AreShut self.old.node.value) }
+        ensures handles { KeepsHandles self.old self.new }
+        ensures name { plate self.new ≡ plate self.old }
+    {
+        if self.node.ready() == 0 {
+            return None;
+        }
+        let number = self.node.ready_at(0);
+        gate.pass(self.node.nic().rank(), LocalStep::Fire { number });
+        self.fire(rt, wires, mail, number);
+        Some(number)
+    }
+
+    /// One step: the start; else the firing of an operation that is ready; else a receipt. What waits is tried again before.
+    pub fn step<R: Wait, G: Gate>(
+        &mut self,
+        rt: &R,
+        wires: &[Wire],
+        mail: &Mail,
+        gate: &G,
+    ) -> Option<LocalStep>
+        requires sound { IsSound self.old.job }
+        requires wired { IsWired wires.now (plate self.old) }
+        ensures some { IfSome result (λ step. Made step (mark self.old) (mark self.new)) }
+        ensures none { IfNone result (Idled self.old self.new) }
+        ensures handles { KeepsHandles self.old self.new }
+        ensures name { plate self.new ≡ plate self.old }
+    {
+        let free = self.flush(rt, wires, mail);
+        if !self.node.started() {
+            gate.pass(self.node.nic().rank(), LocalStep::Start);
+            self.begin();
+            return Some(LocalStep::Start);
+        }
+        if let Some(number) = self.fire_any(rt, wires, mail, gate) {
+            return Some(LocalStep::Fire { number });
+        }
+        self.receive_any(rt, wires, mail, gate, free)
+    }
+}

@@ -1,0 +1,11 @@
+-- What a thread makes for a rank may go to another thread.
+use denote.Param.Send.{IsSend, sendable, recorded_send, struct_send}
+use denote.Struct.Declared.{shape}
+use Rattle.rank_wiring.specs.contracts.open.Berth as berth
+use Rattle.rank_wiring.proofs.open.Load.TheSendSync as load
+use Rattle.rank_slots.proofs.Sent.{slot-field-send}
+
+pub berth-send : IsSend berth.the_row
+berth-send =
+    recorded_send berth.the_field.row _ _ berth.the_type.to_one
+    (struct_send (shape berth.the_type) (search sendable, (slot-field-send, (load.the_field_send, tt))))

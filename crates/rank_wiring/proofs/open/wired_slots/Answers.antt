@@ -1,0 +1,35 @@
+use Rattle.std.proofs.Common.{◌≡◌, ◌++◌, ◌∙◌, List, ap, drop, length, subst, sym, take}
+use Rattle.coll_shape.specs.Outline.{Outline}
+use Rattle.shape_plans.specs.Drawing.{plan_of}
+use Rattle.rank_wiring.specs.declared.lanes.FanOut.{FanOut}
+use Rattle.rank_slots.specs.declared.slot.Slot.{Slot}
+use Rattle.rank_wiring.specs.Fans.{AreFans}
+use Rattle.rank_wiring.specs.Opening.{AllFanned, AreWired}
+use Rattle.rank_slots.proofs.Snocs.{written}
+use Rattle.rank_wiring.proofs.open.wired_slots.Goals as goal
+
+pub make_ranks-requires-clause-count : goal.make_ranks-requires-clause-count
+make_ranks-requires-clause-count g c = λ _ _.
+    ap (λ (l : List FanOut). length l) c.deref.ensures.value
+    ∙ (c.in_ok-fans.ensures.count ∙ ap (λ (o : Outline). o.ranks) c.schedule-2.ensures)
+
+pub make_ranks-requires-clause-fans : goal.make_ranks-requires-clause-fans
+make_ranks-requires-clause-fans g c = λ _ _.
+    subst (AreFans (plan_of c.args.job.now.shape)) (sym c.deref.ensures.value)
+    (subst (λ (o : Outline). AreFans (plan_of o) c.in_ok-fans.fans.items) c.schedule-2.ensures c.in_ok-fans.ensures.fans)
+
+pub hand_all-requires-clause-count : goal.hand_all-requires-clause-count
+hand_all-requires-clause-count g c =
+    (ap (λ (l : List Slot). length l) c.deref_mut-2.ensures.value ∙ c.in_ok-slots.ensures.count.0, c.in_ok-slots.ensures.count.1)
+
+pub hand_all-requires-clause-fanned : goal.hand_all-requires-clause-fanned
+hand_all-requires-clause-fanned g c =
+    subst (λ (l : List Slot). AllFanned c.args.job.now l c.in_ok-slots.loads.items)
+    (sym c.deref_mut-2.ensures.value) c.in_ok-slots.ensures.fanned
+
+pub returns : goal.returns
+returns g c =
+    let new = c.hand_all.new.slots in let old = c.in_ok-slots.slots in
+    let slots : take old.len (new ++ drop (length new) old.items) ≡ new = written old.len new _
+    (sym (c.hand_all.ensures.count ∙ c.deref_mut-2.ensures.len)) in
+    subst (λ (l : List Slot). AreWired c.args.job.now l c.in_ok-wires.wires.items) (sym slots) c.in_ok-wires.ensures.wired

@@ -1,0 +1,3 @@
+pub mod Wiring
+pub mod Fans
+pub mod Opening

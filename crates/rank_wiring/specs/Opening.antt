@@ -1,0 +1,133 @@
+-- What an opening makes: the slots of a job whose ranks made no step, and their wires.
+use Rattle.std.specs.Prelude.{ℕ, suc, false, ◌≡◌, ◌<◌, List, [], ◌∷◌, All, Option, IfSome, length, map, replicate}
+use mathlib.Core.List.{IsPrefix}
+use mathlib.Core.Option.{some}
+use lib.ListN.{get_elem?}
+use Rattle.pair_wires.specs.declared.bounds.Bounds.{Bounds}
+use Rattle.pair_wires.specs.Wires.{IsInOf, WireState}
+use Rattle.shape_plans.specs.Drawing.{plan_of}
+use Rattle.schedule_compiler.specs.Jobs.{JobOf}
+use Rattle.rank_node.specs.Plans.{IsCompiledFor}
+use Rattle.rank_slots.specs.declared.slot.Slot.{Slot}
+use Rattle.rank_wiring.specs.declared.open.Berth.{Berth}
+use Rattle.rank_wiring.specs.declared.open.Line.{Line}
+use Rattle.rank_wiring.specs.declared.open.Load.{Load}
+use Rattle.rank_slots.specs.declared.ports.OutPort.{OutPort}
+use Rattle.rank_slots.specs.declared.ports.InPort.{InPort}
+use Rattle.rank_slots.specs.Lists.{Each}
+use Rattle.rank_slots.specs.Joints.{in_joint, out_joint}
+use Rattle.rank_slots.specs.Lanes.{lanes_before, lanes_from}
+use Rattle.rank_slots.specs.Names.{history}
+use Rattle.rank_wiring.specs.Wiring.{IsLaid, IsRow, bounds_of, joints_from, to_rank}
+use Rattle.rank_slots.specs.Moves.{SameNode}
+
+-- ---- the slots of a job whose ranks made no step
+pub record IsFresh (job : JobOf) (r : ℕ) (x : Slot) : Type 0 where
+  pub job_is : x.job ≡ job
+  pub compiled : IsCompiledFor (plan_of job.shape) job.inputs r x.node.value.task
+  pub history_is : history x ≡ []
+  pub closed : x.node.value.closed ≡ replicate job.shape.ranks false
+
+-- such a slot with no ends
+pub record IsBare (job : JobOf) (r : ℕ) (x : Slot) : Type 0 where
+  pub fresh : IsFresh job r x
+  pub outs : x.outs.items ≡ []
+  pub ins : x.ins.items ≡ []
+
+abbrev pub AllFresh : JobOf → List Slot → Type 0
+AllFresh job slots = (r : ℕ) (x : Slot) → get_elem? slots r ≡ some x → IsFresh job r x
+
+-- a slot has the ends of its rank
+abbrev pub SlotLaid : List WireState → ℕ → Slot → Type 0
+SlotLaid wires r x = IsLaid wires r (map out_joint x.outs.items) (map in_joint x.ins.items)
+
+abbrev pub AllLaid : List WireState → List Slot → Type 0
+AllLaid wires slots = (r : ℕ) (x : Slot) → get_elem? slots r ≡ some x → SlotLaid wires r x
+
+-- how many messages the queue of a wire holds; one more may wait at its out end
+abbrev pub wire_room : ℕ
+wire_room = 3
+
+-- a wire for each of these lanes
+pub record AreWires (lanes : List Bounds) (wires : List WireState) : Type 0 where
+  pub bounds_are : bounds_of wires ≡ lanes
+  pub rooms : Each (λ (w : WireState). w.capacity ≡ wire_room) wires
+
+-- none of these ends is of this lane
+abbrev pub HasNoOut : Bounds → List OutPort → Type 0
+HasNoOut b outs = Each (λ (q : OutPort). q.target ≡ b.target → q.lane ≡ b.lane → ⊥) outs
+
+abbrev pub HasNoIn : Bounds → List InPort → Type 0
+HasNoIn b ins = Each (λ (q : InPort). q.source ≡ b.source → q.lane ≡ b.lane → ⊥) ins
+
+-- ---- what the thread of a rank makes
+-- a wire with its in end, through which nothing went
+pub record IsLine (number : ℕ) (l : Line) : Type 0 where
+  pub room : l.wire.capacity ≡ wire_room
+  pub number_is : l.into.wire ≡ number
+  pub in_is : IsInOf l.wire l.into.end
+  pub source : l.into.source ≡ l.wire.bounds.source
+  pub lane : l.into.lane ≡ l.wire.bounds.lane
+  pub received : l.into.end.received ≡ []
+
+-- such wires, numbered from n on
+abbrev pub AreLines : ℕ → List Line → Type 0
+AreLines n [] = Unit {0}
+AreLines n (l ∷ ls) = IsLine n l × AreLines (suc n) ls
+
+abbrev pub wires_in : List Line → List WireState
+wires_in lines = map (λ (l : Line). l.wire) lines
+
+-- the slot of rank r with the out ends of these wires, one for each lane from the rank, whose numbers follow those of the ranks below
+pub record IsFanned (job : JobOf) (r : ℕ) (x : Slot) (load : Load) : Type 0 where
+  pub fresh : IsFresh job r x
+  pub ins : x.ins.items ≡ []
+  pub outs : map out_joint x.outs.items ≡ joints_from (length (lanes_before (plan_of job.shape) r)) (wires_in load.lines.items)
+  pub lines : AreLines (length (lanes_before (plan_of job.shape) r)) load.lines.items
+  pub bounds_are : bounds_of (wires_in load.lines.items) ≡ lanes_from (plan_of job.shape) r
+
+-- what was made for a rank, which it names
+abbrev pub IsBerth : JobOf → Berth → Type 0
+IsBerth job b = IsFanned job b.rank b.slot b.load
+
+-- so was what lies at each of these places, some of which may be empty
+abbrev pub AreBerths : JobOf → List (Option Berth) → Type 0
+AreBerths job places = All (λ o. IfSome o (IsBerth job)) places
+
+-- the slots and the wires of all ranks, in their order
+abbrev pub AllFanned : JobOf → List Slot → List Load → Type 0
+AllFanned job slots loads = (r : ℕ) (x : Slot) (load : Load)
+    → get_elem? slots r ≡ some x → get_elem? loads r ≡ some load → IsFanned job r x load
+
+-- ---- how the wires come together
+-- each slot has an in end of each wire to its rank
+abbrev pub AllIn : List WireState → List Slot → Type 0
+AllIn wires slots = (r : ℕ) (x : Slot) → get_elem? slots r ≡ some x → IsRow wires (to_rank r) (map in_joint x.ins.items)
+
+-- the slots of a job that made no step have the in ends of these wires
+pub record IsHanded (job : JobOf) (wires : List WireState) (slots : List Slot) : Type 0 where
+  pub count : length slots ≡ job.shape.ranks
+  pub fresh : AllFresh job slots
+  pub rooms : Each (λ (w : WireState). w.capacity ≡ wire_room) wires
+  pub ins : AllIn wires slots
+
+-- these wires are of the first of all lanes
+abbrev pub AreFirst : JobOf → List WireState → Type 0
+AreFirst job wires = IsPrefix (bounds_of wires) (lanes_before (plan_of job.shape) (plan_of job.shape).ranks)
+
+-- the slots and the wires of a job that made no step
+pub record AreWired (job : JobOf) (slots : List Slot) (wires : List WireState) : Type 0 where
+  pub count : length slots ≡ job.shape.ranks
+  pub fresh : AllFresh job slots
+  pub wires_are : AreWires (lanes_before (plan_of job.shape) (plan_of job.shape).ranks) wires
+  pub laid : AllLaid wires slots
+
+-- with the same node and the same out ends
+pub record SameOuts (r : ℕ) (y x : Slot) : Type 0 where
+  pub same : SameNode r y x
+  pub outs_are : x.outs.items ≡ y.outs.items
+
+-- the wire leads from one of so many ranks to another
+pub record IsBetween (ranks : ℕ) (w : WireState) : Type 0 where
+  pub source : w.bounds.source < ranks
+  pub target : w.bounds.target < ranks

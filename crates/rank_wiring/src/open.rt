@@ -1,0 +1,340 @@
+//! How the ranks of a job and their wires are made.
+
+ghost use Rattle.std.specs.Prelude.{◌≡◌, ◌<◌, ◌++◌, ◌∷◌, [], All, IfOk, IfSome, length, map};
+ghost use Rattle.pair_wires.specs.declared.bounds.Bounds.{Bounds};
+ghost use Rattle.shape_plans.specs.Drawing.{plan_of};
+ghost use Rattle.rank_slots.specs.Joints.{joint, out_joint};
+ghost use Rattle.rank_wiring.specs.Fans.{AreFans, IsFan};
+ghost use Rattle.rank_slots.specs.Lanes.{IsLane};
+ghost use Rattle.rank_wiring.specs.Opening.{AllFanned, AreBerths, AreFirst, AreLines, AreWired, HasNoOut, IsBare, IsBerth, IsFanned};
+ghost use Rattle.rank_wiring.specs.Opening.{IsFresh, IsHanded, IsLine, SameOuts, wires_in};
+ghost use Rattle.rank_slots.specs.Moves.{Slotwise};
+ghost use Rattle.rank_slots.specs.Sound.{IsSound};
+
+use crate::lanes::{FanOut, all_fans};
+use pair_wires::{Bounds, Wire};
+use ptl_types::{NoMemory, Rank};
+use rank_slots::{Hints, InPort, OutPort, Slot, put_in, sound};
+use rank_tasks::install;
+use schedule_compiler::Job;
+use std::alloc::Global;
+use std::sync::atomic::{AtomicU64, Ordering};
+use std::thread;
+use std::thread::Threads;
+
+/// How many messages the queue of a wire holds; one more may wait at its out end.
+const WIRE_ROOM: u32 = 3;
+
+// A wire with its in end, which is for the rank that it leads to.
+#[derive(Drop)]
+struct Line {
+    wire: Wire,
+    into: InPort,
+}
+
+// The wires from a rank.
+#[derive(Drop)]
+struct Load {
+    lines: Vec<Line>,
+}
+
+// What the thread of a rank makes for it: its slot, with the out ends of its wires, and the wires.
+#[derive(Drop)]
+struct Berth {
+    rank: Rank,
+    slot: Slot,
+    load: Load,
+}
+
+// A rank with no wires, and with room for the ends of so many. There are as many to a rank as from it where answers are sent.
+fn bare_slot(alloc: Global, job: &Job, rank: Rank, ends: usize) -> Result<Slot, NoMemory>
+    requires { rank < job.now.shape.ranks }
+    ensures { IfOk result (λ x. IsBare job.now rank x) }
+{
+    let shared = job.share()?;
+    let node = Box::new(alloc, install(alloc, job, rank, 0)?)?;
+    let hints = Box::new(alloc, Hints::open(alloc, job.schedule().shape().ranks())?)?;
+    let outs = Vec::with_capacity(alloc, ends)?;
+    let ins = Vec::with_capacity(alloc, ends)?;
+    Ok(Slot {
+        job: shared,
+        node,
+        outs,
+        ins,
+        hints,
+    })
+}
+
+// One wire more from a rank, whose out end goes into the rank's slot.
+fn lay_line(
+    alloc: Global,
+    job: &Job,
+    lane: Bounds,
+    number: u32,
+    slot: &mut Slot,
+) -> Result<Line, NoMemory>
+    requires ranks { (plan_of job.now.shape).ranks ≡ job.now.shape.ranks }
+    requires lane { IsLane (plan_of job.now.shape) lane }
+    requires fresh { IsFresh job.now lane.source slot.old }
+    requires apart { HasNoOut lane slot.old.outs.items }
+    ensures fresh { IsFresh job.now lane.source slot.new }
+    ensures ins { slot.new.ins.items ≡ slot.old.ins.items }
+    ensures line { IfOk result (λ l. IsLine number l × (l.wire.bounds ≡ lane)) }
+    ensures out { IfOk result (λ l. map out_joint slot.new.outs.items ≡ map out_joint slot.old.outs.items ++ joint number l.wire ∷ []) }
+{
+    let (wire, out, into) = Wire::open(alloc, WIRE_ROOM, lane)?;
+    let out = OutPort {
+        end: out,
+        wire: number,
+        target: lane.target,
+        lane: lane.lane,
+    };
+    let into = InPort {
+        end: into,
+        wire: number,
+        source: lane.source,
+        lane: lane.lane,
+    };
+    slot.add_out(out)?;
+    Ok(Line { wire, into })
+}
+
+// A wire for each lane from a rank.
+fn lay_fan(
+    alloc: Global,
+    job: &Job,
+    rank: Rank,
+    fan: &FanOut,
+    slot: &mut Slot,
+) -> Result<Load, NoMemory>
+    requires sound { IsSound job.now }
+    requires rank { rank < job.now.shape.ranks }
+    requires fan { IsFan (plan_of job.now.shape) rank fan.now }
+    requires bare { IsBare job.now rank slot.old }
+    ensures { IfOk result (λ x. IsFanned job.now rank slot.new x) }
+{
+    let mut lines = Vec::with_capacity(alloc, fan.lanes.len())?;
+    for k in 0..fan.lanes.len() {
+        let line = lay_line(alloc, job, fan.lanes[k], fan.first + k as u32, slot)?;
+        lines.push(line)?;
+    }
+    Ok(Load { lines })
+}
+
+// A rank with its wires.
+fn make_berth(alloc: Global, job: &Job, rank: Rank, fan: &FanOut) -> Result<Berth, NoMemory>
+    requires rank { rank < job.now.shape.ranks }
+    requires fan { IsFan (plan_of job.now.shape) rank fan.now }
+    ensures { IfOk result (λ b. IsBerth job.now b) }
+{
+    sound(job);
+    let mut slot = bare_slot(alloc, job, rank, fan.lanes.len())?;
+    let load = lay_fan(alloc, job, rank, fan, &mut slot)?;
+    Ok(Berth { rank, slot, load })
+}
+
+// What is made for a rank. There is nothing where there is no such rank, or no memory for it.
+fn berth_of(alloc: Global, job: &Job, fans: &[FanOut], rank: u64) -> Option<Berth>
+    requires count { length fans.now ≡ job.now.shape.ranks }
+    requires fans { AreFans (plan_of job.now.shape) fans.now }
+    ensures { IfSome result (λ b. IsBerth job.now b) }
+{
+    if rank >= u64::from(job.schedule().shape().ranks()) {
+        return None;
+    }
+    match make_berth(alloc, job, rank as Rank, &fans[rank as usize]) {
+        Ok(berth) => Some(berth),
+        Err(_) => None,
+    }
+}
+
+// Makes the ranks, by so many threads, each of which has as many places as there are ranks. A thread makes the next rank that none
+// has begun, since one may have more to do than another, or be held up. Where there is no memory for a rank it lies at no place.
+fn fill_places<R: Threads + Sync>(
+    rt: &R,
+    alloc: Global,
+    job: &Job,
+    fans: &[FanOut],
+    places: &mut [Option<Berth>],
+    threads: usize,
+)
+    requires threads { 0 < threads }
+    requires count { length fans.now ≡ job.now.shape.ranks }
+    requires fans { AreFans (plan_of job.now.shape) fans.now }
+    ensures { AreBerths job.now places.new }
+{
+    let next = &AtomicU64::new(0);
+    thread::for_each_mut(
+        rt,
+        places,
+        threads,
+        &|_, place: &mut Option<Berth>|
+            requires { (length fans.now ≡ job.now.shape.ranks) × AreFans (plan_of job.now.shape) fans.now }
+            ensures { IfSome place.exit.now (λ b. IsBerth job.entry.now b) }
+        {
+            *place = berth_of(alloc, job, fans, next.fetch_add(1, Ordering::SeqCst));
+        },
+    );
+}
+
+// The place at which each rank lies; past the last one for a rank that wasn't made.
+fn places_of(alloc: Global, places: &[Option<Berth>], ranks: u32) -> Result<Vec<usize>, NoMemory>
+    ensures { IfOk result (λ v. length v.items ≡ ranks) }
+{
+    let mut at = Vec::new(alloc);
+    at.resize(ranks as usize, places.len())?;
+    for place in 0..places.len() {
+        if let Some(berth) = &places[place] {
+            if berth.rank < ranks {
+                at[berth.rank as usize] = place;
+            }
+        }
+    }
+    Ok(at)
+}
+
+// What lies at a place, if it was made for this rank.
+fn take_berth(job: &Job, places: &mut [Option<Berth>], place: usize, rank: Rank) -> Option<Berth>
+    requires { AreBerths job.now places.old }
+    ensures left { AreBerths job.now places.new }
+    ensures taken { IfSome result (λ b. IsFanned job.now rank b.slot b.load) }
+{
+    if place >= places.len() {
+        return None;
+    }
+    let Some(berth) = places[place].take() else {
+        return None;
+    };
+    if berth.rank == rank {
+        Some(berth)
+    } else {
+        None
+    }
+}
+
+// All ranks in order, and their wires. Where one is missing there was no memory for it.
+fn in_order(
+    alloc: Global,
+    job: &Job,
+    places: &mut [Option<Berth>],
+) -> Result<(Vec<Slot>, Vec<Load>), NoMemory>
+    requires { AreBerths job.now places.old }
+    ensures count { IfOk result (λ r. (length r.0.items ≡ job.now.shape.ranks) × (length r.1.items ≡ job.now.shape.ranks)) }
+    ensures fanned { IfOk result (λ r. AllFanned job.now r.0.items r.1.items) }
+{
+    let ranks = job.schedule().shape().ranks();
+    let at = places_of(alloc, places, ranks)?;
+    let mut slots = Vec::with_capacity(alloc, ranks as usize)?;
+    let mut loads = Vec::with_capacity(alloc, ranks as usize)?;
+    for rank in 0..ranks {
+        let Some(berth) = take_berth(job, places, at[rank as usize], rank) else {
+            return Err(NoMemory);
+        };
+        let Berth {
+            rank: _,
+            slot,
+            load,
+        } = berth;
+        slots.push(slot)?;
+        loads.push(load)?;
+    }
+    Ok((slots, loads))
+}
+
+// The wires from a rank come after the others, and their in ends to the ranks that they lead to.
+fn hand_load(
+    job: &Job,
+    load: Load,
+    wires: &mut Vec<Wire>,
+    slots: &mut [Slot],
+) -> Result<(), NoMemory>
+    requires sound { IsSound job.now }
+    requires handed { IsHanded job.now wires.old.items slots.old }
+    requires lines { AreLines (length wires.old.items) load.lines.items }
+    requires lanes { AreFirst job.now (wires.old.items ++ wires_in load.lines.items) }
+    ensures count { length slots.new ≡ length slots.old }
+    ensures wires { IfOk result (λ _. wires.new.items ≡ wires.old.items ++ wires_in load.lines.items) }
+    ensures handed { IfOk result (λ _. IsHanded job.now wires.new.items slots.new) }
+    ensures outs { IfOk result (λ _. Slotwise SameOuts slots.old slots.new) }
+{
+    let Load { lines } = load;
+    for line in lines {
+        let Line { wire, into } = line;
+        put_in(slots, wire.bounds().target, into)?;
+        wires.push(wire)?;
+    }
+    Ok(())
+}
+
+// All wires, whose in ends come to their ranks.
+fn hand_all(
+    alloc: Global,
+    job: &Job,
+    many: usize,
+    loads: Vec<Load>,
+    slots: &mut [Slot],
+) -> Result<Vec<Wire>, NoMemory>
+    requires sound { IsSound job.now }
+    requires count { (length slots.old ≡ job.now.shape.ranks) × (length loads.items ≡ job.now.shape.ranks) }
+    requires fanned { AllFanned job.now slots.old loads.items }
+    ensures count { length slots.new ≡ length slots.old }
+    ensures wired { IfOk result (λ v. AreWired job.now slots.new v.items) }
+{
+    let mut wires = Vec::with_capacity(alloc, many)?;
+    for load in loads {
+        hand_load(job, load, &mut wires, slots)?;
+    }
+    Ok(wires)
+}
+
+// How many lanes there are in all.
+fn count(fans: &[FanOut]) -> usize {
+    match fans.last() {
+        Some(fan) => fan.lanes.len().wrapping_add(fan.first as usize),
+        None => 0,
+    }
+}
+
+// All ranks and their wires, which so many threads make at these places.
+fn make_ranks<R: Threads + Sync>(
+    rt: &R,
+    alloc: Global,
+    job: &Job,
+    fans: &[FanOut],
+    places: &mut [Option<Berth>],
+    threads: usize,
+) -> Result<(Vec<Slot>, Vec<Load>), NoMemory>
+    requires threads { 0 < threads }
+    requires count { length fans.now ≡ job.now.shape.ranks }
+    requires fans { AreFans (plan_of job.now.shape) fans.now }
+    ensures count { IfOk result (λ r. (length r.0.items ≡ job.now.shape.ranks) × (length r.1.items ≡ job.now.shape.ranks)) }
+    ensures fanned { IfOk result (λ r. AllFanned job.now r.0.items r.1.items) }
+{
+    fill_places(rt, alloc, job, fans, places, threads);
+    in_order(alloc, job, places)
+}
+
+/// All ranks of a job in their order, in which nothing was done, and a wire for each lane that messages go on, from the lowest rank
+/// that one comes from to the highest. As many threads make them; where one can't be started, the call does its part itself.
+///
+/// # Errors
+///
+/// There was no memory for it. The job is as it was.
+pub fn wired_slots<R: Threads + Sync>(
+    rt: &R,
+    alloc: Global,
+    job: &Job,
+    threads: u32,
+) -> Result<(Vec<Slot>, Vec<Wire>), NoMemory>
+    requires { IsSound job.now }
+    ensures { IfOk result (λ r. AreWired job.now r.0.items r.1.items) }
+{
+    let ranks = job.schedule().shape().ranks() as usize;
+    let threads = (threads as usize).min(ranks).max(1);
+    let fans = all_fans(alloc, job.schedule())?;
+    let mut places = Vec::new(alloc);
+    places.resize_with(ranks.wrapping_mul(threads), || None)?;
+    let (mut slots, loads) = make_ranks(rt, alloc, job, &fans, &mut places, threads)?;
+    let wires = hand_all(alloc, job, count(&fans), loads, &mut slots)?;
+    Ok((slots, wires))
+}
