@@ -287,7 +287,7 @@ fn after_results<'a>(rt: &impl Abort, written: &'a [u8], results: &str) -> Resul
 fn traces(rt: &(impl Abort + Threads + Wait + Sync), alloc: Global) -> Result<(), Fail> {
     let made = run(rt, alloc, &["trace", "4"], THREE_STEPS.as_bytes())?;
     same(rt, &"a trace", made.left.status, Status::Done);
-    same(rt, &"a trace", made.left.world, true);
+    same(rt, &"a trace", made.left.steps.is_some(), true);
     let orders = after_results(rt, made.sink.as_slice(), THREE_RESULTS)?;
     hold(rt, alloc, THREE_STEPS, orders)
 }

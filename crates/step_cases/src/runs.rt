@@ -19,10 +19,8 @@ const ROOM: u64 = 262_144;
 #[derive(Clone, Copy)]
 pub(crate) struct Left {
     pub(crate) status: Status,
-    /// Whether a world is left.
-    pub(crate) world: bool,
-    /// How many steps the ranks of that world made.
-    pub(crate) steps: u64,
+    /// How many steps the ranks of the world made that is left; `None` where none is left.
+    pub(crate) steps: Option<u64>,
 }
 
 /// What a run wrote and left.
@@ -42,15 +40,11 @@ fn steps_of(world: &World) -> u64 {
 }
 
 fn left_by(status: Status, ran: &Ran) -> Left {
-    let (world, steps) = match &ran.world {
-        Some(world) => (true, steps_of(world)),
-        None => (false, 0),
+    let steps = match &ran.world {
+        Some(world) => Some(steps_of(world)),
+        None => None,
     };
-    Left {
-        status,
-        world,
-        steps,
-    }
+    Left { status, steps }
 }
 
 /// Runs these words: the only call of the program.
@@ -120,6 +114,6 @@ pub(crate) fn gives(
     same_bytes(rt, &text, made.sink.as_slice(), output.as_bytes());
     same(rt, &text, made.left.status, status);
     same(rt, &text, made.sink.finishes(), 1);
-    same(rt, &text, made.left.world, world);
+    same(rt, &text, made.left.steps.is_some(), world);
     Ok(())
 }

@@ -121,7 +121,7 @@ fn other_values_have_other_sums(rt: HostRuntime) -> Result<(), Fail> {
     )
 }
 
-/// Runs these words on a text with a gate, and answers how many steps the ranks of the world made.
+/// Runs these words on a text with a gate, and answers how many steps the ranks of the world made that is left.
 pub(crate) fn steps_through<G: Gate>(
     rt: &(impl Abort + Threads + Wait + Sync),
     alloc: Global,
@@ -133,7 +133,7 @@ pub(crate) fn steps_through<G: Gate>(
     let made = run_through(rt, alloc, gate, command, text.as_bytes())?;
     same(rt, &text, made.left.status, Status::Done);
     same_bytes(rt, &text, made.sink.as_slice(), output.as_bytes());
-    Ok(made.left.steps)
+    Ok(made.left.steps.unwrap_or(0))
 }
 
 /// Counts the steps.
