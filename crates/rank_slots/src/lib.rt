@@ -12,7 +12,7 @@ mod past;
 mod ports;
 mod posts;
 mod slot;
-mod sound;
+mod soundness;
 mod steps;
 
 pub use gate::{Gate, OpenGate, StartAnswer};
@@ -21,4 +21,4 @@ pub use mail::Mail;
 pub use moves::{pull_in, pull_out, put_in};
 pub use ports::{InPort, OutPort};
 pub use slot::Slot;
-pub use sound::sound;
+pub use soundness::sound;

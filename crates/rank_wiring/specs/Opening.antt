@@ -90,6 +90,10 @@ pub record IsFanned (job : JobOf) (r : ℕ) (x : Slot) (load : Load) : Type 0 wh
 abbrev pub IsBerth : JobOf → Berth → Type 0
 IsBerth job b = IsFanned job b.rank b.slot b.load
 
+-- so was each of these
+abbrev pub AreMade : JobOf → List Berth → Type 0
+AreMade job list = All (IsBerth job) list
+
 -- so was what lies at each of these places, some of which may be empty
 abbrev pub AreBerths : JobOf → List (Option Berth) → Type 0
 AreBerths job places = All (λ o. IfSome o (IsBerth job)) places

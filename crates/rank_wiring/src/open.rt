@@ -6,7 +6,7 @@ ghost use Rattle.shape_plans.specs.Drawing.{plan_of};
 ghost use Rattle.rank_slots.specs.Joints.{joint, out_joint};
 ghost use Rattle.rank_wiring.specs.Fans.{AreFans, IsFan};
 ghost use Rattle.rank_slots.specs.Lanes.{IsLane};
-ghost use Rattle.rank_wiring.specs.Opening.{AllFanned, AreBerths, AreFirst, AreLines, AreWired, HasNoOut, IsBare, IsBerth, IsFanned};
+ghost use Rattle.rank_wiring.specs.Opening.{AllFanned, AreBerths, AreFirst, AreLines, AreMade, AreWired, HasNoOut, IsBare, IsBerth, IsFanned};
 ghost use Rattle.rank_wiring.specs.Opening.{IsFresh, IsHanded, IsLine, SameOuts, wires_in};
 ghost use Rattle.rank_slots.specs.Moves.{Slotwise};
 ghost use Rattle.rank_slots.specs.Sound.{IsSound};
@@ -148,57 +148,101 @@ fn berth_of(alloc: Global, job: &Job, fans: &[FanOut], rank: u64) -> Option<Bert
     }
 }
 
-// Makes the ranks, by so many threads, each of which has as many places as there are ranks. A thread makes the next rank that none
-// has begun, since one may have more to do than another, or be held up. Where there is no memory for a rank it lies at no place.
-fn fill_places<R: Threads + Sync>(
+// The ranks that one thread makes: each the next one that none has begun, since one may have more to do than another, or be held up. It
+// ends where there is none left, or no memory for one.
+fn make_some(alloc: Global, job: &Job, fans: &[FanOut], next: &AtomicU64) -> Vec<Berth>
+    requires count { length fans.now ≡ job.now.shape.ranks }
+    requires fans { AreFans (plan_of job.now.shape) fans.now }
+    ensures { AreMade job.now result.items }
+{
+    let mut list = Vec::new(alloc);
+    for _ in 0..fans.len() {
+        let Some(berth) = berth_of(alloc, job, fans, next.fetch_add(1, Ordering::SeqCst)) else {
+            return list;
+        };
+        let Ok(()) = list.push(berth) else {
+            return list;
+        };
+    }
+    list
+}
+
+// Makes the ranks, by a thread for each list, which becomes what that thread made.
+fn fill_lists<R: Threads + Sync>(
     rt: &R,
     alloc: Global,
     job: &Job,
     fans: &[FanOut],
-    places: &mut [Option<Berth>],
-    threads: usize,
+    lists: &mut [Vec<Berth>],
 )
-    requires threads { 0 < threads }
+    requires some { 0 < length lists.old }
     requires count { length fans.now ≡ job.now.shape.ranks }
     requires fans { AreFans (plan_of job.now.shape) fans.now }
-    ensures { AreBerths job.now places.new }
+    ensures { All (λ l. AreMade job.now l.items) lists.new }
 {
     let next = &AtomicU64::new(0);
+    let threads = lists.len();
     thread::for_each_mut(
         rt,
-        places,
+        lists,
         threads,
-        &|_, place: &mut Option<Berth>|
+        &|_, list: &mut Vec<Berth>|
             requires { (length fans.now ≡ job.now.shape.ranks) × AreFans (plan_of job.now.shape) fans.now }
-            ensures { IfSome place.exit.now (λ b. IsBerth job.entry.now b) }
+            ensures { AreMade job.entry.now list.exit.now.items }
         {
-            *place = berth_of(alloc, job, fans, next.fetch_add(1, Ordering::SeqCst));
+            *list = make_some(alloc, job, fans, next);
         },
     );
 }
 
-// The place at which each rank lies; past the last one for a rank that wasn't made.
-fn places_of(alloc: Global, places: &[Option<Berth>], ranks: u32) -> Result<Vec<usize>, NoMemory>
-    ensures { IfOk result (λ v. length v.items ≡ ranks) }
+// Each rank that one thread made goes to its place.
+fn place_list(job: &Job, list: Vec<Berth>, places: &mut Vec<Option<Berth>>)
+    requires list { AreMade job.now list.items }
+    requires places { AreBerths job.now places.old.items }
+    ensures { AreBerths job.now places.new.items }
 {
-    let mut at = Vec::new(alloc);
-    at.resize(ranks as usize, places.len())?;
-    for place in 0..places.len() {
-        if let Some(berth) = &places[place] {
-            if berth.rank < ranks {
-                at[berth.rank as usize] = place;
-            }
+    for berth in list {
+        let rank = berth.rank as usize;
+        if rank < places.len() {
+            places[rank] = Some(berth);
         }
     }
-    Ok(at)
 }
 
-// What lies at a place, if it was made for this rank.
-fn take_berth(job: &Job, places: &mut [Option<Berth>], place: usize, rank: Rank) -> Option<Berth>
+// A place for each rank, at which nothing lies.
+fn no_places(alloc: Global, job: &Job) -> Result<Vec<Option<Berth>>, NoMemory>
+    ensures { IfOk result (λ v. AreBerths job.now v.items) }
+{
+    let mut places = Vec::new(alloc);
+    for _ in 0..job.schedule().shape().ranks() {
+        places.push(None)?;
+    }
+    Ok(places)
+}
+
+// All that was made, each at its rank's place.
+fn place_all(
+    alloc: Global,
+    job: &Job,
+    lists: Vec<Vec<Berth>>,
+) -> Result<Vec<Option<Berth>>, NoMemory>
+    requires { All (λ l. AreMade job.now l.items) lists.items }
+    ensures { IfOk result (λ v. AreBerths job.now v.items) }
+{
+    let mut places = no_places(alloc, job)?;
+    for list in lists {
+        place_list(job, list, &mut places);
+    }
+    Ok(places)
+}
+
+// What lies at a rank's place, if it was made for this rank.
+fn take_berth(job: &Job, places: &mut [Option<Berth>], rank: Rank) -> Option<Berth>
     requires { AreBerths job.now places.old }
     ensures left { AreBerths job.now places.new }
     ensures taken { IfSome result (λ b. IsFanned job.now rank b.slot b.load) }
 {
+    let place = rank as usize;
     if place >= places.len() {
         return None;
     }
@@ -223,11 +267,10 @@ fn in_order(
     ensures fanned { IfOk result (λ r. AllFanned job.now r.0.items r.1.items) }
 {
     let ranks = job.schedule().shape().ranks();
-    let at = places_of(alloc, places, ranks)?;
     let mut slots = Vec::with_capacity(alloc, ranks as usize)?;
     let mut loads = Vec::with_capacity(alloc, ranks as usize)?;
     for rank in 0..ranks {
-        let Some(berth) = take_berth(job, places, at[rank as usize], rank) else {
+        let Some(berth) = take_berth(job, places, rank) else {
             return Err(NoMemory);
         };
         let Berth {
@@ -295,23 +338,24 @@ fn count(fans: &[FanOut]) -> usize {
     }
 }
 
-// All ranks and their wires, which so many threads make at these places.
+// All ranks and their wires, which a thread for each list makes.
 fn make_ranks<R: Threads + Sync>(
     rt: &R,
     alloc: Global,
     job: &Job,
     fans: &[FanOut],
-    places: &mut [Option<Berth>],
-    threads: usize,
+    lists: Vec<Vec<Berth>>,
 ) -> Result<(Vec<Slot>, Vec<Load>), NoMemory>
-    requires threads { 0 < threads }
+    requires some { 0 < length lists.items }
     requires count { length fans.now ≡ job.now.shape.ranks }
     requires fans { AreFans (plan_of job.now.shape) fans.now }
     ensures count { IfOk result (λ r. (length r.0.items ≡ job.now.shape.ranks) × (length r.1.items ≡ job.now.shape.ranks)) }
     ensures fanned { IfOk result (λ r. AllFanned job.now r.0.items r.1.items) }
 {
-    fill_places(rt, alloc, job, fans, places, threads);
-    in_order(alloc, job, places)
+    let mut lists = lists;
+    fill_lists(rt, alloc, job, fans, &mut lists);
+    let mut places = place_all(alloc, job, lists)?;
+    in_order(alloc, job, &mut places)
 }
 
 /// All ranks of a job in their order, in which nothing was done, and a wire for each lane that messages go on, from the lowest rank
@@ -332,9 +376,9 @@ pub fn wired_slots<R: Threads + Sync>(
     let ranks = job.schedule().shape().ranks() as usize;
     let threads = (threads as usize).min(ranks).max(1);
     let fans = all_fans(alloc, job.schedule())?;
-    let mut places = Vec::new(alloc);
-    places.resize_with(ranks.wrapping_mul(threads), || None)?;
-    let (mut slots, loads) = make_ranks(rt, alloc, job, &fans, &mut places, threads)?;
+    let mut lists = Vec::new(alloc);
+    lists.resize_with(threads, || Vec::new(alloc))?;
+    let (mut slots, loads) = make_ranks(rt, alloc, job, &fans, lists)?;
     let wires = hand_all(alloc, job, count(&fans), loads, &mut slots)?;
     Ok((slots, wires))
 }

@@ -20,16 +20,16 @@ make_ranks-requires-clause-fans g c = λ _ _.
 
 pub hand_all-requires-clause-count : goal.hand_all-requires-clause-count
 hand_all-requires-clause-count g c =
-    (ap (λ (l : List Slot). length l) c.deref_mut-2.ensures.value ∙ c.in_ok-slots.ensures.count.0, c.in_ok-slots.ensures.count.1)
+    (ap (λ (l : List Slot). length l) c.deref_mut.ensures.value ∙ c.in_ok-slots.ensures.count.0, c.in_ok-slots.ensures.count.1)
 
 pub hand_all-requires-clause-fanned : goal.hand_all-requires-clause-fanned
 hand_all-requires-clause-fanned g c =
     subst (λ (l : List Slot). AllFanned c.args.job.now l c.in_ok-slots.loads.items)
-    (sym c.deref_mut-2.ensures.value) c.in_ok-slots.ensures.fanned
+    (sym c.deref_mut.ensures.value) c.in_ok-slots.ensures.fanned
 
 pub returns : goal.returns
 returns g c =
     let new = c.hand_all.new.slots in let old = c.in_ok-slots.slots in
     let slots : take old.len (new ++ drop (length new) old.items) ≡ new = written old.len new _
-    (sym (c.hand_all.ensures.count ∙ c.deref_mut-2.ensures.len)) in
+    (sym (c.hand_all.ensures.count ∙ c.deref_mut.ensures.len)) in
     subst (λ (l : List Slot). AreWired c.args.job.now l c.in_ok-wires.wires.items) (sym slots) c.in_ok-wires.ensures.wired

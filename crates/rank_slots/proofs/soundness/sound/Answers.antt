@@ -4,7 +4,7 @@ use Rattle.coll_shape.specs.WellFormed.{IsWellFormed}
 use Rattle.plan_core.specs.Sound.{SoundPlan}
 use Rattle.shape_laws.proofs.Final.{inputs_fit}
 use Rattle.shape_plans.specs.Drawing.{plan_of}
-use Rattle.rank_slots.proofs.sound.sound.Goals as goal
+use Rattle.rank_slots.proofs.soundness.sound.Goals as goal
 
 pub returns : goal.returns
 returns c =
