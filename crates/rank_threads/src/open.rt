@@ -11,7 +11,7 @@ use crate::fabric::{Fabric, Hand};
 use pair_wires::Wire;
 use ptl_types::NoMemory;
 use rank_slots::{Gate, Mail, Slot, sound};
-use rank_wiring::wired_slots;
+use rank_wiring::{reach_ahead, wired_slots};
 use schedule_compiler::Job;
 use std::alloc::Global;
 use std::thread;
@@ -42,7 +42,10 @@ fn frame_and_slots<R: Threads + Sync>(
         rt,
         move ||
             ensures { IfOk result (λ f. IsFrameOf job.entry.now f) }
-        { Frame::open(alloc, job) },
+        {
+            reach_ahead(alloc);
+            Frame::open(alloc, job)
+        },
         move ||
             requires { IsSync R.row × IsSound job.now }
             ensures { IfOk result (λ r. AreWired job.entry.now r.0.items r.1.items) }

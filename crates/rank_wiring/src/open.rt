@@ -11,6 +11,7 @@ ghost use Rattle.rank_wiring.specs.Opening.{IsFresh, IsHanded, IsLine, SameOuts,
 ghost use Rattle.rank_slots.specs.Moves.{Slotwise};
 ghost use Rattle.rank_slots.specs.Sound.{IsSound};
 
+use crate::ahead::reach_ahead;
 use crate::lanes::{FanOut, all_fans};
 use pair_wires::{Bounds, Wire};
 use ptl_types::{NoMemory, Rank};
@@ -24,6 +25,9 @@ use std::thread::Threads;
 
 /// How many messages the queue of a wire holds; one more may wait at its out end.
 const WIRE_ROOM: u32 = 3;
+
+/// A thread that makes ranks reaches ahead for their memory each time it has made so many.
+const RANKS_AHEAD: usize = 8;
 
 // A wire with its in end, which is for the rank that it leads to.
 #[derive(Drop)]
@@ -156,7 +160,10 @@ fn make_some(alloc: Global, job: &Job, fans: &[FanOut], next: &AtomicU64) -> Vec
     ensures { AreMade job.now result.items }
 {
     let mut list = Vec::new(alloc);
-    for _ in 0..fans.len() {
+    for made in 0..fans.len() {
+        if made % RANKS_AHEAD == 0 {
+            reach_ahead(alloc);
+        }
         let Some(berth) = berth_of(alloc, job, fans, next.fetch_add(1, Ordering::SeqCst)) else {
             return list;
         };
