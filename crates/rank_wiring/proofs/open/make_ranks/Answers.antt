@@ -1,4 +1,4 @@
-use Rattle.std.proofs.Common.{◌++◌, ◌∙◌, drop, length, subst, sym, take}
+use Rattle.std.proofs.Common.{◌∙◌, drop, length, subst, sym}
 use Rattle.std.specs.Prelude.{All}
 use Rattle.rank_slots.proofs.Snocs.{written}
 use Rattle.rank_wiring.specs.Opening.{AreMade}

@@ -1,4 +1,3 @@
-use Rattle.std.proofs.Common.{sym}
 use Rattle.std.proofs.lemmas.List.Elements.{All-push, All-same}
 use Rattle.rank_wiring.specs.Opening.{IsBerth}
 use Rattle.rank_wiring.proofs.open.make_some.Goals as goal

@@ -1,4 +1,4 @@
-use Rattle.std.proofs.Common.{◌∷◌, List, ap, arith, length, rules, sym}
+use Rattle.std.proofs.Common.{◌∷◌, ap, arith, length, rules, sym}
 use Rattle.std.specs.Vec.Iter.{into_iter_items}
 use Rattle.std.proofs.lemmas.List.Elements.{All-head, All-same, All-tail}
 use Rattle.rank_wiring.specs.Opening.{AreMade}
