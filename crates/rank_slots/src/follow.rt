@@ -93,8 +93,8 @@ impl Slot {
         self.fire_any(rt, wires, mail, gate).is_some()
     }
 
-    /// Makes a step that the hints lead to, and answers whether there was one. Where there was none, word is left if the rank may not
-    /// be done.
+    /// Makes a step that the hints lead to, and answers whether there was one. Where there was none, word is left in the mail if the rank may
+    /// not be done; that there was one to make isn't ruled out. It may wait inside the wires' queues, and takes no memory.
     pub fn follow_hints<R: Wait, G: Gate>(
         &mut self,
         rt: &R,

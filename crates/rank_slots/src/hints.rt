@@ -42,7 +42,8 @@ impl Places {
     }
 }
 
-/// What a rank's slot keeps of such guesses.
+/// What a rank's slot keeps of such guesses: where the end of each lane to or from it is likely to stand among its ends, which lanes to it
+/// are likely to have messages, and whether one may wait at an out end.
 #[derive(Drop)]
 pub struct Hints {
     pub(crate) outs: Places,
@@ -54,7 +55,11 @@ pub struct Hints {
 }
 
 impl Hints {
-    /// For a job of so many ranks.
+    /// For a rank of a job of so many ranks: no lane is likely to have messages, and none waits.
+    ///
+    /// # Errors
+    ///
+    /// There was no memory for it.
     pub fn open(alloc: Global, ranks: u32) -> Result<Hints, NoMemory> {
         let outs = Places::open(alloc, ranks)?;
         let ins = Places::open(alloc, ranks)?;

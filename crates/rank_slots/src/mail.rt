@@ -46,7 +46,11 @@ pub struct Mail {
 }
 
 impl Mail {
-    /// For a job of so many ranks, none of which is done.
+    /// For a job of so many ranks, none of which is done. No worker is at work.
+    ///
+    /// # Errors
+    ///
+    /// There was no memory for it.
     pub fn open(alloc: Global, ranks: u32) -> Result<Mail, NoMemory> {
         let stride = (words(ranks) + 1).max(LINE);
         let count = (ranks as usize).wrapping_mul(stride);

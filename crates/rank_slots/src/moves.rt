@@ -13,11 +13,11 @@ use crate::slot::Slot;
 use ptl_types::{NoMemory, Rank};
 
 impl Slot {
-    /// One out end more.
+    /// One out end more, after the others.
     ///
     /// # Errors
     ///
-    /// There was no memory for it; the end is let go.
+    /// There was no memory for it. The end is let go; the job, the node and the in ends are as they were.
     pub fn add_out(&mut self, port: OutPort) -> Result<(), NoMemory>
         requires { MayGainOut self.old port }
         ensures job { self.new.job ≡ self.old.job }
@@ -78,11 +78,11 @@ impl Slot {
     }
 }
 
-/// An in end comes to a rank, after its others.
+/// An in end comes to the slot of a rank, after its others.
 ///
 /// # Errors
 ///
-/// There was no memory for it; the end is let go.
+/// There was no memory for it. The end is let go; there are as many slots as before, with the same nodes.
 pub fn put_in(slots: &mut [Slot], rank: Rank, port: InPort) -> Result<(), NoMemory>
     requires rank { rank < length slots.old }
     requires port { (x : Slot) → get_elem? slots.old rank ≡ some x → MayGainIn x port }
@@ -93,7 +93,7 @@ pub fn put_in(slots: &mut [Slot], rank: Rank, port: InPort) -> Result<(), NoMemo
     slots[rank as usize].add_in(port)
 }
 
-/// The last out end of a rank leaves it.
+/// The last out end of a rank, which has one, leaves its slot.
 pub fn pull_out(slots: &mut [Slot], rank: Rank) -> OutPort
     requires rank { rank < length slots.old }
     requires some { (x : Slot) → get_elem? slots.old rank ≡ some x → 0 < length x.outs.items }
@@ -104,7 +104,7 @@ pub fn pull_out(slots: &mut [Slot], rank: Rank) -> OutPort
     slots[rank as usize].take_out()
 }
 
-/// The last in end of a rank leaves it.
+/// The last in end of a rank, which has one, leaves its slot.
 pub fn pull_in(slots: &mut [Slot], rank: Rank) -> InPort
     requires rank { rank < length slots.old }
     requires some { (x : Slot) → get_elem? slots.old rank ≡ some x → 0 < length x.ins.items }

@@ -23,7 +23,7 @@ use ptl_types::{Lane, LocalStep, Rank};
 use std::sync::Wait;
 
 impl Slot {
-    /// Starts the rank, if it hasn't started.
+    /// Starts the rank, if it hasn't started, and answers which. The gate is passed before. It takes no memory.
     pub fn start_once<G: Gate>(&mut self, gate: &G) -> StartAnswer
         requires sound { IsSound self.old.job }
         ensures begun { Begun result (mark self.old) (mark self.new) }
@@ -38,7 +38,9 @@ impl Slot {
         StartAnswer::Started
     }
 
-    /// Fires an operation that is ready. What waits is tried again before.
+    /// Fires an operation that is ready and whose message, if it has one, finds room, and answers its number. What waits is tried again
+    /// before. `None` only where each operation that was ready sends a message whose lane was found full. It may wait inside the wires'
+    /// queues, and takes no memory.
     pub fn fire_one<R: Wait, G: Gate>(
         &mut self,
         rt: &R,
@@ -65,7 +67,9 @@ impl Slot {
         find_in(&self.ins, &self.hints.ins, source, lane)
     }
 
-    /// Receives the oldest message of a lane to the rank. What waits is tried again before.
+    /// Receives the oldest message of a lane to the rank, and answers whether it did. What waits is tried again before. `false` only where
+    /// the lane was found empty, or is one of answers while none is awaited, or carries requests whose answer would have to wait. It may
+    /// wait inside the wires' queues, and takes no memory.
     pub fn deliver<R: Wait, G: Gate>(
         &mut self,
         rt: &R,

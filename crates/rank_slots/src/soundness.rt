@@ -4,7 +4,7 @@ ghost use Rattle.rank_slots.specs.Sound.{IsSound};
 
 use schedule_compiler::Job;
 
-/// Its plan is sound, and its inputs are of it. The call does nothing.
+/// Tells that a job's plan is sound, and that its inputs are of the plan. The call does nothing.
 pub fn sound(job: &Job)
     ensures { IsSound job.now }
 {

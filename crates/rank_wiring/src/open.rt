@@ -366,7 +366,8 @@ fn make_ranks<R: Threads + Sync>(
 }
 
 /// All ranks of a job in their order, in which nothing was done, and a wire for each lane that messages go on, from the lowest rank
-/// that one comes from to the highest. As many threads make them; where one can't be started, the call does its part itself.
+/// that one comes from to the highest. So many threads make them, one at least and no more than ranks; where one can't be started, the
+/// call does its part itself.
 ///
 /// # Errors
 ///
