@@ -208,6 +208,33 @@ impl Wire {
         }
     }
 
+    /// Takes the wire's ends for good. What its queue holds and then the message that waits go, oldest first, to the end of the lane; of
+    /// the wire there is then no more than its memory. It may wait inside the queue.
+    pub fn drain<R: Wait>(&self, rt: &R, out: OutEnd, into: InEnd, rest: &mut PlainLane)
+        requires ends { IsOutOf self.now out × IsInOf self.now into }
+        requires room { length rest.old.messages + (self.now.capacity + one_if out.waits) ≤ rest.old.capacity }
+        ensures held { (held : List Sent) × (rest.new.messages ≡ rest.old.messages ++ held) × (out.sent ≡ into.received ++ held) }
+        ensures capacity { rest.new.capacity ≡ rest.old.capacity }
+        ensures few { length rest.new.messages ≤ rest.new.capacity }
+        ensures bounds { KeepsBounds self.now.bounds out.sent }
+    {
+        let line = &self.line;
+        let OutEnd {
+            mut pass,
+            waiting,
+            ..
+        } = out;
+        let InEnd { pass: other, .. } = into;
+        line.absorb::<FromEnds>(&mut pass, other);
+        let count = line.len_as::<DrainStep, R>(rt, &mut pass);
+        for _ in 0..count {
+            move_one(rt, line, &mut pass, rest);
+        }
+        if let Some(message) = waiting {
+            rest.push_back(message);
+        }
+    }
+
     /// Ends the wire. What its queue holds and then the message that waits go, oldest first, to the end of the lane. It may
     /// wait inside the queue.
     pub fn close<R: Wait>(self, rt: &R, out: OutEnd, into: InEnd, rest: &mut PlainLane)
@@ -218,20 +245,6 @@ impl Wire {
         ensures few { length rest.new.messages ≤ rest.new.capacity }
         ensures bounds { KeepsBounds self.bounds out.sent }
     {
-        let Wire { line, .. } = self;
-        let OutEnd {
-            mut pass,
-            waiting,
-            ..
-        } = out;
-        let InEnd { pass: other, .. } = into;
-        line.absorb::<FromEnds>(&mut pass, other);
-        let count = line.len_as::<DrainStep, R>(rt, &mut pass);
-        for _ in 0..count {
-            move_one(rt, &line, &mut pass, rest);
-        }
-        if let Some(message) = waiting {
-            rest.push_back(message);
-        }
+        self.drain(rt, out, into, rest);
     }
 }
