@@ -32,49 +32,52 @@ use rank_slots::{Gate, Slot, pull_in, pull_out};
 use std::sync::Wait;
 use worlds::{Frame, World};
 
-// The last wire ends: its two ends leave their slots, and what it held, the message that waits among it, goes to its lane.
-fn lift_wire<R: Wait>(rt: &R, wire: Wire, slots: &mut [Slot], frame: &mut Frame)
-    requires laid { (before : List WireState) × AllLaid (before ++ wire ∷ []) slots.old }
-    requires between { IsBetween (length slots.old) wire }
+// The last wire gives up its two ends, which leave their slots, and what it held, the message that waits among it, goes to its lane.
+fn lift_wire<R: Wait>(rt: &R, wire: &Wire, slots: &mut [Slot], frame: &mut Frame)
+    requires laid { (before : List WireState) × AllLaid (before ++ wire.now ∷ []) slots.old }
+    requires between { IsBetween (length slots.old) wire.now }
     requires ranks { length slots.old ≡ frame.old.shape.ranks }
-    requires used { is_used_lane (plan_of frame.old.shape) wire.bounds.source wire.bounds.target wire.bounds.lane ≡ true }
-    requires room { wire.capacity ≡ 3 }
-    requires lane { lane_in frame.old wire.bounds.source wire.bounds.target wire.bounds.lane ≡ plain [] 4 }
+    requires used { is_used_lane (plan_of frame.old.shape) wire.now.bounds.source wire.now.bounds.target wire.now.bounds.lane ≡ true }
+    requires room { wire.now.capacity ≡ 3 }
+    requires lane { lane_in frame.old wire.now.bounds.source wire.now.bounds.target wire.now.bounds.lane ≡ plain [] 4 }
     ensures count { length slots.new ≡ length slots.old }
     ensures nodes { Slotwise SameNode slots.old slots.new }
-    ensures laid { (before : List WireState) → AllLaid (before ++ wire ∷ []) slots.old → AllLaid before slots.new }
-    ensures lifted { (l : Plain) × (frame.new ≡ with_lane frame.old (lane_place frame.old.shape.ranks wire.bounds.source wire.bounds.target wire.bounds.lane) l) × IsLifted wire.bounds slots.old l }
+    ensures laid { (before : List WireState) → AllLaid (before ++ wire.now ∷ []) slots.old → AllLaid before slots.new }
+    ensures lifted { (l : Plain)
+        × (frame.new ≡ with_lane frame.old
+        (lane_place frame.old.shape.ranks wire.now.bounds.source wire.now.bounds.target wire.now.bounds.lane) l)
+        × IsLifted wire.now.bounds slots.old l }
 {
     let bounds = wire.bounds();
     let out = pull_out(slots, bounds.source);
     let into = pull_in(slots, bounds.target);
     let lane = frame.lane(bounds.source, bounds.target, bounds.lane);
-    wire.close(rt, out.end, into.end, lane);
+    wire.drain(rt, out.end, into.end, lane);
 }
 
-// All wires end, the last one first.
-fn lift_wires<R: Wait>(rt: &R, wires: Vec<Wire>, slots: &mut [Slot], frame: &mut Frame)
-    requires laid { AllLaid wires.items slots.old }
+// All wires give up their ends, the last one first.
+fn lift_wires<R: Wait>(rt: &R, wires: &[Wire], slots: &mut [Slot], frame: &mut Frame)
+    requires laid { AllLaid wires.now slots.old }
     requires ranks { length slots.old ≡ frame.old.shape.ranks }
     requires count { (plan_of frame.old.shape).ranks ≡ frame.old.shape.ranks }
-    requires lanes { AreLanes (plan_of frame.old.shape) (bounds_of wires.items) }
-    requires rooms { Each (λ (w : WireState). w.capacity ≡ 3) wires.items }
+    requires lanes { AreLanes (plan_of frame.old.shape) (bounds_of wires.now) }
+    requires rooms { Each (λ (w : WireState). w.capacity ≡ 3) wires.now }
     requires empty { (s d : ℕ) (lane : Lane) → s < frame.old.shape.ranks → d < frame.old.shape.ranks →
         lane_in frame.old s d lane ≡ frame_lane (plan_of frame.old.shape) s d lane }
     ensures count { length slots.new ≡ length slots.old }
     ensures nodes { Slotwise SameNode slots.old slots.new }
     ensures shape { frame.new.shape ≡ frame.old.shape }
     ensures inputs { frame.new.inputs ≡ frame.old.inputs }
-    ensures lifted { (k : ℕ) (w : WireState) → get_elem? wires.items k ≡ some w →
+    ensures lifted { (k : ℕ) (w : WireState) → get_elem? wires.now k ≡ some w →
         IsLifted w.bounds slots.old (lane_in frame.new w.bounds.source w.bounds.target w.bounds.lane) }
     ensures unused { (s d : ℕ) (lane : Lane) → s < frame.old.shape.ranks → d < frame.old.shape.ranks →
         is_used_lane (plan_of frame.old.shape) s d lane ≡ false → lane_in frame.new s d lane ≡ frame_lane (plan_of frame.old.shape) s d lane }
 {
     let mut wires = wires;
-    while let Some(wire) = wires.pop() {
+    while let Some((wire, before)) = wires.split_last() {
         lift_wire(rt, wire, slots, frame);
+        wires = before;
     }
-    wires.destroy_empty();
 }
 
 // The nodes of the slots, in order.
@@ -94,18 +97,22 @@ fn take_nodes(slots: Vec<Slot>, room: Vec<Node>) -> Vec<Node>
     nodes
 }
 
+/// The wires of a fabric that was closed: they have given up their ends and hold no message, so nothing is left of them but memory. To
+/// let this go gives that memory back, which takes time for each wire: a caller does so when it has nothing more urgent to do.
+#[derive(Drop)]
+pub struct SpentWires {
+    _wires: Vec<Wire>,
+}
+
 impl<G: Gate + Drop> Fabric<G> {
-    /// Ends the fabric, and hands over the world that it is: of the same job, under a window of four messages on a lane. The hands are
-    /// all that it has, so together they have its parts, and none of them has a turn. The history of each rank begins with what each
-    /// hand saw there, and its places are those that the hands added, each once. The histories are a cut, and on each lane what was
-    /// sent is what was received, followed by what the world holds. It takes no memory; it may wait inside the wires' queues.
-    pub fn close<R: Wait>(self, rt: &R, hands: Vec<Hand>) -> World
+    /// Ends the fabric as `close` does, and hands over its wires beside the world: their memory is given back when the caller lets them go.
+    pub(crate) fn close_keeping<R: Wait>(self, rt: &R, hands: Vec<Hand>) -> (World, SpentWires)
         requires hands { All (λ h. IsFree self.turns h) hands.items }
         requires all { parts_of hands.items ≡ 2 ^ 32 }
-        ensures world { IsWorldOf self hands.items result }
-        ensures kept { IsStanding result }
-        ensures barriers { (slots : ℕ → Slots) → AreSlots result slots →
-            AreBarriersKept result.shape result.inputs slots (histories_in result) }
+        ensures world { IsWorldOf self hands.items result.0 }
+        ensures kept { IsStanding result.0 }
+        ensures barriers { (slots : ℕ → Slots) → AreSlots result.0 slots →
+            AreBarriersKept result.0.shape result.0.inputs slots (histories_in result.0) }
     {
         let Fabric {
             turns,
@@ -118,11 +125,27 @@ impl<G: Gate + Drop> Fabric<G> {
             room,
         } = self;
         let mut slots = turns.close(hands);
-        lift_wires(rt, wires, &mut slots, &mut frame);
+        lift_wires(rt, &wires, &mut slots, &mut frame);
         let nodes = take_nodes(slots, room);
         let world = frame.into_world(nodes);
         // What every world keeps is told here.
         let _ = world.enabled();
+        (world, SpentWires { _wires: wires })
+    }
+
+    /// Ends the fabric, and hands over the world that it is: of the same job, under a window of four messages on a lane. The hands are
+    /// all that it has, so together they have its parts, and none of them has a turn. The history of each rank begins with what each
+    /// hand saw there, and its places are those that the hands added, each once. The histories are a cut, and on each lane what was
+    /// sent is what was received, followed by what the world holds. It takes no memory; it may wait inside the wires' queues.
+    pub fn close<R: Wait>(self, rt: &R, hands: Vec<Hand>) -> World
+        requires hands { All (λ h. IsFree self.turns h) hands.items }
+        requires all { parts_of hands.items ≡ 2 ^ 32 }
+        ensures world { IsWorldOf self hands.items result }
+        ensures kept { IsStanding result }
+        ensures barriers { (slots : ℕ → Slots) → AreSlots result slots →
+            AreBarriersKept result.shape result.inputs slots (histories_in result) }
+    {
+        let (world, _wires) = self.close_keeping(rt, hands);
         world
     }
 }

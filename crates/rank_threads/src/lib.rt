@@ -10,7 +10,8 @@ mod rest;
 mod steady;
 mod workers;
 
+pub use close::SpentWires;
 pub use fabric::{Fabric, Hand};
 pub use rank_slots::{Gate, OpenGate, Slot, StartAnswer};
 pub use steady::run_steady;
-pub use workers::{run_and_close, run_workers};
+pub use workers::{run_and_close, run_keeping, run_workers};

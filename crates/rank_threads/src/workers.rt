@@ -10,6 +10,7 @@ ghost use Rattle.rank_threads.specs.Closing.{IsWorked};
 ghost use Rattle.rank_threads.specs.Fabrics.{HasSwept};
 ghost use Rattle.rank_threads.specs.Turns.{FoundIdle};
 
+use crate::close::SpentWires;
 use crate::fabric::{Fabric, Hand};
 use ptl_types::Rank;
 use rank_slots::Gate;
@@ -224,6 +225,27 @@ pub fn run_workers<G: Gate + Drop, R: Threads + Wait + Sync>(
     );
 }
 
+/// Runs and closes a fabric as `run_and_close` does, and hands over its wires beside the world: their memory is given back when the
+/// caller lets them go.
+pub fn run_keeping<G: Gate + Drop, R: Threads + Wait + Sync>(
+    rt: &R,
+    fabric: Fabric<G>,
+    hands: Vec<Hand>,
+) -> (World, SpentWires)
+    requires hands { All (λ h. IsFree fabric.turns h) hands.items }
+    requires all { parts_of hands.items ≡ 2 ^ 32 }
+    requires some { 0 < length hands.items }
+    requires few { length hands.items < 2 ^ 32 }
+    ensures world { IsWorked fabric result.0 }
+    ensures kept { IsStanding result.0 }
+    ensures barriers { (slots : ℕ → Slots) → AreSlots result.0 slots →
+        AreBarriersKept result.0.shape result.0.inputs slots (histories_in result.0) }
+{
+    let mut hands = hands;
+    run_workers(rt, &fabric, &mut hands);
+    fabric.close_keeping(rt, hands)
+}
+
 /// Lets one worker for each hand make steps until a sweep over all ranks makes none, and closes the fabric: the world is of the same
 /// job, and what the hands saw and made at each rank is what its history tells.
 pub fn run_and_close<G: Gate + Drop, R: Threads + Wait + Sync>(
@@ -240,7 +262,6 @@ pub fn run_and_close<G: Gate + Drop, R: Threads + Wait + Sync>(
     ensures barriers { (slots : ℕ → Slots) → AreSlots result slots →
         AreBarriersKept result.shape result.inputs slots (histories_in result) }
 {
-    let mut hands = hands;
-    run_workers(rt, &fabric, &mut hands);
-    fabric.close(rt, hands)
+    let (world, _wires) = run_keeping(rt, fabric, hands);
+    world
 }

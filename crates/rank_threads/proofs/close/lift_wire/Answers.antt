@@ -23,7 +23,7 @@ pull_out-out-requires-clause-rank g c = subst (λ (z : Bounds). z.source < lengt
 pub pull_out-out-requires-clause-some : goal.pull_out-out-requires-clause-some
 pull_out-out-requires-clause-some g c = let b = c.bounds-bounds.ensures in λ x at.
     let there = ap (λ (z : Bounds). get_elem? c.args.slots.now z.source) (sym b) ∙ at in
-    last_out c.requires.laid.0 c.args.wire x (c.requires.laid.1 c.args.wire.bounds.source x there)
+    last_out c.requires.laid.0 c.args.wire.now x (c.requires.laid.1 c.args.wire.now.bounds.source x there)
 
 pub pull_in-into-requires-clause-rank : goal.pull_in-into-requires-clause-rank
 pull_in-into-requires-clause-rank g c = let n = c.pull_out-out.ensures.count in let h = c.requires.between.target in
@@ -32,8 +32,9 @@ pull_in-into-requires-clause-rank g c = let n = c.pull_out-out.ensures.count in 
 pub pull_in-into-requires-clause-some : goal.pull_in-into-requires-clause-some
 pull_in-into-requires-clause-some g c = let b = c.bounds-bounds.ensures in λ x at.
     let there = ap (λ (z : Bounds). get_elem? c.pull_out-out.new.slots z.target) (sym b) ∙ at in
-    let y = c.pull_out-out.ensures.pulled c.args.wire.bounds.target x there in
-    subst (λ (l : List InPort). 0 < length l) y.2.ins_are (last_in c.requires.laid.0 c.args.wire y.0 (c.requires.laid.1 c.args.wire.bounds.target y.0 y.1))
+    let y = c.pull_out-out.ensures.pulled c.args.wire.now.bounds.target x there in
+    subst (λ (l : List InPort). 0 < length l) y.2.ins_are
+    (last_in c.requires.laid.0 c.args.wire.now y.0 (c.requires.laid.1 c.args.wire.now.bounds.target y.0 y.1))
 
 pub lane-lane-requires-clause-source : goal.lane-lane-requires-clause-source
 lane-lane-requires-clause-source g c = let n = c.requires.ranks in let h = c.requires.between.source in
@@ -46,18 +47,19 @@ lane-lane-requires-clause-target g c = let n = c.requires.ranks in let h = c.req
 pub lane-lane-requires-clause-used : goal.lane-lane-requires-clause-used
 lane-lane-requires-clause-used g c = subst (λ (z : Bounds). is_used_lane (plan_of c.args.frame.now.shape) z.source z.target z.lane ≡ true) (sym c.bounds-bounds.ensures) c.requires.used
 
-pub close-requires-clause-ends : goal.close-requires-clause-ends
-close-requires-clause-ends g c = let b = c.bounds-bounds.ensures in let o = c.pull_out-out in let i = c.pull_in-into in
-    wire_ends c.requires.laid.0 c.args.wire o.result i.result c.args.slots.now o.new.slots i.new.slots c.requires.laid.1 c.requires.between o.ensures.count i.ensures.count
-    (lost_out c.bounds-bounds.result c.args.wire.bounds o.result c.args.slots.now o.new.slots b o.ensures.pulled)
-    (lost_in c.bounds-bounds.result c.args.wire.bounds i.result o.new.slots i.new.slots b i.ensures.pulled)
+pub drain-requires-clause-ends : goal.drain-requires-clause-ends
+drain-requires-clause-ends g c = let b = c.bounds-bounds.ensures in let o = c.pull_out-out in let i = c.pull_in-into in
+    wire_ends c.requires.laid.0 c.args.wire.now o.result i.result c.args.slots.now o.new.slots i.new.slots c.requires.laid.1
+    c.requires.between o.ensures.count i.ensures.count
+    (lost_out c.bounds-bounds.result c.args.wire.now.bounds o.result c.args.slots.now o.new.slots b o.ensures.pulled)
+    (lost_in c.bounds-bounds.result c.args.wire.now.bounds i.result o.new.slots i.new.slots b i.ensures.pulled)
 
 at-most-one : (b : Bool) → one_if b ≤ 1
 at-most-one true = omega arith
 at-most-one false = omega arith
 
-pub close-requires-clause-room : goal.close-requires-clause-room
-close-requires-clause-room g c =
+pub drain-requires-clause-room : goal.drain-requires-clause-room
+drain-requires-clause-room g c =
     let f = c.args.frame.now in
     let is = c.lane-lane.ensures.value ∙ (ap (λ (z : Bounds). lane_in f z.source z.target z.lane) c.bounds-bounds.ensures ∙ c.requires.lane) in
     let m = ap (λ (l : Plain). length l.messages) is in let n = ap (λ (l : Plain). l.capacity) is in
@@ -70,29 +72,32 @@ returns-clause-nodes g c = let o = c.pull_out-out in let i = c.pull_in-into in
 
 pub returns-clause-laid : goal.returns-clause-laid
 returns-clause-laid g c = let b = c.bounds-bounds.ensures in let o = c.pull_out-out in let i = c.pull_in-into in λ before h.
-    laid_less before c.args.wire o.result i.result c.args.slots.now o.new.slots i.new.slots
-    (lost_out c.bounds-bounds.result c.args.wire.bounds o.result c.args.slots.now o.new.slots b o.ensures.pulled)
-    (lost_in c.bounds-bounds.result c.args.wire.bounds i.result o.new.slots i.new.slots b i.ensures.pulled) h
+    laid_less before c.args.wire.now o.result i.result c.args.slots.now o.new.slots i.new.slots
+    (lost_out c.bounds-bounds.result c.args.wire.now.bounds o.result c.args.slots.now o.new.slots b o.ensures.pulled)
+    (lost_in c.bounds-bounds.result c.args.wire.now.bounds i.result o.new.slots i.new.slots b i.ensures.pulled) h
 
 pub returns-clause-lifted : goal.returns-clause-lifted
 returns-clause-lifted g c = let b = c.bounds-bounds.ensures in let o = c.pull_out-out in let i = c.pull_in-into in let f = c.args.frame.now in
     let is = c.lane-lane.ensures.value ∙ (ap (λ (z : Bounds). lane_in f z.source z.target z.lane) b ∙ c.requires.lane) in
-    let w = wire_ends c.requires.laid.0 c.args.wire o.result i.result c.args.slots.now o.new.slots i.new.slots c.requires.laid.1 c.requires.between o.ensures.count i.ensures.count
-    (lost_out c.bounds-bounds.result c.args.wire.bounds o.result c.args.slots.now o.new.slots b o.ensures.pulled)
-    (lost_in c.bounds-bounds.result c.args.wire.bounds i.result o.new.slots i.new.slots b i.ensures.pulled) in
-    let h = c.close.ensures.held in let l = c.close.new.rest in
-    let capacity : l.capacity ≡ 4 = c.close.ensures.capacity ∙ ap (λ (z : Plain). z.capacity) is in (
+    let w = wire_ends c.requires.laid.0 c.args.wire.now o.result i.result c.args.slots.now o.new.slots i.new.slots c.requires.laid.1
+    c.requires.between o.ensures.count i.ensures.count
+    (lost_out c.bounds-bounds.result c.args.wire.now.bounds o.result c.args.slots.now o.new.slots b o.ensures.pulled)
+    (lost_in c.bounds-bounds.result c.args.wire.now.bounds i.result o.new.slots i.new.slots b i.ensures.pulled) in
+    let h = c.drain.ensures.held in let l = c.drain.new.rest in
+    let capacity : l.capacity ≡ 4 = c.drain.ensures.capacity ∙ ap (λ (z : Plain). z.capacity) is in (
       l,
       ap (λ (z : Bounds). with_lane f (lane_place f.shape.ranks z.source z.target z.lane) l) b,
       record {
         held = λ x y ex ey.
-            (let u = node_before c.args.slots.now o.new.slots (less_out c.bounds-bounds.result.source o.result c.args.slots.now o.new.slots o.ensures.pulled) o.ensures.count c.args.wire.bounds.target y ey in
-            held-between c.args.wire.bounds x y o.result i.result h.0 l
+            (let u = node_before c.args.slots.now o.new.slots
+            (less_out c.bounds-bounds.result.source o.result c.args.slots.now o.new.slots o.ensures.pulled) o.ensures.count
+            c.args.wire.now.bounds.target y ey in
+            held-between c.args.wire.now.bounds x y o.result i.result h.0 l
             (o.ensures.port x (ap (λ (z : Bounds). get_elem? c.args.slots.now z.source) b ∙ ex))
             (subst (λ (z : JobOf × NodeState). InOk (plan_of z.0.shape) z.1 i.result) (λ k. (u.2.job_is k, u.2.node k))
             (i.ensures.port u.0 (ap (λ (z : Bounds). get_elem? o.new.slots z.target) b ∙ u.1)))
             w.0.1 w.1.1 h.2 (h.1 ∙ ap (λ (z : Plain). z.messages ++ h.0) is));
-        few = (let k = c.close.ensures.few in omega (arith, k, capacity));
+        few = (let k = c.drain.ensures.few in omega (arith, k, capacity));
         room = capacity;
       },
     )

@@ -15,7 +15,7 @@ use Rattle.rank_wiring.specs.Opening.{AllLaid}
 use Rattle.rank_threads.proofs.Lifts.{AreLifted, between, in-lanes, is-used, lane-first, lifted-before, lifted-more, none-lifted}
 use Rattle.rank_threads.proofs.Lifts.{unused-left, used-lane}
 use Rattle.rank_slots.proofs.Slotwise.{chain, stay}
-use Rattle.rank_slots.proofs.Snocs.{front_some, last_at, popped}
+use Rattle.rank_slots.proofs.Snocs.{front_some, last_at}
 use Rattle.rank_threads.proofs.close.lift_wires.Goals as goal
 
 one_more : {A : Type 0} (xs ys : List A) (a : A) → xs ≡ ys ++ a ∷ [] → length xs ≡ suc (length ys)
@@ -27,24 +27,25 @@ wire_at all wires new w f e = ap (λ l. get_elem? l (length new)) f.1 ∙ front_
 
 pub loop-wire-init : goal.loop-wire-init
 loop-wire-init g c = let f = c.args.frame.now in record {
-  front = ([], sym (append-nil c.args.wires.items));
+  front = ([], sym (append-nil c.args.wires.now));
   count = refl;
   nodes = stay c.args.slots.now;
   laid = c.requires.laid;
   shape = refl;
   inputs = refl;
-  lifted = none-lifted (plan_of f.shape) f.shape.ranks c.requires.count c.args.wires.items c.requires.lanes c.args.slots.now f.lanes;
+  lifted = none-lifted (plan_of f.shape) f.shape.ranks c.requires.count c.args.wires.now c.requires.lanes c.args.slots.now f.lanes;
 }
 
 pub lift_wire-requires-clause-laid : goal.lift_wire-requires-clause-laid
-lift_wire-requires-clause-laid g c = let w = popped c.loop-wire.wires.items c.pop.new.self.items c.pop.result c.in-Some.wire c.pop.ensures.items c.in-Some.is in
-    (c.pop.new.self.items, subst (λ l. AllLaid l c.loop-wire.slots) w c.loop-wire.invariant.laid)
+lift_wire-requires-clause-laid g c = let w = c.in-Some.ensures.cases.0 in
+    (c.in-Some.before.now, subst (λ l. AllLaid l c.loop-wire.slots) w c.loop-wire.invariant.laid)
 
 pub lift_wire-requires-clause-between : goal.lift_wire-requires-clause-between
 lift_wire-requires-clause-between g c = let i = c.loop-wire.invariant in let f = c.args.frame.now in
-    let w = popped c.loop-wire.wires.items c.pop.new.self.items c.pop.result c.in-Some.wire c.pop.ensures.items c.in-Some.is in
-    let at = wire_at c.args.wires.items c.loop-wire.wires.items c.pop.new.self.items c.in-Some.wire i.front w in
-    let b = between (plan_of f.shape) f.shape.ranks c.requires.count c.args.wires.items c.requires.lanes c.args.slots.now f.lanes (length c.pop.new.self.items) c.in-Some.wire at in
+    let w = c.in-Some.ensures.cases.0 in
+    let at = wire_at c.args.wires.now c.loop-wire.wires.now c.in-Some.before.now c.in-Some.wire.now i.front w in
+    let b = between (plan_of f.shape) f.shape.ranks c.requires.count c.args.wires.now c.requires.lanes c.args.slots.now f.lanes
+    (length c.in-Some.before.now) c.in-Some.wire.now at in
     let n = i.count in let m = c.requires.ranks in
     record { source = (let h = b.0 in omega (arith, h, n, m)); target = (let h = b.1 in omega (arith, h, n, m)) }
 
@@ -52,67 +53,73 @@ pub lift_wire-requires-clause-ranks : goal.lift_wire-requires-clause-ranks
 lift_wire-requires-clause-ranks g c = let i = c.loop-wire.invariant in i.count ∙ (c.requires.ranks ∙ sym (ap (λ (o : Outline). o.ranks) i.shape))
 
 pub lift_wire-requires-clause-used : goal.lift_wire-requires-clause-used
-lift_wire-requires-clause-used g c = let i = c.loop-wire.invariant in let f = c.args.frame.now in let v = c.in-Some.wire in
-    let w = popped c.loop-wire.wires.items c.pop.new.self.items c.pop.result v c.pop.ensures.items c.in-Some.is in
-    let at = wire_at c.args.wires.items c.loop-wire.wires.items c.pop.new.self.items v i.front w in
+lift_wire-requires-clause-used g c = let i = c.loop-wire.invariant in let f = c.args.frame.now in let v = c.in-Some.wire.now in
+    let w = c.in-Some.ensures.cases.0 in
+    let at = wire_at c.args.wires.now c.loop-wire.wires.now c.in-Some.before.now v i.front w in
     subst (λ (o : Outline). is_used_lane (plan_of o) v.bounds.source v.bounds.target v.bounds.lane ≡ true) (sym i.shape)
-    (is-used (plan_of f.shape) f.shape.ranks c.requires.count c.args.wires.items c.requires.lanes c.args.slots.now f.lanes (length c.pop.new.self.items) v at)
+    (is-used (plan_of f.shape) f.shape.ranks c.requires.count c.args.wires.now c.requires.lanes c.args.slots.now f.lanes
+    (length c.in-Some.before.now) v at)
 
 pub lift_wire-requires-clause-room : goal.lift_wire-requires-clause-room
-lift_wire-requires-clause-room g c = let i = c.loop-wire.invariant in let v = c.in-Some.wire in
-    let w = popped c.loop-wire.wires.items c.pop.new.self.items c.pop.result v c.pop.ensures.items c.in-Some.is in
-    c.requires.rooms (length c.pop.new.self.items) v (wire_at c.args.wires.items c.loop-wire.wires.items c.pop.new.self.items v i.front w)
+lift_wire-requires-clause-room g c = let i = c.loop-wire.invariant in let v = c.in-Some.wire.now in
+    let w = c.in-Some.ensures.cases.0 in
+    c.requires.rooms (length c.in-Some.before.now) v (wire_at c.args.wires.now c.loop-wire.wires.now c.in-Some.before.now v i.front w)
 
 pub lift_wire-requires-clause-lane : goal.lift_wire-requires-clause-lane
-lift_wire-requires-clause-lane g c = let i = c.loop-wire.invariant in let f = c.args.frame.now in let v = c.in-Some.wire in let m = length c.pop.new.self.items in
-    let w = popped c.loop-wire.wires.items c.pop.new.self.items c.pop.result v c.pop.ensures.items c.in-Some.is in
-    let lw = one_more c.loop-wire.wires.items c.pop.new.self.items v w in
-    let at = wire_at c.args.wires.items c.loop-wire.wires.items c.pop.new.self.items v i.front w in
+lift_wire-requires-clause-lane g c = let i = c.loop-wire.invariant in let f = c.args.frame.now in let v = c.in-Some.wire.now in
+    let m = length c.in-Some.before.now in
+    let w = c.in-Some.ensures.cases.0 in
+    let lw = one_more c.loop-wire.wires.now c.in-Some.before.now v w in
+    let at = wire_at c.args.wires.now c.loop-wire.wires.now c.in-Some.before.now v i.front w in
     let p = plan_of f.shape in let n = f.shape.ranks in let r = c.requires in
-    let b = between p n r.count c.args.wires.items r.lanes c.args.slots.now f.lanes m v at in
-    let lifted = subst (λ k. AreLifted n c.args.wires.items c.args.slots.now f.lanes k c.loop-wire.frame.lanes) lw i.lifted in
+    let b = between p n r.count c.args.wires.now r.lanes c.args.slots.now f.lanes m v at in
+    let lifted = subst (λ k. AreLifted n c.args.wires.now c.args.slots.now f.lanes k c.loop-wire.frame.lanes) lw i.lifted in
     ap (λ (o : Outline). lane_at c.loop-wire.frame.lanes (lane_place o.ranks v.bounds.source v.bounds.target v.bounds.lane)) i.shape
-    ∙ (lane-first p n r.count c.args.wires.items r.lanes c.args.slots.now f.lanes m c.loop-wire.frame.lanes lifted v at
+    ∙ (lane-first p n r.count c.args.wires.now r.lanes c.args.slots.now f.lanes m c.loop-wire.frame.lanes lifted v at
     ∙ (r.empty v.bounds.source v.bounds.target v.bounds.lane b.0 b.1
-    ∙ used-lane p v.bounds.source v.bounds.target v.bounds.lane (is-used p n r.count c.args.wires.items r.lanes c.args.slots.now f.lanes m v at)))
+    ∙ used-lane p v.bounds.source v.bounds.target v.bounds.lane
+    (is-used p n r.count c.args.wires.now r.lanes c.args.slots.now f.lanes m v at)))
 
 pub loop-wire-preserved : goal.loop-wire-preserved
-loop-wire-preserved g c = let i = c.loop-wire.invariant in let f = c.args.frame.now in let v = c.in-Some.wire in let m = length c.pop.new.self.items in
-    let w = popped c.loop-wire.wires.items c.pop.new.self.items c.pop.result v c.pop.ensures.items c.in-Some.is in
-    let lw = one_more c.loop-wire.wires.items c.pop.new.self.items v w in
-    let at = wire_at c.args.wires.items c.loop-wire.wires.items c.pop.new.self.items v i.front w in
+loop-wire-preserved g c = let i = c.loop-wire.invariant in let f = c.args.frame.now in let v = c.in-Some.wire.now in
+    let m = length c.in-Some.before.now in
+    let w = c.in-Some.ensures.cases.0 in
+    let lw = one_more c.loop-wire.wires.now c.in-Some.before.now v w in
+    let at = wire_at c.args.wires.now c.loop-wire.wires.now c.in-Some.before.now v i.front w in
     let p = plan_of f.shape in let n = f.shape.ranks in let r = c.requires in let e = c.lift_wire.ensures in let t = e.lifted in
-    let b = between p n r.count c.args.wires.items r.lanes c.args.slots.now f.lanes m v at in
+    let b = between p n r.count c.args.wires.now r.lanes c.args.slots.now f.lanes m v at in
     let ls = c.loop-wire.frame.lanes in
-    let lifted = subst (λ k. AreLifted n c.args.wires.items c.args.slots.now f.lanes k ls) lw i.lifted in
+    let lifted = subst (λ k. AreLifted n c.args.wires.now c.args.slots.now f.lanes k ls) lw i.lifted in
     let place = lane_place n v.bounds.source v.bounds.target v.bounds.lane in
-    let empty = lane-first p n r.count c.args.wires.items r.lanes c.args.slots.now f.lanes m ls lifted v at
+    let empty = lane-first p n r.count c.args.wires.now r.lanes c.args.slots.now f.lanes m ls lifted v at
     ∙ (r.empty v.bounds.source v.bounds.target v.bounds.lane b.0 b.1
-    ∙ used-lane p v.bounds.source v.bounds.target v.bounds.lane (is-used p n r.count c.args.wires.items r.lanes c.args.slots.now f.lanes m v at)) in
+    ∙ used-lane p v.bounds.source v.bounds.target v.bounds.lane
+    (is-used p n r.count c.args.wires.now r.lanes c.args.slots.now f.lanes m v at)) in
     let low = in-lanes ls place (ap (λ (z : Plain). z.capacity) empty) in
-    let more = lifted-more p n r.count c.args.wires.items r.lanes c.args.slots.now f.lanes m ls lifted v at t.0
+    let more = lifted-more p n r.count c.args.wires.now r.lanes c.args.slots.now f.lanes m ls lifted v at t.0
     (lifted-before v.bounds c.args.slots.now c.loop-wire.slots t.0 i.nodes i.count t.2) low in
     let lanes = ap (λ (z : FrameState). z.lanes) t.1 in record {
-      front = (v ∷ i.front.0, i.front.1 ∙ (ap (λ l. l ++ i.front.0) w ∙ append_assoc c.pop.new.self.items (v ∷ []) i.front.0));
+      front = (v ∷ i.front.0, i.front.1 ∙ (ap (λ l. l ++ i.front.0) w ∙ append_assoc c.in-Some.before.now (v ∷ []) i.front.0));
       count = e.count ∙ i.count;
       nodes = chain c.args.slots.now c.loop-wire.slots c.lift_wire.new.slots i.nodes e.nodes;
-      laid = e.laid c.pop.new.self.items (subst (λ l. AllLaid l c.loop-wire.slots) w i.laid);
+      laid = e.laid c.in-Some.before.now (subst (λ l. AllLaid l c.loop-wire.slots) w i.laid);
       shape = ap (λ (z : FrameState). z.shape) t.1 ∙ i.shape;
       inputs = ap (λ (z : FrameState). z.inputs) t.1 ∙ i.inputs;
-      lifted = subst (AreLifted n c.args.wires.items c.args.slots.now f.lanes m)
+      lifted = subst (AreLifted n c.args.wires.now c.args.slots.now f.lanes m)
           (sym (lanes ∙ ap (λ (o : Outline). set ls (lane_place o.ranks v.bounds.source v.bounds.target v.bounds.lane) t.0) i.shape)) more;
     }
 
 pub returns-clause-lifted : goal.returns-clause-lifted
 returns-clause-lifted g c = λ k w at. let i = c.loop-wire.invariant in let f = c.args.frame.now in
-    let none : length c.loop-wire.wires.items ≤ k = search (rules, arith, c.pop.ensures, c.in_default.ensures) in
+    let none : length c.loop-wire.wires.now ≤ k = search (rules, arith, c.split_last.ensures, c.in_default.ensures) in
     subst (λ (o : Outline). IsLifted w.bounds c.args.slots.now (lane_at c.loop-wire.frame.lanes (lane_place o.ranks w.bounds.source w.bounds.target w.bounds.lane))) (sym i.shape)
     (i.lifted.done k w none at)
 
 pub returns-clause-unused : goal.returns-clause-unused
 returns-clause-unused g c = λ s d lane hs hd unused. let i = c.loop-wire.invariant in let f = c.args.frame.now in let r = c.requires in
-    let none : length c.loop-wire.wires.items ≡ 0 = search (rules, arith, c.pop.ensures, c.in_default.ensures) in
-    let lifted = subst (λ k. AreLifted f.shape.ranks c.args.wires.items c.args.slots.now f.lanes k c.loop-wire.frame.lanes) none i.lifted in
+    let none : length c.loop-wire.wires.now ≡ 0 = search (rules, arith, c.split_last.ensures, c.in_default.ensures) in
+    let lifted = subst (λ k. AreLifted f.shape.ranks c.args.wires.now c.args.slots.now f.lanes k c.loop-wire.frame.lanes) none i.lifted in
     ap (λ (o : Outline). lane_at c.loop-wire.frame.lanes (lane_place o.ranks s d lane)) i.shape
-    ∙ (unused-left (plan_of f.shape) f.shape.ranks r.count c.args.wires.items r.lanes c.args.slots.now f.lanes c.loop-wire.frame.lanes lifted s d lane hs hd unused
+    ∙ (unused-left (plan_of f.shape) f.shape.ranks r.count c.args.wires.now r.lanes c.args.slots.now f.lanes
+    c.loop-wire.frame.lanes lifted s d lane hs hd unused
     ∙ r.empty s d lane hs hd)

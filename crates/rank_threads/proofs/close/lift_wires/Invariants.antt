@@ -5,17 +5,17 @@ use Rattle.rank_slots.specs.Moves.{SameNode, Slotwise}
 use Rattle.rank_threads.proofs.Lifts.{AreLifted}
 use Rattle.rank_threads.proofs.close.lift_wires.Given as goal
 
--- the wires after these were closed
+-- the wires after these were drained
 abbrev pub invariant-loop-wire : goal.invariant-loop-wire
 invariant-loop-wire g l = record {
-  front : (rest : List WireState) × (l.initial.wires.items ≡ l.wires.items ++ rest);
+  front : (rest : List WireState) × (l.initial.wires ≡ l.wires ++ rest);
   count : length l.slots ≡ length l.initial.slots;
   nodes : Slotwise SameNode l.initial.slots l.slots;
-  laid : AllLaid l.wires.items l.slots;
+  laid : AllLaid l.wires l.slots;
   shape : l.frame.shape ≡ l.initial.frame.shape;
   inputs : l.frame.inputs ≡ l.initial.frame.inputs;
-  lifted : AreLifted l.initial.frame.shape.ranks l.initial.wires.items l.initial.slots l.initial.frame.lanes (length l.wires.items) l.frame.lanes;
+  lifted : AreLifted l.initial.frame.shape.ranks l.initial.wires l.initial.slots l.initial.frame.lanes (length l.wires) l.frame.lanes;
 }
 
 abbrev pub decreases-loop-wire : goal.decreases-loop-wire
-decreases-loop-wire g l = length l.wires.items
+decreases-loop-wire g l = length l.wires

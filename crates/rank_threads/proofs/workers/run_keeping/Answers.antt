@@ -4,17 +4,17 @@ use Rattle.turn_table.specs.States.{HandState}
 use Rattle.rank_slots.specs.declared.slot.Slot.{Slot}
 use Rattle.rank_threads.specs.Fabrics.{HasSwept}
 use Rattle.rank_slots.proofs.Snocs.{written}
-use Rattle.rank_threads.proofs.workers.run_and_close.Goals as goal
+use Rattle.rank_threads.proofs.workers.run_keeping.Goals as goal
 
-pub close-requires-clause-hands : goal.close-requires-clause-hands
-close-requires-clause-hands g c = λ _ _.
+pub close_keeping-requires-clause-hands : goal.close_keeping-requires-clause-hands
+close_keeping-requires-clause-hands g c = λ _ _.
     let new = c.run_workers.new.hands in
     let is : take c.args.hands.len (new ++ drop (length new) c.args.hands.items) ≡ new =
     written c.args.hands.len new _ (sym (c.run_workers.auto.hands ∙ c.deref_mut.ensures.len)) in
     subst (λ (l : List (HandState Slot)). All (λ h. IsFree c.args.fabric.turns h) l) (sym is) c.run_workers.ensures.hands
 
-pub close-requires-clause-all : goal.close-requires-clause-all
-close-requires-clause-all g c = λ _ _.
+pub close_keeping-requires-clause-all : goal.close_keeping-requires-clause-all
+close_keeping-requires-clause-all g c = λ _ _.
     let new = c.run_workers.new.hands in
     let is : take c.args.hands.len (new ++ drop (length new) c.args.hands.items) ≡ new =
     written c.args.hands.len new _ (sym (c.run_workers.auto.hands ∙ c.deref_mut.ensures.len)) in
@@ -30,5 +30,5 @@ returns-clause-world g c =
       swept = subst (λ (l : List (HandState Slot)). All (λ h. HasSwept c.args.fabric h) l) (sym is) c.run_workers.ensures.swept;
       all = ap (λ (l : List (HandState Slot)). parts_of l) is
           ∙ (c.run_workers.ensures.parts ∙ (ap (λ (l : List (HandState Slot)). parts_of l) c.deref_mut.ensures.value ∙ c.requires.all));
-      world = c.close.ensures.world;
+      world = c.close_keeping.ensures.world;
     }

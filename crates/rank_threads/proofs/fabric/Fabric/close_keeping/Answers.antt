@@ -3,6 +3,7 @@ use mathlib.Core.Option.{some}
 use lib.ListN.{get_elem?}
 use Rattle.ptl_types.specs.declared.headers.Lane.{Lane}
 use Rattle.coll_shape.specs.Outline.{Outline}
+use Rattle.pair_wires.specs.Wires.{WireState}
 use Rattle.plan_calls.specs.Lanes.{is_used_lane}
 use Rattle.plan_orders.specs.Chosen.{Scene}
 use Rattle.plan_worlds.specs.Places.{lane_place}
@@ -16,20 +17,23 @@ use Rattle.rank_slots.specs.declared.slot.Slot.{Slot}
 use Rattle.rank_threads.specs.Closing.{IsLifted, IsWorldOf}
 use Rattle.rank_threads.specs.Fabrics.{FabricState, IsNamed}
 use Rattle.rank_slots.specs.Lanes.{AreLanes}
+use Rattle.rank_slots.specs.Lists.{Each}
 use Rattle.rank_wiring.specs.Opening.{AllLaid}
 use Rattle.rank_slots.specs.Names.{plate}
 use Rattle.rank_wiring.specs.Wiring.{bounds_of}
 use Rattle.rank_threads.proofs.Closing.{may-close}
 use Rattle.rank_threads.proofs.Ending.{as-many, kept-at, laid-left, left-history, may-frame, named-left, node-of-slot}
 use Rattle.rank_slots.proofs.Snocs.{written}
-use Rattle.rank_threads.proofs.fabric.Fabric.close.Goals as goal
+use Rattle.rank_threads.proofs.fabric.Fabric.close_keeping.Goals as goal
 
 pub lift_wires-requires-clause-laid : goal.lift_wires-requires-clause-laid
 lift_wires-requires-clause-laid g c =
     let s = c.self.inside in let k = c.self.invariant in let e = c.close-slots.ensures in
-    subst (AllLaid s.wires.items) (sym c.deref_mut.ensures.value)
+    subst (λ (l : List WireState). AllLaid l c.deref_mut.result.now) (sym c.deref.ensures.value)
+    (subst (AllLaid s.wires.items) (sym c.deref_mut.ensures.value)
     (laid-left s.job s.wires.items c.close-slots.result.items
-    (named-left s.job s.wires.items s.turns.start c.close-slots.result.items e.length k.fabric.named (λ r x y a b. (e.values r x a).named y b)))
+    (named-left s.job s.wires.items s.turns.start c.close-slots.result.items e.length k.fabric.named
+    (λ r x y a b. (e.values r x a).named y b))))
 
 pub lift_wires-requires-clause-ranks : goal.lift_wires-requires-clause-ranks
 lift_wires-requires-clause-ranks g c =
@@ -41,10 +45,11 @@ lift_wires-requires-clause-count g c = let k = c.self.invariant in subst (λ (o 
 
 pub lift_wires-requires-clause-lanes : goal.lift_wires-requires-clause-lanes
 lift_wires-requires-clause-lanes g c = let s = c.self.inside in let k = c.self.invariant in
-    subst (λ (o : Outline). AreLanes (plan_of o) (bounds_of s.wires.items)) (sym k.frame_is.shape) k.fabric.lanes
+    subst (λ (l : List WireState). AreLanes (plan_of s.frame.shape) (bounds_of l)) (sym c.deref.ensures.value)
+    (subst (λ (o : Outline). AreLanes (plan_of o) (bounds_of s.wires.items)) (sym k.frame_is.shape) k.fabric.lanes)
 
 pub lift_wires-requires-clause-rooms : goal.lift_wires-requires-clause-rooms
-lift_wires-requires-clause-rooms g c = c.self.invariant.rooms
+lift_wires-requires-clause-rooms g c = subst (Each (λ (w : WireState). w.capacity ≡ 3)) (sym c.deref.ensures.value) c.self.invariant.rooms
 
 pub lift_wires-requires-clause-empty : goal.lift_wires-requires-clause-empty
 lift_wires-requires-clause-empty g c = let s = c.self.inside in let k = c.self.invariant in
@@ -76,7 +81,9 @@ into_world-world-requires g c =
     (λ r h. kept-at nodes t.kept r (omega (arith, h, size)))
     (λ r h. node-of-slot now last nodes v.nodes v.count is r (omega (arith, h, many)))
     named k.fabric.lanes
-    (λ i w at. subst (λ (o : Outline). IsLifted w.bounds now (lane_at f.lanes (lane_place o.ranks w.bounds.source w.bounds.target w.bounds.lane))) shape (v.lifted i w at))
+    (λ i w at. subst (λ (o : Outline). IsLifted w.bounds now
+    (lane_at f.lanes (lane_place o.ranks w.bounds.source w.bounds.target w.bounds.lane))) shape
+    (v.lifted i w (ap (λ (l : List WireState). get_elem? l i) c.deref.ensures.value ∙ at)))
     (λ q d lane hq hd none.
     subst (λ (o : Outline). lane_at f.lanes (lane_place o.ranks q d lane) ≡ frame_lane (plan_of s.job.shape) q d lane) shape
     (v.unused q d lane (subst (λ (o : Outline). q < o.ranks) (sym k.frame_is.shape) hq) (subst (λ (o : Outline). d < o.ranks) (sym k.frame_is.shape) hd)
