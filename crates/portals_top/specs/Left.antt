@@ -2,6 +2,6 @@
 use Rattle.std.specs.Prelude.{None}
 use Rattle.portals_top.specs.declared.ran.Ran.{Ran}
 
--- neither a world nor a choice world
+-- neither a world nor a choice world, and no memory that threads used
 abbrev pub nothing_ran : Ran
-nothing_ran = record { world = None; choice = None }
+nothing_ran = record { world = None; choice = None; spent = None }

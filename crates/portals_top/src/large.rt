@@ -62,12 +62,13 @@ pub(crate) fn large<R: Threads + Wait + Sync, G: Gate, K: Sink>(
     let Ok(job) = generated_job(alloc, number) else {
         return Status::NoMemory;
     };
-    let Ok(world) = run_by_workers(rt, alloc, gate, workers, &job) else {
+    let Ok((world, spent)) = run_by_workers(rt, alloc, gate, workers, &job) else {
         return Status::NoMemory;
     };
     let rested = Rested(world);
     let written = write_sums(&mut out, sink, number, &rested);
     let Rested(world) = rested;
     ran.world = Some(world);
+    ran.spent = Some(spent);
     status_of(written)
 }

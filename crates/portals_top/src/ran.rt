@@ -4,6 +4,7 @@ ghost use Rattle.std.specs.Prelude.{◌≡◌};
 ghost use Rattle.portals_top.specs.Left.{nothing_ran};
 
 use plan_choice::ChoiceWorld;
+use rank_threads::SpentWires;
 use worlds::World;
 
 /// The world that was run, beside the text that was written.
@@ -12,6 +13,8 @@ pub struct Ran {
     pub world: Option<World>,
     /// The choice world at rest, where the result of a choice text was due and the run was made. Else none.
     pub choice: Option<ChoiceWorld>,
+    /// What a run by threads leaves beside the world: memory that is given back when this is let go.
+    pub(crate) spent: Option<SpentWires>,
 }
 
 // Written out, so that letting one go is one call: docs/DECISIONS.md, "Large types have a drop of their own".
@@ -20,6 +23,7 @@ impl Drop for Ran {
         let Ran {
             world: _,
             choice: _,
+            spent: _,
         } = self;
     }
 }
@@ -32,6 +36,7 @@ impl Ran {
         Ran {
             world: None,
             choice: None,
+            spent: None,
         }
     }
 }

@@ -18,7 +18,7 @@ use crate::words::{Command, Mode};
 use crate::writing::{Rested, status_of, write_run};
 use port_io::Sink;
 use ptl_types::NoMemory;
-use rank_threads::{Fabric, Gate, Hand, run_and_close, run_steady};
+use rank_threads::{Fabric, Gate, Hand, SpentWires, run_keeping, run_steady};
 use rest_probe::Wave;
 use run_text::Pieces;
 use schedule_compiler::Job;
@@ -58,19 +58,20 @@ fn run_chosen(alloc: Global, job: &Job, seed: u64) -> Result<World, NoMemory>
 }
 
 /// Runs a job by workers on threads; what they leave is made at the end. Where no thread can be started, the call does a worker's
-/// part itself.
+/// part itself. The wires that they used are handed over beside the world.
 pub(crate) fn run_by_workers<R: Threads + Wait + Sync, G: Gate>(
     rt: &R,
     alloc: Global,
     gate: &G,
     workers: u32,
     job: &Job,
-) -> Result<World, NoMemory>
+) -> Result<(World, SpentWires), NoMemory>
     requires { 0 < workers }
-    ensures { IfOk result (λ w. IsRun job.now.shape job.now.inputs w) }
+    ensures { IfOk result (λ left. IsRun job.now.shape job.now.inputs left.0) }
 {
     let (fabric, hands) = Fabric::open(rt, alloc, job, workers, gate)?;
-    Ok(finished(run_and_close(rt, fabric, hands)))
+    let (world, spent) = run_keeping(rt, fabric, hands);
+    Ok((finished(world), spent))
 }
 
 /// Lets a worker for each hand make steps until a wave of probes has found rest, and closes the fabric.
@@ -111,24 +112,25 @@ fn run_steadily<R: Threads + Wait + Sync, G: Gate>(
     Ok(finished(close_steady(rt, fabric, hands, wave)))
 }
 
-/// Runs a job in this mode.
+/// Runs a job in this mode. Beside the world it hands over the wires that workers used, if there are any left.
 fn run_in<R: Threads + Wait + Sync, G: Gate>(
     rt: &R,
     alloc: Global,
     gate: &G,
     mode: Mode,
     job: &Job,
-) -> Result<World, NoMemory>
+) -> Result<(World, Option<SpentWires>), NoMemory>
     requires { HasWorkers mode }
-    ensures { IfOk result (λ w. LeavesRun mode job.now.shape job.now.inputs (Some w)) }
+    ensures { IfOk result (λ left. LeavesRun mode job.now.shape job.now.inputs (Some left.0)) }
 {
     match mode {
-        Mode::Once => run_once(alloc, job),
-        Mode::Sim { seed } => run_chosen(alloc, job, seed),
+        Mode::Once => Ok((run_once(alloc, job)?, None)),
+        Mode::Sim { seed } => Ok((run_chosen(alloc, job, seed)?, None)),
         Mode::Run { workers } | Mode::Trace { workers } => {
-            run_by_workers(rt, alloc, gate, workers, job)
+            let (world, spent) = run_by_workers(rt, alloc, gate, workers, job)?;
+            Ok((world, Some(spent)))
         }
-        Mode::Steady { workers } => run_steadily(rt, alloc, gate, workers, job),
+        Mode::Steady { workers } => Ok((run_steadily(rt, alloc, gate, workers, job)?, None)),
     }
 }
 
@@ -150,12 +152,13 @@ pub(crate) fn run<R: Threads + Wait + Sync, G: Gate, K: Sink>(
     let Ok(mut out) = Pieces::open(alloc) else {
         return Status::NoMemory;
     };
-    let Ok(world) = run_in(rt, alloc, gate, mode, job) else {
+    let Ok((world, spent)) = run_in(rt, alloc, gate, mode, job) else {
         return Status::NoMemory;
     };
     let rested = Rested(world);
     let written = write_run(rt, alloc, &mut out, sink, mode, &rested);
     let Rested(world) = rested;
     ran.world = Some(world);
+    ran.spent = spent;
     status_of(written)
 }

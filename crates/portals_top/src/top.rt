@@ -28,7 +28,7 @@ use coll_shape::Shape;
 use order_lines::LONGEST_CHECK;
 use plan_done::counted_shape;
 use port_io::{Sink, Source};
-use rank_threads::{Gate, OpenGate};
+use rank_threads::{Gate, OpenGate, reach_ahead};
 use run_text::write_short;
 use schedule_compiler::{Job, compile};
 use std::alloc::Global;
@@ -214,6 +214,9 @@ pub fn run_with_gate<R: Threads + Wait + Sync, S: Source, K: Sink, G: Gate>(
 {
     ran.world = None;
     ran.choice = None;
+    ran.spent = None;
+    // The text that is read then grows in memory that the process has already.
+    reach_ahead(alloc);
     match request_in(words) {
         Some(Request::Do(task)) => { read_and_answer(rt, alloc, gate, task, source, sink, ran) }
         Some(Request::Large { number, workers }) => {
