@@ -2,6 +2,7 @@
 //! used, and a wrong one costs time alone.
 
 use crate::mail::{Mail, WORD, is_of_answers, lane_number, words};
+use crate::parked::Parked;
 use ptl_types::{Lane, NoMemory, Rank};
 use std::alloc::Global;
 
@@ -43,7 +44,7 @@ impl Places {
 }
 
 /// What a rank's slot keeps of such guesses: where the end of each lane to or from it is likely to stand among its ends, which lanes to it
-/// are likely to have messages, and whether one may wait at an out end.
+/// are likely to have messages, whether one may wait at an out end, and which operations are likely to find no room for theirs.
 #[derive(Drop)]
 pub struct Hints {
     pub(crate) outs: Places,
@@ -52,23 +53,26 @@ pub struct Hints {
     pending: Vec<u64>,
     // Whether a message may wait at an out end.
     pub(crate) waits: bool,
+    pub(crate) parked: Parked,
 }
 
 impl Hints {
-    /// For a rank of a job of so many ranks: no lane is likely to have messages, and none waits.
+    /// For a rank with so many operations, in a job of so many ranks: no lane is likely to have messages, and none waits.
     ///
     /// # Errors
     ///
     /// There was no memory for it.
-    pub fn open(alloc: Global, ranks: u32) -> Result<Hints, NoMemory> {
+    pub fn open(alloc: Global, ranks: u32, operations: u32) -> Result<Hints, NoMemory> {
         let outs = Places::open(alloc, ranks)?;
         let ins = Places::open(alloc, ranks)?;
         let pending = vec![in alloc; 0; words(ranks)]?;
+        let parked = Parked::open(alloc, ranks, operations)?;
         Ok(Hints {
             outs,
             ins,
             pending,
             waits: false,
+            parked,
         })
     }
 
@@ -110,19 +114,23 @@ impl Hints {
         }
     }
 
-    /// Notes whether nothing waits at the out ends after all was tried again.
+    /// Notes whether nothing waits at the out ends after all was tried again. Some lanes may have got room.
     pub(crate) fn note_flushed(&mut self, free: bool) {
         self.waits = !free;
+        self.parked.note_room(true);
     }
 
-    /// Notes that a message waits at an out end, if one does.
-    pub(crate) fn note_waiting(&mut self, waits: bool) {
-        self.waits |= waits;
+    /// Notes that a message waits at an out end of the rank, if one does. The rank is woken, so that it says that it waits for room.
+    pub(crate) fn note_waiting(&mut self, mail: &Mail, rank: Rank, waits: bool) {
+        if waits {
+            self.waits = true;
+            mail.wake(rank);
+        }
     }
 
-    /// Wakes the rank, if it may have more to do.
+    /// Wakes the rank, if it may have more to do now. Where it waits for room it is woken once there is some.
     pub(crate) fn leave_word(&self, mail: &Mail, rank: Rank) {
-        if self.waits || self.pending.iter().any(|&word| word != 0) {
+        if !self.waits && self.pending.iter().any(|&word| word != 0) {
             mail.wake(rank);
         }
     }

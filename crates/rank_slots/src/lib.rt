@@ -8,6 +8,7 @@ mod mail;
 mod moves;
 mod notes;
 mod once;
+mod parked;
 mod past;
 mod ports;
 mod posts;

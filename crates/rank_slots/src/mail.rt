@@ -1,5 +1,5 @@
-//! Word that threads leave for one another: to which ranks messages were sent, and how many workers are at work. No clause rests on
-//! it, and word that is lost costs time alone.
+//! Word that threads leave for one another: to which ranks messages were sent, which ranks wait for room, and how many workers are at
+//! work. No clause rests on it, and word that is lost costs time alone.
 
 ghost use Rattle.std.specs.Prelude.{◌<◌, ◌^◌};
 
@@ -10,8 +10,9 @@ use std::sync::atomic::{AtomicU64, Ordering};
 /// How many lanes a word tells of.
 pub(crate) const WORD: usize = 64;
 
-/// How many words each rank has at least, so that it has a cache line of its own.
-const LINE: usize = 8;
+/// How many words there are at least from one rank's to the next one's, so that no two ranks have a cache line in common, nor two lines that
+/// are fetched together.
+const LINE: usize = 16;
 
 /// The number of a lane among those to or from one rank.
 pub(crate) fn lane_number(rank: Rank, lane: Lane) -> usize {
@@ -34,13 +35,26 @@ pub(crate) fn words(ranks: u32) -> usize
     ranks as usize / (WORD / 2) + 1
 }
 
+// So many words, none of which is set.
+fn zeros(alloc: Global, count: usize) -> Result<Vec<AtomicU64>, NoMemory> {
+    let mut words = Vec::with_capacity(alloc, count)?;
+    for _ in 0..count {
+        words.push(AtomicU64::new(0))?;
+    }
+    Ok(words)
+}
+
 /// For each rank a bit for each lane to it, which is set where a message was sent, and a last word that is set where the rank isn't
-/// done.
+/// done; and whether it waits for room.
 #[derive(Drop)]
 pub struct Mail {
     words: Vec<AtomicU64>,
-    // How many words a rank has.
+    // How many words there are from one rank's to the next one's, and how many of them tell something.
     stride: usize,
+    used: usize,
+    ranks: u32,
+    // For each rank a word, in a cache line of its own, which is set while the rank waits for room on a lane from it.
+    short: Vec<AtomicU64>,
     // How many workers are at work.
     busy: AtomicU64,
 }
@@ -52,16 +66,18 @@ impl Mail {
     ///
     /// There was no memory for it.
     pub fn open(alloc: Global, ranks: u32) -> Result<Mail, NoMemory> {
-        let stride = (words(ranks) + 1).max(LINE);
+        let used = words(ranks) + 1;
+        let stride = used.max(LINE);
         let count = (ranks as usize).wrapping_mul(stride);
-        let mut words = Vec::with_capacity(alloc, count)?;
-        for _ in 0..count {
-            words.push(AtomicU64::new(0))?;
-        }
+        let words = zeros(alloc, count)?;
+        let short = zeros(alloc, (ranks as usize).wrapping_mul(LINE))?;
         let busy = AtomicU64::new(0);
         let mail = Mail {
             words,
             stride,
+            used,
+            ranks,
+            short,
             busy,
         };
         for rank in 0..ranks {
@@ -93,13 +109,35 @@ impl Mail {
 
     /// The rank isn't done.
     pub(crate) fn wake(&self, rank: Rank) {
-        self.set(rank, self.stride.saturating_sub(1), 1);
+        self.set(rank, self.used.saturating_sub(1), 1);
+    }
+
+    // The word that tells whether a rank waits for room.
+    fn short_word(&self, rank: Rank) -> Option<&AtomicU64> {
+        self.short.get((rank as usize).wrapping_mul(LINE))
+    }
+
+    /// The rank waits for room on a lane from it. It has to look for room once more after it said so.
+    pub(crate) fn want_room(&self, rank: Rank) {
+        if let Some(word) = self.short_word(rank) {
+            word.store(1, Ordering::SeqCst);
+        }
+    }
+
+    /// There is room on a lane from the rank, which is woken if it waits for some.
+    pub(crate) fn made_room(&self, rank: Rank) {
+        if let Some(word) = self.short_word(rank)
+            && word.load(Ordering::SeqCst) != 0
+        {
+            word.store(0, Ordering::SeqCst);
+            self.wake(rank);
+        }
     }
 
     /// Whether there is word for a rank.
     pub fn any(&self, rank: Rank) -> bool {
         let mut any = 0;
-        for i in 0..self.stride {
+        for i in 0..self.used {
             if let Some(word) = self.word(rank, i) {
                 any |= word.load(Ordering::SeqCst);
             }
@@ -109,9 +147,12 @@ impl Mail {
 
     /// Whether there is word for some rank.
     pub fn has_word(&self) -> bool {
-        self.words
-            .iter()
-            .any(|word| word.load(Ordering::SeqCst) != 0)
+        for rank in 0..self.ranks {
+            if self.any(rank) {
+                return true;
+            }
+        }
+        false
     }
 
     /// Takes the bits of a word of a rank.
@@ -124,7 +165,7 @@ impl Mail {
 
     /// The rank is looked at.
     pub(crate) fn settle(&self, rank: Rank) {
-        let _ = self.take(rank, self.stride.saturating_sub(1));
+        let _ = self.take(rank, self.used.saturating_sub(1));
     }
 
     /// A worker is at work.

@@ -53,7 +53,7 @@ impl Slot {
     }
 
     /// Fires an operation, whose message, if it has one, finds room.
-    fn fire<R: Wait>(&mut self, rt: &R, wires: &[Wire], mail: &Mail, number: u32)
+    pub(crate) fn fire<R: Wait>(&mut self, rt: &R, wires: &[Wire], mail: &Mail, number: u32)
         requires sound { IsSound self.old.job }
         requires wired { IsWired wires.now (plate self.old) }
         requires ready { is_ready self.old.node.value.nic number ≡ true }
@@ -65,6 +65,7 @@ impl Slot {
         let _ = self.node.history();
         let made = self.node.fire(number);
         let _ = self.node.history();
+        let rank = self.node.nic().rank();
         let waits = pass_on(
             rt,
             wires,
@@ -74,7 +75,7 @@ impl Slot {
             &mut self.outs,
             made,
         );
-        self.hints.note_waiting(waits);
+        self.hints.note_waiting(mail, rank, waits);
     }
 
     /// Whether a message waits at the out end of answers to a rank.
@@ -136,6 +137,7 @@ impl Slot {
         let Some(message) = pop_at(rt, wires, port) else {
             return false;
         };
+        mail.made_room(source);
         gate.pass(rank, LocalStep::Receive { source, lane });
         let answer = self.node.receive(source, lane, message);
         let _ = self.node.history();
@@ -148,7 +150,7 @@ impl Slot {
             &mut self.outs,
             answer,
         );
-        self.hints.note_waiting(waits);
+        self.hints.note_waiting(mail, rank, waits);
         true
     }
 
@@ -224,8 +226,10 @@ impl Slot {
             return None;
         }
         let number = self.node.ready_at(0);
+        let target = self.node.nic().lane_of(number);
         gate.pass(self.node.nic().rank(), LocalStep::Fire { number });
         self.fire(rt, wires, mail, number);
+        self.hints.parked.forget(target, number);
         Some(number)
     }
 

@@ -57,7 +57,8 @@ fn bare_slot(alloc: Global, job: &Job, rank: Rank, ends: usize) -> Result<Slot, 
 {
     let shared = job.share()?;
     let node = Box::new(alloc, install(alloc, job, rank, 0)?)?;
-    let hints = Box::new(alloc, Hints::open(alloc, job.schedule().shape().ranks())?)?;
+    let ranks = job.schedule().shape().ranks();
+    let hints = Box::new(alloc, Hints::open(alloc, ranks, node.nic().pending())?)?;
     let outs = Vec::with_capacity(alloc, ends)?;
     let ins = Vec::with_capacity(alloc, ends)?;
     Ok(Slot {

@@ -1,27 +1,17 @@
-use Rattle.rank_slots.proofs.Onwards.{onward-after, onward-sound, onward-wired}
+use Rattle.rank_slots.proofs.Onwards.{onward-after, onward-sound, onward-still, onward-wired}
 use Rattle.rank_slots.proofs.slot.Slot.follow_hints.Goals as goal
 
-pub start_or_fire-requires-clause-sound : goal.start_or_fire-requires-clause-sound
-start_or_fire-requires-clause-sound g c = λ _ _. onward-sound c.args.self.now c.flush_waiting.new.self c.flush_waiting.ensures c.requires.sound
+pub loop-init : goal.loop-init
+loop-init g c = onward-still c.args.self.now
 
-pub start_or_fire-requires-clause-wired : goal.start_or_fire-requires-clause-wired
-start_or_fire-requires-clause-wired g c = λ _ _. onward-wired c.args.wires.now c.args.self.now c.flush_waiting.new.self c.flush_waiting.ensures c.requires.wired
+pub follow_once-requires-clause-sound : goal.follow_once-requires-clause-sound
+follow_once-requires-clause-sound g c = λ _ _. onward-sound c.args.self.now c.loop.self c.loop.invariant c.requires.sound
 
-pub returns-then-start_or_fire : goal.returns-then-start_or_fire
-returns-then-start_or_fire g c = onward-after c.args.self.now c.flush_waiting.new.self c.start_or_fire.new.self c.flush_waiting.ensures c.start_or_fire.ensures
+pub follow_once-requires-clause-wired : goal.follow_once-requires-clause-wired
+follow_once-requires-clause-wired g c = λ _ _. onward-wired c.args.wires.now c.args.self.now c.loop.self c.loop.invariant c.requires.wired
 
-pub receive_pending-requires-clause-sound : goal.receive_pending-requires-clause-sound
-receive_pending-requires-clause-sound g c = λ _ _.
-    onward-sound c.args.self.now c.start_or_fire.new.self (onward-after c.args.self.now c.flush_waiting.new.self c.start_or_fire.new.self c.flush_waiting.ensures c.start_or_fire.ensures) c.requires.sound
+pub loop-preserved : goal.loop-preserved
+loop-preserved g c = onward-after c.args.self.now c.loop.self c.follow_once.new.self c.loop.invariant c.follow_once.ensures
 
-pub receive_pending-requires-clause-wired : goal.receive_pending-requires-clause-wired
-receive_pending-requires-clause-wired g c = λ _ _.
-    onward-wired c.args.wires.now c.args.self.now c.start_or_fire.new.self (onward-after c.args.self.now c.flush_waiting.new.self c.start_or_fire.new.self c.flush_waiting.ensures c.start_or_fire.ensures) c.requires.wired
-
-pub returns-then-receive_pending : goal.returns-then-receive_pending
-returns-then-receive_pending g c = onward-after c.args.self.now c.start_or_fire.new.self c.receive_pending.new.self
-    (onward-after c.args.self.now c.flush_waiting.new.self c.start_or_fire.new.self c.flush_waiting.ensures c.start_or_fire.ensures) c.receive_pending.ensures
-
-pub returns : goal.returns
-returns g c = onward-after c.args.self.now c.start_or_fire.new.self c.receive_pending.new.self
-    (onward-after c.args.self.now c.flush_waiting.new.self c.start_or_fire.new.self c.flush_waiting.ensures c.start_or_fire.ensures) c.receive_pending.ensures
+pub returns-then-not-follow_once : goal.returns-then-not-follow_once
+returns-then-not-follow_once g c = onward-after c.args.self.now c.loop.self c.follow_once.new.self c.loop.invariant c.follow_once.ensures
