@@ -5,14 +5,17 @@ use lib.ListN.{get_elem?}
 use Rattle.pair_wires.specs.Wires.{WireState}
 use Rattle.shape_plans.specs.Drawing.{plan_of}
 use Rattle.schedule_compiler.specs.Jobs.{JobOf}
+use Rattle.turn_table.specs.declared.table.Turn.{Turn}
+use Rattle.turn_table.specs.Hands.{IsHandOf, Took}
 use Rattle.turn_table.specs.States.{HandState, TableState}
-use Rattle.rank_node.specs.Node.{NodeState}
+use Rattle.rank_node.specs.Node.{IsNode, NodeState}
 use Rattle.worlds.specs.FrameState.{FrameState}
 use Rattle.worlds.specs.Frames.{IsFrameOf}
 use Rattle.rank_slots.specs.declared.slot.Slot.{Slot}
 use Rattle.rank_slots.specs.Lists.{Each}
 use Rattle.rank_slots.specs.Lanes.{AreLanes}
-use Rattle.rank_slots.specs.Names.{Plate, plate}
+use Rattle.rank_slots.specs.Chronicles.{chronicle}
+use Rattle.rank_slots.specs.Names.{IsWired, Plate, plate}
 use Rattle.rank_slots.specs.Sound.{IsSound}
 use Rattle.rank_threads.specs.Turns.{FoundIdle}
 use Rattle.rank_wiring.specs.Wiring.{IsLaid, bounds_of}
@@ -45,6 +48,16 @@ pub record FabricKeeps (job : JobOf) (start : List Slot) (wires : List WireState
   pub frame_is : IsFrameOf job frame
   pub empty : room ≡ []
   pub roomy : length start ≤ capacity
+
+-- the hand took the turn t of rank r, after some busy tries, and what is in it is that rank's of the fabric
+pub record HasTaken (f : FabricState) (old : HandState Slot) (r : ℕ) (t : Turn Slot) (new : HandState Slot) : Type 0 where
+  pub slot : t.slot ≡ r
+  pub sound : IsSound f.job
+  pub named : IsNamed f.job f.wires r (plate t.value)
+  pub wired : IsWired f.wires (plate t.value)
+  pub kept : IsNode t.value.node.value
+  pub hand : IsHandOf f.turns new
+  pub took : Took chronicle plate old.knows r t.value new.knows
 
 -- the hand had turns at all ranks, and its last one at each found that rank idle
 unfoldable pub HasSwept : FabricState → HandState Slot → Type 0

@@ -7,7 +7,7 @@ ghost use Rattle.plan_calls.specs.Lanes.{is_used_lane};
 ghost use Rattle.rank_node.specs.Node.{IsNode};
 ghost use Rattle.shape_plans.specs.Drawing.{plan_of};
 ghost use Rattle.rank_slots.specs.declared.slot.Slot.{Slot};
-ghost use Rattle.rank_threads.specs.Fabrics.{IsNamed};
+ghost use Rattle.rank_threads.specs.Fabrics.{HasTaken, IsNamed};
 ghost use Rattle.rank_slots.specs.Lanes.{AreLanes};
 ghost use Rattle.rank_slots.specs.Chronicles.{chronicle};
 ghost use Rattle.rank_slots.specs.Names.{IsWired, Mark, mark, plate};
@@ -41,6 +41,22 @@ impl<G: Gate + Drop> Fabric<G> {
         // What every node keeps is told here.
         let _ = turn.value.node.history();
         turn
+    }
+
+    /// Takes the turn of a rank, if no other hand has it. It never waits.
+    pub(crate) fn try_take(&self, hand: &mut Hand, rank: Rank) -> Option<Turn<Slot>>
+        requires hand { IsFree self.now.turns hand.old }
+        requires rank { rank < self.now.job.shape.ranks }
+        ensures some { IfSome result (λ t. HasTaken self.now hand.old rank t hand.new) }
+        ensures none { IfNone result (IsFree self.now.turns hand.new × (hand.new.knows.parts ≡ hand.old.knows.parts)) }
+    {
+        let _ = self.ranks;
+        let Some(turn) = self.turns.try_take(hand, rank) else {
+            return None;
+        };
+        // What every node keeps is told here.
+        let _ = turn.value.node.history();
+        Some(turn)
     }
 
     /// Gives a turn back.

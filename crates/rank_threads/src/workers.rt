@@ -71,21 +71,8 @@ impl<G: Gate + Drop> Fabric<G> {
         above | below
     }
 
-    // Makes a step of a rank that the hints lead to, in one turn, and answers whether there was one.
-    fn follow<R: Wait>(&self, rt: &R, hand: &mut Hand, rank: Rank) -> bool
-        requires hand { IsFree self.now.turns hand.old }
-        requires rank { rank < self.now.job.shape.ranks }
-        ensures hand { IsFree self.now.turns hand.new }
-        ensures parts { hand.new.knows.parts ≡ hand.old.knows.parts }
-    {
-        let Turn { slot, value } = self.take(rt, hand, rank);
-        let mut value = value;
-        let made = value.follow_hints(rt, &self.wires, &self.mail, &self.gate);
-        self.give(hand, Turn { slot, value });
-        made
-    }
-
-    // Makes such steps of a rank until there is none, and answers whether there was one. A rank that there is no word for is left.
+    // Makes the steps of a rank that the hints lead to, in one turn, and answers whether there was one. A rank that there is no word for is
+    // left, and one that another worker has too: that one goes on with it.
     fn visit<R: Wait>(&self, rt: &R, hand: &mut Hand, rank: Rank) -> bool
         requires hand { IsFree self.now.turns hand.old }
         requires rank { rank < self.now.job.shape.ranks }
@@ -95,14 +82,13 @@ impl<G: Gate + Drop> Fabric<G> {
         if !self.mail.any(rank) {
             return false;
         }
-        let mut worked = false;
-        for _ in rt.forever() {
-            if !self.follow(rt, hand, rank) {
-                return worked;
-            }
-            worked = true;
-        }
-        unreachable!()
+        let Some(Turn { slot, value }) = self.try_take(hand, rank) else {
+            return false;
+        };
+        let mut value = value;
+        let made = value.follow_hints(rt, &self.wires, &self.mail, &self.gate);
+        self.give(hand, Turn { slot, value });
+        made
     }
 
     // Visits each rank from `first` to before `end`, and answers whether there was a step.
@@ -157,8 +143,11 @@ impl<G: Gate + Drop> Fabric<G> {
             self.settle(rt, hand, first, end);
             let worked = self.round(rt, hand, 0, self.ranks);
             self.mail.end();
-            if alone && !worked {
-                return;
+            if !worked {
+                if alone {
+                    return;
+                }
+                thread::yield_now();
             }
         }
         unreachable!()
