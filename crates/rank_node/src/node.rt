@@ -43,14 +43,14 @@ pub struct Node {
 }
 
 impl Model for Node {
-    ghost use Rattle.std.specs.Prelude.{◌≡◌, length};
+    ghost use Rattle.std.specs.Prelude.{◌≤◌, vec_capacity};
     ghost use Rattle.rank_node.specs.Node.{NodeState, IsNode, task_from};
 
     ghost Value = { NodeState };
 
     ghost view = { λ n. record { task = task_from n.compiled n.began.value.list; kept = n.kept; diary = n.history; nic = n.nic; strays = n.strays; closed = n.gates } };
 
-    ghost invariant = { λ n. IsNode (record { task = task_from n.compiled n.began.value.list; kept = n.kept; diary = n.history; nic = n.nic; strays = n.strays; closed = n.gates }) × (length n.buffer.items ≡ n.compiled.longest) };
+    ghost invariant = { λ n. IsNode (record { task = task_from n.compiled n.began.value.list; kept = n.kept; diary = n.history; nic = n.nic; strays = n.strays; closed = n.gates }) × (n.compiled.longest ≤ vec_capacity n.buffer) };
 }
 
 // Written out, so that letting one go is one call: docs/DECISIONS.md, "Large types have a drop of their own".
@@ -66,17 +66,6 @@ impl Drop for Node {
             strays: _,
             gates: _,
         } = self;
-    }
-}
-
-/// So many zeros.
-fn zeros(alloc: Global, count: u64) -> Result<Vec<u8>, NoMemory>
-    ensures { IfOk result (λ v. length v.items ≡ count) }
-{
-    let mut bytes = Vec::new(alloc);
-    match bytes.resize(count as usize, 0) {
-        Ok(()) => Ok(bytes),
-        Err(_) => Err(NoMemory),
     }
 }
 
@@ -127,7 +116,7 @@ impl Node {
         let region = mem::replace(&mut compiled.region, Bytes::empty(alloc));
         let (nic, kept) = prepare(alloc, &compiled, region)?;
         let history = diary(alloc, &compiled, nic.pending(), strays)?;
-        let buffer = zeros(alloc, compiled.longest)?;
+        let buffer = Vec::with_capacity(alloc, compiled.longest as usize)?;
         let gates = Gates::all_open(alloc, compiled.ranks)?;
         Ok(Node {
             compiled,
@@ -251,6 +240,7 @@ impl Node {
             &mut self.nic,
             &mut self.kept,
             &mut self.buffer,
+            self.compiled.longest,
             &self.compiled.cells,
             &self.compiled.own,
         );

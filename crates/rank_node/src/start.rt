@@ -1,6 +1,6 @@
 //! The start of a rank: what came early is brought into its cells, and their entries are appended.
 
-ghost use Rattle.std.specs.Prelude.{◌≡◌, ◌<◌, ◌≤◌, ◌+◌, List, All, nat_le, [], ◌∷◌, true, false, length};
+ghost use Rattle.std.specs.Prelude.{◌≡◌, ◌<◌, ◌≤◌, ◌+◌, List, All, nat_le, [], ◌∷◌, true, false, length, vec_capacity};
 ghost use Rattle.ptl_types.specs.Elements.{part};
 ghost use Rattle.ni_model.specs.Headers.{found_in};
 ghost use Rattle.plan_calls.specs.declared.OwnCell.{OwnCell};
@@ -53,60 +53,75 @@ fn lies_in(cell: &OwnCell, header: &UnexpectedHeader, size: u64) -> bool
     is_within(cell.start, cell.length, size) && is_within(header.place, header.delivered, size)
 }
 
-/// The bytes that the cell holds once those that came are written or combined.
+/// Fills the buffer, which has room for them, with the bytes that the cell holds once those that came are written or combined.
 fn fill_brought(
-    bytes: &mut [u8],
+    buffer: &mut Vec<u8>,
     memory: &[u8],
     op: Option<AtomicOp>,
     ty: ElemType,
+    count: usize,
     at: usize,
     place: usize,
 )
-    requires old { at + length bytes.old ≤ length memory.now }
-    requires new { place + length bytes.old ≤ length memory.now }
-    requires whole { fits_elements op ty (length bytes.old) ≡ true }
-    ensures { bytes.new ≡ brought_by op ty (part at (length bytes.old) memory.now) (part place (length bytes.old) memory.now) }
+    requires room { count ≤ vec_capacity buffer.old }
+    requires old { at + count ≤ length memory.now }
+    requires new { place + count ≤ length memory.now }
+    requires whole { fits_elements op ty count ≡ true }
+    ensures filled { buffer.new.items ≡ brought_by op ty (part at count memory.now) (part place count memory.now) }
+    ensures count { length buffer.new.items ≡ count }
+    ensures room { vec_capacity buffer.old ≤ vec_capacity buffer.new }
 {
-    let count = bytes.len();
+    buffer.clear();
     match op {
-        None => bytes.copy_from_slice(&memory[place..place + count]),
+        None => {
+            let _ = buffer.extend_from_slice(&memory[place..place + count]);
+        }
         Some(op) => {
-            bytes.copy_from_slice(&memory[at..at + count]);
-            combine(op, ty, bytes, &memory[place..place + count]);
+            let _ = buffer.extend_from_slice(&memory[at..at + count]);
+            combine(op, ty, buffer, &memory[place..place + count]);
         }
     }
 }
 
-/// Brings what a header brought into the cell, where it is used. The buffer is as long as the longest that is used.
+/// Brings what a header brought into the cell, where it is used. The buffer has room for the longest that is used.
 #[tactic(auto, unfolding(plan_start::specs::Start::bring))]
-fn bring_one(nic: &mut Nic, buffer: &mut [u8], cell: &OwnCell, header: &UnexpectedHeader)
-    ensures { nic.new ≡ record nic.old { memory = bring (length buffer.old) cell.now header.now nic.old.memory } }
+fn bring_one(
+    nic: &mut Nic,
+    buffer: &mut Vec<u8>,
+    longest: u64,
+    cell: &OwnCell,
+    header: &UnexpectedHeader,
+)
+    requires { longest ≤ vec_capacity buffer.old }
+    ensures brought { nic.new ≡ record nic.old { memory = bring longest cell.now header.now nic.old.memory } }
+    ensures room { longest ≤ vec_capacity buffer.new }
 {
     let size = nic.memory().len() as u64;
-    let longest = buffer.len() as u64;
     if is_used(longest, cell, header) && lies_in(cell, header, size) {
         let at = cell.start + header.header.offset;
-        let bytes = &mut buffer[..header.delivered as usize];
         fill_brought(
-            bytes,
+            buffer,
             nic.memory(),
             cell.op,
             cell.ty,
+            header.delivered as usize,
             at as usize,
             header.place as usize,
         );
-        nic.write_memory(at, bytes);
+        nic.write_memory(at, buffer);
     }
 }
 
 /// Brings what the headers brought that the entry finds, in order of arrival.
-fn bring_found(nic: &mut Nic, buffer: &mut [u8], cell: &OwnCell, entry: &Entry)
-    ensures { nic.new ≡ record nic.old { memory = bring_all (length buffer.old) cell.now (found_in 0 entry.now nic.old.headers.unexpected) nic.old.memory } }
+fn bring_found(nic: &mut Nic, buffer: &mut Vec<u8>, longest: u64, cell: &OwnCell, entry: &Entry)
+    requires { longest ≤ vec_capacity buffer.old }
+    ensures brought { nic.new ≡ record nic.old { memory = bring_all longest cell.now (found_in 0 entry.now nic.old.headers.unexpected) nic.old.memory } }
+    ensures room { longest ≤ vec_capacity buffer.new }
 {
     for i in 0..nic.headers().len() {
         let unexpected = nic.headers()[i];
         if finds(&unexpected, 0, entry) {
-            bring_one(nic, buffer, cell, &unexpected.header);
+            bring_one(nic, buffer, longest, cell, &unexpected.header);
         }
     }
 }
@@ -126,12 +141,21 @@ fn append_cell(nic: &mut Nic, kept: &mut Kept, entry: Entry)
 }
 
 /// Starts one cell.
-fn start_cell(nic: &mut Nic, kept: &mut Kept, buffer: &mut [u8], cells: &[u32], cell: &OwnCell)
+fn start_cell(
+    nic: &mut Nic,
+    kept: &mut Kept,
+    buffer: &mut Vec<u8>,
+    longest: u64,
+    cells: &[u32],
+    cell: &OwnCell,
+)
+    requires buffer { longest ≤ vec_capacity buffer.old }
     requires all { AreAllOf nic.old kept.old }
     requires rising { IsRising cells.now }
     requires there { HasCounter cells.now (length kept.old.counters) cell.now.number }
     requires room { length kept.old.entries < kept.old.room.entries }
-    ensures { AreStarted (length buffer.old) cells.now (cell.now ∷ []) nic.old nic.new kept.old kept.new }
+    ensures started { AreStarted longest cells.now (cell.now ∷ []) nic.old nic.new kept.old kept.new }
+    ensures buffer { longest ≤ vec_capacity buffer.new }
 {
     let ct = counter_of(kept, cells, cell.number);
     let entry = entry_of_cell(
@@ -141,26 +165,29 @@ fn start_cell(nic: &mut Nic, kept: &mut Kept, buffer: &mut [u8], cells: &[u32], 
         cell.match_bits,
         cell.ignore_bits,
     );
-    bring_found(nic, buffer, cell, &entry);
+    bring_found(nic, buffer, longest, cell, &entry);
     append_cell(nic, kept, entry);
 }
 
-/// Starts the cells of a list, in order.
+/// Starts the cells of a list, in order. The buffer has room for the longest message that is used.
 pub fn start_cells(
     nic: &mut Nic,
     kept: &mut Kept,
-    buffer: &mut [u8],
+    buffer: &mut Vec<u8>,
+    longest: u64,
     cells: &[u32],
     own: &[OwnCell],
 )
+    requires buffer { longest ≤ vec_capacity buffer.old }
     requires all { AreAllOf nic.old kept.old }
     requires rising { IsRising cells.now }
     requires there { All (λ (c : OwnCell). HasCounter cells.now (length kept.old.counters) c.number) own.now }
     requires room { length kept.old.entries + length own.now ≤ kept.old.room.entries }
-    ensures { AreStarted (length buffer.old) cells.now own.now nic.old nic.new kept.old kept.new }
+    ensures started { AreStarted longest cells.now own.now nic.old nic.new kept.old kept.new }
+    ensures buffer { longest ≤ vec_capacity buffer.new }
 {
     for cell in own {
-        start_cell(nic, kept, buffer, cells, cell);
+        start_cell(nic, kept, buffer, longest, cells, cell);
     }
 }
 

@@ -21,4 +21,4 @@ invariant_of-result c =
     let waits = c.pending.ensures.value in
     let room : 1 + (length c.in_ok-nic.nic.pending.waiting + c.in_ok-history.history.receipts) ≤ c.in_ok-history.history.room = omega arith in
     let gates = ap length c.in_ok-gates.ensures ∙ length-replicate c.args.compiled.ranks false in
-    (installed-node n compiled prepared none room receipts bytes gates, c.in_ok-buffer.ensures)
+    (installed-node n compiled prepared none room receipts bytes gates, c.in_ok-buffer.ensures.capacity)

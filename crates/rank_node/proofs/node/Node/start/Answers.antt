@@ -1,5 +1,4 @@
-use Rattle.std.proofs.Common.{◌≡◌, ◌∙◌, ◌++◌, ◌+◌, ℕ, List, false, nat_lt, count_by, length, take, drop, ap, ap₂, refl, sym, subst, arith, length-append}
-use Rattle.std.proofs.lemmas.List.{length-take-le}
+use Rattle.std.proofs.Common.{◌≡◌, ◌∙◌, false, nat_lt, count_by, ap, ap₂, refl, sym, subst}
 use Rattle.ptl_types.specs.declared.steps.LocalStep.TheVariants.{Start}
 use Rattle.plan_view.specs.Slots.{Slots, counter_at}
 use Rattle.plan_cuts.specs.History.{is_start}
@@ -12,22 +11,15 @@ use Rattle.rank_node.specs.Node.{IsStarted, NodeState, start_of, task_from}
 use Rattle.rank_node.proofs.Nodes.{start-node, go-all}
 use Rattle.rank_node.proofs.node.Node.start.Goals as goal
 
--- a buffer whose front was written keeps its length
-same_length : (n : ℕ) (new old : List ℕ) → n ≡ length old → length new ≡ length old → length (take n (new ++ drop (length new) old)) ≡ length old
-same_length n new old is same =
-    let whole : length (new ++ drop (length new) old) ≡ length new + length (drop (length new) old) = length-append new (drop (length new) old) in
-    length-take-le n (new ++ drop (length new) old) (omega arith) ∙ is
-
 pub invariant_of-self : goal.invariant_of-self
 invariant_of-self c =
     let n : NodeState = record { task = task_from c.self.inside.compiled c.self.inside.began.value.list; kept = c.self.inside.kept; diary = c.self.inside.history; nic = c.self.inside.nic; strays = c.self.inside.strays; closed = c.self.inside.gates } in
     let fresh : has_start n.diary.locals ≡ false = ap (nat_lt 0) (subst (λ (m : NodeState). count_by is_start m.diary.locals ≡ 0) (sym c.self.view_is) c.requires) in
-    let long : length c.deref_mut.result.now ≡ n.task.longest = ap length c.deref_mut.ensures.value ∙ c.self.invariant.1 in
-    let began : AreStarted n.task.longest n.task.cells n.task.own n.nic c.start_cells.new.nic n.kept c.start_cells.new.kept = rw (long, c.deref.ensures.value, c.deref-2.ensures.value) at c.start_cells.ensures in
+    let began : AreStarted n.task.longest n.task.cells n.task.own n.nic c.start_cells.new.nic n.kept c.start_cells.new.kept = rw (c.deref.ensures.value, c.deref-2.ensures.value) at c.start_cells.ensures.started in
     let left : (k : Slots) → Agrees k c.start_cells.new.kept → c.raise_go.new.nic ≡ (start_of n.task k).by n.nic = λ k a.
     let go : c.counter_of-go.result ≡ counter_at k n.task.cells n.task.go = c.counter_of-go.ensures k a ∙ ap (λ cells. counter_at k cells n.task.go) c.deref-3.ensures.value in
     c.raise_go.ensures ∙ ap₂ go_raised go (began.state k a) in
     let all : AreAllOf c.raise_go.new.nic c.start_cells.new.kept = subst (λ v. AreAllOf v c.start_cells.new.kept) (sym c.raise_go.ensures) (go-all c.counter_of-go.result c.start_cells.new.nic c.start_cells.new.kept began.all) in
     let new : NodeState = record { task = n.task; kept = c.start_cells.new.kept; diary = with_step Start Started n.diary; nic = c.raise_go.new.nic; strays = n.strays; closed = n.closed } in
     let st : IsStarted n new = record { task = refl; strays = refl; closed = refl; diary = refl; nic = left; slots = began.kept } in
-    (rw c.note_start.ensures (start-node n new fresh st all began.only c.self.invariant.0), same_length c.self.inside.buffer.len c.start_cells.new.buffer c.self.inside.buffer.items (sym c.deref_mut.ensures.len ∙ ap length c.deref_mut.ensures.value) (c.start_cells.auto.buffer ∙ ap length c.deref_mut.ensures.value) ∙ c.self.invariant.1)
+    (rw c.note_start.ensures (start-node n new fresh st all began.only c.self.invariant.0), c.start_cells.ensures.buffer)
