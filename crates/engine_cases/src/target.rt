@@ -10,7 +10,7 @@ use ptl_types::{
 };
 use std::alloc::Global;
 use std::test::Fail;
-use target_engine::Target;
+use target_engine::{Spent, Target};
 
 const LIMITS: Limits = Limits {
     entries: 2,
@@ -138,7 +138,7 @@ fn a_put_to_no_index_is_dropped(rt: HostRuntime) -> Result<(), Fail> {
     let mut eqs: Store<Queue> = Store::open(rt.alloc(), 0)?;
     let mut target = Target::open(rt.alloc(), 0, &LIMITS)?;
     let message = Message::new(PUT, Bytes::empty(rt.alloc()));
-    let arrived = target.request(&mut region, &mut cts, &mut eqs, message);
+    let arrived = target.request(&mut region, &mut cts, &mut eqs, message, &mut Spent::none());
     assert_eq!(rt; arrived.outcome, Outcome::Dropped);
     assert!(rt; region.as_slice() == [7].as_slice());
     Ok(())

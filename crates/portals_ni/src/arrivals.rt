@@ -9,6 +9,7 @@ ghost use Rattle.ni_model.specs.State.{target, parts_of, home_of, drops_after, v
 use crate::armed::tell;
 use crate::nic::Nic;
 use ptl_types::{Delivered, Message, Outcome};
+use target_engine::Spent;
 
 /// The drop register after a message.
 fn raise_drops(drops: u64, outcome: Outcome) -> u64
@@ -36,26 +37,40 @@ impl Nic {
     /// operation, `Answered` for an acknowledgement or a reply that was awaited, and else `Dropped`. The answer is there where
     /// the message asked for one, and uses the message's own bytes, so that this takes no memory. Condition: the message is
     /// for this rank.
-    #[tactic(auto, unfolding(ni_model::specs::State::target))]
     pub fn deliver(&mut self, message: Message) -> Delivered
+        requires { message.header.target ≡ self.old.rank }
+        ensures does { record { state = self.new; delivered = result } ≡ target self.old message }
+    {
+        let mut spent = Spent::none();
+        self.deliver_keeping(message, &mut spent)
+    }
+
+    /// Handles a message that arrived, as `deliver` does. Where a request asks for no answer the room of its bytes is kept, if there
+    /// is place for it.
+    #[tactic(auto, unfolding(ni_model::specs::State::target))]
+    pub fn deliver_keeping(&mut self, message: Message, spent: &mut Spent) -> Delivered
         requires { message.header.target ≡ self.old.rank }
         ensures does { record { state = self.new; delivered = result } ≡ target self.old message }
     {
         if message.header().kind.is_answer() {
             self.take_answer(message)
         } else {
-            self.take_request(message)
+            self.take_request(message, spent)
         }
     }
 
     /// A request at its target: the engine's parts change, and the counting event that rose is told to the pending operations.
-    fn take_request(&mut self, message: Message) -> Delivered
+    fn take_request(&mut self, message: Message, spent: &mut Spent) -> Delivered
         requires { is_answer message.header.kind ≡ false }
         ensures { record { state = self.new; delivered = result } ≡ after_request self.old (request (parts_of self.old) message) }
     {
-        let arrived = self
-            .target
-            .request(&mut self.region, &mut self.cts, &mut self.eqs, message);
+        let arrived = self.target.request(
+            &mut self.region,
+            &mut self.cts,
+            &mut self.eqs,
+            message,
+            spent,
+        );
         tell(&mut self.pending, &self.cts, arrived.counted);
         self.drops = raise_drops(self.drops, arrived.outcome);
         self.violations = raise_violations(self.violations, arrived.outcome);

@@ -71,3 +71,4 @@ mod triggers;
 
 pub use nic::Nic;
 pub use ptl_types::{Appended, Deed, Delivered, EqGot, GetArgs, Limits, NiFault, Outcome, PutArgs};
+pub use target_engine::Spent;

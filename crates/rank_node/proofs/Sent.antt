@@ -10,6 +10,7 @@ use Rattle.rank_node.proofs.compiled.Compiled.TheSendSync as compiled
 use Rattle.rank_node.proofs.gates.Gates.TheSendSync as gates
 use Rattle.rank_node.proofs.history.History.TheSendSync as history
 use Rattle.rank_node.proofs.kept.Kept.TheSendSync as kept
+use Rattle.target_engine.proofs.spent.Spent.TheSendSync as spent
 
 pub node-send : IsSend the_row
 node-send =
@@ -23,7 +24,7 @@ node-send =
             kept.the_send,
             (
               history.the_send,
-              (search (crosses, sendable) depth 20, (search sendable, (gates.the_send, tt))),
+              (search (crosses, sendable) depth 20, (search sendable, (gates.the_send, (spent.the_field_send, tt)))),
             ),
           ),
         ),
@@ -42,7 +43,7 @@ node-sync =
             kept.the_sync,
             (
               history.the_sync,
-              (search (crosses, sendable) depth 20, (search sendable, (gates.the_sync, tt))),
+              (search (crosses, sendable) depth 20, (search sendable, (gates.the_sync, (spent.the_field_sync, tt)))),
             ),
           ),
         ),

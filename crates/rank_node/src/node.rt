@@ -19,7 +19,7 @@ use crate::history::History;
 use crate::install::{counter_of, make_calls};
 use crate::kept::Kept;
 use crate::start::{raise_go, start_cells};
-use portals_ni::Nic;
+use portals_ni::{Nic, Spent};
 use ptl_types::{Bytes, Count, Lane, LocalStep, Message, NoMemory, Rank};
 use std::alloc::Global;
 use std::marker::Model;
@@ -40,6 +40,8 @@ pub struct Node {
     buffer: Vec<u8>,
     strays: u32,
     gates: Gates,
+    // The rooms of the messages that it received.
+    spent: Spent,
 }
 
 impl Model for Node {
@@ -65,6 +67,7 @@ impl Drop for Node {
             buffer: _,
             strays: _,
             gates: _,
+            spent: _,
         } = self;
     }
 }
@@ -118,6 +121,7 @@ impl Node {
         let history = diary(alloc, &compiled, nic.pending(), strays)?;
         let buffer = Vec::with_capacity(alloc, compiled.longest as usize)?;
         let gates = Gates::all_open(alloc, compiled.ranks)?;
+        let spent = Spent::with_places(alloc, compiled.receipts)?;
         Ok(Node {
             compiled,
             began,
@@ -127,6 +131,7 @@ impl Node {
             buffer,
             strays,
             gates,
+            spent,
         })
     }
 
@@ -227,7 +232,7 @@ impl Node {
         ensures step { self.new ≡ received_node source lane message self.old }
     {
         self.history.note_receipt(source, lane, &message);
-        self.nic.deliver(message).answer
+        self.nic.deliver_keeping(message, &mut self.spent).answer
     }
 
     /// Starts the rank: what came early is brought into its cells, their entries are appended, and the host raises the counting

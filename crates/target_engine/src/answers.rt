@@ -6,6 +6,7 @@ ghost use Rattle.ptl_types.specs.Kinds.{is_no_ack};
 ghost use Rattle.ni_model.specs.Arrive.{ack_header, reply_header, answer, refused};
 
 use crate::measures::is_put_or_atomic;
+use crate::spent::Spent;
 use ni_model::Arrived;
 use ptl_types::{AckRequest, Bytes, Header, Message, MessageKind, Outcome};
 
@@ -46,13 +47,22 @@ fn reply_header(ok: bool, count: u64, header: &Header) -> Header
     }
 }
 
-/// The acknowledgement, where one was asked for. It has no bytes.
-pub fn acknowledge(ok: bool, count: u64, header: &Header, mut bytes: Bytes) -> Option<Message>
+/// The acknowledgement, where one was asked for. It has no bytes. Else the message's room is spent.
+pub fn acknowledge(
+    ok: bool,
+    count: u64,
+    header: &Header,
+    mut bytes: Bytes,
+    spent: &mut Spent,
+) -> Option<Message>
     ensures { result ≡ (if is_no_ack header.now.ack then None else Some (message (ack_header ok count header.now) [])) }
 {
     bytes.clear();
     match header.ack {
-        AckRequest::NoAck => None,
+        AckRequest::NoAck => {
+            spent.keep(bytes);
+            None
+        }
         _ => Some(Message::new(ack_header(ok, count, header), bytes)),
     }
 }
@@ -66,24 +76,24 @@ pub fn reply(header: &Header, count: u64, bytes: Bytes) -> Message
 }
 
 /// The answer, not ok, to a message that wasn't delivered, where it asked for one.
-fn refusal(message: Message) -> Option<Message>
+fn refusal(message: Message, spent: &mut Spent) -> Option<Message>
     ensures { result ≡ answer false 0 [] message.header }
 {
     let (header, mut bytes) = message.into_parts();
     if is_put_or_atomic(header.kind) {
-        return acknowledge(false, 0, &header, bytes);
+        return acknowledge(false, 0, &header, bytes, spent);
     }
     bytes.clear();
     Some(Message::new(reply_header(false, 0, &header), bytes))
 }
 
 /// A message that wasn't delivered.
-pub fn refused(outcome: Outcome, message: Message) -> Arrived
+pub fn refused(outcome: Outcome, message: Message, spent: &mut Spent) -> Arrived
     ensures { result ≡ refused outcome message.header }
 {
     Arrived {
         outcome,
-        answer: refusal(message),
+        answer: refusal(message, spent),
         counted: None,
     }
 }

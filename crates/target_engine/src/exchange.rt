@@ -10,6 +10,7 @@ ghost use Rattle.ni_model.specs.Conditions.{IsPartIn};
 
 use crate::answers::{acknowledge, reply};
 use crate::measures::{delivered, is_put_or_atomic, place};
+use crate::spent::Spent;
 use crate::swap::swap_element;
 use lane_ops::combine;
 use memory_desc::Region;
@@ -108,7 +109,12 @@ fn exchange_part(region: &mut Region, linked: &Linked, header: &Header, bytes: B
 }
 
 /// An atomic, a fetch-atomic or a swap: the region's elements become new ones, and the old ones are answered where asked.
-fn exchange_elements(region: &mut Region, linked: &Linked, message: Message) -> Option<Message>
+fn exchange_elements(
+    region: &mut Region,
+    linked: &Linked,
+    message: Message,
+    spent: &mut Spent,
+) -> Option<Message>
     requires part { IsPartIn (length region.old) linked.now }
     requires elements { has_elements message.header.kind ≡ true }
     ensures memory { region.new ≡ memory_after linked.now message region.old }
@@ -119,14 +125,19 @@ fn exchange_elements(region: &mut Region, linked: &Linked, message: Message) -> 
     let items = exchange_part(region, linked, &header, bytes);
     let bytes = Bytes::from_vec(items);
     if is_put_or_atomic(header.kind) {
-        acknowledge(true, count, &header, bytes)
+        acknowledge(true, count, &header, bytes, spent)
     } else {
         Some(reply(&header, count, bytes))
     }
 }
 
 /// Writes what comes, and answers with what stood there.
-pub fn exchange(region: &mut Region, linked: &Linked, message: Message) -> Option<Message>
+pub fn exchange(
+    region: &mut Region,
+    linked: &Linked,
+    message: Message,
+    spent: &mut Spent,
+) -> Option<Message>
     requires request { is_answer message.header.kind ≡ false }
     requires part { IsPartIn (length region.old) linked.now }
     ensures memory { region.new ≡ memory_after linked.now message region.old }
@@ -136,9 +147,9 @@ pub fn exchange(region: &mut Region, linked: &Linked, message: Message) -> Optio
         MessageKind::Put => {
             write_put(region, linked, &message);
             let (header, bytes) = message.into_parts();
-            acknowledge(true, delivered(linked, &header), &header, bytes)
+            acknowledge(true, delivered(linked, &header), &header, bytes, spent)
         }
         MessageKind::Get => Some(read_get(region, linked, message)),
-        _ => exchange_elements(region, linked, message),
+        _ => exchange_elements(region, linked, message, spent),
     }
 }

@@ -11,9 +11,11 @@ mod exchange;
 mod gone;
 mod index;
 mod measures;
+mod spent;
 mod swap;
 mod takes;
 mod target;
 mod unlinks;
 
+pub use spent::Spent;
 pub use target::Target;

@@ -18,6 +18,7 @@ use crate::events::raise_events;
 use crate::exchange::exchange;
 use crate::index::{Index, chosen_in, queue_at, settle_at};
 use crate::measures::{delivered, place};
+use crate::spent::Spent;
 use counters::Counter;
 use event_delivery::{count, successes};
 use event_queues::Queue;
@@ -188,7 +189,7 @@ impl Target {
     }
 
     /// What a request does here, but for the two registers: its outcome, its answer, and the counting event that rose. The
-    /// answer uses the message's own bytes, so that nothing takes memory.
+    /// answer uses the message's own bytes, so that nothing takes memory. Where there is no answer the message's room is spent.
     #[tactic(auto, unfolding(ni_model::specs::Arrive::request))]
     pub fn request(
         &mut self,
@@ -196,6 +197,7 @@ impl Target {
         cts: &mut Store<Counter>,
         eqs: &mut Store<Queue>,
         message: Message,
+        spent: &mut Spent,
     ) -> Arrived
         requires request { is_answer message.header.kind ≡ false }
         requires inside { All (HasPartsIn (length region.old)) self.old.indices }
@@ -204,15 +206,15 @@ impl Target {
         let header = *message.header();
         let found = match chosen_in(&self.indices, &header) {
             Some(found) => found,
-            None => return refused(Outcome::Dropped, message),
+            None => return refused(Outcome::Dropped, message, spent),
         };
         if !allows(&found.linked.entry, header.kind) {
-            return refused(Outcome::Violation, message);
+            return refused(Outcome::Violation, message, spent);
         }
         if is_overflow(found.list) && self.headers.is_full() {
-            return refused(Outcome::Dropped, message);
+            return refused(Outcome::Dropped, message, spent);
         }
-        self.accept(region, cts, eqs, message, &found)
+        self.accept(region, cts, eqs, message, &found, spent)
     }
 
     /// A message in the overflow list leaves its header.
@@ -243,6 +245,7 @@ impl Target {
         eqs: &mut Store<Queue>,
         message: Message,
         found: &Found,
+        spent: &mut Spent,
     ) -> Arrived
         requires request { is_answer message.header.kind ≡ false }
         requires part { IsPartIn (length region.old) found.now.linked }
@@ -255,7 +258,7 @@ impl Target {
         let _size = region.len();
         let header = *message.header();
         let eq = queue_at(&self.indices, header.pt);
-        let answer = exchange(region, &found.linked, message);
+        let answer = exchange(region, &found.linked, message, spent);
         count_message(cts, &found.linked);
         self.note(found, &header);
         self.settle(found, &header);
