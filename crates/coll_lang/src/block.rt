@@ -16,8 +16,8 @@ use coll_shape::InputList;
 use coll_text::cut;
 use ptl_types::ElemType;
 use std::alloc::{AllocError, Global};
-use std::thread;
 use std::thread::Threads;
+use work_sharing::map_indices;
 
 /// Lines of fewer bytes aren't shared among threads.
 const FEW: usize = 65_536;
@@ -54,35 +54,7 @@ fn data_said(alloc: Global, ty: ElemType, count: u32, line: &[u8]) -> Result<Inp
     values_of(alloc, ty, count, line)
 }
 
-/// Reads each line at its place, by as many threads.
-fn fill_places<R: Threads + Sync>(
-    rt: &R,
-    alloc: Global,
-    threads: u32,
-    ty: ElemType,
-    count: u32,
-    lines: &[&[u8]],
-    places: &mut [Option<Result<InputList, LineFault>>],
-)
-    requires threads { 0 < threads }
-    requires count { length places.old ≡ length lines.now }
-    ensures count { length places.new ≡ length places.old }
-    ensures said { AreSaid ty count lines.now places.new }
-{
-    thread::for_each_mut(
-        rt,
-        places,
-        threads as usize,
-        &|i: usize, place: &mut Option<Result<InputList, LineFault>>|
-            requires { i < length lines.now }
-            ensures { (d : _) → IfSome place.exit.now (λ x. Gives (λ list. list) x (data_said ty count (slice_index_or lines.entry.now i d).now)) }
-        {
-            *place = Some(data_said(alloc, ty, count, lines[i]));
-        },
-    );
-}
-
-/// What each of the lines says, read by as many threads.
+/// What each of the lines says, read by as many threads, of which each takes the next line that none has taken.
 fn all_said<R: Threads + Sync>(
     rt: &R,
     alloc: Global,
@@ -95,10 +67,16 @@ fn all_said<R: Threads + Sync>(
     ensures count { IfOk result (λ v. length v.items ≡ length lines.now) }
     ensures said { IfOk result (λ v. AreSaid ty count lines.now v.items) }
 {
-    let mut places = Vec::new(alloc);
-    places.resize_with(lines.len(), || None)?;
-    fill_places(rt, alloc, threads, ty, count, lines, &mut places);
-    Ok(places)
+    map_indices(
+        rt,
+        alloc,
+        threads as usize,
+        lines.len(),
+        &|i: usize|
+            requires { i < length lines.now }
+            ensures { (e : _) → IfSome result (λ x. Gives (λ list. list) x (data_said ty count (slice_index_or lines.entry.now i e).now)) }
+        { Some(data_said(alloc, ty, count, lines[i])) },
+    )
 }
 
 /// Takes a data line. What it says may have been read before.

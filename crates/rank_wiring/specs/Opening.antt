@@ -1,5 +1,5 @@
 -- What an opening makes: the slots of a job whose ranks made no step, and their wires.
-use Rattle.std.specs.Prelude.{ℕ, suc, false, ◌≡◌, ◌<◌, List, [], ◌∷◌, All, Option, IfSome, length, map, replicate}
+use Rattle.std.specs.Prelude.{ℕ, suc, false, ◌+◌, ◌≡◌, ◌<◌, List, [], ◌∷◌, Option, IfSome, length, map, replicate, slice_index_or}
 use mathlib.Core.List.{IsPrefix}
 use mathlib.Core.Option.{some}
 use lib.ListN.{get_elem?}
@@ -86,17 +86,9 @@ pub record IsFanned (job : JobOf) (r : ℕ) (x : Slot) (load : Load) : Type 0 wh
   pub lines : AreLines (length (lanes_before (plan_of job.shape) r)) load.lines.items
   pub bounds_are : bounds_of (wires_in load.lines.items) ≡ lanes_from (plan_of job.shape) r
 
--- what was made for a rank, which it names
-abbrev pub IsBerth : JobOf → Berth → Type 0
-IsBerth job b = IsFanned job b.rank b.slot b.load
-
--- so was each of these
-abbrev pub AreMade : JobOf → List Berth → Type 0
-AreMade job list = All (IsBerth job) list
-
--- so was what lies at each of these places, some of which may be empty
-abbrev pub AreBerths : JobOf → List (Option Berth) → Type 0
-AreBerths job places = All (λ o. IfSome o (IsBerth job)) places
+-- what lies at each of these places, some of which may be empty, was made for the rank of that place, counted from k on
+abbrev pub AreBerths : JobOf → ℕ → List (Option Berth) → Type 0
+AreBerths job k places = (i : ℕ) (d : Option Berth) → i < length places → IfSome (slice_index_or places i d) (λ (b : Berth). IsFanned job (k + i) b.slot b.load)
 
 -- the slots and the wires of all ranks, in their order
 abbrev pub AllFanned : JobOf → List Slot → List Load → Type 0

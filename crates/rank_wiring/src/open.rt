@@ -1,12 +1,12 @@
 //! How the ranks of a job and their wires are made.
 
-ghost use Rattle.std.specs.Prelude.{◌≡◌, ◌<◌, ◌++◌, ◌∷◌, [], All, IfOk, IfSome, length, map};
+ghost use Rattle.std.specs.Prelude.{◌≡◌, ◌<◌, ◌++◌, ◌∷◌, [], IfOk, IfSome, length, map};
 ghost use Rattle.pair_wires.specs.declared.bounds.Bounds.{Bounds};
 ghost use Rattle.shape_plans.specs.Drawing.{plan_of};
 ghost use Rattle.rank_slots.specs.Joints.{joint, out_joint};
 ghost use Rattle.rank_wiring.specs.Fans.{AreFans, IsFan};
 ghost use Rattle.rank_slots.specs.Lanes.{IsLane};
-ghost use Rattle.rank_wiring.specs.Opening.{AllFanned, AreBerths, AreFirst, AreLines, AreMade, AreWired, HasNoOut, IsBare, IsBerth, IsFanned};
+ghost use Rattle.rank_wiring.specs.Opening.{AllFanned, AreBerths, AreFirst, AreLines, AreWired, HasNoOut, IsBare, IsFanned};
 ghost use Rattle.rank_wiring.specs.Opening.{IsFresh, IsHanded, IsLine, SameOuts, wires_in};
 ghost use Rattle.rank_slots.specs.Moves.{Slotwise};
 ghost use Rattle.rank_slots.specs.Sound.{IsSound};
@@ -19,14 +19,13 @@ use rank_slots::{Hints, InPort, OutPort, Slot, put_in, sound};
 use rank_tasks::install;
 use schedule_compiler::Job;
 use std::alloc::Global;
-use std::sync::atomic::{AtomicU64, Ordering};
-use std::thread;
 use std::thread::Threads;
+use work_sharing::map_indices;
 
 /// How many messages the queue of a wire holds; one more may wait at its out end.
 const WIRE_ROOM: u32 = 3;
 
-/// A thread that makes ranks reaches ahead for their memory each time it has made so many.
+/// A thread that makes ranks reaches ahead for the memory of about so many of them.
 const RANKS_AHEAD: usize = 8;
 
 // A wire with its in end, which is for the rank that it leads to.
@@ -45,7 +44,6 @@ struct Load {
 // What the thread of a rank makes for it: its slot, with the out ends of its wires, and the wires.
 #[derive(Drop)]
 struct Berth {
-    rank: Rank,
     slot: Slot,
     load: Load,
 }
@@ -130,162 +128,83 @@ fn lay_fan(
 fn make_berth(alloc: Global, job: &Job, rank: Rank, fan: &FanOut) -> Result<Berth, NoMemory>
     requires rank { rank < job.now.shape.ranks }
     requires fan { IsFan (plan_of job.now.shape) rank fan.now }
-    ensures { IfOk result (λ b. IsBerth job.now b) }
+    ensures { IfOk result (λ b. IsFanned job.now rank b.slot b.load) }
 {
     sound(job);
     let mut slot = bare_slot(alloc, job, rank, fan.lanes.len())?;
     let load = lay_fan(alloc, job, rank, fan, &mut slot)?;
-    Ok(Berth { rank, slot, load })
+    Ok(Berth { slot, load })
 }
 
-// What is made for a rank. There is nothing where there is no such rank, or no memory for it.
-fn berth_of(alloc: Global, job: &Job, fans: &[FanOut], rank: u64) -> Option<Berth>
+// What is made for a rank, by one of so many threads. There is nothing where there was no memory for it.
+fn berth_of(
+    alloc: Global,
+    job: &Job,
+    fans: &[FanOut],
+    threads: usize,
+    rank: usize,
+) -> Option<Berth>
+    requires some { 0 < threads }
     requires count { length fans.now ≡ job.now.shape.ranks }
     requires fans { AreFans (plan_of job.now.shape) fans.now }
-    ensures { IfSome result (λ b. IsBerth job.now b) }
+    requires rank { rank < length fans.now }
+    ensures { IfSome result (λ b. IsFanned job.now rank b.slot b.load) }
 {
-    if rank >= u64::from(job.schedule().shape().ranks()) {
-        return None;
+    // Of threads that take turns each has one such rank of so many of its own.
+    if rank / threads % RANKS_AHEAD == 0 {
+        reach_ahead(alloc);
     }
-    match make_berth(alloc, job, rank as Rank, &fans[rank as usize]) {
+    match make_berth(alloc, job, rank as Rank, &fans[rank]) {
         Ok(berth) => Some(berth),
         Err(_) => None,
     }
 }
 
-// The ranks that one thread makes: each the next one that none has begun, since one may have more to do than another, or be held up. It
-// ends where there is none left, or no memory for one.
-fn make_some(alloc: Global, job: &Job, fans: &[FanOut], next: &AtomicU64) -> Vec<Berth>
-    requires count { length fans.now ≡ job.now.shape.ranks }
-    requires fans { AreFans (plan_of job.now.shape) fans.now }
-    ensures { AreMade job.now result.items }
-{
-    let mut list = Vec::new(alloc);
-    for made in 0..fans.len() {
-        if made % RANKS_AHEAD == 0 {
-            reach_ahead(alloc);
-        }
-        let Some(berth) = berth_of(alloc, job, fans, next.fetch_add(1, Ordering::SeqCst)) else {
-            return list;
-        };
-        let Ok(()) = list.push(berth) else {
-            return list;
-        };
-    }
-    list
-}
-
-// Makes the ranks, by a thread for each list, which becomes what that thread made.
-fn fill_lists<R: Threads + Sync>(
+// All ranks, made by so many threads, of which each takes the next rank that none has taken.
+fn make_berths<R: Threads + Sync>(
     rt: &R,
     alloc: Global,
     job: &Job,
     fans: &[FanOut],
-    lists: &mut [Vec<Berth>],
-)
-    requires some { 0 < length lists.old }
+    threads: usize,
+) -> Result<Vec<Option<Berth>>, NoMemory>
+    requires some { 0 < threads }
     requires count { length fans.now ≡ job.now.shape.ranks }
     requires fans { AreFans (plan_of job.now.shape) fans.now }
-    ensures { All (λ l. AreMade job.now l.items) lists.new }
+    ensures count { IfOk result (λ v. length v.items ≡ job.now.shape.ranks) }
+    ensures berths { IfOk result (λ v. AreBerths job.now 0 v.items) }
 {
-    let next = &AtomicU64::new(0);
-    let threads = lists.len();
-    thread::for_each_mut(
+    let places = map_indices(
         rt,
-        lists,
+        alloc,
         threads,
-        &|_, list: &mut Vec<Berth>|
-            requires { (length fans.now ≡ job.now.shape.ranks) × AreFans (plan_of job.now.shape) fans.now }
-            ensures { AreMade job.entry.now list.exit.now.items }
-        {
-            *list = make_some(alloc, job, fans, next);
-        },
-    );
-}
-
-// Each rank that one thread made goes to its place.
-fn place_list(job: &Job, list: Vec<Berth>, places: &mut Vec<Option<Berth>>)
-    requires list { AreMade job.now list.items }
-    requires places { AreBerths job.now places.old.items }
-    ensures { AreBerths job.now places.new.items }
-{
-    for berth in list {
-        let rank = berth.rank as usize;
-        if rank < places.len() {
-            places[rank] = Some(berth);
-        }
-    }
-}
-
-// A place for each rank, at which nothing lies.
-fn no_places(alloc: Global, job: &Job) -> Result<Vec<Option<Berth>>, NoMemory>
-    ensures { IfOk result (λ v. AreBerths job.now v.items) }
-{
-    let mut places = Vec::new(alloc);
-    for _ in 0..job.schedule().shape().ranks() {
-        places.push(None)?;
-    }
+        fans.len(),
+        &|rank: usize|
+            requires { (0 < threads) × (length fans.now ≡ job.now.shape.ranks) × AreFans (plan_of job.now.shape) fans.now × (rank < length fans.now) }
+            ensures { IfSome result (λ b. IsFanned job.entry.now rank b.slot b.load) }
+        { berth_of(alloc, job, fans, threads, rank) },
+    )?;
     Ok(places)
-}
-
-// All that was made, each at its rank's place.
-fn place_all(
-    alloc: Global,
-    job: &Job,
-    lists: Vec<Vec<Berth>>,
-) -> Result<Vec<Option<Berth>>, NoMemory>
-    requires { All (λ l. AreMade job.now l.items) lists.items }
-    ensures { IfOk result (λ v. AreBerths job.now v.items) }
-{
-    let mut places = no_places(alloc, job)?;
-    for list in lists {
-        place_list(job, list, &mut places);
-    }
-    Ok(places)
-}
-
-// What lies at a rank's place, if it was made for this rank.
-fn take_berth(job: &Job, places: &mut [Option<Berth>], rank: Rank) -> Option<Berth>
-    requires { AreBerths job.now places.old }
-    ensures left { AreBerths job.now places.new }
-    ensures taken { IfSome result (λ b. IsFanned job.now rank b.slot b.load) }
-{
-    let place = rank as usize;
-    if place >= places.len() {
-        return None;
-    }
-    let Some(berth) = places[place].take() else {
-        return None;
-    };
-    if berth.rank == rank {
-        Some(berth)
-    } else {
-        None
-    }
 }
 
 // All ranks in order, and their wires. Where one is missing there was no memory for it.
 fn in_order(
     alloc: Global,
     job: &Job,
-    places: &mut [Option<Berth>],
+    places: Vec<Option<Berth>>,
 ) -> Result<(Vec<Slot>, Vec<Load>), NoMemory>
-    requires { AreBerths job.now places.old }
-    ensures count { IfOk result (λ r. (length r.0.items ≡ job.now.shape.ranks) × (length r.1.items ≡ job.now.shape.ranks)) }
+    requires { AreBerths job.now 0 places.items }
+    ensures count { IfOk result (λ r. (length r.0.items ≡ length places.items) × (length r.1.items ≡ length places.items)) }
     ensures fanned { IfOk result (λ r. AllFanned job.now r.0.items r.1.items) }
 {
-    let ranks = job.schedule().shape().ranks();
-    let mut slots = Vec::with_capacity(alloc, ranks as usize)?;
-    let mut loads = Vec::with_capacity(alloc, ranks as usize)?;
-    for rank in 0..ranks {
-        let Some(berth) = take_berth(job, places, rank) else {
+    // What is made for a job is what the clauses speak of.
+    let _ = job;
+    let mut slots = Vec::with_capacity(alloc, places.len())?;
+    let mut loads = Vec::with_capacity(alloc, places.len())?;
+    for place in places {
+        let Some(Berth { slot, load }) = place else {
             return Err(NoMemory);
         };
-        let Berth {
-            rank: _,
-            slot,
-            load,
-        } = berth;
         slots.push(slot)?;
         loads.push(load)?;
     }
@@ -346,26 +265,6 @@ fn count(fans: &[FanOut]) -> usize {
     }
 }
 
-// All ranks and their wires, which a thread for each list makes.
-fn make_ranks<R: Threads + Sync>(
-    rt: &R,
-    alloc: Global,
-    job: &Job,
-    fans: &[FanOut],
-    lists: Vec<Vec<Berth>>,
-) -> Result<(Vec<Slot>, Vec<Load>), NoMemory>
-    requires some { 0 < length lists.items }
-    requires count { length fans.now ≡ job.now.shape.ranks }
-    requires fans { AreFans (plan_of job.now.shape) fans.now }
-    ensures count { IfOk result (λ r. (length r.0.items ≡ job.now.shape.ranks) × (length r.1.items ≡ job.now.shape.ranks)) }
-    ensures fanned { IfOk result (λ r. AllFanned job.now r.0.items r.1.items) }
-{
-    let mut lists = lists;
-    fill_lists(rt, alloc, job, fans, &mut lists);
-    let mut places = place_all(alloc, job, lists)?;
-    in_order(alloc, job, &mut places)
-}
-
 /// All ranks of a job in their order, in which nothing was done, and a wire for each lane that messages go on, from the lowest rank
 /// that one comes from to the highest. So many threads make them, one at least and no more than ranks; where one can't be started, the
 /// call does its part itself.
@@ -385,9 +284,8 @@ pub fn wired_slots<R: Threads + Sync>(
     let ranks = job.schedule().shape().ranks() as usize;
     let threads = (threads as usize).min(ranks).max(1);
     let fans = all_fans(alloc, job.schedule())?;
-    let mut lists = Vec::new(alloc);
-    lists.resize_with(threads, || Vec::new(alloc))?;
-    let (mut slots, loads) = make_ranks(rt, alloc, job, &fans, lists)?;
+    let places = make_berths(rt, alloc, job, &fans, threads)?;
+    let (mut slots, loads) = in_order(alloc, job, places)?;
     let wires = hand_all(alloc, job, count(&fans), loads, &mut slots)?;
     Ok((slots, wires))
 }

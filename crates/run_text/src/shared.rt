@@ -14,8 +14,8 @@ use coll_shape::Shape;
 use port_io::{Failed, IoTurns, MemorySink, Sink};
 use ptl_types::Rank;
 use std::alloc::Global;
-use std::thread;
 use std::thread::Threads;
+use work_sharing::map_indices;
 
 /// Lists that have fewer bytes together aren't shared among threads.
 const FEW: u64 = 65_536;
@@ -47,37 +47,6 @@ fn line_text<H: ResultLists>(
     Some(sink)
 }
 
-/// Makes the line of each rank at its place, by as many threads. Where there is no memory for one its place is empty.
-fn fill_places<R: Threads + Sync, H: ResultLists + Sync>(
-    rt: &R,
-    alloc: Global,
-    threads: u32,
-    shape: &Shape,
-    held: &H,
-    buffer: u32,
-    places: &mut [Option<MemorySink>],
-)
-    requires threads { 0 < threads }
-    requires count { length places.old ≡ shape.now.ranks }
-    requires few { length places.old < 2 ^ 32 }
-    requires buffer { buffer < length shape.now.buffers }
-    requires gives { (r : ℕ) → r < shape.now.ranks → H.can_give held.now buffer r }
-    ensures count { length places.new ≡ length places.old }
-    ensures made { (r : ℕ) (d : Option Tray) → r < shape.now.ranks → IfSome (slice_index_or places.new r d) (λ (s : Tray). s.taken ≡ line_at shape.now (H.lists held.now) buffer r) }
-{
-    thread::for_each_mut(
-        rt,
-        places,
-        threads as usize,
-        &|i: usize, place: &mut Option<MemorySink>|
-            requires { (i < 2 ^ 32) × (buffer < length shape.now.buffers) × H.can_give held.now buffer i }
-            ensures { IfSome place.exit.now (λ (s : Tray). s.taken ≡ line_at shape.entry.now (H.lists held.entry.now) buffer i) }
-        {
-            *place = line_text(alloc, shape, held, buffer, i as Rank);
-        },
-    );
-}
-
 /// Whether the lists of a buffer are too short to be shared among threads.
 fn is_short<H: ResultLists>(shape: &Shape, held: &H, buffer: u32) -> bool
     requires gives { (r : ℕ) → r < shape.now.ranks → H.can_give held.now buffer r }
@@ -89,7 +58,8 @@ fn is_short<H: ResultLists>(shape: &Shape, held: &H, buffer: u32) -> bool
     bytes < FEW
 }
 
-/// The lines of a buffer as texts, made by as many threads. There are none where that isn't worth it, or where there is no memory.
+/// The lines of a buffer as texts, made by as many threads, of which each takes the next line that none has taken. There are none where that
+/// isn't worth it, and where there is no memory for one its place is empty.
 fn line_texts<R: Threads + Sync, H: ResultLists + Sync>(
     rt: &R,
     alloc: Global,
@@ -103,15 +73,21 @@ fn line_texts<R: Threads + Sync, H: ResultLists + Sync>(
     requires gives { (r : ℕ) → r < shape.now.ranks → H.can_give held.now buffer r }
     ensures { AreMade shape.now (H.lists held.now) buffer result.items }
 {
-    let mut places = Vec::new(alloc);
     if threads == 1 || is_short(shape, held, buffer) {
-        return places;
+        return Vec::new(alloc);
     }
-    match places.resize_with(shape.ranks() as usize, || None) {
-        Ok(()) => {
-            fill_places(rt, alloc, threads, shape, held, buffer, &mut places);
-            places
-        }
+    let made = map_indices(
+        rt,
+        alloc,
+        threads as usize,
+        shape.ranks() as usize,
+        &|i: usize|
+            requires { (i < 2 ^ 32) × (buffer < length shape.now.buffers) × H.can_give held.now buffer i }
+            ensures { IfSome result (λ (s : Tray). s.taken ≡ line_at shape.entry.now (H.lists held.entry.now) buffer i) }
+        { line_text(alloc, shape, held, buffer, i as Rank) },
+    );
+    match made {
+        Ok(texts) => texts,
         Err(_) => Vec::new(alloc),
     }
 }
