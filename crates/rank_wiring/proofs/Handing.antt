@@ -1,6 +1,7 @@
 -- Wires whose ends come to the slots of their ranks.
 use Rattle.std.proofs.Common.{ℕ, suc, ◌<◌, ◌≡◌, ◌==◌, ◌∙◌, ⊎_elim, List, [], ◌∷◌, ◌++◌, length, map, take, sym, refl, ap, ap₂, subst}
-use Rattle.std.proofs.Common.{arith, append_assoc, eq-eqb, length-append}
+use Rattle.std.proofs.Common.{add-zero, arith, append_assoc, eq-eqb, length-append}
+use Rattle.std.specs.Prelude.{IfSome, Option, slice_index_or}
 use Rattle.std.proofs.lemmas.Bool.{cases_eq, ne_eqb}
 use Rattle.std.proofs.lemmas.List.{map-append}
 use mathlib.Core.List.{IsPrefix}
@@ -15,6 +16,7 @@ use Rattle.shape_plans.specs.Drawing.{plan_of}
 use Rattle.schedule_compiler.specs.Jobs.{JobOf}
 use Rattle.rank_node.specs.Node.{NodeState}
 use Rattle.rank_node.specs.Plans.{IsCompiledFor}
+use Rattle.rank_wiring.specs.declared.open.Berth.{Berth}
 use Rattle.rank_wiring.specs.declared.open.Line.{Line}
 use Rattle.rank_wiring.specs.declared.open.Load.{Load}
 use Rattle.rank_slots.specs.declared.ports.InPort.{InPort}
@@ -22,7 +24,7 @@ use Rattle.rank_slots.specs.declared.ports.OutPort.{OutPort}
 use Rattle.rank_slots.specs.declared.slot.Slot.{Slot}
 use Rattle.rank_slots.specs.Joints.{Fits, Joint, in_joint, out_joint}
 use Rattle.rank_slots.specs.Lanes.{AreLanes, IsLane, lanes_before, lanes_from}
-use Rattle.rank_wiring.specs.Opening.{AllFanned, AllFresh, AllIn, AreFirst, AreLines, HasNoIn, HasNoOut, IsFanned, IsFresh, IsHanded}
+use Rattle.rank_wiring.specs.Opening.{AllFanned, AllFresh, AllIn, AreBerths, AreFirst, AreLines, HasNoIn, HasNoOut, IsFanned, IsFresh, IsHanded}
 use Rattle.rank_wiring.specs.Opening.{IsLine, SameOuts, wires_in}
 use Rattle.rank_slots.specs.Moves.{GainsIn, MayGainIn, SameNode, Slotwise}
 use Rattle.rank_slots.specs.Sound.{IsSound}
@@ -110,6 +112,15 @@ fanned-more job r slots loads x load n m all is q y other ey em = ⊎_elim
     (λ i. ((sym (nx.0 ∙ n) i, nx.1 i), ny.1 i)) is)
     (snoc_at loads load q other em))
     (snoc_at slots x q y ey)
+
+-- the first of these places, and the others
+pub berths-head : (job : JobOf) (k : ℕ) (x : Option Berth) (rest : List (Option Berth)) → AreBerths job k (x ∷ rest)
+    → IfSome x (λ (b : Berth). IsFanned job k b.slot b.load)
+berths-head job k x rest all = subst (λ n. IfSome x (λ (b : Berth). IsFanned job n b.slot b.load)) (add-zero k) (all 0 x (omega arith))
+
+pub berths-tail : (job : JobOf) (k : ℕ) (x : Option Berth) (rest : List (Option Berth)) → AreBerths job k (x ∷ rest) → AreBerths job (suc k) rest
+berths-tail job k x rest all i d low = subst (λ n. IfSome (slice_index_or rest i d) (λ (b : Berth). IsFanned job n b.slot b.load)) (omega arith)
+    (all (suc i) d (omega (arith, low)))
 
 -- ---- in ends come
 pub in-more : (wires : List WireState) (w : WireState) (into : InPort) (old new : List Slot) → into.wire ≡ length wires → IsInOf w into.end

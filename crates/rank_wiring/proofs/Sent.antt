@@ -8,4 +8,4 @@ use Rattle.rank_slots.proofs.Sent.{slot-field-send}
 pub berth-send : IsSend berth.the_row
 berth-send =
     recorded_send berth.the_field.row _ _ berth.the_type.to_one
-    (struct_send (shape berth.the_type) (search sendable, (slot-field-send, (load.the_field_send, tt))))
+    (struct_send (shape berth.the_type) (slot-field-send, (load.the_field_send, tt)))

@@ -1,6 +1,6 @@
 //! How the ranks of a job and their wires are made.
 
-ghost use Rattle.std.specs.Prelude.{◌≡◌, ◌<◌, ◌++◌, ◌∷◌, [], IfOk, IfSome, length, map};
+ghost use Rattle.std.specs.Prelude.{◌≡◌, ◌<◌, ◌^◌, ◌++◌, ◌∷◌, [], IfOk, IfSome, length, map};
 ghost use Rattle.pair_wires.specs.declared.bounds.Bounds.{Bounds};
 ghost use Rattle.shape_plans.specs.Drawing.{plan_of};
 ghost use Rattle.rank_slots.specs.Joints.{joint, out_joint};
@@ -146,6 +146,7 @@ fn berth_of(
 ) -> Option<Berth>
     requires some { 0 < threads }
     requires count { length fans.now ≡ job.now.shape.ranks }
+    requires few { length fans.now < 2 ^ 32 }
     requires fans { AreFans (plan_of job.now.shape) fans.now }
     requires rank { rank < length fans.now }
     ensures { IfSome result (λ b. IsFanned job.now rank b.slot b.load) }
@@ -170,6 +171,7 @@ fn make_berths<R: Threads + Sync>(
 ) -> Result<Vec<Option<Berth>>, NoMemory>
     requires some { 0 < threads }
     requires count { length fans.now ≡ job.now.shape.ranks }
+    requires few { length fans.now < 2 ^ 32 }
     requires fans { AreFans (plan_of job.now.shape) fans.now }
     ensures count { IfOk result (λ v. length v.items ≡ job.now.shape.ranks) }
     ensures berths { IfOk result (λ v. AreBerths job.now 0 v.items) }
@@ -180,7 +182,7 @@ fn make_berths<R: Threads + Sync>(
         threads,
         fans.len(),
         &|rank: usize|
-            requires { (0 < threads) × (length fans.now ≡ job.now.shape.ranks) × AreFans (plan_of job.now.shape) fans.now × (rank < length fans.now) }
+            requires { (0 < threads) × (length fans.now < 2 ^ 32) × (length fans.now ≡ job.now.shape.ranks) × AreFans (plan_of job.now.shape) fans.now × (rank < length fans.now) }
             ensures { IfSome result (λ b. IsFanned job.entry.now rank b.slot b.load) }
         { berth_of(alloc, job, fans, threads, rank) },
     )?;

@@ -1,7 +1,8 @@
--- A value put at its place.
+-- Values at the places of their indices.
 use Rattle.std.proofs.Common.{ℕ, ◌≡◌, ◌<◌, ◌⊎◌, List, length, refl, sym, subst, inl, inr}
 use Rattle.std.specs.Prelude.{All, Option, None, Some, IfSome, slice_index_or, slice_set}
 use Rattle.std.proofs.lemmas.Bool.{cases_eq}
+use Rattle.std.proofs.lemmas.Option.{IfSome_then}
 use Rattle.std.proofs.lemmas.List.{get_or-set_same, get_or-set_other, length-set}
 use denote.Param.Members.{Shared}
 use Rattle.work_sharing.specs.Sharing.{AreShared, Gives}
@@ -19,3 +20,8 @@ module _ {F X : Type 0} (g : Shared F (ℕ × Unit {0}) (Option X)) (f : F) wher
     where
       low' : j < length ys
       low' = subst (λ n. j < n) (length-set ys i (Some x)) low
+
+  -- for a caller: what holds of all that a call may give holds of what lies there
+  pub shared-each : (P : ℕ → X → Type 0) → ((i : ℕ) (x : X) → g.post f (i, tt) (Some x) → P i x) → (ys : List (Option X)) → AreShared g f ys
+      → (i : ℕ) (d : Option X) → i < length ys → IfSome (slice_index_or ys i d) (P i)
+  shared-each P says ys all i d low = IfSome_then (slice_index_or ys i d) {P = Gives g f i} {Q = P i} (all i d low) (λ x given. says i x given.met)

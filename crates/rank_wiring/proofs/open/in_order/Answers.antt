@@ -1,0 +1,32 @@
+use Rattle.std.proofs.Common.{◌≡◌, ◌+◌, ◌∷◌, ◌++◌, [], ◌∙◌, List, ap, arith, length, length-append, refl, subst, sym}
+use Rattle.std.specs.Prelude.{IfSome}
+use Rattle.std.specs.Vec.Iter.{into_iter_items}
+use Rattle.rank_wiring.specs.declared.open.Berth.{Berth}
+use Rattle.rank_wiring.specs.declared.open.Load.{Load}
+use Rattle.rank_slots.specs.declared.slot.Slot.{Slot}
+use Rattle.rank_wiring.specs.Opening.{AllFanned, AreBerths, IsFanned}
+use Rattle.rank_wiring.proofs.Handing.{berths-head, berths-tail, fanned-more}
+use Rattle.rank_wiring.proofs.open.in_order.Goals as goal
+
+pub loop-place-preserved : goal.loop-place-preserved
+loop-place-preserved c =
+    let i = c.loop-place.invariant in let job = c.args.job.now in let slots = c.loop-place.slots.items in
+    let loads = c.loop-place.loads.items in let slot = c.in-Some-place.field-0.slot in let load = c.in-Some-place.field-0.load in
+    let p = c.in_ok-push.ensures.items in let q = c.in_ok-push-2.ensures.items in
+    let rest = into_iter_items c.next.new.self in let step = c.in-Some.ensures.steps.0 in
+    let all = subst (AreBerths job (length slots)) step i.places in
+    let made : IsFanned job (length slots) slot load =
+    subst (λ o. IfSome o (λ (b : Berth). IsFanned job (length slots) b.slot b.load)) c.in-Some-place.is
+    (berths-head job (length slots) c.in-Some.place rest all) in
+    let more : length (slots ++ slot ∷ []) ≡ length slots + 1 = length-append slots (slot ∷ []) in
+    let long = length-append loads (load ∷ []) in record {
+      len = (let gone = c.in-Some.ensures.steps.1 in let was = i.len in let short = ap (λ m. length m) step in omega (arith, gone, was, short));
+      slots = (let a = ap (λ (l : List Slot). length l) p in let short = ap (λ m. length m) step in let k = i.slots in omega (arith, a, more, short, k));
+      loads = (let a = ap (λ (l : List Slot). length l) p in let b = ap (λ (l : List Load). length l) q in let k = i.loads in
+          omega (arith, a, b, more, long, k));
+      fanned = subst (λ (l : List Slot). AllFanned job l c.push-in-loop-place.new.self.items) (sym p)
+          (subst (AllFanned job (slots ++ slot ∷ [])) (sym q)
+          (fanned-more job (length slots) slots loads slot load refl i.loads i.fanned made));
+      places = subst (λ n. AreBerths job n rest) (let a = ap (λ (l : List Slot). length l) p in omega (arith, a, more))
+          (berths-tail job (length slots) c.in-Some.place rest all);
+    }
