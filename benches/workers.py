@@ -6,7 +6,6 @@ library asks the kernel for large pages, and for 16 MB at a time, in all forms a
 
 import os
 import statistics
-import subprocess
 import sys
 import tempfile
 import time
@@ -18,11 +17,23 @@ LARGE_PAGES = "glibc.malloc.hugetlb=1:glibc.malloc.top_pad=16777216"
 
 
 def clock(words, text, environment):
-    """The seconds of one run by the clock."""
+    """The seconds of one run by the clock, from before the process is made until its end is known."""
     with open(text, "rb") as source, open(os.devnull, "wb") as sink:
+        ends = [(os.POSIX_SPAWN_DUP2, source.fileno(), 0), (os.POSIX_SPAWN_DUP2, sink.fileno(), 1)]
         started = time.monotonic()
-        subprocess.run(words, stdin=source, stdout=sink, env=environment, check=True)
-        return time.monotonic() - started
+        child = os.posix_spawn(PROGRAM, [PROGRAM, *words], environment, file_actions=ends)
+        _, status = os.waitpid(child, 0)
+        took = time.monotonic() - started
+    if status != 0:
+        sys.exit(f"{PROGRAM} {' '.join(words)}: status {status}")
+    return took
+
+
+def ratio(took, above, below):
+    """How often the first form took the time of the second: of the least times, and of the medians."""
+    least = min(took[above]) / min(took[below])
+    median = statistics.median(took[above]) / statistics.median(took[below])
+    return f"{above} / {below} {least:.2f} {median:.2f}"
 
 
 def cases():
@@ -44,7 +55,7 @@ def main():
     environment = dict(os.environ)
     if "huge" in sys.argv[2:]:
         environment["GLIBC_TUNABLES"] = LARGE_PAGES
-    print(f"{os.cpu_count()} processors; milliseconds, least and median of {runs}")
+    print(f"{os.cpu_count()} processors; milliseconds, least and median of {runs}; ratios of the least and of the medians")
     with tempfile.TemporaryDirectory() as folder:
         text = f"{folder}/text.coll"
         for name, description, is_large in cases():
@@ -53,13 +64,12 @@ def main():
             took = {form: [] for form in forms(is_large)}
             for _ in range(runs):
                 for form, words in forms(is_large).items():
-                    took[form].append(clock([PROGRAM, *words], text, environment) * 1000)
-            least = {form: min(times) for form, times in took.items()}
+                    took[form].append(clock(words, text, environment) * 1000)
             row = "  ".join(f"{form} {min(times):.1f} {statistics.median(times):.1f}" for form, times in took.items())
-            ratio = f"run 1 / run 4 {least['run 1'] / least['run 4']:.2f}"
-            if "once" in least:
-                ratio += f", run 1 / once {least['run 1'] / least['once']:.2f}"
-            print(f"{name:20} {row}  {ratio}")
+            ratios = ratio(took, "run 1", "run 4")
+            if "once" in took:
+                ratios += ", " + ratio(took, "run 1", "once")
+            print(f"{name:20} {row}  {ratios}")
 
 
 main()
