@@ -74,21 +74,21 @@ pub(crate) fn run_by_workers<R: Threads + Wait + Sync, G: Gate>(
     Ok((finished(world), spent))
 }
 
-/// Lets a worker for each hand make steps until a wave of probes has found rest, and closes the fabric.
+/// Lets a worker for each hand make steps until a wave of probes has found rest, and closes the fabric. Its wires come beside the world.
 fn close_steady<R: Threads + Wait + Sync, G: Gate + Drop>(
     rt: &R,
     fabric: Fabric<G>,
     hands: Vec<Hand>,
     wave: Wave,
-) -> World
+) -> (World, SpentWires)
     requires hands { All (λ h. IsFree fabric.turns h) hands.items }
     requires all { parts_of hands.items ≡ 2 ^ 32 }
     requires some { 0 < length hands.items }
     requires few { length hands.items < 2 ^ 32 }
     requires lanes { IsFor (plan_of fabric.job.shape) wave }
-    ensures shape { result.shape ≡ fabric.job.shape }
-    ensures inputs { result.inputs ≡ fabric.job.inputs }
-    ensures own { result.spare ≡ 0 }
+    ensures shape { result.0.shape ≡ fabric.job.shape }
+    ensures inputs { result.0.inputs ≡ fabric.job.inputs }
+    ensures own { result.0.spare ≡ 0 }
 {
     let mut hands = hands;
     let mut wave = wave;
@@ -96,20 +96,22 @@ fn close_steady<R: Threads + Wait + Sync, G: Gate + Drop>(
     fabric.close_at_rest(rt, hands, wave)
 }
 
-/// Runs a job by workers on threads that leave nothing. Where no thread can be started, the call does a worker's part itself.
+/// Runs a job by workers on threads that leave nothing. Where no thread can be started, the call does a worker's part itself. The wires
+/// that they used are handed over beside the world.
 fn run_steadily<R: Threads + Wait + Sync, G: Gate>(
     rt: &R,
     alloc: Global,
     gate: &G,
     workers: u32,
     job: &Job,
-) -> Result<World, NoMemory>
+) -> Result<(World, SpentWires), NoMemory>
     requires { 0 < workers }
-    ensures { IfOk result (λ w. IsRun job.now.shape job.now.inputs w) }
+    ensures { IfOk result (λ left. IsRun job.now.shape job.now.inputs left.0) }
 {
     let wave = Wave::open(alloc, job.schedule())?;
     let (fabric, hands) = Fabric::open(rt, alloc, job, workers, gate)?;
-    Ok(finished(close_steady(rt, fabric, hands, wave)))
+    let (world, spent) = close_steady(rt, fabric, hands, wave);
+    Ok((finished(world), spent))
 }
 
 /// Runs a job in this mode. Beside the world it hands over the wires that workers used, if there are any left.
@@ -130,7 +132,10 @@ fn run_in<R: Threads + Wait + Sync, G: Gate>(
             let (world, spent) = run_by_workers(rt, alloc, gate, workers, job)?;
             Ok((world, Some(spent)))
         }
-        Mode::Steady { workers } => Ok((run_steadily(rt, alloc, gate, workers, job)?, None)),
+        Mode::Steady { workers } => {
+            let (world, spent) = run_steadily(rt, alloc, gate, workers, job)?;
+            Ok((world, Some(spent)))
+        }
     }
 }
 

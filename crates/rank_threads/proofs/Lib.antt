@@ -11,3 +11,4 @@ pub mod Rested
 pub mod Hands
 pub mod Sent
 pub mod Leaving
+pub mod Taking

@@ -53,6 +53,7 @@ pub record FabricKeeps (job : JobOf) (start : List Slot) (wires : List WireState
 pub record HasTaken (f : FabricState) (old : HandState Slot) (r : ℕ) (t : Turn Slot) (new : HandState Slot) : Type 0 where
   pub slot : t.slot ≡ r
   pub sound : IsSound f.job
+  pub lanes : AreLanes (plan_of f.job.shape) (bounds_of f.wires)
   pub named : IsNamed f.job f.wires r (plate t.value)
   pub wired : IsWired f.wires (plate t.value)
   pub kept : IsNode t.value.node.value

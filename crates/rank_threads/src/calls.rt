@@ -27,14 +27,7 @@ impl<G: Gate + Drop> Fabric<G> {
     pub(crate) fn take<R: Wait>(&self, rt: &R, hand: &mut Hand, rank: Rank) -> Turn<Slot>
         requires hand { IsFree self.now.turns hand.old }
         requires rank { rank < self.now.job.shape.ranks }
-        ensures slot { result.slot ≡ rank }
-        ensures sound { IsSound self.now.job }
-        ensures lanes { AreLanes (plan_of self.now.job.shape) (bounds_of self.now.wires) }
-        ensures named { IsNamed self.now.job self.now.wires rank (plate result.value) }
-        ensures wired { IsWired self.now.wires (plate result.value) }
-        ensures kept { IsNode result.value.node.value }
-        ensures hand { IsHandOf self.now.turns hand.new }
-        ensures took { Took chronicle plate hand.old.knows rank result.value hand.new.knows }
+        ensures { HasTaken self.now hand.old rank result hand.new }
     {
         let _ = self.ranks;
         let turn = self.turns.take(rt, hand, rank);

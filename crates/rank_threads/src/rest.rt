@@ -15,6 +15,7 @@ ghost use Rattle.worlds.specs.World.{AreSlots, histories_in, ranks_in};
 ghost use Rattle.rank_threads.specs.Closing.{IsWorldOf};
 ghost use Rattle.rank_threads.specs.Resting.{AreFrontsOf};
 
+use crate::close::SpentWires;
 use crate::fabric::{Fabric, Hand};
 use plan_rest::one_wave;
 use rank_slots::{Gate, sound};
@@ -23,27 +24,27 @@ use std::sync::Wait;
 use worlds::World;
 
 impl<G: Gate + Drop> Fabric<G> {
-    /// Ends the fabric as `close` does, where a wave of probes answered that the job is at rest. The note of each rank is what a
-    /// beginning of a history says that one of these hands has seen there. The world is at rest, and each of its histories is that
-    /// beginning: no rank made a further step.
-    pub fn close_at_rest<R: Wait>(self, rt: &R, hands: Vec<Hand>, wave: Wave) -> World
+    /// Ends the fabric as `close` does, where a wave of probes answered that the job is at rest, and hands over its wires beside the
+    /// world: their memory is given back when the caller lets them go. The note of each rank is what a beginning of a history says that
+    /// one of these hands has seen there. The world is at rest, and each of its histories is that beginning: no rank made a further step.
+    pub fn close_at_rest<R: Wait>(self, rt: &R, hands: Vec<Hand>, wave: Wave) -> (World, SpentWires)
         requires hands { All (λ h. IsFree self.turns h) hands.items }
         requires all { parts_of hands.items ≡ 2 ^ 32 }
         requires lanes { IsFor (plan_of self.job.shape) wave }
         requires answer { Answered wave Rest }
         requires noted { (fronts : Histories) × AreFrontsOf self.job hands.items fronts wave }
-        ensures world { IsWorldOf self hands.items result }
-        ensures kept { IsStanding result }
-        ensures barriers { (slots : ℕ → Slots) → AreSlots result slots →
-            AreBarriersKept result.shape result.inputs slots (histories_in result) }
-        ensures rest { (slots : ℕ → Slots) → AreSlots result slots → IsAtRest (ranks_in result slots) (histories_in result) }
+        ensures world { IsWorldOf self hands.items result.0 }
+        ensures kept { IsStanding result.0 }
+        ensures barriers { (slots : ℕ → Slots) → AreSlots result.0 slots →
+            AreBarriersKept result.0.shape result.0.inputs slots (histories_in result.0) }
+        ensures rest { (slots : ℕ → Slots) → AreSlots result.0 slots → IsAtRest (ranks_in result.0 slots) (histories_in result.0) }
         ensures whole { (fronts : Histories) → AreFrontsOf self.job hands.items fronts wave → (r : ℕ) → r < self.job.shape.ranks →
-            histories_in result r ≡ fronts r }
+            histories_in result.0 r ≡ fronts r }
     {
         // What every job is, and the law of one wave, are told here.
         sound(&self.job);
         one_wave();
         let _wave = wave;
-        self.close(rt, hands)
+        self.close_keeping(rt, hands)
     }
 }

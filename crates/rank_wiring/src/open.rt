@@ -137,13 +137,7 @@ fn make_berth(alloc: Global, job: &Job, rank: Rank, fan: &FanOut) -> Result<Bert
 }
 
 // What is made for a rank, by one of so many threads. There is nothing where there was no memory for it.
-fn berth_of(
-    alloc: Global,
-    job: &Job,
-    fans: &[FanOut],
-    threads: usize,
-    rank: usize,
-) -> Option<Berth>
+fn berth_of(alloc: Global, job: &Job, fans: &[FanOut], threads: usize, rank: usize) -> Option<Berth>
     requires some { 0 < threads }
     requires count { length fans.now ≡ job.now.shape.ranks }
     requires few { length fans.now < 2 ^ 32 }

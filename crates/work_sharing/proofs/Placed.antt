@@ -13,10 +13,10 @@ module _ {F X : Type 0} (g : Shared F (ℕ × Unit {0}) (Option X)) (f : F) wher
 
   pub shared-set : (ys : List (Option X)) (i : ℕ) (x : X) → AreShared g f ys → Gives g f i x → AreShared g f (slice_set ys i (Some x))
   shared-set ys i x old is j d low = elim (cases_eq j i) [
-      | inl e ↦ subst (λ k. IfSome (slice_index_or (slice_set ys i (Some x)) k d) (Gives g f k)) (sym e)
-          (subst (λ o. IfSome o (Gives g f i)) (sym (get_or-set_same ys i (Some x) d (subst (λ k. k < length ys) e low'))) is)
-      | inr ne ↦ subst (λ o. IfSome o (Gives g f j)) (sym (get_or-set_other ys i j (Some x) d ne)) (old j d low')
-    ]
+    | inl e ↦ subst (λ k. IfSome (slice_index_or (slice_set ys i (Some x)) k d) (Gives g f k)) (sym e)
+        (subst (λ o. IfSome o (Gives g f i)) (sym (get_or-set_same ys i (Some x) d (subst (λ k. k < length ys) e low'))) is)
+    | inr ne ↦ subst (λ o. IfSome o (Gives g f j)) (sym (get_or-set_other ys i j (Some x) d ne)) (old j d low')
+  ]
     where
       low' : j < length ys
       low' = subst (λ n. j < n) (length-set ys i (Some x)) low

@@ -20,14 +20,20 @@ fn thrice<R: Threads + Sync>(
     requires { 0 < threads }
 {
     let calls = &AtomicU64::new(0);
-    let given = map_indices(rt, alloc, threads, count, &|index: usize| {
-        let _ = calls.fetch_add(1, Ordering::SeqCst);
-        if index < from {
-            None
-        } else {
-            Some((index as u64).wrapping_mul(3))
-        }
-    });
+    let given = map_indices(
+        rt,
+        alloc,
+        threads,
+        count,
+        &|index: usize| {
+            let _ = calls.fetch_add(1, Ordering::SeqCst);
+            if index < from {
+                None
+            } else {
+                Some((index as u64).wrapping_mul(3))
+            }
+        },
+    );
     if let Ok(given) = given {
         for value in given {
             let _ = made.push(value.unwrap_or(1));

@@ -19,11 +19,10 @@ make_berths-requires-clause-fans g c = λ _ _.
     (subst (λ (o : Outline). AreFans (plan_of o) c.in_ok-fans.fans.items) c.schedule-2.ensures c.in_ok-fans.ensures.fans)
 
 pub hand_all-requires-clause-count : goal.hand_all-requires-clause-count
-hand_all-requires-clause-count g c =
-    (
-      ap (λ (l : List Slot). length l) c.deref_mut.ensures.value ∙ c.in_ok-slots.ensures.count.0 ∙ c.in_ok-places.ensures.count,
-      c.in_ok-slots.ensures.count.1 ∙ c.in_ok-places.ensures.count,
-    )
+hand_all-requires-clause-count g c = (
+  ap (λ (l : List Slot). length l) c.deref_mut.ensures.value ∙ c.in_ok-slots.ensures.count.0 ∙ c.in_ok-places.ensures.count,
+  c.in_ok-slots.ensures.count.1 ∙ c.in_ok-places.ensures.count,
+)
 
 pub hand_all-requires-clause-fanned : goal.hand_all-requires-clause-fanned
 hand_all-requires-clause-fanned g c =
