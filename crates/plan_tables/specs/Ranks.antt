@@ -7,7 +7,6 @@ use Rattle.plan_tables.specs.declared.index.Index.{Index}
 use Rattle.plan_tables.specs.declared.tables.Tables.{Tables}
 use Rattle.plan_tables.specs.Tables.{all_ranks, lane_counts, lane_sums}
 use Rattle.plan_tables.specs.AreaTables.{area_counts, area_sums}
-use Rattle.plan_tables.specs.Installed.{installed}
 
 -- the tables over the whole plan
 pub record IsIndex (p : Plan) (i : Index) : Type 0 where
@@ -21,8 +20,6 @@ pub record IsIndex (p : Plan) (i : Index) : Type 0 where
 
 -- all tables of a plan
 pub record IsTables (p : Plan) (t : Tables) : Type 0 where
-  pub ranks : t.ranks.items ≡ map (installed p) (all_ranks p)
-  pub starts : t.starts.items ≡ map (cell_start p) (all_cells p)
-  pub areas : t.areas ≡ area_sums p
+  pub index : IsIndex p t.index
   pub lanes : t.lanes.counts ≡ lane_counts p
   pub lane_bytes : t.lanes.bytes ≡ lane_sums p

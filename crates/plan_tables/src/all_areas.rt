@@ -14,7 +14,7 @@ use std::alloc::Global;
 
 /// For each rank and each of its 81 classes, at rank * 81 + class: how many messages come, and how many bytes they have.
 #[derive(Debug, Drop)]
-pub(crate) struct Areas {
+pub struct Areas {
     /// Messages. A class that has some has an area, also where they have no bytes.
     pub counts: Tallies,
     /// Bytes.

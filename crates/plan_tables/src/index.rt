@@ -17,7 +17,7 @@ use std::alloc::Global;
 
 /// Tables over a whole plan, by rank, by cell, and by rank and class.
 #[derive(Debug, Drop)]
-pub(crate) struct Index {
+pub struct Index {
     /// The cells of each rank.
     pub own: ByRank,
     /// The links that each rank fires.

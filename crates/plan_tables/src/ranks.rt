@@ -1,7 +1,7 @@
 //! What each rank of a plan installs.
 
-ghost use Rattle.std.specs.Prelude.{ℕ, ◌≡◌, ◌<◌, ◌≤◌, ◌+◌, ◌*◌, ◌++◌, ◌∷◌, [], IfOk, count_by, get_or, length, map, max, if◌then◌else◌};
-ghost use Rattle.plan_core.specs.Plan.{from_to, own as own_of, out_links};
+ghost use Rattle.std.specs.Prelude.{ℕ, ◌≡◌, ◌<◌, ◌≤◌, ◌+◌, ◌*◌, [], IfOk, count_by, get_or, length, max, if◌then◌else◌};
+ghost use Rattle.plan_core.specs.Plan.{own as own_of, out_links};
 ghost use Rattle.plan_calls.specs.Works.{done_threshold, is_message};
 ghost use Rattle.plan_calls.specs.Areas.{areas_length, classes, longest as longest_of, region_length};
 ghost use Rattle.plan_calls.specs.Calls.{late_calls, prepare_calls};
@@ -90,6 +90,16 @@ fn longest(plan: &Plan, links: &[u32]) -> u64
     most
 }
 
+/// No calls, and room for so many.
+fn room_for(alloc: Global, calls: usize) -> Result<Vec<Call>, NoMemory>
+    ensures { IfOk result (λ v. v.items ≡ []) }
+{
+    match Vec::with_capacity(alloc, calls) {
+        Ok(list) => Ok(list),
+        Err(_) => Err(NoMemory),
+    }
+}
+
 /// The calls that prepare a rank, and the bytes of its region.
 fn prepare(alloc: Global, plan: &Plan, index: &Index, r: Rank) -> Result<(Vec<Call>, u64), NoMemory>
     requires tabled { IsTabled plan.now }
@@ -101,7 +111,7 @@ fn prepare(alloc: Global, plan: &Plan, index: &Index, r: Rank) -> Result<(Vec<Ca
     let own = index.own_at(plan, r);
     let out = index.out_at(plan, r);
     let after_cells = index.after_cells(plan, r);
-    let mut calls = Vec::new(alloc);
+    let mut calls = room_for(alloc, 84 + 2 * own.len() + out.len())?;
     push_call(&mut calls, Call::PtAlloc)?;
     let length = add_area_calls(&mut calls, plan, &index.areas, r, after_cells)?;
     push_call(&mut calls, Call::CtDone)?;
@@ -120,8 +130,9 @@ fn start(alloc: Global, plan: &Plan, index: &Index, r: Rank) -> Result<Vec<Call>
     requires rank { r < plan.now.ranks }
     ensures { IfOk result (λ calls. calls.items ≡ late_calls plan.now r) }
 {
-    let mut calls = Vec::new(alloc);
-    add_append_calls(&mut calls, plan, &index.starts, r, index.own_at(plan, r))?;
+    let own = index.own_at(plan, r);
+    let mut calls = room_for(alloc, own.len())?;
+    add_append_calls(&mut calls, plan, &index.starts, r, own)?;
     Ok(calls)
 }
 
@@ -164,7 +175,7 @@ fn limits(plan: &Plan, index: &Index, r: Rank, areas: u32) -> Limits
 }
 
 /// Where the done counter of a rank stands when all is done.
-fn done(plan: &Plan, index: &Index, r: Rank) -> u64
+pub(crate) fn done(plan: &Plan, index: &Index, r: Rank) -> u64
     requires tabled { IsTabled plan.now }
     requires index { IsIndex plan.now index.now }
     requires rank { r < plan.now.ranks }
@@ -179,7 +190,12 @@ fn done(plan: &Plan, index: &Index, r: Rank) -> u64
 }
 
 /// What a rank installs.
-fn rank_table(alloc: Global, plan: &Plan, index: &Index, r: Rank) -> Result<RankTable, NoMemory>
+pub(crate) fn rank_table(
+    alloc: Global,
+    plan: &Plan,
+    index: &Index,
+    r: Rank,
+) -> Result<RankTable, NoMemory>
     requires tabled { IsTabled plan.now }
     requires index { IsIndex plan.now index.now }
     requires rank { r < plan.now.ranks }
@@ -207,50 +223,12 @@ fn rank_table(alloc: Global, plan: &Plan, index: &Index, r: Rank) -> Result<Rank
     }
 }
 
-/// One more rank.
-fn push_rank(ranks: &mut Vec<RankTable>, rank: RankTable) -> Result<(), NoMemory>
-    ensures { IfOk result (λ u. ranks.new.items ≡ ranks.old.items ++ rank ∷ []) }
-{
-    match ranks.push(rank) {
-        Ok(()) => Ok(()),
-        Err(_) => Err(NoMemory),
-    }
-}
-
-/// What each rank of a plan installs, in rank order.
-///
-/// # Errors
-///
-/// There was no memory for it.
-pub(crate) fn all_ranks(
-    alloc: Global,
-    plan: &Plan,
-    index: &Index,
-) -> Result<Vec<RankTable>, NoMemory>
-    requires tabled { IsTabled plan.now }
-    requires index { IsIndex plan.now index.now }
-    ensures { IfOk result (λ ranks. ranks.items ≡ map (installed plan.now) (from_to 0 plan.now.ranks)) }
-{
-    let mut ranks = Vec::new(alloc);
-    for r in 0..plan.ranks() {
-        push_rank(&mut ranks, rank_table(alloc, plan, index, r)?)?;
-    }
-    Ok(ranks)
-}
-
 impl RankTable {
     /// The numbers of the rank's own cells, rising.
     pub fn cells(&self) -> &[u32]
         ensures { result.now ≡ self.now.cells }
     {
         self.cells.as_slice()
-    }
-
-    /// The calls that prepare its interface, in order.
-    pub fn calls(&self) -> &[Call]
-        ensures { result.now ≡ self.now.calls }
-    {
-        self.calls.as_slice()
     }
 
     /// The calls of its start, in order.
@@ -286,5 +264,13 @@ impl RankTable {
         ensures { result ≡ self.now.longest }
     {
         self.longest
+    }
+
+    /// The numbers of the rank's own cells, and the calls that prepare its interface, in order.
+    pub fn into_lists(self) -> (Vec<u32>, Vec<Call>)
+        ensures cells { result.0.items ≡ self.cells }
+        ensures calls { result.1.items ≡ self.calls }
+    {
+        (self.cells, self.calls)
     }
 }

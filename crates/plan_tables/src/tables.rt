@@ -2,13 +2,14 @@
 
 ghost use Rattle.std.specs.Prelude.{◌≡◌, ◌<◌, ◌≤◌, IfOk};
 ghost use Rattle.plan_calls.specs.Areas.{area_length};
+ghost use Rattle.plan_calls.specs.Works.{done_threshold};
 ghost use Rattle.plan_tables.specs.Tables.{IsTabled};
+ghost use Rattle.plan_tables.specs.Installed.{installed};
 ghost use Rattle.plan_tables.specs.Ranks.{IsTables};
 
 use crate::index::Index;
 use crate::lanes::{Lanes, find_lanes};
-use crate::ranks::{RankTable, all_ranks};
-use crate::tallies::Tallies;
+use crate::ranks::{RankTable, done, rank_table};
 use plan_core::Plan;
 use ptl_types::{NoMemory, Rank};
 use std::alloc::Global;
@@ -16,12 +17,8 @@ use std::alloc::Global;
 /// What the ranks of a plan install, and where its cells and areas lie.
 #[derive(Debug, Drop)]
 pub struct Tables {
-    /// What each rank installs, in rank order.
-    pub ranks: Vec<RankTable>,
-    /// Where each cell begins in its rank's region, in bytes.
-    pub starts: Vec<u64>,
-    /// The bytes of the area of each class at each rank, at rank * 81 + class.
-    pub areas: Tallies,
+    /// By rank, by cell, and by rank and class.
+    pub index: Index,
     /// The messages and bytes of each pair of ranks.
     pub lanes: Lanes,
 }
@@ -38,15 +35,31 @@ impl Tables {
     {
         let index = Index::of(alloc, plan)?;
         let lanes = find_lanes(alloc, plan)?;
-        let ranks = all_ranks(alloc, plan, &index)?;
-        let starts = index.starts;
-        let found = index.areas;
-        Ok(Tables {
-            ranks,
-            starts,
-            areas: found.bytes,
-            lanes,
-        })
+        Ok(Tables { index, lanes })
+    }
+
+    /// What a rank installs, made anew.
+    ///
+    /// # Errors
+    ///
+    /// There was no memory for it.
+    pub fn rank(&self, alloc: Global, plan: &Plan, r: Rank) -> Result<RankTable, NoMemory>
+        requires tabled { IsTabled plan.now }
+        requires tables { IsTables plan.now self.now }
+        requires rank { r < plan.now.ranks }
+        ensures { IfOk result (λ t. t ≡ installed plan.now r) }
+    {
+        rank_table(alloc, plan, &self.index, r)
+    }
+
+    /// Where the done counter of a rank stands when all is done.
+    pub fn done(&self, plan: &Plan, r: Rank) -> u64
+        requires tabled { IsTabled plan.now }
+        requires tables { IsTables plan.now self.now }
+        requires rank { r < plan.now.ranks }
+        ensures { result ≡ done_threshold plan.now r }
+    {
+        done(plan, &self.index, r)
     }
 
     /// The bytes of the area of a class at a rank: those of the class's messages that come to the rank together.
@@ -58,6 +71,6 @@ impl Tables {
         ensures { result ≡ area_length plan.now r class }
     {
         let _ = plan.ranks();
-        self.areas.at(r as usize * 81 + class as usize)
+        self.index.areas.bytes.at(r as usize * 81 + class as usize)
     }
 }

@@ -1,7 +1,7 @@
 //! The own cells of a rank, as its start reads them.
 
 ghost use Rattle.std.specs.Prelude.{ℕ, Some, ◌≡◌, ◌<◌, IfOk, length};
-ghost use Rattle.plan_calls.specs.Calls.{append_call, own_cell, own_cells};
+ghost use Rattle.plan_calls.specs.Calls.{append_call, late_calls, own_cell, own_cells};
 ghost use Rattle.shape_plans.specs.Drawing.{plan_of};
 
 use plan_calls::OwnCell;
@@ -38,17 +38,19 @@ fn own_cell(plan: &Plan, call: &Call) -> Option<OwnCell>
     }
 }
 
-/// The own cells of a rank, by their numbers, rising.
+/// The own cells of a rank, by their numbers, rising, from the calls of its start.
 pub(crate) fn own_cells(
     alloc: Global,
     schedule: &Schedule,
     r: Rank,
+    late: &[Call],
 ) -> Result<Vec<OwnCell>, NoMemory>
-    requires { r < schedule.now.ranks }
+    requires rank { r < schedule.now.ranks }
+    requires late { late.now ≡ late_calls (plan_of schedule.now) r }
     ensures { IfOk result (λ cells. cells.items ≡ own_cells (plan_of schedule.now) r) }
 {
     let plan = schedule.plan();
-    let late = schedule.late(r);
+    let _ = r;
     let mut cells = Vec::with_capacity(alloc, late.len())?;
     for call in late {
         if let Some(cell) = own_cell(plan, call) {

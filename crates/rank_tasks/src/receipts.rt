@@ -4,21 +4,24 @@ ghost use Rattle.std.specs.Prelude.{◌≡◌, ◌<◌, ◌+◌, if◌then◌els
 ghost use Rattle.plan_core.specs.Plan.{link};
 ghost use Rattle.plan_calls.specs.Areas.{links_to};
 ghost use Rattle.plan_calls.specs.Works.{sends_of};
+ghost use Rattle.plan_tables.specs.Installed.{installed};
 ghost use Rattle.shape_plans.specs.Drawing.{plan_of};
 
 use ptl_types::Rank;
-use schedule_compiler::Schedule;
+use schedule_compiler::{RankTable, Schedule};
 
 /// How many messages come to a rank: its interface has room for the header of each request, and its done counter counts each
 /// answer beside the own cells.
-pub(crate) fn receipts_of(schedule: &Schedule, r: Rank) -> u64
-    requires { r < schedule.now.ranks }
+pub(crate) fn receipts_of(schedule: &Schedule, r: Rank, table: &RankTable) -> u64
+    requires rank { r < schedule.now.ranks }
+    requires table { table.now ≡ installed (plan_of schedule.now) r }
     ensures { result ≡ length (links_to (plan_of schedule.now) r) +
         (if (plan_of schedule.now).remote then sends_of (plan_of schedule.now) r else 0) }
 {
     let _ = schedule.plan();
-    let requests = u64::from(schedule.limits(r).unexpected);
-    let answers = schedule.done(r) - schedule.cells(r).len() as u64;
+    let _ = r;
+    let requests = u64::from(table.limits().unexpected);
+    let answers = table.done() - table.cells().len() as u64;
     requests + answers
 }
 

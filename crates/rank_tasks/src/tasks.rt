@@ -23,21 +23,24 @@ pub fn task_of(alloc: Global, job: &Job, r: Rank) -> Result<Compiled, NoMemory>
     ensures { IfOk result (λ c. IsCompiledFor (plan_of job.now.shape) job.now.inputs r (task_of c)) }
 {
     let schedule = job.schedule();
-    let region = load(alloc, schedule, job.inputs(), r)?;
-    let cells = Vec::from_slice(alloc, schedule.cells(r))?;
-    let calls = Vec::from_slice(alloc, schedule.calls(r))?;
-    let own = own_cells(alloc, schedule, r)?;
+    let table = schedule.rank(alloc, r)?;
+    let region = load(alloc, schedule, &table, job.inputs(), r)?;
+    let own = own_cells(alloc, schedule, r, table.late())?;
+    let receipts = receipts_of(schedule, r, &table);
+    let limits = *table.limits();
+    let longest = table.longest();
+    let (cells, calls) = table.into_lists();
     Ok(Compiled {
         rank: r,
         ranks: schedule.plan().ranks(),
-        limits: *schedule.limits(r),
+        limits,
         region,
         cells,
         calls,
         own,
         go: r,
-        longest: schedule.longest_to(r),
-        receipts: receipts_of(schedule, r),
+        longest,
+        receipts,
         bytes: bytes_to(schedule, r),
     })
 }

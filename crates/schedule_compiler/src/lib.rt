@@ -10,5 +10,6 @@ mod schedule;
 pub use compiling::compile;
 pub use job::Job;
 pub use loading::load;
+pub use plan_tables::RankTable;
 pub use schedule::{Place, Schedule};
 pub use shape_plans::CompileFault;

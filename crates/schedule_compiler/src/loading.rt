@@ -5,6 +5,7 @@ ghost use Rattle.ptl_types.specs.Elements.{starting};
 ghost use Rattle.plan_core.specs.Values.{initial};
 ghost use Rattle.plan_calls.specs.Areas.{blank_area, blank_areas, blank_as, initial_region};
 ghost use Rattle.plan_calls.specs.Bits.{op_at, type_at};
+ghost use Rattle.plan_tables.specs.Installed.{installed};
 ghost use Rattle.plan_tables.specs.Ranks.{IsTables};
 ghost use Rattle.coll_shape.specs.Meaning.{AreInputs};
 ghost use Rattle.coll_shape.specs.declared.limits.TheConstants.{MOST_RANKS, MOST_BUFFERS};
@@ -14,7 +15,7 @@ use crate::schedule::Schedule;
 use coll_shape::Inputs;
 use lane_ops::start_values;
 use plan_core::Plan;
-use plan_tables::Tables;
+use plan_tables::{RankTable, Tables};
 use ptl_types::{AtomicOp, Bytes, ElemType, NoMemory, Rank};
 use std::alloc::Global;
 
@@ -197,17 +198,24 @@ fn add_areas(bytes: &mut Vec<u8>, plan: &Plan, tables: &Tables, r: Rank) -> Resu
 /// # Errors
 ///
 /// There was no memory for it.
-pub fn load(alloc: Global, schedule: &Schedule, inputs: &Inputs, r: Rank) -> Result<Bytes, NoMemory>
+pub fn load(
+    alloc: Global,
+    schedule: &Schedule,
+    table: &RankTable,
+    inputs: &Inputs,
+    r: Rank,
+) -> Result<Bytes, NoMemory>
+    requires table { table.now ≡ installed (plan_of schedule.now) r }
     requires inputs { AreInputs schedule.now inputs.now }
     requires rank { r < schedule.now.ranks }
     ensures { IfOk result (λ bytes. bytes.list ≡ initial_region (plan_of schedule.now) inputs.now r) }
 {
     let plan = schedule.plan();
-    let mut bytes = Vec::with_capacity(alloc, schedule.region(r) as usize)?;
+    let mut bytes = Vec::with_capacity(alloc, table.region() as usize)?;
     let shape = schedule.shape();
     shape.keeps_form();
     let count = shape.input_count();
-    add_cells(&mut bytes, plan, inputs, count, schedule.cells(r))?;
+    add_cells(&mut bytes, plan, inputs, count, table.cells())?;
     add_areas(&mut bytes, plan, schedule.tables(), r)?;
     Ok(Bytes::from_vec(bytes))
 }

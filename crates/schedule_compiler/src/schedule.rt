@@ -1,14 +1,12 @@
 //! What the ranks of a shape install.
 
-ghost use Rattle.std.specs.Prelude.{ℕ, None, Some, [], ◌≡◌, ◌<◌, ◌+◌, ◌↔◌, length, map};
+ghost use Rattle.std.specs.Prelude.{ℕ, None, Some, [], ◌≡◌, ◌<◌, ◌↔◌, IfOk, length, map};
 ghost use Rattle.ptl_types.specs.declared.headers.Lane.TheVariants.{Request};
 ghost use Rattle.plan_core.specs.Draw.{held_cell};
-ghost use Rattle.plan_core.specs.Plan.{from_to, own};
+ghost use Rattle.plan_core.specs.Plan.{from_to};
 ghost use Rattle.plan_core.specs.Sound.{SoundPlan};
-ghost use Rattle.plan_calls.specs.Areas.{areas_length, longest_to, region_length};
-ghost use Rattle.plan_calls.specs.Calls.{cell_start, late_calls, prepare_calls};
+ghost use Rattle.plan_calls.specs.Calls.{cell_start};
 ghost use Rattle.plan_calls.specs.Lanes.{lane_bytes, lane_messages};
-ghost use Rattle.plan_calls.specs.Limits.{limits_for};
 ghost use Rattle.plan_calls.specs.Works.{done_threshold};
 ghost use Rattle.plan_tables.specs.Installed.{installed};
 ghost use Rattle.plan_tables.specs.Ranks.{IsTables};
@@ -24,7 +22,8 @@ ghost use Rattle.schedule_compiler.specs.Keeping.{Keeps};
 use coll_shape::Shape;
 use plan_core::{Held, Plan};
 use plan_tables::{RankTable, Tables};
-use ptl_types::{Call, Lane, Limits, Rank};
+use ptl_types::{Lane, NoMemory, Rank};
+use std::alloc::Global;
 use std::marker::Model;
 
 /// Where a cell lies.
@@ -71,16 +70,6 @@ impl Drop for Schedule {
     }
 }
 
-/// The table of a rank.
-fn rank_at<'a>(ranks: &'a [RankTable], plan: &Plan, r: Rank) -> &'a RankTable
-    requires table { ranks.now ≡ map (installed plan.now) (from_to 0 plan.now.ranks) }
-    requires rank { r < plan.now.ranks }
-    ensures { result.now ≡ installed plan.now r }
-{
-    let _ = plan.ranks();
-    &ranks[r as usize]
-}
-
 /// Where a cell begins in its rank's region.
 fn start_at(starts: &[u64], plan: &Plan, c: u32) -> u64
     requires table { starts.now ≡ map (cell_start plan.now) (from_to 0 (length plan.now.cells)) }
@@ -124,13 +113,17 @@ impl Schedule {
         &self.plan
     }
 
-    /// The table of a rank.
-    fn table(&self, r: Rank) -> &RankTable
+    /// What a rank installs, made anew: nothing keeps it beside the rank.
+    ///
+    /// # Errors
+    ///
+    /// There was no memory for it.
+    pub fn rank(&self, alloc: Global, r: Rank) -> Result<RankTable, NoMemory>
         requires { r < self.now.ranks }
-        ensures { result.now ≡ installed (plan_of self.now) r }
+        ensures { IfOk result (λ t. t ≡ installed (plan_of self.now) r) }
     {
         self.shape.keeps_form();
-        rank_at(self.tables.ranks.as_slice(), &self.plan, r)
+        self.tables.rank(alloc, &self.plan, r)
     }
 
     /// The tables of the plan.
@@ -140,60 +133,13 @@ impl Schedule {
         &self.tables
     }
 
-    /// The calls that prepare a rank's interface, in order.
-    pub fn calls(&self, r: Rank) -> &[Call]
-        requires { r < self.now.ranks }
-        ensures { result.now ≡ prepare_calls (plan_of self.now) r }
-    {
-        self.table(r).calls()
-    }
-
-    /// The calls of a rank's start, in order: the entries of its cells.
-    pub fn late(&self, r: Rank) -> &[Call]
-        requires { r < self.now.ranks }
-        ensures { result.now ≡ late_calls (plan_of self.now) r }
-    {
-        self.table(r).late()
-    }
-
-    /// The limits that a rank's interface is opened with.
-    pub fn limits(&self, r: Rank) -> &Limits
-        requires { r < self.now.ranks }
-        ensures { result.now ≡ limits_for (plan_of self.now) r }
-    {
-        self.table(r).limits()
-    }
-
     /// Where a rank's done counter stands when all is done.
     pub fn done(&self, r: Rank) -> u64
         requires { r < self.now.ranks }
         ensures { result ≡ done_threshold (plan_of self.now) r }
     {
-        self.table(r).done()
-    }
-
-    /// A rank's own cells, by their numbers, rising.
-    pub fn cells(&self, r: Rank) -> &[u32]
-        requires { r < self.now.ranks }
-        ensures { result.now ≡ own (plan_of self.now) r }
-    {
-        self.table(r).cells()
-    }
-
-    /// The bytes of a rank's region: its cells, and after them its areas.
-    pub fn region(&self, r: Rank) -> u64
-        requires { r < self.now.ranks }
-        ensures { result ≡ region_length (plan_of self.now) r + areas_length (plan_of self.now) r }
-    {
-        self.table(r).region()
-    }
-
-    /// The bytes of the longest message that comes to a rank.
-    pub fn longest_to(&self, r: Rank) -> u64
-        requires { r < self.now.ranks }
-        ensures { result ≡ longest_to (plan_of self.now) r }
-    {
-        self.table(r).longest()
+        self.shape.keeps_form();
+        self.tables.done(&self.plan, r)
     }
 
     /// How many requests go from one rank to another.
@@ -243,7 +189,7 @@ impl Schedule {
         let part = self.plan.cells()[cell as usize];
         Place {
             rank: part.rank,
-            start: start_at(self.tables.starts.as_slice(), &self.plan, cell),
+            start: start_at(self.tables.index.starts.as_slice(), &self.plan, cell),
             length: part.length,
         }
     }

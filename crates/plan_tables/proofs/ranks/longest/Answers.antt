@@ -1,5 +1,5 @@
 -- One link more in each turn.
-use Rattle.std.proofs.Common.{suc, ◌+◌, ◌∙◌, ap, ap₂, sym, max, take, get_or, arith, ◌≡◌, length}
+use Rattle.std.proofs.Common.{suc, ◌+◌, ◌∙◌, ap, ap₂, sym, max, take, get_or, arith, ◌≡◌}
 use Rattle.std.proofs.Math.Seq.{take-suc}
 use Rattle.plan_core.specs.declared.Link.{Link}
 use Rattle.plan_calls.specs.Areas.{longest}

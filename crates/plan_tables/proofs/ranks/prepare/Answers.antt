@@ -1,7 +1,6 @@
 -- The parts stand one after the other.
-use Rattle.std.proofs.Common.{◌+◌, [], ◌∷◌, ◌++◌, map, ap, ap₂, ◌∙◌}
+use Rattle.std.proofs.Common.{[], ◌∷◌, ◌++◌, map, ap, ap₂, ◌∙◌}
 use Rattle.ptl_types.specs.declared.steps.Call.TheVariants.{PtAlloc, CtDone, CtCell, MdBind}
-use Rattle.plan_core.specs.Plan.{own}
 use Rattle.plan_calls.specs.Works.Work.{Along, Tell}
 use Rattle.plan_calls.specs.Areas.{classes}
 use Rattle.plan_calls.specs.Calls.{area_call, trigger}
@@ -14,7 +13,7 @@ returns-clause-calls c =
     let r = c.args.r in
     let own = c.own_at-own.ensures.value in
     let out = c.out_at-out.ensures.value in
-    let first = c.in_ok-push_call.ensures ∙ ap (λ v. v ++ PtAlloc ∷ []) c.new-calls.ensures.items in
+    let first = c.in_ok-push_call.ensures ∙ ap (λ v. v ++ PtAlloc ∷ []) c.in_ok-calls.ensures in
     let areas = c.in_ok-length.ensures.calls ∙ ap (λ v. v ++ map (area_call p r) (classes p r)) first in
     let second = c.in_ok-push_call-2.ensures ∙ ap (λ v. v ++ CtDone ∷ []) areas in
     let counters = c.in_ok-add_counter_calls.ensures ∙ ap₂ (λ v w. v ++ map CtCell w) second own in

@@ -18,12 +18,12 @@ loop-call-preserved c =
     let xs = own p r in
     let x = get_or xs i 0 in
     let t = c.loop-call-test.true in
-    let many = ap length c.late-late.ensures ∙ length-map xs (append_call p r) in
+    let many = ap length c.requires.late ∙ length-map xs (append_call p r) in
     let lt : i < length xs = omega (arith, t, many) in
     let here : x < length p.cells = all-below (λ k. (cell p k).rank == r) (length p.cells) xs refl i lt in
     let same = c.plan-plan.ensures.value in
-    let is_entry : get_or c.late-late.result.now i PtAlloc ≡ append_call p r x =
-    ap (λ v. get_or v i PtAlloc) c.late-late.ensures ∙ get_or-map (append_call p r) xs i 0 PtAlloc lt in
+    let is_entry : get_or c.args.late.now i PtAlloc ≡ append_call p r x =
+    ap (λ v. get_or v i PtAlloc) c.requires.late ∙ get_or-map (append_call p r) xs i 0 PtAlloc lt in
     let read : c.own_cell.result ≡ Some (own_cell p r x) =
     c.own_cell.ensures r x (subst (λ (v : Plan). x < length v.cells) (sym same) here) (is_entry ∙ ap (λ (v : Plan). append_call v r x) (sym same))
     ∙ ap (λ (v : Plan). Some (own_cell v r x)) same in

@@ -1,8 +1,9 @@
-use Rattle.std.proofs.Common.{cond, ◌+◌, ◌≡◌, length, ap, arith}
+use Rattle.std.proofs.Common.{cond, ◌+◌, ◌≡◌, ◌∙◌, length, ap, arith}
 use Rattle.ptl_types.specs.declared.calls.Limits.{Limits}
 use Rattle.plan_core.specs.Plan.{own}
 use Rattle.plan_calls.specs.Areas.{links_to}
 use Rattle.plan_calls.specs.Works.{sends_of}
+use Rattle.plan_tables.specs.Installed.{Installed}
 use Rattle.shape_plans.specs.Drawing.{plan_of}
 use Rattle.rank_tasks.proofs.Lanes.{few-messages}
 use Rattle.rank_tasks.proofs.receipts.receipts_of.Goals as goal
@@ -10,9 +11,9 @@ use Rattle.rank_tasks.proofs.receipts.receipts_of.Goals as goal
 pub overflow_add-result : goal.overflow_add-result
 overflow_add-result c =
     let p = plan_of c.args.schedule.now in
-    let a : c.limits.result.now.unexpected ≡ length (links_to p c.args.r) = ap (λ (l : Limits). l.unexpected) c.limits.ensures in
+    let a : c.limits.result.now.unexpected ≡ length (links_to p c.args.r) = ap (λ (l : Limits). l.unexpected) (c.limits.ensures ∙ ap (λ (t : Installed). t.limits) c.requires.table) in
     let b = c.from-requests.ensures in
-    let d : c.done.result ≡ length (own p c.args.r) + cond p.remote (sends_of p c.args.r) 0 = c.done.ensures in
-    let e : length c.cells.result.now ≡ length (own p c.args.r) = ap length c.cells.ensures in
+    let d : c.done.result ≡ length (own p c.args.r) + cond p.remote (sends_of p c.args.r) 0 = c.done.ensures ∙ ap (λ (t : Installed). t.done) c.requires.table in
+    let e : length c.cells.result.now ≡ length (own p c.args.r) = ap length (c.cells.ensures ∙ ap (λ (t : Installed). t.cells) c.requires.table) in
     let few = few-messages p c.args.schedule.now.inputs c.args.r c.plan.ensures.sound in
     omega (arith, a, b, d, e, few)
