@@ -1,5 +1,5 @@
 -- A node may go to another thread, and threads may share one, as each of its fields may: field by field, since a search through all of them
--- runs out of steps. What it began with has no bytes.
+-- runs out of steps. What it began with and the calls that prepared it have no bytes.
 use denote.Param.Send.{IsSend, IsSync, sendable, recorded_send, recorded_sync, struct_send, struct_sync, view_send, view_sync}
 use denote.Struct.Declared.{shape}
 use Rattle.std.proofs.Crossing.{crosses}
@@ -19,12 +19,15 @@ node-send =
       (
         search crosses,
         (
-          nic.the_send,
+          search crosses,
           (
-            kept.the_send,
+            nic.the_send,
             (
-              history.the_send,
-              (search (crosses, sendable) depth 20, (search sendable, (gates.the_send, (spent.the_field_send, tt)))),
+              kept.the_send,
+              (
+                history.the_send,
+                (search (crosses, sendable) depth 20, (search sendable, (gates.the_send, (spent.the_field_send, tt)))),
+              ),
             ),
           ),
         ),
@@ -38,12 +41,15 @@ node-sync =
       (
         search crosses,
         (
-          nic.the_sync,
+          search crosses,
           (
-            kept.the_sync,
+            nic.the_sync,
             (
-              history.the_sync,
-              (search (crosses, sendable) depth 20, (search sendable, (gates.the_sync, (spent.the_field_sync, tt)))),
+              kept.the_sync,
+              (
+                history.the_sync,
+                (search (crosses, sendable) depth 20, (search sendable, (gates.the_sync, (spent.the_field_sync, tt)))),
+              ),
             ),
           ),
         ),

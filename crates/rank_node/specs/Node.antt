@@ -36,15 +36,15 @@ pub record Task : Type 0 where
   pub receipts : ℕ
   pub bytes : ℕ
 
--- of a region that begins with these bytes
-abbrev pub task_from : Compiled → List ℕ → Task
-task_from c region = record {
+-- of a region that begins with these bytes, and of these calls
+abbrev pub task_from : Compiled → List ℕ → List Call → Task
+task_from c region calls = record {
   rank = c.rank;
   ranks = c.ranks;
   limits = c.limits;
   region = region;
   cells = c.cells.items;
-  calls = c.calls.items;
+  calls = calls;
   own = c.own.items;
   go = c.go;
   longest = c.longest;
@@ -53,7 +53,7 @@ task_from c region = record {
 }
 
 abbrev pub task_of : Compiled → Task
-task_of c = task_from c c.region.list
+task_of c = task_from c c.region.list c.calls.items
 
 -- the interface before its start, under the slots k
 abbrev pub prepared : Task → Slots → State

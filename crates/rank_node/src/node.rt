@@ -20,7 +20,7 @@ use crate::install::{counter_of, make_calls};
 use crate::kept::Kept;
 use crate::start::{raise_go, start_cells};
 use portals_ni::{Nic, Spent};
-use ptl_types::{Bytes, Count, Lane, LocalStep, Message, NoMemory, Rank};
+use ptl_types::{Bytes, Call, Count, Lane, LocalStep, Message, NoMemory, Rank};
 use std::alloc::Global;
 use std::marker::Model;
 use std::mem;
@@ -30,10 +30,11 @@ use std::snapshot::Snapshot;
 const STRAY_BYTES: u64 = 64;
 
 /// One rank: what is compiled for it, its interface with the handles that it gave, its history, and a buffer for what came before
-/// the start. The interface has the region; the bytes that it began with are known in clauses alone.
+/// the start. The interface has the region; the bytes that it began with, and the calls that prepared it, are known in clauses alone.
 pub struct Node {
     compiled: Compiled,
     began: Snapshot<Bytes>,
+    called: Snapshot<Vec<Call>>,
     nic: Nic,
     kept: Kept,
     history: History,
@@ -50,9 +51,9 @@ impl Model for Node {
 
     ghost Value = { NodeState };
 
-    ghost view = { λ n. record { task = task_from n.compiled n.began.value.list; kept = n.kept; diary = n.history; nic = n.nic; strays = n.strays; closed = n.gates } };
+    ghost view = { λ n. record { task = task_from n.compiled n.began.value.list n.called.value.items; kept = n.kept; diary = n.history; nic = n.nic; strays = n.strays; closed = n.gates } };
 
-    ghost invariant = { λ n. IsNode (record { task = task_from n.compiled n.began.value.list; kept = n.kept; diary = n.history; nic = n.nic; strays = n.strays; closed = n.gates }) × (n.compiled.longest ≤ vec_capacity n.buffer) };
+    ghost invariant = { λ n. IsNode (record { task = task_from n.compiled n.began.value.list n.called.value.items; kept = n.kept; diary = n.history; nic = n.nic; strays = n.strays; closed = n.gates }) × (n.compiled.longest ≤ vec_capacity n.buffer) };
 }
 
 // Written out, so that letting one go is one call: docs/DECISIONS.md, "Large types have a drop of their own".
@@ -61,6 +62,7 @@ impl Drop for Node {
         let Node {
             compiled: _,
             began: _,
+            called: _,
             nic: _,
             kept: _,
             history: _,
@@ -74,8 +76,8 @@ impl Drop for Node {
 
 /// Makes the compiled calls on a new interface of this region. There is room for all handles before the first call.
 fn prepare(alloc: Global, compiled: &Compiled, region: Bytes) -> Result<(Nic, Kept), NoMemory>
-    requires { IsCompiled (task_from compiled.now region.list) }
-    ensures { IfOk result (λ p. IsPrepared (task_from compiled.now region.list) p.0 p.1) }
+    requires { IsCompiled (task_from compiled.now region.list compiled.now.calls.items) }
+    ensures { IfOk result (λ p. IsPrepared (task_from compiled.now region.list compiled.now.calls.items) p.0 p.1) }
 {
     let mut kept = Kept::with_room(alloc, &compiled.limits)?;
     let mut nic = Nic::open(
@@ -118,6 +120,9 @@ impl Node {
         let began = Snapshot::of(&compiled.region);
         let region = mem::replace(&mut compiled.region, Bytes::empty(alloc));
         let (nic, kept) = prepare(alloc, &compiled, region)?;
+        // The calls were made, and their memory goes: the next rank's calls may lie there.
+        let called = Snapshot::of(&compiled.calls);
+        compiled.calls = Vec::new(alloc);
         let history = diary(alloc, &compiled, nic.pending(), strays)?;
         let buffer = Vec::with_capacity(alloc, compiled.longest as usize)?;
         let gates = Gates::all_open(alloc, compiled.ranks)?;
@@ -125,6 +130,7 @@ impl Node {
         Ok(Node {
             compiled,
             began,
+            called,
             nic,
             kept,
             history,

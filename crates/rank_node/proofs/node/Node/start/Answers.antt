@@ -13,7 +13,7 @@ use Rattle.rank_node.proofs.node.Node.start.Goals as goal
 
 pub invariant_of-self : goal.invariant_of-self
 invariant_of-self c =
-    let n : NodeState = record { task = task_from c.self.inside.compiled c.self.inside.began.value.list; kept = c.self.inside.kept; diary = c.self.inside.history; nic = c.self.inside.nic; strays = c.self.inside.strays; closed = c.self.inside.gates } in
+    let n : NodeState = record { task = task_from c.self.inside.compiled c.self.inside.began.value.list c.self.inside.called.value.items; kept = c.self.inside.kept; diary = c.self.inside.history; nic = c.self.inside.nic; strays = c.self.inside.strays; closed = c.self.inside.gates } in
     let fresh : has_start n.diary.locals ≡ false = ap (nat_lt 0) (subst (λ (m : NodeState). count_by is_start m.diary.locals ≡ 0) (sym c.self.view_is) c.requires) in
     let began : AreStarted n.task.longest n.task.cells n.task.own n.nic c.start_cells.new.nic n.kept c.start_cells.new.kept = rw (c.deref.ensures.value, c.deref-2.ensures.value) at c.start_cells.ensures.started in
     let left : (k : Slots) → Agrees k c.start_cells.new.kept → c.raise_go.new.nic ≡ (start_of n.task k).by n.nic = λ k a.
