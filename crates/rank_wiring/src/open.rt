@@ -277,8 +277,7 @@ pub fn wired_slots<R: Threads + Sync>(
     requires { IsSound job.now }
     ensures { IfOk result (λ r. AreWired job.now r.0.items r.1.items) }
 {
-    let ranks = job.schedule().shape().ranks() as usize;
-    let threads = (threads as usize).min(ranks).max(1);
+    let threads = threads.max(1) as usize;
     let fans = all_fans(alloc, job.schedule())?;
     let places = make_berths(rt, alloc, job, &fans, threads)?;
     let (mut slots, loads) = in_order(alloc, job, places)?;

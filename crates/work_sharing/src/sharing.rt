@@ -110,9 +110,10 @@ fn place_all<X: Drop, F: Fn(usize) -> Option<X>>(
     }
 }
 
-/// Calls `f` at the indices below `count`, each once at most, by so many threads at most, and gives what each call gave at the place of its
-/// index. A thread ends where a call of its gives `None` or there is no memory to keep what one gave, so a place may be empty; with memory
-/// to spare, and calls that all give something, none is. Where a thread can't be started, the call does its part itself.
+/// Calls `f` at the indices below `count`, each once at most, by so many threads at most and no more than indices, and gives what each call
+/// gave at the place of its index. A thread ends where a call of its gives `None` or there is no memory to keep what one gave, so a place
+/// may be empty; with memory to spare, and calls that all give something, none is. Where a thread can't be started, the call does its part
+/// itself.
 ///
 /// # Errors
 ///
@@ -131,7 +132,7 @@ pub fn map_indices<R: Threads + Sync, X: Send + Drop, F: Fn(usize) -> Option<X> 
 {
     let mut places = no_places(alloc, count)?;
     let mut lists = Vec::new(alloc);
-    lists.resize_with(threads, || Vec::new(alloc))?;
+    lists.resize_with(threads.min(count).max(1), || Vec::new(alloc))?;
     fill_lists(rt, alloc, count, f, &mut lists);
     place_all(f, lists, &mut places);
     Ok(places)

@@ -11,12 +11,12 @@ use Rattle.rank_wiring.proofs.open.wired_slots.Goals as goal
 pub make_berths-requires-clause-count : goal.make_berths-requires-clause-count
 make_berths-requires-clause-count g c = λ _ _.
     ap (λ (l : List FanOut). length l) c.deref.ensures.value
-    ∙ (c.in_ok-fans.ensures.count ∙ ap (λ (o : Outline). o.ranks) c.schedule-2.ensures)
+    ∙ (c.in_ok-fans.ensures.count ∙ ap (λ (o : Outline). o.ranks) c.schedule.ensures)
 
 pub make_berths-requires-clause-fans : goal.make_berths-requires-clause-fans
 make_berths-requires-clause-fans g c = λ _ _.
     subst (AreFans (plan_of c.args.job.now.shape)) (sym c.deref.ensures.value)
-    (subst (λ (o : Outline). AreFans (plan_of o) c.in_ok-fans.fans.items) c.schedule-2.ensures c.in_ok-fans.ensures.fans)
+    (subst (λ (o : Outline). AreFans (plan_of o) c.in_ok-fans.fans.items) c.schedule.ensures c.in_ok-fans.ensures.fans)
 
 pub hand_all-requires-clause-count : goal.hand_all-requires-clause-count
 hand_all-requires-clause-count g c = (

@@ -1,8 +1,17 @@
-use Rattle.std.proofs.Common.{◌≡◌}
+use Rattle.std.proofs.Common.{◌≡◌, ◌++◌, ◌∙◌, ap, arith, drop, length, take}
+use Rattle.std.proofs.Math.Seq.{take-append_seam}
 use Rattle.std.proofs.lemmas.List.Elements.{All-same}
 use Rattle.std.specs.Prelude.{None}
+use Rattle.work_sharing.specs.Sharing.{AreGiven}
 use Rattle.work_sharing.proofs.Placed.{shared-none}
 use Rattle.work_sharing.proofs.sharing.map_indices.Goals as goal
+
+pub place_all-requires-clause-lists : goal.place_all-requires-clause-lists
+place_all-requires-clause-lists g c =
+    let lists = c.fill_lists.new.lists in let rest = drop (length lists) c.resize_with.new.self.items in
+    let all : c.resize_with.new.self.len ≡ length lists = omega arith in
+    All-same (λ v. AreGiven g.F.Fn c.args.f.now v.items) _ lists
+    (ap (λ n. take n (lists ++ rest)) all ∙ take-append_seam lists rest) c.fill_lists.ensures
 
 pub place_all-requires-clause-places : goal.place_all-requires-clause-places
 place_all-requires-clause-places g c =
