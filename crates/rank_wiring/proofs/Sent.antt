@@ -1,5 +1,5 @@
 -- What a thread makes for a rank may go to another thread.
-use denote.Param.Send.{IsSend, sendable, recorded_send, struct_send}
+use denote.Param.Send.{IsSend, recorded_send, struct_send}
 use denote.Struct.Declared.{shape}
 use Rattle.rank_wiring.specs.contracts.open.Berth as berth
 use Rattle.rank_wiring.proofs.open.Load.TheSendSync as load

@@ -1,6 +1,6 @@
 //! The text of a result, whose lines many threads make.
 
-ghost use Rattle.std.specs.Prelude.{◌≡◌, ◌<◌, ◌^◌, [], ℕ, Option, IfSome, length, get_or, slice_index_or};
+ghost use Rattle.std.specs.Prelude.{◌≡◌, ◌<◌, ◌^◌, [], ℕ, IfSome, length, get_or};
 ghost use Rattle.std.specs.List.{flat_map};
 ghost use Rattle.port_io.specs.Memory.{Tray};
 ghost use Rattle.run_text.specs.Lines.{buffer_lines, line_at, text_of};

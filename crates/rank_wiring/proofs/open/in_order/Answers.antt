@@ -1,4 +1,4 @@
-use Rattle.std.proofs.Common.{◌≡◌, ◌+◌, ◌∷◌, ◌++◌, [], ◌∙◌, List, ap, arith, length, length-append, refl, subst, sym}
+use Rattle.std.proofs.Common.{◌≡◌, ◌+◌, ◌∷◌, ◌++◌, [], List, ap, arith, length, length-append, refl, subst, sym}
 use Rattle.std.specs.Prelude.{IfSome}
 use Rattle.std.specs.Vec.Iter.{into_iter_items}
 use Rattle.rank_wiring.specs.declared.open.Berth.{Berth}
