@@ -1,11 +1,12 @@
 -- Values at the places of their indices.
-use Rattle.std.proofs.Common.{ℕ, ◌≡◌, ◌<◌, List, length, sym, subst, inl, inr}
+use Rattle.std.proofs.Common.{ℕ, ◌≡◌, ◌<◌, List, ◌∷◌, length, sym, subst, inl, inr}
 use Rattle.std.specs.Prelude.{All, Option, None, Some, IfSome, slice_index_or, slice_set}
 use Rattle.std.proofs.lemmas.Bool.{cases_eq}
 use Rattle.std.proofs.lemmas.Option.{IfSome_then}
+use Rattle.std.proofs.lemmas.List.Elements.{All-head, All-rest}
 use Rattle.std.proofs.lemmas.List.{get_or-set_same, get_or-set_other, length-set}
 use denote.Param.Members.{Shared}
-use Rattle.work_sharing.specs.Sharing.{AreShared, Gives}
+use Rattle.work_sharing.specs.Sharing.{AreGiven, AreShared, Gives, IsGiven}
 
 module _ {F X : Type 0} (g : Shared F (ℕ × Unit {0}) (Option X)) (f : F) where
   pub shared-none : (ys : List (Option X)) → All (λ o. o ≡ None) ys → AreShared g f ys
@@ -20,6 +21,17 @@ module _ {F X : Type 0} (g : Shared F (ℕ × Unit {0}) (Option X)) (f : F) wher
     where
       low' : j < length ys
       low' = subst (λ n. j < n) (length-set ys i (Some x)) low
+
+  -- the next value of a thread: its index has a place, and there it goes
+  pub given-first : (count i : ℕ) (x : X) (rest xs : List (ℕ × X)) → xs ≡ (i, x) ∷ rest → AreGiven g f count xs → IsGiven g f count (i, x)
+  given-first count i x rest xs is all = All-head (IsGiven g f count) (i, x) rest (subst (AreGiven g f count) is all)
+
+  pub place-first : (count i : ℕ) (x : X) (rest xs : List (ℕ × X)) (ys : List (Option X)) → xs ≡ (i, x) ∷ rest → AreGiven g f count xs
+      → AreShared g f ys → record { given : AreGiven g f count rest; shared : AreShared g f (slice_set ys i (Some x)) }
+  place-first count i x rest xs ys is all old = record {
+    given = All-rest (IsGiven g f count) (i, x) rest xs is all;
+    shared = shared-set ys i x old (given-first count i x rest xs is all).1;
+  }
 
   -- for a caller: what holds of all that a call may give holds of what lies there
   pub shared-each : (P : ℕ → X → Type 0) → ((i : ℕ) (x : X) → g.post f (i, tt) (Some x) → P i x) → (ys : List (Option X)) → AreShared g f ys

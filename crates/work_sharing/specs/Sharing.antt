@@ -8,9 +8,13 @@ module _ {F X : Type 0} (g : Shared F (ℕ × Unit {0}) (Option X)) (f : F) wher
   abbrev pub Gives : ℕ → X → Type 0
   Gives i x = FnReturns g f (i, tt) (Some x)
 
-  -- each of these values, beside its index, is what a call gave
-  abbrev pub AreGiven : List (ℕ × X) → Type 0
-  AreGiven xs = All (λ (p : ℕ × X). Gives p.0 p.1) xs
+  -- this value, beside its index below count, is what a call gave
+  abbrev pub IsGiven : ℕ → ℕ × X → Type 0
+  IsGiven count p = (p.0 < count) × Gives p.0 p.1
+
+  -- each of these is
+  abbrev pub AreGiven : ℕ → List (ℕ × X) → Type 0
+  AreGiven count xs = All (IsGiven count) xs
 
   -- so is each value that lies at the place of its index, of which some may be empty
   abbrev pub AreShared : List (Option X) → Type 0

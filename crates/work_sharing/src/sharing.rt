@@ -17,7 +17,7 @@ fn take_some<X: Drop, F: Fn(usize) -> Option<X>>(
     f: &F,
 ) -> Vec<(usize, X)>
     requires { (i : ℕ) → i < count → F.pre f.now i }
-    ensures { AreGiven F.Fn f.now result.items }
+    ensures { AreGiven F.Fn f.now count result.items }
 {
     let mut list = Vec::new(alloc);
     for _ in 0..count {
@@ -45,7 +45,7 @@ fn fill_lists<R: Threads + Sync, X: Send + Drop, F: Fn(usize) -> Option<X> + Syn
 )
     requires some { 0 < length lists.old }
     requires accepts { (i : ℕ) → i < count → F.pre f.now i }
-    ensures { All (λ l. AreGiven F.Fn f.now l.items) lists.new }
+    ensures { All (λ l. AreGiven F.Fn f.now count l.items) lists.new }
 {
     let next = &AtomicU64::new(0);
     let threads = lists.len();
@@ -55,7 +55,7 @@ fn fill_lists<R: Threads + Sync, X: Send + Drop, F: Fn(usize) -> Option<X> + Syn
         threads,
         &|_, list: &mut Vec<(usize, X)>|
             requires { (i : ℕ) → i < count → F.pre f.now i }
-            ensures { AreGiven F.Fn f.entry.now list.exit.now.items }
+            ensures { AreGiven F.Fn f.entry.now count list.exit.now.items }
         {
             *list = take_some(alloc, count, next, f);
         },
@@ -80,7 +80,7 @@ fn place_list<X: Drop, F: Fn(usize) -> Option<X>>(
     list: Vec<(usize, X)>,
     places: &mut [Option<X>],
 )
-    requires list { AreGiven F.Fn f.now list.items }
+    requires list { AreGiven F.Fn f.now (length places.old) list.items }
     requires places { AreShared F.Fn f.now places.old }
     ensures count { length places.new ≡ length places.old }
     ensures places { AreShared F.Fn f.now places.new }
@@ -88,9 +88,7 @@ fn place_list<X: Drop, F: Fn(usize) -> Option<X>>(
     // What the calls give is what the clauses speak of.
     let _ = f;
     for (index, value) in list {
-        if index < places.len() {
-            places[index] = Some(value);
-        }
+        places[index] = Some(value);
     }
 }
 
@@ -100,7 +98,7 @@ fn place_all<X: Drop, F: Fn(usize) -> Option<X>>(
     lists: Vec<Vec<(usize, X)>>,
     places: &mut [Option<X>],
 )
-    requires lists { All (λ l. AreGiven F.Fn f.now l.items) lists.items }
+    requires lists { All (λ l. AreGiven F.Fn f.now (length places.old) l.items) lists.items }
     requires places { AreShared F.Fn f.now places.old }
     ensures count { length places.new ≡ length places.old }
     ensures places { AreShared F.Fn f.now places.new }
