@@ -88,7 +88,8 @@ pub record IsFanned (job : JobOf) (r : ℕ) (x : Slot) (load : Load) : Type 0 wh
 
 -- what lies at each of these places, some of which may be empty, was made for the rank of that place, counted from k on
 abbrev pub AreBerths : JobOf → ℕ → List (Option Berth) → Type 0
-AreBerths job k places = (i : ℕ) (d : Option Berth) → i < length places → IfSome (slice_index_or places i d) (λ (b : Berth). IsFanned job (k + i) b.slot b.load)
+AreBerths job k places = (i : ℕ) (d : Option Berth) → i < length places →
+    IfSome (slice_index_or places i d) (λ (b : Berth). IsFanned job (k + i) b.slot b.load)
 
 -- the slots and the wires of all ranks, in their order
 abbrev pub AllFanned : JobOf → List Slot → List Load → Type 0

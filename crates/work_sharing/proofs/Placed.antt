@@ -36,4 +36,5 @@ module _ {F X : Type 0} (g : Shared F (ℕ × Unit {0}) (Option X)) (f : F) wher
   -- for a caller: what holds of all that a call may give holds of what lies there
   pub shared-each : (P : ℕ → X → Type 0) → ((i : ℕ) (x : X) → g.post f (i, tt) (Some x) → P i x) → (ys : List (Option X)) → AreShared g f ys
       → (i : ℕ) (d : Option X) → i < length ys → IfSome (slice_index_or ys i d) (P i)
-  shared-each P says ys all i d low = IfSome_then (slice_index_or ys i d) {P = Gives g f i} {Q = P i} (all i d low) (λ x given. says i x given.met)
+  shared-each P says ys all i d low =
+      IfSome_then (slice_index_or ys i d) {P = Gives g f i} {Q = P i} (all i d low) (λ x given. says i x given.met)
