@@ -16,6 +16,7 @@ use counters::Counter;
 use event_delivery::count;
 use handle_store::Store;
 use ptl_types::{Deed, Handle, Message, Rank};
+use target_engine::Spent;
 use triggered_ops::Pending;
 
 /// What an increment or a set does: the counting event that it names.
@@ -140,12 +141,23 @@ impl Nic {
         requires { IsTrue (is_ready self.old number) }
         ensures does { fires self.new result ≡ fired self.old number }
     {
+        let mut spent = Spent::none();
+        self.fire_using(number, &mut spent)
+    }
+
+    /// Fires a ready operation, as `fire` does. Its bytes are read into the room of a message that was delivered, if one is kept that is
+    /// large enough, and else into its own.
+    pub fn fire_using(&mut self, number: u32, spent: &mut Spent) -> Option<Message>
+        requires { IsTrue (is_ready self.old number) }
+        ensures does { fires self.new result ≡ fired self.old number }
+    {
         let Armed { deed, room } = self.pending.take(number)?;
         if !is_start(&deed) {
             let counted = count_deed(&mut self.cts, &deed);
             tell(&mut self.pending, &self.cts, counted);
             return None;
         }
+        let room = spent.exchange(room);
         let (message, counted) = self
             .initiator
             .start(&self.region, &mut self.cts, &mut self.eqs, &deed, room);

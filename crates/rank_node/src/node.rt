@@ -212,8 +212,7 @@ impl Node {
     }
 
     /// Fires an operation that is ready, and gives its message; `None` exactly for one that names no rank, an increment or a set. It
-    /// takes no memory. Its lane is
-    /// the caller's to look at.
+    /// takes no memory. Its lane is the caller's to look at. The message may use the room of one that the rank received.
     pub fn fire(&mut self, number: u32) -> Option<Message>
         requires { IsTrue (is_ready self.old.nic number) }
         ensures message { result ≡ made_by self.old.nic (Fired number) }
@@ -221,7 +220,7 @@ impl Node {
         ensures step { self.new ≡ fired_node number self.old }
     {
         self.history.note_fire(number);
-        self.nic.fire(number)
+        self.nic.fire_using(number, &mut self.spent)
     }
 
     /// Handles a message that arrived, and gives the answer to send back, if any. It takes no memory. Conditions: the message is

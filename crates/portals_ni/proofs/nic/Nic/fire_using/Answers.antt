@@ -1,4 +1,4 @@
-use Rattle.std.proofs.Common.{◌≡◌, true, false, sym, subst, ◌∙◌}
+use Rattle.std.proofs.Common.{◌≡◌, true, false, arith, sym, subst, ◌∙◌}
 use Rattle.ni_model.specs.Answers.{home}
 use Rattle.ni_model.specs.Ready.{is_ready}
 use Rattle.ni_model.specs.Starts.{Started}
@@ -11,7 +11,7 @@ use Rattle.portals_ni.proofs.Firing.{ready-none, taken-armed}
 use Rattle.portals_ni.proofs.Homes.{KeepsHome, started-keeps, fits-unrefused}
 use Rattle.portals_ni.proofs.Kept.{count-sound, home-sound, taken-sound, changes-deed}
 use Rattle.portals_ni.proofs.Stands.{fires-stands}
-use Rattle.portals_ni.proofs.nic.Nic.fire.Goals as goal
+use Rattle.portals_ni.proofs.nic.Nic.fire_using.Goals as goal
 
 pub returns-in_err-deed : goal.returns-in_err-deed
 returns-in_err-deed c =
@@ -56,7 +56,9 @@ start-message-requires-clause-checked c =
 pub start-message-requires-clause-room : goal.start-message-requires-clause-room
 start-message-requires-clause-room c =
     let n = c.self.inside in
-    (taken-armed c.args.number n.pending c.in_ok-deed.field-0 n.initiator.mds n.initiator.ranks n.initiator.limits (sym c.take.ensures.value ∙ c.in_ok-deed.was) c.self.invariant.sound.armed).room
+    let own = (taken-armed c.args.number n.pending c.in_ok-deed.field-0 n.initiator.mds n.initiator.ranks n.initiator.limits (sym c.take.ensures.value ∙ c.in_ok-deed.was) c.self.invariant.sound.armed).room in
+    let exchanged = c.exchange-room.ensures in
+    omega (arith, own, exchanged)
 
 pub invariant_of-self-2 : goal.invariant_of-self-2
 invariant_of-self-2 c =
