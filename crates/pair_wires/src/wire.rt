@@ -4,7 +4,7 @@ ghost use Rattle.std.specs.Prelude.{◌≡◌, true, ◌+◌, ◌≤◌, ◌<◌
 ghost use Rattle.ptl_types.specs.Messages.{Sent};
 ghost use Rattle.crossbeam_queue.specs.Passes.{view, IsPassOf};
 ghost use Rattle.ptl_types.specs.Handles.{one_more};
-ghost use Rattle.pair_wires.specs.Wires.{IsOutOf, IsInOf, Opens, one_if};
+ghost use Rattle.pair_wires.specs.Wires.{IsOutOf, IsInOf, Opens, most_left};
 ghost use Rattle.pair_wires.specs.Bounds.{KeepsBounds};
 ghost use Rattle.pair_wires.specs.Rules.{Drains};
 ghost use Rattle.pair_wires.specs.Lanes.{plain};
@@ -209,10 +209,11 @@ impl Wire {
     }
 
     /// Takes the wire's ends for good. What its queue holds and then the message that waits go, oldest first, to the end of the lane; of
-    /// the wire there is then no more than its memory. It may wait inside the queue.
+    /// the wire there is then no more than its memory. It may wait inside the queue. Enough is room for what the queue can hold and what
+    /// waits, or for all that may ever be sent on the wire.
     pub fn drain<R: Wait>(&self, rt: &R, out: OutEnd, into: InEnd, rest: &mut PlainLane)
         requires ends { IsOutOf self.now out × IsInOf self.now into }
-        requires room { length rest.old.messages + (self.now.capacity + one_if out.waits) ≤ rest.old.capacity }
+        requires room { length rest.old.messages + most_left self.now out ≤ rest.old.capacity }
         ensures held { (held : List Sent) × (rest.new.messages ≡ rest.old.messages ++ held) × (out.sent ≡ into.received ++ held) }
         ensures capacity { rest.new.capacity ≡ rest.old.capacity }
         ensures few { length rest.new.messages ≤ rest.new.capacity }
@@ -236,10 +237,10 @@ impl Wire {
     }
 
     /// Ends the wire. What its queue holds and then the message that waits go, oldest first, to the end of the lane. It may
-    /// wait inside the queue.
+    /// wait inside the queue. Enough is room for what the queue can hold and what waits, or for all that may ever be sent on the wire.
     pub fn close<R: Wait>(self, rt: &R, out: OutEnd, into: InEnd, rest: &mut PlainLane)
         requires ends { IsOutOf self out × IsInOf self into }
-        requires room { length rest.old.messages + (self.capacity + one_if out.waits) ≤ rest.old.capacity }
+        requires room { length rest.old.messages + most_left self out ≤ rest.old.capacity }
         ensures held { (held : List Sent) × (rest.new.messages ≡ rest.old.messages ++ held) × (out.sent ≡ into.received ++ held) }
         ensures capacity { rest.new.capacity ≡ rest.old.capacity }
         ensures few { length rest.new.messages ≤ rest.new.capacity }

@@ -140,6 +140,19 @@ fn what_a_wire_holds_goes_after_what_the_lane_holds(rt: HostRuntime) -> Result<(
     Ok(())
 }
 
+#[test]
+fn room_for_all_that_is_ever_sent_is_enough(rt: HostRuntime) -> Result<(), Fail> {
+    let (wire, mut out, into) = Wire::open(rt.alloc(), 3, requests(2))?;
+    let mut rest = PlainLane::open(rt.alloc(), 2)?;
+    let first = send(&rt, rt.alloc(), &wire, &mut out, 1);
+    let second = send(&rt, rt.alloc(), &wire, &mut out, 2);
+    assert_eq!(rt; [first, second], [None, None]);
+    wire.close(&rt, out, into, &mut rest);
+    let moved = [oldest(&mut rest), oldest(&mut rest), oldest(&mut rest)];
+    assert_eq!(rt; moved, [Some(1), Some(2), None]);
+    Ok(())
+}
+
 // Sends puts with the numbers below the count, whatever comes back.
 fn send_all<R: Wait>(rt: &R, alloc: Global, wire: &Wire, out: OutEnd, count: u32) -> OutEnd
     requires wire { IsOutOf wire.now out × (out.sent ≡ []) × (out.waits ≡ false) }
