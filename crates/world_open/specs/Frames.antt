@@ -13,7 +13,7 @@ use Rattle.world_open.specs.Laying.{laid_lane}
 abbrev pub frame_window : ℕ
 frame_window = 4
 
--- an empty lane, with room where the plan uses it
+-- an empty lane, with room for so many messages, or for the plan's where these are fewer
 abbrev pub frame_lane : Plan → ℕ → ℕ → Lane → Plain
 frame_lane p s d lane = laid_lane p (Window frame_window) s d lane
 

@@ -1,5 +1,5 @@
 -- The lanes of a world before its first step.
-use Rattle.std.specs.Prelude.{ℕ, ◌+◌, [], nat_lt, if◌then◌else◌}
+use Rattle.std.specs.Prelude.{ℕ, ◌+◌, [], min}
 use Rattle.ptl_types.specs.declared.headers.Lane.{Lane}
 use Rattle.pair_wires.specs.Lanes.{Plain, plain}
 use Rattle.plan_calls.specs.Lanes.{lane_messages}
@@ -11,7 +11,7 @@ use Rattle.world_open.specs.declared.laying.Room.TheVariants.{Whole, Window}
 -- for how many messages there is room on a lane of this kind on which the plan sends so many
 abbrev pub room_of : Room → ℕ → Lane → ℕ
 room_of (Whole strays) messages lane = messages + spare_on lane strays
-room_of (Window few) messages lane = if nat_lt 0 messages then few else 0
+room_of (Window few) messages lane = min few messages
 
 -- a lane on which nothing was sent
 abbrev pub laid_lane : Plan → Room → ℕ → ℕ → Lane → Plain

@@ -39,7 +39,8 @@ pub struct Bare {
     pub firings: CountTree,
 }
 
-/// The empty lanes of a job, each that is used with room for four messages, and room for the counts of a world.
+/// The empty lanes of a job, each with room for four messages, or for all that are sent on it where these are fewer, and room for the
+/// counts of a world.
 ///
 /// # Errors
 ///

@@ -18,7 +18,7 @@ use std::alloc::Global;
 pub enum Room {
     /// For the plan's messages, and on a request lane for so many strays.
     Whole(u32),
-    /// For so many messages on each lane that the plan uses, and for none on the others.
+    /// For so many messages, or for the plan's where these are fewer.
     Window(u32),
 }
 
@@ -46,7 +46,7 @@ fn capacity(room: Room, messages: u64, lane: Lane) -> Option<u32>
 {
     match room {
         Room::Whole(strays) => both(messages, spare_of(lane, strays)),
-        Room::Window(few) => Some(if 0 < messages { few } else { 0 }),
+        Room::Window(few) => Some(u64::from(few).min(messages) as u32),
     }
 }
 
