@@ -58,7 +58,8 @@ impl Drop for Frame {
 impl Frame {
     ghost use Rattle.worlds.specs.FrameLends.{LendsLane};
 
-    /// The frame of a job. Nothing lies in its lanes, and each that the job uses has room for four messages.
+    /// The frame of a job. Nothing lies in its lanes, and each has room for four messages, or for all that the job sends on it where
+    /// these are fewer.
     ///
     /// # Errors
     ///
