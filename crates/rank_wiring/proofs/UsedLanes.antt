@@ -1,5 +1,5 @@
 -- The lanes of a plan, gathered one after the other.
-use Rattle.std.proofs.Common.{ℕ, ◌+◌, ◌*◌, ◌<◌, ◌≤◌, ◌^◌, ◌≡◌, ◌==◌, ◌∙◌, ⊎_elim, Bool, true, false, List, [], ◌∷◌, ◌++◌, length, nat_lt}
+use Rattle.std.proofs.Common.{ℕ, zero, suc, ◌+◌, ◌*◌, ◌<◌, ◌≤◌, ◌^◌, ◌≡◌, ◌==◌, ◌∙◌, ⊎_elim, Bool, true, false, List, [], ◌∷◌, ◌++◌, length, nat_lt}
 use Rattle.std.proofs.Common.{sym, refl, ap, subst, arith, inl, append-nil, length-append, eqb-true, if◌then◌else◌}
 use Rattle.std.proofs.lemmas.Bool.{cases_eq}
 use Rattle.std.proofs.lemmas.List.Sums.{count_by-le-length, length-filter}
@@ -61,6 +61,15 @@ few-messages p n sound s d Answer = at p.remote
     at : (b : Bool) → (if b then length (lane_links p d s) else 0) < 2 ^ 32
     at true = let a = few-links p d s in let b = sound.few_together in omega (arith, a, b)
     at false = omega arith
+
+-- messages go on each lane of the plan that is used
+some_sent : (n : ℕ) → nat_lt 0 n ≡ true → 0 < n
+some_sent zero e = cc
+some_sent (suc n) e = omega arith
+
+pub lane-sends : (p : Plan) (b : Bounds) → IsLane p b → 0 < b.messages
+lane-sends p b is = let some = some_sent (lane_messages p b.source b.target b.lane) is.used in
+    let same = ap (λ (c : Bounds). c.messages) is.bounds in omega (arith, some, same)
 
 -- ---- the lanes below a place
 pub record AreBelow (p : Plan) (n : ℕ) (lanes : List Bounds) : Type 0 where

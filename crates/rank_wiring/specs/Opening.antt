@@ -1,5 +1,6 @@
 -- What an opening makes: the slots of a job whose ranks made no step, and their wires.
 use Rattle.std.specs.Prelude.{ℕ, suc, false, ◌+◌, ◌≡◌, ◌<◌, List, [], ◌∷◌, Option, IfSome, length, map, replicate, slice_index_or}
+use Rattle.std.specs.Prelude.{min}
 use mathlib.Core.List.{IsPrefix}
 use mathlib.Core.Option.{some}
 use lib.ListN.{get_elem?}
@@ -44,14 +45,18 @@ SlotLaid wires r x = IsLaid wires r (map out_joint x.outs.items) (map in_joint x
 abbrev pub AllLaid : List WireState → List Slot → Type 0
 AllLaid wires slots = (r : ℕ) (x : Slot) → get_elem? slots r ≡ some x → SlotLaid wires r x
 
--- how many messages the queue of a wire holds; one more may wait at its out end
-abbrev pub wire_room : ℕ
-wire_room = 3
+-- how many messages the queue of a wire with these bounds holds: three, or all that may ever be sent where these are fewer; one more may
+-- wait at its out end
+abbrev pub wire_room : Bounds → ℕ
+wire_room b = min 3 b.messages
+
+abbrev pub HasRoom : WireState → Type 0
+HasRoom w = w.capacity ≡ wire_room w.bounds
 
 -- a wire for each of these lanes
 pub record AreWires (lanes : List Bounds) (wires : List WireState) : Type 0 where
   pub bounds_are : bounds_of wires ≡ lanes
-  pub rooms : Each (λ (w : WireState). w.capacity ≡ wire_room) wires
+  pub rooms : Each HasRoom wires
 
 -- none of these ends is of this lane
 abbrev pub HasNoOut : Bounds → List OutPort → Type 0
@@ -63,7 +68,7 @@ HasNoIn b ins = Each (λ (q : InPort). q.source ≡ b.source → q.lane ≡ b.la
 -- ---- what the thread of a rank makes
 -- a wire with its in end, through which nothing went
 pub record IsLine (number : ℕ) (l : Line) : Type 0 where
-  pub room : l.wire.capacity ≡ wire_room
+  pub room : HasRoom l.wire
   pub number_is : l.into.wire ≡ number
   pub in_is : IsInOf l.wire l.into.end
   pub source : l.into.source ≡ l.wire.bounds.source
@@ -105,7 +110,7 @@ AllIn wires slots = (r : ℕ) (x : Slot) → get_elem? slots r ≡ some x → Is
 pub record IsHanded (job : JobOf) (wires : List WireState) (slots : List Slot) : Type 0 where
   pub count : length slots ≡ job.shape.ranks
   pub fresh : AllFresh job slots
-  pub rooms : Each (λ (w : WireState). w.capacity ≡ wire_room) wires
+  pub rooms : Each HasRoom wires
   pub ins : AllIn wires slots
 
 -- these wires are of the first of all lanes

@@ -22,7 +22,8 @@ use std::alloc::Global;
 use std::thread::Threads;
 use work_sharing::map_indices;
 
-/// How many messages the queue of a wire holds; one more may wait at its out end.
+/// How many messages the queue of a wire holds, or all that may ever be sent on the wire where these are fewer; one more may wait at its
+/// out end.
 const WIRE_ROOM: u32 = 3;
 
 /// A thread that makes ranks reaches ahead for the memory of about so many of them.
@@ -85,7 +86,7 @@ fn lay_line(
     ensures line { IfOk result (λ l. IsLine number l × (l.wire.bounds ≡ lane)) }
     ensures out { IfOk result (λ l. map out_joint slot.new.outs.items ≡ map out_joint slot.old.outs.items ++ joint number l.wire ∷ []) }
 {
-    let (wire, out, into) = Wire::open(alloc, WIRE_ROOM, lane)?;
+    let (wire, out, into) = Wire::open(alloc, WIRE_ROOM.min(lane.messages), lane)?;
     let out = OutPort {
         end: out,
         wire: number,

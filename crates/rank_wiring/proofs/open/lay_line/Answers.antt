@@ -1,11 +1,17 @@
-use Rattle.std.proofs.Common.{◌≡◌, ◌∙◌, ◌∷◌, ◌++◌, [], sym, refl, ap, map}
+use Rattle.std.proofs.Common.{◌≡◌, ◌∙◌, ◌∷◌, ◌++◌, [], sym, refl, ap, map, arith}
 use Rattle.pair_wires.specs.declared.bounds.Bounds.{Bounds}
+use Rattle.shape_plans.specs.Drawing.{plan_of}
 use Rattle.rank_slots.specs.declared.ports.OutPort.{OutPort}
 use Rattle.rank_slots.specs.Joints.{Joint, joint, out_joint}
+use Rattle.rank_wiring.specs.Opening.{wire_room}
 use Rattle.rank_wiring.proofs.Handing.{fresh-of}
 use Rattle.rank_wiring.proofs.Fresh.{fresh_out}
+use Rattle.rank_wiring.proofs.UsedLanes.{lane-sends}
 use Rattle.rank_slots.proofs.Snocs.{map_snoc}
 use Rattle.rank_wiring.proofs.open.lay_line.Goals as goal
+
+pub open-requires : goal.open-requires
+open-requires c = let some = lane-sends (plan_of c.args.job.now.shape) c.args.lane c.requires.lane in let m = c.min.ensures in omega (arith, some, m)
 
 pub add_out-requires : goal.add_out-requires
 add_out-requires c = let o = c.in_ok-wire.ensures in let lane = c.args.lane in
@@ -19,7 +25,7 @@ returns-clause-fresh c = let e = c.add_out.ensures in
 pub returns-clause-line : goal.returns-clause-line
 returns-clause-line c = let o = c.in_ok-wire.ensures in (
   record {
-    room = o.capacity_is;
+    room = o.capacity_is ∙ (c.min.ensures ∙ ap wire_room (sym o.bounds_are));
     number_is = refl;
     in_is = o.in_is;
     source = sym (ap (λ (b : Bounds). b.source) o.bounds_are);
