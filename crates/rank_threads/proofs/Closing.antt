@@ -128,7 +128,7 @@ module _ (job : JobOf) (sound : IsSound job) (slots : List Slot) (wires : List W
   record IsUsedAt (s d : ℕ) (lane : Lane) : Type 0 where
     has : HasSent p job.inputs (node_at nodes s) d lane (got (w d) s lane ++ lies s d lane)
     few : length (lies s d lane) ≤ 4
-    room : (lane_at ls (lane_place n s d lane)).capacity ≡ 4
+    room : (lane_at ls (lane_place n s d lane)).capacity ≡ min 4 (lane_messages p s d lane)
 
   used-at : (s d : ℕ) (lane : Lane) → s < n → d < n → is_used_lane p s d lane ≡ true → IsUsedAt s d lane
   used-at s d lane hs hd used =
@@ -141,11 +141,13 @@ module _ (job : JobOf) (sound : IsSound job) (slots : List Slot) (wires : List W
       let here : lane_at ls (lane_place n v.0.bounds.source v.0.bounds.target v.0.bounds.lane) ≡ lane_at ls (lane_place n s d lane) =
       (λ i. lane_at ls (lane_place n (es i) (ed i) (el i))) in
       let l = lifted h.at v.0 v.1 in
+      let all : v.0.bounds.messages ≡ lane_messages p s d lane = ap (λ (b : Bounds). b.messages) (v.2 ∙ (lanes.each h.at h.bounds h.there).bounds)
+      ∙ (λ i. lane_messages p (h.source i) (h.target i) (h.lane_is i)) in
       let held = l.held x.slot y.slot (ap (get_elem? slots) es ∙ x.there) (ap (get_elem? slots) ed ∙ y.there) in record {
         has = subst (λ (z : (JobOf × NodeState) × ((ℕ × Lane) × List Sent)). HasSent (plan_of z.0.0.shape) z.0.0.inputs z.0.1 z.1.0.0 z.1.0.1 z.1.1)
             (λ i. ((q.job_is i, sym x.node_is i), ((ed i, el i), got (sym y.node_is i).diary.locals (es i) (el i) ++ (here i).messages))) held;
         few = subst (λ (z : Plain). length z.messages ≤ 4) here l.few;
-        room = ap (λ (z : Plain). z.capacity) (sym here) ∙ l.room;
+        room = ap (λ (z : Plain). z.capacity) (sym here) ∙ (l.room ∙ ap (min 4) all);
       }
 
   module _ (k : ℕ → Slots) (agree : AgreeAll n k nodes) where

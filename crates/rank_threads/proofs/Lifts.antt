@@ -1,6 +1,6 @@
 -- Wires that end one after the other, and the lanes that take what they held.
 use Rattle.std.proofs.Common.{ℕ, zero, suc, Bool, true, false, ◌<◌, ◌≤◌, ◌≡◌, ◌∙◌, ⊎_elim, List, [], ◌∷◌, ◌++◌, length, set}
-use Rattle.std.proofs.Common.{if◌then◌else◌, refl, sym, ap, ap₂, subst, arith, get_or-set_same, get_or-set_other}
+use Rattle.std.proofs.Common.{refl, sym, ap, ap₂, subst, arith, get_or-set_same, get_or-set_other}
 use Rattle.std.proofs.lemmas.Bool.{cases_eq, cases_lt}
 use mathlib.Core.Option.{some, some-injective}
 use lib.ListN.{get_elem?}
@@ -24,23 +24,24 @@ use Rattle.rank_slots.specs.declared.slot.Slot.{Slot}
 use Rattle.rank_slots.specs.declared.ports.OutPort.{OutPort}
 use Rattle.rank_slots.specs.declared.ports.InPort.{InPort}
 use Rattle.rank_threads.specs.Closing.{IsHeldOn, IsLifted}
-use Rattle.rank_slots.specs.Lanes.{AreLanes}
+use Rattle.rank_slots.specs.Lanes.{AreLanes, IsLane}
 use Rattle.rank_slots.specs.Moves.{SameNode, Slotwise}
 use Rattle.rank_slots.specs.Names.{history}
 use Rattle.rank_slots.specs.Slots.{HasSent, InOk, OutOk}
 use Rattle.rank_wiring.specs.Wiring.{bounds_of}
+use Rattle.rank_wiring.proofs.UsedLanes.{lane-sends}
 use Rattle.rank_threads.proofs.Leaving.{node_before}
 
 two : {b : Bool} → b ≡ true → b ≡ false → ⊥
 two e f = cc
 
--- a lane that is used has room for four messages, and nothing lies in it
-pub used-lane : (p : Plan) (s d : ℕ) (lane : Lane) → is_used_lane p s d lane ≡ true → frame_lane p s d lane ≡ plain [] 4
-used-lane p s d lane used = ap (λ (b : Bool). plain [] (if b then 4 else 0)) used
+-- a lane of the plan has room in the frame
+pub some-room : (p : Plan) (b : Bounds) → IsLane p b → 0 < (frame_lane p b.source b.target b.lane).capacity
+some-room p b is = let sends = lane-sends p b is in let same = ap (λ (c : Bounds). c.messages) is.bounds in omega (arith, sends, same)
 
--- such a lane is one of those of the frame
-pub in-lanes : (ls : List Plain) (i : ℕ) → (lane_at ls i).capacity ≡ 4 → i < length ls
-in-lanes ls i e = ⊎_elim (λ (h : i < length ls). h) (λ (h : length ls ≤ i). absurd (let k = sym (ap (λ (z : Plain). z.capacity) (past ls i h)) ∙ e in omega (arith, k))) (cases_lt i (length ls))
+-- a lane with room is one of those of the frame
+pub in-lanes : (ls : List Plain) (i : ℕ) → 0 < (lane_at ls i).capacity → i < length ls
+in-lanes ls i roomy = ⊎_elim (λ (h : i < length ls). h) (λ (h : length ls ≤ i). absurd (let k = ap (λ (z : Plain). z.capacity) (past ls i h) in omega (arith, k, roomy))) (cases_lt i (length ls))
   where
     past : (ls : List Plain) (i : ℕ) → length ls ≤ i → lane_at ls i ≡ plain [] 0
     past [] i h = refl
@@ -92,11 +93,11 @@ module _ (p : Plan) (n : ℕ) (ranks : p.ranks ≡ n) (all : List WireState) (ar
   bounds-at : (k : ℕ) (w : WireState) → get_elem? all k ≡ some w → get_elem? (bounds_of all) k ≡ some w.bounds
   bounds-at k w e = at_map (λ (w : WireState). w.bounds) all k w e
 
-  pub between : (k : ℕ) (w : WireState) → get_elem? all k ≡ some w → (w.bounds.source < n) × (w.bounds.target < n)
-  between k w e = let h = are.each k w.bounds (bounds-at k w e) in (subst (λ m. w.bounds.source < m) ranks h.source, subst (λ m. w.bounds.target < m) ranks h.target)
+  pub is-lane : (k : ℕ) (w : WireState) → get_elem? all k ≡ some w → IsLane p w.bounds
+  is-lane k w e = are.each k w.bounds (bounds-at k w e)
 
-  pub is-used : (k : ℕ) (w : WireState) → get_elem? all k ≡ some w → is_used_lane p w.bounds.source w.bounds.target w.bounds.lane ≡ true
-  is-used k w e = (are.each k w.bounds (bounds-at k w e)).used
+  pub between : (k : ℕ) (w : WireState) → get_elem? all k ≡ some w → (w.bounds.source < n) × (w.bounds.target < n)
+  between k w e = let h = is-lane k w e in (subst (λ m. w.bounds.source < m) ranks h.source, subst (λ m. w.bounds.target < m) ranks h.target)
 
   one-wire : (i k : ℕ) (v w : WireState) → get_elem? all i ≡ some v → get_elem? all k ≡ some w → OnLane v w.bounds.source w.bounds.target w.bounds.lane → i ≡ k
   one-wire i k v w ei ek o = are.once i k v.bounds w.bounds (bounds-at i v ei) (bounds-at k w ek) o.source o.goal o.kind
@@ -143,4 +144,4 @@ module _ (p : Plan) (n : ℕ) (ranks : p.ranks ≡ n) (all : List WireState) (ar
   -- no wire is left
   pub unused-left : (ls : List Plain) → AreLifted n all slots first 0 ls → (s d : ℕ) (lane : Lane) → s < n → d < n → is_used_lane p s d lane ≡ false → at_place n ls s d lane ≡ at_place n first s d lane
   unused-left ls h s d lane hs hd none = h.left s d lane hs hd
-      (λ k w low e o. two (sym (λ j. is_used_lane p (o.source j) (o.goal j) (o.kind j)) ∙ is-used k w e) none)
+      (λ k w low e o. two (sym (λ j. is_used_lane p (o.source j) (o.goal j) (o.kind j)) ∙ (is-lane k w e).used) none)

@@ -1,5 +1,5 @@
 -- What is left of a fabric: on each lane what was sent is what was received, and then what its wire held.
-use Rattle.std.specs.Prelude.{ℕ, ◌≡◌, ◌<◌, ◌≤◌, ◌^◌, ◌++◌, All, List, length}
+use Rattle.std.specs.Prelude.{ℕ, ◌≡◌, ◌<◌, ◌≤◌, ◌^◌, ◌++◌, All, List, length, min}
 use mathlib.Core.Option.{some}
 use lib.ListN.{get_elem?}
 use Rattle.pair_wires.specs.declared.bounds.Bounds.{Bounds}
@@ -24,11 +24,11 @@ abbrev pub IsHeldOn : Bounds → List Slot → Plain → Type 0
 IsHeldOn b slots l = (x y : Slot) → get_elem? slots b.source ≡ some x → get_elem? slots b.target ≡ some y →
     HasSent (plan_of x.job.shape) x.job.inputs x.node.value b.target b.lane (got (history y) b.source b.lane ++ l.messages)
 
--- and no more than four messages, for which it has room
+-- and no more than four messages; it has room for four, or for all that may ever be sent on it where these are fewer
 pub record IsLifted (b : Bounds) (slots : List Slot) (l : Plain) : Type 0 where
   pub held : IsHeldOn b slots l
   pub few : length l.messages ≤ 4
-  pub room : l.capacity ≡ 4
+  pub room : l.capacity ≡ min 4 b.messages
 
 -- ---- the ranks
 -- what is left of rank r: a history that begins with what each hand saw there, and whose places are those of the hands, each once

@@ -1,10 +1,10 @@
 //! How a fabric is closed.
 
-ghost use Rattle.std.specs.Prelude.{ℕ, true, false, ◌≡◌, ◌+◌, ◌<◌, ◌≤◌, ◌^◌, ◌++◌, ◌∷◌, [], All, List, length, map, vec_capacity};
+ghost use Rattle.std.specs.Prelude.{ℕ, false, ◌≡◌, ◌+◌, ◌<◌, ◌≤◌, ◌^◌, ◌++◌, ◌∷◌, [], All, List, length, map, vec_capacity};
 ghost use mathlib.Core.Option.{some};
 ghost use lib.ListN.{get_elem?};
 ghost use Rattle.ptl_types.specs.declared.headers.Lane.{Lane};
-ghost use Rattle.pair_wires.specs.Lanes.{Plain, plain};
+ghost use Rattle.pair_wires.specs.Lanes.{Plain};
 ghost use Rattle.pair_wires.specs.Wires.{WireState};
 ghost use Rattle.plan_calls.specs.Lanes.{is_used_lane};
 ghost use Rattle.plan_view.specs.Slots.{Slots};
@@ -19,9 +19,9 @@ ghost use Rattle.worlds.specs.Standing.{IsStanding};
 ghost use Rattle.worlds.specs.World.{AreSlots, histories_in};
 ghost use Rattle.rank_slots.specs.declared.slot.Slot.{Slot};
 ghost use Rattle.rank_threads.specs.Closing.{IsLifted, IsWorldOf};
-ghost use Rattle.rank_slots.specs.Lanes.{AreLanes};
+ghost use Rattle.rank_slots.specs.Lanes.{AreLanes, IsLane};
 ghost use Rattle.rank_slots.specs.Lists.{Each};
-ghost use Rattle.rank_wiring.specs.Opening.{AllLaid, IsBetween};
+ghost use Rattle.rank_wiring.specs.Opening.{AllLaid, HasRoom, IsBetween};
 ghost use Rattle.rank_slots.specs.Moves.{SameNode, Slotwise};
 ghost use Rattle.rank_wiring.specs.Wiring.{bounds_of};
 
@@ -37,9 +37,10 @@ fn lift_wire<R: Wait>(rt: &R, wire: &Wire, slots: &mut [Slot], frame: &mut Frame
     requires laid { (before : List WireState) × AllLaid (before ++ wire.now ∷ []) slots.old }
     requires between { IsBetween (length slots.old) wire.now }
     requires ranks { length slots.old ≡ frame.old.shape.ranks }
-    requires used { is_used_lane (plan_of frame.old.shape) wire.now.bounds.source wire.now.bounds.target wire.now.bounds.lane ≡ true }
-    requires room { wire.now.capacity ≡ 3 }
-    requires lane { lane_in frame.old wire.now.bounds.source wire.now.bounds.target wire.now.bounds.lane ≡ plain [] 4 }
+    requires lane { IsLane (plan_of frame.old.shape) wire.now.bounds }
+    requires room { HasRoom wire.now }
+    requires empty { lane_in frame.old wire.now.bounds.source wire.now.bounds.target wire.now.bounds.lane
+        ≡ frame_lane (plan_of frame.old.shape) wire.now.bounds.source wire.now.bounds.target wire.now.bounds.lane }
     ensures count { length slots.new ≡ length slots.old }
     ensures nodes { Slotwise SameNode slots.old slots.new }
     ensures laid { (before : List WireState) → AllLaid (before ++ wire.now ∷ []) slots.old → AllLaid before slots.new }
@@ -61,7 +62,7 @@ fn lift_wires<R: Wait>(rt: &R, wires: &[Wire], slots: &mut [Slot], frame: &mut F
     requires ranks { length slots.old ≡ frame.old.shape.ranks }
     requires count { (plan_of frame.old.shape).ranks ≡ frame.old.shape.ranks }
     requires lanes { AreLanes (plan_of frame.old.shape) (bounds_of wires.now) }
-    requires rooms { Each (λ (w : WireState). w.capacity ≡ 3) wires.now }
+    requires rooms { Each HasRoom wires.now }
     requires empty { (s d : ℕ) (lane : Lane) → s < frame.old.shape.ranks → d < frame.old.shape.ranks →
         lane_in frame.old s d lane ≡ frame_lane (plan_of frame.old.shape) s d lane }
     ensures count { length slots.new ≡ length slots.old }

@@ -1,4 +1,4 @@
-use Rattle.std.proofs.Common.{◌≡◌, ◌<◌, ◌≤◌, ◌++◌, Bool, true, false, List, length, sym, ap, ◌∙◌, subst, arith}
+use Rattle.std.proofs.Common.{◌≡◌, ◌<◌, ◌≤◌, ◌++◌, Bool, true, false, List, length, min, sym, ap, ◌∙◌, subst, arith}
 use lib.ListN.{get_elem?}
 use Rattle.shape_plans.specs.Drawing.{plan_of}
 use Rattle.pair_wires.specs.declared.bounds.Bounds.{Bounds}
@@ -45,7 +45,7 @@ lane-lane-requires-clause-target g c = let n = c.requires.ranks in let h = c.req
     subst (λ (z : Bounds). z.target < c.args.frame.now.shape.ranks) (sym c.bounds-bounds.ensures) (omega (arith, n, h))
 
 pub lane-lane-requires-clause-used : goal.lane-lane-requires-clause-used
-lane-lane-requires-clause-used g c = subst (λ (z : Bounds). is_used_lane (plan_of c.args.frame.now.shape) z.source z.target z.lane ≡ true) (sym c.bounds-bounds.ensures) c.requires.used
+lane-lane-requires-clause-used g c = subst (λ (z : Bounds). is_used_lane (plan_of c.args.frame.now.shape) z.source z.target z.lane ≡ true) (sym c.bounds-bounds.ensures) c.requires.lane.used
 
 pub drain-requires-clause-ends : goal.drain-requires-clause-ends
 drain-requires-clause-ends g c = let b = c.bounds-bounds.ensures in let o = c.pull_out-out in let i = c.pull_in-into in
@@ -61,9 +61,10 @@ at-most-one false = omega arith
 pub drain-requires-clause-room : goal.drain-requires-clause-room
 drain-requires-clause-room g c =
     let f = c.args.frame.now in
-    let is = c.lane-lane.ensures.value ∙ (ap (λ (z : Bounds). lane_in f z.source z.target z.lane) c.bounds-bounds.ensures ∙ c.requires.lane) in
+    let is = c.lane-lane.ensures.value ∙ (ap (λ (z : Bounds). lane_in f z.source z.target z.lane) c.bounds-bounds.ensures ∙ c.requires.empty) in
     let m = ap (λ (l : Plain). length l.messages) is in let n = ap (λ (l : Plain). l.capacity) is in
-    let one = at-most-one c.pull_out-out.result.end.waits in let r = c.requires.room in omega (arith, m, n, one, r)
+    let all = ap (λ (z : Bounds). z.messages) c.requires.lane.bounds in
+    let one = at-most-one c.pull_out-out.result.end.waits in let r = c.requires.room in omega (arith, m, n, all, one, r)
 
 pub returns-clause-nodes : goal.returns-clause-nodes
 returns-clause-nodes g c = let o = c.pull_out-out in let i = c.pull_in-into in
@@ -78,13 +79,14 @@ returns-clause-laid g c = let b = c.bounds-bounds.ensures in let o = c.pull_out-
 
 pub returns-clause-lifted : goal.returns-clause-lifted
 returns-clause-lifted g c = let b = c.bounds-bounds.ensures in let o = c.pull_out-out in let i = c.pull_in-into in let f = c.args.frame.now in
-    let is = c.lane-lane.ensures.value ∙ (ap (λ (z : Bounds). lane_in f z.source z.target z.lane) b ∙ c.requires.lane) in
+    let is = c.lane-lane.ensures.value ∙ (ap (λ (z : Bounds). lane_in f z.source z.target z.lane) b ∙ c.requires.empty) in
     let w = wire_ends c.requires.laid.0 c.args.wire.now o.result i.result c.args.slots.now o.new.slots i.new.slots c.requires.laid.1
     c.requires.between o.ensures.count i.ensures.count
     (lost_out c.bounds-bounds.result c.args.wire.now.bounds o.result c.args.slots.now o.new.slots b o.ensures.pulled)
     (lost_in c.bounds-bounds.result c.args.wire.now.bounds i.result o.new.slots i.new.slots b i.ensures.pulled) in
     let h = c.drain.ensures.held in let l = c.drain.new.rest in
-    let capacity : l.capacity ≡ 4 = c.drain.ensures.capacity ∙ ap (λ (z : Plain). z.capacity) is in (
+    let all = ap (λ (z : Bounds). min 4 z.messages) c.requires.lane.bounds in
+    let capacity : l.capacity ≡ min 4 c.args.wire.now.bounds.messages = c.drain.ensures.capacity ∙ (ap (λ (z : Plain). z.capacity) is ∙ sym all) in (
       l,
       ap (λ (z : Bounds). with_lane f (lane_place f.shape.ranks z.source z.target z.lane) l) b,
       record {

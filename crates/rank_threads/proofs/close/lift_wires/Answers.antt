@@ -1,19 +1,20 @@
-use Rattle.std.proofs.Common.{rules, arith, ◌≡◌, ◌≤◌, ◌++◌, ◌∷◌, [], suc, true, List, length, sym, ap, ◌∙◌, subst, refl, append-nil}
+use Rattle.std.proofs.Common.{rules, arith, ◌≡◌, ◌<◌, ◌≤◌, ◌++◌, ◌∷◌, [], suc, List, length, sym, ap, ◌∙◌, subst, refl, append-nil}
 use Rattle.std.proofs.Common.{append_assoc, length-append, set}
 use mathlib.Core.Option.{some}
 use lib.ListN.{get_elem?}
 use Rattle.pair_wires.specs.Lanes.{Plain}
 use Rattle.pair_wires.specs.Wires.{WireState}
-use Rattle.plan_calls.specs.Lanes.{is_used_lane}
 use Rattle.plan_worlds.specs.Places.{lane_place}
 use Rattle.shape_plans.specs.Drawing.{plan_of}
 use Rattle.coll_shape.specs.Outline.{Outline}
 use Rattle.world_parts.specs.Layout.{lane_at}
 use Rattle.worlds.specs.FrameState.{FrameState}
+use Rattle.worlds.specs.Frames.{frame_lane}
+use Rattle.rank_slots.specs.Lanes.{IsLane}
 use Rattle.rank_threads.specs.Closing.{IsLifted}
 use Rattle.rank_wiring.specs.Opening.{AllLaid}
-use Rattle.rank_threads.proofs.Lifts.{AreLifted, between, in-lanes, is-used, lane-first, lifted-before, lifted-more, none-lifted}
-use Rattle.rank_threads.proofs.Lifts.{unused-left, used-lane}
+use Rattle.rank_threads.proofs.Lifts.{AreLifted, between, in-lanes, is-lane, lane-first, lifted-before, lifted-more, none-lifted}
+use Rattle.rank_threads.proofs.Lifts.{some-room, unused-left}
 use Rattle.rank_slots.proofs.Slotwise.{chain, stay}
 use Rattle.rank_slots.proofs.Snocs.{front_some, last_at}
 use Rattle.rank_threads.proofs.close.lift_wires.Goals as goal
@@ -52,12 +53,12 @@ lift_wire-requires-clause-between g c = let i = c.loop-wire.invariant in let f =
 pub lift_wire-requires-clause-ranks : goal.lift_wire-requires-clause-ranks
 lift_wire-requires-clause-ranks g c = let i = c.loop-wire.invariant in i.count ∙ (c.requires.ranks ∙ sym (ap (λ (o : Outline). o.ranks) i.shape))
 
-pub lift_wire-requires-clause-used : goal.lift_wire-requires-clause-used
-lift_wire-requires-clause-used g c = let i = c.loop-wire.invariant in let f = c.args.frame.now in let v = c.in-Some.wire.now in
+pub lift_wire-requires-clause-lane : goal.lift_wire-requires-clause-lane
+lift_wire-requires-clause-lane g c = let i = c.loop-wire.invariant in let f = c.args.frame.now in let v = c.in-Some.wire.now in
     let w = c.in-Some.ensures.cases.0 in
     let at = wire_at c.args.wires.now c.loop-wire.wires.now c.in-Some.before.now v i.front w in
-    subst (λ (o : Outline). is_used_lane (plan_of o) v.bounds.source v.bounds.target v.bounds.lane ≡ true) (sym i.shape)
-    (is-used (plan_of f.shape) f.shape.ranks c.requires.count c.args.wires.now c.requires.lanes c.args.slots.now f.lanes
+    subst (λ (o : Outline). IsLane (plan_of o) v.bounds) (sym i.shape)
+    (is-lane (plan_of f.shape) f.shape.ranks c.requires.count c.args.wires.now c.requires.lanes c.args.slots.now f.lanes
     (length c.in-Some.before.now) v at)
 
 pub lift_wire-requires-clause-room : goal.lift_wire-requires-clause-room
@@ -65,8 +66,8 @@ lift_wire-requires-clause-room g c = let i = c.loop-wire.invariant in let v = c.
     let w = c.in-Some.ensures.cases.0 in
     c.requires.rooms (length c.in-Some.before.now) v (wire_at c.args.wires.now c.loop-wire.wires.now c.in-Some.before.now v i.front w)
 
-pub lift_wire-requires-clause-lane : goal.lift_wire-requires-clause-lane
-lift_wire-requires-clause-lane g c = let i = c.loop-wire.invariant in let f = c.args.frame.now in let v = c.in-Some.wire.now in
+pub lift_wire-requires-clause-empty : goal.lift_wire-requires-clause-empty
+lift_wire-requires-clause-empty g c = let i = c.loop-wire.invariant in let f = c.args.frame.now in let v = c.in-Some.wire.now in
     let m = length c.in-Some.before.now in
     let w = c.in-Some.ensures.cases.0 in
     let lw = one_more c.loop-wire.wires.now c.in-Some.before.now v w in
@@ -77,8 +78,7 @@ lift_wire-requires-clause-lane g c = let i = c.loop-wire.invariant in let f = c.
     ap (λ (o : Outline). lane_at c.loop-wire.frame.lanes (lane_place o.ranks v.bounds.source v.bounds.target v.bounds.lane)) i.shape
     ∙ (lane-first p n r.count c.args.wires.now r.lanes c.args.slots.now f.lanes m c.loop-wire.frame.lanes lifted v at
     ∙ (r.empty v.bounds.source v.bounds.target v.bounds.lane b.0 b.1
-    ∙ used-lane p v.bounds.source v.bounds.target v.bounds.lane
-    (is-used p n r.count c.args.wires.now r.lanes c.args.slots.now f.lanes m v at)))
+    ∙ ap (λ (o : Outline). frame_lane (plan_of o) v.bounds.source v.bounds.target v.bounds.lane) (sym i.shape)))
 
 pub loop-wire-preserved : goal.loop-wire-preserved
 loop-wire-preserved g c = let i = c.loop-wire.invariant in let f = c.args.frame.now in let v = c.in-Some.wire.now in
@@ -92,10 +92,9 @@ loop-wire-preserved g c = let i = c.loop-wire.invariant in let f = c.args.frame.
     let lifted = subst (λ k. AreLifted n c.args.wires.now c.args.slots.now f.lanes k ls) lw i.lifted in
     let place = lane_place n v.bounds.source v.bounds.target v.bounds.lane in
     let empty = lane-first p n r.count c.args.wires.now r.lanes c.args.slots.now f.lanes m ls lifted v at
-    ∙ (r.empty v.bounds.source v.bounds.target v.bounds.lane b.0 b.1
-    ∙ used-lane p v.bounds.source v.bounds.target v.bounds.lane
-    (is-used p n r.count c.args.wires.now r.lanes c.args.slots.now f.lanes m v at)) in
-    let low = in-lanes ls place (ap (λ (z : Plain). z.capacity) empty) in
+    ∙ r.empty v.bounds.source v.bounds.target v.bounds.lane b.0 b.1 in
+    let some = some-room p v.bounds (is-lane p n r.count c.args.wires.now r.lanes c.args.slots.now f.lanes m v at) in
+    let low = in-lanes ls place (subst (λ (z : Plain). 0 < z.capacity) (sym empty) some) in
     let more = lifted-more p n r.count c.args.wires.now r.lanes c.args.slots.now f.lanes m ls lifted v at t.0
     (lifted-before v.bounds c.args.slots.now c.loop-wire.slots t.0 i.nodes i.count t.2) low in
     let lanes = ap (λ (z : FrameState). z.lanes) t.1 in record {
