@@ -141,7 +141,8 @@ module _ (job : JobOf) (sound : IsSound job) (slots : List Slot) (wires : List W
       let here : lane_at ls (lane_place n v.0.bounds.source v.0.bounds.target v.0.bounds.lane) ≡ lane_at ls (lane_place n s d lane) =
       (λ i. lane_at ls (lane_place n (es i) (ed i) (el i))) in
       let l = lifted h.at v.0 v.1 in
-      let all : v.0.bounds.messages ≡ lane_messages p s d lane = ap (λ (b : Bounds). b.messages) (v.2 ∙ (lanes.each h.at h.bounds h.there).bounds)
+      let all : v.0.bounds.messages ≡ lane_messages p s d lane =
+      ap (λ (b : Bounds). b.messages) (v.2 ∙ (lanes.each h.at h.bounds h.there).bounds)
       ∙ (λ i. lane_messages p (h.source i) (h.target i) (h.lane_is i)) in
       let held = l.held x.slot y.slot (ap (get_elem? slots) es ∙ x.there) (ap (get_elem? slots) ed ∙ y.there) in record {
         has = subst (λ (z : (JobOf × NodeState) × ((ℕ × Lane) × List Sent)). HasSent (plan_of z.0.0.shape) z.0.0.inputs z.0.1 z.1.0.0 z.1.0.1 z.1.1)

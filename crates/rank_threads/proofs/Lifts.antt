@@ -41,7 +41,9 @@ some-room p b is = let sends = lane-sends p b is in let same = ap (λ (c : Bound
 
 -- a lane with room is one of those of the frame
 pub in-lanes : (ls : List Plain) (i : ℕ) → 0 < (lane_at ls i).capacity → i < length ls
-in-lanes ls i roomy = ⊎_elim (λ (h : i < length ls). h) (λ (h : length ls ≤ i). absurd (let k = ap (λ (z : Plain). z.capacity) (past ls i h) in omega (arith, k, roomy))) (cases_lt i (length ls))
+in-lanes ls i roomy = ⊎_elim (λ (h : i < length ls). h)
+    (λ (h : length ls ≤ i). absurd (let none = ap (λ (z : Plain). z.capacity) (past ls i h) in omega (arith, none, roomy)))
+    (cases_lt i (length ls))
   where
     past : (ls : List Plain) (i : ℕ) → length ls ≤ i → lane_at ls i ≡ plain [] 0
     past [] i h = refl
@@ -97,7 +99,8 @@ module _ (p : Plan) (n : ℕ) (ranks : p.ranks ≡ n) (all : List WireState) (ar
   is-lane k w e = are.each k w.bounds (bounds-at k w e)
 
   pub between : (k : ℕ) (w : WireState) → get_elem? all k ≡ some w → (w.bounds.source < n) × (w.bounds.target < n)
-  between k w e = let h = is-lane k w e in (subst (λ m. w.bounds.source < m) ranks h.source, subst (λ m. w.bounds.target < m) ranks h.target)
+  between k w e = let h = is-lane k w e in
+      (subst (λ m. w.bounds.source < m) ranks h.source, subst (λ m. w.bounds.target < m) ranks h.target)
 
   one-wire : (i k : ℕ) (v w : WireState) → get_elem? all i ≡ some v → get_elem? all k ≡ some w → OnLane v w.bounds.source w.bounds.target w.bounds.lane → i ≡ k
   one-wire i k v w ei ek o = are.once i k v.bounds w.bounds (bounds-at i v ei) (bounds-at k w ek) o.source o.goal o.kind

@@ -1,6 +1,6 @@
 -- The lanes of a plan, gathered one after the other.
-use Rattle.std.proofs.Common.{ℕ, zero, suc, ◌+◌, ◌*◌, ◌<◌, ◌≤◌, ◌^◌, ◌≡◌, ◌==◌, ◌∙◌, ⊎_elim, Bool, true, false, List, [], ◌∷◌, ◌++◌, length, nat_lt}
-use Rattle.std.proofs.Common.{sym, refl, ap, subst, arith, inl, append-nil, length-append, eqb-true, if◌then◌else◌}
+use Rattle.std.proofs.Common.{ℕ, ◌+◌, ◌*◌, ◌<◌, ◌≤◌, ◌^◌, ◌≡◌, ◌==◌, ◌∙◌, ⊎_elim, Bool, true, false, List, [], ◌∷◌, ◌++◌, length, nat_lt}
+use Rattle.std.proofs.Common.{zero, suc, sym, refl, ap, subst, arith, inl, append-nil, length-append, eqb-true, if◌then◌else◌}
 use Rattle.std.proofs.lemmas.Bool.{cases_eq}
 use Rattle.std.proofs.lemmas.List.Sums.{count_by-le-length, length-filter}
 use mathlib.Core.Option.{some, some-ne-none}
@@ -68,8 +68,10 @@ some_sent zero e = cc
 some_sent (suc n) e = omega arith
 
 pub lane-sends : (p : Plan) (b : Bounds) → IsLane p b → 0 < b.messages
-lane-sends p b is = let some = some_sent (lane_messages p b.source b.target b.lane) is.used in
-    let same = ap (λ (c : Bounds). c.messages) is.bounds in omega (arith, some, same)
+lane-sends p b is =
+    let sends = some_sent (lane_messages p b.source b.target b.lane) is.used in
+    let same = ap (λ (c : Bounds). c.messages) is.bounds in
+    omega (arith, sends, same)
 
 -- ---- the lanes below a place
 pub record AreBelow (p : Plan) (n : ℕ) (lanes : List Bounds) : Type 0 where

@@ -45,7 +45,9 @@ lane-lane-requires-clause-target g c = let n = c.requires.ranks in let h = c.req
     subst (λ (z : Bounds). z.target < c.args.frame.now.shape.ranks) (sym c.bounds-bounds.ensures) (omega (arith, n, h))
 
 pub lane-lane-requires-clause-used : goal.lane-lane-requires-clause-used
-lane-lane-requires-clause-used g c = subst (λ (z : Bounds). is_used_lane (plan_of c.args.frame.now.shape) z.source z.target z.lane ≡ true) (sym c.bounds-bounds.ensures) c.requires.lane.used
+lane-lane-requires-clause-used g c =
+    subst (λ (z : Bounds). is_used_lane (plan_of c.args.frame.now.shape) z.source z.target z.lane ≡ true)
+    (sym c.bounds-bounds.ensures) c.requires.lane.used
 
 pub drain-requires-clause-ends : goal.drain-requires-clause-ends
 drain-requires-clause-ends g c = let b = c.bounds-bounds.ensures in let o = c.pull_out-out in let i = c.pull_in-into in
@@ -61,7 +63,8 @@ at-most-one false = omega arith
 pub drain-requires-clause-room : goal.drain-requires-clause-room
 drain-requires-clause-room g c =
     let f = c.args.frame.now in
-    let is = c.lane-lane.ensures.value ∙ (ap (λ (z : Bounds). lane_in f z.source z.target z.lane) c.bounds-bounds.ensures ∙ c.requires.empty) in
+    let is = c.lane-lane.ensures.value
+    ∙ (ap (λ (z : Bounds). lane_in f z.source z.target z.lane) c.bounds-bounds.ensures ∙ c.requires.empty) in
     let m = ap (λ (l : Plain). length l.messages) is in let n = ap (λ (l : Plain). l.capacity) is in
     let all = ap (λ (z : Bounds). z.messages) c.requires.lane.bounds in
     let one = at-most-one c.pull_out-out.result.end.waits in let r = c.requires.room in omega (arith, m, n, all, one, r)
@@ -86,7 +89,8 @@ returns-clause-lifted g c = let b = c.bounds-bounds.ensures in let o = c.pull_ou
     (lost_in c.bounds-bounds.result c.args.wire.now.bounds i.result o.new.slots i.new.slots b i.ensures.pulled) in
     let h = c.drain.ensures.held in let l = c.drain.new.rest in
     let all = ap (λ (z : Bounds). min 4 z.messages) c.requires.lane.bounds in
-    let capacity : l.capacity ≡ min 4 c.args.wire.now.bounds.messages = c.drain.ensures.capacity ∙ (ap (λ (z : Plain). z.capacity) is ∙ sym all) in (
+    let capacity : l.capacity ≡ min 4 c.args.wire.now.bounds.messages =
+    c.drain.ensures.capacity ∙ (ap (λ (z : Plain). z.capacity) is ∙ sym all) in (
       l,
       ap (λ (z : Bounds). with_lane f (lane_place f.shape.ranks z.source z.target z.lane) l) b,
       record {

@@ -11,7 +11,8 @@ use Rattle.rank_slots.proofs.Snocs.{map_snoc}
 use Rattle.rank_wiring.proofs.open.lay_line.Goals as goal
 
 pub open-requires : goal.open-requires
-open-requires c = let some = lane-sends (plan_of c.args.job.now.shape) c.args.lane c.requires.lane in let m = c.min.ensures in omega (arith, some, m)
+open-requires c = let sends = lane-sends (plan_of c.args.job.now.shape) c.args.lane c.requires.lane in let least = c.min.ensures in
+    omega (arith, sends, least)
 
 pub add_out-requires : goal.add_out-requires
 add_out-requires c = let o = c.in_ok-wire.ensures in let lane = c.args.lane in
