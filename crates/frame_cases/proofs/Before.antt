@@ -1,8 +1,7 @@
 -- Nodes of which nothing was done close a frame into a world of which nothing was done.
-use Rattle.std.proofs.Common.{ℕ, zero, suc, ◌<◌, ◌≤◌, ◌≡◌, ◌∙◌, List, [], ◌++◌, length, min, nat_lt, if◌then◌else◌, ap, ap₂, sym, subst, arith, lt-ltb}
+use Rattle.std.proofs.Common.{ℕ, ◌<◌, ◌≡◌, ◌∙◌, List, [], ◌++◌, length, ap, ap₂, sym, subst, arith}
 use Rattle.ptl_types.specs.declared.headers.Lane.{Lane}
 use Rattle.pair_wires.specs.Lanes.{Plain}
-use Rattle.plan_calls.specs.Lanes.{lane_messages}
 use Rattle.plan_core.specs.Plan.{Plan}
 use Rattle.plan_core.specs.Values.{Inputs}
 use Rattle.plan_cuts.specs.History.{got, sent}
@@ -22,11 +21,6 @@ use Rattle.worlds.specs.FrameState.{FrameState}
 use Rattle.worlds.specs.Frames.{IsClosed, IsFrameOf, MayClose, lane_in}
 use Rattle.worlds.specs.Later.{IsOpened}
 use Rattle.worlds.specs.World.{WorldState}
-
--- four messages, or all, find room where there is any
-enough : (k : ℕ) → min frame_window k ≤ (if nat_lt 0 k then frame_window else 0)
-enough zero = omega arith
-enough (suc k) = let q = ap (λ b. if b then frame_window else 0) (lt-ltb 0 (suc k) (omega arith)) in omega (arith, q)
 
 -- a lane of an opened frame
 pub laid_empty : (job : JobOf) (f : FrameState) → IsFrameOf job f → (s d : ℕ) (lane : Lane) → s < job.shape.ranks → d < job.shape.ranks
@@ -61,8 +55,7 @@ module _ (job : JobOf) (f : FrameState) (nodes : List NodeState) (is : IsFrameOf
         ∙ sym (ap (λ es. sent (start_of p (slots s) s) (prepare p job.inputs (slots s) s) es d lane) (fresh s hs).locals);
     room = λ s d lane hs hd.
         let q = ap (λ (l : Plain). l.capacity) (is.lanes s d lane hs hd) in
-        let e = enough (lane_messages p s d lane) in
-        omega (arith, q, e);
+        omega (arith, q);
     within = λ s d lane hs hd. let q = ap length (empty s d lane hs hd) in omega (arith, q);
   }
 
