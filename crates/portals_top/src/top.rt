@@ -28,12 +28,13 @@ use coll_shape::Shape;
 use order_lines::LONGEST_CHECK;
 use plan_done::counted_shape;
 use port_io::{Sink, Source};
-use rank_threads::{Gate, OpenGate, reach_ahead};
+use rank_threads::{Gate, OpenGate};
 use run_text::write_short;
 use schedule_compiler::{Job, compile};
 use std::alloc::Global;
 use std::sync::Wait;
 use std::thread::Threads;
+use work_sharing::reach_ahead;
 
 const USAGE: &[u8] =
     b"usage: portals_run once | sim X | plan | run W | trace W | large K W | check | steady W | json W\n";

@@ -11,12 +11,13 @@ use crate::fabric::{Fabric, Hand};
 use pair_wires::Wire;
 use ptl_types::NoMemory;
 use rank_slots::{Gate, Mail, Slot, sound};
-use rank_wiring::{reach_ahead, wired_slots};
+use rank_wiring::wired_slots;
 use schedule_compiler::Job;
 use std::alloc::Global;
 use std::thread;
 use std::thread::Threads;
 use turn_table::Turns;
+use work_sharing::reach_ahead;
 use worlds::Frame;
 
 // The frame of the world that the ranks end as, and the ranks and their wires. Where there are more threads than one, another opens

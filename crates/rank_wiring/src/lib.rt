@@ -1,9 +1,7 @@
 //! The slots of a job's ranks, with a wire for each lane that messages go on, as an opening makes them.
 #![tactic(auto)]
 
-mod ahead;
 mod lanes;
 mod open;
 
-pub use ahead::reach_ahead;
 pub use open::wired_slots;

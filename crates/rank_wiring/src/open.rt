@@ -11,7 +11,6 @@ ghost use Rattle.rank_wiring.specs.Opening.{IsFresh, IsHanded, IsLine, SameOuts,
 ghost use Rattle.rank_slots.specs.Moves.{Slotwise};
 ghost use Rattle.rank_slots.specs.Sound.{IsSound};
 
-use crate::ahead::reach_ahead;
 use crate::lanes::{FanOut, all_fans};
 use pair_wires::{Bounds, Wire};
 use ptl_types::{NoMemory, Rank};
@@ -25,9 +24,6 @@ use work_sharing::map_indices;
 /// How many messages the queue of a wire holds, or all that may ever be sent on the wire where these are fewer; one more may wait at its
 /// out end.
 const WIRE_ROOM: u32 = 3;
-
-/// A thread that makes ranks reaches ahead for the memory of about so many of them.
-const RANKS_AHEAD: usize = 8;
 
 // A wire with its in end, which is for the rank that it leads to.
 #[derive(Drop)]
@@ -137,19 +133,14 @@ fn make_berth(alloc: Global, job: &Job, rank: Rank, fan: &FanOut) -> Result<Bert
     Ok(Berth { slot, load })
 }
 
-// What is made for a rank, by one of so many threads. There is nothing where there was no memory for it.
-fn berth_of(alloc: Global, job: &Job, fans: &[FanOut], threads: usize, rank: usize) -> Option<Berth>
-    requires some { 0 < threads }
+// What is made for a rank. There is nothing where there was no memory for it.
+fn berth_of(alloc: Global, job: &Job, fans: &[FanOut], rank: usize) -> Option<Berth>
     requires count { length fans.now ≡ job.now.shape.ranks }
     requires few { length fans.now < 2 ^ 32 }
     requires fans { AreFans (plan_of job.now.shape) fans.now }
     requires rank { rank < length fans.now }
     ensures { IfSome result (λ b. IsFanned job.now rank b.slot b.load) }
 {
-    // Of threads that take turns each has one such rank of so many of its own.
-    if rank / threads % RANKS_AHEAD == 0 {
-        reach_ahead(alloc);
-    }
     match make_berth(alloc, job, rank as Rank, &fans[rank]) {
         Ok(berth) => Some(berth),
         Err(_) => None,
@@ -177,9 +168,9 @@ fn make_berths<R: Threads + Sync>(
         threads,
         fans.len(),
         &|rank: usize|
-            requires { (0 < threads) × (length fans.now < 2 ^ 32) × (length fans.now ≡ job.now.shape.ranks) × AreFans (plan_of job.now.shape) fans.now × (rank < length fans.now) }
+            requires { (length fans.now < 2 ^ 32) × (length fans.now ≡ job.now.shape.ranks) × AreFans (plan_of job.now.shape) fans.now × (rank < length fans.now) }
             ensures { IfSome result (λ b. IsFanned job.entry.now rank b.slot b.load) }
-        { berth_of(alloc, job, fans, threads, rank) },
+        { berth_of(alloc, job, fans, rank) },
     )?;
     Ok(places)
 }

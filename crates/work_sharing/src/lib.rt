@@ -4,8 +4,10 @@
 //! Where items take unlike long, or a processor is slower than another, no thread waits for one that was given too much.
 #![tactic(auto)]
 
+mod ahead;
 mod sharing;
 #[cfg(test)]
 mod tests;
 
+pub use ahead::reach_ahead;
 pub use sharing::map_indices;

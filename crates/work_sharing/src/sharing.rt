@@ -3,10 +3,14 @@
 ghost use Rattle.std.specs.Prelude.{ℕ, ◌≡◌, ◌<◌, All, IfOk, None, length};
 ghost use Rattle.work_sharing.specs.Sharing.{AreGiven, AreShared};
 
+use crate::ahead::reach_ahead;
 use std::alloc::{AllocError, Global};
 use std::sync::atomic::{AtomicU64, Ordering};
 use std::thread;
 use std::thread::Threads;
+
+/// A thread reaches ahead for memory before its first call, and before each further one of so many.
+const CALLS_AHEAD: usize = 8;
 
 // Calls `f` at one index after the other, each the next that none has taken, and keeps what each call gave beside its index. It ends where
 // there is no index left, or no memory.
@@ -24,6 +28,9 @@ fn take_some<X: Drop, F: Fn(usize) -> Option<X>>(
         let index = next.fetch_add(1, Ordering::SeqCst);
         if index >= count as u64 {
             return list;
+        }
+        if list.len() % CALLS_AHEAD == 0 {
+            reach_ahead(alloc);
         }
         let Some(value) = f(index as usize) else {
             return list;
