@@ -18,7 +18,7 @@ use Rattle.rank_slots.specs.Chronicles.{chronicle}
 use Rattle.rank_slots.specs.Names.{IsWired, Plate, plate}
 use Rattle.rank_slots.specs.Sound.{IsSound}
 use Rattle.rank_threads.specs.Turns.{FoundIdle}
-use Rattle.rank_wiring.specs.Opening.{HasRoom}
+use Rattle.rank_wiring.specs.Opening.{HasWireRoom}
 use Rattle.rank_wiring.specs.Wiring.{IsLaid, bounds_of}
 
 -- which job, the table of its ranks, and the wires
@@ -45,7 +45,7 @@ pub record FabricKeeps (job : JobOf) (start : List Slot) (wires : List WireState
     (capacity : ℕ) : Type 0 where
   pub fabric : IsFabric job start wires
   pub ranks_are : ranks ≡ job.shape.ranks
-  pub rooms : Each HasRoom wires
+  pub rooms : Each HasWireRoom wires
   pub frame_is : IsFrameOf job frame
   pub empty : room ≡ []
   pub roomy : length start ≤ capacity

@@ -21,7 +21,7 @@ ghost use Rattle.rank_slots.specs.declared.slot.Slot.{Slot};
 ghost use Rattle.rank_threads.specs.Closing.{IsLifted, IsWorldOf};
 ghost use Rattle.rank_slots.specs.Lanes.{AreLanes, IsLane};
 ghost use Rattle.rank_slots.specs.Lists.{Each};
-ghost use Rattle.rank_wiring.specs.Opening.{AllLaid, HasRoom, IsBetween};
+ghost use Rattle.rank_wiring.specs.Opening.{AllLaid, HasWireRoom, IsBetween};
 ghost use Rattle.rank_slots.specs.Moves.{SameNode, Slotwise};
 ghost use Rattle.rank_wiring.specs.Wiring.{bounds_of};
 
@@ -38,7 +38,7 @@ fn lift_wire<R: Wait>(rt: &R, wire: &Wire, slots: &mut [Slot], frame: &mut Frame
     requires between { IsBetween (length slots.old) wire.now }
     requires ranks { length slots.old ≡ frame.old.shape.ranks }
     requires lane { IsLane (plan_of frame.old.shape) wire.now.bounds }
-    requires room { HasRoom wire.now }
+    requires room { HasWireRoom wire.now }
     requires empty { lane_in frame.old wire.now.bounds.source wire.now.bounds.target wire.now.bounds.lane
         ≡ frame_lane (plan_of frame.old.shape) wire.now.bounds.source wire.now.bounds.target wire.now.bounds.lane }
     ensures count { length slots.new ≡ length slots.old }
@@ -62,7 +62,7 @@ fn lift_wires<R: Wait>(rt: &R, wires: &[Wire], slots: &mut [Slot], frame: &mut F
     requires ranks { length slots.old ≡ frame.old.shape.ranks }
     requires count { (plan_of frame.old.shape).ranks ≡ frame.old.shape.ranks }
     requires lanes { AreLanes (plan_of frame.old.shape) (bounds_of wires.now) }
-    requires rooms { Each HasRoom wires.now }
+    requires rooms { Each HasWireRoom wires.now }
     requires empty { (s d : ℕ) (lane : Lane) → s < frame.old.shape.ranks → d < frame.old.shape.ranks →
         lane_in frame.old s d lane ≡ frame_lane (plan_of frame.old.shape) s d lane }
     ensures count { length slots.new ≡ length slots.old }

@@ -25,7 +25,7 @@ use Rattle.rank_slots.specs.declared.slot.Slot.{Slot}
 use Rattle.rank_slots.specs.Joints.{Fits, Joint, in_joint, out_joint}
 use Rattle.rank_slots.specs.Lanes.{AreLanes, IsLane, lanes_before, lanes_from}
 use Rattle.rank_wiring.specs.Opening.{AllFanned, AllFresh, AllIn, AreBerths, AreFirst, AreLines, HasNoIn, HasNoOut, IsFanned, IsFresh, IsHanded}
-use Rattle.rank_wiring.specs.Opening.{HasRoom, IsLine, SameOuts, wires_in}
+use Rattle.rank_wiring.specs.Opening.{HasWireRoom, IsLine, SameOuts, wires_in}
 use Rattle.rank_slots.specs.Moves.{GainsIn, MayGainIn, SameNode, Slotwise}
 use Rattle.rank_slots.specs.Sound.{IsSound}
 use Rattle.rank_wiring.specs.Wiring.{IsRow, bounds_of, from_rank, joints_from, to_rank}
@@ -162,7 +162,7 @@ module _ (job : JobOf) (sound : IsSound job) (wires : List WireState) (slots : L
   handed-more new many nodes gains = record {
     count = many ∙ handed.count;
     fresh = fresh-same job slots new nodes handed.fresh;
-    rooms = each_snoc HasRoom wires l.wire handed.rooms line.room;
+    rooms = each_snoc HasWireRoom wires l.wire handed.rooms line.room;
     ins = in-more wires l.wire l.into slots new line.number_is line.in_is gains handed.ins;
   }
 
@@ -219,7 +219,7 @@ pub start-handed : (job : JobOf) (slots : List Slot) (loads : List Load) → len
 start-handed job slots loads n m fanned = record {
   count = n;
   fresh = λ r x at. (of r x at).fresh;
-  rooms = each_nil HasRoom;
+  rooms = each_nil HasWireRoom;
   ins = λ r x at. subst (λ (l : List InPort). IsRow [] (to_rank r) (map in_joint l)) (sym (of r x at).ins) (row_nil (to_rank r));
 }
   where

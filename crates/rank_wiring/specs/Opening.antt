@@ -50,13 +50,13 @@ AllLaid wires slots = (r : ℕ) (x : Slot) → get_elem? slots r ≡ some x → 
 abbrev pub wire_room : Bounds → ℕ
 wire_room b = min 3 b.messages
 
-abbrev pub HasRoom : WireState → Type 0
-HasRoom w = w.capacity ≡ wire_room w.bounds
+abbrev pub HasWireRoom : WireState → Type 0
+HasWireRoom w = w.capacity ≡ wire_room w.bounds
 
 -- a wire for each of these lanes
 pub record AreWires (lanes : List Bounds) (wires : List WireState) : Type 0 where
   pub bounds_are : bounds_of wires ≡ lanes
-  pub rooms : Each HasRoom wires
+  pub rooms : Each HasWireRoom wires
 
 -- none of these ends is of this lane
 abbrev pub HasNoOut : Bounds → List OutPort → Type 0
@@ -68,7 +68,7 @@ HasNoIn b ins = Each (λ (q : InPort). q.source ≡ b.source → q.lane ≡ b.la
 -- ---- what the thread of a rank makes
 -- a wire with its in end, through which nothing went
 pub record IsLine (number : ℕ) (l : Line) : Type 0 where
-  pub room : HasRoom l.wire
+  pub room : HasWireRoom l.wire
   pub number_is : l.into.wire ≡ number
   pub in_is : IsInOf l.wire l.into.end
   pub source : l.into.source ≡ l.wire.bounds.source
@@ -110,7 +110,7 @@ AllIn wires slots = (r : ℕ) (x : Slot) → get_elem? slots r ≡ some x → Is
 pub record IsHanded (job : JobOf) (wires : List WireState) (slots : List Slot) : Type 0 where
   pub count : length slots ≡ job.shape.ranks
   pub fresh : AllFresh job slots
-  pub rooms : Each HasRoom wires
+  pub rooms : Each HasWireRoom wires
   pub ins : AllIn wires slots
 
 -- these wires are of the first of all lanes

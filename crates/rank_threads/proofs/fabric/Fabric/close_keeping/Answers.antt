@@ -18,7 +18,7 @@ use Rattle.rank_threads.specs.Closing.{IsLifted, IsWorldOf}
 use Rattle.rank_threads.specs.Fabrics.{FabricState, IsNamed}
 use Rattle.rank_slots.specs.Lanes.{AreLanes}
 use Rattle.rank_slots.specs.Lists.{Each}
-use Rattle.rank_wiring.specs.Opening.{AllLaid, HasRoom}
+use Rattle.rank_wiring.specs.Opening.{AllLaid, HasWireRoom}
 use Rattle.rank_slots.specs.Names.{plate}
 use Rattle.rank_wiring.specs.Wiring.{bounds_of}
 use Rattle.rank_threads.proofs.Closing.{may-close}
@@ -49,7 +49,7 @@ lift_wires-requires-clause-lanes g c = let s = c.self.inside in let k = c.self.i
     (subst (λ (o : Outline). AreLanes (plan_of o) (bounds_of s.wires.items)) (sym k.frame_is.shape) k.fabric.lanes)
 
 pub lift_wires-requires-clause-rooms : goal.lift_wires-requires-clause-rooms
-lift_wires-requires-clause-rooms g c = subst (Each HasRoom) (sym c.deref.ensures.value) c.self.invariant.rooms
+lift_wires-requires-clause-rooms g c = subst (Each HasWireRoom) (sym c.deref.ensures.value) c.self.invariant.rooms
 
 pub lift_wires-requires-clause-empty : goal.lift_wires-requires-clause-empty
 lift_wires-requires-clause-empty g c = let s = c.self.inside in let k = c.self.invariant in
