@@ -10,7 +10,6 @@ ghost use Rattle.rank_slots.specs.Onward.{Onward};
 use crate::gate::{Gate, StartAnswer};
 use crate::mail::Mail;
 use crate::parked::Parked;
-use crate::posts::find_out;
 use crate::slot::Slot;
 use pair_wires::Wire;
 use ptl_types::{Lane, LocalStep, Rank};
@@ -137,23 +136,12 @@ impl Slot {
         self.fire(rt, wires, mail, number);
     }
 
-    /// Whether a message waits at the out end of requests to a rank.
-    fn has_no_room(&self, target: Rank) -> bool {
-        match find_out(&self.outs, &self.hints.outs, target, Lane::Request) {
-            Some(at) => match self.outs.get(at) {
-                Some(port) => port.end.waits(),
-                None => false,
-            },
-            None => false,
-        }
-    }
-
     /// The first rank whose lane has room now and for whose messages operations are parked.
     fn open_queue(&self) -> Option<Rank> {
         let mut from = 0;
         for _ in 0..self.outs.len() {
             let target = self.hints.parked.queue(from)?;
-            if !self.has_no_room(target) {
+            if !self.is_shut(target, Lane::Request) {
                 return Some(target);
             }
             from = target.checked_add(1)?;

@@ -1,7 +1,7 @@
 //! Where a rank's ends are likely to stand, and where messages are likely to lie. These are guesses: each is looked at before it is
 //! used, and a wrong one costs time alone.
 
-use crate::mail::{Mail, WORD, is_of_answers, lane_number, words};
+use crate::mail::{Mail, WORD, is_of_answers, lane_number, next_bit, words};
 use crate::parked::Parked;
 use ptl_types::{Lane, NoMemory, Rank};
 use std::alloc::Global;
@@ -86,17 +86,7 @@ impl Hints {
 
     /// The first lane that may have messages, of those from this number on.
     pub(crate) fn next(&self, from: usize) -> Option<usize> {
-        for i in from / WORD..self.pending.len() {
-            let before = if i == from / WORD { from % WORD } else { 0 };
-            let lanes = self.pending[i] >> before << before;
-            if lanes != 0 {
-                return Some(
-                    i.wrapping_mul(WORD)
-                        .wrapping_add(lanes.trailing_zeros() as usize),
-                );
-            }
-        }
-        None
+        next_bit(&self.pending, from)
     }
 
     /// A message of the lane of this number was received, or there was none.

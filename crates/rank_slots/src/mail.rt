@@ -35,6 +35,21 @@ pub(crate) fn words(ranks: u32) -> usize
     ranks as usize / (WORD / 2) + 1
 }
 
+/// The first bit that is set in these words, of those from this number on.
+pub(crate) fn next_bit(words: &[u64], from: usize) -> Option<usize> {
+    for i in from / WORD..words.len() {
+        let before = if i == from / WORD { from % WORD } else { 0 };
+        let bits = words[i] >> before << before;
+        if bits != 0 {
+            return Some(
+                i.wrapping_mul(WORD)
+                    .wrapping_add(bits.trailing_zeros() as usize),
+            );
+        }
+    }
+    None
+}
+
 // So many words, none of which is set.
 fn zeros(alloc: Global, count: usize) -> Result<Vec<AtomicU64>, NoMemory> {
     let mut words = Vec::with_capacity(alloc, count)?;

@@ -1,7 +1,7 @@
 //! Operations that are ready while the lane of their message has no room. These are guesses: each is looked at before it is used, and a
 //! wrong one costs time alone.
 
-use crate::mail::WORD;
+use crate::mail::{WORD, next_bit};
 use ptl_types::{NoMemory, Rank};
 use std::alloc::Global;
 
@@ -124,18 +124,8 @@ impl Parked {
 
     /// The first rank, of those from this one on, for whose messages operations are parked.
     pub(crate) fn queue(&self, from: Rank) -> Option<Rank> {
-        let from = from as usize;
-        for i in from / WORD..self.queues.len() {
-            let before = if i == from / WORD { from % WORD } else { 0 };
-            let ranks = self.queues[i] >> before << before;
-            if ranks != 0 {
-                let rank = i
-                    .wrapping_mul(WORD)
-                    .wrapping_add(ranks.trailing_zeros() as usize);
-                return Rank::try_from(rank).ok();
-            }
-        }
-        None
+        let rank = next_bit(&self.queues, from as usize)?;
+        Rank::try_from(rank).ok()
     }
 
     /// The first operation of the queue of a rank leaves it.

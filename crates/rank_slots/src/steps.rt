@@ -78,12 +78,12 @@ impl Slot {
         self.hints.note_waiting(mail, rank, waits);
     }
 
-    /// Whether a message waits at the out end of answers to a rank.
-    fn is_shut(&self, d: Rank) -> bool
-        ensures shut { IsTrue result → IsShut d Answer self.now.outs.items }
-        ensures open { IsFalse result → IsOpen d Answer self.now.outs.items }
+    /// Whether a message waits at the out end of a lane to a rank.
+    pub(crate) fn is_shut(&self, d: Rank, lane: Lane) -> bool
+        ensures shut { IsTrue result → IsShut d lane self.now.outs.items }
+        ensures open { IsFalse result → IsOpen d lane self.now.outs.items }
     {
-        match find_out(&self.outs, &self.hints.outs, d, Lane::Answer) {
+        match find_out(&self.outs, &self.hints.outs, d, lane) {
             Some(at) => self.outs[at].end.waits(),
             None => false,
         }
@@ -105,7 +105,7 @@ impl Slot {
                 if free {
                     return true;
                 }
-                !self.is_shut(port.source)
+                !self.is_shut(port.source, Lane::Answer)
             }
         }
     }
