@@ -231,6 +231,13 @@ impl RankTable {
         self.cells.as_slice()
     }
 
+    /// The calls that prepare its interface, in order.
+    pub fn calls(&self) -> &[Call]
+        ensures { result.now ≡ self.now.calls }
+    {
+        self.calls.as_slice()
+    }
+
     /// The calls of its start, in order.
     pub fn late(&self) -> &[Call]
         ensures { result.now ≡ self.now.late }
