@@ -143,3 +143,26 @@ fn a_put_to_no_index_is_dropped(rt: HostRuntime) -> Result<(), Fail> {
     assert!(rt; region.as_slice() == [7].as_slice());
     Ok(())
 }
+
+/// How much room comes of an exchange for one of so many bytes.
+fn room_for(alloc: Global, spent: &mut Spent, bytes: u64) -> Option<u64> {
+    let own = Bytes::with_room(alloc, bytes).ok()?;
+    Some(spent.exchange(own).room())
+}
+
+#[test]
+fn the_room_of_a_message_is_used_once_more(rt: HostRuntime) -> Result<(), Fail> {
+    let mut region = Region::new(Bytes::of(rt.alloc(), &[7])?);
+    let mut cts: Store<Counter> = Store::open(rt.alloc(), 0)?;
+    let mut eqs: Store<Queue> = Store::open(rt.alloc(), 0)?;
+    let mut target = Target::open(rt.alloc(), 0, &LIMITS)?;
+    let mut spent = Spent::with_places(rt.alloc(), 2)?;
+    let header = Header { length: 3, ..PUT };
+    let message = Message::new(header, Bytes::of(rt.alloc(), &[1, 2, 3])?);
+    let _ = target.request(&mut region, &mut cts, &mut eqs, message, &mut spent);
+    gives!(rt; room_for(rt.alloc(), &mut spent, 4), Some(4));
+    gives!(rt; room_for(rt.alloc(), &mut spent, 0), Some(0));
+    gives!(rt; room_for(rt.alloc(), &mut spent, 2), Some(3));
+    gives!(rt; room_for(rt.alloc(), &mut spent, 2), Some(2));
+    Ok(())
+}
