@@ -1,7 +1,7 @@
 -- The lanes of a plan, gathered one after the other.
 use Rattle.std.proofs.Common.{ℕ, ◌+◌, ◌*◌, ◌<◌, ◌≤◌, ◌^◌, ◌≡◌, ◌==◌, ◌∙◌, ⊎_elim, Bool, true, false, List, [], ◌∷◌, ◌++◌, length, nat_lt}
-use Rattle.std.proofs.Common.{zero, suc, sym, refl, ap, subst, arith, inl, append-nil, length-append, eqb-true, if◌then◌else◌}
-use Rattle.std.proofs.lemmas.Bool.{cases_eq}
+use Rattle.std.proofs.Common.{sym, refl, ap, subst, arith, inl, append-nil, length-append, eqb-true, if◌then◌else◌}
+use Rattle.std.proofs.lemmas.Bool.{cases_eq, ltb-true}
 use Rattle.std.proofs.lemmas.List.Sums.{count_by-le-length, length-filter}
 use mathlib.Core.Option.{some, some-ne-none}
 use lib.ListN.{get_elem?}
@@ -63,13 +63,9 @@ few-messages p n sound s d Answer = at p.remote
     at false = omega arith
 
 -- messages go on each lane of the plan that is used
-some_sent : (n : ℕ) → nat_lt 0 n ≡ true → 0 < n
-some_sent zero e = cc
-some_sent (suc n) e = omega arith
-
 pub lane-sends : (p : Plan) (b : Bounds) → IsLane p b → 0 < b.messages
 lane-sends p b is =
-    let sends = some_sent (lane_messages p b.source b.target b.lane) is.used in
+    let sends = ltb-true 0 (lane_messages p b.source b.target b.lane) is.used in
     let same = ap (λ (c : Bounds). c.messages) is.bounds in
     omega (arith, sends, same)
 
