@@ -80,7 +80,7 @@ fn cell_bits(plan: &Plan, c: u32) -> u64
 }
 
 /// Where a cell begins in its rank's region.
-fn start_at(plan: &Plan, starts: &[u64], c: u32) -> u64
+pub(crate) fn start_at(plan: &Plan, starts: &[u64], c: u32) -> u64
     requires cell { c < length plan.now.cells }
     requires starts { starts.now ≡ map (cell_start plan.now) (all_cells plan.now) }
     ensures { result ≡ cell_start plan.now c }

@@ -111,6 +111,7 @@ fn prepare(alloc: Global, plan: &Plan, index: &Index, r: Rank) -> Result<(Vec<Ca
     let own = index.own_at(plan, r);
     let out = index.out_at(plan, r);
     let after_cells = index.after_cells(plan, r);
+    // Room for an area of each of the 81 classes, the three calls that every rank makes, two for each cell and one for each link.
     let mut calls = room_for(alloc, 84 + 2 * own.len() + out.len())?;
     push_call(&mut calls, Call::PtAlloc)?;
     let length = add_area_calls(&mut calls, plan, &index.areas, r, after_cells)?;

@@ -1,12 +1,14 @@
 //! All tables of a plan together.
 
-ghost use Rattle.std.specs.Prelude.{◌≡◌, ◌<◌, ◌≤◌, IfOk};
+ghost use Rattle.std.specs.Prelude.{◌≡◌, ◌<◌, ◌≤◌, IfOk, length};
 ghost use Rattle.plan_calls.specs.Areas.{area_length};
+ghost use Rattle.plan_calls.specs.Calls.{cell_start};
 ghost use Rattle.plan_calls.specs.Works.{done_threshold};
 ghost use Rattle.plan_tables.specs.Tables.{IsTabled};
 ghost use Rattle.plan_tables.specs.Installed.{installed};
 ghost use Rattle.plan_tables.specs.Ranks.{IsTables};
 
+use crate::calls::start_at;
 use crate::index::Index;
 use crate::lanes::{Lanes, find_lanes};
 use crate::ranks::{RankTable, done, rank_table};
@@ -17,8 +19,8 @@ use std::alloc::Global;
 /// What the ranks of a plan install, and where its cells and areas lie.
 #[derive(Debug, Drop)]
 pub struct Tables {
-    /// By rank, by cell, and by rank and class.
-    pub index: Index,
+    // By rank, by cell, and by rank and class.
+    index: Index,
     /// The messages and bytes of each pair of ranks.
     pub lanes: Lanes,
 }
@@ -60,6 +62,15 @@ impl Tables {
         ensures { result ≡ done_threshold plan.now r }
     {
         done(plan, &self.index, r)
+    }
+
+    /// Where a cell begins in its rank's region, in bytes.
+    pub fn start(&self, plan: &Plan, cell: u32) -> u64
+        requires tables { IsTables plan.now self.now }
+        requires cell { cell < length plan.now.cells }
+        ensures { result ≡ cell_start plan.now cell }
+    {
+        start_at(plan, self.index.starts.as_slice(), cell)
     }
 
     /// The bytes of the area of a class at a rank: those of the class's messages that come to the rank together.

@@ -1,11 +1,9 @@
 //! What the ranks of a shape install.
 
-ghost use Rattle.std.specs.Prelude.{ℕ, None, Some, [], ◌≡◌, ◌<◌, ◌↔◌, IfOk, length, map};
+ghost use Rattle.std.specs.Prelude.{ℕ, None, Some, [], ◌≡◌, ◌<◌, ◌↔◌, IfOk, length};
 ghost use Rattle.ptl_types.specs.declared.headers.Lane.TheVariants.{Request};
 ghost use Rattle.plan_core.specs.Draw.{held_cell};
-ghost use Rattle.plan_core.specs.Plan.{from_to};
 ghost use Rattle.plan_core.specs.Sound.{SoundPlan};
-ghost use Rattle.plan_calls.specs.Calls.{cell_start};
 ghost use Rattle.plan_calls.specs.Lanes.{lane_bytes, lane_messages};
 ghost use Rattle.plan_calls.specs.Works.{done_threshold};
 ghost use Rattle.plan_tables.specs.Installed.{installed};
@@ -68,16 +66,6 @@ impl Drop for Schedule {
             tables: _,
         } = self;
     }
-}
-
-/// Where a cell begins in its rank's region.
-fn start_at(starts: &[u64], plan: &Plan, c: u32) -> u64
-    requires table { starts.now ≡ map (cell_start plan.now) (from_to 0 (length plan.now.cells)) }
-    requires cell { c < length plan.now.cells }
-    ensures { result ≡ cell_start plan.now c }
-{
-    let _ = plan.ranks();
-    starts[c as usize]
 }
 
 impl Schedule {
@@ -189,7 +177,7 @@ impl Schedule {
         let part = self.plan.cells()[cell as usize];
         Place {
             rank: part.rank,
-            start: start_at(self.tables.index.starts.as_slice(), &self.plan, cell),
+            start: self.tables.start(&self.plan, cell),
             length: part.length,
         }
     }
