@@ -40,8 +40,9 @@ fn line_text<H: ResultLists>(
 {
     let size = held.list(buffer, rank).len() as u64;
     let room = WIDEST.saturating_mul(size).saturating_add(BESIDE);
-    let mut sink = MemorySink::with_room(alloc, IoTurns::new(alloc), room).ok()?;
+    // The piece is taken first, so that its memory serves the next line's piece: the text is kept.
     let mut out = Pieces::open(alloc).ok()?;
+    let mut sink = MemorySink::with_room(alloc, IoTurns::new(alloc), room).ok()?;
     put_line_at(&mut out, &mut sink, shape, held, buffer, rank, None).ok()?;
     out.end(&mut sink).ok()?;
     Some(sink)
