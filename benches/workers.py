@@ -2,6 +2,9 @@
 
 usage: benches/workers.py [RUNS [huge]]. It is run at the top of the repository, on a machine with nothing else to do. With `huge` the C
 library asks the kernel for large pages, and for 16 MB at a time, in all forms alike: a run touches some ten thousand pages of 4 KB.
+
+Its first and last line tell how many times the work of one process as many processes do as there are processors, in a loop that needs no
+memory: where processors share cores, with each other or with other machines, that is less than their number, and no program gains more.
 """
 
 import os
@@ -27,6 +30,40 @@ def clock(words, text, environment):
     if status != 0:
         sys.exit(f"{PROGRAM} {' '.join(words)}: status {status}")
     return took
+
+
+def spin(seconds):
+    """How many rounds of a loop a process makes in this time."""
+    rounds = 0
+    end = time.monotonic() + seconds
+    while time.monotonic() < end:
+        for _ in range(1000):
+            rounds += 1
+    return rounds
+
+
+def rounds_together(processes, seconds=0.02):
+    """How many rounds so many processes make at once, together."""
+    ends = []
+    for _ in range(processes):
+        reader, writer = os.pipe()
+        if os.fork() == 0:
+            os.write(writer, str(spin(seconds)).encode())
+            os._exit(0)
+        os.close(writer)
+        ends.append(reader)
+    rounds = sum(int(os.read(reader, 64)) for reader in ends)
+    for reader in ends:
+        os.close(reader)
+        os.wait()
+    return rounds
+
+
+def processors(turns=15):
+    """How many times the work of one process as many do as there are processors, in turns: the least, the median and the most."""
+    many = os.cpu_count()
+    gains = sorted(rounds_together(many) / rounds_together(1) for _ in range(turns))
+    return f"{many} processes do {gains[0]:.1f} to {gains[-1]:.1f} times the work of one, mostly {statistics.median(gains):.1f}"
 
 
 def ratio(took, above, below):
@@ -55,6 +92,7 @@ def main():
     environment = dict(os.environ)
     if "huge" in sys.argv[2:]:
         environment["GLIBC_TUNABLES"] = LARGE_PAGES
+    print(processors())
     print(f"{os.cpu_count()} processors; milliseconds, least and median of {runs}; ratios of the least and of the medians")
     with tempfile.TemporaryDirectory() as folder:
         text = f"{folder}/text.coll"
@@ -70,6 +108,7 @@ def main():
             if "once" in took:
                 ratios += ", " + ratio(took, "run 1", "once")
             print(f"{name:20} {row}  {ratios}")
+    print(processors())
 
 
 main()
