@@ -4,7 +4,8 @@ usage: benches/workers.py [RUNS [huge]]. It is run at the top of the repository,
 library asks the kernel for large pages, and for 16 MB at a time, in all forms alike: a run touches some ten thousand pages of 4 KB.
 
 Its first and last line tell how many times the work of one process as many processes do as there are processors, in a loop that needs no
-memory: where processors share cores, with each other or with other machines, that is less than their number, and no program gains more.
+memory: by medians, and by the most that each did. Where processors share cores, one alone may be faster at times than each of several at
+once, and where other machines use them too, some are withheld at times: the figures between these lines are no better than that.
 """
 
 import os
@@ -32,11 +33,12 @@ def clock(words, text, environment):
     return took
 
 
-def spin(seconds):
-    """How many rounds of a loop a process makes in this time."""
+def spin(begin, seconds):
+    """How many rounds of a loop a process makes in this time from this moment on."""
+    while time.monotonic() < begin:
+        pass
     rounds = 0
-    end = time.monotonic() + seconds
-    while time.monotonic() < end:
+    while time.monotonic() < begin + seconds:
         for _ in range(1000):
             rounds += 1
     return rounds
@@ -44,26 +46,34 @@ def spin(seconds):
 
 def rounds_together(processes, seconds=0.02):
     """How many rounds so many processes make at once, together."""
-    ends = []
+    begin = time.monotonic() + 0.01
+    children = []
     for _ in range(processes):
         reader, writer = os.pipe()
-        if os.fork() == 0:
-            os.write(writer, str(spin(seconds)).encode())
+        child = os.fork()
+        if child == 0:
+            os.write(writer, str(spin(begin, seconds)).encode())
             os._exit(0)
         os.close(writer)
-        ends.append(reader)
-    rounds = sum(int(os.read(reader, 64)) for reader in ends)
-    for reader in ends:
+        children.append((child, reader))
+    rounds = 0
+    for child, reader in children:
+        rounds += int(os.read(reader, 64))
         os.close(reader)
-        os.wait()
+        os.waitpid(child, 0)
     return rounds
 
 
 def processors(turns=15):
-    """How many times the work of one process as many do as there are processors, in turns: the least, the median and the most."""
+    """How many times the work of one process as many do as there are processors, in turns: by medians, and by the most that each did."""
     many = os.cpu_count()
-    gains = sorted(rounds_together(many) / rounds_together(1) for _ in range(turns))
-    return f"{many} processes do {gains[0]:.1f} to {gains[-1]:.1f} times the work of one, mostly {statistics.median(gains):.1f}"
+    alone, together = [], []
+    for _ in range(turns):
+        alone.append(rounds_together(1))
+        together.append(rounds_together(many))
+    median = statistics.median(together) / statistics.median(alone)
+    most = max(together) / max(alone)
+    return f"{many} processes do {median:.1f} times the work of one by medians, {most:.1f} times by the most that each did"
 
 
 def ratio(took, above, below):
