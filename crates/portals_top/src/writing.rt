@@ -24,6 +24,7 @@ use run_text::{
     Pieces, ResultLists, order_line, put_result, write_result, write_result_by, write_summary,
 };
 use std::alloc::Global;
+use std::sync::Wait;
 use std::thread::Threads;
 use worlds::World;
 
@@ -134,7 +135,7 @@ fn write_results<K: Sink>(out: &mut Pieces, sink: &mut K, rested: &Rested) -> Re
 }
 
 /// Writes the results, whose lines so many threads make.
-fn write_results_by<R: Threads + Sync, K: Sink>(
+fn write_results_by<R: Threads + Wait + Sync, K: Sink>(
     rt: &R,
     alloc: Global,
     threads: u32,
@@ -164,7 +165,7 @@ fn write_ordered<K: Sink>(out: &mut Pieces, sink: &mut K, rested: &Rested) -> Re
 }
 
 /// Writes what a run in this mode owes.
-pub(crate) fn write_run<R: Threads + Sync, K: Sink>(
+pub(crate) fn write_run<R: Threads + Wait + Sync, K: Sink>(
     rt: &R,
     alloc: Global,
     out: &mut Pieces,

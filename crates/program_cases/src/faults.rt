@@ -5,7 +5,8 @@ use crate::runs::{Left, Made, no_world, run, run_between, run_into, same_left, u
 use port_io::{IoTurn, IoTurns, MemorySink, MemorySource, SureSink, SureSource};
 use portals_top::Status;
 use program_texts::{
-    BARRIER_WITH_ORDERS, ONE_RANK, ONE_RANK_IN_JSON, ONE_RANK_RESULT, THREE_STEPS,
+    BARRIER_WITH_ORDERS, ONE_RANK, ONE_RANK_IN_JSON, ONE_RANK_RESULT, THREE_STEPS, wide_ranks,
+    wide_results,
 };
 use ptl_types::Bytes;
 use std::alloc::Global;
@@ -105,6 +106,39 @@ const SCRIPTS: &[(Turns, Turns, Status, &str)] = &[
 fn pieces_and_faults_of_both_ends(rt: HostRuntime) -> Result<(), Fail> {
     for (reads, writes, status, output) in SCRIPTS {
         scripted(&rt, rt.alloc(), *reads, *writes, *status, output)?;
+    }
+    Ok(())
+}
+
+/// The sink takes a thousand bytes so many times of the first piece, and then fails while threads make lines: these bytes stand, and the run
+/// ends.
+fn fails_after_takes(
+    rt: &(impl Abort + Threads + Wait + Sync),
+    alloc: Global,
+    workers: &str,
+    takes: u32,
+) -> Result<(), Fail> {
+    let text = wide_ranks(alloc)?;
+    let output = wide_results(alloc)?;
+    let mut source = SureSource::new(Bytes::of(alloc, text.as_bytes())?);
+    let mut sink = sink_of(alloc, 262_144, takes, 1_000, true)?;
+    let words = ["run", workers];
+    let left = run_between(rt, alloc, &words, &mut source, &mut sink);
+    let stands = (takes as usize)
+        .wrapping_mul(1_000)
+        .min(output.as_bytes().len());
+    same_bytes(rt, &workers, sink.as_slice(), &output.as_bytes()[..stands]);
+    same(rt, &workers, left.status, Status::WriteFault);
+    same(rt, &workers, sink.finishes(), 0);
+    Ok(())
+}
+
+#[test]
+fn a_sink_fails_while_threads_make_lines(rt: HostRuntime) -> Result<(), Fail> {
+    for workers in ["2", "4", "16"] {
+        for takes in [0, 1, 20, 40, 65] {
+            fails_after_takes(&rt, rt.alloc(), workers, takes)?;
+        }
     }
     Ok(())
 }

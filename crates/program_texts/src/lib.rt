@@ -104,3 +104,71 @@ pub fn sixteen_results(alloc: Global) -> Result<String, AllocError> {
     text.push_str("rest\n")?;
     Ok(text)
 }
+
+/// Thirty-two ranks, of which each holds thirty-two values, and then all 1,024: a buffer of 262,144 bytes over all ranks.
+pub fn wide_ranks(alloc: Global) -> Result<String, AllocError> {
+    let mut text = String::from_str(alloc, "coll 1\nranks 32\ninput part u64 32\n")?;
+    for rank in 0..32u32 {
+        for place in 0..31u32 {
+            let value = 32 * rank + place;
+            text.push_str(format!(in alloc; "{value} ")?.as_str())?;
+        }
+        let last = 32 * rank + 31;
+        text.push_str(format!(in alloc; "{last}\n")?.as_str())?;
+    }
+    text.push_str("allgather part all\nprint all\nend\n")?;
+    Ok(text)
+}
+
+/// What they write.
+pub fn wide_results(alloc: Global) -> Result<String, AllocError> {
+    let mut all = String::new(alloc);
+    for value in 0..1024u32 {
+        all.push_str(format!(in alloc; " {value}")?.as_str())?;
+    }
+    let mut text = String::new(alloc);
+    for rank in 0..32u32 {
+        text.push_str(format!(in alloc; "all {rank}")?.as_str())?;
+        text.push_str(all.as_str())?;
+        text.push_str("\n")?;
+    }
+    text.push_str("rest\n")?;
+    Ok(text)
+}
+
+/// Two ranks, of which each holds 4,096 values of eight digits, and then all 8,192: a line of all has more bytes than a piece.
+pub fn long_lines(alloc: Global) -> Result<String, AllocError> {
+    let mut text = String::from_str(alloc, "coll 1\nranks 2\ninput part u64 4096\n")?;
+    for rank in 0..2u32 {
+        let first = 10_000_000 + 4096 * rank;
+        text.push_str(format!(in alloc; "{first}")?.as_str())?;
+        for value in first + 1..first + 4096 {
+            text.push_str(format!(in alloc; " {value}")?.as_str())?;
+        }
+        text.push_str("\n")?;
+    }
+    text.push_str("allgather part all\nprint all\nprint part\nend\n")?;
+    Ok(text)
+}
+
+/// What they write.
+pub fn long_results(alloc: Global) -> Result<String, AllocError> {
+    let mut text = String::new(alloc);
+    for rank in 0..2u32 {
+        text.push_str(format!(in alloc; "all {rank}")?.as_str())?;
+        for value in 10_000_000..10_008_192u32 {
+            text.push_str(format!(in alloc; " {value}")?.as_str())?;
+        }
+        text.push_str("\n")?;
+    }
+    for rank in 0..2u32 {
+        let first = 10_000_000 + 4096 * rank;
+        text.push_str(format!(in alloc; "part {rank}")?.as_str())?;
+        for value in first..first + 4096 {
+            text.push_str(format!(in alloc; " {value}")?.as_str())?;
+        }
+        text.push_str("\n")?;
+    }
+    text.push_str("rest\n")?;
+    Ok(text)
+}

@@ -1,5 +1,6 @@
 pub mod Digits
 pub mod Refusing
+pub mod Rings
 pub mod Spaced
 pub mod Sums
 pub mod Taking

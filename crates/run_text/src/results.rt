@@ -1,18 +1,16 @@
 //! The whole text of a result.
 
-ghost use Rattle.std.specs.Prelude.{◌≡◌, ◌<◌, [], ℕ, IfSome, length, get_or};
+ghost use Rattle.std.specs.Prelude.{◌≡◌, ◌<◌, [], ℕ, length, get_or};
 ghost use Rattle.std.specs.List.{flat_map};
 ghost use Rattle.coll_shape.specs.Folding.{at};
 ghost use Rattle.coll_shape.specs.Meaning.{Lists, lists_of};
-ghost use Rattle.port_io.specs.Memory.{Tray};
 ghost use Rattle.run_text.specs.Lines.{buffer_lines, line_at, text_of};
-ghost use Rattle.run_text.specs.Made.{AreMade};
 ghost use Rattle.run_text.specs.Putting.{Puts, EndsWith};
 
 use crate::lines::{rest_line, result_line};
 use crate::pieces::Pieces;
 use coll_shape::Shape;
-use port_io::{Failed, MemorySink, Sink};
+use port_io::{Failed, Sink};
 use ptl_types::Rank;
 
 /// Who holds the lists that are printed.
@@ -29,7 +27,7 @@ pub trait ResultLists {
         ensures { result.now ≡ at (lists_of (lists self.now) buffer) rank };
 }
 
-/// Adds the line of a buffer at a rank, which may be made as a text.
+/// Adds the line of a buffer at a rank.
 pub(crate) fn put_line_at<K: Sink, H: ResultLists>(
     out: &mut Pieces,
     sink: &mut K,
@@ -37,45 +35,30 @@ pub(crate) fn put_line_at<K: Sink, H: ResultLists>(
     held: &H,
     buffer: u32,
     rank: Rank,
-    text: Option<&Option<MemorySink>>,
 ) -> Result<(), Failed>
     requires buffer { buffer < length shape.now.buffers }
     requires gives { H.can_give held.now buffer rank }
-    requires made { IfSome text (λ t. IfSome t.now (λ (s : Tray). s.taken ≡ line_at shape.now (H.lists held.now) buffer rank)) }
     ensures { Puts (K.outflow sink.old) (K.outflow sink.new) out.old out.new (line_at shape.now (H.lists held.now) buffer rank) result }
 {
-    if let Some(Some(text)) = text {
-        return out.put(sink, text.as_slice());
-    }
     let about = &shape.buffers()[buffer as usize];
     let list = held.list(buffer, rank);
     result_line(out, sink, about.name.as_slice(), rank, about.ty, list)
 }
 
-/// Adds the lines of a buffer, one a rank. Those of the first ranks may be made as texts.
+/// Adds the lines of a buffer, one a rank.
 pub(crate) fn put_buffer<K: Sink, H: ResultLists>(
     out: &mut Pieces,
     sink: &mut K,
     shape: &Shape,
     held: &H,
     buffer: u32,
-    texts: &[Option<MemorySink>],
 ) -> Result<(), Failed>
     requires buffer { buffer < length shape.now.buffers }
     requires gives { (r : ℕ) → r < shape.now.ranks → H.can_give held.now buffer r }
-    requires made { AreMade shape.now (H.lists held.now) buffer texts.now }
     ensures { Puts (K.outflow sink.old) (K.outflow sink.new) out.old out.new (buffer_lines shape.now (H.lists held.now) buffer) result }
 {
     for rank in 0..shape.ranks() {
-        put_line_at(
-            out,
-            sink,
-            shape,
-            held,
-            buffer,
-            rank,
-            texts.get(rank as usize),
-        )?;
+        put_line_at(out, sink, shape, held, buffer, rank)?;
     }
     Ok(())
 }
@@ -92,7 +75,7 @@ fn put_prints<K: Sink, H: ResultLists>(
 {
     shape.keeps_form();
     for buffer in shape.prints() {
-        put_buffer(out, sink, shape, held, *buffer, &[])?;
+        put_buffer(out, sink, shape, held, *buffer)?;
     }
     Ok(())
 }

@@ -1,52 +1,22 @@
-//! The text of a result, whose lines many threads make.
+//! The text of a result, of whose lines threads make some.
 
-ghost use Rattle.std.specs.Prelude.{◌≡◌, ◌<◌, ◌^◌, [], ℕ, IfSome, length, get_or};
+ghost use Rattle.std.specs.Prelude.{◌≡◌, ◌<◌, [], ℕ, length, get_or};
 ghost use Rattle.std.specs.List.{flat_map};
-ghost use Rattle.port_io.specs.Memory.{Tray};
-ghost use Rattle.run_text.specs.Lines.{buffer_lines, line_at, text_of};
-ghost use Rattle.run_text.specs.Made.{AreMade};
+ghost use Rattle.run_text.specs.Lines.{buffer_lines, text_of};
 ghost use Rattle.run_text.specs.Putting.{Puts, EndsWith};
 
 use crate::lines::rest_line;
 use crate::pieces::Pieces;
-use crate::results::{ResultLists, put_buffer, put_line_at};
+use crate::relay::put_relayed;
+use crate::results::{ResultLists, put_buffer};
 use coll_shape::Shape;
-use port_io::{Failed, IoTurns, MemorySink, Sink};
-use ptl_types::Rank;
+use port_io::{Failed, Sink};
 use std::alloc::Global;
+use std::sync::Wait;
 use std::thread::Threads;
-use work_sharing::map_indices;
 
 /// Lists that have fewer bytes together aren't shared among threads.
 const FEW: u64 = 65_536;
-
-/// The most bytes of a line beside its values: a name, a rank, two spaces and the end of the line.
-const BESIDE: u64 = 32;
-
-/// The most bytes of a value's word with the space before it, for each byte of the value: one byte may be `-128`.
-const WIDEST: u64 = 5;
-
-/// The line of a buffer at a rank as a text, where there is memory for it.
-fn line_text<H: ResultLists>(
-    alloc: Global,
-    shape: &Shape,
-    held: &H,
-    buffer: u32,
-    rank: Rank,
-) -> Option<MemorySink>
-    requires buffer { buffer < length shape.now.buffers }
-    requires gives { H.can_give held.now buffer rank }
-    ensures { IfSome result (λ (s : Tray). s.taken ≡ line_at shape.now (H.lists held.now) buffer rank) }
-{
-    let size = held.list(buffer, rank).len() as u64;
-    let room = WIDEST.saturating_mul(size).saturating_add(BESIDE);
-    // The piece is taken first, so that its memory serves the next line's piece: the text is kept.
-    let mut out = Pieces::open(alloc).ok()?;
-    let mut sink = MemorySink::with_room(alloc, IoTurns::new(alloc), room).ok()?;
-    put_line_at(&mut out, &mut sink, shape, held, buffer, rank, None).ok()?;
-    out.end(&mut sink).ok()?;
-    Some(sink)
-}
 
 /// Whether the lists of a buffer are too short to be shared among threads.
 fn is_short<H: ResultLists>(shape: &Shape, held: &H, buffer: u32) -> bool
@@ -59,42 +29,32 @@ fn is_short<H: ResultLists>(shape: &Shape, held: &H, buffer: u32) -> bool
     bytes < FEW
 }
 
-/// The lines of a buffer as texts, made by as many threads, of which each takes the next line that none has taken. There are none where that
-/// isn't worth it, and where there is no memory for one its place is empty.
-fn line_texts<R: Threads + Sync, H: ResultLists + Sync>(
+/// Adds the lines of a buffer. Where the lists are long enough to be shared, so many threads at most make them, the caller among them, and no
+/// more than there are ranks.
+fn put_buffer_by<R: Threads + Wait + Sync, K: Sink, H: ResultLists + Sync>(
     rt: &R,
     alloc: Global,
     threads: u32,
+    out: &mut Pieces,
+    sink: &mut K,
     shape: &Shape,
     held: &H,
     buffer: u32,
-) -> Vec<Option<MemorySink>>
+) -> Result<(), Failed>
     requires threads { 0 < threads }
     requires buffer { buffer < length shape.now.buffers }
     requires gives { (r : ℕ) → r < shape.now.ranks → H.can_give held.now buffer r }
-    ensures { AreMade shape.now (H.lists held.now) buffer result.items }
+    ensures { Puts (K.outflow sink.old) (K.outflow sink.new) out.old out.new (buffer_lines shape.now (H.lists held.now) buffer) result }
 {
-    if threads == 1 || is_short(shape, held, buffer) {
-        return Vec::new(alloc);
+    let threads = threads.min(shape.ranks());
+    if threads < 2 || is_short(shape, held, buffer) {
+        return put_buffer(out, sink, shape, held, buffer);
     }
-    let made = map_indices(
-        rt,
-        alloc,
-        threads as usize,
-        shape.ranks() as usize,
-        &|i: usize|
-            requires { (i < 2 ^ 32) × (buffer < length shape.now.buffers) × H.can_give held.now buffer i }
-            ensures { IfSome result (λ (s : Tray). s.taken ≡ line_at shape.entry.now (H.lists held.entry.now) buffer i) }
-        { line_text(alloc, shape, held, buffer, i as Rank) },
-    );
-    match made {
-        Ok(texts) => texts,
-        Err(_) => Vec::new(alloc),
-    }
+    put_relayed(rt, alloc, threads - 1, out, sink, shape, held, buffer)
 }
 
-/// Adds the lines of each buffer that is printed, in order, which so many threads make.
-fn put_prints_by<R: Threads + Sync, K: Sink, H: ResultLists + Sync>(
+/// Adds the lines of each buffer that is printed, in order; so many threads at most make those of long buffers.
+fn put_prints_by<R: Threads + Wait + Sync, K: Sink, H: ResultLists + Sync>(
     rt: &R,
     alloc: Global,
     threads: u32,
@@ -109,17 +69,17 @@ fn put_prints_by<R: Threads + Sync, K: Sink, H: ResultLists + Sync>(
 {
     shape.keeps_form();
     for buffer in shape.prints() {
-        let texts = line_texts(rt, alloc, threads, shape, held, *buffer);
-        put_buffer(out, sink, shape, held, *buffer, texts.as_slice())?;
+        put_buffer_by(rt, alloc, threads, out, sink, shape, held, *buffer)?;
     }
     Ok(())
 }
 
-/// Writes the text of a result and finishes the sink, as `write_result` does. The lines of a long buffer are made by as many threads;
-/// what they can't make, since memory or threads ran out, the call makes itself.
+/// Writes the text of a result and finishes the sink, as `write_result` does. So many threads at most, the caller among them, make the lines of
+/// a long buffer, while the caller writes those that are made; it may wait for a line that a thread has begun. What the others can't make, since
+/// memory or threads ran out, it makes itself.
 ///
 /// At `Failed` the count of the sink's faults rose, and a beginning of the text stands.
-pub fn write_result_by<R: Threads + Sync, K: Sink, H: ResultLists + Sync>(
+pub fn write_result_by<R: Threads + Wait + Sync, K: Sink, H: ResultLists + Sync>(
     rt: &R,
     alloc: Global,
     threads: u32,

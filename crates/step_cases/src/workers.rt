@@ -4,8 +4,8 @@ use crate::comparing::{same, same_bytes};
 use crate::runs::{gives, run_through};
 use portals_top::Status;
 use program_texts::{
-    GROUPS, GROUPS_RESULT, HELD, HELD_RESULT, THREE_RESULTS, THREE_STEPS, sixteen_ranks,
-    sixteen_results,
+    GROUPS, GROUPS_RESULT, HELD, HELD_RESULT, THREE_RESULTS, THREE_STEPS, long_lines, long_results,
+    sixteen_ranks, sixteen_results, wide_ranks, wide_results,
 };
 use ptl_types::{LocalStep, Rank};
 use rank_threads::Gate;
@@ -44,6 +44,36 @@ fn workers_write_what_each_rank_holds(rt: HostRuntime) -> Result<(), Fail> {
         gives(&rt, rt.alloc(), &words, text, Status::Done, output)?;
     }
     Ok(())
+}
+
+/// Runs a text by one worker and by more.
+fn gives_by_workers(
+    rt: &(impl Abort + Threads + Wait + Sync),
+    alloc: Global,
+    text: &str,
+    output: &str,
+) -> Result<(), Fail> {
+    for workers in ["1", "2", "3", "4", "16"] {
+        let words = ["run", workers];
+        gives(rt, alloc, &words, text, Status::Done, output)?;
+    }
+    Ok(())
+}
+
+#[test]
+fn threads_make_lines_and_they_come_in_order(rt: HostRuntime) -> Result<(), Fail> {
+    let alloc = rt.alloc();
+    let text = wide_ranks(alloc)?;
+    let output = wide_results(alloc)?;
+    gives_by_workers(&rt, alloc, text.as_str(), output.as_str())
+}
+
+#[test]
+fn threads_make_lines_longer_than_a_piece(rt: HostRuntime) -> Result<(), Fail> {
+    let alloc = rt.alloc();
+    let text = long_lines(alloc)?;
+    let output = long_results(alloc)?;
+    gives_by_workers(&rt, alloc, text.as_str(), output.as_str())
 }
 
 /// Runs sixteen ranks after this head of a description.
