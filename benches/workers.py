@@ -3,15 +3,24 @@
 usage: benches/workers.py [RUNS [huge]]. It is run at the top of the repository, on a machine with nothing else to do. With `huge` the C
 library asks the kernel for large pages, and for 16 MB at a time, in all forms alike: a run touches some ten thousand pages of 4 KB.
 
+Each run is measured from before the process is made, until the last byte of its result has come through a pipe, and until its end is known:
+between these two the kernel takes the process's pages back, one after the other on one processor, whatever the program does. All forms have
+to write the same bytes.
+
 Its first and last line tell how many times the work of one process as many processes do as there are processors, in a loop that needs no
 memory: by medians, and by the most that each did. Where processors share cores, one alone may be faster at times than each of several at
 once, and where other machines use them too, some are withheld at times: the figures between these lines are no better than that.
 """
 
+import fcntl
 import os
+import select
 import statistics
+import struct
+import subprocess
 import sys
 import tempfile
+import termios
 import time
 
 from measure import PROGRAM, allgathers, values
@@ -20,17 +29,51 @@ from measure import PROGRAM, allgathers, values
 LARGE_PAGES = "glibc.malloc.hugetlb=1:glibc.malloc.top_pad=16777216"
 
 
-def clock(words, text, environment):
-    """The seconds of one run by the clock, from before the process is made until its end is known."""
-    with open(text, "rb") as source, open(os.devnull, "wb") as sink:
-        ends = [(os.POSIX_SPAWN_DUP2, source.fileno(), 0), (os.POSIX_SPAWN_DUP2, sink.fileno(), 1)]
+# As much as a pipe holds for a program without privileges.
+PIPE_ROOM = 1 << 20
+
+
+def waiting(reader):
+    """How many bytes are in a pipe."""
+    return struct.unpack("i", fcntl.ioctl(reader, termios.FIONREAD, b"\0" * 4))[0]
+
+
+def receive(reader, size):
+    """Waits until so many bytes have come. They stay in the pipe while it has room, so that reading takes no time of the program's."""
+    select.select([reader], [], [])
+    got = 0
+    while got + waiting(reader) < size:
+        if waiting(reader) > PIPE_ROOM // 2 or select.select([reader], [], [], 0)[0] and waiting(reader) == 0:
+            piece = os.read(reader, PIPE_ROOM)
+            if not piece:
+                sys.exit(f"{PROGRAM}: {got} of {size} bytes")
+            got += len(piece)
+        time.sleep(0.00005)
+
+
+def clock(words, text, environment, size):
+    """The milliseconds of one run, until the last byte of its result has come and until its end is known."""
+    reader, writer = os.pipe2(os.O_CLOEXEC)
+    fcntl.fcntl(writer, fcntl.F_SETPIPE_SZ, PIPE_ROOM)
+    with open(text, "rb") as source:
+        ends = [(os.POSIX_SPAWN_DUP2, source.fileno(), 0), (os.POSIX_SPAWN_DUP2, writer, 1)]
         started = time.monotonic()
         child = os.posix_spawn(PROGRAM, [PROGRAM, *words], environment, file_actions=ends)
+        os.close(writer)
+        receive(reader, size)
+        came = time.monotonic()
         _, status = os.waitpid(child, 0)
-        took = time.monotonic() - started
+        ended = time.monotonic()
+    os.close(reader)
     if status != 0:
         sys.exit(f"{PROGRAM} {' '.join(words)}: status {status}")
-    return took
+    return (came - started) * 1000, (ended - started) * 1000
+
+
+def output(words, text):
+    """What a run writes."""
+    with open(text, "rb") as source:
+        return subprocess.run([PROGRAM, *words], stdin=source, capture_output=True, check=True).stdout
 
 
 def spin(begin, seconds):
@@ -97,6 +140,32 @@ def forms(is_large):
     return {"once": ["once"], "run 1": ["run", "1"], "run 4": ["run", "4"]}
 
 
+def row(name, took):
+    """The times of each form, and their ratios."""
+    times = "  ".join(f"{form} {min(each):.1f} {statistics.median(each):.1f}" for form, each in took.items())
+    ratios = ratio(took, "run 1", "run 4")
+    if "once" in took:
+        ratios += ", " + ratio(took, "run 1", "once")
+    print(f"{name:20} {times}  {ratios}")
+
+
+def measure(name, text, is_large, runs, environment):
+    """Runs each form so often, in turns."""
+    written = {output(words, text) for words in forms(is_large).values()}
+    if len(written) != 1:
+        sys.exit(f"{name}: the forms write different texts")
+    size = len(written.pop())
+    came = {form: [] for form in forms(is_large)}
+    ended = {form: [] for form in forms(is_large)}
+    for _ in range(runs):
+        for form, words in forms(is_large).items():
+            result, end = clock(words, text, environment, size)
+            came[form].append(result)
+            ended[form].append(end)
+    row(name, came)
+    row("  and until the end", ended)
+
+
 def main():
     runs = int(sys.argv[1]) if len(sys.argv) > 1 else 5
     environment = dict(os.environ)
@@ -109,15 +178,7 @@ def main():
         for name, description, is_large in cases():
             with open(text, "w") as sink:
                 sink.write(description)
-            took = {form: [] for form in forms(is_large)}
-            for _ in range(runs):
-                for form, words in forms(is_large).items():
-                    took[form].append(clock(words, text, environment) * 1000)
-            row = "  ".join(f"{form} {min(times):.1f} {statistics.median(times):.1f}" for form, times in took.items())
-            ratios = ratio(took, "run 1", "run 4")
-            if "once" in took:
-                ratios += ", " + ratio(took, "run 1", "once")
-            print(f"{name:20} {row}  {ratios}")
+            measure(name, text, is_large, runs, environment)
     print(processors())
 
 
