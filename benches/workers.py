@@ -43,7 +43,9 @@ def receive(reader, size):
     select.select([reader], [], [])
     got = 0
     while got + waiting(reader) < size:
-        if waiting(reader) > PIPE_ROOM // 2 or select.select([reader], [], [], 0)[0] and waiting(reader) == 0:
+        # An empty pipe that can be read has ended: the run wrote less.
+        has_ended = select.select([reader], [], [], 0)[0] and waiting(reader) == 0
+        if has_ended or waiting(reader) > PIPE_ROOM // 2:
             piece = os.read(reader, PIPE_ROOM)
             if not piece:
                 sys.exit(f"{PROGRAM}: {got} of {size} bytes")
@@ -150,7 +152,7 @@ def row(name, took):
 
 
 def measure(name, text, is_large, runs, environment):
-    """Runs each form so often, in turns."""
+    """Runs each form so often, in turns, and prints the times of both ends."""
     written = {output(words, text) for words in forms(is_large).values()}
     if len(written) != 1:
         sys.exit(f"{name}: the forms write different texts")
