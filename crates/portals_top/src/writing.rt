@@ -134,7 +134,7 @@ fn write_results<K: Sink>(out: &mut Pieces, sink: &mut K, rested: &Rested) -> Re
     write_result(out, sink, shape, rested)
 }
 
-/// Writes the results, whose lines so many threads make.
+/// Writes the results. So many threads make their lines, the caller among them.
 fn write_results_by<R: Threads + Wait + Sync, K: Sink>(
     rt: &R,
     alloc: Global,

@@ -1,23 +1,22 @@
 -- Rings, place by place.
-use Rattle.std.proofs.Common.{◌≡◌, ◌≢◌, ℕ, ◌+◌, ◌<◌, ◌++◌, ◌∷◌, List, [], Option, Some, None, All, IfSome, get_or, length, set, refl, sym, ◌∙◌, ap, subst, arith, inl, inr}
+use Rattle.std.proofs.Common.{◌≡◌, ◌≢◌, ℕ, ◌+◌, ◌<◌, ◌++◌, List, Option, Some, None, All, IfSome, get_or, length, set, refl, sym, ◌∙◌, ap, subst, arith, inl, inr}
 use Rattle.std.specs.Prelude.{option_to_list}
 use Rattle.std.proofs.lemmas.Bool.Decides.{eqb_tells, leb_tells}
 use Rattle.std.proofs.lemmas.Grind.{get_or-set_at}
-use Rattle.std.proofs.lemmas.List.{get_or_default, get_or-set_other, length-append, length-set}
+use Rattle.std.proofs.lemmas.List.{get_or_default, get_or-set_other, length-set}
 use Rattle.std.proofs.Math.Seq.{take-append_seam}
 use Rattle.std.proofs.lemmas.List.Elements.{All-pop, All-same, All-set, All-take}
-use lib.ListN.{get_or-append}
-use lib.Seq.{get_or-append_seam}
 use Rattle.rtrb.specs.Ends.{SameRing}
-use Rattle.rtrb.specs.Ring.{IsPair, SameConsumer, SameProducer, known_free, known_items, received, sent}
+use Rattle.rtrb.specs.Ring.{IsPair, SameConsumer, SameProducer, known_items, received, sent}
 use Rattle.rtrb.specs.declared.consumer.Consumer.{Consumer}
 use Rattle.rtrb.specs.declared.end.End.{End}
 use Rattle.rtrb.specs.declared.producer.Producer.{Producer}
 use Rattle.coll_shape.specs.Outline.{Outline}
 use Rattle.coll_shape.specs.Meaning.{Lists}
-use Rattle.run_text.specs.Made.{AreSent, AreNew, ArePairs, AreReceived, IsMade, KeepsOuts, KeepsIns, Came, ReceivesMore}
+use Rattle.run_text.specs.Made.{AreSent, AreReceived, IsMade, KeepsOuts, KeepsIns, Came, ReceivesMore}
 use Rattle.run_text.specs.declared.relay.Made.{Made}
 
+-- a place up to k that isn't k lies before it
 under : (j k : ℕ) → j < k + 1 → j ≢ k → j < k
 under j k below apart = elim (leb_tells k j) [
   | inl q ↦ absurd (apart (omega (arith, below, q.1)))
@@ -30,23 +29,6 @@ module _ {A P : Type 0} where
 
   same-back : (a b c : End Made A P) → SameRing a b → SameRing a c → SameRing b c
   same-back a b c first then = (then.0 ∙ sym first.0, then.1 ∙ sym first.1, then.2 ∙ sym first.2, then.3 ∙ sym first.3)
-
-  -- two further ends
-  pub pairs-more : (ins : List (Producer Made A P)) (outs : List (Consumer Made A P)) (p : Producer Made A P) (c : Consumer Made A P)
-      → ArePairs ins outs → IsPair p c → ArePairs (ins ++ p ∷ []) (outs ++ c ∷ [])
-  pairs-more ins outs p c pairs pair = (
-    omega (arith, pairs.0, length-append ins (p ∷ []), length-append outs (c ∷ [])),
-    λ j d e within. elim (leb_tells (length outs) j) [
-      | inl q ↦
-          let here : j ≡ length outs = omega (arith, q.1, length-append outs (c ∷ [])) in
-          let there : j ≡ length ins = here ∙ pairs.0 in
-          subst (λ x. IsPair x (get_or (outs ++ c ∷ []) j e)) (sym (ap (λ i. get_or (ins ++ p ∷ []) i d) there ∙ get_or-append_seam ins p [] d))
-          (subst (λ y. IsPair p y) (sym (ap (λ i. get_or (outs ++ c ∷ []) i e) here ∙ get_or-append_seam outs c [] e)) pair)
-      | inr q ↦
-          subst (λ x. IsPair x (get_or (outs ++ c ∷ []) j e)) (sym (get_or-append ins (p ∷ []) d j (omega (arith, pairs.0, q.1))))
-          (subst (λ y. IsPair (get_or ins j d) y) (sym (get_or-append outs (c ∷ []) e j q.1)) (pairs.1 j d e q.1))
-    ],
-  )
 
   -- an end that changed at its place
   pub keeps-set : (outs : List (Consumer Made A P)) (k : ℕ) (d c : Consumer Made A P) → k < length outs → SameConsumer (get_or outs k d) c
@@ -76,10 +58,10 @@ module _ {A P : Type 0} where
       ]
 
   -- what came last was made so, if all that came was
-  pub told-set : (outs : List (Consumer Made A P)) (k : ℕ) (d c : Consumer Made A P) (r : Option Made) → k < length outs
+  pub received-set : (outs : List (Consumer Made A P)) (k : ℕ) (d c : Consumer Made A P) (r : Option Made) → k < length outs
       → received c ≡ received (get_or outs k d) ++ option_to_list r
       → (o : Outline) (lists : Lists) (b : ℕ) → AreReceived o lists b (set outs k c) → IfSome r (IsMade o lists b)
-  told-set outs k d c r within grown o lists b told =
+  received-set outs k d c r within grown o lists b told =
       let now : All (IsMade o lists b) (received c) =
       subst (λ (y : Consumer Made A P). All (IsMade o lists b) (received y)) (get_or-set_at outs k k c c refl within) (told k c (omega (arith, within, length-set outs k c))) in
       (All-pop (IsMade o lists b) (received c) (received (get_or outs k d)) r grown now).1
@@ -108,20 +90,20 @@ module _ {A P : Type 0} where
   settled o lists b p c fifo made = All-same (IsMade o lists b) (received c) _ (sym (take-append_seam (received c) (known_items c)))
       (All-take (IsMade o lists b) (length (received c)) _ (subst (All (IsMade o lists b)) (sym fifo) made))
 
-  -- of the places below k + 1, as of those below k, where the end at place k is told of
-  pub told-more : (outs : List (Consumer Made A P)) (k : ℕ) (c : Consumer Made A P) → k < length outs
+  -- what came out at the places below k was made so, and at place k it is: so it was below k + 1
+  pub received-more : (outs : List (Consumer Made A P)) (k : ℕ) (c : Consumer Made A P) → k < length outs
       → (o : Outline) (lists : Lists) (b : ℕ) → ((j : ℕ) (e : Consumer Made A P) → j < k → All (IsMade o lists b) (received (get_or outs j e)))
       → All (IsMade o lists b) (received c)
       → (j : ℕ) (e : Consumer Made A P) → j < k + 1 → All (IsMade o lists b) (received (get_or (set outs k c) j e))
-  told-more outs k c within o lists b before here j e below =
+  received-more outs k c within o lists b before here j e below =
       elim (eqb_tells j k) [
         | inl q ↦ subst (λ (x : Consumer Made A P). All (IsMade o lists b) (received x)) (sym (get_or-set_at outs k j c e q.1 within)) here
         | inr q ↦ subst (λ (x : Consumer Made A P). All (IsMade o lists b) (received x)) (sym (get_or-set_other outs k j c e q.1)) (before j e (under j k below q.1))
       ]
 
   -- so a line of that rank came
-  pub tells-set : (outs : List (Consumer Made A P)) (k : ℕ) (d c : Consumer Made A P) (r : Option Made) (rank : ℕ) → k < length outs
+  pub came-set : (outs : List (Consumer Made A P)) (k : ℕ) (d c : Consumer Made A P) (r : Option Made) (rank : ℕ) → k < length outs
       → received c ≡ received (get_or outs k d) ++ option_to_list r → IfSome r (λ made. made.rank ≡ rank)
       → IfSome r (λ made. Came (set outs k c) rank made)
-  tells-set outs k d c None rank within grown ranked = tt
-  tells-set outs k d c (Some made) rank within grown ranked = (ranked, λ o lists b told. told-set outs k d c (Some made) within grown o lists b told)
+  came-set outs k d c None rank within grown ranked = tt
+  came-set outs k d c (Some made) rank within grown ranked = (ranked, λ o lists b told. received-set outs k d c (Some made) within grown o lists b told)

@@ -29,7 +29,8 @@ module _ {A P : Type 0} where
   -- the two ends of the k-th ring stand at place k of the two lists
   abbrev pub ArePairs : List (Producer Made A P) → List (Consumer Made A P) → Type 0
   ArePairs ins outs = (length outs ≡ length ins)
-      × ((k : ℕ) (p : Producer Made A P) (c : Consumer Made A P) → k < length outs → IsPair (slice_index_or ins k p) (slice_index_or outs k c))
+      × ((k : ℕ) (p : Producer Made A P) (c : Consumer Made A P) → k < length outs →
+      IsPair (slice_index_or ins k p) (slice_index_or outs k c))
 
   -- whatever out ends were those of the old in ends are those of the new ones
   abbrev pub KeepsOuts : List (Producer Made A P) → List (Producer Made A P) → Type 0
@@ -45,4 +46,5 @@ module _ {A P : Type 0} where
 
   -- a line is that of the rank, and was made so if all that has come out by now was
   abbrev pub Came : List (Consumer Made A P) → ℕ → Made → Type 0
-  Came outs rank made = (made.rank ≡ rank) × ((o : Outline) (lists : Lists) (b : ℕ) → AreReceived o lists b outs → IsMade o lists b made)
+  Came outs rank made = (made.rank ≡ rank)
+      × ((o : Outline) (lists : Lists) (b : ℕ) → AreReceived o lists b outs → IsMade o lists b made)

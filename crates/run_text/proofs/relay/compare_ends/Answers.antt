@@ -1,6 +1,6 @@
 use Rattle.std.proofs.Common.{◌<◌, ◌∙◌, All, None, append-nil, arith, length, subst, sym}
 use Rattle.run_text.specs.Made.{IsMade}
-use Rattle.run_text.proofs.Rings.{keeps-ins, keeps-set, made-set, more-set, settled, told-more}
+use Rattle.run_text.proofs.Rings.{keeps-ins, keeps-set, made-set, more-set, settled, received-more}
 use Rattle.run_text.proofs.relay.compare_ends.Goals as goal
 
 pub loop-k-preserved : goal.loop-k-preserved
@@ -21,7 +21,7 @@ loop-k-preserved c =
       made = λ o lists b made. made-set c.loop-k.ins k old_in new_in in_within looked_in.1 o lists b (i.made o lists b made);
       more = λ o lists b told. i.more o lists b
           (more-set c.loop-k.outs k old_out new_out None out_within (looked.1 ∙ sym (append-nil _)) o lists b told);
-      told = λ o lists b made. told-more c.loop-k.outs k new_out out_within o lists b (i.told o lists b made)
+      told = λ o lists b made. received-more c.loop-k.outs k new_out out_within o lists b (i.told o lists b made)
           (settled o lists b new_in new_out c.slots_beside.ensures.fifo
           (subst (All (IsMade o lists b)) (sym looked_in.1) (i.made o lists b made k old_in in_within)));
     }

@@ -1,5 +1,5 @@
 use Rattle.std.proofs.Common.{◌<◌, arith, length}
-use Rattle.run_text.proofs.Rings.{keeps-set, more-set, tells-set}
+use Rattle.run_text.proofs.Rings.{keeps-set, more-set, came-set}
 use Rattle.run_text.proofs.relay.line_that_came.Goals as goal
 
 pub returns-then-is_some-clause-more : goal.returns-then-is_some-clause-more
@@ -11,7 +11,7 @@ returns-then-is_some-clause-more c = λ o lists b told.
 pub returns-then-is_some-clause-tells : goal.returns-then-is_some-clause-tells
 returns-then-is_some-clause-tells c =
     let within : c.loop-k.k < length c.loop-k.outs = omega (arith, c.loop-k-test.true, c.loop-k.auto.outs) in
-    tells-set c.loop-k.outs c.loop-k.k c.index-outs-k.result c.line_from-came.new.out c.line_from-came.result c.args.rank within
+    came-set c.loop-k.outs c.loop-k.k c.index-outs-k.result c.line_from-came.new.out c.line_from-came.result c.args.rank within
     c.line_from-came.ensures.came c.line_from-came.ensures.rank
 
 pub loop-k-preserved : goal.loop-k-preserved
