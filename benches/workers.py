@@ -4,8 +4,7 @@ usage: benches/workers.py [RUNS [huge]]. It is run at the top of the repository,
 library asks the kernel for large pages, and for 16 MB at a time, in all forms alike: a run touches some ten thousand pages of 4 KB.
 
 Each run is measured from before the process is made, until the last byte of its result has come through a pipe, and until its end is known:
-between these two the kernel takes the process's pages back, one after the other on one processor, whatever the program does. All forms have
-to write the same bytes.
+between these two the kernel takes the process's pages back, one after the other on one processor. All forms have to write the same bytes.
 
 Its first and last line tell how many times the work of one process as many processes do as there are processors, in a loop that needs no
 memory: by medians, and by the most that each did. Where processors share cores, one alone may be faster at times than each of several at
