@@ -1,7 +1,7 @@
 """Runs a choice text under `once` and `sim 7`, looks at each value, and tells how long the runs took by the clock.
 
 usage: benches/choices.py [RANKS STEPS]. They are 256 and 64 where none are given; elects and tickets take turns. PORTALS_RUN is the program
-(crates/portals_run/out/portals_run, which `rt run` there leaves). The status is 0 where all values are right.
+(crates/portals_run/out/portals_run, which `rt ci` leaves). The status is 0 where all values are right.
 """
 
 import os

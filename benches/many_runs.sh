@@ -4,12 +4,12 @@
 #   many_runs.sh [RUNS]
 #
 # RUNS is how many runs of each of the two are made in all (1000). PORTALS_RUN is the program (crates/portals_run/out/portals_run,
-# which `rt run` there leaves). The status is 0 where every run ended with the right text.
+# which `rt ci` leaves). The status is 0 where every run ended with the right text.
 set -u
 top=$(cd "$(dirname "$0")/.." && pwd)
 program=${PORTALS_RUN:-$top/crates/portals_run/out/portals_run}
 runs=${1:-1000}
-[ -x "$program" ] || { echo "many_runs: no program at $program: rt run in crates/portals_run leaves it there" >&2; exit 2; }
+[ -x "$program" ] || { echo "many_runs: no program at $program: rt ci leaves it there" >&2; exit 2; }
 names='allgather allreduce allreduce_and_scan alltoall barrier exscan gather gatherv groups ranks_16 reducescatter scan'
 for workers in 4 16; do
     made=0
