@@ -75,7 +75,7 @@ module _ (starts : CombineStarts) (p : Plan) (inputs : Inputs) (sound : SoundPla
       next_stray p inputs slots w held (reached_moment steps strays w held x) next later step
 
   -- ---- what is said of steps by rank
-  few : (w : Histories) → IsCut (system_of p inputs slots) w → (r : ℕ) → r < p.ranks
+  pub few : (w : Histories) → IsCut (system_of p inputs slots) w → (r : ℕ) → r < p.ranks
       → length (w r) ≤ steps_of p 0 r + count_by is_received_stray (w r)
   few w cut r h =
       let a = few_receipts starts p inputs sound fit slots w cut r h in

@@ -5,3 +5,4 @@ pub mod Moments
 pub mod Counted
 pub mod Interleavings
 pub mod Strays
+pub mod Whole

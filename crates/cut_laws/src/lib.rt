@@ -86,8 +86,8 @@ pub fn interleavings_end()
 
 /// Strays change nothing of the end: in an interleaving of a plan's ranks that any number of them came into, once each rank has
 /// started, no operation is ready and nothing but strays is left in the lanes, each rank is complete: each completion counter stands
-/// at its threshold, and each cell holds its value. An interleaving of which no step but a stray's is left is one such, and stays one
-/// when a stray more comes.
+/// at its threshold, and each cell holds its value. The ranks have then made just the steps that the plan gives, and one for each
+/// stray that they received. An interleaving of which no step but a stray's is left is one such, and stays one when a stray more comes.
 pub fn strays_change_no_end()
     ensures complete { (plan : Plan) (inputs : Inputs) (slots : ℕ → Slots) (steps strays : ℕ) (world : Histories) (held : Lanes) →
         SoundPlan plan (length inputs) → AreInputsOf plan inputs →
@@ -99,6 +99,11 @@ pub fn strays_change_no_end()
         IsReachedIn (system_of plan inputs slots) steps strays world held →
         IsStillButStrays (system_of plan inputs slots) world held →
         IsAtRest (system_of plan inputs slots) world }
+    ensures steps { (plan : Plan) (inputs : Inputs) (slots : ℕ → Slots) (steps strays : ℕ) (world : Histories) (held : Lanes) →
+        SoundPlan plan (length inputs) → AreInputsOf plan inputs →
+        IsReachedIn (system_of plan inputs slots) steps strays world held →
+        IsStillButStrays (system_of plan inputs slots) world held →
+        steps ≡ steps_due plan + strays_received world plan.ranks }
     ensures still { (ranks : System) (world : Histories) (held : Lanes) →
         IsStill ranks world held → IsStillButStrays ranks world held }
     ensures more { (ranks : System) (steps strays : ℕ) (world : Histories) (held : Lanes) (s d : ℕ) (m : Sent) →
