@@ -16,10 +16,11 @@ use Rattle.plan_orders.specs.Taking.{listed}
 use Rattle.shape_plans.specs.Drawing.{plan_of}
 use Rattle.shape_plans.specs.Footprint.{refusal}
 use Rattle.shape_laws.proofs.Final.{fine-shape, inputs_fit}
-use Rattle.cut_laws.specs.Interleaving.{IsReachedIn, steps_due}
+use Rattle.cut_laws.specs.Interleaving.{IsReachedIn, IsStillButStrays, steps_due, strays_received}
 use Rattle.cut_laws.proofs.Cuts.{one_choice_clean}
 use Rattle.cut_laws.proofs.Interleavings.{but_strays_rest, reached_moment, steps_by_receipts}
 use Rattle.cut_laws.proofs.Strays.{received_were_put}
+use Rattle.cut_laws.proofs.Whole.{steps_made}
 use Rattle.job_laws.proofs.Cuts.{complete_at, meant_where_complete, rank_of, sound_for}
 use Rattle.job_interleavings.specs.Headline.{HeadlineWithStrays}
 
@@ -57,3 +58,14 @@ one_choice bytes d slots one other is accepted a b clean pure same r h =
     (inputs_fit d.shape d.inputs ok.formed ok.given)
     (combined-swaps op_laws) slots one other a b clean pure
     (λ q l. same q (subst (λ n. q < n) (fine-shape d.shape ok.formed).ranks l)) r (rank_of d.shape r ok.formed h)
+
+pub exact : (bytes : List ℕ) (d : Program) (slots : ℕ → Slots) (steps strays : ℕ) (world : Histories) (held : Lanes) → read bytes ≡ Ok d
+    → refusal d.shape ≡ None → IsReachedIn (system_of (plan_of d.shape) d.inputs slots) steps strays world held
+    → IsStillButStrays (system_of (plan_of d.shape) d.inputs slots) world held
+    → steps ≡ steps_due (plan_of d.shape) + strays_received world d.shape.ranks
+exact bytes d slots steps strays world held is accepted reached still =
+    let ok = (comes bytes d is).readable in
+    let sound = sound_for d.shape d.inputs ok.formed accepted ok.given in
+    let fit = inputs_fit d.shape d.inputs ok.formed ok.given in
+    subst (λ n. steps ≡ steps_due (plan_of d.shape) + strays_received world n) (fine-shape d.shape ok.formed).ranks
+    (steps_made combined-starts (plan_of d.shape) d.inputs sound fit (combined-swaps op_laws) slots steps strays world held reached still)

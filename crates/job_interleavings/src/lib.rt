@@ -14,7 +14,7 @@ ghost use Rattle.plan_cuts.specs.Wave.{HasNoStray};
 ghost use Rattle.plan_orders.specs.Taking.{listed};
 ghost use Rattle.shape_plans.specs.Drawing.{plan_of};
 ghost use Rattle.shape_plans.specs.Footprint.{refusal};
-ghost use Rattle.cut_laws.specs.Interleaving.{IsReachedIn, steps_due};
+ghost use Rattle.cut_laws.specs.Interleaving.{IsReachedIn, IsStillButStrays, steps_due, strays_received};
 ghost use Rattle.job_interleavings.specs.Headline.{HeadlineWithStrays};
 
 /// For every accepted description, number of ranks and interleaving of starts, deliveries and firings that keeps each lane's order,
@@ -26,12 +26,17 @@ pub fn every_interleaving_with_strays_is_meant()
 {}
 
 /// An interleaving of an accepted description's ranks has at most the steps that its plan gives, and one more for each message of
-/// another job that came into it.
+/// another job that came into it. At its end it has just the steps that the plan gives, and one for each such message received.
 pub fn every_interleaving_ends()
-    ensures { (bytes : List ℕ) (d : Program) (slots : ℕ → Slots) (steps strays : ℕ) (world : Histories) (held : Lanes) →
+    ensures bounded { (bytes : List ℕ) (d : Program) (slots : ℕ → Slots) (steps strays : ℕ) (world : Histories) (held : Lanes) →
         read bytes ≡ Ok d → refusal d.shape ≡ None →
         IsReachedIn (system_of (plan_of d.shape) d.inputs slots) steps strays world held →
         steps ≤ steps_due (plan_of d.shape) + strays }
+    ensures exact { (bytes : List ℕ) (d : Program) (slots : ℕ → Slots) (steps strays : ℕ) (world : Histories) (held : Lanes) →
+        read bytes ≡ Ok d → refusal d.shape ≡ None →
+        IsReachedIn (system_of (plan_of d.shape) d.inputs slots) steps strays world held →
+        IsStillButStrays (system_of (plan_of d.shape) d.inputs slots) world held →
+        steps ≡ steps_due (plan_of d.shape) + strays_received world d.shape.ranks }
 {}
 
 /// The order lines of a cut of an accepted description's ranks leave one choice of messages: two cuts without messages of other jobs
