@@ -1,6 +1,9 @@
 /* Runs the steps of a description by the collectives of MPI, and writes the text of the result at rank 0.
  *
  *   mpirun -n RANKS ./collectives [--nonblocking] [--truth-of-one] DESCRIPTION
+ *   ./collectives --library
+ *
+ * The second form writes which MPI this is: the first line of what MPI_Get_library_version says.
  *
  * RANKS is the number on the description's second line, and DESCRIPTION a path that every rank can read. The description is
  * one that `portals_run once` accepts: no rule of the language is judged here. With --nonblocking each step is a non-blocking
@@ -432,7 +435,17 @@ static char *read_file(const char *path) {
     return text;
 }
 
+/* It may be asked before MPI_Init, so no mpirun is needed. */
+static int print_library(void) {
+    char text[MPI_MAX_LIBRARY_VERSION_STRING];
+    int length;
+    MPI_Get_library_version(text, &length);
+    printf("%.*s\n", (int)strcspn(text, "\n"), text);
+    return 0;
+}
+
 int main(int argc, char **argv) {
+    if (argc == 2 && !strcmp(argv[1], "--library")) return print_library();
     MPI_Init(&argc, &argv);
     MPI_Comm_rank(MPI_COMM_WORLD, &rank);
     MPI_Comm_size(MPI_COMM_WORLD, &ranks);
