@@ -1,0 +1,5 @@
+mod Rising
+mod Counted
+mod Nothing
+mod Left
+mod Later
