@@ -1,0 +1,2 @@
+mod Through
+pub mod Chain
