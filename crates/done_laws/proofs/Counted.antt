@@ -5,7 +5,7 @@ use Rattle.std.proofs.lemmas.Bool.{not_from_false}
 use Rattle.std.proofs.lemmas.List.Sums.{length-filter}
 use Rattle.ni_model.specs.Counts.{successes}
 use Rattle.ni_model.specs.Tables.{Table, lookup}
-use Rattle.op_laws.specs.Combining.{CombineStarts}
+use Rattle.op_laws.specs.Combining.{CombineStarts, CombineSwaps}
 use Rattle.plan_calls.specs.Works.{done_threshold, is_message, sends_of, works}
 use Rattle.plan_calls.specs.Works.Work.{Tell}
 use Rattle.plan_core.proofs.Links.{In-out_links, In-own}
@@ -30,6 +30,7 @@ use Rattle.plan_machine.proofs.Works.{In-works_tell}
 use Rattle.plan_machine.specs.Machine.{HasReached, all_seen}
 use Rattle.plan_machine.specs.Seen.{nothing_seen, reached_count, tells}
 use Rattle.plan_rest.proofs.Due.{answers_once, got_ack, link_to}
+use Rattle.plan_rest.proofs.Laws.{reached_holds}
 use Rattle.plan_view.proofs.StepFire.{lookup_counter}
 use Rattle.plan_view.proofs.Tables.{same_handle-refl}
 use Rattle.plan_view.specs.Slots.{Slots, cell_ct, done_ct}
@@ -40,7 +41,7 @@ use Rattle.ptl_types.specs.Messages.{Sent}
 use Rattle.ptl_types.specs.declared.handles.Count.{Count}
 use Rattle.ptl_types.specs.declared.headers.Lane.TheVariants.{Answer}
 use Rattle.done_laws.proofs.Rising.{told_reached}
-use Rattle.done_laws.specs.Done.{IsDone}
+use Rattle.done_laws.specs.Done.{HoldsValues, IsDone}
 
 total_of : (a b : Count) → Some a ≡ Some b → a.success + a.failure ≡ b.success + b.failure
 total_of a b e = ap (λ (o : Option Count). elim o [ Some c ↦ c.success + c.failure | None ↦ 0 ]) e
@@ -192,7 +193,7 @@ module _ (starts : CombineStarts) (p : Plan) (inputs : Inputs) (sound : SoundPla
       enough_of false e k = cc
 
 -- the counter of a cell that has reached its needs
-pub counter_reached : (starts : CombineStarts) (p : Plan) (inputs : Inputs) (sound : SoundPlan p (length inputs))
+counter_reached : (starts : CombineStarts) (p : Plan) (inputs : Inputs) (sound : SoundPlan p (length inputs))
     (fit : AreInputsOf p inputs) (slots : ℕ → Slots) (w : Histories) (cut : IsCut (system_of p inputs slots) w) (c : ℕ)
     → c < length p.cells
     → HasReached p (moves_at p w) c → CounterReached p inputs slots w c
@@ -205,3 +206,13 @@ counter_reached starts p inputs sound fit slots w cut c h n = record {
       (slots (cell p c).rank) (cell p c).rank (all_seen p (moves_at p w) (cell p c).rank) c (In-own p (cell p c).rank c h refl);
   enough = (let s = needs_small p (length inputs) sound c h in omega (arith, s, n));
 }
+
+-- so each cell of the rank holds its value
+pub holds_values : (starts : CombineStarts) (p : Plan) (inputs : Inputs) (sound : SoundPlan p (length inputs)) (fit : AreInputsOf p inputs)
+    (swaps : CombineSwaps) (slots : ℕ → Slots) (w : Histories) (cut : IsCut (system_of p inputs slots) w) (r : ℕ) → r < p.ranks
+    → IsDone p inputs slots w r → HoldsValues p inputs slots w r
+holds_values starts p inputs sound fit swaps slots w cut r h done d i e =
+    reached_holds starts p inputs sound fit slots w cut swaps d i
+    (counter_reached starts p inputs sound fit slots w cut d i
+    (subst (λ q. (cell p d).needs ≤ reached_count p (all_seen p (moves_at p w) q) q d) (sym e)
+    (reached starts p inputs sound fit slots w cut r h done d (In-own p r d i e))))

@@ -1,5 +1,5 @@
 mod Rising
-mod Counted
-mod Nothing
-mod Left
-mod Later
+pub mod Counted
+pub mod Nothing
+pub mod Left
+pub mod Later

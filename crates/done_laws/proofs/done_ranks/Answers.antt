@@ -1,17 +1,14 @@
 -- By `Counted`, `Nothing`, `Left` and `Later`.
-use Rattle.std.proofs.Common.{◌+◌, ◌≤◌, cond, count_by, length, subst, sym}
+use Rattle.std.proofs.Common.{◌+◌, cond, count_by, length}
 use Rattle.op_laws.proofs.OpLaws.{op_laws}
 use Rattle.op_laws.proofs.Starts.{combined-starts}
 use Rattle.op_laws.proofs.Swaps.{combined-swaps}
-use Rattle.plan_core.proofs.Links.{In-own}
-use Rattle.plan_core.specs.Plan.{cell}
 use Rattle.plan_cuts.proofs.FromCut.{moves_at}
 use Rattle.plan_cuts.proofs.Traffic.{own_received}
 use Rattle.plan_machine.specs.Machine.{all_seen}
-use Rattle.plan_machine.specs.Seen.{reached_count, tells}
-use Rattle.plan_rest.proofs.Laws.{reached_holds}
+use Rattle.plan_machine.specs.Seen.{tells}
 use Rattle.ptl_types.specs.declared.headers.Lane.TheVariants.{Answer}
-use Rattle.done_laws.proofs.Counted.{counted, counter_reached, reached, within_threshold}
+use Rattle.done_laws.proofs.Counted.{counted, holds_values, within_threshold}
 use Rattle.done_laws.proofs.Later.{stays_done}
 use Rattle.done_laws.proofs.Left.{only_sends}
 use Rattle.done_laws.proofs.Nothing.{nothing_comes}
@@ -24,11 +21,8 @@ returns c = record {
     within_threshold combined-starts plan inputs sound fit slots world cut r h,
     counted combined-starts plan inputs sound fit slots world cut r h,
   );
-  values = λ plan inputs slots world sound fit cut r h done d i e.
-      reached_holds combined-starts plan inputs sound fit slots world cut (combined-swaps op_laws) d i
-      (counter_reached combined-starts plan inputs sound fit slots world cut d i
-      (subst (λ q. (cell plan d).needs ≤ reached_count plan (all_seen plan (moves_at plan world) q) q d) (sym e)
-      (reached combined-starts plan inputs sound fit slots world cut r h done d (In-own plan r d i e))));
+  values = λ plan inputs slots world sound fit cut r h done.
+      holds_values combined-starts plan inputs sound fit (combined-swaps op_laws) slots world cut r h done;
   nothing_comes = λ plan inputs slots world sound fit cut r h done later then on s lane k.
       nothing_comes combined-starts plan inputs sound fit slots world cut r h done later then on s lane k;
   left = λ plan inputs slots world sound fit cut r h done. only_sends combined-starts plan inputs sound fit slots world cut r h done;
