@@ -6,7 +6,8 @@ use Rattle.op_laws.proofs.Swaps.{combined-swaps}
 use Rattle.ptl_types.specs.Elements.{part}
 use Rattle.coll_shape.specs.Folding.{at}
 use Rattle.coll_shape.specs.Meaning.{AreInputs, lists_of, meaning_of}
-use Rattle.coll_shape.specs.Outline.{Outline, group_at}
+use Rattle.coll_shape.specs.Outline.{Outline, group_at, step_at}
+use Rattle.coll_shape.specs.declared.types.CollStep.TheVariants.{Barrier}
 use Rattle.coll_shape.specs.WellFormed.{IsWellFormed}
 use Rattle.plan_core.specs.Draw.{held_cell}
 use Rattle.plan_core.proofs.Flat.{within_flat}
@@ -18,20 +19,27 @@ use Rattle.plan_core.specs.Values.{Inputs, initial}
 use Rattle.plan_view.specs.Slots.{Slots}
 use Rattle.plan_cuts.proofs.FromCut.{moves_at, simulation}
 use Rattle.plan_cuts.proofs.Shape.{shape}
+use Rattle.plan_calls.specs.Calls.{cell_start}
+use Rattle.plan_cuts.specs.Barrier.{IsBarrierKept}
 use Rattle.plan_cuts.specs.Cut.{IsAtRest, IsCut}
-use Rattle.plan_cuts.specs.Plans.{IsComplete, system_of}
+use Rattle.plan_cuts.specs.Plans.{CounterReached, IsComplete, system_of}
 use Rattle.plan_cuts.specs.System.{Histories, state_at}
 use Rattle.plan_machine.proofs.Rounds.{entries_lead}
-use Rattle.plan_machine.specs.Machine.{all_seen}
+use Rattle.plan_machine.specs.Machine.{Leads, all_seen}
 use Rattle.plan_machine.specs.Seen.{content}
 use Rattle.plan_rest.proofs.FromRest.{completes}
 use Rattle.plan_rest.proofs.Laws.{ancestor_reached}
 use Rattle.plan_rounds.specs.Rounds.{rounds}
-use Rattle.shape_plans.specs.Drawing.{drawing_of, plan_of}
+use Rattle.shape_plans.specs.Drawing.{drawing_of, drawn_upto, plan_of, site}
+use Rattle.shape_plans.specs.Steps.{end_of}
 use Rattle.shape_plans.specs.Footprint.{refusal}
 use Rattle.shape_laws.proofs.Final.{barrier-cells, barrier-rounds, fine-shape, inputs_fit, result-cell, sound, unheld-empty, value-held}
-use Rattle.job_laws.specs.Barriers.{AreBarriersKept, barrier_cell}
-use Rattle.job_laws.specs.Results.{AreMeant, cell_part}
+use Rattle.step_laws.proofs.Chain.{entry_in, exit_in, leads_first, leads_next, leads_through}
+use Rattle.step_laws.specs.Order.{IsAt, entry_cell, exit_cell}
+use Rattle.done_laws.proofs.Counted.{holds_values}
+use Rattle.done_laws.specs.Done.{HoldsValues, IsDone}
+use Rattle.job_laws.specs.Barriers.{AreBarriersKept, AreStepsInOrder, barrier_cell}
+use Rattle.job_laws.specs.Results.{AreMeant, AreMeantAt, cell_part}
 
 -- the plan is sound for these inputs
 pub sound_for : (o : Outline) (inputs : Inputs) → IsWellFormed o → refusal o ≡ None → AreInputs o inputs
@@ -69,17 +77,81 @@ pub meant_where_complete : (o : Outline) (inputs : Inputs) (slots : ℕ → Slot
 meant_where_complete o inputs slots w formed given done b r hb hr =
     held_part o inputs slots w formed given b r hb hr (done r hr) (held_cell (drawing_of o).held b r) refl
 
+-- where a rank's cells hold their values its part of a cell is the list of the buffer that the cell holds
+value_part : (o : Outline) (inputs : Inputs) (slots : ℕ → Slots) (w : Histories) → IsWellFormed o → AreInputs o inputs
+    → (b r : ℕ) → b < length o.buffers → r < o.ranks → HoldsValues (plan_of o) inputs slots w r
+    → (h : Option ℕ) → held_cell (drawing_of o).held b r ≡ h
+    → cell_part (plan_of o) (state_at (system_of (plan_of o) inputs slots) w r).memory h ≡ at (lists_of (meaning_of o inputs) b) r
+value_part o inputs slots w formed given b r hb hr holds None e = sym (unheld-empty o inputs formed given b r hb hr e)
+value_part o inputs slots w formed given b r hb hr holds (Some c) e =
+    let is = result-cell o formed b r c hb hr e in
+    ap (λ q. part (cell_start (plan_of o) c) (cell (plan_of o) c).length (state_at (system_of (plan_of o) inputs slots) w q).memory)
+    (sym is.rank)
+    ∙ holds c is.in_plan is.rank
+    ∙ value-held o inputs formed given b r c hb hr e
+
+pub meant_where_done : (o : Outline) (inputs : Inputs) (slots : ℕ → Slots) (w : Histories) → IsWellFormed o → refusal o ≡ None
+    → AreInputs o inputs
+    → IsCut (system_of (plan_of o) inputs slots) w → (r : ℕ) → r < o.ranks → IsDone (plan_of o) inputs slots w r
+    → AreMeantAt o inputs r (state_at (system_of (plan_of o) inputs slots) w r).memory
+meant_where_done o inputs slots w formed accepted given cut r hr done b hb =
+    value_part o inputs slots w formed given b r hb hr
+    (holds_values combined-starts (plan_of o) inputs (sound_for o inputs formed accepted given) (inputs_fit o inputs formed given)
+    (combined-swaps op_laws) slots w cut r (rank_of o r formed hr) done)
+    (held_cell (drawing_of o).held b r) refl
+
+-- ---- one step after the other
+pub in_order : (o : Outline) (inputs : Inputs) (slots : ℕ → Slots) (w : Histories) → IsWellFormed o → refusal o ≡ None
+    → AreInputs o inputs
+    → IsCut (system_of (plan_of o) inputs slots) w → AreStepsInOrder o inputs slots w
+in_order o inputs slots w formed accepted given cut = record {
+  begun = λ k i r at reached. back r (entry_cell o k i) (go_in r (rank_at k i r at)) (entry_in o formed k i r at)
+      (leads_first o formed k i r at) reached;
+  through = λ k i r at reached. back (entry_cell o k i) (exit_cell o k i) (entry_in o formed k i r at) (exit_in o formed k i r at)
+      (leads_through o formed k i r at) reached;
+  next = λ j k i m r before from to reached. back (exit_cell o j i) (entry_cell o k m) (exit_in o formed j i r from)
+      (entry_in o formed k m r to) (leads_next o formed j k i m r before from to) reached;
+}
+  where
+    sound' : SoundPlan (plan_of o) (length inputs)
+    sound' = sound_for o inputs formed accepted given
+
+    back : (b c : ℕ) → b < length (plan_of o).cells → c < length (plan_of o).cells → Leads (plan_of o) b c
+        → CounterReached (plan_of o) inputs slots w c → CounterReached (plan_of o) inputs slots w b
+    back b c hb hc path reached =
+        ancestor_reached combined-starts (plan_of o) inputs (sound_for o inputs formed accepted given)
+        (inputs_fit o inputs formed given) slots w cut b c hb hc path reached
+
+    rank_at : (k i r : ℕ) → IsAt o k i r → r < (plan_of o).ranks
+    rank_at k i r at = rank_of o r formed (subst (λ v. v < o.ranks) at.member ((formed.fits k at.step).members.ranks i at.place))
+
+    go_in : (r : ℕ) → r < (plan_of o).ranks → r < length (plan_of o).cells
+    go_in r h = let all = sound'.all_go in omega (arith, h, all)
+
+-- the exit of a barrier is the cell of its last round
+barrier_exit : (o : Outline) (j m : ℕ) → step_at o j ≡ Barrier
+    → exit_cell o j m ≡ barrier_cell o j (rounds (length (group_at o j))) m
+barrier_exit o j m is = ap (λ t. (end_of (site o (drawn_upto o j) t (group_at o j)) t m).exit) is
+
 pub kept_in_cut : (o : Outline) (inputs : Inputs) (slots : ℕ → Slots) (w : Histories) → IsWellFormed o → refusal o ≡ None
     → AreInputs o inputs
     → IsCut (system_of (plan_of o) inputs slots) w → AreBarriersKept o inputs slots w
-kept_in_cut o inputs slots w formed accepted given cut j hj is a m ha hm passed =
-    let n = length (group_at o j) in
-    let rows = barrier-rounds o formed j hj is in
-    ancestor_reached combined-starts (plan_of o) inputs (sound_for o inputs formed accepted given) (inputs_fit o inputs formed given)
-    slots w cut (barrier_cell o j 0 a) (barrier_cell o j (rounds n) m)
-    (barrier-cells o formed j hj is 0 a (omega arith) ha)
-    (barrier-cells o formed j hj is (rounds n) m (omega arith) hm)
-    (entries_lead (plan_of o) n (rounds n) (barrier_cell o j) rows a m ha hm) passed
+kept_in_cut o inputs slots w formed accepted given cut j hj is = (
+  kept,
+  (λ k i m r a before from to ha reached. kept a m ha from.place
+      (subst (CounterReached (plan_of o) inputs slots w) (barrier_exit o j m is)
+      ((in_order o inputs slots w formed accepted given cut).next j k m i r before from to reached))),
+)
+  where
+    kept : IsBarrierKept (plan_of o) inputs slots w (length (group_at o j)) (barrier_cell o j) (rounds (length (group_at o j)))
+    kept a m ha hm passed =
+        let n = length (group_at o j) in
+        let rows = barrier-rounds o formed j hj is in
+        ancestor_reached combined-starts (plan_of o) inputs (sound_for o inputs formed accepted given) (inputs_fit o inputs formed given)
+        slots w cut (barrier_cell o j 0 a) (barrier_cell o j (rounds n) m)
+        (barrier-cells o formed j hj is 0 a (omega arith) ha)
+        (barrier-cells o formed j hj is (rounds n) m (omega arith) hm)
+        (entries_lead (plan_of o) n (rounds n) (barrier_cell o j) rows a m ha hm) passed
 
 -- a cell lies in its rank's memory
 pub cell_lies : (o : Outline) (inputs : Inputs) (slots : ℕ → Slots) (w : Histories) → IsWellFormed o → refusal o ≡ None → AreInputs o inputs

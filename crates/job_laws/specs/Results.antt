@@ -23,3 +23,8 @@ result_in o b r memory = cell_part (plan_of o) memory (held_cell (drawing_of o).
 abbrev pub AreMeant : Outline → Inputs → (ℕ → List ℕ) → Type 0
 AreMeant o inputs memory =
     (b r : ℕ) → b < length o.buffers → r < o.ranks → result_in o b r (memory r) ≡ at (lists_of (meaning_of o inputs) b) r
+
+-- in this memory of rank r each buffer is what the shape means of the inputs
+abbrev pub AreMeantAt : Outline → Inputs → ℕ → List ℕ → Type 0
+AreMeantAt o inputs r memory =
+    (b : ℕ) → b < length o.buffers → result_in o b r memory ≡ at (lists_of (meaning_of o inputs) b) r

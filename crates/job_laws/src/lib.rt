@@ -1,4 +1,5 @@
-//! Laws of the cuts of compiled shapes: at rest each buffer at each rank is what the description means, and barriers are kept.
+//! Laws of the cuts of compiled shapes: at rest each buffer at each rank is what the description means, and so it is at a rank that is
+//! done; the steps of a rank follow each other, and barriers are kept.
 #![tactic(auto)]
 
 ghost use Rattle.std.specs.Prelude.{ℕ, None, ◌<◌, ◌≡◌};
@@ -12,8 +13,9 @@ ghost use Rattle.coll_shape.specs.Outline.{Outline};
 ghost use Rattle.coll_shape.specs.WellFormed.{IsWellFormed};
 ghost use Rattle.shape_plans.specs.Drawing.{plan_of};
 ghost use Rattle.shape_plans.specs.Footprint.{refusal};
-ghost use Rattle.job_laws.specs.Barriers.{AreBarriersKept};
-ghost use Rattle.job_laws.specs.Results.{AreMeant};
+ghost use Rattle.done_laws.specs.Done.{IsDone};
+ghost use Rattle.job_laws.specs.Barriers.{AreBarriersKept, AreStepsInOrder};
+ghost use Rattle.job_laws.specs.Results.{AreMeant, AreMeantAt};
 
 /// For every shape that isn't refused, whatever its inputs and whatever the order of steps: at rest each rank is complete, and in the
 /// ranks' memories each buffer is what the shape means of the inputs.
@@ -28,7 +30,23 @@ pub fn rest_is_meant()
         AreMeant o inputs (λ r. (state_at (system_of (plan_of o) inputs slots) world r).memory) }
 {}
 
-/// In every cut of the ranks of a shape that isn't refused each barrier is kept.
+/// In every cut of the ranks of a shape that isn't refused, where a rank's done counter has reached its threshold each buffer at that
+/// rank is what the shape means of the inputs, in the rank's memory, whatever the other ranks have still to do.
+pub fn done_is_meant()
+    ensures { (o : Outline) (inputs : Inputs) (slots : ℕ → Slots) (world : Histories) →
+        IsWellFormed o → refusal o ≡ None → AreInputs o inputs →
+        IsCut (system_of (plan_of o) inputs slots) world → (r : ℕ) → r < o.ranks → IsDone (plan_of o) inputs slots world r →
+        AreMeantAt o inputs r (state_at (system_of (plan_of o) inputs slots) world r).memory }
+{}
+
+/// In every cut of the ranks of a shape that isn't refused the steps of each rank follow each other.
+pub fn steps_are_in_order()
+    ensures { (o : Outline) (inputs : Inputs) (slots : ℕ → Slots) (world : Histories) →
+        IsWellFormed o → refusal o ≡ None → AreInputs o inputs →
+        IsCut (system_of (plan_of o) inputs slots) world → AreStepsInOrder o inputs slots world }
+{}
+
+/// In every cut of the ranks of a shape that isn't refused each barrier is kept, and what comes after it comes after it.
 pub fn barriers_are_kept()
     ensures { (o : Outline) (inputs : Inputs) (slots : ℕ → Slots) (world : Histories) →
         IsWellFormed o → refusal o ≡ None → AreInputs o inputs →

@@ -11,3 +11,4 @@ pub mod Opened
 pub mod Plans
 pub mod Sending
 pub mod Sent
+pub mod Done

@@ -5,3 +5,4 @@ pub mod Copies
 pub mod Gates
 pub mod Node
 pub mod Plans
+pub mod Done

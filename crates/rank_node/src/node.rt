@@ -1,13 +1,19 @@
 //! One rank.
 
-ghost use Rattle.std.specs.Prelude.{◌≡◌, ◌↔◌, ◌<◌, ◌≤◌, ◌+◌, ◌*◌, ◌^◌, [], false, Some, IsTrue, IfOk, length, map, count_by, nat_lt, replicate, slice_get};
+ghost use Rattle.std.specs.Prelude.{ℕ, ◌≡◌, ◌↔◌, ◌<◌, ◌≤◌, ◌+◌, ◌*◌, ◌^◌, [], false, Some, IsTrue, IfOk, length, map, count_by, nat_lt, replicate, slice_get};
 ghost use Rattle.ni_model.specs.Answers.{is_awaited};
 ghost use Rattle.ni_model.specs.Ready.{is_ready, target_at};
 ghost use Rattle.ni_model.specs.Tables.{lookup};
+ghost use Rattle.plan_core.specs.Plan.{Plan};
+ghost use Rattle.plan_core.specs.Values.{Inputs};
+ghost use Rattle.plan_calls.specs.Works.{done_threshold};
 ghost use Rattle.plan_view.specs.Slots.{Slots, done_ct};
 ghost use Rattle.plan_cuts.specs.History.{IsDue, is_lane, is_start, made_by};
 ghost use Rattle.plan_cuts.specs.History.Local.{Receive as Received, Fire as Fired};
+ghost use Rattle.plan_cuts.specs.System.{Histories};
+ghost use Rattle.done_laws.specs.Done.{HasCounted};
 ghost use Rattle.rank_node.specs.Copies.{listed};
+ghost use Rattle.rank_node.specs.Done.{HasFinished, StandsAs};
 ghost use Rattle.rank_node.specs.Gates.{may_go, open_numbers};
 ghost use Rattle.rank_node.specs.Handles.{Agrees};
 ghost use Rattle.rank_node.specs.Node.{IsCompiled, IsPrepared, IsNode, IsStarted, fired_node, gated_node, received_node, task_from, task_of};
@@ -164,9 +170,21 @@ impl Node {
         &self.nic
     }
 
-    /// The counting event of what is done.
+    /// The counting event of what is done. Where it has counted as much as the plan says for this rank, the cells hold their final
+    /// bytes, whatever the other ranks have still to do; the operations that are left are sends, and none where completion is remote.
     pub fn done(&self) -> Count
-        ensures { (k : Slots) → Agrees k self.now.kept → lookup (done_ct k) self.now.nic.cts.live ≡ Some result }
+        ensures counter { (k : Slots) → Agrees k self.now.kept → lookup (done_ct k) self.now.nic.cts.live ≡ Some result }
+        ensures finished { (plan : Plan) (inputs : Inputs) (slots : ℕ → Slots) (world : Histories) (r : ℕ) →
+            StandsAs plan inputs slots world r self.now → HasCounted result (done_threshold plan r) →
+            HasFinished plan inputs slots world r self.now }
+    {
+        self.counted()
+    }
+
+    /// What the done counter has counted.
+    fn counted(&self) -> Count
+        ensures value { (k : Slots) → Agrees k self.now.kept → lookup (done_ct k) self.now.nic.cts.live ≡ Some result }
+        ensures kept { IsNode self.now }
     {
         match self.nic.ct_get(self.kept.counter(0)) {
             Ok(count) => count,

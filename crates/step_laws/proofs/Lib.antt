@@ -1,0 +1,3 @@
+mod Through
+pub mod Chain
+pub mod Remote
