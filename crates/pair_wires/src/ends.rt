@@ -10,8 +10,9 @@ use std::marker::Model;
 /// The end at which messages go in.
 ///
 /// One message may wait here for room in the wire's queue. The end stands for its wire with the wire's bounds; for the list of
-/// the messages that it sent, oldest first, the one that waits among them; for whether one waits; and for a count of the
-/// pushes that found the queue full, which stays at 2^64 - 1 once it is there. Of the list only what waits is more than a type.
+/// the messages that it sent, oldest first, the one that waits among them; for whether one waits; for a count of the pushes that were
+/// refused, which stays at 2^64 - 1 once it is there; and for how many of the messages it heard were received (`Wire::hear`). Of the list
+/// only what waits is more than a type, and what was heard is in the type alone.
 #[derive(Drop)]
 pub struct OutEnd {
     pub(crate) pass: Pass<Message, EndView>,
@@ -27,7 +28,7 @@ impl Model for OutEnd {
 
     ghost Value = { Outgoing };
 
-    ghost view = { λ e. record { wire = e.pass.table_id; bounds = e.pass.me.0.client.bounds; sent = followed_by e.pass.me.0.client.sent e.waiting; waits = is_there e.waiting; refused = e.refused } };
+    ghost view = { λ e. record { wire = e.pass.table_id; bounds = e.pass.me.0.client.bounds; sent = followed_by e.pass.me.0.client.sent e.waiting; waits = is_there e.waiting; refused = e.refused; heard = e.pass.me.0.client.heard } };
 
     ghost invariant = { λ e. OutKeeps e.pass.me.0.client e.pass.me.1 e.waiting e.pushed };
 }
@@ -78,4 +79,22 @@ impl InEnd {
     {
         self.popped as u64
     }
+}
+
+/// Word from an in end of how many messages were received there (`Wire::tell`). It has no bytes, stands for its wire and the number, and
+/// goes to the out end, in whatever thread that is.
+#[derive(Drop)]
+pub struct Receipts {
+    pub(crate) pass: Pass<Message, EndView>,
+}
+
+impl Model for Receipts {
+    ghost use Rattle.std.specs.Prelude.{◌≡◌, []};
+    ghost use Rattle.pair_wires.specs.Ends.{Word};
+
+    ghost Value = { Word };
+
+    ghost view = { λ r. record { wire = r.pass.table_id; count = r.pass.me.0.client.heard } };
+
+    ghost invariant = { λ r. r.pass.me.1 ≡ [] };
 }

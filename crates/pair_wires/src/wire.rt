@@ -4,15 +4,17 @@ ghost use Rattle.std.specs.Prelude.{◌≡◌, true, ◌+◌, ◌≤◌, ◌<◌
 ghost use Rattle.ptl_types.specs.Messages.{Sent};
 ghost use Rattle.crossbeam_queue.specs.Passes.{view, IsPassOf};
 ghost use Rattle.ptl_types.specs.Handles.{one_more};
-ghost use Rattle.pair_wires.specs.Wires.{IsOutOf, IsInOf, Opens, most_left};
+ghost use Rattle.pair_wires.specs.Wires.{IsOutOf, IsInOf, Opens, OnlyHears, most_left};
 ghost use Rattle.pair_wires.specs.Bounds.{KeepsBounds};
 ghost use Rattle.pair_wires.specs.Rules.{Drains};
 ghost use Rattle.pair_wires.specs.Lanes.{plain};
 
 use crate::bounds::Bounds;
-use crate::ends::{InEnd, OutEnd};
+use crate::ends::{InEnd, OutEnd, Receipts};
 use crate::lane::PlainLane;
-use crate::rule::{DrainStep, EndView, FromEnds, IntoEnds, PopStep, PushStep, WireRule, Within};
+use crate::rule::{
+    DrainStep, EndView, FromEnds, HearStep, IntoEnds, PopStep, PushStep, TellStep, WireRule, Within,
+};
 use crossbeam_queue::{Pass, RuledArrayQueue};
 use ptl_types::{Message, NoMemory};
 use std::alloc::Global;
@@ -112,8 +114,9 @@ impl Wire {
 
     /// Sends a message after all that was sent. It may wait inside the queue, and never for room.
     ///
-    /// `Err` gives the message back, only where the wire was full at this call's own step: so never before as many were sent
-    /// as the wire holds. Then nothing was sent, and the count of refused pushes rose.
+    /// `Err` gives the message back, only where the wire was full at this call's own step: so never before as many were sent as the wire
+    /// holds, those not counted of which this end heard that they were received. Then nothing was sent, and the count of refused pushes
+    /// rose. Of messages that were received and that nobody told of (`tell`) no contract says that they made room.
     pub fn push<R: Wait>(&self, rt: &R, end: &mut OutEnd, message: Message) -> Result<(), Message>
         requires wire { IsOutOf self.now end.old }
         requires free { end.old.waits ≡ false }
@@ -122,7 +125,8 @@ impl Wire {
         ensures free { end.new.waits ≡ false }
         ensures pushed { OnOk result ((end.new.sent ≡ end.old.sent ++ message ∷ []) × (end.new.refused ≡ end.old.refused)) }
         ensures full { IfErr result (λ m. (m ≡ message) × (end.new.sent ≡ end.old.sent) × (end.new.refused ≡ one_more end.old.refused)) }
-        ensures only_when_full { IfErr result (λ _. self.now.capacity ≤ length end.old.sent) }
+        ensures only_when_full { IfErr result (λ _. self.now.capacity + end.old.heard ≤ length end.old.sent) }
+        ensures heard { end.new.heard ≡ end.old.heard }
     {
         match self.line.push_as::<PushStep, R>(rt, &mut end.pass, message) {
             Ok(()) => {
@@ -139,8 +143,7 @@ impl Wire {
     /// Sends a message after all that was sent: it goes into the queue, or waits at the end. The call may wait inside the
     /// queue, and never for room.
     ///
-    /// The message waits only where the queue was full at this call's own step: so never before as many went into the queue as
-    /// it holds. Then the count of refused pushes rose.
+    /// The message waits only where the push was refused, as `push` says. Then the count of refused pushes rose.
     pub fn send<R: Wait>(&self, rt: &R, end: &mut OutEnd, message: Message)
         requires wire { IsOutOf self.now end.old }
         requires free { end.old.waits ≡ false }
@@ -148,7 +151,8 @@ impl Wire {
         ensures wire { IsOutOf self.now end.new }
         ensures sent { end.new.sent ≡ end.old.sent ++ message ∷ [] }
         ensures pushed { end.new.waits ≡ false → end.new.refused ≡ end.old.refused }
-        ensures full { end.new.waits ≡ true → (end.new.refused ≡ one_more end.old.refused) × (self.now.capacity ≤ length end.old.sent) }
+        ensures full { end.new.waits ≡ true → (end.new.refused ≡ one_more end.old.refused) × (self.now.capacity + end.old.heard ≤ length end.old.sent) }
+        ensures heard { end.new.heard ≡ end.old.heard }
     {
         if let Err(back) = self.push(rt, end, message) {
             end.waiting = Some(back);
@@ -157,15 +161,16 @@ impl Wire {
 
     /// Pushes the message that waits, if one does. It may wait inside the queue, and never for room.
     ///
-    /// `false` only where a message waits and the queue was full at this call's own step: so never before as many went into
-    /// the queue as it holds. Then the message still waits, and the count of refused pushes rose.
+    /// `false` only where a message waits and the push was refused, as `push` says. Then the message still waits, and the count of refused
+    /// pushes rose.
     pub fn flush<R: Wait>(&self, rt: &R, end: &mut OutEnd) -> bool
         requires wire { IsOutOf self.now end.old }
         ensures wire { IsOutOf self.now end.new }
         ensures sent { end.new.sent ≡ end.old.sent }
         ensures flushed { IsTrue result → (end.new.waits ≡ false) × (end.new.refused ≡ end.old.refused) }
         ensures waits { IsFalse result → (end.old.waits ≡ true) × (end.new.waits ≡ true) }
-        ensures full { IsFalse result → (end.new.refused ≡ one_more end.old.refused) × (self.now.capacity < length end.old.sent) }
+        ensures full { IsFalse result → (end.new.refused ≡ one_more end.old.refused) × (self.now.capacity + end.old.heard < length end.old.sent) }
+        ensures heard { end.new.heard ≡ end.old.heard }
     {
         let Some(message) = end.waiting.take() else {
             return true;
@@ -206,6 +211,25 @@ impl Wire {
                 None
             }
         }
+    }
+
+    /// Word for the out end of how many messages were received so far. It is a matter of proofs alone, and does nothing at run time.
+    pub fn tell(&self, end: &mut InEnd) -> Receipts
+        requires { IsInOf self.now end.old }
+        ensures same { end.new ≡ end.old }
+        ensures told { (result.wire ≡ self.now.id) × (result.count ≡ length end.old.received) }
+    {
+        Receipts {
+            pass: self.line.another::<TellStep>(&mut end.pass),
+        }
+    }
+
+    /// Takes such word in: what was received makes room, so pushes are refused later from now on. It does nothing at run time.
+    pub fn hear(&self, end: &mut OutEnd, word: Receipts)
+        requires wire { IsOutOf self.now end.old × (word.wire ≡ self.now.id) }
+        ensures { OnlyHears end.old end.new word.count }
+    {
+        self.line.absorb::<HearStep>(&mut end.pass, word.pass);
     }
 
     /// Takes the wire's ends for good. What its queue holds and then the message that waits go, oldest first, to the end of the lane; of
