@@ -1,5 +1,6 @@
 -- A barrier of two ranks. Rank 0 has got rank 1's message and told all its cells, and its own message has still to go.
-use Rattle.std.proofs.Common.{ℕ, Bool, true, false, ◌+◌, ◌≡◌, ◌≤◌, ◌==◌, Some, None, [], ◌∷◌, refl, ap, length, arith, lit≤, if◌then◌else◌, Option}
+use Rattle.std.proofs.Common.{ℕ, Bool, true, false, ◌+◌, ◌≡◌, ◌≤◌, ◌==◌, Some, None, [], ◌∷◌, refl, ap, length, arith, lit≤}
+use Rattle.std.proofs.Common.{if◌then◌else◌, Option}
 use Rattle.ptl_types.specs.declared.elements.ElemType.TheVariants.{U8}
 use Rattle.ptl_types.specs.declared.handles.Count.{Count}
 use Rattle.ptl_types.specs.declared.headers.Lane.TheVariants.{Request}
