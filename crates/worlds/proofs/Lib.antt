@@ -11,3 +11,4 @@ pub mod Joined
 pub mod Framed
 pub mod Sent
 pub mod Opened
+pub mod Done

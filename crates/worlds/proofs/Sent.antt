@@ -1,5 +1,5 @@
 -- Threads may share a world, as each of its fields.
-use denote.Param.Send.{IsSync, sendable, recorded_sync, struct_sync, view_sync}
+use denote.Param.Send.{IsSync, recorded_sync, struct_sync, view_sync}
 use denote.Struct.Declared.{shape}
 use Rattle.std.proofs.Crossing.{crosses}
 use Rattle.count_tree.proofs.CountTree.TheSendSync as tree

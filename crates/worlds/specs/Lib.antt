@@ -3,6 +3,7 @@ pub mod FrameLends
 pub mod World
 pub mod Standing
 pub mod Later
+pub mod Done
 pub mod Frames
 pub mod Runs
 pub mod Allowed

@@ -10,7 +10,7 @@ ghost use Rattle.plan_orders.specs.Chosen.{IsChosen, Scene, enabled_steps, first
 ghost use Rattle.plan_orders.specs.declared.Step.{Step};
 ghost use Rattle.plan_worlds.specs.Named.{named};
 ghost use Rattle.plan_worlds.specs.Possible.{possible_steps};
-ghost use Rattle.job_laws.specs.Barriers.{AreBarriersKept};
+ghost use Rattle.job_laws.specs.Barriers.{AreBarriersKept, AreStepsInOrder};
 ghost use Rattle.worlds.specs.Runs.{chosen_run};
 ghost use Rattle.worlds.specs.Standing.{IsStanding};
 ghost use Rattle.worlds.specs.World.{AreSlots, WorldState, histories_in, ranks_in, scene_in, steps_in};
@@ -21,9 +21,11 @@ pub fn slots_agree()
     ensures { (w : WorldState) → IsStanding w → ((slots : ℕ → Slots) × AreSlots w slots) }
 {}
 
-/// The histories of a world are a cut, and every barrier is kept.
+/// The histories of a world are a cut, the steps of each rank follow each other, and every barrier is kept.
 pub fn worlds_stand()
     ensures cut { (w : WorldState) (slots : ℕ → Slots) → IsStanding w → AreSlots w slots → IsCut (ranks_in w slots) (histories_in w) }
+    ensures steps { (w : WorldState) (slots : ℕ → Slots) → IsStanding w → AreSlots w slots →
+        AreStepsInOrder w.shape w.inputs slots (histories_in w) }
     ensures barriers { (w : WorldState) (slots : ℕ → Slots) → IsStanding w → AreSlots w slots →
         AreBarriersKept w.shape w.inputs slots (histories_in w) }
 {}

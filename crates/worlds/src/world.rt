@@ -5,6 +5,7 @@ ghost use Rattle.ptl_types.specs.declared.headers.Lane.TheVariants.{Request};
 ghost use Rattle.ni_model.specs.Tables.{lookup};
 ghost use Rattle.plan_core.specs.Members.{In};
 ghost use Rattle.plan_calls.specs.Lanes.{is_used_lane};
+ghost use Rattle.plan_calls.specs.Works.{done_threshold};
 ghost use Rattle.plan_view.specs.Slots.{Slots, done_ct};
 ghost use Rattle.plan_cuts.specs.Cut.{IsAtRest, is_stray};
 ghost use Rattle.plan_cuts.specs.Plans.{IsComplete};
@@ -13,9 +14,11 @@ ghost use Rattle.plan_orders.specs.Chosen.{step_made};
 ghost use Rattle.plan_orders.specs.Taking.{listed};
 ghost use Rattle.shape_plans.specs.Drawing.{plan_of};
 ghost use Rattle.rank_node.specs.Node.{stray_bytes};
+ghost use Rattle.done_laws.specs.Done.{HasCounted};
 ghost use Rattle.job_laws.specs.Barriers.{AreBarriersKept};
-ghost use Rattle.job_laws.specs.Results.{AreMeant, result_in};
+ghost use Rattle.job_laws.specs.Results.{AreMeant, AreMeantAt, result_in};
 ghost use Rattle.world_parts.specs.Steps.{injected};
+ghost use Rattle.worlds.specs.Done.{StaysAlone, StaysMeant};
 ghost use Rattle.worlds.specs.Standing.{AreFields, IsStanding};
 ghost use Rattle.worlds.specs.Later.{IsLater, IsOpened};
 ghost use Rattle.worlds.specs.Runs.{IsRun, chosen_run};
@@ -362,11 +365,30 @@ impl World {
         self.nodes[r as usize].nic()
     }
 
-    /// The counting event of what is done at a rank.
+    /// The counting event of what is done at a rank. Where it has counted as much as `Schedule::done` says, each buffer at the rank is
+    /// what the description means, and stays so, whatever the other ranks have still to do. Under `complete remote` nothing of the
+    /// job is left there then, and otherwise once no operation of the rank is pending: strays alone come to it.
     pub fn done(&self, r: Rank) -> Count
         requires { r < self.now.shape.ranks }
-        ensures { (slots : ℕ → Slots) → AreSlots self.now slots →
+        ensures counter { (slots : ℕ → Slots) → AreSlots self.now slots →
             lookup (done_ct (slots r)) (nic_in self.now r).cts.live ≡ Some result }
+        ensures meant { HasCounted result (done_threshold (plan_of self.now.shape) r) →
+            AreMeantAt self.now.shape self.now.inputs r (memory_in self.now r) }
+        ensures stays { HasCounted result (done_threshold (plan_of self.now.shape) r) → StaysMeant self.now r }
+        ensures none_left { HasCounted result (done_threshold (plan_of self.now.shape) r) → self.now.shape.remote ≡ true →
+            (nic_in self.now r).pending.waiting ≡ [] }
+        ensures left_alone { HasCounted result (done_threshold (plan_of self.now.shape) r) →
+            (nic_in self.now r).pending.waiting ≡ [] → StaysAlone self.now r }
+    {
+        self.counted(r)
+    }
+
+    /// What the done counter of a rank has counted.
+    fn counted(&self, r: Rank) -> Count
+        requires { r < self.now.shape.ranks }
+        ensures value { (slots : ℕ → Slots) → AreSlots self.now slots →
+            lookup (done_ct (slots r)) (nic_in self.now r).cts.live ≡ Some result }
+        ensures kept { IsStanding self.now }
     {
         self.nodes[r as usize].done()
     }
