@@ -1,3 +1,4 @@
 mod Descriptions
 mod Groups
 mod Edges
+pub mod Holders
