@@ -52,7 +52,7 @@ below2 P a b zero h = a
 below2 P a b (suc zero) h = b
 below2 P a b (suc (suc m)) h = absurd (omega arith)
 
-abbrev job : Outline
+abbrev pub job : Outline
 job = record {
   version = Two;
   ranks = 3;
