@@ -39,8 +39,9 @@ held_by_none = refl
 abbrev two_of_them : Buffer
 two_of_them = at_ranks (1 ∷ 2 ∷ 3 ∷ [])
 
-places_of_holders : holding_places group (1 ∷ 2 ∷ 3 ∷ []) ≡ 1 ∷ 2 ∷ []
-places_of_holders = refl
+-- of the ranks 0 and 1 the group has rank 0, at place 0
+places_of_holders : (holding_places group (1 ∷ 2 ∷ 3 ∷ []) ≡ 1 ∷ 2 ∷ []) × (holding_places group (0 ∷ 1 ∷ []) ≡ 0 ∷ [])
+places_of_holders = (refl, refl)
 
 a_list_of_each_holder : made_length group (Gatherv 0 0 1) two_of_them ≡ 12
 a_list_of_each_holder = refl

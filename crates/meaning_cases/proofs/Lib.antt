@@ -2,3 +2,4 @@ mod Descriptions
 mod Groups
 mod Edges
 pub mod Holders
+pub mod Formed
