@@ -1,3 +1,5 @@
 mod Descriptions
 mod Groups
 mod Edges
+pub mod Holders
+pub mod Formed

@@ -8,3 +8,6 @@ pub mod Three
 pub mod Unsound
 pub mod Starting
 pub mod Classes
+pub mod Acknowledged
+pub mod Completed
+pub mod Straying

@@ -100,7 +100,7 @@ unfolding target request answered started fired call_made append cell_started br
 behind_the_message = refl
 
 -- ---- one rank: the go cell and the entry
-abbrev one : Plan
+abbrev pub one : Plan
 one = record { ranks = 1; remote = false; cells = on 0 1 ∷ on 0 1 ∷ []; links = bump_link 0 1 ∷ [] }
 
 abbrev begin1 : State

@@ -85,7 +85,7 @@ world r = if r == 0 then order0 else (if r == 1 then order1 else order2)
 abbrev system : System
 system = system_of plan inputs (λ r. slots)
 
-below3 : (P : ℕ → Type 0) → P 0 → P 1 → P 2 → (r : ℕ) → r < 3 → P r
+pub below3 : (P : ℕ → Type 0) → P 0 → P 1 → P 2 → (r : ℕ) → r < 3 → P r
 below3 P a b c zero h = a
 below3 P a b c (suc zero) h = b
 below3 P a b c (suc (suc zero)) h = c

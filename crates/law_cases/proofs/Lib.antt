@@ -1,0 +1,4 @@
+pub mod Job
+pub mod Windows
+pub mod Sizes
+pub mod Stepped

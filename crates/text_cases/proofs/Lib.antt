@@ -1,0 +1,4 @@
+pub mod Orders
+pub mod Written
+pub mod Json
+pub mod Sunk
