@@ -1,7 +1,10 @@
 pub mod Answering
+pub mod Beginning
 pub mod Fronts
 pub mod Interleavings
 pub mod Judging
+pub mod OneText
+pub mod Reaching
 pub mod Rests
 pub mod Spellings
 pub mod StepNames

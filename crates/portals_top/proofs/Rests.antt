@@ -48,6 +48,12 @@ same-mode mode sink sink' r o p inputs given ran shape same ends =
     subst (λ (i : Lists). EndsWith sink sink' (mode_text mode p i ran) r) same
     (subst (λ (x : Outline). EndsWith sink sink' (mode_text mode x inputs ran) r) shape ends)
 
+-- the ranks of a world are what they were
+pub same-ranks : (w v : WorldState) (slots : ℕ → Slots) → IsLater w v → ranks_in v slots ≡ ranks_in w slots
+same-ranks w v slots later =
+    ap (λ (o : Outline). system_of (plan_of o) v.inputs slots) later.shape
+    ∙ ap (λ (i : Lists). system_of (plan_of w.shape) i slots) later.inputs
+
 -- so many steps from a scene on
 after : System → ℕ → ℕ → Scene → Lcg → Running Lcg
 after k window n scene g = chosen_run k window chosen_number words_left n (record { scene = scene; chooser = g })

@@ -1,27 +1,16 @@
 -- The run of the generated description.
-use Rattle.std.proofs.Common.{◌≡◌, ℕ, List, None, Some, Result, Err, ◌∙◌, ap, refl, subst}
+use Rattle.std.proofs.Common.{◌≡◌, ℕ, None, Some, Result, Err, ◌∙◌, ap, refl, subst}
 use Rattle.coll_lang.specs.Generated.{generated, generated_shape}
 use Rattle.coll_lang.specs.Program.{Program}
 use Rattle.coll_shape.specs.Outline.{Outline}
 use Rattle.coll_shape.specs.WellFormed.{IsWellFormed}
 use Rattle.plan_rounds.specs.Rounds.{rounds}
-use Rattle.port_io.specs.Ends.{Inflow, Outflow}
 use Rattle.schedule_compiler.specs.Answers.{Compiles}
 use Rattle.shape_plans.specs.declared.faults.CompileFault.{CompileFault}
 use Rattle.shape_plans.specs.declared.faults.CompileFault.TheVariants.{TooMany, TooLarge, NoMemory}
 use Rattle.shape_plans.specs.Footprint.{refusal}
 use Rattle.shape_plans.specs.Footprint.Excess.{Links, Bytes}
 use Rattle.shape_plans.proofs.Sizes.{are-steps, refusal-found}
-use Rattle.portals_top.specs.declared.ran.Ran.{Ran}
-use Rattle.portals_top.specs.declared.status.Status.{Status}
-use Rattle.portals_top.specs.declared.status.Status.TheVariants.{Done}
-use Rattle.portals_top.specs.declared.words.Command.TheVariants.{Execute}
-use Rattle.portals_top.specs.declared.words.Mode.TheVariants.{Run}
-use Rattle.portals_top.specs.Answered.{HandsBack, IsTold, LeavesWorld, Stands}
-use Rattle.portals_top.specs.Due.{done}
-use Rattle.portals_top.specs.Large.{Summed, summary_text}
-use Rattle.portals_top.specs.Written.{Written}
-use Rattle.portals_top.proofs.Told.{told-any}
 
 -- its plan is within the limits
 pub fits : IsWellFormed generated_shape → refusal generated_shape ≡ None
@@ -40,19 +29,3 @@ no-excess o r (TooMany k) none compiles is =
 no-excess o r (TooLarge k) none compiles is =
     let over : refusal o ≡ Some (record { step = k; name = Bytes }) = subst (λ x. Compiles o x) is compiles in absurd (cc)
 no-excess o r NoMemory none compiles is = refl
-
-pub summed : (number workers : ℕ) (source : Inflow) (sink sink' : Outflow) (ran : Ran) (status : Status)
-    → Written (done (summary_text number)) sink sink' status
-    → HandsBack status Done (LeavesWorld (Execute (Run workers)) (generated number).shape (generated number).inputs) ran
-    → (bytes : List ℕ) × IsTold source.left bytes × Summed number workers source source sink sink' ran status
-summed number workers source sink sink' ran status written handed =
-    let any = told-any source.left in (
-      any.0,
-      any.1,
-      record {
-        written = written;
-        write_fault = λ is. (subst (λ s. Stands s sink sink' (summary_text number)) is written.text).rose;
-        untouched = refl;
-        world = handed;
-      },
-    )

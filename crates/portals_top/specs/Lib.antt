@@ -1,4 +1,5 @@
 pub mod Answered
+pub mod Begun
 pub mod Checked
 pub mod Choosing
 pub mod Left
@@ -6,6 +7,7 @@ pub mod Due
 pub mod Formats
 pub mod Headline
 pub mod Large
+pub mod OneText
 pub mod ReadText
 pub mod Runs
 pub mod Words

@@ -9,10 +9,11 @@ use Rattle.plan_view.specs.Slots.{Slots}
 use Rattle.plan_cuts.specs.Cut.{IsAtRest}
 use Rattle.plan_cuts.specs.Plans.{IsComplete}
 use Rattle.plan_orders.specs.Chosen.{IsChosen}
+use Rattle.plan_orders.specs.Reached.{IsReached}
 use Rattle.shape_plans.specs.Drawing.{plan_of}
 use Rattle.job_laws.specs.Results.{AreMeant}
 use Rattle.worlds.specs.Standing.{IsStanding}
-use Rattle.worlds.specs.World.{AreSlots, WorldState, histories_in, memory_in, ranks_in, steps_in}
+use Rattle.worlds.specs.World.{AreSlots, WorldState, histories_in, memory_in, ranks_in, scene_in, steps_in}
 
 -- A world of this shape and these inputs, at rest: whatever slots agree with what its ranks' tables gave, no step is left and every rank
 -- is complete; and each buffer at each rank is what the description means.
@@ -28,6 +29,10 @@ pub record IsRun (o : Outline) (given : Lists) (w : WorldState) : Type 0 where
   pub complete : (slots : ℕ → Slots) → AreSlots w slots → (r : ℕ) → r < w.shape.ranks →
       IsComplete (plan_of w.shape) w.inputs slots (histories_in w) r
   pub meant : AreMeant w.shape w.inputs (memory_in w)
+
+-- Its histories and lanes are those of a moment to which local steps of its ranks led, one after the other, from the beginning on.
+abbrev pub IsReachedWorld : WorldState → Type 0
+IsReachedWorld w = (slots : ℕ → Slots) → AreSlots w slots → IsReached (ranks_in w slots) (histories_in w) (scene_in w).held
 
 -- the generator that a number seeds: PCG XSH RR 64/32, as its crate seeds it
 abbrev pub generator : ℕ → Lcg

@@ -24,7 +24,7 @@ use std::sync::Wait;
 use std::thread::Threads;
 
 /// The job of the description that a number chooses.
-fn generated_job(alloc: Global, number: u32) -> Result<Job, NoMemory>
+pub(crate) fn generated_job(alloc: Global, number: u32) -> Result<Job, NoMemory>
     requires { number < 65536 }
     ensures shape { IfOk result (λ job. job.shape ≡ (generated number).shape) }
     ensures inputs { IfOk result (λ job. job.inputs ≡ (generated number).inputs) }
@@ -39,17 +39,19 @@ fn generated_job(alloc: Global, number: u32) -> Result<Job, NoMemory>
     }
 }
 
-/// Runs the description that a number chooses by workers on threads, writes its summary, and hands back the world.
+/// Runs the job of the description that a number chooses by workers on threads, writes its summary, and hands back the world.
 pub(crate) fn large<R: Threads + Wait + Sync, G: Gate, K: Sink>(
     rt: &R,
     alloc: Global,
     gate: &G,
     number: u32,
     workers: u32,
+    job: &Job,
     sink: &mut K,
     ran: &mut Ran,
 ) -> Status
-    requires number { number < 65536 }
+    requires shape { job.now.shape ≡ (generated number).shape }
+    requires inputs { job.now.inputs ≡ (generated number).inputs }
     requires workers { 0 < workers }
     requires none { ran.old ≡ nothing_ran }
     ensures written { Written (done (summary_text number)) (K.outflow sink.old) (K.outflow sink.new) result }
@@ -59,10 +61,7 @@ pub(crate) fn large<R: Threads + Wait + Sync, G: Gate, K: Sink>(
     let Ok(mut out) = Pieces::open(alloc) else {
         return Status::NoMemory;
     };
-    let Ok(job) = generated_job(alloc, number) else {
-        return Status::NoMemory;
-    };
-    let Ok((world, spent)) = run_by_workers(rt, alloc, gate, workers, &job) else {
+    let Ok((world, spent)) = run_by_workers(rt, alloc, gate, workers, job) else {
         return Status::NoMemory;
     };
     let rested = Rested(world);

@@ -1,11 +1,13 @@
 //! The whole program over any source and any sink: words in, a status out.
 #![tactic(auto)]
 
+mod begun;
 mod checking;
 mod choosing;
 mod drawing;
 mod headline;
 mod large;
+mod laws;
 mod parsing;
 mod planning;
 mod ran;
@@ -18,8 +20,10 @@ mod values;
 mod words;
 mod writing;
 
+pub use begun::{Begun, Crew};
 pub use headline::every_interleaving_is_meant;
+pub use laws::sim_owes_one_text;
 pub use ran::Ran;
 pub use status::Status;
-pub use top::{portals_main, run_with_gate};
+pub use top::{begin, portals_main, run_with_gate};
 pub use words::{Command, Format, Mode, Request, Task};

@@ -1,21 +1,25 @@
 //! Running a job, and writing what the world then holds.
 
-ghost use Rattle.std.specs.Prelude.{◌≡◌, ◌<◌, ◌^◌, All, IfOk, Some, length};
+ghost use Rattle.std.specs.Prelude.{◌≡◌, ◌<◌, ◌^◌, All, IfOk, None, Some, length};
+ghost use Rattle.plan_orders.specs.Chosen.{first_scene};
 ghost use Rattle.rest_probe.specs.Waves.{IsFor};
 ghost use Rattle.shape_plans.specs.Drawing.{plan_of};
 ghost use Rattle.turn_table.specs.Hands.{IsFree, parts_of};
+ghost use Rattle.worlds.specs.World.{scene_in};
 ghost use Rattle.portals_top.specs.Answered.{HandsBack, LeavesRun, LeavesWorld};
+ghost use Rattle.portals_top.specs.Begun.{Begins, IsLeft, mode_of};
 ghost use Rattle.portals_top.specs.Due.{done, mode_text};
 ghost use Rattle.portals_top.specs.Left.{nothing_ran};
-ghost use Rattle.portals_top.specs.Runs.{IsInOrder, IsRun};
+ghost use Rattle.portals_top.specs.Runs.{IsInOrder, IsReachedWorld, IsRun};
 ghost use Rattle.portals_top.specs.Words.{HasWorkers};
 ghost use Rattle.portals_top.specs.Written.{Written};
 
+use crate::begun::{Begun, Crew};
 use crate::drawing::Words;
 use crate::ran::Ran;
 use crate::status::Status;
 use crate::words::{Command, Mode};
-use crate::writing::{Rested, status_of, write_run};
+use crate::writing::{Rested, status_of, write_ordered, write_results, write_run};
 use port_io::Sink;
 use ptl_types::NoMemory;
 use rank_threads::{Fabric, Gate, Hand, SpentWires, run_keeping, run_steady};
@@ -30,7 +34,8 @@ use worlds::{World, runs_by_words};
 /// Makes all that is left of a world.
 fn finished(world: World) -> World
     requires { world.spare ≡ 0 }
-    ensures { IsRun world.shape world.inputs result }
+    ensures run { IsRun world.shape world.inputs result }
+    ensures reached { scene_in world ≡ first_scene → IsReachedWorld result }
 {
     let mut world = world;
     world.run_to_rest();
@@ -40,14 +45,14 @@ fn finished(world: World) -> World
 
 /// Runs a job on one thread in the program's own order.
 fn run_once(alloc: Global, job: &Job) -> Result<World, NoMemory>
-    ensures { IfOk result (λ w. IsRun job.now.shape job.now.inputs w) }
+    ensures { IfOk result (λ w. IsRun job.now.shape job.now.inputs w × IsReachedWorld w) }
 {
     Ok(finished(World::open(alloc, job)?))
 }
 
 /// Runs a job on one thread in the order that the words of a generator choose.
 fn run_chosen(alloc: Global, job: &Job, seed: u64) -> Result<World, NoMemory>
-    ensures { IfOk result (λ w. IsRun job.now.shape job.now.inputs w × IsInOrder seed w) }
+    ensures { IfOk result (λ w. IsRun job.now.shape job.now.inputs w × (IsReachedWorld w × IsInOrder seed w)) }
 {
     let mut world = World::open(alloc, job)?;
     let mut words = Words::of(seed);
@@ -71,7 +76,8 @@ pub(crate) fn run_by_workers<R: Threads + Wait + Sync, G: Gate>(
 {
     let (fabric, hands) = Fabric::open(rt, alloc, job, workers, gate)?;
     let (world, spent) = run_keeping(rt, fabric, hands);
-    Ok((finished(world), spent))
+    let world = finished(world);
+    Ok((world, spent))
 }
 
 /// Lets a worker for each hand make steps until a wave of probes has found rest, and closes the fabric. Its wires come beside the world.
@@ -114,56 +120,123 @@ fn run_steadily<R: Threads + Wait + Sync, G: Gate>(
     Ok((finished(world), spent))
 }
 
-/// Runs a job in this mode. Beside the world it hands over the wires that workers used, if there are any left.
-fn run_in<R: Threads + Wait + Sync, G: Gate>(
-    rt: &R,
-    alloc: Global,
-    gate: &G,
-    mode: Mode,
-    job: &Job,
-) -> Result<(World, Option<SpentWires>), NoMemory>
-    requires { HasWorkers mode }
-    ensures { IfOk result (λ left. LeavesRun mode job.now.shape job.now.inputs (Some left.0)) }
-{
-    match mode {
-        Mode::Once => Ok((run_once(alloc, job)?, None)),
-        Mode::Sim { seed } => Ok((run_chosen(alloc, job, seed)?, None)),
-        Mode::Run { workers } | Mode::Trace { workers } => {
-            let (world, spent) = run_by_workers(rt, alloc, gate, workers, job)?;
-            Ok((world, Some(spent)))
-        }
-        Mode::Steady { workers } => {
-            let (world, spent) = run_steadily(rt, alloc, gate, workers, job)?;
-            Ok((world, Some(spent)))
-        }
-    }
-}
-
-/// Runs a job in this mode, writes what is due, and hands back the world.
-pub(crate) fn run<R: Threads + Wait + Sync, G: Gate, K: Sink>(
-    rt: &R,
-    alloc: Global,
-    gate: &G,
-    mode: Mode,
-    job: &Job,
-    sink: &mut K,
-    ran: &mut Ran,
-) -> Status
-    requires workers { HasWorkers mode }
+/// Runs a job on one thread in the program's own order, writes its results, and hands back the world.
+fn once<K: Sink>(alloc: Global, job: &Job, sink: &mut K, ran: &mut Ran) -> Status
     requires none { ran.old ≡ nothing_ran }
-    ensures written { Written (done (mode_text mode job.now.shape job.now.inputs ran.new.world)) (K.outflow sink.old) (K.outflow sink.new) result }
-    ensures world { HandsBack result Status.Done (LeavesWorld (Command.Execute mode) job.now.shape job.now.inputs) ran.new }
+    ensures written { Written (done (mode_text Mode.Once job.now.shape job.now.inputs ran.new.world)) (K.outflow sink.old) (K.outflow sink.new) result }
+    ensures world { HandsBack result Status.Done (LeavesWorld (Command.Execute Mode.Once) job.now.shape job.now.inputs) ran.new }
 {
     let Ok(mut out) = Pieces::open(alloc) else {
         return Status::NoMemory;
     };
-    let Ok((world, spent)) = run_in(rt, alloc, gate, mode, job) else {
+    let Ok(world) = run_once(alloc, job) else {
         return Status::NoMemory;
     };
     let rested = Rested(world);
-    let written = write_run(rt, alloc, &mut out, sink, mode, &rested);
+    let written = write_results(&mut out, sink, &rested);
     let Rested(world) = rested;
     ran.world = Some(world);
-    ran.spent = spent;
+    status_of(written)
+}
+
+/// Runs a job on one thread in the order that a seed chooses, writes its results and that order, and hands back the world.
+fn sim<K: Sink>(alloc: Global, job: &Job, seed: u64, sink: &mut K, ran: &mut Ran) -> Status
+    requires none { ran.old ≡ nothing_ran }
+    ensures written { Written (done (mode_text (Mode.Sim seed) job.now.shape job.now.inputs ran.new.world)) (K.outflow sink.old) (K.outflow sink.new) result }
+    ensures world { HandsBack result Status.Done (LeavesWorld (Command.Execute (Mode.Sim seed)) job.now.shape job.now.inputs) ran.new }
+{
+    let Ok(mut out) = Pieces::open(alloc) else {
+        return Status::NoMemory;
+    };
+    let Ok(world) = run_chosen(alloc, job, seed) else {
+        return Status::NoMemory;
+    };
+    let rested = Rested(world);
+    let written = write_ordered(&mut out, sink, &rested);
+    let Rested(world) = rested;
+    ran.world = Some(world);
+    status_of(written)
+}
+
+/// Runs a job in a mode that is for one thread, writes what is due, and hands back the world. In each other mode the run is left to workers.
+pub(crate) fn run_alone<K: Sink>(
+    alloc: Global,
+    mode: Mode,
+    job: Job,
+    sink: &mut K,
+    ran: &mut Ran,
+) -> Begun
+    requires workers { HasWorkers mode }
+    requires none { ran.old ≡ nothing_ran }
+    ensures { Begins (λ after. done (mode_text mode job.shape job.inputs after.world)) (LeavesWorld (Command.Execute mode) job.shape job.inputs)
+        (IsLeft (Command.Execute mode) job.shape job.inputs None) (K.outflow sink.old) (K.outflow sink.new) ran.new result }
+{
+    match mode {
+        Mode::Once => Begun::Answered(once(alloc, &job, sink, ran)),
+        Mode::Sim { seed } => Begun::Answered(sim(alloc, &job, seed, sink, ran)),
+        Mode::Run { workers } => Begun::Run {
+            crew: Crew::Run { workers },
+            job,
+        },
+        Mode::Trace { workers } => Begun::Run {
+            crew: Crew::Trace { workers },
+            job,
+        },
+        Mode::Steady { workers } => Begun::Run {
+            crew: Crew::Steady { workers },
+            job,
+        },
+    }
+}
+
+/// Lets workers run a job. Beside the world it hands over the wires that they used.
+fn run_by<R: Threads + Wait + Sync, G: Gate>(
+    rt: &R,
+    alloc: Global,
+    gate: &G,
+    crew: Crew,
+    job: &Job,
+) -> Result<(World, SpentWires), NoMemory>
+    requires { HasWorkers (mode_of crew) }
+    ensures { IfOk result (λ left. LeavesRun (mode_of crew) job.now.shape job.now.inputs (Some left.0)) }
+{
+    match crew {
+        Crew::Run { workers } | Crew::Trace { workers } => {
+            let (world, spent) = run_by_workers(rt, alloc, gate, workers, job)?;
+            Ok((world, spent))
+        }
+        Crew::Steady { workers } => {
+            let (world, spent) = run_steadily(rt, alloc, gate, workers, job)?;
+            Ok((world, spent))
+        }
+    }
+}
+
+/// Lets workers run a job, writes what is due, and hands back the world.
+pub(crate) fn run<R: Threads + Wait + Sync, G: Gate, K: Sink>(
+    rt: &R,
+    alloc: Global,
+    gate: &G,
+    crew: Crew,
+    job: &Job,
+    sink: &mut K,
+    ran: &mut Ran,
+) -> Status
+    requires workers { HasWorkers (mode_of crew) }
+    requires none { ran.old ≡ nothing_ran }
+    ensures written { Written (done (mode_text (mode_of crew) job.now.shape job.now.inputs ran.new.world)) (K.outflow sink.old) (K.outflow sink.new) result }
+    ensures world { HandsBack result Status.Done (LeavesWorld (Command.Execute (mode_of crew)) job.now.shape job.now.inputs) ran.new }
+{
+    let Ok(mut out) = Pieces::open(alloc) else {
+        return Status::NoMemory;
+    };
+    let Ok((world, spent)) = run_by(rt, alloc, gate, crew, job) else {
+        return Status::NoMemory;
+    };
+    let rested = Rested(world);
+    let written = write_run(rt, alloc, &mut out, sink, crew, &rested);
+    let Rested(world) = rested;
+    ran.world = Some(world);
+    ran.spent = Some(spent);
     status_of(written)
 }

@@ -4,7 +4,8 @@ ghost use Rattle.std.specs.Prelude.{◌≡◌, ◌<◌, List, ℕ, Option, None,
 ghost use Rattle.coll_shape.specs.Meaning.{Lists};
 ghost use Rattle.shape_plans.specs.Footprint.{refusal};
 ghost use Rattle.worlds.specs.World.{WorldState};
-ghost use Rattle.portals_top.specs.Answered.{Answered, HandsBack, IsTold, LeavesDescribed, LeavesOf, LeavesWorld};
+ghost use Rattle.portals_top.specs.Answered.{IsTold, LeavesDescribed, LeavesOf, LeavesWorld};
+ghost use Rattle.portals_top.specs.Begun.{Begins, BeginsCall, IsLeft, IsLeftOf, IsLeftOfDescribed};
 ghost use Rattle.portals_top.specs.Checked.{AnswersTo, Checked};
 ghost use Rattle.portals_top.specs.Due.{due, due_compiled, due_described, due_of};
 ghost use Rattle.portals_top.specs.Formats.{read_as};
@@ -12,15 +13,16 @@ ghost use Rattle.portals_top.specs.Left.{nothing_ran};
 ghost use Rattle.portals_top.specs.Words.{CanDo, HasWorkers, request};
 ghost use Rattle.portals_top.specs.Written.{Written};
 
+use crate::begun::Begun;
 use crate::checking::judged_text;
 use crate::choosing::chosen;
-use crate::large::large;
+use crate::large::{generated_job, large};
 use crate::parsing::parse_text;
 use crate::planning::plan;
 use crate::ran::Ran;
 use crate::reading::{ReadError, read_text};
 use crate::refusing::{refuse, refuse_plan};
-use crate::running::run;
+use crate::running::{run, run_alone};
 use crate::status::Status;
 use crate::words::{Command, Mode, Request, Task, request_in};
 use coll_lang::{Description, LONGEST_TEXT, ParseFault};
@@ -60,72 +62,65 @@ fn planned<K: Sink>(alloc: Global, shape: &Shape, sink: &mut K) -> Status
     }
 }
 
-/// Compiles a description, and runs it.
-fn executed<R: Threads + Wait + Sync, G: Gate, K: Sink>(
-    rt: &R,
+/// Compiles a description, and runs it as far as one thread does.
+fn executed<K: Sink>(
     alloc: Global,
-    gate: &G,
     mode: Mode,
     d: Description,
     sink: &mut K,
     ran: &mut Ran,
-) -> Status
+) -> Begun
     requires workers { HasWorkers mode }
     requires none { ran.old ≡ nothing_ran }
-    ensures written { Written (due_compiled (Command.Execute mode) d.shape d.inputs ran.new.world (refusal d.shape)) (K.outflow sink.old) (K.outflow sink.new) result }
-    ensures world { HandsBack result (due_compiled (Command.Execute mode) d.shape d.inputs ran.new.world (refusal d.shape)).status (LeavesWorld (Command.Execute mode) d.shape d.inputs) ran.new }
+    ensures { Begins (λ after. due_compiled (Command.Execute mode) d.shape d.inputs after.world (refusal d.shape))
+        (LeavesWorld (Command.Execute mode) d.shape d.inputs) (IsLeft (Command.Execute mode) d.shape d.inputs (refusal d.shape))
+        (K.outflow sink.old) (K.outflow sink.new) ran.new result }
 {
     let (shape, inputs) = d.into_parts();
     match compile(alloc, &shape) {
-        Ok(schedule) => {
-            let Ok(job) = Job::new(alloc, schedule, inputs) else {
-                return Status::NoMemory;
-            };
-            run(rt, alloc, gate, mode, &job, sink, ran)
-        }
-        Err(fault) => refuse_plan(alloc, sink, &shape, fault),
+        Ok(schedule) => match Job::new(alloc, schedule, inputs) {
+            Ok(job) => run_alone(alloc, mode, job, sink, ran),
+            Err(_) => Begun::Answered(Status::NoMemory),
+        },
+        Err(fault) => Begun::Answered(refuse_plan(alloc, sink, &shape, fault)),
     }
 }
 
 /// Compiles a description and answers it.
-fn compiled<R: Threads + Wait + Sync, G: Gate, K: Sink>(
-    rt: &R,
+fn compiled<K: Sink>(
     alloc: Global,
-    gate: &G,
     command: Command,
     d: Description,
     sink: &mut K,
     ran: &mut Ran,
-) -> Status
+) -> Begun
     requires workers { CanDo command }
     requires none { ran.old ≡ nothing_ran }
-    ensures written { Written (due_compiled command d.shape d.inputs ran.new.world (refusal d.shape)) (K.outflow sink.old) (K.outflow sink.new) result }
-    ensures world { HandsBack result (due_compiled command d.shape d.inputs ran.new.world (refusal d.shape)).status (LeavesWorld command d.shape d.inputs) ran.new }
+    ensures { Begins (λ after. due_compiled command d.shape d.inputs after.world (refusal d.shape)) (LeavesWorld command d.shape d.inputs)
+        (IsLeft command d.shape d.inputs (refusal d.shape)) (K.outflow sink.old) (K.outflow sink.new) ran.new result }
 {
     match command {
-        Command::Execute(mode) => executed(rt, alloc, gate, mode, d, sink, ran),
-        Command::Plan => planned(alloc, d.shape(), sink),
+        Command::Execute(mode) => executed(alloc, mode, d, sink, ran),
+        Command::Plan => Begun::Answered(planned(alloc, d.shape(), sink)),
     }
 }
 
 /// Answers a description.
-fn described<R: Threads + Wait + Sync, G: Gate, K: Sink>(
-    rt: &R,
+fn described<K: Sink>(
     alloc: Global,
-    gate: &G,
     command: Command,
     d: Description,
     sink: &mut K,
     ran: &mut Ran,
-) -> Status
+) -> Begun
     requires workers { CanDo command }
     requires none { ran.old ≡ nothing_ran }
-    ensures written { Written (due_described command d ran.new d.choices) (K.outflow sink.old) (K.outflow sink.new) result }
-    ensures world { HandsBack result (due_described command d ran.new d.choices).status (LeavesDescribed command d d.choices) ran.new }
+    ensures { Begins (λ after. due_described command d after d.choices) (LeavesDescribed command d d.choices)
+        (IsLeftOfDescribed command d d.choices) (K.outflow sink.old) (K.outflow sink.new) ran.new result }
 {
     match d.choices() {
-        Some(choices) => chosen(alloc, command, d.shape(), choices, sink, ran),
-        None => compiled(rt, alloc, gate, command, d, sink, ran),
+        Some(choices) => { Begun::Answered(chosen(alloc, command, d.shape(), choices, sink, ran)) }
+        None => compiled(alloc, command, d, sink, ran),
     }
 }
 
@@ -143,47 +138,47 @@ fn readers_for(command: Command) -> u32
 }
 
 /// Answers what was read. The text is given back once it is read.
-fn answer<R: Threads + Wait + Sync, G: Gate, K: Sink>(
+fn answer<R: Threads + Sync, K: Sink>(
     rt: &R,
     alloc: Global,
-    gate: &G,
     task: Task,
     text: Vec<u8>,
     sink: &mut K,
     ran: &mut Ran,
-) -> Status
+) -> Begun
     requires workers { CanDo task.command }
     requires none { ran.old ≡ nothing_ran }
-    ensures written { Written (due_of task.command ran.new (read_as task.format text.items)) (K.outflow sink.old) (K.outflow sink.new) result }
-    ensures world { HandsBack result (due_of task.command ran.new (read_as task.format text.items)).status (LeavesOf task.command (read_as task.format text.items)) ran.new }
+    ensures { Begins (λ after. due_of task.command after (read_as task.format text.items)) (LeavesOf task.command (read_as task.format text.items))
+        (IsLeftOf task.command (read_as task.format text.items)) (K.outflow sink.old) (K.outflow sink.new) ran.new result }
 {
     let threads = readers_for(task.command);
     match parse_text(rt, alloc, threads, task.format, text) {
-        Ok(d) => described(rt, alloc, gate, task.command, d, sink, ran),
-        Err(ParseFault::Refused { line, name }) => refuse(alloc, sink, line, name),
-        Err(ParseFault::NoMemory) => Status::NoMemory,
+        Ok(d) => described(alloc, task.command, d, sink, ran),
+        Err(ParseFault::Refused { line, name }) => {
+            Begun::Answered(refuse(alloc, sink, line, name))
+        }
+        Err(ParseFault::NoMemory) => Begun::Answered(Status::NoMemory),
     }
 }
 
 /// Reads a description and answers it.
-fn read_and_answer<R: Threads + Wait + Sync, G: Gate, S: Source, K: Sink>(
+fn read_and_answer<R: Threads + Sync, S: Source, K: Sink>(
     rt: &R,
     alloc: Global,
-    gate: &G,
     task: Task,
     source: &mut S,
     sink: &mut K,
     ran: &mut Ran,
-) -> Status
+) -> Begun
     requires workers { CanDo task.command }
     requires none { ran.old ≡ nothing_ran }
     ensures { (bytes : List ℕ) × IsTold (S.inflow source.old).left bytes
-        × Answered (Some task) bytes (S.inflow source.old) (S.inflow source.new) (K.outflow sink.old) (K.outflow sink.new) ran.new result }
+        × BeginsCall (Some (Request.Do task)) bytes (S.inflow source.old) (S.inflow source.new) (K.outflow sink.old) (K.outflow sink.new) ran.new result }
 {
     match read_text(alloc, LONGEST_TEXT, source) {
-        Ok(text) => answer(rt, alloc, gate, task, text, sink, ran),
-        Err(ReadError::Failed) => Status::ReadFault,
-        Err(ReadError::NoMemory) => Status::NoMemory,
+        Ok(text) => answer(rt, alloc, task, text, sink, ran),
+        Err(ReadError::Failed) => Begun::Answered(Status::ReadFault),
+        Err(ReadError::NoMemory) => Begun::Answered(Status::NoMemory),
     }
 }
 
@@ -196,6 +191,41 @@ fn read_and_check<S: Source, K: Sink>(alloc: Global, source: &mut S, sink: &mut 
         Ok(text) => judged_text(alloc, text.as_slice(), sink),
         Err(ReadError::Failed) => Status::ReadFault,
         Err(ReadError::NoMemory) => Status::NoMemory,
+    }
+}
+
+/// What of the whole program one thread does: no call in it waits, and it always returns. Words that no worker is needed for are answered, as
+/// `portals_main` says: `once`, `sim X`, `plan`, `check`, and all that get the usage line. For the others the source is read, the text is
+/// refused or compiled, and the run is left to workers: then the sink is untouched, and no world is handed back. `run W`, `trace W`, `steady W`
+/// and `json W` are read by so many threads at most, the caller among them.
+pub fn begin<R: Threads + Sync, S: Source, K: Sink>(
+    rt: &R,
+    alloc: Global,
+    words: &[String],
+    source: &mut S,
+    sink: &mut K,
+    ran: &mut Ran,
+) -> Begun
+    ensures { (bytes : List ℕ) × IsTold (S.inflow source.old).left bytes
+        × BeginsCall (request (map string_bytes words.now)) bytes (S.inflow source.old) (S.inflow source.new) (K.outflow sink.old) (K.outflow sink.new) ran.new result }
+{
+    ran.world = None;
+    ran.choice = None;
+    ran.spent = None;
+    // The text that is read then grows in memory that the process has already.
+    reach_ahead(alloc);
+    match request_in(words) {
+        Some(Request::Do(task)) => read_and_answer(rt, alloc, task, source, sink, ran),
+        Some(Request::Large { number, workers }) => match generated_job(alloc, number) {
+            Ok(job) => Begun::Large {
+                number,
+                workers,
+                job,
+            },
+            Err(_) => Begun::Answered(Status::NoMemory),
+        },
+        Some(Request::Check) => Begun::Answered(read_and_check(alloc, source, sink)),
+        None => Begun::Answered(usage(sink)),
     }
 }
 
@@ -213,18 +243,14 @@ pub fn run_with_gate<R: Threads + Wait + Sync, S: Source, K: Sink, G: Gate>(
     ensures { (bytes : List ℕ) × IsTold (S.inflow source.old).left bytes
         × AnswersTo (request (map string_bytes words.now)) bytes (S.inflow source.old) (S.inflow source.new) (K.outflow sink.old) (K.outflow sink.new) ran.new result }
 {
-    ran.world = None;
-    ran.choice = None;
-    ran.spent = None;
-    // The text that is read then grows in memory that the process has already.
-    reach_ahead(alloc);
-    match request_in(words) {
-        Some(Request::Do(task)) => { read_and_answer(rt, alloc, gate, task, source, sink, ran) }
-        Some(Request::Large { number, workers }) => {
-            large(rt, alloc, gate, number, workers, sink, ran)
-        }
-        Some(Request::Check) => read_and_check(alloc, source, sink),
-        None => usage(sink),
+    match begin(rt, alloc, words, source, sink, ran) {
+        Begun::Answered(status) => status,
+        Begun::Run { crew, job } => run(rt, alloc, gate, crew, &job, sink, ran),
+        Begun::Large {
+            number,
+            workers,
+            job,
+        } => large(rt, alloc, gate, number, workers, &job, sink, ran),
     }
 }
 

@@ -9,13 +9,14 @@ ghost use Rattle.run_text.specs.Lines.{result_text};
 ghost use Rattle.run_text.specs.Orders.{order_text};
 ghost use Rattle.run_text.specs.Putting.{EndsWith, Puts};
 ghost use Rattle.worlds.specs.World.{memory_in};
+ghost use Rattle.portals_top.specs.Begun.{mode_of};
 ghost use Rattle.portals_top.specs.Due.{mode_text, orders_of};
 ghost use Rattle.portals_top.specs.Large.{summary_text};
 ghost use Rattle.portals_top.specs.Words.{HasWorkers};
 ghost use Rattle.portals_top.specs.Written.{status_of};
 
+use crate::begun::Crew;
 use crate::status::Status;
-use crate::words::Mode;
 use coll_shape::Shape;
 use plan_choice::ChoiceWorld;
 use port_io::{Failed, Sink};
@@ -24,7 +25,6 @@ use run_text::{
     Pieces, ResultLists, order_line, put_result, write_result, write_result_by, write_summary,
 };
 use std::alloc::Global;
-use std::sync::Wait;
 use std::thread::Threads;
 use worlds::World;
 
@@ -125,7 +125,11 @@ fn shape_of(rested: &Rested) -> &Shape
 }
 
 /// Writes the results.
-fn write_results<K: Sink>(out: &mut Pieces, sink: &mut K, rested: &Rested) -> Result<(), Failed>
+pub(crate) fn write_results<K: Sink>(
+    out: &mut Pieces,
+    sink: &mut K,
+    rested: &Rested,
+) -> Result<(), Failed>
     requires empty { out.old ≡ [] }
     requires meant { AreMeant rested.now.0.shape rested.now.0.inputs (memory_in rested.now.0) }
     ensures { EndsWith (K.outflow sink.old) (K.outflow sink.new) (result_text rested.now.0.shape rested.now.0.inputs) result }
@@ -134,8 +138,8 @@ fn write_results<K: Sink>(out: &mut Pieces, sink: &mut K, rested: &Rested) -> Re
     write_result(out, sink, shape, rested)
 }
 
-/// Writes the results. So many threads make their lines, the caller among them.
-fn write_results_by<R: Threads + Wait + Sync, K: Sink>(
+/// Writes the results. So many threads at most make the lines of long ones, the caller among them.
+fn write_results_by<R: Threads + Sync, K: Sink>(
     rt: &R,
     alloc: Global,
     threads: u32,
@@ -153,7 +157,11 @@ fn write_results_by<R: Threads + Wait + Sync, K: Sink>(
 }
 
 /// Writes the results and the order.
-fn write_ordered<K: Sink>(out: &mut Pieces, sink: &mut K, rested: &Rested) -> Result<(), Failed>
+pub(crate) fn write_ordered<K: Sink>(
+    out: &mut Pieces,
+    sink: &mut K,
+    rested: &Rested,
+) -> Result<(), Failed>
     requires empty { out.old ≡ [] }
     requires meant { AreMeant rested.now.0.shape rested.now.0.inputs (memory_in rested.now.0) }
     ensures { EndsWith (K.outflow sink.old) (K.outflow sink.new) (result_text rested.now.0.shape rested.now.0.inputs ++ orders_of (Some rested.now.0)) result }
@@ -164,26 +172,25 @@ fn write_ordered<K: Sink>(out: &mut Pieces, sink: &mut K, rested: &Rested) -> Re
     out.end(sink)
 }
 
-/// Writes what a run in this mode owes.
-pub(crate) fn write_run<R: Threads + Wait + Sync, K: Sink>(
+/// Writes what a run by these workers owes. No call in it waits.
+pub(crate) fn write_run<R: Threads + Sync, K: Sink>(
     rt: &R,
     alloc: Global,
     out: &mut Pieces,
     sink: &mut K,
-    mode: Mode,
+    crew: Crew,
     rested: &Rested,
 ) -> Result<(), Failed>
-    requires workers { HasWorkers mode }
+    requires workers { HasWorkers (mode_of crew) }
     requires empty { out.old ≡ [] }
     requires meant { AreMeant rested.now.0.shape rested.now.0.inputs (memory_in rested.now.0) }
-    ensures { EndsWith (K.outflow sink.old) (K.outflow sink.new) (mode_text mode rested.now.0.shape rested.now.0.inputs (Some rested.now.0)) result }
+    ensures { EndsWith (K.outflow sink.old) (K.outflow sink.new) (mode_text (mode_of crew) rested.now.0.shape rested.now.0.inputs (Some rested.now.0)) result }
 {
-    match mode {
-        Mode::Once => write_results(out, sink, rested),
-        Mode::Run { workers } | Mode::Steady { workers } => {
+    match crew {
+        Crew::Run { workers } | Crew::Steady { workers } => {
             write_results_by(rt, alloc, workers, out, sink, rested)
         }
-        Mode::Sim { .. } | Mode::Trace { .. } => write_ordered(out, sink, rested),
+        Crew::Trace { .. } => write_ordered(out, sink, rested),
     }
 }
 

@@ -1,6 +1,6 @@
 pub mod Digits
+pub mod Numbering
 pub mod Refusing
-pub mod Rings
 pub mod Spaced
 pub mod Sums
 pub mod Taking

@@ -5,7 +5,7 @@ use Rattle.port_io.specs.declared.ends.Failed.{Failed}
 use Rattle.ptl_types.specs.Handles.{one_more}
 use Rattle.port_io.specs.Counts.{Rose}
 use Rattle.port_io.specs.Ends.{Outflow, Appends}
-use Rattle.std.specs.Result.{IsErr, IsOk}
+use Rattle.std.specs.Result.{IsErr}
 use Rattle.std.specs.List.{flat_map}
 use Rattle.std.proofs.Common.{length, get_or, ◌+◌, ◌%◌, add-one, drop-cons}
 use Rattle.run_text.specs.Putting.{Takes, FailsWithin, Puts, EndsWith}
@@ -126,15 +126,6 @@ Fails-next a b c text h xs todo before fails =
 pub Puts-stops : (a b : Outflow) (h i list : List ℕ) (r : Result (Unit {0}) Failed) → IsErr r → FailsWithin a b (h ++ list) → Puts a b h i list r
 Puts-stops a b h i list (Ok done) exit fails = absurd (cc)
 Puts-stops a b h i list (Err failed) exit fails = fails
-
--- what a put that failed, and one that went well, left
-pub Fails-of : (a b : Outflow) (h i list : List ℕ) (r : Result (Unit {0}) Failed) → IsErr r → Puts a b h i list r → FailsWithin a b (h ++ list)
-Fails-of a b h i list (Ok done) exit puts = absurd (cc)
-Fails-of a b h i list (Err failed) exit puts = puts
-
-pub Takes-of : (a b : Outflow) (h i list : List ℕ) (r : Result (Unit {0}) Failed) → IsOk r → Puts a b h i list r → Takes a b (h ++ list) i
-Takes-of a b h i list (Ok done) well puts = puts
-Takes-of a b h i list (Err failed) well puts = absurd (cc)
 
 -- the same for a list made of parts, from part n on
 pub flat_map-drop : {X : Type 0} (f : X → List ℕ) (xs : List X) (n : ℕ) (d : X) → n < length xs → flat_map f (drop n xs) ≡ f (get_or xs n d) ++ flat_map f (drop (n + 1) xs)

@@ -6,7 +6,6 @@ mod orders;
 mod pieces;
 mod plans;
 mod refused;
-mod relay;
 mod results;
 mod shared;
 mod summary;

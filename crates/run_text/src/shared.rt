@@ -1,85 +1,139 @@
-//! The text of a result, of whose lines threads make some.
+//! The text of a result, whose lines threads make before it is written.
 
-ghost use Rattle.std.specs.Prelude.{◌≡◌, ◌<◌, [], ℕ, length, get_or};
-ghost use Rattle.std.specs.List.{flat_map};
-ghost use Rattle.run_text.specs.Lines.{buffer_lines, text_of};
-ghost use Rattle.run_text.specs.Putting.{Puts, EndsWith};
+ghost use Rattle.std.specs.Prelude.{◌≡◌, ◌<◌, ◌≤◌, ◌/◌, ◌%◌, ◌*◌, [], ℕ, length, get_or};
+ghost use Rattle.run_text.specs.Lines.{text_of};
+ghost use Rattle.run_text.specs.Made.{AreMade, IsMade};
+ghost use Rattle.run_text.specs.Putting.{EndsWith};
 
 use crate::lines::rest_line;
 use crate::pieces::Pieces;
-use crate::relay::put_relayed;
-use crate::results::{ResultLists, put_buffer};
+use crate::results::{ResultLists, put_line_at, put_prints};
 use coll_shape::Shape;
-use port_io::{Failed, Sink};
+use port_io::{Failed, IoTurns, MemorySink, Sink};
+use ptl_types::Rank;
 use std::alloc::Global;
-use std::sync::Wait;
 use std::thread::Threads;
+use work_sharing::map_indices;
 
 /// Lists that have fewer bytes together aren't shared among threads.
 const FEW: u64 = 65_536;
 
-/// Whether the lists of a buffer are too short to be shared among threads.
-fn is_short<H: ResultLists>(shape: &Shape, held: &H, buffer: u32) -> bool
+/// The most bytes of a line beside its values: a name, a space, a rank and the end of the line.
+const BESIDE: u64 = 32;
+
+/// The most bytes of a value's word with the space before it, for each byte of the value: one byte may be `-128`.
+const WIDEST: u64 = 5;
+
+/// The line of a buffer at a rank as a text, where there is memory for it.
+fn line_text<H: ResultLists>(
+    alloc: Global,
+    shape: &Shape,
+    held: &H,
+    buffer: u32,
+    rank: Rank,
+) -> Option<MemorySink>
+    requires buffer { buffer < length shape.now.buffers }
+    requires gives { H.can_give held.now buffer rank }
+    ensures { IsMade shape.now (H.lists held.now) buffer rank result }
+{
+    let size = held.list(buffer, rank).len() as u64;
+    let room = WIDEST.saturating_mul(size).saturating_add(BESIDE);
+    // The piece is taken first, so that its memory serves the next line's piece: the text is kept.
+    let mut out = Pieces::open(alloc).ok()?;
+    let mut sink = MemorySink::with_room(alloc, IoTurns::new(alloc), room).ok()?;
+    put_line_at(&mut out, &mut sink, shape, held, buffer, rank, None).ok()?;
+    out.end(&mut sink).ok()?;
+    Some(sink)
+}
+
+/// How many bytes the lists of a buffer have together.
+fn bytes_of<H: ResultLists>(shape: &Shape, held: &H, buffer: u32) -> u64
     requires gives { (r : ℕ) → r < shape.now.ranks → H.can_give held.now buffer r }
 {
     let mut bytes = 0u64;
     for rank in 0..shape.ranks() {
         bytes = bytes.saturating_add(held.list(buffer, rank).len() as u64);
     }
+    bytes
+}
+
+/// Whether the lists that are printed are too short to be shared among threads.
+fn is_short<H: ResultLists>(shape: &Shape, held: &H) -> bool
+    requires gives { (i r : ℕ) → i < length shape.now.prints → r < shape.now.ranks → H.can_give held.now (get_or shape.now.prints i 0) r }
+{
+    let mut bytes = 0u64;
+    for buffer in shape.prints() {
+        bytes = bytes.saturating_add(bytes_of(shape, held, *buffer));
+    }
     bytes < FEW
 }
 
-/// Adds the lines of a buffer. Where the lists are long enough to be shared, so many threads at most make them, the caller among them, and no
-/// more than there are ranks.
-fn put_buffer_by<R: Threads + Wait + Sync, K: Sink, H: ResultLists + Sync>(
-    rt: &R,
-    alloc: Global,
-    threads: u32,
-    out: &mut Pieces,
-    sink: &mut K,
-    shape: &Shape,
-    held: &H,
-    buffer: u32,
-) -> Result<(), Failed>
-    requires threads { 0 < threads }
-    requires buffer { buffer < length shape.now.buffers }
-    requires gives { (r : ℕ) → r < shape.now.ranks → H.can_give held.now buffer r }
-    ensures { Puts (K.outflow sink.old) (K.outflow sink.new) out.old out.new (buffer_lines shape.now (H.lists held.now) buffer) result }
-{
-    let threads = threads.min(shape.ranks());
-    if threads < 2 || is_short(shape, held, buffer) {
-        return put_buffer(out, sink, shape, held, buffer);
-    }
-    put_relayed(rt, alloc, threads - 1, out, sink, shape, held, buffer)
-}
-
-/// Adds the lines of each buffer that is printed, in order; so many threads at most make those of long buffers.
-fn put_prints_by<R: Threads + Wait + Sync, K: Sink, H: ResultLists + Sync>(
-    rt: &R,
-    alloc: Global,
-    threads: u32,
-    out: &mut Pieces,
-    sink: &mut K,
-    shape: &Shape,
-    held: &H,
-) -> Result<(), Failed>
-    requires threads { 0 < threads }
-    requires gives { (i r : ℕ) → i < length shape.now.prints → r < shape.now.ranks → H.can_give held.now (get_or shape.now.prints i 0) r }
-    ensures { Puts (K.outflow sink.old) (K.outflow sink.new) out.old out.new (flat_map (buffer_lines shape.now (H.lists held.now)) shape.now.prints) result }
+/// How many lines a result has.
+fn line_count(shape: &Shape) -> usize
+    ensures value { result ≡ length shape.now.prints * shape.now.ranks }
+    ensures few { result ≤ 32768 }
 {
     shape.keeps_form();
-    for buffer in shape.prints() {
-        put_buffer_by(rt, alloc, threads, out, sink, shape, held, *buffer)?;
-    }
-    Ok(())
+    shape.prints().len() * shape.ranks() as usize
 }
 
-/// Writes the text of a result and finishes the sink, as `write_result` does. So many threads at most, the caller among them, make the lines of
-/// a long buffer, while the caller writes those that are made; it may wait for a line that a thread has begun. What the others can't make, since
-/// memory or threads ran out, it makes itself.
+/// The text of the line with this number, where there is memory for it.
+fn numbered_text<H: ResultLists>(
+    alloc: Global,
+    shape: &Shape,
+    held: &H,
+    number: usize,
+) -> Option<MemorySink>
+    requires line { number < length shape.now.prints * shape.now.ranks }
+    requires gives { (i r : ℕ) → i < length shape.now.prints → r < shape.now.ranks → H.can_give held.now (get_or shape.now.prints i 0) r }
+    ensures { IsMade shape.now (H.lists held.now) (get_or shape.now.prints (number / shape.now.ranks) 0) (number % shape.now.ranks) result }
+{
+    shape.keeps_form();
+    let ranks = shape.ranks() as usize;
+    let buffer = shape.prints()[number / ranks];
+    line_text(alloc, shape, held, buffer, (number % ranks) as Rank)
+}
+
+/// The lines of a result as texts, made by so many threads at most, the caller among them; each takes the next line that none has taken. There
+/// are none where that isn't worth it, and where there is no memory for one its place is empty.
+fn line_texts<R: Threads + Sync, H: ResultLists + Sync>(
+    rt: &R,
+    alloc: Global,
+    threads: u32,
+    shape: &Shape,
+    held: &H,
+) -> Vec<Option<MemorySink>>
+    requires threads { 0 < threads }
+    requires gives { (i r : ℕ) → i < length shape.now.prints → r < shape.now.ranks → H.can_give held.now (get_or shape.now.prints i 0) r }
+    ensures { AreMade shape.now (H.lists held.now) result.items }
+{
+    if threads == 1 || is_short(shape, held) {
+        return Vec::new(alloc);
+    }
+    let made = map_indices(
+        rt,
+        alloc,
+        threads as usize,
+        line_count(shape),
+        &|number: usize|
+            requires { (number < length shape.now.prints * shape.now.ranks)
+                × ((i r : ℕ) → i < length shape.now.prints → r < shape.now.ranks → H.can_give held.now (get_or shape.now.prints i 0) r) }
+            ensures { IsMade shape.entry.now (H.lists held.entry.now) (get_or shape.entry.now.prints (number / shape.entry.now.ranks) 0)
+                (number % shape.entry.now.ranks) result }
+        { numbered_text(alloc, shape, held, number) },
+    );
+    match made {
+        Ok(texts) => texts,
+        Err(_) => Vec::new(alloc),
+    }
+}
+
+/// Writes the text of a result and finishes the sink, as `write_result` does. Where the lists that are printed are long, so many threads at most,
+/// the caller among them, make its lines before the first byte is written, in memory that they take for them; what they can't make, since memory
+/// or threads ran out, the call makes itself as it writes. Once the first byte is written no memory is taken, and no thread is started.
 ///
 /// At `Failed` the count of the sink's faults rose, and a beginning of the text stands.
-pub fn write_result_by<R: Threads + Wait + Sync, K: Sink, H: ResultLists + Sync>(
+pub fn write_result_by<R: Threads + Sync, K: Sink, H: ResultLists + Sync>(
     rt: &R,
     alloc: Global,
     threads: u32,
@@ -93,7 +147,8 @@ pub fn write_result_by<R: Threads + Wait + Sync, K: Sink, H: ResultLists + Sync>
     requires gives { (i r : ℕ) → i < length shape.now.prints → r < shape.now.ranks → H.can_give held.now (get_or shape.now.prints i 0) r }
     ensures ends { EndsWith (K.outflow sink.old) (K.outflow sink.new) (text_of shape.now (H.lists held.now)) result }
 {
-    put_prints_by(rt, alloc, threads, out, sink, shape, held)?;
+    let texts = line_texts(rt, alloc, threads, shape, held);
+    put_prints(out, sink, shape, held, texts.as_slice())?;
     rest_line(out, sink)?;
     out.end(sink)
 }

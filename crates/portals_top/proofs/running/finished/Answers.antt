@@ -1,9 +1,22 @@
-use Rattle.std.proofs.Common.{◌∙◌}
-use Rattle.portals_top.proofs.Rests.{run-of}
+use Rattle.std.proofs.Common.{◌∙◌, sym, subst}
+use Rattle.plan_orders.specs.Chosen.{Scene}
+use Rattle.plan_orders.specs.Reached.IsReached.{Begun}
+use Rattle.plan_cuts.specs.System.{System}
+use Rattle.worlds.specs.World.{ranks_in, scene_in}
+use Rattle.portals_top.proofs.Reaching.{Here, travels-reached}
+use Rattle.portals_top.proofs.Rests.{run-of, same-ranks}
 use Rattle.portals_top.proofs.running.finished.Goals as goal
 
-pub returns : goal.returns
-returns c =
+pub returns-clause-run : goal.returns-clause-run
+returns-clause-run c =
     let later = c.run_to_rest.ensures.later in
     run-of c.run_to_rest.new.self c.args.world.shape c.args.world.inputs later.shape later.inputs c.enabled.ensures.kept
     (later.spare ∙ c.requires) c.run_to_rest.ensures.none c.run_to_rest.ensures.rest c.run_to_rest.ensures.complete c.run_to_rest.ensures.meant
+
+pub returns-clause-reached : goal.returns-clause-reached
+returns-clause-reached c = λ first slots agree.
+    let w = c.args.world in
+    let v = c.run_to_rest.new.self in
+    let k = ranks_in w slots in
+    subst (λ (x : System). Here x (scene_in v)) (sym (same-ranks w v slots c.run_to_rest.ensures.later))
+    (travels-reached k w.window (scene_in w) (scene_in v) (subst (λ (z : Scene). Here k z) (sym first) Begun) (c.run_to_rest.ensures.steps slots agree))

@@ -1,18 +1,19 @@
 use Rattle.std.proofs.Common.{ap}
 use Rattle.portals_top.specs.Answered.{LeavesWorld}
+use Rattle.portals_top.specs.Begun.{mode_of}
 use Rattle.portals_top.specs.declared.ran.Ran.{Ran}
 use Rattle.portals_top.specs.declared.words.Command.TheVariants.{Execute}
 use Rattle.portals_top.proofs.Rests.{handed-of, same-mode, written-of}
 use Rattle.portals_top.proofs.running.run.Goals as goal
 
 pub write_run-written-requires-clause-meant : goal.write_run-written-requires-clause-meant
-write_run-written-requires-clause-meant g c = λ κs within. c.in-Ok-run_in.ensures.0.meant
+write_run-written-requires-clause-meant g c = λ κs within. c.in-Ok-run_by.ensures.0.meant
 
 pub returns : goal.returns
 returns g c =
-    let left = c.in-Ok-run_in.ensures in
+    let left = c.in-Ok-run_by.ensures in
     rw c.status_of.ensures (record {
-      written = written-of _ _ _ _ (same-mode c.args.mode _ _ _ _ _ _ _ _ left.0.shape left.0.inputs c.write_run-written.ensures);
-      world = handed-of (LeavesWorld (Execute c.args.mode) c.args.job.now.shape c.args.job.now.inputs) _ _
+      written = written-of _ _ _ _ (same-mode (mode_of c.args.crew) _ _ _ _ _ _ _ _ left.0.shape left.0.inputs c.write_run-written.ensures);
+      world = handed-of (LeavesWorld (Execute (mode_of c.args.crew)) c.args.job.now.shape c.args.job.now.inputs) _ _
           (left, ap (λ (r : Ran). r.choice) c.requires.none);
     })

@@ -1,13 +1,10 @@
 use Rattle.portals_top.proofs.top.described.Goals as goal
 
 pub returns-in-Some : goal.returns-in-Some
-returns-in-Some g c = record {
-  written = rw (← c.in-Some.ensures.value) c.chosen.ensures.written;
-  world = rw (← c.in-Some.ensures.value, ← c.shape.ensures.shape) c.chosen.ensures.world;
-}
+returns-in-Some g c = (
+  rw (← c.in-Some.ensures.value) c.chosen.ensures.written,
+  rw (← c.in-Some.ensures.value, ← c.shape.ensures.shape) c.chosen.ensures.world,
+)
 
 pub returns-in-None : goal.returns-in-None
-returns-in-None g c = record {
-  written = rw (← c.in-None.ensures.value) c.compiled.ensures.written;
-  world = rw (← c.in-None.ensures.value) c.compiled.ensures.world;
-}
+returns-in-None g c = rw (← c.in-None.ensures.value) c.compiled.ensures

@@ -1,18 +1,15 @@
-use Rattle.std.proofs.Common.{sym, ◌∙◌}
-use Rattle.portals_top.proofs.Answering.{answered-usage}
-use Rattle.portals_top.proofs.Summing.{summed}
+use Rattle.portals_top.proofs.Beginning.{answered-large, answered-left}
 use Rattle.portals_top.proofs.top.run_with_gate.Goals as goal
 
-pub returns-in-Some-Do : goal.returns-in-Some-Do
-returns-in-Some-Do g c = let other = sym c.request_in.ensures.value ∙ c.in-Some-Do.is in rw (other, c.in-Some-Do.field-0-is) c.read_and_answer.ensures
+pub returns-in-Answered : goal.returns-in-Answered
+returns-in-Answered g c = rw c.in-Answered.is at c.begin.ensures
 
-pub returns-in-Some-Large : goal.returns-in-Some-Large
-returns-in-Some-Large g c =
-    let other = sym c.request_in.ensures.value ∙ c.in-Some-Large.is in
-    rw (other, c.in-Some-Large.field-0-is) (summed _ _ _ _ _ _ _ c.large.ensures.written c.large.ensures.world)
+pub returns-in-Run : goal.returns-in-Run
+returns-in-Run g c =
+    let b = rw c.in-Run.is at c.begin.ensures in
+    (b.0, b.1, answered-left _ _ _ _ _ _ _ _ _ _ _ b.2.0 b.2.1 c.run.ensures.written c.run.ensures.world)
 
-pub returns-in-Some-Check : goal.returns-in-Some-Check
-returns-in-Some-Check g c = let other = sym c.request_in.ensures.value ∙ c.in-Some-Check.is in rw (other, c.in-Some-Check.field-0-is) c.read_and_check.ensures
-
-pub returns-in-None : goal.returns-in-None
-returns-in-None g c = let other = sym c.request_in.ensures.value ∙ c.in-None.is in rw other (answered-usage _ _ _ _ c.usage.ensures)
+pub returns-in-Large : goal.returns-in-Large
+returns-in-Large g c =
+    let b = rw c.in-Large.is at c.begin.ensures in
+    (b.0, b.1, answered-large _ _ _ _ _ _ _ _ _ _ _ _ b.2.0 b.2.1 c.large.ensures.written c.large.ensures.world)

@@ -1,9 +1,20 @@
-use Rattle.std.proofs.Common.{◌≡◌, ◌<◌, ◌+◌, ◌++◌, length, drop, get_or, subst}
+use Rattle.std.proofs.Common.{◌≡◌, ◌<◌, ◌+◌, ◌++◌, length, drop, get_or, subst, sym, ◌≤◌, arith}
 use Rattle.std.specs.List.{flat_map}
 use Rattle.run_text.specs.Lines.{buffer_lines}
 use Rattle.run_text.specs.Putting.{Takes, FailsWithin}
 use Rattle.run_text.proofs.Taking.{Takes-next, Fails-next, Puts-stops, flat_map-drop}
+use Rattle.run_text.specs.Made.{AreMadeFrom}
+use Rattle.run_text.proofs.Numbering.{by-print}
 use Rattle.run_text.proofs.results.put_prints.Goals as goal
+
+pub put_buffer-requires-clause-made : goal.put_buffer-requires-clause-made
+put_buffer-requires-clause-made g c =
+    let o = c.args.shape.now in
+    let lists = g.H.ResultLists.lists c.args.held.now in
+    let n = c.loop-buffer.buffer-index in
+    subst (λ xs. AreMadeFrom o lists (get_or xs n 0) c.loop-buffer.first c.args.texts.now) (sym c.prints-buffer-items.ensures.value)
+    (subst (λ f. AreMadeFrom o lists (get_or o.prints n 0) f c.args.texts.now) (sym c.loop-buffer.invariant.place)
+    (by-print o lists c.args.texts.now c.requires.made n))
 
 pub returns-in_err-put_buffer : goal.returns-in_err-put_buffer
 returns-in_err-put_buffer g c =
@@ -18,7 +29,7 @@ returns-in_err-put_buffer g c =
     let in_range : n < length prints = subst (λ xs. n < length xs) same c.loop-buffer-test.true in
     Puts-stops old new c.args.out.now c.put_buffer.new.out (flat_map lines prints) _ c.from_residual.ensures.0
     (Fails-next old before new text c.loop-buffer.out (lines (get_or prints n 0)) (flat_map lines (drop (n + 1) prints))
-    (subst (λ rest. Takes old before text (c.loop-buffer.out ++ rest)) (flat_map-drop lines prints n 0 in_range) c.loop-buffer.invariant)
+    (subst (λ rest. Takes old before text (c.loop-buffer.out ++ rest)) (flat_map-drop lines prints n 0 in_range) c.loop-buffer.invariant.taken)
     (subst (λ xs. FailsWithin before new (c.loop-buffer.out ++ lines (get_or xs n 0))) same c.in_err-put_buffer.ensures))
 
 pub loop-buffer-preserved : goal.loop-buffer-preserved
@@ -32,6 +43,12 @@ loop-buffer-preserved g c =
     let text = c.args.out.now ++ flat_map lines prints in
     let same : c.prints-buffer-items.result.now ≡ prints = c.prints-buffer-items.ensures.value in
     let in_range : n < length prints = subst (λ xs. n < length xs) same c.loop-buffer-test.true in
-    Takes-next old before new text c.loop-buffer.out c.put_buffer.new.out (lines (get_or prints n 0)) (flat_map lines (drop (n + 1) prints))
-    (subst (λ rest. Takes old before text (c.loop-buffer.out ++ rest)) (flat_map-drop lines prints n 0 in_range) c.loop-buffer.invariant)
-    (subst (λ xs. Takes before new (c.loop-buffer.out ++ lines (get_or xs n 0)) c.put_buffer.new.out) same c.in_ok-put_buffer.ensures)
+    let ranks : c.ranks-ranks.result ≡ c.args.shape.now.ranks = c.ranks-ranks.ensures.value in
+    let few : c.args.shape.now.ranks ≤ 256 = c.keeps_form.ensures.shape.shape.few_ranks in
+    record {
+      taken = Takes-next old before new text c.loop-buffer.out c.put_buffer.new.out (lines (get_or prints n 0)) (flat_map lines (drop (n + 1) prints))
+          (subst (λ rest. Takes old before text (c.loop-buffer.out ++ rest)) (flat_map-drop lines prints n 0 in_range) c.loop-buffer.invariant.taken)
+          (subst (λ xs. Takes before new (c.loop-buffer.out ++ lines (get_or xs n 0)) c.put_buffer.new.out) same c.in_ok-put_buffer.ensures);
+      place = omega (arith, c.loop-buffer.invariant.place, ranks);
+      few = omega (arith, ranks, few, c.loop-buffer.invariant.few);
+    }

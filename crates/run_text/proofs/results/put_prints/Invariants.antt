@@ -1,4 +1,4 @@
-use Rattle.std.proofs.Common.{◌++◌, drop}
+use Rattle.std.proofs.Common.{◌≡◌, ◌≤◌, ◌*◌, ◌++◌, drop}
 use Rattle.std.specs.List.{flat_map}
 use Rattle.run_text.specs.Lines.{buffer_lines}
 use Rattle.run_text.specs.Putting.{Takes}
@@ -7,4 +7,8 @@ use Rattle.run_text.proofs.results.put_prints.Given as goal
 abbrev pub invariant-loop-buffer : goal.invariant-loop-buffer
 invariant-loop-buffer g l =
     let lines = flat_map (buffer_lines l.shape (g.H.ResultLists.lists l.held)) in
-    Takes (g.K.Sink.outflow l.fn.sink) (g.K.Sink.outflow l.sink) (l.fn.out ++ lines l.shape.prints) (l.out ++ lines (drop l.buffer-index l.shape.prints))
+    record {
+      taken : Takes (g.K.Sink.outflow l.fn.sink) (g.K.Sink.outflow l.sink) (l.fn.out ++ lines l.shape.prints) (l.out ++ lines (drop l.buffer-index l.shape.prints));
+      place : l.first ≡ l.buffer-index * l.shape.ranks;
+      few : l.first ≤ l.buffer-index * 256;
+    }

@@ -1,0 +1,28 @@
+//! What holds of each two runs of one description.
+
+ghost use Rattle.std.specs.Prelude.{ℕ, ◌≡◌, ◌++◌, List, Some};
+ghost use Rattle.coll_lang.specs.Program.{Program};
+ghost use Rattle.plan_view.specs.Slots.{Slots};
+ghost use Rattle.plan_cuts.specs.System.{Histories};
+ghost use Rattle.plan_orders.specs.Chosen.{IsChosen};
+ghost use Rattle.run_text.specs.Lines.{result_text};
+ghost use Rattle.portals_top.specs.declared.ran.Ran.{Ran};
+ghost use Rattle.portals_top.specs.Answered.{RunLeaves};
+ghost use Rattle.portals_top.specs.Due.{due};
+ghost use Rattle.portals_top.specs.Headline.{ranks_of};
+ghost use Rattle.portals_top.specs.OneText.{IsPlanned, run_orders, sim_task};
+ghost use Rattle.portals_top.specs.Runs.{word};
+
+/// What `sim X` writes of a description that isn't a choice text is a function of the words and the bytes, whatever slots the tables of the
+/// interfaces give out. There is a run that the seed's words choose; the text that is owed is the results and the orders of any such run,
+/// which no world has a part in; and so two calls that leave worlds of the same bytes owe the same text.
+pub fn sim_owes_one_text()
+    ensures some { (bytes : List ℕ) (d : Program) (slots : ℕ → Slots) (seed : ℕ) → IsPlanned bytes d →
+        ((run : Histories) × IsChosen (ranks_of d slots) (word seed) run) }
+    ensures text { (bytes : List ℕ) (d : Program) (slots : ℕ → Slots) (seed : ℕ) (run : Histories) (ran : Ran) → IsPlanned bytes d →
+        IsChosen (ranks_of d slots) (word seed) run → RunLeaves (Some (sim_task seed)) bytes ran →
+        (due (Some (sim_task seed)) bytes ran).text ≡ result_text d.shape d.inputs ++ run_orders d run }
+    ensures same { (bytes : List ℕ) (d : Program) (seed : ℕ) (one other : Ran) → IsPlanned bytes d →
+        RunLeaves (Some (sim_task seed)) bytes one → RunLeaves (Some (sim_task seed)) bytes other →
+        (due (Some (sim_task seed)) bytes one).text ≡ (due (Some (sim_task seed)) bytes other).text }
+{}
