@@ -4,7 +4,7 @@ ghost use denote.Param.Send.{IsSync};
 ghost use Rattle.std.specs.Prelude.{◌≡◌, ◌<◌, ◌^◌, All, IfOk, length};
 ghost use Rattle.turn_table.specs.Hands.{IsNew, parts_of};
 ghost use Rattle.worlds.specs.Frames.{IsFrameOf};
-ghost use Rattle.rank_wiring.specs.Opening.{AreWired};
+ghost use Rattle.rank_wiring.specs.Opening.{AllFresh, AreWired};
 ghost use Rattle.rank_slots.specs.Sound.{IsSound};
 
 use crate::fabric::{Fabric, Hand};
@@ -89,6 +89,7 @@ impl<G: Gate + Drop> Fabric<G> {
         requires { 0 < hands }
         ensures job { IfOk result (λ r. r.0.job ≡ job.now) }
         ensures ranks { IfOk result (λ r. length r.0.turns.start ≡ job.now.shape.ranks) }
+        ensures fresh { IfOk result (λ r. AllFresh job.now r.0.turns.start) }
         ensures hands { IfOk result (λ r. (length r.1.items ≡ hands) × All (λ h. IsNew r.0.turns h) r.1.items × (parts_of r.1.items ≡ 2 ^ 32)) }
     {
         sound(job);

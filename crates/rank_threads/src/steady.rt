@@ -85,11 +85,11 @@ impl<G: Gate + Drop> Fabric<G> {
     {
         let mut left = IDLE_SWEEPS;
         for _ in rt.forever() {
-            let worked = self.work_once(rt, hand, first, end);
-            left = sweeps_left(left, worked);
             if left == 0 || done.load(Ordering::SeqCst) {
                 return;
             }
+            let worked = self.work_once(rt, hand, first, end);
+            left = sweeps_left(left, worked);
             thread::yield_now();
         }
         unreachable!()
@@ -169,13 +169,15 @@ fn run_all<G: Gate + Drop, R: Threads + Wait + Sync>(
         requires { IsSync R.row × All (λ h. IsFree fabric.now.turns h) others.now × (length others.now < 2 ^ 32 - 1) }
         ensures { All (λ h. IsFree fabric.entry.now.turns h) others.exit.now × (parts_of others.exit.now ≡ parts_of others.entry.now) }
     { assist_all(rt, fabric, done, others) };
-    join_mut(rt, &mut lead, &mut assist);
+    // Where no thread can be started the closure that stands last is called first, and the others find that they are told to end.
+    join_mut(rt, &mut assist, &mut lead);
 }
 
 /// One worker for each hand makes steps of all ranks. The first one makes a wave of probes after each of its sweeps over them in which
 /// it made no step, and once a wave has found the job at rest it tells the others to end. Any other also ends after a thousand such
-/// sweeps in a row. The wave is left with that answer; its note of each rank says what a beginning of the history says that the first
-/// hand has seen there. The call may wait for ever.
+/// sweeps in a row. Where no thread can be started the first one works alone, and the others then end at once. The wave is left with
+/// that answer; its note of each rank says what a beginning of the history says that the first hand has seen there. The call may wait for
+/// ever.
 pub fn run_steady<G: Gate + Drop, R: Threads + Wait + Sync>(
     rt: &R,
     fabric: &Fabric<G>,

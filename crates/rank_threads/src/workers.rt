@@ -123,8 +123,9 @@ impl<G: Gate + Drop> Fabric<G> {
         unreachable!()
     }
 
-    // Works as the hints lead until there is no word, and nobody is at work who may leave some.
-    pub(crate) fn settle_all<R: Wait>(&self, rt: &R, hand: &mut Hand, first: Rank, end: Rank)
+    /// Makes steps as the hints lead, until there is no word for a rank and nobody is at work who may leave some. It visits its own ranks,
+    /// from `first` to before `end`, before all. That no step is left isn't said: hints are guesses. It may wait for ever.
+    pub fn settle_all<R: Wait>(&self, rt: &R, hand: &mut Hand, first: Rank, end: Rank)
         requires hand { IsFree self.now.turns hand.old }
         requires end { end ≤ self.now.job.shape.ranks }
         ensures hand { IsFree self.now.turns hand.new }

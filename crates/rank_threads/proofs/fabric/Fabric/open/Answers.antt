@@ -10,6 +10,7 @@ use Rattle.rank_slots.specs.Chronicles.{chronicle, entry}
 use Rattle.rank_threads.specs.Fabrics.{IsFabric, IsNamed}
 use Rattle.rank_slots.specs.Lanes.{AreLanes}
 use Rattle.rank_slots.specs.Names.{plate}
+use Rattle.rank_wiring.specs.Opening.{AllFresh}
 use Rattle.rank_wiring.proofs.Fans.{whole-lanes}
 use Rattle.rank_slots.proofs.Pairs.{exists_at}
 use Rattle.rank_slots.proofs.Snocs.{read}
@@ -44,3 +45,6 @@ invariant_of-fabric g c =
       empty = c.in_ok-room.ensures.items;
       roomy = omega (arith, count, ranks, room);
     }
+
+pub returns-clause-fresh : goal.returns-clause-fresh
+returns-clause-fresh g c = subst (AllFresh c.args.job.now) (sym c.in_ok-turns.ensures.table) c.in_ok-slots.ensures.wired.fresh
