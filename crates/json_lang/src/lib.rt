@@ -9,4 +9,5 @@ mod values;
 mod writing;
 
 pub use fault::{JsonFault, JsonRefusal};
+pub use form::{is_input_name, is_member_name, is_whole, is_word, is_word_or_whole};
 pub use reading::{lines_of, parse_json};

@@ -1,0 +1,4 @@
+pub mod Shown
+pub mod Causes
+pub mod Messages
+pub mod Notes

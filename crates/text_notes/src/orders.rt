@@ -1,0 +1,52 @@
+//! What is wrong with an order line.
+
+use crate::places::word;
+use coll_text::{Words, cut, is, number_between};
+use note_lines::OrderFlaw;
+use ptl_types::Rank;
+
+/// Whether the word is a local step of one of so many ranks.
+fn is_step(ranks: u32, word: &[u8]) -> bool {
+    match word.split_first() {
+        Some((b's', others)) => others.is_empty(),
+        Some((b'r' | b'a', others)) => {
+            number_between(0, ranks.saturating_sub(1), others).is_some()
+        }
+        Some((b'f', others)) => number_between(0, u32::MAX, others).is_some(),
+        _ => false,
+    }
+}
+
+/// The word of an order line, where that of a rank is due, that makes it malformed, and what is wrong with it.
+pub(crate) fn order_flaw(line: &[u8], ranks: u32, rank: Rank) -> (usize, OrderFlaw) {
+    if !is(word(line, 0), b"order") {
+        return (0, OrderFlaw::NoOrder);
+    }
+    if number_between(rank, rank, word(line, 1)).is_none() {
+        return (1, OrderFlaw::NoRank { rank });
+    }
+    let mut number = 0usize;
+    for word in Words::of(line) {
+        if number >= 2 && !is_step(ranks, word) {
+            return (number, OrderFlaw::NoStep { ranks });
+        }
+        number = number.saturating_add(1);
+    }
+    (2, OrderFlaw::NoStep { ranks })
+}
+
+/// The number of the line after the first line `end`.
+pub(crate) fn first_order(bytes: &[u8]) -> u32 {
+    let mut rest = bytes;
+    let mut number = 1u32;
+    loop {
+        let (line, Some(later)) = cut(rest, b'\n') else {
+            return number;
+        };
+        number = number.saturating_add(1);
+        if is(line, b"end") {
+            return number;
+        }
+        rest = later;
+    }
+}
