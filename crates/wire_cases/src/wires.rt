@@ -1,6 +1,6 @@
-//! A full wire, an empty wire, what is left at the closing, and two threads.
+//! A full wire, an empty wire, what is left at the closing, word of what was received, and two threads.
 
-ghost use Rattle.std.specs.Prelude.{false, ◌≡◌, ◌+◌, ◌≤◌, ◌<◌, [], length};
+ghost use Rattle.std.specs.Prelude.{false, ◌≡◌, ◌+◌, ◌≤◌, ◌<◌, [], length, IfSome};
 ghost use Rattle.ptl_types.specs.declared.headers.Lane.TheVariants.{Request};
 ghost use Rattle.ptl_types.specs.Kinds.{lane_of};
 ghost use Rattle.pair_wires.specs.Bounds.{KeepsBounds};
@@ -74,9 +74,11 @@ fn send_or_wait<R: Wait>(rt: &R, alloc: Global, wire: &Wire, out: &mut OutEnd, n
 // Receives a message, and answers its number.
 fn receive<R: Wait>(rt: &R, wire: &Wire, into: &mut InEnd) -> Option<u64>
     requires { IsInOf wire.now into.old }
-    ensures { IsInOf wire.now into.new }
+    ensures wire { IsInOf wire.now into.new }
+    ensures count { IfSome result (λ _. length into.new.received ≡ length into.old.received + 1) }
 {
-    wire.pop(rt, into).map(|message| message.header().hdr_data)
+    let message = wire.pop(rt, into)?;
+    Some(message.header().hdr_data)
 }
 
 // The number of a lane's oldest message, which leaves it.
@@ -95,6 +97,118 @@ fn a_full_wire_gives_the_message_back(rt: HostRuntime) -> Result<(), Fail> {
     let second = receive(&rt, &wire, &mut into);
     let third = receive(&rt, &wire, &mut into);
     assert_eq!(rt; [first, second, third], [Some(1), Some(2), None]);
+    Ok(())
+}
+
+// Receives one message, and sends as many as the wire then has room for: one. Answers the number that came, and whether the other went in.
+fn replace<R: Wait>(
+    rt: &R,
+    alloc: Global,
+    wire: &Wire,
+    out: &mut OutEnd,
+    into: &mut InEnd,
+    number: u64,
+) -> (Option<u64>, bool)
+    requires wire { IsOutOf wire.now out.old × IsInOf wire.now into.old }
+    requires lane { wire.now.bounds ≡ record { source = 0; target = 1; lane = Request; messages = wire.now.bounds.messages; bytes = 0 } }
+    requires kept { KeepsBounds wire.now.bounds out.old.sent }
+    requires room { length out.old.sent < wire.now.bounds.messages }
+    requires free { out.old.waits ≡ false }
+    ensures wire { IsOutOf wire.now out.new × IsInOf wire.now into.new }
+    ensures free { out.new.waits ≡ false }
+    ensures kept { KeepsBounds wire.now.bounds out.new.sent }
+    ensures count { length out.new.sent ≤ length out.old.sent + 1 }
+{
+    let came = receive(rt, wire, into);
+    let back = send(rt, alloc, wire, out, number);
+    (came, back.is_none())
+}
+
+// A wire with room for two messages, both of which it holds: two hundred times one is received and the next one goes in.
+fn replace_all<R: Wait>(
+    rt: &R,
+    alloc: Global,
+    wire: &Wire,
+    out: &mut OutEnd,
+    into: &mut InEnd,
+) -> u64
+    requires wire { IsOutOf wire.now out.old × IsInOf wire.now into.old }
+    requires lane { wire.now.bounds ≡ record { source = 0; target = 1; lane = Request; messages = 300; bytes = 0 } }
+    requires kept { KeepsBounds wire.now.bounds out.old.sent }
+    requires room { length out.old.sent ≤ 3 }
+    requires free { out.old.waits ≡ false }
+    ensures { IsOutOf wire.now out.new × IsInOf wire.now into.new }
+{
+    for number in 0..200u64 {
+        let (came, went) = replace(rt, alloc, wire, out, into, number + 2);
+        if came != Some(number) || !went {
+            return number;
+        }
+    }
+    200
+}
+
+#[test]
+fn each_message_that_comes_out_makes_room(rt: HostRuntime) -> Result<(), Fail> {
+    let (wire, mut out, mut into) = Wire::open(rt.alloc(), 2, requests(300))?;
+    let first = send(&rt, rt.alloc(), &wire, &mut out, 0);
+    let second = send(&rt, rt.alloc(), &wire, &mut out, 1);
+    let third = send(&rt, rt.alloc(), &wire, &mut out, 2);
+    assert_eq!(rt; [first, second, third], [None, None, Some(2)]);
+    assert_eq!(rt;
+        replace_all(&rt, rt.alloc(), &wire, &mut out, &mut into),
+        200
+    );
+    Ok(())
+}
+
+// Sends a put where more room was heard of than messages were sent: it isn't refused.
+fn send_surely<R: Wait>(rt: &R, alloc: Global, wire: &Wire, out: &mut OutEnd)
+    requires wire { IsOutOf wire.now out.old }
+    requires lane { wire.now.bounds ≡ record { source = 0; target = 1; lane = Request; messages = wire.now.bounds.messages; bytes = 0 } }
+    requires kept { KeepsBounds wire.now.bounds out.old.sent }
+    requires room { length out.old.sent < wire.now.bounds.messages }
+    requires free { out.old.waits ≡ false }
+    requires heard { length out.old.sent < wire.now.capacity + out.old.heard }
+    ensures { IsOutOf wire.now out.new }
+{
+    let Ok(()) = wire.push(rt, out, put(alloc, 0)) else {
+        unreachable!()
+    };
+}
+
+// A wire is full of what was sent, and then a message is received: once the out end has heard of it, a push isn't refused. Answers whether
+// the message came.
+fn send_after_word<R: Wait>(
+    rt: &R,
+    alloc: Global,
+    wire: &Wire,
+    out: &mut OutEnd,
+    into: &mut InEnd,
+) -> bool
+    requires wire { IsOutOf wire.now out.old × IsInOf wire.now into.old }
+    requires lane { wire.now.bounds ≡ record { source = 0; target = 1; lane = Request; messages = wire.now.bounds.messages; bytes = 0 } }
+    requires kept { KeepsBounds wire.now.bounds out.old.sent }
+    requires room { length out.old.sent < wire.now.bounds.messages }
+    requires free { out.old.waits ≡ false }
+    requires full { length out.old.sent ≤ wire.now.capacity + length into.old.received }
+    ensures { IsOutOf wire.now out.new × IsInOf wire.now into.new }
+{
+    let Some(_number) = receive(rt, wire, into) else {
+        return false;
+    };
+    let word = wire.tell(into);
+    wire.hear(out, word);
+    send_surely(rt, alloc, wire, out);
+    true
+}
+
+#[test]
+fn after_word_of_what_came_out_no_push_is_refused(rt: HostRuntime) -> Result<(), Fail> {
+    let (wire, mut out, mut into) = Wire::open(rt.alloc(), 1, requests(3))?;
+    assert_eq!(rt; send(&rt, rt.alloc(), &wire, &mut out, 5), None);
+    assert!(rt; send_after_word(&rt, rt.alloc(), &wire, &mut out, &mut into));
+    assert_eq!(rt; receive(&rt, &wire, &mut into), Some(0));
     Ok(())
 }
 
