@@ -1,7 +1,7 @@
 //! A text beside the file that says what it is to be.
 
 use json_lang::lines_of;
-use port_io::{SureSink, SureSource};
+use port_io::{IoTurns, MemorySink, SureSink, SureSource};
 use portals_top::{Ran, portals_main};
 use ptl_types::{Bytes, NoMemory};
 use serde_json::Value;
@@ -66,7 +66,9 @@ fn run_words<R: Threads + Wait + Sync>(
     sink: &mut SureSink,
 ) {
     let mut ran = Ran::new();
-    let _status = portals_main(rt, alloc, words, source, sink, &mut ran);
+    // A sink without room: standard error that fails changes nothing.
+    let mut notes = MemorySink::new(alloc, IoTurns::new(alloc));
+    let _status = portals_main(rt, alloc, words, source, sink, &mut notes, &mut ran);
 }
 
 /// What `once` writes of a description.

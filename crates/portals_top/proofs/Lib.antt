@@ -11,3 +11,4 @@ pub mod StepNames
 pub mod Steps
 pub mod Summing
 pub mod Told
+pub mod Telling

@@ -4,6 +4,7 @@ pub mod Checked
 pub mod Choosing
 pub mod Left
 pub mod Due
+pub mod Explained
 pub mod Formats
 pub mod Headline
 pub mod Large

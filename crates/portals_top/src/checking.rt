@@ -6,12 +6,14 @@ ghost use Rattle.order_lines.specs.Check.{read_check};
 ghost use Rattle.run_text.specs.Orders.{fails_line};
 ghost use Rattle.run_text.specs.Putting.{EndsWith};
 ghost use Rattle.shape_plans.specs.Footprint.{refusal};
+ghost use Rattle.portals_top.specs.Explained.{NotesVerdict, Tells};
 ghost use Rattle.portals_top.specs.Checked.{FindsFor, FindsIn, IsVerdictOn, Judges, due_checked, due_judged, due_verdict};
 
-use crate::refusing::{refuse, refuse_plan};
+use crate::refusing::{refuse_plan, refuse_with};
 use crate::status::Status;
 use coll_lang::{Description, ParseFault};
 use coll_shape::Inputs;
+use note_lines::Note;
 use order_check::check;
 use order_lines::{Orders, parse_check};
 use plan_orders::Verdict;
@@ -20,6 +22,7 @@ use ptl_types::{Cause, NoMemory, Rank};
 use run_text::{Pieces, fails_line, write_short};
 use schedule_compiler::{Job, Schedule, compile};
 use std::alloc::Global;
+use text_notes::{explain_fails, explain_text};
 
 const HOLDS: &[u8] = b"holds\n";
 
@@ -74,17 +77,30 @@ fn verdict_on(
     check(alloc, &job, orders)
 }
 
+/// The note of a verdict on the orders of a text.
+fn note_of(text: &[u8], verdict: Verdict) -> Option<Note>
+    ensures { NotesVerdict verdict result }
+{
+    match verdict {
+        Verdict::Holds => None,
+        Verdict::Fails { rank, place, cause } => Some(explain_fails(text, rank, place, cause)),
+    }
+}
+
 /// Finds the verdict on orders of a schedule's ranks, and writes it.
 fn judge<K: Sink>(
     alloc: Global,
     schedule: Schedule,
     inputs: Inputs,
     orders: &Orders,
+    text: &[u8],
     sink: &mut K,
+    told: &mut Option<Note>,
 ) -> Status
     requires given { AreInputs schedule inputs }
     requires lists { length orders.now ≡ schedule.ranks }
-    ensures { Judges (λ found. due_verdict found) (λ found. FindsFor schedule inputs orders.now None found) (K.outflow sink.old) (K.outflow sink.new) result }
+    ensures judged { Judges (λ found. due_verdict found) (λ found. FindsFor schedule inputs orders.now None found) (K.outflow sink.old) (K.outflow sink.new) result }
+    ensures told { Tells result (K.outflow sink.old) (K.outflow sink.new) told.new }
 {
     let Ok(mut out) = Pieces::open(alloc) else {
         return Status::NoMemory;
@@ -92,6 +108,7 @@ fn judge<K: Sink>(
     let Ok(verdict) = verdict_on(alloc, schedule, inputs, orders) else {
         return Status::NoMemory;
     };
+    *told = note_of(text, verdict);
     match write_verdict(&mut out, sink, verdict) {
         Ok(()) => status_of(verdict),
         Err(_) => Status::WriteFault,
@@ -99,26 +116,43 @@ fn judge<K: Sink>(
 }
 
 /// Compiles a description, and judges orders of its ranks.
-fn compiled<K: Sink>(alloc: Global, d: Description, orders: &Orders, sink: &mut K) -> Status
+fn compiled<K: Sink>(
+    alloc: Global,
+    d: Description,
+    orders: &Orders,
+    text: &[u8],
+    sink: &mut K,
+    told: &mut Option<Note>,
+) -> Status
     requires lists { length orders.now ≡ d.shape.ranks }
-    ensures { Judges (λ found. due_judged d.shape found (refusal d.shape))
+    ensures judged { Judges (λ found. due_judged d.shape found (refusal d.shape))
         (λ found. FindsFor d.shape d.inputs orders.now (refusal d.shape) found) (K.outflow sink.old) (K.outflow sink.new) result }
+    ensures told { Tells result (K.outflow sink.old) (K.outflow sink.new) told.new }
 {
     let (shape, inputs) = d.into_parts();
     match compile(alloc, &shape) {
-        Ok(schedule) => judge(alloc, schedule, inputs, orders, sink),
-        Err(fault) => refuse_plan(alloc, sink, &shape, fault),
+        Ok(schedule) => judge(alloc, schedule, inputs, orders, text, sink, told),
+        Err(fault) => refuse_plan(alloc, sink, &shape, fault, told),
     }
 }
 
 /// Answers a description with orders.
-pub(crate) fn judged_text<K: Sink>(alloc: Global, text: &[u8], sink: &mut K) -> Status
-    ensures { Judges (λ found. due_checked found (read_check text.now)) (λ found. FindsIn (read_check text.now) found)
+pub(crate) fn judged_text<K: Sink>(
+    alloc: Global,
+    text: &[u8],
+    sink: &mut K,
+    told: &mut Option<Note>,
+) -> Status
+    ensures judged { Judges (λ found. due_checked found (read_check text.now)) (λ found. FindsIn (read_check text.now) found)
         (K.outflow sink.old) (K.outflow sink.new) result }
+    ensures told { Tells result (K.outflow sink.old) (K.outflow sink.new) told.new }
 {
     match parse_check(alloc, text) {
-        Ok((d, orders)) => compiled(alloc, d, &orders, sink),
-        Err(ParseFault::Refused { line, name }) => refuse(alloc, sink, line, name),
+        Ok((d, orders)) => compiled(alloc, d, &orders, text, sink, told),
+        Err(ParseFault::Refused { line, name }) => {
+            let note = explain_text(text, line, name);
+            refuse_with(alloc, sink, line, name, note, told)
+        }
         Err(ParseFault::NoMemory) => Status::NoMemory,
     }
 }

@@ -3,24 +3,27 @@
 ghost use Rattle.std.specs.Prelude.{◌≡◌, ◌<◌, ◌≤◌, IfOk};
 ghost use Rattle.portals_top.specs.Answered.{HandsBack, LeavesChosen};
 ghost use Rattle.portals_top.specs.Choosing.{IsChoiceInOrder, IsChoiceRun};
-ghost use Rattle.portals_top.specs.Due.{due_chosen, due_in_mode};
+ghost use Rattle.portals_top.specs.Due.{due_chosen, due_in_mode, refused};
+ghost use Rattle.portals_top.specs.Explained.{Tells};
 ghost use Rattle.portals_top.specs.Left.{nothing_ran};
 ghost use Rattle.portals_top.specs.Written.{Written};
 
 use crate::drawing::Words;
 use crate::ran::Ran;
-use crate::refusing::refuse;
+use crate::refusing::refuse_with;
 use crate::status::Status;
 use crate::values::{write_ordered_values, write_values};
 use crate::words::{Command, Mode};
 use crate::writing::status_of;
 use coll_lang::{Choices, Refusal};
 use coll_shape::Shape;
+use note_lines::{About, Cause, Note};
 use plan_choice::{ChoiceWorld, choices_by_words};
 use port_io::Sink;
 use ptl_types::NoMemory;
 use run_text::Pieces;
 use std::alloc::Global;
+use text_notes::plain_note;
 
 /// Runs a choice text in the program's own order.
 fn run_choices(alloc: Global, ranks: u32, choices: &Choices) -> Result<ChoiceWorld, NoMemory>
@@ -104,6 +107,15 @@ fn sim<K: Sink>(
     status_of(written)
 }
 
+/// Refuses a choice text.
+fn refuse_choices<K: Sink>(alloc: Global, sink: &mut K, told: &mut Option<Note>) -> Status
+    ensures written { Written (refused 0 Refusal.OneThread) (K.outflow sink.old) (K.outflow sink.new) result }
+    ensures told { Tells result (K.outflow sink.old) (K.outflow sink.new) told.new }
+{
+    let note = plain_note(0, About::Refused(Cause::OneThread));
+    refuse_with(alloc, sink, 0, Refusal::OneThread, note, told)
+}
+
 /// Answers a choice text in a mode: it is run on one thread alone.
 fn in_mode<K: Sink>(
     alloc: Global,
@@ -112,6 +124,7 @@ fn in_mode<K: Sink>(
     choices: &Choices,
     sink: &mut K,
     ran: &mut Ran,
+    told: &mut Option<Note>,
 ) -> Status
     requires some { 0 < ranks }
     requires few { ranks ≤ 256 }
@@ -119,12 +132,13 @@ fn in_mode<K: Sink>(
     ensures written { Written (due_in_mode mode choices.now ran.new.choice) (K.outflow sink.old) (K.outflow sink.new) result }
     ensures world { HandsBack result (due_in_mode mode choices.now ran.new.choice).status
         (LeavesChosen (Command.Execute mode) ranks choices.now) ran.new }
+    ensures told { Tells result (K.outflow sink.old) (K.outflow sink.new) told.new }
 {
     match mode {
         Mode::Once => once(alloc, ranks, choices, sink, ran),
         Mode::Sim { seed } => sim(alloc, ranks, choices, seed, sink, ran),
         Mode::Run { .. } | Mode::Trace { .. } | Mode::Steady { .. } => {
-            refuse(alloc, sink, 0, Refusal::OneThread)
+            refuse_choices(alloc, sink, told)
         }
     }
 }
@@ -137,15 +151,17 @@ pub(crate) fn chosen<K: Sink>(
     choices: &Choices,
     sink: &mut K,
     ran: &mut Ran,
+    told: &mut Option<Note>,
 ) -> Status
     requires { ran.old ≡ nothing_ran }
     ensures written { Written (due_chosen command choices.now ran.new.choice) (K.outflow sink.old) (K.outflow sink.new) result }
     ensures world { HandsBack result (due_chosen command choices.now ran.new.choice).status
         (LeavesChosen command shape.now.ranks choices.now) ran.new }
+    ensures told { Tells result (K.outflow sink.old) (K.outflow sink.new) told.new }
 {
     shape.keeps_form();
     match command {
-        Command::Execute(mode) => in_mode(alloc, mode, shape.ranks(), choices, sink, ran),
-        Command::Plan => refuse(alloc, sink, 0, Refusal::OneThread),
+        Command::Execute(mode) => in_mode(alloc, mode, shape.ranks(), choices, sink, ran, told),
+        Command::Plan => refuse_choices(alloc, sink, told),
     }
 }

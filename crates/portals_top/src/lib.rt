@@ -14,6 +14,7 @@ mod ran;
 mod reading;
 mod refusing;
 mod running;
+mod saying;
 mod status;
 mod top;
 mod values;

@@ -8,6 +8,7 @@ ghost use Rattle.portals_top.specs.Answered.{IsTold, LeavesDescribed, LeavesOf, 
 ghost use Rattle.portals_top.specs.Begun.{Begins, BeginsCall, IsLeft, IsLeftOf, IsLeftOfDescribed};
 ghost use Rattle.portals_top.specs.Checked.{AnswersTo, Checked};
 ghost use Rattle.portals_top.specs.Due.{due, due_compiled, due_described, due_of};
+ghost use Rattle.portals_top.specs.Explained.{Explained, Tells, TellsBegun};
 ghost use Rattle.portals_top.specs.Formats.{read_as};
 ghost use Rattle.portals_top.specs.Left.{nothing_ran};
 ghost use Rattle.portals_top.specs.Words.{CanDo, HasWorkers, request};
@@ -23,10 +24,12 @@ use crate::ran::Ran;
 use crate::reading::{ReadError, read_text};
 use crate::refusing::{refuse, refuse_plan};
 use crate::running::{run, run_alone};
+use crate::saying::say_beside;
 use crate::status::Status;
 use crate::words::{Command, Mode, Request, Task, request_in};
 use coll_lang::{Description, LONGEST_TEXT, ParseFault};
 use coll_shape::Shape;
+use note_lines::Note;
 use order_lines::LONGEST_CHECK;
 use plan_done::counted_shape;
 use port_io::{Sink, Source};
@@ -52,13 +55,14 @@ fn usage<K: Sink>(sink: &mut K) -> Status
 }
 
 /// Writes the plan of a shape. What its ranks install isn't made.
-fn planned<K: Sink>(alloc: Global, shape: &Shape, sink: &mut K) -> Status
-    ensures { (inputs : Lists) (ran : Option WorldState) →
+fn planned<K: Sink>(alloc: Global, shape: &Shape, sink: &mut K, told: &mut Option<Note>) -> Status
+    ensures written { (inputs : Lists) (ran : Option WorldState) →
         Written (due_compiled Command.Plan shape.now inputs ran (refusal shape.now)) (K.outflow sink.old) (K.outflow sink.new) result }
+    ensures told { Tells result (K.outflow sink.old) (K.outflow sink.new) told.new }
 {
     match counted_shape(alloc, shape) {
         Ok(counted) => plan(alloc, sink, counted),
-        Err(fault) => refuse_plan(alloc, sink, shape, fault),
+        Err(fault) => refuse_plan(alloc, sink, shape, fault, told),
     }
 }
 
@@ -69,12 +73,14 @@ fn executed<K: Sink>(
     d: Description,
     sink: &mut K,
     ran: &mut Ran,
+    told: &mut Option<Note>,
 ) -> Begun
     requires workers { HasWorkers mode }
     requires none { ran.old ≡ nothing_ran }
-    ensures { Begins (λ after. due_compiled (Command.Execute mode) d.shape d.inputs after.world (refusal d.shape))
+    ensures begun { Begins (λ after. due_compiled (Command.Execute mode) d.shape d.inputs after.world (refusal d.shape))
         (LeavesWorld (Command.Execute mode) d.shape d.inputs) (IsLeft (Command.Execute mode) d.shape d.inputs (refusal d.shape))
         (K.outflow sink.old) (K.outflow sink.new) ran.new result }
+    ensures told { TellsBegun result (K.outflow sink.old) (K.outflow sink.new) told.new }
 {
     let (shape, inputs) = d.into_parts();
     match compile(alloc, &shape) {
@@ -82,7 +88,7 @@ fn executed<K: Sink>(
             Ok(job) => run_alone(alloc, mode, job, sink, ran),
             Err(_) => Begun::Answered(Status::NoMemory),
         },
-        Err(fault) => Begun::Answered(refuse_plan(alloc, sink, &shape, fault)),
+        Err(fault) => Begun::Answered(refuse_plan(alloc, sink, &shape, fault, told)),
     }
 }
 
@@ -93,15 +99,17 @@ fn compiled<K: Sink>(
     d: Description,
     sink: &mut K,
     ran: &mut Ran,
+    told: &mut Option<Note>,
 ) -> Begun
     requires workers { CanDo command }
     requires none { ran.old ≡ nothing_ran }
-    ensures { Begins (λ after. due_compiled command d.shape d.inputs after.world (refusal d.shape)) (LeavesWorld command d.shape d.inputs)
+    ensures begun { Begins (λ after. due_compiled command d.shape d.inputs after.world (refusal d.shape)) (LeavesWorld command d.shape d.inputs)
         (IsLeft command d.shape d.inputs (refusal d.shape)) (K.outflow sink.old) (K.outflow sink.new) ran.new result }
+    ensures told { TellsBegun result (K.outflow sink.old) (K.outflow sink.new) told.new }
 {
     match command {
-        Command::Execute(mode) => executed(alloc, mode, d, sink, ran),
-        Command::Plan => Begun::Answered(planned(alloc, d.shape(), sink)),
+        Command::Execute(mode) => executed(alloc, mode, d, sink, ran, told),
+        Command::Plan => Begun::Answered(planned(alloc, d.shape(), sink, told)),
     }
 }
 
@@ -112,15 +120,19 @@ fn described<K: Sink>(
     d: Description,
     sink: &mut K,
     ran: &mut Ran,
+    told: &mut Option<Note>,
 ) -> Begun
     requires workers { CanDo command }
     requires none { ran.old ≡ nothing_ran }
-    ensures { Begins (λ after. due_described command d after d.choices) (LeavesDescribed command d d.choices)
+    ensures begun { Begins (λ after. due_described command d after d.choices) (LeavesDescribed command d d.choices)
         (IsLeftOfDescribed command d d.choices) (K.outflow sink.old) (K.outflow sink.new) ran.new result }
+    ensures told { TellsBegun result (K.outflow sink.old) (K.outflow sink.new) told.new }
 {
     match d.choices() {
-        Some(choices) => { Begun::Answered(chosen(alloc, command, d.shape(), choices, sink, ran)) }
-        None => compiled(alloc, command, d, sink, ran),
+        Some(choices) => {
+            Begun::Answered(chosen(alloc, command, d.shape(), choices, sink, ran, told))
+        }
+        None => compiled(alloc, command, d, sink, ran, told),
     }
 }
 
@@ -145,15 +157,17 @@ fn answer<R: Threads + Sync, K: Sink>(
     text: Vec<u8>,
     sink: &mut K,
     ran: &mut Ran,
+    told: &mut Option<Note>,
 ) -> Begun
     requires workers { CanDo task.command }
     requires none { ran.old ≡ nothing_ran }
-    ensures { Begins (λ after. due_of task.command after (read_as task.format text.items)) (LeavesOf task.command (read_as task.format text.items))
+    ensures begun { Begins (λ after. due_of task.command after (read_as task.format text.items)) (LeavesOf task.command (read_as task.format text.items))
         (IsLeftOf task.command (read_as task.format text.items)) (K.outflow sink.old) (K.outflow sink.new) ran.new result }
+    ensures told { TellsBegun result (K.outflow sink.old) (K.outflow sink.new) told.new }
 {
     let threads = readers_for(task.command);
-    match parse_text(rt, alloc, threads, task.format, text) {
-        Ok(d) => described(alloc, task.command, d, sink, ran),
+    match parse_text(rt, alloc, threads, task.format, text, told) {
+        Ok(d) => described(alloc, task.command, d, sink, ran, told),
         Err(ParseFault::Refused { line, name }) => {
             Begun::Answered(refuse(alloc, sink, line, name))
         }
@@ -169,28 +183,70 @@ fn read_and_answer<R: Threads + Sync, S: Source, K: Sink>(
     source: &mut S,
     sink: &mut K,
     ran: &mut Ran,
+    told: &mut Option<Note>,
 ) -> Begun
     requires workers { CanDo task.command }
     requires none { ran.old ≡ nothing_ran }
-    ensures { (bytes : List ℕ) × IsTold (S.inflow source.old).left bytes
+    ensures begun { (bytes : List ℕ) × IsTold (S.inflow source.old).left bytes
         × BeginsCall (Some (Request.Do task)) bytes (S.inflow source.old) (S.inflow source.new) (K.outflow sink.old) (K.outflow sink.new) ran.new result }
+    ensures told { TellsBegun result (K.outflow sink.old) (K.outflow sink.new) told.new }
 {
     match read_text(alloc, LONGEST_TEXT, source) {
-        Ok(text) => answer(rt, alloc, task, text, sink, ran),
+        Ok(text) => answer(rt, alloc, task, text, sink, ran, told),
         Err(ReadError::Failed) => Begun::Answered(Status::ReadFault),
         Err(ReadError::NoMemory) => Begun::Answered(Status::NoMemory),
     }
 }
 
 /// Reads a description with orders and answers it. No world is left.
-fn read_and_check<S: Source, K: Sink>(alloc: Global, source: &mut S, sink: &mut K) -> Status
-    ensures { (bytes : List ℕ) × IsTold (S.inflow source.old).left bytes
+fn read_and_check<S: Source, K: Sink>(
+    alloc: Global,
+    source: &mut S,
+    sink: &mut K,
+    told: &mut Option<Note>,
+) -> Status
+    ensures checked { (bytes : List ℕ) × IsTold (S.inflow source.old).left bytes
         × Checked bytes (S.inflow source.old) (S.inflow source.new) (K.outflow sink.old) (K.outflow sink.new) nothing_ran result }
+    ensures told { Tells result (K.outflow sink.old) (K.outflow sink.new) told.new }
 {
     match read_text(alloc, LONGEST_CHECK, source) {
-        Ok(text) => judged_text(alloc, text.as_slice(), sink),
+        Ok(text) => judged_text(alloc, text.as_slice(), sink, told),
         Err(ReadError::Failed) => Status::ReadFault,
         Err(ReadError::NoMemory) => Status::NoMemory,
+    }
+}
+
+/// What one thread does. The note of a refusal is kept.
+fn started<R: Threads + Sync, S: Source, K: Sink>(
+    rt: &R,
+    alloc: Global,
+    words: &[String],
+    source: &mut S,
+    sink: &mut K,
+    ran: &mut Ran,
+    told: &mut Option<Note>,
+) -> Begun
+    ensures begun { (bytes : List ℕ) × IsTold (S.inflow source.old).left bytes
+        × BeginsCall (request (map string_bytes words.now)) bytes (S.inflow source.old) (S.inflow source.new) (K.outflow sink.old) (K.outflow sink.new) ran.new result }
+    ensures told { TellsBegun result (K.outflow sink.old) (K.outflow sink.new) told.new }
+{
+    ran.world = None;
+    ran.choice = None;
+    ran.spent = None;
+    // The text that is read then grows in memory that the process has already.
+    reach_ahead(alloc);
+    match request_in(words) {
+        Some(Request::Do(task)) => read_and_answer(rt, alloc, task, source, sink, ran, told),
+        Some(Request::Large { number, workers }) => match generated_job(alloc, number) {
+            Ok(job) => Begun::Large {
+                number,
+                workers,
+                job,
+            },
+            Err(_) => Begun::Answered(Status::NoMemory),
+        },
+        Some(Request::Check) => Begun::Answered(read_and_check(alloc, source, sink, told)),
+        None => Begun::Answered(usage(sink)),
     }
 }
 
@@ -209,29 +265,12 @@ pub fn begin<R: Threads + Sync, S: Source, K: Sink>(
     ensures { (bytes : List ℕ) × IsTold (S.inflow source.old).left bytes
         × BeginsCall (request (map string_bytes words.now)) bytes (S.inflow source.old) (S.inflow source.new) (K.outflow sink.old) (K.outflow sink.new) ran.new result }
 {
-    ran.world = None;
-    ran.choice = None;
-    ran.spent = None;
-    // The text that is read then grows in memory that the process has already.
-    reach_ahead(alloc);
-    match request_in(words) {
-        Some(Request::Do(task)) => read_and_answer(rt, alloc, task, source, sink, ran),
-        Some(Request::Large { number, workers }) => match generated_job(alloc, number) {
-            Ok(job) => Begun::Large {
-                number,
-                workers,
-                job,
-            },
-            Err(_) => Begun::Answered(Status::NoMemory),
-        },
-        Some(Request::Check) => Begun::Answered(read_and_check(alloc, source, sink)),
-        None => Begun::Answered(usage(sink)),
-    }
+    let mut told = None;
+    started(rt, alloc, words, source, sink, ran, &mut told)
 }
 
-/// The whole program, with a gate that workers pass: each passes it while it has the turn of a rank, before a start and a firing, and
-/// between the pop of a message and its receipt. All else is as `portals_main` says.
-pub fn run_with_gate<R: Threads + Wait + Sync, S: Source, K: Sink, G: Gate>(
+/// The whole program but what is said on standard error. The note of a refusal is kept.
+fn answered<R: Threads + Wait + Sync, S: Source, K: Sink, G: Gate>(
     rt: &R,
     alloc: Global,
     words: &[String],
@@ -239,11 +278,13 @@ pub fn run_with_gate<R: Threads + Wait + Sync, S: Source, K: Sink, G: Gate>(
     sink: &mut K,
     gate: &G,
     ran: &mut Ran,
+    told: &mut Option<Note>,
 ) -> Status
-    ensures { (bytes : List ℕ) × IsTold (S.inflow source.old).left bytes
+    ensures answers { (bytes : List ℕ) × IsTold (S.inflow source.old).left bytes
         × AnswersTo (request (map string_bytes words.now)) bytes (S.inflow source.old) (S.inflow source.new) (K.outflow sink.old) (K.outflow sink.new) ran.new result }
+    ensures told { Tells result (K.outflow sink.old) (K.outflow sink.new) told.new }
 {
-    match begin(rt, alloc, words, source, sink, ran) {
+    match started(rt, alloc, words, source, sink, ran, told) {
         Begun::Answered(status) => status,
         Begun::Run { crew, job } => run(rt, alloc, gate, crew, &job, sink, ran),
         Begun::Large {
@@ -252,6 +293,28 @@ pub fn run_with_gate<R: Threads + Wait + Sync, S: Source, K: Sink, G: Gate>(
             job,
         } => large(rt, alloc, gate, number, workers, &job, sink, ran),
     }
+}
+
+/// The whole program, with a gate that workers pass: each passes it while it has the turn of a rank, before a start and a firing, and
+/// between the pop of a message and its receipt. All else is as `portals_main` says.
+pub fn run_with_gate<R: Threads + Wait + Sync, S: Source, K: Sink, N: Sink, G: Gate>(
+    rt: &R,
+    alloc: Global,
+    words: &[String],
+    source: &mut S,
+    sink: &mut K,
+    notes: &mut N,
+    gate: &G,
+    ran: &mut Ran,
+) -> Status
+    ensures answers { (bytes : List ℕ) × IsTold (S.inflow source.old).left bytes
+        × AnswersTo (request (map string_bytes words.now)) bytes (S.inflow source.old) (S.inflow source.new) (K.outflow sink.old) (K.outflow sink.new) ran.new result }
+    ensures explained { Explained result (K.outflow sink.old) (K.outflow sink.new) (N.outflow notes.old) (N.outflow notes.new) }
+{
+    let mut told = None;
+    let status = answered(rt, alloc, words, source, sink, gate, ran, &mut told);
+    say_beside(notes, words, status, &told);
+    status
 }
 
 /// The whole program: reads what the words ask for from the source, writes the text that is owed to the sink, and answers
@@ -269,16 +332,22 @@ pub fn run_with_gate<R: Threads + Wait + Sync, S: Source, K: Sink, G: Gate>(
 /// The world that ran, or the choice world, is handed back in `ran`, where a result was owed and the run was made; after every
 /// other answer there is none, whatever there was before. Of a source that doesn't tell its bytes there are bytes for which all
 /// this holds; of a sink that doesn't tell what it took nothing is said of the text.
-pub fn portals_main<R: Threads + Wait + Sync, S: Source, K: Sink>(
+///
+/// What a person is to know stands in `notes`: beside a result nothing, beside the line of a refusal or of orders that fail the line of
+/// a note of it, beside the usage line which word is wrong and a line for each form, and beside a fault or want of memory a line. What
+/// fails there changes nothing.
+pub fn portals_main<R: Threads + Wait + Sync, S: Source, K: Sink, N: Sink>(
     rt: &R,
     alloc: Global,
     words: &[String],
     source: &mut S,
     sink: &mut K,
+    notes: &mut N,
     ran: &mut Ran,
 ) -> Status
-    ensures { (bytes : List ℕ) × IsTold (S.inflow source.old).left bytes
+    ensures answers { (bytes : List ℕ) × IsTold (S.inflow source.old).left bytes
         × AnswersTo (request (map string_bytes words.now)) bytes (S.inflow source.old) (S.inflow source.new) (K.outflow sink.old) (K.outflow sink.new) ran.new result }
+    ensures explained { Explained result (K.outflow sink.old) (K.outflow sink.new) (N.outflow notes.old) (N.outflow notes.new) }
 {
-    run_with_gate(rt, alloc, words, source, sink, &OpenGate, ran)
+    run_with_gate(rt, alloc, words, source, sink, notes, &OpenGate, ran)
 }

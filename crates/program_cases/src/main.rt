@@ -14,6 +14,8 @@ mod json;
 #[cfg(test)]
 mod memory_walk;
 #[cfg(test)]
+mod notes;
+#[cfg(test)]
 mod pieces;
 #[cfg(test)]
 mod plans;

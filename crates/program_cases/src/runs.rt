@@ -1,7 +1,7 @@
 //! Runs of the program between sources and sinks in memory.
 
 use crate::comparing::{same, same_bytes};
-use port_io::{Failed, Sink, Source, SureSink, SureSource};
+use port_io::{Failed, IoTurns, MemorySink, Sink, Source, SureSink, SureSource};
 use portals_top::{Ran, Status, portals_main};
 use ptl_types::Bytes;
 use std::alloc::{AllocError, Global};
@@ -49,15 +49,16 @@ fn left_by(status: Status, ran: &Ran) -> Left {
 }
 
 /// Runs these words: the only call of the program.
-fn run_words<S: Source, K: Sink>(
+fn run_words<S: Source, K: Sink, N: Sink>(
     rt: &(impl Threads + Wait + Sync),
     alloc: Global,
     words: &[String],
     source: &mut S,
     sink: &mut K,
+    notes: &mut N,
 ) -> Left {
     let mut ran = Ran::new();
-    let status = portals_main(rt, alloc, words, source, sink, &mut ran);
+    let status = portals_main(rt, alloc, words, source, sink, notes, &mut ran);
     left_by(status, &ran)
 }
 
@@ -69,7 +70,29 @@ fn words_of(alloc: Global, command: &[&str]) -> Result<Vec<String>, AllocError> 
     Ok(words)
 }
 
-/// Runs words between these ends. Without memory for the words it is as in a run without memory.
+/// Runs words on bytes, and keeps what is written beside the answer, of which there is at most a few lines.
+pub(crate) fn run_noted(
+    rt: &(impl Threads + Wait + Sync),
+    alloc: Global,
+    command: &[&str],
+    bytes: &[u8],
+) -> Result<SureSink, Fail> {
+    let words = words_of(alloc, command)?;
+    let mut source = SureSource::new(Bytes::of(alloc, bytes)?);
+    let mut sink = SureSink::with_room(alloc, ROOM)?;
+    let mut notes = SureSink::with_room(alloc, ROOM)?;
+    run_words(
+        rt,
+        alloc,
+        words.as_slice(),
+        &mut source,
+        &mut sink,
+        &mut notes,
+    );
+    Ok(notes)
+}
+
+/// Runs words between these ends, beside a standard error that fails. Without memory for the words it is as in a run without memory.
 pub(crate) fn run_between<S: Source, K: Sink>(
     rt: &(impl Threads + Wait + Sync),
     alloc: Global,
@@ -78,7 +101,10 @@ pub(crate) fn run_between<S: Source, K: Sink>(
     sink: &mut K,
 ) -> Left {
     match words_of(alloc, command) {
-        Ok(words) => run_words(rt, alloc, words.as_slice(), source, sink),
+        Ok(words) => {
+            let mut notes = MemorySink::new(alloc, IoTurns::new(alloc));
+            run_words(rt, alloc, words.as_slice(), source, sink, &mut notes)
+        }
         Err(_) => no_world(Status::NoMemory),
     }
 }

@@ -1,7 +1,7 @@
 //! Runs of the program between a source and a sink in memory, with a gate.
 
 use crate::comparing::{same, same_bytes};
-use port_io::{Sink, Source, SureSink, SureSource};
+use port_io::{IoTurns, MemorySink, Sink, Source, SureSink, SureSource};
 use portals_top::{Ran, Status, run_with_gate};
 use ptl_types::Bytes;
 use rank_threads::{Gate, OpenGate};
@@ -57,7 +57,9 @@ fn run_words<S: Source, K: Sink, G: Gate>(
     sink: &mut K,
 ) -> Left {
     let mut ran = Ran::new();
-    let status = run_with_gate(rt, alloc, words, source, sink, gate, &mut ran);
+    // A sink without room: standard error that fails changes nothing.
+    let mut notes = MemorySink::new(alloc, IoTurns::new(alloc));
+    let status = run_with_gate(rt, alloc, words, source, sink, &mut notes, gate, &mut ran);
     left_by(status, &ran)
 }
 

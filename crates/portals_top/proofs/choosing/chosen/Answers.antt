@@ -5,10 +5,12 @@ pub returns-in-Execute : goal.returns-in-Execute
 returns-in-Execute g c = rw (c.in-Execute.is, ← c.ranks.ensures.value) (record {
   written = c.in_mode.ensures.written;
   world = c.in_mode.ensures.world;
+  told = c.in_mode.ensures.told;
 })
 
 pub returns-in-Plan : goal.returns-in-Plan
 returns-in-Plan g c = rw (c.in-Plan.is, c.requires) (record {
-  written = c.refuse.ensures;
-  world = no-world-refused _ _ c.refuse.ensures.allowed;
+  written = c.refuse_choices.ensures.written;
+  world = no-world-refused _ _ c.refuse_choices.ensures.written.allowed;
+  told = c.refuse_choices.ensures.told;
 })

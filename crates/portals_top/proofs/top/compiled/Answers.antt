@@ -6,7 +6,10 @@ use Rattle.portals_top.proofs.Answering.{no-world}
 use Rattle.portals_top.proofs.top.compiled.Goals as goal
 
 pub returns-in-Plan : goal.returns-in-Plan
-returns-in-Plan g c = rw (c.in-Plan.is, c.requires.none) (
-  rw (← c.shape.ensures.shape) (c.planned.ensures c.args.d.inputs None),
-  no-world (LeavesWorld Plan c.args.d.shape c.args.d.inputs) c.planned.result _ refl,
-)
+returns-in-Plan g c = record {
+  begun = rw (c.in-Plan.is, c.requires.none) (
+    rw (← c.shape.ensures.shape) (c.planned.ensures.written c.args.d.inputs None),
+    no-world (LeavesWorld Plan c.args.d.shape c.args.d.inputs) c.planned.result _ refl,
+  );
+  told = c.planned.ensures.told;
+}

@@ -10,10 +10,16 @@ returns-in-Ok g c =
     let source' = g.S.Source.inflow c.read_text.new.source in
     let read = c.in-Ok.ensures.text in
     let told = told-read LONGEST_TEXT source.left source'.left c.in-Ok.text.items read.front read.short read.whole in
-    (told.bytes, told.told, begun-read c.args.task c.in-Ok.text.items source source' _ _ _ _ told c.answer.ensures)
+    record {
+      begun = (told.bytes, told.told, begun-read c.args.task c.in-Ok.text.items source source' _ _ _ _ told c.answer.ensures.begun);
+      told = c.answer.ensures.told;
+    }
 
 pub returns-in-Err-Failed : goal.returns-in-Err-Failed
-returns-in-Err-Failed g c = rw c.requires.none (answered-failed c.args.task _ _ _ (c.in-Err-Failed.ensures.failed c.in-Err-Failed.field-0-is))
+returns-in-Err-Failed g c = record {
+  begun = rw c.requires.none (answered-failed c.args.task _ _ _ (c.in-Err-Failed.ensures.failed c.in-Err-Failed.field-0-is));
+  told = tt;
+}
 
 pub returns-in-Err-NoMemory : goal.returns-in-Err-NoMemory
-returns-in-Err-NoMemory g c = rw c.requires.none (answered-no_memory c.args.task _ _ _)
+returns-in-Err-NoMemory g c = record { begun = rw c.requires.none (answered-no_memory c.args.task _ _ _); told = tt }

@@ -9,10 +9,16 @@ returns-in-Ok g c =
     let source' = g.S.Source.inflow c.read_text.new.source in
     let read = c.in-Ok.ensures.text in
     let told = told-read LONGEST_CHECK source.left source'.left c.in-Ok.text.items read.front read.short read.whole in
-    (told.bytes, told.told, checked-read c.in-Ok.text.items source source' _ _ _ told (rw c.as_slice.ensures.value at c.judged_text.ensures))
+    record {
+      checked = (told.bytes, told.told, checked-read c.in-Ok.text.items source source' _ _ _ told (rw c.as_slice.ensures.value at c.judged_text.ensures.judged));
+      told = c.judged_text.ensures.told;
+    }
 
 pub returns-in-Err-Failed : goal.returns-in-Err-Failed
-returns-in-Err-Failed g c = checked-failed _ _ _ (c.in-Err-Failed.ensures.failed c.in-Err-Failed.field-0-is)
+returns-in-Err-Failed g c = record {
+  checked = checked-failed _ _ _ (c.in-Err-Failed.ensures.failed c.in-Err-Failed.field-0-is);
+  told = tt;
+}
 
 pub returns-in-Err-NoMemory : goal.returns-in-Err-NoMemory
-returns-in-Err-NoMemory g c = checked-no_memory _ _ _
+returns-in-Err-NoMemory g c = record { checked = checked-no_memory _ _ _; told = tt }
