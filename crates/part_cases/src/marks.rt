@@ -1,26 +1,26 @@
-//! Numbers are marked, counted and found.
+//! Places are marked, counted and found.
 
 use crate::answers::gives;
-use number_marks::Marks;
+use place_marks::Marks;
 use std::test::Fail;
 
 #[test]
 fn marks_are_counted_and_found_in_order(rt: HostRuntime) -> Result<(), Fail> {
-    let mut marks = Marks::open(rt.alloc(), 3)?;
-    assert!(rt; !marks.is_full());
-    marks.push(2);
-    marks.push(5);
-    marks.push(9);
-    assert!(rt; marks.is_full());
-    gives!(rt; marks.count(), 0);
-    marks.mark(9, true);
-    marks.mark(2, true);
-    gives!(rt; marks.count(), 2);
-    if marks.count() > 1 {
-        gives!(rt; marks.at(0), 2);
-        gives!(rt; marks.at(1), 9);
+    let mut marks = Marks::open(rt.alloc(), 200)?;
+    for place in 0..200 {
+        marks.mark(place, place % 3 == 0);
     }
-    marks.mark(2, false);
-    gives!(rt; marks.count(), 1);
+    gives!(rt; marks.total(), 67);
+    for i in 0..67 {
+        if i < marks.total() {
+            gives!(rt; marks.find(i), 3 * i as usize);
+        }
+    }
+    marks.mark(63, false);
+    marks.mark(63, false);
+    gives!(rt; marks.total(), 66);
+    if marks.total() > 21 {
+        gives!(rt; marks.find(21), 66);
+    }
     Ok(())
 }

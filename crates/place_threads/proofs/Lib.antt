@@ -1,2 +1,3 @@
+pub mod InsertLemmas
 pub mod LinkLemmas
 pub mod ThreadLemmas

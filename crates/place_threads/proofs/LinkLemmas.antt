@@ -1,7 +1,8 @@
 -- What one write to a link makes of the nodes.
-use Rattle.std.proofs.Common.{◌≡◌, ℕ, zero, suc, ◌<◌, List, [], ◌∷◌, length, get_or, set, replicate, None, refl, ap, arith}
+use Rattle.std.proofs.Common.{◌≡◌, ℕ, zero, suc, ◌+◌, ◌-◌, ◌^◌, ◌<◌, List, [], ◌∷◌, length, get_or, set, replicate, Option, Some, None, refl, ap, arith, add-one}
+use Rattle.std.specs.Option.{IfSome}
 use Rattle.place_threads.specs.declared.links.Link.{Link}
-use Rattle.place_threads.specs.Nodes.{node_of, nodes_of}
+use Rattle.place_threads.specs.Nodes.{place_in, node_of, nodes_of}
 
 pub length-nodes : (ls : List Link) → length (nodes_of ls) ≡ length ls
 length-nodes [] = refl
@@ -20,3 +21,15 @@ set-nodes (k ∷ ls) (suc i) l = ap (λ r. node_of k ∷ r) (set-nodes ls i l)
 pub nodes-replicate : (n : ℕ) (l : Link) → nodes_of (replicate n l) ≡ replicate n (node_of l)
 nodes-replicate zero l = refl
 nodes-replicate (suc n) l = ap (λ r. node_of l ∷ r) (nodes-replicate n l)
+
+-- ---- neighbours as words
+pub code-next : (p : ℕ) → place_in (p + 1) ≡ Some p
+code-next p = ap place_in (add-one p)
+
+pub place-before : (k : ℕ) → (k ≡ 0 → ⊥) → Some (k - 1) ≡ place_in k
+place-before zero n = absurd (n refl)
+place-before (suc k) n = ap (λ i. Some i) (let e : suc k - 1 ≡ k = omega arith in e)
+
+pub code-fits : (o : Option ℕ) (n : ℕ) → n < 2 ^ 32 → IfSome o (λ p. p < n) → IfSome o (λ p. p < 2 ^ 32 - 1)
+code-fits None n few lt = tt
+code-fits (Some p) n few lt = omega (arith, few, lt)

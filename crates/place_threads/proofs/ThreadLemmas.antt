@@ -1,5 +1,5 @@
 -- Threads of places: what putting a place on one and taking it off make of the nodes, and that the threads are what the nodes link.
-use Rattle.std.proofs.Common.{◌≡◌, ◌≢◌, ℕ, zero, suc, ◌+◌, ◌<◌, ◌≤◌, Bool, true, false, cond, nat_eq, ◌||◌, replicate, List, [], ◌∷◌, ◌++◌, map, length, get_or, set, Option, Some, None, refl, sym, ap, subst, ◌∙◌, inl, inr, arith}
+use Rattle.std.proofs.Common.{◌≡◌, ◌≢◌, ℕ, zero, suc, ◌<◌, ◌≤◌, Bool, true, false, cond, nat_eq, ◌||◌, replicate, List, [], ◌∷◌, ◌++◌, map, length, get_or, set, Option, Some, None, refl, sym, ap, subst, ◌∙◌, inl, inr, arith}
 use Rattle.std.proofs.lemmas.Bool.{cases_lt, ne_eqb, eq-eqb}
 use Rattle.std.proofs.lemmas.Bool.Decides.{eqb_tells}
 use Rattle.std.proofs.lemmas.List.{get_or-set_same, get_or-set_other, length-set, length-map, length-replicate, get_or-replicate, get_or_past, get_or_default}
@@ -32,7 +32,7 @@ first-on k [] = refl
 first-on k (p ∷ ps) = refl
 
 -- ---- the thread of a place
-abbrev value_of : Option (Node ℕ) → Option ℕ
+abbrev pub value_of : Option (Node ℕ) → Option ℕ
 value_of None = None
 value_of (Some n) = Some n.value
 
@@ -44,17 +44,17 @@ NotAt-other : (cs : List (Option (Node ℕ))) (b : Option ℕ) (j : ℕ) (ps : L
 NotAt-other cs b j [] a q l n = tt
 NotAt-other cs b j (p ∷ ps) a q l n = ((λ e. n (subst (λ i. thread_in cs i ≡ Some j) e (ap value_of l.0))), NotAt-other cs (Some p) j ps a q l.1 n)
 
-last-thread : (cs : List (Option (Node ℕ))) (b : Option ℕ) (k : ℕ) (ps : List ℕ) (a : Option ℕ) (q : ℕ) → Linked cs b (on k ps) a → (b ≡ Some q → thread_in cs q ≡ Some k)
+pub last-thread : (cs : List (Option (Node ℕ))) (b : Option ℕ) (k : ℕ) (ps : List ℕ) (a : Option ℕ) (q : ℕ) → Linked cs b (on k ps) a → (b ≡ Some q → thread_in cs q ≡ Some k)
     → last_or b (on k ps) ≡ Some q → thread_in cs q ≡ Some k
 last-thread cs b k [] a q l h e = h e
 last-thread cs b k (p ∷ ps) a q l h e =
     last-thread cs (Some p) k ps a q l.1 (λ f. let same : p ≡ q = cc in subst (λ i. thread_in cs i ≡ Some k) same (ap value_of l.0)) e
 
-first-thread : (cs : List (Option (Node ℕ))) (b : Option ℕ) (k : ℕ) (ps : List ℕ) (a : Option ℕ) (q : ℕ) → Linked cs b (on k ps) a → first_or (on k ps) None ≡ Some q → thread_in cs q ≡ Some k
+pub first-thread : (cs : List (Option (Node ℕ))) (b : Option ℕ) (k : ℕ) (ps : List ℕ) (a : Option ℕ) (q : ℕ) → Linked cs b (on k ps) a → first_or (on k ps) None ≡ Some q → thread_in cs q ≡ Some k
 first-thread cs b k [] a q l e = cc
 first-thread cs b k (p ∷ ps) a q l e = let same : p ≡ q = cc in subst (λ i. thread_in cs i ≡ Some k) same (ap value_of l.0)
 
-apart-threads : (cs : List (Option (Node ℕ))) (j k : ℕ) (ps : List ℕ) (q : ℕ) → Linked cs None (on j ps) None → j ≢ k → thread_in cs q ≡ Some k → NotAt q (on j ps)
+pub apart-threads : (cs : List (Option (Node ℕ))) (j k : ℕ) (ps : List ℕ) (q : ℕ) → Linked cs None (on j ps) None → j ≢ k → thread_in cs q ≡ Some k → NotAt q (on j ps)
 apart-threads cs j k ps q l n t = NotAt-other cs None j ps None q l (λ e. let same : j ≡ k = cc in n same)
 
 -- ---- places on a thread
@@ -362,7 +362,7 @@ unlinked cs cs1 cs2 es xss k p t b a e e' inv s (it, ib, ia) read e1 e2 f g =
       ap length all ∙ ChainLemmas.length-places_before a' b' (places_after b' a' cs) ∙ ChainLemmas.length-places_after b' a' cs,
     )
 
-some_within : (cs : List (Option (Node ℕ))) (o : Option ℕ) → IfSome o (λ q. is_some (get_or cs q None) ≡ true) → IfSome o (λ q. q < length cs)
+pub some_within : (cs : List (Option (Node ℕ))) (o : Option ℕ) → IfSome o (λ q. is_some (get_or cs q None) ≡ true) → IfSome o (λ q. q < length cs)
 some_within cs None h = tt
 some_within cs (Some q) h = live_within cs q h
 

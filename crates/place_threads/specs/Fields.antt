@@ -37,3 +37,8 @@ pub record IsThread (nodes : List (Option (Node ℕ))) (k : ℕ) (ends : Ends) (
 pub record IsThreads (nodes : List (Option (Node ℕ))) (ends : List Ends) (threads : List (List ℕ)) : Type 0 where
   pub long : length ends ≡ length threads
   pub each : (k : ℕ) → k < length ends → IsThread nodes k (get_or ends k no_ends) (get_or threads k [])
+
+-- what comes after a place by its link, or else the first
+abbrev pub next_of : Option ℕ → Option ℕ → List (Option (Node ℕ)) → Option ℕ
+next_of None first nodes = first
+next_of (Some p) first nodes = after_of (get_or nodes p None)

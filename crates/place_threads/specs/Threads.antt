@@ -1,5 +1,5 @@
 -- Threads as a contract sees them.
-use Rattle.std.specs.Prelude.{ℕ, Bool, false, ◌||◌, nat_eq, List, [], ◌∷◌, ◌++◌, map, get_or, slice_set, Option, Some, None, if◌then◌else◌}
+use Rattle.std.specs.Prelude.{◌≡◌, ℕ, ⊤, Bool, false, ◌||◌, nat_eq, List, [], ◌∷◌, ◌++◌, map, get_or, slice_set, Option, Some, None, if◌then◌else◌}
 
 -- for each thread the places on it, in order, and below which number places lie
 pub record Woven : Type 0 where
@@ -49,3 +49,26 @@ with_place k place w = woven (slice_set w.threads k (thread k w ++ place ∷ [])
 -- the threads without a place
 abbrev pub without_place : ℕ → Woven → Woven
 without_place place w = woven (map (without place) w.threads) w.places
+
+-- the place that comes last, or what comes before the list
+abbrev pub last_after : Option ℕ → List ℕ → Option ℕ
+last_after before [] = before
+last_after before (p ∷ ps) = last_after (Some p) ps
+
+abbrev pub last_place : List ℕ → Option ℕ
+last_place ps = last_after None ps
+
+-- no place stands there twice
+abbrev pub AreApart : List ℕ → Type 0
+AreApart [] = ⊤
+AreApart (p ∷ ps) = (is_on p ps ≡ false) × AreApart ps
+
+-- the list with a place after another, or before all
+abbrev pub placed_after : Option ℕ → ℕ → List ℕ → List ℕ
+placed_after None place ps = place ∷ ps
+placed_after (Some at) place [] = []
+placed_after (Some at) place (p ∷ ps) = if nat_eq p at then p ∷ place ∷ ps else p ∷ placed_after (Some at) place ps
+
+-- the threads with a place put so on one
+abbrev pub with_place_after : ℕ → Option ℕ → ℕ → Woven → Woven
+with_place_after k after place w = woven (slice_set w.threads k (placed_after after place (thread k w))) w.places

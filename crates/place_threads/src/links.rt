@@ -1,5 +1,6 @@
 //! The links of places along their threads.
-ghost use Rattle.std.specs.Prelude.{◌≡◌, ◌<◌, Some, None, length, replicate, get_or, slice_set, IfOk};
+ghost use Rattle.std.specs.Prelude.{◌≡◌, ◌<◌, ◌-◌, ◌^◌, Some, None, length, replicate, get_or, slice_set, IfOk, IfSome};
+ghost use Rattle.place_threads.specs.Nodes.{place_in, node_of};
 ghost use Rattle.chain_list.specs.NodeMap.{node};
 ghost use Rattle.chain_list.specs.Relinked.{places_after, places_before};
 
@@ -7,12 +8,31 @@ use ptl_types::NoMemory;
 use std::alloc::Global;
 use std::marker::Model;
 
-/// What a place on a thread knows: the thread, and the places of its neighbours there. Of a place on no thread it says nothing.
+/// What a place on a thread knows: the thread, and its neighbours there, each as the place and one, or 0 for none. Of a place on no
+/// thread it says nothing.
 #[derive(Clone, Copy, Debug)]
 pub struct Link {
     thread: u32,
-    before: Option<u32>,
-    after: Option<u32>,
+    before: u32,
+    after: u32,
+}
+
+/// A neighbour as a link has it.
+fn code_of(place: Option<u32>) -> u32
+    requires { IfSome place (λ p. p < 2 ^ 32 - 1) }
+    ensures { place_in result ≡ place }
+{
+    match place {
+        Some(place) => place + 1,
+        None => 0,
+    }
+}
+
+/// The neighbour that a link has so.
+fn place_in(code: u32) -> Option<u32>
+    ensures { result ≡ place_in code }
+{
+    if code == 0 { None } else { Some(code - 1) }
 }
 
 impl Link {
@@ -25,16 +45,16 @@ impl Link {
 
     /// The place before it.
     pub(crate) fn before(self) -> Option<u32>
-        ensures { result ≡ self.before }
+        ensures { result ≡ place_in self.before }
     {
-        self.before
+        place_in(self.before)
     }
 
     /// The place after it.
     pub(crate) fn after(self) -> Option<u32>
-        ensures { result ≡ self.after }
+        ensures { result ≡ place_in self.after }
     {
-        self.after
+        place_in(self.after)
     }
 }
 
@@ -45,7 +65,7 @@ pub struct Links {
 }
 
 impl Model for Links {
-    ghost use Rattle.std.specs.Prelude.{ℕ, List, Option};
+    ghost use Rattle.std.specs.Prelude.{ℕ, ◌<◌, ◌^◌, List, Option, length};
     ghost use Rattle.std.specs.Coded.{coded_list, coded_option, coded_ℕ};
     ghost use Rattle.chain_list.specs.NodeMap.{Node, node_code};
 
@@ -56,17 +76,23 @@ impl Model for Links {
     ghost use Rattle.place_threads.specs.Nodes.{nodes_of};
 
     ghost view = { λ l. nodes_of l.links.items };
+
+    // So that the code of each place fits.
+    ghost invariant = { λ l. length l.links.items < 2 ^ 32 };
 }
 
 impl Links {
-    /// Links of `len` places, with no neighbours.
+    /// Links of `len` places, with no neighbours. `NoMemory` also where there are more than a `u32` numbers.
     pub(crate) fn with_len(alloc: Global, len: usize) -> Result<Links, NoMemory>
         ensures { IfOk result (λ l. l ≡ replicate len (Some (node 0 None None))) }
     {
+        if len > u32::MAX as usize {
+            return Err(NoMemory);
+        }
         let none = Link {
             thread: 0,
-            before: None,
-            after: None,
+            before: 0,
+            after: 0,
         };
         let Ok(links) = Vec::from_elem(alloc, none, len) else {
             return Err(NoMemory);
@@ -77,7 +103,7 @@ impl Links {
     /// The link of a place.
     pub(crate) fn at(&self, place: u32) -> Link
         requires { place < length self.now }
-        ensures { get_or self.now place None ≡ Some (node result.thread result.before result.after) }
+        ensures { get_or self.now place None ≡ node_of result }
     {
         self.links[place as usize]
     }
@@ -89,24 +115,53 @@ impl Links {
     {
         self.links[place as usize] = Link {
             thread,
-            before: None,
-            after: None,
+            before: 0,
+            after: 0,
+        };
+    }
+
+    /// Puts a place on a thread, with its neighbours.
+    pub(crate) fn put_between(
+        &mut self,
+        place: u32,
+        thread: u32,
+        before: Option<u32>,
+        after: Option<u32>,
+    )
+        requires place { place < length self.old }
+        requires before { IfSome before (λ p. p < length self.old) }
+        requires after { IfSome after (λ p. p < length self.old) }
+        ensures { self.new ≡ slice_set self.old place (Some (node thread before after)) }
+    {
+        let _links = &self.links;
+        let before = code_of(before);
+        let after = code_of(after);
+        self.links[place as usize] = Link {
+            thread,
+            before,
+            after,
         };
     }
 
     /// Sets which place comes after a place.
     pub(crate) fn set_after(&mut self, place: u32, to: Option<u32>)
-        requires { place < length self.old }
+        requires place { place < length self.old }
+        requires to { IfSome to (λ p. p < length self.old) }
         ensures { self.new ≡ places_after (Some place) to self.old }
     {
-        self.links[place as usize].after = to;
+        let _links = &self.links;
+        let code = code_of(to);
+        self.links[place as usize].after = code;
     }
 
     /// Sets which place comes before a place.
     pub(crate) fn set_before(&mut self, place: u32, to: Option<u32>)
-        requires { place < length self.old }
+        requires place { place < length self.old }
+        requires to { IfSome to (λ p. p < length self.old) }
         ensures { self.new ≡ places_before (Some place) to self.old }
     {
-        self.links[place as usize].before = to;
+        let _links = &self.links;
+        let code = code_of(to);
+        self.links[place as usize].before = code;
     }
 }

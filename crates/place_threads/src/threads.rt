@@ -1,14 +1,14 @@
 //! The threads.
-ghost use Rattle.std.specs.Prelude.{◌≡◌, ℕ, ◌<◌, false, [], length, replicate, IfOk, IsTrue};
-ghost use Rattle.place_threads.specs.Threads.{woven, thread as thread_at, is_on, is_threaded, first_place, place_after, with_place, without_place};
+ghost use Rattle.std.specs.Prelude.{◌≡◌, ℕ, ◌<◌, false, [], length, replicate, IfOk, IfSome, IsTrue};
+ghost use Rattle.place_threads.specs.Threads.{woven, thread as thread_at, is_on, is_threaded, first_place, last_place, place_after, with_place, with_place_after, without_place, AreApart};
 
-use crate::ends::{Ends, set_next, set_previous};
+use crate::ends::{Ends, next_of, set_next, set_previous};
 use crate::links::Links;
 use ptl_types::NoMemory;
 use std::alloc::Global;
 use std::marker::Model;
 
-/// The threads. Their value is, for each thread, the list of the places on it in the order in which they were put there, and
+/// The threads. Their value is, for each thread, the list of the places on it, and
 /// below which number all places lie.
 #[derive(Drop)]
 pub struct Threads {
@@ -61,6 +61,22 @@ impl Threads {
         self.ends[thread as usize] = ends;
     }
 
+    /// Puts a place on a thread after another one there, or before all. O(1).
+    pub fn insert(&mut self, thread: u32, after: Option<u32>, place: u32)
+        requires thread { thread < length self.old.threads }
+        requires place { place < self.old.places }
+        requires free { is_threaded place self.old ≡ false }
+        requires there { IfSome after (λ p. IsTrue (is_on p (thread_at thread self.old))) }
+        ensures { self.new ≡ with_place_after thread after place self.old }
+    {
+        let mut ends = self.ends[thread as usize];
+        let next = next_of(&self.links, ends, after);
+        self.links.put_between(place, thread, after, next);
+        set_next(&mut self.links, &mut ends, after, Some(place));
+        set_previous(&mut self.links, &mut ends, next, Some(place));
+        self.ends[thread as usize] = ends;
+    }
+
     /// Takes a place off its thread. O(1).
     pub fn unlink(&mut self, place: u32)
         requires { IsTrue (is_threaded place self.old) }
@@ -81,6 +97,16 @@ impl Threads {
     {
         let _links = &self.links;
         self.ends[thread as usize].first
+    }
+
+    /// The last place of a thread; `None` exactly where it is empty. O(1).
+    pub fn last(&self, thread: u32) -> Option<u32>
+        requires { thread < length self.now.threads }
+        ensures last { result ≡ last_place (thread_at thread self.now) }
+        ensures apart { AreApart (thread_at thread self.now) }
+    {
+        let _links = &self.links;
+        self.ends[thread as usize].last
     }
 
     /// The place after one on its thread; `None` exactly where it is the last. O(1).

@@ -1,8 +1,12 @@
-use Rattle.std.proofs.Common.{◌<◌, length, set, sym, ap, ◌∙◌, arith}
+use Rattle.std.proofs.Common.{◌<◌, Some, length, set, sym, ap, ◌∙◌, arith}
 use Rattle.chain_list.specs.Relinked.{with_after}
-use Rattle.place_threads.specs.Nodes.{node_of, nodes_of}
-use Rattle.place_threads.proofs.LinkLemmas.{length-nodes, get-nodes, set-nodes}
+use Rattle.chain_list.specs.NodeMap.{node}
+use Rattle.place_threads.specs.Nodes.{place_in, node_of, nodes_of}
+use Rattle.place_threads.proofs.LinkLemmas.{length-nodes, get-nodes, set-nodes, code-fits}
 use Rattle.place_threads.proofs.links.Links.set_after.Goals as goal
+
+pub code_of-code-requires : goal.code_of-code-requires
+code_of-code-requires c = code-fits c.args.to (length c.args.self.now) (omega (arith, length-nodes c.self.inside.links.items, ap length c.self.view_is, c.self.invariant)) c.requires.to
 
 pub index_mut-requires : goal.index_mut-requires
 index_mut-requires c = omega (arith, length-nodes c.self.inside.links.items, ap length c.self.view_is, c.self.inside.links.ok.0)
@@ -12,5 +16,6 @@ returns c =
     let ls = c.self.inside.links.items in
     let lt : c.args.place < length ls = omega (arith, length-nodes ls, ap length c.self.view_is) in
     let found = c.index_mut.result.now in
-    rw (← c.self.view_is) (set-nodes ls c.args.place (record found { after = c.args.to })
+    rw (← c.self.view_is) (set-nodes ls c.args.place (record found { after = c.code_of-code.result })
+    ∙ ap (λ o. set (nodes_of ls) c.args.place (Some (node found.thread (place_in found.before) o))) c.code_of-code.ensures
     ∙ ap (λ n. set (nodes_of ls) c.args.place (with_after c.args.to n)) (sym (get-nodes ls c.args.place found lt ∙ ap node_of (sym c.index_mut.ensures.value))))

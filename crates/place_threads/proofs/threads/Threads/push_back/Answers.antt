@@ -1,13 +1,35 @@
-use Rattle.std.proofs.Common.{◌≡◌, ◌<◌, false, Some, length, sym, subst, ◌∙◌, refl, arith}
+use Rattle.std.proofs.Common.{◌≡◌, ◌<◌, false, Some, None, length, sym, ap, subst, ◌∙◌, refl, arith, length-set}
+use Rattle.std.specs.Option.{IfSome}
+use Rattle.chain_list.specs.NodeMap.{node}
+use Rattle.chain_list.proofs.ChainLemmas.{length-places_after}
 use Rattle.place_threads.specs.Threads.{woven, is_threaded}
 use Rattle.place_threads.proofs.ThreadLemmas.{viewed, settled, pushed, last-within, off-threads}
 use Rattle.place_threads.proofs.threads.Threads.push_back.Goals as goal
 
-pub set_next-requires : goal.set_next-requires
-set_next-requires c =
+pub set_next-requires-clause-before : goal.set_next-requires-clause-before
+set_next-requires-clause-before c =
     let on = subst (λ w. c.args.thread < length w.threads) (sym c.self.view_is) c.requires.thread in
     let lt : c.args.thread < length c.self.inside.ends.items = omega (arith, on, c.self.invariant.long) in
     last-within _ _ _ _ c.args.thread c.args.place c.index.result.now _ c.self.invariant lt c.index.ensures c.put.ensures
+
+pub set_next-requires-clause-after : goal.set_next-requires-clause-after
+set_next-requires-clause-after c =
+    let within = subst (λ w. c.args.place < w.places) (sym c.self.view_is) c.requires.place in
+    let long = ap length c.put.ensures ∙ length-set c.self.inside.links c.args.place (Some (node c.args.thread None None)) in
+    omega (arith, within, long)
+
+pub set_previous-requires-clause-after : goal.set_previous-requires-clause-after
+set_previous-requires-clause-after c =
+    let within = subst (λ w. c.args.place < w.places) (sym c.self.view_is) c.requires.place in
+    let long = ap length c.set_next.ensures.links ∙ length-places_after c.index.result.now.last (Some c.args.place) _ ∙ ap length c.put.ensures ∙ length-set c.self.inside.links c.args.place (Some (node c.args.thread None None)) in
+    omega (arith, within, long)
+
+pub set_previous-requires-clause-before : goal.set_previous-requires-clause-before
+set_previous-requires-clause-before c =
+    let on = subst (λ w. c.args.thread < length w.threads) (sym c.self.view_is) c.requires.thread in
+    let lt : c.args.thread < length c.self.inside.ends.items = omega (arith, on, c.self.invariant.long) in
+    let long = ap length c.set_next.ensures.links ∙ length-places_after c.index.result.now.last (Some c.args.place) c.put.new.self in
+    subst (λ n. IfSome c.index.result.now.last (λ q. q < n)) (sym long) (last-within _ _ _ _ c.args.thread c.args.place c.index.result.now _ c.self.invariant lt c.index.ensures c.put.ensures)
 
 pub invariant_of-self : goal.invariant_of-self
 invariant_of-self c =

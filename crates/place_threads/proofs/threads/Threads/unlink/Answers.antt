@@ -19,16 +19,16 @@ index-requires c =
     let l = link-seen _ _ _ _ _ _ _ _ s c.at-link.ensures in
     omega (arith, s.within, l.0, c.thread.ensures, c.self.inside.ends.ok.0)
 
-pub set_next-requires : goal.set_next-requires
-set_next-requires c =
+pub set_next-requires-clause-before : goal.set_next-requires-clause-before
+set_next-requires-clause-before c =
     let given : is_threaded c.args.place c.args.self.now ≡ true = c.requires in
     let on = on-thread c.args.place _ (subst (λ w. is_threaded c.args.place w ≡ true) (sym c.self.view_is) given) in
     let s = seen _ _ _ on.0 c.args.place c.self.invariant on.1 in
     let l = link-seen _ _ _ _ _ _ _ _ s c.at-link.ensures in
     subst (λ o. IfSome o (λ q. q < length c.self.inside.links)) (sym (c.before-before.ensures ∙ l.1)) (before-within _ _ _ _ _ s)
 
-pub set_previous-requires : goal.set_previous-requires
-set_previous-requires c =
+pub set_previous-requires-clause-after : goal.set_previous-requires-clause-after
+set_previous-requires-clause-after c =
     let given : is_threaded c.args.place c.args.self.now ≡ true = c.requires in
     let on = on-thread c.args.place _ (subst (λ w. is_threaded c.args.place w ≡ true) (sym c.self.view_is) given) in
     let s = seen _ _ _ on.0 c.args.place c.self.invariant on.1 in
@@ -36,6 +36,24 @@ set_previous-requires c =
     let long = ap length c.set_next.ensures.links ∙ length-places_after c.before-before.result c.after-after.result c.self.inside.links in
     subst (λ n. IfSome c.after-after.result (λ q. q < n)) (sym long)
     (subst (λ o. IfSome o (λ q. q < length c.self.inside.links)) (sym (c.after-after.ensures ∙ l.2)) (behind-within _ _ _ _ _ s))
+
+pub set_next-requires-clause-after : goal.set_next-requires-clause-after
+set_next-requires-clause-after c =
+    let given : is_threaded c.args.place c.args.self.now ≡ true = c.requires in
+    let on = on-thread c.args.place _ (subst (λ w. is_threaded c.args.place w ≡ true) (sym c.self.view_is) given) in
+    let s = seen _ _ _ on.0 c.args.place c.self.invariant on.1 in
+    let l = link-seen _ _ _ _ _ _ _ _ s c.at-link.ensures in
+    subst (λ o. IfSome o (λ q. q < length c.self.inside.links)) (sym (c.after-after.ensures ∙ l.2)) (behind-within _ _ _ _ _ s)
+
+pub set_previous-requires-clause-before : goal.set_previous-requires-clause-before
+set_previous-requires-clause-before c =
+    let given : is_threaded c.args.place c.args.self.now ≡ true = c.requires in
+    let on = on-thread c.args.place _ (subst (λ w. is_threaded c.args.place w ≡ true) (sym c.self.view_is) given) in
+    let s = seen _ _ _ on.0 c.args.place c.self.invariant on.1 in
+    let l = link-seen _ _ _ _ _ _ _ _ s c.at-link.ensures in
+    let long = ap length c.set_next.ensures.links ∙ length-places_after c.before-before.result c.after-after.result c.self.inside.links in
+    subst (λ n. IfSome c.before-before.result (λ q. q < n)) (sym long)
+    (subst (λ o. IfSome o (λ q. q < length c.self.inside.links)) (sym (c.before-before.ensures ∙ l.1)) (before-within _ _ _ _ _ s))
 
 pub index_mut-requires : goal.index_mut-requires
 index_mut-requires c =
