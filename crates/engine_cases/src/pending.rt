@@ -25,7 +25,7 @@ fn posted(
 
 #[test]
 fn none_pends_at_first(rt: HostRuntime) -> Result<(), Fail> {
-    let mut pending = Pending::<u8>::open(rt.alloc(), 2)?;
+    let mut pending = Pending::<u8>::open(rt.alloc(), 2, 1)?;
     gives!(rt; pending.len(), 0);
     gives!(rt; pending.given(), 0);
     gives!(rt; pending.is_full(), false);
@@ -41,7 +41,7 @@ fn none_pends_at_first(rt: HostRuntime) -> Result<(), Fail> {
 
 #[test]
 fn an_operation_is_ready_while_its_sum_is_at_its_threshold(rt: HostRuntime) -> Result<(), Fail> {
-    let mut pending = Pending::open(rt.alloc(), 2)?;
+    let mut pending = Pending::open(rt.alloc(), 2, 1)?;
     gives!(rt; posted(&mut pending, 7, GO, 2, 0), Some(0));
     gives!(rt; posted(&mut pending, 8, AGAIN, 2, 0), Some(1));
     gives!(rt; pending.is_full(), true);
@@ -66,7 +66,7 @@ fn an_operation_is_ready_while_its_sum_is_at_its_threshold(rt: HostRuntime) -> R
 
 #[test]
 fn a_walk_passes_those_that_were_cancelled(rt: HostRuntime) -> Result<(), Fail> {
-    let mut pending = Pending::open(rt.alloc(), 3)?;
+    let mut pending = Pending::open(rt.alloc(), 3, 1)?;
     gives!(rt; posted(&mut pending, 7, GO, 1, 0), Some(0));
     gives!(rt; posted(&mut pending, 8, AGAIN, 1, 0), Some(1));
     gives!(rt; posted(&mut pending, 9, GO, 1, 0), Some(2));
@@ -88,7 +88,7 @@ fn a_walk_passes_those_that_were_cancelled(rt: HostRuntime) -> Result<(), Fail> 
 
 #[test]
 fn the_ready_ones_are_told_in_order_of_their_numbers(rt: HostRuntime) -> Result<(), Fail> {
-    let mut pending = Pending::open(rt.alloc(), 3)?;
+    let mut pending = Pending::open(rt.alloc(), 3, 1)?;
     gives!(rt; posted(&mut pending, 7, GO, 2, 0), Some(0));
     gives!(rt; posted(&mut pending, 8, AGAIN, 1, 0), Some(1));
     gives!(rt; posted(&mut pending, 9, GO, 1, 0), Some(2));
@@ -104,7 +104,7 @@ fn the_ready_ones_are_told_in_order_of_their_numbers(rt: HostRuntime) -> Result<
 
 #[test]
 fn one_stays_ready_while_many_come_and_go(rt: HostRuntime) -> Result<(), Fail> {
-    let mut pending = Pending::open(rt.alloc(), 2)?;
+    let mut pending = Pending::open(rt.alloc(), 2, 1)?;
     gives!(rt; posted(&mut pending, 7, GO, 1, 0), Some(0));
     pending.reached(GO, 1);
     for number in 1..20 {
@@ -119,7 +119,7 @@ fn one_stays_ready_while_many_come_and_go(rt: HostRuntime) -> Result<(), Fail> {
 
 #[test]
 fn a_change_makes_ready_what_its_sum_reaches(rt: HostRuntime) -> Result<(), Fail> {
-    let mut pending = Pending::open(rt.alloc(), 6)?;
+    let mut pending = Pending::open(rt.alloc(), 6, 1)?;
     for threshold in [3, 1, 3, 2, 5] {
         gives!(rt; posted(&mut pending, 7, GO, threshold, 2).is_some(), true);
     }

@@ -1,110 +1,131 @@
--- How pending operations are laid out: by number, with an index by counting event and threshold, and a mark on each that is
--- due. No public clause cites this module.
-use Rattle.std.specs.Prelude.{◌≡◌, ℕ, Bool, true, false, ◌==◌, ◌&&◌, ◌*◌, ◌^◌, ◌<◌, ◌≤◌, ◌⊎◌, ⊤, nat_le, nat_lt, List, map, Option, Some}
-use Rattle.std.specs.Prelude.{None, is_some, option_map, if◌then◌else◌, All}
-use Rattle.std.specs.Ordering.{nat_cmp, ordering_then}
-use Rattle.std.specs.declared.cmp.Ordering.{Ordering}
-use Rattle.std.specs.BTreeMap.{BTreeMap, get, IsOrdered}
-use Rattle.std.specs.BTreeSet.{BTreeSet, contains}
+-- How pending operations are laid out: at places in the order of posting, with a mark on each that is due. No public clause cites this
+-- module.
+use Rattle.std.specs.Prelude.{◌≡◌, ℕ, zero, suc, Bool, nat_le, ◌-◌, ◌^◌, ◌<◌, ◌≤◌, List, [], ◌∷◌, ◌++◌, map, length, take, drop, replicate}
+use Rattle.std.specs.Prelude.{Option, Some, None, if◌then◌else◌, slice_index_or}
 use Rattle.ptl_types.specs.declared.handles.Handle.{Handle}
-use Rattle.number_marks.specs.Marking.{Marking, is_in}
-use Rattle.triggered_ops.specs.declared.held.PostedOperation.{PostedOperation}
-use Rattle.triggered_ops.specs.Operations.{Operation, Operations, IsKept, waits_on, is_due_op}
+use Rattle.triggered_ops.specs.declared.spots.Spot.{Spot}
+use Rattle.triggered_ops.specs.declared.spots.Wait.{Wait}
+use Rattle.triggered_ops.specs.Operations.{Operation, Operations}
 
--- the slot and the stamp of a counting event, and the threshold and the number of an operation that waits on it
-abbrev pub Key : Type 0
-Key = ℕ × ℕ × ℕ × ℕ
-
--- by the counting event, then by the threshold, then by the number
-abbrev pub key_cmp : Key → Key → Ordering
-key_cmp x y = ordering_then (ordering_then (ordering_then (nat_cmp x.0 y.0) (nat_cmp x.1 y.1)) (nat_cmp x.2 y.2)) (nat_cmp x.3 y.3)
-
--- a threshold and a number before others, in that order
-abbrev pub IsBefore : ℕ × ℕ → ℕ × ℕ → Type 0
-IsBefore a b = (a.0 < b.0) ⊎ ((a.0 ≡ b.0) × (a.1 < b.1))
-
--- before them, or the same
-abbrev pub IsUpto : ℕ × ℕ → ℕ × ℕ → Type 0
-IsUpto a b = (a.0 < b.0) ⊎ ((a.0 ≡ b.0) × (a.1 ≤ b.1))
+-- the places, and how many there is room for
+pub record Spotted (D : Type 0) : Type 0 where
+  pub spots : List (Spot D)
+  pub room : ℕ
 
 module _ {D : Type 0} where
-  -- what stands under a number
-  abbrev pub operation : ℕ × PostedOperation D → Operation D
-  operation e = record { number = e.0; deed = e.1.deed; ct = e.1.ct; threshold = e.1.threshold; due = e.1.due }
+  abbrev pub spotted : List (Spot D) → ℕ → Spotted D
+  spotted spots room = record { spots = spots; room = room }
 
-  abbrev pub operations_of : List (ℕ × PostedOperation D) → ℕ → ℕ → Operations D
-  operations_of es given limit = record { waiting = map operation es; given = given; limit = limit }
+  abbrev pub no_spots : ℕ → Spotted D
+  no_spots room = spotted [] room
+
+  -- the numbers that stand at the places, also of those that are gone
+  abbrev pub numbers_of : List (Spot D) → List ℕ
+  numbers_of ss = map (λ (s : Spot D). s.number) ss
+
+  abbrev pub handle_of : Spot D → Handle
+  handle_of s = record { slot = s.slot; stamp = s.stamp }
+
+  abbrev pub operation : Spot D → D → Operation D
+  operation s deed = record { number = s.number; deed = deed; ct = handle_of s; threshold = s.threshold; due = s.due }
+
+  -- what waits there
+  abbrev pub op_with : Spot D → Option D → Option (Operation D)
+  op_with s None = None
+  op_with s (Some deed) = Some (operation s deed)
+
+  abbrev pub op_of : Spot D → Option (Operation D)
+  op_of s = op_with s s.deed
+
+  abbrev pub before_all : Option (Operation D) → List (Operation D) → List (Operation D)
+  before_all None ps = ps
+  before_all (Some p) ps = p ∷ ps
+
+  -- those that wait, in the order of the places
+  abbrev pub operations_in : List (Spot D) → List (Operation D)
+  operations_in [] = []
+  operations_in (s ∷ ss) = before_all (op_of s) (operations_in ss)
+
+  abbrev pub op_at : List (Spot D) → ℕ → Option (Operation D)
+  op_at [] p = None
+  op_at (s ∷ ss) zero = op_of s
+  op_at (s ∷ ss) (suc p) = op_at ss p
+
+  -- what it waits for
+  abbrev pub wait_with : Spot D → Option D → Option Wait
+  wait_with s None = None
+  wait_with s (Some deed) = Some (record { ct = handle_of s; threshold = s.threshold; due = s.due })
+
+  abbrev pub wait_of : Spot D → Option Wait
+  wait_of s = wait_with s s.deed
+
+  abbrev pub wait_at : List (Spot D) → ℕ → Option Wait
+  wait_at [] p = None
+  wait_at (s ∷ ss) zero = wait_of s
+  wait_at (s ∷ ss) (suc p) = wait_at ss p
+
+  -- a number stands at this place
+  abbrev pub StandsAt : ℕ → List (Spot D) → ℕ → Type 0
+  StandsAt number ss p = (p < length ss) × (slice_index_or (numbers_of ss) p 0 ≡ number)
+
+  -- those at the places before this one are below it
+  abbrev pub AreBelow : ℕ → List (Spot D) → ℕ → Type 0
+  AreBelow number ss p = (k : ℕ) → k < p → slice_index_or (numbers_of ss) k 0 < number
+
+  -- those from this place on aren't
+  abbrev pub AreFrom : ℕ → List (Spot D) → ℕ → Type 0
+  AreFrom number ss p = (k : ℕ) → p ≤ k → k < length ss → number ≤ slice_index_or (numbers_of ss) k 0
+
+  -- an operation that is put in, and its place
+  abbrev pub operation_for : ℕ → Wait → D → Operation D
+  operation_for number x deed = record { number = number; deed = deed; ct = x.ct; threshold = x.threshold; due = x.due }
+
+  abbrev pub spot_for : ℕ → Wait → D → Spot D
+  spot_for number x deed = record { number = number; slot = x.ct.slot; stamp = x.ct.stamp; threshold = x.threshold; due = x.due; deed = Some deed }
+
+  -- the places with one changed
+  abbrev pub changed : (Spot D → Spot D) → ℕ → List (Spot D) → List (Spot D)
+  changed f p [] = []
+  changed f zero (s ∷ ss) = f s ∷ ss
+  changed f (suc p) (s ∷ ss) = s ∷ changed f p ss
+
+  -- it is due, or isn't
+  abbrev pub settled : ℕ → Bool → List (Spot D) → List (Spot D)
+  settled p due ss = changed (λ s. record s { due = due }) p ss
+
+  -- nothing waits there any more
+  abbrev pub emptied : ℕ → List (Spot D) → List (Spot D)
+  emptied p ss = changed (λ s. record s { deed = None }) p ss
+
+  -- the places before one, and those from another on
+  abbrev pub packed : ℕ → ℕ → List (Spot D) → List (Spot D)
+  packed kept place ss = take kept ss ++ drop place ss
 
   abbrev pub number_of : Operation D → ℕ
   number_of p = p.number
 
-  -- an operation that is due, or isn't
-  abbrev pub with_due : Bool → Operation D → Operation D
-  with_due due p = record p { due = due }
-
   abbrev pub is_from : ℕ → Operation D → Bool
   is_from n p = nat_le n p.number
 
-  -- operation t
-  abbrev pub found_at : BTreeMap ℕ (PostedOperation D) → ℕ → Option (Operation D)
-  found_at m t = option_map (λ h. operation (t, h)) (get nat_cmp m t)
+  -- nothing waits from a place on
+  abbrev pub AreGone : ℕ → List (Spot D) → Type 0
+  AreGone len ss = (p : ℕ) → len ≤ p → wait_at ss p ≡ None
 
-  abbrev pub waits_in : Handle → Option (Operation D) → Bool
-  waits_in ct None = false
-  waits_in ct (Some p) = waits_on ct p
+  -- the marks of the places: 1 where an operation waits that is due
+  abbrev pub mark_with : Bool → Option D → ℕ
+  mark_with due None = 0
+  mark_with due (Some deed) = if due then 1 else 0
 
-  -- it waits on this counting event with this threshold
-  abbrev pub waits_at : Handle → ℕ → Option (Operation D) → Bool
-  waits_at ct threshold None = false
-  waits_at ct threshold (Some p) = waits_on ct p && (p.threshold == threshold)
+  abbrev pub dues_of : List (Spot D) → List ℕ
+  dues_of ss = map (λ (s : Spot D). mark_with s.due s.deed) ss
 
-  -- it waits on this counting event, with a threshold up to a sum
-  abbrev pub waits_upto : Handle → ℕ → Operation D → Bool
-  waits_upto ct sum p = waits_on ct p && nat_le p.threshold sum
+  pub record IsSpotted (ss : List (Spot D)) (marks : List ℕ) (waiting room capacity : ℕ) : Type 0 where
+    pub marked : marks ≡ dues_of ss ++ replicate (length marks - length ss) 0
+    pub long : room ≤ length marks
+    pub counted : waiting ≡ length (operations_in ss)
+    pub fits : length ss ≤ room
+    pub enough : room ≤ capacity
+    pub few : room ≤ 2 ^ 28
 
-  -- with a threshold above it
-  abbrev pub waits_above : Handle → ℕ → Operation D → Bool
-  waits_above ct sum p = waits_on ct p && nat_lt sum p.threshold
-
-  -- an operation, unless it waits on this counting event
-  abbrev pub without_those : Handle → Option (Operation D) → Option (Operation D)
-  without_those ct o = if waits_in ct o then None else o
-
-  -- each has a place among the numbers, and those that are marked are those that are due
-  pub record AreMarked (m : BTreeMap ℕ (PostedOperation D)) (k : Marking) : Type 0 where
-    pub placed : (t : ℕ) → is_some (found_at m t) ≡ true → is_in t k.held ≡ true
-    pub due : (t : ℕ) → is_in t k.marked ≡ is_due_op (found_at m t)
-
-  -- the index has those that wait on each counting event, with their thresholds
-  abbrev pub IsIndexed : BTreeMap ℕ (PostedOperation D) → BTreeSet Key → Type 0
-  IsIndexed m index =
-      (slot stamp threshold t : ℕ)
-      → contains key_cmp index (slot, stamp, threshold, t) ≡ waits_at (record { slot = slot; stamp = stamp }) threshold (found_at m t)
-
-  -- where it passes a test, it is due as at this sum
-  abbrev pub IsDueAt : (Operation D → Bool) → ℕ → Option (Operation D) → Type 0
-  IsDueAt test sum None = ⊤
-  IsDueAt test sum (Some p) = test p ≡ true → p.due ≡ nat_le p.threshold sum
-
-  -- those that pass the test are due as at one sum
-  pub record AreDueAsOne (test : Operation D → Bool) (m : BTreeMap ℕ (PostedOperation D)) : Type 0 where
-    pub sum : ℕ
-    pub due : (t : ℕ) → IsDueAt test sum (found_at m t)
-
-  -- this very sum was last told of a counting event, as far as those show that wait on it
-  abbrev pub WasTold : Handle → ℕ → Operations D → Type 0
-  WasTold ct sum ops = All (λ p. waits_on ct p ≡ true → p.due ≡ nat_le p.threshold sum) ops.waiting
-
-  -- for each counting event those that wait on it are
-  abbrev pub AreTold : BTreeMap ℕ (PostedOperation D) → Type 0
-  AreTold m = (ct : Handle) → AreDueAsOne (waits_on ct) m
-
-  pub record IsLaid (m : BTreeMap ℕ (PostedOperation D)) (index : BTreeSet Key) (k : Marking) (given limit : ℕ) : Type 0 where
-    pub kept : IsKept (operations_of m.entries given limit)
-    pub ordered : IsOrdered nat_cmp m
-    pub indexed : IsIndexed m index
-    pub marked : AreMarked m k
-    pub told : AreTold m
-    pub below : All (λ n. n < given) k.held
-    pub room : k.room ≡ 2 * limit
-    pub small : limit ≤ 2 ^ 27
+  abbrev pub operations_of : Spotted D → ℕ → ℕ → Operations D
+  operations_of s given limit = record { waiting = operations_in s.spots; given = given; limit = limit }

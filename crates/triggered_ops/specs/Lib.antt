@@ -1,3 +1,4 @@
 pub mod Codes
+pub mod Hung
 pub mod Layout
 pub mod Operations

@@ -1,20 +1,20 @@
 //! The triggered operations of an interface that wait for their counting events (Portals 4.3, triggered operations).
 #![tactic(auto)]
 
-ghost use Rattle.std.specs.Prelude.{◌≡◌, ◌≤◌, ◌<◌, ◌^◌, ◌-◌, [], ℕ, true, false, Some, None, All, IfSome, IfNone, IfOk, OnOk, OnErr, length, slice_get, option_map};
-ghost use Rattle.triggered_ops.specs.Operations.{no_operations, is_full, operation_at, is_ready, due_numbers, shown, numbered, deed_of, with_posted, told, without_number, waits_on, waiting_on, cancelled, IsKept};
-ghost use Rattle.triggered_ops.specs.Layout.{WasTold};
+ghost use Rattle.std.specs.Prelude.{◌≡◌, ◌≤◌, ◌<◌, ◌^◌, ◌-◌, ℕ, true, false, Some, None, IfSome, IfNone, IfOk, IsOk, OnOk, OnErr};
+ghost use Rattle.std.specs.Prelude.{[], All, length, slice_get, option_map};
+ghost use Rattle.triggered_ops.specs.Operations.{no_operations, is_full, operation_at, is_ready, due_numbers, shown, numbered, deed_of};
+ghost use Rattle.triggered_ops.specs.Operations.{with_posted, told, without_number, waits_on, waiting_on, cancelled, IsKept};
 
-mod held;
-mod index;
+mod lists;
 mod parts;
+mod spots;
 mod told;
 
-use crate::held::PostedOperation;
-use number_marks::Marks;
+use crate::spots::{Spots, Wait, place_at, waiting_from};
+use place_threads::Threads;
 use ptl_types::{Handle, NoMemory};
 use std::alloc::Global;
-use std::collections::{BTreeMap, BTreeSet};
 use std::marker::Model;
 
 /// The most that may wait in any table.
@@ -24,16 +24,17 @@ const MOST: u32 = 1 << 27;
 /// list of them by rising number, each with whether it is due by what was last told of its counting event, how many numbers were
 /// given, and how many may wait.
 ///
-/// With n that wait, `len` and `ready_count` take a constant number of steps, and `post` (over many of them), `is_ready`, `ready`,
-/// `ready_at`, `get`, `next` and `take` the order of log n. `reached` takes as many, and as many again for each operation that
-/// becomes due or no longer is, however many wait on that counting event; `cancel` for each that waits on it. `at` passes over the
-/// operations before its position.
+/// With n that wait, `len`, `ready_count` and `get`, `is_ready` and `take` of a number take a constant number of steps, where no
+/// places were laid anew since it was given, and else the order of log n; `ready` and `ready_at` the order of log n. `reached` takes
+/// a constant number of steps, and that of `take` for each operation that becomes due or no longer is, however many wait on that
+/// counting event. `post` takes a constant number of steps over many of them where its threshold is no lower than that of every
+/// operation on its counting event that is due as it is, or no higher, and else passes over the lower ones; `cancel` does what
+/// `take` does for each. `next` and `at` pass over the places of those that are gone. No call but `open` takes memory.
 #[derive(Drop)]
 pub struct Pending<D> {
-    operations: BTreeMap<u32, PostedOperation<D>>,
-    index: BTreeSet<(u32, u64, u64, u32)>,
-    marks: Marks,
-    alloc: Global,
+    spots: Spots<D>,
+    threads: Threads,
+    stamps: Vec<u64>,
     given: u32,
     limit: u32,
 }
@@ -46,11 +47,12 @@ impl<D> Model for Pending<D> {
 
     ghost coded = { operations_code D.code };
 
-    ghost use Rattle.triggered_ops.specs.Layout.{operations_of, IsLaid};
+    ghost use Rattle.triggered_ops.specs.Layout.{operations_of};
+    ghost use Rattle.triggered_ops.specs.Hung.{IsLaid};
 
-    ghost view = { λ p. operations_of p.operations.entries p.given p.limit };
+    ghost view = { λ p. operations_of p.spots p.given p.limit };
 
-    ghost invariant = { λ p. IsLaid p.operations p.index p.marks p.given p.limit };
+    ghost invariant = { λ p. IsLaid p.spots p.threads p.stamps.items p.given p.limit };
 }
 
 impl<D> Pending<D> {
@@ -59,7 +61,8 @@ impl<D> Pending<D> {
         ensures len { result ≡ length self.now.waiting }
         ensures kept { IsKept self.now }
     {
-        self.operations.len() as u32
+        let _given = self.given;
+        self.spots.waiting()
     }
 
     /// How many numbers were given; the next is this one.
@@ -73,14 +76,14 @@ impl<D> Pending<D> {
     pub fn is_full(&self) -> bool
         ensures value { result ≡ is_full self.now }
     {
-        self.operations.len() >= self.limit as usize || self.given == u32::MAX
+        self.spots.waiting() >= self.limit || self.given == u32::MAX
     }
 
     /// Tells a counting event's sum, success and failure together, to the operations that wait on it.
     pub fn reached(&mut self, ct: Handle, sum: u64)
         ensures does { self.new ≡ told ct sum self.old }
     {
-        told::tell_all(&mut self.operations, &self.index, &mut self.marks, ct, sum);
+        told::tell(&mut self.spots, &mut self.threads, &self.stamps, ct, sum);
     }
 
     /// The number of an operation that is due; `None` exactly where there is none. Which of them it is stays open.
@@ -88,10 +91,10 @@ impl<D> Pending<D> {
         ensures some { IfSome result (λ t. is_ready t self.now ≡ true) }
         ensures none { IfNone result ((t : ℕ) → is_ready t self.now ≡ false) }
     {
-        if self.marks.count() == 0 {
+        if self.spots.due() == 0 {
             None
         } else {
-            Some(self.marks.at(0))
+            Some(self.spots.due_at(0))
         }
     }
 
@@ -99,8 +102,8 @@ impl<D> Pending<D> {
     pub fn is_ready(&self, number: u32) -> bool
         ensures value { result ≡ is_ready number self.now }
     {
-        match self.operations.get(&number) {
-            Some(held) => held.due,
+        match self.spots.place_of(number) {
+            Some(place) => self.spots.is_due(place),
             None => false,
         }
     }
@@ -110,7 +113,8 @@ impl<D> Pending<D> {
         ensures value { result ≡ length (due_numbers self.now) }
         ensures kept { IsKept self.now }
     {
-        self.marks.count() as u32
+        let _given = self.given;
+        self.spots.due() as u32
     }
 
     /// The number of the one at position `i` among them, by rising number, from 0.
@@ -119,9 +123,8 @@ impl<D> Pending<D> {
         ensures value { slice_get (due_numbers self.now) i ≡ Some result }
         ensures kept { IsKept self.now }
     {
-        // Brings to the proof that the marked numbers rise.
-        let _marked = self.marks.count();
-        self.marks.at(u64::from(i))
+        let _given = self.given;
+        self.spots.due_at(u64::from(i))
     }
 
     /// The deed, the counting event and the threshold of the operation of this number; `None` exactly where it doesn't wait.
@@ -129,8 +132,8 @@ impl<D> Pending<D> {
         ensures found { IfSome result (λ p. option_map shown (operation_at number self.now) ≡ Some (p.0.now, p.1, p.2)) }
         ensures none { IfNone result (operation_at number self.now ≡ None) }
     {
-        match self.operations.get(&number) {
-            Some(held) => Some((&held.deed, held.ct, held.threshold)),
+        match self.spots.place_of(number) {
+            Some(place) => self.spots.get(place),
             None => None,
         }
     }
@@ -141,8 +144,8 @@ impl<D> Pending<D> {
         ensures found { IfSome result (λ p. option_map numbered (slice_get self.now.waiting i) ≡ Some (p.0, p.1.now, p.2, p.3)) }
         ensures none { IfNone result (length self.now.waiting ≤ i) }
     {
-        match self.operations.iter().nth(i as usize) {
-            Some((number, held)) => Some((*number, &held.deed, held.ct, held.threshold)),
+        match place_at(&self.spots, i) {
+            Some(place) => self.spots.numbered(place),
             None => None,
         }
     }
@@ -158,8 +161,9 @@ impl<D> Pending<D> {
         ensures none { IfNone result (All (λ q. q.number < from) self.now.waiting) }
         ensures numbers { self.now.given < 2 ^ 32 }
     {
-        match self.operations.range(from..).next() {
-            Some((number, held)) => Some((*number, &held.deed, held.ct, held.threshold)),
+        let _given = self.given;
+        match waiting_from(&self.spots, self.spots.place_from(from)) {
+            Some(place) => self.spots.numbered(place),
             None => None,
         }
     }
@@ -169,8 +173,8 @@ impl<D> Pending<D> {
         ensures found { IfSome result (λ t. option_map (waits_on ct) (operation_at t self.now) ≡ Some true) }
         ensures none { IfNone result (waiting_on ct self.now ≡ []) }
     {
-        match index::first_on(&self.index, ct, (0, 0)) {
-            Some((_, number)) => Some(number),
+        match parts::first_on(&self.spots, &self.threads, &self.stamps, ct) {
+            Some(place) => Some(self.spots.number(place)),
             None => None,
         }
     }
@@ -182,84 +186,69 @@ impl<D> Pending<D> {
         ensures rest { self.new ≡ without_number number self.old }
         ensures none { IfNone result (self.new ≡ self.old) }
     {
-        parts::take_out(
-            &mut self.operations,
-            &mut self.index,
-            &mut self.marks,
-            number,
-        )
+        match self.spots.waiting_at(number) {
+            Some(place) => {
+                parts::take_out(&mut self.spots, &mut self.threads, &self.stamps, place)
+            }
+            None => None,
+        }
     }
 }
 
 impl<D: Drop> Pending<D> {
-    /// None, with numbers from 0; `limit` may wait at a time. `NoMemory` also where the limit passes 2^27.
-    pub fn open(alloc: Global, limit: u32) -> Result<Pending<D>, NoMemory>
+    /// None, with numbers from 0; `limit` may wait at a time. An operation whose counting event has a slot below `events` is found by
+    /// it at once, and others by a walk. `NoMemory` also where one of them passes 2^27.
+    pub fn open(alloc: Global, limit: u32, events: u32) -> Result<Pending<D>, NoMemory>
         ensures makes { IfOk result (λ p. p ≡ no_operations limit) }
     {
-        if limit > MOST {
+        if limit > MOST || events > MOST {
             return Err(NoMemory);
         }
-        let marks = Marks::open(alloc, 2 * limit)?;
+        let room = limit + limit / 4;
+        let spots = Spots::open(alloc, room)?;
+        let threads = Threads::open(alloc, 2 * events as usize + 1, room as usize)?;
+        let Ok(stamps) = Vec::from_elem(alloc, 0u64, events as usize) else {
+            return Err(NoMemory);
+        };
         Ok(Pending {
-            operations: BTreeMap::new(alloc),
-            index: BTreeSet::new(alloc),
-            marks,
-            alloc,
+            spots,
+            threads,
+            stamps,
             given: 0,
             limit,
         })
     }
 
-    /// Tells the sum of a counting event, posts an operation that waits on it and answers its number, which none that waits has.
-    /// Where memory is wanting the deed is dropped, and the sum alone is told.
+    /// Tells the sum of a counting event, posts an operation that waits on it and answers its number, which none that waits has. It
+    /// takes no memory.
     pub fn post(&mut self, deed: D, ct: Handle, threshold: u64, sum: u64) -> Result<u32, NoMemory>
         requires room { length self.old.waiting < self.old.limit }
         requires numbers { self.old.given < 2 ^ 32 - 1 }
         ensures number { IfOk result (λ t. t ≡ self.old.given) }
         ensures fresh { IfOk result (λ t. operation_at t self.old ≡ None) }
         ensures ok { OnOk result (self.new ≡ with_posted deed ct threshold sum (told ct sum self.old)) }
-        ensures err { OnErr result (self.new ≡ told ct sum self.old) }
-    {
-        self.reached(ct, sum);
-        self.enter(deed, ct, threshold, sum)
-    }
-
-    /// Puts an operation in that waits on a counting event which was last told this sum.
-    fn enter(&mut self, deed: D, ct: Handle, threshold: u64, sum: u64) -> Result<u32, NoMemory>
-        requires room { length self.old.waiting < self.old.limit }
-        requires numbers { self.old.given < 2 ^ 32 - 1 }
-        requires told { WasTold ct sum self.old }
-        ensures number { IfOk result (λ t. t ≡ self.old.given) }
-        ensures fresh { IfOk result (λ t. operation_at t self.old ≡ None) }
-        ensures ok { OnOk result (self.new ≡ with_posted deed ct threshold sum self.old) }
         ensures err { OnErr result (self.new ≡ self.old) }
+        ensures posts { IsOk result }
     {
-        let number = self.given;
-        let held = PostedOperation {
-            deed,
+        parts::make_room(&mut self.spots, &mut self.threads, &self.stamps);
+        parts::adopt(&self.spots, &self.threads, &mut self.stamps, ct);
+        told::tell(&mut self.spots, &mut self.threads, &self.stamps, ct, sum);
+        let wait = Wait {
             ct,
             threshold,
             due: threshold <= sum,
         };
-        parts::make_room(
-            self.alloc,
-            &self.operations,
-            &mut self.marks,
-            2 * self.limit,
-        )?;
-        match parts::post(
-            &mut self.operations,
-            &mut self.index,
-            &mut self.marks,
+        let number = self.given;
+        parts::put_in(
+            &mut self.spots,
+            &mut self.threads,
+            &self.stamps,
             number,
-            held,
-        ) {
-            Ok(()) => {
-                self.given += 1;
-                Ok(number)
-            }
-            Err(fault) => Err(fault),
-        }
+            deed,
+            wait,
+        );
+        self.given += 1;
+        Ok(number)
     }
 
     /// Removes the operations that wait on a counting event, with their deeds, and answers how many they were.
@@ -267,8 +256,8 @@ impl<D: Drop> Pending<D> {
         ensures number { result ≡ length (waiting_on ct self.old) }
         ensures rest { self.new ≡ cancelled ct self.old }
     {
-        let before = self.operations.len();
-        parts::drop_all(&mut self.operations, &mut self.index, &mut self.marks, ct);
-        (before - self.operations.len()) as u32
+        let before = self.spots.waiting();
+        parts::drop_all(&mut self.spots, &mut self.threads, &self.stamps, ct);
+        before - self.spots.waiting()
     }
 }

@@ -1,170 +1,308 @@
-//! The calls over the parts of the pending operations: the operations by number, the index by counting event and the marks
-//! on those that are due.
+//! How an operation comes on its list and off it, and to another place.
 
-ghost use Rattle.std.specs.Prelude.{◌≡◌, ◌<◌, ◌==◌, ◌+◌, ◌^◌, ◌≤◌, ◌++◌, ◌∷◌, [], ◌⊎◌, ℕ, Some, None, is_some, IfOk, OnOk, OnErr, if◌then◌else◌, option_map, length, All};
-ghost use Rattle.std.specs.Map.{keys_of};
-ghost use Rattle.std.specs.Ordering.{nat_cmp};
-ghost use Rattle.std.specs.BTreeMap.{IsOrdered, btree_map_len};
-ghost use Rattle.triggered_ops.specs.Operations.{deed_of};
-ghost use Rattle.triggered_ops.specs.Layout.{operation, found_at, without_those, AreMarked, IsIndexed};
+ghost use Rattle.std.specs.Prelude.{◌≡◌, ℕ, ◌<◌, ◌≤◌, ◌==◌, ◌+◌, ◌*◌, ◌^◌, true, false, not, nat_eq, if◌then◌else◌};
+ghost use Rattle.std.specs.Prelude.{Some, None, IsSome, IfSome, IfNone, option_map, ◌++◌, ◌∷◌, [], length, filter};
+ghost use Rattle.std.specs.List.{swap};
+ghost use Rattle.place_threads.specs.Threads.{thread as thread_at, is_on, AreApart};
+ghost use Rattle.ptl_types.specs.Handles.{same_handle};
+ghost use Rattle.triggered_ops.specs.declared.spots.Wait.{Wait};
+ghost use Rattle.triggered_ops.specs.Operations.{deed_of, waits_on};
+ghost use Rattle.triggered_ops.specs.Layout.{spotted, emptied, packed, numbers_of, operations_in, op_at, wait_at, operation_for};
+ghost use Rattle.triggered_ops.specs.Hung.{belongs, next_in, rest_after, threshold_of, Ascending, IsHung, IsGap, IsPacking, IsSame};
+ghost use Rattle.triggered_ops.specs.Hung.{IsThinner, WaitsOn, IsLow, IsHigh};
 
-use crate::held::{PostedOperation, is_due_at, unmark};
-use crate::index::first_on;
-use number_marks::Marks;
-use ptl_types::{Handle, NoMemory};
-use std::alloc::Global;
-use std::collections::{BTreeMap, BTreeSet};
+use crate::lists::{belongs, home, waits_on};
+use crate::spots::{Spots, Wait};
+use place_threads::Threads;
+use ptl_types::Handle;
 
-/// Puts a further operation in, with no place. Where memory is wanting it is dropped and nothing changes.
-fn add<D: Drop>(
-    operations: &mut BTreeMap<u32, PostedOperation<D>>,
-    index: &mut BTreeSet<(u32, u64, u64, u32)>,
-    number: u32,
-    held: PostedOperation<D>,
-) -> Result<(), NoMemory>
-    requires apart { found_at operations.old number ≡ None }
-    requires indexed { IsIndexed operations.old index.old }
-    requires ordered { IsOrdered nat_cmp operations.old }
-    ensures indexed { IsIndexed operations.new index.new }
-    ensures ordered { IsOrdered nat_cmp operations.new }
-    ensures ok { OnOk result ((t : ℕ) → found_at operations.new t ≡ (if t == number then Some (operation (number, held)) else found_at operations.old t)) }
-    ensures err { OnErr result (operations.new.entries ≡ operations.old.entries) }
-    ensures len { OnOk result (btree_map_len operations.new ≡ btree_map_len operations.old + 1) }
-{
-    let key = (held.ct.slot, held.ct.stamp, held.threshold, number);
-    match index.insert(key) {
-        Ok(_) => {}
-        Err(_) => return Err(NoMemory),
-    }
-    match operations.insert(number, held) {
-        Ok(_) => Ok(()),
-        Err(_) => {
-            let _ = index.remove(&key);
-            Err(NoMemory)
-        }
-    }
-}
-
-/// Puts a further operation in, and marks it where it is due.
-pub fn post<D: Drop>(
-    operations: &mut BTreeMap<u32, PostedOperation<D>>,
-    index: &mut BTreeSet<(u32, u64, u64, u32)>,
-    marks: &mut Marks,
-    number: u32,
-    held: PostedOperation<D>,
-) -> Result<(), NoMemory>
-    requires apart { found_at operations.old number ≡ None }
-    requires indexed { IsIndexed operations.old index.old }
-    requires marked { AreMarked operations.old marks.old }
-    requires above { All (λ n. n < number) marks.old.held }
-    requires room { length marks.old.held < marks.old.room }
-    requires ordered { IsOrdered nat_cmp operations.old }
-    ensures indexed { IsIndexed operations.new index.new }
-    ensures marked { AreMarked operations.new marks.new }
-    ensures ordered { IsOrdered nat_cmp operations.new }
-    ensures ok { OnOk result ((t : ℕ) → found_at operations.new t ≡ (if t == number then Some (operation (number, held)) else found_at operations.old t)) }
-    ensures err { OnErr result (operations.new.entries ≡ operations.old.entries) }
-    ensures more { OnOk result (marks.new.held ≡ marks.old.held ++ number ∷ []) }
-    ensures same { OnErr result (marks.new ≡ marks.old) }
-    ensures room { marks.new.room ≡ marks.old.room }
-{
-    add(operations, index, number, held)?;
-    marks.push(number);
-    marks.mark(number, is_due_at(operations, number));
-    Ok(())
-}
-
-/// The marks laid anew: a place for each operation that waits, and none for those that are gone.
-fn laid_anew<D>(
-    alloc: Global,
-    operations: &BTreeMap<u32, PostedOperation<D>>,
-    room: u32,
-) -> Result<Marks, NoMemory>
-    requires ordered { IsOrdered nat_cmp operations.now }
-    requires few { btree_map_len operations.now ≤ room }
-    requires small { room ≤ 2 ^ 28 }
-    ensures marked { IfOk result (λ k. AreMarked operations.now k) }
-    ensures held { IfOk result (λ k. k.held ≡ keys_of operations.now.entries) }
-    ensures room { IfOk result (λ k. k.room ≡ room) }
-{
-    let mut marks = Marks::open(alloc, room)?;
-    for number in operations.keys() {
-        marks.push(*number);
-        marks.mark(*number, is_due_at(operations, *number));
-    }
-    Ok(marks)
-}
-
-/// Makes room for a further number, where there is none.
-pub fn make_room<D>(
-    alloc: Global,
-    operations: &BTreeMap<u32, PostedOperation<D>>,
-    marks: &mut Marks,
-    room: u32,
-) -> Result<(), NoMemory>
-    requires ordered { IsOrdered nat_cmp operations.now }
-    requires marked { AreMarked operations.now marks.old }
-    requires room { marks.old.room ≡ room }
-    requires few { btree_map_len operations.now < room }
-    requires small { room ≤ 2 ^ 28 }
-    ensures marked { AreMarked operations.now marks.new }
-    ensures held { (marks.new.held ≡ marks.old.held) ⊎ (marks.new.held ≡ keys_of operations.now.entries) }
-    ensures room { marks.new.room ≡ room }
-    ensures made { OnOk result (length marks.new.held < room) }
-{
-    if marks.is_full() {
-        *marks = laid_anew(alloc, operations, room)?;
-    }
-    Ok(())
-}
-
-/// Takes an operation out of all parts.
+/// Takes an operation off its list and out of its place.
 pub fn take_out<D>(
-    operations: &mut BTreeMap<u32, PostedOperation<D>>,
-    index: &mut BTreeSet<(u32, u64, u64, u32)>,
-    marks: &mut Marks,
-    number: u32,
+    spots: &mut Spots<D>,
+    threads: &mut Threads,
+    stamps: &[u64],
+    place: u32,
 ) -> Option<D>
-    requires indexed { IsIndexed operations.old index.old }
-    requires marked { AreMarked operations.old marks.old }
-    requires ordered { IsOrdered nat_cmp operations.old }
-    ensures indexed { IsIndexed operations.new index.new }
-    ensures marked { AreMarked operations.new marks.new }
-    ensures value { result ≡ option_map deed_of (found_at operations.old number) }
-    ensures found { (t : ℕ) → found_at operations.new t ≡ (if t == number then None else found_at operations.old t) }
-    ensures held { marks.new.held ≡ marks.old.held }
-    ensures room { marks.new.room ≡ marks.old.room }
-    ensures len { btree_map_len operations.new + (if is_some result then 1 else 0) ≡ btree_map_len operations.old }
-    ensures ordered { IsOrdered nat_cmp operations.new }
+    requires hung { IsHung (wait_at spots.old.spots) threads.old stamps.now }
+    requires waits { IsSome (wait_at spots.old.spots place) }
+    ensures hung { IsHung (wait_at spots.new.spots) threads.new stamps.now }
+    ensures places { threads.new.places ≡ threads.old.places }
+    ensures value { result ≡ option_map deed_of (op_at spots.old.spots place) }
+    ensures rest { spots.new ≡ spotted (emptied place spots.old.spots) spots.old.room }
 {
-    unmark(operations, marks, number);
-    match operations.remove(&number) {
-        Some(held) => {
-            let _ = index.remove(&(held.ct.slot, held.ct.stamp, held.threshold, number));
-            Some(held.deed)
+    let _ = stamps;
+    threads.unlink(place);
+    spots.take(place)
+}
+
+/// What comes after a place of a list, or the first.
+fn next_on(threads: &Threads, thread: u32, after: Option<u32>) -> Option<u32>
+    requires within { thread < length threads.now.threads }
+    requires there { IfSome after (λ q. is_on q (thread_at thread threads.now) ≡ true) }
+    ensures { result ≡ next_in after (thread_at thread threads.now) }
+{
+    match after {
+        Some(place) => threads.next(place),
+        None => threads.first(thread),
+    }
+}
+
+/// What comes after a place of a list, or the first, if its threshold is no higher than this one.
+fn further<D>(
+    spots: &Spots<D>,
+    threads: &Threads,
+    thread: u32,
+    after: Option<u32>,
+    threshold: u64,
+) -> Option<u32>
+    requires within { thread < length threads.now.threads }
+    requires waits { (q : ℕ) → is_on q (thread_at thread threads.now) ≡ true → IsSome (wait_at spots.now.spots q) }
+    requires there { IfSome after (λ q. is_on q (thread_at thread threads.now) ≡ true) }
+    ensures some { IfSome result (λ p. (next_in after (thread_at thread threads.now) ≡ Some p)
+        × (threshold_of (wait_at spots.now.spots p) ≤ threshold)) }
+    ensures none { IfNone result ((p : ℕ) → next_in after (thread_at thread threads.now) ≡ Some p
+        → threshold < threshold_of (wait_at spots.now.spots p)) }
+{
+    match next_on(threads, thread, after) {
+        Some(place) => {
+            if spots.threshold(place) <= threshold {
+                Some(place)
+            } else {
+                None
+            }
         }
         None => None,
     }
 }
 
-/// Takes the operations that wait on a counting event out of all parts.
-pub fn drop_all<D: Drop>(
-    operations: &mut BTreeMap<u32, PostedOperation<D>>,
-    index: &mut BTreeSet<(u32, u64, u64, u32)>,
-    marks: &mut Marks,
-    ct: Handle,
-)
-    requires indexed { IsIndexed operations.old index.old }
-    requires marked { AreMarked operations.old marks.old }
-    requires ordered { IsOrdered nat_cmp operations.old }
-    ensures indexed { IsIndexed operations.new index.new }
-    ensures marked { AreMarked operations.new marks.new }
-    ensures found { (t : ℕ) → found_at operations.new t ≡ without_those ct (found_at operations.old t) }
-    ensures held { marks.new.held ≡ marks.old.held }
-    ensures room { marks.new.room ≡ marks.old.room }
-    ensures ordered { IsOrdered nat_cmp operations.new }
+/// The last place of a list whose threshold is no higher than this one, found from the first on.
+fn walk<D>(spots: &Spots<D>, threads: &Threads, thread: u32, threshold: u64) -> Option<u32>
+    requires within { thread < length threads.now.threads }
+    requires waits { (q : ℕ) → is_on q (thread_at thread threads.now) ≡ true → IsSome (wait_at spots.now.spots q) }
+    requires ordered { Ascending (wait_at spots.now.spots) (thread_at thread threads.now) }
+    requires apart { AreApart (thread_at thread threads.now) }
+    ensures { IsGap (wait_at spots.now.spots) threshold result (thread_at thread threads.now) }
 {
-    while let Some((_, number)) = first_on(index, ct, (0, 0)) {
-        let _ = take_out(operations, index, marks, number);
+    let mut after = None;
+    while let Some(place) = further(spots, threads, thread, after, threshold) {
+        after = Some(place);
+    }
+    after
+}
+
+/// Behind which place of a list an operation of this threshold stands: behind the last, if that is no higher, and else before the first
+/// that is.
+fn gap<D>(spots: &Spots<D>, threads: &Threads, thread: u32, threshold: u64) -> Option<u32>
+    requires within { thread < length threads.now.threads }
+    requires waits { (q : ℕ) → is_on q (thread_at thread threads.now) ≡ true → IsSome (wait_at spots.now.spots q) }
+    requires ordered { Ascending (wait_at spots.now.spots) (thread_at thread threads.now) }
+    ensures { IsGap (wait_at spots.now.spots) threshold result (thread_at thread threads.now) }
+{
+    let end = threads.last(thread);
+    match end {
+        None => None,
+        Some(place) => {
+            if spots.threshold(place) <= threshold {
+                end
+            } else {
+                walk(spots, threads, thread, threshold)
+            }
+        }
+    }
+}
+
+/// Hangs an operation on its list, at a place where none waits yet.
+pub fn hang<D>(spots: &Spots<D>, threads: &mut Threads, stamps: &[u64], wait: Wait, place: u32)
+    requires hung { IsHung (wait_at spots.now.spots) threads.old stamps.now }
+    requires few { length stamps.now ≤ 2 ^ 27 }
+    requires empty { wait_at spots.now.spots place ≡ None }
+    requires within { place < threads.old.places }
+    requires low { IsLow wait (wait_at spots.now.spots) }
+    requires high { IsHigh wait (wait_at spots.now.spots) }
+    ensures hung { IsHung (λ p. if nat_eq p place then Some wait else wait_at spots.now.spots p) threads.new stamps.now }
+    ensures places { threads.new.places ≡ threads.old.places }
+{
+    let thread = home(stamps, wait.ct, wait.due);
+    if belongs(stamps, wait.ct) {
+        let after = gap(spots, threads, thread, wait.threshold);
+        threads.insert(thread, after, place);
+    } else {
+        threads.push_back(thread, place);
+    }
+}
+
+/// The place of an operation that waits on a counting event which has no lists.
+fn stray_on<D>(spots: &Spots<D>, threads: &Threads, stamps: &[u64], ct: Handle) -> Option<u32>
+    requires hung { IsHung (wait_at spots.now.spots) threads.now stamps.now }
+    requires few { length stamps.now ≤ 2 ^ 27 }
+    requires belongs { belongs stamps.now ct ≡ false }
+    ensures found { IfSome result (λ p. WaitsOn ct (wait_at spots.now.spots p)) }
+    ensures none { IfNone result ((p : ℕ) → WaitsOn ct (wait_at spots.now.spots p) → ⊥) }
+{
+    if threads.first(2 * stamps.len() as u32).is_none() {
+        return None;
+    }
+    for place in 0..spots.len() {
+        if waits_on(spots, ct, place) {
+            return Some(place);
+        }
+    }
+    None
+}
+
+/// The place of an operation that waits on a counting event; `None` exactly where none does.
+pub fn first_on<D>(spots: &Spots<D>, threads: &Threads, stamps: &[u64], ct: Handle) -> Option<u32>
+    requires hung { IsHung (wait_at spots.now.spots) threads.now stamps.now }
+    requires few { length stamps.now ≤ 2 ^ 27 }
+    ensures found { IfSome result (λ p. WaitsOn ct (wait_at spots.now.spots p)) }
+    ensures none { IfNone result ((p : ℕ) → WaitsOn ct (wait_at spots.now.spots p) → ⊥) }
+{
+    if !belongs(stamps, ct) {
+        return stray_on(spots, threads, stamps, ct);
+    }
+    match threads.first(home(stamps, ct, false)) {
+        Some(place) => Some(place),
+        None => threads.first(home(stamps, ct, true)),
+    }
+}
+
+/// Moves an operation to an earlier place, where none waits.
+fn carry<D>(spots: &mut Spots<D>, threads: &mut Threads, stamps: &[u64], from: u32, to: u32)
+    requires hung { IsHung (wait_at spots.old.spots) threads.old stamps.now }
+    requires few { length stamps.now ≤ 2 ^ 27 }
+    requires order { to < from }
+    requires full { IsSome (wait_at spots.old.spots from) }
+    requires empty { wait_at spots.old.spots to ≡ None }
+    requires within { length spots.old.spots ≤ threads.old.places }
+    ensures hung { IsHung (wait_at spots.new.spots) threads.new stamps.now }
+    ensures places { threads.new.places ≡ threads.old.places }
+    ensures spots { spots.new ≡ spotted (swap spots.old.spots from to) spots.old.room }
+{
+    if let Some(wait) = spots.wait(from) {
+        threads.insert(home(stamps, wait.ct, wait.due), Some(from), to);
+        threads.unlink(from);
+        spots.carry(from, to);
+    }
+}
+
+/// Where an operation waits at a place, moves it to the first place that is to be used anew.
+fn pack<D>(
+    spots: &mut Spots<D>,
+    threads: &mut Threads,
+    stamps: &[u64],
+    place: u32,
+    kept: u32,
+) -> u32
+    requires packs { IsPacking spots.old threads.old stamps.now kept place }
+    requires here { place < length spots.old.spots }
+    requires fits { length spots.old.spots < 2 ^ 32 }
+    ensures packs { IsPacking spots.new threads.new stamps.now result (place + 1) }
+    ensures value { operations_in (packed result (place + 1) spots.new.spots) ≡ operations_in (packed kept place spots.old.spots) }
+    ensures numbers { IsThinner (numbers_of (packed kept place spots.old.spots)) (numbers_of (packed result (place + 1) spots.new.spots)) }
+    ensures long { length spots.new.spots ≡ length spots.old.spots }
+    ensures room { spots.new.room ≡ spots.old.room }
+    ensures places { threads.new.places ≡ threads.old.places }
+{
+    if spots.wait(place).is_none() {
+        kept
+    } else if kept < place {
+        carry(spots, threads, stamps, place, kept);
+        kept + 1
+    } else {
+        kept + 1
+    }
+}
+
+/// Lays the operations at the first places, in their order, and gives the others free.
+pub fn lay_anew<D: Drop>(spots: &mut Spots<D>, threads: &mut Threads, stamps: &[u64])
+    requires hung { IsHung (wait_at spots.old.spots) threads.old stamps.now }
+    requires few { length stamps.now ≤ 2 ^ 27 }
+    requires within { length spots.old.spots ≤ threads.old.places }
+    ensures hung { IsHung (wait_at spots.new.spots) threads.new stamps.now }
+    ensures places { threads.new.places ≡ threads.old.places }
+    ensures value { operations_in spots.new.spots ≡ operations_in spots.old.spots }
+    ensures numbers { IsThinner (numbers_of spots.old.spots) (numbers_of spots.new.spots) }
+    ensures room { spots.new.room ≡ spots.old.room }
+    ensures full { length spots.new.spots ≡ length (operations_in spots.new.spots) }
+{
+    let mut kept = 0;
+    for place in 0..spots.len() {
+        kept = pack(spots, threads, stamps, place, kept);
+    }
+    spots.truncate(kept);
+}
+
+/// Gives the lists of a slot to a counting event, where they are empty and no operation is without lists.
+pub fn adopt<D>(spots: &Spots<D>, threads: &Threads, stamps: &mut [u64], ct: Handle)
+    requires hung { IsHung (wait_at spots.now.spots) threads.now stamps.old }
+    requires few { length stamps.old ≤ 2 ^ 27 }
+    ensures hung { IsHung (wait_at spots.now.spots) threads.now stamps.new }
+{
+    let slots = stamps.len() as u32;
+    if ct.slot >= slots || stamps[ct.slot as usize] == ct.stamp {
+        return;
+    }
+    if threads.first(2 * slots).is_none()
+        && threads.first(2 * ct.slot).is_none()
+        && threads.first(2 * ct.slot + 1).is_none()
+    {
+        stamps[ct.slot as usize] = ct.stamp;
+    }
+}
+
+/// Makes room for a further operation where there is none.
+pub fn make_room<D: Drop>(spots: &mut Spots<D>, threads: &mut Threads, stamps: &[u64])
+    requires hung { IsHung (wait_at spots.old.spots) threads.old stamps.now }
+    requires few { length stamps.now ≤ 2 ^ 27 }
+    requires within { length spots.old.spots ≤ threads.old.places }
+    requires room { length (operations_in spots.old.spots) < spots.old.room }
+    ensures hung { IsHung (wait_at spots.new.spots) threads.new stamps.now }
+    ensures places { threads.new.places ≡ threads.old.places }
+    ensures value { operations_in spots.new.spots ≡ operations_in spots.old.spots }
+    ensures numbers { IsThinner (numbers_of spots.old.spots) (numbers_of spots.new.spots) }
+    ensures same { spots.new.room ≡ spots.old.room }
+    ensures room { length spots.new.spots < spots.new.room }
+{
+    if spots.is_full() {
+        lay_anew(spots, threads, stamps);
+    }
+}
+
+/// Puts an operation in, at a further place.
+pub fn put_in<D>(
+    spots: &mut Spots<D>,
+    threads: &mut Threads,
+    stamps: &[u64],
+    number: u32,
+    deed: D,
+    wait: Wait,
+)
+    requires hung { IsHung (wait_at spots.old.spots) threads.old stamps.now }
+    requires few { length stamps.now ≤ 2 ^ 27 }
+    requires room { length spots.old.spots < spots.old.room }
+    requires within { spots.old.room ≤ threads.old.places }
+    requires low { IsLow wait (wait_at spots.old.spots) }
+    requires high { IsHigh wait (wait_at spots.old.spots) }
+    ensures hung { IsHung (wait_at spots.new.spots) threads.new stamps.now }
+    ensures places { threads.new.places ≡ threads.old.places }
+    ensures value { operations_in spots.new.spots ≡ operations_in spots.old.spots ++ operation_for number wait deed ∷ [] }
+    ensures numbers { numbers_of spots.new.spots ≡ numbers_of spots.old.spots ++ number ∷ [] }
+    ensures same { spots.new.room ≡ spots.old.room }
+{
+    hang(spots, threads, stamps, wait, spots.len());
+    spots.push(number, deed, wait);
+}
+
+/// Takes the operations that wait on a counting event off their lists and out of their places.
+pub fn drop_all<D: Drop>(spots: &mut Spots<D>, threads: &mut Threads, stamps: &[u64], ct: Handle)
+    requires hung { IsHung (wait_at spots.old.spots) threads.old stamps.now }
+    requires few { length stamps.now ≤ 2 ^ 27 }
+    ensures hung { IsHung (wait_at spots.new.spots) threads.new stamps.now }
+    ensures places { threads.new.places ≡ threads.old.places }
+    ensures same { IsSame spots.old spots.new }
+    ensures rest { operations_in spots.new.spots ≡ filter (λ p. not (waits_on ct p)) (operations_in spots.old.spots) }
+{
+    while let Some(place) = first_on(spots, threads, stamps, ct) {
+        let _ = take_out(spots, threads, stamps, place);
     }
 }

@@ -1,105 +1,111 @@
-//! How those operations are found that become due when a counting event changes, or no longer are. Of those that wait on one
-//! counting event, in the order of their thresholds, the due ones come first: so the search goes from the new sum downwards until one
-//! that is due, and upwards until one that isn't.
+//! How those operations become due, or no longer are, that a counting event's change tells so. Its lists are in the order of the
+//! thresholds: so the first of those that aren't due and the last of those that are decide.
 
-ghost use Rattle.std.specs.Prelude.{◌≡◌, ◌<◌, ◌+◌, ◌-◌, ◌^◌, ℕ, IsSome, option_map};
-ghost use Rattle.std.specs.Ordering.{nat_cmp};
-ghost use Rattle.std.specs.BTreeMap.{IsOrdered};
+ghost use Rattle.std.specs.Prelude.{◌≡◌, ℕ, ◌<◌, ◌≤◌, ◌+◌, ◌*◌, ◌^◌, true, false, map, nat_le, Some, length};
+ghost use Rattle.place_threads.specs.Threads.{thread as thread_at};
+ghost use Rattle.ptl_types.specs.Handles.{same_handle};
+ghost use Rattle.triggered_ops.specs.declared.spots.Wait.{Wait};
 ghost use Rattle.triggered_ops.specs.Operations.{told_if, waits_on};
-ghost use Rattle.triggered_ops.specs.Layout.{found_at, waits_above, waits_upto, AreDueAsOne, AreMarked, IsIndexed};
+ghost use Rattle.triggered_ops.specs.Layout.{operations_in, wait_at};
+ghost use Rattle.triggered_ops.specs.Hung.{belongs, IsHung, IsSame, EachOn, AreToldAlike};
 
-use crate::held::{PostedOperation, is_due_at, settle};
-use crate::index::{first_on, last_on};
-use number_marks::Marks;
+use crate::lists::{belongs, make_due, make_undue, next_due, next_undue, waits_on};
+use crate::spots::Spots;
+use place_threads::Threads;
 use ptl_types::Handle;
-use std::collections::{BTreeMap, BTreeSet};
 
 /// Those with a threshold up to the sum are due.
-fn raise<D>(
-    operations: &mut BTreeMap<u32, PostedOperation<D>>,
-    index: &BTreeSet<(u32, u64, u64, u32)>,
-    marks: &mut Marks,
-    ct: Handle,
-    sum: u64,
-)
-    requires indexed { IsIndexed operations.old index.now }
-    requires marked { AreMarked operations.old marks.old }
-    requires ordered { IsOrdered nat_cmp operations.old }
-    requires below { (t : ℕ) → IsSome (found_at operations.old t) → t < 2 ^ 32 - 1 }
-    requires told { AreDueAsOne (waits_upto ct sum) operations.old }
-    ensures marked { AreMarked operations.new marks.new }
-    ensures found { (t : ℕ) → found_at operations.new t ≡ option_map (told_if (waits_upto ct sum) sum) (found_at operations.old t) }
-    ensures held { marks.new.held ≡ marks.old.held }
-    ensures room { marks.new.room ≡ marks.old.room }
-    ensures ordered { IsOrdered nat_cmp operations.new }
+fn raise<D>(spots: &mut Spots<D>, threads: &mut Threads, stamps: &[u64], ct: Handle, sum: u64)
+    requires hung { IsHung (wait_at spots.old.spots) threads.old stamps.now }
+    requires few { length stamps.now ≤ 2 ^ 27 }
+    requires belongs { belongs stamps.now ct ≡ true }
+    requires within { length spots.old.spots ≤ threads.old.places }
+    ensures hung { IsHung (wait_at spots.new.spots) threads.new stamps.now }
+    ensures places { threads.new.places ≡ threads.old.places }
+    ensures same { IsSame spots.old spots.new }
+    ensures told { AreToldAlike ct sum spots.old spots.new }
+    ensures above { EachOn ct (λ x. x.due ≡ false → sum < x.threshold) (wait_at spots.new.spots) }
 {
-    let mut before = (sum, u32::MAX);
-    while let Some((threshold, number)) = last_on(index, ct, before) {
-        if is_due_at(operations, number) {
-            return;
-        }
-        settle(operations, marks, number, true);
-        before = (threshold, number);
+    while let Some(place) = next_due(spots, threads, stamps, ct, sum) {
+        make_due(spots, threads, stamps, ct, place);
     }
 }
 
-/// Where a search upwards goes on after an operation.
-fn just_after(threshold: u64, number: u32) -> (u64, u32)
-    requires { number < 2 ^ 32 - 1 }
-    ensures value { (result.0 ≡ threshold) × (result.1 ≡ number + 1) }
-    ensures range { result.0 < 2 ^ 64 }
+/// Those with a threshold above it aren't.
+fn lower<D>(spots: &mut Spots<D>, threads: &mut Threads, stamps: &[u64], ct: Handle, sum: u64)
+    requires hung { IsHung (wait_at spots.old.spots) threads.old stamps.now }
+    requires few { length stamps.now ≤ 2 ^ 27 }
+    requires belongs { belongs stamps.now ct ≡ true }
+    requires within { length spots.old.spots ≤ threads.old.places }
+    requires above { EachOn ct (λ x. x.due ≡ false → sum < x.threshold) (wait_at spots.old.spots) }
+    ensures hung { IsHung (wait_at spots.new.spots) threads.new stamps.now }
+    ensures places { threads.new.places ≡ threads.old.places }
+    ensures same { IsSame spots.old spots.new }
+    ensures told { AreToldAlike ct sum spots.old spots.new }
+    ensures due { EachOn ct (λ x. x.due ≡ nat_le x.threshold sum) (wait_at spots.new.spots) }
 {
-    (threshold, number + 1)
+    while let Some(place) = next_undue(spots, threads, stamps, ct, sum) {
+        make_undue(spots, threads, stamps, ct, place);
+    }
 }
 
-/// Those with a threshold above it aren't.
-fn lower<D>(
-    operations: &mut BTreeMap<u32, PostedOperation<D>>,
-    index: &BTreeSet<(u32, u64, u64, u32)>,
-    marks: &mut Marks,
+/// Tells the operation at a place, if it waits on a counting event that has no lists.
+fn tell_one<D>(
+    spots: &mut Spots<D>,
+    threads: &Threads,
+    stamps: &[u64],
     ct: Handle,
     sum: u64,
+    place: u32,
 )
-    requires indexed { IsIndexed operations.old index.now }
-    requires marked { AreMarked operations.old marks.old }
-    requires ordered { IsOrdered nat_cmp operations.old }
-    requires below { (t : ℕ) → IsSome (found_at operations.old t) → t < 2 ^ 32 - 1 }
-    requires told { AreDueAsOne (waits_above ct sum) operations.old }
-    ensures marked { AreMarked operations.new marks.new }
-    ensures found { (t : ℕ) → found_at operations.new t ≡ option_map (told_if (waits_above ct sum) sum) (found_at operations.old t) }
-    ensures held { marks.new.held ≡ marks.old.held }
-    ensures room { marks.new.room ≡ marks.old.room }
-    ensures ordered { IsOrdered nat_cmp operations.new }
+    requires hung { IsHung (wait_at spots.old.spots) threads.now stamps.now }
+    requires belongs { belongs stamps.now ct ≡ false }
+    ensures hung { IsHung (wait_at spots.new.spots) threads.now stamps.now }
+    ensures same { IsSame spots.old spots.new }
+    ensures told { AreToldAlike ct sum spots.old spots.new }
+    ensures here { (x : Wait) → wait_at spots.new.spots place ≡ Some x → same_handle x.ct ct ≡ true
+        → x.due ≡ nat_le x.threshold sum }
+    ensures others { (p : ℕ) → (p ≡ place → ⊥) → wait_at spots.new.spots p ≡ wait_at spots.old.spots p }
 {
-    let mut from = (sum, u32::MAX);
-    while let Some((threshold, number)) = first_on(index, ct, from) {
-        if !is_due_at(operations, number) {
-            return;
-        }
-        settle(operations, marks, number, false);
-        from = just_after(threshold, number);
+    if waits_on(spots, ct, place) {
+        let due = spots.threshold(place) <= sum;
+        spots.settle(place, due);
+    }
+}
+
+/// Tells those that wait on a counting event that has no lists.
+fn tell_strays<D>(spots: &mut Spots<D>, threads: &Threads, stamps: &[u64], ct: Handle, sum: u64)
+    requires hung { IsHung (wait_at spots.old.spots) threads.now stamps.now }
+    requires few { length stamps.now ≤ 2 ^ 27 }
+    requires belongs { belongs stamps.now ct ≡ false }
+    ensures hung { IsHung (wait_at spots.new.spots) threads.now stamps.now }
+    ensures same { IsSame spots.old spots.new }
+    ensures told { AreToldAlike ct sum spots.old spots.new }
+    ensures due { EachOn ct (λ x. x.due ≡ nat_le x.threshold sum) (wait_at spots.new.spots) }
+{
+    if threads.first(2 * stamps.len() as u32).is_none() {
+        return;
+    }
+    for place in 0..spots.len() {
+        tell_one(spots, threads, stamps, ct, sum, place);
     }
 }
 
 /// Tells a sum to the operations that wait on a counting event.
-pub fn tell_all<D>(
-    operations: &mut BTreeMap<u32, PostedOperation<D>>,
-    index: &BTreeSet<(u32, u64, u64, u32)>,
-    marks: &mut Marks,
-    ct: Handle,
-    sum: u64,
-)
-    requires indexed { IsIndexed operations.old index.now }
-    requires marked { AreMarked operations.old marks.old }
-    requires ordered { IsOrdered nat_cmp operations.old }
-    requires below { (t : ℕ) → IsSome (found_at operations.old t) → t < 2 ^ 32 - 1 }
-    requires told { AreDueAsOne (waits_on ct) operations.old }
-    ensures marked { AreMarked operations.new marks.new }
-    ensures found { (t : ℕ) → found_at operations.new t ≡ option_map (told_if (waits_on ct) sum) (found_at operations.old t) }
-    ensures held { marks.new.held ≡ marks.old.held }
-    ensures room { marks.new.room ≡ marks.old.room }
-    ensures ordered { IsOrdered nat_cmp operations.new }
+pub fn tell<D>(spots: &mut Spots<D>, threads: &mut Threads, stamps: &[u64], ct: Handle, sum: u64)
+    requires hung { IsHung (wait_at spots.old.spots) threads.old stamps.now }
+    requires few { length stamps.now ≤ 2 ^ 27 }
+    requires within { length spots.old.spots ≤ threads.old.places }
+    ensures hung { IsHung (wait_at spots.new.spots) threads.new stamps.now }
+    ensures places { threads.new.places ≡ threads.old.places }
+    ensures same { IsSame spots.old spots.new }
+    ensures told { operations_in spots.new.spots ≡ map (told_if (waits_on ct) sum) (operations_in spots.old.spots) }
+    ensures due { EachOn ct (λ x. x.due ≡ nat_le x.threshold sum) (wait_at spots.new.spots) }
 {
-    raise(operations, index, marks, ct, sum);
-    lower(operations, index, marks, ct, sum);
+    if belongs(stamps, ct) {
+        raise(spots, threads, stamps, ct, sum);
+        lower(spots, threads, stamps, ct, sum);
+    } else {
+        tell_strays(spots, threads, stamps, ct, sum);
+    }
 }

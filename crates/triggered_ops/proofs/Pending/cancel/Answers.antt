@@ -1,22 +1,30 @@
-use Rattle.std.proofs.Common.{arith}
-use Rattle.triggered_ops.proofs.Rising.{IsKept-filter}
-use Rattle.triggered_ops.proofs.Sums.{sums-cancelled}
-use Rattle.triggered_ops.proofs.Views.{waiting-cancelled, length-both, laid}
+use Rattle.std.proofs.Common.{not, length, refl, ap, arith}
+use Rattle.std.proofs.lemmas.List.Filters.{length-filter_both}
+use Rattle.triggered_ops.specs.Operations.{waits_on}
+use Rattle.triggered_ops.specs.Layout.{operations_in}
+use Rattle.triggered_ops.proofs.Rising.{length-filter_le}
+use Rattle.triggered_ops.proofs.Laid.{laid-same}
 use Rattle.triggered_ops.proofs.Pending.cancel.Goals as goal
 
 pub overflow_sub-result : goal.overflow_sub-result
 overflow_sub-result g c =
-    omega (arith, length-both c.self.inside.operations c.drop_all.new.operations c.self.inside.given c.self.inside.limit c.args.self.now c.args.ct c.self.view_is (waiting-cancelled c.self.inside.operations c.drop_all.new.operations c.self.inside.given c.self.inside.limit c.args.ct c.self.invariant.kept c.drop_all.ensures.ordered c.drop_all.ensures.found), c.len.ensures.len, c.len-before.ensures.len)
+    let rest = ap length c.drop_all.ensures.rest in
+    let le = length-filter_le (λ p. not (waits_on c.args.ct p)) (operations_in c.self.inside.spots.spots) in
+    omega (arith, rest, le, c.waiting-before.ensures, c.waiting.ensures)
 
 pub invariant_of-self : goal.invariant_of-self
 invariant_of-self g c =
-    laid c.drop_all.new.operations _ c.self.inside.marks _ c.self.inside.given c.self.inside.limit _
-    (waiting-cancelled c.self.inside.operations c.drop_all.new.operations c.self.inside.given c.self.inside.limit c.args.ct c.self.invariant.kept c.drop_all.ensures.ordered c.drop_all.ensures.found)
-    (IsKept-filter _ _ c.self.invariant.kept) c.drop_all.ensures.ordered c.drop_all.ensures.indexed c.drop_all.ensures.marked (sums-cancelled c.self.inside.operations c.drop_all.new.operations c.args.ct c.drop_all.ensures.found c.self.invariant.told) c.drop_all.ensures.held c.drop_all.ensures.room c.self.invariant.below c.self.invariant.room c.self.invariant.small
+    let i = c.self.inside in
+    let e = c.drop_all.ensures in
+    let rest = ap length e.rest in
+    let le = length-filter_le (λ p. not (waits_on c.args.ct p)) (operations_in i.spots.spots) in
+    laid-same i.spots c.drop_all.new.spots i.threads c.drop_all.new.threads i.stamps.items i.given i.limit c.self.invariant e.same (rw c.deref.ensures.value at e.hung) e.places (omega (arith, rest, le))
 
 pub returns-clause-number : goal.returns-clause-number
 returns-clause-number g c =
-    omega (arith, length-both c.self.inside.operations c.drop_all.new.operations c.self.inside.given c.self.inside.limit c.args.self.now c.args.ct c.self.view_is (waiting-cancelled c.self.inside.operations c.drop_all.new.operations c.self.inside.given c.self.inside.limit c.args.ct c.self.invariant.kept c.drop_all.ensures.ordered c.drop_all.ensures.found), c.len.ensures.len, c.len-before.ensures.len)
+    let rest = ap length c.drop_all.ensures.rest in
+    let both = length-filter_both (waits_on c.args.ct) (λ p. not (waits_on c.args.ct p)) (λ _. refl) (operations_in c.self.inside.spots.spots) in
+    rw (← c.self.view_is) (omega (arith, rest, both, c.waiting-before.ensures, c.waiting.ensures))
 
 pub returns-clause-rest : goal.returns-clause-rest
-returns-clause-rest g c = rw (← c.self.view_is) (waiting-cancelled c.self.inside.operations c.drop_all.new.operations c.self.inside.given c.self.inside.limit c.args.ct c.self.invariant.kept c.drop_all.ensures.ordered c.drop_all.ensures.found)
+returns-clause-rest g c = rw (← c.self.view_is, c.drop_all.ensures.rest) refl

@@ -1,11 +1,14 @@
-use Rattle.std.proofs.Common.{ap, ◌∙◌}
-use Rattle.std.specs.Prelude.{option_map}
-use Rattle.triggered_ops.specs.Operations.{shown}
-use Rattle.triggered_ops.proofs.Views.{read-op, found-held, found-none}
+use Rattle.triggered_ops.proofs.Found.{found-here}
 use Rattle.triggered_ops.proofs.Pending.get.Goals as goal
 
+pub place_of-requires : goal.place_of-requires
+place_of-requires g c = c.self.invariant.rising
+
 pub returns-in-Some-clause-found : goal.returns-in-Some-clause-found
-returns-in-Some-clause-found g c = ap (option_map shown) (read-op c.self.inside.operations c.self.inside.given c.self.inside.limit c.args.self.now c.self.view_is c.args.number ∙ found-held c.self.inside.operations c.args.number c.in-Some.held.now c.in-Some.ensures.value)
+returns-in-Some-clause-found g c = rw (← c.self.view_is, found-here c.self.inside.spots.spots c.args.number c.in-Some.place c.self.invariant.rising c.in-Some.ensures.found) c.get.ensures.found
+
+pub returns-in-Some-clause-none : goal.returns-in-Some-clause-none
+returns-in-Some-clause-none g c = rw (← c.self.view_is, found-here c.self.inside.spots.spots c.args.number c.in-Some.place c.self.invariant.rising c.in-Some.ensures.found) c.get.ensures.none
 
 pub returns-in-None-clause-none : goal.returns-in-None-clause-none
-returns-in-None-clause-none g c = read-op c.self.inside.operations c.self.inside.given c.self.inside.limit c.args.self.now c.self.view_is c.args.number ∙ found-none c.self.inside.operations c.args.number c.in-None.ensures.value
+returns-in-None-clause-none g c = rw (← c.self.view_is) c.in-None.ensures.none

@@ -1,7 +1,6 @@
 use Rattle.std.proofs.Common.{arith}
-use Rattle.std.proofs.lemmas.List.{length-map}
-use Rattle.triggered_ops.specs.Layout.{operation}
+use Rattle.triggered_ops.proofs.Laid.{laid-kept}
 use Rattle.triggered_ops.proofs.Pending.len.Goals as goal
 
-pub overflow_cast-result : goal.overflow_cast-result
-overflow_cast-result g c = omega (arith, c.self.invariant.kept.limited, c.self.invariant.small, c.len.ensures.len, length-map c.self.inside.operations.entries operation)
+pub returns-clause-kept : goal.returns-clause-kept
+returns-clause-kept g c = rw (← c.self.view_is) (laid-kept c.self.inside.spots c.self.inside.threads c.self.inside.stamps.items c.self.inside.given c.self.inside.limit c.self.invariant (omega arith))

@@ -1,28 +1,33 @@
-use Rattle.std.proofs.Common.{◌≡◌, ◌<◌, find, Some, ap, sym, ◌∙◌}
-use Rattle.std.specs.Prelude.{option_map}
-use Rattle.triggered_ops.specs.Layout.{operation, is_from}
-use Rattle.triggered_ops.specs.Operations.{Operation, numbered}
-use Rattle.triggered_ops.proofs.Rising.{found-by_number, from-none, from-least, from-alone, find_has}
-use Rattle.triggered_ops.proofs.Views.{first-from, none-from, kept-view}
+use Rattle.triggered_ops.specs.Layout.{operations_in}
+use Rattle.triggered_ops.proofs.Rising.{from-none}
+use Rattle.triggered_ops.proofs.Passing.{next-found, next-none, next-shown, next-range, next-alone, not-none}
 use Rattle.triggered_ops.proofs.Pending.next.Goals as goal
+
+pub place_from-requires : goal.place_from-requires
+place_from-requires g c = c.self.invariant.rising
 
 pub returns-in-None-clause-none : goal.returns-in-None-clause-none
 returns-in-None-clause-none g c =
-    from-none c.args.from c.args.self.now.waiting (none-from c.args.from c.self.inside.operations.entries c.self.inside.given c.self.inside.limit c.args.self.now c.self.view_is (sym (c.range.ensures.between tt) ∙ c.in-None.ensures.steps.0))
+    let ss = c.self.inside.spots.spots in
+    rw (← c.self.view_is) (from-none c.args.from (operations_in ss) (next-none ss c.args.from c.place_from.result c.place_from.ensures.below c.in-None.ensures.none))
 
 pub returns-in-Some-clause-found : goal.returns-in-Some-clause-found
 returns-in-Some-clause-found g c =
-    let e : find (is_from c.args.from) c.args.self.now.waiting ≡ Some (operation (c.in-Some.number.now, c.in-Some.held.now)) = first-from c.args.from c.self.inside.operations.entries c.self.inside.given c.self.inside.limit c.args.self.now (c.in-Some.number.now, c.in-Some.held.now) c.next.new.self c.self.view_is (sym (c.range.ensures.between tt) ∙ c.in-Some.ensures.steps) in
-    ap (option_map numbered) (found-by_number (is_from c.args.from) c.args.self.now.waiting (operation (c.in-Some.number.now, c.in-Some.held.now)) (kept-view c.self.inside.operations.entries c.self.inside.given c.self.inside.limit c.args.self.now c.self.view_is c.self.invariant.kept).rising e)
+    let i = c.self.inside.spots.spots in
+    let first = next-found i c.args.from c.place_from.result c.in-Some.place c.place_from.ensures.below c.place_from.ensures.above c.in-Some.ensures.some.0 c.in-Some.ensures.some.1 c.in-Some.ensures.before in
+    rw (← c.self.view_is) (next-shown (λ r. (r.0, r.1.now, r.2, r.3)) i c.args.from c.in-Some.place first c.self.invariant.rising c.numbered.result c.numbered.ensures.found)
 
 pub returns-in-Some-clause-range : goal.returns-in-Some-clause-range
 returns-in-Some-clause-range g c =
-    let e : find (is_from c.args.from) c.args.self.now.waiting ≡ Some (operation (c.in-Some.number.now, c.in-Some.held.now)) = first-from c.args.from c.self.inside.operations.entries c.self.inside.given c.self.inside.limit c.args.self.now (c.in-Some.number.now, c.in-Some.held.now) c.next.new.self c.self.view_is (sym (c.range.ensures.between tt) ∙ c.in-Some.ensures.steps) in (
-      from-least c.args.from c.args.self.now.waiting (operation (c.in-Some.number.now, c.in-Some.held.now)) e,
-      find_has (λ (p : Operation _). p.number < c.args.self.now.given) (is_from c.args.from) c.args.self.now.waiting (operation (c.in-Some.number.now, c.in-Some.held.now)) (kept-view c.self.inside.operations.entries c.self.inside.given c.self.inside.limit c.args.self.now c.self.view_is c.self.invariant.kept).were_given e,
-    )
+    let i = c.self.inside.spots.spots in
+    let first = next-found i c.args.from c.place_from.result c.in-Some.place c.place_from.ensures.below c.place_from.ensures.above c.in-Some.ensures.some.0 c.in-Some.ensures.some.1 c.in-Some.ensures.before in
+    rw (← c.self.view_is) (next-range (λ r. (r.0, r.1.now, r.2, r.3)) i c.args.from c.in-Some.place first c.self.inside.given c.self.invariant.below c.numbered.result c.numbered.ensures.found)
 
 pub returns-in-Some-clause-alone : goal.returns-in-Some-clause-alone
 returns-in-Some-clause-alone g c =
-    let e : find (is_from c.args.from) c.args.self.now.waiting ≡ Some (operation (c.in-Some.number.now, c.in-Some.held.now)) = first-from c.args.from c.self.inside.operations.entries c.self.inside.given c.self.inside.limit c.args.self.now (c.in-Some.number.now, c.in-Some.held.now) c.next.new.self c.self.view_is (sym (c.range.ensures.between tt) ∙ c.in-Some.ensures.steps) in
-    from-alone c.args.from c.args.self.now.waiting (operation (c.in-Some.number.now, c.in-Some.held.now)) (kept-view c.self.inside.operations.entries c.self.inside.given c.self.inside.limit c.args.self.now c.self.view_is c.self.invariant.kept).rising e
+    let i = c.self.inside.spots.spots in
+    let first = next-found i c.args.from c.place_from.result c.in-Some.place c.place_from.ensures.below c.place_from.ensures.above c.in-Some.ensures.some.0 c.in-Some.ensures.some.1 c.in-Some.ensures.before in
+    rw (← c.self.view_is) (next-alone (λ r. (r.0, r.1.now, r.2, r.3)) i c.args.from c.in-Some.place first c.self.invariant.rising c.numbered.result c.numbered.ensures.found)
+
+pub returns-in-Some-clause-none : goal.returns-in-Some-clause-none
+returns-in-Some-clause-none g c = not-none c.self.inside.spots.spots c.in-Some.place _ c.numbered.result c.in-Some.ensures.some.1 c.numbered.ensures.none

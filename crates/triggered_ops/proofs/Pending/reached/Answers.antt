@@ -1,22 +1,15 @@
-use Rattle.std.proofs.Common.{◌<◌, arith}
-use Rattle.triggered_ops.specs.Operations.{waits_on}
-use Rattle.triggered_ops.proofs.Rising.{IsKept-told}
-use Rattle.triggered_ops.proofs.Sums.{sums-told}
-use Rattle.triggered_ops.proofs.Views.{below-given, waiting-told, indexed-told, laid}
+use Rattle.std.proofs.Common.{refl, arith}
+use Rattle.triggered_ops.proofs.Laid.{laid-within, laid-same, told-length}
 use Rattle.triggered_ops.proofs.Pending.reached.Goals as goal
 
-pub tell_all-requires-clause-below : goal.tell_all-requires-clause-below
-tell_all-requires-clause-below g c = λ t some. let lt : t < c.self.inside.given = below-given c.self.inside.operations c.self.inside.given c.self.inside.limit c.self.invariant.kept t some in omega (arith, lt, c.self.invariant.kept.numbers)
-
-pub tell_all-requires-clause-told : goal.tell_all-requires-clause-told
-tell_all-requires-clause-told g c = c.self.invariant.told c.args.ct
+pub tell-requires-clause-within : goal.tell-requires-clause-within
+tell-requires-clause-within g c = laid-within c.self.inside.spots c.self.inside.threads c.self.inside.stamps.items c.self.inside.given c.self.inside.limit c.self.invariant
 
 pub invariant_of-self : goal.invariant_of-self
 invariant_of-self g c =
-    laid c.tell_all.new.operations _ c.self.inside.marks _ c.self.inside.given c.self.inside.limit _
-    (waiting-told c.self.inside.operations c.tell_all.new.operations c.self.inside.given c.self.inside.limit (waits_on c.args.ct) c.args.sum c.self.invariant.kept c.tell_all.ensures.ordered c.tell_all.ensures.found)
-    (IsKept-told _ (waits_on c.args.ct) c.args.sum c.self.invariant.kept) c.tell_all.ensures.ordered (indexed-told c.self.inside.operations c.tell_all.new.operations c.self.inside.index (waits_on c.args.ct) c.args.sum c.self.invariant.indexed c.tell_all.ensures.found) c.tell_all.ensures.marked (sums-told c.args.ct c.args.sum c.self.inside.operations c.tell_all.new.operations c.tell_all.ensures.found c.self.invariant.told) c.tell_all.ensures.held c.tell_all.ensures.room c.self.invariant.below c.self.invariant.room c.self.invariant.small
+    let i = c.self.inside in
+    let e = c.tell.ensures in
+    laid-same i.spots c.tell.new.spots i.threads c.tell.new.threads i.stamps.items i.given i.limit c.self.invariant e.same (rw c.deref.ensures.value at e.hung) e.places (let n = told-length i.spots c.tell.new.spots c.args.ct c.args.sum e.told in omega (arith, n))
 
 pub returns : goal.returns
-returns g c =
-    record { does = rw (← c.self.view_is) (waiting-told c.self.inside.operations c.tell_all.new.operations c.self.inside.given c.self.inside.limit (waits_on c.args.ct) c.args.sum c.self.invariant.kept c.tell_all.ensures.ordered c.tell_all.ensures.found) }
+returns g c = record { does = rw (← c.self.view_is, c.tell.ensures.told) refl }

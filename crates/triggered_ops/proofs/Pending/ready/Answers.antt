@@ -1,17 +1,14 @@
-use Rattle.std.proofs.Common.{◌≡◌, false, ap, sym, ◌∙◌}
-use Rattle.number_marks.specs.Marking.{is_in}
-use Rattle.triggered_ops.specs.Operations.{is_due_op}
-use Rattle.triggered_ops.proofs.Numbers.{due-first, none-in}
-use Rattle.triggered_ops.proofs.Views.{read-op}
+use Rattle.std.proofs.Common.{sym, ◌∙◌, arith}
+use Rattle.triggered_ops.specs.Layout.{operations_in}
+use Rattle.triggered_ops.proofs.Found.{rising-operations}
+use Rattle.triggered_ops.proofs.Laid.{first-due, none-due}
 use Rattle.triggered_ops.proofs.Pending.ready.Goals as goal
 
-pub returns-then-count-eq0-clause-none : goal.returns-then-count-eq0-clause-none
-returns-then-count-eq0-clause-none g c = λ t.
-    let s = c.self.inside in
-    let none : is_in t s.marks.marked ≡ false = none-in t s.marks.marked (sym c.count.ensures.value ∙ c.if-count-eq0.true) in
-    ap is_due_op (read-op s.operations s.given s.limit c.args.self.now c.self.view_is t) ∙ sym (c.self.invariant.marked.due t) ∙ none
+pub returns-then-due-eq0-clause-none : goal.returns-then-due-eq0-clause-none
+returns-then-due-eq0-clause-none g c = rw (← c.self.view_is) (none-due (operations_in c.self.inside.spots.spots) (sym c.due.ensures ∙ c.if-due-eq0.true))
 
-pub returns-else-count-eq0-clause-some : goal.returns-else-count-eq0-clause-some
-returns-else-count-eq0-clause-some g c =
-    let s = c.self.inside in
-    ap is_due_op (read-op s.operations s.given s.limit c.args.self.now c.self.view_is c.at.result) ∙ sym (c.self.invariant.marked.due c.at.result) ∙ due-first s.marks.marked c.at.result c.at.ensures.value
+pub due_at-requires : goal.due_at-requires
+due_at-requires g c = omega (arith, c.due.ensures, c.if-due-eq0.false)
+
+pub returns-else-due-eq0-clause-some : goal.returns-else-due-eq0-clause-some
+returns-else-due-eq0-clause-some g c = rw (← c.self.view_is) (first-due (operations_in c.self.inside.spots.spots) c.due_at.result (rising-operations c.self.inside.spots.spots c.self.invariant.rising) c.due_at.ensures)

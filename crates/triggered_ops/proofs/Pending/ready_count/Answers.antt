@@ -1,16 +1,15 @@
-use Rattle.std.proofs.Common.{length, ap, arith, ◌∙◌}
-use Rattle.triggered_ops.specs.Layout.{operations_of}
-use Rattle.triggered_ops.proofs.Marks.{due-are, few-due}
+use Rattle.std.proofs.Common.{sym, ◌∙◌, arith}
+use Rattle.triggered_ops.proofs.Laid.{laid-kept, length-due, due-numbers_long}
 use Rattle.triggered_ops.proofs.Pending.ready_count.Goals as goal
 
 pub overflow_cast-result : goal.overflow_cast-result
 overflow_cast-result g c =
     let s = c.self.inside in
-    let e = due-are s.operations s.marks s.given s.limit (operations_of s.operations.entries s.given s.limit) (λ i. operations_of s.operations.entries s.given s.limit) c.self.invariant.kept c.count.ensures.rising c.self.invariant.marked in
-    let few = few-due (operations_of s.operations.entries s.given s.limit) c.self.invariant.kept (omega (arith, c.self.invariant.small)) in
-    omega (arith, few, ap length e, c.count.ensures.value)
+    let l = length-due s.spots.spots in
+    omega (arith, c.due.ensures, l, c.self.invariant.limited, c.self.invariant.small)
 
 pub returns-clause-value : goal.returns-clause-value
-returns-clause-value g c =
-    let s = c.self.inside in
-    c.count.ensures.value ∙ ap length (due-are s.operations s.marks s.given s.limit c.args.self.now c.self.view_is c.self.invariant.kept c.count.ensures.rising c.self.invariant.marked)
+returns-clause-value g c = rw (← c.self.view_is) (c.due.ensures ∙ sym (due-numbers_long c.self.inside.spots.spots))
+
+pub returns-clause-kept : goal.returns-clause-kept
+returns-clause-kept g c = rw (← c.self.view_is) (laid-kept c.self.inside.spots c.self.inside.threads c.self.inside.stamps.items c.self.inside.given c.self.inside.limit c.self.invariant (omega arith))

@@ -1,11 +1,59 @@
-use Rattle.std.proofs.Common.{sym, ◌∙◌}
-use Rattle.triggered_ops.specs.Layout.{found_at}
-use Rattle.triggered_ops.proofs.Changes.{waits-none, without-end}
-use Rattle.triggered_ops.proofs.Ranks.{zero-upto}
+use Rattle.std.proofs.Common.{◌≡◌, ℕ, ◌<◌, not, filter, length, sym, ap, ◌∙◌, arith}
+use Rattle.std.specs.Prelude.{is_some}
+use Rattle.ptl_types.specs.declared.handles.Handle.{Handle}
+use Rattle.triggered_ops.specs.Operations.{waits_on}
+use Rattle.triggered_ops.specs.Hung.{IsSame, WaitsOn}
+use Rattle.triggered_ops.specs.Layout.{Spotted, spotted, emptied, numbers_of, operations_in, wait_at}
+use Rattle.triggered_ops.proofs.Places.{waits-is, emptied-numbers, emptied-count}
+use Rattle.triggered_ops.proofs.Telling.{emptied-cancelled, none-cancelled}
 use Rattle.triggered_ops.proofs.parts.drop_all.Goals as goal
 
-pub returns-clause-found : goal.returns-clause-found
-returns-clause-found g c = λ t.
-    without-end c.args.ct (found_at c.loop-number.operations t)
-    (waits-none c.args.ct (found_at c.loop-number.operations t) (λ h. sym (c.loop-number.invariant.indexed c.args.ct.slot c.args.ct.stamp h t) ∙ c.in_default.ensures.none h t (zero-upto h t)))
-    ∙ c.loop-number.invariant.found t
+-- one that waits on the counting event is taken out
+module _ {D : Type 0} (old new : Spotted D) (p : ℕ) (ct : Handle) (found : WaitsOn ct (wait_at old.spots p)) (is : new ≡ spotted (emptied p old.spots) old.room) where
+  fewer : length (operations_in new.spots) < length (operations_in old.spots)
+  fewer =
+      let w = waits-is ct (wait_at old.spots p) found in
+      let n = emptied-count p old.spots (ap is_some w.1) in
+      let e = ap (λ (s : Spotted D). length (operations_in s.spots)) is in
+      omega (arith, n, e)
+
+  still-same : (first : Spotted D) → IsSame first old → IsSame first new
+  still-same first same = record {
+    numbers = ap (λ (s : Spotted D). numbers_of s.spots) is ∙ emptied-numbers p old.spots ∙ same.numbers;
+    room = ap (λ (s : Spotted D). s.room) is ∙ same.room;
+  }
+
+  still-rest : filter (λ p. not (waits_on ct p)) (operations_in new.spots) ≡ filter (λ p. not (waits_on ct p)) (operations_in old.spots)
+  still-rest = ap (λ (s : Spotted D). filter (λ p. not (waits_on ct p)) (operations_in s.spots)) is ∙ emptied-cancelled old.spots p ct found
+
+pub take_out-requires-clause-waits : goal.take_out-requires-clause-waits
+take_out-requires-clause-waits g c = let w = waits-is c.args.ct _ c.in-Some.ensures.found in ap is_some w.1
+
+pub loop-place-smaller : goal.loop-place-smaller
+loop-place-smaller g c = fewer c.loop-place.spots c.take_out.new.spots c.in-Some.place c.args.ct c.in-Some.ensures.found c.take_out.ensures.rest
+
+pub loop-place-smaller-in-Some : goal.loop-place-smaller-in-Some
+loop-place-smaller-in-Some g c = fewer c.loop-place.spots c.take_out.new.spots c.in-Some.place c.args.ct c.in-Some.ensures.found c.take_out.ensures.rest
+
+pub loop-place-preserved : goal.loop-place-preserved
+loop-place-preserved g c =
+    let i = c.loop-place.invariant in
+    record {
+      hung = c.take_out.ensures.hung;
+      places = c.take_out.ensures.places ∙ i.places;
+      same = still-same c.loop-place.spots c.take_out.new.spots c.in-Some.place c.args.ct c.in-Some.ensures.found c.take_out.ensures.rest _ i.same;
+      rest = still-rest c.loop-place.spots c.take_out.new.spots c.in-Some.place c.args.ct c.in-Some.ensures.found c.take_out.ensures.rest ∙ i.rest;
+    }
+
+pub loop-place-preserved-in-Some : goal.loop-place-preserved-in-Some
+loop-place-preserved-in-Some g c =
+    let i = c.loop-place.invariant in
+    record {
+      hung = c.take_out.ensures.hung;
+      places = c.take_out.ensures.places ∙ i.places;
+      same = still-same c.loop-place.spots c.take_out.new.spots c.in-Some.place c.args.ct c.in-Some.ensures.found c.take_out.ensures.rest _ i.same;
+      rest = still-rest c.loop-place.spots c.take_out.new.spots c.in-Some.place c.args.ct c.in-Some.ensures.found c.take_out.ensures.rest ∙ i.rest;
+    }
+
+pub returns-clause-rest : goal.returns-clause-rest
+returns-clause-rest g c = sym (none-cancelled c.loop-place.spots.spots c.args.ct c.in_default.ensures.none) ∙ c.loop-place.invariant.rest

@@ -1,22 +1,22 @@
-use Rattle.std.proofs.Common.{◌≡◌, Some, ap, sym}
-use Rattle.std.specs.Prelude.{option_map}
-use Rattle.std.specs.BTreeSet.{contains}
-use Rattle.triggered_ops.specs.Layout.{key_cmp, found_at, operation}
-use Rattle.triggered_ops.proofs.Changes.{found-out}
-use Rattle.triggered_ops.proofs.Marks.{marked-out}
-use Rattle.triggered_ops.proofs.Indexed.{tells-out}
+use Rattle.std.proofs.Common.{None, cond, nat_eq, sym, ap, subst, ◌∙◌}
+use Rattle.place_threads.specs.Threads.{Woven, without_place}
+use Rattle.triggered_ops.specs.Hung.{IsHung}
+use Rattle.triggered_ops.specs.Layout.{Spotted, wait_at}
+use Rattle.triggered_ops.proofs.Hanging.{unhung, hung-same}
+use Rattle.triggered_ops.proofs.Moving.{threaded-at}
+use Rattle.triggered_ops.proofs.Places.{emptied-at}
 use Rattle.triggered_ops.proofs.parts.take_out.Goals as goal
 
-pub returns-in-Some-clause-indexed : goal.returns-in-Some-clause-indexed
-returns-in-Some-clause-indexed g c =
-    let here : found_at c.args.operations.now c.args.number ≡ Some (operation (c.args.number, c.in-Some.held)) = sym (ap (option_map (λ h. operation (c.args.number, h))) c.in-Some.ensures.value) in
-    tells-out (contains key_cmp c.args.index.now) (contains key_cmp c.remove-in-Some.new.self) (found_at c.args.operations.now) (found_at c.remove.new.self) (operation (c.args.number, c.in-Some.held)) c.remove-in-Some.ensures.updates.0
-    (found-out c.args.operations.now c.remove.new.self c.args.number c.remove.ensures.updates.0) here c.requires.indexed
+pub unlink-requires : goal.unlink-requires
+unlink-requires g c = threaded-at (wait_at c.args.spots.now.spots) c.args.threads.now c.args.stamps.now c.requires.hung c.args.place c.requires.waits
 
-pub returns-in-Some-clause-marked : goal.returns-in-Some-clause-marked
-returns-in-Some-clause-marked g c =
-    marked-out c.args.operations.now c.remove.new.self c.args.marks.now c.unmark.new.marks c.args.number (found-out c.args.operations.now c.remove.new.self c.args.number c.remove.ensures.updates.0) c.unmark.ensures.marked c.unmark.ensures.held c.requires.marked
+pub returns-clause-hung : goal.returns-clause-hung
+returns-clause-hung g c =
+    let at = wait_at c.args.spots.now.spots in
+    let off = unhung at c.args.threads.now c.args.stamps.now c.requires.hung c.args.place in
+    subst (λ v. IsHung (wait_at c.take.new.self.spots) v c.args.stamps.now) (sym c.unlink.ensures)
+    (hung-same (λ q. cond (nat_eq q c.args.place) None (at q)) (wait_at c.take.new.self.spots) (without_place c.args.place c.args.threads.now) c.args.stamps.now
+    (λ q. ap (λ (s : Spotted _). wait_at s.spots q) c.take.ensures.rest ∙ emptied-at c.args.place c.args.spots.now.spots q) off)
 
-pub returns-in-None-clause-marked : goal.returns-in-None-clause-marked
-returns-in-None-clause-marked g c =
-    marked-out c.args.operations.now c.remove.new.self c.args.marks.now c.unmark.new.marks c.args.number (found-out c.args.operations.now c.remove.new.self c.args.number c.remove.ensures.updates.0) c.unmark.ensures.marked c.unmark.ensures.held c.requires.marked
+pub returns-clause-places : goal.returns-clause-places
+returns-clause-places g c = ap (λ (w : Woven). w.places) c.unlink.ensures

@@ -1,22 +1,22 @@
-use Rattle.std.proofs.Common.{◌≡◌, ◌-◌, ◌^◌, ◌<◌, ◌≤◌}
-use Rattle.std.specs.Ordering.{nat_cmp}
-use Rattle.std.specs.BTreeMap.{IsOrdered}
-use Rattle.triggered_ops.specs.Layout.{found_at, AreMarked}
-use Rattle.triggered_ops.proofs.Ranks.{rank}
-use Rattle.triggered_ops.proofs.Settled.{LoweredTo}
+-- As while raising; and those that wait are above the sum.
+use Rattle.std.proofs.Common.{◌≡◌, ℕ, ◌*◌, ◌<◌, ◌≤◌, true, false, Some, map, length}
+use Rattle.ptl_types.specs.Handles.{same_handle}
+use Rattle.place_threads.specs.Threads.{thread}
+use Rattle.triggered_ops.specs.declared.spots.Wait.{Wait}
+use Rattle.triggered_ops.specs.Operations.{told_if, waits_on}
+use Rattle.triggered_ops.specs.Layout.{operations_in, wait_at}
+use Rattle.triggered_ops.specs.Hung.{IsHung, IsSame}
 use Rattle.triggered_ops.proofs.told.lower.Given as goal
 
-abbrev pub invariant-loop-threshold : goal.invariant-loop-threshold
-invariant-loop-threshold g l = record {
-  marked : AreMarked l.operations l.marks;
-  ordered : IsOrdered nat_cmp l.operations;
-  held : l.marks.held ≡ l.fn.marks.held;
-  room : l.marks.room ≡ l.fn.marks.room;
-  few : l.from.1 < 2 ^ 32;
-  high : l.from.0 < 2 ^ 64;
-  top : rank l.sum (2 ^ 32 - 1) ≤ rank l.from.0 l.from.1;
-  found : LoweredTo l.ct l.sum (rank l.from.0 l.from.1) (found_at l.fn.operations) (found_at l.operations);
+abbrev pub invariant-loop-place : goal.invariant-loop-place
+invariant-loop-place g l = record {
+  hung : IsHung (wait_at l.spots.spots) l.threads l.stamps;
+  places : l.threads.places ≡ l.fn.threads.places;
+  same : IsSame l.fn.spots l.spots;
+  told : map (told_if (waits_on l.ct) l.sum) (operations_in l.spots.spots) ≡ map (told_if (waits_on l.ct) l.sum) (operations_in l.fn.spots.spots);
+  within : length l.spots.spots ≤ l.threads.places;
+  above : (p : ℕ) (x : Wait) → wait_at l.spots.spots p ≡ Some x → same_handle x.ct l.ct ≡ true → x.due ≡ false → l.sum < x.threshold;
 }
 
-abbrev pub decreases-loop-threshold : goal.decreases-loop-threshold
-decreases-loop-threshold g l = 2 ^ 96 - rank l.from.0 l.from.1
+abbrev pub decreases-loop-place : goal.decreases-loop-place
+decreases-loop-place g l = length (thread (2 * l.ct.slot) l.threads)
