@@ -3,3 +3,4 @@ pub mod Lasting
 pub mod Sound
 pub mod Answers
 pub mod Uses
+pub mod Forms

@@ -11,6 +11,7 @@ ghost use Rattle.portals_ni.specs.Pendings.{deed_in, due_numbers_to};
 use crate::armed::{Armed, tell};
 use crate::counting::set_counter;
 use crate::nic::Nic;
+use crate::packed::Packed;
 use crate::starts::is_start;
 use counters::Counter;
 use event_delivery::count;
@@ -53,17 +54,20 @@ fn message_target(deed: &Deed) -> Option<Rank>
 }
 
 /// The rank that the message of an operation is for, where it waits and has one.
-fn target_of(pending: &Pending<Armed>, number: u32) -> Option<Rank>
+fn target_of(pending: &Pending<Packed>, number: u32) -> Option<Rank>
     ensures { result ≡ target_of (posted_at number (posted_all deed_in pending.now)) }
 {
     match pending.get(number) {
-        Some((armed, _, _)) => message_target(&armed.deed),
+        Some((packed, _, _)) => {
+            let deed = packed.deed();
+            message_target(&deed)
+        }
         None => None,
     }
 }
 
 /// Whether it is for this rank.
-fn goes_to(pending: &Pending<Armed>, number: u32, target: Rank) -> bool
+fn goes_to(pending: &Pending<Packed>, number: u32, target: Rank) -> bool
     ensures { result ≡ is_rank target (target_of (posted_at number (posted_all deed_in pending.now))) }
 {
     match target_of(pending, number) {
@@ -73,7 +77,7 @@ fn goes_to(pending: &Pending<Armed>, number: u32, target: Rank) -> bool
 }
 
 /// How many operations are due whose message is for this rank.
-fn count_to(pending: &Pending<Armed>, target: Rank) -> u32
+fn count_to(pending: &Pending<Packed>, target: Rank) -> u32
     ensures value { result ≡ length (due_numbers_to target pending.now) }
     ensures kept { IsKept pending.now }
 {

@@ -64,6 +64,7 @@ mod entries;
 mod fires;
 mod named;
 mod nic;
+mod packed;
 mod queues;
 mod starts;
 mod tables;

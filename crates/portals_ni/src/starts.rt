@@ -13,6 +13,7 @@ ghost use Rattle.portals_ni.specs.Answers.{as_started};
 
 use crate::armed::{Armed, sum_of, tell};
 use crate::nic::Nic;
+use crate::packed::Packed;
 use counters::Counter;
 use handle_store::Store;
 use initiator_engine::Initiator;
@@ -75,7 +76,7 @@ fn deed_passes(deed: &Deed) -> bool
 fn check_triggered(
     cts: &Store<Counter>,
     initiator: &Initiator,
-    pending: &Pending<Armed>,
+    pending: &Pending<Packed>,
     deed: &Deed,
     ct: Handle,
 ) -> Result<(), NiFault>

@@ -9,6 +9,7 @@ ghost use Rattle.portals_ni.specs.Pendings.{deed_in};
 ghost use Rattle.portals_ni.specs.Uses.{put_md, get_md, AreUsed, CtsAlone, MdsAlone};
 
 use crate::armed::Armed;
+use crate::packed::Packed;
 use ptl_types::{Deed, Handle, Limits, NoMemory};
 use std::alloc::Global;
 use std::marker::Model;
@@ -18,7 +19,8 @@ use user_counts::Users;
 /// The pending operations. `cts` and `mds` count by slot how often they name a counting event and a descriptor.
 #[derive(Drop)]
 pub struct Triggers {
-    pending: Pending<Armed>,
+    alloc: Global,
+    pending: Pending<Packed>,
     cts: Users,
     mds: Users,
 }
@@ -73,7 +75,7 @@ fn get_md(deed: &Deed) -> Option<Handle>
 
 /// Takes an operation out, and counts down what it names.
 fn take_out(
-    pending: &mut Pending<Armed>,
+    pending: &mut Pending<Packed>,
     cts: &mut Users,
     mds: &mut Users,
     number: u32,
@@ -90,10 +92,11 @@ fn take_out(
         Some((_, ct, _)) => ct,
         None => return None,
     };
-    let armed = match pending.take(number) {
-        Some(armed) => armed,
+    let packed = match pending.take(number) {
+        Some(packed) => packed,
         None => unreachable!(),
     };
+    let armed = packed.unpack();
     cts.lower(ct.slot);
     cts.remove(deed_counter(&armed.deed));
     mds.remove(get_md(&armed.deed));
@@ -102,7 +105,7 @@ fn take_out(
 }
 
 /// Takes the operations out that wait on a counting event.
-fn drop_on(pending: &mut Pending<Armed>, cts: &mut Users, mds: &mut Users, ct: Handle)
+fn drop_on(pending: &mut Pending<Packed>, cts: &mut Users, mds: &mut Users, ct: Handle)
     requires { AreUsed pending.old cts.old mds.old }
     ensures used { AreUsed pending.new cts.new mds.new }
     ensures rest { pending.new ≡ cancelled ct pending.old }
@@ -129,12 +132,13 @@ fn deed_names_md(deed: &Deed, md: Handle) -> bool
 }
 
 /// Whether a pending operation names the descriptor.
-fn some_names_md(pending: &Pending<Armed>, md: Handle) -> bool
+fn some_names_md(pending: &Pending<Packed>, md: Handle) -> bool
     ensures { result ≡ operation_names_md md (posted_all deed_in pending.now).waiting }
 {
     let mut from = 0;
-    while let Some((number, armed, _, _)) = pending.next(from) {
-        if deed_names_md(&armed.deed, md) {
+    while let Some((number, packed, _, _)) = pending.next(from) {
+        let deed = packed.deed();
+        if deed_names_md(&deed, md) {
             return true;
         }
         from = number + 1;
@@ -161,12 +165,13 @@ fn counts_on(deed: &Deed, waits_on: Handle, ct: Handle) -> bool
 }
 
 /// Whether a pending operation waits or counts on the counting event.
-fn some_names_ct(pending: &Pending<Armed>, ct: Handle) -> bool
+fn some_names_ct(pending: &Pending<Packed>, ct: Handle) -> bool
     ensures { result ≡ operation_names_ct ct (posted_all deed_in pending.now).waiting }
 {
     let mut from = 0;
-    while let Some((number, armed, waits_on, _)) = pending.next(from) {
-        if counts_on(&armed.deed, waits_on, ct) {
+    while let Some((number, packed, waits_on, _)) = pending.next(from) {
+        let deed = packed.deed();
+        if counts_on(&deed, waits_on, ct) {
             return true;
         }
         from = number + 1;
@@ -179,14 +184,19 @@ impl Triggers {
     pub fn open(alloc: Global, limits: &Limits) -> Result<Triggers, NoMemory>
         ensures makes { IfOk result (λ t. t ≡ no_operations limits.now.triggered) }
     {
-        let pending = Pending::open(alloc, limits.triggered)?;
+        let pending = Pending::open(alloc, limits.triggered, limits.cts)?;
         let cts = Users::open(alloc, limits.cts)?;
         let mds = Users::open(alloc, limits.mds)?;
-        Ok(Triggers { pending, cts, mds })
+        Ok(Triggers {
+            alloc,
+            pending,
+            cts,
+            mds,
+        })
     }
 
     /// Those that wait.
-    pub fn waiting(&self) -> &Pending<Armed>
+    pub fn waiting(&self) -> &Pending<Packed>
         ensures value { result.now ≡ self.now }
     {
         &self.pending
@@ -199,7 +209,7 @@ impl Triggers {
         self.pending.reached(ct, sum);
     }
 
-    /// Posts an operation and answers its number; the sum of its counting event is told.
+    /// Posts an operation and answers its number; the sum of its counting event is told. At an error nothing has changed.
     pub fn post(
         &mut self,
         armed: Armed,
@@ -212,14 +222,15 @@ impl Triggers {
         ensures number { IfOk result (λ t. t ≡ self.old.given) }
         ensures fresh { IfOk result (λ t. operation_at t self.old ≡ None) }
         ensures ok { OnOk result (self.new ≡ with_posted armed ct threshold sum (told ct sum self.old)) }
-        ensures err { OnErr result (self.new ≡ told ct sum self.old) }
+        ensures err { OnErr result (self.new ≡ self.old) }
     {
         // Brings the bound of how many wait to the proof.
         let _many = self.pending.len();
         let counter = deed_counter(&armed.deed);
         let get = get_md(&armed.deed);
         let put = put_md(&armed.deed);
-        let number = self.pending.post(armed, ct, threshold, sum)?;
+        let packed = Packed::new(self.alloc, armed)?;
+        let number = self.pending.post(packed, ct, threshold, sum)?;
         self.cts.raise(ct.slot);
         self.cts.add(counter);
         self.mds.add(get);

@@ -8,10 +8,10 @@ use Rattle.ni_model.specs.Counts.{total}
 use Rattle.triggered_ops.specs.Operations.{posted_all, told, with_posted}
 use Rattle.portals_ni.specs.declared.armed.Armed.{Armed}
 use Rattle.portals_ni.specs.Pendings.{deed_in, sum_at}
-use Rattle.portals_ni.specs.Sound.{IsSound, Stands}
-use Rattle.portals_ni.proofs.Kept.{post-sound, told-sound, posts-armed, posts-live, may-start}
+use Rattle.portals_ni.specs.Sound.{IsSound}
+use Rattle.portals_ni.proofs.Kept.{post-sound, posts-armed, posts-live, may-start}
 use Rattle.portals_ni.proofs.Ends.{no-fault, fault-is, enough-refused, lacks}
-use Rattle.portals_ni.proofs.Equations.{post-may, told-state}
+use Rattle.portals_ni.proofs.Equations.{post-may}
 use Rattle.portals_ni.proofs.Stands.{may-stands, triggered-stands}
 use Rattle.portals_ni.proofs.nic.Nic.triggered.Goals as goal
 
@@ -41,16 +41,7 @@ invariant_of-self-2 c =
     }
 
 pub invariant_of-self : goal.invariant_of-self
-invariant_of-self c =
-    let n = c.self.inside in
-    let none : triggered_fault c.args.deed c.args.ct n.cts n.initiator.mds (posted_all deed_in n.pending) ≡ None = no-fault _ (sym (rw c.waiting.ensures.value at c.check_triggered.ensures) ∙ c.in_ok-check_triggered.was) in
-    let live = posts-live c.args.deed c.args.ct n.cts n.initiator.mds (posted_all deed_in n.pending) none in
-    let sum : c.sum_of-sum.result ≡ total live.0 = c.sum_of-sum.ensures ∙ ap sum_at live.1 in
-    let made : c.post.new.self ≡ told c.args.ct (total live.0) n.pending = rw sum at c.in-Err-post.ensures.err in
-    record {
-      sound = subst (IsSound n.target n.region n.cts n.initiator) (sym made) (told-sound n.target n.region n.cts n.initiator n.pending c.args.ct live.0 c.self.invariant.sound live.1);
-      stands = subst Stands (told-state n.target n.region n.cts n.eqs n.initiator n.pending n.drops n.violations c.args.ct (total live.0) c.post.new.self made) c.self.invariant.stands;
-    }
+invariant_of-self c = rw c.in-Err-post.ensures.err c.self.invariant
 
 pub returns : goal.returns
 returns c =
@@ -61,5 +52,4 @@ returns c =
 
 pub returns-in-Err-post : goal.returns-in-Err-post
 returns-in-Err-post c =
-    let n = c.self.inside in
-    record { does = rw (← told-state n.target n.region n.cts n.eqs n.initiator n.pending n.drops n.violations c.args.ct c.sum_of-sum.result c.post.new.self c.in-Err-post.ensures.err, ← c.self.view_is) (lacks _ _ _ _ (no-fault _ (sym (rw c.waiting.ensures.value at c.check_triggered.ensures) ∙ c.in_ok-check_triggered.was))) }
+    record { does = rw (c.in-Err-post.ensures.err, ← c.self.view_is) (lacks _ _ _ _ (no-fault _ (sym (rw c.waiting.ensures.value at c.check_triggered.ensures) ∙ c.in_ok-check_triggered.was))) }

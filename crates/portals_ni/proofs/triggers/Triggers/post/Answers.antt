@@ -25,14 +25,13 @@ add-requires-3 c =
 
 pub invariant_of-self : goal.invariant_of-self
 invariant_of-self c =
-    let t = c.self.inside in
-    rw c.in_err-number.ensures.err (used-told (waits_on c.args.ct) c.args.sum t.pending t.cts t.mds c.self.invariant)
+    rw c.in_err-number.ensures.err c.self.invariant
 
 pub invariant_of-self-2 : goal.invariant_of-self-2
 invariant_of-self-2 c =
     let t = c.self.inside in
     let ops = told c.args.ct c.args.sum t.pending in
-    rw (c.in_ok-number.ensures.ok, c.add.ensures.does, c.raise.ensures.does, c.deed_counter-counter.ensures, c.add-3.ensures.does, c.add-2.ensures.does, c.get_md-get.ensures, c.put_md-put.ensures)
+    rw (c.in_ok-number.ensures.ok, c.in_ok-packed.ensures, c.add.ensures.does, c.raise.ensures.does, c.deed_counter-counter.ensures, c.add-3.ensures.does, c.add-2.ensures.does, c.get_md-get.ensures, c.put_md-put.ensures)
     (used-posted ops (with_posted c.args.armed c.args.ct c.args.threshold c.args.sum ops)
     (record { number = t.pending.given; deed = c.args.armed; ct = c.args.ct; threshold = c.args.threshold; due = nat_le c.args.threshold c.args.sum }) t.cts t.mds
     (used-told (waits_on c.args.ct) c.args.sum t.pending t.cts t.mds c.self.invariant) refl)
