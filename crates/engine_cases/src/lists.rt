@@ -54,7 +54,7 @@ fn found_and_unlinked<L: Ledger>(rt: &impl Abort, lists: &mut Lists, steps: &mut
     let found = lists.find(&header(5, 5), true, steps);
     gives!(rt; found, Some((List::Overflow, SECOND)));
     gives!(rt; lists.find(&header(5, 5), false, steps), None);
-    gives!(rt; lists.names_ct(FIRST), false);
+    gives!(rt; lists.names_ct(FIRST, steps), false);
     gives!(rt; lists.unlink(FIRST, steps).is_some(), true);
     gives!(rt; lists.unlink(FIRST, steps).is_none(), true);
     gives!(rt; lists.get(FIRST, steps).is_none(), true);

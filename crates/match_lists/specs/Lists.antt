@@ -1,5 +1,5 @@
 -- The two lists of a portal table index, as a contract sees them (Portals 4.3, match lists).
-use Rattle.std.specs.Prelude.{ℕ, ◌+◌, Bool, ◌||◌, List, map, length, Option, Some, None, find}
+use Rattle.std.specs.Prelude.{ℕ, ◌+◌, Bool, true, false, ◌||◌, List, map, length, Option, Some, None, find}
 use Rattle.std.specs.Borrow.{Bor}
 use Rattle.ptl_types.specs.declared.handles.Handle.{Handle}
 use Rattle.ptl_types.specs.declared.headers.Header.{Header}
@@ -10,7 +10,7 @@ use Rattle.ptl_types.specs.Handles.{same_handle}
 use Rattle.chain_list.specs.Chain.{Keyed}
 use Rattle.ni_model.specs.declared.Linked.{Linked}
 use Rattle.ni_model.specs.declared.Found.{Found}
-use Rattle.ni_model.specs.Lists.{unlinked, advanced}
+use Rattle.ni_model.specs.Lists.{fits, unlinked, advanced}
 use Rattle.ni_model.specs.Arrive.{or_else}
 use Rattle.match_lists.specs.Buckets.{candidates_in}
 use Rattle.ni_model.specs.Calls.{slot_in}
@@ -71,9 +71,16 @@ advanced_to me to b = both (advanced me to b.priority) (advanced me to b.overflo
 abbrev pub running_at : ℕ → Linked → Linked
 running_at to x = record { handle = x.handle; running = to; entry = x.entry }
 
--- how many linked entries may take the message, as far as its match bits tell
-abbrev pub candidates : Header → Both → ℕ
-candidates h b = candidates_in b.limit h.match_bits b.priority + candidates_in b.limit h.match_bits b.overflow
+-- how many entries of the overflow list may take a message, as far as its match bits tell: the list is asked only where it is
+-- to be, and where no entry of the priority list takes the message
+abbrev pub overflow_candidates : Bool → Option Linked → Header → Both → ℕ
+overflow_candidates false taken h b = 0
+overflow_candidates true (Some x) h b = 0
+overflow_candidates true None h b = candidates_in b.limit h.match_bits b.overflow
+
+-- how many linked entries may take the message, as far as its match bits tell, of the lists that are asked
+abbrev pub candidates : Header → Bool → Both → ℕ
+candidates h overflow b = candidates_in b.limit h.match_bits b.priority + overflow_candidates overflow (find (fits h) b.priority) h b
 
 -- its entry
 abbrev pub entry_of : Option Linked → Option Entry

@@ -4,6 +4,7 @@
 mod lists;
 mod look;
 mod match_list;
+mod trails;
 mod walk;
 
 pub use lists::{LinkedAt, Lists};
@@ -12,4 +13,6 @@ pub use lists::{LinkedAt, Lists};
 pub use look::Look;
 #[doc(hidden)]
 pub use match_list::MatchList;
+#[doc(hidden)]
+pub use trails::{Trails, Unseen};
 pub use walk::{fits, offset_in, space_in};

@@ -13,8 +13,8 @@ use chain_list::{Chain, ChainKey, Steps};
 use ni_model::{Found, Linked};
 use ptl_types::{Entry, Handle, Header, List, NoMemory};
 use std::alloc::Global;
-use std::marker::{Brand, Model};
-use std::sync::ledger::{Blank, Ledger};
+use std::marker::Model;
+use std::sync::ledger::Ledger;
 
 /// Where the entry of a slot is linked.
 #[derive(Clone, Copy, Debug)]
@@ -47,7 +47,9 @@ fn same_list(a: List, b: List) -> bool
 }
 
 /// The two lists of an index. Their value is the entries of each, in the order of appending, how many entries they have room
-/// for together, below which number each handle's slot lies, and how many entries were appended.
+/// for together, below which number each handle's slot lies, and how many entries were appended. The bounds on nodes are of the
+/// counter that a call is handed, where each node is counted whose entry, neighbours or look is read; a slot of the table that
+/// tells where a handle's entry is linked is no node.
 #[derive(Drop)]
 pub struct Lists {
     priority: MatchList,
@@ -70,8 +72,8 @@ impl Model for Lists {
 }
 
 impl Lists {
-    /// Two empty lists with room for `limit` entries together, whose handles have slots below `slots`. No later call takes
-    /// memory.
+    /// Two empty lists with room for `limit` entries together, whose handles have slots below `slots`. No later call has an
+    /// answer for want of memory.
     pub fn open(alloc: Global, limit: u32, slots: u32) -> Result<Lists, NoMemory>
         ensures { IfOk result (λ l. l ≡ both [] [] limit slots 0) }
     {
@@ -89,7 +91,8 @@ impl Lists {
         })
     }
 
-    /// Links the entry at the end of one of the lists, with running offset 0. Touches at most three nodes.
+    /// Links the entry at the end of one of the lists, with running offset 0. Counts at most three nodes; the links of two places
+    /// on its thread are set beside that.
     pub fn append<L: Ledger>(
         &mut self,
         list: List,
@@ -121,7 +124,8 @@ impl Lists {
         }
     }
 
-    /// Unlinks the entry of this handle and hands it back; `None` exactly where it isn't linked. Touches at most four nodes.
+    /// Unlinks the entry of this handle and hands it back; `None` exactly where it isn't linked. Counts at most four nodes; the
+    /// links of two places on its thread are set beside that.
     pub fn unlink<L: Ledger>(&mut self, handle: Handle, steps: &mut Steps<L>) -> Option<Entry>
         ensures entry { result ≡ entry_of (linked_as handle self.old) }
         ensures lists { self.new ≡ without_entry handle self.old }
@@ -147,7 +151,7 @@ impl Lists {
         }
     }
 
-    /// The linked entry of a handle; `None` exactly where it isn't linked. Touches at most one node.
+    /// The linked entry of a handle; `None` exactly where it isn't linked. Counts at most one node.
     fn linked_at<L: Ledger>(&self, handle: Handle, steps: &mut Steps<L>) -> Option<&Linked>
         ensures linked { option_copied result ≡ linked_as handle self.now }
         ensures steps { steps.new ≤ steps.old + 1 }
@@ -160,7 +164,7 @@ impl Lists {
         }
     }
 
-    /// The linked entry of a handle with its running offset; `None` exactly where it isn't linked. Touches at most one node.
+    /// The linked entry of a handle with its running offset; `None` exactly where it isn't linked. Counts at most one node.
     pub fn get<L: Ledger>(&self, handle: Handle, steps: &mut Steps<L>) -> Option<(&Entry, u64)>
         ensures entry { with_running result ≡ running_of (linked_as handle self.now) }
         ensures steps { steps.new ≤ steps.old + 1 }
@@ -171,7 +175,7 @@ impl Lists {
         }
     }
 
-    /// Moves the running offset of a linked entry on, in bytes. Touches at most one node.
+    /// Moves the running offset of a linked entry on, in bytes. Counts at most one node.
     pub fn advance<L: Ledger>(&mut self, handle: Handle, by: u64, steps: &mut Steps<L>)
         requires linked { IsSome (linked_as handle self.old) }
         requires fits { IfSome (linked_as handle self.old) (λ x. x.running + by < 2 ^ 64) }
@@ -189,8 +193,9 @@ impl Lists {
     }
 
     /// The entry that takes the message, with its list: the first of the priority list that fits, else, where `overflow` is
-    /// true, the first of the overflow list that fits; `None` exactly where there is no such entry. Touches at most two nodes
-    /// for each linked entry whose match bits share the message's bucket, or that ignores some of them.
+    /// true, the first of the overflow list that fits; `None` exactly where there is no such entry. Counts at most two nodes
+    /// for each entry of the priority list whose match bits share the message's bucket, or that ignores some of them; and only
+    /// where none of that list fits and `overflow` is true, as many for each such entry of the overflow list.
     pub fn find_entry<L: Ledger>(
         &self,
         header: &Header,
@@ -199,7 +204,7 @@ impl Lists {
     ) -> Option<Found>
         ensures first { result ≡ first_fit header.now overflow self.now.priority self.now.overflow }
         ensures steps { steps.new ≤ steps.old + 2 * linked_count self.now }
-        ensures few { steps.new ≤ steps.old + 2 * candidates header.now self.now }
+        ensures few { steps.new ≤ steps.old + 2 * candidates header.now overflow self.now }
     {
         if let Some(linked) = self.priority.first_fit(header, steps) {
             return Some(Found {
@@ -228,7 +233,7 @@ impl Lists {
     ) -> Option<(List, Handle)>
         ensures first { result ≡ named (first_fit header.now overflow self.now.priority self.now.overflow) }
         ensures steps { steps.new ≤ steps.old + 2 * linked_count self.now }
-        ensures few { steps.new ≤ steps.old + 2 * candidates header.now self.now }
+        ensures few { steps.new ≤ steps.old + 2 * candidates header.now overflow self.now }
     {
         match self.find_entry(header, overflow, steps) {
             Some(found) => Some((found.list, found.linked.handle)),
@@ -243,7 +248,7 @@ impl Lists {
         self.priority.chain().first().is_none() && self.overflow.chain().first().is_none()
     }
 
-    /// Whether the entry of this handle is linked in one of the lists. Touches no node.
+    /// Whether the entry of this handle is linked in one of the lists. Counts no node.
     pub fn is_linked(&self, list: List, handle: Handle) -> bool
         ensures { result ≡ is_linked handle (entries list self.now) }
     {
@@ -254,16 +259,12 @@ impl Lists {
         }
     }
 
-    /// Whether a linked entry names the counting event.
-    pub fn names_ct(&self, ct: Handle) -> bool
-        ensures { result ≡ (entry_names_ct ct self.now.priority || entry_names_ct ct self.now.overflow) }
+    /// Whether a linked entry names the counting event. Counts at most two nodes for each linked entry.
+    pub fn names_ct<L: Ledger>(&self, ct: Handle, steps: &mut Steps<L>) -> bool
+        ensures value { result ≡ (entry_names_ct ct self.now.priority || entry_names_ct ct self.now.overflow) }
+        ensures steps { steps.new ≤ steps.old + 2 * linked_count self.now }
     {
-        names_in::<Brand>(
-            Blank::new(1),
-            self.priority.chain(),
-            self.overflow.chain(),
-            ct,
-        )
+        some_names(self.priority.chain(), ct, steps) || some_names(self.overflow.chain(), ct, steps)
     }
 
     /// The chain of one of the lists: its values are that list.
@@ -275,20 +276,4 @@ impl Lists {
             List::Overflow => self.overflow.chain(),
         }
     }
-}
-
-/// Whether an entry of one of two lists names the counting event, by a counter of its own.
-fn names_in<L: Ledger>(
-    blank: Blank,
-    priority: &Chain<Linked>,
-    overflow: &Chain<Linked>,
-    ct: Handle,
-) -> bool
-    requires name { blank.name ≡ L.name }
-    requires parts { blank.parts ≡ L.parts }
-    requires one { blank.parts ≡ 1 }
-    ensures { result ≡ (entry_names_ct ct (values priority.now.entries) || entry_names_ct ct (values overflow.now.entries)) }
-{
-    let mut steps = Steps::<L>::start(blank);
-    some_names(priority, ct, &mut steps) || some_names(overflow, ct, &mut steps)
 }

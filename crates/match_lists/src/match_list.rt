@@ -7,10 +7,10 @@ ghost use Rattle.match_lists.specs.Indexed.{IsIndexed, room, takes, key_of, earl
 ghost use Rattle.match_lists.specs.Lists.{values, running_at};
 ghost use Rattle.match_lists.specs.Looks.{IsSeen};
 
-use crate::look::{Look, look_of, no_look, takes};
+use crate::look::{look_of, takes};
+use crate::trails::Trails;
 use chain_list::{Chain, ChainKey, Nodes, Steps};
 use ni_model::Linked;
-use place_threads::Threads;
 use ptl_types::{Header, NoMemory};
 use std::alloc::Global;
 use std::marker::Model;
@@ -69,47 +69,44 @@ fn earlier(a: Option<ChainKey>, b: Option<ChainKey>) -> Option<ChainKey>
     }
 }
 
-/// The first entry of a thread that takes the message. Touches at most one node for each entry of the thread.
+/// The first entry of a thread that takes the message. Counts at most one node for each entry of the thread.
 fn first_on<L: Ledger>(
     chain: &Chain<Linked>,
-    threads: &Threads,
-    looks: &[Look],
+    trails: &Trails,
     limit: u32,
     thread: u32,
     header: &Header,
     steps: &mut Steps<L>,
 ) -> Option<ChainKey>
-    requires indexed { IsIndexed chain.now threads.now limit }
-    requires seen { All (IsSeen looks.now) chain.now.entries }
+    requires indexed { IsIndexed chain.now trails.now.threads limit }
+    requires seen { All (IsSeen trails.now.looks.items) chain.now.entries }
     requires thread { thread ≤ last_thread limit }
     ensures key { result ≡ key_of (find (takes header.now) (on_thread limit thread chain.now.entries)) }
     ensures steps { steps.new ≤ steps.old + length (on_thread limit thread chain.now.entries) }
 {
     let _nodes = chain.nodes();
-    let mut next = threads.first(thread);
-    while let Some(place) = next {
-        // Read before the look, so that the way to the next entry waits for nothing but itself.
-        next = threads.next(place);
-        steps.tick();
-        if takes(&looks[place as usize], header) {
+    let mut next = trails.first(thread);
+    while let Some(unseen) = next {
+        let (place, after, look) = trails.visit(unseen, steps);
+        next = after;
+        if takes(look, header) {
             return Some(chain.key(place));
         }
     }
     None
 }
 
-/// The entry that takes the message: of the firsts of its threads the one that was linked first. Touches at most one node for
+/// The entry that takes the message: of the firsts of its threads the one that was linked first. Counts at most one node for
 /// each entry of these threads.
 fn first_key<L: Ledger>(
     chain: &Chain<Linked>,
-    threads: &Threads,
-    looks: &[Look],
+    trails: &Trails,
     limit: u32,
     header: &Header,
     steps: &mut Steps<L>,
 ) -> Option<ChainKey>
-    requires indexed { IsIndexed chain.now threads.now limit }
-    requires seen { All (IsSeen looks.now) chain.now.entries }
+    requires indexed { IsIndexed chain.now trails.now.threads limit }
+    requires seen { All (IsSeen trails.now.looks.items) chain.now.entries }
     ensures key { result ≡ first_of_threads header.now limit chain.now.entries }
     ensures steps { steps.new ≤ steps.old + on_threads limit header.now.match_bits chain.now.entries }
 {
@@ -118,20 +115,20 @@ fn first_key<L: Ledger>(
     let whole = bucket(bits, count);
     let upper_48 = count + bucket(bits & UPPER_48, count);
     let upper_24 = 2 * count + bucket(bits & UPPER_24, count);
-    let by_whole = first_on(chain, threads, looks, limit, whole, header, steps);
-    let by_48 = first_on(chain, threads, looks, limit, upper_48, header, steps);
-    let by_24 = first_on(chain, threads, looks, limit, upper_24, header, steps);
-    let other = first_on(chain, threads, looks, limit, 3 * count, header, steps);
+    let by_whole = first_on(chain, trails, limit, whole, header, steps);
+    let by_48 = first_on(chain, trails, limit, upper_48, header, steps);
+    let by_24 = first_on(chain, trails, limit, upper_24, header, steps);
+    let other = first_on(chain, trails, limit, 3 * count, header, steps);
     earlier(earlier(by_whole, by_48), earlier(by_24, other))
 }
 
 /// The list. Its value is that of the chain of its entries: the threads only tell where to look, and the looks, one for each
-/// place, what a search has to know of the entry there. A look is a part of its entry's node.
+/// place, what a search has to know of the entry there. A look is a part of its entry's node, and so is the link to the place
+/// that comes after it on its thread.
 #[derive(Drop)]
 pub struct MatchList {
     chain: Chain<Linked>,
-    threads: Threads,
-    looks: Vec<Look>,
+    trails: Trails,
     limit: u32,
 }
 
@@ -144,28 +141,24 @@ impl Model for MatchList {
 
     ghost view = { λ l. l.chain };
 
-    ghost invariant = { λ l. IsMatchList l.chain l.threads l.looks.items l.limit };
+    ghost invariant = { λ l. IsMatchList l.chain l.trails.threads l.trails.looks.items l.limit };
 }
 
 impl MatchList {
-    /// The empty list with room for `limit` entries. No later call takes memory.
+    /// The empty list with room for `limit` entries. No later call has an answer for want of memory.
     pub(crate) fn with_room(alloc: Global, limit: u32) -> Result<MatchList, NoMemory>
         ensures { IfOk result (λ l. l ≡ chain_list [] limit 0) }
     {
         let chain = Chain::with_room(alloc, limit as u64)?;
-        let threads = Threads::open(alloc, 3 * buckets(limit) as usize + 1, limit as usize)?;
-        let Ok(looks) = Vec::from_elem(alloc, no_look(), limit as usize) else {
-            return Err(NoMemory);
-        };
+        let trails = Trails::open(alloc, 3 * buckets(limit) as usize + 1, limit as usize)?;
         Ok(MatchList {
             chain,
-            threads,
-            looks,
+            trails,
             limit,
         })
     }
 
-    /// Puts an entry after the last. Touches at most three nodes.
+    /// Puts an entry after the last. Counts at most three nodes.
     pub(crate) fn push_back<L: Ledger>(&mut self, linked: Linked, steps: &mut Steps<L>) -> ChainKey
         requires room { 0 < self.old.spare }
         requires keys { self.old.given < 2 ^ 64 - 1 }
@@ -176,12 +169,11 @@ impl MatchList {
         let look = look_of(&linked);
         let key = self.chain.push_back(linked, steps);
         let _nodes = self.chain.nodes();
-        self.threads.push_back(thread, key.place);
-        self.looks[key.place as usize] = look;
+        self.trails.put(thread, key.place, look);
         key
     }
 
-    /// Takes an entry out; `None` exactly where the key isn't live. Touches at most four nodes.
+    /// Takes an entry out; `None` exactly where the key isn't live. Counts at most four nodes.
     pub(crate) fn unlink<L: Ledger>(
         &mut self,
         key: ChainKey,
@@ -194,11 +186,11 @@ impl MatchList {
     {
         let _nodes = self.chain.nodes();
         let linked = self.chain.unlink(key, steps)?;
-        self.threads.unlink(key.place);
+        self.trails.take(key.place);
         Some(linked)
     }
 
-    /// The entry of a key; `None` exactly where the key isn't live. Touches at most one node.
+    /// The entry of a key; `None` exactly where the key isn't live. Counts at most one node.
     pub(crate) fn get<L: Ledger>(&self, key: ChainKey, steps: &mut Steps<L>) -> Option<&Linked>
         ensures value { option_copied result ≡ value_at key self.now.entries }
         ensures steps { steps.new ≤ steps.old + 1 }
@@ -206,7 +198,7 @@ impl MatchList {
         self.chain.get(key, steps)
     }
 
-    /// Moves the running offset of a live key's entry on, in bytes. Touches at most one node.
+    /// Moves the running offset of a live key's entry on, in bytes. Counts at most one node.
     pub(crate) fn advance<L: Ledger>(&mut self, key: ChainKey, by: u64, steps: &mut Steps<L>)
         requires live { IsSome (value_at key self.old.entries) }
         requires fits { IfSome (value_at key self.old.entries) (λ x. x.running + by < 2 ^ 64) }
@@ -218,10 +210,10 @@ impl MatchList {
             unreachable!()
         };
         linked.running += by;
-        self.looks[key.place as usize] = look_of(linked);
+        self.trails.renew(key.place, look_of(linked));
     }
 
-    /// The first entry that takes the message. Touches at most two nodes for each entry that may take its match bits.
+    /// The first entry that takes the message. Counts at most two nodes for each entry that may take its match bits.
     pub(crate) fn first_fit<L: Ledger>(
         &self,
         header: &Header,
@@ -231,14 +223,7 @@ impl MatchList {
         ensures steps { steps.new ≤ steps.old + 2 * candidates_in (room self.now) header.now.match_bits (values self.now.entries) }
     {
         let _nodes = self.chain.nodes();
-        let key = first_key(
-            &self.chain,
-            &self.threads,
-            &self.looks,
-            self.limit,
-            header,
-            steps,
-        )?;
+        let key = first_key(&self.chain, &self.trails, self.limit, header, steps)?;
         match self.chain.get(key, steps) {
             Some(linked) => Some(*linked),
             None => None,

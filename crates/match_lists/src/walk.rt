@@ -1,5 +1,5 @@
 //! What one entry takes, and the walk along a list for the entries that name a counting event.
-ghost use Rattle.std.specs.Prelude.{◌≡◌, None};
+ghost use Rattle.std.specs.Prelude.{◌≡◌, ◌+◌, ◌*◌, ◌≤◌, None, length};
 ghost use Rattle.ni_model.specs.Lists.{fits, offset_in, space_in};
 ghost use Rattle.ni_model.specs.Refusals.{entry_names_ct};
 ghost use Rattle.ni_model.specs.Tables.{names};
@@ -61,9 +61,10 @@ fn names(linked: &Linked, ct: Handle) -> bool
     }
 }
 
-/// Whether an entry of a list names the counting event.
+/// Whether an entry of a list names the counting event. Counts at most two nodes for each entry.
 pub(crate) fn some_names<L: Ledger>(chain: &Chain<Linked>, ct: Handle, steps: &mut Steps<L>) -> bool
-    ensures { result ≡ entry_names_ct ct (values chain.now.entries) }
+    ensures value { result ≡ entry_names_ct ct (values chain.now.entries) }
+    ensures steps { steps.new ≤ steps.old + 2 * length chain.now.entries }
 {
     let nodes = chain.nodes();
     let mut next = first_place(chain);

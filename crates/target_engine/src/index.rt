@@ -1,11 +1,12 @@
 //! A portal table entry: whether an index is allocated there, its event queue and its two lists.
 
-ghost use Rattle.std.specs.Prelude.{◌≡◌, ◌+◌, ◌++◌, ◌∷◌, [], ℕ, true, None, Some, All, IfOk, is_some, nat_lt, slice_set};
+ghost use Rattle.std.specs.Prelude.{◌≡◌, ◌+◌, ◌++◌, ◌∷◌, [], ℕ, true, None, Some, All, IfOk, is_some, nat_lt, ◌||◌, slice_set};
 ghost use Rattle.ptl_types.specs.Kinds.{is_put_or_atomic};
 ghost use Rattle.ni_model.specs.Arrive.{choose, chosen, first_fit};
 ghost use Rattle.ni_model.specs.Append.{fresh, linked_at};
 ghost use Rattle.ni_model.specs.Calls.{unlinked_in, new_index};
 ghost use Rattle.ni_model.specs.Lists.{queue_of, index_at, entries_in, is_linked};
+ghost use Rattle.ni_model.specs.Refusals.{entry_names_ct};
 ghost use Rattle.match_lists.specs.Lists.{with_entries, without_entry, linked_as};
 ghost use Rattle.target_engine.specs.PortalTable.{index, seen, seen_ref, seen_in, linked_in, settled_lists, settled_in, AreEmpty, HasLists, IsPortalEntry, IsUnused, MayAppend, MayLink};
 
@@ -65,6 +66,17 @@ fn unlink<L: Ledger>(blank: Blank, lists: &mut Lists, me: Handle)
     let _ = lists.unlink(me, &mut steps);
 }
 
+/// Whether an entry of one of the lists names the counting event.
+fn names_ct<L: Ledger>(blank: Blank, lists: &Lists, ct: Handle) -> bool
+    requires name { blank.name ≡ L.name }
+    requires parts { blank.parts ≡ L.parts }
+    requires one { blank.parts ≡ 1 }
+    ensures { result ≡ (entry_names_ct ct lists.now.priority || entry_names_ct ct lists.now.overflow) }
+{
+    let mut steps = Steps::<L>::start(blank);
+    lists.names_ct(ct, &mut steps)
+}
+
 /// What becomes of the entry that took the message: unlinked, advanced or left as it is.
 fn settle<L: Ledger>(blank: Blank, lists: &mut Lists, found: &Found, header: &Header)
     requires name { blank.name ≡ L.name }
@@ -108,6 +120,13 @@ impl Index {
         ensures { result ≡ nat_lt 0 (entries_in (Some (index self.now.eq self.now.lists))) }
     {
         !self.lists.is_empty()
+    }
+
+    /// Whether an entry of one of its lists names the counting event.
+    pub fn names_ct(&self, ct: Handle) -> bool
+        ensures { result ≡ (entry_names_ct ct self.now.lists.priority || entry_names_ct ct self.now.lists.overflow) }
+    {
+        names_ct::<Brand>(Blank::new(1), &self.lists, ct)
     }
 
     /// Whether its overflow list holds the entry.

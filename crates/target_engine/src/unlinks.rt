@@ -19,7 +19,7 @@ fn some_names_ct(indices: &[Index], ct: Handle) -> bool
     ensures { result ≡ index_names_ct ct (seen_in indices.now) }
 {
     for portal_entry in indices {
-        if portal_entry.allocated && portal_entry.lists.names_ct(ct) {
+        if portal_entry.allocated && portal_entry.names_ct(ct) {
             return true;
         }
     }

@@ -20,7 +20,7 @@ loop-next-init g c =
     let xs = c.args.chain.now.entries in
     let at = c.first_place-next.ensures in
     let all = ap (λ o. from_place o xs) at ∙ place-first xs in
-    record { live = at ∙ ap (λ l. first_or l None) (sym all); first = ap (λ l. entry_names_ct c.args.ct (values l)) (sym all) }
+    record { live = at ∙ ap (λ l. first_or l None) (sym all); first = ap (λ l. entry_names_ct c.args.ct (values l)) (sym all); steps = omega (arith, ap length all) }
 
 pub value-requires : goal.value-requires
 value-requires g c =
@@ -36,8 +36,8 @@ links-after-requires g c =
     let a = here c.in-Some.place c.loop-next.next xs c.nodes-nodes.result.now.places c.nodes-nodes.ensures.apart c.nodes-nodes.ensures.linked c.in-Some.is inv.live in
     ap is_some a.node_is
 
-pub returns-then-names : goal.returns-then-names
-returns-then-names g c =
+pub returns-then-names-clause-value : goal.returns-then-names-clause-value
+returns-then-names-clause-value g c =
     let xs = c.args.chain.now.entries in
     let inv = c.loop-next.invariant in
     let a = here c.in-Some.place c.loop-next.next xs c.nodes-nodes.result.now.places c.nodes-nodes.ensures.apart c.nodes-nodes.ensures.linked c.in-Some.is inv.live in
@@ -60,6 +60,7 @@ loop-next-preserved g c =
     record {
       live = next ∙ ap (λ l. first_or l None) (sym then);
       first = inv.first ∙ ap (λ l. entry_names_ct c.args.ct (values l)) rest ∙ passes a.entry.value (values a.behind) c.args.ct (ap (λ (x : Linked). names x.entry.ct c.args.ct) same ∙ sym c.names.ensures ∙ c.if-names.false) ∙ ap (λ l. entry_names_ct c.args.ct (values l)) (sym then);
+      steps = omega (arith, inv.steps, ap length then, ap length rest, c.value.ensures.steps, c.links-after.ensures.steps);
     }
 
 pub loop-next-smaller : goal.loop-next-smaller
@@ -74,3 +75,11 @@ loop-next-smaller g c =
     let next = ap (λ k. k.1) links in
     let then = ap (λ o. from_place o xs) next ∙ a.then in
     omega (arith, ap length then, ap length rest)
+
+pub returns-then-names-clause-steps : goal.returns-then-names-clause-steps
+returns-then-names-clause-steps g c =
+    let xs = c.args.chain.now.entries in
+    let inv = c.loop-next.invariant in
+    let a = here c.in-Some.place c.loop-next.next xs c.nodes-nodes.result.now.places c.nodes-nodes.ensures.apart c.nodes-nodes.ensures.linked c.in-Some.is inv.live in
+    let rest : from_place c.loop-next.next xs ≡ a.entry ∷ a.behind = ap (λ o. from_place o xs) c.in-Some.is ∙ a.rest_is in
+    omega (arith, inv.steps, ap length rest, c.value.ensures.steps)

@@ -1,4 +1,4 @@
-use Rattle.std.proofs.Common.{◌≡◌, None, length}
+use Rattle.std.proofs.Common.{◌≡◌, None, ◌≤◌, ◌+◌, ◌*◌, length}
 use Rattle.ni_model.specs.Refusals.{entry_names_ct}
 use Rattle.chain_list.specs.Chain.{first_or}
 use Rattle.match_lists.specs.Lists.{values}
@@ -9,6 +9,7 @@ abbrev pub invariant-loop-next : goal.invariant-loop-next
 invariant-loop-next g l = record {
   live : l.next ≡ first_or (from_place l.next l.chain.entries) None;
   first : entry_names_ct l.ct (values l.chain.entries) ≡ entry_names_ct l.ct (values (from_place l.next l.chain.entries));
+  steps : l.steps + 2 * length (from_place l.next l.chain.entries) ≤ l.fn.steps + 2 * length l.chain.entries;
 }
 
 abbrev pub decreases-loop-next : goal.decreases-loop-next
