@@ -51,8 +51,9 @@ impl OutEnd {
 
 /// The end at which messages come out.
 ///
-/// It stands for its wire with the wire's bounds, for the list of the messages that it received, oldest first, and for a
-/// count of the pops that found the wire empty, which stays at 2^64 - 1 once it is there. The list is in the type alone.
+/// It stands for its wire with the wire's bounds; for the list of the messages that it received, oldest first; for a count of the
+/// pops that found the wire empty, which stays at 2^64 - 1 once it is there; and for how many messages it was told went in
+/// (`Wire::note`). The list and what it was told are in the type alone.
 #[derive(Drop)]
 pub struct InEnd {
     pub(crate) pass: Pass<Message, EndView>,
@@ -67,7 +68,7 @@ impl Model for InEnd {
 
     ghost Value = { Incoming };
 
-    ghost view = { λ e. record { wire = e.pass.table_id; bounds = e.pass.me.0.client.bounds; received = e.pass.me.0.client.received; empty = e.empty } };
+    ghost view = { λ e. record { wire = e.pass.table_id; bounds = e.pass.me.0.client.bounds; received = e.pass.me.0.client.received; empty = e.empty; told = e.pass.me.0.client.told } };
 
     ghost invariant = { λ e. InKeeps e.pass.me.0.client e.pass.me.1 e.popped };
 }
@@ -97,4 +98,22 @@ impl Model for Receipts {
     ghost view = { λ r. record { wire = r.pass.table_id; count = r.pass.me.0.client.heard } };
 
     ghost invariant = { λ r. r.pass.me.1 ≡ [] };
+}
+
+/// Word from an out end of how many messages went into the queue there (`Wire::announce`). It has no bytes, stands for its wire with the
+/// wire's bounds and the number, and goes to the in end, in whatever thread that is.
+#[derive(Drop)]
+pub struct Notice {
+    pub(crate) pass: Pass<Message, EndView>,
+}
+
+impl Model for Notice {
+    ghost use Rattle.std.specs.Prelude.{◌≡◌, ◌≤◌, []};
+    ghost use Rattle.pair_wires.specs.Ends.{Announced};
+
+    ghost Value = { Announced };
+
+    ghost view = { λ n. record { wire = n.pass.table_id; bounds = n.pass.me.0.client.bounds; count = n.pass.me.0.client.told } };
+
+    ghost invariant = { λ n. (n.pass.me.1 ≡ []) × (n.pass.me.0.client.told ≤ n.pass.me.0.client.bounds.messages) };
 }

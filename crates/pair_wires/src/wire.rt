@@ -4,16 +4,17 @@ ghost use Rattle.std.specs.Prelude.{◌≡◌, true, ◌+◌, ◌≤◌, ◌<◌
 ghost use Rattle.ptl_types.specs.Messages.{Sent};
 ghost use Rattle.crossbeam_queue.specs.Passes.{view, IsPassOf};
 ghost use Rattle.ptl_types.specs.Handles.{one_more};
-ghost use Rattle.pair_wires.specs.Wires.{IsOutOf, IsInOf, Opens, OnlyHears, most_left};
+ghost use Rattle.pair_wires.specs.Wires.{IsOutOf, IsInOf, IsNoticeOf, Opens, OnlyHears, OnlyNotes, one_if, most_left};
 ghost use Rattle.pair_wires.specs.Bounds.{KeepsBounds};
 ghost use Rattle.pair_wires.specs.Rules.{Drains};
 ghost use Rattle.pair_wires.specs.Lanes.{plain};
 
 use crate::bounds::Bounds;
-use crate::ends::{InEnd, OutEnd, Receipts};
+use crate::ends::{InEnd, Notice, OutEnd, Receipts};
 use crate::lane::PlainLane;
 use crate::rule::{
-    DrainStep, EndView, FromEnds, HearStep, IntoEnds, PopStep, PushStep, TellStep, WireRule, Within,
+    AnnounceStep, DrainStep, EndView, FromEnds, HearStep, IntoEnds, NoteStep, PopStep, PushStep,
+    TellStep, WireRule, Within,
 };
 use crossbeam_queue::{Pass, RuledArrayQueue};
 use ptl_types::{Message, NoMemory};
@@ -187,14 +188,17 @@ impl Wire {
     /// Receives the oldest message. It may wait inside the queue, and never for a message. Where as many were received as the bounds allow
     /// the call costs nothing but the count.
     ///
-    /// `None` only where the wire was empty at this call's own step. Then nothing was received, and the count of empty pops
-    /// rose.
+    /// `None` only where the wire was empty at this call's own step: so never before as many were received as this end was told went in.
+    /// Then nothing was received, and the count of empty pops rose. Of messages that were sent and that nobody told of (`announce`) no
+    /// contract says that they come out.
     pub fn pop<R: Wait>(&self, rt: &R, end: &mut InEnd) -> Option<Message>
         requires { IsInOf self.now end.old }
         ensures wire { IsInOf self.now end.new }
         ensures popped { IfSome result (λ m. (end.new.received ≡ end.old.received ++ m ∷ []) × (end.new.empty ≡ end.old.empty)) }
         ensures bounds { IfSome result (λ _. KeepsBounds self.now.bounds end.new.received) }
         ensures empty { IfNone result ((end.new.received ≡ end.old.received) × (end.new.empty ≡ one_more end.old.empty)) }
+        ensures only_when_empty { IfNone result (end.old.told ≤ length end.old.received) }
+        ensures told { end.new.told ≡ end.old.told }
     {
         if end.popped >= self.bounds.messages {
             // All that is ever sent was received: the queue is empty for good, and what other threads write isn't looked at.
@@ -230,6 +234,27 @@ impl Wire {
         ensures { OnlyHears end.old end.new word.count }
     {
         self.line.absorb::<HearStep>(&mut end.pass, word.pass);
+    }
+
+    /// Word for the in end of how many messages went into the queue so far, one that waits at the end not counted. It is a matter of
+    /// proofs alone, and does nothing at run time.
+    pub fn announce(&self, end: &mut OutEnd) -> Notice
+        requires { IsOutOf self.now end.old }
+        ensures same { end.new ≡ end.old }
+        ensures told { IsNoticeOf self.now result × (result.count + one_if end.old.waits ≡ length end.old.sent) }
+    {
+        Notice {
+            pass: self.line.another::<AnnounceStep>(&mut end.pass),
+        }
+    }
+
+    /// Takes such word in: what went into the queue comes out, so from now on no pop finds the wire empty before as many were received. It
+    /// does nothing at run time.
+    pub fn note(&self, end: &mut InEnd, word: Notice)
+        requires wire { IsInOf self.now end.old × IsNoticeOf self.now word }
+        ensures { OnlyNotes end.old end.new word.count }
+    {
+        self.line.absorb::<NoteStep>(&mut end.pass, word.pass);
     }
 
     /// Takes the wire's ends for good. What its queue holds and then the message that waits go, oldest first, to the end of the lane; of

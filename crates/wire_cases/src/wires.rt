@@ -1,4 +1,4 @@
-//! A full wire, an empty wire, what is left at the closing, word of what was received, and two threads.
+//! A full wire, an empty wire, what is left at the closing, word of what was received and of what was sent, and two threads.
 
 ghost use Rattle.std.specs.Prelude.{false, ◌≡◌, ◌+◌, ◌≤◌, ◌<◌, [], length, IfSome};
 ghost use Rattle.ptl_types.specs.declared.headers.Lane.TheVariants.{Request};
@@ -209,6 +209,73 @@ fn after_word_of_what_came_out_no_push_is_refused(rt: HostRuntime) -> Result<(),
     assert_eq!(rt; send(&rt, rt.alloc(), &wire, &mut out, 5), None);
     assert!(rt; send_after_word(&rt, rt.alloc(), &wire, &mut out, &mut into));
     assert_eq!(rt; receive(&rt, &wire, &mut into), Some(0));
+    Ok(())
+}
+
+// Sends puts with the numbers below the count, for all of which there is room: none is refused.
+fn send_as_many<R: Wait>(rt: &R, alloc: Global, wire: &Wire, out: &mut OutEnd, count: u32)
+    requires wire { IsOutOf wire.now out.old × (out.old.sent ≡ []) × (out.old.waits ≡ false) }
+    requires lane { wire.now.bounds ≡ record { source = 0; target = 1; lane = Request; messages = wire.now.bounds.messages; bytes = 0 } }
+    requires room { (count ≤ wire.now.bounds.messages) × (count ≤ wire.now.capacity) }
+    ensures wire { IsOutOf wire.now out.new × (out.new.waits ≡ false) }
+    ensures count { length out.new.sent ≡ count }
+{
+    for number in 0..count {
+        let Ok(()) = wire.push(rt, out, put(alloc, number as u64)) else {
+            unreachable!()
+        };
+    }
+}
+
+// Receives as many messages as the in end was told went in: no pop finds the wire empty. Answers how many came in order.
+fn receive_what_was_announced<R: Wait>(rt: &R, wire: &Wire, into: &mut InEnd, count: u32) -> u64
+    requires wire { IsInOf wire.now into.old × (into.old.received ≡ []) }
+    requires told { count ≤ into.old.told }
+    ensures { IsInOf wire.now into.new }
+{
+    let mut in_order = 0;
+    for number in 0..count {
+        let Some(message) = wire.pop(rt, into) else {
+            unreachable!()
+        };
+        if message.header().hdr_data != number as u64 {
+            return in_order;
+        }
+        in_order = number as u64 + 1;
+    }
+    in_order
+}
+
+// Sends so many puts, tells the in end of them, and receives them. Answers how many came in order.
+fn send_and_announce<R: Wait>(
+    rt: &R,
+    alloc: Global,
+    wire: &Wire,
+    out: &mut OutEnd,
+    into: &mut InEnd,
+    count: u32,
+) -> u64
+    requires wire { IsOutOf wire.now out.old × IsInOf wire.now into.old }
+    requires new { (out.old.sent ≡ []) × (out.old.waits ≡ false) × (into.old.received ≡ []) }
+    requires lane { wire.now.bounds ≡ record { source = 0; target = 1; lane = Request; messages = wire.now.bounds.messages; bytes = 0 } }
+    requires room { (count ≤ wire.now.bounds.messages) × (count ≤ wire.now.capacity) }
+    ensures { IsOutOf wire.now out.new × IsInOf wire.now into.new }
+{
+    send_as_many(rt, alloc, wire, out, count);
+    let word = wire.announce(out);
+    wire.note(into, word);
+    receive_what_was_announced(rt, wire, into, count)
+}
+
+#[test]
+fn after_word_of_what_went_in_no_pop_finds_the_wire_empty(rt: HostRuntime) -> Result<(), Fail> {
+    let (wire, mut out, mut into) = Wire::open(rt.alloc(), 5, requests(7))?;
+    assert_eq!(rt;
+        send_and_announce(&rt, rt.alloc(), &wire, &mut out, &mut into, 5),
+        5
+    );
+    assert_eq!(rt; receive(&rt, &wire, &mut into), None);
+    assert_eq!(rt; [out.sent(), into.received()], [5, 5]);
     Ok(())
 }
 
