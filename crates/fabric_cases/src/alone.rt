@@ -172,3 +172,52 @@ fn one_hand_makes_every_step_of_a_sum(rt: HostRuntime) {
     check_rest(&rt, &world, 5);
     gives!(&rt; holds(&world, 1, &[44, 1]), true);
 }
+
+/// Ten gathers of two ranks: each has ten messages for the other at once, and a wire between them holds three.
+const TEN_GATHERS: &[u8] = b"coll 1
+ranks 2
+input a u8 1
+1
+2
+allgather a b0
+allgather a b1
+allgather a b2
+allgather a b3
+allgather a b4
+allgather a b5
+allgather a b6
+allgather a b7
+allgather a b8
+allgather a b9
+print b9
+end
+";
+
+/// Makes steps as the hints lead until there is no word. Then the step that is left at each rank.
+fn left_by_hints<R: Wait>(
+    rt: &R,
+    fabric: &Fabric<OpenGate>,
+    hand: &mut Hand,
+) -> [Option<LocalStep>; 2]
+    requires hand { IsFree fabric.now.turns hand.old }
+    requires ranks { fabric.now.job.shape.ranks ≡ 2 }
+    ensures hand { IsFree fabric.now.turns hand.new }
+    ensures parts { hand.new.knows.parts ≡ hand.old.knows.parts }
+{
+    fabric.settle_all(rt, hand, 0, 2);
+    let first = step_at(rt, fabric, hand, 0);
+    let second = step_at(rt, fabric, hand, 1);
+    [first, second]
+}
+
+#[test]
+fn hints_lead_one_hand_to_every_step(rt: HostRuntime) {
+    let alloc = rt.alloc();
+    let job = pair_of(&rt, alloc, TEN_GATHERS);
+    let (fabric, hands) = must_open(&rt, alloc, &job, 1, OpenGate);
+    let mut hand = one_hand(&fabric, hands);
+    let left = left_by_hints(&rt, &fabric, &mut hand);
+    let world = close_with_one(&rt, alloc, fabric, hand);
+    gives!(&rt; left, [None, None]);
+    gives!(&rt; world.at_rest(), true);
+}

@@ -1,6 +1,7 @@
 //! How a worker finds steps by hints.
 
-ghost use Rattle.std.specs.Prelude.{◌≡◌, ◌≤◌, true, IfSome, length};
+ghost use Rattle.std.specs.Prelude.{◌≡◌, ◌≤◌, true, None, Some, IfSome, length};
+ghost use Rattle.ptl_types.specs.declared.steps.LocalStep.TheVariants.{Fire};
 ghost use Rattle.ni_model.specs.Ready.{ready_numbers};
 ghost use Rattle.rank_node.specs.Gates.{may_go};
 ghost use Rattle.rank_slots.specs.Names.{IsWired, plate};
@@ -54,7 +55,7 @@ fn search_all(node: &Node, parked: &mut Parked) -> Option<u32>
 }
 
 impl Slot {
-    /// Receives a message of the lane of this number, which may have some, and answers whether there was one. A lane that has none
+    /// Receives a message of the lane of this number, which may have some, and answers the step, if there was one. A lane that has none
     /// isn't looked at again before there is mail for it.
     fn receive_of<R: Wait, G: Gate>(
         &mut self,
@@ -63,54 +64,60 @@ impl Slot {
         mail: &Mail,
         gate: &G,
         number: usize,
-    ) -> bool
+    ) -> Option<LocalStep>
         requires sound { IsSound self.old.job }
         requires wired { IsWired wires.now (plate self.old) }
-        ensures { Onward self.old self.new }
+        ensures { Onward result self.old self.new }
     {
         let at = self.hints.ins.at(number);
         if at >= self.ins.len() {
             self.hints.note_look(number, false);
-            return false;
+            return None;
         }
         if !self.may_take(at, false) {
             self.hints.note_held_back(number);
-            return false;
+            return None;
         }
+        let port = &self.ins[at];
+        let source = port.source;
+        let lane = port.lane;
         let received = self.receive(rt, wires, mail, gate, at);
         self.hints.note_look(number, received);
-        received
+        if received {
+            return Some(LocalStep::Receive { source, lane });
+        }
+        None
     }
 
-    /// Receives a message of one of the lanes that may have some, and answers whether there was one.
+    /// Receives a message of one of the lanes that may have some, and answers the step, if there was one.
     fn receive_pending<R: Wait, G: Gate>(
         &mut self,
         rt: &R,
         wires: &[Wire],
         mail: &Mail,
         gate: &G,
-    ) -> bool
+    ) -> Option<LocalStep>
         requires sound { IsSound self.old.job }
         requires wired { IsWired wires.now (plate self.old) }
-        ensures { Onward self.old self.new }
+        ensures { Onward result self.old self.new }
     {
         let mut from = 0;
         for _ in 0..self.ins.len() {
             let Some(number) = self.hints.next(from) else {
-                return false;
+                return None;
             };
-            if self.receive_of(rt, wires, mail, gate, number) {
-                return true;
+            if let Some(step) = self.receive_of(rt, wires, mail, gate, number) {
+                return Some(step);
             }
             from = number.wrapping_add(1);
         }
-        false
+        None
     }
 
     /// Tries what waits at the out ends again, if something may wait there.
     fn flush_waiting<R: Wait>(&mut self, rt: &R, wires: &[Wire], mail: &Mail)
         requires { IsWired wires.now (plate self.old) }
-        ensures { Onward self.old self.new }
+        ensures { Onward None self.old self.new }
     {
         if !self.hints.waits {
             return;
@@ -130,7 +137,7 @@ impl Slot {
         requires sound { IsSound self.old.job }
         requires wired { IsWired wires.now (plate self.old) }
         requires may { may_go self.old.node.value.closed self.old.node.value.nic number ≡ true }
-        ensures { Onward self.old self.new }
+        ensures { Onward (Some (Fire number)) self.old self.new }
     {
         gate.pass(self.node.nic().rank(), LocalStep::Fire { number });
         self.fire(rt, wires, mail, number);
@@ -149,83 +156,89 @@ impl Slot {
         None
     }
 
-    /// Fires an operation that was parked, if the lane of its message has room now, and answers whether it did.
+    /// Fires an operation that was parked, if the lane of its message has room now, and answers the step, if there was one.
     fn fire_parked<R: Wait, G: Gate>(
         &mut self,
         rt: &R,
         wires: &[Wire],
         mail: &Mail,
         gate: &G,
-    ) -> bool
+    ) -> Option<LocalStep>
         requires sound { IsSound self.old.job }
         requires wired { IsWired wires.now (plate self.old) }
-        ensures { Onward self.old self.new }
+        ensures { Onward result self.old self.new }
     {
         if !self.hints.parked.may_have_room() {
-            return false;
+            return None;
         }
         let Some(target) = self.open_queue() else {
             self.hints.parked.note_room(false);
-            return false;
+            return None;
         };
         match self.hints.parked.take(target) {
             Some(number) if self.node.may_fire(number) => {
                 self.fire_open(rt, wires, mail, gate, number);
-                true
+                Some(LocalStep::Fire { number })
             }
-            _ => false,
+            _ => None,
         }
     }
 
-    /// Fires an operation that is ready and isn't parked, if the message of one finds room, and answers whether it did.
+    /// Fires an operation that is ready and isn't parked, if the message of one finds room, and answers the step, if there was one.
     fn fire_other<R: Wait, G: Gate>(
         &mut self,
         rt: &R,
         wires: &[Wire],
         mail: &Mail,
         gate: &G,
-    ) -> bool
+    ) -> Option<LocalStep>
         requires sound { IsSound self.old.job }
         requires wired { IsWired wires.now (plate self.old) }
-        ensures { Onward self.old self.new }
+        ensures { Onward result self.old self.new }
     {
         let Some(number) = search_all(&self.node, &mut self.hints.parked) else {
-            return false;
+            return None;
         };
         self.fire_open(rt, wires, mail, gate, number);
-        true
+        Some(LocalStep::Fire { number })
     }
 
-    /// Starts the rank, or fires an operation that is ready, and answers whether it did.
+    /// Starts the rank, or fires an operation that is ready, and answers the step, if there was one.
     fn start_or_fire<R: Wait, G: Gate>(
         &mut self,
         rt: &R,
         wires: &[Wire],
         mail: &Mail,
         gate: &G,
-    ) -> bool
+    ) -> Option<LocalStep>
         requires sound { IsSound self.old.job }
         requires wired { IsWired wires.now (plate self.old) }
-        ensures { Onward self.old self.new }
+        ensures { Onward result self.old self.new }
     {
-        if self.start_once(gate) == StartAnswer::Started {
-            return true;
+        if let StartAnswer::Started = self.start_once(gate) {
+            return Some(LocalStep::Start);
         }
-        if self.fire_parked(rt, wires, mail, gate) {
-            return true;
+        if let Some(step) = self.fire_parked(rt, wires, mail, gate) {
+            return Some(step);
         }
         self.fire_other(rt, wires, mail, gate)
     }
 
-    /// Tries what waits at the out ends again, and then starts the rank, or fires, or receives, and answers whether it did one of these.
-    fn advance<R: Wait, G: Gate>(&mut self, rt: &R, wires: &[Wire], mail: &Mail, gate: &G) -> bool
+    /// Tries what waits at the out ends again, and then starts the rank, or fires, or receives, and answers the step, if there was one.
+    fn advance<R: Wait, G: Gate>(
+        &mut self,
+        rt: &R,
+        wires: &[Wire],
+        mail: &Mail,
+        gate: &G,
+    ) -> Option<LocalStep>
         requires sound { IsSound self.old.job }
         requires wired { IsWired wires.now (plate self.old) }
-        ensures { Onward self.old self.new }
+        ensures { Onward result self.old self.new }
     {
         self.flush_waiting(rt, wires, mail);
-        if self.start_or_fire(rt, wires, mail, gate) {
-            return true;
+        if let Some(step) = self.start_or_fire(rt, wires, mail, gate) {
+            return Some(step);
         }
         self.receive_pending(rt, wires, mail, gate)
     }
@@ -238,63 +251,41 @@ impl Slot {
         wires: &[Wire],
         mail: &Mail,
         gate: &G,
-    ) -> bool
+    ) -> Option<LocalStep>
         requires sound { IsSound self.old.job }
         requires wired { IsWired wires.now (plate self.old) }
-        ensures { Onward self.old self.new }
+        ensures { Onward result self.old self.new }
     {
-        if self.advance(rt, wires, mail, gate) {
-            return true;
+        if let Some(step) = self.advance(rt, wires, mail, gate) {
+            return Some(step);
         }
         if !self.hints.waits {
-            return false;
+            return None;
         }
         mail.want_room(self.node.nic().rank());
         self.advance(rt, wires, mail, gate)
     }
 
-    /// Makes a step that the hints lead to, and answers whether there was one. Where there was none, word is left in the mail.
-    fn follow_once<R: Wait, G: Gate>(
-        &mut self,
-        rt: &R,
-        wires: &[Wire],
-        mail: &Mail,
-        gate: &G,
-    ) -> bool
-        requires sound { IsSound self.old.job }
-        requires wired { IsWired wires.now (plate self.old) }
-        ensures { Onward self.old self.new }
-    {
-        let rank = self.node.nic().rank();
-        self.hints.collect(mail, rank);
-        if self.advance_or_wait(rt, wires, mail, gate) {
-            return true;
-        }
-        self.hints.leave_word(mail, rank);
-        false
-    }
-
-    /// Makes steps that the hints lead to until there is none, and answers whether there was one. Then word is left in the mail if the rank
-    /// may have more to do now, and where it waits for room the mail knows it; that there was none to make isn't ruled out. It may wait
-    /// inside the wires' queues, and takes no memory.
+    /// Makes one step that the hints lead to, and answers it: the history grew by it and by no other. `None` where the hints lead to none,
+    /// and nothing was made; that there was none to make isn't ruled out. Then word is left in the mail if the rank may have more to do
+    /// now, and where it waits for room the mail knows it. It may wait inside the wires' queues, and takes no memory.
     pub fn follow_hints<R: Wait, G: Gate>(
         &mut self,
         rt: &R,
         wires: &[Wire],
         mail: &Mail,
         gate: &G,
-    ) -> bool
+    ) -> Option<LocalStep>
         requires sound { IsSound self.old.job }
         requires wired { IsWired wires.now (plate self.old) }
-        ensures { Onward self.old self.new }
+        ensures { Onward result self.old self.new }
     {
-        let mut made = false;
-        for _ in rt.forever() {
-            if !self.follow_once(rt, wires, mail, gate) {
-                return made;
-            }
-            made = true;
+        let rank = self.node.nic().rank();
+        self.hints.collect(mail, rank);
+        let made = self.advance_or_wait(rt, wires, mail, gate);
+        if made.is_none() {
+            self.hints.leave_word(mail, rank);
         }
-        unreachable!()
+        made
     }
 }

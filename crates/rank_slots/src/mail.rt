@@ -1,5 +1,6 @@
 //! Word that threads leave for one another: to which ranks messages were sent, which ranks wait for room, and how many workers are at
-//! work. No clause rests on it, and word that is lost costs time alone.
+//! work. No clause rests on it. Word that is lost costs time alone, since the last sweep of each worker heeds none; but where the count of
+//! those at work doesn't come back to 0, a worker without a word waits for ever.
 
 ghost use Rattle.std.specs.Prelude.{◌<◌, ◌^◌};
 

@@ -1,15 +1,18 @@
 -- What a turn leaves of what a hand knows.
 use Rattle.std.proofs.Common.{append-nil, ◌≡◌, ◌≢◌, ◌<◌, ◌-◌, ◌++◌, ◌∷◌, [], ℕ, zero, suc, List, length, map, ap, ◌∙◌, sym, refl, subst}
-use Rattle.std.proofs.Common.{arith}
+use Rattle.std.proofs.Common.{arith, ⊎_elim}
+use Rattle.std.proofs.lemmas.Bool.{cases_eq}
 use Rattle.std.specs.Prelude.{Option, Some, None, IfSome, IfNone}
 use mathlib.Core.List.{IsPrefix}
+use mathlib.Core.Option.{some, none}
 use lib.ListN.{get_elem?}
 use Rattle.ptl_types.specs.declared.steps.LocalStep.{LocalStep}
 use Rattle.atomic_table.proofs.Lists.{at_map}
 use Rattle.turn_table.specs.declared.views.EndedTurn.{EndedTurn}
 use Rattle.turn_table.specs.declared.views.HandView.{HandView}
 use Rattle.turn_table.specs.declared.views.SlotView.{SlotView}
-use Rattle.turn_table.specs.Views.{adjusted, after_give, after_turn, numbers_from, places_in, without_busy_slot}
+use Rattle.turn_table.specs.Views.{adjusted, after_busy, after_give, after_turn, busier_slot, numbers_from, places, places_in}
+use Rattle.turn_table.specs.Views.{without_busy_slot}
 use Rattle.turn_table.specs.Hands.{LastTurn, Took, marks}
 use Rattle.turn_table.proofs.Sums.{adjusted_length}
 use Rattle.schedule_compiler.specs.Jobs.{JobOf}
@@ -20,7 +23,8 @@ use Rattle.rank_slots.specs.Names.{Mark, Note, history, mark, note, plate}
 use Rattle.rank_slots.specs.Steps.{IsIdle, Made}
 use Rattle.rank_node.specs.Node.{NodeState}
 use Rattle.rank_slots.specs.Missing.{Idled}
-use Rattle.rank_threads.specs.Turns.{FoundIdle, MayEnd, Turned}
+use Rattle.rank_slots.specs.Onward.{Stepped}
+use Rattle.rank_threads.specs.Turns.{Followed, FoundIdle, MadeNone, MayEnd, Turned}
 use Rattle.rank_slots.proofs.Chronicles.{as-long, bare-history, begins-chronicle, begins-history}
 use Rattle.rank_slots.proofs.Pairs.{at_map_back, within}
 
@@ -133,3 +137,48 @@ with-some (Some step) f h = f step h
 pub with-none : {P Q : Type 0} (e : Option LocalStep) → (P → Q) → IfNone e P → IfNone e Q
 with-none None f h = f h
 with-none (Some step) f h = tt
+
+-- ---- a turn that follows hints
+places-busier : (l : List (SlotView Slot)) (k q : ℕ) → places_in (adjusted l k busier_slot) q ≡ places_in l q
+places-busier [] k q = refl
+places-busier (s ∷ l) zero zero = refl
+places-busier (s ∷ l) zero (suc q) = refl
+places-busier (s ∷ l) (suc k) zero = refl
+places-busier (s ∷ l) (suc k) (suc q) = places-busier l k q
+
+abbrev places-of : mathlib.Core.Option.Option (SlotView Slot) → List ℕ
+places-of none = []
+places-of (some s) = s.places
+
+places-at : (l : List (SlotView Slot)) (q : ℕ) → places-of (get_elem? (map without_busy_slot l) q) ≡ places_in l q
+places-at [] q = refl
+places-at (s ∷ l) zero = refl
+places-at (s ∷ l) (suc q) = places-at l q
+
+no-more : (a b : Mark) → b.0 ≡ a.0 → length b.0 - length a.0 ≡ 0
+no-more a b same = omega (arith, ap (λ (l : List Local). length l) same)
+
+-- where the history is as it was, the hand added no place
+stood : (v w : HandView Slot) (r : ℕ) (a b : Mark) → Turned v w r a b → b.0 ≡ a.0 → MadeNone v w
+stood v w r a b t same q = ⊎_elim
+    (λ (is : q ≡ r). ap (λ k. places w k) is
+    ∙ (t.mine ∙ (ap (λ n. places v r ++ numbers_from (length a.0) n) (no-more a b same)
+    ∙ (append-nil (places v r) ∙ ap (λ k. places v k) (sym is)))))
+    (λ (apart : q ≢ r). sym (places-at w.slots q) ∙ (ap places-of (t.others q apart) ∙ places-at v.slots q)) (cases_eq q r)
+
+pub followed : (e : Option LocalStep) (v w : HandView Slot) (r : ℕ) (x y : Slot) → Turned v w r (mark x) (mark y)
+    → Stepped e (mark x) (mark y) → Followed e v w r
+followed None v w r x y t same = stood v w r (mark x) (mark y) t same
+followed (Some step) v w r x y t made = (mark x, mark y, t, made)
+
+-- where the turn was another's
+pub followed-busy : (v w : HandView Slot) (r : ℕ) → w ≡ after_busy v r → Followed None v w r
+followed-busy v w r is = λ q. ap (λ (z : HandView Slot). places z q) is ∙ places-busier v.slots r q
+
+-- ---- turns in which none was made
+pub none-made : (job : JobOf) (v w : HandView Slot) (r : ℕ) (e : Option LocalStep) → e ≡ None → IfNone e (FoundIt job v w r) → MadeNone v w
+none-made job v w r e is found =
+    let f : FoundIt job v w r = subst (λ (o : Option LocalStep). IfNone o (FoundIt job v w r)) is found in stood v w r f.0 f.1 f.2 f.3.same
+
+pub none-after : (u v w : HandView Slot) → MadeNone u v → MadeNone v w → MadeNone u w
+none-after u v w f g q = g q ∙ f q

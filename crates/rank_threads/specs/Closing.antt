@@ -49,9 +49,10 @@ pub record IsWorldOf (f : FabricState) (hands : List (HandState Slot)) (w : Worl
   pub spare : w.spare ≡ 0
   pub ranks : (r : ℕ) → r < f.job.shape.ranks → IsLeft f.turns.start hands r w
 
--- such a world, where hands that are together all of the fabric's swept all ranks
-pub record IsWorked (f : FabricState) (w : WorldState) : Type 0 where
+-- such a world, where so many hands, that are together all of the fabric's, swept all ranks
+pub record IsWorked (f : FabricState) (workers : ℕ) (w : WorldState) : Type 0 where
   pub hands : List (HandState Slot)
+  pub count : length hands ≡ workers
   pub swept : All (λ h. HasSwept f h) hands
   pub all : parts_of hands ≡ 2 ^ 32
   pub world : IsWorldOf f hands w

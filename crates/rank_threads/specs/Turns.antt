@@ -1,5 +1,6 @@
 -- What a hand knows after a turn.
-use Rattle.std.specs.Prelude.{ℕ, ◌≡◌, ◌≢◌, ◌-◌, ◌++◌, List, length, map}
+use Rattle.std.specs.Prelude.{ℕ, ◌≡◌, ◌≢◌, ◌-◌, ◌++◌, List, length, map, Option, Some, None}
+use Rattle.ptl_types.specs.declared.steps.LocalStep.{LocalStep}
 use mathlib.Core.Option.{some}
 use mathlib.Core.List.{IsPrefix}
 use lib.ListN.{get_elem?}
@@ -13,7 +14,7 @@ use Rattle.schedule_compiler.specs.Jobs.{JobOf}
 use Rattle.rank_slots.specs.declared.slot.Slot.{Slot}
 use Rattle.rank_slots.specs.Chronicles.{chronicle}
 use Rattle.rank_slots.specs.Names.{Mark, history, note, plate}
-use Rattle.rank_slots.specs.Steps.{IsIdle}
+use Rattle.rank_slots.specs.Steps.{IsIdle, Made}
 
 -- the history begins with each that the hand saw at rank r
 abbrev pub BeginsSeen : HandView Slot → ℕ → List Local → Type 0
@@ -28,6 +29,15 @@ pub record Turned (v w : HandView Slot) (r : ℕ) (a b : Mark) : Type 0 where
   pub last : LastTurn history note w r a b
   pub mine : places w r ≡ places v r ++ numbers_from (length a.0) (length b.0 - length a.0)
   pub others : (q : ℕ) → q ≢ r → get_elem? (map without_busy_slot w.slots) q ≡ get_elem? (map without_busy_slot v.slots) q
+
+-- the hand made no step at any rank
+abbrev pub MadeNone : HandView Slot → HandView Slot → Type 0
+MadeNone v w = (q : ℕ) → places w q ≡ places v q
+
+-- the hand had one turn, at rank r, in which it made this step; or it made no step at any rank
+abbrev pub Followed : Option LocalStep → HandView Slot → HandView Slot → ℕ → Type 0
+Followed None v w r = MadeNone v w
+Followed (Some step) v w r = (a : Mark) × (b : Mark) × Turned v w r a b × Made step a b
 
 -- the slot may be given back as y: the hand took x, the history only grew, and no handle was given after the start
 pub record MayEnd (k : ℕ) (y : Slot) (w : HandView Slot) : Type 0 where

@@ -3,6 +3,7 @@
 ghost use Rattle.std.specs.Prelude.{true, ◌≡◌, ◌<◌, IfSome, IfNone};
 ghost use Rattle.turn_table.specs.declared.views.HandView.{HandView};
 ghost use Rattle.turn_table.specs.Hands.{IsFree, IsHandOf, Took};
+ghost use Rattle.turn_table.specs.Views.{after_busy};
 ghost use Rattle.plan_calls.specs.Lanes.{is_used_lane};
 ghost use Rattle.shape_plans.specs.Drawing.{plan_of};
 ghost use Rattle.rank_slots.specs.declared.slot.Slot.{Slot};
@@ -11,7 +12,7 @@ ghost use Rattle.rank_slots.specs.Chronicles.{chronicle};
 ghost use Rattle.rank_slots.specs.Names.{Mark, mark, plate};
 ghost use Rattle.rank_slots.specs.Sound.{IsSound};
 ghost use Rattle.rank_slots.specs.Steps.{Begun, Delivered, Fired, IsIdle, IsOfHistory, Made};
-ghost use Rattle.rank_threads.specs.Turns.{MayEnd, Turned};
+ghost use Rattle.rank_threads.specs.Turns.{Followed, MayEnd, Turned};
 
 use crate::fabric::{Fabric, Hand};
 use ptl_types::{Lane, LocalStep, Rank};
@@ -39,6 +40,7 @@ impl<G: Gate + Drop> Fabric<G> {
         requires rank { rank < self.now.job.shape.ranks }
         ensures some { IfSome result (λ t. HasTaken self.now hand.old rank t hand.new) }
         ensures none { IfNone result (IsFree self.now.turns hand.new × (hand.new.knows.parts ≡ hand.old.knows.parts)) }
+        ensures busy { IfNone result (hand.new.knows ≡ after_busy hand.old.knows rank) }
     {
         let _ = self.ranks;
         let Some(turn) = self.turns.try_take(hand, rank) else {
@@ -79,6 +81,25 @@ impl<G: Gate + Drop> Fabric<G> {
         let Turn { slot, value } = self.take(rt, hand, rank);
         let mut value = value;
         let made = value.step(rt, &self.wires, &self.mail, &self.gate);
+        self.give(hand, Turn { slot, value });
+        made
+    }
+
+    /// Makes one step of a rank that the hints lead to, in one turn, and answers it. It doesn't wait for the turn, and takes no memory.
+    ///
+    /// `None` where another hand has the turn, or the hints lead to no step: then the hand made none at any rank.
+    pub fn follow<R: Wait>(&self, rt: &R, hand: &mut Hand, rank: Rank) -> Option<LocalStep>
+        requires hand { IsFree self.now.turns hand.old }
+        requires rank { rank < self.now.job.shape.ranks }
+        ensures hand { IsFree self.now.turns hand.new }
+        ensures parts { hand.new.knows.parts ≡ hand.old.knows.parts }
+        ensures followed { Followed result hand.old.knows hand.new.knows rank }
+    {
+        let Some(Turn { slot, value }) = self.try_take(hand, rank) else {
+            return None;
+        };
+        let mut value = value;
+        let made = value.follow_hints(rt, &self.wires, &self.mail, &self.gate);
         self.give(hand, Turn { slot, value });
         made
     }

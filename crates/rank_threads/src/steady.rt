@@ -75,7 +75,8 @@ impl<G: Gate + Drop> Fabric<G> {
         self.sweep(rt, hand, first)
     }
 
-    // Works until it is told to end, or has made so many sweeps in a row without a step.
+    // Works until it is told to end, or has made so many sweeps in a row without a step. No clause says so: where it does nothing, the
+    // first worker makes all steps.
     fn assist<R: Wait>(&self, rt: &R, hand: &mut Hand, first: Rank, end: Rank, done: &AtomicBool)
         requires hand { IsFree self.now.turns hand.old }
         requires first { first ≤ self.now.job.shape.ranks }
@@ -173,11 +174,12 @@ fn run_all<G: Gate + Drop, R: Threads + Wait + Sync>(
     join_mut(rt, &mut assist, &mut lead);
 }
 
-/// One worker for each hand makes steps of all ranks. The first one makes a wave of probes after each of its sweeps over them in which
-/// it made no step, and once a wave has found the job at rest it tells the others to end. Any other also ends after a thousand such
-/// sweeps in a row. Where no thread can be started the first one works alone, and the others then end at once. The wave is left with
-/// that answer; its note of each rank says what a beginning of the history says that the first hand has seen there. The call may wait for
-/// ever.
+/// One worker for each hand makes steps of all ranks. The first one makes waves of probes, and ends once a wave has found the job at rest.
+/// The wave is left with that answer; its note of each rank says what a beginning of the history says that the first hand has seen there.
+/// The call may wait for ever.
+///
+/// What the others do is said by no clause: they make steps until the first one tells them to end, or until a thousand sweeps in a row
+/// made none. Where no thread can be started the first one works alone, and the others then end at once.
 pub fn run_steady<G: Gate + Drop, R: Threads + Wait + Sync>(
     rt: &R,
     fabric: &Fabric<G>,

@@ -1,6 +1,6 @@
 //! Workers that sweep all ranks until a sweep makes no step.
 
-ghost use Rattle.std.specs.Prelude.{◌≡◌, ◌≢◌, ◌<◌, ◌≤◌, ◌⊎◌, ◌^◌, ℕ, length, All};
+ghost use Rattle.std.specs.Prelude.{◌≡◌, ◌≢◌, ◌<◌, ◌≤◌, ◌⊎◌, ◌^◌, ◌*◌, ◌/◌, ℕ, length, All, IsFalse};
 ghost use Rattle.plan_view.specs.Slots.{Slots};
 ghost use Rattle.job_laws.specs.Barriers.{AreBarriersKept};
 ghost use Rattle.turn_table.specs.Hands.{IsFree, parts_of};
@@ -8,7 +8,7 @@ ghost use Rattle.worlds.specs.Standing.{IsStanding};
 ghost use Rattle.worlds.specs.World.{AreSlots, histories_in};
 ghost use Rattle.rank_threads.specs.Closing.{IsWorked};
 ghost use Rattle.rank_threads.specs.Fabrics.{HasSwept};
-ghost use Rattle.rank_threads.specs.Turns.{FoundIdle};
+ghost use Rattle.rank_threads.specs.Turns.{FoundIdle, MadeNone};
 
 use crate::close::SpentWires;
 use crate::fabric::{Fabric, Hand};
@@ -17,7 +17,6 @@ use rank_slots::Gate;
 use std::sync::Wait;
 use std::thread;
 use std::thread::Threads;
-use turn_table::Turn;
 use worlds::World;
 
 impl<G: Gate + Drop> Fabric<G> {
@@ -29,6 +28,7 @@ impl<G: Gate + Drop> Fabric<G> {
         ensures parts { hand.new.knows.parts ≡ hand.old.knows.parts }
         ensures idle { FoundIdle self.now.job hand.new.knows rank }
         ensures others { (r : ℕ) → r ≢ rank → FoundIdle self.now.job hand.old.knows r → FoundIdle self.now.job hand.new.knows r }
+        ensures none { IsFalse result → MadeNone hand.old.knows hand.new.knows }
     {
         let mut worked = false;
         for _ in rt.forever() {
@@ -48,6 +48,7 @@ impl<G: Gate + Drop> Fabric<G> {
         ensures parts { hand.new.knows.parts ≡ hand.old.knows.parts }
         ensures idle { (r : ℕ) → first ≤ r → r < end → FoundIdle self.now.job hand.new.knows r }
         ensures others { (r : ℕ) → (r < first ⊎ end ≤ r) → FoundIdle self.now.job hand.old.knows r → FoundIdle self.now.job hand.new.knows r }
+        ensures none { IsFalse result → MadeNone hand.old.knows hand.new.knows }
     {
         let mut worked = false;
         for rank in first..end {
@@ -65,14 +66,15 @@ impl<G: Gate + Drop> Fabric<G> {
         ensures hand { IsFree self.now.turns hand.new }
         ensures swept { HasSwept self.now hand.new }
         ensures parts { hand.new.knows.parts ≡ hand.old.knows.parts }
+        ensures none { IsFalse result → MadeNone hand.old.knows hand.new.knows }
     {
         let above = self.sweep_part(rt, hand, first, self.ranks);
         let below = self.sweep_part(rt, hand, 0, first);
         above | below
     }
 
-    // Makes the steps of a rank that the hints lead to, in one turn, and answers whether there was one. A rank that there is no word for is
-    // left, and one that another worker has too: that one goes on with it.
+    // Makes steps of a rank that the hints lead to, each in a turn of its own, until there is none, and answers whether there was one. A
+    // rank that there is no word for is left, and one that another worker has too: that one goes on with it.
     fn visit<R: Wait>(&self, rt: &R, hand: &mut Hand, rank: Rank) -> bool
         requires hand { IsFree self.now.turns hand.old }
         requires rank { rank < self.now.job.shape.ranks }
@@ -82,13 +84,14 @@ impl<G: Gate + Drop> Fabric<G> {
         if !self.mail.any(rank) {
             return false;
         }
-        let Some(Turn { slot, value }) = self.try_take(hand, rank) else {
-            return false;
-        };
-        let mut value = value;
-        let made = value.follow_hints(rt, &self.wires, &self.mail, &self.gate);
-        self.give(hand, Turn { slot, value });
-        made
+        let mut made = false;
+        for _ in rt.forever() {
+            if self.follow(rt, hand, rank).is_none() {
+                return made;
+            }
+            made = true;
+        }
+        unreachable!()
     }
 
     // Visits each rank from `first` to before `end`, and answers whether there was a step.
@@ -173,17 +176,18 @@ impl<G: Gate + Drop> Fabric<G> {
     }
 }
 
-// The first of a worker's own ranks: the workers' ranks are as many as may be equal blocks.
+// The first of a worker's own ranks: each worker's ranks end where the next one's begin, and the last one's end is the number of ranks.
 pub(crate) fn block_start(worker: u64, workers: u64, ranks: u32) -> u32
     requires some { 0 < workers }
     requires few { workers < 2 ^ 32 }
     requires worker { worker ≤ workers }
-    ensures { result ≤ ranks }
+    ensures exact { result ≡ worker * ranks / workers }
+    ensures within { result ≤ ranks }
 {
     (worker * u64::from(ranks) / workers) as u32
 }
 
-/// One worker for each hand makes steps of all ranks, and ends after a sweep over them in which it made none.
+/// One worker for each hand makes steps of all ranks. It ends once its last turn at each rank found that rank idle.
 pub fn run_workers<G: Gate + Drop, R: Threads + Wait + Sync>(
     rt: &R,
     fabric: &Fabric<G>,
@@ -226,7 +230,7 @@ pub fn run_keeping<G: Gate + Drop, R: Threads + Wait + Sync>(
     requires all { parts_of hands.items ≡ 2 ^ 32 }
     requires some { 0 < length hands.items }
     requires few { length hands.items < 2 ^ 32 }
-    ensures world { IsWorked fabric result.0 }
+    ensures world { IsWorked fabric (length hands.items) result.0 }
     ensures kept { IsStanding result.0 }
     ensures barriers { (slots : ℕ → Slots) → AreSlots result.0 slots →
         AreBarriersKept result.0.shape result.0.inputs slots (histories_in result.0) }
@@ -247,7 +251,7 @@ pub fn run_and_close<G: Gate + Drop, R: Threads + Wait + Sync>(
     requires all { parts_of hands.items ≡ 2 ^ 32 }
     requires some { 0 < length hands.items }
     requires few { length hands.items < 2 ^ 32 }
-    ensures world { IsWorked fabric result }
+    ensures world { IsWorked fabric (length hands.items) result }
     ensures kept { IsStanding result }
     ensures barriers { (slots : ℕ → Slots) → AreSlots result slots →
         AreBarriersKept result.shape result.inputs slots (histories_in result) }

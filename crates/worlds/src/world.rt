@@ -53,7 +53,7 @@ pub trait Chooser {
         ensures after { self.new ≡ after self.old n };
 }
 
-/// All ranks of a job on one thread, with the messages that are on their way. After its opening no call takes memory.
+/// All ranks of a job on one thread, with the messages that are on their way. After its opening no call answers that memory ran out.
 pub struct World {
     job: Job,
     setting: Setting,

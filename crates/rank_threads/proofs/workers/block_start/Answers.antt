@@ -13,5 +13,5 @@ overflow_mul-result c = let h : c.args.worker * c.from.result < 2 ^ 32 * 2 ^ 32 
 pub overflow_cast-result : goal.overflow_cast-result
 overflow_cast-result c = let h = part-le c.args.worker c.args.workers c.from.result c.requires.worker in omega (arith, h)
 
-pub returns : goal.returns
-returns c = let h = part-le c.args.worker c.args.workers c.from.result c.requires.worker in omega (arith, h)
+pub returns-clause-within : goal.returns-clause-within
+returns-clause-within c = let h = part-le c.args.worker c.args.workers c.from.result c.requires.worker in omega (arith, h)

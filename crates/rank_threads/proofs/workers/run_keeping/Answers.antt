@@ -27,6 +27,8 @@ returns-clause-world g c =
     let is : take c.args.hands.len (new ++ drop (length new) c.args.hands.items) ≡ new =
     written c.args.hands.len new _ (sym (c.run_workers.auto.hands ∙ c.deref_mut.ensures.len)) in record {
       hands = take c.args.hands.len (new ++ drop (length new) c.args.hands.items);
+      count = ap (λ (l : List (HandState Slot)). length l) is
+          ∙ (c.run_workers.auto.hands ∙ ap (λ (l : List (HandState Slot)). length l) c.deref_mut.ensures.value);
       swept = subst (λ (l : List (HandState Slot)). All (λ h. HasSwept c.args.fabric h) l) (sym is) c.run_workers.ensures.swept;
       all = ap (λ (l : List (HandState Slot)). parts_of l) is
           ∙ (c.run_workers.ensures.parts ∙ (ap (λ (l : List (HandState Slot)). parts_of l) c.deref_mut.ensures.value ∙ c.requires.all));

@@ -1,3 +1,4 @@
+use Rattle.std.specs.Prelude.{Some, None}
 use Rattle.rank_slots.proofs.Onwards.{onward-after, onward-sound, onward-still, onward-wired}
 use Rattle.rank_slots.proofs.slot.Slot.receive_pending.Goals as goal
 
@@ -11,7 +12,9 @@ pub receive_of-requires-clause-wired : goal.receive_of-requires-clause-wired
 receive_of-requires-clause-wired g c = λ _ _. onward-wired c.args.wires.now c.args.self.now c.loop.self c.loop.invariant c.requires.wired
 
 pub loop-preserved : goal.loop-preserved
-loop-preserved g c = onward-after c.args.self.now c.loop.self c.receive_of.new.self c.loop.invariant c.receive_of.ensures
+loop-preserved g c = onward-after None c.args.self.now c.loop.self c.receive_of.new.self c.loop.invariant c.in_default-receive_of.ensures
 
-pub returns-then-receive_of : goal.returns-then-receive_of
-returns-then-receive_of g c = onward-after c.args.self.now c.loop.self c.receive_of.new.self c.loop.invariant c.receive_of.ensures
+pub returns-in-Some-receive_of : goal.returns-in-Some-receive_of
+returns-in-Some-receive_of g c =
+    onward-after (Some c.in-Some-receive_of.step) c.args.self.now c.loop.self c.receive_of.new.self c.loop.invariant
+    c.in-Some-receive_of.ensures
