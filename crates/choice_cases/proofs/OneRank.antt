@@ -127,11 +127,11 @@ all_steps : (run 12).world 0 ≡ history
 unfolding target request answered fired started append
 all_steps = refl
 
-ended : enabled_steps system (run 12) ≡ []
+pub ended : enabled_steps system (run 12) ≡ []
 unfolding target request answered fired started append
 ended = refl
 
-in_range : IsInRange 1 choices
+pub in_range : IsInRange 1 choices
 in_range = record { some = omega arith; few_ranks = omega arith; few_steps = omega arith }
 
 pub decided : IsDecided 1 choices (λ r. slots) (run 12).world

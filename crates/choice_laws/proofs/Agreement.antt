@@ -6,6 +6,7 @@ use Rattle.ptl_types.specs.declared.headers.Lane.{Lane}
 use Rattle.ptl_types.specs.declared.headers.Lane.TheVariants.{Request, Answer as AnswerLane}
 use Rattle.ptl_types.specs.Kinds.{is_answer}
 use Rattle.ptl_types.specs.Messages.{Sent}
+use Rattle.ni_model.specs.Ready.{is_ready}
 use Rattle.ni_model.specs.State.{State}
 use Rattle.plan_cuts.specs.History.{Local, after, and_then, got, is_for, is_lane, is_start, made_by, state}
 use Rattle.plan_cuts.specs.History.Local.{Fire, Receive, Start}
@@ -15,7 +16,7 @@ use Rattle.plan_core.proofs.Lists.{count-append}
 use Rattle.coll_lang.specs.declared.choices.ChoiceKind.{ChoiceKind}
 use Rattle.choice_machine.specs.Choices.{choice_at}
 use Rattle.coll_lang.specs.declared.choices.ChoiceKind.TheVariants.{Elect, Tickets}
-use Rattle.choice_machine.specs.Machine.{Answer, Moment, Phase, ask, opened, sent_at}
+use Rattle.choice_machine.specs.Machine.{Answer, Ask, Moment, Phase, ask, begun as begun_in, fired as fired_in, opened, returned, sent_at, taken}
 use Rattle.choice_machine.specs.Machine.Phase.{Answered, Asked, Idle, Learned, Read, Reading, Served, Told}
 use Rattle.choice_machine.specs.Lawful.{IsLawful}
 use Rattle.choice_machine.proofs.Moments.{opened_lawful}
@@ -24,6 +25,7 @@ use Rattle.choice_machine.proofs.Counting.{made_opened}
 use Rattle.choice_view.specs.Install.{Slots, answer_message, ask_header, ask_message, first_header, seat_of, view}
 use Rattle.choice_view.specs.Steps.{sent_message}
 use Rattle.choice_view.proofs.Called.{installed}
+use Rattle.choice_view.proofs.Firings.{IsFiring}
 use Rattle.plan_cuts.specs.System.{Histories, System, state_at}
 use Rattle.choice_laws.specs.Decided.{choice_system}
 
@@ -215,21 +217,37 @@ pub record Agrees (ranks : ℕ) (ks : List ChoiceKind) (slots : ℕ → Slots) (
   pub no_answer : (s d : ℕ) → (s ≡ 0 → ⊥) → held s d AnswerLane ≡ []
 
 module _ (ranks : ℕ) (ks : List ChoiceKind) (slots : ℕ → Slots) where
+  -- the machine goes from moment m to moment n where rank r makes a local step
+  abbrev pub Follows : Moment → ℕ → Local → Moment → Type 0
+  Follows m r Start n = n ≡ begun_in r m
+  Follows m r (Fire t) n = (s : ℕ) × (is_ready (view (slots r) ranks ks r (seat_of ks m r)) t ≡ true)
+      × IsFiring (slots r) ranks ks r (seat_of ks m r) t s × (n ≡ fired_in r s m)
+  Follows m r (Receive s Request msg) n = (a : Ask) × (rest : List Ask) × (m.asks s ≡ a ∷ rest) × (n ≡ taken ks s a rest m)
+  Follows m r (Receive s AnswerLane msg) n = (a : Answer) × (rest : List Answer) × (m.answers r ≡ a ∷ rest) × (n ≡ returned ks r a rest m)
+
+  -- what a step leaves agrees with a moment that follows
+  pub record Moved (m : Moment) (r : ℕ) (e : Local) (next : Histories) (later : Lanes) : Type 0 where
+    pub agrees : Agrees ranks ks slots next later
+    pub follows : Follows m r e agrees.m
+
   -- the first moment
   pub agrees_opened : (w : Histories) (held : Lanes) → ((r : ℕ) → w r ≡ []) → ((s d : ℕ) (lane : Lane) → held s d lane ≡ [])
-      → Agrees ranks ks slots w held
-  agrees_opened w held h e = record {
-    m = opened ks;
-    lawful = opened_lawful ranks ks;
-    states = λ r. ap (state_of r) (h r) ∙ installed (slots r) ranks ks r;
-    fresh = λ r i. refl;
-    begun = λ r i. let q = ap (count_by is_start) (h r) in absurd (none q i);
-    lengths = λ r. ap length (h r) ∙ sym (made_opened ranks ks r);
-    asks = λ r. e r 0 Request;
-    answers = λ r. e 0 r AnswerLane;
-    no_request = λ s d i. e s d Request;
-    no_answer = λ s d i. e s d AnswerLane;
-  }
+      → (now : Agrees ranks ks slots w held) × (now.m ≡ opened ks)
+  agrees_opened w held h e = (
+    record {
+      m = opened ks;
+      lawful = opened_lawful ranks ks;
+      states = λ r. ap (state_of r) (h r) ∙ installed (slots r) ranks ks r;
+      fresh = λ r i. refl;
+      begun = λ r i. let q = ap (count_by is_start) (h r) in absurd (none q i);
+      lengths = λ r. ap length (h r) ∙ sym (made_opened ranks ks r);
+      asks = λ r. e r 0 Request;
+      answers = λ r. e 0 r AnswerLane;
+      no_request = λ s d i. e s d Request;
+      no_answer = λ s d i. e s d AnswerLane;
+    },
+    refl,
+  )
     where
       state_of : ℕ → List Local → State
       state_of r es = state ((choice_system ranks ks slots).go r) ((choice_system ranks ks slots).first r) es

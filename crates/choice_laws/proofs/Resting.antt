@@ -29,18 +29,19 @@ use Rattle.plan_cuts.specs.System.{Histories, state_at}
 use Rattle.plan_orders.specs.Reached.{IsReached}
 use Rattle.plan_orders.specs.Reached.IsReached.{Begun, Stepped}
 use Rattle.choice_laws.specs.Decided.{IsDecided, IsInRange, choice_system, result_of}
-use Rattle.choice_laws.proofs.Agreement.{Agrees, agrees_opened}
+use Rattle.choice_laws.proofs.Agreement.{Agrees, Moved, agrees_opened}
 use Rattle.choice_laws.proofs.Starting.{agrees_firing, agrees_start}
 use Rattle.choice_laws.proofs.Serving.{agrees_request}
 use Rattle.choice_laws.proofs.Returning.{agrees_answer}
 
 module _ (ranks : ℕ) (ks : List ChoiceKind) (slots : ℕ → Slots) (in_range : IsInRange ranks ks) where
-  -- a step keeps the agreement
-  pub agrees_step : (w : Histories) (held : Lanes) (next : Histories) (later : Lanes) → Agrees ranks ks slots w held
-      → IsLocalStep (choice_system ranks ks slots) w held next later → Agrees ranks ks slots next later
+  -- a step keeps the agreement, and is a move of the machine
+  pub agrees_step : (w : Histories) (held : Lanes) (next : Histories) (later : Lanes) (now : Agrees ranks ks slots w held)
+      (step : IsLocalStep (choice_system ranks ks slots) w held next later) → Moved ranks ks slots now.m step.r step.e next later
   agrees_step w held next later now step = at step.e refl step.enabled
     where
-      at : (e : Local) → step.e ≡ e → IsEnabled (choice_system ranks ks slots) w held step.r e → Agrees ranks ks slots next later
+      at : (e : Local) → step.e ≡ e → IsEnabled (choice_system ranks ks slots) w held step.r e
+          → Moved ranks ks slots now.m step.r e next later
       at Start is fresh = agrees_start ranks ks slots w held now next later step is fresh
       at (Fire t) is ready = agrees_firing ranks ks slots w held now next later step t is ready
       at (Receive s Request m) is source = agrees_request ranks ks slots in_range w held now next later step s m is source.0
@@ -48,8 +49,9 @@ module _ (ranks : ℕ) (ks : List ChoiceKind) (slots : ℕ → Slots) (in_range 
 
   -- so every moment has it
   pub agrees_reached : (w : Histories) (held : Lanes) → IsReached (choice_system ranks ks slots) w held → Agrees ranks ks slots w held
-  agrees_reached w held Begun = agrees_opened ranks ks slots (λ r. []) (λ s d lane. []) (λ r. refl) (λ s d lane. refl)
-  agrees_reached next later (Stepped {w = w} {held = held} before step) = agrees_step w held next later (agrees_reached w held before) step
+  agrees_reached w held Begun = (agrees_opened ranks ks slots (λ r. []) (λ s d lane. []) (λ r. refl) (λ s d lane. refl)).0
+  agrees_reached next later (Stepped {w = w} {held = held} before step) =
+      (agrees_step w held next later (agrees_reached w held before) step).agrees
 
 -- values below the number of ranks, and values that are equal at every rank
 value_small : (k : ChoiceKind) (ranks : ℕ) (value : ℕ → ℕ) (r : ℕ) → r < ranks → IsRight k ranks value → value r < ranks

@@ -25,7 +25,7 @@ use Rattle.choice_view.specs.Steps.{with_phase}
 use Rattle.choice_view.proofs.StepReturn.{step_return}
 use Rattle.plan_cuts.specs.System.{Histories, System, state_at}
 use Rattle.choice_laws.specs.Decided.{choice_system}
-use Rattle.choice_laws.proofs.Agreement.{Agrees, left_here, left_there, lengths_next, starts_stay, state_here, state_there, taken_here, taken_there, untaken}
+use Rattle.choice_laws.proofs.Agreement.{Agrees, Moved, left_here, left_there, lengths_next, starts_stay, state_here, state_there, taken_here, taken_there, untaken}
 use Rattle.choice_laws.proofs.Serving.{first_of, got_lane}
 
 module _ (ranks : ℕ) (ks : List ChoiceKind) (slots : ℕ → Slots) (w : Histories) (held : Lanes) (now : Agrees ranks ks slots w held)
@@ -93,26 +93,30 @@ module _ (ranks : ℕ) (ks : List ChoiceKind) (slots : ℕ → Slots) (w : Histo
           ∙ ap (map (answer_message (slots q) ks q)) (sym (put-other step.r answers now.m.answers q m))
     ]
 
-    pub agrees_return : Agrees ranks ks slots next later
+    pub agrees_return : Moved ranks ks slots now.m step.r (Receive 0 AnswerLane msg) next later
     agrees_return = record {
-      m = return_next;
-      lawful = returned_lawful ranks ks now.m step.r a answers step.in_range whole now.lawful;
-      states = λ q. return_state q (cases_eq q step.r);
-      fresh = λ q i. now.fresh q (sym (starts_stay here w held next later step (Receive 0 AnswerLane msg) is refl q) ∙ i);
-      begun = λ q i. now.begun q (subst (λ v. 0 < v) (starts_stay here w held next later step (Receive 0 AnswerLane msg) is refl q) i);
-      lengths = lengths_next here w held next later step (steps_made ranks ks now.m) (steps_made ranks ks return_next) now.lengths
-          (made_returned ranks ks now.m step.r a answers now.lawful step.in_range known.0 known.1)
-          (made_returned_other ranks ks now.m step.r a answers now.lawful step.in_range known.0 known.1);
-      asks = λ q. return_requests q 0 ∙ now.asks q;
-      answers = return_answers;
-      no_request = λ q d n. return_requests q d ∙ now.no_request q d n;
-      no_answer = λ q d n. return_left q d AnswerLane
-          ∙ untaken here w held next later step (Receive 0 AnswerLane msg) is q d AnswerLane
-          (got_other 0 q AnswerLane AnswerLane msg (λ e. n (sym e))) ∙ now.no_answer q d n;
+      agrees = record {
+        m = return_next;
+        lawful = returned_lawful ranks ks now.m step.r a answers step.in_range whole now.lawful;
+        states = λ q. return_state q (cases_eq q step.r);
+        fresh = λ q i. now.fresh q (sym (starts_stay here w held next later step (Receive 0 AnswerLane msg) is refl q) ∙ i);
+        begun = λ q i. now.begun q (subst (λ v. 0 < v) (starts_stay here w held next later step (Receive 0 AnswerLane msg) is refl q) i);
+        lengths = lengths_next here w held next later step (steps_made ranks ks now.m) (steps_made ranks ks return_next) now.lengths
+            (made_returned ranks ks now.m step.r a answers now.lawful step.in_range known.0 known.1)
+            (made_returned_other ranks ks now.m step.r a answers now.lawful step.in_range known.0 known.1);
+        asks = λ q. return_requests q 0 ∙ now.asks q;
+        answers = return_answers;
+        no_request = λ q d n. return_requests q d ∙ now.no_request q d n;
+        no_answer = λ q d n. return_left q d AnswerLane
+            ∙ untaken here w held next later step (Receive 0 AnswerLane msg) is q d AnswerLane
+            (got_other 0 q AnswerLane AnswerLane msg (λ e. n (sym e))) ∙ now.no_answer q d n;
+      };
+      follows = (a, answers, whole, refl);
     }
 
   -- any answer that comes
-  pub agrees_answer : (s : ℕ) (msg : Sent) → step.e ≡ Receive s AnswerLane msg → Agrees ranks ks slots next later
+  pub agrees_answer : (s : ℕ) (msg : Sent) → step.e ≡ Receive s AnswerLane msg
+      → Moved ranks ks slots now.m step.r (Receive s AnswerLane msg) next later
   agrees_answer s msg is = at (cases_eq s 0)
     where
       front : held s step.r AnswerLane ≡ msg ∷ step.rest s step.r AnswerLane
@@ -122,9 +126,10 @@ module _ (ranks : ℕ) (ks : List ChoiceKind) (slots : ℕ → Slots) (w : Histo
       some : {x : Sent} {xs : List Sent} → [] ≡ x ∷ xs → ⊥
       some e = cc
 
-      at : ((s ≡ 0) ⊎ (s ≡ 0 → ⊥)) → Agrees ranks ks slots next later
+      at : ((s ≡ 0) ⊎ (s ≡ 0 → ⊥)) → Moved ranks ks slots now.m step.r (Receive s AnswerLane msg) next later
       at (inr m) = absurd (some (sym (now.no_answer s step.r m) ∙ front))
       at (inl i) =
           let f = first_of (answer_message (slots step.r) ks step.r) (now.m.answers step.r) msg (step.rest 0 step.r AnswerLane)
           (sym (now.answers step.r) ∙ subst (λ v. held v step.r AnswerLane ≡ msg ∷ step.rest v step.r AnswerLane) i front) in
-          agrees_return msg (is ∙ ap (λ v. Receive v AnswerLane msg) i) f.x f.later f.whole f.is f.rest
+          let k = agrees_return msg (is ∙ ap (λ v. Receive v AnswerLane msg) i) f.x f.later f.whole f.is f.rest in
+          record { agrees = k.agrees; follows = k.follows }

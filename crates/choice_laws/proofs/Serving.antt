@@ -27,7 +27,7 @@ use Rattle.choice_view.proofs.StepStart.{served_view}
 use Rattle.choice_view.proofs.StepServe.{step_serve}
 use Rattle.plan_cuts.specs.System.{Histories, System, state_at}
 use Rattle.choice_laws.specs.Decided.{IsInRange, choice_system}
-use Rattle.choice_laws.proofs.Agreement.{Agrees, answer_goes, answer_no_ask, both_false, dropped_one, for_answer, for_rank, kept_one, left_here, left_there, lengths_next, starts_stay, state_here, state_there, taken_here, taken_there, untaken}
+use Rattle.choice_laws.proofs.Agreement.{Agrees, Moved, answer_goes, answer_no_ask, both_false, dropped_one, for_answer, for_rank, kept_one, left_here, left_there, lengths_next, starts_stay, state_here, state_there, taken_here, taken_there, untaken}
 
 -- ---- the first of a lane
 pub record IsFirst {X Y : Type 0} (f : X → Y) (xs : List X) (y : Y) (ys : List Y) : Type 0 where
@@ -172,32 +172,36 @@ module _ (ranks : ℕ) (ks : List ChoiceKind) (slots : ℕ → Slots) (in_range 
               ∙ ap (map (answer_message (slots q) ks q)) (sym (put-other s (now.m.answers s ++ given ∷ []) now.m.answers q m))
         ]
 
-    pub agrees_serve : Agrees ranks ks slots next later
+    pub agrees_serve : Moved ranks ks slots now.m step.r (Receive s Request msg) next later
     agrees_serve = record {
-      m = serve_next;
-      lawful = taken_lawful ranks ks now.m s a asks in_range.few_ranks source whole now.lawful;
-      states = λ q. words_show q (cases_eq q 0) ∙ sym (phases_show q (cases_eq q s));
-      fresh = λ q i. now.fresh q (sym (starts_stay here w held next later step (Receive s Request msg) is refl q) ∙ i);
-      begun = λ q i. now.begun q (subst (λ v. 0 < v) (starts_stay here w held next later step (Receive s Request msg) is refl q) i);
-      lengths = lengths_next here w held next later step (steps_made ranks ks now.m) (steps_made ranks ks serve_next) now.lengths
-          (subst (λ v. steps_made ranks ks serve_next v ≡ suc (steps_made ranks ks now.m v)) (sym at_zero)
-          (made_taken ranks ks now.m s a asks source known fits))
-          (λ q m. made_taken_other ranks ks now.m s a asks source known fits q (λ e. m (e ∙ sym at_zero)));
-      asks = serve_asks;
-      answers = serve_answers;
-      no_request = λ q d n. serve_requests q d ∙ serve_rest q d Request (λ e f. absurd (n (sym e))) ∙ now.no_request q d n;
-      no_answer = λ q d n. serve_there q d AnswerLane n ∙ serve_rest q d AnswerLane (λ e f. refl) ∙ now.no_answer q d n;
+      agrees = record {
+        m = serve_next;
+        lawful = taken_lawful ranks ks now.m s a asks in_range.few_ranks source whole now.lawful;
+        states = λ q. words_show q (cases_eq q 0) ∙ sym (phases_show q (cases_eq q s));
+        fresh = λ q i. now.fresh q (sym (starts_stay here w held next later step (Receive s Request msg) is refl q) ∙ i);
+        begun = λ q i. now.begun q (subst (λ v. 0 < v) (starts_stay here w held next later step (Receive s Request msg) is refl q) i);
+        lengths = lengths_next here w held next later step (steps_made ranks ks now.m) (steps_made ranks ks serve_next) now.lengths
+            (subst (λ v. steps_made ranks ks serve_next v ≡ suc (steps_made ranks ks now.m v)) (sym at_zero)
+            (made_taken ranks ks now.m s a asks source known fits))
+            (λ q m. made_taken_other ranks ks now.m s a asks source known fits q (λ e. m (e ∙ sym at_zero)));
+        asks = serve_asks;
+        answers = serve_answers;
+        no_request = λ q d n. serve_requests q d ∙ serve_rest q d Request (λ e f. absurd (n (sym e))) ∙ now.no_request q d n;
+        no_answer = λ q d n. serve_there q d AnswerLane n ∙ serve_rest q d AnswerLane (λ e f. refl) ∙ now.no_answer q d n;
+      };
+      follows = (a, asks, whole, refl);
     }
 
   -- any request that comes
-  pub agrees_request : (s : ℕ) (msg : Sent) → step.e ≡ Receive s Request msg → s < ranks → Agrees ranks ks slots next later
+  pub agrees_request : (s : ℕ) (msg : Sent) → step.e ≡ Receive s Request msg → s < ranks
+      → Moved ranks ks slots now.m step.r (Receive s Request msg) next later
   agrees_request s msg is source = at (cases_eq step.r 0)
     where
       front : held s step.r Request ≡ msg ∷ step.rest s step.r Request
       front = taken_here here w held next later step (Receive s Request msg) is s Request
           ∙ ap (λ v. v ++ step.rest s step.r Request) (got_one s Request msg)
 
-      at : ((step.r ≡ 0) ⊎ (step.r ≡ 0 → ⊥)) → Agrees ranks ks slots next later
+      at : ((step.r ≡ 0) ⊎ (step.r ≡ 0 → ⊥)) → Moved ranks ks slots now.m step.r (Receive s Request msg) next later
       at (inr m) = absurd (some (sym (now.no_request s step.r (λ e. m (sym e))) ∙ front))
         where
           some : {x : Sent} {xs : List Sent} → [] ≡ x ∷ xs → ⊥

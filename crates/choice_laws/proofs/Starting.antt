@@ -1,5 +1,5 @@
 -- A start and a firing are those of the machine.
-use Rattle.std.proofs.Common.{ℕ, true, false, ◌≡◌, ◌<◌, ◌⊎◌, List, [], ◌++◌, refl, length, map, filter, ap, ap₂, ◌∙◌, sym, subst, inl, inr, arith, count_by, append-nil}
+use Rattle.std.proofs.Common.{ℕ, true, false, ◌≡◌, ◌<◌, ◌⊎◌, List, [], ◌++◌, refl, map, filter, ap, ap₂, ◌∙◌, sym, subst, inl, inr, arith, count_by, append-nil}
 use Rattle.std.proofs.lemmas.Bool.{cases_eq}
 use Rattle.std.proofs.lemmas.List.{map-append}
 use Rattle.ptl_types.specs.declared.headers.Lane.{Lane}
@@ -10,8 +10,7 @@ use Rattle.plan_cuts.specs.History.{and_then, is_for, is_start, made_by}
 use Rattle.plan_cuts.specs.History.Local.{Fire, Start}
 use Rattle.plan_cuts.specs.Moment.{IsLocalStep, Lanes}
 use Rattle.coll_lang.specs.declared.choices.ChoiceKind.{ChoiceKind}
-use Rattle.choice_machine.specs.Choices.{choice_at}
-use Rattle.choice_machine.specs.Machine.{Moment, advanced, begun, fired as fired_in, put, is_ready as is_ready_phase, sent_at}
+use Rattle.choice_machine.specs.Machine.{Moment, advanced, begun, fired as fired_in, put, sent_at}
 use Rattle.choice_machine.proofs.Places.{put-other, put-same, put_in-rank, put_in-row}
 use Rattle.choice_machine.proofs.Moments.{begun_lawful, fired_lawful}
 use Rattle.choice_machine.specs.Counted.{steps_made}
@@ -19,10 +18,10 @@ use Rattle.choice_machine.proofs.Counting.{made_begun, made_begun_other, made_fi
 use Rattle.choice_view.specs.Install.{Slots, ask_message, seat_of, view}
 use Rattle.choice_view.specs.Steps.{sent_message, with_phase}
 use Rattle.choice_view.proofs.StepFire.{increment_starts}
-use Rattle.choice_view.proofs.Firings.{step_fire}
+use Rattle.choice_view.proofs.Firings.{IsFiring, step_fire}
 use Rattle.plan_cuts.specs.System.{Histories, System, state_at}
 use Rattle.choice_laws.specs.Decided.{choice_system}
-use Rattle.choice_laws.proofs.Agreement.{Agrees, left_here, left_there, lengths_next, sent_kept, sent_list, sent_no_answer, sent_no_rank, starts_here, starts_stay, state_here, state_there, untaken}
+use Rattle.choice_laws.proofs.Agreement.{Agrees, Moved, left_here, left_there, lengths_next, sent_kept, sent_list, sent_no_answer, sent_no_rank, starts_here, starts_stay, state_here, state_there, untaken}
 
 module _ (ranks : ℕ) (ks : List ChoiceKind) (slots : ℕ → Slots) (w : Histories) (held : Lanes) (now : Agrees ranks ks slots w held)
     (next : Histories) (later : Lanes) (step : IsLocalStep (choice_system ranks ks slots) w held next later) where
@@ -65,26 +64,27 @@ module _ (ranks : ℕ) (ks : List ChoiceKind) (slots : ℕ → Slots) (w : Histo
       | inr m ↦ put-other step.r true now.m.started q m ∙ now.begun q (subst (λ v. 0 < count_by is_start v) (step.others q m) i)
     ]
 
-    pub agrees_start : Agrees ranks ks slots next later
+    pub agrees_start : Moved ranks ks slots now.m step.r Start next later
     agrees_start = record {
-      m = begun step.r now.m;
-      lawful = begun_lawful ranks ks now.m step.r now.lawful;
-      states = λ q. start_state q (cases_eq q step.r);
-      fresh = start_fresh;
-      begun = start_begun;
-      lengths = lengths_next here w held next later step (steps_made ranks ks now.m) (steps_made ranks ks (begun step.r now.m)) now.lengths
-          (made_begun ranks ks now.m step.r (now.fresh step.r fresh)) (made_begun_other ranks ks now.m step.r);
-      asks = λ q. start_held q 0 Request ∙ now.asks q;
-      answers = λ q. start_held 0 q AnswerLane ∙ now.answers q;
-      no_request = λ s d n. start_held s d Request ∙ now.no_request s d n;
-      no_answer = λ s d n. start_held s d AnswerLane ∙ now.no_answer s d n;
+      agrees = record {
+        m = begun step.r now.m;
+        lawful = begun_lawful ranks ks now.m step.r now.lawful;
+        states = λ q. start_state q (cases_eq q step.r);
+        fresh = start_fresh;
+        begun = start_begun;
+        lengths = lengths_next here w held next later step (steps_made ranks ks now.m) (steps_made ranks ks (begun step.r now.m))
+            now.lengths (made_begun ranks ks now.m step.r (now.fresh step.r fresh)) (made_begun_other ranks ks now.m step.r);
+        asks = λ q. start_held q 0 Request ∙ now.asks q;
+        answers = λ q. start_held 0 q AnswerLane ∙ now.answers q;
+        no_request = λ s d n. start_held s d Request ∙ now.no_request s d n;
+        no_answer = λ s d n. start_held s d AnswerLane ∙ now.no_answer s d n;
+      };
+      follows = refl;
     }
 
   -- ---- a firing
-  module _ (t s : ℕ) (is : step.e ≡ Fire t) (known : s < length ks) (ready : is_ready_phase (choice_at ks s) (now.m.phase step.r s) ≡ true)
-      (does : fired (view (slots step.r) ranks ks step.r (seat_of ks now.m step.r)) t
-      ≡ fires (view (slots step.r) ranks ks step.r (with_phase s (advanced (now.m.phase step.r s)) (seat_of ks now.m step.r)))
-      (sent_message (slots step.r) ks step.r s (now.m.phase step.r s))) where
+  module _ (t s : ℕ) (is : step.e ≡ Fire t) (ready : is_ready (view (slots step.r) ranks ks step.r (seat_of ks now.m step.r)) t ≡ true)
+      (firing : IsFiring (slots step.r) ranks ks step.r (seat_of ks now.m step.r) t s) where
     -- the machine's moment after it
     abbrev pub fire_next : Moment
     fire_next = fired_in step.r s now.m
@@ -92,7 +92,7 @@ module _ (ranks : ℕ) (ks : List ChoiceKind) (slots : ℕ → Slots) (w : Histo
     does_here : fired (state_at here w step.r) t
         ≡ fires (view (slots step.r) ranks ks step.r (with_phase s (advanced (now.m.phase step.r s)) (seat_of ks now.m step.r)))
         (sent_message (slots step.r) ks step.r s (now.m.phase step.r s))
-    does_here = ap (λ v. fired v t) (now.states step.r) ∙ does
+    does_here = ap (λ v. fired v t) (now.states step.r) ∙ firing.does
 
     fire_state : (q : ℕ) → ((q ≡ step.r) ⊎ (q ≡ step.r → ⊥)) → state_at here next q ≡ view (slots q) ranks ks q (seat_of ks fire_next q)
     fire_state q (inr m) = state_there here w held next later step q m ∙ now.states q
@@ -148,24 +148,28 @@ module _ (ranks : ℕ) (ks : List ChoiceKind) (slots : ℕ → Slots) (w : Histo
       | inr m ↦ fire_there q d Request m
     ]
 
-    pub agrees_fire : Agrees ranks ks slots next later
+    pub agrees_fire : Moved ranks ks slots now.m step.r (Fire t) next later
     agrees_fire = record {
-      m = fire_next;
-      lawful = fired_lawful ranks ks now.m step.r s step.in_range known ready now.lawful;
-      states = λ q. fire_state q (cases_eq q step.r);
-      fresh = λ q i. now.fresh q (sym (starts_stay here w held next later step (Fire t) is refl q) ∙ i);
-      begun = λ q i. now.begun q (subst (λ v. 0 < v) (starts_stay here w held next later step (Fire t) is refl q) i);
-      lengths = lengths_next here w held next later step (steps_made ranks ks now.m) (steps_made ranks ks fire_next) now.lengths
-          (made_fired ranks ks now.m step.r s known ready) (made_fired_other ranks ks now.m step.r s);
-      asks = fire_asks;
-      answers = λ q. fire_answers 0 q ∙ now.answers q;
-      no_request = λ q d n. fire_requests q d n ∙ now.no_request q d n;
-      no_answer = λ q d n. fire_answers q d ∙ now.no_answer q d n;
+      agrees = record {
+        m = fire_next;
+        lawful = fired_lawful ranks ks now.m step.r s step.in_range firing.known firing.ready now.lawful;
+        states = λ q. fire_state q (cases_eq q step.r);
+        fresh = λ q i. now.fresh q (sym (starts_stay here w held next later step (Fire t) is refl q) ∙ i);
+        begun = λ q i. now.begun q (subst (λ v. 0 < v) (starts_stay here w held next later step (Fire t) is refl q) i);
+        lengths = lengths_next here w held next later step (steps_made ranks ks now.m) (steps_made ranks ks fire_next) now.lengths
+            (made_fired ranks ks now.m step.r s firing.known firing.ready) (made_fired_other ranks ks now.m step.r s);
+        asks = fire_asks;
+        answers = λ q. fire_answers 0 q ∙ now.answers q;
+        no_request = λ q d n. fire_requests q d n ∙ now.no_request q d n;
+        no_answer = λ q d n. fire_answers q d ∙ now.no_answer q d n;
+      };
+      follows = (s, ready, firing, refl);
     }
 
   -- any ready operation
-  pub agrees_firing : (t : ℕ) → step.e ≡ Fire t → is_ready (state_at here w step.r) t ≡ true → Agrees ranks ks slots next later
+  pub agrees_firing : (t : ℕ) → step.e ≡ Fire t → is_ready (state_at here w step.r) t ≡ true
+      → Moved ranks ks slots now.m step.r (Fire t) next later
   agrees_firing t is ready =
-      let f = step_fire (slots step.r) ranks ks step.r (seat_of ks now.m step.r) t
-      (ap (λ v. is_ready v t) (sym (now.states step.r)) ∙ ready) in
-      agrees_fire t f.0 is f.1.known f.1.ready f.1.does
+      let reached = ap (λ v. is_ready v t) (sym (now.states step.r)) ∙ ready in
+      let f = step_fire (slots step.r) ranks ks step.r (seat_of ks now.m step.r) t reached in
+      agrees_fire t f.0 is reached f.1
