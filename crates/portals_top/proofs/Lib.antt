@@ -4,6 +4,7 @@ pub mod Fronts
 pub mod Interleavings
 pub mod Judging
 pub mod OneText
+pub mod OneChoiceText
 pub mod Reaching
 pub mod Rests
 pub mod Spellings

@@ -36,7 +36,7 @@ use Rattle.portals_top.specs.OneText.{IsPlanned, run_orders, sim_task}
 use Rattle.portals_top.specs.Runs.{word}
 
 -- the texts of orders that agree at each rank
-same-orders : (n : ℕ) (f g : ℕ → List LocalStep) → ((r : ℕ) → r < n → f r ≡ g r) → order_text n f ≡ order_text n g
+pub same-orders : (n : ℕ) (f g : ℕ → List LocalStep) → ((r : ℕ) → r < n → f r ≡ g r) → order_text n f ≡ order_text n g
 same-orders n f g same =
     flat-same (λ r. order_line r (f r)) (λ r. order_line r (g r)) (from_to 0 n) (λ r i. ap (order_line r) (same r (below n r i)))
 

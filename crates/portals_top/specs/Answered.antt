@@ -21,7 +21,7 @@ use Rattle.portals_top.specs.Choosing.{IsChoiceInOrder, IsChoiceRun}
 use Rattle.portals_top.specs.Due.{due, unread}
 use Rattle.portals_top.specs.Formats.{read_as}
 use Rattle.portals_top.specs.Left.{nothing_ran}
-use Rattle.portals_top.specs.Runs.{IsInOrder, IsReachedWorld, IsRun}
+use Rattle.portals_top.specs.Runs.{IsInOrder, IsOfSteady, IsOfWorkers, IsReachedWorld, IsRun}
 
 -- These are the bytes, where they are told.
 abbrev pub IsTold : Option (List ℕ) → List ℕ → Type 0
@@ -56,14 +56,14 @@ Leaves ReadFault source' rest = Unit {0}
 Leaves WriteFault source' rest = IsTold source'.left rest
 Leaves NoMemory source' rest = Unit {0}
 
--- Whether a world ran as a mode asks for: on one thread it is one to which steps led, and `sim` chooses their order. Of what workers leave it is
--- said above that its histories are a cut at rest.
+-- Whether a world ran as a mode asks for: on one thread it is one to which steps led, and `sim` chooses their order. Of workers it is as many
+-- as are asked for, and what they left is made to its end.
 abbrev pub IsInMode : Mode → WorldState → Type 0
 IsInMode Once w = IsReachedWorld w
 IsInMode (Sim seed) w = IsReachedWorld w × IsInOrder seed w
-IsInMode (Run workers) w = Unit {0}
-IsInMode (Trace workers) w = Unit {0}
-IsInMode (Steady workers) w = Unit {0}
+IsInMode (Run workers) w = IsOfWorkers workers w
+IsInMode (Trace workers) w = IsOfWorkers workers w
+IsInMode (Steady workers) w = IsOfSteady workers w
 
 -- the world that a run of a description leaves
 abbrev pub LeavesRun : Mode → Outline → Lists → Option WorldState → Type 0

@@ -1,9 +1,16 @@
 -- What `sim` owes for a description, told without a world.
-use Rattle.std.specs.Prelude.{ℕ, ◌≡◌, List, None, Ok, map}
+use Rattle.std.specs.Prelude.{ℕ, ◌≡◌, ◌++◌, List, Some, None, Ok, map}
+use Rattle.std.specs.List.{flat_map}
+use Rattle.number_lists.specs.Numbers.{from_to}
 use Rattle.coll_lang.specs.Language.{read}
-use Rattle.coll_lang.specs.Program.{Program}
-use Rattle.plan_cuts.specs.System.{Histories}
+use Rattle.coll_lang.specs.Program.{Chosen, Program}
+use Rattle.coll_lang.specs.Readable.{chosen_name}
+use Rattle.plan_cuts.specs.System.{Histories, System, state_at}
 use Rattle.plan_orders.specs.Taking.{listed}
+use Rattle.choice_view.specs.Install.{Slots}
+use Rattle.choice_laws.specs.Decided.{choice_system, result_of}
+use Rattle.choice_ranks.specs.Seats.{kinds_of}
+use Rattle.run_text.specs.Lines.{rest_line, value_line}
 use Rattle.run_text.specs.Orders.{order_text}
 use Rattle.shape_plans.specs.Footprint.{refusal}
 use Rattle.portals_top.specs.declared.words.Command.TheVariants.{Execute}
@@ -20,6 +27,24 @@ pub record IsPlanned (bytes : List ℕ) (d : Program) : Type 0 where
   pub is : read bytes ≡ Ok d
   pub plain : d.choices ≡ None
   pub accepted : refusal d.shape ≡ None
+
+-- the bytes are this choice text
+pub record IsChoosing (bytes : List ℕ) (d : Program) (c : Chosen) : Type 0 where
+  pub is : read bytes ≡ Ok d
+  pub choices : d.choices ≡ Some c
+
+-- its ranks: what each begins with, and what its start does, where its tables give these slots
+abbrev pub choosers_of : Program → Chosen → (ℕ → Slots) → System
+choosers_of d c slots = choice_system d.shape.ranks (kinds_of c.steps) slots
+
+-- the results of a step in a run of these ranks, a line for each rank
+abbrev pub run_lines : Program → Chosen → (ℕ → Slots) → Histories → ℕ → List ℕ
+run_lines d c slots run s =
+    flat_map (λ r. value_line (chosen_name c s) r (result_of s (state_at (choosers_of d c slots) run r))) (from_to 0 d.shape.ranks)
+
+-- of each step that is printed, in order, and the end
+abbrev pub run_values : Program → Chosen → (ℕ → Slots) → Histories → List ℕ
+run_values d c slots run = flat_map (run_lines d c slots run) c.prints ++ rest_line
 
 -- the local steps of each rank in a run, as they are written
 abbrev pub run_orders : Program → Histories → List ℕ

@@ -1,5 +1,5 @@
 -- What a run leaves, and the order that `sim` chooses.
-use Rattle.std.specs.Prelude.{ℕ, zero, suc, ◌≡◌, ◌<◌, ◌%◌, []}
+use Rattle.std.specs.Prelude.{ℕ, zero, suc, ◌≡◌, ◌<◌, ◌%◌, ◌^◌, List, [], length}
 use Rattle.rand_core.specs.Pcg32Seed.{pcg32_seed}
 use Rattle.rand_pcg.specs.Lcg.{Lcg}
 use Rattle.rand_pcg.specs.Pcg.{pcg32, pcg32_of_seed}
@@ -12,6 +12,13 @@ use Rattle.plan_orders.specs.Chosen.{IsChosen}
 use Rattle.plan_orders.specs.Reached.{IsReached}
 use Rattle.shape_plans.specs.Drawing.{plan_of}
 use Rattle.job_laws.specs.Results.{AreMeant}
+use Rattle.turn_table.specs.Hands.{parts_of}
+use Rattle.turn_table.specs.States.{HandState}
+use Rattle.rank_slots.specs.declared.slot.Slot.{Slot}
+use Rattle.rank_wiring.specs.Opening.{AllFresh}
+use Rattle.rank_threads.specs.Closing.{IsWorked, IsWorldOf}
+use Rattle.rank_threads.specs.Fabrics.{FabricState}
+use Rattle.worlds.specs.Later.{IsLater}
 use Rattle.worlds.specs.Standing.{IsStanding}
 use Rattle.worlds.specs.World.{AreSlots, WorldState, histories_in, memory_in, ranks_in, scene_in, steps_in}
 
@@ -33,6 +40,31 @@ pub record IsRun (o : Outline) (given : Lists) (w : WorldState) : Type 0 where
 -- Its histories and lanes are those of a moment to which local steps of its ranks led, one after the other, from the beginning on.
 abbrev pub IsReachedWorld : WorldState → Type 0
 IsReachedWorld w = (slots : ℕ → Slots) → AreSlots w slots → IsReached (ranks_in w slots) (histories_in w) (scene_in w).held
+
+-- So many workers left a world, each of whom saw every rank idle at its last turn there, and this one is later: they were all the hands of a
+-- fabric of the job in which nothing had been done.
+pub record IsOfWorkers (workers : ℕ) (w : WorldState) : Type 0 where
+  pub fabric : FabricState
+  pub fresh : AllFresh fabric.job fabric.turns.start
+  pub left : WorldState
+  pub worked : IsWorked fabric workers left
+  pub later : IsLater left w
+
+-- What hands that are together all of a fabric's leave at rest.
+pub record IsRested (f : FabricState) (workers : ℕ) (w : WorldState) : Type 0 where
+  pub hands : List (HandState Slot)
+  pub count : length hands ≡ workers
+  pub all : parts_of hands ≡ 2 ^ 32
+  pub world : IsWorldOf f hands w
+  pub rest : (slots : ℕ → Slots) → AreSlots w slots → IsAtRest (ranks_in w slots) (histories_in w)
+
+-- So many workers left a world at rest, and this one is later: they were all the hands of a fabric of the job in which nothing had been done.
+pub record IsOfSteady (workers : ℕ) (w : WorldState) : Type 0 where
+  pub fabric : FabricState
+  pub fresh : AllFresh fabric.job fabric.turns.start
+  pub left : WorldState
+  pub rested : IsRested fabric workers left
+  pub later : IsLater left w
 
 -- the generator that a number seeds: PCG XSH RR 64/32, as its crate seeds it
 abbrev pub generator : ℕ → Lcg

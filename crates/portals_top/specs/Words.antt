@@ -79,6 +79,13 @@ HasWorkers (Run workers) = 0 < workers
 HasWorkers (Trace workers) = 0 < workers
 HasWorkers (Steady workers) = 0 < workers
 
+-- how many threads read a text for a command: the workers who are to run it, and else one
+abbrev pub readers_of : Command → ℕ
+readers_of (Execute (Run workers)) = workers
+readers_of (Execute (Trace workers)) = workers
+readers_of (Execute (Steady workers)) = workers
+readers_of c = 1
+
 abbrev pub CanDo : Command → Type 0
 CanDo (Execute mode) = HasWorkers mode
 CanDo Plan = Unit {0}

@@ -1,7 +1,8 @@
 //! What holds of each two runs of one description.
 
 ghost use Rattle.std.specs.Prelude.{ℕ, ◌≡◌, ◌++◌, List, Some};
-ghost use Rattle.coll_lang.specs.Program.{Program};
+ghost use Rattle.coll_lang.specs.Program.{Chosen, Program};
+ghost use Rattle.choice_view.specs.Install.{Slots as ChoiceSlots};
 ghost use Rattle.plan_view.specs.Slots.{Slots};
 ghost use Rattle.plan_cuts.specs.System.{Histories};
 ghost use Rattle.plan_orders.specs.Chosen.{IsChosen};
@@ -10,8 +11,29 @@ ghost use Rattle.portals_top.specs.declared.ran.Ran.{Ran};
 ghost use Rattle.portals_top.specs.Answered.{RunLeaves};
 ghost use Rattle.portals_top.specs.Due.{due};
 ghost use Rattle.portals_top.specs.Headline.{ranks_of};
-ghost use Rattle.portals_top.specs.OneText.{IsPlanned, run_orders, sim_task};
+ghost use Rattle.portals_top.specs.OneText.{IsChoosing, IsPlanned, choosers_of, run_orders, run_values, sim_task};
 ghost use Rattle.portals_top.specs.Runs.{word};
+
+/// What `sim X` writes of any bytes is a function of the words and the bytes, whatever world the call leaves.
+pub fn sim_owes_one_text_of_any_bytes()
+    ensures { (bytes : List ℕ) (seed : ℕ) (one other : Ran) →
+        RunLeaves (Some (sim_task seed)) bytes one → RunLeaves (Some (sim_task seed)) bytes other →
+        (due (Some (sim_task seed)) bytes one).text ≡ (due (Some (sim_task seed)) bytes other).text }
+{}
+
+/// What `sim X` writes of a choice text is a function of the words and the bytes, whatever slots the tables of the interfaces give out.
+/// There is a run that the seed's words choose; the text that is owed is the results and the orders of any such run, which no world has
+/// a part in; and so two calls that leave choice worlds of the same bytes owe the same text.
+pub fn sim_owes_one_choice_text()
+    ensures some { (bytes : List ℕ) (d : Program) (c : Chosen) (slots : ℕ → ChoiceSlots) (seed : ℕ) → IsChoosing bytes d c →
+        ((run : Histories) × IsChosen (choosers_of d c slots) (word seed) run) }
+    ensures text { (bytes : List ℕ) (d : Program) (c : Chosen) (slots : ℕ → ChoiceSlots) (seed : ℕ) (run : Histories) (ran : Ran) →
+        IsChoosing bytes d c → IsChosen (choosers_of d c slots) (word seed) run → RunLeaves (Some (sim_task seed)) bytes ran →
+        (due (Some (sim_task seed)) bytes ran).text ≡ run_values d c slots run ++ run_orders d run }
+    ensures same { (bytes : List ℕ) (d : Program) (c : Chosen) (seed : ℕ) (one other : Ran) → IsChoosing bytes d c →
+        RunLeaves (Some (sim_task seed)) bytes one → RunLeaves (Some (sim_task seed)) bytes other →
+        (due (Some (sim_task seed)) bytes one).text ≡ (due (Some (sim_task seed)) bytes other).text }
+{}
 
 /// What `sim X` writes of a description that isn't a choice text is a function of the words and the bytes, whatever slots the tables of the
 /// interfaces give out. There is a run that the seed's words choose; the text that is owed is the results and the orders of any such run,

@@ -23,7 +23,7 @@ mod writing;
 
 pub use begun::{Begun, Crew};
 pub use headline::every_interleaving_is_meant;
-pub use laws::sim_owes_one_text;
+pub use laws::{sim_owes_one_choice_text, sim_owes_one_text, sim_owes_one_text_of_any_bytes};
 pub use ran::Ran;
 pub use status::Status;
 pub use top::{begin, portals_main, run_with_gate};

@@ -5,12 +5,13 @@ ghost use Rattle.plan_orders.specs.Chosen.{first_scene};
 ghost use Rattle.rest_probe.specs.Waves.{IsFor};
 ghost use Rattle.shape_plans.specs.Drawing.{plan_of};
 ghost use Rattle.turn_table.specs.Hands.{IsFree, parts_of};
+ghost use Rattle.worlds.specs.Later.{IsLater};
 ghost use Rattle.worlds.specs.World.{scene_in};
 ghost use Rattle.portals_top.specs.Answered.{HandsBack, LeavesRun, LeavesWorld};
 ghost use Rattle.portals_top.specs.Begun.{Begins, IsLeft, mode_of};
 ghost use Rattle.portals_top.specs.Due.{done, mode_text};
 ghost use Rattle.portals_top.specs.Left.{nothing_ran};
-ghost use Rattle.portals_top.specs.Runs.{IsInOrder, IsReachedWorld, IsRun};
+ghost use Rattle.portals_top.specs.Runs.{IsInOrder, IsOfSteady, IsOfWorkers, IsReachedWorld, IsRested, IsRun};
 ghost use Rattle.portals_top.specs.Words.{HasWorkers};
 ghost use Rattle.portals_top.specs.Written.{Written};
 
@@ -36,6 +37,7 @@ fn finished(world: World) -> World
     requires { world.spare ≡ 0 }
     ensures run { IsRun world.shape world.inputs result }
     ensures reached { scene_in world ≡ first_scene → IsReachedWorld result }
+    ensures later { IsLater world result }
 {
     let mut world = world;
     world.run_to_rest();
@@ -72,7 +74,7 @@ pub(crate) fn run_by_workers<R: Threads + Wait + Sync, G: Gate>(
     job: &Job,
 ) -> Result<(World, SpentWires), NoMemory>
     requires { 0 < workers }
-    ensures { IfOk result (λ left. IsRun job.now.shape job.now.inputs left.0) }
+    ensures { IfOk result (λ left. IsRun job.now.shape job.now.inputs left.0 × IsOfWorkers workers left.0) }
 {
     let (fabric, hands) = Fabric::open(rt, alloc, job, workers, gate)?;
     let (world, spent) = run_keeping(rt, fabric, hands);
@@ -95,6 +97,7 @@ fn close_steady<R: Threads + Wait + Sync, G: Gate + Drop>(
     ensures shape { result.0.shape ≡ fabric.job.shape }
     ensures inputs { result.0.inputs ≡ fabric.job.inputs }
     ensures own { result.0.spare ≡ 0 }
+    ensures rested { IsRested fabric (length hands.items) result.0 }
 {
     let mut hands = hands;
     let mut wave = wave;
@@ -112,7 +115,7 @@ fn run_steadily<R: Threads + Wait + Sync, G: Gate>(
     job: &Job,
 ) -> Result<(World, SpentWires), NoMemory>
     requires { 0 < workers }
-    ensures { IfOk result (λ left. IsRun job.now.shape job.now.inputs left.0) }
+    ensures { IfOk result (λ left. IsRun job.now.shape job.now.inputs left.0 × IsOfSteady workers left.0) }
 {
     let wave = Wave::open(alloc, job.schedule())?;
     let (fabric, hands) = Fabric::open(rt, alloc, job, workers, gate)?;

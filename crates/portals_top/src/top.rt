@@ -11,7 +11,7 @@ ghost use Rattle.portals_top.specs.Due.{due, due_compiled, due_described, due_of
 ghost use Rattle.portals_top.specs.Explained.{Explained, Tells, TellsBegun};
 ghost use Rattle.portals_top.specs.Formats.{read_as};
 ghost use Rattle.portals_top.specs.Left.{nothing_ran};
-ghost use Rattle.portals_top.specs.Words.{CanDo, HasWorkers, request};
+ghost use Rattle.portals_top.specs.Words.{CanDo, HasWorkers, readers_of, request};
 ghost use Rattle.portals_top.specs.Written.{Written};
 
 use crate::begun::Begun;
@@ -139,7 +139,8 @@ fn described<K: Sink>(
 /// How many threads read a text for a command.
 fn readers_for(command: Command) -> u32
     requires workers { CanDo command }
-    ensures { 0 < result }
+    ensures exact { result ≡ readers_of command }
+    ensures some { 0 < result }
 {
     match command {
         Command::Execute(

@@ -30,8 +30,19 @@ close_at_rest-requires-clause-noted g c = λ _ _.
     (fronts.0, λ r x at. record { at = 0; hand = h.0; hand_is = ap (λ (l : List (HandState Slot)). get_elem? l 0) is ∙ h.1; says = fronts.1 r x at })
 
 pub returns : goal.returns
-returns g c = record {
-  shape = c.close_at_rest.ensures.world.shape;
-  inputs = c.close_at_rest.ensures.world.inputs;
-  own = c.close_at_rest.ensures.world.spare;
-}
+returns g c =
+    let new = c.run_steady.new.hands in
+    let is : take c.args.hands.len (new ++ drop (length new) c.args.hands.items) ≡ new = written c.args.hands.len new _ (sym (c.run_steady.auto.hands ∙ c.deref_mut.ensures.len)) in record {
+      shape = c.close_at_rest.ensures.world.shape;
+      inputs = c.close_at_rest.ensures.world.inputs;
+      own = c.close_at_rest.ensures.world.spare;
+      rested = record {
+        hands = take c.args.hands.len (new ++ drop (length new) c.args.hands.items);
+        count = ap (λ (l : List (HandState Slot)). length l) is
+            ∙ (c.run_steady.auto.hands ∙ ap (λ (l : List (HandState Slot)). length l) c.deref_mut.ensures.value);
+        all = ap (λ (l : List (HandState Slot)). parts_of l) is
+            ∙ (c.run_steady.ensures.parts ∙ (ap (λ (l : List (HandState Slot)). parts_of l) c.deref_mut.ensures.value ∙ c.requires.all));
+        world = c.close_at_rest.ensures.world;
+        rest = c.close_at_rest.ensures.rest;
+      };
+    }

@@ -1,3 +1,8 @@
+use Rattle.std.proofs.Common.{ℕ, ◌≡◌, ◌∙◌, ap, subst, sym}
+use Rattle.schedule_compiler.specs.Jobs.{JobOf}
+use Rattle.rank_wiring.specs.Opening.{AllFresh}
+use Rattle.rank_threads.specs.Closing.{IsWorked}
+use Rattle.portals_top.specs.Runs.{IsRun}
 use Rattle.portals_top.proofs.running.run_by_workers.Goals as goal
 
 pub run_keeping-world-requires-clause-hands : goal.run_keeping-world-requires-clause-hands
@@ -5,3 +10,19 @@ run_keeping-world-requires-clause-hands g c = λ _ _. λ i d low. (c.in_ok-fabri
 
 pub finished-world-requires : goal.finished-world-requires
 finished-world-requires g c = c.run_keeping-world.ensures.world.world.spare
+
+pub returns : goal.returns
+returns g c =
+    let opened = c.in_ok-fabric.ensures in
+    let worked = c.run_keeping-world.ensures.world in
+    let shape = worked.world.shape ∙ ap (λ (j : JobOf). j.shape) opened.job in
+    let inputs = worked.world.inputs ∙ ap (λ (j : JobOf). j.inputs) opened.job in (
+      rw (shape, inputs) at c.finished-world.ensures.run,
+      record {
+        fabric = c.in_ok-fabric.fabric;
+        fresh = subst (λ (j : JobOf). AllFresh j c.in_ok-fabric.fabric.turns.start) (sym opened.job) opened.fresh;
+        left = c.run_keeping-world.result.0;
+        worked = subst (λ (n : ℕ). IsWorked c.in_ok-fabric.fabric n c.run_keeping-world.result.0) opened.hands.0 worked;
+        later = c.finished-world.ensures.later;
+      },
+    )

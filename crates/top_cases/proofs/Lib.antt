@@ -1,0 +1,3 @@
+pub mod Owed
+pub mod Asked
+pub mod Left
