@@ -1,0 +1,9 @@
+pub mod Rows
+pub mod KnownLinks
+pub mod Overlaps
+pub mod Guarding
+pub mod Sizes
+pub mod CellRows
+pub mod LinkRows
+pub mod Flawless
+pub mod Parts

@@ -1,0 +1,4 @@
+pub mod Causes
+pub mod Fit
+pub mod Guards
+pub mod Sizes
