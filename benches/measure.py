@@ -1,6 +1,6 @@
 """Measures the built program beside programs in plain Rust that do the same work: `measure.sh` builds those and calls this.
 
-usage: measure.py PLAIN_FOLDER [RUNS]. It is run at the top of the repository.
+usage: measure.py PLAIN_FOLDER [RUNS]. It is run at the top of the repository; PORTALS_RUN names another program.
 """
 
 import os
@@ -9,7 +9,7 @@ import subprocess
 import sys
 import tempfile
 
-PROGRAM = "crates/portals_run/out/portals_run"
+PROGRAM = os.environ.get("PORTALS_RUN", "crates/portals_run/out/portals_run")
 MEANING = "crates/meaning_load/out/meaning_load"
 
 

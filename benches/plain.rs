@@ -1,6 +1,10 @@
-//! Descriptions and their plans in plain Rust, as far as the texts of `measure.py` go: what the two programs beside this file
-//! share, each a part of it. Nothing is proved here. A text that isn't understood is refused with its line.
+//! Descriptions and their plans in plain Rust: what the programs beside this file share, each a part of it. Nothing is proved here. A
+//! description's text is read as it is, without the language's limits; a text that isn't understood is refused with its line.
 #![allow(dead_code)]
+
+mod drawing;
+
+pub use drawing::compile;
 
 use std::collections::HashMap;
 use std::io::{self, Read, Write};
@@ -19,6 +23,10 @@ pub enum ElemType {
 }
 
 impl ElemType {
+    pub const ALL: [ElemType; 8] = {
+        use ElemType::*;
+        [U8, I8, U16, I16, U32, I32, U64, I64]
+    };
     pub fn of(word: &[u8]) -> Option<ElemType> {
         use ElemType::*;
         Some(match word {
@@ -55,7 +63,7 @@ impl ElemType {
             U64 | I64 => 8,
         }
     }
-    fn is_signed(self) -> bool {
+    pub fn is_signed(self) -> bool {
         use ElemType::*;
         matches!(self, I8 | I16 | I32 | I64)
     }
@@ -83,23 +91,97 @@ impl ElemType {
     }
 }
 
+#[derive(Clone, Copy, PartialEq)]
+pub enum Op {
+    Min,
+    Max,
+    Sum,
+    Prod,
+    Lor,
+    Land,
+    Bor,
+    Band,
+    Lxor,
+    Bxor,
+}
+
+impl Op {
+    const WORDS: [(&[u8], Op); 10] = [
+        (b"min", Op::Min),
+        (b"max", Op::Max),
+        (b"sum", Op::Sum),
+        (b"prod", Op::Prod),
+        (b"lor", Op::Lor),
+        (b"land", Op::Land),
+        (b"bor", Op::Bor),
+        (b"band", Op::Band),
+        (b"lxor", Op::Lxor),
+        (b"bxor", Op::Bxor),
+    ];
+    fn of(word: &[u8]) -> Option<Op> {
+        Op::WORDS
+            .iter()
+            .find(|(w, _)| *w == word)
+            .map(|(_, op)| *op)
+    }
+    pub const ALL: [Op; 10] = {
+        use Op::*;
+        [Min, Max, Sum, Prod, Lor, Land, Bor, Band, Lxor, Bxor]
+    };
+    pub fn word(self) -> &'static [u8] {
+        Op::WORDS[self as usize].0
+    }
+}
+
+/// What a step does. A root is a place among the members.
 #[derive(Clone, Copy)]
 pub enum Collective {
     Barrier,
-    Allreduce,
+    Broadcast(usize),
+    Reduce(usize, Op),
+    Allreduce(Op),
+    Gather(usize),
     Allgather,
+    Alltoall,
+    Scan(Op),
+    Scatter(usize),
+    Reducescatter(Op),
+    Exscan(Op),
+    Gatherv(usize),
+}
+
+impl Collective {
+    /// What the words of a step say, with the buffer that it reads and the one that it makes.
+    fn of<'a, 'b>(words: &'b [&'a [u8]]) -> Option<(Collective, Option<[&'a [u8]; 2]>)> {
+        let root = |word| number(word).map(|root| root as usize);
+        Some(match *words {
+            [b"barrier"] => (Collective::Barrier, None),
+            [b"allgather", a, b] => (Collective::Allgather, Some([a, b])),
+            [b"alltoall", a, b] => (Collective::Alltoall, Some([a, b])),
+            [b"broadcast", r, a, b] => (Collective::Broadcast(root(r)?), Some([a, b])),
+            [b"gather", r, a, b] => (Collective::Gather(root(r)?), Some([a, b])),
+            [b"scatter", r, a, b] => (Collective::Scatter(root(r)?), Some([a, b])),
+            [b"gatherv", r, a, b] => (Collective::Gatherv(root(r)?), Some([a, b])),
+            [b"reduce", r, op, a, b] => (Collective::Reduce(root(r)?, Op::of(op)?), Some([a, b])),
+            [b"allreduce", op, a, b] => (Collective::Allreduce(Op::of(op)?), Some([a, b])),
+            [b"scan", op, a, b] => (Collective::Scan(Op::of(op)?), Some([a, b])),
+            [b"reducescatter", op, a, b] => (Collective::Reducescatter(Op::of(op)?), Some([a, b])),
+            [b"exscan", op, a, b] => (Collective::Exscan(Op::of(op)?), Some([a, b])),
+            _ => return None,
+        })
+    }
 }
 
 pub struct Step {
     pub collective: Collective,
     pub group: Option<usize>,
+    /// The buffer that it reads; a barrier reads none.
     pub source: usize,
 }
 
 pub struct Buffer {
     pub name: Vec<u8>,
     pub ty: ElemType,
-    pub length: u64,
 }
 
 pub struct Description {
@@ -170,34 +252,22 @@ impl<'a> Reader<'a> {
         }
         Some(())
     }
-    fn name(&mut self, name: &'a [u8], ty: ElemType, length: u64) -> Option<()> {
+    fn name(&mut self, name: &'a [u8], ty: ElemType) -> Option<()> {
         if self.names.insert(name, self.d.buffers.len()).is_some() {
             return None;
         }
         self.d.buffers.push(Buffer {
             name: name.to_vec(),
             ty,
-            length,
         });
         Some(())
     }
     fn step(&mut self, group: Option<usize>, words: &[&'a [u8]]) -> Option<()> {
-        let members = group.map_or(self.d.ranks as usize, |g| self.d.groups[g].len());
-        let (collective, source, made) = match words {
-            [b"barrier"] => (Collective::Barrier, 0, None),
-            [b"allreduce", b"sum", a, b] => {
-                (Collective::Allreduce, *self.names.get(a)?, Some((*b, 1)))
-            }
-            [b"allgather", a, b] => (
-                Collective::Allgather,
-                *self.names.get(a)?,
-                Some((*b, members as u64)),
-            ),
-            _ => return None,
-        };
-        if let Some((name, times)) = made {
-            let (ty, length) = (self.d.buffers[source].ty, self.d.buffers[source].length);
-            self.name(name, ty, length * times)?;
+        let (collective, names) = Collective::of(words)?;
+        let mut source = 0;
+        if let Some([a, b]) = names {
+            source = *self.names.get(a)?;
+            self.name(b, self.d.buffers[source].ty)?;
         }
         self.d.steps.push(Step {
             collective,
@@ -226,7 +296,7 @@ impl<'a> Reader<'a> {
             }
             [b"input", name, ty, count] => {
                 let (ty, count) = (ElemType::of(ty)?, number(count)?);
-                self.name(name, ty, count)?;
+                self.name(name, ty)?;
                 self.data(ty, count as usize)?;
             }
             [b"print", name] => self.d.prints.push(*self.names.get(name)?),
@@ -273,11 +343,6 @@ pub fn parse(text: &[u8]) -> Result<Description, usize> {
     Ok(reader.d)
 }
 
-#[derive(Clone, Copy)]
-pub enum Op {
-    Sum,
-}
-
 /// A counting event together with a part of one rank's memory.
 #[derive(Clone, Copy)]
 pub struct Cell {
@@ -315,204 +380,6 @@ pub struct Plan {
     pub held: Vec<Vec<Option<u32>>>,
 }
 
-/// A plan that is drawn, and the last cell of each rank so far.
-struct Drawing {
-    plan: Plan,
-    exits: Vec<u32>,
-}
-
-impl Drawing {
-    fn cell(&mut self, rank: u32, ty: ElemType, op: Option<Op>, length: u64) -> u32 {
-        self.plan.cells.push(Cell {
-            rank,
-            ty,
-            op,
-            length,
-            needs: 0,
-        });
-        self.plan.cells.len() as u32 - 1
-    }
-    fn link(&mut self, source: u32, length: u64, target: u32, target_offset: u64, kind: Kind) {
-        self.plan.cells[target as usize].needs += 1;
-        self.plan.links.push(Link {
-            source,
-            source_offset: 0,
-            length,
-            target,
-            target_offset,
-            kind,
-        });
-    }
-    fn entries(&mut self, members: &[u32], data: Option<(ElemType, u64, &[u32])>) -> Vec<u32> {
-        let mut entries = Vec::with_capacity(members.len());
-        for (i, &r) in members.iter().enumerate() {
-            let (ty, length) = data.map_or((ElemType::U8, 0), |(ty, n, _)| (ty, n));
-            let e = self.cell(r, ty, None, length);
-            self.link(self.exits[r as usize], 0, e, 0, Kind::Bump);
-            if let Some((_, n, sources)) = data {
-                self.link(sources[i], n, e, 0, Kind::Put);
-            }
-            entries.push(e);
-        }
-        entries
-    }
-    /// Every member with every other one, round by round.
-    fn allgather(&mut self, members: &[u32], ty: ElemType, n: u64, entries: &[u32]) -> Vec<u32> {
-        let m = members.len();
-        let mut blocks: Vec<u32> = Vec::with_capacity(m * m);
-        for d in 0..m {
-            for i in 0..m {
-                let source = if d == 0 {
-                    entries[i]
-                } else {
-                    blocks[(d - 1) * m + (i + m - 1) % m]
-                };
-                let b = self.cell(members[i], ty, None, n);
-                self.link(source, n, b, 0, Kind::Put);
-                blocks.push(b);
-            }
-        }
-        (0..m)
-            .map(|i| {
-                let o = self.cell(members[i], ty, None, n * m as u64);
-                for d in 0..m {
-                    self.link(
-                        blocks[d * m + i],
-                        n,
-                        o,
-                        ((i + m - d) % m) as u64 * n,
-                        Kind::Put,
-                    );
-                }
-                o
-            })
-            .collect()
-    }
-    /// Up a binomial tree of the members, and down again.
-    fn allreduce(&mut self, members: &[u32], ty: ElemType, n: u64, entries: &[u32]) -> Vec<u32> {
-        let m = members.len();
-        let parent = |v: usize| v & !(1 << v.ilog2());
-        let mut sums = vec![0; m];
-        for v in (0..m).rev() {
-            sums[v] = self.cell(members[v], ty, Some(Op::Sum), n);
-            self.link(entries[v], n, sums[v], 0, Kind::Atomic);
-            for w in v + 1..m {
-                if parent(w) == v {
-                    self.link(sums[w], n, sums[v], 0, Kind::Atomic);
-                }
-            }
-        }
-        let mut outs = Vec::with_capacity(m);
-        for v in 0..m {
-            let o = self.cell(members[v], ty, None, n);
-            if v > 0 {
-                self.link(sums[v], 0, o, 0, Kind::Bump);
-            }
-            self.link(
-                if v == 0 { sums[0] } else { outs[parent(v)] },
-                n,
-                o,
-                0,
-                Kind::Put,
-            );
-            outs.push(o);
-        }
-        outs
-    }
-    /// Rounds of doubling distance.
-    fn barrier(&mut self, members: &[u32], mut row: Vec<u32>) -> Vec<u32> {
-        let m = members.len();
-        let mut distance = 1;
-        while distance < m {
-            row = (0..m)
-                .map(|i| {
-                    let t = self.cell(members[i], ElemType::U8, None, 0);
-                    self.link(row[i], 0, t, 0, Kind::Bump);
-                    self.link(row[(i + m - distance) % m], 0, t, 0, Kind::Put);
-                    t
-                })
-                .collect();
-            distance *= 2;
-        }
-        row
-    }
-    fn step(&mut self, d: &Description, step: &Step, everyone: &[u32]) {
-        let members = step.group.map_or(everyone, |g| &d.groups[g]);
-        let source = &self.plan.held;
-        let sources: Vec<u32> = match step.collective {
-            Collective::Barrier => vec![],
-            _ => members
-                .iter()
-                .map(|r| source[step.source][*r as usize].unwrap())
-                .collect(),
-        };
-        let exits = match step.collective {
-            Collective::Barrier => {
-                let entries = self.entries(members, None);
-                self.barrier(members, entries)
-            }
-            _ => {
-                let a = &d.buffers[step.source];
-                let n = a.length * a.ty.size() as u64;
-                let entries = self.entries(members, Some((a.ty, n, &sources)));
-                match step.collective {
-                    Collective::Allgather => self.allgather(members, a.ty, n, &entries),
-                    _ => self.allreduce(members, a.ty, n, &entries),
-                }
-            }
-        };
-        for (i, &r) in members.iter().enumerate() {
-            self.exits[r as usize] = exits[i];
-        }
-        if !matches!(step.collective, Collective::Barrier) {
-            let mut held = vec![None; d.ranks as usize];
-            for (i, &r) in members.iter().enumerate() {
-                held[r as usize] = Some(exits[i]);
-            }
-            self.plan.held.push(held);
-        }
-    }
-}
-
-/// The plan of a description.
-pub fn compile(d: &Description) -> Plan {
-    let everyone: Vec<u32> = (0..d.ranks).collect();
-    let plan = Plan {
-        ranks: d.ranks,
-        remote: d.remote,
-        cells: vec![],
-        links: vec![],
-        held: vec![],
-    };
-    let mut drawing = Drawing {
-        plan,
-        exits: everyone.clone(),
-    };
-    for &r in &everyone {
-        let go = drawing.cell(r, ElemType::U8, None, 0);
-        drawing.plan.cells[go as usize].needs = 1;
-    }
-    for b in 0..d.inputs.len() / d.ranks as usize {
-        let (ty, length) = (
-            d.buffers[b].ty,
-            d.buffers[b].length * d.buffers[b].ty.size() as u64,
-        );
-        let held = everyone
-            .iter()
-            .map(|&r| {
-                let c = drawing.cell(r, ty, None, length);
-                drawing.link(r, 0, c, 0, Kind::Bump);
-                Some(c)
-            })
-            .collect();
-        drawing.plan.held.push(held);
-    }
-    for step in &d.steps {
-        drawing.step(d, step, &everyone);
-    }
-    drawing.plan
-}
-
 /// Where each rank's counter of what is done stands when all is done.
 pub fn done(plan: &Plan) -> Vec<u64> {
     let mut done = vec![0; plan.ranks as usize];
@@ -525,6 +392,43 @@ pub fn done(plan: &Plan) -> Vec<u64> {
         }
     }
     done
+}
+
+/// PCG XSH RR 64/32, as the crate rand_pcg seeds it from a number.
+pub struct Words {
+    state: u64,
+    increment: u64,
+}
+
+impl Words {
+    const TIMES: u64 = 6_364_136_223_846_793_005;
+    fn word(s: u64) -> u32 {
+        ((((s >> 18) ^ s) >> 27) as u32).rotate_right((s >> 59) as u32)
+    }
+    pub fn seeded(mut s: u64) -> Words {
+        let w = [(); 4].map(|()| {
+            s = s
+                .wrapping_mul(Words::TIMES)
+                .wrapping_add(11_634_580_027_462_260_723);
+            u64::from(Words::word(s))
+        });
+        let increment = (w[2] | w[3] << 32) | 1;
+        Words {
+            state: (w[0] | w[1] << 32)
+                .wrapping_add(increment)
+                .wrapping_mul(Words::TIMES)
+                .wrapping_add(increment),
+            increment,
+        }
+    }
+    pub fn next(&mut self) -> u32 {
+        let word = Words::word(self.state);
+        self.state = self
+            .state
+            .wrapping_mul(Words::TIMES)
+            .wrapping_add(self.increment);
+        word
+    }
 }
 
 /// A text that goes to the standard output in pieces of 64 KiB.
@@ -558,6 +462,19 @@ impl Out {
             }
         }
         self.bytes(&digits[at..]);
+    }
+    /// A space and the value of an element.
+    pub fn value(&mut self, ty: ElemType, element: &[u8]) {
+        let mut bytes = [0; 8];
+        bytes[..ty.size()].copy_from_slice(element);
+        let (pattern, unused) = (u64::from_le_bytes(bytes), 64 - 8 * ty.size());
+        let value = (pattern << unused) as i64 >> unused;
+        if ty.is_signed() && value < 0 {
+            self.bytes(b" -");
+            self.number(value.unsigned_abs());
+        } else {
+            self.next(pattern);
+        }
     }
     /// A space and a number.
     pub fn next(&mut self, n: u64) {

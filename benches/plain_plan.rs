@@ -24,7 +24,8 @@ fn write(plan: &Plan, out: &mut Out) {
         out.next(u64::from(c.rank));
         out.bytes(b" ");
         out.bytes(c.ty.word());
-        out.bytes(if c.op.is_some() { b" sum" } else { b" -" });
+        out.bytes(b" ");
+        out.bytes(c.op.map_or(b"-", |op| op.word()));
         out.next(c.length);
         out.next(c.needs);
         out.bytes(b"\n");

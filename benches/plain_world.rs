@@ -3,7 +3,7 @@
 
 mod plain;
 
-use plain::{Cell, Description, ElemType, Kind, Link, Op, Out, Plan, compile, done, read};
+use plain::{Cell, Description, ElemType, Kind, Link, Op, Out, Plan, Words, compile, done, read};
 use std::collections::VecDeque;
 
 /// A step of one rank.
@@ -199,6 +199,7 @@ impl<'a> World<'a> {
                     *to = byte;
                 }
             }
+            Some(_) => unimplemented!("sums alone"),
         }
     }
     fn fire(&mut self, work: u32) {
@@ -340,43 +341,6 @@ impl Marks {
             width /= 2;
         }
         at as u32
-    }
-}
-
-/// PCG XSH RR 64/32, as the crate rand_pcg seeds it from a number.
-struct Words {
-    state: u64,
-    increment: u64,
-}
-
-impl Words {
-    const TIMES: u64 = 6_364_136_223_846_793_005;
-    fn word(s: u64) -> u32 {
-        ((((s >> 18) ^ s) >> 27) as u32).rotate_right((s >> 59) as u32)
-    }
-    fn seeded(mut s: u64) -> Words {
-        let w = [(); 4].map(|()| {
-            s = s
-                .wrapping_mul(Words::TIMES)
-                .wrapping_add(11_634_580_027_462_260_723);
-            u64::from(Words::word(s))
-        });
-        let increment = (w[2] | w[3] << 32) | 1;
-        Words {
-            state: (w[0] | w[1] << 32)
-                .wrapping_add(increment)
-                .wrapping_mul(Words::TIMES)
-                .wrapping_add(increment),
-            increment,
-        }
-    }
-    fn next(&mut self) -> u32 {
-        let word = Words::word(self.state);
-        self.state = self
-            .state
-            .wrapping_mul(Words::TIMES)
-            .wrapping_add(self.increment);
-        word
     }
 }
 
