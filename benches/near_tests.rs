@@ -1,4 +1,4 @@
-//! What plans don't ask of an interface: rustc --edition 2024 --test -o /tmp/near_tests benches/near_world.rs && /tmp/near_tests
+//! What plans don't ask of an interface: rustc --edition 2024 --test -o near_tests benches/near_world.rs && ./near_tests
 
 use super::near_interface::{Count, Deed, Entry, Header, Interface, Limits, Message, Request};
 
