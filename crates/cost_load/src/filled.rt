@@ -55,7 +55,7 @@ fn handles(alloc: Global, size: u32) -> Option<Vec<Handle>> {
 /// Opens an interface with room for so many things.
 fn open(alloc: Global, size: u32) -> Option<Nic> {
     let region = Bytes::of(alloc, &[1, 2, 3, 4, 5, 6, 7, 8]).ok()?;
-    Nic::open(alloc, 0, 1, limits(size), region).ok()
+    guarded_ni::open(alloc, 0, 1, limits(size), region).ok()
 }
 
 /// Whether there is memory for a further interface, which goes again.

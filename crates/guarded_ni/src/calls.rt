@@ -1,24 +1,23 @@
 //! The other calls that have conditions.
 
 ghost use Rattle.std.specs.Prelude.{◌≡◌, ◌==◌, ◌+◌, ◌<◌, nat_lt, IfOk, IfErr, Some, length, slice_get, if◌then◌else◌};
-ghost use Rattle.ptl_types.specs.declared.calls.NiFault.TheVariants.{NoMemory};
 ghost use Rattle.ni_model.specs.Calls.{ends, eq_alloc, write_memory};
 ghost use Rattle.ni_model.specs.Ready.{fired, fires, is_ready, ready_numbers};
 ghost use Rattle.ni_model.specs.State.{opened, target};
 ghost use Rattle.ni_model.specs.Tables.{has_slot};
 ghost use Rattle.portals_ni.specs.Answers.{MakesIfMemory};
-ghost use Rattle.guarded_ni.specs.declared.faults.CallFault.TheVariants.{Misused, Refused};
-ghost use Rattle.guarded_ni.specs.declared.faults.Misuse.TheVariants.{Elsewhere, NoRoom, NotReady, OutsideRegion, UnknownRank};
-ghost use Rattle.guarded_ni.specs.Guarded.{Guards, Tests};
+ghost use Rattle.portals_ni.specs.Fit.{FitLimits};
+ghost use Rattle.guarded_ni.specs.declared.faults.Misuse.TheVariants.{Elsewhere, NoRoom, NotReady, OutsideRegion};
+ghost use Rattle.guarded_ni.specs.Guarded.{Guards, NotOpened, Tests};
 ghost use Rattle.guarded_ni.specs.Misuses.{unless};
 
 use crate::faults::{CallFault, Misuse};
-use portals_ni::Nic;
+use portals_ni::{Nic, fit};
 use ptl_types::{Bytes, Delivered, Handle, Limits, Message, NiFault, Rank};
 use std::alloc::Global;
 
-/// Opens an interface, as `Nic::open` does. `Misused` exactly where the rank isn't below the number of ranks; otherwise it is only
-/// memory that may be wanting. The region goes with it.
+/// Opens an interface, as `Nic::open` does. `Misused` exactly where the rank isn't below the number of ranks, or else the limits
+/// don't fit; otherwise it is only memory that may be wanting. The region goes with it.
 pub fn open(
     alloc: Global,
     rank: Rank,
@@ -26,11 +25,14 @@ pub fn open(
     limits: Limits,
     region: Bytes,
 ) -> Result<Nic, CallFault>
-    ensures makes { IfOk result (λ nic. (rank < ranks) × (nic ≡ opened rank ranks limits region.list)) }
-    ensures fault { IfErr result (λ fault. fault ≡ (if nat_lt rank ranks then Refused NoMemory else Misused UnknownRank)) }
+    ensures makes { IfOk result (λ nic. (rank < ranks) × FitLimits limits × (nic ≡ opened rank ranks limits region.list)) }
+    ensures fault { IfErr result (NotOpened rank ranks limits) }
 {
     if rank >= ranks {
         return Err(CallFault::Misused(Misuse::UnknownRank));
+    }
+    if !fit(&limits) {
+        return Err(CallFault::Misused(Misuse::UnfitLimits));
     }
     match Nic::open(alloc, rank, ranks, limits, region) {
         Ok(nic) => Ok(nic),

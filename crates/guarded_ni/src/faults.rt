@@ -11,6 +11,9 @@ use std::fmt;
 pub enum Misuse {
     /// The rank that is opened, or the target, isn't below the number of ranks.
     UnknownRank,
+    /// The limits that an interface is opened with: those of entries and of headers together pass 2^32 - 1, or that of triggered
+    /// operations or of counting events passes 2^27.
+    UnfitLimits,
     /// The length passes the limit of messages, or that of atomics or of fetch-atomics.
     TooLong,
     /// The length isn't one of whole elements; for a swap, not that of one element.
@@ -33,6 +36,7 @@ impl fmt::Display for Misuse {
     fn fmt<W: fmt::Write>(&self, f: &mut fmt::Formatter<W>) -> fmt::Result {
         f.write_str(match self {
             Misuse::UnknownRank => "there is no such rank",
+            Misuse::UnfitLimits => "no tables can have these limits",
             Misuse::TooLong => "the length passes the limit",
             Misuse::PartialElement => "the length isn't one of whole elements",
             Misuse::HalvesDiffer => "the two halves differ",

@@ -5,7 +5,7 @@ use guarded_ni::{
     CallFault, Misuse, atomic, eq_alloc, fetch_atomic, fire, get, open, put, ready_at, swap,
     triggered, write_memory,
 };
-use portals_ni::Nic;
+use portals_ni::{Nic, fit};
 use ptl_types::{
     AckRequest, AtomicOp, Bytes, Deed, ElemType, GetArgs, Handle, Limits, NiFault, PutArgs, Rank,
     SwapOp,
@@ -41,6 +41,31 @@ const LONG: PutArgs = PutArgs {
     length: 4097,
     ..PUT
 };
+
+/// The most of everything that fits.
+const MOST: Limits = Limits {
+    entries: 1 << 31,
+    unexpected: (1 << 31) - 1,
+    cts: 1 << 27,
+    triggered: 1 << 27,
+    ..Limits::SMALL
+};
+
+/// One entry more, one counting event more, one operation more.
+const UNFIT: &[Limits] = &[
+    Limits {
+        entries: (1 << 31) + 1,
+        ..MOST
+    },
+    Limits {
+        cts: (1 << 27) + 1,
+        ..MOST
+    },
+    Limits {
+        triggered: (1 << 27) + 1,
+        ..MOST
+    },
+];
 
 const STALE: CallFault = CallFault::Refused(NiFault::Stale);
 
@@ -158,6 +183,18 @@ fn atomics_and_swaps(rt: HostRuntime) {
     are_refused(&rt, &mut nic, ATOMICS_AND_SWAPS);
     let too_long = CallFault::Misused(Misuse::TooLong);
     gives!(rt; triggered_fault(&mut nic, Deed::Put(LONG), MD, 1), Some(too_long));
+}
+
+/// The first rule that is broken is answered: that of the rank before that of the limits.
+#[test]
+fn limits_that_do_not_fit(rt: HostRuntime) {
+    gives!(rt; fit(&MOST), true);
+    let unfit = CallFault::Misused(Misuse::UnfitLimits);
+    let unknown = CallFault::Misused(Misuse::UnknownRank);
+    for limits in UNFIT {
+        gives!(rt; opens(&rt, 0, *limits).err(), Some(unfit));
+        gives!(rt; opens(&rt, 2, *limits).err(), Some(unknown));
+    }
 }
 
 #[test]

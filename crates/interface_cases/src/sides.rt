@@ -3,7 +3,7 @@
 ghost use Rattle.std.specs.Prelude.{◌<◌};
 ghost use Rattle.ni_model.specs.Conditions.{MayGo, MayCombine, MayFetch, MayStart};
 
-use portals_ni::Nic;
+use portals_ni::{Nic, fit};
 use ptl_types::{
     AckRequest, Appended, Bytes, Count, Deed, Delivered, Descriptor, ElemType, Entry, EqGot,
     GetArgs, Handle, Limits, List, Message, NiFault, PutArgs, Rank, UnexpectedHeader,
@@ -23,6 +23,7 @@ pub fn over<R: Abort + Alloc<A = Global>>(rt: &R, rank: Rank, limits: Limits, by
     requires { rank < 2 }
 {
     let region = Bytes::of(rt.alloc(), bytes).expect(rt, "a region");
+    assert!(rt; fit(&limits));
     let nic = Nic::open(rt.alloc(), rank, 2, limits, region).expect(rt, "an interface");
     Side { nic }
 }

@@ -1,5 +1,5 @@
 //! The threads through the places of a list's entries and the looks at these places, behind calls that count what they read.
-ghost use Rattle.std.specs.Prelude.{◌≡◌, ℕ, ◌+◌, ◌<◌, false, [], length, replicate, get_or, slice_set, IfOk, IsTrue};
+ghost use Rattle.std.specs.Prelude.{◌≡◌, ℕ, ◌+◌, ◌<◌, ◌^◌, false, [], length, replicate, get_or, slice_set, IfOk, IsTrue};
 ghost use Rattle.place_threads.specs.Threads.{woven, thread as thread_at, is_on, is_threaded};
 ghost use Rattle.place_threads.specs.Threads.{first_place, place_after, with_place, without_place};
 ghost use Rattle.match_lists.specs.declared.look.Look.{Look};
@@ -40,6 +40,7 @@ pub struct Trails {
 impl Trails {
     /// `count` empty threads for places below `places`. No other call has an answer for want of memory.
     pub(crate) fn open(alloc: Global, count: usize, places: usize) -> Result<Trails, NoMemory>
+        requires { places < 2 ^ 32 }
         ensures threads { IfOk result (λ t. t.threads ≡ woven (replicate count []) places) }
         ensures looks { IfOk result (λ t. length t.looks.items ≡ places) }
     {

@@ -82,13 +82,11 @@ impl Model for Links {
 }
 
 impl Links {
-    /// Links of `len` places, with no neighbours. `NoMemory` also where there are more than a `u32` numbers.
+    /// Links of `len` places, with no neighbours.
     pub(crate) fn with_len(alloc: Global, len: usize) -> Result<Links, NoMemory>
+        requires { len < 2 ^ 32 }
         ensures { IfOk result (λ l. l ≡ replicate len (Some (node 0 None None))) }
     {
-        if len > u32::MAX as usize {
-            return Err(NoMemory);
-        }
         let none = Link {
             thread: 0,
             before: 0,

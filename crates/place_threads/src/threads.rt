@@ -1,5 +1,5 @@
 //! The threads.
-ghost use Rattle.std.specs.Prelude.{◌≡◌, ℕ, ◌<◌, false, [], length, replicate, IfOk, IfSome, IsTrue};
+ghost use Rattle.std.specs.Prelude.{◌≡◌, ℕ, ◌<◌, ◌^◌, false, [], length, replicate, IfOk, IfSome, IsTrue};
 ghost use Rattle.place_threads.specs.Threads.{woven, thread as thread_at, is_on, is_threaded, first_place, last_place, place_after, with_place, with_place_after, without_place, AreApart};
 
 use crate::ends::{Ends, next_of, set_next, set_previous};
@@ -30,8 +30,9 @@ impl Model for Threads {
 }
 
 impl Threads {
-    /// `count` empty threads for places below `places`. No later call takes memory.
+    /// `count` empty threads for places below `places`, each of which has a number of 32 bits. No later call takes memory.
     pub fn open(alloc: Global, count: usize, places: usize) -> Result<Threads, NoMemory>
+        requires { places < 2 ^ 32 }
         ensures { IfOk result (λ t. t ≡ woven (replicate count []) places) }
     {
         let none = Ends {

@@ -4,3 +4,4 @@ pub mod Sound
 pub mod Answers
 pub mod Uses
 pub mod Forms
+pub mod Fit

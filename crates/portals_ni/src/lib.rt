@@ -70,6 +70,6 @@ mod starts;
 mod tables;
 mod triggers;
 
-pub use nic::Nic;
+pub use nic::{Nic, fit};
 pub use ptl_types::{Appended, Deed, Delivered, EqGot, GetArgs, Limits, NiFault, Outcome, PutArgs};
 pub use target_engine::Spent;

@@ -1,8 +1,9 @@
 //! The interface, its opening and what it holds.
 
-ghost use Rattle.std.specs.Prelude.{◌≡◌, ◌<◌, ◌≤◌, ◌+◌, IfOk, length};
+ghost use Rattle.std.specs.Prelude.{◌≡◌, ◌<◌, ◌≤◌, ◌+◌, ◌↔◌, IfOk, IsTrue, length};
 ghost use Rattle.ni_model.specs.State.{opened};
 ghost use Rattle.ni_model.specs.Calls.{write_memory};
+ghost use Rattle.portals_ni.specs.Fit.{FitLimits};
 ghost use Rattle.portals_ni.specs.Lasting.{HasLimits, Lasts};
 
 use crate::triggers::Triggers;
@@ -15,6 +16,17 @@ use ptl_types::{Bytes, Limits, NoMemory, Rank};
 use std::alloc::Global;
 use std::marker::Model;
 use target_engine::Target;
+
+/// The most operations that may wait, and the most counting events.
+const MOST: u32 = 1 << 27;
+
+/// Whether an interface can be opened with these limits: those of entries and of headers don't pass 2^32 - 1 together, and neither
+/// that of triggered operations nor that of counting events passes 2^27.
+pub fn fit(limits: &Limits) -> bool
+    ensures { IsTrue result ↔ FitLimits limits.now }
+{
+    limits.entries <= u32::MAX - limits.unexpected && limits.triggered <= MOST && limits.cts <= MOST
+}
 
 /// One network interface. Its value is the model's `State`.
 pub struct Nic {
@@ -62,8 +74,7 @@ impl Nic {
     /// Opens an interface of this rank among so many, with these limits, over a region of memory (Portals 4.3, network
     /// interfaces). It has no portal table index, descriptor, entry, counting event, queue, header or pending operation, and
     /// both status registers are 0. The memory of its tables is taken here, so that a later call takes memory only where it
-    /// says so; `NoMemory` also where the limits of entries and of headers together pass 2^32 - 1. Condition: the rank is one
-    /// of them.
+    /// says so. Conditions: the rank is one of them, and the limits fit, which `fit` tells.
     pub fn open(
         alloc: Global,
         rank: Rank,
@@ -71,7 +82,8 @@ impl Nic {
         limits: Limits,
         region: Bytes,
     ) -> Result<Nic, NoMemory>
-        requires { rank < ranks }
+        requires rank { rank < ranks }
+        requires fit { FitLimits limits }
         ensures makes { IfOk result (λ nic. nic ≡ opened rank ranks limits region.list) }
     {
         let target = Target::open(alloc, rank, &limits)?;

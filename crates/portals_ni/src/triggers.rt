@@ -5,6 +5,7 @@ ghost use Rattle.ptl_types.specs.Handles.{same_handle};
 ghost use Rattle.ni_model.specs.Refusals.{deed_names_ct, deed_names_md, operation_names_md, operation_names_ct};
 ghost use Rattle.triggered_ops.specs.Operations.{no_operations, operation_at, deed_of, with_posted, told, without_number, waiting_on, cancelled, posted_all};
 ghost use Rattle.portals_ni.specs.Answers.{deed_counter};
+ghost use Rattle.portals_ni.specs.Fit.{FitLimits};
 ghost use Rattle.portals_ni.specs.Pendings.{deed_in};
 ghost use Rattle.portals_ni.specs.Uses.{put_md, get_md, AreUsed, CtsAlone, MdsAlone};
 
@@ -182,6 +183,7 @@ fn some_names_ct(pending: &Pending<Packed>, ct: Handle) -> bool
 impl Triggers {
     /// None, with the room of these limits for what they name.
     pub fn open(alloc: Global, limits: &Limits) -> Result<Triggers, NoMemory>
+        requires { FitLimits limits.now }
         ensures makes { IfOk result (λ t. t ≡ no_operations limits.now.triggered) }
     {
         let pending = Pending::open(alloc, limits.triggered, limits.cts)?;

@@ -12,6 +12,7 @@ use Rattle.ptl_types.specs.declared.steps.Act.TheVariants.{BumpCell}
 use Rattle.ptl_types.specs.declared.steps.Call.{Call}
 use Rattle.ptl_types.specs.declared.steps.Call.TheVariants.{CtDone, CtCell, MdBind}
 use Rattle.ni_model.specs.Conditions.{MayStart}
+use Rattle.portals_ni.specs.Fit.{FitLimits}
 use Rattle.plan_core.proofs.Links.{from_to-In, In-own, out_links-In}
 use Rattle.plan_core.proofs.Lists.{In-filter_cases, length-map'}
 use Rattle.plan_core.specs.Members.{In}
@@ -21,7 +22,7 @@ use Rattle.plan_core.specs.Sound.{SoundPlan}
 use Rattle.plan_core.specs.Values.{Inputs}
 use Rattle.plan_core.specs.declared.LinkKind.{LinkKind}
 use Rattle.plan_core.specs.declared.LinkKind.TheVariants.{Put, Atomic, Bump}
-use Rattle.plan_calls.specs.Areas.{areas_length, classes, comes_to, links_to, longest, longest_to, region_length}
+use Rattle.plan_calls.specs.Areas.{areas_length, classes, comes_to, has_class, links_to, longest, longest_to, region_length}
 use Rattle.plan_calls.specs.Calls.{act_of, area_call, own_cell, prepare_calls, send_act, trigger}
 use Rattle.plan_calls.specs.Limits.{limits_for}
 use Rattle.plan_calls.specs.Works.{Work, works, cell_of, sends_of}
@@ -66,6 +67,14 @@ rising-filter t k (suc n) = at (t k) (rising-filter t (suc k) n)
     at : (b : Bool) → IsRising (filter t (from_to (suc k) n)) → IsRising (if b then k ∷ filter t (from_to (suc k) n) else filter t (from_to (suc k) n))
     at true rest = rising-cons k (filter t (from_to (suc k) n)) above rest
     at false rest = rest
+
+-- ---- as many as there are numbers, at most
+few-numbered : (t : ℕ → Bool) (n : ℕ) → length (filter t (from_to 0 n)) ≤ n
+few-numbered t n =
+    let f = length-filter t (from_to 0 n) in
+    let g = count_by-le-length t (from_to 0 n) in
+    let k = length-from_to 0 n in
+    omega arith
 
 -- ---- lists of calls, one after the other
 may-append : (cells : List ℕ) (ranks : ℕ) (limits : Limits) (n : Counted) (xs ys : List Call) → MayCallAll cells ranks limits n xs → MayCallAll cells ranks limits (count_calls xs n) ys → MayCallAll cells ranks limits n (xs ++ ys)
@@ -215,8 +224,16 @@ module _ (p : Plan) (inputs : Inputs) (sound : SoundPlan p (length inputs)) (r :
       let s = if-le p.remote (sends_of p r) (length p.links) (count-out-le p r) in
       omega arith
 
-  pub compiled-is : (t : Task) → r < p.ranks → IsCompiledFor p inputs r t → IsCompiled t
-  compiled-is t known f =
+  few_limits : length p.cells + length p.links < 2 ^ 27 → FitLimits (limits_for p r)
+  few_limits few =
+      let a = few-numbered (λ k. has_class p k (links_to p r)) 81 in
+      let b = few-numbered (λ c. (cell p c).rank == r) (length p.cells) in
+      let c = few-numbered (comes_to p r) (length p.links) in
+      let d = few-numbered (λ l. (cell p (link p l).source).rank == r) (length p.links) in
+      (omega (arith, a, b, c, few), omega (arith, b, d, few), omega (arith, b, few))
+
+  pub compiled-is : (t : Task) → length p.cells + length p.links < 2 ^ 27 → r < p.ranks → IsCompiledFor p inputs r t → IsCompiled t
+  compiled-is t few known f =
       let go = sound.go_needs r known in
       let all = sound.all_go in
       let here : In r (own p r) = In-own p r r (omega arith) go.2 in
@@ -230,6 +247,7 @@ module _ (p : Plan) (inputs : Inputs) (sound : SoundPlan p (length inputs)) (r :
         descriptors = ap (λ (n : Counted). n.descriptors) made;
         enough = subst (λ (n : Counted). Fits (record n { entries = n.entries + length t.own }) (room_under t.limits)) (sym made)
             (subst (λ l. Fits (record all_made { entries = all_made.entries + length t.own }) (room_under l)) (sym f.limits) (record { counters = omega arith; entries = omega arith; descriptors = omega arith }));
+        fit = subst FitLimits (sym f.limits) (few_limits few);
         go = rw (f.cells, f.go) (place_in-lt (own p r) r here);
         own = rw (f.cells, f.own) (own_have (own p r) (λ d i. i));
         few = subst (λ n. n < 2 ^ 33) (sym f.receipts) few_receipts;

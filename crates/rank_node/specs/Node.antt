@@ -7,6 +7,7 @@ use Rattle.ptl_types.specs.declared.steps.LocalStep.TheVariants.{Start, Fire}
 use Rattle.ptl_types.specs.Messages.{Sent}
 use Rattle.ni_model.specs.Ready.{fired}
 use Rattle.ni_model.specs.State.{State, opened, target}
+use Rattle.portals_ni.specs.Fit.{FitLimits}
 use Rattle.plan_core.specs.Places.{place_in}
 use Rattle.plan_view.specs.Slots.{Slots}
 use Rattle.plan_cuts.specs.History.{Beginning, Legal, state}
@@ -68,7 +69,7 @@ abbrev pub made_in_all : Task → Counted
 made_in_all t = let n = count_calls t.calls none_made in record n { entries = n.entries + length t.own }
 
 -- the calls can be made one after the other; after them there are a counter for each own cell beside that of what is done, and
--- one descriptor; and the limits suffice
+-- one descriptor; and the limits suffice, and an interface can be opened with them
 pub record IsCompiled (t : Task) : Type 0 where
   pub rank : t.rank < t.ranks
   pub rising : IsRising t.cells
@@ -76,6 +77,7 @@ pub record IsCompiled (t : Task) : Type 0 where
   pub counters : (count_calls t.calls none_made).counters ≡ suc (length t.cells)
   pub descriptors : (count_calls t.calls none_made).descriptors ≡ 1
   pub enough : Fits (made_in_all t) (room_under t.limits)
+  pub fit : FitLimits t.limits
   pub go : place_in t.cells t.go < length t.cells
   pub own : All (λ (x : OwnCell). place_in t.cells x.number < length t.cells) t.own
   pub few : t.receipts < 2 ^ 33

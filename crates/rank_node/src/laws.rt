@@ -1,6 +1,6 @@
 //! What is compiled for a rank of a sound plan: it can be installed, and a node of it has a history of the plan's system.
 
-ghost use Rattle.std.specs.Prelude.{ℕ, ◌<◌, ◌≡◌, false, length};
+ghost use Rattle.std.specs.Prelude.{ℕ, ◌+◌, ◌<◌, ◌^◌, ◌≡◌, false, length};
 ghost use Rattle.plan_core.specs.Plan.{Plan};
 ghost use Rattle.plan_core.specs.Sound.{SoundPlan, AreInputsOf};
 ghost use Rattle.plan_core.specs.Values.{Inputs};
@@ -13,11 +13,12 @@ ghost use Rattle.rank_node.specs.Handles.{Agrees, slots_of};
 ghost use Rattle.rank_node.specs.Node.{IsCompiled, IsNode, NodeState, Task, prepared, start_of};
 ghost use Rattle.rank_node.specs.Plans.{IsCompiledFor};
 
-/// What is compiled for a rank of a sound plan meets the condition of `Node::install`; the interface that this makes is the plan's
-/// prepared interface of that rank, and its start is the plan's.
+/// What is compiled for a rank of a sound plan of fewer than 2^27 cells and links meets the condition of `Node::install`; the
+/// interface that this makes is the plan's prepared interface of that rank, and its start is the plan's.
 pub fn compiled_plans()
     ensures can { (plan : Plan) (inputs : Inputs) (r : ℕ) (task : Task) →
-        SoundPlan plan (length inputs) → AreInputsOf plan inputs → r < plan.ranks →
+        SoundPlan plan (length inputs) → length plan.cells + length plan.links < 2 ^ 27 →
+        AreInputsOf plan inputs → r < plan.ranks →
         IsCompiledFor plan inputs r task → IsCompiled task }
     ensures prepares { (plan : Plan) (inputs : Inputs) (r : ℕ) (task : Task) (slots : Slots) →
         IsCompiledFor plan inputs r task → prepared task slots ≡ prepare plan inputs slots r }

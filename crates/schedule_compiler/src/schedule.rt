@@ -1,6 +1,6 @@
 //! What the ranks of a shape install.
 
-ghost use Rattle.std.specs.Prelude.{ℕ, None, Some, [], ◌≡◌, ◌<◌, ◌↔◌, IfOk, length};
+ghost use Rattle.std.specs.Prelude.{ℕ, None, Some, [], ◌≡◌, ◌<◌, ◌≤◌, ◌↔◌, IfOk, length};
 ghost use Rattle.ptl_types.specs.declared.headers.Lane.TheVariants.{Request};
 ghost use Rattle.plan_core.specs.Draw.{held_cell};
 ghost use Rattle.plan_core.specs.Sound.{SoundPlan};
@@ -13,6 +13,7 @@ ghost use Rattle.coll_shape.specs.Meaning.{AreInputs, Lists, lists_of, meaning_o
 ghost use Rattle.coll_shape.specs.Outline.{buffer_at};
 ghost use Rattle.shape_plans.specs.Drawing.{drawing_of, plan_of};
 ghost use Rattle.shape_plans.specs.Footprint.{refusal};
+ghost use Rattle.shape_plans.specs.declared.judging.TheConstants.{MOST_LINKS};
 ghost use Rattle.shape_laws.specs.Results.{IsResultCell};
 ghost use Rattle.schedule_compiler.specs.Answers.{place_of};
 ghost use Rattle.schedule_compiler.specs.Keeping.{Keeps};
@@ -96,6 +97,7 @@ impl Schedule {
         ensures value { result.now ≡ plan_of self.now }
         ensures sound { SoundPlan (plan_of self.now) self.now.inputs }
         ensures ranks { (plan_of self.now).ranks ≡ self.now.ranks }
+        ensures few { length (plan_of self.now).links ≤ MOST_LINKS }
     {
         self.shape.keeps_form();
         &self.plan

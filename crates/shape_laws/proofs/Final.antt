@@ -224,11 +224,20 @@ start : (o : Outline) → IsWellFormed o → Within (drawn_upto o 0).plan
 unfolding drawn_upto
 start o a = small_within o a
 
+within : (o : Outline) → IsWellFormed o → refusal o ≡ None → Within (drawn_upto o (length o.steps)).plan
+unfolding refusal
+within o a none = subst (λ v. Within (drawn_upto o v).plan) (let z : 0 + length o.steps ≡ length o.steps = omega arith in z)
+    (none_refused o (length o.steps) 0 (start o a) none)
+
+pub few_links : (o : Outline) → IsWellFormed o → refusal o ≡ None → length (plan_of o).links ≤ MOST_LINKS
+unfolding drawing_of
+few_links o a none = (within o a none).links
+
 pub sound : (o : Outline) → IsWellFormed o → refusal o ≡ None → SoundPlan (plan_of o) o.inputs
-unfolding drawing_of refusal
+unfolding drawing_of
 sound o a none =
     let f = fine_upto o a (length o.steps) (omega arith) in
-    let w = subst (λ v. Within (drawn_upto o v).plan) (let z : 0 + length o.steps ≡ length o.steps = omega arith in z) (none_refused o (length o.steps) 0 (start o a) none) in
+    let w = within o a none in
     small_enough (drawn_upto o (length o.steps)).plan o.inputs (subst (λ v. WellBuilt (drawn_upto o (length o.steps)).plan (o.inputs * v)) (sym f.ranks) f.built) w.links w.bytes
 
 -- ---- barriers

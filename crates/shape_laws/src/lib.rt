@@ -16,12 +16,18 @@ ghost use Rattle.plan_rounds.specs.Rounds.{rounds};
 ghost use Rattle.shape_plans.specs.Steps.{end_of};
 ghost use Rattle.shape_plans.specs.Drawing.{drawing_of, drawn_upto, plan_of, site};
 ghost use Rattle.shape_plans.specs.Footprint.{refusal};
+ghost use Rattle.shape_plans.specs.declared.judging.TheConstants.{MOST_LINKS};
 ghost use Rattle.shape_laws.specs.Results.{IsResultCell};
 
 /// The plan of a shape that isn't refused is sound, and has the shape's ranks.
 pub fn plan_sound()
     ensures sound { (o : Outline) → IsWellFormed o → refusal o ≡ None → SoundPlan (plan_of o) o.inputs }
     ensures ranks { (o : Outline) → IsWellFormed o → (plan_of o).ranks ≡ o.ranks }
+{}
+
+/// The plan of a shape that isn't refused has no more links than the limit.
+pub fn plan_within()
+    ensures { (o : Outline) → IsWellFormed o → refusal o ≡ None → length (plan_of o).links ≤ MOST_LINKS }
 {}
 
 /// For all inputs, the value of the cell that holds a buffer at a rank is that buffer's list there. No cell holds it exactly

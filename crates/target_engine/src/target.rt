@@ -136,23 +136,22 @@ fn empty_indices(alloc: Global, limits: &Limits, records: u32) -> Result<Vec<Ind
 }
 
 /// How many records there may be: of the entries that are linked, and of those in whose memory a header lies.
-fn records(limits: &Limits) -> Result<u32, NoMemory>
-    ensures records { IfOk result (λ n. n ≡ limits.now.entries + limits.now.unexpected) }
-    ensures small { IfOk result (λ _. limits.now.unexpected < 2 ^ 32) }
+fn records(limits: &Limits) -> u32
+    requires { limits.now.entries + limits.now.unexpected < 2 ^ 32 }
+    ensures { result ≡ limits.now.entries + limits.now.unexpected }
 {
-    match limits.entries.checked_add(limits.unexpected) {
-        Some(records) => Ok(records),
-        None => Err(NoMemory),
-    }
+    limits.entries + limits.unexpected
 }
 
 impl Target {
     /// A target of this rank with no index allocated, no entry linked and no header. It has the room of its limits, each place of
-    /// the portal table for as many entries as may be linked: no later call takes memory.
+    /// the portal table for as many entries as may be linked: no later call takes memory. Condition: entries and headers together
+    /// have a record each whose number has 32 bits.
     pub fn open(alloc: Global, rank: Rank, limits: &Limits) -> Result<Target, NoMemory>
+        requires { limits.now.entries + limits.now.unexpected < 2 ^ 32 }
         ensures makes { IfOk result (λ t. t ≡ side rank limits.now.entries (replicate limits.now.pts None) 0 (unexpected_list [] limits.now.unexpected)) }
     {
-        let records = records(limits)?;
+        let records = records(limits);
         let indices = empty_indices(alloc, limits, records)?;
         let by_entry = Store::open(alloc, records)?;
         let headers = Headers::open(alloc, limits.unexpected)?;

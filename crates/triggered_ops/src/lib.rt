@@ -17,9 +17,6 @@ use ptl_types::{Handle, NoMemory};
 use std::alloc::Global;
 use std::marker::Model;
 
-/// The most that may wait in any table.
-const MOST: u32 = 1 << 27;
-
 /// The operations that wait, each with a number, a deed of the caller's, its counting event and its threshold. Its value is the
 /// list of them by rising number, each with whether it is due by what was last told of its counting event, how many numbers were
 /// given, and how many may wait.
@@ -197,13 +194,12 @@ impl<D> Pending<D> {
 
 impl<D: Drop> Pending<D> {
     /// None, with numbers from 0; `limit` may wait at a time. An operation whose counting event has a slot below `events` is found by
-    /// it at once, and others by a walk. `NoMemory` also where one of them passes 2^27.
+    /// it at once, and others by a walk. Conditions: neither passes 2^27, so that each place and each list has a number of 32 bits.
     pub fn open(alloc: Global, limit: u32, events: u32) -> Result<Pending<D>, NoMemory>
+        requires few { limit ≤ 2 ^ 27 }
+        requires lists { events ≤ 2 ^ 27 }
         ensures makes { IfOk result (λ p. p ≡ no_operations limit) }
     {
-        if limit > MOST || events > MOST {
-            return Err(NoMemory);
-        }
         let room = limit + limit / 4;
         let spots = Spots::open(alloc, room)?;
         let threads = Threads::open(alloc, 2 * events as usize + 1, room as usize)?;

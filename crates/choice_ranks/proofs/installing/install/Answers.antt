@@ -2,6 +2,7 @@
 use Rattle.std.proofs.Common.{◌≡◌, ◌∙◌, ap, arith, refl, subst, sym}
 use Rattle.ptl_types.specs.declared.calls.Limits.{Limits}
 use Rattle.ni_model.specs.State.{State, opened}
+use Rattle.portals_ni.specs.Fit.{FitLimits}
 use Rattle.rank_node.specs.Handles.{no_handles, room_under}
 use Rattle.choice_view.specs.Calls.{blank, install_calls}
 use Rattle.choice_view.specs.Install.{limits_of}
@@ -9,6 +10,11 @@ use Rattle.choice_ranks.specs.Given.{AreMade}
 use Rattle.choice_ranks.specs.Seats.{IsInstalled, empty_diary}
 use Rattle.choice_ranks.proofs.Installed.{go_first, nic_installed, opened_all, opened_wide, some_counter}
 use Rattle.choice_ranks.proofs.installing.install.Goals as goal
+
+pub open-requires-clause-fit : goal.open-requires-clause-fit
+open-requires-clause-fit c =
+    let few = c.requires.few in
+    subst FitLimits (sym (c.limits_for-limits.ensures c.args.kinds.now refl)) (omega (arith, few), omega (arith, few), omega (arith, few))
 
 pub make_all-requires-clause-wide : goal.make_all-requires-clause-wide
 make_all-requires-clause-wide c =

@@ -1,8 +1,9 @@
 -- What is compiled can be installed, and the node is then the rank at the beginning.
-use Rattle.std.proofs.Common.{◌≡◌, ◌∙◌, false, replicate, ap, subst, sym}
+use Rattle.std.proofs.Common.{◌≡◌, ◌≤◌, ◌∙◌, false, length, replicate, ap, subst, sym}
 use Rattle.coll_shape.specs.Outline.{Outline}
 use Rattle.plan_core.specs.Sound.{SoundPlan}
 use Rattle.shape_plans.specs.Drawing.{plan_of}
+use Rattle.shape_plans.specs.declared.judging.TheConstants.{MOST_LINKS}
 use Rattle.rank_node.specs.Node.{IsNode, task_of}
 use Rattle.rank_node.specs.Plans.{IsCompiledFor}
 use Rattle.rank_tasks.proofs.Begun.{begun, can-install}
@@ -14,6 +15,7 @@ install-requires c =
     let same = c.schedule.ensures in
     can-install o c.args.job.now.inputs c.args.r (task_of c.in_ok-compiled.compiled)
     (subst (λ (s : Outline). SoundPlan (plan_of s) s.inputs) same c.plan.ensures.sound)
+    (subst (λ (s : Outline). length (plan_of s).links ≤ MOST_LINKS) same c.plan.ensures.few)
     (subst (λ (s : Outline). (plan_of s).ranks ≡ s.ranks) same c.plan.ensures.ranks)
     c.inputs.ensures.inputs c.requires c.in_ok-compiled.ensures
 

@@ -12,8 +12,9 @@ invariant_of-result c =
     rw (c.in_ok-by_entry.ensures, c.in_ok-headers.ensures, c.in_ok-cts.ensures.makes, c.in_ok-eqs.ensures.makes, c.in_ok-waiting.ensures.makes)
     (record {
       kept =
-          rw c.in_ok-records.ensures.records
-          (kept-none l.entries l.unexpected l.pts c.in_ok-indices.indices.items c.in_ok-records.ensures.small made.many (rw c.in_ok-records.ensures.records at made.unused));
+          rw c.records-records.ensures
+          (kept-none l.entries l.unexpected l.pts c.in_ok-indices.indices.items (omega arith) made.many
+          (rw c.records-records.ensures at made.unused));
       counted = counted-none _ l.cts l.pts;
       queues = rw none (queues-none l.pts l.eqs);
       long = length-replicate l.pts 0 ∙ sym made.many;
