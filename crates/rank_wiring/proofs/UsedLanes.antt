@@ -2,7 +2,6 @@
 use Rattle.std.proofs.Common.{ℕ, ◌+◌, ◌*◌, ◌<◌, ◌≤◌, ◌^◌, ◌≡◌, ◌==◌, ◌∙◌, ⊎_elim, Bool, true, false, List, [], ◌∷◌, ◌++◌, length, nat_lt}
 use Rattle.std.proofs.Common.{sym, refl, ap, subst, arith, inl, append-nil, length-append, eqb-true, if◌then◌else◌}
 use Rattle.std.proofs.lemmas.Bool.{cases_eq, ltb-true}
-use Rattle.std.proofs.lemmas.List.Sums.{count_by-le-length, length-filter}
 use mathlib.Core.Option.{some, some-ne-none}
 use lib.ListN.{get_elem?}
 use Rattle.ptl_types.specs.declared.headers.Lane.{Lane}
@@ -15,9 +14,9 @@ use Rattle.plan_core.proofs.Links.{from_to-In}
 use Rattle.plan_core.proofs.Lists.{In-filter_cases}
 use Rattle.plan_calls.specs.Lanes.{goes_along, is_used_lane, lane_links, lane_messages}
 use Rattle.plan_calls.specs.Works.{is_message}
-use Rattle.plan_start.proofs.Starting.{length-from_to}
 use Rattle.plan_worlds.specs.Places.{lane_place}
 use Rattle.world_parts.proofs.Placed.{lane_apart, lane_in}
+use Rattle.world_open.proofs.Rooms.{few-on_lane}
 use Rattle.rank_slots.specs.Lists.{Each}
 use Rattle.rank_slots.specs.Lanes.{AreLanes, HasLane, IsLane, bounds_if_used, bounds_on}
 use Rattle.rank_slots.proofs.Gates.{both-true}
@@ -47,20 +46,8 @@ used-within p n sound s d Answer e = at p.remote e
     at true e = let x = some_of (lane_links p d s) e in let y = along-within p n sound d s x.0 x.1 in (y.1, y.0)
     at false e = cc
 
-few-links : (p : Plan) (s d : ℕ) → length (lane_links p s d) ≤ length p.links
-few-links p s d =
-    let a = length-filter (goes_along p s d) (all_links p) in
-    let b = count_by-le-length (goes_along p s d) (all_links p) in
-    let c = length-from_to 0 (length p.links) in
-    omega (arith, a, b, c)
-
 pub few-messages : (p : Plan) (n : ℕ) → SoundPlan p n → (s d : ℕ) (lane : Lane) → lane_messages p s d lane < 2 ^ 32
-few-messages p n sound s d Request = let a = few-links p s d in let b = sound.few_together in omega (arith, a, b)
-few-messages p n sound s d Answer = at p.remote
-  where
-    at : (b : Bool) → (if b then length (lane_links p d s) else 0) < 2 ^ 32
-    at true = let a = few-links p d s in let b = sound.few_together in omega (arith, a, b)
-    at false = omega arith
+few-messages p n sound s d lane = let a = few-on_lane p s d lane in let b = sound.few_together in omega (arith, a, b)
 
 -- messages go on each lane of the plan that is used
 pub lane-sends : (p : Plan) (b : Bounds) → IsLane p b → 0 < b.messages

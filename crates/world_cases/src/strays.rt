@@ -39,6 +39,7 @@ fn opened(rt: &impl Abort, alloc: Global, text: &[u8]) -> World
     ensures { result.strays ≡ 2 }
 {
     let job = must_job(rt, alloc, text);
+    let _ = job.schedule().plan();
     let Ok(world) = World::open_with_strays(alloc, &job, 2) else {
         panic!(rt; "a world")
     };

@@ -1,12 +1,11 @@
 //! The lanes of a world before its first step.
 
-ghost use Rattle.std.specs.Prelude.{ℕ, ◌≡◌, ◌<◌, ◌+◌, ◌*◌, IfOk, IfSome, length};
+ghost use Rattle.std.specs.Prelude.{ℕ, ◌≡◌, ◌<◌, ◌+◌, ◌*◌, ◌^◌, IfOk, length};
 ghost use Rattle.ptl_types.specs.declared.headers.Lane.{Lane};
 ghost use Rattle.plan_worlds.specs.Places.{lane_place};
 ghost use Rattle.shape_plans.specs.Drawing.{plan_of};
-ghost use Rattle.world_parts.specs.Keeps.{spare_on};
 ghost use Rattle.world_parts.specs.Layout.{lane_at};
-ghost use Rattle.world_open.specs.Laying.{laid_lane, room_of};
+ghost use Rattle.world_open.specs.Laying.{FitLanes, laid_lane, room_of, strays_of};
 
 use pair_wires::PlainLane;
 use ptl_types::{Lane, NoMemory, Rank};
@@ -22,31 +21,18 @@ pub enum Room {
     Window(u32),
 }
 
-/// So many messages and so many more, as far as a lane can have room for them.
-fn both(messages: u64, spare: u32) -> Option<u32>
-    ensures { IfSome result (λ n. n ≡ messages + spare) }
+/// How many messages a lane of this kind may hold on which the plan sends so many.
+fn capacity(room: Room, messages: u64, lane: Lane) -> u32
+    requires { messages + strays_of room < 2 ^ 32 }
+    ensures { result ≡ room_of room messages lane }
 {
-    let all = messages.checked_add(u64::from(spare))?;
-    u32::try_from(all).ok()
-}
-
-/// How many strays may lie in a lane of this kind.
-fn spare_of(lane: Lane, strays: u32) -> u32
-    ensures { result ≡ spare_on lane strays }
-{
-    match lane {
-        Lane::Request => strays,
-        Lane::Answer => 0,
-    }
-}
-
-/// How many messages a lane of this kind may hold on which the plan sends so many, as far as a lane can have room for them.
-fn capacity(room: Room, messages: u64, lane: Lane) -> Option<u32>
-    ensures { IfSome result (λ n. n ≡ room_of room messages lane) }
-{
+    let messages = messages as u32;
     match room {
-        Room::Whole(strays) => both(messages, spare_of(lane, strays)),
-        Room::Window(few) => Some(u64::from(few).min(messages) as u32),
+        Room::Whole(strays) => match lane {
+            Lane::Request => messages + strays,
+            Lane::Answer => messages,
+        },
+        Room::Window(few) => few.min(messages),
     }
 }
 
@@ -61,12 +47,11 @@ fn open_lane(
 ) -> Result<PlainLane, NoMemory>
     requires source { s < schedule.now.ranks }
     requires target { d < schedule.now.ranks }
+    requires few { FitLanes (plan_of schedule.now) (strays_of room) }
     ensures { IfOk result (λ l. l ≡ laid_lane (plan_of schedule.now) room s d lane) }
 {
-    match capacity(room, schedule.lane(s, d, lane), lane) {
-        Some(capacity) => PlainLane::open(alloc, capacity),
-        None => Err(NoMemory),
-    }
+    let many = capacity(room, schedule.lane(s, d, lane), lane);
+    PlainLane::open(alloc, many)
 }
 
 /// The lanes of a schedule by their places, empty.
@@ -75,6 +60,7 @@ pub(crate) fn lay_all(
     schedule: &Schedule,
     room: Room,
 ) -> Result<Vec<PlainLane>, NoMemory>
+    requires { FitLanes (plan_of schedule.now) (strays_of room) }
     ensures size { IfOk result (λ v. length v.items ≡ 2 * (schedule.now.ranks * schedule.now.ranks)) }
     ensures laid { IfOk result (λ v. (s d : ℕ) (lane : Lane) → s < schedule.now.ranks → d < schedule.now.ranks →
         lane_at v.items (lane_place schedule.now.ranks s d lane) ≡ laid_lane (plan_of schedule.now) room s d lane) }

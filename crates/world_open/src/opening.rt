@@ -5,6 +5,7 @@ ghost use Rattle.plan_orders.specs.Chosen.{first_scene};
 ghost use Rattle.shape_plans.specs.Drawing.{plan_of};
 ghost use Rattle.world_parts.specs.Keeps.{IsWorld};
 ghost use Rattle.world_parts.specs.Layout.{node_at, scene_of};
+ghost use Rattle.world_open.specs.Laying.{FitLanes};
 
 use crate::counting::{count_firings, count_starts};
 use crate::installing::install_all;
@@ -39,9 +40,10 @@ pub struct Parts {
 ///
 /// # Errors
 ///
-/// There was no memory for it, or a lane would have to hold 2^32 messages or more. The job is as it was.
+/// There was no memory for it. The job is as it was.
 pub fn opened(alloc: Global, job: &Job, window: u64, strays: u32) -> Result<Parts, NoMemory>
-    requires { 0 < window }
+    requires window { 0 < window }
+    requires few { FitLanes (plan_of job.now.shape) strays }
     ensures world { IfOk result (λ w. IsWorld (plan_of job.now.shape) job.now.inputs job.now.shape.ranks w.nodes.items w.lanes.items
         w.starts w.deliveries w.firings window strays strays) }
     ensures setting { IfOk result (λ w.

@@ -18,6 +18,7 @@ ghost use Rattle.done_laws.specs.Done.{HasCounted};
 ghost use Rattle.job_laws.specs.Barriers.{AreBarriersKept};
 ghost use Rattle.job_laws.specs.Results.{AreMeant, AreMeantAt, result_in};
 ghost use Rattle.world_parts.specs.Steps.{injected};
+ghost use Rattle.world_open.specs.Laying.{FitLanes};
 ghost use Rattle.worlds.specs.Done.{StaysAlone, StaysMeant};
 ghost use Rattle.worlds.specs.Standing.{AreFields, IsStanding};
 ghost use Rattle.worlds.specs.Later.{IsLater, IsOpened};
@@ -99,6 +100,13 @@ impl Drop for World {
     }
 }
 
+/// A job's plan has few links.
+fn few_links(job: &Job)
+    ensures { FitLanes (plan_of job.now.shape) 0 }
+{
+    let _ = job.schedule().plan();
+}
+
 impl World {
     /// The world of a job: each rank is prepared, nothing was done, and nothing is on its way.
     ///
@@ -108,6 +116,7 @@ impl World {
     pub fn open(alloc: Global, job: &Job) -> Result<World, NoMemory>
         ensures { IfOk result (λ world. IsOpened job.now u64.MAX 0 world) }
     {
+        few_links(job);
         World::opened(alloc, job, u64::MAX, 0)
     }
 
@@ -121,15 +130,18 @@ impl World {
         requires { 0 < window }
         ensures { IfOk result (λ world. IsOpened job.now window 0 world) }
     {
+        few_links(job);
         World::opened(alloc, job, u64::from(window), 0)
     }
 
-    /// The world of a job, with room for so many strays that may be injected, of at most 64 bytes each.
+    /// The world of a job, with room for so many strays that may be injected, of at most 64 bytes each. Condition: the links of the
+    /// plan and the strays together are fewer than 2^32, so that a lane holds fewer messages than that.
     ///
     /// # Errors
     ///
-    /// There was no memory for it, or a lane would have to hold 2^32 messages or more.
+    /// There was no memory for it.
     pub fn open_with_strays(alloc: Global, job: &Job, strays: u32) -> Result<World, NoMemory>
+        requires { FitLanes (plan_of job.now.shape) strays }
         ensures { IfOk result (λ world. IsOpened job.now u64.MAX strays world) }
     {
         World::opened(alloc, job, u64::MAX, strays)
@@ -137,7 +149,8 @@ impl World {
 
     /// Under a window, and with room for strays.
     fn opened(alloc: Global, job: &Job, window: u64, strays: u32) -> Result<World, NoMemory>
-        requires { 0 < window }
+        requires window { 0 < window }
+        requires few { FitLanes (plan_of job.now.shape) strays }
         ensures { IfOk result (λ world. IsOpened job.now window strays world) }
     {
         // What every job keeps is told here.

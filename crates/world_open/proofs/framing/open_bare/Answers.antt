@@ -22,6 +22,9 @@ overflow_mul-places c =
     let q = few-pairs n few in
     omega (arith, q)
 
+pub lay_all-requires : goal.lay_all-requires
+lay_all-requires c = let q = c.plan.ensures.sound.few_together in omega (arith, q)
+
 pub returns : goal.returns
 returns c =
     let o = c.args.job.now.shape in

@@ -33,13 +33,13 @@ pub open_lane-requires : goal.open_lane-requires
 open_lane-requires c =
     let e = c.ranks-ranks.ensures.value ∙ ap (λ (o : Outline). o.ranks) c.shape.ensures.value in
     let q = ranks_of c.ranks-ranks.result c.args.schedule.now.ranks c.loop-pair.pair e c.loop-pair-test.true in
-    record { source = q.0; target = q.1 }
+    record { source = q.0; target = q.1; few = c.requires }
 
 pub open_lane-requires-in-loop-pair : goal.open_lane-requires-in-loop-pair
 open_lane-requires-in-loop-pair c =
     let e = c.ranks-ranks.ensures.value ∙ ap (λ (o : Outline). o.ranks) c.shape.ensures.value in
     let q = ranks_of c.ranks-ranks.result c.args.schedule.now.ranks c.loop-pair.pair e c.loop-pair-test.true in
-    record { source = q.0; target = q.1 }
+    record { source = q.0; target = q.1; few = c.requires }
 
 pub loop-pair-preserved : goal.loop-pair-preserved
 loop-pair-preserved c =

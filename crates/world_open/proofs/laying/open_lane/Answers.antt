@@ -1,8 +1,19 @@
 -- The room is that of the lane.
-use Rattle.std.proofs.Common.{[], ◌≡◌, ◌∙◌, IfOk, ap, subst}
+use Rattle.std.proofs.Common.{[], ◌≡◌, ◌∙◌, IfOk, ap, arith, subst}
 use Rattle.pair_wires.specs.Lanes.{plain}
+use Rattle.shape_plans.specs.Drawing.{plan_of}
 use Rattle.world_open.specs.Laying.{room_of}
+use Rattle.world_open.proofs.Rooms.{few-on_lane}
 use Rattle.world_open.proofs.laying.open_lane.Goals as goal
 
-pub returns-in-Some : goal.returns-in-Some
-returns-in-Some c = subst (λ n. IfOk c.open.result (λ l. l ≡ plain [] n)) (c.in-Some.ensures ∙ ap (λ m. room_of c.args.room m c.args.lane) c.lane.ensures) c.open.ensures
+pub capacity-requires : goal.capacity-requires
+capacity-requires c =
+    let a = few-on_lane (plan_of c.args.schedule.now) c.args.s c.args.d c.args.lane in
+    let e = c.lane.ensures in
+    let f = c.requires.few in
+    omega (arith, a, e, f)
+
+pub returns : goal.returns
+returns c =
+    subst (λ n. IfOk c.open.result (λ l. l ≡ plain [] n)) (c.capacity-many.ensures ∙ ap (λ m. room_of c.args.room m c.args.lane) c.lane.ensures)
+    c.open.ensures

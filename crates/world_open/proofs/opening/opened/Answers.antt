@@ -12,6 +12,7 @@ use Rattle.world_parts.specs.declared.acts.Setting.{Setting}
 use Rattle.world_parts.specs.Layout.{lane_at, node_at}
 use Rattle.world_parts.specs.Marks.{firing_count, start_count}
 use Rattle.world_open.specs.Fresh.{fresh_lane}
+use Rattle.world_open.specs.Laying.{FitLanes}
 use Rattle.world_open.proofs.Begun.{is-first, is-world}
 use Rattle.world_open.proofs.Laid.{few-pairs}
 use Rattle.world_open.proofs.opening.opened.Goals as goal
@@ -24,6 +25,10 @@ overflow_mul-places c =
     let few : n ≤ 256 = let q = c.plan.ensures.sound.few_ranks in omega (arith, e, same, q) in
     let q = few-pairs n few in
     omega (arith, q)
+
+pub lay_all-requires : goal.lay_all-requires
+lay_all-requires c =
+    subst (λ (s : Outline). FitLanes (plan_of s) c.args.strays) (sym c.schedule-schedule.ensures) c.requires.few
 
 pub returns : goal.returns
 returns c =
@@ -52,7 +57,7 @@ returns c =
     let of_starts = subst (λ (v : List NodeState). (r : ℕ) → r < length v → get_or c.in_ok-starts.starts r 0 ≡ start_count (node_at v r)) c.deref.ensures.value starts.counts in
     let of_firings = subst (λ (v : List NodeState). (r : ℕ) → r < length v → get_or c.in_ok-firings.firings r 0 ≡ firing_count (node_at v r)) c.deref-2.ensures.value firings.counts in
     record {
-      world = is-world p inputs n nodes lanes c.args.window strays few count sound fit c.requires size wide fresh laid
+      world = is-world p inputs n nodes lanes c.args.window strays few count sound fit c.requires.window size wide fresh laid
           c.in_ok-starts.starts c.in_ok-deliveries.deliveries c.in_ok-firings.firings
           (starts.size ∙ ap length c.deref.ensures.value ∙ size)
           (λ r h. of_starts r (subst (λ m. r < m) (sym size) h))
@@ -60,6 +65,6 @@ returns c =
           (firings.size ∙ ap length c.deref-2.ensures.value ∙ size)
           (λ r h. of_firings r (subst (λ m. r < m) (sym size) h));
       setting = ap (λ m. let w : Setting = record { ranks = m; window = c.args.window; strays = strays; spare = strays } in w) ranks;
-      first = is-first p inputs n nodes lanes c.args.window strays few count sound fit c.requires size wide fresh laid;
+      first = is-first p inputs n nodes lanes c.args.window strays few count sound fit c.requires.window size wide fresh laid;
       steps = λ r h. (fresh r h).steps;
     }
