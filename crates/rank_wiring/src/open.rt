@@ -133,7 +133,7 @@ fn make_berth(alloc: Global, job: &Job, rank: Rank, fan: &FanOut) -> Result<Bert
     Ok(Berth { slot, load })
 }
 
-// What is made for a rank. There is nothing where there was no memory for it.
+// What a thread makes for a rank. There is nothing where there was no memory for it.
 fn berth_of(alloc: Global, job: &Job, fans: &[FanOut], rank: usize) -> Option<Berth>
     requires count { length fans.now ≡ job.now.shape.ranks }
     requires few { length fans.now < 2 ^ 32 }
@@ -175,24 +175,48 @@ fn make_berths<R: Threads + Sync>(
     Ok(places)
 }
 
-// All ranks in order, and their wires. Where one is missing there was no memory for it.
+// What was made for a rank, or else what is made now: so nothing but want of memory leaves a rank out.
+fn made_or_make(
+    alloc: Global,
+    job: &Job,
+    fans: &[FanOut],
+    rank: usize,
+    place: Option<Berth>,
+) -> Result<Berth, NoMemory>
+    requires count { length fans.now ≡ job.now.shape.ranks }
+    requires few { length fans.now < 2 ^ 32 }
+    requires fans { AreFans (plan_of job.now.shape) fans.now }
+    requires rank { rank < length fans.now }
+    requires place { IfSome place (λ b. IsFanned job.now rank b.slot b.load) }
+    ensures { IfOk result (λ b. IsFanned job.now rank b.slot b.load) }
+{
+    match place {
+        Some(berth) => Ok(berth),
+        None => make_berth(alloc, job, rank as Rank, &fans[rank]),
+    }
+}
+
+// All ranks in order, and their wires. The caller makes those that no thread made.
 fn in_order(
     alloc: Global,
     job: &Job,
+    fans: &[FanOut],
     places: Vec<Option<Berth>>,
 ) -> Result<(Vec<Slot>, Vec<Load>), NoMemory>
-    requires { AreBerths job.now 0 places.items }
+    requires ranks { length fans.now ≡ job.now.shape.ranks }
+    requires few { length fans.now < 2 ^ 32 }
+    requires fans { AreFans (plan_of job.now.shape) fans.now }
+    requires count { length places.items ≡ job.now.shape.ranks }
+    requires berths { AreBerths job.now 0 places.items }
     ensures count { IfOk result (λ r. (length r.0.items ≡ length places.items) × (length r.1.items ≡ length places.items)) }
     ensures fanned { IfOk result (λ r. AllFanned job.now r.0.items r.1.items) }
 {
-    // What is made for a job is what the clauses speak of.
-    let _ = job;
     let mut slots = Vec::with_capacity(alloc, places.len())?;
     let mut loads = Vec::with_capacity(alloc, places.len())?;
     for place in places {
-        let Some(Berth { slot, load }) = place else {
-            return Err(NoMemory);
-        };
+        let rank = slots.len();
+        let berth = made_or_make(alloc, job, fans, rank, place)?;
+        let Berth { slot, load } = berth;
         slots.push(slot)?;
         loads.push(load)?;
     }
@@ -272,7 +296,7 @@ pub fn wired_slots<R: Threads + Sync>(
     let threads = threads.max(1) as usize;
     let fans = all_fans(alloc, job.schedule())?;
     let places = make_berths(rt, alloc, job, &fans, threads)?;
-    let (mut slots, loads) = in_order(alloc, job, places)?;
+    let (mut slots, loads) = in_order(alloc, job, &fans, places)?;
     let wires = hand_all(alloc, job, count(&fans), loads, &mut slots)?;
     Ok((slots, wires))
 }

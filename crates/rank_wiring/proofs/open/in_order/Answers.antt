@@ -8,16 +8,26 @@ use Rattle.rank_wiring.specs.Opening.{AllFanned, AreBerths, IsFanned}
 use Rattle.rank_wiring.proofs.Handing.{berths-head, berths-tail, fanned-more}
 use Rattle.rank_wiring.proofs.open.in_order.Goals as goal
 
+pub made_or_make-requires-clause-rank : goal.made_or_make-requires-clause-rank
+made_or_make-requires-clause-rank c =
+    let short = ap (λ m. length m) c.in-Some.ensures.steps.0 in let all = c.loop-place.invariant.slots in
+    let many = c.requires.count in let ranks = c.requires.ranks in let here = c.len-rank.ensures in omega (arith, short, all, many, ranks, here)
+
+pub made_or_make-requires-clause-place : goal.made_or_make-requires-clause-place
+made_or_make-requires-clause-place c =
+    let job = c.args.job.now in let slots = c.loop-place.slots.items in
+    let all = subst (AreBerths job (length slots)) c.in-Some.ensures.steps.0 c.loop-place.invariant.places in
+    subst (λ n. IfSome c.in-Some.place (λ (b : Berth). IsFanned job n b.slot b.load)) (sym c.len-rank.ensures)
+    (berths-head job (length slots) c.in-Some.place (into_iter_items c.next.new.self) all)
+
 pub loop-place-preserved : goal.loop-place-preserved
 loop-place-preserved c =
     let i = c.loop-place.invariant in let job = c.args.job.now in let slots = c.loop-place.slots.items in
-    let loads = c.loop-place.loads.items in let slot = c.in-Some-place.field-0.slot in let load = c.in-Some-place.field-0.load in
+    let loads = c.loop-place.loads.items in let slot = c.in_ok-berth.berth.slot in let load = c.in_ok-berth.berth.load in
     let p = c.in_ok-push.ensures.items in let q = c.in_ok-push-2.ensures.items in
     let rest = into_iter_items c.next.new.self in let step = c.in-Some.ensures.steps.0 in
     let all = subst (AreBerths job (length slots)) step i.places in
-    let made : IsFanned job (length slots) slot load =
-    subst (λ o. IfSome o (λ (b : Berth). IsFanned job (length slots) b.slot b.load)) c.in-Some-place.is
-    (berths-head job (length slots) c.in-Some.place rest all) in
+    let made : IsFanned job (length slots) slot load = subst (λ n. IsFanned job n slot load) c.len-rank.ensures c.in_ok-berth.ensures in
     let more : length (slots ++ slot ∷ []) ≡ length slots + 1 = length-append slots (slot ∷ []) in
     let long = length-append loads (load ∷ []) in record {
       len = (let gone = c.in-Some.ensures.steps.1 in let was = i.len in let short = ap (λ m. length m) step in omega (arith, gone, was, short));

@@ -18,6 +18,16 @@ make_berths-requires-clause-fans g c = λ _ _.
     subst (AreFans (plan_of c.args.job.now.shape)) (sym c.deref.ensures.value)
     (subst (λ (o : Outline). AreFans (plan_of o) c.in_ok-fans.fans.items) c.schedule.ensures c.in_ok-fans.ensures.fans)
 
+pub in_order-requires-clause-ranks : goal.in_order-requires-clause-ranks
+in_order-requires-clause-ranks g c =
+    ap (λ (l : List FanOut). length l) c.deref-2.ensures.value
+    ∙ (c.in_ok-fans.ensures.count ∙ ap (λ (o : Outline). o.ranks) c.schedule.ensures)
+
+pub in_order-requires-clause-fans : goal.in_order-requires-clause-fans
+in_order-requires-clause-fans g c =
+    subst (AreFans (plan_of c.args.job.now.shape)) (sym c.deref-2.ensures.value)
+    (subst (λ (o : Outline). AreFans (plan_of o) c.in_ok-fans.fans.items) c.schedule.ensures c.in_ok-fans.ensures.fans)
+
 pub hand_all-requires-clause-count : goal.hand_all-requires-clause-count
 hand_all-requires-clause-count g c = (
   ap (λ (l : List Slot). length l) c.deref_mut.ensures.value ∙ c.in_ok-slots.ensures.count.0 ∙ c.in_ok-places.ensures.count,
