@@ -117,10 +117,12 @@ module _ (at : ℕ → Option Wait) (w : Woven) (stamps : List ℕ) (h : IsHung 
       (subst (λ v. IsHung (λ q. cond (nat_eq q from) None (cond (nat_eq q to) (Some x) (at q))) v stamps) (sym is2) off)
 
   -- ---- those whose counting event has no lists
+  pub on-strays : (ct : Handle) → belongs stamps ct ≡ false → (p : ℕ) (x : Wait) → at p ≡ Some x → same_handle x.ct ct ≡ true → is_on p (thread (2 * length stamps) w) ≡ true
+  on-strays ct b p x f is = home-hung at w stamps h (2 * length stamps) p x f (ap (λ c. home stamps c x.due) (handle-same x.ct ct is) ∙ home-stray stamps ct x.due b)
+
   pub no-stray : (ct : Handle) → belongs stamps ct ≡ false → first_place (thread (2 * length stamps) w) ≡ None → (p : ℕ) (x : Wait) → at p ≡ Some x → same_handle x.ct ct ≡ true → ⊥
   no-stray ct b e p x f is =
-      let on = home-hung at w stamps h (2 * length stamps) p x f (ap (λ c. home stamps c x.due) (handle-same x.ct ct is) ∙ home-stray stamps ct x.due b) in
-      let none : is_on p [] ≡ true = subst (λ l. is_on p l ≡ true) (first-none (thread (2 * length stamps) w) e) on in
+      let none : is_on p [] ≡ true = subst (λ l. is_on p l ≡ true) (first-none (thread (2 * length stamps) w) e) (on-strays ct b p x f is) in
       cc
 
   pub stray-settled : (ct : Handle) (p : ℕ) (x : Wait) (v : Bool) (new : ℕ → Option Wait) → belongs stamps ct ≡ false → at p ≡ Some x → same_handle x.ct ct ≡ true

@@ -424,19 +424,20 @@ on-one r q on = elim (eqb_tells q r) [
   | inr other ↦ let no : is_on r (q ∷ []) ≡ false = rw other.0 refl in cc
 ]
 
-module _ (at : ℕ → Option Wait) (threshold : ℕ) where
+-- a walk along a list: of the places up to this one the same is known
+module _ (P : ℕ → Type 0) where
   pub record IsWalk (b : Option ℕ) (ps : List ℕ) : Type 0 where
     pub before : List ℕ
     pub is : ps ≡ before ++ rest_after b ps
     pub put : (p : ℕ) → placed_after b p ps ≡ before ++ p ∷ rest_after b ps
     pub there : IfSome b (λ q. is_on q ps ≡ true)
-    pub below : (q : ℕ) → is_on q before ≡ true → threshold_of (at q) ≤ threshold
+    pub passed : (q : ℕ) → is_on q before ≡ true → P q
 
   pub walk-begin : (ps : List ℕ) → IsWalk None ps
-  walk-begin ps = record { before = []; is = refl; put = λ p. refl; there = tt; below = λ q on. cc }
+  walk-begin ps = record { before = []; is = refl; put = λ p. refl; there = tt; passed = λ q on. cc }
 
-  pub walk-step : (b : Option ℕ) (ps : List ℕ) (q : ℕ) → IsWalk b ps → AreApart ps → next_in b ps ≡ Some q → threshold_of (at q) ≤ threshold → IsWalk (Some q) ps × (length (rest_after (Some q) ps) < length (rest_after b ps))
-  walk-step b ps q w a e le =
+  pub walk-step : (b : Option ℕ) (ps : List ℕ) (q : ℕ) → IsWalk b ps → AreApart ps → next_in b ps ≡ Some q → P q → IsWalk (Some q) ps × (length (rest_after (Some q) ps) < length (rest_after b ps))
+  walk-step b ps q w a e here =
       let f = first-cons (rest_after b ps) q (sym (next-rest b ps) ∙ e) in
       let ys = f.0 in
       let front = w.before in
@@ -449,22 +450,30 @@ module _ (at : ℕ → Option Wait) (threshold : ℕ) where
           is = split ∙ sym (append_assoc front (q ∷ []) ys) ∙ ap (λ l. more ++ l) (sym rest);
           put = λ p. ap (placed_after (Some q) p) split ∙ put-middle front q p ys off ∙ sym (append_assoc front (q ∷ []) (p ∷ ys)) ∙ ap (λ l. more ++ p ∷ l) (sym rest);
           there = ap (is_on q) split ∙ on-here q front ys;
-          below = λ r on. elim (on-either r front (q ∷ []) on) [
-            | inl there ↦ w.below r there
-            | inr last ↦ subst (λ i. threshold_of (at i) ≤ threshold) (on-one r q last) le
+          passed = λ r on. elim (on-either r front (q ∷ []) on) [
+            | inl there ↦ w.passed r there
+            | inr last ↦ subst P (on-one r q last) here
           ];
         },
         let l = ap length f.1 in let m = ap length rest in omega (arith, l, m),
       )
 
-  pub walk-end : (b : Option ℕ) (ps : List ℕ) → IsWalk b ps → Ascending at ps → ((q : ℕ) → next_in b ps ≡ Some q → threshold < threshold_of (at q)) → IsGap at threshold b ps
+  -- where nothing comes next, it is known of the whole list
+  pub walk-all : (b : Option ℕ) (ps : List ℕ) → IsWalk b ps → next_in b ps ≡ None → (q : ℕ) → is_on q ps ≡ true → P q
+  walk-all b ps w e q on =
+      let rest : rest_after b ps ≡ [] = first-none (rest_after b ps) (sym (next-rest b ps) ∙ e) in
+      let whole : ps ≡ w.before = w.is ∙ ap (λ l. w.before ++ l) rest ∙ append-nil w.before in
+      w.passed q (subst (λ l. is_on q l ≡ true) whole on)
+
+module _ (at : ℕ → Option Wait) (threshold : ℕ) where
+  pub walk-end : (b : Option ℕ) (ps : List ℕ) → IsWalk (λ q. threshold_of (at q) ≤ threshold) b ps → Ascending at ps → ((q : ℕ) → next_in b ps ≡ Some q → threshold < threshold_of (at q)) → IsGap at threshold b ps
   walk-end b ps w a h = record {
     before = w.before;
     behind = rest_after b ps;
     is = w.is;
     put = w.put;
     there = w.there;
-    below = w.below;
+    below = w.passed;
     above = go (rest_after b ps) refl;
   }
     where

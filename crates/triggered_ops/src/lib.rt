@@ -26,7 +26,7 @@ use std::marker::Model;
 /// a constant number of steps, and that of `take` for each operation that becomes due or no longer is, however many wait on that
 /// counting event. `post` takes a constant number of steps over many of them where its threshold is no lower than that of every
 /// operation on its counting event that is due as it is, or no higher, and else passes over the lower ones; `cancel` does what
-/// `take` does for each. `next` and `at` pass over the places of those that are gone. No call but `open` takes memory.
+/// `first_on` and `take` do for each. `next` and `at` pass over the places of those that are gone. No call but `open` takes memory.
 #[derive(Drop)]
 pub struct Pending<D> {
     spots: Spots<D>,
@@ -165,7 +165,8 @@ impl<D> Pending<D> {
         }
     }
 
-    /// The number of an operation that waits on a counting event; `None` exactly where none does.
+    /// The number of an operation that waits on a counting event; `None` exactly where none does. A constant number of steps where
+    /// the counting event has lists of its own, and else at most one for each operation whose counting event has none.
     pub fn first_on(&self, ct: Handle) -> Option<u32>
         ensures found { IfSome result (λ t. option_map (waits_on ct) (operation_at t self.now) ≡ Some true) }
         ensures none { IfNone result (waiting_on ct self.now ≡ []) }

@@ -131,7 +131,8 @@ pub fn hang<D>(spots: &Spots<D>, threads: &mut Threads, stamps: &[u64], wait: Wa
     }
 }
 
-/// The place of an operation that waits on a counting event which has no lists.
+/// The place of an operation that waits on a counting event which has no lists. At most one step for each operation whose counting
+/// event has none.
 fn stray_on<D>(spots: &Spots<D>, threads: &Threads, stamps: &[u64], ct: Handle) -> Option<u32>
     requires hung { IsHung (wait_at spots.now.spots) threads.now stamps.now }
     requires few { length stamps.now ≤ 2 ^ 27 }
@@ -139,18 +140,22 @@ fn stray_on<D>(spots: &Spots<D>, threads: &Threads, stamps: &[u64], ct: Handle) 
     ensures found { IfSome result (λ p. WaitsOn ct (wait_at spots.now.spots p)) }
     ensures none { IfNone result ((p : ℕ) → WaitsOn ct (wait_at spots.now.spots p) → ⊥) }
 {
-    if threads.first(2 * stamps.len() as u32).is_none() {
+    let strays = 2 * stamps.len() as u32;
+    if threads.last(strays).is_none() {
         return None;
     }
-    for place in 0..spots.len() {
+    let mut after = None;
+    while let Some(place) = next_on(threads, strays, after) {
         if waits_on(spots, ct, place) {
             return Some(place);
         }
+        after = Some(place);
     }
     None
 }
 
-/// The place of an operation that waits on a counting event; `None` exactly where none does.
+/// The place of an operation that waits on a counting event; `None` exactly where none does. A constant number of steps where the
+/// counting event has lists, and else at most one for each operation whose counting event has none.
 pub fn first_on<D>(spots: &Spots<D>, threads: &Threads, stamps: &[u64], ct: Handle) -> Option<u32>
     requires hung { IsHung (wait_at spots.now.spots) threads.now stamps.now }
     requires few { length stamps.now ≤ 2 ^ 27 }
