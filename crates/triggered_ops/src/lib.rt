@@ -185,9 +185,7 @@ impl<D> Pending<D> {
         ensures none { IfNone result (self.new ≡ self.old) }
     {
         match self.spots.waiting_at(number) {
-            Some(place) => {
-                parts::take_out(&mut self.spots, &mut self.threads, &self.stamps, place)
-            }
+            Some(place) => parts::take_out(&mut self.spots, &mut self.threads, place),
             None => None,
         }
     }

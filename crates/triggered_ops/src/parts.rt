@@ -1,9 +1,9 @@
 //! How an operation comes on its list and off it, and to another place.
 
 ghost use Rattle.std.specs.Prelude.{◌≡◌, ℕ, ◌<◌, ◌≤◌, ◌==◌, ◌+◌, ◌*◌, ◌^◌, true, false, not, nat_eq, if◌then◌else◌};
-ghost use Rattle.std.specs.Prelude.{Some, None, IsSome, IfSome, IfNone, option_map, ◌++◌, ◌∷◌, [], length, filter};
+ghost use Rattle.std.specs.Prelude.{Some, None, IsSome, IfSome, IfNone, option_map, List, ◌++◌, ◌∷◌, [], length, filter};
 ghost use Rattle.std.specs.List.{swap};
-ghost use Rattle.place_threads.specs.Threads.{thread as thread_at, is_on, AreApart};
+ghost use Rattle.place_threads.specs.Threads.{thread as thread_at, is_on, is_threaded, AreApart};
 ghost use Rattle.ptl_types.specs.Handles.{same_handle};
 ghost use Rattle.triggered_ops.specs.declared.spots.Wait.{Wait};
 ghost use Rattle.triggered_ops.specs.Operations.{deed_of, waits_on};
@@ -17,20 +17,15 @@ use place_threads::Threads;
 use ptl_types::Handle;
 
 /// Takes an operation off its list and out of its place.
-pub fn take_out<D>(
-    spots: &mut Spots<D>,
-    threads: &mut Threads,
-    stamps: &[u64],
-    place: u32,
-) -> Option<D>
-    requires hung { IsHung (wait_at spots.old.spots) threads.old stamps.now }
+pub fn take_out<D>(spots: &mut Spots<D>, threads: &mut Threads, place: u32) -> Option<D>
+    requires threaded { is_threaded place threads.old ≡ true }
     requires waits { IsSome (wait_at spots.old.spots place) }
-    ensures hung { IsHung (wait_at spots.new.spots) threads.new stamps.now }
+    ensures hung { (stamps : List ℕ) → IsHung (wait_at spots.old.spots) threads.old stamps
+        → IsHung (wait_at spots.new.spots) threads.new stamps }
     ensures places { threads.new.places ≡ threads.old.places }
     ensures value { result ≡ option_map deed_of (op_at spots.old.spots place) }
     ensures rest { spots.new ≡ spotted (emptied place spots.old.spots) spots.old.room }
 {
-    let _ = stamps;
     threads.unlink(place);
     spots.take(place)
 }
@@ -308,6 +303,6 @@ pub fn drop_all<D: Drop>(spots: &mut Spots<D>, threads: &mut Threads, stamps: &[
     ensures rest { operations_in spots.new.spots ≡ filter (λ p. not (waits_on ct p)) (operations_in spots.old.spots) }
 {
     while let Some(place) = first_on(spots, threads, stamps, ct) {
-        let _ = take_out(spots, threads, stamps, place);
+        let _ = take_out(spots, threads, place);
     }
 }

@@ -1,9 +1,10 @@
 use Rattle.std.proofs.Common.{◌≡◌, true, Option, Some, None, length, refl, sym, ap, ◌∙◌, arith}
 use Rattle.std.specs.Prelude.{IfNone, is_some, option_map}
 use Rattle.triggered_ops.specs.Operations.{Operation, deed_of}
-use Rattle.triggered_ops.specs.Layout.{Spotted, numbers_of, operations_in, op_at}
+use Rattle.triggered_ops.specs.Layout.{Spotted, numbers_of, operations_in, op_at, wait_at}
 use Rattle.triggered_ops.proofs.Rising.{without-absent}
 use Rattle.triggered_ops.proofs.Laid.{laid-same}
+use Rattle.triggered_ops.proofs.Moving.{threaded-at}
 use Rattle.triggered_ops.proofs.Places.{emptied-numbers, emptied-count, op-some}
 use Rattle.triggered_ops.proofs.Found.{found-here, emptied-here}
 use Rattle.triggered_ops.proofs.Pending.take.Goals as goal
@@ -19,6 +20,11 @@ pub returns-in-None-clause-rest : goal.returns-in-None-clause-rest
 returns-in-None-clause-rest g c = sym (without-absent c.args.number c.args.self.now (rw (← c.self.view_is) c.in-None.ensures.none))
 
 -- ---- it is taken out
+pub take_out-requires-clause-threaded : goal.take_out-requires-clause-threaded
+take_out-requires-clause-threaded g c =
+    let i = c.self.inside in
+    threaded-at (wait_at i.spots.spots) i.threads i.stamps.items c.self.invariant.hung c.in-Some.place c.in-Some.ensures.waits
+
 pub invariant_of-self : goal.invariant_of-self
 invariant_of-self g c =
     let i = c.self.inside in
@@ -28,7 +34,7 @@ invariant_of-self g c =
     let n = ap (λ (s : Spotted _). length (operations_in s.spots)) is in
     laid-same i.spots c.take_out.new.spots i.threads c.take_out.new.threads i.stamps.items i.given i.limit c.self.invariant
     (record { numbers = ap (λ (s : Spotted _). numbers_of s.spots) is ∙ emptied-numbers p i.spots.spots; room = ap (λ (s : Spotted _). s.room) is })
-    (rw c.deref.ensures.value at c.take_out.ensures.hung) c.take_out.ensures.places (omega (arith, fewer, n))
+    (c.take_out.ensures.hung i.stamps.items c.self.invariant.hung) c.take_out.ensures.places (omega (arith, fewer, n))
 
 pub returns-in-Some-clause-value : goal.returns-in-Some-clause-value
 returns-in-Some-clause-value g c =
