@@ -114,7 +114,8 @@ fn settle(unexpected: &mut Vec<IndexedHeader>, gone: usize)
 /// may be.
 ///
 /// The headers stand after places of some that are gone, so that one is taken without moving the younger ones: in as many
-/// steps as older ones were looked at. The places are given free in one pass, after as many headers as the limit at least.
+/// steps as older ones were looked at. The places are given free in one pass, after as many headers as the limit at
+/// least, and at once where no header is left.
 #[derive(Drop)]
 pub struct Headers {
     unexpected: Vec<IndexedHeader>,
@@ -165,6 +166,16 @@ impl Headers {
         self.unexpected.push_reserved(IndexedHeader { pt, header });
     }
 
+    /// Gives all places free where no header is left, so that few of them are written where few headers wait at a time.
+    fn begin_again(&mut self)
+        ensures { self.new ≡ self.old }
+    {
+        if self.gone == self.unexpected.len() {
+            self.unexpected.truncate(0);
+            self.gone = 0;
+        }
+    }
+
     /// Takes out the oldest header of this index that the entry matches and allows; `None` exactly where there is none.
     /// Lengths aren't looked at.
     pub fn take_oldest(&mut self, pt: u32, entry: &Entry) -> Option<IndexedHeader>
@@ -175,6 +186,7 @@ impl Headers {
         let at = position_of(self.as_slice(), pt, entry)?;
         let taken = take_after(&mut self.unexpected, self.gone, at);
         self.gone += 1;
+        self.begin_again();
         Some(taken)
     }
 

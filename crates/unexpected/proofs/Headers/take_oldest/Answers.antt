@@ -27,4 +27,4 @@ returns-clause-rest c =
     let a = rw c.deref_mut.ensures.value at c.take_after-taken.ensures.rest in
     let b = rw live at (c.in_ok-at.ensures.some c.take_after-taken.result).1 in
     let whole : (with_items s.unexpected c.take_after-taken.new.unexpected).items ≡ c.take_after-taken.new.unexpected = with_items_is s.unexpected c.take_after-taken.new.unexpected (c.take_after-taken.ensures.len ∙ c.deref_mut.ensures.len) in
-    rw (← c.self.view_is) (ap (λ (xs : List IndexedHeader). unexpected_list xs s.limit) (ap (drop (s.gone + 1)) whole ∙ a ∙ sym b))
+    c.begin_again.ensures ∙ rw (← c.self.view_is) (ap (λ (xs : List IndexedHeader). unexpected_list xs s.limit) (ap (drop (s.gone + 1)) whole ∙ a ∙ sym b))
