@@ -1,9 +1,7 @@
 -- What a chain's calls keep of its fields, and the list that they leave.
 use Rattle.std.proofs.Common.{◌≡◌, ℕ, zero, suc, ◌+◌, ◌-◌, ◌<◌, ◌≤◌, Bool, true, false, cond, nat_eq, replicate, List, [], ◌∷◌, ◌++◌, length, get_or, set, Option, Some, None, refl, sym, ap, subst, ◌∙◌, inl, inr, arith}
-use Rattle.std.proofs.lemmas.Bool.{cases_lt}
 use Rattle.std.proofs.lemmas.Bool.Decides.{eqb_tells}
-use Rattle.std.proofs.lemmas.List.{length-set, length-append, get_or-set_same, get_or-set_other, get_or_past, append-nil, get_or-replicate, get_or-append_right, length-replicate}
-use Rattle.std.proofs.Math.ListN.{get_or-append}
+use Rattle.std.proofs.lemmas.List.{length-set, length-append, get_or-set_same, get_or-set_other, get_or_past, append-nil, length-replicate}
 use Rattle.std.proofs.lemmas.List.Sums.{count_by-le-length}
 use Rattle.std.specs.Option.{is_some, option_eq, IfSome}
 use Rattle.chain_list.specs.declared.chain.ChainKey.{ChainKey}
@@ -16,6 +14,7 @@ use Rattle.chain_list.specs.Relinked.{places_after, places_before, relinked_afte
 use Rattle.chain_list.proofs.NodeLemmas.{count-fill, count-empty, count-empties, live_within}
 use Rattle.chain_list.proofs.ChainLemmas
 use Rattle.chain_list.proofs.KeyLemmas
+use Rattle.chain_list.proofs.PlaceLemmas.{get_or-empties}
 
 -- nothing, as an option of a type
 abbrev nothing_in : (Y : Type 0) → Option Y
@@ -29,16 +28,6 @@ get_or-any (y ∷ l) (suc i) d e lt = get_or-any l i d e (omega arith)
 option_eq-stamp : (o : Option ℕ) (s : ℕ) → option_eq nat_eq o (Some s) ≡ KeyLemmas.is_stamp o s
 option_eq-stamp None s = refl
 option_eq-stamp (Some t) s = refl
-
--- what lies at a place where further ones are empty
-get_or-empties : (Y : Type 0) (l : List (Option Y)) (k i : ℕ) → get_or (l ++ replicate k None) i None ≡ get_or l i None
-get_or-empties Y l k i = elim (cases_lt i (length l)) [
-  | inl lt ↦ get_or-append l (replicate k None) None i lt
-  | inr le ↦ get_or-append_right l (replicate k None) (length l) i None refl le ∙ no_more Y k (i - length l) ∙ sym (get_or_past l i None le)
-]
-  where
-    no_more : (Y : Type 0) (k i : ℕ) → get_or (replicate k (nothing_in Y)) i None ≡ None
-    no_more Y k i = elim (cases_lt i k) [ inl lt ↦ get_or-replicate k i None None lt | inr le ↦ get_or_past (replicate k None) i None (omega (arith, length-replicate k (nothing_in Y))) ]
 
 module _ {X : Type 0} where
   -- the list is what the fields give

@@ -5,5 +5,6 @@ pub mod ChainLends
 pub mod Joined
 pub mod NodeLends
 pub mod NodeMap
+pub mod Places
 pub mod Relinked
 pub mod RowLends

@@ -9,21 +9,26 @@ use std::alloc::Global;
 use std::marker::Model;
 use std::mem;
 
-/// The row. All places lie side by side, so a place is found by its number.
+/// The row. All places lie side by side, so a place is found by its number. Room for all is taken when it is made, and no page of it
+/// is touched beyond the highest place that ever held a value.
 #[derive(Drop)]
 pub struct Block<T> {
     places: Vec<Option<T>>,
+    len: usize,
 }
 
 impl<T> Model for Block<T> {
-    ghost use Rattle.std.specs.Prelude.{List, Option};
+    ghost use Rattle.std.specs.Prelude.{◌≤◌, List, Option, None, length, vec_capacity};
     ghost use Rattle.std.specs.Coded.{coded_list, coded_option};
+    ghost use Rattle.chain_list.specs.Places.{filled_up};
 
     ghost Value = { List (Option T) };
 
     ghost coded = { coded_list (coded_option T.code) };
 
-    ghost view = { λ b. b.places.items };
+    ghost view = { λ b. filled_up b.places.items b.len None };
+
+    ghost invariant = { λ b. (length b.places.items ≤ b.len) × (b.len ≤ vec_capacity b.places) };
 }
 
 /// The value of a place that holds one, to write to.
@@ -38,6 +43,17 @@ fn held_mut<T>(place: &mut Option<T>) -> &mut T
     }
 }
 
+/// Puts a value into an empty place.
+fn fill_place<T>(place: &mut Option<T>, item: T)
+    requires { place.old ≡ None }
+    ensures { place.new ≡ Some item }
+{
+    match mem::replace(place, Some(item)) {
+        None => {}
+        Some(_held) => unreachable!(),
+    }
+}
+
 impl<T> Block<T> {
     ghost use Rattle.chain_list.specs.BlockLends.{lends_place};
 
@@ -47,6 +63,7 @@ impl<T> Block<T> {
     {
         Block {
             places: Vec::new(alloc),
+            len: 0,
         }
     }
 
@@ -54,18 +71,17 @@ impl<T> Block<T> {
     pub(crate) fn with_len(alloc: Global, len: usize) -> Result<Block<T>, NoMemory>
         ensures { IfOk result (λ b. b ≡ replicate len None) }
     {
-        let Ok(mut places) = Vec::with_capacity(alloc, len) else {
+        let Ok(places) = Vec::with_capacity(alloc, len) else {
             return Err(NoMemory);
         };
-        fill_up(&mut places, len);
-        Ok(Block { places })
+        Ok(Block { places, len })
     }
 
     /// How many places there are.
     pub(crate) fn len(&self) -> usize
         ensures { result ≡ length self.now }
     {
-        self.places.len()
+        self.len
     }
 
     /// Adds empty places. Where there is no memory, all is as it was.
@@ -74,11 +90,11 @@ impl<T> Block<T> {
         ensures ok { OnOk result (self.new ≡ self.old ++ replicate more None) }
         ensures err { OnErr result (self.new ≡ self.old) }
     {
-        let Ok(()) = self.places.reserve(more) else {
+        let missing = self.len - self.places.len() + more;
+        let Ok(()) = self.places.reserve(missing) else {
             return Err(NoMemory);
         };
-        let len = self.places.len() + more;
-        fill_up(&mut self.places, len);
+        self.len += more;
         Ok(())
     }
 
@@ -88,9 +104,11 @@ impl<T> Block<T> {
         requires empty { get_or self.old place None ≡ None }
         ensures { self.new ≡ slice_set self.old place (Some item) }
     {
-        match mem::replace(&mut self.places[place], Some(item)) {
-            None => {}
-            Some(_held) => unreachable!(),
+        if place < self.places.len() {
+            fill_place(&mut self.places[place], item);
+        } else {
+            fill_up(&mut self.places, place);
+            self.places.push_reserved(Some(item));
         }
     }
 

@@ -5,8 +5,8 @@ ghost use Rattle.std.specs.Borrow.{sem};
 ghost use Rattle.chain_list.specs.NodeMap.{IsLive};
 ghost use Rattle.chain_list.specs.Relinked.{relinked_after, relinked_before};
 
-use crate::filling::fill_up;
 use crate::nodes::Nodes;
+use crate::places::Places;
 use crate::steps::Steps;
 use ptl_types::NoMemory;
 use std::alloc::Global;
@@ -62,11 +62,11 @@ fn set_previous<T, L: Ledger>(
 }
 
 /// The key of the entry at a place.
-fn key_at(stamps: &[Option<u64>], place: u32) -> ChainKey
-    requires { IsSome (get_or stamps.now place None) }
-    ensures { (result.place ≡ place) × (Some result.stamp ≡ get_or stamps.now place None) }
+fn key_at(stamps: &Places<Option<u64>>, place: u32) -> ChainKey
+    requires { IsSome (get_or stamps.now.items place None) }
+    ensures { (result.place ≡ place) × (Some result.stamp ≡ get_or stamps.now.items place None) }
 {
-    match stamps[place as usize] {
+    match stamps.at(place as usize) {
         Some(stamp) => ChainKey { place, stamp },
         None => unreachable!(),
     }
@@ -77,7 +77,7 @@ fn key_at(stamps: &[Option<u64>], place: u32) -> ChainKey
 #[derive(Drop)]
 pub struct Chain<T> {
     nodes: Nodes<T>,
-    stamps: Vec<Option<u64>>,
+    stamps: Places<Option<u64>>,
     first: Option<u32>,
     last: Option<u32>,
     given: u64,
@@ -106,7 +106,7 @@ impl<T> Chain<T> {
     {
         Chain {
             nodes: Nodes::new(alloc),
-            stamps: Vec::new(alloc),
+            stamps: Places::new(alloc, None),
             first: None,
             last: None,
             given: 0,
@@ -118,11 +118,8 @@ impl<T> Chain<T> {
         requires { n < 2 ^ 32 }
         ensures { IfOk result (λ chain. chain ≡ chain_list [] n 0) }
     {
-        let Ok(mut stamps) = Vec::with_capacity(alloc, n as usize) else {
-            return Err(NoMemory);
-        };
+        let stamps = Places::open(alloc, None, n as usize)?;
         let nodes = Nodes::with_room(alloc, n)?;
-        fill_up(&mut stamps, n as usize);
         Ok(Chain {
             nodes,
             stamps,
@@ -140,11 +137,9 @@ impl<T> Chain<T> {
     {
         let _size = self.nodes.size();
         // The stamps first, so that a refusal leaves no node without its stamp.
-        let Ok(()) = self.stamps.reserve(more) else {
-            return Err(NoMemory);
-        };
+        self.stamps.reserve(more)?;
         self.nodes.grow(more)?;
-        fill_up(&mut self.stamps, self.nodes.size() as usize);
+        self.stamps.lengthen(more, None);
         Ok(())
     }
 
@@ -177,7 +172,7 @@ impl<T> Chain<T> {
         set_next(&mut self.nodes, &mut self.first, last, Some(place), steps);
         set_previous(&mut self.nodes, &mut self.last, Some(place), last, steps);
         self.last = Some(place);
-        self.stamps[place as usize] = Some(stamp);
+        self.stamps.set(place as usize, Some(stamp));
         self.given += 1;
         ChainKey { place, stamp }
     }
@@ -196,7 +191,7 @@ impl<T> Chain<T> {
         ensures { result ≡ is_some (value_at key self.now.entries) }
     {
         let place = key.place as usize;
-        place < self.stamps.len() && self.stamps[place] == Some(key.stamp)
+        place < self.stamps.len() && self.stamps.at(place) == Some(key.stamp)
     }
 
     /// Takes the value of a key out of the list; `None` exactly where the key isn't live. Touches at most four nodes.
@@ -212,7 +207,7 @@ impl<T> Chain<T> {
         let (before, after) = self.nodes.links(key.place, steps);
         set_next(&mut self.nodes, &mut self.first, before, after, steps);
         set_previous(&mut self.nodes, &mut self.last, after, before, steps);
-        self.stamps[key.place as usize] = None;
+        self.stamps.set(key.place as usize, None);
         Some(self.nodes.free(key.place, steps))
     }
 

@@ -5,6 +5,7 @@ mod block;
 mod chain;
 mod filling;
 mod nodes;
+mod places;
 mod row;
 mod steps;
 
@@ -13,6 +14,7 @@ mod steps;
 pub use block::Block;
 pub use chain::{Chain, ChainKey};
 pub use nodes::Nodes;
+pub use places::Places;
 #[doc(hidden)]
 pub use row::{Links, Row};
 pub use steps::Steps;

@@ -1,9 +1,10 @@
 //! A row of places: what each place holds, and apart from that the links of what it holds.
-ghost use Rattle.std.specs.Prelude.{◌≡◌, ◌+◌, ◌-◌, ◌<◌, ◌≤◌, ◌^◌, Some, None, [], ◌++◌, length, replicate, get_or, slice_set, IsSome, IfOk, IfSome, OnOk, OnErr, vec_len, vec_capacity};
+ghost use Rattle.std.specs.Prelude.{◌≡◌, ◌+◌, ◌<◌, ◌^◌, Some, None, [], ◌++◌, length, replicate, get_or, slice_set, IsSome, IfOk, IfSome, OnOk, OnErr};
 ghost use Rattle.std.specs.Borrow.{sem};
 ghost use Rattle.chain_list.specs.Joined.{no_links};
 
 use crate::block::Block;
+use crate::places::Places;
 use ptl_types::NoMemory;
 use std::alloc::Global;
 use std::marker::Model;
@@ -15,17 +16,13 @@ pub struct Links {
     after: Option<u32>,
 }
 
-/// Makes the list as long as `len`, with no links in each further entry.
-fn fill_links(links: &mut Vec<Links>, len: usize)
-    requires order { vec_len links.old ≤ len }
-    requires room { len ≤ vec_capacity links.old }
-    ensures { links.new.items ≡ links.old.items ++ replicate (len - vec_len links.old) no_links }
+/// No neighbours.
+fn no_links() -> Links
+    ensures { result ≡ no_links }
 {
-    for _place in links.len()..len {
-        links.push_reserved(Links {
-            before: None,
-            after: None,
-        });
+    Links {
+        before: None,
+        after: None,
     }
 }
 
@@ -34,7 +31,7 @@ fn fill_links(links: &mut Vec<Links>, len: usize)
 #[derive(Drop)]
 pub struct Row<T> {
     values: Block<T>,
-    links: Vec<Links>,
+    links: Places<Links>,
 }
 
 impl<T> Model for Row<T> {
@@ -62,7 +59,7 @@ impl<T> Row<T> {
     {
         Row {
             values: Block::new(alloc),
-            links: Vec::new(alloc),
+            links: Places::new(alloc, no_links()),
         }
     }
 
@@ -70,11 +67,8 @@ impl<T> Row<T> {
     pub(crate) fn with_len(alloc: Global, len: usize) -> Result<Row<T>, NoMemory>
         ensures { IfOk result (λ r. r ≡ replicate len None) }
     {
-        let Ok(mut links) = Vec::with_capacity(alloc, len) else {
-            return Err(NoMemory);
-        };
+        let links = Places::open(alloc, no_links(), len)?;
         let values = Block::with_len(alloc, len)?;
-        fill_links(&mut links, len);
         Ok(Row { values, links })
     }
 
@@ -91,12 +85,9 @@ impl<T> Row<T> {
         ensures ok { OnOk result (self.new ≡ self.old ++ replicate more None) }
         ensures err { OnErr result (self.new ≡ self.old) }
     {
-        let Ok(()) = self.links.reserve(more) else {
-            return Err(NoMemory);
-        };
-        let len = self.links.len() + more;
+        self.links.reserve(more)?;
         self.values.grow(more)?;
-        fill_links(&mut self.links, len);
+        self.links.lengthen(more, no_links());
         Ok(())
     }
 
@@ -106,10 +97,7 @@ impl<T> Row<T> {
         requires empty { get_or self.old place None ≡ None }
         ensures { self.new ≡ slice_set self.old place (Some (node value None None)) }
     {
-        self.links[place] = Links {
-            before: None,
-            after: None,
-        };
+        self.links.set(place, no_links());
         self.values.put(place, value);
     }
 
@@ -145,7 +133,7 @@ impl<T> Row<T> {
         ensures { IfSome (get_or self.now place None) (λ n. result ≡ (n.before, n.after)) }
     {
         let _size = self.values.len();
-        let links = self.links[place];
+        let links = self.links.at(place);
         (links.before, links.after)
     }
 
@@ -154,7 +142,9 @@ impl<T> Row<T> {
         requires { IsSome (get_or self.old place None) }
         ensures { IfSome (get_or self.old place None) (λ n. self.new ≡ slice_set self.old place (Some (node n.value to n.after))) }
     {
-        self.links[place].before = to;
+        let mut links = self.links.at(place);
+        links.before = to;
+        self.links.set(place, links);
     }
 
     /// Sets which node lies after the node of a place.
@@ -162,6 +152,8 @@ impl<T> Row<T> {
         requires { IsSome (get_or self.old place None) }
         ensures { IfSome (get_or self.old place None) (λ n. self.new ≡ slice_set self.old place (Some (node n.value n.before to))) }
     {
-        self.links[place].after = to;
+        let mut links = self.links.at(place);
+        links.after = to;
+        self.links.set(place, links);
     }
 }

@@ -1,4 +1,4 @@
-use Rattle.std.proofs.Common.{◌≡◌, Some, None, true, get_or, sym, ap, subst, ◌∙◌}
+use Rattle.std.proofs.Common.{◌≡◌, Some, None, true, sym, ap, subst, ◌∙◌}
 use Rattle.std.specs.Option.{is_some, IfSome}
 use Rattle.chain_list.specs.Chain.{value_at, first_or, key_after}
 use Rattle.chain_list.specs.ChainFields.{stamp_or}
@@ -22,7 +22,7 @@ key_at-requires g c =
     let s = seen _ _ _ _ _ c.self.invariant key live in
     let lk = subst (λ o. IfSome o (λ n. c.links-after.result ≡ (n.before, n.after))) s.node_is c.links-after.ensures.links in
     let at : first_or s.behind None ≡ Some c.in-Some.place = sym (ap (λ k. k.1) lk) ∙ c.in-Some.is in
-    subst (λ l. is_some (get_or l c.in-Some.place None) ≡ true) (sym c.deref.ensures.value) (ChainKept.next-key _ _ _ _ _ c.self.invariant key s c.in-Some.place at).0
+    (ChainKept.next-key _ _ _ _ _ c.self.invariant key s c.in-Some.place at).0
 
 pub returns-in-Some-clause-key : goal.returns-in-Some-clause-key
 returns-in-Some-clause-key g c =
@@ -33,7 +33,7 @@ returns-in-Some-clause-key g c =
     let lk = subst (λ o. IfSome o (λ n. c.links-after.result ≡ (n.before, n.after))) s.node_is c.links-after.ensures.links in
     let at : first_or s.behind None ≡ Some c.in-Some.place = sym (ap (λ k. k.1) lk) ∙ c.in-Some.is in
     let next = (ChainKept.next-key _ _ _ _ _ c.self.invariant key s c.in-Some.place at).1 in
-    let stamp = ap stamp_or (c.key_at.ensures.1 ∙ ap (λ l. get_or l c.in-Some.place None) c.deref.ensures.value) in
+    let stamp = ap stamp_or c.key_at.ensures.1 in
     (λ i. Some (record { place = c.key_at.ensures.0 i; stamp = stamp i })) ∙ sym next ∙ ap (λ v. key_after key v.entries) c.self.view_is
 
 pub returns-in-None-clause-key : goal.returns-in-None-clause-key

@@ -1,4 +1,4 @@
-use Rattle.std.proofs.Common.{◌≡◌, Option, Some, None, true, ℕ, get_or, sym, ap, subst, ◌∙◌, refl, arith}
+use Rattle.std.proofs.Common.{◌≡◌, Option, Some, None, true, ℕ, get_or, sym, ap, subst, ◌∙◌, arith}
 use Rattle.std.specs.Option.{is_some, IfSome}
 use Rattle.chain_list.specs.NodeMap.{NodeMap}
 use Rattle.chain_list.specs.Relinked.{relinked_after, relinked_before}
@@ -37,14 +37,14 @@ set_previous-requires g c =
     let m1 = c.set_next.ensures.nodes ∙ ap (λ k. relinked_after b k c.self.inside.nodes) (ap (λ k. k.1) lk) in
     subst (λ (q : Option ℕ × NodeMap g.row.T.Denot). IfSome q.0 (λ p. is_some (get_or q.1.places p None) ≡ true)) (λ i. ((sym lk i).1, sym m1 i)) behind
 
-pub index_mut-requires : goal.index_mut-requires
-index_mut-requires g c =
+pub set-requires : goal.set-requires
+set-requires g c =
     let key = c.args.key in
     let given : is_some (value_at key c.args.self.now.entries) ≡ true = cc in
     let live = subst (λ v. is_some (value_at key v.entries) ≡ true) (sym c.self.view_is) given in
     let s = seen _ _ _ _ _ c.self.invariant key live in
     let within = live_within c.self.inside.nodes.places key.place (ap is_some s.node_is) in
-    omega (arith, within, c.self.invariant.long, c.self.inside.stamps.ok)
+    omega (arith, within, c.self.invariant.long)
 
 pub free-requires : goal.free-requires
 free-requires g c =
@@ -64,7 +64,7 @@ invariant_of-self g c =
     let s = seen _ _ _ _ _ c.self.invariant key live in
     let lk = subst (λ o. IfSome o (λ n. c.links-before.result ≡ (n.before, n.after))) s.node_is c.links-before.ensures.links in
     let left = ChainKept.unlinked _ _ _ _ _ c.self.invariant key s c.links-before.result c.set_next.new.nodes c.set_previous.new.nodes c.free.new.self _ _ _ lk
-    c.set_next.ensures.nodes c.set_next.ensures.first c.set_previous.ensures.nodes c.set_previous.ensures.last c.free.ensures.nodes refl in
+    c.set_next.ensures.nodes c.set_next.ensures.first c.set_previous.ensures.nodes c.set_previous.ensures.last c.free.ensures.nodes c.set.ensures.items in
     ChainKept.settled _ _ _ _ _ left.0
 
 pub returns-clause-value : goal.returns-clause-value
@@ -87,6 +87,6 @@ returns-clause-taken g c =
     let s = seen _ _ _ _ _ c.self.invariant key live in
     let lk = subst (λ o. IfSome o (λ n. c.links-before.result ≡ (n.before, n.after))) s.node_is c.links-before.ensures.links in
     let left = ChainKept.unlinked _ _ _ _ _ c.self.invariant key s c.links-before.result c.set_next.new.nodes c.set_previous.new.nodes c.free.new.self _ _ _ lk
-    c.set_next.ensures.nodes c.set_next.ensures.first c.set_previous.ensures.nodes c.set_previous.ensures.last c.free.ensures.nodes refl in
+    c.set_next.ensures.nodes c.set_next.ensures.first c.set_previous.ensures.nodes c.set_previous.ensures.last c.free.ensures.nodes c.set.ensures.items in
     let is = ChainKept.entries-chain _ _ _ _ _ left.0 ∙ sym (ChainKept.without-seen _ _ _ _ _ c.self.invariant key s) in
     rw (← c.self.view_is) (λ i. chain_list (is i) (left.1 i) c.self.inside.given)

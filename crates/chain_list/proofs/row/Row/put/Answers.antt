@@ -1,16 +1,16 @@
-use Rattle.std.proofs.Common.{◌≡◌, ◌<◌, ◌-◌, Some, None, length, get_or, set, sym, ap, subst, ◌∙◌, arith}
+use Rattle.std.proofs.Common.{◌≡◌, ◌<◌, Some, None, length, get_or, set, sym, ap, subst, ◌∙◌, arith}
 use Rattle.chain_list.specs.Joined.{no_links, joined}
 use Rattle.chain_list.proofs.Rows.{length-joined, set-joined, empty_at}
 use Rattle.chain_list.proofs.row.Row.put.Goals as goal
 
-pub index_mut-requires : goal.index_mut-requires
-index_mut-requires g c =
+pub set-requires : goal.set-requires
+set-requires g c =
     let values = c.self.inside.values in
     let links = c.self.inside.links in
     let place = c.args.place in
     let within = subst (λ v. place < length v) (sym c.self.view_is) c.requires.within in
     let fits : place < length links.items = omega (arith, within, length-joined values links.items, c.self.invariant) in
-    omega (arith, fits, links.ok.0)
+    fits
 
 pub put-requires-clause-within : goal.put-requires-clause-within
 put-requires-clause-within g c =
@@ -32,4 +32,5 @@ returns g c =
     let place = c.args.place in
     let within = subst (λ v. place < length v) (sym c.self.view_is) c.requires.within in
     let fits : place < length links.items = omega (arith, within, length-joined values links.items, c.self.invariant) in
-    rw (← c.self.view_is) (ap (λ v. joined v (set links.items place no_links)) c.put.ensures ∙ set-joined values links.items place (Some c.args.value) no_links fits)
+    let items : c.set.new.self.items ≡ set links.items place no_links = c.set.ensures.items ∙ ap (λ l. set links.items place l) c.no_links.ensures in
+    rw (← c.self.view_is) ((λ i. joined (c.put.ensures i) (items i)) ∙ set-joined values links.items place (Some c.args.value) no_links fits)
