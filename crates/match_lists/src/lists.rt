@@ -9,7 +9,7 @@ ghost use Rattle.match_lists.specs.Lists.{both, entries, with_entries, linked_co
 
 use crate::match_list::MatchList;
 use crate::walk::some_names;
-use chain_list::{Chain, ChainKey, Steps};
+use chain_list::{Chain, ChainKey, Places, Steps};
 use ni_model::{Found, Linked};
 use ptl_types::{Entry, Handle, Header, List, NoMemory};
 use std::alloc::Global;
@@ -25,13 +25,13 @@ pub struct LinkedAt {
 }
 
 /// Where the entry of a handle is linked, by the table.
-fn where_linked(table: &[Option<LinkedAt>], handle: Handle) -> Option<LinkedAt>
-    ensures { result ≡ where_linked handle (get_or table.now handle.slot None) }
+fn where_linked(table: &Places<Option<LinkedAt>>, handle: Handle) -> Option<LinkedAt>
+    ensures { result ≡ where_linked handle (get_or table.now.items handle.slot None) }
 {
     if handle.slot as usize >= table.len() {
         return None;
     }
-    let linked_at = table[handle.slot as usize]?;
+    let linked_at = table.at(handle.slot as usize)?;
     if linked_at.handle.is(handle) {
         Some(linked_at)
     } else {
@@ -54,7 +54,7 @@ fn same_list(a: List, b: List) -> bool
 pub struct Lists {
     priority: MatchList,
     overflow: MatchList,
-    by_slot: Vec<Option<LinkedAt>>,
+    by_slot: Places<Option<LinkedAt>>,
     limit: u32,
     slots: u32,
 }
@@ -77,9 +77,7 @@ impl Lists {
     pub fn open(alloc: Global, limit: u32, slots: u32) -> Result<Lists, NoMemory>
         ensures { IfOk result (λ l. l ≡ both [] [] limit slots 0) }
     {
-        let Ok(by_slot) = Vec::from_elem(alloc, None, slots as usize) else {
-            return Err(NoMemory);
-        };
+        let by_slot = Places::open(alloc, None, slots as usize)?;
         let priority = MatchList::with_room(alloc, limit)?;
         let overflow = MatchList::with_room(alloc, limit)?;
         Ok(Lists {
@@ -115,11 +113,13 @@ impl Lists {
         match list {
             List::Priority => {
                 let key = self.priority.push_back(linked, steps);
-                self.by_slot[handle.slot as usize] = Some(LinkedAt { list, handle, key });
+                self.by_slot
+                    .set(handle.slot as usize, Some(LinkedAt { list, handle, key }));
             }
             List::Overflow => {
                 let key = self.overflow.push_back(linked, steps);
-                self.by_slot[handle.slot as usize] = Some(LinkedAt { list, handle, key });
+                self.by_slot
+                    .set(handle.slot as usize, Some(LinkedAt { list, handle, key }));
             }
         }
     }
@@ -138,14 +138,14 @@ impl Lists {
                 let Some(linked) = self.priority.unlink(linked_at.key, steps) else {
                     unreachable!()
                 };
-                self.by_slot[handle.slot as usize] = None;
+                self.by_slot.set(handle.slot as usize, None);
                 Some(linked.entry)
             }
             List::Overflow => {
                 let Some(linked) = self.overflow.unlink(linked_at.key, steps) else {
                     unreachable!()
                 };
-                self.by_slot[handle.slot as usize] = None;
+                self.by_slot.set(handle.slot as usize, None);
                 Some(linked.entry)
             }
         }

@@ -6,7 +6,7 @@ ghost use Rattle.match_lists.specs.declared.look.Look.{Look};
 ghost use Rattle.match_lists.specs.Trails.{place_in};
 
 use crate::look::{Look, no_look};
-use chain_list::Steps;
+use chain_list::{Places, Steps};
 use place_threads::Threads;
 use ptl_types::NoMemory;
 use std::alloc::Global;
@@ -34,7 +34,7 @@ fn to_visit(place: Option<u32>) -> Option<Unseen>
 #[derive(Drop)]
 pub struct Trails {
     threads: Threads,
-    looks: Vec<Look>,
+    looks: Places<Look>,
 }
 
 impl Trails {
@@ -45,9 +45,7 @@ impl Trails {
         ensures looks { IfOk result (λ t. length t.looks.items ≡ places) }
     {
         let threads = Threads::open(alloc, count, places)?;
-        let Ok(looks) = Vec::from_elem(alloc, no_look(), places) else {
-            return Err(NoMemory);
-        };
+        let looks = Places::open(alloc, no_look(), places)?;
         Ok(Trails { threads, looks })
     }
 
@@ -61,7 +59,7 @@ impl Trails {
         ensures looks { self.new.looks.items ≡ slice_set self.old.looks.items place look }
     {
         self.threads.push_back(thread, place);
-        self.looks[place as usize] = look;
+        self.looks.set(place as usize, look);
     }
 
     /// Takes a place off its thread. O(1).
@@ -79,7 +77,7 @@ impl Trails {
         ensures threads { self.new.threads ≡ self.old.threads }
         ensures looks { self.new.looks.items ≡ slice_set self.old.looks.items place look }
     {
-        self.looks[place as usize] = look;
+        self.looks.set(place as usize, look);
     }
 
     /// The first place of a thread; `None` exactly where it is empty. O(1).
@@ -108,6 +106,6 @@ impl Trails {
         steps.tick();
         // Read before the look, so that the way to the next place waits for nothing but itself.
         let after = self.threads.next(at.place);
-        (at.place, to_visit(after), &self.looks[at.place as usize])
+        (at.place, to_visit(after), self.looks.get(at.place as usize))
     }
 }

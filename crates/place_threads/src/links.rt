@@ -4,6 +4,7 @@ ghost use Rattle.place_threads.specs.Nodes.{place_in, node_of};
 ghost use Rattle.chain_list.specs.NodeMap.{node};
 ghost use Rattle.chain_list.specs.Relinked.{places_after, places_before};
 
+use chain_list::Places;
 use ptl_types::NoMemory;
 use std::alloc::Global;
 use std::marker::Model;
@@ -58,10 +59,11 @@ impl Link {
     }
 }
 
-/// A link for each place. A contract sees them as nodes whose value is the thread.
+/// A link for each place; no page is touched beyond the highest place that was ever on a thread. A contract sees them as nodes whose
+/// value is the thread.
 #[derive(Drop)]
 pub struct Links {
-    links: Vec<Link>,
+    links: Places<Link>,
 }
 
 impl Model for Links {
@@ -92,9 +94,7 @@ impl Links {
             before: 0,
             after: 0,
         };
-        let Ok(links) = Vec::from_elem(alloc, none, len) else {
-            return Err(NoMemory);
-        };
+        let links = Places::open(alloc, none, len)?;
         Ok(Links { links })
     }
 
@@ -103,7 +103,7 @@ impl Links {
         requires { place < length self.now }
         ensures { get_or self.now place None ≡ node_of result }
     {
-        self.links[place as usize]
+        self.links.at(place as usize)
     }
 
     /// Puts a place on a thread, with no neighbours.
@@ -111,11 +111,12 @@ impl Links {
         requires { place < length self.old }
         ensures { self.new ≡ slice_set self.old place (Some (node thread None None)) }
     {
-        self.links[place as usize] = Link {
+        let link = Link {
             thread,
             before: 0,
             after: 0,
         };
+        self.links.set(place as usize, link);
     }
 
     /// Puts a place on a thread, with its neighbours.
@@ -134,11 +135,12 @@ impl Links {
         let _links = &self.links;
         let before = code_of(before);
         let after = code_of(after);
-        self.links[place as usize] = Link {
+        let link = Link {
             thread,
             before,
             after,
         };
+        self.links.set(place as usize, link);
     }
 
     /// Sets which place comes after a place.
@@ -149,7 +151,9 @@ impl Links {
     {
         let _links = &self.links;
         let code = code_of(to);
-        self.links[place as usize].after = code;
+        let mut link = self.links.at(place as usize);
+        link.after = code;
+        self.links.set(place as usize, link);
     }
 
     /// Sets which place comes before a place.
@@ -160,6 +164,8 @@ impl Links {
     {
         let _links = &self.links;
         let code = code_of(to);
-        self.links[place as usize].before = code;
+        let mut link = self.links.at(place as usize);
+        link.before = code;
+        self.links.set(place as usize, link);
     }
 }

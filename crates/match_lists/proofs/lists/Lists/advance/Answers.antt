@@ -13,7 +13,7 @@ pub unreachable-requires : goal.unreachable-requires
 unreachable-requires g c =
     let h = c.args.handle in
     let table = c.self.inside.by_slot.items in
-    let told : where_linked h (get_or table h.slot None) ≡ None = ap (λ l. where_linked h (get_or l h.slot None)) (sym c.deref.ensures.value) ∙ sym c.where_linked.ensures ∙ c.in_default.is in
+    let told : where_linked h (get_or table h.slot None) ≡ None = sym c.where_linked.ensures ∙ c.in_default.is in
     let none = absent _ _ _ _ _ h c.self.invariant told in
     let lacks : linked_as h (both (values c.self.inside.priority.entries) (values c.self.inside.overflow.entries) c.self.inside.limit c.self.inside.slots 0) ≡ None = (λ i. or_else (none.2 i) (none.3 i)) in
     let is = subst (λ v. is_some (linked_as h v) ≡ true) (sym c.self.view_is) c.requires.linked in
@@ -24,7 +24,7 @@ pub advance-requires-clause-live : goal.advance-requires-clause-live
 advance-requires-clause-live g c =
     let h = c.args.handle in
     let table = c.self.inside.by_slot.items in
-    let told : where_linked h (get_or table h.slot None) ≡ Some c.in-Some.linked_at = ap (λ l. where_linked h (get_or l h.slot None)) (sym c.deref.ensures.value) ∙ sym c.where_linked.ensures ∙ c.in-Some.is in
+    let told : where_linked h (get_or table h.slot None) ≡ Some c.in-Some.linked_at = sym c.where_linked.ensures ∙ c.in-Some.is in
     let slot = slot-below _ _ _ _ _ h c.in-Some.linked_at c.self.invariant told in
     let u = unlink-priority _ _ _ _ _ c.self.inside.priority.given h c.in-Some.linked_at c.self.invariant c.nodes-priority.ensures.apart told c.in-Priority.is slot in
     let value = u.1.value in
@@ -34,7 +34,7 @@ pub advance-requires-clause-fits : goal.advance-requires-clause-fits
 advance-requires-clause-fits g c =
     let h = c.args.handle in
     let table = c.self.inside.by_slot.items in
-    let told : where_linked h (get_or table h.slot None) ≡ Some c.in-Some.linked_at = ap (λ l. where_linked h (get_or l h.slot None)) (sym c.deref.ensures.value) ∙ sym c.where_linked.ensures ∙ c.in-Some.is in
+    let told : where_linked h (get_or table h.slot None) ≡ Some c.in-Some.linked_at = sym c.where_linked.ensures ∙ c.in-Some.is in
     let slot = slot-below _ _ _ _ _ h c.in-Some.linked_at c.self.invariant told in
     let u = unlink-priority _ _ _ _ _ c.self.inside.priority.given h c.in-Some.linked_at c.self.invariant c.nodes-priority.ensures.apart told c.in-Priority.is slot in
     let value = u.1.value in
@@ -46,7 +46,7 @@ pub invariant_of-self : goal.invariant_of-self
 invariant_of-self g c =
     let h = c.args.handle in
     let table = c.self.inside.by_slot.items in
-    let told : where_linked h (get_or table h.slot None) ≡ Some c.in-Some.linked_at = ap (λ l. where_linked h (get_or l h.slot None)) (sym c.deref.ensures.value) ∙ sym c.where_linked.ensures ∙ c.in-Some.is in
+    let told : where_linked h (get_or table h.slot None) ≡ Some c.in-Some.linked_at = sym c.where_linked.ensures ∙ c.in-Some.is in
     let slot = slot-below _ _ _ _ _ h c.in-Some.linked_at c.self.invariant told in
     let u = unlink-priority _ _ _ _ _ c.self.inside.priority.given h c.in-Some.linked_at c.self.invariant c.nodes-priority.ensures.apart told c.in-Priority.is slot in
     let value = u.1.value in
@@ -60,7 +60,7 @@ pub returns-in-Priority-clause-lists : goal.returns-in-Priority-clause-lists
 returns-in-Priority-clause-lists g c =
     let h = c.args.handle in
     let table = c.self.inside.by_slot.items in
-    let told : where_linked h (get_or table h.slot None) ≡ Some c.in-Some.linked_at = ap (λ l. where_linked h (get_or l h.slot None)) (sym c.deref.ensures.value) ∙ sym c.where_linked.ensures ∙ c.in-Some.is in
+    let told : where_linked h (get_or table h.slot None) ≡ Some c.in-Some.linked_at = sym c.where_linked.ensures ∙ c.in-Some.is in
     let slot = slot-below _ _ _ _ _ h c.in-Some.linked_at c.self.invariant told in
     let u = unlink-priority _ _ _ _ _ c.self.inside.priority.given h c.in-Some.linked_at c.self.invariant c.nodes-priority.ensures.apart told c.in-Priority.is slot in
     let value = u.1.value in
@@ -76,7 +76,7 @@ pub advance-requires-in-Overflow-clause-live : goal.advance-requires-in-Overflow
 advance-requires-in-Overflow-clause-live g c =
     let h = c.args.handle in
     let table = c.self.inside.by_slot.items in
-    let told : where_linked h (get_or table h.slot None) ≡ Some c.in-Some.linked_at = ap (λ l. where_linked h (get_or l h.slot None)) (sym c.deref.ensures.value) ∙ sym c.where_linked.ensures ∙ c.in-Some.is in
+    let told : where_linked h (get_or table h.slot None) ≡ Some c.in-Some.linked_at = sym c.where_linked.ensures ∙ c.in-Some.is in
     let slot = slot-below _ _ _ _ _ h c.in-Some.linked_at c.self.invariant told in
     let u = unlink-overflow _ _ _ _ _ c.self.inside.overflow.given h c.in-Some.linked_at c.self.invariant c.nodes-overflow.ensures.apart told c.in-Overflow.is slot in
     let value = u.1.value in
@@ -86,7 +86,7 @@ pub advance-requires-in-Overflow-clause-fits : goal.advance-requires-in-Overflow
 advance-requires-in-Overflow-clause-fits g c =
     let h = c.args.handle in
     let table = c.self.inside.by_slot.items in
-    let told : where_linked h (get_or table h.slot None) ≡ Some c.in-Some.linked_at = ap (λ l. where_linked h (get_or l h.slot None)) (sym c.deref.ensures.value) ∙ sym c.where_linked.ensures ∙ c.in-Some.is in
+    let told : where_linked h (get_or table h.slot None) ≡ Some c.in-Some.linked_at = sym c.where_linked.ensures ∙ c.in-Some.is in
     let slot = slot-below _ _ _ _ _ h c.in-Some.linked_at c.self.invariant told in
     let u = unlink-overflow _ _ _ _ _ c.self.inside.overflow.given h c.in-Some.linked_at c.self.invariant c.nodes-overflow.ensures.apart told c.in-Overflow.is slot in
     let value = u.1.value in
@@ -98,7 +98,7 @@ pub invariant_of-self-in-Overflow : goal.invariant_of-self-in-Overflow
 invariant_of-self-in-Overflow g c =
     let h = c.args.handle in
     let table = c.self.inside.by_slot.items in
-    let told : where_linked h (get_or table h.slot None) ≡ Some c.in-Some.linked_at = ap (λ l. where_linked h (get_or l h.slot None)) (sym c.deref.ensures.value) ∙ sym c.where_linked.ensures ∙ c.in-Some.is in
+    let told : where_linked h (get_or table h.slot None) ≡ Some c.in-Some.linked_at = sym c.where_linked.ensures ∙ c.in-Some.is in
     let slot = slot-below _ _ _ _ _ h c.in-Some.linked_at c.self.invariant told in
     let u = unlink-overflow _ _ _ _ _ c.self.inside.overflow.given h c.in-Some.linked_at c.self.invariant c.nodes-overflow.ensures.apart told c.in-Overflow.is slot in
     let value = u.1.value in
@@ -112,7 +112,7 @@ pub returns-in-Overflow-clause-lists : goal.returns-in-Overflow-clause-lists
 returns-in-Overflow-clause-lists g c =
     let h = c.args.handle in
     let table = c.self.inside.by_slot.items in
-    let told : where_linked h (get_or table h.slot None) ≡ Some c.in-Some.linked_at = ap (λ l. where_linked h (get_or l h.slot None)) (sym c.deref.ensures.value) ∙ sym c.where_linked.ensures ∙ c.in-Some.is in
+    let told : where_linked h (get_or table h.slot None) ≡ Some c.in-Some.linked_at = sym c.where_linked.ensures ∙ c.in-Some.is in
     let slot = slot-below _ _ _ _ _ h c.in-Some.linked_at c.self.invariant told in
     let u = unlink-overflow _ _ _ _ _ c.self.inside.overflow.given h c.in-Some.linked_at c.self.invariant c.nodes-overflow.ensures.apart told c.in-Overflow.is slot in
     let value = u.1.value in

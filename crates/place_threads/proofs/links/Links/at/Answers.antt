@@ -3,12 +3,12 @@ use Rattle.place_threads.specs.Nodes.{node_of}
 use Rattle.place_threads.proofs.LinkLemmas.{length-nodes, get-nodes}
 use Rattle.place_threads.proofs.links.Links.at.Goals as goal
 
-pub index-requires : goal.index-requires
-index-requires c = omega (arith, length-nodes c.self.inside.links.items, ap length c.self.view_is, c.self.inside.links.ok.0)
+pub at-requires : goal.at-requires
+at-requires c = omega (arith, length-nodes c.self.inside.links.items, ap length c.self.view_is)
 
 pub returns : goal.returns
 returns c =
     let ls = c.self.inside.links.items in
     let lt : c.args.place < length ls = omega (arith, length-nodes ls, ap length c.self.view_is) in
-    let found = c.index.result.now in
-    rw (← c.self.view_is) (get-nodes ls c.args.place found lt ∙ ap node_of (sym c.index.ensures))
+    let found = c.at.result in
+    rw (← c.self.view_is) (get-nodes ls c.args.place found lt ∙ ap node_of (sym c.at.ensures))

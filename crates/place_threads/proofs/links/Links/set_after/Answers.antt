@@ -8,14 +8,17 @@ use Rattle.place_threads.proofs.links.Links.set_after.Goals as goal
 pub code_of-code-requires : goal.code_of-code-requires
 code_of-code-requires c = code-fits c.args.to (length c.args.self.now) (omega (arith, length-nodes c.self.inside.links.items, ap length c.self.view_is, c.self.invariant)) c.requires.to
 
-pub index_mut-requires : goal.index_mut-requires
-index_mut-requires c = omega (arith, length-nodes c.self.inside.links.items, ap length c.self.view_is, c.self.inside.links.ok.0)
+pub at-link-requires : goal.at-link-requires
+at-link-requires c = omega (arith, length-nodes c.self.inside.links.items, ap length c.self.view_is)
+
+pub set-requires : goal.set-requires
+set-requires c = omega (arith, length-nodes c.self.inside.links.items, ap length c.self.view_is)
 
 pub returns : goal.returns
 returns c =
     let ls = c.self.inside.links.items in
     let lt : c.args.place < length ls = omega (arith, length-nodes ls, ap length c.self.view_is) in
-    let found = c.index_mut.result.now in
-    rw (← c.self.view_is) (set-nodes ls c.args.place (record found { after = c.code_of-code.result })
+    let found = c.at-link.result in
+    rw (← c.self.view_is) (ap nodes_of c.set.ensures.items ∙ set-nodes ls c.args.place (record found { after = c.code_of-code.result })
     ∙ ap (λ o. set (nodes_of ls) c.args.place (Some (node found.thread (place_in found.before) o))) c.code_of-code.ensures
-    ∙ ap (λ n. set (nodes_of ls) c.args.place (with_after c.args.to n)) (sym (get-nodes ls c.args.place found lt ∙ ap node_of (sym c.index_mut.ensures.value))))
+    ∙ ap (λ n. set (nodes_of ls) c.args.place (with_after c.args.to n)) (sym (get-nodes ls c.args.place found lt ∙ ap node_of (sym c.at-link.ensures))))

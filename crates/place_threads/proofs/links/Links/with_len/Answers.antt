@@ -4,4 +4,4 @@ use Rattle.place_threads.proofs.LinkLemmas.{nodes-replicate}
 use Rattle.place_threads.proofs.links.Links.with_len.Goals as goal
 
 pub returns : goal.returns
-returns c = ap nodes_of (c.in-Ok.ensures.items_if_clones_equal (λ y q. q)) ∙ nodes-replicate c.args.len _
+returns c = ap nodes_of c.in_ok-links.ensures ∙ nodes-replicate c.args.len _
