@@ -6,8 +6,8 @@ use Rattle.world_open.specs.Laying.{room_of}
 use Rattle.world_open.proofs.Rooms.{few-on_lane}
 use Rattle.world_open.proofs.laying.open_lane.Goals as goal
 
-pub capacity-requires : goal.capacity-requires
-capacity-requires c =
+pub capacity-many-requires : goal.capacity-many-requires
+capacity-many-requires c =
     let a = few-on_lane (plan_of c.args.schedule.now) c.args.s c.args.d c.args.lane in
     let e = c.lane.ensures in
     let f = c.requires.few in
