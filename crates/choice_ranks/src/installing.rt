@@ -471,6 +471,6 @@ pub fn install(
     let mut nic = Nic::open(alloc, rank, ranks, limits, bytes)?;
     make_all(&mut nic, &mut kept, rank, kinds)?;
     let due = steps_of(rank, ranks, kinds);
-    let history = History::with_room(alloc, due, due, 8 * due)?;
+    let history = History::with_room(alloc, due)?;
     Ok(Seat::of(nic, kept, history))
 }

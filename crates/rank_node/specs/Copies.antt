@@ -1,39 +1,17 @@
--- A history as a node keeps it: the steps, and of what was received the headers and copies of the bytes, one after the other.
-use Rattle.std.specs.Prelude.{ℕ, Bool, nat_lt, ◌+◌, ◌-◌, ◌≡◌, ◌≤◌, List, [], ◌∷◌, ◌++◌, length, take, drop, count_by}
-use Rattle.ptl_types.specs.declared.headers.Header.{Header}
+-- A history as a node keeps it: the steps, and in clauses alone what was received.
+use Rattle.std.specs.Prelude.{ℕ, Bool, nat_lt, ◌+◌, ◌-◌, List, [], ◌∷◌, ◌++◌, length, count_by}
 use Rattle.ptl_types.specs.declared.headers.Lane.{Lane}
 use Rattle.ptl_types.specs.declared.steps.LocalStep.{LocalStep}
 use Rattle.ptl_types.specs.declared.steps.LocalStep.TheVariants.{Start, Receive, Fire}
-use Rattle.ptl_types.specs.Messages.{Sent, message, bytes_due}
+use Rattle.ptl_types.specs.Messages.{Sent}
 use Rattle.plan_cuts.specs.History.{Local, is_start}
 use Rattle.plan_cuts.specs.History.Local.{Start as Started, Receive as Received, Fire as Fired}
-
--- how many bytes go with a header
-abbrev pub due_of : Header → ℕ
-due_of h = bytes_due h.kind h.ok h.length
-
--- the steps with the messages that were received
-abbrev pub locals_of : List LocalStep → List Header → List ℕ → List Local
-locals_of [] hs bs = []
-locals_of (Start ∷ es) hs bs = Started ∷ locals_of es hs bs
-locals_of (Fire t ∷ es) hs bs = Fired t ∷ locals_of es hs bs
-locals_of (Receive source lane ∷ es) [] bs = []
-locals_of (Receive source lane ∷ es) (h ∷ hs) bs =
-    Received source lane (message h (take (due_of h) bs)) ∷ locals_of es hs (drop (due_of h) bs)
 
 -- a step without its message
 abbrev pub listed : Local → LocalStep
 listed Started = Start
 listed (Received source lane m) = Receive source lane
 listed (Fired t) = Fire t
-
--- there is a header for each receipt, and there are the bytes that go with it
-abbrev pub AreCopied : List LocalStep → List Header → List ℕ → Type 0
-AreCopied [] hs bs = (hs ≡ []) × (bs ≡ [])
-AreCopied (Start ∷ es) hs bs = AreCopied es hs bs
-AreCopied (Fire t ∷ es) hs bs = AreCopied es hs bs
-AreCopied (Receive source lane ∷ es) [] bs = ⊥
-AreCopied (Receive source lane ∷ es) (h ∷ hs) bs = (due_of h ≤ length bs) × AreCopied es hs (drop (due_of h) bs)
 
 -- a start stands in the history
 abbrev pub has_start : List Local → Bool
@@ -46,7 +24,7 @@ bytes_received (Received source lane m ∷ es) = length m.bytes + bytes_received
 bytes_received (Started ∷ es) = bytes_received es
 bytes_received (Fired t ∷ es) = bytes_received es
 
--- a history, its steps alone, and the room that is left: for steps, for receipts and for the bytes that come with them
+-- a history, its steps alone, the room that is left for steps, and how many receipts are left, and bytes that come with them
 pub record Diary : Type 0 where
   pub locals : List Local
   pub steps : List LocalStep

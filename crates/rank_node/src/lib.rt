@@ -9,6 +9,7 @@ mod install;
 mod kept;
 mod laws;
 mod node;
+mod past;
 mod start;
 
 pub use compiled::Compiled;

@@ -1,6 +1,6 @@
 //! One rank.
 
-ghost use Rattle.std.specs.Prelude.{ℕ, ◌≡◌, ◌↔◌, ◌<◌, ◌≤◌, ◌+◌, ◌*◌, ◌^◌, [], false, Some, IsTrue, IfOk, length, map, count_by, nat_lt, replicate, slice_get};
+ghost use Rattle.std.specs.Prelude.{ℕ, ◌≡◌, ◌↔◌, ◌<◌, ◌≤◌, ◌+◌, ◌^◌, [], false, Some, IsTrue, IfOk, length, map, count_by, nat_lt, replicate, slice_get};
 ghost use Rattle.ni_model.specs.Answers.{is_awaited};
 ghost use Rattle.ni_model.specs.Ready.{is_ready, target_at};
 ghost use Rattle.ni_model.specs.Tables.{lookup};
@@ -31,9 +31,6 @@ use std::alloc::Global;
 use std::marker::Model;
 use std::mem;
 use std::snapshot::Snapshot;
-
-/// How many bytes a message may have that isn't of the plan.
-const STRAY_BYTES: u64 = 64;
 
 /// One rank: what is compiled for it, its interface with the handles that it gave, its history, and a buffer for what came before
 /// the start. The interface has the region; the bytes that it began with, and the calls that prepared it, are known in clauses alone.
@@ -99,21 +96,18 @@ fn prepare(alloc: Global, compiled: &Compiled, region: Bytes) -> Result<(Nic, Ke
 
 /// A new history with room for a start, so many firings, the messages of the task and so many strays.
 fn diary(alloc: Global, compiled: &Compiled, firings: u32, strays: u32) -> Result<History, NoMemory>
+    ghost bounds: { ℕ × ℕ }
     requires { compiled.now.receipts < 2 ^ 33 }
-    ensures { IfOk result (λ h. h ≡ record { locals = []; steps = []; room = 1 + (firings + (compiled.now.receipts + strays)); receipts = compiled.now.receipts + strays; bytes = compiled.now.bytes + STRAY_BYTES * strays }) }
+    ensures { IfOk result (λ h. h ≡ record { locals = []; steps = []; room = 1 + (firings + (compiled.now.receipts + strays)); receipts = bounds.0; bytes = bounds.1 }) }
 {
     let receipts = compiled.receipts + u64::from(strays);
-    let steps = 1 + (u64::from(firings) + receipts);
-    match compiled.bytes.checked_add(STRAY_BYTES * u64::from(strays)) {
-        Some(bytes) => History::with_room(alloc, steps, receipts, bytes),
-        None => Err(NoMemory),
-    }
+    History::with_room(alloc, 1 + (u64::from(firings) + receipts))
 }
 
 impl Node {
     /// Prepares the interface by the compiled calls, of which none is refused. The history is empty. The memory for the whole run
-    /// is taken here: for the steps, for copies of what is received (the messages of the plan, and `strays` further ones of at
-    /// most 64 bytes), and for the handles of the entries that come with the start.
+    /// is taken here: for the steps (those of the plan, and the receipts of `strays` further messages of at most 64 bytes), and for
+    /// the handles of the entries that come with the start.
     pub fn install(alloc: Global, compiled: Compiled, strays: u32) -> Result<Node, NoMemory>
         requires { IsCompiled (task_of compiled) }
         ensures task { IfOk result (λ n. n.task ≡ task_of compiled) }

@@ -1,21 +1,16 @@
-use Rattle.std.proofs.Common.{◌≡◌, refl, ap, sym, arith}
+use Rattle.std.proofs.Common.{◌≡◌, ◌∙◌, ap, refl, sym, arith}
 use Rattle.plan_cuts.specs.History.Local.{Start}
-use Rattle.rank_node.specs.Copies.{Diary, locals_of}
-use Rattle.rank_node.proofs.Copies.{grows-start, started-push, or-true}
+use Rattle.rank_node.specs.Copies.{Diary}
+use Rattle.rank_node.proofs.Copies.{listed-push, started-push, or-true}
 use Rattle.rank_node.proofs.history.History.note_start.Goals as goal
 
 pub invariant_of-self : goal.invariant_of-self
 invariant_of-self c =
-    let g = grows-start c.self.inside.steps.items c.self.inside.headers.items c.self.inside.copies.items c.self.invariant.0 in
     let room : c.self.inside.room ≡ c.args.self.now.room = ap (λ (d : Diary). d.room) c.self.view_is in (
-      rw c.push_reserved.ensures.items g.1,
-      rw (c.push_reserved.ensures.items, g.0, started-push (locals_of c.self.inside.steps.items c.self.inside.headers.items c.self.inside.copies.items) Start) (sym (or-true _)),
+      rw (c.started-self-inside.ensures, c.push_reserved.ensures.items) (listed-push c.self.inside.past.locals Start c.self.inside.steps.items c.self.invariant.0),
+      rw c.started-self-inside.ensures (sym (started-push c.self.inside.past.locals Start ∙ or-true _)),
       omega arith,
-      c.self.invariant.3,
-      c.self.invariant.4,
     )
 
 pub returns : goal.returns
-returns c =
-    let g = grows-start c.self.inside.steps.items c.self.inside.headers.items c.self.inside.copies.items c.self.invariant.0 in
-    rw (c.push_reserved.ensures.items, g.0, ← c.self.view_is) refl
+returns c = rw (c.started-self-inside.ensures, c.push_reserved.ensures.items, ← c.self.view_is) refl

@@ -1,7 +1,6 @@
 use Rattle.std.proofs.Common.{◌≡◌, map, subst}
 use Rattle.rank_node.specs.Copies.{Diary, listed}
-use Rattle.rank_node.proofs.Copies.{steps-listed}
 use Rattle.rank_node.proofs.history.History.steps.Goals as goal
 
 pub returns-clause-listed : goal.returns-clause-listed
-returns-clause-listed c = subst (λ (d : Diary). map listed d.locals ≡ d.steps) c.self.view_is (steps-listed c.self.inside.steps.items c.self.inside.headers.items c.self.inside.copies.items c.self.invariant.0)
+returns-clause-listed c = subst (λ (d : Diary). map listed d.locals ≡ d.steps) c.self.view_is c.self.invariant.0
