@@ -127,14 +127,7 @@ pub fn deliver(
     ensures world { (p : Plan) (inputs : Inputs) → IsWorld p inputs setting.ranks nodes.old lanes.old starts.old deliveries.old firings.old setting.window setting.strays setting.spare →
         IsWorld p inputs setting.ranks nodes.new lanes.new starts.new deliveries.new firings.new setting.window setting.strays setting.spare }
 {
-    let had = has_window(
-        lanes,
-        setting.ranks,
-        setting.window,
-        s,
-        d,
-        Lane::Request,
-    );
+    let had = has_window(lanes, setting.ranks, setting.window, s, d, Lane::Request);
     let message = take(lanes, setting.ranks, s, d, lane);
     let made = nodes[d as usize].receive(s, lane, message);
     let _ = send_out(lanes, setting.ranks, d, made);
@@ -192,14 +185,7 @@ pub fn inject(
         is_used_lane p s d Request ≡ true →
         IsWorld p inputs setting.ranks nodes.new lanes.new starts.new deliveries.new firings.new setting.window (setting.strays - 1) setting.spare }
 {
-    let had = has_window(
-        lanes,
-        setting.ranks,
-        setting.window,
-        s,
-        d,
-        Lane::Request,
-    );
+    let had = has_window(lanes, setting.ranks, setting.window, s, d, Lane::Request);
     put_request(lanes, setting.ranks, s, d, message);
     joined(
         nodes,

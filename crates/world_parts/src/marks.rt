@@ -159,7 +159,8 @@ fn tell(
     ensures gates { nodes.new ≡ gated lanes.now ranks window s d nodes.old }
     ensures firings { firings.new ≡ firing_mark nodes.new s firings.old }
 {
-    if has_window(lanes, ranks, window, s, d, Lane::Request) != had {
+    let has = has_window(lanes, ranks, window, s, d, Lane::Request);
+    if has != had {
         gate(nodes, lanes, ranks, window, s, d);
         mark_firings(firings, nodes, s);
     }
