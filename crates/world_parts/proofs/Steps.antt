@@ -73,7 +73,7 @@ wide_news p inputs n nodes lanes window spare parts r hr new same q hq =
 
 -- a step that is no start leaves how often a rank started
 pub no_start : (locals : List Local) (e : Local) → is_start e ≡ false
-    → (if nat_lt 0 (count_by is_start (locals ++ e ∷ [])) then 0 else 1) ≡ (if nat_lt 0 (count_by is_start locals) then 0 else 1)
+    → ◌≡◌ {A = ℕ} (if nat_lt 0 (count_by is_start (locals ++ e ∷ [])) then 0 else 1) (if nat_lt 0 (count_by is_start locals) then 0 else 1)
 no_start locals e none =
     let a = count-append is_start locals (e ∷ []) in
     let b = count-cons is_start e [] in
