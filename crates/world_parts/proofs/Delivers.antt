@@ -1,6 +1,6 @@
 -- A delivery over the parts of a world.
-use Rattle.std.proofs.Common.{ℕ, Bool, true, false, not, cond, ◌&&◌, ◌+◌, ◌<◌, ◌≤◌, ◌≡◌, ◌⊎◌, ◌==◌, ◌∙◌, List, [], ◌∷◌, ◌++◌, Option, Some, drop, length, count_by, sum_by, filter, nat_lt, if◌then◌else◌, refl, sym, ap, ap₂, subst, inl, inr, arith, eq-eqb, eqb-true}
-use Rattle.std.proofs.Math.ListN.{set}
+use Rattle.std.proofs.Common.{ℕ, Bool, true, false, not, cond, ◌&&◌, ◌+◌, ◌<◌, ◌≤◌, ◌*◌, ◌≡◌, ◌==◌, ◌∙◌, List, [], ◌∷◌, ◌++◌, Option, Some, None, drop, length, count_by, sum_by, filter, nat_lt, if◌then◌else◌, refl, sym, ap, ap₂, subst, inl, inr, arith, eq-eqb, eqb-true}
+use Rattle.std.proofs.Math.ListN.{set, length-set}
 use Rattle.std.proofs.lemmas.Bool.{and_parts, ltb-true}
 use Rattle.op_laws.proofs.OpLaws.{op_laws}
 use Rattle.op_laws.proofs.Starts.{combined-starts}
@@ -38,13 +38,24 @@ use Rattle.rank_node.proofs.Nodes.{receipt-node}
 use Rattle.rank_node.specs.Node.{NodeState, received_node}
 use Rattle.world_parts.specs.Keeps.{AgreeAll, IsWorld}
 use Rattle.world_parts.specs.Layout.{held_in, lane_at, node_at, scene_of}
-use Rattle.world_parts.specs.Marks.{HasPlace, lane_has, lane_may, out_with, popped}
+use Rattle.world_parts.specs.Marks.{HasPlace, delivery_mark, firing_mark, gated, lane_back, lane_has, lane_may, out_with, popped, start_count}
+use Rattle.world_parts.proofs.Counted.{delivered_counted}
 use Rattle.world_parts.proofs.Gated.{scene_by}
 use Rattle.world_parts.proofs.Held.{held_here, held_set, inside, set_capacity, set_here, set_other, set_size}
-use Rattle.world_parts.proofs.Moving.{clash, lanes_apart, Moved, Taken, agree_back, agree_now, may_go_out, nic_is, parts_news, scene_news, slots_now, strays_news, touches_news}
+use Rattle.world_parts.proofs.Marked.{lane_marked, mark_size}
+use Rattle.world_parts.proofs.Moving.{clash, Moved, Taken, agree_back, agree_now, may_go_out, nic_is, parts_news, scene_news, slots_now, strays_news}
+use Rattle.world_parts.proofs.Placed.{OneLane, lanes_apart}
+use Rattle.world_parts.proofs.Renewed.{IsRenewed, as_told, renewed_by}
 use Rattle.world_parts.proofs.Sets.{at_set, sum_moves}
-use Rattle.world_parts.proofs.Steps.{IsDone, IsRefreshed, finish, stays_of}
+use Rattle.world_parts.proofs.Steps.{IsDone, finish, no_start, stays_of, wide_gates}
 use Rattle.world_parts.proofs.Strays.{short_more}
+
+-- what the code leaves after a delivery from s to d
+pub record IsDelivered (n window s d : ℕ) (lane : Lane) (news : List NodeState) (later : List Plain) (deliveries firings : List ℕ)
+    (nexts : List NodeState) (b c : List ℕ) : Type 0 where
+  pub gates : nexts ≡ gated later n window s d news
+  pub of_deliveries : b ≡ delivery_mark later n window d s (lane_back lane) (delivery_mark later n window s d lane deliveries)
+  pub of_firings : c ≡ firing_mark nexts s (firing_mark news d firings)
 
 -- an answer goes back to the source of the request
 goes_back : (p : Plan) (slots : Slots) (r : ℕ) (v : State) (s : ℕ) (lane : Lane) (m x : Sent) → IsOf p slots r v → May false v (Received s lane m) → (target v m).delivered.answer ≡ Some x → x.header.target ≡ s
@@ -196,7 +207,6 @@ module _ (p : Plan) (inputs : Inputs) (n : ℕ) (nodes : List NodeState) (lanes 
     deliver_moved = record {
       task = refl;
       strays = refl;
-      closed = refl;
       locals = refl;
       slots = λ q a. a;
       node = receipt-node (node_at nodes d) s lane m may_here deliver_room.receipts deliver_room.bytes (k.parts.node d hd);
@@ -212,52 +222,100 @@ module _ (p : Plan) (inputs : Inputs) (n : ℕ) (nodes : List NodeState) (lanes 
       deliver_to : (x : Sent) → o ≡ Some x → x.header.target < n
       deliver_to x q = subst (λ t. t < n) (sym (back_to x q)) hs
 
-      -- it is an answer to a request, whose lane is open
+      -- it is an answer to a request
+      came : (x : Sent) → o ≡ Some x → (is_answer m.header.kind ≡ false) × (is_answer x.header.kind ≡ true)
+      came x q = let a = target_answers (node_at nodes d).nic m x (sym makes ∙ q) in (a.0, answer_kind a.1.ok a.1.length a.1.bytes m.header x a.1.is)
+
+      request : (x : Sent) → o ≡ Some x → lane ≡ Request
+      request x q = asked lane may_here.2
+        where
+          asked : (l : Lane) → is_lane l m.header.kind ≡ true → l ≡ Request
+          asked Request y = refl
+          asked Answer y = absurd (clash (came x q).0 y)
+
+      answers : (x : Sent) → o ≡ Some x → lane_of x.header.kind ≡ Answer
+      answers x q = ap (λ b. if b then Answer else Request) (came x q).1
+
+      -- whose lane is open
       deliver_open : (x : Sent) → o ≡ Some x → length (lane_at mid (lane_place n d x.header.target (lane_of x.header.kind))).messages < window
       deliver_open x q = subst (λ i. length (lane_at mid i).messages < window) (sym place) (subst (λ (l : Plain). length l.messages < window) (sym same) (ltb-true (length (lane_at lanes (lane_place n d s Answer)).messages) window opened))
         where
-          came : (is_answer m.header.kind ≡ false) × (is_answer x.header.kind ≡ true)
-          came = let a = target_answers (node_at nodes d).nic m x (sym makes ∙ q) in (a.0, answer_kind a.1.ok a.1.length a.1.bytes m.header x a.1.is)
-
-          asked : (l : Lane) → is_lane l m.header.kind ≡ true → l ≡ Request
-          asked Request y = refl
-          asked Answer y = absurd (clash came.0 y)
-
-          request : lane ≡ Request
-          request = asked lane may_here.2
-
           place : lane_place n d x.header.target (lane_of x.header.kind) ≡ lane_place n d s Answer
-          place = ap₂ (λ i l. lane_place n d i l) (back_to x q) (ap (λ b. if b then Answer else Request) came.1)
+          place = ap₂ (λ i l. lane_place n d i l) (back_to x q) (answers x q)
 
           same : lane_at mid (lane_place n d s Answer) ≡ lane_at lanes (lane_place n d s Answer)
-          same = set_other n lanes k.parts.wide s d lane hs hd rest d s Answer hs (λ i. lanes_apart (i.kind ∙ request))
+          same = set_other n lanes k.parts.wide s d lane hs hd rest d s Answer hs (λ i. lanes_apart (i.kind ∙ request x q))
 
           opened : lane_has lanes n window d s Answer ≡ true
-          opened = (and_parts (nat_lt 0 (length (lane_at lanes (lane_place n s d Request)).messages)) (lane_has lanes n window d s Answer) (subst (λ l. lane_may lanes n window s d l ≡ true) request may)).1
+          opened = (and_parts (nat_lt 0 (length (lane_at lanes (lane_place n s d Request)).messages)) (lane_has lanes n window d s Answer) (subst (λ l. lane_may lanes n window s d l ≡ true) (request x q) may)).1
 
       pub deliver_goes : HasPlace n d mid o
       deliver_goes = may_go_out p inputs n nodes lanes window strays spare k.parts k.stray d hd e mid deliver_taken deliver_enabled deliver_is o makes deliver_to deliver_open
 
-      deliver_way : (x : Sent) → o ≡ Some x → ((d ≡ s) × (x.header.target ≡ d)) ⊎ ((d ≡ d) × (x.header.target ≡ s))
-      deliver_way x q = inr (refl, back_to x q)
+      abbrev received : List NodeState
+      received = set nodes d (received_node s lane m (node_at nodes d))
 
-      mid_apart : (a b : ℕ) (l : Lane) → a < n → b < n → ((a ≡ s) × (b ≡ d) → ⊥) → ((a ≡ d) × (b ≡ s) → ⊥) → lane_at mid (lane_place n a b l) ≡ lane_at lanes (lane_place n a b l)
-      mid_apart a b l ha hb x y = set_other n lanes k.parts.wide s d lane hs hd rest a b l hb (λ i. x (i.source, i.goal))
+      abbrev answered : List Plain
+      answered = out_with n d o mid
 
-      pub deliver_done : (nexts : List NodeState) (a b c : List ℕ) → IsRefreshed n window s d (set nodes d (received_node s lane m (node_at nodes d))) (out_with n d o mid) starts deliveries firings nexts a b c
-          → IsDone p inputs n (Deliver s d lane) nodes lanes nexts (out_with n d o mid) a b c window strays spare
-      deliver_done = finish p inputs n nodes lanes starts deliveries firings window strays spare k (Deliver s d lane) (set nodes d (received_node s lane m (node_at nodes d))) (out_with n d o mid) s d hs hd
+      -- a receipt is no start
+      deliver_count : start_count (received_node s lane m (node_at nodes d)) ≡ start_count (node_at nodes d)
+      deliver_count = no_start (node_at nodes d).diary.locals (Received s lane m) refl
+
+      mid_size : length mid ≡ 2 * (n * n)
+      mid_size = deliver_taken.size ∙ k.parts.wide
+
+      -- no lanes changed but the one and the one back
+      deliver_apart : (y : Option Sent) → o ≡ y → (a b : ℕ) (l : Lane) → a < n → b < n → (OneLane a b l s d lane → ⊥) → (OneLane a b l d s (lane_back lane) → ⊥)
+          → lane_at (out_with n d y mid) (lane_place n a b l) ≡ lane_at lanes (lane_place n a b l)
+      deliver_apart None q a b l ha hb there back = set_other n lanes k.parts.wide s d lane hs hd rest a b l hb there
+      deliver_apart (Some x) q a b l ha hb there back =
+          set_other n mid mid_size d x.header.target (lane_of x.header.kind) hd (deliver_to x q) ((lane_at mid (lane_place n d x.header.target (lane_of x.header.kind))).messages ++ x ∷ []) a b l hb
+          (λ i. back (record { source = i.source; goal = i.goal ∙ back_to x q; kind = i.kind ∙ answers x q ∙ sym (ap lane_back (request x q)) }))
+          ∙ set_other n lanes k.parts.wide s d lane hs hd rest a b l hb there
+
+      -- no other request lane
+      deliver_rooms : (y : Option Sent) → o ≡ y → (a b : ℕ) → a < n → b < n → ((a ≡ s) × (b ≡ d) → ⊥) → lane_has (out_with n d y mid) n window a b Request ≡ lane_has lanes n window a b Request
+      deliver_rooms None q a b ha hb there =
+          ap (λ (z : Plain). nat_lt (length z.messages) window) (set_other n lanes k.parts.wide s d lane hs hd rest a b Request hb (λ i. there (i.source, i.goal)))
+      deliver_rooms (Some x) q a b ha hb there =
+          ap (λ (z : Plain). nat_lt (length z.messages) window)
+          (set_other n mid mid_size d x.header.target (lane_of x.header.kind) hd (deliver_to x q) ((lane_at mid (lane_place n d x.header.target (lane_of x.header.kind))).messages ++ x ∷ []) a b Request hb
+          (λ i. lanes_apart (sym (i.kind ∙ answers x q)))
+          ∙ set_other n lanes k.parts.wide s d lane hs hd rest a b Request hb (λ i. there (i.source, i.goal)))
+
+      deliver_renewed : IsRenewed n window received answered (gated answered n window s d received) starts
+          (delivery_mark answered n window d s (lane_back lane) (delivery_mark answered n window s d lane deliveries))
+          (firing_mark (gated answered n window s d received) s (firing_mark received d firings))
+      deliver_renewed =
+          let size = k.parts.size in
+          let length_received = length-set nodes d (received_node s lane m (node_at nodes d)) in
+          as_told n window received answered s d (omega (arith, size, length_received, hs)) starts
+          (delivery_mark answered n window d s (lane_back lane) (delivery_mark answered n window s d lane deliveries))
+          (firing_mark (gated answered n window s d received) s (firing_mark received d firings))
+          (delivered_counted n nodes lanes starts deliveries firings window k.counted k.parts.size d hd (received_node s lane m (node_at nodes d)) refl deliver_count
+          (wide_gates p inputs n nodes lanes window spare k.parts) answered s d hs hd (deliver_rooms o refl)
+          (delivery_mark answered n window d s (lane_back lane) (delivery_mark answered n window s d lane deliveries))
+          (mark_size n answered window d s (lane_back lane) (delivery_mark answered n window s d lane deliveries) ∙ mark_size n answered window s d lane deliveries ∙ k.counted.wide_deliveries)
+          (lane_marked n lanes deliveries window answered s d hs hd k.counted.wide_deliveries k.counted.of_deliveries lane (deliver_apart o refl)))
+
+      pub deliver_done : (nexts : List NodeState) (b c : List ℕ) → IsDelivered n window s d lane (set nodes d (received_node s lane m (node_at nodes d))) (out_with n d o mid) deliveries firings nexts b c
+          → IsDone p inputs n (Deliver s d lane) nodes lanes nexts (out_with n d o mid) starts b c window strays spare
+      deliver_done nexts b c is = finish p inputs n nodes lanes starts deliveries firings window strays spare k (Deliver s d lane) (set nodes d (received_node s lane m (node_at nodes d))) (out_with n d o mid)
           (parts_news p inputs n nodes lanes window strays spare k.parts k.stray d hd e mid deliver_taken deliver_enabled deliver_is o makes deliver_to deliver_open (received_node s lane m (node_at nodes d)) deliver_moved)
           (strays_news p inputs n nodes lanes window strays spare k.parts k.stray d hd e mid deliver_taken deliver_enabled deliver_is o makes deliver_to deliver_open (received_node s lane m (node_at nodes d)) deliver_moved short_here fewer)
-          (touches_news p inputs n nodes lanes window strays spare k.parts k.stray d hd e mid deliver_taken deliver_enabled deliver_is o makes deliver_to deliver_open (received_node s lane m (node_at nodes d)) deliver_moved s d (inr refl) mid_apart deliver_way)
           (scene_news p inputs n nodes lanes window strays spare k.parts k.stray d hd e mid deliver_taken deliver_enabled deliver_is o makes deliver_to deliver_open (received_node s lane m (node_at nodes d)) deliver_moved)
           (agree_back p inputs n nodes lanes window strays spare k.parts k.stray d hd e mid deliver_taken deliver_enabled deliver_is o makes deliver_to deliver_open (received_node s lane m (node_at nodes d)) deliver_moved)
+          nexts starts b c
+          (renewed_by n window received answered (gated answered n window s d received) starts
+          (delivery_mark answered n window d s (lane_back lane) (delivery_mark answered n window s d lane deliveries))
+          (λ v. firing_mark v s (firing_mark received d firings)) deliver_renewed nexts b c is.gates is.of_deliveries is.of_firings)
 
       -- as the code has it
       pub deliver_as : (later : List Plain) → later ≡ out_with n d o mid → (news : List NodeState) → news ≡ set nodes d (received_node s lane m (node_at nodes d))
-          → (nexts : List NodeState) (a b c : List ℕ) → IsRefreshed n window s d news later starts deliveries firings nexts a b c → IsDone p inputs n (Deliver s d lane) nodes lanes nexts later a b c window strays spare
-      deliver_as later out news made nexts a b c is =
-          subst (λ l. IsDone p inputs n (Deliver s d lane) nodes lanes nexts l a b c window strays spare) (sym out)
-          (deliver_done nexts a b c
-          (subst (λ l. IsRefreshed n window s d (set nodes d (received_node s lane m (node_at nodes d))) l starts deliveries firings nexts a b c) out
-          (subst (λ v. IsRefreshed n window s d v later starts deliveries firings nexts a b c) made is)))
+          → (nexts : List NodeState) (b c : List ℕ) → IsDelivered n window s d lane news later deliveries firings nexts b c → IsDone p inputs n (Deliver s d lane) nodes lanes nexts later starts b c window strays spare
+      deliver_as later out news made nexts b c is =
+          subst (λ l. IsDone p inputs n (Deliver s d lane) nodes lanes nexts l starts b c window strays spare) (sym out)
+          (deliver_done nexts b c
+          (subst (λ l. IsDelivered n window s d lane (set nodes d (received_node s lane m (node_at nodes d))) l deliveries firings nexts b c) out
+          (subst (λ v. IsDelivered n window s d lane v later deliveries firings nexts b c) made is)))

@@ -1,8 +1,8 @@
 -- Nodes that were told which of their lanes have room.
 use Rattle.std.proofs.Common.{ℕ, Bool, false, not, ◌<◌, ◌≡◌, ◌∙◌, List, get_or, length, refl, sym, ap, ap₂, subst}
-use Rattle.std.proofs.Math.ListN.{length-set}
+use Rattle.std.proofs.Math.ListN.{set, length-set}
 use Rattle.std.proofs.Math.Path.{fun_ext}
-use Rattle.std.proofs.lemmas.List.{get_or-set_other}
+use Rattle.std.proofs.lemmas.List.{get_or-set_other, set-get_or}
 use Rattle.ptl_types.specs.declared.headers.Lane.{Lane}
 use Rattle.ptl_types.specs.declared.headers.Lane.TheVariants.{Request}
 use Rattle.pair_wires.specs.Lanes.{Plain}
@@ -13,7 +13,7 @@ use Rattle.rank_node.proofs.Nodes.{gated-is}
 use Rattle.rank_node.specs.Copies.{Diary}
 use Rattle.rank_node.specs.Node.{IsNode, NodeState, gated_node}
 use Rattle.world_parts.specs.Layout.{held_in, no_node, node_at, scene_of}
-use Rattle.world_parts.specs.Marks.{gated, lane_has}
+use Rattle.world_parts.specs.Marks.{firing_count, firing_mark, gated, lane_has}
 use Rattle.world_parts.proofs.Sets.{at_set}
 
 -- a node after a gate
@@ -69,6 +69,21 @@ module _ (lanes : List Plain) (n window s d : ℕ) (nodes : List NodeState) wher
   gate_right r e v h i right rest = at_set (λ (k : NodeState). get_or k.closed e false ≡ v) nodes s r gate no_node h
       (λ a. at_set (λ c. c ≡ v) (node_at nodes s).closed d e (not (lane_has lanes n window s d Request)) false i (λ b. right (a, b)) (λ y. subst (λ q. get_or (node_at nodes q).closed e false ≡ v) a (rest (λ z. y z.1))))
       (λ x. rest (λ y. x y.0))
+
+-- a node that is told what it was told last is as it was
+pub told_same : (lanes : List Plain) (n window s d : ℕ) (nodes : List NodeState) (had : Bool)
+    → get_or (node_at nodes s).closed d false ≡ not had → lane_has lanes n window s d Request ≡ had
+    → gated lanes n window s d nodes ≡ nodes
+told_same lanes n window s d nodes had told has =
+    ap (λ b. set nodes s (gated_node d (not b) (node_at nodes s))) has
+    ∙ ap (λ b. set nodes s (gated_node d b (node_at nodes s))) (sym told)
+    ∙ ap (λ cs. set nodes s (record (node_at nodes s) { closed = cs })) (set-get_or (node_at nodes s).closed d false)
+    ∙ set-get_or nodes s no_node
+
+-- and a count that is right stays
+pub right_same : (nodes : List NodeState) (r : ℕ) (firings : List ℕ) → get_or firings r 0 ≡ firing_count (node_at nodes r)
+    → firing_mark nodes r firings ≡ firings
+right_same nodes r firings right = ap (set firings r) (sym right) ∙ set-get_or firings r 0
 
 -- histories and lanes are a scene
 pub scene_by : (w v : Histories) (a b : Lanes) → ((r : ℕ) → w r ≡ v r) → ((s d : ℕ) (lane : Lane) → a s d lane ≡ b s d lane) → (let x : Scene = record { world = w; held = a } in x) ≡ (let y : Scene = record { world = v; held = b } in y)

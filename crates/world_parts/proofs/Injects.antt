@@ -1,6 +1,7 @@
 -- A stray goes into its lane, over the parts of a world.
-use Rattle.std.proofs.Common.{ℕ, true, ◌+◌, ◌-◌, ◌<◌, ◌≤◌, ◌≡◌, ◌∙◌, List, [], ◌∷◌, ◌++◌, length, count_by, if◌then◌else◌, refl, sym, ap, ap₂, subst, inl, inr, arith, append-nil}
+use Rattle.std.proofs.Common.{ℕ, true, ◌+◌, ◌-◌, ◌<◌, ◌≤◌, ◌≡◌, ◌∙◌, List, [], ◌∷◌, ◌++◌, length, count_by, nat_lt, if◌then◌else◌, refl, sym, ap, ap₂, subst, inl, inr, arith, append-nil}
 use Rattle.std.proofs.lemmas.Bool.{cases_Bool, cases_eq}
+use Rattle.std.proofs.lemmas.List.{set-get_or}
 use Rattle.ptl_types.specs.Messages.{Sent}
 use Rattle.ptl_types.specs.declared.headers.Lane.{Lane}
 use Rattle.ptl_types.specs.declared.headers.Lane.TheVariants.{Request, Answer}
@@ -19,18 +20,27 @@ use Rattle.plan_orders.specs.Chosen.{Scene}
 use Rattle.plan_rest.proofs.Moments.{next_stray}
 use Rattle.plan_worlds.specs.Places.{lane_place}
 use Rattle.rank_node.specs.Node.{NodeState, stray_bytes}
-use Rattle.world_parts.specs.Keeps.{AreParts, AreStrays, IsWorld, strays_for}
-use Rattle.world_parts.specs.Layout.{held_in, lane_at, node_at, scene_of}
+use Rattle.world_parts.specs.Keeps.{AreCounted, AreParts, AreStrays, IsWorld, strays_for}
+use Rattle.world_parts.specs.Layout.{held_in, lane_at, no_node, node_at, scene_of}
 use Rattle.world_parts.specs.Steps.{IsInjected, injected}
+use Rattle.world_parts.proofs.Counted.{sent_counted}
 use Rattle.world_parts.proofs.Gated.{scene_by}
 use Rattle.world_parts.proofs.Held.{held_here, held_set, inside, set_capacity, set_here, set_lane, set_other, set_size}
+use Rattle.world_parts.proofs.Marked.{mark_size, request_marked}
 use Rattle.world_parts.proofs.Moving.{agree_now, few_held, slots_now}
-use Rattle.world_parts.proofs.Placed.{is_lane_of, one_lane}
-use Rattle.world_parts.proofs.Renewed.{Touches, agree_twice, renewed, scene_twice}
+use Rattle.world_parts.proofs.Placed.{OneLane, is_lane_of, one_lane}
+use Rattle.world_parts.proofs.Renewed.{IsRenewed, agree_next, as_told, renewed, renewed_by, scene_next}
 use Rattle.world_parts.proofs.Sets.{at_set, part_le, sum_le, sum_moves}
-use Rattle.world_parts.proofs.Steps.{IsRefreshed, wide_gates}
+use Rattle.world_parts.proofs.Steps.{wide_gates}
 use Rattle.world_parts.proofs.Strays.{owned_and_strays, owned_same, stray_more}
-use Rattle.world_parts.specs.Marks.{delivery_mark, firing_mark, start_mark}
+use Rattle.world_parts.specs.Marks.{delivery_mark, firing_mark, gated}
+
+-- what the code leaves after a stray from s to d
+pub record IsJoined (n window s d : ℕ) (news : List NodeState) (later : List Plain) (deliveries firings : List ℕ)
+    (nexts : List NodeState) (b c : List ℕ) : Type 0 where
+  pub gates : nexts ≡ gated later n window s d news
+  pub of_deliveries : b ≡ delivery_mark later n window s d Request deliveries
+  pub of_firings : c ≡ firing_mark nexts s firings
 
 -- the injection of a stray on a used lane is a step of the plan's ranks and strays
 pub stray_step : (ranks : System) (z : Scene) (s d : ℕ) (m : Sent) → s < ranks.count → d < ranks.count → ranks.used s d Request ≡ true
@@ -87,12 +97,28 @@ module _ (p : Plan) (inputs : Inputs) (n : ℕ) (nodes : List NodeState) (lanes 
           held_set n lanes k.parts.wide s d Request hs hd full q u l
           ∙ by_lane q u l
 
-  touches : Touches n nodes nodes lanes later s d
-  touches = record {
-    others = λ q a b. refl;
-    closed = λ q. refl;
-    apart = λ a b lane ha hb x y. set_other n lanes k.parts.wide s d Request hs hd full a b lane hb (λ o. x (o.source, o.goal));
-  }
+  -- no other lane changed
+  inject_apart : (a b : ℕ) (l : Lane) → a < n → b < n → (OneLane a b l s d Request → ⊥) → lane_at later (lane_place n a b l) ≡ lane_at lanes (lane_place n a b l)
+  inject_apart a b l ha hb x = set_other n lanes k.parts.wide s d Request hs hd full a b l hb x
+
+  abbrev told : List NodeState
+  told = gated later n window s d nodes
+
+  abbrev marked : List ℕ
+  marked = delivery_mark later n window s d Request deliveries
+
+  inject_counted : AreCounted n told later starts marked (firing_mark told s firings) window
+  inject_counted =
+      subst (λ v. AreCounted n (gated later n window s d v) later starts marked (firing_mark (gated later n window s d v) s firings) window) (set-get_or nodes s no_node)
+      (sent_counted n nodes lanes starts deliveries firings window k.counted k.parts.size s hs (node_at nodes s) refl refl
+      (wide_gates p inputs n nodes lanes window spare k.parts) later s d hs hd
+      (λ a b ha hb x. ap (λ (z : Plain). nat_lt (length z.messages) window) (inject_apart a b Request ha hb (λ i. x (i.source, i.goal))))
+      marked (mark_size n later window s d Request deliveries ∙ k.counted.wide_deliveries)
+      (request_marked n lanes deliveries window later s d hs hd k.counted.wide_deliveries k.counted.of_deliveries inject_apart)
+      refl)
+
+  inject_renewed : IsRenewed n window nodes later told starts marked (firing_mark told s firings)
+  inject_renewed = let size = k.parts.size in as_told n window nodes later s d (omega (arith, size, hs)) starts marked (firing_mark told s firings) inject_counted
 
   -- ---- strays
   more_there : (q u : ℕ) → u < n → ((q ≡ s) × (u ≡ d) → ⊥) → count_by is_stray (lane_at later (lane_place n q u Request)).messages ≤ count_by is_stray (lane_at lanes (lane_place n q u Request)).messages
@@ -131,15 +157,15 @@ module _ (p : Plan) (inputs : Inputs) (n : ℕ) (nodes : List NodeState) (lanes 
         (λ j h. k.stray.held q u lane x hq hu h e) i;
   }
 
-  module _ (nexts : List NodeState) (a b c : List ℕ) (is : IsRefreshed n window s d nodes later starts deliveries firings nexts a b c) where
-    wide : (r : ℕ) → r < n → length (node_at nodes r).closed ≡ n
-    wide = wide_gates p inputs n nodes lanes window spare k.parts
+  module _ (nexts : List NodeState) (b c : List ℕ) (is : IsJoined n window s d nodes later deliveries firings nexts b c) where
+    next : IsRenewed n window nodes later nexts starts b c
+    next = renewed_by n window nodes later told starts marked (λ v. firing_mark v s firings) inject_renewed nexts b c is.gates is.of_deliveries is.of_firings
 
     pub inject_step : IsInjected n s d m nodes lanes nexts later
-    inject_step = subst (λ v. IsInjected n s d m nodes lanes v later) (sym is.gates) (record {
-      scene = scene_twice n nodes lanes starts deliveries firings window k.counted nodes later s d hs hd k.parts.size wide touches ∙ is_injected;
-      slots = agree_twice n nodes lanes starts deliveries firings window k.counted nodes later s d hs hd k.parts.size wide touches;
-    })
+    inject_step = record {
+      scene = scene_next n window nodes later nexts starts b c next ∙ is_injected;
+      slots = agree_next n window nodes later nexts starts b c next;
+    }
 
     -- on a used lane a world is left
     module _ (source : m.header.source ≡ s) (target : m.header.target ≡ d) (kept : IsKept m) (short : length m.bytes ≤ stray_bytes) (used : is_used_lane p s d Request ≡ true) where
@@ -165,21 +191,16 @@ module _ (p : Plan) (inputs : Inputs) (n : ℕ) (nodes : List NodeState) (lanes 
             (λ j. let e = owned_same (lane_at lanes (lane_place n s d Request)).messages m stray in let f = k.parts.within s d Request hs hd in omega (arith, e, f)) (λ j. k.parts.within q u lane hq hu);
       }
 
-      pub inject_world : IsWorld p inputs n nexts later a b c window (strays - 1) spare
-      inject_world =
-          subst (λ u. IsWorld p inputs n nexts later u b c window (strays - 1) spare) (sym is.of_starts)
-          (subst (λ u. IsWorld p inputs n nexts later (start_mark nexts d (start_mark nexts s starts)) u c window (strays - 1) spare) (sym is.of_deliveries)
-          (subst (λ u. IsWorld p inputs n nexts later (start_mark nexts d (start_mark nexts s starts)) (delivery_mark later n window d s Answer (delivery_mark later n window d s Request (delivery_mark later n window s d Answer (delivery_mark later n window s d Request deliveries)))) u window (strays - 1) spare) (sym is.of_firings)
-          (subst (λ v. IsWorld p inputs n v later (start_mark v d (start_mark v s starts)) (delivery_mark later n window d s Answer (delivery_mark later n window d s Request (delivery_mark later n window s d Answer (delivery_mark later n window s d Request deliveries)))) (firing_mark v d (firing_mark v s firings)) window (strays - 1) spare) (sym is.gates)
-          (renewed n nodes lanes starts deliveries firings window k.counted nodes later s d hs hd k.parts.size wide touches p inputs (strays - 1) spare parts_injected (strays_injected short)))))
+      pub inject_world : IsWorld p inputs n nexts later starts b c window (strays - 1) spare
+      inject_world = renewed n window nodes later nexts starts b c next p inputs (strays - 1) spare parts_injected (strays_injected short)
 
   -- ---- as the code has it
-  module _ (left : List Plain) (put : left ≡ later) (nexts : List NodeState) (a b c : List ℕ) (is : IsRefreshed n window s d nodes left starts deliveries firings nexts a b c) where
-    refreshed : IsRefreshed n window s d nodes later starts deliveries firings nexts a b c
-    refreshed = subst (λ l. IsRefreshed n window s d nodes l starts deliveries firings nexts a b c) put is
+  module _ (left : List Plain) (put : left ≡ later) (nexts : List NodeState) (b c : List ℕ) (is : IsJoined n window s d nodes left deliveries firings nexts b c) where
+    joined : IsJoined n window s d nodes later deliveries firings nexts b c
+    joined = subst (λ l. IsJoined n window s d nodes l deliveries firings nexts b c) put is
 
     pub inject_step_as : IsInjected n s d m nodes lanes nexts left
-    inject_step_as = subst (λ l. IsInjected n s d m nodes lanes nexts l) (sym put) (inject_step nexts a b c refreshed)
+    inject_step_as = subst (λ l. IsInjected n s d m nodes lanes nexts l) (sym put) (inject_step nexts b c joined)
 
-    pub inject_world_as : m.header.source ≡ s → m.header.target ≡ d → IsKept m → length m.bytes ≤ stray_bytes → is_used_lane p s d Request ≡ true → IsWorld p inputs n nexts left a b c window (strays - 1) spare
-    inject_world_as source target kept short used = subst (λ l. IsWorld p inputs n nexts l a b c window (strays - 1) spare) (sym put) (inject_world nexts a b c refreshed source target kept short used)
+    pub inject_world_as : m.header.source ≡ s → m.header.target ≡ d → IsKept m → length m.bytes ≤ stray_bytes → is_used_lane p s d Request ≡ true → IsWorld p inputs n nexts left starts b c window (strays - 1) spare
+    inject_world_as source target kept short used = subst (λ l. IsWorld p inputs n nexts l starts b c window (strays - 1) spare) (sym put) (inject_world nexts b c joined source target kept short used)

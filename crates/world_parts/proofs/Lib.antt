@@ -5,6 +5,7 @@ pub mod Held
 pub mod Gated
 pub mod Marked
 pub mod Renewed
+pub mod Counted
 pub mod Moving
 pub mod Steps
 pub mod Delivers

@@ -44,8 +44,8 @@ use Rattle.world_parts.specs.Keeps.{AgreeAll, AreParts, AreStrays, spare_on, str
 use Rattle.world_parts.specs.Layout.{held_in, lane_at, no_node, node_at, scene_of}
 use Rattle.world_parts.specs.Marks.{HasPlace, out_with, sent_out}
 use Rattle.world_parts.proofs.Gated.{scene_by}
-use Rattle.world_parts.proofs.Held.{held_here, held_out, inside, set_capacity, set_here, set_other, set_size}
-use Rattle.world_parts.proofs.Renewed.{Touches}
+use Rattle.world_parts.proofs.Held.{held_here, held_out, inside, set_capacity, set_here, set_size}
+use Rattle.world_parts.proofs.Placed.{lanes_apart}
 use Rattle.world_parts.proofs.Sets.{at_set, part_le, sum_le}
 use Rattle.world_parts.proofs.Strays.{clean_more, none_count, owned_and_strays, owned_more, short_more}
 
@@ -53,7 +53,6 @@ use Rattle.world_parts.proofs.Strays.{clean_more, none_count, owned_and_strays, 
 pub record Moved (old new : NodeState) (e : Local) : Type 0 where
   pub task : new.task ≡ old.task
   pub strays : new.strays ≡ old.strays
-  pub closed : new.closed ≡ old.closed
   pub locals : new.diary.locals ≡ old.diary.locals ++ e ∷ []
   pub slots : (k : Slots) → Agrees k new.kept → Agrees k old.kept
   pub node : IsNode new
@@ -68,9 +67,6 @@ pub record Taken (lanes mid : List Plain) : Type 0 where
 
 pub none_taken : (lanes : List Plain) → Taken lanes lanes
 none_taken lanes = record { size = refl; capacity = λ i. refl; members = λ i m h. h; strays = λ i. omega arith; own = λ i. omega arith }
-
-pub lanes_apart : Answer ≡ Request → ⊥
-lanes_apart e = cc
 
 pub clash : {b : Bool} → b ≡ false → b ≡ true → ⊥
 clash e i = cc
@@ -259,17 +255,14 @@ module _ (p : Plan) (inputs : Inputs) (n : ℕ) (nodes : List NodeState) (lanes 
           inside_nodes : r < length nodes
           inside_nodes = let a = parts.size in omega arith
 
-          pub news_size : length news ≡ n
+          news_size : length news ≡ n
           news_size = length-set nodes r new ∙ parts.size
 
           new_here : node_at news r ≡ new
           new_here = get_or-set_same nodes r new no_node inside_nodes
 
-          pub news_other : (q : ℕ) → (q ≡ r → ⊥) → node_at news q ≡ node_at nodes q
+          news_other : (q : ℕ) → (q ≡ r → ⊥) → node_at news q ≡ node_at nodes q
           news_other q x = get_or-set_other nodes r q new no_node x
-
-          pub news_closed : (q : ℕ) → (node_at news q).closed ≡ (node_at nodes q).closed
-          news_closed q = at_set (λ (v : NodeState). v.closed ≡ (node_at nodes q).closed) nodes r q new no_node inside_nodes (λ i. moved.closed ∙ ap (λ t. (node_at nodes t).closed) (sym i)) (λ x. refl)
 
           pub agree_back : (slots : ℕ → Slots) → AgreeAll n slots news → AgreeAll n slots nodes
           agree_back slots a q h = elim (cases_eq q r) [
@@ -303,24 +296,6 @@ module _ (p : Plan) (inputs : Inputs) (n : ℕ) (nodes : List NodeState) (lanes 
             room = λ s d lane hs hd. let a = parts.room s d lane hs hd in let b = later_capacity (lane_place n s d lane) in omega (arith, a, b);
             within = later_within;
           }
-
-          -- what it touches
-          pub touches_news : (s d : ℕ) → (r ≡ s) ⊎ (r ≡ d)
-              → ((a b : ℕ) (lane : Lane) → a < n → b < n → ((a ≡ s) × (b ≡ d) → ⊥) → ((a ≡ d) × (b ≡ s) → ⊥) → lane_at mid (lane_place n a b lane) ≡ lane_at lanes (lane_place n a b lane))
-              → ((m : Sent) → o ≡ Some m → ((r ≡ s) × (m.header.target ≡ d)) ⊎ ((r ≡ d) × (m.header.target ≡ s)))
-              → Touches n nodes news lanes later s d
-          touches_news s d here apart way = record {
-            others = λ q a b. news_other q (λ i. elim here [ inl x ↦ a (i ∙ x) | inr x ↦ b (i ∙ x) ]);
-            closed = news_closed;
-            apart = λ a b lane ha hb x y. at o refl a b lane ha hb x y;
-          }
-            where
-              at : (z : Option Sent) → o ≡ z → (a b : ℕ) (lane : Lane) → a < n → b < n → ((a ≡ s) × (b ≡ d) → ⊥) → ((a ≡ d) × (b ≡ s) → ⊥) → lane_at (out_with n r z mid) (lane_place n a b lane) ≡ lane_at lanes (lane_place n a b lane)
-              at None q a b lane ha hb x y = apart a b lane ha hb x y
-              at (Some m) q a b lane ha hb x y =
-                  set_other n mid mid_size r m.header.target (lane_of m.header.kind) hr (goes m q) ((lane_at mid (lane_place n r m.header.target (lane_of m.header.kind))).messages ++ m ∷ []) a b lane hb
-                  (λ i. elim (way m q) [ inl w ↦ x (i.source ∙ w.0, i.goal ∙ w.1) | inr w ↦ y (i.source ∙ w.0, i.goal ∙ w.1) ])
-                  ∙ apart a b lane ha hb x y
 
           -- no more strays than before
           module _ (short : AreShort (e ∷ [])) (fewer : sum_by (λ s. count_by is_stray (lane_at mid (lane_place n s r Request)).messages) (from_to 0 n) + count_by is_received_stray (e ∷ []) ≤ sum_by (λ s. count_by is_stray (lane_at lanes (lane_place n s r Request)).messages) (from_to 0 n)) where

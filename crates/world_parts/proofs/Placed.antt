@@ -7,6 +7,7 @@ use Rattle.ptl_types.specs.declared.headers.Lane.TheVariants.{Request, Answer}
 use Rattle.plan_cuts.specs.History.{same_lane}
 use Rattle.plan_rest.proofs.Longer.{same_lane-true}
 use Rattle.plan_worlds.specs.Places.{goal_at, kind_at, lane_place, source_at}
+use Rattle.world_parts.specs.Marks.{lane_back}
 
 pair_apart : (n s d t e : ℕ) → d < n → e < n → s * n + d ≡ t * n + e → (s ≡ t) × (d ≡ e)
 pair_apart n s d t e h k q = (
@@ -29,6 +30,14 @@ lane_apart n s d Answer t e Request h k q = absurd (omega arith)
 pub lane_in : (n s d : ℕ) (lane : Lane) → s < n → d < n → lane_place n s d lane < 2 * (n * n)
 lane_in n s d Request h k = let a : s * n + d < n * n = mul-add-lt s n d n h k in omega arith
 lane_in n s d Answer h k = let a : s * n + d < n * n = mul-add-lt s n d n h k in omega arith
+
+pub lanes_apart : Answer ≡ Request → ⊥
+lanes_apart e = cc
+
+-- the lane back from the lane back
+pub back_back : (l : Lane) → lane_back (lane_back l) ≡ l
+back_back Request = refl
+back_back Answer = refl
 
 -- whether two are one lane
 abbrev pub is_lane_of : ℕ → ℕ → Lane → ℕ → ℕ → Lane → Bool

@@ -1,9 +1,7 @@
--- The parts after a step, with the counts of the ranks and lanes that it touched made anew, are those of a world.
-use Rattle.std.proofs.Common.{ℕ, false, not, ◌+◌, ◌<◌, ◌≤◌, ◌≡◌, ◌∙◌, List, get_or, length, nat_lt, count_by, sum_by, sym, ap, ap₂, subst, arith}
-use Rattle.std.proofs.Math.ListN.{length-set}
-use Rattle.ptl_types.specs.declared.headers.Lane.{Lane}
-use Rattle.ptl_types.specs.declared.headers.Lane.TheVariants.{Request, Answer}
+-- The parts after a step, with gates told and counts made right, are those of a world.
+use Rattle.std.proofs.Common.{ℕ, ◌+◌, ◌<◌, ◌≤◌, ◌≡◌, ◌∙◌, List, length, count_by, sum_by, refl, sym, subst}
 use Rattle.pair_wires.specs.Lanes.{Plain}
+use Rattle.ptl_types.specs.declared.headers.Lane.TheVariants.{Request}
 use Rattle.plan_core.specs.Plan.{Plan, from_to}
 use Rattle.plan_core.specs.Values.{Inputs}
 use Rattle.plan_view.specs.Slots.{Slots}
@@ -19,98 +17,50 @@ use Rattle.rank_node.specs.Node.{NodeState}
 use Rattle.rank_node.specs.Plans.{IsCompiledFor}
 use Rattle.world_parts.specs.Keeps.{AgreeAll, AreCounted, AreParts, AreStrays, IsWorld}
 use Rattle.world_parts.specs.Layout.{lane_at, node_at, scene_of}
-use Rattle.world_parts.specs.Marks.{delivery_count, delivery_mark, firing_count, firing_mark, gated, lane_has, start_count, start_mark}
-use Rattle.world_parts.proofs.Gated.{IsGated, gate_right, gated_other, gated_size, gates_after, is_gated, scene_gated}
-use Rattle.world_parts.proofs.Marked.{deliveries_marked, marked_size}
-use Rattle.world_parts.proofs.Sets.{two_marks}
+use Rattle.world_parts.specs.Marks.{gated}
+use Rattle.world_parts.proofs.Gated.{IsGated, gated_size, is_gated, same_gates, scene_gated}
 
--- what a step between ranks s and d changes: these two nodes, but for their gates, and the lanes between them
-pub record Touches (n : ℕ) (nodes news : List NodeState) (lanes later : List Plain) (s d : ℕ) : Type 0 where
-  pub others : (q : ℕ) → (q ≡ s → ⊥) → (q ≡ d → ⊥) → node_at news q ≡ node_at nodes q
-  pub closed : (q : ℕ) → (node_at news q).closed ≡ (node_at nodes q).closed
-  pub apart : (a b : ℕ) (lane : Lane) → a < n → b < n → ((a ≡ s) × (b ≡ d) → ⊥) → ((a ≡ d) × (b ≡ s) → ⊥)
-      → lane_at later (lane_place n a b lane) ≡ lane_at lanes (lane_place n a b lane)
+-- nodes that differ from those after the step by their gates alone, and counts that are right
+pub record IsRenewed (n window : ℕ) (news : List NodeState) (later : List Plain) (nexts : List NodeState) (a b c : List ℕ)
+    : Type 0 where
+  pub size : length nexts ≡ length news
+  pub told : (r : ℕ) → IsGated (node_at news r) (node_at nexts r)
+  pub counted : AreCounted n nexts later a b c window
 
-module _ (n : ℕ) (nodes : List NodeState) (lanes : List Plain) (starts deliveries firings : List ℕ) (window : ℕ) (k : AreCounted n nodes lanes starts deliveries firings window)
-    (news : List NodeState) (later : List Plain) (s d : ℕ) (hs : s < n) (hd : d < n) (size : length news ≡ n) (wide : (r : ℕ) → r < n → length (node_at nodes r).closed ≡ n)
-    (touches : Touches n nodes news lanes later s d) where
-  abbrev once : List NodeState
-  once = gated later n window s d news
+-- no node is told anything
+pub as_is : (n window : ℕ) (news : List NodeState) (later : List Plain) (a b c : List ℕ) → AreCounted n news later a b c window
+    → IsRenewed n window news later news a b c
+as_is n window news later a b c k = record { size = refl; told = λ r. same_gates (node_at news r); counted = k }
 
-  abbrev twice : List NodeState
-  twice = gated later n window d s (gated later n window s d news)
+-- one is told of one lane
+pub as_told : (n window : ℕ) (news : List NodeState) (later : List Plain) (s d : ℕ) → s < length news → (a b c : List ℕ)
+    → AreCounted n (gated later n window s d news) later a b c window
+    → IsRenewed n window news later (gated later n window s d news) a b c
+as_told n window news later s d h a b c k =
+    record { size = gated_size later n window s d news; told = λ r. is_gated later n window s d news r h; counted = k }
 
-  once_size : length once ≡ n
-  once_size = gated_size later n window s d news ∙ size
+-- as the code has it
+pub renewed_by : (n window : ℕ) (news : List NodeState) (later : List Plain) (g : List NodeState) (a e : List ℕ)
+    (f : List NodeState → List ℕ) → IsRenewed n window news later g a e (f g)
+    → (nexts : List NodeState) (b c : List ℕ) → nexts ≡ g → b ≡ e → c ≡ f nexts → IsRenewed n window news later nexts a b c
+renewed_by n window news later g a e f k nexts b c gates deliveries firings =
+    subst (λ u. IsRenewed n window news later nexts a b u) (sym firings)
+    (subst (λ u. IsRenewed n window news later nexts a u (f nexts)) (sym deliveries)
+    (subst (λ v. IsRenewed n window news later v a e (f v)) (sym gates) k))
 
-  pub twice_size : length twice ≡ n
-  twice_size = gated_size later n window d s once ∙ once_size
-
-  one : (r : ℕ) → IsGated (node_at news r) (node_at once r)
-  one r = is_gated later n window s d news r (omega arith)
-
-  pub two : (r : ℕ) → IsGated (node_at news r) (node_at twice r)
-  two r = let e = once_size in gates_after (node_at news r) (node_at once r) (node_at twice r) (one r) (is_gated later n window d s once r (omega arith))
-
-  -- a rank that isn't touched
-  untouched : (r : ℕ) → (r ≡ s → ⊥) → (r ≡ d → ⊥) → node_at twice r ≡ node_at nodes r
-  untouched r a b = gated_other later n window d s once r b ∙ gated_other later n window s d news r a ∙ touches.others r a b
-
-  wide_news : (r : ℕ) → r < n → length (node_at news r).closed ≡ n
-  wide_news r h = ap length (touches.closed r) ∙ wide r h
-
-  gates_right : (r e : ℕ) → r < n → e < n → get_or (node_at twice r).closed e false ≡ not (lane_has later n window r e Request)
-  gates_right r e hr he =
-      let a = once_size in
-      let b = (one d).wide ∙ wide_news d hd in
-      let c = wide_news s hs in
-      gate_right later n window d s once r e (not (lane_has later n window r e Request)) (omega arith) (omega arith)
-      (λ q. here d s q)
-      (λ p. gate_right later n window s d news r e (not (lane_has later n window r e Request)) (omega arith) (omega arith)
-      (λ q. here s d q)
-      (λ q. ap (λ xs. get_or xs e false) (touches.closed r) ∙ k.gates r e hr he ∙ ap (λ (x : Plain). not (nat_lt (length x.messages) window)) (sym (touches.apart r e Request hr he q p))))
-    where
-      here : (a b : ℕ) → (r ≡ a) × (e ≡ b) → not (lane_has later n window a b Request) ≡ not (lane_has later n window r e Request)
-      here a b q = ap₂ (λ x y. not (lane_has later n window x y Request)) (sym q.0) (sym q.1)
-
-  starts_right : (r : ℕ) → r < n → get_or (start_mark twice d (start_mark twice s starts)) r 0 ≡ start_count (node_at twice r)
-  starts_right r h =
-      let e = k.wide_starts in
-      two_marks (λ q. start_count (node_at twice q)) starts s d r (omega arith) (omega arith) (λ a b. k.of_starts r h ∙ ap start_count (sym (untouched r a b)))
-
-  firings_right : (r : ℕ) → r < n → get_or (firing_mark twice d (firing_mark twice s firings)) r 0 ≡ firing_count (node_at twice r)
-  firings_right r h =
-      let e = k.wide_firings in
-      two_marks (λ q. firing_count (node_at twice q)) firings s d r (omega arith) (omega arith) (λ a b. k.of_firings r h ∙ ap firing_count (sym (untouched r a b)))
-
-  -- ---- deliveries
-  abbrev mark : ℕ → ℕ → Lane → List ℕ → List ℕ
-  mark a b lane xs = delivery_mark later n window a b lane xs
-
-  deliveries_right : (q u : ℕ) (l : Lane) → q < n → u < n → get_or (mark d s Answer (mark d s Request (mark s d Answer (mark s d Request deliveries)))) (lane_place n q u l) 0 ≡ delivery_count later n window q u l
-  deliveries_right = deliveries_marked n lanes deliveries window later s d hs hd k.wide_deliveries k.of_deliveries touches.apart
-
-  pub counted : AreCounted n twice later (start_mark twice d (start_mark twice s starts)) (mark d s Answer (mark d s Request (mark s d Answer (mark s d Request deliveries)))) (firing_mark twice d (firing_mark twice s firings)) window
-  counted = record {
-    wide_starts = length-set (start_mark twice s starts) d (start_count (node_at twice d)) ∙ length-set starts s (start_count (node_at twice s)) ∙ k.wide_starts;
-    wide_deliveries = marked_size n later window s d deliveries ∙ k.wide_deliveries;
-    wide_firings = length-set (firing_mark twice s firings) d (firing_count (node_at twice d)) ∙ length-set firings s (firing_count (node_at twice s)) ∙ k.wide_firings;
-    of_starts = starts_right;
-    of_firings = firings_right;
-    of_deliveries = deliveries_right;
-    gates = gates_right;
-  }
-
+module _ (n window : ℕ) (news : List NodeState) (later : List Plain) (nexts : List NodeState) (a b c : List ℕ)
+    (is : IsRenewed n window news later nexts a b c) where
   -- ---- what the nodes keep
-  pub agree_twice : (slots : ℕ → Slots) → AgreeAll n slots twice → AgreeAll n slots news
-  agree_twice slots a r h = subst (Agrees (slots r)) (two r).kept (a r h)
+  pub agree_next : (slots : ℕ → Slots) → AgreeAll n slots nexts → AgreeAll n slots news
+  agree_next slots g r h = subst (Agrees (slots r)) (is.told r).kept (g r h)
 
-  pub scene_twice : scene_of n twice later ≡ scene_of n news later
-  scene_twice = scene_gated n news twice later two
+  pub scene_next : scene_of n nexts later ≡ scene_of n news later
+  scene_next = scene_gated n news nexts later is.told
 
-  module _ (p : Plan) (inputs : Inputs) (strays spare : ℕ) (parts : AreParts p inputs n news later window spare) (room : AreStrays n news later strays spare) where
-    parts_twice : AreParts p inputs n twice later window spare
-    parts_twice = record {
+  module _ (p : Plan) (inputs : Inputs) (strays spare : ℕ) (parts : AreParts p inputs n news later window spare)
+      (room : AreStrays n news later strays spare) where
+    parts_next : AreParts p inputs n nexts later window spare
+    parts_next = record {
       few = parts.few;
       count = parts.count;
       sound = parts.sound;
@@ -119,19 +69,22 @@ module _ (n : ℕ) (nodes : List NodeState) (lanes : List Plain) (starts deliver
       wide = parts.wide;
       room = parts.room;
       within = parts.within;
-      size = twice_size;
-      compiled = λ r h. subst (IsCompiledFor p inputs r) (sym (two r).task) (parts.compiled r h);
-      node = λ r h. (two r).node (parts.node r h);
-      moment = λ slots a. subst (λ (z : Scene). IsMoment (system_of p inputs slots) z.world z.held) (sym scene_twice) (parts.moment slots (agree_twice slots a));
+      size = is.size ∙ parts.size;
+      compiled = λ r h. subst (IsCompiledFor p inputs r) (sym (is.told r).task) (parts.compiled r h);
+      node = λ r h. (is.told r).node (parts.node r h);
+      moment = λ slots g. subst (λ (z : Scene). IsMoment (system_of p inputs slots) z.world z.held) (sym scene_next)
+          (parts.moment slots (agree_next slots g));
     }
 
-    strays_twice : AreStrays n twice later strays spare
-    strays_twice = record {
-      room = λ r h. (two r).strays ∙ room.room r h;
-      few = λ q h. subst (λ (x : Diary). count_by is_received_stray x.locals + sum_by (λ a. count_by is_stray (lane_at later (lane_place n a q Request)).messages) (from_to 0 n) + strays ≤ spare) (sym (two q).diary) (room.few q h);
-      received = λ r h. subst (λ (x : Diary). AreShort x.locals) (sym (two r).diary) (room.received r h);
+    strays_next : AreStrays n nexts later strays spare
+    strays_next = record {
+      room = λ r h. (is.told r).strays ∙ room.room r h;
+      few = λ q h. subst (λ (x : Diary). count_by is_received_stray x.locals
+          + sum_by (λ s. count_by is_stray (lane_at later (lane_place n s q Request)).messages) (from_to 0 n) + strays ≤ spare)
+          (sym (is.told q).diary) (room.few q h);
+      received = λ r h. subst (λ (x : Diary). AreShort x.locals) (sym (is.told r).diary) (room.received r h);
       held = room.held;
     }
 
-    pub renewed : IsWorld p inputs n twice later (start_mark twice d (start_mark twice s starts)) (mark d s Answer (mark d s Request (mark s d Answer (mark s d Request deliveries)))) (firing_mark twice d (firing_mark twice s firings)) window strays spare
-    renewed = record { parts = parts_twice; counted = counted; stray = strays_twice }
+    pub renewed : IsWorld p inputs n nexts later a b c window strays spare
+    renewed = record { parts = parts_next; counted = is.counted; stray = strays_next }

@@ -1,15 +1,17 @@
 -- The kinds of step over the parts of a world.
-use Rattle.std.proofs.Common.{ℕ, Bool, true, false, not, ◌<◌, ◌≡◌, ◌⊎◌, ◌∙◌, List, [], ◌∷◌, ◌++◌, Option, Some, None, length, count_by, if◌then◌else◌, refl, sym, ap, subst, inl, arith}
-use Rattle.std.proofs.Math.ListN.{set}
+use Rattle.std.proofs.Common.{ℕ, Bool, true, false, not, cond, ◌<◌, ◌≡◌, ◌∙◌, List, [], ◌∷◌, ◌++◌, Option, Some, None, is_some, length, count_by, nat_lt, if◌then◌else◌, refl, sym, ap, subst, arith}
+use Rattle.std.proofs.Math.ListN.{set, length-set}
 use Rattle.std.proofs.lemmas.Bool.{and_parts, ltb-true}
 use Rattle.ptl_types.specs.Kinds.{lane_of}
 use Rattle.ptl_types.specs.Messages.{Sent}
+use Rattle.ptl_types.specs.declared.headers.Lane.{Lane}
 use Rattle.ptl_types.specs.declared.headers.Lane.TheVariants.{Request, Answer}
 use Rattle.ni_model.specs.Ready.{fired, is_ready, target_at}
 use Rattle.ni_model.specs.State.{State}
 use Rattle.pair_wires.specs.Lanes.{Plain}
 use Rattle.plan_core.specs.Plan.{Plan}
 use Rattle.plan_core.specs.Values.{Inputs}
+use Rattle.plan_core.proofs.Lists.{count-append, count-cons}
 use Rattle.plan_view.specs.Calls.{prepare}
 use Rattle.plan_view.specs.Slots.{Slots}
 use Rattle.plan_cuts.specs.History.{Beginning, Local, after, is_start, made, state}
@@ -30,20 +32,24 @@ use Rattle.rank_node.proofs.Sending.{fired-target, rank_of}
 use Rattle.rank_node.specs.Copies.{Diary}
 use Rattle.rank_node.specs.Gates.{may_go, goes_out}
 use Rattle.rank_node.specs.Node.{IsNode, IsStarted, NodeState, fired_node}
-use Rattle.world_parts.specs.Keeps.{AgreeAll, AreParts, AreStrays, IsWorld}
+use Rattle.world_parts.specs.Keeps.{AgreeAll, AreCounted, AreParts, AreStrays, IsWorld}
 use Rattle.world_parts.specs.Layout.{held_in, lane_at, no_node, node_at, scene_of}
-use Rattle.world_parts.specs.Marks.{HasPlace, delivery_mark, firing_mark, gated, lane_has, out_with, receiver, start_mark}
+use Rattle.world_parts.specs.Marks.{HasPlace, delivery_mark, firing_mark, gated, lane_has, out_with, receiver, sent_out, start_count, start_mark}
 use Rattle.world_parts.specs.Steps.{IsStepped}
-use Rattle.world_parts.proofs.Moving.{Moved, agree_back, agree_now, may_go_out, nic_is, none_taken, parts_news, scene_news, slots_now, strays_news, touches_news}
-use Rattle.world_parts.proofs.Renewed.{Touches, agree_twice, renewed, scene_twice}
+use Rattle.world_parts.proofs.Counted.{sent_counted, silent_counted, start_counted}
+use Rattle.world_parts.proofs.Held.{set_other}
+use Rattle.world_parts.proofs.Marked.{mark_size, request_marked}
+use Rattle.world_parts.proofs.Moving.{Moved, agree_back, agree_now, may_go_out, nic_is, none_taken, parts_news, scene_news, slots_now, strays_news}
+use Rattle.world_parts.proofs.Placed.{OneLane}
+use Rattle.world_parts.proofs.Renewed.{IsRenewed, agree_next, as_is, as_told, renewed, renewed_by, scene_next}
 use Rattle.world_parts.proofs.Sets.{at_set}
 
--- what the code leaves, when the nodes and lanes between ranks s and d changed
-pub record IsRefreshed (n window s d : ℕ) (news : List NodeState) (later : List Plain) (starts deliveries firings : List ℕ) (nexts : List NodeState) (a b c : List ℕ) : Type 0 where
-  pub gates : nexts ≡ gated later n window d s (gated later n window s d news)
-  pub of_starts : a ≡ start_mark nexts d (start_mark nexts s starts)
-  pub of_firings : c ≡ firing_mark nexts d (firing_mark nexts s firings)
-  pub of_deliveries : b ≡ delivery_mark later n window d s Answer (delivery_mark later n window d s Request (delivery_mark later n window s d Answer (delivery_mark later n window s d Request deliveries)))
+-- what the code leaves after a firing of rank r, which sends to rank d or nowhere
+pub record IsFired (n window r d : ℕ) (sends : Bool) (news : List NodeState) (later : List Plain) (deliveries firings : List ℕ)
+    (nexts : List NodeState) (b c : List ℕ) : Type 0 where
+  pub gates : nexts ≡ (if sends then gated later n window r d news else news)
+  pub of_deliveries : b ≡ (if sends then delivery_mark later n window r d Request deliveries else deliveries)
+  pub of_firings : c ≡ firing_mark nexts r firings
 
 -- a step was made
 pub record IsDone (p : Plan) (inputs : Inputs) (n : ℕ) (x : Step) (nodes : List NodeState) (lanes : List Plain) (nexts : List NodeState) (later : List Plain) (a b c : List ℕ) (window strays spare : ℕ) : Type 0 where
@@ -65,30 +71,34 @@ wide_news p inputs n nodes lanes window spare parts r hr new same q hq =
     let size = parts.size in
     at_set (λ (v : NodeState). length v.closed ≡ n) nodes r q new no_node (omega (arith, size)) (λ i. ap length same ∙ wide_gates p inputs n nodes lanes window spare parts r hr) (λ x. wide_gates p inputs n nodes lanes window spare parts q hq)
 
+-- a step that is no start leaves how often a rank started
+pub no_start : (locals : List Local) (e : Local) → is_start e ≡ false
+    → ◌≡◌ {A = ℕ} (if nat_lt 0 (count_by is_start (locals ++ e ∷ [])) then 0 else 1) (if nat_lt 0 (count_by is_start locals) then 0 else 1)
+no_start locals e none =
+    let a = count-append is_start locals (e ∷ []) in
+    let b = count-cons is_start e [] in
+    let i = ap (λ x. cond {A = ℕ} x 1 0) none in
+    let same : count_by is_start (locals ++ e ∷ []) ≡ count_by is_start locals = omega (arith, a, b, i) in
+    ap (λ x. if nat_lt 0 x then 0 else 1) same
+
 not-not : (b : Bool) → not (not b) ≡ b
 not-not true = refl
 not-not false = refl
 
 module _ (p : Plan) (inputs : Inputs) (n : ℕ) (nodes : List NodeState) (lanes : List Plain) (starts deliveries firings : List ℕ) (window strays spare : ℕ) (k : IsWorld p inputs n nodes lanes starts deliveries firings window strays spare) where
   -- whatever the step is
-  pub finish : (x : Step) (news : List NodeState) (later : List Plain) (s d : ℕ) → s < n → d < n → AreParts p inputs n news later window spare → AreStrays n news later strays spare → Touches n nodes news lanes later s d
+  pub finish : (x : Step) (news : List NodeState) (later : List Plain) → AreParts p inputs n news later window spare → AreStrays n news later strays spare
       → ((slots : ℕ → Slots) → AgreeAll n slots news → scene_of n news later ≡ step_made (system_of p inputs slots) x (scene_of n nodes lanes))
       → ((slots : ℕ → Slots) → AgreeAll n slots news → AgreeAll n slots nodes)
-      → (nexts : List NodeState) (a b c : List ℕ) → IsRefreshed n window s d news later starts deliveries firings nexts a b c
+      → (nexts : List NodeState) (a b c : List ℕ) → IsRenewed n window news later nexts a b c
       → IsDone p inputs n x nodes lanes nexts later a b c window strays spare
-  finish x news later s d hs hd parts room touches scene back nexts a b c is =
-      let wide = wide_gates p inputs n nodes lanes window spare k.parts in
-      subst (λ u. IsDone p inputs n x nodes lanes nexts later u b c window strays spare) (sym is.of_starts)
-      (subst (λ u. IsDone p inputs n x nodes lanes nexts later (start_mark nexts d (start_mark nexts s starts)) u c window strays spare) (sym is.of_deliveries)
-      (subst (λ u. IsDone p inputs n x nodes lanes nexts later (start_mark nexts d (start_mark nexts s starts)) (delivery_mark later n window d s Answer (delivery_mark later n window d s Request (delivery_mark later n window s d Answer (delivery_mark later n window s d Request deliveries)))) u window strays spare) (sym is.of_firings)
-      (subst (λ v. IsDone p inputs n x nodes lanes v later (start_mark v d (start_mark v s starts)) (delivery_mark later n window d s Answer (delivery_mark later n window d s Request (delivery_mark later n window s d Answer (delivery_mark later n window s d Request deliveries)))) (firing_mark v d (firing_mark v s firings)) window strays spare) (sym is.gates)
-      (record {
-        step = record {
-          scene = λ slots g. scene_twice n nodes lanes starts deliveries firings window k.counted news later s d hs hd parts.size wide touches ∙ scene slots (agree_twice n nodes lanes starts deliveries firings window k.counted news later s d hs hd parts.size wide touches slots g);
-          slots = λ slots g. back slots (agree_twice n nodes lanes starts deliveries firings window k.counted news later s d hs hd parts.size wide touches slots g);
-        };
-        world = renewed n nodes lanes starts deliveries firings window k.counted news later s d hs hd parts.size wide touches p inputs strays spare parts room;
-      }))))
+  finish x news later parts room scene back nexts a b c is = record {
+    step = record {
+      scene = λ slots g. scene_next n window news later nexts a b c is ∙ scene slots (agree_next n window news later nexts a b c is slots g);
+      slots = λ slots g. back slots (agree_next n window news later nexts a b c is slots g);
+    };
+    world = renewed n window news later nexts a b c is p inputs strays spare parts room;
+  }
 
   -- ---- a firing
   module _ (r : ℕ) (hr : r < n) (t : ℕ) (may : may_go (node_at nodes r).closed (node_at nodes r).nic t ≡ true) where
@@ -102,7 +112,7 @@ module _ (p : Plan) (inputs : Inputs) (n : ℕ) (nodes : List NodeState) (lanes 
     fire_is slots a = refl
 
     fire_moved : Moved (node_at nodes r) (fired_node t (node_at nodes r)) (Fired t)
-    fire_moved = record { task = refl; strays = refl; closed = refl; locals = refl; slots = λ q a. a; node = fire-node (node_at nodes r) t fire_ready (k.parts.node r hr) }
+    fire_moved = record { task = refl; strays = refl; locals = refl; slots = λ q a. a; node = fire-node (node_at nodes r) t fire_ready (k.parts.node r hr) }
 
     module _ (o : Option Sent) (makes : o ≡ (fired (node_at nodes r).nic t).message) where
       fire_to : (m : Sent) → o ≡ Some m → m.header.target < n
@@ -113,9 +123,11 @@ module _ (p : Plan) (inputs : Inputs) (n : ℕ) (nodes : List NodeState) (lanes 
           let a = target_known p inputs k.parts.sound (slots_now p inputs n nodes lanes window strays spare k.parts k.stray) (scene_of n nodes lanes).world r t m e in
           omega (arith, c, a)
 
-      -- it is a request, whose lane is open
-      fire_open : (m : Sent) → o ≡ Some m → length (lane_at lanes (lane_place n r m.header.target (lane_of m.header.kind))).messages < window
-      fire_open m q = subst (λ l. length (lane_at lanes (lane_place n r m.header.target l)).messages < window) (sym asks) (ltb-true (length (lane_at lanes (lane_place n r m.header.target Request)).messages) window opened)
+      -- it is a request
+      fire_asks : (m : Sent) → o ≡ Some m → lane_of m.header.kind ≡ Request
+      fire_asks m q =
+          let f = slots_now p inputs n nodes lanes window strays spare k.parts k.stray in
+          ap (λ b. if b then Answer else Request) (from_link-request p (f r) r m (fired_link p (f r) r t (node_at nodes r).nic m (subst (IsOf p (f r) r) (sym here) (of f)) (sym makes ∙ q)))
         where
           here : (node_at nodes r).nic ≡ state_at (system_of p inputs (slots_now p inputs n nodes lanes window strays spare k.parts k.stray)) (scene_of n nodes lanes).world r
           here = nic_is p inputs n nodes lanes window strays spare k.parts k.stray (slots_now p inputs n nodes lanes window strays spare k.parts k.stray) (agree_now p inputs n nodes lanes window strays spare k.parts k.stray) r hr
@@ -123,11 +135,10 @@ module _ (p : Plan) (inputs : Inputs) (n : ℕ) (nodes : List NodeState) (lanes 
           of : (f : ℕ → Slots) → IsOf p (f r) r (state_at (system_of p inputs f) (scene_of n nodes lanes).world r)
           of f = stays_of p (f r) r (start_of p (f r) r) ((scene_of n nodes lanes).world r) (prepare p inputs (f r) r) (prepared_of p inputs k.parts.sound (f r) r)
 
-          asks : lane_of m.header.kind ≡ Request
-          asks =
-              let f = slots_now p inputs n nodes lanes window strays spare k.parts k.stray in
-              ap (λ b. if b then Answer else Request) (from_link-request p (f r) r m (fired_link p (f r) r t (node_at nodes r).nic m (subst (IsOf p (f r) r) (sym here) (of f)) (sym makes ∙ q)))
-
+      -- whose lane is open
+      fire_open : (m : Sent) → o ≡ Some m → length (lane_at lanes (lane_place n r m.header.target (lane_of m.header.kind))).messages < window
+      fire_open m q = subst (λ l. length (lane_at lanes (lane_place n r m.header.target l)).messages < window) (sym (fire_asks m q)) (ltb-true (length (lane_at lanes (lane_place n r m.header.target Request)).messages) window opened)
+        where
           goal : target_at (node_at nodes r).nic t ≡ Some m.header.target
           goal = sym (fired-target (node_at nodes r).nic t) ∙ ap rank_of (sym makes ∙ q)
 
@@ -141,39 +152,69 @@ module _ (p : Plan) (inputs : Inputs) (n : ℕ) (nodes : List NodeState) (lanes 
       pub fire_goes : HasPlace n r lanes o
       fire_goes = may_go_out p inputs n nodes lanes window strays spare k.parts k.stray r hr (Fired t) lanes (none_taken lanes) fire_enabled fire_is o makes fire_to fire_open
 
-      fire_other : receiver r o < n
-      fire_other = at o refl
-        where
-          at : (x : Option Sent) → o ≡ x → receiver r x < n
-          at None q = hr
-          at (Some m) q = fire_to m q
+      abbrev fire_news : List NodeState
+      fire_news = set nodes r (fired_node t (node_at nodes r))
 
-      fire_way : (m : Sent) → o ≡ Some m → ((r ≡ r) × (m.header.target ≡ receiver r o)) ⊎ ((r ≡ receiver r o) × (m.header.target ≡ r))
-      fire_way m q = inl (refl, sym (ap (receiver r) q))
+      -- a firing is no start
+      fire_count : start_count (fired_node t (node_at nodes r)) ≡ start_count (node_at nodes r)
+      fire_count = no_start (node_at nodes r).diary.locals (Fired t) refl
 
-      pub fire_done : (nexts : List NodeState) (a b c : List ℕ) → IsRefreshed n window r (receiver r o) (set nodes r (fired_node t (node_at nodes r))) (out_with n r o lanes) starts deliveries firings nexts a b c
-          → IsDone p inputs n (Fire r t) nodes lanes nexts (out_with n r o lanes) a b c window strays spare
-      fire_done = finish (Fire r t) (set nodes r (fired_node t (node_at nodes r))) (out_with n r o lanes) r (receiver r o) hr fire_other
+      -- no other lane changed
+      fire_apart : (m : Sent) → o ≡ Some m → (a b : ℕ) (l : Lane) → a < n → b < n → (OneLane a b l r m.header.target Request → ⊥)
+          → lane_at (sent_out n r m lanes) (lane_place n a b l) ≡ lane_at lanes (lane_place n a b l)
+      fire_apart m q a b l ha hb x =
+          set_other n lanes k.parts.wide r m.header.target (lane_of m.header.kind) hr (fire_to m q) ((lane_at lanes (lane_place n r m.header.target (lane_of m.header.kind))).messages ++ m ∷ []) a b l hb
+          (λ i. x (record { source = i.source; goal = i.goal; kind = i.kind ∙ fire_asks m q }))
+
+      fire_renewed : (x : Option Sent) → o ≡ x → IsRenewed n window fire_news (out_with n r x lanes)
+          (if is_some x then gated (out_with n r x lanes) n window r (receiver r x) fire_news else fire_news) starts
+          (if is_some x then delivery_mark (out_with n r x lanes) n window r (receiver r x) Request deliveries else deliveries)
+          (firing_mark (if is_some x then gated (out_with n r x lanes) n window r (receiver r x) fire_news else fire_news) r firings)
+      fire_renewed None q =
+          as_is n window fire_news lanes starts deliveries (firing_mark fire_news r firings)
+          (silent_counted n nodes lanes starts deliveries firings window k.counted k.parts.size r hr (fired_node t (node_at nodes r)) refl fire_count)
+      fire_renewed (Some m) q =
+          let size = k.parts.size in
+          let length_news = length-set nodes r (fired_node t (node_at nodes r)) in
+          as_told n window fire_news (sent_out n r m lanes) r m.header.target (omega (arith, size, length_news, hr)) starts
+          (delivery_mark (sent_out n r m lanes) n window r m.header.target Request deliveries)
+          (firing_mark (gated (sent_out n r m lanes) n window r m.header.target fire_news) r firings)
+          (sent_counted n nodes lanes starts deliveries firings window k.counted k.parts.size r hr (fired_node t (node_at nodes r)) refl fire_count
+          (wide_gates p inputs n nodes lanes window spare k.parts) (sent_out n r m lanes) r m.header.target hr (fire_to m q)
+          (λ a b ha hb x. ap (λ (z : Plain). nat_lt (length z.messages) window) (fire_apart m q a b Request ha hb (λ i. x (i.source, i.goal))))
+          (delivery_mark (sent_out n r m lanes) n window r m.header.target Request deliveries)
+          (mark_size n (sent_out n r m lanes) window r m.header.target Request deliveries ∙ k.counted.wide_deliveries)
+          (request_marked n lanes deliveries window (sent_out n r m lanes) r m.header.target hr (fire_to m q) k.counted.wide_deliveries k.counted.of_deliveries (fire_apart m q))
+          refl)
+
+      pub fire_done : (nexts : List NodeState) (b c : List ℕ) → IsFired n window r (receiver r o) (is_some o) fire_news (out_with n r o lanes) deliveries firings nexts b c
+          → IsDone p inputs n (Fire r t) nodes lanes nexts (out_with n r o lanes) starts b c window strays spare
+      fire_done nexts b c is = finish (Fire r t) fire_news (out_with n r o lanes)
           (parts_news p inputs n nodes lanes window strays spare k.parts k.stray r hr (Fired t) lanes (none_taken lanes) fire_enabled fire_is o makes fire_to fire_open (fired_node t (node_at nodes r)) fire_moved)
           (strays_news p inputs n nodes lanes window strays spare k.parts k.stray r hr (Fired t) lanes (none_taken lanes) fire_enabled fire_is o makes fire_to fire_open (fired_node t (node_at nodes r)) fire_moved tt (omega arith))
-          (touches_news p inputs n nodes lanes window strays spare k.parts k.stray r hr (Fired t) lanes (none_taken lanes) fire_enabled fire_is o makes fire_to fire_open (fired_node t (node_at nodes r)) fire_moved r (receiver r o) (inl refl) (λ a b lane ha hb x y. refl) fire_way)
           (scene_news p inputs n nodes lanes window strays spare k.parts k.stray r hr (Fired t) lanes (none_taken lanes) fire_enabled fire_is o makes fire_to fire_open (fired_node t (node_at nodes r)) fire_moved)
           (agree_back p inputs n nodes lanes window strays spare k.parts k.stray r hr (Fired t) lanes (none_taken lanes) fire_enabled fire_is o makes fire_to fire_open (fired_node t (node_at nodes r)) fire_moved)
+          nexts starts b c
+          (renewed_by n window fire_news (out_with n r o lanes)
+          (if is_some o then gated (out_with n r o lanes) n window r (receiver r o) fire_news else fire_news) starts
+          (if is_some o then delivery_mark (out_with n r o lanes) n window r (receiver r o) Request deliveries else deliveries)
+          (λ v. firing_mark v r firings) (fire_renewed o refl) nexts b c is.gates is.of_deliveries is.of_firings)
 
       -- as the code has it
-      pub fire_as : (d : ℕ) → d ≡ receiver r o → (later : List Plain) → later ≡ out_with n r o lanes → (news : List NodeState) → news ≡ set nodes r (fired_node t (node_at nodes r))
-          → (nexts : List NodeState) (a b c : List ℕ) → IsRefreshed n window r d news later starts deliveries firings nexts a b c → IsDone p inputs n (Fire r t) nodes lanes nexts later a b c window strays spare
-      fire_as d whom later out news made nexts a b c is =
-          subst (λ l. IsDone p inputs n (Fire r t) nodes lanes nexts l a b c window strays spare) (sym out)
-          (fire_done nexts a b c
-          (subst (λ l. IsRefreshed n window r (receiver r o) (set nodes r (fired_node t (node_at nodes r))) l starts deliveries firings nexts a b c) out
-          (subst (λ v. IsRefreshed n window r (receiver r o) v later starts deliveries firings nexts a b c) made
-          (subst (λ u. IsRefreshed n window r u news later starts deliveries firings nexts a b c) whom is))))
+      pub fire_as : (sends : Bool) → sends ≡ is_some o → (d : ℕ) → d ≡ receiver r o → (later : List Plain) → later ≡ out_with n r o lanes → (news : List NodeState) → news ≡ set nodes r (fired_node t (node_at nodes r))
+          → (nexts : List NodeState) (b c : List ℕ) → IsFired n window r d sends news later deliveries firings nexts b c → IsDone p inputs n (Fire r t) nodes lanes nexts later starts b c window strays spare
+      fire_as sends some d whom later out news made nexts b c is =
+          subst (λ l. IsDone p inputs n (Fire r t) nodes lanes nexts l starts b c window strays spare) (sym out)
+          (fire_done nexts b c
+          (subst (λ x. IsFired n window r (receiver r o) x fire_news (out_with n r o lanes) deliveries firings nexts b c) some
+          (subst (λ l. IsFired n window r (receiver r o) sends fire_news l deliveries firings nexts b c) out
+          (subst (λ v. IsFired n window r (receiver r o) sends v later deliveries firings nexts b c) made
+          (subst (λ u. IsFired n window r u sends news later deliveries firings nexts b c) whom is)))))
 
   -- ---- a start
   module _ (r : ℕ) (hr : r < n) (waits : count_by is_start (node_at nodes r).diary.locals ≡ 0) (new : NodeState) (st : IsStarted (node_at nodes r) new) (keeps : IsNode new) where
     start_moved : Moved (node_at nodes r) new Started
-    start_moved = record { task = st.task; strays = st.strays; closed = st.closed; locals = ap (λ (d : Diary). d.locals) st.diary; slots = st.slots; node = keeps }
+    start_moved = record { task = st.task; strays = st.strays; locals = ap (λ (d : Diary). d.locals) st.diary; slots = st.slots; node = keeps }
 
     start_enabled : (slots : ℕ → Slots) → AgreeAll n slots nodes → IsEnabled (system_of p inputs slots) (scene_of n nodes lanes).world (scene_of n nodes lanes).held r Started
     start_enabled slots a = waits
@@ -187,14 +228,15 @@ module _ (p : Plan) (inputs : Inputs) (n : ℕ) (nodes : List NodeState) (lanes 
     none_open : (m : Sent) → None ≡ Some m → length (lane_at lanes (lane_place n r m.header.target (lane_of m.header.kind))).messages < window
     none_open m q = absurd cc
 
-    none_way : (m : Sent) → None ≡ Some m → ((r ≡ r) × (m.header.target ≡ r)) ⊎ ((r ≡ r) × (m.header.target ≡ r))
-    none_way m q = absurd cc
-
-    pub start_done : (nexts : List NodeState) (a b c : List ℕ) → IsRefreshed n window r r (set nodes r new) lanes starts deliveries firings nexts a b c
-        → IsDone p inputs n (Start r) nodes lanes nexts lanes a b c window strays spare
-    start_done = finish (Start r) (set nodes r new) lanes r r hr hr
+    pub start_done : (a c : List ℕ) → a ≡ start_mark (set nodes r new) r starts → c ≡ firing_mark (set nodes r new) r firings
+        → IsDone p inputs n (Start r) nodes lanes (set nodes r new) lanes a deliveries c window strays spare
+    start_done a c of_starts of_firings = finish (Start r) (set nodes r new) lanes
         (parts_news p inputs n nodes lanes window strays spare k.parts k.stray r hr Started lanes (none_taken lanes) start_enabled start_is None refl none_to none_open new start_moved)
         (strays_news p inputs n nodes lanes window strays spare k.parts k.stray r hr Started lanes (none_taken lanes) start_enabled start_is None refl none_to none_open new start_moved tt (omega arith))
-        (touches_news p inputs n nodes lanes window strays spare k.parts k.stray r hr Started lanes (none_taken lanes) start_enabled start_is None refl none_to none_open new start_moved r r (inl refl) (λ a b lane ha hb x y. refl) none_way)
         (scene_news p inputs n nodes lanes window strays spare k.parts k.stray r hr Started lanes (none_taken lanes) start_enabled start_is None refl none_to none_open new start_moved)
         (agree_back p inputs n nodes lanes window strays spare k.parts k.stray r hr Started lanes (none_taken lanes) start_enabled start_is None refl none_to none_open new start_moved)
+        (set nodes r new) a deliveries c
+        (as_is n window (set nodes r new) lanes a deliveries c
+        (subst (λ u. AreCounted n (set nodes r new) lanes u deliveries c window) (sym of_starts)
+        (subst (λ u. AreCounted n (set nodes r new) lanes (start_mark (set nodes r new) r starts) deliveries u window) (sym of_firings)
+        (start_counted n nodes lanes starts deliveries firings window k.counted k.parts.size r hr new st.closed))))

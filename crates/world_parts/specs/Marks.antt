@@ -44,6 +44,11 @@ firing_mark nodes r xs = slice_set xs r (firing_count (node_at nodes r))
 abbrev pub delivery_mark : List Plain → ℕ → ℕ → ℕ → ℕ → Lane → List ℕ → List ℕ
 delivery_mark lanes n window s d lane xs = slice_set xs (lane_place n s d lane) (delivery_count lanes n window s d lane)
 
+-- the lane by which what comes on this one is answered, or was asked for
+abbrev pub lane_back : Lane → Lane
+lane_back Request = Answer
+lane_back Answer = Request
+
 -- node s knows whether its request lane to d has room
 abbrev pub gated : List Plain → ℕ → ℕ → ℕ → ℕ → List NodeState → List NodeState
 gated lanes n window s d nodes = slice_set nodes s (gated_node d (not (lane_has lanes n window s d Request)) (node_at nodes s))

@@ -1,4 +1,4 @@
-//! The steps of a world over its parts, each with the counts of what is possible made anew after it.
+//! The steps of a world over its parts, each with the counts of what is possible, as far as it changed them, made right after it.
 
 ghost use Rattle.std.specs.Prelude.{true, ◌≡◌, ◌<◌, ◌≤◌, ◌-◌, ◌*◌, ◌++◌, ◌∷◌, [], count_by, length, slice_set};
 ghost use Rattle.ptl_types.specs.declared.headers.Lane.TheVariants.{Request};
@@ -18,8 +18,8 @@ ghost use Rattle.world_parts.specs.Layout.{lane_at, node_at};
 ghost use Rattle.world_parts.specs.Marks.{lane_may};
 ghost use Rattle.world_parts.specs.Steps.{IsInjected, IsStepped};
 
-use crate::lanes::{put, send_out, take};
-use crate::marks::refresh;
+use crate::lanes::{has_window, put, send_out, take};
+use crate::marks::{delivered, fired, joined, started};
 use count_tree::CountTree;
 use pair_wires::PlainLane;
 use ptl_types::{Lane, Message, Rank};
@@ -67,17 +67,7 @@ pub fn start(
         IsWorld p inputs setting.ranks nodes.new lanes.now starts.new deliveries.new firings.new setting.window setting.strays setting.spare }
 {
     start_node(&mut nodes[r as usize]);
-    refresh(
-        nodes,
-        lanes,
-        starts,
-        deliveries,
-        firings,
-        setting.ranks,
-        setting.window,
-        r,
-        r,
-    );
+    started(starts, firings, nodes, r);
 }
 
 /// An operation of a rank is fired, and its message goes out. Condition: it is ready, and its message finds an open lane.
@@ -100,17 +90,18 @@ pub fn fire(
         IsWorld p inputs setting.ranks nodes.new lanes.new starts.new deliveries.new firings.new setting.window setting.strays setting.spare }
 {
     let made = nodes[r as usize].fire(number);
+    let sends = made.is_some();
     let d = send_out(lanes, setting.ranks, r, made);
-    refresh(
+    fired(
         nodes,
         lanes,
-        starts,
         deliveries,
         firings,
         setting.ranks,
         setting.window,
         r,
         d,
+        sends,
     );
 }
 
@@ -136,19 +127,21 @@ pub fn deliver(
     ensures world { (p : Plan) (inputs : Inputs) → IsWorld p inputs setting.ranks nodes.old lanes.old starts.old deliveries.old firings.old setting.window setting.strays setting.spare →
         IsWorld p inputs setting.ranks nodes.new lanes.new starts.new deliveries.new firings.new setting.window setting.strays setting.spare }
 {
+    let had = has_window(lanes, setting.ranks, setting.window, s, d, Lane::Request);
     let message = take(lanes, setting.ranks, s, d, lane);
     let made = nodes[d as usize].receive(s, lane, message);
     let _ = send_out(lanes, setting.ranks, d, made);
-    refresh(
+    delivered(
         nodes,
         lanes,
-        starts,
         deliveries,
         firings,
         setting.ranks,
         setting.window,
         s,
         d,
+        lane,
+        had,
     );
 }
 
@@ -192,16 +185,17 @@ pub fn inject(
         is_used_lane p s d Request ≡ true →
         IsWorld p inputs setting.ranks nodes.new lanes.new starts.new deliveries.new firings.new setting.window (setting.strays - 1) setting.spare }
 {
+    let had = has_window(lanes, setting.ranks, setting.window, s, d, Lane::Request);
     put_request(lanes, setting.ranks, s, d, message);
-    refresh(
+    joined(
         nodes,
         lanes,
-        starts,
         deliveries,
         firings,
         setting.ranks,
         setting.window,
         s,
         d,
+        had,
     );
 }

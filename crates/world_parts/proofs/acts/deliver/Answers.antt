@@ -1,5 +1,5 @@
 -- By `deliver_as`.
-use Rattle.std.proofs.Common.{arith, length, get_or, ap, sym, subst, ◌<◌, ◌∙◌}
+use Rattle.std.proofs.Common.{arith, not, length, get_or, ap, sym, subst, ◌<◌, ◌∙◌}
 use Rattle.std.proofs.Math.ListN.{set}
 use Rattle.std.proofs.lemmas.List.{get_or_default}
 use Rattle.ni_model.specs.State.{target}
@@ -11,6 +11,7 @@ use Rattle.rank_node.specs.Node.{NodeState, received_node}
 use Rattle.world_parts.specs.Keeps.{IsWorld}
 use Rattle.world_parts.specs.Layout.{no_node}
 use Rattle.world_parts.specs.Marks.{HasPlace, out_with}
+use Rattle.world_parts.proofs.Counted.{firings_right, told_last}
 use Rattle.world_parts.proofs.Delivers.{deliver_as, deliver_goes, deliver_room, deliver_some}
 use Rattle.world_parts.proofs.Steps.{IsDone, wide_news}
 use Rattle.world_parts.proofs.acts.deliver.Goals as goal
@@ -31,18 +32,31 @@ send_out-requires-clause-goes c =
     subst (λ ls. HasPlace c.args.setting.ranks c.args.d ls c.receive-made.result) (sym c.take-message.ensures.rest)
     (deliver_goes c.requires.world.plan c.requires.world.inputs c.args.setting.ranks c.args.nodes.now c.args.lanes.now c.args.starts.now c.args.deliveries.now c.args.firings.now c.args.setting.window c.args.setting.strays c.args.setting.spare c.requires.world.world c.args.s c.args.d c.args.lane c.requires.source c.requires.goal c.requires.may c.take-message.result c.take-message.ensures.front c.receive-made.result (c.receive-made.ensures.answer ∙ ap (λ (n : NodeState). (target n.nic c.take-message.result).delivered.answer) (get_or_default c.args.nodes.now c.args.d c.index-nodes-d.result no_node inside)))
 
-pub refresh-requires-clause-wide : goal.refresh-requires-clause-wide
-refresh-requires-clause-wide c =
+pub delivered-requires-clause-closed : goal.delivered-requires-clause-closed
+delivered-requires-clause-closed c =
     let inside : c.args.d < length c.args.nodes.now = let size = c.requires.world.world.parts.size in let h = c.requires.goal in omega (arith, size, h) in
     wide_news c.requires.world.plan c.requires.world.inputs c.args.setting.ranks c.args.nodes.now c.args.lanes.now c.args.setting.window c.args.setting.spare c.requires.world.world.parts c.args.d c.requires.goal c.receive-made.new.self (ap (λ (n : NodeState). n.closed) (c.receive-made.ensures.step ∙ ap (received_node c.args.s c.args.lane c.take-message.result) (get_or_default c.args.nodes.now c.args.d c.index-nodes-d.result no_node inside)))
+    c.args.s c.requires.source
+
+pub delivered-requires-clause-told : goal.delivered-requires-clause-told
+delivered-requires-clause-told c =
+    let inside : c.args.d < length c.args.nodes.now = let size = c.requires.world.world.parts.size in let h = c.requires.goal in omega (arith, size, h) in
+    told_last c.args.setting.ranks c.args.nodes.now c.args.lanes.now c.args.starts.now c.args.deliveries.now c.args.firings.now c.args.setting.window c.requires.world.world.counted c.requires.world.world.parts.size c.args.d c.requires.goal c.receive-made.new.self (ap (λ (n : NodeState). n.closed) (c.receive-made.ensures.step ∙ ap (received_node c.args.s c.args.lane c.take-message.result) (get_or_default c.args.nodes.now c.args.d c.index-nodes-d.result no_node inside)))
+    c.args.s c.args.d c.requires.source c.requires.goal ∙ ap not (sym c.has_window-had.ensures)
+
+pub delivered-requires-clause-right : goal.delivered-requires-clause-right
+delivered-requires-clause-right c =
+    let inside : c.args.d < length c.args.nodes.now = let size = c.requires.world.world.parts.size in let h = c.requires.goal in omega (arith, size, h) in
+    firings_right c.args.setting.ranks c.args.nodes.now c.args.lanes.now c.args.starts.now c.args.deliveries.now c.args.firings.now c.args.setting.window c.requires.world.world.counted c.requires.world.world.parts.size c.args.d c.requires.goal c.receive-made.new.self (ap (λ (n : NodeState). n.closed) (c.receive-made.ensures.step ∙ ap (received_node c.args.s c.args.lane c.take-message.result) (get_or_default c.args.nodes.now c.args.d c.index-nodes-d.result no_node inside)))
+    c.args.s c.requires.source
 
 pub returns : goal.returns
 returns c =
-    let done : (p : Plan) (inputs : Inputs) → IsWorld p inputs c.args.setting.ranks c.args.nodes.now c.args.lanes.now c.args.starts.now c.args.deliveries.now c.args.firings.now c.args.setting.window c.args.setting.strays c.args.setting.spare → IsDone p inputs c.args.setting.ranks (Deliver c.args.s c.args.d c.args.lane) c.args.nodes.now c.args.lanes.now c.refresh.new.nodes c.send_out.new.lanes c.refresh.new.starts c.refresh.new.deliveries c.refresh.new.firings c.args.setting.window c.args.setting.strays c.args.setting.spare =
+    let done : (p : Plan) (inputs : Inputs) → IsWorld p inputs c.args.setting.ranks c.args.nodes.now c.args.lanes.now c.args.starts.now c.args.deliveries.now c.args.firings.now c.args.setting.window c.args.setting.strays c.args.setting.spare → IsDone p inputs c.args.setting.ranks (Deliver c.args.s c.args.d c.args.lane) c.args.nodes.now c.args.lanes.now c.delivered.new.nodes c.send_out.new.lanes c.args.starts.now c.delivered.new.deliveries c.delivered.new.firings c.args.setting.window c.args.setting.strays c.args.setting.spare =
     λ p inputs k.
     let inside : c.args.d < length c.args.nodes.now = let size = c.requires.world.world.parts.size in let h = c.requires.goal in omega (arith, size, h) in
     deliver_as p inputs c.args.setting.ranks c.args.nodes.now c.args.lanes.now c.args.starts.now c.args.deliveries.now c.args.firings.now c.args.setting.window c.args.setting.strays c.args.setting.spare k c.args.s c.args.d c.args.lane c.requires.source c.requires.goal c.requires.may c.take-message.result c.take-message.ensures.front c.receive-made.result (c.receive-made.ensures.answer ∙ ap (λ (n : NodeState). (target n.nic c.take-message.result).delivered.answer) (get_or_default c.args.nodes.now c.args.d c.index-nodes-d.result no_node inside))
     c.send_out.new.lanes (c.send_out.ensures.lanes ∙ ap (out_with c.args.setting.ranks c.args.d c.receive-made.result) c.take-message.ensures.rest)
     (set c.args.nodes.now c.args.d c.receive-made.new.self) (ap (set c.args.nodes.now c.args.d) (c.receive-made.ensures.step ∙ ap (received_node c.args.s c.args.lane c.take-message.result) (get_or_default c.args.nodes.now c.args.d c.index-nodes-d.result no_node inside)))
-    c.refresh.new.nodes c.refresh.new.starts c.refresh.new.deliveries c.refresh.new.firings (record { gates = c.refresh.ensures.gates; of_starts = c.refresh.ensures.starts; of_firings = c.refresh.ensures.firings; of_deliveries = c.refresh.ensures.deliveries }) in
+    c.delivered.new.nodes c.delivered.new.deliveries c.delivered.new.firings (record { gates = c.delivered.ensures.gates; of_deliveries = c.delivered.ensures.deliveries; of_firings = c.delivered.ensures.firings }) in
     record { step = λ p inputs k. (done p inputs k).step; world = λ p inputs k. (done p inputs k).world }

@@ -1,5 +1,6 @@
 -- By `start_done`.
-use Rattle.std.proofs.Common.{arith, length, count_by, ap, sym, subst, ◌<◌, ◌≡◌, ◌∙◌}
+use Rattle.std.proofs.Common.{arith, length, count_by, sym, subst, ◌<◌, ◌≡◌}
+use Rattle.std.proofs.Math.ListN.{set}
 use Rattle.std.proofs.lemmas.List.{get_or_default}
 use Rattle.plan_cuts.specs.History.{is_start}
 use Rattle.plan_core.specs.Plan.{Plan}
@@ -8,7 +9,7 @@ use Rattle.plan_orders.specs.declared.Step.TheVariants.{Start}
 use Rattle.rank_node.specs.Node.{IsStarted, NodeState}
 use Rattle.world_parts.specs.Keeps.{IsWorld}
 use Rattle.world_parts.specs.Layout.{no_node}
-use Rattle.world_parts.proofs.Steps.{IsDone, start_done, wide_news}
+use Rattle.world_parts.proofs.Steps.{IsDone, start_done}
 use Rattle.world_parts.proofs.acts.start.Goals as goal
 
 pub start_node-requires : goal.start_node-requires
@@ -16,16 +17,11 @@ start_node-requires c =
     let inside : c.args.r < length c.args.nodes.now = let size = c.requires.world.world.parts.size in let h = c.requires.rank in omega (arith, size, h) in
     subst (λ (n : NodeState). count_by is_start n.diary.locals ≡ 0) (sym (get_or_default c.args.nodes.now c.args.r c.index-nodes-r.result no_node inside)) c.requires.waits
 
-pub refresh-requires-clause-wide : goal.refresh-requires-clause-wide
-refresh-requires-clause-wide c =
-    let inside : c.args.r < length c.args.nodes.now = let size = c.requires.world.world.parts.size in let h = c.requires.rank in omega (arith, size, h) in
-    wide_news c.requires.world.plan c.requires.world.inputs c.args.setting.ranks c.args.nodes.now c.args.lanes.now c.args.setting.window c.args.setting.spare c.requires.world.world.parts c.args.r c.requires.rank c.start_node.new.node (c.start_node.ensures.step.closed ∙ ap (λ (n : NodeState). n.closed) (get_or_default c.args.nodes.now c.args.r c.index-nodes-r.result no_node inside))
-
 pub returns : goal.returns
 returns c =
-    let done : (p : Plan) (inputs : Inputs) → IsWorld p inputs c.args.setting.ranks c.args.nodes.now c.args.lanes.now c.args.starts.now c.args.deliveries.now c.args.firings.now c.args.setting.window c.args.setting.strays c.args.setting.spare → IsDone p inputs c.args.setting.ranks (Start c.args.r) c.args.nodes.now c.args.lanes.now c.refresh.new.nodes c.args.lanes.now c.refresh.new.starts c.refresh.new.deliveries c.refresh.new.firings c.args.setting.window c.args.setting.strays c.args.setting.spare =
+    let done : (p : Plan) (inputs : Inputs) → IsWorld p inputs c.args.setting.ranks c.args.nodes.now c.args.lanes.now c.args.starts.now c.args.deliveries.now c.args.firings.now c.args.setting.window c.args.setting.strays c.args.setting.spare → IsDone p inputs c.args.setting.ranks (Start c.args.r) c.args.nodes.now c.args.lanes.now (set c.args.nodes.now c.args.r c.start_node.new.node) c.args.lanes.now c.started.new.starts c.args.deliveries.now c.started.new.firings c.args.setting.window c.args.setting.strays c.args.setting.spare =
     λ p inputs k.
     let inside : c.args.r < length c.args.nodes.now = let size = c.requires.world.world.parts.size in let h = c.requires.rank in omega (arith, size, h) in
     start_done p inputs c.args.setting.ranks c.args.nodes.now c.args.lanes.now c.args.starts.now c.args.deliveries.now c.args.firings.now c.args.setting.window c.args.setting.strays c.args.setting.spare k c.args.r c.requires.rank c.requires.waits c.start_node.new.node (subst (λ (n : NodeState). IsStarted n c.start_node.new.node) (get_or_default c.args.nodes.now c.args.r c.index-nodes-r.result no_node inside) c.start_node.ensures.step) c.start_node.ensures.kept
-    c.refresh.new.nodes c.refresh.new.starts c.refresh.new.deliveries c.refresh.new.firings (record { gates = c.refresh.ensures.gates; of_starts = c.refresh.ensures.starts; of_firings = c.refresh.ensures.firings; of_deliveries = c.refresh.ensures.deliveries }) in
+    c.started.new.starts c.started.new.firings c.started.ensures.starts c.started.ensures.firings in
     record { step = λ p inputs k. (done p inputs k).step; world = λ p inputs k. (done p inputs k).world }
