@@ -1,5 +1,5 @@
-use Rattle.std.proofs.Common.{◌≡◌, ◌+◌, ◌∷◌, ◌++◌, [], List, ap, arith, length, length-append, refl, subst, sym}
-use Rattle.std.specs.Prelude.{IfSome}
+use Rattle.std.proofs.Common.{◌≡◌, ◌∙◌, ◌+◌, ◌∷◌, ◌++◌, [], List, ap, arith, length, length-append, refl, subst, sym}
+use Rattle.std.specs.Prelude.{IfSome, vec_len}
 use Rattle.std.specs.Vec.Iter.{into_iter_items}
 use Rattle.rank_wiring.specs.declared.open.Berth.{Berth}
 use Rattle.rank_wiring.specs.declared.open.Load.{Load}
@@ -17,7 +17,8 @@ pub made_or_make-requires-clause-place : goal.made_or_make-requires-clause-place
 made_or_make-requires-clause-place c =
     let job = c.args.job.now in let slots = c.loop-place.slots.items in
     let all = subst (AreBerths job (length slots)) c.in-Some.ensures.steps.0 c.loop-place.invariant.places in
-    subst (λ n. IfSome c.in-Some.place (λ (b : Berth). IsFanned job n b.slot b.load)) (sym c.len-rank.ensures)
+    let long : vec_len c.loop-place.slots ≡ length slots = omega (arith, c.loop-place.slots.ok.0) in
+    subst (λ n. IfSome c.in-Some.place (λ (b : Berth). IsFanned job n b.slot b.load)) (sym (c.len-rank.ensures ∙ long))
     (berths-head job (length slots) c.in-Some.place (into_iter_items c.next.new.self) all)
 
 pub loop-place-preserved : goal.loop-place-preserved
@@ -27,7 +28,9 @@ loop-place-preserved c =
     let p = c.in_ok-push.ensures.items in let q = c.in_ok-push-2.ensures.items in
     let rest = into_iter_items c.next.new.self in let step = c.in-Some.ensures.steps.0 in
     let all = subst (AreBerths job (length slots)) step i.places in
-    let made : IsFanned job (length slots) slot load = subst (λ n. IsFanned job n slot load) c.len-rank.ensures c.in_ok-berth.ensures in
+    let here : vec_len c.loop-place.slots ≡ length slots = omega (arith, c.loop-place.slots.ok.0) in
+    let made : IsFanned job (length slots) slot load =
+    subst (λ n. IsFanned job n slot load) (c.len-rank.ensures ∙ here) c.in_ok-berth.ensures in
     let more : length (slots ++ slot ∷ []) ≡ length slots + 1 = length-append slots (slot ∷ []) in
     let long = length-append loads (load ∷ []) in record {
       len = (let gone = c.in-Some.ensures.steps.1 in let was = i.len in let short = ap (λ m. length m) step in omega (arith, gone, was, short));
