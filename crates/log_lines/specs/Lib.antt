@@ -1,0 +1,5 @@
+pub mod Words
+pub mod Reading
+pub mod Fields
+pub mod Calls
+pub mod Lines

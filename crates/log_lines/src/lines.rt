@@ -1,0 +1,176 @@
+//! Lines.
+
+ghost use Rattle.std.specs.Prelude.{◌≡◌, ◌<◌, ◌≤◌, length, not, IfNone, IfSome};
+ghost use Rattle.std.specs.List.{position};
+ghost use Rattle.log_lines.specs.Lines.{alone, called, early_flaw, empty_flaw, is_allowed, is_note, line_of, loses, read_line, space_flaw};
+ghost use Rattle.log_lines.specs.Lines.{words_read};
+
+use crate::amounts::small_at;
+use crate::calls::Call;
+use crate::faults::{Flaw, LineFault, at};
+use crate::naming::call_in;
+use crate::words::{Rest, Word};
+use coll_text::is;
+use ptl_types::Rank;
+
+/// The most bytes of a line, without its LF.
+pub const LONGEST_LINE: usize = 16_777_216;
+
+/// A line after the first two, and before `end`.
+#[derive(Drop)]
+pub enum Line<'a> {
+    /// A comment.
+    Note,
+    /// What is said of a message under way: its word, and fields.
+    Tells(Word<'a>, Rest<'a>),
+    /// The message is lost.
+    Loses(Word<'a>),
+    /// All messages arrive and all ready operations fire.
+    Settles,
+    /// A call of a rank, and its answer.
+    Calls(Rank, Call<'a>, Rest<'a>),
+}
+
+/// Whether the byte may not stand in a line.
+fn is_barred(b: u8) -> bool
+    ensures { result ≡ not (is_allowed b) }
+{
+    !matches!(b, b' '..=b'~')
+}
+
+/// The place of the first byte that may not stand in a line.
+fn first_barred(line: &[u8]) -> Option<usize>
+    ensures value { result ≡ position (λ b. not (is_allowed b)) line.now }
+    ensures inside { IfSome result (λ place. place < length line.now) }
+{
+    line.iter().position(|b| is_barred(*b))
+}
+
+/// Whether the line is a comment.
+fn is_note(line: &[u8]) -> bool
+    ensures { result ≡ is_note line.now }
+{
+    match line.split_first() {
+        Some((first, _)) => *first == b'#',
+        None => false,
+    }
+}
+
+/// The first empty word.
+fn empty_flaw(mut words: Rest) -> Option<LineFault>
+    ensures { result ≡ empty_flaw words.entry.words }
+{
+    while let Some(word) = words.next() {
+        if word.text().is_empty() {
+            return Some(at(word.column(), Flaw::BadSpace));
+        }
+    }
+    None
+}
+
+/// The first space that may not stand there.
+fn space_flaw(line: &[u8]) -> Option<LineFault>
+    requires { length line.now ≤ LONGEST_LINE }
+    ensures { result ≡ space_flaw line.now }
+{
+    if is_note(line) {
+        return None;
+    }
+    empty_flaw(Rest::of(line))
+}
+
+/// The first byte or space that may not stand there.
+#[tactic(auto, unfolding(crate::specs::Lines::early_flaw))]
+fn early_flaw(line: &[u8]) -> Option<LineFault>
+    ensures value { result ≡ early_flaw line.now }
+    ensures short { IfNone result (length line.now ≤ LONGEST_LINE) }
+{
+    if line.len() > LONGEST_LINE {
+        return Some(at(LONGEST_LINE + 1, Flaw::TooLong));
+    }
+    match first_barred(line) {
+        Some(place) => Some(at(place + 1, Flaw::BadByte)),
+        None => space_flaw(line),
+    }
+}
+
+/// A line of which no word is left.
+#[tactic(auto, unfolding(crate::specs::Lines::alone))]
+fn alone<'a>(line: Line<'a>, mut words: Rest<'a>) -> Result<Line<'a>, LineFault>
+    ensures { result ≡ alone line.entry words.entry }
+{
+    match words.next() {
+        None => Ok(line),
+        Some(word) => Err(at(word.column(), Flaw::BadLine)),
+    }
+}
+
+/// A message that is lost.
+#[tactic(auto, unfolding(crate::specs::Lines::loses))]
+fn loses<'a>(mut words: Rest<'a>) -> Result<Line<'a>, LineFault>
+    ensures { result ≡ loses words.entry }
+{
+    let message = words.name()?;
+    alone(Line::Loses(message), words)
+}
+
+/// A call of the rank that a word is.
+#[tactic(auto, unfolding(crate::specs::Lines::called))]
+fn called<'a>(word: &Word<'a>, mut words: Rest<'a>) -> Result<Line<'a>, LineFault>
+    ensures { result ≡ called word.now words.entry }
+{
+    let Some(rank) = small_at(word.text()) else {
+        return Err(at(word.column(), Flaw::BadLine));
+    };
+    let call = call_in(&mut words)?;
+    let said = words.said()?;
+    Ok(Line::Calls(rank, call, said))
+}
+
+/// The line that this word begins.
+#[tactic(auto, unfolding(crate::specs::Lines::line_of))]
+fn line_of<'a>(word: &Word<'a>, mut words: Rest<'a>) -> Result<Line<'a>, LineFault>
+    ensures { result ≡ line_of word.now words.entry }
+{
+    let text = word.text();
+    if is(text, b"message") {
+        let message = words.name()?;
+        return Ok(Line::Tells(message, words));
+    }
+    if is(text, b"lose") {
+        return loses(words);
+    }
+    if is(text, b"settle") {
+        return alone(Line::Settles, words);
+    }
+    called(word, words)
+}
+
+/// The line that the words are.
+#[tactic(auto, unfolding(crate::specs::Lines::words_read))]
+fn words_read(line: &[u8]) -> Result<Line, LineFault>
+    requires { length line.now ≤ LONGEST_LINE }
+    ensures { result ≡ words_read line.now }
+{
+    if is_note(line) {
+        return Ok(Line::Note);
+    }
+    let mut words = Rest::of(line);
+    let word = words.word()?;
+    line_of(&word, words)
+}
+
+/// Reads a line between the first two and `end`.
+///
+/// # Errors
+///
+/// The first flaw with its column.
+#[tactic(auto, unfolding(crate::specs::Lines::read_line))]
+pub fn read_line(line: &[u8]) -> Result<Line, LineFault>
+    ensures exact { result ≡ read_line line.now }
+{
+    match early_flaw(line) {
+        Some(fault) => Err(fault),
+        None => words_read(line),
+    }
+}

@@ -1,0 +1,114 @@
+//! What the fields of a call begin with: a field that isn't named is 0, none or empty.
+
+ghost use Rattle.std.specs.Prelude.{◌≡◌};
+ghost use Rattle.log_lines.specs.Calls.{no_limits, plain_entry, plain_md, plain_opening, plain_queue, plain_start};
+
+use crate::calls::{EntrySaid, MdSaid, NO_HANDLE, Opening, QueueSaid, StartName, StartSaid};
+use ptl_types::{AckRequest, Descriptor, Entry, Limits, PutArgs};
+
+/// Limits of which none is named.
+fn no_limits() -> Limits
+    ensures { result ≡ no_limits }
+{
+    Limits {
+        entries: 0,
+        unexpected: 0,
+        mds: 0,
+        cts: 0,
+        eqs: 0,
+        pts: 0,
+        triggered: 0,
+        msg: 0,
+        atomic: 0,
+        fetch_atomic: 0,
+    }
+}
+
+/// An interface.
+pub(crate) fn plain_opening<'a>() -> Opening<'a>
+    ensures { result ≡ plain_opening }
+{
+    Opening {
+        limits: no_limits(),
+        region: None,
+    }
+}
+
+/// An index.
+pub(crate) fn plain_queue<'a>() -> QueueSaid<'a>
+    ensures { result ≡ plain_queue }
+{
+    QueueSaid { eq: None }
+}
+
+/// A descriptor.
+pub(crate) fn plain_md<'a>() -> MdSaid<'a>
+    ensures { result ≡ plain_md }
+{
+    let md = Descriptor {
+        start: 0,
+        length: 0,
+        eq: None,
+        ct: None,
+        count_send: false,
+        count_reply: false,
+        count_ack: false,
+    };
+    MdSaid {
+        md,
+        eq: None,
+        ct: None,
+    }
+}
+
+/// An entry.
+pub(crate) fn plain_entry<'a>() -> EntrySaid<'a>
+    ensures { result ≡ plain_entry }
+{
+    let entry = Entry {
+        start: 0,
+        length: 0,
+        ct: None,
+        match_id: None,
+        match_bits: 0,
+        ignore_bits: 0,
+        min_free: 0,
+        allow_put: false,
+        allow_get: false,
+        use_once: false,
+        manage_local: false,
+        no_truncate: false,
+        count_comm: false,
+        count_overflow: false,
+    };
+    EntrySaid { entry, ct: None }
+}
+
+/// A start.
+pub(crate) fn plain_start<'a>(name: StartName) -> StartSaid<'a>
+    ensures { result ≡ plain_start name }
+{
+    let args = PutArgs {
+        md: NO_HANDLE,
+        local_offset: 0,
+        length: 0,
+        ack: AckRequest::NoAck,
+        target: 0,
+        pt: 0,
+        match_bits: 0,
+        remote_offset: 0,
+        hdr_data: 0,
+    };
+    StartSaid {
+        name,
+        args,
+        back: None,
+        back_offset: 0,
+        back_length: None,
+        back_target: None,
+        back_pt: None,
+        back_bits: None,
+        back_at: None,
+        operand: 0,
+    }
+}
