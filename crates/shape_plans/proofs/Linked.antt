@@ -7,20 +7,20 @@ use Rattle.coll_shape.specs.declared.types.CollStep.{CollStep}
 use Rattle.coll_shape.specs.declared.types.CollStep.TheVariants.{Barrier, Broadcast, Reduce, Allreduce, Gather, Allgather, Alltoall, Scan, Scatter, Reducescatter, Exscan, Gatherv}
 use Rattle.plan_steps.specs.Site.{Site, bare_entries, bare_entry, count, entries, full_entry, places, row, rows}
 use Rattle.coll_shape.specs.Collectives.{is_in}
-use Rattle.plan_tree.specs.Trees.{up, up_at}
-use Rattle.plan_tree.specs.Broadcast.{copy_cell, first_cell}
-use Rattle.plan_tree.specs.Allreduce.{result_cell}
-use Rattle.plan_mesh.specs.Gather.{gather_link, gathered}
-use Rattle.plan_mesh.specs.Allgather.{collect_link, collected, ring_node}
-use Rattle.plan_mesh.specs.Alltoall.{exchange_link, exchanged}
-use Rattle.plan_rounds.specs.Rounds.{rounds}
-use Rattle.plan_rounds.specs.Scan.{scan_cell, scan_rows}
-use Rattle.plan_rounds.specs.Barrier.{round_cell, round_rows}
-use Rattle.plan_more.specs.Scatter.{scattered}
-use Rattle.plan_more.specs.Reducescatter.{result_block}
-use Rattle.plan_more.specs.Exscan.{shifted}
-use Rattle.plan_more.specs.Gatherv.{concatenated, held_entry}
-use Rattle.plan_laws.proofs.StepSizes.{links-append, links-cons}
+use Rattle.plan_steps.specs.Trees.{up, up_at}
+use Rattle.plan_steps.specs.Broadcast.{copy_cell, first_cell}
+use Rattle.plan_steps.specs.Allreduce.{result_cell}
+use Rattle.plan_steps.specs.Gather.{gather_link, gathered}
+use Rattle.plan_steps.specs.Allgather.{collect_link, collected, ring_node}
+use Rattle.plan_steps.specs.Alltoall.{exchange_link, exchanged}
+use Rattle.plan_steps.specs.Rounds.{rounds}
+use Rattle.plan_steps.specs.Scan.{scan_cell, scan_rows}
+use Rattle.plan_steps.specs.Barrier.{round_cell, round_rows}
+use Rattle.plan_steps.specs.Scatter.{scattered}
+use Rattle.plan_steps.specs.Reducescatter.{result_block}
+use Rattle.plan_steps.specs.Exscan.{shifted}
+use Rattle.plan_steps.specs.Gatherv.{concatenated, held_entry}
+use Rattle.plan_steps.proofs.StepSizes.{links-append, links-cons}
 use Rattle.shape_plans.specs.Steps.{cells_of}
 use Rattle.coll_shape.specs.declared.limits.TheConstants.{MOST_RANKS}
 use Rattle.shape_plans.specs.declared.judging.TheConstants.{MOST_LINKS}
@@ -77,7 +77,7 @@ scans s o (suc k) i = some _
 scatters : (s : Site) (root i : ℕ) → 1 ≤ length (scattered s root i).into
 scatters s root i = at (i == root)
   where
-    at : (b : Bool) → 1 ≤ length (cond b (Rattle.plan_more.specs.Scatter.scatter_put s root i ∷ []) (Rattle.plan_steps.specs.Site.bump (Rattle.plan_steps.specs.Site.entry s i) ∷ Rattle.plan_more.specs.Scatter.scatter_put s root i ∷ []))
+    at : (b : Bool) → 1 ≤ length (cond b (Rattle.plan_steps.specs.Scatter.scatter_put s root i ∷ []) (Rattle.plan_steps.specs.Site.bump (Rattle.plan_steps.specs.Site.entry s i) ∷ Rattle.plan_steps.specs.Scatter.scatter_put s root i ∷ []))
     at true = some 0
     at false = some 1
 
