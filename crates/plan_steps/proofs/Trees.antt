@@ -1,29 +1,26 @@
--- Broadcast, reduce and allreduce: sound, and what they hold.
-use Rattle.std.proofs.Common.{ℕ, zero, suc, Bool, true, false, cond, ◌+◌, ◌-◌, ◌%◌, ◌^◌, ◌≡◌, ◌≤◌, ◌<◌, ◌==◌, List, ◌∷◌, ◌++◌, refl, length, map, filter, ap, ◌∙◌, sym, subst, inl, inr, arith, nat_le, eqb-true, eq-eqb, mod-lt, pow_pos}
-use Rattle.std.proofs.lemmas.Bool.{leb-true}
+-- Places turned round, and the ways down and up a tree: sound, and what they hold.
+use Rattle.std.proofs.Common.{ℕ, zero, suc, Bool, true, false, cond, ◌+◌, ◌-◌, ◌%◌, ◌^◌, ◌≡◌, ◌≤◌, ◌<◌, ◌==◌, List, ◌∷◌, ◌++◌, refl, length, map, filter, ap, ◌∙◌, sym, subst, inl, inr, arith, nat_le, mod-lt, pow_pos}
+use Rattle.coll_shape.specs.Folding.{folded}
 use Rattle.plan_core.proofs.Links.{from_to-In}
 use Rattle.plan_core.proofs.Lists.{In-filter_cases, In-map_cases}
 use Rattle.plan_core.specs.Draw.{NewCell, cell_of}
 use Rattle.plan_core.specs.Members.{In}
 use Rattle.plan_core.specs.Plan.{from_to}
 use Rattle.plan_core.specs.declared.Cell.{Cell}
-use Rattle.plan_steps.proofs.CellKinds.{bumped-sound, combining-sound, combining-value, copying-sound, copying-value, taking-sound, taking-value}
-use Rattle.plan_steps.proofs.Entries.{Ground, HasA, IsCell, Known, behind, both_parts, each_places, entries-sound, entry-value, of_places}
+use Rattle.plan_steps.proofs.CellKinds.{combining-sound, combining-value, copying-sound, copying-value, taking-sound, taking-value}
+use Rattle.plan_steps.proofs.Entries.{IsCell, Known, each_places, entry-value, of_places}
 use Rattle.plan_steps.proofs.Folds.{Turned, folded-same, folded-turned, map-map, tree_sum, turn}
 use Rattle.plan_steps.proofs.Folds.Turned.{Above, Below}
-use Rattle.coll_shape.specs.Folding.{folded}
+use Rattle.plan_steps.specs.Site.{Site, count, entries, entry, full_entry, holding, places, rank_at, source_at}
 use Rattle.plan_steps.specs.Sounding.{EachAt, SoundNewCell}
-use Rattle.plan_steps.specs.Site.{Site, bare_entry, count, entries, entry, full_entry, further, holding, places, rank_at, exit_at, source_at}
-use Rattle.plan_steps.specs.Allreduce.{allreduce_cells}
-use Rattle.plan_steps.specs.Broadcast.{broadcast_cells}
-use Rattle.plan_steps.specs.Reduce.{reduce_cells}
 use Rattle.plan_steps.specs.Trees.{children, cleared, down_links, parent, turned, unturned, up, up_cell, up_number, down_cell}
 use Rattle.ptl_types.specs.Elements.{starting}
 use Rattle.ptl_types.specs.Operations.{bytes_of}
 use Rattle.ptl_types.specs.declared.elements.AtomicOp.{AtomicOp}
+use Rattle.std.proofs.lemmas.Bool.{leb-true}
 
 -- the cells of the way down
-abbrev pub down : Site → ℕ → ℕ → ℕ → (ℕ → ℕ) → List NewCell
+abbrev pub pub down : Site → ℕ → ℕ → ℕ → (ℕ → ℕ) → List NewCell
 down s root base top below = map (λ v. down_cell s root base top (below v) v) (places s)
 
 -- ---- places turned round
@@ -99,62 +96,6 @@ module _ (k : ℕ → Cell) (s : Site) (root base top : ℕ) (below : ℕ → �
     pub down-value : (v : ℕ) → v < count s → val (base + v) ≡ val top
     down-value v h = down_below (suc v) v (omega arith) h
 
--- ---- broadcast
-module _ (k : ℕ → Cell) (s : Site) (root : ℕ) (root_in : root < count s) where
-  abbrev first_node : ℕ → NewCell
-  first_node i = cond (i == root) (full_entry s i) (bare_entry s i)
-
-  entry_rank : (i : ℕ) → k (entry s i) ≡ cell_of (first_node i) → (k (entry s i)).rank ≡ rank_at s i
-  entry_rank i e = ap (λ (c : Cell). c.rank) e ∙ at (i == root)
-    where
-      at : (b : Bool) → (cell_of (cond b (full_entry s i) (bare_entry s i))).rank ≡ rank_at s i
-      at true = refl
-      at false = refl
-
-  root_node : first_node root ≡ full_entry s root
-  root_node = ap (λ b. cond b (full_entry s root) (bare_entry s root)) (eq-eqb root root refl)
-
-  abbrev base : ℕ
-  base = s.first + (count s + 0)
-
-  shift : (P : ℕ → NewCell → Type 0) (ns : List NewCell) → EachAt P (s.first + count s) ns → EachAt P (further s 0) ns
-  shift P ns h = subst (λ c. EachAt P c ns) (let e : s.first + count s ≡ s.first + (count s + 0) = omega arith in e) h
-
-  unshift : (P : ℕ → NewCell → Type 0) (ns : List NewCell) → EachAt P (further s 0) ns → EachAt P (s.first + count s) ns
-  unshift P ns h = subst (λ c. EachAt P c ns) (let e : s.first + (count s + 0) ≡ s.first + count s = omega arith in e) h
-
-  abbrev down_part : List NewCell
-  down_part = down s root (further s 0) (entry s root) (λ v. entry s (turned s root v))
-
-  pub broadcast-sound : (ranks : ℕ) → Ground ranks k s → s.length % bytes_of s.ty ≡ 0 → HasA k s root → EachAt (IsCell k) s.first (broadcast_cells s root) → EachAt (SoundNewCell ranks k) s.first (broadcast_cells s root)
-  broadcast-sound ranks ground whole has cells =
-      let firsts = Rattle.plan_steps.proofs.Drawn.each_front (IsCell k) s.first (map first_node (places s)) down_part cells in
-      let cell_at : (i : ℕ) → i < count s → k (entry s i) ≡ cell_of (first_node i) = λ i h. (of_places (IsCell k) s s.first first_node firsts i h).is_cell in
-      both_parts (SoundNewCell ranks k) s s.first first_node down_part
-      (each_places (SoundNewCell ranks k) s s.first first_node (λ i h. one i h (i == root) refl))
-      (unshift (SoundNewCell ranks k) down_part
-      (down-sound k s root (further s 0) (entry s root) (λ v. entry s (turned s root v)) ranks ground.some ground.members whole (omega arith)
-      (ap (λ (c : Cell). c.length) (cell_at root root_in ∙ ap cell_of root_node))
-      (λ v h. let l = turned-lt s root v ground.some in (omega arith, entry_rank (turned s root v) (cell_at (turned s root v) l)))
-      (shift (IsCell k) down_part (behind (IsCell k) s s.first first_node down_part cells))))
-    where
-      one : (i : ℕ) → i < count s → (b : Bool) → (i == root) ≡ b → SoundNewCell ranks k (s.first + i) (cond b (full_entry s i) (bare_entry s i))
-      one i h true e =
-          let q : i ≡ root = eqb-true _ _ e in
-          let a : HasA k s i = subst (HasA k s) (sym q) has in
-          let l = a.low in let x = ground.exit_low i h in
-          copying-sound ranks k (s.first + i) s.ty s.length (rank_at s i) (exit_at s i) (source_at s i) (ground.members i h) whole (omega arith) (ground.exit_rank i h) (omega arith) a.long
-      one i h false e = let x = ground.exit_low i h in bumped-sound ranks k (s.first + i) (rank_at s i) (exit_at s i) (ground.members i h) (omega arith) (ground.exit_rank i h)
-
-  -- each place has what the root holds
-  pub broadcast-value : (val : ℕ → List ℕ) → 0 < count s → length (val (source_at s root)) ≡ s.length → EachAt (Known k val) s.first (broadcast_cells s root) → (i : ℕ) → i < count s → val (further s (unturned s root i)) ≡ val (source_at s root)
-  broadcast-value val pos long known i h =
-      let firsts = Rattle.plan_steps.proofs.Drawn.each_front (Known k val) s.first (map first_node (places s)) down_part known in
-      let at_root : Known k val (entry s root) (full_entry s root) = subst (Known k val (entry s root)) root_node (of_places (Known k val) s s.first first_node firsts root root_in) in
-      ap val (let e : s.first + (count s + unturned s root i) ≡ s.first + (count s + 0) + unturned s root i = omega arith in e)
-      ∙ down-value k s root (further s 0) (entry s root) (λ v. entry s (turned s root v)) val (shift (Known k val) down_part (behind (Known k val) s s.first first_node down_part known)) at_root.is_long (unturned s root i) (unturned-lt s root i pos)
-      ∙ entry-value k val s root at_root long
-
 -- ---- up a tree
 module _ (k : ℕ → Cell) (s : Site) (root : ℕ) (o : AtomicOp) where
   abbrev falling : ℕ → NewCell
@@ -208,7 +149,7 @@ module _ (k : ℕ → Cell) (s : Site) (root : ℕ) (o : AtomicOp) where
               let b = from_to-In (suc v) (count s - suc v) r.0 w.0 in
               subst (λ c. length (val c) ≡ s.length) r.2 (up-at (Known k val) known r.0 (omega arith)).is_long
 
--- ---- reduce
+-- ---- entries
 pub entry-cells : (k : ℕ → Cell) (s : Site) (ns : List NewCell) → EachAt (IsCell k) s.first (entries s ++ ns) → (i : ℕ) → i < count s → k (entry s i) ≡ cell_of (full_entry s i)
 entry-cells k s ns cells i h = (of_places (IsCell k) s s.first (full_entry s) (Rattle.plan_steps.proofs.Drawn.each_front (IsCell k) s.first (entries s) ns cells) i h).is_cell
 
@@ -218,50 +159,3 @@ entry-known k val x s ns known has i h =
     let e = of_places (Known k val) s s.first (full_entry s) (Rattle.plan_steps.proofs.Drawn.each_front (Known k val) s.first (entries s) ns known) i h in
     let a = has i h in
     (entry-value k val s i e a.1 ∙ a.0, e.is_long)
-
-pub reduce-sound : (ranks : ℕ) (k : ℕ → Cell) (s : Site) (root : ℕ) (o : AtomicOp) → Ground ranks k s → s.length % bytes_of s.ty ≡ 0 → ((i : ℕ) → i < count s → HasA k s i)
-    → EachAt (IsCell k) s.first (reduce_cells s root o) → EachAt (SoundNewCell ranks k) s.first (reduce_cells s root o)
-reduce-sound ranks k s root o ground whole has cells =
-    both_parts (SoundNewCell ranks k) s s.first (full_entry s) (up s root o)
-    (entries-sound ranks k s ground whole has)
-    (up-sound k s root o ranks ground.some ground.members whole (entry-cells k s (up s root o) cells) (behind (IsCell k) s s.first (full_entry s) (up s root o) cells))
-
-pub reduce-value : (k : ℕ → Cell) (val x : ℕ → List ℕ) (s : Site) (root : ℕ) (o : AtomicOp) → root < count s → s.length % bytes_of s.ty ≡ 0
-    → ((i : ℕ) → i < count s → (val (source_at s i) ≡ x i) × (length (val (source_at s i)) ≡ s.length)) → EachAt (Known k val) s.first (reduce_cells s root o)
-    → val (up_number s 0) ≡ folded o s.ty (map x (from_to 0 (count s))) (starting o s.ty s.length)
-reduce-value k val x s root o root_in whole has known = up-value k s root o val x root_in whole (entry-known k val x s (up s root o) known has) (behind (Known k val) s s.first (full_entry s) (up s root o) known)
-
--- ---- allreduce
-module _ (k : ℕ → Cell) (s : Site) (o : AtomicOp) where
-  abbrev back : List NewCell
-  back = down s 0 (further s (count s)) (up_number s 0) (up_number s)
-
-  last_part : (P : ℕ → NewCell → Type 0) → EachAt P (s.first + count s) (up s 0 o ++ back) → EachAt P (further s (count s)) back
-  last_part P h = subst (λ c. EachAt P c back) (let e : s.first + count s + count s ≡ s.first + (count s + count s) = omega arith in e) (behind P s (s.first + count s) (λ j. up_cell s 0 o (count s - 1 - j)) back h)
-
-  pub allreduce-sound : (ranks : ℕ) → Ground ranks k s → s.length % bytes_of s.ty ≡ 0 → ((i : ℕ) → i < count s → HasA k s i)
-      → EachAt (IsCell k) s.first (allreduce_cells s o) → EachAt (SoundNewCell ranks k) s.first (allreduce_cells s o)
-  allreduce-sound ranks ground whole has cells =
-      let ups = behind (IsCell k) s s.first (full_entry s) (up s 0 o ++ back) cells in
-      let firsts = Rattle.plan_steps.proofs.Drawn.each_front (IsCell k) (s.first + count s) (up s 0 o) back ups in
-      let pos = ground.some in
-      let c_cell : (v : ℕ) → v < count s → k (up_number s v) ≡ cell_of (up_cell s 0 o v) = λ v h. (up-at k s 0 o (IsCell k) firsts v h).is_cell in
-      both_parts (SoundNewCell ranks k) s s.first (full_entry s) (up s 0 o ++ back)
-      (entries-sound ranks k s ground whole has)
-      (both_parts (SoundNewCell ranks k) s (s.first + count s) (λ j. up_cell s 0 o (count s - 1 - j)) back
-      (up-sound k s 0 o ranks ground.some ground.members whole (entry-cells k s (up s 0 o ++ back) cells) firsts)
-      (subst (λ c. EachAt (SoundNewCell ranks k) c back) (let e : s.first + (count s + count s) ≡ s.first + count s + count s = omega arith in e)
-      (down-sound k s 0 (further s (count s)) (up_number s 0) (up_number s) ranks pos ground.members whole (omega arith)
-      (ap (λ (c : Cell). c.length) (c_cell 0 pos))
-      (λ v h. (omega arith, ap (λ (c : Cell). c.rank) (c_cell v h)))
-      (last_part (IsCell k) ups))))
-
-  pub allreduce-value : (val x : ℕ → List ℕ) → 0 < count s → s.length % bytes_of s.ty ≡ 0
-      → ((i : ℕ) → i < count s → (val (source_at s i) ≡ x i) × (length (val (source_at s i)) ≡ s.length)) → EachAt (Known k val) s.first (allreduce_cells s o)
-      → (i : ℕ) → i < count s → val (further s (count s + i)) ≡ folded o s.ty (map x (from_to 0 (count s))) (starting o s.ty s.length)
-  allreduce-value val x pos whole has known i h =
-      let ups = behind (Known k val) s s.first (full_entry s) (up s 0 o ++ back) known in
-      let firsts = Rattle.plan_steps.proofs.Drawn.each_front (Known k val) (s.first + count s) (up s 0 o) back ups in
-      ap val (let e : s.first + (count s + (count s + i)) ≡ s.first + (count s + count s) + i = omega arith in e)
-      ∙ down-value k s 0 (further s (count s)) (up_number s 0) (up_number s) val (last_part (Known k val) ups) (up-at k s 0 o (Known k val) firsts 0 pos).is_long i h
-      ∙ up-value k s 0 o val x pos whole (entry-known k val x s (up s 0 o ++ back) known has) firsts

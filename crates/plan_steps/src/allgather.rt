@@ -79,7 +79,8 @@ impl Rows for Collected {
 
     fn draw(&self, plan: &mut Plan, site: &Site, _number: u32, place: u32) -> Result<(), NoMemory> {
         let length = u64::from(site.count()) * site.length();
-        draw_wide(plan, site, site.holding(length, place), &Passed { place })?;
+        let part = site.holding(length, place);
+        draw_wide(plan, site, part, &Passed { place })?;
         Ok(())
     }
 }

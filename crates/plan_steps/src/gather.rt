@@ -36,7 +36,8 @@ fn draw_gathered(plan: &mut Plan, site: &Site, root: u32) -> Result<(), NoMemory
     ensures { IfOk result (λ u. plan.new ≡ add plan.old (gathered site.now root)) }
 {
     let length = u64::from(site.count()) * site.length();
-    draw_wide(plan, site, site.holding(length, root), &Lists)?;
+    let part = site.holding(length, root);
+    draw_wide(plan, site, part, &Lists)?;
     Ok(())
 }
 

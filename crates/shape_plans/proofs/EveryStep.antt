@@ -33,12 +33,19 @@ use Rattle.coll_shape.specs.Folding.{at, folded, reduced, block, joined_lists}
 use Rattle.plan_steps.proofs.Drawn.{each_back, each_front, each_of_map, length-rows}
 use Rattle.plan_steps.proofs.Entries.{behind, of_places}
 use Rattle.plan_steps.proofs.Folds.{length-folded}
-use Rattle.plan_steps.proofs.Trees.{allreduce-sound, allreduce-value, broadcast-sound, broadcast-value, reduce-sound, reduce-value, turned-back, unturned-lt, up-at}
-use Rattle.plan_steps.proofs.Meshes.{allgather-sound, allgather-value, alltoall-sound, alltoall-value, end_part, gather-sound, gather-value}
-use Rattle.plan_steps.proofs.Rounds.{barrier-sound, round-at, scan-at, scan-sound, scan-value}
-use Rattle.plan_steps.proofs.Scatters.{scatter-sound, scatter-value}
-use Rattle.plan_steps.proofs.More.{exscan-sound, exscan-value, reducescatter-sound, reducescatter-value}
-use Rattle.plan_steps.proofs.Gathervs.{gatherv-sound, gatherv-value}
+use Rattle.plan_steps.proofs.allreduce.Laws.{allreduce-sound, allreduce-value}
+use Rattle.plan_steps.proofs.broadcast.Laws.{broadcast-sound, broadcast-value}
+use Rattle.plan_steps.proofs.reduce.Laws.{reduce-sound, reduce-value}
+use Rattle.plan_steps.proofs.Trees.{turned-back, unturned-lt, up-at}
+use Rattle.plan_steps.proofs.allgather.Laws.{allgather-sound, allgather-value, end_part}
+use Rattle.plan_steps.proofs.alltoall.Laws.{alltoall-sound, alltoall-value}
+use Rattle.plan_steps.proofs.gather.Laws.{gather-sound, gather-value}
+use Rattle.plan_steps.proofs.barrier.Laws.{barrier-sound, round-at}
+use Rattle.plan_steps.proofs.scan.Laws.{scan-at, scan-sound, scan-value}
+use Rattle.plan_steps.proofs.scatter.Laws.{scatter-sound, scatter-value}
+use Rattle.plan_steps.proofs.exscan.Laws.{exscan-sound, exscan-value}
+use Rattle.plan_steps.proofs.reducescatter.Laws.{reducescatter-sound, reducescatter-value}
+use Rattle.plan_steps.proofs.gatherv.Laws.{gatherv-sound, gatherv-value}
 use Rattle.shape_plans.specs.Steps.{cells_of, end_of}
 use Rattle.shape_plans.specs.Results.{IsResult}
 use Rattle.shape_plans.specs.Results.IsResult.{Holds, IsEmpty}

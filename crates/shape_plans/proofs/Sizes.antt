@@ -11,10 +11,29 @@ use Rattle.coll_shape.specs.Outline.{Outline, buffer_at, group_at, list_bytes, s
 use Rattle.coll_shape.specs.Collectives.{source_of, IsRoot, is_in}
 use Rattle.coll_shape.specs.WellFormed.{IsWellFormed}
 use Rattle.plan_steps.specs.Site.{Site, count}
-use Rattle.plan_steps.proofs.StepSizes.{allgather-bytes, allgather-links, alltoall-links, barrier-links, broadcast-links, bytes-cons, bytes-row, gather-links, links-row}
-use Rattle.plan_steps.proofs.MoreSizes.{allreduce-links, exscan-links, reduce-links, reducescatter-links, scan-links, scatter-links}
-use Rattle.plan_steps.proofs.StepBytes.{allreduce-bytes, alltoall-bytes, barrier-bytes, broadcast-bytes, exscan-bytes, gather-bytes, reduce-bytes, reducescatter-bytes, scan-bytes, scatter-bytes}
-use Rattle.plan_steps.proofs.HeldSizes.{gatherv-bytes, gatherv-links}
+use Rattle.plan_steps.proofs.allgather.Sizes.{allgather-bytes, allgather-links}
+use Rattle.plan_steps.proofs.alltoall.Sizes.{alltoall-links}
+use Rattle.plan_steps.proofs.barrier.Sizes.{barrier-links}
+use Rattle.plan_steps.proofs.broadcast.Sizes.{broadcast-links}
+use Rattle.plan_steps.proofs.StepSizes.{bytes-cons, bytes-row, links-row}
+use Rattle.plan_steps.proofs.gather.Sizes.{gather-links}
+use Rattle.plan_steps.proofs.allreduce.Sizes.{allreduce-links}
+use Rattle.plan_steps.proofs.exscan.Sizes.{exscan-links}
+use Rattle.plan_steps.proofs.reduce.Sizes.{reduce-links}
+use Rattle.plan_steps.proofs.reducescatter.Sizes.{reducescatter-links}
+use Rattle.plan_steps.proofs.scan.Sizes.{scan-links}
+use Rattle.plan_steps.proofs.scatter.Sizes.{scatter-links}
+use Rattle.plan_steps.proofs.allreduce.Sizes.{allreduce-bytes}
+use Rattle.plan_steps.proofs.alltoall.Sizes.{alltoall-bytes}
+use Rattle.plan_steps.proofs.barrier.Sizes.{barrier-bytes}
+use Rattle.plan_steps.proofs.broadcast.Sizes.{broadcast-bytes}
+use Rattle.plan_steps.proofs.exscan.Sizes.{exscan-bytes}
+use Rattle.plan_steps.proofs.gather.Sizes.{gather-bytes}
+use Rattle.plan_steps.proofs.reduce.Sizes.{reduce-bytes}
+use Rattle.plan_steps.proofs.reducescatter.Sizes.{reducescatter-bytes}
+use Rattle.plan_steps.proofs.scan.Sizes.{scan-bytes}
+use Rattle.plan_steps.proofs.scatter.Sizes.{scatter-bytes}
+use Rattle.plan_steps.proofs.gatherv.Sizes.{gatherv-bytes, gatherv-links}
 use Rattle.shape_plans.specs.Steps.{cells_of}
 use Rattle.shape_plans.specs.Drawing.{drawn_inputs, drawn_upto, input_cell, site}
 use Rattle.shape_plans.specs.Footprint.{judged, refusal, refusal_from, refused_at, size_of, step_bytes, step_links}

@@ -17,8 +17,9 @@ use Rattle.plan_core.specs.declared.Cell.{Cell}
 use Rattle.plan_core.specs.declared.Incoming.{Incoming}
 use Rattle.plan_steps.proofs.Drawn.{each_back, each_front, each_of_map, each_of_rows, length-rows}
 use Rattle.plan_steps.proofs.Entries.{behind, of_places}
-use Rattle.plan_steps.proofs.Meshes.{end_part}
-use Rattle.plan_steps.proofs.Rounds.{round-at, scan-at}
+use Rattle.plan_steps.proofs.allgather.Laws.{end_part}
+use Rattle.plan_steps.proofs.barrier.Laws.{round-at}
+use Rattle.plan_steps.proofs.scan.Laws.{scan-at}
 use Rattle.plan_steps.proofs.Trees.{turned-back, unturned-lt, up-at}
 use Rattle.plan_steps.specs.Sounding.{EachAt}
 use Rattle.plan_machine.specs.Machine.{Leads}

@@ -1,85 +1,22 @@
--- Gather, allgather and alltoall: sound, and what they hold.
-use Rattle.std.proofs.Common.{ℕ, zero, suc, ◌+◌, ◌-◌, ◌*◌, ◌/◌, ◌%◌, ◌≡◌, ◌≤◌, ◌<◌, List, ◌++◌, refl, length, map, flat_map, ap, ◌∙◌, sym, subst, arith, mod-lt}
-use Rattle.std.proofs.Math.Nat.{mul-le-mul_right}
-use Rattle.op_laws.proofs.Bytes.{length-part, part_all}
+-- An allgather is sound, and each place has all lists: they go round a ring.
+use Rattle.std.proofs.Common.{ℕ, zero, suc, ◌+◌, ◌-◌, ◌*◌, ◌%◌, ◌≡◌, ◌<◌, List, ◌++◌, refl, length, map, flat_map, ap, ◌∙◌, sym, subst, arith, mod-lt}
+use Rattle.op_laws.proofs.Bytes.{part_all}
 use Rattle.plan_core.specs.Draw.{NewCell}
 use Rattle.plan_core.specs.Plan.{from_to}
 use Rattle.plan_core.specs.declared.Cell.{Cell}
-use Rattle.plan_steps.proofs.CellKinds.{gathering, gathering-sound, gathering-value, taking-sound, taking-value}
+use Rattle.plan_steps.proofs.CellKinds.{gathering-sound, gathering-value, taking-sound, taking-value}
 use Rattle.plan_steps.proofs.Drawn.{each_append, each_back, each_front, each_of_rows, each_rows, length-rows}
 use Rattle.plan_steps.proofs.Entries.{Ground, HasA, IsCell, Known, behind, both_parts, each_places, entries-sound, of_places}
 use Rattle.plan_steps.proofs.Folds.{Turned, turn}
 use Rattle.plan_steps.proofs.Folds.Turned.{Above, Below}
 use Rattle.plan_steps.proofs.Trees.{entry-cells, entry-known}
-use Rattle.plan_steps.specs.Sounding.{EachAt, SoundNewCell}
 use Rattle.plan_steps.specs.Allgather.{allgather_cells, collected, origin, ring_cell, ring_node}
-use Rattle.plan_steps.specs.Alltoall.{alltoall_cells}
-use Rattle.plan_steps.specs.Gather.{gather_cells}
 use Rattle.plan_steps.specs.Site.{Site, count, entry, full_entry, further, places, rank_at, rows, source_at}
-use Rattle.ptl_types.specs.Elements.{part}
+use Rattle.plan_steps.specs.Sounding.{EachAt, SoundNewCell}
 use Rattle.ptl_types.specs.Operations.{bytes_of}
+use Rattle.std.proofs.Math.Nat.{mul-le-mul_right}
 
 module _ (k : ℕ → Cell) (s : Site) where
-  -- ---- gather
-  pub gather-sound : (ranks root : ℕ) → Ground ranks k s → root < count s → s.length % bytes_of s.ty ≡ 0 → (count s * s.length) % bytes_of s.ty ≡ 0 → ((i : ℕ) → i < count s → HasA k s i)
-      → EachAt (IsCell k) s.first (gather_cells s root) → EachAt (SoundNewCell ranks k) s.first (gather_cells s root)
-  gather-sound ranks root ground root_in whole whole' has cells =
-      both_parts (SoundNewCell ranks k) s s.first (full_entry s) _
-      (entries-sound ranks k s ground whole has) (
-        gathering-sound ranks k (s.first + count s) s.ty (count s * s.length) s.length (count s) (rank_at s root) (entry s) (λ q. 0) (λ q. q) (ground.members root root_in) whole' refl ground.some
-            (λ d h. (omega arith, (let l = ap (λ (c : Cell). c.length) (entry-cells k s _ cells d h) in omega (arith, l)), h)) (λ d e h i q. q),
-        tt,
-      )
-
-  pub gather-value : (root : ℕ) (val x : ℕ → List ℕ) → ((i : ℕ) → i < count s → (val (source_at s i) ≡ x i) × (length (val (source_at s i)) ≡ s.length)) → EachAt (Known k val) s.first (gather_cells s root)
-      → val (further s 0) ≡ flat_map x (from_to 0 (count s))
-  gather-value root val x has known =
-      let ent = entry-known k val x s _ known has in
-      let last = behind (Known k val) s s.first (full_entry s) _ known in
-      ap val (let e : s.first + (count s + 0) ≡ s.first + count s = omega arith in e)
-      ∙ last.0.is_value
-      ∙ gathering-value s.ty (count s * s.length) s.length (count s) (rank_at s root) (entry s) (λ q. 0) (λ q. q) val x refl
-      (λ q h. ap length (sym (ent q h).0) ∙ (ent q h).1)
-      (λ d h. (h, part_all s.length (val (entry s d)) (ent d h).1 ∙ (ent d h).0)) (λ d e h i q. q)
-
-  -- ---- alltoall: m bytes for each place
-  pub alltoall-sound : (ranks m : ℕ) → Ground ranks k s → s.length % bytes_of s.ty ≡ 0 → s.length / count s ≡ m → s.length ≡ count s * m → ((i : ℕ) → i < count s → HasA k s i)
-      → EachAt (IsCell k) s.first (alltoall_cells s) → EachAt (SoundNewCell ranks k) s.first (alltoall_cells s)
-  alltoall-sound ranks m ground whole is_m all has cells =
-      both_parts (SoundNewCell ranks k) s s.first (full_entry s) _
-      (entries-sound ranks k s ground whole has)
-      (each_places (SoundNewCell ranks k) s (s.first + count s) (λ r. gathering s.ty s.length (s.length / count s) (count s) (rank_at s r) (entry s) (λ q. r * (s.length / count s)) (λ q. q))
-      (λ r h. gathering-sound ranks k (s.first + count s + r) s.ty s.length (s.length / count s) (count s) (rank_at s r) (entry s) (λ q. r * (s.length / count s)) (λ q. q) (ground.members r h) whole (all ∙ ap (λ v. count s * v) (sym is_m)) ground.some
-      (λ d i. (omega arith, (let l = ap (λ (c : Cell). c.length) (entry-cells k s _ cells d i) in let w = before r h in omega (arith, l, w, all, is_m)), i)) (λ d e i j q. q)))
-    where
-      before : (r : ℕ) → r < count s → r * (s.length / count s) + s.length / count s ≤ s.length
-      before r h =
-          let e : suc r * (s.length / count s) ≡ r * (s.length / count s) + s.length / count s = omega arith in
-          let l = mul-le-mul_right (s.length / count s) h in
-          let q : count s * (s.length / count s) ≡ s.length = ap (λ v. count s * v) is_m ∙ sym all in
-          omega (arith, e, l, q)
-
-  pub alltoall-value : (m : ℕ) (val x : ℕ → List ℕ) → s.length / count s ≡ m → s.length ≡ count s * m → ((i : ℕ) → i < count s → (val (source_at s i) ≡ x i) × (length (val (source_at s i)) ≡ s.length)) → EachAt (Known k val) s.first (alltoall_cells s)
-      → (r : ℕ) → r < count s → val (further s r) ≡ flat_map (λ q. part (r * m) m (x q)) (from_to 0 (count s))
-  alltoall-value m val x is_m all has known r h =
-      let ent = entry-known k val x s _ known has in
-      let last = of_places (Known k val) s (s.first + count s) _ (behind (Known k val) s s.first (full_entry s) _ known) r h in
-      let full : s.length ≡ count s * (s.length / count s) = all ∙ ap (λ v. count s * v) (sym is_m) in
-      ap val (let e : s.first + (count s + r) ≡ s.first + count s + r = omega arith in e)
-      ∙ last.is_value
-      ∙ gathering-value s.ty s.length (s.length / count s) (count s) (rank_at s r) (entry s) (λ q. r * (s.length / count s)) (λ q. q) val (λ q. part (r * (s.length / count s)) (s.length / count s) (x q)) full
-      (λ q i. let l = ap length (sym (ent q i).0) ∙ (ent q i).1 in length-part (r * (s.length / count s)) (s.length / count s) (x q) (let w = before r h in omega (arith, l, w)))
-      (λ d i. (i, ap (part (r * (s.length / count s)) (s.length / count s)) (ent d i).0)) (λ d e i j q. q)
-      ∙ ap (λ v. flat_map (λ q. part (r * v) v (x q)) (from_to 0 (count s))) is_m
-    where
-      before : (r : ℕ) → r < count s → r * (s.length / count s) + s.length / count s ≤ s.length
-      before r h =
-          let e : suc r * (s.length / count s) ≡ r * (s.length / count s) + s.length / count s = omega arith in
-          let l = mul-le-mul_right (s.length / count s) h in
-          let q : count s * (s.length / count s) ≡ s.length = ap (λ v. count s * v) is_m ∙ sym all in
-          omega (arith, e, l, q)
-
-  -- ---- allgather: a ring
   abbrev ring_rows : List NewCell
   ring_rows = rows s (ring_node s) 0 (count s)
 

@@ -1,18 +1,18 @@
--- Gather of what is held: sound, and what it holds.
+-- A gather of what is held is sound, and the root has the lists of those that hold one.
 use Rattle.std.proofs.Common.{ℕ, zero, suc, Bool, true, false, cond, ◌+◌, ◌*◌, ◌%◌, ◌≡◌, ◌<◌, List, [], ◌∷◌, ◌++◌, refl, length, map, filter, flat_map, get_or, ap, ap₂, ◌∙◌, sym, subst, arith, le_of_suc-le-suc}
+use Rattle.coll_shape.specs.Collectives.{is_in}
 use Rattle.op_laws.proofs.Bytes.{part_all}
-use Rattle.ptl_types.specs.Operations.{bytes_of}
-use Rattle.plan_core.specs.declared.Cell.{Cell}
 use Rattle.plan_core.specs.Draw.{cell_of}
 use Rattle.plan_core.specs.Plan.{from_to}
-use Rattle.plan_steps.specs.Site.{Site, bare_entry, count, entry, exit_at, full_entry, further, places, rank_at, source_at}
-use Rattle.coll_shape.specs.Collectives.{is_in}
-use Rattle.plan_steps.specs.Gatherv.{concatenated, gatherv_cells, held_entry}
-use Rattle.plan_steps.specs.Sounding.{EachAt, Ground, HasA, IsCell, Known, SoundNewCell}
+use Rattle.plan_core.specs.declared.Cell.{Cell}
 use Rattle.plan_steps.proofs.CellKinds.{bumped-sound, copying-sound, gathering_after-sound, gathering_after-value}
 use Rattle.plan_steps.proofs.Drawn.{each_front}
 use Rattle.plan_steps.proofs.Entries.{behind, both_parts, each_places, entry-value, of_places}
 use Rattle.plan_steps.proofs.HeldSizes.{is_in-filter}
+use Rattle.plan_steps.specs.Gatherv.{concatenated, gatherv_cells, held_entry}
+use Rattle.plan_steps.specs.Site.{Site, bare_entry, count, entry, exit_at, full_entry, further, places, rank_at, source_at}
+use Rattle.plan_steps.specs.Sounding.{EachAt, Ground, HasA, IsCell, Known, SoundNewCell}
+use Rattle.ptl_types.specs.Operations.{bytes_of}
 
 -- a member of a filtered row is within the row, and has passed the test
 pub filtered-at : (t : ℕ → Bool) (k n j : ℕ) → j < length (filter t (from_to k n)) → (get_or (filter t (from_to k n)) j 0 < k + n) × (t (get_or (filter t (from_to k n)) j 0) ≡ true)

@@ -1,17 +1,17 @@
--- Scatter: sound, and what it holds.
+-- A scatter is sound, and each place has its block of the root's list.
 use Rattle.std.proofs.Common.{ℕ, Bool, true, false, cond, ◌+◌, ◌*◌, ◌%◌, ◌≡◌, ◌≤◌, ◌<◌, ◌==◌, List, [], ◌∷◌, refl, length, map, ap, ◌∙◌, sym, subst, arith, eqb-true, eq-eqb}
-use Rattle.ptl_types.specs.Elements.{part}
-use Rattle.ptl_types.specs.Operations.{bytes_of}
-use Rattle.plan_core.specs.declared.Cell.{Cell}
 use Rattle.plan_core.specs.Draw.{NewCell, cell_of}
-use Rattle.plan_steps.specs.Site.{Site, bare_entry, bump, count, entry, exit_at, full_entry, further, holding, places, rank_at, source_at, block_length}
-use Rattle.plan_steps.specs.Broadcast.{first_cell}
-use Rattle.plan_steps.specs.Scatter.{scatter_cells, scatter_put, scattered}
-use Rattle.plan_steps.specs.Sounding.{EachAt, Ground, HasA, IsCell, Known, SoundNewCell, new_value}
+use Rattle.plan_core.specs.declared.Cell.{Cell}
 use Rattle.plan_steps.proofs.CellKinds.{bumped-sound, copying-sound}
+use Rattle.plan_steps.proofs.Cutting.{cutting-sound, cutting_after-sound, cutting-value, cutting_after-value, within}
 use Rattle.plan_steps.proofs.Drawn.{each_front}
 use Rattle.plan_steps.proofs.Entries.{behind, both_parts, each_places, entry-value, of_places}
-use Rattle.plan_steps.proofs.More.{cutting-sound, cutting-value, cutting_after-sound, cutting_after-value, within}
+use Rattle.plan_steps.specs.Broadcast.{first_cell}
+use Rattle.plan_steps.specs.Scatter.{scatter_cells, scatter_put, scattered}
+use Rattle.plan_steps.specs.Site.{Site, bare_entry, bump, count, entry, exit_at, full_entry, further, holding, places, rank_at, source_at, block_length}
+use Rattle.plan_steps.specs.Sounding.{EachAt, Ground, HasA, IsCell, Known, SoundNewCell, new_value}
+use Rattle.ptl_types.specs.Elements.{part}
+use Rattle.ptl_types.specs.Operations.{bytes_of}
 
 module _ (k : ℕ → Cell) (s : Site) (root : ℕ) (root_in : root < count s) where
   root_first : first_cell s root root ≡ full_entry s root
