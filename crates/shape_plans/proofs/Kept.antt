@@ -1,141 +1,29 @@
 -- A step keeps what is kept.
-use Rattle.std.proofs.Common.{ℕ, zero, suc, Bool, true, false, cond, ◌+◌, ◌*◌, ◌/◌, ◌≡◌, ◌≤◌, ◌<◌, ◌⊎◌, ◌==◌, List, [], ◌∷◌, refl, length, get_or, ap, ap₂, ◌∙◌, sym, subst, inl, inr, arith, Option, Some, None, eq-eqb, eqb-true, eq-or-lt_of_le, le_of_suc-le-suc}
-use Rattle.ptl_types.specs.Operations.{bytes_of}
-use Rattle.plan_core.specs.declared.Cell.{Cell}
+use Rattle.std.proofs.Common.{ℕ, suc, ◌+◌, ◌*◌, ◌≡◌, ◌≤◌, ◌<◌, ◌⊎◌, List, [], refl, length, get_or, ap, ◌∙◌, sym, subst, inl, inr, arith, Option, Some, None, eq-or-lt_of_le, le_of_suc-le-suc}
+use Rattle.coll_shape.specs.Collectives.{result_of, source_of, buffer_after, named}
+use Rattle.coll_shape.specs.Meaning.{at_place, place_from}
+use Rattle.coll_shape.specs.Outline.{Outline, buffer_at, list_bytes, read_buffer}
+use Rattle.coll_shape.specs.WellFormed.{AreMembers, StepFits, and_one}
+use Rattle.coll_shape.specs.declared.types.Buffer.{Buffer}
+use Rattle.coll_shape.specs.declared.types.CollStep.{CollStep}
 use Rattle.plan_core.specs.Draw.{HeldCells, held_cell}
 use Rattle.plan_core.specs.Members.{In}
 use Rattle.plan_core.specs.Plan.{Plan, cell}
-use Rattle.coll_shape.specs.declared.types.Buffer.{Buffer}
-use Rattle.coll_shape.specs.declared.types.CollStep.{CollStep}
-use Rattle.coll_shape.specs.declared.types.CollStep.TheVariants.{Barrier, Broadcast, Reduce, Allreduce, Gather, Allgather, Alltoall, Scan, Scatter, Reducescatter, Exscan, Gatherv}
-use Rattle.coll_shape.specs.Outline.{Outline, buffer_at, list_bytes, read_buffer}
-use Rattle.coll_shape.specs.Collectives.{result_of, source_of, IsRoot, holding_places, all_but_first, buffer_after, named, Reads}
-use Rattle.coll_shape.specs.WellFormed.{AreMembers, StepFits, and_one}
-use Rattle.plan_steps.specs.declared.ends.End.{End}
-use Rattle.plan_steps.specs.Site.{Site, entry, further}
-use Rattle.plan_steps.specs.Steps.{end_at, exits_by, giving, held_by, passing}
-use Rattle.plan_steps.specs.Beginning.{held_after}
-use Rattle.plan_steps.specs.Trees.{unturned, up_number}
-use Rattle.plan_steps.specs.Sounding.{EachAt, with_cells}
-use Rattle.plan_steps.proofs.Grow.{In-get_or}
+use Rattle.plan_core.specs.declared.Cell.{Cell}
 use Rattle.plan_steps.proofs.Drawn.{Extends, extends-all, grows_all}
 use Rattle.plan_steps.proofs.Entries.{get_or-each}
 use Rattle.plan_steps.proofs.Settled.{exits_by-rank, exits_by-stays, held_by-member, held_by-stays, length-exits_by, many-held_by, buffers-held_by, ranks-held_by, rows-apart}
-use Rattle.shape_plans.specs.Steps.{cells_of, end_of, ends_of}
-use Rattle.coll_shape.specs.Meaning.{at_place, place_from}
-use Rattle.shape_plans.proofs.Places.{IsMember, PlaceOf, member, no-place, place-is, place-of}
+use Rattle.plan_steps.specs.Beginning.{held_after}
+use Rattle.plan_steps.specs.Site.{Site}
+use Rattle.plan_steps.specs.Sounding.{EachAt, with_cells}
+use Rattle.plan_steps.specs.Steps.{end_at, exits_by, held_by, passing}
+use Rattle.plan_steps.specs.declared.ends.End.{End}
+use Rattle.shape_plans.proofs.ByCollective.{Kind, after_bytes, after_ty, held_here, held_there, kind_of}
+use Rattle.shape_plans.proofs.ByCollective.Kind.{Makes, Plain}
 use Rattle.shape_plans.proofs.EveryStep.{bytes_after, exit_node, holder_node}
-use Rattle.shape_plans.proofs.Whole.{Fine, HeldCell, Inside, blocks_long, inside_all, sound_cells}
-
--- ---- who holds B, by the site and by the shape
--- the cell at the member place of rank r that holds B
-pub record Here (g : List ℕ) (r : ℕ) (s : Site) (step : CollStep) : Type 0 where
-  pub place : ℕ
-  pub is : PlaceOf g r place
-  pub cell : ℕ
-  pub holder : (end_of s step place).holder ≡ Some cell
-
-here_of : {g : List ℕ} {r : ℕ} {s : Site} {step : CollStep} → (f : ℕ → ℕ) → ((i : ℕ) → (end_of s step i).holder ≡ Some (f i)) → IsMember g r → Here g r s step
-here_of f h m = record { place = m.place; is = m.is; cell = f m.place; holder = h m.place }
-
-behind-at : (g : List ℕ) (r : ℕ) → In r (all_but_first g) → (j : ℕ) × PlaceOf g r (suc j)
-behind-at [] r h = absurd h
-behind-at (x ∷ xs) r h = let m = member xs r h in let b = m.is.below in (m.place, record { below = omega arith; there = m.is.there })
-
-in-behind : (g : List ℕ) (j : ℕ) → suc j < length g → In (get_or g (suc j) 0) (all_but_first g)
-in-behind [] j h = absurd (omega arith)
-in-behind (x ∷ xs) j h = In-get_or xs j 0 (le_of_suc-le-suc h)
-
-held_here : (g : List ℕ) (r : ℕ) (s : Site) (step : CollStep) (a : ℕ) → source_of step ≡ Some a → IsRoot step (length g) → (x : Buffer) → In r (buffer_after g step x).spread.holders → Here g r s step
-held_here g r s Barrier a e f x h = cc
-held_here g r s (Broadcast root a' b) a e f x h = here_of {step = Broadcast root a' b} (λ i. further s (unturned s root i)) (λ i. refl) (member g r h)
-held_here g r s (Allreduce o a' b) a e f x h = here_of {step = Allreduce o a' b} (λ i. (end_of s (Allreduce o a' b) i).exit) (λ i. refl) (member g r h)
-held_here g r s (Allgather a' b) a e f x h = here_of {step = Allgather a' b} (λ i. (end_of s (Allgather a' b) i).exit) (λ i. refl) (member g r h)
-held_here g r s (Alltoall a' b) a e f x h = here_of {step = Alltoall a' b} (λ i. (end_of s (Alltoall a' b) i).exit) (λ i. refl) (member g r h)
-held_here g r s (Scan o a' b) a e f x h = here_of {step = Scan o a' b} (λ i. (end_of s (Scan o a' b) i).exit) (λ i. refl) (member g r h)
-held_here g r s (Scatter root a' b) a e f x h = here_of {step = Scatter root a' b} (λ i. (end_of s (Scatter root a' b) i).exit) (λ i. refl) (member g r h)
-held_here g r s (Reducescatter o a' b) a e f x h = here_of {step = Reducescatter o a' b} (λ i. (end_of s (Reducescatter o a' b) i).exit) (λ i. refl) (member g r h)
-held_here g r s (Exscan o a' b) a e f x h = let m = behind-at g r h in record { place = suc m.0; is = m.1; cell = (end_of s (Exscan o a' b) (suc m.0)).exit; holder = refl }
-held_here g r s (Reduce root o a' b) a e f x (inl h) = record { place = root; is = record { below = f; there = h }; cell = up_number s 0; holder = ap (λ t. (cond t (giving (up_number s 0)) (passing (up_number s (unturned s root root)))).holder) (eq-eqb root root refl) }
-held_here g r s (Reduce root o a' b) a e f x (inr h) = absurd h
-held_here g r s (Gather root a' b) a e f x (inl h) = record { place = root; is = record { below = f; there = h }; cell = further s 0; holder = ap (λ t. (cond t (giving (further s 0)) (passing (entry s root))).holder) (eq-eqb root root refl) }
-held_here g r s (Gather root a' b) a e f x (inr h) = absurd h
-held_here g r s (Gatherv root a' b) a e f x (inl h) = record { place = root; is = record { below = f; there = h }; cell = further s 0; holder = ap (λ t. (cond t (giving (further s 0)) (passing (entry s root))).holder) (eq-eqb root root refl) }
-held_here g r s (Gatherv root a' b) a e f x (inr h) = absurd h
-
--- and back
-at_root_only : (g : List ℕ) (i root c d u : ℕ) → (cond (i == root) (giving d) (passing u)).holder ≡ Some c → In (get_or g i 0) (get_or g root 0 ∷ [])
-at_root_only g i root c d u e = at (i == root) refl e
-  where
-    at : (t : Bool) → (i == root) ≡ t → (cond t (giving d) (passing u)).holder ≡ Some c → In (get_or g i 0) (get_or g root 0 ∷ [])
-    at true f h = inl (ap (λ j. get_or g j 0) (sym (eqb-true _ _ f)))
-    at false f h = cc
-
-held_there : (g : List ℕ) (s : Site) (step : CollStep) (x : Buffer) (i c : ℕ) → i < length g → (end_of s step i).holder ≡ Some c → In (get_or g i 0) (buffer_after g step x).spread.holders
-held_there g s Barrier x i c l e = cc
-held_there g s (Broadcast root a b) x i c l e = In-get_or g i 0 l
-held_there g s (Reduce root o a b) x i c l e = at_root_only g i root c (up_number s 0) (up_number s (unturned s root i)) e
-held_there g s (Allreduce o a b) x i c l e = In-get_or g i 0 l
-held_there g s (Gather root a b) x i c l e = at_root_only g i root c (further s 0) (entry s i) e
-held_there g s (Allgather a b) x i c l e = In-get_or g i 0 l
-held_there g s (Alltoall a b) x i c l e = In-get_or g i 0 l
-held_there g s (Scan o a b) x i c l e = In-get_or g i 0 l
-held_there g s (Scatter root a b) x i c l e = In-get_or g i 0 l
-held_there g s (Reducescatter o a b) x i c l e = In-get_or g i 0 l
-held_there g s (Exscan o a b) x zero c l e = cc
-held_there g s (Exscan o a b) x (suc j) c l e = in-behind g j l
-held_there g s (Gatherv root a b) x i c l e = at_root_only g i root c (further s 0) (entry s i) e
-
-after_ty : (g : List ℕ) (step : CollStep) (x : Buffer) → (buffer_after g step x).ty ≡ x.ty
-after_ty g Barrier x = refl
-after_ty g (Broadcast root a b) x = refl
-after_ty g (Reduce root o a b) x = refl
-after_ty g (Allreduce o a b) x = refl
-after_ty g (Gather root a b) x = refl
-after_ty g (Allgather a b) x = refl
-after_ty g (Alltoall a b) x = refl
-after_ty g (Scan o a b) x = refl
-after_ty g (Scatter root a b) x = refl
-after_ty g (Reducescatter o a b) x = refl
-after_ty g (Exscan o a b) x = refl
-after_ty g (Gatherv root a b) x = refl
-
-times : (m n w : ℕ) → m * (n * w) ≡ m * n * w
-times m n w = omega arith
-
--- B's length is what the shape says
-after_bytes : (g : List ℕ) (s : Site) (step : CollStep) (x : Buffer) → s.members ≡ g → s.holding ≡ holding_places g x.spread.holders → s.length ≡ list_bytes x → 0 < length g → Reads g step x → bytes_after s step ≡ list_bytes (buffer_after g step x)
-after_bytes g s Barrier x m w e pos r = e
-after_bytes g s (Broadcast root a b) x m w e pos r = e
-after_bytes g s (Reduce root o a b) x m w e pos r = e
-after_bytes g s (Allreduce o a b) x m w e pos r = e
-after_bytes g s (Gather root a b) x m w e pos r = ap₂ (λ u v. u * v) (ap length m) e ∙ times (length g) x.spread.length (bytes_of x.ty)
-after_bytes g s (Allgather a b) x m w e pos r = ap₂ (λ u v. u * v) (ap length m) e ∙ times (length g) x.spread.length (bytes_of x.ty)
-after_bytes g s (Alltoall a b) x m w e pos r = e
-after_bytes g s (Scan o a b) x m w e pos r = e
-after_bytes g s (Scatter root a b) x m w e pos r = ap₂ (λ u v. u / v) e (ap length m) ∙ blocks_long x.spread.length (length g) (bytes_of x.ty) pos r.1
-after_bytes g s (Reducescatter o a b) x m w e pos r = ap₂ (λ u v. u / v) e (ap length m) ∙ blocks_long x.spread.length (length g) (bytes_of x.ty) pos r.1
-after_bytes g s (Exscan o a b) x m w e pos r = e
-after_bytes g s (Gatherv root a b) x m w e pos r = ap₂ (λ u v. u * v) (ap length w) e ∙ times (length (holding_places g x.spread.holders)) x.spread.length (bytes_of x.ty)
-
--- a step makes a buffer from one that it reads, or it does neither
-pub data Kind (step : CollStep) : Type 0 where
-  Plain : source_of step ≡ None → result_of step ≡ None → Kind step
-  Makes : (a b : ℕ) → source_of step ≡ Some a → result_of step ≡ Some b → Kind step
-
-pub kind_of : (step : CollStep) → Kind step
-kind_of Barrier = Plain refl refl
-kind_of (Broadcast root a b) = Makes a b refl refl
-kind_of (Reduce root o a b) = Makes a b refl refl
-kind_of (Allreduce o a b) = Makes a b refl refl
-kind_of (Gather root a b) = Makes a b refl refl
-kind_of (Allgather a b) = Makes a b refl refl
-kind_of (Alltoall a b) = Makes a b refl refl
-kind_of (Scan o a b) = Makes a b refl refl
-kind_of (Scatter root a b) = Makes a b refl refl
-kind_of (Reducescatter o a b) = Makes a b refl refl
-kind_of (Exscan o a b) = Makes a b refl refl
-kind_of (Gatherv root a b) = Makes a b refl refl
+use Rattle.shape_plans.proofs.Places.{no-place, place-is, place-of}
+use Rattle.shape_plans.proofs.Whole.{Fine, HeldCell, Inside, inside_all, sound_cells}
+use Rattle.shape_plans.specs.Steps.{cells_of, end_of, ends_of}
 
 module _ (o : Outline) (m : ℕ) (p : Plan) (h : HeldCells) (e : List ℕ) (g : List ℕ) (step : CollStep) (fine : Fine o m p h e) (fits : StepFits o m g step) where
   abbrev s : Site

@@ -29,8 +29,9 @@ use Rattle.shape_plans.specs.Results.IsResult.{Holds, IsEmpty}
 use Rattle.shape_plans.proofs.Places.{place-of}
 use Rattle.shape_plans.proofs.EveryStep.{AsksValues, step-value}
 use Rattle.shape_plans.proofs.Whole.{Fine, blocks, does_hold, held_is, holder_of, holding, length_is, sound_cells, test_is, whole_site}
-use Rattle.shape_plans.proofs.Kept.{Kind, fine_after, held_new, held_old, kind_of}
-use Rattle.shape_plans.proofs.Kept.Kind.{Makes, Plain}
+use Rattle.shape_plans.proofs.ByCollective.{Kind, kind_of}
+use Rattle.shape_plans.proofs.Kept.{fine_after, held_new, held_old}
+use Rattle.shape_plans.proofs.ByCollective.Kind.{Makes, Plain}
 
 pub record Means (o : Outline) (inputs : Inputs) (m : ℕ) (p : Plan) (h : HeldCells) (means : List (List (List ℕ))) : Type 0 where
   pub many : length means ≡ m

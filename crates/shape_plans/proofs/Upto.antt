@@ -25,7 +25,7 @@ use Rattle.shape_plans.specs.declared.faults.CompileFault.TheVariants.{TooMany, 
 use Rattle.shape_plans.specs.Footprint.{judged}
 use Rattle.shape_plans.specs.Judging.{AreSteps, Judges, found_from, inputs_size, size_upto}
 use Rattle.shape_plans.specs.Compiling.{Draws}
-use Rattle.shape_plans.proofs.Linked.{few-after, room-for}
+use Rattle.shape_plans.proofs.ByCollective.{few-after, room-for}
 use Rattle.shape_plans.proofs.Sizes.{refusal-found, size-inputs, size-steps}
 use Rattle.coll_shape.specs.declared.limits.TheConstants.{MOST_RANKS}
 use Rattle.shape_plans.specs.declared.judging.TheConstants.{MOST_LINKS, MOST_BYTES}

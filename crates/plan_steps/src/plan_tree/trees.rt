@@ -1,12 +1,14 @@
 //! Binomial trees of the places.
 
 ghost use Rattle.std.specs.Prelude.{◌≡◌, ◌<◌, ◌≤◌, ◌+◌, ◌^◌, ◌==◌, ◌++◌, ◌∷◌, [], IfOk, map, if◌then◌else◌};
-ghost use Rattle.plan_core.specs.Draw.{HasRoom, add, add_all};
+ghost use Rattle.plan_core.specs.Draw.{HasRoom, add};
 ghost use Rattle.plan_steps.specs.Site.{atomic, count};
 ghost use Rattle.plan_steps.specs.Trees.{cleared, down_cell, parent, turned, unturned, up_at, up_cell, up_number, up_sources};
 
+use crate::incoming::{atomic, bump, put_whole};
+use crate::row::Rows;
+use crate::site::Site;
 use plan_core::{Incoming, Plan};
-use plan_steps::{Site, atomic, bump, put_whole};
 use ptl_types::{AtomicOp, NoMemory};
 use std::alloc::{AllocError, Global};
 
