@@ -40,6 +40,7 @@ fn ring_source(site: &Site, turn: u32, place: u32) -> u32
 }
 
 /// The turns of the ring.
+#[derive(Drop)]
 struct Turns;
 
 impl Rows for Turns {
@@ -54,6 +55,7 @@ impl Rows for Turns {
 }
 
 /// What a place collects, turn by turn.
+#[derive(Drop)]
 struct Passed {
     place: u32,
 }
@@ -72,6 +74,7 @@ impl Links for Passed {
 }
 
 /// The cells in which the places collect all lists.
+#[derive(Drop)]
 struct Collected;
 
 impl Rows for Collected {
@@ -86,6 +89,7 @@ impl Rows for Collected {
 }
 
 /// An allgather.
+#[derive(Drop)]
 pub(crate) struct Allgather;
 
 impl Collective for Allgather {

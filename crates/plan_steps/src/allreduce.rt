@@ -13,6 +13,7 @@ use ptl_types::{AtomicOp, NoMemory};
 use std::alloc::Global;
 
 /// The result's copies down the tree.
+#[derive(Drop)]
 struct Results;
 
 impl Rows for Results {
@@ -26,6 +27,7 @@ impl Rows for Results {
 }
 
 /// An allreduce.
+#[derive(Drop)]
 pub(crate) struct Allreduce {
     pub(crate) op: AtomicOp,
 }

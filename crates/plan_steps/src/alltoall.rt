@@ -16,6 +16,7 @@ use ptl_types::NoMemory;
 use std::alloc::Global;
 
 /// A place's block of each list.
+#[derive(Drop)]
 struct Blocks {
     place: u32,
 }
@@ -37,6 +38,7 @@ impl Links for Blocks {
 }
 
 /// The cells in which the places have their blocks.
+#[derive(Drop)]
 struct Exchanged;
 
 impl Rows for Exchanged {
@@ -50,6 +52,7 @@ impl Rows for Exchanged {
 }
 
 /// An alltoall.
+#[derive(Drop)]
 pub(crate) struct Alltoall;
 
 impl Collective for Alltoall {

@@ -15,6 +15,7 @@ use ptl_types::NoMemory;
 use std::alloc::Global;
 
 /// The rounds: in each a place tells the one at twice the distance.
+#[derive(Drop)]
 struct Told;
 
 impl Rows for Told {
@@ -34,6 +35,7 @@ impl Rows for Told {
 }
 
 /// A barrier.
+#[derive(Drop)]
 pub(crate) struct Barrier;
 
 impl Collective for Barrier {

@@ -15,6 +15,7 @@ use ptl_types::NoMemory;
 use std::alloc::Global;
 
 /// The copies down the tree.
+#[derive(Drop)]
 struct Copies {
     root: u32,
 }
@@ -33,6 +34,7 @@ impl Rows for Copies {
 }
 
 /// A broadcast from a root.
+#[derive(Drop)]
 pub(crate) struct Broadcast {
     pub(crate) root: u32,
 }

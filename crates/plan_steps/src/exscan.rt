@@ -16,6 +16,7 @@ use ptl_types::{AtomicOp, NoMemory};
 use std::alloc::Global;
 
 /// The cells of the places but the first: each gets what the place before it has. They are counted by that place.
+#[derive(Drop)]
 struct Shifted;
 
 impl Rows for Shifted {
@@ -34,6 +35,7 @@ impl Rows for Shifted {
 }
 
 /// An exclusive scan.
+#[derive(Drop)]
 pub(crate) struct Exscan {
     pub(crate) op: AtomicOp,
 }

@@ -17,6 +17,7 @@ use ptl_types::NoMemory;
 use std::alloc::Global;
 
 /// Each place's list, where the root keeps it.
+#[derive(Drop)]
 struct Lists;
 
 impl Links for Lists {
@@ -42,6 +43,7 @@ fn draw_gathered(plan: &mut Plan, site: &Site, root: u32) -> Result<(), NoMemory
 }
 
 /// A gather to a root.
+#[derive(Drop)]
 pub(crate) struct Gather {
     pub(crate) root: u32,
 }

@@ -18,6 +18,7 @@ use ptl_types::NoMemory;
 use std::alloc::{AllocError, Global};
 
 /// Entries with data where the buffer is held.
+#[derive(Drop)]
 struct HeldEntries;
 
 impl Rows for HeldEntries {
@@ -78,6 +79,7 @@ fn draw_concatenated(alloc: Global, plan: &mut Plan, site: &Site, root: u32) -> 
 }
 
 /// A gather of what is held, to a root.
+#[derive(Drop)]
 pub(crate) struct Gatherv {
     pub(crate) root: u32,
 }

@@ -15,6 +15,7 @@ use ptl_types::{AtomicOp, NoMemory};
 use std::alloc::Global;
 
 /// A reduce to a root.
+#[derive(Drop)]
 pub(crate) struct Reduce {
     pub(crate) root: u32,
     pub(crate) op: AtomicOp,

@@ -14,6 +14,7 @@ use ptl_types::{AtomicOp, NoMemory};
 use std::alloc::Global;
 
 /// The cells with the places' blocks of the fold.
+#[derive(Drop)]
 struct ResultBlocks;
 
 impl Rows for ResultBlocks {
@@ -32,6 +33,7 @@ impl Rows for ResultBlocks {
 }
 
 /// A reduce-scatter.
+#[derive(Drop)]
 pub(crate) struct Reducescatter {
     pub(crate) op: AtomicOp,
 }

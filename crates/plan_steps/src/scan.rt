@@ -25,6 +25,7 @@ pub(crate) fn scan_number(site: &Site, round: u32, place: u32) -> u32
 }
 
 /// The rounds.
+#[derive(Drop)]
 pub(crate) struct ScanRounds {
     pub(crate) op: AtomicOp,
 }
@@ -53,6 +54,7 @@ impl Rows for ScanRounds {
 }
 
 /// A scan.
+#[derive(Drop)]
 pub(crate) struct Scan {
     pub(crate) op: AtomicOp,
 }

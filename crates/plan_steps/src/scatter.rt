@@ -15,6 +15,7 @@ use ptl_types::NoMemory;
 use std::alloc::Global;
 
 /// The cells with the places' blocks.
+#[derive(Drop)]
 struct Scattered {
     root: u32,
 }
@@ -37,6 +38,7 @@ impl Rows for Scattered {
 }
 
 /// A scatter from a root.
+#[derive(Drop)]
 pub(crate) struct Scatter {
     pub(crate) root: u32,
 }

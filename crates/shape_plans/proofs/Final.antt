@@ -37,10 +37,9 @@ use Rattle.shape_plans.specs.Results.{IsResult, IsResultCell}
 use Rattle.shape_plans.specs.Results.IsResult.{IsEmpty}
 use Rattle.coll_shape.specs.Meaning.{AreInputs, lists_of, meaning_of, meant_upto}
 use Rattle.shape_plans.proofs.Whole.{Fine, sound_cells}
-use Rattle.shape_plans.proofs.ByCollective.{Kind, kind_of}
+use Rattle.shape_plans.proofs.ByCollective.{Kind, after-long, kind_of}
 use Rattle.shape_plans.proofs.Kept.{fine_after}
 use Rattle.shape_plans.proofs.ByCollective.Kind.{Plain, Makes}
-use Rattle.shape_plans.proofs.ByCollective.{after-long}
 use Rattle.shape_plans.proofs.Means.{Means, fit_after, means_after, result-at}
 use Rattle.shape_plans.proofs.Begin.{Begun, begun, fine-begun, means-begun}
 use Rattle.coll_shape.specs.declared.limits.TheConstants.{MOST_GIVEN}

@@ -270,13 +270,6 @@ pub step-after : (o : Outline) → {d e : Drawing} {s t : CollStep} {g k : List 
 step-after o {d} {e} {s} {t} {g} {k} a b u =
     ap (λ v. drawn_step o v s g) a ∙ ap (λ v. drawn_step o e v g) b ∙ ap (λ v. drawn_step o e t v) u
 
--- a drawing is its plan, its held cells and its exits
-pub same-drawing : (d e : Drawing) → d.plan ≡ e.plan → d.held ≡ e.held → d.exits ≡ e.exits → d ≡ e
-same-drawing d e a b c =
-    ap (λ p. record { plan = p; held = d.held; exits = d.exits }) a
-    ∙ ap (λ h. record { plan = e.plan; held = h; exits = d.exits }) b
-    ∙ ap (λ x. record { plan = e.plan; held = e.held; exits = x }) c
-
 -- a buffer of the shape, whatever stands past the last
 pub the-buffer : (o : Outline) (b : ℕ) (xs : List Buffer) (x : Buffer) → xs ≡ o.buffers → b < length o.buffers → x ≡ get_or xs b x → buffer_at o b ≡ x
 the-buffer o b xs x e l f = sym (get_or_read_under o.buffers b (length o.buffers) x no_buffer (f ∙ ap (λ ys. get_or ys b x) e) l refl)

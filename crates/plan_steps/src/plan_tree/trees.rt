@@ -143,6 +143,7 @@ fn draw_up_cell(
 }
 
 /// The way up: the cells of the places, the root's last.
+#[derive(Drop)]
 pub(crate) struct Up {
     pub(crate) alloc: Global,
     pub(crate) root: u32,
