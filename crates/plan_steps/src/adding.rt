@@ -72,6 +72,9 @@ pub fn add_step(
         CollStep::Scan { .. } | CollStep::Barrier => {
             plan_rounds::add(alloc, drawing, step, members, shape)
         }
-        _ => plan_blocks::add(alloc, drawing, step, members, shape),
+        CollStep::Scatter { .. }
+        | CollStep::Reducescatter { .. }
+        | CollStep::Exscan { .. }
+        | CollStep::Gatherv { .. } => plan_blocks::add(alloc, drawing, step, members, shape),
     }
 }

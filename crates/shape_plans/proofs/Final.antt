@@ -26,7 +26,7 @@ use Rattle.plan_steps.proofs.Bridge.{add_all-with}
 use Rattle.plan_steps.proofs.Drawn.{Extends, drawn_all, extends-all, extends-refl, extends-trans, comes-extends}
 use Rattle.plan_steps.proofs.Lengths.{length-value}
 use Rattle.plan_steps.proofs.barrier.Laws.{round-comes, round-inside, round-stays}
-use Rattle.plan_steps.proofs.Rounds.{rounds-enough}
+use Rattle.plan_steps.proofs.RoundCounts.{rounds-enough}
 use Rattle.shape_plans.specs.Steps.{cells_of}
 use Rattle.shape_plans.specs.Drawing.{Drawing, drawing_of, drawn_inputs, drawn_step, drawn_upto, plan_of, site}
 use Rattle.shape_plans.specs.Footprint.{Excess, Refused, footprint, judged, refusal, refusal_from, refused_at, size_of}

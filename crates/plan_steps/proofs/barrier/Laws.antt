@@ -10,7 +10,7 @@ use Rattle.plan_steps.proofs.Drawn.{Drawn, each_front, each_of_rows, each_rows}
 use Rattle.plan_steps.proofs.Entries.{Ground, IsCell, bare-sound, behind, both_parts, of_places}
 use Rattle.plan_steps.proofs.Folds.{Turned, turn}
 use Rattle.plan_steps.proofs.Folds.Turned.{Above, Below}
-use Rattle.plan_steps.proofs.Rounds.{rounds-few}
+use Rattle.plan_steps.proofs.RoundCounts.{rounds-few}
 use Rattle.plan_steps.specs.Barrier.{barrier_cells, round_links}
 use Rattle.plan_steps.specs.Rounds.{rounds}
 use Rattle.plan_steps.specs.Site.{Site, bare_entry, bump, count, entry, in_row, places, put, rank_at, rows, silent}

@@ -8,7 +8,7 @@ use Rattle.plan_core.specs.declared.Cell.{Cell}
 use Rattle.plan_steps.proofs.CellKinds.{combining-sound, combining-value}
 use Rattle.plan_steps.proofs.Drawn.{each_of_rows, each_rows}
 use Rattle.plan_steps.proofs.Entries.{Ground, HasA, IsCell, Known, behind, both_parts, entries-sound}
-use Rattle.plan_steps.proofs.Rounds.{rounds-enough}
+use Rattle.plan_steps.proofs.RoundCounts.{rounds-enough}
 use Rattle.plan_steps.proofs.Scans.{scanned}
 use Rattle.plan_steps.proofs.Trees.{entry-cells, entry-known}
 use Rattle.plan_steps.specs.Rounds.{rounds}
