@@ -20,7 +20,7 @@ use Rattle.ptl_types.specs.declared.elements.AtomicOp.{AtomicOp}
 use Rattle.std.proofs.lemmas.Bool.{leb-true}
 
 -- the cells of the way down
-abbrev pub pub down : Site → ℕ → ℕ → ℕ → (ℕ → ℕ) → List NewCell
+abbrev pub down : Site → ℕ → ℕ → ℕ → (ℕ → ℕ) → List NewCell
 down s root base top below = map (λ v. down_cell s root base top (below v) v) (places s)
 
 -- ---- places turned round

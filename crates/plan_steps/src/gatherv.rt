@@ -51,7 +51,8 @@ fn holder_put(site: &Site, i: u32) -> Incoming
 /// What comes to the root's last cell: an increment, and the lists of the holders.
 fn concatenated_links(alloc: Global, site: &Site, root: u32) -> Result<Vec<Incoming>, AllocError>
     requires { root < count site.now }
-    ensures { IfOk result (λ links. links.items ≡ bump (entry site.now root) ∷ map (holder_put site.now) (from_to 0 (length site.now.holding))) }
+    ensures { IfOk result (λ links.
+        links.items ≡ bump (entry site.now root) ∷ map (holder_put site.now) (from_to 0 (length site.now.holding))) }
 {
     let _ = site.count();
     let holders = site.holders().len() as u32;
