@@ -8,10 +8,11 @@ use Rattle.plan_steps.proofs.gatherv.GathervCollective.draw.Goals as goal
 pub draw_concatenated-requires-clause-room : goal.draw_concatenated-requires-clause-room
 draw_concatenated-requires-clause-room c =
     let s = c.args.site.now in
-    room-next c.args.plan.now c.draw_row.new.plan (map (held_entry s) (places s)) (concatenated s c.args.self.now.root ∷ []) c.requires.room c.in_ok-draw_row.ensures
+    room-next c.args.plan.now c.draw_row.new.plan (map (held_entry s) (places s)) (concatenated s c.args.self.now.root ∷ [])
+    c.requires.room c.in_ok-draw_row.ensures
 
 pub returns : goal.returns
 returns c =
     let s = c.args.site.now in
-    joined-one c.args.plan.now c.draw_row.new.plan c.draw_concatenated.new.plan (map (held_entry s) (places s)) (concatenated s c.args.self.now.root) c.in_ok-draw_row.ensures
-    c.in_ok-draw_concatenated.ensures
+    joined-one c.args.plan.now c.draw_row.new.plan c.draw_concatenated.new.plan (map (held_entry s) (places s))
+    (concatenated s c.args.self.now.root) c.in_ok-draw_row.ensures c.in_ok-draw_concatenated.ensures
