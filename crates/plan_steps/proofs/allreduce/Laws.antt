@@ -5,7 +5,7 @@ use Rattle.plan_core.specs.Draw.{NewCell, cell_of}
 use Rattle.plan_core.specs.Plan.{from_to}
 use Rattle.plan_core.specs.declared.Cell.{Cell}
 use Rattle.plan_steps.proofs.Entries.{Ground, HasA, IsCell, Known, behind, both_parts, entries-sound}
-use Rattle.plan_steps.proofs.Trees.{down, down-sound, up-at, up-sound, up-value, entry-cells, entry-known}
+use Rattle.plan_steps.proofs.Trees.{down, down-sound, down-value, up-at, up-sound, up-value, entry-cells, entry-known}
 use Rattle.plan_steps.specs.Allreduce.{allreduce_cells}
 use Rattle.plan_steps.specs.Site.{Site, count, full_entry, further, source_at}
 use Rattle.plan_steps.specs.Sounding.{EachAt, SoundNewCell}

@@ -4,7 +4,7 @@ use Rattle.plan_core.specs.Draw.{NewCell, cell_of}
 use Rattle.plan_core.specs.declared.Cell.{Cell}
 use Rattle.plan_steps.proofs.CellKinds.{bumped-sound, copying-sound}
 use Rattle.plan_steps.proofs.Entries.{Ground, HasA, IsCell, Known, behind, both_parts, each_places, entry-value, of_places}
-use Rattle.plan_steps.proofs.Trees.{down, turned-lt, unturned-lt, down-sound}
+use Rattle.plan_steps.proofs.Trees.{down, down-sound, down-value, turned-lt, unturned-lt}
 use Rattle.plan_steps.specs.Broadcast.{broadcast_cells}
 use Rattle.plan_steps.specs.Site.{Site, bare_entry, count, entry, full_entry, further, places, rank_at, exit_at, source_at}
 use Rattle.plan_steps.specs.Sounding.{EachAt, SoundNewCell}
