@@ -1,7 +1,6 @@
 -- Drawings that are equal, and what a step leaves of equal beginnings.
-use Rattle.std.proofs.Common.{ℕ, ◌≡◌, List, Option, ap, ◌∙◌, map, length}
-use Rattle.plan_core.specs.Plan.{Plan}
-use Rattle.plan_core.specs.Draw.{HeldCells, NewCell, add_all}
+use Rattle.std.proofs.Common.{ℕ, ◌≡◌, List, Option, ap, ◌∙◌, length}
+use Rattle.plan_core.specs.Draw.{NewCell, add_all}
 use Rattle.coll_shape.specs.declared.types.CollStep.{CollStep}
 use Rattle.coll_shape.specs.Collectives.{result_of}
 use Rattle.plan_steps.specs.declared.drawing.Drawing.{Drawing}

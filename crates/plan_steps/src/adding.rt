@@ -41,7 +41,13 @@ pub(crate) fn add_as<C: Collective>(
     let begun = Site::of(alloc, shape, drawing, step.source(), members)?;
     collective.draw(alloc, &mut drawing.plan, &begun)?;
     let ends = ends_of(alloc, &begun, collective)?;
-    settle(&mut drawing.held, &mut drawing.exits, members, &ends, step.result());
+    settle(
+        &mut drawing.held,
+        &mut drawing.exits,
+        members,
+        &ends,
+        step.result(),
+    );
     Ok(())
 }
 

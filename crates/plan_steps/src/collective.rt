@@ -40,7 +40,11 @@ pub(crate) trait Collective {
 }
 
 /// Where a step leaves its members, place by place.
-pub(crate) fn ends_of<C: Collective>(alloc: Global, site: &Site, collective: &C) -> Result<Vec<End>, NoMemory>
+pub(crate) fn ends_of<C: Collective>(
+    alloc: Global,
+    site: &Site,
+    collective: &C,
+) -> Result<Vec<End>, NoMemory>
     requires { C.fits collective.now site.now }
     ensures { IfOk result (λ ends. ends.items ≡ map (C.end collective.now site.now) (places site.now)) }
 {

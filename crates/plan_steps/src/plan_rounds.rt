@@ -7,13 +7,12 @@ ghost use Rattle.plan_steps.specs.Drawing.{IsBegun, drawn_step, site};
 
 mod doubling;
 
-pub use doubling::rounds;
-
 use crate::adding::add_as;
 use crate::barrier::Barrier;
 use crate::drawing::Drawing;
 use crate::scan::Scan;
 use coll_shape::{CollStep, Shape};
+pub use doubling::rounds;
 use ptl_types::{NoMemory, Rank};
 use std::alloc::Global;
 

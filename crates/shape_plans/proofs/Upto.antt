@@ -3,18 +3,17 @@ use Rattle.std.proofs.Common.{ℕ, zero, suc, Bool, true, false, cond, nat_lt, E
 use Rattle.std.proofs.Math.Nat.{mul-le-mul_right}
 use Rattle.std.proofs.lemmas.Bool.{ltb-false}
 use Rattle.std.proofs.lemmas.List.{get_or_read_under}
-use Rattle.plan_core.specs.Draw.{HasRoom, HeldCells, add_all, go_plan, hold, links_of}
-use Rattle.plan_core.specs.Plan.{Plan, from_to}
+use Rattle.plan_core.specs.Draw.{HasRoom, HeldCells, go_plan, hold, links_of}
+use Rattle.plan_core.specs.Plan.{from_to}
 use Rattle.plan_core.proofs.Drawing.{length-row, links-in_all, many-cells}
 use Rattle.coll_shape.specs.declared.types.CollStep.{CollStep}
 use Rattle.coll_shape.specs.declared.types.Buffer.{Buffer}
 use Rattle.coll_shape.specs.WellFormed.{IsShape}
 use Rattle.coll_shape.specs.Outline.{Outline, buffer_at, no_buffer, group_at, step_at}
-use Rattle.coll_shape.specs.Collectives.{result_of, source_of}
+use Rattle.coll_shape.specs.Collectives.{result_of}
 use Rattle.plan_steps.specs.declared.ends.End.{End}
 use Rattle.plan_steps.specs.Beginning.{held_after}
 use Rattle.plan_steps.specs.Drawing.{IsBegun}
-use Rattle.plan_steps.specs.Steps.{exits_by}
 use Rattle.plan_steps.proofs.Settled.{buffers-held_by, length-exits_by, ranks-held_by}
 use Rattle.plan_steps.proofs.StepSizes.{links-row}
 use Rattle.shape_plans.specs.declared.footprints.Size.{Size}

@@ -157,6 +157,13 @@ impl Rows for Up {
 
     fn draw(&self, plan: &mut Plan, site: &Site, _number: u32, place: u32) -> Result<(), NoMemory> {
         let count = site.count();
-        draw_up_cell(self.alloc, plan, site, self.root, self.op, count - 1 - place)
+        draw_up_cell(
+            self.alloc,
+            plan,
+            site,
+            self.root,
+            self.op,
+            count - 1 - place,
+        )
     }
 }

@@ -22,7 +22,7 @@ returns g c =
     let m = c.args.members.now in
     let k = c.args.collective.now in
     let e : c.in_ok-begun.begun ≡ site o d c.args.step.now m =
-        c.in_ok-begun.ensures ∙ ap (λ a. site_of o d.plan d.held d.exits a m) c.source.ensures in
+    c.in_ok-begun.ensures ∙ ap (λ a. site_of o d.plan d.held d.exits a m) c.source.ensures in
     left-as d _ c.args.step.now m (g.C.Collective.cells k (site o d c.args.step.now m)) c.deref.result.now
     (map (g.C.Collective.end k (site o d c.args.step.now m)) (places (site o d c.args.step.now m))) c.result.result
     (c.deref.ensures.value ∙ c.in_ok-ends.ensures ∙ ap (λ v. map (g.C.Collective.end k v) (places v)) e)

@@ -25,9 +25,11 @@ add_link-requires g c =
     let n = c.count-count.ensures.value in
     let t = c.loop-number-test.true in
     let P : Plan → Type 0 = λ p. length p.links < 4294967295 in
-    subst P (sym (c.loop-number.invariant ∙ ap (λ p. add_links p c.in_ok-cell.cell (map f (from_to 0 c.loop-number.number))) c.in_ok-cell.ensures.added))
-    (room-link c.args.plan.now (new_cell c.args.part (map f (places s))) _ c.in_ok-cell.cell f c.loop-number.number (count s) c.requires.room
-    (length-row f 0 (count s)) (omega (arith, n, t)))
+    let k = c.in_ok-cell.cell in
+    let i = c.loop-number.number in
+    subst P (sym (c.loop-number.invariant ∙ ap (λ p. add_links p k (map f (from_to 0 i))) c.in_ok-cell.ensures.added))
+    (room-link c.args.plan.now (new_cell c.args.part (map f (places s))) _ k f i (count s) c.requires.room (length-row f 0 (count s))
+    (omega (arith, n, t)))
 
 pub loop-number-preserved : goal.loop-number-preserved
 loop-number-preserved g c =
@@ -48,5 +50,6 @@ returns g c =
     c.loop-number.invariant
     ∙ ap (λ k. add_links c.add_cell.new.self c.in_ok-cell.cell (map f (from_to 0 k))) all
     ∙ ap₂ (λ p k. add_links p k (map f (places s)))
-    (c.in_ok-cell.ensures.added ∙ ap (add_cell c.args.plan.now) (c.awaiting.ensures ∙ ap (cell_with c.args.part) needs)) c.in_ok-cell.ensures.number
+    (c.in_ok-cell.ensures.added ∙ ap (add_cell c.args.plan.now) (c.awaiting.ensures ∙ ap (cell_with c.args.part) needs))
+    c.in_ok-cell.ensures.number
     ∙ add-is c.args.plan.now (new_cell c.args.part (map f (places s)))

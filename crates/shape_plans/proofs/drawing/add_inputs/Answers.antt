@@ -73,7 +73,7 @@ loop-b-preserved c =
     let u = c.keeps_form.ensures.shape.shape.few_inputs in
     let below : b < length o.buffers = omega (arith, n, t, u) in
     let x : buffer_at o b ≡ c.index-buffers-b.result =
-        the-buffer o b c.buffers.result.now c.index-buffers-b.result c.buffers.ensures.value below c.index-buffers-b.is in
+    the-buffer o b c.buffers.result.now c.index-buffers-b.result c.buffers.ensures.value below c.index-buffers-b.is in
     let r = c.ranks-ranks.ensures.value in
     let e = ap length c.cells.ensures ∙ ap (λ (d : Drawing). length d.plan.cells) i in
     same-drawing _ (drawn_input o d b)

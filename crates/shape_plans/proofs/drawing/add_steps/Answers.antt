@@ -1,7 +1,6 @@
 -- One step more in each turn.
 use Rattle.std.proofs.Common.{◌<◌, ◌≡◌, length, ap, sym, ◌∙◌, arith, get_or}
 use Rattle.plan_core.specs.Draw.{HasRoom}
-use Rattle.coll_shape.specs.declared.types.CollStep.{CollStep}
 use Rattle.coll_shape.specs.declared.types.CollStep.TheVariants.{Barrier}
 use Rattle.coll_shape.specs.Outline.{step_at}
 use Rattle.plan_steps.specs.Collectives.{cells_of}
