@@ -65,8 +65,10 @@ within m n r h all =
 pub front_of : (P : ℕ → NewCell → Type 0) (c : ℕ) (all xs ys : List NewCell) → all ≡ xs ++ ys → EachAt P c all → EachAt P c xs
 front_of P c all xs ys e h = each_front P c xs ys (subst (λ v. EachAt P c v) e h)
 
-pub back_of : (P : ℕ → NewCell → Type 0) (c d : ℕ) (all xs ys : List NewCell) → all ≡ xs ++ ys → c + length xs ≡ d → EachAt P c all → EachAt P d ys
+pub back_of : (P : ℕ → NewCell → Type 0) (c d : ℕ) (all xs ys : List NewCell) → all ≡ xs ++ ys → c + length xs ≡ d
+    → EachAt P c all → EachAt P d ys
 back_of P c d all xs ys e n h = subst (λ v. EachAt P v ys) n (each_back P c xs ys (subst (λ v. EachAt P c v) e h))
 
-pub whole_of : (P : ℕ → NewCell → Type 0) (c d : ℕ) (all xs ys : List NewCell) → all ≡ xs ++ ys → c + length xs ≡ d → EachAt P c xs → EachAt P d ys → EachAt P c all
+pub whole_of : (P : ℕ → NewCell → Type 0) (c d : ℕ) (all xs ys : List NewCell) → all ≡ xs ++ ys → c + length xs ≡ d
+    → EachAt P c xs → EachAt P d ys → EachAt P c all
 whole_of P c d all xs ys e n h g = subst (λ v. EachAt P c v) (sym e) (each_append P c xs ys h (subst (λ v. EachAt P v ys) (sym n) g))

@@ -4,7 +4,7 @@ use Rattle.plan_core.specs.Draw.{NewCell}
 use Rattle.plan_core.specs.Plan.{Plan, cell, from_to}
 use Rattle.plan_core.specs.declared.Cell.{Cell}
 use Rattle.plan_steps.proofs.CellKinds.{bumped-sound, copying-sound, copying-value}
-use Rattle.plan_steps.proofs.Drawn.{each_back, each_map, each_of_map, extends-all, length-map-from}
+use Rattle.plan_steps.proofs.Drawn.{each_append, each_back, each_map, each_of_map, extends-all, length-map-from}
 use Rattle.plan_steps.proofs.Grow.{cell-new, length-cells}
 pub use Rattle.plan_steps.specs.Sounding.{Ground, HasA, IsCell, Known}
 use Rattle.plan_steps.specs.Sounding.{EachAt, SoundNewCell, with_cell, with_cells}
@@ -43,7 +43,7 @@ pub behind : (P : ℕ → NewCell → Type 0) (s : Site) (c : ℕ) (f : ℕ → 
 behind P s c f ns h = subst (λ v. EachAt P (c + v) ns) (length-places s f) (each_back P c (map f (places s)) ns h)
 
 pub both_parts : (P : ℕ → NewCell → Type 0) (s : Site) (c : ℕ) (f : ℕ → NewCell) (ns : List NewCell) → EachAt P c (map f (places s)) → EachAt P (c + count s) ns → EachAt P c (map f (places s) ++ ns)
-both_parts P s c f ns h k = Rattle.plan_steps.proofs.Drawn.each_append P c (map f (places s)) ns h (subst (λ v. EachAt P (c + v) ns) (sym (length-places s f)) k)
+both_parts P s c f ns h k = each_append P c (map f (places s)) ns h (subst (λ v. EachAt P (c + v) ns) (sym (length-places s f)) k)
 
 -- ---- entries
 pub entries-sound : (ranks : ℕ) (k : ℕ → Cell) (s : Site) → Ground ranks k s → s.length % bytes_of s.ty ≡ 0 → ((i : ℕ) → i < count s → HasA k s i) → EachAt (SoundNewCell ranks k) s.first (entries s)

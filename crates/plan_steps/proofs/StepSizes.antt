@@ -32,7 +32,8 @@ bytes-row f k zero m h = let e : 0 ≡ 0 * m = omega arith in e
 bytes-row f k (suc n) m h =
     bytes-cons (f k) (map f (from_to (suc k) n)) ∙ ap₂ (λ a b. a + b) (h k) (bytes-row f (suc k) n m h) ∙ (let e : m + n * m ≡ suc n * m = omega arith in e)
 
-pub links-rows : (s : Site) (f : ℕ → ℕ → NewCell) (a n m : ℕ) → ((k i : ℕ) → length (f k i).into ≡ m) → links_of (rows s f a n) ≡ n * (count s * m)
+pub links-rows : (s : Site) (f : ℕ → ℕ → NewCell) (a n m : ℕ) → ((k i : ℕ) → length (f k i).into ≡ m)
+    → links_of (rows s f a n) ≡ n * (count s * m)
 links-rows s f a zero m h = let e : 0 ≡ 0 * (count s * m) = omega arith in e
 links-rows s f a (suc n) m h =
     links-append (row s f a) (rows s f (suc a) n)
@@ -83,7 +84,8 @@ links-one f k (suc n) root a b h l x y = at (k == root) refl (λ g. links-one f 
         below i j l n = omega (arith, n)
 
 -- a row whose first cell has one link and whose others have two
-pub first-shorter : (f : ℕ → NewCell) (m : ℕ) → 0 < m → length (f 0).into ≡ 1 → ((i : ℕ) → length (f (suc i)).into ≡ 2) → links_of (map f (from_to 0 m)) ≡ 1 + 2 * (m - 1)
+pub first-shorter : (f : ℕ → NewCell) (m : ℕ) → 0 < m → length (f 0).into ≡ 1 → ((i : ℕ) → length (f (suc i)).into ≡ 2)
+    → links_of (map f (from_to 0 m)) ≡ 1 + 2 * (m - 1)
 first-shorter f m pos x y =
     let c = links-one f 0 m 0 1 2 (let z : 0 ≤ 0 = omega arith in z) (let z : 0 < 0 + m = omega arith in z) x (λ i n. other i n) in
     let r : m * 2 ≡ m + m = omega arith in

@@ -8,6 +8,7 @@ use Rattle.plan_core.specs.Members.{In}
 use Rattle.plan_core.specs.Plan.{from_to}
 use Rattle.plan_core.specs.declared.Cell.{Cell}
 use Rattle.plan_steps.proofs.CellKinds.{combining-sound, combining-value, copying-sound, copying-value, taking-sound, taking-value}
+use Rattle.plan_steps.proofs.Drawn.{each_front}
 use Rattle.plan_steps.proofs.Entries.{IsCell, Known, each_places, entry-value, of_places}
 use Rattle.plan_steps.proofs.Folds.{Turned, folded-same, folded-turned, map-map, tree_sum, turn}
 use Rattle.plan_steps.proofs.Folds.Turned.{Above, Below}
@@ -151,11 +152,11 @@ module _ (k : ℕ → Cell) (s : Site) (root : ℕ) (o : AtomicOp) where
 
 -- ---- entries
 pub entry-cells : (k : ℕ → Cell) (s : Site) (ns : List NewCell) → EachAt (IsCell k) s.first (entries s ++ ns) → (i : ℕ) → i < count s → k (entry s i) ≡ cell_of (full_entry s i)
-entry-cells k s ns cells i h = (of_places (IsCell k) s s.first (full_entry s) (Rattle.plan_steps.proofs.Drawn.each_front (IsCell k) s.first (entries s) ns cells) i h).is_cell
+entry-cells k s ns cells i h = (of_places (IsCell k) s s.first (full_entry s) (each_front (IsCell k) s.first (entries s) ns cells) i h).is_cell
 
 pub entry-known : (k : ℕ → Cell) (val x : ℕ → List ℕ) (s : Site) (ns : List NewCell) → EachAt (Known k val) s.first (entries s ++ ns) → ((i : ℕ) → i < count s → (val (source_at s i) ≡ x i) × (length (val (source_at s i)) ≡ s.length))
     → (i : ℕ) → i < count s → (val (entry s i) ≡ x i) × (length (val (entry s i)) ≡ s.length)
 entry-known k val x s ns known has i h =
-    let e = of_places (Known k val) s s.first (full_entry s) (Rattle.plan_steps.proofs.Drawn.each_front (Known k val) s.first (entries s) ns known) i h in
+    let e = of_places (Known k val) s s.first (full_entry s) (each_front (Known k val) s.first (entries s) ns known) i h in
     let a = has i h in
     (entry-value k val s i e a.1 ∙ a.0, e.is_long)

@@ -1,4 +1,5 @@
--- What each collective gives to the laws of all plans, a line for each: its sizes, that each of its cells has a link, and who holds what it makes.
+-- What each collective gives to the laws of all plans, a line for each: its sizes, that each of its cells has a link, and who holds
+-- what it makes.
 use Rattle.std.proofs.Common.{ℕ, zero, suc, Bool, ◌+◌, ◌-◌, ◌*◌, ◌≡◌, ◌<◌, ◌≤◌, List, [], ◌∷◌, refl, length, map, filter, get_or, ap, ap₂, ◌∙◌, arith, true, false, cond, ◌==◌, ◌++◌, length-append, ◌/◌, ◌%◌, div-add-mod', sym, inl, inr, Some, None, eq-eqb, eqb-true, le_of_suc-le-suc}
 use Rattle.coll_shape.proofs.Asking.{In-is_in}
 use Rattle.coll_shape.specs.Collectives.{source_of, IsRoot, is_in, Reads, buffer_after, holding_places, result_of, all_but_first}
@@ -131,7 +132,8 @@ scans s o (suc k) i = some _
 scatters : (s : Site) (root i : ℕ) → 1 ≤ length (scattered s root i).into
 scatters s root i = at (i == root)
   where
-    at : (b : Bool) → 1 ≤ length (cond b (Rattle.plan_steps.specs.Scatter.scatter_put s root i ∷ []) (Rattle.plan_steps.specs.Site.bump (Rattle.plan_steps.specs.Site.entry s i) ∷ Rattle.plan_steps.specs.Scatter.scatter_put s root i ∷ []))
+    at : (b : Bool) → 1 ≤ length (cond b (Rattle.plan_steps.specs.Scatter.scatter_put s root i ∷ [])
+        (Rattle.plan_steps.specs.Site.bump (Rattle.plan_steps.specs.Site.entry s i) ∷ Rattle.plan_steps.specs.Scatter.scatter_put s root i ∷ []))
     at true = some 0
     at false = some 1
 
@@ -226,7 +228,8 @@ in-behind : (g : List ℕ) (j : ℕ) → suc j < length g → In (get_or g (suc 
 in-behind [] j h = absurd (omega arith)
 in-behind (x ∷ xs) j h = In-get_or xs j 0 (le_of_suc-le-suc h)
 
-pub held_here : (g : List ℕ) (r : ℕ) (s : Site) (step : CollStep) (a : ℕ) → source_of step ≡ Some a → IsRoot step (length g) → (x : Buffer) → In r (buffer_after g step x).spread.holders → Here g r s step
+pub held_here : (g : List ℕ) (r : ℕ) (s : Site) (step : CollStep) (a : ℕ) → source_of step ≡ Some a → IsRoot step (length g)
+    → (x : Buffer) → In r (buffer_after g step x).spread.holders → Here g r s step
 held_here g r s Barrier a e f x h = cc
 held_here g r s (Broadcast root a' b) a e f x h = here_of {step = Broadcast root a' b} (λ i. further s (unturned s root i)) (λ i. refl) (member g r h)
 held_here g r s (Allreduce o a' b) a e f x h = here_of {step = Allreduce o a' b} (λ i. (end_of s (Allreduce o a' b) i).exit) (λ i. refl) (member g r h)
@@ -251,7 +254,8 @@ at_root_only g i root c d u e = at (i == root) refl e
     at true f h = inl (ap (λ j. get_or g j 0) (sym (eqb-true _ _ f)))
     at false f h = cc
 
-pub held_there : (g : List ℕ) (s : Site) (step : CollStep) (x : Buffer) (i c : ℕ) → i < length g → (end_of s step i).holder ≡ Some c → In (get_or g i 0) (buffer_after g step x).spread.holders
+pub held_there : (g : List ℕ) (s : Site) (step : CollStep) (x : Buffer) (i c : ℕ) → i < length g
+    → (end_of s step i).holder ≡ Some c → In (get_or g i 0) (buffer_after g step x).spread.holders
 held_there g s Barrier x i c l e = cc
 held_there g s (Broadcast root a b) x i c l e = In-get_or g i 0 l
 held_there g s (Reduce root o a b) x i c l e = at_root_only g i root c (up_number s 0) (up_number s (unturned s root i)) e
@@ -284,7 +288,8 @@ times : (m n w : ℕ) → m * (n * w) ≡ m * n * w
 times m n w = omega arith
 
 -- B's length is what the shape says
-pub after_bytes : (g : List ℕ) (s : Site) (step : CollStep) (x : Buffer) → s.members ≡ g → s.holding ≡ holding_places g x.spread.holders → s.length ≡ list_bytes x → 0 < length g → Reads g step x → bytes_after s step ≡ list_bytes (buffer_after g step x)
+pub after_bytes : (g : List ℕ) (s : Site) (step : CollStep) (x : Buffer) → s.members ≡ g → s.holding ≡ holding_places g x.spread.holders
+    → s.length ≡ list_bytes x → 0 < length g → Reads g step x → bytes_after s step ≡ list_bytes (buffer_after g step x)
 after_bytes g s Barrier x m w e pos r = e
 after_bytes g s (Broadcast root a b) x m w e pos r = e
 after_bytes g s (Reduce root o a b) x m w e pos r = e

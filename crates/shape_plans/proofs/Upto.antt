@@ -262,10 +262,12 @@ unfolding hold
 buffers-one h b r c = refl
 
 -- ---- what holds of a drawing holds of one that is the same
-pub as-drawn : (P : Drawing → CollStep → List ℕ → Type 0) → {d e : Drawing} {s t : CollStep} {g k : List ℕ} → d ≡ e → s ≡ t → g ≡ k → P d s g → P e t k
+pub as-drawn : (P : Drawing → CollStep → List ℕ → Type 0) → {d e : Drawing} {s t : CollStep} {g k : List ℕ}
+    → d ≡ e → s ≡ t → g ≡ k → P d s g → P e t k
 as-drawn P {d} {e} {s} {t} {g} {k} a b u x = subst (λ v. P v t k) a (subst (λ v. P d v k) b (subst (λ v. P d s v) u x))
 
-pub step-after : (o : Outline) → {d e : Drawing} {s t : CollStep} {g k : List ℕ} → d ≡ e → s ≡ t → g ≡ k → drawn_step o d s g ≡ drawn_step o e t k
+pub step-after : (o : Outline) → {d e : Drawing} {s t : CollStep} {g k : List ℕ} → d ≡ e → s ≡ t → g ≡ k
+    → drawn_step o d s g ≡ drawn_step o e t k
 step-after o {d} {e} {s} {t} {g} {k} a b u =
     ap (λ v. drawn_step o v s g) a ∙ ap (λ v. drawn_step o e v g) b ∙ ap (λ v. drawn_step o e t v) u
 

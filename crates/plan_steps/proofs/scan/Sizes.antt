@@ -4,8 +4,8 @@ use Rattle.plan_core.specs.Draw.{NewCell, links_of, bytes_in}
 use Rattle.plan_core.specs.Plan.{from_to}
 use Rattle.plan_steps.proofs.StepSizes.{links-cons, links-append, bytes-append, links-row, bytes-rows, entry-links, entry-bytes}
 use Rattle.plan_steps.specs.Rounds.{rounds}
-use Rattle.plan_steps.specs.Scan.{scan_cell, scan_cells, scan_rows}
-use Rattle.plan_steps.specs.Site.{Site, count, entries, row, rows}
+use Rattle.plan_steps.specs.Scan.{scan_cell, scan_cells, scan_number, scan_rows}
+use Rattle.plan_steps.specs.Site.{Site, atomic, count, entries, row, rows}
 use Rattle.ptl_types.specs.declared.elements.AtomicOp.{AtomicOp}
 use Rattle.std.proofs.lemmas.Bool.{leb-true, leb-false}
 use Rattle.std.proofs.lemmas.List.Sums.{sum_by-cons}
@@ -23,7 +23,8 @@ links-above f t k (suc n) h = at (nat_le t k) refl (links-cons (f k) (map f (fro
 scan-size : (s : Site) (o : AtomicOp) (k i : ℕ) → length (scan_cell s o (suc k) i).into ≡ cond (nat_le (2 ^ k) i) 2 1
 scan-size s o k i = at (nat_le (2 ^ k) i)
   where
-    at : (b : Bool) → length (map (Rattle.plan_steps.specs.Site.atomic s.length) (Rattle.plan_steps.specs.Scan.scan_number s k i ∷ cond b (Rattle.plan_steps.specs.Scan.scan_number s k (i - 2 ^ k) ∷ []) [])) ≡ cond b 2 1
+    at : (b : Bool)
+        → length (map (atomic s.length) (scan_number s k i ∷ cond b (scan_number s k (i - 2 ^ k) ∷ []) [])) ≡ cond b 2 1
     at true = refl
     at false = refl
 
