@@ -22,11 +22,11 @@ use Rattle.plan_cuts.specs.History.{Legal, got}
 use Rattle.plan_cuts.specs.History.Local.{Fire, Start}
 use Rattle.plan_cuts.specs.Plans.{CounterReached, system_of}
 use Rattle.plan_cuts.specs.System.{Histories, System, sent_by}
-use Rattle.plan_laws.specs.Sounding.{with_cells}
+use Rattle.plan_steps.specs.Sounding.{with_cells}
 use Rattle.plan_machine.specs.Machine.{Leads}
 use Rattle.plan_machine.specs.Machine.Leads.{along, here}
-use Rattle.plan_rounds.specs.Barrier.{barrier_cells}
-use Rattle.plan_rounds.specs.Rounds.{rounds}
+use Rattle.plan_steps.specs.Barrier.{barrier_cells}
+use Rattle.plan_steps.specs.Rounds.{rounds}
 use Rattle.plan_start.specs.Start.{bring, cell_started}
 use Rattle.plan_steps.specs.Site.{Site}
 use Rattle.plan_view.specs.Calls.{call_made}

@@ -15,7 +15,7 @@ use Rattle.plan_cuts.specs.Wave.{HasNoStray}
 use Rattle.plan_orders.specs.Taking.{listed}
 use Rattle.shape_plans.specs.Drawing.{plan_of}
 use Rattle.shape_plans.specs.Footprint.{refusal}
-use Rattle.shape_laws.proofs.Final.{fine-shape, inputs_fit}
+use Rattle.shape_plans.proofs.Final.{fine-shape, inputs_fit}
 use Rattle.cut_laws.specs.Interleaving.{IsReachedIn, IsStillButStrays, steps_due, strays_received}
 use Rattle.cut_laws.proofs.Cuts.{one_choice_clean}
 use Rattle.cut_laws.proofs.Interleavings.{but_strays_rest, reached_moment, steps_by_receipts}

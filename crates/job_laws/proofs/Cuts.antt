@@ -29,11 +29,11 @@ use Rattle.plan_machine.specs.Machine.{Leads, all_seen}
 use Rattle.plan_machine.specs.Seen.{content}
 use Rattle.plan_rest.proofs.FromRest.{completes}
 use Rattle.plan_rest.proofs.Laws.{ancestor_reached}
-use Rattle.plan_rounds.specs.Rounds.{rounds}
+use Rattle.plan_steps.specs.Rounds.{rounds}
 use Rattle.shape_plans.specs.Drawing.{drawing_of, drawn_upto, plan_of, site}
 use Rattle.shape_plans.specs.Steps.{end_of}
 use Rattle.shape_plans.specs.Footprint.{refusal}
-use Rattle.shape_laws.proofs.Final.{barrier-cells, barrier-rounds, fine-shape, inputs_fit, result-cell, sound, unheld-empty, value-held}
+use Rattle.shape_plans.proofs.Final.{barrier-cells, barrier-rounds, fine-shape, inputs_fit, result-cell, sound, unheld-empty, value-held}
 use Rattle.step_laws.proofs.Chain.{entry_in, exit_in, leads_first, leads_next, leads_through}
 use Rattle.step_laws.specs.Order.{IsAt, entry_cell, exit_cell}
 use Rattle.done_laws.proofs.Counted.{holds_values}

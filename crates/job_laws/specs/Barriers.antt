@@ -8,7 +8,7 @@ use Rattle.plan_cuts.specs.System.{Histories}
 use Rattle.coll_shape.specs.declared.types.CollStep.TheVariants.{Barrier}
 use Rattle.coll_shape.specs.Outline.{Outline, group_at, step_at}
 use Rattle.plan_steps.specs.Site.{in_row}
-use Rattle.plan_rounds.specs.Rounds.{rounds}
+use Rattle.plan_steps.specs.Rounds.{rounds}
 use Rattle.shape_plans.specs.Drawing.{drawn_upto, plan_of, site}
 use Rattle.step_laws.specs.Order.{IsAt, entry_cell, exit_cell}
 

@@ -38,8 +38,8 @@ use Rattle.coll_shape.specs.Folding.{at}
 use Rattle.coll_shape.specs.Meaning.{lists_of, meaning_of, meant_upto}
 use Rattle.coll_shape.specs.Outline.{Outline, group_at, step_at}
 use Rattle.plan_steps.specs.Steps.{exits_by, held_by}
-use Rattle.plan_tree.specs.Trees.{parent}
-use Rattle.plan_rounds.specs.Rounds.{rounds}
+use Rattle.plan_steps.specs.Trees.{parent}
+use Rattle.plan_steps.specs.Rounds.{rounds}
 use Rattle.shape_plans.specs.Drawing.{drawing_of, drawn_inputs, drawn_upto, hold_row, plan_of}
 use Rattle.step_laws.specs.Order.{IsAt, entry_cell}
 use Rattle.job_laws.specs.Barriers.{AreBarriersKept, barrier_cell}

@@ -7,8 +7,8 @@ use Rattle.coll_shape.specs.declared.types.CollStep.TheVariants.{Allgather, Allr
 use Rattle.coll_shape.specs.declared.types.CollStep.TheVariants.{Gatherv}
 use Rattle.coll_shape.specs.declared.types.CollStep.TheVariants.{Reduce, Reducescatter, Scan, Scatter}
 use Rattle.plan_steps.specs.Steps.{exits_by, held_by}
-use Rattle.plan_tree.specs.Trees.{parent}
-use Rattle.plan_rounds.specs.Rounds.{rounds}
+use Rattle.plan_steps.specs.Trees.{parent}
+use Rattle.plan_steps.specs.Rounds.{rounds}
 use Rattle.shape_plans.specs.Drawing.{drawn_inputs, drawn_upto, hold_row}
 use Rattle.shape_plans.specs.Footprint.{footprint, judged, refusal, refused_at, step_bytes, step_links}
 use Rattle.shape_plans.specs.Footprint.Excess.{Bytes, Links}

@@ -20,7 +20,7 @@ use Rattle.plan_orders.specs.declared.Step.TheVariants.{Deliver}
 use Rattle.plan_orders.proofs.Parts.{same-front}
 use Rattle.plan_orders.proofs.Steps.{beyond, may, reached_moves}
 use Rattle.plan_worlds.proofs.Listed.{enabled_listed}
-use Rattle.shape_laws.proofs.Final.{fine-shape}
+use Rattle.shape_plans.proofs.Final.{fine-shape}
 use Rattle.worlds.specs.Standing.{IsStanding}
 use Rattle.worlds.specs.World.{AreSlots, WorldState, histories_in, ranks_in, scene_in, steps_in}
 use Rattle.worlds.proofs.Listed.{IsOffered, offered, ready_is}

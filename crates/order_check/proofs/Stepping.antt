@@ -30,7 +30,7 @@ use Rattle.plan_orders.proofs.Choosing.{listed_made}
 use Rattle.plan_orders.proofs.Ending.{elsewhere, here}
 use Rattle.plan_orders.proofs.Parts.{same-front}
 use Rattle.rank_node.proofs.Sending.{fired-target, rank_of}
-use Rattle.shape_laws.proofs.Final.{inputs_fit}
+use Rattle.shape_plans.proofs.Final.{inputs_fit}
 use Rattle.shape_plans.specs.Drawing.{plan_of}
 use Rattle.job_laws.proofs.Cuts.{sound_for}
 use Rattle.coll_shape.specs.Outline.{Outline}

@@ -15,7 +15,7 @@ use Rattle.plan_orders.proofs.Holding.{are_listed}
 use Rattle.plan_orders.proofs.Slotless.{slotless}
 use Rattle.plan_orders.proofs.Steps.{reached_moves}
 use Rattle.schedule_compiler.specs.Jobs.{JobOf}
-use Rattle.shape_laws.proofs.Final.{inputs_fit}
+use Rattle.shape_plans.proofs.Final.{inputs_fit}
 use Rattle.shape_plans.specs.Drawing.{plan_of}
 use Rattle.job_laws.proofs.Cuts.{sound_for}
 use Rattle.worlds.specs.World.{AreSlots, WorldState, histories_in, ranks_in, scene_in}

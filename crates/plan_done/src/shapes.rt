@@ -9,8 +9,7 @@ use crate::counted::CountedPlan;
 use coll_shape::Shape;
 use plan_core::Plan;
 use plan_tables::sound_plans;
-use shape_laws::plan_sound;
-use shape_plans::{CompileFault, drawn_shape};
+use shape_plans::{CompileFault, drawn_shape, plan_sound};
 use std::alloc::Global;
 
 /// The plan of a shape that isn't refused, with its counts.

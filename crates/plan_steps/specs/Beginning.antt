@@ -1,11 +1,9 @@
--- What a step of a shape begins with, and what it asks of what was drawn before it.
-use Rattle.std.specs.Prelude.{ℕ, ◌<◌, ◌≡◌, ◌^◌, List, Option, Some, None, length, map, get_or}
+-- What a step of a shape begins with, and the cells that hold what it makes.
+use Rattle.std.specs.Prelude.{ℕ, List, Option, Some, None, length, map, get_or}
 use Rattle.plan_core.specs.Plan.{Plan}
 use Rattle.plan_core.specs.Draw.{HeldCells, held_cell}
-use Rattle.coll_shape.specs.declared.types.CollStep.{CollStep}
 use Rattle.coll_shape.specs.Outline.{Outline, list_bytes, read_buffer}
-use Rattle.coll_shape.specs.Collectives.{IsRoot, holding_places, result_of, source_of}
-use Rattle.coll_shape.specs.WellFormed.{AreMembers, IsNumber}
+use Rattle.coll_shape.specs.Collectives.{holding_places}
 use Rattle.plan_steps.specs.declared.ends.End.{End}
 use Rattle.plan_steps.specs.Site.{Site}
 use Rattle.plan_steps.specs.Steps.{held_by}
@@ -32,22 +30,7 @@ site_of o p h e a g = record {
   holding = holding_places g (read_buffer o a).spread.holders;
 }
 
--- the same of a step, which names the buffer
-abbrev pub begun : Outline → Plan → HeldCells → List ℕ → CollStep → List ℕ → Site
-begun o p h e step g = site_of o p h e (source_of step) g
-
 -- the cells that hold the new buffer, if one is made
 abbrev pub held_after : Option ℕ → HeldCells → List ℕ → List End → HeldCells
 held_after None h g ends = h
 held_after (Some b) h g ends = held_by h g ends b (length g)
-
--- the plan and the tables are of the shape's ranks and buffers, and the members are ranks
-pub record IsBegun (o : Outline) (p : Plan) (h : HeldCells) (e : List ℕ) (step : CollStep) (g : List ℕ) : Type 0 where
-  pub members : AreMembers o.ranks g
-  pub root : IsRoot step (length g)
-  pub source : IsNumber o (source_of step)
-  pub result : IsNumber o (result_of step)
-  pub exits : length e ≡ o.ranks
-  pub ranks : h.ranks ≡ o.ranks
-  pub buffers : h.buffers ≡ length o.buffers
-  pub cells : length p.cells < 2 ^ 24

@@ -1,13 +1,36 @@
-//! What a step of a plan begins with, the cells and links that steps are made of, and where a step leaves its members.
+//! The steps of a plan: what one begins with, its cells and links, and where it leaves its members. Each collective has a module, and
+//! each of four kinds of them one that adds its steps to a drawing.
 #![tactic(auto)]
 
+mod adding;
+mod allgather;
+mod allreduce;
+mod alltoall;
+mod barrier;
 mod beginning;
+mod broadcast;
+mod collective;
+mod drawing;
 mod ends;
+mod exscan;
 mod first_cells;
-mod parts;
+mod gather;
+mod gatherv;
+mod incoming;
+pub mod plan_blocks;
+pub mod plan_mesh;
+pub mod plan_rounds;
+pub mod plan_tree;
+mod reduce;
+mod reducescatter;
+mod row;
+mod scan;
+mod scatter;
 mod site;
+mod wide;
 
-pub use ends::{End, giving, passing, push_end, rising_ends, set_exits, set_held, settle};
-pub use first_cells::{bare_entries, bare_entry, entries, full_entry};
-pub use parts::{atomic, bump, put, put_whole, silent};
-pub use site::Site;
+pub use adding::add_step;
+pub use drawing::Drawing;
+pub use ends::End;
+pub use incoming::bump;
+pub use plan_rounds::rounds;

@@ -6,8 +6,9 @@ ghost use Rattle.plan_steps.specs.Beginning.{site_of};
 ghost use Rattle.plan_steps.specs.Site.{IsSite, count, entry, exit_at, further, holding_part, in_row, rank_at, source_at, summing_part};
 
 use crate::beginning::{exits_of, holding_of, read_data, sources_of};
+use crate::drawing::Drawing;
 use coll_shape::Shape;
-use plan_core::{Exits, Held, Part, Plan};
+use plan_core::Part;
 use ptl_types::{AtomicOp, ElemType, NoMemory, Rank};
 use std::alloc::{AllocError, Global};
 use std::marker::Model;
@@ -40,26 +41,24 @@ impl Site {
     fn begun(
         alloc: Global,
         shape: &Shape,
-        plan: &Plan,
-        held: &Held,
-        exits: &Exits,
+        drawing: &Drawing,
         read: Option<u32>,
         members: &[Rank],
     ) -> Result<Site, AllocError>
         requires members { AreMembers shape.now.ranks members.now }
         requires read { IsNumber shape.now read }
-        requires exits { length exits.now ≡ shape.now.ranks }
-        requires ranks { held.now.ranks ≡ shape.now.ranks }
-        requires buffers { held.now.buffers ≡ length shape.now.buffers }
-        requires cells { length plan.now.cells < 2 ^ 24 }
-        ensures { IfOk result (λ site. site ≡ site_of shape.now plan.now held.now exits.now read members.now) }
+        requires exits { length drawing.now.exits ≡ shape.now.ranks }
+        requires ranks { drawing.now.held.ranks ≡ shape.now.ranks }
+        requires buffers { drawing.now.held.buffers ≡ length shape.now.buffers }
+        requires cells { length drawing.now.plan.cells < 2 ^ 24 }
+        ensures { IfOk result (λ site. site ≡ site_of shape.now drawing.now.plan drawing.now.held drawing.now.exits read members.now) }
     {
         let (ty, length) = read_data(shape, read);
         Ok(Site {
             members: Vec::from_slice(alloc, members)?,
-            first: plan.cells().len() as u32,
-            exits: exits_of(alloc, exits, members)?,
-            sources: sources_of(alloc, held, read, members)?,
+            first: drawing.plan.cells().len() as u32,
+            exits: exits_of(alloc, &drawing.exits, members)?,
+            sources: sources_of(alloc, &drawing.held, read, members)?,
             ty,
             length,
             holding: holding_of(alloc, shape, read, members)?,
@@ -74,21 +73,19 @@ impl Site {
     pub fn of(
         alloc: Global,
         shape: &Shape,
-        plan: &Plan,
-        held: &Held,
-        exits: &Exits,
+        drawing: &Drawing,
         read: Option<u32>,
         members: &[Rank],
     ) -> Result<Site, NoMemory>
         requires members { AreMembers shape.now.ranks members.now }
         requires read { IsNumber shape.now read }
-        requires exits { length exits.now ≡ shape.now.ranks }
-        requires ranks { held.now.ranks ≡ shape.now.ranks }
-        requires buffers { held.now.buffers ≡ length shape.now.buffers }
-        requires cells { length plan.now.cells < 2 ^ 24 }
-        ensures { IfOk result (λ site. site ≡ site_of shape.now plan.now held.now exits.now read members.now) }
+        requires exits { length drawing.now.exits ≡ shape.now.ranks }
+        requires ranks { drawing.now.held.ranks ≡ shape.now.ranks }
+        requires buffers { drawing.now.held.buffers ≡ length shape.now.buffers }
+        requires cells { length drawing.now.plan.cells < 2 ^ 24 }
+        ensures { IfOk result (λ site. site ≡ site_of shape.now drawing.now.plan drawing.now.held drawing.now.exits read members.now) }
     {
-        match Site::begun(alloc, shape, plan, held, exits, read, members) {
+        match Site::begun(alloc, shape, drawing, read, members) {
             Ok(site) => Ok(site),
             Err(_) => Err(NoMemory),
         }

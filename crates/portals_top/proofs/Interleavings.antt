@@ -6,7 +6,7 @@ use Rattle.coll_lang.proofs.Coming.{comes}
 use Rattle.plan_orders.proofs.Steps.{reached_moment}
 use Rattle.plan_rest.proofs.Moments.{still_rest}
 use Rattle.shape_plans.specs.Drawing.{plan_of}
-use Rattle.shape_laws.proofs.Final.{inputs_fit}
+use Rattle.shape_plans.proofs.Final.{inputs_fit}
 use Rattle.job_laws.proofs.Cuts.{complete_at, meant_where_complete, sound_for}
 use Rattle.portals_top.specs.Headline.{Headline}
 

@@ -20,7 +20,7 @@ use Rattle.plan_orders.proofs.Ends.{chosen_ends}
 use Rattle.plan_orders.proofs.OneChosen.{one_chosen}
 use Rattle.shape_plans.specs.Drawing.{plan_of}
 use Rattle.shape_plans.specs.Footprint.{Refused as Excessive, refusal}
-use Rattle.shape_laws.proofs.Final.{inputs_fit}
+use Rattle.shape_plans.proofs.Final.{inputs_fit}
 use Rattle.job_laws.proofs.Cuts.{rank_of, sound_for}
 use Rattle.run_text.specs.Lines.{result_text}
 use Rattle.run_text.specs.Orders.{order_line, order_text}

@@ -4,7 +4,7 @@ use Rattle.coll_lang.specs.Generated.{generated, generated_shape}
 use Rattle.coll_lang.specs.Program.{Program}
 use Rattle.coll_shape.specs.Outline.{Outline}
 use Rattle.coll_shape.specs.WellFormed.{IsWellFormed}
-use Rattle.plan_rounds.specs.Rounds.{rounds}
+use Rattle.plan_steps.specs.Rounds.{rounds}
 use Rattle.schedule_compiler.specs.Answers.{Compiles}
 use Rattle.shape_plans.specs.declared.faults.CompileFault.{CompileFault}
 use Rattle.shape_plans.specs.declared.faults.CompileFault.TheVariants.{TooMany, TooLarge, NoMemory}

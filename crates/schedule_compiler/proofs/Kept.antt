@@ -9,7 +9,7 @@ use Rattle.coll_shape.specs.Outline.{Outline}
 use Rattle.coll_shape.specs.WellFormed.{IsWellFormed}
 use Rattle.shape_plans.specs.Drawing.{plan_of}
 use Rattle.shape_plans.specs.Footprint.{refusal}
-use Rattle.shape_laws.proofs.Final.{fine-shape, sound}
+use Rattle.shape_plans.proofs.Final.{fine-shape, sound}
 use Rattle.schedule_compiler.specs.Keeping.{Keeps}
 
 pub tabled : (o : Outline) → IsWellFormed o → refusal o ≡ None → IsTabled (plan_of o)

@@ -14,7 +14,7 @@ ghost use Rattle.coll_shape.specs.Outline.{buffer_at};
 ghost use Rattle.shape_plans.specs.Drawing.{drawing_of, plan_of};
 ghost use Rattle.shape_plans.specs.Footprint.{refusal};
 ghost use Rattle.shape_plans.specs.declared.judging.TheConstants.{MOST_LINKS};
-ghost use Rattle.shape_laws.specs.Results.{IsResultCell};
+ghost use Rattle.shape_plans.specs.Results.{IsResultCell};
 ghost use Rattle.schedule_compiler.specs.Answers.{place_of};
 ghost use Rattle.schedule_compiler.specs.Keeping.{Keeps};
 

@@ -1,54 +1,19 @@
 -- The judgement by closed forms is that of the plan.
-use Rattle.std.proofs.Common.{ℕ, zero, suc, Bool, ◌+◌, ◌-◌, ◌*◌, ◌≡◌, ◌<◌, ◌≤◌, List, [], ◌∷◌, refl, length, map, filter, get_or, sum_by, ap, ap₂, ◌∙◌, arith}
-use Rattle.std.proofs.lemmas.List.Sums.{sum_by-cons, sum_by-append}
-use Rattle.plan_core.specs.declared.Cell.{Cell}
-use Rattle.plan_core.specs.Plan.{Plan, from_to}
-use Rattle.plan_core.specs.Draw.{NewCell, add, add_all, bytes_in, cell_of, go_cell_of, go_plan, links_of}
-use Rattle.plan_core.proofs.Drawing.{cells-add, links-in_all}
-use Rattle.coll_shape.specs.declared.types.CollStep.{CollStep}
-use Rattle.coll_shape.specs.declared.types.CollStep.TheVariants.{Barrier, Broadcast, Reduce, Allreduce, Gather, Allgather, Alltoall, Scan, Scatter, Reducescatter, Exscan, Gatherv}
+use Rattle.std.proofs.Common.{ℕ, zero, suc, Bool, ◌+◌, ◌*◌, ◌≡◌, ◌≤◌, List, [], ◌∷◌, refl, length, map, get_or, sum_by, ap, ap₂, ◌∙◌, arith}
+use Rattle.coll_shape.specs.Collectives.{source_of, is_in}
 use Rattle.coll_shape.specs.Outline.{Outline, buffer_at, group_at, list_bytes, step_at, read_buffer}
-use Rattle.coll_shape.specs.Collectives.{source_of, IsRoot, is_in}
 use Rattle.coll_shape.specs.WellFormed.{IsWellFormed}
-use Rattle.plan_steps.specs.Site.{Site, count}
-use Rattle.plan_laws.proofs.StepSizes.{allgather-bytes, allgather-links, alltoall-links, barrier-links, broadcast-links, bytes-cons, bytes-row, gather-links, links-row}
-use Rattle.plan_laws.proofs.MoreSizes.{allreduce-links, exscan-links, reduce-links, reducescatter-links, scan-links, scatter-links}
-use Rattle.plan_laws.proofs.StepBytes.{allreduce-bytes, alltoall-bytes, barrier-bytes, broadcast-bytes, exscan-bytes, gather-bytes, reduce-bytes, reducescatter-bytes, scan-bytes, scatter-bytes}
-use Rattle.plan_laws.proofs.HeldSizes.{gatherv-bytes, gatherv-links}
-use Rattle.shape_plans.specs.Steps.{cells_of}
+use Rattle.plan_core.proofs.Drawing.{cells-add, links-in_all}
+use Rattle.plan_core.specs.Draw.{NewCell, add, add_all, bytes_in, cell_of, go_cell_of, go_plan, links_of}
+use Rattle.plan_core.specs.Plan.{Plan, from_to}
+use Rattle.plan_core.specs.declared.Cell.{Cell}
+use Rattle.plan_steps.proofs.StepSizes.{bytes-cons, bytes-row, links-row}
+use Rattle.shape_plans.proofs.ByCollective.{bytes-of_step, links-of_step}
 use Rattle.shape_plans.specs.Drawing.{drawn_inputs, drawn_upto, input_cell, site}
-use Rattle.shape_plans.specs.Footprint.{judged, refusal, refusal_from, refused_at, size_of, step_bytes, step_links}
+use Rattle.shape_plans.specs.Footprint.{judged, refusal, refusal_from, refused_at, size_of}
 use Rattle.shape_plans.specs.Judging.{AreSteps, add_sizes, found_from, inputs_size, size_upto}
-
--- ---- one step
-module _ (s : Site) (t : ℕ → Bool) (held : s.holding ≡ filter t (from_to 0 (count s))) (pos : 0 < count s) where
-  links-of_step : (step : CollStep) → IsRoot step (count s) → links_of (cells_of s step) ≡ step_links step (count s) (length s.holding)
-  links-of_step Barrier h = barrier-links s
-  links-of_step (Broadcast root a b) h = broadcast-links s root h
-  links-of_step (Reduce root o a b) h = reduce-links s root o pos
-  links-of_step (Allreduce o a b) h = allreduce-links s o pos
-  links-of_step (Gather root a b) h = gather-links s root
-  links-of_step (Allgather a b) h = allgather-links s
-  links-of_step (Alltoall a b) h = alltoall-links s
-  links-of_step (Scan o a b) h = scan-links s o
-  links-of_step (Scatter root a b) h = scatter-links s root h
-  links-of_step (Reducescatter o a b) h = reducescatter-links s o pos
-  links-of_step (Exscan o a b) h = exscan-links s o
-  links-of_step (Gatherv root a b) h = gatherv-links s t held root
-
-  bytes-of_step : (step : CollStep) → IsRoot step (count s) → bytes_in (cells_of s step) ≡ step_bytes step (count s) (length s.holding) s.length
-  bytes-of_step Barrier h = barrier-bytes s
-  bytes-of_step (Broadcast root a b) h = broadcast-bytes s root h
-  bytes-of_step (Reduce root o a b) h = reduce-bytes s root o
-  bytes-of_step (Allreduce o a b) h = allreduce-bytes s o
-  bytes-of_step (Gather root a b) h = gather-bytes s root
-  bytes-of_step (Allgather a b) h = allgather-bytes s
-  bytes-of_step (Alltoall a b) h = alltoall-bytes s
-  bytes-of_step (Scan o a b) h = scan-bytes s o
-  bytes-of_step (Scatter root a b) h = scatter-bytes s root h
-  bytes-of_step (Reducescatter o a b) h = reducescatter-bytes s o
-  bytes-of_step (Exscan o a b) h = exscan-bytes s o
-  bytes-of_step (Gatherv root a b) h = gatherv-bytes s t held root
+use Rattle.shape_plans.specs.Steps.{cells_of}
+use Rattle.std.proofs.lemmas.List.Sums.{sum_by-cons, sum_by-append}
 
 -- ---- a plan and what is drawn after it
 bytes-in_all : (p : Plan) (ns : List NewCell) → sum_by (λ (k : Cell). k.length) (add_all p ns).cells ≡ sum_by (λ (k : Cell). k.length) p.cells + bytes_in ns

@@ -3,19 +3,19 @@ use Rattle.std.proofs.Common.{ℕ, zero, suc, Bool, true, false, cond, nat_lt, E
 use Rattle.std.proofs.Math.Nat.{mul-le-mul_right}
 use Rattle.std.proofs.lemmas.Bool.{ltb-false}
 use Rattle.std.proofs.lemmas.List.{get_or_read_under}
-use Rattle.plan_core.specs.Draw.{HasRoom, HeldCells, add_all, go_plan, hold, links_of}
-use Rattle.plan_core.specs.Plan.{Plan, from_to}
+use Rattle.plan_core.specs.Draw.{HasRoom, HeldCells, go_plan, hold, links_of}
+use Rattle.plan_core.specs.Plan.{from_to}
 use Rattle.plan_core.proofs.Drawing.{length-row, links-in_all, many-cells}
 use Rattle.coll_shape.specs.declared.types.CollStep.{CollStep}
 use Rattle.coll_shape.specs.declared.types.Buffer.{Buffer}
 use Rattle.coll_shape.specs.WellFormed.{IsShape}
 use Rattle.coll_shape.specs.Outline.{Outline, buffer_at, no_buffer, group_at, step_at}
-use Rattle.coll_shape.specs.Collectives.{result_of, source_of}
+use Rattle.coll_shape.specs.Collectives.{result_of}
 use Rattle.plan_steps.specs.declared.ends.End.{End}
-use Rattle.plan_steps.specs.Beginning.{IsBegun, held_after, site_of}
-use Rattle.plan_steps.specs.Steps.{exits_by}
-use Rattle.plan_laws.proofs.Settled.{buffers-held_by, length-exits_by, ranks-held_by}
-use Rattle.plan_laws.proofs.StepSizes.{links-row}
+use Rattle.plan_steps.specs.Beginning.{held_after}
+use Rattle.plan_steps.specs.Drawing.{IsBegun}
+use Rattle.plan_steps.proofs.Settled.{buffers-held_by, length-exits_by, ranks-held_by}
+use Rattle.plan_steps.proofs.StepSizes.{links-row}
 use Rattle.shape_plans.specs.declared.footprints.Size.{Size}
 use Rattle.shape_plans.specs.Steps.{cells_of, ends_of}
 use Rattle.shape_plans.specs.Drawing.{Drawing, drawing_of, drawn_input, drawn_inputs, drawn_step, drawn_upto, hold_row, input_cell, opened, site}
@@ -24,7 +24,7 @@ use Rattle.shape_plans.specs.declared.faults.CompileFault.TheVariants.{TooMany, 
 use Rattle.shape_plans.specs.Footprint.{judged}
 use Rattle.shape_plans.specs.Judging.{AreSteps, Judges, found_from, inputs_size, size_upto}
 use Rattle.shape_plans.specs.Compiling.{Draws}
-use Rattle.shape_plans.proofs.Linked.{few-after, room-for}
+use Rattle.shape_plans.proofs.ByCollective.{few-after, room-for}
 use Rattle.shape_plans.proofs.Sizes.{refusal-found, size-inputs, size-steps}
 use Rattle.coll_shape.specs.declared.limits.TheConstants.{MOST_RANKS}
 use Rattle.shape_plans.specs.declared.judging.TheConstants.{MOST_LINKS, MOST_BYTES}
@@ -139,11 +139,6 @@ pub tables-upto : (o : Outline) → o.ranks ≤ MOST_RANKS → AreSteps o → (k
 tables-upto o h are zero l = subst (Tables o) (sym (upto-none o)) (tables-inputs o h o.inputs)
 tables-upto o h are (suc k) l = subst (Tables o) (sym (upto-suc o k)) (tables-step o (drawn_upto o k) (step_at o k) (group_at o k) (are.some k (omega arith)) (tables-upto o h are k (omega arith)))
 
-pub exits-inputs : (o : Outline) (b : ℕ) → (drawn_inputs o b).exits ≡ from_to 0 o.ranks
-unfolding drawn_inputs
-exits-inputs o zero = refl
-exits-inputs o (suc b) = exits-inputs o b
-
 -- ---- room for an input
 links-inputs : (o : Outline) (b : ℕ) → (inputs_size o b).links ≡ b * o.ranks
 links-inputs o zero = omega arith
@@ -210,7 +205,7 @@ module _ (o : Outline) (shape : IsShape o) (are : AreSteps o) (few : (size_upto 
   pub room-step : HasRoom d.plan (cells_of (site o d t g) t)
   room-step = room-for d.plan (site o d t g) t (are.some k h) (tables-upto o shape.few_ranks are k (omega arith)).few links-then
 
-  pub begun-step : IsBegun o d.plan d.held d.exits t g
+  pub begun-step : IsBegun o d t g
   begun-step =
       let w = tables-upto o shape.few_ranks are k (omega arith) in record {
         members = shape.members k h;
@@ -266,22 +261,15 @@ pub buffers-one : (h : HeldCells) (b r c : ℕ) → (hold h b r c).buffers ≡ h
 unfolding hold
 buffers-one h b r c = refl
 
--- ---- what holds of a drawing holds of tables that are the same
-pub as-drawn : (P : Plan → HeldCells → List ℕ → CollStep → List ℕ → Type 0) → {p q : Plan} {h i : HeldCells} {e f g k : List ℕ} {s t : CollStep} → p ≡ q → h ≡ i → e ≡ f → s ≡ t → g ≡ k → P p h e s g → P q i f t k
-as-drawn P {p} {q} {h} {i} {e} {f} {g} {k} {s} {t} a b c d u x =
-    subst (λ v. P v i f t k) a (subst (λ v. P p v f t k) b (subst (λ v. P p h v t k) c (subst (λ v. P p h e v k) d (subst (λ v. P p h e s v) u x))))
+-- ---- what holds of a drawing holds of one that is the same
+pub as-drawn : (P : Drawing → CollStep → List ℕ → Type 0) → {d e : Drawing} {s t : CollStep} {g k : List ℕ}
+    → d ≡ e → s ≡ t → g ≡ k → P d s g → P e t k
+as-drawn P {d} {e} {s} {t} {g} {k} a b u x = subst (λ v. P v t k) a (subst (λ v. P d v k) b (subst (λ v. P d s v) u x))
 
-pub plan-after : (o : Outline) → {p q : Plan} {h i : HeldCells} {e f g k : List ℕ} {s t : CollStep} → p ≡ q → h ≡ i → e ≡ f → s ≡ t → g ≡ k
-    → add_all p (cells_of (site_of o p h e (source_of s) g) s) ≡ add_all q (cells_of (site_of o q i f (source_of t) k) t)
-plan-after o {p} {q} {h} {i} {e} {f} {g} {k} {s} {t} a b c d u = as-drawn (λ v w x y z. add_all p (cells_of (site_of o p h e (source_of s) g) s) ≡ add_all v (cells_of (site_of o v w x (source_of y) z) y)) a b c d u refl
-
-pub held-after : (o : Outline) → {p q : Plan} {h i : HeldCells} {e f g k : List ℕ} {s t : CollStep} → p ≡ q → h ≡ i → e ≡ f → s ≡ t → g ≡ k
-    → held_after (result_of s) h g (ends_of (site_of o p h e (source_of s) g) s) ≡ held_after (result_of t) i k (ends_of (site_of o q i f (source_of t) k) t)
-held-after o {p} {q} {h} {i} {e} {f} {g} {k} {s} {t} a b c d u = as-drawn (λ v w x y z. held_after (result_of s) h g (ends_of (site_of o p h e (source_of s) g) s) ≡ held_after (result_of y) w z (ends_of (site_of o v w x (source_of y) z) y)) a b c d u refl
-
-pub exits-after : (o : Outline) → {p q : Plan} {h i : HeldCells} {e f g k : List ℕ} {s t : CollStep} → p ≡ q → h ≡ i → e ≡ f → s ≡ t → g ≡ k
-    → exits_by e g (ends_of (site_of o p h e (source_of s) g) s) (length g) ≡ exits_by f k (ends_of (site_of o q i f (source_of t) k) t) (length k)
-exits-after o {p} {q} {h} {i} {e} {f} {g} {k} {s} {t} a b c d u = as-drawn (λ v w x y z. exits_by e g (ends_of (site_of o p h e (source_of s) g) s) (length g) ≡ exits_by x z (ends_of (site_of o v w x (source_of y) z) y) (length z)) a b c d u refl
+pub step-after : (o : Outline) → {d e : Drawing} {s t : CollStep} {g k : List ℕ} → d ≡ e → s ≡ t → g ≡ k
+    → drawn_step o d s g ≡ drawn_step o e t k
+step-after o {d} {e} {s} {t} {g} {k} a b u =
+    ap (λ v. drawn_step o v s g) a ∙ ap (λ v. drawn_step o e v g) b ∙ ap (λ v. drawn_step o e t v) u
 
 -- a buffer of the shape, whatever stands past the last
 pub the-buffer : (o : Outline) (b : ℕ) (xs : List Buffer) (x : Buffer) → xs ≡ o.buffers → b < length o.buffers → x ≡ get_or xs b x → buffer_at o b ≡ x

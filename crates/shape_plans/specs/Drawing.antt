@@ -1,22 +1,15 @@
 -- The plan of a shape, step by step.
-use Rattle.std.specs.Prelude.{ℕ, zero, suc, ◌+◌, ◌*◌, List, None, [], ◌∷◌, length, map, replicate}
+use Rattle.std.specs.Prelude.{ℕ, zero, suc, ◌+◌, ◌*◌, None, [], ◌∷◌, length, map, replicate}
 use Rattle.plan_core.specs.declared.Part.{Part}
 use Rattle.plan_core.specs.Plan.{Plan, from_to}
 use Rattle.plan_core.specs.Draw.{NewCell, HeldCells, add_all, go_plan, hold, new_cell}
 use Rattle.coll_shape.specs.declared.types.Buffer.{Buffer}
-use Rattle.coll_shape.specs.declared.types.CollStep.{CollStep}
 use Rattle.coll_shape.specs.Outline.{Outline, buffer_at, group_at, list_bytes, step_at}
-use Rattle.coll_shape.specs.Collectives.{result_of, source_of}
-use Rattle.plan_steps.specs.Site.{Site, bump}
-use Rattle.plan_steps.specs.Steps.{exits_by}
-use Rattle.plan_steps.specs.Beginning.{site_of, held_after}
-use Rattle.shape_plans.specs.Steps.{cells_of, ends_of}
-
+use Rattle.plan_steps.specs.Site.{bump}
 -- a plan with the cell of each buffer at each rank, and the exit at each rank
-pub record Drawing : Type 0 where
-  pub plan : Plan
-  pub held : HeldCells
-  pub exits : List ℕ
+pub use Rattle.plan_steps.specs.declared.drawing.Drawing.{Drawing}
+-- what a step begins with, and what it leaves
+pub use Rattle.plan_steps.specs.Drawing.{site, drawn_step}
 
 -- the go cells
 abbrev pub opened : Outline → Drawing
@@ -49,17 +42,6 @@ drawn_input o d b = record {
 unfoldable pub drawn_inputs : Outline → ℕ → Drawing
 drawn_inputs o zero = opened o
 drawn_inputs o (suc b) = drawn_input o (drawn_inputs o b) b
-
--- what a step begins with
-abbrev pub site : Outline → Drawing → CollStep → List ℕ → Site
-site o d step g = site_of o d.plan d.held d.exits (source_of step) g
-
-abbrev pub drawn_step : Outline → Drawing → CollStep → List ℕ → Drawing
-drawn_step o d step g = record {
-  plan = add_all d.plan (cells_of (site o d step g) step);
-  held = held_after (result_of step) d.held g (ends_of (site o d step g) step);
-  exits = exits_by d.exits g (ends_of (site o d step g) step) (length g);
-}
 
 -- after the first k steps
 unfoldable pub drawn_upto : Outline → ℕ → Drawing

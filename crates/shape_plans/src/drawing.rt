@@ -9,10 +9,9 @@ ghost use Rattle.shape_plans.specs.Drawing.{drawing_of, drawn_inputs, hold_row, 
 ghost use Rattle.shape_plans.specs.Judging.{AreSteps, size_upto};
 ghost use Rattle.shape_plans.specs.declared.judging.TheConstants.{MOST_LINKS};
 
-use crate::stepping::add_step;
 use coll_shape::{Buffer, MOST_RANKS, Shape};
 use plan_core::{Exits, Held, Part, Plan};
-use plan_steps::bump;
+use plan_steps::{Drawing, add_step, bump};
 use ptl_types::{NoMemory, Rank};
 use std::alloc::Global;
 
@@ -56,43 +55,46 @@ fn hold_inputs(held: &mut Held, b: u32, first: u32, ranks: u32)
     }
 }
 
+/// The go cells alone, with room for so many links.
+fn opened(alloc: Global, shape: &Shape, links: u32) -> Result<Drawing, NoMemory>
+    requires { links ≤ MOST_LINKS }
+    ensures { IfOk result (λ d. d ≡ opened shape.now) }
+{
+    shape.keeps_form();
+    let ranks = shape.ranks();
+    let buffers = shape.buffers().len() as u32;
+    let plan = Plan::open(alloc, ranks, shape.remote(), links + MOST_RANKS, links)?;
+    let held = Held::open(alloc, buffers, ranks)?;
+    let exits = Exits::open(alloc, ranks)?;
+    Ok(Drawing { plan, held, exits })
+}
+
 /// All inputs, each at every rank.
-fn add_inputs(plan: &mut Plan, shape: &Shape, held: &mut Held) -> Result<(), NoMemory>
-    requires plan { plan.old ≡ (opened shape.now).plan }
-    requires held { held.old ≡ (opened shape.now).held }
-    ensures plan { IfOk result (λ u. plan.new ≡ (drawn_inputs shape.now shape.now.inputs).plan) }
-    ensures held { IfOk result (λ u. held.new ≡ (drawn_inputs shape.now shape.now.inputs).held) }
+fn add_inputs(drawing: &mut Drawing, shape: &Shape) -> Result<(), NoMemory>
+    requires { drawing.old ≡ opened shape.now }
+    ensures { IfOk result (λ u. drawing.new ≡ drawn_inputs shape.now shape.now.inputs) }
 {
     shape.keeps_form();
     let ranks = shape.ranks();
     for b in 0..shape.input_count() {
-        let first = plan.cells().len() as u32;
-        draw_inputs(plan, &shape.buffers()[b as usize], ranks)?;
-        hold_inputs(held, b, first, ranks);
+        let first = drawing.plan.cells().len() as u32;
+        draw_inputs(&mut drawing.plan, &shape.buffers()[b as usize], ranks)?;
+        hold_inputs(&mut drawing.held, b, first, ranks);
     }
     Ok(())
 }
 
 /// All steps, one after the other.
-fn add_steps(
-    alloc: Global,
-    plan: &mut Plan,
-    shape: &Shape,
-    held: &mut Held,
-    exits: &mut Exits,
-) -> Result<(), NoMemory>
+fn add_steps(alloc: Global, drawing: &mut Drawing, shape: &Shape) -> Result<(), NoMemory>
     requires steps { AreSteps shape.now }
     requires few { (size_upto shape.now (length shape.now.steps)).links ≤ MOST_LINKS }
-    requires plan { plan.old ≡ (drawn_inputs shape.now shape.now.inputs).plan }
-    requires held { held.old ≡ (drawn_inputs shape.now shape.now.inputs).held }
-    requires exits { exits.old ≡ (drawn_inputs shape.now shape.now.inputs).exits }
-    ensures plan { IfOk result (λ u. plan.new ≡ plan_of shape.now) }
-    ensures held { IfOk result (λ u. held.new ≡ (drawing_of shape.now).held) }
+    requires inputs { drawing.old ≡ drawn_inputs shape.now shape.now.inputs }
+    ensures { IfOk result (λ u. drawing.new ≡ drawing_of shape.now) }
 {
     shape.keeps_form();
     for k in 0..shape.steps().len() as u32 {
         let step = &shape.steps()[k as usize];
-        add_step(alloc, plan, step, shape.group(k), shape, held, exits)?;
+        add_step(alloc, drawing, step, shape.group(k), shape)?;
     }
     Ok(())
 }
@@ -114,14 +116,11 @@ pub(crate) fn draw(alloc: Global, shape: &Shape, links: u64) -> Result<DrawnShap
     ensures plan { IfOk result (λ c. c.plan ≡ plan_of shape.now) }
     ensures held { IfOk result (λ c. c.held ≡ (drawing_of shape.now).held) }
 {
-    shape.keeps_form();
-    let ranks = shape.ranks();
-    let buffers = shape.buffers().len() as u32;
-    let room = links as u32;
-    let mut plan = Plan::open(alloc, ranks, shape.remote(), room + MOST_RANKS, room)?;
-    let mut held = Held::open(alloc, buffers, ranks)?;
-    let mut exits = Exits::open(alloc, ranks)?;
-    add_inputs(&mut plan, shape, &mut held)?;
-    add_steps(alloc, &mut plan, shape, &mut held, &mut exits)?;
-    Ok(DrawnShape { plan, held })
+    let mut drawing = opened(alloc, shape, links as u32)?;
+    add_inputs(&mut drawing, shape)?;
+    add_steps(alloc, &mut drawing, shape)?;
+    Ok(DrawnShape {
+        plan: drawing.plan,
+        held: drawing.held,
+    })
 }

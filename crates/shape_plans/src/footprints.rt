@@ -2,12 +2,12 @@
 
 ghost use Rattle.std.specs.Prelude.{◌≡◌, ◌≤◌, ◌+◌, ◌*◌, ◌^◌, ◌-◌, sum_by};
 ghost use Rattle.plan_core.specs.Plan.{from_to};
-ghost use Rattle.plan_rounds.specs.Rounds.{rounds};
+ghost use Rattle.plan_steps.specs.Rounds.{rounds};
 ghost use Rattle.coll_shape.specs.declared.limits.TheConstants.{MOST_RANKS, MOST_ELEMENTS};
 ghost use Rattle.shape_plans.specs.Footprint.{step_bytes, step_links};
 
 use coll_shape::CollStep;
-use plan_rounds::rounds;
+use plan_steps::rounds;
 
 /// The links of a plan, and the bytes of its cells.
 #[derive(Clone, Copy, Debug, PartialEq, Eq)]

@@ -1,5 +1,6 @@
 //! The plan of a shape: judged by closed forms, before anything is drawn, and then drawn step by step. What is too large is refused
-//! at the first step at which it is.
+//! at the first step at which it is. Laws of these plans: they are sound, their cells hold what the collectives mean, and a barrier's
+//! rounds are rounds.
 #![tactic(auto)]
 
 ghost use Rattle.std.specs.Prelude.{◌≡◌, length};
@@ -12,13 +13,14 @@ mod drawing;
 mod faults;
 mod footprints;
 mod judging;
-mod stepping;
+mod laws;
 
 pub use compiling::drawn_shape;
 pub use drawing::DrawnShape;
 pub use faults::CompileFault;
 pub use footprints::Size;
 pub use judging::{MOST_BYTES, MOST_LINKS};
+pub use laws::{barrier_rounds, plan_sound, plan_values, plan_within, result_cells};
 
 /// The first excess of the closed forms is that of the plan, drawn step by step.
 pub fn refusal_laws()

@@ -12,18 +12,18 @@ use Rattle.plan_core.specs.Rounds.{Comes}
 use Rattle.plan_core.specs.Sound.{SoundLink}
 use Rattle.plan_core.specs.Values.{Inputs}
 use Rattle.plan_core.specs.declared.Link.{Link}
-use Rattle.plan_laws.proofs.Bridge.{add_all-with}
-use Rattle.plan_laws.proofs.Drawn.{Drawn, Extends, comes-extends, drawn_all, each-same, extends-all, extends-refl, extends-trans}
-use Rattle.plan_laws.proofs.Entries.{get_or-each}
-use Rattle.plan_laws.proofs.Grow.{get_or-map}
-use Rattle.plan_laws.specs.Sounding.{EachAt, WellBuilt, with_cells}
+use Rattle.plan_steps.proofs.Bridge.{add_all-with}
+use Rattle.plan_steps.proofs.Drawn.{Drawn, Extends, comes-extends, drawn_all, each-same, extends-all, extends-refl, extends-trans}
+use Rattle.plan_steps.proofs.Entries.{get_or-each}
+use Rattle.plan_steps.proofs.Grow.{get_or-map}
+use Rattle.plan_steps.specs.Sounding.{EachAt, WellBuilt, with_cells}
 use Rattle.plan_machine.specs.Machine.{Leads}
 use Rattle.plan_machine.specs.Machine.Leads.{along, here}
 use Rattle.plan_steps.specs.Site.{exit_at}
-use Rattle.shape_laws.proofs.Begin.{begun, fine-begun}
-use Rattle.shape_laws.proofs.Kept.{exit_now, fine_after}
-use Rattle.shape_laws.proofs.Places.{place-is, place-of}
-use Rattle.shape_laws.proofs.Whole.{Fine, sound_cells}
+use Rattle.shape_plans.proofs.Begin.{begun, fine-begun}
+use Rattle.shape_plans.proofs.Kept.{exit_now, fine_after}
+use Rattle.shape_plans.proofs.Places.{place-is, place-of}
+use Rattle.shape_plans.proofs.Whole.{Fine, sound_cells}
 use Rattle.shape_plans.specs.Drawing.{drawing_of, drawn_inputs, drawn_step, drawn_upto, plan_of, site}
 use Rattle.shape_plans.specs.Steps.{cells_of}
 use Rattle.step_laws.proofs.Through.{Linked, onward, through, waits}

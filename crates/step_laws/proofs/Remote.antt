@@ -3,8 +3,8 @@ use Rattle.std.proofs.Common.{ℕ, zero, suc, ◌≡◌, ◌∙◌, List, [], �
 use Rattle.coll_shape.specs.Outline.{Outline, buffer_at, step_at}
 use Rattle.plan_core.specs.Draw.{NewCell, go_plan}
 use Rattle.plan_core.specs.Plan.{Plan, from_to}
-use Rattle.plan_laws.proofs.Bridge.{add_all-with}
-use Rattle.plan_laws.specs.Sounding.{with_cell, with_cells}
+use Rattle.plan_steps.proofs.Bridge.{add_all-with}
+use Rattle.plan_steps.specs.Sounding.{with_cell, with_cells}
 use Rattle.shape_plans.specs.Drawing.{drawing_of, drawn_inputs, drawn_upto, input_cell, plan_of}
 use Rattle.shape_plans.specs.Steps.{cells_of}
 use Rattle.step_laws.specs.Order.{site_at}

@@ -15,30 +15,31 @@ use Rattle.plan_core.specs.Plan.{Plan, from_to, no_cell}
 use Rattle.plan_core.specs.Rounds.{Comes}
 use Rattle.plan_core.specs.declared.Cell.{Cell}
 use Rattle.plan_core.specs.declared.Incoming.{Incoming}
-use Rattle.plan_laws.proofs.Drawn.{each_back, each_front, each_of_map, each_of_rows, length-rows}
-use Rattle.plan_laws.proofs.Entries.{behind, of_places}
-use Rattle.plan_laws.proofs.Meshes.{end_part}
-use Rattle.plan_laws.proofs.Rounds.{round-at, scan-at}
-use Rattle.plan_laws.proofs.Trees.{turned-back, unturned-lt, up-at}
-use Rattle.plan_laws.specs.Sounding.{EachAt}
+use Rattle.plan_steps.proofs.Drawn.{each_back, each_front, each_of_map, each_of_rows, length-rows}
+use Rattle.plan_steps.proofs.Entries.{behind, of_places}
+use Rattle.plan_steps.proofs.allgather.Laws.{end_part}
+use Rattle.plan_steps.proofs.barrier.Laws.{round-at}
+use Rattle.plan_steps.proofs.scan.Laws.{scan-at}
+use Rattle.plan_steps.proofs.Trees.{turned-back, unturned-lt, up-at}
+use Rattle.plan_steps.specs.Sounding.{EachAt}
 use Rattle.plan_machine.specs.Machine.{Leads}
 use Rattle.plan_machine.specs.Machine.Leads.{along, here}
-use Rattle.plan_mesh.specs.Allgather.{collect_link, collected, ring_cell, ring_node}
-use Rattle.plan_mesh.specs.Alltoall.{exchange_link, exchanged}
-use Rattle.plan_mesh.specs.Gather.{gather_link, gathered}
-use Rattle.plan_more.specs.Exscan.{shifted}
-use Rattle.plan_more.specs.Gatherv.{concatenated, held_entry}
-use Rattle.plan_more.specs.Reducescatter.{result_block, result_put}
-use Rattle.plan_more.specs.Scatter.{scatter_put, scattered}
-use Rattle.plan_rounds.specs.Barrier.{barrier_cells, round_rows}
-use Rattle.plan_rounds.specs.Rounds.{rounds}
-use Rattle.plan_rounds.specs.Scan.{scan_cell, scan_number, scan_rows}
+use Rattle.plan_steps.specs.Allgather.{collect_link, collected, ring_cell, ring_node}
+use Rattle.plan_steps.specs.Alltoall.{exchange_link, exchanged}
+use Rattle.plan_steps.specs.Gather.{gather_link, gathered}
+use Rattle.plan_steps.specs.Exscan.{shifted}
+use Rattle.plan_steps.specs.Gatherv.{concatenated, held_entry}
+use Rattle.plan_steps.specs.Reducescatter.{result_block, result_put}
+use Rattle.plan_steps.specs.Scatter.{scatter_put, scattered}
+use Rattle.plan_steps.specs.Barrier.{barrier_cells, round_rows}
+use Rattle.plan_steps.specs.Rounds.{rounds}
+use Rattle.plan_steps.specs.Scan.{scan_cell, scan_number, scan_rows}
 use Rattle.plan_steps.specs.Site.{Site, atomic, bare_entry, bump, count, entry, exit_at, full_entry, further, in_row, places, put_whole}
 use Rattle.plan_steps.specs.Site.{rows}
 use Rattle.plan_steps.specs.Steps.{giving, passing}
-use Rattle.plan_tree.specs.Allreduce.{result_cell}
-use Rattle.plan_tree.specs.Broadcast.{copy_cell, first_cell}
-use Rattle.plan_tree.specs.Trees.{turned, unturned, up, up_number}
+use Rattle.plan_steps.specs.Allreduce.{result_cell}
+use Rattle.plan_steps.specs.Broadcast.{copy_cell, first_cell}
+use Rattle.plan_steps.specs.Trees.{turned, unturned, up, up_number}
 use Rattle.shape_plans.specs.Steps.{cells_of, end_of}
 
 -- each link that a node names comes to it from its source

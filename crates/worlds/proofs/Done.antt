@@ -11,7 +11,7 @@ use Rattle.plan_cuts.specs.Plans.{system_of}
 use Rattle.plan_cuts.specs.System.{state_at}
 use Rattle.plan_view.specs.Slots.{Slots, done_ct}
 use Rattle.ptl_types.specs.declared.handles.Count.{Count}
-use Rattle.shape_laws.proofs.Final.{inputs_fit}
+use Rattle.shape_plans.proofs.Final.{inputs_fit}
 use Rattle.shape_plans.specs.Drawing.{plan_of}
 use Rattle.step_laws.proofs.Remote.{remote_is}
 use Rattle.done_laws.proofs.Later.{left_alone, stays_done}

@@ -12,7 +12,7 @@ use Rattle.plan_worlds.proofs.Stuck.{none_stuck}
 use Rattle.rank_node.proofs.Nodes.{agrees}
 use Rattle.rank_node.specs.Handles.{slots_of}
 use Rattle.schedule_compiler.specs.Answers.{place_of}
-use Rattle.shape_laws.proofs.Final.{result-cell}
+use Rattle.shape_plans.proofs.Final.{result-cell}
 use Rattle.shape_plans.specs.Drawing.{drawing_of, plan_of}
 use Rattle.job_laws.specs.Barriers.{AreBarriersKept}
 use Rattle.job_laws.specs.Results.{AreMeant, result_in}

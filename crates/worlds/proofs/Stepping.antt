@@ -14,7 +14,7 @@ use Rattle.plan_worlds.proofs.Falling.{falls}
 use Rattle.plan_worlds.proofs.Lanes.{begins}
 use Rattle.plan_worlds.specs.Left.{steps_left}
 use Rattle.plan_worlds.specs.Possible.{possible_steps}
-use Rattle.shape_laws.proofs.Final.{fine-shape, inputs_fit}
+use Rattle.shape_plans.proofs.Final.{fine-shape, inputs_fit}
 use Rattle.shape_plans.specs.Drawing.{plan_of}
 use Rattle.coll_shape.specs.Outline.{Outline}
 use Rattle.job_laws.proofs.Cuts.{sound_for}

@@ -32,7 +32,7 @@ use Rattle.plan_worlds.proofs.Lanes.{held_few}
 use Rattle.plan_worlds.specs.Named.{named}
 use Rattle.plan_worlds.specs.Places.{lane_place}
 use Rattle.plan_worlds.specs.Possible.{finds_room, is_possible, possible_steps}
-use Rattle.shape_laws.proofs.Final.{fine-shape, inputs_fit}
+use Rattle.shape_plans.proofs.Final.{fine-shape, inputs_fit}
 use Rattle.shape_plans.specs.Drawing.{plan_of}
 use Rattle.job_laws.proofs.Cuts.{sound_for}
 use Rattle.world_parts.specs.Layout.{lane_at}

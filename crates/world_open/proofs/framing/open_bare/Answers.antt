@@ -6,7 +6,7 @@ use Rattle.coll_shape.specs.WellFormed.{IsWellFormed}
 use Rattle.ptl_types.specs.declared.headers.Lane.{Lane}
 use Rattle.plan_core.specs.Sound.{SoundPlan, AreInputsOf}
 use Rattle.plan_worlds.specs.Places.{lane_place}
-use Rattle.shape_laws.proofs.Final.{inputs_fit}
+use Rattle.shape_plans.proofs.Final.{inputs_fit}
 use Rattle.shape_plans.specs.Drawing.{plan_of}
 use Rattle.world_parts.specs.Layout.{lane_at}
 use Rattle.world_open.specs.Frames.{frame_lane}

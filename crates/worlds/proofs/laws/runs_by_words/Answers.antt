@@ -1,5 +1,5 @@
 use Rattle.std.proofs.Common.{arith}
-use Rattle.shape_laws.proofs.Final.{inputs_fit}
+use Rattle.shape_plans.proofs.Final.{inputs_fit}
 use Rattle.shape_plans.specs.Drawing.{plan_of}
 use Rattle.job_laws.proofs.Cuts.{sound_for}
 use Rattle.worlds.proofs.Words.{ends_chosen}

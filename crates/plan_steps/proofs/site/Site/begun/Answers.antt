@@ -10,8 +10,8 @@ pub invariant_of-result : goal.invariant_of-result
 invariant_of-result c =
     let g = c.args.members.now in
     let m = ap length c.in_ok-from_slice.ensures.items in
-    let e = ap length c.in_ok-exits_of.ensures ∙ length-made (λ r. get_or c.args.exits.now r 0) g in
-    let s = ap length c.in_ok-sources_of.ensures ∙ length-made (source_in c.args.held.now c.args.read) g in
+    let e = ap length c.in_ok-exits_of.ensures ∙ length-made (λ r. get_or c.args.drawing.now.exits r 0) g in
+    let s = ap length c.in_ok-sources_of.ensures ∙ length-made (source_in c.args.drawing.now.held c.args.read) g in
     let h = ap length c.in_ok-holding_of.ensures in
     let f = filter-few (λ i. is_in (get_or g i 0) (read_buffer c.args.shape.now c.args.read).spread.holders) (length g) in
     let n = ap length c.cells.ensures in

@@ -4,7 +4,7 @@ use Rattle.coll_shape.specs.Outline.{Outline}
 use Rattle.plan_core.specs.Sound.{SoundPlan}
 use Rattle.shape_plans.specs.Drawing.{plan_of}
 use Rattle.shape_plans.specs.declared.judging.TheConstants.{MOST_LINKS}
-use Rattle.shape_laws.proofs.Final.{few_links, sound}
+use Rattle.shape_plans.proofs.Final.{few_links, sound}
 use Rattle.schedule_compiler.proofs.Kept.{ranks-are}
 use Rattle.schedule_compiler.proofs.schedule.Schedule.plan.Goals as goal
 

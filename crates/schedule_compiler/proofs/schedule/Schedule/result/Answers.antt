@@ -2,7 +2,7 @@
 use Rattle.std.proofs.Common.{length, ap, arith, subst}
 use Rattle.coll_shape.specs.Outline.{Outline}
 use Rattle.coll_shape.specs.WellFormed.{IsWellFormed}
-use Rattle.shape_laws.proofs.Final.{empty-unheld, result-cell, unheld-empty}
+use Rattle.shape_plans.proofs.Final.{empty-unheld, result-cell, unheld-empty}
 use Rattle.schedule_compiler.proofs.Kept.{kept-buffers, kept-held}
 use Rattle.schedule_compiler.proofs.schedule.Schedule.result.Goals as goal
 

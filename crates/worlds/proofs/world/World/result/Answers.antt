@@ -7,7 +7,7 @@ use Rattle.rank_node.specs.Node.{NodeState}
 use Rattle.ni_model.specs.State.{State}
 use Rattle.schedule_compiler.specs.Answers.{place_of}
 use Rattle.schedule_compiler.specs.declared.schedule.Place.{Place}
-use Rattle.shape_laws.proofs.Final.{result-cell}
+use Rattle.shape_plans.proofs.Final.{result-cell}
 use Rattle.shape_plans.specs.Drawing.{drawing_of, plan_of}
 use Rattle.world_parts.specs.Layout.{no_node}
 use Rattle.worlds.specs.World.{WorldState, state_of}

@@ -1,0 +1,23 @@
+-- Allreduce (MPI allreduce): the lists are combined up a tree with root 0, and the result goes down it.
+--
+-- | Cells after the entries, in order | Incoming links of each |
+-- | C(v), v falling, as in a reduce with root 0 | as there |
+-- | O(v), v rising; A's length | O(0): Put whole from C(0). O(v), v > 0: Bump from C(v), Put whole from O(parent of v) |
+--
+-- Every entry has data. O holds B, and is the exit.
+use Rattle.std.specs.Prelude.{ℕ, ◌+◌, List, ◌++◌, map}
+use Rattle.ptl_types.specs.declared.elements.AtomicOp.{AtomicOp}
+use Rattle.plan_core.specs.Draw.{NewCell}
+use Rattle.plan_steps.specs.declared.ends.End.{End}
+use Rattle.plan_steps.specs.Steps.{giving}
+use Rattle.plan_steps.specs.Site.{Site, count, places, entries, further}
+use Rattle.plan_steps.specs.Trees.{down_cell, up, up_number}
+
+abbrev pub result_cell : Site → ℕ → NewCell
+result_cell s v = down_cell s 0 (further s (count s)) (up_number s 0) (up_number s v) v
+
+abbrev pub allreduce_cells : Site → AtomicOp → List NewCell
+allreduce_cells s o = entries s ++ (up s 0 o ++ map (result_cell s) (places s))
+
+abbrev pub allreduce_end : Site → ℕ → End
+allreduce_end s i = giving (further s (count s + i))

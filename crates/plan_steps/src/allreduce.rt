@@ -1,0 +1,57 @@
+//! Allreduce: the lists are combined up a tree, and the result goes down it.
+
+ghost use Rattle.plan_steps.specs.Allreduce.{allreduce_cells, allreduce_end, result_cell};
+
+use crate::collective::Collective;
+use crate::ends::{End, giving};
+use crate::first_cells::FullEntries;
+use crate::plan_tree::trees::{Up, draw_down_cell, up_number};
+use crate::row::{Rows, draw_row};
+use crate::site::Site;
+use plan_core::Plan;
+use ptl_types::{AtomicOp, NoMemory};
+use std::alloc::Global;
+
+/// The result's copies down the tree.
+#[derive(Drop)]
+struct Results;
+
+impl Rows for Results {
+    ghost cell = { λ results s k. result_cell s };
+
+    fn draw(&self, plan: &mut Plan, site: &Site, _number: u32, place: u32) -> Result<(), NoMemory> {
+        let base = site.further(site.count());
+        let below = up_number(site, place);
+        draw_down_cell(plan, site, 0, base, up_number(site, 0), below, place)
+    }
+}
+
+/// An allreduce.
+#[derive(Drop)]
+pub(crate) struct Allreduce {
+    pub(crate) op: AtomicOp,
+}
+
+impl Collective for Allreduce {
+    ghost cells = { λ step s. allreduce_cells s step.op };
+
+    ghost end = { λ step s. allreduce_end s };
+
+    fn draw(&self, alloc: Global, plan: &mut Plan, site: &Site) -> Result<(), NoMemory> {
+        let up = Up {
+            alloc,
+            root: 0,
+            op: self.op,
+        };
+        let _ = site.count();
+        draw_row(plan, site, &FullEntries, 0)?;
+        draw_row(plan, site, &up, 0)?;
+        draw_row(plan, site, &Results, 0)?;
+        Ok(())
+    }
+
+    fn end(&self, site: &Site, place: u32) -> End {
+        let count = site.count();
+        giving(site.further(count + place))
+    }
+}

@@ -1,0 +1,59 @@
+//! Broadcast: the root's list goes down a tree.
+
+ghost use Rattle.std.specs.Prelude.{◌<◌};
+ghost use Rattle.plan_steps.specs.Broadcast.{broadcast_cells, broadcast_end, copy_cell};
+ghost use Rattle.plan_steps.specs.Site.{count};
+
+use crate::collective::Collective;
+use crate::ends::{End, giving};
+use crate::first_cells::RootEntries;
+use crate::plan_tree::trees::{draw_down_cell, turned, unturned};
+use crate::row::{Rows, draw_row};
+use crate::site::Site;
+use plan_core::Plan;
+use ptl_types::NoMemory;
+use std::alloc::Global;
+
+/// The copies down the tree.
+#[derive(Drop)]
+struct Copies {
+    root: u32,
+}
+
+impl Rows for Copies {
+    ghost fits = { λ copies s k. copies.root < count s };
+
+    ghost cell = { λ copies s k. copy_cell s copies.root };
+
+    fn draw(&self, plan: &mut Plan, site: &Site, _number: u32, place: u32) -> Result<(), NoMemory> {
+        let _ = site.count();
+        let top = site.entry(self.root);
+        let below = site.entry(turned(site, self.root, place));
+        draw_down_cell(plan, site, self.root, site.further(0), top, below, place)
+    }
+}
+
+/// A broadcast from a root.
+#[derive(Drop)]
+pub(crate) struct Broadcast {
+    pub(crate) root: u32,
+}
+
+impl Collective for Broadcast {
+    ghost fits = { λ step s. step.root < count s };
+
+    ghost cells = { λ step s. broadcast_cells s step.root };
+
+    ghost end = { λ step s. broadcast_end s step.root };
+
+    fn draw(&self, _alloc: Global, plan: &mut Plan, site: &Site) -> Result<(), NoMemory> {
+        draw_row(plan, site, &RootEntries { root: self.root }, 0)?;
+        draw_row(plan, site, &Copies { root: self.root }, 0)?;
+        Ok(())
+    }
+
+    fn end(&self, site: &Site, place: u32) -> End {
+        let _ = site.count();
+        giving(site.further(unturned(site, self.root, place)))
+    }
+}
