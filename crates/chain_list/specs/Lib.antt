@@ -8,3 +8,4 @@ pub mod NodeMap
 pub mod Places
 pub mod Relinked
 pub mod RowLends
+pub mod threads

@@ -1,6 +1,7 @@
 //! A doubly linked list whose nodes lie in one block, and the counter of the nodes that its calls visit.
 #![tactic(auto)]
 
+pub mod threads;
 mod block;
 mod chain;
 mod filling;

@@ -13,7 +13,7 @@ ghost use Rattle.coll_text.specs.declared.values.ValuesFault.TheVariants.{NoMemo
 
 use crate::numerals::{Number, leading_digits, number_at};
 use crate::splitting::{Words, cut};
-use element_bytes::write_pattern;
+use lane_ops::elements::write_pattern;
 use ptl_types::ElemType;
 use std::alloc::{AllocError, AllocFailed, Global};
 

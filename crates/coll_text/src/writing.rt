@@ -8,7 +8,7 @@ ghost use Rattle.coll_text.specs.Text.{line};
 ghost use Rattle.coll_text.specs.Elements.{elements, value_word};
 
 use crate::values::{half, is_signed};
-use element_bytes::read_pattern;
+use lane_ops::elements::read_pattern;
 use itoa::Buffer;
 use ptl_types::ElemType;
 use std::alloc::AllocError;

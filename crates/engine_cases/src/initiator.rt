@@ -1,11 +1,11 @@
 //! A descriptor from its binding to its release, and an answer that nobody awaits.
 
 use crate::answers::gives;
-use counters::Counter;
-use event_queues::Queue;
-use handle_store::Store;
+use ni_objects::counters::Counter;
+use ni_objects::queues::Queue;
+use ni_objects::handles::Store;
 use initiator_engine::Initiator;
-use memory_desc::Region;
+use ni_objects::descriptors::Region;
 use ptl_types::{
     AckRequest, Bytes, Deed, Descriptor, ElemType, GetArgs, Handle, Header, Limits, Message,
     MessageKind, NiFault, Outcome, PutArgs,

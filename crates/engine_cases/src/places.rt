@@ -1,7 +1,7 @@
 //! Two threads over four places: what each lists, and where a place that was taken off stands when it is put on again.
 
 use crate::answers::gives;
-use place_threads::Threads;
+use chain_list::threads::Threads;
 use std::alloc::Global;
 use std::process::Abort;
 use std::test::Fail;

@@ -1,10 +1,10 @@
 //! Each call of a target once, and each of its refusals. Headers that are left, searched and taken are a script of `interface_cases`.
 
 use crate::answers::gives;
-use counters::Counter;
-use event_queues::Queue;
-use handle_store::Store;
-use memory_desc::Region;
+use ni_objects::counters::Counter;
+use ni_objects::queues::Queue;
+use ni_objects::handles::Store;
+use ni_objects::descriptors::Region;
 use ptl_types::{
     Appended, Bytes, Entry, Handle, Header, Limits, List, Message, NiFault, NoMemory, Outcome,
 };

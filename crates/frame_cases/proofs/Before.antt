@@ -4,19 +4,19 @@ use Rattle.ptl_types.specs.declared.headers.Lane.{Lane}
 use Rattle.pair_wires.specs.Lanes.{Plain}
 use Rattle.plan_core.specs.Plan.{Plan}
 use Rattle.plan_core.specs.Values.{Inputs}
-use Rattle.plan_cuts.specs.History.{got, sent}
-use Rattle.plan_cuts.specs.Plans.{start_of}
-use Rattle.plan_orders.specs.Chosen.{first_scene}
-use Rattle.plan_view.specs.Calls.{prepare}
-use Rattle.plan_worlds.specs.Places.{lane_place}
+use Rattle.cuts.specs.histories.History.{got, sent}
+use Rattle.cuts.specs.histories.Plans.{start_of}
+use Rattle.cuts.specs.orders.Chosen.{first_scene}
+use Rattle.cuts.specs.view.Calls.{prepare}
+use Rattle.cuts.specs.windows.Places.{lane_place}
 use Rattle.coll_shape.specs.Outline.{Outline}
 use Rattle.rank_node.specs.Node.{NodeState}
 use Rattle.schedule_compiler.specs.Jobs.{JobOf}
 use Rattle.shape_plans.specs.Drawing.{plan_of}
-use Rattle.world_parts.specs.Layout.{lane_at, node_at, scene_of}
-use Rattle.world_open.specs.Fresh.{IsFresh}
-use Rattle.world_open.specs.Frames.{frame_window}
-use Rattle.world_open.proofs.Begun.{first-by}
+use Rattle.worlds.specs.parts.Layout.{lane_at, node_at, scene_of}
+use Rattle.worlds.specs.opening.Fresh.{IsFresh}
+use Rattle.worlds.specs.opening.Frames.{frame_window}
+use Rattle.worlds.proofs.opening.Begun.{first-by}
 use Rattle.worlds.specs.FrameState.{FrameState}
 use Rattle.worlds.specs.Frames.{IsClosed, IsFrameOf, MayClose, lane_in}
 use Rattle.worlds.specs.Later.{IsOpened}

@@ -11,7 +11,7 @@ use ptl_types::{Lane, NoMemory, Rank};
 use schedule_compiler::{Job, compile};
 use std::alloc::Global;
 use std::process::Abort;
-use world_open::install_all;
+use worlds::opening::install_all;
 use worlds::{Frame, World};
 
 const TEXT: &[u8] =

@@ -13,10 +13,10 @@ use Rattle.ni_model.specs.Answers.{awaits_less}
 use Rattle.ni_model.specs.Starts.{awaits_more}
 use Rattle.ni_model.specs.Calls.{bound}
 use Rattle.ni_model.specs.Refusals.{md_names_ct, md_names_eq}
-use Rattle.user_counts.specs.Rows.{one_at, more, fewer, count_at, IsAlone}
-use Rattle.user_counts.specs.Sums.{sum_of}
-use Rattle.user_counts.proofs.RowLemmas.{counts-none, counts-more, counts-fewer, counts-same, more-long, fewer-long, add-room, one-few, names-step}
-use Rattle.user_counts.proofs.SumLemmas.{sum-push, sum-less, sum-kept, sum-few, named-changed, once-new, once-without}
+use Rattle.ni_objects.specs.users.Rows.{one_at, more, fewer, count_at, IsAlone}
+use Rattle.ni_objects.specs.users.Sums.{sum_of}
+use Rattle.ni_objects.proofs.users.RowLemmas.{counts-none, counts-more, counts-fewer, counts-same, more-long, fewer-long, add-room, one-few, names-step}
+use Rattle.ni_objects.proofs.users.SumLemmas.{sum-push, sum-less, sum-kept, sum-few, named-changed, once-new, once-without}
 use Rattle.initiator_engine.specs.Initiators.{ct_users, eq_users, AreUsers}
 
 abbrev by_ct : ℕ → Handle → Bound → ℕ

@@ -14,8 +14,8 @@ use Rattle.ni_model.specs.Answers.{Home, Returned}
 use Rattle.ni_model.specs.Starts.{Started, bytes_at}
 use Rattle.ni_model.specs.Refusals.{put_fits}
 use Rattle.ni_model.specs.Conditions.{IsBoundIn}
-use Rattle.user_counts.specs.Rows.{one_at, Counts}
-use Rattle.user_counts.specs.Sums.{sum_of, named_as}
+use Rattle.ni_objects.specs.users.Rows.{one_at, Counts}
+use Rattle.ni_objects.specs.users.Sums.{sum_of, named_as}
 
 -- its rank, the number of ranks, its limits, and the memory descriptors with the answers that each awaits
 pub record Initiating : Type 0 where

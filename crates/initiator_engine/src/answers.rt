@@ -6,10 +6,10 @@ ghost use Rattle.ni_model.specs.Answers.{bound_at, is_due, memory_home, one_answ
 ghost use Rattle.ni_model.specs.Conditions.{IsBoundIn};
 ghost use Rattle.ptl_types.specs.Handles.{top};
 
-use event_delivery::raise;
-use event_queues::Queue;
-use handle_store::{Store, where_set};
-use memory_desc::Region;
+use ni_objects::delivery::raise;
+use ni_objects::queues::Queue;
+use ni_objects::handles::{Store, where_set};
+use ni_objects::descriptors::Region;
 use ni_model::Bound;
 use ptl_types::{AckRequest, Count, Event, EventKind, Handle, Header, Message, MessageKind};
 

@@ -5,7 +5,7 @@ ghost use Rattle.ni_model.specs.Tables.{is_live};
 ghost use Rattle.ni_model.specs.Refusals.{holds_part, put_fits, get_fits, deed_is_live, deed_fits};
 
 use crate::answers::bound_of;
-use handle_store::Store;
+use ni_objects::handles::Store;
 use ni_model::Bound;
 use ptl_types::{Deed, GetArgs, Handle, PutArgs};
 

@@ -7,7 +7,7 @@ ghost use Rattle.ni_model.specs.Answers.{home, answered, bound_at, is_awaited};
 ghost use Rattle.ni_model.specs.Starts.{started, sent_from, counted_on, send_counter};
 ghost use Rattle.ni_model.specs.Refusals.{bind_fault, deed_fault, own_release_fault, md_names_ct, md_names_eq};
 ghost use Rattle.ni_model.specs.Conditions.{MayStart};
-ghost use Rattle.user_counts.specs.Rows.{IsAlone, HasOwnSlot};
+ghost use Rattle.ni_objects.specs.users.Rows.{IsAlone, HasOwnSlot};
 ghost use Rattle.initiator_engine.specs.Initiators.{initiating, with_mds, AreBoundIn, by_fault, is_start, room_for, has_started, has_returned};
 
 use crate::answers::{await_less, bound_of, bring, counter_home, is_due, one_answer, raise_answer};
@@ -15,18 +15,18 @@ use crate::checks::{deed_fits, deed_is_live, is_live};
 use crate::headers::{counted_on, header_of, put_args};
 use crate::named::some_awaits;
 use crate::starts::{await_more, read_bytes, send_counter, send_event, send_queue};
-use counters::Counter;
-use event_delivery::{count, raise, successes};
-use event_queues::Queue;
-use handle_store::{Store, is_live_or_none};
-use memory_desc::Region;
+use ni_objects::counters::Counter;
+use ni_objects::delivery::{count, raise, successes};
+use ni_objects::queues::Queue;
+use ni_objects::handles::{Store, is_live_or_none};
+use ni_objects::descriptors::Region;
 use ni_model::Bound;
 use ptl_types::{
     Bytes, Deed, Descriptor, Handle, Header, Limits, Message, NiFault, NoMemory, Outcome, Rank,
 };
 use std::alloc::Global;
 use std::marker::Model;
-use user_counts::Users;
+use ni_objects::users::Users;
 
 /// An initiator. Its value is its rank, the number of ranks, its limits, and its memory descriptors with the answers that
 /// each awaits. `cts` and `eqs` count by slot the descriptors that name a counting event and an event queue.

@@ -3,7 +3,7 @@
 ghost use Rattle.std.specs.Prelude.{◌≡◌};
 ghost use Rattle.ni_model.specs.Answers.{is_awaited};
 
-use handle_store::Store;
+use ni_objects::handles::Store;
 use ni_model::Bound;
 
 /// Whether a descriptor awaits an answer. It goes through the slots of the table.

@@ -6,8 +6,8 @@ ghost use Rattle.ni_model.specs.Events.{send_event};
 ghost use Rattle.initiator_engine.specs.Initiators.{AreBoundIn, args_fit, args_length, args_bytes};
 
 use crate::answers::bound_of;
-use handle_store::{Store, where_set};
-use memory_desc::Region;
+use ni_objects::handles::{Store, where_set};
+use ni_objects::descriptors::Region;
 use ni_model::Bound;
 use ptl_types::{Bytes, Event, EventKind, Handle, Header, PutArgs};
 

@@ -16,19 +16,19 @@ use Rattle.plan_core.specs.Places.{cell_length, start_in}
 use Rattle.plan_core.specs.Plan.{cell, own}
 use Rattle.plan_core.specs.Sound.{SoundPlan}
 use Rattle.plan_core.specs.Values.{Inputs, initial}
-use Rattle.plan_view.specs.Slots.{Slots}
-use Rattle.plan_cuts.proofs.FromCut.{moves_at, simulation}
-use Rattle.plan_cuts.proofs.Shape.{shape}
+use Rattle.cuts.specs.view.Slots.{Slots}
+use Rattle.cuts.proofs.histories.FromCut.{moves_at, simulation}
+use Rattle.cuts.proofs.histories.Shape.{shape}
 use Rattle.plan_calls.specs.Calls.{cell_start}
-use Rattle.plan_cuts.specs.Barrier.{IsBarrierKept}
-use Rattle.plan_cuts.specs.Cut.{IsAtRest, IsCut}
-use Rattle.plan_cuts.specs.Plans.{CounterReached, IsComplete, system_of}
-use Rattle.plan_cuts.specs.System.{Histories, state_at}
-use Rattle.plan_machine.proofs.Rounds.{entries_lead}
-use Rattle.plan_machine.specs.Machine.{Leads, all_seen}
-use Rattle.plan_machine.specs.Seen.{content}
-use Rattle.plan_rest.proofs.FromRest.{completes}
-use Rattle.plan_rest.proofs.Laws.{ancestor_reached}
+use Rattle.cuts.specs.histories.Barrier.{IsBarrierKept}
+use Rattle.cuts.specs.histories.Cut.{IsAtRest, IsCut}
+use Rattle.cuts.specs.histories.Plans.{CounterReached, IsComplete, system_of}
+use Rattle.cuts.specs.histories.System.{Histories, state_at}
+use Rattle.cuts.proofs.machine.Rounds.{entries_lead}
+use Rattle.cuts.specs.machine.Machine.{Leads, all_seen}
+use Rattle.cuts.specs.machine.Seen.{content}
+use Rattle.cuts.proofs.rest.FromRest.{completes}
+use Rattle.cuts.proofs.rest.Laws.{ancestor_reached}
 use Rattle.plan_steps.specs.Rounds.{rounds}
 use Rattle.shape_plans.specs.Drawing.{drawing_of, drawn_upto, plan_of, site}
 use Rattle.shape_plans.specs.Steps.{end_of}
@@ -36,8 +36,8 @@ use Rattle.shape_plans.specs.Footprint.{refusal}
 use Rattle.shape_plans.proofs.Final.{barrier-cells, barrier-rounds, fine-shape, inputs_fit, result-cell, sound, unheld-empty, value-held}
 use Rattle.step_laws.proofs.Chain.{entry_in, exit_in, leads_first, leads_next, leads_through}
 use Rattle.step_laws.specs.Order.{IsAt, entry_cell, exit_cell}
-use Rattle.done_laws.proofs.Counted.{holds_values}
-use Rattle.done_laws.specs.Done.{HoldsValues, IsDone}
+use Rattle.cuts.proofs.done.Counted.{holds_values}
+use Rattle.cuts.specs.done.Done.{HoldsValues, IsDone}
 use Rattle.job_laws.specs.Barriers.{AreBarriersKept, AreStepsInOrder, barrier_cell}
 use Rattle.job_laws.specs.Results.{AreMeant, AreMeantAt, cell_part}
 

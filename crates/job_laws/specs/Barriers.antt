@@ -1,10 +1,10 @@
 -- The barriers of a shape, and the order of its steps.
 use Rattle.std.specs.Prelude.{ℕ, ◌≡◌, ◌<◌, length}
 use Rattle.plan_core.specs.Values.{Inputs}
-use Rattle.plan_view.specs.Slots.{Slots}
-use Rattle.plan_cuts.specs.Barrier.{HasEntered, IsBarrierKept}
-use Rattle.plan_cuts.specs.Plans.{CounterReached}
-use Rattle.plan_cuts.specs.System.{Histories}
+use Rattle.cuts.specs.view.Slots.{Slots}
+use Rattle.cuts.specs.histories.Barrier.{HasEntered, IsBarrierKept}
+use Rattle.cuts.specs.histories.Plans.{CounterReached}
+use Rattle.cuts.specs.histories.System.{Histories}
 use Rattle.coll_shape.specs.declared.types.CollStep.TheVariants.{Barrier}
 use Rattle.coll_shape.specs.Outline.{Outline, group_at, step_at}
 use Rattle.plan_steps.specs.Site.{in_row}

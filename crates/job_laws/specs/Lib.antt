@@ -1,2 +1,3 @@
 pub mod Results
 pub mod Barriers
+pub mod interleavings

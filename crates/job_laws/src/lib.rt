@@ -2,18 +2,20 @@
 //! done; the steps of a rank follow each other, and barriers are kept.
 #![tactic(auto)]
 
+pub mod interleavings;
+
 ghost use Rattle.std.specs.Prelude.{ℕ, None, ◌<◌, ◌≡◌};
 ghost use Rattle.plan_core.specs.Values.{Inputs};
-ghost use Rattle.plan_view.specs.Slots.{Slots};
-ghost use Rattle.plan_cuts.specs.Cut.{IsAtRest, IsCut};
-ghost use Rattle.plan_cuts.specs.Plans.{IsComplete, system_of};
-ghost use Rattle.plan_cuts.specs.System.{Histories, state_at};
+ghost use Rattle.cuts.specs.view.Slots.{Slots};
+ghost use Rattle.cuts.specs.histories.Cut.{IsAtRest, IsCut};
+ghost use Rattle.cuts.specs.histories.Plans.{IsComplete, system_of};
+ghost use Rattle.cuts.specs.histories.System.{Histories, state_at};
 ghost use Rattle.coll_shape.specs.Meaning.{AreInputs};
 ghost use Rattle.coll_shape.specs.Outline.{Outline};
 ghost use Rattle.coll_shape.specs.WellFormed.{IsWellFormed};
 ghost use Rattle.shape_plans.specs.Drawing.{plan_of};
 ghost use Rattle.shape_plans.specs.Footprint.{refusal};
-ghost use Rattle.done_laws.specs.Done.{IsDone};
+ghost use Rattle.cuts.specs.done.Done.{IsDone};
 ghost use Rattle.job_laws.specs.Barriers.{AreBarriersKept, AreStepsInOrder};
 ghost use Rattle.job_laws.specs.Results.{AreMeant, AreMeantAt};
 

@@ -7,7 +7,7 @@ use crate::forms::form_flaw;
 use crate::paths::path_of;
 use coll_lang::Refusal;
 use json_lang::lines_of;
-use note_lines::{About, Cause, Note, Printable};
+use text_notes::notes::{About, Cause, Note, Printable};
 use serde_json::{Error, Value};
 use std::alloc::Global;
 use text_notes::{explain_text, line_at, plain_note};

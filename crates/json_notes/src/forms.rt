@@ -3,7 +3,7 @@
 use crate::items::{Rule, Wrong, wrong_list, wrong_value};
 use crate::paths::{item_of, member, push_item, push_member};
 use json_lang::{is_input_name, is_member_name};
-use note_lines::{FormFlaw, Printable};
+use text_notes::notes::{FormFlaw, Printable};
 use serde_json::Value;
 
 /// The values of the list of that name, if there is one; or what is wrong with it.

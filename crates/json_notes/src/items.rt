@@ -2,7 +2,7 @@
 
 use crate::paths::push_item;
 use json_lang::{is_whole, is_word, is_word_or_whole};
-use note_lines::{FormFlaw, Printable};
+use text_notes::notes::{FormFlaw, Printable};
 use serde_json::Value;
 
 /// A place, and what is wrong there.

@@ -1,6 +1,6 @@
 //! Places in a description in JSON.
 
-use note_lines::{Printable, cut_word};
+use text_notes::notes::{Printable, cut_word};
 use serde_json::Value;
 
 /// The place of a member.

@@ -2,7 +2,7 @@
 
 use crate::explain_json;
 use json_lang::parse_json;
-use note_lines::note_text;
+use text_notes::notes::note_text;
 use std::alloc::Global;
 use std::test::Fail;
 

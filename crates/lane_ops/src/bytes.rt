@@ -10,7 +10,7 @@ use crate::operations::{
     BitwiseAnd, BitwiseOr, BitwiseXor, Combine, LogicalAnd, LogicalOr, LogicalXor, Maximum,
     Minimum, Product, Sum, start_value,
 };
-use element_bytes::{
+use crate::elements::{
     Element, Signed8, Signed16, Signed32, Signed64, Unsigned8, Unsigned16, Unsigned32, Unsigned64,
 };
 use ptl_types::{AtomicOp, ElemType};

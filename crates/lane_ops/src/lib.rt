@@ -2,6 +2,7 @@
 //! (Portals 4.3, atomic operations).
 #![tactic(auto)]
 
+pub mod elements;
 mod bytes;
 mod operations;
 

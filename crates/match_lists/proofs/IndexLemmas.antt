@@ -9,8 +9,8 @@ use Rattle.chain_list.specs.declared.chain.ChainKey.{ChainKey}
 use Rattle.chain_list.specs.Chain.{Keyed, ChainList, chain_list, keyed, value_at, without, changed, stamp_at, first_or, NotAt, Apart}
 use Rattle.chain_list.proofs.ChainLemmas.{Apart-cut, Apart-before, stamp-here}
 use Rattle.chain_list.proofs.KeyLemmas.{split-live, without-append, without-here, changed-append, changed-here, value-append, value-here}
-use Rattle.place_threads.specs.Threads.{Woven, woven, thread, is_on, is_threaded, first_place, place_after, with_place, without_place, without as off}
-use Rattle.place_threads.proofs.ThreadLemmas.{get-map, off_all, on_one}
+use Rattle.chain_list.specs.threads.Threads.{Woven, woven, thread, is_on, is_threaded, first_place, place_after, with_place, without_place, without as off}
+use Rattle.chain_list.proofs.threads.ThreadLemmas.{get-map, off_all, on_one}
 use Rattle.ni_model.specs.declared.Linked.{Linked}
 use Rattle.match_lists.specs.Lists.{running_at}
 use Rattle.match_lists.specs.Buckets.{thread_of, on_thread, last_thread}

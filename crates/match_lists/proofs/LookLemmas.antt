@@ -6,7 +6,7 @@ use Rattle.std.proofs.lemmas.List.{length-set, get_or-set_same, get_or-set_other
 use Rattle.std.proofs.lemmas.List.Elements.{All-nil, All-cons, All-head, All-tail, All-append, All-push, All-take, All-drop, All-filter}
 use Rattle.chain_list.specs.declared.chain.ChainKey.{ChainKey}
 use Rattle.chain_list.specs.Chain.{Keyed, ChainList, chain_list, keyed, same_key, without, changed, NotAt}
-use Rattle.place_threads.specs.Threads.{Woven}
+use Rattle.chain_list.specs.threads.Threads.{Woven}
 use Rattle.ni_model.specs.declared.Linked.{Linked}
 use Rattle.match_lists.specs.declared.look.Look.{Look}
 use Rattle.match_lists.specs.Looks.{look_of, IsSeen}

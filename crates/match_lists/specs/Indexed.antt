@@ -3,7 +3,7 @@ use Rattle.std.specs.Prelude.{◌≡◌, ℕ, ◌+◌, ◌<◌, Bool, nat_lt, Li
 use Rattle.ptl_types.specs.declared.headers.Header.{Header}
 use Rattle.chain_list.specs.declared.chain.ChainKey.{ChainKey}
 use Rattle.chain_list.specs.Chain.{Keyed, ChainList}
-use Rattle.place_threads.specs.Threads.{Woven, thread}
+use Rattle.chain_list.specs.threads.Threads.{Woven, thread}
 use Rattle.ni_model.specs.declared.Linked.{Linked}
 use Rattle.ni_model.specs.Lists.{fits}
 use Rattle.match_lists.specs.declared.look.Look.{Look}

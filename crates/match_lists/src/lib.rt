@@ -1,6 +1,7 @@
 //! The priority list and the overflow list of one portal table index (Portals 4.3, match lists).
 #![tactic(auto)]
 
+pub mod unexpected;
 mod lists;
 mod look;
 mod match_list;

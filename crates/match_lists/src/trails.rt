@@ -1,13 +1,13 @@
 //! The threads through the places of a list's entries and the looks at these places, behind calls that count what they read.
 ghost use Rattle.std.specs.Prelude.{◌≡◌, ℕ, ◌+◌, ◌<◌, ◌^◌, false, [], length, replicate, get_or, slice_set, IfOk, IsTrue};
-ghost use Rattle.place_threads.specs.Threads.{woven, thread as thread_at, is_on, is_threaded};
-ghost use Rattle.place_threads.specs.Threads.{first_place, place_after, with_place, without_place};
+ghost use Rattle.chain_list.specs.threads.Threads.{woven, thread as thread_at, is_on, is_threaded};
+ghost use Rattle.chain_list.specs.threads.Threads.{first_place, place_after, with_place, without_place};
 ghost use Rattle.match_lists.specs.declared.look.Look.{Look};
 ghost use Rattle.match_lists.specs.Trails.{place_in};
 
 use crate::look::{Look, no_look};
 use chain_list::{Places, Steps};
-use place_threads::Threads;
+use chain_list::threads::Threads;
 use ptl_types::NoMemory;
 use std::alloc::Global;
 use std::sync::ledger::Ledger;

@@ -9,14 +9,14 @@ use Rattle.ptl_types.specs.declared.steps.LocalStep.{LocalStep}
 use Rattle.ptl_types.specs.declared.steps.LocalStep.TheVariants.{Receive as Receives}
 use Rattle.plan_core.specs.Members.{In}
 use Rattle.plan_core.proofs.Lists.{In-append_left, In-append_right, In-append_cases}
-use Rattle.plan_cuts.specs.System.{Histories}
-use Rattle.plan_orders.specs.Chosen.{Scene, first_scene}
-use Rattle.plan_orders.specs.Ending.{untaken}
-use Rattle.plan_orders.specs.Reached.{IsReached}
-use Rattle.plan_orders.specs.Reached.IsReached.{Begun}
-use Rattle.plan_orders.specs.Taking.{IsNext, Lists, listed}
-use Rattle.plan_orders.specs.Verdict.{IsWhole}
-use Rattle.plan_orders.proofs.Ending.{longer_list, untaken-less}
+use Rattle.cuts.specs.histories.System.{Histories}
+use Rattle.cuts.specs.orders.Chosen.{Scene, first_scene}
+use Rattle.cuts.specs.orders.Ending.{untaken}
+use Rattle.cuts.specs.orders.Reached.{IsReached}
+use Rattle.cuts.specs.orders.Reached.IsReached.{Begun}
+use Rattle.cuts.specs.orders.Taking.{IsNext, Lists, listed}
+use Rattle.cuts.specs.orders.Verdict.{IsWhole}
+use Rattle.cuts.proofs.orders.Ending.{longer_list, untaken-less}
 use Rattle.coll_shape.specs.Outline.{Outline}
 use Rattle.worlds.specs.Later.{IsLater}
 use Rattle.worlds.specs.Standing.{IsStanding}

@@ -7,19 +7,19 @@ use Rattle.ptl_types.specs.declared.steps.LocalStep.{LocalStep}
 use Rattle.ptl_types.specs.declared.steps.LocalStep.TheVariants.{Start as Starts, Receive as Receives, Fire as Fires}
 use Rattle.ni_model.specs.Ready.{is_ready}
 use Rattle.plan_core.specs.Members.{In}
-use Rattle.plan_view.specs.Slots.{Slots}
-use Rattle.plan_cuts.specs.History.{Local, got, is_start}
-use Rattle.plan_cuts.specs.History.Local.{Start, Receive, Fire}
-use Rattle.plan_cuts.specs.Moment.{IsEnabled}
-use Rattle.plan_cuts.specs.System.{Histories, System, sent_by, state_at}
-use Rattle.plan_orders.specs.Chosen.{Scene, enabled_steps}
-use Rattle.plan_orders.specs.Reached.{IsReached}
-use Rattle.plan_orders.specs.Taking.{MayTake, listed}
-use Rattle.plan_orders.specs.Verdict.{Rests}
-use Rattle.plan_orders.specs.declared.Step.TheVariants.{Deliver}
-use Rattle.plan_orders.proofs.Parts.{same-front}
-use Rattle.plan_orders.proofs.Steps.{beyond, may, reached_moves}
-use Rattle.plan_worlds.proofs.Listed.{enabled_listed}
+use Rattle.cuts.specs.view.Slots.{Slots}
+use Rattle.cuts.specs.histories.History.{Local, got, is_start}
+use Rattle.cuts.specs.histories.History.Local.{Start, Receive, Fire}
+use Rattle.cuts.specs.histories.Moment.{IsEnabled}
+use Rattle.cuts.specs.histories.System.{Histories, System, sent_by, state_at}
+use Rattle.cuts.specs.orders.Chosen.{Scene, enabled_steps}
+use Rattle.cuts.specs.orders.Reached.{IsReached}
+use Rattle.cuts.specs.orders.Taking.{MayTake, listed}
+use Rattle.cuts.specs.orders.Verdict.{Rests}
+use Rattle.cuts.specs.declared.orders.Step.TheVariants.{Deliver}
+use Rattle.cuts.proofs.orders.Parts.{same-front}
+use Rattle.cuts.proofs.orders.Steps.{beyond, may, reached_moves}
+use Rattle.cuts.proofs.windows.Listed.{enabled_listed}
 use Rattle.shape_plans.proofs.Final.{fine-shape}
 use Rattle.worlds.specs.Standing.{IsStanding}
 use Rattle.worlds.specs.World.{AreSlots, WorldState, histories_in, ranks_in, scene_in, steps_in}

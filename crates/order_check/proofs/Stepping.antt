@@ -12,23 +12,23 @@ use Rattle.ptl_types.specs.declared.steps.LocalStep.{LocalStep}
 use Rattle.ptl_types.specs.declared.steps.LocalStep.TheVariants.{Start as Starts, Receive as Receives, Fire as Fires}
 use Rattle.ni_model.specs.Ready.{is_ready, target_at}
 use Rattle.ni_model.specs.State.{State}
-use Rattle.plan_view.specs.Slots.{Slots}
-use Rattle.plan_cuts.specs.History.{Local, and_then, got, is_for, is_lane, is_start, made_by, sent, state}
-use Rattle.plan_cuts.specs.History.Local.{Start, Receive, Fire}
-use Rattle.plan_cuts.specs.Moment.{IsEnabled}
-use Rattle.plan_cuts.specs.Plans.{system_of}
-use Rattle.plan_cuts.specs.System.{Histories, System, sent_by, state_at}
-use Rattle.plan_cuts.proofs.Fronts.{made-append}
-use Rattle.plan_cuts.proofs.LaneAnswers.{answer_target}
-use Rattle.plan_cuts.proofs.Origin.{target_answers}
-use Rattle.plan_rest.proofs.Next.{next_held}
-use Rattle.plan_orders.specs.Chosen.{Scene, delivered, step_made}
-use Rattle.plan_orders.specs.Reached.{IsReached}
-use Rattle.plan_orders.specs.Reached.IsReached.{Stepped}
-use Rattle.plan_orders.specs.Taking.{IsNext, Lists, listed, with_step}
-use Rattle.plan_orders.proofs.Choosing.{listed_made}
-use Rattle.plan_orders.proofs.Ending.{elsewhere, here}
-use Rattle.plan_orders.proofs.Parts.{same-front}
+use Rattle.cuts.specs.view.Slots.{Slots}
+use Rattle.cuts.specs.histories.History.{Local, and_then, got, is_for, is_lane, is_start, made_by, sent, state}
+use Rattle.cuts.specs.histories.History.Local.{Start, Receive, Fire}
+use Rattle.cuts.specs.histories.Moment.{IsEnabled}
+use Rattle.cuts.specs.histories.Plans.{system_of}
+use Rattle.cuts.specs.histories.System.{Histories, System, sent_by, state_at}
+use Rattle.cuts.proofs.histories.Fronts.{made-append}
+use Rattle.cuts.proofs.histories.LaneAnswers.{answer_target}
+use Rattle.cuts.proofs.histories.Origin.{target_answers}
+use Rattle.cuts.proofs.rest.Next.{next_held}
+use Rattle.cuts.specs.orders.Chosen.{Scene, delivered, step_made}
+use Rattle.cuts.specs.orders.Reached.{IsReached}
+use Rattle.cuts.specs.orders.Reached.IsReached.{Stepped}
+use Rattle.cuts.specs.orders.Taking.{IsNext, Lists, listed, with_step}
+use Rattle.cuts.proofs.orders.Choosing.{listed_made}
+use Rattle.cuts.proofs.orders.Ending.{elsewhere, here}
+use Rattle.cuts.proofs.orders.Parts.{same-front}
 use Rattle.rank_node.proofs.Sending.{fired-target, rank_of}
 use Rattle.shape_plans.proofs.Final.{inputs_fit}
 use Rattle.shape_plans.specs.Drawing.{plan_of}

@@ -4,16 +4,16 @@ use Rattle.op_laws.proofs.OpLaws.{op_laws}
 use Rattle.op_laws.proofs.Starts.{combined-starts}
 use Rattle.op_laws.proofs.Swaps.{combined-swaps}
 use Rattle.ptl_types.specs.declared.steps.Cause.TheVariants.{NotAtRest}
-use Rattle.plan_view.specs.Slots.{Slots}
-use Rattle.plan_cuts.specs.Plans.{system_of}
-use Rattle.plan_cuts.specs.System.{Histories, System}
-use Rattle.plan_orders.specs.Taking.{IsStuckAt, Lists, listed}
-use Rattle.plan_orders.specs.Verdict.{IsVerdict, IsWhole, Says, Waits}
-use Rattle.plan_orders.specs.declared.Verdict.{Verdict}
-use Rattle.plan_orders.specs.declared.Verdict.TheVariants.{Fails, Holds}
-use Rattle.plan_orders.proofs.Holding.{are_listed}
-use Rattle.plan_orders.proofs.Slotless.{slotless}
-use Rattle.plan_orders.proofs.Steps.{reached_moves}
+use Rattle.cuts.specs.view.Slots.{Slots}
+use Rattle.cuts.specs.histories.Plans.{system_of}
+use Rattle.cuts.specs.histories.System.{Histories, System}
+use Rattle.cuts.specs.orders.Taking.{IsStuckAt, Lists, listed}
+use Rattle.cuts.specs.orders.Verdict.{IsVerdict, IsWhole, Says, Waits}
+use Rattle.cuts.specs.declared.orders.Verdict.{Verdict}
+use Rattle.cuts.specs.declared.orders.Verdict.TheVariants.{Fails, Holds}
+use Rattle.cuts.proofs.orders.Holding.{are_listed}
+use Rattle.cuts.proofs.orders.Slotless.{slotless}
+use Rattle.cuts.proofs.orders.Steps.{reached_moves}
 use Rattle.schedule_compiler.specs.Jobs.{JobOf}
 use Rattle.shape_plans.proofs.Final.{inputs_fit}
 use Rattle.shape_plans.specs.Drawing.{plan_of}

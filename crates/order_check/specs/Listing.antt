@@ -1,9 +1,9 @@
 -- Given orders.
 use Rattle.std.specs.Prelude.{ℕ, List, [], get_or, map}
 use Rattle.ptl_types.specs.declared.steps.LocalStep.{LocalStep}
-use Rattle.plan_cuts.specs.Cut.{IsPrefixOf}
-use Rattle.plan_cuts.specs.System.{Histories}
-use Rattle.plan_orders.specs.Taking.{Lists, listed}
+use Rattle.cuts.specs.histories.Cut.{IsPrefixOf}
+use Rattle.cuts.specs.histories.System.{Histories}
+use Rattle.cuts.specs.orders.Taking.{Lists, listed}
 
 -- the list of each rank; none past the last
 abbrev pub lists_of : List (List LocalStep) → Lists

@@ -4,9 +4,9 @@ use Rattle.ptl_types.specs.declared.headers.Lane.{Lane}
 use Rattle.ptl_types.specs.declared.steps.LocalStep.{LocalStep}
 use Rattle.ptl_types.specs.declared.steps.LocalStep.TheVariants.{Start as Starts, Receive as Receives, Fire as Fires}
 use Rattle.ni_model.specs.Ready.{is_ready, target_at}
-use Rattle.plan_cuts.specs.History.{is_start}
-use Rattle.plan_orders.specs.declared.Step.{Step}
-use Rattle.plan_orders.specs.declared.Step.TheVariants.{Start, Deliver, Fire}
+use Rattle.cuts.specs.histories.History.{is_start}
+use Rattle.cuts.specs.declared.orders.Step.{Step}
+use Rattle.cuts.specs.declared.orders.Step.TheVariants.{Start, Deliver, Fire}
 use Rattle.worlds.specs.World.{WorldState, histories_in, nic_in, scene_in}
 
 -- the window that no lane fills

@@ -3,13 +3,13 @@ use Rattle.std.specs.Prelude.{ℕ, ◌+◌, ◌*◌, ◌<◌, ◌≡◌, ◌⊎�
 use Rattle.ptl_types.specs.declared.steps.LocalStep.{LocalStep}
 use Rattle.ptl_types.specs.declared.steps.LocalStep.TheVariants.{Receive}
 use Rattle.plan_core.specs.Members.{In}
-use Rattle.plan_view.specs.Slots.{Slots}
-use Rattle.plan_orders.specs.Ending.{untaken}
-use Rattle.plan_orders.specs.Reached.{IsReached}
-use Rattle.plan_orders.specs.Taking.{IsNext, Lists}
-use Rattle.plan_orders.specs.Verdict.{Stops, cause_of}
-use Rattle.plan_orders.specs.declared.Verdict.{Verdict}
-use Rattle.plan_orders.specs.declared.Verdict.TheVariants.{Fails}
+use Rattle.cuts.specs.view.Slots.{Slots}
+use Rattle.cuts.specs.orders.Ending.{untaken}
+use Rattle.cuts.specs.orders.Reached.{IsReached}
+use Rattle.cuts.specs.orders.Taking.{IsNext, Lists}
+use Rattle.cuts.specs.orders.Verdict.{Stops, cause_of}
+use Rattle.cuts.specs.declared.orders.Verdict.{Verdict}
+use Rattle.cuts.specs.declared.orders.Verdict.TheVariants.{Fails}
 use Rattle.worlds.specs.Standing.{IsStanding}
 use Rattle.worlds.specs.World.{AreSlots, WorldState, histories_in, ranks_in, scene_in}
 use Rattle.order_check.specs.Listing.{IsListed}

@@ -5,7 +5,7 @@ ghost use Rattle.ptl_types.specs.declared.steps.LocalStep.TheVariants.{Receive};
 ghost use Rattle.worlds.specs.Standing.{IsStanding};
 ghost use Rattle.order_check.specs.Open.{HearsNoneOf, HearsNothing, IsOpen, IsQuiet, step_at, message_for, widest};
 
-use plan_orders::Step;
+use cuts::orders::Step;
 use ptl_types::{Lane, LocalStep, Rank};
 use worlds::World;
 

@@ -1,10 +1,10 @@
 //! The verdict, read off what was taken.
 
 ghost use Rattle.std.specs.Prelude.{ℕ, ◌+◌, ◌<◌, ◌≡◌, length, IfOk, MatchOption};
-ghost use Rattle.plan_view.specs.Slots.{Slots};
-ghost use Rattle.plan_cuts.specs.Plans.{system_of};
-ghost use Rattle.plan_orders.specs.Verdict.{IsVerdict, IsWhole, cause_of};
-ghost use Rattle.plan_orders.specs.declared.Verdict.TheVariants.{Fails};
+ghost use Rattle.cuts.specs.view.Slots.{Slots};
+ghost use Rattle.cuts.specs.histories.Plans.{system_of};
+ghost use Rattle.cuts.specs.orders.Verdict.{IsVerdict, IsWhole, cause_of};
+ghost use Rattle.cuts.specs.declared.orders.Verdict.TheVariants.{Fails};
 ghost use Rattle.shape_plans.specs.Drawing.{plan_of};
 ghost use Rattle.worlds.specs.World.{histories_in};
 ghost use Rattle.order_check.specs.Listing.{lists_of};
@@ -15,7 +15,7 @@ ghost use Rattle.order_check.specs.Work.{IsDriven, IsUnfinished};
 use crate::allowing::{is_quiet, ranks};
 use crate::taking::{next_listed, take_all};
 use order_lines::Orders;
-use plan_orders::Verdict;
+use cuts::orders::Verdict;
 use ptl_types::{Cause, LocalStep, NoMemory, Rank};
 use schedule_compiler::Job;
 use std::alloc::Global;

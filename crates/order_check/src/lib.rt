@@ -7,5 +7,5 @@ mod taking;
 
 pub use judging::check;
 pub use order_lines::Orders;
-pub use plan_orders::Verdict;
+pub use cuts::orders::Verdict;
 pub use ptl_types::Cause;

@@ -4,9 +4,9 @@ ghost use Rattle.std.specs.Prelude.{ℕ, ◌<◌, ◌≡◌, ◌⊎◌, [], ◌�
 ghost use Rattle.ptl_types.specs.declared.headers.Lane.{Lane};
 ghost use Rattle.ptl_types.specs.declared.steps.LocalStep.TheVariants.{Receive};
 ghost use Rattle.plan_core.specs.Members.{In};
-ghost use Rattle.plan_orders.specs.Chosen.{first_scene};
-ghost use Rattle.plan_orders.specs.Taking.{IsNext};
-ghost use Rattle.plan_orders.specs.Verdict.{IsWhole};
+ghost use Rattle.cuts.specs.orders.Chosen.{first_scene};
+ghost use Rattle.cuts.specs.orders.Taking.{IsNext};
+ghost use Rattle.cuts.specs.orders.Verdict.{IsWhole};
 ghost use Rattle.worlds.specs.Later.{IsLater};
 ghost use Rattle.worlds.specs.World.{histories_in, scene_in};
 ghost use Rattle.order_check.specs.Listing.{IsListed, lists_of};

@@ -1,7 +1,7 @@
 //! Each call once, at the ends of the range.
 
 use crate::answers::gives;
-use counters::{CountFull, Counter};
+use ni_objects::counters::{CountFull, Counter};
 use ptl_types::Count;
 
 fn of(success: u64, failure: u64) -> Count {

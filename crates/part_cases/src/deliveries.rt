@@ -1,10 +1,10 @@
 //! A count and an event reach what is named, and nothing where none is.
 
 use crate::answers::gives;
-use counters::Counter;
-use event_delivery::{count, raise, successes};
-use event_queues::Queue;
-use handle_store::{Store, is_live_or_none, names, where_set};
+use ni_objects::counters::Counter;
+use ni_objects::delivery::{count, raise, successes};
+use ni_objects::queues::Queue;
+use ni_objects::handles::{Store, is_live_or_none, names, where_set};
 use ptl_types::{EqGot, Event, EventKind, Handle};
 use std::test::Fail;
 

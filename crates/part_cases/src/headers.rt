@@ -3,7 +3,7 @@
 use crate::answers::gives;
 use ptl_types::{AckRequest, ElemType, Entry, Handle, Header, MessageKind, UnexpectedHeader};
 use std::test::Fail;
-use unexpected::Headers;
+use match_lists::unexpected::Headers;
 
 fn put(match_bits: u64, place: u64) -> UnexpectedHeader {
     UnexpectedHeader {

@@ -1,7 +1,7 @@
 //! Places are marked, counted and found.
 
 use crate::answers::gives;
-use place_marks::Marks;
+use triggered_ops::marks::Marks;
 use std::test::Fail;
 
 #[test]

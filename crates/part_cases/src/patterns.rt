@@ -1,7 +1,7 @@
 //! First elements of lists of bytes.
 
 use crate::answers::gives;
-use element_bytes::{read_pattern, write_pattern};
+use lane_ops::elements::{read_pattern, write_pattern};
 use ptl_types::ElemType;
 
 #[test]

@@ -1,7 +1,7 @@
 //! The event that finds the queue full is the one that is lost, and the next answer tells it.
 
 use crate::answers::gives;
-use event_queues::Queue;
+use ni_objects::queues::Queue;
 use ptl_types::{EqGot, Event, EventKind};
 use std::test::Fail;
 

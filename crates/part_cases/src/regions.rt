@@ -1,7 +1,7 @@
 //! Parts at the edges of a region.
 
 use crate::answers::gives;
-use memory_desc::Region;
+use ni_objects::descriptors::Region;
 use ptl_types::Bytes;
 use std::test::Fail;
 

@@ -1,7 +1,7 @@
 //! A slot is used again, a stamp never.
 
 use crate::answers::gives;
-use handle_store::Store;
+use ni_objects::handles::Store;
 use ptl_types::Handle;
 use std::test::Fail;
 

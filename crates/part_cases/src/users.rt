@@ -3,7 +3,7 @@
 use crate::answers::gives;
 use ptl_types::Handle;
 use std::test::Fail;
-use user_counts::Users;
+use ni_objects::users::Users;
 
 #[test]
 fn users_of_a_slot_come_and_go(rt: HostRuntime) -> Result<(), Fail> {

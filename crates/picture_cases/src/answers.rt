@@ -1,6 +1,6 @@
 //! Comparisons of one call each: a row of asserts in one function makes its proof go through all the branches.
 
-use plan_lines::TextFault;
+use plan_pictures::lines::TextFault;
 use std::fmt::Debug;
 use std::process::Abort;
 

@@ -1,7 +1,7 @@
 //! What is drawn: each cell and each link of a plan's text once, each local step of an order text once.
 
 use crate::answers::is_fault;
-use plan_lines::{Refusal, TextFault};
+use plan_pictures::lines::{Refusal, TextFault};
 use plan_pictures::{order_picture, plan_picture};
 use std::process::Abort;
 use std::test::Fail;

@@ -4,11 +4,11 @@ use Rattle.std.proofs.Math.ListN.{length-set}
 use Rattle.ptl_types.specs.declared.headers.Lane.{Lane}
 use Rattle.ptl_types.specs.Handles.{top}
 use Rattle.pair_wires.specs.Lanes.{Plain}
-use Rattle.plan_worlds.specs.Places.{lane_place}
-use Rattle.world_parts.specs.Layout.{lane_at}
-use Rattle.world_parts.proofs.Marked.{deliveries_marked, marked_size}
-use Rattle.world_parts.proofs.Sets.{two_marks}
-use Rattle.choice_ranks.specs.Seats.{Seated}
+use Rattle.cuts.specs.windows.Places.{lane_place}
+use Rattle.worlds.specs.parts.Layout.{lane_at}
+use Rattle.worlds.proofs.parts.Marked.{deliveries_marked, marked_size}
+use Rattle.worlds.proofs.parts.Sets.{two_marks}
+use Rattle.plan_choice.specs.ranks.Seats.{Seated}
 use Rattle.plan_choice.specs.Acts.{AreMarked, firing_count, firing_mark, seat_at, start_count, start_mark}
 use Rattle.plan_choice.specs.World.{AreCounted, ChoiceState}
 

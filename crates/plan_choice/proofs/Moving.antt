@@ -11,35 +11,35 @@ use Rattle.ptl_types.specs.Messages.{Sent}
 use Rattle.ni_model.specs.Tables.{handle}
 use Rattle.pair_wires.specs.Lanes.{Plain}
 use Rattle.plan_core.specs.Members.{In}
-use Rattle.plan_cuts.specs.Cut.{IsPrefixOf}
-use Rattle.plan_cuts.specs.History.{Local, after, and_then, is_for, made_by, state}
-use Rattle.plan_cuts.specs.Moment.{sent_more}
-use Rattle.plan_cuts.specs.System.{System, state_at}
-use Rattle.plan_cuts.proofs.Fronts.{state-append}
-use Rattle.plan_orders.specs.Chosen.{Scene, step_made}
-use Rattle.plan_orders.specs.Reached.{IsReached}
-use Rattle.plan_orders.specs.Reached.IsReached.{Stepped}
-use Rattle.plan_orders.specs.Taking.{with_step}
-use Rattle.plan_orders.proofs.Choosing.{listed_made}
-use Rattle.plan_worlds.proofs.Lanes.{begins}
-use Rattle.plan_worlds.specs.Named.{named}
-use Rattle.plan_worlds.specs.Places.{lane_place}
+use Rattle.cuts.specs.histories.Cut.{IsPrefixOf}
+use Rattle.cuts.specs.histories.History.{Local, after, and_then, is_for, made_by, state}
+use Rattle.cuts.specs.histories.Moment.{sent_more}
+use Rattle.cuts.specs.histories.System.{System, state_at}
+use Rattle.cuts.proofs.histories.Fronts.{state-append}
+use Rattle.cuts.specs.orders.Chosen.{Scene, step_made}
+use Rattle.cuts.specs.orders.Reached.{IsReached}
+use Rattle.cuts.specs.orders.Reached.IsReached.{Stepped}
+use Rattle.cuts.specs.orders.Taking.{with_step}
+use Rattle.cuts.proofs.orders.Choosing.{listed_made}
+use Rattle.cuts.proofs.windows.Lanes.{begins}
+use Rattle.cuts.specs.windows.Named.{named}
+use Rattle.cuts.specs.windows.Places.{lane_place}
 use Rattle.rank_node.specs.Handles.{Handles}
-use Rattle.world_parts.specs.Layout.{held_in, lane_at}
-use Rattle.world_parts.specs.Marks.{HasPlace, out_with, sent_out}
-use Rattle.world_parts.proofs.Gated.{scene_by}
-use Rattle.world_parts.proofs.Held.{held_here, held_out, set_capacity, set_here, set_size}
-use Rattle.world_parts.proofs.Sets.{at_set}
-use Rattle.choice_machine.specs.Counted.{steps_due}
-use Rattle.choice_view.specs.Install.{Slots, ct_of}
-use Rattle.choice_view.specs.Install.Counter.{Go}
-use Rattle.choice_laws.specs.Decided.{choice_system, count_from}
-use Rattle.choice_laws.specs.Traffic.{IsMade as IsSent}
-use Rattle.choice_laws.proofs.Agreement.{Agrees}
-use Rattle.choice_laws.proofs.Ends.{history_le, lane_few}
-use Rattle.choice_laws.proofs.Resting.{agrees_reached}
-use Rattle.choice_ranks.specs.Seats.{Seated, slots_in}
-use Rattle.choice_ranks.proofs.Installed.{slots_by}
+use Rattle.worlds.specs.parts.Layout.{held_in, lane_at}
+use Rattle.worlds.specs.parts.Marks.{HasPlace, out_with, sent_out}
+use Rattle.worlds.proofs.parts.Gated.{scene_by}
+use Rattle.worlds.proofs.parts.Held.{held_here, held_out, set_capacity, set_here, set_size}
+use Rattle.worlds.proofs.parts.Sets.{at_set}
+use Rattle.choices.specs.machine.Counted.{steps_due}
+use Rattle.choices.specs.view.Install.{Slots, ct_of}
+use Rattle.choices.specs.view.Install.Counter.{Go}
+use Rattle.choices.specs.laws.Decided.{choice_system, count_from}
+use Rattle.choices.specs.laws.Traffic.{IsMade as IsSent}
+use Rattle.choices.proofs.laws.Agreement.{Agrees}
+use Rattle.choices.proofs.laws.Ends.{history_le, lane_few}
+use Rattle.choices.proofs.laws.Resting.{agrees_reached}
+use Rattle.plan_choice.specs.ranks.Seats.{Seated, slots_in}
+use Rattle.plan_choice.proofs.ranks.Installed.{slots_by}
 use Rattle.plan_choice.specs.Acts.{made_at, no_seated, seat_at}
 use Rattle.plan_choice.specs.World.{ChoiceState, HasGo, HasRoom, IsLater, IsStanding, histories_in, nic_in, ranks_in, scene_in, steps_in}
 

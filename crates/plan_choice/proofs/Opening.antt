@@ -7,20 +7,20 @@ use Rattle.ptl_types.specs.declared.headers.Lane.{Lane}
 use Rattle.ptl_types.specs.declared.headers.Lane.TheVariants.{Answer, Request}
 use Rattle.ptl_types.specs.Handles.{top}
 use Rattle.pair_wires.specs.Lanes.{Plain}
-use Rattle.plan_cuts.specs.History.{state}
-use Rattle.plan_cuts.specs.System.{state_at}
-use Rattle.plan_orders.specs.Chosen.{Scene, first_scene}
-use Rattle.plan_orders.specs.Reached.{IsReached}
-use Rattle.plan_orders.specs.Reached.IsReached.{Begun}
-use Rattle.plan_worlds.specs.Places.{lane_place}
+use Rattle.cuts.specs.histories.History.{state}
+use Rattle.cuts.specs.histories.System.{state_at}
+use Rattle.cuts.specs.orders.Chosen.{Scene, first_scene}
+use Rattle.cuts.specs.orders.Reached.{IsReached}
+use Rattle.cuts.specs.orders.Reached.IsReached.{Begun}
+use Rattle.cuts.specs.windows.Places.{lane_place}
 use Rattle.rank_node.specs.Copies.{Diary}
-use Rattle.world_parts.specs.Layout.{held_in, lane_at}
-use Rattle.world_parts.specs.Marks.{delivery_count, lane_has}
-use Rattle.world_parts.proofs.Gated.{scene_by}
-use Rattle.world_parts.proofs.Placed.{lane_in}
+use Rattle.worlds.specs.parts.Layout.{held_in, lane_at}
+use Rattle.worlds.specs.parts.Marks.{delivery_count, lane_has}
+use Rattle.worlds.proofs.parts.Gated.{scene_by}
+use Rattle.worlds.proofs.parts.Placed.{lane_in}
 use Rattle.worlds.proofs.Opened.{none-held}
-use Rattle.choice_laws.specs.Decided.{IsInRange}
-use Rattle.choice_ranks.specs.Seats.{IsInstalled, Seated}
+use Rattle.choices.specs.laws.Decided.{IsInRange}
+use Rattle.plan_choice.specs.ranks.Seats.{IsInstalled, Seated}
 use Rattle.plan_choice.specs.Acts.{firing_count, no_seated, seat_at, start_count}
 use Rattle.plan_choice.specs.Laying.{laid_lane}
 use Rattle.plan_choice.specs.World.{AreFields, ChoiceState, HasGo, HasRoom, IsStanding, histories_in, nic_in, ranks_in, scene_in}

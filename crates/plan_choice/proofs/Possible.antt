@@ -8,21 +8,21 @@ use Rattle.ptl_types.specs.declared.headers.Lane.TheVariants.{Answer, Request}
 use Rattle.ni_model.specs.Ready.{fired, ready_numbers}
 use Rattle.plan_core.proofs.Lists.{In-map_cases}
 use Rattle.plan_core.specs.Members.{In}
-use Rattle.plan_cuts.specs.System.{System, state_at}
-use Rattle.plan_orders.specs.Chosen.{Scene, enabled_steps, firings_at}
-use Rattle.plan_orders.specs.Reached.{IsReached}
-use Rattle.plan_orders.specs.declared.Step.{Step}
-use Rattle.plan_orders.specs.declared.Step.TheVariants.{Deliver, Fire, Start}
-use Rattle.plan_worlds.specs.Places.{fires_at}
-use Rattle.plan_worlds.specs.Possible.{finds_room, is_possible, possible_steps}
+use Rattle.cuts.specs.histories.System.{System, state_at}
+use Rattle.cuts.specs.orders.Chosen.{Scene, enabled_steps, firings_at}
+use Rattle.cuts.specs.orders.Reached.{IsReached}
+use Rattle.cuts.specs.declared.orders.Step.{Step}
+use Rattle.cuts.specs.declared.orders.Step.TheVariants.{Deliver, Fire, Start}
+use Rattle.cuts.specs.windows.Places.{fires_at}
+use Rattle.cuts.specs.windows.Possible.{finds_room, is_possible, possible_steps}
 use Rattle.worlds.proofs.Listed.{IsOffered, offered, ready_is}
 use Rattle.worlds.proofs.Steps.{filter-all}
-use Rattle.choice_view.specs.Install.{Slots}
-use Rattle.choice_laws.specs.Decided.{IsInRange, choice_system}
-use Rattle.choice_laws.proofs.Agreement.{Agrees}
-use Rattle.choice_laws.proofs.Ends.{lane_few}
-use Rattle.choice_laws.proofs.Resting.{agrees_reached}
-use Rattle.choice_laws.proofs.Traffic.{firing_makes}
+use Rattle.choices.specs.view.Install.{Slots}
+use Rattle.choices.specs.laws.Decided.{IsInRange, choice_system}
+use Rattle.choices.proofs.laws.Agreement.{Agrees}
+use Rattle.choices.proofs.laws.Ends.{lane_few}
+use Rattle.choices.proofs.laws.Resting.{agrees_reached}
+use Rattle.choices.proofs.laws.Traffic.{firing_makes}
 
 module _ (n : ℕ) (ks : List ChoiceKind) (slots : ℕ → Slots) (in_range : IsInRange n ks) (few : length ks ≤ 64) (z : Scene)
     (reached : IsReached (choice_system n ks slots) z.world z.held) where

@@ -4,18 +4,18 @@ use Rattle.std.specs.List.{slice_get}
 use Rattle.ptl_types.specs.Handles.{top}
 use Rattle.plan_core.specs.Members.{In}
 use Rattle.plan_core.specs.Plan.{from_to}
-use Rattle.plan_cuts.specs.Moment.{IsLocalStep}
-use Rattle.plan_cuts.specs.System.{System}
-use Rattle.plan_orders.proofs.Choosing.{listed_made}
-use Rattle.plan_orders.specs.Chosen.{Scene, step_made}
-use Rattle.plan_orders.specs.declared.Step.{Step}
-use Rattle.plan_worlds.specs.Possible.{possible_steps}
-use Rattle.world_parts.proofs.Sets.{sum_moves}
+use Rattle.cuts.specs.histories.Moment.{IsLocalStep}
+use Rattle.cuts.specs.histories.System.{System}
+use Rattle.cuts.proofs.orders.Choosing.{listed_made}
+use Rattle.cuts.specs.orders.Chosen.{Scene, step_made}
+use Rattle.cuts.specs.declared.orders.Step.{Step}
+use Rattle.cuts.specs.windows.Possible.{possible_steps}
+use Rattle.worlds.proofs.parts.Sets.{sum_moves}
 use Rattle.worlds.specs.Runs.{IsRun, Running, chosen_run, chosen_step}
 use Rattle.worlds.specs.Runs.IsRun.{Stepped}
 use Rattle.worlds.proofs.Stepping.{next_chosen, prefix_on}
-use Rattle.choice_machine.specs.Counted.{steps_due}
-use Rattle.choice_laws.proofs.Ends.{history_le}
+use Rattle.choices.specs.machine.Counted.{steps_due}
+use Rattle.choices.proofs.laws.Ends.{history_le}
 use Rattle.plan_choice.specs.World.{ChoiceState, IsLater, IsStanding, histories_in, ranks_in, scene_in, steps_in}
 use Rattle.plan_choice.proofs.Moving.{moment_in, slots_at}
 use Rattle.plan_choice.proofs.Standing.{possible_in}

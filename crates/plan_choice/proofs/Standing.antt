@@ -6,24 +6,24 @@ use Rattle.ptl_types.specs.Handles.{top}
 use Rattle.ni_model.specs.Tables.{lookup}
 use Rattle.ni_model.specs.Ready.{ready_numbers}
 use Rattle.ni_model.specs.State.{State}
-use Rattle.plan_cuts.specs.History.{is_start}
-use Rattle.plan_cuts.specs.Moment.{IsStill}
-use Rattle.plan_cuts.specs.System.{System, state_at}
-use Rattle.plan_orders.proofs.Choosing.{none_listed_still}
-use Rattle.plan_orders.specs.Chosen.{Scene, start_at}
-use Rattle.plan_orders.specs.declared.Step.TheVariants.{Deliver, Fire, Start}
-use Rattle.plan_worlds.proofs.Counted.{counts_by}
-use Rattle.plan_worlds.specs.Places.{counts, delivery_at, fires_at, goal_at, kind_at, source_at}
-use Rattle.plan_worlds.specs.Possible.{is_possible, possible_steps}
-use Rattle.world_parts.specs.Layout.{held_in}
-use Rattle.world_parts.proofs.Placed.{place_told, ranks_told}
+use Rattle.cuts.specs.histories.History.{is_start}
+use Rattle.cuts.specs.histories.Moment.{IsStill}
+use Rattle.cuts.specs.histories.System.{System, state_at}
+use Rattle.cuts.proofs.orders.Choosing.{none_listed_still}
+use Rattle.cuts.specs.orders.Chosen.{Scene, start_at}
+use Rattle.cuts.specs.declared.orders.Step.TheVariants.{Deliver, Fire, Start}
+use Rattle.cuts.proofs.windows.Counted.{counts_by}
+use Rattle.cuts.specs.windows.Places.{counts, delivery_at, fires_at, goal_at, kind_at, source_at}
+use Rattle.cuts.specs.windows.Possible.{is_possible, possible_steps}
+use Rattle.worlds.specs.parts.Layout.{held_in}
+use Rattle.worlds.proofs.parts.Placed.{place_told, ranks_told}
 use Rattle.worlds.proofs.Numbered.{delivery_numbered, firing_numbered, start_numbered, total_of}
 use Rattle.worlds.proofs.Places.{lane_may_be, one_delivery, one_start}
-use Rattle.choice_machine.specs.Choices.{choice_at}
-use Rattle.choice_view.specs.Install.{ct_of}
-use Rattle.choice_view.specs.Install.Counter.{Done}
-use Rattle.choice_laws.specs.Decided.{IsDecided, result_of}
-use Rattle.choice_laws.proofs.Resting.{rest_decided, right_same}
+use Rattle.choices.specs.machine.Choices.{choice_at}
+use Rattle.choices.specs.view.Install.{ct_of}
+use Rattle.choices.specs.view.Install.Counter.{Done}
+use Rattle.choices.specs.laws.Decided.{IsDecided, result_of}
+use Rattle.choices.proofs.laws.Resting.{rest_decided, right_same}
 use Rattle.plan_choice.specs.Acts.{seat_at}
 use Rattle.plan_choice.specs.World.{AreFields, ChoiceState, IsDecidedWorld, IsStanding, histories_in, ranks_in, scene_in, steps_in, value_in}
 use Rattle.plan_choice.proofs.Moving.{moment_in, slots_at}

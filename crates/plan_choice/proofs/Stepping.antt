@@ -7,26 +7,26 @@ use Rattle.ni_model.specs.Ready.{fired, is_ready}
 use Rattle.ni_model.specs.State.{State, target}
 use Rattle.pair_wires.specs.Lanes.{Plain}
 use Rattle.plan_core.specs.Members.{In}
-use Rattle.plan_start.specs.Start.{go_raised}
-use Rattle.plan_cuts.specs.History.{Local}
-use Rattle.plan_cuts.specs.History.Local.{Start as Started, Receive as Received, Fire as Fired}
-use Rattle.plan_cuts.specs.Moment.{sent_more}
-use Rattle.plan_cuts.specs.System.{System, state_at}
-use Rattle.plan_orders.specs.Chosen.{Scene, delivered, step_made, with_lane}
-use Rattle.plan_orders.specs.Taking.{with_step}
-use Rattle.plan_orders.specs.declared.Step.{Step}
-use Rattle.plan_orders.specs.declared.Step.TheVariants.{Deliver, Fire, Start}
-use Rattle.plan_worlds.specs.Named.{named}
-use Rattle.plan_worlds.specs.Places.{lane_place}
-use Rattle.world_parts.specs.Layout.{held_in, lane_at}
-use Rattle.world_parts.specs.Marks.{out_with, popped, receiver}
-use Rattle.world_parts.proofs.Gated.{scene_by}
-use Rattle.world_parts.proofs.Held.{held_here, held_set, set_capacity, set_other, set_size}
+use Rattle.cuts.specs.start.Start.{go_raised}
+use Rattle.cuts.specs.histories.History.{Local}
+use Rattle.cuts.specs.histories.History.Local.{Start as Started, Receive as Received, Fire as Fired}
+use Rattle.cuts.specs.histories.Moment.{sent_more}
+use Rattle.cuts.specs.histories.System.{System, state_at}
+use Rattle.cuts.specs.orders.Chosen.{Scene, delivered, step_made, with_lane}
+use Rattle.cuts.specs.orders.Taking.{with_step}
+use Rattle.cuts.specs.declared.orders.Step.{Step}
+use Rattle.cuts.specs.declared.orders.Step.TheVariants.{Deliver, Fire, Start}
+use Rattle.cuts.specs.windows.Named.{named}
+use Rattle.cuts.specs.windows.Places.{lane_place}
+use Rattle.worlds.specs.parts.Layout.{held_in, lane_at}
+use Rattle.worlds.specs.parts.Marks.{out_with, popped, receiver}
+use Rattle.worlds.proofs.parts.Gated.{scene_by}
+use Rattle.worlds.proofs.parts.Held.{held_here, held_set, set_capacity, set_other, set_size}
 use Rattle.worlds.proofs.Listed.{offered, ready_is}
-use Rattle.choice_machine.specs.Counted.{steps_due}
-use Rattle.choice_laws.specs.Traffic.{IsMade as IsSent}
-use Rattle.choice_laws.proofs.Traffic.{comes, firing_makes, receipt_makes}
-use Rattle.choice_ranks.specs.Seats.{Seated, fired_seat, received_seat, started_seat}
+use Rattle.choices.specs.machine.Counted.{steps_due}
+use Rattle.choices.specs.laws.Traffic.{IsMade as IsSent}
+use Rattle.choices.proofs.laws.Traffic.{comes, firing_makes, receipt_makes}
+use Rattle.plan_choice.specs.ranks.Seats.{Seated, fired_seat, received_seat, started_seat}
 use Rattle.plan_choice.specs.Acts.{AreMarked, AreSized, IsFirst, IsStepped, MayMake, made_at, seat_at}
 use Rattle.plan_choice.specs.World.{AreFields, ChoiceState, IsLater, histories_in, ranks_in, scene_in, steps_in}
 use Rattle.plan_choice.proofs.Counting.{counted_news}

@@ -8,16 +8,16 @@ use Rattle.ptl_types.specs.Messages.{Sent}
 use Rattle.ni_model.specs.Ready.{is_ready, ready_numbers}
 use Rattle.ni_model.specs.State.{opened}
 use Rattle.pair_wires.specs.Lanes.{Plain}
-use Rattle.plan_cuts.specs.History.{Local, is_start, made_by}
-use Rattle.plan_cuts.specs.History.Local.{Fire as Fired, Receive as Received}
-use Rattle.plan_orders.specs.declared.Step.{Step}
-use Rattle.plan_orders.specs.declared.Step.TheVariants.{Deliver, Fire, Start}
-use Rattle.plan_worlds.specs.Places.{lane_place}
+use Rattle.cuts.specs.histories.History.{Local, is_start, made_by}
+use Rattle.cuts.specs.histories.History.Local.{Fire as Fired, Receive as Received}
+use Rattle.cuts.specs.declared.orders.Step.{Step}
+use Rattle.cuts.specs.declared.orders.Step.TheVariants.{Deliver, Fire, Start}
+use Rattle.cuts.specs.windows.Places.{lane_place}
 use Rattle.rank_node.specs.Handles.{no_handles}
-use Rattle.choice_view.specs.Install.{limits_of}
-use Rattle.world_parts.specs.Layout.{lane_at}
-use Rattle.world_parts.specs.Marks.{HasPlace, delivery_mark, out_with, popped, receiver}
-use Rattle.choice_ranks.specs.Seats.{Seated, fired_seat, received_seat, started_seat}
+use Rattle.choices.specs.view.Install.{limits_of}
+use Rattle.worlds.specs.parts.Layout.{lane_at}
+use Rattle.worlds.specs.parts.Marks.{HasPlace, delivery_mark, out_with, popped, receiver}
+use Rattle.plan_choice.specs.ranks.Seats.{Seated, fired_seat, received_seat, started_seat}
 
 -- past the last rank
 abbrev pub no_seated : Seated

@@ -1,3 +1,4 @@
 pub mod Acts
 pub mod Laying
 pub mod World
+pub mod ranks

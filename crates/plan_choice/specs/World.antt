@@ -7,20 +7,20 @@ use Rattle.ni_model.specs.Counts.{successes}
 use Rattle.ni_model.specs.State.{State}
 use Rattle.ni_model.specs.Tables.{lookup}
 use Rattle.pair_wires.specs.Lanes.{Plain}
-use Rattle.plan_cuts.specs.Cut.{IsPrefixOf}
-use Rattle.plan_cuts.specs.System.{Histories, System, state_at}
-use Rattle.plan_orders.specs.Chosen.{Scene, enabled_steps}
-use Rattle.plan_orders.specs.Reached.{IsReached}
-use Rattle.plan_orders.specs.declared.Step.{Step}
-use Rattle.plan_worlds.specs.Places.{lane_place}
-use Rattle.world_parts.specs.Layout.{held_in, lane_at}
-use Rattle.world_parts.specs.Marks.{delivery_count}
-use Rattle.choice_machine.specs.Choices.{IsRight, choice_at}
-use Rattle.choice_machine.specs.Counted.{steps_due}
-use Rattle.choice_view.specs.Install.{ct_of}
-use Rattle.choice_view.specs.Install.Counter.{Done, Go}
-use Rattle.choice_laws.specs.Decided.{IsInRange, choice_system, is_choice_lane, result_of}
-use Rattle.choice_ranks.specs.Seats.{Seated, go_of, slots_in}
+use Rattle.cuts.specs.histories.Cut.{IsPrefixOf}
+use Rattle.cuts.specs.histories.System.{Histories, System, state_at}
+use Rattle.cuts.specs.orders.Chosen.{Scene, enabled_steps}
+use Rattle.cuts.specs.orders.Reached.{IsReached}
+use Rattle.cuts.specs.declared.orders.Step.{Step}
+use Rattle.cuts.specs.windows.Places.{lane_place}
+use Rattle.worlds.specs.parts.Layout.{held_in, lane_at}
+use Rattle.worlds.specs.parts.Marks.{delivery_count}
+use Rattle.choices.specs.machine.Choices.{IsRight, choice_at}
+use Rattle.choices.specs.machine.Counted.{steps_due}
+use Rattle.choices.specs.view.Install.{ct_of}
+use Rattle.choices.specs.view.Install.Counter.{Done, Go}
+use Rattle.choices.specs.laws.Decided.{IsInRange, choice_system, is_choice_lane, result_of}
+use Rattle.plan_choice.specs.ranks.Seats.{Seated, go_of, slots_in}
 use Rattle.plan_choice.specs.Acts.{firing_count, seat_at, start_count}
 
 -- the steps of the text; a seat for each rank; the lanes by source, target, request before answer

@@ -2,21 +2,21 @@
 
 ghost use Rattle.std.specs.Prelude.{List, ◌≡◌, ◌<◌, ◌≤◌, ◌*◌, ◌∷◌, length, slice_set};
 ghost use Rattle.ptl_types.specs.Messages.{Sent};
-ghost use Rattle.plan_cuts.specs.History.Local.{Fire as Fired};
-ghost use Rattle.plan_orders.specs.declared.Step.TheVariants.{Deliver, Fire, Start};
-ghost use Rattle.plan_worlds.specs.Places.{lane_place};
-ghost use Rattle.world_parts.specs.Layout.{lane_at};
-ghost use Rattle.world_parts.specs.Marks.{out_with, receiver};
-ghost use Rattle.choice_ranks.specs.Seats.{fired_seat, started_seat};
+ghost use Rattle.cuts.specs.histories.History.Local.{Fire as Fired};
+ghost use Rattle.cuts.specs.declared.orders.Step.TheVariants.{Deliver, Fire, Start};
+ghost use Rattle.cuts.specs.windows.Places.{lane_place};
+ghost use Rattle.worlds.specs.parts.Layout.{lane_at};
+ghost use Rattle.worlds.specs.parts.Marks.{out_with, receiver};
+ghost use Rattle.plan_choice.specs.ranks.Seats.{fired_seat, started_seat};
 ghost use Rattle.plan_choice.specs.Acts.{AreMarked, AreSized, IsFirst, IsMade, IsStepped, MayFire, MayMake, MayReceive, MayStart, firing_mark, made_at, seat_at, start_mark};
 
-use choice_ranks::Seat;
+use crate::ranks::Seat;
 use count_tree::CountTree;
 use pair_wires::PlainLane;
-use plan_orders::Step;
+use cuts::orders::Step;
 use ptl_types::{Lane, Rank};
-use world_parts::lanes::{send_out, take};
-use world_parts::marks::mark_lanes;
+use worlds::parts::lanes::{send_out, take};
+use worlds::parts::marks::mark_lanes;
 
 /// A lane of a choice world never holds so many messages.
 const NO_WINDOW: u64 = u64::MAX;

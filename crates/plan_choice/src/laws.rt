@@ -2,7 +2,7 @@
 
 ghost use Rattle.std.specs.Prelude.{ℕ, suc, ◌≡◌, ◌%◌, []};
 ghost use Rattle.ptl_types.specs.Handles.{top};
-ghost use Rattle.plan_orders.specs.Chosen.{IsChosen, Scene, enabled_steps, first_scene};
+ghost use Rattle.cuts.specs.orders.Chosen.{IsChosen, Scene, enabled_steps, first_scene};
 ghost use Rattle.worlds.specs.Runs.{chosen_run};
 ghost use Rattle.plan_choice.specs.World.{ChoiceState, IsStanding, ranks_in};
 

@@ -2,14 +2,14 @@
 
 ghost use Rattle.std.specs.Prelude.{ℕ, ◌≡◌, ◌<◌, ◌≤◌, ◌*◌, [], IfOk, length, slice_index_or, if◌then◌else◌};
 ghost use Rattle.ptl_types.specs.declared.headers.Lane.{Lane};
-ghost use Rattle.plan_worlds.specs.Places.{lane_place};
-ghost use Rattle.world_parts.specs.Layout.{lane_at};
-ghost use Rattle.choice_ranks.specs.Seats.{IsInstalled};
+ghost use Rattle.cuts.specs.windows.Places.{lane_place};
+ghost use Rattle.worlds.specs.parts.Layout.{lane_at};
+ghost use Rattle.plan_choice.specs.ranks.Seats.{IsInstalled};
 ghost use Rattle.plan_choice.specs.Acts.{firing_count, seat_at, start_count};
 ghost use Rattle.plan_choice.specs.Laying.{laid_lane};
 
 use crate::acts::{mark_firings, mark_start};
-use choice_ranks::{Seat, install};
+use crate::ranks::{Seat, install};
 use coll_lang::ChoiceKind;
 use count_tree::CountTree;
 use pair_wires::PlainLane;

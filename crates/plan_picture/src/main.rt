@@ -4,7 +4,7 @@
 //! is `refused LINE NAME`; and 6 where there is no memory to draw it.
 #![tactic(auto)]
 
-use plan_lines::TextFault;
+use plan_pictures::lines::TextFault;
 use plan_pictures::{order_picture, plan_picture};
 use std::alloc::Global;
 use std::env;

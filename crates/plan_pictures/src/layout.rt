@@ -3,7 +3,7 @@
 ghost use Rattle.std.specs.Prelude.{◌<◌, ◌^◌};
 
 use plan_core::LinkKind;
-use plan_lines::PlanText;
+use crate::lines::PlanText;
 use ptl_types::Rank;
 use std::alloc::{AllocError, Global};
 

@@ -1,13 +1,14 @@
 //! Pictures of plans and of orders: the text of a plan, and the orders that a run wrote, as drawings in SVG.
 #![tactic(auto)]
 
+pub mod lines;
 mod layout;
 mod order_drawing;
 mod plan_drawing;
 mod strips;
 mod svg;
 
-use plan_lines::{TextFault, read_orders, read_plan};
+use crate::lines::{TextFault, read_orders, read_plan};
 use std::alloc::Global;
 
 /// The drawing of a plan's text: a column for each rank, a box for each cell at its height, which is the longest way of links

@@ -4,7 +4,7 @@ ghost use Rattle.std.specs.Prelude.{◌<◌, ◌^◌};
 
 use crate::svg;
 use plan_core::LinkKind;
-use plan_lines::{Order, PlanText};
+use crate::lines::{Order, PlanText};
 use ptl_types::{Lane, LocalStep, Rank};
 use std::alloc::{AllocError, Global};
 use std::fmt;

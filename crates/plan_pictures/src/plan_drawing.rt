@@ -7,7 +7,7 @@ use crate::strips::{Bands, Strip};
 use crate::svg;
 use coll_lang::{op_word, type_word};
 use plan_core::{Cell, Link, LinkKind};
-use plan_lines::PlanText;
+use crate::lines::PlanText;
 use std::{fmt, str};
 
 /// The classes of the bands of steps, in turn.

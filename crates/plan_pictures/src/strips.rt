@@ -7,7 +7,7 @@
 
 use crate::layout::{Layout, Place};
 use plan_core::{Cell, Link, LinkKind};
-use plan_lines::PlanText;
+use crate::lines::PlanText;
 use ptl_types::Rank;
 use std::alloc::{AllocError, Global};
 

@@ -13,8 +13,8 @@ use Rattle.ni_model.specs.Refusals.{holds_part, put_fits, get_fits, deed_fits, c
 use Rattle.triggered_ops.specs.Operations.{Operation, posted}
 use Rattle.ni_model.specs.Queues.{Waiting}
 use Rattle.ni_model.specs.Lists.{Index, queue_of}
-use Rattle.user_counts.specs.Rows.{IsAlone, HasOwnSlot}
-use Rattle.user_counts.proofs.SlotLemmas.{named-alone}
+use Rattle.ni_objects.specs.users.Rows.{IsAlone, HasOwnSlot}
+use Rattle.ni_objects.proofs.users.SlotLemmas.{named-alone}
 use Rattle.target_engine.specs.Sides.{EntriesAlone}
 use Rattle.ptl_types.specs.declared.calls.Limits.{Limits}
 use Rattle.portals_ni.specs.declared.armed.Armed.{Armed}

@@ -10,7 +10,7 @@ use Rattle.ptl_types.specs.Handles.{same_handle}
 use Rattle.ni_model.specs.Counts.{passes_end}
 use Rattle.ni_model.specs.Append.{need}
 use Rattle.ni_model.specs.Refusals.{ct_set_fault}
-use Rattle.handle_store.proofs.StoreLemmas.{change-absent}
+use Rattle.ni_objects.proofs.handles.StoreLemmas.{change-absent}
 use Rattle.initiator_engine.specs.Initiators.{by_fault}
 use Rattle.ni_model.specs.declared.IndexedHeader.{IndexedHeader}
 use Rattle.ni_model.specs.Tables.{Live, Table, lookup, change, changed, is_live, names, with_new}

@@ -26,7 +26,7 @@ use Rattle.ni_model.specs.State.{State, parts_of, home_of, with_home, drops_afte
 use Rattle.ni_model.specs.Ready.{Fires, fires, fired}
 use Rattle.ni_model.specs.Refusals.{pt_alloc_fault, ct_set_fault, ct_inc_fault, alloc_fault, unlink_fault, bind_fault, deed_fault, deed_passes, triggered_fault, md_names_ct, md_names_eq, index_names_ct, index_names_eq, operation_names_ct}
 use Rattle.ni_model.specs.Calls.{ends, Makes, MayLackMemory, enough, lacking, AnswersReady, new_index, bound, ct_alloc, ct_free, eq_free, ct_set, ct_inc, ct_cancel, eq_alloc, eq_get, md_bind, entry_slot, unlinked_in, me_append, me_unlink, me_search, pt_alloc, start, triggered}
-use Rattle.handle_store.proofs.StoreLemmas.{change-absent}
+use Rattle.ni_objects.proofs.handles.StoreLemmas.{change-absent}
 use Rattle.initiator_engine.specs.Initiators.{Initiating, with_mds, is_start, has_started, has_returned}
 use Rattle.target_engine.specs.Sides.{has_searched, has_appended, AppendsSome}
 use Rattle.triggered_ops.specs.Operations.{Operations, deed_of, operation_at, is_ready, told, with_posted, without_number, waiting_on, cancelled, posted_all}

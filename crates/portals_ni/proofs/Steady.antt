@@ -24,7 +24,7 @@ use Rattle.ni_model.specs.State.{Posted}
 use Rattle.portals_ni.specs.Lasting.{HasEntries, EntryIsLive, QueueIsLive, BoundIsLive, OperationIsLive, SumsFit}
 use Rattle.portals_ni.proofs.Counts.{live-change, live-push, lookup-change, lookup-changed, lookup-without, lookup-gone}
 use Rattle.portals_ni.proofs.Parts.{weaker-entries}
-use Rattle.user_counts.proofs.SumLemmas.{same-is}
+use Rattle.ni_objects.proofs.users.SumLemmas.{same-is}
 
 -- the limit is the same, and what was live is live
 pub record Grows {A : Type 0} (old new : Table A) : Type 0 where

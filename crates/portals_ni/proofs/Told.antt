@@ -9,7 +9,7 @@ use Rattle.ptl_types.specs.Handles.{same_handle}
 use Rattle.ni_model.specs.Tables.{Table, lookup, names}
 use Rattle.ni_model.specs.Counts.{total}
 use Rattle.triggered_ops.specs.Operations.{Operation, Operations, waits_on, told, told_if, posted, posted_all}
-use Rattle.user_counts.proofs.SumLemmas.{same-is}
+use Rattle.ni_objects.proofs.users.SumLemmas.{same-is}
 use Rattle.portals_ni.specs.declared.armed.Armed.{Armed}
 use Rattle.portals_ni.specs.Pendings.{deed_in, tell_at, told_by}
 use Rattle.portals_ni.specs.Sound.{IsTold}

@@ -16,8 +16,8 @@ use Rattle.ni_model.specs.Refusals.{deed_names_ct, deed_names_md, operation_name
 use Rattle.triggered_ops.specs.Operations.{Operation, Operations, is_number, waits_on, waiting_on, cancelled, shown, deed_of, told_if, told_where, without_number, operation_at, no_operations, posted, posted_all}
 use Rattle.triggered_ops.proofs.Rising.{Rises, pairs-head, pairs-tail, length-filter_le}
 use Rattle.triggered_ops.proofs.Found.{find-behind}
-use Rattle.user_counts.specs.Rows.{one_if_slot, one_at, count_at, incremented, decremented, more, fewer, Counts}
-use Rattle.user_counts.proofs.RowLemmas.{counts-same, counts-none, counts-incremented, counts-decremented, counts-more, counts-fewer, counts-few, add-room, one-few, names-step}
+use Rattle.ni_objects.specs.users.Rows.{one_if_slot, one_at, count_at, incremented, decremented, more, fewer, Counts}
+use Rattle.ni_objects.proofs.users.RowLemmas.{counts-same, counts-none, counts-incremented, counts-decremented, counts-more, counts-fewer, counts-few, add-room, one-few, names-step}
 use Rattle.portals_ni.specs.declared.armed.Armed.{Armed}
 use Rattle.portals_ni.specs.Answers.{deed_counter}
 use Rattle.portals_ni.specs.Pendings.{deed_in}

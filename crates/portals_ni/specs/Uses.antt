@@ -4,7 +4,7 @@ use Rattle.ptl_types.specs.declared.handles.Handle.{Handle}
 use Rattle.ptl_types.specs.declared.calls.Deed.{Deed}
 use Rattle.ptl_types.specs.declared.calls.Deed.TheVariants.{Put, Get, Atomic, FetchAtomic, Swap}
 use Rattle.triggered_ops.specs.Operations.{Operation, Operations}
-use Rattle.user_counts.specs.Rows.{one_if_slot, one_at, incremented, decremented, more, fewer, Counts, IsAlone}
+use Rattle.ni_objects.specs.users.Rows.{one_if_slot, one_at, incremented, decremented, more, fewer, Counts, IsAlone}
 use Rattle.portals_ni.specs.declared.armed.Armed.{Armed}
 use Rattle.portals_ni.specs.Answers.{deed_counter}
 

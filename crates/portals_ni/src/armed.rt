@@ -5,8 +5,8 @@ ghost use Rattle.ni_model.specs.Tables.{lookup};
 ghost use Rattle.portals_ni.specs.Pendings.{told_by, sum_at};
 
 use crate::triggers::Triggers;
-use counters::Counter;
-use handle_store::Store;
+use ni_objects::counters::Counter;
+use ni_objects::handles::Store;
 use ptl_types::{Bytes, Deed, Handle};
 
 /// A triggered operation's deed, and the room for its bytes.

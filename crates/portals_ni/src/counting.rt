@@ -11,8 +11,8 @@ ghost use Rattle.initiator_engine.specs.Initiators.{by_fault};
 use crate::armed::tell;
 use crate::nic::Nic;
 use crate::tables::make;
-use counters::Counter;
-use handle_store::Store;
+use ni_objects::counters::Counter;
+use ni_objects::handles::Store;
 use ptl_types::{Count, Handle, NiFault};
 
 /// A counter holds these numbers from now on.

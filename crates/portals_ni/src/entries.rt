@@ -3,7 +3,7 @@
 
 ghost use Rattle.std.specs.Prelude.{◌≡◌, option_copied, ◌<◌, IfOk, ◌+◌};
 ghost use Rattle.target_engine.specs.Sides.{SlotBelow};
-ghost use Rattle.unexpected.specs.Places.{header_at};
+ghost use Rattle.match_lists.specs.unexpected.Places.{header_at};
 ghost use Rattle.ni_model.specs.Answers.{is_awaited};
 ghost use Rattle.ni_model.specs.Tables.{has_slot};
 ghost use Rattle.ni_model.specs.Calls.{ends, Makes, entry_slot, pt_alloc, pt_free, me_append, me_unlink, me_search, md_bind, awaits};

@@ -7,11 +7,11 @@ ghost use Rattle.portals_ni.specs.Fit.{FitLimits};
 ghost use Rattle.portals_ni.specs.Lasting.{HasLimits, Lasts};
 
 use crate::triggers::Triggers;
-use counters::Counter;
-use event_queues::Queue;
-use handle_store::Store;
+use ni_objects::counters::Counter;
+use ni_objects::queues::Queue;
+use ni_objects::handles::Store;
 use initiator_engine::Initiator;
-use memory_desc::Region;
+use ni_objects::descriptors::Region;
 use ptl_types::{Bytes, Limits, NoMemory, Rank};
 use std::alloc::Global;
 use std::marker::Model;

@@ -8,8 +8,8 @@ ghost use Rattle.portals_ni.specs.Answers.{MakesIfMemory, event_taken};
 
 use crate::nic::Nic;
 use crate::tables::make;
-use event_queues::Queue;
-use handle_store::Store;
+use ni_objects::queues::Queue;
+use ni_objects::handles::Store;
 use ptl_types::{EqGot, Handle, NiFault};
 
 /// The oldest event of a queue, unless one was lost.

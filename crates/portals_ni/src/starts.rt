@@ -14,8 +14,8 @@ ghost use Rattle.portals_ni.specs.Answers.{as_started};
 use crate::armed::{Armed, sum_of, tell};
 use crate::nic::Nic;
 use crate::packed::Packed;
-use counters::Counter;
-use handle_store::Store;
+use ni_objects::counters::Counter;
+use ni_objects::handles::Store;
 use initiator_engine::Initiator;
 use ptl_types::{
     AtomicOp, Bytes, Count, Deed, ElemType, GetArgs, Handle, Message, NiFault, PutArgs, SwapOp,

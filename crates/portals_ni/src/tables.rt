@@ -4,7 +4,7 @@ ghost use Rattle.std.specs.Prelude.{◌≡◌, ◌<◌, None, Some, false, IfOk,
 ghost use Rattle.ni_model.specs.Tables.{has_slot, handle, with_new};
 ghost use Rattle.ni_model.specs.Refusals.{alloc_fault};
 
-use handle_store::Store;
+use ni_objects::handles::Store;
 use ptl_types::{Handle, NiFault};
 
 /// Puts a thing into a table; `NoSpace` where it is full.

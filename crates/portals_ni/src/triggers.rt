@@ -15,7 +15,7 @@ use ptl_types::{Deed, Handle, Limits, NoMemory};
 use std::alloc::Global;
 use std::marker::Model;
 use triggered_ops::Pending;
-use user_counts::Users;
+use ni_objects::users::Users;
 
 /// The pending operations. `cts` and `mds` count by slot how often they name a counting event and a descriptor.
 #[derive(Drop)]

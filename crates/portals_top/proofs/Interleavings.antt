@@ -3,8 +3,8 @@ use Rattle.op_laws.proofs.OpLaws.{op_laws}
 use Rattle.op_laws.proofs.Starts.{combined-starts}
 use Rattle.op_laws.proofs.Swaps.{combined-swaps}
 use Rattle.coll_lang.proofs.Coming.{comes}
-use Rattle.plan_orders.proofs.Steps.{reached_moment}
-use Rattle.plan_rest.proofs.Moments.{still_rest}
+use Rattle.cuts.proofs.orders.Steps.{reached_moment}
+use Rattle.cuts.proofs.rest.Moments.{still_rest}
 use Rattle.shape_plans.specs.Drawing.{plan_of}
 use Rattle.shape_plans.proofs.Final.{inputs_fit}
 use Rattle.job_laws.proofs.Cuts.{complete_at, meant_where_complete, sound_for}

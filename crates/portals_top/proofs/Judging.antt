@@ -9,8 +9,8 @@ use Rattle.coll_lang.specs.declared.fault.Refusal.{Refusal}
 use Rattle.coll_lang.specs.Program.{Program}
 use Rattle.order_lines.specs.Check.{read_check}
 use Rattle.order_lines.specs.declared.checking.TheConstants.{LONGEST_CHECK}
-use Rattle.plan_orders.specs.declared.Verdict.{Verdict}
-use Rattle.plan_orders.specs.declared.Verdict.TheVariants.{Holds, Fails}
+use Rattle.cuts.specs.declared.orders.Verdict.{Verdict}
+use Rattle.cuts.specs.declared.orders.Verdict.TheVariants.{Holds, Fails}
 use Rattle.shape_plans.specs.Footprint.{Refused as Excessive, refusal}
 use Rattle.run_text.specs.Putting.{Ends, FailsWithin}
 use Rattle.worlds.specs.World.{WorldState}

@@ -9,18 +9,18 @@ use Rattle.coll_lang.specs.Program.{Chosen, Program}
 use Rattle.coll_lang.specs.Readable.{FitsChoices, chosen_name}
 use Rattle.coll_lang.proofs.Coming.{comes}
 use Rattle.plan_core.proofs.Flat.{flat-same}
-use Rattle.plan_cuts.specs.System.{Histories, state_at}
-use Rattle.plan_orders.specs.Chosen.{IsChosen}
-use Rattle.plan_orders.specs.Taking.{listed}
-use Rattle.plan_orders.proofs.Choosing.{below}
+use Rattle.cuts.specs.histories.System.{Histories, state_at}
+use Rattle.cuts.specs.orders.Chosen.{IsChosen}
+use Rattle.cuts.specs.orders.Taking.{listed}
+use Rattle.cuts.proofs.orders.Choosing.{below}
 use Rattle.shape_plans.specs.Footprint.{Refused as Excessive, refusal}
 use Rattle.run_text.specs.Lines.{rest_line, value_line}
 use Rattle.run_text.specs.Orders.{order_text}
-use Rattle.choice_view.specs.Install.{Slots}
-use Rattle.choice_laws.specs.Decided.{IsInRange, choice_system, result_of}
-use Rattle.choice_orders.proofs.Ending.{choice_ends}
-use Rattle.choice_orders.proofs.OneRun.{one_result, one_run}
-use Rattle.choice_ranks.specs.Seats.{kind_of, kinds_of, slots_in}
+use Rattle.choices.specs.view.Install.{Slots}
+use Rattle.choices.specs.laws.Decided.{IsInRange, choice_system, result_of}
+use Rattle.choices.proofs.orders.Ending.{choice_ends}
+use Rattle.choices.proofs.orders.OneRun.{one_result, one_run}
+use Rattle.plan_choice.specs.ranks.Seats.{kind_of, kinds_of, slots_in}
 use Rattle.plan_choice.specs.Acts.{seat_at}
 use Rattle.plan_choice.specs.World.{ChoiceState, histories_in, nic_in, value_in}
 use Rattle.portals_top.specs.declared.ran.Ran.{Ran}

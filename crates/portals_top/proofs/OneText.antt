@@ -10,14 +10,14 @@ use Rattle.coll_lang.proofs.Coming.{comes}
 use Rattle.coll_shape.specs.Meaning.{Lists}
 use Rattle.coll_shape.specs.Outline.{Outline}
 use Rattle.plan_core.proofs.Flat.{flat-same}
-use Rattle.plan_view.specs.Slots.{Slots}
-use Rattle.plan_cuts.specs.Plans.{system_of}
-use Rattle.plan_cuts.specs.System.{Histories}
-use Rattle.plan_orders.specs.Chosen.{IsChosen}
-use Rattle.plan_orders.specs.Taking.{listed}
-use Rattle.plan_orders.proofs.Choosing.{below}
-use Rattle.plan_orders.proofs.Ends.{chosen_ends}
-use Rattle.plan_orders.proofs.OneChosen.{one_chosen}
+use Rattle.cuts.specs.view.Slots.{Slots}
+use Rattle.cuts.specs.histories.Plans.{system_of}
+use Rattle.cuts.specs.histories.System.{Histories}
+use Rattle.cuts.specs.orders.Chosen.{IsChosen}
+use Rattle.cuts.specs.orders.Taking.{listed}
+use Rattle.cuts.proofs.orders.Choosing.{below}
+use Rattle.cuts.proofs.orders.Ends.{chosen_ends}
+use Rattle.cuts.proofs.orders.OneChosen.{one_chosen}
 use Rattle.shape_plans.specs.Drawing.{plan_of}
 use Rattle.shape_plans.specs.Footprint.{Refused as Excessive, refusal}
 use Rattle.shape_plans.proofs.Final.{inputs_fit}

@@ -4,13 +4,13 @@ use Rattle.std.proofs.lemmas.Bool.{cases_lt}
 use Rattle.std.proofs.lemmas.List.{get_or_past}
 use Rattle.plan_core.specs.Members.{In}
 use Rattle.plan_core.proofs.Lists.{In-filter_cases}
-use Rattle.plan_cuts.specs.System.{System}
-use Rattle.plan_orders.specs.Chosen.{Scene, enabled_steps, step_made}
-use Rattle.plan_orders.specs.Reached.{IsReached}
-use Rattle.plan_orders.specs.Reached.IsReached.{Stepped}
-use Rattle.plan_orders.specs.declared.Step.{Step}
-use Rattle.plan_orders.proofs.Choosing.{In-get, listed_made}
-use Rattle.plan_worlds.specs.Possible.{is_possible, possible_steps}
+use Rattle.cuts.specs.histories.System.{System}
+use Rattle.cuts.specs.orders.Chosen.{Scene, enabled_steps, step_made}
+use Rattle.cuts.specs.orders.Reached.{IsReached}
+use Rattle.cuts.specs.orders.Reached.IsReached.{Stepped}
+use Rattle.cuts.specs.declared.orders.Step.{Step}
+use Rattle.cuts.proofs.orders.Choosing.{In-get, listed_made}
+use Rattle.cuts.specs.windows.Possible.{is_possible, possible_steps}
 use Rattle.worlds.specs.Runs.{IsRun as Travels, Running, chosen_run, chosen_step}
 use Rattle.worlds.specs.Runs.IsRun.{Begun as Stays, Stepped as Goes}
 

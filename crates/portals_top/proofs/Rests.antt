@@ -5,11 +5,11 @@ use Rattle.port_io.specs.Ends.{Outflow}
 use Rattle.rand_pcg.specs.Lcg.{Lcg}
 use Rattle.coll_shape.specs.Outline.{Outline}
 use Rattle.coll_shape.specs.Meaning.{Lists}
-use Rattle.plan_view.specs.Slots.{Slots}
-use Rattle.plan_cuts.specs.Cut.{IsAtRest}
-use Rattle.plan_cuts.specs.Plans.{IsComplete, system_of}
-use Rattle.plan_cuts.specs.System.{System}
-use Rattle.plan_orders.specs.Chosen.{Scene, first_scene}
+use Rattle.cuts.specs.view.Slots.{Slots}
+use Rattle.cuts.specs.histories.Cut.{IsAtRest}
+use Rattle.cuts.specs.histories.Plans.{IsComplete, system_of}
+use Rattle.cuts.specs.histories.System.{System}
+use Rattle.cuts.specs.orders.Chosen.{Scene, first_scene}
 use Rattle.shape_plans.specs.Drawing.{plan_of}
 use Rattle.job_laws.specs.Results.{AreMeant}
 use Rattle.run_text.specs.Putting.{EndsWith}

@@ -10,11 +10,11 @@ use Rattle.coll_lang.specs.declared.fault.Refusal.{Refusal}
 use Rattle.coll_lang.specs.Program.{Program}
 use Rattle.order_lines.specs.Check.{read_check}
 use Rattle.order_lines.specs.declared.checking.TheConstants.{LONGEST_CHECK}
-use Rattle.plan_view.specs.Slots.{Slots}
-use Rattle.plan_cuts.specs.Plans.{system_of}
-use Rattle.plan_orders.specs.Verdict.{IsVerdict}
-use Rattle.plan_orders.specs.declared.Verdict.{Verdict}
-use Rattle.plan_orders.specs.declared.Verdict.TheVariants.{Holds, Fails}
+use Rattle.cuts.specs.view.Slots.{Slots}
+use Rattle.cuts.specs.histories.Plans.{system_of}
+use Rattle.cuts.specs.orders.Verdict.{IsVerdict}
+use Rattle.cuts.specs.declared.orders.Verdict.{Verdict}
+use Rattle.cuts.specs.declared.orders.Verdict.TheVariants.{Holds, Fails}
 use Rattle.shape_plans.specs.Drawing.{plan_of}
 use Rattle.shape_plans.specs.Footprint.{Refused as Excessive, refusal}
 use Rattle.order_check.specs.Listing.{lists_of}

@@ -3,13 +3,13 @@ use Rattle.std.specs.Prelude.{ℕ, ◌≡◌, List, [], ◌++◌, map, Option, S
 use Rattle.std.specs.List.{flat_map}
 use Rattle.number_lists.specs.Numbers.{from_to}
 use Rattle.ptl_types.specs.declared.steps.LocalStep.{LocalStep}
-use Rattle.plan_orders.specs.Chosen.{IsChosen}
-use Rattle.plan_orders.specs.Taking.{listed}
+use Rattle.cuts.specs.orders.Chosen.{IsChosen}
+use Rattle.cuts.specs.orders.Taking.{listed}
 use Rattle.coll_lang.specs.Program.{Chosen}
 use Rattle.coll_lang.specs.Readable.{chosen_name}
 use Rattle.run_text.specs.Lines.{rest_line, value_line}
 use Rattle.run_text.specs.Orders.{order_text}
-use Rattle.choice_ranks.specs.Seats.{kinds_of}
+use Rattle.plan_choice.specs.ranks.Seats.{kinds_of}
 use Rattle.plan_choice.specs.World.{ChoiceState, IsDecidedWorld, IsStanding, histories_in, ranks_in, steps_in, value_in}
 use Rattle.portals_top.specs.Runs.{word}
 

@@ -8,7 +8,7 @@ use Rattle.coll_lang.specs.declared.fault.Refusal.{Refusal}
 use Rattle.coll_lang.specs.declared.fault.Refusal.TheVariants.{TooMany, TooLarge, OneThread}
 use Rattle.coll_lang.specs.Program.{Chosen, Program}
 use Rattle.coll_lang.specs.declared.whole.TheConstants.{LONGEST_TEXT}
-use Rattle.plan_orders.specs.Taking.{listed}
+use Rattle.cuts.specs.orders.Taking.{listed}
 use Rattle.shape_plans.specs.Drawing.{plan_of}
 use Rattle.shape_plans.specs.Footprint.{Excess, Refused as Excessive, refusal}
 use Rattle.shape_plans.specs.Footprint.Excess.{Links, Bytes}

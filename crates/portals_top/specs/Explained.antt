@@ -5,18 +5,18 @@ use Rattle.port_io.specs.Ends.{Appends, Outflow}
 use Rattle.coll_lang.specs.declared.fault.Refusal.{Refusal}
 use Rattle.coll_lang.specs.declared.fault.ParseFault.{ParseFault}
 use Rattle.coll_lang.specs.declared.fault.ParseFault.TheVariants as faults
-use Rattle.note_lines.specs.Causes.{name_of}
-use Rattle.note_lines.specs.Notes.{note_text}
-use Rattle.note_lines.specs.Shown.{AreNotes, IsNote}
-use Rattle.note_lines.specs.declared.note.Note.{Note}
-use Rattle.note_lines.specs.declared.note.About.{About}
-use Rattle.note_lines.specs.declared.note.About.TheVariants as abouts
+use Rattle.text_notes.specs.notes.Causes.{name_of}
+use Rattle.text_notes.specs.notes.Notes.{note_text}
+use Rattle.text_notes.specs.notes.Shown.{AreNotes, IsNote}
+use Rattle.text_notes.specs.declared.notes.note.Note.{Note}
+use Rattle.text_notes.specs.declared.notes.note.About.{About}
+use Rattle.text_notes.specs.declared.notes.note.About.TheVariants as abouts
 use Rattle.text_notes.specs.Places.{IsNamed}
 use Rattle.run_text.specs.Orders.{fails_line}
 use Rattle.run_text.specs.Putting.{Ends}
 use Rattle.run_text.specs.Refused.{refusal_line}
-use Rattle.plan_orders.specs.declared.Verdict.{Verdict}
-use Rattle.plan_orders.specs.declared.Verdict.TheVariants.{Holds, Fails}
+use Rattle.cuts.specs.declared.orders.Verdict.{Verdict}
+use Rattle.cuts.specs.declared.orders.Verdict.TheVariants.{Holds, Fails}
 use Rattle.portals_top.specs.declared.begun.Begun.{Begun}
 use Rattle.portals_top.specs.declared.begun.Begun.TheVariants as begun
 use Rattle.portals_top.specs.declared.status.Status.{Status}

@@ -2,11 +2,11 @@
 use Rattle.std.specs.Prelude.{ℕ, ◌≡◌, ◌<◌, List, None, Ok}
 use Rattle.coll_lang.specs.Language.{read}
 use Rattle.coll_lang.specs.Program.{Program}
-use Rattle.plan_view.specs.Slots.{Slots}
-use Rattle.plan_cuts.specs.Moment.{IsStill, Lanes}
-use Rattle.plan_cuts.specs.Plans.{IsComplete, system_of}
-use Rattle.plan_cuts.specs.System.{Histories, System, state_at}
-use Rattle.plan_orders.specs.Reached.{IsReached}
+use Rattle.cuts.specs.view.Slots.{Slots}
+use Rattle.cuts.specs.histories.Moment.{IsStill, Lanes}
+use Rattle.cuts.specs.histories.Plans.{IsComplete, system_of}
+use Rattle.cuts.specs.histories.System.{Histories, System, state_at}
+use Rattle.cuts.specs.orders.Reached.{IsReached}
 use Rattle.shape_plans.specs.Drawing.{plan_of}
 use Rattle.shape_plans.specs.Footprint.{refusal}
 use Rattle.job_laws.specs.Results.{AreMeant}

@@ -5,11 +5,11 @@ use Rattle.number_lists.specs.Numbers.{from_to}
 use Rattle.coll_lang.specs.Language.{read}
 use Rattle.coll_lang.specs.Program.{Chosen, Program}
 use Rattle.coll_lang.specs.Readable.{chosen_name}
-use Rattle.plan_cuts.specs.System.{Histories, System, state_at}
-use Rattle.plan_orders.specs.Taking.{listed}
-use Rattle.choice_view.specs.Install.{Slots}
-use Rattle.choice_laws.specs.Decided.{choice_system, result_of}
-use Rattle.choice_ranks.specs.Seats.{kinds_of}
+use Rattle.cuts.specs.histories.System.{Histories, System, state_at}
+use Rattle.cuts.specs.orders.Taking.{listed}
+use Rattle.choices.specs.view.Install.{Slots}
+use Rattle.choices.specs.laws.Decided.{choice_system, result_of}
+use Rattle.plan_choice.specs.ranks.Seats.{kinds_of}
 use Rattle.run_text.specs.Lines.{rest_line, value_line}
 use Rattle.run_text.specs.Orders.{order_text}
 use Rattle.shape_plans.specs.Footprint.{refusal}

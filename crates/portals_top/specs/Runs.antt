@@ -5,11 +5,11 @@ use Rattle.rand_pcg.specs.Lcg.{Lcg}
 use Rattle.rand_pcg.specs.Pcg.{pcg32, pcg32_of_seed}
 use Rattle.coll_shape.specs.Outline.{Outline}
 use Rattle.coll_shape.specs.Meaning.{Lists}
-use Rattle.plan_view.specs.Slots.{Slots}
-use Rattle.plan_cuts.specs.Cut.{IsAtRest}
-use Rattle.plan_cuts.specs.Plans.{IsComplete}
-use Rattle.plan_orders.specs.Chosen.{IsChosen}
-use Rattle.plan_orders.specs.Reached.{IsReached}
+use Rattle.cuts.specs.view.Slots.{Slots}
+use Rattle.cuts.specs.histories.Cut.{IsAtRest}
+use Rattle.cuts.specs.histories.Plans.{IsComplete}
+use Rattle.cuts.specs.orders.Chosen.{IsChosen}
+use Rattle.cuts.specs.orders.Reached.{IsReached}
 use Rattle.shape_plans.specs.Drawing.{plan_of}
 use Rattle.job_laws.specs.Results.{AreMeant}
 use Rattle.turn_table.specs.Hands.{parts_of}

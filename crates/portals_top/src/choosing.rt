@@ -17,7 +17,7 @@ use crate::words::{Command, Mode};
 use crate::writing::status_of;
 use coll_lang::{Choices, Refusal};
 use coll_shape::Shape;
-use note_lines::{About, Cause, Note};
+use text_notes::notes::{About, Cause, Note};
 use plan_choice::{ChoiceWorld, choices_by_words};
 use port_io::Sink;
 use ptl_types::NoMemory;

@@ -2,10 +2,10 @@
 
 ghost use Rattle.std.specs.Prelude.{ℕ, ◌≡◌, ◌++◌, List, Some};
 ghost use Rattle.coll_lang.specs.Program.{Chosen, Program};
-ghost use Rattle.choice_view.specs.Install.{Slots as ChoiceSlots};
-ghost use Rattle.plan_view.specs.Slots.{Slots};
-ghost use Rattle.plan_cuts.specs.System.{Histories};
-ghost use Rattle.plan_orders.specs.Chosen.{IsChosen};
+ghost use Rattle.choices.specs.view.Install.{Slots as ChoiceSlots};
+ghost use Rattle.cuts.specs.view.Slots.{Slots};
+ghost use Rattle.cuts.specs.histories.System.{Histories};
+ghost use Rattle.cuts.specs.orders.Chosen.{IsChosen};
 ghost use Rattle.run_text.specs.Lines.{result_text};
 ghost use Rattle.portals_top.specs.declared.ran.Ran.{Ran};
 ghost use Rattle.portals_top.specs.Answered.{RunLeaves};

@@ -11,7 +11,7 @@ use crate::words::Format;
 use coll_lang::{Description, ParseFault, Refusal, parse_by};
 use json_lang::parse_json;
 use json_notes::explain_json;
-use note_lines::Note;
+use text_notes::notes::Note;
 use std::alloc::Global;
 use std::thread::Threads;
 use text_notes::explain_text;

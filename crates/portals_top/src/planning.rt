@@ -6,7 +6,7 @@ ghost use Rattle.portals_top.specs.Written.{Written};
 
 use crate::status::Status;
 use plan_core::Plan;
-use plan_done::CountedPlan;
+use schedule_compiler::done::CountedPlan;
 use port_io::Sink;
 use ptl_types::Rank;
 use run_text::{Pieces, PlanTables, write_plan};

@@ -1,7 +1,7 @@
 //! Running a job, and writing what the world then holds.
 
 ghost use Rattle.std.specs.Prelude.{◌≡◌, ◌<◌, ◌^◌, All, IfOk, None, Some, length};
-ghost use Rattle.plan_orders.specs.Chosen.{first_scene};
+ghost use Rattle.cuts.specs.orders.Chosen.{first_scene};
 ghost use Rattle.rest_probe.specs.Waves.{IsFor};
 ghost use Rattle.shape_plans.specs.Drawing.{plan_of};
 ghost use Rattle.turn_table.specs.Hands.{IsFree, parts_of};

@@ -2,11 +2,11 @@
 
 ghost use Rattle.std.specs.Prelude.{◌≡◌, ◌++◌, ◌∷◌, [], Option};
 ghost use Rattle.run_text.specs.Putting.{EndsWith};
-ghost use Rattle.note_lines.specs.Shown.{IsNote};
+ghost use Rattle.text_notes.specs.notes.Shown.{IsNote};
 ghost use Rattle.portals_top.specs.Explained.{Begins, Says, SaysAll};
 
 use crate::status::Status;
-use note_lines::{FORMS, Note, NoteLine, Printable, note_text, wrong_words};
+use text_notes::notes::{FORMS, Note, NoteLine, Printable, note_text, wrong_words};
 use port_io::{Failed, Sink};
 use run_text::write_short;
 

@@ -68,7 +68,7 @@ pub(crate) trait Histories {
 
 impl Histories for World {
     ghost use Rattle.std.specs.Prelude.{map};
-    ghost use Rattle.plan_orders.specs.Taking.{listed};
+    ghost use Rattle.cuts.specs.orders.Taking.{listed};
     ghost use Rattle.worlds.specs.World.{histories_in};
 
     ghost count = { λ w. w.shape.ranks };

@@ -3,9 +3,9 @@ use Rattle.std.proofs.Common.{◌≡◌, ◌+◌, Bool, true, false, ◌||◌, L
 use Rattle.std.proofs.lemmas.List.{map-append}
 use Rattle.std.proofs.lemmas.Bool.Decides.{nat_tests}
 use Rattle.plan_core.proofs.Lists.{count-append, count-cons}
-use Rattle.plan_cuts.specs.Lanes.{is_receipt}
-use Rattle.plan_cuts.specs.History.{Local, is_start}
-use Rattle.plan_cuts.specs.History.Local.{Start as Started, Receive as Received, Fire as Fired}
+use Rattle.cuts.specs.histories.Lanes.{is_receipt}
+use Rattle.cuts.specs.histories.History.{Local, is_start}
+use Rattle.cuts.specs.histories.History.Local.{Start as Started, Receive as Received, Fire as Fired}
 use Rattle.ptl_types.specs.declared.steps.LocalStep.{LocalStep}
 use Rattle.rank_node.specs.Copies.{has_start, bytes_received, listed}
 

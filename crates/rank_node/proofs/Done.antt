@@ -11,13 +11,13 @@ use Rattle.plan_core.specs.Plan.{Plan, cell}
 use Rattle.plan_core.specs.Values.{Inputs}
 use Rattle.plan_calls.specs.Calls.{cell_start}
 use Rattle.plan_calls.specs.Works.{done_threshold}
-use Rattle.plan_cuts.specs.Plans.{system_of}
-use Rattle.plan_cuts.specs.System.{Histories, state_at}
-use Rattle.plan_view.specs.Slots.{Slots, done_ct}
-use Rattle.done_laws.proofs.Counted.{holds_values}
-use Rattle.done_laws.proofs.Left.{none_pending, only_sends}
-use Rattle.done_laws.proofs.Nothing.{nothing_comes}
-use Rattle.done_laws.specs.Done.{HasCounted, IsDone, OnlySendsAreLeft}
+use Rattle.cuts.specs.histories.Plans.{system_of}
+use Rattle.cuts.specs.histories.System.{Histories, state_at}
+use Rattle.cuts.specs.view.Slots.{Slots, done_ct}
+use Rattle.cuts.proofs.done.Counted.{holds_values}
+use Rattle.cuts.proofs.done.Left.{none_pending, only_sends}
+use Rattle.cuts.proofs.done.Nothing.{nothing_comes}
+use Rattle.cuts.specs.done.Done.{HasCounted, IsDone, OnlySendsAreLeft}
 use Rattle.rank_node.specs.Done.{HasFinished, StandsAs}
 use Rattle.rank_node.specs.Handles.{Agrees}
 use Rattle.rank_node.specs.Node.{IsNode, NodeState}

@@ -10,11 +10,11 @@ use Rattle.ptl_types.specs.declared.calls.Limits.{Limits}
 use Rattle.ni_model.specs.Tables.{handle}
 use Rattle.ni_model.specs.State.{State, parts_of}
 use Rattle.ni_model.specs.Calls.{with_index, with_counter, with_bound, with_operation}
-use Rattle.plan_view.specs.Slots.{Slots, counter_at}
+use Rattle.cuts.specs.view.Slots.{Slots, counter_at}
 use Rattle.ptl_types.specs.declared.steps.Call.{Call}
 use Rattle.ptl_types.specs.declared.steps.Call.TheVariants.{PtAlloc, CtDone, CtCell, MdBind, Overflow, MeAppend, Trigger}
 use Rattle.rank_node.specs.Handles.{Handles, Agrees, AreAllOf, Counted, Fits, Tells, counted_in, handle_of, with_counter_handle, with_entry_handle, with_descriptor_handle}
-use Rattle.plan_view.specs.Calls.{whole_region, deed_at, call_made, calls_made, area_entry, with_entry, cell_entry}
+use Rattle.cuts.specs.view.Calls.{whole_region, deed_at, call_made, calls_made, area_entry, with_entry, cell_entry}
 use Rattle.ptl_types.specs.declared.steps.Act.{Act}
 use Rattle.rank_node.specs.Calls.{AreMade, count_call, count_calls, MayCallAll, NewCounter, NewDescriptor, NewEntry}
 use Rattle.rank_node.proofs.Steady.{linked-counters, linked-given}

@@ -14,12 +14,12 @@ use Rattle.ni_model.specs.Ready.{fired, is_ready, is_ready_op, posted_at}
 use Rattle.ni_model.specs.Refusals.{ct_inc_fault}
 use Rattle.ni_model.specs.State.{State, Posted, Operations, target, opened}
 use Rattle.ni_model.specs.Tables.{Table, Live, lookup, handle, changed}
-use Rattle.user_counts.proofs.SumLemmas.{same-self}
-use Rattle.plan_view.specs.Slots.{Slots, done_ct}
-use Rattle.plan_cuts.specs.History.{Beginning, Local, Legal, May, after, state, is_start}
-use Rattle.plan_cuts.specs.History.Local.{Start as Started, Receive as Received, Fire as Fired}
-use Rattle.plan_cuts.specs.Lanes.{is_receipt}
-use Rattle.plan_start.specs.Start.{go_raised}
+use Rattle.ni_objects.proofs.users.SumLemmas.{same-self}
+use Rattle.cuts.specs.view.Slots.{Slots, done_ct}
+use Rattle.cuts.specs.histories.History.{Beginning, Local, Legal, May, after, state, is_start}
+use Rattle.cuts.specs.histories.History.Local.{Start as Started, Receive as Received, Fire as Fired}
+use Rattle.cuts.specs.histories.Lanes.{is_receipt}
+use Rattle.cuts.specs.start.Start.{go_raised}
 use Rattle.rank_node.specs.Calls.{AreMade, count_calls, none_made}
 use Rattle.rank_node.specs.Copies.{Diary, bytes_received, has_start}
 use Rattle.rank_node.specs.Handles.{Handles, Agrees, AreAllOf, Counted, handle_of, no_handles, room_under, slot_at, slots_of}

@@ -28,16 +28,16 @@ use Rattle.plan_calls.specs.Limits.{limits_for}
 use Rattle.plan_calls.specs.Works.{Work, works, cell_of, sends_of}
 use Rattle.plan_calls.specs.Works.Work.{Along, Tell}
 use Rattle.plan_calls.specs.declared.OwnCell.{OwnCell}
-use Rattle.plan_machine.proofs.Works.{works-along}
-use Rattle.plan_view.proofs.StepFire.{cell_of-own}
-use Rattle.plan_view.proofs.Tables.{place_in-lt}
-use Rattle.plan_view.specs.Calls.{prepare, sending_deed}
-use Rattle.plan_view.specs.Slots.{Slots}
-use Rattle.plan_start.proofs.Starting.{length-from_to}
-use Rattle.plan_cuts.proofs.Told.{count-out-le}
-use Rattle.plan_cuts.specs.History.{Legal, state}
-use Rattle.plan_cuts.specs.Plans.{beginning, system_of, start_of as begins}
-use Rattle.plan_cuts.specs.System.{Histories, state_at}
+use Rattle.cuts.proofs.machine.Works.{works-along}
+use Rattle.cuts.proofs.view.StepFire.{cell_of-own}
+use Rattle.cuts.proofs.view.Tables.{place_in-lt}
+use Rattle.cuts.specs.view.Calls.{prepare, sending_deed}
+use Rattle.cuts.specs.view.Slots.{Slots}
+use Rattle.cuts.proofs.start.Starting.{length-from_to}
+use Rattle.cuts.proofs.histories.Told.{count-out-le}
+use Rattle.cuts.specs.histories.History.{Legal, state}
+use Rattle.cuts.specs.histories.Plans.{beginning, system_of, start_of as begins}
+use Rattle.cuts.specs.histories.System.{Histories, state_at}
 use Rattle.rank_node.specs.Calls.{HasCounter, IsWired, MaySend, MayCallAll, count_call, count_calls, none_made}
 use Rattle.rank_node.specs.Handles.{Agrees, Counted, Fits, IsRising, room_under}
 use Rattle.rank_node.specs.Node.{IsCompiled, IsNode, NodeState, Task, prepared, start_of}

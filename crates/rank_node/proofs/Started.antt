@@ -13,10 +13,10 @@ use Rattle.ni_model.specs.Headers.{found_in}
 use Rattle.ni_model.specs.Append.{append, append_fault}
 use Rattle.ni_model.specs.State.{State, parts_of, with_parts}
 use Rattle.ni_model.specs.Calls.{Done, ends, ends_by, Makes, me_append}
-use Rattle.plan_view.specs.Slots.{Slots, counter_at}
+use Rattle.cuts.specs.view.Slots.{Slots, counter_at}
 use Rattle.plan_calls.specs.declared.OwnCell.{OwnCell}
 use Rattle.rank_node.specs.Handles.{Handles, Agrees, AreAllOf, with_entry_handle}
-use Rattle.plan_start.specs.Start.{entry_of, bring_all, with_brought, cell_started, cells_started}
+use Rattle.cuts.specs.start.Start.{entry_of, bring_all, with_brought, cell_started, cells_started}
 use Rattle.rank_node.specs.Start.{IsAppended, AreStarted}
 use Rattle.rank_node.proofs.Ended.{Went, went, refused, linked-persistent}
 use Rattle.rank_node.proofs.Lists.{tells-front, tells-last, length-push}

@@ -14,8 +14,8 @@ use Rattle.ni_model.specs.Conditions.{MayStart}
 use Rattle.ni_model.specs.State.{State}
 use Rattle.ni_model.specs.Calls.{with_counter, with_bound}
 use Rattle.plan_core.specs.Places.{place_in}
-use Rattle.plan_view.specs.Slots.{Slots}
-use Rattle.plan_view.specs.Calls.{args_at, calls_made, sending_deed, with_entry}
+use Rattle.cuts.specs.view.Slots.{Slots}
+use Rattle.cuts.specs.view.Calls.{args_at, calls_made, sending_deed, with_entry}
 use Rattle.rank_node.specs.Handles.{Handles, Agrees, AreAllOf, Counted, counted_in, with_counter_handle, with_descriptor_handle}
 use Rattle.rank_node.specs.Handles.{with_entry_handle}
 

@@ -4,8 +4,8 @@ use Rattle.ptl_types.specs.declared.headers.Lane.{Lane}
 use Rattle.ptl_types.specs.declared.steps.LocalStep.{LocalStep}
 use Rattle.ptl_types.specs.declared.steps.LocalStep.TheVariants.{Start, Receive, Fire}
 use Rattle.ptl_types.specs.Messages.{Sent}
-use Rattle.plan_cuts.specs.History.{Local, is_start}
-use Rattle.plan_cuts.specs.History.Local.{Start as Started, Receive as Received, Fire as Fired}
+use Rattle.cuts.specs.histories.History.{Local, is_start}
+use Rattle.cuts.specs.histories.History.Local.{Start as Started, Receive as Received, Fire as Fired}
 
 -- a step without its message
 abbrev pub listed : Local → LocalStep

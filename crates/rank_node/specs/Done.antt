@@ -5,11 +5,11 @@ use Rattle.plan_core.specs.Plan.{Plan, cell}
 use Rattle.plan_core.specs.Sound.{AreInputsOf, SoundPlan}
 use Rattle.plan_core.specs.Values.{Inputs, value}
 use Rattle.plan_calls.specs.Calls.{cell_start}
-use Rattle.plan_view.specs.Slots.{Slots}
-use Rattle.plan_cuts.specs.Cut.{IsCut}
-use Rattle.plan_cuts.specs.Plans.{system_of}
-use Rattle.plan_cuts.specs.System.{Histories}
-use Rattle.done_laws.specs.Done.{HasGotAll, OnlySendsAreLeft}
+use Rattle.cuts.specs.view.Slots.{Slots}
+use Rattle.cuts.specs.histories.Cut.{IsCut}
+use Rattle.cuts.specs.histories.Plans.{system_of}
+use Rattle.cuts.specs.histories.System.{Histories}
+use Rattle.cuts.specs.done.Done.{HasGotAll, OnlySendsAreLeft}
 use Rattle.rank_node.specs.Handles.{Agrees}
 use Rattle.rank_node.specs.Node.{NodeState}
 use Rattle.rank_node.specs.Plans.{IsCompiledFor}

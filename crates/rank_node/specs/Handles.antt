@@ -4,7 +4,7 @@ use Rattle.ptl_types.specs.declared.handles.Handle.{Handle}
 use Rattle.ptl_types.specs.declared.calls.Limits.{Limits}
 use Rattle.ni_model.specs.Tables.{Live, handle}
 use Rattle.ni_model.specs.State.{State}
-use Rattle.plan_view.specs.Slots.{Slots}
+use Rattle.cuts.specs.view.Slots.{Slots}
 
 -- how many of each thing
 pub record Counted : Type 0 where

@@ -6,3 +6,4 @@ pub mod Gates
 pub mod Node
 pub mod Plans
 pub mod Done
+pub mod of_plan

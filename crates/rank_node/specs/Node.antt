@@ -9,13 +9,13 @@ use Rattle.ni_model.specs.Ready.{fired}
 use Rattle.ni_model.specs.State.{State, opened, target}
 use Rattle.portals_ni.specs.Fit.{FitLimits}
 use Rattle.plan_core.specs.Places.{place_in}
-use Rattle.plan_view.specs.Slots.{Slots}
-use Rattle.plan_cuts.specs.History.{Beginning, Legal, state}
-use Rattle.plan_cuts.specs.History.Local.{Start as Started, Fire as Fired}
-use Rattle.plan_view.specs.Calls.{calls_made}
+use Rattle.cuts.specs.view.Slots.{Slots}
+use Rattle.cuts.specs.histories.History.{Beginning, Legal, state}
+use Rattle.cuts.specs.histories.History.Local.{Start as Started, Fire as Fired}
+use Rattle.cuts.specs.view.Calls.{calls_made}
 use Rattle.plan_calls.specs.declared.OwnCell.{OwnCell}
-use Rattle.plan_cuts.specs.Lanes.{is_receipt}
-use Rattle.plan_cuts.specs.Plans.{beginning}
+use Rattle.cuts.specs.histories.Lanes.{is_receipt}
+use Rattle.cuts.specs.histories.Plans.{beginning}
 use Rattle.rank_node.specs.declared.compiled.Compiled.{Compiled}
 use Rattle.rank_node.specs.Calls.{MayCallAll, count_calls, none_made}
 use Rattle.rank_node.specs.Copies.{Diary, bytes_received, has_start, with_receipt, with_step}

@@ -4,9 +4,9 @@ use Rattle.ptl_types.specs.declared.entries.Entry.{Entry}
 use Rattle.ptl_types.specs.declared.entries.List.TheVariants.{Priority}
 use Rattle.ni_model.specs.State.{State}
 use Rattle.ni_model.specs.Calls.{me_append}
-use Rattle.plan_view.specs.Slots.{Slots}
+use Rattle.cuts.specs.view.Slots.{Slots}
 use Rattle.plan_calls.specs.declared.OwnCell.{OwnCell}
-use Rattle.plan_start.specs.Start.{cells_started}
+use Rattle.cuts.specs.start.Start.{cells_started}
 use Rattle.rank_node.specs.Handles.{Handles, Agrees, AreAllOf}
 
 -- entries are all that may have been made, and at most so many

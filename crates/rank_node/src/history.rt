@@ -2,7 +2,7 @@
 
 ghost use Rattle.std.specs.Prelude.{ℕ, ◌≡◌, ◌<◌, ◌≤◌, [], IfOk, length, map};
 ghost use Rattle.ni_model.specs.Conditions.{IsKept};
-ghost use Rattle.plan_cuts.specs.History.Local.{Start as Started, Fire as Fired};
+ghost use Rattle.cuts.specs.histories.History.Local.{Start as Started, Fire as Fired};
 ghost use Rattle.ptl_types.specs.declared.steps.LocalStep.TheVariants.{Start as StartStep, Fire as FireStep};
 ghost use Rattle.rank_node.specs.Copies.{has_start, listed, with_receipt, with_step};
 

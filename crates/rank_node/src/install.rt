@@ -6,10 +6,10 @@ ghost use Rattle.ni_model.specs.Counts.{successes};
 ghost use Rattle.plan_core.specs.Places.{place_in};
 ghost use Rattle.ni_model.specs.Conditions.{MayStart};
 ghost use Rattle.ni_model.specs.Calls.{with_index, with_counter, with_bound, with_operation};
-ghost use Rattle.plan_view.specs.Slots.{Slots, counter_at};
+ghost use Rattle.cuts.specs.view.Slots.{Slots, counter_at};
 ghost use Rattle.rank_node.specs.Handles.{Agrees, AreAllOf, Fits, IsRising, counted_in};
 ghost use Rattle.rank_node.specs.Calls.{HasCounter, MayCall, MayCallAll, AreMade, NewCounter, NewDescriptor, NewEntry, IsWired, MaySend, count_call, count_calls};
-ghost use Rattle.plan_view.specs.Calls.{whole_region, deed_at, with_entry, area_entry, cell_entry};
+ghost use Rattle.cuts.specs.view.Calls.{whole_region, deed_at, with_entry, area_entry, cell_entry};
 
 use crate::kept::Kept;
 use portals_ni::Nic;

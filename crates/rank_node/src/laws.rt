@@ -4,11 +4,11 @@ ghost use Rattle.std.specs.Prelude.{ℕ, ◌+◌, ◌<◌, ◌^◌, ◌≡◌, f
 ghost use Rattle.plan_core.specs.Plan.{Plan};
 ghost use Rattle.plan_core.specs.Sound.{SoundPlan, AreInputsOf};
 ghost use Rattle.plan_core.specs.Values.{Inputs};
-ghost use Rattle.plan_view.specs.Calls.{prepare};
-ghost use Rattle.plan_view.specs.Slots.{Slots};
-ghost use Rattle.plan_cuts.specs.History.{Legal};
-ghost use Rattle.plan_cuts.specs.Plans.{start_of as begins, system_of};
-ghost use Rattle.plan_cuts.specs.System.{Histories, state_at};
+ghost use Rattle.cuts.specs.view.Calls.{prepare};
+ghost use Rattle.cuts.specs.view.Slots.{Slots};
+ghost use Rattle.cuts.specs.histories.History.{Legal};
+ghost use Rattle.cuts.specs.histories.Plans.{start_of as begins, system_of};
+ghost use Rattle.cuts.specs.histories.System.{Histories, state_at};
 ghost use Rattle.rank_node.specs.Handles.{Agrees, slots_of};
 ghost use Rattle.rank_node.specs.Node.{IsCompiled, IsNode, NodeState, Task, prepared, start_of};
 ghost use Rattle.rank_node.specs.Plans.{IsCompiledFor};

@@ -1,6 +1,7 @@
 //! One rank of a plan: its interface, as the compiled calls prepare and start it, and the history of its steps.
 #![tactic(auto)]
 
+pub mod of_plan;
 mod choice;
 mod compiled;
 mod gates;

@@ -3,8 +3,8 @@
 ghost use Rattle.std.specs.Prelude.{◌≡◌, ◌-◌, ℕ, List, [], ◌∷◌, ◌++◌, length};
 ghost use Rattle.std.specs.Borrow.{ftrue};
 ghost use Rattle.ptl_types.specs.Messages.{message};
-ghost use Rattle.plan_cuts.specs.History.{Local};
-ghost use Rattle.plan_cuts.specs.History.Local.{Start, Receive, Fire};
+ghost use Rattle.cuts.specs.histories.History.{Local};
+ghost use Rattle.cuts.specs.histories.History.Local.{Start, Receive, Fire};
 
 use ptl_types::{Bytes, Header, Lane, Rank};
 use std::marker::Model;

@@ -6,7 +6,7 @@ ghost use Rattle.ni_model.specs.Headers.{found_in};
 ghost use Rattle.plan_calls.specs.declared.OwnCell.{OwnCell};
 ghost use Rattle.rank_node.specs.Handles.{AreAllOf, IsRising};
 ghost use Rattle.rank_node.specs.Calls.{HasCounter};
-ghost use Rattle.plan_start.specs.Start.{is_used, lies_in, fits_elements, brought_by, bring, bring_all, go_raised};
+ghost use Rattle.cuts.specs.start.Start.{is_used, lies_in, fits_elements, brought_by, bring, bring_all, go_raised};
 ghost use Rattle.rank_node.specs.Start.{IsAppended, AreStarted};
 
 use crate::install::{counter_of, entry_of_cell, one};
@@ -15,7 +15,7 @@ use lane_ops::combine;
 use plan_calls::OwnCell;
 use portals_ni::Nic;
 use ptl_types::{Appended, AtomicOp, ElemType, Entry, Handle, List, UnexpectedHeader};
-use unexpected::finds;
+use match_lists::unexpected::finds;
 
 /// Whether so many bytes are whole elements, where the cell has an operation.
 fn fits_elements(op: Option<AtomicOp>, ty: ElemType, count: u64) -> bool
@@ -84,7 +84,7 @@ fn fill_brought(
 }
 
 /// Brings what a header brought into the cell, where it is used. The buffer has room for the longest that is used.
-#[tactic(auto, unfolding(plan_start::specs::Start::bring))]
+#[tactic(auto, unfolding(cuts::specs::start::Start::bring))]
 fn bring_one(
     nic: &mut Nic,
     buffer: &mut Vec<u8>,

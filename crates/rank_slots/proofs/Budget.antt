@@ -13,9 +13,9 @@ use Rattle.plan_core.specs.Plan.{Plan, all_links, cell, link, out_links}
 use Rattle.plan_calls.specs.Areas.{comes_to, links_to}
 use Rattle.plan_calls.specs.Lanes.{goes_along, lane_links}
 use Rattle.plan_calls.specs.Works.{is_message, sends_of}
-use Rattle.plan_cuts.specs.History.{Local, got, same_lane}
-use Rattle.plan_cuts.specs.History.Local.{Start, Receive, Fire}
-use Rattle.plan_cuts.specs.Lanes.{is_receipt}
+use Rattle.cuts.specs.histories.History.{Local, got, same_lane}
+use Rattle.cuts.specs.histories.History.Local.{Start, Receive, Fire}
+use Rattle.cuts.specs.histories.Lanes.{is_receipt}
 use Rattle.rank_node.specs.Copies.{bytes_received}
 use Rattle.rank_node.specs.Node.{IsNode, NodeState}
 use Rattle.rank_node.specs.Handles.{slots_of}
@@ -25,13 +25,13 @@ use Rattle.rank_node.proofs.Nodes.{agrees}
 use Rattle.rank_node.proofs.Plans.{run-legal}
 use Rattle.plan_core.specs.Sound.{SoundPlan}
 use Rattle.plan_core.specs.Values.{Inputs}
-use Rattle.plan_start.proofs.Starting.{length-from_to}
-use Rattle.plan_start.proofs.Unrefused.{length-works}
-use Rattle.plan_view.specs.Calls.{prepare}
-use Rattle.plan_cuts.specs.Plans.{start_of}
-use Rattle.plan_cuts.proofs.FromCut.{prepared_of}
-use Rattle.plan_cuts.proofs.StepBounds.{few_steps}
-use Rattle.plan_cuts.proofs.Told.{length-own-le}
+use Rattle.cuts.proofs.start.Starting.{length-from_to}
+use Rattle.cuts.proofs.start.Unrefused.{length-works}
+use Rattle.cuts.specs.view.Calls.{prepare}
+use Rattle.cuts.specs.histories.Plans.{start_of}
+use Rattle.cuts.proofs.histories.FromCut.{prepared_of}
+use Rattle.cuts.proofs.histories.StepBounds.{few_steps}
+use Rattle.cuts.proofs.histories.Told.{length-own-le}
 use Rattle.pair_wires.specs.Bounds.{KeepsBounds}
 use Rattle.rank_slots.specs.Lanes.{bounds_on}
 

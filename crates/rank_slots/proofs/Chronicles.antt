@@ -3,8 +3,8 @@ use Rattle.std.proofs.Common.{◌≡◌, ◌++◌, ◌∷◌, [], ◌∙◌, Boo
 use Rattle.std.specs.Prelude.{Some, None}
 use Rattle.std.proofs.lemmas.List.{map-append}
 use mathlib.Core.List.{IsPrefix}
-use Rattle.plan_cuts.specs.History.{Local}
-use Rattle.plan_cuts.specs.History.Local.{Start, Receive, Fire}
+use Rattle.cuts.specs.histories.History.{Local}
+use Rattle.cuts.specs.histories.History.Local.{Start, Receive, Fire}
 use Rattle.rank_node.specs.Copies.{has_start}
 use Rattle.rank_node.specs.Handles.{Handles}
 use Rattle.rank_node.specs.Node.{NodeState}

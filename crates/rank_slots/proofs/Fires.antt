@@ -8,10 +8,10 @@ use Rattle.ptl_types.specs.declared.headers.Lane.TheVariants.{Request, Answer}
 use Rattle.ptl_types.specs.Messages.{Sent}
 use Rattle.ni_model.specs.Ready.{fired, target_at}
 use Rattle.plan_core.specs.Plan.{Plan}
-use Rattle.plan_view.specs.Slots.{Slots}
-use Rattle.plan_cuts.specs.History.{is_for}
-use Rattle.plan_cuts.specs.History.Local.{Fire}
-use Rattle.plan_cuts.proofs.Origin.{IsOf, fired_link, from_link-request}
+use Rattle.cuts.specs.view.Slots.{Slots}
+use Rattle.cuts.specs.histories.History.{is_for}
+use Rattle.cuts.specs.histories.History.Local.{Fire}
+use Rattle.cuts.proofs.histories.Origin.{IsOf, fired_link, from_link-request}
 use Rattle.rank_node.specs.Gates.{goes_out}
 use Rattle.rank_node.specs.Node.{NodeState, fired_node}
 use Rattle.rank_node.specs.Handles.{Agrees}

@@ -12,7 +12,7 @@ use Rattle.ptl_types.specs.Kinds.{is_answer, lane_of}
 use Rattle.ptl_types.specs.Messages.{Sent}
 use Rattle.pair_wires.specs.Wires.{WireState}
 use Rattle.atomic_table.proofs.Lists.{at_index, at_set}
-use Rattle.plan_cuts.specs.History.{is_for, is_lane}
+use Rattle.cuts.specs.histories.History.{is_for, is_lane}
 use Rattle.rank_node.specs.Node.{NodeState}
 use Rattle.rank_slots.specs.declared.ports.OutPort.{OutPort}
 use Rattle.rank_slots.specs.Lists.{Each, Pairwise}

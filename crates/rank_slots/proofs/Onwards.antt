@@ -4,7 +4,7 @@ use Rattle.std.specs.Prelude.{Option, Some, None}
 use Rattle.ptl_types.specs.declared.steps.LocalStep.{LocalStep}
 use Rattle.ptl_types.specs.declared.steps.LocalStep.TheVariants.{Start as Starts, Receive as Receives, Fire as Fires}
 use Rattle.pair_wires.specs.Wires.{WireState}
-use Rattle.plan_cuts.specs.History.Local.{Fire, Receive, Start}
+use Rattle.cuts.specs.histories.History.Local.{Fire, Receive, Start}
 use Rattle.rank_node.specs.Copies.{Diary}
 use Rattle.rank_node.specs.Node.{NodeState}
 use Rattle.rank_slots.specs.declared.gate.StartAnswer.{StartAnswer}

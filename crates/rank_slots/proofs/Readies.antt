@@ -5,7 +5,7 @@ use Rattle.ni_model.specs.Ready.{is_number, is_ready, is_ready_op, posted_at, re
 use Rattle.ni_model.specs.State.{Posted, State}
 use Rattle.plan_core.specs.Members.{In}
 use Rattle.plan_core.proofs.Lists.{In-filter, In-filter_cases, In-map}
-use Rattle.plan_view.proofs.Tables.{find-In}
+use Rattle.cuts.proofs.view.Tables.{find-In}
 use Rattle.rank_node.specs.Gates.{goes_out, open_numbers}
 
 -- an operation that is ready stands among those

@@ -16,10 +16,10 @@ use Rattle.ni_model.specs.State.{State}
 use Rattle.pair_wires.specs.declared.bounds.Bounds.{Bounds}
 use Rattle.pair_wires.specs.Bounds.{KeepsBounds, Travels}
 use Rattle.plan_core.specs.Plan.{Plan}
-use Rattle.plan_cuts.specs.History.{IsDue, got, is_for, is_lane, made_by, same_lane}
-use Rattle.plan_cuts.specs.History.Local.{Receive}
-use Rattle.plan_cuts.proofs.Fronts.{got-append}
-use Rattle.plan_cuts.proofs.Origin.{answer_kind, target_answers}
+use Rattle.cuts.specs.histories.History.{IsDue, got, is_for, is_lane, made_by, same_lane}
+use Rattle.cuts.specs.histories.History.Local.{Receive}
+use Rattle.cuts.proofs.histories.Fronts.{got-append}
+use Rattle.cuts.proofs.histories.Origin.{answer_kind, target_answers}
 use Rattle.rank_node.specs.Node.{NodeState, received_node}
 use Rattle.rank_node.specs.Handles.{Agrees}
 use Rattle.rank_slots.specs.declared.ports.OutPort.{OutPort}

@@ -18,17 +18,17 @@ use Rattle.plan_core.specs.Values.{Inputs}
 use Rattle.plan_core.proofs.Lists.{In-filter_cases}
 use Rattle.plan_core.proofs.Links.{out_links-In}
 use Rattle.plan_calls.specs.Lanes.{is_used_lane, lane_links, lane_messages}
-use Rattle.plan_view.specs.Calls.{prepare}
-use Rattle.plan_view.specs.Slots.{Slots}
-use Rattle.plan_cuts.specs.History.{Beginning, Legal, Local, after, is_for, made, sent, state}
-use Rattle.plan_cuts.specs.Lanes.{bytes_in}
-use Rattle.plan_cuts.specs.Plans.{start_of}
-use Rattle.plan_cuts.proofs.FromCut.{prepared_of}
-use Rattle.plan_cuts.proofs.LaneAnswers.{few_answers}
-use Rattle.plan_cuts.proofs.LaneEmpty.{answers-empty}
-use Rattle.plan_cuts.proofs.LaneRequests.{few_bytes, few_messages}
-use Rattle.plan_cuts.proofs.Origin.{IsOf, after_of, legal_got, made_from}
-use Rattle.plan_rest.proofs.Longer.{answer_source}
+use Rattle.cuts.specs.view.Calls.{prepare}
+use Rattle.cuts.specs.view.Slots.{Slots}
+use Rattle.cuts.specs.histories.History.{Beginning, Legal, Local, after, is_for, made, sent, state}
+use Rattle.cuts.specs.histories.Lanes.{bytes_in}
+use Rattle.cuts.specs.histories.Plans.{start_of}
+use Rattle.cuts.proofs.histories.FromCut.{prepared_of}
+use Rattle.cuts.proofs.histories.LaneAnswers.{few_answers}
+use Rattle.cuts.proofs.histories.LaneEmpty.{answers-empty}
+use Rattle.cuts.proofs.histories.LaneRequests.{few_bytes, few_messages}
+use Rattle.cuts.proofs.histories.Origin.{IsOf, after_of, legal_got, made_from}
+use Rattle.cuts.proofs.rest.Longer.{answer_source}
 use Rattle.rank_node.specs.Handles.{Agrees, slots_of}
 use Rattle.rank_node.specs.Node.{IsNode, NodeState}
 use Rattle.rank_node.specs.Plans.{IsCompiledFor}

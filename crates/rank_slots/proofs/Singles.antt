@@ -8,7 +8,7 @@ use Rattle.ptl_types.specs.declared.headers.Lane.{Lane}
 use Rattle.ptl_types.specs.Messages.{Sent}
 use Rattle.ni_model.specs.Ready.{is_ready}
 use Rattle.ni_model.specs.State.{State}
-use Rattle.plan_cuts.specs.History.Local.{Receive, Fire}
+use Rattle.cuts.specs.histories.History.Local.{Receive, Fire}
 use Rattle.rank_node.specs.Node.{NodeState}
 use Rattle.rank_slots.specs.declared.slot.Slot.{Slot}
 use Rattle.rank_slots.specs.declared.ports.InPort.{InPort}

@@ -16,12 +16,12 @@ use Rattle.plan_core.specs.Plan.{Plan}
 use Rattle.plan_core.specs.Sound.{SoundPlan}
 use Rattle.plan_core.specs.Values.{Inputs}
 use Rattle.plan_calls.specs.Lanes.{is_used_lane}
-use Rattle.plan_view.specs.Calls.{prepare}
-use Rattle.plan_view.specs.Slots.{Slots}
-use Rattle.plan_cuts.specs.History.{Beginning, Local, and_then, got, is_for, made_by, sent, state}
-use Rattle.plan_cuts.specs.History.Local.{Start}
-use Rattle.plan_cuts.specs.Plans.{start_of}
-use Rattle.plan_cuts.proofs.Fronts.{got-append, made-append}
+use Rattle.cuts.specs.view.Calls.{prepare}
+use Rattle.cuts.specs.view.Slots.{Slots}
+use Rattle.cuts.specs.histories.History.{Beginning, Local, and_then, got, is_for, made_by, sent, state}
+use Rattle.cuts.specs.histories.History.Local.{Start}
+use Rattle.cuts.specs.histories.Plans.{start_of}
+use Rattle.cuts.proofs.histories.Fronts.{got-append, made-append}
 use Rattle.rank_node.specs.Handles.{Agrees}
 use Rattle.rank_node.specs.Copies.{Diary}
 use Rattle.rank_node.specs.Node.{IsNode, IsStarted, NodeState, Task}

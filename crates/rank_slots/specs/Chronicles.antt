@@ -1,7 +1,7 @@
 -- The past of a slot: its history, in which beside the start stand the handles that were given by then. No others are given later.
 use Rattle.std.specs.Prelude.{true, ◌≡◌, Option, Some, None, List, map}
-use Rattle.plan_cuts.specs.History.{Local}
-use Rattle.plan_cuts.specs.History.Local.{Start, Receive, Fire}
+use Rattle.cuts.specs.histories.History.{Local}
+use Rattle.cuts.specs.histories.History.Local.{Start, Receive, Fire}
 use Rattle.rank_node.specs.Copies.{has_start}
 use Rattle.rank_node.specs.Handles.{Handles}
 use Rattle.rank_slots.specs.declared.slot.Slot.{Slot}

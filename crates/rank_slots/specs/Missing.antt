@@ -5,7 +5,7 @@ use lib.ListN.{get_elem?}
 use Rattle.ptl_types.specs.declared.headers.Lane.{Lane}
 use Rattle.ptl_types.specs.declared.headers.Lane.TheVariants.{Request, Answer}
 use Rattle.ptl_types.specs.Messages.{Sent}
-use Rattle.plan_cuts.specs.History.Local.{Receive}
+use Rattle.cuts.specs.histories.History.Local.{Receive}
 use Rattle.ni_model.specs.Answers.{is_awaited}
 use Rattle.ni_model.specs.Ready.{is_ready, target_at}
 use Rattle.ptl_types.specs.Handles.{one_more}

@@ -3,7 +3,7 @@ use Rattle.std.specs.Prelude.{ℕ, Bool, List, map}
 use Rattle.ptl_types.specs.declared.headers.Lane.{Lane}
 use Rattle.ni_model.specs.State.{State}
 use Rattle.pair_wires.specs.Wires.{WireState}
-use Rattle.plan_cuts.specs.History.{Local}
+use Rattle.cuts.specs.histories.History.{Local}
 use Rattle.rank_node.specs.Handles.{Handles}
 use Rattle.rank_node.specs.Node.{Task}
 use Rattle.schedule_compiler.specs.Jobs.{JobOf}

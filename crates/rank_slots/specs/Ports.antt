@@ -9,7 +9,7 @@ use Rattle.ptl_types.specs.Messages.{Sent}
 use Rattle.pair_wires.specs.Bounds.{KeepsBounds}
 use Rattle.ptl_types.specs.Handles.{one_more}
 use Rattle.pair_wires.specs.Wires.{WireState}
-use Rattle.plan_cuts.specs.History.{Local, and_then, got, is_for}
+use Rattle.cuts.specs.histories.History.{Local, and_then, got, is_for}
 use Rattle.rank_node.specs.Node.{NodeState}
 use Rattle.rank_slots.specs.declared.ports.OutPort.{OutPort}
 use Rattle.rank_slots.specs.declared.ports.InPort.{InPort}

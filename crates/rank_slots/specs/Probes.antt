@@ -5,10 +5,10 @@ use lib.ListN.{get_elem?}
 use Rattle.ptl_types.specs.declared.headers.Lane.{Lane}
 use Rattle.ni_model.specs.Calls.{AnswersReady}
 use Rattle.ni_model.specs.State.{State}
-use Rattle.plan_view.specs.Calls.{prepare}
-use Rattle.plan_view.specs.Slots.{Slots}
-use Rattle.plan_cuts.specs.History.{Local, got, sent, state}
-use Rattle.plan_cuts.specs.Plans.{start_of}
+use Rattle.cuts.specs.view.Calls.{prepare}
+use Rattle.cuts.specs.view.Slots.{Slots}
+use Rattle.cuts.specs.histories.History.{Local, got, sent, state}
+use Rattle.cuts.specs.histories.Plans.{start_of}
 use Rattle.rank_node.specs.Copies.{has_start}
 use Rattle.rank_node.specs.Handles.{Agrees, Handles}
 use Rattle.rest_probe.specs.declared.notes.LaneCount.{LaneCount}

@@ -6,10 +6,10 @@ use Rattle.pair_wires.specs.Bounds.{KeepsBounds}
 use Rattle.plan_core.specs.Plan.{Plan}
 use Rattle.plan_core.specs.Values.{Inputs}
 use Rattle.plan_calls.specs.Lanes.{is_used_lane}
-use Rattle.plan_view.specs.Calls.{prepare}
-use Rattle.plan_view.specs.Slots.{Slots}
-use Rattle.plan_cuts.specs.History.{got, sent}
-use Rattle.plan_cuts.specs.Plans.{start_of}
+use Rattle.cuts.specs.view.Calls.{prepare}
+use Rattle.cuts.specs.view.Slots.{Slots}
+use Rattle.cuts.specs.histories.History.{got, sent}
+use Rattle.cuts.specs.histories.Plans.{start_of}
 use Rattle.rank_node.specs.Handles.{Agrees}
 use Rattle.rank_node.specs.Node.{NodeState}
 use Rattle.rank_node.specs.Plans.{IsCompiledFor}

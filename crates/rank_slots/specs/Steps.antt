@@ -10,11 +10,11 @@ use Rattle.ni_model.specs.Answers.{is_awaited}
 use Rattle.ni_model.specs.Ready.{is_ready, target_at}
 use Rattle.ptl_types.specs.Handles.{one_more}
 use Rattle.plan_calls.specs.Lanes.{is_used_lane}
-use Rattle.plan_view.specs.Slots.{Slots}
-use Rattle.plan_cuts.specs.History.{Local}
-use Rattle.plan_cuts.specs.History.Local.{Start, Receive, Fire}
-use Rattle.plan_cuts.specs.Plans.{system_of}
-use Rattle.plan_cuts.specs.System.{state_at}
+use Rattle.cuts.specs.view.Slots.{Slots}
+use Rattle.cuts.specs.histories.History.{Local}
+use Rattle.cuts.specs.histories.History.Local.{Start, Receive, Fire}
+use Rattle.cuts.specs.histories.Plans.{system_of}
+use Rattle.cuts.specs.histories.System.{state_at}
 use Rattle.rank_node.specs.Copies.{has_start, listed}
 use Rattle.rank_node.specs.Handles.{Agrees}
 use Rattle.shape_plans.specs.Drawing.{plan_of}

@@ -3,7 +3,7 @@
 ghost use Rattle.std.specs.Prelude.{ℕ, true, false, ◌≡◌, ◌<◌, List, length, slice_set};
 ghost use mathlib.Core.Option.{some};
 ghost use lib.ListN.{get_elem?};
-ghost use Rattle.plan_cuts.specs.History.{got};
+ghost use Rattle.cuts.specs.histories.History.{got};
 ghost use Rattle.rest_probe.specs.declared.notes.LaneCount.{LaneCount};
 ghost use Rattle.rest_probe.specs.declared.notes.RankNote.{RankNote};
 ghost use Rattle.rest_probe.specs.Waves.{with_got, with_sent};

@@ -5,7 +5,7 @@ ghost use mathlib.Core.Option.{some};
 ghost use lib.ListN.{get_elem?};
 ghost use Rattle.ptl_types.specs.Messages.{Sent};
 ghost use Rattle.ni_model.specs.Ready.{is_ready};
-ghost use Rattle.plan_cuts.specs.History.Local.{Receive as Receives, Fire as Fires};
+ghost use Rattle.cuts.specs.histories.History.Local.{Receive as Receives, Fire as Fires};
 ghost use Rattle.rank_slots.specs.declared.ports.InPort.{InPort};
 ghost use Rattle.rank_slots.specs.Chronicles.{KeepsHandles};
 ghost use Rattle.rank_slots.specs.Lists.{Each};

@@ -4,7 +4,7 @@ ghost use Rattle.std.specs.Prelude.{true, false, ◌≡◌, ◌<◌, ◌++◌, �
 ghost use mathlib.Core.Option.{some};
 ghost use Rattle.ptl_types.specs.declared.headers.Lane.TheVariants.{Answer};
 ghost use Rattle.ni_model.specs.Ready.{is_ready, target_at};
-ghost use Rattle.plan_cuts.specs.History.Local.{Start as Started, Fire as Fired};
+ghost use Rattle.cuts.specs.histories.History.Local.{Start as Started, Fire as Fired};
 ghost use Rattle.rank_node.specs.Copies.{has_start};
 ghost use Rattle.rank_node.specs.Gates.{goes_out};
 ghost use Rattle.rank_slots.specs.declared.ports.OutPort.{OutPort};

@@ -5,9 +5,9 @@ use Rattle.coll_shape.specs.Outline.{Outline}
 use Rattle.plan_core.specs.Plan.{Plan}
 use Rattle.plan_core.specs.Sound.{SoundPlan}
 use Rattle.plan_core.specs.Values.{Inputs}
-use Rattle.plan_view.specs.Slots.{Slots}
-use Rattle.plan_cuts.specs.History.{state}
-use Rattle.plan_cuts.specs.Plans.{system_of}
+use Rattle.cuts.specs.view.Slots.{Slots}
+use Rattle.cuts.specs.histories.History.{state}
+use Rattle.cuts.specs.histories.Plans.{system_of}
 use Rattle.shape_plans.specs.Drawing.{plan_of}
 use Rattle.shape_plans.specs.declared.judging.TheConstants.{MOST_LINKS}
 use Rattle.rank_node.specs.Handles.{Agrees}

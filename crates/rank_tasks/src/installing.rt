@@ -1,8 +1,8 @@
 //! The nodes of a job.
 
 ghost use Rattle.std.specs.Prelude.{ℕ, [], false, ◌≡◌, ◌<◌, IfOk, replicate};
-ghost use Rattle.plan_cuts.specs.Plans.{system_of};
-ghost use Rattle.plan_view.specs.Slots.{Slots};
+ghost use Rattle.cuts.specs.histories.Plans.{system_of};
+ghost use Rattle.cuts.specs.view.Slots.{Slots};
 ghost use Rattle.shape_plans.specs.Drawing.{plan_of};
 ghost use Rattle.rank_node.specs.Handles.{Agrees};
 ghost use Rattle.rank_node.specs.Node.{IsNode};

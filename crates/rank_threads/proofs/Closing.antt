@@ -14,23 +14,23 @@ use Rattle.plan_core.specs.Members.{In}
 use Rattle.plan_core.specs.Plan.{Plan}
 use Rattle.plan_core.proofs.Lists.{In-append_left, In-filter_cases}
 use Rattle.plan_calls.specs.Lanes.{is_used_lane, lane_messages}
-use Rattle.plan_view.specs.Calls.{prepare}
-use Rattle.plan_view.specs.Slots.{Slots}
-use Rattle.plan_cuts.specs.Cut.{IsCut, is_stray, owned}
-use Rattle.plan_cuts.specs.History.{got, is_for, made, sent}
-use Rattle.plan_cuts.specs.Plans.{start_of, system_of}
-use Rattle.plan_cuts.specs.System.{Histories, sent_by}
-use Rattle.plan_cuts.proofs.Clean.{made-clean}
-use Rattle.plan_cuts.proofs.Fronts.{owned-all}
-use Rattle.plan_rest.proofs.LaneCuts.{unused_sent}
-use Rattle.plan_worlds.specs.Places.{lane_place}
+use Rattle.cuts.specs.view.Calls.{prepare}
+use Rattle.cuts.specs.view.Slots.{Slots}
+use Rattle.cuts.specs.histories.Cut.{IsCut, is_stray, owned}
+use Rattle.cuts.specs.histories.History.{got, is_for, made, sent}
+use Rattle.cuts.specs.histories.Plans.{start_of, system_of}
+use Rattle.cuts.specs.histories.System.{Histories, sent_by}
+use Rattle.cuts.proofs.histories.Clean.{made-clean}
+use Rattle.cuts.proofs.histories.Fronts.{owned-all}
+use Rattle.cuts.proofs.rest.LaneCuts.{unused_sent}
+use Rattle.cuts.specs.windows.Places.{lane_place}
 use Rattle.shape_plans.specs.Drawing.{plan_of}
 use Rattle.schedule_compiler.specs.Jobs.{JobOf}
 use Rattle.rank_node.specs.Node.{IsNode, NodeState}
 use Rattle.rank_node.specs.Plans.{IsCompiledFor}
 use Rattle.rank_node.proofs.Plans.{run-legal}
-use Rattle.world_parts.specs.Keeps.{AgreeAll}
-use Rattle.world_parts.specs.Layout.{lane_at, node_at, scene_of}
+use Rattle.worlds.specs.parts.Keeps.{AgreeAll}
+use Rattle.worlds.specs.parts.Layout.{lane_at, node_at, scene_of}
 use Rattle.worlds.specs.FrameState.{FrameState}
 use Rattle.worlds.specs.Frames.{MayClose, frame_lane}
 use Rattle.rank_slots.specs.declared.slot.Slot.{Slot}

@@ -10,7 +10,7 @@ use Rattle.turn_table.specs.Hands.{Left}
 use Rattle.turn_table.specs.States.{HandState}
 use Rattle.turn_table.specs.Views.{once_below, places, times}
 use Rattle.rank_node.specs.Node.{IsNode, NodeState}
-use Rattle.world_parts.specs.Layout.{no_node, node_at}
+use Rattle.worlds.specs.parts.Layout.{no_node, node_at}
 use Rattle.worlds.specs.FrameState.{FrameState}
 use Rattle.worlds.specs.Frames.{MayClose}
 use Rattle.rank_slots.specs.declared.slot.Slot.{Slot}

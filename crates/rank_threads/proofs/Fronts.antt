@@ -8,8 +8,8 @@ use Rattle.turn_table.specs.declared.views.HandView.{HandView}
 use Rattle.turn_table.specs.declared.views.SlotView.{SlotView}
 use Rattle.turn_table.specs.Views.{without_busy_slot}
 use Rattle.turn_table.specs.Hands.{marks}
-use Rattle.plan_cuts.specs.History.{Local}
-use Rattle.plan_cuts.specs.System.{Histories}
+use Rattle.cuts.specs.histories.History.{Local}
+use Rattle.cuts.specs.histories.System.{Histories}
 use Rattle.schedule_compiler.specs.Jobs.{JobOf}
 use Rattle.rest_probe.specs.declared.notes.RankNote.{RankNote}
 use Rattle.rest_probe.specs.declared.notes.ProbeNote.{ProbeNote}

@@ -19,13 +19,13 @@ use Rattle.plan_core.proofs.Links.{In-from_to, out_links-In}
 use Rattle.plan_calls.specs.Lanes.{goes_along, is_used_lane, lane_links}
 use Rattle.plan_calls.specs.Works.{Work, works}
 use Rattle.plan_calls.specs.Works.Work.{Along, Tell}
-use Rattle.plan_view.specs.Deeds.{deed_of, operation, send_deed}
-use Rattle.plan_view.specs.Slots.{Slots, cell_ct}
+use Rattle.cuts.specs.view.Deeds.{deed_of, operation, send_deed}
+use Rattle.cuts.specs.view.Slots.{Slots, cell_ct}
 use Rattle.ptl_types.specs.declared.calls.Deed.TheVariants.{Inc as IncDeed}
 use Rattle.ni_model.specs.Counts.{successes}
-use Rattle.plan_machine.proofs.Works.{works-along}
-use Rattle.plan_view.proofs.Tables.{find-In}
-use Rattle.plan_cuts.proofs.Origin.{IsOf}
+use Rattle.cuts.proofs.machine.Works.{works-along}
+use Rattle.cuts.proofs.view.Tables.{find-In}
+use Rattle.cuts.proofs.histories.Origin.{IsOf}
 use Rattle.atomic_table.proofs.Lists.{at_map}
 use Rattle.rank_node.specs.Gates.{goes_out}
 use Rattle.rank_node.specs.Handles.{slots_of}

@@ -12,14 +12,14 @@ use Rattle.pair_wires.specs.Lanes.{Plain, plain}
 use Rattle.pair_wires.specs.Wires.{WireState}
 use Rattle.plan_core.specs.Plan.{Plan}
 use Rattle.plan_calls.specs.Lanes.{is_used_lane}
-use Rattle.plan_cuts.specs.History.{got}
-use Rattle.plan_worlds.specs.Places.{lane_place}
+use Rattle.cuts.specs.histories.History.{got}
+use Rattle.cuts.specs.windows.Places.{lane_place}
 use Rattle.shape_plans.specs.Drawing.{plan_of}
 use Rattle.schedule_compiler.specs.Jobs.{JobOf}
 use Rattle.rank_node.specs.Node.{NodeState}
 use Rattle.worlds.specs.Frames.{frame_lane}
-use Rattle.world_parts.specs.Layout.{lane_at}
-use Rattle.world_parts.proofs.Placed.{OneLane, lane_apart}
+use Rattle.worlds.specs.parts.Layout.{lane_at}
+use Rattle.worlds.proofs.parts.Placed.{OneLane, lane_apart}
 use Rattle.rank_slots.specs.declared.slot.Slot.{Slot}
 use Rattle.rank_slots.specs.declared.ports.OutPort.{OutPort}
 use Rattle.rank_slots.specs.declared.ports.InPort.{InPort}

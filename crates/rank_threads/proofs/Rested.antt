@@ -11,12 +11,12 @@ use Rattle.ni_model.specs.Ready.{is_ready}
 use Rattle.ni_model.specs.State.{State}
 use Rattle.plan_core.specs.Plan.{Plan}
 use Rattle.plan_calls.specs.Lanes.{is_used_lane}
-use Rattle.plan_view.specs.Slots.{Slots}
-use Rattle.plan_cuts.specs.Cut.{IsAtRest, owned}
-use Rattle.plan_cuts.specs.History.{Local, got, is_start, sent, state}
-use Rattle.plan_cuts.specs.Plans.{system_of}
-use Rattle.plan_cuts.specs.System.{Histories, System}
-use Rattle.plan_cuts.specs.Wave.{HasNoStray, IsWave}
+use Rattle.cuts.specs.view.Slots.{Slots}
+use Rattle.cuts.specs.histories.Cut.{IsAtRest, owned}
+use Rattle.cuts.specs.histories.History.{Local, got, is_start, sent, state}
+use Rattle.cuts.specs.histories.Plans.{system_of}
+use Rattle.cuts.specs.histories.System.{Histories, System}
+use Rattle.cuts.specs.histories.Wave.{HasNoStray, IsWave}
 use Rattle.shape_plans.specs.Drawing.{plan_of}
 use Rattle.schedule_compiler.specs.Jobs.{JobOf}
 use Rattle.turn_table.specs.States.{HandState}
@@ -31,7 +31,7 @@ use Rattle.rest_probe.specs.Answered.{Answered}
 use Rattle.rest_probe.specs.Counted.{Tells, TellsNone, counted}
 use Rattle.rest_probe.specs.Waves.{IsFor}
 use Rattle.rest_probe.proofs.Used.{used-from, used-to}
-use Rattle.world_parts.specs.Layout.{node_at}
+use Rattle.worlds.specs.parts.Layout.{node_at}
 use Rattle.worlds.specs.Standing.{IsStanding}
 use Rattle.worlds.specs.World.{AreSlots, WorldState, histories_in}
 use Rattle.rank_slots.specs.declared.slot.Slot.{Slot}

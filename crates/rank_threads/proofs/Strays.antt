@@ -5,9 +5,9 @@ use Rattle.ptl_types.specs.Messages.{Sent}
 use Rattle.ptl_types.specs.declared.headers.Lane.{Lane}
 use Rattle.plan_core.specs.Members.{In}
 use Rattle.plan_core.proofs.Lists.{count-cons}
-use Rattle.plan_cuts.specs.History.{Local, got, same_lane}
-use Rattle.plan_cuts.specs.History.Local.{Start, Receive, Fire}
-use Rattle.plan_cuts.specs.Cut.{is_received_stray, is_stray}
+use Rattle.cuts.specs.histories.History.{Local, got, same_lane}
+use Rattle.cuts.specs.histories.History.Local.{Start, Receive, Fire}
+use Rattle.cuts.specs.histories.Cut.{is_received_stray, is_stray}
 
 no-one : (b : Bool) (n : ℕ) → cond b 1 0 + n ≡ 0 → b ≡ false
 no-one true n e = absurd (omega (arith, e))

@@ -16,7 +16,7 @@ use Rattle.turn_table.specs.Views.{without_busy_slot}
 use Rattle.turn_table.specs.Hands.{LastTurn, Took, marks}
 use Rattle.turn_table.proofs.Sums.{adjusted_length}
 use Rattle.schedule_compiler.specs.Jobs.{JobOf}
-use Rattle.plan_cuts.specs.History.{Local}
+use Rattle.cuts.specs.histories.History.{Local}
 use Rattle.rank_slots.specs.declared.slot.Slot.{Slot}
 use Rattle.rank_slots.specs.Chronicles.{Entry, KeepsHandles, chronicle}
 use Rattle.rank_slots.specs.Names.{Mark, Note, history, mark, note, plate}

@@ -4,8 +4,8 @@ use mathlib.Core.Option.{some}
 use lib.ListN.{get_elem?}
 use Rattle.pair_wires.specs.declared.bounds.Bounds.{Bounds}
 use Rattle.pair_wires.specs.Lanes.{Plain}
-use Rattle.plan_cuts.specs.History.{got}
-use Rattle.plan_view.specs.Slots.{Slots}
+use Rattle.cuts.specs.histories.History.{got}
+use Rattle.cuts.specs.view.Slots.{Slots}
 use Rattle.rank_node.specs.Handles.{Agrees}
 use Rattle.shape_plans.specs.Drawing.{plan_of}
 use Rattle.turn_table.specs.Hands.{Left, parts_of}

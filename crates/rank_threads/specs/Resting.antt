@@ -2,7 +2,7 @@
 use Rattle.std.specs.Prelude.{ℕ, ◌≡◌, List}
 use mathlib.Core.Option.{some}
 use lib.ListN.{get_elem?}
-use Rattle.plan_cuts.specs.System.{Histories}
+use Rattle.cuts.specs.histories.System.{Histories}
 use Rattle.rest_probe.specs.declared.answers.WaveAnswer.TheVariants.{Rest}
 use Rattle.rest_probe.specs.declared.notes.RankNote.{RankNote}
 use Rattle.rest_probe.specs.declared.notes.ProbeNote.{ProbeNote}
@@ -16,7 +16,7 @@ use Rattle.turn_table.specs.States.{HandState}
 use Rattle.rank_slots.specs.declared.slot.Slot.{Slot}
 use Rattle.rank_threads.specs.Fabrics.{FabricState}
 use mathlib.Core.List.{IsPrefix}
-use Rattle.plan_cuts.specs.History.{Local}
+use Rattle.cuts.specs.histories.History.{Local}
 use Rattle.turn_table.specs.declared.views.EndedTurn.{EndedTurn}
 use Rattle.turn_table.specs.declared.views.SlotView.{SlotView}
 use Rattle.rank_slots.specs.Names.{history}

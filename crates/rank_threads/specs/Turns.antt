@@ -9,7 +9,7 @@ use Rattle.turn_table.specs.declared.views.SlotView.{SlotView}
 use Rattle.turn_table.specs.declared.views.EndedTurn.{EndedTurn}
 use Rattle.turn_table.specs.Views.{numbers_from, places, without_busy_slot}
 use Rattle.turn_table.specs.Hands.{LastTurn, Took}
-use Rattle.plan_cuts.specs.History.{Local}
+use Rattle.cuts.specs.histories.History.{Local}
 use Rattle.schedule_compiler.specs.Jobs.{JobOf}
 use Rattle.rank_slots.specs.declared.slot.Slot.{Slot}
 use Rattle.rank_slots.specs.Chronicles.{chronicle}

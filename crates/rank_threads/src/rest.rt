@@ -1,9 +1,9 @@
 //! How a fabric is closed that a wave of probes found at rest.
 
 ghost use Rattle.std.specs.Prelude.{ℕ, ◌≡◌, ◌<◌, ◌^◌, All};
-ghost use Rattle.plan_view.specs.Slots.{Slots};
-ghost use Rattle.plan_cuts.specs.Cut.{IsAtRest};
-ghost use Rattle.plan_cuts.specs.System.{Histories};
+ghost use Rattle.cuts.specs.view.Slots.{Slots};
+ghost use Rattle.cuts.specs.histories.Cut.{IsAtRest};
+ghost use Rattle.cuts.specs.histories.System.{Histories};
 ghost use Rattle.shape_plans.specs.Drawing.{plan_of};
 ghost use Rattle.job_laws.specs.Barriers.{AreBarriersKept};
 ghost use Rattle.rest_probe.specs.declared.answers.WaveAnswer.TheVariants.{Rest};
@@ -17,7 +17,7 @@ ghost use Rattle.rank_threads.specs.Resting.{AreFrontsOf};
 
 use crate::close::SpentWires;
 use crate::fabric::{Fabric, Hand};
-use plan_rest::one_wave;
+use cuts::rest::one_wave;
 use rank_slots::{Gate, sound};
 use rest_probe::Wave;
 use std::sync::Wait;

@@ -3,7 +3,7 @@
 ghost use Rattle.std.specs.Prelude.{◌≡◌, ◌<◌, ◌≤◌, ◌-◌, ◌^◌, length, All};
 ghost use mathlib.Core.Option.{some};
 ghost use lib.ListN.{get_elem?};
-ghost use Rattle.plan_cuts.specs.System.{Histories};
+ghost use Rattle.cuts.specs.histories.System.{Histories};
 ghost use Rattle.shape_plans.specs.Drawing.{plan_of};
 ghost use Rattle.rest_probe.specs.declared.answers.WaveAnswer.TheVariants.{Rest};
 ghost use Rattle.rest_probe.specs.Answered.{Answered};

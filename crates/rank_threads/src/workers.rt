@@ -1,7 +1,7 @@
 //! Workers that sweep all ranks until a sweep makes no step.
 
 ghost use Rattle.std.specs.Prelude.{◌≡◌, ◌≢◌, ◌<◌, ◌≤◌, ◌⊎◌, ◌^◌, ◌*◌, ◌/◌, ℕ, length, All, IsFalse};
-ghost use Rattle.plan_view.specs.Slots.{Slots};
+ghost use Rattle.cuts.specs.view.Slots.{Slots};
 ghost use Rattle.job_laws.specs.Barriers.{AreBarriersKept};
 ghost use Rattle.turn_table.specs.Hands.{IsFree, parts_of};
 ghost use Rattle.worlds.specs.Standing.{IsStanding};

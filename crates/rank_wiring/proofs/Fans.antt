@@ -11,7 +11,7 @@ use Rattle.pair_wires.specs.declared.bounds.Bounds.{Bounds}
 use Rattle.plan_core.specs.Plan.{Plan}
 use Rattle.plan_core.specs.Sound.{SoundPlan}
 use Rattle.plan_calls.specs.Lanes.{is_used_lane}
-use Rattle.world_open.proofs.Laid.{few-pairs}
+use Rattle.worlds.proofs.opening.Laid.{few-pairs}
 use Rattle.rank_wiring.specs.declared.lanes.FanOut.{FanOut}
 use Rattle.rank_slots.specs.Lists.{Each}
 use Rattle.rank_wiring.specs.Fans.{AreFans, IsFan}

@@ -7,9 +7,9 @@ use Rattle.pair_wires.specs.Bounds.{KeepsBounds, Travels}
 use Rattle.plan_core.specs.Plan.{Plan}
 use Rattle.plan_core.specs.Values.{Inputs}
 use Rattle.plan_calls.specs.Lanes.{is_used_lane}
-use Rattle.plan_view.specs.Calls.{prepare}
-use Rattle.plan_cuts.specs.History.{Local, got, sent}
-use Rattle.plan_cuts.specs.Plans.{start_of}
+use Rattle.cuts.specs.view.Calls.{prepare}
+use Rattle.cuts.specs.histories.History.{Local, got, sent}
+use Rattle.cuts.specs.histories.Plans.{start_of}
 use Rattle.shape_plans.specs.Drawing.{plan_of}
 use Rattle.schedule_compiler.specs.Jobs.{JobOf}
 use Rattle.rank_node.specs.Node.{NodeState}

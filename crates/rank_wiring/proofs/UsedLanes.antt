@@ -14,9 +14,9 @@ use Rattle.plan_core.proofs.Links.{from_to-In}
 use Rattle.plan_core.proofs.Lists.{In-filter_cases}
 use Rattle.plan_calls.specs.Lanes.{goes_along, is_used_lane, lane_links, lane_messages}
 use Rattle.plan_calls.specs.Works.{is_message}
-use Rattle.plan_worlds.specs.Places.{lane_place}
-use Rattle.world_parts.proofs.Placed.{lane_apart, lane_in}
-use Rattle.world_open.proofs.Rooms.{few-on_lane}
+use Rattle.cuts.specs.windows.Places.{lane_place}
+use Rattle.worlds.proofs.parts.Placed.{lane_apart, lane_in}
+use Rattle.worlds.proofs.opening.Rooms.{few-on_lane}
 use Rattle.rank_slots.specs.Lists.{Each}
 use Rattle.rank_slots.specs.Lanes.{AreLanes, HasLane, IsLane, bounds_if_used, bounds_on}
 use Rattle.rank_slots.proofs.Gates.{both-true}

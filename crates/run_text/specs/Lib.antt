@@ -6,3 +6,4 @@ pub mod Putting
 pub mod Refused
 pub mod Summary
 pub mod Worded
+pub mod read_orders

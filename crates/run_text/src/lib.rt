@@ -1,6 +1,7 @@
 //! Texts, line by line, in pieces of a fixed size, to any sink.
 #![tactic(auto)]
 
+pub mod read_orders;
 mod lines;
 mod orders;
 mod pieces;

@@ -11,7 +11,7 @@ use crate::pieces::Pieces;
 use crate::results::ResultLists;
 use crate::words::{Word, put_line};
 use coll_shape::Shape;
-use element_bytes::read_pattern;
+use lane_ops::elements::read_pattern;
 use port_io::{Failed, Sink};
 use ptl_types::ElemType;
 

@@ -9,7 +9,7 @@ ghost use Rattle.run_text.specs.Putting.{Puts};
 
 use crate::pieces::Pieces;
 use coll_text::printed_value;
-use element_bytes::read_pattern;
+use lane_ops::elements::read_pattern;
 use itoa::write_digits;
 use port_io::{Failed, Sink};
 use ptl_types::ElemType;

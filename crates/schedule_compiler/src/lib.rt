@@ -2,6 +2,7 @@
 //! it in a job, and into the ranks' memory by `load`.
 #![tactic(auto)]
 
+pub mod done;
 mod compiling;
 mod job;
 mod loading;

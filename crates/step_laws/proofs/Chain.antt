@@ -17,8 +17,8 @@ use Rattle.plan_steps.proofs.Drawn.{Drawn, Extends, comes-extends, drawn_all, ea
 use Rattle.plan_steps.proofs.Entries.{get_or-each}
 use Rattle.plan_steps.proofs.Grow.{get_or-map}
 use Rattle.plan_steps.specs.Sounding.{EachAt, WellBuilt, with_cells}
-use Rattle.plan_machine.specs.Machine.{Leads}
-use Rattle.plan_machine.specs.Machine.Leads.{along, here}
+use Rattle.cuts.specs.machine.Machine.{Leads}
+use Rattle.cuts.specs.machine.Machine.Leads.{along, here}
 use Rattle.plan_steps.specs.Site.{exit_at}
 use Rattle.shape_plans.proofs.Begin.{begun, fine-begun}
 use Rattle.shape_plans.proofs.Kept.{exit_now, fine_after}

@@ -22,8 +22,8 @@ use Rattle.plan_steps.proofs.barrier.Laws.{round-at}
 use Rattle.plan_steps.proofs.scan.Laws.{scan-at}
 use Rattle.plan_steps.proofs.Trees.{turned-back, unturned-lt, up-at}
 use Rattle.plan_steps.specs.Sounding.{EachAt}
-use Rattle.plan_machine.specs.Machine.{Leads}
-use Rattle.plan_machine.specs.Machine.Leads.{along, here}
+use Rattle.cuts.specs.machine.Machine.{Leads}
+use Rattle.cuts.specs.machine.Machine.Leads.{along, here}
 use Rattle.plan_steps.specs.Allgather.{collect_link, collected, ring_cell, ring_node}
 use Rattle.plan_steps.specs.Alltoall.{exchange_link, exchanged}
 use Rattle.plan_steps.specs.Gather.{gather_link, gathered}

@@ -2,7 +2,7 @@
 #![tactic(auto)]
 
 ghost use Rattle.std.specs.Prelude.{ℕ, ◌<◌, ◌≡◌, length};
-ghost use Rattle.plan_machine.specs.Machine.{Leads};
+ghost use Rattle.cuts.specs.machine.Machine.{Leads};
 ghost use Rattle.coll_shape.specs.Outline.{Outline};
 ghost use Rattle.coll_shape.specs.WellFormed.{IsWellFormed};
 ghost use Rattle.shape_plans.specs.Drawing.{plan_of};

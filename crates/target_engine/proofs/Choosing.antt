@@ -15,7 +15,7 @@ use Rattle.target_engine.specs.declared.entry_records.EntryRecord.{EntryRecord}
 use Rattle.target_engine.specs.PortalTable.{entries_by, index_by, linked_in, AreRecorded}
 use Rattle.target_engine.proofs.Counting.{is_handle, named-none}
 use Rattle.target_engine.proofs.Recorded.{is_linked-some, few-here}
-use Rattle.user_counts.proofs.SumLemmas.{same-self}
+use Rattle.ni_objects.proofs.users.SumLemmas.{same-self}
 use Rattle.target_engine.proofs.Within.{find-linked, cases_has}
 
 other-one : (b : Bool) (n : ℕ) → (if b then 1 else 0) + n ≤ 1 → 0 < n → b ≡ false

@@ -20,10 +20,10 @@ use Rattle.ni_model.specs.Append.{linked_at}
 use Rattle.ni_model.specs.Calls.{new_index, unlinked_in}
 use Rattle.ni_model.specs.Headers.{UnexpectedList, unexpected_list, is_of, headers_of}
 use Rattle.ni_model.specs.Refusals.{entry_names_ct, index_names_ct, index_names_eq}
-use Rattle.user_counts.specs.Rows.{count_at, one_if_slot, one_at, incremented, more, fewer, Counts, IsAlone}
-use Rattle.user_counts.specs.Sums.{sum_of, named_as}
-use Rattle.user_counts.proofs.RowLemmas.{counts-none, counts-same, counts-incremented, counts-decremented, counts-more, counts-fewer, counts-few, add-room, one-few, names-step}
-use Rattle.user_counts.proofs.SumLemmas.{one_if, sum-split, sum-push, sum-few}
+use Rattle.ni_objects.specs.users.Rows.{count_at, one_if_slot, one_at, incremented, more, fewer, Counts, IsAlone}
+use Rattle.ni_objects.specs.users.Sums.{sum_of, named_as}
+use Rattle.ni_objects.proofs.users.RowLemmas.{counts-none, counts-same, counts-incremented, counts-decremented, counts-more, counts-fewer, counts-few, add-room, one-few, names-step}
+use Rattle.ni_objects.proofs.users.SumLemmas.{one_if, sum-split, sum-push, sum-few}
 use Rattle.target_engine.specs.declared.index.Index.{Index as PortalEntry}
 use Rattle.target_engine.specs.declared.entry_records.EntryRecord.{EntryRecord}
 use Rattle.target_engine.specs.declared.entry_records.Records.{Records}

@@ -18,8 +18,8 @@ use Rattle.ni_model.specs.Arrive.{is_over, running_after, entries_after, settled
 use Rattle.ni_model.specs.Refusals.{is_linked_anywhere}
 use Rattle.ni_model.specs.Append.{fresh, linked_at}
 use Rattle.ni_model.specs.Calls.{slot_in, entry_slot, unlinked_in}
-use Rattle.user_counts.specs.Sums.{sum_of}
-use Rattle.user_counts.proofs.SumLemmas.{one_if, same-self, number_at, sum-split, but-zero, but-same, sum-push, once-new}
+use Rattle.ni_objects.specs.users.Sums.{sum_of}
+use Rattle.ni_objects.proofs.users.SumLemmas.{one_if, same-self, number_at, sum-split, but-zero, but-same, sum-push, once-new}
 use Rattle.target_engine.specs.declared.entry_records.EntryRecord.{EntryRecord}
 use Rattle.target_engine.specs.PortalTable.{entries_by, index_by, linked_by, headers_by, lies_in, linked_as, headers_as, idle_as, is_idle, is_on, where_on, headers_in, frees_at, one_more, one_fewer, not_linked, recorded_anew, changed_by, recorded_by, unlinked_after, linked_after, advanced_in, settled_in, AreRecorded}
 use Rattle.target_engine.proofs.Counting.{any_handle, is_handle, is_slot, but, elsewhere, is_linked_anywhere-count, entry_slot-count, linked-all, linked-unlinked, entries-push, entries-advanced, linked-set, linked-same, linked-split, unlinked-none, advanced-none, map-at}

@@ -2,8 +2,8 @@
 use Rattle.std.proofs.Common.{◌≡◌, ℕ, ◌+◌, ◌≤◌, true, false, Option, Some, None, if◌then◌else◌, refl, arith}
 use Rattle.ptl_types.specs.declared.handles.Handle.{Handle}
 use Rattle.ni_model.specs.Tables.{Table, lookup, changed, without}
-use Rattle.user_counts.specs.Sums.{sum_of, named_as}
-use Rattle.user_counts.proofs.SumLemmas.{but_of, but-le, sum-without, named-changed, sum-changed}
+use Rattle.ni_objects.specs.users.Sums.{sum_of, named_as}
+use Rattle.ni_objects.proofs.users.SumLemmas.{but_of, but-le, sum-without, named-changed, sum-changed}
 use Rattle.target_engine.specs.declared.entry_records.EntryRecord.{EntryRecord}
 use Rattle.target_engine.specs.PortalTable.{idle_as, is_idle, recorded_anew, changed_by, recorded_by}
 

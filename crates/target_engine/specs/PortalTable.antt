@@ -14,8 +14,8 @@ use Rattle.ni_model.specs.Arrive.{or_else, is_over, running_after}
 use Rattle.ni_model.specs.Headers.{UnexpectedList, is_of}
 use Rattle.ni_model.specs.Lists.{Index, index_at, queue_of, entries_in, is_linked_at, advanced}
 use Rattle.ni_model.specs.Calls.{unlinked_in}
-use Rattle.user_counts.specs.Rows.{one_at, incremented, decremented, more, fewer, Counts}
-use Rattle.user_counts.specs.Sums.{sum_of, named_as}
+use Rattle.ni_objects.specs.users.Rows.{one_at, incremented, decremented, more, fewer, Counts}
+use Rattle.ni_objects.specs.users.Sums.{sum_of, named_as}
 use Rattle.target_engine.specs.declared.index.Index.{Index as PortalEntry}
 use Rattle.target_engine.specs.declared.entry_records.EntryRecord.{EntryRecord}
 use Rattle.target_engine.specs.declared.entry_records.Records.{Records}

@@ -12,7 +12,7 @@ use Rattle.ni_model.specs.Headers.{UnexpectedList}
 use Rattle.ni_model.specs.Arrive.{Side, Parts}
 use Rattle.ni_model.specs.Append.{Appends, Searched, append}
 use Rattle.ni_model.specs.Calls.{entry_slot}
-use Rattle.user_counts.specs.Rows.{IsAlone}
+use Rattle.ni_objects.specs.users.Rows.{IsAlone}
 
 -- a target: its rank, how many entries may be linked, its indices, the stamps given to entries, its headers
 abbrev pub side : ℕ → ℕ → List (Option Index) → ℕ → UnexpectedList → Side

@@ -16,11 +16,11 @@ use crate::events::entry_event;
 use crate::index::{link_at, queue_at};
 use crate::takes::{overflow_counter, take_found, take_header};
 use crate::target::Target;
-use counters::Counter;
-use event_delivery::raise;
-use event_queues::Queue;
-use handle_store::{Store, is_live_or_none};
-use memory_desc::Region;
+use ni_objects::counters::Counter;
+use ni_objects::delivery::raise;
+use ni_objects::queues::Queue;
+use ni_objects::handles::{Store, is_live_or_none};
+use ni_objects::descriptors::Region;
 use ptl_types::{Appended, Entry, EventKind, Handle, List as Place, NiFault};
 
 impl Target {

@@ -17,9 +17,9 @@ use crate::events::entry_event;
 use crate::gone::{frees, header_event, raise_gone};
 use crate::index::{Index, allocate_at, free_at, portal_entry_at, queue_at};
 use crate::target::Target;
-use event_delivery::raise;
-use event_queues::Queue;
-use handle_store::{Store, is_live_or_none};
+use ni_objects::delivery::raise;
+use ni_objects::queues::Queue;
+use ni_objects::handles::{Store, is_live_or_none};
 use ptl_types::{Entry, Event, EventKind, Handle, NiFault, UnexpectedHeader};
 
 /// Whether the index is within the limit and allocated.

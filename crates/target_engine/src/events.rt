@@ -5,9 +5,9 @@ ghost use Rattle.ni_model.specs.Events.{kind_delivered, message_event, entry_eve
 ghost use Rattle.ni_model.specs.Arrive.{delivery_raised, events_after};
 
 use crate::measures::{delivered, is_over, place};
-use event_delivery::raise;
-use event_queues::Queue;
-use handle_store::Store;
+use ni_objects::delivery::raise;
+use ni_objects::queues::Queue;
+use ni_objects::handles::Store;
 use ni_model::Found;
 use ptl_types::{Event, EventKind, Handle, Header, List, MessageKind};
 

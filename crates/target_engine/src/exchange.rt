@@ -13,7 +13,7 @@ use crate::measures::{delivered, is_put_or_atomic, place};
 use crate::spent::Spent;
 use crate::swap::swap_element;
 use lane_ops::combine;
-use memory_desc::Region;
+use ni_objects::descriptors::Region;
 use ni_model::Linked;
 use ptl_types::{Bytes, Header, Message, MessageKind};
 

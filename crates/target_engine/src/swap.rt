@@ -4,7 +4,7 @@ ghost use Rattle.std.specs.Prelude.{◌≡◌, ◌+◌, ◌/◌, ◌%◌, ◌<�
 ghost use Rattle.ptl_types.specs.Elements.{by_element};
 ghost use Rattle.ptl_types.specs.Operations.{bytes_of, span, swapped};
 
-use element_bytes::{read_pattern, write_pattern};
+use lane_ops::elements::{read_pattern, write_pattern};
 use ptl_types::{ElemType, SwapOp};
 
 /// The greatest bit pattern of the type.

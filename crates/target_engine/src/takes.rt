@@ -11,13 +11,13 @@ ghost use Rattle.target_engine.specs.Sides.{side};
 use crate::entry_records::Records;
 use crate::gone::{frees, kind_taken, raise_gone};
 use crate::index::Index;
-use counters::Counter;
-use event_delivery::{count, successes};
-use event_queues::Queue;
-use handle_store::{Store, where_set};
+use ni_objects::counters::Counter;
+use ni_objects::delivery::{count, successes};
+use ni_objects::queues::Queue;
+use ni_objects::handles::{Store, where_set};
 use ni_model::IndexedHeader;
 use ptl_types::{Entry, Handle};
-use unexpected::{Headers, finds};
+use match_lists::unexpected::{Headers, finds};
 
 /// The counting event of an entry that counts the headers that it takes.
 pub fn overflow_counter(entry: &Entry) -> Option<Handle>

@@ -6,9 +6,9 @@ ghost use Rattle.ni_model.specs.Headers.{unexpected_list};
 ghost use Rattle.ni_model.specs.Arrive.{parts, received, request, accepted, counts_after, headers_after, indices_after, is_overflow, outcome_in};
 ghost use Rattle.ni_model.specs.Conditions.{IsPartIn, HasPartsIn, HasRoom};
 ghost use Rattle.ni_model.specs.Lists.{index_at, is_linked_at};
-ghost use Rattle.unexpected.specs.Places.{header_at};
+ghost use Rattle.match_lists.specs.unexpected.Places.{header_at};
 ghost use Rattle.ni_model.specs.Tables.{lookup};
-ghost use Rattle.user_counts.specs.Rows.{count_at};
+ghost use Rattle.ni_objects.specs.users.Rows.{count_at};
 ghost use Rattle.target_engine.specs.PortalTable.{headers_in, all_with_header, linked_in, IsUnused};
 ghost use Rattle.target_engine.specs.Sides.{side};
 
@@ -19,17 +19,17 @@ use crate::exchange::exchange;
 use crate::index::{Index, chosen_in, queue_at, settle_at};
 use crate::measures::{delivered, place};
 use crate::spent::Spent;
-use counters::Counter;
-use event_delivery::{count, successes};
-use event_queues::Queue;
-use handle_store::{Store, where_set};
-use memory_desc::Region;
+use ni_objects::counters::Counter;
+use ni_objects::delivery::{count, successes};
+use ni_objects::queues::Queue;
+use ni_objects::handles::{Store, where_set};
+use ni_objects::descriptors::Region;
 use ni_model::{Arrived, Found, IndexedHeader, Linked};
 use ptl_types::{Header, Limits, List, Message, NoMemory, Outcome, Rank, UnexpectedHeader};
 use std::alloc::Global;
 use std::marker::Model;
-use unexpected::{Headers, allows};
-use user_counts::Users;
+use match_lists::unexpected::{Headers, allows};
+use ni_objects::users::Users;
 
 /// One success on the entry's counting event, where it counts communication.
 fn count_message(cts: &mut Store<Counter>, linked: &Linked)

@@ -4,14 +4,14 @@ ghost use Rattle.std.specs.Prelude.{◌≡◌, None, Some, All, IfErr, OnErr, On
 ghost use Rattle.ni_model.specs.Calls.{unlinked_in};
 ghost use Rattle.ni_model.specs.Refusals.{unlink_fault, index_names_ct, index_names_eq};
 ghost use Rattle.ni_model.specs.Lists.{queue_of};
-ghost use Rattle.user_counts.specs.Rows.{IsAlone};
+ghost use Rattle.ni_objects.specs.users.Rows.{IsAlone};
 ghost use Rattle.target_engine.specs.PortalTable.{seen_in};
 ghost use Rattle.target_engine.specs.Sides.{EntriesAlone};
 
 use crate::entry_records::{linked_record, unlink_record};
 use crate::index::{Index, unlink_at};
 use crate::target::Target;
-use handle_store::names;
+use ni_objects::handles::names;
 use ptl_types::{Handle, NiFault};
 
 /// Whether an entry of some index names the counting event.

@@ -1,9 +1,9 @@
 -- What notes show stands where they say.
 use Rattle.std.proofs.Common.{◌≡◌, ℕ, ◌+◌, ◌-◌, ◌≤◌, List, [], length, refl, ap, ◌∙◌, arith}
 use Rattle.std.specs.List.{slice_range}
-use Rattle.note_lines.specs.declared.note.About.{About}
-use Rattle.note_lines.specs.Notes.{cut_word}
-use Rattle.note_lines.specs.Shown.{then_shown}
+use Rattle.text_notes.specs.declared.notes.note.About.{About}
+use Rattle.text_notes.specs.notes.Notes.{cut_word}
+use Rattle.text_notes.specs.notes.Shown.{then_shown}
 use Rattle.text_notes.specs.Places.{Stands}
 
 -- without a column nothing is shown

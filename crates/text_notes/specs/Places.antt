@@ -3,11 +3,11 @@ use Rattle.std.specs.Prelude.{ℕ, ◌≡◌, ◌≤◌, ◌+◌, ◌-◌, List,
 use Rattle.std.specs.List.{slice_range}
 use Rattle.coll_text.specs.Text.{lines}
 use Rattle.coll_lang.specs.declared.fault.Refusal.{Refusal}
-use Rattle.note_lines.specs.declared.note.About.{About}
-use Rattle.note_lines.specs.declared.note.About.TheVariants.{Refused, Fails}
-use Rattle.note_lines.specs.declared.note.Note.{Note}
-use Rattle.note_lines.specs.Causes.{name_of}
-use Rattle.note_lines.specs.Notes.{cut_word}
+use Rattle.text_notes.specs.declared.notes.note.About.{About}
+use Rattle.text_notes.specs.declared.notes.note.About.TheVariants.{Refused, Fails}
+use Rattle.text_notes.specs.declared.notes.note.Note.{Note}
+use Rattle.text_notes.specs.notes.Causes.{name_of}
+use Rattle.text_notes.specs.notes.Notes.{cut_word}
 
 -- line k of a text, counted from 1
 abbrev pub line_at : List ℕ → ℕ → List ℕ

@@ -1,9 +1,9 @@
 //! Notes of refused texts.
 
 ghost use Rattle.std.specs.Prelude.{◌≡◌, ◌≤◌, List, ℕ, [], length};
-ghost use Rattle.note_lines.specs.Causes.{name_of};
+ghost use Rattle.text_notes.specs.notes.Causes.{name_of};
 ghost use Rattle.coll_lang.specs.declared.fault.Refusal.TheVariants as names;
-ghost use Rattle.note_lines.specs.declared.note.About.{About};
+ghost use Rattle.text_notes.specs.declared.notes.note.About.{About};
 ghost use Rattle.text_notes.specs.Places.{IsNamed, Stands, line_at};
 
 use crate::flaws::{
@@ -18,7 +18,7 @@ use crate::standing::{Standing, standing_at};
 use coll_lang::{LONGEST_TEXT, Refusal};
 use coll_shape::Version;
 use coll_text::cut;
-use note_lines::{About, Cause, FormFlaw, Note, Printable, cut_word};
+use crate::notes::{About, Cause, FormFlaw, Note, Printable, cut_word};
 use order_lines::LONGEST_CHECK;
 use ptl_types::{Cause as Failure, Rank};
 

@@ -7,7 +7,7 @@ use crate::standing::{Due, Standing};
 use crate::steps::need_of;
 use coll_shape::{MOST_RANKS, MOST_RANKS_IN_ONE, MOST_STEPS, Version};
 use coll_text::{Words, is, number_between, value_of};
-use note_lines::{Excess, GroupFlaw, Limit, Need, NumberFlaw};
+use crate::notes::{Excess, GroupFlaw, Limit, Need, NumberFlaw};
 use ptl_types::ElemType;
 
 /// The first word that isn't that of line 1.

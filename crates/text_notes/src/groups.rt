@@ -2,7 +2,7 @@
 
 use crate::places::word;
 use coll_text::{Number, Words, cut, is, number_at};
-use note_lines::GroupFlaw;
+use crate::notes::GroupFlaw;
 
 /// The first word after a group's name that is no number.
 pub(crate) fn strange_member(line: &[u8]) -> usize {

@@ -4,7 +4,7 @@ use crate::places::word;
 use coll_lang::{op_word, type_word};
 use coll_shape::StepKind;
 use coll_text::is;
-use note_lines::{OPERATIONS, TYPES};
+use crate::notes::{OPERATIONS, TYPES};
 use ptl_types::ElemType;
 
 /// What a line after the first two begins with.

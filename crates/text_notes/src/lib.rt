@@ -2,6 +2,7 @@
 //! expected there. The lines before a refused one are valid, so that they tell which kind of line is due. It takes no memory.
 #![tactic(auto)]
 
+pub mod notes;
 mod explain;
 mod flaws;
 mod groups;

@@ -6,7 +6,7 @@ use crate::standing::{Due, Standing};
 use crate::steps::{on_flaw, step_flaw};
 use coll_shape::Version;
 use coll_text::{Words, is, is_name};
-use note_lines::LineFlaw;
+use crate::notes::LineFlaw;
 
 /// One word too many, or something else where there is none.
 pub(crate) fn extra_word(line: &[u8], number: usize) -> (usize, LineFlaw) {

@@ -2,7 +2,7 @@
 
 use crate::places::word;
 use coll_text::{Words, cut, is, number_between};
-use note_lines::OrderFlaw;
+use crate::notes::OrderFlaw;
 use ptl_types::Rank;
 
 /// Whether the word is a local step of one of so many ranks.

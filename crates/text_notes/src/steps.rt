@@ -5,7 +5,7 @@ use crate::lines::extra_word;
 use crate::places::word;
 use coll_shape::StepKind;
 use coll_text::is_name;
-use note_lines::{LineFlaw, Need};
+use crate::notes::{LineFlaw, Need};
 
 /// Of the names of a step, the first of which is this word.
 fn names_flaw(line: &[u8], number: usize, kind: StepKind) -> (usize, LineFlaw) {

@@ -2,7 +2,7 @@
 
 use crate::{explain_fails, explain_text};
 use coll_lang::{ParseFault, parse};
-use note_lines::note_text;
+use crate::notes::note_text;
 use order_lines::parse_check;
 use ptl_types::Cause;
 use std::alloc::Global;

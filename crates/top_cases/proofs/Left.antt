@@ -2,12 +2,12 @@
 use Rattle.std.proofs.Common.{ℕ, ◌≡◌, ◌<◌, List, [], ◌∷◌, ◌++◌, Some, None, Err, refl, ap, arith, sym, ◌∙◌, count_by, length, get_or, codes}
 use Rattle.std.specs.Fmt.{digits}
 use Rattle.ptl_types.specs.declared.steps.Cause.TheVariants.{NotReady}
-use Rattle.plan_view.specs.Slots.{Slots}
-use Rattle.plan_cuts.specs.History.{is_start}
-use Rattle.plan_cuts.specs.Plans.{system_of}
-use Rattle.plan_cuts.specs.System.{state_at}
-use Rattle.plan_orders.specs.declared.Step.TheVariants.{Start}
-use Rattle.plan_orders.specs.declared.Verdict.TheVariants.{Fails, Holds}
+use Rattle.cuts.specs.view.Slots.{Slots}
+use Rattle.cuts.specs.histories.History.{is_start}
+use Rattle.cuts.specs.histories.Plans.{system_of}
+use Rattle.cuts.specs.histories.System.{state_at}
+use Rattle.cuts.specs.declared.orders.Step.TheVariants.{Start}
+use Rattle.cuts.specs.declared.orders.Verdict.TheVariants.{Fails, Holds}
 use Rattle.coll_shape.specs.Folding.{at}
 use Rattle.coll_shape.specs.Meaning.{Lists, lists_of, meaning_of}
 use Rattle.coll_shape.specs.Outline.{Outline}

@@ -4,10 +4,10 @@ use Rattle.std.specs.Prelude.{option_map, slice_get}
 use Rattle.std.proofs.lemmas.Bool.{ne_eqb}
 use Rattle.std.proofs.lemmas.Bool.Decides.{eqb_tells}
 use Rattle.std.proofs.lemmas.List.{append_assoc, append-nil, length-replicate, get_or-set_same}
-use Rattle.place_threads.proofs.ThreadLemmas.{on_one}
+use Rattle.chain_list.proofs.threads.ThreadLemmas.{on_one}
 use Rattle.ptl_types.specs.declared.handles.Handle.{Handle}
 use Rattle.ptl_types.specs.Handles.{same_handle}
-use Rattle.place_threads.specs.Threads.{Woven, woven, thread, is_on, is_threaded, first_place, without_place, with_place, placed_after, with_place_after}
+use Rattle.chain_list.specs.threads.Threads.{Woven, woven, thread, is_on, is_threaded, first_place, without_place, with_place, placed_after, with_place_after}
 use Rattle.triggered_ops.specs.declared.spots.Wait.{Wait}
 use Rattle.triggered_ops.specs.Hung.{is_stamp, belongs, home, is_home, threshold_of, Ascending, IsHung, IsGap}
 use Rattle.triggered_ops.proofs.Hanging.{on-either, on-here, on-one, first-none, asc-same, asc-above, asc-below, handle-same, belongs-same, home-due, home-waiting, home-stray, home-within, hung-home, home-hung, unhung, rehung, hung-same, put-middle}

@@ -6,8 +6,8 @@ use Rattle.std.proofs.lemmas.Bool.Decides.{eqb_tells}
 use Rattle.std.proofs.lemmas.List.{append_assoc, get_or-set_same, get_or-set_other, length-map, append-nil}
 use Rattle.ptl_types.specs.declared.handles.Handle.{Handle}
 use Rattle.ptl_types.specs.Handles.{same_handle}
-use Rattle.place_threads.specs.Threads.{Woven, thread, is_on, first_place, place_after, last_after, last_place, without, without_place, placed_after, AreApart}
-use Rattle.place_threads.proofs.ThreadLemmas.{get-map}
+use Rattle.chain_list.specs.threads.Threads.{Woven, thread, is_on, first_place, place_after, last_after, last_place, without, without_place, placed_after, AreApart}
+use Rattle.chain_list.proofs.threads.ThreadLemmas.{get-map}
 use Rattle.triggered_ops.specs.declared.spots.Wait.{Wait}
 use Rattle.triggered_ops.specs.Hung.{is_stamp, belongs, home, is_home, threshold_of, Ascending, IsHung, rest_after, next_in, IsGap}
 

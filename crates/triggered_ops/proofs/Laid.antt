@@ -7,7 +7,7 @@ use Rattle.std.proofs.lemmas.Bool.{eq-eqb, ne_eqb}
 use Rattle.std.proofs.lemmas.Bool.Decides.{eqb_tells}
 use Rattle.ptl_types.specs.declared.handles.Handle.{Handle}
 use Rattle.std.proofs.lemmas.List.Quantifiers.{all_pairs_push}
-use Rattle.place_threads.specs.Threads.{Woven, woven}
+use Rattle.chain_list.specs.threads.Threads.{Woven, woven}
 use Rattle.triggered_ops.specs.declared.spots.Spot.{Spot}
 use Rattle.triggered_ops.specs.Operations.{Operation, Operations, IsKept, operation_at, is_number, is_due, is_due_op, waits_on, told_if}
 use Rattle.triggered_ops.specs.Hung.{WaitsOn, IsHung, IsLaid, IsSame, IsThinner}

@@ -6,8 +6,8 @@ use Rattle.std.proofs.lemmas.Bool.Decides.{eqb_tells}
 use Rattle.std.proofs.lemmas.List.{append_assoc, append-nil}
 use Rattle.ptl_types.specs.declared.handles.Handle.{Handle}
 use Rattle.ptl_types.specs.Handles.{same_handle}
-use Rattle.place_threads.specs.Threads.{Woven, thread, is_on, is_threaded, first_place, last_place, without, without_place, with_place, with_place_after}
-use Rattle.place_threads.proofs.ThreadLemmas.{on_one, off_all}
+use Rattle.chain_list.specs.threads.Threads.{Woven, thread, is_on, is_threaded, first_place, last_place, without, without_place, with_place, with_place_after}
+use Rattle.chain_list.proofs.threads.ThreadLemmas.{on_one, off_all}
 use Rattle.triggered_ops.specs.declared.spots.Wait.{Wait}
 use Rattle.triggered_ops.specs.Hung.{belongs, home, threshold_of, Ascending, IsHung, WaitsOn}
 use Rattle.triggered_ops.proofs.Hanging.{on-either, on-here, on-one, left-on, first-cons, first-none, last-snoc, last-none, asc-left, asc-right, asc-above, asc-below, thread-without, handle-same, belongs-within, belongs-same, home-due, home-waiting, home-within, hung-home, home-hung, none-on, unhung, rehung, hung-same}

@@ -7,7 +7,7 @@ use Rattle.std.proofs.lemmas.Bool.Decides.{eqb_tells}
 use Rattle.std.proofs.lemmas.List.{map-set, map-append, append-nil, append_assoc, replicate-append-replicate, get_or-set_other}
 use Rattle.std.proofs.lemmas.List.Elements.{All-head, All-tail, All-cons}
 use Rattle.std.proofs.lemmas.List.Kept.{AllPairs-cons}
-use Rattle.place_threads.specs.Threads.{Woven}
+use Rattle.chain_list.specs.threads.Threads.{Woven}
 use Rattle.triggered_ops.specs.declared.spots.Spot.{Spot}
 use Rattle.triggered_ops.specs.Operations.{Operation}
 use Rattle.triggered_ops.specs.Hung.{IsHung, IsPacking, IsThinner}

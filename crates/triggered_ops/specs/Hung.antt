@@ -3,7 +3,7 @@ use Rattle.std.specs.Prelude.{◌≡◌, ℕ, ⊤, Bool, true, false, nat_eq, �
 use Rattle.std.specs.Prelude.{Option, Some, None, IsSome, IfSome, if◌then◌else◌, slice_get}
 use Rattle.ptl_types.specs.declared.handles.Handle.{Handle}
 use Rattle.ptl_types.specs.Handles.{same_handle}
-use Rattle.place_threads.specs.Threads.{Woven, thread, is_on, first_place, place_after, placed_after}
+use Rattle.chain_list.specs.threads.Threads.{Woven, thread, is_on, first_place, place_after, placed_after}
 use Rattle.triggered_ops.specs.declared.spots.Wait.{Wait}
 use Rattle.triggered_ops.specs.Operations.{told_if, waits_on}
 use Rattle.triggered_ops.specs.Layout.{Spotted, numbers_of, operations_in, wait_at}

@@ -2,3 +2,4 @@ pub mod Codes
 pub mod Hung
 pub mod Layout
 pub mod Operations
+pub mod marks

@@ -6,13 +6,14 @@ ghost use Rattle.std.specs.Prelude.{[], All, length, slice_get, option_map};
 ghost use Rattle.triggered_ops.specs.Operations.{no_operations, is_full, operation_at, is_ready, due_numbers, shown, numbered, deed_of};
 ghost use Rattle.triggered_ops.specs.Operations.{with_posted, told, without_number, waits_on, waiting_on, cancelled, IsKept};
 
+pub mod marks;
 mod lists;
 mod parts;
 mod spots;
 mod told;
 
 use crate::spots::{Spots, Wait, place_at, waiting_from};
-use place_threads::Threads;
+use chain_list::threads::Threads;
 use ptl_types::{Handle, NoMemory};
 use std::alloc::Global;
 use std::marker::Model;

@@ -3,14 +3,14 @@
 //! has those whose counting event has no lists of its own: its slot is out of range, or has the lists of another stamp.
 
 ghost use Rattle.std.specs.Prelude.{◌≡◌, ℕ, ◌<◌, ◌≤◌, ◌+◌, ◌*◌, ◌^◌, true, false, Some, None, IfSome, IfNone, length, if◌then◌else◌};
-ghost use Rattle.place_threads.specs.Threads.{thread as thread_at, first_place, last_place};
+ghost use Rattle.chain_list.specs.threads.Threads.{thread as thread_at, first_place, last_place};
 ghost use Rattle.ptl_types.specs.Handles.{same_handle};
 ghost use Rattle.triggered_ops.specs.declared.spots.Wait.{Wait};
 ghost use Rattle.triggered_ops.specs.Layout.{spotted, settled, wait_at};
 ghost use Rattle.triggered_ops.specs.Hung.{belongs, home, threshold_of, IsHung, WaitsOn, EachOn};
 
 use crate::spots::Spots;
-use place_threads::Threads;
+use chain_list::threads::Threads;
 use ptl_types::Handle;
 
 /// Whether the lists of its slot are this counting event's.

@@ -3,7 +3,7 @@
 ghost use Rattle.std.specs.Prelude.{◌≡◌, ℕ, ◌<◌, ◌≤◌, ◌==◌, ◌+◌, ◌*◌, ◌^◌, true, false, not, nat_eq, if◌then◌else◌};
 ghost use Rattle.std.specs.Prelude.{Some, None, IsSome, IfSome, IfNone, option_map, List, ◌++◌, ◌∷◌, [], length, filter};
 ghost use Rattle.std.specs.List.{swap};
-ghost use Rattle.place_threads.specs.Threads.{thread as thread_at, is_on, is_threaded, AreApart};
+ghost use Rattle.chain_list.specs.threads.Threads.{thread as thread_at, is_on, is_threaded, AreApart};
 ghost use Rattle.ptl_types.specs.Handles.{same_handle};
 ghost use Rattle.triggered_ops.specs.declared.spots.Wait.{Wait};
 ghost use Rattle.triggered_ops.specs.Operations.{deed_of, waits_on};
@@ -13,7 +13,7 @@ ghost use Rattle.triggered_ops.specs.Hung.{IsThinner, WaitsOn, IsLow, IsHigh};
 
 use crate::lists::{belongs, home, waits_on};
 use crate::spots::{Spots, Wait};
-use place_threads::Threads;
+use chain_list::threads::Threads;
 use ptl_types::Handle;
 
 /// Takes an operation off its list and out of its place.

@@ -8,7 +8,7 @@ ghost use Rattle.triggered_ops.specs.Hung.{threshold_of};
 ghost use Rattle.triggered_ops.specs.Layout.{spotted, no_spots, numbers_of, operations_in, op_at, op_of, wait_of, wait_at, settled, emptied};
 ghost use Rattle.triggered_ops.specs.Layout.{spot_for, AreGone, StandsAt, AreBelow, AreFrom};
 
-use place_marks::Marks;
+use crate::marks::Marks;
 use ptl_types::{Handle, NoMemory};
 use std::alloc::Global;
 use std::marker::Model;

@@ -2,7 +2,7 @@
 //! thresholds: so the first of those that aren't due and the last of those that are decide.
 
 ghost use Rattle.std.specs.Prelude.{◌≡◌, ℕ, ◌<◌, ◌≤◌, ◌+◌, ◌*◌, ◌^◌, true, false, map, nat_le, Some, length};
-ghost use Rattle.place_threads.specs.Threads.{thread as thread_at};
+ghost use Rattle.chain_list.specs.threads.Threads.{thread as thread_at};
 ghost use Rattle.ptl_types.specs.Handles.{same_handle};
 ghost use Rattle.triggered_ops.specs.declared.spots.Wait.{Wait};
 ghost use Rattle.triggered_ops.specs.Operations.{told_if, waits_on};
@@ -11,7 +11,7 @@ ghost use Rattle.triggered_ops.specs.Hung.{belongs, IsHung, IsSame, EachOn, AreT
 
 use crate::lists::{belongs, make_due, make_undue, next_due, next_undue, waits_on};
 use crate::spots::Spots;
-use place_threads::Threads;
+use chain_list::threads::Threads;
 use ptl_types::Handle;
 
 /// Those with a threshold up to the sum are due.

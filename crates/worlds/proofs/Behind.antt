@@ -3,17 +3,17 @@ use Rattle.std.proofs.Common.{ℕ, ◌-◌, ◌≡◌, List, refl, sym, subst}
 use Rattle.ptl_types.specs.Messages.{Sent}
 use Rattle.pair_wires.specs.Lanes.{Plain}
 use Rattle.plan_core.specs.Members.{In}
-use Rattle.plan_view.specs.Slots.{Slots}
-use Rattle.plan_cuts.specs.Cut.{IsPrefixOf}
-use Rattle.plan_orders.specs.Chosen.{Scene}
-use Rattle.plan_orders.specs.declared.Step.{Step}
+use Rattle.cuts.specs.view.Slots.{Slots}
+use Rattle.cuts.specs.histories.Cut.{IsPrefixOf}
+use Rattle.cuts.specs.orders.Chosen.{Scene}
+use Rattle.cuts.specs.declared.orders.Step.{Step}
 use Rattle.rank_node.specs.Node.{NodeState}
 use Rattle.schedule_compiler.specs.Jobs.{JobOf}
 use Rattle.shape_plans.specs.Drawing.{plan_of}
 use Rattle.job_laws.specs.Barriers.{AreBarriersKept}
-use Rattle.world_parts.specs.declared.acts.Setting.{Setting}
-use Rattle.world_parts.specs.Keeps.{IsSomeWorld, IsWorld}
-use Rattle.world_parts.specs.Steps.{IsInjected, IsStepped, injected}
+use Rattle.worlds.specs.declared.parts.acts.Setting.{Setting}
+use Rattle.worlds.specs.parts.Keeps.{IsSomeWorld, IsWorld}
+use Rattle.worlds.specs.parts.Steps.{IsInjected, IsStepped, injected}
 use Rattle.worlds.specs.Allowed.{Allows}
 use Rattle.worlds.specs.Standing.{AreFields}
 use Rattle.worlds.specs.Later.{IsLater}

@@ -6,17 +6,17 @@ use Rattle.ni_model.specs.State.{State}
 use Rattle.ni_model.specs.Tables.{lookup}
 use Rattle.plan_calls.specs.Works.{done_threshold}
 use Rattle.plan_core.specs.Sound.{AreInputsOf, SoundPlan}
-use Rattle.plan_cuts.specs.Cut.{IsCut}
-use Rattle.plan_cuts.specs.Plans.{system_of}
-use Rattle.plan_cuts.specs.System.{state_at}
-use Rattle.plan_view.specs.Slots.{Slots, done_ct}
+use Rattle.cuts.specs.histories.Cut.{IsCut}
+use Rattle.cuts.specs.histories.Plans.{system_of}
+use Rattle.cuts.specs.histories.System.{state_at}
+use Rattle.cuts.specs.view.Slots.{Slots, done_ct}
 use Rattle.ptl_types.specs.declared.handles.Count.{Count}
 use Rattle.shape_plans.proofs.Final.{inputs_fit}
 use Rattle.shape_plans.specs.Drawing.{plan_of}
 use Rattle.step_laws.proofs.Remote.{remote_is}
-use Rattle.done_laws.proofs.Later.{left_alone, stays_done}
-use Rattle.done_laws.proofs.Left.{none_pending}
-use Rattle.done_laws.specs.Done.{GoesOn, HasCounted, IsDone}
+use Rattle.cuts.proofs.done.Later.{left_alone, stays_done}
+use Rattle.cuts.proofs.done.Left.{none_pending}
+use Rattle.cuts.specs.done.Done.{GoesOn, HasCounted, IsDone}
 use Rattle.job_laws.proofs.Cuts.{meant_where_done, rank_of, sound_for}
 use Rattle.job_laws.specs.Results.{AreMeantAt}
 use Rattle.worlds.specs.Done.{StaysAlone, StaysMeant}

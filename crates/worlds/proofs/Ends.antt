@@ -3,12 +3,12 @@ use Rattle.std.proofs.Common.{ℕ, ◌+◌, ◌<◌, ◌≤◌, ◌≡◌, ◌�
 use Rattle.plan_core.specs.Draw.{held_cell}
 use Rattle.plan_core.specs.Places.{start_in}
 use Rattle.plan_core.specs.Plan.{own}
-use Rattle.plan_view.specs.Slots.{Slots}
-use Rattle.plan_cuts.specs.Cut.{IsAtRest, IsCut}
-use Rattle.plan_cuts.specs.Plans.{IsComplete}
+use Rattle.cuts.specs.view.Slots.{Slots}
+use Rattle.cuts.specs.histories.Cut.{IsAtRest, IsCut}
+use Rattle.cuts.specs.histories.Plans.{IsComplete}
 use Rattle.ni_model.specs.State.{State}
-use Rattle.plan_rest.proofs.Moments.{still_rest, stuck_still}
-use Rattle.plan_worlds.proofs.Stuck.{none_stuck}
+use Rattle.cuts.proofs.rest.Moments.{still_rest, stuck_still}
+use Rattle.cuts.proofs.windows.Stuck.{none_stuck}
 use Rattle.rank_node.proofs.Nodes.{agrees}
 use Rattle.rank_node.specs.Handles.{slots_of}
 use Rattle.schedule_compiler.specs.Answers.{place_of}
@@ -17,7 +17,7 @@ use Rattle.shape_plans.specs.Drawing.{drawing_of, plan_of}
 use Rattle.job_laws.specs.Barriers.{AreBarriersKept}
 use Rattle.job_laws.specs.Results.{AreMeant, result_in}
 use Rattle.job_laws.proofs.Cuts.{cell_lies, complete_at, kept_in_cut, meant_where_complete, sound_for}
-use Rattle.world_parts.specs.Layout.{node_at}
+use Rattle.worlds.specs.parts.Layout.{node_at}
 use Rattle.worlds.specs.Standing.{IsStanding}
 use Rattle.worlds.specs.World.{AreSlots, WorldState, histories_in, memory_in, ranks_in, scene_in, steps_in}
 

@@ -4,24 +4,24 @@ use Rattle.pair_wires.specs.Lanes.{Plain}
 use Rattle.ptl_types.specs.declared.headers.Lane.{Lane}
 use Rattle.ptl_types.specs.declared.headers.Lane.TheVariants.{Request, Answer}
 use Rattle.plan_core.specs.Plan.{Plan, from_to}
-use Rattle.plan_view.specs.Slots.{Slots}
-use Rattle.plan_cuts.specs.Cut.{is_received_stray, is_stray}
-use Rattle.plan_cuts.specs.Moment.{IsMoment}
-use Rattle.plan_cuts.specs.Plans.{system_of}
-use Rattle.plan_orders.specs.Chosen.{Scene}
-use Rattle.plan_worlds.specs.Places.{lane_place}
+use Rattle.cuts.specs.view.Slots.{Slots}
+use Rattle.cuts.specs.histories.Cut.{is_received_stray, is_stray}
+use Rattle.cuts.specs.histories.Moment.{IsMoment}
+use Rattle.cuts.specs.histories.Plans.{system_of}
+use Rattle.cuts.specs.orders.Chosen.{Scene}
+use Rattle.cuts.specs.windows.Places.{lane_place}
 use Rattle.rank_node.specs.Copies.{Diary}
 use Rattle.rank_node.specs.Handles.{Agrees}
 use Rattle.rank_node.specs.Node.{IsNode, NodeState}
 use Rattle.rank_node.specs.Plans.{IsCompiledFor}
 use Rattle.schedule_compiler.specs.Jobs.{JobOf}
 use Rattle.shape_plans.specs.Drawing.{plan_of}
-use Rattle.world_parts.specs.declared.acts.Setting.{Setting}
-use Rattle.world_parts.specs.Keeps.{AgreeAll, AreCounted, AreParts, AreShort, AreStrays, IsWorld, spare_on}
-use Rattle.world_parts.specs.Layout.{lane_at, node_at, scene_of}
-use Rattle.world_parts.proofs.Gated.{IsGated, scene_gated}
-use Rattle.world_parts.proofs.Strays.{owned_and_strays}
-use Rattle.world_open.specs.Frames.{AreSized, IsSameButGates, frame_window}
+use Rattle.worlds.specs.declared.parts.acts.Setting.{Setting}
+use Rattle.worlds.specs.parts.Keeps.{AgreeAll, AreCounted, AreParts, AreShort, AreStrays, IsWorld, spare_on}
+use Rattle.worlds.specs.parts.Layout.{lane_at, node_at, scene_of}
+use Rattle.worlds.proofs.parts.Gated.{IsGated, scene_gated}
+use Rattle.worlds.proofs.parts.Strays.{owned_and_strays}
+use Rattle.worlds.specs.opening.Frames.{AreSized, IsSameButGates, frame_window}
 use Rattle.worlds.specs.FrameState.{AreFramed, FrameState}
 use Rattle.worlds.specs.Frames.{IsClosed, MayClose}
 use Rattle.worlds.specs.Standing.{AreFields}

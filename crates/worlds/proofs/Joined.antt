@@ -10,28 +10,28 @@ use Rattle.plan_core.specs.Plan.{Plan}
 use Rattle.plan_core.specs.Sound.{SoundPlan}
 use Rattle.plan_core.specs.Values.{Inputs}
 use Rattle.plan_core.proofs.Lists.{In-append_left, In-append_right, In-filter_cases, count-cons}
-use Rattle.plan_view.specs.Calls.{prepare}
-use Rattle.plan_view.specs.Slots.{Slots}
-use Rattle.plan_cuts.specs.Cut.{is_received_stray, is_stray, owned}
-use Rattle.plan_cuts.specs.History.{Local, got, is_for, made}
-use Rattle.plan_cuts.specs.History.Local.{Start, Receive, Fire}
-use Rattle.plan_cuts.specs.Moment.{IsMoment}
-use Rattle.plan_cuts.specs.Plans.{start_of, system_of}
-use Rattle.plan_cuts.specs.System.{Histories, sent_by}
-use Rattle.plan_cuts.proofs.Clean.{made-clean}
-use Rattle.plan_cuts.proofs.Fronts.{owned-all}
-use Rattle.plan_cuts.proofs.Origin.{got_first, got_later}
-use Rattle.plan_worlds.specs.Places.{lane_place}
+use Rattle.cuts.specs.view.Calls.{prepare}
+use Rattle.cuts.specs.view.Slots.{Slots}
+use Rattle.cuts.specs.histories.Cut.{is_received_stray, is_stray, owned}
+use Rattle.cuts.specs.histories.History.{Local, got, is_for, made}
+use Rattle.cuts.specs.histories.History.Local.{Start, Receive, Fire}
+use Rattle.cuts.specs.histories.Moment.{IsMoment}
+use Rattle.cuts.specs.histories.Plans.{start_of, system_of}
+use Rattle.cuts.specs.histories.System.{Histories, sent_by}
+use Rattle.cuts.proofs.histories.Clean.{made-clean}
+use Rattle.cuts.proofs.histories.Fronts.{owned-all}
+use Rattle.cuts.proofs.histories.Origin.{got_first, got_later}
+use Rattle.cuts.specs.windows.Places.{lane_place}
 use Rattle.rank_node.specs.Handles.{slots_of}
 use Rattle.rank_node.specs.Node.{IsNode, NodeState}
 use Rattle.rank_node.specs.Plans.{IsCompiledFor}
 use Rattle.rank_node.proofs.Nodes.{agrees}
 use Rattle.rank_node.proofs.Plans.{run-legal}
-use Rattle.world_parts.specs.Keeps.{AgreeAll, AreShort, AreStrays}
-use Rattle.world_parts.specs.Layout.{held_in, lane_at, node_at, scene_of}
-use Rattle.world_parts.proofs.Held.{held_here}
-use Rattle.world_parts.proofs.Strays.{none_count}
-use Rattle.world_open.proofs.Begun.{none-due}
+use Rattle.worlds.specs.parts.Keeps.{AgreeAll, AreShort, AreStrays}
+use Rattle.worlds.specs.parts.Layout.{held_in, lane_at, node_at, scene_of}
+use Rattle.worlds.proofs.parts.Held.{held_here}
+use Rattle.worlds.proofs.parts.Strays.{none_count}
+use Rattle.worlds.proofs.opening.Begun.{none-due}
 
 both : {b : Bool} → b ≡ true → b ≡ false → ⊥
 both e i = cc

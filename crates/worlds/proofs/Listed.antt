@@ -11,25 +11,25 @@ use Rattle.plan_core.proofs.Lists.{In-append_cases, In-filter, In-filter_cases, 
 use Rattle.plan_core.specs.Members.{In}
 use Rattle.plan_core.specs.Plan.{Plan, from_to}
 use Rattle.plan_core.specs.Values.{Inputs}
-use Rattle.plan_view.specs.Slots.{Slots}
-use Rattle.plan_cuts.specs.History.{is_start}
-use Rattle.plan_cuts.specs.History.Local.{Start as Started, Receive as Received, Fire as Fired}
-use Rattle.plan_cuts.specs.Moment.{IsPossible}
-use Rattle.plan_cuts.specs.Plans.{system_of}
-use Rattle.plan_cuts.specs.System.{System, state_at}
-use Rattle.world_parts.proofs.Delivers.{rank-state}
-use Rattle.plan_orders.proofs.Choosing.{In-flat_cases, below}
-use Rattle.plan_orders.specs.Chosen.{Scene, deliveries_between, enabled_steps, firings_at, first_of, start_at}
-use Rattle.plan_orders.specs.declared.Step.{Step}
-use Rattle.plan_orders.specs.declared.Step.TheVariants.{Deliver, Fire, Start}
-use Rattle.plan_worlds.proofs.Listed.{enabled_listed, possible_listed}
-use Rattle.plan_worlds.specs.Possible.{is_possible, possible_steps}
+use Rattle.cuts.specs.view.Slots.{Slots}
+use Rattle.cuts.specs.histories.History.{is_start}
+use Rattle.cuts.specs.histories.History.Local.{Start as Started, Receive as Received, Fire as Fired}
+use Rattle.cuts.specs.histories.Moment.{IsPossible}
+use Rattle.cuts.specs.histories.Plans.{system_of}
+use Rattle.cuts.specs.histories.System.{System, state_at}
+use Rattle.worlds.proofs.parts.Delivers.{rank-state}
+use Rattle.cuts.proofs.orders.Choosing.{In-flat_cases, below}
+use Rattle.cuts.specs.orders.Chosen.{Scene, deliveries_between, enabled_steps, firings_at, first_of, start_at}
+use Rattle.cuts.specs.declared.orders.Step.{Step}
+use Rattle.cuts.specs.declared.orders.Step.TheVariants.{Deliver, Fire, Start}
+use Rattle.cuts.proofs.windows.Listed.{enabled_listed, possible_listed}
+use Rattle.cuts.specs.windows.Possible.{is_possible, possible_steps}
 use Rattle.rank_node.specs.Gates.{goes_out, may_go, open_numbers}
 use Rattle.rank_node.specs.Node.{NodeState}
-use Rattle.world_parts.specs.Keeps.{AgreeAll, IsWorld}
-use Rattle.world_parts.specs.Layout.{held_in, node_at, scene_of}
-use Rattle.world_parts.specs.Marks.{lane_has, lane_may}
-use Rattle.world_parts.proofs.Held.{held_here}
+use Rattle.worlds.specs.parts.Keeps.{AgreeAll, IsWorld}
+use Rattle.worlds.specs.parts.Layout.{held_in, node_at, scene_of}
+use Rattle.worlds.specs.parts.Marks.{lane_has, lane_may}
+use Rattle.worlds.proofs.parts.Held.{held_here}
 use Rattle.worlds.specs.Allowed.{Allows}
 use Rattle.worlds.proofs.Places.{fires_are, may_be, rank_is}
 

@@ -4,14 +4,14 @@ use Rattle.std.proofs.lemmas.Option.{slice_get-get_or, slice_get_within, unwrap_
 use Rattle.std.proofs.lemmas.List.{get_or-map}
 use Rattle.std.specs.List.{slice_get}
 use Rattle.std.specs.Option.{unwrap_or}
-use Rattle.plan_cuts.specs.System.{System}
-use Rattle.plan_orders.specs.Chosen.{Scene, start_at}
-use Rattle.plan_orders.specs.declared.Step.{Step}
-use Rattle.plan_orders.specs.declared.Step.TheVariants.{Deliver, Fire, Start}
-use Rattle.plan_worlds.proofs.Counted.{length-counts}
-use Rattle.plan_worlds.proofs.Found.{found_delivery, found_firing, found_start, length-possible}
-use Rattle.plan_worlds.specs.Places.{counts, delivery_at, fires_at, goal_at, kind_at, source_at}
-use Rattle.plan_worlds.specs.Possible.{possible_steps}
+use Rattle.cuts.specs.histories.System.{System}
+use Rattle.cuts.specs.orders.Chosen.{Scene, start_at}
+use Rattle.cuts.specs.declared.orders.Step.{Step}
+use Rattle.cuts.specs.declared.orders.Step.TheVariants.{Deliver, Fire, Start}
+use Rattle.cuts.proofs.windows.Counted.{length-counts}
+use Rattle.cuts.proofs.windows.Found.{found_delivery, found_firing, found_start, length-possible}
+use Rattle.cuts.specs.windows.Places.{counts, delivery_at, fires_at, goal_at, kind_at, source_at}
+use Rattle.cuts.specs.windows.Possible.{possible_steps}
 
 module _ (ranks : System) (z : Scene) (window : ℕ) (starts deliveries firings : List ℕ) (starts_is : starts ≡ counts (start_at z) ranks.count)
     (deliveries_is : deliveries ≡ counts (delivery_at ranks window z) (2 * (ranks.count * ranks.count)))

@@ -8,24 +8,24 @@ use Rattle.ptl_types.specs.declared.headers.Lane.TheVariants.{Request, Answer}
 use Rattle.pair_wires.specs.Lanes.{Plain}
 use Rattle.plan_core.specs.Plan.{Plan}
 use Rattle.plan_core.specs.Values.{Inputs}
-use Rattle.plan_view.specs.Slots.{Slots}
-use Rattle.plan_cuts.specs.History.{is_start}
-use Rattle.plan_cuts.specs.Plans.{system_of}
-use Rattle.plan_cuts.specs.System.{Histories, System}
-use Rattle.world_parts.proofs.Delivers.{open-possible, rank-state}
-use Rattle.plan_orders.specs.Chosen.{Scene, first_of, start_at}
-use Rattle.plan_orders.specs.declared.Step.{Step}
-use Rattle.plan_orders.specs.declared.Step.TheVariants.{Deliver, Fire, Start}
-use Rattle.plan_worlds.proofs.Counted.{counts_by}
-use Rattle.plan_worlds.specs.Places.{counts, delivery_at, delivery_on, fires_at, goal_at, kind_at, lane_place, source_at}
-use Rattle.plan_worlds.specs.Possible.{is_possible}
+use Rattle.cuts.specs.view.Slots.{Slots}
+use Rattle.cuts.specs.histories.History.{is_start}
+use Rattle.cuts.specs.histories.Plans.{system_of}
+use Rattle.cuts.specs.histories.System.{Histories, System}
+use Rattle.worlds.proofs.parts.Delivers.{open-possible, rank-state}
+use Rattle.cuts.specs.orders.Chosen.{Scene, first_of, start_at}
+use Rattle.cuts.specs.declared.orders.Step.{Step}
+use Rattle.cuts.specs.declared.orders.Step.TheVariants.{Deliver, Fire, Start}
+use Rattle.cuts.proofs.windows.Counted.{counts_by}
+use Rattle.cuts.specs.windows.Places.{counts, delivery_at, delivery_on, fires_at, goal_at, kind_at, lane_place, source_at}
+use Rattle.cuts.specs.windows.Possible.{is_possible}
 use Rattle.rank_node.specs.Gates.{open_numbers}
 use Rattle.rank_node.specs.Node.{NodeState}
-use Rattle.world_parts.specs.Keeps.{AgreeAll, AreGates, IsRank, IsWorld}
-use Rattle.world_parts.specs.Layout.{held_in, lane_at, node_at, scene_of}
-use Rattle.world_parts.specs.Marks.{lane_may}
-use Rattle.world_parts.proofs.Held.{held_here}
-use Rattle.world_parts.proofs.Placed.{place_told, ranks_told}
+use Rattle.worlds.specs.parts.Keeps.{AgreeAll, AreGates, IsRank, IsWorld}
+use Rattle.worlds.specs.parts.Layout.{held_in, lane_at, node_at, scene_of}
+use Rattle.worlds.specs.parts.Marks.{lane_may}
+use Rattle.worlds.proofs.parts.Held.{held_here}
+use Rattle.worlds.proofs.parts.Placed.{place_told, ranks_told}
 
 -- past the last rank nothing lies in a lane
 pub held_past : (n : ℕ) (lanes : List Plain) (s d : ℕ) (lane : Lane) → n ≤ d → held_in n lanes s d lane ≡ []

@@ -6,7 +6,7 @@ use Rattle.count_tree.proofs.CountTree.TheSendSync as tree
 use Rattle.pair_wires.proofs.lane.PlainLane.TheSendSync as lane
 use Rattle.schedule_compiler.proofs.job.Job.TheSendSync as job
 use Rattle.rank_node.proofs.Sent.{node-sync}
-use Rattle.world_parts.proofs.acts.Setting.TheSendSync as setting
+use Rattle.worlds.proofs.parts.acts.Setting.TheSendSync as setting
 use Rattle.worlds.specs.contracts.world.World.{the_row}
 use Rattle.worlds.specs.contracts.world.World.TheInside as inside
 

@@ -4,22 +4,22 @@ use Rattle.std.specs.List.{slice_get}
 use Rattle.pair_wires.specs.Lanes.{Plain}
 use Rattle.plan_core.specs.Plan.{Plan}
 use Rattle.plan_core.specs.Values.{Inputs}
-use Rattle.plan_view.specs.Slots.{Slots}
-use Rattle.plan_cuts.specs.Plans.{system_of}
-use Rattle.plan_cuts.specs.System.{System}
-use Rattle.world_parts.proofs.Delivers.{rank-state}
-use Rattle.plan_orders.specs.Chosen.{Scene, start_at}
-use Rattle.plan_orders.specs.declared.Step.{Step}
-use Rattle.plan_orders.specs.declared.Step.TheVariants.{Deliver, Fire, Start}
-use Rattle.plan_worlds.specs.Places.{counts, delivery_at, fires_at, goal_at, kind_at, source_at}
-use Rattle.plan_worlds.specs.Possible.{possible_steps}
+use Rattle.cuts.specs.view.Slots.{Slots}
+use Rattle.cuts.specs.histories.Plans.{system_of}
+use Rattle.cuts.specs.histories.System.{System}
+use Rattle.worlds.proofs.parts.Delivers.{rank-state}
+use Rattle.cuts.specs.orders.Chosen.{Scene, start_at}
+use Rattle.cuts.specs.declared.orders.Step.{Step}
+use Rattle.cuts.specs.declared.orders.Step.TheVariants.{Deliver, Fire, Start}
+use Rattle.cuts.specs.windows.Places.{counts, delivery_at, fires_at, goal_at, kind_at, source_at}
+use Rattle.cuts.specs.windows.Possible.{possible_steps}
 use Rattle.rank_node.specs.Gates.{open_numbers}
 use Rattle.rank_node.specs.Node.{NodeState}
 use Rattle.schedule_compiler.specs.Jobs.{JobOf}
 use Rattle.shape_plans.specs.Drawing.{plan_of}
-use Rattle.world_parts.specs.declared.acts.Setting.{Setting}
-use Rattle.world_parts.specs.Keeps.{AgreeAll, IsWorld}
-use Rattle.world_parts.specs.Layout.{node_at, scene_of}
+use Rattle.worlds.specs.declared.parts.acts.Setting.{Setting}
+use Rattle.worlds.specs.parts.Keeps.{AgreeAll, IsWorld}
+use Rattle.worlds.specs.parts.Layout.{node_at, scene_of}
 use Rattle.worlds.specs.Standing.{AreFields, IsStanding}
 use Rattle.worlds.specs.World.{AreSlots, state_of, steps_in}
 use Rattle.worlds.proofs.Numbered.{delivery_numbered, firing_numbered, start_numbered, total_of}

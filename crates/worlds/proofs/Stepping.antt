@@ -3,17 +3,17 @@ use Rattle.std.proofs.Common.{ℕ, suc, ◌<◌, ◌≤◌, ◌≡◌, ◌∙◌
 use Rattle.std.proofs.lemmas.Option.{same_Some, slice_get-get_or, slice_get_within}
 use Rattle.std.specs.List.{slice_get}
 use Rattle.plan_core.specs.Members.{In}
-use Rattle.plan_view.specs.Slots.{Slots}
-use Rattle.plan_cuts.specs.Cut.{IsPrefixOf, is_received_stray}
-use Rattle.plan_cuts.specs.Plans.{system_of}
-use Rattle.plan_cuts.specs.System.{System}
-use Rattle.plan_orders.proofs.Choosing.{In-get}
-use Rattle.plan_orders.specs.Chosen.{Scene, step_made}
-use Rattle.plan_orders.specs.declared.Step.{Step}
-use Rattle.plan_worlds.proofs.Falling.{falls}
-use Rattle.plan_worlds.proofs.Lanes.{begins}
-use Rattle.plan_worlds.specs.Left.{steps_left}
-use Rattle.plan_worlds.specs.Possible.{possible_steps}
+use Rattle.cuts.specs.view.Slots.{Slots}
+use Rattle.cuts.specs.histories.Cut.{IsPrefixOf, is_received_stray}
+use Rattle.cuts.specs.histories.Plans.{system_of}
+use Rattle.cuts.specs.histories.System.{System}
+use Rattle.cuts.proofs.orders.Choosing.{In-get}
+use Rattle.cuts.specs.orders.Chosen.{Scene, step_made}
+use Rattle.cuts.specs.declared.orders.Step.{Step}
+use Rattle.cuts.proofs.windows.Falling.{falls}
+use Rattle.cuts.proofs.windows.Lanes.{begins}
+use Rattle.cuts.specs.windows.Left.{steps_left}
+use Rattle.cuts.specs.windows.Possible.{possible_steps}
 use Rattle.shape_plans.proofs.Final.{fine-shape, inputs_fit}
 use Rattle.shape_plans.specs.Drawing.{plan_of}
 use Rattle.coll_shape.specs.Outline.{Outline}

@@ -13,32 +13,32 @@ use Rattle.plan_core.specs.Members.{Distinct, In}
 use Rattle.plan_core.specs.Plan.{Plan, all_links}
 use Rattle.plan_core.specs.Sound.{SoundPlan}
 use Rattle.plan_core.specs.Values.{Inputs}
-use Rattle.plan_view.specs.Slots.{Slots}
-use Rattle.plan_cuts.specs.Cut.{is_stray}
-use Rattle.plan_cuts.specs.History.{Local}
-use Rattle.plan_cuts.specs.History.Local.{Start as Started, Receive as Received, Fire as Fired}
-use Rattle.plan_cuts.specs.Moment.{HasWindow, IsEnabled, IsPossible}
-use Rattle.plan_cuts.specs.Plans.{system_of}
-use Rattle.plan_cuts.specs.System.{System, state_at}
-use Rattle.plan_orders.proofs.Distinct.{once_each}
-use Rattle.plan_orders.proofs.Rising.{ready_rise}
-use Rattle.plan_orders.specs.Chosen.{Scene, enabled_steps}
-use Rattle.plan_orders.specs.declared.Step.{Step}
-use Rattle.plan_orders.specs.declared.Step.TheVariants.{Deliver, Fire, Start}
-use Rattle.plan_rest.proofs.LaneCuts.{lane_few}
-use Rattle.plan_rest.proofs.Moments.{target_known}
-use Rattle.plan_worlds.proofs.Counted.{length-from_to}
-use Rattle.plan_worlds.proofs.Lanes.{held_few}
-use Rattle.plan_worlds.specs.Named.{named}
-use Rattle.plan_worlds.specs.Places.{lane_place}
-use Rattle.plan_worlds.specs.Possible.{finds_room, is_possible, possible_steps}
+use Rattle.cuts.specs.view.Slots.{Slots}
+use Rattle.cuts.specs.histories.Cut.{is_stray}
+use Rattle.cuts.specs.histories.History.{Local}
+use Rattle.cuts.specs.histories.History.Local.{Start as Started, Receive as Received, Fire as Fired}
+use Rattle.cuts.specs.histories.Moment.{HasWindow, IsEnabled, IsPossible}
+use Rattle.cuts.specs.histories.Plans.{system_of}
+use Rattle.cuts.specs.histories.System.{System, state_at}
+use Rattle.cuts.proofs.orders.Distinct.{once_each}
+use Rattle.cuts.proofs.orders.Rising.{ready_rise}
+use Rattle.cuts.specs.orders.Chosen.{Scene, enabled_steps}
+use Rattle.cuts.specs.declared.orders.Step.{Step}
+use Rattle.cuts.specs.declared.orders.Step.TheVariants.{Deliver, Fire, Start}
+use Rattle.cuts.proofs.rest.LaneCuts.{lane_few}
+use Rattle.cuts.proofs.rest.Moments.{target_known}
+use Rattle.cuts.proofs.windows.Counted.{length-from_to}
+use Rattle.cuts.proofs.windows.Lanes.{held_few}
+use Rattle.cuts.specs.windows.Named.{named}
+use Rattle.cuts.specs.windows.Places.{lane_place}
+use Rattle.cuts.specs.windows.Possible.{finds_room, is_possible, possible_steps}
 use Rattle.shape_plans.proofs.Final.{fine-shape, inputs_fit}
 use Rattle.shape_plans.specs.Drawing.{plan_of}
 use Rattle.job_laws.proofs.Cuts.{sound_for}
-use Rattle.world_parts.specs.Layout.{lane_at}
-use Rattle.world_parts.proofs.Held.{held_here}
-use Rattle.world_parts.proofs.Sets.{part_le}
-use Rattle.world_parts.proofs.Strays.{none_count, owned_and_strays}
+use Rattle.worlds.specs.parts.Layout.{lane_at}
+use Rattle.worlds.proofs.parts.Held.{held_here}
+use Rattle.worlds.proofs.parts.Sets.{part_le}
+use Rattle.worlds.proofs.parts.Strays.{none_count, owned_and_strays}
 use Rattle.worlds.specs.Standing.{IsStanding}
 use Rattle.worlds.specs.World.{AreSlots, WorldState, ranks_in, scene_in, steps_in}
 use Rattle.worlds.proofs.Listed.{IsOffered, offered, ready_is}

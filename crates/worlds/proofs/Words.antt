@@ -8,18 +8,18 @@ use Rattle.plan_calls.specs.Lanes.{lane_messages}
 use Rattle.plan_core.specs.Plan.{Plan}
 use Rattle.plan_core.specs.Sound.{AreInputsOf, SoundPlan}
 use Rattle.plan_core.specs.Values.{Inputs}
-use Rattle.plan_view.specs.Slots.{Slots}
-use Rattle.plan_cuts.specs.History.{got}
-use Rattle.plan_cuts.specs.Plans.{system_of}
-use Rattle.plan_cuts.specs.System.{Histories, System, sent_by}
-use Rattle.plan_orders.proofs.Choosing.{chosen_reached}
-use Rattle.plan_orders.proofs.Steps.{AreMoves, reached_moment, reached_moves}
-use Rattle.plan_orders.specs.Chosen.{IsChosen, Scene, choose, chosen, enabled_steps, first_scene, step_made}
-use Rattle.plan_orders.specs.Reached.{IsReached}
-use Rattle.plan_orders.specs.Taking.{histories}
-use Rattle.plan_orders.specs.declared.Step.{Step}
-use Rattle.plan_rest.proofs.LaneCuts.{lane_few}
-use Rattle.plan_worlds.specs.Possible.{possible_steps}
+use Rattle.cuts.specs.view.Slots.{Slots}
+use Rattle.cuts.specs.histories.History.{got}
+use Rattle.cuts.specs.histories.Plans.{system_of}
+use Rattle.cuts.specs.histories.System.{Histories, System, sent_by}
+use Rattle.cuts.proofs.orders.Choosing.{chosen_reached}
+use Rattle.cuts.proofs.orders.Steps.{AreMoves, reached_moment, reached_moves}
+use Rattle.cuts.specs.orders.Chosen.{IsChosen, Scene, choose, chosen, enabled_steps, first_scene, step_made}
+use Rattle.cuts.specs.orders.Reached.{IsReached}
+use Rattle.cuts.specs.orders.Taking.{histories}
+use Rattle.cuts.specs.declared.orders.Step.{Step}
+use Rattle.cuts.proofs.rest.LaneCuts.{lane_few}
+use Rattle.cuts.specs.windows.Possible.{possible_steps}
 use Rattle.worlds.specs.Runs.{Running, chosen_run, chosen_step}
 use Rattle.worlds.proofs.Steps.{all_possible, lane_small}
 

@@ -1,13 +1,13 @@
 -- Which steps the parts of a world allow.
 use Rattle.std.specs.Prelude.{ℕ, true, ◌<◌, ◌≡◌, List, count_by}
 use Rattle.pair_wires.specs.Lanes.{Plain}
-use Rattle.plan_cuts.specs.History.{is_start}
-use Rattle.plan_orders.specs.declared.Step.{Step}
-use Rattle.plan_orders.specs.declared.Step.TheVariants.{Deliver, Fire, Start}
+use Rattle.cuts.specs.histories.History.{is_start}
+use Rattle.cuts.specs.declared.orders.Step.{Step}
+use Rattle.cuts.specs.declared.orders.Step.TheVariants.{Deliver, Fire, Start}
 use Rattle.rank_node.specs.Gates.{may_go}
 use Rattle.rank_node.specs.Node.{NodeState}
-use Rattle.world_parts.specs.Layout.{node_at}
-use Rattle.world_parts.specs.Marks.{lane_may}
+use Rattle.worlds.specs.parts.Layout.{node_at}
+use Rattle.worlds.specs.parts.Marks.{lane_may}
 
 -- a start that was not yet; a delivery, of a request only where its answer would find room; a firing that is ready and whose message
 -- finds an open lane

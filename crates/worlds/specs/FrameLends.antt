@@ -4,7 +4,7 @@ use Rattle.std.specs.Borrow.{Fml, Lends, MutBor}
 use Rattle.ptl_types.specs.declared.headers.Lane.{Lane}
 use Rattle.pair_wires.specs.Lanes.{Plain}
 use Rattle.pair_wires.specs.contracts.lane.PlainLane.{the_row as lane_row}
-use Rattle.plan_worlds.specs.Places.{lane_place}
+use Rattle.cuts.specs.windows.Places.{lane_place}
 use Rattle.worlds.specs.FrameState.{FrameState}
 use Rattle.worlds.specs.contracts.frame.Frame.{the_row}
 

@@ -8,7 +8,7 @@ use Rattle.coll_shape.specs.WellFormed.{IsWellFormed}
 use Rattle.shape_plans.specs.Drawing.{plan_of}
 use Rattle.shape_plans.specs.Footprint.{refusal}
 use Rattle.schedule_compiler.specs.Jobs.{JobOf}
-use Rattle.world_open.specs.Frames.{IsBare}
+use Rattle.worlds.specs.opening.Frames.{IsBare}
 
 -- the shape and its inputs, and the lanes by source, target, request before answer
 pub record FrameState : Type 0 where

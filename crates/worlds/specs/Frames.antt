@@ -3,19 +3,19 @@ use Rattle.std.specs.Prelude.{ℕ, ◌<◌, ◌≤◌, ◌≡◌, List, [], ◌+
 use Rattle.ptl_types.specs.declared.headers.Lane.{Lane}
 use Rattle.pair_wires.specs.Lanes.{Plain}
 use Rattle.plan_calls.specs.Lanes.{lane_messages}
-use Rattle.plan_view.specs.Slots.{Slots}
-use Rattle.plan_cuts.specs.History.{got}
-use Rattle.plan_cuts.specs.Plans.{system_of}
-use Rattle.plan_cuts.specs.System.{sent_by}
-use Rattle.plan_worlds.specs.Places.{lane_place}
+use Rattle.cuts.specs.view.Slots.{Slots}
+use Rattle.cuts.specs.histories.History.{got}
+use Rattle.cuts.specs.histories.Plans.{system_of}
+use Rattle.cuts.specs.histories.System.{sent_by}
+use Rattle.cuts.specs.windows.Places.{lane_place}
 use Rattle.shape_plans.specs.Drawing.{plan_of}
 use Rattle.schedule_compiler.specs.Jobs.{JobOf}
 use Rattle.rank_node.specs.Node.{NodeState}
 use Rattle.rank_node.specs.Plans.{IsCompiledFor}
-use Rattle.world_parts.specs.Keeps.{AgreeAll}
-use Rattle.world_parts.specs.Layout.{lane_at, node_at, scene_of}
-pub use Rattle.world_open.specs.Frames.{frame_lane}
-use Rattle.world_open.specs.Frames.{IsSameButGates, frame_window}
+use Rattle.worlds.specs.parts.Keeps.{AgreeAll}
+use Rattle.worlds.specs.parts.Layout.{lane_at, node_at, scene_of}
+pub use Rattle.worlds.specs.opening.Frames.{frame_lane}
+use Rattle.worlds.specs.opening.Frames.{IsSameButGates, frame_window}
 use Rattle.worlds.specs.FrameState.{FrameState}
 use Rattle.worlds.specs.World.{AreSlots, WorldState, scene_in}
 

@@ -1,8 +1,8 @@
 -- A world at its opening, and after what was done with it.
 use Rattle.std.specs.Prelude.{ℕ, ◌≡◌}
-use Rattle.plan_view.specs.Slots.{Slots}
-use Rattle.plan_cuts.specs.Cut.{IsPrefixOf}
-use Rattle.plan_orders.specs.Chosen.{first_scene}
+use Rattle.cuts.specs.view.Slots.{Slots}
+use Rattle.cuts.specs.histories.Cut.{IsPrefixOf}
+use Rattle.cuts.specs.orders.Chosen.{first_scene}
 use Rattle.schedule_compiler.specs.Jobs.{JobOf}
 use Rattle.worlds.specs.World.{AreSlots, WorldState, histories_in, scene_in}
 

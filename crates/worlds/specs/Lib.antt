@@ -7,3 +7,5 @@ pub mod Done
 pub mod Frames
 pub mod Runs
 pub mod Allowed
+pub mod parts
+pub mod opening

@@ -1,10 +1,10 @@
 -- Runs: by any steps that are possible, and by those that a chooser names.
 use Rattle.std.specs.Prelude.{ℕ, zero, suc, List, [], ◌∷◌, get_or, length}
 use Rattle.plan_core.specs.Members.{In}
-use Rattle.plan_cuts.specs.System.{System}
-use Rattle.plan_orders.specs.Chosen.{Scene, step_made}
-use Rattle.plan_orders.specs.declared.Step.{Step}
-use Rattle.plan_worlds.specs.Possible.{possible_steps}
+use Rattle.cuts.specs.histories.System.{System}
+use Rattle.cuts.specs.orders.Chosen.{Scene, step_made}
+use Rattle.cuts.specs.declared.orders.Step.{Step}
+use Rattle.cuts.specs.windows.Possible.{possible_steps}
 
 -- possible steps lead from one scene to another
 pub data IsRun (k : System) (window : ℕ) (from : Scene) : Scene → Type 0 where

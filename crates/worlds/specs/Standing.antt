@@ -1,18 +1,18 @@
 -- What holds of a world whatever was done with it.
 use Rattle.std.specs.Prelude.{ℕ, ◌+◌, ◌^◌, ◌<◌, ◌≤◌, ◌≡◌, List, None, length}
 use Rattle.pair_wires.specs.Lanes.{Plain}
-use Rattle.plan_view.specs.Slots.{Slots}
-use Rattle.plan_cuts.specs.Moment.{IsMoment}
-use Rattle.plan_cuts.specs.System.{state_at}
+use Rattle.cuts.specs.view.Slots.{Slots}
+use Rattle.cuts.specs.histories.Moment.{IsMoment}
+use Rattle.cuts.specs.histories.System.{state_at}
 use Rattle.coll_shape.specs.Meaning.{AreInputs}
 use Rattle.coll_shape.specs.WellFormed.{IsWellFormed}
 use Rattle.shape_plans.specs.Footprint.{refusal}
 use Rattle.shape_plans.specs.Drawing.{plan_of}
 use Rattle.schedule_compiler.specs.Jobs.{JobOf}
 use Rattle.rank_node.specs.Node.{IsNode, NodeState}
-use Rattle.world_parts.specs.declared.acts.Setting.{Setting}
-use Rattle.world_parts.specs.Keeps.{IsWorld, strays_for}
-use Rattle.world_parts.specs.Layout.{node_at}
+use Rattle.worlds.specs.declared.parts.acts.Setting.{Setting}
+use Rattle.worlds.specs.parts.Keeps.{IsWorld, strays_for}
+use Rattle.worlds.specs.parts.Layout.{node_at}
 use Rattle.worlds.specs.World.{AreSlots, WorldState, histories_in, nic_in, ranks_in, scene_in}
 
 -- the shape was accepted and the inputs are its; there is a node for each rank, whose interface is that of the end of its history; the

@@ -4,19 +4,19 @@ use Rattle.std.specs.Prelude.{ℕ, List}
 use Rattle.ni_model.specs.State.{State}
 use Rattle.pair_wires.specs.Lanes.{Plain}
 use Rattle.plan_core.specs.Values.{Inputs}
-use Rattle.plan_view.specs.Slots.{Slots}
-use Rattle.plan_cuts.specs.Plans.{system_of}
-use Rattle.plan_cuts.specs.System.{Histories, System}
-use Rattle.plan_orders.specs.Chosen.{Scene}
-use Rattle.plan_orders.specs.declared.Step.{Step}
-use Rattle.plan_worlds.specs.Possible.{possible_steps}
+use Rattle.cuts.specs.view.Slots.{Slots}
+use Rattle.cuts.specs.histories.Plans.{system_of}
+use Rattle.cuts.specs.histories.System.{Histories, System}
+use Rattle.cuts.specs.orders.Chosen.{Scene}
+use Rattle.cuts.specs.declared.orders.Step.{Step}
+use Rattle.cuts.specs.windows.Possible.{possible_steps}
 use Rattle.rank_node.specs.Node.{NodeState}
 use Rattle.schedule_compiler.specs.Jobs.{JobOf}
 use Rattle.coll_shape.specs.Outline.{Outline}
 use Rattle.shape_plans.specs.Drawing.{plan_of}
-use Rattle.world_parts.specs.declared.acts.Setting.{Setting}
-use Rattle.world_parts.specs.Keeps.{AgreeAll}
-use Rattle.world_parts.specs.Layout.{node_at, scene_of}
+use Rattle.worlds.specs.declared.parts.acts.Setting.{Setting}
+use Rattle.worlds.specs.parts.Keeps.{AgreeAll}
+use Rattle.worlds.specs.parts.Layout.{node_at, scene_of}
 
 -- the shape and its inputs; a node for each rank; the lanes by source, target, request before answer; how many messages a lane may
 -- hold before a step that would put one there has to wait; how many strays may still be injected, and how many in all

@@ -2,10 +2,10 @@
 
 ghost use Rattle.std.specs.Prelude.{◌≡◌, ◌<◌, ◌≤◌, ◌*◌, ◌+◌, length};
 ghost use Rattle.ptl_types.specs.Elements.{part};
-ghost use Rattle.plan_orders.specs.declared.Step.TheVariants.{Deliver};
-ghost use Rattle.plan_worlds.specs.Places.{goal_at, kind_at, source_at};
+ghost use Rattle.cuts.specs.declared.orders.Step.TheVariants.{Deliver};
+ghost use Rattle.cuts.specs.windows.Places.{goal_at, kind_at, source_at};
 
-use plan_orders::Step;
+use cuts::orders::Step;
 use ptl_types::Lane;
 use schedule_compiler::Place;
 

@@ -3,9 +3,9 @@
 ghost use Rattle.std.specs.Prelude.{true, ◌≡◌, ◌<◌, IfOk};
 ghost use Rattle.std.specs.Borrow.{sem};
 ghost use Rattle.plan_calls.specs.Lanes.{is_used_lane};
-ghost use Rattle.plan_worlds.specs.Places.{lane_place};
+ghost use Rattle.cuts.specs.windows.Places.{lane_place};
 ghost use Rattle.shape_plans.specs.Drawing.{plan_of};
-ghost use Rattle.world_parts.specs.Layout.{lane_at};
+ghost use Rattle.worlds.specs.parts.Layout.{lane_at};
 ghost use Rattle.worlds.specs.Frames.{IsClosed, IsFrameOf, MayClose};
 
 use crate::world::World;
@@ -16,9 +16,9 @@ use rank_node::Node;
 use schedule_compiler::Job;
 use std::alloc::Global;
 use std::marker::Model;
-use world_open::{FRAME_WINDOW, Parts, mark_all, open_bare};
-use world_parts::acts::Setting;
-use world_parts::lanes::place;
+use crate::opening::{FRAME_WINDOW, Parts, mark_all, open_bare};
+use crate::parts::acts::Setting;
+use crate::parts::lanes::place;
 
 /// A world of a job without its nodes: the lanes between the ranks, and all room that the world needs. Nodes that ran elsewhere, with
 /// what was still on its way between them, become a world by it, and no memory is taken then.

@@ -2,14 +2,14 @@
 
 ghost use Rattle.std.specs.Prelude.{ℕ, suc, ◌≡◌, ◌<◌, ◌%◌, []};
 ghost use Rattle.plan_core.specs.Members.{Distinct, In};
-ghost use Rattle.plan_view.specs.Slots.{Slots};
-ghost use Rattle.plan_cuts.specs.Cut.{IsCut};
-ghost use Rattle.plan_cuts.specs.History.{Local};
-ghost use Rattle.plan_cuts.specs.Moment.{IsEnabled, IsPossible};
-ghost use Rattle.plan_orders.specs.Chosen.{IsChosen, Scene, enabled_steps, first_scene};
-ghost use Rattle.plan_orders.specs.declared.Step.{Step};
-ghost use Rattle.plan_worlds.specs.Named.{named};
-ghost use Rattle.plan_worlds.specs.Possible.{possible_steps};
+ghost use Rattle.cuts.specs.view.Slots.{Slots};
+ghost use Rattle.cuts.specs.histories.Cut.{IsCut};
+ghost use Rattle.cuts.specs.histories.History.{Local};
+ghost use Rattle.cuts.specs.histories.Moment.{IsEnabled, IsPossible};
+ghost use Rattle.cuts.specs.orders.Chosen.{IsChosen, Scene, enabled_steps, first_scene};
+ghost use Rattle.cuts.specs.declared.orders.Step.{Step};
+ghost use Rattle.cuts.specs.windows.Named.{named};
+ghost use Rattle.cuts.specs.windows.Possible.{possible_steps};
 ghost use Rattle.job_laws.specs.Barriers.{AreBarriersKept, AreStepsInOrder};
 ghost use Rattle.worlds.specs.Runs.{chosen_run};
 ghost use Rattle.worlds.specs.Standing.{IsStanding};

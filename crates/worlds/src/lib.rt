@@ -2,6 +2,8 @@
 //! order.
 #![tactic(auto)]
 
+pub mod opening;
+pub mod parts;
 mod finding;
 mod frame;
 mod laws;
@@ -11,7 +13,7 @@ mod world;
 pub use finding::delivery_at;
 pub use frame::Frame;
 pub use laws::{possible_steps_of_worlds, runs_by_words, slots_agree, worlds_stand};
-pub use plan_orders::Step;
+pub use cuts::orders::Step;
 pub use ptl_types::LocalStep;
 pub use rank_node::Node;
 pub use world::{Chooser, World};

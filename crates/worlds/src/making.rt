@@ -3,17 +3,17 @@
 ghost use Rattle.std.specs.Prelude.{◌≡◌, ◌≤◌, ◌*◌, ◌↔◌, IsTrue, length};
 ghost use Rattle.plan_core.specs.Plan.{Plan};
 ghost use Rattle.plan_core.specs.Values.{Inputs};
-ghost use Rattle.world_parts.specs.Keeps.{IsSomeWorld, IsWorld};
-ghost use Rattle.world_parts.specs.Steps.{IsStepped};
+ghost use Rattle.worlds.specs.parts.Keeps.{IsSomeWorld, IsWorld};
+ghost use Rattle.worlds.specs.parts.Steps.{IsStepped};
 ghost use Rattle.worlds.specs.Allowed.{Allows};
 
 use count_tree::CountTree;
 use pair_wires::PlainLane;
-use plan_orders::Step;
+use cuts::orders::Step;
 use rank_node::Node;
-use world_parts::acts;
-use world_parts::acts::Setting;
-use world_parts::lanes::may_deliver;
+use crate::parts::acts;
+use crate::parts::acts::Setting;
+use crate::parts::lanes::may_deliver;
 
 /// Whether the parts allow a step.
 pub fn allows(nodes: &[Node], lanes: &[PlainLane], ranks: u32, window: u64, step: Step) -> bool

@@ -1,8 +1,8 @@
 use Rattle.std.proofs.Common.{◌≡◌, true, ◌∷◌, ◌++◌, Some, None, find, length, sym, ap, ◌∙◌, arith}
 use Rattle.std.specs.Option.{is_some}
 use Rattle.chain_list.specs.Chain.{stamp_at, first_or}
-use Rattle.place_threads.specs.Threads.{thread, is_on, first_place, place_after}
-use Rattle.place_threads.proofs.ThreadLemmas.{on_one}
+use Rattle.chain_list.specs.threads.Threads.{thread, is_on, first_place, place_after}
+use Rattle.chain_list.proofs.threads.ThreadLemmas.{on_one}
 use Rattle.match_lists.specs.Buckets.{on_thread}
 use Rattle.match_lists.specs.Indexed.{places_of, takes, key_of}
 use Rattle.match_lists.specs.Looks.{look_of}

@@ -1,9 +1,9 @@
 use Rattle.std.proofs.Common.{ℕ, ◌+◌, ◌∙◌, length, sym, subst}
 use Rattle.ptl_types.specs.declared.steps.Cause.TheVariants.{NotAtRest}
-use Rattle.plan_view.specs.Slots.{Slots}
-use Rattle.plan_cuts.specs.Plans.{system_of}
-use Rattle.plan_orders.specs.Verdict.{IsVerdict}
-use Rattle.plan_orders.specs.declared.Verdict.TheVariants.{Fails, Holds}
+use Rattle.cuts.specs.view.Slots.{Slots}
+use Rattle.cuts.specs.histories.Plans.{system_of}
+use Rattle.cuts.specs.orders.Verdict.{IsVerdict}
+use Rattle.cuts.specs.declared.orders.Verdict.TheVariants.{Fails, Holds}
 use Rattle.shape_plans.specs.Drawing.{plan_of}
 use Rattle.worlds.specs.World.{histories_in}
 use Rattle.order_check.specs.Listing.{lists_of}

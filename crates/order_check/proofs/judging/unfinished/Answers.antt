@@ -1,5 +1,5 @@
 use Rattle.std.proofs.Common.{◌+◌, ◌∙◌, ap, arith, length}
-use Rattle.plan_orders.specs.declared.Verdict.TheVariants.{Fails}
+use Rattle.cuts.specs.declared.orders.Verdict.TheVariants.{Fails}
 use Rattle.worlds.specs.World.{histories_in}
 use Rattle.order_check.proofs.judging.unfinished.Goals as goal
 

@@ -1,5 +1,5 @@
 use Rattle.std.proofs.Common.{ℕ, ◌<◌}
-use Rattle.plan_orders.specs.Verdict.{IsWhole}
+use Rattle.cuts.specs.orders.Verdict.{IsWhole}
 use Rattle.worlds.specs.World.{histories_in}
 use Rattle.order_check.specs.Listing.{lists_of}
 use Rattle.order_check.proofs.judging.unfinished.Given as goal

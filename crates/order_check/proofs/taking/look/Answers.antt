@@ -1,7 +1,7 @@
 use Rattle.std.proofs.Common.{◌<◌, ◌≡◌, ◌∙◌, [], ◌∷◌, ◌++◌, None, Some, ap, sym, subst}
 use Rattle.std.specs.Prelude.{IfOk, Result, Ok, Err}
 use Rattle.plan_core.specs.Members.{In}
-use Rattle.plan_orders.specs.Chosen.{step_made}
+use Rattle.cuts.specs.orders.Chosen.{step_made}
 use Rattle.worlds.specs.World.{ranks_in, scene_in, steps_in}
 use Rattle.worlds.proofs.Stepping.{same_world}
 use Rattle.order_check.specs.Listing.{lists_of}

@@ -1,7 +1,7 @@
 use Rattle.std.proofs.Common.{◌<◌, ◌∙◌, length, subst, sym, ap, arith, get_or}
 use Rattle.std.proofs.lemmas.List.{length-map}
 use Rattle.ptl_types.specs.declared.steps.LocalStep.TheVariants.{Start}
-use Rattle.plan_orders.specs.Taking.{IsNext, listed}
+use Rattle.cuts.specs.orders.Taking.{IsNext, listed}
 use Rattle.worlds.specs.World.{histories_in}
 use Rattle.order_check.specs.Listing.{lists_of}
 use Rattle.order_check.proofs.Looking.{next_at}

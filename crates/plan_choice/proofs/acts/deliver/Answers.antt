@@ -3,12 +3,12 @@ use Rattle.std.proofs.Common.{◌<◌, ◌≤◌, ◌≡◌, ◌∙◌, List, �
 use Rattle.std.proofs.Math.ListN.{set}
 use Rattle.std.proofs.lemmas.List.{get_or_default}
 use Rattle.ptl_types.specs.Messages.{Sent}
-use Rattle.plan_cuts.specs.History.{made_by}
-use Rattle.plan_cuts.specs.History.Local.{Receive as Received}
-use Rattle.plan_worlds.specs.Places.{lane_place}
-use Rattle.world_parts.specs.Layout.{lane_at}
-use Rattle.world_parts.specs.Marks.{HasPlace, out_with, popped}
-use Rattle.choice_ranks.specs.Seats.{Seated, received_seat}
+use Rattle.cuts.specs.histories.History.{made_by}
+use Rattle.cuts.specs.histories.History.Local.{Receive as Received}
+use Rattle.cuts.specs.windows.Places.{lane_place}
+use Rattle.worlds.specs.parts.Layout.{lane_at}
+use Rattle.worlds.specs.parts.Marks.{HasPlace, out_with, popped}
+use Rattle.plan_choice.specs.ranks.Seats.{Seated, received_seat}
 use Rattle.plan_choice.specs.Acts.{made_at, no_seated, seat_at}
 use Rattle.plan_choice.proofs.acts.deliver.Goals as goal
 

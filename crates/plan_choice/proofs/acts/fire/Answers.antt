@@ -3,10 +3,10 @@ use Rattle.std.proofs.Common.{true, ◌<◌, ◌≡◌, ◌∙◌, ap, arith, le
 use Rattle.std.proofs.Math.ListN.{set}
 use Rattle.std.proofs.lemmas.List.{get_or_default}
 use Rattle.ni_model.specs.Ready.{is_ready}
-use Rattle.plan_cuts.specs.History.{made_by}
-use Rattle.plan_cuts.specs.History.Local.{Fire as Fired}
-use Rattle.world_parts.specs.Marks.{HasPlace, out_with, receiver}
-use Rattle.choice_ranks.specs.Seats.{Seated, fired_seat}
+use Rattle.cuts.specs.histories.History.{made_by}
+use Rattle.cuts.specs.histories.History.Local.{Fire as Fired}
+use Rattle.worlds.specs.parts.Marks.{HasPlace, out_with, receiver}
+use Rattle.plan_choice.specs.ranks.Seats.{Seated, fired_seat}
 use Rattle.plan_choice.specs.Acts.{no_seated}
 use Rattle.plan_choice.proofs.acts.fire.Goals as goal
 

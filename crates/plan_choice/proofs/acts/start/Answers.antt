@@ -2,7 +2,7 @@
 use Rattle.std.proofs.Common.{◌<◌, ◌∙◌, ap, length, subst, sym}
 use Rattle.std.proofs.Math.ListN.{set}
 use Rattle.std.proofs.lemmas.List.{get_or_default}
-use Rattle.choice_ranks.specs.Seats.{Seated, started_seat}
+use Rattle.plan_choice.specs.ranks.Seats.{Seated, started_seat}
 use Rattle.plan_choice.specs.Acts.{no_seated}
 use Rattle.plan_choice.proofs.acts.start.Goals as goal
 

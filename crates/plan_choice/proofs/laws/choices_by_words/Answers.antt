@@ -1,7 +1,7 @@
 -- Every enabled step is possible, so the run is that of the words.
 use Rattle.std.proofs.Common.{ap, filter}
 use Rattle.ptl_types.specs.Handles.{top}
-use Rattle.plan_worlds.specs.Possible.{is_possible}
+use Rattle.cuts.specs.windows.Possible.{is_possible}
 use Rattle.worlds.proofs.Words.{ends_by_words}
 use Rattle.plan_choice.specs.World.{ranks_in}
 use Rattle.plan_choice.proofs.Moving.{slots_at}

@@ -2,7 +2,7 @@
 use Rattle.std.proofs.Common.{ℕ, ◌+◌, ◌<◌, ◌≡◌, ◌∙◌, List, ap, length, subst, sym, arith}
 use Rattle.std.proofs.lemmas.List.{length_push}
 use Rattle.worlds.proofs.Opened.{pushed}
-use Rattle.choice_ranks.specs.Seats.{IsInstalled, Seated}
+use Rattle.plan_choice.specs.ranks.Seats.{IsInstalled, Seated}
 use Rattle.plan_choice.specs.Acts.{no_seated, seat_at}
 use Rattle.plan_choice.proofs.laying.seat_all.Goals as goal
 

@@ -1,5 +1,5 @@
 use Rattle.std.proofs.Common.{ℕ, ◌<◌, ◌≡◌, length}
-use Rattle.choice_ranks.specs.Seats.{IsInstalled}
+use Rattle.plan_choice.specs.ranks.Seats.{IsInstalled}
 use Rattle.plan_choice.specs.Acts.{seat_at}
 use Rattle.plan_choice.proofs.laying.seat_all.Given as goal
 

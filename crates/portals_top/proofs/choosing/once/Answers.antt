@@ -1,6 +1,6 @@
 use Rattle.std.proofs.Common.{◌∙◌, ap, length}
 use Rattle.std.proofs.lemmas.List.{length-map}
-use Rattle.choice_ranks.specs.Seats.{kind_of}
+use Rattle.plan_choice.specs.ranks.Seats.{kind_of}
 use Rattle.portals_top.specs.Answered.{LeavesChosen}
 use Rattle.portals_top.specs.declared.ran.Ran.{Ran}
 use Rattle.portals_top.specs.declared.words.Command.TheVariants.{Execute}

@@ -1,8 +1,8 @@
 use Rattle.std.proofs.Common.{◌≡◌, ◌∙◌, refl, subst, sym}
 use Rattle.ptl_types.specs.Handles.{top}
 use Rattle.rand_pcg.specs.Lcg.{Lcg}
-use Rattle.plan_cuts.specs.System.{System}
-use Rattle.plan_orders.specs.Chosen.{first_scene}
+use Rattle.cuts.specs.histories.System.{System}
+use Rattle.cuts.specs.orders.Chosen.{first_scene}
 use Rattle.worlds.specs.Runs.{Running, chosen_run}
 use Rattle.plan_choice.specs.World.{ranks_in, scene_in}
 use Rattle.portals_top.specs.Runs.{after_words, chosen_number, generator, word, words_left}

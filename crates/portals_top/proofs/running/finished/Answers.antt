@@ -1,7 +1,7 @@
 use Rattle.std.proofs.Common.{◌∙◌, sym, subst}
-use Rattle.plan_orders.specs.Chosen.{Scene}
-use Rattle.plan_orders.specs.Reached.IsReached.{Begun}
-use Rattle.plan_cuts.specs.System.{System}
+use Rattle.cuts.specs.orders.Chosen.{Scene}
+use Rattle.cuts.specs.orders.Reached.IsReached.{Begun}
+use Rattle.cuts.specs.histories.System.{System}
 use Rattle.worlds.specs.World.{ranks_in, scene_in}
 use Rattle.portals_top.proofs.Reaching.{Here, travels-reached}
 use Rattle.portals_top.proofs.Rests.{run-of, same-ranks}

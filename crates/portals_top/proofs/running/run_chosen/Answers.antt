@@ -1,8 +1,8 @@
 use Rattle.std.proofs.Common.{◌∙◌, refl, subst, sym}
 use Rattle.rand_pcg.specs.Lcg.{Lcg}
-use Rattle.plan_cuts.specs.System.{System}
-use Rattle.plan_orders.specs.Chosen.{Scene}
-use Rattle.plan_orders.specs.Reached.IsReached.{Begun}
+use Rattle.cuts.specs.histories.System.{System}
+use Rattle.cuts.specs.orders.Chosen.{Scene}
+use Rattle.cuts.specs.orders.Reached.IsReached.{Begun}
 use Rattle.worlds.specs.Runs.{Running}
 use Rattle.worlds.specs.World.{ranks_in, scene_in}
 use Rattle.portals_top.specs.Runs.{after_words, chosen_number, word, words_left}

@@ -1,7 +1,7 @@
 use Rattle.std.proofs.Common.{◌≡◌, ◌≤◌, drop}
 use Rattle.std.specs.Prelude.{vec_capacity}
 use Rattle.ni_model.specs.Headers.{found_in}
-use Rattle.plan_start.specs.Start.{bring_all}
+use Rattle.cuts.specs.start.Start.{bring_all}
 use Rattle.rank_node.proofs.start.bring_found.Given as goal
 
 abbrev pub invariant-loop-i : goal.invariant-loop-i

@@ -5,7 +5,7 @@ use Rattle.pair_wires.specs.declared.bounds.Bounds.{Bounds}
 use Rattle.pair_wires.specs.Lanes.{Plain}
 use Rattle.pair_wires.specs.Wires.{one_if}
 use Rattle.plan_calls.specs.Lanes.{is_used_lane}
-use Rattle.plan_worlds.specs.Places.{lane_place}
+use Rattle.cuts.specs.windows.Places.{lane_place}
 use Rattle.rank_node.specs.Node.{NodeState}
 use Rattle.schedule_compiler.specs.Jobs.{JobOf}
 use Rattle.worlds.specs.FrameLends.{with_lane}

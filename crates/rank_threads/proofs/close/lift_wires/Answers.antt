@@ -4,10 +4,10 @@ use mathlib.Core.Option.{some}
 use lib.ListN.{get_elem?}
 use Rattle.pair_wires.specs.Lanes.{Plain}
 use Rattle.pair_wires.specs.Wires.{WireState}
-use Rattle.plan_worlds.specs.Places.{lane_place}
+use Rattle.cuts.specs.windows.Places.{lane_place}
 use Rattle.shape_plans.specs.Drawing.{plan_of}
 use Rattle.coll_shape.specs.Outline.{Outline}
-use Rattle.world_parts.specs.Layout.{lane_at}
+use Rattle.worlds.specs.parts.Layout.{lane_at}
 use Rattle.worlds.specs.FrameState.{FrameState}
 use Rattle.worlds.specs.Frames.{frame_lane}
 use Rattle.rank_slots.specs.Lanes.{IsLane}

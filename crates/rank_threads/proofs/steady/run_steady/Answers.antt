@@ -1,7 +1,7 @@
 use Rattle.std.proofs.Common.{◌∙◌, List, ap, arith, rules, subst, sym}
 use Rattle.std.specs.Prelude.{All}
 use mathlib.Core.Option.{some-injective}
-use Rattle.plan_cuts.specs.System.{Histories}
+use Rattle.cuts.specs.histories.System.{Histories}
 use Rattle.turn_table.specs.Hands.{IsFree, parts_of}
 use Rattle.turn_table.specs.States.{HandState}
 use Rattle.rank_slots.specs.declared.slot.Slot.{Slot}

@@ -1,6 +1,6 @@
 use Rattle.std.proofs.Common.{◌≡◌, ◌+◌, ◌*◌, true, length, ap, ◌∙◌, arith}
 use Rattle.std.proofs.lemmas.List.{length-map, get_or-set_other}
-use Rattle.place_threads.specs.Threads.{Woven, thread, is_threaded, without, with_place}
+use Rattle.chain_list.specs.threads.Threads.{Woven, thread, is_threaded, without, with_place}
 use Rattle.triggered_ops.specs.Layout.{Spotted, wait_at}
 use Rattle.triggered_ops.proofs.Hanging.{home-due, length-taken, thread-without}
 use Rattle.triggered_ops.proofs.Moving.{home-thread, on-first, waits-on, threaded, left-free, made-due}

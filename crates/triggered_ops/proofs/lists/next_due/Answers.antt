@@ -1,5 +1,5 @@
 use Rattle.std.proofs.Common.{◌+◌, ◌*◌, ◌<◌, ◌≤◌, false, length, sym, ap, subst, ◌∙◌}
-use Rattle.place_threads.specs.Threads.{thread, first_place}
+use Rattle.chain_list.specs.threads.Threads.{thread, first_place}
 use Rattle.triggered_ops.specs.Layout.{wait_at}
 use Rattle.triggered_ops.proofs.Hanging.{home-waiting}
 use Rattle.triggered_ops.proofs.Moving.{home-thread, on-first, waits-on, none-waiting, first-high}

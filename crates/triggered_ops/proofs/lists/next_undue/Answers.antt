@@ -1,5 +1,5 @@
 use Rattle.std.proofs.Common.{◌*◌, ◌<◌, ◌≤◌, true, length, sym, ap, subst, ◌∙◌}
-use Rattle.place_threads.specs.Threads.{thread, last_place}
+use Rattle.chain_list.specs.threads.Threads.{thread, last_place}
 use Rattle.triggered_ops.specs.Layout.{wait_at}
 use Rattle.triggered_ops.proofs.Hanging.{home-due}
 use Rattle.triggered_ops.proofs.Moving.{home-thread, on-last, waits-on, none-due, last-low}

@@ -1,5 +1,5 @@
 use Rattle.std.proofs.Common.{◌<◌, length, sym, ap, subst, ◌∙◌, arith}
-use Rattle.place_threads.specs.Threads.{Woven, is_threaded}
+use Rattle.chain_list.specs.threads.Threads.{Woven, is_threaded}
 use Rattle.triggered_ops.specs.Layout.{Spotted, wait_at}
 use Rattle.triggered_ops.proofs.Hanging.{home-hung}
 use Rattle.triggered_ops.proofs.Entering.{carried, entered-threaded}

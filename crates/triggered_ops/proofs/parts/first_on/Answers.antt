@@ -1,6 +1,6 @@
 use Rattle.std.proofs.Common.{◌≡◌, ◌<◌, ℕ, true, false, Option, Some, None, length, refl, sym, ap, subst, ◌∙◌}
 use Rattle.std.specs.Prelude.{IfNone}
-use Rattle.place_threads.specs.Threads.{thread, first_place}
+use Rattle.chain_list.specs.threads.Threads.{thread, first_place}
 use Rattle.triggered_ops.specs.Layout.{wait_at}
 use Rattle.triggered_ops.proofs.Hanging.{home-due, home-waiting}
 use Rattle.triggered_ops.proofs.Moving.{home-thread, first-of_waiting, first-of_due, none-on_lists}

@@ -1,5 +1,5 @@
 use Rattle.std.proofs.Common.{◌<◌, length, sym, ap, subst, ◌∙◌}
-use Rattle.place_threads.specs.Threads.{Woven, thread}
+use Rattle.chain_list.specs.threads.Threads.{Woven, thread}
 use Rattle.triggered_ops.specs.Hung.{Ascending}
 use Rattle.triggered_ops.specs.Layout.{wait_at}
 use Rattle.triggered_ops.proofs.Entering.{entered, entered-stray}

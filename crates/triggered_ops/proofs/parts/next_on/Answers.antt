@@ -1,6 +1,6 @@
 use Rattle.std.proofs.Common.{sym, ap, ◌∙◌}
-use Rattle.place_threads.specs.Threads.{thread}
-use Rattle.place_threads.proofs.ThreadLemmas.{on_one}
+use Rattle.chain_list.specs.threads.Threads.{thread}
+use Rattle.chain_list.proofs.threads.ThreadLemmas.{on_one}
 use Rattle.triggered_ops.specs.Hung.{next_in}
 use Rattle.triggered_ops.proofs.parts.next_on.Goals as goal
 

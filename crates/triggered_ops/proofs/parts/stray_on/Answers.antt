@@ -1,5 +1,5 @@
 use Rattle.std.proofs.Common.{◌≡◌, ◌*◌, None, [], length, sym, ap, ◌∙◌, rules}
-use Rattle.place_threads.specs.Threads.{thread, first_place}
+use Rattle.chain_list.specs.threads.Threads.{thread, first_place}
 use Rattle.triggered_ops.specs.Hung.{WaitsOn, next_in}
 use Rattle.triggered_ops.specs.Layout.{wait_at}
 use Rattle.triggered_ops.proofs.Hanging.{last-none, walk-begin, walk-step, walk-all}

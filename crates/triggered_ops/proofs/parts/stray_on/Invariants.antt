@@ -1,6 +1,6 @@
 -- None of those up to a place waits on it.
 use Rattle.std.proofs.Common.{length, ◌*◌}
-use Rattle.place_threads.specs.Threads.{thread}
+use Rattle.chain_list.specs.threads.Threads.{thread}
 use Rattle.triggered_ops.specs.Hung.{rest_after, WaitsOn}
 use Rattle.triggered_ops.specs.Layout.{wait_at}
 use Rattle.triggered_ops.proofs.Hanging.{IsWalk}

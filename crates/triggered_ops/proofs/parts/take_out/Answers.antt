@@ -1,5 +1,5 @@
 use Rattle.std.proofs.Common.{None, cond, nat_eq, sym, ap, subst, ◌∙◌}
-use Rattle.place_threads.specs.Threads.{Woven, without_place}
+use Rattle.chain_list.specs.threads.Threads.{Woven, without_place}
 use Rattle.triggered_ops.specs.Hung.{IsHung}
 use Rattle.triggered_ops.specs.Layout.{Spotted, wait_at}
 use Rattle.triggered_ops.proofs.Hanging.{unhung, hung-same}

@@ -1,5 +1,5 @@
 use Rattle.std.proofs.Common.{◌≤◌}
-use Rattle.place_threads.specs.Threads.{thread}
+use Rattle.chain_list.specs.threads.Threads.{thread}
 use Rattle.triggered_ops.specs.Hung.{threshold_of}
 use Rattle.triggered_ops.specs.Layout.{wait_at}
 use Rattle.triggered_ops.proofs.Hanging.{walk-begin, walk-step, walk-end}

@@ -1,6 +1,6 @@
 -- Those up to a place are no higher.
 use Rattle.std.proofs.Common.{◌≤◌, length}
-use Rattle.place_threads.specs.Threads.{thread}
+use Rattle.chain_list.specs.threads.Threads.{thread}
 use Rattle.triggered_ops.specs.Hung.{rest_after, threshold_of}
 use Rattle.triggered_ops.specs.Layout.{wait_at}
 use Rattle.triggered_ops.proofs.Hanging.{IsWalk}

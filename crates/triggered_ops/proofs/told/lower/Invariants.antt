@@ -1,7 +1,7 @@
 -- As while raising; and those that wait are above the sum.
 use Rattle.std.proofs.Common.{◌≡◌, ℕ, ◌*◌, ◌<◌, ◌≤◌, true, false, Some, map, length}
 use Rattle.ptl_types.specs.Handles.{same_handle}
-use Rattle.place_threads.specs.Threads.{thread}
+use Rattle.chain_list.specs.threads.Threads.{thread}
 use Rattle.triggered_ops.specs.declared.spots.Wait.{Wait}
 use Rattle.triggered_ops.specs.Operations.{told_if, waits_on}
 use Rattle.triggered_ops.specs.Layout.{operations_in, wait_at}

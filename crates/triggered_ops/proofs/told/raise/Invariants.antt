@@ -1,6 +1,6 @@
 -- Telling the sum to what there is now comes to what telling it at first would have.
 use Rattle.std.proofs.Common.{◌≡◌, ◌+◌, ◌*◌, ◌≤◌, map, length}
-use Rattle.place_threads.specs.Threads.{thread}
+use Rattle.chain_list.specs.threads.Threads.{thread}
 use Rattle.triggered_ops.specs.Operations.{told_if, waits_on}
 use Rattle.triggered_ops.specs.Layout.{operations_in, wait_at}
 use Rattle.triggered_ops.specs.Hung.{IsHung, IsSame}

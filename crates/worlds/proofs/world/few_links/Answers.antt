@@ -2,7 +2,7 @@
 use Rattle.std.proofs.Common.{subst, arith}
 use Rattle.coll_shape.specs.Outline.{Outline}
 use Rattle.shape_plans.specs.Drawing.{plan_of}
-use Rattle.world_open.specs.Laying.{FitLanes}
+use Rattle.worlds.specs.opening.Laying.{FitLanes}
 use Rattle.worlds.proofs.world.few_links.Goals as goal
 
 pub returns : goal.returns

@@ -1,5 +1,5 @@
 use Rattle.std.proofs.Common.{sym, ◌∙◌}
-use Rattle.user_counts.proofs.SlotLemmas.{own-slot}
+use Rattle.ni_objects.proofs.users.SlotLemmas.{own-slot}
 use Rattle.initiator_engine.proofs.initiator.Initiator.is_bound.Goals as goal
 
 pub returns-clause-alone : goal.returns-clause-alone

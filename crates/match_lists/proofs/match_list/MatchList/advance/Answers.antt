@@ -1,6 +1,6 @@
 use Rattle.std.proofs.Common.{◌≡◌, ◌+◌, List, Some, true, set, sym, ap, subst, ◌∙◌, arith}
 use Rattle.std.specs.Option.{is_some}
-use Rattle.place_threads.specs.Threads.{Woven}
+use Rattle.chain_list.specs.threads.Threads.{Woven}
 use Rattle.chain_list.specs.Chain.{chain_list, value_at, changed}
 use Rattle.ni_model.specs.declared.Linked.{Linked}
 use Rattle.std.proofs.lemmas.List.{length-set}

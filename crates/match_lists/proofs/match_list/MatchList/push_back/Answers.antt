@@ -7,7 +7,7 @@ use Rattle.match_lists.specs.Indexed.{IsMatchList}
 use Rattle.match_lists.proofs.LookLemmas.{seen-push}
 use Rattle.chain_list.specs.Chain.{ChainList, keyed, Apart}
 use Rattle.chain_list.proofs.ChainLemmas.{Apart-before}
-use Rattle.place_threads.specs.Threads.{with_place}
+use Rattle.chain_list.specs.threads.Threads.{with_place}
 use Rattle.ni_model.specs.declared.Linked.{Linked}
 use Rattle.match_lists.proofs.BucketLemmas.{thread-le}
 use Rattle.match_lists.proofs.IndexLemmas.{free-place, IsIndexed-push}

@@ -1,5 +1,5 @@
 use Rattle.std.proofs.Common.{◌≡◌, ◌+◌, ◌*◌, [], replicate, ap, ◌∙◌}
-use Rattle.place_threads.specs.Threads.{woven}
+use Rattle.chain_list.specs.threads.Threads.{woven}
 use Rattle.match_lists.specs.Buckets.{last_thread}
 use Rattle.match_lists.proofs.IndexLemmas.{IsIndexed-none}
 use Rattle.match_lists.proofs.LookLemmas.{IsMatchList-none}

@@ -3,8 +3,8 @@ use Rattle.std.proofs.Common.{◌+◌, ◌-◌, ◌<◌, ◌≡◌, ◌∙◌, S
 use Rattle.std.proofs.lemmas.List.{get_or_read}
 use Rattle.std.specs.List.{slice_get}
 use Rattle.ni_model.specs.Ready.{ready_numbers}
-use Rattle.plan_orders.specs.declared.Step.{Step}
-use Rattle.choice_ranks.specs.Seats.{Seated}
+use Rattle.cuts.specs.declared.orders.Step.{Step}
+use Rattle.plan_choice.specs.ranks.Seats.{Seated}
 use Rattle.plan_choice.specs.Acts.{no_seated}
 use Rattle.plan_choice.specs.World.{ChoiceState, steps_in}
 use Rattle.plan_choice.proofs.Standing.{delivery_in, firing_in, firings_there, number, start_in}

@@ -1,8 +1,8 @@
 -- The seat's interface is that of the end of its history.
 use Rattle.std.proofs.Common.{◌<◌, ◌∙◌, ap, arith, length, subst, sym}
 use Rattle.std.proofs.lemmas.List.{get_or_read}
-use Rattle.plan_cuts.specs.System.{state_at}
-use Rattle.choice_ranks.specs.Seats.{Seated}
+use Rattle.cuts.specs.histories.System.{state_at}
+use Rattle.plan_choice.specs.ranks.Seats.{Seated}
 use Rattle.plan_choice.specs.Acts.{no_seated}
 use Rattle.plan_choice.specs.World.{ChoiceState, histories_in, ranks_in}
 use Rattle.plan_choice.proofs.world.ChoiceWorld.nic.Goals as goal

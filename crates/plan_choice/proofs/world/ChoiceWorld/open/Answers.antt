@@ -4,10 +4,10 @@ use Rattle.std.proofs.lemmas.List.{length-map}
 use Rattle.coll_lang.specs.declared.choices.ChoiceKind.{ChoiceKind}
 use Rattle.coll_lang.specs.declared.choices.ChoiceStep.{ChoiceStep}
 use Rattle.ptl_types.specs.declared.headers.Lane.{Lane}
-use Rattle.plan_worlds.specs.Places.{lane_place}
-use Rattle.world_parts.specs.Layout.{lane_at}
+use Rattle.cuts.specs.windows.Places.{lane_place}
+use Rattle.worlds.specs.parts.Layout.{lane_at}
 use Rattle.worlds.proofs.Opened.{few-pairs}
-use Rattle.choice_ranks.specs.Seats.{IsInstalled, Seated, kind_of, kinds_of}
+use Rattle.plan_choice.specs.ranks.Seats.{IsInstalled, Seated, kind_of, kinds_of}
 use Rattle.plan_choice.specs.Acts.{firing_count, seat_at, start_count}
 use Rattle.plan_choice.specs.Laying.{laid_lane}
 use Rattle.plan_choice.proofs.Opening.{is_first, opened_fields, standing}

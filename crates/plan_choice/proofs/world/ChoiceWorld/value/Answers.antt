@@ -3,9 +3,9 @@ use Rattle.std.proofs.Common.{ℕ, List, ◌+◌, ◌*◌, ◌<◌, ◌∙◌, a
 use Rattle.std.proofs.lemmas.List.{get_or_read}
 use Rattle.ptl_types.specs.Elements.{part, pattern}
 use Rattle.ni_model.specs.State.{State}
-use Rattle.choice_laws.proofs.Traffic.{words_within}
-use Rattle.choice_laws.specs.Decided.{result_of}
-use Rattle.choice_ranks.specs.Seats.{Seated}
+use Rattle.choices.proofs.laws.Traffic.{words_within}
+use Rattle.choices.specs.laws.Decided.{result_of}
+use Rattle.plan_choice.specs.ranks.Seats.{Seated}
 use Rattle.plan_choice.specs.Acts.{no_seated}
 use Rattle.plan_choice.specs.World.{ChoiceState, histories_in, nic_in, scene_in}
 use Rattle.plan_choice.proofs.Moving.{moment_in, slots_at}

@@ -1,7 +1,7 @@
 use Rattle.std.proofs.Common.{◌≡◌, true, sym, ◌∙◌, arith}
 use Rattle.ni_model.specs.Tables.{is_live}
-use Rattle.user_counts.specs.Rows.{HasOwnSlot}
-use Rattle.user_counts.proofs.SlotLemmas.{own-slot, slot-found}
+use Rattle.ni_objects.specs.users.Rows.{HasOwnSlot}
+use Rattle.ni_objects.proofs.users.SlotLemmas.{own-slot, slot-found}
 use Rattle.portals_ni.proofs.Alone.{queues-alone, bound-eqs-alone}
 use Rattle.portals_ni.proofs.Equations.{unqueue-ends, live-true}
 use Rattle.portals_ni.proofs.Stands.{ended-stands}

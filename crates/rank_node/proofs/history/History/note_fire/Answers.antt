@@ -1,5 +1,5 @@
 use Rattle.std.proofs.Common.{◌≡◌, ◌∙◌, ap, refl, sym, arith}
-use Rattle.plan_cuts.specs.History.Local.{Fire}
+use Rattle.cuts.specs.histories.History.Local.{Fire}
 use Rattle.rank_node.specs.Copies.{Diary}
 use Rattle.rank_node.proofs.Copies.{listed-push, started-push, or-false}
 use Rattle.rank_node.proofs.history.History.note_fire.Goals as goal

@@ -1,5 +1,5 @@
 use Rattle.std.proofs.Common.{◌≡◌, ◌∙◌, ap, refl, sym, arith}
-use Rattle.plan_cuts.specs.History.Local.{Receive}
+use Rattle.cuts.specs.histories.History.Local.{Receive}
 use Rattle.rank_node.specs.Copies.{Diary}
 use Rattle.rank_node.proofs.Copies.{listed-push, started-push, or-false}
 use Rattle.rank_node.proofs.history.History.note_receipt.Goals as goal

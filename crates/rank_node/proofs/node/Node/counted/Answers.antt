@@ -1,6 +1,6 @@
 use Rattle.std.proofs.Common.{◌≡◌, ◌<◌, ◌∙◌, Some, length, subst, sym, arith}
 use Rattle.ni_model.specs.Tables.{lookup}
-use Rattle.plan_view.specs.Slots.{Slots, done_ct}
+use Rattle.cuts.specs.view.Slots.{Slots, done_ct}
 use Rattle.rank_node.specs.Handles.{Agrees}
 use Rattle.rank_node.specs.Node.{NodeState}
 use Rattle.rank_node.proofs.Nodes.{done-told, done-known}

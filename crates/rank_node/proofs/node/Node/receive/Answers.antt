@@ -1,7 +1,7 @@
 use Rattle.std.proofs.Common.{◌≡◌, ◌<◌, ◌≤◌, length, ap, sym, subst}
 use Rattle.ni_model.specs.State.{Delivers, target}
-use Rattle.plan_cuts.specs.History.{May}
-use Rattle.plan_cuts.specs.History.Local.{Receive}
+use Rattle.cuts.specs.histories.History.{May}
+use Rattle.cuts.specs.histories.History.Local.{Receive}
 use Rattle.rank_node.specs.Copies.{has_start}
 use Rattle.rank_node.specs.Node.{NodeState, task_from}
 use Rattle.rank_node.proofs.Nodes.{receipt-node}

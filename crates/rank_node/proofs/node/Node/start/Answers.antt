@@ -1,9 +1,9 @@
 use Rattle.std.proofs.Common.{◌≡◌, ◌∙◌, false, nat_lt, count_by, ap, ap₂, refl, sym, subst}
 use Rattle.ptl_types.specs.declared.steps.LocalStep.TheVariants.{Start}
-use Rattle.plan_view.specs.Slots.{Slots, counter_at}
-use Rattle.plan_cuts.specs.History.{is_start}
-use Rattle.plan_cuts.specs.History.Local.{Start as Started}
-use Rattle.plan_start.specs.Start.{go_raised}
+use Rattle.cuts.specs.view.Slots.{Slots, counter_at}
+use Rattle.cuts.specs.histories.History.{is_start}
+use Rattle.cuts.specs.histories.History.Local.{Start as Started}
+use Rattle.cuts.specs.start.Start.{go_raised}
 use Rattle.rank_node.specs.Handles.{Agrees, AreAllOf}
 use Rattle.rank_node.specs.Start.{AreStarted}
 use Rattle.rank_node.specs.Copies.{has_start, with_step}

@@ -28,7 +28,7 @@ use denote.Triple.Entry.{on_entry, alive, Args}
 use denote.Triple.Spec.{Meets, triple_of}
 use denote.Triple.Table.{entered}
 use denote.Triple.Walked.{says, stay_none_ref, Stays, walk_of, Walks, ends_at, walked, Goes-none_ref, walk_Meets}
-use Rattle.plan_cuts.specs.History.Local.{Fire}
+use Rattle.cuts.specs.histories.History.Local.{Fire}
 use Rattle.rank_node.specs.contracts.past.Past as past
 use Rattle.rank_node.specs.contracts.past.Past.fired as f
 use Rattle.rank_node.specs.contracts.past.Past.fired.Key.{name as key}

@@ -30,7 +30,7 @@ use denote.Triple.Table.{entered}
 use denote.Triple.Walked.{says, stay_none_ref, Stays, walk_of, Walks, ends_at, walked, Goes-none_ref, walk_Meets}
 use Rattle.std.specs.Prelude.{◌-◌, length}
 use Rattle.ptl_types.specs.Messages.{message}
-use Rattle.plan_cuts.specs.History.Local.{Receive}
+use Rattle.cuts.specs.histories.History.Local.{Receive}
 use Rattle.ptl_types.specs.contracts.headers.Lane as lane
 use Rattle.ptl_types.specs.contracts.headers.Header as header
 use Rattle.ptl_types.specs.contracts.bytes.Bytes as bytes

@@ -27,7 +27,7 @@ use denote.Triple.Entry.{on_entry, alive, Args}
 use denote.Triple.Spec.{Meets, triple_of}
 use denote.Triple.Table.{entered}
 use denote.Triple.Walked.{says, stay_none_ref, Stays, walk_of, Walks, ends_at, walked, Goes-none_ref, walk_Meets}
-use Rattle.plan_cuts.specs.History.Local.{Start}
+use Rattle.cuts.specs.histories.History.Local.{Start}
 use Rattle.rank_node.specs.contracts.past.Past as past
 use Rattle.rank_node.specs.contracts.past.Past.started as f
 use Rattle.rank_node.specs.contracts.past.Past.started.Key.{name as key}

@@ -1,7 +1,7 @@
 use Rattle.std.proofs.Common.{◌≡◌, ◌∙◌, map, sym, ap, refl, subst}
 use Rattle.shape_plans.specs.Drawing.{plan_of}
-use Rattle.plan_cuts.specs.History.{made_by}
-use Rattle.plan_cuts.specs.History.Local.{Fire}
+use Rattle.cuts.specs.histories.History.{made_by}
+use Rattle.cuts.specs.histories.History.Local.{Fire}
 use Rattle.rank_node.specs.Handles.{slots_of}
 use Rattle.rank_node.specs.Node.{IsNode, NodeState, fired_node}
 use Rattle.rank_slots.specs.Joints.{out_joint}

@@ -2,7 +2,7 @@ use Rattle.std.proofs.Common.{◌<◌, ◌∙◌, List, length, sym, ap, subst}
 use lib.ListN.{get_elem?}
 use Rattle.atomic_table.proofs.Lists.{at_index}
 use Rattle.ptl_types.specs.Messages.{Sent}
-use Rattle.plan_cuts.specs.History.{got}
+use Rattle.cuts.specs.histories.History.{got}
 use Rattle.rank_slots.specs.declared.ports.InPort.{InPort}
 use Rattle.rank_slots.specs.Names.{history}
 use Rattle.rank_slots.proofs.Pairs.{same_at, within}

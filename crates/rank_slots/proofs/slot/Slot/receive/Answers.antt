@@ -1,7 +1,7 @@
 use Rattle.std.proofs.Common.{◌≡◌, ◌<◌, ◌≤◌, ◌∙◌, map, length, set, sym, ap, refl, subst, inl, length-set}
 use Rattle.shape_plans.specs.Drawing.{plan_of}
-use Rattle.plan_cuts.specs.History.{IsDue, got, made_by}
-use Rattle.plan_cuts.specs.History.Local.{Receive}
+use Rattle.cuts.specs.histories.History.{IsDue, got, made_by}
+use Rattle.cuts.specs.histories.History.Local.{Receive}
 use Rattle.atomic_table.proofs.Lists.{at_index, at_map, set_else, set_here}
 use Rattle.rank_node.specs.Node.{IsNode, NodeState, received_node}
 use Rattle.rank_slots.specs.declared.ports.InPort.{InPort}

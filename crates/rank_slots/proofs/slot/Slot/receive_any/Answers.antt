@@ -2,7 +2,7 @@ use Rattle.std.proofs.Common.{◌≡◌, ◌≢◌, ◌<◌, ◌∙◌, ◌++◌
 use lib.ListN.{get_elem?}
 use Rattle.std.proofs.lemmas.Bool.{cases_eq}
 use Rattle.ptl_types.specs.declared.steps.LocalStep.TheVariants.{Receive}
-use Rattle.plan_cuts.specs.History.Local.{Receive as Received}
+use Rattle.cuts.specs.histories.History.Local.{Receive as Received}
 use Rattle.atomic_table.proofs.Lists.{at_index}
 use Rattle.rank_node.specs.Node.{NodeState}
 use Rattle.rank_slots.specs.declared.ports.OutPort.{OutPort}

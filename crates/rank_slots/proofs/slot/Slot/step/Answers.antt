@@ -1,7 +1,7 @@
 use Rattle.std.proofs.Common.{◌≡◌, ◌++◌, ◌∷◌, [], ◌∙◌, true, false, sym, ap, refl, subst}
 use Rattle.std.specs.Prelude.{Option, Some, None, IfSome, IfNone}
 use Rattle.ptl_types.specs.declared.steps.LocalStep.{LocalStep}
-use Rattle.plan_cuts.specs.History.Local.{Start as Started, Fire as Fired}
+use Rattle.cuts.specs.histories.History.Local.{Start as Started, Fire as Fired}
 use Rattle.rank_node.specs.Node.{NodeState}
 use Rattle.rank_node.specs.Copies.{has_start}
 use Rattle.rank_slots.specs.declared.slot.Slot.{Slot}

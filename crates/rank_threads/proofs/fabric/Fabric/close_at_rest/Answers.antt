@@ -1,11 +1,11 @@
 use Rattle.std.proofs.Common.{ℕ, ap, sym, subst, arith}
-use Rattle.plan_view.specs.Slots.{Slots}
-use Rattle.plan_cuts.specs.Plans.{system_of}
-use Rattle.plan_cuts.specs.Wave.{IsWave}
+use Rattle.cuts.specs.view.Slots.{Slots}
+use Rattle.cuts.specs.histories.Plans.{system_of}
+use Rattle.cuts.specs.histories.Wave.{IsWave}
 use Rattle.shape_plans.specs.Drawing.{plan_of}
 use Rattle.schedule_compiler.specs.Jobs.{JobOf}
 use Rattle.worlds.specs.World.{histories_in, ranks_in}
-use Rattle.world_parts.specs.Layout.{node_at}
+use Rattle.worlds.specs.parts.Layout.{node_at}
 use Rattle.rank_node.specs.Handles.{slots_of}
 use Rattle.rank_threads.specs.Fabrics.{FabricState}
 use Rattle.rank_slots.specs.Sound.{IsSound}

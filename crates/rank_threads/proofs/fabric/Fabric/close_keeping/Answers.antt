@@ -5,13 +5,13 @@ use Rattle.ptl_types.specs.declared.headers.Lane.{Lane}
 use Rattle.coll_shape.specs.Outline.{Outline}
 use Rattle.pair_wires.specs.Wires.{WireState}
 use Rattle.plan_calls.specs.Lanes.{is_used_lane}
-use Rattle.plan_orders.specs.Chosen.{Scene}
-use Rattle.plan_worlds.specs.Places.{lane_place}
+use Rattle.cuts.specs.orders.Chosen.{Scene}
+use Rattle.cuts.specs.windows.Places.{lane_place}
 use Rattle.shape_plans.specs.Drawing.{plan_of}
 use Rattle.rank_node.specs.Handles.{Agrees}
 use Rattle.rank_node.specs.Node.{NodeState}
 use Rattle.worlds.specs.Frames.{frame_lane}
-use Rattle.world_parts.specs.Layout.{lane_at}
+use Rattle.worlds.specs.parts.Layout.{lane_at}
 use Rattle.worlds.proofs.Ends.{barriers_in}
 use Rattle.rank_slots.specs.declared.slot.Slot.{Slot}
 use Rattle.rank_threads.specs.Closing.{IsLifted, IsWorldOf}

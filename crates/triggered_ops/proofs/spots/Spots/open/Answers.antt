@@ -1,6 +1,6 @@
 use Rattle.std.specs.Prelude.{vec_capacity}
 use Rattle.std.proofs.Common.{arith}
-use Rattle.place_marks.specs.Bits.{rounded}
+use Rattle.triggered_ops.specs.marks.Bits.{rounded}
 use Rattle.triggered_ops.proofs.Spotting.{spotted-none}
 use Rattle.triggered_ops.proofs.spots.Spots.open.Goals as goal
 

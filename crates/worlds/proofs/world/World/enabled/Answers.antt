@@ -1,6 +1,6 @@
 -- The counts of starts, deliveries and firings are those of the list.
 use Rattle.std.proofs.Common.{ap, arith, length, subst, sym}
-use Rattle.plan_cuts.specs.Cut.{IsAtRest}
+use Rattle.cuts.specs.histories.Cut.{IsAtRest}
 use Rattle.worlds.specs.Standing.{IsStanding}
 use Rattle.worlds.specs.World.{AreSlots, WorldState, histories_in, ranks_in, state_of, steps_in}
 use Rattle.worlds.proofs.Ends.{none_in, rests}

@@ -2,11 +2,11 @@
 use Rattle.std.proofs.Common.{ℕ, ◌+◌, ◌-◌, ◌<◌, ◌≡◌, ◌∙◌, Some, ap, arith, length, subst, sum, sym}
 use Rattle.std.proofs.lemmas.List.{get_or_read}
 use Rattle.std.specs.List.{slice_get}
-use Rattle.plan_orders.specs.declared.Step.{Step}
-use Rattle.plan_view.specs.Slots.{Slots}
+use Rattle.cuts.specs.declared.orders.Step.{Step}
+use Rattle.cuts.specs.view.Slots.{Slots}
 use Rattle.rank_node.specs.Gates.{open_numbers}
 use Rattle.rank_node.specs.Node.{NodeState}
-use Rattle.world_parts.specs.Layout.{no_node}
+use Rattle.worlds.specs.parts.Layout.{no_node}
 use Rattle.worlds.specs.World.{AreSlots, WorldState, state_of, steps_in}
 use Rattle.worlds.proofs.Ends.{given_slots, slots_given}
 use Rattle.worlds.proofs.Standing.{delivery_in, firing_in, firings_there, number, stands, start_in}

@@ -1,9 +1,9 @@
 -- The node's interface is that of the end of its history.
 use Rattle.std.proofs.Common.{◌<◌, ◌∙◌, ap, arith, length, subst, sym}
 use Rattle.std.proofs.lemmas.List.{get_or_read}
-use Rattle.plan_cuts.specs.System.{state_at}
+use Rattle.cuts.specs.histories.System.{state_at}
 use Rattle.rank_node.specs.Node.{NodeState}
-use Rattle.world_parts.specs.Layout.{no_node}
+use Rattle.worlds.specs.parts.Layout.{no_node}
 use Rattle.worlds.specs.World.{AreSlots, WorldState, histories_in, ranks_in}
 use Rattle.worlds.proofs.Standing.{stands}
 use Rattle.worlds.proofs.world.World.nic.Goals as goal

@@ -9,7 +9,7 @@ use Rattle.schedule_compiler.specs.Answers.{place_of}
 use Rattle.schedule_compiler.specs.declared.schedule.Place.{Place}
 use Rattle.shape_plans.proofs.Final.{result-cell}
 use Rattle.shape_plans.specs.Drawing.{drawing_of, plan_of}
-use Rattle.world_parts.specs.Layout.{no_node}
+use Rattle.worlds.specs.parts.Layout.{no_node}
 use Rattle.worlds.specs.World.{WorldState, state_of}
 use Rattle.worlds.proofs.Ends.{result_lies}
 use Rattle.worlds.proofs.Standing.{stands}

@@ -1,0 +1,4 @@
+pub mod machine
+pub mod view
+pub mod laws
+pub mod orders

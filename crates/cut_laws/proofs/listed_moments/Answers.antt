@@ -1,8 +1,0 @@
-use Rattle.cut_laws.proofs.Moments.{same_held, same_histories}
-use Rattle.cut_laws.proofs.listed_moments.Goals as goal
-
-pub returns : goal.returns
-returns c = record {
-  histories = λ ranks one other held later a b same r h. same_histories ranks one other held later a b same r;
-  lanes = λ ranks one other held later a b same s d lane. same_held ranks one other held later a b same s d lane;
-}

@@ -1,0 +1,5 @@
+use Rattle.cuts.proofs.windows.Listed.{wide}
+use Rattle.cuts.proofs.windows.wide_windows.Goals as goal
+
+pub returns : goal.returns
+returns c = λ ranks window scene few. wide ranks scene window few

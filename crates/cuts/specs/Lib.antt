@@ -1,0 +1,10 @@
+pub mod machine
+pub mod view
+pub mod start
+pub mod histories
+pub mod rest
+pub mod done
+pub mod orders
+pub mod windows
+pub mod interleavings
+pub mod ended

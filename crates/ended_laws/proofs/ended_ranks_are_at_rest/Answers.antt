@@ -1,6 +1,0 @@
--- By `Rest`.
-use Rattle.ended_laws.proofs.Rest.{at_rest}
-use Rattle.ended_laws.proofs.ended_ranks_are_at_rest.Goals as goal
-
-pub returns : goal.returns
-returns c = λ plan inputs slots world sound fit cut ended. at_rest plan inputs slots world sound fit cut ended

@@ -1,9 +1,0 @@
-use Rattle.job_interleavings.proofs.Described.{bounded, exact}
-use Rattle.job_interleavings.proofs.every_interleaving_ends.Goals as goal
-
-pub returns : goal.returns
-returns c = record {
-  bounded = λ bytes d slots steps strays world held is accepted reached. bounded bytes d slots steps strays world held is accepted reached;
-  exact = λ bytes d slots steps strays world held is accepted reached still.
-      exact bytes d slots steps strays world held is accepted reached still;
-}

@@ -1,6 +1,0 @@
-use Rattle.job_interleavings.proofs.Described.{meant_with_strays}
-use Rattle.job_interleavings.proofs.every_interleaving_with_strays_is_meant.Goals as goal
-
-pub returns : goal.returns
-returns c = λ bytes d slots steps strays world held is accepted reached still.
-    meant_with_strays bytes d slots steps strays world held is accepted reached still

@@ -1,6 +1,0 @@
-use Rattle.job_interleavings.proofs.Described.{one_choice}
-use Rattle.job_interleavings.proofs.orders_leave_one_choice.Goals as goal
-
-pub returns : goal.returns
-returns c = λ bytes d slots one other is accepted a b clean pure same r h.
-    one_choice bytes d slots one other is accepted a b clean pure same r h

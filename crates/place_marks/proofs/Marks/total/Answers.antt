@@ -1,6 +1,0 @@
-use Rattle.std.proofs.Common.{◌∙◌}
-use Rattle.place_marks.proofs.Words.{sum-counts}
-use Rattle.place_marks.proofs.Marks.total.Goals as goal
-
-pub returns : goal.returns
-returns c = c.total.ensures.sum ∙ sum-counts c.self.inside.words.items c.self.inside.counts c.args.self.now c.self.invariant c.self.view_is

@@ -1,0 +1,12 @@
+use Rattle.std.proofs.Common.{◌*◌, ◌≡◌, ◌≤◌}
+use Rattle.std.specs.Prelude.{sum_by}
+use Rattle.plan_core.specs.Plan.{from_to}
+use Rattle.choices.specs.machine.Choices.{choice_at}
+use Rattle.choices.specs.machine.Counted.{told_steps}
+use Rattle.plan_choice.proofs.ranks.installing.told_in.Given as goal
+
+abbrev pub invariant-loop-i : goal.invariant-loop-i
+invariant-loop-i l = record {
+  sum : l.sum ≡ sum_by (λ s. told_steps (choice_at l.kinds s)) (from_to 0 l.i);
+  few : l.sum ≤ 5 * l.i;
+}

@@ -1,9 +1,0 @@
--- The laws of `Once`.
-use Rattle.plan_cuts.proofs.Once.{fired_once, ready_before}
-use Rattle.plan_cuts.proofs.firings.Goals as goal
-
-pub returns-clause-once : goal.returns-clause-once
-returns-clause-once c = λ t go begun from history l. fired_once t go history begun from l
-
-pub returns-clause-ready : goal.returns-clause-ready
-returns-clause-ready c = λ t go begun from front later l. ready_before t go front later begun from l

@@ -1,8 +1,0 @@
-use Rattle.op_laws.proofs.OpLaws.{op_laws}
-use Rattle.op_laws.proofs.Starts.{combined-starts}
-use Rattle.op_laws.proofs.Swaps.{combined-swaps}
-use Rattle.plan_orders.proofs.Steps.{holds_complete}
-use Rattle.plan_orders.proofs.what_holds_is_at_rest.Goals as goal
-
-pub returns : goal.returns
-returns c = λ plan inputs slots lists sound fit v. holds_complete combined-starts plan inputs slots lists sound fit (combined-swaps op_laws) v

@@ -1,6 +1,0 @@
--- By `StepArrive`.
-use Rattle.plan_view.proofs.StepArrive.{step_ack, due-here}
-use Rattle.plan_view.proofs.acknowledgement_counts.Goals as goal
-
-pub returns : goal.returns
-returns c = λ annex plan inputs slots r seen m h d. step_ack annex plan inputs slots r seen m h (due-here annex plan inputs slots r seen m h d)

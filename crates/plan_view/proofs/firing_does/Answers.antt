@@ -1,6 +1,0 @@
--- By `StepFire`.
-use Rattle.plan_view.proofs.StepFire.{ready_work, step_fire}
-use Rattle.plan_view.proofs.firing_does.Goals as goal
-
-pub returns : goal.returns
-returns c = λ annex plan inputs slots r seen t sound sized e. let w = ready_work annex plan inputs sound slots r seen t e in (w.0, w.1.ours, w.1.pending, step_fire annex plan inputs sound slots r seen t w.0 sized w.1)

@@ -1,6 +1,0 @@
--- By `StepFire`.
-use Rattle.plan_view.proofs.StepFire.{step_start}
-use Rattle.plan_view.proofs.start_begins.Goals as goal
-
-pub returns : goal.returns
-returns c = λ annex plan inputs slots r seen sound h e. step_start annex plan inputs sound slots r h seen e

@@ -1,8 +1,0 @@
-use Rattle.plan_worlds.proofs.Listed.{enabled_listed, possible_listed}
-use Rattle.plan_worlds.proofs.all_are_listed.Goals as goal
-
-pub returns : goal.returns
-returns c = record {
-  enabled = λ ranks scene r e h on. enabled_listed ranks scene r e h on;
-  possible = λ ranks window scene r e h on may. possible_listed ranks scene window r e h on may;
-}

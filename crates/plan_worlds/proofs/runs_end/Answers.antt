@@ -1,5 +1,0 @@
-use Rattle.plan_worlds.proofs.Falling.{falls}
-use Rattle.plan_worlds.proofs.runs_end.Goals as goal
-
-pub returns : goal.returns
-returns c = λ plan inputs slots strays window scene step sound fit moment i most. falls plan inputs sound fit slots strays scene window step moment i most

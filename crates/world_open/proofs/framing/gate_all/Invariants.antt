@@ -1,5 +1,0 @@
-use Rattle.world_open.proofs.Told.{AreGatedTo}
-use Rattle.world_open.proofs.framing.gate_all.Given as goal
-
-abbrev pub invariant-loop-pair : goal.invariant-loop-pair
-invariant-loop-pair l = AreGatedTo l.ranks l.window l.lanes l.fn.nodes l.nodes l.pair

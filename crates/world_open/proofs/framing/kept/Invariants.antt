@@ -1,7 +1,0 @@
-use Rattle.std.proofs.Common.{ℕ, ◌<◌}
-use Rattle.rank_node.specs.Node.{IsNode}
-use Rattle.world_parts.specs.Layout.{node_at}
-use Rattle.world_open.proofs.framing.kept.Given as goal
-
-abbrev pub invariant-loop-r : goal.invariant-loop-r
-invariant-loop-r l = (k : ℕ) → k < l.r → IsNode (node_at l.nodes k)

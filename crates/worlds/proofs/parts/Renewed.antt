@@ -1,0 +1,90 @@
+-- The parts after a step, with gates told and counts made right, are those of a world.
+use Rattle.std.proofs.Common.{ℕ, ◌+◌, ◌<◌, ◌≤◌, ◌≡◌, ◌∙◌, List, length, count_by, sum_by, refl, sym, subst}
+use Rattle.pair_wires.specs.Lanes.{Plain}
+use Rattle.ptl_types.specs.declared.headers.Lane.TheVariants.{Request}
+use Rattle.plan_core.specs.Plan.{Plan, from_to}
+use Rattle.plan_core.specs.Values.{Inputs}
+use Rattle.cuts.specs.view.Slots.{Slots}
+use Rattle.cuts.specs.histories.Cut.{is_received_stray, is_stray}
+use Rattle.cuts.specs.histories.Moment.{IsMoment}
+use Rattle.cuts.specs.histories.Plans.{system_of}
+use Rattle.rank_node.specs.of_plan.Ranks.{AreShort}
+use Rattle.cuts.specs.orders.Chosen.{Scene}
+use Rattle.cuts.specs.windows.Places.{lane_place}
+use Rattle.rank_node.specs.Copies.{Diary}
+use Rattle.rank_node.specs.Handles.{Agrees}
+use Rattle.rank_node.specs.Node.{NodeState}
+use Rattle.rank_node.specs.Plans.{IsCompiledFor}
+use Rattle.worlds.specs.parts.Keeps.{AgreeAll, AreCounted, AreParts, AreStrays, IsWorld}
+use Rattle.worlds.specs.parts.Layout.{lane_at, node_at, scene_of}
+use Rattle.worlds.specs.parts.Marks.{gated}
+use Rattle.worlds.proofs.parts.Gated.{IsGated, gated_size, is_gated, same_gates, scene_gated}
+
+-- nodes that differ from those after the step by their gates alone, and counts that are right
+pub record IsRenewed (n window : ℕ) (news : List NodeState) (later : List Plain) (nexts : List NodeState) (a b c : List ℕ)
+    : Type 0 where
+  pub size : length nexts ≡ length news
+  pub told : (r : ℕ) → IsGated (node_at news r) (node_at nexts r)
+  pub counted : AreCounted n nexts later a b c window
+
+-- no node is told anything
+pub as_is : (n window : ℕ) (news : List NodeState) (later : List Plain) (a b c : List ℕ) → AreCounted n news later a b c window
+    → IsRenewed n window news later news a b c
+as_is n window news later a b c k = record { size = refl; told = λ r. same_gates (node_at news r); counted = k }
+
+-- one is told of one lane
+pub as_told : (n window : ℕ) (news : List NodeState) (later : List Plain) (s d : ℕ) → s < length news → (a b c : List ℕ)
+    → AreCounted n (gated later n window s d news) later a b c window
+    → IsRenewed n window news later (gated later n window s d news) a b c
+as_told n window news later s d h a b c k =
+    record { size = gated_size later n window s d news; told = λ r. is_gated later n window s d news r h; counted = k }
+
+-- as the code has it
+pub renewed_by : (n window : ℕ) (news : List NodeState) (later : List Plain) (g : List NodeState) (a e : List ℕ)
+    (f : List NodeState → List ℕ) → IsRenewed n window news later g a e (f g)
+    → (nexts : List NodeState) (b c : List ℕ) → nexts ≡ g → b ≡ e → c ≡ f nexts → IsRenewed n window news later nexts a b c
+renewed_by n window news later g a e f k nexts b c gates deliveries firings =
+    subst (λ u. IsRenewed n window news later nexts a b u) (sym firings)
+    (subst (λ u. IsRenewed n window news later nexts a u (f nexts)) (sym deliveries)
+    (subst (λ v. IsRenewed n window news later v a e (f v)) (sym gates) k))
+
+module _ (n window : ℕ) (news : List NodeState) (later : List Plain) (nexts : List NodeState) (a b c : List ℕ)
+    (is : IsRenewed n window news later nexts a b c) where
+  -- ---- what the nodes keep
+  pub agree_next : (slots : ℕ → Slots) → AgreeAll n slots nexts → AgreeAll n slots news
+  agree_next slots g r h = subst (Agrees (slots r)) (is.told r).kept (g r h)
+
+  pub scene_next : scene_of n nexts later ≡ scene_of n news later
+  scene_next = scene_gated n news nexts later is.told
+
+  module _ (p : Plan) (inputs : Inputs) (strays spare : ℕ) (parts : AreParts p inputs n news later window spare)
+      (room : AreStrays n news later strays spare) where
+    parts_next : AreParts p inputs n nexts later window spare
+    parts_next = record {
+      few = parts.few;
+      count = parts.count;
+      sound = parts.sound;
+      fit = parts.fit;
+      some = parts.some;
+      wide = parts.wide;
+      room = parts.room;
+      within = parts.within;
+      size = is.size ∙ parts.size;
+      compiled = λ r h. subst (IsCompiledFor p inputs r) (sym (is.told r).task) (parts.compiled r h);
+      node = λ r h. (is.told r).node (parts.node r h);
+      moment = λ slots g. subst (λ (z : Scene). IsMoment (system_of p inputs slots) z.world z.held) (sym scene_next)
+          (parts.moment slots (agree_next slots g));
+    }
+
+    strays_next : AreStrays n nexts later strays spare
+    strays_next = record {
+      room = λ r h. (is.told r).strays ∙ room.room r h;
+      few = λ q h. subst (λ (x : Diary). count_by is_received_stray x.locals
+          + sum_by (λ s. count_by is_stray (lane_at later (lane_place n s q Request)).messages) (from_to 0 n) + strays ≤ spare)
+          (sym (is.told q).diary) (room.few q h);
+      received = λ r h. subst (λ (x : Diary). AreShort x.locals) (sym (is.told r).diary) (room.received r h);
+      held = room.held;
+    }
+
+    pub renewed : IsWorld p inputs n nexts later a b c window strays spare
+    renewed = record { parts = parts_next; counted = is.counted; stray = strays_next }
