@@ -46,7 +46,7 @@ module _ {X : Type 0} where
   joined-more (x ∷ xs) (l ∷ ls) n e = ap (λ r. with_links x l ∷ r) (joined-more xs ls n (omega (arith, e)))
 
   -- what is known of a place that holds a node
-  pub record Held (xs : List (Option X)) (ls : List Links) (i : ℕ) : Type 0 where
+  pub record BufferCells (xs : List (Option X)) (ls : List Links) (i : ℕ) : Type 0 where
     pub value : X
     pub links : Links
     pub value_is : get_or xs i None ≡ Some value
@@ -54,7 +54,7 @@ module _ {X : Type 0} where
     pub node_is : get_or (joined xs ls) i None ≡ Some (node value links.before links.after)
     pub within : i < length ls
 
-  pub held_at : (xs : List (Option X)) (ls : List Links) (i : ℕ) → length ls ≡ length xs → is_some (get_or (joined xs ls) i None) ≡ true → Held xs ls i
+  pub held_at : (xs : List (Option X)) (ls : List Links) (i : ℕ) → length ls ≡ length xs → is_some (get_or (joined xs ls) i None) ≡ true → BufferCells xs ls i
   held_at [] ls i e h = cc
   held_at (x ∷ xs) [] i e h = absurd (omega (arith, e))
   held_at (None ∷ xs) (l ∷ ls) zero e h = cc

@@ -13,7 +13,7 @@ ghost use Rattle.choices.specs.machine.Choices.{choice_at};
 ghost use Rattle.coll_lang.specs.declared.choices.ChoiceKind.TheVariants.{Tickets};
 ghost use Rattle.choices.specs.machine.Lawful.{IsAnswer, is_plain};
 ghost use Rattle.choices.specs.machine.Machine.{Answer, advanced, answer, ask, at_home, served, word_after, is_ready as is_ready_phase};
-ghost use Rattle.choices.specs.view.Install.{Seat, Slots, answer_message, ask_message, ct_of, view};
+ghost use Rattle.choices.specs.view.Install.{ChoiceRank, Slots, answer_message, ask_message, ct_of, view};
 ghost use Rattle.choices.specs.view.Install.Counter.{Go};
 ghost use Rattle.choices.specs.view.Calls.{AllPass, blank, install, install_calls, no_seat};
 ghost use Rattle.choices.specs.view.Steps.{sent_message, with_phase, with_word};
@@ -33,11 +33,11 @@ pub fn installation_is_accepted()
 
 /// A start raises the go counter, and the host's increment of it is accepted.
 pub fn start_begins()
-    ensures raised { (slots : Slots) (ranks : ℕ) (choices : List ChoiceKind) (r : ℕ) (seat : Seat) →
+    ensures raised { (slots : Slots) (ranks : ℕ) (choices : List ChoiceKind) (r : ℕ) (seat : ChoiceRank) →
         seat.started ≡ false →
         raise_go (ct_of slots choices Go) (view slots ranks choices r seat) ≡
         view slots ranks choices r (record seat { started = true }) }
-    ensures accepted { (slots : Slots) (ranks : ℕ) (choices : List ChoiceKind) (r : ℕ) (seat : Seat) →
+    ensures accepted { (slots : Slots) (ranks : ℕ) (choices : List ChoiceKind) (r : ℕ) (seat : ChoiceRank) →
         seat.started ≡ false →
         ct_inc (ct_of slots choices Go) (successes 1) (view slots ranks choices r seat) ≡
         ends (view slots ranks choices r (record seat { started = true })) (Ok tt) }
@@ -45,7 +45,7 @@ pub fn start_begins()
 
 /// An operation that is ready is that of a step which is so far; its firing advances the step and sends what is due.
 pub fn firing_does()
-    ensures { (slots : Slots) (ranks : ℕ) (choices : List ChoiceKind) (r : ℕ) (seat : Seat) (t : ℕ) →
+    ensures { (slots : Slots) (ranks : ℕ) (choices : List ChoiceKind) (r : ℕ) (seat : ChoiceRank) (t : ℕ) →
         is_ready (view slots ranks choices r seat) t ≡ true →
         (s : ℕ) × (s < length choices) × (is_ready_phase (choice_at choices s) (seat.phase s) ≡ true) ×
         (fired (view slots ranks choices r seat) t ≡
@@ -54,12 +54,12 @@ pub fn firing_does()
 
 /// A request of rank r finds the word of its step at rank 0, changes it as the step says, and is answered with what stood there.
 pub fn request_is_served()
-    ensures served { (slots theirs : Slots) (ranks : ℕ) (choices : List ChoiceKind) (seat : Seat)
+    ensures served { (slots theirs : Slots) (ranks : ℕ) (choices : List ChoiceKind) (seat : ChoiceRank)
         (s r : ℕ) (reads : Bool) →
         length choices ≤ 2 ^ 64 → s < length choices → seat.word s < 2 ^ 64 → r < 2 ^ 64 →
         target (view slots ranks choices 0 seat) (ask_message theirs choices r (ask s reads)) ≡
         delivers (view slots ranks choices 0 (with_word s (word_after (choice_at choices s) reads r (seat.word s)) seat)) Matched (Some (answer_message theirs choices r (answer s reads (seat.word s)))) }
-    ensures unseen { (slots : Slots) (ranks : ℕ) (choices : List ChoiceKind) (r : ℕ) (seat : Seat)
+    ensures unseen { (slots : Slots) (ranks : ℕ) (choices : List ChoiceKind) (r : ℕ) (seat : ChoiceRank)
         (s w : ℕ) →
         view slots ranks choices r (with_phase s (served w (seat.phase s)) seat) ≡
         view slots ranks choices r seat }
@@ -67,7 +67,7 @@ pub fn request_is_served()
 
 /// An answer that is under way is awaited, and leaves its step one further.
 pub fn answer_comes_home()
-    ensures { (slots : Slots) (ranks : ℕ) (choices : List ChoiceKind) (r : ℕ) (seat : Seat)
+    ensures { (slots : Slots) (ranks : ℕ) (choices : List ChoiceKind) (r : ℕ) (seat : ChoiceRank)
         (a : Answer) →
         a.step < length choices → IsAnswer (seat.phase a.step) a →
         (choice_at choices a.step ≡ Tickets → is_plain (seat.phase a.step) ≡ true) →

@@ -2,7 +2,7 @@
 
 use portals_ni::Nic;
 use ptl_types::{
-    AckRequest, Appended, AtomicOp, Count, Deed, ElemType, Entry, GetArgs, Handle, List, Message,
+    AckRequest, Appended, AtomicOp, Count, TriggeredOp, ElemType, Entry, GetArgs, Handle, List, Message,
     Outcome, PutArgs, SwapOp,
 };
 
@@ -119,7 +119,7 @@ pub fn reads(nic: &Nic) -> bool {
 
 /// Posts an increment of one counting event on another.
 pub fn post(nic: &mut Nic, counts: Handle, waits: Handle, threshold: u64) -> Option<u32> {
-    guarded_ni::triggered(nic, Deed::Inc(counts, ONE), waits, threshold).ok()
+    guarded_ni::triggered(nic, TriggeredOp::Inc(counts, ONE), waits, threshold).ok()
 }
 
 /// Fires an operation that is ready; whether there was one.

@@ -1,4 +1,4 @@
-pub mod Works
+pub mod RankOps
 pub mod Reached
 pub mod Central
 pub mod Ancestors

@@ -13,7 +13,7 @@ ghost use Rattle.plan_core.specs.Plan.{Plan};
 ghost use Rattle.plan_core.specs.Sound.{SoundPlan};
 ghost use Rattle.plan_core.specs.Values.{Inputs};
 ghost use Rattle.plan_calls.specs.Lanes.{lane_bytes, lane_messages};
-ghost use Rattle.plan_calls.specs.Works.{works};
+ghost use Rattle.plan_calls.specs.RankOps.{rank_ops};
 ghost use Rattle.cuts.specs.view.Slots.{Slots};
 ghost use Rattle.cuts.specs.view.Calls.{prepare};
 ghost use Rattle.cuts.specs.histories.Cut.{is_stray};
@@ -70,5 +70,5 @@ pub fn steps_of_one_history()
     ensures { (plan : Plan) (inputs : Inputs) (slots : Slots) (r : ℕ) (history : List Local) →
         SoundPlan plan (length inputs) →
         Legal (start_of plan slots r) false (prepare plan inputs slots r) history →
-        length history ≤ suc (length (works plan r)) + count_by is_receipt history }
+        length history ≤ suc (length (rank_ops plan r)) + count_by is_receipt history }
 {}

@@ -6,7 +6,7 @@ ghost use Rattle.plan_core.specs.Members.{In};
 ghost use Rattle.plan_core.specs.Plan.{Plan, cell};
 ghost use Rattle.plan_core.specs.Values.{Inputs, value, initial};
 ghost use Rattle.plan_core.specs.Sound.{SoundPlan, AreInputsOf};
-ghost use Rattle.plan_calls.specs.Works.{Work, works};
+ghost use Rattle.plan_calls.specs.RankOps.{RankOp, rank_ops};
 ghost use Rattle.cuts.specs.machine.Seen.{content, was_fired};
 ghost use Rattle.cuts.specs.machine.Machine.{Move, IsMachineCut, IsMachineRest, HasReached, Leads, all_seen};
 ghost use Rattle.cuts.specs.machine.Rounds.{IsRounds};
@@ -33,7 +33,7 @@ pub fn rest_is_completion()
         c < length plan.cells → HasReached plan moves c }
     ensures fired { (plan : Plan) (inputs : Inputs) (moves : ℕ → List Move) →
         SoundPlan plan (length inputs) → IsMachineRest plan inputs moves → (r : ℕ) →
-        r < plan.ranks → (w : Work) → In w (works plan r) →
+        r < plan.ranks → (w : RankOp) → In w (rank_ops plan r) →
         was_fired (all_seen plan moves r).fired w ≡ true }
 {}
 

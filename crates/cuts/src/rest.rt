@@ -16,7 +16,7 @@ ghost use Rattle.plan_core.specs.Sound.{SoundPlan, AreInputsOf};
 ghost use Rattle.plan_core.specs.Values.{Inputs, value};
 ghost use Rattle.plan_calls.specs.Areas.{links_to};
 ghost use Rattle.plan_calls.specs.Lanes.{is_used_lane, lane_messages};
-ghost use Rattle.plan_calls.specs.Works.{sends_of, works};
+ghost use Rattle.plan_calls.specs.RankOps.{sends_of, rank_ops};
 ghost use Rattle.cuts.specs.machine.Machine.{Leads};
 ghost use Rattle.cuts.specs.machine.Rounds.{IsRounds};
 ghost use Rattle.cuts.specs.view.Slots.{Slots};
@@ -172,7 +172,7 @@ pub fn receipts_of_a_cut()
         SoundPlan plan (length inputs) → AreInputsOf plan inputs →
         IsCut (system_of plan inputs slots) world → (r : ℕ) → r < plan.ranks →
         length (world r) ≤
-        suc (length (works plan r)) + (count_by is_received_stray (world r) +
+        suc (length (rank_ops plan r)) + (count_by is_received_stray (world r) +
         (length (links_to plan r) + (if plan.remote then sends_of plan r else 0))) }
     ensures bytes { (plan : Plan) (inputs : Inputs) (slots : ℕ → Slots) (world : Histories) →
         SoundPlan plan (length inputs) → AreInputsOf plan inputs →

@@ -13,12 +13,12 @@ ghost use Rattle.plan_core.specs.Plan.{Plan, link};
 ghost use Rattle.plan_core.specs.Values.{Inputs};
 ghost use Rattle.plan_core.specs.Sound.{SoundPlan};
 ghost use Rattle.cuts.specs.machine.Seen.{Seen, was_fired};
-ghost use Rattle.plan_calls.specs.Works.{Work, works};
+ghost use Rattle.plan_calls.specs.RankOps.{RankOp, rank_ops};
 ghost use Rattle.cuts.specs.machine.Machine.{note, note_work};
 ghost use Rattle.cuts.specs.machine.Machine.Move.{Began, Took, Heard, Strayed};
 ghost use Rattle.cuts.specs.view.View.{Annex, view, raise_go};
 ghost use Rattle.cuts.specs.view.Slots.{Slots, cell_ct};
-ghost use Rattle.cuts.specs.view.Deeds.{link_message, ack_of};
+ghost use Rattle.cuts.specs.view.TriggeredOps.{link_message, ack_of};
 ghost use Rattle.cuts.specs.view.Steps.{Sized, sent_message, IsLinkHere, IsAckHere, IsQuiet};
 
 /// A start raises the go counter: the machine's rank has begun.
@@ -36,7 +36,7 @@ pub fn firing_does()
         (seen : Seen) (t : ℕ) →
         SoundPlan plan (length inputs) → Sized plan inputs seen →
         is_ready (view annex plan inputs slots r seen) t ≡ true →
-        (w : Work) × In w (works plan r) × (was_fired seen.fired w ≡ false) ×
+        (w : RankOp) × In w (rank_ops plan r) × (was_fired seen.fired w ≡ false) ×
         (fired (view annex plan inputs slots r seen) t ≡
         fires (view annex plan inputs slots r (note_work plan seen w)) (sent_message plan inputs slots seen w)) }
 {}

@@ -7,7 +7,7 @@ use ni_objects::handles::Store;
 use initiator_engine::Initiator;
 use ni_objects::descriptors::Region;
 use ptl_types::{
-    AckRequest, Bytes, Deed, Descriptor, ElemType, GetArgs, Handle, Header, Limits, Message,
+    AckRequest, Bytes, TriggeredOp, Descriptor, ElemType, GetArgs, Handle, Header, Limits, Message,
     MessageKind, NiFault, Outcome, PutArgs,
 };
 use std::alloc::Global;
@@ -90,7 +90,7 @@ fn bound_and_released(
     let md = Handle { slot: 0, stamp: 0 };
     gives!(rt; initiator.bind(region, cts, eqs, DESCRIPTOR), Ok(md));
     gives!(rt; initiator.bind(region, cts, eqs, DESCRIPTOR), Err(NiFault::NoSpace));
-    let deed = Deed::Put(PutArgs {
+    let deed = TriggeredOp::Put(PutArgs {
         md,
         local_offset: 1,
         length: 3,
@@ -103,7 +103,7 @@ fn bound_and_released(
     });
     gives!(rt; initiator.check(&deed), Err(NiFault::OutOfRegion));
     gives!(rt; initiator.awaits(md), Ok(0));
-    let get = Deed::Get(GetArgs {
+    let get = TriggeredOp::Get(GetArgs {
         md,
         local_offset: 1,
         length: 2,

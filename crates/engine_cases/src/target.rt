@@ -10,7 +10,7 @@ use ptl_types::{
 };
 use std::alloc::Global;
 use std::test::Fail;
-use target_engine::{Spent, Target};
+use target_engine::{SpareBuffers, Target};
 
 const LIMITS: Limits = Limits {
     entries: 2,
@@ -138,14 +138,14 @@ fn a_put_to_no_index_is_dropped(rt: HostRuntime) -> Result<(), Fail> {
     let mut eqs: Store<Queue> = Store::open(rt.alloc(), 0)?;
     let mut target = Target::open(rt.alloc(), 0, &LIMITS)?;
     let message = Message::new(PUT, Bytes::empty(rt.alloc()));
-    let arrived = target.request(&mut region, &mut cts, &mut eqs, message, &mut Spent::none());
+    let arrived = target.request(&mut region, &mut cts, &mut eqs, message, &mut SpareBuffers::none());
     assert_eq!(rt; arrived.outcome, Outcome::Dropped);
     assert!(rt; region.as_slice() == [7].as_slice());
     Ok(())
 }
 
 /// How much room comes of an exchange for one of so many bytes.
-fn room_for(alloc: Global, spent: &mut Spent, bytes: u64) -> Option<u64> {
+fn room_for(alloc: Global, spent: &mut SpareBuffers, bytes: u64) -> Option<u64> {
     let own = Bytes::with_room(alloc, bytes).ok()?;
     Some(spent.exchange(own).room())
 }
@@ -156,7 +156,7 @@ fn the_room_of_a_message_is_used_once_more(rt: HostRuntime) -> Result<(), Fail> 
     let mut cts: Store<Counter> = Store::open(rt.alloc(), 0)?;
     let mut eqs: Store<Queue> = Store::open(rt.alloc(), 0)?;
     let mut target = Target::open(rt.alloc(), 0, &LIMITS)?;
-    let mut spent = Spent::with_places(rt.alloc(), 2)?;
+    let mut spent = SpareBuffers::with_places(rt.alloc(), 2)?;
     let header = Header { length: 3, ..PUT };
     let message = Message::new(header, Bytes::of(rt.alloc(), &[1, 2, 3])?);
     let _ = target.request(&mut region, &mut cts, &mut eqs, message, &mut spent);

@@ -3,8 +3,8 @@ use Rattle.std.specs.Prelude.{ℕ, Bool, ◌&&◌, ◌==◌, ◌%◌, nat_lt, Op
 use Rattle.ptl_types.specs.declared.calls.PutArgs.{PutArgs}
 use Rattle.ptl_types.specs.declared.calls.GetArgs.{GetArgs}
 use Rattle.ptl_types.specs.declared.calls.Limits.{Limits}
-use Rattle.ptl_types.specs.declared.calls.Deed.{Deed}
-use Rattle.ptl_types.specs.declared.calls.Deed.TheVariants.{Put, Get, Atomic, FetchAtomic, Swap}
+use Rattle.ptl_types.specs.declared.calls.TriggeredOp.{TriggeredOp}
+use Rattle.ptl_types.specs.declared.calls.TriggeredOp.TheVariants.{Put, Get, Atomic, FetchAtomic, Swap}
 use Rattle.ptl_types.specs.Kinds.{is_no_ack}
 use Rattle.ptl_types.specs.Operations.{bytes_of}
 use Rattle.guarded_ni.specs.declared.faults.Misuse.{Misuse}
@@ -37,7 +37,7 @@ abbrev pub halves_misuse : GetArgs → PutArgs → Option Misuse
 halves_misuse g a = or_else (unless (agree g a) HalvesDiffer) (unless (is_no_ack a.ack) AsksAcknowledgement)
 
 -- what is wrong with a start, for so many ranks and these limits
-abbrev pub start_misuse : Deed → ℕ → Limits → Option Misuse
+abbrev pub start_misuse : TriggeredOp → ℕ → Limits → Option Misuse
 start_misuse (Put a) ranks l = or_else (rank_misuse a.target ranks) (or_else (length_misuse a.length l.msg) None)
 start_misuse (Get g) ranks l = or_else (rank_misuse g.target ranks) (or_else (length_misuse g.length l.msg) None)
 start_misuse (Atomic a op ty) ranks l =

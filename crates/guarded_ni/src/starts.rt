@@ -1,7 +1,7 @@
 //! The starts of operations, and triggered operations (Portals 4.3, data movement operations and triggered operations).
 
 ghost use Rattle.std.specs.Prelude.{◌≡◌, ◌==◌, ◌%◌};
-ghost use Rattle.ptl_types.specs.declared.calls.Deed.TheVariants.{Put, Get, Atomic, FetchAtomic, Swap};
+ghost use Rattle.ptl_types.specs.declared.calls.TriggeredOp.TheVariants.{Put, Get, Atomic, FetchAtomic, Swap};
 ghost use Rattle.ptl_types.specs.Operations.{bytes_of};
 ghost use Rattle.ni_model.specs.Calls.{MayLackMemory, ends, start, triggered};
 ghost use Rattle.portals_ni.specs.Answers.{as_started};
@@ -12,7 +12,7 @@ ghost use Rattle.guarded_ni.specs.Misuses.{agree, halves_misuse, length_misuse, 
 use crate::faults::{CallFault, Misuse};
 use portals_ni::Nic;
 use ptl_types::{
-    AckRequest, AtomicOp, Deed, ElemType, GetArgs, Handle, Message, PutArgs, Rank, SwapOp,
+    AckRequest, AtomicOp, TriggeredOp, ElemType, GetArgs, Handle, Message, PutArgs, Rank, SwapOp,
 };
 
 /// The first of two rules that are broken.
@@ -75,29 +75,29 @@ fn bad_halves(back: &GetArgs, args: &PutArgs) -> Option<Misuse>
 }
 
 /// The rule that the arguments of a start break, if they break one.
-fn bad_start(nic: &Nic, deed: &Deed) -> Option<Misuse>
+fn bad_start(nic: &Nic, deed: &TriggeredOp) -> Option<Misuse>
     ensures { result ≡ start_misuse deed.now nic.now.ranks nic.now.limits }
 {
     let ranks = nic.ranks();
     let limits = nic.limits();
     let (target, length) = match deed {
-        Deed::Put(args) => (args.target, args.length),
-        Deed::Get(args) => (args.target, args.length),
-        Deed::Atomic(args, _, _) => (args.target, args.length),
-        Deed::FetchAtomic(_, args, _, _) => (args.target, args.length),
-        Deed::Swap(_, args, _, _, _) => (args.target, args.length),
-        Deed::Inc(_, _) | Deed::Set(_, _) => return None,
+        TriggeredOp::Put(args) => (args.target, args.length),
+        TriggeredOp::Get(args) => (args.target, args.length),
+        TriggeredOp::Atomic(args, _, _) => (args.target, args.length),
+        TriggeredOp::FetchAtomic(_, args, _, _) => (args.target, args.length),
+        TriggeredOp::Swap(_, args, _, _, _) => (args.target, args.length),
+        TriggeredOp::Inc(_, _) | TriggeredOp::Set(_, _) => return None,
     };
     let rest = match deed {
-        Deed::Atomic(args, _, ty) => first(
+        TriggeredOp::Atomic(args, _, ty) => first(
             bad_length(args.length, limits.atomic),
             bad_elements(args.length, *ty),
         ),
-        Deed::FetchAtomic(back, args, _, ty) => first(
+        TriggeredOp::FetchAtomic(back, args, _, ty) => first(
             bad_length(args.length, limits.fetch_atomic),
             first(bad_elements(args.length, *ty), bad_halves(back, args)),
         ),
-        Deed::Swap(back, args, _, ty, _) => first(
+        TriggeredOp::Swap(back, args, _, ty, _) => first(
             broken(args.length == ty.size(), Misuse::PartialElement),
             bad_halves(back, args),
         ),
@@ -114,7 +114,7 @@ pub fn put(nic: &mut Nic, args: PutArgs) -> Result<Message, CallFault>
     ensures { Guards (start_misuse (Put args) nic.old.ranks nic.old.limits) nic.old nic.new
         (λ r. MayLackMemory (start (Put args) nic.old) nic.old (ends nic.new (as_started r))) result }
 {
-    if let Some(misuse) = bad_start(nic, &Deed::Put(args)) {
+    if let Some(misuse) = bad_start(nic, &TriggeredOp::Put(args)) {
         return Err(CallFault::Misused(misuse));
     }
     match nic.put(args) {
@@ -128,7 +128,7 @@ pub fn get(nic: &mut Nic, args: GetArgs) -> Result<Message, CallFault>
     ensures { Guards (start_misuse (Get args) nic.old.ranks nic.old.limits) nic.old nic.new
         (λ r. MayLackMemory (start (Get args) nic.old) nic.old (ends nic.new (as_started r))) result }
 {
-    if let Some(misuse) = bad_start(nic, &Deed::Get(args)) {
+    if let Some(misuse) = bad_start(nic, &TriggeredOp::Get(args)) {
         return Err(CallFault::Misused(misuse));
     }
     match nic.get(args) {
@@ -148,7 +148,7 @@ pub fn atomic(
     ensures { Guards (start_misuse (Atomic args op ty) nic.old.ranks nic.old.limits) nic.old nic.new
         (λ r. MayLackMemory (start (Atomic args op ty) nic.old) nic.old (ends nic.new (as_started r))) result }
 {
-    if let Some(misuse) = bad_start(nic, &Deed::Atomic(args, op, ty)) {
+    if let Some(misuse) = bad_start(nic, &TriggeredOp::Atomic(args, op, ty)) {
         return Err(CallFault::Misused(misuse));
     }
     match nic.atomic(args, op, ty) {
@@ -169,7 +169,7 @@ pub fn fetch_atomic(
     ensures { Guards (start_misuse (FetchAtomic back args op ty) nic.old.ranks nic.old.limits) nic.old nic.new
         (λ r. MayLackMemory (start (FetchAtomic back args op ty) nic.old) nic.old (ends nic.new (as_started r))) result }
 {
-    if let Some(misuse) = bad_start(nic, &Deed::FetchAtomic(back, args, op, ty)) {
+    if let Some(misuse) = bad_start(nic, &TriggeredOp::FetchAtomic(back, args, op, ty)) {
         return Err(CallFault::Misused(misuse));
     }
     match nic.fetch_atomic(back, args, op, ty) {
@@ -191,7 +191,7 @@ pub fn swap(
     ensures { Guards (start_misuse (Swap back args op ty operand) nic.old.ranks nic.old.limits) nic.old nic.new
         (λ r. MayLackMemory (start (Swap back args op ty operand) nic.old) nic.old (ends nic.new (as_started r))) result }
 {
-    if let Some(misuse) = bad_start(nic, &Deed::Swap(back, args, op, ty, operand)) {
+    if let Some(misuse) = bad_start(nic, &TriggeredOp::Swap(back, args, op, ty, operand)) {
         return Err(CallFault::Misused(misuse));
     }
     match nic.swap(back, args, op, ty, operand) {
@@ -201,7 +201,7 @@ pub fn swap(
 }
 
 /// Posts a triggered operation, as `Nic::triggered` does. `Misused` as for the plain operation.
-pub fn triggered(nic: &mut Nic, deed: Deed, ct: Handle, threshold: u64) -> Result<u32, CallFault>
+pub fn triggered(nic: &mut Nic, deed: TriggeredOp, ct: Handle, threshold: u64) -> Result<u32, CallFault>
     ensures { Guards (start_misuse deed nic.old.ranks nic.old.limits) nic.old nic.new
         (λ r. MayLackMemory (triggered deed ct threshold nic.old) nic.old (ends nic.new r)) result }
 {

@@ -6,8 +6,8 @@ use Rattle.ptl_types.specs.declared.headers.MessageKind.TheVariants.{Put as PutK
 use Rattle.ptl_types.specs.declared.elements.ElemType.TheVariants.{U8}
 use Rattle.ptl_types.specs.declared.calls.Limits.{Limits}
 use Rattle.ptl_types.specs.declared.calls.NiFault.{NiFault}
-use Rattle.ptl_types.specs.declared.calls.Deed.{Deed}
-use Rattle.ptl_types.specs.declared.calls.Deed.TheVariants.{Put, Get, Atomic, FetchAtomic, Swap, Inc, Set}
+use Rattle.ptl_types.specs.declared.calls.TriggeredOp.{TriggeredOp}
+use Rattle.ptl_types.specs.declared.calls.TriggeredOp.TheVariants.{Put, Get, Atomic, FetchAtomic, Swap, Inc, Set}
 use Rattle.ptl_types.specs.Operations.{bytes_of}
 use Rattle.ptl_types.specs.Filled.{Filled}
 use Rattle.ptl_types.specs.Messages.{Sent, FillsHeader, message}
@@ -23,7 +23,7 @@ use Rattle.ni_model.specs.Refusals.{deed_fault}
 use Rattle.ni_model.specs.Conditions.{MayStart}
 use Rattle.initiator_engine.specs.Initiators.{is_start, room_for, args_fit, args_length, args_bytes, has_started}
 
-pub start-has_header : (rank : ℕ) (d : Deed) → is_start d ≡ true → is_some (header_of rank d) ≡ true
+pub start-has_header : (rank : ℕ) (d : TriggeredOp) → is_start d ≡ true → is_some (header_of rank d) ≡ true
 start-has_header rank (Put a) is = refl
 start-has_header rank (Get g) is = refl
 start-has_header rank (Atomic a op ty) is = refl
@@ -44,7 +44,7 @@ both-right : (a b : Bool) → (a && b) ≡ true → b ≡ true
 both-right true b e = e
 both-right false b e = cc
 
-pub args-fit : (d : Deed) (mds : Table Bound) → deed_fault d mds ≡ None → args_fit (put_args d) mds ≡ true
+pub args-fit : (d : TriggeredOp) (mds : Table Bound) → deed_fault d mds ≡ None → args_fit (put_args d) mds ≡ true
 args-fit (Put a) mds e = need-test _ _ _ (need-later _ _ _ e)
 args-fit (Get g) mds e = refl
 args-fit (Atomic a op ty) mds e = need-test _ _ _ (need-later _ _ _ e)
@@ -53,7 +53,7 @@ args-fit (Swap g a op ty operand) mds e = both-right _ _ (need-test _ _ _ (need-
 args-fit (Inc ct by) mds e = refl
 args-fit (Set ct to) mds e = refl
 
-pub args-room : (d : Deed) → args_length (put_args d) ≤ room_for d
+pub args-room : (d : TriggeredOp) → args_length (put_args d) ≤ room_for d
 args-room (Put a) = omega arith
 args-room (Get g) = omega arith
 args-room (Atomic a op ty) = omega arith
@@ -62,7 +62,7 @@ args-room (Swap g a op ty operand) = omega arith
 args-room (Inc ct by) = omega arith
 args-room (Set ct to) = omega arith
 
-pub bytes-read : (d : Deed) (mds : Table Bound) (memory : List ℕ) (cts : Table Count) (eqs : Table Waiting) → args_bytes (put_args d) mds memory ≡ bytes_read (home mds memory cts eqs) d
+pub bytes-read : (d : TriggeredOp) (mds : Table Bound) (memory : List ℕ) (cts : Table Count) (eqs : Table Waiting) → args_bytes (put_args d) mds memory ≡ bytes_read (home mds memory cts eqs) d
 bytes-read (Put a) mds memory cts eqs = refl
 bytes-read (Get g) mds memory cts eqs = refl
 bytes-read (Atomic a op ty) mds memory cts eqs = refl
@@ -74,7 +74,7 @@ bytes-read (Set ct to) mds memory cts eqs = refl
 same-header : (b : Filled) (x h : Header) → Some x ≡ Some h → FillsHeader x b → FillsHeader h b
 same-header b x h e fills = let same : x ≡ h = cc in subst (λ (k : Header). FillsHeader k b) same fills
 
-pub start-fills : (rank : ℕ) (d : Deed) (h : Header) (b : Filled) (ranks : ℕ) (l : Limits) → header_of rank d ≡ Some h → MayStart d ranks l → length b.list ≡ args_length (put_args d) → room_for d ≤ b.room → FillsHeader h b
+pub start-fills : (rank : ℕ) (d : TriggeredOp) (h : Header) (b : Filled) (ranks : ℕ) (l : Limits) → header_of rank d ≡ Some h → MayStart d ranks l → length b.list ≡ args_length (put_args d) → room_for d ≤ b.room → FillsHeader h b
 start-fills rank (Put a) h b ranks l e may len room = same-header b (put_header rank PutKind a None U8) h e (record { bytes = len; room = omega arith; whole = λ is. cc; op = refl; swap = refl; one = λ is. cc })
 start-fills rank (Get g) h b ranks l e may len room = same-header b (get_header rank g) h e (record { bytes = len; room = room; whole = λ is. cc; op = refl; swap = refl; one = λ is. cc })
 start-fills rank (Atomic a op ty) h b ranks l e may len room =
@@ -88,7 +88,7 @@ start-fills rank (Inc ct by) h b ranks l e may len room = cc
 start-fills rank (Set ct to) h b ranks l e may len room = cc
 
 -- a start by its header, its message, what it does to the descriptors, the counting events and the queues, and the counting event
-pub started-is : (rank : ℕ) (p q : Home) (d : Deed) (h : Header) (m : Sent) (ct : Option Handle) → header_of rank d ≡ Some h → m ≡ message h (bytes_read p d) → q ≡ sent_from p d h → ct ≡ send_counter (bound_at (counted_on d) p.mds) → has_started q m ct ≡ started rank p d
+pub started-is : (rank : ℕ) (p q : Home) (d : TriggeredOp) (h : Header) (m : Sent) (ct : Option Handle) → header_of rank d ≡ Some h → m ≡ message h (bytes_read p d) → q ≡ sent_from p d h → ct ≡ send_counter (bound_at (counted_on d) p.mds) → has_started q m ct ≡ started rank p d
 unfolding started
 started-is rank p q d h m ct e sent after counted = rw (sent, after, counted) (ap (λ (o : Option Header). started_by p d o) (sym e))
 

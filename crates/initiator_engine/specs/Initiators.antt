@@ -5,8 +5,8 @@ use Rattle.ptl_types.specs.declared.calls.Limits.{Limits}
 use Rattle.ptl_types.specs.declared.calls.NiFault.{NiFault}
 use Rattle.ptl_types.specs.declared.calls.Outcome.{Outcome}
 use Rattle.ptl_types.specs.declared.calls.PutArgs.{PutArgs}
-use Rattle.ptl_types.specs.declared.calls.Deed.{Deed}
-use Rattle.ptl_types.specs.declared.calls.Deed.TheVariants.{Put, Get, Atomic, FetchAtomic, Swap, Inc, Set}
+use Rattle.ptl_types.specs.declared.calls.TriggeredOp.{TriggeredOp}
+use Rattle.ptl_types.specs.declared.calls.TriggeredOp.TheVariants.{Put, Get, Atomic, FetchAtomic, Swap, Inc, Set}
 use Rattle.ptl_types.specs.Messages.{Sent}
 use Rattle.ni_model.specs.declared.Bound.{Bound}
 use Rattle.ni_model.specs.Tables.{Table, Live, lookup}
@@ -42,13 +42,13 @@ by_fault None = Ok tt
 by_fault (Some fault) = Err fault
 
 -- the deed starts an operation; the others count
-abbrev pub is_start : Deed → Bool
+abbrev pub is_start : TriggeredOp → Bool
 is_start (Inc ct by) = false
 is_start (Set ct to) = false
 is_start _ = true
 
 -- the room that a start needs: for the bytes that it sends, and of a get for the reply
-abbrev pub room_for : Deed → ℕ
+abbrev pub room_for : TriggeredOp → ℕ
 room_for (Put a) = a.length
 room_for (Get g) = g.length
 room_for (Atomic a op ty) = a.length

@@ -7,7 +7,7 @@ ghost use Rattle.ni_model.specs.Refusals.{holds_part, put_fits, get_fits, deed_i
 use crate::answers::bound_of;
 use ni_objects::handles::Store;
 use ni_model::Bound;
-use ptl_types::{Deed, GetArgs, Handle, PutArgs};
+use ptl_types::{TriggeredOp, GetArgs, Handle, PutArgs};
 
 /// Whether the descriptor is live.
 pub fn is_live(mds: &Store<Bound>, md: Handle) -> bool
@@ -44,29 +44,29 @@ fn get_fits(mds: &Store<Bound>, args: &GetArgs) -> bool
 }
 
 /// Whether the descriptors that a deed names are live.
-pub fn deed_is_live(mds: &Store<Bound>, deed: &Deed) -> bool
+pub fn deed_is_live(mds: &Store<Bound>, deed: &TriggeredOp) -> bool
     ensures { result ≡ deed_is_live deed.now mds.now }
 {
     match deed {
-        Deed::Put(args) => is_live(mds, args.md),
-        Deed::Get(args) => is_live(mds, args.md),
-        Deed::Atomic(args, _, _) => is_live(mds, args.md),
-        Deed::FetchAtomic(back, args, _, _) => is_live(mds, back.md) && is_live(mds, args.md),
-        Deed::Swap(back, args, _, _, _) => is_live(mds, back.md) && is_live(mds, args.md),
+        TriggeredOp::Put(args) => is_live(mds, args.md),
+        TriggeredOp::Get(args) => is_live(mds, args.md),
+        TriggeredOp::Atomic(args, _, _) => is_live(mds, args.md),
+        TriggeredOp::FetchAtomic(back, args, _, _) => is_live(mds, back.md) && is_live(mds, args.md),
+        TriggeredOp::Swap(back, args, _, _, _) => is_live(mds, back.md) && is_live(mds, args.md),
         _ => true,
     }
 }
 
 /// Whether the parts that a deed names lie in their descriptors.
-pub fn deed_fits(mds: &Store<Bound>, deed: &Deed) -> bool
+pub fn deed_fits(mds: &Store<Bound>, deed: &TriggeredOp) -> bool
     ensures { result ≡ deed_fits deed.now mds.now }
 {
     match deed {
-        Deed::Put(args) => put_fits(mds, args),
-        Deed::Get(args) => get_fits(mds, args),
-        Deed::Atomic(args, _, _) => put_fits(mds, args),
-        Deed::FetchAtomic(back, args, _, _) => get_fits(mds, back) && put_fits(mds, args),
-        Deed::Swap(back, args, _, _, _) => get_fits(mds, back) && put_fits(mds, args),
+        TriggeredOp::Put(args) => put_fits(mds, args),
+        TriggeredOp::Get(args) => get_fits(mds, args),
+        TriggeredOp::Atomic(args, _, _) => put_fits(mds, args),
+        TriggeredOp::FetchAtomic(back, args, _, _) => get_fits(mds, back) && put_fits(mds, args),
+        TriggeredOp::Swap(back, args, _, _, _) => get_fits(mds, back) && put_fits(mds, args),
         _ => true,
     }
 }

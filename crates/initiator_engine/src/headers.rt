@@ -4,7 +4,7 @@ ghost use Rattle.std.specs.Prelude.{◌≡◌};
 ghost use Rattle.ni_model.specs.Starts.{put_header, get_header, fetch_header, header_of, put_args, counted_on};
 
 use ptl_types::{
-    AckRequest, AtomicOp, Deed, ElemType, GetArgs, Handle, Header, MessageKind, PutArgs, Rank,
+    AckRequest, AtomicOp, TriggeredOp, ElemType, GetArgs, Handle, Header, MessageKind, PutArgs, Rank,
     SwapOp,
 };
 
@@ -96,16 +96,16 @@ fn fetch_header(rank: Rank, back: &GetArgs, args: &PutArgs, change: Change) -> H
 }
 
 /// The header of a deed that starts an operation; none of one that counts.
-pub fn header_of(rank: Rank, deed: &Deed) -> Option<Header>
+pub fn header_of(rank: Rank, deed: &TriggeredOp) -> Option<Header>
     ensures { result ≡ header_of rank deed.now }
 {
     match deed {
-        Deed::Put(args) => Some(put_header(rank, MessageKind::Put, args, None, ElemType::U8)),
-        Deed::Get(args) => Some(get_header(rank, args)),
-        Deed::Atomic(args, op, ty) => {
+        TriggeredOp::Put(args) => Some(put_header(rank, MessageKind::Put, args, None, ElemType::U8)),
+        TriggeredOp::Get(args) => Some(get_header(rank, args)),
+        TriggeredOp::Atomic(args, op, ty) => {
             Some(put_header(rank, MessageKind::Atomic, args, Some(*op), *ty))
         }
-        Deed::FetchAtomic(back, args, op, ty) => {
+        TriggeredOp::FetchAtomic(back, args, op, ty) => {
             let change = Change {
                 kind: MessageKind::FetchAtomic,
                 op: Some(*op),
@@ -115,7 +115,7 @@ pub fn header_of(rank: Rank, deed: &Deed) -> Option<Header>
             };
             Some(fetch_header(rank, back, args, change))
         }
-        Deed::Swap(back, args, op, ty, operand) => {
+        TriggeredOp::Swap(back, args, op, ty, operand) => {
             let change = Change {
                 kind: MessageKind::Swap,
                 op: None,
@@ -130,28 +130,28 @@ pub fn header_of(rank: Rank, deed: &Deed) -> Option<Header>
 }
 
 /// The arguments of what the deed sends.
-pub fn put_args(deed: &Deed) -> Option<PutArgs>
+pub fn put_args(deed: &TriggeredOp) -> Option<PutArgs>
     ensures { result ≡ put_args deed.now }
 {
     match deed {
-        Deed::Put(args) => Some(*args),
-        Deed::Atomic(args, _, _) => Some(*args),
-        Deed::FetchAtomic(_, args, _, _) => Some(*args),
-        Deed::Swap(_, args, _, _, _) => Some(*args),
+        TriggeredOp::Put(args) => Some(*args),
+        TriggeredOp::Atomic(args, _, _) => Some(*args),
+        TriggeredOp::FetchAtomic(_, args, _, _) => Some(*args),
+        TriggeredOp::Swap(_, args, _, _, _) => Some(*args),
         _ => None,
     }
 }
 
 /// The descriptor that the start counts on and tells.
-pub fn counted_on(deed: &Deed) -> Option<Handle>
+pub fn counted_on(deed: &TriggeredOp) -> Option<Handle>
     ensures { result ≡ counted_on deed.now }
 {
     match deed {
-        Deed::Put(args) => Some(args.md),
-        Deed::Get(args) => Some(args.md),
-        Deed::Atomic(args, _, _) => Some(args.md),
-        Deed::FetchAtomic(_, args, _, _) => Some(args.md),
-        Deed::Swap(_, args, _, _, _) => Some(args.md),
+        TriggeredOp::Put(args) => Some(args.md),
+        TriggeredOp::Get(args) => Some(args.md),
+        TriggeredOp::Atomic(args, _, _) => Some(args.md),
+        TriggeredOp::FetchAtomic(_, args, _, _) => Some(args.md),
+        TriggeredOp::Swap(_, args, _, _, _) => Some(args.md),
         _ => None,
     }
 }

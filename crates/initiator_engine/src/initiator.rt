@@ -22,7 +22,7 @@ use ni_objects::handles::{Store, is_live_or_none};
 use ni_objects::descriptors::Region;
 use ni_model::Bound;
 use ptl_types::{
-    Bytes, Deed, Descriptor, Handle, Header, Limits, Message, NiFault, NoMemory, Outcome, Rank,
+    Bytes, TriggeredOp, Descriptor, Handle, Header, Limits, Message, NiFault, NoMemory, Outcome, Rank,
 };
 use std::alloc::Global;
 use std::marker::Model;
@@ -68,7 +68,7 @@ fn started_with(
     mds: &mut Store<Bound>,
     cts: &mut Store<Counter>,
     eqs: &mut Store<Queue>,
-    deed: &Deed,
+    deed: &TriggeredOp,
     header: &Header,
 ) -> Option<Handle>
     ensures sent { (memory : List ℕ) → home mds.new memory cts.new eqs.new ≡ sent_from (home mds.old memory cts.old eqs.old) deed.now header.now }
@@ -232,7 +232,7 @@ impl Initiator {
 
     /// Whether the deed may start as far as its descriptors go: `Stale` where one of them isn't bound, `OutOfRegion` where a
     /// part that it names reaches past its descriptor.
-    pub fn check(&self, deed: &Deed) -> Result<(), NiFault>
+    pub fn check(&self, deed: &TriggeredOp) -> Result<(), NiFault>
         ensures value { result ≡ by_fault (deed_fault deed.now self.now.mds) }
     {
         if !deed_is_live(&self.mds, deed) {
@@ -252,7 +252,7 @@ impl Initiator {
         region: &Region,
         cts: &mut Store<Counter>,
         eqs: &mut Store<Queue>,
-        deed: &Deed,
+        deed: &TriggeredOp,
         room: Bytes,
     ) -> (Message, Option<Handle>)
         requires start { is_start deed.now ≡ true }

@@ -7,7 +7,7 @@ use crate::steps::Step::{self, *};
 use crate::values::{DESCRIPTOR, ENTRY, EVENT, FIRST, HEADER, NOTHING, PUT};
 use ptl_types::NiFault::InUse;
 use ptl_types::{
-    AckRequest, Deed, Descriptor, Event, EventKind, Header, List, MessageKind, Outcome, PutArgs,
+    AckRequest, TriggeredOp, Descriptor, Event, EventKind, Header, List, MessageKind, Outcome, PutArgs,
 };
 
 /// Rank 0 has a descriptor with a queue that counts acknowledgements, and rank 1 an entry at index 0.
@@ -59,7 +59,7 @@ fn an_acknowledgement_is_counted_and_told(rt: HostRuntime) {
         ..HEADER
     };
     const SCRIPT: &[Step] = &[
-        Here(Start(Deed::Put(ASKS)), Sent),
+        Here(Start(TriggeredOp::Put(ASKS)), Sent),
         Here(MdRelease(FIRST), Refused(InUse)),
         There(Deliver, Replies(Outcome::Matched)),
         Here(Carries(ACK, &[]), Yes),
@@ -80,12 +80,12 @@ fn an_acknowledgement_of_what_was_dropped_counts_a_failure(rt: HostRuntime) {
         ..ACK_TOLD
     };
     const SCRIPT: &[Step] = &[
-        Here(Start(Deed::Put(ASKS)), Sent),
+        Here(Start(TriggeredOp::Put(ASKS)), Sent),
         There(Deliver, Replies(Outcome::Matched)),
         Here(Deliver, Became(Outcome::Answered)),
         HereTells(FIRST, &[START_TOLD, ACK_TOLD]),
         There(MeUnlink(FIRST), Done),
-        Here(Start(Deed::Put(ASKS)), Sent),
+        Here(Start(TriggeredOp::Put(ASKS)), Sent),
         There(Deliver, Replies(Outcome::Dropped)),
         Here(Deliver, Became(Outcome::Answered)),
         Here(CtGet(FIRST), Counts(1, 1)),
@@ -102,7 +102,7 @@ fn a_counted_acknowledgement_raises_no_event(rt: HostRuntime) {
         ..ASKS
     };
     const SCRIPT: &[Step] = &[
-        Here(Start(Deed::Put(COUNTED)), Sent),
+        Here(Start(TriggeredOp::Put(COUNTED)), Sent),
         There(Deliver, Replies(Outcome::Matched)),
         Here(Deliver, Became(Outcome::Answered)),
         Here(CtGet(FIRST), Counts(1, 0)),

@@ -5,7 +5,7 @@ use crate::steps::Call::*;
 use crate::steps::Step::{self, *};
 use crate::values::{DESCRIPTOR, ENTRY, EVENT, FIRST, HEADER, LINKED, ONE, PUT, SECOND, THIRD};
 use ptl_types::{
-    AckRequest, Deed, Descriptor, Entry, Event, EventKind, Header, List, Outcome, PutArgs,
+    AckRequest, TriggeredOp, Descriptor, Entry, Event, EventKind, Header, List, Outcome, PutArgs,
     UnexpectedHeader,
 };
 
@@ -23,9 +23,9 @@ pub const BUSY: &[Step] = &[
     Here(MeAppend(0, List::Overflow, ENTRY), Linked(0)),
     Here(MeAppend(1, List::Priority, COUNTS), Linked(1)),
     Comes(PUT, &[9], Outcome::Overflow),
-    Here(Start(Deed::Put(ASKS)), Sent),
-    Here(Triggered(Deed::Inc(SECOND, ONE), FIRST, 5), Number(0)),
-    Here(Triggered(Deed::Put(NAMES), FIRST, 0), Number(1)),
+    Here(Start(TriggeredOp::Put(ASKS)), Sent),
+    Here(Triggered(TriggeredOp::Inc(SECOND, ONE), FIRST, 5), Number(0)),
+    Here(Triggered(TriggeredOp::Put(NAMES), FIRST, 0), Number(1)),
 ];
 
 const FIRST_HALF: Descriptor = Descriptor {
@@ -99,7 +99,7 @@ const PUT_TOLD: Event = Event {
 /// entries are linked, each at its index and with what it counts, and no other is.
 pub const LISTS_STAND: &[Step] = &[
     HereTells(FIRST, &[LINKED, START_TOLD]),
-    Here(Start(Deed::Put(PUT)), Sent),
+    Here(Start(TriggeredOp::Put(PUT)), Sent),
     HereTells(FIRST, &[START_TOLD]),
     Here(MeSearch(0, ENTRY, true), Found(HELD)),
     Here(MeSearch(0, ENTRY, true), Nothing),

@@ -6,11 +6,11 @@ use crate::steps::Call::*;
 use crate::steps::Step::{self, *};
 use crate::values::{DESCRIPTOR, ENTRY, FIRST, HEADER, ONE, PUT, SECOND};
 use ptl_types::NiFault::{CountFull, InUse, NoSpace, OutOfRegion, Stale};
-use ptl_types::{Count, Deed, Descriptor, Entry, Header, List, Outcome, PutArgs};
+use ptl_types::{Count, TriggeredOp, Descriptor, Entry, Header, List, Outcome, PutArgs};
 
 #[test]
 fn an_increment_waits_for_its_threshold(rt: HostRuntime) {
-    const RAISE: Deed = Deed::Inc(SECOND, ONE);
+    const RAISE: TriggeredOp = TriggeredOp::Inc(SECOND, ONE);
     const SCRIPT: &[Step] = &[
         Here(CtAlloc, Made(0)),
         Here(CtAlloc, Made(1)),
@@ -40,7 +40,7 @@ fn an_operation_is_ready_only_while_its_sum_is_reached(rt: HostRuntime) {
     const SCRIPT: &[Step] = &[
         Here(CtAlloc, Made(0)),
         Here(CtAlloc, Made(1)),
-        Here(Triggered(Deed::Inc(SECOND, ONE), FIRST, 3), Number(0)),
+        Here(Triggered(TriggeredOp::Inc(SECOND, ONE), FIRST, 3), Number(0)),
         Here(CtSet(FIRST, 3, 0), Done),
         Here(IsReady(0), Yes),
         Here(Ready, Number(0)),
@@ -86,8 +86,8 @@ fn tables_fill_and_handles_go(rt: HostRuntime) {
         Here(PtAlloc(0, None), Refused(InUse)),
         Here(MdBind(PAST), Refused(OutOfRegion)),
         Here(MdBind(Descriptor { length: 6, ..PAST }), Made(0)),
-        Here(Start(Deed::Put(OUTSIDE)), Refused(OutOfRegion)),
-        Here(Start(Deed::Put(INSIDE)), Sent),
+        Here(Start(TriggeredOp::Put(OUTSIDE)), Refused(OutOfRegion)),
+        Here(Start(TriggeredOp::Put(INSIDE)), Sent),
         Here(Carries(TWO, &[0, 0]), Yes),
         Here(CtSet(FIRST, u64::MAX, 0), Done),
         Here(CtInc(FIRST, 0, 1), Refused(CountFull)),
@@ -95,7 +95,7 @@ fn tables_fill_and_handles_go(rt: HostRuntime) {
         Here(CtFree(SECOND), Done),
         Here(CtGet(SECOND), Refused(Stale)),
         Here(MdRelease(FIRST), Done),
-        Here(Start(Deed::Put(INSIDE)), Refused(Stale)),
+        Here(Start(TriggeredOp::Put(INSIDE)), Refused(Stale)),
     ];
     play_one(&rt, SCRIPT);
 }

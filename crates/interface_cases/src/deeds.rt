@@ -2,7 +2,7 @@
 //! one for each reason. Of a fetching operation a stale handle is told before a part that reaches past its end.
 
 use crate::values::{GET, NOTHING, PUT, SECOND};
-use ptl_types::{AtomicOp, Deed, ElemType, GetArgs, PutArgs, SwapOp};
+use ptl_types::{AtomicOp, TriggeredOp, ElemType, GetArgs, PutArgs, SwapOp};
 
 const SUM: AtomicOp = AtomicOp::Sum;
 
@@ -52,54 +52,54 @@ const FAR_BACK: GetArgs = GetArgs {
     ..BACK
 };
 
-pub const PUT_BYTE: Deed = Deed::Put(BYTE);
+pub const PUT_BYTE: TriggeredOp = TriggeredOp::Put(BYTE);
 
-pub const PUT_STALE: Deed = Deed::Put(STALE);
+pub const PUT_STALE: TriggeredOp = TriggeredOp::Put(STALE);
 
-pub const PUT_BEHIND: Deed = Deed::Put(BEHIND);
+pub const PUT_BEHIND: TriggeredOp = TriggeredOp::Put(BEHIND);
 
-pub const PUT_FAR: Deed = Deed::Put(FAR);
+pub const PUT_FAR: TriggeredOp = TriggeredOp::Put(FAR);
 
-pub const GET_BYTE: Deed = Deed::Get(BACK);
+pub const GET_BYTE: TriggeredOp = TriggeredOp::Get(BACK);
 
-pub const GET_STALE: Deed = Deed::Get(STALE_BACK);
+pub const GET_STALE: TriggeredOp = TriggeredOp::Get(STALE_BACK);
 
-pub const GET_BEHIND: Deed = Deed::Get(BEHIND_BACK);
+pub const GET_BEHIND: TriggeredOp = TriggeredOp::Get(BEHIND_BACK);
 
-pub const GET_FAR: Deed = Deed::Get(FAR_BACK);
+pub const GET_FAR: TriggeredOp = TriggeredOp::Get(FAR_BACK);
 
-pub const SUM_BYTE: Deed = Deed::Atomic(BYTE, SUM, U8);
+pub const SUM_BYTE: TriggeredOp = TriggeredOp::Atomic(BYTE, SUM, U8);
 
-pub const SUM_STALE: Deed = Deed::Atomic(STALE, SUM, U8);
+pub const SUM_STALE: TriggeredOp = TriggeredOp::Atomic(STALE, SUM, U8);
 
-pub const SUM_BEHIND: Deed = Deed::Atomic(BEHIND, SUM, U8);
+pub const SUM_BEHIND: TriggeredOp = TriggeredOp::Atomic(BEHIND, SUM, U8);
 
-pub const SUM_FAR: Deed = Deed::Atomic(FAR, SUM, U8);
+pub const SUM_FAR: TriggeredOp = TriggeredOp::Atomic(FAR, SUM, U8);
 
-pub const FETCH_BYTE: Deed = Deed::FetchAtomic(BACK, BYTE, SUM, U8);
+pub const FETCH_BYTE: TriggeredOp = TriggeredOp::FetchAtomic(BACK, BYTE, SUM, U8);
 
-pub const FETCH_STALE: Deed = Deed::FetchAtomic(BEHIND_BACK, STALE, SUM, U8);
+pub const FETCH_STALE: TriggeredOp = TriggeredOp::FetchAtomic(BEHIND_BACK, STALE, SUM, U8);
 
-pub const FETCH_STALE_BACK: Deed = Deed::FetchAtomic(STALE_BACK, BEHIND, SUM, U8);
+pub const FETCH_STALE_BACK: TriggeredOp = TriggeredOp::FetchAtomic(STALE_BACK, BEHIND, SUM, U8);
 
-pub const FETCH_BEHIND: Deed = Deed::FetchAtomic(BACK, BEHIND, SUM, U8);
+pub const FETCH_BEHIND: TriggeredOp = TriggeredOp::FetchAtomic(BACK, BEHIND, SUM, U8);
 
-pub const FETCH_BEHIND_BACK: Deed = Deed::FetchAtomic(BEHIND_BACK, BYTE, SUM, U8);
+pub const FETCH_BEHIND_BACK: TriggeredOp = TriggeredOp::FetchAtomic(BEHIND_BACK, BYTE, SUM, U8);
 
-pub const FETCH_FAR: Deed = Deed::FetchAtomic(BACK, FAR, SUM, U8);
+pub const FETCH_FAR: TriggeredOp = TriggeredOp::FetchAtomic(BACK, FAR, SUM, U8);
 
-pub const FETCH_FAR_BACK: Deed = Deed::FetchAtomic(FAR_BACK, BYTE, SUM, U8);
+pub const FETCH_FAR_BACK: TriggeredOp = TriggeredOp::FetchAtomic(FAR_BACK, BYTE, SUM, U8);
 
-pub const SWAP_BYTE: Deed = Deed::Swap(BACK, BYTE, SWAP, U8, 0);
+pub const SWAP_BYTE: TriggeredOp = TriggeredOp::Swap(BACK, BYTE, SWAP, U8, 0);
 
-pub const SWAP_STALE: Deed = Deed::Swap(BEHIND_BACK, STALE, SWAP, U8, 0);
+pub const SWAP_STALE: TriggeredOp = TriggeredOp::Swap(BEHIND_BACK, STALE, SWAP, U8, 0);
 
-pub const SWAP_STALE_BACK: Deed = Deed::Swap(STALE_BACK, BEHIND, SWAP, U8, 0);
+pub const SWAP_STALE_BACK: TriggeredOp = TriggeredOp::Swap(STALE_BACK, BEHIND, SWAP, U8, 0);
 
-pub const SWAP_BEHIND: Deed = Deed::Swap(BACK, BEHIND, SWAP, U8, 0);
+pub const SWAP_BEHIND: TriggeredOp = TriggeredOp::Swap(BACK, BEHIND, SWAP, U8, 0);
 
-pub const SWAP_BEHIND_BACK: Deed = Deed::Swap(BEHIND_BACK, BYTE, SWAP, U8, 0);
+pub const SWAP_BEHIND_BACK: TriggeredOp = TriggeredOp::Swap(BEHIND_BACK, BYTE, SWAP, U8, 0);
 
-pub const SWAP_FAR: Deed = Deed::Swap(BACK, FAR, SWAP, U8, 0);
+pub const SWAP_FAR: TriggeredOp = TriggeredOp::Swap(BACK, FAR, SWAP, U8, 0);
 
-pub const SWAP_FAR_BACK: Deed = Deed::Swap(FAR_BACK, BYTE, SWAP, U8, 0);
+pub const SWAP_FAR_BACK: TriggeredOp = TriggeredOp::Swap(FAR_BACK, BYTE, SWAP, U8, 0);

@@ -4,7 +4,7 @@ use crate::sides::{Side, over};
 use crate::steps::Answer;
 use crate::values::{LIMITS, NOTHING};
 use ptl_types::{
-    Count, Deed, Descriptor, Entry, GetArgs, Handle, Header, Limits, NiFault, PutArgs, Rank,
+    Count, TriggeredOp, Descriptor, Entry, GetArgs, Handle, Header, Limits, NiFault, PutArgs, Rank,
     UnexpectedHeader,
 };
 use std::alloc::Global;
@@ -134,19 +134,19 @@ impl End {
     }
 
     /// The deed with the handles that the interface gave.
-    pub fn deed(&self, deed: Deed) -> Deed {
+    pub fn deed(&self, deed: TriggeredOp) -> TriggeredOp {
         match deed {
-            Deed::Put(args) => Deed::Put(self.put_args(args)),
-            Deed::Get(args) => Deed::Get(self.get_args(args)),
-            Deed::Atomic(args, op, ty) => Deed::Atomic(self.put_args(args), op, ty),
-            Deed::FetchAtomic(back, args, op, ty) => {
-                Deed::FetchAtomic(self.get_args(back), self.put_args(args), op, ty)
+            TriggeredOp::Put(args) => TriggeredOp::Put(self.put_args(args)),
+            TriggeredOp::Get(args) => TriggeredOp::Get(self.get_args(args)),
+            TriggeredOp::Atomic(args, op, ty) => TriggeredOp::Atomic(self.put_args(args), op, ty),
+            TriggeredOp::FetchAtomic(back, args, op, ty) => {
+                TriggeredOp::FetchAtomic(self.get_args(back), self.put_args(args), op, ty)
             }
-            Deed::Swap(back, args, op, ty, operand) => {
-                Deed::Swap(self.get_args(back), self.put_args(args), op, ty, operand)
+            TriggeredOp::Swap(back, args, op, ty, operand) => {
+                TriggeredOp::Swap(self.get_args(back), self.put_args(args), op, ty, operand)
             }
-            Deed::Inc(ct, by) => Deed::Inc(named(&self.cts, ct), by),
-            Deed::Set(ct, to) => Deed::Set(named(&self.cts, ct), to),
+            TriggeredOp::Inc(ct, by) => TriggeredOp::Inc(named(&self.cts, ct), by),
+            TriggeredOp::Set(ct, to) => TriggeredOp::Set(named(&self.cts, ct), to),
         }
     }
 

@@ -5,7 +5,7 @@ use crate::steps::Answer::*;
 use crate::steps::Call::*;
 use crate::steps::Step::{self, *};
 use crate::values::FIRST;
-use ptl_types::{AckRequest, Deed, Descriptor, Entry, List, Outcome, PutArgs};
+use ptl_types::{AckRequest, TriggeredOp, Descriptor, Entry, List, Outcome, PutArgs};
 
 /// An entry over the whole region, for match bits 5 from any rank.
 const ENTRY: Entry = Entry {
@@ -58,7 +58,7 @@ fn a_put_with_its_acknowledgement(rt: HostRuntime) {
         // Rank 0 is the initiator. Its descriptor awaits one answer from the start on.
         Here(CtAlloc, Made(0)),
         Here(MdBind(ACKNOWLEDGED), Made(0)),
-        Here(Start(Deed::Put(PUT)), Sent),
+        Here(Start(TriggeredOp::Put(PUT)), Sent),
         Here(Awaits(FIRST), Number(1)),
         // The message arrives, and its answer comes home.
         There(Deliver, Replies(Outcome::Matched)),

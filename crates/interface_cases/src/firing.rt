@@ -7,7 +7,7 @@ use crate::steps::Step::{self, *};
 use crate::values::{DESCRIPTOR, EVENT, FIRST, GET, HEADER, PUT, SECOND};
 use ptl_types::NiFault::InUse;
 use ptl_types::{
-    AckRequest, AtomicOp, Count, Deed, Descriptor, ElemType, Event, EventKind, GetArgs, Header,
+    AckRequest, AtomicOp, Count, TriggeredOp, Descriptor, ElemType, Event, EventKind, GetArgs, Header,
     MessageKind, Outcome, PutArgs, SwapOp,
 };
 
@@ -42,7 +42,7 @@ fn a_put_reads_its_bytes_when_it_fires(rt: HostRuntime) {
         Here(CtAlloc, Made(1)),
         Here(MdBind(COUNTS), Made(0)),
         Here(WriteMemory(0, &[1, 2]), Done),
-        Here(Triggered(Deed::Put(TWO), FIRST, 1), Number(0)),
+        Here(Triggered(TriggeredOp::Put(TWO), FIRST, 1), Number(0)),
         Here(CtGet(SECOND), Counts(0, 0)),
         Here(WriteMemory(0, &[3, 4]), Done),
         Here(CtInc(FIRST, 0, 1), Done),
@@ -64,11 +64,11 @@ const BACK: GetArgs = GetArgs {
     ..GET
 };
 
-const SUM: Deed = Deed::Atomic(BYTE, AtomicOp::Sum, ElemType::U8);
+const SUM: TriggeredOp = TriggeredOp::Atomic(BYTE, AtomicOp::Sum, ElemType::U8);
 
-const FETCH: Deed = Deed::FetchAtomic(BACK, BYTE, AtomicOp::Sum, ElemType::U8);
+const FETCH: TriggeredOp = TriggeredOp::FetchAtomic(BACK, BYTE, AtomicOp::Sum, ElemType::U8);
 
-const SWAP: Deed = Deed::Swap(BACK, BYTE, SwapOp::Swap, ElemType::U8, 0);
+const SWAP: TriggeredOp = TriggeredOp::Swap(BACK, BYTE, SwapOp::Swap, ElemType::U8, 0);
 
 const SUM_HEADER: Header = Header {
     kind: MessageKind::Atomic,
@@ -105,7 +105,7 @@ fn the_other_starts_fire_too(rt: HostRuntime) {
         Here(CtAlloc, Made(0)),
         Here(MdBind(DESCRIPTOR), Made(0)),
         Here(WriteMemory(0, &[6]), Done),
-        Here(Triggered(Deed::Get(BACK), FIRST, 0), Number(0)),
+        Here(Triggered(TriggeredOp::Get(BACK), FIRST, 0), Number(0)),
         Here(Fire(0), Sent),
         Here(Carries(GET_HEADER, &[]), Yes),
         Here(Triggered(SUM, FIRST, 0), Number(1)),
@@ -132,8 +132,8 @@ fn a_set_replaces_and_an_increment_stops_at_the_end(rt: HostRuntime) {
         success: 3,
         failure: 3,
     };
-    const SET: Deed = Deed::Set(SECOND, LAST_BUT_ONE);
-    const RAISE: Deed = Deed::Inc(SECOND, THREE_AND_THREE);
+    const SET: TriggeredOp = TriggeredOp::Set(SECOND, LAST_BUT_ONE);
+    const RAISE: TriggeredOp = TriggeredOp::Inc(SECOND, THREE_AND_THREE);
     const SCRIPT: &[Step] = &[
         Here(CtAlloc, Made(0)),
         Here(CtAlloc, Made(1)),
@@ -159,7 +159,7 @@ fn a_triggered_put_awaits_its_acknowledgement_from_its_firing(rt: HostRuntime) {
     const SCRIPT: &[Step] = &[
         Here(CtAlloc, Made(0)),
         Here(MdBind(DESCRIPTOR), Made(0)),
-        Here(Triggered(Deed::Put(ASKS), FIRST, 0), Number(0)),
+        Here(Triggered(TriggeredOp::Put(ASKS), FIRST, 0), Number(0)),
         Here(Awaits(FIRST), Number(0)),
         Here(MdRelease(FIRST), Refused(InUse)),
         Here(Fire(0), Sent),

@@ -7,7 +7,7 @@ use guarded_ni::{
 };
 use portals_ni::{Nic, fit};
 use ptl_types::{
-    AckRequest, AtomicOp, Bytes, Deed, ElemType, GetArgs, Handle, Limits, NiFault, PutArgs, Rank,
+    AckRequest, AtomicOp, Bytes, TriggeredOp, ElemType, GetArgs, Handle, Limits, NiFault, PutArgs, Rank,
     SwapOp,
 };
 use std::alloc::Global;
@@ -84,18 +84,18 @@ fn side<R: Abort + Alloc<A = Global>>(rt: &R) -> Nic {
 }
 
 /// Why a start by the call of its kind isn't made; a deed that counts starts none.
-fn start_fault(nic: &mut Nic, deed: Deed) -> Option<CallFault> {
+fn start_fault(nic: &mut Nic, deed: TriggeredOp) -> Option<CallFault> {
     match deed {
-        Deed::Put(args) => put(nic, args).err(),
-        Deed::Get(args) => get(nic, args).err(),
-        Deed::Atomic(args, op, ty) => atomic(nic, args, op, ty).err(),
-        Deed::FetchAtomic(back, args, op, ty) => fetch_atomic(nic, back, args, op, ty).err(),
-        Deed::Swap(back, args, op, ty, operand) => swap(nic, back, args, op, ty, operand).err(),
-        Deed::Inc(_, _) | Deed::Set(_, _) => None,
+        TriggeredOp::Put(args) => put(nic, args).err(),
+        TriggeredOp::Get(args) => get(nic, args).err(),
+        TriggeredOp::Atomic(args, op, ty) => atomic(nic, args, op, ty).err(),
+        TriggeredOp::FetchAtomic(back, args, op, ty) => fetch_atomic(nic, back, args, op, ty).err(),
+        TriggeredOp::Swap(back, args, op, ty, operand) => swap(nic, back, args, op, ty, operand).err(),
+        TriggeredOp::Inc(_, _) | TriggeredOp::Set(_, _) => None,
     }
 }
 
-fn triggered_fault(nic: &mut Nic, deed: Deed, ct: Handle, threshold: u64) -> Option<CallFault> {
+fn triggered_fault(nic: &mut Nic, deed: TriggeredOp, ct: Handle, threshold: u64) -> Option<CallFault> {
     triggered(nic, deed, ct, threshold).err()
 }
 
@@ -116,37 +116,37 @@ fn firing_fault(nic: &mut Nic, number: u32) -> Option<Misuse> {
 }
 
 /// Starts, and why each isn't made.
-const PUTS_AND_GETS: &[(Deed, CallFault)] = &[
+const PUTS_AND_GETS: &[(TriggeredOp, CallFault)] = &[
     (
-        Deed::Put(PutArgs { target: 2, ..PUT }),
+        TriggeredOp::Put(PutArgs { target: 2, ..PUT }),
         CallFault::Misused(Misuse::UnknownRank),
     ),
-    (Deed::Put(LONG), CallFault::Misused(Misuse::TooLong)),
+    (TriggeredOp::Put(LONG), CallFault::Misused(Misuse::TooLong)),
     (
-        Deed::Get(GetArgs {
+        TriggeredOp::Get(GetArgs {
             target: 2,
             length: 4097,
             ..GET
         }),
         CallFault::Misused(Misuse::UnknownRank),
     ),
-    (Deed::Put(PUT), STALE),
-    (Deed::Get(GET), STALE),
+    (TriggeredOp::Put(PUT), STALE),
+    (TriggeredOp::Get(GET), STALE),
 ];
 
 const SUM: AtomicOp = AtomicOp::Sum;
 
-const ATOMICS_AND_SWAPS: &[(Deed, CallFault)] = &[
+const ATOMICS_AND_SWAPS: &[(TriggeredOp, CallFault)] = &[
     (
-        Deed::Atomic(PutArgs { length: 3, ..PUT }, SUM, ElemType::U16),
+        TriggeredOp::Atomic(PutArgs { length: 3, ..PUT }, SUM, ElemType::U16),
         CallFault::Misused(Misuse::PartialElement),
     ),
     (
-        Deed::FetchAtomic(GetArgs { pt: 1, ..GET }, PUT, SUM, ElemType::U16),
+        TriggeredOp::FetchAtomic(GetArgs { pt: 1, ..GET }, PUT, SUM, ElemType::U16),
         CallFault::Misused(Misuse::HalvesDiffer),
     ),
     (
-        Deed::FetchAtomic(
+        TriggeredOp::FetchAtomic(
             GET,
             PutArgs {
                 ack: AckRequest::Ack,
@@ -158,14 +158,14 @@ const ATOMICS_AND_SWAPS: &[(Deed, CallFault)] = &[
         CallFault::Misused(Misuse::AsksAcknowledgement),
     ),
     (
-        Deed::Swap(GET, PUT, SwapOp::Swap, ElemType::U16, 7),
+        TriggeredOp::Swap(GET, PUT, SwapOp::Swap, ElemType::U16, 7),
         CallFault::Misused(Misuse::PartialElement),
     ),
-    (Deed::Swap(GET, PUT, SwapOp::Swap, ElemType::U32, 7), STALE),
+    (TriggeredOp::Swap(GET, PUT, SwapOp::Swap, ElemType::U32, 7), STALE),
 ];
 
 /// None of these starts is made, each for its reason.
-fn are_refused(rt: &impl Abort, nic: &mut Nic, starts: &[(Deed, CallFault)]) {
+fn are_refused(rt: &impl Abort, nic: &mut Nic, starts: &[(TriggeredOp, CallFault)]) {
     for (deed, fault) in starts {
         gives!(rt; start_fault(nic, *deed), Some(*fault));
     }
@@ -182,7 +182,7 @@ fn atomics_and_swaps(rt: HostRuntime) {
     let mut nic = side(&rt);
     are_refused(&rt, &mut nic, ATOMICS_AND_SWAPS);
     let too_long = CallFault::Misused(Misuse::TooLong);
-    gives!(rt; triggered_fault(&mut nic, Deed::Put(LONG), MD, 1), Some(too_long));
+    gives!(rt; triggered_fault(&mut nic, TriggeredOp::Put(LONG), MD, 1), Some(too_long));
 }
 
 /// The first rule that is broken is answered: that of the rank before that of the limits.

@@ -6,7 +6,7 @@ use crate::steps::Call::*;
 use crate::steps::Step::{self, *};
 use crate::values::{DESCRIPTOR, ENTRY, FIRST, ONCE, PUT};
 use ptl_types::NiFault::Stale;
-use ptl_types::{Deed, Entry, List, Outcome, PutArgs};
+use ptl_types::{TriggeredOp, Entry, List, Outcome, PutArgs};
 
 #[test]
 fn use_once_entries_go_with_their_first_message(rt: HostRuntime) {
@@ -135,7 +135,7 @@ fn a_rank_sends_to_itself(rt: HostRuntime) {
         Here(MdBind(DESCRIPTOR), Made(0)),
         Here(MeAppend(0, List::Priority, FROM_ZERO), Linked(0)),
         Here(WriteMemory(8, &[1, 2]), Done),
-        Here(Start(Deed::Put(MINE)), Sent),
+        Here(Start(TriggeredOp::Put(MINE)), Sent),
         Here(Deliver, Became(Outcome::Matched)),
         Comes(PUT, &[3], Outcome::Dropped),
         HereHolds(&[1, 2, 0, 0, 0, 0, 0, 0, 1, 2, 0, 0, 0, 0, 0, 0]),

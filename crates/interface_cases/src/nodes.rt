@@ -4,7 +4,7 @@
 use crate::comparing::gives;
 use crate::sides::{Side, over};
 use crate::values::{DESCRIPTOR, ENTRY, FIRST, LIMITS, ONE, PUT};
-use ptl_types::{AckRequest, Appended, Deed, List, PutArgs};
+use ptl_types::{AckRequest, Appended, TriggeredOp, List, PutArgs};
 use std::process::Abort;
 
 /// A put of no bytes to rank 1, with an acknowledgement.
@@ -18,9 +18,9 @@ const TO_ONE: PutArgs = PutArgs {
 fn post_three(rt: &impl Abort, side: &mut Side) {
     gives!(rt; side.ct_alloc().is_ok(), true);
     gives!(rt; side.md_bind(DESCRIPTOR).is_ok(), true);
-    gives!(rt; side.triggered(rt, Deed::Put(TO_ONE), FIRST, 2), Ok(0));
-    gives!(rt; side.triggered(rt, Deed::Put(PUT), FIRST, 1), Ok(1));
-    gives!(rt; side.triggered(rt, Deed::Inc(FIRST, ONE), FIRST, 1), Ok(2));
+    gives!(rt; side.triggered(rt, TriggeredOp::Put(TO_ONE), FIRST, 2), Ok(0));
+    gives!(rt; side.triggered(rt, TriggeredOp::Put(PUT), FIRST, 1), Ok(1));
+    gives!(rt; side.triggered(rt, TriggeredOp::Inc(FIRST, ONE), FIRST, 1), Ok(2));
 }
 
 #[test]
@@ -64,7 +64,7 @@ fn headers_in_the_order_of_arrival(rt: HostRuntime) {
     gives!(rt; matches!(linked, Ok(Appended::Linked(_))), true);
     gives!(rt; side.headers(), 0);
     for hdr_data in [7, 8] {
-        let put = side.start(&rt, Deed::Put(PutArgs { hdr_data, ..PUT }));
+        let put = side.start(&rt, TriggeredOp::Put(PutArgs { hdr_data, ..PUT }));
         let message = put.expect(&rt, "a message");
         let _came = side.deliver(&rt, message);
     }

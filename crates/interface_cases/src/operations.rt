@@ -6,7 +6,7 @@ use crate::steps::Call::*;
 use crate::steps::Step::{self, *};
 use crate::values::{ENTRY, FIRST, GET, HEADER, LINKED, PUT};
 use ptl_types::{
-    AtomicOp, Deed, ElemType, Entry, Event, EventKind, GetArgs, Header, List, MessageKind, Outcome,
+    AtomicOp, TriggeredOp, ElemType, Entry, Event, EventKind, GetArgs, Header, List, MessageKind, Outcome,
     PutArgs, SwapOp,
 };
 
@@ -20,13 +20,13 @@ const BACK: GetArgs = GetArgs {
 };
 
 /// Fetching operations on one byte.
-const SUM_OF_BYTE: Deed = Deed::FetchAtomic(BACK, BYTE, AtomicOp::Sum, ElemType::U8);
+const SUM_OF_BYTE: TriggeredOp = TriggeredOp::FetchAtomic(BACK, BYTE, AtomicOp::Sum, ElemType::U8);
 
-const IF_FOUR: Deed = Deed::Swap(BACK, BYTE, SwapOp::Cswap, ElemType::U8, 4);
+const IF_FOUR: TriggeredOp = TriggeredOp::Swap(BACK, BYTE, SwapOp::Cswap, ElemType::U8, 4);
 
-const LOW_BITS: Deed = Deed::Swap(BACK, BYTE, SwapOp::Mswap, ElemType::U8, 0x0f);
+const LOW_BITS: TriggeredOp = TriggeredOp::Swap(BACK, BYTE, SwapOp::Mswap, ElemType::U8, 0x0f);
 
-const PLAIN: Deed = Deed::Swap(BACK, BYTE, SwapOp::Swap, ElemType::U8, 0);
+const PLAIN: TriggeredOp = TriggeredOp::Swap(BACK, BYTE, SwapOp::Swap, ElemType::U8, 0);
 
 const ONE_BYTE: Entry = Entry { length: 1, ..ENTRY };
 
@@ -75,9 +75,9 @@ fn an_operand_wider_than_the_element_never_equals_it_and_names_no_bit_beyond(rt:
     const TWO: PutArgs = PutArgs { length: 2, ..PUT };
     const BACK_TWO: GetArgs = GetArgs { length: 2, ..BACK };
     /// The element is 0x0104 before each swap, and 0x0909 comes.
-    const WIDER: Deed = Deed::Swap(BACK_TWO, TWO, SwapOp::Cswap, ElemType::U16, 0x1_0104);
-    const EQUAL: Deed = Deed::Swap(BACK_TWO, TWO, SwapOp::Cswap, ElemType::U16, 0x0104);
-    const MASK: Deed = Deed::Swap(BACK_TWO, TWO, SwapOp::Mswap, ElemType::U16, 0xf_00ff);
+    const WIDER: TriggeredOp = TriggeredOp::Swap(BACK_TWO, TWO, SwapOp::Cswap, ElemType::U16, 0x1_0104);
+    const EQUAL: TriggeredOp = TriggeredOp::Swap(BACK_TWO, TWO, SwapOp::Cswap, ElemType::U16, 0x0104);
+    const MASK: TriggeredOp = TriggeredOp::Swap(BACK_TWO, TWO, SwapOp::Mswap, ElemType::U16, 0xf_00ff);
     const TWO_BYTES: Entry = Entry { length: 2, ..ENTRY };
     const SCRIPT: &[Step] = &[
         Here(MeAppend(0, List::Priority, TWO_BYTES), Linked(0)),
@@ -116,10 +116,10 @@ fn a_get_brings_home_what_an_atomic_left(rt: HostRuntime) {
     const SCRIPT: &[Step] = &[
         Here(MeAppend(0, List::Priority, TWO_BYTES), Linked(0)),
         There(WriteMemory(0, &[5, 0]), Done),
-        There(Start(Deed::Atomic(TWO, AtomicOp::Max, ElemType::U16)), Sent),
+        There(Start(TriggeredOp::Atomic(TWO, AtomicOp::Max, ElemType::U16)), Sent),
         Here(Deliver, Became(Outcome::Matched)),
         HereHolds(&[5, 0, 0, 0, 0, 0, 0, 0, 0, 0, 0, 0, 0, 0, 0, 0]),
-        There(Start(Deed::Get(ASKS)), Sent),
+        There(Start(TriggeredOp::Get(ASKS)), Sent),
         Here(Deliver, Replies(Outcome::Matched)),
         There(Carries(REPLY, &[5, 0]), Yes),
         There(Deliver, Became(Outcome::Answered)),
@@ -131,7 +131,7 @@ fn a_get_brings_home_what_an_atomic_left(rt: HostRuntime) {
 #[test]
 fn an_atomic_is_cut_to_whole_elements(rt: HostRuntime) {
     const FOUR: PutArgs = PutArgs { length: 4, ..PUT };
-    const SUM: Deed = Deed::Atomic(FOUR, AtomicOp::Sum, ElemType::U16);
+    const SUM: TriggeredOp = TriggeredOp::Atomic(FOUR, AtomicOp::Sum, ElemType::U16);
     const THREE_BYTES: Entry = Entry { length: 3, ..ENTRY };
     const SCRIPT: &[Step] = &[
         Here(MeAppend(0, List::Priority, THREE_BYTES), Linked(0)),
@@ -194,7 +194,7 @@ fn puts_and_gets_raise_their_events(rt: HostRuntime) {
     };
     const SCRIPT: &[Step] = &[
         Comes(TO_SECOND, &[1, 2], Outcome::Matched),
-        There(Start(Deed::Get(ASKS)), Sent),
+        There(Start(TriggeredOp::Get(ASKS)), Sent),
         Here(Deliver, Replies(Outcome::Matched)),
         Here(CtGet(FIRST), Counts(2, 0)),
         HereTells(FIRST, &[LINKED, PUT_TOLD, GET_TOLD]),
@@ -204,16 +204,16 @@ fn puts_and_gets_raise_their_events(rt: HostRuntime) {
 }
 
 /// The starts of one byte to that byte, and the events that they raise there.
-const ATOMIC_AT_SECOND: Deed = Deed::Atomic(BYTE_TO_SECOND, AtomicOp::Bor, ElemType::U8);
+const ATOMIC_AT_SECOND: TriggeredOp = TriggeredOp::Atomic(BYTE_TO_SECOND, AtomicOp::Bor, ElemType::U8);
 
-const FETCH_AT_SECOND: Deed = Deed::FetchAtomic(
+const FETCH_AT_SECOND: TriggeredOp = TriggeredOp::FetchAtomic(
     BACK_OF_SECOND,
     BYTE_TO_SECOND,
     AtomicOp::Min,
     ElemType::U8,
 );
 
-const SWAP_AT_SECOND: Deed = Deed::Swap(
+const SWAP_AT_SECOND: TriggeredOp = TriggeredOp::Swap(
     BACK_OF_SECOND,
     BYTE_TO_SECOND,
     SwapOp::Swap,
@@ -301,16 +301,16 @@ const NOT_OK: Header = Header {
 
 #[test]
 fn an_entry_allows_puts_gets_or_both(rt: HostRuntime) {
-    const FETCH: Deed = Deed::FetchAtomic(BACK, BYTE, AtomicOp::Sum, ElemType::U8);
-    const SWAP: Deed = Deed::Swap(BACK_OF_SIX, SIX, SwapOp::Swap, ElemType::U8, 0);
+    const FETCH: TriggeredOp = TriggeredOp::FetchAtomic(BACK, BYTE, AtomicOp::Sum, ElemType::U8);
+    const SWAP: TriggeredOp = TriggeredOp::Swap(BACK_OF_SIX, SIX, SwapOp::Swap, ElemType::U8, 0);
     const SCRIPT: &[Step] = &[
         Here(MeAppend(0, List::Priority, PUTS), Linked(0)),
         Here(MeAppend(0, List::Priority, GETS), Linked(1)),
         Comes(PUT, &[1], Outcome::Matched),
         Comes(SIX, &[1], Outcome::Violation),
-        There(Start(Deed::Get(BACK)), Sent),
+        There(Start(TriggeredOp::Get(BACK)), Sent),
         Here(Deliver, Replies(Outcome::Violation)),
-        There(Start(Deed::Get(BACK_OF_SIX)), Sent),
+        There(Start(TriggeredOp::Get(BACK_OF_SIX)), Sent),
         Here(Deliver, Replies(Outcome::Matched)),
         There(Start(FETCH), Sent),
         Here(Deliver, Replies(Outcome::Violation)),

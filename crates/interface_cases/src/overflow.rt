@@ -9,7 +9,7 @@ use crate::values::{
 };
 use ptl_types::NiFault::{InUse, NoSpace, Stale};
 use ptl_types::{
-    AckRequest, Deed, Entry, Event, EventKind, Header, List, MessageKind, Outcome, PutArgs,
+    AckRequest, TriggeredOp, Entry, Event, EventKind, Header, List, MessageKind, Outcome, PutArgs,
     UnexpectedHeader,
 };
 
@@ -206,14 +206,14 @@ fn a_message_of_the_overflow_list_is_answered_and_counted(rt: HostRuntime) {
         Here(CtAlloc, Made(0)),
         Here(MeAppend(0, List::Overflow, COUNTS), Linked(0)),
         There(WriteMemory(0, &[7, 8]), Done),
-        There(Start(Deed::Put(ASKS)), Sent),
+        There(Start(TriggeredOp::Put(ASKS)), Sent),
         Here(Deliver, Replies(Outcome::Overflow)),
         There(Carries(ACK, &[]), Yes),
         There(Deliver, Became(Outcome::Answered)),
         Here(CtGet(FIRST), Counts(1, 0)),
         Comes(PUT, &[1], Outcome::Overflow),
         Here(CtGet(FIRST), Counts(2, 0)),
-        There(Start(Deed::Put(ASKS)), Sent),
+        There(Start(TriggeredOp::Put(ASKS)), Sent),
         Here(Deliver, Replies(Outcome::Dropped)),
         There(Carries(NOT_OK, &[]), Yes),
         There(Deliver, Became(Outcome::Answered)),
@@ -406,7 +406,7 @@ fn headers_are_searched_and_taken(rt: HostRuntime) {
 fn a_get_does_not_look_at_the_overflow_list(rt: HostRuntime) {
     const SCRIPT: &[Step] = &[
         Here(MeAppend(0, List::Overflow, ENTRY), Linked(0)),
-        There(Start(Deed::Get(GET)), Sent),
+        There(Start(TriggeredOp::Get(GET)), Sent),
         Here(Deliver, Replies(Outcome::Dropped)),
         Here(Drops, Number(1)),
     ];

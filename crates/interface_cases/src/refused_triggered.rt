@@ -7,19 +7,19 @@ use crate::steps::Answer::*;
 use crate::steps::Call::*;
 use crate::steps::Step::{self, *};
 use crate::values::{FIRST, NOTHING, ONE, PAST_THE_END, SECOND};
-use ptl_types::Deed;
+use ptl_types::TriggeredOp;
 use ptl_types::NiFault::{CountFull, NoSpace, OutOfRegion, Stale};
 
 /// Counts on the second counting event and on one that isn't allocated: by one, and by numbers that pass the end.
-const RAISE: Deed = Deed::Inc(SECOND, ONE);
+const RAISE: TriggeredOp = TriggeredOp::Inc(SECOND, ONE);
 
-const RAISE_PAST: Deed = Deed::Inc(SECOND, PAST_THE_END);
+const RAISE_PAST: TriggeredOp = TriggeredOp::Inc(SECOND, PAST_THE_END);
 
-const RAISE_STALE: Deed = Deed::Inc(NOTHING, PAST_THE_END);
+const RAISE_STALE: TriggeredOp = TriggeredOp::Inc(NOTHING, PAST_THE_END);
 
-const SET_PAST: Deed = Deed::Set(SECOND, PAST_THE_END);
+const SET_PAST: TriggeredOp = TriggeredOp::Set(SECOND, PAST_THE_END);
 
-const SET_STALE: Deed = Deed::Set(NOTHING, PAST_THE_END);
+const SET_STALE: TriggeredOp = TriggeredOp::Set(NOTHING, PAST_THE_END);
 
 #[test]
 fn a_refused_increment_or_set_changes_nothing(rt: HostRuntime) {

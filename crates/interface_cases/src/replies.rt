@@ -6,7 +6,7 @@ use crate::steps::Call::*;
 use crate::steps::Step::{self, *};
 use crate::values::{DESCRIPTOR, ENTRY, EVENT, FIRST, GET, PUT, SECOND};
 use ptl_types::{
-    AtomicOp, Deed, Descriptor, ElemType, Event, EventKind, GetArgs, List, Outcome, PutArgs,
+    AtomicOp, TriggeredOp, Descriptor, ElemType, Event, EventKind, GetArgs, List, Outcome, PutArgs,
 };
 
 /// Rank 1 has an entry at index 0 over its first bytes, which are 7 and 8.
@@ -66,7 +66,7 @@ fn a_reply_is_written_counted_and_told(rt: HostRuntime) {
         Here(EqAlloc(4), Made(0)),
         Here(CtAlloc, Made(0)),
         Here(MdBind(EIGHT), Made(0)),
-        Here(Start(Deed::Get(ASKS)), Sent),
+        Here(Start(TriggeredOp::Get(ASKS)), Sent),
         Here(Awaits(FIRST), Number(1)),
         There(Deliver, Replies(Outcome::Matched)),
         Here(Deliver, Became(Outcome::Answered)),
@@ -76,7 +76,7 @@ fn a_reply_is_written_counted_and_told(rt: HostRuntime) {
         HereTells(FIRST, &[START_TOLD, REPLY_TOLD]),
         // The same where the target has no entry any more.
         There(MeUnlink(FIRST), Done),
-        Here(Start(Deed::Get(ASKS)), Sent),
+        Here(Start(TriggeredOp::Get(ASKS)), Sent),
         Here(Awaits(FIRST), Number(1)),
         There(Deliver, Replies(Outcome::Dropped)),
         Here(Deliver, Became(Outcome::Answered)),
@@ -102,7 +102,7 @@ fn a_fetching_start_counts_on_its_put_arguments_alone(rt: HostRuntime) {
         target: 1,
         ..GET
     };
-    const FETCH: Deed = Deed::FetchAtomic(BACK, BYTE, AtomicOp::Sum, ElemType::U8);
+    const FETCH: TriggeredOp = TriggeredOp::FetchAtomic(BACK, BYTE, AtomicOp::Sum, ElemType::U8);
     const COUNTS_SECOND: Descriptor = Descriptor {
         ct: Some(SECOND),
         ..COUNTS

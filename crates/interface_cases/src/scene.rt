@@ -3,7 +3,7 @@
 use crate::ends::End;
 use crate::steps::{Answer, Call, Step};
 use crate::values::{DESCRIPTOR, FIRST};
-use ptl_types::{Deed, Event, Handle, Message, Outcome, PutArgs};
+use ptl_types::{TriggeredOp, Event, Handle, Message, Outcome, PutArgs};
 use std::alloc::Global;
 use std::process::Abort;
 
@@ -152,7 +152,7 @@ impl Scene {
         bytes: &'static [u8],
         outcome: Outcome,
     ) {
-        let put = Deed::Put(PutArgs {
+        let put = TriggeredOp::Put(PutArgs {
             md: FIRST,
             length: bytes.len() as u64,
             ..args

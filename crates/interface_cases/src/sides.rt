@@ -5,7 +5,7 @@ ghost use Rattle.ni_model.specs.Conditions.{MayGo, MayCombine, MayFetch, MayStar
 
 use portals_ni::{Nic, fit};
 use ptl_types::{
-    AckRequest, Appended, Bytes, Count, Deed, Delivered, Descriptor, ElemType, Entry, EqGot,
+    AckRequest, Appended, Bytes, Count, TriggeredOp, Delivered, Descriptor, ElemType, Entry, EqGot,
     GetArgs, Handle, Limits, List, Message, NiFault, PutArgs, Rank, UnexpectedHeader,
 };
 use std::alloc::Global;
@@ -218,16 +218,16 @@ impl Side {
     }
 
     /// Starts an operation by the call of its kind; a deed that counts starts none.
-    pub fn start(&mut self, rt: &impl Abort, deed: Deed) -> Result<Message, NiFault> {
-        assert!(rt; !matches!(deed, Deed::Inc(_, _) | Deed::Set(_, _)));
+    pub fn start(&mut self, rt: &impl Abort, deed: TriggeredOp) -> Result<Message, NiFault> {
+        assert!(rt; !matches!(deed, TriggeredOp::Inc(_, _) | TriggeredOp::Set(_, _)));
         may_start(rt, &self.nic, &deed);
         match deed {
-            Deed::Put(args) => self.nic.put(args),
-            Deed::Get(args) => self.nic.get(args),
-            Deed::Atomic(args, op, ty) => self.nic.atomic(args, op, ty),
-            Deed::FetchAtomic(back, args, op, ty) => self.nic.fetch_atomic(back, args, op, ty),
-            Deed::Swap(back, args, op, ty, operand) => self.nic.swap(back, args, op, ty, operand),
-            Deed::Inc(_, _) | Deed::Set(_, _) => Err(NiFault::Stale),
+            TriggeredOp::Put(args) => self.nic.put(args),
+            TriggeredOp::Get(args) => self.nic.get(args),
+            TriggeredOp::Atomic(args, op, ty) => self.nic.atomic(args, op, ty),
+            TriggeredOp::FetchAtomic(back, args, op, ty) => self.nic.fetch_atomic(back, args, op, ty),
+            TriggeredOp::Swap(back, args, op, ty, operand) => self.nic.swap(back, args, op, ty, operand),
+            TriggeredOp::Inc(_, _) | TriggeredOp::Set(_, _) => Err(NiFault::Stale),
         }
     }
 
@@ -235,7 +235,7 @@ impl Side {
     pub fn triggered(
         &mut self,
         rt: &impl Abort,
-        deed: Deed,
+        deed: TriggeredOp,
         ct: Handle,
         threshold: u64,
     ) -> Result<u32, NiFault> {
@@ -278,26 +278,26 @@ fn may_fetch(rt: &impl Abort, back: &GetArgs, args: &PutArgs)
 }
 
 /// Tests the conditions of an operation.
-fn may_start(rt: &impl Abort, nic: &Nic, deed: &Deed)
+fn may_start(rt: &impl Abort, nic: &Nic, deed: &TriggeredOp)
     ensures { MayStart deed.now nic.now.ranks nic.now.limits }
 {
     match deed {
-        Deed::Put(args) => may_go(rt, nic, args.target, args.length),
-        Deed::Get(args) => may_go(rt, nic, args.target, args.length),
-        Deed::Atomic(args, _, ty) => {
+        TriggeredOp::Put(args) => may_go(rt, nic, args.target, args.length),
+        TriggeredOp::Get(args) => may_go(rt, nic, args.target, args.length),
+        TriggeredOp::Atomic(args, _, ty) => {
             may_go(rt, nic, args.target, args.length);
             may_combine(rt, *ty, args.length, nic.limits().atomic);
         }
-        Deed::FetchAtomic(back, args, _, ty) => {
+        TriggeredOp::FetchAtomic(back, args, _, ty) => {
             may_go(rt, nic, args.target, args.length);
             may_combine(rt, *ty, args.length, nic.limits().fetch_atomic);
             may_fetch(rt, back, args);
         }
-        Deed::Swap(back, args, _, ty, _) => {
+        TriggeredOp::Swap(back, args, _, ty, _) => {
             may_go(rt, nic, args.target, args.length);
             assert!(rt; args.length == ty.size());
             may_fetch(rt, back, args);
         }
-        Deed::Inc(_, _) | Deed::Set(_, _) => {}
+        TriggeredOp::Inc(_, _) | TriggeredOp::Set(_, _) => {}
     }
 }

@@ -4,7 +4,7 @@
 //! counting event in `CtGet(FIRST)`, and the first descriptor in `MdRelease(FIRST)`. Answers name handles in the same way.
 
 use ptl_types::{
-    Deed, Descriptor, Entry, Event, Handle, Header, Limits, List, NiFault, Outcome, PutArgs,
+    TriggeredOp, Descriptor, Entry, Event, Handle, Header, Limits, List, NiFault, Outcome, PutArgs,
     UnexpectedHeader,
 };
 
@@ -56,9 +56,9 @@ pub enum Call {
     /// A search by an entry, which deletes the header or doesn't.
     MeSearch(u32, Entry, bool),
     /// `put`, `get`, `atomic`, `fetch_atomic` or `swap`. Its message is under way then, and one that was is lost.
-    Start(Deed),
+    Start(TriggeredOp),
     /// A deed that waits on a counting event for a threshold.
-    Triggered(Deed, Handle, u64),
+    Triggered(TriggeredOp, Handle, u64),
     IsReady(u32),
     Ready,
     /// Fires an operation. Its message, where there is one, is under way then.

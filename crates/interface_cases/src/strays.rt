@@ -7,7 +7,7 @@ use crate::steps::Call::*;
 use crate::steps::Step::{self, *};
 use crate::values::{DESCRIPTOR, FIRST, GET, NOTHING, ONE};
 use ptl_types::NiFault::{InUse, NoSpace, Stale};
-use ptl_types::{Deed, Descriptor, GetArgs, Outcome};
+use ptl_types::{TriggeredOp, Descriptor, GetArgs, Outcome};
 
 #[test]
 fn a_reply_past_the_end_of_its_descriptor_is_dropped(rt: HostRuntime) {
@@ -18,7 +18,7 @@ fn a_reply_past_the_end_of_its_descriptor_is_dropped(rt: HostRuntime) {
     };
     const SCRIPT: &[Step] = &[
         Here(MdBind(DESCRIPTOR), Made(0)),
-        Here(Start(Deed::Get(ASKS)), Sent),
+        Here(Start(TriggeredOp::Get(ASKS)), Sent),
         Here(ForgeReply(FIRST, 15), Sent),
         Here(Deliver, Became(Outcome::Dropped)),
         Here(Drops, Number(1)),
@@ -46,7 +46,7 @@ fn an_acknowledgement_answers_for_an_awaited_reply(rt: HostRuntime) {
     const SCRIPT: &[Step] = &[
         Here(CtAlloc, Made(0)),
         Here(MdBind(COUNTS), Made(0)),
-        Here(Start(Deed::Get(ASKS)), Sent),
+        Here(Start(TriggeredOp::Get(ASKS)), Sent),
         Here(ForgeAck(FIRST), Sent),
         Here(Deliver, Became(Outcome::Answered)),
         Here(Awaits(FIRST), Number(0)),
@@ -64,8 +64,8 @@ fn an_acknowledgement_answers_for_an_awaited_reply(rt: HostRuntime) {
 
 #[test]
 fn a_stale_handle_is_told_before_all_else(rt: HostRuntime) {
-    const RAISE: Deed = Deed::Inc(FIRST, ONE);
-    const STALE: Deed = Deed::Inc(NOTHING, ONE);
+    const RAISE: TriggeredOp = TriggeredOp::Inc(FIRST, ONE);
+    const STALE: TriggeredOp = TriggeredOp::Inc(NOTHING, ONE);
     const SCRIPT: &[Step] = &[
         Here(CtAlloc, Made(0)),
         Here(Triggered(RAISE, FIRST, 9), Number(0)),

@@ -7,13 +7,13 @@ use crate::steps::Call::*;
 use crate::steps::Step::{self, *};
 use crate::values::{DESCRIPTOR, ENTRY, FIRST, HEADER, ONCE, ONE, PUT};
 use ptl_types::{
-    AckRequest, Deed, Descriptor, Entry, Header, List, Outcome, PutArgs, UnexpectedHeader,
+    AckRequest, TriggeredOp, Descriptor, Entry, Header, List, Outcome, PutArgs, UnexpectedHeader,
 };
 
 /// Rank 0 has a triggered operation that waits for the first count of a counting event, on which it counts itself.
 const WAITING: &[Step] = &[
     Here(CtAlloc, Made(0)),
-    Here(Triggered(Deed::Inc(FIRST, ONE), FIRST, 1), Number(0)),
+    Here(Triggered(TriggeredOp::Inc(FIRST, ONE), FIRST, 1), Number(0)),
     Here(Ready, Nothing),
 ];
 
@@ -76,7 +76,7 @@ fn by_a_start(rt: HostRuntime) {
     const SCRIPT: &[Step] = &[
         Here(MdBind(COUNTS), Made(0)),
         Here(Ready, Nothing),
-        Here(Start(Deed::Put(PUT)), Sent),
+        Here(Start(TriggeredOp::Put(PUT)), Sent),
     ];
     const SCRIPTS: &[&[Step]] = &[WAITING, SCRIPT, WOKEN];
     play(&rt, SCRIPTS);
@@ -96,7 +96,7 @@ fn by_an_answer(rt: HostRuntime) {
     };
     const SCRIPT: &[Step] = &[
         Here(MdBind(COUNTS), Made(0)),
-        Here(Start(Deed::Put(ASKS)), Sent),
+        Here(Start(TriggeredOp::Put(ASKS)), Sent),
         There(Deliver, Replies(Outcome::Dropped)),
         Here(Ready, Nothing),
         Here(Deliver, Became(Outcome::Answered)),

@@ -6,8 +6,8 @@ use Rattle.ptl_types.specs.declared.handles.Count.{Count}
 use Rattle.ptl_types.specs.declared.calls.Limits.{Limits}
 use Rattle.ptl_types.specs.declared.calls.PutArgs.{PutArgs}
 use Rattle.ptl_types.specs.declared.calls.GetArgs.{GetArgs}
-use Rattle.ptl_types.specs.declared.calls.Deed.{Deed}
-use Rattle.ptl_types.specs.declared.calls.Deed.TheVariants as deeds
+use Rattle.ptl_types.specs.declared.calls.TriggeredOp.{TriggeredOp}
+use Rattle.ptl_types.specs.declared.calls.TriggeredOp.TheVariants as deeds
 use Rattle.ptl_types.specs.declared.entries.Entry.{Entry}
 use Rattle.ptl_types.specs.declared.entries.Descriptor.{Descriptor}
 use Rattle.ptl_types.specs.declared.entries.List.{List as EntryList}
@@ -33,7 +33,7 @@ use Rattle.log_lines.specs.declared.calls.QueueSaid.{QueueSaid}
 use Rattle.log_lines.specs.declared.calls.StartName.{StartName}
 use Rattle.log_lines.specs.declared.calls.StartName.TheVariants as names
 use Rattle.log_lines.specs.declared.calls.StartSaid.{StartSaid}
-use Rattle.log_lines.specs.declared.calls.DeedSaid.{DeedSaid}
+use Rattle.log_lines.specs.declared.calls.TriggeredOpSaid.{TriggeredOpSaid}
 use Rattle.log_lines.specs.declared.calls.Call.{Call}
 use Rattle.log_lines.specs.declared.calls.Call.TheVariants as calls
 use Rattle.log_lines.specs.declared.calls.TheConstants.{NO_HANDLE}
@@ -202,7 +202,7 @@ back_of a = record {
   remote_offset = unwrap_or a.back_at a.args.remote_offset;
 }
 
-abbrev pub deed_said : Deed → Word → Option Word → DeedSaid
+abbrev pub deed_said : TriggeredOp → Word → Option Word → TriggeredOpSaid
 deed_said deed on back = record { deed = deed; on = on; back = back }
 
 -- the fields of a start
@@ -210,19 +210,19 @@ abbrev pub start_fields : StartName → Rest → Result (Taken StartSaid) LineFa
 start_fields name r = fields_next set_start (plain_start name) r
 
 -- behind its word: a descriptor and fields; before these an operation and a type
-unfoldable pub put_next : Rest → Result (Taken DeedSaid) LineFault
+unfoldable pub put_next : Rest → Result (Taken TriggeredOpSaid) LineFault
 put_next r = do
   on ← name_next r
   a ← start_fields names.Put on.left
   Ok (taken (deed_said (deeds.Put a.value.args) on.value None) a.left)
 
-unfoldable pub get_next : Rest → Result (Taken DeedSaid) LineFault
+unfoldable pub get_next : Rest → Result (Taken TriggeredOpSaid) LineFault
 get_next r = do
   on ← name_next r
   a ← start_fields names.Get on.left
   Ok (taken (deed_said (deeds.Get (get_of a.value)) on.value None) a.left)
 
-unfoldable pub atomic_next : Rest → Result (Taken DeedSaid) LineFault
+unfoldable pub atomic_next : Rest → Result (Taken TriggeredOpSaid) LineFault
 atomic_next r = do
   op ← op_next r
   ty ← type_next op.left
@@ -230,7 +230,7 @@ atomic_next r = do
   a ← start_fields names.Atomic on.left
   Ok (taken (deed_said (deeds.Atomic a.value.args op.value ty.value) on.value None) a.left)
 
-unfoldable pub fetch_atomic_next : Rest → Result (Taken DeedSaid) LineFault
+unfoldable pub fetch_atomic_next : Rest → Result (Taken TriggeredOpSaid) LineFault
 fetch_atomic_next r = do
   op ← op_next r
   ty ← type_next op.left
@@ -238,7 +238,7 @@ fetch_atomic_next r = do
   a ← start_fields names.FetchAtomic on.left
   Ok (taken (deed_said (deeds.FetchAtomic (back_of a.value) a.value.args op.value ty.value) on.value a.value.back) a.left)
 
-unfoldable pub swapping_next : Rest → Result (Taken DeedSaid) LineFault
+unfoldable pub swapping_next : Rest → Result (Taken TriggeredOpSaid) LineFault
 swapping_next r = do
   op ← swap_next r
   ty ← type_next op.left
@@ -255,14 +255,14 @@ start_named w =
     else if bytes_eq w (codes "swap") then Some names.Swap
     else None
 
-abbrev pub start_of : StartName → Rest → Result (Taken DeedSaid) LineFault
+abbrev pub start_of : StartName → Rest → Result (Taken TriggeredOpSaid) LineFault
 start_of names.Put = put_next
 start_of names.Get = get_next
 start_of names.Atomic = atomic_next
 start_of names.FetchAtomic = fetch_atomic_next
 start_of names.Swap = swapping_next
 
-unfoldable pub start_next : StartName → Rest → Result (Taken DeedSaid) LineFault
+unfoldable pub start_next : StartName → Rest → Result (Taken TriggeredOpSaid) LineFault
 start_next name r = start_of name r
 
 -- two numbers of a counting event
@@ -273,21 +273,21 @@ count_next r = do
   Ok (taken (record { success = success.value; failure = failure.value }) failure.left)
 
 -- a counting event and such numbers
-unfoldable pub counting_deed : (Count → Deed) → Rest → Result (Taken DeedSaid) LineFault
+unfoldable pub counting_deed : (Count → TriggeredOp) → Rest → Result (Taken TriggeredOpSaid) LineFault
 counting_deed deed r = do
   on ← name_next r
   c ← count_next on.left
   Ok (taken (deed_said (deed c.value) on.value None) c.left)
 
 -- what a triggered operation does: it starts, or it counts
-abbrev pub deed_by : Option StartName → Word → Rest → Result (Taken DeedSaid) LineFault
+abbrev pub deed_by : Option StartName → Word → Rest → Result (Taken TriggeredOpSaid) LineFault
 deed_by (Some name) w r = start_next name r
 deed_by None w r =
     if bytes_eq w.text (codes "inc") then counting_deed (λ c. deeds.Inc NO_HANDLE c) r
     else if bytes_eq w.text (codes "set") then counting_deed (λ c. deeds.Set NO_HANDLE c) r
     else Err (flaw_at w.column BadWord)
 
-unfoldable pub deed_next : Rest → Result (Taken DeedSaid) LineFault
+unfoldable pub deed_next : Rest → Result (Taken TriggeredOpSaid) LineFault
 deed_next r = next r >>= (λ w. deed_by (start_named w.value.text) w.value w.left)
 
 -- ---- calls: the words behind each call's word

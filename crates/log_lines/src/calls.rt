@@ -1,7 +1,7 @@
 //! The calls, as a log says them: handles by the device's own words.
 
 use crate::words::Word;
-use ptl_types::{Count, Deed, Descriptor, Entry, Handle, Limits, List, PutArgs, Rank};
+use ptl_types::{Count, TriggeredOp, Descriptor, Entry, Handle, Limits, List, PutArgs, Rank};
 
 /// A handle that no thing ever has: a table gives no such stamp.
 pub const NO_HANDLE: Handle = Handle {
@@ -82,9 +82,9 @@ pub(crate) struct StartSaid<'a> {
 
 /// A deed: an operation, or the count that a triggered operation makes.
 #[derive(Drop)]
-pub struct DeedSaid<'a> {
+pub struct TriggeredOpSaid<'a> {
     /// All of it but the handles, which stand for nothing yet.
-    pub deed: Deed,
+    pub deed: TriggeredOp,
     /// The word of the descriptor, or of the counting event that it counts on.
     pub on: Word<'a>,
     /// The word of the descriptor that a fetching operation's reply is written to.
@@ -137,9 +137,9 @@ pub enum Call<'a> {
     /// `header I PLACE`
     Header(u32, u32),
     /// `put D ..`, `get D ..`, `atomic OP TYPE D ..`, `fetch_atomic OP TYPE D ..`, `swap OP TYPE D ..`
-    Start(DeedSaid<'a>),
+    Start(TriggeredOpSaid<'a>),
     /// `triggered T C THRESHOLD ..` and a deed
-    Triggered(Word<'a>, Word<'a>, u64, DeedSaid<'a>),
+    Triggered(Word<'a>, Word<'a>, u64, TriggeredOpSaid<'a>),
     /// `is_ready T`
     IsReady(Word<'a>),
     /// `ready`

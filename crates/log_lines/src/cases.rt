@@ -1,7 +1,7 @@
 //! Lines with their answers by hand.
 
 use crate::{Call, Flaw, Line, Rest, read_line};
-use ptl_types::{Deed, List, Rank};
+use ptl_types::{TriggeredOp, List, Rank};
 
 #[test]
 fn lines_that_are_refused(rt: HostRuntime) {
@@ -87,7 +87,7 @@ fn a_triggered_set(rt: HostRuntime) {
             assert_eq!(rt; (ct.column(), threshold), (16, 3));
             assert_eq!(rt; said.on.text(), b"c1".as_slice());
             match said.deed {
-                Deed::Set(_, to) => assert_eq!(rt; (to.success, to.failure), (5, 6)),
+                TriggeredOp::Set(_, to) => assert_eq!(rt; (to.success, to.failure), (5, 6)),
                 _ => assert!(rt; false, "a set"),
             }
         }

@@ -4,16 +4,16 @@ ghost use Rattle.std.specs.Prelude.{◌≡◌};
 ghost use Rattle.log_lines.specs.Reading.{yielded};
 ghost use Rattle.log_lines.specs.Calls.{atomic_next, back_of, count_next, counting_deed, deed_next, fetch_atomic_next, get_next, get_of};
 ghost use Rattle.log_lines.specs.Calls.{put_next, start_fields, start_next, swapping_next};
-ghost use Rattle.ptl_types.specs.declared.calls.Deed.TheVariants as deeds;
+ghost use Rattle.ptl_types.specs.declared.calls.TriggeredOp.TheVariants as deeds;
 
-use crate::calls::{DeedSaid, NO_HANDLE, StartName, StartSaid};
+use crate::calls::{TriggeredOpSaid, NO_HANDLE, StartName, StartSaid};
 use crate::faults::{Flaw, LineFault, at};
 use crate::fields::fields_of;
 use crate::plain::plain_start;
 use crate::single::{op_in, start_named, swap_in, type_in};
 use crate::words::Rest;
 use coll_text::is;
-use ptl_types::{Count, Deed, GetArgs};
+use ptl_types::{Count, TriggeredOp, GetArgs};
 
 /// The arguments of a get.
 fn get_args(said: &StartSaid) -> GetArgs
@@ -56,13 +56,13 @@ fn fields_in<'a>(name: StartName, words: &mut Rest<'a>) -> Result<StartSaid<'a>,
 
 /// A put.
 #[tactic(auto, unfolding(crate::specs::Calls::put_next))]
-fn put_in<'a>(words: &mut Rest<'a>) -> Result<DeedSaid<'a>, LineFault>
+fn put_in<'a>(words: &mut Rest<'a>) -> Result<TriggeredOpSaid<'a>, LineFault>
     ensures { yielded result words.new ≡ put_next words.old }
 {
     let on = words.name()?;
     let said = fields_in(StartName::Put, words)?;
-    Ok(DeedSaid {
-        deed: Deed::Put(said.args),
+    Ok(TriggeredOpSaid {
+        deed: TriggeredOp::Put(said.args),
         on,
         back: None,
     })
@@ -70,13 +70,13 @@ fn put_in<'a>(words: &mut Rest<'a>) -> Result<DeedSaid<'a>, LineFault>
 
 /// A get.
 #[tactic(auto, unfolding(crate::specs::Calls::get_next))]
-fn get_in<'a>(words: &mut Rest<'a>) -> Result<DeedSaid<'a>, LineFault>
+fn get_in<'a>(words: &mut Rest<'a>) -> Result<TriggeredOpSaid<'a>, LineFault>
     ensures { yielded result words.new ≡ get_next words.old }
 {
     let on = words.name()?;
     let said = fields_in(StartName::Get, words)?;
-    Ok(DeedSaid {
-        deed: Deed::Get(get_args(&said)),
+    Ok(TriggeredOpSaid {
+        deed: TriggeredOp::Get(get_args(&said)),
         on,
         back: None,
     })
@@ -84,15 +84,15 @@ fn get_in<'a>(words: &mut Rest<'a>) -> Result<DeedSaid<'a>, LineFault>
 
 /// An atomic.
 #[tactic(auto, unfolding(crate::specs::Calls::atomic_next))]
-fn atomic_in<'a>(words: &mut Rest<'a>) -> Result<DeedSaid<'a>, LineFault>
+fn atomic_in<'a>(words: &mut Rest<'a>) -> Result<TriggeredOpSaid<'a>, LineFault>
     ensures { yielded result words.new ≡ atomic_next words.old }
 {
     let op = op_in(words)?;
     let ty = type_in(words)?;
     let on = words.name()?;
     let said = fields_in(StartName::Atomic, words)?;
-    Ok(DeedSaid {
-        deed: Deed::Atomic(said.args, op, ty),
+    Ok(TriggeredOpSaid {
+        deed: TriggeredOp::Atomic(said.args, op, ty),
         on,
         back: None,
     })
@@ -100,15 +100,15 @@ fn atomic_in<'a>(words: &mut Rest<'a>) -> Result<DeedSaid<'a>, LineFault>
 
 /// A fetching atomic.
 #[tactic(auto, unfolding(crate::specs::Calls::fetch_atomic_next))]
-fn fetch_atomic_in<'a>(words: &mut Rest<'a>) -> Result<DeedSaid<'a>, LineFault>
+fn fetch_atomic_in<'a>(words: &mut Rest<'a>) -> Result<TriggeredOpSaid<'a>, LineFault>
     ensures { yielded result words.new ≡ fetch_atomic_next words.old }
 {
     let op = op_in(words)?;
     let ty = type_in(words)?;
     let on = words.name()?;
     let said = fields_in(StartName::FetchAtomic, words)?;
-    Ok(DeedSaid {
-        deed: Deed::FetchAtomic(back_args(&said), said.args, op, ty),
+    Ok(TriggeredOpSaid {
+        deed: TriggeredOp::FetchAtomic(back_args(&said), said.args, op, ty),
         on,
         back: said.back,
     })
@@ -116,15 +116,15 @@ fn fetch_atomic_in<'a>(words: &mut Rest<'a>) -> Result<DeedSaid<'a>, LineFault>
 
 /// A swap.
 #[tactic(auto, unfolding(crate::specs::Calls::swapping_next))]
-fn swapping_in<'a>(words: &mut Rest<'a>) -> Result<DeedSaid<'a>, LineFault>
+fn swapping_in<'a>(words: &mut Rest<'a>) -> Result<TriggeredOpSaid<'a>, LineFault>
     ensures { yielded result words.new ≡ swapping_next words.old }
 {
     let op = swap_in(words)?;
     let ty = type_in(words)?;
     let on = words.name()?;
     let said = fields_in(StartName::Swap, words)?;
-    Ok(DeedSaid {
-        deed: Deed::Swap(back_args(&said), said.args, op, ty, said.operand),
+    Ok(TriggeredOpSaid {
+        deed: TriggeredOp::Swap(back_args(&said), said.args, op, ty, said.operand),
         on,
         back: said.back,
     })
@@ -132,7 +132,7 @@ fn swapping_in<'a>(words: &mut Rest<'a>) -> Result<DeedSaid<'a>, LineFault>
 
 /// What is started.
 #[tactic(auto, unfolding(crate::specs::Calls::start_next))]
-pub(crate) fn start_in<'a>(name: StartName, words: &mut Rest<'a>) -> Result<DeedSaid<'a>, LineFault>
+pub(crate) fn start_in<'a>(name: StartName, words: &mut Rest<'a>) -> Result<TriggeredOpSaid<'a>, LineFault>
     ensures { yielded result words.new ≡ start_next name words.old }
 {
     match name {
@@ -156,13 +156,13 @@ pub(crate) fn count_in(words: &mut Rest) -> Result<Count, LineFault>
 
 /// A counting event and what it counts by.
 #[tactic(auto, unfolding(crate::specs::Calls::counting_deed))]
-fn increment_in<'a>(words: &mut Rest<'a>) -> Result<DeedSaid<'a>, LineFault>
+fn increment_in<'a>(words: &mut Rest<'a>) -> Result<TriggeredOpSaid<'a>, LineFault>
     ensures { yielded result words.new ≡ counting_deed (λ c. deeds.Inc NO_HANDLE c) words.old }
 {
     let on = words.name()?;
     let by = count_in(words)?;
-    Ok(DeedSaid {
-        deed: Deed::Inc(NO_HANDLE, by),
+    Ok(TriggeredOpSaid {
+        deed: TriggeredOp::Inc(NO_HANDLE, by),
         on,
         back: None,
     })
@@ -170,13 +170,13 @@ fn increment_in<'a>(words: &mut Rest<'a>) -> Result<DeedSaid<'a>, LineFault>
 
 /// A counting event and what it is set to.
 #[tactic(auto, unfolding(crate::specs::Calls::counting_deed))]
-fn setting_in<'a>(words: &mut Rest<'a>) -> Result<DeedSaid<'a>, LineFault>
+fn setting_in<'a>(words: &mut Rest<'a>) -> Result<TriggeredOpSaid<'a>, LineFault>
     ensures { yielded result words.new ≡ counting_deed (λ c. deeds.Set NO_HANDLE c) words.old }
 {
     let on = words.name()?;
     let to = count_in(words)?;
-    Ok(DeedSaid {
-        deed: Deed::Set(NO_HANDLE, to),
+    Ok(TriggeredOpSaid {
+        deed: TriggeredOp::Set(NO_HANDLE, to),
         on,
         back: None,
     })
@@ -184,7 +184,7 @@ fn setting_in<'a>(words: &mut Rest<'a>) -> Result<DeedSaid<'a>, LineFault>
 
 /// The deed of a triggered operation.
 #[tactic(auto, unfolding(crate::specs::Calls::deed_next))]
-pub(crate) fn deed_in<'a>(words: &mut Rest<'a>) -> Result<DeedSaid<'a>, LineFault>
+pub(crate) fn deed_in<'a>(words: &mut Rest<'a>) -> Result<TriggeredOpSaid<'a>, LineFault>
     ensures { yielded result words.new ≡ deed_next words.old }
 {
     let word = words.word()?;

@@ -7,7 +7,7 @@ use Rattle.ptl_types.specs.declared.elements.ElemType.TheVariants.{U8}
 use Rattle.ptl_types.specs.declared.entries.Descriptor.{Descriptor}
 use Rattle.ptl_types.specs.declared.events.Event.{Event}
 use Rattle.ptl_types.specs.declared.events.EventKind.TheVariants.{Send, Ack as AckEvent, Reply as ReplyEvent}
-use Rattle.ptl_types.specs.declared.calls.Deed.TheVariants.{Put as PutDeed, Get as GetDeed}
+use Rattle.ptl_types.specs.declared.calls.TriggeredOp.TheVariants.{Put as PutDeed, Get as GetDeed}
 use Rattle.ptl_types.specs.declared.calls.NiFault.TheVariants.{InUse}
 use Rattle.ptl_types.specs.declared.calls.Outcome.TheVariants.{Answered, Dropped}
 use Rattle.ptl_types.specs.Messages.{Sent, message}

@@ -11,8 +11,8 @@ use Rattle.ptl_types.specs.declared.elements.SwapOp.TheVariants.{Cswap}
 use Rattle.ptl_types.specs.declared.entries.List.TheVariants.{Priority, Overflow}
 use Rattle.ptl_types.specs.declared.calls.PutArgs.{PutArgs}
 use Rattle.ptl_types.specs.declared.calls.GetArgs.{GetArgs}
-use Rattle.ptl_types.specs.declared.calls.Deed.{Deed}
-use Rattle.ptl_types.specs.declared.calls.Deed.TheVariants.{Put, Get, Atomic, FetchAtomic, Swap}
+use Rattle.ptl_types.specs.declared.calls.TriggeredOp.{TriggeredOp}
+use Rattle.ptl_types.specs.declared.calls.TriggeredOp.TheVariants.{Put, Get, Atomic, FetchAtomic, Swap}
 use Rattle.ptl_types.specs.Kinds.{lane_of}
 use Rattle.ptl_types.specs.Matching.{bits_match, takes_source, is_match}
 use Rattle.ptl_types.specs.Messages.{message, room_due}
@@ -31,7 +31,7 @@ args rank length = record (sending NoAck) { target = rank; length = length }
 abbrev back : ℕ → ℕ → GetArgs
 back rank length = record fetching { target = rank; length = length }
 
-abbrev May : Deed → Type 0
+abbrev May : TriggeredOp → Type 0
 May d = MayStart d 4 many
 
 longest_put : May (Put (args 3 16))

@@ -1,6 +1,6 @@
 -- Counting events, triggered operations and refusals (Portals 4.3, counting events and triggered operations).
 use Rattle.std.specs.Prelude.{ℕ, true, false, ◌≡◌, ◌-◌, ◌^◌, Some, None, Ok, Err, is_ok, refl}
-use Rattle.ptl_types.specs.declared.calls.Deed.TheVariants.{Inc, Set, Put as PutDeed}
+use Rattle.ptl_types.specs.declared.calls.TriggeredOp.TheVariants.{Inc, Set, Put as PutDeed}
 use Rattle.ptl_types.specs.declared.calls.NiFault.TheVariants.{Stale, NoSpace, OutOfRegion, InUse, CountFull}
 use Rattle.ni_model.specs.Starts.{started}
 use Rattle.ni_model.specs.Counts.{successes, failures, bump}

@@ -10,7 +10,7 @@ use Rattle.ptl_types.specs.declared.headers.AckRequest.TheVariants.{NoAck, CtAck
 use Rattle.ptl_types.specs.declared.elements.ElemType.TheVariants.{U8}
 use Rattle.ptl_types.specs.declared.events.Event.{Event}
 use Rattle.ptl_types.specs.declared.events.EventKind.TheVariants.{Send, Ack as AckEvent, Reply as ReplyEvent}
-use Rattle.ptl_types.specs.declared.calls.Deed.TheVariants.{Put, Get}
+use Rattle.ptl_types.specs.declared.calls.TriggeredOp.TheVariants.{Put, Get}
 use Rattle.ptl_types.specs.declared.calls.Outcome.TheVariants.{Answered, Dropped}
 use Rattle.ptl_types.specs.Messages.{Sent, message}
 use Rattle.ni_model.specs.Answers.{answered, is_awaited}

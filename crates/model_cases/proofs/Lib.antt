@@ -5,7 +5,7 @@ pub mod Atomics
 pub mod Counting
 pub mod Acknowledged
 pub mod Wide
-pub mod Deeds
+pub mod TriggeredOps
 pub mod Home
 pub mod Answering
 pub mod Told

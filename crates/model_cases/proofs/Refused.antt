@@ -15,8 +15,8 @@ use Rattle.ptl_types.specs.declared.calls.NiFault.{NiFault}
 use Rattle.ptl_types.specs.declared.calls.NiFault.TheVariants.{Stale, NoSpace, OutOfRegion, InUse, CountFull}
 use Rattle.ptl_types.specs.declared.calls.PutArgs.{PutArgs}
 use Rattle.ptl_types.specs.declared.calls.GetArgs.{GetArgs}
-use Rattle.ptl_types.specs.declared.calls.Deed.{Deed}
-use Rattle.ptl_types.specs.declared.calls.Deed.TheVariants.{Put, Get, Atomic, FetchAtomic, Swap, Inc, Set}
+use Rattle.ptl_types.specs.declared.calls.TriggeredOp.{TriggeredOp}
+use Rattle.ptl_types.specs.declared.calls.TriggeredOp.TheVariants.{Put, Get, Atomic, FetchAtomic, Swap, Inc, Set}
 use Rattle.ptl_types.specs.Handles.{top}
 use Rattle.ptl_types.specs.Messages.{message}
 use Rattle.ni_model.specs.Append.{append}
@@ -242,7 +242,7 @@ release_leaves_the_other = refl
 abbrev put : PutArgs
 put = sending NoAck
 
-abbrev released : Handle → Deed → Result (Unit {0}) NiFault
+abbrev released : Handle → TriggeredOp → Result (Unit {0}) NiFault
 released md d = (md_release md (triggered d first 1 bound).state).answer
 
 put_names : released first (Put put) ≡ Err InUse
@@ -288,10 +288,10 @@ long_put = record put { local_offset = 5 }
 abbrev long_get : GetArgs
 long_get = record fetching { local_offset = 7 }
 
-abbrev start_fault : Deed → Option NiFault
+abbrev start_fault : TriggeredOp → Option NiFault
 start_fault d = fault_of (start d bound).answer
 
-abbrev started_by : PutArgs → GetArgs → List Deed
+abbrev started_by : PutArgs → GetArgs → List TriggeredOp
 started_by a g = Put a ∷ Get g ∷ Atomic a Sum U16 ∷ FetchAtomic g a Sum U16 ∷ Swap g a Cswap U16 1 ∷ []
 
 all_start : map start_fault (started_by put fetching) ≡ None ∷ None ∷ None ∷ None ∷ None ∷ []
@@ -329,7 +329,7 @@ unfolding started
 stale_before_out_of_region = refl
 
 -- ---- triggered operations
-abbrev trigger_fault : Deed → Option NiFault
+abbrev trigger_fault : TriggeredOp → Option NiFault
 trigger_fault d = fault_of (triggered d first 1 bound).answer
 
 all_wait : map trigger_fault (started_by put fetching) ≡ None ∷ None ∷ None ∷ None ∷ None ∷ []
@@ -372,7 +372,7 @@ ends_of_counts = refl
 abbrev crowded : State
 crowded = record bound { pending = record (triggered (Inc second (successes 1)) first 1 bound).state.pending { limit = 1 } }
 
-abbrev crowded_fault : Deed → Option NiFault
+abbrev crowded_fault : TriggeredOp → Option NiFault
 crowded_fault d = fault_of (triggered d first 1 crowded).answer
 
 -- the lowest number first

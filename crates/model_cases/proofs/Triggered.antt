@@ -10,8 +10,8 @@ use Rattle.ptl_types.specs.declared.elements.SwapOp.TheVariants.{Cswap}
 use Rattle.ptl_types.specs.declared.events.EventKind.TheVariants.{Send}
 use Rattle.ptl_types.specs.declared.calls.PutArgs.{PutArgs}
 use Rattle.ptl_types.specs.declared.calls.GetArgs.{GetArgs}
-use Rattle.ptl_types.specs.declared.calls.Deed.{Deed}
-use Rattle.ptl_types.specs.declared.calls.Deed.TheVariants.{Put, Get, Atomic, FetchAtomic, Swap, Inc, Set}
+use Rattle.ptl_types.specs.declared.calls.TriggeredOp.{TriggeredOp}
+use Rattle.ptl_types.specs.declared.calls.TriggeredOp.TheVariants.{Put, Get, Atomic, FetchAtomic, Swap, Inc, Set}
 use Rattle.ptl_types.specs.declared.calls.NiFault.TheVariants.{CountFull}
 use Rattle.ptl_types.specs.Handles.{top}
 use Rattle.ptl_types.specs.Messages.{message}
@@ -34,7 +34,7 @@ abbrev get_from : ℕ → GetArgs
 get_from rank = record fetching { target = rank }
 
 -- 0: a put to rank 3; 1: a get from rank 2, on the second counting event; 2: an increment
-abbrev posted : Deed → ℕ → State → State
+abbrev posted : TriggeredOp → ℕ → State → State
 posted d threshold s = (triggered d first threshold s).state
 
 abbrev two : State

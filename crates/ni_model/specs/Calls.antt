@@ -11,7 +11,7 @@ use Rattle.ptl_types.specs.declared.calls.NiFault.{NiFault}
 use Rattle.ptl_types.specs.declared.calls.NiFault.TheVariants.{NoMemory, Stale}
 use Rattle.ptl_types.specs.declared.calls.Appended.{Appended}
 use Rattle.ptl_types.specs.declared.calls.EqGot.{EqGot}
-use Rattle.ptl_types.specs.declared.calls.Deed.{Deed}
+use Rattle.ptl_types.specs.declared.calls.TriggeredOp.{TriggeredOp}
 use Rattle.ptl_types.specs.Elements.{written}
 use Rattle.ptl_types.specs.Messages.{Sent}
 use Rattle.ni_model.specs.declared.Linked.{Linked}
@@ -198,17 +198,17 @@ entry_slot (Some i ∷ is) slot = (slot_in slot i.priority || slot_in slot i.ove
 -- ---- operations
 
 -- put, get, atomic, fetch_atomic and swap: the message is the caller's to send
-abbrev pub start : Deed → State → Done (Result (Option Sent) NiFault)
+abbrev pub start : TriggeredOp → State → Done (Result (Option Sent) NiFault)
 start d s =
     let r = started s.rank (home_of s) d in
     ends_by (deed_fault d s.mds) s (with_home r.home s) r.message
 
 -- answers the operation's number
-abbrev pub with_operation : Deed → Handle → ℕ → State → State
+abbrev pub with_operation : TriggeredOp → Handle → ℕ → State → State
 with_operation d ct threshold s = record s { pending = with_posted d ct threshold s.pending }
 
 -- the triggered forms of the operations and of PtlCTInc and PtlCTSet
-abbrev pub triggered : Deed → Handle → ℕ → State → Done (Result ℕ NiFault)
+abbrev pub triggered : TriggeredOp → Handle → ℕ → State → Done (Result ℕ NiFault)
 triggered d ct threshold s = ends_by (triggered_fault d ct s.cts s.mds s.pending) s (with_operation d ct threshold s) s.pending.given
 
 -- `ready` answers some ready operation, and none exactly where there is none

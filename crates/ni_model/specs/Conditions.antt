@@ -7,8 +7,8 @@ use Rattle.ptl_types.specs.declared.entries.List.TheVariants.{Priority, Overflow
 use Rattle.ptl_types.specs.declared.calls.PutArgs.{PutArgs}
 use Rattle.ptl_types.specs.declared.calls.GetArgs.{GetArgs}
 use Rattle.ptl_types.specs.declared.calls.Limits.{Limits}
-use Rattle.ptl_types.specs.declared.calls.Deed.{Deed}
-use Rattle.ptl_types.specs.declared.calls.Deed.TheVariants.{Put, Get, Atomic, FetchAtomic, Swap}
+use Rattle.ptl_types.specs.declared.calls.TriggeredOp.{TriggeredOp}
+use Rattle.ptl_types.specs.declared.calls.TriggeredOp.TheVariants.{Put, Get, Atomic, FetchAtomic, Swap}
 use Rattle.ptl_types.specs.Operations.{bytes_of}
 use Rattle.ptl_types.specs.Messages.{Sent, bytes_due}
 use Rattle.ni_model.specs.declared.Linked.{Linked}
@@ -38,7 +38,7 @@ pub record MayFetch (g : GetArgs) (a : PutArgs) : Type 0 where
   pub no_ack : a.ack ≡ NoAck
 
 -- a fetch-atomic has a limit of its own in place of that of an atomic, and a swap is of one element
-abbrev pub MayStart : Deed → ℕ → Limits → Type 0
+abbrev pub MayStart : TriggeredOp → ℕ → Limits → Type 0
 MayStart (Put a) ranks l = MayGo a.target a.length ranks l.msg
 MayStart (Get g) ranks l = MayGo g.target g.length ranks l.msg
 MayStart (Atomic a op ty) ranks l = MayGo a.target a.length ranks l.msg × MayCombine ty a.length l.atomic

@@ -2,8 +2,8 @@
 use Rattle.std.specs.Prelude.{ℕ, Bool, false, ◌==◌, not, nat_le, List, [], ◌∷◌, ◌++◌, ◌+◌, Option, Some, None, find, filter, map}
 use Rattle.ptl_types.specs.declared.handles.Handle.{Handle}
 use Rattle.ptl_types.specs.declared.handles.Count.{Count}
-use Rattle.ptl_types.specs.declared.calls.Deed.{Deed}
-use Rattle.ptl_types.specs.declared.calls.Deed.TheVariants.{Put, Get, Atomic, FetchAtomic, Swap, Inc, Set}
+use Rattle.ptl_types.specs.declared.calls.TriggeredOp.{TriggeredOp}
+use Rattle.ptl_types.specs.declared.calls.TriggeredOp.TheVariants.{Put, Get, Atomic, FetchAtomic, Swap, Inc, Set}
 use Rattle.ptl_types.specs.Handles.{same_handle}
 use Rattle.ptl_types.specs.Messages.{Sent}
 use Rattle.ni_model.specs.Tables.{Table, lookup, changed}
@@ -38,7 +38,7 @@ abbrev pub ready_numbers : State → List ℕ
 ready_numbers s = filter (is_ready s) (map (λ (p : Posted). p.number) s.pending.waiting)
 
 -- the rank that a deed's message is for; none of a deed that counts and sends nothing
-abbrev pub message_target : Deed → Option ℕ
+abbrev pub message_target : TriggeredOp → Option ℕ
 message_target (Put a) = Some a.target
 message_target (Get g) = Some g.target
 message_target (Atomic a op ty) = Some a.target
@@ -65,7 +65,7 @@ abbrev pub ready_numbers_to : ℕ → State → List ℕ
 ready_numbers_to d s = filter (λ t. is_rank d (target_at s t)) (ready_numbers s)
 
 -- one operation more, the newest: its number is that of those given before
-abbrev pub with_posted : Deed → Handle → ℕ → Operations → Operations
+abbrev pub with_posted : TriggeredOp → Handle → ℕ → Operations → Operations
 with_posted deed ct threshold ops = record ops {
   waiting = ops.waiting ++ (record { number = ops.given; deed = deed; ct = ct; threshold = threshold }) ∷ [];
   given = ops.given + 1;
@@ -85,7 +85,7 @@ abbrev pub fires : State → Option Sent → Fires
 fires s message = record { state = s; message = message }
 
 -- the deed of an operation: a count stops at the end of the counter, and what sends reads its bytes now
-abbrev pub done : State → Deed → Fires
+abbrev pub done : State → TriggeredOp → Fires
 done s (Inc ct by) = fires (record s { cts = counted (Some ct) by s.cts }) None
 done s (Set ct to) = fires (record s { cts = changed ct (λ (c : Count). to) s.cts }) None
 done s d = let r = started s.rank (home_of s) d in fires (with_home r.home s) r.message

@@ -7,8 +7,8 @@ use Rattle.ptl_types.specs.declared.calls.NiFault.{NiFault}
 use Rattle.ptl_types.specs.declared.calls.NiFault.TheVariants.{Stale, NoSpace, OutOfRegion, InUse, CountFull}
 use Rattle.ptl_types.specs.declared.calls.PutArgs.{PutArgs}
 use Rattle.ptl_types.specs.declared.calls.GetArgs.{GetArgs}
-use Rattle.ptl_types.specs.declared.calls.Deed.{Deed}
-use Rattle.ptl_types.specs.declared.calls.Deed.TheVariants.{Put, Get, Atomic, FetchAtomic, Swap, Inc, Set}
+use Rattle.ptl_types.specs.declared.calls.TriggeredOp.{TriggeredOp}
+use Rattle.ptl_types.specs.declared.calls.TriggeredOp.TheVariants.{Put, Get, Atomic, FetchAtomic, Swap, Inc, Set}
 use Rattle.ptl_types.specs.Handles.{same_handle}
 use Rattle.ni_model.specs.declared.Bound.{Bound}
 use Rattle.ni_model.specs.declared.Linked.{Linked}
@@ -84,7 +84,7 @@ md_names_eq eq [] = false
 md_names_eq eq (x ∷ xs) = names x.value.md.eq eq || md_names_eq eq xs
 
 -- a triggered operation names the counter that it waits on and the one that it counts on
-abbrev pub deed_names_ct : Handle → Deed → Bool
+abbrev pub deed_names_ct : Handle → TriggeredOp → Bool
 deed_names_ct ct (Inc h by) = same_handle h ct
 deed_names_ct ct (Set h to) = same_handle h ct
 deed_names_ct ct _ = false
@@ -95,7 +95,7 @@ operation_names_ct ct [] = false
 operation_names_ct ct (p ∷ ps) = (same_handle p.ct ct || deed_names_ct ct p.deed) || operation_names_ct ct ps
 
 -- a deed names the descriptor
-abbrev pub deed_names_md : Handle → Deed → Bool
+abbrev pub deed_names_md : Handle → TriggeredOp → Bool
 deed_names_md md (Put a) = same_handle a.md md
 deed_names_md md (Get g) = same_handle g.md md
 deed_names_md md (Atomic a op ty) = same_handle a.md md
@@ -172,7 +172,7 @@ holds_part None at n = false
 holds_part (Some b) at n = is_within at n b.md.length
 
 -- the descriptors that a deed names are live
-abbrev pub deed_is_live : Deed → Table Bound → Bool
+abbrev pub deed_is_live : TriggeredOp → Table Bound → Bool
 deed_is_live (Put a) mds = is_live a.md mds
 deed_is_live (Get g) mds = is_live g.md mds
 deed_is_live (Atomic a op ty) mds = is_live a.md mds
@@ -189,7 +189,7 @@ abbrev pub get_fits : GetArgs → Table Bound → Bool
 get_fits g mds = holds_part (lookup g.md mds.live) g.local_offset g.length
 
 -- all that a deed names does
-abbrev pub deed_fits : Deed → Table Bound → Bool
+abbrev pub deed_fits : TriggeredOp → Table Bound → Bool
 deed_fits (Put a) mds = put_fits a mds
 deed_fits (Get g) mds = get_fits g mds
 deed_fits (Atomic a op ty) mds = put_fits a mds
@@ -198,17 +198,17 @@ deed_fits (Swap g a op ty operand) mds = get_fits g mds && put_fits a mds
 deed_fits _ mds = true
 
 -- the refusals of a start that an initiator finds
-abbrev pub deed_fault : Deed → Table Bound → Option NiFault
+abbrev pub deed_fault : TriggeredOp → Table Bound → Option NiFault
 deed_fault d mds = need (deed_is_live d mds) Stale (need (deed_fits d mds) OutOfRegion None)
 
 -- the counting event that an increment or a set names is live
-abbrev pub counts_on_live : Deed → Table Count → Bool
+abbrev pub counts_on_live : TriggeredOp → Table Count → Bool
 counts_on_live (Inc ct by) cts = is_live ct cts
 counts_on_live (Set ct to) cts = is_live ct cts
 counts_on_live _ cts = true
 
 -- its two numbers together pass the end
-abbrev pub deed_passes : Deed → Bool
+abbrev pub deed_passes : TriggeredOp → Bool
 deed_passes (Inc ct by) = passes_end by
 deed_passes (Set ct to) = passes_end to
 deed_passes _ = false
@@ -218,7 +218,7 @@ abbrev pub no_number : Operations → Bool
 no_number ops = nat_le ops.limit (length ops.waiting) || nat_le (2 ^ 32 - 1) ops.given
 
 -- not live, no room or number, a part past the descriptor, past the end
-abbrev pub triggered_fault : Deed → Handle → Table Count → Table Bound → Operations → Option NiFault
+abbrev pub triggered_fault : TriggeredOp → Handle → Table Count → Table Bound → Operations → Option NiFault
 triggered_fault d ct cts mds ops =
     need (is_live ct cts && (counts_on_live d cts && deed_is_live d mds)) Stale
     (need (not (no_number ops)) NoSpace

@@ -13,8 +13,8 @@ use Rattle.ptl_types.specs.declared.headers.MessageKind.TheVariants.{FetchAtomic
 use Rattle.ptl_types.specs.declared.headers.AckRequest.TheVariants.{NoAck}
 use Rattle.ptl_types.specs.declared.calls.PutArgs.{PutArgs}
 use Rattle.ptl_types.specs.declared.calls.GetArgs.{GetArgs}
-use Rattle.ptl_types.specs.declared.calls.Deed.{Deed}
-use Rattle.ptl_types.specs.declared.calls.Deed.TheVariants.{Put, Get, Atomic, FetchAtomic, Swap, Inc, Set}
+use Rattle.ptl_types.specs.declared.calls.TriggeredOp.{TriggeredOp}
+use Rattle.ptl_types.specs.declared.calls.TriggeredOp.TheVariants.{Put, Get, Atomic, FetchAtomic, Swap, Inc, Set}
 use Rattle.ptl_types.specs.Kinds.{is_no_ack}
 use Rattle.ptl_types.specs.Elements.{part}
 use Rattle.ptl_types.specs.Messages.{Sent, message}
@@ -92,7 +92,7 @@ fetch_header rank kind g a op swap ty operand = record {
 }
 
 -- none of a deed that counts and sends nothing
-abbrev pub header_of : ℕ → Deed → Option Header
+abbrev pub header_of : ℕ → TriggeredOp → Option Header
 header_of rank (Put a) = Some (put_header rank PutKind a None U8)
 header_of rank (Get g) = Some (get_header rank g)
 header_of rank (Atomic a op ty) = Some (put_header rank AtomicKind a (Some op) ty)
@@ -104,7 +104,7 @@ header_of rank (Set ct to) = None
 -- ---- bytes: the put arguments' part of their descriptor, none for a get
 
 -- the put arguments of a deed, if it has some
-abbrev pub put_args : Deed → Option PutArgs
+abbrev pub put_args : TriggeredOp → Option PutArgs
 put_args (Put a) = Some a
 put_args (Atomic a op ty) = Some a
 put_args (FetchAtomic g a op ty) = Some a
@@ -117,13 +117,13 @@ bytes_at None at n memory = []
 bytes_at (Some b) at n memory = part (b.md.start + at) n memory
 
 -- the bytes that a start sends
-abbrev pub bytes_read : Home → Deed → List ℕ
+abbrev pub bytes_read : Home → TriggeredOp → List ℕ
 bytes_read p d = elim (put_args d) [ Some a ↦ bytes_at (lookup a.md p.mds.live) a.local_offset a.length p.region | None ↦ [] ]
 
 -- ---- what a start does: it counts and tells on the descriptor of the put arguments (of a get on its own), and the home awaits an answer
 
 -- the descriptor that the start counts and tells on
-abbrev pub counted_on : Deed → Option Handle
+abbrev pub counted_on : TriggeredOp → Option Handle
 counted_on (Put a) = Some a.md
 counted_on (Get g) = Some g.md
 counted_on (Atomic a op ty) = Some a.md
@@ -151,7 +151,7 @@ awaits_more None mds = mds
 awaits_more (Some h) mds = changed h one_awaited mds
 
 -- the initiator after a start
-abbrev pub sent_from : Home → Deed → Header → Home
+abbrev pub sent_from : Home → TriggeredOp → Header → Home
 sent_from p d h =
     home
     (awaits_more h.home p.mds)
@@ -166,11 +166,11 @@ pub record Started : Type 0 where
   pub counted : Option Handle
 
 -- none of a deed that sends nothing
-abbrev pub started_by : Home → Deed → Option Header → Started
+abbrev pub started_by : Home → TriggeredOp → Option Header → Started
 started_by p d None = record { home = p; message = None; counted = None }
 started_by p d (Some h) =
     record { home = sent_from p d h; message = Some (message h (bytes_read p d)); counted = send_counter (bound_at (counted_on d) p.mds) }
 
 -- a start at rank `rank`
-unfoldable pub started : ℕ → Home → Deed → Started
+unfoldable pub started : ℕ → Home → TriggeredOp → Started
 started rank p d = started_by p d (header_of rank d)

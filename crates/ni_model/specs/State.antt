@@ -2,7 +2,7 @@
 use Rattle.std.specs.Prelude.{ℕ, List, Option, None, [], if◌then◌else◌, replicate}
 use Rattle.ptl_types.specs.declared.handles.Handle.{Handle}
 use Rattle.ptl_types.specs.declared.handles.Count.{Count}
-use Rattle.ptl_types.specs.declared.calls.Deed.{Deed}
+use Rattle.ptl_types.specs.declared.calls.TriggeredOp.{TriggeredOp}
 use Rattle.ptl_types.specs.declared.calls.Limits.{Limits}
 use Rattle.ptl_types.specs.declared.calls.Delivered.{Delivered}
 use Rattle.ptl_types.specs.declared.calls.Outcome.{Outcome}
@@ -21,7 +21,7 @@ use Rattle.ni_model.specs.Answers.{Home, home, Returned, answered}
 -- a triggered operation that waits
 pub record Posted : Type 0 where
   pub number : ℕ
-  pub deed : Deed
+  pub deed : TriggeredOp
   pub ct : Handle
   pub threshold : ℕ
 

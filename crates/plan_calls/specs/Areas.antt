@@ -8,7 +8,7 @@ use Rattle.ptl_types.specs.Elements.{starting}
 use Rattle.plan_core.specs.Plan.{Plan, cell, link, own, all_links, from_to}
 use Rattle.plan_core.specs.Places.{start_by}
 use Rattle.plan_core.specs.Values.{Inputs, initial}
-use Rattle.plan_calls.specs.Works.{is_message}
+use Rattle.plan_calls.specs.RankOps.{is_message}
 use Rattle.plan_calls.specs.Bits.{class_of, class_op, class_type}
 
 -- ---- the messages that come to a rank

@@ -1,15 +1,15 @@
 -- The calls by which a rank's interface is prepared, and those that its start makes, as values (Portals 4.3).
 use Rattle.std.specs.Prelude.{ℕ, ◌+◌, ◌-◌, ◌*◌, ◌^◌, List, ◌∷◌, ◌++◌, if◌then◌else◌, map}
 use Rattle.ptl_types.specs.declared.headers.AckRequest.TheVariants.{NoAck, CtAck}
-use Rattle.ptl_types.specs.declared.steps.Act.{Act}
-use Rattle.ptl_types.specs.declared.steps.Act.TheVariants.{Send, BumpCell, BumpDone}
+use Rattle.ptl_types.specs.declared.steps.PlannedOp.{PlannedOp}
+use Rattle.ptl_types.specs.declared.steps.PlannedOp.TheVariants.{Send, BumpCell, BumpDone}
 use Rattle.ptl_types.specs.declared.steps.Call.{Call}
 use Rattle.ptl_types.specs.declared.steps.Call.TheVariants.{PtAlloc, CtDone, CtCell, MdBind, Overflow, MeAppend, Trigger}
 use Rattle.plan_core.specs.Plan.{Plan, cell, link, own, is_bump}
 use Rattle.plan_core.specs.Places.{start_in}
 use Rattle.plan_calls.specs.declared.OwnCell.{OwnCell}
-use Rattle.plan_calls.specs.Works.{Work, works, cell_of}
-use Rattle.plan_calls.specs.Works.Work.{Along, Tell}
+use Rattle.plan_calls.specs.RankOps.{RankOp, rank_ops, cell_of}
+use Rattle.plan_calls.specs.RankOps.RankOp.{ForLink, ForDone}
 use Rattle.plan_calls.specs.Bits.{bits_above, cell_bits}
 use Rattle.plan_calls.specs.Areas.{area_length, area_start, areas_length, classes, region_length}
 
@@ -20,7 +20,7 @@ cell_start p c = start_in p (own p (cell p c).rank) c
 -- ---- operations
 
 -- what goes along link l: the named part of its source, to its target's class and cell, with the link's number as header data
-abbrev pub send_act : Plan → ℕ → Act
+abbrev pub send_act : Plan → ℕ → PlannedOp
 send_act p l =
     Send (cell_start p (link p l).source + (link p l).source_offset) (link p l).length
     (cell p (link p l).target).rank (cell_bits p (link p l).target * 2 ^ 16 + (cell p (link p l).source).rank)
@@ -28,12 +28,12 @@ send_act p l =
     (if p.remote then CtAck else NoAck)
 
 -- what an operation does
-abbrev pub act_of : Plan → Work → Act
-act_of p (Along l) = if is_bump (link p l).kind then BumpCell (link p l).target else send_act p l
-act_of p (Tell c) = BumpDone
+abbrev pub act_of : Plan → RankOp → PlannedOp
+act_of p (ForLink l) = if is_bump (link p l).kind then BumpCell (link p l).target else send_act p l
+act_of p (ForDone c) = BumpDone
 
 -- it waits for its cell to reach its needs
-abbrev pub trigger : Plan → Work → Call
+abbrev pub trigger : Plan → RankOp → Call
 trigger p w = Trigger (cell_of p w) (cell p (cell_of p w)).needs (act_of p w)
 
 -- ---- entries
@@ -66,7 +66,7 @@ abbrev pub prepare_calls : Plan → ℕ → List Call
 prepare_calls p r =
     PtAlloc ∷ (map (area_call p r) (classes p r)
     ++ (CtDone ∷ (map CtCell (own p r)
-    ++ (MdBind (region_length p r + areas_length p r) p.remote ∷ map (trigger p) (works p r)))))
+    ++ (MdBind (region_length p r + areas_length p r) p.remote ∷ map (trigger p) (rank_ops p r)))))
 
 -- those of its start, beside the copying: the own cells' entries
 abbrev pub late_calls : Plan → ℕ → List Call

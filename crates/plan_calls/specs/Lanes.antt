@@ -3,7 +3,7 @@ use Rattle.std.specs.Prelude.{ℕ, Bool, ◌==◌, ◌&&◌, nat_lt, List, if◌
 use Rattle.ptl_types.specs.declared.headers.Lane.{Lane}
 use Rattle.ptl_types.specs.declared.headers.Lane.TheVariants.{Answer, Request}
 use Rattle.plan_core.specs.Plan.{Plan, all_links, cell, link}
-use Rattle.plan_calls.specs.Works.{is_message}
+use Rattle.plan_calls.specs.RankOps.{is_message}
 
 -- a message goes along the link from rank s to rank d
 abbrev pub goes_along : Plan → ℕ → ℕ → ℕ → Bool

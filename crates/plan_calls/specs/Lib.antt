@@ -1,4 +1,4 @@
-pub mod Works
+pub mod RankOps
 pub mod Bits
 pub mod Areas
 pub mod Lanes

@@ -8,11 +8,11 @@ use Rattle.cuts.specs.windows.Places.{lane_place}
 use Rattle.worlds.specs.parts.Layout.{lane_at}
 use Rattle.worlds.proofs.parts.Marked.{deliveries_marked, marked_size}
 use Rattle.worlds.proofs.parts.Sets.{two_marks}
-use Rattle.plan_choice.specs.ranks.Seats.{Seated}
+use Rattle.plan_choice.specs.ranks.Seats.{ChoiceRankState}
 use Rattle.plan_choice.specs.Acts.{AreMarked, firing_count, firing_mark, seat_at, start_count, start_mark}
 use Rattle.plan_choice.specs.World.{AreCounted, ChoiceState}
 
-module _ (w : ChoiceState) (starts deliveries firings : List ℕ) (counted : AreCounted w starts deliveries firings) (news : List Seated)
+module _ (w : ChoiceState) (starts deliveries firings : List ℕ) (counted : AreCounted w starts deliveries firings) (news : List ChoiceRankState)
     (later : List Plain) (s d : ℕ) (hs : s < w.ranks) (hd : d < w.ranks)
     (others : (q : ℕ) → (q ≡ s → ⊥) → (q ≡ d → ⊥) → seat_at news q ≡ seat_at w.seats q)
     (apart : (a b : ℕ) (lane : Lane) → a < w.ranks → b < w.ranks → ((a ≡ s) × (b ≡ d) → ⊥) → ((a ≡ d) × (b ≡ s) → ⊥)

@@ -28,7 +28,7 @@ use Rattle.rank_node.specs.Handles.{Handles}
 use Rattle.worlds.specs.parts.Layout.{held_in, lane_at}
 use Rattle.worlds.specs.parts.Marks.{HasPlace, out_with, sent_out}
 use Rattle.worlds.proofs.parts.Gated.{scene_by}
-use Rattle.worlds.proofs.parts.Held.{held_here, held_out, set_capacity, set_here, set_size}
+use Rattle.worlds.proofs.parts.BufferCells.{held_here, held_out, set_capacity, set_here, set_size}
 use Rattle.worlds.proofs.parts.Sets.{at_set}
 use Rattle.choices.specs.machine.Counted.{steps_due}
 use Rattle.choices.specs.view.Install.{Slots, ct_of}
@@ -38,7 +38,7 @@ use Rattle.choices.specs.laws.Traffic.{IsMade as IsSent}
 use Rattle.choices.proofs.laws.Agreement.{Agrees}
 use Rattle.choices.proofs.laws.Ends.{history_le, lane_few}
 use Rattle.choices.proofs.laws.Resting.{agrees_reached}
-use Rattle.plan_choice.specs.ranks.Seats.{Seated, slots_in}
+use Rattle.plan_choice.specs.ranks.Seats.{ChoiceRankState, slots_in}
 use Rattle.plan_choice.proofs.ranks.Installed.{slots_by}
 use Rattle.plan_choice.specs.Acts.{made_at, no_seated, seat_at}
 use Rattle.plan_choice.specs.World.{ChoiceState, HasGo, HasRoom, IsLater, IsStanding, histories_in, nic_in, ranks_in, scene_in, steps_in}
@@ -52,7 +52,7 @@ pub same_lanes : (lanes : List Plain) → SameRoom lanes lanes
 same_lanes lanes = record { size = refl; capacity = λ i. refl }
 
 -- a seat after a step of its rank, of which this is the go counter
-pub record Moved (go : Handle) (old new : Seated) (e : Local) : Type 0 where
+pub record Moved (go : Handle) (old new : ChoiceRankState) (e : Local) : Type 0 where
   pub kept : new.kept ≡ old.kept
   pub locals : new.diary.locals ≡ old.diary.locals ++ e ∷ []
   pub nic : new.nic ≡ after (count_from go) old.nic e
@@ -176,8 +176,8 @@ module _ (w : ChoiceState) (is : IsStanding w) (enough : HasRoom w) (gone : HasG
             ((lane_at mid (lane_place n r m.header.target (lane_of m.header.kind))).messages ++ m ∷ []) i ∙ left.capacity i
 
     -- ---- the seats after it
-    module _ (new : Seated) (moved : Moved (go_in w r) (seat_at w.seats r) new e) where
-      abbrev news : List Seated
+    module _ (new : ChoiceRankState) (moved : Moved (go_in w r) (seat_at w.seats r) new e) where
+      abbrev news : List ChoiceRankState
       news = set w.seats r new
 
       abbrev pub next : ChoiceState
@@ -196,14 +196,14 @@ module _ (w : ChoiceState) (is : IsStanding w) (enough : HasRoom w) (gone : HasG
       news_other q x = get_or-set_other w.seats r q new no_seated x
 
       kept_same : (q : ℕ) → (seat_at news q).kept ≡ (seat_at w.seats q).kept
-      kept_same q = at_set (λ (s : Seated). s.kept ≡ (seat_at w.seats q).kept) w.seats r q new no_seated inside
+      kept_same q = at_set (λ (s : ChoiceRankState). s.kept ≡ (seat_at w.seats q).kept) w.seats r q new no_seated inside
           (λ i. moved.kept ∙ ap (λ t. (seat_at w.seats t).kept) (sym i)) (λ x. refl)
 
       system_same : ranks_in next ≡ ranks_in w
       system_same = ap (choice_system w.ranks w.kinds) (fun_ext (λ q. ap slots_by (kept_same q)))
 
       world_news : (q : ℕ) → (seat_at news q).diary.locals ≡ behind.world q
-      world_news q = at_set (λ (s : Seated). s.diary.locals ≡ behind.world q) w.seats r q new no_seated inside
+      world_news q = at_set (λ (s : ChoiceRankState). s.diary.locals ≡ behind.world q) w.seats r q new no_seated inside
           (λ i. moved.locals ∙ sym world_here ∙ ap behind.world (sym i)) (λ x. sym (world_there q x))
 
       scene_news : scene_in next ≡ behind
@@ -227,10 +227,10 @@ module _ (w : ChoiceState) (is : IsStanding w) (enough : HasRoom w) (gone : HasG
       nic_news : (q : ℕ) → q < n → nic_in next q ≡ state_at (ranks_in next) (histories_in next) q
       nic_news q h = elim (cases_eq q r) [
         | inl i ↦
-            ap (nic_in next) i ∙ ap (λ (s : Seated). s.nic) new_here ∙ moved.nic
+            ap (nic_in next) i ∙ ap (λ (s : ChoiceRankState). s.nic) new_here ∙ moved.nic
             ∙ ap (λ v. after (k.go r) v e) (is.nic r hr) ∙ sym state_here ∙ ap (state_at k behind.world) (sym i) ∙ sym (state_news q)
         | inr x ↦
-            ap (λ (s : Seated). s.nic) (news_other q x) ∙ is.nic q h
+            ap (λ (s : ChoiceRankState). s.nic) (news_other q x) ∙ is.nic q h
             ∙ ap (state (k.go q) (k.first q)) (sym (world_there q x)) ∙ sym (state_news q)
       ]
 
@@ -256,14 +256,14 @@ module _ (w : ChoiceState) (is : IsStanding w) (enough : HasRoom w) (gone : HasG
 
       pub room_news : HasRoom next
       room_news = record {
-        steps = λ q h. at_set (λ (s : Seated). steps_due n w.kinds q ≤ length s.diary.locals + s.diary.room) w.seats r q new no_seated inside
+        steps = λ q h. at_set (λ (s : ChoiceRankState). steps_due n w.kinds q ≤ length s.diary.locals + s.diary.room) w.seats r q new no_seated inside
             (λ i. let a = enough.steps r hr in let b = ap (steps_due n w.kinds) i in let c = longer in let d = moved.room in
             omega (arith, a, b, c, d)) (λ x. enough.steps q h);
-        receipts = λ q h. at_set (λ (s : Seated). steps_due n w.kinds q ≤ length s.diary.locals + s.diary.receipts) w.seats r q new no_seated
+        receipts = λ q h. at_set (λ (s : ChoiceRankState). steps_due n w.kinds q ≤ length s.diary.locals + s.diary.receipts) w.seats r q new no_seated
             inside
             (λ i. let a = enough.receipts r hr in let b = ap (steps_due n w.kinds) i in let c = longer in let d = moved.receipts in
             omega (arith, a, b, c, d)) (λ x. enough.receipts q h);
-        bytes = λ q h. at_set (λ (s : Seated). 8 * steps_due n w.kinds q ≤ 8 * length s.diary.locals + s.diary.bytes) w.seats r q new no_seated
+        bytes = λ q h. at_set (λ (s : ChoiceRankState). 8 * steps_due n w.kinds q ≤ 8 * length s.diary.locals + s.diary.bytes) w.seats r q new no_seated
             inside
             (λ i. let a = enough.bytes r hr in let b = ap (steps_due n w.kinds) i in let c = longer in let d = moved.bytes in
             omega (arith, a, b, c, d)) (λ x. enough.bytes q h);

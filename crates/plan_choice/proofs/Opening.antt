@@ -20,12 +20,12 @@ use Rattle.worlds.proofs.parts.Gated.{scene_by}
 use Rattle.worlds.proofs.parts.Placed.{lane_in}
 use Rattle.worlds.proofs.Opened.{none-held}
 use Rattle.choices.specs.laws.Decided.{IsInRange}
-use Rattle.plan_choice.specs.ranks.Seats.{IsInstalled, Seated}
+use Rattle.plan_choice.specs.ranks.Seats.{IsInstalled, ChoiceRankState}
 use Rattle.plan_choice.specs.Acts.{firing_count, no_seated, seat_at, start_count}
 use Rattle.plan_choice.specs.Laying.{laid_lane}
 use Rattle.plan_choice.specs.World.{AreFields, ChoiceState, HasGo, HasRoom, IsStanding, histories_in, nic_in, ranks_in, scene_in}
 
-module _ (n : ℕ) (ks : List ChoiceKind) (some : 0 < n) (few : n ≤ 256) (few_steps : length ks ≤ 64) (seats : List Seated)
+module _ (n : ℕ) (ks : List ChoiceKind) (some : 0 < n) (few : n ≤ 256) (few_steps : length ks ≤ 64) (seats : List ChoiceRankState)
     (size : length seats ≡ n) (installed : (r : ℕ) → r < n → IsInstalled n ks r (seat_at seats r)) (lanes : List Plain)
     (wide : length lanes ≡ 2 * (n * n))
     (laid : (s d : ℕ) (lane : Lane) → s < n → d < n → lane_at lanes (lane_place n s d lane) ≡ laid_lane (length ks) s d lane) where
@@ -36,7 +36,7 @@ module _ (n : ℕ) (ks : List ChoiceKind) (some : 0 < n) (few : n ≤ 256) (few_
   nothing_done : (r : ℕ) → histories_in fresh r ≡ []
   nothing_done r = elim (cases_lt r n) [
     | inl lt ↦ ap (λ (d : Diary). d.locals) (installed r lt).diary
-    | inr le ↦ ap (λ (s : Seated). s.diary.locals) (get_or_past seats r no_seated (omega (arith, size, le)))
+    | inr le ↦ ap (λ (s : ChoiceRankState). s.diary.locals) (get_or_past seats r no_seated (omega (arith, size, le)))
   ]
 
   empty : (s d : ℕ) (lane : Lane) → s < n → d < n → (lane_at lanes (lane_place n s d lane)).messages ≡ []

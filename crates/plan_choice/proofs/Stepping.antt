@@ -21,23 +21,23 @@ use Rattle.cuts.specs.windows.Places.{lane_place}
 use Rattle.worlds.specs.parts.Layout.{held_in, lane_at}
 use Rattle.worlds.specs.parts.Marks.{out_with, popped, receiver}
 use Rattle.worlds.proofs.parts.Gated.{scene_by}
-use Rattle.worlds.proofs.parts.Held.{held_here, held_set, set_capacity, set_other, set_size}
+use Rattle.worlds.proofs.parts.BufferCells.{held_here, held_set, set_capacity, set_other, set_size}
 use Rattle.worlds.proofs.Listed.{offered, ready_is}
 use Rattle.choices.specs.machine.Counted.{steps_due}
 use Rattle.choices.specs.laws.Traffic.{IsMade as IsSent}
 use Rattle.choices.proofs.laws.Traffic.{comes, firing_makes, receipt_makes}
-use Rattle.plan_choice.specs.ranks.Seats.{Seated, fired_seat, received_seat, started_seat}
+use Rattle.plan_choice.specs.ranks.Seats.{ChoiceRankState, fired_seat, received_seat, started_seat}
 use Rattle.plan_choice.specs.Acts.{AreMarked, AreSized, IsFirst, IsStepped, MayMake, made_at, seat_at}
 use Rattle.plan_choice.specs.World.{AreFields, ChoiceState, IsLater, histories_in, ranks_in, scene_in, steps_in}
 use Rattle.plan_choice.proofs.Counting.{counted_news}
 use Rattle.plan_choice.proofs.Moving.{Moved, SameRoom, behind, go_in, go_news, later_news, made_news, may_go_out, moment_in, news_other, next, one_due, room_news, same_lanes, slots_at, standing_news}
 
 -- the world with other seats and lanes
-abbrev pub with_parts : ChoiceState → List Seated → List Plain → ChoiceState
+abbrev pub with_parts : ChoiceState → List ChoiceRankState → List Plain → ChoiceState
 with_parts w seats lanes = record { ranks = w.ranks; kinds = w.kinds; seats = seats; lanes = lanes }
 
 -- a step was made
-pub record IsDone (w : ChoiceState) (x : Step) (nexts : List Seated) (after : List Plain) (a b c : List ℕ) : Type 0 where
+pub record IsDone (w : ChoiceState) (x : Step) (nexts : List ChoiceRankState) (after : List Plain) (a b c : List ℕ) : Type 0 where
   pub fields : AreFields (with_parts w nexts after) a b c
   pub made : scene_in (with_parts w nexts after) ≡ step_made (ranks_in w) x (scene_in w)
   pub later : IsLater w (with_parts w nexts after)
@@ -59,7 +59,7 @@ module _ (w : ChoiceState) (starts deliveries firings : List ℕ) (fields : AreF
   module _ (r : ℕ) (hr : r < w.ranks) (e : Local) (mid : List Plain) (left : SameRoom w.lanes mid) (listed : In (named r e) (steps_in w))
       (so : step_made (ranks_in w) (named r e) (scene_in w) ≡ behind w fields.standing fields.room fields.go r hr e mid left listed)
       (goes : (m : Sent) → made_at w.seats r e ≡ Some m → IsSent w.ranks r m)
-      (new : Seated) (moved : Moved (go_in w r) (seat_at w.seats r) new e) where
+      (new : ChoiceRankState) (moved : Moved (go_in w r) (seat_at w.seats r) new e) where
     abbrev after_it : ChoiceState
     after_it = next w fields.standing fields.room fields.go r hr e mid left listed so goes new moved
 
@@ -101,7 +101,7 @@ module _ (w : ChoiceState) (starts deliveries firings : List ℕ) (fields : AreF
       }
 
       -- as the code has it
-      pub finish : (nexts : List Seated) (out : List Plain) (a b c : List ℕ) (t u : ℕ) → nexts ≡ after_it.seats → out ≡ after_it.lanes
+      pub finish : (nexts : List ChoiceRankState) (out : List Plain) (a b c : List ℕ) (t u : ℕ) → nexts ≡ after_it.seats → out ≡ after_it.lanes
           → t ≡ s → u ≡ d → AreMarked w.ranks nexts out t u starts deliveries firings a b c → IsDone w (named r e) nexts out a b c
       finish nexts out a b c t u es el et eu marked =
           subst (λ ns. IsDone w (named r e) ns out a b c) (sym es)
@@ -142,7 +142,7 @@ module _ (w : ChoiceState) (starts deliveries firings : List ℕ) (fields : AreF
       bytes = omega arith;
     }
 
-    start_done : (nexts : List Seated) (out : List Plain) (a b c : List ℕ)
+    start_done : (nexts : List ChoiceRankState) (out : List Plain) (a b c : List ℕ)
         → IsStepped w.ranks w.seats w.lanes starts deliveries firings (Start r) nexts out a b c → IsDone w (Start r) nexts out a b c
     start_done nexts out a b c is =
         finish r start_rank Started w.lanes (same_lanes w.lanes) listed refl start_goes (started_seat (seat_at w.seats r)) start_moved
@@ -187,7 +187,7 @@ module _ (w : ChoiceState) (starts deliveries firings : List ℕ) (fields : AreF
         at None q = fire_rank
         at (Some m) q = (fire_goes m q).in_range
 
-    fire_done : (nexts : List Seated) (out : List Plain) (a b c : List ℕ)
+    fire_done : (nexts : List ChoiceRankState) (out : List Plain) (a b c : List ℕ)
         → IsStepped w.ranks w.seats w.lanes starts deliveries firings (Fire r t) nexts out a b c → IsDone w (Fire r t) nexts out a b c
     fire_done nexts out a b c is =
         finish r fire_rank (Fired t) w.lanes (same_lanes w.lanes) listed refl fire_goes (fired_seat t (seat_at w.seats r)) fire_moved
@@ -273,7 +273,7 @@ module _ (w : ChoiceState) (starts deliveries firings : List ℕ) (fields : AreF
         bytes = let a = short in omega (arith, a);
       }
 
-      deliver_done : (nexts : List Seated) (out : List Plain) (a b c : List ℕ)
+      deliver_done : (nexts : List ChoiceRankState) (out : List Plain) (a b c : List ℕ)
           → IsStepped w.ranks w.seats w.lanes starts deliveries firings (Deliver s d lane) nexts out a b c
           → IsDone w (Deliver s d lane) nexts out a b c
       deliver_done nexts out a b c is =
@@ -301,7 +301,7 @@ module _ (w : ChoiceState) (starts deliveries firings : List ℕ) (fields : AreF
       },
     )
 
-    delivery_done : (nexts : List Seated) (out : List Plain) (a b c : List ℕ)
+    delivery_done : (nexts : List ChoiceRankState) (out : List Plain) (a b c : List ℕ)
         → IsStepped w.ranks w.seats w.lanes starts deliveries firings (Deliver s d lane) nexts out a b c
         → IsDone w (Deliver s d lane) nexts out a b c
     delivery_done nexts out a b c is = at ms refl
@@ -316,14 +316,14 @@ module _ (w : ChoiceState) (starts deliveries firings : List ℕ) (fields : AreF
   allowed (Fire r t) i = fire_may r t i
   allowed (Deliver s d lane) i = deliver_may s d lane i
 
-  pub done_by : (x : Step) → In x (steps_in w) → (nexts : List Seated) (out : List Plain) (a b c : List ℕ)
+  pub done_by : (x : Step) → In x (steps_in w) → (nexts : List ChoiceRankState) (out : List Plain) (a b c : List ℕ)
       → IsStepped w.ranks w.seats w.lanes starts deliveries firings x nexts out a b c → IsDone w x nexts out a b c
   done_by (Start r) i = start_done r i
   done_by (Fire r t) i = fire_done r t i
   done_by (Deliver s d lane) i = delivery_done s d lane i
 
   -- ---- by the slices that a call was given, and those that it left
-  module _ (seats : List Seated) (lanes : List Plain) (same_seats : seats ≡ w.seats) (same : lanes ≡ w.lanes) where
+  module _ (seats : List ChoiceRankState) (lanes : List Plain) (same_seats : seats ≡ w.seats) (same : lanes ≡ w.lanes) where
     pub lent_sized : AreSized w.ranks seats lanes starts deliveries firings
     lent_sized = record {
       few = fields.standing.in_range.few_ranks;
@@ -339,7 +339,7 @@ module _ (w : ChoiceState) (starts deliveries firings : List ℕ) (fields : AreF
         subst (λ ss. MayMake w.ranks ss lanes x) (sym same_seats)
         (subst (λ ls. MayMake w.ranks w.seats ls x) (sym same) (allowed x i))
 
-    pub lent_done : (x : Step) → In x (steps_in w) → (new nexts : List Seated) (last out : List Plain) (a b c : List ℕ) → nexts ≡ new → out ≡ last
+    pub lent_done : (x : Step) → In x (steps_in w) → (new nexts : List ChoiceRankState) (last out : List Plain) (a b c : List ℕ) → nexts ≡ new → out ≡ last
         → IsStepped w.ranks seats lanes starts deliveries firings x new last a b c → IsDone w x nexts out a b c
     lent_done x i new nexts last out a b c en el is =
         done_by x i nexts out a b c

@@ -17,10 +17,10 @@ use Rattle.rank_node.specs.Handles.{no_handles}
 use Rattle.choices.specs.view.Install.{limits_of}
 use Rattle.worlds.specs.parts.Layout.{lane_at}
 use Rattle.worlds.specs.parts.Marks.{HasPlace, delivery_mark, out_with, popped, receiver}
-use Rattle.plan_choice.specs.ranks.Seats.{Seated, fired_seat, received_seat, started_seat}
+use Rattle.plan_choice.specs.ranks.Seats.{ChoiceRankState, fired_seat, received_seat, started_seat}
 
 -- past the last rank
-abbrev pub no_seated : Seated
+abbrev pub no_seated : ChoiceRankState
 no_seated = record {
   kept = no_handles (record { counters = 0; entries = 0; descriptors = 0 });
   diary = record { locals = []; steps = []; room = 0; receipts = 0; bytes = 0 };
@@ -28,11 +28,11 @@ no_seated = record {
 }
 
 -- the seat of a rank
-abbrev pub seat_at : List Seated → ℕ → Seated
+abbrev pub seat_at : List ChoiceRankState → ℕ → ChoiceRankState
 seat_at seats r = slice_index_or seats r no_seated
 
 -- what a rank makes by a local step
-abbrev pub made_at : List Seated → ℕ → Local → Option Sent
+abbrev pub made_at : List ChoiceRankState → ℕ → Local → Option Sent
 made_at seats r e = made_by (seat_at seats r).nic e
 
 -- a lane's first message, and the others
@@ -42,18 +42,18 @@ IsFirst n lanes s d lane m rest = (lane_at lanes (lane_place n s d lane)).messag
 -- ---- what a step needs
 
 -- there is room in the history, and a go counter
-pub record MayStart (s : Seated) : Type 0 where
+pub record MayStart (s : ChoiceRankState) : Type 0 where
   pub room : 0 < s.diary.room
   pub counter : 0 < length s.kept.counters
 
 -- the operation is ready, and its message finds room
-pub record MayFire (n : ℕ) (seats : List Seated) (lanes : List Plain) (r t : ℕ) : Type 0 where
+pub record MayFire (n : ℕ) (seats : List ChoiceRankState) (lanes : List Plain) (r t : ℕ) : Type 0 where
   pub room : 0 < (seat_at seats r).diary.room
   pub ready : is_ready (seat_at seats r).nic t ≡ true
   pub goes : HasPlace n r lanes (made_at seats r (Fired t))
 
 -- there is room in the history for the message, it is for this rank, and its answer finds room
-pub record MayReceive (n : ℕ) (seats : List Seated) (lanes : List Plain) (s d : ℕ) (lane : Lane) (m : Sent) : Type 0 where
+pub record MayReceive (n : ℕ) (seats : List ChoiceRankState) (lanes : List Plain) (s d : ℕ) (lane : Lane) (m : Sent) : Type 0 where
   pub room : 0 < (seat_at seats d).diary.room
   pub receipts : 0 < (seat_at seats d).diary.receipts
   pub bytes : length m.bytes ≤ (seat_at seats d).diary.bytes
@@ -61,7 +61,7 @@ pub record MayReceive (n : ℕ) (seats : List Seated) (lanes : List Plain) (s d 
   pub goes : HasPlace n d (popped n s d lane lanes) (made_at seats d (Received s lane m))
 
 -- by the step, between n ranks
-abbrev pub MayMake : ℕ → List Seated → List Plain → Step → Type 0
+abbrev pub MayMake : ℕ → List ChoiceRankState → List Plain → Step → Type 0
 MayMake n seats lanes (Start r) = (r < n) × MayStart (seat_at seats r)
 MayMake n seats lanes (Fire r t) = (r < n) × MayFire n seats lanes r t
 MayMake n seats lanes (Deliver s d lane) = (s < n) × (d < n) × (0 < length (lane_at lanes (lane_place n s d lane)).messages)
@@ -70,14 +70,14 @@ MayMake n seats lanes (Deliver s d lane) = (s < n) × (d < n) × (0 < length (la
 -- ---- what it leaves
 
 -- these seats and lanes; and those that changed are of these two ranks
-pub record AreLeft (nexts new : List Seated) (out mid : List Plain) (a s b d : ℕ) : Type 0 where
+pub record AreLeft (nexts new : List ChoiceRankState) (out mid : List Plain) (a s b d : ℕ) : Type 0 where
   pub seats : nexts ≡ new
   pub lanes : out ≡ mid
   pub source : a ≡ s
   pub goal : b ≡ d
 
 -- by the step: a rank's seat is that after its local step, and what it makes goes to the end of its lane
-abbrev pub IsMade : ℕ → List Seated → List Plain → Step → List Seated → List Plain → ℕ → ℕ → Type 0
+abbrev pub IsMade : ℕ → List ChoiceRankState → List Plain → Step → List ChoiceRankState → List Plain → ℕ → ℕ → Type 0
 IsMade n seats lanes (Start r) nexts later a b =
     AreLeft nexts (slice_set seats r (started_seat (seat_at seats r))) later lanes a r b r
 IsMade n seats lanes (Fire r t) nexts later a b =
@@ -90,18 +90,18 @@ IsMade n seats lanes (Deliver s d lane) nexts later a b = (m : Sent) (rest : Lis
 -- ---- the counts
 
 -- one start, where there was none
-abbrev pub start_count : Seated → ℕ
+abbrev pub start_count : ChoiceRankState → ℕ
 start_count s = if nat_lt 0 (count_by is_start s.diary.locals) then 0 else 1
 
 -- what is ready
-abbrev pub firing_count : Seated → ℕ
+abbrev pub firing_count : ChoiceRankState → ℕ
 firing_count s = length (ready_numbers s.nic)
 
 -- each set at its place
-abbrev pub start_mark : List Seated → ℕ → List ℕ → List ℕ
+abbrev pub start_mark : List ChoiceRankState → ℕ → List ℕ → List ℕ
 start_mark seats r xs = slice_set xs r (start_count (seat_at seats r))
 
-abbrev pub firing_mark : List Seated → ℕ → List ℕ → List ℕ
+abbrev pub firing_mark : List ChoiceRankState → ℕ → List ℕ → List ℕ
 firing_mark seats r xs = slice_set xs r (firing_count (seat_at seats r))
 
 -- those of the four lanes between two ranks
@@ -111,7 +111,7 @@ lane_marks n lanes s d xs =
     (delivery_mark lanes n top d s Request (delivery_mark lanes n top s d Answer (delivery_mark lanes n top s d Request xs)))
 
 -- as many of each as there are ranks and lanes
-pub record AreSized (n : ℕ) (ss : List Seated) (ls : List Plain) (a b c : List ℕ) : Type 0 where
+pub record AreSized (n : ℕ) (ss : List ChoiceRankState) (ls : List Plain) (a b c : List ℕ) : Type 0 where
   pub few : n ≤ 256
   pub seats : length ss ≡ n
   pub lanes : length ls ≡ 2 * (n * n)
@@ -120,14 +120,14 @@ pub record AreSized (n : ℕ) (ss : List Seated) (ls : List Plain) (a b c : List
   pub firings : length c ≡ n
 
 -- the counts of two ranks and of the lanes between them were made anew
-pub record AreMarked (n : ℕ) (seats : List Seated) (lanes : List Plain) (s d : ℕ) (x y z a b c : List ℕ) : Type 0 where
+pub record AreMarked (n : ℕ) (seats : List ChoiceRankState) (lanes : List Plain) (s d : ℕ) (x y z a b c : List ℕ) : Type 0 where
   pub starts : a ≡ start_mark seats d (start_mark seats s x)
   pub deliveries : b ≡ lane_marks n lanes s d y
   pub firings : c ≡ firing_mark seats d (firing_mark seats s z)
 
 -- after a step, with its counts
-pub record IsStepped (n : ℕ) (seats : List Seated) (lanes : List Plain) (starts deliveries firings : List ℕ) (step : Step)
-    (nexts : List Seated) (later : List Plain) (a b c : List ℕ) : Type 0 where
+pub record IsStepped (n : ℕ) (seats : List ChoiceRankState) (lanes : List Plain) (starts deliveries firings : List ℕ) (step : Step)
+    (nexts : List ChoiceRankState) (later : List Plain) (a b c : List ℕ) : Type 0 where
   pub s : ℕ
   pub d : ℕ
   pub source : s < n

@@ -20,14 +20,14 @@ use Rattle.choices.specs.machine.Counted.{steps_due}
 use Rattle.choices.specs.view.Install.{ct_of}
 use Rattle.choices.specs.view.Install.Counter.{Done, Go}
 use Rattle.choices.specs.laws.Decided.{IsInRange, choice_system, is_choice_lane, result_of}
-use Rattle.plan_choice.specs.ranks.Seats.{Seated, go_of, slots_in}
+use Rattle.plan_choice.specs.ranks.Seats.{ChoiceRankState, go_of, slots_in}
 use Rattle.plan_choice.specs.Acts.{firing_count, seat_at, start_count}
 
 -- the steps of the text; a seat for each rank; the lanes by source, target, request before answer
 pub record ChoiceState : Type 0 where
   pub ranks : ℕ
   pub kinds : List ChoiceKind
-  pub seats : List Seated
+  pub seats : List ChoiceRankState
   pub lanes : List Plain
 
 -- the interface of a rank

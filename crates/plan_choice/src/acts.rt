@@ -10,7 +10,7 @@ ghost use Rattle.worlds.specs.parts.Marks.{out_with, receiver};
 ghost use Rattle.plan_choice.specs.ranks.Seats.{fired_seat, started_seat};
 ghost use Rattle.plan_choice.specs.Acts.{AreMarked, AreSized, IsFirst, IsMade, IsStepped, MayFire, MayMake, MayReceive, MayStart, firing_mark, made_at, seat_at, start_mark};
 
-use crate::ranks::Seat;
+use crate::ranks::ChoiceRank;
 use count_tree::CountTree;
 use pair_wires::PlainLane;
 use cuts::orders::Step;
@@ -22,7 +22,7 @@ use worlds::parts::marks::mark_lanes;
 const NO_WINDOW: u64 = u64::MAX;
 
 /// Counts the start of a rank.
-pub(crate) fn mark_start(starts: &mut CountTree, seats: &[Seat], r: Rank)
+pub(crate) fn mark_start(starts: &mut CountTree, seats: &[ChoiceRank], r: Rank)
     requires counted { r < length starts.old }
     requires rank { r < length seats.now }
     ensures { starts.new ≡ start_mark seats.now r starts.old }
@@ -32,7 +32,7 @@ pub(crate) fn mark_start(starts: &mut CountTree, seats: &[Seat], r: Rank)
 }
 
 /// Counts the firings of a rank.
-pub(crate) fn mark_firings(firings: &mut CountTree, seats: &[Seat], r: Rank)
+pub(crate) fn mark_firings(firings: &mut CountTree, seats: &[ChoiceRank], r: Rank)
     requires counted { r < length firings.old }
     requires rank { r < length seats.now }
     ensures { firings.new ≡ firing_mark seats.now r firings.old }
@@ -42,7 +42,7 @@ pub(crate) fn mark_firings(firings: &mut CountTree, seats: &[Seat], r: Rank)
 
 /// Counts anew what two ranks and the lanes between them have.
 fn refresh(
-    seats: &[Seat],
+    seats: &[ChoiceRank],
     lanes: &[PlainLane],
     starts: &mut CountTree,
     deliveries: &mut CountTree,
@@ -64,7 +64,7 @@ fn refresh(
 }
 
 /// The host of a rank starts it.
-fn start(seats: &mut [Seat], r: Rank)
+fn start(seats: &mut [ChoiceRank], r: Rank)
     requires rank { r < length seats.old }
     requires may { MayStart (seat_at seats.old r) }
     ensures { seats.new ≡ slice_set seats.old r (started_seat (seat_at seats.old r)) }
@@ -73,7 +73,7 @@ fn start(seats: &mut [Seat], r: Rank)
 }
 
 /// An operation of a rank is fired, and its message goes out; answers for whom it is.
-fn fire(seats: &mut [Seat], lanes: &mut [PlainLane], ranks: u32, r: Rank, number: u32) -> Rank
+fn fire(seats: &mut [ChoiceRank], lanes: &mut [PlainLane], ranks: u32, r: Rank, number: u32) -> Rank
     requires few { ranks ≤ 256 }
     requires seats { length seats.old ≡ ranks }
     requires lanes { length lanes.old ≡ 2 * (ranks * ranks) }
@@ -89,7 +89,7 @@ fn fire(seats: &mut [Seat], lanes: &mut [PlainLane], ranks: u32, r: Rank, number
 }
 
 /// The first message of a lane is received, and its answer goes out.
-fn deliver(seats: &mut [Seat], lanes: &mut [PlainLane], ranks: u32, s: Rank, d: Rank, lane: Lane)
+fn deliver(seats: &mut [ChoiceRank], lanes: &mut [PlainLane], ranks: u32, s: Rank, d: Rank, lane: Lane)
     requires few { ranks ≤ 256 }
     requires seats { length seats.old ≡ ranks }
     requires lanes { length lanes.old ≡ 2 * (ranks * ranks) }
@@ -105,7 +105,7 @@ fn deliver(seats: &mut [Seat], lanes: &mut [PlainLane], ranks: u32, s: Rank, d: 
 }
 
 /// Makes a step that finds what it needs, and answers between which ranks something changed.
-fn act(seats: &mut [Seat], lanes: &mut [PlainLane], ranks: u32, step: Step) -> (Rank, Rank)
+fn act(seats: &mut [ChoiceRank], lanes: &mut [PlainLane], ranks: u32, step: Step) -> (Rank, Rank)
     requires few { ranks ≤ 256 }
     requires seats { length seats.old ≡ ranks }
     requires lanes { length lanes.old ≡ 2 * (ranks * ranks) }
@@ -129,7 +129,7 @@ fn act(seats: &mut [Seat], lanes: &mut [PlainLane], ranks: u32, step: Step) -> (
 
 /// Makes a step that finds what it needs. Its message, if any, goes to the end of its lane, and what it changed is counted anew.
 pub(crate) fn make(
-    seats: &mut [Seat],
+    seats: &mut [ChoiceRank],
     lanes: &mut [PlainLane],
     starts: &mut CountTree,
     deliveries: &mut CountTree,

@@ -9,7 +9,7 @@ ghost use Rattle.plan_choice.specs.Acts.{firing_count, seat_at, start_count};
 ghost use Rattle.plan_choice.specs.Laying.{laid_lane};
 
 use crate::acts::{mark_firings, mark_start};
-use crate::ranks::{Seat, install};
+use crate::ranks::{ChoiceRank, install};
 use coll_lang::ChoiceKind;
 use count_tree::CountTree;
 use pair_wires::PlainLane;
@@ -21,7 +21,7 @@ pub(crate) fn seat_all(
     alloc: Global,
     ranks: u32,
     kinds: &[ChoiceKind],
-) -> Result<Vec<Seat>, NoMemory>
+) -> Result<Vec<ChoiceRank>, NoMemory>
     requires { length kinds.now ≤ 64 }
     ensures size { IfOk result (λ v. length v.items ≡ ranks) }
     ensures seats { IfOk result (λ v. (r : ℕ) → r < ranks → IsInstalled ranks kinds.now r (seat_at v.items r)) }
@@ -64,7 +64,7 @@ pub(crate) fn lay_all(alloc: Global, ranks: u32, steps: u32) -> Result<Vec<Plain
 }
 
 /// Counts the starts that are enabled, by rank.
-fn fill_starts(starts: &mut CountTree, seats: &[Seat])
+fn fill_starts(starts: &mut CountTree, seats: &[ChoiceRank])
     requires few { length seats.now ≤ 256 }
     requires size { length starts.old ≡ length seats.now }
     ensures size { length starts.new ≡ length seats.now }
@@ -76,7 +76,7 @@ fn fill_starts(starts: &mut CountTree, seats: &[Seat])
 }
 
 /// Counts the firings that are enabled, by rank.
-fn fill_firings(firings: &mut CountTree, seats: &[Seat])
+fn fill_firings(firings: &mut CountTree, seats: &[ChoiceRank])
     requires few { length seats.now ≤ 256 }
     requires size { length firings.old ≡ length seats.now }
     ensures size { length firings.new ≡ length seats.now }
@@ -88,7 +88,7 @@ fn fill_firings(firings: &mut CountTree, seats: &[Seat])
 }
 
 /// The starts that are enabled, by rank.
-pub(crate) fn count_starts(alloc: Global, seats: &[Seat]) -> Result<CountTree, NoMemory>
+pub(crate) fn count_starts(alloc: Global, seats: &[ChoiceRank]) -> Result<CountTree, NoMemory>
     requires { length seats.now ≤ 256 }
     ensures size { IfOk result (λ t. length t ≡ length seats.now) }
     ensures counts { IfOk result (λ t. (r : ℕ) → r < length seats.now →
@@ -100,7 +100,7 @@ pub(crate) fn count_starts(alloc: Global, seats: &[Seat]) -> Result<CountTree, N
 }
 
 /// The firings that are enabled, by rank.
-pub(crate) fn count_firings(alloc: Global, seats: &[Seat]) -> Result<CountTree, NoMemory>
+pub(crate) fn count_firings(alloc: Global, seats: &[ChoiceRank]) -> Result<CountTree, NoMemory>
     requires { length seats.now ≤ 256 }
     ensures size { IfOk result (λ t. length t ≡ length seats.now) }
     ensures counts { IfOk result (λ t. (r : ℕ) → r < length seats.now →

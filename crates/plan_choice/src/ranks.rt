@@ -6,4 +6,4 @@ mod seat;
 
 pub use installing::install;
 pub use region::kinds;
-pub use seat::Seat;
+pub use seat::ChoiceRank;

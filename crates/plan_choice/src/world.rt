@@ -14,7 +14,7 @@ ghost use Rattle.plan_choice.specs.World.{IsDecidedWorld, IsLater, IsStanding, h
 
 use crate::acts::make;
 use crate::laying::{count_firings, count_starts, lay_all, seat_all};
-use crate::ranks::{Seat, kinds};
+use crate::ranks::{ChoiceRank, kinds};
 use coll_lang::{ChoiceKind, Choices};
 use count_tree::CountTree;
 use lane_ops::elements::read_pattern;
@@ -33,7 +33,7 @@ use worlds::{Chooser, delivery_at};
 pub struct ChoiceWorld {
     ranks: u32,
     kinds: Vec<ChoiceKind>,
-    seats: Vec<Seat>,
+    seats: Vec<ChoiceRank>,
     lanes: Vec<PlainLane>,
     starts: CountTree,
     deliveries: CountTree,

@@ -16,7 +16,7 @@ use Rattle.plan_steps.proofs.Grow.{length-from_to}
 use Rattle.plan_steps.proofs.Parts.{written_turned}
 use Rattle.coll_shape.specs.Folding.{folded}
 use Rattle.plan_steps.specs.Sounding.{AllApart, FromAll, SoundIncoming, SoundNewCell, land_each, land_incoming, new_value, put_length}
-use Rattle.plan_steps.specs.Site.{atomic, bump, put, put_whole}
+use Rattle.plan_steps.specs.StepContext.{atomic, bump, put, put_whole}
 use Rattle.ptl_types.specs.Elements.{combined, part, starting, written}
 use Rattle.ptl_types.specs.Operations.{bytes_of}
 use Rattle.ptl_types.specs.declared.elements.AtomicOp.{AtomicOp}

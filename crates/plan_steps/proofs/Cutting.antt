@@ -5,7 +5,7 @@ use Rattle.plan_core.specs.Draw.{NewCell}
 use Rattle.plan_core.specs.declared.Cell.{Cell}
 use Rattle.plan_steps.proofs.CellKinds.{bump-sound, put-sound}
 use Rattle.plan_steps.proofs.Drawn.{each_append, each_back, each_front}
-use Rattle.plan_steps.specs.Site.{bump, put}
+use Rattle.plan_steps.specs.StepContext.{bump, put}
 use Rattle.plan_steps.specs.Sounding.{EachAt, SoundIncoming, SoundNewCell, new_value, put_length}
 use Rattle.ptl_types.specs.Elements.{part, written}
 use Rattle.ptl_types.specs.Operations.{bytes_of}

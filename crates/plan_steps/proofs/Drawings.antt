@@ -4,7 +4,7 @@ use Rattle.plan_core.specs.Draw.{NewCell, add_all}
 use Rattle.coll_shape.specs.declared.types.CollStep.{CollStep}
 use Rattle.coll_shape.specs.Collectives.{result_of}
 use Rattle.plan_steps.specs.declared.drawing.Drawing.{Drawing}
-use Rattle.plan_steps.specs.declared.ends.End.{End}
+use Rattle.plan_steps.specs.declared.ends.StepExit.{StepExit}
 use Rattle.plan_steps.specs.Beginning.{held_after}
 use Rattle.plan_steps.specs.Drawing.{drawn_as}
 use Rattle.plan_steps.specs.Steps.{exits_by}
@@ -17,7 +17,7 @@ same-drawing d e a b c =
     ∙ ap (λ x. record { plan = e.plan; held = e.held; exits = x }) c
 
 -- a drawing whose plan got these cells, and whose tables these ends, is as the step leaves it
-pub left-as : (d e : Drawing) (step : CollStep) (g : List ℕ) (cells : List NewCell) (these ends : List End) (made : Option ℕ)
+pub left-as : (d e : Drawing) (step : CollStep) (g : List ℕ) (cells : List NewCell) (these ends : List StepExit) (made : Option ℕ)
     → these ≡ ends → made ≡ result_of step
     → e.plan ≡ add_all d.plan cells → e.held ≡ held_after made d.held g these → e.exits ≡ exits_by d.exits g these (length g)
     → e ≡ drawn_as d step g cells ends

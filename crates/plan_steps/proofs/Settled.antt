@@ -5,7 +5,7 @@ use Rattle.std.proofs.lemmas.Bool.{ltb-true, ltb-false}
 use Rattle.std.proofs.lemmas.List.{length-set}
 use Rattle.plan_core.specs.Draw.{HeldCells, held_cell, hold, place_of}
 use Rattle.coll_shape.specs.WellFormed.{AreMembers}
-use Rattle.plan_steps.specs.declared.ends.End.{End}
+use Rattle.plan_steps.specs.declared.ends.StepExit.{StepExit}
 use Rattle.plan_steps.specs.Steps.{end_at, exits_by, held_by, hold_by}
 
 abbrev member : List ℕ → ℕ → ℕ
@@ -14,13 +14,13 @@ member g i = get_or g i 0
 apart : (n : ℕ) (g : List ℕ) → AreMembers n g → (i j : ℕ) → i < j → j < length g → member g i ≡ member g j → ⊥
 apart n g are i j h l e = let r = are.rising i j h l in absurd (omega (arith, r, e))
 
-pub length-exits_by : (xs g : List ℕ) (ends : List End) (m : ℕ) → length (exits_by xs g ends m) ≡ length xs
+pub length-exits_by : (xs g : List ℕ) (ends : List StepExit) (m : ℕ) → length (exits_by xs g ends m) ≡ length xs
 unfolding exits_by
 length-exits_by xs g ends zero = refl
 length-exits_by xs g ends (suc m) = length-set (exits_by xs g ends m) (member g m) (end_at ends m).exit ∙ length-exits_by xs g ends m
 
 -- a rank that is none of the first m members
-pub exits_by-stays : (xs g : List ℕ) (ends : List End) (m r : ℕ) → ((i : ℕ) → i < m → member g i ≡ r → ⊥) → get_or (exits_by xs g ends m) r 0 ≡ get_or xs r 0
+pub exits_by-stays : (xs g : List ℕ) (ends : List StepExit) (m r : ℕ) → ((i : ℕ) → i < m → member g i ≡ r → ⊥) → get_or (exits_by xs g ends m) r 0 ≡ get_or xs r 0
 unfolding exits_by
 exits_by-stays xs g ends zero r h = refl
 exits_by-stays xs g ends (suc m) r h =
@@ -31,7 +31,7 @@ exits_by-stays xs g ends (suc m) r h =
     other ys a b x ne = get_or-set_other ys a b x 0 ne
 
 -- the exit of a member is that of its place
-pub exits_by-member : (n : ℕ) (xs g : List ℕ) (ends : List End) → AreMembers n g → n ≤ length xs → (m i : ℕ) → i < m → m ≤ length g → get_or (exits_by xs g ends m) (member g i) 0 ≡ (end_at ends i).exit
+pub exits_by-member : (n : ℕ) (xs g : List ℕ) (ends : List StepExit) → AreMembers n g → n ≤ length xs → (m i : ℕ) → i < m → m ≤ length g → get_or (exits_by xs g ends m) (member g i) 0 ≡ (end_at ends i).exit
 unfolding exits_by
 exits_by-member n xs g ends are long zero i h l = absurd (omega arith)
 exits_by-member n xs g ends are long (suc m) i h l = at (last (omega arith)) (λ k. exits_by-member n xs g ends are long m i k (omega arith))
@@ -52,7 +52,7 @@ exits_by-member n xs g ends are long (suc m) i h l = at (last (omega arith)) (λ
         ∙ ap (λ j. (end_at ends j).exit) (sym e)
     at (inr k) rest = other (exits_by xs g ends m) (member g m) (member g i) (end_at ends m).exit (λ e. apart n g are i m k (omega arith) e) ∙ rest k
 
-pub exits_by-rank : (n : ℕ) (xs g : List ℕ) (ends : List End) → AreMembers n g → n ≤ length xs → (i : ℕ) → i < length g → get_or (exits_by xs g ends (length g)) (member g i) 0 ≡ (end_at ends i).exit
+pub exits_by-rank : (n : ℕ) (xs g : List ℕ) (ends : List StepExit) → AreMembers n g → n ≤ length xs → (i : ℕ) → i < length g → get_or (exits_by xs g ends (length g)) (member g i) 0 ≡ (end_at ends i).exit
 exits_by-rank n xs g ends are long i h = exits_by-member n xs g ends are long (length g) i h (let z : length g ≤ length g = omega arith in z)
 
 -- ---- the cells that hold buffers
@@ -86,17 +86,17 @@ unfolding hold
 many-hold_by h b r None = refl
 many-hold_by h b r (Some c) = length-set h.cells (place_of h b r) (Some c)
 
-pub ranks-held_by : (h : HeldCells) (g : List ℕ) (ends : List End) (b m : ℕ) → (held_by h g ends b m).ranks ≡ h.ranks
+pub ranks-held_by : (h : HeldCells) (g : List ℕ) (ends : List StepExit) (b m : ℕ) → (held_by h g ends b m).ranks ≡ h.ranks
 unfolding held_by
 ranks-held_by h g ends b zero = refl
 ranks-held_by h g ends b (suc m) = ranks-hold_by (held_by h g ends b m) b (member g m) (end_at ends m).holder ∙ ranks-held_by h g ends b m
 
-pub buffers-held_by : (h : HeldCells) (g : List ℕ) (ends : List End) (b m : ℕ) → (held_by h g ends b m).buffers ≡ h.buffers
+pub buffers-held_by : (h : HeldCells) (g : List ℕ) (ends : List StepExit) (b m : ℕ) → (held_by h g ends b m).buffers ≡ h.buffers
 unfolding held_by
 buffers-held_by h g ends b zero = refl
 buffers-held_by h g ends b (suc m) = buffers-hold_by (held_by h g ends b m) b (member g m) (end_at ends m).holder ∙ buffers-held_by h g ends b m
 
-pub many-held_by : (h : HeldCells) (g : List ℕ) (ends : List End) (b m : ℕ) → length (held_by h g ends b m).cells ≡ length h.cells
+pub many-held_by : (h : HeldCells) (g : List ℕ) (ends : List StepExit) (b m : ℕ) → length (held_by h g ends b m).cells ≡ length h.cells
 unfolding held_by
 many-held_by h g ends b zero = refl
 many-held_by h g ends b (suc m) = many-hold_by (held_by h g ends b m) b (member g m) (end_at ends m).holder ∙ many-held_by h g ends b m
@@ -112,7 +112,7 @@ unfolding hold
 hold_by-there h b r None l e = e
 hold_by-there h b r (Some c) l e = get_or-set_same h.cells (place_of h b r) (Some c) None l
 
-pub held_by-stays : (h : HeldCells) (g : List ℕ) (ends : List End) (b m x : ℕ) → ((i : ℕ) → i < m → b * h.ranks + member g i ≡ x → ⊥) → get_or (held_by h g ends b m).cells x None ≡ get_or h.cells x None
+pub held_by-stays : (h : HeldCells) (g : List ℕ) (ends : List StepExit) (b m x : ℕ) → ((i : ℕ) → i < m → b * h.ranks + member g i ≡ x → ⊥) → get_or (held_by h g ends b m).cells x None ≡ get_or h.cells x None
 unfolding held_by
 held_by-stays h g ends b zero x ne = refl
 held_by-stays h g ends b (suc m) x ne =
@@ -120,7 +120,7 @@ held_by-stays h g ends b (suc m) x ne =
     ∙ held_by-stays h g ends b m x (λ i l e. ne i (omega arith) e)
 
 -- buffer b is held by none so far: then the cell of a member is that of its place
-pub held_by-member : (h : HeldCells) (g : List ℕ) (ends : List End) (b : ℕ) → AreMembers h.ranks g → ((r : ℕ) → r < h.ranks → b * h.ranks + r < length h.cells) → ((r : ℕ) → r < h.ranks → held_cell h b r ≡ None)
+pub held_by-member : (h : HeldCells) (g : List ℕ) (ends : List StepExit) (b : ℕ) → AreMembers h.ranks g → ((r : ℕ) → r < h.ranks → b * h.ranks + r < length h.cells) → ((r : ℕ) → r < h.ranks → held_cell h b r ≡ None)
     → (m i : ℕ) → i < m → m ≤ length g → get_or (held_by h g ends b m).cells (b * h.ranks + member g i) None ≡ (end_at ends i).holder
 unfolding held_by
 held_by-member h g ends b are long none zero i k l = absurd (omega arith)

@@ -3,7 +3,7 @@ use Rattle.std.proofs.Common.{ℕ, zero, suc, Bool, true, false, cond, ◌+◌, 
 use Rattle.plan_core.specs.Draw.{NewCell, links_of, bytes_in}
 use Rattle.plan_core.specs.Plan.{from_to}
 use Rattle.plan_steps.specs.Broadcast.{first_cell}
-use Rattle.plan_steps.specs.Site.{Site, count, places, entries, full_entry, bare_entry, row, rows}
+use Rattle.plan_steps.specs.StepContext.{StepContext, count, places, entries, full_entry, bare_entry, row, rows}
 use Rattle.plan_steps.specs.Trees.{up, up_at}
 use Rattle.ptl_types.specs.declared.elements.AtomicOp.{AtomicOp}
 use Rattle.std.proofs.lemmas.Bool.{ne_eqb}
@@ -32,7 +32,7 @@ bytes-row f k zero m h = let e : 0 ≡ 0 * m = omega arith in e
 bytes-row f k (suc n) m h =
     bytes-cons (f k) (map f (from_to (suc k) n)) ∙ ap₂ (λ a b. a + b) (h k) (bytes-row f (suc k) n m h) ∙ (let e : m + n * m ≡ suc n * m = omega arith in e)
 
-pub links-rows : (s : Site) (f : ℕ → ℕ → NewCell) (a n m : ℕ) → ((k i : ℕ) → length (f k i).into ≡ m)
+pub links-rows : (s : StepContext) (f : ℕ → ℕ → NewCell) (a n m : ℕ) → ((k i : ℕ) → length (f k i).into ≡ m)
     → links_of (rows s f a n) ≡ n * (count s * m)
 links-rows s f a zero m h = let e : 0 ≡ 0 * (count s * m) = omega arith in e
 links-rows s f a (suc n) m h =
@@ -40,7 +40,7 @@ links-rows s f a (suc n) m h =
     ∙ ap₂ (λ x y. x + y) (links-row (f a) 0 (count s) m (h a)) (links-rows s f (suc a) n m h)
     ∙ (let e : count s * m + n * (count s * m) ≡ suc n * (count s * m) = omega arith in e)
 
-pub bytes-rows : (s : Site) (f : ℕ → ℕ → NewCell) (a n m : ℕ) → ((k i : ℕ) → (f k i).length ≡ m) → bytes_in (rows s f a n) ≡ n * (count s * m)
+pub bytes-rows : (s : StepContext) (f : ℕ → ℕ → NewCell) (a n m : ℕ) → ((k i : ℕ) → (f k i).length ≡ m) → bytes_in (rows s f a n) ≡ n * (count s * m)
 bytes-rows s f a zero m h = let e : 0 ≡ 0 * (count s * m) = omega arith in e
 bytes-rows s f a (suc n) m h =
     bytes-append (row s f a) (rows s f (suc a) n)
@@ -96,13 +96,13 @@ first-shorter f m pos x y =
     other (suc i) n = y i
 
 -- ---- entries and ways up a tree
-pub entry-links : (s : Site) → links_of (entries s) ≡ 2 * count s
+pub entry-links : (s : StepContext) → links_of (entries s) ≡ 2 * count s
 entry-links s = links-row (full_entry s) 0 (count s) 2 (λ i. refl) ∙ (let z : count s * 2 ≡ 2 * count s = omega arith in z)
 
-pub entry-bytes : (s : Site) → bytes_in (entries s) ≡ count s * s.length
+pub entry-bytes : (s : StepContext) → bytes_in (entries s) ≡ count s * s.length
 entry-bytes s = bytes-row (full_entry s) 0 (count s) s.length (λ i. refl)
 
-pub up-bytes : (s : Site) (root : ℕ) (o : AtomicOp) → bytes_in (up s root o) ≡ count s * s.length
+pub up-bytes : (s : StepContext) (root : ℕ) (o : AtomicOp) → bytes_in (up s root o) ≡ count s * s.length
 up-bytes s root o = bytes-row (up_at s root o) 0 (count s) s.length (λ i. refl)
 
 rest-none : (f : ℕ → NewCell) (root j m : ℕ) → root < j → ((i : ℕ) → (i ≡ root → ⊥) → (f i).length ≡ 0) → bytes_in (map f (from_to j m)) ≡ 0
@@ -137,7 +137,7 @@ bytes-one f k (suc n) root a h l x y = at (k == root) refl (λ g. bytes-one f (s
         let g = rest (below z) in
         omega (arith, c, d, g)
 
-pub first-bytes : (s : Site) (root : ℕ) → root < count s → bytes_in (map (first_cell s root) (places s)) ≡ s.length
+pub first-bytes : (s : StepContext) (root : ℕ) → root < count s → bytes_in (map (first_cell s root) (places s)) ≡ s.length
 first-bytes s root h =
     bytes-one (first_cell s root) 0 (count s) root s.length (let z : 0 ≤ root = omega arith in z) (let z : root < 0 + count s = omega arith in z)
     (ap (λ t. (cond t (full_entry s root) (bare_entry s root)).length) (eq-eqb root root refl))

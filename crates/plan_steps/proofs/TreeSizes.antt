@@ -8,7 +8,7 @@ use Rattle.plan_core.specs.Plan.{from_to}
 use Rattle.plan_core.specs.Draw.{NewCell, links_of}
 use Rattle.plan_core.proofs.Drawing.{from_to-more}
 use Rattle.plan_core.proofs.Lists.{length-map'}
-use Rattle.plan_steps.specs.Site.{Site, count, atomic}
+use Rattle.plan_steps.specs.StepContext.{StepContext, count, atomic}
 use Rattle.plan_steps.specs.Trees.{children, parent, up, up_at, up_number, up_sources}
 use Rattle.plan_steps.proofs.Trees.{parent-lower}
 
@@ -114,7 +114,7 @@ ones zero = refl
 ones (suc n) = ap (λ v. v + 1) (ones n) ∙ (let e : n + 1 ≡ suc n = omega arith in e)
 
 -- the links of the way up
-pub up-links : (s : Site) (root : ℕ) (o : AtomicOp) → 0 < count s → links_of (up s root o) ≡ count s + (count s - 1)
+pub up-links : (s : StepContext) (root : ℕ) (o : AtomicOp) → 0 < count s → links_of (up s root o) ≡ count s + (count s - 1)
 up-links s root o pos =
     links-upto (up_at s root o) (count s)
     ∙ upto-same (λ j. length (up_at s root o j).into) (λ j. 1 + child_count (count s) (count s - 1 - j)) (count s)

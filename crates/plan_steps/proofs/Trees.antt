@@ -12,7 +12,7 @@ use Rattle.plan_steps.proofs.Drawn.{each_front}
 use Rattle.plan_steps.proofs.Entries.{IsCell, Known, each_places, entry-value, of_places}
 use Rattle.plan_steps.proofs.Folds.{Turned, folded-same, folded-turned, map-map, tree_sum, turn}
 use Rattle.plan_steps.proofs.Folds.Turned.{Above, Below}
-use Rattle.plan_steps.specs.Site.{Site, count, entries, entry, full_entry, holding, places, rank_at, source_at}
+use Rattle.plan_steps.specs.StepContext.{StepContext, count, entries, entry, full_entry, holding, places, rank_at, source_at}
 use Rattle.plan_steps.specs.Sounding.{EachAt, SoundNewCell}
 use Rattle.plan_steps.specs.Trees.{children, cleared, down_links, parent, turned, unturned, up, up_cell, up_number, down_cell}
 use Rattle.ptl_types.specs.Elements.{starting}
@@ -21,14 +21,14 @@ use Rattle.ptl_types.specs.declared.elements.AtomicOp.{AtomicOp}
 use Rattle.std.proofs.lemmas.Bool.{leb-true}
 
 -- the cells of the way down
-abbrev pub down : Site → ℕ → ℕ → ℕ → (ℕ → ℕ) → List NewCell
+abbrev pub down : StepContext → ℕ → ℕ → ℕ → (ℕ → ℕ) → List NewCell
 down s root base top below = map (λ v. down_cell s root base top (below v) v) (places s)
 
 -- ---- places turned round
-pub turned-lt : (s : Site) (root v : ℕ) → 0 < count s → turned s root v < count s
+pub turned-lt : (s : StepContext) (root v : ℕ) → 0 < count s → turned s root v < count s
 turned-lt s root v pos = mod-lt (root + v) pos
 
-pub turned-one : (s : Site) (root : ℕ) → root < count s → (v w : ℕ) → v < count s → w < count s → turned s root v ≡ turned s root w → v ≡ w
+pub turned-one : (s : StepContext) (root : ℕ) → root < count s → (v w : ℕ) → v < count s → w < count s → turned s root v ≡ turned s root w → v ≡ w
 turned-one s root r v w h i e = at (turn root v (count s) r (let l : v ≤ count s = omega arith in l)) (turn root w (count s) r (let l : w ≤ count s = omega arith in l))
   where
     at : Turned root v (count s) → Turned root w (count s) → v ≡ w
@@ -37,7 +37,7 @@ turned-one s root r v w h i e = at (turn root v (count s) r (let l : v ≤ count
     at (Above a x) (Below b y) = omega (arith, x, y, e)
     at (Above a x) (Above b y) = omega (arith, x, y, e)
 
-pub turned-back : (s : Site) (root : ℕ) → root < count s → (i : ℕ) → i < count s → turned s root (unturned s root i) ≡ i
+pub turned-back : (s : StepContext) (root : ℕ) → root < count s → (i : ℕ) → i < count s → turned s root (unturned s root i) ≡ i
 turned-back s root r i h = at (turn i (count s - root) (count s) h (omega arith)) (turn root (unturned s root i) (count s) r (let l = mod-lt (i + (count s - root)) (let pos : 0 < count s = omega arith in pos) in omega arith))
   where
     at : Turned i (count s - root) (count s) → Turned root (unturned s root i) (count s) → turned s root (unturned s root i) ≡ i
@@ -46,7 +46,7 @@ turned-back s root r i h = at (turn i (count s - root) (count s) h (omega arith)
     at (Above a x) (Below b y) = omega (arith, x, y)
     at (Above a x) (Above b y) = omega (arith, x, y)
 
-pub unturned-lt : (s : Site) (root i : ℕ) → 0 < count s → unturned s root i < count s
+pub unturned-lt : (s : StepContext) (root i : ℕ) → 0 < count s → unturned s root i < count s
 unturned-lt s root i pos = mod-lt (i + (count s - root)) pos
 
 cleared-lower : (k v : ℕ) → 0 < v → cleared k v < v
@@ -62,7 +62,7 @@ unfolding parent
 parent-lower v h = cleared-lower 8 v h
 
 -- ---- down a tree
-module _ (k : ℕ → Cell) (s : Site) (root base top : ℕ) (below : ℕ → ℕ) where
+module _ (k : ℕ → Cell) (s : StepContext) (root base top : ℕ) (below : ℕ → ℕ) where
   abbrev down_node : ℕ → NewCell
   down_node v = holding s s.length (rank_at s (turned s root v)) (down_links s base top (below v) v)
 
@@ -98,7 +98,7 @@ module _ (k : ℕ → Cell) (s : Site) (root base top : ℕ) (below : ℕ → �
     down-value v h = down_below (suc v) v (omega arith) h
 
 -- ---- up a tree
-module _ (k : ℕ → Cell) (s : Site) (root : ℕ) (o : AtomicOp) where
+module _ (k : ℕ → Cell) (s : StepContext) (root : ℕ) (o : AtomicOp) where
   abbrev falling : ℕ → NewCell
   falling j = up_cell s root o (count s - 1 - j)
 
@@ -151,10 +151,10 @@ module _ (k : ℕ → Cell) (s : Site) (root : ℕ) (o : AtomicOp) where
               subst (λ c. length (val c) ≡ s.length) r.2 (up-at (Known k val) known r.0 (omega arith)).is_long
 
 -- ---- entries
-pub entry-cells : (k : ℕ → Cell) (s : Site) (ns : List NewCell) → EachAt (IsCell k) s.first (entries s ++ ns) → (i : ℕ) → i < count s → k (entry s i) ≡ cell_of (full_entry s i)
+pub entry-cells : (k : ℕ → Cell) (s : StepContext) (ns : List NewCell) → EachAt (IsCell k) s.first (entries s ++ ns) → (i : ℕ) → i < count s → k (entry s i) ≡ cell_of (full_entry s i)
 entry-cells k s ns cells i h = (of_places (IsCell k) s s.first (full_entry s) (each_front (IsCell k) s.first (entries s) ns cells) i h).is_cell
 
-pub entry-known : (k : ℕ → Cell) (val x : ℕ → List ℕ) (s : Site) (ns : List NewCell) → EachAt (Known k val) s.first (entries s ++ ns) → ((i : ℕ) → i < count s → (val (source_at s i) ≡ x i) × (length (val (source_at s i)) ≡ s.length))
+pub entry-known : (k : ℕ → Cell) (val x : ℕ → List ℕ) (s : StepContext) (ns : List NewCell) → EachAt (Known k val) s.first (entries s ++ ns) → ((i : ℕ) → i < count s → (val (source_at s i) ≡ x i) × (length (val (source_at s i)) ≡ s.length))
     → (i : ℕ) → i < count s → (val (entry s i) ≡ x i) × (length (val (entry s i)) ≡ s.length)
 entry-known k val x s ns known has i h =
     let e = of_places (Known k val) s s.first (full_entry s) (each_front (Known k val) s.first (entries s) ns known) i h in

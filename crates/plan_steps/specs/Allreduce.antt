@@ -8,16 +8,16 @@
 use Rattle.std.specs.Prelude.{ℕ, ◌+◌, List, ◌++◌, map}
 use Rattle.ptl_types.specs.declared.elements.AtomicOp.{AtomicOp}
 use Rattle.plan_core.specs.Draw.{NewCell}
-use Rattle.plan_steps.specs.declared.ends.End.{End}
+use Rattle.plan_steps.specs.declared.ends.StepExit.{StepExit}
 use Rattle.plan_steps.specs.Steps.{giving}
-use Rattle.plan_steps.specs.Site.{Site, count, places, entries, further}
+use Rattle.plan_steps.specs.StepContext.{StepContext, count, places, entries, further}
 use Rattle.plan_steps.specs.Trees.{down_cell, up, up_number}
 
-abbrev pub result_cell : Site → ℕ → NewCell
+abbrev pub result_cell : StepContext → ℕ → NewCell
 result_cell s v = down_cell s 0 (further s (count s)) (up_number s 0) (up_number s v) v
 
-abbrev pub allreduce_cells : Site → AtomicOp → List NewCell
+abbrev pub allreduce_cells : StepContext → AtomicOp → List NewCell
 allreduce_cells s o = entries s ++ (up s 0 o ++ map (result_cell s) (places s))
 
-abbrev pub allreduce_end : Site → ℕ → End
+abbrev pub allreduce_end : StepContext → ℕ → StepExit
 allreduce_end s i = giving (further s (count s + i))

@@ -8,23 +8,23 @@
 use Rattle.std.specs.Prelude.{ℕ, ◌+◌, ◌-◌, ◌%◌, ◌^◌, List, [], ◌∷◌, ◌++◌}
 use Rattle.plan_core.specs.declared.Incoming.{Incoming}
 use Rattle.plan_core.specs.Draw.{NewCell}
-use Rattle.plan_steps.specs.declared.ends.End.{End}
+use Rattle.plan_steps.specs.declared.ends.StepExit.{StepExit}
 use Rattle.plan_steps.specs.Steps.{passing}
-use Rattle.plan_steps.specs.Site.{Site, count, rank_at, bump, put, silent, bare_entries, in_row, rows}
+use Rattle.plan_steps.specs.StepContext.{StepContext, count, rank_at, bump, put, silent, bare_entries, in_row, rows}
 use Rattle.plan_steps.specs.Rounds.{rounds}
 
 -- to T(k + 1, r)
-abbrev pub round_links : Site → ℕ → ℕ → List Incoming
+abbrev pub round_links : StepContext → ℕ → ℕ → List Incoming
 round_links s k r = bump (in_row s k r) ∷ put 0 (in_row s k ((r + (count s - 2 ^ k)) % count s)) 0 0 ∷ []
 
-abbrev pub round_cell : Site → ℕ → ℕ → NewCell
+abbrev pub round_cell : StepContext → ℕ → ℕ → NewCell
 round_cell s k r = silent (rank_at s r) (round_links s k r)
 
-abbrev pub round_rows : Site → List NewCell
+abbrev pub round_rows : StepContext → List NewCell
 round_rows s = rows s (round_cell s) 0 (rounds (count s))
 
-abbrev pub barrier_cells : Site → List NewCell
+abbrev pub barrier_cells : StepContext → List NewCell
 barrier_cells s = bare_entries s ++ round_rows s
 
-abbrev pub barrier_end : Site → ℕ → End
+abbrev pub barrier_end : StepContext → ℕ → StepExit
 barrier_end s i = passing (in_row s (rounds (count s)) i)

@@ -4,8 +4,8 @@ use Rattle.plan_core.specs.Draw.{NewCell}
 use Rattle.coll_shape.specs.declared.types.CollStep.{CollStep}
 use Rattle.coll_shape.specs.declared.types.CollStep.TheVariants.{Barrier, Broadcast, Reduce, Allreduce, Gather, Allgather, Alltoall, Scan}
 use Rattle.coll_shape.specs.declared.types.CollStep.TheVariants.{Scatter, Reducescatter, Exscan, Gatherv}
-use Rattle.plan_steps.specs.declared.ends.End.{End}
-use Rattle.plan_steps.specs.Site.{Site, places}
+use Rattle.plan_steps.specs.declared.ends.StepExit.{StepExit}
+use Rattle.plan_steps.specs.StepContext.{StepContext, places}
 use Rattle.plan_steps.specs.Broadcast.{broadcast_cells, broadcast_end}
 use Rattle.plan_steps.specs.Reduce.{reduce_cells, reduce_end}
 use Rattle.plan_steps.specs.Allreduce.{allreduce_cells, allreduce_end}
@@ -19,7 +19,7 @@ use Rattle.plan_steps.specs.Reducescatter.{reducescatter_cells, reducescatter_en
 use Rattle.plan_steps.specs.Exscan.{exscan_cells, exscan_end}
 use Rattle.plan_steps.specs.Gatherv.{gatherv_cells, gatherv_end}
 
-abbrev pub cells_of : Site → CollStep → List NewCell
+abbrev pub cells_of : StepContext → CollStep → List NewCell
 cells_of s Barrier = barrier_cells s
 cells_of s (Broadcast root a b) = broadcast_cells s root
 cells_of s (Reduce root o a b) = reduce_cells s root o
@@ -33,7 +33,7 @@ cells_of s (Reducescatter o a b) = reducescatter_cells s o
 cells_of s (Exscan o a b) = exscan_cells s o
 cells_of s (Gatherv root a b) = gatherv_cells s root
 
-abbrev pub end_of : Site → CollStep → ℕ → End
+abbrev pub end_of : StepContext → CollStep → ℕ → StepExit
 end_of s Barrier = barrier_end s
 end_of s (Broadcast root a b) = broadcast_end s root
 end_of s (Reduce root o a b) = reduce_end s root
@@ -47,7 +47,7 @@ end_of s (Reducescatter o a b) = reducescatter_end s
 end_of s (Exscan o a b) = exscan_end s
 end_of s (Gatherv root a b) = gatherv_end s root
 
-abbrev pub ends_of : Site → CollStep → List End
+abbrev pub ends_of : StepContext → CollStep → List StepExit
 ends_of s step = map (end_of s step) (places s)
 
 -- ---- which module makes a step: along a tree, each with each, in rounds, and by blocks

@@ -6,18 +6,18 @@ use Rattle.coll_shape.specs.Outline.{Outline}
 use Rattle.coll_shape.specs.Collectives.{IsRoot, result_of, source_of}
 use Rattle.coll_shape.specs.WellFormed.{AreMembers, IsNumber}
 use Rattle.plan_steps.specs.declared.drawing.Drawing.{Drawing}
-use Rattle.plan_steps.specs.declared.ends.End.{End}
-use Rattle.plan_steps.specs.Site.{Site}
+use Rattle.plan_steps.specs.declared.ends.StepExit.{StepExit}
+use Rattle.plan_steps.specs.StepContext.{StepContext}
 use Rattle.plan_steps.specs.Steps.{exits_by}
 use Rattle.plan_steps.specs.Beginning.{held_after, site_of}
 use Rattle.plan_steps.specs.Collectives.{cells_of, ends_of}
 
 -- what a step on the members g begins with
-abbrev pub site : Outline → Drawing → CollStep → List ℕ → Site
+abbrev pub site : Outline → Drawing → CollStep → List ℕ → StepContext
 site o d step g = site_of o d.plan d.held d.exits (source_of step) g
 
 -- what a step leaves that has these cells and ends
-abbrev pub drawn_as : Drawing → CollStep → List ℕ → List NewCell → List End → Drawing
+abbrev pub drawn_as : Drawing → CollStep → List ℕ → List NewCell → List StepExit → Drawing
 drawn_as d step g cells ends = record {
   plan = add_all d.plan cells;
   held = held_after (result_of step) d.held g ends;

@@ -9,21 +9,21 @@ use Rattle.std.specs.Prelude.{ℕ, zero, suc, ◌+◌, ◌-◌, ◌*◌, List, [
 use Rattle.ptl_types.specs.declared.elements.AtomicOp.{AtomicOp}
 use Rattle.plan_core.specs.Plan.{from_to}
 use Rattle.plan_core.specs.Draw.{NewCell}
-use Rattle.plan_steps.specs.declared.ends.End.{End}
+use Rattle.plan_steps.specs.declared.ends.StepExit.{StepExit}
 use Rattle.plan_steps.specs.Steps.{giving, passing}
-use Rattle.plan_steps.specs.Site.{Site, count, rank_at, bump, put_whole, holding, entries, further}
+use Rattle.plan_steps.specs.StepContext.{StepContext, count, rank_at, bump, put_whole, holding, entries, further}
 use Rattle.plan_steps.specs.Rounds.{rounds}
 use Rattle.plan_steps.specs.Scan.{scan_rows, scan_number}
 
 -- O(j + 1)
-abbrev pub shifted : Site → ℕ → NewCell
+abbrev pub shifted : StepContext → ℕ → NewCell
 shifted s j =
     holding s s.length (rank_at s (suc j))
     (bump (scan_number s (rounds (count s)) (suc j)) ∷ put_whole s.length (scan_number s (rounds (count s)) j) ∷ [])
 
-abbrev pub exscan_cells : Site → AtomicOp → List NewCell
+abbrev pub exscan_cells : StepContext → AtomicOp → List NewCell
 exscan_cells s o = entries s ++ (scan_rows s o ++ map (shifted s) (from_to 0 (count s - 1)))
 
-abbrev pub exscan_end : Site → ℕ → End
+abbrev pub exscan_end : StepContext → ℕ → StepExit
 exscan_end s zero = passing (scan_number s (rounds (count s)) 0)
 exscan_end s (suc j) = giving (further s (suc (rounds (count s)) * count s + j))

@@ -8,13 +8,13 @@
 use Rattle.std.specs.Prelude.{ℕ, ◌==◌, List, ◌++◌, if◌then◌else◌}
 use Rattle.ptl_types.specs.declared.elements.AtomicOp.{AtomicOp}
 use Rattle.plan_core.specs.Draw.{NewCell}
-use Rattle.plan_steps.specs.declared.ends.End.{End}
+use Rattle.plan_steps.specs.declared.ends.StepExit.{StepExit}
 use Rattle.plan_steps.specs.Steps.{giving, passing}
-use Rattle.plan_steps.specs.Site.{Site, entries}
+use Rattle.plan_steps.specs.StepContext.{StepContext, entries}
 use Rattle.plan_steps.specs.Trees.{unturned, up, up_number}
 
-abbrev pub reduce_cells : Site → ℕ → AtomicOp → List NewCell
+abbrev pub reduce_cells : StepContext → ℕ → AtomicOp → List NewCell
 reduce_cells s root o = entries s ++ up s root o
 
-abbrev pub reduce_end : Site → ℕ → ℕ → End
+abbrev pub reduce_end : StepContext → ℕ → ℕ → StepExit
 reduce_end s root i = if i == root then giving (up_number s 0) else passing (up_number s (unturned s root i))

@@ -11,23 +11,23 @@ use Rattle.std.specs.Prelude.{ℕ, zero, suc, ◌+◌, ◌*◌, List, [], ◌∷
 use Rattle.ptl_types.specs.declared.elements.AtomicOp.{AtomicOp}
 use Rattle.plan_core.specs.declared.Incoming.{Incoming}
 use Rattle.plan_core.specs.Draw.{NewCell}
-use Rattle.plan_steps.specs.declared.ends.End.{End}
+use Rattle.plan_steps.specs.declared.ends.StepExit.{StepExit}
 use Rattle.plan_steps.specs.Steps.{giving}
-use Rattle.plan_steps.specs.Site.{Site, count, places, rank_at, bump, put, holding, entries, further, block_length}
+use Rattle.plan_steps.specs.StepContext.{StepContext, count, places, rank_at, bump, put, holding, entries, further, block_length}
 use Rattle.plan_steps.specs.Trees.{up, up_number}
 
-abbrev pub result_put : Site → ℕ → Incoming
+abbrev pub result_put : StepContext → ℕ → Incoming
 result_put s r = put (block_length s) (up_number s 0) (r * block_length s) 0
 
-abbrev pub result_links : Site → ℕ → List Incoming
+abbrev pub result_links : StepContext → ℕ → List Incoming
 result_links s zero = result_put s zero ∷ []
 result_links s (suc r) = bump (up_number s (suc r)) ∷ result_put s (suc r) ∷ []
 
-abbrev pub result_block : Site → ℕ → NewCell
+abbrev pub result_block : StepContext → ℕ → NewCell
 result_block s r = holding s (block_length s) (rank_at s r) (result_links s r)
 
-abbrev pub reducescatter_cells : Site → AtomicOp → List NewCell
+abbrev pub reducescatter_cells : StepContext → AtomicOp → List NewCell
 reducescatter_cells s o = entries s ++ (up s 0 o ++ map (result_block s) (places s))
 
-abbrev pub reducescatter_end : Site → ℕ → End
+abbrev pub reducescatter_end : StepContext → ℕ → StepExit
 reducescatter_end s i = giving (further s (count s + i))

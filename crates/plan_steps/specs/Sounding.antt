@@ -12,7 +12,7 @@ use Rattle.plan_core.specs.Plan.{Plan, cell, link, is_bump, in_links}
 use Rattle.plan_core.specs.Values.{land_as, blank}
 use Rattle.plan_core.specs.Sound.{SoundLink, AreApart, put_bytes}
 use Rattle.plan_core.specs.Draw.{NewCell, cell_of, link_to}
-use Rattle.plan_steps.specs.Site.{Site, count, rank_at, exit_at, source_at}
+use Rattle.plan_steps.specs.StepContext.{StepContext, count, rank_at, exit_at, source_at}
 
 -- one more cell with its links; more of them
 abbrev pub with_cell : Plan → NewCell → Plan
@@ -101,7 +101,7 @@ pub record WellBuilt (p : Plan) (inputs : ℕ) : Type 0 where
   pub many_links : length p.cells ≤ p.ranks + length p.links
 
 -- the members and exits that a step begins with
-pub record Ground (ranks : ℕ) (k : ℕ → Cell) (s : Site) : Type 0 where
+pub record Ground (ranks : ℕ) (k : ℕ → Cell) (s : StepContext) : Type 0 where
   pub some : 0 < count s
   pub few : count s ≤ 256
   pub members : (i : ℕ) → i < count s → rank_at s i < ranks
@@ -109,7 +109,7 @@ pub record Ground (ranks : ℕ) (k : ℕ → Cell) (s : Site) : Type 0 where
   pub exit_rank : (i : ℕ) → i < count s → (k (exit_at s i)).rank ≡ rank_at s i
 
 -- the cell that holds A at place i
-pub record HasA (k : ℕ → Cell) (s : Site) (i : ℕ) : Type 0 where
+pub record HasA (k : ℕ → Cell) (s : StepContext) (i : ℕ) : Type 0 where
   pub low : source_at s i < s.first
   pub long : (k (source_at s i)).length ≡ s.length
 

@@ -4,12 +4,12 @@ ghost use Rattle.std.specs.Prelude.{◌≡◌, IfOk, map};
 ghost use Rattle.plan_core.specs.Draw.{HasRoom};
 ghost use Rattle.plan_steps.specs.Collectives.{cells_of};
 ghost use Rattle.plan_steps.specs.Drawing.{IsBegun, drawn_as, drawn_step, site};
-ghost use Rattle.plan_steps.specs.Site.{places};
+ghost use Rattle.plan_steps.specs.StepContext.{places};
 
 use crate::collective::{Collective, ends_of};
 use crate::drawing::Drawing;
 use crate::ends::settle;
-use crate::site::Site;
+use crate::site::StepContext;
 use crate::{plan_blocks, plan_mesh, plan_rounds, plan_tree};
 use coll_shape::{CollStep, Shape};
 use ptl_types::{NoMemory, Rank};
@@ -38,7 +38,7 @@ pub(crate) fn add_as<C: Collective>(
         (map (C.end collective.now (site shape.now drawing.old step.now members.now))
         (places (site shape.now drawing.old step.now members.now)))) }
 {
-    let begun = Site::of(alloc, shape, drawing, step.source(), members)?;
+    let begun = StepContext::of(alloc, shape, drawing, step.source(), members)?;
     collective.draw(alloc, &mut drawing.plan, &begun)?;
     let ends = ends_of(alloc, &begun, collective)?;
     settle(

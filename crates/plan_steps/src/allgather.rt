@@ -2,21 +2,21 @@
 
 ghost use Rattle.std.specs.Prelude.{◌≡◌, ◌<◌};
 ghost use Rattle.plan_steps.specs.Allgather.{allgather_cells, allgather_end, collect_link, collected, ring_cell, ring_node, ring_source};
-ghost use Rattle.plan_steps.specs.Site.{count};
+ghost use Rattle.plan_steps.specs.StepContext.{count};
 
 use crate::collective::Collective;
-use crate::ends::{End, giving};
+use crate::ends::{StepExit, giving};
 use crate::first_cells::FullEntries;
 use crate::incoming::{put, put_whole};
 use crate::row::{Rows, draw_row, draw_rows};
-use crate::site::Site;
+use crate::site::StepContext;
 use crate::wide::{Links, draw_wide};
 use plan_core::{Incoming, Plan};
 use ptl_types::NoMemory;
 use std::alloc::Global;
 
 /// What a place has after so many turns.
-fn ring_cell(site: &Site, turn: u32, place: u32) -> u32
+fn ring_cell(site: &StepContext, turn: u32, place: u32) -> u32
     requires turn { turn < count site.now }
     requires place { place < count site.now }
     ensures { result ≡ ring_cell site.now turn place }
@@ -26,7 +26,7 @@ fn ring_cell(site: &Site, turn: u32, place: u32) -> u32
 }
 
 /// Where that comes from: the place's own entry, or the place before it on the ring.
-fn ring_source(site: &Site, turn: u32, place: u32) -> u32
+fn ring_source(site: &StepContext, turn: u32, place: u32) -> u32
     requires turn { turn < count site.now }
     requires place { place < count site.now }
     ensures { result ≡ ring_source site.now turn place }
@@ -48,7 +48,7 @@ impl Rows for Turns {
 
     ghost cell = { λ turns s. ring_node s };
 
-    fn draw(&self, plan: &mut Plan, site: &Site, number: u32, place: u32) -> Result<(), NoMemory> {
+    fn draw(&self, plan: &mut Plan, site: &StepContext, number: u32, place: u32) -> Result<(), NoMemory> {
         let copy = put_whole(site.length(), ring_source(site, number, place));
         plan.draw(site.holding(site.length(), place), &[copy])
     }
@@ -65,7 +65,7 @@ impl Links for Passed {
 
     ghost link = { λ passed s. collect_link s passed.place };
 
-    fn link(&self, site: &Site, number: u32) -> Incoming {
+    fn link(&self, site: &StepContext, number: u32) -> Incoming {
         let count = site.count();
         let origin = (self.place + (count - number)) % count;
         let at = u64::from(origin) * site.length();
@@ -80,7 +80,7 @@ struct Collected;
 impl Rows for Collected {
     ghost cell = { λ row s k. collected s };
 
-    fn draw(&self, plan: &mut Plan, site: &Site, _number: u32, place: u32) -> Result<(), NoMemory> {
+    fn draw(&self, plan: &mut Plan, site: &StepContext, _number: u32, place: u32) -> Result<(), NoMemory> {
         let length = u64::from(site.count()) * site.length();
         let part = site.holding(length, place);
         draw_wide(plan, site, part, &Passed { place })?;
@@ -97,7 +97,7 @@ impl Collective for Allgather {
 
     ghost end = { λ step s. allgather_end s };
 
-    fn draw(&self, _alloc: Global, plan: &mut Plan, site: &Site) -> Result<(), NoMemory> {
+    fn draw(&self, _alloc: Global, plan: &mut Plan, site: &StepContext) -> Result<(), NoMemory> {
         let count = site.count();
         draw_row(plan, site, &FullEntries, 0)?;
         draw_rows(plan, site, &Turns, count)?;
@@ -105,7 +105,7 @@ impl Collective for Allgather {
         Ok(())
     }
 
-    fn end(&self, site: &Site, place: u32) -> End {
+    fn end(&self, site: &StepContext, place: u32) -> StepExit {
         let count = site.count();
         giving(site.in_row(count + 1, place))
     }

@@ -3,11 +3,11 @@
 ghost use Rattle.plan_steps.specs.Allreduce.{allreduce_cells, allreduce_end, result_cell};
 
 use crate::collective::Collective;
-use crate::ends::{End, giving};
+use crate::ends::{StepExit, giving};
 use crate::first_cells::FullEntries;
 use crate::plan_tree::trees::{Up, draw_down_cell, up_number};
 use crate::row::{Rows, draw_row};
-use crate::site::Site;
+use crate::site::StepContext;
 use plan_core::Plan;
 use ptl_types::{AtomicOp, NoMemory};
 use std::alloc::Global;
@@ -19,7 +19,7 @@ struct Results;
 impl Rows for Results {
     ghost cell = { λ results s k. result_cell s };
 
-    fn draw(&self, plan: &mut Plan, site: &Site, _number: u32, place: u32) -> Result<(), NoMemory> {
+    fn draw(&self, plan: &mut Plan, site: &StepContext, _number: u32, place: u32) -> Result<(), NoMemory> {
         let base = site.further(site.count());
         let below = up_number(site, place);
         draw_down_cell(plan, site, 0, base, up_number(site, 0), below, place)
@@ -37,7 +37,7 @@ impl Collective for Allreduce {
 
     ghost end = { λ step s. allreduce_end s };
 
-    fn draw(&self, alloc: Global, plan: &mut Plan, site: &Site) -> Result<(), NoMemory> {
+    fn draw(&self, alloc: Global, plan: &mut Plan, site: &StepContext) -> Result<(), NoMemory> {
         let up = Up {
             alloc,
             root: 0,
@@ -50,7 +50,7 @@ impl Collective for Allreduce {
         Ok(())
     }
 
-    fn end(&self, site: &Site, place: u32) -> End {
+    fn end(&self, site: &StepContext, place: u32) -> StepExit {
         let count = site.count();
         giving(site.further(count + place))
     }

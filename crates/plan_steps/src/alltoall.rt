@@ -2,14 +2,14 @@
 
 ghost use Rattle.std.specs.Prelude.{◌<◌};
 ghost use Rattle.plan_steps.specs.Alltoall.{alltoall_cells, alltoall_end, exchange_link, exchanged};
-ghost use Rattle.plan_steps.specs.Site.{count};
+ghost use Rattle.plan_steps.specs.StepContext.{count};
 
 use crate::collective::Collective;
-use crate::ends::{End, giving};
+use crate::ends::{StepExit, giving};
 use crate::first_cells::FullEntries;
 use crate::incoming::put;
 use crate::row::{Rows, draw_row};
-use crate::site::Site;
+use crate::site::StepContext;
 use crate::wide::{Links, draw_wide};
 use plan_core::{Incoming, Plan};
 use ptl_types::NoMemory;
@@ -26,7 +26,7 @@ impl Links for Blocks {
 
     ghost link = { λ blocks s. exchange_link s blocks.place };
 
-    fn link(&self, site: &Site, number: u32) -> Incoming {
+    fn link(&self, site: &StepContext, number: u32) -> Incoming {
         let block = site.length() / u64::from(site.count());
         put(
             block,
@@ -44,7 +44,7 @@ struct Exchanged;
 impl Rows for Exchanged {
     ghost cell = { λ row s k. exchanged s };
 
-    fn draw(&self, plan: &mut Plan, site: &Site, _number: u32, place: u32) -> Result<(), NoMemory> {
+    fn draw(&self, plan: &mut Plan, site: &StepContext, _number: u32, place: u32) -> Result<(), NoMemory> {
         let part = site.holding(site.length(), place);
         draw_wide(plan, site, part, &Blocks { place })?;
         Ok(())
@@ -60,13 +60,13 @@ impl Collective for Alltoall {
 
     ghost end = { λ step s. alltoall_end s };
 
-    fn draw(&self, _alloc: Global, plan: &mut Plan, site: &Site) -> Result<(), NoMemory> {
+    fn draw(&self, _alloc: Global, plan: &mut Plan, site: &StepContext) -> Result<(), NoMemory> {
         draw_row(plan, site, &FullEntries, 0)?;
         draw_row(plan, site, &Exchanged, 0)?;
         Ok(())
     }
 
-    fn end(&self, site: &Site, place: u32) -> End {
+    fn end(&self, site: &StepContext, place: u32) -> StepExit {
         let _ = site.count();
         giving(site.further(place))
     }

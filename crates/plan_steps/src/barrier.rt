@@ -4,12 +4,12 @@ ghost use Rattle.std.specs.Prelude.{◌≤◌};
 ghost use Rattle.plan_steps.specs.Barrier.{barrier_cells, barrier_end, round_cell};
 
 use crate::collective::Collective;
-use crate::ends::{End, passing};
+use crate::ends::{StepExit, passing};
 use crate::first_cells::BareEntries;
 use crate::incoming::{bump, put, silent};
 use crate::plan_rounds::rounds;
 use crate::row::{Rows, draw_row, draw_rows};
-use crate::site::Site;
+use crate::site::StepContext;
 use plan_core::Plan;
 use ptl_types::NoMemory;
 use std::alloc::Global;
@@ -23,7 +23,7 @@ impl Rows for Told {
 
     ghost cell = { λ told s. round_cell s };
 
-    fn draw(&self, plan: &mut Plan, site: &Site, number: u32, place: u32) -> Result<(), NoMemory> {
+    fn draw(&self, plan: &mut Plan, site: &StepContext, number: u32, place: u32) -> Result<(), NoMemory> {
         let count = site.count();
         let from = (place + count.saturating_sub(2u32.pow(number))) % count;
         let told = put(0, site.in_row(number, from), 0, 0);
@@ -43,14 +43,14 @@ impl Collective for Barrier {
 
     ghost end = { λ step s. barrier_end s };
 
-    fn draw(&self, _alloc: Global, plan: &mut Plan, site: &Site) -> Result<(), NoMemory> {
+    fn draw(&self, _alloc: Global, plan: &mut Plan, site: &StepContext) -> Result<(), NoMemory> {
         let last = rounds(site.count());
         draw_row(plan, site, &BareEntries, 0)?;
         draw_rows(plan, site, &Told, last)?;
         Ok(())
     }
 
-    fn end(&self, site: &Site, place: u32) -> End {
+    fn end(&self, site: &StepContext, place: u32) -> StepExit {
         let last = rounds(site.count());
         passing(site.in_row(last, place))
     }

@@ -7,14 +7,14 @@ ghost use Rattle.plan_steps.specs.Beginning.{source_in};
 ghost use Rattle.coll_shape.specs.Collectives.{holding_places, is_in};
 
 use coll_shape::{Shape, is_in};
-use plan_core::{Exits, Held};
+use plan_core::{Frontier, BufferCells};
 use ptl_types::{ElemType, Rank};
 use std::alloc::{AllocError, Global};
 
 /// The exits of the members.
 pub(crate) fn exits_of(
     alloc: Global,
-    exits: &Exits,
+    exits: &Frontier,
     members: &[Rank],
 ) -> Result<Vec<u32>, AllocError>
     requires { (i : ℕ) → i < length members.now → get_or members.now i 0 < length exits.now }
@@ -28,7 +28,7 @@ pub(crate) fn exits_of(
 }
 
 /// The cell of the buffer that is read at a rank; 0 where it has none.
-fn source_in(held: &Held, read: Option<u32>, r: Rank) -> u32
+fn source_in(held: &BufferCells, read: Option<u32>, r: Rank) -> u32
     requires rank { r < held.now.ranks }
     requires read { IfSome read (λ a. a < held.now.buffers) }
     ensures { result ≡ source_in held.now read r }
@@ -42,7 +42,7 @@ fn source_in(held: &Held, read: Option<u32>, r: Rank) -> u32
 /// The cells of the members.
 pub(crate) fn sources_of(
     alloc: Global,
-    held: &Held,
+    held: &BufferCells,
     read: Option<u32>,
     members: &[Rank],
 ) -> Result<Vec<u32>, AllocError>

@@ -2,14 +2,14 @@
 
 ghost use Rattle.std.specs.Prelude.{◌<◌};
 ghost use Rattle.plan_steps.specs.Broadcast.{broadcast_cells, broadcast_end, copy_cell};
-ghost use Rattle.plan_steps.specs.Site.{count};
+ghost use Rattle.plan_steps.specs.StepContext.{count};
 
 use crate::collective::Collective;
-use crate::ends::{End, giving};
+use crate::ends::{StepExit, giving};
 use crate::first_cells::RootEntries;
 use crate::plan_tree::trees::{draw_down_cell, turned, unturned};
 use crate::row::{Rows, draw_row};
-use crate::site::Site;
+use crate::site::StepContext;
 use plan_core::Plan;
 use ptl_types::NoMemory;
 use std::alloc::Global;
@@ -25,7 +25,7 @@ impl Rows for Copies {
 
     ghost cell = { λ copies s k. copy_cell s copies.root };
 
-    fn draw(&self, plan: &mut Plan, site: &Site, _number: u32, place: u32) -> Result<(), NoMemory> {
+    fn draw(&self, plan: &mut Plan, site: &StepContext, _number: u32, place: u32) -> Result<(), NoMemory> {
         let _ = site.count();
         let top = site.entry(self.root);
         let below = site.entry(turned(site, self.root, place));
@@ -46,13 +46,13 @@ impl Collective for Broadcast {
 
     ghost end = { λ step s. broadcast_end s step.root };
 
-    fn draw(&self, _alloc: Global, plan: &mut Plan, site: &Site) -> Result<(), NoMemory> {
+    fn draw(&self, _alloc: Global, plan: &mut Plan, site: &StepContext) -> Result<(), NoMemory> {
         draw_row(plan, site, &RootEntries { root: self.root }, 0)?;
         draw_row(plan, site, &Copies { root: self.root }, 0)?;
         Ok(())
     }
 
-    fn end(&self, site: &Site, place: u32) -> End {
+    fn end(&self, site: &StepContext, place: u32) -> StepExit {
         let _ = site.count();
         giving(site.further(unturned(site, self.root, place)))
     }

@@ -1,16 +1,16 @@
 //! Exclusive scan: the rounds of a scan, and each member gets what the place before it has.
 
 ghost use Rattle.plan_steps.specs.Exscan.{exscan_cells, exscan_end, shifted};
-ghost use Rattle.plan_steps.specs.Site.{count};
+ghost use Rattle.plan_steps.specs.StepContext.{count};
 
 use crate::collective::Collective;
-use crate::ends::{End, giving, passing};
+use crate::ends::{StepExit, giving, passing};
 use crate::first_cells::FullEntries;
 use crate::incoming::{bump, put_whole};
 use crate::plan_rounds::rounds;
 use crate::row::{Rows, draw_cells, draw_row, draw_rows};
 use crate::scan::{ScanRounds, scan_number};
-use crate::site::Site;
+use crate::site::StepContext;
 use plan_core::Plan;
 use ptl_types::{AtomicOp, NoMemory};
 use std::alloc::Global;
@@ -26,7 +26,7 @@ impl Rows for Shifted {
 
     ghost cell = { λ row s k. shifted s };
 
-    fn draw(&self, plan: &mut Plan, site: &Site, _number: u32, place: u32) -> Result<(), NoMemory> {
+    fn draw(&self, plan: &mut Plan, site: &StepContext, _number: u32, place: u32) -> Result<(), NoMemory> {
         let last = rounds(site.count());
         let own = bump(scan_number(site, last, place + 1));
         let before = put_whole(site.length(), scan_number(site, last, place));
@@ -45,7 +45,7 @@ impl Collective for Exscan {
 
     ghost end = { λ step s. exscan_end s };
 
-    fn draw(&self, _alloc: Global, plan: &mut Plan, site: &Site) -> Result<(), NoMemory> {
+    fn draw(&self, _alloc: Global, plan: &mut Plan, site: &StepContext) -> Result<(), NoMemory> {
         let count = site.count();
         let last = rounds(count);
         draw_row(plan, site, &FullEntries, 0)?;
@@ -54,7 +54,7 @@ impl Collective for Exscan {
         Ok(())
     }
 
-    fn end(&self, site: &Site, place: u32) -> End {
+    fn end(&self, site: &StepContext, place: u32) -> StepExit {
         let last = rounds(site.count());
         if place == 0 {
             passing(scan_number(site, last, 0))

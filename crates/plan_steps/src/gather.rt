@@ -3,14 +3,14 @@
 ghost use Rattle.std.specs.Prelude.{◌<◌, ◌≡◌, ◌∷◌, [], IfOk};
 ghost use Rattle.plan_core.specs.Draw.{HasRoom, add};
 ghost use Rattle.plan_steps.specs.Gather.{gather_cells, gather_end, gather_link, gathered};
-ghost use Rattle.plan_steps.specs.Site.{count};
+ghost use Rattle.plan_steps.specs.StepContext.{count};
 
 use crate::collective::Collective;
-use crate::ends::{End, giving, passing};
+use crate::ends::{StepExit, giving, passing};
 use crate::first_cells::FullEntries;
 use crate::incoming::put;
 use crate::row::draw_row;
-use crate::site::Site;
+use crate::site::StepContext;
 use crate::wide::{Links, draw_wide};
 use plan_core::{Incoming, Plan};
 use ptl_types::NoMemory;
@@ -23,7 +23,7 @@ struct Lists;
 impl Links for Lists {
     ghost link = { λ lists s. gather_link s };
 
-    fn link(&self, site: &Site, number: u32) -> Incoming {
+    fn link(&self, site: &StepContext, number: u32) -> Incoming {
         let _ = site.count();
         let at = u64::from(number) * site.length();
         put(site.length(), site.entry(number), 0, at)
@@ -31,7 +31,7 @@ impl Links for Lists {
 }
 
 /// The cell in which the root has all lists.
-fn draw_gathered(plan: &mut Plan, site: &Site, root: u32) -> Result<(), NoMemory>
+fn draw_gathered(plan: &mut Plan, site: &StepContext, root: u32) -> Result<(), NoMemory>
     requires root { root < count site.now }
     requires room { HasRoom plan.old (gathered site.now root ∷ []) }
     ensures { IfOk result (λ u. plan.new ≡ add plan.old (gathered site.now root)) }
@@ -55,13 +55,13 @@ impl Collective for Gather {
 
     ghost end = { λ step s. gather_end s step.root };
 
-    fn draw(&self, _alloc: Global, plan: &mut Plan, site: &Site) -> Result<(), NoMemory> {
+    fn draw(&self, _alloc: Global, plan: &mut Plan, site: &StepContext) -> Result<(), NoMemory> {
         draw_row(plan, site, &FullEntries, 0)?;
         draw_gathered(plan, site, self.root)?;
         Ok(())
     }
 
-    fn end(&self, site: &Site, place: u32) -> End {
+    fn end(&self, site: &StepContext, place: u32) -> StepExit {
         let _ = site.count();
         if place == self.root {
             giving(site.further(0))

@@ -3,15 +3,15 @@
 ghost use Rattle.std.specs.Prelude.{◌≡◌, ◌<◌, ◌∷◌, [], IfOk, length, map};
 ghost use Rattle.plan_core.specs.Plan.{from_to};
 ghost use Rattle.plan_core.specs.Draw.{HasRoom, add};
-ghost use Rattle.plan_steps.specs.Site.{bump, count, entry};
+ghost use Rattle.plan_steps.specs.StepContext.{bump, count, entry};
 ghost use Rattle.plan_steps.specs.Gatherv.{concatenated, gatherv_cells, gatherv_end, held_entry, holder_put};
 
 use crate::collective::Collective;
-use crate::ends::{End, giving, passing};
+use crate::ends::{StepExit, giving, passing};
 use crate::first_cells::{draw_bare, draw_full};
 use crate::incoming::{bump, put};
 use crate::row::{Rows, draw_row};
-use crate::site::Site;
+use crate::site::StepContext;
 use coll_shape::is_in;
 use plan_core::{Incoming, Plan};
 use ptl_types::NoMemory;
@@ -24,7 +24,7 @@ struct HeldEntries;
 impl Rows for HeldEntries {
     ghost cell = { λ entries s k. held_entry s };
 
-    fn draw(&self, plan: &mut Plan, site: &Site, _number: u32, place: u32) -> Result<(), NoMemory> {
+    fn draw(&self, plan: &mut Plan, site: &StepContext, _number: u32, place: u32) -> Result<(), NoMemory> {
         if is_in(place, site.holders()) {
             draw_full(plan, site, place)
         } else {
@@ -34,7 +34,7 @@ impl Rows for HeldEntries {
 }
 
 /// What the i-th holder sends.
-fn holder_put(site: &Site, i: u32) -> Incoming
+fn holder_put(site: &StepContext, i: u32) -> Incoming
     requires { i < length site.now.holding }
     ensures { result ≡ holder_put site.now i }
 {
@@ -49,7 +49,7 @@ fn holder_put(site: &Site, i: u32) -> Incoming
 }
 
 /// What comes to the root's last cell: an increment, and the lists of the holders.
-fn concatenated_links(alloc: Global, site: &Site, root: u32) -> Result<Vec<Incoming>, AllocError>
+fn concatenated_links(alloc: Global, site: &StepContext, root: u32) -> Result<Vec<Incoming>, AllocError>
     requires { root < count site.now }
     ensures { IfOk result (λ links.
         links.items ≡ bump (entry site.now root) ∷ map (holder_put site.now) (from_to 0 (length site.now.holding))) }
@@ -65,7 +65,7 @@ fn concatenated_links(alloc: Global, site: &Site, root: u32) -> Result<Vec<Incom
 }
 
 /// The cell in which the root has the lists.
-fn draw_concatenated(alloc: Global, plan: &mut Plan, site: &Site, root: u32) -> Result<(), NoMemory>
+fn draw_concatenated(alloc: Global, plan: &mut Plan, site: &StepContext, root: u32) -> Result<(), NoMemory>
     requires root { root < count site.now }
     requires room { HasRoom plan.old (concatenated site.now root ∷ []) }
     ensures { IfOk result (λ u. plan.new ≡ add plan.old (concatenated site.now root)) }
@@ -92,13 +92,13 @@ impl Collective for Gatherv {
 
     ghost end = { λ step s. gatherv_end s step.root };
 
-    fn draw(&self, alloc: Global, plan: &mut Plan, site: &Site) -> Result<(), NoMemory> {
+    fn draw(&self, alloc: Global, plan: &mut Plan, site: &StepContext) -> Result<(), NoMemory> {
         draw_row(plan, site, &HeldEntries, 0)?;
         draw_concatenated(alloc, plan, site, self.root)?;
         Ok(())
     }
 
-    fn end(&self, site: &Site, place: u32) -> End {
+    fn end(&self, site: &StepContext, place: u32) -> StepExit {
         let _ = site.count();
         if place == self.root {
             giving(site.further(0))

@@ -1,7 +1,7 @@
 //! Links and cells by what they are for.
 
 ghost use Rattle.std.specs.Prelude.{◌≡◌};
-ghost use Rattle.plan_steps.specs.Site.{atomic, bump, put, put_whole, silent_part};
+ghost use Rattle.plan_steps.specs.StepContext.{atomic, bump, put, put_whole, silent_part};
 
 use plan_core::{Incoming, LinkKind, Part};
 use ptl_types::{ElemType, Rank};

@@ -31,6 +31,6 @@ mod wide;
 
 pub use adding::add_step;
 pub use drawing::Drawing;
-pub use ends::End;
+pub use ends::StepExit;
 pub use incoming::bump;
 pub use plan_rounds::rounds;

@@ -2,14 +2,14 @@
 
 ghost use Rattle.std.specs.Prelude.{◌<◌};
 ghost use Rattle.plan_steps.specs.Reduce.{reduce_cells, reduce_end};
-ghost use Rattle.plan_steps.specs.Site.{count};
+ghost use Rattle.plan_steps.specs.StepContext.{count};
 
 use crate::collective::Collective;
-use crate::ends::{End, giving, passing};
+use crate::ends::{StepExit, giving, passing};
 use crate::first_cells::FullEntries;
 use crate::plan_tree::trees::{Up, unturned, up_number};
 use crate::row::draw_row;
-use crate::site::Site;
+use crate::site::StepContext;
 use plan_core::Plan;
 use ptl_types::{AtomicOp, NoMemory};
 use std::alloc::Global;
@@ -28,7 +28,7 @@ impl Collective for Reduce {
 
     ghost end = { λ step s. reduce_end s step.root };
 
-    fn draw(&self, alloc: Global, plan: &mut Plan, site: &Site) -> Result<(), NoMemory> {
+    fn draw(&self, alloc: Global, plan: &mut Plan, site: &StepContext) -> Result<(), NoMemory> {
         let up = Up {
             alloc,
             root: self.root,
@@ -39,7 +39,7 @@ impl Collective for Reduce {
         Ok(())
     }
 
-    fn end(&self, site: &Site, place: u32) -> End {
+    fn end(&self, site: &StepContext, place: u32) -> StepExit {
         if place == self.root {
             giving(up_number(site, 0))
         } else {

@@ -3,12 +3,12 @@
 ghost use Rattle.plan_steps.specs.Reducescatter.{reducescatter_cells, reducescatter_end, result_block};
 
 use crate::collective::Collective;
-use crate::ends::{End, giving};
+use crate::ends::{StepExit, giving};
 use crate::first_cells::FullEntries;
 use crate::incoming::{bump, put};
 use crate::plan_tree::trees::{Up, up_number};
 use crate::row::{Rows, draw_row};
-use crate::site::Site;
+use crate::site::StepContext;
 use plan_core::Plan;
 use ptl_types::{AtomicOp, NoMemory};
 use std::alloc::Global;
@@ -20,7 +20,7 @@ struct ResultBlocks;
 impl Rows for ResultBlocks {
     ghost cell = { λ row s k. result_block s };
 
-    fn draw(&self, plan: &mut Plan, site: &Site, _number: u32, place: u32) -> Result<(), NoMemory> {
+    fn draw(&self, plan: &mut Plan, site: &StepContext, _number: u32, place: u32) -> Result<(), NoMemory> {
         let block = site.length() / u64::from(site.count());
         let part = site.holding(block, place);
         let own = put(block, up_number(site, 0), u64::from(place) * block, 0);
@@ -43,7 +43,7 @@ impl Collective for Reducescatter {
 
     ghost end = { λ step s. reducescatter_end s };
 
-    fn draw(&self, alloc: Global, plan: &mut Plan, site: &Site) -> Result<(), NoMemory> {
+    fn draw(&self, alloc: Global, plan: &mut Plan, site: &StepContext) -> Result<(), NoMemory> {
         let up = Up {
             alloc,
             root: 0,
@@ -56,7 +56,7 @@ impl Collective for Reducescatter {
         Ok(())
     }
 
-    fn end(&self, site: &Site, place: u32) -> End {
+    fn end(&self, site: &StepContext, place: u32) -> StepExit {
         let count = site.count();
         giving(site.further(count + place))
     }

@@ -3,29 +3,29 @@
 ghost use Rattle.std.specs.Prelude.{ℕ, ◌≡◌, ◌<◌, ◌≤◌, ◌∷◌, [], IfOk, map};
 ghost use Rattle.plan_core.specs.Plan.{from_to};
 ghost use Rattle.plan_core.specs.Draw.{HasRoom, NewCell, add, add_all};
-ghost use Rattle.plan_steps.specs.Site.{Site, count, row, rows};
+ghost use Rattle.plan_steps.specs.StepContext.{StepContext, count, row, rows};
 
-use crate::site::Site;
+use crate::site::StepContext;
 use plan_core::Plan;
 use ptl_types::NoMemory;
 
 /// Rows of cells of one kind. Where there is one row alone, it is row 0.
 pub(crate) trait Rows {
     /// What the row of a number asks of what the step begins with.
-    ghost fits: { Self → Site → ℕ → Type 0 } = { λ _ _ _. Unit {0} };
+    ghost fits: { Self → StepContext → ℕ → Type 0 } = { λ _ _ _. Unit {0} };
 
     /// How many places have a cell there.
-    ghost size: { Self → Site → ℕ } = { λ _ s. count s };
+    ghost size: { Self → StepContext → ℕ } = { λ _ s. count s };
 
     /// The cell of a place in the row of a number, with the links that come to it.
-    ghost cell: { Self → Site → ℕ → ℕ → NewCell };
+    ghost cell: { Self → StepContext → ℕ → ℕ → NewCell };
 
     /// Adds the cell of a place to the plan, with its links.
     ///
     /// # Errors
     ///
     /// There was no memory for them.
-    fn draw(&self, plan: &mut Plan, site: &Site, number: u32, place: u32) -> Result<(), NoMemory>
+    fn draw(&self, plan: &mut Plan, site: &StepContext, number: u32, place: u32) -> Result<(), NoMemory>
         requires fits { fits self.now site.now number }
         requires place { place < size self.now site.now }
         requires room { HasRoom plan.old (cell self.now site.now number place ∷ []) }
@@ -39,7 +39,7 @@ pub(crate) trait Rows {
 /// There was no memory for them.
 pub(crate) fn draw_cells<R: Rows>(
     plan: &mut Plan,
-    site: &Site,
+    site: &StepContext,
     cells: &R,
     number: u32,
     n: u32,
@@ -62,7 +62,7 @@ pub(crate) fn draw_cells<R: Rows>(
 /// There was no memory for them.
 pub(crate) fn draw_row<R: Rows>(
     plan: &mut Plan,
-    site: &Site,
+    site: &StepContext,
     cells: &R,
     number: u32,
 ) -> Result<(), NoMemory>
@@ -82,7 +82,7 @@ pub(crate) fn draw_row<R: Rows>(
 /// There was no memory for them.
 pub(crate) fn draw_rows<R: Rows>(
     plan: &mut Plan,
-    site: &Site,
+    site: &StepContext,
     cells: &R,
     n: u32,
 ) -> Result<(), NoMemory>

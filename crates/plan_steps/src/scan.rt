@@ -4,18 +4,18 @@ ghost use Rattle.std.specs.Prelude.{◌≡◌, ◌≤◌, ◌<◌, ◌^◌};
 ghost use Rattle.plan_steps.specs.Scan.{scan_cell, scan_cells, scan_end, scan_number};
 
 use crate::collective::Collective;
-use crate::ends::{End, giving};
+use crate::ends::{StepExit, giving};
 use crate::first_cells::FullEntries;
 use crate::incoming::atomic;
 use crate::plan_rounds::rounds;
 use crate::row::{Rows, draw_row, draw_rows};
-use crate::site::Site;
+use crate::site::StepContext;
 use plan_core::Plan;
 use ptl_types::{AtomicOp, NoMemory};
 use std::alloc::Global;
 
 /// The cell of a place in a round.
-pub(crate) fn scan_number(site: &Site, round: u32, place: u32) -> u32
+pub(crate) fn scan_number(site: &StepContext, round: u32, place: u32) -> u32
     requires round { round ≤ 8 }
     requires place { place ≤ 256 }
     ensures value { result ≡ scan_number site.now round place }
@@ -35,7 +35,7 @@ impl Rows for ScanRounds {
 
     ghost cell = { λ rounds s. scan_cell s rounds.op };
 
-    fn draw(&self, plan: &mut Plan, site: &Site, number: u32, place: u32) -> Result<(), NoMemory> {
+    fn draw(&self, plan: &mut Plan, site: &StepContext, number: u32, place: u32) -> Result<(), NoMemory> {
         let _ = site.count();
         let part = site.summing(self.op, place);
         let length = site.length();
@@ -64,14 +64,14 @@ impl Collective for Scan {
 
     ghost end = { λ step s. scan_end s };
 
-    fn draw(&self, _alloc: Global, plan: &mut Plan, site: &Site) -> Result<(), NoMemory> {
+    fn draw(&self, _alloc: Global, plan: &mut Plan, site: &StepContext) -> Result<(), NoMemory> {
         let last = rounds(site.count());
         draw_row(plan, site, &FullEntries, 0)?;
         draw_rows(plan, site, &ScanRounds { op: self.op }, last + 1)?;
         Ok(())
     }
 
-    fn end(&self, site: &Site, place: u32) -> End {
+    fn end(&self, site: &StepContext, place: u32) -> StepExit {
         let last = rounds(site.count());
         giving(scan_number(site, last, place))
     }

@@ -2,14 +2,14 @@
 
 ghost use Rattle.std.specs.Prelude.{◌<◌};
 ghost use Rattle.plan_steps.specs.Scatter.{scatter_cells, scatter_end, scattered};
-ghost use Rattle.plan_steps.specs.Site.{count};
+ghost use Rattle.plan_steps.specs.StepContext.{count};
 
 use crate::collective::Collective;
-use crate::ends::{End, giving};
+use crate::ends::{StepExit, giving};
 use crate::first_cells::RootEntries;
 use crate::incoming::{bump, put};
 use crate::row::{Rows, draw_row};
-use crate::site::Site;
+use crate::site::StepContext;
 use plan_core::Plan;
 use ptl_types::NoMemory;
 use std::alloc::Global;
@@ -25,7 +25,7 @@ impl Rows for Scattered {
 
     ghost cell = { λ row s k. scattered s row.root };
 
-    fn draw(&self, plan: &mut Plan, site: &Site, _number: u32, place: u32) -> Result<(), NoMemory> {
+    fn draw(&self, plan: &mut Plan, site: &StepContext, _number: u32, place: u32) -> Result<(), NoMemory> {
         let block = site.length() / u64::from(site.count());
         let part = site.holding(block, place);
         let own = put(block, site.entry(self.root), u64::from(place) * block, 0);
@@ -50,13 +50,13 @@ impl Collective for Scatter {
 
     ghost end = { λ step s. scatter_end s };
 
-    fn draw(&self, _alloc: Global, plan: &mut Plan, site: &Site) -> Result<(), NoMemory> {
+    fn draw(&self, _alloc: Global, plan: &mut Plan, site: &StepContext) -> Result<(), NoMemory> {
         draw_row(plan, site, &RootEntries { root: self.root }, 0)?;
         draw_row(plan, site, &Scattered { root: self.root }, 0)?;
         Ok(())
     }
 
-    fn end(&self, site: &Site, place: u32) -> End {
+    fn end(&self, site: &StepContext, place: u32) -> StepExit {
         let _ = site.count();
         giving(site.further(place))
     }

@@ -3,7 +3,7 @@
 ghost use Rattle.std.specs.Prelude.{ℕ, get_or, ◌≡◌, ◌≤◌, ◌<◌, ◌^◌, ◌*◌, IfOk, length};
 ghost use Rattle.coll_shape.specs.WellFormed.{AreMembers, IsNumber};
 ghost use Rattle.plan_steps.specs.Beginning.{site_of};
-ghost use Rattle.plan_steps.specs.Site.{IsSite, count, entry, exit_at, further, holding_part, in_row, rank_at, source_at, summing_part};
+ghost use Rattle.plan_steps.specs.StepContext.{IsSite, count, entry, exit_at, further, holding_part, in_row, rank_at, source_at, summing_part};
 
 use crate::beginning::{exits_of, holding_of, read_data, sources_of};
 use crate::drawing::Drawing;
@@ -16,7 +16,7 @@ use std::marker::Model;
 /// What a step begins with, by the places of its members: their ranks, the exits of the steps before, the cells that hold
 /// the buffer that it reads, and the number of its own first cell.
 #[derive(Debug, Drop)]
-pub struct Site {
+pub struct StepContext {
     members: Vec<Rank>,
     first: u32,
     exits: Vec<u32>,
@@ -26,17 +26,17 @@ pub struct Site {
     holding: Vec<u32>,
 }
 
-impl Model for Site {
-    ghost use Rattle.plan_steps.specs.Site.{IsSite, Site};
+impl Model for StepContext {
+    ghost use Rattle.plan_steps.specs.StepContext.{IsSite, StepContext};
 
-    ghost Value = { Site };
+    ghost Value = { StepContext };
 
     ghost view = { λ s. record { members = s.members.items; first = s.first; exits = s.exits.items; sources = s.sources.items; ty = s.ty; length = s.length; holding = s.holding.items } };
 
     ghost invariant = { λ s. IsSite (record { members = s.members.items; first = s.first; exits = s.exits.items; sources = s.sources.items; ty = s.ty; length = s.length; holding = s.holding.items }) };
 }
 
-impl Site {
+impl StepContext {
     /// What a step on these members begins with, that reads this buffer.
     fn begun(
         alloc: Global,
@@ -44,7 +44,7 @@ impl Site {
         drawing: &Drawing,
         read: Option<u32>,
         members: &[Rank],
-    ) -> Result<Site, AllocError>
+    ) -> Result<StepContext, AllocError>
         requires members { AreMembers shape.now.ranks members.now }
         requires read { IsNumber shape.now read }
         requires exits { length drawing.now.exits ≡ shape.now.ranks }
@@ -54,7 +54,7 @@ impl Site {
         ensures { IfOk result (λ site. site ≡ site_of shape.now drawing.now.plan drawing.now.held drawing.now.exits read members.now) }
     {
         let (ty, length) = read_data(shape, read);
-        Ok(Site {
+        Ok(StepContext {
             members: Vec::from_slice(alloc, members)?,
             first: drawing.plan.cells().len() as u32,
             exits: exits_of(alloc, &drawing.exits, members)?,
@@ -76,7 +76,7 @@ impl Site {
         drawing: &Drawing,
         read: Option<u32>,
         members: &[Rank],
-    ) -> Result<Site, NoMemory>
+    ) -> Result<StepContext, NoMemory>
         requires members { AreMembers shape.now.ranks members.now }
         requires read { IsNumber shape.now read }
         requires exits { length drawing.now.exits ≡ shape.now.ranks }
@@ -85,7 +85,7 @@ impl Site {
         requires cells { length drawing.now.plan.cells < 2 ^ 24 }
         ensures { IfOk result (λ site. site ≡ site_of shape.now drawing.now.plan drawing.now.held drawing.now.exits read members.now) }
     {
-        match Site::begun(alloc, shape, drawing, read, members) {
+        match StepContext::begun(alloc, shape, drawing, read, members) {
             Ok(site) => Ok(site),
             Err(_) => Err(NoMemory),
         }

@@ -3,22 +3,22 @@
 ghost use Rattle.std.specs.Prelude.{ℕ, ◌≡◌, ◌<◌, ◌≤◌, ◌∷◌, [], IfOk, map};
 ghost use Rattle.plan_core.specs.declared.Incoming.{Incoming};
 ghost use Rattle.plan_core.specs.Draw.{HasRoom, add, new_cell};
-ghost use Rattle.plan_steps.specs.Site.{Site, count, places};
+ghost use Rattle.plan_steps.specs.StepContext.{StepContext, count, places};
 
-use crate::site::Site;
+use crate::site::StepContext;
 use plan_core::{Incoming, Part, Plan};
 use ptl_types::NoMemory;
 
 /// Links to one cell, one from each place.
 pub(crate) trait Links {
     /// What they ask of what the step begins with.
-    ghost fits: { Self → Site → Type 0 } = { λ _ _. Unit {0} };
+    ghost fits: { Self → StepContext → Type 0 } = { λ _ _. Unit {0} };
 
     /// The link of a number.
-    ghost link: { Self → Site → ℕ → Incoming };
+    ghost link: { Self → StepContext → ℕ → Incoming };
 
     /// The link of a number, which is a place.
-    fn link(&self, site: &Site, number: u32) -> Incoming
+    fn link(&self, site: &StepContext, number: u32) -> Incoming
         requires fits { fits self.now site.now }
         requires number { number < count site.now }
         ensures { result ≡ link self.now site.now number };
@@ -31,7 +31,7 @@ pub(crate) trait Links {
 /// There was no memory for them.
 pub(crate) fn draw_wide<L: Links>(
     plan: &mut Plan,
-    site: &Site,
+    site: &StepContext,
     part: Part,
     links: &L,
 ) -> Result<(), NoMemory>

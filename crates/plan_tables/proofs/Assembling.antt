@@ -4,8 +4,8 @@ use Rattle.std.proofs.lemmas.List.{length-map, map-append}
 use Rattle.ptl_types.specs.declared.steps.Call.{Call}
 use Rattle.ptl_types.specs.declared.steps.Call.TheVariants.{PtAlloc, CtDone, CtCell, MdBind}
 use Rattle.plan_core.specs.Plan.{Plan, link, own, out_links}
-use Rattle.plan_calls.specs.Works.{works}
-use Rattle.plan_calls.specs.Works.Work.{Along, Tell}
+use Rattle.plan_calls.specs.RankOps.{rank_ops}
+use Rattle.plan_calls.specs.RankOps.RankOp.{ForLink, ForDone}
 use Rattle.plan_calls.specs.Areas.{areas_length, classes, has_class, links_to, longest, region_length}
 use Rattle.plan_calls.specs.Calls.{area_call, prepare_calls, trigger}
 use Rattle.plan_tables.proofs.Indexed.{few-filtered}
@@ -15,8 +15,8 @@ map-twice g f [] = refl
 map-twice g f (x ∷ xs) = ap (λ v. g (f x) ∷ v) (map-twice g f xs)
 
 -- the operations of a rank are those of its links, then those of its cells
-pub works-apart : (p : Plan) (r : ℕ) → map (trigger p) (works p r) ≡ map (λ l. trigger p (Along l)) (out_links p r) ++ map (λ c. trigger p (Tell c)) (own p r)
-works-apart p r = map-append (trigger p) (map Along (out_links p r)) (map Tell (own p r)) ∙ ap₂ (λ a b. a ++ b) (map-twice (trigger p) Along (out_links p r)) (map-twice (trigger p) Tell (own p r))
+pub rank_ops-apart : (p : Plan) (r : ℕ) → map (trigger p) (rank_ops p r) ≡ map (λ l. trigger p (ForLink l)) (out_links p r) ++ map (λ c. trigger p (ForDone c)) (own p r)
+rank_ops-apart p r = map-append (trigger p) (map ForLink (out_links p r)) (map ForDone (own p r)) ∙ ap₂ (λ a b. a ++ b) (map-twice (trigger p) ForLink (out_links p r)) (map-twice (trigger p) ForDone (own p r))
 
 -- seven parts, appended one after the other
 pub joined : (x y z : Call) (a b c d : List Call) → ((((((([] ++ x ∷ []) ++ a) ++ y ∷ []) ++ b) ++ z ∷ []) ++ c) ++ d) ≡ x ∷ (a ++ (y ∷ (b ++ (z ∷ (c ++ d)))))
@@ -27,23 +27,23 @@ joined x y z a b c d =
     ∙ append_assoc ((x ∷ []) ++ a) (y ∷ []) (b ++ (z ∷ (c ++ d)))
     ∙ append_assoc (x ∷ []) a (y ∷ (b ++ (z ∷ (c ++ d))))
 
-pub prepared : (p : Plan) (r : ℕ) → ((((((([] ++ PtAlloc ∷ []) ++ map (area_call p r) (classes p r)) ++ CtDone ∷ []) ++ map CtCell (own p r)) ++ MdBind (region_length p r + areas_length p r) p.remote ∷ []) ++ map (λ l. trigger p (Along l)) (out_links p r)) ++ map (λ c. trigger p (Tell c)) (own p r)) ≡ prepare_calls p r
+pub prepared : (p : Plan) (r : ℕ) → ((((((([] ++ PtAlloc ∷ []) ++ map (area_call p r) (classes p r)) ++ CtDone ∷ []) ++ map CtCell (own p r)) ++ MdBind (region_length p r + areas_length p r) p.remote ∷ []) ++ map (λ l. trigger p (ForLink l)) (out_links p r)) ++ map (λ c. trigger p (ForDone c)) (own p r)) ≡ prepare_calls p r
 prepared p r =
-    joined PtAlloc CtDone (MdBind (region_length p r + areas_length p r) p.remote) (map (area_call p r) (classes p r)) (map CtCell (own p r)) (map (λ l. trigger p (Along l)) (out_links p r)) (map (λ c. trigger p (Tell c)) (own p r))
-    ∙ ap (λ v. PtAlloc ∷ (map (area_call p r) (classes p r) ++ (CtDone ∷ (map CtCell (own p r) ++ (MdBind (region_length p r + areas_length p r) p.remote ∷ v))))) (sym (works-apart p r))
+    joined PtAlloc CtDone (MdBind (region_length p r + areas_length p r) p.remote) (map (area_call p r) (classes p r)) (map CtCell (own p r)) (map (λ l. trigger p (ForLink l)) (out_links p r)) (map (λ c. trigger p (ForDone c)) (own p r))
+    ∙ ap (λ v. PtAlloc ∷ (map (area_call p r) (classes p r) ++ (CtDone ∷ (map CtCell (own p r) ++ (MdBind (region_length p r + areas_length p r) p.remote ∷ v))))) (sym (rank_ops-apart p r))
 
 -- how many calls there are
 pub calls-count : (p : Plan) (r : ℕ) → length (prepare_calls p r) ≡ 3 + length (classes p r) + 2 * length (own p r) + length (out_links p r)
 calls-count p r =
-    let rest : List Call = MdBind (region_length p r + areas_length p r) p.remote ∷ map (trigger p) (works p r) in
+    let rest : List Call = MdBind (region_length p r + areas_length p r) p.remote ∷ map (trigger p) (rank_ops p r) in
     let a = length-append (map (area_call p r) (classes p r)) (CtDone ∷ (map CtCell (own p r) ++ rest)) in
     let b = length-map (classes p r) (area_call p r) in
     let c = length-append (map CtCell (own p r)) rest in
     let d = length-map (own p r) CtCell in
-    let e = length-map (works p r) (trigger p) in
-    let f = length-append (map Along (out_links p r)) (map Tell (own p r)) in
-    let g = length-map (out_links p r) Along in
-    let h = length-map (own p r) Tell in
+    let e = length-map (rank_ops p r) (trigger p) in
+    let f = length-append (map ForLink (out_links p r)) (map ForDone (own p r)) in
+    let g = length-map (out_links p r) ForLink in
+    let h = length-map (own p r) ForDone in
     omega (arith, a, b, c, d, e, f, g, h)
 
 pub few-classes : (p : Plan) (r : ℕ) → length (classes p r) ≤ 81

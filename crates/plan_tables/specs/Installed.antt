@@ -3,7 +3,7 @@ use Rattle.std.specs.Prelude.{ℕ, ◌+◌, List}
 use Rattle.ptl_types.specs.declared.calls.Limits.{Limits}
 use Rattle.ptl_types.specs.declared.steps.Call.{Call}
 use Rattle.plan_core.specs.Plan.{Plan, own}
-use Rattle.plan_calls.specs.Works.{done_threshold}
+use Rattle.plan_calls.specs.RankOps.{done_threshold}
 use Rattle.plan_calls.specs.Areas.{areas_length, longest_to, region_length}
 use Rattle.plan_calls.specs.Calls.{late_calls, prepare_calls}
 use Rattle.plan_calls.specs.Limits.{limits_for}

@@ -3,7 +3,7 @@
 ghost use Rattle.std.specs.Prelude.{ℕ, ◌≡◌, ◌<◌, ◌+◌, ◌^◌, ◌-◌, ◌*◌, ◌++◌, ◌∷◌, [], IfOk, get_or, length, map, nat_lt, if◌then◌else◌};
 ghost use Rattle.ptl_types.specs.declared.steps.Call.TheVariants.{CtCell, Overflow};
 ghost use Rattle.plan_core.specs.Plan.{all_cells, cell};
-ghost use Rattle.plan_calls.specs.Works.Work.{Along, Tell};
+ghost use Rattle.plan_calls.specs.RankOps.RankOp.{ForLink, ForDone};
 ghost use Rattle.plan_calls.specs.Areas.{areas_length, classes, region_length};
 ghost use Rattle.plan_calls.specs.Bits.{bits_above};
 ghost use Rattle.plan_calls.specs.Calls.{append_call, area_call, cell_start, trigger};
@@ -87,7 +87,7 @@ pub(crate) fn add_link_calls(
     requires tabled { IsTabled plan.now }
     requires links { (i : ℕ) → i < length out.now → get_or out.now i 0 < length plan.now.links }
     requires starts { starts.now ≡ map (cell_start plan.now) (all_cells plan.now) }
-    ensures { IfOk result (λ u. calls.new.items ≡ calls.old.items ++ map (λ l. trigger plan.now (Along l)) out.now) }
+    ensures { IfOk result (λ u. calls.new.items ≡ calls.old.items ++ map (λ l. trigger plan.now (ForLink l)) out.now) }
 {
     for l in out {
         push_call(calls, link_call(plan, starts, *l))?;
@@ -102,7 +102,7 @@ pub(crate) fn add_done_calls(
     own: &[u32],
 ) -> Result<(), NoMemory>
     requires { (i : ℕ) → i < length own.now → get_or own.now i 0 < length plan.now.cells }
-    ensures { IfOk result (λ u. calls.new.items ≡ calls.old.items ++ map (λ c. trigger plan.now (Tell c)) own.now) }
+    ensures { IfOk result (λ u. calls.new.items ≡ calls.old.items ++ map (λ c. trigger plan.now (ForDone c)) own.now) }
 {
     for c in own {
         push_call(calls, done_call(plan, *c))?;

@@ -2,14 +2,14 @@
 
 ghost use Rattle.std.specs.Prelude.{◌≡◌, ◌<◌, ◌≤◌, ◌+◌, ◌*◌, ◌^◌, ◌++◌, ◌∷◌, [], IfOk, length, map};
 ghost use Rattle.plan_core.specs.Plan.{all_cells, cell, link};
-ghost use Rattle.plan_calls.specs.Works.Work.{Along, Tell};
+ghost use Rattle.plan_calls.specs.RankOps.RankOp.{ForLink, ForDone};
 ghost use Rattle.plan_calls.specs.Bits.{bits_above, cell_bits, class_of, op_number, type_number};
 ghost use Rattle.plan_calls.specs.Calls.{append_call, cell_start, send_act, trigger};
 ghost use Rattle.plan_tables.specs.Tables.{IsTabled};
 
 use crate::reading::{cell_at, from_rank, link_at, to_rank};
 use plan_core::{LinkKind, Plan};
-use ptl_types::{AckRequest, Act, AtomicOp, Call, ElemType, NoMemory, Rank};
+use ptl_types::{AckRequest, PlannedOp, AtomicOp, Call, ElemType, NoMemory, Rank};
 
 /// The number of an operation in the match bits.
 fn op_number(op: AtomicOp) -> u64
@@ -108,7 +108,7 @@ pub(crate) fn append_call(plan: &Plan, starts: &[u64], r: Rank, c: u32) -> Call
 }
 
 /// The put or atomic of a link.
-fn send_act(plan: &Plan, starts: &[u64], l: u32) -> Act
+fn send_act(plan: &Plan, starts: &[u64], l: u32) -> PlannedOp
     requires tabled { IsTabled plan.now }
     requires link { l < length plan.now.links }
     requires starts { starts.now ≡ map (cell_start plan.now) (all_cells plan.now) }
@@ -116,7 +116,7 @@ fn send_act(plan: &Plan, starts: &[u64], l: u32) -> Act
 {
     let link = link_at(plan, l);
     let target = cell_at(plan, link.target);
-    Act::Send {
+    PlannedOp::Send {
         local_offset: start_at(plan, starts, link.source) + link.source_offset,
         length: link.length,
         target: to_rank(plan, l),
@@ -138,11 +138,11 @@ pub(crate) fn link_call(plan: &Plan, starts: &[u64], l: u32) -> Call
     requires tabled { IsTabled plan.now }
     requires link { l < length plan.now.links }
     requires starts { starts.now ≡ map (cell_start plan.now) (all_cells plan.now) }
-    ensures { result ≡ trigger plan.now (Along l) }
+    ensures { result ≡ trigger plan.now (ForLink l) }
 {
     let link = link_at(plan, l);
     let act = match link.kind {
-        LinkKind::Bump => Act::BumpCell { cell: link.target },
+        LinkKind::Bump => PlannedOp::BumpCell { cell: link.target },
         _ => send_act(plan, starts, l),
     };
     Call::Trigger {
@@ -155,12 +155,12 @@ pub(crate) fn link_call(plan: &Plan, starts: &[u64], l: u32) -> Call
 /// The operation that counts a cell as done.
 pub(crate) fn done_call(plan: &Plan, c: u32) -> Call
     requires { c < length plan.now.cells }
-    ensures { result ≡ trigger plan.now (Tell c) }
+    ensures { result ≡ trigger plan.now (ForDone c) }
 {
     Call::Trigger {
         cell: c,
         threshold: cell_at(plan, c).needs,
-        act: Act::BumpDone,
+        act: PlannedOp::BumpDone,
     }
 }
 

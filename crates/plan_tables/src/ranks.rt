@@ -2,7 +2,7 @@
 
 ghost use Rattle.std.specs.Prelude.{ℕ, ◌≡◌, ◌<◌, ◌≤◌, ◌+◌, ◌*◌, [], IfOk, count_by, get_or, length, max, if◌then◌else◌};
 ghost use Rattle.plan_core.specs.Plan.{own as own_of, out_links};
-ghost use Rattle.plan_calls.specs.Works.{done_threshold, is_message};
+ghost use Rattle.plan_calls.specs.RankOps.{done_threshold, is_message};
 ghost use Rattle.plan_calls.specs.Areas.{areas_length, classes, longest as longest_of, region_length};
 ghost use Rattle.plan_calls.specs.Calls.{late_calls, prepare_calls};
 ghost use Rattle.plan_calls.specs.Limits.{limits_for};

@@ -4,8 +4,8 @@ use Rattle.std.specs.Prelude.{All}
 use Rattle.std.proofs.lemmas.List.Elements.{All-weaker, All-head, All-tail, All-cons, All-nil}
 use Rattle.ptl_types.specs.declared.handles.Handle.{Handle}
 use Rattle.ptl_types.specs.declared.handles.Count.{Count}
-use Rattle.ptl_types.specs.declared.calls.Deed.{Deed}
-use Rattle.ptl_types.specs.declared.calls.Deed.TheVariants.{Put, Get, Atomic, FetchAtomic, Swap, Inc, Set}
+use Rattle.ptl_types.specs.declared.calls.TriggeredOp.{TriggeredOp}
+use Rattle.ptl_types.specs.declared.calls.TriggeredOp.TheVariants.{Put, Get, Atomic, FetchAtomic, Swap, Inc, Set}
 use Rattle.ni_model.specs.declared.Bound.{Bound}
 use Rattle.ni_model.specs.declared.Linked.{Linked}
 use Rattle.ni_model.specs.Tables.{Live, Table, lookup, is_live_or_none}
@@ -17,7 +17,7 @@ use Rattle.ni_objects.specs.users.Rows.{IsAlone, HasOwnSlot}
 use Rattle.ni_objects.proofs.users.SlotLemmas.{named-alone}
 use Rattle.target_engine.specs.Sides.{EntriesAlone}
 use Rattle.ptl_types.specs.declared.calls.Limits.{Limits}
-use Rattle.portals_ni.specs.declared.armed.Armed.{Armed}
+use Rattle.portals_ni.specs.declared.armed.PostedOp.{PostedOp}
 use Rattle.portals_ni.specs.Answers.{deed_counter}
 use Rattle.portals_ni.specs.Lasting.{HasEntries, EntryIsLive, QueueIsLive, BoundIsLive, OperationIsLive}
 use Rattle.portals_ni.specs.Pendings.{deed_in}
@@ -44,7 +44,7 @@ bound-eqs-alone eq cts eqs xs own live = All-weaker (BoundIsLive cts eqs) (λ (x
 
 -- ---- pending operations
 
-counter-live : (d : Deed) (cts : Table Count) → counts_on_live d cts ≡ true → is_live_or_none (deed_counter d) cts ≡ true
+counter-live : (d : TriggeredOp) (cts : Table Count) → counts_on_live d cts ≡ true → is_live_or_none (deed_counter d) cts ≡ true
 counter-live (Put a) cts e = refl
 counter-live (Get g) cts e = refl
 counter-live (Atomic a op ty) cts e = refl
@@ -53,7 +53,7 @@ counter-live (Swap g a op ty operand) cts e = refl
 counter-live (Inc h by) cts e = e
 counter-live (Set h to) cts e = e
 
-pub operation-cts-alone : (ct : Handle) (cts : Table Count) (ws : List (Operation Armed)) → HasOwnSlot ct cts → All (OperationIsLive cts) (map (posted deed_in) ws) → All (CtsAlone ct) ws
+pub operation-cts-alone : (ct : Handle) (cts : Table Count) (ws : List (Operation PostedOp)) → HasOwnSlot ct cts → All (OperationIsLive cts) (map (posted deed_in) ws) → All (CtsAlone ct) ws
 operation-cts-alone ct cts [] own all = All-nil (CtsAlone ct)
 operation-cts-alone ct cts (w ∷ ws) own all =
     let live = All-head (OperationIsLive cts) (posted deed_in w) (map (posted deed_in) ws) all in
@@ -69,7 +69,7 @@ both-true : (a b : Bool) → (a && b) ≡ true → (a ≡ true) × (b ≡ true)
 both-true true b e = (refl, e)
 both-true false b e = cc
 
-put-live : (d : Deed) (mds : Table Bound) → deed_fits d mds ≡ true → is_live_or_none (put_md d) mds ≡ true
+put-live : (d : TriggeredOp) (mds : Table Bound) → deed_fits d mds ≡ true → is_live_or_none (put_md d) mds ≡ true
 put-live (Put a) mds e = holds-live (lookup a.md mds.live) a.local_offset a.length e
 put-live (Get g) mds e = refl
 put-live (Atomic a op ty) mds e = holds-live (lookup a.md mds.live) a.local_offset a.length e
@@ -78,7 +78,7 @@ put-live (Swap g a op ty operand) mds e = holds-live (lookup a.md mds.live) a.lo
 put-live (Inc h by) mds e = refl
 put-live (Set h to) mds e = refl
 
-get-live : (d : Deed) (mds : Table Bound) → deed_fits d mds ≡ true → is_live_or_none (get_md d) mds ≡ true
+get-live : (d : TriggeredOp) (mds : Table Bound) → deed_fits d mds ≡ true → is_live_or_none (get_md d) mds ≡ true
 get-live (Put a) mds e = refl
 get-live (Get g) mds e = holds-live (lookup g.md mds.live) g.local_offset g.length e
 get-live (Atomic a op ty) mds e = refl
@@ -87,7 +87,7 @@ get-live (Swap g a op ty operand) mds e = holds-live (lookup g.md mds.live) g.lo
 get-live (Inc h by) mds e = refl
 get-live (Set h to) mds e = refl
 
-pub operation-mds-alone : (md : Handle) (mds : Table Bound) (ranks : ℕ) (limits : Limits) (ws : List (Operation Armed)) → HasOwnSlot md mds → All (λ (w : Operation Armed). IsArmed mds ranks limits w.deed) ws → All (MdsAlone md) ws
+pub operation-mds-alone : (md : Handle) (mds : Table Bound) (ranks : ℕ) (limits : Limits) (ws : List (Operation PostedOp)) → HasOwnSlot md mds → All (λ (w : Operation PostedOp). IsArmed mds ranks limits w.deed) ws → All (MdsAlone md) ws
 operation-mds-alone md mds ranks limits ws own all =
-    All-weaker (λ (w : Operation Armed). IsArmed mds ranks limits w.deed) (MdsAlone md)
+    All-weaker (λ (w : Operation PostedOp). IsArmed mds ranks limits w.deed) (MdsAlone md)
     (λ w armed. (named-alone md (get_md w.deed.deed) mds own (get-live w.deed.deed mds armed.fits), named-alone md (put_md w.deed.deed) mds own (put-live w.deed.deed mds armed.fits))) ws all

@@ -12,7 +12,7 @@ use Rattle.ptl_types.specs.declared.calls.NiFault.{NiFault}
 use Rattle.ptl_types.specs.declared.calls.NiFault.TheVariants.{NoSpace, NoMemory, Stale}
 use Rattle.ptl_types.specs.declared.calls.Outcome.{Outcome}
 use Rattle.ptl_types.specs.declared.calls.EqGot.{EqGot}
-use Rattle.ptl_types.specs.declared.calls.Deed.{Deed}
+use Rattle.ptl_types.specs.declared.calls.TriggeredOp.{TriggeredOp}
 use Rattle.ptl_types.specs.Messages.{Sent}
 use Rattle.ni_model.specs.declared.Arrived.{Arrived}
 use Rattle.ni_model.specs.Tables.{Table, lookup, changed, has_slot, handle, with_new, without, is_full}
@@ -31,7 +31,7 @@ use Rattle.initiator_engine.specs.Initiators.{Initiating, with_mds, is_start, ha
 use Rattle.target_engine.specs.Sides.{has_searched, has_appended, AppendsSome}
 use Rattle.triggered_ops.specs.Operations.{Operations, deed_of, operation_at, is_ready, told, with_posted, without_number, waiting_on, cancelled, posted_all}
 use Rattle.std.specs.Prelude.{slice_set}
-use Rattle.portals_ni.specs.declared.armed.Armed.{Armed}
+use Rattle.portals_ni.specs.declared.armed.PostedOp.{PostedOp}
 use Rattle.portals_ni.specs.Answers.{MakesIfMemory, event_taken, deed_counts}
 use Rattle.portals_ni.specs.Pendings.{deed_in, told_by}
 use Rattle.portals_ni.specs.Sound.{IsTold, Stands, state_of}
@@ -41,7 +41,7 @@ use Rattle.portals_ni.proofs.Stands.{fewer-stands, done-stands}
 use Rattle.portals_ni.proofs.Told.{posted-tells, posted-told_by}
 
 -- what was told is forgotten
-pub told-forgotten : (ct : Option Handle) (c : Table Count) (ops left : Operations Armed) → left ≡ told_by ct c ops → posted_all deed_in left ≡ posted_all deed_in ops
+pub told-forgotten : (ct : Option Handle) (c : Table Count) (ops left : Operations PostedOp) → left ≡ told_by ct c ops → posted_all deed_in left ≡ posted_all deed_in ops
 told-forgotten ct c ops left e = ap (posted_all deed_in) e ∙ posted-told_by ct c ops
 
 pub live-true : {A : Type 0} (b : Bool) (o : Option A) → (IsTrue b ↔ IsSome o) → b ≡ true → is_some o ≡ true
@@ -52,17 +52,17 @@ live-true false o r e = cc
 not-full : {A : Type 0} (t : Table A) → is_full t ≡ false → alloc_fault t ≡ None
 not-full t e = rw e refl
 
-module _ (t : Side) (r : List ℕ) (c : Table Count) (e : Table Waiting) (i : Initiating) (ops : Operations Armed) (d v : ℕ) where
+module _ (t : Side) (r : List ℕ) (c : Table Count) (e : Table Waiting) (i : Initiating) (ops : Operations PostedOp) (d v : ℕ) where
   abbrev pub before : State
   before = state_of t r c e i ops d v
 
   -- what was told isn't seen
-  pub told-state : (ct : Handle) (sum : ℕ) (left : Operations Armed) → left ≡ told ct sum ops → before ≡ state_of t r c e i left d v
+  pub told-state : (ct : Handle) (sum : ℕ) (left : Operations PostedOp) → left ≡ told ct sum ops → before ≡ state_of t r c e i left d v
   told-state ct sum left made = sym (rw (ap (posted_all deed_in) made ∙ posted-tells ct sum ops) refl)
 
   -- ---- the engines' parts
 
-  pub home-state : (j : Initiating) (s : List ℕ) (k : Table Count) (f : Table Waiting) (left : Operations Armed) (ct : Option Handle) → j ≡ with_mds j.mds i → left ≡ told_by ct k ops → state_of t s k f j left d v ≡ with_home (home j.mds s k f) before
+  pub home-state : (j : Initiating) (s : List ℕ) (k : Table Count) (f : Table Waiting) (left : Operations PostedOp) (ct : Option Handle) → j ≡ with_mds j.mds i → left ≡ told_by ct k ops → state_of t s k f j left d v ≡ with_home (home j.mds s k f) before
   home-state j s k f left ct rest told =
       let ranks : j.ranks ≡ i.ranks = ap (λ (x : Initiating). x.ranks) rest in
       let limits : j.limits ≡ i.limits = ap (λ (x : Initiating). x.limits) rest in
@@ -70,13 +70,13 @@ module _ (t : Side) (r : List ℕ) (c : Table Count) (e : Table Waiting) (i : In
 
   -- ---- counting events
 
-  pub set-ends : (ct : Handle) (to : Count) (k : Table Count) (left : Operations Armed) → ct_set_fault ct to c ≡ None → k ≡ changed ct (λ (x : Count). to) c → left ≡ told_by (Some ct) k ops → ends (state_of t r k e i left d v) (Ok tt) ≡ ct_set ct to before
+  pub set-ends : (ct : Handle) (to : Count) (k : Table Count) (left : Operations PostedOp) → ct_set_fault ct to c ≡ None → k ≡ changed ct (λ (x : Count). to) c → left ≡ told_by (Some ct) k ops → ends (state_of t r k e i left d v) (Ok tt) ≡ ct_set ct to before
   set-ends ct to k left none is told = rw (told-forgotten (Some ct) k ops left told, is) (ends-done _ _ _ _ none)
 
-  pub inc-ends : (ct : Handle) (by : Count) (k : Table Count) (left : Operations Armed) → ct_inc_fault ct by c ≡ None → k ≡ changed ct (plus by) c → left ≡ told_by (Some ct) k ops → ends (state_of t r k e i left d v) (Ok tt) ≡ ct_inc ct by before
+  pub inc-ends : (ct : Handle) (by : Count) (k : Table Count) (left : Operations PostedOp) → ct_inc_fault ct by c ≡ None → k ≡ changed ct (plus by) c → left ≡ told_by (Some ct) k ops → ends (state_of t r k e i left d v) (Ok tt) ≡ ct_inc ct by before
   inc-ends ct by k left none is told = rw (told-forgotten (Some ct) k ops left told, is) (ends-done _ _ _ _ none)
 
-  pub cancel-ends : (ct : Handle) (n : ℕ) (left : Operations Armed) (live : Bool) → (IsTrue live ↔ IsSome (lookup ct c.live)) → live ≡ true → n ≡ length (waiting_on ct ops) → left ≡ cancelled ct ops → ends (state_of t r c e i left d v) (Ok n) ≡ ct_cancel ct before
+  pub cancel-ends : (ct : Handle) (n : ℕ) (left : Operations PostedOp) (live : Bool) → (IsTrue live ↔ IsSome (lookup ct c.live)) → live ≡ true → n ≡ length (waiting_on ct ops) → left ≡ cancelled ct ops → ends (state_of t r c e i left d v) (Ok n) ≡ ct_cancel ct before
   cancel-ends ct n left live is lives number gone =
       rw (gone, number, posted-cancelled ct ops, length-waiting ct ops, live-true live (lookup ct c.live) is lives) refl
 
@@ -146,7 +146,7 @@ module _ (t : Side) (r : List ℕ) (c : Table Count) (e : Table Waiting) (i : In
   search-ends pt en delete u f (Ok found) err unchanged ok rank limit is = rw (ok, ← is, rank, limit) refl
   search-ends pt en delete u f (Err fault) err unchanged ok rank limit is = rw (err.0, err.1, unchanged.0, unchanged.1) refl
 
-  pub append-makes : (pt : ℕ) (list : EntryList) (en : Entry) (u : Side) (k : Table Count) (f : Table Waiting) (left : Operations Armed) (answer : Appended) (ct : Option Handle) → append_fault pt en (parts t r c e) ≡ None → AppendsSome pt list en (parts t r c e) (has_appended (parts u r k f) answer ct) → u.rank ≡ t.rank → u.limit ≡ t.limit → left ≡ told_by ct k ops → Makes (entry_slot t.indices) (λ slot. me_append slot pt list en before) (ends (state_of u r k f i left d v) (Ok answer))
+  pub append-makes : (pt : ℕ) (list : EntryList) (en : Entry) (u : Side) (k : Table Count) (f : Table Waiting) (left : Operations PostedOp) (answer : Appended) (ct : Option Handle) → append_fault pt en (parts t r c e) ≡ None → AppendsSome pt list en (parts t r c e) (has_appended (parts u r k f) answer ct) → u.rank ≡ t.rank → u.limit ≡ t.limit → left ≡ told_by ct k ops → Makes (entry_slot t.indices) (λ slot. me_append slot pt list en before) (ends (state_of u r k f i left d v) (Ok answer))
   append-makes pt list en u k f left answer ct none is rank limit told = record {
     slot = is.slot;
     free = is.free;
@@ -162,30 +162,30 @@ module _ (t : Side) (r : List ℕ) (c : Table Count) (e : Table Waiting) (i : In
 
   -- ---- starts
 
-  pub start-ends : (deed : Deed) (j : Initiating) (k : Table Count) (f : Table Waiting) (left : Operations Armed) (m : Sent) (ct : Option Handle) → deed_fault deed i.mds ≡ None → i.rank ≡ t.rank → has_started (home j.mds r k f) m ct ≡ started i.rank (home i.mds r c e) deed → j ≡ with_mds j.mds i → left ≡ told_by ct k ops → ends (state_of t r k f j left d v) (Ok (Some m)) ≡ start deed before
+  pub start-ends : (deed : TriggeredOp) (j : Initiating) (k : Table Count) (f : Table Waiting) (left : Operations PostedOp) (m : Sent) (ct : Option Handle) → deed_fault deed i.mds ≡ None → i.rank ≡ t.rank → has_started (home j.mds r k f) m ct ≡ started i.rank (home i.mds r c e) deed → j ≡ with_mds j.mds i → left ≡ told_by ct k ops → ends (state_of t r k f j left d v) (Ok (Some m)) ≡ start deed before
   start-ends deed j k f left m ct none rank is rest told =
       let same : has_started (home j.mds r k f) m ct ≡ started t.rank (home i.mds r c e) deed = is ∙ ap (λ n. started n (home i.mds r c e) deed) rank in
       rw (none, ← same, home-state j r k f left ct rest told) refl
 
-  pub post-ends : (deed : Deed) (ct : Handle) (threshold sum n : ℕ) (a : Armed) (left : Operations Armed) → triggered_fault deed ct c i.mds (posted_all deed_in ops) ≡ None → a.deed ≡ deed → n ≡ ops.given → left ≡ with_posted a ct threshold sum (told ct sum ops) → ends (state_of t r c e i left d v) (Ok n) ≡ triggered deed ct threshold before
+  pub post-ends : (deed : TriggeredOp) (ct : Handle) (threshold sum n : ℕ) (a : PostedOp) (left : Operations PostedOp) → triggered_fault deed ct c i.mds (posted_all deed_in ops) ≡ None → a.deed ≡ deed → n ≡ ops.given → left ≡ with_posted a ct threshold sum (told ct sum ops) → ends (state_of t r c e i left d v) (Ok n) ≡ triggered deed ct threshold before
   post-ends deed ct threshold sum n a left none is number made =
       rw (none, posted-new a ct threshold sum ops left made, is, number) refl
 
-  pub start-may : (deed : Deed) (j : Initiating) (k : Table Count) (f : Table Waiting) (left : Operations Armed) (m : Sent) (ct : Option Handle) → deed_fault deed i.mds ≡ None → i.rank ≡ t.rank → has_started (home j.mds r k f) m ct ≡ started i.rank (home i.mds r c e) deed → j ≡ with_mds j.mds i → left ≡ told_by ct k ops → MayLackMemory (start deed before) before (ends (state_of t r k f j left d v) (Ok (Some m)))
+  pub start-may : (deed : TriggeredOp) (j : Initiating) (k : Table Count) (f : Table Waiting) (left : Operations PostedOp) (m : Sent) (ct : Option Handle) → deed_fault deed i.mds ≡ None → i.rank ≡ t.rank → has_started (home j.mds r k f) m ct ≡ started i.rank (home i.mds r c e) deed → j ≡ with_mds j.mds i → left ≡ told_by ct k ops → MayLackMemory (start deed before) before (ends (state_of t r k f j left d v) (Ok (Some m)))
   start-may deed j k f left m ct none rank is rest told = subst (λ x. MayLackMemory (start deed before) before x) (sym (start-ends deed j k f left m ct none rank is rest told)) enough
 
-  pub post-may : (deed : Deed) (ct : Handle) (threshold sum n : ℕ) (a : Armed) (left : Operations Armed) → triggered_fault deed ct c i.mds (posted_all deed_in ops) ≡ None → a.deed ≡ deed → n ≡ ops.given → left ≡ with_posted a ct threshold sum (told ct sum ops) → MayLackMemory (triggered deed ct threshold before) before (ends (state_of t r c e i left d v) (Ok n))
+  pub post-may : (deed : TriggeredOp) (ct : Handle) (threshold sum n : ℕ) (a : PostedOp) (left : Operations PostedOp) → triggered_fault deed ct c i.mds (posted_all deed_in ops) ≡ None → a.deed ≡ deed → n ≡ ops.given → left ≡ with_posted a ct threshold sum (told ct sum ops) → MayLackMemory (triggered deed ct threshold before) before (ends (state_of t r c e i left d v) (Ok n))
   post-may deed ct threshold sum n a left none is number made = subst (λ x. MayLackMemory (triggered deed ct threshold before) before x) (sym (post-ends deed ct threshold sum n a left none is number made)) enough
 
   -- ---- arrivals
 
-  pub answer-ends : (m : Sent) (j : Initiating) (s : List ℕ) (k : Table Count) (f : Table Waiting) (left : Operations Armed) (outcome : Outcome) (ct : Option Handle) (d' v' : ℕ) → has_returned (home j.mds s k f) outcome ct ≡ answered (home i.mds r c e) m → j ≡ with_mds j.mds i → left ≡ told_by ct k ops → d' ≡ drops_after outcome d → v' ≡ violations_after outcome v → record { state = state_of t s k f j left d' v'; delivered = record { outcome = outcome; answer = None } } ≡ after_answer before (answered (home_of before) m)
+  pub answer-ends : (m : Sent) (j : Initiating) (s : List ℕ) (k : Table Count) (f : Table Waiting) (left : Operations PostedOp) (outcome : Outcome) (ct : Option Handle) (d' v' : ℕ) → has_returned (home j.mds s k f) outcome ct ≡ answered (home i.mds r c e) m → j ≡ with_mds j.mds i → left ≡ told_by ct k ops → d' ≡ drops_after outcome d → v' ≡ violations_after outcome v → record { state = state_of t s k f j left d' v'; delivered = record { outcome = outcome; answer = None } } ≡ after_answer before (answered (home_of before) m)
   answer-ends m j s k f left outcome ct d' v' is rest told drops violations =
       let ranks : j.ranks ≡ i.ranks = ap (λ (x : Initiating). x.ranks) rest in
       let limits : j.limits ≡ i.limits = ap (λ (x : Initiating). x.limits) rest in
       rw (← is, drops, violations, told-forgotten ct k ops left told, ranks, limits) refl
 
-  pub request-ends : (m : Sent) (u : Side) (s : List ℕ) (k : Table Count) (f : Table Waiting) (left : Operations Armed) (a : Arrived) (d' v' : ℕ) → received (parts u s k f) a ≡ request (parts t r c e) m → u.rank ≡ t.rank → u.limit ≡ t.limit → left ≡ told_by a.counted k ops → d' ≡ drops_after a.outcome d → v' ≡ violations_after a.outcome v → record { state = state_of u s k f i left d' v'; delivered = record { outcome = a.outcome; answer = a.answer } } ≡ after_request before (request (parts_of before) m)
+  pub request-ends : (m : Sent) (u : Side) (s : List ℕ) (k : Table Count) (f : Table Waiting) (left : Operations PostedOp) (a : Arrived) (d' v' : ℕ) → received (parts u s k f) a ≡ request (parts t r c e) m → u.rank ≡ t.rank → u.limit ≡ t.limit → left ≡ told_by a.counted k ops → d' ≡ drops_after a.outcome d → v' ≡ violations_after a.outcome v → record { state = state_of u s k f i left d' v'; delivered = record { outcome = a.outcome; answer = a.answer } } ≡ after_request before (request (parts_of before) m)
   request-ends m u s k f left a d' v' is rank limit told drops violations =
       rw (← is, drops, violations, told-forgotten a.counted k ops left told, rank, limit) refl
 
@@ -195,12 +195,12 @@ module _ (t : Side) (r : List ℕ) (c : Table Count) (e : Table Waiting) (i : In
   ready-answers None told some none = λ n. ready-is n c ops told ∙ none n
   ready-answers (Some n) told some none = rw (ready-is n c ops told, some) refl
 
-  pub fire-counts : (n : ℕ) (a : Armed) (k : Table Count) (between left : Operations Armed) (ct : Option Handle) → option_map deed_of (operation_at n ops) ≡ Some a → is_start a.deed ≡ false → between ≡ without_number n ops → k ≡ deed_counts a.deed c → left ≡ told_by ct k between → fires (state_of t r k e i left d v) None ≡ fired before n
+  pub fire-counts : (n : ℕ) (a : PostedOp) (k : Table Count) (between left : Operations PostedOp) (ct : Option Handle) → option_map deed_of (operation_at n ops) ≡ Some a → is_start a.deed ≡ false → between ≡ without_number n ops → k ≡ deed_counts a.deed c → left ≡ told_by ct k between → fires (state_of t r k e i left d v) None ≡ fired before n
   fire-counts n a k between left ct is counts gone made told =
       let done_of = fired-is before n ops a refl is in
       rw (done_of, done-count (state_of t r c e i (without_number n ops) d v) a.deed counts, told-forgotten ct k between left told, gone, made) refl
 
-  pub fire-starts : (n : ℕ) (a : Armed) (j : Initiating) (k : Table Count) (f : Table Waiting) (between left : Operations Armed) (m : Sent) (ct : Option Handle) → option_map deed_of (operation_at n ops) ≡ Some a → is_start a.deed ≡ true → between ≡ without_number n ops → i.rank ≡ t.rank → has_started (home j.mds r k f) m ct ≡ started i.rank (home i.mds r c e) a.deed → j ≡ with_mds j.mds i → left ≡ told_by ct k between → fires (state_of t r k f j left d v) (Some m) ≡ fired before n
+  pub fire-starts : (n : ℕ) (a : PostedOp) (j : Initiating) (k : Table Count) (f : Table Waiting) (between left : Operations PostedOp) (m : Sent) (ct : Option Handle) → option_map deed_of (operation_at n ops) ≡ Some a → is_start a.deed ≡ true → between ≡ without_number n ops → i.rank ≡ t.rank → has_started (home j.mds r k f) m ct ≡ started i.rank (home i.mds r c e) a.deed → j ≡ with_mds j.mds i → left ≡ told_by ct k between → fires (state_of t r k f j left d v) (Some m) ≡ fired before n
   fire-starts n a j k f between left m ct is starts gone rank sent rest told =
       let done_of = fired-is before n ops a refl is in
       let same : has_started (home j.mds r k f) m ct ≡ started t.rank (home i.mds r c e) a.deed = sent ∙ ap (λ x. started x (home i.mds r c e) a.deed) rank in
@@ -210,7 +210,7 @@ module _ (t : Side) (r : List ℕ) (c : Table Count) (e : Table Waiting) (i : In
 
   -- ---- what a firing leaves of the limits, the sums and the live names
 
-  pub fired-stands : (n : ℕ) (a : Armed) → option_map deed_of (operation_at n ops) ≡ Some a → deed_passes a.deed ≡ false → Stands before → Stands (fired before n).state
+  pub fired-stands : (n : ℕ) (a : PostedOp) → option_map deed_of (operation_at n ops) ≡ Some a → deed_passes a.deed ≡ false → Stands before → Stands (fired before n).state
   fired-stands n a is fits stands =
       let left : Stands (state_of t r c e i (without_number n ops) d v) = rw (posted-without n ops) (fewer-stands n before stands) in
       subst (λ (f : Fires). Stands f.state) (sym (fired-is before n ops a refl is)) (done-stands (state_of t r c e i (without_number n ops) d v) a.deed fits left)

@@ -6,8 +6,8 @@ use Rattle.std.proofs.lemmas.List.Elements.{All-push}
 use Rattle.ptl_types.specs.declared.handles.Handle.{Handle}
 use Rattle.ptl_types.specs.declared.handles.Count.{Count}
 use Rattle.ptl_types.specs.declared.calls.Limits.{Limits}
-use Rattle.ptl_types.specs.declared.calls.Deed.{Deed}
-use Rattle.ptl_types.specs.declared.calls.Deed.TheVariants.{Put, Get, Atomic, FetchAtomic, Swap, Inc, Set}
+use Rattle.ptl_types.specs.declared.calls.TriggeredOp.{TriggeredOp}
+use Rattle.ptl_types.specs.declared.calls.TriggeredOp.TheVariants.{Put, Get, Atomic, FetchAtomic, Swap, Inc, Set}
 use Rattle.ni_model.specs.declared.Bound.{Bound}
 use Rattle.ni_model.specs.Tables.{Table, lookup}
 use Rattle.ni_model.specs.Counts.{total}
@@ -18,17 +18,17 @@ use Rattle.ni_model.specs.Starts.{started}
 use Rattle.target_engine.proofs.Within.{find_has}
 use Rattle.initiator_engine.specs.Initiators.{is_start}
 use Rattle.triggered_ops.specs.Operations.{Operation, Operations, is_number, waits_on, deed_of, operation_at, is_due_op, is_ready, with_posted, told, without_number, waiting_on, cancelled, posted, posted_all}
-use Rattle.portals_ni.specs.declared.armed.Armed.{Armed}
+use Rattle.portals_ni.specs.declared.armed.PostedOp.{PostedOp}
 use Rattle.portals_ni.specs.Answers.{deed_counts}
 use Rattle.portals_ni.specs.Pendings.{deed_in}
 use Rattle.portals_ni.specs.Sound.{IsArmed, IsTold}
 use Rattle.portals_ni.proofs.Told.{posted-tells, told-again}
 
 abbrev pub Op : Type 0
-Op = Operation Armed
+Op = Operation PostedOp
 
 abbrev pub Ops : Type 0
-Ops = Operations Armed
+Ops = Operations PostedOp
 
 -- ---- lists of operations, and what the model has of them
 
@@ -66,7 +66,7 @@ map-push : (ws : List Op) (w : Op) → map (posted deed_in) (ws ++ w ∷ []) ≡
 map-push [] w = refl
 map-push (v ∷ ws) w = rw (map-push ws w) refl
 
-posted-push : (a : Armed) (ct : Handle) (threshold sum : ℕ) (ops : Ops) → posted_all deed_in (with_posted a ct threshold sum ops) ≡ model.with_posted a.deed ct threshold (posted_all deed_in ops)
+posted-push : (a : PostedOp) (ct : Handle) (threshold sum : ℕ) (ops : Ops) → posted_all deed_in (with_posted a ct threshold sum ops) ≡ model.with_posted a.deed ct threshold (posted_all deed_in ops)
 posted-push a ct threshold sum ops = rw (map-push ops.waiting _) refl
 
 -- ---- readiness
@@ -101,30 +101,30 @@ find-number t (v ∷ ws) w e =
     ] refl e
 
 -- the operation that a deed was taken out of
-pub taken : (t : ℕ) (o : Option Op) (a : Armed) → option_map deed_of o ≡ Some a → (w : Op) × (o ≡ Some w) × (w.deed ≡ a)
+pub taken : (t : ℕ) (o : Option Op) (a : PostedOp) → option_map deed_of o ≡ Some a → (w : Op) × (o ≡ Some w) × (w.deed ≡ a)
 taken t None a e = cc
 taken t (Some w) a e = let same : w.deed ≡ a = cc in (w, refl, same)
 
-pub taken-armed : (t : ℕ) (ops : Ops) (a : Armed) (mds : Table Bound) (ranks : ℕ) (limits : Limits) → option_map deed_of (operation_at t ops) ≡ Some a → All (λ w. IsArmed mds ranks limits w.deed) ops.waiting → IsArmed mds ranks limits a
+pub taken-armed : (t : ℕ) (ops : Ops) (a : PostedOp) (mds : Table Bound) (ranks : ℕ) (limits : Limits) → option_map deed_of (operation_at t ops) ≡ Some a → All (λ w. IsArmed mds ranks limits w.deed) ops.waiting → IsArmed mds ranks limits a
 taken-armed t ops a mds ranks limits e all =
     let w = taken t (operation_at t ops) a e in
     subst (IsArmed mds ranks limits) w.2 (find_has (λ (x : Op). IsArmed mds ranks limits x.deed) (is_number t) ops.waiting w.0 all w.1)
 
-fired-at : (s : State) (t : ℕ) (ops : Ops) (a : Armed) (w : Op) → s.pending ≡ posted_all deed_in ops → operation_at t ops ≡ Some w → w.deed ≡ a → fired_op s (model.posted_at t s.pending) ≡ done (record s { pending = posted_all deed_in (without_number t ops) }) a.deed
+fired-at : (s : State) (t : ℕ) (ops : Ops) (a : PostedOp) (w : Op) → s.pending ≡ posted_all deed_in ops → operation_at t ops ≡ Some w → w.deed ≡ a → fired_op s (model.posted_at t s.pending) ≡ done (record s { pending = posted_all deed_in (without_number t ops) }) a.deed
 fired-at s t ops a w is at same =
     let found : model.posted_at t s.pending ≡ Some (posted deed_in w) = rw (is, find-posted t ops.waiting, at) refl in
     let number : w.number ≡ t = find-number t ops.waiting w at in
     let rest : model.without_number w.number s.pending ≡ posted_all deed_in (without_number t ops) = rw (number, is) (sym (posted-without t ops)) in
     rw (found, rest, same) refl
 
-pub fired-is : (s : State) (t : ℕ) (ops : Ops) (a : Armed) → s.pending ≡ posted_all deed_in ops → option_map deed_of (operation_at t ops) ≡ Some a → fired s t ≡ done (record s { pending = posted_all deed_in (without_number t ops) }) a.deed
+pub fired-is : (s : State) (t : ℕ) (ops : Ops) (a : PostedOp) → s.pending ≡ posted_all deed_in ops → option_map deed_of (operation_at t ops) ≡ Some a → fired s t ≡ done (record s { pending = posted_all deed_in (without_number t ops) }) a.deed
 unfolding fired
 fired-is s t ops a is e =
     let w = taken t (operation_at t ops) a e in fired-at s t ops a w.0 is w.1 w.2
 
 -- ---- what its deed does
 
-pub done-start : (s : State) (d : Deed) → is_start d ≡ true → done s d ≡ fires (with_home (started s.rank (home_of s) d).home s) (started s.rank (home_of s) d).message
+pub done-start : (s : State) (d : TriggeredOp) → is_start d ≡ true → done s d ≡ fires (with_home (started s.rank (home_of s) d).home s) (started s.rank (home_of s) d).message
 done-start s (Put a) is = refl
 done-start s (Get g) is = refl
 done-start s (Atomic a op ty) is = refl
@@ -133,7 +133,7 @@ done-start s (Swap g a op ty operand) is = refl
 done-start s (Inc ct by) is = cc
 done-start s (Set ct to) is = cc
 
-pub done-count : (s : State) (d : Deed) → is_start d ≡ false → done s d ≡ fires (record s { cts = deed_counts d s.cts }) None
+pub done-count : (s : State) (d : TriggeredOp) → is_start d ≡ false → done s d ≡ fires (record s { cts = deed_counts d s.cts }) None
 done-count s (Put a) is = cc
 done-count s (Get g) is = cc
 done-count s (Atomic a op ty) is = cc
@@ -144,10 +144,10 @@ done-count s (Set ct to) is = refl
 
 -- ---- an operation more
 
-pub post-told : (ct : Handle) (c : Count) (cts : Table Count) (ops : Ops) (a : Armed) (threshold : ℕ) → lookup ct cts.live ≡ Some c → All (IsTold cts) ops.waiting → All (IsTold cts) (with_posted a ct threshold (total c) (told ct (total c) ops)).waiting
+pub post-told : (ct : Handle) (c : Count) (cts : Table Count) (ops : Ops) (a : PostedOp) (threshold : ℕ) → lookup ct cts.live ≡ Some c → All (IsTold cts) ops.waiting → All (IsTold cts) (with_posted a ct threshold (total c) (told ct (total c) ops)).waiting
 post-told ct c cts ops a threshold now all =
     All-push (IsTold cts) (told ct (total c) ops).waiting _ (told-again ct c cts ops now all) (ap (option_map (λ x. nat_le threshold (total x))) now)
 
 -- whether it is due is forgotten
-pub posted-new : (a : Armed) (ct : Handle) (threshold sum : ℕ) (ops left : Ops) → left ≡ with_posted a ct threshold sum (told ct sum ops) → posted_all deed_in left ≡ model.with_posted a.deed ct threshold (posted_all deed_in ops)
+pub posted-new : (a : PostedOp) (ct : Handle) (threshold sum : ℕ) (ops left : Ops) → left ≡ with_posted a ct threshold sum (told ct sum ops) → posted_all deed_in left ≡ model.with_posted a.deed ct threshold (posted_all deed_in ops)
 posted-new a ct threshold sum ops left made = ap (posted_all deed_in) made ∙ posted-push a ct threshold sum (told ct sum ops) ∙ ap (model.with_posted a.deed ct threshold) (posted-tells ct sum ops)

@@ -4,8 +4,8 @@ use Rattle.std.specs.Prelude.{All}
 use Rattle.std.proofs.lemmas.List.Elements.{All-head, All-tail, All-cons, All-nil}
 use Rattle.ptl_types.specs.declared.handles.Handle.{Handle}
 use Rattle.ptl_types.specs.declared.handles.Count.{Count}
-use Rattle.ptl_types.specs.declared.calls.Deed.{Deed}
-use Rattle.ptl_types.specs.declared.calls.Deed.TheVariants.{Put, Get, Atomic, FetchAtomic, Swap, Inc, Set}
+use Rattle.ptl_types.specs.declared.calls.TriggeredOp.{TriggeredOp}
+use Rattle.ptl_types.specs.declared.calls.TriggeredOp.TheVariants.{Put, Get, Atomic, FetchAtomic, Swap, Inc, Set}
 use Rattle.ptl_types.specs.Handles.{same_handle}
 use Rattle.ni_model.specs.declared.Bound.{Bound}
 use Rattle.ni_model.specs.declared.Linked.{Linked}
@@ -59,7 +59,7 @@ bounds-without ct cts eqs (x ∷ xs) apart all =
     let live = All-head (BoundIsLive cts eqs) x xs all in
     All-cons (BoundIsLive (without ct cts) eqs) x xs (none-without x.value.md.ct ct cts other.0 live.0, live.1) (bounds-without ct cts eqs xs other.1 (All-tail (BoundIsLive cts eqs) x xs all))
 
-deed-without : (d : Deed) (ct : Handle) (cts : Table Count) → deed_names_ct ct d ≡ false → counts_on_live d cts ≡ true → counts_on_live d (without ct cts) ≡ true
+deed-without : (d : TriggeredOp) (ct : Handle) (cts : Table Count) → deed_names_ct ct d ≡ false → counts_on_live d cts ≡ true → counts_on_live d (without ct cts) ≡ true
 deed-without (Put a) ct cts apart is = refl
 deed-without (Get g) ct cts apart is = refl
 deed-without (Atomic a op ty) ct cts apart is = refl

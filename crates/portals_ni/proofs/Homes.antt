@@ -10,8 +10,8 @@ use Rattle.ptl_types.specs.declared.headers.MessageKind.{MessageKind}
 use Rattle.ptl_types.specs.declared.headers.MessageKind.TheVariants.{Reply}
 use Rattle.ptl_types.specs.declared.calls.PutArgs.{PutArgs}
 use Rattle.ptl_types.specs.declared.calls.GetArgs.{GetArgs}
-use Rattle.ptl_types.specs.declared.calls.Deed.{Deed}
-use Rattle.ptl_types.specs.declared.calls.Deed.TheVariants.{Put, Get, Atomic, FetchAtomic, Swap, Inc, Set}
+use Rattle.ptl_types.specs.declared.calls.TriggeredOp.{TriggeredOp}
+use Rattle.ptl_types.specs.declared.calls.TriggeredOp.TheVariants.{Put, Get, Atomic, FetchAtomic, Swap, Inc, Set}
 use Rattle.ptl_types.specs.Handles.{same_handle}
 use Rattle.ptl_types.specs.Elements.{written}
 use Rattle.ptl_types.specs.Messages.{Sent, bytes_due}
@@ -86,7 +86,7 @@ holds-without h mds = λ k at n apart holds. rw (lookup-without k h mds.live apa
 
 -- ---- what a deed names
 
-abbrev pub deed_skips : (Handle → Bool) → Deed → Bool
+abbrev pub deed_skips : (Handle → Bool) → TriggeredOp → Bool
 deed_skips skips (Put a) = skips a.md
 deed_skips skips (Get g) = skips g.md
 deed_skips skips (Atomic a op ty) = skips a.md
@@ -94,7 +94,7 @@ deed_skips skips (FetchAtomic g a op ty) = skips g.md || skips a.md
 deed_skips skips (Swap g a op ty operand) = skips g.md || skips a.md
 deed_skips skips _ = false
 
-pub skips-none : (d : Deed) → deed_skips skips_none d ≡ false
+pub skips-none : (d : TriggeredOp) → deed_skips skips_none d ≡ false
 skips-none (Put a) = refl
 skips-none (Get g) = refl
 skips-none (Atomic a op ty) = refl
@@ -103,7 +103,7 @@ skips-none (Swap g a op ty operand) = refl
 skips-none (Inc ct by) = refl
 skips-none (Set ct to) = refl
 
-pub skips-md : (md : Handle) (d : Deed) → deed_names_md md d ≡ deed_skips (λ k. same_handle k md) d
+pub skips-md : (md : Handle) (d : TriggeredOp) → deed_names_md md d ≡ deed_skips (λ k. same_handle k md) d
 skips-md md (Put a) = refl
 skips-md md (Get g) = refl
 skips-md md (Atomic a op ty) = refl
@@ -131,7 +131,7 @@ fetch-on skips old new g a holds apart fits =
     let fits_of = both (get_fits g old) (put_fits a old) fits in
     and-both (get_fits g new) (put_fits a new) (holds g.md g.local_offset g.length apart_of.0 fits_of.0) (holds a.md a.local_offset a.length apart_of.1 fits_of.1)
 
-pub fits-on : (skips : Handle → Bool) (old new : Table Bound) (d : Deed) → HoldsOn skips old new → deed_skips skips d ≡ false → deed_fits d old ≡ true → deed_fits d new ≡ true
+pub fits-on : (skips : Handle → Bool) (old new : Table Bound) (d : TriggeredOp) → HoldsOn skips old new → deed_skips skips d ≡ false → deed_fits d old ≡ true → deed_fits d new ≡ true
 fits-on skips old new (Put a) holds apart fits = holds a.md a.local_offset a.length apart fits
 fits-on skips old new (Get g) holds apart fits = holds g.md g.local_offset g.length apart fits
 fits-on skips old new (Atomic a op ty) holds apart fits = holds a.md a.local_offset a.length apart fits
@@ -150,7 +150,7 @@ get-live g mds fits = held-some (lookup g.md mds.live) g.local_offset g.length f
 fetch-live : (g : GetArgs) (a : PutArgs) (mds : Table Bound) → get_fits g mds && put_fits a mds ≡ true → is_live g.md mds && is_live a.md mds ≡ true
 fetch-live g a mds fits = let f = both (get_fits g mds) (put_fits a mds) fits in and-both (is_live g.md mds) (is_live a.md mds) (get-live g mds f.0) (put-live a mds f.1)
 
-fits-live : (d : Deed) (mds : Table Bound) → deed_fits d mds ≡ true → deed_is_live d mds ≡ true
+fits-live : (d : TriggeredOp) (mds : Table Bound) → deed_fits d mds ≡ true → deed_is_live d mds ≡ true
 fits-live (Put a) mds fits = put-live a mds fits
 fits-live (Get g) mds fits = get-live g mds fits
 fits-live (Atomic a op ty) mds fits = put-live a mds fits
@@ -159,7 +159,7 @@ fits-live (Swap g a op ty operand) mds fits = fetch-live g a mds fits
 fits-live (Inc ct by) mds fits = refl
 fits-live (Set ct to) mds fits = refl
 
-pub fits-unrefused : (d : Deed) (mds : Table Bound) → deed_fits d mds ≡ true → deed_fault d mds ≡ None
+pub fits-unrefused : (d : TriggeredOp) (mds : Table Bound) → deed_fits d mds ≡ true → deed_fault d mds ≡ None
 fits-unrefused d mds fits = rw (fits-live d mds fits, fits) refl
 
 -- ---- starts and answers
@@ -197,7 +197,7 @@ less-holds : (h : Option Handle) (mds : Table Bound) → HoldsOn skips_none mds 
 less-holds None mds = λ k at n apart holds. holds
 less-holds (Some h) mds = holds-changed h one_less mds keeps-less
 
-by-keeps : (p : Home) (d : Deed) (o : Option Header) → AreBoundIn (length p.region) p.mds → KeepsHome p (started_by p d o).home (started_by p d o).counted
+by-keeps : (p : Home) (d : TriggeredOp) (o : Option Header) → AreBoundIn (length p.region) p.mds → KeepsHome p (started_by p d o).home (started_by p d o).counted
 by-keeps p d None all = same-home p None all
 by-keeps p d (Some h) all = record {
   size = refl;
@@ -206,7 +206,7 @@ by-keeps p d (Some h) all = record {
   counts = changes-counted (send_counter (bound_at (counted_on d) p.mds)) (successes 1) p.cts;
 }
 
-pub started-keeps : (rank : ℕ) (p : Home) (d : Deed) → AreBoundIn (length p.region) p.mds → KeepsHome p (started rank p d).home (started rank p d).counted
+pub started-keeps : (rank : ℕ) (p : Home) (d : TriggeredOp) → AreBoundIn (length p.region) p.mds → KeepsHome p (started rank p d).home (started rank p d).counted
 unfolding started
 started-keeps rank p d all = by-keeps p d (header_of rank d) all
 

@@ -3,7 +3,7 @@ use Rattle.std.proofs.Common.{◌≡◌, ◌<◌, ℕ, List, subst}
 use Rattle.std.proofs.lemmas.List.Elements.{All-map, All-weaker}
 use Rattle.ptl_types.specs.declared.handles.Count.{Count}
 use Rattle.ptl_types.specs.declared.calls.Limits.{Limits}
-use Rattle.ptl_types.specs.declared.calls.Deed.{Deed}
+use Rattle.ptl_types.specs.declared.calls.TriggeredOp.{TriggeredOp}
 use Rattle.ni_model.specs.Tables.{Table}
 use Rattle.ni_model.specs.Queues.{Waiting}
 use Rattle.ni_model.specs.Arrive.{Side}
@@ -18,7 +18,7 @@ use Rattle.portals_ni.specs.Sound.{IsArmed, IsWhole, state_of}
 use Rattle.portals_ni.proofs.Firing.{Op, Ops, length-posted}
 
 -- the limit of entries is the target's
-may-start : (d : Deed) (ranks n : ℕ) (l : Limits) → l.entries ≡ n → MayStart d ranks l → MayStart d ranks (record l { entries = n })
+may-start : (d : TriggeredOp) (ranks n : ℕ) (l : Limits) → l.entries ≡ n → MayStart d ranks l → MayStart d ranks (record l { entries = n })
 may-start d ranks n l e may = let P : ℕ → Type 0 = λ x. MayStart d ranks (record l { entries = x }) in subst P e may
 
 pub lasts : (t : Side) (r : List ℕ) (c : Table Count) (e : Table Waiting) (i : Initiating) (ops : Ops) (d v : ℕ) → IsWhole t r c e i ops d v → IsKept ops → Lasts (state_of t r c e i ops d v)

@@ -10,7 +10,7 @@ use Rattle.ptl_types.specs.declared.entries.List.{List as EntryList}
 use Rattle.ptl_types.specs.declared.entries.List.TheVariants.{Priority, Overflow}
 use Rattle.ptl_types.specs.declared.events.EventKind.TheVariants.{Search}
 use Rattle.ptl_types.specs.declared.calls.Limits.{Limits}
-use Rattle.ptl_types.specs.declared.calls.Deed.{Deed}
+use Rattle.ptl_types.specs.declared.calls.TriggeredOp.{TriggeredOp}
 use Rattle.ptl_types.specs.declared.calls.Outcome.TheVariants.{Dropped, Violation}
 use Rattle.ptl_types.specs.declared.handles.Count.{Count}
 use Rattle.ptl_types.specs.Handles.{same_handle}
@@ -299,7 +299,7 @@ less-limit : (h : Option Handle) (mds : Table Bound) → (awaits_less h mds).lim
 less-limit None mds = refl
 less-limit (Some h) mds = refl
 
-by-lead : (p : Home) (d : Deed) (o : Option Header) → HomeLead p (started_by p d o).home
+by-lead : (p : Home) (d : TriggeredOp) (o : Option Header) → HomeLead p (started_by p d o).home
 by-lead p d None = same-home p
 by-lead p d (Some h) =
     let q : Home = (started_by p d (Some h)).home in
@@ -310,7 +310,7 @@ by-lead p d (Some h) =
       bounds_live = more-bounds q.cts q.eqs h.home p.mds;
     }
 
-pub started-lead : (rank : ℕ) (p : Home) (d : Deed) → HomeLead p (started rank p d).home
+pub started-lead : (rank : ℕ) (p : Home) (d : TriggeredOp) → HomeLead p (started rank p d).home
 unfolding started
 started-lead rank p d = by-lead p d (header_of rank d)
 

@@ -13,7 +13,7 @@ use Rattle.ni_model.specs.Ready.{is_ready_op, message_target, target_of}
 use Rattle.ni_model.specs.Tables.{Table}
 use Rattle.triggered_ops.specs.Operations.{is_number, is_due, is_due_op, due_numbers, shown, posted, posted_all}
 use Rattle.triggered_ops.proofs.Rising.{Rises, pairs-head, pairs-tail}
-use Rattle.portals_ni.specs.declared.armed.Armed.{Armed}
+use Rattle.portals_ni.specs.declared.armed.PostedOp.{PostedOp}
 use Rattle.portals_ni.specs.Pendings.{deed_in}
 use Rattle.portals_ni.specs.Sound.{IsTold}
 use Rattle.portals_ni.proofs.Firing.{Op, Ops, find-posted, ready-is}
@@ -80,12 +80,12 @@ module _ {A : Type 0} where
   counted-on f (y ∷ ys) (suc i) x is = counted-on f ys i x is
 
 -- what is found of a number is what is posted under it
-pub target-found : (t : ℕ) (ops : Ops) (a : Armed) (ct : Handle) (threshold : ℕ) → option_map shown (find (is_number t) ops.waiting) ≡ Some (a, ct, threshold) → target_of (model.posted_at t (posted_all deed_in ops)) ≡ message_target a.deed
+pub target-found : (t : ℕ) (ops : Ops) (a : PostedOp) (ct : Handle) (threshold : ℕ) → option_map shown (find (is_number t) ops.waiting) ≡ Some (a, ct, threshold) → target_of (model.posted_at t (posted_all deed_in ops)) ≡ message_target a.deed
 target-found t ops a ct threshold is = rw (find-posted t ops.waiting) (split (find (is_number t) ops.waiting) is)
   where
     split : (o : Option Op) → option_map shown o ≡ Some (a, ct, threshold) → target_of (option_map (posted deed_in) o) ≡ message_target a.deed
     split None e = cc
-    split (Some w) e = let all : shown w ≡ (a, ct, threshold) = cc in let same : w.deed ≡ a = ap (λ (p : Armed × Handle × ℕ). p.0) all in rw same refl
+    split (Some w) e = let all : shown w ≡ (a, ct, threshold) = cc in let same : w.deed ≡ a = ap (λ (p : PostedOp × Handle × ℕ). p.0) all in rw same refl
 
 pub target-none : (t : ℕ) (ops : Ops) → find (is_number t) ops.waiting ≡ None → target_of (model.posted_at t (posted_all deed_in ops)) ≡ None
 target-none t ops is = rw (find-posted t ops.waiting, is) refl

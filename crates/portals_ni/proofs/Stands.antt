@@ -10,8 +10,8 @@ use Rattle.ptl_types.specs.declared.entries.Entry.{Entry}
 use Rattle.ptl_types.specs.declared.entries.Descriptor.{Descriptor}
 use Rattle.ptl_types.specs.declared.entries.List.{List as EntryList}
 use Rattle.ptl_types.specs.declared.calls.NiFault.{NiFault}
-use Rattle.ptl_types.specs.declared.calls.Deed.{Deed}
-use Rattle.ptl_types.specs.declared.calls.Deed.TheVariants.{Put, Get, Atomic, FetchAtomic, Swap, Inc, Set}
+use Rattle.ptl_types.specs.declared.calls.TriggeredOp.{TriggeredOp}
+use Rattle.ptl_types.specs.declared.calls.TriggeredOp.TheVariants.{Put, Get, Atomic, FetchAtomic, Swap, Inc, Set}
 use Rattle.ptl_types.specs.declared.calls.Delivered.{Delivered}
 use Rattle.ptl_types.specs.declared.calls.Outcome.{Outcome}
 use Rattle.ptl_types.specs.Handles.{same_handle, top}
@@ -266,12 +266,12 @@ eq_get-stands eq s is = at-stands eq s (lookup eq s.eqs.live) is
 
 -- ---- starts and triggered operations
 
-pub start-stands : (d : Deed) (s : State) → Stands s → Stands (start d s).state
+pub start-stands : (d : TriggeredOp) (s : State) → Stands s → Stands (start d s).state
 start-stands d s is =
     call-stands _ s (with_home (started s.rank (home_of s) d).home s) (started s.rank (home_of s) d).message is
     (λ none. home-lead s (started s.rank (home_of s) d).home (started-lead s.rank (home_of s) d))
 
-pub triggered-stands : (d : Deed) (ct : Handle) (threshold : ℕ) (s : State) → Stands s → Stands (triggered d ct threshold s).state
+pub triggered-stands : (d : TriggeredOp) (ct : Handle) (threshold : ℕ) (s : State) → Stands s → Stands (triggered d ct threshold s).state
 triggered-stands d ct threshold s is =
     call-stands _ s (with_operation d ct threshold s) s.pending.given is (λ none.
     let counts : Bool = counts_on_live d s.cts && deed_is_live d s.mds in
@@ -284,10 +284,10 @@ fewer-stands t s is =
     (operations-lead s (without_number t s.pending) refl (λ all. All-filter (λ p. not (is_number t p)) (OperationIsLive s.cts) s.pending.waiting all))
     is
 
-sends-stands : (s : State) (d : Deed) → Stands s → Stands (with_home (started s.rank (home_of s) d).home s)
+sends-stands : (s : State) (d : TriggeredOp) → Stands s → Stands (with_home (started s.rank (home_of s) d).home s)
 sends-stands s d is = leads-stands s (with_home (started s.rank (home_of s) d).home s) (home-lead s (started s.rank (home_of s) d).home (started-lead s.rank (home_of s) d)) is
 
-pub done-stands : (s : State) (d : Deed) → deed_passes d ≡ false → Stands s → Stands (done s d).state
+pub done-stands : (s : State) (d : TriggeredOp) → deed_passes d ≡ false → Stands s → Stands (done s d).state
 done-stands s (Put a) fits is = sends-stands s (Put a) is
 done-stands s (Get g) fits is = sends-stands s (Get g) is
 done-stands s (Atomic a op ty) fits is = sends-stands s (Atomic a op ty) is

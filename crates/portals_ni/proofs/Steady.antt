@@ -7,8 +7,8 @@ use Rattle.ptl_types.specs.declared.handles.Handle.{Handle}
 use Rattle.ptl_types.specs.declared.handles.Count.{Count}
 use Rattle.ptl_types.specs.declared.events.Event.{Event}
 use Rattle.ptl_types.specs.declared.events.EventKind.{EventKind}
-use Rattle.ptl_types.specs.declared.calls.Deed.{Deed}
-use Rattle.ptl_types.specs.declared.calls.Deed.TheVariants.{Put, Get, Atomic, FetchAtomic, Swap, Inc, Set}
+use Rattle.ptl_types.specs.declared.calls.TriggeredOp.{TriggeredOp}
+use Rattle.ptl_types.specs.declared.calls.TriggeredOp.TheVariants.{Put, Get, Atomic, FetchAtomic, Swap, Inc, Set}
 use Rattle.ptl_types.specs.Handles.{same_handle, top}
 use Rattle.ni_model.specs.declared.Bound.{Bound}
 use Rattle.ni_model.specs.declared.IndexedHeader.{IndexedHeader}
@@ -151,7 +151,7 @@ queues-on old new is grows all = All-weaker (QueueIsLive old) (QueueIsLive new) 
 pub bounds-on : (c d : Table Count) (e f : Table Waiting) (xs : List (Live Bound)) → Grows c d → Grows e f → All (BoundIsLive c e) xs → All (BoundIsLive d f) xs
 bounds-on c d e f xs cts eqs all = All-weaker (BoundIsLive c e) (BoundIsLive d f) (λ x live. (grows-or-none x.value.md.ct c d cts live.0, grows-or-none x.value.md.eq e f eqs live.1)) xs all
 
-deed-on : (d : Deed) (old new : Table Count) → Grows old new → counts_on_live d old ≡ true → counts_on_live d new ≡ true
+deed-on : (d : TriggeredOp) (old new : Table Count) → Grows old new → counts_on_live d old ≡ true → counts_on_live d new ≡ true
 deed-on (Put a) old new grows is = refl
 deed-on (Get g) old new grows is = refl
 deed-on (Atomic a op ty) old new grows is = refl

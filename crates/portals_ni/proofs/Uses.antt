@@ -8,8 +8,8 @@ use Rattle.std.proofs.lemmas.List.Filters.{length-filter_both}
 use Rattle.std.proofs.lemmas.List.Kept.{AllPairs-filter}
 use Rattle.std.proofs.lemmas.List.Sums.{sum_by-cons, sum_by-append}
 use Rattle.ptl_types.specs.declared.handles.Handle.{Handle}
-use Rattle.ptl_types.specs.declared.calls.Deed.{Deed}
-use Rattle.ptl_types.specs.declared.calls.Deed.TheVariants.{Put, Get, Atomic, FetchAtomic, Swap, Inc, Set}
+use Rattle.ptl_types.specs.declared.calls.TriggeredOp.{TriggeredOp}
+use Rattle.ptl_types.specs.declared.calls.TriggeredOp.TheVariants.{Put, Get, Atomic, FetchAtomic, Swap, Inc, Set}
 use Rattle.ptl_types.specs.Handles.{same_handle}
 use Rattle.ni_model.specs.Tables.{names}
 use Rattle.ni_model.specs.Refusals.{deed_names_ct, deed_names_md, operation_names_ct, operation_names_md}
@@ -18,13 +18,13 @@ use Rattle.triggered_ops.proofs.Rising.{Rises, pairs-head, pairs-tail, length-fi
 use Rattle.triggered_ops.proofs.Found.{find-behind}
 use Rattle.ni_objects.specs.users.Rows.{one_if_slot, one_at, count_at, incremented, decremented, more, fewer, Counts}
 use Rattle.ni_objects.proofs.users.RowLemmas.{counts-same, counts-none, counts-incremented, counts-decremented, counts-more, counts-fewer, counts-few, add-room, one-few, names-step}
-use Rattle.portals_ni.specs.declared.armed.Armed.{Armed}
+use Rattle.portals_ni.specs.declared.armed.PostedOp.{PostedOp}
 use Rattle.portals_ni.specs.Answers.{deed_counter}
 use Rattle.portals_ni.specs.Pendings.{deed_in}
 use Rattle.portals_ni.specs.Uses.{put_md, get_md, ct_uses, md_uses, AreUsed, cts_with, mds_with, cts_without, mds_without, CtsAlone, MdsAlone}
 
 abbrev Op : Type 0
-Op = Operation Armed
+Op = Operation PostedOp
 
 -- ---- sums over operations
 
@@ -71,63 +71,63 @@ used-none limit a b = record {
   descriptors = counts-none (λ k. 0) b (λ k. refl);
 }
 
-pub used-told : (test : Op → Bool) (sum : ℕ) (ops : Operations Armed) (cts mds : List ℕ) → AreUsed ops cts mds → AreUsed (told_where test sum ops) cts mds
+pub used-told : (test : Op → Bool) (sum : ℕ) (ops : Operations PostedOp) (cts mds : List ℕ) → AreUsed ops cts mds → AreUsed (told_where test sum ops) cts mds
 used-told test sum ops cts mds u = record {
   counters = counts-same (λ k. sum_by (ct_uses k) ops.waiting) (λ k. sum_by (ct_uses k) (map (told_if test sum) ops.waiting)) cts u.counters (λ k. uses-mapped (ct_uses k) (told_if test sum) ops.waiting (λ w. refl));
   descriptors = counts-same (λ k. sum_by (md_uses k) ops.waiting) (λ k. sum_by (md_uses k) (map (told_if test sum) ops.waiting)) mds u.descriptors (λ k. uses-mapped (md_uses k) (told_if test sum) ops.waiting (λ w. refl));
 }
 
 module _ (f g : ℕ → ℕ) (row : List ℕ) (c : Counts f row) where
-  cts-come : (ct : Handle) (d : Deed) → ((k : ℕ) → g k ≡ f k + (one_if_slot ct.slot k + one_at (deed_counter d) k)) → Counts g (cts_with ct d row)
+  cts-come : (ct : Handle) (d : TriggeredOp) → ((k : ℕ) → g k ≡ f k + (one_if_slot ct.slot k + one_at (deed_counter d) k)) → Counts g (cts_with ct d row)
   cts-come ct d up =
       let first = λ (k : ℕ). f k + one_if_slot ct.slot k in
       counts-more first g (incremented ct.slot row) (counts-incremented f first row c ct.slot (λ k. refl)) (deed_counter d) (λ k. omega (arith, up k))
 
-  cts-go : (ct : Handle) (d : Deed) → ((k : ℕ) → f k ≡ g k + (one_if_slot ct.slot k + one_at (deed_counter d) k)) → Counts g (cts_without ct d row)
+  cts-go : (ct : Handle) (d : TriggeredOp) → ((k : ℕ) → f k ≡ g k + (one_if_slot ct.slot k + one_at (deed_counter d) k)) → Counts g (cts_without ct d row)
   cts-go ct d down =
       let first = λ (k : ℕ). g k + one_at (deed_counter d) k in
       counts-fewer first g (decremented ct.slot row) (counts-decremented f first row c ct.slot (λ k. omega (arith, down k))) (deed_counter d) (λ k. refl)
 
-  mds-come : (d : Deed) → ((k : ℕ) → g k ≡ f k + (one_at (get_md d) k + one_at (put_md d) k)) → Counts g (mds_with d row)
+  mds-come : (d : TriggeredOp) → ((k : ℕ) → g k ≡ f k + (one_at (get_md d) k + one_at (put_md d) k)) → Counts g (mds_with d row)
   mds-come d up =
       let first = λ (k : ℕ). f k + one_at (get_md d) k in
       counts-more first g (more (get_md d) row) (counts-more f first row c (get_md d) (λ k. refl)) (put_md d) (λ k. omega (arith, up k))
 
-  mds-go : (d : Deed) → ((k : ℕ) → f k ≡ g k + (one_at (get_md d) k + one_at (put_md d) k)) → Counts g (mds_without d row)
+  mds-go : (d : TriggeredOp) → ((k : ℕ) → f k ≡ g k + (one_at (get_md d) k + one_at (put_md d) k)) → Counts g (mds_without d row)
   mds-go d down =
       let first = λ (k : ℕ). g k + one_at (put_md d) k in
       counts-fewer first g (fewer (get_md d) row) (counts-fewer f first row c (get_md d) (λ k. omega (arith, down k))) (put_md d) (λ k. refl)
 
-pub used-posted : (ops new : Operations Armed) (w : Op) (cts mds : List ℕ) → AreUsed ops cts mds → new.waiting ≡ ops.waiting ++ w ∷ [] → AreUsed new (cts_with w.ct w.deed.deed cts) (mds_with w.deed.deed mds)
+pub used-posted : (ops new : Operations PostedOp) (w : Op) (cts mds : List ℕ) → AreUsed ops cts mds → new.waiting ≡ ops.waiting ++ w ∷ [] → AreUsed new (cts_with w.ct w.deed.deed cts) (mds_with w.deed.deed mds)
 used-posted ops new w cts mds u e = record {
   counters = cts-come (λ k. sum_by (ct_uses k) ops.waiting) (λ k. sum_by (ct_uses k) new.waiting) cts u.counters w.ct w.deed.deed (λ k. ap (sum_by (ct_uses k)) e ∙ uses-push (ct_uses k) ops.waiting w);
   descriptors = mds-come (λ k. sum_by (md_uses k) ops.waiting) (λ k. sum_by (md_uses k) new.waiting) mds u.descriptors w.deed.deed (λ k. ap (sum_by (md_uses k)) e ∙ uses-push (md_uses k) ops.waiting w);
 }
 
-pub used-taken : (ops : Operations Armed) (t : ℕ) (w : Op) (cts mds : List ℕ) → AreUsed ops cts mds → AllPairs Rises ops.waiting → operation_at t ops ≡ Some w → AreUsed (without_number t ops) (cts_without w.ct w.deed.deed cts) (mds_without w.deed.deed mds)
+pub used-taken : (ops : Operations PostedOp) (t : ℕ) (w : Op) (cts mds : List ℕ) → AreUsed ops cts mds → AllPairs Rises ops.waiting → operation_at t ops ≡ Some w → AreUsed (without_number t ops) (cts_without w.ct w.deed.deed cts) (mds_without w.deed.deed mds)
 used-taken ops t w cts mds u all at = record {
   counters = cts-go (λ k. sum_by (ct_uses k) ops.waiting) (λ k. sum_by (ct_uses k) (without_number t ops).waiting) cts u.counters w.ct w.deed.deed (λ k. uses-without (ct_uses k) t ops.waiting w all at);
   descriptors = mds-go (λ k. sum_by (md_uses k) ops.waiting) (λ k. sum_by (md_uses k) (without_number t ops).waiting) mds u.descriptors w.deed.deed (λ k. uses-without (md_uses k) t ops.waiting w all at);
 }
 
 -- by what was shown of it, and the deed that was taken
-taken-op : (o : Option Op) (b a : Armed) (h : Handle) (th : ℕ) → option_map shown o ≡ Some (b, h, th) → option_map deed_of o ≡ Some a → (w : Op) × (o ≡ Some w) × (w.ct ≡ h) × (w.deed ≡ a)
+taken-op : (o : Option Op) (b a : PostedOp) (h : Handle) (th : ℕ) → option_map shown o ≡ Some (b, h, th) → option_map deed_of o ≡ Some a → (w : Op) × (o ≡ Some w) × (w.ct ≡ h) × (w.deed ≡ a)
 taken-op None b a h th e f = cc
 taken-op (Some w) b a h th e f =
     let same : shown w ≡ (b, h, th) = cc in
     let deed : w.deed ≡ a = cc in
-    (w, refl, ap (λ (s : Armed × Handle × ℕ). s.1) same, deed)
+    (w, refl, ap (λ (s : PostedOp × Handle × ℕ). s.1) same, deed)
 
-pub used-gone : (ops : Operations Armed) (t : ℕ) (b a : Armed) (h : Handle) (th : ℕ) (cts mds : List ℕ) → AreUsed ops cts mds → AllPairs Rises ops.waiting → option_map shown (operation_at t ops) ≡ Some (b, h, th) → option_map deed_of (operation_at t ops) ≡ Some a
+pub used-gone : (ops : Operations PostedOp) (t : ℕ) (b a : PostedOp) (h : Handle) (th : ℕ) (cts mds : List ℕ) → AreUsed ops cts mds → AllPairs Rises ops.waiting → option_map shown (operation_at t ops) ≡ Some (b, h, th) → option_map deed_of (operation_at t ops) ≡ Some a
     → AreUsed (without_number t ops) (cts_without h a.deed cts) (mds_without a.deed mds)
 used-gone ops t b a h th cts mds u all e f =
     let w = taken-op (operation_at t ops) b a h th e f in
     let k = used-taken ops t w.0 cts mds u all w.1 in
-    subst (λ (x : Armed). AreUsed (without_number t ops) (cts_without h x.deed cts) (mds_without x.deed mds)) w.3
+    subst (λ (x : PostedOp). AreUsed (without_number t ops) (cts_without h x.deed cts) (mds_without x.deed mds)) w.3
     (subst (λ (x : Handle). AreUsed (without_number t ops) (cts_without x w.0.deed.deed cts) (mds_without w.0.deed.deed mds)) w.2 k)
 
 -- one that was shown can be taken
-pub shown-taken : (o : Option Op) (b : Armed) (h : Handle) (th : ℕ) (r : Option Armed) → option_map shown o ≡ Some (b, h, th) → r ≡ option_map deed_of o → r ≡ None → ⊥
+pub shown-taken : (o : Option Op) (b : PostedOp) (h : Handle) (th : ℕ) (r : Option PostedOp) → option_map shown o ≡ Some (b, h, th) → r ≡ option_map deed_of o → r ≡ None → ⊥
 shown-taken None b h th r e f none = cc
 shown-taken (Some w) b h th r e f none = cc
 
@@ -146,7 +146,7 @@ some-waits : (ct : Handle) (o : Option Op) → option_map (waits_on ct) o ≡ So
 some-waits ct None e = cc
 some-waits ct (Some w) e = let waits : waits_on ct w ≡ true = cc in (w, refl, waits)
 
-pub fewer-wait : (ct : Handle) (t : ℕ) (ops : Operations Armed) → option_map (waits_on ct) (operation_at t ops) ≡ Some true → length (without_number t ops).waiting < length ops.waiting
+pub fewer-wait : (ct : Handle) (t : ℕ) (ops : Operations PostedOp) → option_map (waits_on ct) (operation_at t ops) ≡ Some true → length (without_number t ops).waiting < length ops.waiting
 fewer-wait ct t ops e = let w = some-waits ct (operation_at t ops) e in less-left t ops.waiting w.0 w.1
 
 abbrev others : Handle → List Op → List Op
@@ -166,10 +166,10 @@ others-same ct t (x ∷ xs) all e =
           rw same refl
     ] refl e
 
-pub still-cancelled : (ct : Handle) (t : ℕ) (ops : Operations Armed) → AllPairs Rises ops.waiting → option_map (waits_on ct) (operation_at t ops) ≡ Some true → cancelled ct (without_number t ops) ≡ cancelled ct ops
+pub still-cancelled : (ct : Handle) (t : ℕ) (ops : Operations PostedOp) → AllPairs Rises ops.waiting → option_map (waits_on ct) (operation_at t ops) ≡ Some true → cancelled ct (without_number t ops) ≡ cancelled ct ops
 still-cancelled ct t ops all e = ap (λ (ws : List Op). record ops { waiting = ws }) (others-same ct t ops.waiting all e)
 
-pub still-rising : (t : ℕ) (ops : Operations Armed) → AllPairs Rises ops.waiting → AllPairs Rises (without_number t ops).waiting
+pub still-rising : (t : ℕ) (ops : Operations PostedOp) → AllPairs Rises ops.waiting → AllPairs Rises (without_number t ops).waiting
 still-rising t ops all = AllPairs-filter Rises (λ (p : Op). not (is_number t p)) ops.waiting all
 
 others-all : (ct : Handle) (ws : List Op) → filter (waits_on ct) ws ≡ [] → others ct ws ≡ ws
@@ -180,10 +180,10 @@ others-all ct (x ∷ xs) e =
       | false ↦ λ f. ap (λ (ws : List Op). x ∷ ws) (others-all ct xs f)
     ] e
 
-pub none-cancelled : (ct : Handle) (ops : Operations Armed) → waiting_on ct ops ≡ [] → cancelled ct ops ≡ ops
+pub none-cancelled : (ct : Handle) (ops : Operations PostedOp) → waiting_on ct ops ≡ [] → cancelled ct ops ≡ ops
 none-cancelled ct ops e = ap (λ (ws : List Op). record ops { waiting = ws }) (others-all ct ops.waiting e)
 
-pub length-parts : (ct : Handle) (ops : Operations Armed) → length (waiting_on ct ops) + length (cancelled ct ops).waiting ≡ length ops.waiting
+pub length-parts : (ct : Handle) (ops : Operations PostedOp) → length (waiting_on ct ops) + length (cancelled ct ops).waiting ≡ length ops.waiting
 length-parts ct ops = length-filter_both (waits_on ct) (λ p. not (waits_on ct p)) (λ _. refl) ops.waiting
 
 -- ---- there is room to count an operation more
@@ -194,21 +194,21 @@ ct-few k w = omega (arith, one-few (Some w.ct) k, one-few (deed_counter w.deed.d
 md-few : (k : ℕ) (w : Op) → md_uses k w ≤ 2
 md-few k w = omega (arith, one-few (get_md w.deed.deed) k, one-few (put_md w.deed.deed) k)
 
-pub room-raise : (ops : Operations Armed) (cts mds : List ℕ) (ct : Handle) → AreUsed ops cts mds → length ops.waiting < 2 ^ 32 → count_at ct.slot cts < 2 ^ 64 - 1
+pub room-raise : (ops : Operations PostedOp) (cts mds : List ℕ) (ct : Handle) → AreUsed ops cts mds → length ops.waiting < 2 ^ 32 → count_at ct.slot cts < 2 ^ 64 - 1
 room-raise ops cts mds ct u small =
     omega (arith, counts-few (λ k. sum_by (ct_uses k) ops.waiting) (2 * length ops.waiting) ct.slot cts u.counters (uses-few (ct_uses ct.slot) ops.waiting (ct-few ct.slot)))
 
-pub room-counter : (ops : Operations Armed) (cts mds : List ℕ) (ct : Handle) (o : Option Handle) → AreUsed ops cts mds → length ops.waiting < 2 ^ 32 → IfSome o (λ h. count_at h.slot (incremented ct.slot cts) < 2 ^ 64 - 1)
+pub room-counter : (ops : Operations PostedOp) (cts mds : List ℕ) (ct : Handle) (o : Option Handle) → AreUsed ops cts mds → length ops.waiting < 2 ^ 32 → IfSome o (λ h. count_at h.slot (incremented ct.slot cts) < 2 ^ 64 - 1)
 room-counter ops cts mds ct o u small =
     let first = λ (k : ℕ). sum_by (ct_uses k) ops.waiting + one_if_slot ct.slot k in
     add-room first (2 * length ops.waiting + 1) (incremented ct.slot cts) o (counts-incremented (λ k. sum_by (ct_uses k) ops.waiting) first cts u.counters ct.slot (λ k. refl))
     (λ k. omega (arith, uses-few (ct_uses k) ops.waiting (ct-few k), one-few (Some ct) k)) (omega arith)
 
-pub room-get : (ops : Operations Armed) (cts mds : List ℕ) (o : Option Handle) → AreUsed ops cts mds → length ops.waiting < 2 ^ 32 → IfSome o (λ h. count_at h.slot mds < 2 ^ 64 - 1)
+pub room-get : (ops : Operations PostedOp) (cts mds : List ℕ) (o : Option Handle) → AreUsed ops cts mds → length ops.waiting < 2 ^ 32 → IfSome o (λ h. count_at h.slot mds < 2 ^ 64 - 1)
 room-get ops cts mds o u small =
     add-room (λ k. sum_by (md_uses k) ops.waiting) (2 * length ops.waiting) mds o u.descriptors (λ k. uses-few (md_uses k) ops.waiting (md-few k)) (omega arith)
 
-pub room-put : (ops : Operations Armed) (cts mds : List ℕ) (p o : Option Handle) → AreUsed ops cts mds → length ops.waiting < 2 ^ 32 → IfSome o (λ h. count_at h.slot (more p mds) < 2 ^ 64 - 1)
+pub room-put : (ops : Operations PostedOp) (cts mds : List ℕ) (p o : Option Handle) → AreUsed ops cts mds → length ops.waiting < 2 ^ 32 → IfSome o (λ h. count_at h.slot (more p mds) < 2 ^ 64 - 1)
 room-put ops cts mds p o u small =
     let first = λ (k : ℕ). sum_by (md_uses k) ops.waiting + one_at p k in
     add-room first (2 * length ops.waiting + 1) (more p mds) o (counts-more (λ k. sum_by (md_uses k) ops.waiting) first mds u.descriptors p (λ k. refl))
@@ -216,7 +216,7 @@ room-put ops cts mds p o u small =
 
 -- ---- what is named is what is counted
 
-counter-named : (ct : Handle) (d : Deed) → deed_names_ct ct d ≡ names (deed_counter d) ct
+counter-named : (ct : Handle) (d : TriggeredOp) → deed_names_ct ct d ≡ names (deed_counter d) ct
 counter-named ct (Put a) = refl
 counter-named ct (Get g) = refl
 counter-named ct (Atomic a op ty) = refl
@@ -229,7 +229,7 @@ or-none : (a : Bool) → a ≡ (a || false)
 or-none true = refl
 or-none false = refl
 
-mds-named : (md : Handle) (d : Deed) → deed_names_md md d ≡ (names (get_md d) md || names (put_md d) md)
+mds-named : (md : Handle) (d : TriggeredOp) → deed_names_md md d ≡ (names (get_md d) md || names (put_md d) md)
 mds-named md (Put a) = refl
 mds-named md (Get g) = or-none (same_handle g.md md)
 mds-named md (Atomic a op ty) = refl
@@ -268,12 +268,12 @@ ops-name-md md (w ∷ ws) all =
     (names-step md (put_md w.deed.deed) rest n alone.1 (ops-name-md md ws (All-tail (MdsAlone md) w ws all)))
     ∙ ap (λ m. nat_lt 0 m) whole
 
-pub used-ct : (ct : Handle) (n : ℕ) (ops : Operations Armed) (cts mds : List ℕ) → AreUsed ops cts mds → slice_get cts ct.slot ≡ Some n → All (CtsAlone ct) ops.waiting → nat_lt 0 n ≡ operation_names_ct ct (posted_all deed_in ops).waiting
+pub used-ct : (ct : Handle) (n : ℕ) (ops : Operations PostedOp) (cts mds : List ℕ) → AreUsed ops cts mds → slice_get cts ct.slot ≡ Some n → All (CtsAlone ct) ops.waiting → nat_lt 0 n ≡ operation_names_ct ct (posted_all deed_in ops).waiting
 used-ct ct n ops cts mds u at all =
     let uses : n ≡ sum_by (ct_uses ct.slot) ops.waiting = sym (get_or_from_slice_get cts ct.slot n 0 at) ∙ u.counters ct.slot (slice_get_within cts ct.slot n at) in
     ap (λ m. nat_lt 0 m) uses ∙ sym (ops-name-ct ct ops.waiting all)
 
-pub used-md : (md : Handle) (n : ℕ) (ops : Operations Armed) (cts mds : List ℕ) → AreUsed ops cts mds → slice_get mds md.slot ≡ Some n → All (MdsAlone md) ops.waiting → nat_lt 0 n ≡ operation_names_md md (posted_all deed_in ops).waiting
+pub used-md : (md : Handle) (n : ℕ) (ops : Operations PostedOp) (cts mds : List ℕ) → AreUsed ops cts mds → slice_get mds md.slot ≡ Some n → All (MdsAlone md) ops.waiting → nat_lt 0 n ≡ operation_names_md md (posted_all deed_in ops).waiting
 used-md md n ops cts mds u at all =
     let uses : n ≡ sum_by (md_uses md.slot) ops.waiting = sym (get_or_from_slice_get mds md.slot n 0 at) ∙ u.descriptors md.slot (slice_get_within mds md.slot n at) in
     ap (λ m. nat_lt 0 m) uses ∙ sym (ops-name-md md ops.waiting all)

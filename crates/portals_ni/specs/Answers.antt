@@ -5,8 +5,8 @@ use Rattle.ptl_types.specs.declared.handles.Count.{Count}
 use Rattle.ptl_types.specs.declared.calls.NiFault.{NiFault}
 use Rattle.ptl_types.specs.declared.calls.NiFault.TheVariants.{Stale}
 use Rattle.ptl_types.specs.declared.calls.EqGot.{EqGot}
-use Rattle.ptl_types.specs.declared.calls.Deed.{Deed}
-use Rattle.ptl_types.specs.declared.calls.Deed.TheVariants.{Inc, Set}
+use Rattle.ptl_types.specs.declared.calls.TriggeredOp.{TriggeredOp}
+use Rattle.ptl_types.specs.declared.calls.TriggeredOp.TheVariants.{Inc, Set}
 use Rattle.ptl_types.specs.Messages.{Sent}
 use Rattle.ni_model.specs.Tables.{Table, changed}
 use Rattle.ni_model.specs.Counts.{counted}
@@ -32,13 +32,13 @@ as_started (Ok m) = Ok (Some m)
 as_started (Err fault) = Err fault
 
 -- what a deed does that counts
-abbrev pub deed_counts : Deed → Table Count → Table Count
+abbrev pub deed_counts : TriggeredOp → Table Count → Table Count
 deed_counts (Inc ct by) cts = counted (Some ct) by cts
 deed_counts (Set ct to) cts = changed ct (λ (c : Count). to) cts
 deed_counts _ cts = cts
 
 -- the counting event that it counts on
-abbrev pub deed_counter : Deed → Option Handle
+abbrev pub deed_counter : TriggeredOp → Option Handle
 deed_counter (Inc ct by) = Some ct
 deed_counter (Set ct to) = Some ct
 deed_counter _ = None

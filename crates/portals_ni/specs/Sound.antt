@@ -12,12 +12,12 @@ use Rattle.ni_model.specs.Refusals.{deed_fits, deed_passes}
 use Rattle.ni_model.specs.State.{State}
 use Rattle.initiator_engine.specs.Initiators.{Initiating, AreBoundIn, room_for}
 use Rattle.triggered_ops.specs.Operations.{Operation, Operations, posted_all}
-use Rattle.portals_ni.specs.declared.armed.Armed.{Armed}
+use Rattle.portals_ni.specs.declared.armed.PostedOp.{PostedOp}
 use Rattle.portals_ni.specs.Pendings.{deed_in}
 use Rattle.portals_ni.specs.Lasting.{HasLimits, SumsFit, NamesLive}
 
 -- the model's state of the parts: of the pending operations, not whether they are due, nor their room
-abbrev pub state_of : Side → List ℕ → Table Count → Table Waiting → Initiating → Operations Armed → ℕ → ℕ → State
+abbrev pub state_of : Side → List ℕ → Table Count → Table Waiting → Initiating → Operations PostedOp → ℕ → ℕ → State
 state_of t memory cts eqs i ops drops violations = record {
   rank = t.rank;
   ranks = i.ranks;
@@ -35,18 +35,18 @@ state_of t memory cts eqs i ops drops violations = record {
 }
 
 -- a pending operation may start, what it names lies in its descriptors, its bytes have room, and what it sets fits a counter
-pub record IsArmed (mds : Table Bound) (ranks : ℕ) (limits : Limits) (a : Armed) : Type 0 where
+pub record IsArmed (mds : Table Bound) (ranks : ℕ) (limits : Limits) (a : PostedOp) : Type 0 where
   pub fits : deed_fits a.deed mds ≡ true
   pub may : MayStart a.deed ranks limits
   pub room : room_for a.deed ≤ a.room.room
   pub counts : deed_passes a.deed ≡ false
 
 -- its counting event is live, and it is due where that has reached its threshold
-abbrev pub IsTold : Table Count → Operation Armed → Type 0
+abbrev pub IsTold : Table Count → Operation PostedOp → Type 0
 IsTold cts w = option_map (λ c. nat_le w.threshold (total c)) (lookup w.ct cts.live) ≡ Some w.due
 
 -- what an interface keeps of its parts, and so what each of its calls may rely on
-pub record IsSound (t : Side) (memory : List ℕ) (cts : Table Count) (i : Initiating) (ops : Operations Armed) : Type 0 where
+pub record IsSound (t : Side) (memory : List ℕ) (cts : Table Count) (i : Initiating) (ops : Operations PostedOp) : Type 0 where
   -- both engines have the same rank and limits
   pub rank : i.rank ≡ t.rank
   pub limit : i.limits.entries ≡ t.limit
@@ -67,7 +67,7 @@ pub record Stands (s : State) : Type 0 where
   pub names : NamesLive s
 
 -- both
-pub record IsWhole (t : Side) (memory : List ℕ) (cts : Table Count) (eqs : Table Waiting) (i : Initiating) (ops : Operations Armed)
+pub record IsWhole (t : Side) (memory : List ℕ) (cts : Table Count) (eqs : Table Waiting) (i : Initiating) (ops : Operations PostedOp)
     (drops violations : ℕ) : Type 0 where
   pub sound : IsSound t memory cts i ops
   pub stands : Stands (state_of t memory cts eqs i ops drops violations)

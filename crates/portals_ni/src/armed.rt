@@ -7,13 +7,13 @@ ghost use Rattle.portals_ni.specs.Pendings.{told_by, sum_at};
 use crate::triggers::Triggers;
 use ni_objects::counters::Counter;
 use ni_objects::handles::Store;
-use ptl_types::{Bytes, Deed, Handle};
+use ptl_types::{Bytes, TriggeredOp, Handle};
 
 /// A triggered operation's deed, and the room for its bytes.
 #[derive(Drop)]
-pub struct Armed {
+pub struct PostedOp {
     /// What is done when it fires.
-    pub deed: Deed,
+    pub deed: TriggeredOp,
     /// The room that its message will use.
     pub room: Bytes,
 }

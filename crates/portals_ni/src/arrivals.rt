@@ -9,7 +9,7 @@ ghost use Rattle.ni_model.specs.State.{target, parts_of, home_of, drops_after, v
 use crate::armed::tell;
 use crate::nic::Nic;
 use ptl_types::{Delivered, Message, Outcome};
-use target_engine::Spent;
+use target_engine::SpareBuffers;
 
 /// The drop register after a message.
 fn raise_drops(drops: u64, outcome: Outcome) -> u64
@@ -41,14 +41,14 @@ impl Nic {
         requires { message.header.target ≡ self.old.rank }
         ensures does { record { state = self.new; delivered = result } ≡ target self.old message }
     {
-        let mut spent = Spent::none();
+        let mut spent = SpareBuffers::none();
         self.deliver_keeping(message, &mut spent)
     }
 
     /// Handles a message that arrived, as `deliver` does. Where a request asks for no answer the room of its bytes is kept, if there
     /// is place for it.
     #[tactic(auto, unfolding(ni_model::specs::State::target))]
-    pub fn deliver_keeping(&mut self, message: Message, spent: &mut Spent) -> Delivered
+    pub fn deliver_keeping(&mut self, message: Message, spent: &mut SpareBuffers) -> Delivered
         requires { message.header.target ≡ self.old.rank }
         ensures does { record { state = self.new; delivered = result } ≡ target self.old message }
     {
@@ -60,7 +60,7 @@ impl Nic {
     }
 
     /// A request at its target: the engine's parts change, and the counting event that rose is told to the pending operations.
-    fn take_request(&mut self, message: Message, spent: &mut Spent) -> Delivered
+    fn take_request(&mut self, message: Message, spent: &mut SpareBuffers) -> Delivered
         requires { is_answer message.header.kind ≡ false }
         ensures { record { state = self.new; delivered = result } ≡ after_request self.old (request (parts_of self.old) message) }
     {

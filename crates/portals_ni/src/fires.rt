@@ -8,7 +8,7 @@ ghost use Rattle.triggered_ops.specs.Operations.{posted_all, IsKept};
 ghost use Rattle.portals_ni.specs.Answers.{deed_counts, deed_counter};
 ghost use Rattle.portals_ni.specs.Pendings.{deed_in, due_numbers_to};
 
-use crate::armed::{Armed, tell};
+use crate::armed::{PostedOp, tell};
 use crate::counting::set_counter;
 use crate::nic::Nic;
 use crate::packed::Packed;
@@ -16,22 +16,22 @@ use crate::starts::is_start;
 use ni_objects::counters::Counter;
 use ni_objects::delivery::count;
 use ni_objects::handles::Store;
-use ptl_types::{Deed, Handle, Message, Rank};
-use target_engine::Spent;
+use ptl_types::{TriggeredOp, Handle, Message, Rank};
+use target_engine::SpareBuffers;
 use triggered_ops::Pending;
 
 /// What an increment or a set does: the counting event that it names.
-fn count_deed(cts: &mut Store<Counter>, deed: &Deed) -> Option<Handle>
+fn count_deed(cts: &mut Store<Counter>, deed: &TriggeredOp) -> Option<Handle>
     requires { deed_passes deed.now ≡ false }
     ensures counts { cts.new ≡ deed_counts deed.now cts.old }
     ensures counter { result ≡ deed_counter deed.now }
 {
     match deed {
-        Deed::Inc(ct, by) => {
+        TriggeredOp::Inc(ct, by) => {
             count(cts, Some(*ct), *by);
             Some(*ct)
         }
-        Deed::Set(ct, to) => {
+        TriggeredOp::Set(ct, to) => {
             let _ = set_counter(cts, *ct, *to);
             Some(*ct)
         }
@@ -40,15 +40,15 @@ fn count_deed(cts: &mut Store<Counter>, deed: &Deed) -> Option<Handle>
 }
 
 /// The rank that the deed's message is for.
-fn message_target(deed: &Deed) -> Option<Rank>
+fn message_target(deed: &TriggeredOp) -> Option<Rank>
     ensures { result ≡ message_target deed.now }
 {
     match deed {
-        Deed::Put(args) => Some(args.target),
-        Deed::Get(args) => Some(args.target),
-        Deed::Atomic(args, _, _) => Some(args.target),
-        Deed::FetchAtomic(_, args, _, _) => Some(args.target),
-        Deed::Swap(_, args, _, _, _) => Some(args.target),
+        TriggeredOp::Put(args) => Some(args.target),
+        TriggeredOp::Get(args) => Some(args.target),
+        TriggeredOp::Atomic(args, _, _) => Some(args.target),
+        TriggeredOp::FetchAtomic(_, args, _, _) => Some(args.target),
+        TriggeredOp::Swap(_, args, _, _, _) => Some(args.target),
         _ => None,
     }
 }
@@ -145,17 +145,17 @@ impl Nic {
         requires { IsTrue (is_ready self.old number) }
         ensures does { fires self.new result ≡ fired self.old number }
     {
-        let mut spent = Spent::none();
+        let mut spent = SpareBuffers::none();
         self.fire_using(number, &mut spent)
     }
 
     /// Fires a ready operation, as `fire` does. Its bytes are read into the room of a message that was delivered, if one is kept that is
     /// large enough, and else into its own.
-    pub fn fire_using(&mut self, number: u32, spent: &mut Spent) -> Option<Message>
+    pub fn fire_using(&mut self, number: u32, spent: &mut SpareBuffers) -> Option<Message>
         requires { IsTrue (is_ready self.old number) }
         ensures does { fires self.new result ≡ fired self.old number }
     {
-        let Armed { deed, room } = self.pending.take(number)?;
+        let PostedOp { deed, room } = self.pending.take(number)?;
         if !is_start(&deed) {
             let counted = count_deed(&mut self.cts, &deed);
             tell(&mut self.pending, &self.cts, counted);

@@ -71,5 +71,5 @@ mod tables;
 mod triggers;
 
 pub use nic::{Nic, fit};
-pub use ptl_types::{Appended, Deed, Delivered, EqGot, GetArgs, Limits, NiFault, Outcome, PutArgs};
-pub use target_engine::Spent;
+pub use ptl_types::{Appended, TriggeredOp, Delivered, EqGot, GetArgs, Limits, NiFault, Outcome, PutArgs};
+pub use target_engine::SpareBuffers;

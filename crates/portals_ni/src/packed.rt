@@ -3,8 +3,8 @@
 ghost use Rattle.std.specs.Prelude.{◌≡◌, IfOk};
 ghost use Rattle.portals_ni.specs.Forms.{form_deed};
 
-use crate::armed::Armed;
-use ptl_types::{AtomicOp, Bytes, Count, Deed, ElemType, GetArgs, Handle, NoMemory, PutArgs};
+use crate::armed::PostedOp;
+use ptl_types::{AtomicOp, Bytes, Count, TriggeredOp, ElemType, GetArgs, Handle, NoMemory, PutArgs};
 use std::alloc::Global;
 use std::marker::Model;
 
@@ -16,10 +16,10 @@ enum Form {
     Combines(PutArgs, AtomicOp, ElemType),
     Adds(Handle, Count),
     Sets(Handle, Count),
-    Apart(Box<Deed>),
+    Apart(Box<TriggeredOp>),
 }
 
-/// A triggered operation's deed, and the room for its bytes. Its value is that of `Armed`.
+/// A triggered operation's deed, and the room for its bytes. Its value is that of `PostedOp`.
 #[derive(Drop)]
 pub struct Packed {
     form: Form,
@@ -27,9 +27,9 @@ pub struct Packed {
 }
 
 impl Model for Packed {
-    ghost use Rattle.portals_ni.specs.declared.armed.Armed.{Armed};
+    ghost use Rattle.portals_ni.specs.declared.armed.PostedOp.{PostedOp};
 
-    ghost Value = { Armed };
+    ghost Value = { PostedOp };
 
     ghost use Rattle.portals_ni.specs.Forms.{form_deed};
 
@@ -37,15 +37,15 @@ impl Model for Packed {
 }
 
 /// The form of a deed.
-fn form_of(alloc: Global, deed: Deed) -> Result<Form, NoMemory>
+fn form_of(alloc: Global, deed: TriggeredOp) -> Result<Form, NoMemory>
     ensures { IfOk result (λ f. form_deed f ≡ deed) }
 {
     match deed {
-        Deed::Put(args) => Ok(Form::Sends(args)),
-        Deed::Get(args) => Ok(Form::Asks(args)),
-        Deed::Atomic(args, op, ty) => Ok(Form::Combines(args, op, ty)),
-        Deed::Inc(ct, by) => Ok(Form::Adds(ct, by)),
-        Deed::Set(ct, to) => Ok(Form::Sets(ct, to)),
+        TriggeredOp::Put(args) => Ok(Form::Sends(args)),
+        TriggeredOp::Get(args) => Ok(Form::Asks(args)),
+        TriggeredOp::Atomic(args, op, ty) => Ok(Form::Combines(args, op, ty)),
+        TriggeredOp::Inc(ct, by) => Ok(Form::Adds(ct, by)),
+        TriggeredOp::Set(ct, to) => Ok(Form::Sets(ct, to)),
         _ => match Box::new(alloc, deed) {
             Ok(apart) => Ok(Form::Apart(apart)),
             Err(_) => Err(NoMemory),
@@ -54,42 +54,42 @@ fn form_of(alloc: Global, deed: Deed) -> Result<Form, NoMemory>
 }
 
 /// The deed of this form.
-fn form_deed(form: &Form) -> Deed
+fn form_deed(form: &Form) -> TriggeredOp
     ensures { result ≡ form_deed form.now }
 {
     match form {
-        Form::Sends(args) => Deed::Put(*args),
-        Form::Asks(args) => Deed::Get(*args),
-        Form::Combines(args, op, ty) => Deed::Atomic(*args, *op, *ty),
-        Form::Adds(ct, by) => Deed::Inc(*ct, *by),
-        Form::Sets(ct, to) => Deed::Set(*ct, *to),
+        Form::Sends(args) => TriggeredOp::Put(*args),
+        Form::Asks(args) => TriggeredOp::Get(*args),
+        Form::Combines(args, op, ty) => TriggeredOp::Atomic(*args, *op, *ty),
+        Form::Adds(ct, by) => TriggeredOp::Inc(*ct, *by),
+        Form::Sets(ct, to) => TriggeredOp::Set(*ct, *to),
         Form::Apart(deed) => **deed,
     }
 }
 
 impl Packed {
     /// What is kept of a triggered operation. It takes memory for a fetch-atomic and a swap alone.
-    pub fn new(alloc: Global, armed: Armed) -> Result<Packed, NoMemory>
+    pub fn new(alloc: Global, armed: PostedOp) -> Result<Packed, NoMemory>
         ensures { IfOk result (λ p. p ≡ armed) }
     {
-        let Armed { deed, room } = armed;
+        let PostedOp { deed, room } = armed;
         let form = form_of(alloc, deed)?;
         Ok(Packed { form, room })
     }
 
     /// The deed.
-    pub fn deed(&self) -> Deed
+    pub fn deed(&self) -> TriggeredOp
         ensures { result ≡ self.now.deed }
     {
         form_deed(&self.form)
     }
 
     /// What it keeps.
-    pub fn unpack(self) -> Armed
+    pub fn unpack(self) -> PostedOp
         ensures { result ≡ self }
     {
         let Packed { form, room } = self;
         let deed = form_deed(&form);
-        Armed { deed, room }
+        PostedOp { deed, room }
     }
 }

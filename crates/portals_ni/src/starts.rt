@@ -1,7 +1,7 @@
 //! The starts of operations, and triggered operations (Portals 4.3, data movement operations and triggered operations).
 
 ghost use Rattle.std.specs.Prelude.{◌≡◌, ◌&&◌, true, false};
-ghost use Rattle.ptl_types.specs.declared.calls.Deed.TheVariants.{Put, Get, Atomic, FetchAtomic, Swap};
+ghost use Rattle.ptl_types.specs.declared.calls.TriggeredOp.TheVariants.{Put, Get, Atomic, FetchAtomic, Swap};
 ghost use Rattle.ni_model.specs.Counts.{passes_end};
 ghost use Rattle.ni_model.specs.Conditions.{MayStart};
 ghost use Rattle.ni_model.specs.Refusals.{counts_on_live, deed_passes, triggered_fault};
@@ -11,45 +11,45 @@ ghost use Rattle.triggered_ops.specs.Operations.{posted_all};
 ghost use Rattle.portals_ni.specs.Pendings.{deed_in};
 ghost use Rattle.portals_ni.specs.Answers.{as_started};
 
-use crate::armed::{Armed, sum_of, tell};
+use crate::armed::{PostedOp, sum_of, tell};
 use crate::nic::Nic;
 use crate::packed::Packed;
 use ni_objects::counters::Counter;
 use ni_objects::handles::Store;
 use initiator_engine::Initiator;
 use ptl_types::{
-    AtomicOp, Bytes, Count, Deed, ElemType, GetArgs, Handle, Message, NiFault, PutArgs, SwapOp,
+    AtomicOp, Bytes, Count, TriggeredOp, ElemType, GetArgs, Handle, Message, NiFault, PutArgs, SwapOp,
 };
 use triggered_ops::Pending;
 
 /// Whether the deed starts an operation; the others count.
-pub fn is_start(deed: &Deed) -> bool
+pub fn is_start(deed: &TriggeredOp) -> bool
     ensures { result ≡ is_start deed.now }
 {
-    !matches!(deed, Deed::Inc(_, _) | Deed::Set(_, _))
+    !matches!(deed, TriggeredOp::Inc(_, _) | TriggeredOp::Set(_, _))
 }
 
 /// The room that a start needs: for the bytes that it sends, and of a get for the reply.
-fn room_for(deed: &Deed) -> u64
+fn room_for(deed: &TriggeredOp) -> u64
     ensures { result ≡ room_for deed.now }
 {
     match deed {
-        Deed::Put(args) => args.length,
-        Deed::Get(args) => args.length,
-        Deed::Atomic(args, _, _) => args.length,
-        Deed::FetchAtomic(_, args, _, _) => args.length,
-        Deed::Swap(_, args, _, _, _) => args.length,
+        TriggeredOp::Put(args) => args.length,
+        TriggeredOp::Get(args) => args.length,
+        TriggeredOp::Atomic(args, _, _) => args.length,
+        TriggeredOp::FetchAtomic(_, args, _, _) => args.length,
+        TriggeredOp::Swap(_, args, _, _, _) => args.length,
         _ => 0,
     }
 }
 
 /// Whether the counting event that an increment or a set names is live.
-fn counts_on_live(cts: &Store<Counter>, deed: &Deed) -> bool
+fn counts_on_live(cts: &Store<Counter>, deed: &TriggeredOp) -> bool
     ensures { result ≡ counts_on_live deed.now cts.now }
 {
     match deed {
-        Deed::Inc(ct, _) => cts.is_live(*ct),
-        Deed::Set(ct, _) => cts.is_live(*ct),
+        TriggeredOp::Inc(ct, _) => cts.is_live(*ct),
+        TriggeredOp::Set(ct, _) => cts.is_live(*ct),
         _ => true,
     }
 }
@@ -62,12 +62,12 @@ fn passes_end(count: &Count) -> bool
 }
 
 /// Whether the numbers of an increment or a set do.
-fn deed_passes(deed: &Deed) -> bool
+fn deed_passes(deed: &TriggeredOp) -> bool
     ensures { result ≡ deed_passes deed.now }
 {
     match deed {
-        Deed::Inc(_, by) => passes_end(by),
-        Deed::Set(_, to) => passes_end(to),
+        TriggeredOp::Inc(_, by) => passes_end(by),
+        TriggeredOp::Set(_, to) => passes_end(to),
         _ => false,
     }
 }
@@ -77,7 +77,7 @@ fn check_triggered(
     cts: &Store<Counter>,
     initiator: &Initiator,
     pending: &Pending<Packed>,
-    deed: &Deed,
+    deed: &TriggeredOp,
     ct: Handle,
 ) -> Result<(), NiFault>
     ensures { result ≡ by_fault (triggered_fault deed.now ct cts.now initiator.now.mds (posted_all deed_in pending.now)) }
@@ -108,7 +108,7 @@ impl Nic {
         requires { MayStart (Put args) self.old.ranks self.old.limits }
         ensures does { MayLackMemory (start (Put args) self.old) self.old (ends self.new (as_started result)) }
     {
-        self.start(&Deed::Put(args))
+        self.start(&TriggeredOp::Put(args))
     }
 
     /// Starts a get, whose message brings room for the reply (Portals 4.3, get). The descriptor counts and raises Send as in a
@@ -117,7 +117,7 @@ impl Nic {
         requires { MayStart (Get args) self.old.ranks self.old.limits }
         ensures does { MayLackMemory (start (Get args) self.old) self.old (ends self.new (as_started result)) }
     {
-        self.start(&Deed::Get(args))
+        self.start(&TriggeredOp::Get(args))
     }
 
     /// Starts an atomic (Portals 4.3, atomic). It counts, raises and awaits as a put does. Refusals and conditions are those of
@@ -126,7 +126,7 @@ impl Nic {
         requires { MayStart (Atomic args op ty) self.old.ranks self.old.limits }
         ensures does { MayLackMemory (start (Atomic args op ty) self.old) self.old (ends self.new (as_started result)) }
     {
-        self.start(&Deed::Atomic(args, op, ty))
+        self.start(&TriggeredOp::Atomic(args, op, ty))
     }
 
     /// Starts a fetch-atomic: `back` says where the old elements go (Portals 4.3, fetch-atomic). The descriptor of `args` counts
@@ -144,7 +144,7 @@ impl Nic {
         requires { MayStart (FetchAtomic back args op ty) self.old.ranks self.old.limits }
         ensures does { MayLackMemory (start (FetchAtomic back args op ty) self.old) self.old (ends self.new (as_started result)) }
     {
-        self.start(&Deed::FetchAtomic(back, args, op, ty))
+        self.start(&TriggeredOp::FetchAtomic(back, args, op, ty))
     }
 
     /// Starts a swap of one element, with its operand as a bit pattern (Portals 4.3, swap). It counts, raises and awaits as a
@@ -161,11 +161,11 @@ impl Nic {
         requires { MayStart (Swap back args op ty operand) self.old.ranks self.old.limits }
         ensures does { MayLackMemory (start (Swap back args op ty operand) self.old) self.old (ends self.new (as_started result)) }
     {
-        self.start(&Deed::Swap(back, args, op, ty, operand))
+        self.start(&TriggeredOp::Swap(back, args, op, ty, operand))
     }
 
     /// Starts what the deed says, with room for its bytes.
-    fn start(&mut self, deed: &Deed) -> Result<Message, NiFault>
+    fn start(&mut self, deed: &TriggeredOp) -> Result<Message, NiFault>
         requires start { is_start deed.now ≡ true }
         requires may { MayStart deed.now self.old.ranks self.old.limits }
         ensures { MayLackMemory (start deed.now self.old) self.old (ends self.new (as_started result)) }
@@ -187,7 +187,7 @@ impl Nic {
     /// on. `Stale` where the counting event or a thing that the deed names isn't live, `NoSpace` where as many as the limit are
     /// pending or all 2^32 - 1 numbers were given, `OutOfRegion` as in a put, `CountFull` where the two numbers of an increment
     /// or a set together pass 2^64 - 1, `NoMemory`. Conditions: those of the plain operation.
-    pub fn triggered(&mut self, deed: Deed, ct: Handle, threshold: u64) -> Result<u32, NiFault>
+    pub fn triggered(&mut self, deed: TriggeredOp, ct: Handle, threshold: u64) -> Result<u32, NiFault>
         requires { MayStart deed self.old.ranks self.old.limits }
         ensures does { MayLackMemory (triggered deed ct threshold self.old) self.old (ends self.new result) }
     {
@@ -203,7 +203,7 @@ impl Nic {
             Err(_) => return Err(NiFault::NoMemory),
         };
         let sum = sum_of(&self.cts, ct);
-        let number = match self.pending.post(Armed { deed, room }, ct, threshold, sum) {
+        let number = match self.pending.post(PostedOp { deed, room }, ct, threshold, sum) {
             Ok(number) => number,
             Err(_) => return Err(NiFault::NoMemory),
         };

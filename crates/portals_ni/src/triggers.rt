@@ -9,9 +9,9 @@ ghost use Rattle.portals_ni.specs.Fit.{FitLimits};
 ghost use Rattle.portals_ni.specs.Pendings.{deed_in};
 ghost use Rattle.portals_ni.specs.Uses.{put_md, get_md, AreUsed, CtsAlone, MdsAlone};
 
-use crate::armed::Armed;
+use crate::armed::PostedOp;
 use crate::packed::Packed;
-use ptl_types::{Deed, Handle, Limits, NoMemory};
+use ptl_types::{TriggeredOp, Handle, Limits, NoMemory};
 use std::alloc::Global;
 use std::marker::Model;
 use triggered_ops::Pending;
@@ -28,10 +28,10 @@ pub struct Triggers {
 
 impl Model for Triggers {
     ghost use Rattle.triggered_ops.specs.Operations.{Operations};
-    ghost use Rattle.portals_ni.specs.declared.armed.Armed.{Armed};
+    ghost use Rattle.portals_ni.specs.declared.armed.PostedOp.{PostedOp};
     ghost use Rattle.portals_ni.specs.Uses.{AreUsed};
 
-    ghost Value = { Operations Armed };
+    ghost Value = { Operations PostedOp };
 
     ghost view = { λ t. t.pending };
 
@@ -39,37 +39,37 @@ impl Model for Triggers {
 }
 
 /// The counting event that a deed counts on, if it does.
-fn deed_counter(deed: &Deed) -> Option<Handle>
+fn deed_counter(deed: &TriggeredOp) -> Option<Handle>
     ensures { result ≡ deed_counter deed.now }
 {
     match deed {
-        Deed::Inc(ct, _) => Some(*ct),
-        Deed::Set(ct, _) => Some(*ct),
+        TriggeredOp::Inc(ct, _) => Some(*ct),
+        TriggeredOp::Set(ct, _) => Some(*ct),
         _ => None,
     }
 }
 
 /// The descriptor of a deed's put arguments, if it has any.
-fn put_md(deed: &Deed) -> Option<Handle>
+fn put_md(deed: &TriggeredOp) -> Option<Handle>
     ensures { result ≡ put_md deed.now }
 {
     match deed {
-        Deed::Put(args) => Some(args.md),
-        Deed::Atomic(args, _, _) => Some(args.md),
-        Deed::FetchAtomic(_, args, _, _) => Some(args.md),
-        Deed::Swap(_, args, _, _, _) => Some(args.md),
+        TriggeredOp::Put(args) => Some(args.md),
+        TriggeredOp::Atomic(args, _, _) => Some(args.md),
+        TriggeredOp::FetchAtomic(_, args, _, _) => Some(args.md),
+        TriggeredOp::Swap(_, args, _, _, _) => Some(args.md),
         _ => None,
     }
 }
 
 /// The descriptor of a deed's get arguments, if it has any.
-fn get_md(deed: &Deed) -> Option<Handle>
+fn get_md(deed: &TriggeredOp) -> Option<Handle>
     ensures { result ≡ get_md deed.now }
 {
     match deed {
-        Deed::Get(args) => Some(args.md),
-        Deed::FetchAtomic(args, _, _, _) => Some(args.md),
-        Deed::Swap(args, _, _, _, _) => Some(args.md),
+        TriggeredOp::Get(args) => Some(args.md),
+        TriggeredOp::FetchAtomic(args, _, _, _) => Some(args.md),
+        TriggeredOp::Swap(args, _, _, _, _) => Some(args.md),
         _ => None,
     }
 }
@@ -80,7 +80,7 @@ fn take_out(
     cts: &mut Users,
     mds: &mut Users,
     number: u32,
-) -> Option<Armed>
+) -> Option<PostedOp>
     requires { AreUsed pending.old cts.old mds.old }
     ensures used { AreUsed pending.new cts.new mds.new }
     ensures value { result ≡ option_map deed_of (operation_at number pending.old) }
@@ -119,15 +119,15 @@ fn drop_on(pending: &mut Pending<Packed>, cts: &mut Users, mds: &mut Users, ct: 
 }
 
 /// Whether the deed names the descriptor.
-fn deed_names_md(deed: &Deed, md: Handle) -> bool
+fn deed_names_md(deed: &TriggeredOp, md: Handle) -> bool
     ensures { result ≡ deed_names_md md deed.now }
 {
     match deed {
-        Deed::Put(args) => args.md.is(md),
-        Deed::Get(args) => args.md.is(md),
-        Deed::Atomic(args, _, _) => args.md.is(md),
-        Deed::FetchAtomic(back, args, _, _) => back.md.is(md) || args.md.is(md),
-        Deed::Swap(back, args, _, _, _) => back.md.is(md) || args.md.is(md),
+        TriggeredOp::Put(args) => args.md.is(md),
+        TriggeredOp::Get(args) => args.md.is(md),
+        TriggeredOp::Atomic(args, _, _) => args.md.is(md),
+        TriggeredOp::FetchAtomic(back, args, _, _) => back.md.is(md) || args.md.is(md),
+        TriggeredOp::Swap(back, args, _, _, _) => back.md.is(md) || args.md.is(md),
         _ => false,
     }
 }
@@ -148,18 +148,18 @@ fn some_names_md(pending: &Pending<Packed>, md: Handle) -> bool
 }
 
 /// Whether the deed counts on the counting event.
-fn deed_names_ct(deed: &Deed, ct: Handle) -> bool
+fn deed_names_ct(deed: &TriggeredOp, ct: Handle) -> bool
     ensures { result ≡ deed_names_ct ct deed.now }
 {
     match deed {
-        Deed::Inc(handle, _) => handle.is(ct),
-        Deed::Set(handle, _) => handle.is(ct),
+        TriggeredOp::Inc(handle, _) => handle.is(ct),
+        TriggeredOp::Set(handle, _) => handle.is(ct),
         _ => false,
     }
 }
 
 /// Whether an operation waits on the counting event, or counts on it.
-fn counts_on(deed: &Deed, waits_on: Handle, ct: Handle) -> bool
+fn counts_on(deed: &TriggeredOp, waits_on: Handle, ct: Handle) -> bool
     ensures { result ≡ (same_handle waits_on ct || deed_names_ct ct deed.now) }
 {
     waits_on.is(ct) || deed_names_ct(deed, ct)
@@ -214,7 +214,7 @@ impl Triggers {
     /// Posts an operation and answers its number; the sum of its counting event is told. At an error nothing has changed.
     pub fn post(
         &mut self,
-        armed: Armed,
+        armed: PostedOp,
         ct: Handle,
         threshold: u64,
         sum: u64,
@@ -241,7 +241,7 @@ impl Triggers {
     }
 
     /// Takes the deed of the operation of this number out; `None` exactly where it doesn't wait, and then nothing changes.
-    pub fn take(&mut self, number: u32) -> Option<Armed>
+    pub fn take(&mut self, number: u32) -> Option<PostedOp>
         ensures value { result ≡ option_map deed_of (operation_at number self.old) }
         ensures rest { self.new ≡ without_number number self.old }
         ensures none { IfNone result (self.new ≡ self.old) }

@@ -14,7 +14,7 @@ use Rattle.shape_plans.specs.Drawing.{plan_of}
 use Rattle.job_laws.specs.Results.{AreMeant}
 use Rattle.turn_table.specs.Hands.{parts_of}
 use Rattle.turn_table.specs.States.{HandState}
-use Rattle.rank_slots.specs.declared.slot.Slot.{Slot}
+use Rattle.rank_slots.specs.declared.slot.TurnRank.{TurnRank}
 use Rattle.rank_wiring.specs.Opening.{AllFresh}
 use Rattle.rank_threads.specs.Closing.{IsWorked, IsWorldOf}
 use Rattle.rank_threads.specs.Fabrics.{FabricState}
@@ -52,7 +52,7 @@ pub record IsOfWorkers (workers : ℕ) (w : WorldState) : Type 0 where
 
 -- What hands that are together all of a fabric's leave at rest.
 pub record IsRested (f : FabricState) (workers : ℕ) (w : WorldState) : Type 0 where
-  pub hands : List (HandState Slot)
+  pub hands : List (HandState TurnRank)
   pub count : length hands ≡ workers
   pub all : parts_of hands ≡ 2 ^ 32
   pub world : IsWorldOf f hands w

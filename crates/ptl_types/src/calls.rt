@@ -134,7 +134,7 @@ pub struct GetArgs {
 
 /// What a triggered operation does when it fires (Portals 4.3, triggered operations).
 #[derive(Clone, Copy, Debug, PartialEq, Eq)]
-pub enum Deed {
+pub enum TriggeredOp {
     /// Starts a put.
     Put(PutArgs),
     /// Starts a get.

@@ -16,7 +16,7 @@ mod message;
 mod steps;
 
 pub use bytes::Bytes;
-pub use calls::{Appended, Deed, Delivered, EqGot, GetArgs, Limits, NiFault, Outcome, PutArgs};
+pub use calls::{Appended, TriggeredOp, Delivered, EqGot, GetArgs, Limits, NiFault, Outcome, PutArgs};
 pub use elements::{AtomicOp, ElemType, SwapOp};
 pub use entries::{Descriptor, Entry, List, UnexpectedHeader};
 pub use events::{Event, EventKind};
@@ -24,4 +24,4 @@ pub use handles::{Count, Handle, NoMemory, Rank};
 pub use headers::{AckRequest, Header, Lane, MessageKind};
 pub use matching::matches;
 pub use message::Message;
-pub use steps::{Act, Call, Cause, LocalStep};
+pub use steps::{PlannedOp, Call, Cause, LocalStep};

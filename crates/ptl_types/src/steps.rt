@@ -5,7 +5,7 @@ use crate::{AckRequest, AtomicOp, ElemType, Lane, Rank};
 /// What a triggered operation of an installation does when it fires (Portals 4.3, triggered operations). Offsets and lengths
 /// are in bytes.
 #[derive(Clone, Copy, Debug, PartialEq, Eq)]
-pub enum Act {
+pub enum PlannedOp {
     /// Sends a part of the region to portal table index 0 of another interface: an atomic where there is an operation, else
     /// a put.
     Send {
@@ -87,7 +87,7 @@ pub enum Call {
         /// The count at which it is ready.
         threshold: u64,
         /// What it does.
-        act: Act,
+        act: PlannedOp,
     },
 }
 

@@ -8,7 +8,7 @@ use Rattle.ptl_types.specs.Operations.{bytes_of}
 use Rattle.ptl_types.specs.declared.calls.Limits.{Limits}
 use Rattle.ptl_types.specs.declared.calls.PutArgs.{PutArgs}
 use Rattle.ptl_types.specs.declared.elements.AtomicOp.{AtomicOp}
-use Rattle.ptl_types.specs.declared.steps.Act.TheVariants.{BumpCell}
+use Rattle.ptl_types.specs.declared.steps.PlannedOp.TheVariants.{BumpCell}
 use Rattle.ptl_types.specs.declared.steps.Call.{Call}
 use Rattle.ptl_types.specs.declared.steps.Call.TheVariants.{CtDone, CtCell, MdBind}
 use Rattle.ni_model.specs.Conditions.{MayStart}
@@ -25,10 +25,10 @@ use Rattle.plan_core.specs.declared.LinkKind.TheVariants.{Put, Atomic, Bump}
 use Rattle.plan_calls.specs.Areas.{areas_length, classes, comes_to, has_class, links_to, longest, longest_to, region_length}
 use Rattle.plan_calls.specs.Calls.{act_of, area_call, own_cell, prepare_calls, send_act, trigger}
 use Rattle.plan_calls.specs.Limits.{limits_for}
-use Rattle.plan_calls.specs.Works.{Work, works, cell_of, sends_of}
-use Rattle.plan_calls.specs.Works.Work.{Along, Tell}
+use Rattle.plan_calls.specs.RankOps.{RankOp, rank_ops, cell_of, sends_of}
+use Rattle.plan_calls.specs.RankOps.RankOp.{ForLink, ForDone}
 use Rattle.plan_calls.specs.declared.OwnCell.{OwnCell}
-use Rattle.cuts.proofs.machine.Works.{works-along}
+use Rattle.cuts.proofs.machine.RankOps.{rank_ops-along}
 use Rattle.cuts.proofs.view.StepFire.{cell_of-own}
 use Rattle.cuts.proofs.view.Tables.{place_in-lt}
 use Rattle.cuts.specs.view.Calls.{prepare, sending_deed}
@@ -93,7 +93,7 @@ counts-areas : (p : Plan) (r : ℕ) (xs : List ℕ) (n m d : ℕ) → count_call
 counts-areas p r [] n m d = ap (λ k. counted n k d) (let q : m ≡ m + 0 = omega arith in q)
 counts-areas p r (x ∷ xs) n m d = counts-areas p r xs n (suc m) d ∙ ap (λ k. counted n k d) (let q : suc m + length xs ≡ m + suc (length xs) = omega arith in q)
 
-counts-triggers : (p : Plan) (ws : List Work) (n : Counted) → count_calls (map (trigger p) ws) n ≡ n
+counts-triggers : (p : Plan) (ws : List RankOp) (n : Counted) → count_calls (map (trigger p) ws) n ≡ n
 counts-triggers p [] n = refl
 counts-triggers p (w ∷ ws) n = counts-triggers p ws n
 
@@ -146,14 +146,14 @@ module _ (p : Plan) (inputs : Inputs) (sound : SoundPlan p (length inputs)) (r :
         record { whole = ap (λ n. n % bytes_of (cell p (link p l).target).ty) same ∙ sound.whole (link p l).target s.cells; few = omega arith },
       )
 
-  wired-send : (w : Work) → In w (works p r) → IsWired (own p r) all_made (act_of p w) × MaySend p.ranks (limits_for p r) (act_of p w)
-  wired-send (Tell c) i = (omega arith, tt)
-  wired-send (Along l) i = at (is_bump (link p l).kind) refl
+  wired-send : (w : RankOp) → In w (rank_ops p r) → IsWired (own p r) all_made (act_of p w) × MaySend p.ranks (limits_for p r) (act_of p w)
+  wired-send (ForDone c) i = (omega arith, tt)
+  wired-send (ForLink l) i = at (is_bump (link p l).kind) refl
     where
       out : In l (out_links p r)
-      out = works-along p r l i
+      out = rank_ops-along p r l i
 
-      at : (b : Bool) → is_bump (link p l).kind ≡ b → IsWired (own p r) all_made (act_of p (Along l)) × MaySend p.ranks (limits_for p r) (act_of p (Along l))
+      at : (b : Bool) → is_bump (link p l).kind ≡ b → IsWired (own p r) all_made (act_of p (ForLink l)) × MaySend p.ranks (limits_for p r) (act_of p (ForLink l))
       at true e =
           let q = out_links-In p r l out in
           let s = sound.links_sound l q.0 in
@@ -163,7 +163,7 @@ module _ (p : Plan) (inputs : Inputs) (sound : SoundPlan p (length inputs)) (r :
           subst (λ b. IsWired (own p r) all_made (if b then BumpCell (link p l).target else send_act p l) × MaySend p.ranks (limits_for p r) (if b then BumpCell (link p l).target else send_act p l)) (sym e)
           (refl, may-start l out (cell p (link p l).target).op refl _ refl refl)
 
-  may-triggers : (ws : List Work) → ((w : Work) → In w ws → In w (works p r)) → MayCallAll (own p r) p.ranks (limits_for p r) all_made (map (trigger p) ws)
+  may-triggers : (ws : List RankOp) → ((w : RankOp) → In w ws → In w (rank_ops p r)) → MayCallAll (own p r) p.ranks (limits_for p r) all_made (map (trigger p) ws)
   may-triggers [] sub = tt
   may-triggers (w ∷ ws) sub =
       let i = sub w (inl refl) in
@@ -180,7 +180,7 @@ module _ (p : Plan) (inputs : Inputs) (sound : SoundPlan p (length inputs)) (r :
 
   -- the calls after those of the areas, and after those of the counters
   abbrev operations : List Call
-  operations = map (trigger p) (works p r)
+  operations = map (trigger p) (rank_ops p r)
 
   abbrev bound_and_operations : List Call
   bound_and_operations = MdBind (region_length p r + areas_length p r) p.remote ∷ operations
@@ -190,7 +190,7 @@ module _ (p : Plan) (inputs : Inputs) (sound : SoundPlan p (length inputs)) (r :
 
   may-calls : MayCallAll (own p r) p.ranks (limits_for p r) none_made (prepare_calls p r)
   may-calls =
-      let last : MayCallAll (own p r) p.ranks (limits_for p r) (counted (1 + length (own p r)) (0 + length (classes p r)) 0) bound_and_operations = ((refl, omega arith), may-triggers (works p r) (λ w i. i)) in
+      let last : MayCallAll (own p r) p.ranks (limits_for p r) (counted (1 + length (own p r)) (0 + length (classes p r)) 0) bound_and_operations = ((refl, omega arith), may-triggers (rank_ops p r) (λ w i. i)) in
       let middle : MayCallAll (own p r) p.ranks (limits_for p r) (counted 0 (0 + length (classes p r)) 0) behind_areas = (
         refl,
         may-append (own p r) p.ranks (limits_for p r) (counted 1 (0 + length (classes p r)) 0) (map CtCell (own p r)) bound_and_operations
@@ -209,7 +209,7 @@ module _ (p : Plan) (inputs : Inputs) (sound : SoundPlan p (length inputs)) (r :
       ∙ ap (count_calls behind_areas) (counts-areas p r (classes p r) 0 0 0)
       ∙ counts-append (map CtCell (own p r)) bound_and_operations (counted 1 (0 + length (classes p r)) 0)
       ∙ ap (count_calls bound_and_operations) (counts-cells (own p r) 1 (0 + length (classes p r)) 0)
-      ∙ counts-triggers p (works p r) all_made
+      ∙ counts-triggers p (rank_ops p r) all_made
 
   if-le : (b : Bool) (n m : ℕ) → n ≤ m → (if b then n else 0) ≤ m
   if-le true n m le = le

@@ -1,8 +1,8 @@
 -- The message of a firing: for whom it is, and where there is none.
 use Rattle.std.proofs.Common.{ℕ, ◌≡◌, ◌∙◌, Option, Some, None, refl, ap, sym}
 use Rattle.ptl_types.specs.Messages.{Sent}
-use Rattle.ptl_types.specs.declared.calls.Deed.{Deed}
-use Rattle.ptl_types.specs.declared.calls.Deed.TheVariants.{Put, Get, Atomic, FetchAtomic, Swap, Inc, Set}
+use Rattle.ptl_types.specs.declared.calls.TriggeredOp.{TriggeredOp}
+use Rattle.ptl_types.specs.declared.calls.TriggeredOp.TheVariants.{Put, Get, Atomic, FetchAtomic, Swap, Inc, Set}
 use Rattle.ni_model.specs.Ready.{done, fired, fired_op, message_target, posted_at, target_at, target_of, without_number}
 use Rattle.ni_model.specs.Starts.{started}
 use Rattle.ni_model.specs.State.{Posted, State}
@@ -13,7 +13,7 @@ rank_of None = None
 rank_of (Some m) = Some m.header.target
 
 -- the message of a deed is for the rank that the deed names
-done-target : (s : State) (d : Deed) → rank_of (done s d).message ≡ message_target d
+done-target : (s : State) (d : TriggeredOp) → rank_of (done s d).message ≡ message_target d
 unfolding started
 done-target s (Put a) = refl
 done-target s (Get g) = refl

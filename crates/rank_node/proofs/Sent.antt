@@ -9,8 +9,8 @@ use Rattle.rank_node.specs.contracts.node.Node.TheInside as inside
 use Rattle.rank_node.proofs.compiled.Compiled.TheSendSync as compiled
 use Rattle.rank_node.proofs.gates.Gates.TheSendSync as gates
 use Rattle.rank_node.proofs.history.History.TheSendSync as history
-use Rattle.rank_node.proofs.kept.Kept.TheSendSync as kept
-use Rattle.target_engine.proofs.spent.Spent.TheSendSync as spent
+use Rattle.rank_node.proofs.kept.NodeHandles.TheSendSync as kept
+use Rattle.target_engine.proofs.spent.SpareBuffers.TheSendSync as spent
 
 pub node-send : IsSend the_row
 node-send =

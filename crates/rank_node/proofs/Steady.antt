@@ -8,8 +8,8 @@ use Rattle.ptl_types.specs.declared.headers.Header.{Header}
 use Rattle.ptl_types.specs.declared.entries.Entry.{Entry}
 use Rattle.ptl_types.specs.declared.entries.List.{List as EntryList}
 use Rattle.ptl_types.specs.declared.entries.List.TheVariants.{Priority, Overflow as InOverflow}
-use Rattle.ptl_types.specs.declared.calls.Deed.{Deed}
-use Rattle.ptl_types.specs.declared.calls.Deed.TheVariants.{Put, Get, Atomic, FetchAtomic, Swap, Inc, Set}
+use Rattle.ptl_types.specs.declared.calls.TriggeredOp.{TriggeredOp}
+use Rattle.ptl_types.specs.declared.calls.TriggeredOp.TheVariants.{Put, Get, Atomic, FetchAtomic, Swap, Inc, Set}
 use Rattle.ptl_types.specs.declared.calls.Outcome.TheVariants.{Dropped, Violation}
 use Rattle.ptl_types.specs.Kinds.{is_answer}
 use Rattle.ptl_types.specs.Messages.{Sent}
@@ -139,15 +139,15 @@ unfolding target
 target-pending s m = either (λ d. d.state.pending ≡ s.pending) (is_answer m.header.kind) (after_answer s (answered (home_of s) m)) (after_request s (request (parts_of s) m)) refl refl
 
 -- ---- a firing
-started-keeps : (p : Home) (d : Deed) (o : Option Header) → KeepsHome p (started_by p d o).home
+started-keeps : (p : Home) (d : TriggeredOp) (o : Option Header) → KeepsHome p (started_by p d o).home
 started-keeps p d None = keeps-home p
 started-keeps p d (Some h) = record { counters = same-counted (send_counter (bound_at (counted_on d) p.mds)) (successes 1) p.cts; descriptors = same-more h.home p.mds }
 
-start-steady : (s : State) (d : Deed) → IsSteady s (with_home (started s.rank (home_of s) d).home s)
+start-steady : (s : State) (d : TriggeredOp) → IsSteady s (with_home (started s.rank (home_of s) d).home s)
 unfolding started
 start-steady s d = let k = started-keeps (home_of s) d (header_of s.rank d) in record { entries = refl; counters = k.counters; descriptors = k.descriptors; rank = refl }
 
-done-steady : (s : State) (d : Deed) → IsSteady s (done s d).state
+done-steady : (s : State) (d : TriggeredOp) → IsSteady s (done s d).state
 done-steady s (Put a) = start-steady s (Put a)
 done-steady s (Get g) = start-steady s (Get g)
 done-steady s (Atomic a o ty) = start-steady s (Atomic a o ty)
@@ -156,7 +156,7 @@ done-steady s (Swap g a o ty x) = start-steady s (Swap g a o ty x)
 done-steady s (Inc ct by) = record { entries = refl; counters = same-counted (Some ct) by s.cts; descriptors = same-things s.mds; rank = refl }
 done-steady s (Set ct to) = record { entries = refl; counters = same-changed ct _ s.cts; descriptors = same-things s.mds; rank = refl }
 
-done-pending : (s : State) (d : Deed) → (done s d).state.pending ≡ s.pending
+done-pending : (s : State) (d : TriggeredOp) → (done s d).state.pending ≡ s.pending
 done-pending s (Put a) = refl
 done-pending s (Get g) = refl
 done-pending s (Atomic a o ty) = refl

@@ -5,8 +5,8 @@ use Rattle.ptl_types.specs.declared.entries.Entry.{Entry}
 use Rattle.ptl_types.specs.declared.entries.Descriptor.{Descriptor}
 use Rattle.ptl_types.specs.declared.entries.List.{List as EntryList}
 use Rattle.ptl_types.specs.declared.calls.Limits.{Limits}
-use Rattle.ptl_types.specs.declared.steps.Act.{Act}
-use Rattle.ptl_types.specs.declared.steps.Act.TheVariants.{Send, BumpCell, BumpDone}
+use Rattle.ptl_types.specs.declared.steps.PlannedOp.{PlannedOp}
+use Rattle.ptl_types.specs.declared.steps.PlannedOp.TheVariants.{Send, BumpCell, BumpDone}
 use Rattle.ptl_types.specs.declared.steps.Call.{Call}
 use Rattle.ptl_types.specs.declared.steps.Call.TheVariants.{PtAlloc, CtDone, CtCell, MdBind, Overflow, MeAppend, Trigger}
 use Rattle.ni_model.specs.Tables.{handle}
@@ -30,13 +30,13 @@ abbrev pub HasCounter : List ℕ → ℕ → ℕ → Type 0
 HasCounter cells n c = (place_in cells c < length cells) × (suc (place_in cells c) < n)
 
 -- what an act names was made
-abbrev pub IsWired : List ℕ → Counted → Act → Type 0
+abbrev pub IsWired : List ℕ → Counted → PlannedOp → Type 0
 IsWired cells n (Send local size target bits remote hdr op ty ack) = n.descriptors ≡ 1
 IsWired cells n (BumpCell c) = HasCounter cells n.counters c
 IsWired cells n BumpDone = 0 < n.counters
 
 -- a message may be sent: its target is a rank, and its length within the limits
-abbrev pub MaySend : ℕ → Limits → Act → Type 0
+abbrev pub MaySend : ℕ → Limits → PlannedOp → Type 0
 MaySend ranks limits (Send local size target bits remote hdr op ty ack) =
     MayStart (sending_deed (args_at (handle 0 0) local size target bits remote hdr ack) op ty) ranks limits
 MaySend ranks limits _ = Unit {0}

@@ -5,7 +5,7 @@ use Rattle.plan_core.specs.Values.{Inputs}
 use Rattle.plan_calls.specs.Areas.{initial_region, links_to, longest_to}
 use Rattle.plan_calls.specs.Calls.{own_cells, prepare_calls}
 use Rattle.plan_calls.specs.Limits.{limits_for}
-use Rattle.plan_calls.specs.Works.{sends_of}
+use Rattle.plan_calls.specs.RankOps.{sends_of}
 use Rattle.rank_node.specs.Node.{Task}
 
 -- its calls, cells and limits, and room for what comes to it: the messages of the links to its cells, and an answer for each message

@@ -11,10 +11,10 @@ ghost use Rattle.rank_node.specs.Handles.{Agrees, AreAllOf, Fits, IsRising, coun
 ghost use Rattle.rank_node.specs.Calls.{HasCounter, MayCall, MayCallAll, AreMade, NewCounter, NewDescriptor, NewEntry, IsWired, MaySend, count_call, count_calls};
 ghost use Rattle.cuts.specs.view.Calls.{whole_region, deed_at, with_entry, area_entry, cell_entry};
 
-use crate::kept::Kept;
+use crate::kept::NodeHandles;
 use portals_ni::Nic;
 use ptl_types::{
-    Act, Appended, Call, Count, Deed, Descriptor, Entry, Handle, List, NoMemory, PutArgs,
+    PlannedOp, Appended, Call, Count, TriggeredOp, Descriptor, Entry, Handle, List, NoMemory, PutArgs,
 };
 
 /// Allocates portal table index 0, without a queue.
@@ -62,7 +62,7 @@ fn link(nic: &mut Nic, list: List, entry: Entry) -> Result<Handle, NoMemory>
 }
 
 /// Posts a triggered operation.
-pub fn post(nic: &mut Nic, deed: Deed, ct: Handle, threshold: u64) -> Result<(), NoMemory>
+pub fn post(nic: &mut Nic, deed: TriggeredOp, ct: Handle, threshold: u64) -> Result<(), NoMemory>
     requires { MayStart deed nic.old.ranks nic.old.limits }
     ensures { OnOk result (nic.new ≡ with_operation deed ct threshold nic.old) }
 {
@@ -73,7 +73,7 @@ pub fn post(nic: &mut Nic, deed: Deed, ct: Handle, threshold: u64) -> Result<(),
 }
 
 /// A counting event more, whose handle is kept.
-pub fn make_counter(nic: &mut Nic, kept: &mut Kept) -> Result<(), NoMemory>
+pub fn make_counter(nic: &mut Nic, kept: &mut NodeHandles) -> Result<(), NoMemory>
     requires all { AreAllOf nic.old kept.old }
     requires room { length kept.old.counters < kept.old.room.counters }
     ensures { OnOk result (NewCounter nic.old nic.new kept.old kept.new) }
@@ -84,7 +84,7 @@ pub fn make_counter(nic: &mut Nic, kept: &mut Kept) -> Result<(), NoMemory>
 }
 
 /// A descriptor more, whose handle is kept.
-pub fn make_descriptor(nic: &mut Nic, kept: &mut Kept, md: Descriptor) -> Result<(), NoMemory>
+pub fn make_descriptor(nic: &mut Nic, kept: &mut NodeHandles, md: Descriptor) -> Result<(), NoMemory>
     requires all { AreAllOf nic.old kept.old }
     requires room { length kept.old.descriptors < kept.old.room.descriptors }
     ensures { OnOk result (NewDescriptor md nic.old nic.new kept.old kept.new) }
@@ -95,7 +95,7 @@ pub fn make_descriptor(nic: &mut Nic, kept: &mut Kept, md: Descriptor) -> Result
 }
 
 /// A persistent entry more, whose handle is kept.
-pub fn make_entry(nic: &mut Nic, kept: &mut Kept, list: List, entry: Entry) -> Result<(), NoMemory>
+pub fn make_entry(nic: &mut Nic, kept: &mut NodeHandles, list: List, entry: Entry) -> Result<(), NoMemory>
     requires all { AreAllOf nic.old kept.old }
     requires room { length kept.old.entries < kept.old.room.entries }
     requires persistent { entry.use_once ≡ false }
@@ -126,7 +126,7 @@ fn place_of(cells: &[u32], cell: u32) -> usize
 }
 
 /// The counter of a cell.
-pub fn counter_of(kept: &Kept, cells: &[u32], cell: u32) -> Handle
+pub fn counter_of(kept: &NodeHandles, cells: &[u32], cell: u32) -> Handle
     requires rising { IsRising cells.now }
     requires there { HasCounter cells.now (length kept.now.counters) cell }
     ensures { (k : Slots) → Agrees k kept.now → result ≡ counter_at k cells.now cell }
@@ -210,7 +210,7 @@ pub fn one() -> Count
 }
 
 /// What a triggered operation does, by the handles that were made before it.
-fn deed_of(kept: &Kept, cells: &[u32], act: &Act) -> Deed
+fn deed_of(kept: &NodeHandles, cells: &[u32], act: &PlannedOp) -> TriggeredOp
     requires rising { IsRising cells.now }
     requires wired { IsWired cells.now (counted_in kept.now) act.now }
     ensures does { (k : Slots) → Agrees k kept.now → result ≡ deed_at k cells.now act.now }
@@ -218,7 +218,7 @@ fn deed_of(kept: &Kept, cells: &[u32], act: &Act) -> Deed
         MayStart result ranks limits }
 {
     match *act {
-        Act::Send {
+        PlannedOp::Send {
             local_offset,
             length,
             target,
@@ -241,17 +241,17 @@ fn deed_of(kept: &Kept, cells: &[u32], act: &Act) -> Deed
                 hdr_data,
             };
             match op {
-                None => Deed::Put(args),
-                Some(op) => Deed::Atomic(args, op, ty),
+                None => TriggeredOp::Put(args),
+                Some(op) => TriggeredOp::Atomic(args, op, ty),
             }
         }
-        Act::BumpCell { cell } => Deed::Inc(counter_of(kept, cells, cell), one()),
-        Act::BumpDone => Deed::Inc(kept.counter(0), one()),
+        PlannedOp::BumpCell { cell } => TriggeredOp::Inc(counter_of(kept, cells, cell), one()),
+        PlannedOp::BumpDone => TriggeredOp::Inc(kept.counter(0), one()),
     }
 }
 
 /// Makes one call.
-fn make_call(nic: &mut Nic, kept: &mut Kept, cells: &[u32], call: &Call) -> Result<(), NoMemory>
+fn make_call(nic: &mut Nic, kept: &mut NodeHandles, cells: &[u32], call: &Call) -> Result<(), NoMemory>
     requires rising { IsRising cells.now }
     requires all { AreAllOf nic.old kept.old }
     requires may { MayCall cells.now nic.old.ranks nic.old.limits (counted_in kept.old) call.now }
@@ -301,7 +301,7 @@ fn make_call(nic: &mut Nic, kept: &mut Kept, cells: &[u32], call: &Call) -> Resu
 /// Makes the calls of a list, in order.
 pub fn make_calls(
     nic: &mut Nic,
-    kept: &mut Kept,
+    kept: &mut NodeHandles,
     cells: &[u32],
     calls: &[Call],
 ) -> Result<(), NoMemory>

@@ -11,7 +11,7 @@ use std::marker::Model;
 /// The handles of counting events, match entries and memory descriptors, each in the order of their making: number n has
 /// stamp n.
 #[derive(Drop)]
-pub struct Kept {
+pub struct NodeHandles {
     counters: Vec<Handle>,
     entries: Vec<Handle>,
     descriptors: Vec<Handle>,
@@ -20,7 +20,7 @@ pub struct Kept {
     descriptor_room: u32,
 }
 
-impl Model for Kept {
+impl Model for NodeHandles {
     ghost use Rattle.std.specs.Prelude.{◌≤◌, vec_capacity};
     ghost use Rattle.rank_node.specs.Handles.{Handles, AreInOrder};
 
@@ -31,9 +31,9 @@ impl Model for Kept {
     ghost invariant = { λ k. (k.counter_room ≤ vec_capacity k.counters) × (k.entry_room ≤ vec_capacity k.entries) × (k.descriptor_room ≤ vec_capacity k.descriptors) × AreInOrder k.counters.items × AreInOrder k.entries.items × AreInOrder k.descriptors.items };
 }
 
-impl Kept {
+impl NodeHandles {
     /// No handles, with room for as many of each kind as may be live under the limits.
-    pub fn with_room(alloc: Global, limits: &Limits) -> Result<Kept, NoMemory>
+    pub fn with_room(alloc: Global, limits: &Limits) -> Result<NodeHandles, NoMemory>
         ensures { IfOk result (λ k. k ≡ no_handles (room_under limits.now)) }
     {
         let Ok(counters) = Vec::with_capacity(alloc, limits.cts as usize) else {
@@ -45,7 +45,7 @@ impl Kept {
         let Ok(descriptors) = Vec::with_capacity(alloc, limits.mds as usize) else {
             return Err(NoMemory);
         };
-        Ok(Kept {
+        Ok(NodeHandles {
             counters,
             entries,
             descriptors,

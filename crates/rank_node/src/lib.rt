@@ -16,7 +16,7 @@ mod start;
 pub use compiled::Compiled;
 pub use history::History;
 pub use install::{alloc_index, make_counter, make_descriptor, make_entry, one, post};
-pub use kept::Kept;
+pub use kept::NodeHandles;
 pub use laws::{compiled_plans, node_runs};
 pub use node::Node;
 pub use start::raise_go;

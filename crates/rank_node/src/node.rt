@@ -6,7 +6,7 @@ ghost use Rattle.ni_model.specs.Ready.{is_ready, target_at};
 ghost use Rattle.ni_model.specs.Tables.{lookup};
 ghost use Rattle.plan_core.specs.Plan.{Plan};
 ghost use Rattle.plan_core.specs.Values.{Inputs};
-ghost use Rattle.plan_calls.specs.Works.{done_threshold};
+ghost use Rattle.plan_calls.specs.RankOps.{done_threshold};
 ghost use Rattle.cuts.specs.view.Slots.{Slots, done_ct};
 ghost use Rattle.cuts.specs.histories.History.{IsDue, is_lane, is_start, made_by};
 ghost use Rattle.cuts.specs.histories.History.Local.{Receive as Received, Fire as Fired};
@@ -23,9 +23,9 @@ use crate::compiled::Compiled;
 use crate::gates::Gates;
 use crate::history::History;
 use crate::install::{counter_of, make_calls};
-use crate::kept::Kept;
+use crate::kept::NodeHandles;
 use crate::start::{raise_go, start_cells};
-use portals_ni::{Nic, Spent};
+use portals_ni::{Nic, SpareBuffers};
 use ptl_types::{Bytes, Call, Count, Lane, LocalStep, Message, NoMemory, Rank};
 use std::alloc::Global;
 use std::marker::Model;
@@ -39,13 +39,13 @@ pub struct Node {
     began: Snapshot<Bytes>,
     called: Snapshot<Vec<Call>>,
     nic: Nic,
-    kept: Kept,
+    kept: NodeHandles,
     history: History,
     buffer: Vec<u8>,
     strays: u32,
     gates: Gates,
     // The rooms of the messages that it received.
-    spent: Spent,
+    spent: SpareBuffers,
 }
 
 impl Model for Node {
@@ -78,11 +78,11 @@ impl Drop for Node {
 }
 
 /// Makes the compiled calls on a new interface of this region. There is room for all handles before the first call.
-fn prepare(alloc: Global, compiled: &Compiled, region: Bytes) -> Result<(Nic, Kept), NoMemory>
+fn prepare(alloc: Global, compiled: &Compiled, region: Bytes) -> Result<(Nic, NodeHandles), NoMemory>
     requires { IsCompiled (task_from compiled.now region.list compiled.now.calls.items) }
     ensures { IfOk result (λ p. IsPrepared (task_from compiled.now region.list compiled.now.calls.items) p.0 p.1) }
 {
-    let mut kept = Kept::with_room(alloc, &compiled.limits)?;
+    let mut kept = NodeHandles::with_room(alloc, &compiled.limits)?;
     let mut nic = Nic::open(
         alloc,
         compiled.rank,
@@ -126,7 +126,7 @@ impl Node {
         let history = diary(alloc, &compiled, nic.pending(), strays)?;
         let buffer = Vec::with_capacity(alloc, compiled.longest as usize)?;
         let gates = Gates::all_open(alloc, compiled.ranks)?;
-        let spent = Spent::with_places(alloc, compiled.receipts)?;
+        let spent = SpareBuffers::with_places(alloc, compiled.receipts)?;
         Ok(Node {
             compiled,
             began,

@@ -10,7 +10,7 @@ ghost use Rattle.cuts.specs.start.Start.{is_used, lies_in, fits_elements, brough
 ghost use Rattle.rank_node.specs.Start.{IsAppended, AreStarted};
 
 use crate::install::{counter_of, entry_of_cell, one};
-use crate::kept::Kept;
+use crate::kept::NodeHandles;
 use lane_ops::combine;
 use plan_calls::OwnCell;
 use portals_ni::Nic;
@@ -127,7 +127,7 @@ fn bring_found(nic: &mut Nic, buffer: &mut Vec<u8>, longest: u64, cell: &OwnCell
 }
 
 /// Appends the entry of a cell. A refused append changes nothing.
-fn append_cell(nic: &mut Nic, kept: &mut Kept, entry: Entry)
+fn append_cell(nic: &mut Nic, kept: &mut NodeHandles, entry: Entry)
     requires all { AreAllOf nic.old kept.old }
     requires persistent { entry.use_once ≡ false }
     requires room { length kept.old.entries < kept.old.room.entries }
@@ -143,7 +143,7 @@ fn append_cell(nic: &mut Nic, kept: &mut Kept, entry: Entry)
 /// Starts one cell.
 fn start_cell(
     nic: &mut Nic,
-    kept: &mut Kept,
+    kept: &mut NodeHandles,
     buffer: &mut Vec<u8>,
     longest: u64,
     cells: &[u32],
@@ -172,7 +172,7 @@ fn start_cell(
 /// Starts the cells of a list, in order. The buffer has room for the longest message that is used.
 pub fn start_cells(
     nic: &mut Nic,
-    kept: &mut Kept,
+    kept: &mut NodeHandles,
     buffer: &mut Vec<u8>,
     longest: u64,
     cells: &[u32],

@@ -12,7 +12,7 @@ use Rattle.ptl_types.specs.Messages.{Sent}
 use Rattle.plan_core.specs.Plan.{Plan, all_links, cell, link, out_links}
 use Rattle.plan_calls.specs.Areas.{comes_to, links_to}
 use Rattle.plan_calls.specs.Lanes.{goes_along, lane_links}
-use Rattle.plan_calls.specs.Works.{is_message, sends_of}
+use Rattle.plan_calls.specs.RankOps.{is_message, sends_of}
 use Rattle.cuts.specs.histories.History.{Local, got, same_lane}
 use Rattle.cuts.specs.histories.History.Local.{Start, Receive, Fire}
 use Rattle.cuts.specs.histories.Lanes.{is_receipt}
@@ -26,7 +26,7 @@ use Rattle.rank_node.proofs.Plans.{run-legal}
 use Rattle.plan_core.specs.Sound.{SoundPlan}
 use Rattle.plan_core.specs.Values.{Inputs}
 use Rattle.cuts.proofs.start.Starting.{length-from_to}
-use Rattle.cuts.proofs.start.Unrefused.{length-works}
+use Rattle.cuts.proofs.start.Unrefused.{length-rank_ops}
 use Rattle.cuts.specs.view.Calls.{prepare}
 use Rattle.cuts.specs.histories.Plans.{start_of}
 use Rattle.cuts.proofs.histories.FromCut.{prepared_of}
@@ -297,7 +297,7 @@ pub short-history : (p : Plan) (inputs : Inputs) → SoundPlan p (length inputs)
 short-history p inputs sound n compiled is strays =
     let r = n.task.rank in let k = slots_of n.kept in
     let a = few_steps p k r (start_of p k r) n.diary.locals (prepare p inputs k r) (prepared_of p inputs sound k r) (run-legal p inputs k r n compiled is (agrees n.kept is.descriptors)) in
-    let b = length-works p r in
+    let b = length-rank_ops p r in
     let c = few-out p r in
     let d = length-own-le p r in
     let e = is.receipts in

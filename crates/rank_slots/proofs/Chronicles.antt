@@ -9,7 +9,7 @@ use Rattle.rank_node.specs.Copies.{has_start}
 use Rattle.rank_node.specs.Handles.{Handles}
 use Rattle.rank_node.specs.Node.{NodeState}
 use Rattle.rank_node.proofs.Copies.{started-front}
-use Rattle.rank_slots.specs.declared.slot.Slot.{Slot}
+use Rattle.rank_slots.specs.declared.slot.TurnRank.{TurnRank}
 use Rattle.rank_slots.specs.Missing.{HasFlushed}
 use Rattle.rank_slots.specs.Chronicles.{Entry, KeepsHandles, chronicle, entry}
 use Rattle.rank_slots.specs.Names.{history}
@@ -25,11 +25,11 @@ bare-history hs (Start ∷ es) = ap (λ (l : List Local). Start ∷ l) (bare-his
 bare-history hs (Receive s lane m ∷ es) = ap (λ (l : List Local). Receive s lane m ∷ l) (bare-history hs es)
 bare-history hs (Fire t ∷ es) = ap (λ (l : List Local). Fire t ∷ l) (bare-history hs es)
 
-pub as-long : (x : Slot) → length (chronicle x) ≡ length (history x)
+pub as-long : (x : TurnRank) → length (chronicle x) ≡ length (history x)
 as-long x = length_map (entry x.node.value.kept) (history x)
 
 -- a beginning of the one is a beginning of the other
-pub begins-history : (x y : Slot) → IsPrefix (chronicle x) (chronicle y) → IsPrefix (history x) (history y)
+pub begins-history : (x y : TurnRank) → IsPrefix (chronicle x) (chronicle y) → IsPrefix (history x) (history y)
 begins-history x y p = (
   bare p.0,
   ap (λ (l : List Local). l ++ bare p.0) (sym (bare-history x.node.value.kept (history x)))
@@ -48,7 +48,7 @@ same-dates hs ks es true e same = ap (λ k. map (entry k) es) (sym (same e))
 same-dates hs ks es false e same = unstarted hs ks es e
 
 -- where the history only grew, and no handle was given after the start
-pub begins-chronicle : (x y : Slot) → IsPrefix (history x) (history y) → KeepsHandles x y → IsPrefix (chronicle x) (chronicle y)
+pub begins-chronicle : (x y : TurnRank) → IsPrefix (history x) (history y) → KeepsHandles x y → IsPrefix (chronicle x) (chronicle y)
 begins-chronicle x y p same = (
   map (entry y.node.value.kept) p.0,
   ap (λ (l : List Entry). l ++ map (entry y.node.value.kept) p.0) (same-dates x.node.value.kept y.node.value.kept (history x) (has_start (history x)) refl same)
@@ -65,16 +65,16 @@ started-longer (Fire t ∷ es) fs e = sym (started-front false (Fire t) (es ++ f
 pub started-prefix : (es fs : List Local) → IsPrefix es fs → has_start es ≡ true → has_start fs ≡ true
 started-prefix es fs p e = subst (λ (l : List Local). has_start l ≡ true) p.1 (started-longer es p.0 e)
 
-pub handles-after : (x y z : Slot) → IsPrefix (history x) (history y) → KeepsHandles x y → KeepsHandles y z → KeepsHandles x z
+pub handles-after : (x y z : TurnRank) → IsPrefix (history x) (history y) → KeepsHandles x y → KeepsHandles y z → KeepsHandles x z
 handles-after x y z p f g = λ started. g (started-prefix (history x) (history y) p started) ∙ f started
 
-pub handles-flushed : (x z y : Slot) → HasFlushed x z → KeepsHandles z y → KeepsHandles x y
+pub handles-flushed : (x z y : TurnRank) → HasFlushed x z → KeepsHandles z y → KeepsHandles x y
 handles-flushed x z y f keeps = λ started. keeps (ap (λ (n : NodeState). has_start n.diary.locals) f.node.same ∙ started) ∙ ap (λ (n : NodeState). n.kept) f.node.same
 
-pub handles-first : (x y : Slot) → has_start (history x) ≡ false → KeepsHandles x y
+pub handles-first : (x y : TurnRank) → has_start (history x) ≡ false → KeepsHandles x y
 handles-first x y first = λ started. absurd (true≢false (sym started ∙ first))
 
-pub keeps-still : (x y : Slot) → y.node.value.kept ≡ x.node.value.kept → KeepsHandles x y
+pub keeps-still : (x y : TurnRank) → y.node.value.kept ≡ x.node.value.kept → KeepsHandles x y
 keeps-still x y same = λ started. same
 
 some-one : {A : Type 0} {a b : A} → Some a ≡ Some b → a ≡ b

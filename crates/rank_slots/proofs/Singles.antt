@@ -10,45 +10,45 @@ use Rattle.ni_model.specs.Ready.{is_ready}
 use Rattle.ni_model.specs.State.{State}
 use Rattle.cuts.specs.histories.History.Local.{Receive, Fire}
 use Rattle.rank_node.specs.Node.{NodeState}
-use Rattle.rank_slots.specs.declared.slot.Slot.{Slot}
+use Rattle.rank_slots.specs.declared.slot.TurnRank.{TurnRank}
 use Rattle.rank_slots.specs.declared.ports.InPort.{InPort}
 use Rattle.rank_slots.specs.Missing.{AreShut, HasFlushed, MissedAt, PassedAt, ReceivedAt}
 use Rattle.rank_slots.specs.Names.{Mark, history, mark, note}
 use Rattle.rank_slots.specs.Steps.{Delivered, Fired, Grew, NoneFires}
 use Rattle.rank_slots.proofs.Pairs.{same_at}
 
-still : (x z : Slot) → HasFlushed x z → history z ≡ history x
+still : (x z : TurnRank) → HasFlushed x z → history z ≡ history x
 still x z f = ap (λ (n : NodeState). n.diary.locals) f.node.same
 
 -- ---- a firing
-abbrev pub DidFire : Slot → Slot → ℕ → Type 0
+abbrev pub DidFire : TurnRank → TurnRank → ℕ → Type 0
 DidFire x y t = (is_ready x.node.value.nic t ≡ true) × Grew (Fire t) (mark x) (mark y)
 
-abbrev pub DidNot : Slot → Slot → Type 0
+abbrev pub DidNot : TurnRank → TurnRank → Type 0
 DidNot x y = HasFlushed x y × AreShut y.node.value
 
-pub fired-from : (e : Option ℕ) (x z y : Slot) → HasFlushed x z → IfSome e (DidFire z y) → IfSome e (DidFire x y)
+pub fired-from : (e : Option ℕ) (x z y : TurnRank) → HasFlushed x z → IfSome e (DidFire z y) → IfSome e (DidFire x y)
 fired-from None x z y f h = tt
 fired-from (Some t) x z y f h = (
   subst (λ (s : State). is_ready s t ≡ true) (ap (λ (n : NodeState). n.nic) f.node.same) h.0,
   h.1 ∙ ap (λ es. es ++ Fire t ∷ []) (still x z f),
 )
 
-pub shut-from : (e : Option ℕ) (x z y : Slot) → HasFlushed x z → IfNone e ((y ≡ z) × AreShut z.node.value) → IfNone e (DidNot x y)
-shut-from None x z y f h = (subst (HasFlushed x) (sym h.0) f, subst (λ (s : Slot). AreShut s.node.value) (sym h.0) h.1)
+pub shut-from : (e : Option ℕ) (x z y : TurnRank) → HasFlushed x z → IfNone e ((y ≡ z) × AreShut z.node.value) → IfNone e (DidNot x y)
+shut-from None x z y f h = (subst (HasFlushed x) (sym h.0) f, subst (λ (s : TurnRank). AreShut s.node.value) (sym h.0) h.1)
 shut-from (Some t) x z y f h = tt
 
-pub fired-told : (e : Option ℕ) (x y : Slot) → IfSome e (DidFire x y) → IfNone e (DidNot x y)
+pub fired-told : (e : Option ℕ) (x y : TurnRank) → IfSome e (DidFire x y) → IfNone e (DidNot x y)
     → (DidNot x y → (history y ≡ history x) × NoneFires (note x) (note y)) → Fired e (mark x) (mark y)
 fired-told None x y did none told = told none
 fired-told (Some t) x y did none told = did
 
-pub longer-fired : (e : Option ℕ) (x y : Slot) → IfSome e (DidFire x y) → IfNone e (DidNot x y) → IsPrefix (history x) (history y)
+pub longer-fired : (e : Option ℕ) (x y : TurnRank) → IfSome e (DidFire x y) → IfNone e (DidNot x y) → IsPrefix (history x) (history y)
 longer-fired None x y did none = ([], append-nil (history x) ∙ sym (still x y none.0))
 longer-fired (Some t) x y did none = (Fire t ∷ [], sym did.1)
 
 -- ---- a receipt
-pub came-from : (x z y : Slot) (at s : ℕ) (lane : Lane) (p : InPort) → HasFlushed x z → get_elem? z.ins.items at ≡ some p → p.source ≡ s → p.lane ≡ lane
+pub came-from : (x z y : TurnRank) (at s : ℕ) (lane : Lane) (p : InPort) → HasFlushed x z → get_elem? z.ins.items at ≡ some p → p.source ≡ s → p.lane ≡ lane
     → ReceivedAt at z y → (m : Sent) × Grew (Receive s lane m) (mark x) (mark y)
 came-from x z y at s lane p f there source kind h =
     let one = same_at z.ins.items at h.port p h.there there in
@@ -56,7 +56,7 @@ came-from x z y at s lane p f there source kind h =
     let on : h.port.lane ≡ lane = ap (λ (o : InPort). o.lane) one ∙ kind in
     (h.message, h.grew ∙ (λ i. still x z f i ++ Receive (from i) (on i) h.message ∷ []))
 
-pub passed-from : (x z y : Slot) (at s : ℕ) (lane : Lane) (p : InPort) → HasFlushed x z → get_elem? z.ins.items at ≡ some p → p.source ≡ s → p.lane ≡ lane
+pub passed-from : (x z y : TurnRank) (at s : ℕ) (lane : Lane) (p : InPort) → HasFlushed x z → get_elem? z.ins.items at ≡ some p → p.source ≡ s → p.lane ≡ lane
     → MissedAt at z y → PassedAt s lane x y
 passed-from x z y at s lane p f there source kind h = record {
   at = at;

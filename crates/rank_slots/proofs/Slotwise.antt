@@ -10,7 +10,7 @@ use Rattle.ptl_types.specs.declared.headers.Lane.TheVariants.{Request}
 use Rattle.plan_core.specs.Plan.{Plan}
 use Rattle.plan_core.specs.Values.{Inputs}
 use Rattle.rank_node.specs.Node.{NodeState}
-use Rattle.rank_slots.specs.declared.slot.Slot.{Slot}
+use Rattle.rank_slots.specs.declared.slot.TurnRank.{TurnRank}
 use Rattle.rank_slots.specs.declared.ports.OutPort.{OutPort}
 use Rattle.rank_slots.specs.declared.ports.InPort.{InPort}
 use Rattle.rank_slots.specs.Lists.{Each}
@@ -19,9 +19,9 @@ use Rattle.rank_slots.specs.Moves.{GainsIn, GainsOut, SameNode, Slotwise, at_ran
 use Rattle.rank_slots.proofs.Snocs.{each_snoc, front_some, snoc_at}
 
 -- one slot changes, and the others stay
-pub slotwise_set : (R : ℕ → Slot → Slot → Type 0) (l : List Slot) (i : ℕ) (old new : Slot) → get_elem? l i ≡ some old → R i old new → ((r : ℕ) (y : Slot) → (r ≡ i → ⊥) → R r y y) → Slotwise R l (set l i new)
+pub slotwise_set : (R : ℕ → TurnRank → TurnRank → Type 0) (l : List TurnRank) (i : ℕ) (old new : TurnRank) → get_elem? l i ≡ some old → R i old new → ((r : ℕ) (y : TurnRank) → (r ≡ i → ⊥) → R r y y) → Slotwise R l (set l i new)
 slotwise_set R l i old new at here others r x e = ⊎_elim
-    (λ (is : (r ≡ i) × (new ≡ x)). (old, ap (get_elem? l) is.0 ∙ at, subst (λ (z : ℕ × Slot). R z.0 old z.1) (λ k. (sym is.0 k, is.1 k)) here))
+    (λ (is : (r ≡ i) × (new ≡ x)). (old, ap (get_elem? l) is.0 ∙ at, subst (λ (z : ℕ × TurnRank). R z.0 old z.1) (λ k. (sym is.0 k, is.1 k)) here))
     (λ (is : (r ≡ i → ⊥) × (get_elem? l r ≡ some x)). (x, is.1, others r x is.0)) (at_set l i r new x e)
 
 pub here_is : {A : Type 0} (s : ℕ) (a : A) → at_rank s s a ≡ a ∷ []
@@ -30,22 +30,22 @@ here_is s a = ap (λ (b : Bool). if b then a ∷ [] else []) (eq-eqb s s refl)
 else_is : {A : Type 0} (r s : ℕ) (a : A) → (r ≡ s → ⊥) → at_rank r s a ≡ []
 else_is r s a n = ap (λ (b : Bool). if b then a ∷ [] else []) (ne_eqb s r (λ e. n (sym e)))
 
-pub same-node : (r : ℕ) (x : Slot) → SameNode r x x
+pub same-node : (r : ℕ) (x : TurnRank) → SameNode r x x
 same-node r x = record { job_is = refl; node = refl }
 
-pub same-back : (r : ℕ) (y x : Slot) → SameNode r y x → SameNode r x y
+pub same-back : (r : ℕ) (y x : TurnRank) → SameNode r y x → SameNode r x y
 same-back r y x s = record { job_is = sym s.job_is; node = sym s.node }
 
-pub gains_out : (s : ℕ) (p : OutPort) (y x : Slot) → SameNode s y x → x.ins ≡ y.ins → x.outs.items ≡ y.outs.items ++ p ∷ [] → GainsOut s p s y x
+pub gains_out : (s : ℕ) (p : OutPort) (y x : TurnRank) → SameNode s y x → x.ins ≡ y.ins → x.outs.items ≡ y.outs.items ++ p ∷ [] → GainsOut s p s y x
 gains_out s p y x n i o = record { same = n; outs_are = o ∙ ap (λ l. y.outs.items ++ l) (sym (here_is s p)); ins_are = ap (λ v. v.items) i }
 
-pub gains_no_out : (s : ℕ) (p : OutPort) (r : ℕ) (y : Slot) → (r ≡ s → ⊥) → GainsOut s p r y y
+pub gains_no_out : (s : ℕ) (p : OutPort) (r : ℕ) (y : TurnRank) → (r ≡ s → ⊥) → GainsOut s p r y y
 gains_no_out s p r y n = record { same = same-node r y; outs_are = sym (ap (λ l. y.outs.items ++ l) (else_is r s p n) ∙ append-nil y.outs.items); ins_are = refl }
 
-pub gains_in : (s : ℕ) (p : InPort) (y x : Slot) → SameNode s y x → x.outs ≡ y.outs → x.ins.items ≡ y.ins.items ++ p ∷ [] → GainsIn s p s y x
+pub gains_in : (s : ℕ) (p : InPort) (y x : TurnRank) → SameNode s y x → x.outs ≡ y.outs → x.ins.items ≡ y.ins.items ++ p ∷ [] → GainsIn s p s y x
 gains_in s p y x n o i = record { same = n; ins_are = i ∙ ap (λ l. y.ins.items ++ l) (sym (here_is s p)); outs_are = ap (λ v. v.items) o }
 
-pub gains_no_in : (s : ℕ) (p : InPort) (r : ℕ) (y : Slot) → (r ≡ s → ⊥) → GainsIn s p r y y
+pub gains_no_in : (s : ℕ) (p : InPort) (r : ℕ) (y : TurnRank) → (r ≡ s → ⊥) → GainsIn s p r y y
 gains_no_in s p r y n = record { same = same-node r y; ins_are = sym (ap (λ l. y.ins.items ++ l) (else_is r s p n) ∙ append-nil y.ins.items); outs_are = refl }
 
 pub on_ok : {A E : Type 0} {P Q : A → Type 0} (r : Result A E) → ((a : A) → P a → Q a) → IfOk r P → IfOk r Q
@@ -53,10 +53,10 @@ on_ok (Ok a) f h = f a h
 on_ok (Err e) f h = tt
 
 -- ---- slots that keep their nodes
-pub chain : (a b c : List Slot) → Slotwise SameNode a b → Slotwise SameNode b c → Slotwise SameNode a c
+pub chain : (a b c : List TurnRank) → Slotwise SameNode a b → Slotwise SameNode b c → Slotwise SameNode a c
 chain a b c s t r x e = let y = t r x e in let z = s r y.0 y.1 in (z.0, z.1, record { job_is = y.2.job_is ∙ z.2.job_is; node = y.2.node ∙ z.2.node })
 
-pub stay : (a : List Slot) → Slotwise SameNode a a
+pub stay : (a : List TurnRank) → Slotwise SameNode a a
 stay a r x e = (x, e, same-node r x)
 
 -- ---- ends come

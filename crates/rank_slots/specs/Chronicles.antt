@@ -4,7 +4,7 @@ use Rattle.cuts.specs.histories.History.{Local}
 use Rattle.cuts.specs.histories.History.Local.{Start, Receive, Fire}
 use Rattle.rank_node.specs.Copies.{has_start}
 use Rattle.rank_node.specs.Handles.{Handles}
-use Rattle.rank_slots.specs.declared.slot.Slot.{Slot}
+use Rattle.rank_slots.specs.declared.slot.TurnRank.{TurnRank}
 use Rattle.rank_slots.specs.Names.{history}
 
 -- a step, and where it is the start all the handles
@@ -16,9 +16,9 @@ entry hs Start = (Start, Some hs)
 entry hs (Receive s lane m) = (Receive s lane m, None)
 entry hs (Fire t) = (Fire t, None)
 
-abbrev pub chronicle : Slot → List Entry
+abbrev pub chronicle : TurnRank → List Entry
 chronicle x = map (entry x.node.value.kept) (history x)
 
 -- a rank that had started gave no further handle
-abbrev pub KeepsHandles : Slot → Slot → Type 0
+abbrev pub KeepsHandles : TurnRank → TurnRank → Type 0
 KeepsHandles old new = has_start (history old) ≡ true → new.node.value.kept ≡ old.node.value.kept

@@ -14,7 +14,7 @@ use Rattle.rank_node.specs.Gates.{goes_out}
 use Rattle.rank_node.specs.Node.{NodeState}
 use Rattle.rank_slots.specs.declared.ports.OutPort.{OutPort}
 use Rattle.rank_slots.specs.declared.ports.InPort.{InPort}
-use Rattle.rank_slots.specs.declared.slot.Slot.{Slot}
+use Rattle.rank_slots.specs.declared.slot.TurnRank.{TurnRank}
 use Rattle.rank_slots.specs.Lists.{Pairwise}
 use Rattle.rank_slots.specs.Ports.{Flushed, IsOpen, Regated, SameIn}
 use Rattle.rank_slots.specs.Names.{history}
@@ -41,20 +41,20 @@ Why n outs old new =
 -- ---- the in end of a place
 
 -- an answer is awaited, where it is an end of answers
-abbrev pub IsDueAt : ℕ → Slot → Type 0
+abbrev pub IsDueAt : ℕ → TurnRank → Type 0
 IsDueAt at x = (p : InPort) → get_elem? x.ins.items at ≡ some p → p.lane ≡ Answer → is_awaited x.node.value.nic.mds.live ≡ true
 
 -- an answer to its message finds room, where it is an end of requests
-abbrev pub IsOpenAt : ℕ → Slot → Type 0
+abbrev pub IsOpenAt : ℕ → TurnRank → Type 0
 IsOpenAt at x = (p : InPort) → get_elem? x.ins.items at ≡ some p → p.lane ≡ Request → IsOpen p.source Answer x.outs.items
 
 -- no answer is awaited at an end of answers; or a message waits where an answer to a request would go
-abbrev pub IsKeptBack : ℕ → Slot → Type 0
+abbrev pub IsKeptBack : ℕ → TurnRank → Type 0
 IsKeptBack at x = (p : InPort) → get_elem? x.ins.items at ≡ some p →
     ((p.lane ≡ Answer) × (is_awaited x.node.value.nic.mds.live ≡ false)) ⊎ ((p.lane ≡ Request) × IsShut p.source Answer x.outs.items)
 
 -- a message of its lane was received
-pub record ReceivedAt (at : ℕ) (old new : Slot) : Type 0 where
+pub record ReceivedAt (at : ℕ) (old new : TurnRank) : Type 0 where
   pub port : InPort
   pub there : get_elem? old.ins.items at ≡ some port
   pub message : Sent
@@ -67,7 +67,7 @@ pub record Missed (n : NodeState) (outs : List OutPort) (old new : InPort) : Typ
   pub why : Why n outs old new
 
 -- the slot passed over the in end of this place, and nothing else changed
-pub record MissedAt (at : ℕ) (old new : Slot) : Type 0 where
+pub record MissedAt (at : ℕ) (old new : TurnRank) : Type 0 where
   pub node : new.node.value ≡ old.node.value
   pub outs : new.outs.items ≡ old.outs.items
   pub many : length new.ins.items ≡ length old.ins.items
@@ -76,33 +76,33 @@ pub record MissedAt (at : ℕ) (old new : Slot) : Type 0 where
       → Missed old.node.value old.outs.items p q
 
 -- the slot passed over all its in ends
-pub record MissedAll (old new : Slot) : Type 0 where
+pub record MissedAll (old new : TurnRank) : Type 0 where
   pub node : new.node.value ≡ old.node.value
   pub outs : new.outs.items ≡ old.outs.items
   pub ins : Pairwise (Missed old.node.value old.outs.items) old.ins.items new.ins.items
 
 -- what waited was tried again
-pub record HasFlushed (old new : Slot) : Type 0 where
+pub record HasFlushed (old new : TurnRank) : Type 0 where
   pub node : Regated old.node.value new.node.value
   pub outs : Pairwise Flushed old.outs.items new.outs.items
   pub ins : new.ins.items ≡ old.ins.items
 
 -- the rank had started; what waited was tried again, and then no operation that was ready found its lane open, and each in end was
 -- passed over
-pub record Idled (old new : Slot) : Type 0 where
+pub record Idled (old new : TurnRank) : Type 0 where
   pub started : has_start old.node.value.diary.locals ≡ true
-  pub between : Slot
+  pub between : TurnRank
   pub flushed : HasFlushed old between
   pub shut : AreShut between.node.value
   pub missed : MissedAll between new
 
 -- the slot passed over the lane from rank s, after what waited was tried again
-pub record PassedAt (s : ℕ) (lane : Lane) (old new : Slot) : Type 0 where
+pub record PassedAt (s : ℕ) (lane : Lane) (old new : TurnRank) : Type 0 where
   pub at : ℕ
   pub port : InPort
   pub there : get_elem? old.ins.items at ≡ some port
   pub source : port.source ≡ s
   pub lane_is : port.lane ≡ lane
-  pub between : Slot
+  pub between : TurnRank
   pub flushed : HasFlushed old between
   pub missed : MissedAt at between new

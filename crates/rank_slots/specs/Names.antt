@@ -9,7 +9,7 @@ use Rattle.rank_node.specs.Node.{Task}
 use Rattle.schedule_compiler.specs.Jobs.{JobOf}
 use Rattle.rank_slots.specs.declared.ports.OutPort.{OutPort}
 use Rattle.rank_slots.specs.declared.ports.InPort.{InPort}
-use Rattle.rank_slots.specs.declared.slot.Slot.{Slot}
+use Rattle.rank_slots.specs.declared.slot.TurnRank.{TurnRank}
 use Rattle.rank_slots.specs.Lists.{Each}
 use Rattle.rank_slots.specs.Joints.{Fits, Joint, in_joint, out_joint}
 
@@ -21,7 +21,7 @@ pub record Plate : Type 0 where
   pub outs : List Joint
   pub ins : List Joint
 
-abbrev pub plate : Slot → Plate
+abbrev pub plate : TurnRank → Plate
 plate x = record { job = x.job; task = x.node.value.task; outs = map out_joint x.outs.items; ins = map in_joint x.ins.items }
 
 -- all ends are of these wires
@@ -30,7 +30,7 @@ pub record IsWired (wires : List WireState) (p : Plate) : Type 0 where
   pub ins : Each (Fits wires) p.ins
 
 -- ---- the past: the history
-abbrev pub history : Slot → List Local
+abbrev pub history : TurnRank → List Local
 history x = x.node.value.diary.locals
 
 -- ---- the note: the interface with the handles that it gave, and what each end tells beside its messages
@@ -60,12 +60,12 @@ pub record Note : Type 0 where
   pub outs : List OutCount
   pub ins : List InCount
 
-abbrev pub note : Slot → Note
+abbrev pub note : TurnRank → Note
 note x = record { nic = x.node.value.nic; kept = x.node.value.kept; outs = map out_count x.outs.items; ins = map in_count x.ins.items }
 
 -- a history and a note
 abbrev pub Mark : Type 0
 Mark = List Local × Note
 
-abbrev pub mark : Slot → Mark
+abbrev pub mark : TurnRank → Mark
 mark x = (history x, note x)

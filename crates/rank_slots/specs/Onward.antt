@@ -1,7 +1,7 @@
 -- What becomes of a slot in a turn that follows hints.
 use Rattle.std.specs.Prelude.{◌≡◌, Option, Some, None}
 use Rattle.ptl_types.specs.declared.steps.LocalStep.{LocalStep}
-use Rattle.rank_slots.specs.declared.slot.Slot.{Slot}
+use Rattle.rank_slots.specs.declared.slot.TurnRank.{TurnRank}
 use Rattle.rank_slots.specs.Chronicles.{KeepsHandles}
 use Rattle.rank_slots.specs.Names.{Mark, mark, plate}
 use Rattle.rank_slots.specs.Steps.{Made}
@@ -12,5 +12,5 @@ Stepped None a b = b.0 ≡ a.0
 Stepped (Some step) a b = Made step a b
 
 -- beside that its name stays, and no handle is given after the start
-abbrev pub Onward : Option LocalStep → Slot → Slot → Type 0
+abbrev pub Onward : Option LocalStep → TurnRank → TurnRank → Type 0
 Onward made old new = (plate new ≡ plate old) × Stepped made (mark old) (mark new) × KeepsHandles old new

@@ -20,7 +20,7 @@ use Rattle.schedule_compiler.specs.Jobs.{JobOf}
 use Rattle.shape_plans.specs.Drawing.{plan_of}
 use Rattle.rank_slots.specs.declared.ports.InPort.{InPort}
 use Rattle.rank_slots.specs.declared.ports.OutPort.{OutPort}
-use Rattle.rank_slots.specs.declared.slot.Slot.{Slot}
+use Rattle.rank_slots.specs.declared.slot.TurnRank.{TurnRank}
 use Rattle.rank_slots.specs.Lists.{Each}
 use Rattle.rank_slots.specs.Names.{history}
 
@@ -52,14 +52,14 @@ HasNote job r h hs w = (x : RankNote) → get_elem? w r ≡ some x → (x.there 
 
 -- ---- in the turn
 -- there is an end of the lane
-abbrev pub HasOut : Slot → ℕ → Lane → Type 0
+abbrev pub HasOut : TurnRank → ℕ → Lane → Type 0
 HasOut s d lane = (i : ℕ) × (p : OutPort) × (get_elem? s.outs.items i ≡ some p) × (p.target ≡ d) × (p.lane ≡ lane)
 
-abbrev pub HasIn : Slot → ℕ → Lane → Type 0
+abbrev pub HasIn : TurnRank → ℕ → Lane → Type 0
 HasIn s d lane = (i : ℕ) × (p : InPort) × (get_elem? s.ins.items i ≡ some p) × (p.source ≡ d) × (p.lane ≡ lane)
 
 -- how many messages the rank sent on a lane
-abbrev pub HasSentOn : Slot → LaneCount → Type 0
+abbrev pub HasSentOn : TurnRank → LaneCount → Type 0
 HasSentOn s c = CountsSent s.job s.node.value.task.rank (history s) s.node.value.kept c
 
 -- the same lanes, with numbers of which P holds
@@ -68,7 +68,7 @@ pub record Recounted (P : LaneCount → Type 0) (old new : List LaneCount) : Typ
   pub each : Each P new
 
 -- in place of the room x there is the note of this slot
-pub record IsNoted (s : Slot) (x y : RankNote) : Type 0 where
+pub record IsNoted (s : TurnRank) (x y : RankNote) : Type 0 where
   pub there : y.there ≡ true
   pub lanes : SameLanes x y
   pub started : y.note.started ≡ has_start (history s)

@@ -11,7 +11,7 @@ ghost use Rattle.rank_slots.specs.Onward.{Onward};
 use crate::gate::{Gate, StartAnswer};
 use crate::mail::Mail;
 use crate::parked::Parked;
-use crate::slot::Slot;
+use crate::slot::TurnRank;
 use pair_wires::Wire;
 use ptl_types::{Lane, LocalStep, Rank};
 use rank_node::Node;
@@ -54,7 +54,7 @@ fn search_all(node: &Node, parked: &mut Parked) -> Option<u32>
     search(node, parked, 0, from)
 }
 
-impl Slot {
+impl TurnRank {
     /// Receives a message of the lane of this number, which may have some, and answers the step, if there was one. A lane that has none
     /// isn't looked at again before there is mail for it.
     fn receive_of<R: Wait, G: Gate>(
@@ -262,7 +262,7 @@ impl Slot {
         if !self.hints.waits {
             return None;
         }
-        mail.want_room(self.node.nic().rank());
+        mail.wait_for_credit(self.node.nic().rank());
         self.advance(rt, wires, mail, gate)
     }
 

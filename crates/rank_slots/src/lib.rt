@@ -21,5 +21,5 @@ pub use hints::Hints;
 pub use mail::Mail;
 pub use moves::{pull_in, pull_out, put_in};
 pub use ports::{InPort, OutPort};
-pub use slot::Slot;
+pub use slot::TurnRank;
 pub use soundness::sound;

@@ -134,7 +134,7 @@ impl Mail {
     }
 
     /// The rank waits for room on a lane from it. It has to look for room once more after it said so.
-    pub(crate) fn want_room(&self, rank: Rank) {
+    pub(crate) fn wait_for_credit(&self, rank: Rank) {
         if let Some(word) = self.short_word(rank) {
             word.store(1, Ordering::SeqCst);
         }

@@ -4,15 +4,15 @@ ghost use Rattle.std.specs.Prelude.{◌≡◌, ◌<◌, ◌++◌, ◌∷◌, [],
 ghost use mathlib.Core.Option.{some};
 ghost use lib.ListN.{get_elem?};
 ghost use Rattle.shape_plans.specs.Drawing.{plan_of};
-ghost use Rattle.rank_slots.specs.declared.slot.Slot.{Slot};
+ghost use Rattle.rank_slots.specs.declared.slot.TurnRank.{TurnRank};
 ghost use Rattle.rank_slots.specs.Slots.{InOk, OutOk};
 ghost use Rattle.rank_slots.specs.Moves.{GainsIn, LosesIn, LosesOut, MayGainIn, MayGainOut, SameNode, Slotwise};
 
 use crate::ports::{InPort, OutPort};
-use crate::slot::Slot;
+use crate::slot::TurnRank;
 use ptl_types::{NoMemory, Rank};
 
-impl Slot {
+impl TurnRank {
     /// One out end more, after the others.
     ///
     /// # Errors
@@ -83,9 +83,9 @@ impl Slot {
 /// # Errors
 ///
 /// There was no memory for it. The end is let go; there are as many slots as before, with the same nodes.
-pub fn put_in(slots: &mut [Slot], rank: Rank, port: InPort) -> Result<(), NoMemory>
+pub fn put_in(slots: &mut [TurnRank], rank: Rank, port: InPort) -> Result<(), NoMemory>
     requires rank { rank < length slots.old }
-    requires port { (x : Slot) → get_elem? slots.old rank ≡ some x → MayGainIn x port }
+    requires port { (x : TurnRank) → get_elem? slots.old rank ≡ some x → MayGainIn x port }
     ensures count { length slots.new ≡ length slots.old }
     ensures nodes { Slotwise SameNode slots.old slots.new }
     ensures put { IfOk result (λ _. Slotwise (GainsIn rank port) slots.old slots.new) }
@@ -94,22 +94,22 @@ pub fn put_in(slots: &mut [Slot], rank: Rank, port: InPort) -> Result<(), NoMemo
 }
 
 /// The last out end of a rank, which has one, leaves its slot.
-pub fn pull_out(slots: &mut [Slot], rank: Rank) -> OutPort
+pub fn pull_out(slots: &mut [TurnRank], rank: Rank) -> OutPort
     requires rank { rank < length slots.old }
-    requires some { (x : Slot) → get_elem? slots.old rank ≡ some x → 0 < length x.outs.items }
+    requires some { (x : TurnRank) → get_elem? slots.old rank ≡ some x → 0 < length x.outs.items }
     ensures count { length slots.new ≡ length slots.old }
-    ensures port { (x : Slot) → get_elem? slots.old rank ≡ some x → OutOk (plan_of x.job.shape) x.job.inputs x.node.value result }
+    ensures port { (x : TurnRank) → get_elem? slots.old rank ≡ some x → OutOk (plan_of x.job.shape) x.job.inputs x.node.value result }
     ensures pulled { Slotwise (LosesOut rank result) slots.old slots.new }
 {
     slots[rank as usize].take_out()
 }
 
 /// The last in end of a rank, which has one, leaves its slot.
-pub fn pull_in(slots: &mut [Slot], rank: Rank) -> InPort
+pub fn pull_in(slots: &mut [TurnRank], rank: Rank) -> InPort
     requires rank { rank < length slots.old }
-    requires some { (x : Slot) → get_elem? slots.old rank ≡ some x → 0 < length x.ins.items }
+    requires some { (x : TurnRank) → get_elem? slots.old rank ≡ some x → 0 < length x.ins.items }
     ensures count { length slots.new ≡ length slots.old }
-    ensures port { (x : Slot) → get_elem? slots.old rank ≡ some x → InOk (plan_of x.job.shape) x.node.value result }
+    ensures port { (x : TurnRank) → get_elem? slots.old rank ≡ some x → InOk (plan_of x.job.shape) x.node.value result }
     ensures pulled { Slotwise (LosesIn rank result) slots.old slots.new }
 {
     slots[rank as usize].take_in()

@@ -11,11 +11,11 @@ ghost use Rattle.rank_slots.specs.Names.{history};
 ghost use Rattle.rank_slots.specs.Probes.{CountsGot, HasIn, HasOut, HasSentOn, IsNoted, Recounted};
 
 use crate::posts::{find_in, find_out};
-use crate::slot::Slot;
+use crate::slot::TurnRank;
 use ptl_types::{Lane, Rank};
 use rest_probe::Wave;
 
-impl Slot {
+impl TurnRank {
     // How many messages the rank sent on a lane from it. One that waits for room counts.
     fn sent_on(&self, target: Rank, lane: Lane) -> u64
         requires { HasOut self.now target lane }

@@ -17,12 +17,12 @@ ghost use Rattle.rank_slots.specs.Steps.{Begun, Grew};
 use crate::gate::{Gate, StartAnswer};
 use crate::mail::Mail;
 use crate::posts::find_in;
-use crate::slot::Slot;
+use crate::slot::TurnRank;
 use pair_wires::Wire;
 use ptl_types::{Lane, LocalStep, Rank};
 use std::sync::Wait;
 
-impl Slot {
+impl TurnRank {
     /// Starts the rank, if it hasn't started, and answers which. The gate is passed before. It takes no memory.
     pub fn start_once<G: Gate>(&mut self, gate: &G) -> StartAnswer
         requires sound { IsSound self.old.job }

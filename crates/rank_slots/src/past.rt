@@ -1,9 +1,9 @@
 //! A slot's past is its chronicle; its name the job, the rank and the wires; its note the interface and the ends' counts.
 
-use crate::slot::Slot;
+use crate::slot::TurnRank;
 use turn_table::Past;
 
-impl Past for Slot {
+impl Past for TurnRank {
     ghost use Rattle.rank_slots.specs.Chronicles.{Entry, chronicle};
     ghost use Rattle.rank_slots.specs.Names.{Note, Plate, note, plate};
 

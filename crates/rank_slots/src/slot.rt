@@ -10,7 +10,7 @@ use schedule_compiler::Job;
 
 /// A rank's node and the ends of its wires. What is large stands behind a pointer, since a slot is moved at each turn.
 #[derive(Drop)]
-pub struct Slot {
+pub struct TurnRank {
     /// The job.
     pub job: Job,
     /// The rank's node.

@@ -20,12 +20,12 @@ ghost use Rattle.rank_slots.specs.Sound.{IsSound};
 use crate::gate::Gate;
 use crate::mail::Mail;
 use crate::posts::{find_out, flush_all, pass_on, pop_at};
-use crate::slot::Slot;
+use crate::slot::TurnRank;
 use pair_wires::Wire;
 use ptl_types::{Lane, LocalStep, Rank};
 use std::sync::Wait;
 
-impl Slot {
+impl TurnRank {
     /// Starts the rank.
     pub(crate) fn begin(&mut self)
         requires sound { IsSound self.old.job }

@@ -7,7 +7,7 @@ use Rattle.plan_core.specs.Plan.{Plan, all_links}
 use Rattle.plan_core.specs.Sound.{SoundPlan}
 use Rattle.plan_calls.specs.Areas.{comes_to, links_to}
 use Rattle.plan_calls.specs.Lanes.{goes_along, lane_bytes}
-use Rattle.plan_calls.specs.Works.{is_message, sends_of}
+use Rattle.plan_calls.specs.RankOps.{is_message, sends_of}
 use Rattle.cuts.proofs.start.Starting.{length-from_to}
 use Rattle.cuts.proofs.histories.Told.{count-out-le}
 use Rattle.plan_tables.specs.Tables.{from_rank, link_length, to_rank}

@@ -3,7 +3,7 @@
 ghost use Rattle.std.specs.Prelude.{◌≡◌, ◌<◌, ◌+◌, if◌then◌else◌, length, sum_by};
 ghost use Rattle.plan_core.specs.Plan.{link};
 ghost use Rattle.plan_calls.specs.Areas.{links_to};
-ghost use Rattle.plan_calls.specs.Works.{sends_of};
+ghost use Rattle.plan_calls.specs.RankOps.{sends_of};
 ghost use Rattle.plan_tables.specs.Installed.{installed};
 ghost use Rattle.shape_plans.specs.Drawing.{plan_of};
 

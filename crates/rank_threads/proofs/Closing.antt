@@ -33,7 +33,7 @@ use Rattle.worlds.specs.parts.Keeps.{AgreeAll}
 use Rattle.worlds.specs.parts.Layout.{lane_at, node_at, scene_of}
 use Rattle.worlds.specs.FrameState.{FrameState}
 use Rattle.worlds.specs.Frames.{MayClose, frame_lane}
-use Rattle.rank_slots.specs.declared.slot.Slot.{Slot}
+use Rattle.rank_slots.specs.declared.slot.TurnRank.{TurnRank}
 use Rattle.rank_slots.specs.declared.ports.OutPort.{OutPort}
 use Rattle.rank_slots.specs.declared.ports.InPort.{InPort}
 use Rattle.rank_threads.specs.Closing.{IsLifted}
@@ -58,8 +58,8 @@ none [] h = refl
 none (x ∷ xs) h = absurd (omega arith)
 
 -- the node of a rank is that of its slot
-pub record IsNodeOf (slots : List Slot) (nodes : List NodeState) (r : ℕ) : Type 0 where
-  pub slot : Slot
+pub record IsNodeOf (slots : List TurnRank) (nodes : List NodeState) (r : ℕ) : Type 0 where
+  pub slot : TurnRank
   pub there : get_elem? slots r ≡ some slot
   pub node_is : node_at nodes r ≡ slot.node.value
 
@@ -70,10 +70,10 @@ record IsTiedAt (job : JobOf) (r : ℕ) (n : NodeState) : Type 0 where
   tied : Tied (plan_of job.shape) job.inputs n outs ins
   rank : n.task.rank ≡ r
 
-module _ (job : JobOf) (sound : IsSound job) (slots : List Slot) (wires : List WireState) (nodes : List NodeState) (ls : List Plain)
+module _ (job : JobOf) (sound : IsSound job) (slots : List TurnRank) (wires : List WireState) (nodes : List NodeState) (ls : List Plain)
     (size : length nodes ≡ job.shape.ranks) (kept : (r : ℕ) → r < job.shape.ranks → IsNode (node_at nodes r))
     (node : (r : ℕ) → r < job.shape.ranks → IsNodeOf slots nodes r)
-    (named : (r : ℕ) (x : Slot) → get_elem? slots r ≡ some x → IsNamed job wires r (plate x))
+    (named : (r : ℕ) (x : TurnRank) → get_elem? slots r ≡ some x → IsNamed job wires r (plate x))
     (lanes : AreLanes (plan_of job.shape) (bounds_of wires))
     (lifted : (k : ℕ) (w : WireState) → get_elem? wires k ≡ some w → IsLifted w.bounds slots (lane_at ls (lane_place job.shape.ranks w.bounds.source w.bounds.target w.bounds.lane)))
     (unused : (s d : ℕ) (lane : Lane) → s < job.shape.ranks → d < job.shape.ranks → is_used_lane (plan_of job.shape) s d lane ≡ false

@@ -5,7 +5,7 @@ use mathlib.Core.Option.{some}
 use lib.ListN.{get_elem?}
 use Rattle.atomic_table.proofs.Lists.{at_map}
 use Rattle.turn_table.specs.declared.views.HandView.{HandView}
-use Rattle.turn_table.specs.declared.views.SlotView.{SlotView}
+use Rattle.turn_table.specs.declared.views.TurnRankView.{TurnRankView}
 use Rattle.turn_table.specs.Views.{without_busy_slot}
 use Rattle.turn_table.specs.Hands.{marks}
 use Rattle.cuts.specs.histories.History.{Local}
@@ -13,7 +13,7 @@ use Rattle.cuts.specs.histories.System.{Histories}
 use Rattle.schedule_compiler.specs.Jobs.{JobOf}
 use Rattle.rest_probe.specs.declared.notes.RankNote.{RankNote}
 use Rattle.rest_probe.specs.declared.notes.ProbeNote.{ProbeNote}
-use Rattle.rank_slots.specs.declared.slot.Slot.{Slot}
+use Rattle.rank_slots.specs.declared.slot.TurnRank.{TurnRank}
 use Rattle.rank_slots.specs.Names.{Mark, history, note}
 use Rattle.rank_slots.specs.Probes.{HasNote, Says}
 use Rattle.rank_threads.specs.Resting.{SaysSeen}
@@ -21,7 +21,7 @@ use Rattle.rank_threads.specs.Turns.{Turned}
 use Rattle.rank_slots.proofs.Pairs.{at_map_back}
 
 -- the turn in which the note was made
-pub seen-here : (job : JobOf) (v w : HandView Slot) (r : ℕ) (a : Mark) (n : ProbeNote) → Turned v w r a a → Says job r a.0 a.1.kept n → SaysSeen job w r a.0 n
+pub seen-here : (job : JobOf) (v w : HandView TurnRank) (r : ℕ) (a : Mark) (n : ProbeNote) → Turned v w r a a → Says job r a.0 a.1.kept n → SaysSeen job w r a.0 n
 seen-here job v w r a n t says =
     let z = at_map_back (marks history note) t.last.slot.seen 0 (a, a) (ap (λ (l : List (Mark × Mark)). get_elem? l 0) t.last.turn_is) in record {
       slot = t.last.slot;
@@ -34,27 +34,27 @@ seen-here job v w r a n t says =
     }
 
 -- a turn at another rank
-pub seen-else : (job : JobOf) (v w : HandView Slot) (r q : ℕ) (a b : Mark) (front : List Local) (n : ProbeNote) → Turned v w r a b → q ≢ r → SaysSeen job v q front n → SaysSeen job w q front n
+pub seen-else : (job : JobOf) (v w : HandView TurnRank) (r q : ℕ) (a b : Mark) (front : List Local) (n : ProbeNote) → Turned v w r a b → q ≢ r → SaysSeen job v q front n → SaysSeen job w q front n
 seen-else job v w r q a b front n t apart h =
     let x = at_map_back without_busy_slot w.slots q (without_busy_slot h.slot) (t.others q apart ∙ at_map without_busy_slot v.slots q h.slot h.slot_is) in record {
       slot = x.0;
       slot_is = x.1;
       at = h.at;
       turn = h.turn;
-      turn_is = ap (λ (s : SlotView Slot). get_elem? s.seen h.at) x.2 ∙ h.turn_is;
+      turn_is = ap (λ (s : TurnRankView TurnRank). get_elem? s.seen h.at) x.2 ∙ h.turn_is;
       begins = h.begins;
       says = h.says;
     }
 
 -- the notes of the ranks below n say what these fronts say
-abbrev pub AreNoted : JobOf → HandView Slot → ℕ → List RankNote → Type 0
+abbrev pub AreNoted : JobOf → HandView TurnRank → ℕ → List RankNote → Type 0
 AreNoted job v n w = (fronts : Histories) × ((r : ℕ) (x : RankNote) → r < n → get_elem? w r ≡ some x → SaysSeen job v r (fronts r) x.note)
 
-pub none-noted : (job : JobOf) (v : HandView Slot) (w : List RankNote) → AreNoted job v 0 w
+pub none-noted : (job : JobOf) (v : HandView TurnRank) (w : List RankNote) → AreNoted job v 0 w
 none-noted job v w = ((λ _. []), λ r x low at. absurd (omega (arith, low)))
 
 -- one note more
-pub more-noted : (job : JobOf) (v u : HandView Slot) (n : ℕ) (a : Mark) (w z : List RankNote) → Turned v u n a a → HasNote job n a.0 a.1.kept z
+pub more-noted : (job : JobOf) (v u : HandView TurnRank) (n : ℕ) (a : Mark) (w z : List RankNote) → Turned v u n a a → HasNote job n a.0 a.1.kept z
     → ((r : ℕ) → r ≢ n → get_elem? z r ≡ get_elem? w r) → AreNoted job v n w → AreNoted job u (n + 1) z
 more-noted job v u n a w z t note others h = (
   (λ r. cond (eqb r n) a.0 (h.0 r)),

@@ -17,13 +17,13 @@ use Rattle.plan_core.specs.Plan.{Plan, all_links, cell, is_bump, link, out_links
 use Rattle.plan_core.proofs.Lists.{In-filter, In-map_cases}
 use Rattle.plan_core.proofs.Links.{In-from_to, out_links-In}
 use Rattle.plan_calls.specs.Lanes.{goes_along, is_used_lane, lane_links}
-use Rattle.plan_calls.specs.Works.{Work, works}
-use Rattle.plan_calls.specs.Works.Work.{Along, Tell}
-use Rattle.cuts.specs.view.Deeds.{deed_of, operation, send_deed}
+use Rattle.plan_calls.specs.RankOps.{RankOp, rank_ops}
+use Rattle.plan_calls.specs.RankOps.RankOp.{ForLink, ForDone}
+use Rattle.cuts.specs.view.TriggeredOps.{deed_of, operation, send_deed}
 use Rattle.cuts.specs.view.Slots.{Slots, cell_ct}
-use Rattle.ptl_types.specs.declared.calls.Deed.TheVariants.{Inc as IncDeed}
+use Rattle.ptl_types.specs.declared.calls.TriggeredOp.TheVariants.{Inc as IncDeed}
 use Rattle.ni_model.specs.Counts.{successes}
-use Rattle.cuts.proofs.machine.Works.{works-along}
+use Rattle.cuts.proofs.machine.RankOps.{rank_ops-along}
 use Rattle.cuts.proofs.view.Tables.{find-In}
 use Rattle.cuts.proofs.histories.Origin.{IsOf}
 use Rattle.atomic_table.proofs.Lists.{at_map}
@@ -47,7 +47,7 @@ use Rattle.rank_wiring.specs.Wiring.{bounds_of, from_rank, to_rank}
 use Rattle.rank_slots.proofs.Pairs.{at_map_back, exists_at, within}
 use Rattle.rank_wiring.proofs.Rows.{row-has}
 use Rattle.rank_slots.proofs.Sends.{node-of}
-use Rattle.rank_slots.specs.declared.slot.Slot.{Slot}
+use Rattle.rank_slots.specs.declared.slot.TurnRank.{TurnRank}
 use Rattle.rank_slots.specs.declared.ports.OutPort.{OutPort}
 use Rattle.rank_slots.specs.declared.ports.InPort.{InPort}
 
@@ -66,12 +66,12 @@ sends-to : (p : Plan) (k : Slots) (l d : ℕ) (o : Option AtomicOp) → message_
 sends-to p k l d None e = some-one e
 sends-to p k l d (Some o) e = some-one e
 
-work-lane : (p : Plan) (k : Slots) (r d : ℕ) (w : Work) → In w (works p r) → message_target (deed_of p k w) ≡ Some d → is_used_lane p r d Request ≡ true
-work-lane p k r d (Tell c) i e = cc
-work-lane p k r d (Along l) i e = at (is_bump (link p l).kind) refl e
+work-lane : (p : Plan) (k : Slots) (r d : ℕ) (w : RankOp) → In w (rank_ops p r) → message_target (deed_of p k w) ≡ Some d → is_used_lane p r d Request ≡ true
+work-lane p k r d (ForDone c) i e = cc
+work-lane p k r d (ForLink l) i e = at (is_bump (link p l).kind) refl e
   where
     out : In l (out_links p r)
-    out = works-along p r l i
+    out = rank_ops-along p r l i
 
     at : (b : Bool) → is_bump (link p l).kind ≡ b → message_target (cond b (IncDeed (cell_ct p k (link p l).target) (successes 1)) (send_deed p k l (cell p (link p l).target).op)) ≡ Some d → is_used_lane p r d Request ≡ true
     at true q e = cc
@@ -89,7 +89,7 @@ ready-lane p k r s t d of ready goes = at (posted_at t s.pending) refl ready goe
     at None e f g = cc
     at (Some x) e f g =
         let i = of.pending x (find-In (is_number t) s.pending.waiting x e).0 in
-        let w = In-map_cases (operation p k r) x (works p r) i in
+        let w = In-map_cases (operation p k r) x (rank_ops p r) i in
         work-lane p k r d w.0 w.1 (subst (λ (y : Posted). message_target y.deed ≡ Some d) (sym w.2) g)
 
 -- ---- why a lane was passed over
@@ -110,7 +110,7 @@ closed-is closed (Some d) e = (d, refl, at (get_or closed d false) e)
     at false e = cc
 
 module _ (job : JobOf) (sound : IsSound job) (wires : List WireState) (lanes : AreLanes (plan_of job.shape) (bounds_of wires))
-    (r : ℕ) (x : Slot) (named : IsNamed job wires r (plate x)) where
+    (r : ℕ) (x : TurnRank) (named : IsNamed job wires r (plate x)) where
   abbrev p : Plan
   p = plan_of job.shape
 
@@ -167,7 +167,7 @@ module _ (job : JobOf) (sound : IsSound job) (wires : List WireState) (lanes : A
   of-history is = λ slots a. run-state p job.inputs slots (λ q. history x) r n compiled is a refl
 
   -- what waited was tried again, and the out ends are then as y has them
-  module _ (z y : Slot) (flushed : HasFlushed x z) (outs : y.outs.items ≡ z.outs.items) where
+  module _ (z y : TurnRank) (flushed : HasFlushed x z) (outs : y.outs.items ≡ z.outs.items) where
     -- an end at which a message waits still
     is-full : (d : ℕ) (lane : Lane) (i : ℕ) (o q : OutPort) → get_elem? x.outs.items i ≡ some o → get_elem? z.outs.items i ≡ some q
         → q.target ≡ d → q.lane ≡ lane → q.end.waits ≡ true → IsFull d lane (note x) (note y)
@@ -231,7 +231,7 @@ module _ (job : JobOf) (sound : IsSound job) (wires : List WireState) (lanes : A
     ])
 
   -- ---- the rank was idle
-  over : (y : Slot) (idled : Idled x y) (s : ℕ) (lane : Lane) → is_used_lane p s r lane ≡ true → PassedOver s lane (note x) (note y)
+  over : (y : TurnRank) (idled : Idled x y) (s : ℕ) (lane : Lane) → is_used_lane p s r lane ≡ true → PassedOver s lane (note x) (note y)
   over y idled s lane used =
       let z = idled.between in
       let i = in-at s lane used in
@@ -239,7 +239,7 @@ module _ (job : JobOf) (sound : IsSound job) (wires : List WireState) (lanes : A
       let q = exists_at y.ins.items i.0 (let k = within z.ins.items i.0 i.1 there in let m = idled.missed.ins.many in omega arith) in
       passed z y idled.flushed idled.missed.outs s lane i.0 i.1 q.0 i.2 i.3 i.4 q.1 (idled.missed.ins.each i.0 i.1 q.0 there q.1)
 
-  pub idle-told : (y : Slot) → IsNode n → Idled x y → IsIdle job r (mark x) (mark y)
+  pub idle-told : (y : TurnRank) → IsNode n → Idled x y → IsIdle job r (mark x) (mark y)
   idle-told y is idled = record {
     same = ap (λ (m : NodeState). m.diary.locals) idled.missed.node ∙ ap (λ (m : NodeState). m.diary.locals) idled.flushed.node.same;
     started = idled.started;
@@ -249,11 +249,11 @@ module _ (job : JobOf) (sound : IsSound job) (wires : List WireState) (lanes : A
   }
 
   -- ---- none was ready
-  pub not-fired : (y : Slot) → IsNode n → HasFlushed x y → AreShut y.node.value → (history y ≡ history x) × NoneFires (note x) (note y)
+  pub not-fired : (y : TurnRank) → IsNode n → HasFlushed x y → AreShut y.node.value → (history y ≡ history x) × NoneFires (note x) (note y)
   not-fired y is flushed shut = (ap (λ (m : NodeState). m.diary.locals) flushed.node.same, none-fires y y flushed refl is shut)
 
   -- ---- one lane was passed over
-  pub passed-at : (y : Slot) (s : ℕ) (lane : Lane) → PassedAt s lane x y → (history y ≡ history x) × PassedOver s lane (note x) (note y)
+  pub passed-at : (y : TurnRank) (s : ℕ) (lane : Lane) → PassedAt s lane x y → (history y ≡ history x) × PassedOver s lane (note x) (note y)
   passed-at y s lane h =
       let z = h.between in
       let there : get_elem? z.ins.items h.at ≡ some h.port = ap (λ (l : List InPort). get_elem? l h.at) h.flushed.ins ∙ h.there in

@@ -20,7 +20,7 @@ use Rattle.rank_node.specs.Node.{NodeState}
 use Rattle.worlds.specs.Frames.{frame_lane}
 use Rattle.worlds.specs.parts.Layout.{lane_at}
 use Rattle.worlds.proofs.parts.Placed.{OneLane, lane_apart}
-use Rattle.rank_slots.specs.declared.slot.Slot.{Slot}
+use Rattle.rank_slots.specs.declared.slot.TurnRank.{TurnRank}
 use Rattle.rank_slots.specs.declared.ports.OutPort.{OutPort}
 use Rattle.rank_slots.specs.declared.ports.InPort.{InPort}
 use Rattle.rank_threads.specs.Closing.{IsHeldOn, IsLifted}
@@ -52,7 +52,7 @@ in-lanes ls i roomy = ⊎_elim (λ (h : i < length ls). h)
 
 -- ---- what a wire held
 -- what a slot's ends say, and what the wire held between them
-pub held-between : (b : Bounds) (x y : Slot) (out : OutPort) (into : InPort) (held : List Sent) (l : Plain) → OutOk (plan_of x.job.shape) x.job.inputs x.node.value out → InOk (plan_of y.job.shape) y.node.value into
+pub held-between : (b : Bounds) (x y : TurnRank) (out : OutPort) (into : InPort) (held : List Sent) (l : Plain) → OutOk (plan_of x.job.shape) x.job.inputs x.node.value out → InOk (plan_of y.job.shape) y.node.value into
     → out.end.bounds ≡ b → into.end.bounds ≡ b → out.end.sent ≡ into.end.received ++ held → l.messages ≡ held
     → HasSent (plan_of x.job.shape) x.job.inputs x.node.value b.target b.lane (got (history y) b.source b.lane ++ l.messages)
 held-between b x y out into held l o i eo ei e is =
@@ -65,13 +65,13 @@ held-between b x y out into held l o i eo ei e is =
     subst (λ (z : (ℕ × Lane) × List Sent). HasSent (plan_of x.job.shape) x.job.inputs x.node.value z.0.0 z.0.1 z.1) (λ j. ((to j, on j), all j)) o.sent_is
 
 -- ends that left slots tell as much of the slots before
-pub held-before : (b : Bounds) (old new : List Slot) (l : Plain) → Slotwise SameNode old new → length new ≡ length old → IsHeldOn b new l → IsHeldOn b old l
+pub held-before : (b : Bounds) (old new : List TurnRank) (l : Plain) → Slotwise SameNode old new → length new ≡ length old → IsHeldOn b new l → IsHeldOn b old l
 held-before b old new l s n h x y ex ey =
     let u = node_before old new s n b.source x ex in let v = node_before old new s n b.target y ey in
     subst (λ (z : (JobOf × NodeState) × NodeState). HasSent (plan_of z.0.0.shape) z.0.0.inputs z.0.1 b.target b.lane (got z.1.diary.locals b.source b.lane ++ l.messages))
     (λ j. ((u.2.job_is j, u.2.node j), v.2.node j)) (h u.0 v.0 u.1 v.1)
 
-pub lifted-before : (b : Bounds) (old new : List Slot) (l : Plain) → Slotwise SameNode old new → length new ≡ length old → IsLifted b new l → IsLifted b old l
+pub lifted-before : (b : Bounds) (old new : List TurnRank) (l : Plain) → Slotwise SameNode old new → length new ≡ length old → IsLifted b new l → IsLifted b old l
 lifted-before b old new l s n h = record { held = held-before b old new l s n h.held; few = h.few; room = h.room }
 
 -- ---- one after the other
@@ -87,11 +87,11 @@ abbrev pub NotYet : List WireState → ℕ → ℕ → ℕ → Lane → Type 0
 NotYet all m s d lane = (k : ℕ) (w : WireState) → m ≤ k → get_elem? all k ≡ some w → OnLane w s d lane → ⊥
 
 -- m wires are left
-pub record AreLifted (n : ℕ) (all : List WireState) (slots : List Slot) (first : List Plain) (m : ℕ) (ls : List Plain) : Type 0 where
+pub record AreLifted (n : ℕ) (all : List WireState) (slots : List TurnRank) (first : List Plain) (m : ℕ) (ls : List Plain) : Type 0 where
   pub left : (s d : ℕ) (lane : Lane) → s < n → d < n → NotYet all m s d lane → lane_at ls (lane_place n s d lane) ≡ lane_at first (lane_place n s d lane)
   pub done : (k : ℕ) (w : WireState) → m ≤ k → get_elem? all k ≡ some w → IsLifted w.bounds slots (lane_at ls (lane_place n w.bounds.source w.bounds.target w.bounds.lane))
 
-module _ (p : Plan) (n : ℕ) (ranks : p.ranks ≡ n) (all : List WireState) (are : AreLanes p (bounds_of all)) (slots : List Slot) (first : List Plain) where
+module _ (p : Plan) (n : ℕ) (ranks : p.ranks ≡ n) (all : List WireState) (are : AreLanes p (bounds_of all)) (slots : List TurnRank) (first : List Plain) where
   bounds-at : (k : ℕ) (w : WireState) → get_elem? all k ≡ some w → get_elem? (bounds_of all) k ≡ some w.bounds
   bounds-at k w e = at_map (λ (w : WireState). w.bounds) all k w e
 

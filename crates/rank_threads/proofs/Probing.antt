@@ -15,7 +15,7 @@ use Rattle.rest_probe.specs.declared.notes.RankNote.{RankNote}
 use Rattle.rest_probe.specs.Counted.{counted}
 use Rattle.rest_probe.specs.Waves.{IsFor}
 use Rattle.rest_probe.proofs.Used.{from-used, to-used}
-use Rattle.rank_slots.specs.declared.slot.Slot.{Slot}
+use Rattle.rank_slots.specs.declared.slot.TurnRank.{TurnRank}
 use Rattle.rank_threads.specs.Fabrics.{IsNamed}
 use Rattle.rank_slots.specs.Lanes.{AreLanes}
 use Rattle.rank_slots.specs.Names.{history, plate}
@@ -26,7 +26,7 @@ use Rattle.rank_threads.proofs.Idles.{in-at, of-history, out-at}
 
 -- ---- the ends of a rank's lanes
 module _ (job : JobOf) (sound : IsSound job) (wires : List WireState) (lanes : AreLanes (plan_of job.shape) (bounds_of wires))
-    (r : ℕ) (x : Slot) (named : IsNamed job wires r (plate x)) (w : List RankNote) (for : IsFor (plan_of job.shape) w) where
+    (r : ℕ) (x : TurnRank) (named : IsNamed job wires r (plate x)) (w : List RankNote) (for : IsFor (plan_of job.shape) w) where
   abbrev p : Plan
   p = plan_of job.shape
 

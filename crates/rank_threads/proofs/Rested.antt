@@ -34,7 +34,7 @@ use Rattle.rest_probe.proofs.Used.{used-from, used-to}
 use Rattle.worlds.specs.parts.Layout.{node_at}
 use Rattle.worlds.specs.Standing.{IsStanding}
 use Rattle.worlds.specs.World.{AreSlots, WorldState, histories_in}
-use Rattle.rank_slots.specs.declared.slot.Slot.{Slot}
+use Rattle.rank_slots.specs.declared.slot.TurnRank.{TurnRank}
 use Rattle.rank_slots.specs.Chronicles.{chronicle}
 use Rattle.rank_threads.specs.Closing.{IsLeft, IsWorldOf}
 use Rattle.rank_threads.specs.Fabrics.{FabricState}
@@ -55,13 +55,13 @@ record AtRank (job : JobOf) (w : WorldState) (k : Slots) (r : ℕ) (front : List
   sent : (i : ℕ) (c : LaneCount) → get_elem? x.note.sent i ≡ some c → c.number ≡ sent_on job r k front c.rank c.lane
   got_is : (i : ℕ) (c : LaneCount) → get_elem? x.note.got i ≡ some c → c.number ≡ length (got front c.rank c.lane)
 
-at-rank : (f : FabricState) (hands : List (HandState Slot)) (w : WorldState) (k : ℕ → Slots) (r : ℕ) (fronts : Histories) (x : RankNote)
+at-rank : (f : FabricState) (hands : List (HandState TurnRank)) (w : WorldState) (k : ℕ → Slots) (r : ℕ) (fronts : Histories) (x : RankNote)
     → IsLeft f.turns.start hands r w → SeenBy f.job hands r fronts x.note → x.note.started ≡ true → AreSlots w k → AtRank f.job w (k r) r (fronts r) x
 at-rank f hands w k r fronts x l s started agree =
     let says = s.says in let n = says.says in
-    let dated = subst (λ (h : HandState Slot). IsPrefix (chronicle says.turn.given) (chronicle l.slot)) (read hands s.at s.hand s.hand s.hand_is)
+    let dated = subst (λ (h : HandState TurnRank). IsPrefix (chronicle says.turn.given) (chronicle l.slot)) (read hands s.at s.hand s.hand s.hand_is)
     (l.dated s.at s.hand (within hands s.at s.hand s.hand_is) says.slot says.at says.turn
-    (ap (λ (h : HandState Slot). get_elem? h.knows.slots r) (read hands s.at s.hand s.hand s.hand_is) ∙ says.slot_is) says.turn_is) in
+    (ap (λ (h : HandState TurnRank). get_elem? h.knows.slots r) (read hands s.at s.hand s.hand s.hand_is) ∙ says.slot_is) says.turn_is) in
     let first : has_start (fronts r) ≡ true = sym n.started ∙ started in
     let same = same-handles says.turn.given.node.value.kept l.slot.node.value.kept (history says.turn.given) (history l.slot) (started-prefix (fronts r) (history says.turn.given) says.begins first) dated in
     let a = subst (λ hs. Agrees (k r) hs) same (l.slots k agree) in record {
@@ -76,7 +76,7 @@ none-ready : (s : State) (o : Option ℕ) → o ≡ None → AnswersReady s o �
 none-ready s None e a = a
 none-ready s (Some t) e a = absurd (let h = e in cc)
 
-module _ (f : FabricState) (sound : IsSound f.job) (hands : List (HandState Slot)) (w : WorldState) (is : IsWorldOf f hands w)
+module _ (f : FabricState) (sound : IsSound f.job) (hands : List (HandState TurnRank)) (w : WorldState) (is : IsWorldOf f hands w)
     (v : List RankNote) (for : IsFor (plan_of f.job.shape) v) (answer : Answered v Rest) (fronts : Histories) (seen : AreFrontsOf f.job hands fronts v)
     (k : ℕ → Slots) (agree : AreSlots w k) where
   abbrev p : Plan
@@ -128,7 +128,7 @@ rest-same s v w same rest = record {
 }
 
 -- the job of the world is the fabric's
-pub job-of : (f : FabricState) (hands : List (HandState Slot)) (w : WorldState) → IsWorldOf f hands w → f.job ≡ record { shape = w.shape; inputs = w.inputs }
+pub job-of : (f : FabricState) (hands : List (HandState TurnRank)) (w : WorldState) → IsWorldOf f hands w → f.job ≡ record { shape = w.shape; inputs = w.inputs }
 job-of f hands w is = λ k. record { shape = sym is.shape k; inputs = sym is.inputs k }
 
 -- slots that agree with a world's handles

@@ -7,18 +7,18 @@ use Rattle.turn_table.specs.Hands.{IsFree, IsHandOf, Took}
 use Rattle.turn_table.specs.States.{HandState}
 use Rattle.rank_node.specs.Node.{IsNode}
 use Rattle.rank_slots.specs.Chronicles.{chronicle}
-use Rattle.rank_slots.specs.declared.slot.Slot.{Slot}
+use Rattle.rank_slots.specs.declared.slot.TurnRank.{TurnRank}
 use Rattle.rank_slots.specs.Names.{IsWired, Plate, plate}
 use Rattle.rank_threads.specs.Fabrics.{FabricState, HasTaken, IsFabric, IsNamed}
 use Rattle.rank_slots.proofs.Pairs.{exists_at}
 
-pub has-taken : (f : FabricState) → IsFabric f.job f.turns.start f.wires → (old : HandState Slot) (r : ℕ) (t : Turn Slot) (new : HandState Slot)
+pub has-taken : (f : FabricState) → IsFabric f.job f.turns.start f.wires → (old : HandState TurnRank) (r : ℕ) (t : Turn TurnRank) (new : HandState TurnRank)
     → r < f.job.shape.ranks → IsFree f.turns old → t.slot ≡ r → IsNode t.value.node.value → IsHandOf f.turns new
     → Took chronicle plate old.knows r t.value new.knows → HasTaken f old r t new
 has-taken f fabric old r t new low free slot node hand took =
     let y = exists_at f.turns.start r (let n = fabric.count in omega (arith, n, low)) in
-    let start : took.tried.start ≡ f.turns.start = ap (λ (v : HandView Slot). v.start) took.alike ∙ free.0.1 in
-    let named : plate t.value ≡ plate y.0 = took.found.named y.0 (ap (λ (l : List Slot). get_elem? l r) start ∙ y.1) in
+    let start : took.tried.start ≡ f.turns.start = ap (λ (v : HandView TurnRank). v.start) took.alike ∙ free.0.1 in
+    let named : plate t.value ≡ plate y.0 = took.found.named y.0 (ap (λ (l : List TurnRank). get_elem? l r) start ∙ y.1) in
     let laid = (fabric.named r y.0 y.1).laid in
     record {
       slot = slot;

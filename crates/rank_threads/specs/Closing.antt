@@ -12,7 +12,7 @@ use Rattle.turn_table.specs.Hands.{Left, parts_of}
 use Rattle.turn_table.specs.Rules.{Follows}
 use Rattle.turn_table.specs.States.{HandState}
 use Rattle.worlds.specs.World.{AreSlots, WorldState, histories_in}
-use Rattle.rank_slots.specs.declared.slot.Slot.{Slot}
+use Rattle.rank_slots.specs.declared.slot.TurnRank.{TurnRank}
 use Rattle.rank_threads.specs.Fabrics.{FabricState, HasSwept}
 use Rattle.rank_slots.specs.Chronicles.{chronicle}
 use Rattle.rank_slots.specs.Names.{history, plate}
@@ -20,28 +20,28 @@ use Rattle.rank_slots.specs.Slots.{HasSent}
 
 -- ---- the lanes
 -- the lane holds what was sent on it and not received, in the slots of its ranks
-abbrev pub IsHeldOn : Bounds → List Slot → Plain → Type 0
-IsHeldOn b slots l = (x y : Slot) → get_elem? slots b.source ≡ some x → get_elem? slots b.target ≡ some y →
+abbrev pub IsHeldOn : Bounds → List TurnRank → Plain → Type 0
+IsHeldOn b slots l = (x y : TurnRank) → get_elem? slots b.source ≡ some x → get_elem? slots b.target ≡ some y →
     HasSent (plan_of x.job.shape) x.job.inputs x.node.value b.target b.lane (got (history y) b.source b.lane ++ l.messages)
 
 -- and no more than four messages; it has room for four, or for all that may ever be sent on it where these are fewer
-pub record IsLifted (b : Bounds) (slots : List Slot) (l : Plain) : Type 0 where
+pub record IsLifted (b : Bounds) (slots : List TurnRank) (l : Plain) : Type 0 where
   pub held : IsHeldOn b slots l
   pub few : length l.messages ≤ 4
   pub room : l.capacity ≡ min 4 b.messages
 
 -- ---- the ranks
 -- what is left of rank r: a history that begins with what each hand saw there, and whose places are those of the hands, each once
-pub record IsLeft (start : List Slot) (hands : List (HandState Slot)) (r : ℕ) (w : WorldState) : Type 0 where
-  pub slot : Slot
+pub record IsLeft (start : List TurnRank) (hands : List (HandState TurnRank)) (r : ℕ) (w : WorldState) : Type 0 where
+  pub slot : TurnRank
   pub history_is : histories_in w r ≡ history slot
   pub left : Left history plate start hands r slot
   -- no handle was given after a start that a hand saw, and the world has those that were given
-  pub dated : All (λ (h : HandState Slot). Follows chronicle plate h.knows.slots r slot) hands
+  pub dated : All (λ (h : HandState TurnRank). Follows chronicle plate h.knows.slots r slot) hands
   pub slots : (k : ℕ → Slots) → AreSlots w k → Agrees (k r) slot.node.value.kept
 
 -- a world of the fabric's job, under a window of four messages on a lane and without strays, with what is left of each rank
-pub record IsWorldOf (f : FabricState) (hands : List (HandState Slot)) (w : WorldState) : Type 0 where
+pub record IsWorldOf (f : FabricState) (hands : List (HandState TurnRank)) (w : WorldState) : Type 0 where
   pub shape : w.shape ≡ f.job.shape
   pub inputs : w.inputs ≡ f.job.inputs
   pub window : w.window ≡ 4
@@ -51,7 +51,7 @@ pub record IsWorldOf (f : FabricState) (hands : List (HandState Slot)) (w : Worl
 
 -- such a world, where so many hands, that are together all of the fabric's, swept all ranks
 pub record IsWorked (f : FabricState) (workers : ℕ) (w : WorldState) : Type 0 where
-  pub hands : List (HandState Slot)
+  pub hands : List (HandState TurnRank)
   pub count : length hands ≡ workers
   pub swept : All (λ h. HasSwept f h) hands
   pub all : parts_of hands ≡ 2 ^ 32

@@ -11,7 +11,7 @@ use Rattle.turn_table.specs.States.{HandState, TableState}
 use Rattle.rank_node.specs.Node.{IsNode, NodeState}
 use Rattle.worlds.specs.FrameState.{FrameState}
 use Rattle.worlds.specs.Frames.{IsFrameOf}
-use Rattle.rank_slots.specs.declared.slot.Slot.{Slot}
+use Rattle.rank_slots.specs.declared.slot.TurnRank.{TurnRank}
 use Rattle.rank_slots.specs.Lists.{Each}
 use Rattle.rank_slots.specs.Lanes.{AreLanes}
 use Rattle.rank_slots.specs.Chronicles.{chronicle}
@@ -24,7 +24,7 @@ use Rattle.rank_wiring.specs.Wiring.{IsLaid, bounds_of}
 -- which job, the table of its ranks, and the wires
 pub record FabricState : Type 0 where
   pub job : JobOf
-  pub turns : TableState Slot
+  pub turns : TableState TurnRank
   pub wires : List WireState
 
 -- the name of rank r of a job, whose ends are those of the wires from it and to it
@@ -34,14 +34,14 @@ pub record IsNamed (job : JobOf) (wires : List WireState) (r : ℕ) (p : Plate) 
   pub laid : IsLaid wires r p.outs p.ins
 
 -- a slot for each rank, and a wire for each lane, with its ends in the slots
-pub record IsFabric (job : JobOf) (start : List Slot) (wires : List WireState) : Type 0 where
+pub record IsFabric (job : JobOf) (start : List TurnRank) (wires : List WireState) : Type 0 where
   pub sound : IsSound job
   pub count : length start ≡ job.shape.ranks
   pub lanes : AreLanes (plan_of job.shape) (bounds_of wires)
-  pub named : (r : ℕ) (x : Slot) → get_elem? start r ≡ some x → IsNamed job wires r (plate x)
+  pub named : (r : ℕ) (x : TurnRank) → get_elem? start r ≡ some x → IsNamed job wires r (plate x)
 
 -- beside it: how many ranks there are, a frame for the world that it ends as, and room for its nodes
-pub record FabricKeeps (job : JobOf) (start : List Slot) (wires : List WireState) (ranks : ℕ) (frame : FrameState) (room : List NodeState)
+pub record FabricKeeps (job : JobOf) (start : List TurnRank) (wires : List WireState) (ranks : ℕ) (frame : FrameState) (room : List NodeState)
     (capacity : ℕ) : Type 0 where
   pub fabric : IsFabric job start wires
   pub ranks_are : ranks ≡ job.shape.ranks
@@ -51,7 +51,7 @@ pub record FabricKeeps (job : JobOf) (start : List Slot) (wires : List WireState
   pub roomy : length start ≤ capacity
 
 -- the hand took the turn t of rank r, after some busy tries, and what is in it is that rank's of the fabric
-pub record HasTaken (f : FabricState) (old : HandState Slot) (r : ℕ) (t : Turn Slot) (new : HandState Slot) : Type 0 where
+pub record HasTaken (f : FabricState) (old : HandState TurnRank) (r : ℕ) (t : Turn TurnRank) (new : HandState TurnRank) : Type 0 where
   pub slot : t.slot ≡ r
   pub sound : IsSound f.job
   pub lanes : AreLanes (plan_of f.job.shape) (bounds_of f.wires)
@@ -62,5 +62,5 @@ pub record HasTaken (f : FabricState) (old : HandState Slot) (r : ℕ) (t : Turn
   pub took : Took chronicle plate old.knows r t.value new.knows
 
 -- the hand had turns at all ranks, and its last one at each found that rank idle
-unfoldable pub HasSwept : FabricState → HandState Slot → Type 0
+unfoldable pub HasSwept : FabricState → HandState TurnRank → Type 0
 HasSwept f h = (r : ℕ) → r < f.job.shape.ranks → FoundIdle f.job h.knows r

@@ -13,41 +13,41 @@ use Rattle.shape_plans.specs.Drawing.{plan_of}
 use Rattle.turn_table.specs.declared.views.HandView.{HandView}
 use Rattle.turn_table.specs.Hands.{IsFree}
 use Rattle.turn_table.specs.States.{HandState}
-use Rattle.rank_slots.specs.declared.slot.Slot.{Slot}
+use Rattle.rank_slots.specs.declared.slot.TurnRank.{TurnRank}
 use Rattle.rank_threads.specs.Fabrics.{FabricState}
 use mathlib.Core.List.{IsPrefix}
 use Rattle.cuts.specs.histories.History.{Local}
 use Rattle.turn_table.specs.declared.views.EndedTurn.{EndedTurn}
-use Rattle.turn_table.specs.declared.views.SlotView.{SlotView}
+use Rattle.turn_table.specs.declared.views.TurnRankView.{TurnRankView}
 use Rattle.rank_slots.specs.Names.{history}
 use Rattle.rank_slots.specs.Probes.{Says}
 
 -- a history that was seen at rank r begins with this front, and the note says what the front says
-pub record SaysSeen (job : JobOf) (v : HandView Slot) (r : ℕ) (front : List Local) (n : ProbeNote) : Type 0 where
-  pub slot : SlotView Slot
+pub record SaysSeen (job : JobOf) (v : HandView TurnRank) (r : ℕ) (front : List Local) (n : ProbeNote) : Type 0 where
+  pub slot : TurnRankView TurnRank
   pub slot_is : get_elem? v.slots r ≡ some slot
   pub at : ℕ
-  pub turn : EndedTurn Slot
+  pub turn : EndedTurn TurnRank
   pub turn_is : get_elem? slot.seen at ≡ some turn
   pub begins : IsPrefix front (history turn.given)
   pub says : Says job r front turn.given.node.value.kept n
 
 -- each note says what its rank's front says, with which a history begins that was seen there
-abbrev pub AreFronts : JobOf → HandView Slot → Histories → List RankNote → Type 0
+abbrev pub AreFronts : JobOf → HandView TurnRank → Histories → List RankNote → Type 0
 AreFronts job v fronts w = (r : ℕ) (x : RankNote) → get_elem? w r ≡ some x → SaysSeen job v r (fronts r) x.note
 
 -- by one of these hands
-pub record SeenBy (job : JobOf) (hands : List (HandState Slot)) (r : ℕ) (fronts : Histories) (n : ProbeNote) : Type 0 where
+pub record SeenBy (job : JobOf) (hands : List (HandState TurnRank)) (r : ℕ) (fronts : Histories) (n : ProbeNote) : Type 0 where
   pub at : ℕ
-  pub hand : HandState Slot
+  pub hand : HandState TurnRank
   pub hand_is : get_elem? hands at ≡ some hand
   pub says : SaysSeen job hand.knows r (fronts r) n
 
-abbrev pub AreFrontsOf : JobOf → List (HandState Slot) → Histories → List RankNote → Type 0
+abbrev pub AreFrontsOf : JobOf → List (HandState TurnRank) → Histories → List RankNote → Type 0
 AreFrontsOf job hands fronts w = (r : ℕ) (x : RankNote) → get_elem? w r ≡ some x → SeenBy job hands r fronts x.note
 
 -- what becomes of the hand and the wave of the first worker: the wave has found the job at rest
-pub record Led (f : FabricState) (old new : HandState Slot) (w : List RankNote) : Type 0 where
+pub record Led (f : FabricState) (old new : HandState TurnRank) (w : List RankNote) : Type 0 where
   pub hand : IsFree f.turns new
   pub parts : new.knows.parts ≡ old.knows.parts
   pub lanes : IsFor (plan_of f.job.shape) w

@@ -6,7 +6,7 @@ ghost use Rattle.turn_table.specs.Hands.{IsFree, IsHandOf, Took};
 ghost use Rattle.turn_table.specs.Views.{after_busy};
 ghost use Rattle.plan_calls.specs.Lanes.{is_used_lane};
 ghost use Rattle.shape_plans.specs.Drawing.{plan_of};
-ghost use Rattle.rank_slots.specs.declared.slot.Slot.{Slot};
+ghost use Rattle.rank_slots.specs.declared.slot.TurnRank.{TurnRank};
 ghost use Rattle.rank_threads.specs.Fabrics.{HasTaken};
 ghost use Rattle.rank_slots.specs.Chronicles.{chronicle};
 ghost use Rattle.rank_slots.specs.Names.{Mark, mark, plate};
@@ -16,13 +16,13 @@ ghost use Rattle.rank_threads.specs.Turns.{Followed, MayEnd, Turned};
 
 use crate::fabric::{Fabric, Hand};
 use ptl_types::{Lane, LocalStep, Rank};
-use rank_slots::{Gate, Slot, StartAnswer};
+use rank_slots::{Gate, TurnRank, StartAnswer};
 use std::sync::Wait;
 use turn_table::Turn;
 
 impl<G: Gate + Drop> Fabric<G> {
     /// Takes the turn of a rank.
-    pub(crate) fn take<R: Wait>(&self, rt: &R, hand: &mut Hand, rank: Rank) -> Turn<Slot>
+    pub(crate) fn take<R: Wait>(&self, rt: &R, hand: &mut Hand, rank: Rank) -> Turn<TurnRank>
         requires hand { IsFree self.now.turns hand.old }
         requires rank { rank < self.now.job.shape.ranks }
         ensures { HasTaken self.now hand.old rank result hand.new }
@@ -35,7 +35,7 @@ impl<G: Gate + Drop> Fabric<G> {
     }
 
     /// Takes the turn of a rank, if no other hand has it. It never waits.
-    pub(crate) fn try_take(&self, hand: &mut Hand, rank: Rank) -> Option<Turn<Slot>>
+    pub(crate) fn try_take(&self, hand: &mut Hand, rank: Rank) -> Option<Turn<TurnRank>>
         requires hand { IsFree self.now.turns hand.old }
         requires rank { rank < self.now.job.shape.ranks }
         ensures some { IfSome result (λ t. HasTaken self.now hand.old rank t hand.new) }
@@ -52,12 +52,12 @@ impl<G: Gate + Drop> Fabric<G> {
     }
 
     /// Gives a turn back.
-    pub(crate) fn give(&self, hand: &mut Hand, turn: Turn<Slot>)
+    pub(crate) fn give(&self, hand: &mut Hand, turn: Turn<TurnRank>)
         requires hand { IsHandOf self.now.turns hand.old }
         requires sound { IsSound turn.value.job }
         requires taken { MayEnd turn.slot turn.value hand.old.knows }
         ensures hand { IsFree self.now.turns hand.new }
-        ensures turned { (v : HandView Slot) (x : Slot) → Took chronicle plate v turn.slot x hand.old.knows → Turned v hand.new.knows turn.slot (mark x) (mark turn.value) }
+        ensures turned { (v : HandView TurnRank) (x : TurnRank) → Took chronicle plate v turn.slot x hand.old.knows → Turned v hand.new.knows turn.slot (mark x) (mark turn.value) }
     {
         let _ = self.ranks;
         // What every node keeps is told here.

@@ -17,7 +17,7 @@ ghost use Rattle.worlds.specs.FrameLends.{with_lane};
 ghost use Rattle.worlds.specs.Frames.{frame_lane, lane_in};
 ghost use Rattle.worlds.specs.Standing.{IsStanding};
 ghost use Rattle.worlds.specs.World.{AreSlots, histories_in};
-ghost use Rattle.rank_slots.specs.declared.slot.Slot.{Slot};
+ghost use Rattle.rank_slots.specs.declared.slot.TurnRank.{TurnRank};
 ghost use Rattle.rank_threads.specs.Closing.{IsLifted, IsWorldOf};
 ghost use Rattle.rank_slots.specs.Lanes.{AreLanes, IsLane};
 ghost use Rattle.rank_slots.specs.Lists.{Each};
@@ -28,12 +28,12 @@ ghost use Rattle.rank_wiring.specs.Wiring.{bounds_of};
 use crate::fabric::{Fabric, Hand};
 use pair_wires::Wire;
 use rank_node::Node;
-use rank_slots::{Gate, Slot, pull_in, pull_out};
+use rank_slots::{Gate, TurnRank, pull_in, pull_out};
 use std::sync::Wait;
 use worlds::{Frame, World};
 
 // The last wire gives up its two ends, which leave their slots, and what it held, the message that waits among it, goes to its lane.
-fn lift_wire<R: Wait>(rt: &R, wire: &Wire, slots: &mut [Slot], frame: &mut Frame)
+fn lift_wire<R: Wait>(rt: &R, wire: &Wire, slots: &mut [TurnRank], frame: &mut Frame)
     requires laid { (before : List WireState) × AllLaid (before ++ wire.now ∷ []) slots.old }
     requires between { IsBetween (length slots.old) wire.now }
     requires ranks { length slots.old ≡ frame.old.shape.ranks }
@@ -57,7 +57,7 @@ fn lift_wire<R: Wait>(rt: &R, wire: &Wire, slots: &mut [Slot], frame: &mut Frame
 }
 
 // All wires give up their ends, the last one first.
-fn lift_wires<R: Wait>(rt: &R, wires: &[Wire], slots: &mut [Slot], frame: &mut Frame)
+fn lift_wires<R: Wait>(rt: &R, wires: &[Wire], slots: &mut [TurnRank], frame: &mut Frame)
     requires laid { AllLaid wires.now slots.old }
     requires ranks { length slots.old ≡ frame.old.shape.ranks }
     requires count { (plan_of frame.old.shape).ranks ≡ frame.old.shape.ranks }
@@ -82,14 +82,14 @@ fn lift_wires<R: Wait>(rt: &R, wires: &[Wire], slots: &mut [Slot], frame: &mut F
 }
 
 // The nodes of the slots, in order.
-fn take_nodes(slots: Vec<Slot>, room: Vec<Node>) -> Vec<Node>
+fn take_nodes(slots: Vec<TurnRank>, room: Vec<Node>) -> Vec<Node>
     requires room { (room.items ≡ []) × (length slots.items ≤ vec_capacity room) }
-    ensures nodes { result.items ≡ map (λ (x : Slot). x.node.value) slots.items }
+    ensures nodes { result.items ≡ map (λ (x : TurnRank). x.node.value) slots.items }
     ensures kept { Each (λ n. IsNode n) result.items }
 {
     let mut nodes = room;
     for slot in slots {
-        let Slot { node, .. } = slot;
+        let TurnRank { node, .. } = slot;
         let node = Box::into_inner(node);
         // What every node keeps is told here.
         let _ = node.history();

@@ -2,21 +2,21 @@
 
 use pair_wires::Wire;
 use rank_node::Node;
-use rank_slots::{Gate, Mail, Slot};
+use rank_slots::{Gate, Mail, TurnRank};
 use schedule_compiler::Job;
 use std::marker::Model;
 use turn_table::{TurnHand, Turns};
 use worlds::Frame;
 
 /// What one worker has.
-pub type Hand = TurnHand<Slot>;
+pub type Hand = TurnHand<TurnRank>;
 
 /// All ranks of a job, in slots that workers take in turns, and the wires between them. Threads share it by reference.
 ///
 /// It stands for the job, for the table of its ranks, and for which wires there are.
 #[derive(Drop)]
 pub struct Fabric<G: Gate + Drop> {
-    pub(crate) turns: Turns<Slot>,
+    pub(crate) turns: Turns<TurnRank>,
     pub(crate) wires: Vec<Wire>,
     // Where messages are likely to lie.
     pub(crate) mail: Mail,

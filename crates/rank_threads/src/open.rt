@@ -10,7 +10,7 @@ ghost use Rattle.rank_slots.specs.Sound.{IsSound};
 use crate::fabric::{Fabric, Hand};
 use pair_wires::Wire;
 use ptl_types::NoMemory;
-use rank_slots::{Gate, Mail, Slot, sound};
+use rank_slots::{Gate, Mail, TurnRank, sound};
 use rank_wiring::wired_slots;
 use schedule_compiler::Job;
 use std::alloc::Global;
@@ -29,7 +29,7 @@ fn frame_and_slots<R: Threads + Sync>(
     threads: u32,
 ) -> (
     Result<Frame, NoMemory>,
-    Result<(Vec<Slot>, Vec<Wire>), NoMemory>,
+    Result<(Vec<TurnRank>, Vec<Wire>), NoMemory>,
 )
     requires { IsSound job.now }
     ensures frame { IfOk result.0 (λ f. IsFrameOf job.now f) }
@@ -60,7 +60,7 @@ fn framed_slots<R: Threads + Sync>(
     alloc: Global,
     job: &Job,
     threads: u32,
-) -> Result<(Vec<Slot>, Vec<Wire>, Frame), NoMemory>
+) -> Result<(Vec<TurnRank>, Vec<Wire>, Frame), NoMemory>
     requires { IsSound job.now }
     ensures wired { IfOk result (λ r. AreWired job.now r.0.items r.1.items) }
     ensures frame { IfOk result (λ r. IsFrameOf job.now r.2) }

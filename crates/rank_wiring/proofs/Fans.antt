@@ -12,7 +12,7 @@ use Rattle.plan_core.specs.Plan.{Plan}
 use Rattle.plan_core.specs.Sound.{SoundPlan}
 use Rattle.plan_calls.specs.Lanes.{is_used_lane}
 use Rattle.worlds.proofs.opening.Laid.{few-pairs}
-use Rattle.rank_wiring.specs.declared.lanes.FanOut.{FanOut}
+use Rattle.rank_wiring.specs.declared.lanes.OutLanes.{OutLanes}
 use Rattle.rank_slots.specs.Lists.{Each}
 use Rattle.rank_wiring.specs.Fans.{AreFans, IsFan}
 use Rattle.rank_slots.specs.Lanes.{AreLanes, IsLane, bounds_if_used, bounds_on, lanes_before, lanes_below, lanes_from}
@@ -81,7 +81,7 @@ module _ (p : Plan) where
       subst (λ m. IsPrefix (lanes_before p s) (lanes_before p m)) e (front-of s (n - s))
 
   -- ---- one rank more
-  pub fans-more : (fans : List FanOut) (f : FanOut) → AreFans p fans → IsFan p (length fans) f → AreFans p (fans ++ f ∷ [])
+  pub fans-more : (fans : List OutLanes) (f : OutLanes) → AreFans p fans → IsFan p (length fans) f → AreFans p (fans ++ f ∷ [])
   fans-more fans f h is s g at = ⊎_elim (λ there. h s g there)
       (λ here. subst (IsFan p s) here.1 (subst (λ m. IsFan p m f) (sym here.0) is)) (snoc_at fans f s g at)
 

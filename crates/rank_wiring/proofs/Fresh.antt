@@ -14,7 +14,7 @@ use Rattle.shape_plans.specs.Drawing.{plan_of}
 use Rattle.schedule_compiler.specs.Jobs.{JobOf}
 use Rattle.rank_node.specs.Node.{NodeState}
 use Rattle.rank_node.specs.Plans.{IsCompiledFor}
-use Rattle.rank_slots.specs.declared.slot.Slot.{Slot}
+use Rattle.rank_slots.specs.declared.slot.TurnRank.{TurnRank}
 use Rattle.rank_slots.specs.declared.ports.OutPort.{OutPort}
 use Rattle.rank_slots.specs.declared.ports.InPort.{InPort}
 use Rattle.rank_slots.specs.Lists.{Each}
@@ -24,7 +24,7 @@ use Rattle.rank_wiring.specs.Opening.{AllFresh, IsFresh}
 use Rattle.rank_slots.specs.Moves.{MayGainIn, MayGainOut, SameNode, Slotwise}
 use Rattle.rank_slots.proofs.Snocs.{each_nil}
 
-pub fresh-same : (job : JobOf) (old new : List Slot) → Slotwise SameNode old new → AllFresh job old → AllFresh job new
+pub fresh-same : (job : JobOf) (old new : List TurnRank) → Slotwise SameNode old new → AllFresh job old → AllFresh job new
 fresh-same job old new s h r x e = let y = s r x e in let f = h r y.0 y.1 in record {
   job_is = y.2.job_is ∙ f.job_is;
   compiled = subst (λ (n : NodeState). IsCompiledFor (plan_of job.shape) job.inputs r n.task) (sym y.2.node) f.compiled;
@@ -41,7 +41,7 @@ get_or_replicate (suc n) a (suc i) = get_or_replicate n a i
 pub none-kept : (b : Bounds) → KeepsBounds b []
 none-kept b = record { travel = All-nil (Travels b); few = zero-le; short = zero-le }
 
-module _ (job : JobOf) (r : ℕ) (x : Slot) (fresh : IsFresh job r x) where
+module _ (job : JobOf) (r : ℕ) (x : TurnRank) (fresh : IsFresh job r x) where
   abbrev p : Plan
   p = plan_of job.shape
 

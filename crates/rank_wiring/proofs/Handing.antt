@@ -16,12 +16,12 @@ use Rattle.shape_plans.specs.Drawing.{plan_of}
 use Rattle.schedule_compiler.specs.Jobs.{JobOf}
 use Rattle.rank_node.specs.Node.{NodeState}
 use Rattle.rank_node.specs.Plans.{IsCompiledFor}
-use Rattle.rank_wiring.specs.declared.open.Berth.{Berth}
-use Rattle.rank_wiring.specs.declared.open.Line.{Line}
-use Rattle.rank_wiring.specs.declared.open.Load.{Load}
+use Rattle.rank_wiring.specs.declared.open.BuiltRank.{BuiltRank}
+use Rattle.rank_wiring.specs.declared.open.WireEnd.{WireEnd}
+use Rattle.rank_wiring.specs.declared.open.OutWires.{OutWires}
 use Rattle.rank_slots.specs.declared.ports.InPort.{InPort}
 use Rattle.rank_slots.specs.declared.ports.OutPort.{OutPort}
-use Rattle.rank_slots.specs.declared.slot.Slot.{Slot}
+use Rattle.rank_slots.specs.declared.slot.TurnRank.{TurnRank}
 use Rattle.rank_slots.specs.Joints.{Fits, Joint, in_joint, out_joint}
 use Rattle.rank_slots.specs.Lanes.{AreLanes, IsLane, lanes_before, lanes_from}
 use Rattle.rank_wiring.specs.Opening.{AllFanned, AllFresh, AllIn, AreBerths, AreFirst, AreLines, HasNoIn, HasNoOut, IsFanned, IsFresh, IsHanded}
@@ -42,7 +42,7 @@ mid_at [] a zs = refl
 mid_at (y ∷ ys) a zs = mid_at ys a zs
 
 -- ---- a slot with the same node
-pub fresh-of : (job : JobOf) (r : ℕ) (y x : Slot) → x.job ≡ y.job → x.node.value ≡ y.node.value → IsFresh job r y → IsFresh job r x
+pub fresh-of : (job : JobOf) (r : ℕ) (y x : TurnRank) → x.job ≡ y.job → x.node.value ≡ y.node.value → IsFresh job r y → IsFresh job r x
 fresh-of job r y x same node f = record {
   job_is = same ∙ f.job_is;
   compiled = subst (λ (n : NodeState). IsCompiledFor (plan_of job.shape) job.inputs r n.task) (sym node) f.compiled;
@@ -73,7 +73,7 @@ module _ (p : Plan) (all : List Bounds) (are : AreLanes p all) (wires : List Wir
       (ap (λ (c : Bounds). c.target) (sym is) ∙ ed) (ap (λ (c : Bounds). c.lane) (sym is) ∙ el) in
       omega (arith, low, same)
 
-  pub no-in : (job : JobOf) (slots : List Slot) → AllFresh job slots → AllIn wires slots → (x : Slot) → get_elem? slots b.target ≡ some x
+  pub no-in : (job : JobOf) (slots : List TurnRank) → AllFresh job slots → AllIn wires slots → (x : TurnRank) → get_elem? slots b.target ≡ some x
       → HasNoIn b x.ins.items
   no-in job slots fresh ins x there i q e from lane =
       let ok = x.tied.into i q e in
@@ -84,7 +84,7 @@ module _ (p : Plan) (all : List Bounds) (are : AreLanes p all) (wires : List Wir
 -- the out ends of a rank's first lanes are of other lanes than the next one
 pub no-out : (p : Plan) (inputs : ℕ) → SoundPlan p inputs → (s : ℕ) → s < p.ranks → (n k : ℕ) (wires : List WireState)
     → bounds_of wires ≡ take k (lanes_from p s) → length wires ≡ k
-    → (b : Bounds) → get_elem? (lanes_from p s) k ≡ some b → (x : Slot) → map out_joint x.outs.items ≡ joints_from n wires
+    → (b : Bounds) → get_elem? (lanes_from p s) k ≡ some b → (x : TurnRank) → map out_joint x.outs.items ≡ joints_from n wires
     → HasNoOut b x.outs.items
 no-out p inputs sound s low n k wires laid count b there x outs i q e goes lane =
     let ok = x.tied.out i q e in
@@ -98,7 +98,7 @@ no-out p inputs sound s low n k wires laid count b there x outs i q e goes lane 
     omega (arith, same, below, count)
 
 -- ---- one rank more
-pub fanned-more : (job : JobOf) (r : ℕ) (slots : List Slot) (loads : List Load) (x : Slot) (load : Load) → length slots ≡ r
+pub fanned-more : (job : JobOf) (r : ℕ) (slots : List TurnRank) (loads : List OutWires) (x : TurnRank) (load : OutWires) → length slots ≡ r
     → length loads ≡ r → AllFanned job slots loads
     → IsFanned job r x load → AllFanned job (slots ++ x ∷ []) (loads ++ load ∷ [])
 fanned-more job r slots loads x load n m all is q y other ey em = ⊎_elim
@@ -108,29 +108,29 @@ fanned-more job r slots loads x load n m all is q y other ey em = ⊎_elim
     (snoc_at loads load q other em))
     (λ (nx : (q ≡ length slots) × (x ≡ y)). ⊎_elim
     (λ (oy : get_elem? loads q ≡ some other). absurd (let low = within loads q other oy in let e = nx.0 in omega (arith, low, e, n, m)))
-    (λ (ny : (q ≡ length loads) × (load ≡ other)). subst (λ (z : (ℕ × Slot) × Load). IsFanned job z.0.0 z.0.1 z.1)
+    (λ (ny : (q ≡ length loads) × (load ≡ other)). subst (λ (z : (ℕ × TurnRank) × OutWires). IsFanned job z.0.0 z.0.1 z.1)
     (λ i. ((sym (nx.0 ∙ n) i, nx.1 i), ny.1 i)) is)
     (snoc_at loads load q other em))
     (snoc_at slots x q y ey)
 
 -- the first of these places, and the others
-pub berths-head : (job : JobOf) (k : ℕ) (x : Option Berth) (rest : List (Option Berth)) → AreBerths job k (x ∷ rest)
-    → IfSome x (λ (b : Berth). IsFanned job k b.slot b.load)
-berths-head job k x rest all = subst (λ n. IfSome x (λ (b : Berth). IsFanned job n b.slot b.load)) (add-zero k) (all 0 x (omega arith))
+pub berths-head : (job : JobOf) (k : ℕ) (x : Option BuiltRank) (rest : List (Option BuiltRank)) → AreBerths job k (x ∷ rest)
+    → IfSome x (λ (b : BuiltRank). IsFanned job k b.slot b.load)
+berths-head job k x rest all = subst (λ n. IfSome x (λ (b : BuiltRank). IsFanned job n b.slot b.load)) (add-zero k) (all 0 x (omega arith))
 
-pub berths-tail : (job : JobOf) (k : ℕ) (x : Option Berth) (rest : List (Option Berth)) → AreBerths job k (x ∷ rest) → AreBerths job (suc k) rest
-berths-tail job k x rest all i d low = subst (λ n. IfSome (slice_index_or rest i d) (λ (b : Berth). IsFanned job n b.slot b.load)) (omega arith)
+pub berths-tail : (job : JobOf) (k : ℕ) (x : Option BuiltRank) (rest : List (Option BuiltRank)) → AreBerths job k (x ∷ rest) → AreBerths job (suc k) rest
+berths-tail job k x rest all i d low = subst (λ n. IfSome (slice_index_or rest i d) (λ (b : BuiltRank). IsFanned job n b.slot b.load)) (omega arith)
     (all (suc i) d (omega (arith, low)))
 
 -- ---- in ends come
-pub in-more : (wires : List WireState) (w : WireState) (into : InPort) (old new : List Slot) → into.wire ≡ length wires → IsInOf w into.end
+pub in-more : (wires : List WireState) (w : WireState) (into : InPort) (old new : List TurnRank) → into.wire ≡ length wires → IsInOf w into.end
     → Slotwise (GainsIn w.bounds.target into) old new → AllIn wires old → AllIn (wires ++ w ∷ []) new
 in-more wires w into old new n is s h r x e =
     let y = s r x e in let c = w.bounds.target == r in
     subst (IsRow (wires ++ w ∷ []) (to_rank r)) (sym (ap (map in_joint) y.2.ins_are ∙ map_if in_joint y.0.ins.items into c))
     (row_grows wires w (to_rank r) (map in_joint y.0.ins.items) (in_joint into) c refl (h r y.0 y.1) n is.0 is.1)
 
-module _ (job : JobOf) (sound : IsSound job) (wires : List WireState) (slots : List Slot) (handed : IsHanded job wires slots) (l : Line)
+module _ (job : JobOf) (sound : IsSound job) (wires : List WireState) (slots : List TurnRank) (handed : IsHanded job wires slots) (l : WireEnd)
     (line : IsLine (length wires) l) where
   abbrev plan : Plan
   plan = plan_of job.shape
@@ -151,13 +151,13 @@ module _ (job : JobOf) (sound : IsSound job) (wires : List WireState) (slots : L
     target-in = let h = (next-lane plan (lanes_before plan plan.ranks) are wires b (bounds_of rest ++ first.0) front).target in
         let n = sound.ranks in let m = handed.count in omega (arith, h, n, m)
 
-    pub may-gain : (x : Slot) → get_elem? slots b.target ≡ some x → MayGainIn x l.into
+    pub may-gain : (x : TurnRank) → get_elem? slots b.target ≡ some x → MayGainIn x l.into
     may-gain x at = fresh_in job b.target x (handed.fresh b.target x at) b l.into
         (next-lane plan (lanes_before plan plan.ranks) are wires b
         (bounds_of rest ++ first.0) front) refl line.source line.lane line.in_is.1 line.received
         (no-in plan (lanes_before plan plan.ranks) are wires b (bounds_of rest ++ first.0) front job slots handed.fresh handed.ins x at)
 
-  pub handed-more : (new : List Slot) → length new ≡ length slots → Slotwise SameNode slots new
+  pub handed-more : (new : List TurnRank) → length new ≡ length slots → Slotwise SameNode slots new
       → Slotwise (GainsIn b.target l.into) slots new → IsHanded job (wires ++ l.wire ∷ []) new
   handed-more new many nodes gains = record {
     count = many ∙ handed.count;
@@ -167,7 +167,7 @@ module _ (job : JobOf) (sound : IsSound job) (wires : List WireState) (slots : L
   }
 
 -- the rest of the lines
-pub lines-rest : (n : ℕ) (wires : List WireState) (w : WireState) (ls : List Line) → n ≡ length wires → AreLines (suc n) ls
+pub lines-rest : (n : ℕ) (wires : List WireState) (w : WireState) (ls : List WireEnd) → n ≡ length wires → AreLines (suc n) ls
     → AreLines (length (wires ++ w ∷ [])) ls
 lines-rest n wires w ls e h = let k = length-append wires (w ∷ []) in let same : suc n ≡ length (wires ++ w ∷ []) = omega (arith, k, e) in
     subst (λ m. AreLines m ls) same h
@@ -176,10 +176,10 @@ pub first-rest : (job : JobOf) (wires : List WireState) (w : WireState) (rest : 
     → AreFirst job ((wires ++ w ∷ []) ++ rest)
 first-rest job wires w rest h = subst (AreFirst job) (sym (append_assoc wires (w ∷ []) rest)) h
 
-pub outs-stay : (a : List Slot) → Slotwise SameOuts a a
+pub outs-stay : (a : List TurnRank) → Slotwise SameOuts a a
 outs-stay a r x e = (x, e, record { same = same-node r x; outs_are = refl })
 
-pub outs-chain : (a b c : List Slot) → Slotwise SameOuts a b → Slotwise SameOuts b c → Slotwise SameOuts a c
+pub outs-chain : (a b c : List TurnRank) → Slotwise SameOuts a b → Slotwise SameOuts b c → Slotwise SameOuts a c
 outs-chain a b c s t r x e =
     let y = t r x e in let z = s r y.0 y.1 in (
       z.0,
@@ -190,7 +190,7 @@ outs-chain a b c s t r x e =
       },
     )
 
-pub gains-outs : (s : ℕ) (p : InPort) (old new : List Slot) → Slotwise (GainsIn s p) old new → Slotwise SameOuts old new
+pub gains-outs : (s : ℕ) (p : InPort) (old new : List TurnRank) → Slotwise (GainsIn s p) old new → Slotwise SameOuts old new
 gains-outs s p old new h r x e = let y = h r x e in (y.0, y.1, record { same = y.2.same; outs_are = y.2.outs_are })
 
 -- ---- the wires from rank m come after those from the ranks below
@@ -214,7 +214,7 @@ module _ (p : Plan) (m : ℕ) (before ws : List WireState) (first : bounds_of be
 
 -- ---- rank after rank
 -- before the first wire comes
-pub start-handed : (job : JobOf) (slots : List Slot) (loads : List Load) → length slots ≡ job.shape.ranks → length loads ≡ job.shape.ranks
+pub start-handed : (job : JobOf) (slots : List TurnRank) (loads : List OutWires) → length slots ≡ job.shape.ranks → length loads ≡ job.shape.ranks
     → AllFanned job slots loads → IsHanded job [] slots
 start-handed job slots loads n m fanned = record {
   count = n;
@@ -223,15 +223,15 @@ start-handed job slots loads n m fanned = record {
   ins = λ r x at. subst (λ (l : List InPort). IsRow [] (to_rank r) (map in_joint l)) (sym (of r x at).ins) (row_nil (to_rank r));
 }
   where
-    of : (r : ℕ) (x : Slot) → (at : get_elem? slots r ≡ some x)
+    of : (r : ℕ) (x : TurnRank) → (at : get_elem? slots r ≡ some x)
         → IsFanned job r x (exists_at loads r (let k = within slots r x at in omega (arith, k, n, m))).0
     of r x at = let load = exists_at loads r (let k = within slots r x at in omega (arith, k, n, m)) in fanned r x load.0 at load.1
 
-abbrev pub LaidBelow : ℕ → List WireState → List Slot → Type 0
-LaidBelow m wires slots = (r : ℕ) (x : Slot) → get_elem? slots r ≡ some x → r < m → IsRow wires (from_rank r) (map out_joint x.outs.items)
+abbrev pub LaidBelow : ℕ → List WireState → List TurnRank → Type 0
+LaidBelow m wires slots = (r : ℕ) (x : TurnRank) → get_elem? slots r ≡ some x → r < m → IsRow wires (from_rank r) (map out_joint x.outs.items)
 
-module _ (job : JobOf) (sound : IsSound job) (first : List Slot) (loads : List Load) (fanned : AllFanned job first loads)
-    (many : length first ≡ job.shape.ranks) (m : ℕ) (load : Load)
+module _ (job : JobOf) (sound : IsSound job) (first : List TurnRank) (loads : List OutWires) (fanned : AllFanned job first loads)
+    (many : length first ≡ job.shape.ranks) (m : ℕ) (load : OutWires)
     (there : get_elem? loads m ≡ some load) (low : m < length first) (wires : List WireState)
     (lanes : bounds_of wires ≡ lanes_before (plan_of job.shape) m) where
   abbrev q : Plan
@@ -240,7 +240,7 @@ module _ (job : JobOf) (sound : IsSound job) (first : List Slot) (loads : List L
   abbrev ws : List WireState
   ws = wires_in load.lines.items
 
-  own : (x : Slot) → get_elem? first m ≡ some x → IsFanned job m x load
+  own : (x : TurnRank) → get_elem? first m ≡ some x → IsFanned job m x load
   own x at = fanned m x load at there
 
   is : IsFanned job m (exists_at first m low).0 load
@@ -259,7 +259,7 @@ module _ (job : JobOf) (sound : IsSound job) (first : List Slot) (loads : List L
   load-first = subst (λ (l : List Bounds). IsPrefix l (lanes_before q q.ranks)) (sym load-lanes)
       (first-ones q (suc m) q.ranks (let n = sound.ranks in omega (arith, low, n, many)))
 
-  pub load-laid : (old new : List Slot) → Slotwise SameOuts first old → Slotwise SameOuts old new → LaidBelow m wires old
+  pub load-laid : (old new : List TurnRank) → Slotwise SameOuts first old → Slotwise SameOuts old new → LaidBelow m wires old
       → LaidBelow (suc m) (wires ++ ws) new
   load-laid old new s t laid r x at up =
       let y = t r x at in let z = s r y.0 y.1 in

@@ -5,7 +5,7 @@ use mathlib.Core.Option.{some, some-injective, some-ne-none}
 use lib.ListN.{get_elem?}
 use Rattle.pair_wires.specs.declared.bounds.Bounds.{Bounds}
 use Rattle.pair_wires.specs.Wires.{WireState}
-use Rattle.rank_wiring.specs.declared.open.Line.{Line}
+use Rattle.rank_wiring.specs.declared.open.WireEnd.{WireEnd}
 use Rattle.rank_slots.specs.Joints.{Joint, joint}
 use Rattle.rank_slots.specs.Lists.{Each}
 use Rattle.rank_wiring.specs.Opening.{AreLines, IsLine}
@@ -28,7 +28,7 @@ joints-at n (w ∷ ws) (suc i) j e =
     let r = joints-at (suc n) ws i j e in let k : n + suc i ≡ suc n + i = omega arith in (r.0, r.1, ap (λ m. joint m r.0) k ∙ r.2)
 
 -- ---- a line more
-pub lines-snoc : (n : ℕ) (ls : List Line) (l : Line) → AreLines n ls → IsLine (n + length ls) l → AreLines n (ls ++ l ∷ [])
+pub lines-snoc : (n : ℕ) (ls : List WireEnd) (l : WireEnd) → AreLines n ls → IsLine (n + length ls) l → AreLines n (ls ++ l ∷ [])
 lines-snoc n [] l h is = let e : n + 0 ≡ n = omega arith in (subst (λ m. IsLine m l) e is, tt)
 lines-snoc n (k ∷ ls) l h is =
     let e : n + suc (length ls) ≡ suc n + length ls = omega arith in (h.0, lines-snoc (suc n) ls l h.1 (subst (λ m. IsLine m l) e is))

@@ -1,8 +1,8 @@
 -- What a thread makes for a rank may go to another thread.
 use denote.Param.Send.{IsSend, recorded_send, struct_send}
 use denote.Struct.Declared.{shape}
-use Rattle.rank_wiring.specs.contracts.open.Berth as berth
-use Rattle.rank_wiring.proofs.open.Load.TheSendSync as load
+use Rattle.rank_wiring.specs.contracts.open.BuiltRank as berth
+use Rattle.rank_wiring.proofs.open.OutWires.TheSendSync as load
 use Rattle.rank_slots.proofs.Sent.{slot-field-send}
 
 pub berth-send : IsSend berth.the_row

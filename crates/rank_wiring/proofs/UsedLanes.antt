@@ -13,7 +13,7 @@ use Rattle.plan_core.specs.Sound.{SoundPlan}
 use Rattle.plan_core.proofs.Links.{from_to-In}
 use Rattle.plan_core.proofs.Lists.{In-filter_cases}
 use Rattle.plan_calls.specs.Lanes.{goes_along, is_used_lane, lane_links, lane_messages}
-use Rattle.plan_calls.specs.Works.{is_message}
+use Rattle.plan_calls.specs.RankOps.{is_message}
 use Rattle.cuts.specs.windows.Places.{lane_place}
 use Rattle.worlds.proofs.parts.Placed.{lane_apart, lane_in}
 use Rattle.worlds.proofs.opening.Rooms.{few-on_lane}

@@ -65,7 +65,7 @@ fn lanes_from(alloc: Global, schedule: &Schedule, s: Rank) -> Result<Vec<Bounds>
 
 /// The lanes from a rank that messages go on.
 #[derive(Drop)]
-pub(crate) struct FanOut {
+pub(crate) struct OutLanes {
     /// How many there are from the ranks before it.
     pub(crate) first: u32,
     /// The lanes.
@@ -73,7 +73,7 @@ pub(crate) struct FanOut {
 }
 
 /// The lanes from each rank.
-pub(crate) fn all_fans(alloc: Global, schedule: &Schedule) -> Result<Vec<FanOut>, NoMemory>
+pub(crate) fn all_fans(alloc: Global, schedule: &Schedule) -> Result<Vec<OutLanes>, NoMemory>
     ensures count { IfOk result (λ v. length v.items ≡ schedule.now.ranks) }
     ensures fans { IfOk result (λ v. AreFans (plan_of schedule.now) v.items) }
 {
@@ -84,7 +84,7 @@ pub(crate) fn all_fans(alloc: Global, schedule: &Schedule) -> Result<Vec<FanOut>
     for s in 0..ranks {
         let lanes = lanes_from(alloc, schedule, s)?;
         let many = lanes.len() as u32;
-        fans.push(FanOut { first, lanes })?;
+        fans.push(OutLanes { first, lanes })?;
         first += many;
     }
     Ok(fans)

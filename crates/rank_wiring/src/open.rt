@@ -11,10 +11,10 @@ ghost use Rattle.rank_wiring.specs.Opening.{IsFresh, IsHanded, IsLine, SameOuts,
 ghost use Rattle.rank_slots.specs.Moves.{Slotwise};
 ghost use Rattle.rank_slots.specs.Sound.{IsSound};
 
-use crate::lanes::{FanOut, all_fans};
+use crate::lanes::{OutLanes, all_fans};
 use pair_wires::{Bounds, Wire};
 use ptl_types::{NoMemory, Rank};
-use rank_slots::{Hints, InPort, OutPort, Slot, put_in, sound};
+use rank_slots::{Hints, InPort, OutPort, TurnRank, put_in, sound};
 use rank_tasks::install;
 use schedule_compiler::Job;
 use std::alloc::Global;
@@ -27,26 +27,26 @@ const WIRE_ROOM: u32 = 3;
 
 // A wire with its in end, which is for the rank that it leads to.
 #[derive(Drop)]
-struct Line {
+struct WireEnd {
     wire: Wire,
     into: InPort,
 }
 
 // The wires from a rank.
 #[derive(Drop)]
-struct Load {
-    lines: Vec<Line>,
+struct OutWires {
+    lines: Vec<WireEnd>,
 }
 
 // What the thread of a rank makes for it: its slot, with the out ends of its wires, and the wires.
 #[derive(Drop)]
-struct Berth {
-    slot: Slot,
-    load: Load,
+struct BuiltRank {
+    slot: TurnRank,
+    load: OutWires,
 }
 
 // A rank with no wires, and with room for the ends of so many. There are as many to a rank as from it where answers are sent.
-fn bare_slot(alloc: Global, job: &Job, rank: Rank, ends: usize) -> Result<Slot, NoMemory>
+fn bare_slot(alloc: Global, job: &Job, rank: Rank, ends: usize) -> Result<TurnRank, NoMemory>
     requires { rank < job.now.shape.ranks }
     ensures { IfOk result (λ x. IsBare job.now rank x) }
 {
@@ -56,7 +56,7 @@ fn bare_slot(alloc: Global, job: &Job, rank: Rank, ends: usize) -> Result<Slot, 
     let hints = Box::new(alloc, Hints::open(alloc, ranks, node.nic().pending())?)?;
     let outs = Vec::with_capacity(alloc, ends)?;
     let ins = Vec::with_capacity(alloc, ends)?;
-    Ok(Slot {
+    Ok(TurnRank {
         job: shared,
         node,
         outs,
@@ -71,8 +71,8 @@ fn lay_line(
     job: &Job,
     lane: Bounds,
     number: u32,
-    slot: &mut Slot,
-) -> Result<Line, NoMemory>
+    slot: &mut TurnRank,
+) -> Result<WireEnd, NoMemory>
     requires ranks { (plan_of job.now.shape).ranks ≡ job.now.shape.ranks }
     requires lane { IsLane (plan_of job.now.shape) lane }
     requires fresh { IsFresh job.now lane.source slot.old }
@@ -96,7 +96,7 @@ fn lay_line(
         lane: lane.lane,
     };
     slot.add_out(out)?;
-    Ok(Line { wire, into })
+    Ok(WireEnd { wire, into })
 }
 
 // A wire for each lane from a rank.
@@ -104,9 +104,9 @@ fn lay_fan(
     alloc: Global,
     job: &Job,
     rank: Rank,
-    fan: &FanOut,
-    slot: &mut Slot,
-) -> Result<Load, NoMemory>
+    fan: &OutLanes,
+    slot: &mut TurnRank,
+) -> Result<OutWires, NoMemory>
     requires sound { IsSound job.now }
     requires rank { rank < job.now.shape.ranks }
     requires fan { IsFan (plan_of job.now.shape) rank fan.now }
@@ -118,11 +118,11 @@ fn lay_fan(
         let line = lay_line(alloc, job, fan.lanes[k], fan.first + k as u32, slot)?;
         lines.push(line)?;
     }
-    Ok(Load { lines })
+    Ok(OutWires { lines })
 }
 
 // A rank with its wires.
-fn make_berth(alloc: Global, job: &Job, rank: Rank, fan: &FanOut) -> Result<Berth, NoMemory>
+fn make_berth(alloc: Global, job: &Job, rank: Rank, fan: &OutLanes) -> Result<BuiltRank, NoMemory>
     requires rank { rank < job.now.shape.ranks }
     requires fan { IsFan (plan_of job.now.shape) rank fan.now }
     ensures { IfOk result (λ b. IsFanned job.now rank b.slot b.load) }
@@ -130,11 +130,11 @@ fn make_berth(alloc: Global, job: &Job, rank: Rank, fan: &FanOut) -> Result<Bert
     sound(job);
     let mut slot = bare_slot(alloc, job, rank, fan.lanes.len())?;
     let load = lay_fan(alloc, job, rank, fan, &mut slot)?;
-    Ok(Berth { slot, load })
+    Ok(BuiltRank { slot, load })
 }
 
 // What a thread makes for a rank. There is nothing where there was no memory for it.
-fn berth_of(alloc: Global, job: &Job, fans: &[FanOut], rank: usize) -> Option<Berth>
+fn berth_of(alloc: Global, job: &Job, fans: &[OutLanes], rank: usize) -> Option<BuiltRank>
     requires count { length fans.now ≡ job.now.shape.ranks }
     requires few { length fans.now < 2 ^ 32 }
     requires fans { AreFans (plan_of job.now.shape) fans.now }
@@ -152,9 +152,9 @@ fn make_berths<R: Threads + Sync>(
     rt: &R,
     alloc: Global,
     job: &Job,
-    fans: &[FanOut],
+    fans: &[OutLanes],
     threads: usize,
-) -> Result<Vec<Option<Berth>>, NoMemory>
+) -> Result<Vec<Option<BuiltRank>>, NoMemory>
     requires some { 0 < threads }
     requires count { length fans.now ≡ job.now.shape.ranks }
     requires few { length fans.now < 2 ^ 32 }
@@ -179,10 +179,10 @@ fn make_berths<R: Threads + Sync>(
 fn made_or_make(
     alloc: Global,
     job: &Job,
-    fans: &[FanOut],
+    fans: &[OutLanes],
     rank: usize,
-    place: Option<Berth>,
-) -> Result<Berth, NoMemory>
+    place: Option<BuiltRank>,
+) -> Result<BuiltRank, NoMemory>
     requires count { length fans.now ≡ job.now.shape.ranks }
     requires few { length fans.now < 2 ^ 32 }
     requires fans { AreFans (plan_of job.now.shape) fans.now }
@@ -200,9 +200,9 @@ fn made_or_make(
 fn in_order(
     alloc: Global,
     job: &Job,
-    fans: &[FanOut],
-    places: Vec<Option<Berth>>,
-) -> Result<(Vec<Slot>, Vec<Load>), NoMemory>
+    fans: &[OutLanes],
+    places: Vec<Option<BuiltRank>>,
+) -> Result<(Vec<TurnRank>, Vec<OutWires>), NoMemory>
     requires ranks { length fans.now ≡ job.now.shape.ranks }
     requires few { length fans.now < 2 ^ 32 }
     requires fans { AreFans (plan_of job.now.shape) fans.now }
@@ -216,7 +216,7 @@ fn in_order(
     for place in places {
         let rank = slots.len();
         let berth = made_or_make(alloc, job, fans, rank, place)?;
-        let Berth { slot, load } = berth;
+        let BuiltRank { slot, load } = berth;
         slots.push(slot)?;
         loads.push(load)?;
     }
@@ -226,9 +226,9 @@ fn in_order(
 // The wires from a rank come after the others, and their in ends to the ranks that they lead to.
 fn hand_load(
     job: &Job,
-    load: Load,
+    load: OutWires,
     wires: &mut Vec<Wire>,
-    slots: &mut [Slot],
+    slots: &mut [TurnRank],
 ) -> Result<(), NoMemory>
     requires sound { IsSound job.now }
     requires handed { IsHanded job.now wires.old.items slots.old }
@@ -239,9 +239,9 @@ fn hand_load(
     ensures handed { IfOk result (λ _. IsHanded job.now wires.new.items slots.new) }
     ensures outs { IfOk result (λ _. Slotwise SameOuts slots.old slots.new) }
 {
-    let Load { lines } = load;
+    let OutWires { lines } = load;
     for line in lines {
-        let Line { wire, into } = line;
+        let WireEnd { wire, into } = line;
         put_in(slots, wire.bounds().target, into)?;
         wires.push(wire)?;
     }
@@ -253,8 +253,8 @@ fn hand_all(
     alloc: Global,
     job: &Job,
     many: usize,
-    loads: Vec<Load>,
-    slots: &mut [Slot],
+    loads: Vec<OutWires>,
+    slots: &mut [TurnRank],
 ) -> Result<Vec<Wire>, NoMemory>
     requires sound { IsSound job.now }
     requires count { (length slots.old ≡ job.now.shape.ranks) × (length loads.items ≡ job.now.shape.ranks) }
@@ -270,7 +270,7 @@ fn hand_all(
 }
 
 // How many lanes there are in all.
-fn count(fans: &[FanOut]) -> usize {
+fn count(fans: &[OutLanes]) -> usize {
     match fans.last() {
         Some(fan) => fan.lanes.len().wrapping_add(fan.first as usize),
         None => 0,
@@ -289,7 +289,7 @@ pub fn wired_slots<R: Threads + Sync>(
     alloc: Global,
     job: &Job,
     threads: u32,
-) -> Result<(Vec<Slot>, Vec<Wire>), NoMemory>
+) -> Result<(Vec<TurnRank>, Vec<Wire>), NoMemory>
     requires { IsSound job.now }
     ensures { IfOk result (λ r. AreWired job.now r.0.items r.1.items) }
 {

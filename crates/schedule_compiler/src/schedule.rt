@@ -5,7 +5,7 @@ ghost use Rattle.ptl_types.specs.declared.headers.Lane.TheVariants.{Request};
 ghost use Rattle.plan_core.specs.Draw.{held_cell};
 ghost use Rattle.plan_core.specs.Sound.{SoundPlan};
 ghost use Rattle.plan_calls.specs.Lanes.{lane_bytes, lane_messages};
-ghost use Rattle.plan_calls.specs.Works.{done_threshold};
+ghost use Rattle.plan_calls.specs.RankOps.{done_threshold};
 ghost use Rattle.plan_tables.specs.Installed.{installed};
 ghost use Rattle.plan_tables.specs.Ranks.{IsTables};
 ghost use Rattle.coll_shape.specs.Folding.{at};
@@ -19,7 +19,7 @@ ghost use Rattle.schedule_compiler.specs.Answers.{place_of};
 ghost use Rattle.schedule_compiler.specs.Keeping.{Keeps};
 
 use coll_shape::Shape;
-use plan_core::{Held, Plan};
+use plan_core::{BufferCells, Plan};
 use plan_tables::{RankTable, Tables};
 use ptl_types::{Lane, NoMemory, Rank};
 use std::alloc::Global;
@@ -42,7 +42,7 @@ pub struct Place {
 pub struct Schedule {
     shape: Shape,
     plan: Plan,
-    held: Held,
+    held: BufferCells,
     tables: Tables,
 }
 
@@ -71,7 +71,7 @@ impl Drop for Schedule {
 
 impl Schedule {
     /// The schedule of these parts. It takes no memory.
-    pub(crate) fn of(shape: Shape, plan: Plan, held: Held, tables: Tables) -> Schedule
+    pub(crate) fn of(shape: Shape, plan: Plan, held: BufferCells, tables: Tables) -> Schedule
         requires { Keeps shape plan held tables }
         ensures { result ≡ shape }
     {

@@ -38,7 +38,7 @@ use Rattle.plan_steps.specs.Reducescatter.{result_block}
 use Rattle.plan_steps.specs.Rounds.{rounds}
 use Rattle.plan_steps.specs.Scan.{scan_cell, scan_rows}
 use Rattle.plan_steps.specs.Scatter.{scattered}
-use Rattle.plan_steps.specs.Site.{Site, count, bare_entries, bare_entry, entries, full_entry, places, row, rows, entry, further}
+use Rattle.plan_steps.specs.StepContext.{StepContext, count, bare_entries, bare_entry, entries, full_entry, places, row, rows, entry, further}
 use Rattle.plan_steps.specs.Steps.{giving, passing}
 use Rattle.plan_steps.specs.Trees.{up, up_at, unturned, up_number}
 use Rattle.ptl_types.specs.Operations.{bytes_of}
@@ -51,7 +51,7 @@ use Rattle.shape_plans.specs.declared.judging.TheConstants.{MOST_LINKS}
 use Rattle.std.proofs.Math.Nat.{mul-le-mul_right}
 
 -- ---- one step
-module _ (s : Site) (t : ℕ → Bool) (held : s.holding ≡ filter t (from_to 0 (count s))) (pos : 0 < count s) where
+module _ (s : StepContext) (t : ℕ → Bool) (held : s.holding ≡ filter t (from_to 0 (count s))) (pos : 0 < count s) where
   pub links-of_step : (step : CollStep) → IsRoot step (count s) → links_of (cells_of s step) ≡ step_links step (count s) (length s.holding)
   links-of_step Barrier h = barrier-links s
   links-of_step (Broadcast root a b) h = broadcast-links s root h
@@ -93,51 +93,51 @@ in_row : (f : ℕ → NewCell) (k n : ℕ) → ((i : ℕ) → 1 ≤ length (f i)
 in_row f k zero h = omega arith
 in_row f k (suc n) h = let a = links-cons (f k) (map f (from_to (suc k) n)) in let b = in_row f (suc k) n h in let c = h k in omega (arith, a, b, c)
 
-in_rows : (s : Site) (f : ℕ → ℕ → NewCell) (a n : ℕ) → ((k i : ℕ) → 1 ≤ length (f k i).into) → Linked (rows s f a n)
+in_rows : (s : StepContext) (f : ℕ → ℕ → NewCell) (a n : ℕ) → ((k i : ℕ) → 1 ≤ length (f k i).into) → Linked (rows s f a n)
 in_rows s f a zero h = omega arith
 in_rows s f a (suc n) h = both (row s f a) (rows s f (suc a) n) (in_row (f a) 0 (count s) (h a)) (in_rows s f (suc a) n h)
 
 some : (n : ℕ) → 1 ≤ suc n
 some n = omega arith
 
-all : (s : Site) → Linked (entries s)
+all : (s : StepContext) → Linked (entries s)
 all s = in_row (full_entry s) 0 (count s) (λ i. some 1)
 
-up-linked : (s : Site) (root : ℕ) (o : Rattle.ptl_types.specs.declared.elements.AtomicOp.AtomicOp) → Linked (up s root o)
+up-linked : (s : StepContext) (root : ℕ) (o : Rattle.ptl_types.specs.declared.elements.AtomicOp.AtomicOp) → Linked (up s root o)
 up-linked s root o = in_row (up_at s root o) 0 (count s) (λ j. some _)
 
 either : (b : Bool) (x y : NewCell) → 1 ≤ length x.into → 1 ≤ length y.into → 1 ≤ length (cond b x y).into
 either true x y h g = h
 either false x y h g = g
 
-firsts : (s : Site) (root : ℕ) → Linked (map (first_cell s root) (places s))
+firsts : (s : StepContext) (root : ℕ) → Linked (map (first_cell s root) (places s))
 firsts s root = in_row (first_cell s root) 0 (count s) (λ i. either (i == root) (full_entry s i) (bare_entry s i) (some 1) (some 0))
 
-copies : (s : Site) (root v : ℕ) → 1 ≤ length (copy_cell s root v).into
+copies : (s : StepContext) (root v : ℕ) → 1 ≤ length (copy_cell s root v).into
 copies s root zero = some 0
 copies s root (suc v) = some 1
 
-results : (s : Site) (v : ℕ) → 1 ≤ length (result_cell s v).into
+results : (s : StepContext) (v : ℕ) → 1 ≤ length (result_cell s v).into
 results s zero = some 0
 results s (suc v) = some 1
 
-result-blocks : (s : Site) (v : ℕ) → 1 ≤ length (result_block s v).into
+result-blocks : (s : StepContext) (v : ℕ) → 1 ≤ length (result_block s v).into
 result-blocks s zero = some 0
 result-blocks s (suc v) = some 1
 
-scans : (s : Site) (o : Rattle.ptl_types.specs.declared.elements.AtomicOp.AtomicOp) (k i : ℕ) → 1 ≤ length (scan_cell s o k i).into
+scans : (s : StepContext) (o : Rattle.ptl_types.specs.declared.elements.AtomicOp.AtomicOp) (k i : ℕ) → 1 ≤ length (scan_cell s o k i).into
 scans s o zero i = some 0
 scans s o (suc k) i = some _
 
-scatters : (s : Site) (root i : ℕ) → 1 ≤ length (scattered s root i).into
+scatters : (s : StepContext) (root i : ℕ) → 1 ≤ length (scattered s root i).into
 scatters s root i = at (i == root)
   where
     at : (b : Bool) → 1 ≤ length (cond b (Rattle.plan_steps.specs.Scatter.scatter_put s root i ∷ [])
-        (Rattle.plan_steps.specs.Site.bump (Rattle.plan_steps.specs.Site.entry s i) ∷ Rattle.plan_steps.specs.Scatter.scatter_put s root i ∷ []))
+        (Rattle.plan_steps.specs.StepContext.bump (Rattle.plan_steps.specs.StepContext.entry s i) ∷ Rattle.plan_steps.specs.Scatter.scatter_put s root i ∷ []))
     at true = some 0
     at false = some 1
 
-pub step-linked : (s : Site) (step : CollStep) → 0 < count s → Linked (cells_of s step)
+pub step-linked : (s : StepContext) (step : CollStep) → 0 < count s → Linked (cells_of s step)
 step-linked s Barrier p = both (bare_entries s) (round_rows s) (in_row (bare_entry s) 0 (count s) (λ i. some 0)) (in_rows s (round_cell s) 0 (rounds (count s)) (λ k i. some 1))
 step-linked s (Broadcast root a b) p = both (map (first_cell s root) (places s)) (map (copy_cell s root) (places s)) (firsts s root) (in_row (copy_cell s root) 0 (count s) (copies s root))
 step-linked s (Reduce root o a b) p = both (entries s) (up s root o) (all s) (up-linked s root o)
@@ -158,11 +158,11 @@ step-linked s (Gatherv root a b) p =
     (in_row (held_entry s) 0 (count s) (λ i. either (is_in i s.holding) (full_entry s i) (bare_entry s i) (some 1) (some 0))) (one (concatenated s root) (some _))
 
 -- with few links in the end there is room for the step
-pub room-for : (p : Plan) (s : Site) (step : CollStep) → 0 < count s → length p.cells ≤ MOST_RANKS + length p.links → length p.links + links_of (cells_of s step) ≤ MOST_LINKS → HasRoom p (cells_of s step)
+pub room-for : (p : Plan) (s : StepContext) (step : CollStep) → 0 < count s → length p.cells ≤ MOST_RANKS + length p.links → length p.links + links_of (cells_of s step) ≤ MOST_LINKS → HasRoom p (cells_of s step)
 room-for p s step pos h l = let a = step-linked s step pos in record { cells = omega (arith, a, h, l); links = omega (arith, l) }
 
 -- and there are still few cells
-pub few-after : (p : Plan) (s : Site) (step : CollStep) → 0 < count s → length p.cells ≤ MOST_RANKS + length p.links → length (add_all p (cells_of s step)).cells ≤ MOST_RANKS + length (add_all p (cells_of s step)).links
+pub few-after : (p : Plan) (s : StepContext) (step : CollStep) → 0 < count s → length p.cells ≤ MOST_RANKS + length p.links → length (add_all p (cells_of s step)).cells ≤ MOST_RANKS + length (add_all p (cells_of s step)).links
 few-after p s step pos h = let a = step-linked s step pos in let b = many-cells p (cells_of s step) in let c = links-in_all p (cells_of s step) in omega (arith, a, b, c, h)
 
 -- ---- a buffer that is held has an element
@@ -211,13 +211,13 @@ after-long g (Gatherv root a b) x pos reads has r i = one-times (length (holding
 
 -- ---- who holds B, by the site and by the shape
 -- the cell at the member place of rank r that holds B
-pub record Here (g : List ℕ) (r : ℕ) (s : Site) (step : CollStep) : Type 0 where
+pub record Here (g : List ℕ) (r : ℕ) (s : StepContext) (step : CollStep) : Type 0 where
   pub place : ℕ
   pub is : PlaceOf g r place
   pub cell : ℕ
   pub holder : (end_of s step place).holder ≡ Some cell
 
-here_of : {g : List ℕ} {r : ℕ} {s : Site} {step : CollStep} → (f : ℕ → ℕ) → ((i : ℕ) → (end_of s step i).holder ≡ Some (f i)) → IsMember g r → Here g r s step
+here_of : {g : List ℕ} {r : ℕ} {s : StepContext} {step : CollStep} → (f : ℕ → ℕ) → ((i : ℕ) → (end_of s step i).holder ≡ Some (f i)) → IsMember g r → Here g r s step
 here_of f h m = record { place = m.place; is = m.is; cell = f m.place; holder = h m.place }
 
 behind-at : (g : List ℕ) (r : ℕ) → In r (all_but_first g) → (j : ℕ) × PlaceOf g r (suc j)
@@ -228,7 +228,7 @@ in-behind : (g : List ℕ) (j : ℕ) → suc j < length g → In (get_or g (suc 
 in-behind [] j h = absurd (omega arith)
 in-behind (x ∷ xs) j h = In-get_or xs j 0 (le_of_suc-le-suc h)
 
-pub held_here : (g : List ℕ) (r : ℕ) (s : Site) (step : CollStep) (a : ℕ) → source_of step ≡ Some a → IsRoot step (length g)
+pub held_here : (g : List ℕ) (r : ℕ) (s : StepContext) (step : CollStep) (a : ℕ) → source_of step ≡ Some a → IsRoot step (length g)
     → (x : Buffer) → In r (buffer_after g step x).spread.holders → Here g r s step
 held_here g r s Barrier a e f x h = cc
 held_here g r s (Broadcast root a' b) a e f x h = here_of {step = Broadcast root a' b} (λ i. further s (unturned s root i)) (λ i. refl) (member g r h)
@@ -254,7 +254,7 @@ at_root_only g i root c d u e = at (i == root) refl e
     at true f h = inl (ap (λ j. get_or g j 0) (sym (eqb-true _ _ f)))
     at false f h = cc
 
-pub held_there : (g : List ℕ) (s : Site) (step : CollStep) (x : Buffer) (i c : ℕ) → i < length g
+pub held_there : (g : List ℕ) (s : StepContext) (step : CollStep) (x : Buffer) (i c : ℕ) → i < length g
     → (end_of s step i).holder ≡ Some c → In (get_or g i 0) (buffer_after g step x).spread.holders
 held_there g s Barrier x i c l e = cc
 held_there g s (Broadcast root a b) x i c l e = In-get_or g i 0 l
@@ -288,7 +288,7 @@ times : (m n w : ℕ) → m * (n * w) ≡ m * n * w
 times m n w = omega arith
 
 -- B's length is what the shape says
-pub after_bytes : (g : List ℕ) (s : Site) (step : CollStep) (x : Buffer) → s.members ≡ g → s.holding ≡ holding_places g x.spread.holders
+pub after_bytes : (g : List ℕ) (s : StepContext) (step : CollStep) (x : Buffer) → s.members ≡ g → s.holding ≡ holding_places g x.spread.holders
     → s.length ≡ list_bytes x → 0 < length g → Reads g step x → bytes_after s step ≡ list_bytes (buffer_after g step x)
 after_bytes g s Barrier x m w e pos r = e
 after_bytes g s (Broadcast root a b) x m w e pos r = e

@@ -11,7 +11,7 @@ use Rattle.plan_core.specs.Draw.{NewCell}
 use Rattle.plan_core.specs.Plan.{from_to, no_cell}
 use Rattle.coll_shape.specs.declared.types.CollStep.{CollStep}
 use Rattle.coll_shape.specs.declared.types.CollStep.TheVariants.{Barrier, Broadcast, Reduce, Allreduce, Gather, Allgather, Alltoall, Scan, Scatter, Reducescatter, Exscan, Gatherv}
-use Rattle.plan_steps.specs.Site.{Site, bare_entry, count, entries, entry, full_entry, further, in_row, places, rank_at, source_at, block_length}
+use Rattle.plan_steps.specs.StepContext.{StepContext, bare_entry, count, entries, entry, full_entry, further, in_row, places, rank_at, source_at, block_length}
 use Rattle.plan_steps.specs.Steps.{giving, passing}
 use Rattle.coll_shape.specs.Collectives.{IsRoot, is_in, list_after}
 use Rattle.plan_steps.specs.Trees.{turned, unturned, up, up_cell, up_number}
@@ -51,20 +51,20 @@ use Rattle.shape_plans.specs.Results.{IsResult}
 use Rattle.shape_plans.specs.Results.IsResult.{Holds, IsEmpty}
 
 -- the list that is read has a block for each place
-pub record Blocks (s : Site) : Type 0 where
+pub record Blocks (s : StepContext) : Type 0 where
   pub all : s.length ≡ count s * block_length s
   pub whole : block_length s % bytes_of s.ty ≡ 0
 
 -- the places that hold A are those that pass a test
-pub record Holding (s : Site) : Type 0 where
+pub record Holding (s : StepContext) : Type 0 where
   pub test : ℕ → Bool
   pub is : s.holding ≡ filter test (from_to 0 (count s))
 
-abbrev pub AllHave : (ℕ → Cell) → Site → Type 0
+abbrev pub AllHave : (ℕ → Cell) → StepContext → Type 0
 AllHave k s = (i : ℕ) → i < count s → HasA k s i
 
 -- what a step asks of its site
-abbrev pub Asks : (ℕ → Cell) → Site → CollStep → Type 0
+abbrev pub Asks : (ℕ → Cell) → StepContext → CollStep → Type 0
 Asks k s Barrier = Unit {0}
 Asks k s (Broadcast root a b) = HasA k s root
 Asks k s (Reduce root o a b) = AllHave k s
@@ -84,7 +84,7 @@ whole_times m n w pos e =
     let r : m * n ≡ 0 + w * (m * (n / w)) = omega (arith, ap (λ v. m * v) q) in
     ap (λ v. v % w) r ∙ add-mul-mod_self_left 0 w (m * (n / w)) ∙ mod-eq_of_lt pos
 
-module _ (ranks : ℕ) (k : ℕ → Cell) (s : Site) (ground : Ground ranks k s) (whole : s.length % bytes_of s.ty ≡ 0) where
+module _ (ranks : ℕ) (k : ℕ → Cell) (s : StepContext) (ground : Ground ranks k s) (whole : s.length % bytes_of s.ty ≡ 0) where
   times : (m : ℕ) → (m * s.length) % bytes_of s.ty ≡ 0
   times m = whole_times m s.length (bytes_of s.ty) (bytes-pos s.ty) whole
 
@@ -103,7 +103,7 @@ module _ (ranks : ℕ) (k : ℕ → Cell) (s : Site) (ground : Ground ranks k s)
   step-sound (Gatherv root a b) root_in has cells = gatherv-sound k s root has.0.test has.0.is ranks ground root_in whole (times (length s.holding)) has.1 cells
 
 -- B's length in bytes
-abbrev pub bytes_after : Site → CollStep → ℕ
+abbrev pub bytes_after : StepContext → CollStep → ℕ
 bytes_after s Barrier = s.length
 bytes_after s (Broadcast root a b) = s.length
 bytes_after s (Reduce root o a b) = s.length
@@ -134,7 +134,7 @@ pub record Holder (P : ℕ → NewCell → Type 0) (of : ElemType) (c rank n : �
 some_one : {a b : ℕ} → Some a ≡ Some b → a ≡ b
 some_one e = cc
 
-module _ (P : ℕ → NewCell → Type 0) (s : Site) (pos : 0 < count s) where
+module _ (P : ℕ → NewCell → Type 0) (s : StepContext) (pos : 0 < count s) where
   -- the cell of one place, where its number can be written in another way
   moved : (c d : ℕ) (n : NewCell) → c ≡ d → P c n → P d n
   moved c d n e h = subst (λ v. P v n) e h
@@ -261,7 +261,7 @@ module _ (P : ℕ → NewCell → Type 0) (s : Site) (pos : 0 < count s) where
       at_root false q e = cc
 
 -- ---- what the holders hold
-module _ (k : ℕ → Cell) (val : ℕ → List ℕ) (s : Site) (xs : List (List ℕ)) (pos : 0 < count s) (small : count s ≤ 256) (many : length xs ≡ count s) (whole : s.length % bytes_of s.ty ≡ 0) where
+module _ (k : ℕ → Cell) (val : ℕ → List ℕ) (s : StepContext) (xs : List (List ℕ)) (pos : 0 < count s) (small : count s ≤ 256) (many : length xs ≡ count s) (whole : s.length % bytes_of s.ty ≡ 0) where
   abbrev pub HasValue : ℕ → Type 0
   HasValue i = (val (source_at s i) ≡ at xs i) × (length (val (source_at s i)) ≡ s.length)
 

@@ -18,7 +18,7 @@ use Rattle.plan_core.specs.Sound.{AreInputsOf, SoundPlan}
 use Rattle.coll_shape.specs.declared.types.CollStep.TheVariants.{Barrier}
 use Rattle.coll_shape.specs.Outline.{Outline, buffer_at, group_at, list_bytes, read_buffer, step_at}
 use Rattle.coll_shape.specs.Collectives.{buffer_after, named, source_of}
-use Rattle.plan_steps.specs.Site.{Site, count, in_row}
+use Rattle.plan_steps.specs.StepContext.{StepContext, count, in_row}
 use Rattle.plan_steps.specs.Rounds.{rounds}
 use Rattle.plan_steps.specs.Sounding.{WellBuilt, with_cells}
 use Rattle.coll_shape.specs.Folding.{at}
@@ -264,7 +264,7 @@ length-dummies zero = refl
 length-dummies (suc n) = ap suc (length-dummies n)
 
 -- the rounds of a barrier right after it
-record AreRounds (q : Plan) (s : Site) : Type 0 where
+record AreRounds (q : Plan) (s : StepContext) : Type 0 where
   stays : (j r : ℕ) → j < rounds (count s) → r < count s → Comes q (in_row s j r) (in_row s (suc j) r)
   comes : (j m r : ℕ) → j < rounds (count s) → m < count s → r < count s → (m + 2 ^ j) % count s ≡ r → Comes q (in_row s j m) (in_row s (suc j) r)
   inside : (j r : ℕ) → j ≤ rounds (count s) → r < count s → in_row s j r < length q.cells

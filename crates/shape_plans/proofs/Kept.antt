@@ -14,10 +14,10 @@ use Rattle.plan_steps.proofs.Drawn.{Extends, extends-all, grows_all}
 use Rattle.plan_steps.proofs.Entries.{get_or-each}
 use Rattle.plan_steps.proofs.Settled.{exits_by-rank, exits_by-stays, held_by-member, held_by-stays, length-exits_by, many-held_by, buffers-held_by, ranks-held_by, rows-apart}
 use Rattle.plan_steps.specs.Beginning.{held_after}
-use Rattle.plan_steps.specs.Site.{Site}
+use Rattle.plan_steps.specs.StepContext.{StepContext}
 use Rattle.plan_steps.specs.Sounding.{EachAt, with_cells}
 use Rattle.plan_steps.specs.Steps.{end_at, exits_by, held_by, passing}
-use Rattle.plan_steps.specs.declared.ends.End.{End}
+use Rattle.plan_steps.specs.declared.ends.StepExit.{StepExit}
 use Rattle.shape_plans.proofs.ByCollective.{Kind, after_bytes, after_ty, held_here, held_there, kind_of}
 use Rattle.shape_plans.proofs.ByCollective.Kind.{Makes, Plain}
 use Rattle.shape_plans.proofs.EveryStep.{bytes_after, exit_node, holder_node}
@@ -26,13 +26,13 @@ use Rattle.shape_plans.proofs.Whole.{Fine, HeldCell, Inside, inside_all, sound_c
 use Rattle.shape_plans.specs.Steps.{cells_of, end_of, ends_of}
 
 module _ (o : Outline) (m : ℕ) (p : Plan) (h : HeldCells) (e : List ℕ) (g : List ℕ) (step : CollStep) (fine : Fine o m p h e) (fits : StepFits o m g step) where
-  abbrev s : Site
+  abbrev s : StepContext
   s = Rattle.shape_plans.proofs.Whole.s o m p h e g step fine fits
 
   abbrev q : Plan
   q = with_cells p (cells_of s step)
 
-  abbrev ends : List End
+  abbrev ends : List StepExit
   ends = ends_of s step
 
   grown : Extends p q []
@@ -56,7 +56,7 @@ module _ (o : Outline) (m : ℕ) (p : Plan) (h : HeldCells) (e : List ℕ) (g : 
           let w = place-of g r i f in
           ap (λ v. get_or (exits_by e g ends (length g)) v 0) (sym w.there)
           ∙ exits_by-rank o.ranks e g ends fits.members long_exits i w.below
-          ∙ ap (λ (v : End). v.exit) (end_is i w.below)
+          ∙ ap (λ (v : StepExit). v.exit) (end_is i w.below)
 
   ExitOk : ℕ → ℕ → Type 0
   ExitOk r c = (c < length q.cells) × ((cell q c).rank ≡ r)
@@ -139,7 +139,7 @@ module _ (o : Outline) (m : ℕ) (p : Plan) (h : HeldCells) (e : List ℕ) (g : 
             let w = place-of g r i f in
             ap (λ v. get_or h'.cells (m * h.ranks + v) None) (sym w.there)
             ∙ held_by-member h g ends m members' room (λ u k. fine.unheld m u (omega arith) (let n = fine.held_ranks in omega (arith, k, n))) (length g) i w.below (omega arith)
-            ∙ ap (λ (v : End). v.holder) (end_is i w.below)
+            ∙ ap (λ (v : StepExit). v.holder) (end_is i w.below)
 
     at_some : {v : Option ℕ} {i : ℕ} → v ≡ Some i → (f : ℕ → Option ℕ) → at_place f None v ≡ f i
     at_some z f = ap (λ v. at_place f None v) z

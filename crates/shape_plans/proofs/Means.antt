@@ -12,7 +12,7 @@ use Rattle.coll_shape.specs.declared.types.CollStep.{CollStep}
 use Rattle.coll_shape.specs.declared.types.CollStep.TheVariants.{Barrier, Broadcast, Reduce, Allreduce, Gather, Allgather, Alltoall, Scan, Scatter, Reducescatter, Exscan, Gatherv}
 use Rattle.coll_shape.specs.Outline.{Outline, buffer_at, read_buffer}
 use Rattle.coll_shape.specs.Collectives.{result_of, source_of, is_in, AllHold, list_after}
-use Rattle.plan_steps.specs.Site.{Site, source_at}
+use Rattle.plan_steps.specs.StepContext.{StepContext, source_at}
 use Rattle.plan_steps.specs.Beginning.{held_after}
 use Rattle.plan_steps.specs.Sounding.{EachAt, Known, with_cells}
 use Rattle.coll_shape.specs.Folding.{at}
@@ -55,7 +55,7 @@ result-none val list None none (IsEmpty e) = e
 
 module _ (o : Outline) (inputs : Inputs) (all : length inputs ≡ o.inputs) (m : ℕ) (p : Plan) (h : HeldCells) (e : List ℕ) (means : List (List (List ℕ))) (g : List ℕ) (step : CollStep)
     (fine : Fine o m p h e) (fit : AreInputsOf p inputs) (meant : Means o inputs m p h means) (fits : StepFits o m g step) where
-  abbrev s : Site
+  abbrev s : StepContext
   s = Rattle.shape_plans.proofs.Whole.s o m p h e g step fine fits
 
   abbrev q : Plan
@@ -126,7 +126,7 @@ module _ (o : Outline) (inputs : Inputs) (all : length inputs ≡ o.inputs) (m :
 -- the step's values
 module _ (o : Outline) (inputs : Inputs) (all : length inputs ≡ o.inputs) (m : ℕ) (p : Plan) (h : HeldCells) (e : List ℕ) (means : List (List (List ℕ))) (g : List ℕ)
     (fine : Fine o m p h e) (fit : AreInputsOf p inputs) (meant : Means o inputs m p h means) where
-  abbrev site : (step : CollStep) → StepFits o m g step → Site
+  abbrev site : (step : CollStep) → StepFits o m g step → StepContext
   site step fits = Rattle.shape_plans.proofs.Whole.s o m p h e g step fine fits
 
   abbrev after : (step : CollStep) → StepFits o m g step → Plan

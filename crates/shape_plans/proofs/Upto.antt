@@ -11,7 +11,7 @@ use Rattle.coll_shape.specs.declared.types.Buffer.{Buffer}
 use Rattle.coll_shape.specs.WellFormed.{IsShape}
 use Rattle.coll_shape.specs.Outline.{Outline, buffer_at, no_buffer, group_at, step_at}
 use Rattle.coll_shape.specs.Collectives.{result_of}
-use Rattle.plan_steps.specs.declared.ends.End.{End}
+use Rattle.plan_steps.specs.declared.ends.StepExit.{StepExit}
 use Rattle.plan_steps.specs.Beginning.{held_after}
 use Rattle.plan_steps.specs.Drawing.{IsBegun}
 use Rattle.plan_steps.proofs.Settled.{buffers-held_by, length-exits_by, ranks-held_by}
@@ -119,11 +119,11 @@ pub tables-inputs : (o : Outline) → o.ranks ≤ MOST_RANKS → (b : ℕ) → T
 tables-inputs o h zero = subst (Tables o) (sym (inputs-none o)) (tables-opened o h)
 tables-inputs o h (suc b) = subst (Tables o) (sym (inputs-suc o b)) (tables-input o (drawn_inputs o b) b (tables-inputs o h b))
 
-ranks-after : (r : Option ℕ) (h : HeldCells) (g : List ℕ) (ends : List End) → (held_after r h g ends).ranks ≡ h.ranks
+ranks-after : (r : Option ℕ) (h : HeldCells) (g : List ℕ) (ends : List StepExit) → (held_after r h g ends).ranks ≡ h.ranks
 ranks-after None h g ends = refl
 ranks-after (Some b) h g ends = ranks-held_by h g ends b (length g)
 
-buffers-after : (r : Option ℕ) (h : HeldCells) (g : List ℕ) (ends : List End) → (held_after r h g ends).buffers ≡ h.buffers
+buffers-after : (r : Option ℕ) (h : HeldCells) (g : List ℕ) (ends : List StepExit) → (held_after r h g ends).buffers ≡ h.buffers
 buffers-after None h g ends = refl
 buffers-after (Some b) h g ends = buffers-held_by h g ends b (length g)
 

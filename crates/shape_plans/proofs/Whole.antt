@@ -12,7 +12,7 @@ use Rattle.coll_shape.specs.declared.types.CollStep.{CollStep}
 use Rattle.coll_shape.specs.declared.types.CollStep.TheVariants.{Barrier, Broadcast, Reduce, Allreduce, Gather, Allgather, Alltoall, Scan, Scatter, Reducescatter, Exscan, Gatherv}
 use Rattle.coll_shape.specs.Outline.{Outline, buffer_at, list_bytes, read_buffer}
 use Rattle.coll_shape.specs.Collectives.{source_of, is_in, AllHold, HasBlocks}
-use Rattle.plan_steps.specs.Site.{Site, exit_at, source_at}
+use Rattle.plan_steps.specs.StepContext.{StepContext, exit_at, source_at}
 use Rattle.plan_steps.specs.Beginning.{or_0, site_of, source_in}
 use Rattle.plan_steps.specs.Sounding.{EachAt, Ground, HasA, SoundNewCell, WellBuilt, with_cell, with_cells}
 use Rattle.plan_steps.proofs.Grow.{cell-new, get_or-map, length-cells}
@@ -81,7 +81,7 @@ blocks_all n m w pos e =
 -- ---- members of lists
 -- ---- a step
 module _ (o : Outline) (m : ℕ) (p : Plan) (h : HeldCells) (e : List ℕ) (g : List ℕ) (step : CollStep) (fine : Fine o m p h e) (fits : StepFits o m g step) where
-  abbrev pub s : Site
+  abbrev pub s : StepContext
   s = site_of o p h e (source_of step) g
 
   abbrev pub q : Plan

@@ -10,7 +10,7 @@ ghost use Rattle.shape_plans.specs.Judging.{AreSteps, size_upto};
 ghost use Rattle.shape_plans.specs.declared.judging.TheConstants.{MOST_LINKS};
 
 use coll_shape::{Buffer, MOST_RANKS, Shape};
-use plan_core::{Exits, Held, Part, Plan};
+use plan_core::{Frontier, BufferCells, Part, Plan};
 use plan_steps::{Drawing, add_step, bump};
 use ptl_types::{NoMemory, Rank};
 use std::alloc::Global;
@@ -44,7 +44,7 @@ fn draw_inputs(plan: &mut Plan, buffer: &Buffer, ranks: u32) -> Result<(), NoMem
 }
 
 /// Cells that follow one another hold a buffer, one at each of the first ranks.
-fn hold_inputs(held: &mut Held, b: u32, first: u32, ranks: u32)
+fn hold_inputs(held: &mut BufferCells, b: u32, first: u32, ranks: u32)
     requires ranks { ranks ≤ held.old.ranks }
     requires buffer { b < held.old.buffers }
     requires few { first + ranks < 2 ^ 32 }
@@ -64,8 +64,8 @@ fn opened(alloc: Global, shape: &Shape, links: u32) -> Result<Drawing, NoMemory>
     let ranks = shape.ranks();
     let buffers = shape.buffers().len() as u32;
     let plan = Plan::open(alloc, ranks, shape.remote(), links + MOST_RANKS, links)?;
-    let held = Held::open(alloc, buffers, ranks)?;
-    let exits = Exits::open(alloc, ranks)?;
+    let held = BufferCells::open(alloc, buffers, ranks)?;
+    let exits = Frontier::open(alloc, ranks)?;
     Ok(Drawing { plan, held, exits })
 }
 
@@ -105,7 +105,7 @@ pub struct DrawnShape {
     /// The cells and links.
     pub plan: Plan,
     /// The cells that hold the buffers.
-    pub held: Held,
+    pub held: BufferCells,
 }
 
 /// Draws a shape whose plan has so many links.

@@ -10,7 +10,7 @@ ghost use Rattle.coll_shape.specs.Folding.{at};
 ghost use Rattle.coll_shape.specs.Meaning.{AreInputs, lists_of, meaning_of};
 ghost use Rattle.coll_shape.specs.Outline.{Outline, buffer_at, group_at, step_at};
 ghost use Rattle.coll_shape.specs.WellFormed.{IsWellFormed};
-ghost use Rattle.plan_steps.specs.Site.{entry, in_row};
+ghost use Rattle.plan_steps.specs.StepContext.{entry, in_row};
 ghost use Rattle.plan_steps.specs.Rounds.{rounds};
 ghost use Rattle.shape_plans.specs.Steps.{end_of};
 ghost use Rattle.shape_plans.specs.Drawing.{drawing_of, drawn_upto, plan_of, site};

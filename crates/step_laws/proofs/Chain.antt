@@ -19,7 +19,7 @@ use Rattle.plan_steps.proofs.Grow.{get_or-map}
 use Rattle.plan_steps.specs.Sounding.{EachAt, WellBuilt, with_cells}
 use Rattle.cuts.specs.machine.Machine.{Leads}
 use Rattle.cuts.specs.machine.Machine.Leads.{along, here}
-use Rattle.plan_steps.specs.Site.{exit_at}
+use Rattle.plan_steps.specs.StepContext.{exit_at}
 use Rattle.shape_plans.proofs.Begin.{begun, fine-begun}
 use Rattle.shape_plans.proofs.Kept.{exit_now, fine_after}
 use Rattle.shape_plans.proofs.Places.{place-is, place-of}

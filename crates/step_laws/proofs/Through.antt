@@ -34,8 +34,8 @@ use Rattle.plan_steps.specs.Scatter.{scatter_put, scattered}
 use Rattle.plan_steps.specs.Barrier.{barrier_cells, round_rows}
 use Rattle.plan_steps.specs.Rounds.{rounds}
 use Rattle.plan_steps.specs.Scan.{scan_cell, scan_number, scan_rows}
-use Rattle.plan_steps.specs.Site.{Site, atomic, bare_entry, bump, count, entry, exit_at, full_entry, further, in_row, places, put_whole}
-use Rattle.plan_steps.specs.Site.{rows}
+use Rattle.plan_steps.specs.StepContext.{StepContext, atomic, bare_entry, bump, count, entry, exit_at, full_entry, further, in_row, places, put_whole}
+use Rattle.plan_steps.specs.StepContext.{rows}
 use Rattle.plan_steps.specs.Steps.{giving, passing}
 use Rattle.plan_steps.specs.Allreduce.{result_cell}
 use Rattle.plan_steps.specs.Broadcast.{copy_cell, first_cell}
@@ -50,7 +50,7 @@ Linked q c n = (i : Incoming) → In i n.into → Comes q i.source c
 pub onward : (q : Plan) (a b c : ℕ) → Comes q b c → Leads q a b → Leads q a c
 onward q a b c w path = along c w.l w.into (subst (Leads q a) (sym w.from) path)
 
-module _ (q : Plan) (s : Site) (pos : 0 < count s) where
+module _ (q : Plan) (s : StepContext) (pos : 0 < count s) where
   any : ℕ → Cell
   any c = no_cell
 

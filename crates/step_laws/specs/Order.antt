@@ -1,7 +1,7 @@
 -- Where a rank's steps begin and end in the plan of a shape.
 use Rattle.std.specs.Prelude.{ℕ, ◌<◌, ◌≡◌, length, get_or}
 use Rattle.coll_shape.specs.Outline.{Outline, group_at, step_at}
-use Rattle.plan_steps.specs.Site.{Site, entry}
+use Rattle.plan_steps.specs.StepContext.{StepContext, entry}
 use Rattle.shape_plans.specs.Drawing.{drawn_upto, site}
 use Rattle.shape_plans.specs.Steps.{end_of}
 
@@ -12,7 +12,7 @@ pub record IsAt (o : Outline) (k i r : ℕ) : Type 0 where
   pub member : get_or (group_at o k) i 0 ≡ r
 
 -- what step k begins with
-abbrev pub site_at : Outline → ℕ → Site
+abbrev pub site_at : Outline → ℕ → StepContext
 site_at o k = site o (drawn_upto o k) (step_at o k) (group_at o k)
 
 -- the cell in which the member at place i begins step k, and the one in which it ends it

@@ -6,7 +6,7 @@ ghost use Rattle.ptl_types.specs.Kinds.{is_no_ack};
 ghost use Rattle.ni_model.specs.Arrive.{ack_header, reply_header, answer, refused};
 
 use crate::measures::is_put_or_atomic;
-use crate::spent::Spent;
+use crate::spent::SpareBuffers;
 use ni_model::Arrived;
 use ptl_types::{AckRequest, Bytes, Header, Message, MessageKind, Outcome};
 
@@ -53,7 +53,7 @@ pub fn acknowledge(
     count: u64,
     header: &Header,
     mut bytes: Bytes,
-    spent: &mut Spent,
+    spent: &mut SpareBuffers,
 ) -> Option<Message>
     ensures { result ≡ (if is_no_ack header.now.ack then None else Some (message (ack_header ok count header.now) [])) }
 {
@@ -76,7 +76,7 @@ pub fn reply(header: &Header, count: u64, bytes: Bytes) -> Message
 }
 
 /// The answer, not ok, to a message that wasn't delivered, where it asked for one.
-fn refusal(message: Message, spent: &mut Spent) -> Option<Message>
+fn refusal(message: Message, spent: &mut SpareBuffers) -> Option<Message>
     ensures { result ≡ answer false 0 [] message.header }
 {
     let (header, mut bytes) = message.into_parts();
@@ -88,7 +88,7 @@ fn refusal(message: Message, spent: &mut Spent) -> Option<Message>
 }
 
 /// A message that wasn't delivered.
-pub fn refused(outcome: Outcome, message: Message, spent: &mut Spent) -> Arrived
+pub fn refused(outcome: Outcome, message: Message, spent: &mut SpareBuffers) -> Arrived
     ensures { result ≡ refused outcome message.header }
 {
     Arrived {

@@ -10,7 +10,7 @@ ghost use Rattle.ni_model.specs.Conditions.{IsPartIn};
 
 use crate::answers::{acknowledge, reply};
 use crate::measures::{delivered, is_put_or_atomic, place};
-use crate::spent::Spent;
+use crate::spent::SpareBuffers;
 use crate::swap::swap_element;
 use lane_ops::combine;
 use ni_objects::descriptors::Region;
@@ -113,7 +113,7 @@ fn exchange_elements(
     region: &mut Region,
     linked: &Linked,
     message: Message,
-    spent: &mut Spent,
+    spent: &mut SpareBuffers,
 ) -> Option<Message>
     requires part { IsPartIn (length region.old) linked.now }
     requires elements { has_elements message.header.kind ≡ true }
@@ -136,7 +136,7 @@ pub fn exchange(
     region: &mut Region,
     linked: &Linked,
     message: Message,
-    spent: &mut Spent,
+    spent: &mut SpareBuffers,
 ) -> Option<Message>
     requires request { is_answer message.header.kind ≡ false }
     requires part { IsPartIn (length region.old) linked.now }

@@ -17,5 +17,5 @@ mod takes;
 mod target;
 mod unlinks;
 
-pub use spent::Spent;
+pub use spent::SpareBuffers;
 pub use target::Target;

@@ -10,16 +10,16 @@ use std::mem;
 /// once. The room of a message was mostly taken by another thread, and to give it back while that thread works makes both wait. A message
 /// that is sent may use such a room in place of its own, whose memory nobody has touched yet. Which rooms lie here no clause says.
 #[derive(Drop)]
-pub struct Spent {
+pub struct SpareBuffers {
     rooms: Option<Vec<Bytes>>,
     // The first so many of them were exchanged for others, and not used.
     unused: usize,
 }
 
-impl Spent {
+impl SpareBuffers {
     /// No place: each room is given back at once.
-    pub fn none() -> Spent {
-        Spent {
+    pub fn none() -> SpareBuffers {
+        SpareBuffers {
             rooms: None,
             unused: 0,
         }
@@ -30,9 +30,9 @@ impl Spent {
     /// # Errors
     ///
     /// There was no memory for the places.
-    pub fn with_places(alloc: Global, places: u64) -> Result<Spent, NoMemory> {
+    pub fn with_places(alloc: Global, places: u64) -> Result<SpareBuffers, NoMemory> {
         let rooms = Vec::with_capacity(alloc, places as usize)?;
-        Ok(Spent {
+        Ok(SpareBuffers {
             rooms: Some(rooms),
             unused: 0,
         })

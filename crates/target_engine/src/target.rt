@@ -18,7 +18,7 @@ use crate::events::raise_events;
 use crate::exchange::exchange;
 use crate::index::{Index, chosen_in, queue_at, settle_at};
 use crate::measures::{delivered, place};
-use crate::spent::Spent;
+use crate::spent::SpareBuffers;
 use ni_objects::counters::Counter;
 use ni_objects::delivery::{count, successes};
 use ni_objects::queues::Queue;
@@ -196,7 +196,7 @@ impl Target {
         cts: &mut Store<Counter>,
         eqs: &mut Store<Queue>,
         message: Message,
-        spent: &mut Spent,
+        spent: &mut SpareBuffers,
     ) -> Arrived
         requires request { is_answer message.header.kind ≡ false }
         requires inside { All (HasPartsIn (length region.old)) self.old.indices }
@@ -244,7 +244,7 @@ impl Target {
         eqs: &mut Store<Queue>,
         message: Message,
         found: &Found,
-        spent: &mut Spent,
+        spent: &mut SpareBuffers,
     ) -> Arrived
         requires request { is_answer message.header.kind ≡ false }
         requires part { IsPartIn (length region.old) found.now.linked }

@@ -3,7 +3,7 @@
 use Rattle.std.specs.Prelude.{ℕ, Bool, false, ◌==◌, ◌||◌, not, nat_le, ◌+◌, ◌-◌, ◌^◌, ◌<◌, ◌≤◌, List, [], ◌∷◌, ◌++◌, length, map, filter}
 use Rattle.std.specs.Prelude.{find, Option, Some, None, All, AllPairs, if◌then◌else◌}
 use Rattle.ptl_types.specs.declared.handles.Handle.{Handle}
-use Rattle.ptl_types.specs.declared.calls.Deed.{Deed}
+use Rattle.ptl_types.specs.declared.calls.TriggeredOp.{TriggeredOp}
 use Rattle.ptl_types.specs.Handles.{same_handle}
 use Rattle.ni_model.specs.State as model
 
@@ -121,8 +121,8 @@ module _ {D : Type 0} where
   -- ---- as the interface's state has them, where `f` tells what an operation does
 
   -- without whether it is due
-  abbrev pub posted : (D → Deed) → Operation D → model.Posted
+  abbrev pub posted : (D → TriggeredOp) → Operation D → model.Posted
   posted f p = record { number = p.number; deed = f p.deed; ct = p.ct; threshold = p.threshold }
 
-  abbrev pub posted_all : (D → Deed) → Operations D → model.Operations
+  abbrev pub posted_all : (D → TriggeredOp) → Operations D → model.Operations
   posted_all f ops = record { waiting = map (posted f) ops.waiting; given = ops.given; limit = ops.limit }

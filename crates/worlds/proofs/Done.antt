@@ -4,7 +4,7 @@ use Rattle.op_laws.proofs.Starts.{combined-starts}
 use Rattle.coll_shape.specs.Outline.{Outline}
 use Rattle.ni_model.specs.State.{State}
 use Rattle.ni_model.specs.Tables.{lookup}
-use Rattle.plan_calls.specs.Works.{done_threshold}
+use Rattle.plan_calls.specs.RankOps.{done_threshold}
 use Rattle.plan_core.specs.Sound.{AreInputsOf, SoundPlan}
 use Rattle.cuts.specs.histories.Cut.{IsCut}
 use Rattle.cuts.specs.histories.Plans.{system_of}

@@ -5,7 +5,7 @@ ghost use Rattle.ptl_types.specs.declared.headers.Lane.TheVariants.{Request};
 ghost use Rattle.ni_model.specs.Tables.{lookup};
 ghost use Rattle.plan_core.specs.Members.{In};
 ghost use Rattle.plan_calls.specs.Lanes.{is_used_lane};
-ghost use Rattle.plan_calls.specs.Works.{done_threshold};
+ghost use Rattle.plan_calls.specs.RankOps.{done_threshold};
 ghost use Rattle.cuts.specs.view.Slots.{Slots, done_ct};
 ghost use Rattle.cuts.specs.histories.Cut.{IsAtRest, is_stray};
 ghost use Rattle.cuts.specs.histories.Plans.{IsComplete};

@@ -22,7 +22,7 @@ use Rattle.choices.proofs.machine.Words.{word_le}
 use Rattle.choices.proofs.machine.Moments.{taken_lawful}
 use Rattle.choices.specs.machine.Counted.{steps_made}
 use Rattle.choices.proofs.machine.Counting.{made_taken, made_taken_other}
-use Rattle.choices.specs.view.Install.{Seat, Slots, answer_message, ask_message, first_words, seat_of, view}
+use Rattle.choices.specs.view.Install.{ChoiceRank, Slots, answer_message, ask_message, first_words, seat_of, view}
 use Rattle.choices.proofs.view.StepStart.{served_view}
 use Rattle.choices.proofs.view.StepServe.{step_serve}
 use Rattle.cuts.specs.histories.System.{Histories, System, state_at}
@@ -79,7 +79,7 @@ module _ (ranks : ℕ) (ks : List ChoiceKind) (slots : ℕ → Slots) (in_range 
     word_next = word_after (choice_at ks a.step) a.reads s (now.m.word a.step)
 
     -- a seat in which the word is new and the phases are old
-    abbrev pub worded : ℕ → Seat
+    abbrev pub worded : ℕ → ChoiceRank
     worded q = record (seat_of ks now.m q) { word = if q == 0 then put a.step word_next now.m.word else first_words ks }
 
     small : now.m.word a.step < 2 ^ 64

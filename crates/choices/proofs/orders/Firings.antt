@@ -16,25 +16,25 @@ use Rattle.coll_lang.specs.declared.choices.ChoiceKind.TheVariants.{Elect, Ticke
 use Rattle.choices.specs.machine.Choices.{choice_at}
 use Rattle.choices.specs.machine.Machine.{Phase, advanced}
 use Rattle.choices.proofs.machine.Places.{put-other}
-use Rattle.choices.specs.view.Install.{Seat, Slots, Work, deed_of, first_deed, get_args, is_told, number_of, operation, put_args, view, was_fired, was_read, was_sent, works}
+use Rattle.choices.specs.view.Install.{ChoiceRank, Slots, RankOp, deed_of, first_deed, get_args, is_told, number_of, operation, put_args, view, was_fired, was_read, was_sent, rank_ops}
 use Rattle.choices.specs.view.Install.Part.{Old, Result}
-use Rattle.choices.specs.view.Install.Work.{Look, Send, Tell}
+use Rattle.choices.specs.view.Install.RankOp.{Look, Send, ForDone}
 use Rattle.choices.specs.view.Steps.{with_phase}
 use Rattle.choices.proofs.view.Stamps.{number_one}
 use Rattle.choices.proofs.view.StepFire.{IsReadyWork, done_fetch, done_get, done_swap, find_work, ready_work, work_ready}
 use Rattle.choices.proofs.view.Firings.{IsFiring}
 
 -- the step of the text that an operation is of
-abbrev pub step_of : Work → ℕ
+abbrev pub step_of : RankOp → ℕ
 step_of (Send s) = s
 step_of (Look s) = s
-step_of (Tell s) = s
+step_of (ForDone s) = s
 
 -- a phase of another step has no part in it
-fired_apart : (seat : Seat) (s : ℕ) (p : Phase) (w : Work) → (step_of w ≡ s → ⊥) → was_fired (with_phase s p seat) w ≡ was_fired seat w
+fired_apart : (seat : ChoiceRank) (s : ℕ) (p : Phase) (w : RankOp) → (step_of w ≡ s → ⊥) → was_fired (with_phase s p seat) w ≡ was_fired seat w
 fired_apart seat s p (Send t) n = ap was_sent (put-other s p seat.phase t n)
 fired_apart seat s p (Look t) n = ap was_read (put-other s p seat.phase t n)
-fired_apart seat s p (Tell t) n = ap is_told (put-other s p seat.phase t n)
+fired_apart seat s p (ForDone t) n = ap is_told (put-other s p seat.phase t n)
 
 -- a deed leaves the operations that wait
 waits_first : (k : Slots) (ks : List ChoiceKind) (c : ChoiceKind) (s : ℕ) (v : State)
@@ -42,10 +42,10 @@ waits_first : (k : Slots) (ks : List ChoiceKind) (c : ChoiceKind) (s : ℕ) (v :
 waits_first k ks Elect s v = ap (λ (f : Fires). f.state.pending) (done_swap v (get_args k ks s (Old s)) (put_args k ks s) Cswap U64 top)
 waits_first k ks Tickets s v = ap (λ (f : Fires). f.state.pending) (done_fetch v (get_args k ks s (Result s)) (put_args k ks s) Sum U64)
 
-waits_done : (k : Slots) (ks : List ChoiceKind) (w : Work) (v : State) → (done v (deed_of k ks w)).state.pending ≡ v.pending
+waits_done : (k : Slots) (ks : List ChoiceKind) (w : RankOp) (v : State) → (done v (deed_of k ks w)).state.pending ≡ v.pending
 waits_done k ks (Send s) v = waits_first k ks (choice_at ks s) s v
 waits_done k ks (Look s) v = ap (λ (f : Fires). f.state.pending) (done_get v (get_args k ks s (Result s)))
-waits_done k ks (Tell s) v = refl
+waits_done k ks (ForDone s) v = refl
 
 -- an operation that was taken away isn't found
 gone : (t : ℕ) (ops : Operations) → posted_at t (without_number t ops) ≡ None
@@ -60,9 +60,9 @@ gone t ops = at (posted_at t (without_number t ops)) refl
         let f = find-In (is_number t) (filter (λ q. not (is_number t q)) ops.waiting) p e in
         absurd (no_both (not-true _ (In-filter_cases (λ q. not (is_number t q)) p ops.waiting f.0).1) f.1)
 
-module _ (ranks : ℕ) (ks : List ChoiceKind) (r : ℕ) (seat : Seat) where
+module _ (ranks : ℕ) (ks : List ChoiceKind) (r : ℕ) (seat : ChoiceRank) where
   -- a ready operation's number
-  numbered : (k : Slots) (t : ℕ) (w : Work) → IsReadyWork k ranks ks r seat t w → number_of ks w ≡ t
+  numbered : (k : Slots) (t : ℕ) (w : RankOp) → IsReadyWork k ranks ks r seat t w → number_of ks w ≡ t
   numbered k t w h = eqb-true _ _ (find-In (is_number t) (view k ranks ks r seat).pending.waiting (operation k ks w) h.found).1
 
   -- ---- the same operations are ready
@@ -82,8 +82,8 @@ module _ (ranks : ℕ) (ks : List ChoiceKind) (r : ℕ) (seat : Seat) where
 
   waiting_numbers : (k : Slots)
       → map (λ (p : Posted). p.number) (view k ranks ks r seat).pending.waiting
-      ≡ map (number_of ks) (filter (λ w. not (was_fired seat w)) (works ks))
-  waiting_numbers k = map-map (λ (p : Posted). p.number) (operation k ks) (filter (λ w. not (was_fired seat w)) (works ks))
+      ≡ map (number_of ks) (filter (λ w. not (was_fired seat w)) (rank_ops ks))
+  waiting_numbers k = map-map (λ (p : Posted). p.number) (operation k ks) (filter (λ w. not (was_fired seat w)) (rank_ops ks))
 
   pub same_numbers : (k l : Slots) → ready_numbers (view k ranks ks r seat) ≡ ready_numbers (view l ranks ks r seat)
   same_numbers k l = λ i. filter (λ t. same_ready k l t i) ((waiting_numbers k ∙ sym (waiting_numbers l)) i)
@@ -94,11 +94,11 @@ module _ (ranks : ℕ) (ks : List ChoiceKind) (r : ℕ) (seat : Seat) where
     abbrev before : State
     before = view k ranks ks r seat
 
-    abbrev next : Seat
+    abbrev next : ChoiceRank
     next = with_phase s (advanced (seat.phase s)) seat
 
     -- what was fired waits no more
-    waits_no_more : (w : Work) → IsReadyWork k ranks ks r seat t w → posted_at t (view k ranks ks r next).pending ≡ None
+    waits_no_more : (w : RankOp) → IsReadyWork k ranks ks r seat t w → posted_at t (view k ranks ks r next).pending ≡ None
     unfolding fired
     waits_no_more w h =
         ap (λ (f : Fires). posted_at t f.state.pending) (sym firing.does ∙ ap (fired_op before) h.found)
@@ -106,7 +106,7 @@ module _ (ranks : ℕ) (ks : List ChoiceKind) (r : ℕ) (seat : Seat) where
         ∙ ap (λ n. posted_at t (without_number n before.pending)) (numbered k t w h)
         ∙ gone t before.pending
 
-    firing_of : (w : Work) → IsReadyWork k ranks ks r seat t w → step_of w ≡ s
+    firing_of : (w : RankOp) → IsReadyWork k ranks ks r seat t w → step_of w ≡ s
     firing_of w h = elim (cases_eq (step_of w) s) [
       | inl e ↦ e
       | inr n ↦ absurd (none-some (operation k ks w)

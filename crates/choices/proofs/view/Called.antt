@@ -9,12 +9,12 @@ use Rattle.plan_core.specs.Plan.{from_to}
 use Rattle.coll_lang.specs.declared.choices.ChoiceKind.{ChoiceKind}
 use Rattle.choices.specs.machine.Choices.{choice_at}
 use Rattle.choices.specs.machine.Machine.{first_word}
-use Rattle.choices.specs.view.Install.{Counter, Part, Slots, Work, counters_of, deed_of, descriptor_of, entries_of, four_words, given_word, limits_of, parts_of, step_bytes, steps, view, word_entry, works}
+use Rattle.choices.specs.view.Install.{Counter, Part, Slots, RankOp, counters_of, deed_of, descriptor_of, entries_of, four_words, given_word, limits_of, parts_of, step_bytes, steps, view, word_entry, rank_ops}
 use Rattle.choices.specs.view.Calls.{AllPass, Call, MayMake, blank, call_fault, call_made, calls_made, first_bytes, install, install_calls, no_seat, step_calls, word_calls}
 use Rattle.choices.specs.view.Calls.Call.{CtAlloc, MdBind, MeAppend, Trigger}
 use Rattle.choices.proofs.view.Folds.{counters_all, entered, entries_all, fresh, made_all, operations_all, parts_all}
 use Rattle.choices.proofs.view.Installed.{bare, entered_is, made_so}
-use Rattle.choices.proofs.view.Stamps.{works-In}
+use Rattle.choices.proofs.view.Stamps.{rank_ops-In}
 use Rattle.choices.proofs.view.Unrefused.{In-split, counter_made, done_made, entry_made, go_made, may_post, operation_made, part_made}
 
 -- ---- what they leave
@@ -35,7 +35,7 @@ module _ (k : Slots) (ks : List ChoiceKind) where
   made-words [] s = refl
   made-words (t ∷ ts) s = made-words ts (call_made k ks (MeAppend t) s)
 
-  made-operations : (ws : List Work) (s : State) → calls_made k ks (map Trigger ws) s ≡ operations_all k ks ws s
+  made-operations : (ws : List RankOp) (s : State) → calls_made k ks (map Trigger ws) s ≡ operations_all k ks ws s
   made-operations [] s = refl
   made-operations (w ∷ ws) s = made-operations ws (call_made k ks (Trigger w) s)
 
@@ -156,10 +156,10 @@ module _ (k : Slots) (ranks : ℕ) (ks : List ChoiceKind) (r : ℕ) where
   pub installed : install k ranks ks r ≡ view k ranks ks r (no_seat ks r)
   installed =
       ap (calls_made k ks (install_calls ks r)) blank_is
-      ∙ made-append k ks (flat_map (step_calls ks) (steps ks)) (word_calls ks r ++ map Trigger (works ks)) (fresh k ranks ks r)
-      ∙ made-append k ks (word_calls ks r) (map Trigger (works ks)) stepped
-      ∙ made-operations k ks (works ks) worded
-      ∙ ap (operations_all k ks (works ks)) worded_is
+      ∙ made-append k ks (flat_map (step_calls ks) (steps ks)) (word_calls ks r ++ map Trigger (rank_ops ks)) (fresh k ranks ks r)
+      ∙ made-append k ks (word_calls ks r) (map Trigger (rank_ops ks)) stepped
+      ∙ made-operations k ks (rank_ops ks) worded
+      ∙ ap (operations_all k ks (rank_ops ks)) worded_is
       ∙ made_so k ranks ks r
 
   module _ (some : 0 < ranks) (few : 3 * length ks < 2 ^ 32 - 1) where
@@ -198,23 +198,23 @@ module _ (k : Slots) (ranks : ℕ) (ks : List ChoiceKind) (r : ℕ) where
         ))
 
     -- the operations
-    operations_pass : AllPass k ks (map Trigger (works ks)) worded
-    operations_pass = pass-map k ks Trigger (works ks) worded (λ front w back e.
+    operations_pass : AllPass k ks (map Trigger (rank_ops ks)) worded
+    operations_pass = pass-map k ks Trigger (rank_ops ks) worded (λ front w back e.
         let here : calls_made k ks (map Trigger front) worded ≡ operations_all k ks front (entered k ranks ks r) =
         made-operations k ks front worded ∙ ap (operations_all k ks front) worded_is in
         subst (λ s. MayMake k ks (Trigger w) s × (call_fault k ks (Trigger w) s ≡ None)) (sym here)
         (may front w back e, operation_made k ranks ks r few front w back e))
       where
-        may : (front : List Work) (w : Work) (back : List Work) → front ++ w ∷ back ≡ works ks
+        may : (front : List RankOp) (w : RankOp) (back : List RankOp) → front ++ w ∷ back ≡ rank_ops ks
             → MayStart (deed_of k ks w) (operations_all k ks front (entered k ranks ks r)).ranks
             (operations_all k ks front (entered k ranks ks r)).limits
         may front w back e =
             subst (λ (s : State). MayStart (deed_of k ks w) s.ranks s.limits)
             (ap (operations_all k ks front) (sym (entered_is k ranks ks r)))
             (stays front (bare k ranks ks r (entries_of k ks r) (if r == 0 then length ks else 0))
-            ((may_post k ranks ks r few w (works-In ks w (subst (In w) e (In-split front w back)))).may some))
+            ((may_post k ranks ks r few w (rank_ops-In ks w (subst (In w) e (In-split front w back)))).may some))
           where
-            stays : (ws : List Work) (s : State) → MayStart (deed_of k ks w) s.ranks s.limits
+            stays : (ws : List RankOp) (s : State) → MayStart (deed_of k ks w) s.ranks s.limits
                 → MayStart (deed_of k ks w) (operations_all k ks ws s).ranks (operations_all k ks ws s).limits
             stays [] s h = h
             stays (v ∷ ws) s h = stays ws (call_made k ks (Trigger v) s) h
@@ -229,9 +229,9 @@ module _ (k : Slots) (ranks : ℕ) (ks : List ChoiceKind) (r : ℕ) where
         (
           tt,
           done_made k ranks ks r few,
-          pass-append k ks (flat_map (step_calls ks) (steps ks)) (word_calls ks r ++ map Trigger (works ks))
+          pass-append k ks (flat_map (step_calls ks) (steps ks)) (word_calls ks r ++ map Trigger (rank_ops ks))
               (fresh k ranks ks r) all_steps_pass
-              (pass-append k ks (word_calls ks r) (map Trigger (works ks)) stepped (words_pass (r == 0)) operations_pass),
+              (pass-append k ks (word_calls ks r) (map Trigger (rank_ops ks)) stepped (words_pass (r == 0)) operations_pass),
         ),
       ),
     )

@@ -23,10 +23,10 @@ use Rattle.choices.specs.machine.Machine.{Phase, advanced, put, value_of, is_rea
 use Rattle.choices.specs.machine.Machine.Phase.{Answered, Asked, Idle, Learned, Read, Reading, Served, Told}
 use Rattle.choices.proofs.machine.Places.{count_as, count_put, put-other, put-same}
 use Rattle.choices.proofs.machine.Words.{put_as}
-use Rattle.choices.specs.view.Install.{Counter, Part, Seat, Slots, Work, awaits_of, awaits_result, count_of, counters, ct_of, ct_stamp, deed_of, first_deed, first_header, get_args, given_word, has_first, has_result, is_out, is_reading, is_told, live_counter, live_part, md_of, md_stamp, none_or_one, number_of, old_of, operation, parts, put_args, result_counter, step_bytes, steps, view, was_fired, was_read, was_sent, word, work_counter, works}
+use Rattle.choices.specs.view.Install.{Counter, Part, ChoiceRank, Slots, RankOp, awaits_of, awaits_result, count_of, counters, ct_of, ct_stamp, deed_of, first_deed, first_header, get_args, given_word, has_first, has_result, is_out, is_reading, is_told, live_counter, live_part, md_of, md_stamp, none_or_one, number_of, old_of, operation, parts, put_args, result_counter, step_bytes, steps, view, was_fired, was_read, was_sent, word, work_counter, rank_ops}
 use Rattle.choices.specs.view.Install.Counter.{Done, First, Go, Second}
 use Rattle.choices.specs.view.Install.Part.{Given, Old, Result}
-use Rattle.choices.specs.view.Install.Work.{Look, Send, Tell}
+use Rattle.choices.specs.view.Install.RankOp.{Look, Send, ForDone}
 use Rattle.choices.specs.view.Steps.{sent_message, with_phase}
 use Rattle.choices.proofs.view.Looks.{first_advanced, old_advanced, result_advanced, value_advanced}
 use Rattle.choices.proofs.view.Memory.{read_given, read_part}
@@ -47,9 +47,9 @@ In-home ks s h = at (choice_at ks s) refl
     at Elect e = In-old ks s h e
     at Tickets e = In-result ks s h
 
-module _ (k : Slots) (ranks : ℕ) (ks : List ChoiceKind) (r : ℕ) (seat : Seat) (s : ℕ) (h : s < length ks) where
+module _ (k : Slots) (ranks : ℕ) (ks : List ChoiceKind) (r : ℕ) (seat : ChoiceRank) (s : ℕ) (h : s < length ks) where
   -- the seat after a firing in step s
-  abbrev pub next : Seat
+  abbrev pub next : ChoiceRank
   next = with_phase s (advanced (seat.phase s)) seat
 
   -- the interface in which these operations wait
@@ -131,10 +131,10 @@ module _ (k : Slots) (ranks : ℕ) (ks : List ChoiceKind) (r : ℕ) (seat : Seat
         at Tickets e n (inl q) = absurd (n (ap Result q))
         at c e n (inr m) = ap (λ p. none_or_one (awaits_result (choice_at ks t) p)) (put-other s (advanced (seat.phase s)) seat.phase t m)
 
-    others_sent : (v : Work) → (v ≡ Send s → ⊥) → was_fired next v ≡ was_fired seat v
+    others_sent : (v : RankOp) → (v ≡ Send s → ⊥) → was_fired next v ≡ was_fired seat v
     others_sent (Send t) n = ap was_sent (put-other s (advanced (seat.phase s)) seat.phase t (λ e. n (ap Send e)))
     others_sent (Look t) n = look_next was_read (ap (λ p. was_read (advanced p)) idle ∙ sym (ap was_read idle)) t
-    others_sent (Tell t) n = look_next is_told (ap (λ p. is_told (advanced p)) idle ∙ sym (ap is_told idle)) t
+    others_sent (ForDone t) n = look_next is_told (ap (λ p. is_told (advanced p)) idle ∙ sym (ap is_told idle)) t
 
     -- the deed, by the step
     send_done : (c : ChoiceKind) (v : State)
@@ -153,7 +153,7 @@ module _ (k : Slots) (ranks : ℕ) (ks : List ChoiceKind) (r : ℕ) (seat : Seat
         ∙ read_part ks s h (step_bytes ks r seat) 8 8 (λ t i. length-step ks r seat t) (omega arith)
         ∙ read_given (seat.word s) (given_word (choice_at ks s) r) (old_of (seat.phase s)) (value_of (seat.phase s))
 
-    pub fire_send : (waits : List Posted) → waits ≡ map (operation k ks) (filter (λ v. not (was_fired next v)) (works ks))
+    pub fire_send : (waits : List Posted) → waits ≡ map (operation k ks) (filter (λ v. not (was_fired next v)) (rank_ops ks))
         → done (waiting_view waits) (deed_of k ks (Send s)) ≡ fires (view k ranks ks r next) (sent_message k ks r s (seat.phase s))
     fire_send waits e =
         send_done (choice_at ks s) (waiting_view waits)
@@ -182,12 +182,12 @@ module _ (k : Slots) (ranks : ℕ) (ks : List ChoiceKind) (r : ℕ) (seat : Seat
     others_look (Result t) n = ap (λ p. none_or_one (awaits_result (choice_at ks t) p))
         (put-other s (advanced (seat.phase s)) seat.phase t (λ e. n (ap Result e)))
 
-    others_read : (v : Work) → (v ≡ Look s → ⊥) → was_fired next v ≡ was_fired seat v
+    others_read : (v : RankOp) → (v ≡ Look s → ⊥) → was_fired next v ≡ was_fired seat v
     others_read (Send t) n = look_next was_sent (ap (λ p. was_sent (advanced p)) answered.is ∙ sym (ap was_sent answered.is)) t
     others_read (Look t) n = ap was_read (put-other s (advanced (seat.phase s)) seat.phase t (λ e. n (ap Look e)))
-    others_read (Tell t) n = look_next is_told (ap (λ p. is_told (advanced p)) answered.is ∙ sym (ap is_told answered.is)) t
+    others_read (ForDone t) n = look_next is_told (ap (λ p. is_told (advanced p)) answered.is ∙ sym (ap is_told answered.is)) t
 
-    pub fire_look : (waits : List Posted) → waits ≡ map (operation k ks) (filter (λ v. not (was_fired next v)) (works ks))
+    pub fire_look : (waits : List Posted) → waits ≡ map (operation k ks) (filter (λ v. not (was_fired next v)) (rank_ops ks))
         → done (waiting_view waits) (deed_of k ks (Look s)) ≡ fires (view k ranks ks r next) (sent_message k ks r s (seat.phase s))
     fire_look waits e =
         done_get (waiting_view waits) (get_args k ks s (Result s))
@@ -229,20 +229,20 @@ module _ (k : Slots) (ranks : ℕ) (ks : List ChoiceKind) (r : ℕ) (seat : Seat
         (ap (λ p. is_out (advanced p)) learned.is ∙ sym (ap is_out learned.is)) t)
     await_stays (Result t) = ap (λ b. none_or_one b) (out_stays (choice_at ks t) t)
 
-    others_told : (v : Work) → (v ≡ Tell s → ⊥) → was_fired next v ≡ was_fired seat v
+    others_told : (v : RankOp) → (v ≡ ForDone s → ⊥) → was_fired next v ≡ was_fired seat v
     others_told (Send t) n = look_next was_sent (ap (λ p. was_sent (advanced p)) learned.is ∙ sym (ap was_sent learned.is)) t
     others_told (Look t) n = look_next was_read (ap (λ p. was_read (advanced p)) learned.is ∙ sym (ap was_read learned.is)) t
-    others_told (Tell t) n = ap is_told (put-other s (advanced (seat.phase s)) seat.phase t (λ e. n (ap Tell e)))
+    others_told (ForDone t) n = ap is_told (put-other s (advanced (seat.phase s)) seat.phase t (λ e. n (ap ForDone e)))
 
-    pub fire_tell : (waits : List Posted) → waits ≡ map (operation k ks) (filter (λ v. not (was_fired next v)) (works ks))
-        → done (waiting_view waits) (deed_of k ks (Tell s)) ≡ fires (view k ranks ks r next) (sent_message k ks r s (seat.phase s))
+    pub fire_tell : (waits : List Posted) → waits ≡ map (operation k ks) (filter (λ v. not (was_fired next v)) (rank_ops ks))
+        → done (waiting_view waits) (deed_of k ks (ForDone s)) ≡ fires (view k ranks ks r next) (sent_message k ks r s (seat.phase s))
     fire_tell waits e =
         fired_pair _ _ None _
         (λ d. view_with k ranks ks r seat (memory_next d) (done_rises d) (parts_as k ks seat next (λ y j. await_stays y) d) (e d))
         (sym (ap (sent_message k ks r s) learned.is))
 
 -- ---- any ready operation
-pub record IsFiring (k : Slots) (ranks : ℕ) (ks : List ChoiceKind) (r : ℕ) (seat : Seat) (t s : ℕ) : Type 0 where
+pub record IsFiring (k : Slots) (ranks : ℕ) (ks : List ChoiceKind) (r : ℕ) (seat : ChoiceRank) (t s : ℕ) : Type 0 where
   pub known : s < length ks
   pub ready : is_ready_phase (choice_at ks s) (seat.phase s) ≡ true
   pub does : fired (view k ranks ks r seat) t
@@ -259,15 +259,15 @@ ready_idle : (c : ChoiceKind) (p : Phase) → p ≡ Idle → is_ready_phase c p 
 ready_idle Elect p h = ap (is_ready_phase Elect) h
 ready_idle Tickets p h = ap (is_ready_phase Tickets) h
 
-pub step_fire : (k : Slots) (ranks : ℕ) (ks : List ChoiceKind) (r : ℕ) (seat : Seat) (t : ℕ) → is_ready (view k ranks ks r seat) t ≡ true
+pub step_fire : (k : Slots) (ranks : ℕ) (ks : List ChoiceKind) (r : ℕ) (seat : ChoiceRank) (t : ℕ) → is_ready (view k ranks ks r seat) t ≡ true
     → (s : ℕ) × IsFiring k ranks ks r seat t s
 unfolding fired
 step_fire k ranks ks r seat t e = let w = ready_work k ranks ks r seat t e in by_kind w.0 w.1
   where
-    left : (w : Work) → IsReadyWork k ranks ks r seat t w → (next : Seat) → was_fired next w ≡ true
-        → ((v : Work) → (v ≡ w → ⊥) → was_fired next v ≡ was_fired seat v)
+    left : (w : RankOp) → IsReadyWork k ranks ks r seat t w → (next : ChoiceRank) → was_fired next w ≡ true
+        → ((v : RankOp) → (v ≡ w → ⊥) → was_fired next v ≡ was_fired seat v)
         → filter (λ q. not (is_number (number_of ks w) q)) (view k ranks ks r seat).pending.waiting
-        ≡ map (operation k ks) (filter (λ v. not (was_fired next v)) (works ks))
+        ≡ map (operation k ks) (filter (λ v. not (was_fired next v)) (rank_ops ks))
     left w h next a b = left_waiting k ks seat next w h.ours a b
 
     result_of : (c : ChoiceKind) (s : ℕ) → choice_at ks s ≡ c → 1 ≤ count_of ks seat (result_counter (choice_at ks s) s)
@@ -279,7 +279,7 @@ step_fire k ranks ks r seat t e = let w = ready_work k ranks ks r seat t e in by
     put_here : (s : ℕ) (p : Phase) → seat.phase s ≡ p → put s (advanced (seat.phase s)) seat.phase s ≡ advanced p
     put_here s p e = put-same s (advanced (seat.phase s)) seat.phase ∙ ap advanced e
 
-    by_kind : (w : Work) → IsReadyWork k ranks ks r seat t w → (s : ℕ) × IsFiring k ranks ks r seat t s
+    by_kind : (w : RankOp) → IsReadyWork k ranks ks r seat t w → (s : ℕ) × IsFiring k ranks ks r seat t s
     by_kind (Send s) h =
         let idle = sent_idle (seat.phase s) h.waits in (
           s,
@@ -306,7 +306,7 @@ step_fire k ranks ks r seat t e = let w = ready_work k ranks ks r seat t e in by
                 (others_read k ranks ks r seat s h.ours.0 answered h.ours.1));
           },
         )
-    by_kind (Tell s) h =
+    by_kind (ForDone s) h =
         let learned = told_learned (seat.phase s) h.waits (result_of (choice_at ks s) s refl h.reached) in (
           s,
           record {
@@ -314,18 +314,18 @@ step_fire k ranks ks r seat t e = let w = ready_work k ranks ks r seat t e in by
             ready = ready_learned (choice_at ks s) (seat.phase s) learned;
             does = ap (fired_op (view k ranks ks r seat)) h.found
                 ∙ fire_tell k ranks ks r seat s h.ours learned _
-                (left (Tell s) h (with_phase s (advanced (seat.phase s)) seat)
+                (left (ForDone s) h (with_phase s (advanced (seat.phase s)) seat)
                 (ap is_told (put_here s (Learned learned.old learned.value) learned.is)) (others_told k ranks ks r seat s h.ours learned));
           },
         )
 
 -- ---- where no operation is ready, no phase of a started rank is
-pub idle_phase : (k : Slots) (ranks : ℕ) (ks : List ChoiceKind) (r : ℕ) (seat : Seat)
+pub idle_phase : (k : Slots) (ranks : ℕ) (ks : List ChoiceKind) (r : ℕ) (seat : ChoiceRank)
     → ((t : ℕ) → is_ready (view k ranks ks r seat) t ≡ false) → seat.started ≡ true → (s : ℕ) → s < length ks
     → is_ready_phase (choice_at ks s) (seat.phase s) ≡ false
 idle_phase k ranks ks r seat idle begun s h = at (choice_at ks s) (seat.phase s) refl refl
   where
-    no_both : {X : Type 0} (w : Work) → IsWork ks w → was_fired seat w ≡ false → 1 ≤ count_of ks seat (work_counter ks w) → X
+    no_both : {X : Type 0} (w : RankOp) → IsWork ks w → was_fired seat w ≡ false → 1 ≤ count_of ks seat (work_counter ks w) → X
     no_both w i e n = let f = work_ready k ranks ks r seat w i e n in let g = idle (number_of ks w) in cc
 
     -- the result's counter stands at one
@@ -337,7 +337,7 @@ idle_phase k ranks ks r seat idle begun s h = at (choice_at ks s) (seat.phase s)
 
     at : (c : ChoiceKind) (p : Phase) → choice_at ks s ≡ c → seat.phase s ≡ p → is_ready_phase c p ≡ false
     at c Idle e f = no_both (Send s) h (ap was_sent f) (true_one seat.started begun)
-    at c (Learned old value) e f = no_both (Tell s) h (ap is_told f) (counted c e (ap has_result f))
+    at c (Learned old value) e f = no_both (ForDone s) h (ap is_told f) (counted c e (ap has_result f))
     at Elect (Answered old) e f = no_both (Look s) (h, e) (ap was_read f) (true_one _ (ap₂ has_first e f))
     at Tickets (Answered old) e f = refl
     at Elect Asked e f = refl

@@ -7,7 +7,7 @@ use Rattle.plan_core.specs.Plan.{from_to}
 use Rattle.cuts.specs.view.Calls.{with_entry}
 use Rattle.coll_lang.specs.declared.choices.ChoiceKind.{ChoiceKind}
 use Rattle.choices.specs.machine.Choices.{choice_at}
-use Rattle.choices.specs.view.Install.{Counter, Part, Slots, Work, counters_of, ct_of, deed_of, descriptor_of, limits_of, parts_of, step_bytes, steps, word_entry, work_counter, works}
+use Rattle.choices.specs.view.Install.{Counter, Part, Slots, RankOp, counters_of, ct_of, deed_of, descriptor_of, limits_of, parts_of, step_bytes, steps, word_entry, work_counter, rank_ops}
 use Rattle.choices.specs.view.Calls.{no_seat}
 
 -- a counting event for each of these
@@ -26,7 +26,7 @@ entries_all k [] s = s
 entries_all k (t ∷ ts) s = entries_all k ts (with_entry (k.me s.entries_given) Priority (word_entry t) s)
 
 -- these triggered operations, each at threshold 1
-abbrev pub operations_all : Slots → List ChoiceKind → List Work → State → State
+abbrev pub operations_all : Slots → List ChoiceKind → List RankOp → State → State
 operations_all k ks [] s = s
 operations_all k ks (w ∷ ws) s = operations_all k ks ws (with_operation (deed_of k ks w) (ct_of k ks (work_counter ks w)) 1 s)
 
@@ -56,4 +56,4 @@ entered k ranks ks r =
 
 -- all of them: then the operations by step
 abbrev pub made_in_order : Slots → ℕ → List ChoiceKind → ℕ → State
-made_in_order k ranks ks r = operations_all k ks (works ks) (entered k ranks ks r)
+made_in_order k ranks ks r = operations_all k ks (rank_ops ks) (entered k ranks ks r)

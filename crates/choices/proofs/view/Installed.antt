@@ -17,10 +17,10 @@ use Rattle.coll_lang.specs.declared.choices.ChoiceKind.TheVariants.{Elect, Ticke
 use Rattle.choices.specs.machine.Machine.Phase.{Idle}
 use Rattle.choices.proofs.machine.Places.{count_none}
 use Rattle.choices.proofs.machine.Words.{length-from_to}
-use Rattle.choices.specs.view.Install.{Counter, Part, Slots, Work, awaits_of, awaits_result, before, count_of, counters, counters_in, counters_of, ct_of, ct_stamp, deed_of, descriptor_of, entries_of, entry_of, has_first, last_in, live_counter, live_part, md_of, md_stamp, none_or_one, number_of, operation, parts, parts_of, steps, things_in, view, was_fired, word_entry, work_counter, works, works_of}
+use Rattle.choices.specs.view.Install.{Counter, Part, Slots, RankOp, awaits_of, awaits_result, before, count_of, counters, counters_in, counters_of, ct_of, ct_stamp, deed_of, descriptor_of, entries_of, entry_of, has_first, last_in, live_counter, live_part, md_of, md_stamp, none_or_one, number_of, operation, parts, parts_of, steps, things_in, view, was_fired, word_entry, work_counter, rank_ops, works_of}
 use Rattle.choices.specs.view.Install.Counter.{Done, First, Go, Second}
 use Rattle.choices.specs.view.Install.Part.{Given, Old, Result}
-use Rattle.choices.specs.view.Install.Work.{Look, Send, Tell}
+use Rattle.choices.specs.view.Install.RankOp.{Look, Send, ForDone}
 use Rattle.choices.specs.view.Calls.{no_seat}
 use Rattle.choices.proofs.view.Folds.{counters_all, entries_all, fresh, made_all, made_in_order, operations_all, parts_all}
 
@@ -150,7 +150,7 @@ after_parts k ks (x ∷ xs) s h =
 abbrev pub operations_with : State → List Posted → ℕ → State
 operations_with s xs n = record s { pending = record s.pending { waiting = xs; given = n } }
 
-pub after_operations : (k : Slots) (ks : List ChoiceKind) (ws : List Work) (s : State) → Runs (number_of ks) s.pending.given ws
+pub after_operations : (k : Slots) (ks : List ChoiceKind) (ws : List RankOp) (s : State) → Runs (number_of ks) s.pending.given ws
     → operations_all k ks ws s ≡ operations_with s (s.pending.waiting ++ map (operation k ks) ws) (s.pending.given + length ws)
 after_operations k ks [] s h = ap₂ (operations_with s) (sym (append-nil s.pending.waiting)) (sym (add-zero s.pending.given))
 after_operations k ks (w ∷ ws) s h =
@@ -247,12 +247,12 @@ module _ (k : Slots) (ks : List ChoiceKind) (r : ℕ) where
   parts_are (x ∷ xs) = ap₂ (λ n rest. record { handle = md_of k ks x; value = record { md = descriptor_of k ks x; awaits = n } } ∷ rest)
       (sym (awaits_zero x)) (parts_are xs)
 
-  none_fired : (w : Work) → was_fired (no_seat ks r) w ≡ false
+  none_fired : (w : RankOp) → was_fired (no_seat ks r) w ≡ false
   none_fired (Send s) = refl
   none_fired (Look s) = refl
-  none_fired (Tell s) = refl
+  none_fired (ForDone s) = refl
 
-  pub works_are : (ws : List Work) → ws ≡ filter (λ w. not (was_fired (no_seat ks r) w)) ws
+  pub works_are : (ws : List RankOp) → ws ≡ filter (λ w. not (was_fired (no_seat ks r) w)) ws
   works_are [] = refl
   works_are (w ∷ ws) = ap₂ (λ b rest. cond (not b) (w ∷ rest) rest) (sym (none_fired w)) (works_are ws)
 
@@ -299,9 +299,9 @@ module _ (k : Slots) (ranks : ℕ) (ks : List ChoiceKind) (r : ℕ) where
   -- ---- the law
   pub made_so : made_in_order k ranks ks r ≡ view k ranks ks r (no_seat ks r)
   made_so =
-      ap (operations_all k ks (works ks)) entered_is
-      ∙ after_operations k ks (works ks) (bare (entries_of k ks r) (if r == 0 then length ks else 0)) (all_works_run ks 0 (length ks))
+      ap (operations_all k ks (rank_ops ks)) entered_is
+      ∙ after_operations k ks (rank_ops ks) (bare (entries_of k ks r) (if r == 0 then length ks else 0)) (all_works_run ks 0 (length ks))
       ∙ (λ d. record (bare (entries_of k ks r) (if r == 0 then length ks else 0)) {
         pending = record (view k ranks ks r (no_seat ks r)).pending
-            { waiting = map (operation k ks) (works_are k ks r (works ks) d); given = zero_more (length (works ks)) d };
+            { waiting = map (operation k ks) (works_are k ks r (rank_ops ks) d); given = zero_more (length (rank_ops ks)) d };
       })

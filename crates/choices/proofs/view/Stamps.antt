@@ -6,10 +6,10 @@ use Rattle.plan_core.proofs.Links.{In-from_to, from_to-In}
 use Rattle.coll_lang.specs.declared.choices.ChoiceKind.{ChoiceKind}
 use Rattle.choices.specs.machine.Choices.{choice_at}
 use Rattle.coll_lang.specs.declared.choices.ChoiceKind.TheVariants.{Elect, Tickets}
-use Rattle.choices.specs.view.Install.{Counter, Part, Work, before, counters, counters_in, counters_of, ct_stamp, last_in, md_stamp, number_of, parts, parts_of, result_counter, steps, things_in, work_counter, works, works_of}
+use Rattle.choices.specs.view.Install.{Counter, Part, RankOp, before, counters, counters_in, counters_of, ct_stamp, last_in, md_stamp, number_of, parts, parts_of, result_counter, steps, things_in, work_counter, rank_ops, works_of}
 use Rattle.choices.specs.view.Install.Counter.{Done, First, Go, Second}
 use Rattle.choices.specs.view.Install.Part.{Given, Old, Result}
-use Rattle.choices.specs.view.Install.Work.{Look, Send, Tell}
+use Rattle.choices.specs.view.Install.RankOp.{Look, Send, ForDone}
 use Rattle.choices.proofs.view.Named.{In-flat, flat-In}
 
 pub In-steps : (ks : List ChoiceKind) (s : ℕ) → s < length ks → In s (steps ks)
@@ -201,24 +201,24 @@ parts-In ks x h = let k = flat-In (λ t. parts_of (choice_at ks t) t) x (steps k
 
 -- ---- operations
 -- an operation of a step that there is
-abbrev pub IsWork : List ChoiceKind → Work → Type 0
+abbrev pub IsWork : List ChoiceKind → RankOp → Type 0
 IsWork ks (Send s) = s < length ks
 IsWork ks (Look s) = (s < length ks) × (choice_at ks s ≡ Elect)
-IsWork ks (Tell s) = s < length ks
+IsWork ks (ForDone s) = s < length ks
 
-pub number_one : (ks : List ChoiceKind) (v w : Work) → IsWork ks v → IsWork ks w → number_of ks v ≡ number_of ks w → v ≡ w
+pub number_one : (ks : List ChoiceKind) (v w : RankOp) → IsWork ks v → IsWork ks w → number_of ks v ≡ number_of ks w → v ≡ w
 number_one ks (Send s) (Send t) i j e = ap Send (first_first ks s t e)
 number_one ks (Send s) (Look t) i j e = absurd (first_middle ks s t j.1 e)
-number_one ks (Send s) (Tell t) i j e = absurd (first_last ks s t e)
+number_one ks (Send s) (ForDone t) i j e = absurd (first_last ks s t e)
 number_one ks (Look s) (Send t) i j e = absurd (first_middle ks t s i.1 (sym e))
 number_one ks (Look s) (Look t) i j e = ap Look (middle_middle ks s t i.1 j.1 e)
-number_one ks (Look s) (Tell t) i j e = absurd (middle_last ks s t i.1 e)
-number_one ks (Tell s) (Send t) i j e = absurd (first_last ks t s (sym e))
-number_one ks (Tell s) (Look t) i j e = absurd (middle_last ks t s j.1 (sym e))
-number_one ks (Tell s) (Tell t) i j e = ap Tell (last_last ks s t e)
+number_one ks (Look s) (ForDone t) i j e = absurd (middle_last ks s t i.1 e)
+number_one ks (ForDone s) (Send t) i j e = absurd (first_last ks t s (sym e))
+number_one ks (ForDone s) (Look t) i j e = absurd (middle_last ks t s j.1 (sym e))
+number_one ks (ForDone s) (ForDone t) i j e = ap ForDone (last_last ks s t e)
 
-pub works-In : (ks : List ChoiceKind) (w : Work) → In w (works ks) → IsWork ks w
-works-In ks w h = let k = flat-In (λ t. works_of (choice_at ks t) t) w (steps ks) h in
+pub rank_ops-In : (ks : List ChoiceKind) (w : RankOp) → In w (rank_ops ks) → IsWork ks w
+rank_ops-In ks w h = let k = flat-In (λ t. works_of (choice_at ks t) t) w (steps ks) h in
     here (choice_at ks k.0) k.0 (steps-In ks k.0 k.1) refl k.2
   where
     here : (k : ChoiceKind) (s : ℕ) → s < length ks → choice_at ks s ≡ k → In w (works_of k s) → IsWork ks w
@@ -230,22 +230,22 @@ works-In ks w h = let k = flat-In (λ t. works_of (choice_at ks t) t) w (steps k
     here Tickets s l e (inr (inl i)) = subst (IsWork ks) i l
     here Tickets s l e (inr (inr i)) = absurd i
 
-pub In-works : (ks : List ChoiceKind) (w : Work) → IsWork ks w → In w (works ks)
-In-works ks (Send s) h = In-flat (λ t. works_of (choice_at ks t) t) s (Send s) (steps ks) (In-steps ks s h) (here (choice_at ks s))
+pub In-rank_ops : (ks : List ChoiceKind) (w : RankOp) → IsWork ks w → In w (rank_ops ks)
+In-rank_ops ks (Send s) h = In-flat (λ t. works_of (choice_at ks t) t) s (Send s) (steps ks) (In-steps ks s h) (here (choice_at ks s))
   where
     here : (k : ChoiceKind) → In (Send s) (works_of k s)
     here Elect = inl refl
     here Tickets = inl refl
-In-works ks (Look s) h = In-flat (λ t. works_of (choice_at ks t) t) s (Look s) (steps ks) (In-steps ks s h.0)
+In-rank_ops ks (Look s) h = In-flat (λ t. works_of (choice_at ks t) t) s (Look s) (steps ks) (In-steps ks s h.0)
     (subst (λ k. In (Look s) (works_of k s)) (sym h.1) (inr (inl refl)))
-In-works ks (Tell s) h = In-flat (λ t. works_of (choice_at ks t) t) s (Tell s) (steps ks) (In-steps ks s h) (here (choice_at ks s))
+In-rank_ops ks (ForDone s) h = In-flat (λ t. works_of (choice_at ks t) t) s (ForDone s) (steps ks) (In-steps ks s h) (here (choice_at ks s))
   where
-    here : (k : ChoiceKind) → In (Tell s) (works_of k s)
+    here : (k : ChoiceKind) → In (ForDone s) (works_of k s)
     here Elect = inr (inr (inl refl))
     here Tickets = inr (inl refl)
 
 -- the counter that an operation waits on
-pub In-work_counter : (ks : List ChoiceKind) (w : Work) → IsWork ks w → In (work_counter ks w) (counters ks)
+pub In-work_counter : (ks : List ChoiceKind) (w : RankOp) → IsWork ks w → In (work_counter ks w) (counters ks)
 In-work_counter ks (Send s) h = In-go ks
 In-work_counter ks (Look s) h = In-first ks s h.0
-In-work_counter ks (Tell s) h = In-result_counter ks s h
+In-work_counter ks (ForDone s) h = In-result_counter ks s h

@@ -9,7 +9,7 @@ use Rattle.ptl_types.specs.declared.headers.Header.{Header}
 use Rattle.ptl_types.specs.declared.headers.MessageKind.TheVariants.{FetchAtomic as FetchAtomicKind, Swap as SwapKind}
 use Rattle.ptl_types.specs.declared.calls.PutArgs.{PutArgs}
 use Rattle.ptl_types.specs.declared.calls.GetArgs.{GetArgs}
-use Rattle.ptl_types.specs.declared.calls.Deed.TheVariants.{FetchAtomic as FetchAtomicDeed, Get as GetDeed, Swap as SwapDeed}
+use Rattle.ptl_types.specs.declared.calls.TriggeredOp.TheVariants.{FetchAtomic as FetchAtomicDeed, Get as GetDeed, Swap as SwapDeed}
 use Rattle.ptl_types.specs.Messages.{message}
 use Rattle.ni_model.specs.declared.Bound.{Bound}
 use Rattle.ni_model.specs.State.{Posted, State}
@@ -30,14 +30,14 @@ use Rattle.coll_lang.specs.declared.choices.ChoiceKind.{ChoiceKind}
 use Rattle.coll_lang.specs.declared.choices.ChoiceKind.TheVariants.{Elect}
 use Rattle.choices.specs.machine.Machine.{Phase}
 use Rattle.choices.specs.machine.Machine.Phase.{Answered, Asked, Idle, Learned, Read, Reading, Served, Told}
-use Rattle.choices.specs.view.Install.{Counter, Part, Seat, Slots, Work, count_of, counters, ct_of, ct_stamp, has_first, has_result, is_told, md_of, md_stamp, none_or_one, number_of, operation, parts, view, was_fired, was_read, was_sent, work_counter, works}
+use Rattle.choices.specs.view.Install.{Counter, Part, ChoiceRank, Slots, RankOp, count_of, counters, ct_of, ct_stamp, has_first, has_result, is_told, md_of, md_stamp, none_or_one, number_of, operation, parts, view, was_fired, was_read, was_sent, work_counter, rank_ops}
 use Rattle.choices.specs.view.Install.Counter.{Done, First, Go, Second}
 use Rattle.choices.proofs.view.Named.{changed_named, lookup_named}
-use Rattle.choices.proofs.view.Stamps.{IsWork, In-go, In-work_counter, In-works, counters-In, ct_one, md_one, number_one, parts-In, works-In}
+use Rattle.choices.proofs.view.Stamps.{IsWork, In-go, In-work_counter, In-rank_ops, counters-In, ct_one, md_one, number_one, parts-In, rank_ops-In}
 use Rattle.choices.proofs.view.StepStart.{bound_for}
 
 -- ---- which operation is ready
-module _ (k : Slots) (ranks : ℕ) (ks : List ChoiceKind) (r : ℕ) (seat : Seat) where
+module _ (k : Slots) (ranks : ℕ) (ks : List ChoiceKind) (r : ℕ) (seat : ChoiceRank) where
   pub lookup_ct : (c : Counter) → In c (counters ks)
       → lookup (ct_of k ks c) (view k ranks ks r seat).cts.live ≡ Some (successes (count_of ks seat c))
   lookup_ct c h = lookup_named k.ct (ct_stamp ks) (λ d. successes (count_of ks seat d)) (counters ks) c h
@@ -47,16 +47,16 @@ module _ (k : Slots) (ranks : ℕ) (ks : List ChoiceKind) (r : ℕ) (seat : Seat
   lookup_md x h = lookup_named k.md (md_stamp ks) (bound_for k ks seat) (parts ks) x h
       (λ y i e. md_one ks y x (parts-In ks y i) (parts-In ks x h) e)
 
-  pub find_work : (w : Work) → IsWork ks w → was_fired seat w ≡ false
+  pub find_work : (w : RankOp) → IsWork ks w → was_fired seat w ≡ false
       → posted_at (number_of ks w) (view k ranks ks r seat).pending ≡ Some (operation k ks w)
   find_work w h e =
-      find-one (is_number (number_of ks w)) (operation k ks) (filter (λ v. not (was_fired seat v)) (works ks)) w
-      (In-filter (λ v. not (was_fired seat v)) w (works ks) (In-works ks w h) (ap not e))
+      find-one (is_number (number_of ks w)) (operation k ks) (filter (λ v. not (was_fired seat v)) (rank_ops ks)) w
+      (In-filter (λ v. not (was_fired seat v)) w (rank_ops ks) (In-rank_ops ks w h) (ap not e))
       (eq-eqb (number_of ks w) (number_of ks w) refl)
-      (λ v i f. number_one ks v w (works-In ks v (In-filter_cases (λ v. not (was_fired seat v)) v (works ks) i).0) h (eqb-true _ _ f))
+      (λ v i f. number_one ks v w (rank_ops-In ks v (In-filter_cases (λ v. not (was_fired seat v)) v (rank_ops ks) i).0) h (eqb-true _ _ f))
 
   -- the operation that a number names, where it is ready
-  pub record IsReadyWork (t : ℕ) (w : Work) : Type 0 where
+  pub record IsReadyWork (t : ℕ) (w : RankOp) : Type 0 where
     pub ours : IsWork ks w
     pub waits : was_fired seat w ≡ false
     pub found : posted_at t (view k ranks ks r seat).pending ≡ Some (operation k ks w)
@@ -68,17 +68,17 @@ module _ (k : Slots) (ranks : ℕ) (ks : List ChoiceKind) (r : ℕ) (seat : Seat
       let l : 1 ≤ n + 0 = leb-true _ _ q in
       omega arith
 
-  pub ready_work : (t : ℕ) → is_ready (view k ranks ks r seat) t ≡ true → (w : Work) × IsReadyWork t w
+  pub ready_work : (t : ℕ) → is_ready (view k ranks ks r seat) t ≡ true → (w : RankOp) × IsReadyWork t w
   ready_work t h = go (posted_at t (view k ranks ks r seat).pending) refl h
     where
       go : (o : Option Posted) → posted_at t (view k ranks ks r seat).pending ≡ o → is_ready_op (view k ranks ks r seat).cts o ≡ true
-          → (w : Work) × IsReadyWork t w
+          → (w : RankOp) × IsReadyWork t w
       go None e h = cc
       go (Some q) e h =
           let i = find-In (is_number t) (view k ranks ks r seat).pending.waiting q e in
-          let m = In-map_cases (operation k ks) q (filter (λ w. not (was_fired seat w)) (works ks)) i.0 in
-          let f = In-filter_cases (λ w. not (was_fired seat w)) m.0 (works ks) m.1 in
-          let w = works-In ks m.0 f.0 in (
+          let m = In-map_cases (operation k ks) q (filter (λ w. not (was_fired seat w)) (rank_ops ks)) i.0 in
+          let f = In-filter_cases (λ w. not (was_fired seat w)) m.0 (rank_ops ks) m.1 in
+          let w = rank_ops-In ks m.0 f.0 in (
             m.0,
             record {
               ours = w;
@@ -92,7 +92,7 @@ module _ (k : Slots) (ranks : ℕ) (ks : List ChoiceKind) (r : ℕ) (seat : Seat
           )
 
   -- and the other way round
-  pub work_ready : (w : Work) → IsWork ks w → was_fired seat w ≡ false → 1 ≤ count_of ks seat (work_counter ks w)
+  pub work_ready : (w : RankOp) → IsWork ks w → was_fired seat w ≡ false → 1 ≤ count_of ks seat (work_counter ks w)
       → is_ready (view k ranks ks r seat) (number_of ks w) ≡ true
   work_ready w h e n =
       ap (is_ready_op (view k ranks ks r seat).cts) (find_work w h e)
@@ -100,7 +100,7 @@ module _ (k : Slots) (ranks : ℕ) (ks : List ChoiceKind) (r : ℕ) (seat : Seat
       ∙ le-leb _ _ (omega arith)
 
 -- ---- the host's increment of the go counter is accepted, and is the start
-pub increment_starts : (k : Slots) (ranks : ℕ) (ks : List ChoiceKind) (r : ℕ) (seat : Seat) → seat.started ≡ false
+pub increment_starts : (k : Slots) (ranks : ℕ) (ks : List ChoiceKind) (r : ℕ) (seat : ChoiceRank) → seat.started ≡ false
     → ct_inc (ct_of k ks Go) (successes 1) (view k ranks ks r seat) ≡ ends (view k ranks ks r (record seat { started = true })) (Ok tt)
 increment_starts k ranks ks r seat e =
     ap (λ (o : Option Count). ends_by (need (is_some o) Stale (need (not (inc_passes o (successes 1))) CountFull None))
@@ -196,18 +196,18 @@ filter_left {W} op test a b (v ∷ vs) h = at (a v) (test (op v)) refl (h v (inl
         (filter (λ q. not (test q)) (map op (filter a vs)))) f
         ∙ ap (λ x. op v ∷ x) rest ∙ ap (λ t. map op (cond t (v ∷ filter b vs) (filter b vs))) (sym (e ∙ ap not f))
 
-pub left_waiting : (k : Slots) (ks : List ChoiceKind) (seat next : Seat) (w : Work) → IsWork ks w → was_fired next w ≡ true
-    → ((v : Work) → (v ≡ w → ⊥) → was_fired next v ≡ was_fired seat v)
-    → filter (λ q. not (is_number (number_of ks w) q)) (map (operation k ks) (filter (λ v. not (was_fired seat v)) (works ks)))
-    ≡ map (operation k ks) (filter (λ v. not (was_fired next v)) (works ks))
+pub left_waiting : (k : Slots) (ks : List ChoiceKind) (seat next : ChoiceRank) (w : RankOp) → IsWork ks w → was_fired next w ≡ true
+    → ((v : RankOp) → (v ≡ w → ⊥) → was_fired next v ≡ was_fired seat v)
+    → filter (λ q. not (is_number (number_of ks w) q)) (map (operation k ks) (filter (λ v. not (was_fired seat v)) (rank_ops ks)))
+    ≡ map (operation k ks) (filter (λ v. not (was_fired next v)) (rank_ops ks))
 left_waiting k ks seat next w h e same =
-    filter_left (operation k ks) (is_number (number_of ks w)) (λ v. not (was_fired seat v)) (λ v. not (was_fired next v)) (works ks)
+    filter_left (operation k ks) (is_number (number_of ks w)) (λ v. not (was_fired seat v)) (λ v. not (was_fired next v)) (rank_ops ks)
     (λ v i. at v i (cases_eq (number_of ks v) (number_of ks w)))
   where
-    at : (v : Work) → In v (works ks) → ((number_of ks v ≡ number_of ks w) ⊎ (number_of ks v ≡ number_of ks w → ⊥))
+    at : (v : RankOp) → In v (rank_ops ks) → ((number_of ks v ≡ number_of ks w) ⊎ (number_of ks v ≡ number_of ks w → ⊥))
         → not (was_fired next v) ≡ (not (was_fired seat v) && not (number_of ks v == number_of ks w))
     at v i (inl f) =
-        let q : v ≡ w = number_one ks v w (works-In ks v i) h f in
+        let q : v ≡ w = number_one ks v w (rank_ops-In ks v i) h f in
         ap (λ u. not (was_fired next u)) q ∙ ap not e ∙ sym (both_false (not (was_fired seat v)))
         ∙ ap (λ t. not (was_fired seat v) && not t) (sym (eq-eqb _ _ f))
     at v i (inr n) = ap not (same v (λ q. n (ap (number_of ks) q))) ∙ sym (both_true (not (was_fired seat v)))

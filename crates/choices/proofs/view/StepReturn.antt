@@ -21,19 +21,19 @@ use Rattle.choices.specs.machine.Machine.Phase.{Answered, Asked, Idle, Learned, 
 use Rattle.choices.specs.machine.Lawful.{IsAnswer, is_plain}
 use Rattle.choices.proofs.machine.Places.{count_as, put-other, put-same}
 use Rattle.choices.proofs.machine.Words.{put_as}
-use Rattle.choices.specs.view.Install.{Counter, Part, Seat, Slots, Work, answer_message, ask_header, awaits_of, awaits_result, count_of, counters, ct_named, ct_of, ct_stamp, first_header, four_words, given_word, has_counter, has_first, has_result, is_out, is_reading, is_told, live_counter, live_part, md_of, md_stamp, none_or_one, old_of, part_counter, part_start, parts, result_counter, step_bytes, steps, view, was_fired, was_read, was_sent, word, works}
+use Rattle.choices.specs.view.Install.{Counter, Part, ChoiceRank, Slots, RankOp, answer_message, ask_header, awaits_of, awaits_result, count_of, counters, ct_named, ct_of, ct_stamp, first_header, four_words, given_word, has_counter, has_first, has_result, is_out, is_reading, is_told, live_counter, live_part, md_of, md_stamp, none_or_one, old_of, part_counter, part_start, parts, result_counter, step_bytes, steps, view, was_fired, was_read, was_sent, word, rank_ops}
 use Rattle.choices.specs.view.Install.Counter.{Done, First, Go, Second}
 use Rattle.choices.specs.view.Install.Part.{Given, Old, Result}
-use Rattle.choices.specs.view.Install.Work.{Look, Send, Tell}
+use Rattle.choices.specs.view.Install.RankOp.{Look, Send, ForDone}
 use Rattle.choices.specs.view.Steps.{with_phase}
 use Rattle.choices.proofs.view.Memory.{write_old, write_part, write_result}
 use Rattle.choices.proofs.view.Named.{changed_named}
-use Rattle.choices.proofs.view.Stamps.{In-first, In-old, In-result, In-second, counters-In, ct_one, md_one, parts-In, works-In}
+use Rattle.choices.proofs.view.Stamps.{In-first, In-old, In-result, In-second, counters-In, ct_one, md_one, parts-In, rank_ops-In}
 use Rattle.choices.proofs.view.StepStart.{bound_for, bound_with, length-step, pending_as, view_with}
 use Rattle.choices.proofs.view.StepFire.{lookup_md}
 
 -- ---- an answer that a descriptor awaits
-module _ (k : Slots) (ranks : ℕ) (ks : List ChoiceKind) (r : ℕ) (seat : Seat) (x : Part) (i : In x (parts ks)) (c : Counter) where
+module _ (k : Slots) (ranks : ℕ) (ks : List ChoiceKind) (r : ℕ) (seat : ChoiceRank) (x : Part) (i : In x (parts ks)) (c : Counter) where
   -- what it leaves
   abbrev pub came_state : List ℕ → State
   came_state bytes = record (view k ranks ks r seat) {
@@ -69,9 +69,9 @@ module _ (k : Slots) (ranks : ℕ) (ks : List ChoiceKind) (r : ℕ) (seat : Seat
       due = ap₂ (λ n m. nat_lt 0 n && nat_le (m + 8) 8) awaits no_offset
 
 -- ---- a home that has the seat after the answer
-module _ (k : Slots) (ranks : ℕ) (ks : List ChoiceKind) (r : ℕ) (seat : Seat) (s : ℕ) (h : s < length ks) (p : Phase) where
+module _ (k : Slots) (ranks : ℕ) (ks : List ChoiceKind) (r : ℕ) (seat : ChoiceRank) (s : ℕ) (h : s < length ks) (p : Phase) where
   -- the seat after the answer
-  abbrev pub after_home : Seat
+  abbrev pub after_home : ChoiceRank
   after_home = with_phase s p seat
 
   here : after_home.phase s ≡ p
@@ -147,10 +147,10 @@ module _ (k : Slots) (ranks : ℕ) (ks : List ChoiceKind) (r : ℕ) (seat : Seat
       | inr m ↦ ap (λ q. none_or_one (awaits_result (choice_at ks t) q)) (there t m)
     ]
 
-    swap_fired : (w : Work) → was_fired after_home w ≡ was_fired seat w
+    swap_fired : (w : RankOp) → was_fired after_home w ≡ was_fired seat w
     swap_fired (Send t) = look_home was_sent (ap was_sent to ∙ sym (ap was_sent from)) t
     swap_fired (Look t) = look_home was_read (ap was_read to ∙ sym (ap was_read from)) t
-    swap_fired (Tell t) = look_home is_told (ap is_told to ∙ sym (ap is_told from)) t
+    swap_fired (ForDone t) = look_home is_told (ap is_told to ∙ sym (ap is_told from)) t
 
     pub swap_home : came_state k ranks ks r seat (Old s) (In-old ks s h elect) (First s) (word old) ≡ view k ranks ks r after_home
     swap_home = λ d. view_with k ranks ks r seat
@@ -183,10 +183,10 @@ module _ (k : Slots) (ranks : ℕ) (ks : List ChoiceKind) (r : ℕ) (seat : Seat
     get_awaits (Old t) i n = ap (λ b. none_or_one b) (look_home is_out (ap is_out to ∙ sym (ap is_out from)) t)
     get_awaits (Result t) i n = ap (λ q. none_or_one (awaits_result (choice_at ks t) q)) (there t (λ e. n (ap Result e)))
 
-    get_fired : (w : Work) → was_fired after_home w ≡ was_fired seat w
+    get_fired : (w : RankOp) → was_fired after_home w ≡ was_fired seat w
     get_fired (Send t) = look_home was_sent (ap was_sent to ∙ sym (ap was_sent from)) t
     get_fired (Look t) = look_home was_read (ap was_read to ∙ sym (ap was_read from)) t
-    get_fired (Tell t) = look_home is_told (ap is_told to ∙ sym (ap is_told from)) t
+    get_fired (ForDone t) = look_home is_told (ap is_told to ∙ sym (ap is_told from)) t
 
     pub get_home : came_state k ranks ks r seat (Result s) (In-result ks s h) (Second s) (word value) ≡ view k ranks ks r after_home
     get_home = λ d. view_with k ranks ks r seat
@@ -219,13 +219,13 @@ module _ (k : Slots) (ranks : ℕ) (ks : List ChoiceKind) (r : ℕ) (seat : Seat
     ]
     ticket_awaits (Result t) i n = ap (λ q. none_or_one (awaits_result (choice_at ks t) q)) (there t (λ e. n (ap Result e)))
 
-    ticket_fired : (w : Work) → In w (works ks) → was_fired after_home w ≡ was_fired seat w
+    ticket_fired : (w : RankOp) → In w (rank_ops ks) → was_fired after_home w ≡ was_fired seat w
     ticket_fired (Send t) i = look_home was_sent (ap was_sent to ∙ sym (ap was_sent from)) t
     ticket_fired (Look t) i = elim (cases_eq t s) [
-      | inl e ↦ no_elect t e (works-In ks (Look t) i).1
+      | inl e ↦ no_elect t e (rank_ops-In ks (Look t) i).1
       | inr m ↦ ap was_read (there t m)
     ]
-    ticket_fired (Tell t) i = look_home is_told (ap is_told to ∙ sym (ap is_told from)) t
+    ticket_fired (ForDone t) i = look_home is_told (ap is_told to ∙ sym (ap is_told from)) t
 
     pub ticket_home : came_state k ranks ks r seat (Result s) (In-result ks s h) (First s) (word value) ≡ view k ranks ks r after_home
     ticket_home = λ d. view_with k ranks ks r seat
@@ -237,7 +237,7 @@ module _ (k : Slots) (ranks : ℕ) (ks : List ChoiceKind) (r : ℕ) (seat : Seat
         (pending_as k ks seat after_home ticket_fired d)
 
 -- ---- any answer that is under way
-module _ (k : Slots) (ranks : ℕ) (ks : List ChoiceKind) (r : ℕ) (seat : Seat) where
+module _ (k : Slots) (ranks : ℕ) (ks : List ChoiceKind) (r : ℕ) (seat : ChoiceRank) where
   -- it leaves the seat with this phase
   abbrev pub returns_to : ℕ → Phase → Delivers
   returns_to s p = delivers (view k ranks ks r (with_phase s p seat)) IsAnswered None

@@ -25,7 +25,7 @@ use Rattle.coll_lang.specs.declared.choices.ChoiceKind.TheVariants.{Elect, Ticke
 use Rattle.choices.specs.machine.Machine.{answer, ask, value_of, word_after}
 use Rattle.choices.proofs.machine.Places.{put-other, put-same}
 use Rattle.choices.proofs.machine.Moments.{put-again}
-use Rattle.choices.specs.view.Install.{Seat, Slots, answer_message, ask_header, ask_message, entry_of, first_header, four_words, given_word, old_of, step_bytes, steps, view, word}
+use Rattle.choices.specs.view.Install.{ChoiceRank, Slots, answer_message, ask_header, ask_message, entry_of, first_header, four_words, given_word, old_of, step_bytes, steps, view, word}
 use Rattle.choices.specs.view.Steps.{with_word}
 use Rattle.choices.proofs.view.MatchBits.{match_only, match_own}
 use Rattle.choices.proofs.view.Memory.{read_first, read_part, write_first, write_part}
@@ -45,7 +45,7 @@ swap_word w v h i j e f =
 sum_word : (w v : ℕ) → w < 2 ^ 64 → v < 2 ^ 64 → combined Sum U64 (word w) (word v) ≡ word ((w + v) % 2 ^ 64)
 sum_word w v i j = ap₂ (λ x y. word ((x + y) % 2 ^ 64)) (pattern_word w i) (pattern_word v j)
 
-module _ (k : Slots) (ranks : ℕ) (ks : List ChoiceKind) (seat : Seat) (s : ℕ) (h : s < length ks) (few : length ks ≤ 2 ^ 64) where
+module _ (k : Slots) (ranks : ℕ) (ks : List ChoiceKind) (seat : ChoiceRank) (s : ℕ) (h : s < length ks) (few : length ks ≤ 2 ^ 64) where
   -- the index of rank 0
   abbrev pub index_here : Index
   index_here = record { eq = None; priority = map (entry_of k) (steps ks); overflow = [] }

@@ -16,20 +16,20 @@ use Rattle.choices.specs.machine.Machine.{Phase, put, served, value_of}
 use Rattle.choices.specs.machine.Machine.Phase.{Asked, Read, Reading, Served}
 use Rattle.choices.proofs.machine.Places.{count_as}
 use Rattle.choices.proofs.machine.Words.{put_as}
-use Rattle.choices.specs.view.Install.{Counter, Part, Seat, Slots, Work, awaits_of, awaits_result, count_of, counters, ct_of, ct_stamp, descriptor_of, four_words, given_word, has_first, has_result, is_out, is_reading, is_told, none_or_one, live_counter, live_part, md_stamp, old_of, operation, parts, step_bytes, steps, view, was_fired, was_read, was_sent, works}
+use Rattle.choices.specs.view.Install.{Counter, Part, ChoiceRank, Slots, RankOp, awaits_of, awaits_result, count_of, counters, ct_of, ct_stamp, descriptor_of, four_words, given_word, has_first, has_result, is_out, is_reading, is_told, none_or_one, live_counter, live_part, md_stamp, old_of, operation, parts, step_bytes, steps, view, was_fired, was_read, was_sent, rank_ops}
 use Rattle.choices.specs.view.Install.Counter.{Done, First, Go, Second}
 use Rattle.choices.specs.view.Install.Part.{Given, Old, Result}
-use Rattle.choices.specs.view.Install.Work.{Look, Send, Tell}
+use Rattle.choices.specs.view.Install.RankOp.{Look, Send, ForDone}
 use Rattle.choices.specs.view.Steps.{with_phase}
 use Rattle.choices.proofs.view.Looks.{look_served}
 use Rattle.choices.proofs.view.Named.{changed_named, same_lives}
 use Rattle.choices.proofs.view.Stamps.{counters-In, ct_one}
 
-pub length-step : (ks : List ChoiceKind) (r : ℕ) (seat : Seat) (s : ℕ) → length (step_bytes ks r seat s) ≡ 32
+pub length-step : (ks : List ChoiceKind) (r : ℕ) (seat : ChoiceRank) (s : ℕ) → length (step_bytes ks r seat s) ≡ 32
 length-step ks r seat s = refl
 
 -- ---- the parts of an interface, each by what it shows
-pub memory_as : (ks : List ChoiceKind) (r : ℕ) (a b : Seat) → ((s : ℕ) → b.word s ≡ a.word s)
+pub memory_as : (ks : List ChoiceKind) (r : ℕ) (a b : ChoiceRank) → ((s : ℕ) → b.word s ≡ a.word s)
     → ((s : ℕ) → old_of (b.phase s) ≡ old_of (a.phase s)) → ((s : ℕ) → value_of (b.phase s) ≡ value_of (a.phase s))
     → flat_map (step_bytes ks r a) (steps ks) ≡ flat_map (step_bytes ks r b) (steps ks)
 memory_as ks r a b words olds values = flat-same (step_bytes ks r a) (step_bytes ks r b) (steps ks) (λ s i. sym (same s))
@@ -37,7 +37,7 @@ memory_as ks r a b words olds values = flat-same (step_bytes ks r a) (step_bytes
     same : (s : ℕ) → step_bytes ks r b s ≡ step_bytes ks r a s
     same s = λ d. four_words (words s d) (given_word (choice_at ks s) r) (olds s d) (values s d)
 
-pub counts_as : (k : Slots) (ks : List ChoiceKind) (a b : Seat) → ((c : Counter) → In c (counters ks) → count_of ks b c ≡ count_of ks a c)
+pub counts_as : (k : Slots) (ks : List ChoiceKind) (a b : ChoiceRank) → ((c : Counter) → In c (counters ks) → count_of ks b c ≡ count_of ks a c)
     → map (live_counter k ks a) (counters ks) ≡ map (live_counter k ks b) (counters ks)
 counts_as k ks a b h = same_lives k.ct (ct_stamp ks) (λ c. successes (count_of ks a c)) (λ c. successes (count_of ks b c)) (counters ks)
     (λ c i. ap successes (h c i))
@@ -47,10 +47,10 @@ abbrev pub bound_with : Slots → List ChoiceKind → Part → ℕ → Bound
 bound_with k ks x n = record { md = descriptor_of k ks x; awaits = n }
 
 -- at a moment
-abbrev pub bound_for : Slots → List ChoiceKind → Seat → Part → Bound
+abbrev pub bound_for : Slots → List ChoiceKind → ChoiceRank → Part → Bound
 bound_for k ks seat x = bound_with k ks x (awaits_of ks seat x)
 
-pub parts_as : (k : Slots) (ks : List ChoiceKind) (a b : Seat) → ((x : Part) → In x (parts ks) → awaits_of ks b x ≡ awaits_of ks a x)
+pub parts_as : (k : Slots) (ks : List ChoiceKind) (a b : ChoiceRank) → ((x : Part) → In x (parts ks) → awaits_of ks b x ≡ awaits_of ks a x)
     → map (live_part k ks a) (parts ks) ≡ map (live_part k ks b) (parts ks)
 parts_as k ks a b h = same_lives k.md (md_stamp ks) (bound_for k ks a) (bound_for k ks b) (parts ks) (λ x i. ap (bound_with k ks x) (h x i))
 
@@ -59,13 +59,13 @@ filter_as : {W : Type 0} (a b : W → Bool) (ws : List W) → ((w : W) → In w 
 filter_as a b [] h = refl
 filter_as a b (w ∷ ws) h = ap₂ (λ t rest. cond (not t) (w ∷ rest) rest) (sym (h w (inl refl))) (filter_as a b ws (λ v i. h v (inr i)))
 
-pub pending_as : (k : Slots) (ks : List ChoiceKind) (a b : Seat) → ((w : Work) → In w (works ks) → was_fired b w ≡ was_fired a w)
-    → map (operation k ks) (filter (λ w. not (was_fired a w)) (works ks))
-    ≡ map (operation k ks) (filter (λ w. not (was_fired b w)) (works ks))
-pending_as k ks a b h = ap (map (operation k ks)) (filter_as (was_fired a) (was_fired b) (works ks) h)
+pub pending_as : (k : Slots) (ks : List ChoiceKind) (a b : ChoiceRank) → ((w : RankOp) → In w (rank_ops ks) → was_fired b w ≡ was_fired a w)
+    → map (operation k ks) (filter (λ w. not (was_fired a w)) (rank_ops ks))
+    ≡ map (operation k ks) (filter (λ w. not (was_fired b w)) (rank_ops ks))
+pending_as k ks a b h = ap (map (operation k ks)) (filter_as (was_fired a) (was_fired b) (rank_ops ks) h)
 
 -- an interface with these
-abbrev pub view_with : Slots → ℕ → List ChoiceKind → ℕ → Seat → List ℕ → List (Live Count) → List (Live Bound) → List Posted → State
+abbrev pub view_with : Slots → ℕ → List ChoiceKind → ℕ → ChoiceRank → List ℕ → List (Live Count) → List (Live Bound) → List Posted → State
 view_with k ranks ks r seat memory cts mds waiting = record (view k ranks ks r seat) {
   memory = memory;
   cts = record (view k ranks ks r seat).cts { live = cts };
@@ -74,7 +74,7 @@ view_with k ranks ks r seat memory cts mds waiting = record (view k ranks ks r s
 }
 
 -- ---- a start
-pub started_view : (k : Slots) (ranks : ℕ) (ks : List ChoiceKind) (r : ℕ) (seat : Seat) → seat.started ≡ false
+pub started_view : (k : Slots) (ranks : ℕ) (ks : List ChoiceKind) (r : ℕ) (seat : ChoiceRank) → seat.started ≡ false
     → raise_go (ct_of k ks Go) (view k ranks ks r seat) ≡ view k ranks ks r (record seat { started = true })
 started_view k ranks ks r seat e =
     ap (λ v. record (view k ranks ks r seat) { cts = record (view k ranks ks r seat).cts { live = v } })
@@ -99,7 +99,7 @@ awaits_served : (k : ChoiceKind) (w : ℕ) (p : Phase) → awaits_result k (serv
 awaits_served Elect w p = look_served is_reading (λ w. refl) (λ old w. refl) w p
 awaits_served Tickets w p = look_served is_out (λ w. refl) (λ old w. refl) w p
 
-pub served_view : (k : Slots) (ranks : ℕ) (ks : List ChoiceKind) (r : ℕ) (seat : Seat) (s w : ℕ)
+pub served_view : (k : Slots) (ranks : ℕ) (ks : List ChoiceKind) (r : ℕ) (seat : ChoiceRank) (s w : ℕ)
     → view k ranks ks r (with_phase s (served w (seat.phase s)) seat) ≡ view k ranks ks r seat
 served_view k ranks ks r seat s w = λ d. view_with k ranks ks r seat
     (memory_as ks r next seat (λ t. refl) (λ t. sym (here old_of (λ w. refl) (λ old w. refl) t))
@@ -108,7 +108,7 @@ served_view k ranks ks r seat s w = λ d. view_with k ranks ks r seat
     (parts_as k ks next seat (λ x i. sym (await x)) d)
     (pending_as k ks next seat (λ v i. sym (fire v)) d)
   where
-    next : Seat
+    next : ChoiceRank
     next = with_phase s (served w (seat.phase s)) seat
 
     here : {X : Type 0} (look : Phase → X) → ((w : ℕ) → look (Served w) ≡ look Asked)
@@ -130,7 +130,7 @@ served_view k ranks ks r seat s w = λ d. view_with k ranks ks r seat
     await (Result t) = ap (λ b. none_or_one b) (put_as (awaits_result (choice_at ks t)) s (served w (seat.phase s)) seat.phase
         (awaits_served (choice_at ks t) w (seat.phase s)) t)
 
-    fire : (v : Work) → was_fired next v ≡ was_fired seat v
+    fire : (v : RankOp) → was_fired next v ≡ was_fired seat v
     fire (Send t) = here was_sent (λ w. refl) (λ old w. refl) t
     fire (Look t) = here was_read (λ w. refl) (λ old w. refl) t
-    fire (Tell t) = here is_told (λ w. refl) (λ old w. refl) t
+    fire (ForDone t) = here is_told (λ w. refl) (λ old w. refl) t

@@ -6,7 +6,7 @@ use Rattle.std.proofs.lemmas.List.{length-map, map-append}
 use Rattle.std.proofs.lemmas.List.Sums.{sum_by-cons}
 use Rattle.ptl_types.specs.declared.calls.NiFault.{NiFault}
 use Rattle.ptl_types.specs.declared.calls.NiFault.TheVariants.{Stale, NoSpace, OutOfRegion, CountFull}
-use Rattle.ptl_types.specs.declared.calls.Deed.{Deed}
+use Rattle.ptl_types.specs.declared.calls.TriggeredOp.{TriggeredOp}
 use Rattle.ptl_types.specs.Handles.{top}
 use Rattle.ni_model.specs.declared.Linked.{Linked}
 use Rattle.ni_model.specs.Tables.{is_live_or_none, lookup}
@@ -24,10 +24,10 @@ use Rattle.coll_lang.specs.declared.choices.ChoiceKind.{ChoiceKind}
 use Rattle.choices.specs.machine.Choices.{choice_at}
 use Rattle.coll_lang.specs.declared.choices.ChoiceKind.TheVariants.{Elect, Tickets}
 use Rattle.choices.proofs.machine.Words.{length-from_to}
-use Rattle.choices.specs.view.Install.{Counter, Part, Slots, Work, before, counters, counters_in, counters_of, ct_of, ct_stamp, deed_of, descriptor_of, entries_of, entry_of, first_deed, limits_of, md_of, md_stamp, number_of, operation, part_start, parts, parts_of, result_counter, step_bytes, steps, things_in, word_entry, work_counter, works, works_of}
+use Rattle.choices.specs.view.Install.{Counter, Part, Slots, RankOp, before, counters, counters_in, counters_of, ct_of, ct_stamp, deed_of, descriptor_of, entries_of, entry_of, first_deed, limits_of, md_of, md_stamp, number_of, operation, part_start, parts, parts_of, result_counter, step_bytes, steps, things_in, word_entry, work_counter, rank_ops, works_of}
 use Rattle.choices.specs.view.Install.Counter.{Done, First, Go}
 use Rattle.choices.specs.view.Install.Part.{Given, Old, Result}
-use Rattle.choices.specs.view.Install.Work.{Look, Send, Tell}
+use Rattle.choices.specs.view.Install.RankOp.{Look, Send, ForDone}
 use Rattle.choices.specs.view.Calls.{no_seat}
 use Rattle.choices.proofs.view.Folds.{counters_all, entered, entries_all, fresh, indexed, made_all, made_part, operations_all, parts_all}
 use Rattle.choices.specs.view.Install.{view}
@@ -35,7 +35,7 @@ use Rattle.choices.proofs.view.Named.{flat-In, lookup_named}
 use Rattle.choices.proofs.view.Memory.{inside_step}
 use Rattle.choices.proofs.view.StepStart.{length-step}
 use Rattle.choices.proofs.view.StepFire.{lookup_ct, lookup_md}
-use Rattle.choices.proofs.view.Stamps.{IsCounter, IsWork, In-done, In-given, In-old, In-result, In-work_counter, ct_one, works-In}
+use Rattle.choices.proofs.view.Stamps.{IsCounter, IsWork, In-done, In-given, In-old, In-result, In-work_counter, ct_one, rank_ops-In}
 use Rattle.choices.proofs.view.Installed.{Runs, Runs-left, after_counters, after_entries, after_made, after_operations, after_parts, all_counters_run, all_parts_run, all_works_run, bare, counters_long, counters_run, cts_with, entered_is, made_is, mds_with, new_counter, new_part, parts_long, parts_run, steps_run, tables_with, works_long}
 
 -- ---- small facts
@@ -309,7 +309,7 @@ module _ (k : Slots) (ranks : ℕ) (ks : List ChoiceKind) (r : ℕ) (few : 3 * l
   )
 
   -- what a deed of this rank needs
-  pub record MayPost (d : Deed) : Type 0 where
+  pub record MayPost (d : TriggeredOp) : Type 0 where
     pub live : (counts_on_live d (view k ranks ks r (no_seat ks r)).cts && deed_is_live d (view k ranks ks r (no_seat ks r)).mds) ≡ true
     pub fits : deed_fits d (view k ranks ks r (no_seat ks r)).mds ≡ true
     pub small : not (deed_passes d) ≡ true
@@ -347,18 +347,18 @@ module _ (k : Slots) (ranks : ℕ) (ks : List ChoiceKind) (r : ℕ) (few : 3 * l
             );
       }
 
-  pub may_post : (w : Work) → IsWork ks w → MayPost (deed_of k ks w)
+  pub may_post : (w : RankOp) → IsWork ks w → MayPost (deed_of k ks w)
   may_post (Send s) h = may_send s h (choice_at ks s) refl
   may_post (Look s) h = let a = live_md (Result s) (In-result ks s h.0) in
       record { live = a.0; fits = a.1; small = refl; may = λ some. record { target_known = some; short = lit≤ tt } }
-  may_post (Tell s) h = record { live = ap (λ b. b && true) (live_ct Done (In-done ks)); fits = refl; small = refl; may = λ some. tt }
+  may_post (ForDone s) h = record { live = ap (λ b. b && true) (live_ct Done (In-done ks)); fits = refl; small = refl; may = λ some. tt }
 
-  pub operation_made : (front : List Work) (w : Work) (back : List Work) → front ++ w ∷ back ≡ works ks
+  pub operation_made : (front : List RankOp) (w : RankOp) (back : List RankOp) → front ++ w ∷ back ≡ rank_ops ks
       → (let s = operations_all k ks front (entered k ranks ks r) in
       triggered_fault (deed_of k ks w) (ct_of k ks (work_counter ks w)) s.cts s.mds s.pending) ≡ None
   operation_made front w back e =
-      let i : In w (works ks) = subst (In w) e (In-split front w back) in
-      let ours = works-In ks w i in
+      let i : In w (rank_ops ks) = subst (In w) e (In-split front w back) in
+      let ours = rank_ops-In ks w i in
       let may = may_post w ours in
       ap (λ (s : State). triggered_fault (deed_of k ks w) (ct_of k ks (work_counter ks w)) s.cts s.mds s.pending)
       (ap (operations_all k ks front) (entered_is k ranks ks r)

@@ -11,8 +11,8 @@ use Rattle.cuts.specs.view.Calls.{with_entry}
 use Rattle.coll_lang.specs.declared.choices.ChoiceKind.{ChoiceKind}
 use Rattle.choices.specs.machine.Choices.{choice_at}
 use Rattle.choices.specs.machine.Machine.{first_word, opened as nothing_done}
-use Rattle.choices.specs.view.Install.{Counter, Part, Seat, Slots, Work, counters_of, ct_of, deed_of, descriptor_of, four_words}
-use Rattle.choices.specs.view.Install.{given_word, limits_of, parts_of, seat_of, steps, word_entry, work_counter, works}
+use Rattle.choices.specs.view.Install.{Counter, Part, ChoiceRank, Slots, RankOp, counters_of, ct_of, deed_of, descriptor_of, four_words}
+use Rattle.choices.specs.view.Install.{given_word, limits_of, parts_of, seat_of, steps, word_entry, work_counter, rank_ops}
 use Rattle.choices.specs.view.Install.Counter.{Done, Go}
 
 -- ---- the calls
@@ -23,7 +23,7 @@ pub data Call : Type 0 where
   CtAlloc : (counter : Counter) → Call
   MdBind : (part : Part) → Call
   MeAppend : (step : ℕ) → Call
-  Trigger : (work : Work) → Call
+  Trigger : (work : RankOp) → Call
 
 -- the counting events of a step, and then its descriptors
 abbrev pub step_calls : List ChoiceKind → ℕ → List Call
@@ -37,7 +37,7 @@ word_calls ks r = if r == 0 then map MeAppend (steps ks) else []
 abbrev pub install_calls : List ChoiceKind → ℕ → List Call
 install_calls ks r =
     PtAlloc ∷ CtAlloc Go ∷ CtAlloc Done
-    ∷ (flat_map (step_calls ks) (steps ks) ++ (word_calls ks r ++ map Trigger (works ks)))
+    ∷ (flat_map (step_calls ks) (steps ks) ++ (word_calls ks r ++ map Trigger (rank_ops ks)))
 
 -- ---- what they do, where they aren't refused
 
@@ -89,5 +89,5 @@ abbrev pub install : Slots → ℕ → List ChoiceKind → ℕ → State
 install k ranks ks r = calls_made k ks (install_calls ks r) (blank ranks ks r)
 
 -- the seat of a rank that has done nothing
-abbrev pub no_seat : List ChoiceKind → ℕ → Seat
+abbrev pub no_seat : List ChoiceKind → ℕ → ChoiceRank
 no_seat ks r = seat_of ks (nothing_done ks) r

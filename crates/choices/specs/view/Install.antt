@@ -14,9 +14,9 @@ use Rattle.ptl_types.specs.declared.entries.Descriptor.{Descriptor}
 use Rattle.ptl_types.specs.declared.calls.Limits.{Limits}
 use Rattle.ptl_types.specs.declared.calls.PutArgs.{PutArgs}
 use Rattle.ptl_types.specs.declared.calls.GetArgs.{GetArgs}
-use Rattle.ptl_types.specs.declared.calls.Deed.{Deed}
-use Rattle.ptl_types.specs.declared.calls.Deed.TheVariants.{FetchAtomic as FetchAtomicDeed, Get as GetDeed, Inc as IncDeed}
-use Rattle.ptl_types.specs.declared.calls.Deed.TheVariants.{Swap as SwapDeed}
+use Rattle.ptl_types.specs.declared.calls.TriggeredOp.{TriggeredOp}
+use Rattle.ptl_types.specs.declared.calls.TriggeredOp.TheVariants.{FetchAtomic as FetchAtomicDeed, Get as GetDeed, Inc as IncDeed}
+use Rattle.ptl_types.specs.declared.calls.TriggeredOp.TheVariants.{Swap as SwapDeed}
 use Rattle.ptl_types.specs.Handles.{top}
 use Rattle.ptl_types.specs.Elements.{little_endian}
 use Rattle.ptl_types.specs.Messages.{Sent, message}
@@ -179,31 +179,31 @@ abbrev pub entry_of : Slots → ℕ → Linked
 entry_of k s = record { handle = handle (k.me s) s; running = 0; entry = word_entry s }
 
 -- ---- triggered operations: the first request of a step, the get of an elect, and the telling of the done counter
-pub data Work : Type 0 where
-  Send : (step : ℕ) → Work
-  Look : (step : ℕ) → Work
-  Tell : (step : ℕ) → Work
+pub data RankOp : Type 0 where
+  Send : (step : ℕ) → RankOp
+  Look : (step : ℕ) → RankOp
+  ForDone : (step : ℕ) → RankOp
 
 -- those of a step
-abbrev pub works_of : ChoiceKind → ℕ → List Work
-works_of Elect s = Send s ∷ Look s ∷ Tell s ∷ []
-works_of Tickets s = Send s ∷ Tell s ∷ []
+abbrev pub works_of : ChoiceKind → ℕ → List RankOp
+works_of Elect s = Send s ∷ Look s ∷ ForDone s ∷ []
+works_of Tickets s = Send s ∷ ForDone s ∷ []
 
 -- all, in the order of their posting
-abbrev pub works : List ChoiceKind → List Work
-works ks = flat_map (λ s. works_of (choice_at ks s) s) (steps ks)
+abbrev pub rank_ops : List ChoiceKind → List RankOp
+rank_ops ks = flat_map (λ s. works_of (choice_at ks s) s) (steps ks)
 
 -- the number of each
-abbrev pub number_of : List ChoiceKind → Work → ℕ
+abbrev pub number_of : List ChoiceKind → RankOp → ℕ
 number_of ks (Send s) = before things_in ks s + 0
 number_of ks (Look s) = before things_in ks s + 1
-number_of ks (Tell s) = before things_in ks s + last_in (choice_at ks s)
+number_of ks (ForDone s) = before things_in ks s + last_in (choice_at ks s)
 
 -- the counter that it waits on
-abbrev pub work_counter : List ChoiceKind → Work → Counter
+abbrev pub work_counter : List ChoiceKind → RankOp → Counter
 work_counter ks (Send s) = Go
 work_counter ks (Look s) = First s
-work_counter ks (Tell s) = result_counter (choice_at ks s) s
+work_counter ks (ForDone s) = result_counter (choice_at ks s) s
 
 -- where an answer goes: eight bytes of this descriptor
 abbrev pub get_args : Slots → List ChoiceKind → ℕ → Part → GetArgs
@@ -224,18 +224,18 @@ put_args k ks s = record {
 }
 
 -- an elect swaps its rank in where nobody was before; tickets add one
-abbrev pub first_deed : Slots → List ChoiceKind → ChoiceKind → ℕ → Deed
+abbrev pub first_deed : Slots → List ChoiceKind → ChoiceKind → ℕ → TriggeredOp
 first_deed k ks Elect s = SwapDeed (get_args k ks s (Old s)) (put_args k ks s) Cswap U64 top
 first_deed k ks Tickets s = FetchAtomicDeed (get_args k ks s (Result s)) (put_args k ks s) Sum U64
 
 -- what an operation does
-abbrev pub deed_of : Slots → List ChoiceKind → Work → Deed
+abbrev pub deed_of : Slots → List ChoiceKind → RankOp → TriggeredOp
 deed_of k ks (Send s) = first_deed k ks (choice_at ks s) s
 deed_of k ks (Look s) = GetDeed (get_args k ks s (Result s))
-deed_of k ks (Tell s) = IncDeed (ct_of k ks Done) (successes 1)
+deed_of k ks (ForDone s) = IncDeed (ct_of k ks Done) (successes 1)
 
 -- as it waits
-abbrev pub operation : Slots → List ChoiceKind → Work → Posted
+abbrev pub operation : Slots → List ChoiceKind → RankOp → Posted
 operation k ks w = record { number = number_of ks w; deed = deed_of k ks w; ct = ct_of k ks (work_counter ks w); threshold = 1 }
 
 -- ---- messages
@@ -267,7 +267,7 @@ abbrev pub answer_message : Slots → List ChoiceKind → ℕ → Answer → Sen
 answer_message k ks r a = message (reply_header true 8 (ask_header k ks r a.step a.reads)) (word a.value)
 
 -- ---- one rank at a moment
-pub record Seat : Type 0 where
+pub record ChoiceRank : Type 0 where
   pub started : Bool
   pub phase : ℕ → Phase
   pub word : ℕ → ℕ
@@ -277,7 +277,7 @@ abbrev pub first_words : List ChoiceKind → ℕ → ℕ
 first_words ks s = first_word (choice_at ks s)
 
 -- rank r of a moment
-abbrev pub seat_of : List ChoiceKind → Moment → ℕ → Seat
+abbrev pub seat_of : List ChoiceKind → Moment → ℕ → ChoiceRank
 seat_of ks m r = record { started = m.started r; phase = m.phase r; word = if r == 0 then m.word else first_words ks }
 
 -- the old word of an elect, once it is home
@@ -294,7 +294,7 @@ abbrev pub four_words : ℕ → ℕ → ℕ → ℕ → List ℕ
 four_words h v o b = word h ++ (word v ++ (word o ++ word b))
 
 -- a step's bytes
-abbrev pub step_bytes : List ChoiceKind → ℕ → Seat → ℕ → List ℕ
+abbrev pub step_bytes : List ChoiceKind → ℕ → ChoiceRank → ℕ → List ℕ
 step_bytes ks r seat s = four_words (seat.word s) (given_word (choice_at ks s) r) (old_of (seat.phase s)) (value_of (seat.phase s))
 
 -- the result is home
@@ -321,7 +321,7 @@ abbrev pub none_or_one : Bool → ℕ
 none_or_one b = if b then 1 else 0
 
 -- where a counter stands
-abbrev pub count_of : List ChoiceKind → Seat → Counter → ℕ
+abbrev pub count_of : List ChoiceKind → ChoiceRank → Counter → ℕ
 count_of ks seat Go = none_or_one seat.started
 count_of ks seat Done = min (count_by (λ s. is_told (seat.phase s)) (steps ks)) top
 count_of ks seat (First s) = none_or_one (has_first (choice_at ks s) (seat.phase s))
@@ -345,7 +345,7 @@ awaits_result Elect p = is_reading p
 awaits_result Tickets p = is_out p
 
 -- how many answers a descriptor awaits
-abbrev pub awaits_of : List ChoiceKind → Seat → Part → ℕ
+abbrev pub awaits_of : List ChoiceKind → ChoiceRank → Part → ℕ
 awaits_of ks seat (Given s) = 0
 awaits_of ks seat (Old s) = none_or_one (is_out (seat.phase s))
 awaits_of ks seat (Result s) = none_or_one (awaits_result (choice_at ks s) (seat.phase s))
@@ -362,10 +362,10 @@ was_read (Read old value) = true
 was_read p = has_result p
 
 -- by the operation
-abbrev pub was_fired : Seat → Work → Bool
+abbrev pub was_fired : ChoiceRank → RankOp → Bool
 was_fired seat (Send s) = was_sent (seat.phase s)
 was_fired seat (Look s) = was_read (seat.phase s)
-was_fired seat (Tell s) = is_told (seat.phase s)
+was_fired seat (ForDone s) = is_told (seat.phase s)
 
 -- ---- the interface
 
@@ -385,11 +385,11 @@ limits_of ks = record {
 }
 
 -- a counter in the table
-abbrev pub live_counter : Slots → List ChoiceKind → Seat → Counter → Live Count
+abbrev pub live_counter : Slots → List ChoiceKind → ChoiceRank → Counter → Live Count
 live_counter k ks seat c = record { handle = ct_of k ks c; value = successes (count_of ks seat c) }
 
 -- a descriptor in the table
-abbrev pub live_part : Slots → List ChoiceKind → Seat → Part → Live Bound
+abbrev pub live_part : Slots → List ChoiceKind → ChoiceRank → Part → Live Bound
 live_part k ks seat x = record { handle = md_of k ks x; value = record { md = descriptor_of k ks x; awaits = awaits_of ks seat x } }
 
 -- the entries, on rank 0 alone
@@ -397,7 +397,7 @@ abbrev pub entries_of : Slots → List ChoiceKind → ℕ → List Linked
 entries_of k ks r = if r == 0 then map (entry_of k) (steps ks) else []
 
 -- the interface of rank r
-abbrev pub view : Slots → ℕ → List ChoiceKind → ℕ → Seat → State
+abbrev pub view : Slots → ℕ → List ChoiceKind → ℕ → ChoiceRank → State
 view k ranks ks r seat = record {
   rank = r;
   ranks = ranks;
@@ -410,8 +410,8 @@ view k ranks ks r seat = record {
   eqs = no_things 0;
   mds = record { live = map (live_part k ks seat) (parts ks); given = length (parts ks); limit = 3 * length ks };
   pending = record {
-    waiting = map (operation k ks) (filter (λ w. not (was_fired seat w)) (works ks));
-    given = length (works ks);
+    waiting = map (operation k ks) (filter (λ w. not (was_fired seat w)) (rank_ops ks));
+    given = length (rank_ops ks);
     limit = 3 * length ks;
   };
   drops = 0;

@@ -4,14 +4,14 @@ use Rattle.ptl_types.specs.Messages.{Sent}
 use Rattle.coll_lang.specs.declared.choices.ChoiceKind.{ChoiceKind}
 use Rattle.choices.specs.machine.Machine.{Phase, ask, put}
 use Rattle.choices.specs.machine.Machine.Phase.{Answered, Idle}
-use Rattle.choices.specs.view.Install.{Seat, Slots, ask_message}
+use Rattle.choices.specs.view.Install.{ChoiceRank, Slots, ask_message}
 
 -- the seat with another phase in step s
-abbrev pub with_phase : ℕ → Phase → Seat → Seat
+abbrev pub with_phase : ℕ → Phase → ChoiceRank → ChoiceRank
 with_phase s p seat = record seat { phase = put s p seat.phase }
 
 -- the seat with another word in step s
-abbrev pub with_word : ℕ → ℕ → Seat → Seat
+abbrev pub with_word : ℕ → ℕ → ChoiceRank → ChoiceRank
 with_word s w seat = record seat { word = put s w seat.word }
 
 -- what the firing in step s sends, where the rank is so far

@@ -6,8 +6,8 @@ use Rattle.std.proofs.lemmas.List.Sums.{length-filter}
 use Rattle.ni_model.specs.Counts.{successes}
 use Rattle.ni_model.specs.Tables.{Table, lookup}
 use Rattle.op_laws.specs.Combining.{CombineStarts, CombineSwaps}
-use Rattle.plan_calls.specs.Works.{done_threshold, is_message, sends_of, works}
-use Rattle.plan_calls.specs.Works.Work.{Tell}
+use Rattle.plan_calls.specs.RankOps.{done_threshold, is_message, sends_of, rank_ops}
+use Rattle.plan_calls.specs.RankOps.RankOp.{ForDone}
 use Rattle.plan_core.proofs.Links.{In-out_links, In-own}
 use Rattle.plan_core.proofs.Lists.{Distinct-filter, In-filter, In-filter_cases, In-map_cases, all_Within, length-Within, length-map'}
 use Rattle.plan_core.specs.Members.{In, Within}
@@ -26,7 +26,7 @@ use Rattle.cuts.specs.histories.Plans.{CounterReached, system_of}
 use Rattle.cuts.specs.histories.System.{Histories, state_at}
 use Rattle.cuts.proofs.machine.Central.{ours_nothing, ours_seen}
 use Rattle.cuts.proofs.machine.Reached.{Ours}
-use Rattle.cuts.proofs.machine.Works.{In-works_tell}
+use Rattle.cuts.proofs.machine.RankOps.{In-works_tell}
 use Rattle.cuts.specs.machine.Machine.{HasReached, all_seen}
 use Rattle.cuts.specs.machine.Seen.{nothing_seen, reached_count, tells}
 use Rattle.cuts.proofs.rest.Due.{answers_once, got_ack, link_to}
@@ -100,16 +100,16 @@ module _ (starts : CombineStarts) (p : Plan) (inputs : Inputs) (sound : SoundPla
       at false e = omega arith
 
   -- ---- the cells that were told
-  told_within : Within (filter tells (all_seen p (moves_at p w) r).fired) (filter tells (works p r))
+  told_within : Within (filter tells (all_seen p (moves_at p w) r).fired) (filter tells (rank_ops p r))
   told_within v i =
-      let k = In-filter_cases tells v (all_seen p (moves_at p w) r).fired i in In-filter tells v (works p r) (mine.ours v k.0) k.1
+      let k = In-filter_cases tells v (all_seen p (moves_at p w) r).fired i in In-filter tells v (rank_ops p r) (mine.ours v k.0) k.1
 
   few_told : count_by tells (all_seen p (moves_at p w) r).fired ≤ length (own p r)
   few_told =
-      let a = length-Within (filter tells (all_seen p (moves_at p w) r).fired) (filter tells (works p r))
+      let a = length-Within (filter tells (all_seen p (moves_at p w) r).fired) (filter tells (rank_ops p r))
       (Distinct-filter tells (all_seen p (moves_at p w) r).fired mine.once) told_within in
       let b = length-filter tells (all_seen p (moves_at p w) r).fired in
-      let c = length-filter tells (works p r) in
+      let c = length-filter tells (rank_ops p r) in
       let d = tells_works p r in
       omega (arith, a, b, c, d)
 
@@ -152,22 +152,22 @@ module _ (starts : CombineStarts) (p : Plan) (inputs : Inputs) (sound : SoundPla
       let m = done.enough in
       omega (arith, e, m)
 
-  all_told : Within (filter tells (works p r)) (filter tells (all_seen p (moves_at p w) r).fired)
+  all_told : Within (filter tells (rank_ops p r)) (filter tells (all_seen p (moves_at p w) r).fired)
   all_told =
       let a = enough in
       let b = few_heard starts p inputs sound fit slots w cut r h in
-      let c = length-filter tells (works p r) in
+      let c = length-filter tells (rank_ops p r) in
       let d = tells_works p r in
       let e = length-filter tells (all_seen p (moves_at p w) r).fired in
-      all_Within (filter tells (all_seen p (moves_at p w) r).fired) (filter tells (works p r))
+      all_Within (filter tells (all_seen p (moves_at p w) r).fired) (filter tells (rank_ops p r))
       (Distinct-filter tells (all_seen p (moves_at p w) r).fired (mine starts p inputs sound fit slots w cut r h).once)
       (told_within starts p inputs sound fit slots w cut r h)
       (omega (arith, a, b, c, d, e))
 
-  pub told : (c : ℕ) → In c (own p r) → In (Tell c) (all_seen p (moves_at p w) r).fired
+  pub told : (c : ℕ) → In c (own p r) → In (ForDone c) (all_seen p (moves_at p w) r).fired
   told c i =
-      (In-filter_cases tells (Tell c) (all_seen p (moves_at p w) r).fired
-      (all_told (Tell c) (In-filter tells (Tell c) (works p r) (In-works_tell p r c i) refl))).0
+      (In-filter_cases tells (ForDone c) (all_seen p (moves_at p w) r).fired
+      (all_told (ForDone c) (In-filter tells (ForDone c) (rank_ops p r) (In-works_tell p r c i) refl))).0
 
   -- so each of its cells has reached its needs
   pub reached : (c : ℕ) → In c (own p r) → (cell p c).needs ≤ reached_count p (all_seen p (moves_at p w) r) r c

@@ -6,8 +6,8 @@ use Rattle.ni_model.specs.Ready.{is_ready, is_ready_op, message_target, posted_a
 use Rattle.ni_model.specs.State.{Operations, Posted}
 use Rattle.ni_model.specs.Tables.{Table}
 use Rattle.op_laws.specs.Combining.{CombineStarts}
-use Rattle.plan_calls.specs.Works.{Work, is_message, works}
-use Rattle.plan_calls.specs.Works.Work.{Along, Tell}
+use Rattle.plan_calls.specs.RankOps.{RankOp, is_message, rank_ops}
+use Rattle.plan_calls.specs.RankOps.RankOp.{ForLink, ForDone}
 use Rattle.plan_core.proofs.Links.{In-in_links, In-own, out_links-In}
 use Rattle.plan_core.proofs.Growth.{filter-none}
 use Rattle.plan_core.proofs.Lists.{In-append_cases, In-filter, In-filter_cases, In-map_cases}
@@ -26,13 +26,13 @@ use Rattle.cuts.specs.histories.Plans.{system_of}
 use Rattle.cuts.specs.histories.System.{Histories, state_at}
 use Rattle.cuts.proofs.machine.Ancestors.{sent_fired}
 use Rattle.cuts.proofs.machine.Reached.{In-fired, all_in, bumped_to, bumped_to-In, came_to, came_to-In}
-use Rattle.cuts.proofs.machine.Works.{works-along, works-tell}
+use Rattle.cuts.proofs.machine.RankOps.{rank_ops-along, rank_ops-tell}
 use Rattle.cuts.specs.machine.Machine.{all_seen}
 use Rattle.cuts.specs.machine.Seen.{nothing_seen, was_fired}
 use Rattle.cuts.proofs.rest.Due.{got_ack, link_to}
-use Rattle.cuts.specs.view.Deeds.{deed_of, operation, send_deed}
+use Rattle.cuts.specs.view.TriggeredOps.{deed_of, operation, send_deed}
 use Rattle.cuts.specs.view.Slots.{Slots}
-use Rattle.plan_calls.specs.Works.{number_of}
+use Rattle.plan_calls.specs.RankOps.{number_of}
 use Rattle.ptl_types.specs.declared.elements.AtomicOp.{AtomicOp}
 use Rattle.ptl_types.specs.declared.handles.Count.{Count}
 use Rattle.ptl_types.specs.declared.headers.Lane.TheVariants.{Answer}
@@ -51,7 +51,7 @@ module _ (starts : CombineStarts) (p : Plan) (inputs : Inputs) (sound : SoundPla
     (slots : ℕ → Slots) (w : Histories) (cut : IsCut (system_of p inputs slots) w) (r : ℕ) (h : r < p.ranks)
     (done : IsDone p inputs slots w r) where
   -- each increment of a cell was made
-  bumped : (l : ℕ) → In l (out_links p r) → is_bump (link p l).kind ≡ true → In (Along l) (all_seen p (moves_at p w) r).fired
+  bumped : (l : ℕ) → In l (out_links p r) → is_bump (link p l).kind ≡ true → In (ForLink l) (all_seen p (moves_at p w) r).fired
   bumped l i b =
       let k = out_links-In p r l i in
       let s = sound.links_sound l k.0 in
@@ -70,7 +70,7 @@ module _ (starts : CombineStarts) (p : Plan) (inputs : Inputs) (sound : SoundPla
 
   -- each message that was acknowledged was sent
   sent_before : p.remote ≡ true → (l : ℕ) → In l (out_links p r) → is_bump (link p l).kind ≡ false
-      → In (Along l) (all_seen p (moves_at p w) r).fired
+      → In (ForLink l) (all_seen p (moves_at p w) r).fired
   sent_before rem l i b =
       let q = In-map_cases number_in l (own_received Answer (w r))
       (all_acknowledged starts p inputs sound fit slots w cut r h done rem l
@@ -81,51 +81,51 @@ module _ (starts : CombineStarts) (p : Plan) (inputs : Inputs) (sound : SoundPla
       (sender starts p inputs sound fit slots w cut r g.from Answer q.0 h g.got_it) a.came in
       let f = sent_fired p inputs (moves_at p w a.of.header.source) nothing_seen (to_came a.of) k.sent_it in
       let n : number_in a.of ≡ l = ap number_in a.is ∙ q.2 in
-      subst (λ x. In (Along x) (all_seen p (moves_at p w) r).fired) n
-      (subst (λ v. In (Along (number_in a.of)) (all_seen p (moves_at p w) v).fired) a.from f)
+      subst (λ x. In (ForLink x) (all_seen p (moves_at p w) r).fired) n
+      (subst (λ v. In (ForLink (number_in a.of)) (all_seen p (moves_at p w) v).fired) a.from f)
 
-  pub all_fired : p.remote ≡ true → (v : Work) → In v (works p r) → was_fired (all_seen p (moves_at p w) r).fired v ≡ true
-  all_fired rem (Tell c) i =
-      In-fired (all_seen p (moves_at p w) r).fired (Tell c) (told starts p inputs sound fit slots w cut r h done c (works-tell p r c i))
-  all_fired rem (Along l) i = In-fired (all_seen p (moves_at p w) r).fired (Along l) (elim (cases_Bool (is_bump (link p l).kind)) [
-    | inl b ↦ bumped l (works-along p r l i) b
-    | inr b ↦ sent_before rem l (works-along p r l i) b
+  pub all_fired : p.remote ≡ true → (v : RankOp) → In v (rank_ops p r) → was_fired (all_seen p (moves_at p w) r).fired v ≡ true
+  all_fired rem (ForDone c) i =
+      In-fired (all_seen p (moves_at p w) r).fired (ForDone c) (told starts p inputs sound fit slots w cut r h done c (rank_ops-tell p r c i))
+  all_fired rem (ForLink l) i = In-fired (all_seen p (moves_at p w) r).fired (ForLink l) (elim (cases_Bool (is_bump (link p l).kind)) [
+    | inl b ↦ bumped l (rank_ops-along p r l i) b
+    | inr b ↦ sent_before rem l (rank_ops-along p r l i) b
   ])
 
   pending_is : (state_at (system_of p inputs slots) w r).pending.waiting ≡ map (operation p (slots r) r)
-      (filter (λ v. not (was_fired (all_seen p (moves_at p w) r).fired v)) (works p r))
+      (filter (λ v. not (was_fired (all_seen p (moves_at p w) r).fired v)) (rank_ops p r))
   pending_is = ap (λ (ps : Operations). ps.waiting) (shape starts p inputs sound fit slots w cut r h).pending
 
   pub none_pending : p.remote ≡ true → (state_at (system_of p inputs slots) w r).pending.waiting ≡ []
   none_pending rem =
       pending_is ∙ ap (map (operation p (slots r) r))
-      (filter-none (λ v. not (was_fired (all_seen p (moves_at p w) r).fired v)) (works p r) (λ v i. not_from_true _ (all_fired rem v i)))
+      (filter-none (λ v. not (was_fired (all_seen p (moves_at p w) r).fired v)) (rank_ops p r) (λ v i. not_from_true _ (all_fired rem v i)))
 
   -- ---- what is left sends, and is ready
-  left_ready : (v : Work) → In v (works p r) → was_fired (all_seen p (moves_at p w) r).fired v ≡ false
+  left_ready : (v : RankOp) → In v (rank_ops p r) → was_fired (all_seen p (moves_at p w) r).fired v ≡ false
       → (is_ready (state_at (system_of p inputs slots) w r) (number_of p r v) ≡ true)
       × ((d : ℕ) × (message_target (deed_of p (slots r) v) ≡ Some d))
-  left_ready (Tell c) i f =
-      absurd (both (In-fired (all_seen p (moves_at p w) r).fired (Tell c)
-      (told starts p inputs sound fit slots w cut r h done c (works-tell p r c i))) f)
-  left_ready (Along l) i f =
-      let o = works-along p r l i in
+  left_ready (ForDone c) i f =
+      absurd (both (In-fired (all_seen p (moves_at p w) r).fired (ForDone c)
+      (told starts p inputs sound fit slots w cut r h done c (rank_ops-tell p r c i))) f)
+  left_ready (ForLink l) i f =
+      let o = rank_ops-along p r l i in
       let k = out_links-In p r l o in
       let s = sound.links_sound l k.0 in
       let up = s.rising in
       let top = s.cells in
       let source = In-own p r (link p l).source (omega (arith, up, top)) k.1 in
       let sh = shape starts p inputs sound fit slots w cut r h in (
-        ap₂ (λ (t : Table Count) (ops : Operations). is_ready_op t (posted_at (number_of p r (Along l)) ops)) sh.cts sh.pending
-            ∙ ready_from sh.annex p inputs sound (slots r) r (all_seen p (moves_at p w) r) (Along l) i f
+        ap₂ (λ (t : Table Count) (ops : Operations). is_ready_op t (posted_at (number_of p r (ForLink l)) ops)) sh.cts sh.pending
+            ∙ ready_from sh.annex p inputs sound (slots r) r (all_seen p (moves_at p w) r) (ForLink l) i f
             (reached starts p inputs sound fit slots w cut r h done (link p l).source source),
         elim (cases_Bool (is_bump (link p l).kind)) [
-          | inl b ↦ absurd (both (In-fired (all_seen p (moves_at p w) r).fired (Along l) (bumped l o b)) f)
+          | inl b ↦ absurd (both (In-fired (all_seen p (moves_at p w) r).fired (ForLink l) (bumped l o b)) f)
           | inr b ↦ ((cell p (link p l).target).rank, sends b)
         ],
       )
     where
-      sends : is_bump (link p l).kind ≡ false → message_target (deed_of p (slots r) (Along l)) ≡ Some (cell p (link p l).target).rank
+      sends : is_bump (link p l).kind ≡ false → message_target (deed_of p (slots r) (ForLink l)) ≡ Some (cell p (link p l).target).rank
       sends b = rw b (at (cell p (link p l).target).op)
         where
           at : (o : Option AtomicOp) → message_target (send_deed p (slots r) l o) ≡ Some (cell p (link p l).target).rank
@@ -134,9 +134,9 @@ module _ (starts : CombineStarts) (p : Plan) (inputs : Inputs) (sound : SoundPla
 
   pub only_sends : OnlySendsAreLeft (state_at (system_of p inputs slots) w r)
   only_sends q i =
-      let y = In-map_cases (operation p (slots r) r) q (filter (λ v. not (was_fired (all_seen p (moves_at p w) r).fired v)) (works p r))
+      let y = In-map_cases (operation p (slots r) r) q (filter (λ v. not (was_fired (all_seen p (moves_at p w) r).fired v)) (rank_ops p r))
       (subst (λ qs. In q qs) pending_is i) in
-      let f = In-filter_cases (λ v. not (was_fired (all_seen p (moves_at p w) r).fired v)) y.0 (works p r) y.1 in
+      let f = In-filter_cases (λ v. not (was_fired (all_seen p (moves_at p w) r).fired v)) y.0 (rank_ops p r) y.1 in
       subst (λ (x : Posted). (is_ready (state_at (system_of p inputs slots) w r) x.number ≡ true)
       × ((d : ℕ) × (message_target x.deed ≡ Some d))) y.2
       (left_ready y.0 f.0 (not-true _ f.1))

@@ -8,8 +8,8 @@ use Rattle.plan_core.specs.Members.{In}
 use Rattle.plan_core.specs.Plan.{Plan, cell}
 use Rattle.plan_core.specs.Sound.{SoundPlan}
 use Rattle.plan_core.specs.Values.{Inputs}
-use Rattle.plan_calls.specs.Works.{Work, works}
-use Rattle.plan_calls.specs.Works.Work.{Along, Tell}
+use Rattle.plan_calls.specs.RankOps.{RankOp, rank_ops}
+use Rattle.plan_calls.specs.RankOps.RankOp.{ForLink, ForDone}
 use Rattle.cuts.proofs.machine.Central.{fired_note}
 use Rattle.cuts.specs.machine.Machine.{MayMove, Move, Moves, came, note, seen}
 use Rattle.cuts.specs.machine.Machine.Move.{Began, Did, Heard, Strayed, Took}
@@ -24,7 +24,7 @@ use Rattle.cuts.specs.histories.Cut.{is_stray}
 use Rattle.cuts.specs.histories.History.{Beginning, Legal, Local, after, is_start, same_lane}
 use Rattle.cuts.specs.histories.History.Local.{Fire, Receive, Start}
 use Rattle.cuts.proofs.view.Tables.{find-In}
-use Rattle.cuts.specs.view.Deeds.{operation}
+use Rattle.cuts.specs.view.TriggeredOps.{operation}
 use Rattle.cuts.specs.view.Slots.{Slots}
 use Rattle.ptl_types.specs.declared.headers.Lane.{Lane}
 use Rattle.ptl_types.specs.declared.headers.Lane.TheVariants.{Answer, Request}
@@ -41,8 +41,8 @@ one_more_is_no_less t x xs = let e = count-cons t x xs in omega (arith, e)
 rises : (p : Plan) (g : Seen) (m : Move) (r c : ℕ) → reached_count p g r c ≤ reached_count p (note p g m) r c
 rises p g Began r c = let a = no_less (c == r) g.started in omega (arith, a)
 rises p g (Took l bs) r c = let a = count-append (to_cell p c) g.came (came l bs ∷ []) in omega (arith, a)
-rises p g (Did (Along l)) r c = let a = one_more_is_no_less (bumps p c) (Along l) g.fired in omega (arith, a)
-rises p g (Did (Tell d)) r c = let a = one_more_is_no_less (bumps p c) (Tell d) g.fired in omega (arith, a)
+rises p g (Did (ForLink l)) r c = let a = one_more_is_no_less (bumps p c) (ForLink l) g.fired in omega (arith, a)
+rises p g (Did (ForDone d)) r c = let a = one_more_is_no_less (bumps p c) (ForDone d) g.fired in omega (arith, a)
 rises p g (Heard ok) r c = le_refl _
 rises p g Strayed r c = le_refl _
 
@@ -51,8 +51,8 @@ told_rise p [] g = le_refl _
 told_rise p (m ∷ ms) g = le_trans (at m) (told_rise p ms (note p g m))
   where
     at : (m : Move) → count_by tells g.fired ≤ count_by tells (note p g m).fired
-    at (Did (Along l)) = one_more_is_no_less tells (Along l) g.fired
-    at (Did (Tell d)) = one_more_is_no_less tells (Tell d) g.fired
+    at (Did (ForLink l)) = one_more_is_no_less tells (ForLink l) g.fired
+    at (Did (ForDone d)) = one_more_is_no_less tells (ForDone d) g.fired
     at Began = le_refl _
     at (Took l bs) = le_refl _
     at (Heard ok) = le_refl _
@@ -60,20 +60,20 @@ told_rise p (m ∷ ms) g = le_trans (at m) (told_rise p ms (note p g m))
 
 -- a cell that was told to the done counter has reached its needs
 pub told_reached : (p : Plan) (r c : ℕ) (ms : List Move) (g : Seen) → Moves p r g ms
-    → (In (Tell c) g.fired → (cell p c).needs ≤ reached_count p g r c)
-    → In (Tell c) (seen p g ms).fired → (cell p c).needs ≤ reached_count p (seen p g ms) r c
+    → (In (ForDone c) g.fired → (cell p c).needs ≤ reached_count p g r c)
+    → In (ForDone c) (seen p g ms).fired → (cell p c).needs ≤ reached_count p (seen p g ms) r c
 told_reached p r c [] g may before i = before i
 told_reached p r c (m ∷ ms) g may before i = told_reached p r c ms (note p g m) may.1 (now m may.0) i
   where
-    told_now : (v : Work) → v ≡ Tell c → MayMove p r g (Did v) → (cell p c).needs ≤ reached_count p g r c
+    told_now : (v : RankOp) → v ≡ ForDone c → MayMove p r g (Did v) → (cell p c).needs ≤ reached_count p g r c
     told_now v e h = (subst (λ u. MayMove p r g (Did u)) e h).2
 
-    now : (m : Move) → MayMove p r g m → In (Tell c) (note p g m).fired → (cell p c).needs ≤ reached_count p (note p g m) r c
+    now : (m : Move) → MayMove p r g m → In (ForDone c) (note p g m).fired → (cell p c).needs ≤ reached_count p (note p g m) r c
     now Began h j = le_trans (before j) (rises p g Began r c)
     now (Took l bs) h j = le_trans (before j) (rises p g (Took l bs) r c)
     now (Heard ok) h j = le_trans (before j) (rises p g (Heard ok) r c)
     now Strayed h j = le_trans (before j) (rises p g Strayed r c)
-    now (Did v) h j = elim (subst (λ us. In (Tell c) us) (fired_note p g v) j) [
+    now (Did v) h j = elim (subst (λ us. In (ForDone c) us) (fired_note p g v) j) [
       | inr k ↦ le_trans (before k) (rises p g (Did v) r c)
       | inl e ↦ le_trans (told_now v e h) (rises p g (Did v) r c)
     ]
@@ -119,15 +119,15 @@ received-append lane (Receive s l m ∷ es) more = at (same_lane l lane && not (
 
 -- what is fired is an operation of the plan
 fired_work : (p : Plan) (s : Slots) (r t : ℕ) (v : State) → IsOf p s r v → is_ready v t ≡ true
-    → (w : Work) × In w (works p r) × (work_numbered p r t ≡ Some w)
+    → (w : RankOp) × In w (rank_ops p r) × (work_numbered p r t ≡ Some w)
 fired_work p s r t v h e = at (posted_at t v.pending) refl e
   where
     at : (o : Option Posted) → posted_at t v.pending ≡ o → is_ready_op v.cts o ≡ true
-        → (w : Work) × In w (works p r) × (work_numbered p r t ≡ Some w)
+        → (w : RankOp) × In w (rank_ops p r) × (work_numbered p r t ≡ Some w)
     at None q e = cc
     at (Some x) q e =
         let f = find-In (is_number t) v.pending.waiting x q in
-        let k = In-map_cases (operation p s r) x (works p r) (h.pending x f.0) in
+        let k = In-map_cases (operation p s r) x (rank_ops p r) (h.pending x f.0) in
         (k.0, k.1, numbered p r t k.0 k.1 (ap (λ (y : Posted). y.number) k.2 ∙ eqb-true _ _ f.1))
 
 -- before a start nothing raises the go counter
@@ -155,7 +155,7 @@ go_unraised p inputs sound r h s go (Fire t ∷ es) early g b v is legal none e 
     let w = fired_work p s r t v is legal.0 in
     go_unraised p inputs sound r h s go es early (note p g (did (work_numbered p r t))) (b || false) (after go v (Fire t))
     (after_of p s r go v (Fire t) is) legal.1 none
-    (subst (λ (o : Option Work). reached_count p (note p g (did o)) r r ≡ 0) (sym w.2) (unraised_work p inputs sound r h g w.0 w.1 ∙ e))
+    (subst (λ (o : Option RankOp). reached_count p (note p g (did o)) r r ≡ 0) (sym w.2) (unraised_work p inputs sound r h g w.0 w.1 ∙ e))
 
 pub started_counts : (es : List Local) → has_start es ≡ true → 1 ≤ count_by is_start es
 started_counts [] h = cc

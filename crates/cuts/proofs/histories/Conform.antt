@@ -14,9 +14,9 @@ use Rattle.plan_core.specs.Members.{In}
 use Rattle.ni_model.specs.Arrive.{answer, reply_header}
 use Rattle.plan_core.specs.Plan.{Plan, cell, link}
 use Rattle.cuts.specs.view.Slots.{Slots}
-use Rattle.cuts.specs.view.Deeds.{kind_for, link_header, operation}
+use Rattle.cuts.specs.view.TriggeredOps.{kind_for, link_header, operation}
 use Rattle.cuts.specs.machine.Seen.{was_fired}
-use Rattle.plan_calls.specs.Works.{Work, works}
+use Rattle.plan_calls.specs.RankOps.{RankOp, rank_ops}
 use Rattle.cuts.specs.histories.History.{Local, got}
 use Rattle.cuts.specs.histories.History.Local.{Fire, Receive, Start}
 use Rattle.cuts.specs.histories.Cut.{IsPrefixOf, is_stray}
@@ -27,10 +27,10 @@ use Rattle.cuts.proofs.histories.Simulate.{AllConform, IsLink}
 use Rattle.cuts.proofs.histories.Origin.{ack_with, got_first, got_later}
 
 -- the operations that a prepared rank begins with are those of its plan
-pub pending_of : (p : Plan) (s : Slots) (r : ℕ) (q : Posted) → In q (map (operation p s r) (filter (λ w. not (was_fired [] w)) (works p r))) → In q (map (operation p s r) (works p r))
-pending_of p s r q i = all (works p r) i
+pub pending_of : (p : Plan) (s : Slots) (r : ℕ) (q : Posted) → In q (map (operation p s r) (filter (λ w. not (was_fired [] w)) (rank_ops p r))) → In q (map (operation p s r) (rank_ops p r))
+pending_of p s r q i = all (rank_ops p r) i
   where
-    all : (vs : List Work) → In q (map (operation p s r) (filter (λ w. not (was_fired [] w)) vs)) → In q (map (operation p s r) vs)
+    all : (vs : List RankOp) → In q (map (operation p s r) (filter (λ w. not (was_fired [] w)) vs)) → In q (map (operation p s r) vs)
     all [] i = i
     all (v ∷ vs) (inl e) = inl e
     all (v ∷ vs) (inr i) = inr (all vs i)

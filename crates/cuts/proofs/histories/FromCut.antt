@@ -28,7 +28,7 @@ use Rattle.cuts.proofs.histories.RunTraffic.{before-front, has_start, run_answer
 use Rattle.cuts.specs.view.Calls.{prepare}
 use Rattle.cuts.specs.machine.Machine.{IsMachineCut, Move, all_seen, link_of, outs, source_rank}
 use Rattle.cuts.specs.machine.Seen.{Came, nothing_seen}
-use Rattle.cuts.specs.view.Deeds.{kind_for, link_header}
+use Rattle.cuts.specs.view.TriggeredOps.{kind_for, link_header}
 use Rattle.cuts.specs.view.Steps.{IsAckHere, IsLinkHere}
 use Rattle.ptl_types.specs.Messages.{Sent, bytes_due}
 use Rattle.ptl_types.specs.declared.elements.AtomicOp.{AtomicOp}

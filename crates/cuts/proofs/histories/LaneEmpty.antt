@@ -2,8 +2,8 @@
 use Rattle.std.proofs.Common.{ℕ, zero, suc, Bool, true, false, cond, not, ◌&&◌, ◌≡◌, ◌⊎◌, List, [], ◌∷◌, refl, ap, ◌∙◌, sym, subst, inl, inr, map, find, Option, Some, None, if◌then◌else◌, length}
 use Rattle.std.specs.Prelude.{slice_set}
 use Rattle.std.proofs.lemmas.Bool.{and_right, cases_Bool}
-use Rattle.ptl_types.specs.declared.calls.Deed.{Deed}
-use Rattle.ptl_types.specs.declared.calls.Deed.TheVariants.{Put as PutDeed, Get as GetDeed, Atomic as AtomicDeed, FetchAtomic as FetchAtomicDeed, Swap as SwapDeed, Inc as IncDeed, Set as SetDeed}
+use Rattle.ptl_types.specs.declared.calls.TriggeredOp.{TriggeredOp}
+use Rattle.ptl_types.specs.declared.calls.TriggeredOp.TheVariants.{Put as PutDeed, Get as GetDeed, Atomic as AtomicDeed, FetchAtomic as FetchAtomicDeed, Swap as SwapDeed, Inc as IncDeed, Set as SetDeed}
 use Rattle.ptl_types.specs.declared.calls.NiFault.{NiFault}
 use Rattle.ptl_types.specs.declared.calls.Outcome.TheVariants.{Dropped, Violation}
 use Rattle.ptl_types.specs.declared.entries.Entry.{Entry}
@@ -122,7 +122,7 @@ target-no_gets v m g = at (is_answer m.header.kind)
     at true = g
     at false = by_choice (chosen m.header v.indices)
 
-done-indices : (v : State) (d : Deed) → (done v d).state.indices ≡ v.indices
+done-indices : (v : State) (d : TriggeredOp) → (done v d).state.indices ≡ v.indices
 done-indices v (PutDeed a) = refl
 done-indices v (GetDeed g) = refl
 done-indices v (AtomicDeed a o t) = refl

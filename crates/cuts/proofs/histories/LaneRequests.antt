@@ -9,7 +9,7 @@ use Rattle.ptl_types.specs.Elements.{part}
 use Rattle.ptl_types.specs.Kinds.{is_answer}
 use Rattle.ptl_types.specs.declared.headers.Lane.TheVariants.{Request}
 use Rattle.ptl_types.specs.declared.elements.AtomicOp.{AtomicOp}
-use Rattle.ptl_types.specs.declared.calls.Deed.TheVariants.{Inc as IncDeed}
+use Rattle.ptl_types.specs.declared.calls.TriggeredOp.TheVariants.{Inc as IncDeed}
 use Rattle.ni_model.specs.declared.Bound.{Bound}
 use Rattle.ni_model.specs.Counts.{successes}
 use Rattle.ni_model.specs.Ready.{done, fired, fired_op, is_number, posted_at}
@@ -20,12 +20,12 @@ use Rattle.plan_core.specs.Members.{Distinct, In, Within}
 use Rattle.plan_core.specs.Plan.{Plan, all_links, cell, is_bump, link}
 use Rattle.plan_core.proofs.Links.{In-from_to, out_links-In}
 use Rattle.plan_core.proofs.Lists.{In-filter, In-filter_cases, In-map_cases, length-Within, length-map'}
-use Rattle.cuts.proofs.machine.Works.{works-along}
-use Rattle.plan_calls.specs.Works.{Work, works}
-use Rattle.plan_calls.specs.Works.Work.{Along, Tell}
+use Rattle.cuts.proofs.machine.RankOps.{rank_ops-along}
+use Rattle.plan_calls.specs.RankOps.{RankOp, rank_ops}
+use Rattle.plan_calls.specs.RankOps.RankOp.{ForLink, ForDone}
 use Rattle.cuts.proofs.view.Tables.{find-In}
 use Rattle.cuts.specs.view.Slots.{Slots, cell_ct, the_md}
-use Rattle.cuts.specs.view.Deeds.{operation, send_deed}
+use Rattle.cuts.specs.view.TriggeredOps.{operation, send_deed}
 use Rattle.cuts.specs.histories.History.{Beginning, Legal, Local, after, and_then, is_for, made, made_by}
 use Rattle.cuts.specs.histories.History.Local.{Fire, Receive, Start}
 use Rattle.cuts.proofs.histories.Origin.{FromLink, IsOf, after_of, made_from, reply-answer, some_one, target_answers, answer_kind, without, send_link}
@@ -48,14 +48,14 @@ unfolding started
 send_short p s l v m None i = subst (λ (x : Sent). length x.bytes ≤ (link p l).length) (some_one i) (read-short (lookup (the_md s) v.mds.live) _ (link p l).length v.memory)
 send_short p s l v m (Some o) i = subst (λ (x : Sent). length x.bytes ≤ (link p l).length) (some_one i) (read-short (lookup (the_md s) v.mds.live) _ (link p l).length v.memory)
 
-work_short : (p : Plan) (s : Slots) (r : ℕ) (v : State) (m : Sent) → v.rank ≡ r → (w : Work) → In w (works p r) → (done v (operation p s r w).deed).message ≡ Some m → length m.bytes ≤ (link p (number_in m)).length
-work_short p s r v m e (Tell c) h i = cc
-work_short p s r v m e (Along l) h i = at (is_bump (link p l).kind) i
+work_short : (p : Plan) (s : Slots) (r : ℕ) (v : State) (m : Sent) → v.rank ≡ r → (w : RankOp) → In w (rank_ops p r) → (done v (operation p s r w).deed).message ≡ Some m → length m.bytes ≤ (link p (number_in m)).length
+work_short p s r v m e (ForDone c) h i = cc
+work_short p s r v m e (ForLink l) h i = at (is_bump (link p l).kind) i
   where
     at : (b : Bool) → (done v (cond b (IncDeed (cell_ct p s (link p l).target) (successes 1)) (send_deed p s l (cell p (link p l).target).op))).message ≡ Some m → length m.bytes ≤ (link p (number_in m)).length
     at true i = cc
     at false i =
-        let hd = send_link p s r l v m (cell p (link p l).target).op refl (e ∙ sym (out_links-In p r l (works-along p r l h)).1) i in
+        let hd = send_link p s r l v m (cell p (link p l).target).op refl (e ∙ sym (out_links-In p r l (rank_ops-along p r l h)).1) i in
         subst (λ n. length m.bytes ≤ (link p n).length) (sym (ap (λ (x : Header). x.hdr_data) hd)) (send_short p s l v m (cell p (link p l).target).op i)
 
 fired_short : (p : Plan) (s : Slots) (r t : ℕ) (v : State) (m : Sent) → IsOf p s r v → (fired v t).message ≡ Some m → length m.bytes ≤ (link p (number_in m)).length
@@ -66,7 +66,7 @@ fired_short p s r t v m h e = at (posted_at t v.pending) refl e
     at None q e = cc
     at (Some x) q e =
         let i = h.pending x (find-In (is_number t) v.pending.waiting x q).0 in
-        let k = In-map_cases (operation p s r) x (works p r) i in
+        let k = In-map_cases (operation p s r) x (rank_ops p r) i in
         work_short p s r (without x.number v) m h.rank k.0 k.1 (subst (λ (y : Posted). (done (without x.number v) y.deed).message ≡ Some m) (sym k.2) e)
 
 made_short : (p : Plan) (s : Slots) (r : ℕ) (go : Beginning) (es : List Local) (v : State) (m : Sent) → IsOf p s r v → In m (made go v es) → is_answer m.header.kind ≡ false → length m.bytes ≤ (link p (number_in m)).length

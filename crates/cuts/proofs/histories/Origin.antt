@@ -5,11 +5,11 @@ use Rattle.ptl_types.specs.declared.headers.Header.{Header}
 use Rattle.ptl_types.specs.declared.headers.AckRequest.{AckRequest}
 use Rattle.ptl_types.specs.Messages.{Sent, message}
 use Rattle.ptl_types.specs.declared.headers.Lane.{Lane}
-use Rattle.ptl_types.specs.declared.calls.Deed.{Deed}
+use Rattle.ptl_types.specs.declared.calls.TriggeredOp.{TriggeredOp}
 use Rattle.ptl_types.specs.declared.elements.AtomicOp.{AtomicOp}
 use Rattle.ptl_types.specs.Kinds.{is_answer, is_no_ack, is_put_or_atomic}
 use Rattle.cuts.specs.histories.History.{Beginning, Legal, Local, after, and_then, got, is_lane, made, made_by, same_lane}
-use Rattle.ptl_types.specs.declared.calls.Deed.TheVariants.{Atomic as AtomicDeed, FetchAtomic as FetchAtomicDeed, Get as GetDeed, Inc as IncDeed, Put as PutDeed, Set as SetDeed, Swap as SwapDeed}
+use Rattle.ptl_types.specs.declared.calls.TriggeredOp.TheVariants.{Atomic as AtomicDeed, FetchAtomic as FetchAtomicDeed, Get as GetDeed, Inc as IncDeed, Put as PutDeed, Set as SetDeed, Swap as SwapDeed}
 use Rattle.ptl_types.specs.declared.headers.Lane.TheVariants.{Answer, Request}
 use Rattle.plan_core.specs.Members.{In, Within}
 use Rattle.ni_model.specs.State.{Posted, State, home_of, target, Operations, after_request, after_answer, parts_of}
@@ -23,13 +23,13 @@ use Rattle.ni_model.specs.Ready.{fired, done, fired_op, is_number, posted_at, wi
 use Rattle.ni_model.specs.Starts.{put_header, started}
 use Rattle.plan_core.specs.Plan.{Plan, cell, is_bump, link, out_links}
 use Rattle.cuts.specs.view.Slots.{Slots, cell_ct}
-use Rattle.cuts.specs.view.Deeds.{deed_of, kind_for, link_header, operation, send_args, send_deed, type_for}
-use Rattle.plan_calls.specs.Works.{Work, works}
-use Rattle.plan_calls.specs.Works.Work.{Along, Tell}
+use Rattle.cuts.specs.view.TriggeredOps.{deed_of, kind_for, link_header, operation, send_args, send_deed, type_for}
+use Rattle.plan_calls.specs.RankOps.{RankOp, rank_ops}
+use Rattle.plan_calls.specs.RankOps.RankOp.{ForLink, ForDone}
 use Rattle.ni_model.specs.Conditions.{IsKept}
 use Rattle.cuts.specs.histories.History.Local.{Fire, Receive, Start}
 use Rattle.plan_core.proofs.Lists.{In-filter_cases, In-map_cases}
-use Rattle.cuts.proofs.machine.Works.{works-along}
+use Rattle.cuts.proofs.machine.RankOps.{rank_ops-along}
 use Rattle.plan_core.proofs.Links.{out_links-In}
 use Rattle.cuts.proofs.view.Tables.{find-In}
 
@@ -50,7 +50,7 @@ target_stays s m = at (is_answer m.header.kind)
 abbrev pub without : ℕ → State → State
 without t s = record s { pending = without_number t s.pending }
 
-pub done_stays : (s : State) (d : Deed) → Stays (done s d).state s
+pub done_stays : (s : State) (d : TriggeredOp) → Stays (done s d).state s
 unfolding started
 done_stays s (PutDeed a) = record { rank = refl; pending = refl }
 done_stays s (GetDeed g) = record { rank = refl; pending = refl }
@@ -63,7 +63,7 @@ done_stays s (SetDeed c t) = record { rank = refl; pending = refl }
 -- the state is rank r's, and its operations are among those that were installed
 pub record IsOf (p : Plan) (s : Slots) (r : ℕ) (v : State) : Type 0 where
   pub rank : v.rank ≡ r
-  pub pending : Within v.pending.waiting (map (operation p s r) (works p r))
+  pub pending : Within v.pending.waiting (map (operation p s r) (rank_ops p r))
 
 stays_of : (p : Plan) (s : Slots) (r : ℕ) (a b : State) → Stays a b → IsOf p s r b → IsOf p s r a
 stays_of p s r a b h i = record { rank = h.rank ∙ i.rank; pending = λ q j. i.pending q (subst (λ (ps : Operations). In q ps.waiting) h.pending j) }
@@ -131,14 +131,14 @@ unfolding started
 send_link p s r l v m None e h i = sym (ap (λ (x : Sent). x.header) (some_one i)) ∙ ap₂ (λ (n : ℕ) (w : Option AtomicOp). put_header n (kind_for w) (send_args p s l) w (type_for w (cell p (link p l).target).ty)) h (sym e)
 send_link p s r l v m (Some o) e h i = sym (ap (λ (x : Sent). x.header) (some_one i)) ∙ ap₂ (λ (n : ℕ) (w : Option AtomicOp). put_header n (kind_for w) (send_args p s l) w (type_for w (cell p (link p l).target).ty)) h (sym e)
 
-work_link : (p : Plan) (s : Slots) (r : ℕ) (v : State) (m : Sent) → v.rank ≡ r → (w : Work) → In w (works p r) → (done v (deed_of p s w)).message ≡ Some m → FromLink p s r m
-work_link p s r v m e (Tell c) h i = cc
-work_link p s r v m e (Along l) h i = at (is_bump (link p l).kind) refl i
+work_link : (p : Plan) (s : Slots) (r : ℕ) (v : State) (m : Sent) → v.rank ≡ r → (w : RankOp) → In w (rank_ops p r) → (done v (deed_of p s w)).message ≡ Some m → FromLink p s r m
+work_link p s r v m e (ForDone c) h i = cc
+work_link p s r v m e (ForLink l) h i = at (is_bump (link p l).kind) refl i
   where
     at : (b : Bool) → is_bump (link p l).kind ≡ b → (done v (cond b (IncDeed (cell_ct p s (link p l).target) (successes 1)) (send_deed p s l (cell p (link p l).target).op))).message ≡ Some m → FromLink p s r m
     at true q i = cc
     at false q i =
-        let o = works-along p r l h in
+        let o = rank_ops-along p r l h in
         record { l = l; out = o; sends = q; header = send_link p s r l v m (cell p (link p l).target).op refl (e ∙ sym (out_links-In p r l o).1) i }
 
 pub fired_link : (p : Plan) (s : Slots) (r t : ℕ) (v : State) (m : Sent) → IsOf p s r v → (fired v t).message ≡ Some m → FromLink p s r m
@@ -149,7 +149,7 @@ fired_link p s r t v m h e = at (posted_at t v.pending) refl e
     at None q e = cc
     at (Some x) q e =
         let i = h.pending x (find-In (is_number t) v.pending.waiting x q).0 in
-        let k = In-map_cases (operation p s r) x (works p r) i in
+        let k = In-map_cases (operation p s r) x (rank_ops p r) i in
         work_link p s r (without x.number v) m h.rank k.0 k.1 (subst (λ (y : Posted). (done (without x.number v) y.deed).message ≡ Some m) (sym k.2) e)
 
 -- ---- what a history makes

@@ -17,8 +17,8 @@ use Rattle.cuts.specs.start.Waiting.{annex_of, took}
 use Rattle.cuts.specs.machine.Machine.{Move, note, seen}
 use Rattle.cuts.specs.machine.Machine.Move.{Began, Heard, Strayed, Took}
 use Rattle.cuts.specs.machine.Seen.{Came, Seen}
-use Rattle.plan_calls.specs.Works.{Work}
-use Rattle.plan_calls.specs.Works.Work.{Along, Tell}
+use Rattle.plan_calls.specs.RankOps.{RankOp}
+use Rattle.plan_calls.specs.RankOps.RankOp.{ForLink, ForDone}
 use Rattle.cuts.specs.view.Slots.{Slots}
 use Rattle.cuts.specs.view.View.{view}
 use Rattle.ptl_types.specs.Messages.{Sent}
@@ -38,7 +38,7 @@ run_heard p r [] early = refl
 run_heard p r (Start ∷ es) early = heard-took p early (moves_of p r es)
 run_heard p r (Fire t ∷ es) early = at (work_numbered p r t) (run_heard p r es early)
   where
-    at : (o : Option Work) → heard p (run_moves p r early es) ≡ heard p (moves_of p r es) → heard p (did o ∷ run_moves p r early es) ≡ heard p (did o ∷ moves_of p r es)
+    at : (o : Option RankOp) → heard p (run_moves p r early es) ≡ heard p (moves_of p r es) → heard p (did o ∷ run_moves p r early es) ≡ heard p (did o ∷ moves_of p r es)
     at None e = e
     at (Some w) e = e
 run_heard p r (Receive s Answer m ∷ es) early = ap (λ v. (if p.remote then 1 else 0) + v) (run_heard p r es early)
@@ -54,7 +54,7 @@ run_ok p r [] early h = tt
 run_ok p r (Start ∷ es) early h = ok-took early (moves_of p r es) (all_ok p r es h)
 run_ok p r (Fire t ∷ es) early h = at (work_numbered p r t) (run_ok p r es early h)
   where
-    at : (o : Option Work) → AllOk (run_moves p r early es) → AllOk (did o ∷ run_moves p r early es)
+    at : (o : Option RankOp) → AllOk (run_moves p r early es) → AllOk (did o ∷ run_moves p r early es)
     at None e = e
     at (Some w) e = e
 run_ok p r (Receive s Answer m ∷ es) early h = (h m (inl refl), run_ok p r es early (λ x i. h x (inr i)))
@@ -72,10 +72,10 @@ run_strays p r (Start ∷ es) early g h =
     ap (λ (v : Seen). v.strays) (seen-took-append p early (note p g Began) (moves_of p r es)) ∙ (let q : (seen p (took (note p g Began) early) (moves_of p r es)).strays ≡ g.strays + count_by is_received_stray (Start ∷ es) = omega (arith, e, k) in q)
 run_strays p r (Fire t ∷ es) early g h = at (work_numbered p r t) (λ o. run_strays p r es early (note p g (did o)) h)
   where
-    at : (o : Option Work) → ((o : Option Work) → (seen p (note p g (did o)) (run_moves p r early es)).strays ≡ (note p g (did o)).strays + count_by is_received_stray es) → (seen p (note p g (did o)) (run_moves p r early es)).strays ≡ g.strays + count_by is_received_stray (Fire t ∷ es)
+    at : (o : Option RankOp) → ((o : Option RankOp) → (seen p (note p g (did o)) (run_moves p r early es)).strays ≡ (note p g (did o)).strays + count_by is_received_stray es) → (seen p (note p g (did o)) (run_moves p r early es)).strays ≡ g.strays + count_by is_received_stray (Fire t ∷ es)
     at None rest = let e = count-cons is_received_stray (Fire t) es in let k = rest None in omega (arith, e, k)
-    at (Some (Along l)) rest = let e = count-cons is_received_stray (Fire t) es in let k = rest (Some (Along l)) in omega (arith, e, k)
-    at (Some (Tell c)) rest = let e = count-cons is_received_stray (Fire t) es in let k = rest (Some (Tell c)) in omega (arith, e, k)
+    at (Some (ForLink l)) rest = let e = count-cons is_received_stray (Fire t) es in let k = rest (Some (ForLink l)) in omega (arith, e, k)
+    at (Some (ForDone c)) rest = let e = count-cons is_received_stray (Fire t) es in let k = rest (Some (ForDone c)) in omega (arith, e, k)
 run_strays p r (Receive s Answer m ∷ es) early g h =
     let e = count-cons is_received_stray (Receive s Answer m) es in
     let z = none_if (is_stray m) (h m (inl refl)) in

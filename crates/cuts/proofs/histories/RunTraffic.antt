@@ -14,8 +14,8 @@ use Rattle.cuts.specs.start.Waiting.{took}
 use Rattle.cuts.specs.machine.Machine.{Move, note, out_of, outs, seen}
 use Rattle.cuts.specs.machine.Machine.Move.{Began, Heard, Strayed}
 use Rattle.cuts.specs.machine.Seen.{Came, Seen}
-use Rattle.plan_calls.specs.Works.{Work}
-use Rattle.plan_calls.specs.Works.Work.{Along, Tell}
+use Rattle.plan_calls.specs.RankOps.{RankOp}
+use Rattle.plan_calls.specs.RankOps.RankOp.{ForLink, ForDone}
 use Rattle.cuts.specs.view.Slots.{Slots}
 use Rattle.ptl_types.specs.declared.headers.Lane.TheVariants.{Answer, Request}
 
@@ -55,11 +55,11 @@ run_came p r (Start ∷ es) early g =
 run_came p r (Receive s Answer m ∷ es) early g = run_came p r es early (note p g (Heard m.header.ok))
 run_came p r (Fire t ∷ es) early g = at (work_numbered p r t) (λ o. run_came p r es early (note p g (did o)))
   where
-    at : (o : Option Work) → ((o : Option Work) → (seen p (note p g (did o)) (run_moves p r early es)).came ≡ cond (has_start es) ((note p g (did o)).came ++ (early ++ map to_came (own_received Request es))) (note p g (did o)).came)
+    at : (o : Option RankOp) → ((o : Option RankOp) → (seen p (note p g (did o)) (run_moves p r early es)).came ≡ cond (has_start es) ((note p g (did o)).came ++ (early ++ map to_came (own_received Request es))) (note p g (did o)).came)
         → (seen p (note p g (did o)) (run_moves p r early es)).came ≡ cond (has_start es) (g.came ++ (early ++ map to_came (own_received Request es))) g.came
     at None rest = rest None
-    at (Some (Along l)) rest = rest (Some (Along l))
-    at (Some (Tell c)) rest = rest (Some (Tell c))
+    at (Some (ForLink l)) rest = rest (Some (ForLink l))
+    at (Some (ForDone c)) rest = rest (Some (ForDone c))
 run_came p r (Receive s Request m ∷ es) early g = at (is_stray m) (run_came p r es early (note p g Strayed)) (run_came p r es (early ++ to_came m ∷ []) g)
   where
     at : (b : Bool) → (seen p (note p g Strayed) (run_moves p r early es)).came ≡ cond (has_start es) (g.came ++ (early ++ map to_came (own_received Request es))) g.came

@@ -8,12 +8,12 @@ use Rattle.plan_core.proofs.Links.{In-in_links, out_links-In}
 use Rattle.plan_core.proofs.Lists.{count-cons}
 use Rattle.plan_core.specs.Members.{In}
 use Rattle.plan_core.specs.Plan.{is_bump, link, Plan}
-use Rattle.cuts.proofs.machine.Works.{works-along}
+use Rattle.cuts.proofs.machine.RankOps.{rank_ops-along}
 use Rattle.cuts.specs.machine.Machine.{note_work, MayMove, Move, Moves, came, note, seen, source_rank}
 use Rattle.cuts.specs.machine.Seen.{bumps, nothing_seen, reached_count, to_cell, Came, Seen}
-use Rattle.plan_calls.specs.Works.{works, Work}
+use Rattle.plan_calls.specs.RankOps.{rank_ops, RankOp}
 use Rattle.std.specs.Prelude.{Bool}
-use Rattle.plan_calls.specs.Works.Work.{Along, Tell}
+use Rattle.plan_calls.specs.RankOps.RankOp.{ForLink, ForDone}
 use Rattle.std.proofs.lemmas.Bool.{and_right, ne_eqb}
 use Rattle.plan_core.specs.Sound.{SoundPlan}
 use Rattle.plan_core.specs.Values.{Inputs}
@@ -32,7 +32,7 @@ use Rattle.cuts.specs.machine.Machine.Move.{Began, Heard, Strayed, Took}
 use Rattle.cuts.proofs.view.StepArrive.{due-here}
 use Rattle.cuts.proofs.view.StepFire.{ready_work}
 use Rattle.cuts.specs.view.Slots.{Slots, cell_ct}
-use Rattle.cuts.specs.view.Deeds.{link_message}
+use Rattle.cuts.specs.view.TriggeredOps.{link_message}
 use Rattle.cuts.specs.view.View.{view}
 use Rattle.cuts.specs.view.Steps.{Sized}
 use Rattle.ptl_types.specs.Messages.{Sent}
@@ -131,14 +131,14 @@ nothing_raised p r c = let z = none (c == r) in omega arith
     none false = refl
 
 -- no operation raises a go counter
-pub unraised_work : (p : Plan) (inputs : Inputs) → SoundPlan p (length inputs) → (r : ℕ) → r < p.ranks → (g : Seen) (w : Work) → In w (works p r) → reached_count p (note_work p g w) r r ≡ reached_count p g r r
-unraised_work p inputs sound r in_range g (Tell c) i =
-    ap (λ n. cond ((r == r) && g.started) 1 0 + (count_by (to_cell p r) g.came + n)) (count-cons (bumps p r) (Tell c) g.fired ∙ zero-add (count_by (bumps p r) g.fired))
-unraised_work p inputs sound r in_range g (Along l) i =
-    let known = (out_links-In p r l (works-along p r l i)).0 in
+pub unraised_work : (p : Plan) (inputs : Inputs) → SoundPlan p (length inputs) → (r : ℕ) → r < p.ranks → (g : Seen) (w : RankOp) → In w (rank_ops p r) → reached_count p (note_work p g w) r r ≡ reached_count p g r r
+unraised_work p inputs sound r in_range g (ForDone c) i =
+    ap (λ n. cond ((r == r) && g.started) 1 0 + (count_by (to_cell p r) g.came + n)) (count-cons (bumps p r) (ForDone c) g.fired ∙ zero-add (count_by (bumps p r) g.fired))
+unraised_work p inputs sound r in_range g (ForLink l) i =
+    let known = (out_links-In p r l (rank_ops-along p r l i)).0 in
     let q : ((link p l).target == r) ≡ false = ne_eqb _ _ (λ e. subst (λ v. In l v) (sound.go_needs r in_range).1 (In-in_links p r l known e)) in
     ap (λ n. cond ((r == r) && g.started) 1 0 + (count_by (to_cell p r) g.came + n))
-    (count-cons (bumps p r) (Along l) g.fired ∙ ap (λ b. cond b 1 0 + count_by (bumps p r) g.fired) (and_right (is_bump (link p l).kind) _ q) ∙ zero-add (count_by (bumps p r) g.fired))
+    (count-cons (bumps p r) (ForLink l) g.fired ∙ ap (λ b. cond b 1 0 + count_by (bumps p r) g.fired) (and_right (is_bump (link p l).kind) _ q) ∙ zero-add (count_by (bumps p r) g.fired))
 
 pub simulates_run : (p : Plan) (inputs : Inputs) → SoundPlan p (length inputs) → CombineStarts → (k : ℕ → Slots) (r : ℕ) → r < p.ranks → (es : List Local) (early : List Came) (g : Seen) → Sized p inputs g → g.started ≡ false → reached_count p g r r ≡ 0
     → MayLie p r (early ++ before_start es) → Legal (start_of p (k r) r) false (waiting_view p inputs (k r) r k early g) es → AllConform p k r es → SimulatesRun p inputs k r early g es
@@ -168,17 +168,17 @@ simulates_run p inputs sound starts k r in_range (Fire t ∷ es) early g sized f
     let num : work_numbered p r t ≡ Some q.0 = numbered p r t q.0 q.1.ours q.1.number in
     let f = waiting_fire p inputs sound (k r) r k early g t q.0 sized q.1 in
     let g' = note p g (did (work_numbered p r t)) in
-    let next : after go (waiting_view p inputs (k r) r k early g) (Fire t) ≡ waiting_view p inputs (k r) r k early (note p g (did (work_numbered p r t))) = ap (λ (x : Fires). x.state) f ∙ ap (λ (o : Option Work). waiting_view p inputs (k r) r k early (note p g (did o))) (sym num) in
+    let next : after go (waiting_view p inputs (k r) r k early g) (Fire t) ≡ waiting_view p inputs (k r) r k early (note p g (did (work_numbered p r t))) = ap (λ (x : Fires). x.state) f ∙ ap (λ (o : Option RankOp). waiting_view p inputs (k r) r k early (note p g (did o))) (sym num) in
     let rest = simulates_run p inputs sound starts k r in_range es early (note p g (did (work_numbered p r t)))
-    (subst (λ (o : Option Work). Sized p inputs (note p g (did o))) (sym num) (sized_work p inputs g q.0 sized))
-    (subst (λ (o : Option Work). (note p g (did o)).started ≡ false) (sym num) (started_work p g q.0 ∙ fresh))
-    (subst (λ (o : Option Work). reached_count p (note p g (did o)) r r ≡ 0) (sym num) (unraised_work p inputs sound r in_range g q.0 q.1.ours ∙ unraised))
+    (subst (λ (o : Option RankOp). Sized p inputs (note p g (did o))) (sym num) (sized_work p inputs g q.0 sized))
+    (subst (λ (o : Option RankOp). (note p g (did o)).started ≡ false) (sym num) (started_work p g q.0 ∙ fresh))
+    (subst (λ (o : Option RankOp). reached_count p (note p g (did o)) r r ≡ 0) (sym num) (unraised_work p inputs sound r in_range g q.0 q.1.ours ∙ unraised))
     lie (subst (λ v. Legal (start_of p (k r) r) false v es) next legal.1) fine.1 in
     record {
       ends = ap (λ v. state go v es) next ∙ rest.ends;
-      moves = (subst (λ (o : Option Work). MayMove p r g (did o)) (sym num) (q.1.ours, q.1.pending, q.1.reached), rest.moves);
+      moves = (subst (λ (o : Option RankOp). MayMove p r g (did o)) (sym num) (q.1.ours, q.1.pending, q.1.reached), rest.moves);
       sized = rest.sized;
-      makes_them = ap₂ (λ o v. and_then o (made go v es)) (ap (λ (x : Fires). x.message) f ∙ ap (λ (o : Option Work). sent_by_work p inputs (k r) g o) (sym num)) next ∙ ap (and_then (sent_by_work p inputs (k r) g (work_numbered p r t))) rest.makes_them;
+      makes_them = ap₂ (λ o v. and_then o (made go v es)) (ap (λ (x : Fires). x.message) f ∙ ap (λ (o : Option RankOp). sent_by_work p inputs (k r) g o) (sym num)) next ∙ ap (and_then (sent_by_work p inputs (k r) g (work_numbered p r t))) rest.makes_them;
       accepted = subst (λ v. StartsPass p (k r) r v es) (sym next) rest.accepted;
     }
 simulates_run p inputs sound starts k r in_range (Receive source Answer m ∷ es) early g sized fresh unraised lie legal fine =

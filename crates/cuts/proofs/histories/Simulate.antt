@@ -15,10 +15,10 @@ use Rattle.plan_core.specs.Sound.{SoundPlan}
 use Rattle.plan_core.specs.Values.{Inputs}
 use Rattle.cuts.specs.view.View.{Annex, view, raise_go}
 use Rattle.cuts.specs.view.Slots.{Slots, cell_ct}
-use Rattle.cuts.specs.view.Deeds.{link_header, link_message}
-use Rattle.plan_calls.specs.Works.{number_of, Work, works}
+use Rattle.cuts.specs.view.TriggeredOps.{link_header, link_message}
+use Rattle.plan_calls.specs.RankOps.{number_of, RankOp, rank_ops}
 use Rattle.cuts.specs.machine.Seen.{Seen}
-use Rattle.plan_calls.specs.Works.Work.{Along, Tell}
+use Rattle.plan_calls.specs.RankOps.RankOp.{ForLink, ForDone}
 use Rattle.cuts.specs.machine.Machine.{MayMove, Move, Moves, note, note_work, seen, source_rank}
 use Rattle.cuts.specs.machine.Machine.Move.{Began, Did, Heard, Strayed, Took}
 use Rattle.cuts.specs.histories.History.{Legal, Local, May, after, and_then, Beginning, is_start, made, made_by, state}
@@ -53,10 +53,10 @@ AllConform p k r [] = Unit {0}
 AllConform p k r (e ∷ es) = Conforms p k r e × AllConform p k r es
 
 -- ---- its moves
-abbrev pub work_numbered : Plan → ℕ → ℕ → Option Work
-work_numbered p r t = find (λ w. number_of p r w == t) (works p r)
+abbrev pub work_numbered : Plan → ℕ → ℕ → Option RankOp
+work_numbered p r t = find (λ w. number_of p r w == t) (rank_ops p r)
 
-abbrev pub did : Option Work → Move
+abbrev pub did : Option RankOp → Move
 did None = Began
 did (Some w) = Did w
 
@@ -73,7 +73,7 @@ moves_of p r es = map (move_of p r) es
 abbrev pub ack_to : Plan → Sent → Option Sent
 ack_to p m = if p.remote then Some (record { header = ack_with CtAck true m.header.length m.header; bytes = [] }) else None
 
-abbrev pub sent_by_work : Plan → Inputs → Slots → Seen → Option Work → Option Sent
+abbrev pub sent_by_work : Plan → Inputs → Slots → Seen → Option RankOp → Option Sent
 sent_by_work p inputs s g None = None
 sent_by_work p inputs s g (Some w) = sent_message p inputs s g w
 
@@ -100,8 +100,8 @@ find-only t (y ∷ ys) x h e only = at (t y) refl h (λ i. find-only t ys x i e 
     at false q (inl i) rest = cc (ap t i)
     at false q (inr i) rest = rest i
 
-pub numbered : (p : Plan) (r t : ℕ) (w : Work) → In w (works p r) → number_of p r w ≡ t → work_numbered p r t ≡ Some w
-numbered p r t w h e = find-only (λ v. number_of p r v == t) (works p r) w h (eq-eqb _ _ e) (λ v i q. number_of-one p r v w i h (eqb-true _ _ q ∙ sym e))
+pub numbered : (p : Plan) (r t : ℕ) (w : RankOp) → In w (rank_ops p r) → number_of p r w ≡ t → work_numbered p r t ≡ Some w
+numbered p r t w h e = find-only (λ v. number_of p r v == t) (rank_ops p r) w h (eq-eqb _ _ e) (λ v i q. number_of-one p r v w i h (eqb-true _ _ q ∙ sym e))
 
 pub link-no_stray : (p : Plan) (inputs : Inputs) → SoundPlan p (length inputs) → (k : Slots) (r l : ℕ) → IsLinkHere p r l → (m : Sent) → m.header ≡ link_header p k l → is_stray m ≡ false
 link-no_stray p inputs sound k r l h m e =
@@ -115,13 +115,13 @@ pub or_true : (b : Bool) → (b || true) ≡ true
 or_true true = refl
 or_true false = refl
 
-pub started_work : (p : Plan) (g : Seen) (w : Work) → (note_work p g w).started ≡ g.started
-started_work p g (Along l) = refl
-started_work p g (Tell c) = refl
+pub started_work : (p : Plan) (g : Seen) (w : RankOp) → (note_work p g w).started ≡ g.started
+started_work p g (ForLink l) = refl
+started_work p g (ForDone c) = refl
 
-pub sized_work : (p : Plan) (inputs : Inputs) (g : Seen) (w : Work) → Sized p inputs g → Sized p inputs (note_work p g w)
-sized_work p inputs g (Along l) h = h
-sized_work p inputs g (Tell c) h = h
+pub sized_work : (p : Plan) (inputs : Inputs) (g : Seen) (w : RankOp) → Sized p inputs g → Sized p inputs (note_work p g w)
+sized_work p inputs g (ForLink l) h = h
+sized_work p inputs g (ForDone c) h = h
 
 module _ (annex : Annex) (quiet : IsQuiet annex) where
   -- ---- one step
@@ -148,11 +148,11 @@ module _ (annex : Annex) (quiet : IsQuiet annex) where
       let n : work_numbered p r t ≡ Some q.0 = numbered p r t q.0 q.1.ours q.1.number in
       let f = step_fire annex p inputs sound (k r) r g t q.0 sized q.1 in
       record {
-        next = ap (λ (x : Fires). x.state) f ∙ ap (λ (o : Option Work). view annex p inputs (k r) r (note p g (did o))) (sym n);
-        may = subst (λ (o : Option Work). MayMove p r g (did o)) (sym n) (q.1.ours, q.1.pending, q.1.reached);
-        sized = subst (λ (o : Option Work). Sized p inputs (note p g (did o))) (sym n) (sized_work p inputs g q.0 sized);
-        makes_it = ap (λ (x : Fires). x.message) f ∙ ap (λ (o : Option Work). sent_by_work p inputs (k r) g o) (sym n);
-        flag = or_false g.started ∙ sym (started_work p g q.0) ∙ ap (λ (o : Option Work). (note p g (did o)).started) (sym n);
+        next = ap (λ (x : Fires). x.state) f ∙ ap (λ (o : Option RankOp). view annex p inputs (k r) r (note p g (did o))) (sym n);
+        may = subst (λ (o : Option RankOp). MayMove p r g (did o)) (sym n) (q.1.ours, q.1.pending, q.1.reached);
+        sized = subst (λ (o : Option RankOp). Sized p inputs (note p g (did o))) (sym n) (sized_work p inputs g q.0 sized);
+        makes_it = ap (λ (x : Fires). x.message) f ∙ ap (λ (o : Option RankOp). sent_by_work p inputs (k r) g o) (sym n);
+        flag = or_false g.started ∙ sym (started_work p g q.0) ∙ ap (λ (o : Option RankOp). (note p g (did o)).started) (sym n);
       }
   simulates p inputs sound k r in_range g sized (Receive source Request m) may (inl stray) =
       let q = stray-parts m stray in

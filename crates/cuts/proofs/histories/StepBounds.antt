@@ -6,19 +6,19 @@ use Rattle.plan_core.specs.Members.{Distinct, In}
 use Rattle.plan_core.specs.Plan.{Plan, from_to, out_links, own}
 use Rattle.plan_core.proofs.Links.{In-from_to}
 use Rattle.plan_core.proofs.Lists.{In-map_cases, count-cons, length-Within}
-use Rattle.cuts.proofs.machine.Works.{works-along, works-tell}
-use Rattle.plan_calls.specs.Works.{Work, works, number_of}
-use Rattle.plan_calls.specs.Works.Work.{Along, Tell}
+use Rattle.cuts.proofs.machine.RankOps.{rank_ops-along, rank_ops-tell}
+use Rattle.plan_calls.specs.RankOps.{RankOp, rank_ops, number_of}
+use Rattle.plan_calls.specs.RankOps.RankOp.{ForLink, ForDone}
 use Rattle.cuts.proofs.view.Tables.{find-In, place_in-lt}
 use Rattle.cuts.specs.view.Slots.{Slots}
-use Rattle.cuts.specs.view.Deeds.{operation}
+use Rattle.cuts.specs.view.TriggeredOps.{operation}
 use Rattle.cuts.specs.histories.History.{Beginning, Legal, Local, after, is_fire, is_start}
 use Rattle.cuts.specs.histories.History.Local.{Fire, Receive, Start}
 use Rattle.cuts.proofs.histories.Once.{fired_once}
 use Rattle.cuts.proofs.histories.Origin.{IsOf, after_of}
 use Rattle.cuts.specs.histories.Lanes.{is_receipt}
 use Rattle.cuts.proofs.start.Starting.{length-from_to}
-use Rattle.cuts.proofs.start.Unrefused.{length-works}
+use Rattle.cuts.proofs.start.Unrefused.{length-rank_ops}
 
 -- the numbers that are fired
 abbrev firings : List Local → List ℕ
@@ -53,32 +53,32 @@ firings-once go (Fire t ∷ es) b v l = (
     one true e = refl
     one false e = cc
 
-number-lt : (p : Plan) (r : ℕ) (w : Work) → In w (works p r) → number_of p r w < length (works p r)
-number-lt p r (Along l) i = let q = place_in-lt (out_links p r) l (works-along p r l i) in let s = length-works p r in omega (arith, q, s)
-number-lt p r (Tell c) i = let q = place_in-lt (own p r) c (works-tell p r c i) in let s = length-works p r in omega (arith, q, s)
+number-lt : (p : Plan) (r : ℕ) (w : RankOp) → In w (rank_ops p r) → number_of p r w < length (rank_ops p r)
+number-lt p r (ForLink l) i = let q = place_in-lt (out_links p r) l (rank_ops-along p r l i) in let s = length-rank_ops p r in omega (arith, q, s)
+number-lt p r (ForDone c) i = let q = place_in-lt (own p r) c (rank_ops-tell p r c i) in let s = length-rank_ops p r in omega (arith, q, s)
 
-ready-known : (p : Plan) (s : Slots) (r t : ℕ) (v : State) → IsOf p s r v → is_ready v t ≡ true → t < length (works p r)
+ready-known : (p : Plan) (s : Slots) (r t : ℕ) (v : State) → IsOf p s r v → is_ready v t ≡ true → t < length (rank_ops p r)
 ready-known p s r t v h e = at (posted_at t v.pending) refl e
   where
-    at : (o : Option Posted) → posted_at t v.pending ≡ o → is_ready_op v.cts o ≡ true → t < length (works p r)
+    at : (o : Option Posted) → posted_at t v.pending ≡ o → is_ready_op v.cts o ≡ true → t < length (rank_ops p r)
     at None q e = cc
     at (Some x) q e =
         let f = find-In (is_number t) v.pending.waiting x q in
-        let k = In-map_cases (operation p s r) x (works p r) (h.pending x f.0) in
+        let k = In-map_cases (operation p s r) x (rank_ops p r) (h.pending x f.0) in
         let n : number_of p r k.0 ≡ t = ap (λ (y : Posted). y.number) k.2 ∙ eqb-true _ _ f.1 in
-        subst (λ m. m < length (works p r)) n (number-lt p r k.0 k.1)
+        subst (λ m. m < length (rank_ops p r)) n (number-lt p r k.0 k.1)
 
-firings-known : (p : Plan) (s : Slots) (r : ℕ) (go : Beginning) (es : List Local) (b : Bool) (v : State) → IsOf p s r v → Legal go b v es → (t : ℕ) → In t (firings es) → t < length (works p r)
+firings-known : (p : Plan) (s : Slots) (r : ℕ) (go : Beginning) (es : List Local) (b : Bool) (v : State) → IsOf p s r v → Legal go b v es → (t : ℕ) → In t (firings es) → t < length (rank_ops p r)
 firings-known p s r go [] b v h l t i = absurd i
 firings-known p s r go (Start ∷ es) b v h l t i = firings-known p s r go es (b || true) (after go v Start) (after_of p s r go v Start h) l.1 t i
 firings-known p s r go (Receive x lane m ∷ es) b v h l t i = firings-known p s r go es (b || false) (after go v (Receive x lane m)) (after_of p s r go v (Receive x lane m) h) l.1 t i
-firings-known p s r go (Fire u ∷ es) b v h l t (inl e) = subst (λ n. n < length (works p r)) e (ready-known p s r u v h l.0)
+firings-known p s r go (Fire u ∷ es) b v h l t (inl e) = subst (λ n. n < length (rank_ops p r)) e (ready-known p s r u v h l.0)
 firings-known p s r go (Fire u ∷ es) b v h l t (inr i) = firings-known p s r go es (b || false) (after go v (Fire u)) (after_of p s r go v (Fire u) h) l.1 t i
 
-pub few_firings : (p : Plan) (s : Slots) (r : ℕ) (go : Beginning) (es : List Local) (b : Bool) (v : State) → IsOf p s r v → Legal go b v es → length (firings es) ≤ length (works p r)
+pub few_firings : (p : Plan) (s : Slots) (r : ℕ) (go : Beginning) (es : List Local) (b : Bool) (v : State) → IsOf p s r v → Legal go b v es → length (firings es) ≤ length (rank_ops p r)
 few_firings p s r go es b v h l =
-    let q = length-Within (firings es) (from_to 0 (length (works p r))) (firings-once go es b v l) (λ t i. let k = firings-known p s r go es b v h l t i in In-from_to 0 (length (works p r)) t zero-le (omega arith)) in
-    let z = length-from_to 0 (length (works p r)) in
+    let q = length-Within (firings es) (from_to 0 (length (rank_ops p r))) (firings-once go es b v l) (λ t i. let k = firings-known p s r go es b v h l t i in In-from_to 0 (length (rank_ops p r)) t zero-le (omega arith)) in
+    let z = length-from_to 0 (length (rank_ops p r)) in
     omega (arith, q, z)
 
 -- one start at most, and none after one
@@ -98,7 +98,7 @@ parts-of (Start ∷ es) = let k = parts-of es in let a = count-cons is_start Sta
 parts-of (Receive s l m ∷ es) = let k = parts-of es in let a = count-cons is_start (Receive s l m) es in let b = count-cons is_receipt (Receive s l m) es in omega (arith, k, a, b)
 parts-of (Fire t ∷ es) = let k = parts-of es in let a = count-cons is_start (Fire t) es in let b = count-cons is_receipt (Fire t) es in omega (arith, k, a, b)
 
-pub few_steps : (p : Plan) (s : Slots) (r : ℕ) (go : Beginning) (es : List Local) (v : State) → IsOf p s r v → Legal go false v es → length es ≤ suc (length (works p r)) + count_by is_receipt es
+pub few_steps : (p : Plan) (s : Slots) (r : ℕ) (go : Beginning) (es : List Local) (v : State) → IsOf p s r v → Legal go false v es → length es ≤ suc (length (rank_ops p r)) + count_by is_receipt es
 few_steps p s r go es v h l =
     let a = few_firings p s r go es false v h l in
     let b = few_starts go es false v l in

@@ -14,8 +14,8 @@ use Rattle.ni_model.specs.Headers.{UnexpectedList}
 use Rattle.ni_model.specs.Refusals.{ct_inc_fault}
 use Rattle.ptl_types.specs.Messages.{message, Sent}
 use Rattle.ptl_types.specs.declared.calls.Outcome.TheVariants.{Answered, Dropped}
-use Rattle.ptl_types.specs.declared.calls.Deed.{Deed}
-use Rattle.ptl_types.specs.declared.calls.Deed.TheVariants.{Put as PutDeed, Get as GetDeed, Atomic as AtomicDeed, FetchAtomic as FetchAtomicDeed, Swap as SwapDeed, Inc as IncDeed, Set as SetDeed}
+use Rattle.ptl_types.specs.declared.calls.TriggeredOp.{TriggeredOp}
+use Rattle.ptl_types.specs.declared.calls.TriggeredOp.TheVariants.{Put as PutDeed, Get as GetDeed, Atomic as AtomicDeed, FetchAtomic as FetchAtomicDeed, Swap as SwapDeed, Inc as IncDeed, Set as SetDeed}
 use Rattle.plan_core.proofs.Lists.{length-map', Distinct_left, In-append_left, In-append_right, In-map_cases}
 use Rattle.plan_core.specs.Plan.{from_to, own, Plan, link}
 use Rattle.cuts.proofs.start.Starting.{length-from_to, IsEarly, start_is}
@@ -39,7 +39,7 @@ use Rattle.cuts.proofs.start.Areas.{MayLie, area-part, classes-small, filled-fit
 use Rattle.cuts.specs.start.Waiting.{Early, annex_of, area, area_linked, early_all, early_came, early_from, early_of, filled, waiting_view, stored}
 use Rattle.cuts.specs.machine.Machine.{link_of, note, note_work, seen}
 use Rattle.cuts.specs.machine.Machine.Move.{Began, Heard, Strayed, Took}
-use Rattle.plan_calls.specs.Works.{Work}
+use Rattle.plan_calls.specs.RankOps.{RankOp}
 use Rattle.cuts.proofs.view.MatchBits.{top_bits, top_match-true}
 use Rattle.cuts.proofs.view.StepFire.{IsReady, step_fire}
 use Rattle.cuts.proofs.view.Tables.{find-none}
@@ -70,7 +70,7 @@ answer_framed v is hs n m e =
     told : (r : Returned) → after_answer (framed v is hs n) r ≡ framed_delivers (after_answer v r) is hs n
     told r = refl
 
-done_framed : (v : State) (is : List (Option Index)) (hs : UnexpectedList) (n : ℕ) (d : Deed) → done (framed v is hs n) d ≡ framed_fires (done v d) is hs n
+done_framed : (v : State) (is : List (Option Index)) (hs : UnexpectedList) (n : ℕ) (d : TriggeredOp) → done (framed v is hs n) d ≡ framed_fires (done v d) is hs n
 done_framed v is hs n (PutDeed a) = refl
 done_framed v is hs n (GetDeed g) = refl
 done_framed v is hs n (AtomicDeed a o t) = refl
@@ -189,7 +189,7 @@ module _ (p : Plan) (inputs : Inputs) (sound : SoundPlan p (length inputs)) (s :
       }
 
   -- ---- before the start
-  pub waiting_fire : (early : List Came) (g : Seen) (t : ℕ) (w : Work) → Sized p inputs g → IsReady (annex_of p s r early) p inputs s r g t w
+  pub waiting_fire : (early : List Came) (g : Seen) (t : ℕ) (w : RankOp) → Sized p inputs g → IsReady (annex_of p s r early) p inputs s r g t w
       → fired (waiting_view p inputs s r senders early g) t ≡ fires (waiting_view p inputs s r senders early (note_work p g w)) (sent_message p inputs s g w)
   waiting_fire early g t w sized h =
       let v = view (annex_of p s r early) p inputs s r g in

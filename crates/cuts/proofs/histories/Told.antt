@@ -15,10 +15,10 @@ use Rattle.plan_core.specs.Sound.{SoundPlan}
 use Rattle.plan_core.specs.Values.{Inputs}
 use Rattle.cuts.specs.view.View.{Annex, view}
 use Rattle.cuts.specs.view.Slots.{Slots, cell_ct}
-use Rattle.plan_calls.specs.Works.{number_of, Work, cell_of, works}
-use Rattle.cuts.specs.view.Deeds.{operation}
+use Rattle.plan_calls.specs.RankOps.{number_of, RankOp, cell_of, rank_ops}
+use Rattle.cuts.specs.view.TriggeredOps.{operation}
 use Rattle.cuts.specs.machine.Seen.{Seen, reached_count, tells, was_fired}
-use Rattle.plan_calls.specs.Works.Work.{Along, Tell}
+use Rattle.plan_calls.specs.RankOps.RankOp.{ForLink, ForDone}
 use Rattle.cuts.specs.machine.Machine.{Move, note, seen}
 use Rattle.cuts.specs.machine.Machine.Move.{Began, Did, Heard, Strayed, Took}
 use Rattle.cuts.specs.histories.History.{Local, got, is_start}
@@ -51,14 +51,14 @@ needs_small p n sound c h = elim (cases_lt c p.ranks) [
 met : (n m : ℕ) (o : Option Count) → o ≡ Some (successes (min m top)) → n ≤ m → n ≤ top → is_reached o n ≡ true
 met n m o e h k = subst (λ (v : Option Count). is_reached v n ≡ true) (sym e) (le-leb n (min m top + 0) (omega arith))
 
-pub ready_from : (annex : Annex) (p : Plan) (inputs : Inputs) → SoundPlan p (length inputs) → (s : Slots) (r : ℕ) (g : Seen) (w : Work) → In w (works p r) → was_fired g.fired w ≡ false → (cell p (cell_of p w)).needs ≤ reached_count p g r (cell_of p w)
+pub ready_from : (annex : Annex) (p : Plan) (inputs : Inputs) → SoundPlan p (length inputs) → (s : Slots) (r : ℕ) (g : Seen) (w : RankOp) → In w (rank_ops p r) → was_fired g.fired w ≡ false → (cell p (cell_of p w)).needs ≤ reached_count p g r (cell_of p w)
     → is_ready (view annex p inputs s r g) (number_of p r w) ≡ true
 ready_from annex p inputs sound s r g w h f n =
     let own_c = cell_of-own p (length inputs) sound r w h in
     ap (is_ready_op (view annex p inputs s r g).cts)
-    (find-one (is_number (number_of p r w)) (operation p s r) (filter (λ v. not (was_fired g.fired v)) (works p r)) w
-    (In-filter (λ v. not (was_fired g.fired v)) w (works p r) h (not_from_false _ f)) (eq-eqb _ _ refl)
-    (λ v i e. number_of-one p r v w (In-filter_cases (λ u. not (was_fired g.fired u)) v (works p r) i).0 h (eqb-true _ _ e)))
+    (find-one (is_number (number_of p r w)) (operation p s r) (filter (λ v. not (was_fired g.fired v)) (rank_ops p r)) w
+    (In-filter (λ v. not (was_fired g.fired v)) w (rank_ops p r) h (not_from_false _ f)) (eq-eqb _ _ refl)
+    (λ v i e. number_of-one p r v w (In-filter_cases (λ u. not (was_fired g.fired u)) v (rank_ops p r) i).0 h (eqb-true _ _ e)))
     ∙ met (cell p (cell_of p w)).needs (reached_count p g r (cell_of p w)) (lookup (cell_ct p s (cell_of p w)) (view annex p inputs s r g).cts.live)
     (lookup_counter annex p inputs s r g (cell_of p w) own_c) n (needs_small p (length inputs) sound (cell_of p w) (own-In p r (cell_of p w) own_c).0)
 
@@ -66,8 +66,8 @@ ready_from annex p inputs sound s r g w h f n =
 started_stays : (p : Plan) (g : Seen) (m : Move) → g.started ≡ true → (note p g m).started ≡ true
 started_stays p g Began e = refl
 started_stays p g (Took l bs) e = e
-started_stays p g (Did (Along l)) e = e
-started_stays p g (Did (Tell c)) e = e
+started_stays p g (Did (ForLink l)) e = e
+started_stays p g (Did (ForDone c)) e = e
 started_stays p g (Heard ok) e = e
 started_stays p g Strayed e = e
 
@@ -108,10 +108,10 @@ strays_are p r [] g h = sym (add-zero g.strays)
 strays_are p r (Start ∷ es) g h = let e = count-cons is_received_stray Start es in let k = strays_are p r es (note p g Began) h in omega (arith, e, k)
 strays_are p r (Fire t ∷ es) g h = at (work_numbered p r t) (λ o. strays_are p r es (note p g (did o)) h)
   where
-    at : (o : Option Work) → ((o : Option Work) → (seen p (note p g (did o)) (moves_of p r es)).strays ≡ (note p g (did o)).strays + count_by is_received_stray es) → (seen p (note p g (did o)) (moves_of p r es)).strays ≡ g.strays + count_by is_received_stray (Fire t ∷ es)
+    at : (o : Option RankOp) → ((o : Option RankOp) → (seen p (note p g (did o)) (moves_of p r es)).strays ≡ (note p g (did o)).strays + count_by is_received_stray es) → (seen p (note p g (did o)) (moves_of p r es)).strays ≡ g.strays + count_by is_received_stray (Fire t ∷ es)
     at None rest = let e = count-cons is_received_stray (Fire t) es in let k = rest None in omega (arith, e, k)
-    at (Some (Along l)) rest = let e = count-cons is_received_stray (Fire t) es in let k = rest (Some (Along l)) in omega (arith, e, k)
-    at (Some (Tell c)) rest = let e = count-cons is_received_stray (Fire t) es in let k = rest (Some (Tell c)) in omega (arith, e, k)
+    at (Some (ForLink l)) rest = let e = count-cons is_received_stray (Fire t) es in let k = rest (Some (ForLink l)) in omega (arith, e, k)
+    at (Some (ForDone c)) rest = let e = count-cons is_received_stray (Fire t) es in let k = rest (Some (ForDone c)) in omega (arith, e, k)
 strays_are p r (Receive s Answer m ∷ es) g h =
     let e = count-cons is_received_stray (Receive s Answer m) es in
     let z = none_if (is_stray m) (h m (inl refl)) in
@@ -147,9 +147,9 @@ done_seen p [] g n ok e = e ∙ done_min _ _ (ap (λ v. count_by tells g.fired +
 done_seen p (Began ∷ ms) g n ok e = done_seen p ms (note p g Began) n ok e
 done_seen p (Took l bs ∷ ms) g n ok e = done_seen p ms (note p g (Took l bs)) n ok e
 done_seen p (Strayed ∷ ms) g n ok e = done_seen p ms (note p g Strayed) n ok e
-done_seen p (Did (Along l) ∷ ms) g n ok e = done_seen p ms (note p g (Did (Along l))) n ok (e ∙ done_min _ _ (let k = count-cons tells (Along l) g.fired in omega (arith, k)))
-done_seen p (Did (Tell c) ∷ ms) g n ok e =
-    done_seen p ms (note p g (Did (Tell c))) n ok (ap (bump (successes 1)) e ∙ bump-successes (count_by tells g.fired + n) ∙ done_min _ _ (let k = count-cons tells (Tell c) g.fired in omega (arith, k)))
+done_seen p (Did (ForLink l) ∷ ms) g n ok e = done_seen p ms (note p g (Did (ForLink l))) n ok (e ∙ done_min _ _ (let k = count-cons tells (ForLink l) g.fired in omega (arith, k)))
+done_seen p (Did (ForDone c) ∷ ms) g n ok e =
+    done_seen p ms (note p g (Did (ForDone c))) n ok (ap (bump (successes 1)) e ∙ bump-successes (count_by tells g.fired + n) ∙ done_min _ _ (let k = count-cons tells (ForDone c) g.fired in omega (arith, k)))
 done_seen p (Heard b ∷ ms) g n ok e =
     done_seen p ms (note p g (Heard b)) ((if p.remote then 1 else 0) + n) ok.1 (heard_step p.remote b g.done (count_by tells g.fired) n ok.0 e)
     ∙ done_min _ _ (ap (λ v. count_by tells (seen p (note p g (Heard b)) ms).fired + v) (let q : (if p.remote then 1 else 0) + n + heard p ms ≡ n + ((if p.remote then 1 else 0) + heard p ms) = omega arith in q))
@@ -163,7 +163,7 @@ heard_is p r [] h = zero_either p.remote
 heard_is p r (Start ∷ es) h = heard_is p r es h
 heard_is p r (Fire t ∷ es) h = at (work_numbered p r t) (heard_is p r es h)
   where
-    at : (o : Option Work) → heard p (moves_of p r es) ≡ (if p.remote then length (own_received Answer es) else 0) → heard p (did o ∷ moves_of p r es) ≡ (if p.remote then length (own_received Answer es) else 0)
+    at : (o : Option RankOp) → heard p (moves_of p r es) ≡ (if p.remote then length (own_received Answer es) else 0) → heard p (did o ∷ moves_of p r es) ≡ (if p.remote then length (own_received Answer es) else 0)
     at None e = e
     at (Some w) e = e
 heard_is p r (Receive s Request m ∷ es) h = at (is_stray m) (heard_is p r es h)
@@ -185,7 +185,7 @@ all_ok p r [] h = tt
 all_ok p r (Start ∷ es) h = all_ok p r es h
 all_ok p r (Fire t ∷ es) h = at (work_numbered p r t) (all_ok p r es h)
   where
-    at : (o : Option Work) → AllOk (moves_of p r es) → AllOk (did o ∷ moves_of p r es)
+    at : (o : Option RankOp) → AllOk (moves_of p r es) → AllOk (did o ∷ moves_of p r es)
     at None e = e
     at (Some w) e = e
 all_ok p r (Receive s Request m ∷ es) h = at (is_stray m) (all_ok p r es h)
@@ -196,19 +196,19 @@ all_ok p r (Receive s Request m ∷ es) h = at (is_stray m) (all_ok p r es h)
 all_ok p r (Receive s Answer m ∷ es) h = (h m (inl refl), all_ok p r es (λ x i. h x (inr i)))
 
 -- the tells of a rank are its cells
-pub tells_works : (p : Plan) (r : ℕ) → count_by tells (works p r) ≡ length (own p r)
+pub tells_works : (p : Plan) (r : ℕ) → count_by tells (rank_ops p r) ≡ length (own p r)
 tells_works p r =
-    count-append tells (map Along (out_links p r)) (map Tell (own p r))
+    count-append tells (map ForLink (out_links p r)) (map ForDone (own p r))
     ∙ ap₂ (λ x y. x + y) (none (out_links p r)) (all (own p r))
     ∙ (let q : 0 + length (own p r) ≡ length (own p r) = omega arith in q)
   where
-    none : (ls : List ℕ) → count_by tells (map Along ls) ≡ 0
+    none : (ls : List ℕ) → count_by tells (map ForLink ls) ≡ 0
     none [] = refl
-    none (l ∷ ls) = count-cons tells (Along l) (map Along ls) ∙ (let k = none ls in let q : 0 + count_by tells (map Along ls) ≡ 0 = omega (arith, k) in q)
+    none (l ∷ ls) = count-cons tells (ForLink l) (map ForLink ls) ∙ (let k = none ls in let q : 0 + count_by tells (map ForLink ls) ≡ 0 = omega (arith, k) in q)
 
-    all : (cs : List ℕ) → count_by tells (map Tell cs) ≡ length cs
+    all : (cs : List ℕ) → count_by tells (map ForDone cs) ≡ length cs
     all [] = refl
-    all (c ∷ cs) = count-cons tells (Tell c) (map Tell cs) ∙ (let k = all cs in let q : 1 + count_by tells (map Tell cs) ≡ suc (length cs) = omega (arith, k) in q)
+    all (c ∷ cs) = count-cons tells (ForDone c) (map ForDone cs) ∙ (let k = all cs in let q : 1 + count_by tells (map ForDone cs) ≡ suc (length cs) = omega (arith, k) in q)
 
 pub length-own-le : (p : Plan) (r : ℕ) → length (own p r) ≤ length p.cells
 length-own-le p r =

@@ -12,17 +12,17 @@ use Rattle.ptl_types.specs.declared.headers.Lane.TheVariants.{Answer, Request}
 use Rattle.plan_core.specs.Members.{Distinct, In}
 use Rattle.plan_core.specs.Plan.{Plan, cell, is_bump, link, out_links}
 use Rattle.cuts.specs.view.Slots.{Slots}
-use Rattle.cuts.specs.view.Deeds.{kind_for, link_message}
+use Rattle.cuts.specs.view.TriggeredOps.{kind_for, link_message}
 use Rattle.cuts.specs.machine.Seen.{Came, Seen, was_fired}
-use Rattle.plan_calls.specs.Works.{Work}
-use Rattle.plan_calls.specs.Works.Work.{Along, Tell}
+use Rattle.plan_calls.specs.RankOps.{RankOp}
+use Rattle.plan_calls.specs.RankOps.RankOp.{ForLink, ForDone}
 use Rattle.cuts.specs.machine.Machine.{MayMove, Move, Moves, came, link_of, note, out_of, outs, seen, sending}
 use Rattle.cuts.specs.machine.Machine.Move.{Began, Did, Heard, Strayed, Took}
 use Rattle.cuts.specs.histories.History.{Local, and_then, got, is_for, same_lane}
 use Rattle.cuts.specs.histories.History.Local.{Fire, Receive, Start}
 use Rattle.cuts.specs.histories.Cut.{is_stray, owned}
 use Rattle.plan_core.proofs.Lists.{In-append_cases, In-filter, In-filter_cases, In-map, In-map_cases}
-use Rattle.cuts.proofs.machine.Works.{works-along}
+use Rattle.cuts.proofs.machine.RankOps.{rank_ops-along}
 use Rattle.cuts.proofs.histories.Origin.{ack_with, got_later}
 use Rattle.cuts.proofs.histories.Simulate.{ack_to, all_made, did, makes, move_of, moves_of, sent_by_work, work_numbered}
 use Rattle.plan_core.specs.Values.{Inputs}
@@ -50,11 +50,11 @@ ack_not_for p d m rest = at p.remote
     at false = refl
     at true = ap (λ t. cond t ((record { header = ack_with CtAck true m.header.length m.header; bytes = [] }) ∷ filter (is_for d Request) rest) (filter (is_for d Request) rest)) (and_right (m.header.source == d) false refl)
 
-pub work_requests : (p : Plan) (inputs : Inputs) (s : Slots) (d : ℕ) (g : Seen) (o : Option Work) (rest : List Sent)
+pub work_requests : (p : Plan) (inputs : Inputs) (s : Slots) (d : ℕ) (g : Seen) (o : Option RankOp) (rest : List Sent)
     → filter (is_for d Request) (and_then (sent_by_work p inputs s g o) rest) ≡ map (as_message p s) (filter (goes_to p d) (out_of p inputs g (did o))) ++ filter (is_for d Request) rest
 work_requests p inputs s d g None rest = refl
-work_requests p inputs s d g (Some (Tell c)) rest = refl
-work_requests p inputs s d g (Some (Along l)) rest = at (is_bump (link p l).kind)
+work_requests p inputs s d g (Some (ForDone c)) rest = refl
+work_requests p inputs s d g (Some (ForLink l)) rest = at (is_bump (link p l).kind)
   where
     here : (b : Bool) → cond b (link_message p s l (sending p inputs g l).bytes ∷ filter (is_for d Request) rest) (filter (is_for d Request) rest) ≡ map (as_message p s) (cond b (sending p inputs g l ∷ []) []) ++ filter (is_for d Request) rest
     here true = refl
@@ -88,15 +88,15 @@ requests p inputs s r d (e ∷ es) g =
 pub record Outs (p : Plan) (r : ℕ) (g : Seen) (a : Came) : Type 0 where
   pub out : In a.link (out_links p r)
   pub sends : is_bump (link p a.link).kind ≡ false
-  pub new : was_fired g.fired (Along a.link) ≡ false
+  pub new : was_fired g.fired (ForLink a.link) ≡ false
 
-not_before : (p : Plan) (g : Seen) (m : Move) (w : Work) → was_fired (note p g m).fired w ≡ false → was_fired g.fired w ≡ false
+not_before : (p : Plan) (g : Seen) (m : Move) (w : RankOp) → was_fired (note p g m).fired w ≡ false → was_fired g.fired w ≡ false
 not_before p g Began w e = e
 not_before p g (Took l bs) w e = e
 not_before p g (Heard ok) w e = e
 not_before p g Strayed w e = e
-not_before p g (Did (Along l)) w e = (or_parts _ _ e).1
-not_before p g (Did (Tell c)) w e = (or_parts _ _ e).1
+not_before p g (Did (ForLink l)) w e = (or_parts _ _ e).1
+not_before p g (Did (ForDone c)) w e = (or_parts _ _ e).1
 
 pub outs_are : (p : Plan) (inputs : Inputs) (r : ℕ) (ms : List Move) (g : Seen) → Moves p r g ms → (a : Came) → In a (outs p inputs g ms) → Outs p r g a
 outs_are p inputs r [] g h a i = absurd i
@@ -106,16 +106,16 @@ outs_are p inputs r (m ∷ ms) g h a i = elim (In-append_cases a (out_of p input
 ]
   where
     later : Outs p r (note p g m) a → Outs p r g a
-    later o = record { out = o.out; sends = o.sends; new = not_before p g m (Along a.link) o.new }
+    later o = record { out = o.out; sends = o.sends; new = not_before p g m (ForLink a.link) o.new }
 
-    along : (l : ℕ) → MayMove p r g (Did (Along l)) → (b : Bool) → is_bump (link p l).kind ≡ b → In a (cond b [] (sending p inputs g l ∷ [])) → Outs p r g a
+    along : (l : ℕ) → MayMove p r g (Did (ForLink l)) → (b : Bool) → is_bump (link p l).kind ≡ b → In a (cond b [] (sending p inputs g l ∷ [])) → Outs p r g a
     along l may true e j = absurd j
     along l may false e (inr j) = absurd j
-    along l may false e (inl q) = subst (Outs p r g) q (record { out = works-along p r l may.0; sends = e; new = may.1 })
+    along l may false e (inl q) = subst (Outs p r g) q (record { out = rank_ops-along p r l may.0; sends = e; new = may.1 })
 
     first : (m : Move) → MayMove p r g m → In a (out_of p inputs g m) → Outs p r g a
-    first (Did (Along l)) may j = along l may (is_bump (link p l).kind) refl j
-    first (Did (Tell c)) may j = absurd j
+    first (Did (ForLink l)) may j = along l may (is_bump (link p l).kind) refl j
+    first (Did (ForDone c)) may j = absurd j
     first Began may j = absurd j
     first (Took l bs) may j = absurd j
     first (Heard ok) may j = absurd j
@@ -125,7 +125,7 @@ pub outs_once : (p : Plan) (inputs : Inputs) (r : ℕ) (ms : List Move) (g : See
 outs_once p inputs r [] g h = tt
 outs_once p inputs r (m ∷ ms) g h = at m h.0 (outs_once p inputs r ms (note p g m) h.1) (λ a i. outs_are p inputs r ms (note p g m) h.1 a i)
   where
-    along : (l : ℕ) (rest : List Came) → Distinct (map link_of rest) → ((a : Came) → In a rest → was_fired (Along l ∷ g.fired) (Along a.link) ≡ false) → (b : Bool) → Distinct (map link_of (cond b [] (sending p inputs g l ∷ []) ++ rest))
+    along : (l : ℕ) (rest : List Came) → Distinct (map link_of rest) → ((a : Came) → In a rest → was_fired (ForLink l ∷ g.fired) (ForLink a.link) ≡ false) → (b : Bool) → Distinct (map link_of (cond b [] (sending p inputs g l ∷ []) ++ rest))
     along l rest d new true = d
     along l rest d new false = ((λ i. let k = In-map_cases link_of l rest i in apart (or_parts _ _ (new k.0 k.1)).0 (eq-eqb l k.0.link (sym k.2))), d)
       where
@@ -137,8 +137,8 @@ outs_once p inputs r (m ∷ ms) g h = at m h.0 (outs_once p inputs r ms (note p 
     at (Took l bs) may d o = d
     at (Heard ok) may d o = d
     at Strayed may d o = d
-    at (Did (Tell c)) may d o = d
-    at (Did (Along l)) may d o = along l (outs p inputs (note p g (Did (Along l))) ms) d (λ a i. (o a i).new) (is_bump (link p l).kind)
+    at (Did (ForDone c)) may d o = d
+    at (Did (ForLink l)) may d o = along l (outs p inputs (note p g (Did (ForLink l))) ms) d (λ a i. (o a i).new) (is_bump (link p l).kind)
 
 -- ---- what was received, strays left out
 abbrev pub own_received : Lane → List Local → List Sent
@@ -155,10 +155,10 @@ came_is p r (Start ∷ es) g = came_is p r es (note p g Began)
 came_is p r (Receive s Answer m ∷ es) g = came_is p r es (note p g (Heard m.header.ok))
 came_is p r (Fire t ∷ es) g = at (work_numbered p r t) (λ o. came_is p r es (note p g (did o)))
   where
-    at : (o : Option Work) → ((o : Option Work) → (seen p (note p g (did o)) (moves_of p r es)).came ≡ (note p g (did o)).came ++ map to_came (own_received Request es)) → (seen p (note p g (did o)) (moves_of p r es)).came ≡ g.came ++ map to_came (own_received Request es)
+    at : (o : Option RankOp) → ((o : Option RankOp) → (seen p (note p g (did o)) (moves_of p r es)).came ≡ (note p g (did o)).came ++ map to_came (own_received Request es)) → (seen p (note p g (did o)) (moves_of p r es)).came ≡ g.came ++ map to_came (own_received Request es)
     at None rest = rest None
-    at (Some (Along l)) rest = rest (Some (Along l))
-    at (Some (Tell c)) rest = rest (Some (Tell c))
+    at (Some (ForLink l)) rest = rest (Some (ForLink l))
+    at (Some (ForDone c)) rest = rest (Some (ForDone c))
 came_is p r (Receive s Request m ∷ es) g = at (is_stray m) (λ b. came_is p r es (note p g (cond b Strayed (Took m.header.hdr_data m.bytes))))
   where
     at : (b : Bool) → ((b : Bool) → (seen p (note p g (cond b Strayed (Took m.header.hdr_data m.bytes))) (moves_of p r es)).came ≡ (note p g (cond b Strayed (Took m.header.hdr_data m.bytes))).came ++ map to_came (own_received Request es))
@@ -180,10 +180,10 @@ link_not_answer p s d l bs = and_right _ _ (at (cell p (link p l).target).op)
     at None = refl
     at (Some o) = refl
 
-pub work_no_answer : (p : Plan) (inputs : Inputs) (s : Slots) (d : ℕ) (g : Seen) (o : Option Work) (rest : List Sent) → filter (is_for d Answer) (and_then (sent_by_work p inputs s g o) rest) ≡ filter (is_for d Answer) rest
+pub work_no_answer : (p : Plan) (inputs : Inputs) (s : Slots) (d : ℕ) (g : Seen) (o : Option RankOp) (rest : List Sent) → filter (is_for d Answer) (and_then (sent_by_work p inputs s g o) rest) ≡ filter (is_for d Answer) rest
 work_no_answer p inputs s d g None rest = refl
-work_no_answer p inputs s d g (Some (Tell c)) rest = refl
-work_no_answer p inputs s d g (Some (Along l)) rest = at (is_bump (link p l).kind)
+work_no_answer p inputs s d g (Some (ForDone c)) rest = refl
+work_no_answer p inputs s d g (Some (ForLink l)) rest = at (is_bump (link p l).kind)
   where
     at : (b : Bool) → filter (is_for d Answer) (and_then (cond b None (Some (link_message p s l (sending p inputs g l).bytes))) rest) ≡ filter (is_for d Answer) rest
     at true = refl

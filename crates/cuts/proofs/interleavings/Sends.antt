@@ -11,8 +11,8 @@ use Rattle.plan_core.specs.Members.{In}
 use Rattle.plan_core.specs.Plan.{Plan, is_bump, link}
 use Rattle.plan_core.specs.Sound.{AreInputsOf, SoundPlan}
 use Rattle.plan_core.specs.Values.{Inputs, due}
-use Rattle.plan_calls.specs.Works.{Work}
-use Rattle.plan_calls.specs.Works.Work.{Along, Tell}
+use Rattle.plan_calls.specs.RankOps.{RankOp}
+use Rattle.plan_calls.specs.RankOps.RankOp.{ForLink, ForDone}
 use Rattle.cuts.specs.view.Slots.{Slots}
 use Rattle.cuts.proofs.machine.Central.{all_good, ours_nothing, outs_good}
 use Rattle.cuts.specs.machine.Machine.{came, link_of, note, outs, out_of, sending}
@@ -30,10 +30,10 @@ use Rattle.cuts.proofs.histories.Traffic.{as_message, came_from, goes_to, own_re
 use Rattle.cuts.specs.orders.Taking.{listed}
 
 -- ---- the links along which a rank sends, by its firings
-abbrev pub along_work : Plan → Option Work → List ℕ
+abbrev pub along_work : Plan → Option RankOp → List ℕ
 along_work p None = []
-along_work p (Some (Tell c)) = []
-along_work p (Some (Along l)) = if is_bump (link p l).kind then [] else l ∷ []
+along_work p (Some (ForDone c)) = []
+along_work p (Some (ForLink l)) = if is_bump (link p l).kind then [] else l ∷ []
 
 abbrev pub along : Plan → ℕ → List LocalStep → List ℕ
 along p r [] = []
@@ -45,10 +45,10 @@ links-append : (xs ys : List Came) → map link_of (xs ++ ys) ≡ map link_of xs
 links-append [] ys = refl
 links-append (x ∷ xs) ys = ap (λ v. link_of x ∷ v) (links-append xs ys)
 
-work-links : (p : Plan) (inputs : Inputs) (g : Seen) (o : Option Work) → map link_of (out_of p inputs g (did o)) ≡ along_work p o
+work-links : (p : Plan) (inputs : Inputs) (g : Seen) (o : Option RankOp) → map link_of (out_of p inputs g (did o)) ≡ along_work p o
 work-links p inputs g None = refl
-work-links p inputs g (Some (Tell c)) = refl
-work-links p inputs g (Some (Along l)) = at (is_bump (link p l).kind)
+work-links p inputs g (Some (ForDone c)) = refl
+work-links p inputs g (Some (ForLink l)) = at (is_bump (link p l).kind)
   where
     at : (b : Bool) → map link_of (cond b [] (sending p inputs g l ∷ [])) ≡ cond b [] (l ∷ [])
     at true = refl

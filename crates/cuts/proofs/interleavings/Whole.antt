@@ -16,12 +16,12 @@ use Rattle.plan_core.specs.Plan.{Plan, all_links, cell, from_to, is_bump, link, 
 use Rattle.plan_core.specs.Sound.{AreInputsOf, SoundPlan}
 use Rattle.plan_core.specs.Values.{Inputs}
 use Rattle.plan_calls.specs.Areas.{comes_to, links_to}
-use Rattle.plan_calls.specs.Works.{Work, is_message, sends_of, works}
-use Rattle.plan_calls.specs.Works.Work.{Along, Tell}
+use Rattle.plan_calls.specs.RankOps.{RankOp, is_message, sends_of, rank_ops}
+use Rattle.plan_calls.specs.RankOps.RankOp.{ForLink, ForDone}
 use Rattle.cuts.specs.view.Slots.{Slots}
 use Rattle.cuts.proofs.machine.Central.{rest_fires, sent_along}
 use Rattle.cuts.proofs.machine.Reached.{fired-In}
-use Rattle.cuts.proofs.machine.Works.{Distinct-works, In-works_along}
+use Rattle.cuts.proofs.machine.RankOps.{Distinct-rank_ops, In-works_along}
 use Rattle.cuts.specs.machine.Machine.{all_seen, link_of, note, outs, seen, source_rank}
 use Rattle.cuts.specs.machine.Machine.Move.{Began, Heard, Strayed, Took}
 use Rattle.cuts.specs.machine.Seen.{Came, Seen, nothing_seen}
@@ -81,10 +81,10 @@ all_parts (Receive s l m ∷ es) =
     at Answer false = omega arith
 
 -- ---- what was fired, was fired by a step each
-fired_by_work : (p : Plan) (g : Seen) (o : Option Work) → length (note p g (did o)).fired ≤ length g.fired + 1
+fired_by_work : (p : Plan) (g : Seen) (o : Option RankOp) → length (note p g (did o)).fired ≤ length g.fired + 1
 fired_by_work p g None = omega arith
-fired_by_work p g (Some (Along l)) = omega arith
-fired_by_work p g (Some (Tell c)) = omega arith
+fired_by_work p g (Some (ForLink l)) = omega arith
+fired_by_work p g (Some (ForDone c)) = omega arith
 
 fired-few : (p : Plan) (r : ℕ) (es : List Local) (g : Seen)
     → length (seen p g (moves_of p r es)).fired ≤ length g.fired + count_by is_firing es
@@ -151,7 +151,7 @@ run-few p r (Receive s Request m ∷ es) early g =
 module _ (starts : CombineStarts) (p : Plan) (inputs : Inputs) (sound : SoundPlan p (length inputs)) (fit : AreInputsOf p inputs)
     (swaps : CombineSwaps) (slots : ℕ → Slots) (w : Histories) (cut : IsCut (system_of p inputs slots) w)
     (rest : IsAtRest (system_of p inputs slots) w) where
-  all_fired : (r : ℕ) → r < p.ranks → Within (works p r) (all_seen p (moves_at p w) r).fired
+  all_fired : (r : ℕ) → r < p.ranks → Within (rank_ops p r) (all_seen p (moves_at p w) r).fired
   all_fired r h v i =
       fired-In (all_seen p (moves_at p w) r).fired v
       (rest_fires p inputs sound (moves_at p w) (machine_rest starts p inputs sound fit swaps slots w cut rest) r h v i)
@@ -169,7 +169,7 @@ module _ (starts : CombineStarts) (p : Plan) (inputs : Inputs) (sound : SoundPla
       let top = s.cells in
       let source = source_rank p l in
       let hs : source_rank p l < p.ranks = sound.ranks_known (link p l).source (omega (arith, up, top)) in
-      let fired = all_fired source hs (Along l) (In-works_along p source l (In-out_links p source l known refl)) in
+      let fired = all_fired source hs (ForLink l) (In-works_along p source l (In-out_links p source l known refl)) in
       elim (sent_along p inputs (moves_at p w source) nothing_seen l sends fired) [
         | inl z ↦ absurd z
         | inr o ↦ there hs o.0 o.1 o.2
@@ -244,7 +244,7 @@ module _ (starts : CombineStarts) (p : Plan) (inputs : Inputs) (sound : SoundPla
       let parts = all_parts (w r) in
       let begun = rest.started r h in
       let fired = run-few p r (w r) [] nothing_seen in
-      let each = length-Within (works p r) (all_seen p (moves_at p w) r).fired (Distinct-works p r) (all_fired r h) in
+      let each = length-Within (rank_ops p r) (all_seen p (moves_at p w) r).fired (Distinct-rank_ops p r) (all_fired r h) in
       let asks = many_requests r in
       let answers = many_answers r h in
       let most = few starts p inputs sound fit swaps slots w cut r h in

@@ -6,8 +6,8 @@ use Rattle.plan_core.specs.declared.LinkKind.{LinkKind}
 use Rattle.plan_core.specs.Sound.{SoundPlan}
 use Rattle.plan_core.specs.declared.LinkKind.TheVariants.{Atomic, Bump, Put}
 use Rattle.cuts.specs.machine.Seen.{Came, Seen, bumps, nothing_seen, reached_count, to_cell}
-use Rattle.plan_calls.specs.Works.{Work, cell_of}
-use Rattle.plan_calls.specs.Works.Work.{Along, Tell}
+use Rattle.plan_calls.specs.RankOps.{RankOp, cell_of}
+use Rattle.plan_calls.specs.RankOps.RankOp.{ForLink, ForDone}
 use Rattle.cuts.specs.machine.Machine.{HasReached, IsMachineCut, Leads, MayMove, Move, Moves, all_seen, came, note, out_of, outs, seen, sending, source_rank}
 use Rattle.cuts.specs.machine.Machine.Move.{Began, Did, Heard, Strayed, Took}
 use Rattle.cuts.specs.machine.Machine.Leads.{along, here}
@@ -29,8 +29,8 @@ count-le-cons t x xs = let e = count-cons t x xs in omega arith
 rises : (p : Plan) (g : Seen) (m : Move) (r c : ℕ) → reached_count p g r c ≤ reached_count p (note p g m) r c
 rises p g Began r c = let a = more_cond (c == r) g.started in omega arith
 rises p g (Took l bs) r c = let a = count-append (to_cell p c) g.came (came l bs ∷ []) in omega arith
-rises p g (Did (Along l)) r c = let a = count-le-cons (bumps p c) (Along l) g.fired in omega arith
-rises p g (Did (Tell d)) r c = let a = count-le-cons (bumps p c) (Tell d) g.fired in omega arith
+rises p g (Did (ForLink l)) r c = let a = count-le-cons (bumps p c) (ForLink l) g.fired in omega arith
+rises p g (Did (ForDone d)) r c = let a = count-le-cons (bumps p c) (ForDone d) g.fired in omega arith
 rises p g (Heard ok) r c = le_refl _
 rises p g Strayed r c = le_refl _
 
@@ -39,7 +39,7 @@ rises_all p [] g r c = le_refl _
 rises_all p (m ∷ ms) g r c = le_trans (rises p g m r c) (rises_all p ms (note p g m) r c)
 
 -- what was fired had a cell that had reached its needs
-fired_reached : (p : Plan) (r : ℕ) (ms : List Move) (g : Seen) (w : Work) → Moves p r g ms → In w (seen p g ms).fired → In w g.fired ⊎ ((cell p (cell_of p w)).needs ≤ reached_count p (seen p g ms) r (cell_of p w))
+fired_reached : (p : Plan) (r : ℕ) (ms : List Move) (g : Seen) (w : RankOp) → Moves p r g ms → In w (seen p g ms).fired → In w g.fired ⊎ ((cell p (cell_of p w)).needs ≤ reached_count p (seen p g ms) r (cell_of p w))
 fired_reached p r [] g w h i = inl i
 fired_reached p r (m ∷ ms) g w h i = elim (fired_reached p r ms (note p g m) w h.1 i) [
   | inr k ↦ inr k
@@ -58,33 +58,33 @@ fired_reached p r (m ∷ ms) g w h i = elim (fired_reached p r ms (note p g m) w
     ]
 
 -- what was sent was fired
-fired_more : (p : Plan) (g : Seen) (m : Move) (w : Work) → In w g.fired → In w (note p g m).fired
+fired_more : (p : Plan) (g : Seen) (m : Move) (w : RankOp) → In w g.fired → In w (note p g m).fired
 fired_more p g Began w h = h
 fired_more p g (Took l bs) w h = h
 fired_more p g (Heard ok) w h = h
 fired_more p g Strayed w h = h
-fired_more p g (Did (Along l)) w h = inr h
-fired_more p g (Did (Tell c)) w h = inr h
+fired_more p g (Did (ForLink l)) w h = inr h
+fired_more p g (Did (ForDone c)) w h = inr h
 
-fired_seen : (p : Plan) (ms : List Move) (g : Seen) (w : Work) → In w g.fired → In w (seen p g ms).fired
+fired_seen : (p : Plan) (ms : List Move) (g : Seen) (w : RankOp) → In w g.fired → In w (seen p g ms).fired
 fired_seen p [] g w h = h
 fired_seen p (m ∷ ms) g w h = fired_seen p ms (note p g m) w (fired_more p g m w h)
 
-pub sent_fired : (p : Plan) (inputs : Inputs) (ms : List Move) (g : Seen) (a : Came) → In a (outs p inputs g ms) → In (Along a.link) (seen p g ms).fired
+pub sent_fired : (p : Plan) (inputs : Inputs) (ms : List Move) (g : Seen) (a : Came) → In a (outs p inputs g ms) → In (ForLink a.link) (seen p g ms).fired
 sent_fired p inputs [] g a h = absurd h
 sent_fired p inputs (m ∷ ms) g a h = elim (In-append_cases a (out_of p inputs g m) (outs p inputs (note p g m) ms) h) [
   | inr i ↦ sent_fired p inputs ms (note p g m) a i
   | inl i ↦ first m i
 ]
   where
-    at_link : (l : ℕ) (b : Bool) → In a (cond b [] (sending p inputs g l ∷ [])) → In (Along a.link) (seen p (note p g (Did (Along l))) ms).fired
+    at_link : (l : ℕ) (b : Bool) → In a (cond b [] (sending p inputs g l ∷ [])) → In (ForLink a.link) (seen p (note p g (Did (ForLink l))) ms).fired
     at_link l true i = absurd i
     at_link l false (inr i) = absurd i
-    at_link l false (inl e) = fired_seen p ms (note p g (Did (Along l))) (Along a.link) (inl (ap (λ (x : Came). Along x.link) e))
+    at_link l false (inl e) = fired_seen p ms (note p g (Did (ForLink l))) (ForLink a.link) (inl (ap (λ (x : Came). ForLink x.link) e))
 
-    first : (m : Move) → In a (out_of p inputs g m) → In (Along a.link) (seen p (note p g m) ms).fired
-    first (Did (Along l)) i = at_link l (is_bump (link p l).kind) i
-    first (Did (Tell c)) i = absurd i
+    first : (m : Move) → In a (out_of p inputs g m) → In (ForLink a.link) (seen p (note p g m) ms).fired
+    first (Did (ForLink l)) i = at_link l (is_bump (link p l).kind) i
+    first (Did (ForDone c)) i = absurd i
     first Began i = absurd i
     first (Took l bs) i = absurd i
     first (Heard ok) i = absurd i
@@ -107,11 +107,11 @@ sources_reached p inputs sound ms cut c h n l i =
       | inl j ↦ (let a = came_to-In p c (all_seen p ms (cell p c).rank).came l j in
           let o = cut.made (cell p c).rank a.0 in_range a.1 in
           let o' : In a.0 (outs p inputs nothing_seen (ms (source_rank p l))) = subst (λ m. In a.0 (outs p inputs nothing_seen (ms (source_rank p m)))) a.2 o in
-          let f : In (Along l) (all_seen p ms (source_rank p l)).fired = subst (λ m. In (Along m) (all_seen p ms (source_rank p l)).fired) a.2 (sent_fired p inputs (ms (source_rank p l)) nothing_seen a.0 o') in
+          let f : In (ForLink l) (all_seen p ms (source_rank p l)).fired = subst (λ m. In (ForLink m) (all_seen p ms (source_rank p l)).fired) a.2 (sent_fired p inputs (ms (source_rank p l)) nothing_seen a.0 o') in
           by_firing (source_rank p l) source_in f)
       | inr j ↦ (let b = bumped_to-In p c (all_seen p ms (cell p c).rank).fired l j in
           let same : source_rank p l ≡ (cell p c).rank = s.bump_stays (bump_kind (link p l).kind b.1) ∙ ap (λ d. (cell p d).rank) k.1 in
-          by_firing (source_rank p l) source_in (subst (λ v. In (Along l) (all_seen p ms v).fired) (sym same) b.0))
+          by_firing (source_rank p l) source_in (subst (λ v. In (ForLink l) (all_seen p ms v).fired) (sym same) b.0))
     ]
   where
     bump_kind : (k : LinkKind) → is_bump k ≡ true → k ≡ Bump
@@ -119,8 +119,8 @@ sources_reached p inputs sound ms cut c h n l i =
     bump_kind Put e = cc
     bump_kind Atomic e = cc
 
-    by_firing : (r : ℕ) → r < p.ranks → In (Along l) (all_seen p ms r).fired → (cell p (link p l).source).needs ≤ reached_count p (all_seen p ms r) r (link p l).source
-    by_firing r in_range f = elim (fired_reached p r (ms r) nothing_seen (Along l) (cut.moves r in_range) f) [ inl z ↦ absurd z | inr k ↦ k ]
+    by_firing : (r : ℕ) → r < p.ranks → In (ForLink l) (all_seen p ms r).fired → (cell p (link p l).source).needs ≤ reached_count p (all_seen p ms r) r (link p l).source
+    by_firing r in_range f = elim (fired_reached p r (ms r) nothing_seen (ForLink l) (cut.moves r in_range) f) [ inl z ↦ absurd z | inr k ↦ k ]
 
 pub ancestors_reached : (p : Plan) (inputs : Inputs) → SoundPlan p (length inputs) → (ms : ℕ → List Move) → IsMachineCut p inputs ms
     → (b c : ℕ) → c < length p.cells → Leads p b c → HasReached p ms c → HasReached p ms b

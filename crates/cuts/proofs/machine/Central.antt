@@ -10,21 +10,21 @@ use Rattle.plan_core.specs.Sound.{AreInputsOf, SoundPlan}
 use Rattle.plan_core.specs.Values.{Inputs, carried_of, initial, value, due}
 use Rattle.plan_core.specs.declared.LinkKind.TheVariants.{Atomic, Bump, Put}
 use Rattle.cuts.specs.machine.Seen.{Came, Seen, content, nothing_seen, reached_count, was_fired}
-use Rattle.plan_calls.specs.Works.{Work, works}
-use Rattle.plan_calls.specs.Works.Work.{Along, Tell}
+use Rattle.plan_calls.specs.RankOps.{RankOp, rank_ops}
+use Rattle.plan_calls.specs.RankOps.RankOp.{ForLink, ForDone}
 use Rattle.cuts.specs.machine.Machine.{IsMachineCut, IsMachineRest, MayMove, Move, Moves, Proper, all_seen, came, link_of, note, note_work, out_of, outs, seen, sending, source_rank}
 use Rattle.cuts.specs.machine.Machine.Move.{Began, Did, Heard, Strayed, Took}
 use Rattle.plan_core.proofs.Lists.{Distinct_left, In-append_cases, In-append_left, In-append_right, length-Within}
 use Rattle.plan_core.proofs.Links.{Distinct-in_links, In-out_links, in_links-In, out_links-In, own-In}
-use Rattle.cuts.proofs.machine.Works.{In-works_along, works-along, works-tell}
+use Rattle.cuts.proofs.machine.RankOps.{In-works_along, rank_ops-along, rank_ops-tell}
 use Rattle.cuts.proofs.machine.Reached.{Good, In-bumped_to, In-came_to, In-fired, Ours, bumped_to, came_to, count_unless_go, fired-In, holds_value, length-reached_by, reached_by}
 
 -- ---- what is true at the end was true before
 came_more : (p : Plan) (g : Seen) (m : Move) (a : Came) → In a g.came → In a (note p g m).came
 came_more p g Began a h = h
 came_more p g (Took l bytes) a h = In-append_left a g.came (came l bytes ∷ []) h
-came_more p g (Did (Along l)) a h = h
-came_more p g (Did (Tell c)) a h = h
+came_more p g (Did (ForLink l)) a h = h
+came_more p g (Did (ForDone c)) a h = h
 came_more p g (Heard ok) a h = h
 came_more p g Strayed a h = h
 
@@ -35,8 +35,8 @@ came_seen p (m ∷ ms) g a h = came_seen p ms (note p g m) a (came_more p g m a 
 once_before : (p : Plan) (g : Seen) (m : Move) → Distinct (map link_of (note p g m).came) → Distinct (map link_of g.came)
 once_before p g Began d = d
 once_before p g (Took l bytes) d = Distinct_left (map link_of g.came) (l ∷ []) (subst Distinct (map-append link_of g.came (came l bytes ∷ [])) d)
-once_before p g (Did (Along l)) d = d
-once_before p g (Did (Tell c)) d = d
+once_before p g (Did (ForLink l)) d = d
+once_before p g (Did (ForDone c)) d = d
 once_before p g (Heard ok) d = d
 once_before p g Strayed d = d
 
@@ -51,13 +51,13 @@ good_before : (p : Plan) (inputs : Inputs) (c : ℕ) (ms : List Move) (g : Seen)
 good_before p inputs c ms g h a i e = h a (came_seen p ms g a i) e
 
 -- what was fired is the rank's, each once
-pub fired_note : (p : Plan) (g : Seen) (w : Work) → (note_work p g w).fired ≡ w ∷ g.fired
-fired_note p g (Along l) = refl
-fired_note p g (Tell c) = refl
+pub fired_note : (p : Plan) (g : Seen) (w : RankOp) → (note_work p g w).fired ≡ w ∷ g.fired
+fired_note p g (ForLink l) = refl
+fired_note p g (ForDone c) = refl
 
 ours_after : (p : Plan) (r : ℕ) (g : Seen) (m : Move) → Ours p r g.fired → MayMove p r g m → Ours p r (note p g m).fired
 ours_after p r g (Did w) mine may = subst (Ours p r) (sym (fired_note p g w)) (record {
-  ours = λ v h. elim h [ inl e ↦ subst (λ u. In u (works p r)) e may.0 | inr i ↦ mine.ours v i ];
+  ours = λ v h. elim h [ inl e ↦ subst (λ u. In u (rank_ops p r)) e may.0 | inr i ↦ mine.ours v i ];
   once = ((λ h. both may.1 (In-fired g.fired w h)), mine.once);
 })
   where
@@ -86,11 +86,11 @@ outs_good swaps p inputs sound fit r n in_range (m ∷ ms) g moves mine proper g
       | inr i ↦ outs_good swaps p inputs sound fit r n in_range ms (note p g m) moves.1 (ours_after p r g m mine moves.0) proper good a i l
     ]
   where
-    along : (k : ℕ) → MayMove p r g (Did (Along k)) → Proper p r g → ((c : ℕ) → c < n → Good p inputs c g) → (b : Bool) → In a (cond b [] (sending p inputs g k ∷ [])) → a.bytes ≡ due p inputs a.link
+    along : (k : ℕ) → MayMove p r g (Did (ForLink k)) → Proper p r g → ((c : ℕ) → c < n → Good p inputs c g) → (b : Bool) → In a (cond b [] (sending p inputs g k ∷ [])) → a.bytes ≡ due p inputs a.link
     along k may here fine true i = absurd i
     along k may here fine false (inr i) = absurd i
     along k may here fine false (inl e) =
-        let q = out_links-In p r k (works-along p r k may.0) in
+        let q = out_links-In p r k (rank_ops-along p r k may.0) in
         let s = sound.links_sound k q.0 in
         let up = s.rising in
         let top = s.cells in
@@ -99,8 +99,8 @@ outs_good swaps p inputs sound fit r n in_range (m ∷ ms) g moves mine proper g
         subst (λ (x : Came). x.bytes ≡ due p inputs x.link) e (ap (λ x. carried_of p x k) v)
 
     first : (m : Move) → MayMove p r g m → Proper p r g → ((c : ℕ) → c < n → Good p inputs c g) → In a (out_of p inputs g m) → a.bytes ≡ due p inputs a.link
-    first (Did (Along k)) may here fine i = along k may here fine (is_bump (link p k).kind) i
-    first (Did (Tell c)) may here fine i = absurd i
+    first (Did (ForLink k)) may here fine i = along k may here fine (is_bump (link p k).kind) i
+    first (Did (ForDone c)) may here fine i = absurd i
     first Began may here fine i = absurd i
     first (Took k bytes) may here fine i = absurd i
     first (Heard ok) may here fine i = absurd i
@@ -134,18 +134,18 @@ cut_holds swaps p inputs sound fit ms cut r c in_range h n =
 -- ---- at rest every cell has reached its needs
 
 -- what was fired along a link that isn't a bump was sent
-pub sent_along : (p : Plan) (inputs : Inputs) (ms : List Move) (g : Seen) (l : ℕ) → is_bump (link p l).kind ≡ false → In (Along l) (seen p g ms).fired → In (Along l) g.fired ⊎ ((a : Came) × In a (outs p inputs g ms) × (a.link ≡ l))
+pub sent_along : (p : Plan) (inputs : Inputs) (ms : List Move) (g : Seen) (l : ℕ) → is_bump (link p l).kind ≡ false → In (ForLink l) (seen p g ms).fired → In (ForLink l) g.fired ⊎ ((a : Came) × In a (outs p inputs g ms) × (a.link ≡ l))
 sent_along p inputs [] g l b h = inl h
 sent_along p inputs (m ∷ ms) g l b h = elim (sent_along p inputs ms (note p g m) l b h) [
   | inr k ↦ inr (k.0, In-append_right k.0 (out_of p inputs g m) (outs p inputs (note p g m) ms) k.1, k.2)
   | inl i ↦ now m i
 ]
   where
-    here : (w : Work) → w ≡ Along l → In (sending p inputs g l) (out_of p inputs g (Did w))
+    here : (w : RankOp) → w ≡ ForLink l → In (sending p inputs g l) (out_of p inputs g (Did w))
     here w e = rw e (rw b (inl refl))
 
-    now : (m : Move) → In (Along l) (note p g m).fired → In (Along l) g.fired ⊎ ((a : Came) × In a (out_of p inputs g m ++ outs p inputs (note p g m) ms) × (a.link ≡ l))
-    now (Did w) h = elim (subst (λ vs. In (Along l) vs) (fired_note p g w) h) [
+    now : (m : Move) → In (ForLink l) (note p g m).fired → In (ForLink l) g.fired ⊎ ((a : Came) × In a (out_of p inputs g m ++ outs p inputs (note p g m) ms) × (a.link ≡ l))
+    now (Did w) h = elim (subst (λ vs. In (ForLink l) vs) (fired_note p g w) h) [
       | inl e ↦ inr (sending p inputs g l, In-append_left (sending p inputs g l) (out_of p inputs g (Did w)) (outs p inputs (note p g (Did w)) ms) (here w e), refl)
       | inr i ↦ inl i
     ]
@@ -174,21 +174,21 @@ reached_next p inputs sound ms rest c h before = elim (cases_lt c p.ranks) [
     go_done n s = let e : (c == c) ≡ true = eq-eqb c c refl in rw (e, s) (omega arith)
 
     -- each incoming link has been fired
-    fired : (l : ℕ) → In l (in_links p c) → was_fired (all_seen p ms (source_rank p l)).fired (Along l) ≡ true
+    fired : (l : ℕ) → In l (in_links p c) → was_fired (all_seen p ms (source_rank p l)).fired (ForLink l) ≡ true
     fired l i =
         let k = in_links-In p c l i in
         let s = sound.links_sound l k.0 in
         let up = s.rising in
         let top = s.cells in
         let t : (link p l).target ≡ c = k.1 in
-        rest.idle (source_rank p l) (Along l) (sound.ranks_known (link p l).source (omega arith)) (In-works_along p (source_rank p l) l (In-out_links p (source_rank p l) l k.0 refl)) (before (link p l).source (omega arith))
+        rest.idle (source_rank p l) (ForLink l) (sound.ranks_known (link p l).source (omega arith)) (In-works_along p (source_rank p l) l (In-out_links p (source_rank p l) l k.0 refl)) (before (link p l).source (omega arith))
 
     arrived_as : (l : ℕ) → In l (in_links p c) → (b : Bool) → is_bump (link p l).kind ≡ b → In l (reached_by p c (all_seen p ms (cell p c).rank))
     arrived_as l i true b =
         let k = in_links-In p c l i in
         let s = sound.links_sound l k.0 in
         let r : source_rank p l ≡ (cell p c).rank = s.bump_stays (bump_kind (link p l).kind b) ∙ ap (λ d. (cell p d).rank) k.1 in
-        let f : In (Along l) (all_seen p ms (cell p c).rank).fired = subst (λ v. In (Along l) (all_seen p ms v).fired) r (fired-In (all_seen p ms (source_rank p l)).fired (Along l) (fired l i)) in
+        let f : In (ForLink l) (all_seen p ms (cell p c).rank).fired = subst (λ v. In (ForLink l) (all_seen p ms v).fired) r (fired-In (all_seen p ms (source_rank p l)).fired (ForLink l) (fired l i)) in
         In-append_right l (came_to p c (all_seen p ms (cell p c).rank).came) (bumped_to p c (all_seen p ms (cell p c).rank).fired) (In-bumped_to p c (all_seen p ms (cell p c).rank).fired l f b k.1)
       where
         bump_kind : (k : LinkKind) → is_bump k ≡ true → k ≡ Bump
@@ -197,7 +197,7 @@ reached_next p inputs sound ms rest c h before = elim (cases_lt c p.ranks) [
         bump_kind Atomic e = cc
     arrived_as l i false b =
         let k = in_links-In p c l i in
-        let f = fired-In (all_seen p ms (source_rank p l)).fired (Along l) (fired l i) in
+        let f = fired-In (all_seen p ms (source_rank p l)).fired (ForLink l) (fired l i) in
         elim (sent_along p inputs (ms (source_rank p l)) nothing_seen l b f) [
           | inl z ↦ absurd z
           | inr o ↦ took o.0 o.1 o.2 k.1 k.0
@@ -228,16 +228,16 @@ rest_reaches p inputs sound ms rest c h = reached_below p inputs sound ms rest (
 
 -- every operation of a rank was fired
 pub rest_fires : (p : Plan) (inputs : Inputs) → SoundPlan p (length inputs) → (ms : ℕ → List Move) → IsMachineRest p inputs ms
-    → (r : ℕ) → r < p.ranks → (w : Work) → In w (works p r) → was_fired (all_seen p ms r).fired w ≡ true
-rest_fires p inputs sound ms rest r in_range (Along l) h =
-    let k = out_links-In p r l (works-along p r l h) in
+    → (r : ℕ) → r < p.ranks → (w : RankOp) → In w (rank_ops p r) → was_fired (all_seen p ms r).fired w ≡ true
+rest_fires p inputs sound ms rest r in_range (ForLink l) h =
+    let k = out_links-In p r l (rank_ops-along p r l h) in
     let s = sound.links_sound l k.0 in
     let up = s.rising in
     let top = s.cells in
-    rest.idle r (Along l) in_range h (subst (λ v. (cell p (link p l).source).needs ≤ reached_count p (all_seen p ms v) v (link p l).source) k.1 (rest_reaches p inputs sound ms rest (link p l).source (omega arith)))
-rest_fires p inputs sound ms rest r in_range (Tell c) h =
-    let k = own-In p r c (works-tell p r c h) in
-    rest.idle r (Tell c) in_range h (subst (λ v. (cell p c).needs ≤ reached_count p (all_seen p ms v) v c) k.1 (rest_reaches p inputs sound ms rest c k.0))
+    rest.idle r (ForLink l) in_range h (subst (λ v. (cell p (link p l).source).needs ≤ reached_count p (all_seen p ms v) v (link p l).source) k.1 (rest_reaches p inputs sound ms rest (link p l).source (omega arith)))
+rest_fires p inputs sound ms rest r in_range (ForDone c) h =
+    let k = own-In p r c (rank_ops-tell p r c h) in
+    rest.idle r (ForDone c) in_range h (subst (λ v. (cell p c).needs ≤ reached_count p (all_seen p ms v) v c) k.1 (rest_reaches p inputs sound ms rest c k.0))
 
 -- each cell holds its value
 pub rest_values : CombineSwaps → (p : Plan) (inputs : Inputs) → SoundPlan p (length inputs) → AreInputsOf p inputs

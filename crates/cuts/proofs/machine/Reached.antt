@@ -11,30 +11,30 @@ use Rattle.plan_core.specs.Sound.{AreInputsOf, SoundPlan}
 use Rattle.plan_core.specs.Values.{Inputs, initial, land, land_as, value, due}
 use Rattle.plan_core.specs.declared.LinkKind.TheVariants.{Atomic, Bump, Put}
 use Rattle.cuts.specs.machine.Seen.{Came, Seen, bumps, content, is_same_work, reached_count, to_cell, was_fired}
-use Rattle.plan_calls.specs.Works.{Work, works}
-use Rattle.plan_calls.specs.Works.Work.{Along, Tell}
+use Rattle.plan_calls.specs.RankOps.{RankOp, rank_ops}
+use Rattle.plan_calls.specs.RankOps.RankOp.{ForLink, ForDone}
 use Rattle.cuts.specs.machine.Machine.{Proper, link_of}
 use Rattle.plan_core.proofs.Lists.{Distinct-append, Distinct-filter, Distinct-map, In-append_cases, In-filter, In-filter_cases, In-map, In-map_cases, all_Within, each, each-append, each_same, length-map'}
 use Rattle.plan_core.proofs.Links.{In-in_links, Lands, in_links-In, land_swaps, length-land, out_links-In}
-use Rattle.cuts.proofs.machine.Works.{works-along}
+use Rattle.cuts.proofs.machine.RankOps.{rank_ops-along}
 use Rattle.plan_core.proofs.Values.{Lands-of, length-due, length-initial, length-value, step, value-eq}
 
 -- ---- operations cs members
-pub same_work : (v w : Work) → is_same_work v w ≡ true → v ≡ w
-same_work (Along l) (Along m) e = ap Along (eqb-true l m e)
-same_work (Tell c) (Tell d) e = ap Tell (eqb-true c d e)
-same_work (Along l) (Tell d) e = cc
-same_work (Tell c) (Along m) e = cc
+pub same_work : (v w : RankOp) → is_same_work v w ≡ true → v ≡ w
+same_work (ForLink l) (ForLink m) e = ap ForLink (eqb-true l m e)
+same_work (ForDone c) (ForDone d) e = ap ForDone (eqb-true c d e)
+same_work (ForLink l) (ForDone d) e = cc
+same_work (ForDone c) (ForLink m) e = cc
 
-pub same_work-refl : (w : Work) → is_same_work w w ≡ true
-same_work-refl (Along l) = eq-eqb l l refl
-same_work-refl (Tell c) = eq-eqb c c refl
+pub same_work-refl : (w : RankOp) → is_same_work w w ≡ true
+same_work-refl (ForLink l) = eq-eqb l l refl
+same_work-refl (ForDone c) = eq-eqb c c refl
 
-pub fired-In : (vs : List Work) (w : Work) → was_fired vs w ≡ true → In w vs
+pub fired-In : (vs : List RankOp) (w : RankOp) → was_fired vs w ≡ true → In w vs
 fired-In [] w e = cc
 fired-In (v ∷ vs) w e = elim (or_cases (is_same_work v w) (was_fired vs w) e) [ inl i ↦ inl (same_work v w i) | inr i ↦ inr (fired-In vs w i) ]
 
-pub In-fired : (vs : List Work) (w : Work) → In w vs → was_fired vs w ≡ true
+pub In-fired : (vs : List RankOp) (w : RankOp) → In w vs → was_fired vs w ≡ true
 In-fired [] w h = absurd h
 In-fired (v ∷ vs) w (inl e) = or_left_true _ _ (subst (λ u. is_same_work v u ≡ true) e (same_work-refl v))
   where
@@ -51,11 +51,11 @@ In-fired (v ∷ vs) w (inr h) = or_right_true _ _ (In-fired vs w h)
 abbrev pub came_to : Plan → ℕ → List Came → List ℕ
 came_to p c cs = map link_of (filter (to_cell p c) cs)
 
-abbrev pub link_along : Work → ℕ
-link_along (Along l) = l
-link_along (Tell c) = 0
+abbrev pub link_along : RankOp → ℕ
+link_along (ForLink l) = l
+link_along (ForDone c) = 0
 
-abbrev pub bumped_to : Plan → ℕ → List Work → List ℕ
+abbrev pub bumped_to : Plan → ℕ → List RankOp → List ℕ
 bumped_to p c ws = map link_along (filter (bumps p c) ws)
 
 abbrev pub reached_by : Plan → ℕ → Seen → List ℕ
@@ -64,13 +64,13 @@ reached_by p c g = came_to p c g.came ++ bumped_to p c g.fired
 pub length-reached_by : (p : Plan) (c : ℕ) (g : Seen) → length (reached_by p c g) ≡ count_by (to_cell p c) g.came + count_by (bumps p c) g.fired
 length-reached_by p c g = rw (length-append, length-map', length-map', length-filter, length-filter) refl
 
-bumps-is : (p : Plan) (c : ℕ) (w : Work) → bumps p c w ≡ true → (l : ℕ) × (w ≡ Along l) × (is_bump (link p l).kind ≡ true) × ((link p l).target ≡ c)
-bumps-is p c (Along l) e = let q = and_parts _ _ e in (l, refl, q.0, eqb-true _ _ q.1)
-bumps-is p c (Tell d) e = cc
+bumps-is : (p : Plan) (c : ℕ) (w : RankOp) → bumps p c w ≡ true → (l : ℕ) × (w ≡ ForLink l) × (is_bump (link p l).kind ≡ true) × ((link p l).target ≡ c)
+bumps-is p c (ForLink l) e = let q = and_parts _ _ e in (l, refl, q.0, eqb-true _ _ q.1)
+bumps-is p c (ForDone d) e = cc
 
 -- what is known of a rank's operations that were fired
-pub record Ours (p : Plan) (r : ℕ) (ws : List Work) : Type 0 where
-  pub ours : Within ws (works p r)
+pub record Ours (p : Plan) (r : ℕ) (ws : List RankOp) : Type 0 where
+  pub ours : Within ws (rank_ops p r)
   pub once : Distinct ws
 
 pub came_to-In : (p : Plan) (c : ℕ) (cs : List Came) (l : ℕ) → In l (came_to p c cs) → (a : Came) × In a cs × (a.link ≡ l) × ((link p l).target ≡ c)
@@ -82,16 +82,16 @@ came_to-In p c cs l h =
 pub In-came_to : (p : Plan) (c : ℕ) (cs : List Came) (a : Came) → In a cs → (link p a.link).target ≡ c → In a.link (came_to p c cs)
 In-came_to p c cs a h e = In-map link_of a (filter (to_cell p c) cs) (In-filter (to_cell p c) a cs h (eq-eqb _ _ e))
 
-pub bumped_to-In : (p : Plan) (c : ℕ) (ws : List Work) (l : ℕ) → In l (bumped_to p c ws) → In (Along l) ws × (is_bump (link p l).kind ≡ true) × ((link p l).target ≡ c)
+pub bumped_to-In : (p : Plan) (c : ℕ) (ws : List RankOp) (l : ℕ) → In l (bumped_to p c ws) → In (ForLink l) ws × (is_bump (link p l).kind ≡ true) × ((link p l).target ≡ c)
 bumped_to-In p c ws l h =
     let k = In-map_cases link_along l (filter (bumps p c) ws) h in
     let q = In-filter_cases (bumps p c) k.0 ws k.1 in
     let b = bumps-is p c k.0 q.1 in
     let i : b.0 ≡ l = sym (ap link_along b.1) ∙ k.2 in
-    (subst (λ m. In (Along m) ws) i (subst (λ w. In w ws) b.1 q.0), subst (λ m. is_bump (link p m).kind ≡ true) i b.2, subst (λ m. (link p m).target ≡ c) i b.3)
+    (subst (λ m. In (ForLink m) ws) i (subst (λ w. In w ws) b.1 q.0), subst (λ m. is_bump (link p m).kind ≡ true) i b.2, subst (λ m. (link p m).target ≡ c) i b.3)
 
-pub In-bumped_to : (p : Plan) (c : ℕ) (ws : List Work) (l : ℕ) → In (Along l) ws → is_bump (link p l).kind ≡ true → (link p l).target ≡ c → In l (bumped_to p c ws)
-In-bumped_to p c ws l h b e = In-map link_along (Along l) (filter (bumps p c) ws) (In-filter (bumps p c) (Along l) ws h (and_true _ _ b (eq-eqb _ _ e)))
+pub In-bumped_to : (p : Plan) (c : ℕ) (ws : List RankOp) (l : ℕ) → In (ForLink l) ws → is_bump (link p l).kind ≡ true → (link p l).target ≡ c → In l (bumped_to p c ws)
+In-bumped_to p c ws l h b e = In-map link_along (ForLink l) (filter (bumps p c) ws) (In-filter (bumps p c) (ForLink l) ws h (and_true _ _ b (eq-eqb _ _ e)))
   where
     and_true : (a b : Bool) → a ≡ true → b ≡ true → (a && b) ≡ true
     and_true true b e i = i
@@ -106,10 +106,10 @@ Distinct-map_filter f t (x ∷ xs) d = at (t x) (Distinct-map_filter f t xs d.1)
     at true rest = ((λ h. let k = In-map_cases f (f x) (filter t xs) h in let q = In-filter_cases t k.0 xs k.1 in d.0 (subst (λ v. In v (map f xs)) k.2 (In-map f k.0 xs q.0))), rest)
     at false rest = rest
 
-along_bumped : (p : Plan) (c : ℕ) (a b : Work) → bumps p c a ≡ true → bumps p c b ≡ true → link_along a ≡ link_along b → a ≡ b
-along_bumped p c (Along l) (Along m) i j e = ap Along e
-along_bumped p c (Along l) (Tell d) i j e = cc
-along_bumped p c (Tell d) b i j e = cc
+along_bumped : (p : Plan) (c : ℕ) (a b : RankOp) → bumps p c a ≡ true → bumps p c b ≡ true → link_along a ≡ link_along b → a ≡ b
+along_bumped p c (ForLink l) (ForLink m) i j e = ap ForLink e
+along_bumped p c (ForLink l) (ForDone d) i j e = cc
+along_bumped p c (ForDone d) b i j e = cc
 
 Distinct-reached_by : (p : Plan) (r c : ℕ) (g : Seen) → Proper p r g → Ours p r g.fired → Distinct (reached_by p c g)
 Distinct-reached_by p r c g proper mine =
@@ -130,7 +130,7 @@ reached_by-in : (p : Plan) (r c : ℕ) (g : Seen) → Proper p r g → Ours p r 
 reached_by-in p r c g proper mine l h =
     elim (In-append_cases l (came_to p c g.came) (bumped_to p c g.fired) h) [
       | inl i ↦ (let k = came_to-In p c g.came l i in In-in_links p c l (subst (λ m. m < length p.links) k.2 (proper.links k.0 k.1).0) k.3)
-      | inr i ↦ (let q = bumped_to-In p c g.fired l i in In-in_links p c l (out_links-In p r l (works-along p r l (mine.ours (Along l) q.0))).0 q.2)
+      | inr i ↦ (let q = bumped_to-In p c g.fired l i in In-in_links p c l (out_links-In p r l (rank_ops-along p r l (mine.ours (ForLink l) q.0))).0 q.2)
     ]
 
 pub count_unless_go : (p : Plan) (g : Seen) (r c : ℕ) → r < c → reached_count p g r c ≡ count_by (to_cell p c) g.came + count_by (bumps p c) g.fired

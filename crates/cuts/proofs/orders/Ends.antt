@@ -11,7 +11,7 @@ use Rattle.plan_core.specs.Sound.{AreInputsOf, SoundPlan}
 use Rattle.plan_core.specs.Values.{Inputs}
 use Rattle.plan_core.proofs.Lists.{In-append_left, In-filter_cases, count-cons}
 use Rattle.plan_calls.specs.Areas.{links_to}
-use Rattle.plan_calls.specs.Works.{sends_of, works}
+use Rattle.plan_calls.specs.RankOps.{sends_of, rank_ops}
 use Rattle.cuts.specs.view.Slots.{Slots}
 use Rattle.cuts.specs.view.Calls.{prepare}
 use Rattle.cuts.specs.histories.Cut.{is_received_stray, is_stray}
@@ -105,9 +105,9 @@ none_strayed (Receive q lane x ∷ es) h =
 
 module _ (starts : CombineStarts) (p : Plan) (inputs : Inputs) (sound : SoundPlan p (length inputs)) (fit : AreInputsOf p inputs) (swaps : CombineSwaps) (slots : ℕ → Slots) where
   most : ℕ → ℕ
-  most r = suc (length (works p r)) + (length (links_to p r) + cond p.remote (sends_of p r) 0)
+  most r = suc (length (rank_ops p r)) + (length (links_to p r) + cond p.remote (sends_of p r) 0)
 
-  rank_most : (w : Histories) (held : Lanes) → IsReached (system_of p inputs slots) w held → (r : ℕ) → r < p.ranks → length (w r) ≤ suc (length (works p r)) + (length (links_to p r) + cond p.remote (sends_of p r) 0)
+  rank_most : (w : Histories) (held : Lanes) → IsReached (system_of p inputs slots) w held → (r : ℕ) → r < p.ranks → length (w r) ≤ suc (length (rank_ops p r)) + (length (links_to p r) + cond p.remote (sends_of p r) 0)
   rank_most w held reached r h =
       let cut = (reached_moment starts p inputs slots sound fit swaps w held reached).cut in
       let a = few_receipts starts p inputs sound fit slots w cut r h in

@@ -9,10 +9,10 @@ use Rattle.plan_core.specs.Sound.{AreInputsOf, SoundPlan}
 use Rattle.plan_core.specs.Values.{Inputs}
 use Rattle.plan_core.proofs.Links.{from_to-In}
 use Rattle.plan_core.proofs.Lists.{In-filter_cases, In-map, In-map_cases}
-use Rattle.plan_calls.specs.Works.{Work, number_of, works}
+use Rattle.plan_calls.specs.RankOps.{RankOp, number_of, rank_ops}
 use Rattle.cuts.specs.machine.Machine.{all_seen}
 use Rattle.cuts.specs.machine.Seen.{was_fired}
-use Rattle.cuts.specs.view.Deeds.{operation}
+use Rattle.cuts.specs.view.TriggeredOps.{operation}
 use Rattle.cuts.specs.view.Slots.{Slots}
 use Rattle.cuts.proofs.view.Installed.{new_op, pending_are, placed}
 use Rattle.cuts.specs.histories.Cut.{IsCut}
@@ -45,19 +45,19 @@ rises-map f q (x ∷ xs) h = at (q x) (rises-map f q xs h.1)
 abbrev number : Posted → ℕ
 number x = x.number
 
-placed-number : (p : Plan) (s : Slots) (i : ℕ) (ws : List Work) → map number (placed (new_op p s) i ws) ≡ from_to i (length ws)
+placed-number : (p : Plan) (s : Slots) (i : ℕ) (ws : List RankOp) → map number (placed (new_op p s) i ws) ≡ from_to i (length ws)
 placed-number p s i [] = refl
 placed-number p s i (w ∷ ws) = ap (λ v. i ∷ v) (placed-number p s (suc i) ws)
 
-all-number : (p : Plan) (s : Slots) (r : ℕ) (ws : List Work) → map number (map (operation p s r) (filter (λ w. not (was_fired [] w)) ws)) ≡ map (number_of p r) ws
+all-number : (p : Plan) (s : Slots) (r : ℕ) (ws : List RankOp) → map number (map (operation p s r) (filter (λ w. not (was_fired [] w)) ws)) ≡ map (number_of p r) ws
 all-number p s r [] = refl
 all-number p s r (w ∷ ws) = ap (λ v. number_of p r w ∷ v) (all-number p s r ws)
 
-works-rise : (p : Plan) (s : Slots) (r : ℕ) → Rises (map (number_of p r) (works p r))
-works-rise p s r =
-    subst Rises (sym (placed-number p s 0 (works p r)) ∙ ap (map number) (pending_are p s r) ∙ all-number p s r (works p r)) (rises-from_to 0 (length (works p r)))
+rank_ops-rise : (p : Plan) (s : Slots) (r : ℕ) → Rises (map (number_of p r) (rank_ops p r))
+rank_ops-rise p s r =
+    subst Rises (sym (placed-number p s 0 (rank_ops p r)) ∙ ap (map number) (pending_are p s r) ∙ all-number p s r (rank_ops p r)) (rises-from_to 0 (length (rank_ops p r)))
 
-waiting-number : (p : Plan) (s : Slots) (r : ℕ) (ws : List Work) → map number (map (operation p s r) ws) ≡ map (number_of p r) ws
+waiting-number : (p : Plan) (s : Slots) (r : ℕ) (ws : List RankOp) → map number (map (operation p s r) ws) ≡ map (number_of p r) ws
 waiting-number p s r [] = refl
 waiting-number p s r (w ∷ ws) = ap (λ v. number_of p r w ∷ v) (waiting-number p s r ws)
 
@@ -68,5 +68,5 @@ ready_rise starts p inputs sound fit slots w cut r h =
     let g = all_seen p (moves_at p w) r in
     rises-filter (is_ready (state_at (system_of p inputs slots) w r)) (map number (state_at (system_of p inputs slots) w r).pending.waiting)
     (subst Rises
-    (sym (ap (λ (ops : Operations). map number ops.waiting) sh.pending ∙ waiting-number p (slots r) r (filter (λ v. not (was_fired g.fired v)) (works p r))))
-    (rises-map (number_of p r) (λ v. not (was_fired g.fired v)) (works p r) (works-rise p (slots r) r)))
+    (sym (ap (λ (ops : Operations). map number ops.waiting) sh.pending ∙ waiting-number p (slots r) r (filter (λ v. not (was_fired g.fired v)) (rank_ops p r))))
+    (rises-map (number_of p r) (λ v. not (was_fired g.fired v)) (rank_ops p r) (rank_ops-rise p (slots r) r)))

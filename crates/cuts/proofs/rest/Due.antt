@@ -30,8 +30,8 @@ use Rattle.cuts.proofs.machine.Ancestors.{sent_fired}
 use Rattle.cuts.proofs.machine.Reached.{Distinct-map_filter, link_along}
 use Rattle.cuts.specs.machine.Machine.{all_seen, outs, source_rank}
 use Rattle.cuts.specs.machine.Seen.{nothing_seen, sends}
-use Rattle.plan_calls.specs.Works.Work.{Along}
-use Rattle.cuts.specs.view.Deeds.{link_header}
+use Rattle.plan_calls.specs.RankOps.RankOp.{ForLink}
+use Rattle.cuts.specs.view.TriggeredOps.{link_header}
 use Rattle.cuts.specs.view.Steps.{IsAckHere}
 use Rattle.ptl_types.specs.Kinds.{is_answer}
 use Rattle.ptl_types.specs.Messages.{Sent}
@@ -104,9 +104,9 @@ module _ (starts : CombineStarts) (p : Plan) (inputs : Inputs) (sound : SoundPla
   ack_fired r s m k a =
       let l = link_to s a.of k a.came in
       let f = sent_fired p inputs (moves_at p w a.of.header.source) nothing_seen (to_came a.of) l.sent_it in
-      let f' : In (Along (number_in a.of)) (all_seen p (moves_at p w) r).fired = subst (λ v. In (Along (number_in a.of)) (all_seen p (moves_at p w) v).fired) a.from f in
+      let f' : In (ForLink (number_in a.of)) (all_seen p (moves_at p w) r).fired = subst (λ v. In (ForLink (number_in a.of)) (all_seen p (moves_at p w) v).fired) a.from f in
       subst (λ x. In (number_in x) (map link_along (filter (sends p) (all_seen p (moves_at p w) r).fired))) a.is
-      (In-map link_along (Along (number_in a.of)) (filter (sends p) (all_seen p (moves_at p w) r).fired) (In-filter (sends p) (Along (number_in a.of)) (all_seen p (moves_at p w) r).fired f' (not_from_false _ l.kind)))
+      (In-map link_along (ForLink (number_in a.of)) (filter (sends p) (all_seen p (moves_at p w) r).fired) (In-filter (sends p) (ForLink (number_in a.of)) (all_seen p (moves_at p w) r).fired f' (not_from_false _ l.kind)))
 
   ack_known : (r s : ℕ) (m : Sent) → s < p.ranks → AckOf r s m → number_in m < length p.links
   ack_known r s m k a = subst (λ x. number_in x < length p.links) a.is (link_to s a.of k a.came).known

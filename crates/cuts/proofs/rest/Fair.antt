@@ -26,7 +26,7 @@ use Rattle.cuts.specs.view.Calls.{prepare}
 use Rattle.cuts.proofs.machine.Central.{all_good, ours_nothing, outs_good}
 use Rattle.cuts.specs.machine.Machine.{outs}
 use Rattle.cuts.specs.machine.Seen.{Came, nothing_seen}
-use Rattle.cuts.specs.view.Deeds.{link_header}
+use Rattle.cuts.specs.view.TriggeredOps.{link_header}
 use Rattle.ptl_types.specs.Messages.{Sent}
 use Rattle.ptl_types.specs.declared.headers.Header.{Header}
 use Rattle.ptl_types.specs.declared.headers.Lane.{Lane}

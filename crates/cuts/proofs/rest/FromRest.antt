@@ -32,14 +32,14 @@ use Rattle.cuts.proofs.histories.RunTraffic.{has_start, run_answers_local, run_a
 use Rattle.cuts.specs.start.Waiting.{annex_of}
 use Rattle.cuts.proofs.machine.Central.{ours_nothing, ours_seen, rest_fires, rest_values, sent_along}
 use Rattle.cuts.proofs.machine.Reached.{Distinct-map_filter, Ours, fired-In}
-use Rattle.cuts.proofs.machine.Works.{Distinct-works, In-works_along}
+use Rattle.cuts.proofs.machine.RankOps.{Distinct-rank_ops, In-works_along}
 use Rattle.cuts.specs.machine.Machine.{IsMachineCut, IsMachineRest, all_seen, link_of, outs, source_rank}
 use Rattle.cuts.specs.machine.Seen.{Came, Seen, content, nothing_seen, tells, was_fired}
-use Rattle.plan_calls.specs.Works.{Work, works, done_threshold, number_of}
-use Rattle.plan_calls.specs.Works.Work.{Along}
+use Rattle.plan_calls.specs.RankOps.{RankOp, rank_ops, done_threshold, number_of}
+use Rattle.plan_calls.specs.RankOps.RankOp.{ForLink}
 use Rattle.cuts.proofs.view.Tables.{same_handle-refl}
 use Rattle.cuts.specs.view.View.{counter_of, view}
-use Rattle.cuts.specs.view.Deeds.{operation}
+use Rattle.cuts.specs.view.TriggeredOps.{operation}
 use Rattle.ptl_types.specs.Elements.{part}
 use Rattle.ptl_types.specs.Handles.{top}
 use Rattle.ptl_types.specs.Kinds.{is_answer}
@@ -107,7 +107,7 @@ module _ (starts : CombineStarts) (p : Plan) (inputs : Inputs) (sound : SoundPla
           subst (λ v. In a v) (sym (came_started (cell p (link p a.link).target).rank in_range))
           (In-map to_came (as_message p (slots r) a) (own_received Request (w (cell p (link p a.link).target).rank)) q)
 
-  all_fired : (r : ℕ) → r < p.ranks → (v : Work) → In v (works p r) → was_fired (all_seen p (moves_at p w) r).fired v ≡ true
+  all_fired : (r : ℕ) → r < p.ranks → (v : RankOp) → In v (rank_ops p r) → was_fired (all_seen p (moves_at p w) r).fired v ≡ true
   all_fired r h v i = rest_fires p inputs sound (moves_at p w) machine_rest r h v i
 
   mine : (r : ℕ) → r < p.ranks → Ours p r (all_seen p (moves_at p w) r).fired
@@ -189,7 +189,7 @@ module _ (starts : CombineStarts) (p : Plan) (inputs : Inputs) (sound : SoundPla
   all_acked rem r h l i =
       let f = In-filter_cases (λ l. not (is_bump (link p l).kind)) l (out_links p r) i in
       let b = not-true _ f.1 in
-      let fired = fired-In (all_seen p (moves_at p w) r).fired (Along l) (all_fired r h (Along l) (In-works_along p r l f.0)) in
+      let fired = fired-In (all_seen p (moves_at p w) r).fired (ForLink l) (all_fired r h (ForLink l) (In-works_along p r l f.0)) in
       elim (sent_along p inputs (moves_at p w r) nothing_seen l b fired) [
         | inl z ↦ absurd z
         | inr o ↦ back o.0 o.1 o.2
@@ -232,8 +232,8 @@ module _ (starts : CombineStarts) (p : Plan) (inputs : Inputs) (sound : SoundPla
   tells_counted : (r : ℕ) → r < p.ranks → count_by tells (all_seen p (moves_at p w) r).fired ≡ length (own p r)
   tells_counted r h =
       let m = mine r h in
-      count_same tells (all_seen p (moves_at p w) r).fired (works p r) m.once m.ours
-      (length-Within (works p r) (all_seen p (moves_at p w) r).fired (Distinct-works p r) (λ v i. fired-In (all_seen p (moves_at p w) r).fired v (all_fired r h v i)))
+      count_same tells (all_seen p (moves_at p w) r).fired (rank_ops p r) m.once m.ours
+      (length-Within (rank_ops p r) (all_seen p (moves_at p w) r).fired (Distinct-rank_ops p r) (λ v i. fired-In (all_seen p (moves_at p w) r).fired v (all_fired r h v i)))
       ∙ tells_works p r
 
   threshold_small : (r : ℕ) → done_threshold p r ≤ top
@@ -257,7 +257,7 @@ module _ (starts : CombineStarts) (p : Plan) (inputs : Inputs) (sound : SoundPla
   pub completes : (r : ℕ) → r < p.ranks → IsComplete p inputs slots w r
   completes r h = record {
     done = ap (λ (s : State). lookup (done_ct (slots r)) s.cts.live) (end_is r h) ∙ ap (λ b. cond b (Some g.done) (lookup (done_ct (slots r)) (map (counter_of p (slots r) r g) (own p r)))) (same_handle-refl (done_ct (slots r))) ∙ ap Some (done_is r h);
-    none_pending = ap (λ (s : State). s.pending.waiting) (end_is r h) ∙ ap (map (operation p (slots r) r)) (filter-none (λ v. not (was_fired g.fired v)) (works p r) (λ v i. not_from_true _ (all_fired r h v i)));
+    none_pending = ap (λ (s : State). s.pending.waiting) (end_is r h) ∙ ap (map (operation p (slots r) r)) (filter-none (λ v. not (was_fired g.fired v)) (rank_ops p r) (λ v i. not_from_true _ (all_fired r h v i)));
     no_header = ap (λ (s : State). s.headers.unexpected) (end_is r h);
     drops = ap (λ (s : State). s.drops) (end_is r h) ∙ ap (λ n. min n top) (run_strays p r (w r) [] nothing_seen (answer_clean r h) ∙ (let q : 0 + count_by is_received_stray (w r) ≡ count_by is_received_stray (w r) = omega arith in q));
     violations = ap (λ (s : State). s.violations) (end_is r h);

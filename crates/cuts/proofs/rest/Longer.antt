@@ -10,7 +10,7 @@ use Rattle.ptl_types.specs.Kinds.{is_no_ack, is_put_or_atomic}
 use Rattle.ptl_types.specs.declared.headers.Lane.TheVariants.{Answer, Request}
 use Rattle.ni_model.specs.State.{State}
 use Rattle.ni_model.specs.Arrive.{answer, reply_header}
-use Rattle.cuts.specs.view.Deeds.{kind_for}
+use Rattle.cuts.specs.view.TriggeredOps.{kind_for}
 use Rattle.cuts.specs.histories.History.Local.{Fire, Receive, Start}
 use Rattle.plan_core.proofs.Lists.{count-cons}
 use Rattle.cuts.proofs.histories.Origin.{ack_with}

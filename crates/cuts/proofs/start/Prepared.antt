@@ -13,7 +13,7 @@ use Rattle.plan_core.specs.Values.{Inputs, initial}
 use Rattle.plan_core.proofs.Links.{Distinct-from_to}
 use Rattle.plan_core.proofs.Lists.{Distinct-filter, length-map'}
 use Rattle.cuts.specs.machine.Seen.{nothing_seen}
-use Rattle.plan_calls.specs.Works.{works}
+use Rattle.plan_calls.specs.RankOps.{rank_ops}
 use Rattle.cuts.specs.view.Slots.{Slots, done_ct}
 use Rattle.plan_calls.specs.Bits.{bits_above}
 use Rattle.cuts.specs.view.Calls.{area_entry, call_made, calls_made, fresh, prepare, whole_region}
@@ -78,10 +78,10 @@ module _ (p : Plan) (inputs : Inputs) (s : Slots) (r : ℕ) (senders : ℕ → S
       let es : placed new_area 0 (classes p r) ≡ map (area_linked p s r []) (classes p r) = placed-own new_area (classes p r) Distinct-classes in
       let n1 : 1 + length (own p r) ≡ suc (length (own p r)) = omega arith in
       let n2 : 0 + length (classes p r) ≡ length (map (area_linked p s r []) (classes p r)) = omega (arith, size) in
-      let n3 : 0 + length (works p r) ≡ length (works p r) = omega arith in
-      calls-append s (own p r) (map (area_call p r) (classes p r)) (CtDone ∷ (map CtCell (own p r) ++ (bind p r ∷ map (trigger p) (works p r)))) (with_areas [] 0)
-      ∙ ap (calls_made s (own p r) (CtDone ∷ (map CtCell (own p r) ++ (bind p r ∷ map (trigger p) (works p r))))) (areas_are (classes p r) [] 0)
-      ∙ calls-append s (own p r) (map CtCell (own p r)) (bind p r ∷ map (trigger p) (works p r)) (with_counter (s.ct 0) (with_areas (placed new_area 0 (classes p r)) (0 + length (classes p r))))
-      ∙ ap (calls_made s (own p r) (bind p r ∷ map (trigger p) (works p r))) (after_counters s (own p r) (own p r) (with_counter (s.ct 0) (with_areas (placed new_area 0 (classes p r)) (0 + length (classes p r)))))
-      ∙ after_operations p s (own p r) (works p r) (named p n sound s r) _
+      let n3 : 0 + length (rank_ops p r) ≡ length (rank_ops p r) = omega arith in
+      calls-append s (own p r) (map (area_call p r) (classes p r)) (CtDone ∷ (map CtCell (own p r) ++ (bind p r ∷ map (trigger p) (rank_ops p r)))) (with_areas [] 0)
+      ∙ ap (calls_made s (own p r) (CtDone ∷ (map CtCell (own p r) ++ (bind p r ∷ map (trigger p) (rank_ops p r))))) (areas_are (classes p r) [] 0)
+      ∙ calls-append s (own p r) (map CtCell (own p r)) (bind p r ∷ map (trigger p) (rank_ops p r)) (with_counter (s.ct 0) (with_areas (placed new_area 0 (classes p r)) (0 + length (classes p r))))
+      ∙ ap (calls_made s (own p r) (bind p r ∷ map (trigger p) (rank_ops p r))) (after_counters s (own p r) (own p r) (with_counter (s.ct 0) (with_areas (placed new_area 0 (classes p r)) (0 + length (classes p r)))))
+      ∙ after_operations p s (own p r) (rank_ops p r) (named p n sound s r) _
       ∙ (λ d. made (m d) (cts_are p s r d) (es d) (pending_are p s r d) (n1 d) (n2 d) (n3 d) (sym size d))

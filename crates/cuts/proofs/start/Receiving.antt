@@ -35,7 +35,7 @@ use Rattle.cuts.specs.machine.Seen.{Came, Seen, content}
 use Rattle.cuts.proofs.view.MatchBits.{top_bits, top_match-from, top_match-true}
 use Rattle.cuts.proofs.view.Tables.{find-one, place_in-one, same_handle-refl}
 use Rattle.cuts.specs.view.Slots.{Slots}
-use Rattle.cuts.specs.view.Deeds.{ack_of, kind_for, link_header, link_message}
+use Rattle.cuts.specs.view.TriggeredOps.{ack_of, kind_for, link_header, link_message}
 use Rattle.plan_calls.specs.Bits.{bits_above, class_of}
 use Rattle.cuts.specs.view.View.{view}
 use Rattle.cuts.specs.view.Steps.{IsLinkHere, Sized}

@@ -51,7 +51,7 @@ use Rattle.cuts.specs.machine.Seen.{Came, Seen, bumps, content, reached_count, t
 use Rattle.cuts.proofs.view.MatchBits.{bits_match-from, bits_match-true, high-of}
 use Rattle.cuts.proofs.view.StepArrive.{Lands-here, above-one, atomic-whole, came-counted, cell_bits-lt, content-push, entry-high}
 use Rattle.plan_calls.specs.Bits.{cell_bits}
-use Rattle.cuts.specs.view.Deeds.{kind_for, link_header}
+use Rattle.cuts.specs.view.TriggeredOps.{kind_for, link_header}
 use Rattle.cuts.specs.view.Steps.{IsLinkHere, Sized}
 use Rattle.ptl_types.specs.Elements.{combined, part, written}
 use Rattle.ptl_types.specs.Matching.{bits_match}

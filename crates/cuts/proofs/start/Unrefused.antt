@@ -2,8 +2,8 @@
 use Rattle.std.proofs.Common.{ℕ, suc, Bool, true, false, not, ◌&&◌, ◌||◌, ◌+◌, ◌-◌, ◌*◌, ◌^◌, ◌≡◌, ◌≤◌, ◌<◌, ◌==◌, nat_le, List, [], ◌∷◌, ◌++◌, refl, length, ap, ap₂, ◌∙◌, sym, subst, inl, inr, arith, map, Option, Some, None, zero-add, if◌then◌else◌, flat_map, le-leb, is_some, sum_by, length-append, append-nil, append_assoc, ◌%◌}
 use Rattle.std.proofs.lemmas.List.Sums.{sum_by-cons, length-filter, count_by-le-length}
 use Rattle.ptl_types.specs.declared.elements.AtomicOp.{AtomicOp}
-use Rattle.ptl_types.specs.declared.calls.Deed.{Deed}
-use Rattle.ptl_types.specs.declared.calls.Deed.TheVariants.{Inc}
+use Rattle.ptl_types.specs.declared.calls.TriggeredOp.{TriggeredOp}
+use Rattle.ptl_types.specs.declared.calls.TriggeredOp.TheVariants.{Inc}
 use Rattle.ptl_types.specs.declared.calls.NiFault.TheVariants.{Stale, NoSpace, OutOfRegion, CountFull}
 use Rattle.ptl_types.specs.declared.handles.Count.{Count}
 use Rattle.ni_model.specs.declared.Linked.{Linked}
@@ -25,14 +25,14 @@ use Rattle.plan_core.proofs.Links.{own-In, In-own, out_links-In}
 use Rattle.plan_core.proofs.Lists.{In-append_left}
 use Rattle.plan_core.proofs.Values.{length-initial}
 use Rattle.plan_core.proofs.Flat.{within_flat}
-use Rattle.plan_calls.specs.Works.{Work, works, cell_of}
+use Rattle.plan_calls.specs.RankOps.{RankOp, rank_ops, cell_of}
 use Rattle.cuts.specs.machine.Seen.{nothing_seen}
-use Rattle.plan_calls.specs.Works.Work.{Along, Tell}
-use Rattle.cuts.proofs.machine.Works.{works-along}
+use Rattle.plan_calls.specs.RankOps.RankOp.{ForLink, ForDone}
+use Rattle.cuts.proofs.machine.RankOps.{rank_ops-along}
 use Rattle.cuts.specs.view.Slots.{Slots, cell_ct, done_ct, the_md}
 use Rattle.plan_calls.specs.Bits.{bits_above}
 use Rattle.cuts.specs.view.View.{counter_of, Annex}
-use Rattle.cuts.specs.view.Deeds.{deed_of, send_deed, send_args}
+use Rattle.cuts.specs.view.TriggeredOps.{deed_of, send_deed, send_args}
 use Rattle.plan_calls.specs.Areas.{region_length, area_length, area_start, areas_length, blank_area, blank_areas, classes, has_class, links_to, longest}
 use Rattle.cuts.specs.view.Calls.{AllPass, MayMake, area_entry, call_fault, call_made, calls_made, deed_at, fresh}
 use Rattle.cuts.proofs.view.Installed.{named, calls-append, placed, new_ct, new_op, cts_with, operations_with, after_counters, after_operations, cts_are}
@@ -87,14 +87,14 @@ In-split : {X : Type 0} (front : List X) (x : X) (back : List X) → In x (front
 In-split [] x back = inl refl
 In-split (y ∷ front) x back = inr (In-split front x back)
 
-pub length-works : (p : Plan) (r : ℕ) → length (works p r) ≡ length (out_links p r) + length (own p r)
-length-works p r = sum (out_links p r)
+pub length-rank_ops : (p : Plan) (r : ℕ) → length (rank_ops p r) ≡ length (out_links p r) + length (own p r)
+length-rank_ops p r = sum (out_links p r)
   where
-    mapped : (cs : List ℕ) → length (map Tell cs) ≡ length cs
+    mapped : (cs : List ℕ) → length (map ForDone cs) ≡ length cs
     mapped [] = refl
     mapped (c ∷ cs) = ap suc (mapped cs)
 
-    sum : (ls : List ℕ) → length (map Along ls ++ map Tell (own p r)) ≡ length ls + length (own p r)
+    sum : (ls : List ℕ) → length (map ForLink ls ++ map ForDone (own p r)) ≡ length ls + length (own p r)
     sum [] = mapped (own p r) ∙ sym (zero-add (length (own p r)))
     sum (l ∷ ls) = let q = sum ls in omega arith
 
@@ -112,7 +112,7 @@ abbrev counted_for : Plan → Inputs → Slots → ℕ → List ℕ → State
 counted_for p inputs k r front = calls_made k (own p r) (map CtCell front) (with_counter (k.ct 0) (entered_for p inputs k r (classes p r)))
 
 -- then the whole region as a descriptor, and these operations
-abbrev triggered_for : Plan → Inputs → Slots → ℕ → List Work → State
+abbrev triggered_for : Plan → Inputs → Slots → ℕ → List RankOp → State
 triggered_for p inputs k r front = calls_made k (own p r) (map (trigger p) front) (with_bound k.md (whole p k r) (counted_for p inputs k r (own p r)))
 
 module _ (p : Plan) (inputs : Inputs) (sound : SoundPlan p (length inputs)) (fit : AreInputsOf p inputs) (k : Slots) (r : ℕ) where
@@ -216,7 +216,7 @@ module _ (p : Plan) (inputs : Inputs) (sound : SoundPlan p (length inputs)) (fit
       live_ct false = refl
 
   -- ---- the operations
-  triggered_is : (front : List Work) → ((w : Work) → In w front → In w (works p r)) → triggered_for p inputs k r front ≡ operations_with based (placed (new_op p k) 0 front) (0 + length front)
+  triggered_is : (front : List RankOp) → ((w : RankOp) → In w front → In w (rank_ops p r)) → triggered_for p inputs k r front ≡ operations_with based (placed (new_op p k) 0 front) (0 + length front)
   triggered_is front sub =
       ap (λ s. calls_made k (own p r) (map (trigger p) front) (with_bound k.md (whole p k r) s)) counted_is
       ∙ after_operations p k (own p r) front (λ w i. named p (length inputs) sound k r w (sub w i)) based
@@ -238,7 +238,7 @@ module _ (p : Plan) (inputs : Inputs) (sound : SoundPlan p (length inputs)) (fit
       ∙ part_fits (link p l).source (link p l).source_offset (link p l).length (In-own p r (link p l).source (omega arith) q.1) w.within_source
 
   -- what a deed of this rank needs
-  record MayPost (w : Work) : Type 0 where
+  record MayPost (w : RankOp) : Type 0 where
     live : (counts_on_live (deed_of p k w) based.cts && deed_is_live (deed_of p k w) based.mds) ≡ true
     fits : deed_fits (deed_of p k w) based.mds ≡ true
     small : not (deed_passes (deed_of p k w)) ≡ true
@@ -247,16 +247,16 @@ module _ (p : Plan) (inputs : Inputs) (sound : SoundPlan p (length inputs)) (fit
   may_send l i None = (live_md, send_fits l i, refl)
   may_send l i (Some o) = (live_md, send_fits l i, refl)
 
-  may_post : (w : Work) → In w (works p r) → MayPost w
-  may_post (Tell c) i = record { live = ap (λ b. b && true) live_done; fits = refl; small = refl }
-  may_post (Along l) i = at (is_bump (link p l).kind) refl
+  may_post : (w : RankOp) → In w (rank_ops p r) → MayPost w
+  may_post (ForDone c) i = record { live = ap (λ b. b && true) live_done; fits = refl; small = refl }
+  may_post (ForLink l) i = at (is_bump (link p l).kind) refl
     where
-      along : Bool → Deed
+      along : Bool → TriggeredOp
       along b = if b then Inc (cell_ct p k (link p l).target) (successes 1) else send_deed p k l (cell p (link p l).target).op
 
-      at : (b : Bool) → is_bump (link p l).kind ≡ b → MayPost (Along l)
+      at : (b : Bool) → is_bump (link p l).kind ≡ b → MayPost (ForLink l)
       at true e =
-          let q = out_links-In p r l (works-along p r l i) in
+          let q = out_links-In p r l (rank_ops-along p r l i) in
           let s = sound.links_sound l q.0 in
           let t : In (link p l).target (own p r) = In-own p r (link p l).target s.cells (sym (s.bump_stays (bump_kind (link p l).kind e)) ∙ q.1) in
           record {
@@ -270,20 +270,20 @@ module _ (p : Plan) (inputs : Inputs) (sound : SoundPlan p (length inputs)) (fit
           bump_kind Put e = cc
           bump_kind Atomic e = cc
       at false e =
-          let m = may_send l (works-along p r l i) (cell p (link p l).target).op in
+          let m = may_send l (rank_ops-along p r l i) (cell p (link p l).target).op in
           record {
             live = ap (λ b. counts_on_live (along b) based.cts && deed_is_live (along b) based.mds) e ∙ m.0;
             fits = ap (λ b. deed_fits (along b) based.mds) e ∙ m.1;
             small = ap (λ b. not (deed_passes (along b))) e ∙ m.2;
           }
 
-  pub operation_made : (front : List Work) (w : Work) (back : List Work) → works p r ≡ front ++ w ∷ back
+  pub operation_made : (front : List RankOp) (w : RankOp) (back : List RankOp) → rank_ops p r ≡ front ++ w ∷ back
       → triggered_fault (deed_of p k w) (cell_ct p k (cell_of p w)) (triggered_for p inputs k r front).cts (triggered_for p inputs k r front).mds (triggered_for p inputs k r front).pending ≡ None
   operation_made front w back e =
-      let i : In w (works p r) = subst (λ v. In w v) (sym e) (In-split front w back) in
+      let i : In w (rank_ops p r) = subst (λ v. In w v) (sym e) (In-split front w back) in
       let may = may_post w i in
-      let less : length front < length (works p r) = subst (λ v. length front < length v) (sym e) (length-split front w back) in
-      let size = length-works p r in
+      let less : length front < length (rank_ops p r) = subst (λ v. length front < length v) (sym e) (length-split front w back) in
+      let size = length-rank_ops p r in
       let a = few_own p r in
       let b = few_out p r in
       let few = sound.few_together in
@@ -314,13 +314,13 @@ module _ (p : Plan) (inputs : Inputs) (sound : SoundPlan p (length inputs)) (fit
         record { whole = ap (λ n. n % bytes_of (cell p (link p l).target).ty) same ∙ sound.whole (link p l).target s.cells; few = omega arith },
       )
 
-  may-make : (w : Work) → In w (works p r) → MayStart (deed_of p k w) p.ranks (limits_for p r)
-  may-make (Tell c) i = tt
-  may-make (Along l) i = at (is_bump (link p l).kind)
+  may-make : (w : RankOp) → In w (rank_ops p r) → MayStart (deed_of p k w) p.ranks (limits_for p r)
+  may-make (ForDone c) i = tt
+  may-make (ForLink l) i = at (is_bump (link p l).kind)
     where
       at : (b : Bool) → MayStart (if b then Inc (cell_ct p k (link p l).target) (successes 1) else send_deed p k l (cell p (link p l).target).op) p.ranks (limits_for p r)
       at true = tt
-      at false = may-start l (works-along p r l i) (cell p (link p l).target).op refl
+      at false = may-start l (rank_ops-along p r l i) (cell p (link p l).target).op refl
 
   -- ---- all calls, one after the other
 
@@ -337,17 +337,17 @@ module _ (p : Plan) (inputs : Inputs) (sound : SoundPlan p (length inputs)) (fit
       (one.0, one.1, subst (λ v. AllPass k (own p r) (map f back ++ ys) v) (ap (λ xs. calls_made k (own p r) xs s) (map-append f front (x ∷ [])) ∙ calls-append k (own p r) (map f front) (f x ∷ []) s) more)
 
   abbrev operations : List Call
-  operations = map (trigger p) (works p r)
+  operations = map (trigger p) (rank_ops p r)
 
   pass_operations : AllPass k (own p r) operations (with_bound k.md (whole p k r) (counted_for p inputs k r (own p r)))
   pass_operations =
       subst (λ xs. AllPass k (own p r) xs (with_bound k.md (whole p k r) (counted_for p inputs k r (own p r)))) (append-nil operations)
-      (pass-list (trigger p) (with_bound k.md (whole p k r) (counted_for p inputs k r (own p r))) [] (works p r) [] each tt)
+      (pass-list (trigger p) (with_bound k.md (whole p k r) (counted_for p inputs k r (own p r))) [] (rank_ops p r) [] each tt)
     where
-      each : (before : List Work) (w : Work) (after : List Work) → works p r ≡ before ++ w ∷ after
+      each : (before : List RankOp) (w : RankOp) (after : List RankOp) → rank_ops p r ≡ before ++ w ∷ after
           → MayMake k (own p r) (trigger p w) (triggered_for p inputs k r before) × (call_fault k (own p r) (trigger p w) (triggered_for p inputs k r before) ≡ None)
       each before w after e =
-          let i : In w (works p r) = subst (λ v. In w v) (sym e) (In-split before w after) in
+          let i : In w (rank_ops p r) = subst (λ v. In w v) (sym e) (In-split before w after) in
           let n = named p (length inputs) sound k r w i in
           let is = triggered_is before (λ v j. subst (λ vs. In v vs) (sym e) (In-append_left v before (w ∷ after) j)) in (
             subst (λ (v : State). MayStart (deed_at k (own p r) (act_of p w)) v.ranks v.limits) (sym is) (subst (λ d. MayStart d p.ranks (limits_for p r)) (sym n.deed) (may-make w i)),

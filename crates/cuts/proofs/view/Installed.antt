@@ -11,26 +11,26 @@ use Rattle.ni_model.specs.Counts.{successes}
 use Rattle.plan_core.specs.Plan.{Plan, cell, out_links, own}
 use Rattle.cuts.specs.view.Slots.{Slots, cell_ct}
 use Rattle.cuts.specs.view.View.{counter_of}
-use Rattle.cuts.specs.view.Deeds.{deed_of, operation}
-use Rattle.plan_calls.specs.Works.{Work, cell_of, works}
+use Rattle.cuts.specs.view.TriggeredOps.{deed_of, operation}
+use Rattle.plan_calls.specs.RankOps.{RankOp, cell_of, rank_ops}
 use Rattle.cuts.specs.machine.Seen.{nothing_seen, reached_count, was_fired}
 use Rattle.plan_core.specs.Places.{place_in}
-use Rattle.plan_calls.specs.Works.Work.{Along, Tell}
+use Rattle.plan_calls.specs.RankOps.RankOp.{ForLink, ForDone}
 use Rattle.cuts.specs.view.Calls.{call_made, calls_made, deed_at, sending_deed}
 use Rattle.plan_calls.specs.Calls.{act_of, trigger}
 use Rattle.ptl_types.specs.declared.steps.Call.{Call}
 use Rattle.ptl_types.specs.declared.steps.Call.TheVariants.{CtCell}
 use Rattle.ptl_types.specs.declared.elements.AtomicOp.{AtomicOp}
-use Rattle.ptl_types.specs.declared.calls.Deed.TheVariants.{Inc}
+use Rattle.ptl_types.specs.declared.calls.TriggeredOp.TheVariants.{Inc}
 use Rattle.plan_core.specs.declared.LinkKind.{LinkKind}
 use Rattle.plan_core.specs.declared.LinkKind.TheVariants.{Put, Atomic, Bump}
 use Rattle.plan_core.specs.Sound.{SoundPlan}
 use Rattle.plan_core.specs.Plan.{is_bump, link}
 use Rattle.plan_core.proofs.Links.{In-own, out_links-In}
-use Rattle.cuts.proofs.machine.Works.{works-along}
+use Rattle.cuts.proofs.machine.RankOps.{rank_ops-along}
 use Rattle.cuts.proofs.view.StepFire.{cell_of-own}
 use Rattle.cuts.specs.view.Slots.{counter_at}
-use Rattle.cuts.specs.view.Deeds.{send_args, send_deed}
+use Rattle.cuts.specs.view.TriggeredOps.{send_args, send_deed}
 use Rattle.std.proofs.Common.{Option}
 use Rattle.ni_model.specs.Calls.{with_counter, with_operation}
 use Rattle.std.proofs.Math.Numerals.{add-one}
@@ -86,7 +86,7 @@ map-same f g (x ∷ xs) h = ap₂ (λ a b. a ∷ b) (h x (inl refl)) (map-same f
 abbrev pub new_ct : Slots → ℕ → ℕ → Live Count
 new_ct k i c = record { handle = handle (k.ct i) i; value = successes 0 }
 
-abbrev pub new_op : Plan → Slots → ℕ → Work → Posted
+abbrev pub new_op : Plan → Slots → ℕ → RankOp → Posted
 new_op p k i w = record { number = i; deed = deed_of p k w; ct = cell_ct p k (cell_of p w); threshold = (cell p (cell_of p w)).needs }
 
 pub sum_step : (i n : ℕ) → i + 1 + n ≡ i + suc n
@@ -115,11 +115,11 @@ abbrev pub operations_with : State → List Posted → ℕ → State
 operations_with s xs n = record s { pending = record s.pending { waiting = xs; given = n } }
 
 -- among these cells an operation's counter and what it does are those of the plan
-pub record IsNamed (p : Plan) (k : Slots) (cells : List ℕ) (w : Work) : Type 0 where
+pub record IsNamed (p : Plan) (k : Slots) (cells : List ℕ) (w : RankOp) : Type 0 where
   pub ct : counter_at k cells (cell_of p w) ≡ cell_ct p k (cell_of p w)
   pub deed : deed_at k cells (act_of p w) ≡ deed_of p k w
 
-pub after_operations : (p : Plan) (k : Slots) (cells : List ℕ) (ws : List Work) → ((w : Work) → In w ws → IsNamed p k cells w) → (s : State)
+pub after_operations : (p : Plan) (k : Slots) (cells : List ℕ) (ws : List RankOp) → ((w : RankOp) → In w ws → IsNamed p k cells w) → (s : State)
     → calls_made k cells (map (trigger p) ws) s ≡ operations_with s (s.pending.waiting ++ placed (new_op p k) s.pending.given ws) (s.pending.given + length ws)
 unfolding call_made
 after_operations p k cells [] named s = ap₂ (operations_with s) (sym (append-nil s.pending.waiting)) (sym (add-zero s.pending.given))
@@ -130,7 +130,7 @@ after_operations p k cells (w ∷ ws) named s =
     ∙ ap₂ (operations_with s) (placed_step (new_op p k) s.pending.waiting s.pending.given w ws) (sum_step s.pending.given (length ws))
 
 -- so are those of a rank of a sound plan
-pub named : (p : Plan) (n : ℕ) → SoundPlan p n → (k : Slots) (r : ℕ) (w : Work) → In w (works p r) → IsNamed p k (own p r) w
+pub named : (p : Plan) (n : ℕ) → SoundPlan p n → (k : Slots) (r : ℕ) (w : RankOp) → In w (rank_ops p r) → IsNamed p k (own p r) w
 named p n sound k r w i = record { ct = counter-is (cell_of p w) (cell_of-own p n sound r w i); deed = deed-is w i }
   where
     counter-is : (c : ℕ) → In c (own p r) → counter_at k (own p r) c ≡ cell_ct p k c
@@ -145,17 +145,17 @@ named p n sound k r w i = record { ct = counter-is (cell_of p w) (cell_of-own p 
     bump_kind Put e = cc
     bump_kind Atomic e = cc
 
-    along : (l : ℕ) → In (Along l) (works p r) → (b : Bool) → is_bump (link p l).kind ≡ b → deed_at k (own p r) (act_of p (Along l)) ≡ deed_of p k (Along l)
+    along : (l : ℕ) → In (ForLink l) (rank_ops p r) → (b : Bool) → is_bump (link p l).kind ≡ b → deed_at k (own p r) (act_of p (ForLink l)) ≡ deed_of p k (ForLink l)
     along l i true e =
-        let q = out_links-In p r l (works-along p r l i) in
+        let q = out_links-In p r l (rank_ops-along p r l i) in
         let s = sound.links_sound l q.0 in
         let t : In (link p l).target (own p r) = In-own p r (link p l).target s.cells (sym (s.bump_stays (bump_kind (link p l).kind e)) ∙ q.1) in
         rw e (ap (λ h. Inc h (successes 1)) (counter-is (link p l).target t))
     along l i false e = rw e (send-is l (cell p (link p l).target).op)
 
-    deed-is : (w : Work) → In w (works p r) → deed_at k (own p r) (act_of p w) ≡ deed_of p k w
-    deed-is (Tell c) i = refl
-    deed-is (Along l) i = along l i (is_bump (link p l).kind) refl
+    deed-is : (w : RankOp) → In w (rank_ops p r) → deed_at k (own p r) (act_of p w) ≡ deed_of p k w
+    deed-is (ForDone c) i = refl
+    deed-is (ForLink l) i = along l i (is_bump (link p l).kind) refl
 
 -- ---- the lists of the closed form
 pub cts_are : (p : Plan) (k : Slots) (r : ℕ) → placed (new_ct k) 1 (own p r) ≡ map (counter_of p k r nothing_seen) (own p r)
@@ -175,28 +175,28 @@ cts_are p k r =
         ap₂ (λ n v. record { handle = handle (k.ct n) n; value = v })
         (let q : 1 + place_in (own p r) c ≡ suc (place_in (own p r) c) = omega arith in q ∙ ap (λ v. suc (place_in (own p v) c)) (sym e)) (zero_count c)
 
-all_pending : (ws : List Work) → filter (λ w. not (was_fired [] w)) ws ≡ ws
+all_pending : (ws : List RankOp) → filter (λ w. not (was_fired [] w)) ws ≡ ws
 all_pending [] = refl
 all_pending (w ∷ ws) = ap (λ v. w ∷ v) (all_pending ws)
 
-pub pending_are : (p : Plan) (k : Slots) (r : ℕ) → placed (new_op p k) 0 (works p r) ≡ map (operation p k r) (filter (λ w. not (was_fired [] w)) (works p r))
+pub pending_are : (p : Plan) (k : Slots) (r : ℕ) → placed (new_op p k) 0 (rank_ops p r) ≡ map (operation p k r) (filter (λ w. not (was_fired [] w)) (rank_ops p r))
 pending_are p k r =
-    placed-append (new_op p k) 0 (map Along (out_links p r)) (map Tell (own p r))
+    placed-append (new_op p k) 0 (map ForLink (out_links p r)) (map ForDone (own p r))
     ∙ ap₂ (λ a b. a ++ b) along tell
-    ∙ sym (map-append (operation p k r) (map Along (out_links p r)) (map Tell (own p r)))
-    ∙ ap (map (operation p k r)) (sym (all_pending (works p r)))
+    ∙ sym (map-append (operation p k r) (map ForLink (out_links p r)) (map ForDone (own p r)))
+    ∙ ap (map (operation p k r)) (sym (all_pending (rank_ops p r)))
   where
     fuse : {X Y Z : Type 0} (f : Y → Z) (g : X → Y) (xs : List X) → map (λ x. f (g x)) xs ≡ map f (map g xs)
     fuse f g [] = refl
     fuse f g (x ∷ xs) = ap (λ v. f (g x) ∷ v) (fuse f g xs)
 
-    along : placed (new_op p k) 0 (map Along (out_links p r)) ≡ map (operation p k r) (map Along (out_links p r))
-    along = placed-map (new_op p k) Along 0 (out_links p r) ∙ placed-own (λ j l. new_op p k j (Along l)) (out_links p r) (Distinct-out_links p r) ∙ fuse (operation p k r) Along (out_links p r)
+    along : placed (new_op p k) 0 (map ForLink (out_links p r)) ≡ map (operation p k r) (map ForLink (out_links p r))
+    along = placed-map (new_op p k) ForLink 0 (out_links p r) ∙ placed-own (λ j l. new_op p k j (ForLink l)) (out_links p r) (Distinct-out_links p r) ∙ fuse (operation p k r) ForLink (out_links p r)
 
-    tell : placed (new_op p k) (0 + length (map Along (out_links p r))) (map Tell (own p r)) ≡ map (operation p k r) (map Tell (own p r))
+    tell : placed (new_op p k) (0 + length (map ForLink (out_links p r))) (map ForDone (own p r)) ≡ map (operation p k r) (map ForDone (own p r))
     tell =
-        ap (λ n. placed (new_op p k) n (map Tell (own p r))) (let l = length-map' Along (out_links p r) in let q : 0 + length (map Along (out_links p r)) ≡ length (out_links p r) + 0 = omega (arith, l) in q)
-        ∙ placed-map (new_op p k) Tell (length (out_links p r) + 0) (own p r)
-        ∙ placed-shift (λ j c. new_op p k j (Tell c)) (length (out_links p r)) 0 (own p r)
-        ∙ placed-own (λ j c. new_op p k (length (out_links p r) + j) (Tell c)) (own p r) (Distinct-own p r)
-        ∙ fuse (operation p k r) Tell (own p r)
+        ap (λ n. placed (new_op p k) n (map ForDone (own p r))) (let l = length-map' ForLink (out_links p r) in let q : 0 + length (map ForLink (out_links p r)) ≡ length (out_links p r) + 0 = omega (arith, l) in q)
+        ∙ placed-map (new_op p k) ForDone (length (out_links p r) + 0) (own p r)
+        ∙ placed-shift (λ j c. new_op p k j (ForDone c)) (length (out_links p r)) 0 (own p r)
+        ∙ placed-own (λ j c. new_op p k (length (out_links p r) + j) (ForDone c)) (own p r) (Distinct-own p r)
+        ∙ fuse (operation p k r) ForDone (own p r)

@@ -8,7 +8,7 @@ use Rattle.ptl_types.specs.declared.elements.AtomicOp.{AtomicOp}
 use Rattle.ptl_types.specs.Handles.{same_handle, top, one_more}
 use Rattle.ptl_types.specs.Kinds.{is_no_ack}
 use Rattle.ptl_types.specs.declared.headers.AckRequest.TheVariants.{CtAck, NoAck}
-use Rattle.ptl_types.specs.declared.calls.Deed.TheVariants.{Inc as IncDeed}
+use Rattle.ptl_types.specs.declared.calls.TriggeredOp.TheVariants.{Inc as IncDeed}
 use Rattle.plan_core.specs.Members.{In}
 use Rattle.ptl_types.specs.Elements.{part}
 use Rattle.ni_model.specs.State.{Posted, State}
@@ -27,17 +27,17 @@ use Rattle.plan_core.specs.Sound.{SoundPlan}
 use Rattle.plan_core.specs.Values.{Inputs, initial}
 use Rattle.cuts.specs.view.View.{Annex, counter_of, view, raise_go, md_of, mds_of}
 use Rattle.cuts.specs.view.Slots.{Slots, cell_ct, done_ct, the_md}
-use Rattle.cuts.specs.view.Deeds.{deed_of, kind_for, link_message, operation, send_args, send_deed, type_for}
-use Rattle.plan_calls.specs.Works.{number_of, Work, cell_of, works}
+use Rattle.cuts.specs.view.TriggeredOps.{deed_of, kind_for, link_message, operation, send_args, send_deed, type_for}
+use Rattle.plan_calls.specs.RankOps.{number_of, RankOp, cell_of, rank_ops}
 use Rattle.cuts.specs.view.Steps.{sent_message, Sized}
 use Rattle.cuts.specs.machine.Seen.{Seen, bumps, content, is_same_work, reached_count, to_cell, was_fired}
 use Rattle.plan_core.specs.Places.{cell_length, place_in, start_in}
-use Rattle.plan_calls.specs.Works.Work.{Along, Tell}
+use Rattle.plan_calls.specs.RankOps.RankOp.{ForLink, ForDone}
 use Rattle.cuts.specs.machine.Machine.{note, note_work, sending}
 use Rattle.cuts.specs.machine.Machine.Move.{Began}
 use Rattle.plan_core.proofs.Lists.{In-filter_cases, In-map_cases, count-cons}
 use Rattle.plan_core.proofs.Links.{In-own, out_links-In, own-In}
-use Rattle.cuts.proofs.machine.Works.{works-along, works-tell}
+use Rattle.cuts.proofs.machine.RankOps.{rank_ops-along, rank_ops-tell}
 use Rattle.cuts.proofs.machine.Reached.{same_work, same_work-refl}
 use Rattle.plan_core.proofs.Flat.{part_flat}
 use Rattle.cuts.proofs.view.Tables.{cell_rises, cells_same, done_change, find-In, lookup_cell, number_of-one, same_handle-refl}
@@ -57,14 +57,14 @@ other_count g x true e = cc
 other_count g x false e = refl
 
 -- ---- a ready operation
-pub cell_of-own : (p : Plan) (inputs : ℕ) → SoundPlan p inputs → (r : ℕ) (w : Work) → In w (works p r) → In (cell_of p w) (own p r)
-cell_of-own p inputs sound r (Along l) h =
-    let k = out_links-In p r l (works-along p r l h) in
+pub cell_of-own : (p : Plan) (inputs : ℕ) → SoundPlan p inputs → (r : ℕ) (w : RankOp) → In w (rank_ops p r) → In (cell_of p w) (own p r)
+cell_of-own p inputs sound r (ForLink l) h =
+    let k = out_links-In p r l (rank_ops-along p r l h) in
     let s = sound.links_sound l k.0 in
     let up = s.rising in
     let top = s.cells in
     In-own p r (link p l).source (omega arith) k.1
-cell_of-own p inputs sound r (Tell c) h = works-tell p r c h
+cell_of-own p inputs sound r (ForDone c) h = rank_ops-tell p r c h
 
 threshold_met : (n m : ℕ) (o : Option Count) → o ≡ Some (successes (min m top)) → is_reached o n ≡ true → n ≤ m
 threshold_met n m o e h =
@@ -73,7 +73,7 @@ threshold_met n m o e h =
     omega arith
 
 -- ---- what is left pending
-left_pending : (p : Plan) (s : Slots) (r : ℕ) (fired : List Work) (w : Work) → In w (works p r) → (vs : List Work) → ((v : Work) → In v vs → In v (works p r))
+left_pending : (p : Plan) (s : Slots) (r : ℕ) (fired : List RankOp) (w : RankOp) → In w (rank_ops p r) → (vs : List RankOp) → ((v : RankOp) → In v vs → In v (rank_ops p r))
     → filter (λ q. not (is_number (number_of p r w) q)) (map (operation p s r) (filter (λ v. not (was_fired fired v)) vs)) ≡ map (operation p s r) (filter (λ v. not (was_fired (w ∷ fired) v)) vs)
 left_pending p s r fired w h [] sub = refl
 left_pending p s r fired w h (v ∷ vs) sub = at (was_fired fired v) (is_same_work w v) refl (left_pending p s r fired w h vs (λ u i. sub u (inr i)))
@@ -108,7 +108,7 @@ count_more_head : {X : Type 0} (t : X → Bool) (x : X) (xs : List X) → t x �
 count_more_head t x xs e = count-cons t x xs ∙ ap (λ b. cond b 1 0 + count_by t xs) e ∙ (let y : 1 + count_by t xs ≡ suc (count_by t xs) = omega arith in y)
 
 -- the counts of the cells, where the operation bumps none
-counts_stay : (p : Plan) (r : ℕ) (g k : Seen) (w : Work) → k.started ≡ g.started → k.came ≡ g.came → k.fired ≡ w ∷ g.fired → ((d : ℕ) → bumps p d w ≡ false) → (d : ℕ) → reached_count p k r d ≡ reached_count p g r d
+counts_stay : (p : Plan) (r : ℕ) (g k : Seen) (w : RankOp) → k.started ≡ g.started → k.came ≡ g.came → k.fired ≡ w ∷ g.fired → ((d : ℕ) → bumps p d w ≡ false) → (d : ℕ) → reached_count p k r d ≡ reached_count p g r d
 counts_stay p r g k w es ec ef idle d =
     ap₂ (λ x y. cond ((d == r) && x) 1 0 + y) es (ap₂ (λ x y. x + y) (ap (count_by (to_cell p d)) ec) (ap (count_by (bumps p d)) ef ∙ count_same_head (bumps p d) w g.fired (idle d)))
 
@@ -137,22 +137,22 @@ module _ (annex : Annex) where
       ap (λ b. cond b (Some g.done) (lookup (cell_ct p s c) (map (counter_of p s r g) (own p r)))) (done_first p s c)
       ∙ lookup_cell p s r (λ d. successes (min (reached_count p g r d) top)) c h (own p r) (λ d i. i) h
 
-  pub record IsReady (p : Plan) (inputs : Inputs) (s : Slots) (r : ℕ) (g : Seen) (t : ℕ) (w : Work) : Type 0 where
-    pub ours : In w (works p r)
+  pub record IsReady (p : Plan) (inputs : Inputs) (s : Slots) (r : ℕ) (g : Seen) (t : ℕ) (w : RankOp) : Type 0 where
+    pub ours : In w (rank_ops p r)
     pub pending : was_fired g.fired w ≡ false
     pub found : posted_at t (view annex p inputs s r g).pending ≡ Some (operation p s r w)
     pub number : number_of p r w ≡ t
     pub reached : (cell p (cell_of p w)).needs ≤ reached_count p g r (cell_of p w)
 
-  pub ready_work : (p : Plan) (inputs : Inputs) → SoundPlan p (length inputs) → (s : Slots) (r : ℕ) (g : Seen) (t : ℕ) → is_ready (view annex p inputs s r g) t ≡ true → (w : Work) × IsReady p inputs s r g t w
+  pub ready_work : (p : Plan) (inputs : Inputs) → SoundPlan p (length inputs) → (s : Slots) (r : ℕ) (g : Seen) (t : ℕ) → is_ready (view annex p inputs s r g) t ≡ true → (w : RankOp) × IsReady p inputs s r g t w
   ready_work p inputs sound s r g t h = go (posted_at t (view annex p inputs s r g).pending) refl h
     where
-      go : (o : Option Posted) → posted_at t (view annex p inputs s r g).pending ≡ o → is_ready_op (view annex p inputs s r g).cts o ≡ true → (w : Work) × IsReady p inputs s r g t w
+      go : (o : Option Posted) → posted_at t (view annex p inputs s r g).pending ≡ o → is_ready_op (view annex p inputs s r g).cts o ≡ true → (w : RankOp) × IsReady p inputs s r g t w
       go None e h = cc
       go (Some q) e h =
           let i = find-In (is_number t) (view annex p inputs s r g).pending.waiting q e in
-          let m = In-map_cases (operation p s r) q (filter (λ w. not (was_fired g.fired w)) (works p r)) i.0 in
-          let f = In-filter_cases (λ w. not (was_fired g.fired w)) m.0 (works p r) m.1 in (
+          let m = In-map_cases (operation p s r) q (filter (λ w. not (was_fired g.fired w)) (rank_ops p r)) i.0 in
+          let f = In-filter_cases (λ w. not (was_fired g.fired w)) m.0 (rank_ops p r) m.1 in (
             m.0,
             record {
               ours = f.0;
@@ -165,7 +165,7 @@ module _ (annex : Annex) where
             },
           )
 
-  abbrev pub fires_to : Plan → Inputs → Slots → ℕ → Seen → Work → Fires
+  abbrev pub fires_to : Plan → Inputs → Slots → ℕ → Seen → RankOp → Fires
   fires_to p inputs s r g w = fires (view annex p inputs s r (note_work p g w)) (sent_message p inputs s g w)
 
   -- the state in which these operations wait
@@ -176,32 +176,32 @@ module _ (annex : Annex) where
   left t v = record v { pending = without_number t v.pending }
 
   -- the state without the operation
-  left_view : (p : Plan) (inputs : Inputs) (s : Slots) (r : ℕ) (g : Seen) (w : Work) → In w (works p r)
-      → left (number_of p r w) (view annex p inputs s r g) ≡ with_waiting (view annex p inputs s r g) (map (operation p s r) (filter (λ v. not (was_fired (w ∷ g.fired) v)) (works p r)))
-  left_view p inputs s r g w h = ap (with_waiting (view annex p inputs s r g)) (left_pending p s r g.fired w h (works p r) (λ v i. i))
+  left_view : (p : Plan) (inputs : Inputs) (s : Slots) (r : ℕ) (g : Seen) (w : RankOp) → In w (rank_ops p r)
+      → left (number_of p r w) (view annex p inputs s r g) ≡ with_waiting (view annex p inputs s r g) (map (operation p s r) (filter (λ v. not (was_fired (w ∷ g.fired) v)) (rank_ops p r)))
+  left_view p inputs s r g w h = ap (with_waiting (view annex p inputs s r g)) (left_pending p s r g.fired w h (rank_ops p r) (λ v i. i))
 
-  fire_tell : (p : Plan) (inputs : Inputs) (s : Slots) (r : ℕ) (g : Seen) (c : ℕ) → In (Tell c) (works p r)
-      → done (left (number_of p r (Tell c)) (view annex p inputs s r g)) (deed_of p s (Tell c)) ≡ fires_to p inputs s r g (Tell c)
+  fire_tell : (p : Plan) (inputs : Inputs) (s : Slots) (r : ℕ) (g : Seen) (c : ℕ) → In (ForDone c) (rank_ops p r)
+      → done (left (number_of p r (ForDone c)) (view annex p inputs s r g)) (deed_of p s (ForDone c)) ≡ fires_to p inputs s r g (ForDone c)
   fire_tell p inputs s r g c h =
-      ap (λ v. done v (deed_of p s (Tell c))) (left_view p inputs s r g (Tell c) h)
+      ap (λ v. done v (deed_of p s (ForDone c))) (left_view p inputs s r g (ForDone c) h)
       ∙ fired_pair _ _ None None
-      (ap (λ v. record (view annex p inputs s r (note_work p g (Tell c))) { cts = record (view annex p inputs s r g).cts { live = v } })
+      (ap (λ v. record (view annex p inputs s r (note_work p g (ForDone c))) { cts = record (view annex p inputs s r g).cts { live = v } })
       (ap₂ (λ a b. a ∷ b)
       (ap (λ b. record { handle = done_ct s; value = cond b (bump (successes 1) g.done) g.done }) (same_handle-refl (done_ct s)))
       (done_change p s (bump (successes 1)) (own p r) (λ d. successes (min (reached_count p g r d) top))
-      ∙ cells_same p s r g (note_work p g (Tell c)) (counts_stay p r g (note_work p g (Tell c)) (Tell c) refl refl refl (λ d. refl)))))
+      ∙ cells_same p s r g (note_work p g (ForDone c)) (counts_stay p r g (note_work p g (ForDone c)) (ForDone c) refl refl refl (λ d. refl)))))
       refl
 
-  fire_bump : (p : Plan) (inputs : Inputs) → SoundPlan p (length inputs) → (s : Slots) (r : ℕ) (g : Seen) (l : ℕ) → In (Along l) (works p r) → is_bump (link p l).kind ≡ true
-      → done (left (number_of p r (Along l)) (view annex p inputs s r g)) (deed_of p s (Along l)) ≡ fires_to p inputs s r g (Along l)
+  fire_bump : (p : Plan) (inputs : Inputs) → SoundPlan p (length inputs) → (s : Slots) (r : ℕ) (g : Seen) (l : ℕ) → In (ForLink l) (rank_ops p r) → is_bump (link p l).kind ≡ true
+      → done (left (number_of p r (ForLink l)) (view annex p inputs s r g)) (deed_of p s (ForLink l)) ≡ fires_to p inputs s r g (ForLink l)
   fire_bump p inputs sound s r g l h b =
-      let q = out_links-In p r l (works-along p r l h) in
+      let q = out_links-In p r l (rank_ops-along p r l h) in
       let w = sound.links_sound l q.0 in
       let own_t : In (link p l).target (own p r) = In-own p r (link p l).target w.cells (sym (w.bump_stays (bump_kind (link p l).kind b)) ∙ q.1) in
-      ap₂ done (left_view p inputs s r g (Along l) h) (ap (λ v. cond v (IncDeed (cell_ct p s (link p l).target) (successes 1)) (send_deed p s l (cell p (link p l).target).op)) b)
-      ∙ fired_pair _ _ None (sent_message p inputs s g (Along l))
-      (ap₂ (λ v n. record (view annex p inputs s r (record g { fired = Along l ∷ g.fired; awaits = n })) { cts = record (view annex p inputs s r g).cts { live = v } })
-      (cts_rise p inputs s r g (note_work p g (Along l)) (link p l).target own_t refl
+      ap₂ done (left_view p inputs s r g (ForLink l) h) (ap (λ v. cond v (IncDeed (cell_ct p s (link p l).target) (successes 1)) (send_deed p s l (cell p (link p l).target).op)) b)
+      ∙ fired_pair _ _ None (sent_message p inputs s g (ForLink l))
+      (ap₂ (λ v n. record (view annex p inputs s r (record g { fired = ForLink l ∷ g.fired; awaits = n })) { cts = record (view annex p inputs s r g).cts { live = v } })
+      (cts_rise p inputs s r g (note_work p g (ForLink l)) (link p l).target own_t refl
       (risen (link p l).target (eq-eqb (link p l).target (link p l).target refl))
       (λ d n. kept d (ne_eqb (link p l).target d (λ i. n (sym i)))))
       (sym (ap (λ v. cond v g.awaits (cond p.remote (one_more g.awaits) g.awaits)) b)))
@@ -212,11 +212,11 @@ module _ (annex : Annex) where
       bump_kind Put e = cc
       bump_kind Atomic e = cc
 
-      risen : (d : ℕ) → ((link p l).target == d) ≡ true → reached_count p (note_work p g (Along l)) r d ≡ suc (reached_count p g r d)
-      risen d e = let k : bumps p d (Along l) ≡ true = rw (b, e) refl in let m = count_more_head (bumps p d) (Along l) g.fired k in omega (arith, m)
+      risen : (d : ℕ) → ((link p l).target == d) ≡ true → reached_count p (note_work p g (ForLink l)) r d ≡ suc (reached_count p g r d)
+      risen d e = let k : bumps p d (ForLink l) ≡ true = rw (b, e) refl in let m = count_more_head (bumps p d) (ForLink l) g.fired k in omega (arith, m)
 
-      kept : (d : ℕ) → ((link p l).target == d) ≡ false → reached_count p (note_work p g (Along l)) r d ≡ reached_count p g r d
-      kept d e = let k : bumps p d (Along l) ≡ false = rw (b, e) refl in let m = count_same_head (bumps p d) (Along l) g.fired k in omega (arith, m)
+      kept : (d : ℕ) → ((link p l).target == d) ≡ false → reached_count p (note_work p g (ForLink l)) r d ≡ reached_count p g r d
+      kept d e = let k : bumps p d (ForLink l) ≡ false = rw (b, e) refl in let m = count_same_head (bumps p d) (ForLink l) g.fired k in omega (arith, m)
 
   -- ---- a put or an atomic
   await_by : (p : Plan) (s : Slots) (r n : ℕ) (b : Bool)
@@ -262,35 +262,35 @@ module _ (annex : Annex) where
   done_send p inputs s r g l None vs = refl
   done_send p inputs s r g l (Some o) vs = refl
 
-  fire_send : (p : Plan) (inputs : Inputs) → SoundPlan p (length inputs) → (s : Slots) (r : ℕ) (g : Seen) (l : ℕ) → Sized p inputs g → In (Along l) (works p r) → is_bump (link p l).kind ≡ false
-      → done (left (number_of p r (Along l)) (view annex p inputs s r g)) (deed_of p s (Along l)) ≡ fires_to p inputs s r g (Along l)
+  fire_send : (p : Plan) (inputs : Inputs) → SoundPlan p (length inputs) → (s : Slots) (r : ℕ) (g : Seen) (l : ℕ) → Sized p inputs g → In (ForLink l) (rank_ops p r) → is_bump (link p l).kind ≡ false
+      → done (left (number_of p r (ForLink l)) (view annex p inputs s r g)) (deed_of p s (ForLink l)) ≡ fires_to p inputs s r g (ForLink l)
   fire_send p inputs sound s r g l sized h b =
-      let out = works-along p r l h in
+      let out = rank_ops-along p r l h in
       let q = out_links-In p r l out in
       let op = (cell p (link p l).target).op in
       let ty = (cell p (link p l).target).ty in
-      ap₂ done (left_view p inputs s r g (Along l) h) (ap (λ v. cond v (IncDeed (cell_ct p s (link p l).target) (successes 1)) (send_deed p s l op)) b)
-      ∙ done_send p inputs s r g l op (map (operation p s r) (filter (λ v. not (was_fired (Along l ∷ g.fired) v)) (works p r)))
+      ap₂ done (left_view p inputs s r g (ForLink l) h) (ap (λ v. cond v (IncDeed (cell_ct p s (link p l).target) (successes 1)) (send_deed p s l op)) b)
+      ∙ done_send p inputs s r g l op (map (operation p s r) (filter (λ v. not (was_fired (ForLink l ∷ g.fired) v)) (rank_ops p r)))
       ∙ fired_pair _ _ _ _
-      (start_plain p inputs s r g (send_header p s l r op) (map (operation p s r) (filter (λ v. not (was_fired (Along l ∷ g.fired) v)) (works p r))) refl
-      ∙ ap₂ (λ (n : ℕ) (cs : List (Live Count)). record (with_waiting (view annex p inputs s r g) (map (operation p s r) (filter (λ v. not (was_fired (Along l ∷ g.fired) v)) (works p r)))) {
+      (start_plain p inputs s r g (send_header p s l r op) (map (operation p s r) (filter (λ v. not (was_fired (ForLink l ∷ g.fired) v)) (rank_ops p r))) refl
+      ∙ ap₂ (λ (n : ℕ) (cs : List (Live Count)). record (with_waiting (view annex p inputs s r g) (map (operation p s r) (filter (λ v. not (was_fired (ForLink l ∷ g.fired) v)) (rank_ops p r)))) {
         cts = record (view annex p inputs s r g).cts { live = record { handle = done_ct s; value = g.done } ∷ cs };
         mds = mds_of annex p s r n;
       })
       (sym (ap (λ v. cond v g.awaits (cond p.remote (one_more g.awaits) g.awaits)) b))
-      (cells_same p s r g (note_work p g (Along l)) (counts_stay p r g (note_work p g (Along l)) (Along l) refl refl refl (λ d. ap (λ v. v && ((link p l).target == d)) b))))
+      (cells_same p s r g (note_work p g (ForLink l)) (counts_stay p r g (note_work p g (ForLink l)) (ForLink l) refl refl refl (λ d. ap (λ v. v && ((link p l).target == d)) b))))
       (ap₂ (λ (v : ℕ) (bs : List ℕ). Some (message (send_header p s l v op) bs)) (sym q.1) (send_bytes p inputs sound s r g l sized out)
       ∙ sym (ap (λ v. cond v None (Some (link_message p s l (sending p inputs g l).bytes))) b))
 
-  pub step_fire : (p : Plan) (inputs : Inputs) → SoundPlan p (length inputs) → (s : Slots) (r : ℕ) (g : Seen) (t : ℕ) (w : Work) → Sized p inputs g → IsReady p inputs s r g t w
+  pub step_fire : (p : Plan) (inputs : Inputs) → SoundPlan p (length inputs) → (s : Slots) (r : ℕ) (g : Seen) (t : ℕ) (w : RankOp) → Sized p inputs g → IsReady p inputs s r g t w
       → fired (view annex p inputs s r g) t ≡ fires_to p inputs s r g w
   unfolding fired
   step_fire p inputs sound s r g t w sized h = ap (fired_op (view annex p inputs s r g)) h.found ∙ by_kind w h.ours
     where
-      along : (l : ℕ) → In (Along l) (works p r) → (b : Bool) → is_bump (link p l).kind ≡ b → done (left (number_of p r (Along l)) (view annex p inputs s r g)) (deed_of p s (Along l)) ≡ fires_to p inputs s r g (Along l)
+      along : (l : ℕ) → In (ForLink l) (rank_ops p r) → (b : Bool) → is_bump (link p l).kind ≡ b → done (left (number_of p r (ForLink l)) (view annex p inputs s r g)) (deed_of p s (ForLink l)) ≡ fires_to p inputs s r g (ForLink l)
       along l i true e = fire_bump p inputs sound s r g l i e
       along l i false e = fire_send p inputs sound s r g l sized i e
 
-      by_kind : (w : Work) → In w (works p r) → done (left (number_of p r w) (view annex p inputs s r g)) (deed_of p s w) ≡ fires_to p inputs s r g w
-      by_kind (Along l) i = along l i (is_bump (link p l).kind) refl
-      by_kind (Tell c) i = fire_tell p inputs s r g c i
+      by_kind : (w : RankOp) → In w (rank_ops p r) → done (left (number_of p r w) (view annex p inputs s r g)) (deed_of p s w) ≡ fires_to p inputs s r g w
+      by_kind (ForLink l) i = along l i (is_bump (link p l).kind) refl
+      by_kind (ForDone c) i = fire_tell p inputs s r g c i

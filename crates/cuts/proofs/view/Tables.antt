@@ -10,12 +10,12 @@ use Rattle.ni_model.specs.Tables.{change, change_one, lookup}
 use Rattle.plan_core.specs.Plan.{Plan, cell, out_links, own}
 use Rattle.cuts.specs.view.Slots.{Slots, cell_ct, done_ct}
 use Rattle.cuts.specs.view.View.{counter_of}
-use Rattle.plan_calls.specs.Works.{number_of, Work, works}
+use Rattle.plan_calls.specs.RankOps.{number_of, RankOp, rank_ops}
 use Rattle.cuts.specs.machine.Seen.{Seen, reached_count}
 use Rattle.plan_core.specs.Places.{place_in}
-use Rattle.plan_calls.specs.Works.Work.{Along, Tell}
+use Rattle.plan_calls.specs.RankOps.RankOp.{ForLink, ForDone}
 use Rattle.plan_core.proofs.Links.{own-In}
-use Rattle.cuts.proofs.machine.Works.{works-along, works-tell}
+use Rattle.cuts.proofs.machine.RankOps.{rank_ops-along, rank_ops-tell}
 
 -- ---- places in a list
 pub place_in-one : (cs : List ℕ) (c d : ℕ) → In c cs → In d cs → place_in cs c ≡ place_in cs d → c ≡ d
@@ -40,11 +40,11 @@ place_in-lt (k ∷ ks) c h = at (k == c) refl h (place_in-lt ks c)
     at false e (inr h) rest = let q = rest h in omega arith
 
 -- ---- numbers of operations
-pub number_of-one : (p : Plan) (r : ℕ) (v w : Work) → In v (works p r) → In w (works p r) → number_of p r v ≡ number_of p r w → v ≡ w
-number_of-one p r (Along l) (Along m) h i e = ap Along (place_in-one (out_links p r) l m (works-along p r l h) (works-along p r m i) e)
-number_of-one p r (Tell c) (Tell d) h i e = ap Tell (place_in-one (own p r) c d (works-tell p r c h) (works-tell p r d i) (omega arith))
-number_of-one p r (Along l) (Tell d) h i e = let q = place_in-lt (out_links p r) l (works-along p r l h) in absurd (omega arith)
-number_of-one p r (Tell c) (Along m) h i e = let q = place_in-lt (out_links p r) m (works-along p r m i) in absurd (omega arith)
+pub number_of-one : (p : Plan) (r : ℕ) (v w : RankOp) → In v (rank_ops p r) → In w (rank_ops p r) → number_of p r v ≡ number_of p r w → v ≡ w
+number_of-one p r (ForLink l) (ForLink m) h i e = ap ForLink (place_in-one (out_links p r) l m (rank_ops-along p r l h) (rank_ops-along p r m i) e)
+number_of-one p r (ForDone c) (ForDone d) h i e = ap ForDone (place_in-one (own p r) c d (rank_ops-tell p r c h) (rank_ops-tell p r d i) (omega arith))
+number_of-one p r (ForLink l) (ForDone d) h i e = let q = place_in-lt (out_links p r) l (rank_ops-along p r l h) in absurd (omega arith)
+number_of-one p r (ForDone c) (ForLink m) h i e = let q = place_in-lt (out_links p r) m (rank_ops-along p r m i) in absurd (omega arith)
 
 -- ---- the counters
 bump_min : (n t : ℕ) → min n t + min 1 (t - (min n t + 0)) ≡ min (suc n) t

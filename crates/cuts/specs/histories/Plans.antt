@@ -15,7 +15,7 @@ use Rattle.plan_calls.specs.declared.OwnCell.{OwnCell}
 use Rattle.plan_calls.specs.Areas.{longest_to}
 use Rattle.plan_calls.specs.Calls.{own_cells}
 use Rattle.plan_calls.specs.Lanes.{is_used_lane}
-use Rattle.plan_calls.specs.Works.{done_threshold}
+use Rattle.plan_calls.specs.RankOps.{done_threshold}
 use Rattle.cuts.specs.view.Slots.{Slots, cell_ct, counter_at, done_ct}
 use Rattle.cuts.specs.view.Calls.{prepare}
 use Rattle.cuts.specs.start.Start.{AreAccepted, cells_started, rank_started}

@@ -6,14 +6,14 @@ use Rattle.plan_core.specs.Members.{Distinct, In}
 use Rattle.plan_core.specs.Plan.{in_links, Plan, cell, is_bump, link}
 use Rattle.plan_core.specs.Values.{Inputs, carried_of, initial}
 use Rattle.cuts.specs.machine.Seen.{Came, Seen, content, nothing_seen, reached_count, was_fired}
-use Rattle.plan_calls.specs.Works.{Work, cell_of, works}
-use Rattle.plan_calls.specs.Works.Work.{Along, Tell}
+use Rattle.plan_calls.specs.RankOps.{RankOp, cell_of, rank_ops}
+use Rattle.plan_calls.specs.RankOps.RankOp.{ForLink, ForDone}
 
 -- a start, the arrival of what a link carries, a firing, an acknowledgement, a message of another job
 pub data Move : Type 0 where
   Began : Move
   Took : (l : ℕ) (bytes : List ℕ) → Move
-  Did : (w : Work) → Move
+  Did : (w : RankOp) → Move
   Heard : (ok : Bool) → Move
   Strayed : Move
 
@@ -22,12 +22,12 @@ abbrev pub came : ℕ → List ℕ → Came
 came l bytes = record { link = l; bytes = bytes }
 
 -- an operation that was fired raises the done counter where it tells, and awaits an answer where it sends and the plan is remote
-abbrev pub note_work : Plan → Seen → Work → Seen
-note_work p g (Along l) = record g {
-  fired = Along l ∷ g.fired;
+abbrev pub note_work : Plan → Seen → RankOp → Seen
+note_work p g (ForLink l) = record g {
+  fired = ForLink l ∷ g.fired;
   awaits = if is_bump (link p l).kind then g.awaits else (if p.remote then one_more g.awaits else g.awaits);
 }
-note_work p g (Tell c) = record g { fired = Tell c ∷ g.fired; done = bump (successes 1) g.done }
+note_work p g (ForDone c) = record g { fired = ForDone c ∷ g.fired; done = bump (successes 1) g.done }
 
 -- what was seen after a move
 abbrev pub note : Plan → Seen → Move → Seen
@@ -51,7 +51,7 @@ sending p inputs g l = came l (carried_of p (content p g.came (link p l).source 
 
 -- what a move sends
 abbrev pub out_of : Plan → Inputs → Seen → Move → List Came
-out_of p inputs g (Did (Along l)) = if is_bump (link p l).kind then [] else sending p inputs g l ∷ []
+out_of p inputs g (Did (ForLink l)) = if is_bump (link p l).kind then [] else sending p inputs g l ∷ []
 out_of p inputs g _ = []
 
 -- and a list of moves
@@ -62,7 +62,7 @@ outs p inputs g (e ∷ es) = out_of p inputs g e ++ outs p inputs (note p g e) e
 -- the move may be made
 abbrev pub MayMove : Plan → ℕ → Seen → Move → Type 0
 MayMove p r g (Did w) =
-    In w (works p r) × (was_fired g.fired w ≡ false) × ((cell p (cell_of p w)).needs ≤ reached_count p g r (cell_of p w))
+    In w (rank_ops p r) × (was_fired g.fired w ≡ false) × ((cell p (cell_of p w)).needs ≤ reached_count p g r (cell_of p w))
 MayMove p r g Began = g.started ≡ false
 MayMove p r g _ = Unit {0}
 
@@ -100,7 +100,7 @@ pub record IsMachineRest (p : Plan) (inputs : Inputs) (ms : ℕ → List Move) :
   pub started : (r : ℕ) → r < p.ranks → (all_seen p ms r).started ≡ true
   pub taken : (r : ℕ) (a : Came) → r < p.ranks → In a (outs p inputs nothing_seen (ms r)) →
       In a (all_seen p ms (cell p (link p a.link).target).rank).came
-  pub idle : (r : ℕ) (w : Work) → r < p.ranks → In w (works p r) →
+  pub idle : (r : ℕ) (w : RankOp) → r < p.ranks → In w (rank_ops p r) →
       (cell p (cell_of p w)).needs ≤ reached_count p (all_seen p ms r) r (cell_of p w) → was_fired (all_seen p ms r).fired w ≡ true
 
 -- a chain of links leads from cell b to cell c

@@ -4,8 +4,8 @@ use Rattle.ptl_types.specs.declared.handles.Count.{Count}
 use Rattle.ni_model.specs.Counts.{successes}
 use Rattle.plan_core.specs.Plan.{Plan, link, is_bump}
 use Rattle.plan_core.specs.Values.{land}
-use Rattle.plan_calls.specs.Works.{Work}
-use Rattle.plan_calls.specs.Works.Work.{Along, Tell}
+use Rattle.plan_calls.specs.RankOps.{RankOp}
+use Rattle.plan_calls.specs.RankOps.RankOp.{ForLink, ForDone}
 
 -- a link's message came, with these bytes
 pub record Came : Type 0 where
@@ -17,7 +17,7 @@ pub record Came : Type 0 where
 pub record Seen : Type 0 where
   pub started : Bool
   pub came : List Came  -- in order of arrival
-  pub fired : List Work  -- the newest first
+  pub fired : List RankOp  -- the newest first
   pub done : Count  -- the done counter
   pub awaits : ℕ  -- how many answers the descriptor awaits
   pub strays : ℕ
@@ -27,13 +27,13 @@ abbrev pub nothing_seen : Seen
 nothing_seen = record { started = false; came = []; fired = []; done = successes 0; awaits = 0; strays = 0 }
 
 -- one operation
-abbrev pub is_same_work : Work → Work → Bool
-is_same_work (Along l) (Along m) = l == m
-is_same_work (Tell c) (Tell d) = c == d
+abbrev pub is_same_work : RankOp → RankOp → Bool
+is_same_work (ForLink l) (ForLink m) = l == m
+is_same_work (ForDone c) (ForDone d) = c == d
 is_same_work _ _ = false
 
 -- it is among those that were fired
-abbrev pub was_fired : List Work → Work → Bool
+abbrev pub was_fired : List RankOp → RankOp → Bool
 was_fired [] w = false
 was_fired (v ∷ vs) w = is_same_work v w || was_fired vs w
 
@@ -43,19 +43,19 @@ content p [] c x = x
 content p (a ∷ later) c x = content p later c (if (link p a.link).target == c then land p a.link a.bytes x else x)
 
 -- a firing that raises the counter of cell c
-abbrev pub bumps : Plan → ℕ → Work → Bool
-bumps p c (Along l) = is_bump (link p l).kind && ((link p l).target == c)
-bumps p c (Tell d) = false
+abbrev pub bumps : Plan → ℕ → RankOp → Bool
+bumps p c (ForLink l) = is_bump (link p l).kind && ((link p l).target == c)
+bumps p c (ForDone d) = false
 
 -- an operation that sends
-abbrev pub sends : Plan → Work → Bool
-sends p (Along l) = not (is_bump (link p l).kind)
-sends p (Tell c) = false
+abbrev pub sends : Plan → RankOp → Bool
+sends p (ForLink l) = not (is_bump (link p l).kind)
+sends p (ForDone c) = false
 
 -- an operation that tells a cell
-abbrev pub tells : Work → Bool
-tells (Along l) = false
-tells (Tell c) = true
+abbrev pub tells : RankOp → Bool
+tells (ForLink l) = false
+tells (ForDone c) = true
 
 -- what came to cell c
 abbrev pub to_cell : Plan → ℕ → Came → Bool

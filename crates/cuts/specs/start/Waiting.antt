@@ -17,7 +17,7 @@ use Rattle.cuts.specs.machine.Seen.{Came, Seen}
 use Rattle.cuts.specs.view.View.{Annex, view}
 use Rattle.cuts.specs.view.Slots.{Slots}
 use Rattle.plan_calls.specs.Bits.{bits_above}
-use Rattle.cuts.specs.view.Deeds.{link_header}
+use Rattle.cuts.specs.view.TriggeredOps.{link_header}
 use Rattle.cuts.specs.view.Calls.{area_entry}
 use Rattle.plan_calls.specs.Areas.{area_length, area_start, areas_length, blank_area, classes, link_class, links_to}
 

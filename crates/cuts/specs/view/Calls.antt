@@ -11,10 +11,10 @@ use Rattle.ptl_types.specs.declared.entries.List.{List as EntryList}
 use Rattle.ptl_types.specs.declared.entries.List.TheVariants.{Priority, Overflow as InOverflow}
 use Rattle.ptl_types.specs.declared.calls.NiFault.{NiFault}
 use Rattle.ptl_types.specs.declared.calls.PutArgs.{PutArgs}
-use Rattle.ptl_types.specs.declared.calls.Deed.{Deed}
-use Rattle.ptl_types.specs.declared.calls.Deed.TheVariants.{Put as PutDeed, Atomic as AtomicDeed, Inc as IncDeed}
-use Rattle.ptl_types.specs.declared.steps.Act.{Act}
-use Rattle.ptl_types.specs.declared.steps.Act.TheVariants.{Send, BumpCell, BumpDone}
+use Rattle.ptl_types.specs.declared.calls.TriggeredOp.{TriggeredOp}
+use Rattle.ptl_types.specs.declared.calls.TriggeredOp.TheVariants.{Put as PutDeed, Atomic as AtomicDeed, Inc as IncDeed}
+use Rattle.ptl_types.specs.declared.steps.PlannedOp.{PlannedOp}
+use Rattle.ptl_types.specs.declared.steps.PlannedOp.TheVariants.{Send, BumpCell, BumpDone}
 use Rattle.ptl_types.specs.declared.steps.Call.{Call}
 use Rattle.ptl_types.specs.declared.steps.Call.TheVariants.{PtAlloc, CtDone, CtCell, MdBind, Overflow, MeAppend, Trigger}
 use Rattle.ni_model.specs.Append.{append, append_fault}
@@ -97,12 +97,12 @@ args_at md local n target bits remote hdr ack = record {
 }
 
 -- a put, or an atomic where there is an operation
-abbrev pub sending_deed : PutArgs → Option AtomicOp → ElemType → Deed
+abbrev pub sending_deed : PutArgs → Option AtomicOp → ElemType → TriggeredOp
 sending_deed args None ty = PutDeed args
 sending_deed args (Some o) ty = AtomicDeed args o ty
 
 -- what a triggered operation does
-abbrev pub deed_at : Slots → List ℕ → Act → Deed
+abbrev pub deed_at : Slots → List ℕ → PlannedOp → TriggeredOp
 deed_at k cells (Send local n target bits remote hdr op ty ack) = sending_deed (args_at (the_md k) local n target bits remote hdr ack) op ty
 deed_at k cells (BumpCell c) = IncDeed (counter_at k cells c) (successes 1)
 deed_at k cells BumpDone = IncDeed (done_ct k) (successes 1)

@@ -10,17 +10,17 @@ use Rattle.plan_core.specs.Members.{In}
 use Rattle.plan_core.specs.Plan.{Plan, cell, link, is_bump}
 use Rattle.plan_core.specs.Values.{Inputs, initial}
 use Rattle.cuts.specs.machine.Seen.{Seen, content}
-use Rattle.plan_calls.specs.Works.{Work}
-use Rattle.plan_calls.specs.Works.Work.{Along, Tell}
+use Rattle.plan_calls.specs.RankOps.{RankOp}
+use Rattle.plan_calls.specs.RankOps.RankOp.{ForLink, ForDone}
 use Rattle.cuts.specs.machine.Machine.{sending}
 use Rattle.cuts.specs.view.View.{Annex}
 use Rattle.cuts.specs.view.Slots.{Slots, the_md}
-use Rattle.cuts.specs.view.Deeds.{link_message}
+use Rattle.cuts.specs.view.TriggeredOps.{link_message}
 
 -- the message that an operation makes
-abbrev pub sent_message : Plan → Inputs → Slots → Seen → Work → Option Sent
-sent_message p inputs s g (Along l) = if is_bump (link p l).kind then None else Some (link_message p s l (sending p inputs g l).bytes)
-sent_message p inputs s g (Tell c) = None
+abbrev pub sent_message : Plan → Inputs → Slots → Seen → RankOp → Option Sent
+sent_message p inputs s g (ForLink l) = if is_bump (link p l).kind then None else Some (link_message p s l (sending p inputs g l).bytes)
+sent_message p inputs s g (ForDone c) = None
 
 -- each cell has its length
 abbrev pub Sized : Plan → Inputs → Seen → Type 0

@@ -17,10 +17,10 @@ use Rattle.plan_core.specs.Values.{Inputs, initial}
 use Rattle.plan_core.specs.Places.{start_in, place_in}
 use Rattle.plan_calls.specs.Areas.{longest, region_length}
 use Rattle.plan_calls.specs.Bits.{cell_bits}
-use Rattle.plan_calls.specs.Works.{works}
+use Rattle.plan_calls.specs.RankOps.{rank_ops}
 use Rattle.cuts.specs.machine.Seen.{Seen, content, reached_count, was_fired}
 use Rattle.cuts.specs.view.Slots.{Slots, done_ct, cell_ct, the_md}
-use Rattle.cuts.specs.view.Deeds.{operation}
+use Rattle.cuts.specs.view.TriggeredOps.{operation}
 use Rattle.cuts.specs.view.Calls.{cell_entry as entry_with, whole_region}
 
 -- what an interface has beside its cells: the bytes after them in the region, the overflow entries, which were appended before
@@ -97,8 +97,8 @@ view annex p inputs s r g = record {
   eqs = no_things 0;
   mds = mds_of annex p s r g.awaits;
   pending = record {
-    waiting = map (operation p s r) (filter (λ w. not (was_fired g.fired w)) (works p r));
-    given = length (works p r);
+    waiting = map (operation p s r) (filter (λ w. not (was_fired g.fired w)) (rank_ops p r));
+    given = length (rank_ops p r);
     limit = length (out_links p r) + length (own p r);
   };
   drops = min g.strays top;

@@ -3,12 +3,12 @@
 use Rattle.std.specs.Prelude.{ℕ, suc, ◌+◌, ◌-◌, length, sum_by, if◌then◌else◌}
 use Rattle.plan_core.specs.Plan.{Plan, from_to}
 use Rattle.plan_calls.specs.Areas.{links_to}
-use Rattle.plan_calls.specs.Works.{sends_of, works}
+use Rattle.plan_calls.specs.RankOps.{sends_of, rank_ops}
 use Rattle.cuts.specs.orders.Chosen.{Scene}
 
 -- of rank r in all
 abbrev pub steps_of : Plan → ℕ → ℕ → ℕ
-steps_of p strays r = suc (length (works p r)) + (strays + (length (links_to p r) + (if p.remote then sends_of p r else 0)))
+steps_of p strays r = suc (length (rank_ops p r)) + (strays + (length (links_to p r) + (if p.remote then sends_of p r else 0)))
 
 -- what is left of them, of all ranks
 abbrev pub steps_left : Plan → ℕ → Scene → ℕ

@@ -24,7 +24,7 @@ use Rattle.plan_core.specs.Draw.{add, add_all, add_cell, add_link, add_links, go
 use Rattle.plan_core.specs.Plan.{Plan, cell}
 use Rattle.plan_core.specs.Values.{Inputs}
 use Rattle.cuts.specs.view.Calls.{call_made}
-use Rattle.cuts.specs.view.Deeds.{link_message}
+use Rattle.cuts.specs.view.TriggeredOps.{link_message}
 use Rattle.cuts.specs.view.Slots.{cell_ct}
 use Rattle.cuts.specs.start.Start.{bring, cell_started}
 use Rattle.cuts.specs.histories.Barrier.{IsBarrierKept}

@@ -9,7 +9,7 @@ use Rattle.ni_model.specs.Tables.{handle}
 use Rattle.rank_node.specs.Handles.{AreAllOf, Counted, Handles, handle_of, no_handles, room_under, slot_at}
 use Rattle.choices.specs.view.Calls.{blank, install, install_calls, step_calls, word_calls}
 use Rattle.choices.specs.view.Calls.Call.{CtAlloc, PtAlloc, Trigger}
-use Rattle.choices.specs.view.Install.{Slots, ct_of, limits_of, steps, works}
+use Rattle.choices.specs.view.Install.{Slots, ct_of, limits_of, steps, rank_ops}
 use Rattle.choices.specs.view.Install.Counter.{Done, Go}
 use Rattle.choices.proofs.view.Called.{installed}
 use Rattle.plan_choice.specs.ranks.Given.{Agrees, AreMade, IsWide, counters_by}
@@ -55,7 +55,7 @@ module _ (n : ℕ) (ks : List ChoiceKind) (r : ℕ) (s : State) (old hs : Handle
   pub some_counter : 0 < length hs.counters
   some_counter =
       let more = made.counters in
-      let rest = flat_map (step_calls ks) (steps ks) ++ (word_calls ks r ++ map Trigger (works ks)) in
+      let rest = flat_map (step_calls ks) (steps ks) ++ (word_calls ks r ++ map Trigger (rank_ops ks)) in
       let all : sum_by counters_by (install_calls ks r) ≡ 0 + (1 + (1 + sum_by counters_by rest)) =
       sum_by-cons counters_by PtAlloc (CtAlloc Go ∷ CtAlloc Done ∷ rest)
       ∙ ap (λ n. 0 + n) (sum_by-cons counters_by (CtAlloc Go) (CtAlloc Done ∷ rest)

@@ -4,7 +4,7 @@ use Rattle.std.specs.Prelude.{sum_by}
 use Rattle.std.proofs.lemmas.List.Sums.{sum_by-append}
 use Rattle.coll_lang.specs.declared.choices.ChoiceKind.{ChoiceKind}
 use Rattle.ptl_types.specs.declared.handles.Handle.{Handle}
-use Rattle.ptl_types.specs.declared.calls.Deed.{Deed}
+use Rattle.ptl_types.specs.declared.calls.TriggeredOp.{TriggeredOp}
 use Rattle.ptl_types.specs.declared.entries.Descriptor.{Descriptor}
 use Rattle.ptl_types.specs.declared.entries.List.TheVariants.{Priority}
 use Rattle.ni_model.specs.Calls.{with_bound, with_counter, with_operation}
@@ -17,7 +17,7 @@ use Rattle.rank_node.proofs.Made.{made-done}
 use Rattle.rank_node.proofs.Steady.{linked-counters, linked-given}
 use Rattle.choices.specs.view.Calls.{Call, calls_made}
 use Rattle.choices.specs.view.Calls.Call.{CtAlloc, MdBind, MeAppend, Trigger}
-use Rattle.choices.specs.view.Install.{Counter, Part, Slots, Work, ct_of, deed_of, descriptor_of, work_counter, word_entry}
+use Rattle.choices.specs.view.Install.{Counter, Part, Slots, RankOp, ct_of, deed_of, descriptor_of, work_counter, word_entry}
 use Rattle.choices.proofs.view.Called.{made-append}
 use Rattle.plan_choice.specs.ranks.Given.{Agrees, AreMade, counters_by, descriptors_by, entries_by}
 
@@ -112,7 +112,7 @@ made-descriptor ks x md s t hs left new all is =
     }
 
 -- ---- a triggered operation
-pub made-operation : (ks : List ChoiceKind) (w : Work) (deed : Deed) (ct : Handle) (s t : State) (hs : Handles)
+pub made-operation : (ks : List ChoiceKind) (w : RankOp) (deed : TriggeredOp) (ct : Handle) (s t : State) (hs : Handles)
     → t ≡ with_operation deed ct 1 s → AreAllOf s hs → ((k : Slots) → Agrees k hs → deed ≡ deed_of k ks w)
     → ((k : Slots) → Agrees k hs → ct ≡ ct_of k ks (work_counter ks w)) → AreMade ks (Trigger w ∷ []) s t hs hs
 made-operation ks w deed ct s t hs e all does waits = record {

@@ -13,7 +13,7 @@ use Rattle.rank_node.specs.Handles.{AreAllOf, Counted, Handles, no_handles, room
 use Rattle.choices.specs.machine.Choices.{choice_at}
 use Rattle.choices.specs.view.Calls.{Call, install_calls, step_calls, word_calls}
 use Rattle.choices.specs.view.Calls.Call.{CtAlloc, MeAppend, PtAlloc, Trigger}
-use Rattle.choices.specs.view.Install.{Work, before, counters_in, limits_of, steps, things_in, works, works_of}
+use Rattle.choices.specs.view.Install.{RankOp, before, counters_in, limits_of, steps, things_in, rank_ops, works_of}
 use Rattle.choices.specs.view.Install.Counter.{Done, Go}
 use Rattle.choices.proofs.view.Stamps.{before-le}
 use Rattle.choices.proofs.view.Unrefused.{before_le, counters_two, things_three}
@@ -74,7 +74,7 @@ descriptors_small ks t h = let l = before_le things_in 3 things_three ks t in om
 
 -- ---- the operations of step t after those of the steps before it
 -- those of the first steps
-abbrev pub works_until : List ChoiceKind → ℕ → List Work
+abbrev pub works_until : List ChoiceKind → ℕ → List RankOp
 works_until ks t = flat_map (λ s. works_of (choice_at ks s) s) (from_to 0 t)
 
 pub posted_more : (ks : List ChoiceKind) (t : ℕ) (s0 s u : State) (hs : Handles) → AreMade ks (map Trigger (works_until ks t)) s0 s hs hs
@@ -111,15 +111,15 @@ made-index ks s t hs e all =
 pub all_made : (ks : List ChoiceKind) (r : ℕ) (s0 s1 s2 s3 s4 s5 s6 : State) (h0 h1 h2 h3 h4 : Handles)
     → AreMade ks (PtAlloc ∷ []) s0 s1 h0 h0 → AreMade ks (CtAlloc Go ∷ []) s1 s2 h0 h1 → AreMade ks (CtAlloc Done ∷ []) s2 s3 h1 h2
     → AreMade ks (flat_map (step_calls ks) (steps ks)) s3 s4 h2 h3 → AreMade ks (word_calls ks r) s4 s5 h3 h4
-    → AreMade ks (map Trigger (works ks)) s5 s6 h4 h4 → AreMade ks (install_calls ks r) s0 s6 h0 h4
+    → AreMade ks (map Trigger (rank_ops ks)) s5 s6 h4 h4 → AreMade ks (install_calls ks r) s0 s6 h0 h4
 all_made ks r s0 s1 s2 s3 s4 s5 s6 h0 h1 h2 h3 h4 a b c d e f =
     let es = flat_map (step_calls ks) (steps ks) in
-    let fs = word_calls ks r ++ map Trigger (works ks) in
+    let fs = word_calls ks r ++ map Trigger (rank_ops ks) in
     made-both ks (PtAlloc ∷ []) (CtAlloc Go ∷ CtAlloc Done ∷ (es ++ fs)) s0 s1 s6 h0 h0 h4 a
     (made-both ks (CtAlloc Go ∷ []) (CtAlloc Done ∷ (es ++ fs)) s1 s2 s6 h0 h1 h4 b
     (made-both ks (CtAlloc Done ∷ []) (es ++ fs) s2 s3 s6 h1 h2 h4 c
     (made-both ks es fs s3 s4 s6 h2 h3 h4 d
-    (made-both ks (word_calls ks r) (map Trigger (works ks)) s4 s5 s6 h3 h4 h4 e f))))
+    (made-both ks (word_calls ks r) (map Trigger (rank_ops ks)) s4 s5 s6 h3 h4 h4 e f))))
 
 -- ---- words make no counting event and no descriptor
 none_by : (f : Call → ℕ) → ((t : ℕ) → f (MeAppend t) ≡ 0) → (ts : List ℕ) → sum_by f (map MeAppend ts) ≡ 0

@@ -30,17 +30,17 @@ abbrev pub kinds_of : List ChoiceStep → List ChoiceKind
 kinds_of xs = map kind_of xs
 
 -- what is seen of a rank: the handles that its interface gave, its history, and the interface
-pub record Seated : Type 0 where
+pub record ChoiceRankState : Type 0 where
   pub kept : Handles
   pub diary : Diary
   pub nic : State
 
 -- the slots that the tables gave
-abbrev pub slots_in : Seated → Slots
+abbrev pub slots_in : ChoiceRankState → Slots
 slots_in s = record { ct = slot_at s.kept.counters; me = slot_at s.kept.entries; md = slot_at s.kept.descriptors }
 
 -- its go counter is the first that was made
-abbrev pub go_of : Seated → Handle
+abbrev pub go_of : ChoiceRankState → Handle
 go_of s = slice_index_or s.kept.counters 0 (handle 0 0)
 
 -- no steps, and room for so many
@@ -49,7 +49,7 @@ empty_diary due = record { locals = []; steps = []; room = due; receipts = due; 
 
 -- the interface of a rank on which the calls of the text were made, with room for so many steps, each of which may be the receipt of a
 -- word; the go counter is the first that was made
-pub record IsInstalled (ranks : ℕ) (ks : List ChoiceKind) (r : ℕ) (s : Seated) : Type 0 where
+pub record IsInstalled (ranks : ℕ) (ks : List ChoiceKind) (r : ℕ) (s : ChoiceRankState) : Type 0 where
   pub nic : s.nic ≡ install (slots_in s) ranks ks r
   pub some : 0 < length s.kept.counters
   pub go : go_of s ≡ ct_of (slots_in s) ks Go
@@ -58,13 +58,13 @@ pub record IsInstalled (ranks : ℕ) (ks : List ChoiceKind) (r : ℕ) (s : Seate
 -- ---- the steps
 
 -- the host raises it by one
-abbrev pub started_seat : Seated → Seated
+abbrev pub started_seat : ChoiceRankState → ChoiceRankState
 started_seat s = record s { diary = with_step Start Started s.diary; nic = go_raised (go_of s) s.nic }
 
 -- an operation fires
-abbrev pub fired_seat : ℕ → Seated → Seated
+abbrev pub fired_seat : ℕ → ChoiceRankState → ChoiceRankState
 fired_seat t s = record s { diary = with_step (Fire t) (Fired t) s.diary; nic = (fired s.nic t).state }
 
 -- a message is received
-abbrev pub received_seat : ℕ → Lane → Sent → Seated → Seated
+abbrev pub received_seat : ℕ → Lane → Sent → ChoiceRankState → ChoiceRankState
 received_seat source lane m s = record s { diary = with_receipt source lane m s.diary; nic = (target s.nic m).state }

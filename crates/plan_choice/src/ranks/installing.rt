@@ -10,19 +10,19 @@ ghost use Rattle.choices.specs.machine.Choices.{choice_at};
 ghost use Rattle.choices.specs.machine.Counted.{steps_due, told_requests, told_steps};
 ghost use Rattle.choices.specs.view.Calls.{install_calls, step_calls, word_calls};
 ghost use Rattle.choices.specs.view.Calls.Call.{MeAppend, Trigger};
-ghost use Rattle.choices.specs.view.Install.{before, counters_in, limits_of, steps, things_in, word_entry, works, works_of};
+ghost use Rattle.choices.specs.view.Install.{before, counters_in, limits_of, steps, things_in, word_entry, rank_ops, works_of};
 ghost use Rattle.plan_choice.specs.ranks.Given.{AreMade, HasRoom, IsWide};
 ghost use Rattle.plan_choice.specs.ranks.Seats.{IsInstalled};
 
 use crate::ranks::region::{NOBODY, region};
-use crate::ranks::seat::Seat;
+use crate::ranks::seat::ChoiceRank;
 use coll_lang::ChoiceKind;
 use portals_ni::Nic;
 use ptl_types::{
-    AckRequest, AtomicOp, Deed, Descriptor, ElemType, Entry, GetArgs, Handle, Limits,
+    AckRequest, AtomicOp, TriggeredOp, Descriptor, ElemType, Entry, GetArgs, Handle, Limits,
     List as MatchList, NoMemory, PutArgs, Rank, SwapOp,
 };
-use rank_node::{History, Kept, alloc_index, make_counter, make_descriptor, make_entry, one, post};
+use rank_node::{History, NodeHandles, alloc_index, make_counter, make_descriptor, make_entry, one, post};
 use std::alloc::Global;
 
 /// What an interface is opened with for so many steps.
@@ -60,7 +60,7 @@ fn word_at(start: u64, ct: Option<Handle>) -> Descriptor
 }
 
 /// The two counting events and three descriptors of an elect. `counter` is the number of the first.
-fn make_elect(nic: &mut Nic, kept: &mut Kept, step: u32, counter: usize) -> Result<(), NoMemory>
+fn make_elect(nic: &mut Nic, kept: &mut NodeHandles, step: u32, counter: usize) -> Result<(), NoMemory>
     requires few { step < 64 }
     requires next { counter ≡ length kept.old.counters }
     requires all { AreAllOf nic.old kept.old }
@@ -83,7 +83,7 @@ fn make_elect(nic: &mut Nic, kept: &mut Kept, step: u32, counter: usize) -> Resu
 }
 
 /// The counting event and two descriptors of tickets. `counter` is the number of the first.
-fn make_tickets(nic: &mut Nic, kept: &mut Kept, step: u32, counter: usize) -> Result<(), NoMemory>
+fn make_tickets(nic: &mut Nic, kept: &mut NodeHandles, step: u32, counter: usize) -> Result<(), NoMemory>
     requires few { step < 64 }
     requires next { counter ≡ length kept.old.counters }
     requires all { AreAllOf nic.old kept.old }
@@ -126,7 +126,7 @@ fn things_of(kind: ChoiceKind) -> usize
 /// The counting events and descriptors of a step. `counter` is the number of its first counting event.
 fn make_step(
     nic: &mut Nic,
-    kept: &mut Kept,
+    kept: &mut NodeHandles,
     kind: ChoiceKind,
     step: u32,
     counter: usize,
@@ -148,7 +148,7 @@ fn make_step(
 }
 
 /// The counting events and descriptors of all steps, step by step.
-fn make_steps(nic: &mut Nic, kept: &mut Kept, kinds: &[ChoiceKind]) -> Result<(), NoMemory>
+fn make_steps(nic: &mut Nic, kept: &mut NodeHandles, kinds: &[ChoiceKind]) -> Result<(), NoMemory>
     requires few { length kinds.now ≤ 64 }
     requires two { length kept.old.counters ≡ 2 }
     requires none { length kept.old.descriptors ≡ 0 }
@@ -189,7 +189,7 @@ fn entry_of(step: u64) -> Entry
 }
 
 /// The words of rank 0, to which all ranks send.
-fn make_words(nic: &mut Nic, kept: &mut Kept, count: u32) -> Result<(), NoMemory>
+fn make_words(nic: &mut Nic, kept: &mut NodeHandles, count: u32) -> Result<(), NoMemory>
     requires few { count ≤ 64 }
     requires all { AreAllOf nic.old kept.old }
     requires room { length kept.old.entries + count ≤ kept.old.room.entries }
@@ -237,7 +237,7 @@ fn giving(md: Handle, step: u64) -> PutArgs
 /// there then, and the telling.
 fn post_elect(
     nic: &mut Nic,
-    kept: &Kept,
+    kept: &NodeHandles,
     step: u32,
     counter: usize,
     descriptor: usize,
@@ -257,12 +257,12 @@ fn post_elect(
     let gives = giving(kept.descriptor_at(descriptor), bits);
     let old = answer_to(kept.descriptor_at(descriptor + 1), bits);
     let who = answer_to(kept.descriptor_at(descriptor + 2), bits);
-    let swap = Deed::Swap(old, gives, SwapOp::Cswap, ElemType::U64, NOBODY);
+    let swap = TriggeredOp::Swap(old, gives, SwapOp::Cswap, ElemType::U64, NOBODY);
     post(nic, swap, kept.counter(0), 1)?;
-    post(nic, Deed::Get(who), kept.counter(counter), 1)?;
+    post(nic, TriggeredOp::Get(who), kept.counter(counter), 1)?;
     post(
         nic,
-        Deed::Inc(kept.counter(1), one()),
+        TriggeredOp::Inc(kept.counter(1), one()),
         kept.counter(counter + 1),
         1,
     )
@@ -271,7 +271,7 @@ fn post_elect(
 /// The operations of tickets, whose handles begin at these numbers: an addition that gives what was there, and the telling.
 fn post_tickets(
     nic: &mut Nic,
-    kept: &Kept,
+    kept: &NodeHandles,
     step: u32,
     counter: usize,
     descriptor: usize,
@@ -290,11 +290,11 @@ fn post_tickets(
     let bits = u64::from(step);
     let gives = giving(kept.descriptor_at(descriptor), bits);
     let mine = answer_to(kept.descriptor_at(descriptor + 1), bits);
-    let add = Deed::FetchAtomic(mine, gives, AtomicOp::Sum, ElemType::U64);
+    let add = TriggeredOp::FetchAtomic(mine, gives, AtomicOp::Sum, ElemType::U64);
     post(nic, add, kept.counter(0), 1)?;
     post(
         nic,
-        Deed::Inc(kept.counter(1), one()),
+        TriggeredOp::Inc(kept.counter(1), one()),
         kept.counter(counter),
         1,
     )
@@ -303,7 +303,7 @@ fn post_tickets(
 /// The operations of a step, whose handles begin at these numbers.
 fn post_step(
     nic: &mut Nic,
-    kept: &Kept,
+    kept: &NodeHandles,
     kind: ChoiceKind,
     step: u32,
     counter: usize,
@@ -327,13 +327,13 @@ fn post_step(
 }
 
 /// The operations of all steps, step by step.
-fn post_all(nic: &mut Nic, kept: &Kept, kinds: &[ChoiceKind]) -> Result<(), NoMemory>
+fn post_all(nic: &mut Nic, kept: &NodeHandles, kinds: &[ChoiceKind]) -> Result<(), NoMemory>
     requires few { length kinds.now ≤ 64 }
     requires wide { IsWide nic.old }
     requires all { AreAllOf nic.old kept.now }
     requires counters { length kept.now.counters ≡ 2 + before counters_in kinds.now (length kinds.now) }
     requires descriptors { length kept.now.descriptors ≡ before things_in kinds.now (length kinds.now) }
-    ensures { OnOk result (AreMade kinds.now (map Trigger (works kinds.now)) nic.old nic.new kept.now kept.now) }
+    ensures { OnOk result (AreMade kinds.now (map Trigger (rank_ops kinds.now)) nic.old nic.new kept.now kept.now) }
 {
     let mut counter = 2;
     let mut descriptor = 0;
@@ -411,7 +411,7 @@ fn steps_of(rank: Rank, ranks: u32, kinds: &[ChoiceKind]) -> u64
 /// The words of rank 0. Other ranks have none.
 fn make_own_words(
     nic: &mut Nic,
-    kept: &mut Kept,
+    kept: &mut NodeHandles,
     rank: Rank,
     kinds: &[ChoiceKind],
 ) -> Result<(), NoMemory>
@@ -431,7 +431,7 @@ fn make_own_words(
 /// The calls of the text on a new interface, in their order.
 fn make_all(
     nic: &mut Nic,
-    kept: &mut Kept,
+    kept: &mut NodeHandles,
     rank: Rank,
     kinds: &[ChoiceKind],
 ) -> Result<(), NoMemory>
@@ -460,17 +460,17 @@ pub fn install(
     rank: Rank,
     ranks: u32,
     kinds: &[ChoiceKind],
-) -> Result<Seat, NoMemory>
+) -> Result<ChoiceRank, NoMemory>
     requires few { length kinds.now ≤ 64 }
     requires rank { rank < ranks }
     ensures { IfOk result (λ s. IsInstalled ranks kinds.now rank s) }
 {
     let bytes = region(alloc, rank, kinds)?;
     let limits = limits_for(kinds.len() as u32);
-    let mut kept = Kept::with_room(alloc, &limits)?;
+    let mut kept = NodeHandles::with_room(alloc, &limits)?;
     let mut nic = Nic::open(alloc, rank, ranks, limits, bytes)?;
     make_all(&mut nic, &mut kept, rank, kinds)?;
     let due = steps_of(rank, ranks, kinds);
     let history = History::with_room(alloc, due)?;
-    Ok(Seat::of(nic, kept, history))
+    Ok(ChoiceRank::of(nic, kept, history))
 }

@@ -9,28 +9,28 @@ ghost use Rattle.plan_choice.specs.ranks.Seats.{fired_seat, received_seat, start
 
 use portals_ni::Nic;
 use ptl_types::{Lane, LocalStep, Message, Rank};
-use rank_node::{History, Kept, raise_go};
+use rank_node::{History, NodeHandles, raise_go};
 use std::marker::Model;
 
 /// One rank: its interface, the handles that it gave, and its history.
-pub struct Seat {
+pub struct ChoiceRank {
     nic: Nic,
-    kept: Kept,
+    kept: NodeHandles,
     history: History,
 }
 
-impl Model for Seat {
-    ghost use Rattle.plan_choice.specs.ranks.Seats.{Seated};
+impl Model for ChoiceRank {
+    ghost use Rattle.plan_choice.specs.ranks.Seats.{ChoiceRankState};
 
-    ghost Value = { Seated };
+    ghost Value = { ChoiceRankState };
 
     ghost view = { λ s. record { kept = s.kept; diary = s.history; nic = s.nic } };
 }
 
 // Written out, so that letting one go is one call: docs/DECISIONS.md, "Large types have a drop of their own".
-impl Drop for Seat {
+impl Drop for ChoiceRank {
     fn drop(self) {
-        let Seat {
+        let ChoiceRank {
             nic: _,
             kept: _,
             history: _,
@@ -38,12 +38,12 @@ impl Drop for Seat {
     }
 }
 
-impl Seat {
+impl ChoiceRank {
     /// A rank of these parts.
-    pub(crate) fn of(nic: Nic, kept: Kept, history: History) -> Seat
+    pub(crate) fn of(nic: Nic, kept: NodeHandles, history: History) -> ChoiceRank
         ensures { result ≡ record { kept = kept; diary = history; nic = nic } }
     {
-        Seat { nic, kept, history }
+        ChoiceRank { nic, kept, history }
     }
 
     /// Its interface.

@@ -11,12 +11,12 @@ use Rattle.plan_steps.proofs.Folds.{Turned, turn}
 use Rattle.plan_steps.proofs.Folds.Turned.{Above, Below}
 use Rattle.plan_steps.proofs.Trees.{entry-cells, entry-known}
 use Rattle.plan_steps.specs.Allgather.{allgather_cells, collected, origin, ring_cell, ring_node}
-use Rattle.plan_steps.specs.Site.{Site, count, entry, full_entry, further, places, rank_at, rows, source_at}
+use Rattle.plan_steps.specs.StepContext.{StepContext, count, entry, full_entry, further, places, rank_at, rows, source_at}
 use Rattle.plan_steps.specs.Sounding.{EachAt, SoundNewCell}
 use Rattle.ptl_types.specs.Operations.{bytes_of}
 use Rattle.std.proofs.Math.Nat.{mul-le-mul_right}
 
-module _ (k : ℕ → Cell) (s : Site) where
+module _ (k : ℕ → Cell) (s : StepContext) where
   abbrev ring_rows : List NewCell
   ring_rows = rows s (ring_node s) 0 (count s)
 

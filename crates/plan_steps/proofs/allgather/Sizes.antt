@@ -4,9 +4,9 @@ use Rattle.plan_core.proofs.Drawing.{length-row}
 use Rattle.plan_core.specs.Draw.{links_of, bytes_in}
 use Rattle.plan_steps.proofs.StepSizes.{links-append, bytes-append, links-row, bytes-row, links-rows, bytes-rows}
 use Rattle.plan_steps.specs.Allgather.{allgather_cells, collect_link, collected, ring_node}
-use Rattle.plan_steps.specs.Site.{Site, count, places, entries, full_entry, rows}
+use Rattle.plan_steps.specs.StepContext.{StepContext, count, places, entries, full_entry, rows}
 
-pub allgather-links : (s : Site) → links_of (allgather_cells s) ≡ 2 * count s + 2 * (count s * count s)
+pub allgather-links : (s : StepContext) → links_of (allgather_cells s) ≡ 2 * count s + 2 * (count s * count s)
 allgather-links s =
     let m = count s in
     let a = links-append (entries s) (rows s (ring_node s) 0 m ++ map (collected s) (places s)) in
@@ -16,7 +16,7 @@ allgather-links s =
     let e = links-row (collected s) 0 m m (λ i. length-row (collect_link s i) 0 m) in
     a ∙ ap₂ (λ x y. x + y) c (b ∙ ap₂ (λ x y. x + y) d e) ∙ (let z : m * 2 + (m * (m * 1) + m * m) ≡ 2 * m + 2 * (m * m) = omega arith in z)
 
-pub allgather-bytes : (s : Site) → bytes_in (allgather_cells s) ≡ count s * s.length + 2 * (count s * (count s * s.length))
+pub allgather-bytes : (s : StepContext) → bytes_in (allgather_cells s) ≡ count s * s.length + 2 * (count s * (count s * s.length))
 allgather-bytes s =
     let m = count s in
     let n = s.length in

@@ -7,14 +7,14 @@ use Rattle.plan_core.specs.declared.Cell.{Cell}
 use Rattle.plan_steps.proofs.Entries.{Ground, HasA, IsCell, Known, behind, both_parts, entries-sound}
 use Rattle.plan_steps.proofs.Trees.{down, down-sound, down-value, up-at, up-sound, up-value, entry-cells, entry-known}
 use Rattle.plan_steps.specs.Allreduce.{allreduce_cells}
-use Rattle.plan_steps.specs.Site.{Site, count, full_entry, further, source_at}
+use Rattle.plan_steps.specs.StepContext.{StepContext, count, full_entry, further, source_at}
 use Rattle.plan_steps.specs.Sounding.{EachAt, SoundNewCell}
 use Rattle.plan_steps.specs.Trees.{up, up_cell, up_number}
 use Rattle.ptl_types.specs.Elements.{starting}
 use Rattle.ptl_types.specs.Operations.{bytes_of}
 use Rattle.ptl_types.specs.declared.elements.AtomicOp.{AtomicOp}
 
-module _ (k : ℕ → Cell) (s : Site) (o : AtomicOp) where
+module _ (k : ℕ → Cell) (s : StepContext) (o : AtomicOp) where
   abbrev back : List NewCell
   back = down s 0 (further s (count s)) (up_number s 0) (up_number s)
 

@@ -7,13 +7,13 @@ use Rattle.plan_steps.proofs.CellKinds.{gathering, gathering-sound, gathering-va
 use Rattle.plan_steps.proofs.Entries.{Ground, HasA, IsCell, Known, behind, both_parts, each_places, entries-sound, of_places}
 use Rattle.plan_steps.proofs.Trees.{entry-cells, entry-known}
 use Rattle.plan_steps.specs.Alltoall.{alltoall_cells}
-use Rattle.plan_steps.specs.Site.{Site, count, entry, full_entry, further, rank_at, source_at}
+use Rattle.plan_steps.specs.StepContext.{StepContext, count, entry, full_entry, further, rank_at, source_at}
 use Rattle.plan_steps.specs.Sounding.{EachAt, SoundNewCell}
 use Rattle.ptl_types.specs.Elements.{part}
 use Rattle.ptl_types.specs.Operations.{bytes_of}
 use Rattle.std.proofs.Math.Nat.{mul-le-mul_right}
 
-module _ (k : ℕ → Cell) (s : Site) where
+module _ (k : ℕ → Cell) (s : StepContext) where
   pub alltoall-sound : (ranks m : ℕ) → Ground ranks k s → s.length % bytes_of s.ty ≡ 0 → s.length / count s ≡ m → s.length ≡ count s * m → ((i : ℕ) → i < count s → HasA k s i)
       → EachAt (IsCell k) s.first (alltoall_cells s) → EachAt (SoundNewCell ranks k) s.first (alltoall_cells s)
   alltoall-sound ranks m ground whole is_m all has cells =

@@ -13,10 +13,10 @@ use Rattle.plan_steps.proofs.Folds.Turned.{Above, Below}
 use Rattle.plan_steps.proofs.RoundCounts.{rounds-few}
 use Rattle.plan_steps.specs.Barrier.{barrier_cells, round_links}
 use Rattle.plan_steps.specs.Rounds.{rounds}
-use Rattle.plan_steps.specs.Site.{Site, bare_entry, bump, count, entry, in_row, places, put, rank_at, rows, silent}
+use Rattle.plan_steps.specs.StepContext.{StepContext, bare_entry, bump, count, entry, in_row, places, put, rank_at, rows, silent}
 use Rattle.plan_steps.specs.Sounding.{EachAt, SoundNewCell}
 
-module _ (k : ℕ → Cell) (s : Site) where
+module _ (k : ℕ → Cell) (s : StepContext) where
   abbrev round_node : ℕ → ℕ → NewCell
   round_node j r = silent (rank_at s r) (round_links s j r)
 
@@ -47,7 +47,7 @@ module _ (k : ℕ → Cell) (s : Site) where
       told-sound ranks k (s.first + count s + (j * count s + r)) (rank_at s r) (in_row s j r) (in_row s j ((r + (count s - 2 ^ j)) % count s)) (ground.members r i) (omega arith) (round_rank cells j r (omega arith) i) (omega (arith, n)))))
 
 -- ---- a barrier that is drawn: round j + 1 at place r comes after round j there and at the place 2 ^ j before it
-module _ (q : Plan) (inputs : Inputs) (s : Site) (pos : 0 < count s) (small : count s ≤ 256) (drawn : EachAt (Drawn q inputs) s.first (barrier_cells s)) where
+module _ (q : Plan) (inputs : Inputs) (s : StepContext) (pos : 0 < count s) (small : count s ≤ 256) (drawn : EachAt (Drawn q inputs) s.first (barrier_cells s)) where
   row_drawn : EachAt (Drawn q inputs) (s.first + count s) (rows s (λ j r. silent (rank_at s r) (round_links s j r)) 0 (rounds (count s)))
   row_drawn = behind (Drawn q inputs) s s.first (bare_entry s) (rows s (λ j r. silent (rank_at s r) (round_links s j r)) 0 (rounds (count s))) drawn
 

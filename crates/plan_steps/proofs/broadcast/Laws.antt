@@ -6,12 +6,12 @@ use Rattle.plan_steps.proofs.CellKinds.{bumped-sound, copying-sound}
 use Rattle.plan_steps.proofs.Entries.{Ground, HasA, IsCell, Known, behind, both_parts, each_places, entry-value, of_places}
 use Rattle.plan_steps.proofs.Trees.{down, down-sound, down-value, turned-lt, unturned-lt}
 use Rattle.plan_steps.specs.Broadcast.{broadcast_cells}
-use Rattle.plan_steps.specs.Site.{Site, bare_entry, count, entry, full_entry, further, places, rank_at, exit_at, source_at}
+use Rattle.plan_steps.specs.StepContext.{StepContext, bare_entry, count, entry, full_entry, further, places, rank_at, exit_at, source_at}
 use Rattle.plan_steps.specs.Sounding.{EachAt, SoundNewCell}
 use Rattle.plan_steps.specs.Trees.{turned, unturned}
 use Rattle.ptl_types.specs.Operations.{bytes_of}
 
-module _ (k : ℕ → Cell) (s : Site) (root : ℕ) (root_in : root < count s) where
+module _ (k : ℕ → Cell) (s : StepContext) (root : ℕ) (root_in : root < count s) where
   abbrev first_node : ℕ → NewCell
   first_node i = cond (i == root) (full_entry s i) (bare_entry s i)
 

@@ -3,10 +3,10 @@ use Rattle.std.proofs.Common.{ℕ, zero, suc, cond, ◌+◌, ◌-◌, ◌*◌, �
 use Rattle.plan_core.specs.Draw.{links_of, bytes_in}
 use Rattle.plan_steps.proofs.StepSizes.{links-append, bytes-append, bytes-row, links-one, first-bytes}
 use Rattle.plan_steps.specs.Broadcast.{broadcast_cells, copy_cell, first_cell}
-use Rattle.plan_steps.specs.Site.{Site, count, places, full_entry, bare_entry}
+use Rattle.plan_steps.specs.StepContext.{StepContext, count, places, full_entry, bare_entry}
 use Rattle.std.proofs.lemmas.Bool.{ne_eqb}
 
-pub broadcast-links : (s : Site) (root : ℕ) → root < count s → links_of (broadcast_cells s root) ≡ count s + 1 + (1 + 2 * (count s - 1))
+pub broadcast-links : (s : StepContext) (root : ℕ) → root < count s → links_of (broadcast_cells s root) ≡ count s + 1 + (1 + 2 * (count s - 1))
 broadcast-links s root h =
     let m = count s in
     let a = links-append (map (first_cell s root) (places s)) (map (copy_cell s root) (places s)) in
@@ -22,7 +22,7 @@ broadcast-links s root h =
     further-two zero n = absurd (n refl)
     further-two (suc i) n = refl
 
-pub broadcast-bytes : (s : Site) (root : ℕ) → root < count s → bytes_in (broadcast_cells s root) ≡ s.length + count s * s.length
+pub broadcast-bytes : (s : StepContext) (root : ℕ) → root < count s → bytes_in (broadcast_cells s root) ≡ s.length + count s * s.length
 broadcast-bytes s root h =
     bytes-append (map (first_cell s root) (places s)) (map (copy_cell s root) (places s))
     ∙ ap₂ (λ x y. x + y) (first-bytes s root h) (bytes-row (copy_cell s root) 0 (count s) s.length (λ i. refl))

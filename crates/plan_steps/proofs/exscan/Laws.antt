@@ -12,13 +12,13 @@ use Rattle.plan_steps.proofs.scan.Laws.{scan-at, scan-sound, scan-value}
 use Rattle.plan_steps.specs.Exscan.{exscan_cells, shifted}
 use Rattle.plan_steps.specs.Rounds.{rounds}
 use Rattle.plan_steps.specs.Scan.{scan_cell, scan_cells, scan_number, scan_rows}
-use Rattle.plan_steps.specs.Site.{Site, count, entries, full_entry, further, rank_at, source_at}
+use Rattle.plan_steps.specs.StepContext.{StepContext, count, entries, full_entry, further, rank_at, source_at}
 use Rattle.plan_steps.specs.Sounding.{EachAt, SoundNewCell}
 use Rattle.ptl_types.specs.Elements.{starting}
 use Rattle.ptl_types.specs.Operations.{bytes_of}
 use Rattle.ptl_types.specs.declared.elements.AtomicOp.{AtomicOp}
 
-module _ (k : ℕ → Cell) (s : Site) (o : AtomicOp) where
+module _ (k : ℕ → Cell) (s : StepContext) (o : AtomicOp) where
   abbrev last_cells : List NewCell
   last_cells = map (shifted s) (from_to 0 (count s - 1))
 

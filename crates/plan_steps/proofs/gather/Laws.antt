@@ -7,11 +7,11 @@ use Rattle.plan_steps.proofs.CellKinds.{gathering-sound, gathering-value}
 use Rattle.plan_steps.proofs.Entries.{Ground, HasA, IsCell, Known, behind, both_parts, entries-sound}
 use Rattle.plan_steps.proofs.Trees.{entry-cells, entry-known}
 use Rattle.plan_steps.specs.Gather.{gather_cells}
-use Rattle.plan_steps.specs.Site.{Site, count, entry, full_entry, further, rank_at, source_at}
+use Rattle.plan_steps.specs.StepContext.{StepContext, count, entry, full_entry, further, rank_at, source_at}
 use Rattle.plan_steps.specs.Sounding.{EachAt, SoundNewCell}
 use Rattle.ptl_types.specs.Operations.{bytes_of}
 
-module _ (k : ℕ → Cell) (s : Site) where
+module _ (k : ℕ → Cell) (s : StepContext) where
   pub gather-sound : (ranks root : ℕ) → Ground ranks k s → root < count s → s.length % bytes_of s.ty ≡ 0 → (count s * s.length) % bytes_of s.ty ≡ 0 → ((i : ℕ) → i < count s → HasA k s i)
       → EachAt (IsCell k) s.first (gather_cells s root) → EachAt (SoundNewCell ranks k) s.first (gather_cells s root)
   gather-sound ranks root ground root_in whole whole' has cells =

@@ -10,7 +10,7 @@ use Rattle.plan_steps.proofs.Drawn.{each_front}
 use Rattle.plan_steps.proofs.Entries.{behind, both_parts, each_places, entry-value, of_places}
 use Rattle.plan_steps.proofs.HeldSizes.{is_in-filter}
 use Rattle.plan_steps.specs.Gatherv.{concatenated, gatherv_cells, held_entry}
-use Rattle.plan_steps.specs.Site.{Site, bare_entry, count, entry, exit_at, full_entry, further, places, rank_at, source_at}
+use Rattle.plan_steps.specs.StepContext.{StepContext, bare_entry, count, entry, exit_at, full_entry, further, places, rank_at, source_at}
 use Rattle.plan_steps.specs.Sounding.{EachAt, Ground, HasA, IsCell, Known, SoundNewCell}
 use Rattle.ptl_types.specs.Operations.{bytes_of}
 
@@ -42,7 +42,7 @@ without-empty x t k (suc n) none = at (t k) refl (without-empty x t (suc k) n (�
     at true e rest = ap (λ v. x k ++ v) rest
     at false e rest = rest ∙ ap (λ v. v ++ flat_map x (from_to (suc k) n)) (sym (none k (omega arith) e))
 
-module _ (k : ℕ → Cell) (s : Site) (root : ℕ) (t : ℕ → Bool) (held : s.holding ≡ filter t (from_to 0 (count s))) where
+module _ (k : ℕ → Cell) (s : StepContext) (root : ℕ) (t : ℕ → Bool) (held : s.holding ≡ filter t (from_to 0 (count s))) where
   is_held : (i : ℕ) → i < count s → is_in i s.holding ≡ t i
   is_held i h = ap (is_in i) held ∙ is_in-filter t 0 (count s) i (omega arith) (omega arith)
 

@@ -7,7 +7,7 @@ use Rattle.plan_core.specs.Plan.{from_to}
 use Rattle.plan_steps.proofs.HeldSizes.{is_in-filter}
 use Rattle.plan_steps.proofs.StepSizes.{links-cons, links-append, bytes-cons, bytes-append}
 use Rattle.plan_steps.specs.Gatherv.{concatenated, gatherv_cells, held_entry, holder_put}
-use Rattle.plan_steps.specs.Site.{Site, bare_entry, count, full_entry, places}
+use Rattle.plan_steps.specs.StepContext.{StepContext, bare_entry, count, full_entry, places}
 
 -- ---- cells that have more where t holds
 links-where : (t : ℕ → Bool) (f : ℕ → NewCell) (k n : ℕ) → ((i : ℕ) → k ≤ i → i < k + n → length (f i).into ≡ cond (t i) 2 1) → links_of (map f (from_to k n)) ≡ n + length (filter t (from_to k n))
@@ -34,7 +34,7 @@ bytes-where t f a k (suc n) h = at (t k) refl (bytes-cons (f k) (map f (from_to 
         ∙ (let z : 0 + length (filter t (from_to (suc k) n)) * a ≡ length (filter t (from_to (suc k) n)) * a = omega arith in z)
         ∙ sym (ap (λ b. length (cond b (k ∷ filter t (from_to (suc k) n)) (filter t (from_to (suc k) n))) * a) e)
 
-module _ (s : Site) (t : ℕ → Bool) (held : s.holding ≡ filter t (from_to 0 (count s))) where
+module _ (s : StepContext) (t : ℕ → Bool) (held : s.holding ≡ filter t (from_to 0 (count s))) where
   holds : (i : ℕ) → i < count s → is_in i s.holding ≡ t i
   holds i h = ap (is_in i) held ∙ is_in-filter t 0 (count s) i (let z : 0 ≤ i = omega arith in z) (let z : i < 0 + count s = omega arith in z)
 

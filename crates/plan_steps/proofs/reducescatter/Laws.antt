@@ -11,7 +11,7 @@ use Rattle.plan_steps.proofs.Trees.{up-at}
 use Rattle.plan_steps.proofs.reduce.Laws.{reduce-sound, reduce-value}
 use Rattle.plan_steps.specs.Reduce.{reduce_cells}
 use Rattle.plan_steps.specs.Reducescatter.{reducescatter_cells, result_block}
-use Rattle.plan_steps.specs.Site.{Site, count, entries, full_entry, further, places, rank_at, source_at, block_length}
+use Rattle.plan_steps.specs.StepContext.{StepContext, count, entries, full_entry, further, places, rank_at, source_at, block_length}
 use Rattle.plan_steps.specs.Sounding.{EachAt, SoundNewCell, new_value}
 use Rattle.plan_steps.specs.Trees.{turned, up, up_cell, up_number}
 use Rattle.ptl_types.specs.Elements.{part, starting}
@@ -19,7 +19,7 @@ use Rattle.ptl_types.specs.Operations.{bytes_of}
 use Rattle.ptl_types.specs.declared.elements.AtomicOp.{AtomicOp}
 use Rattle.std.proofs.Math.Nat.{mod-eq_of_lt}
 
-module _ (k : ℕ → Cell) (s : Site) (o : AtomicOp) where
+module _ (k : ℕ → Cell) (s : StepContext) (o : AtomicOp) where
   abbrev blocks : List NewCell
   blocks = map (result_block s) (places s)
 

@@ -13,13 +13,13 @@ use Rattle.plan_steps.proofs.Scans.{scanned}
 use Rattle.plan_steps.proofs.Trees.{entry-cells, entry-known}
 use Rattle.plan_steps.specs.Rounds.{rounds}
 use Rattle.plan_steps.specs.Scan.{scan_cell, scan_cells, scan_number}
-use Rattle.plan_steps.specs.Site.{Site, count, entry, full_entry, rank_at, rows, source_at}
+use Rattle.plan_steps.specs.StepContext.{StepContext, count, entry, full_entry, rank_at, rows, source_at}
 use Rattle.plan_steps.specs.Sounding.{EachAt, SoundNewCell}
 use Rattle.ptl_types.specs.Elements.{combined, starting}
 use Rattle.ptl_types.specs.Operations.{bytes_of}
 use Rattle.ptl_types.specs.declared.elements.AtomicOp.{AtomicOp}
 
-module _ (k : ℕ → Cell) (s : Site) (o : AtomicOp) where
+module _ (k : ℕ → Cell) (s : StepContext) (o : AtomicOp) where
   abbrev scan_rows : List NewCell
   scan_rows = rows s (scan_cell s o) 0 (suc (rounds (count s)))
 

@@ -5,7 +5,7 @@ use Rattle.plan_core.specs.Plan.{from_to}
 use Rattle.plan_steps.proofs.StepSizes.{links-cons, links-append, bytes-append, links-row, bytes-rows, entry-links, entry-bytes}
 use Rattle.plan_steps.specs.Rounds.{rounds}
 use Rattle.plan_steps.specs.Scan.{scan_cell, scan_cells, scan_number, scan_rows}
-use Rattle.plan_steps.specs.Site.{Site, atomic, count, entries, row, rows}
+use Rattle.plan_steps.specs.StepContext.{StepContext, atomic, count, entries, row, rows}
 use Rattle.ptl_types.specs.declared.elements.AtomicOp.{AtomicOp}
 use Rattle.std.proofs.lemmas.Bool.{leb-true, leb-false}
 use Rattle.std.proofs.lemmas.List.Sums.{sum_by-cons}
@@ -20,7 +20,7 @@ links-above f t k (suc n) h = at (nat_le t k) refl (links-cons (f k) (map f (fro
     at true e c d r = let l = leb-true _ _ e in let g = d ∙ ap (λ b. cond b 2 1) e in omega (arith, l, c, g, r)
     at false e c d r = let l = leb-false _ _ e in let g = d ∙ ap (λ b. cond b 2 1) e in omega (arith, l, c, g, r)
 
-scan-size : (s : Site) (o : AtomicOp) (k i : ℕ) → length (scan_cell s o (suc k) i).into ≡ cond (nat_le (2 ^ k) i) 2 1
+scan-size : (s : StepContext) (o : AtomicOp) (k i : ℕ) → length (scan_cell s o (suc k) i).into ≡ cond (nat_le (2 ^ k) i) 2 1
 scan-size s o k i = at (nat_le (2 ^ k) i)
   where
     at : (b : Bool)
@@ -28,7 +28,7 @@ scan-size s o k i = at (nat_le (2 ^ k) i)
     at true = refl
     at false = refl
 
-further-rows : (s : Site) (o : AtomicOp) (a n : ℕ) → links_of (rows s (scan_cell s o) (suc a) n) ≡ sum_by (λ k. count s + (count s - 2 ^ k)) (from_to a n)
+further-rows : (s : StepContext) (o : AtomicOp) (a n : ℕ) → links_of (rows s (scan_cell s o) (suc a) n) ≡ sum_by (λ k. count s + (count s - 2 ^ k)) (from_to a n)
 further-rows s o a zero = refl
 further-rows s o a (suc n) =
     links-append (row s (scan_cell s o) (suc a)) (rows s (scan_cell s o) (suc (suc a)) n)
@@ -37,7 +37,7 @@ further-rows s o a (suc n) =
     (further-rows s o (suc a) n)
     ∙ sym (sum_by-cons (λ k. count s + (count s - 2 ^ k)) a (from_to (suc a) n))
 
-pub scan-links : (s : Site) (o : AtomicOp) → links_of (scan_cells s o) ≡ 2 * count s + count s + sum_by (λ k. count s + (count s - 2 ^ k)) (from_to 0 (rounds (count s)))
+pub scan-links : (s : StepContext) (o : AtomicOp) → links_of (scan_cells s o) ≡ 2 * count s + count s + sum_by (λ k. count s + (count s - 2 ^ k)) (from_to 0 (rounds (count s)))
 scan-links s o =
     let a = links-append (entries s) (scan_rows s o) in
     let b = links-append (row s (scan_cell s o) 0) (rows s (scan_cell s o) 1 (rounds (count s))) in
@@ -47,5 +47,5 @@ scan-links s o =
     let q : count s * 1 ≡ count s = omega arith in
     omega (arith, a, b, c, d, e, q)
 
-pub scan-bytes : (s : Site) (o : AtomicOp) → bytes_in (scan_cells s o) ≡ count s * s.length + suc (rounds (count s)) * (count s * s.length)
+pub scan-bytes : (s : StepContext) (o : AtomicOp) → bytes_in (scan_cells s o) ≡ count s * s.length + suc (rounds (count s)) * (count s * s.length)
 scan-bytes s o = bytes-append (entries s) (scan_rows s o) ∙ ap₂ (λ x y. x + y) (entry-bytes s) (bytes-rows s (scan_cell s o) 0 (suc (rounds (count s))) s.length (λ k i. refl))

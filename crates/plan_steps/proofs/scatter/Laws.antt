@@ -8,12 +8,12 @@ use Rattle.plan_steps.proofs.Drawn.{each_front}
 use Rattle.plan_steps.proofs.Entries.{behind, both_parts, each_places, entry-value, of_places}
 use Rattle.plan_steps.specs.Broadcast.{first_cell}
 use Rattle.plan_steps.specs.Scatter.{scatter_cells, scatter_put, scattered}
-use Rattle.plan_steps.specs.Site.{Site, bare_entry, bump, count, entry, exit_at, full_entry, further, holding, places, rank_at, source_at, block_length}
+use Rattle.plan_steps.specs.StepContext.{StepContext, bare_entry, bump, count, entry, exit_at, full_entry, further, holding, places, rank_at, source_at, block_length}
 use Rattle.plan_steps.specs.Sounding.{EachAt, Ground, HasA, IsCell, Known, SoundNewCell, new_value}
 use Rattle.ptl_types.specs.Elements.{part}
 use Rattle.ptl_types.specs.Operations.{bytes_of}
 
-module _ (k : ℕ → Cell) (s : Site) (root : ℕ) (root_in : root < count s) where
+module _ (k : ℕ → Cell) (s : StepContext) (root : ℕ) (root_in : root < count s) where
   root_first : first_cell s root root ≡ full_entry s root
   root_first = ap (λ b. cond b (full_entry s root) (bare_entry s root)) (eq-eqb root root refl)
 

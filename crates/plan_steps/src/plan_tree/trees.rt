@@ -2,18 +2,18 @@
 
 ghost use Rattle.std.specs.Prelude.{◌≡◌, ◌<◌, ◌≤◌, ◌+◌, ◌^◌, ◌==◌, ◌++◌, ◌∷◌, [], IfOk, map, if◌then◌else◌};
 ghost use Rattle.plan_core.specs.Draw.{HasRoom, add};
-ghost use Rattle.plan_steps.specs.Site.{atomic, count};
+ghost use Rattle.plan_steps.specs.StepContext.{atomic, count};
 ghost use Rattle.plan_steps.specs.Trees.{cleared, down_cell, parent, turned, unturned, up_at, up_cell, up_number, up_sources};
 
 use crate::incoming::{atomic, bump, put_whole};
 use crate::row::Rows;
-use crate::site::Site;
+use crate::site::StepContext;
 use plan_core::{Incoming, Plan};
 use ptl_types::{AtomicOp, NoMemory};
 use std::alloc::{AllocError, Global};
 
 /// The place of v.
-pub(crate) fn turned(site: &Site, root: u32, v: u32) -> u32
+pub(crate) fn turned(site: &StepContext, root: u32, v: u32) -> u32
     requires root { root < count site.now }
     requires v { v < count site.now }
     ensures value { result ≡ turned site.now root v }
@@ -24,7 +24,7 @@ pub(crate) fn turned(site: &Site, root: u32, v: u32) -> u32
 }
 
 /// The v of a place.
-pub(crate) fn unturned(site: &Site, root: u32, place: u32) -> u32
+pub(crate) fn unturned(site: &StepContext, root: u32, place: u32) -> u32
     requires root { root < count site.now }
     requires place { place < count site.now }
     ensures value { result ≡ unturned site.now root place }
@@ -63,7 +63,7 @@ fn parent(v: u32) -> u32
 /// A cell of the way down, which copies its parent's, or the cell `top` at the root.
 pub(crate) fn draw_down_cell(
     plan: &mut Plan,
-    site: &Site,
+    site: &StepContext,
     root: u32,
     base: u32,
     top: u32,
@@ -87,7 +87,7 @@ pub(crate) fn draw_down_cell(
 }
 
 /// The cell of v on the way up.
-pub(crate) fn up_number(site: &Site, v: u32) -> u32
+pub(crate) fn up_number(site: &StepContext, v: u32) -> u32
     requires { v < count site.now }
     ensures { result ≡ up_number site.now v }
 {
@@ -96,7 +96,7 @@ pub(crate) fn up_number(site: &Site, v: u32) -> u32
 }
 
 /// What a child of v has, if w is one.
-fn push_child(links: &mut Vec<Incoming>, site: &Site, v: u32, w: u32) -> Result<(), AllocError>
+fn push_child(links: &mut Vec<Incoming>, site: &StepContext, v: u32, w: u32) -> Result<(), AllocError>
     requires { w < count site.now }
     ensures { IfOk result (λ u. links.new.items ≡ links.old.items ++ (if parent w == v then atomic site.now.length (up_number site.now w) ∷ [] else [])) }
 {
@@ -107,7 +107,7 @@ fn push_child(links: &mut Vec<Incoming>, site: &Site, v: u32, w: u32) -> Result<
 }
 
 /// What is combined in the cell of v: the list at its place, and what its children have.
-fn up_links(alloc: Global, site: &Site, root: u32, v: u32) -> Result<Vec<Incoming>, AllocError>
+fn up_links(alloc: Global, site: &StepContext, root: u32, v: u32) -> Result<Vec<Incoming>, AllocError>
     requires root { root < count site.now }
     requires v { v < count site.now }
     ensures { IfOk result (λ links. links.items ≡ map (atomic site.now.length) (up_sources site.now root v)) }
@@ -125,7 +125,7 @@ fn up_links(alloc: Global, site: &Site, root: u32, v: u32) -> Result<Vec<Incomin
 fn draw_up_cell(
     alloc: Global,
     plan: &mut Plan,
-    site: &Site,
+    site: &StepContext,
     root: u32,
     op: AtomicOp,
     v: u32,
@@ -155,7 +155,7 @@ impl Rows for Up {
 
     ghost cell = { λ up s k. up_at s up.root up.op };
 
-    fn draw(&self, plan: &mut Plan, site: &Site, _number: u32, place: u32) -> Result<(), NoMemory> {
+    fn draw(&self, plan: &mut Plan, site: &StepContext, _number: u32, place: u32) -> Result<(), NoMemory> {
         let count = site.count();
         draw_up_cell(
             self.alloc,

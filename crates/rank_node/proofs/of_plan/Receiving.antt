@@ -10,7 +10,7 @@ use Rattle.plan_core.specs.Plan.{Plan, link}
 use Rattle.plan_core.specs.Sound.{SoundPlan, AreInputsOf}
 use Rattle.plan_core.specs.Values.{Inputs}
 use Rattle.plan_calls.specs.Areas.{links_to}
-use Rattle.plan_calls.specs.Works.{sends_of}
+use Rattle.plan_calls.specs.RankOps.{sends_of}
 use Rattle.cuts.specs.view.Slots.{Slots}
 use Rattle.cuts.specs.histories.Cut.{is_received_stray, is_stray}
 use Rattle.cuts.specs.histories.History.{Local, May}

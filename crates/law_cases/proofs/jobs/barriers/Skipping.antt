@@ -28,13 +28,13 @@ use Rattle.cuts.specs.machine.Machine.Leads.{along, here}
 use Rattle.plan_steps.specs.Barrier.{barrier_cells}
 use Rattle.plan_steps.specs.Rounds.{rounds}
 use Rattle.cuts.specs.start.Start.{bring, cell_started}
-use Rattle.plan_steps.specs.Site.{Site}
+use Rattle.plan_steps.specs.StepContext.{StepContext}
 use Rattle.cuts.specs.view.Calls.{call_made}
 use Rattle.cuts.specs.view.Slots.{Slots}
 
 -- ---- the plans
 -- a barrier of ranks 0 and 1 whose first cell has this number, behind these exits
-abbrev behind : ℕ → List ℕ → Site
+abbrev behind : ℕ → List ℕ → StepContext
 behind first exits = record {
   members = 0 ∷ 1 ∷ [];
   first = first;

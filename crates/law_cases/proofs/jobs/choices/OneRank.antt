@@ -20,7 +20,7 @@ use Rattle.coll_lang.specs.declared.choices.ChoiceKind.TheVariants.{Elect, Ticke
 use Rattle.choices.specs.machine.Machine.{answer, ask}
 use Rattle.choices.specs.view.Install.{Slots, answer_message, ask_message, ct_of, four_words, number_of, view}
 use Rattle.choices.specs.view.Install.Counter.{Done, Go}
-use Rattle.choices.specs.view.Install.Work.{Look, Send, Tell}
+use Rattle.choices.specs.view.Install.RankOp.{Look, Send, ForDone}
 use Rattle.choices.specs.view.Calls.{install, no_seat}
 use Rattle.cuts.specs.histories.System.{System, state_at}
 use Rattle.cuts.specs.orders.Chosen.{Scene, chosen, enabled_steps}
@@ -41,8 +41,8 @@ unfolding append
 closed_form = refl
 
 -- the operations are numbered step by step
-numbers : (number_of choices (Send 0) ∷ number_of choices (Look 0) ∷ number_of choices (Tell 0) ∷ number_of choices
-    (Send 1) ∷ number_of choices (Tell 1) ∷ []) ≡ 0 ∷ 1 ∷ 2 ∷ 3 ∷ 4 ∷ []
+numbers : (number_of choices (Send 0) ∷ number_of choices (Look 0) ∷ number_of choices (ForDone 0) ∷ number_of choices
+    (Send 1) ∷ number_of choices (ForDone 1) ∷ []) ≡ 0 ∷ 1 ∷ 2 ∷ 3 ∷ 4 ∷ []
 numbers = refl
 
 -- the words of the region: H, V, O and B of each step

@@ -4,7 +4,7 @@ use Rattle.std.proofs.Common.{ℕ, ◌≡◌, ◌==◌, List, [], ◌∷◌, ref
 use Rattle.coll_lang.specs.declared.choices.ChoiceKind.{ChoiceKind}
 use Rattle.coll_lang.specs.declared.choices.ChoiceKind.TheVariants.{Elect, Tickets}
 use Rattle.ptl_types.specs.Handles.{top}
-use Rattle.ptl_types.specs.declared.calls.Deed.TheVariants.{Swap}
+use Rattle.ptl_types.specs.declared.calls.TriggeredOp.TheVariants.{Swap}
 use Rattle.ptl_types.specs.declared.elements.ElemType.TheVariants.{U64}
 use Rattle.ptl_types.specs.declared.elements.SwapOp.TheVariants.{Cswap}
 use Rattle.ni_model.specs.Answers.{answered}
@@ -19,7 +19,7 @@ use Rattle.choices.specs.machine.Choices.{AreTickets, IsElected}
 use Rattle.choices.specs.view.Install.{Slots, ct_of, four_words, get_args, operation, put_args}
 use Rattle.choices.specs.view.Install.Counter.{Go}
 use Rattle.choices.specs.view.Install.Part.{Old}
-use Rattle.choices.specs.view.Install.Work.{Look, Send, Tell}
+use Rattle.choices.specs.view.Install.RankOp.{Look, Send, ForDone}
 use Rattle.choices.specs.laws.Decided.{choice_system, result_of}
 
 abbrev slots : Slots
@@ -55,7 +55,7 @@ lowest n = 0
 abbrev with_zero : System
 with_zero = electing (record (operation slots elect (Send 0))
     { deed = Swap (get_args slots elect 0 (Old 0)) (put_args slots elect 0) Cswap U64 0 } ∷ operation slots elect
-    (Look 0) ∷ operation slots elect (Tell 0) ∷ [])
+    (Look 0) ∷ operation slots elect (ForDone 0) ∷ [])
 
 zero_ends : enabled_steps with_zero (chosen with_zero lowest 16) ≡ []
 unfolding target request answered fired started append
@@ -79,7 +79,7 @@ zero_elects_none h = unnamed (value with_zero lowest 16) zero_first h
 -- ---- the get waits on go: it may come before any swap
 abbrev hasty : System
 hasty = electing (operation slots elect (Send 0) ∷ record
-    (operation slots elect (Look 0)) { ct = ct_of slots elect Go } ∷ operation slots elect (Tell 0) ∷ [])
+    (operation slots elect (Look 0)) { ct = ct_of slots elect Go } ∷ operation slots elect (ForDone 0) ∷ [])
 
 -- after both starts rank 0 fires its get
 abbrev get_first : ℕ → ℕ

@@ -12,7 +12,7 @@ use Rattle.ni_model.specs.Counts.{successes}
 use Rattle.ni_model.specs.Ready.{fired, is_ready}
 use Rattle.ni_model.specs.Starts.{started}
 use Rattle.ni_model.specs.State.{target}
-use Rattle.plan_calls.specs.Works.{done_threshold}
+use Rattle.plan_calls.specs.RankOps.{done_threshold}
 use Rattle.plan_core.specs.declared.Cell.{Cell}
 use Rattle.plan_core.specs.declared.Link.{Link}
 use Rattle.plan_core.specs.declared.LinkKind.TheVariants.{Bump, Put}
@@ -23,7 +23,7 @@ use Rattle.cuts.specs.histories.Plans.{system_of}
 use Rattle.cuts.specs.histories.System.{Histories, System, sent_by, state_at}
 use Rattle.cuts.specs.start.Start.{bring, cell_started}
 use Rattle.cuts.specs.view.Calls.{call_made}
-use Rattle.cuts.specs.view.Deeds.{link_message}
+use Rattle.cuts.specs.view.TriggeredOps.{link_message}
 use Rattle.cuts.specs.view.Slots.{Slots}
 use Rattle.cuts.specs.done.Done.{IsDone}
 

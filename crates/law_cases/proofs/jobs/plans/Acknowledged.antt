@@ -19,7 +19,7 @@ use Rattle.plan_core.specs.declared.Cell.{Cell}
 use Rattle.plan_core.specs.Plan.{Plan}
 use Rattle.plan_core.specs.Values.{Inputs}
 use Rattle.cuts.specs.view.Calls.{call_made}
-use Rattle.cuts.specs.view.Deeds.{ack_message, link_header, link_message}
+use Rattle.cuts.specs.view.TriggeredOps.{ack_message, link_header, link_message}
 use Rattle.cuts.specs.start.Start.{bring, cell_started}
 use Rattle.cuts.specs.histories.Cut.{IsAtRest, IsCut, IsPrefixOf, got_by}
 use Rattle.cuts.specs.histories.History.{Legal, Local, got, state}

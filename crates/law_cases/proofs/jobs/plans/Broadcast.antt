@@ -19,8 +19,8 @@ use Rattle.plan_core.specs.declared.LinkKind.TheVariants.{Put, Bump}
 use Rattle.plan_core.specs.Plan.{Plan}
 use Rattle.plan_core.specs.Values.{Inputs, value}
 use Rattle.cuts.specs.view.Slots.{Slots, done_ct}
-use Rattle.cuts.specs.view.Deeds.{link_message, ack_message}
-use Rattle.plan_calls.specs.Works.{done_threshold}
+use Rattle.cuts.specs.view.TriggeredOps.{link_message, ack_message}
+use Rattle.plan_calls.specs.RankOps.{done_threshold}
 use Rattle.plan_calls.specs.Bits.{bits_above, class_of}
 use Rattle.cuts.specs.histories.History.{Beginning, Legal, Local, after, state, sent, got}
 use Rattle.cuts.specs.histories.History.Local.{Start, Receive, Fire}

@@ -4,14 +4,14 @@ use Rattle.ptl_types.specs.declared.elements.AtomicOp.TheVariants.{Min, Sum, Bxo
 use Rattle.ptl_types.specs.declared.elements.ElemType.TheVariants.{U8, U32, I64}
 use Rattle.ptl_types.specs.declared.headers.AckRequest.TheVariants.{CtAck, NoAck}
 use Rattle.ptl_types.specs.declared.headers.Lane.TheVariants.{Answer, Request}
-use Rattle.ptl_types.specs.declared.steps.Act.TheVariants.{Send}
+use Rattle.ptl_types.specs.declared.steps.PlannedOp.TheVariants.{Send}
 use Rattle.plan_core.specs.declared.LinkKind.TheVariants.{Put, Bump}
 use Rattle.plan_core.specs.Plan.{Plan}
 use Rattle.plan_calls.specs.Areas.{links_to}
 use Rattle.plan_calls.specs.Bits.{class_of, class_op, class_type}
 use Rattle.plan_calls.specs.Calls.{act_of}
 use Rattle.plan_calls.specs.Lanes.{lane_bytes, lane_messages}
-use Rattle.plan_calls.specs.Works.Work.{Along}
+use Rattle.plan_calls.specs.RankOps.RankOp.{ForLink}
 
 puts_are_of_one_class : class_of None I64 ≡ 0
 puts_are_of_one_class = refl
@@ -78,8 +78,8 @@ bytes_there = refl
 messages_that_come : links_to across 1 ≡ 0 ∷ 1 ∷ []
 messages_that_come = refl
 
-second_put : act_of across (Along 1) ≡ Send 0 2 1 0x0001000000010000 2 1 None U8 CtAck
+second_put : act_of across (ForLink 1) ≡ Send 0 2 1 0x0001000000010000 2 1 None U8 CtAck
 second_put = refl
 
-second_put_unasked : act_of (record across { remote = false }) (Along 1) ≡ Send 0 2 1 0x0001000000010000 2 1 None U8 NoAck
+second_put_unasked : act_of (record across { remote = false }) (ForLink 1) ≡ Send 0 2 1 0x0001000000010000 2 1 None U8 NoAck
 second_put_unasked = refl

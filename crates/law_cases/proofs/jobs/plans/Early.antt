@@ -26,8 +26,8 @@ use Rattle.plan_core.specs.Plan.{Plan, cell, in_links, link}
 use Rattle.plan_core.specs.Sound.{AreApart, SoundLink, SoundPlan, put_bytes}
 use Rattle.plan_core.specs.Values.{Inputs, input_bytes}
 use Rattle.cuts.specs.view.Slots.{Slots, cell_ct, done_ct}
-use Rattle.plan_calls.specs.Works.{done_threshold}
-use Rattle.cuts.specs.view.Deeds.{link_message}
+use Rattle.plan_calls.specs.RankOps.{done_threshold}
+use Rattle.cuts.specs.view.TriggeredOps.{link_message}
 use Rattle.cuts.specs.histories.History.{Beginning, Legal, Local, got, is_start, sent, state}
 use Rattle.cuts.specs.histories.History.Local.{Fire, Receive, Start}
 use Rattle.plan_calls.specs.Areas.{area_start, classes}

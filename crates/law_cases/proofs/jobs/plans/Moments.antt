@@ -13,7 +13,7 @@ use Rattle.ni_model.specs.Starts.{started}
 use Rattle.ni_model.specs.State.{target}
 use Rattle.plan_core.specs.Members.{In}
 use Rattle.cuts.specs.view.Calls.{call_made}
-use Rattle.cuts.specs.view.Deeds.{link_header}
+use Rattle.cuts.specs.view.TriggeredOps.{link_header}
 use Rattle.cuts.specs.start.Start.{bring, cell_started}
 use Rattle.cuts.specs.histories.Cut.{IsAtRest, IsCut, got_by, owned}
 use Rattle.cuts.specs.histories.History.{Legal, got, state}

@@ -16,9 +16,9 @@ use Rattle.plan_core.specs.declared.Cell.{Cell}
 use Rattle.plan_core.specs.declared.Link.{Link}
 use Rattle.plan_core.specs.declared.LinkKind.TheVariants.{Put}
 use Rattle.plan_core.specs.Plan.{Plan, link, in_links}
-use Rattle.plan_calls.specs.Works.{works}
-use Rattle.plan_calls.specs.Works.Work.{Along, Tell}
-use Rattle.cuts.specs.view.Deeds.{link_message}
+use Rattle.plan_calls.specs.RankOps.{rank_ops}
+use Rattle.plan_calls.specs.RankOps.RankOp.{ForLink, ForDone}
+use Rattle.cuts.specs.view.TriggeredOps.{link_message}
 use Rattle.cuts.specs.view.Slots.{done_ct}
 use Rattle.cuts.specs.histories.History.{Beginning, Local, Legal, state, sent, got}
 use Rattle.cuts.specs.histories.History.Local.{Start, Receive, Fire}
@@ -54,7 +54,7 @@ unfolding append call_made
 closed_form = refl
 
 -- the links of a rank are numbered first, and then its cells
-numbers_of_rank_0 : works two 0 ≡ Along 0 ∷ Along 2 ∷ Along 5 ∷ Tell 0 ∷ Tell 2 ∷ Tell 4 ∷ []
+numbers_of_rank_0 : rank_ops two 0 ≡ ForLink 0 ∷ ForLink 2 ∷ ForLink 5 ∷ ForDone 0 ∷ ForDone 2 ∷ ForDone 4 ∷ []
 numbers_of_rank_0 = refl
 
 abbrev pub sync : ℕ → Sent

@@ -18,9 +18,9 @@ use Rattle.plan_core.specs.declared.LinkKind.{LinkKind}
 use Rattle.plan_core.specs.declared.LinkKind.TheVariants.{Put, Atomic}
 use Rattle.plan_core.specs.Plan.{Plan}
 use Rattle.plan_core.specs.Values.{Inputs, value}
-use Rattle.plan_calls.specs.Works.{works, done_threshold}
-use Rattle.plan_calls.specs.Works.Work.{Along, Tell}
-use Rattle.cuts.specs.view.Deeds.{link_message}
+use Rattle.plan_calls.specs.RankOps.{rank_ops, done_threshold}
+use Rattle.plan_calls.specs.RankOps.RankOp.{ForLink, ForDone}
+use Rattle.cuts.specs.view.TriggeredOps.{link_message}
 use Rattle.cuts.specs.view.Slots.{done_ct}
 use Rattle.cuts.specs.histories.History.{Local, state, sent, got}
 use Rattle.cuts.specs.histories.History.Local.{Start, Receive, Fire}
@@ -77,7 +77,7 @@ closed_form : prepare (plan Sum) inputs slots 0 ≡ waiting_view (plan Sum) inpu
 unfolding append call_made
 closed_form = refl
 
-works_of_rank_0 : works (plan Sum) 0 ≡ Along 0 ∷ Along 2 ∷ Along 3 ∷ Along 7 ∷ Tell 0 ∷ Tell 2 ∷ Tell 4 ∷ Tell 7 ∷ []
+works_of_rank_0 : rank_ops (plan Sum) 0 ≡ ForLink 0 ∷ ForLink 2 ∷ ForLink 3 ∷ ForLink 7 ∷ ForDone 0 ∷ ForDone 2 ∷ ForDone 4 ∷ ForDone 7 ∷ []
 works_of_rank_0 = refl
 
 abbrev carries : ℕ → ℕ → Sent

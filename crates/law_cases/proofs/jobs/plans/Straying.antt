@@ -8,7 +8,7 @@ use Rattle.ptl_types.specs.Messages.{Sent}
 use Rattle.ptl_types.specs.declared.headers.AckRequest.TheVariants.{NoAck}
 use Rattle.ptl_types.specs.declared.headers.Lane.{Lane}
 use Rattle.ptl_types.specs.declared.headers.Lane.TheVariants.{Answer, Request}
-use Rattle.cuts.specs.view.Deeds.{link_header}
+use Rattle.cuts.specs.view.TriggeredOps.{link_header}
 use Rattle.cuts.specs.histories.History.Local.{Start}
 use Rattle.cuts.specs.histories.Moment.{IsStrayStep, Lanes, is_request_lane}
 use Rattle.cuts.specs.histories.System.{Histories, System}

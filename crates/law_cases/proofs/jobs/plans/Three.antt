@@ -22,7 +22,7 @@ use Rattle.plan_core.specs.declared.LinkKind.TheVariants.{Put, Atomic}
 use Rattle.plan_core.specs.Plan.{Plan}
 use Rattle.plan_core.specs.Values.{Inputs, value}
 use Rattle.cuts.specs.view.Calls.{call_made}
-use Rattle.cuts.specs.view.Deeds.{link_header, link_message}
+use Rattle.cuts.specs.view.TriggeredOps.{link_header, link_message}
 use Rattle.cuts.specs.view.Slots.{done_ct}
 use Rattle.cuts.specs.start.Start.{bring, cell_started}
 use Rattle.cuts.specs.histories.Cut.{IsAtRest, IsCut, got_by}

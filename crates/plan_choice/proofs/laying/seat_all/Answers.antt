@@ -2,7 +2,7 @@
 use Rattle.std.proofs.Common.{ℕ, ◌+◌, ◌<◌, ◌≡◌, ◌∙◌, List, ap, length, subst, sym, arith}
 use Rattle.std.proofs.lemmas.List.{length_push}
 use Rattle.worlds.proofs.Opened.{pushed}
-use Rattle.plan_choice.specs.ranks.Seats.{IsInstalled, Seated}
+use Rattle.plan_choice.specs.ranks.Seats.{IsInstalled, ChoiceRankState}
 use Rattle.plan_choice.specs.Acts.{no_seated, seat_at}
 use Rattle.plan_choice.proofs.laying.seat_all.Goals as goal
 
@@ -15,7 +15,7 @@ loop-r-preserved c =
     let y = c.in_ok-seat.seat in
     record {
       size = ap length c.in_ok-push.ensures.items ∙ length_push xs y ∙ ap (λ m. m + 1) c.loop-r.invariant.size;
-      seats = subst (λ (v : List Seated). (k : ℕ) → k < r + 1 → IsInstalled n ks k (seat_at v k)) (sym c.in_ok-push.ensures.items)
+      seats = subst (λ (v : List ChoiceRankState). (k : ℕ) → k < r + 1 → IsInstalled n ks k (seat_at v k)) (sym c.in_ok-push.ensures.items)
           (pushed (IsInstalled n ks) xs y no_seated r c.loop-r.invariant.size c.loop-r.invariant.seats c.in_ok-seat.ensures);
     }
 

@@ -4,7 +4,7 @@ use Rattle.plan_core.specs.Draw.{add_all}
 use Rattle.plan_core.proofs.Drawing.{length-row}
 use Rattle.plan_steps.specs.Beginning.{site_of}
 use Rattle.plan_steps.specs.Drawing.{site}
-use Rattle.plan_steps.specs.Site.{Site, count, places}
+use Rattle.plan_steps.specs.StepContext.{StepContext, count, places}
 use Rattle.plan_steps.proofs.Drawings.{left-as}
 use Rattle.plan_steps.proofs.adding.add_as.Goals as goal
 
@@ -13,7 +13,7 @@ settle-requires-clause-places g c =
     ap length c.deref.ensures.value
     ∙ ap length c.in_ok-ends.ensures
     ∙ length-row (g.C.Collective.end c.args.collective.now c.in_ok-begun.begun) 0 (count c.in_ok-begun.begun)
-    ∙ ap (λ (s : Site). length s.members) c.in_ok-begun.ensures
+    ∙ ap (λ (s : StepContext). length s.members) c.in_ok-begun.ensures
 
 pub returns : goal.returns
 returns g c =

@@ -2,7 +2,7 @@
 use Rattle.std.proofs.Common.{◌≡◌, ap, ap₂, ◌∙◌, sym, arith, map, ◌++◌, ◌∷◌, []}
 use Rattle.plan_core.specs.Plan.{from_to}
 use Rattle.plan_core.proofs.Drawing.{row-more}
-use Rattle.plan_steps.specs.Site.{count}
+use Rattle.plan_steps.specs.StepContext.{count}
 use Rattle.plan_steps.proofs.collective.ends_of.Goals as goal
 
 pub loop-place-preserved : goal.loop-place-preserved

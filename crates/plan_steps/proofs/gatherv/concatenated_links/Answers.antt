@@ -1,7 +1,7 @@
 -- One holder more in each turn.
 use Rattle.std.proofs.Common.{ap, ap₂, ◌∙◌, sym, ◌++◌, ◌∷◌, []}
 use Rattle.plan_core.proofs.Drawing.{row-more}
-use Rattle.plan_steps.specs.Site.{bump, entry}
+use Rattle.plan_steps.specs.StepContext.{bump, entry}
 use Rattle.plan_steps.specs.Gatherv.{holder_put}
 use Rattle.plan_steps.proofs.gatherv.concatenated_links.Goals as goal
 

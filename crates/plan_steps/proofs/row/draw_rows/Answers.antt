@@ -3,7 +3,7 @@ use Rattle.std.proofs.Common.{ap, sym, subst, ◌∙◌}
 use Rattle.plan_core.specs.Plan.{Plan}
 use Rattle.plan_core.specs.Draw.{HasRoom, add_all}
 use Rattle.plan_core.proofs.Drawing.{add_all-none}
-use Rattle.plan_steps.specs.Site.{row}
+use Rattle.plan_steps.specs.StepContext.{row}
 use Rattle.plan_steps.proofs.Rows.{room-rows, rows-more}
 use Rattle.plan_steps.proofs.row.draw_rows.Goals as goal
 

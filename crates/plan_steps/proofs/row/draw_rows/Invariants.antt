@@ -1,6 +1,6 @@
 use Rattle.std.proofs.Common.{◌≡◌}
 use Rattle.plan_core.specs.Draw.{add_all}
-use Rattle.plan_steps.specs.Site.{rows}
+use Rattle.plan_steps.specs.StepContext.{rows}
 use Rattle.plan_steps.proofs.row.draw_rows.Given as goal
 
 abbrev pub invariant-loop-number : goal.invariant-loop-number

@@ -3,7 +3,7 @@ use Rattle.std.proofs.Common.{◌≡◌, ◌<◌, arith, length, map, ap, ap₂,
 use Rattle.plan_core.specs.Plan.{Plan, from_to}
 use Rattle.plan_core.specs.Draw.{add_cell, add_link, add_links, cell_with, link_to, new_cell}
 use Rattle.plan_core.proofs.Drawing.{add_links-none, add-is, length-row, links-more, room-link}
-use Rattle.plan_steps.specs.Site.{count, places}
+use Rattle.plan_steps.specs.StepContext.{count, places}
 use Rattle.plan_steps.proofs.wide.draw_wide.Goals as goal
 
 pub add_cell-requires : goal.add_cell-requires

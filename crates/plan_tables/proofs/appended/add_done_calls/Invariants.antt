@@ -1,7 +1,7 @@
 use Rattle.std.proofs.Common.{◌≡◌, ◌++◌, map, take}
-use Rattle.plan_calls.specs.Works.Work.{Tell}
+use Rattle.plan_calls.specs.RankOps.RankOp.{ForDone}
 use Rattle.plan_calls.specs.Calls.{trigger}
 use Rattle.plan_tables.proofs.appended.add_done_calls.Given as goal
 
 abbrev pub invariant-loop-c : goal.invariant-loop-c
-invariant-loop-c l = l.calls.items ≡ l.initial.calls.items ++ map (λ k. trigger l.plan (Tell k)) (take l.c-index l.own)
+invariant-loop-c l = l.calls.items ≡ l.initial.calls.items ++ map (λ k. trigger l.plan (ForDone k)) (take l.c-index l.own)

@@ -1,7 +1,7 @@
 use Rattle.std.proofs.Common.{◌≡◌, ◌++◌, map, take}
-use Rattle.plan_calls.specs.Works.Work.{Along}
+use Rattle.plan_calls.specs.RankOps.RankOp.{ForLink}
 use Rattle.plan_calls.specs.Calls.{trigger}
 use Rattle.plan_tables.proofs.appended.add_link_calls.Given as goal
 
 abbrev pub invariant-loop-l : goal.invariant-loop-l
-invariant-loop-l l = l.calls.items ≡ l.initial.calls.items ++ map (λ k. trigger l.plan (Along k)) (take l.l-index l.out)
+invariant-loop-l l = l.calls.items ≡ l.initial.calls.items ++ map (λ k. trigger l.plan (ForLink k)) (take l.l-index l.out)

@@ -1,7 +1,7 @@
 -- The parts stand one after the other.
 use Rattle.std.proofs.Common.{[], ◌∷◌, ◌++◌, map, ap, ap₂, ◌∙◌}
 use Rattle.ptl_types.specs.declared.steps.Call.TheVariants.{PtAlloc, CtDone, CtCell, MdBind}
-use Rattle.plan_calls.specs.Works.Work.{Along, Tell}
+use Rattle.plan_calls.specs.RankOps.RankOp.{ForLink, ForDone}
 use Rattle.plan_calls.specs.Areas.{classes}
 use Rattle.plan_calls.specs.Calls.{area_call, trigger}
 use Rattle.plan_tables.proofs.Assembling.{prepared}
@@ -19,5 +19,5 @@ returns-clause-calls c =
     let counters = c.in_ok-add_counter_calls.ensures ∙ ap₂ (λ v w. v ++ map CtCell w) second own in
     let bound = ap₂ (λ n b. MdBind n b ∷ []) c.in_ok-length.ensures.end c.remote-remote.ensures in
     let third = c.in_ok-push_call-3.ensures ∙ ap₂ (λ v w. v ++ w) counters bound in
-    let links = c.in_ok-add_link_calls.ensures ∙ ap₂ (λ v w. v ++ map (λ l. trigger p (Along l)) w) third out in
-    c.in_ok-add_done_calls.ensures ∙ ap₂ (λ v w. v ++ map (λ k. trigger p (Tell k)) w) links own ∙ prepared p r
+    let links = c.in_ok-add_link_calls.ensures ∙ ap₂ (λ v w. v ++ map (λ l. trigger p (ForLink l)) w) third out in
+    c.in_ok-add_done_calls.ensures ∙ ap₂ (λ v w. v ++ map (λ k. trigger p (ForDone k)) w) links own ∙ prepared p r

@@ -2,7 +2,7 @@ use Rattle.std.proofs.Common.{cond, ◌+◌, ◌≡◌, ◌∙◌, length, ap, a
 use Rattle.ptl_types.specs.declared.calls.Limits.{Limits}
 use Rattle.plan_core.specs.Plan.{own}
 use Rattle.plan_calls.specs.Areas.{links_to}
-use Rattle.plan_calls.specs.Works.{sends_of}
+use Rattle.plan_calls.specs.RankOps.{sends_of}
 use Rattle.plan_tables.specs.Installed.{Installed}
 use Rattle.shape_plans.specs.Drawing.{plan_of}
 use Rattle.rank_tasks.proofs.Lanes.{few-messages}

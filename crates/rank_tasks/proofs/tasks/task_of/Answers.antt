@@ -5,7 +5,7 @@ use Rattle.plan_core.specs.Values.{Inputs}
 use Rattle.plan_calls.specs.Areas.{initial_region, links_to, longest_to}
 use Rattle.plan_calls.specs.Calls.{own_cells, prepare_calls}
 use Rattle.plan_calls.specs.Limits.{limits_for}
-use Rattle.plan_calls.specs.Works.{sends_of}
+use Rattle.plan_calls.specs.RankOps.{sends_of}
 use Rattle.plan_tables.specs.Installed.{Installed}
 use Rattle.coll_shape.specs.Outline.{Outline}
 use Rattle.shape_plans.specs.Drawing.{plan_of}

@@ -4,7 +4,7 @@ use mathlib.Core.Option.{some-ne-none}
 use Rattle.coll_shape.specs.Outline.{Outline}
 use Rattle.pair_wires.specs.declared.bounds.Bounds.{Bounds}
 use Rattle.shape_plans.specs.Drawing.{plan_of}
-use Rattle.rank_wiring.specs.declared.lanes.FanOut.{FanOut}
+use Rattle.rank_wiring.specs.declared.lanes.OutLanes.{OutLanes}
 use Rattle.rank_wiring.specs.Fans.{AreFans, IsFan}
 use Rattle.rank_slots.specs.Lanes.{lanes_before, lanes_from}
 use Rattle.rank_wiring.proofs.Fans.{fans-more, next-few}
@@ -12,7 +12,7 @@ use Rattle.rank_wiring.proofs.lanes.all_fans.Goals as goal
 
 pub loop-s-init : goal.loop-s-init
 loop-s-init c = let none = c.in_ok-fans.ensures.items in record {
-  count = ap (λ (l : List FanOut). length l) none;
+  count = ap (λ (l : List OutLanes). length l) none;
   first = refl;
   fans = subst (AreFans (plan_of c.args.schedule.now)) (sym none) (λ s f at. absurd (some-ne-none f (sym at)));
 }
@@ -41,11 +41,11 @@ overflow_add-first c =
 pub loop-s-preserved : goal.loop-s-preserved
 loop-s-preserved c =
     let p = plan_of c.args.schedule.now in let s = c.loop-s.s in let i = c.loop-s.invariant in
-    let fans = c.loop-s.fans.items in let f : FanOut = record { first = c.loop-s.first; lanes = c.in_ok-lanes.lanes } in
+    let fans = c.loop-s.fans.items in let f : OutLanes = record { first = c.loop-s.first; lanes = c.in_ok-lanes.lanes } in
     let pushed = c.in_ok-push.ensures.items in
     let many = ap (λ (l : List Bounds). length l) c.in_ok-lanes.ensures in let len = c.len-many.ensures in
     let e : suc s ≡ s + 1 = omega arith in record {
-      count = (let a = ap (λ (l : List FanOut). length l) pushed in let b = length-append fans (f ∷ []) in let k = i.count in
+      count = (let a = ap (λ (l : List OutLanes). length l) pushed in let b = length-append fans (f ∷ []) in let k = i.count in
           omega (arith, a, b, k));
       first = (let a = length-append (lanes_before p s) (lanes_from p s) in let b = i.first in
           (omega (arith, a, b, many, len)) ∙ ap (λ m. length (lanes_before p m)) e);

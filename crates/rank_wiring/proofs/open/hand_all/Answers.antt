@@ -5,7 +5,7 @@ use lib.ListN.{get_elem?}
 use Rattle.std.specs.Vec.Iter.{into_iter_items}
 use Rattle.pair_wires.specs.Wires.{WireState}
 use Rattle.shape_plans.specs.Drawing.{plan_of}
-use Rattle.rank_wiring.specs.declared.open.Load.{Load}
+use Rattle.rank_wiring.specs.declared.open.OutWires.{OutWires}
 use Rattle.rank_slots.specs.Lanes.{lanes_before}
 use Rattle.rank_wiring.specs.Opening.{IsHanded}
 use Rattle.rank_wiring.specs.Wiring.{bounds_of}
@@ -30,9 +30,9 @@ pub hand_load-requires-clause-lines : goal.hand_load-requires-clause-lines
 hand_load-requires-clause-lines c =
     let i = c.loop-load.invariant in let job = c.args.job.now in let m = length c.loop-load.yielded in
     let step = c.in-Some.ensures.steps.0 in
-    let all = sym (ap (λ (l : List Load). c.loop-load.yielded ++ l) step)
+    let all = sym (ap (λ (l : List OutWires). c.loop-load.yielded ++ l) step)
     ∙ (i.rest ∙ c.into_iter-load-iterator.ensures.into_iter_gives.0) in
-    let there = ap (λ (l : List Load). get_elem? l m) (sym all)
+    let there = ap (λ (l : List OutWires). get_elem? l m) (sym all)
     ∙ mid_at c.loop-load.yielded c.in-Some.load (into_iter_items c.next.new.self) in
     let below = within c.args.loads.items m c.in-Some.load there in
     let low : m < length c.args.slots.now = (let a = c.requires.count.0 in let b = c.requires.count.1 in omega (arith, below, a, b)) in
@@ -43,9 +43,9 @@ pub hand_load-requires-clause-lanes : goal.hand_load-requires-clause-lanes
 hand_load-requires-clause-lanes c =
     let i = c.loop-load.invariant in let job = c.args.job.now in let m = length c.loop-load.yielded in
     let step = c.in-Some.ensures.steps.0 in
-    let all = sym (ap (λ (l : List Load). c.loop-load.yielded ++ l) step)
+    let all = sym (ap (λ (l : List OutWires). c.loop-load.yielded ++ l) step)
     ∙ (i.rest ∙ c.into_iter-load-iterator.ensures.into_iter_gives.0) in
-    let there = ap (λ (l : List Load). get_elem? l m) (sym all)
+    let there = ap (λ (l : List OutWires). get_elem? l m) (sym all)
     ∙ mid_at c.loop-load.yielded c.in-Some.load (into_iter_items c.next.new.self) in
     let below = within c.args.loads.items m c.in-Some.load there in
     let low : m < length c.args.slots.now = (let a = c.requires.count.0 in let b = c.requires.count.1 in omega (arith, below, a, b)) in
@@ -56,9 +56,9 @@ pub loop-load-preserved : goal.loop-load-preserved
 loop-load-preserved c =
     let i = c.loop-load.invariant in let job = c.args.job.now in let m = length c.loop-load.yielded in let load = c.in-Some.load in
     let step = c.in-Some.ensures.steps.0 in let left = into_iter_items c.next.new.self in
-    let all = sym (ap (λ (l : List Load). c.loop-load.yielded ++ l) step)
+    let all = sym (ap (λ (l : List OutWires). c.loop-load.yielded ++ l) step)
     ∙ (i.rest ∙ c.into_iter-load-iterator.ensures.into_iter_gives.0) in
-    let there = ap (λ (l : List Load). get_elem? l m) (sym all) ∙ mid_at c.loop-load.yielded load left in
+    let there = ap (λ (l : List OutWires). get_elem? l m) (sym all) ∙ mid_at c.loop-load.yielded load left in
     let below = within c.args.loads.items m load there in
     let low : m < length c.args.slots.now = (let a = c.requires.count.0 in let b = c.requires.count.1 in omega (arith, below, a, b)) in
     let old = c.loop-load.wires.items in let new = c.hand_load.new.wires.items in let e = c.in_ok-hand_load.ensures in
@@ -69,9 +69,9 @@ loop-load-preserved c =
     let laid = load-laid job c.requires.sound c.args.slots.now c.args.loads.items c.requires.fanned c.requires.count.0 m load there low old
     i.lanes
     c.loop-load.slots c.hand_load.new.slots i.outs e.outs i.laid in record {
-      len = (let gone = c.in-Some.ensures.steps.1 in let was = i.len in let short = ap (λ (l : List Load). length l) step in
+      len = (let gone = c.in-Some.ensures.steps.1 in let was = i.len in let short = ap (λ (l : List OutWires). length l) step in
           omega (arith, gone, was, short));
-      rest = append_assoc c.loop-load.yielded (load ∷ []) left ∙ (ap (λ (l : List Load). c.loop-load.yielded ++ l) (sym step) ∙ i.rest);
+      rest = append_assoc c.loop-load.yielded (load ∷ []) left ∙ (ap (λ (l : List OutWires). c.loop-load.yielded ++ l) (sym step) ∙ i.rest);
       lanes = ap (λ (l : List WireState). bounds_of l) e.wires ∙ (lanes ∙ ap (λ k. lanes_before (plan_of job.shape) k) many);
       handed = e.handed;
       count = c.hand_load.ensures.count ∙ i.count;
@@ -86,9 +86,9 @@ returns-clause-wired c =
     let none = c.in-None.ensures.steps in let at = c.loop-load in
     let empty : into_iter_items at.load-iterator ≡ [] = nil_from_length _ (sym i.len ∙ none.0) in
     let all : at.yielded ≡ c.args.loads.items =
-    sym (append-nil at.yielded) ∙ (ap (λ (l : List Load). at.yielded ++ l) (sym empty)
+    sym (append-nil at.yielded) ∙ (ap (λ (l : List OutWires). at.yielded ++ l) (sym empty)
     ∙ (i.rest ∙ c.into_iter-load-iterator.ensures.into_iter_gives.0)) in
-    let done : length at.yielded ≡ job.shape.ranks = ap (λ (l : List Load). length l) all ∙ c.requires.count.1 in
+    let done : length at.yielded ≡ job.shape.ranks = ap (λ (l : List OutWires). length l) all ∙ c.requires.count.1 in
     let n = c.requires.sound.ranks in record {
       count = i.handed.count;
       fresh = i.handed.fresh;

@@ -3,7 +3,7 @@ use mathlib.Core.Option.{some}
 use lib.ListN.{get_elem?}
 use Rattle.std.specs.Vec.Iter.{into_iter_items, into_iter_len}
 use Rattle.shape_plans.specs.Drawing.{plan_of}
-use Rattle.rank_slots.specs.declared.slot.Slot.{Slot}
+use Rattle.rank_slots.specs.declared.slot.TurnRank.{TurnRank}
 use Rattle.rank_slots.specs.Joints.{out_joint}
 use Rattle.rank_slots.specs.Lanes.{lanes_before}
 use Rattle.rank_wiring.specs.Opening.{IsHanded, SameOuts}
@@ -20,6 +20,6 @@ invariant-loop-load l = record {
   handed : IsHanded l.job l.wires.items l.slots;
   count : length l.slots ≡ length l.initial.slots;
   outs : Slotwise SameOuts l.initial.slots l.slots;
-  laid : (r : ℕ) (x : Slot) → get_elem? l.slots r ≡ some x → r < length l.yielded
+  laid : (r : ℕ) (x : TurnRank) → get_elem? l.slots r ≡ some x → r < length l.yielded
       → IsRow l.wires.items (from_rank r) (map out_joint x.outs.items);
 }

@@ -1,9 +1,9 @@
 use Rattle.std.proofs.Common.{◌≡◌, ◌∙◌, ◌+◌, ◌∷◌, ◌++◌, [], List, ap, arith, length, length-append, refl, subst, sym}
 use Rattle.std.specs.Prelude.{IfSome, vec_len}
 use Rattle.std.specs.Vec.Iter.{into_iter_items}
-use Rattle.rank_wiring.specs.declared.open.Berth.{Berth}
-use Rattle.rank_wiring.specs.declared.open.Load.{Load}
-use Rattle.rank_slots.specs.declared.slot.Slot.{Slot}
+use Rattle.rank_wiring.specs.declared.open.BuiltRank.{BuiltRank}
+use Rattle.rank_wiring.specs.declared.open.OutWires.{OutWires}
+use Rattle.rank_slots.specs.declared.slot.TurnRank.{TurnRank}
 use Rattle.rank_wiring.specs.Opening.{AllFanned, AreBerths, IsFanned}
 use Rattle.rank_wiring.proofs.Handing.{berths-head, berths-tail, fanned-more}
 use Rattle.rank_wiring.proofs.open.in_order.Goals as goal
@@ -18,7 +18,7 @@ made_or_make-requires-clause-place c =
     let job = c.args.job.now in let slots = c.loop-place.slots.items in
     let all = subst (AreBerths job (length slots)) c.in-Some.ensures.steps.0 c.loop-place.invariant.places in
     let long : vec_len c.loop-place.slots ≡ length slots = omega (arith, c.loop-place.slots.ok.0) in
-    subst (λ n. IfSome c.in-Some.place (λ (b : Berth). IsFanned job n b.slot b.load)) (sym (c.len-rank.ensures ∙ long))
+    subst (λ n. IfSome c.in-Some.place (λ (b : BuiltRank). IsFanned job n b.slot b.load)) (sym (c.len-rank.ensures ∙ long))
     (berths-head job (length slots) c.in-Some.place (into_iter_items c.next.new.self) all)
 
 pub loop-place-preserved : goal.loop-place-preserved
@@ -34,12 +34,12 @@ loop-place-preserved c =
     let more : length (slots ++ slot ∷ []) ≡ length slots + 1 = length-append slots (slot ∷ []) in
     let long = length-append loads (load ∷ []) in record {
       len = (let gone = c.in-Some.ensures.steps.1 in let was = i.len in let short = ap (λ m. length m) step in omega (arith, gone, was, short));
-      slots = (let a = ap (λ (l : List Slot). length l) p in let short = ap (λ m. length m) step in let k = i.slots in omega (arith, a, more, short, k));
-      loads = (let a = ap (λ (l : List Slot). length l) p in let b = ap (λ (l : List Load). length l) q in let k = i.loads in
+      slots = (let a = ap (λ (l : List TurnRank). length l) p in let short = ap (λ m. length m) step in let k = i.slots in omega (arith, a, more, short, k));
+      loads = (let a = ap (λ (l : List TurnRank). length l) p in let b = ap (λ (l : List OutWires). length l) q in let k = i.loads in
           omega (arith, a, b, more, long, k));
-      fanned = subst (λ (l : List Slot). AllFanned job l c.push-in-loop-place.new.self.items) (sym p)
+      fanned = subst (λ (l : List TurnRank). AllFanned job l c.push-in-loop-place.new.self.items) (sym p)
           (subst (AllFanned job (slots ++ slot ∷ [])) (sym q)
           (fanned-more job (length slots) slots loads slot load refl i.loads i.fanned made));
-      places = subst (λ n. AreBerths job n rest) (let a = ap (λ (l : List Slot). length l) p in omega (arith, a, more))
+      places = subst (λ n. AreBerths job n rest) (let a = ap (λ (l : List TurnRank). length l) p in omega (arith, a, more))
           (berths-tail job (length slots) c.in-Some.place rest all);
     }

@@ -3,7 +3,7 @@ use lib.ListN.{get_elem?}
 use Rattle.pair_wires.specs.declared.bounds.Bounds.{Bounds}
 use Rattle.pair_wires.specs.Wires.{WireState}
 use Rattle.shape_plans.specs.Drawing.{plan_of}
-use Rattle.rank_wiring.specs.declared.open.Line.{Line}
+use Rattle.rank_wiring.specs.declared.open.WireEnd.{WireEnd}
 use Rattle.rank_slots.specs.Joints.{Joint, joint, out_joint}
 use Rattle.rank_slots.specs.Lanes.{IsLane, lanes_before, lanes_from}
 use Rattle.rank_wiring.specs.Opening.{AreLines, HasNoOut, IsFresh, IsLine, wires_in}
@@ -16,18 +16,18 @@ use Rattle.rank_wiring.proofs.Rows.{bound_of}
 use Rattle.rank_slots.proofs.Snocs.{length_map, map_snoc, read, take_all, take_more}
 use Rattle.rank_wiring.proofs.open.lay_fan.Goals as goal
 
-abbrev wire_of : Line → WireState
+abbrev wire_of : WireEnd → WireState
 wire_of l = l.wire
 
 pub loop-k-init : goal.loop-k-init
 loop-k-init c = let none = c.in_ok-lines.ensures.items in let n = length (lanes_before (plan_of c.args.job.now.shape) c.args.rank) in
     record {
-      count = ap (λ (l : List Line). length l) none;
+      count = ap (λ (l : List WireEnd). length l) none;
       fresh = c.requires.bare.fresh;
       ins = c.requires.bare.ins;
-      outs = ap (map out_joint) c.requires.bare.outs ∙ ap (λ (l : List Line). joints_from n (wires_in l)) (sym none);
+      outs = ap (map out_joint) c.requires.bare.outs ∙ ap (λ (l : List WireEnd). joints_from n (wires_in l)) (sym none);
       lines = subst (AreLines n) (sym none) tt;
-      bounds_are = ap (λ (l : List Line). bounds_of (wires_in l)) none;
+      bounds_are = ap (λ (l : List WireEnd). bounds_of (wires_in l)) none;
     }
 
 pub lay_line-requires-clause-ranks : goal.lay_line-requires-clause-ranks
@@ -95,15 +95,15 @@ loop-k-preserved c =
     let number : c.args.fan.now.first + k ≡ n + length lines = omega (arith, count, first) in
     let place : c.args.fan.now.first + k ≡ n + length ws = omega (arith, count, first, many) in
     let next : suc k ≡ k + 1 = omega arith in record {
-      count = (let a = ap (λ (v : List Line). length v) pushed in let b = length-append lines (l ∷ []) in omega (arith, a, b, count));
+      count = (let a = ap (λ (v : List WireEnd). length v) pushed in let b = length-append lines (l ∷ []) in omega (arith, a, b, count));
       fresh = subst (λ (r : ℕ). IsFresh job r c.lay_line.new.slot) from c.lay_line.ensures.fresh;
       ins = c.lay_line.ensures.ins ∙ i.ins;
       outs = e.out ∙ (ap (λ (js : List Joint). js ++ joint (c.args.fan.now.first + k) l.wire ∷ []) i.outs
           ∙ (ap (λ m. joints_from n ws ++ joint m l.wire ∷ []) place
           ∙ (sym (joints-snoc n ws l.wire)
-          ∙ (ap (joints_from n) (sym (map_snoc wire_of lines l)) ∙ ap (λ (v : List Line). joints_from n (wires_in v)) (sym pushed)))));
+          ∙ (ap (joints_from n) (sym (map_snoc wire_of lines l)) ∙ ap (λ (v : List WireEnd). joints_from n (wires_in v)) (sym pushed)))));
       lines = subst (AreLines n) (sym pushed) (lines-snoc n lines l i.lines (subst (λ m. IsLine m l) number e.line.0));
-      bounds_are = ap (λ (v : List Line). bounds_of (wires_in v)) pushed
+      bounds_are = ap (λ (v : List WireEnd). bounds_of (wires_in v)) pushed
           ∙ (ap (map bound_of) (map_snoc wire_of lines l) ∙ (map_snoc bound_of ws l.wire
           ∙ (ap (λ (v : List Bounds). v ++ l.wire.bounds ∷ []) i.bounds_are
           ∙ (ap (λ (b : Bounds). take k (lanes_from p c.args.rank) ++ b ∷ []) (e.line.1 ∙ is)

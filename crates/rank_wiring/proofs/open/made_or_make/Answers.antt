@@ -1,13 +1,13 @@
 use Rattle.std.proofs.Common.{◌<◌, Option, arith, length, subst}
 use Rattle.std.specs.Prelude.{IfSome}
 use Rattle.atomic_table.proofs.Lists.{at_index}
-use Rattle.rank_wiring.specs.declared.open.Berth.{Berth}
+use Rattle.rank_wiring.specs.declared.open.BuiltRank.{BuiltRank}
 use Rattle.rank_wiring.specs.Opening.{IsFanned}
 use Rattle.rank_wiring.proofs.open.made_or_make.Goals as goal
 
 pub returns-in-Some : goal.returns-in-Some
 returns-in-Some c =
-    subst (λ (o : Option Berth). IfSome o (λ (b : Berth). IsFanned c.args.job.now c.args.rank b.slot b.load))
+    subst (λ (o : Option BuiltRank). IfSome o (λ (b : BuiltRank). IsFanned c.args.job.now c.args.rank b.slot b.load))
     c.in-Some.is c.requires.place
 
 pub make_berth-requires-clause-fan : goal.make_berth-requires-clause-fan

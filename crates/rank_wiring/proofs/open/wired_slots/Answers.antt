@@ -1,8 +1,8 @@
 use Rattle.std.proofs.Common.{◌≡◌, ◌++◌, ◌∙◌, List, ap, drop, length, subst, sym, take}
 use Rattle.coll_shape.specs.Outline.{Outline}
 use Rattle.shape_plans.specs.Drawing.{plan_of}
-use Rattle.rank_wiring.specs.declared.lanes.FanOut.{FanOut}
-use Rattle.rank_slots.specs.declared.slot.Slot.{Slot}
+use Rattle.rank_wiring.specs.declared.lanes.OutLanes.{OutLanes}
+use Rattle.rank_slots.specs.declared.slot.TurnRank.{TurnRank}
 use Rattle.rank_wiring.specs.Fans.{AreFans}
 use Rattle.rank_wiring.specs.Opening.{AllFanned, AreWired}
 use Rattle.rank_slots.proofs.Snocs.{written}
@@ -10,7 +10,7 @@ use Rattle.rank_wiring.proofs.open.wired_slots.Goals as goal
 
 pub make_berths-requires-clause-count : goal.make_berths-requires-clause-count
 make_berths-requires-clause-count g c = λ _ _.
-    ap (λ (l : List FanOut). length l) c.deref.ensures.value
+    ap (λ (l : List OutLanes). length l) c.deref.ensures.value
     ∙ (c.in_ok-fans.ensures.count ∙ ap (λ (o : Outline). o.ranks) c.schedule.ensures)
 
 pub make_berths-requires-clause-fans : goal.make_berths-requires-clause-fans
@@ -20,7 +20,7 @@ make_berths-requires-clause-fans g c = λ _ _.
 
 pub in_order-requires-clause-ranks : goal.in_order-requires-clause-ranks
 in_order-requires-clause-ranks g c =
-    ap (λ (l : List FanOut). length l) c.deref-2.ensures.value
+    ap (λ (l : List OutLanes). length l) c.deref-2.ensures.value
     ∙ (c.in_ok-fans.ensures.count ∙ ap (λ (o : Outline). o.ranks) c.schedule.ensures)
 
 pub in_order-requires-clause-fans : goal.in_order-requires-clause-fans
@@ -30,13 +30,13 @@ in_order-requires-clause-fans g c =
 
 pub hand_all-requires-clause-count : goal.hand_all-requires-clause-count
 hand_all-requires-clause-count g c = (
-  ap (λ (l : List Slot). length l) c.deref_mut.ensures.value ∙ c.in_ok-slots.ensures.count.0 ∙ c.in_ok-places.ensures.count,
+  ap (λ (l : List TurnRank). length l) c.deref_mut.ensures.value ∙ c.in_ok-slots.ensures.count.0 ∙ c.in_ok-places.ensures.count,
   c.in_ok-slots.ensures.count.1 ∙ c.in_ok-places.ensures.count,
 )
 
 pub hand_all-requires-clause-fanned : goal.hand_all-requires-clause-fanned
 hand_all-requires-clause-fanned g c =
-    subst (λ (l : List Slot). AllFanned c.args.job.now l c.in_ok-slots.loads.items)
+    subst (λ (l : List TurnRank). AllFanned c.args.job.now l c.in_ok-slots.loads.items)
     (sym c.deref_mut.ensures.value) c.in_ok-slots.ensures.fanned
 
 pub returns : goal.returns
@@ -44,4 +44,4 @@ returns g c =
     let new = c.hand_all.new.slots in let old = c.in_ok-slots.slots in
     let slots : take old.len (new ++ drop (length new) old.items) ≡ new = written old.len new _
     (sym (c.hand_all.ensures.count ∙ c.deref_mut.ensures.len)) in
-    subst (λ (l : List Slot). AreWired c.args.job.now l c.in_ok-wires.wires.items) (sym slots) c.in_ok-wires.ensures.wired
+    subst (λ (l : List TurnRank). AreWired c.args.job.now l c.in_ok-wires.wires.items) (sym slots) c.in_ok-wires.ensures.wired

@@ -4,7 +4,7 @@ use Rattle.std.proofs.lemmas.List.{get_or_read}
 use Rattle.std.specs.List.{slice_get}
 use Rattle.ni_model.specs.Ready.{ready_numbers}
 use Rattle.cuts.specs.declared.orders.Step.{Step}
-use Rattle.plan_choice.specs.ranks.Seats.{Seated}
+use Rattle.plan_choice.specs.ranks.Seats.{ChoiceRankState}
 use Rattle.plan_choice.specs.Acts.{no_seated}
 use Rattle.plan_choice.specs.World.{ChoiceState, steps_in}
 use Rattle.plan_choice.proofs.Standing.{delivery_in, firing_in, firings_there, number, start_in}
@@ -59,7 +59,7 @@ overflow_cast-rest c =
     let there = firings_there _ s.starts s.deliveries s.firings c.self.invariant c.find-r-2.result.0 c.find-r-2.result.1
     c.find-r-2.ensures.place c.find-r-2.ensures.within in
     let q = get_or_read s.seats.items c.find-r-2.result.0 c.index-seat.result.now there.0 c.index-seat.ensures no_seated in
-    let l = ap (λ (x : Seated). length (ready_numbers x.nic)) q in
+    let l = ap (λ (x : ChoiceRankState). length (ready_numbers x.nic)) q in
     let n = c.ready.ensures in
     omega (arith, there.1, l, n)
 
@@ -69,7 +69,7 @@ ready_at-requires c =
     let there = firings_there _ s.starts s.deliveries s.firings c.self.invariant c.find-r-2.result.0 c.find-r-2.result.1
     c.find-r-2.ensures.place c.find-r-2.ensures.within in
     let q = get_or_read s.seats.items c.find-r-2.result.0 c.index-seat.result.now there.0 c.index-seat.ensures no_seated in
-    let l = ap (λ (x : Seated). length (ready_numbers x.nic)) q in
+    let l = ap (λ (x : ChoiceRankState). length (ready_numbers x.nic)) q in
     omega (arith, there.1, l)
 
 pub returns : goal.returns
@@ -92,4 +92,4 @@ returns c =
     ∙ firing_in w s.starts s.deliveries s.firings c.self.invariant c.find-r-2.result.0 c.find-r-2.result.1
     (c.args.i - c.total-starts.result - c.total-deliveries.result) c.ready_at.result c.find-r-2.ensures.place c.find-r-2.ensures.before
     c.find-r-2.ensures.within (omega (arith, e, f, t, u, k, h))
-    (ap (λ (x : Seated). slice_get (ready_numbers x.nic) c.find-r-2.result.1) (sym q) ∙ c.ready_at.ensures)
+    (ap (λ (x : ChoiceRankState). slice_get (ready_numbers x.nic) c.find-r-2.result.1) (sym q) ∙ c.ready_at.ensures)

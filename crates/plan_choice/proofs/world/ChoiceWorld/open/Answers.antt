@@ -7,7 +7,7 @@ use Rattle.ptl_types.specs.declared.headers.Lane.{Lane}
 use Rattle.cuts.specs.windows.Places.{lane_place}
 use Rattle.worlds.specs.parts.Layout.{lane_at}
 use Rattle.worlds.proofs.Opened.{few-pairs}
-use Rattle.plan_choice.specs.ranks.Seats.{IsInstalled, Seated, kind_of, kinds_of}
+use Rattle.plan_choice.specs.ranks.Seats.{IsInstalled, ChoiceRankState, kind_of, kinds_of}
 use Rattle.plan_choice.specs.Acts.{firing_count, seat_at, start_count}
 use Rattle.plan_choice.specs.Laying.{laid_lane}
 use Rattle.plan_choice.proofs.Opening.{is_first, opened_fields, standing}
@@ -52,9 +52,9 @@ invariant_of-result c =
     let few_steps = few_kinds ks c.steps.result.now c.args.choices.now.steps c.in_ok-kinds.ensures c.steps.ensures.value c.steps.ensures.are.few in
     let installed = subst (λ (k : List ChoiceKind). (r : ℕ) → r < c.args.ranks → IsInstalled c.args.ranks k r (seat_at seats r))
     c.deref.ensures.value c.in_ok-seats.ensures.seats in
-    let of_starts = subst (λ (v : List Seated). (r : ℕ) → r < length v → get_or c.in_ok-starts.starts r 0 ≡ start_count (seat_at v r))
+    let of_starts = subst (λ (v : List ChoiceRankState). (r : ℕ) → r < length v → get_or c.in_ok-starts.starts r 0 ≡ start_count (seat_at v r))
     c.deref-2.ensures.value c.in_ok-starts.ensures.counts in
-    let of_firings = subst (λ (v : List Seated). (r : ℕ) → r < length v → get_or c.in_ok-firings.firings r 0 ≡ firing_count (seat_at v r))
+    let of_firings = subst (λ (v : List ChoiceRankState). (r : ℕ) → r < length v → get_or c.in_ok-firings.firings r 0 ≡ firing_count (seat_at v r))
     c.deref-3.ensures.value c.in_ok-firings.ensures.counts in
     let count : c.len.result ≡ length ks = (let n = c.len.ensures in let o = c.in_ok-kinds.kinds.ok.0 in omega (arith, n, o)) in
     let laid = subst (λ m. (s d : ℕ) (lane : Lane) → s < c.args.ranks → d < c.args.ranks →

@@ -5,7 +5,7 @@ use Rattle.ptl_types.specs.Elements.{part, pattern}
 use Rattle.ni_model.specs.State.{State}
 use Rattle.choices.proofs.laws.Traffic.{words_within}
 use Rattle.choices.specs.laws.Decided.{result_of}
-use Rattle.plan_choice.specs.ranks.Seats.{Seated}
+use Rattle.plan_choice.specs.ranks.Seats.{ChoiceRankState}
 use Rattle.plan_choice.specs.Acts.{no_seated}
 use Rattle.plan_choice.specs.World.{ChoiceState, histories_in, nic_in, scene_in}
 use Rattle.plan_choice.proofs.Moving.{moment_in, slots_at}
@@ -22,7 +22,7 @@ word_at-requires c =
     let w : ChoiceState = record { ranks = s.ranks; kinds = s.kinds.items; seats = s.seats.items; lanes = s.lanes.items } in
     let within = words_within w.ranks w.kinds (slots_at w) is.in_range (histories_in w) (scene_in w).held (moment_in w is) c.args.r c.args.step i in
     let same = ap length (c.memory-memory.ensures.value ∙ ap (λ (v : State). v.memory) (c.nic.ensures
-    ∙ ap (λ (x : Seated). x.nic) (get_or_read s.seats.items c.args.r c.index.result.now inside c.index.ensures no_seated)
+    ∙ ap (λ (x : ChoiceRankState). x.nic) (get_or_read s.seats.items c.args.r c.index.result.now inside c.index.ensures no_seated)
     ∙ is.nic c.args.r h)) in
     omega (arith, within, same)
 
@@ -36,5 +36,5 @@ returns c =
     c.word_at.ensures
     ∙ ap (λ (m : List ℕ). pattern (part (32 * c.args.step + 24) 8 m)) c.memory-memory.ensures.value
     ∙ ap (result_of c.args.step) (c.nic.ensures
-    ∙ ap (λ (x : Seated). x.nic) (get_or_read s.seats.items c.args.r c.index.result.now inside c.index.ensures no_seated))
+    ∙ ap (λ (x : ChoiceRankState). x.nic) (get_or_read s.seats.items c.args.r c.index.result.now inside c.index.ensures no_seated))
     ∙ ap (λ (w : ChoiceState). result_of c.args.step (nic_in w c.args.r)) c.self.view_is

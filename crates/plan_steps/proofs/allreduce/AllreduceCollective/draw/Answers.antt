@@ -1,7 +1,7 @@
 -- The parts one after the other.
 use Rattle.std.proofs.Common.{map}
 use Rattle.plan_steps.specs.Allreduce.{result_cell}
-use Rattle.plan_steps.specs.Site.{entries, places}
+use Rattle.plan_steps.specs.StepContext.{entries, places}
 use Rattle.plan_steps.specs.Trees.{up}
 use Rattle.plan_steps.proofs.InParts.{joined-three, room-second, room-third}
 use Rattle.plan_steps.proofs.allreduce.AllreduceCollective.draw.Goals as goal

@@ -2,7 +2,7 @@
 use Rattle.std.proofs.Common.{map}
 use Rattle.plan_core.proofs.Drawing.{room-next, joined-parts}
 use Rattle.plan_steps.specs.Alltoall.{exchanged}
-use Rattle.plan_steps.specs.Site.{entries, places}
+use Rattle.plan_steps.specs.StepContext.{entries, places}
 use Rattle.plan_steps.proofs.alltoall.AlltoallCollective.draw.Goals as goal
 
 pub draw_row-requires-2-clause-room : goal.draw_row-requires-2-clause-room

@@ -2,7 +2,7 @@
 use Rattle.std.proofs.Common.{map}
 use Rattle.plan_core.proofs.Drawing.{room-next, joined-parts}
 use Rattle.plan_steps.specs.Broadcast.{first_cell, copy_cell}
-use Rattle.plan_steps.specs.Site.{places}
+use Rattle.plan_steps.specs.StepContext.{places}
 use Rattle.plan_steps.proofs.broadcast.BroadcastCollective.draw.Goals as goal
 
 pub draw_row-requires-2-clause-room : goal.draw_row-requires-2-clause-room

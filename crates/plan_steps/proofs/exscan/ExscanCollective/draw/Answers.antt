@@ -3,7 +3,7 @@ use Rattle.std.proofs.Common.{ℕ, suc, ◌≡◌, ◌+◌, ◌-◌, ap, arith, 
 use Rattle.plan_steps.specs.Exscan.{shifted}
 use Rattle.plan_steps.specs.Rounds.{rounds}
 use Rattle.plan_steps.specs.Scan.{scan_cell, scan_rows}
-use Rattle.plan_steps.specs.Site.{count, entries}
+use Rattle.plan_steps.specs.StepContext.{count, entries}
 use Rattle.plan_core.specs.Draw.{HasRoom, add_all}
 use Rattle.plan_core.specs.Plan.{from_to}
 use Rattle.plan_steps.proofs.InParts.{joined-three, room-second, room-third}

@@ -2,7 +2,7 @@
 use Rattle.std.proofs.Common.{◌∷◌, []}
 use Rattle.plan_core.proofs.Drawing.{room-next, joined-one}
 use Rattle.plan_steps.specs.Gather.{gathered}
-use Rattle.plan_steps.specs.Site.{entries}
+use Rattle.plan_steps.specs.StepContext.{entries}
 use Rattle.plan_steps.proofs.gather.GatherCollective.draw.Goals as goal
 
 pub draw_gathered-requires-clause-room : goal.draw_gathered-requires-clause-room

@@ -2,7 +2,7 @@
 use Rattle.std.proofs.Common.{◌∷◌, [], map}
 use Rattle.plan_core.proofs.Drawing.{room-next, joined-one}
 use Rattle.plan_steps.specs.Gatherv.{concatenated, held_entry}
-use Rattle.plan_steps.specs.Site.{places}
+use Rattle.plan_steps.specs.StepContext.{places}
 use Rattle.plan_steps.proofs.gatherv.GathervCollective.draw.Goals as goal
 
 pub draw_concatenated-requires-clause-room : goal.draw_concatenated-requires-clause-room

@@ -1,6 +1,6 @@
 -- One place tried in each turn.
 use Rattle.std.proofs.Common.{suc, cond, ◌≡◌, ◌-◌, ◌==◌, ◌∷◌, [], ◌++◌, arith, ap, ap₂, sym, ◌∙◌, map}
-use Rattle.plan_steps.specs.Site.{atomic, count, entry}
+use Rattle.plan_steps.specs.StepContext.{atomic, count, entry}
 use Rattle.plan_steps.specs.Trees.{children, parent, turned, up_number}
 use Rattle.plan_steps.proofs.Children.{first-link, links-more}
 use Rattle.plan_steps.proofs.plan_tree.trees.up_links.Goals as goal

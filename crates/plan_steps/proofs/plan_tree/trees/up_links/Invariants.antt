@@ -1,5 +1,5 @@
 use Rattle.std.proofs.Common.{suc, ◌≡◌, ◌-◌, ◌∷◌, map}
-use Rattle.plan_steps.specs.Site.{atomic, entry}
+use Rattle.plan_steps.specs.StepContext.{atomic, entry}
 use Rattle.plan_steps.specs.Trees.{children, turned, up_number}
 use Rattle.plan_steps.proofs.plan_tree.trees.up_links.Given as goal
 

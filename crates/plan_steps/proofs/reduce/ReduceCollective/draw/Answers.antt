@@ -1,6 +1,6 @@
 -- The parts one after the other.
 use Rattle.plan_core.proofs.Drawing.{room-next, joined-parts}
-use Rattle.plan_steps.specs.Site.{entries}
+use Rattle.plan_steps.specs.StepContext.{entries}
 use Rattle.plan_steps.specs.Trees.{up}
 use Rattle.plan_steps.proofs.reduce.ReduceCollective.draw.Goals as goal
 

@@ -3,7 +3,7 @@ use Rattle.std.proofs.Common.{map}
 use Rattle.plan_core.proofs.Drawing.{room-next, joined-parts}
 use Rattle.plan_steps.specs.Broadcast.{first_cell}
 use Rattle.plan_steps.specs.Scatter.{scattered}
-use Rattle.plan_steps.specs.Site.{places}
+use Rattle.plan_steps.specs.StepContext.{places}
 use Rattle.plan_steps.proofs.scatter.ScatterCollective.draw.Goals as goal
 
 pub draw_row-requires-2-clause-room : goal.draw_row-requires-2-clause-room

@@ -6,7 +6,7 @@ use Rattle.ni_model.specs.State.{State}
 use Rattle.initiator_engine.specs.Initiators.{room_for}
 use Rattle.ni_model.specs.Counts.{total}
 use Rattle.triggered_ops.specs.Operations.{posted_all, told, with_posted}
-use Rattle.portals_ni.specs.declared.armed.Armed.{Armed}
+use Rattle.portals_ni.specs.declared.armed.PostedOp.{PostedOp}
 use Rattle.portals_ni.specs.Pendings.{deed_in, sum_at}
 use Rattle.portals_ni.specs.Sound.{IsSound}
 use Rattle.portals_ni.proofs.Kept.{post-sound, posts-armed, posts-live, may-start}
@@ -27,7 +27,7 @@ returns-in-Err c =
 pub invariant_of-self-2 : goal.invariant_of-self-2
 invariant_of-self-2 c =
     let n = c.self.inside in
-    let armed : Armed = record { deed = c.args.deed; room = c.in-Ok.room } in
+    let armed : PostedOp = record { deed = c.args.deed; room = c.in-Ok.room } in
     let none : triggered_fault c.args.deed c.args.ct n.cts n.initiator.mds (posted_all deed_in n.pending) ≡ None = no-fault _ (sym (rw c.waiting.ensures.value at c.check_triggered.ensures) ∙ c.in_ok-check_triggered.was) in
     let may : MayStart c.args.deed n.initiator.ranks n.initiator.limits = may-start c.args.deed n.initiator.ranks n.target.limit n.initiator.limits c.self.invariant.sound.limit (subst (λ (s : State). MayStart c.args.deed s.ranks s.limits) (sym c.self.view_is) c.requires) in
     let room : room_for c.args.deed ≤ c.in-Ok.room.room = rw (c.in-Ok.ensures, c.room_for.ensures) (omega arith) in
@@ -46,7 +46,7 @@ invariant_of-self c = rw c.in-Err-post.ensures.err c.self.invariant
 pub returns : goal.returns
 returns c =
     let n = c.self.inside in
-    let armed : Armed = record { deed = c.args.deed; room = c.in-Ok.room } in
+    let armed : PostedOp = record { deed = c.args.deed; room = c.in-Ok.room } in
     let none : triggered_fault c.args.deed c.args.ct n.cts n.initiator.mds (posted_all deed_in n.pending) ≡ None = no-fault _ (sym (rw c.waiting.ensures.value at c.check_triggered.ensures) ∙ c.in_ok-check_triggered.was) in
     record { does = rw (← c.self.view_is) (post-may n.target n.region n.cts n.eqs n.initiator n.pending n.drops n.violations c.args.deed c.args.ct c.args.threshold c.sum_of-sum.result c.in-Ok-post.number armed c.post.new.self none refl c.in-Ok-post.ensures.number c.in-Ok-post.ensures.ok) }
 

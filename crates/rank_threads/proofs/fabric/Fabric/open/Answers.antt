@@ -3,7 +3,7 @@ use mathlib.Core.Option.{some}
 use lib.ListN.{get_elem?}
 use Rattle.coll_shape.specs.Outline.{Outline}
 use Rattle.shape_plans.specs.Drawing.{plan_of}
-use Rattle.rank_slots.specs.declared.slot.Slot.{Slot}
+use Rattle.rank_slots.specs.declared.slot.TurnRank.{TurnRank}
 use Rattle.schedule_compiler.specs.Jobs.{JobOf}
 use Rattle.worlds.specs.Frames.{IsFrameOf}
 use Rattle.rank_slots.specs.Chronicles.{chronicle, entry}
@@ -27,7 +27,7 @@ invariant_of-fabric g c =
     let job = c.args.job.now in let p = plan_of job.shape in let w = c.in_ok-slots.ensures.wired in
     let wires = c.in_ok-slots.wires.items in let same = c.in_ok-shared.ensures in let sound = c.sound.ensures in
     let start : c.in_ok-turns.turns.start ≡ c.in_ok-slots.slots.items = c.in_ok-turns.ensures.table in
-    let count : length c.in_ok-turns.turns.start ≡ job.shape.ranks = ap (λ (l : List Slot). length l) start ∙ w.count in
+    let count : length c.in_ok-turns.turns.start ≡ job.shape.ranks = ap (λ (l : List TurnRank). length l) start ∙ w.count in
     let ranks : c.ranks-ranks.result ≡ job.shape.ranks = c.ranks-ranks.ensures.value
     ∙ ap (λ (o : Outline). o.ranks) (c.shape.ensures.value ∙ c.schedule.ensures) in
     let room = c.in_ok-room.ensures.capacity in
@@ -35,7 +35,7 @@ invariant_of-fabric g c =
       sound = sound;
       count = count;
       lanes = subst (AreLanes p) (sym w.wires_are.bounds_are) (whole-lanes p (length job.inputs) sound.plan);
-      named = subst (λ (l : List Slot). (r : ℕ) (x : Slot) → get_elem? l r ≡ some x → IsNamed job wires r (plate x)) (sym start)
+      named = subst (λ (l : List TurnRank). (r : ℕ) (x : TurnRank) → get_elem? l r ≡ some x → IsNamed job wires r (plate x)) (sym start)
           (λ r x at. let f = w.fresh r x at in record { job_is = f.job_is; rank = f.compiled.rank; laid = w.laid r x at });
     } in record {
       fabric = subst (λ (j : JobOf). IsFabric j c.in_ok-turns.turns.start wires) (sym same) fabric;
