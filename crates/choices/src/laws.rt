@@ -47,7 +47,7 @@ pub fn interleavings_end()
 /// awaited there, and carries one word at most. What a receipt or a firing makes goes onto a lane that is used, and an answer goes
 /// back to where its request came from.
 pub fn messages_come()
-    ensures few { (ranks : ℕ) (choices : List ChoiceKind) (slots : ℕ → Slots) (histories : Histories)
+    ensures at_most { (ranks : ℕ) (choices : List ChoiceKind) (slots : ℕ → Slots) (histories : Histories)
         (held : Lanes) (s d : ℕ) (lane : Lane) →
         IsInRange ranks choices → IsReached (choice_system ranks choices slots) histories held →
         s < ranks → d < ranks → length (held s d lane) ≤ length choices }

@@ -46,7 +46,7 @@ pub record AtChoices (past : Past) : Type 0 where
   pub no_given : past.given ≡ []
   pub no_steps : past.steps ≡ []
   pub no_on : past.on ≡ []
-  pub few : length past.choices ≤ MOST_STEPS
+  pub at_most : length past.choices ≤ MOST_STEPS
   pub made : past.buffers ≡ map (choice_made past.ranks) past.choices
   pub spelled : (x : List ℕ) → In x (map choice_name past.choices) → is_name x ≡ true
   pub distinct : Distinct (map choice_name past.choices)
@@ -164,7 +164,7 @@ choice_goes past next kind name a none named h =
               no_given = a.no_given;
               no_steps = a.no_steps;
               no_on = a.no_on;
-              few = omega (arith, l, room_left);
+              at_most = omega (arith, l, room_left);
               made = ap (λ (bs : List Buffer). bs ++ choice_buffer past.ranks name ∷ []) a.made
                   ∙ ap (λ (n : List ℕ). map (choice_made past.ranks) past.choices ++ choice_buffer past.ranks n ∷ [])
                   (sym (choice_named kind name))
@@ -229,7 +229,7 @@ choice_print_goes past next name chosen h =
             no_given = a.no_given;
             no_steps = a.no_steps;
             no_on = a.no_on;
-            few = a.few;
+            at_most = a.at_most;
             made = a.made;
             spelled = a.spelled;
             distinct = a.distinct;
@@ -341,7 +341,7 @@ end_goes past next a h =
             no_given = c.no_given;
             no_steps = c.no_steps;
             no_on = c.no_on;
-            few = c.few;
+            at_most = c.at_most;
             made = c.made;
             spelled = c.spelled;
             distinct = c.distinct;

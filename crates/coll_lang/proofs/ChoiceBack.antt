@@ -90,7 +90,7 @@ one_choice v n c two a i l s w =
     let bs = made n c in
     let past = at s (chosen_upto v n c i) in
     let count = count_made n c in
-    let few = a.few in
+    let at_most = a.at_most in
     let lt : i < length bs = omega (arith, count, l) in
     let done = length-take-le i c.steps (let z : i ≤ length c.steps = omega (arith, l) in z) in
     let done_too = length-take-le i bs (let z : i ≤ length bs = omega (arith, lt) in z) in
@@ -104,7 +104,7 @@ one_choice v n c two a i l s w =
     subst (λ (x : Past). Leads past x (line (choice_words own)))
     (ap (λ (x : List Buffer). next x (take i c.steps ++ own ∷ [])) buffers_are
     ∙ ap (λ (x : List ChoiceStep). next (take (suc i) bs) x) steps_are)
-    (choice_leads past own two w (a.spelled i l) new (omega (arith, done, l, few)) (omega (arith, done_too, l, few)))
+    (choice_leads past own two w (a.spelled i l) new (omega (arith, done, l, at_most)) (omega (arith, done_too, l, at_most)))
 
 choices_led : (v : Version) (n : ℕ) (c : Chosen) → stands_in Two v ≡ true → AreChoices c
     → Led (start v n) (choices_text c.steps) (record (start v n) { buffers = made n c; choices = c.steps }) Choosing
@@ -123,17 +123,17 @@ choices_led v n c two a =
 
 -- ---- the prints
 one_each : (n : ℕ) (c : Chosen) (i : ℕ) → n ≤ MOST_RANKS → i < length c.steps → elements_of (get_or (made n c) i no_buffer) ≤ MOST_RANKS
-one_each n c i few l =
+one_each n c i at_most l =
     let e = from_to-long 0 n in
-    subst (λ (b : Buffer). elements_of b ≤ MOST_RANKS) (sym (made_at n c i l)) (small (length (from_to 0 n)) (omega (arith, e, few)))
+    subst (λ (b : Buffer). elements_of b ≤ MOST_RANKS) (sym (made_at n c i l)) (small (length (from_to 0 n)) (omega (arith, e, at_most)))
   where
     small : (m : ℕ) → m ≤ MOST_RANKS → 1 * m ≤ MOST_RANKS
     small m h = omega (arith, h)
 
 few_elements : (n : ℕ) (c : Chosen) → n ≤ MOST_RANKS → AreChoices c → in_all (made n c) c.prints ≤ MOST_ELEMENTS
-few_elements n c few a =
+few_elements n c at_most a =
     let each : All (λ i. elements_of (get_or (made n c) i no_buffer) ≤ MOST_RANKS) c.prints =
-    λ i d l. one_each n c (get_or c.prints i d) few (subst (λ k. k < length c.steps) (get_or_default c.prints i 0 d l) (a.printed i l)) in
+    λ i d l. one_each n c (get_or c.prints i d) at_most (subst (λ k. k < length c.steps) (get_or_default c.prints i 0 d l) (a.printed i l)) in
     let all = sum_by-le (λ i. elements_of (get_or (made n c) i no_buffer)) MOST_RANKS c.prints each in
     let most = a.few_prints in
     omega (arith, all, most)
@@ -141,7 +141,7 @@ few_elements n c few a =
 prints_on : (v : Version) (n : ℕ) (c : Chosen) → n ≤ MOST_RANKS → AreChoices c → (s : Stage) → Wider s Choosing
     → Leads (at s (record (start v n) { buffers = made n c; choices = c.steps })) (all_said v n c)
     (prints_text (name_at (made n c)) c.prints ++ last_text)
-prints_on v n c few a s w =
+prints_on v n c at_most a s w =
     let all = all_said v n c in
     let count = count_made n c in
     lead_then (at s (record (start v n) { buffers = made n c; choices = c.steps })) (prints_text (name_at (made n c)) c.prints) last_text
@@ -149,7 +149,7 @@ prints_on v n c few a s w =
     (prints_led all (parts n c a (made n c) [] (sym (append-nil (made n c)))) named s [] c.prints 0
     (λ form h. w form (choosing_wider form h)) there
     (none_more 0 (length c.prints) MOST_PRINTS refl a.few_prints)
-    (none_more 0 (in_all (made n c) c.prints) MOST_ELEMENTS refl (few_elements n c few a)))
+    (none_more 0 (in_all (made n c) c.prints) MOST_ELEMENTS refl (few_elements n c at_most a)))
     (λ s w. last_on all s w)
   where
     named : (i : ℕ) → i < length (made n c) → is_name (name_at (made n c) i) ≡ true
@@ -175,7 +175,7 @@ text_of v n c a =
 
 chosen_back : (v : Version) (n : ℕ) (c : Chosen) → stands_in Two v ≡ true → AreChoices c → 1 ≤ n → n ≤ most_ranks v → n ≤ MOST_RANKS
     → length (text (chosen v n c)) ≤ LONGEST_TEXT → read (text (chosen v n c)) ≡ Ok (chosen v n c)
-chosen_back v n c two a some most few short =
+chosen_back v n c two a some most at_most short =
     let all = all_said v n c in
     let later = choices_text c.steps ++ (prints_text (name_at (made n c)) c.prints ++ last_text) in
     whole_read (text (chosen v n c)) all (chosen v n c) refl
@@ -183,7 +183,7 @@ chosen_back v n c two a some most few short =
     (then nothing (start v n) all (head_text v n) later (head_leads v n some most)
     (lead_then (start v n) (choices_text c.steps) (prints_text (name_at (made n c)) c.prints ++ last_text)
     (record (start v n) { buffers = made n c; choices = c.steps }) all Choosing
-    (choices_led v n c two a) (λ s w. prints_on v n c few a s w))))
+    (choices_led v n c two a) (λ s w. prints_on v n c at_most a s w))))
     short (described_chosen all a.some)
 
 -- a shape that is bare says its version and ranks alone
@@ -216,11 +216,11 @@ two_stands Two h = refl
 pub choices_back : (o : Outline) (lists : List (List (List ℕ))) (c : Chosen) → AreChoices c → IsBare o → length lists ≡ o.inputs
     → 1 ≤ o.ranks → o.ranks ≤ most_ranks o.version → o.ranks ≤ MOST_RANKS
     → (d : Program) → d ≡ record { shape = o; inputs = lists; choices = Some c } → length (text d) ≤ LONGEST_TEXT → read (text d) ≡ Ok d
-choices_back o lists c a b many some most few d e short =
+choices_back o lists c a b many some most at_most d e short =
     let is : chosen o.version o.ranks c ≡ d =
     ap (λ (x : Outline). record { shape = x; inputs = []; choices = Some c }) (bare_is o c b)
     ∙ (ap (λ (x : List (List (List ℕ))). record { shape = o; inputs = x; choices = Some c }) (sym (nil_from_length lists (many ∙ b.inputs)))
     ∙ sym e) in
     subst (λ (x : Program). read (text x) ≡ Ok x) is
-    (chosen_back o.version o.ranks c (two_stands o.version b.version) a some most few
+    (chosen_back o.version o.ranks c (two_stands o.version b.version) a some most at_most
     (subst (λ (x : Program). length (text x) ≤ LONGEST_TEXT) (sym is) short))

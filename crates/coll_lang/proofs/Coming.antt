@@ -46,11 +46,11 @@ inputs_are past f h = record {
   bytes = λ b r l k. (rowed b r l k).bytes;
 }
   where
-    few : past.inputs ≤ length past.buffers
-    few = subst (λ n. past.inputs ≤ n) f.all (made_most (outline past) 0 (length past.steps) (omega arith))
+    at_most : past.inputs ≤ length past.buffers
+    at_most = subst (λ n. past.inputs ≤ n) f.all (made_most (outline past) 0 (length past.steps) (omega arith))
 
     count : length (take past.inputs past.buffers) ≡ past.inputs
-    count = length-take-le past.inputs past.buffers few
+    count = length-take-le past.inputs past.buffers at_most
 
     all_there : length past.given ≡ past.inputs * past.ranks
     all_there = lists_of_all past.ranks (take past.inputs past.buffers) past.given h ∙ ap (λ n. n * past.ranks) count
@@ -71,9 +71,9 @@ inputs_are past f h = record {
 pub all_given : (past : Past) → Facts (outline past) → Filled past.ranks (take past.inputs past.buffers) past.given
     → length past.given ≡ past.inputs * past.ranks
 all_given past f h =
-    let few = subst (λ n. past.inputs ≤ n) f.all (made_most (outline past) 0 (length past.steps) (omega arith)) in
+    let at_most = subst (λ n. past.inputs ≤ n) f.all (made_most (outline past) 0 (length past.steps) (omega arith)) in
     lists_of_all past.ranks (take past.inputs past.buffers) past.given h
-    ∙ ap (λ n. n * past.ranks) (length-take-le past.inputs past.buffers few)
+    ∙ ap (λ n. n * past.ranks) (length-take-le past.inputs past.buffers at_most)
 
 plain_end : (h m g i s c p e : List ℕ) → c ≡ []
     → h ++ (m ++ (g ++ (i ++ (s ++ (p ++ ([] ++ e)))))) ≡ (h ++ (m ++ (g ++ (i ++ (s ++ (c ++ p)))))) ++ e
@@ -163,7 +163,7 @@ choices_are past d =
     let m = long_map choice_name past.choices in
     record {
       some = d.some;
-      few = a.few;
+      at_most = a.at_most;
       few_prints = a.few_prints;
       spelled = λ i l. subst (λ (x : List ℕ). is_name x ≡ true) (at_name past.choices i l)
           (a.spelled (get_or (map choice_name past.choices) i []) (in_at (map choice_name past.choices) i [] (omega (arith, l, m))));

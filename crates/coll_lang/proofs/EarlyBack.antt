@@ -48,25 +48,25 @@ ranks_taken past l ws n at allowed is number = rw (allowed, at, is, number) refl
 
 ranks_back : (most n : ℕ) → 1 ≤ n → n ≤ most → most < 2 ^ 64 → ranks_in most (codes "ranks" ∷ decimal n ∷ []) ≡ Some n
 unfolding ranks_in
-ranks_back most n some few small = between_read 1 most n some few small
+ranks_back most n some at_most small = between_read 1 most n some at_most small
 
 few_most : (v : Version) → most_ranks v < 2 ^ 64
 few_most One = omega arith
 few_most Two = omega arith
 
 pub head_leads : (v : Version) (n : ℕ) → 1 ≤ n → n ≤ most_ranks v → Leads nothing (start v n) (head_text v n)
-head_leads v n some few =
+head_leads v n some at_most =
     let first : Past = record nothing { stage = Ranks; version = v } in
     let ws = codes "ranks" ∷ decimal n ∷ [] in
     let fits = few_most v in
-    let solid : AllByRecursion (λ w. list_all is_solid w ≡ true) ws = (refl, (number_solid n (omega (arith, few, fits)), tt)) in
+    let solid : AllByRecursion (λ w. list_all is_solid w ≡ true) ws = (refl, (number_solid n (omega (arith, at_most, fits)), tt)) in
     let allowed = solid_allowed ws solid in
     then nothing first (start v n) (line (codes "coll" ∷ version_word v ∷ [])) (line ws)
     (subst (λ (x : List ℕ). Leads nothing first x) (header_line v)
     (one_line nothing first (codes "coll" ++ 32 ∷ version_word v) refl (header_allowed v) (header_taken v)))
     (one_line first (start v n) (join_with_byte 32 ws) refl allowed
     (ranks_taken first (join_with_byte 32 ws) ws n refl allowed (solid_words (codes "ranks") (decimal n ∷ []) solid)
-    (ranks_back (most_ranks v) n some few fits)))
+    (ranks_back (most_ranks v) n some at_most fits)))
 
 pub remote_led : (v : Version) (n : ℕ) (b : Bool) → Led (start v n) (remote_text b) (record (start v n) { remote = b }) Groups
 unfolding form_line
@@ -114,21 +114,21 @@ group_taken : (past : Past) (g : Group) → all_numbers (map decimal g.members) 
     → length past.groups < MOST_GROUPS → are_members past.ranks g.members ≡ true
     → form_line past (group g.name (map decimal g.members)) ≡ Ok (record past { stage = Groups; groups = past.groups ++ g ∷ [] })
 unfolding form_line group_line
-group_taken past g en ef few em =
-    let full = isnt_full (length past.groups) MOST_GROUPS few in
+group_taken past g en ef at_most em =
+    let full = isnt_full (length past.groups) MOST_GROUPS at_most in
     rw (en, ef, full, em) refl
 
 -- a group's line
 group_leads : (past : Past) (g : Group) → stands_in Two past.version ≡ true → Wider past.stage Groups → is_name g.name ≡ true
     → AreMembers past.ranks g.members → past.ranks ≤ MOST_RANKS → is_taken past g.name ≡ false → length past.groups < MOST_GROUPS
     → Leads past (record past { stage = Groups; groups = past.groups ++ g ∷ [] }) (group_text g)
-group_leads past g v w named a few fresh room =
+group_leads past g v w named a at_most fresh room =
     let small : (i : ℕ) → i < length g.members → get_or g.members i 0 < 2 ^ 64 =
-    λ i l. below (get_or g.members i 0) past.ranks (a.ranks i l) few in
+    λ i l. below (get_or g.members i 0) past.ranks (a.ranks i l) at_most in
     cut g.members refl small a.some
   where
     below : (m n : ℕ) → m < n → n ≤ MOST_RANKS → m < 2 ^ 64
-    below m n l few = omega (arith, l, few)
+    below m n l at_most = omega (arith, l, at_most)
 
     cut : (ms : List ℕ) → g.members ≡ ms → ((i : ℕ) → i < length g.members → get_or g.members i 0 < 2 ^ 64) → 0 < length g.members
         → Leads past (record past { stage = Groups; groups = past.groups ++ g ∷ [] }) (group_text g)
@@ -145,7 +145,7 @@ group_leads past g v w named a few fresh room =
 
 -- all groups, one after the other
 pub record AreGroups (n : ℕ) (v : Version) (gs : List Group) : Type 0 where
-  pub few : length gs ≤ MOST_GROUPS
+  pub at_most : length gs ≤ MOST_GROUPS
   pub stands : (i : ℕ) → i < length gs → StandsIn Two v
   pub members : (i : ℕ) → i < length gs → AreMembers n (get_or gs i no_group).members
   pub spelled : (i : ℕ) → i < length gs → is_name (get_or gs i no_group).name ≡ true
@@ -158,7 +158,7 @@ two_stands Two h = refl
 pub groups_led : (base : Past) (gs : List Group) → base.buffers ≡ [] → base.ranks ≤ MOST_RANKS → AreGroups base.ranks base.version gs
     → (s : Stage)
     → Wider s Groups → Led (at s (record base { groups = [] })) (groups_text gs) (record base { groups = gs }) Groups
-groups_led base gs none few a s w =
+groups_led base gs none at_most a s w =
     let st : ℕ → Past = λ i. record base { groups = take i gs } in
     let item : ℕ → List ℕ = λ i. group_text (get_or gs i no_group) in
     let one : (i : ℕ) → i < length gs → (s : Stage) → Wider s Groups → Leads (at s (st i)) (at Groups (st (suc i))) (item i) =
@@ -180,7 +180,7 @@ groups_led base gs none few a s w =
         let g = get_or gs i no_group in
         let past : Past = record base { stage = s; groups = take i gs } in
         let len = length-take-le i gs (let z : i ≤ length gs = omega (arith, l) in z) in
-        let most = a.few in
+        let most = a.at_most in
         let fresh : is_taken past g.name ≡ false =
         ap (λ o. is_some o || is_some (buffer_number base.buffers g.name)) (name_missing (λ (g : Group). g.name) (take i gs) no_group g.name
         (λ k lt e. clash k i (omega (arith, lt, len))
@@ -188,5 +188,5 @@ groups_led base gs none few a s w =
         (sym (ap (λ (x : Group). x.name) (get_or-take i gs k no_group (omega (arith, lt, len)))) ∙ e))))
         ∙ ap (λ (bs : List Buffer). is_some (buffer_number bs g.name)) none in
         subst (λ (x : List Group). Leads past (record base { stage = Groups; groups = x }) (group_text g)) (sym (take-next gs i no_group l))
-        (group_leads past g (two_stands base.version (a.stands i l)) w (a.spelled i l) (a.members i l) few fresh
+        (group_leads past g (two_stands base.version (a.stands i l)) w (a.spelled i l) (a.members i l) at_most fresh
         (omega (arith, len, l, most)))

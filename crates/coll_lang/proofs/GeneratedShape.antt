@@ -236,7 +236,7 @@ words_of ws = map (λ w. even_words w.0 w.1) ws
 
 all_small : (ws : List (List ℕ × ℕ)) → words_are_small ws → All IsSmall (words_of ws)
 all_small [] h = All-nil IsSmall
-all_small (w ∷ ws) h = All-cons IsSmall (even_words w.0 w.1) (words_of ws) (record { short = h.0; few = everyone_few }) (all_small ws h.1)
+all_small (w ∷ ws) h = All-cons IsSmall (even_words w.0 w.1) (words_of ws) (record { short = h.0; at_most = everyone_few }) (all_small ws h.1)
 
 pub buffers_small : All IsSmall o.buffers
 buffers_small = all_small ((codes "a", 64) ∷ (codes "b", 64) ∷ (codes "c", 64) ∷ (codes "d", 4096) ∷ (codes "e", 64) ∷ [])

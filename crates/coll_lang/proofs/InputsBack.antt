@@ -135,9 +135,9 @@ input_taken : (past : Past) (b : Buffer) → IsInput past.ranks b → is_taken p
     → form_line past (input b.name b.ty (decimal b.spread.length))
     ≡ Ok (record past { stage = data_due past.ranks b.ty b.spread.length; buffers = past.buffers ++ b ∷ []; inputs = past.inputs + 1 })
 unfolding form_line input_line
-input_taken past b i new few =
+input_taken past b i new at_most =
     let number = between_read 1 MOST_GIVEN b.spread.length i.some i.small (omega arith) in
-    let full = isnt_full (length past.buffers) MOST_BUFFERS few in
+    let full = isnt_full (length past.buffers) MOST_BUFFERS at_most in
     rw (number, new, full)
     (ap (λ (c : Buffer). let p : Past = record past {
       stage = data_due past.ranks b.ty b.spread.length;

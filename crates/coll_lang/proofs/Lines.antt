@@ -122,12 +122,12 @@ with_print o i = record o { prints = o.prints ++ i ∷ [] }
 
 pub print_facts : (o : Outline) (i : ℕ) → Facts o → i < length o.buffers → length o.prints < MOST_PRINTS
     → printed_elements (with_print o i) ≤ MOST_ELEMENTS → Facts (with_print o i)
-print_facts o i f there few le = record {
+print_facts o i f there at_most le = record {
   some_rank = f.some_rank;
   few_ranks = f.few_ranks;
   few_buffers = f.few_buffers;
   few_steps = f.few_steps;
-  few_prints = let l = longer o.prints i in omega (arith, few, l);
+  few_prints = let l = longer o.prints i in omega (arith, at_most, l);
   few_groups = f.few_groups;
   on_groups = f.on_groups;
   on_group = f.on_group;
@@ -171,7 +171,7 @@ no_made : (o : Outline) → o.steps ≡ [] → made_upto o (length o.steps) ≡ 
 no_made o e = ap (λ (ss : List CollStep). made_upto o (length ss)) e
 
 pub record IsGroupLine (o : Outline) (g : Group) : Type 0 where
-  pub few : length o.groups < MOST_GROUPS
+  pub at_most : length o.groups < MOST_GROUPS
   pub members : AreMembers o.ranks g.members
   pub stands : StandsIn Two o.version
   pub named : is_name g.name ≡ true
@@ -207,7 +207,7 @@ group_facts o g f a h = record {
   few_buffers = f.few_buffers;
   few_steps = f.few_steps;
   few_prints = f.few_prints;
-  few_groups = let l = longer o.groups g in let w = h.few in omega (arith, w, l);
+  few_groups = let l = longer o.groups g in let w = h.at_most in omega (arith, w, l);
   on_groups = f.on_groups;
   on_group = λ k l. none_there o.steps a.no_steps k l;
   named_members = each_more (λ (g : Group). AreMembers o.ranks g.members) o.groups g no_group f.named_members h.members;
@@ -228,7 +228,7 @@ group_facts o g f a h = record {
 }
 
 pub record IsInputLine (o : Outline) (b : Buffer) : Type 0 where
-  pub few : length o.buffers < MOST_BUFFERS
+  pub at_most : length o.buffers < MOST_BUFFERS
   pub held : b.spread.holders ≡ from_to 0 o.ranks
   pub some : 1 ≤ b.spread.length
   pub small : b.spread.length ≤ MOST_GIVEN
@@ -263,7 +263,7 @@ pub input_facts : (o : Outline) (b : Buffer) → Facts o → IsEarly o → IsInp
 input_facts o b f a h = record {
   some_rank = f.some_rank;
   few_ranks = f.few_ranks;
-  few_buffers = let w = h.few in omega (arith, w, l);
+  few_buffers = let w = h.at_most in omega (arith, w, l);
   few_steps = f.few_steps;
   few_prints = f.few_prints;
   few_groups = f.few_groups;
@@ -339,9 +339,9 @@ bare version ranks = record {
 }
 
 pub bare_facts : (version : Version) (ranks : ℕ) → 1 ≤ ranks → ranks ≤ most_ranks version → Facts (bare version ranks)
-bare_facts version ranks some few = record {
+bare_facts version ranks some at_most = record {
   some_rank = some;
-  few_ranks = few;
+  few_ranks = at_most;
   few_buffers = omega arith;
   few_steps = omega arith;
   few_prints = omega arith;

@@ -31,8 +31,8 @@ print_taken : (past : Past) (name : List ℕ) (i : ℕ) (b : Buffer) → buffer_
     → form_line past (print name)
     ≡ Ok (record past { stage = Prints; prints = past.prints ++ i ∷ []; printed = past.printed + elements_of b })
 unfolding form_line print_line
-print_taken past name i b found few le =
-    let full = isnt_full (length past.prints) MOST_PRINTS few in
+print_taken past name i b found at_most le =
+    let full = isnt_full (length past.prints) MOST_PRINTS at_most in
     let large = isnt_above (past.printed + elements_of b) MOST_ELEMENTS le in
     rw (found, full, large) refl
 
@@ -47,7 +47,7 @@ pub prints_led : (base : Past) → Parts base.groups base.buffers base.buffers [
     → printed + in_all base.buffers prints ≤ MOST_ELEMENTS
     → Led (record base { stage = s; prints = before; printed = printed }) (prints_text (name_at base.buffers) prints)
     (record base { prints = before ++ prints; printed = printed + in_all base.buffers prints }) Prints
-prints_led base p named s before [] printed wider there few le =
+prints_led base p named s before [] printed wider there at_most le =
     let p0 : Past = record base { prints = before; printed = printed } in
     subst (λ (x : Past). Led (at s p0) [] x Prints)
     (ap (λ (ps : List ℕ). let x : Past = record base { prints = ps; printed = printed } in x) (sym (append-nil before))
@@ -56,7 +56,7 @@ prints_led base p named s before [] printed wider there few le =
   where
     no_more : (n : ℕ) → n ≡ n + 0
     no_more n = omega arith
-prints_led base p named s before (i ∷ prints) printed wider there few le =
+prints_led base p named s before (i ∷ prints) printed wider there at_most le =
     let all = base.buffers in
     let own = elements_of (get_or all i no_buffer) in
     let others = in_all all prints in
@@ -70,9 +70,9 @@ prints_led base p named s before (i ∷ prints) printed wider there few le =
     let first : Leads past mid (line (codes "print" ∷ name_at all i ∷ [])) =
     form_leads past mid (print (name_at all i)) (codes "print") (name_at all i ∷ []) (refl, (name_solid (name_at all i) name, tt))
     (print_back (name_at all i) name) refl (wider (print (name_at all i)) refl)
-    (print_taken past (name_at all i) i (get_or all i no_buffer) (named_there base.groups all all [] p i there.0) (omega (arith, few))
+    (print_taken past (name_at all i) i (get_or all i no_buffer) (named_there base.groups all all [] p i there.0) (omega (arith, at_most))
     (omega (arith, le, both))) in
-    let more = prints_led base p named Prints (before ++ i ∷ []) prints (printed + own) (λ form h. h) there.1 (omega (arith, few, k))
+    let more = prints_led base p named Prints (before ++ i ∷ []) prints (printed + own) (λ form h. h) there.1 (omega (arith, at_most, k))
     (omega (arith, le, both)) in
     let same : made ≡ next =
     ap (λ (ps : List ℕ). let x : Past = record base { prints = ps; printed = (printed + own) + others } in x)
@@ -101,8 +101,8 @@ choice_taken : (past : Past) (kind : ChoiceKind) (name : List ℕ) → is_taken 
       choices = past.choices ++ choice_step kind name ∷ [];
     })
 unfolding form_line choice_line
-choice_taken past kind name new few room =
-    let full = isnt_full (length past.choices) MOST_STEPS few in
+choice_taken past kind name new at_most room =
+    let full = isnt_full (length past.choices) MOST_STEPS at_most in
     let filled = isnt_full (length past.buffers) MOST_BUFFERS room in
     rw (new, full, filled) refl
 
@@ -118,14 +118,14 @@ pub choice_leads : (past : Past) (c : ChoiceStep) → stands_in Two past.version
     → is_name (choice_name c) ≡ true → is_taken past (choice_name c) ≡ false → length past.choices < MOST_STEPS
     → length past.buffers < MOST_BUFFERS
     → Leads past (with_choice past c) (line (choice_words c))
-choice_leads past (Elect name) v w named new few room =
+choice_leads past (Elect name) v w named new at_most room =
     form_leads past (with_choice past (Elect name)) (choice kinds.Elect name) (choice_word kinds.Elect) (name ∷ [])
     (refl, (name_solid name named, tt)) (choice_back kinds.Elect name named) v (w (choice kinds.Elect name) refl)
-    (choice_taken past kinds.Elect name new few room)
-choice_leads past (Tickets name) v w named new few room =
+    (choice_taken past kinds.Elect name new at_most room)
+choice_leads past (Tickets name) v w named new at_most room =
     form_leads past (with_choice past (Tickets name)) (choice kinds.Tickets name) (choice_word kinds.Tickets) (name ∷ [])
     (refl, (name_solid name named, tt)) (choice_back kinds.Tickets name named) v (w (choice kinds.Tickets name) refl)
-    (choice_taken past kinds.Tickets name new few room)
+    (choice_taken past kinds.Tickets name new at_most room)
 
 -- ---- the last line
 pub last_leads : (past : Past) → Wider past.stage Prints → Leads past (at Finished past) (line (codes "end" ∷ []))

@@ -77,7 +77,7 @@ pub members_are : (n : ℕ) (ms : List ℕ) → n ≤ MOST_RANKS → are_members
 members_are n ms le h =
     let p = both_true (list_all (λ m. nat_lt m n) ms && is_rising ms) (nat_lt 0 (length ms)) h in
     let q = both_true (list_all (λ m. nat_lt m n) ms) (is_rising ms) p.0 in
-    record { some = less 0 (length ms) p.1; few = few_members n ms le q.1 q.0; ranks = below_at n ms q.0; rising = rises ms q.1 }
+    record { some = less 0 (length ms) p.1; at_most = few_members n ms le q.1 q.0; ranks = below_at n ms q.0; rising = rises ms q.1 }
 
 numbers_spelled : (ws : List (List ℕ)) (ms : List ℕ) → all_numbers ws ≡ Some ms → ((i : ℕ) → i < length ms → get_or ms i 0 < 2 ^ 64)
     → ws ≡ map decimal ms
@@ -118,8 +118,8 @@ unfolding group_line
 group_goes past next name members le a stands named h =
     let n = some_of BadNumber (all_numbers members) _ next h in
     let t = passed (is_taken past name) NameTaken _ next n.2 in
-    let few = passed (nat_le MOST_GROUPS (length past.groups)) TooMany _ next t.1 in
-    let good = passed _ BadGroup _ next few.1 in
+    let at_most = passed (nat_le MOST_GROUPS (length past.groups)) TooMany _ next t.1 in
+    let good = passed _ BadGroup _ next at_most.1 in
     let ms = n.0 in
     let are = members_are past.ranks ms le (not_not (are_members past.ranks ms) good.0) in
     let g : Group = record { name = name; members = ms } in
@@ -134,7 +134,7 @@ group_goes past next name members le a stands named h =
             early = record {
               facts = group_facts (outline past) g e.facts e.early
                   (record {
-                    few = room MOST_GROUPS (length past.groups) few.0;
+                    at_most = room MOST_GROUPS (length past.groups) at_most.0;
                     members = are;
                     stands = stands;
                     named = named;
@@ -167,7 +167,7 @@ group_goes past next name members le a stands named h =
     })
   where
     small : (m n : ℕ) → n ≤ MOST_RANKS → m < n → m < 2 ^ 64
-    small m n few l = omega (arith, l, few)
+    small m n at_most l = omega (arith, l, at_most)
 
 -- ---- an input
 pub input_goes : (past next : Past) (name : List ℕ) (ty : ElemType) (count : List ℕ) → AtInputs past → is_name name ≡ true
@@ -194,7 +194,7 @@ input_goes past next name ty count a named h =
                 early = record {
                   facts = input_facts (outline past) c e.facts e.early
                       (record {
-                        few = room MOST_BUFFERS (length past.buffers) full.0;
+                        at_most = room MOST_BUFFERS (length past.buffers) full.0;
                         held = refl;
                         some = range.least;
                         small = range.most;

@@ -126,11 +126,11 @@ from_to-at k (suc n) zero l = omega arith
 from_to-at k (suc n) (suc i) l = from_to-at (suc k) n i (omega arith) ∙ (let e : suc k + i ≡ k + suc i = omega arith in e)
 
 pub everyone_are : (n : ℕ) → 1 ≤ n → n ≤ MOST_RANKS → AreMembers n (from_to 0 n)
-everyone_are n some few =
+everyone_are n some at_most =
     let l = from_to-long 0 n in
     record {
       some = omega (arith, l, some);
-      few = omega (arith, l, few);
+      at_most = omega (arith, l, at_most);
       ranks = λ i k. let a = from_to-at 0 n i (omega (arith, l, k)) in omega (arith, a, l, k);
       rising = λ i j lt k. let a = from_to-at 0 n i (omega (arith, l, k, lt)) in let b = from_to-at 0 n j (omega (arith, l, k)) in
           omega (arith, a, b, lt);
@@ -138,8 +138,8 @@ everyone_are n some few =
 
 pub members_there : (past : Past) (i : Option ℕ) → past.ranks ≤ MOST_RANKS → Facts (outline past) → IsGroup (outline past) i
     → AreMembers past.ranks (members_in past i)
-members_there past None few f g = everyone_are past.ranks f.some_rank few
-members_there past (Some i) few f g = f.named_members i g
+members_there past None at_most f g = everyone_are past.ranks f.some_rank at_most
+members_there past (Some i) at_most f g = f.named_members i g
 
 stands_since : (v w : Version) → stands_in v w ≡ true → StandsIn v w
 stands_since One w h = tt
@@ -225,7 +225,7 @@ source_said past (Some n) from h =
 
 -- what a step of the line fits
 pub record IsTaken (past : Past) (w : StepWords) (r : ℕ) (from : ℕ × Buffer) (i : Option ℕ) : Type 0 where
-  pub few : past.ranks ≤ MOST_RANKS
+  pub at_most : past.ranks ≤ MOST_RANKS
   pub facts : Facts (outline past)
   pub group : IsGroup (outline past) i
   pub takes : Takes w
@@ -258,7 +258,7 @@ longer_by bs g s x (Some n) = longer bs (new_buffer g s x n.1) ∙ (let e : leng
 new_fits : (past : Past) (w : StepWords) (r : ℕ) (from : ℕ × Buffer) (i : Option ℕ) → IsTaken past w r from i
     → StepFits (after_step past w r from i) (length past.buffers) (members_in past i) (new_step past w r from.0)
 new_fits past w r from i h = record {
-  members = members_there past i h.few h.facts h.group;
+  members = members_there past i h.at_most h.facts h.group;
   root = subst (IsPlace (length (members_in past i))) (sym k.root) (place_is (takes_root w.kind) r (length (members_in past i)) h.root);
   source = λ a e. let t = some_there (takes_buffers w.kind) from.0 a (sym k.source ∙ e) in
       subst (λ v. v < length past.buffers) t.1 (h.source.source.below (h.takes.names ∙ t.0));
@@ -327,8 +327,8 @@ kept_with past g s x (Some n) f named fresh small =
 
 few_with : (past : Past) (g : List ℕ) (s : CollStep) (x : Buffer) (names : Option (List ℕ × List ℕ)) → length past.buffers ≤ MOST_BUFFERS
     → (is_some names && nat_le MOST_BUFFERS (length past.buffers)) ≡ false → length (past.buffers ++ made_list g s x names) ≤ MOST_BUFFERS
-few_with past g s x None few h = let e = longer_by past.buffers g s x None in omega (arith, e, few)
-few_with past g s x (Some n) few h =
+few_with past g s x None at_most h = let e = longer_by past.buffers g s x None in omega (arith, e, at_most)
+few_with past g s x (Some n) at_most h =
     let e = longer_by past.buffers g s x (Some n) in let l = room MOST_BUFFERS (length past.buffers) h in omega (arith, e, l)
 
 counts_with : (due : Bool) (r : Option ℕ) (n m : ℕ) → r ≡ cond due (Some n) None → m ≡ cond due (suc n) n → and_one r n ≡ m
@@ -339,14 +339,14 @@ pub is_step : (past : Past) (w : StepWords) (r : ℕ) (from : ℕ × Buffer) (i 
     → length past.steps < MOST_STEPS → (is_some w.names && nat_le MOST_BUFFERS (length past.buffers)) ≡ false
     → made_length (members_in past i) (new_step past w r from.0) from.1 ≤ MOST_ELEMENTS → StandsIn (kind_since w.kind) past.version
     → IsStep (outline past) (new_step past w r from.0) i (made_list (members_in past i) (new_step past w r from.0) from.1 w.names)
-is_step past w r from i h none few full small stands =
+is_step past w r from i h none at_most full small stands =
     let g = members_in past i in
     let s = new_step past w r from.0 in
     let k = of_kind w.kind r w.op from.0 (length past.buffers) in
     let kept = kept_with past g s from.1 w.names h.facts h.takes.named h.source.fresh small in
     record {
       few_buffers = few_with past g s from.1 w.names h.facts.few_buffers full;
-      few_steps = few;
+      few_steps = at_most;
       no_prints = none;
       group = h.group;
       stands = subst (λ v. StandsIn v past.version) (sym k.since) stands;
@@ -423,7 +423,7 @@ pub record StepTaken (past next : Past) (on : Option (List ℕ)) (w : StepWords)
   pub group : group_named past.groups on ≡ Some i
   pub root : r < length (members_in past i)
   pub reads : can_read (members_in past i) (new_step past w r from.0) from.1 ≡ true
-  pub few : length past.steps < MOST_STEPS
+  pub at_most : length past.steps < MOST_STEPS
   pub full : (is_some w.names && nat_le MOST_BUFFERS (length past.buffers)) ≡ false
   pub small : made_length (members_in past i) (new_step past w r from.0) from.1 ≤ MOST_ELEMENTS
   pub next_is : record past {
@@ -457,7 +457,7 @@ step_taken past next on w h =
       root = past_no (length (members_in past i.0)) r.0 (held_at (λ on. nat_le (length (members_in past on)) r.0) found i.0 i.1 bad_root.0);
       reads = not_not (can_read (members_in past i.0) s from.0.1)
           (held_at (λ on. not (can_read (members_in past on) s from.0.1)) found i.0 i.1 shape.0);
-      few = room MOST_STEPS (length past.steps) two.0;
+      at_most = room MOST_STEPS (length past.steps) two.0;
       full = two.1;
       small = not_above MOST_ELEMENTS (made_length (members_in past i.0) s from.0.1)
           (held_at (λ on. nat_lt MOST_ELEMENTS (made_length (members_in past on) s from.0.1)) found i.0 i.1 large.0);
@@ -500,10 +500,10 @@ step_goes past next on w few_ranks a takes stands h =
     let said = source_said past w.names t.from t.source in
     let are = members_there past t.i few_ranks a.facts gf.is in
     let taken : IsTaken past w t.r t.from t.i =
-    record { few = few_ranks; facts = a.facts; group = gf.is; takes = takes; source = said; root = t.root; reads = t.reads } in
-    let is = is_step past w t.r t.from t.i taken a.no_prints t.few t.full t.small (kind_stands past on w stands) in
+    record { at_most = few_ranks; facts = a.facts; group = gf.is; takes = takes; source = said; root = t.root; reads = t.reads } in
+    let is = is_step past w t.r t.from t.i taken a.no_prints t.at_most t.full t.small (kind_stands past on w stands) in
     let inputs_few = subst (λ n. past.inputs ≤ n) a.facts.all (made_most (outline past) 0 (length past.steps) (omega arith)) in
-    let small : t.r < 2 ^ 64 = small_root t.r (length g) t.root are.few in
+    let small : t.r < 2 ^ 64 = small_root t.r (length g) t.root are.at_most in
     let after : Past = with_step past s t.i c in
     let same : after ≡ next =
     ap (λ (bs : List Buffer). record past { stage = Steps; buffers = bs; steps = past.steps ++ s ∷ []; on = past.on ++ t.i ∷ [] }) (sym
@@ -528,7 +528,7 @@ step_goes past next on w few_ranks a takes stands h =
     })
   where
     small_root : (r m : ℕ) → r < m → m ≤ MOST_RANKS → r < 2 ^ 64
-    small_root r m l few = omega (arith, l, few)
+    small_root r m l at_most = omega (arith, l, at_most)
 
 -- a print
 push_sum : (f : ℕ → ℕ) (xs : List ℕ) (x : ℕ) → sum_by f (xs ++ x ∷ []) ≡ sum_by f xs + f x

@@ -156,7 +156,7 @@ pub makes_leads : (base : Past) (st : Stage) (done rest : List Buffer) (c : Buff
     → Leads (record base { stage = st; buffers = done; steps = steps; on = ons })
     (record base { stage = Steps; buffers = done ++ c ∷ []; steps = steps ++ s ∷ []; on = ons ++ k ∷ [] })
     (line (on_words base.groups k ++ step_words base.buffers s))
-makes_leads base st done rest c steps ons s k a b wider p f es er ranks few room small names apart on since =
+makes_leads base st done rest c steps ons s k a b wider p f es er ranks at_most room small names apart on since =
     let all = base.buffers in
     let past : Past = record base { stage = st; buffers = done; steps = steps; on = ons } in
     let next : Past = record base { stage = Steps; buffers = done ++ c ∷ []; steps = steps ++ s ∷ []; on = ons ++ k ∷ [] } in
@@ -186,14 +186,14 @@ makes_leads base st done rest c steps ons s k a b wider p f es er ranks few room
     let new : new_buffer g s x c.name ≡ c = makes_it base g s x c b er made in
     let long : made_length g s x ≤ MOST_ELEMENTS = subst (λ (y : Buffer). y.spread.length ≤ MOST_ELEMENTS) (sym new) small in
     let root_small : (r : ℕ) → root_of s ≡ Some r → r < 2 ^ 64 =
-    λ r e. few_place r (length g) (subst (λ o. IsPlace (length g) o) e f.root) f.members.few in
+    λ r e. few_place r (length g) (subst (λ o. IsPlace (length g) o) e f.root) f.members.at_most in
     let sp = spelled_of all s root_small (λ i e. names i (of_source i e)) (λ i e. names i (f.result i e)) in
     let taken : form_line past (step (on_name base.groups k) w) ≡ Ok next =
     step_taken past w (on_name base.groups k) k (place_of s) a x (root_said (root_of s) root_small) read
     (on_found base.groups base.version k apart on) (root_below (length g) (root_of s) f.root f.members.some)
     (ap (λ t. can_read g t x) is ∙ reads) (isnt_full (length steps) MOST_STEPS room)
     (ap (λ (o : Option (List ℕ × List ℕ)). is_some o && nat_le MOST_BUFFERS (length done)) pair
-    ∙ isnt_full (length done) MOST_BUFFERS (omega (arith, l, few)))
+    ∙ isnt_full (length done) MOST_BUFFERS (omega (arith, l, at_most)))
     (ap (λ t. nat_lt MOST_ELEMENTS (made_length g t x)) is ∙ isnt_above (made_length g s x) MOST_ELEMENTS long)
     ∙ ap (λ (o : Option (List ℕ × List ℕ)).
     let q : Past = record base {
@@ -217,7 +217,7 @@ makes_leads base st done rest c steps ons s k a b wider p f es er ranks few room
     (form_stands base.groups base.version k all s on since) wider taken)
   where
     few_place : (r n : ℕ) → r < n → n ≤ MOST_RANKS → r < 2 ^ 64
-    few_place r n l few = omega (arith, l, few)
+    few_place r n l at_most = omega (arith, l, at_most)
 
     of_source : (i : ℕ) → source_of s ≡ Some i → i < length base.buffers
     of_source i e = let z = f.source i e in let y = longer base.buffers done (c ∷ rest) p.are in omega (arith, z, y)

@@ -71,14 +71,14 @@ next_of base f n done before ss ons_before ons s k es eo el count =
     ∙ (ap (λ j. get_or (ons_before ++ k ∷ ons) j None) (sym el) ∙ get_or-append_seam ons_before k ons None) in
     let all = ap length es ∙ length-append before (s ∷ ss) in
     let lt : i < length base.steps = omega (arith, all) in
-    let few = f.shape.few_steps in
+    let at_most = f.shape.few_steps in
     record {
       fits = subst (λ m. StepFits o m (members_in base k) s) count
           (subst (λ (c : Option ℕ). StepFits o (made_upto o i) (members_in base c) s) on_is
           (subst (λ (t : CollStep). StepFits o (made_upto o i) (group_at o i) t) here (f.fits i lt)));
       on = subst (IsOn base.groups base.version) on_is (is_on base f.version n (get_or base.on i None) (f.shape.on_group i lt));
       since = subst (λ (t : CollStep). StandsIn (since t) base.version) here (f.version.steps i lt);
-      room = omega (arith, lt, few);
+      room = omega (arith, lt, at_most);
       count = ap (made_upto o) (one_more i (length (before ++ s ∷ [])) (longer before s))
           ∙ (ap (λ (t : CollStep). and_one (result_of t) (made_upto o i)) here ∙ ap (and_one (result_of s)) count);
     }

@@ -119,14 +119,14 @@ are_inputs o f = recursion_from_All (IsInput o.ranks) (inputs_of o) each
     each : (b : ℕ) (d : Buffer) → b < length (inputs_of o) → IsInput o.ranks (get_or (inputs_of o) b d)
     each b d l =
         let c = count in
-        let few = f.shape.few_inputs in
+        let at_most = f.shape.few_inputs in
         let lt : b < o.inputs = omega (arith, c, l) in
         subst (IsInput o.ranks) (here b d l)
         (record {
           held = f.held b lt;
           some = f.some b lt;
           small = f.short b lt;
-          named = (are_names o f).spelled b (omega (arith, lt, few));
+          named = (are_names o f).spelled b (omega (arith, lt, at_most));
         })
 
 -- before the inputs
@@ -159,7 +159,7 @@ are_groups : (o : Outline) → IsWellFormed o → AreGroups o.ranks o.version o.
 are_groups o f =
     let n = are_names o f in
     record {
-      few = f.shape.few_groups;
+      at_most = f.shape.few_groups;
       stands = f.version.groups;
       members = f.shape.named_members;
       spelled = n.groups_spelled;

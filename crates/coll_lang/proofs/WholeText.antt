@@ -53,7 +53,7 @@ first_choice past a v =
       no_given = subst (λ (bs : List Buffer). Filled past.ranks bs past.given) a.groups.none a.groups.inputs.filled;
       no_steps = e.early.no_steps;
       no_on = e.early.no_on;
-      few = subst (λ (l : List ChoiceStep). length l ≤ MOST_STEPS) (sym e.no_choices) (omega arith);
+      at_most = subst (λ (l : List ChoiceStep). length l ≤ MOST_STEPS) (sym e.no_choices) (omega arith);
       made = a.groups.none ∙ sym (ap (map (choice_made past.ranks)) e.no_choices);
       spelled = λ x i. absurd (nothing_in x (subst (λ (l : List ChoiceStep). In x (map choice_name l)) e.no_choices i));
       distinct = subst (λ (l : List ChoiceStep). Distinct (map choice_name l)) (sym e.no_choices) tt;
@@ -122,7 +122,7 @@ version_said l v h = one (bytes_eq l (codes "coll 1")) (bytes_eq l (codes "coll 
 pub record RanksSaid (most : ℕ) (ws : List (List ℕ)) (n : ℕ) : Type 0 where
   pub spelled : ws ≡ codes "ranks" ∷ decimal n ∷ []
   pub some : 1 ≤ n
-  pub few : n ≤ most
+  pub at_most : n ≤ most
 
 ranks_said : (most : ℕ) (ws : List (List ℕ)) (n : ℕ) → most < 2 ^ 64 → ranks_in most ws ≡ Some n → RanksSaid most ws n
 unfolding ranks_in
@@ -131,7 +131,7 @@ ranks_said most (key ∷ []) n l h = cc
 ranks_said most (key ∷ w ∷ []) n l h =
     let p = chosen (bytes_eq key (codes "ranks")) (number_between 1 most w) n h in
     let r = in_range 1 most n w p.1 in
-    record { spelled = rw (same key (codes "ranks") p.0, between_spelled 1 most n w l p.1) refl; some = r.least; few = r.most }
+    record { spelled = rw (same key (codes "ranks") p.0, between_spelled 1 most n w l p.1) refl; some = r.least; at_most = r.most }
 ranks_said most (key ∷ w ∷ v ∷ ws) n l h = cc
 
 few_most : (v : Version) → most_ranks v < 2 ^ 64
@@ -139,11 +139,11 @@ few_most One = omega arith
 few_most Two = omega arith
 
 begins : (v : Version) (n : ℕ) → 1 ≤ n → n ≤ most_ranks v → AtOptions (record nothing { stage = Options; version = v; ranks = n })
-begins v n some few = record {
+begins v n some at_most = record {
   groups = record {
     inputs = record {
       early = record {
-        facts = bare_facts v n some few;
+        facts = bare_facts v n some at_most;
         early = record { no_steps = refl; no_on = refl; no_prints = refl; counted = refl };
         no_choices = refl;
         none_printed = refl;
@@ -175,7 +175,7 @@ line_goes Ranks past next l at s h =
     ∙ ok_is (record past { stage = Options; ranks = r.0 }) next r.2 in
     subst (λ n. Leads (line (codes "coll" ∷ version_word past.version ∷ [])) n (l ++ 10 ∷ [])) is
     (record {
-      sound = begins past.version r.0 said.some said.few;
+      sound = begins past.version r.0 said.some said.at_most;
       written_is = append-nil (head_text past.version r.0)
           ∙ ap (λ (x : List ℕ). line (codes "coll" ∷ version_word past.version ∷ []) ++ x)
           (sym (rejoined l (codes "ranks" ∷ decimal r.0 ∷ []) said.spelled));

@@ -6,8 +6,8 @@ use Rattle.coll_shape.specs.declared.limits.TheConstants.{MOST_RANKS, MOST_ELEME
 
 pub record IsSmall (b : Buffer) : Type 0 where
   pub short : b.spread.length ≤ MOST_ELEMENTS
-  pub few : length b.spread.holders ≤ MOST_RANKS
+  pub at_most : length b.spread.holders ≤ MOST_RANKS
 
 pub record HasMembers (g : Group) : Type 0 where
   pub some : 1 ≤ length g.members
-  pub few : length g.members ≤ MOST_RANKS
+  pub at_most : length g.members ≤ MOST_RANKS

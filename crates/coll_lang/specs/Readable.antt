@@ -23,7 +23,7 @@ is_two Two = true
 -- the steps and prints of a choice text
 pub record AreChoices (c : Chosen) : Type 0 where
   pub some : 1 ≤ length c.steps
-  pub few : length c.steps ≤ MOST_STEPS
+  pub at_most : length c.steps ≤ MOST_STEPS
   pub few_prints : length c.prints ≤ MOST_PRINTS
   pub spelled : (i : ℕ) → i < length c.steps → is_name (chosen_name c i) ≡ true
   pub distinct : (i j : ℕ) → i < length c.steps → j < length c.steps → chosen_name c i ≡ chosen_name c j → i ≡ j

@@ -28,7 +28,7 @@ fn cut_lines<'a>(
     most: u32,
     bytes: &'a [u8],
 ) -> Result<(Vec<&'a [u8]>, &'a [u8]), AllocError>
-    ensures few { IfOk result (λ r. length r.0.items ≤ most) }
+    ensures at_most { IfOk result (λ r. length r.0.items ≤ most) }
     ensures short { IfOk result (λ r. length r.1.now + length r.0.items ≤ length bytes.now) }
     ensures lines { IfOk result (λ r. lines bytes.now ≡ map (λ line. line.now) r.0.items ++ lines r.1.now) }
 {
@@ -113,7 +113,7 @@ fn take_block(
     requires due { length lines.now ≤ left }
     requires places { length places.old ≡ length lines.now }
     requires said { AreSaid ty count lines.now places.old }
-    requires few { number + length lines.now < 2 ^ 32 }
+    requires at_most { number + length lines.now < 2 ^ 32 }
     ensures { (bytes : List ℕ) → TakesBlock result number (map (λ line. line.now) lines.now) bytes (past reader.old) (past reader.new) }
 {
     for i in 0..lines.len() {
@@ -139,7 +139,7 @@ fn read_block<'a, R: Threads + Sync>(
 ) -> Result<(u32, &'a [u8]), ParseFault>
     requires threads { 0 < threads }
     requires stage { reader.old.stage ≡ Stage.Data left ty count }
-    requires few { number + length bytes.now < 2 ^ 32 }
+    requires at_most { number + length bytes.now < 2 ^ 32 }
     ensures { ReadsOn result number bytes.now (past reader.old) (past reader.new) }
 {
     let alloc = reader.alloc;
@@ -165,7 +165,7 @@ pub(crate) fn read_ahead<'a, R: Threads + Sync>(
     bytes: &'a [u8],
 ) -> Result<(u32, &'a [u8]), ParseFault>
     requires threads { 0 < threads }
-    requires few { number + length bytes.now < 2 ^ 32 }
+    requires at_most { number + length bytes.now < 2 ^ 32 }
     ensures { ReadsOn result number bytes.now (past reader.old) (past reader.new) }
 {
     match reader.stage {

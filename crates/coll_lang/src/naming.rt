@@ -36,7 +36,7 @@ pub fn is_taken(groups: &[Group], buffers: &[Buffer], name: &[u8]) -> bool
 /// The buffer of that name, with its number.
 #[tactic(auto, unfolding(crate::specs::Language::buffer_named))]
 pub fn buffer_named<'a>(buffers: &'a [Buffer], name: &[u8]) -> Option<(u32, &'a Buffer)>
-    requires few { length buffers.now ≤ MOST_BUFFERS }
+    requires at_most { length buffers.now ≤ MOST_BUFFERS }
     requires small { All IsSmall buffers.now }
     ensures named { option_map at_now result ≡ buffer_named buffers.now name.now }
     ensures small { IfSome result (λ b. IsSmall b.1.now) }
@@ -52,14 +52,14 @@ pub fn group_named<'a>(
     groups: &'a [Group],
     on: Option<&[u8]>,
 ) -> Option<(Option<u32>, &'a [Rank])>
-    requires few { length groups.now ≤ MOST_GROUPS }
+    requires at_most { length groups.now ≤ MOST_GROUPS }
     requires everyone_some { 1 ≤ length everyone.now }
     requires everyone_few { length everyone.now ≤ MOST_RANKS }
     requires members { All HasMembers groups.now }
     ensures named { option_map found_group result ≡ group_named groups.now (now on.entry) }
     ensures members { IfSome result (λ f. f.1.now ≡ members_of everyone.now groups.now f.0) }
     ensures some { IfSome result (λ f. 1 ≤ length f.1.now) }
-    ensures few { IfSome result (λ f. length f.1.now ≤ MOST_RANKS) }
+    ensures at_most { IfSome result (λ f. length f.1.now ≤ MOST_RANKS) }
 {
     let Some(name) = on else {
         return Some((None, everyone));

@@ -132,7 +132,7 @@ impl Reader {
     #[tactic(auto, unfolding(crate::specs::Language::described))]
     pub(crate) fn chosen(self) -> Description
         requires readable { IsReadable (described (past self)) }
-        requires some { 1 ≤ length self.choices.items }
+        requires nonempty { 1 ≤ length self.choices.items }
         ensures { result ≡ described (past self) }
     {
         let Reader {

@@ -119,8 +119,8 @@ fn step_on(
     on: Option<u32>,
     members: &[Rank],
 ) -> Result<Made, LineFault>
-    requires some { 1 ≤ length members.now }
-    requires few { length members.now ≤ MOST_RANKS }
+    requires nonempty { 1 ≤ length members.now }
+    requires at_most { length members.now ≤ MOST_RANKS }
     requires place { root < length members.now }
     requires small { source.len ≤ MOST_ELEMENTS }
     requires are { members.now ≡ members_in (past reader.now) on }

@@ -162,7 +162,7 @@ fn members_said(
     requires { ranks ≤ MOST_RANKS }
     ensures exact { Gives (λ list. list) result (members_said ranks members.entry) }
     ensures some { IfOk result (λ list. IfSome list (λ l. 1 ≤ length l)) }
-    ensures few { IfOk result (λ list. IfSome list (λ l. length l ≤ MOST_RANKS)) }
+    ensures at_most { IfOk result (λ list. IfSome list (λ l. length l ≤ MOST_RANKS)) }
 {
     let mut list = Vec::new(alloc);
     let mut least = 0u32;

@@ -61,7 +61,7 @@ fn next_line<'a>(
     bytes: &'a [u8],
 ) -> Result<(u32, &'a [u8]), ParseFault>
     requires going { is_finished reader.old.stage ≡ false }
-    requires few { number + length bytes.now < 2 ^ 32 }
+    requires at_most { number + length bytes.now < 2 ^ 32 }
     ensures read { ReadsOn result number bytes.now (past reader.old) (past reader.new) }
     ensures shorter { IfOk result (λ r. length r.1.now < length bytes.now) }
 {

@@ -44,7 +44,7 @@ place_beyond g n r l before rising h =
 
 -- the next member and the others, one rank further
 pub record Stands (g : List ℕ) (next r : ℕ) : Type 0 where
-  pub few : next ≤ length g
+  pub at_most : next ≤ length g
   pub below : (i : ℕ) → i < next → get_or g i 0 < r
   pub above : (i : ℕ) → next ≤ i → i < length g → r ≤ get_or g i 0
 
@@ -54,7 +54,7 @@ pub stands_next : (g : List ℕ) (next next' r : ℕ) (o : Option ℕ) → Stand
 stands_next g next next' r None s rising m some none =
     let e : next' ≡ next = none refl in
     record {
-      few = let f = s.few in omega (arith, e, f);
+      at_most = let f = s.at_most in omega (arith, e, f);
       below = λ i l. let b = s.below i (omega (arith, e, l)) in omega (arith, b);
       above = λ i l k. let a = m i (omega (arith, e, l)) k in omega (arith, a);
     }
@@ -63,7 +63,7 @@ stands_next g next next' r (Some p) s rising m some none =
     let is : get_or g next 0 ≡ r = m.2 in
     let l0 : next < length g = m.1 in
     record {
-      few = omega (arith, e, l0);
+      at_most = omega (arith, e, l0);
       below = λ i l. elim (cases_lt i next) [
         | inl h ↦ let b = s.below i h in omega (arith, b)
         | inr h ↦ let q : i ≡ next = omega (arith, e, l, h) in subst (λ v. get_or g v 0 < r + 1) (sym q) (omega (arith, is))

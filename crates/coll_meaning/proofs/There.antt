@@ -144,11 +144,11 @@ few_there o kept inputs k held wf l h =
     let e : k + (length o.steps - k) ≡ length o.steps = omega arith in
     let b = subst (λ v. made_upto o k ≤ made_upto o v) e a in
     let s = wf.shape in
-    let few = s.few_buffers in
+    let at_most = s.few_buffers in
     let all = wf.all in
     let many = h.many in
     let big : 128 < 2 ^ 32 = lit< tt in
-    omega (arith, b, few, all, many, big)
+    omega (arith, b, at_most, all, many, big)
 
 pub all_long : (o : Outline) (inputs : Lists) → IsWellFormed o → AreInputs o inputs → AreLong o (length o.buffers) (meaning_of o inputs)
 unfolding meaning_of

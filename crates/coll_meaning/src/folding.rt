@@ -90,7 +90,7 @@ pub fn push_folds(
     folds: &mut Vec<ByteList>,
 ) -> Result<(), AllocError>
     requires even { AreEven ty xs.now }
-    requires few { count ≤ length xs.now }
+    requires at_most { count ≤ length xs.now }
     ensures { OnOk result (folds.new.items ≡ folds.old.items ++ map (λ i. reduced op ty (suc i) xs.now) (from_to 0 count)) }
 {
     let mut so_far = started(alloc, op, ty, xs)?;

@@ -126,7 +126,7 @@ pub fn take_step(
     k: u32,
 ) -> Result<(), AllocError>
     requires step { k < length shape.now.steps }
-    requires few { length held.old < 2 ^ 32 }
+    requires at_most { length held.old < 2 ^ 32 }
     requires asked { FindsAsked shape.now k held.old }
     ensures { OnOk result (IsMade shape.now kept.now k held.old held.new) }
 {

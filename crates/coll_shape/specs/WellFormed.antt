@@ -26,7 +26,7 @@ StandsIn Two Two = Unit {0}
 -- the members are ranks, rising
 pub record AreMembers (n : ℕ) (g : List ℕ) : Type 0 where
   pub some : 0 < length g
-  pub few : length g ≤ MOST_RANKS
+  pub at_most : length g ≤ MOST_RANKS
   pub ranks : (i : ℕ) → i < length g → get_or g i 0 < n
   pub rising : (i j : ℕ) → i < j → j < length g → get_or g i 0 < get_or g j 0
 

@@ -130,7 +130,7 @@ fn some_hold(members: &[Rank], holders: &[Rank]) -> bool
 #[tactic(auto, using(crate::proofs::Asking::places_counted))]
 pub fn holders_among(members: &[Rank], holders: &[Rank]) -> u64
     ensures value { result ≡ length (holding_places members.now holders.now) }
-    ensures few { result ≤ length members.now }
+    ensures at_most { result ≤ length members.now }
 {
     members.iter().filter(|r| is_in(**r, holders)).count() as u64
 }
@@ -160,8 +160,8 @@ pub fn can_read(step: CollStep, members: &[Rank], len: u64, holders: &[Rank]) ->
 
 /// How long the buffer is that a step on these members makes of one of this length that these ranks hold.
 pub fn made_length(step: CollStep, members: &[Rank], len: u64, holders: &[Rank]) -> u64
-    requires some { 0 < length members.now }
-    requires few { length members.now ≤ MOST_RANKS }
+    requires nonempty { 0 < length members.now }
+    requires at_most { length members.now ≤ MOST_RANKS }
     requires short { len ≤ MOST_ELEMENTS }
     ensures value { result ≡ made_length members.now step (spread_so len holders.now) }
     ensures most { result ≤ MOST_RANKS * MOST_ELEMENTS }

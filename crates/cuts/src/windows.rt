@@ -19,7 +19,7 @@ ghost use Rattle.cuts.specs.declared.orders.Step.{Step};
 ghost use Rattle.cuts.specs.declared.orders.Step.TheVariants.{Deliver, Start};
 ghost use Rattle.cuts.specs.windows.Left.{steps_left};
 ghost use Rattle.cuts.specs.windows.Named.{named};
-ghost use Rattle.cuts.specs.windows.Places.{counts, delivery_at, fires_at, goal_at, kind_at, source_at, steps_by_place};
+ghost use Rattle.cuts.specs.windows.Places.{counts, delivery_at, fires_at, destination_at, kind_at, source_at, steps_by_place};
 ghost use Rattle.cuts.specs.windows.Possible.{possible_steps};
 
 /// The steps that are listed are those that a rank may make under the window: a local step that is enabled and possible has its
@@ -116,7 +116,7 @@ pub fn steps_are_found()
         rest < slice_index_or (counts (delivery_at ranks window scene) (2 * (ranks.count * ranks.count))) place 0 →
         i < sum (counts (delivery_at ranks window scene) (2 * (ranks.count * ranks.count))) →
         slice_index_or (possible_steps ranks window scene) (sum (counts (start_at scene) ranks.count) + i) other ≡
-        Deliver (source_at ranks.count place) (goal_at ranks.count place) (kind_at place) }
+        Deliver (source_at ranks.count place) (destination_at ranks.count place) (kind_at place) }
     ensures firing { (ranks : System) (window : ℕ) (scene : Scene) (place rest i : ℕ) (other : Step) →
         place < ranks.count →
         sum (take place (counts (fires_at ranks window scene) ranks.count)) + rest ≡ i →

@@ -15,8 +15,8 @@ use Rattle.ni_model.specs.Calls.{bound}
 use Rattle.ni_model.specs.Refusals.{md_names_ct, md_names_eq}
 use Rattle.ni_objects.specs.users.Rows.{one_at, more, fewer, count_at, IsAlone}
 use Rattle.ni_objects.specs.users.Sums.{sum_of}
-use Rattle.ni_objects.proofs.users.RowLemmas.{counts-none, counts-more, counts-fewer, counts-same, more-long, fewer-long, add-room, one-few, names-step}
-use Rattle.ni_objects.proofs.users.SumLemmas.{sum-push, sum-less, sum-kept, sum-few, named-changed, once-new, once-without}
+use Rattle.ni_objects.proofs.users.RowLemmas.{counts-none, counts-more, counts-fewer, counts-same, more-long, fewer-long, add-room, one-at_most, names-step}
+use Rattle.ni_objects.proofs.users.SumLemmas.{sum-push, sum-less, sum-kept, sum-at_most, named-changed, once-new, once-without}
 use Rattle.initiator_engine.specs.Initiators.{ct_users, eq_users, AreUsers}
 
 abbrev by_ct : ℕ → Handle → Bound → ℕ
@@ -52,16 +52,16 @@ or-first true b e = cc
 or-first false b e = refl
 
 -- there is room to count it
-few-live : (mds : Table Bound) → is_full mds ≡ false → mds.limit < 2 ^ 32 → length mds.live < 2 ^ 64 - 1
-few-live mds full small =
+at_most-live : (mds : Table Bound) → is_full mds ≡ false → mds.limit < 2 ^ 32 → length mds.live < 2 ^ 64 - 1
+at_most-live mds full small =
     let lt : nat_le mds.limit (length mds.live) ≡ false = or-first (nat_le mds.limit (length mds.live)) _ full in
     grind (arith, nat_tests)
 
 pub users-ct-room : (l : Limits) (mds : Table Bound) (cts eqs : List ℕ) (o : Option Handle) → AreUsers l mds cts eqs → is_full mds ≡ false → mds.limit < 2 ^ 32 → IfSome o (λ h. count_at h.slot cts < 2 ^ 64 - 1)
-users-ct-room l mds cts eqs o u full small = add-room (ct_users mds) (length mds.live) cts o u.cts_count (λ k. sum-few (by_ct k) mds.live (λ h b. one-few b.md.ct k)) (few-live mds full small)
+users-ct-room l mds cts eqs o u full small = add-room (ct_users mds) (length mds.live) cts o u.cts_count (λ k. sum-at_most (by_ct k) mds.live (λ h b. one-at_most b.md.ct k)) (at_most-live mds full small)
 
 pub users-eq-room : (l : Limits) (mds : Table Bound) (cts eqs : List ℕ) (o : Option Handle) → AreUsers l mds cts eqs → is_full mds ≡ false → mds.limit < 2 ^ 32 → IfSome o (λ h. count_at h.slot eqs < 2 ^ 64 - 1)
-users-eq-room l mds cts eqs o u full small = add-room (eq_users mds) (length mds.live) eqs o u.eqs_count (λ k. sum-few (by_eq k) mds.live (λ h b. one-few b.md.eq k)) (few-live mds full small)
+users-eq-room l mds cts eqs o u full small = add-room (eq_users mds) (length mds.live) eqs o u.eqs_count (λ k. sum-at_most (by_eq k) mds.live (λ h b. one-at_most b.md.eq k)) (at_most-live mds full small)
 
 -- ---- a descriptor is released
 

@@ -52,8 +52,8 @@ room k left r text ws h e p =
     let others : behind (k + length text + 1) ws ≤ 2 ^ 63 = subst (λ (v : List (List ℕ)). behind k v ≤ 2 ^ 63) p all in
     omega (arith, behind_from (k + length text + 1) ws)
 
-pub few : (k : ℕ) (ws : List (List ℕ)) → behind k ws ≤ 2 ^ 63 → length (placed k ws) ≤ 2 ^ 63
-few k ws h = omega (arith, few_words k ws)
+pub at_most : (k : ℕ) (ws : List (List ℕ)) → behind k ws ≤ 2 ^ 63 → length (placed k ws) ≤ 2 ^ 63
+at_most k ws h = omega (arith, few_words k ws)
 
 -- the bytes that are left have the words that are left
 pub text_words : (k : ℕ) (left : Option (Bor (List ℕ))) (r : Rest) → rest_from k (words_left (option_copied left)) ≡ r

@@ -138,7 +138,7 @@ impl<'a> Rest<'a> {
     /// The same words again.
     pub fn again(&self) -> Rest<'a>
         ensures same { result ≡ self.now }
-        ensures few { length result.words ≤ 2 ^ 63 }
+        ensures at_most { length result.words ≤ 2 ^ 63 }
     {
         Rest {
             left: self.left,

@@ -19,8 +19,8 @@ pub bucket-lt : (buckets bits : ℕ) → 0 < buckets → bucket_of buckets bits 
 unfolding bucket_of
 bucket-lt buckets bits lt =
     let h : ℕ = (bits * 0x9E3779B97F4A7C15) % 2 ^ 64 / 2 ^ 32 in
-    let few : h < 2 ^ 32 = half_below (bits * 0x9E3779B97F4A7C15) in
-    let more : suc h * buckets ≤ 2 ^ 32 * buckets = mul-le (suc h) buckets (2 ^ 32) buckets few (omega arith) in
+    let at_most : h < 2 ^ 32 = half_below (bits * 0x9E3779B97F4A7C15) in
+    let more : suc h * buckets ≤ 2 ^ 32 * buckets = mul-le (suc h) buckets (2 ^ 32) buckets at_most (omega arith) in
     div_below (h * buckets) (2 ^ 32) buckets (omega arith) (omega (arith, more))
 
 pub bucket-le : (buckets bits : ℕ) → bucket_of buckets bits ≤ buckets

@@ -131,8 +131,8 @@ counted q r s t m h (x ∷ xs) =
       sum_by-cons (λ y. num (m y)) x.value (values xs),
     )
 
-pub few-on-threads : (limit bits : ℕ) (xs : List (Keyed Linked)) → on_threads limit bits xs ≤ candidates_in limit bits (values xs)
-few-on-threads limit bits xs =
+pub at_most-on-threads : (limit bits : ℕ) (xs : List (Keyed Linked)) → on_threads limit bits xs ≤ candidates_in limit bits (values xs)
+at_most-on-threads limit bits xs =
     let on : ℕ → Keyed Linked → Bool = λ k y. nat_eq (thread_of limit y.value) k in
     let q = on (whole_thread limit bits) in
     let r = on (upper_48_thread limit bits) in

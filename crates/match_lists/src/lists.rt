@@ -204,7 +204,7 @@ impl Lists {
     ) -> Option<Found>
         ensures first { result ≡ first_fit header.now overflow self.now.priority self.now.overflow }
         ensures steps { steps.new ≤ steps.old + 2 * linked_count self.now }
-        ensures few { steps.new ≤ steps.old + 2 * candidates header.now overflow self.now }
+        ensures at_most { steps.new ≤ steps.old + 2 * candidates header.now overflow self.now }
     {
         if let Some(linked) = self.priority.first_fit(header, steps) {
             return Some(Found {
@@ -233,7 +233,7 @@ impl Lists {
     ) -> Option<(List, Handle)>
         ensures first { result ≡ named (first_fit header.now overflow self.now.priority self.now.overflow) }
         ensures steps { steps.new ≤ steps.old + 2 * linked_count self.now }
-        ensures few { steps.new ≤ steps.old + 2 * candidates header.now overflow self.now }
+        ensures at_most { steps.new ≤ steps.old + 2 * candidates header.now overflow self.now }
     {
         match self.find_entry(header, overflow, steps) {
             Some(found) => Some((found.list, found.linked.handle)),

@@ -37,7 +37,7 @@ below2 P a b (suc (suc i)) h = absurd (omega arith)
 first_and_last : AreMembers 3 (0 ∷ 2 ∷ [])
 first_and_last = record {
   some = lit< tt;
-  few = omega arith;
+  at_most = omega arith;
   ranks = below2 (λ i. get_or (0 ∷ 2 ∷ []) i 0 < 3) (lit< tt) (lit< tt);
   rising = λ i j h k. below2 (λ j. i < j → get_or (0 ∷ 2 ∷ []) i 0 < get_or (0 ∷ 2 ∷ []) j 0) (λ h. absurd (omega (arith, h)))
       (λ h. below1 i h) j k h;

@@ -53,10 +53,10 @@ get_from_no_rank : May (Get (back 4 1)) → ⊥
 get_from_no_rank h = absurd (omega (arith, h.target_known))
 
 longest_atomic : May (Atomic (args 3 8) Sum U16)
-longest_atomic = (record { target_known = lit< tt; short = lit≤ tt }, record { whole = refl; few = lit≤ tt })
+longest_atomic = (record { target_known = lit< tt; short = lit≤ tt }, record { whole = refl; at_most = lit≤ tt })
 
 too_long_atomic : May (Atomic (args 3 10) Sum U16) → ⊥
-too_long_atomic h = absurd (omega (arith, h.1.few))
+too_long_atomic h = absurd (omega (arith, h.1.at_most))
 
 half_an_element : May (Atomic (args 3 3) Sum U16) → ⊥
 half_an_element h = let q : 1 ≡ 0 = h.1.whole in absurd (omega (arith, q))
@@ -66,10 +66,10 @@ agree : (length : ℕ) → MayFetch (back 3 length) (args 3 length)
 agree length = record { length = refl; target = refl; pt = refl; match_bits = refl; remote_offset = refl; no_ack = refl }
 
 longest_fetch : May (FetchAtomic (back 3 4) (args 3 4) Sum U16)
-longest_fetch = (record { target_known = lit< tt; short = lit≤ tt }, record { whole = refl; few = lit≤ tt }, agree 4)
+longest_fetch = (record { target_known = lit< tt; short = lit≤ tt }, record { whole = refl; at_most = lit≤ tt }, agree 4)
 
 too_long_fetch : May (FetchAtomic (back 3 6) (args 3 6) Sum U16) → ⊥
-too_long_fetch h = absurd (omega (arith, h.1.few))
+too_long_fetch h = absurd (omega (arith, h.1.at_most))
 
 acknowledged_fetch : May (FetchAtomic (back 3 4) (record (args 3 4) { ack = CtAck }) Sum U16) → ⊥
 acknowledged_fetch h = let q : CtAck ≡ NoAck = h.2.no_ack in cc

@@ -302,9 +302,9 @@ source_is_stale : map start_fault (started_by lost_put fetching) ≡ Some Stale 
 unfolding started
 source_is_stale = refl
 
-goal_is_stale : map start_fault (started_by put lost_get) ≡ None ∷ Some Stale ∷ None ∷ Some Stale ∷ Some Stale ∷ []
+destination_is_stale : map start_fault (started_by put lost_get) ≡ None ∷ Some Stale ∷ None ∷ Some Stale ∷ Some Stale ∷ []
 unfolding started
-goal_is_stale = refl
+destination_is_stale = refl
 
 past_the_source :
     map start_fault (started_by long_put fetching)
@@ -312,9 +312,9 @@ past_the_source :
 unfolding started
 past_the_source = refl
 
-past_the_goal : map start_fault (started_by put long_get) ≡ None ∷ Some OutOfRegion ∷ None ∷ Some OutOfRegion ∷ Some OutOfRegion ∷ []
+past_the_destination : map start_fault (started_by put long_get) ≡ None ∷ Some OutOfRegion ∷ None ∷ Some OutOfRegion ∷ Some OutOfRegion ∷ []
 unfolding started
-past_the_goal = refl
+past_the_destination = refl
 
 to_the_ends :
     map start_fault (started_by (record put { local_offset = 4 }) (record fetching { local_offset = 6 }))

@@ -26,7 +26,7 @@ pub record MayGo (target length ranks most : ℕ) : Type 0 where
 -- whole elements, within the limit of atomics
 pub record MayCombine (ty : ElemType) (length most : ℕ) : Type 0 where
   pub whole : length % bytes_of ty ≡ 0
-  pub few : length ≤ most
+  pub at_most : length ≤ most
 
 -- the two sides of a fetching operation agree, and no acknowledgement is asked for
 pub record MayFetch (g : GetArgs) (a : PutArgs) : Type 0 where

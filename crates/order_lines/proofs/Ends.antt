@@ -26,14 +26,14 @@ pub record IsLeft (text rest : List ℕ) (k : ℕ) : Type 0 where
   pub bytes : description_bytes (lines text) + length rest ≡ length text + description_bytes (lines rest)
   pub line : line_after 1 (lines text) ≡ line_after k (lines rest)
   pub within : length rest ≤ length text
-  pub few : k + length rest ≤ length text + 1
+  pub at_most : k + length rest ≤ length text + 1
 
 pub begins : (text : List ℕ) → IsLeft text text 1
 begins text = record {
   bytes = omega arith;
   line = refl;
   within = omega arith;
-  few = omega arith;
+  at_most = omega arith;
 }
 
 pub bytes_on : (xs line ys : List ℕ) → lines xs ≡ line ∷ lines ys → bytes_eq line (codes "end") ≡ false
@@ -63,12 +63,12 @@ goes_on text xs line ys k left h other =
     let b = bytes_on xs line ys h other in
     let c = left.bytes in
     let w = left.within in
-    let f = left.few in
+    let f = left.at_most in
     record {
       bytes = omega (arith, n, b, c);
       line = left.line ∙ line_on xs line ys k h other;
       within = omega (arith, n, w);
-      few = omega (arith, n, f);
+      at_most = omega (arith, n, f);
     }
 
 -- what is found: how many bytes, and which line stands after them
@@ -76,7 +76,7 @@ pub record IsFound (text : List ℕ) (bytes line : ℕ) : Type 0 where
   pub front : bytes ≡ description_bytes (lines text)
   pub within : bytes ≤ length text
   pub next : line ≡ line_after 1 (lines text)
-  pub few : line ≤ bytes + 1
+  pub at_most : line ≤ bytes + 1
 
 pub stops : (text xs line ys : List ℕ) (k n : ℕ) → IsLeft text xs k → lines xs ≡ line ∷ lines ys → bytes_eq line (codes "end") ≡ true
     → n + length ys ≡ length text → IsFound text n (k + 1)
@@ -84,12 +84,12 @@ stops text xs line ys k n left h same e =
     let l = cut_long xs line ys h in
     let b = bytes_at xs line ys h same in
     let c = left.bytes in
-    let f = left.few in
+    let f = left.at_most in
     record {
       front = omega (arith, l, b, c, e);
       within = omega (arith, e);
       next = sym (left.line ∙ line_at xs line ys k h same);
-      few = omega (arith, l, f, e);
+      at_most = omega (arith, l, f, e);
     }
 
 bytes_all : (xs line : List ℕ) → lines xs ≡ line ∷ [] → description_bytes (lines xs) ≡ length xs
@@ -104,10 +104,10 @@ pub breaks_off : (text xs line : List ℕ) (k : ℕ) → IsLeft text xs k → li
 breaks_off text xs line k left h =
     let b = bytes_all xs line h in
     let c = left.bytes in
-    let f = left.few in
+    let f = left.at_most in
     record {
       front = omega (arith, b, c);
       within = omega arith;
       next = sym (left.line ∙ line_same xs line k h);
-      few = omega (arith, f);
+      at_most = omega (arith, f);
     }

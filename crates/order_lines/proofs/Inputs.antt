@@ -64,7 +64,7 @@ many ranks (suc left) r k (line ∷ piece ∷ pieces) lists h =
     at (Err refusal) y n h = cc
     at (Ok steps) (Err refusal) n h = cc
     at (Ok steps) (Ok later) n h =
-        let few = n later refl in
+        let at_most = n later refl in
         let q : steps ∷ later ≡ lists = cc in
         let m = ap length q in
-        omega (arith, few, m)
+        omega (arith, at_most, m)

@@ -23,7 +23,7 @@ fn first_end(bytes: &[u8]) -> (usize, u32)
     ensures bytes { result.0 ≡ description_bytes (lines bytes.now) }
     ensures within { result.0 ≤ length bytes.now }
     ensures line { result.1 ≡ line_after 1 (lines bytes.now) }
-    ensures few { result.1 ≤ result.0 + 1 }
+    ensures at_most { result.1 ≤ result.0 + 1 }
 {
     let mut rest = bytes;
     let mut number = 1u32;
@@ -47,7 +47,7 @@ fn with_orders(
     next: u32,
     rest: &[u8],
 ) -> Result<(Description, Orders), ParseFault>
-    requires few { next + length rest.now < 2 ^ 32 }
+    requires at_most { next + length rest.now < 2 ^ 32 }
     requires readable { IsReadable description }
     ensures exact { Reads (λ both. both) result (orders_after description description.choices next (lines rest.now)) }
     ensures same { IfOk result (λ both. both.0 ≡ description) }

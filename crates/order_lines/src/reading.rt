@@ -138,8 +138,8 @@ pub(crate) fn orders_in(
     first: u32,
     bytes: &[u8],
 ) -> Result<Orders, ParseFault>
-    requires some { 0 < ranks }
-    requires few { first + length bytes.now < 2 ^ 32 }
+    requires nonempty { 0 < ranks }
+    requires at_most { first + length bytes.now < 2 ^ 32 }
     ensures { Reads (λ orders. orders) result (read_orders ranks ranks 0 first (lines bytes.now)) }
 {
     let mut lists = Vec::new(alloc);

@@ -16,12 +16,12 @@ All-left P (x ∷ xs) ys h = All-cons P x xs (All-head P x (xs ++ ys) h) (All-le
 pub KeepsBounds-left : (b : Bounds) (xs ys : List Sent) → KeepsBounds b (xs ++ ys) → KeepsBounds b xs
 KeepsBounds-left b xs ys h = record {
   travel = All-left (Travels b) xs ys h.travel;
-  few = omega (arith, length-append xs ys, h.few);
+  at_most = omega (arith, length-append xs ys, h.at_most);
   short = omega (arith, sum_by-append (λ (m : Sent). length m.bytes) xs ys, h.short);
 }
 
 pub KeepsBounds-nil : (b : Bounds) → KeepsBounds b []
-KeepsBounds-nil b = record { travel = All-nil (Travels b); few = omega arith; short = omega arith }
+KeepsBounds-nil b = record { travel = All-nil (Travels b); at_most = omega arith; short = omega arith }
 
 -- what was pushed keeps the bounds where what was sent does
 pub pushed-keeps : (b : Bounds) (ms : List Sent) (waiting : Option Sent) → KeepsBounds b (followed_by ms waiting) → KeepsBounds b ms

@@ -55,7 +55,7 @@ fn risen(count: u64) -> u64
 // The oldest message of a queue whose two ends became one pass goes to the end of a lane.
 fn move_one<R: Wait>(rt: &R, line: &Line, pass: &mut Pass<Message, EndView>, rest: &mut PlainLane)
     requires pass { IsPassOf line.now pass.old × ((view pass.old).pushes ≡ true) × ((view pass.old).pops ≡ true) }
-    requires some { length (view pass.old).received < length (view pass.old).sent }
+    requires nonempty { length (view pass.old).received < length (view pass.old).sent }
     requires room { length rest.old.messages < rest.old.capacity }
     ensures pass { IsPassOf line.now pass.new }
     ensures moved { (m : Sent) × Drains (view pass.old) m (view pass.new) × (rest.new ≡ plain (rest.old.messages ++ m ∷ []) rest.old.capacity) }
@@ -265,7 +265,7 @@ impl Wire {
         requires room { length rest.old.messages + most_left self.now out ≤ rest.old.capacity }
         ensures held { (held : List Sent) × (rest.new.messages ≡ rest.old.messages ++ held) × (out.sent ≡ into.received ++ held) }
         ensures capacity { rest.new.capacity ≡ rest.old.capacity }
-        ensures few { length rest.new.messages ≤ rest.new.capacity }
+        ensures at_most { length rest.new.messages ≤ rest.new.capacity }
         ensures bounds { KeepsBounds self.now.bounds out.sent }
     {
         let line = &self.line;
@@ -292,7 +292,7 @@ impl Wire {
         requires room { length rest.old.messages + most_left self out ≤ rest.old.capacity }
         ensures held { (held : List Sent) × (rest.new.messages ≡ rest.old.messages ++ held) × (out.sent ≡ into.received ++ held) }
         ensures capacity { rest.new.capacity ≡ rest.old.capacity }
-        ensures few { length rest.new.messages ≤ rest.new.capacity }
+        ensures at_most { length rest.new.messages ≤ rest.new.capacity }
         ensures bounds { KeepsBounds self.bounds out.sent }
     {
         self.drain(rt, out, into, rest);

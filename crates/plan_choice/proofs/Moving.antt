@@ -152,11 +152,11 @@ module _ (w : ChoiceState) (is : IsStanding w) (enough : HasRoom w) (gone : HasG
             ∙ set_here n mid mid_size r d lane hr sent.in_range ((lane_at mid i).messages ++ m ∷ []) in
             let size = ap length full in
             let one = length-append (lane_at mid i).messages (m ∷ []) in
-            let few = lane_few n w.kinds (slots_at w) is.in_range behind.world behind.held agrees_behind r d lane hr sent.in_range in
+            let at_most = lane_few n w.kinds (slots_at w) is.in_range behind.world behind.held agrees_behind r d lane hr sent.in_range in
             let cap = left.capacity i in
             let room = enough.lanes r d lane hr sent.in_range in
             let used = ap (λ b. if b then length w.kinds else 0) sent.used in
-            (sent.in_range, omega (arith, size, one, few, cap, room, used))
+            (sent.in_range, omega (arith, size, one, at_most, cap, room, used))
 
     later_size : length later ≡ 2 * (n * n)
     later_size = at o refl

@@ -25,7 +25,7 @@ use Rattle.plan_choice.specs.Acts.{firing_count, no_seated, seat_at, start_count
 use Rattle.plan_choice.specs.Laying.{laid_lane}
 use Rattle.plan_choice.specs.World.{AreFields, ChoiceState, HasGo, HasRoom, IsStanding, histories_in, nic_in, ranks_in, scene_in}
 
-module _ (n : ℕ) (ks : List ChoiceKind) (some : 0 < n) (few : n ≤ 256) (few_steps : length ks ≤ 64) (seats : List ChoiceRankState)
+module _ (n : ℕ) (ks : List ChoiceKind) (some : 0 < n) (at_most : n ≤ 256) (few_steps : length ks ≤ 64) (seats : List ChoiceRankState)
     (size : length seats ≡ n) (installed : (r : ℕ) → r < n → IsInstalled n ks r (seat_at seats r)) (lanes : List Plain)
     (wide : length lanes ≡ 2 * (n * n))
     (laid : (s d : ℕ) (lane : Lane) → s < n → d < n → lane_at lanes (lane_place n s d lane) ≡ laid_lane (length ks) s d lane) where
@@ -46,7 +46,7 @@ module _ (n : ℕ) (ks : List ChoiceKind) (some : 0 < n) (few : n ≤ 256) (few_
   is_first = scene_by (histories_in fresh) (λ r. []) (held_in n lanes) (λ s d lane. []) nothing_done (none-held n lanes empty)
 
   in_range : IsInRange n ks
-  in_range = record { some = some; few_ranks = few; few_steps = omega (arith, few_steps) }
+  in_range = record { some = some; few_ranks = at_most; few_steps = omega (arith, few_steps) }
 
   reached : IsReached (ranks_in fresh) (histories_in fresh) (scene_in fresh).held
   reached = subst (λ (z : Scene). IsReached (ranks_in fresh) z.world z.held) (sym is_first) Begun

@@ -24,7 +24,7 @@ use Rattle.choices.proofs.laws.Ends.{lane_few}
 use Rattle.choices.proofs.laws.Resting.{agrees_reached}
 use Rattle.choices.proofs.laws.Traffic.{firing_makes}
 
-module _ (n : ℕ) (ks : List ChoiceKind) (slots : ℕ → Slots) (in_range : IsInRange n ks) (few : length ks ≤ 64) (z : Scene)
+module _ (n : ℕ) (ks : List ChoiceKind) (slots : ℕ → Slots) (in_range : IsInRange n ks) (at_most : length ks ≤ 64) (z : Scene)
     (reached : IsReached (choice_system n ks slots) z.world z.held) where
   abbrev k : System
   k = choice_system n ks slots
@@ -33,7 +33,7 @@ module _ (n : ℕ) (ks : List ChoiceKind) (slots : ℕ → Slots) (in_range : Is
   agrees = agrees_reached n ks slots in_range z.world z.held reached
 
   small : (s d : ℕ) (lane : Lane) → s < n → d < n → length (z.held s d lane) < top
-  small s d lane hs hd = let a = lane_few n ks slots in_range z.world z.held agrees s d lane hs hd in omega (arith, a, few)
+  small s d lane hs hd = let a = lane_few n ks slots in_range z.world z.held agrees s d lane hs hd in omega (arith, a, at_most)
 
   room : (r t : ℕ) → r < n → In t (ready_numbers (state_at k z.world r)) → (o : Option Sent) → (fired (state_at k z.world r) t).message ≡ o
       → finds_room top z r o ≡ true

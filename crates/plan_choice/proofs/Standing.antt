@@ -13,7 +13,7 @@ use Rattle.cuts.proofs.orders.Choosing.{none_listed_still}
 use Rattle.cuts.specs.orders.Chosen.{Scene, start_at}
 use Rattle.cuts.specs.declared.orders.Step.TheVariants.{Deliver, Fire, Start}
 use Rattle.cuts.proofs.windows.Counted.{counts_by}
-use Rattle.cuts.specs.windows.Places.{counts, delivery_at, fires_at, goal_at, kind_at, source_at}
+use Rattle.cuts.specs.windows.Places.{counts, delivery_at, fires_at, destination_at, kind_at, source_at}
 use Rattle.cuts.specs.windows.Possible.{is_possible, possible_steps}
 use Rattle.worlds.specs.parts.Layout.{held_in}
 use Rattle.worlds.proofs.parts.Placed.{place_told, ranks_told}
@@ -77,7 +77,7 @@ module _ (w : ChoiceState) (starts deliveries firings : List ℕ) (fields : AreF
   deliveries_are = counts_by (delivery_at k top z) (2 * (n * n)) deliveries fields.counted.wide_deliveries (λ i h.
       let q = ranks_told n i h in
       let s = source_at n i in
-      let d = goal_at n i in
+      let d = destination_at n i in
       let lane = kind_at i in
       ap (λ j. get_or deliveries j 0) (sym (place_told n i))
       ∙ fields.counted.of_deliveries s d lane q.0 q.1
@@ -95,7 +95,7 @@ module _ (w : ChoiceState) (starts deliveries firings : List ℕ) (fields : AreF
       ∙ start_numbered k z top starts deliveries firings starts_are deliveries_are firings_are r rest i h before within small
 
   pub delivery_in : (j rest i : ℕ) → j < length deliveries → sum (take j deliveries) + rest ≡ i → rest < get_or deliveries j 0
-      → i < sum deliveries → slice_get (steps_in w) (sum starts + i) ≡ Some (Deliver (source_at n j) (goal_at n j) (kind_at j))
+      → i < sum deliveries → slice_get (steps_in w) (sum starts + i) ≡ Some (Deliver (source_at n j) (destination_at n j) (kind_at j))
   delivery_in j rest i h before within small =
       ap (λ xs. slice_get xs (sum starts + i)) (sym (possible_in w fields.standing))
       ∙ delivery_numbered k z top starts deliveries firings starts_are deliveries_are firings_are j rest i h before within small

@@ -78,7 +78,7 @@ module _ (w : ChoiceState) (starts deliveries firings : List ℕ) (fields : AreF
           at (Some m) q =
               set_other n mid (left.size ∙ fields.room.wide) r m.header.target (lane_of m.header.kind) hr (goes m q).in_range
               ((lane_at mid (lane_place n r m.header.target (lane_of m.header.kind))).messages ++ m ∷ []) a b lane hb
-              (λ i. elim (way m q) [ inl v ↦ x (i.source ∙ v.0, i.goal ∙ v.1) | inr v ↦ y (i.source ∙ v.0, i.goal ∙ v.1) ])
+              (λ i. elim (way m q) [ inl v ↦ x (i.source ∙ v.0, i.destination ∙ v.1) | inr v ↦ y (i.source ∙ v.0, i.destination ∙ v.1) ])
               ∙ apart a b lane ha hb x y
 
       others_later : (q : ℕ) → (q ≡ s → ⊥) → (q ≡ d → ⊥) → seat_at after_it.seats q ≡ seat_at w.seats q
@@ -147,7 +147,7 @@ module _ (w : ChoiceState) (starts deliveries firings : List ℕ) (fields : AreF
     start_done nexts out a b c is =
         finish r start_rank Started w.lanes (same_lanes w.lanes) listed refl start_goes (started_seat (seat_at w.seats r)) start_moved
         r r start_rank start_rank (inl refl) (λ x y lane hx hy p q. refl) (λ m q. no_message m q)
-        nexts out a b c is.s is.d is.made.seats is.made.lanes is.made.source is.made.goal is.marked
+        nexts out a b c is.s is.d is.made.seats is.made.lanes is.made.source is.made.destination is.marked
 
   -- ---- a firing
   module _ (r t : ℕ) (listed : In (Fire r t) (steps_in w)) where
@@ -193,7 +193,7 @@ module _ (w : ChoiceState) (starts deliveries firings : List ℕ) (fields : AreF
         finish r fire_rank (Fired t) w.lanes (same_lanes w.lanes) listed refl fire_goes (fired_seat t (seat_at w.seats r)) fire_moved
         r (receiver r (made_at w.seats r (Fired t))) fire_rank fire_other (inl refl) (λ x y lane hx hy p q. refl)
         (λ m q. inl (refl, sym (ap (receiver r) q)))
-        nexts out a b c is.s is.d is.made.seats is.made.lanes is.made.source is.made.goal is.marked
+        nexts out a b c is.s is.d is.made.seats is.made.lanes is.made.source is.made.destination is.marked
 
   -- ---- a delivery
   module _ (s d : ℕ) (lane : Lane) (listed : In (Deliver s d lane) (steps_in w)) where
@@ -203,11 +203,11 @@ module _ (w : ChoiceState) (starts deliveries firings : List ℕ) (fields : AreF
     source_rank : s < w.ranks
     source_rank = (offered k z (Deliver s d lane) listed).0
 
-    goal_rank : d < w.ranks
-    goal_rank = (offered k z (Deliver s d lane) listed).1
+    destination_rank : d < w.ranks
+    destination_rank = (offered k z (Deliver s d lane) listed).1
 
     held_is : z.held s d lane ≡ ms
-    held_is = held_here w.ranks w.lanes s d lane source_rank goal_rank
+    held_is = held_here w.ranks w.lanes s d lane source_rank destination_rank
 
     some_held : 0 < length ms
     some_held = let a = (offered k z (Deliver s d lane) listed).2 in let b = ap length held_is in omega (arith, a, b)
@@ -224,12 +224,12 @@ module _ (w : ChoiceState) (starts deliveries firings : List ℕ) (fields : AreF
 
       mid_same : SameRoom w.lanes mid
       mid_same = record {
-        size = set_size w.ranks w.lanes fields.room.wide s d lane source_rank goal_rank (drop 1 ms) ∙ sym fields.room.wide;
-        capacity = set_capacity w.ranks w.lanes fields.room.wide s d lane source_rank goal_rank (drop 1 ms);
+        size = set_size w.ranks w.lanes fields.room.wide s d lane source_rank destination_rank (drop 1 ms) ∙ sym fields.room.wide;
+        capacity = set_capacity w.ranks w.lanes fields.room.wide s d lane source_rank destination_rank (drop 1 ms);
       }
 
       deliver_so : step_made (ranks_in w) (Deliver s d lane) (scene_in w)
-          ≡ behind w fields.standing fields.room fields.go d goal_rank (Received s lane m) mid mid_same listed
+          ≡ behind w fields.standing fields.room fields.go d destination_rank (Received s lane m) mid mid_same listed
       deliver_so =
           ap (λ xs. delivered k s d lane xs z) front_held
           ∙ scene_by (with_step d (Received s lane m) z.world) (with_step d (Received s lane m) z.world)
@@ -237,31 +237,31 @@ module _ (w : ChoiceState) (starts deliveries firings : List ℕ) (fields : AreF
           (λ q u l. held_in w.ranks mid q u l ++ sent_more k z.world d (Received s lane m) q u l)
           (λ q. refl)
           (λ q u l. ap (λ xs. xs ++ sent_more k z.world d (Received s lane m) q u l)
-          (sym (held_set w.ranks w.lanes fields.room.wide s d lane source_rank goal_rank (drop 1 ms) q u l)))
+          (sym (held_set w.ranks w.lanes fields.room.wide s d lane source_rank destination_rank (drop 1 ms) q u l)))
 
       answer_at : (x : Sent) → made_at w.seats d (Received s lane m) ≡ Some x → IsSent w.ranks d x × (x.header.target ≡ s)
       answer_at x q =
           receipt_makes w.ranks w.kinds (slots_at w) fields.standing.in_range (histories_in w) (scene_in w).held
-          (moment_in w fields.standing) s d lane m x (drop 1 ms) source_rank goal_rank front_held
-          (ap (λ v. (target v m).delivered.answer) (sym (fields.standing.nic d goal_rank)) ∙ q)
+          (moment_in w fields.standing) s d lane m x (drop 1 ms) source_rank destination_rank front_held
+          (ap (λ v. (target v m).delivered.answer) (sym (fields.standing.nic d destination_rank)) ∙ q)
 
       deliver_goes : (x : Sent) → made_at w.seats d (Received s lane m) ≡ Some x → IsSent w.ranks d x
       deliver_goes x q = (answer_at x q).0
 
       deliver_due : length (histories_in w d) + 1 ≤ steps_due w.ranks w.kinds d
       deliver_due =
-          one_due w fields.standing fields.room fields.go d goal_rank (Received s lane m) mid mid_same listed deliver_so deliver_goes
+          one_due w fields.standing fields.room fields.go d destination_rank (Received s lane m) mid mid_same listed deliver_so deliver_goes
 
       short : length m.bytes ≤ 8
       short =
           (comes w.ranks w.kinds (slots_at w) fields.standing.in_range (histories_in w) (scene_in w).held (moment_in w fields.standing) s d lane
-          m (drop 1 ms) source_rank goal_rank front_held).short
+          m (drop 1 ms) source_rank destination_rank front_held).short
 
       for_rank : m.header.target ≡ (seat_at w.seats d).nic.rank
       for_rank =
           (comes w.ranks w.kinds (slots_at w) fields.standing.in_range (histories_in w) (scene_in w).held (moment_in w fields.standing) s d lane
-          m (drop 1 ms) source_rank goal_rank front_held).target
-          ∙ sym (ap (λ (v : State). v.rank) (fields.standing.nic d goal_rank ∙ (moment_in w fields.standing).states d))
+          m (drop 1 ms) source_rank destination_rank front_held).target
+          ∙ sym (ap (λ (v : State). v.rank) (fields.standing.nic d destination_rank ∙ (moment_in w fields.standing).states d))
 
       deliver_moved : Moved (go_in w d) (seat_at w.seats d) (received_seat s lane m (seat_at w.seats d)) (Received s lane m)
       deliver_moved = record {
@@ -278,25 +278,25 @@ module _ (w : ChoiceState) (starts deliveries firings : List ℕ) (fields : AreF
           → IsDone w (Deliver s d lane) nexts out a b c
       deliver_done nexts out a b c is =
           let made = is.made m rest first in
-          finish d goal_rank (Received s lane m) mid mid_same listed deliver_so deliver_goes (received_seat s lane m (seat_at w.seats d))
-          deliver_moved s d source_rank goal_rank (inr refl)
-          (λ x y l hx hy p q. set_other w.ranks w.lanes fields.room.wide s d lane source_rank goal_rank (drop 1 ms) x y l hy
-          (λ one. p (one.source, one.goal)))
+          finish d destination_rank (Received s lane m) mid mid_same listed deliver_so deliver_goes (received_seat s lane m (seat_at w.seats d))
+          deliver_moved s d source_rank destination_rank (inr refl)
+          (λ x y l hx hy p q. set_other w.ranks w.lanes fields.room.wide s d lane source_rank destination_rank (drop 1 ms) x y l hy
+          (λ one. p (one.source, one.destination)))
           (λ x q. inr (refl, (answer_at x q).1))
-          nexts out a b c is.s is.d made.seats made.lanes made.source made.goal is.marked
+          nexts out a b c is.s is.d made.seats made.lanes made.source made.destination is.marked
 
     deliver_may : MayMake w.ranks w.seats w.lanes (Deliver s d lane)
     deliver_may = (
       source_rank,
-      goal_rank,
+      destination_rank,
       some_held,
       λ m rest first. record {
-        room = let a = deliver_due m rest first in let b = fields.room.steps d goal_rank in omega (arith, a, b);
-        receipts = let a = deliver_due m rest first in let b = fields.room.receipts d goal_rank in omega (arith, a, b);
-        bytes = let a = deliver_due m rest first in let b = fields.room.bytes d goal_rank in let c = short m rest first in omega (arith, a, b, c);
+        room = let a = deliver_due m rest first in let b = fields.room.steps d destination_rank in omega (arith, a, b);
+        receipts = let a = deliver_due m rest first in let b = fields.room.receipts d destination_rank in omega (arith, a, b);
+        bytes = let a = deliver_due m rest first in let b = fields.room.bytes d destination_rank in let c = short m rest first in omega (arith, a, b, c);
         target = for_rank m rest first;
         goes =
-            may_go_out w fields.standing fields.room fields.go d goal_rank (Received s lane m) (popped w.ranks s d lane w.lanes)
+            may_go_out w fields.standing fields.room fields.go d destination_rank (Received s lane m) (popped w.ranks s d lane w.lanes)
             (mid_same m rest first) listed (deliver_so m rest first) (deliver_goes m rest first);
       },
     )
@@ -326,7 +326,7 @@ module _ (w : ChoiceState) (starts deliveries firings : List ℕ) (fields : AreF
   module _ (seats : List ChoiceRankState) (lanes : List Plain) (same_seats : seats ≡ w.seats) (same : lanes ≡ w.lanes) where
     pub lent_sized : AreSized w.ranks seats lanes starts deliveries firings
     lent_sized = record {
-      few = fields.standing.in_range.few_ranks;
+      at_most = fields.standing.in_range.few_ranks;
       seats = ap length same_seats ∙ fields.standing.size;
       lanes = ap length same ∙ fields.room.wide;
       starts = fields.counted.wide_starts;

@@ -74,7 +74,7 @@ pub record AreLeft (nexts new : List ChoiceRankState) (out mid : List Plain) (a 
   pub seats : nexts ≡ new
   pub lanes : out ≡ mid
   pub source : a ≡ s
-  pub goal : b ≡ d
+  pub destination : b ≡ d
 
 -- by the step: a rank's seat is that after its local step, and what it makes goes to the end of its lane
 abbrev pub IsMade : ℕ → List ChoiceRankState → List Plain → Step → List ChoiceRankState → List Plain → ℕ → ℕ → Type 0
@@ -112,7 +112,7 @@ lane_marks n lanes s d xs =
 
 -- as many of each as there are ranks and lanes
 pub record AreSized (n : ℕ) (ss : List ChoiceRankState) (ls : List Plain) (a b c : List ℕ) : Type 0 where
-  pub few : n ≤ 256
+  pub at_most : n ≤ 256
   pub seats : length ss ≡ n
   pub lanes : length ls ≡ 2 * (n * n)
   pub starts : length a ≡ n
@@ -131,6 +131,6 @@ pub record IsStepped (n : ℕ) (seats : List ChoiceRankState) (lanes : List Plai
   pub s : ℕ
   pub d : ℕ
   pub source : s < n
-  pub goal : d < n
+  pub destination : d < n
   pub made : IsMade n seats lanes step nexts later s d
   pub marked : AreMarked n nexts later s d starts deliveries firings a b c

@@ -53,7 +53,7 @@ fn refresh(
 )
     requires sized { AreSized ranks seats.now lanes.now starts.old deliveries.old firings.old }
     requires source { s < ranks }
-    requires goal { d < ranks }
+    requires destination { d < ranks }
     ensures { AreMarked ranks seats.now lanes.now s d starts.old deliveries.old firings.old starts.new deliveries.new firings.new }
 {
     mark_start(starts, seats, s);
@@ -74,7 +74,7 @@ fn start(seats: &mut [ChoiceRank], r: Rank)
 
 /// An operation of a rank is fired, and its message goes out; answers for whom it is.
 fn fire(seats: &mut [ChoiceRank], lanes: &mut [PlainLane], ranks: u32, r: Rank, number: u32) -> Rank
-    requires few { ranks ≤ 256 }
+    requires at_most { ranks ≤ 256 }
     requires seats { length seats.old ≡ ranks }
     requires lanes { length lanes.old ≡ 2 * (ranks * ranks) }
     requires rank { r < ranks }
@@ -82,7 +82,7 @@ fn fire(seats: &mut [ChoiceRank], lanes: &mut [PlainLane], ranks: u32, r: Rank, 
     ensures seats { seats.new ≡ slice_set seats.old r (fired_seat number (seat_at seats.old r)) }
     ensures lanes { lanes.new ≡ out_with ranks r (made_at seats.old r (Fired number)) lanes.old }
     ensures for_whom { result ≡ receiver r (made_at seats.old r (Fired number)) }
-    ensures goal { result < ranks }
+    ensures destination { result < ranks }
 {
     let made = seats[r as usize].fire(number);
     send_out(lanes, ranks, r, made)
@@ -90,12 +90,12 @@ fn fire(seats: &mut [ChoiceRank], lanes: &mut [PlainLane], ranks: u32, r: Rank, 
 
 /// The first message of a lane is received, and its answer goes out.
 fn deliver(seats: &mut [ChoiceRank], lanes: &mut [PlainLane], ranks: u32, s: Rank, d: Rank, lane: Lane)
-    requires few { ranks ≤ 256 }
+    requires at_most { ranks ≤ 256 }
     requires seats { length seats.old ≡ ranks }
     requires lanes { length lanes.old ≡ 2 * (ranks * ranks) }
     requires source { s < ranks }
-    requires goal { d < ranks }
-    requires some { 0 < length (lane_at lanes.old (lane_place ranks s d lane)).messages }
+    requires destination { d < ranks }
+    requires nonempty { 0 < length (lane_at lanes.old (lane_place ranks s d lane)).messages }
     requires may { (m : Sent) (rest : List Sent) → IsFirst ranks lanes.old s d lane m rest → MayReceive ranks seats.old lanes.old s d lane m }
     ensures { IsMade ranks seats.old lanes.old (Deliver s d lane) seats.new lanes.new s d }
 {
@@ -106,13 +106,13 @@ fn deliver(seats: &mut [ChoiceRank], lanes: &mut [PlainLane], ranks: u32, s: Ran
 
 /// Makes a step that finds what it needs, and answers between which ranks something changed.
 fn act(seats: &mut [ChoiceRank], lanes: &mut [PlainLane], ranks: u32, step: Step) -> (Rank, Rank)
-    requires few { ranks ≤ 256 }
+    requires at_most { ranks ≤ 256 }
     requires seats { length seats.old ≡ ranks }
     requires lanes { length lanes.old ≡ 2 * (ranks * ranks) }
     requires may { MayMake ranks seats.old lanes.old step }
     ensures made { IsMade ranks seats.old lanes.old step seats.new lanes.new result.0 result.1 }
     ensures source { result.0 < ranks }
-    ensures goal { result.1 < ranks }
+    ensures destination { result.1 < ranks }
 {
     match step {
         Step::Start(r) => {

@@ -65,7 +65,7 @@ pub(crate) fn lay_all(alloc: Global, ranks: u32, steps: u32) -> Result<Vec<Plain
 
 /// Counts the starts that are enabled, by rank.
 fn fill_starts(starts: &mut CountTree, seats: &[ChoiceRank])
-    requires few { length seats.now ≤ 256 }
+    requires at_most { length seats.now ≤ 256 }
     requires size { length starts.old ≡ length seats.now }
     ensures size { length starts.new ≡ length seats.now }
     ensures counts { (r : ℕ) → r < length seats.now → slice_index_or starts.new r 0 ≡ start_count (seat_at seats.now r) }
@@ -77,7 +77,7 @@ fn fill_starts(starts: &mut CountTree, seats: &[ChoiceRank])
 
 /// Counts the firings that are enabled, by rank.
 fn fill_firings(firings: &mut CountTree, seats: &[ChoiceRank])
-    requires few { length seats.now ≤ 256 }
+    requires at_most { length seats.now ≤ 256 }
     requires size { length firings.old ≡ length seats.now }
     ensures size { length firings.new ≡ length seats.now }
     ensures counts { (r : ℕ) → r < length seats.now → slice_index_or firings.new r 0 ≡ firing_count (seat_at seats.now r) }

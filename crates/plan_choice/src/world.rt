@@ -81,8 +81,8 @@ impl ChoiceWorld {
     ///
     /// There was no memory for it.
     pub fn open(alloc: Global, ranks: u32, choices: &Choices) -> Result<ChoiceWorld, NoMemory>
-        requires some { 0 < ranks }
-        requires few { ranks ≤ 256 }
+        requires nonempty { 0 < ranks }
+        requires at_most { ranks ≤ 256 }
         ensures ranks { IfOk result (λ w. w.ranks ≡ ranks) }
         ensures steps { IfOk result (λ w. w.kinds ≡ kinds_of choices.now.steps) }
         ensures first { IfOk result (λ w. scene_in w ≡ first_scene) }

@@ -51,7 +51,7 @@ fn needs_its_links(plan: &Plan, c: u32, links: &[u32]) -> bool
 fn is_input_cell(plan: &Plan, lengths: &[u64], i: u32) -> bool
     requires ranks { 0 < plan.now.ranks }
     requires cell { plan.now.ranks + i < length plan.now.cells }
-    requires few { length plan.now.cells < 2 ^ 24 }
+    requires at_most { length plan.now.cells < 2 ^ 24 }
     ensures { result ≡ is_input_cell plan.now lengths.now i }
 {
     let ranks = plan.ranks();
@@ -71,7 +71,7 @@ fn input_cause(
     requires ranks { 0 < plan.now.ranks }
     requires place { plan.now.ranks ≤ c }
     requires cell { c < length plan.now.cells }
-    requires few { length plan.now.cells < 2 ^ 24 }
+    requires at_most { length plan.now.cells < 2 ^ 24 }
     requires guards { guards.now ≡ guarded_below plan.now (length plan.now.cells) }
     requires links { links.now ≡ in_links plan.now c }
     ensures { result ≡ first_cause (input_rows plan.now lengths.now c) }
@@ -92,7 +92,7 @@ fn input_cause(
 /// The bytes that these links carry, but for bumps.
 fn bytes_put(plan: &Plan, links: &[u32]) -> u128
     requires known { All (λ l. l < length plan.now.links) links.now }
-    requires few { length links.now < 2 ^ 32 }
+    requires at_most { length links.now < 2 ^ 32 }
     ensures { result ≡ sum_by (λ l. if is_bump (link plan.now l).kind then 0 else (link plan.now l).length) links.now }
 {
     let mut bytes = 0;
@@ -113,7 +113,7 @@ fn other_cause(
     links: &[u32],
 ) -> Result<Option<CellCause>, NoMemory>
     requires cell { c < length plan.now.cells }
-    requires few { length plan.now.links < 2 ^ 32 }
+    requires at_most { length plan.now.links < 2 ^ 32 }
     requires links { links.now ≡ in_links plan.now c }
     ensures { IfOk result (λ cause. cause ≡ first_cause (other_rows plan.now c)) }
 {

@@ -39,7 +39,7 @@ fn next_guarded(plan: &Plan, before: &[bool], c: u32, links: &[u32]) -> bool
 
 /// Of each cell whether it is guarded.
 fn guard_list(alloc: Global, plan: &Plan, into: &ByRank) -> Result<Vec<bool>, AllocError>
-    requires few { length plan.now.cells + length plan.now.links < 2 ^ 32 - 1 }
+    requires at_most { length plan.now.cells + length plan.now.links < 2 ^ 32 - 1 }
     requires table { into.now ≡ map (in_links plan.now) (all_cells plan.now) }
     ensures { IfOk result (λ guards. guards.items ≡ guarded_below plan.now (length plan.now.cells)) }
 {
@@ -57,7 +57,7 @@ fn guard_list(alloc: Global, plan: &Plan, into: &ByRank) -> Result<Vec<bool>, Al
 ///
 /// There was no memory for the list.
 pub(crate) fn guards(alloc: Global, plan: &Plan, into: &ByRank) -> Result<Vec<bool>, NoMemory>
-    requires few { length plan.now.cells + length plan.now.links < 2 ^ 32 - 1 }
+    requires at_most { length plan.now.cells + length plan.now.links < 2 ^ 32 - 1 }
     requires table { into.now ≡ map (in_links plan.now) (all_cells plan.now) }
     ensures { IfOk result (λ guards. guards.items ≡ guarded_below plan.now (length plan.now.cells)) }
 {

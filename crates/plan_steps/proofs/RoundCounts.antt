@@ -27,6 +27,6 @@ pub rounds-enough : (m : ℕ) → m ≤ 256 → m ≤ 2 ^ rounds m
 unfolding rounds
 rounds-enough m h = enough 8 0 m h
 
-pub rounds-few : (m j : ℕ) → j < rounds m → 2 ^ j < m
+pub rounds-at_most : (m j : ℕ) → j < rounds m → 2 ^ j < m
 unfolding rounds
-rounds-few m j h = too_few 8 0 m j (let z : 0 ≤ j = omega arith in z) h
+rounds-at_most m j h = too_few 8 0 m j (let z : 0 ≤ j = omega arith in z) h

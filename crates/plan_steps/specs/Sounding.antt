@@ -103,7 +103,7 @@ pub record WellBuilt (p : Plan) (inputs : ℕ) : Type 0 where
 -- the members and exits that a step begins with
 pub record Ground (ranks : ℕ) (k : ℕ → Cell) (s : StepContext) : Type 0 where
   pub some : 0 < count s
-  pub few : count s ≤ 256
+  pub at_most : count s ≤ 256
   pub members : (i : ℕ) → i < count s → rank_at s i < ranks
   pub exit_low : (i : ℕ) → i < count s → exit_at s i < s.first
   pub exit_rank : (i : ℕ) → i < count s → (k (exit_at s i)).rank ≡ rank_at s i

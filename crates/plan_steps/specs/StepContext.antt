@@ -44,7 +44,7 @@ block_length s = s.length / count s
 -- within the limits of descriptions and plans
 pub record IsSite (s : StepContext) : Type 0 where
   pub some : 1 ≤ count s
-  pub few : count s ≤ 256
+  pub at_most : count s ≤ 256
   pub exits : length s.exits ≡ count s
   pub sources : length s.sources ≡ count s
   pub first : s.first < 2 ^ 24

@@ -108,7 +108,7 @@ pub(crate) fn holding_of(
     members: &[Rank],
 ) -> Result<Vec<u32>, AllocError>
     requires read { IsNumber shape.now read }
-    requires few { length members.now ≤ 256 }
+    requires at_most { length members.now ≤ 256 }
     ensures { IfOk result (λ list. list.items ≡ holding_places members.now (read_buffer shape.now read).spread.holders) }
 {
     let holders = holders_of(shape, read);

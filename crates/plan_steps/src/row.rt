@@ -45,7 +45,7 @@ pub(crate) fn draw_cells<R: Rows>(
     n: u32,
 ) -> Result<(), NoMemory>
     requires fits { R.fits cells.now site.now number }
-    requires few { n ≤ R.size cells.now site.now }
+    requires at_most { n ≤ R.size cells.now site.now }
     requires room { HasRoom plan.old (map (R.cell cells.now site.now number) (from_to 0 n)) }
     ensures { IfOk result (λ u. plan.new ≡ add_all plan.old (map (R.cell cells.now site.now number) (from_to 0 n))) }
 {

@@ -19,7 +19,7 @@ pub(crate) fn scan_number(site: &StepContext, round: u32, place: u32) -> u32
     requires round { round ≤ 8 }
     requires place { place ≤ 256 }
     ensures value { result ≡ scan_number site.now round place }
-    ensures few { result < 2 ^ 25 }
+    ensures at_most { result < 2 ^ 25 }
 {
     site.in_row(round + 1, place)
 }

@@ -95,7 +95,7 @@ impl StepContext {
     pub fn count(&self) -> u32
         ensures value { result ≡ count self.now }
         ensures some { 1 ≤ result }
-        ensures few { result ≤ 256 }
+        ensures at_most { result ≤ 256 }
     {
         self.members.len() as u32
     }
@@ -136,7 +136,7 @@ impl StepContext {
     /// The places of the members that hold the buffer, rising.
     pub fn holders(&self) -> &[u32]
         ensures value { result.now ≡ self.now.holding }
-        ensures few { length result.now ≤ count self.now }
+        ensures at_most { length result.now ≤ count self.now }
         ensures low { (i : ℕ) → i < length result.now → get_or result.now i 0 < count self.now }
     {
         let _ = self.members.len();
@@ -148,7 +148,7 @@ impl StepContext {
         requires row { row ≤ 1024 }
         requires place { place ≤ 1024 }
         ensures value { result ≡ in_row self.now row place }
-        ensures few { result < 2 ^ 25 }
+        ensures at_most { result < 2 ^ 25 }
     {
         self.first + (row * self.members.len() as u32 + place)
     }
@@ -157,7 +157,7 @@ impl StepContext {
     pub fn entry(&self, place: u32) -> u32
         requires { place ≤ 1024 }
         ensures value { result ≡ entry self.now place }
-        ensures few { result < 2 ^ 25 }
+        ensures at_most { result < 2 ^ 25 }
     {
         let _ = self.members.len();
         self.first + place
@@ -167,7 +167,7 @@ impl StepContext {
     pub fn further(&self, j: u32) -> u32
         requires { j ≤ 262144 }
         ensures value { result ≡ further self.now j }
-        ensures few { result < 2 ^ 25 }
+        ensures at_most { result < 2 ^ 25 }
     {
         self.first + (self.members.len() as u32 + j)
     }

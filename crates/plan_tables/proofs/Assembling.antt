@@ -8,7 +8,7 @@ use Rattle.plan_calls.specs.RankOps.{rank_ops}
 use Rattle.plan_calls.specs.RankOps.RankOp.{ForLink, ForDone}
 use Rattle.plan_calls.specs.Areas.{areas_length, classes, has_class, links_to, longest, region_length}
 use Rattle.plan_calls.specs.Calls.{area_call, prepare_calls, trigger}
-use Rattle.plan_tables.proofs.Indexed.{few-filtered}
+use Rattle.plan_tables.proofs.Indexed.{at_most-filtered}
 
 map-twice : {X Y Z : Type 0} (g : Y → Z) (f : X → Y) (xs : List X) → map g (map f xs) ≡ map (λ x. g (f x)) xs
 map-twice g f [] = refl
@@ -46,8 +46,8 @@ calls-count p r =
     let h = length-map (own p r) ForDone in
     omega (arith, a, b, c, d, e, f, g, h)
 
-pub few-classes : (p : Plan) (r : ℕ) → length (classes p r) ≤ 81
-few-classes p r = few-filtered (λ k. has_class p k (links_to p r)) 81
+pub at_most-classes : (p : Plan) (r : ℕ) → length (classes p r) ≤ 81
+at_most-classes p r = at_most-filtered (λ k. has_class p k (links_to p r)) 81
 
 -- ---- the longest of links, one more
 max-joins : (a b c : ℕ) → max a (max b c) ≡ max (max a b) c

@@ -20,31 +20,31 @@ use Rattle.plan_calls.specs.Areas.{area_length, area_start, areas_length, classe
 use Rattle.plan_tables.specs.Tables.{arrival_key, key_of, to_rank}
 use Rattle.plan_tables.specs.AreaTables.{area_bytes, area_links, counted_classes, counted_start, message_key}
 
-op-few : (o : AtomicOp) → op_number o ≤ 9
-op-few Min = omega arith
-op-few Max = omega arith
-op-few Sum = omega arith
-op-few Prod = omega arith
-op-few Lor = omega arith
-op-few Land = omega arith
-op-few Bor = omega arith
-op-few Band = omega arith
-op-few Lxor = omega arith
-op-few Bxor = omega arith
+op-at_most : (o : AtomicOp) → op_number o ≤ 9
+op-at_most Min = omega arith
+op-at_most Max = omega arith
+op-at_most Sum = omega arith
+op-at_most Prod = omega arith
+op-at_most Lor = omega arith
+op-at_most Land = omega arith
+op-at_most Bor = omega arith
+op-at_most Band = omega arith
+op-at_most Lxor = omega arith
+op-at_most Bxor = omega arith
 
-type-few : (ty : ElemType) → type_number ty ≤ 7
-type-few U8 = omega arith
-type-few I8 = omega arith
-type-few U16 = omega arith
-type-few I16 = omega arith
-type-few U32 = omega arith
-type-few I32 = omega arith
-type-few U64 = omega arith
-type-few I64 = omega arith
+type-at_most : (ty : ElemType) → type_number ty ≤ 7
+type-at_most U8 = omega arith
+type-at_most I8 = omega arith
+type-at_most U16 = omega arith
+type-at_most I16 = omega arith
+type-at_most U32 = omega arith
+type-at_most I32 = omega arith
+type-at_most U64 = omega arith
+type-at_most I64 = omega arith
 
-class-few : (o : Option AtomicOp) (ty : ElemType) → class_of o ty < 81
-class-few None ty = omega arith
-class-few (Some o) ty = let a = op-few o in let b = type-few ty in omega (arith, a, b)
+class-at_most : (o : Option AtomicOp) (ty : ElemType) → class_of o ty < 81
+class-at_most None ty = omega arith
+class-at_most (Some o) ty = let a = op-at_most o in let b = type-at_most ty in omega (arith, a, b)
 
 -- two tests one after the other
 filter-both : (a b t : ℕ → Bool) (xs : List ℕ) → ((x : ℕ) → (a x && b x) ≡ t x) → filter b (filter a xs) ≡ filter t xs
@@ -81,8 +81,8 @@ pub area-same : (p : Plan) (r k : ℕ) → r < p.ranks → k < 81 → area_links
 area-same p r k h l = sym (filter-both (comes_to p r) (is_class p k) (λ i. message_key p i == r * 81 + k) (from_to 0 (length p.links)) (λ i. at i (link p i).kind))
   where
     at : (i : ℕ) (kind : LinkKind) → ((not (is_bump kind) && (to_rank p i == r)) && (link_class p i == k)) ≡ (key_of kind (to_rank p i * 81 + link_class p i) (p.ranks * 81) == r * 81 + k)
-    at i Put = keys-same (to_rank p i) (link_class p i) r k (class-few (cell p (link p i).target).op (cell p (link p i).target).ty) l
-    at i Atomic = keys-same (to_rank p i) (link_class p i) r k (class-few (cell p (link p i).target).op (cell p (link p i).target).ty) l
+    at i Put = keys-same (to_rank p i) (link_class p i) r k (class-at_most (cell p (link p i).target).op (cell p (link p i).target).ty) l
+    at i Atomic = keys-same (to_rank p i) (link_class p i) r k (class-at_most (cell p (link p i).target).op (cell p (link p i).target).ty) l
     at i Bump = sym (ne_eqb (p.ranks * 81) (r * 81 + k) (λ z. let m = mul-le-mul_right 81 h in let e : suc r * 81 ≡ r * 81 + 81 = omega arith in absurd (omega (arith, z, m, e, l))))
 
 pub area-length : (p : Plan) (r k : ℕ) → r < p.ranks → k < 81 → area_bytes p r k ≡ area_length p r k

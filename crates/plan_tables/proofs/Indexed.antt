@@ -34,8 +34,8 @@ filter-shorter t (x ∷ xs) = at (t x) (filter-shorter t xs)
     at true h = omega arith
     at false h = omega arith
 
-pub few-filtered : (t : ℕ → Bool) (n : ℕ) → length (filter t (from_to 0 n)) ≤ n
-few-filtered t n = let a = filter-shorter t (from_to 0 n) in let b = length-numbers 0 n in omega (arith, a, b)
+pub at_most-filtered : (t : ℕ → Bool) (n : ℕ) → length (filter t (from_to 0 n)) ≤ n
+at_most-filtered t n = let a = filter-shorter t (from_to 0 n) in let b = length-numbers 0 n in omega (arith, a, b)
 
 pub all-below : (t : ℕ → Bool) (n : ℕ) (xs : List ℕ) → xs ≡ filter t (from_to 0 n) → (i : ℕ) → i < length xs → get_or xs i 0 < n
 all-below t n xs e i h = let m = (filter-at t 0 n i (subst (λ v. i < length v) e h)).most in let g = ap (λ v. get_or v i 0) e in omega (arith, m, g)
@@ -43,5 +43,5 @@ all-below t n xs e i h = let m = (filter-at t 0 n i (subst (λ v. i < length v) 
 pub all-pass : (t : ℕ → Bool) (n : ℕ) (xs : List ℕ) → xs ≡ filter t (from_to 0 n) → (i : ℕ) → i < length xs → t (get_or xs i 0) ≡ true
 all-pass t n xs e i h = ap (λ v. t (get_or v i 0)) e ∙ (filter-at t 0 n i (subst (λ v. i < length v) e h)).passes
 
-pub few-listed : (t : ℕ → Bool) (n : ℕ) (xs : List ℕ) → xs ≡ filter t (from_to 0 n) → length xs ≤ n
-few-listed t n xs e = let f = few-filtered t n in let g = ap length e in omega (arith, f, g)
+pub at_most-listed : (t : ℕ → Bool) (n : ℕ) (xs : List ℕ) → xs ≡ filter t (from_to 0 n) → length xs ≤ n
+at_most-listed t n xs e = let f = at_most-filtered t n in let g = ap length e in omega (arith, f, g)

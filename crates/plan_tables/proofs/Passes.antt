@@ -5,7 +5,7 @@ use Rattle.std.proofs.lemmas.Bool.{ne_eqb}
 use Rattle.plan_core.specs.Plan.{from_to}
 use Rattle.plan_core.proofs.Drawing.{from_to-more, length-row, row-same}
 use Rattle.plan_tables.specs.Rising.{of_key}
-use Rattle.plan_tables.proofs.Indexed.{few-filtered}
+use Rattle.plan_tables.proofs.Indexed.{at_most-filtered}
 
 set-from : {X : Type 0} (f g : ℕ → X) (k n r : ℕ) (x : X) → r < n → ((q : ℕ) → q < n → (q ≡ r → ⊥) → f (k + q) ≡ g (k + q)) → x ≡ g (k + r)
     → set (map f (from_to k n)) r x ≡ map g (from_to k n)
@@ -81,5 +81,5 @@ get_or-any (x ∷ xs) (suc i) d e h = get_or-any xs i d e (le_of_suc-le-suc h)
 pub keyed-out : {X : Type 0} (key : ℕ → ℕ) (g : List ℕ → X) (k n : ℕ) → n ≤ key k → map (λ i. g (of_key key k i)) (from_to 0 n) ≡ map (λ i. g (of_key key (k + 1) i)) (from_to 0 n)
 keyed-out key g k n h = row-same (λ i. g (of_key key k i)) (λ i. g (of_key key (k + 1) i)) 0 n (λ i l. ap g (sym (upto-out (λ j. key j == i) k (ne_eqb _ _ (λ z. absurd (omega arith))))))
 
-pub few-of_key : (key : ℕ → ℕ) (k i : ℕ) → length (of_key key k i) ≤ k
-few-of_key key k i = few-filtered (λ j. key j == i) k
+pub at_most-of_key : (key : ℕ → ℕ) (k i : ℕ) → length (of_key key k i) ≤ k
+at_most-of_key key k i = at_most-filtered (λ j. key j == i) k

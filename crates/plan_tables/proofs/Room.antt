@@ -9,7 +9,7 @@ use Rattle.plan_core.specs.Sound.{SoundPlan}
 use Rattle.plan_calls.specs.Calls.{cell_start}
 use Rattle.plan_tables.specs.Tables.{IsTabled, rank_of, link_length}
 use Rattle.plan_tables.specs.AreaTables.{counted_start, message_key}
-use Rattle.plan_tables.proofs.Sums.{few-bytes, numbered, start-own, sum-filter_le}
+use Rattle.plan_tables.proofs.Sums.{at_most-bytes, numbered, start-own, sum-filter_le}
 
 numbered-links : (xs ys : List Link) (k : ℕ) → ((i : ℕ) → get_or ys (k + i) no_link ≡ get_or xs i no_link) → sum_by (λ l. (get_or ys l no_link).length) (from_to k (length xs)) ≡ sum_by (λ (x : Link). x.length) xs
 numbered-links [] ys k h = refl
@@ -22,17 +22,17 @@ numbered-links (x ∷ xs) ys k h =
 link-bytes : (p : Plan) → sum_by (link_length p) (from_to 0 (length p.links)) ≡ sum_by (λ (x : Link). x.length) p.links
 link-bytes p = numbered-links p.links p.links 0 (λ i. ap (λ v. get_or p.links v no_link) (let z : 0 + i ≡ i = omega arith in z))
 
-pub few-link_bytes : (p : Plan) → IsTabled p → sum_by (link_length p) (from_to 0 (length p.links)) < 2 ^ 64
-few-link_bytes p t = let a = link-bytes p in let f = t.few_bytes in omega (arith, a, f)
+pub at_most-link_bytes : (p : Plan) → IsTabled p → sum_by (link_length p) (from_to 0 (length p.links)) < 2 ^ 64
+at_most-link_bytes p t = let a = link-bytes p in let f = t.few_bytes in omega (arith, a, f)
 
-pub few-cell_bytes : (p : Plan) → IsTabled p → sum_by (λ k. k.length) p.cells < 2 ^ 64
-few-cell_bytes p t = let f = t.few_bytes in omega (arith, f)
+pub at_most-cell_bytes : (p : Plan) → IsTabled p → sum_by (λ k. k.length) p.cells < 2 ^ 64
+at_most-cell_bytes p t = let f = t.few_bytes in omega (arith, f)
 
-pub few-sent : (p : Plan) (l : ℕ) → IsTabled p → l < length p.links → cell_start p (link p l).source + (link p l).source_offset < 2 ^ 64
-few-sent p l t h =
+pub at_most-sent : (p : Plan) (l : ℕ) → IsTabled p → l < length p.links → cell_start p (link p l).source + (link p l).source_offset < 2 ^ 64
+at_most-sent p l t h =
     let c = (link p l).source in
     let a = start-own p c (t.sources l h) in
-    let b = few-bytes p c (2 ^ 64) (t.sources l h) (few-cell_bytes p t) in
+    let b = at_most-bytes p c (2 ^ 64) (t.sources l h) (at_most-cell_bytes p t) in
     let w = t.within l h in
     omega (arith, a, b, w)
 
@@ -85,8 +85,8 @@ by-key key f base (l ∷ ls) a n =
     split true xs = sum_by-cons f l xs
     split false xs = refl
 
-pub few-region : (p : Plan) (r : ℕ) → IsTabled p → counted_start p r 81 < 2 ^ 64
-few-region p r t =
+pub at_most-region : (p : Plan) (r : ℕ) → IsTabled p → counted_start p r 81 < 2 ^ 64
+at_most-region p r t =
     let a = by-key (message_key p) (link_length p) (r * 81) (from_to 0 (length p.links)) 0 81 in
     let b = link-bytes p in
     let c = sum-filter_le (λ c. rank_of p c == r) (cell_length p) (from_to 0 (length p.cells)) in

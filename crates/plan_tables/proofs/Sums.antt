@@ -14,7 +14,7 @@ use Rattle.plan_core.proofs.Drawing.{length-row}
 use Rattle.plan_tables.specs.Rising.{of_key}
 use Rattle.plan_calls.specs.Calls.{cell_start}
 use Rattle.plan_tables.specs.Tables.{rank_of}
-use Rattle.plan_tables.proofs.Passes.{few-of_key, get-row, keyed-more, keyed-out, upto-in}
+use Rattle.plan_tables.proofs.Passes.{at_most-of_key, get-row, keyed-more, keyed-out, upto-in}
 
 pub row-replicate : {X : Type 0} (x : X) (k n : ℕ) → replicate n x ≡ map (λ i. x) (from_to k n)
 row-replicate x k zero = refl
@@ -51,14 +51,14 @@ past [] i d h = refl
 past (x ∷ xs) zero d h = absurd (omega arith)
 past (x ∷ xs) (suc i) d h = past xs i d (omega arith)
 
-pub counted-few : (key : ℕ → ℕ) (k n i : ℕ) (xs : List ℕ) → xs ≡ counts key k n → get_or xs i 0 ≤ k
-counted-few key k n i xs e = at (nat_lt i n) refl
+pub counted-at_most : (key : ℕ → ℕ) (k n i : ℕ) (xs : List ℕ) → xs ≡ counts key k n → get_or xs i 0 ≤ k
+counted-at_most key k n i xs e = at (nat_lt i n) refl
   where
     at : (b : Bool) → nat_lt i n ≡ b → get_or xs i 0 ≤ k
     at true t =
         let h : i < n = ltb-true _ _ t in
         let g = ap (λ v. get_or v i 0) e ∙ get-row (λ i. length (of_key key k i)) n i 0 h in
-        let f = few-of_key key k i in
+        let f = at_most-of_key key k i in
         omega (arith, g, f)
     at false t =
         let h : n ≤ i = ltb-false _ _ t in
@@ -113,8 +113,8 @@ numbered (x ∷ xs) ys k h =
     ∙ sym (sum_by-cons (λ (c : Cell). c.length) x xs)
 
 -- the bytes of a rank's cells up to cell c are few
-pub few-bytes : (p : Plan) (c m : ℕ) → c < length p.cells → sum_by (λ k. k.length) p.cells < m → sum_by (cell_length p) (of_key (rank_of p) c (rank_of p c)) + cell_length p c < m
-few-bytes p c m h l =
+pub at_most-bytes : (p : Plan) (c m : ℕ) → c < length p.cells → sum_by (λ k. k.length) p.cells < m → sum_by (cell_length p) (of_key (rank_of p) c (rank_of p c)) + cell_length p c < m
+at_most-bytes p c m h l =
     let t : ℕ → Bool = λ k. rank_of p k == rank_of p c in
     let a = ap (sum_by (cell_length p)) (upto-in t c (eq-eqb _ _ refl)) ∙ sum_by-append (cell_length p) (filter t (from_to 0 c)) (c ∷ []) in
     let b = sum_by-cons (cell_length p) c [] in
@@ -155,8 +155,8 @@ summed-more key f k n xs e = at (nat_lt (key k) (length xs)) refl
         let h : n ≤ key k = omega (arith, l, long) in
         e ∙ keyed-out key (sum_by f) k n h
 
-few-sum : (key f : ℕ → ℕ) (k n m : ℕ) → k < n → sum_by f (from_to 0 n) < m → sum_by f (of_key key k (key k)) + f k < m
-few-sum key f k n m h l =
+at_most-sum : (key f : ℕ → ℕ) (k n m : ℕ) → k < n → sum_by f (from_to 0 n) < m → sum_by f (of_key key k (key k)) + f k < m
+at_most-sum key f k n m h l =
     let t : ℕ → Bool = λ j. key j == key k in
     let a = ap (sum_by f) (upto-in t k (eq-eqb _ _ refl)) ∙ sum-one f (filter t (from_to 0 k)) k in
     let d = sum-filter_le t f (from_to 0 (k + 1)) in
@@ -164,18 +164,18 @@ few-sum key f k n m h l =
     omega (arith, a, d, e, l)
 
 -- a sum that is kept stays small, and one that isn't kept is that of a single thing
-pub summed-few : (key f : ℕ → ℕ) (k n len m : ℕ) (xs : List ℕ) → xs ≡ sums key f k n → k < len → sum_by f (from_to 0 len) < m → get_or xs (key k) 0 + f k < m
-summed-few key f k n len m xs e h l = at (nat_lt (key k) n) refl
+pub summed-at_most : (key f : ℕ → ℕ) (k n len m : ℕ) (xs : List ℕ) → xs ≡ sums key f k n → k < len → sum_by f (from_to 0 len) < m → get_or xs (key k) 0 + f k < m
+summed-at_most key f k n len m xs e h l = at (nat_lt (key k) n) refl
   where
     at : (b : Bool) → nat_lt (key k) n ≡ b → get_or xs (key k) 0 + f k < m
     at true t =
         let i : key k < n = ltb-true _ _ t in
         let g = ap (λ v. get_or v (key k) 0) e ∙ get-row (λ i. sum_by f (of_key key k i)) n (key k) 0 i in
-        let q = few-sum key f k len m h l in
+        let q = at_most-sum key f k len m h l in
         omega (arith, g, q)
     at false t =
         let i : n ≤ key k = ltb-false _ _ t in
         let long = ap length e ∙ length-row (λ i. sum_by f (of_key key k i)) 0 n in
         let g = past xs (key k) 0 (omega (arith, i, long)) in
-        let q = few-sum key f k len m h l in
+        let q = at_most-sum key f k len m h l in
         omega (arith, g, q)

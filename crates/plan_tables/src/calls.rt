@@ -14,7 +14,7 @@ use ptl_types::{AckRequest, PlannedOp, AtomicOp, Call, ElemType, NoMemory, Rank}
 /// The number of an operation in the match bits.
 fn op_number(op: AtomicOp) -> u64
     ensures value { result ≡ op_number op }
-    ensures few { result < 10 }
+    ensures at_most { result < 10 }
 {
     match op {
         AtomicOp::Min => 0,
@@ -33,7 +33,7 @@ fn op_number(op: AtomicOp) -> u64
 /// The number of a type in the match bits.
 fn type_number(ty: ElemType) -> u64
     ensures value { result ≡ type_number ty }
-    ensures few { result < 8 }
+    ensures at_most { result < 8 }
 {
     match ty {
         ElemType::U8 => 0,
@@ -50,7 +50,7 @@ fn type_number(ty: ElemType) -> u64
 /// The class of what comes to a cell: 0 for puts, else by operation and type, below 81.
 pub(crate) fn class_of(op: Option<AtomicOp>, ty: ElemType) -> u64
     ensures value { result ≡ class_of op ty }
-    ensures few { result < 81 }
+    ensures at_most { result < 81 }
 {
     match op {
         None => 0,
@@ -63,7 +63,7 @@ pub(crate) fn bits_of(class: u64, cell: u64) -> u64
     requires class { class < 256 }
     requires cell { cell < 2 ^ 24 }
     ensures value { result ≡ bits_above class cell * 2 ^ 16 }
-    ensures few { result + 65536 ≤ 2 ^ 56 }
+    ensures at_most { result + 65536 ≤ 2 ^ 56 }
 {
     ((256 + class) * 16777216 + cell) * 65536
 }
@@ -73,7 +73,7 @@ fn cell_bits(plan: &Plan, c: u32) -> u64
     requires tabled { IsTabled plan.now }
     requires cell { c < length plan.now.cells }
     ensures value { result ≡ cell_bits plan.now c * 2 ^ 16 }
-    ensures few { result + 65536 ≤ 2 ^ 56 }
+    ensures at_most { result + 65536 ≤ 2 ^ 56 }
 {
     let cell = cell_at(plan, c);
     bits_of(class_of(cell.op, cell.ty), u64::from(c))

@@ -65,7 +65,7 @@ impl Index {
         ensures value { result.now ≡ own plan.now r }
         ensures cells { (i : ℕ) → i < length result.now → get_or result.now i 0 < length plan.now.cells }
         ensures ranks { (i : ℕ) → i < length result.now → (cell plan.now (get_or result.now i 0)).rank ≡ r }
-        ensures few { length result.now ≤ length plan.now.cells }
+        ensures at_most { length result.now ≤ length plan.now.cells }
     {
         let _ = plan.ranks();
         self.own.at(r)
@@ -78,7 +78,7 @@ impl Index {
         requires rank { r < plan.now.ranks }
         ensures value { result.now ≡ out_links plan.now r }
         ensures links { (i : ℕ) → i < length result.now → get_or result.now i 0 < length plan.now.links }
-        ensures few { length result.now ≤ length plan.now.links }
+        ensures at_most { length result.now ≤ length plan.now.links }
     {
         let _ = plan.ranks();
         self.out.at(r)
@@ -91,7 +91,7 @@ impl Index {
         requires rank { r < plan.now.ranks }
         ensures value { result.now ≡ links_to plan.now r }
         ensures links { (i : ℕ) → i < length result.now → get_or result.now i 0 < length plan.now.links }
-        ensures few { length result.now ≤ length plan.now.links }
+        ensures at_most { length result.now ≤ length plan.now.links }
     {
         let _ = plan.ranks();
         self.into.at(r)

@@ -53,7 +53,7 @@ fn is_message(plan: &Plan, l: u32) -> bool
 fn one_message(plan: &Plan, l: u32) -> u64
     requires { l < length plan.now.links }
     ensures value { result ≡ (if is_message plan.now l then 1 else 0) }
-    ensures few { result ≤ 1 }
+    ensures at_most { result ≤ 1 }
 {
     if is_message(plan, l) { 1 } else { 0 }
 }
@@ -62,7 +62,7 @@ fn one_message(plan: &Plan, l: u32) -> u64
 fn count_messages(plan: &Plan, links: &[u32]) -> u64
     requires links { (i : ℕ) → i < length links.now → get_or links.now i 0 < length plan.now.links }
     ensures value { result ≡ count_by (is_message plan.now) links.now }
-    ensures few { result ≤ length links.now }
+    ensures at_most { result ≤ length links.now }
 {
     let mut count = 0u64;
     for l in links {
@@ -143,7 +143,7 @@ fn area_count(plan: &Plan, r: Rank, calls: &[Call], own: &[u32], out: &[u32]) ->
     requires own { own.now ≡ own_of plan.now r }
     requires out { out.now ≡ out_links plan.now r }
     ensures value { result ≡ length (classes plan.now r) }
-    ensures few { result ≤ 81 }
+    ensures at_most { result ≤ 81 }
 {
     let _ = (plan.ranks(), r);
     (calls.len() - 3 - 2 * own.len() - out.len()) as u32
@@ -155,7 +155,7 @@ fn limits(plan: &Plan, index: &Index, r: Rank, areas: u32) -> Limits
     requires index { IsIndex plan.now index.now }
     requires rank { r < plan.now.ranks }
     requires areas { areas ≡ length (classes plan.now r) }
-    requires few { areas ≤ 81 }
+    requires at_most { areas ≤ 81 }
     ensures { result ≡ limits_for plan.now r }
 {
     let own = index.own_at(plan, r).len() as u32;

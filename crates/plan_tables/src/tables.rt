@@ -77,7 +77,7 @@ impl Tables {
     pub fn area(&self, plan: &Plan, r: Rank, class: u32) -> u64
         requires tables { IsTables plan.now self.now }
         requires rank { r < plan.now.ranks }
-        requires few { plan.now.ranks ≤ 256 }
+        requires at_most { plan.now.ranks ≤ 256 }
         requires class { class < 81 }
         ensures { result ≡ area_length plan.now r class }
     {

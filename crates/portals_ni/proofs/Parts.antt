@@ -56,7 +56,7 @@ first-le n xs = rw length-take (omega arith)
 written-within : (x : Linked) (m : Sent) (r : List ℕ) → IsPartIn (length r) x → length (written (place x m.header) (new_bytes m.header.kind m.header (old_bytes x m.header r) (take (delivered x m.header) m.bytes)) r) ≡ length r
 written-within x m r part =
     let within : place x m.header + delivered x m.header ≤ length r = place-within (length r) x m.header part in
-    let few : length (new_bytes m.header.kind m.header (old_bytes x m.header r) (take (delivered x m.header) m.bytes)) ≤ delivered x m.header = new-le m.header.kind m.header (delivered x m.header) (old_bytes x m.header r) (take (delivered x m.header) m.bytes) (part-le (place x m.header) (delivered x m.header) r) (first-le (delivered x m.header) m.bytes) in
+    let at_most : length (new_bytes m.header.kind m.header (old_bytes x m.header r) (take (delivered x m.header) m.bytes)) ≤ delivered x m.header = new-le m.header.kind m.header (delivered x m.header) (old_bytes x m.header r) (take (delivered x m.header) m.bytes) (part-le (place x m.header) (delivered x m.header) r) (first-le (delivered x m.header) m.bytes) in
     length-written (place x m.header) _ r (omega arith)
 
 pub length-memory : (x : Linked) (m : Sent) (r : List ℕ) → IsPartIn (length r) x → length (memory_after x m r) ≡ length r

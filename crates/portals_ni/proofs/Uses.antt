@@ -17,7 +17,7 @@ use Rattle.triggered_ops.specs.Operations.{Operation, Operations, is_number, wai
 use Rattle.triggered_ops.proofs.Rising.{Rises, pairs-head, pairs-tail, length-filter_le}
 use Rattle.triggered_ops.proofs.Found.{find-behind}
 use Rattle.ni_objects.specs.users.Rows.{one_if_slot, one_at, count_at, incremented, decremented, more, fewer, Counts}
-use Rattle.ni_objects.proofs.users.RowLemmas.{counts-same, counts-none, counts-incremented, counts-decremented, counts-more, counts-fewer, counts-few, add-room, one-few, names-step}
+use Rattle.ni_objects.proofs.users.RowLemmas.{counts-same, counts-none, counts-incremented, counts-decremented, counts-more, counts-fewer, counts-at_most, add-room, one-at_most, names-step}
 use Rattle.portals_ni.specs.declared.armed.PostedOp.{PostedOp}
 use Rattle.portals_ni.specs.Answers.{deed_counter}
 use Rattle.portals_ni.specs.Pendings.{deed_in}
@@ -59,9 +59,9 @@ uses-without f t (x ∷ xs) w all e =
       | false ↦ λ is g. omega (arith, sum_by-cons f x xs, sum_by-cons f x rest, uses-without f t xs w (pairs-tail Rises x xs all) g)
     ] refl e
 
-uses-few : (f : Op → ℕ) (ws : List Op) → ((w : Op) → f w ≤ 2) → sum_by f ws ≤ 2 * length ws
-uses-few f [] few = omega arith
-uses-few f (w ∷ ws) few = omega (arith, sum_by-cons f w ws, few w, uses-few f ws few)
+uses-at_most : (f : Op → ℕ) (ws : List Op) → ((w : Op) → f w ≤ 2) → sum_by f ws ≤ 2 * length ws
+uses-at_most f [] at_most = omega arith
+uses-at_most f (w ∷ ws) at_most = omega (arith, sum_by-cons f w ws, at_most w, uses-at_most f ws at_most)
 
 -- ---- the rows
 
@@ -188,31 +188,31 @@ length-parts ct ops = length-filter_both (waits_on ct) (λ p. not (waits_on ct p
 
 -- ---- there is room to count an operation more
 
-ct-few : (k : ℕ) (w : Op) → ct_uses k w ≤ 2
-ct-few k w = omega (arith, one-few (Some w.ct) k, one-few (deed_counter w.deed.deed) k)
+ct-at_most : (k : ℕ) (w : Op) → ct_uses k w ≤ 2
+ct-at_most k w = omega (arith, one-at_most (Some w.ct) k, one-at_most (deed_counter w.deed.deed) k)
 
-md-few : (k : ℕ) (w : Op) → md_uses k w ≤ 2
-md-few k w = omega (arith, one-few (get_md w.deed.deed) k, one-few (put_md w.deed.deed) k)
+md-at_most : (k : ℕ) (w : Op) → md_uses k w ≤ 2
+md-at_most k w = omega (arith, one-at_most (get_md w.deed.deed) k, one-at_most (put_md w.deed.deed) k)
 
 pub room-raise : (ops : Operations PostedOp) (cts mds : List ℕ) (ct : Handle) → AreUsed ops cts mds → length ops.waiting < 2 ^ 32 → count_at ct.slot cts < 2 ^ 64 - 1
 room-raise ops cts mds ct u small =
-    omega (arith, counts-few (λ k. sum_by (ct_uses k) ops.waiting) (2 * length ops.waiting) ct.slot cts u.counters (uses-few (ct_uses ct.slot) ops.waiting (ct-few ct.slot)))
+    omega (arith, counts-at_most (λ k. sum_by (ct_uses k) ops.waiting) (2 * length ops.waiting) ct.slot cts u.counters (uses-at_most (ct_uses ct.slot) ops.waiting (ct-at_most ct.slot)))
 
 pub room-counter : (ops : Operations PostedOp) (cts mds : List ℕ) (ct : Handle) (o : Option Handle) → AreUsed ops cts mds → length ops.waiting < 2 ^ 32 → IfSome o (λ h. count_at h.slot (incremented ct.slot cts) < 2 ^ 64 - 1)
 room-counter ops cts mds ct o u small =
     let first = λ (k : ℕ). sum_by (ct_uses k) ops.waiting + one_if_slot ct.slot k in
     add-room first (2 * length ops.waiting + 1) (incremented ct.slot cts) o (counts-incremented (λ k. sum_by (ct_uses k) ops.waiting) first cts u.counters ct.slot (λ k. refl))
-    (λ k. omega (arith, uses-few (ct_uses k) ops.waiting (ct-few k), one-few (Some ct) k)) (omega arith)
+    (λ k. omega (arith, uses-at_most (ct_uses k) ops.waiting (ct-at_most k), one-at_most (Some ct) k)) (omega arith)
 
 pub room-get : (ops : Operations PostedOp) (cts mds : List ℕ) (o : Option Handle) → AreUsed ops cts mds → length ops.waiting < 2 ^ 32 → IfSome o (λ h. count_at h.slot mds < 2 ^ 64 - 1)
 room-get ops cts mds o u small =
-    add-room (λ k. sum_by (md_uses k) ops.waiting) (2 * length ops.waiting) mds o u.descriptors (λ k. uses-few (md_uses k) ops.waiting (md-few k)) (omega arith)
+    add-room (λ k. sum_by (md_uses k) ops.waiting) (2 * length ops.waiting) mds o u.descriptors (λ k. uses-at_most (md_uses k) ops.waiting (md-at_most k)) (omega arith)
 
 pub room-put : (ops : Operations PostedOp) (cts mds : List ℕ) (p o : Option Handle) → AreUsed ops cts mds → length ops.waiting < 2 ^ 32 → IfSome o (λ h. count_at h.slot (more p mds) < 2 ^ 64 - 1)
 room-put ops cts mds p o u small =
     let first = λ (k : ℕ). sum_by (md_uses k) ops.waiting + one_at p k in
     add-room first (2 * length ops.waiting + 1) (more p mds) o (counts-more (λ k. sum_by (md_uses k) ops.waiting) first mds u.descriptors p (λ k. refl))
-    (λ k. omega (arith, uses-few (md_uses k) ops.waiting (md-few k), one-few p k)) (omega arith)
+    (λ k. omega (arith, uses-at_most (md_uses k) ops.waiting (md-at_most k), one-at_most p k)) (omega arith)
 
 -- ---- what is named is what is counted
 

@@ -66,7 +66,7 @@ pub record Lasts (s : State) : Type 0 where
   pub rising : AllPairs (λ (p q : Posted). p.number < q.number) s.pending.waiting
   pub were_given : All (λ (p : Posted). p.number < s.pending.given) s.pending.waiting
   pub numbers : s.pending.given < 2 ^ 32
-  pub few : length s.pending.waiting ≤ s.pending.limit
+  pub at_most : length s.pending.waiting ≤ s.pending.limit
   -- each can be fired
   pub firing : All (CanFire s) s.pending.waiting
   -- the parts of descriptors and entries lie in the region

@@ -40,10 +40,10 @@ within bytes d c choosing =
     let ok = (comes bytes d choosing.is).readable in
     let fits : FitsChoices d.shape (Some c) = subst (FitsChoices d.shape) choosing.choices ok.choices in
     let some = ok.formed.shape.some_rank in
-    let few = ok.formed.shape.few_ranks in
-    let steps = fits.0.few in
+    let at_most = ok.formed.shape.few_ranks in
+    let steps = fits.0.at_most in
     let long = length-map c.steps kind_of in
-    record { some = omega (arith, some); few_ranks = omega (arith, few); few_steps = omega (arith, steps, long) }
+    record { some = omega (arith, some); few_ranks = omega (arith, at_most); few_steps = omega (arith, steps, long) }
 
 -- the slots that the tables of a choice world gave
 abbrev own_slots : ChoiceState → ℕ → Slots

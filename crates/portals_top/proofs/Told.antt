@@ -29,7 +29,7 @@ check-long text long = rw (lt-ltb LONGEST_CHECK (length text) long) refl
 
 -- a text that isn't too long
 pub short-text : (longest : ℕ) (text : List ℕ) → (longest < length text → ⊥) → length text ≤ longest
-short-text longest text few = elim (cases_lt longest (length text)) [ inl long ↦ absurd (few long) | inr short ↦ short ]
+short-text longest text at_most = elim (cases_lt longest (length text)) [ inl long ↦ absurd (at_most long) | inr short ↦ short ]
 
 -- two texts that are one, or both too long
 abbrev pub AreAlike : ℕ → List ℕ → List ℕ → Type 0

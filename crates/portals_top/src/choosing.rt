@@ -27,8 +27,8 @@ use text_notes::plain_note;
 
 /// Runs a choice text in the program's own order.
 fn run_choices(alloc: Global, ranks: u32, choices: &Choices) -> Result<ChoiceWorld, NoMemory>
-    requires some { 0 < ranks }
-    requires few { ranks ≤ 256 }
+    requires nonempty { 0 < ranks }
+    requires at_most { ranks ≤ 256 }
     ensures { IfOk result (λ w. IsChoiceRun ranks choices.now w) }
 {
     let mut world = ChoiceWorld::open(alloc, ranks, choices)?;
@@ -44,8 +44,8 @@ fn run_chosen_choices(
     choices: &Choices,
     seed: u64,
 ) -> Result<ChoiceWorld, NoMemory>
-    requires some { 0 < ranks }
-    requires few { ranks ≤ 256 }
+    requires nonempty { 0 < ranks }
+    requires at_most { ranks ≤ 256 }
     ensures { IfOk result (λ w. IsChoiceRun ranks choices.now w × IsChoiceInOrder seed w) }
 {
     let mut world = ChoiceWorld::open(alloc, ranks, choices)?;
@@ -64,8 +64,8 @@ fn once<K: Sink>(
     sink: &mut K,
     ran: &mut Ran,
 ) -> Status
-    requires some { 0 < ranks }
-    requires few { ranks ≤ 256 }
+    requires nonempty { 0 < ranks }
+    requires at_most { ranks ≤ 256 }
     requires none { ran.old ≡ nothing_ran }
     ensures written { Written (due_in_mode Mode.Once choices.now ran.new.choice) (K.outflow sink.old) (K.outflow sink.new) result }
     ensures world { HandsBack result Status.Done (LeavesChosen (Command.Execute Mode.Once) ranks choices.now) ran.new }
@@ -90,8 +90,8 @@ fn sim<K: Sink>(
     sink: &mut K,
     ran: &mut Ran,
 ) -> Status
-    requires some { 0 < ranks }
-    requires few { ranks ≤ 256 }
+    requires nonempty { 0 < ranks }
+    requires at_most { ranks ≤ 256 }
     requires none { ran.old ≡ nothing_ran }
     ensures written { Written (due_in_mode (Mode.Sim seed) choices.now ran.new.choice) (K.outflow sink.old) (K.outflow sink.new) result }
     ensures world { HandsBack result Status.Done (LeavesChosen (Command.Execute (Mode.Sim seed)) ranks choices.now) ran.new }
@@ -126,8 +126,8 @@ fn in_mode<K: Sink>(
     ran: &mut Ran,
     told: &mut Option<Note>,
 ) -> Status
-    requires some { 0 < ranks }
-    requires few { ranks ≤ 256 }
+    requires nonempty { 0 < ranks }
+    requires at_most { ranks ≤ 256 }
     requires none { ran.old ≡ nothing_ran }
     ensures written { Written (due_in_mode mode choices.now ran.new.choice) (K.outflow sink.old) (K.outflow sink.new) result }
     ensures world { HandsBack result (due_in_mode mode choices.now ran.new.choice).status

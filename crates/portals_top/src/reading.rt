@@ -26,7 +26,7 @@ fn read_piece<S: Source>(
     most: usize,
     text: &mut Vec<u8>,
 ) -> Result<usize, ReadError>
-    requires some { 0 < most }
+    requires nonempty { 0 < most }
     requires room { most ≤ length piece.old }
     ensures added { IfOk result (λ n. text.new.items ≡ text.old.items ++ take n piece.new) }
     ensures front { IfOk result (λ n. GivesFront (S.inflow source.old).left (S.inflow source.new).left (take n piece.new)) }

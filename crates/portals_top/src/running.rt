@@ -91,8 +91,8 @@ fn close_steady<R: Threads + Wait + Sync, G: Gate + Drop>(
 ) -> (World, SpentWires)
     requires hands { All (λ h. IsFree fabric.turns h) hands.items }
     requires all { parts_of hands.items ≡ 2 ^ 32 }
-    requires some { 0 < length hands.items }
-    requires few { length hands.items < 2 ^ 32 }
+    requires nonempty { 0 < length hands.items }
+    requires at_most { length hands.items < 2 ^ 32 }
     requires lanes { IsFor (plan_of fabric.job.shape) wave }
     ensures shape { result.0.shape ≡ fabric.job.shape }
     ensures inputs { result.0.inputs ≡ fabric.job.inputs }

@@ -69,8 +69,8 @@ rising-filter t k (suc n) = at (t k) (rising-filter t (suc k) n)
     at false rest = rest
 
 -- ---- as many as there are numbers, at most
-few-numbered : (t : ℕ → Bool) (n : ℕ) → length (filter t (from_to 0 n)) ≤ n
-few-numbered t n =
+at_most-numbered : (t : ℕ → Bool) (n : ℕ) → length (filter t (from_to 0 n)) ≤ n
+at_most-numbered t n =
     let f = length-filter t (from_to 0 n) in
     let g = count_by-le-length t (from_to 0 n) in
     let k = length-from_to 0 n in
@@ -143,7 +143,7 @@ module _ (p : Plan) (inputs : Inputs) (sound : SoundPlan p (length inputs)) (r :
       let short = longest-le p (out_links p r) l i in
       let same : a.length ≡ (cell p (link p l).target).length = size ∙ (s.atomic_whole (s.atomic_here o e)).1 in (
         record { target_known = omega arith; short = omega arith },
-        record { whole = ap (λ n. n % bytes_of (cell p (link p l).target).ty) same ∙ sound.whole (link p l).target s.cells; few = omega arith },
+        record { whole = ap (λ n. n % bytes_of (cell p (link p l).target).ty) same ∙ sound.whole (link p l).target s.cells; at_most = omega arith },
       )
 
   wired-send : (w : RankOp) → In w (rank_ops p r) → IsWired (own p r) all_made (act_of p w) × MaySend p.ranks (limits_for p r) (act_of p w)
@@ -225,15 +225,15 @@ module _ (p : Plan) (inputs : Inputs) (sound : SoundPlan p (length inputs)) (r :
       omega arith
 
   few_limits : length p.cells + length p.links < 2 ^ 27 → FitLimits (limits_for p r)
-  few_limits few =
-      let a = few-numbered (λ k. has_class p k (links_to p r)) 81 in
-      let b = few-numbered (λ c. (cell p c).rank == r) (length p.cells) in
-      let c = few-numbered (comes_to p r) (length p.links) in
-      let d = few-numbered (λ l. (cell p (link p l).source).rank == r) (length p.links) in
-      (omega (arith, a, b, c, few), omega (arith, b, d, few), omega (arith, b, few))
+  few_limits at_most =
+      let a = at_most-numbered (λ k. has_class p k (links_to p r)) 81 in
+      let b = at_most-numbered (λ c. (cell p c).rank == r) (length p.cells) in
+      let c = at_most-numbered (comes_to p r) (length p.links) in
+      let d = at_most-numbered (λ l. (cell p (link p l).source).rank == r) (length p.links) in
+      (omega (arith, a, b, c, at_most), omega (arith, b, d, at_most), omega (arith, b, at_most))
 
   pub compiled-is : (t : Task) → length p.cells + length p.links < 2 ^ 27 → r < p.ranks → IsCompiledFor p inputs r t → IsCompiled t
-  compiled-is t few known f =
+  compiled-is t at_most known f =
       let go = sound.go_needs r known in
       let all = sound.all_go in
       let here : In r (own p r) = In-own p r r (omega arith) go.2 in
@@ -247,10 +247,10 @@ module _ (p : Plan) (inputs : Inputs) (sound : SoundPlan p (length inputs)) (r :
         descriptors = ap (λ (n : Counted). n.descriptors) made;
         enough = subst (λ (n : Counted). Fits (record n { entries = n.entries + length t.own }) (room_under t.limits)) (sym made)
             (subst (λ l. Fits (record all_made { entries = all_made.entries + length t.own }) (room_under l)) (sym f.limits) (record { counters = omega arith; entries = omega arith; descriptors = omega arith }));
-        fit = subst FitLimits (sym f.limits) (few_limits few);
+        fit = subst FitLimits (sym f.limits) (few_limits at_most);
         go = rw (f.cells, f.go) (place_in-lt (own p r) r here);
         own = rw (f.cells, f.own) (own_have (own p r) (λ d i. i));
-        few = subst (λ n. n < 2 ^ 33) (sym f.receipts) few_receipts;
+        at_most = subst (λ n. n < 2 ^ 33) (sym f.receipts) few_receipts;
       }
 
 -- ---- it gives the prepared interface, and starts it

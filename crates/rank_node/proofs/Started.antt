@@ -50,7 +50,7 @@ module _ (e : Entry) (s t : State) (hs : Handles) (h : Handle) (taken : ℕ → 
         ap (λ (d : Done (Result Appended NiFault)). d.state) makes.ended ∙ ap (λ n. (me_append n 0 Priority e s).state) slot;
     kept = λ k g. record { counters = g.counters; entries = tells-front k.me hs.entries h g.entries; descriptors = g.descriptors };
     all = subst (λ v. AreAllOf v (with_entry_handle h hs)) (sym gone.state) all_left;
-    only = record { counters = refl; descriptors = refl; room = refl; few = let l = length-push hs.entries h in omega arith };
+    only = record { counters = refl; descriptors = refl; room = refl; at_most = let l = length-push hs.entries h in omega arith };
   }
 
 -- a use-once entry alone is consumed
@@ -68,7 +68,7 @@ appended-refused e s t hs fault taken makes all =
       state = λ k g. r.state ∙ sym (ap (λ o. (ends_by o s (with_parts (append (k.me s.entries_given) 0 Priority e (parts_of s)).parts s) (append (k.me s.entries_given) 0 Priority e (parts_of s)).appended).state) r.is);
       kept = λ k g. g;
       all = subst (λ v. AreAllOf v hs) (sym r.state) all;
-      only = record { counters = refl; descriptors = refl; room = refl; few = omega arith };
+      only = record { counters = refl; descriptors = refl; room = refl; at_most = omega arith };
     }
 
 -- ---- one cell
@@ -89,7 +89,7 @@ started-by longest cells ct c e s v t a b is brought one counter =
 
 -- ---- the cells of a list, and one more
 pub started-none : (longest : ℕ) (cells : List ℕ) (s : State) (a : Handles) → AreAllOf s a → AreStarted longest cells [] s s a a
-started-none longest cells s a all = record { state = λ k g. refl; kept = λ k g. g; all = all; only = record { counters = refl; descriptors = refl; room = refl; few = omega arith } }
+started-none longest cells s a all = record { state = λ k g. refl; kept = λ k g. g; all = all; only = record { counters = refl; descriptors = refl; room = refl; at_most = omega arith } }
 
 cells-push : (longest : ℕ) (k : Slots) (cells : List ℕ) (front : List OwnCell) (c : OwnCell) (s : State) → cells_started longest k cells (front ++ c ∷ []) s ≡ cell_started longest k.me (counter_at k cells c.number) c (cells_started longest k cells front s)
 cells-push longest k cells [] c s = refl
@@ -104,7 +104,7 @@ started-next longest cells front c s t u a b d m n = record {
     counters = n.only.counters ∙ m.only.counters;
     descriptors = n.only.descriptors ∙ m.only.descriptors;
     room = n.only.room ∙ m.only.room;
-    few = let x = m.only.few in let y = n.only.few in let l = length-push front c in omega arith;
+    at_most = let x = m.only.at_most in let y = n.only.at_most in let l = length-push front c in omega arith;
   };
 }
 

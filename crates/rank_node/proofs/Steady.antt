@@ -194,8 +194,8 @@ found-number t (q ∷ qs) p e =
 abbrev others : ℕ → List Posted → List Posted
 others n ps = filter (λ (q : Posted). not (is_number n q)) ps
 
-others-few : (n : ℕ) (ps : List Posted) → length (others n ps) ≤ length ps
-others-few n ps =
+others-at_most : (n : ℕ) (ps : List Posted) → length (others n ps) ≤ length ps
+others-at_most n ps =
     let f = length-filter (λ (q : Posted). not (is_number n q)) ps in
     let g = count_by-le-length (λ (q : Posted). not (is_number n q)) ps in
     omega arith
@@ -207,7 +207,7 @@ fewer t (q ∷ qs) p e =
       | true ↦ λ is found.
           let same : q ≡ p = cc in
           let here : (q.number == p.number) ≡ true = equal-is q.number p.number (ap (λ (x : Posted). x.number) same) in
-          let few = others-few p.number qs in
+          let at_most = others-at_most p.number qs in
           subst (λ c. length (if not c then q ∷ others p.number qs else others p.number qs) < suc (length qs)) (sym here) (omega arith)
       | false ↦ λ is found.
           let less = fewer t qs p found in

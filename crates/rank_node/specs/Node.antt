@@ -80,7 +80,7 @@ pub record IsCompiled (t : Task) : Type 0 where
   pub fit : FitLimits t.limits
   pub go : place_in t.cells t.go < length t.cells
   pub own : All (λ (x : OwnCell). place_in t.cells x.number < length t.cells) t.own
-  pub few : t.receipts < 2 ^ 33
+  pub at_most : t.receipts < 2 ^ 33
 
 -- the interface and its handles after the calls
 pub record IsPrepared (t : Task) (nic : State) (hs : Handles) : Type 0 where

@@ -14,7 +14,7 @@ pub record OnlyEntries (before after : Handles) (most : ℕ) : Type 0 where
   pub counters : after.counters ≡ before.counters
   pub descriptors : after.descriptors ≡ before.descriptors
   pub room : after.room ≡ before.room
-  pub few : length after.entries ≤ length before.entries + most
+  pub at_most : length after.entries ≤ length before.entries + most
 
 -- one append
 pub record IsAppended (e : Entry) (old new : State) (before after : Handles) : Type 0 where

@@ -231,32 +231,32 @@ sends-are p r (l ∷ xs) = at ((cell p (link p l).source).rank == r) (sends-are 
 module _ (p : Plan) (r : ℕ) (h : List Local) (heard : (s : ℕ) (lane : Lane) → KeepsBounds (bounds_on p s r lane) (got h s lane)) where
   requests : sum_by (whole Request (λ m. 1)) h ≤ length (links_to p r)
   requests =
-      let a = came Request (λ m. 1) h (λ s. sum_by (λ l. 1) (lane_links p s r)) (λ s. let x = ones (got h s Request) in let y = ones (lane_links p s r) in let z = (heard s Request).few in omega (arith, x, y, z)) in
+      let a = came Request (λ m. 1) h (λ s. sum_by (λ l. 1) (lane_links p s r)) (λ s. let x = ones (got h s Request) in let y = ones (lane_links p s r) in let z = (heard s Request).at_most in omega (arith, x, y, z)) in
       let b = links-in p r (λ l. 1) (above h) in
       let c = ones (links_to p r) in
       omega (arith, a, b, c)
 
   answers : sum_by (whole Answer (λ m. 1)) h ≤ cond p.remote (sends_of p r) 0
-  answers = at p.remote (λ s. (heard s Answer).few)
+  answers = at p.remote (λ s. (heard s Answer).at_most)
     where
       at : (b : Bool) → ((s : ℕ) → length (got h s Answer) ≤ cond b (length (lane_links p r s)) 0) → sum_by (whole Answer (λ m. 1)) h ≤ cond b (sends_of p r) 0
-      at true few =
-          let a = came Answer (λ m. 1) h (λ s. sum_by (λ l. 1) (lane_links p r s)) (λ s. let x = ones (got h s Answer) in let y = ones (lane_links p r s) in let z = few s in omega (arith, x, y, z)) in
+      at true at_most =
+          let a = came Answer (λ m. 1) h (λ s. sum_by (λ l. 1) (lane_links p r s)) (λ s. let x = ones (got h s Answer) in let y = ones (lane_links p r s) in let z = at_most s in omega (arith, x, y, z)) in
           let b = links-out p r (λ l. 1) (above h) in
           let c = sends-are p r (all_links p) in
           omega (arith, a, b, c)
-      at false few =
-          let a = came Answer (λ m. 1) h (λ s. 0) (λ s. let x = ones (got h s Answer) in let z = few s in omega (arith, x, z)) in
+      at false at_most =
+          let a = came Answer (λ m. 1) h (λ s. 0) (λ s. let x = ones (got h s Answer) in let z = at_most s in omega (arith, x, z)) in
           let b = total-none (above h) in
           omega (arith, a, b)
 
   -- no more receipts than the plan says
-  pub few-receipts : count_by is_receipt h ≤ length (links_to p r) + cond p.remote (sends_of p r) 0
-  few-receipts = let a = receipts-are h in let b = requests in let c = answers in omega (arith, a, b, c)
+  pub at_most-receipts : count_by is_receipt h ≤ length (links_to p r) + cond p.remote (sends_of p r) 0
+  at_most-receipts = let a = receipts-are h in let b = requests in let c = answers in omega (arith, a, b, c)
 
   -- and no more bytes
-  pub few-bytes : bytes_received h ≤ sum_by (λ l. (link p l).length) (links_to p r)
-  few-bytes =
+  pub at_most-bytes : bytes_received h ≤ sum_by (λ l. (link p l).length) (links_to p r)
+  at_most-bytes =
       let a = came Request (λ m. length m.bytes) h (λ s. sum_by (λ l. (link p l).length) (lane_links p s r)) (λ s. (heard s Request).short) in
       let b = links-in p r (λ l. (link p l).length) (above h) in
       let c = came Answer (λ m. length m.bytes) h (λ s. 0) (λ s. (heard s Answer).short) in
@@ -273,11 +273,11 @@ pub has-room : (p : Plan) (inputs : Inputs) (n : NodeState) (s : ℕ) (lane : La
     → ((q : ℕ) (l : Lane) → KeepsBounds (bounds_on p q n.task.rank l) (got (n.diary.locals ++ Receive s lane m ∷ []) q l)) → HasRoom n m
 has-room p inputs n s lane m compiled is strays heard =
     let r = n.task.rank in let later = n.diary.locals ++ Receive s lane m ∷ [] in
-    let a = few-receipts p r later heard in
+    let a = at_most-receipts p r later heard in
     let b = receipts-push n.diary.locals (Receive s lane m) in
     let c = is.receipts in
     let d = compiled.receipts in
-    let e = few-bytes p r later heard in
+    let e = at_most-bytes p r later heard in
     let f = bytes-push n.diary.locals (Receive s lane m) in
     let g = is.bytes in
     let i = compiled.bytes in record {
@@ -286,8 +286,8 @@ has-room p inputs n s lane m compiled is strays heard =
     }
 
 -- ---- a history is short
-few-out : (p : Plan) (r : ℕ) → length (out_links p r) ≤ length p.links
-few-out p r =
+at_most-out : (p : Plan) (r : ℕ) → length (out_links p r) ≤ length p.links
+at_most-out p r =
     let a = length-filter (λ l. (cell p (link p l).source).rank == r) (all_links p) in
     let b = count_by-le-length (λ l. (cell p (link p l).source).rank == r) (all_links p) in
     let c = length-from_to 0 (length p.links) in
@@ -298,9 +298,9 @@ short-history p inputs sound n compiled is strays =
     let r = n.task.rank in let k = slots_of n.kept in
     let a = few_steps p k r (start_of p k r) n.diary.locals (prepare p inputs k r) (prepared_of p inputs sound k r) (run-legal p inputs k r n compiled is (agrees n.kept is.descriptors)) in
     let b = length-rank_ops p r in
-    let c = few-out p r in
+    let c = at_most-out p r in
     let d = length-own-le p r in
     let e = is.receipts in
-    let f = is.compiled.few in
+    let f = is.compiled.at_most in
     let g = sound.few_together in
     omega (arith, a, b, c, d, e, f, g, strays)

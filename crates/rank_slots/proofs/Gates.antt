@@ -152,7 +152,7 @@ free-more outs at q now before i y below b = ⊎_elim
 pub record Found (outs : List OutPort) (at : ℕ) (m : Sent) (p : OutPort) : Type 0 where
   pub within : at < length outs
   pub there : get_elem? outs at ≡ some p
-  pub goal : p.target ≡ m.header.target
+  pub destination : p.target ≡ m.header.target
   pub lane : p.lane ≡ lane_of m.header.kind
 
 pub found : (outs seen : List OutPort) (at : ℕ) (m : Sent) (o p : OutPort) (d : ℕ) (l : Lane) → seen ≡ outs → get_elem? seen at ≡ some o → o.target ≡ d → o.lane ≡ l → d ≡ m.header.target → l ≡ lane_of m.header.kind

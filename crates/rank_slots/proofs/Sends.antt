@@ -104,12 +104,12 @@ module _ (p : Plan) (inputs : Inputs) (sound : SoundPlan p (length inputs)) (n :
   travels d lane = all-in (Travels (bounds_on p r d lane)) (sent go first n.diary.locals d lane)
       (λ m i. let q = In-filter_cases (is_for d lane) m (made go first n.diary.locals) i in let f = of-for d lane m q.1 in (source-is m q.0, f.0, f.1))
 
-  few : (d : ℕ) (lane : Lane) → HasHeard p n → is_used_lane p r d lane ≡ true → length (sent go first n.diary.locals d lane) ≤ lane_messages p r d lane
-  few d Request heard used = few_messages p k r go n.diary.locals false first of legal d
-  few d Answer heard used = at p.remote used
+  at_most : (d : ℕ) (lane : Lane) → HasHeard p n → is_used_lane p r d lane ≡ true → length (sent go first n.diary.locals d lane) ≤ lane_messages p r d lane
+  at_most d Request heard used = few_messages p k r go n.diary.locals false first of legal d
+  at_most d Answer heard used = at p.remote used
     where
       at : (b : Bool) → nat_lt 0 (cond b (length (lane_links p d r)) 0) ≡ true → length (sent go first n.diary.locals d Answer) ≤ cond b (length (lane_links p d r)) 0
-      at true e = let a = few_answers p k r go n.diary.locals false first of legal d in let h = (heard d Request).few in omega (arith, a, h)
+      at true e = let a = few_answers p k r go n.diary.locals false first of legal d in let h = (heard d Request).at_most in omega (arith, a, h)
       at false e = cc
 
   short : (d : ℕ) (lane : Lane) → bytes_in (sent go first n.diary.locals d lane) ≤ bytes_on p r d lane
@@ -119,4 +119,4 @@ module _ (p : Plan) (inputs : Inputs) (sound : SoundPlan p (length inputs)) (n :
 
   -- what was sent on a lane that is used
   pub keeps-sent : (d : ℕ) (lane : Lane) (ms : List Sent) → HasHeard p n → is_used_lane p r d lane ≡ true → HasSent p inputs n d lane ms → KeepsBounds (bounds_on p r d lane) ms
-  keeps-sent d lane ms heard used has = subst (KeepsBounds (bounds_on p r d lane)) (sym (has k agreed)) (record { travel = travels d lane; few = few d lane heard used; short = short d lane })
+  keeps-sent d lane ms heard used has = subst (KeepsBounds (bounds_on p r d lane)) (sym (has k agreed)) (record { travel = travels d lane; at_most = at_most d lane heard used; short = short d lane })

@@ -96,7 +96,7 @@ pub fn put_in(slots: &mut [TurnRank], rank: Rank, port: InPort) -> Result<(), No
 /// The last out end of a rank, which has one, leaves its slot.
 pub fn pull_out(slots: &mut [TurnRank], rank: Rank) -> OutPort
     requires rank { rank < length slots.old }
-    requires some { (x : TurnRank) → get_elem? slots.old rank ≡ some x → 0 < length x.outs.items }
+    requires nonempty { (x : TurnRank) → get_elem? slots.old rank ≡ some x → 0 < length x.outs.items }
     ensures count { length slots.new ≡ length slots.old }
     ensures port { (x : TurnRank) → get_elem? slots.old rank ≡ some x → OutOk (plan_of x.job.shape) x.job.inputs x.node.value result }
     ensures pulled { Slotwise (LosesOut rank result) slots.old slots.new }
@@ -107,7 +107,7 @@ pub fn pull_out(slots: &mut [TurnRank], rank: Rank) -> OutPort
 /// The last in end of a rank, which has one, leaves its slot.
 pub fn pull_in(slots: &mut [TurnRank], rank: Rank) -> InPort
     requires rank { rank < length slots.old }
-    requires some { (x : TurnRank) → get_elem? slots.old rank ≡ some x → 0 < length x.ins.items }
+    requires nonempty { (x : TurnRank) → get_elem? slots.old rank ≡ some x → 0 < length x.ins.items }
     ensures count { length slots.new ≡ length slots.old }
     ensures port { (x : TurnRank) → get_elem? slots.old rank ≡ some x → InOk (plan_of x.job.shape) x.node.value result }
     ensures pulled { Slotwise (LosesIn rank result) slots.old slots.new }

@@ -12,7 +12,7 @@ use Rattle.cuts.proofs.start.Starting.{length-from_to}
 use Rattle.cuts.proofs.histories.Told.{count-out-le}
 use Rattle.plan_tables.specs.Tables.{from_rank, link_length, to_rank}
 use Rattle.plan_tables.proofs.ByClass.{filter-alike}
-use Rattle.plan_tables.proofs.Room.{few-link_bytes, sound-tabled}
+use Rattle.plan_tables.proofs.Room.{at_most-link_bytes, sound-tabled}
 use Rattle.plan_tables.proofs.Sums.{sum-filter_le}
 
 -- a message comes to r along the link, from a rank below k
@@ -98,16 +98,16 @@ all-bytes p inputs r sound =
     (λ l h. ap (λ v. comes_to p r l && v) (lt-ltb _ _ (t.ranks_known _ (t.sources l (omega (arith, h))))) ∙ and-true (comes_to p r l)))
 
 -- ---- they are few
-pub few-bytes_below : (p : Plan) (inputs r k : ℕ) → SoundPlan p inputs → bytes_below p r k < 2 ^ 64
-few-bytes_below p inputs r k sound =
+pub at_most-bytes_below : (p : Plan) (inputs r k : ℕ) → SoundPlan p inputs → bytes_below p r k < 2 ^ 64
+at_most-bytes_below p inputs r k sound =
     let a = sum-filter_le (from_below p r k) (link_length p) (all_links p) in
-    let b = few-link_bytes p (sound-tabled p inputs sound) in
+    let b = at_most-link_bytes p (sound-tabled p inputs sound) in
     omega (arith, a, b)
 
 -- ---- and so are the messages
-pub few-messages : (p : Plan) (inputs r : ℕ) → SoundPlan p inputs → length (links_to p r) + cond p.remote (sends_of p r) 0 < 2 ^ 33
-few-messages p inputs r sound = at p.remote
+pub at_most-messages : (p : Plan) (inputs r : ℕ) → SoundPlan p inputs → length (links_to p r) + cond p.remote (sends_of p r) 0 < 2 ^ 33
+at_most-messages p inputs r sound = at p.remote
   where
     at : (b : Bool) → length (links_to p r) + cond b (sends_of p r) 0 < 2 ^ 33
-    at true = let f = length-filter (comes_to p r) (all_links p) in let g = count_by-le-length (comes_to p r) (all_links p) in let k = length-from_to 0 (length p.links) in let s = count-out-le p r in let few = sound.few_together in omega (arith, f, g, k, s, few)
-    at false = let f = length-filter (comes_to p r) (all_links p) in let g = count_by-le-length (comes_to p r) (all_links p) in let k = length-from_to 0 (length p.links) in let few = sound.few_together in omega (arith, f, g, k, few)
+    at true = let f = length-filter (comes_to p r) (all_links p) in let g = count_by-le-length (comes_to p r) (all_links p) in let k = length-from_to 0 (length p.links) in let s = count-out-le p r in let at_most = sound.few_together in omega (arith, f, g, k, s, at_most)
+    at false = let f = length-filter (comes_to p r) (all_links p) in let g = count_by-le-length (comes_to p r) (all_links p) in let k = length-from_to 0 (length p.links) in let at_most = sound.few_together in omega (arith, f, g, k, at_most)

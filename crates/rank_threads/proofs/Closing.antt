@@ -110,9 +110,9 @@ module _ (job : JobOf) (sound : IsSound job) (slots : List TurnRank) (wires : Li
   got-none : (s r : ℕ) (lane : Lane) → r < n → is_used_lane p s r lane ≡ false → got (w r) s lane ≡ []
   got-none s r lane h e =
       let t = tied-at r h in
-      let few = (subst (λ q. KeepsBounds (bounds_on p s q lane) (got (w r) s lane)) t.rank (t.tied.heard s lane)).few in
+      let at_most = (subst (λ q. KeepsBounds (bounds_on p s q lane) (got (w r) s lane)) t.rank (t.tied.heard s lane)).at_most in
       let z = unused-none (lane_messages p s r lane) e in
-      none (got (w r) s lane) (omega (arith, few, z))
+      none (got (w r) s lane) (omega (arith, at_most, z))
 
   past-unused : (s r : ℕ) (lane : Lane) → n ≤ s → is_used_lane p s r lane ≡ false
   past-unused s r lane past = at (is_used_lane p s r lane) refl
@@ -127,7 +127,7 @@ module _ (job : JobOf) (sound : IsSound job) (slots : List TurnRank) (wires : Li
   -- ---- lanes that are used
   record IsUsedAt (s d : ℕ) (lane : Lane) : Type 0 where
     has : HasSent p job.inputs (node_at nodes s) d lane (got (w d) s lane ++ lies s d lane)
-    few : length (lies s d lane) ≤ 4
+    at_most : length (lies s d lane) ≤ 4
     room : (lane_at ls (lane_place n s d lane)).capacity ≡ min 4 (lane_messages p s d lane)
 
   used-at : (s d : ℕ) (lane : Lane) → s < n → d < n → is_used_lane p s d lane ≡ true → IsUsedAt s d lane
@@ -147,7 +147,7 @@ module _ (job : JobOf) (sound : IsSound job) (slots : List TurnRank) (wires : Li
       let held = l.held x.slot y.slot (ap (get_elem? slots) es ∙ x.there) (ap (get_elem? slots) ed ∙ y.there) in record {
         has = subst (λ (z : (JobOf × NodeState) × ((ℕ × Lane) × List Sent)). HasSent (plan_of z.0.0.shape) z.0.0.inputs z.0.1 z.1.0.0 z.1.0.1 z.1.1)
             (λ i. ((q.job_is i, sym x.node_is i), ((ed i, el i), got (sym y.node_is i).diary.locals (es i) (el i) ++ (here i).messages))) held;
-        few = subst (λ (z : Plain). length z.messages ≤ 4) here l.few;
+        at_most = subst (λ (z : Plain). length z.messages ≤ 4) here l.at_most;
         room = ap (λ (z : Plain). z.capacity) (sym here) ∙ (l.room ∙ ap (min 4) all);
       }
 
@@ -198,7 +198,7 @@ module _ (job : JobOf) (sound : IsSound job) (slots : List TurnRank) (wires : Li
   has-room s d lane hs hd false e = let z = unused-none (lane_messages p s d lane) e in omega (arith, z)
 
   is-within : (s d : ℕ) (lane : Lane) → s < n → d < n → (b : Bool) → is_used_lane p s d lane ≡ b → length (lies s d lane) ≤ 4
-  is-within s d lane hs hd true e = (used-at s d lane hs hd e).few
+  is-within s d lane hs hd true e = (used-at s d lane hs hd e).at_most
   is-within s d lane hs hd false e = let z = ap (λ (v : Plain). length v.messages) (unused s d lane hs hd e) in omega (arith, z)
 
   abbrev frame : FrameState

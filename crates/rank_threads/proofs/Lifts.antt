@@ -72,7 +72,7 @@ held-before b old new l s n h x y ex ey =
     (λ j. ((u.2.job_is j, u.2.node j), v.2.node j)) (h u.0 v.0 u.1 v.1)
 
 pub lifted-before : (b : Bounds) (old new : List TurnRank) (l : Plain) → Slotwise SameNode old new → length new ≡ length old → IsLifted b new l → IsLifted b old l
-lifted-before b old new l s n h = record { held = held-before b old new l s n h.held; few = h.few; room = h.room }
+lifted-before b old new l s n h = record { held = held-before b old new l s n h.held; at_most = h.at_most; room = h.room }
 
 -- ---- one after the other
 module _ (n : ℕ) where
@@ -103,7 +103,7 @@ module _ (p : Plan) (n : ℕ) (ranks : p.ranks ≡ n) (all : List WireState) (ar
       (subst (λ m. w.bounds.source < m) ranks h.source, subst (λ m. w.bounds.target < m) ranks h.target)
 
   one-wire : (i k : ℕ) (v w : WireState) → get_elem? all i ≡ some v → get_elem? all k ≡ some w → OnLane v w.bounds.source w.bounds.target w.bounds.lane → i ≡ k
-  one-wire i k v w ei ek o = are.once i k v.bounds w.bounds (bounds-at i v ei) (bounds-at k w ek) o.source o.goal o.kind
+  one-wire i k v w ei ek o = are.once i k v.bounds w.bounds (bounds-at i v ei) (bounds-at k w ek) o.source o.destination o.kind
 
   pub none-lifted : AreLifted n all slots first (length all) first
   none-lifted = record { left = λ s d lane hs hd h. refl; done = λ k w h e. absurd (let q = inside all k w e in omega (arith, h, q)) }
@@ -147,4 +147,4 @@ module _ (p : Plan) (n : ℕ) (ranks : p.ranks ≡ n) (all : List WireState) (ar
   -- no wire is left
   pub unused-left : (ls : List Plain) → AreLifted n all slots first 0 ls → (s d : ℕ) (lane : Lane) → s < n → d < n → is_used_lane p s d lane ≡ false → at_place n ls s d lane ≡ at_place n first s d lane
   unused-left ls h s d lane hs hd none = h.left s d lane hs hd
-      (λ k w low e o. two (sym (λ j. is_used_lane p (o.source j) (o.goal j) (o.kind j)) ∙ (is-lane k w e).used) none)
+      (λ k w low e o. two (sym (λ j. is_used_lane p (o.source j) (o.destination j) (o.kind j)) ∙ (is-lane k w e).used) none)

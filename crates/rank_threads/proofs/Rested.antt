@@ -117,7 +117,7 @@ module _ (f : FabricState) (sound : IsSound f.job) (hands : List (HandState Turn
 pub no-stray : (w : WorldState) (slots : ℕ → Slots) → IsStanding w → w.spare ≡ 0 → (plan_of w.shape).ranks ≡ w.shape.ranks
     → HasNoStray (system_of (plan_of w.shape) w.inputs slots) (histories_in w)
 no-stray w slots s spare ranks r q lane m low low' i =
-    let few = s.few r (omega (arith, low, ranks)) in none-stray (histories_in w r) q lane m (omega (arith, few, spare)) i
+    let at_most = s.at_most r (omega (arith, low, ranks)) in none-stray (histories_in w r) q lane m (omega (arith, at_most, spare)) i
 
 -- a cut at rest is one in other words
 pub rest-same : (s : System) (v w : Histories) → ((r : ℕ) → r < s.count → v r ≡ w r) → IsAtRest s v → IsAtRest s w

@@ -27,7 +27,7 @@ IsHeldOn b slots l = (x y : TurnRank) → get_elem? slots b.source ≡ some x �
 -- and no more than four messages; it has room for four, or for all that may ever be sent on it where these are fewer
 pub record IsLifted (b : Bounds) (slots : List TurnRank) (l : Plain) : Type 0 where
   pub held : IsHeldOn b slots l
-  pub few : length l.messages ≤ 4
+  pub at_most : length l.messages ≤ 4
   pub room : l.capacity ≡ min 4 b.messages
 
 -- ---- the ranks

@@ -114,7 +114,7 @@ fn assist_all<G: Gate + Drop, R: Threads + Wait + Sync>(
     hands: &mut [Hand],
 )
     requires hands { All (λ h. IsFree fabric.now.turns h) hands.old }
-    requires few { length hands.old < 2 ^ 32 - 1 }
+    requires at_most { length hands.old < 2 ^ 32 - 1 }
     ensures hands { All (λ h. IsFree fabric.now.turns h) hands.new }
     ensures parts { parts_of hands.new ≡ parts_of hands.old }
 {
@@ -151,7 +151,7 @@ fn run_all<G: Gate + Drop, R: Threads + Wait + Sync>(
     requires leader { IsFree fabric.now.turns leader.old }
     requires lanes { IsFor (plan_of fabric.now.job.shape) wave.old }
     requires others { All (λ h. IsFree fabric.now.turns h) others.old }
-    requires few { length others.old < 2 ^ 32 - 1 }
+    requires at_most { length others.old < 2 ^ 32 - 1 }
     ensures leader { IsFree fabric.now.turns leader.new }
     ensures part { leader.new.knows.parts ≡ leader.old.knows.parts }
     ensures lanes { IsFor (plan_of fabric.now.job.shape) wave.new }
@@ -187,8 +187,8 @@ pub fn run_steady<G: Gate + Drop, R: Threads + Wait + Sync>(
     wave: &mut Wave,
 )
     requires hands { All (λ h. IsFree fabric.now.turns h) hands.old }
-    requires some { 0 < length hands.old }
-    requires few { length hands.old < 2 ^ 32 }
+    requires nonempty { 0 < length hands.old }
+    requires at_most { length hands.old < 2 ^ 32 }
     requires lanes { IsFor (plan_of fabric.now.job.shape) wave.old }
     ensures hands { All (λ h. IsFree fabric.now.turns h) hands.new }
     ensures parts { parts_of hands.new ≡ parts_of hands.old }

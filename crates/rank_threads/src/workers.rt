@@ -178,8 +178,8 @@ impl<G: Gate + Drop> Fabric<G> {
 
 // The first of a worker's own ranks: each worker's ranks end where the next one's begin, and the last one's end is the number of ranks.
 pub(crate) fn block_start(worker: u64, workers: u64, ranks: u32) -> u32
-    requires some { 0 < workers }
-    requires few { workers < 2 ^ 32 }
+    requires nonempty { 0 < workers }
+    requires at_most { workers < 2 ^ 32 }
     requires worker { worker ≤ workers }
     ensures exact { result ≡ worker * ranks / workers }
     ensures within { result ≤ ranks }
@@ -194,8 +194,8 @@ pub fn run_workers<G: Gate + Drop, R: Threads + Wait + Sync>(
     hands: &mut [Hand],
 )
     requires hands { All (λ h. IsFree fabric.now.turns h) hands.old }
-    requires some { 0 < length hands.old }
-    requires few { length hands.old < 2 ^ 32 }
+    requires nonempty { 0 < length hands.old }
+    requires at_most { length hands.old < 2 ^ 32 }
     ensures hands { All (λ h. IsFree fabric.now.turns h) hands.new }
     ensures swept { All (λ h. HasSwept fabric.now h) hands.new }
     ensures parts { parts_of hands.new ≡ parts_of hands.old }
@@ -228,8 +228,8 @@ pub fn run_keeping<G: Gate + Drop, R: Threads + Wait + Sync>(
 ) -> (World, SpentWires)
     requires hands { All (λ h. IsFree fabric.turns h) hands.items }
     requires all { parts_of hands.items ≡ 2 ^ 32 }
-    requires some { 0 < length hands.items }
-    requires few { length hands.items < 2 ^ 32 }
+    requires nonempty { 0 < length hands.items }
+    requires at_most { length hands.items < 2 ^ 32 }
     ensures world { IsWorked fabric (length hands.items) result.0 }
     ensures kept { IsStanding result.0 }
     ensures barriers { (slots : ℕ → Slots) → AreSlots result.0 slots →
@@ -249,8 +249,8 @@ pub fn run_and_close<G: Gate + Drop, R: Threads + Wait + Sync>(
 ) -> World
     requires hands { All (λ h. IsFree fabric.turns h) hands.items }
     requires all { parts_of hands.items ≡ 2 ^ 32 }
-    requires some { 0 < length hands.items }
-    requires few { length hands.items < 2 ^ 32 }
+    requires nonempty { 0 < length hands.items }
+    requires at_most { length hands.items < 2 ^ 32 }
     ensures world { IsWorked fabric (length hands.items) result }
     ensures kept { IsStanding result }
     ensures barriers { (slots : ℕ → Slots) → AreSlots result slots →

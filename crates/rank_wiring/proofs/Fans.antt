@@ -11,7 +11,7 @@ use Rattle.pair_wires.specs.declared.bounds.Bounds.{Bounds}
 use Rattle.plan_core.specs.Plan.{Plan}
 use Rattle.plan_core.specs.Sound.{SoundPlan}
 use Rattle.plan_calls.specs.Lanes.{is_used_lane}
-use Rattle.worlds.proofs.opening.Laid.{few-pairs}
+use Rattle.worlds.proofs.opening.Laid.{at_most-pairs}
 use Rattle.rank_wiring.specs.declared.lanes.OutLanes.{OutLanes}
 use Rattle.rank_slots.specs.Lists.{Each}
 use Rattle.rank_wiring.specs.Fans.{AreFans, IsFan}
@@ -53,17 +53,17 @@ module _ (p : Plan) where
       let e : suc (s + k) ≡ s + suc k = omega arith in
       subst (λ m. length (lanes_before p s) ≤ length (lanes_before p m)) e (omega (arith, h, a))
 
-  pub few-before : (inputs : ℕ) → SoundPlan p inputs → (s : ℕ) → s ≤ p.ranks → length (lanes_before p s) ≤ 131072
-  few-before inputs sound s le =
-      let all = (rows-below p.ranks (omega arith)).few in let q = few-pairs p.ranks (sound.few_ranks) in
+  pub at_most-before : (inputs : ℕ) → SoundPlan p inputs → (s : ℕ) → s ≤ p.ranks → length (lanes_before p s) ≤ 131072
+  at_most-before inputs sound s le =
+      let all = (rows-below p.ranks (omega arith)).at_most in let q = at_most-pairs p.ranks (sound.few_ranks) in
       let h = longer s (p.ranks - s) in
       let e : s + (p.ranks - s) ≡ p.ranks = omega (arith, le) in
       let k = subst (λ m. length (lanes_before p s) ≤ length (lanes_before p m)) e h in
       omega (arith, all, q, k)
 
-  pub next-few : (inputs : ℕ) → SoundPlan p inputs → (s : ℕ) → s < p.ranks → length (lanes_before p s) + length (lanes_from p s) ≤ 131072
-  next-few inputs sound s low =
-      let a = length-append (lanes_before p s) (lanes_from p s) in let b = few-before inputs sound (suc s) (omega (arith, low)) in
+  pub next-at_most : (inputs : ℕ) → SoundPlan p inputs → (s : ℕ) → s < p.ranks → length (lanes_before p s) + length (lanes_from p s) ≤ 131072
+  next-at_most inputs sound s low =
+      let a = length-append (lanes_before p s) (lanes_from p s) in let b = at_most-before inputs sound (suc s) (omega (arith, low)) in
       omega (arith, a, b)
 
   -- the lanes from fewer ranks come first

@@ -39,7 +39,7 @@ get_or_replicate (suc n) a zero = refl
 get_or_replicate (suc n) a (suc i) = get_or_replicate n a i
 
 pub none-kept : (b : Bounds) → KeepsBounds b []
-none-kept b = record { travel = All-nil (Travels b); few = zero-le; short = zero-le }
+none-kept b = record { travel = All-nil (Travels b); at_most = zero-le; short = zero-le }
 
 module _ (job : JobOf) (r : ℕ) (x : TurnRank) (fresh : IsFresh job r x) where
   abbrev p : Plan

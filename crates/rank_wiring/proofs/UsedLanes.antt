@@ -16,7 +16,7 @@ use Rattle.plan_calls.specs.Lanes.{goes_along, is_used_lane, lane_links, lane_me
 use Rattle.plan_calls.specs.RankOps.{is_message}
 use Rattle.cuts.specs.windows.Places.{lane_place}
 use Rattle.worlds.proofs.parts.Placed.{lane_apart, lane_in}
-use Rattle.worlds.proofs.opening.Rooms.{few-on_lane}
+use Rattle.worlds.proofs.opening.Rooms.{at_most-on_lane}
 use Rattle.rank_slots.specs.Lists.{Each}
 use Rattle.rank_slots.specs.Lanes.{AreLanes, HasLane, IsLane, bounds_if_used, bounds_on}
 use Rattle.rank_slots.proofs.Gates.{both-true}
@@ -46,8 +46,8 @@ used-within p n sound s d Answer e = at p.remote e
     at true e = let x = some_of (lane_links p d s) e in let y = along-within p n sound d s x.0 x.1 in (y.1, y.0)
     at false e = cc
 
-pub few-messages : (p : Plan) (n : ℕ) → SoundPlan p n → (s d : ℕ) (lane : Lane) → lane_messages p s d lane < 2 ^ 32
-few-messages p n sound s d lane = let a = few-on_lane p s d lane in let b = sound.few_together in omega (arith, a, b)
+pub at_most-messages : (p : Plan) (n : ℕ) → SoundPlan p n → (s d : ℕ) (lane : Lane) → lane_messages p s d lane < 2 ^ 32
+at_most-messages p n sound s d lane = let a = at_most-on_lane p s d lane in let b = sound.few_together in omega (arith, a, b)
 
 -- messages go on each lane of the plan that is used
 pub lane-sends : (p : Plan) (b : Bounds) → IsLane p b → 0 < b.messages
@@ -59,7 +59,7 @@ lane-sends p b is =
 -- ---- the lanes below a place
 pub record AreBelow (p : Plan) (n : ℕ) (lanes : List Bounds) : Type 0 where
   pub each : Each (IsLane p) lanes
-  pub few : length lanes ≤ n
+  pub at_most : length lanes ≤ n
   pub below : Each (λ (b : Bounds). lane_place p.ranks b.source b.target b.lane < n) lanes
   pub once : (i k : ℕ) (b c : Bounds) → get_elem? lanes i ≡ some b → get_elem? lanes k ≡ some c → b.source ≡ c.source → b.target ≡ c.target → b.lane ≡ c.lane → i ≡ k
   pub all : (s d : ℕ) (lane : Lane) → s < p.ranks → d < p.ranks → lane_place p.ranks s d lane < n → is_used_lane p s d lane ≡ true → HasLane lanes s d lane
@@ -67,7 +67,7 @@ pub record AreBelow (p : Plan) (n : ℕ) (lanes : List Bounds) : Type 0 where
 pub none-below : (p : Plan) → AreBelow p 0 []
 none-below p = record {
   each = λ i b e. absurd (some-ne-none b (sym e));
-  few = omega arith;
+  at_most = omega arith;
   below = λ i b e. absurd (some-ne-none b (sym e));
   once = λ i k b c e. absurd (some-ne-none b (sym e));
   all = λ s d lane hs hd h. absurd (omega (arith, h));
@@ -93,7 +93,7 @@ module _ (p : Plan) (n : ℕ) (lanes : List Bounds) (h : AreBelow p n lanes) (s 
   more-used : is_used_lane p s d lane ≡ true → AreBelow p (n + 1) (lanes ++ b ∷ [])
   more-used used = record {
     each = each_snoc (IsLane p) lanes b h.each (record { source = hs; target = hd; used = used; bounds = refl });
-    few = (let k = length-append lanes (b ∷ []) in let m = h.few in omega (arith, k, m));
+    at_most = (let k = length-append lanes (b ∷ []) in let m = h.at_most in omega (arith, k, m));
     below = each_snoc (λ (c : Bounds). lane_place p.ranks c.source c.target c.lane < n + 1) lanes b (λ i c at. let k = h.below i c at in omega (arith, k)) (omega (arith, place));
     once = λ i k x y ax ay es ed el. ⊎_elim
         (λ (ox : get_elem? lanes i ≡ some x). ⊎_elim
@@ -108,7 +108,7 @@ module _ (p : Plan) (n : ℕ) (lanes : List Bounds) (h : AreBelow p n lanes) (s 
     all = λ t e way ht he low u. ⊎_elim
         (λ (is : lane_place p.ranks t e way ≡ n).
         let o = lane_apart p.ranks s d lane t e way hd he (place ∙ sym is) in
-        record { at = length lanes; bounds = b; there = last_at lanes b; source = o.source; target = o.goal; lane_is = o.kind })
+        record { at = length lanes; bounds = b; there = last_at lanes b; source = o.source; target = o.destination; lane_is = o.kind })
         (λ (not : lane_place p.ranks t e way ≡ n → ⊥). has-more (b ∷ []) t e way (h.all t e way ht he (omega (arith, low, not)) u))
         (cases_eq (lane_place p.ranks t e way) n);
   }
@@ -116,13 +116,13 @@ module _ (p : Plan) (n : ℕ) (lanes : List Bounds) (h : AreBelow p n lanes) (s 
   more-unused : is_used_lane p s d lane ≡ false → AreBelow p (n + 1) (lanes ++ [])
   more-unused unused = record {
     each = subst (Each (IsLane p)) (sym (append-nil lanes)) h.each;
-    few = (let k = ap (λ (l : List Bounds). length l) (append-nil lanes) in let m = h.few in omega (arith, k, m));
+    at_most = (let k = ap (λ (l : List Bounds). length l) (append-nil lanes) in let m = h.at_most in omega (arith, k, m));
     below = subst (Each (λ (c : Bounds). lane_place p.ranks c.source c.target c.lane < n + 1)) (sym (append-nil lanes)) (λ i c at. let k = h.below i c at in omega (arith, k));
     once = λ i k x y ax ay. h.once i k x y (ap (λ (l : List Bounds). get_elem? l i) (sym (append-nil lanes)) ∙ ax) (ap (λ (l : List Bounds). get_elem? l k) (sym (append-nil lanes)) ∙ ay);
     all = λ t e way ht he low u. ⊎_elim
         (λ (is : lane_place p.ranks t e way ≡ n).
         let o = lane_apart p.ranks t e way s d lane he hd (is ∙ sym place) in
-        absurd (two (sym (λ j. is_used_lane p (o.source j) (o.goal j) (o.kind j)) ∙ u) unused))
+        absurd (two (sym (λ j. is_used_lane p (o.source j) (o.destination j) (o.kind j)) ∙ u) unused))
         (λ (not : lane_place p.ranks t e way ≡ n → ⊥). has-more [] t e way (h.all t e way ht he (omega (arith, low, not)) u))
         (cases_eq (lane_place p.ranks t e way) n);
   }

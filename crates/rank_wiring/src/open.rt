@@ -136,7 +136,7 @@ fn make_berth(alloc: Global, job: &Job, rank: Rank, fan: &OutLanes) -> Result<Bu
 // What a thread makes for a rank. There is nothing where there was no memory for it.
 fn berth_of(alloc: Global, job: &Job, fans: &[OutLanes], rank: usize) -> Option<BuiltRank>
     requires count { length fans.now ≡ job.now.shape.ranks }
-    requires few { length fans.now < 2 ^ 32 }
+    requires at_most { length fans.now < 2 ^ 32 }
     requires fans { AreFans (plan_of job.now.shape) fans.now }
     requires rank { rank < length fans.now }
     ensures { IfSome result (λ b. IsFanned job.now rank b.slot b.load) }
@@ -155,9 +155,9 @@ fn make_berths<R: Threads + Sync>(
     fans: &[OutLanes],
     threads: usize,
 ) -> Result<Vec<Option<BuiltRank>>, NoMemory>
-    requires some { 0 < threads }
+    requires nonempty { 0 < threads }
     requires count { length fans.now ≡ job.now.shape.ranks }
-    requires few { length fans.now < 2 ^ 32 }
+    requires at_most { length fans.now < 2 ^ 32 }
     requires fans { AreFans (plan_of job.now.shape) fans.now }
     ensures count { IfOk result (λ v. length v.items ≡ job.now.shape.ranks) }
     ensures berths { IfOk result (λ v. AreBerths job.now 0 v.items) }
@@ -184,7 +184,7 @@ fn made_or_make(
     place: Option<BuiltRank>,
 ) -> Result<BuiltRank, NoMemory>
     requires count { length fans.now ≡ job.now.shape.ranks }
-    requires few { length fans.now < 2 ^ 32 }
+    requires at_most { length fans.now < 2 ^ 32 }
     requires fans { AreFans (plan_of job.now.shape) fans.now }
     requires rank { rank < length fans.now }
     requires place { IfSome place (λ b. IsFanned job.now rank b.slot b.load) }
@@ -204,7 +204,7 @@ fn in_order(
     places: Vec<Option<BuiltRank>>,
 ) -> Result<(Vec<TurnRank>, Vec<OutWires>), NoMemory>
     requires ranks { length fans.now ≡ job.now.shape.ranks }
-    requires few { length fans.now < 2 ^ 32 }
+    requires at_most { length fans.now < 2 ^ 32 }
     requires fans { AreFans (plan_of job.now.shape) fans.now }
     requires count { length places.items ≡ job.now.shape.ranks }
     requires berths { AreBerths job.now 0 places.items }

@@ -161,7 +161,7 @@ pub trait PlanTables {
     /// The plan. It has fewer than 2^32 cells and links.
     fn plan(&self) -> &Plan
         ensures value { result.now ≡ drawn self.now }
-        ensures few { length (drawn self.now).cells + length (drawn self.now).links < 2 ^ 32 };
+        ensures at_most { length (drawn self.now).cells + length (drawn self.now).links < 2 ^ 32 };
 
     /// Where a rank's counter of what is done stands when all is done.
     fn done(&self, r: Rank) -> u64

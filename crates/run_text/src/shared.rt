@@ -71,7 +71,7 @@ fn is_short<H: ResultLists>(shape: &Shape, held: &H) -> bool
 /// How many lines a result has.
 fn line_count(shape: &Shape) -> usize
     ensures value { result ≡ length shape.now.prints * shape.now.ranks }
-    ensures few { result ≤ 32768 }
+    ensures at_most { result ≤ 32768 }
 {
     shape.keeps_form();
     shape.prints().len() * shape.ranks() as usize

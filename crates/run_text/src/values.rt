@@ -22,7 +22,7 @@ const BLOCK: usize = 1_408;
 
 /// Writes a byte before a place, and answers its place.
 fn mark(block: &mut [u8], at: usize, byte: u8) -> usize
-    requires some { 0 < at }
+    requires nonempty { 0 < at }
     requires inside { at ≤ length block.old }
     ensures place { result + 1 ≡ at }
     ensures written { drop result block.new ≡ byte ∷ drop at block.old }
@@ -94,7 +94,7 @@ fn put_many<K: Sink>(
 
 /// How many of so many bytes are written at once: whole elements of this size, 64 at most.
 fn share(len: usize, size: usize) -> usize
-    requires some { 0 < size }
+    requires nonempty { 0 < size }
     requires one { size ≤ len }
     ensures whole { (n : ℕ) × (result ≡ n * size) × (n ≤ 64) }
     ensures some { 0 < result }

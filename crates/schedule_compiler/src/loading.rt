@@ -108,7 +108,7 @@ fn is_input(ranks: u32, count: u32, c: u32) -> bool
 
 /// The list of input cell number i, counted over all inputs, after the bytes.
 fn add_input(bytes: &mut Vec<u8>, inputs: &Inputs, ranks: u32, i: u32) -> Result<(), NoMemory>
-    requires some { 1 ≤ ranks }
+    requires nonempty { 1 ≤ ranks }
     requires lists { (b : ℕ) → b < length inputs.now → length (get_or inputs.now b []) ≡ ranks }
     requires input { i < length inputs.now * ranks }
     ensures { IfOk result (λ u. bytes.new.items ≡ bytes.old.items ++ get_or (get_or inputs.now (i / ranks) []) (i % ranks) []) }
@@ -128,8 +128,8 @@ fn add_cell(
     requires count { count ≡ length inputs.now }
     requires few_inputs { count ≤ MOST_BUFFERS }
     requires cell { c < length plan.now.cells }
-    requires some { 1 ≤ plan.now.ranks }
-    requires few { plan.now.ranks ≤ MOST_RANKS }
+    requires nonempty { 1 ≤ plan.now.ranks }
+    requires at_most { plan.now.ranks ≤ MOST_RANKS }
     requires lists { (b : ℕ) → b < length inputs.now → length (get_or inputs.now b []) ≡ plan.now.ranks }
     ensures { IfOk result (λ u. bytes.new.items ≡ bytes.old.items ++ initial plan.now inputs.now c) }
 {
@@ -156,8 +156,8 @@ fn add_cells(
     requires count { count ≡ length inputs.now }
     requires few_inputs { count ≤ MOST_BUFFERS }
     requires own { (i : ℕ) → i < length own.now → get_or own.now i 0 < length plan.now.cells }
-    requires some { 1 ≤ plan.now.ranks }
-    requires few { plan.now.ranks ≤ MOST_RANKS }
+    requires nonempty { 1 ≤ plan.now.ranks }
+    requires at_most { plan.now.ranks ≤ MOST_RANKS }
     requires lists { (b : ℕ) → b < length inputs.now → length (get_or inputs.now b []) ≡ plan.now.ranks }
     ensures { IfOk result (λ u. bytes.new.items ≡ bytes.old.items ++ flat_map (initial plan.now inputs.now) own.now) }
 {
@@ -183,7 +183,7 @@ fn add_area(bytes: &mut Vec<u8>, class: u32, n: u64) -> Result<(), NoMemory>
 fn add_areas(bytes: &mut Vec<u8>, plan: &Plan, tables: &Tables, r: Rank) -> Result<(), NoMemory>
     requires tables { IsTables plan.now tables.now }
     requires rank { r < plan.now.ranks }
-    requires few { plan.now.ranks ≤ MOST_RANKS }
+    requires at_most { plan.now.ranks ≤ MOST_RANKS }
     ensures { IfOk result (λ u. bytes.new.items ≡ bytes.old.items ++ blank_areas plan.now r) }
 {
     for class in 0..81u32 {

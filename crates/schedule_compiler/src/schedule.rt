@@ -97,7 +97,7 @@ impl Schedule {
         ensures value { result.now ≡ plan_of self.now }
         ensures sound { SoundPlan (plan_of self.now) self.now.inputs }
         ensures ranks { (plan_of self.now).ranks ≡ self.now.ranks }
-        ensures few { length (plan_of self.now).links ≤ MOST_LINKS }
+        ensures at_most { length (plan_of self.now).links ≤ MOST_LINKS }
     {
         self.shape.keeps_form();
         &self.plan

@@ -53,9 +53,9 @@ go-ranks n remote = refl
 
 go-built : (n : ℕ) (remote : Bool) → 1 ≤ n → n ≤ MOST_RANKS → WellBuilt (go_plan n remote) 0
 unfolding go_plan
-go-built n remote some few = record {
+go-built n remote some at_most = record {
   some_rank = some;
-  few_ranks = few;
+  few_ranks = at_most;
   links_sound = λ l h. absurd (omega arith);
   needs = λ c h k. absurd (let m = go-many n remote in omega arith);
   go_needs = λ r h. (ap (λ (k : Cell). k.needs) (go-cell n remote r h), refl, ap (λ (k : Cell). k.rank) (go-cell n remote r h), ap (λ (k : Cell). k.length) (go-cell n remote r h));
@@ -247,9 +247,9 @@ get_or-nothing (suc n) zero = refl
 get_or-nothing (suc n) (suc i) = get_or-nothing n i
 
 begun-none : (o : Outline) → 1 ≤ o.ranks → o.ranks ≤ MOST_RANKS → Begun o 0 (opened o).plan (opened o).held (opened o).exits
-begun-none o some few = record {
+begun-none o some at_most = record {
   ranks = go-ranks o.ranks o.remote;
-  built = subst (WellBuilt (go_plan o.ranks o.remote)) (let e : 0 ≡ 0 * o.ranks = omega arith in e) (go-built o.ranks o.remote some few);
+  built = subst (WellBuilt (go_plan o.ranks o.remote)) (let e : 0 ≡ 0 * o.ranks = omega arith in e) (go-built o.ranks o.remote some at_most);
   full = (let m = go-many o.ranks o.remote in omega (arith, m));
   exits = refl;
   held_ranks = refl;
@@ -263,11 +263,11 @@ begun-none o some few = record {
 
 pub begun : (o : Outline) → 1 ≤ o.ranks → o.ranks ≤ MOST_RANKS → (m : ℕ) → m ≤ length o.buffers → Begun o m (drawn_inputs o m).plan (drawn_inputs o m).held (drawn_inputs o m).exits
 unfolding drawn_inputs
-begun o some few zero h = begun-none o some few
-begun o some few (suc m) h =
+begun o some at_most zero h = begun-none o some at_most
+begun o some at_most (suc m) h =
     let d = drawn_inputs o m in
     subst (λ v. Begun o (suc m) v (hold_row d.held m (length d.plan.cells) o.ranks) d.exits) (sym (add_all-with d.plan (map (input_cell (buffer_at o m)) (from_to 0 o.ranks))))
-    (begun-more o m d.plan d.held d.exits (begun o some few m (omega arith)) (omega arith))
+    (begun-more o m d.plan d.held d.exits (begun o some at_most m (omega arith)) (omega arith))
 
 get_or-row : (n r : ℕ) → r < n → get_or (from_to 0 n) r 0 ≡ r
 get_or-row n r h = ap (λ xs. get_or xs r 0) (sym (same 0 n)) ∙ get_or-each (λ i. i) 0 0 n r h ∙ (let z : 0 + r ≡ r = omega arith in z)

@@ -162,8 +162,8 @@ pub room-for : (p : Plan) (s : StepContext) (step : CollStep) → 0 < count s �
 room-for p s step pos h l = let a = step-linked s step pos in record { cells = omega (arith, a, h, l); links = omega (arith, l) }
 
 -- and there are still few cells
-pub few-after : (p : Plan) (s : StepContext) (step : CollStep) → 0 < count s → length p.cells ≤ MOST_RANKS + length p.links → length (add_all p (cells_of s step)).cells ≤ MOST_RANKS + length (add_all p (cells_of s step)).links
-few-after p s step pos h = let a = step-linked s step pos in let b = many-cells p (cells_of s step) in let c = links-in_all p (cells_of s step) in omega (arith, a, b, c, h)
+pub at_most-after : (p : Plan) (s : StepContext) (step : CollStep) → 0 < count s → length p.cells ≤ MOST_RANKS + length p.links → length (add_all p (cells_of s step)).cells ≤ MOST_RANKS + length (add_all p (cells_of s step)).links
+at_most-after p s step pos h = let a = step-linked s step pos in let b = many-cells p (cells_of s step) in let c = links-in_all p (cells_of s step) in omega (arith, a, b, c, h)
 
 -- ---- a buffer that is held has an element
 

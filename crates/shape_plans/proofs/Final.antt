@@ -128,7 +128,7 @@ sum_le (x ∷ xs) m h =
     omega (arith, e, a, b, q)
 
 small_enough : (p : Plan) (inputs : ℕ) → WellBuilt p (inputs * p.ranks) → length p.links ≤ MOST_LINKS → sum_by (λ k. k.length) p.cells ≤ 1073741824 → SoundPlan p inputs
-small_enough p inputs b few small = record {
+small_enough p inputs b at_most small = record {
   some_rank = b.some_rank;
   few_ranks = b.few_ranks;
   links_sound = b.links_sound;
@@ -144,7 +144,7 @@ small_enough p inputs b few small = record {
   few_cells = (let m = b.many_links in let n = b.few_ranks in omega arith);
   few_together = (let m = b.many_links in let n = b.few_ranks in omega arith);
   few_bytes = (let s = sum_le p.links 1073741824 (λ l h. let k = b.links_sound l h in let w = k.within_source in let up = k.rising in let top = k.cells in let i = member_le (λ k. k.length) p.cells (link p l).source (omega arith) in omega arith) in
-      let t : length p.links * 1073741824 ≤ MOST_LINKS * 1073741824 = mul-le-mul_right 1073741824 few in omega arith);
+      let t : length p.links * 1073741824 ≤ MOST_LINKS * 1073741824 = mul-le-mul_right 1073741824 at_most in omega arith);
 }
 
 -- a shape that isn't refused is within the limits at its end
@@ -277,9 +277,9 @@ barrier_now o m p h e g fine fits =
     let ins = dummies o.inputs in
     let c : length (dummies o.inputs) * p.ranks ≡ o.inputs * o.ranks = ap₂ (λ u v. u * v) (length-dummies o.inputs) fine.ranks in
     let dr = drawn_all p (cells_of s Barrier) ins (subst (WellBuilt p) (sym c) fine.built) (let b = fine.behind in let r = fine.ranks in omega (arith, b, r, c)) (sound_cells o m p h e g fine Barrier fits) in record {
-      stays = λ j r t l. round-stays q ins s fits.members.some fits.members.few dr j r t l;
-      comes = λ j m r t k l z. round-comes q ins s fits.members.some fits.members.few dr j m r t k l z;
-      inside = λ j r t l. round-inside q ins s fits.members.some fits.members.few dr j r t l;
+      stays = λ j r t l. round-stays q ins s fits.members.some fits.members.at_most dr j r t l;
+      comes = λ j m r t k l z. round-comes q ins s fits.members.some fits.members.at_most dr j m r t k l z;
+      inside = λ j r t l. round-inside q ins s fits.members.some fits.members.at_most dr j r t l;
     }
 
 plan_next : (o : Outline) (k : ℕ) → step_at o k ≡ Barrier → (drawn_upto o (suc k)).plan ≡ with_cells (drawn_upto o k).plan (cells_of (site o (drawn_upto o k) Barrier (group_at o k)) Barrier)
@@ -319,7 +319,7 @@ pub barrier-rounds : (o : Outline) → IsWellFormed o → (k : ℕ) → k < leng
     → IsRounds (plan_of o) (length (group_at o k)) (rounds (length (group_at o k))) (in_row (site o (drawn_upto o k) Barrier (group_at o k)))
 barrier-rounds o a k h is =
     let b = (barrier_of o a k h is).rounds_are in
-    record { stays = λ j r t l. b.stays j r t l; comes = λ j m r t u l z. b.comes j m r t u l z; enough = rounds-enough (length (group_at o k)) (a.shape.members k h).few }
+    record { stays = λ j r t l. b.stays j r t l; comes = λ j m r t u l z. b.comes j m r t u l z; enough = rounds-enough (length (group_at o k)) (a.shape.members k h).at_most }
 
 pub barrier-cells : (o : Outline) → IsWellFormed o → (k : ℕ) → k < length o.steps → step_at o k ≡ Barrier
     → (j r : ℕ) → j ≤ rounds (length (group_at o k)) → r < length (group_at o k) → in_row (site o (drawn_upto o k) Barrier (group_at o k)) j r < length (plan_of o).cells

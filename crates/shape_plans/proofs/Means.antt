@@ -134,7 +134,7 @@ module _ (o : Outline) (inputs : Inputs) (all : length inputs ≡ o.inputs) (m :
 
   abbrev Asked : (step : CollStep) → StepFits o m g step → ℕ → Type 0
   Asked step fits a =
-      AsksValues (cell (after step fits)) (value (after step fits) inputs) (site step fits) (taken g (lists_of means a)) fits.members.some fits.members.few
+      AsksValues (cell (after step fits)) (value (after step fits) inputs) (site step fits) (taken g (lists_of means a)) fits.members.some fits.members.at_most
       (taken-many o inputs all m p h e means g step fine fit meant fits a) (whole_site o m p h e g step fine fits) step
 
   asks_values : (step : CollStep) (fits : StepFits o m g step) (a : ℕ) → source_of step ≡ Some a → Asked step fits a
@@ -211,7 +211,7 @@ module _ (o : Outline) (inputs : Inputs) (all : length inputs ≡ o.inputs) (m :
           by : (v : Option ℕ) → place_from 0 g r ≡ v → IsResult (value (after step fits) inputs) (at_place (list_after (type_read o step) step (taken g (lists_of means a))) [] v) (at_place (λ i. (end_of (site step fits) step i).holder) None v)
           by None f = IsEmpty refl
           by (Some i) f =
-              step-value (cell (after step fits)) (value (after step fits) inputs) (site step fits) (taken g (lists_of means a)) fits.members.some fits.members.few
+              step-value (cell (after step fits)) (value (after step fits) inputs) (site step fits) (taken g (lists_of means a)) fits.members.some fits.members.at_most
               (taken-many o inputs all m p h e means g step fine fit meant fits a) (whole_site o m p h e g step fine fits) step fits.root (asks_values step fits a src)
               (known o inputs all m p h e means g step fine fit meant fits) i (place-of g r i f).below
 

@@ -24,7 +24,7 @@ use Rattle.shape_plans.specs.declared.faults.CompileFault.TheVariants.{TooMany, 
 use Rattle.shape_plans.specs.Footprint.{judged}
 use Rattle.shape_plans.specs.Judging.{AreSteps, Judges, found_from, inputs_size, size_upto}
 use Rattle.shape_plans.specs.Compiling.{Draws}
-use Rattle.shape_plans.proofs.ByCollective.{few-after, room-for}
+use Rattle.shape_plans.proofs.ByCollective.{at_most-after, room-for}
 use Rattle.shape_plans.proofs.Sizes.{refusal-found, size-inputs, size-steps}
 use Rattle.coll_shape.specs.declared.limits.TheConstants.{MOST_RANKS}
 use Rattle.shape_plans.specs.declared.judging.TheConstants.{MOST_LINKS, MOST_BYTES}
@@ -76,7 +76,7 @@ pub record Tables (o : Outline) (d : Drawing) : Type 0 where
   pub exits : length d.exits ≡ o.ranks
   pub ranks : d.held.ranks ≡ o.ranks
   pub buffers : d.held.buffers ≡ length o.buffers
-  pub few : length d.plan.cells ≤ MOST_RANKS + length d.plan.links
+  pub at_most : length d.plan.cells ≤ MOST_RANKS + length d.plan.links
 
 ranks-row : (h : HeldCells) (b first n : ℕ) → (hold_row h b first n).ranks ≡ h.ranks
 unfolding hold_row hold
@@ -92,22 +92,22 @@ length-numbers : (k n : ℕ) → length (from_to k n) ≡ n
 length-numbers k zero = refl
 length-numbers k (suc n) = ap suc (length-numbers (suc k) n)
 
-go-few : (n : ℕ) (remote : Bool) → n ≤ MOST_RANKS → length (go_plan n remote).cells ≤ MOST_RANKS + length (go_plan n remote).links
+go-at_most : (n : ℕ) (remote : Bool) → n ≤ MOST_RANKS → length (go_plan n remote).cells ≤ MOST_RANKS + length (go_plan n remote).links
 unfolding go_plan
-go-few n remote h = let e = length-row Rattle.plan_core.specs.Draw.go_cell_of 0 n in omega (arith, e, h)
+go-at_most n remote h = let e = length-row Rattle.plan_core.specs.Draw.go_cell_of 0 n in omega (arith, e, h)
 
 row-links : (o : Outline) (b : ℕ) → links_of (map (input_cell (buffer_at o b)) (from_to 0 o.ranks)) ≡ o.ranks
 row-links o b = links-row (input_cell (buffer_at o b)) 0 o.ranks 1 (λ i. refl) ∙ (let e : o.ranks * 1 ≡ o.ranks = omega arith in e)
 
 tables-opened : (o : Outline) → o.ranks ≤ MOST_RANKS → Tables o (opened o)
-tables-opened o h = record { exits = length-numbers 0 o.ranks; ranks = refl; buffers = refl; few = go-few o.ranks o.remote h }
+tables-opened o h = record { exits = length-numbers 0 o.ranks; ranks = refl; buffers = refl; at_most = go-at_most o.ranks o.remote h }
 
 tables-input : (o : Outline) (d : Drawing) (b : ℕ) → Tables o d → Tables o (drawn_input o d b)
 tables-input o d b t = record {
   exits = t.exits;
   ranks = ranks-row d.held b (length d.plan.cells) o.ranks ∙ t.ranks;
   buffers = buffers-row d.held b (length d.plan.cells) o.ranks ∙ t.buffers;
-  few = (let f = t.few in
+  at_most = (let f = t.at_most in
       let c = many-cells d.plan (map (input_cell (buffer_at o b)) (from_to 0 o.ranks)) in
       let l = links-in_all d.plan (map (input_cell (buffer_at o b)) (from_to 0 o.ranks)) in
       let n = length-row (input_cell (buffer_at o b)) 0 o.ranks in
@@ -132,7 +132,7 @@ tables-step o d t g pos w = record {
   exits = length-exits_by d.exits g (ends_of (site o d t g) t) (length g) ∙ w.exits;
   ranks = ranks-after (result_of t) d.held g (ends_of (site o d t g) t) ∙ w.ranks;
   buffers = buffers-after (result_of t) d.held g (ends_of (site o d t g) t) ∙ w.buffers;
-  few = few-after d.plan (site o d t g) t pos w.few;
+  at_most = at_most-after d.plan (site o d t g) t pos w.at_most;
 }
 
 pub tables-upto : (o : Outline) → o.ranks ≤ MOST_RANKS → AreSteps o → (k : ℕ) → k ≤ length o.steps → Tables o (drawn_upto o k)
@@ -145,10 +145,10 @@ links-inputs o zero = omega arith
 links-inputs o (suc b) = let e = links-inputs o b in let r : suc b * o.ranks ≡ b * o.ranks + o.ranks = omega arith in omega (arith, e, r)
 
 -- few cells and links after b inputs
-pub few-inputs : (o : Outline) → IsShape o → (b : ℕ) → b ≤ o.inputs → (length (drawn_inputs o b).plan.links ≤ 32768) × (length (drawn_inputs o b).plan.cells ≤ 33024)
-few-inputs o shape b h =
+pub at_most-inputs : (o : Outline) → IsShape o → (b : ℕ) → b ≤ o.inputs → (length (drawn_inputs o b).plan.links ≤ 32768) × (length (drawn_inputs o b).plan.cells ≤ 33024)
+at_most-inputs o shape b h =
     let l = ap (λ (z : Size). z.links) (size-inputs o b) ∙ links-inputs o b in
-    let t = (tables-inputs o shape.few_ranks b).few in
+    let t = (tables-inputs o shape.few_ranks b).at_most in
     let i : b ≤ 128 = (let u = shape.few_inputs in let v = shape.few_buffers in omega (arith, u, v, h)) in
     let m : b * o.ranks ≤ 128 * o.ranks = mul-le-mul_right o.ranks i in
     let r = shape.few_ranks in
@@ -156,7 +156,7 @@ few-inputs o shape b h =
 
 pub room-input : (o : Outline) → IsShape o → (b : ℕ) → b ≤ o.inputs → HasRoom (drawn_inputs o b).plan (map (input_cell (buffer_at o b)) (from_to 0 o.ranks))
 room-input o shape b h =
-    let f = few-inputs o shape b h in
+    let f = at_most-inputs o shape b h in
     let l = f.0 in
     let c = f.1 in
     let n = length-row (input_cell (buffer_at o b)) 0 o.ranks in
@@ -181,7 +181,7 @@ size-most o k h = let a = size-grows o (left k (length o.steps)) k in let e = ap
     there : (k n : ℕ) → k ≤ n → k + left k n ≡ n
     there k n h = omega arith
 
-module _ (o : Outline) (shape : IsShape o) (are : AreSteps o) (few : (size_upto o (length o.steps)).links ≤ MOST_LINKS) (k : ℕ) (h : k < length o.steps) where
+module _ (o : Outline) (shape : IsShape o) (are : AreSteps o) (at_most : (size_upto o (length o.steps)).links ≤ MOST_LINKS) (k : ℕ) (h : k < length o.steps) where
   abbrev d : Drawing
   d = drawn_upto o k
 
@@ -200,10 +200,10 @@ module _ (o : Outline) (shape : IsShape o) (are : AreSteps o) (few : (size_upto 
       let u = ap (λ (z : Drawing). length z.plan.links) (upto-suc o k) in
       let s = ap (λ (z : Size). z.links) (size-steps o are (suc k) h) in
       let m = size-most o (suc k) h in
-      omega (arith, e, u, s, m, few)
+      omega (arith, e, u, s, m, at_most)
 
   pub room-step : HasRoom d.plan (cells_of (site o d t g) t)
-  room-step = room-for d.plan (site o d t g) t (are.some k h) (tables-upto o shape.few_ranks are k (omega arith)).few links-then
+  room-step = room-for d.plan (site o d t g) t (are.some k h) (tables-upto o shape.few_ranks are k (omega arith)).at_most links-then
 
   pub begun-step : IsBegun o d t g
   begun-step =
@@ -215,36 +215,36 @@ module _ (o : Outline) (shape : IsShape o) (are : AreSteps o) (few : (size_upto 
         exits = w.exits;
         ranks = w.ranks;
         buffers = w.buffers;
-        cells = (let f = w.few in let l = links-then in omega (arith, f, l));
+        cells = (let f = w.at_most in let l = links-then in omega (arith, f, l));
       }
 
 -- ---- a shape without a refusal is within the limit
 no-name : {n : Rattle.shape_plans.specs.Footprint.Excess} → Some n ≡ None → ⊥
 no-name e = cc
 
-judged-few : (f : Size) → judged f ≡ None → f.links ≤ MOST_LINKS
-judged-few f e = at (nat_lt MOST_LINKS f.links) refl e
+judged-at_most : (f : Size) → judged f ≡ None → f.links ≤ MOST_LINKS
+judged-at_most f e = at (nat_lt MOST_LINKS f.links) refl e
   where
     at : (b : Bool) → nat_lt MOST_LINKS f.links ≡ b → cond b (Some Rattle.shape_plans.specs.Footprint.Excess.Links) (cond (nat_lt MOST_BYTES f.bytes) (Some Rattle.shape_plans.specs.Footprint.Excess.Bytes) None) ≡ None → f.links ≤ MOST_LINKS
     at true g e = absurd (no-name e)
     at false g e = ltb-false _ _ g
 
-found-few : (o : Outline) (n k : ℕ) → (size_upto o k).links ≤ MOST_LINKS → found_from o k n ≡ None → (size_upto o (k + n)).links ≤ MOST_LINKS
-found-few o zero k w e = subst (λ v. (size_upto o v).links ≤ MOST_LINKS) (let z : k ≡ k + 0 = omega arith in z) w
-found-few o (suc n) k w e = by (judged (size_upto o (suc k))) refl e (λ v f. found-few o n (suc k) v f)
+found-at_most : (o : Outline) (n k : ℕ) → (size_upto o k).links ≤ MOST_LINKS → found_from o k n ≡ None → (size_upto o (k + n)).links ≤ MOST_LINKS
+found-at_most o zero k w e = subst (λ v. (size_upto o v).links ≤ MOST_LINKS) (let z : k ≡ k + 0 = omega arith in z) w
+found-at_most o (suc n) k w e = by (judged (size_upto o (suc k))) refl e (λ v f. found-at_most o n (suc k) v f)
   where
     no-refusal : {r : Rattle.shape_plans.specs.Footprint.Refused} → Some r ≡ None → ⊥
     no-refusal f = cc
 
     by : (x : Option Rattle.shape_plans.specs.Footprint.Excess) → judged (size_upto o (suc k)) ≡ x → Rattle.shape_plans.specs.Footprint.refused_at k x (found_from o (suc k) n) ≡ None
         → ((size_upto o (suc k)).links ≤ MOST_LINKS → found_from o (suc k) n ≡ None → (size_upto o (suc k + n)).links ≤ MOST_LINKS) → (size_upto o (k + suc n)).links ≤ MOST_LINKS
-    by None j f later = subst (λ v. (size_upto o v).links ≤ MOST_LINKS) (let z : suc k + n ≡ k + suc n = omega arith in z) (later (judged-few (size_upto o (suc k)) j) f)
+    by None j f later = subst (λ v. (size_upto o v).links ≤ MOST_LINKS) (let z : suc k + n ≡ k + suc n = omega arith in z) (later (judged-at_most (size_upto o (suc k)) j) f)
     by (Some name) j f later = absurd (no-refusal f)
 
 pub not-refused : (o : Outline) → IsShape o → found_from o 0 (length o.steps) ≡ None → (size_upto o (length o.steps)).links ≤ MOST_LINKS
 not-refused o shape e =
     subst (λ v. (size_upto o v).links ≤ MOST_LINKS) (let z : 0 + length o.steps ≡ length o.steps = omega arith in z)
-    (found-few o (length o.steps) 0 (let l = (few-inputs o shape o.inputs (omega arith)).0 in let s = ap (λ (z : Size). z.links) (size-inputs o o.inputs) in omega (arith, l, s)) e)
+    (found-at_most o (length o.steps) 0 (let l = (at_most-inputs o shape o.inputs (omega arith)).0 in let s = ap (λ (z : Size). z.links) (size-inputs o o.inputs) in omega (arith, l, s)) e)
 
 -- what is judged is answered
 pub judged-fault : (o : Outline) → AreSteps o → (f : CompileFault) → Judges o (Err f) → Draws o (Err f)

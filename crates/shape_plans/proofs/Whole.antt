@@ -99,7 +99,7 @@ module _ (o : Outline) (m : ℕ) (p : Plan) (h : HeldCells) (e : List ℕ) (g : 
   pub ground : Ground p.ranks (cell q) s
   ground = record {
     some = fits.members.some;
-    few = fits.members.few;
+    at_most = fits.members.at_most;
     members = λ i l. let r = fits.members.ranks i l in let f = fine.ranks in omega (arith, r, f);
     exit_low = λ i l. subst (λ v. v < length p.cells) (sym (exit_is i l)) (fine.exit_in (get_or g i 0) (fits.members.ranks i l));
     exit_rank = λ i l. ap (λ v. (cell q v).rank) (exit_is i l) ∙ ap (λ (c : Cell). c.rank) (grown.same_cell (get_or e (get_or g i 0) 0) (fine.exit_in (get_or g i 0) (fits.members.ranks i l))) ∙ fine.exit_rank (get_or g i 0) (fits.members.ranks i l);

@@ -47,7 +47,7 @@ fn draw_inputs(plan: &mut Plan, buffer: &Buffer, ranks: u32) -> Result<(), NoMem
 fn hold_inputs(held: &mut BufferCells, b: u32, first: u32, ranks: u32)
     requires ranks { ranks ≤ held.old.ranks }
     requires buffer { b < held.old.buffers }
-    requires few { first + ranks < 2 ^ 32 }
+    requires at_most { first + ranks < 2 ^ 32 }
     ensures { held.new ≡ hold_row held.old b first ranks }
 {
     for r in 0..ranks {
@@ -87,7 +87,7 @@ fn add_inputs(drawing: &mut Drawing, shape: &Shape) -> Result<(), NoMemory>
 /// All steps, one after the other.
 fn add_steps(alloc: Global, drawing: &mut Drawing, shape: &Shape) -> Result<(), NoMemory>
     requires steps { AreSteps shape.now }
-    requires few { (size_upto shape.now (length shape.now.steps)).links ≤ MOST_LINKS }
+    requires at_most { (size_upto shape.now (length shape.now.steps)).links ≤ MOST_LINKS }
     requires inputs { drawing.old ≡ drawn_inputs shape.now shape.now.inputs }
     ensures { IfOk result (λ u. drawing.new ≡ drawing_of shape.now) }
 {
@@ -111,7 +111,7 @@ pub struct DrawnShape {
 /// Draws a shape whose plan has so many links.
 pub(crate) fn draw(alloc: Global, shape: &Shape, links: u64) -> Result<DrawnShape, NoMemory>
     requires steps { AreSteps shape.now }
-    requires few { (size_upto shape.now (length shape.now.steps)).links ≤ MOST_LINKS }
+    requires at_most { (size_upto shape.now (length shape.now.steps)).links ≤ MOST_LINKS }
     requires most { links ≤ MOST_LINKS }
     ensures plan { IfOk result (λ c. c.plan ≡ plan_of shape.now) }
     ensures held { IfOk result (λ c. c.held ≡ (drawing_of shape.now).held) }

@@ -22,7 +22,7 @@ pub struct Size {
 fn round_links(m: u32) -> u64
     requires { m ≤ MOST_RANKS }
     ensures value { result ≡ sum_by (λ k. m + (m - 2 ^ k)) (from_to 0 (rounds m)) }
-    ensures few { result ≤ 4096 }
+    ensures at_most { result ≤ 4096 }
 {
     let mut links = 0u64;
     for k in 0..rounds(m) {
@@ -33,11 +33,11 @@ fn round_links(m: u32) -> u64
 
 /// The links that a step on m members adds, of which h hold the buffer that it reads.
 pub(crate) fn step_links(step: &CollStep, m: u32, h: u32) -> u64
-    requires some { 1 ≤ m }
-    requires few { m ≤ MOST_RANKS }
+    requires nonempty { 1 ≤ m }
+    requires at_most { m ≤ MOST_RANKS }
     requires held { h ≤ m }
     ensures value { result ≡ step_links step.now m h }
-    ensures few { result ≤ 2 ^ 18 }
+    ensures at_most { result ≤ 2 ^ 18 }
 {
     let m64 = u64::from(m);
     let h = u64::from(h);
@@ -59,12 +59,12 @@ pub(crate) fn step_links(step: &CollStep, m: u32, h: u32) -> u64
 
 /// The bytes of the cells that a step on m members adds, of which h hold the buffer that it reads, a list of n bytes.
 pub(crate) fn step_bytes(step: &CollStep, m: u32, h: u32, n: u64) -> u64
-    requires some { 1 ≤ m }
-    requires few { m ≤ MOST_RANKS }
+    requires nonempty { 1 ≤ m }
+    requires at_most { m ≤ MOST_RANKS }
     requires held { h ≤ m }
     requires short { n ≤ 8 * MOST_ELEMENTS }
     ensures value { result ≡ step_bytes step.now m h n }
-    ensures few { result ≤ 2 ^ 45 }
+    ensures at_most { result ≤ 2 ^ 45 }
 {
     let k = u64::from(rounds(m));
     let m = u64::from(m);

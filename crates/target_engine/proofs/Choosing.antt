@@ -14,7 +14,7 @@ use Rattle.match_lists.specs.Lists.{is_named}
 use Rattle.target_engine.specs.declared.entry_records.EntryRecord.{EntryRecord}
 use Rattle.target_engine.specs.PortalTable.{entries_by, index_by, linked_in, AreRecorded}
 use Rattle.target_engine.proofs.Counting.{is_handle, named-none}
-use Rattle.target_engine.proofs.Recorded.{is_linked-some, few-here}
+use Rattle.target_engine.proofs.Recorded.{is_linked-some, at_most-here}
 use Rattle.ni_objects.proofs.users.SumLemmas.{same-self}
 use Rattle.target_engine.proofs.Within.{find-linked, cases_has}
 
@@ -35,15 +35,15 @@ find-named p k (y ∷ ys) x e one =
     ] e
 
 chosen_at-named : (h : Header) (k : ℕ) (o : Option Index) (f : Found) → ((me : Handle) → index_by (is_handle me) k o ≤ 1) → chosen_at h o ≡ Some f → linked_in f.linked.handle o ≡ Some f.linked
-chosen_at-named h k None f few e = cc
-chosen_at-named h k (Some i) f few e =
+chosen_at-named h k None f at_most e = cc
+chosen_at-named h k (Some i) f at_most e =
     cases_has (λ (x : Linked). linked_in x.handle (Some i) ≡ Some x) (is_put_or_atomic h.kind) (find (fits h) i.priority) (find (fits h) i.overflow) f
     (λ x is.
-    let one = few x.handle in
+    let one = at_most x.handle in
     let named = find-named (fits h) k i.priority x is (omega arith) in
     ap (λ o. or_else o (find (is_named x.handle) i.overflow)) named)
     (λ x is.
-    let one = few x.handle in
+    let one = at_most x.handle in
     let there = is_linked-some x.handle k i.overflow (find-linked (fits h) i.overflow x is) in
     let none : find (is_named x.handle) i.priority ≡ None = named-none x.handle k i.priority (omega arith) in
     let named : find (is_named x.handle) i.overflow ≡ Some x = find-named (fits h) k i.overflow x is (omega arith) in
@@ -51,4 +51,4 @@ chosen_at-named h k (Some i) f few e =
     e
 
 pub chosen-named : (h : Header) (is : List (Option Index)) (f : Found) (hs : List IndexedHeader) (t : Table EntryRecord) → AreRecorded is hs t → chosen h is ≡ Some f → linked_in f.linked.handle (index_at h.pt is) ≡ Some f.linked
-chosen-named h is f hs t a e = chosen_at-named h h.pt (index_at h.pt is) f (λ me. few-here me h.pt is hs t a) e
+chosen-named h is f hs t a e = chosen_at-named h h.pt (index_at h.pt is) f (λ me. at_most-here me h.pt is hs t a) e

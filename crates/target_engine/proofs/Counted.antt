@@ -22,17 +22,17 @@ use Rattle.ni_model.specs.Headers.{UnexpectedList, unexpected_list, is_of, heade
 use Rattle.ni_model.specs.Refusals.{entry_names_ct, index_names_ct, index_names_eq}
 use Rattle.ni_objects.specs.users.Rows.{count_at, one_if_slot, one_at, incremented, more, fewer, Counts, IsAlone}
 use Rattle.ni_objects.specs.users.Sums.{sum_of, named_as}
-use Rattle.ni_objects.proofs.users.RowLemmas.{counts-none, counts-same, counts-incremented, counts-decremented, counts-more, counts-fewer, counts-few, add-room, one-few, names-step}
-use Rattle.ni_objects.proofs.users.SumLemmas.{one_if, sum-split, sum-push, sum-few}
+use Rattle.ni_objects.proofs.users.RowLemmas.{counts-none, counts-same, counts-incremented, counts-decremented, counts-more, counts-fewer, counts-at_most, add-room, one-at_most, names-step}
+use Rattle.ni_objects.proofs.users.SumLemmas.{one_if, sum-split, sum-push, sum-at_most}
 use Rattle.target_engine.specs.declared.index.Index.{Index as PortalEntry}
 use Rattle.target_engine.specs.declared.entry_records.EntryRecord.{EntryRecord}
 use Rattle.target_engine.specs.declared.entry_records.Records.{Records}
 use Rattle.target_engine.specs.PortalTable.{seen, seen_in, linked_as, linked_by, entries_by, headers_by, is_at, counts_at, ct_users, eq_users, waiting_at, linked_ct, not_linked, one_more, one_fewer, changed_by, recorded_by, recorded_anew, all_with_header, without_header, linked_records, unlinked_records, records_after, AreRecorded, AreCounted, IsKept, IsWhole}
 use Rattle.target_engine.specs.Sides.{EntriesAlone}
-use Rattle.target_engine.proofs.Headers.{unexpected-few, unexpected-append, unexpected-of}
+use Rattle.target_engine.proofs.Headers.{unexpected-at_most, unexpected-append, unexpected-of}
 use Rattle.target_engine.proofs.Counting.{or-sum}
 use Rattle.target_engine.proofs.Records.{sum-anew}
-use Rattle.target_engine.proofs.Recorded.{fits-linked, fresh_at, HasOneOf, recorded-few, some-below, some-index}
+use Rattle.target_engine.proofs.Recorded.{fits-linked, fresh_at, HasOneOf, recorded-at_most, some-below, some-index}
 
 -- ---- counting events, by the records of the entries
 
@@ -135,7 +135,7 @@ long-unexpected f h r =
 
 -- there is room to count it
 pub counted-index : (pt limit : ℕ) (hs : List IndexedHeader) (r : Records) → AreCounted hs r → length hs ≤ limit → limit < 2 ^ 32 → count_at pt r.waiting < 2 ^ 64 - 1
-counted-index pt limit hs r u le small = omega (arith, counts-few (waiting_at hs) (length hs) pt r.waiting u.waiting (unexpected-few (is_of pt) hs))
+counted-index pt limit hs r u le small = omega (arith, counts-at_most (waiting_at hs) (length hs) pt r.waiting u.waiting (unexpected-at_most (is_of pt) hs))
 
 -- a header goes
 pub counted-gone : (a : IndexedHeader) (hs left : List IndexedHeader) (r : Records) → AreCounted hs r → AreOnce r.by_entry → HasOneOf a hs left → AreCounted left (without_header a r)
@@ -173,8 +173,8 @@ one-linked false = omega arith
 pub counted-room : (most linked : ℕ) (is : List PortalEntry) (hs : UnexpectedList) (r : Records) (ct : Option Handle) → IsKept most is linked r.by_entry hs → AreCounted hs.unexpected r → linked < 2 ^ 32
     → IfSome ct (λ h. count_at h.slot r.cts < 2 ^ 64 - 1)
 counted-room most linked is hs r ct k u small =
-    add-room (ct_users r.by_entry) (length r.by_entry.live) r.cts ct u.cts (λ s. sum-few (linked_as (counts_at s)) r.by_entry.live (λ h v. one-linked (v.linked && is_at s v.ct)))
-    (omega (arith, recorded-few (seen_in is) hs.unexpected r.by_entry k.recorded, k.count, k.held, k.small))
+    add-room (ct_users r.by_entry) (length r.by_entry.live) r.cts ct u.cts (λ s. sum-at_most (linked_as (counts_at s)) r.by_entry.live (λ h v. one-linked (v.linked && is_at s v.ct)))
+    (omega (arith, recorded-at_most (seen_in is) hs.unexpected r.by_entry k.recorded, k.count, k.held, k.small))
 
 -- an entry isn't linked any more
 pub counted-unlinked : (me : Handle) (hs : List IndexedHeader) (r : Records) → AreCounted hs r → AreOnce r.by_entry → AreCounted hs (unlinked_records me r)
@@ -239,13 +239,13 @@ queues-allocated pt eq is e u lt none =
 pub queues-freed : (pt : ℕ) (is : List (Option Index)) (e : List ℕ) → Counts (eq_users is) e → pt < length is → Counts (eq_users (slice_set is pt None)) (fewer (queue_of (index_at pt is)) e)
 queues-freed pt is e u lt = counts-fewer (eq_users is) (eq_users (set is pt None)) e u (queue_of (get_or is pt None)) (λ k. omega (arith, eq-set k pt is None lt))
 
-eq-few : (k : ℕ) (is : List (Option Index)) → eq_users is k ≤ length is
-eq-few k [] = omega arith
-eq-few k (o ∷ is) = omega (arith, sum_by-cons (by_queue k) o is, one-few (queue_of o) k, eq-few k is)
+eq-at_most : (k : ℕ) (is : List (Option Index)) → eq_users is k ≤ length is
+eq-at_most k [] = omega arith
+eq-at_most k (o ∷ is) = omega (arith, sum_by-cons (by_queue k) o is, one-at_most (queue_of o) k, eq-at_most k is)
 
 -- there is room to count it
 pub queues-room : (is : List PortalEntry) (e : List ℕ) (eq : Option Handle) → Counts (eq_users (seen_in is)) e → length is < 2 ^ 32 → IfSome eq (λ h. count_at h.slot e < 2 ^ 64 - 1)
-queues-room is e eq u small = add-room (eq_users (seen_in is)) (length is) e eq u (λ k. omega (arith, eq-few k (seen_in is), length-map is seen)) (omega arith)
+queues-room is e eq u small = add-room (eq_users (seen_in is)) (length is) e eq u (λ k. omega (arith, eq-at_most k (seen_in is), length-map is seen)) (omega arith)
 
 -- ---- what a target keeps, where its indices were lent and came back
 

@@ -16,13 +16,13 @@ pub names-count : (me : Handle) (hs : List IndexedHeader) → names_entry me hs 
 names-count me [] = refl
 names-count me (a ∷ hs) = or-one (same_handle a.header.entry me) _ _ (names-count me hs)
 
-one-few : (b : Bool) → (if b then 1 else 0) ≤ 1
-one-few true = omega arith
-one-few false = omega arith
+one-at_most : (b : Bool) → (if b then 1 else 0) ≤ 1
+one-at_most true = omega arith
+one-at_most false = omega arith
 
-pub unexpected-few : (p : IndexedHeader → Bool) (hs : List IndexedHeader) → headers_by p hs ≤ length hs
-unexpected-few p [] = omega arith
-unexpected-few p (a ∷ hs) = omega (arith, unexpected-few p hs, one-few (p a))
+pub unexpected-at_most : (p : IndexedHeader → Bool) (hs : List IndexedHeader) → headers_by p hs ≤ length hs
+unexpected-at_most p [] = omega arith
+unexpected-at_most p (a ∷ hs) = omega (arith, unexpected-at_most p hs, one-at_most (p a))
 
 pub unexpected-all : (hs : List IndexedHeader) → headers_by (lies_in (λ h. true)) hs ≡ length hs
 unexpected-all [] = refl

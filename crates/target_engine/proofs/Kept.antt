@@ -24,9 +24,9 @@ use Rattle.ni_model.specs.Calls.{unlinked_in, slot_in, entry_slot}
 use Rattle.target_engine.specs.declared.index.Index.{Index as PortalEntry}
 use Rattle.target_engine.specs.declared.entry_records.EntryRecord.{EntryRecord}
 use Rattle.target_engine.specs.PortalTable.{index, seen, seen_in, settled_in, HasLists, IsPortalEntry, IsUnused, MayLink, AreRecorded, IsKept, lies_in, headers_in, frees_at, recorded_by, not_linked, records_with_header, unlinked_after, linked_after, one_more, one_fewer}
-use Rattle.target_engine.proofs.Headers.{is_entry, unexpected-few, unexpected-all, unexpected-oldest, unexpected-both}
+use Rattle.target_engine.proofs.Headers.{is_entry, unexpected-at_most, unexpected-all, unexpected-oldest, unexpected-both}
 use Rattle.target_engine.proofs.Records.{given-by, limit-by}
-use Rattle.target_engine.proofs.Recorded.{recorded-slot, settled-handle, recorded-few, recorded-headers, recorded-more, recorded-fewer, recorded-frees, recorded-none, many-none, recorded-settled, many-settled, recorded-empty, many-empty, recorded-unlinked, one-off, recorded-linked, many-linked, fresh_at, recorded-on, linked-anywhere, unlinked-at}
+use Rattle.target_engine.proofs.Recorded.{recorded-slot, settled-handle, recorded-at_most, recorded-headers, recorded-more, recorded-fewer, recorded-frees, recorded-none, many-none, recorded-settled, many-settled, recorded-empty, many-empty, recorded-unlinked, one-off, recorded-linked, many-linked, fresh_at, recorded-on, linked-anywhere, unlinked-at}
 use Rattle.target_engine.proofs.Views.{seen-on, seen-off, portal_entries-lists, unused-portal_entries, unused-seen}
 
 or-none : (a b : Bool) → (a || b) ≡ false → (a ≡ false) × (b ≡ false)
@@ -40,7 +40,7 @@ may-on : (slot most records given : ℕ) (i : PortalEntry) (is : List (Option In
 may-on slot most records given i is k lt free below keys =
     let s = sum_by-cons entries_in (Some (index i.eq i.lists)) is in
     let both = or-none (slot_in slot i.lists.priority || slot_in slot i.lists.overflow) (entry_slot is slot) free in (
-      record { room = omega (arith, k.limit); below = omega (arith, k.slots); free = both.0; keys = omega (arith, k.few) },
+      record { room = omega (arith, k.limit); below = omega (arith, k.slots); free = both.0; keys = omega (arith, k.at_most) },
       omega arith,
       both.1,
     )
@@ -50,7 +50,7 @@ may-off : (slot most records given : ℕ) (i : PortalEntry) (is : List (Option I
 may-off slot most records given i is off k lt free below keys =
     let s = sum_by-cons entries_in None is in
     let none = k.empty off in (
-      record { room = omega (arith, k.limit, ap length none.0, ap length none.1); below = omega (arith, k.slots); free = rw (none.0, none.1) refl; keys = omega (arith, k.few) },
+      record { room = omega (arith, k.limit, ap length none.0, ap length none.1); below = omega (arith, k.slots); free = rw (none.0, none.1) refl; keys = omega (arith, k.at_most) },
       omega arith,
       free,
     )
@@ -74,17 +74,17 @@ not-full most n given e = let both = or-none (nat_le most n) (nat_le top given) 
 
 pub kept-may_link : (slot most linked : ℕ) (is : List PortalEntry) (t : Table EntryRecord) (hs : UnexpectedList) → IsKept most is linked t hs → (nat_le most (sum_by entries_in (seen_in is)) || nat_le top t.given) ≡ false → slot < t.limit → has_slot slot t.live ≡ false → All (MayLink slot) is
 kept-may_link slot most linked is t hs k room below free =
-    let few = not-full most (sum_by entries_in (seen_in is)) t.given room in
-    may-all slot most (most + hs.limit) t.given is k.portal_entries few.0 (recorded-slot slot (seen_in is) hs.unexpected t k.recorded free) (omega (arith, k.limit)) few.1
+    let at_most = not-full most (sum_by entries_in (seen_in is)) t.given room in
+    may-all slot most (most + hs.limit) t.given is k.portal_entries at_most.0 (recorded-slot slot (seen_in is) hs.unexpected t k.recorded free) (omega (arith, k.limit)) at_most.1
 
 pub kept-lists : (most linked : ℕ) (is : List PortalEntry) (t : Table EntryRecord) (hs : UnexpectedList) → IsKept most is linked t hs → All HasLists is
 kept-lists most linked is t hs k = portal_entries-lists is most (most + hs.limit) t.given k.portal_entries
 
 -- ---- what a target keeps, where its indices were lent and came back
 pub kept-lent : (most n linked : ℕ) (is new : List PortalEntry) (after : List (Option Index)) (u : Table EntryRecord) (hs : UnexpectedList) → length new ≡ n → seen_in new ≡ after → AreRecorded after hs.unexpected u → All (IsPortalEntry most (most + hs.limit) u.given) new → u.limit ≡ most + hs.limit → linked ≡ sum_by entries_in after → length hs.unexpected ≤ hs.limit → hs.limit < 2 ^ 32 → IsKept most (take n (new ++ drop (length new) is)) linked u hs
-kept-lent most n linked is new after u hs len e recorded portal_entries limit count few small =
+kept-lent most n linked is new after u hs len e recorded portal_entries limit count at_most small =
     let whole : take n (new ++ drop (length new) is) ≡ new = rw (← len) (take-append_seam new (drop (length new) is)) in
-    rw whole (record { recorded = rw e recorded; portal_entries = portal_entries; limit = limit; count = rw e count; held = few; small = small })
+    rw whole (record { recorded = rw e recorded; portal_entries = portal_entries; limit = limit; count = rw e count; held = at_most; small = small })
 
 -- all places keep their lists
 abbrev pub KeepsPortalEntries : List PortalEntry → List PortalEntry → Type 0
@@ -136,8 +136,8 @@ kept-settled most n linked f h is was new t u hs s k e len after keeps gone seen
     kept-lent most n (linked_after f h linked) is new (indices_after f h (seen_in is)) u hs len (seen-settled most linked f h is was new t hs s k e after seen_as there) recorded
     (still-portal_entries most linked is was new t u hs k e keeps given) (ap (λ (x : Table EntryRecord). x.limit) gone ∙ limit-after f h t ∙ k.limit) (ap (linked_after f h) k.count ∙ many-settled f h (seen_in is) hs.unexpected t k.recorded at) k.held k.small
 
-pub kept-few : (most linked : ℕ) (is : List PortalEntry) (t : Table EntryRecord) (hs : UnexpectedList) (me : Handle) → IsKept most is linked t hs → headers_in (lookup me t.live) < 2 ^ 32
-kept-few most linked is t hs me k = omega (arith, recorded-headers me (seen_in is) hs.unexpected t k.recorded, unexpected-few (lies_in (is_entry me)) hs.unexpected, k.held, k.small)
+pub kept-at_most : (most linked : ℕ) (is : List PortalEntry) (t : Table EntryRecord) (hs : UnexpectedList) (me : Handle) → IsKept most is linked t hs → headers_in (lookup me t.live) < 2 ^ 32
+kept-at_most most linked is t hs me k = omega (arith, recorded-headers me (seen_in is) hs.unexpected t k.recorded, unexpected-at_most (lies_in (is_entry me)) hs.unexpected, k.held, k.small)
 
 -- a header comes
 kept-more : (most linked : ℕ) (a : IndexedHeader) (is : List PortalEntry) (t : Table EntryRecord) (hs : UnexpectedList) → IsKept most is linked t hs → (w : EntryRecord) → lookup a.header.entry t.live ≡ Some w → length hs.unexpected < hs.limit → IsKept most is linked (recorded_by a.header.entry one_more t) (unexpected_list (hs.unexpected ++ a ∷ []) hs.limit)
@@ -244,7 +244,7 @@ full-by most linked n limit top_given le at =
 
 pub full-kept : (most linked : ℕ) (is : List PortalEntry) (t : Table EntryRecord) (hs : UnexpectedList) → IsKept most is linked t hs → (nat_le most linked || is_full t) ≡ (nat_le most (sum_by entries_in (seen_in is)) || nat_le top t.given)
 full-kept most linked is t hs k =
-    rw (← k.count) (full-by most linked (length t.live) t.limit (nat_le top t.given) (omega (arith, recorded-few (seen_in is) hs.unexpected t k.recorded, k.count, k.held, k.limit)) (omega (arith, k.limit)))
+    rw (← k.count) (full-by most linked (length t.live) t.limit (nat_le top t.given) (omega (arith, recorded-at_most (seen_in is) hs.unexpected t k.recorded, k.count, k.held, k.limit)) (omega (arith, k.limit)))
 
 pub or-right : (a b : Bool) → (a || b) ≡ false → b ≡ false
 or-right true b e = cc
@@ -255,8 +255,8 @@ full-where most linked is t hs k lt =
     let e : nat_le most linked ≡ false = grind (arith, nat_tests) in
     rw e at (full-kept most linked is t hs k)
 
-pub linked-few : (most linked : ℕ) (is : List PortalEntry) (t : Table EntryRecord) (hs : UnexpectedList) → IsKept most is linked t hs → (nat_le most (sum_by entries_in (seen_in is)) || nat_le top t.given) ≡ false → linked < most
-linked-few most linked is t hs k e =
+pub linked-at_most : (most linked : ℕ) (is : List PortalEntry) (t : Table EntryRecord) (hs : UnexpectedList) → IsKept most is linked t hs → (nat_le most (sum_by entries_in (seen_in is)) || nat_le top t.given) ≡ false → linked < most
+linked-at_most most linked is t hs k e =
     elim (nat_le most (sum_by entries_in (seen_in is))) as (λ b. nat_le most (sum_by entries_in (seen_in is)) ≡ b → (b || nat_le top t.given) ≡ false → linked < most) [
       | true ↦ λ f g. cc
       | false ↦ λ f g. let lt : sum_by entries_in (seen_in is) < most = grind (arith, nat_tests) in omega (arith, k.count)

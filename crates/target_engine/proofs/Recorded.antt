@@ -92,12 +92,12 @@ needed v e =
       ] refl f
     ] e
 
-live-few : (xs : List (Live EntryRecord)) → sum_of idle_as xs ≡ 0 → length xs ≤ sum_of (linked_as any_handle) xs + sum_of (headers_as (λ h. true)) xs
-live-few [] e = omega arith
-live-few (x ∷ xs) e = omega (arith, live-few xs (omega arith), needed x.value (omega arith))
+live-at_most : (xs : List (Live EntryRecord)) → sum_of idle_as xs ≡ 0 → length xs ≤ sum_of (linked_as any_handle) xs + sum_of (headers_as (λ h. true)) xs
+live-at_most [] e = omega arith
+live-at_most (x ∷ xs) e = omega (arith, live-at_most xs (omega arith), needed x.value (omega arith))
 
-pub recorded-few : (is : List (Option Index)) (hs : List IndexedHeader) (t : Table EntryRecord) → AreRecorded is hs t → length t.live ≤ sum_by entries_in is + length hs
-recorded-few is hs t a = omega (arith, live-few t.live a.busy, a.same any_handle, a.lies (λ h. true), linked-all 0 is, unexpected-all hs)
+pub recorded-at_most : (is : List (Option Index)) (hs : List IndexedHeader) (t : Table EntryRecord) → AreRecorded is hs t → length t.live ≤ sum_by entries_in is + length hs
+recorded-at_most is hs t a = omega (arith, live-at_most t.live a.busy, a.same any_handle, a.lies (λ h. true), linked-all 0 is, unexpected-all hs)
 
 -- ---- a record is put in the place of the old one
 
@@ -318,29 +318,29 @@ settled-one : (f : Found) (h : Header) (k : ℕ) (o : Option Index) → is_linke
 settled-one f h k None e one = cc
 settled-one f h k (Some i) e one = settled-alone f h k i e one
 
-number-few : (me : Handle) (o : Option EntryRecord) → number_at (linked_as (is_handle me)) me o ≤ 1
-number-few me None = omega arith
-number-few me (Some v) = elim (v.linked && same_handle me me) as (λ b. (if b then 1 else 0) ≤ 1) [ true ↦ omega arith | false ↦ omega arith ]
+number-at_most : (me : Handle) (o : Option EntryRecord) → number_at (linked_as (is_handle me)) me o ≤ 1
+number-at_most me None = omega arith
+number-at_most me (Some v) = elim (v.linked && same_handle me me) as (λ b. (if b then 1 else 0) ≤ 1) [ true ↦ omega arith | false ↦ omega arith ]
 
-few-at : (me : Handle) (pt : ℕ) (is : List (Option Index)) (hs : List IndexedHeader) (t : Table EntryRecord) → AreRecorded is hs t → linked_by (is_handle me) 0 is ≤ 1
-few-at me pt is hs t a = omega (arith, a.same (is_handle me), there-alone (linked_as (is_handle me)) me is hs t a (λ h v e. apart-linked v.linked (same_handle h me) e), number-few me (lookup me t.live))
+at_most-at : (me : Handle) (pt : ℕ) (is : List (Option Index)) (hs : List IndexedHeader) (t : Table EntryRecord) → AreRecorded is hs t → linked_by (is_handle me) 0 is ≤ 1
+at_most-at me pt is hs t a = omega (arith, a.same (is_handle me), there-alone (linked_as (is_handle me)) me is hs t a (λ h v e. apart-linked v.linked (same_handle h me) e), number-at_most me (lookup me t.live))
 
-pub few-here : (me : Handle) (pt : ℕ) (is : List (Option Index)) (hs : List IndexedHeader) (t : Table EntryRecord) → AreRecorded is hs t → index_by (is_handle me) pt (get_or is pt None) ≤ 1
-few-here me pt is hs t a = omega (arith, few-at me pt is hs t a, linked-split me pt 0 pt is (omega arith))
+pub at_most-here : (me : Handle) (pt : ℕ) (is : List (Option Index)) (hs : List IndexedHeader) (t : Table EntryRecord) → AreRecorded is hs t → index_by (is_handle me) pt (get_or is pt None) ≤ 1
+at_most-here me pt is hs t a = omega (arith, at_most-at me pt is hs t a, linked-split me pt 0 pt is (omega arith))
 
 -- an entry is in one list alone: what becomes of it in both is what becomes of it there
 pub settled-handle : (f : Found) (h : Header) (is : List (Option Index)) (hs : List IndexedHeader) (t : Table EntryRecord) → AreRecorded is hs t → is_linked_at f.list f.linked.handle (index_at h.pt is) ≡ true → slice_set is h.pt (settled_in f h (index_at h.pt is)) ≡ indices_after f h is
-settled-handle f h is hs t a e = ap (λ o. set is h.pt o) (settled-one f h h.pt (get_or is h.pt None) e (few-here f.linked.handle h.pt is hs t a))
+settled-handle f h is hs t a e = ap (λ o. set is h.pt o) (settled-one f h h.pt (get_or is h.pt None) e (at_most-here f.linked.handle h.pt is hs t a))
 
 pub settled-over : (f : Found) (h : Header) (is : List (Option Index)) (hs : List IndexedHeader) (t : Table EntryRecord) → AreRecorded is hs t → is_linked_at f.list f.linked.handle (index_at h.pt is) ≡ true → is_over f.linked h ≡ true → indices_after f h is ≡ map (unlinked_in f.linked.handle) is
 settled-over f h is hs t a e over =
     let me : Handle = f.linked.handle in
     let here = linked_at-some f.list me h.pt (get_or is h.pt None) e in
     let split = linked-split me h.pt 0 h.pt is (omega arith) in
-    let one = few-at me h.pt is hs t a in
+    let one = at_most-at me h.pt is hs t a in
     let none : linked_by (elsewhere me h.pt) 0 is ≡ 0 = omega arith in
-    let few : index_by (is_handle me) h.pt (get_or is h.pt None) ≤ 1 = omega arith in
-    ap (λ o. set is h.pt o) (over-at f h h.pt (get_or is h.pt None) over e few) ∙ sym (map-at me h.pt 0 h.pt is (omega arith) none)
+    let at_most : index_by (is_handle me) h.pt (get_or is h.pt None) ≤ 1 = omega arith in
+    ap (λ o. set is h.pt o) (over-at f h h.pt (get_or is h.pt None) over e at_most) ∙ sym (map-at me h.pt 0 h.pt is (omega arith) none)
 
 -- an entry in a list of an index is linked
 pub linked-anywhere : (list : EntryList) (me : Handle) (pt : ℕ) (is : List (Option Index)) → is_linked_at list me (index_at pt is) ≡ true → is_linked_anywhere me is ≡ true

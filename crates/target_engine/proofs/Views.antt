@@ -95,20 +95,20 @@ settled-index f h i =
 record StaysPortalEntry (b c : Both) : Type 0 where
   limit : c.limit ≡ b.limit
   slots : c.slots ≡ b.slots
-  few : c.appended ≡ b.appended
+  at_most : c.appended ≡ b.appended
   empty : AreEmpty b → AreEmpty c
 
 stays-portal_entry : (i : PortalEntry) (c : Both) (most slots given : ℕ) → StaysPortalEntry i.lists c → IsPortalEntry most slots given i → IsPortalEntry most slots given (with_lists i c)
-stays-portal_entry i c most slots given s k = record { limit = s.limit ∙ k.limit; slots = s.slots ∙ k.slots; few = omega (arith, s.few, k.few); empty = λ off. s.empty (k.empty off) }
+stays-portal_entry i c most slots given s k = record { limit = s.limit ∙ k.limit; slots = s.slots ∙ k.slots; at_most = omega (arith, s.at_most, k.at_most); empty = λ off. s.empty (k.empty off) }
 
 unlinked-stays : (me : Handle) (b : Both) → StaysPortalEntry b (without_entry me b)
-unlinked-stays me b = record { limit = refl; slots = refl; few = refl; empty = λ e. (rw e.0 refl, rw e.1 refl) }
+unlinked-stays me b = record { limit = refl; slots = refl; at_most = refl; empty = λ e. (rw e.0 refl, rw e.1 refl) }
 
 advanced-stays : (me : Handle) (to : ℕ) (b : Both) → StaysPortalEntry b (advanced_to me to b)
-advanced-stays me to b = record { limit = refl; slots = refl; few = refl; empty = λ e. (rw e.0 refl, rw e.1 refl) }
+advanced-stays me to b = record { limit = refl; slots = refl; at_most = refl; empty = λ e. (rw e.0 refl, rw e.1 refl) }
 
 same-stays : (b : Both) → StaysPortalEntry b b
-same-stays b = record { limit = refl; slots = refl; few = refl; empty = λ e. e }
+same-stays b = record { limit = refl; slots = refl; at_most = refl; empty = λ e. e }
 
 settled-stays : (f : Found) (h : Header) (b : Both) → StaysPortalEntry b (settled_lists f h b)
 settled-stays f h b =
@@ -127,14 +127,14 @@ pub settled-portal_entry : (f : Found) (h : Header) (i : PortalEntry) (most slot
 settled-portal_entry f h i most slots given k = stays-portal_entry i (settled_lists f h i.lists) most slots given (settled-stays f h i.lists) k
 
 pub linked-portal_entry : (list : EntryList) (x : Linked) (i : PortalEntry) (most slots given : ℕ) → i.allocated ≡ true → IsPortalEntry most slots given i → IsPortalEntry most slots (given + 1) (with_lists i (with_entries list (λ xs. xs ++ x ∷ []) (i.lists.appended + 1) i.lists))
-linked-portal_entry Priority x i most slots given on k = record { limit = k.limit; slots = k.slots; few = omega (arith, k.few); empty = λ off. let both : true ≡ false = sym on ∙ off in cc }
-linked-portal_entry Overflow x i most slots given on k = record { limit = k.limit; slots = k.slots; few = omega (arith, k.few); empty = λ off. let both : true ≡ false = sym on ∙ off in cc }
+linked-portal_entry Priority x i most slots given on k = record { limit = k.limit; slots = k.slots; at_most = omega (arith, k.at_most); empty = λ off. let both : true ≡ false = sym on ∙ off in cc }
+linked-portal_entry Overflow x i most slots given on k = record { limit = k.limit; slots = k.slots; at_most = omega (arith, k.at_most); empty = λ off. let both : true ≡ false = sym on ∙ off in cc }
 
 pub recorded-portal_entry : (allocated : Bool) (eq : Option Handle) (i : PortalEntry) (most slots given : ℕ) → AreEmpty i.lists → IsPortalEntry most slots given i → IsPortalEntry most slots given (record { allocated = allocated; eq = eq; lists = i.lists })
-recorded-portal_entry allocated eq i most slots given empty k = record { limit = k.limit; slots = k.slots; few = k.few; empty = λ off. empty }
+recorded-portal_entry allocated eq i most slots given empty k = record { limit = k.limit; slots = k.slots; at_most = k.at_most; empty = λ off. empty }
 
 pub portal_entry-more : (i : PortalEntry) (most slots m n : ℕ) → m ≤ n → IsPortalEntry most slots m i → IsPortalEntry most slots n i
-portal_entry-more i most slots m n le k = record { limit = k.limit; slots = k.slots; few = omega (arith, k.few); empty = k.empty }
+portal_entry-more i most slots m n le k = record { limit = k.limit; slots = k.slots; at_most = omega (arith, k.at_most); empty = k.empty }
 
 -- ---- all places
 
@@ -149,7 +149,7 @@ portal_entries-lists (i ∷ is) most slots given all =
     All-cons HasLists i is ((All-head (IsPortalEntry most slots given) i is all).empty) (portal_entries-lists is most slots given (All-tail (IsPortalEntry most slots given) i is all))
 
 unused-portal_entry : (most slots : ℕ) (i : PortalEntry) → IsUnused most slots i → IsPortalEntry most slots 0 i
-unused-portal_entry most slots i u = record { limit = rw u.lists refl; slots = rw u.lists refl; few = rw u.lists (omega arith); empty = λ off. rw u.lists (refl, refl) }
+unused-portal_entry most slots i u = record { limit = rw u.lists refl; slots = rw u.lists refl; at_most = rw u.lists (omega arith); empty = λ off. rw u.lists (refl, refl) }
 
 pub unused-portal_entries : (most slots : ℕ) (is : List PortalEntry) → All (IsUnused most slots) is → All (IsPortalEntry most slots 0) is
 unused-portal_entries most slots [] all = All-nil (IsPortalEntry most slots 0)

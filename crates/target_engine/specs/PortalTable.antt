@@ -50,7 +50,7 @@ HasLists i = i.allocated ≡ false → AreEmpty i.lists
 pub record IsPortalEntry (most records given : ℕ) (i : PortalEntry) : Type 0 where
   pub limit : i.lists.limit ≡ most
   pub slots : i.lists.slots ≡ records
-  pub few : i.lists.appended ≤ given
+  pub at_most : i.lists.appended ≤ given
   pub empty : HasLists i
 
 -- as it is opened

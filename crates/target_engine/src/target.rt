@@ -43,7 +43,7 @@ fn count_message(cts: &mut Store<Counter>, linked: &Linked)
 fn note_header(headers: &mut Headers, records: &mut Records, found: &Found, header: &Header)
     requires room { HasRoom found.now.list headers.old }
     requires part { found.now.linked.entry.start + found.now.linked.entry.length < 2 ^ 64 }
-    requires few { headers_in (lookup found.now.linked.handle records.old.by_entry.live) < 2 ^ 32 }
+    requires at_most { headers_in (lookup found.now.linked.handle records.old.by_entry.live) < 2 ^ 32 }
     requires index { count_at header.now.pt records.old.waiting < 2 ^ 64 - 1 }
     ensures headers { headers.new ≡ headers_after found.now header.now headers.old }
     ensures records { records.new ≡ all_with_header found.now header.now records.old }

@@ -236,14 +236,14 @@ belongs-same stamps a b e f s =
     let stamp : a.stamp ≡ b.stamp = stamp-same (slice_get stamps b.slot) a.stamp b.stamp (subst (λ i. is_stamp (slice_get stamps i) a.stamp ≡ true) s e) f in
     rw (eq-eqb a.stamp b.stamp stamp, eq-eqb a.slot b.slot s) refl
 
-few : (due : Bool) → cond due 0 1 ≤ 1
-few true = omega arith
-few false = omega arith
+at_most : (due : Bool) → cond due 0 1 ≤ 1
+at_most true = omega arith
+at_most false = omega arith
 
 pub home-within : (stamps : List ℕ) (ct : Handle) (due : Bool) → home stamps ct due < 2 * length stamps + 1
 home-within stamps ct due =
     elim (belongs stamps ct) as (λ b. belongs stamps ct ≡ b → cond b (2 * ct.slot + cond due 0 1) (2 * length stamps) < 2 * length stamps + 1) [
-      | true ↦ λ e. let w = belongs-within stamps ct e in omega (arith, w, few due)
+      | true ↦ λ e. let w = belongs-within stamps ct e in omega (arith, w, at_most due)
       | false ↦ λ e. omega arith
     ] refl
 

@@ -47,7 +47,7 @@ module _ {D : Type 0} where
     places = places ∙ l.places ∙ sym same.room;
     room = same.room ∙ l.room;
     small = l.small;
-    few = l.few;
+    at_most = l.at_most;
   }
 
   -- one more is posted
@@ -71,7 +71,7 @@ module _ {D : Type 0} where
         places = places ∙ l.places ∙ sym room;
         room = room ∙ l.room;
         small = l.small;
-        few = omega (arith, long, l.few);
+        at_most = omega (arith, long, l.at_most);
       }
 
   pub told-length : (s t : Spotted D) (ct : Handle) (sum : ℕ) → operations_in t.spots ≡ map (told_if (waits_on ct) sum) (operations_in s.spots) → length (operations_in t.spots) ≡ length (operations_in s.spots)
@@ -130,7 +130,7 @@ module _ {D : Type 0} where
   -- ---- none at first
   pub laid-none : (s : Spotted D) (w : Woven) (stamps : List ℕ) (events limit : ℕ) → s ≡ no_spots (limit + limit / 4) → w ≡ woven (replicate (2 * events + 1) []) (limit + limit / 4) → length stamps ≡ events → limit ≤ 2 ^ 27 → events ≤ 2 ^ 27
       → IsLaid s w stamps 0 limit
-  laid-none s w stamps events limit es ew long small few =
+  laid-none s w stamps events limit es ew long small at_most =
       let hung = none-hung w stamps (2 * events + 1) (limit + limit / 4) ew (omega (arith, long)) in
       let places : w.places ≡ limit + limit / 4 = ap (λ (v : Woven). v.places) ew in
       subst (λ (t : Spotted D). IsLaid t w stamps 0 limit) (sym es) (record {
@@ -142,7 +142,7 @@ module _ {D : Type 0} where
         places = places;
         room = refl;
         small = small;
-        few = omega (arith, long, few);
+        at_most = omega (arith, long, at_most);
       })
 
   -- ---- one by its number, of those that wait

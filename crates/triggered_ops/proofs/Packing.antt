@@ -230,9 +230,9 @@ module _ {D : Type 0} where
 
 module _ {D : Type 0} (s : Spotted D) (w : Woven) (stamps : List ℕ) where
   pub packing-begin : IsHung (wait_at s.spots) w stamps → length stamps ≤ 2 ^ 27 → length s.spots ≤ w.places → IsPacking s w stamps 0 0
-  packing-begin h few long = record {
+  packing-begin h at_most long = record {
     hung = h;
-    few = few;
+    at_most = at_most;
     order = omega arith;
     within = omega arith;
     long = long;
@@ -250,8 +250,8 @@ module _ {D : Type 0} (s : Spotted D) (w : Woven) (stamps : List ℕ) where
   pub packed-full : (kept place : ℕ) → IsPacking s w stamps kept place → length (take kept s.spots) ≡ length (operations_in (take kept s.spots))
   packed-full kept place p = sym (all-live (take kept s.spots) (λ q lt.
       let short = length-take s.spots kept in
-      let few = length-taken s.spots kept in
-      ap is_some (take-early s.spots kept q (omega (arith, lt, few))) ∙ p.laid q (omega (arith, lt, few))))
+      let at_most = length-taken s.spots kept in
+      ap is_some (take-early s.spots kept q (omega (arith, lt, at_most))) ∙ p.laid q (omega (arith, lt, at_most))))
     where
       length-taken : (ss : List (Spot D)) (len : ℕ) → length (take len ss) ≤ len
       length-taken ss zero = omega arith
@@ -268,7 +268,7 @@ module _ {D : Type 0} (s : Spotted D) (w : Woven) (stamps : List ℕ) where
   pub packing-pass : (kept place next : ℕ) → next ≡ suc place → IsPacking s w stamps kept place → place < length s.spots → wait_at s.spots place ≡ None → IsPacking s w stamps kept next
   packing-pass kept place next e p lt none = record {
     hung = p.hung;
-    few = p.few;
+    at_most = p.at_most;
     order = omega (arith, e, p.order);
     within = omega (arith, e, lt);
     long = p.long;
@@ -283,7 +283,7 @@ module _ {D : Type 0} (s : Spotted D) (w : Woven) (stamps : List ℕ) where
   pub packing-stay : (kept place more next : ℕ) → more ≡ suc kept → next ≡ suc place → kept ≡ place → IsPacking s w stamps kept place → place < length s.spots → is_some (wait_at s.spots place) ≡ true → IsPacking s w stamps more next
   packing-stay kept place more next em en same p lt some = record {
     hung = p.hung;
-    few = p.few;
+    at_most = p.at_most;
     order = omega (arith, em, en, same);
     within = omega (arith, en, lt);
     long = p.long;
@@ -307,7 +307,7 @@ packing-carry old new w w2 stamps kept place more next d em en lt p within some 
     λ q. ap (λ l. wait_at l q) is ∙ swap-wait old.spots place kept lt within d q in
     record {
       hung = h;
-      few = p.few;
+      at_most = p.at_most;
       order = omega (arith, em, en, lt);
       within = omega (arith, en, within, long);
       long = omega (arith, p.long, long, places);

@@ -80,7 +80,7 @@ module _ {D : Type 0} where
           counted = i.counted ∙ sym (settled-count p v ss);
           fits = omega (arith, i.fits, settled-length p v ss);
           enough = i.enough;
-          few = i.few;
+          at_most = i.at_most;
         }
 
     pub spotted-emptied : (p less : ℕ) → is_some (wait_at ss p) ≡ true → less + 1 ≡ waiting → IsSpotted (emptied p ss) (set marks p 0) less room capacity
@@ -93,7 +93,7 @@ module _ {D : Type 0} where
           counted = omega (arith, i.counted, one, emptied-count p ss e);
           fits = omega (arith, i.fits, changed-length (λ (s : Spot D). record s { deed = None }) p ss);
           enough = i.enough;
-          few = i.few;
+          at_most = i.at_most;
         }
 
     pub waits-some : (p : ℕ) → is_some (wait_at ss p) ≡ true → 1 ≤ waiting
@@ -116,7 +116,7 @@ module _ {D : Type 0} where
               omega (arith, a, b, c, e, i.counted, one);
           fits = omega (arith, length-append ss (s ∷ []), lt);
           enough = i.enough;
-          few = i.few;
+          at_most = i.at_most;
         }
 
     pub spotted-swapped : (from to : ℕ) (d : Spot D) (v : Bool) → to < from → is_some (wait_at ss from) ≡ true → wait_at ss to ≡ None → (get_or ss from d).due ≡ v → IsSpotted (swap ss from to) (set (set marks from 0) to (cond v 1 0)) waiting room capacity
@@ -134,7 +134,7 @@ module _ {D : Type 0} where
           counted = i.counted ∙ sym (swap-count ss from to order lt d);
           fits = omega (arith, i.fits, swap-length ss from to order lt d);
           enough = i.enough;
-          few = i.few;
+          at_most = i.at_most;
         }
 
     pub spotted-taken : (len cap : ℕ) → AreGone len ss → cap ≡ capacity → IsSpotted (take len ss) marks waiting room cap
@@ -144,7 +144,7 @@ module _ {D : Type 0} where
       counted = i.counted ∙ sym (ap length (take-value ss len g));
       fits = taken-short ss len room i.fits;
       enough = omega (arith, c, i.enough);
-      few = i.few;
+      at_most = i.at_most;
     }
 
     pub due-total : sum marks ≡ length (filter is_due (operations_in ss))
@@ -159,7 +159,7 @@ module _ {D : Type 0} where
 
 -- none at first
 pub spotted-none : {D : Type 0} (marks : List ℕ) (n room capacity : ℕ) → marks ≡ replicate n 0 → room ≤ n → room ≤ capacity → room ≤ 2 ^ 28 → IsSpotted {D = D} [] marks 0 room capacity
-spotted-none marks n room capacity e le enough few =
+spotted-none marks n room capacity e le enough at_most =
     let long : length marks ≡ n = ap length e ∙ length-replicate n 0 in
     let all : n ≡ length marks - 0 = omega (arith, long) in
     record {
@@ -168,5 +168,5 @@ spotted-none marks n room capacity e le enough few =
       counted = refl;
       fits = omega arith;
       enough = enough;
-      few = few;
+      at_most = at_most;
     }

@@ -84,7 +84,7 @@ pub record IsGap (at : ℕ → Option Wait) (threshold : ℕ) (after : Option �
 -- the places before `kept` are laid, those up to `place` are free
 pub record IsPacking {D : Type 0} (s : Spotted D) (w : Woven) (stamps : List ℕ) (kept place : ℕ) : Type 0 where
   pub hung : IsHung (wait_at s.spots) w stamps
-  pub few : length stamps ≤ 2 ^ 27
+  pub at_most : length stamps ≤ 2 ^ 27
   pub order : kept ≤ place
   pub within : place ≤ length s.spots
   pub long : length s.spots ≤ w.places
@@ -110,4 +110,4 @@ pub record IsLaid {D : Type 0} (s : Spotted D) (w : Woven) (stamps : List ℕ) (
   pub places : w.places ≡ s.room
   pub room : s.room ≡ limit + limit / 4
   pub small : limit ≤ 2 ^ 27
-  pub few : length stamps ≤ 2 ^ 27
+  pub at_most : length stamps ≤ 2 ^ 27

@@ -125,7 +125,7 @@ module _ {D : Type 0} where
     pub counted : waiting ≡ length (operations_in ss)
     pub fits : length ss ≤ room
     pub enough : room ≤ capacity
-    pub few : room ≤ 2 ^ 28
+    pub at_most : room ≤ 2 ^ 28
 
   abbrev pub operations_of : Spotted D → ℕ → ℕ → Operations D
   operations_of s given limit = record { waiting = operations_in s.spots; given = given; limit = limit }

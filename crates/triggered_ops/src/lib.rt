@@ -196,7 +196,7 @@ impl<D: Drop> Pending<D> {
     /// None, with numbers from 0; `limit` may wait at a time. An operation whose counting event has a slot below `events` is found by
     /// it at once, and others by a walk. Conditions: neither passes 2^27, so that each place and each list has a number of 32 bits.
     pub fn open(alloc: Global, limit: u32, events: u32) -> Result<Pending<D>, NoMemory>
-        requires few { limit ≤ 2 ^ 27 }
+        requires at_most { limit ≤ 2 ^ 27 }
         requires lists { events ≤ 2 ^ 27 }
         ensures makes { IfOk result (λ p. p ≡ no_operations limit) }
     {

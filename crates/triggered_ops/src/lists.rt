@@ -25,7 +25,7 @@ pub fn belongs(stamps: &[u64], ct: Handle) -> bool
 
 /// The list of those that are due comes first.
 fn side(due: bool) -> u32
-    ensures few { result ≤ 1 }
+    ensures at_most { result ≤ 1 }
     ensures same { result ≡ (if due then 0 else 1) }
 {
     if due { 0 } else { 1 }
@@ -52,7 +52,7 @@ pub fn next_due<D>(
     sum: u64,
 ) -> Option<u32>
     requires hung { IsHung (wait_at spots.now.spots) threads.now stamps.now }
-    requires few { length stamps.now ≤ 2 ^ 27 }
+    requires at_most { length stamps.now ≤ 2 ^ 27 }
     requires belongs { belongs stamps.now ct ≡ true }
     ensures first { IfSome result (λ p. first_place (thread_at (2 * ct.slot + 1) threads.now) ≡ Some p) }
     ensures some { IfSome result (λ p. threshold_of (wait_at spots.now.spots p) ≤ sum) }
@@ -79,7 +79,7 @@ pub fn next_undue<D>(
     sum: u64,
 ) -> Option<u32>
     requires hung { IsHung (wait_at spots.now.spots) threads.now stamps.now }
-    requires few { length stamps.now ≤ 2 ^ 27 }
+    requires at_most { length stamps.now ≤ 2 ^ 27 }
     requires belongs { belongs stamps.now ct ≡ true }
     ensures last { IfSome result (λ p. last_place (thread_at (2 * ct.slot) threads.now) ≡ Some p) }
     ensures some { IfSome result (λ p. sum < threshold_of (wait_at spots.now.spots p)) }
@@ -106,7 +106,7 @@ pub fn make_due<D>(
     place: u32,
 )
     requires hung { IsHung (wait_at spots.old.spots) threads.old stamps.now }
-    requires few { length stamps.now ≤ 2 ^ 27 }
+    requires at_most { length stamps.now ≤ 2 ^ 27 }
     requires belongs { belongs stamps.now ct ≡ true }
     requires first { first_place (thread_at (2 * ct.slot + 1) threads.old) ≡ Some place }
     requires within { length spots.old.spots ≤ threads.old.places }
@@ -129,7 +129,7 @@ pub fn make_undue<D>(
     place: u32,
 )
     requires hung { IsHung (wait_at spots.old.spots) threads.old stamps.now }
-    requires few { length stamps.now ≤ 2 ^ 27 }
+    requires at_most { length stamps.now ≤ 2 ^ 27 }
     requires belongs { belongs stamps.now ct ≡ true }
     requires last { last_place (thread_at (2 * ct.slot) threads.old) ≡ Some place }
     requires within { length spots.old.spots ≤ threads.old.places }

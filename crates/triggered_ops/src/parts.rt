@@ -109,7 +109,7 @@ fn gap<D>(spots: &Spots<D>, threads: &Threads, thread: u32, threshold: u64) -> O
 /// Hangs an operation on its list, at a place where none waits yet.
 pub fn hang<D>(spots: &Spots<D>, threads: &mut Threads, stamps: &[u64], wait: Wait, place: u32)
     requires hung { IsHung (wait_at spots.now.spots) threads.old stamps.now }
-    requires few { length stamps.now ≤ 2 ^ 27 }
+    requires at_most { length stamps.now ≤ 2 ^ 27 }
     requires empty { wait_at spots.now.spots place ≡ None }
     requires within { place < threads.old.places }
     requires low { IsLow wait (wait_at spots.now.spots) }
@@ -130,7 +130,7 @@ pub fn hang<D>(spots: &Spots<D>, threads: &mut Threads, stamps: &[u64], wait: Wa
 /// event has none.
 fn stray_on<D>(spots: &Spots<D>, threads: &Threads, stamps: &[u64], ct: Handle) -> Option<u32>
     requires hung { IsHung (wait_at spots.now.spots) threads.now stamps.now }
-    requires few { length stamps.now ≤ 2 ^ 27 }
+    requires at_most { length stamps.now ≤ 2 ^ 27 }
     requires belongs { belongs stamps.now ct ≡ false }
     ensures found { IfSome result (λ p. WaitsOn ct (wait_at spots.now.spots p)) }
     ensures none { IfNone result ((p : ℕ) → WaitsOn ct (wait_at spots.now.spots p) → ⊥) }
@@ -153,7 +153,7 @@ fn stray_on<D>(spots: &Spots<D>, threads: &Threads, stamps: &[u64], ct: Handle) 
 /// counting event has lists, and else at most one for each operation whose counting event has none.
 pub fn first_on<D>(spots: &Spots<D>, threads: &Threads, stamps: &[u64], ct: Handle) -> Option<u32>
     requires hung { IsHung (wait_at spots.now.spots) threads.now stamps.now }
-    requires few { length stamps.now ≤ 2 ^ 27 }
+    requires at_most { length stamps.now ≤ 2 ^ 27 }
     ensures found { IfSome result (λ p. WaitsOn ct (wait_at spots.now.spots p)) }
     ensures none { IfNone result ((p : ℕ) → WaitsOn ct (wait_at spots.now.spots p) → ⊥) }
 {
@@ -169,7 +169,7 @@ pub fn first_on<D>(spots: &Spots<D>, threads: &Threads, stamps: &[u64], ct: Hand
 /// Moves an operation to an earlier place, where none waits.
 fn carry<D>(spots: &mut Spots<D>, threads: &mut Threads, stamps: &[u64], from: u32, to: u32)
     requires hung { IsHung (wait_at spots.old.spots) threads.old stamps.now }
-    requires few { length stamps.now ≤ 2 ^ 27 }
+    requires at_most { length stamps.now ≤ 2 ^ 27 }
     requires order { to < from }
     requires full { IsSome (wait_at spots.old.spots from) }
     requires empty { wait_at spots.old.spots to ≡ None }
@@ -216,7 +216,7 @@ fn pack<D>(
 /// Lays the operations at the first places, in their order, and gives the others free.
 pub fn lay_anew<D: Drop>(spots: &mut Spots<D>, threads: &mut Threads, stamps: &[u64])
     requires hung { IsHung (wait_at spots.old.spots) threads.old stamps.now }
-    requires few { length stamps.now ≤ 2 ^ 27 }
+    requires at_most { length stamps.now ≤ 2 ^ 27 }
     requires within { length spots.old.spots ≤ threads.old.places }
     ensures hung { IsHung (wait_at spots.new.spots) threads.new stamps.now }
     ensures places { threads.new.places ≡ threads.old.places }
@@ -235,7 +235,7 @@ pub fn lay_anew<D: Drop>(spots: &mut Spots<D>, threads: &mut Threads, stamps: &[
 /// Gives the lists of a slot to a counting event, where they are empty and no operation is without lists.
 pub fn adopt<D>(spots: &Spots<D>, threads: &Threads, stamps: &mut [u64], ct: Handle)
     requires hung { IsHung (wait_at spots.now.spots) threads.now stamps.old }
-    requires few { length stamps.old ≤ 2 ^ 27 }
+    requires at_most { length stamps.old ≤ 2 ^ 27 }
     ensures hung { IsHung (wait_at spots.now.spots) threads.now stamps.new }
 {
     let slots = stamps.len() as u32;
@@ -253,7 +253,7 @@ pub fn adopt<D>(spots: &Spots<D>, threads: &Threads, stamps: &mut [u64], ct: Han
 /// Makes room for a further operation where there is none.
 pub fn make_room<D: Drop>(spots: &mut Spots<D>, threads: &mut Threads, stamps: &[u64])
     requires hung { IsHung (wait_at spots.old.spots) threads.old stamps.now }
-    requires few { length stamps.now ≤ 2 ^ 27 }
+    requires at_most { length stamps.now ≤ 2 ^ 27 }
     requires within { length spots.old.spots ≤ threads.old.places }
     requires room { length (operations_in spots.old.spots) < spots.old.room }
     ensures hung { IsHung (wait_at spots.new.spots) threads.new stamps.now }
@@ -278,7 +278,7 @@ pub fn put_in<D>(
     wait: Wait,
 )
     requires hung { IsHung (wait_at spots.old.spots) threads.old stamps.now }
-    requires few { length stamps.now ≤ 2 ^ 27 }
+    requires at_most { length stamps.now ≤ 2 ^ 27 }
     requires room { length spots.old.spots < spots.old.room }
     requires within { spots.old.room ≤ threads.old.places }
     requires low { IsLow wait (wait_at spots.old.spots) }
@@ -296,7 +296,7 @@ pub fn put_in<D>(
 /// Takes the operations that wait on a counting event off their lists and out of their places.
 pub fn drop_all<D: Drop>(spots: &mut Spots<D>, threads: &mut Threads, stamps: &[u64], ct: Handle)
     requires hung { IsHung (wait_at spots.old.spots) threads.old stamps.now }
-    requires few { length stamps.now ≤ 2 ^ 27 }
+    requires at_most { length stamps.now ≤ 2 ^ 27 }
     ensures hung { IsHung (wait_at spots.new.spots) threads.new stamps.now }
     ensures places { threads.new.places ≡ threads.old.places }
     ensures same { IsSame spots.old spots.new }

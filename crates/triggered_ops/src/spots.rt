@@ -86,7 +86,7 @@ fn number_at<D>(spots: &[Spot<D>], place: u32) -> u32
 /// The first place whose number is at least this one.
 fn lower_bound<D>(spots: &[Spot<D>], number: u32) -> u32
     requires rising { AllPairs (λ a b. a < b) (numbers_of spots.now) }
-    requires few { length spots.now ≤ 2 ^ 28 }
+    requires at_most { length spots.now ≤ 2 ^ 28 }
     ensures within { result ≤ length spots.now }
     ensures below { AreBelow number spots.now result }
     ensures above { AreFrom number spots.now result }
@@ -127,7 +127,7 @@ fn guess<D>(spots: &[Spot<D>], number: u32) -> u32 {
 /// The place of this number, whether an operation waits there or not.
 fn place_of<D>(spots: &[Spot<D>], number: u32) -> Option<u32>
     requires rising { AllPairs (λ a b. a < b) (numbers_of spots.now) }
-    requires few { length spots.now ≤ 2 ^ 28 }
+    requires at_most { length spots.now ≤ 2 ^ 28 }
     ensures found { IfSome result (λ p. StandsAt number spots.now p) }
     ensures none { IfNone result (find (is_number number) (operations_in spots.now) ≡ None) }
 {
@@ -173,7 +173,7 @@ impl<D> Spots<D> {
     pub fn len(&self) -> u32
         ensures len { result ≡ length self.now.spots }
         ensures fits { length self.now.spots ≤ self.now.room }
-        ensures few { self.now.room ≤ 2 ^ 28 }
+        ensures at_most { self.now.room ≤ 2 ^ 28 }
     {
         let _room = self.room;
         self.spots.len() as u32

@@ -17,7 +17,7 @@ use ptl_types::Handle;
 /// Those with a threshold up to the sum are due.
 fn raise<D>(spots: &mut Spots<D>, threads: &mut Threads, stamps: &[u64], ct: Handle, sum: u64)
     requires hung { IsHung (wait_at spots.old.spots) threads.old stamps.now }
-    requires few { length stamps.now ≤ 2 ^ 27 }
+    requires at_most { length stamps.now ≤ 2 ^ 27 }
     requires belongs { belongs stamps.now ct ≡ true }
     requires within { length spots.old.spots ≤ threads.old.places }
     ensures hung { IsHung (wait_at spots.new.spots) threads.new stamps.now }
@@ -34,7 +34,7 @@ fn raise<D>(spots: &mut Spots<D>, threads: &mut Threads, stamps: &[u64], ct: Han
 /// Those with a threshold above it aren't.
 fn lower<D>(spots: &mut Spots<D>, threads: &mut Threads, stamps: &[u64], ct: Handle, sum: u64)
     requires hung { IsHung (wait_at spots.old.spots) threads.old stamps.now }
-    requires few { length stamps.now ≤ 2 ^ 27 }
+    requires at_most { length stamps.now ≤ 2 ^ 27 }
     requires belongs { belongs stamps.now ct ≡ true }
     requires within { length spots.old.spots ≤ threads.old.places }
     requires above { EachOn ct (λ x. x.due ≡ false → sum < x.threshold) (wait_at spots.old.spots) }
@@ -76,7 +76,7 @@ fn tell_one<D>(
 /// Tells those that wait on a counting event that has no lists.
 fn tell_strays<D>(spots: &mut Spots<D>, threads: &Threads, stamps: &[u64], ct: Handle, sum: u64)
     requires hung { IsHung (wait_at spots.old.spots) threads.now stamps.now }
-    requires few { length stamps.now ≤ 2 ^ 27 }
+    requires at_most { length stamps.now ≤ 2 ^ 27 }
     requires belongs { belongs stamps.now ct ≡ false }
     ensures hung { IsHung (wait_at spots.new.spots) threads.now stamps.now }
     ensures same { IsSame spots.old spots.new }
@@ -94,7 +94,7 @@ fn tell_strays<D>(spots: &mut Spots<D>, threads: &Threads, stamps: &[u64], ct: H
 /// Tells a sum to the operations that wait on a counting event.
 pub fn tell<D>(spots: &mut Spots<D>, threads: &mut Threads, stamps: &[u64], ct: Handle, sum: u64)
     requires hung { IsHung (wait_at spots.old.spots) threads.old stamps.now }
-    requires few { length stamps.now ≤ 2 ^ 27 }
+    requires at_most { length stamps.now ≤ 2 ^ 27 }
     requires within { length spots.old.spots ≤ threads.old.places }
     ensures hung { IsHung (wait_at spots.new.spots) threads.new stamps.now }
     ensures places { threads.new.places ≡ threads.old.places }

@@ -57,13 +57,13 @@ module _ {T I : Type 0} (past : T → List I) where
     }
 
     pub counts_hold : (found : ℕ) (v : HandView T) (k : ℕ) (x : T) (found' : ℕ) → k < n → found' ≡ length (past x) → length (places v k) ≤ length (past x) → Counts past made seen found v n → Counts past made seen found' (after_take v k x) n
-    counts_hold found v k x found' near is few c = record {
+    counts_hold found v k x found' near is at_most c = record {
       made_long = c.made_long;
       seen_long = c.seen_long;
       made_is = c.made_is;
       seen_is = c.seen_is;
       found_is = λ j y e. (let h = some_held (open_turn k x) (open_turn j y) e in
-          subst (λ (d : OpenTurn T). (d.slot < n) × (found' ≡ length (past d.value)) × (length (places v d.slot) ≤ length (past d.value))) h (near, is, few));
+          subst (λ (d : OpenTurn T). (d.slot < n) × (found' ≡ length (past d.value)) × (length (places v d.slot) ≤ length (past d.value))) h (near, is, at_most));
     }
 
     pub counts_same : (found : ℕ) (v u : HandView T) → u.slots ≡ v.slots → u.turn ≡ v.turn → Counts past made seen found v n → Counts past made seen found u n

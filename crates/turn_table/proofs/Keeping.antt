@@ -32,14 +32,14 @@ module _ {T I : Type 0} (past : T → List I) where
 
     pub keeps_take : (k n' : ℕ) (x : T) (me' : M) (found' : ℕ) → k < n → found' ≡ length (past x) → length (places me.0 k) ≤ length (past x) → me'.0 ≡ after_take me.0 k x → me'.1 ≡ (k, None) ∷ [] → n' ≡ n
         → HandKeeps past n' me' room capacity made seen found'
-    keeps_take k n' x me' found' near long few is carried same = subst (λ (y : ℕ × M). HandKeeps past y.0 y.1 room capacity made seen found') (λ i. (sym same i, (sym is i, sym carried i))) record {
+    keeps_take k n' x me' found' near long at_most is carried same = subst (λ (y : ℕ × M). HandKeeps past y.0 y.1 room capacity made seen found') (λ i. (sym same i, (sym is i, sym carried i))) record {
       alive = h.alive;
       slots = h.slots;
       start = h.start;
       carried = refl;
       empty = h.empty;
       roomy = h.roomy;
-      counts = counts_hold past made seen n found me.0 k x found' near long few h.counts;
+      counts = counts_hold past made seen n found me.0 k x found' near long at_most h.counts;
     }
 
     pub keeps_give : (k n' : ℕ) (x y : T) (me' : M) (made' seen' : List ℕ) → me.0.turn ≡ Some (open_turn k x) → IsPrefix (past x) (past y) → me'.0 ≡ after_give past me.0 k x y → me'.1 ≡ [] → n' ≡ n

@@ -60,7 +60,7 @@ impl<T: Past> Turns<T> {
     // The seats of all hands in one, and room for all values.
     fn join_all(&self, hands: Vec<TurnHand<T>>) -> (ChoiceRank<Option<T>, HandView<T>>, Vec<T>)
         requires hands { All (λ h. IsFree self.now h) hands.items }
-        requires some { 0 < length hands.items }
+        requires nonempty { 0 < length hands.items }
         ensures seat { IsFreeSeat self.now result.0.table_id result.0.me }
         ensures all { Gathered T.past T.name hands.items result.0.me.0 [] }
         ensures room { (result.1.items ≡ []) × (length self.now.start ≤ vec_capacity result.1) }

@@ -50,7 +50,7 @@ fn fill_lists<R: Threads + Sync, X: Send + Drop, F: Fn(usize) -> Option<X> + Syn
     f: &F,
     lists: &mut [Vec<(usize, X)>],
 )
-    requires some { 0 < length lists.old }
+    requires nonempty { 0 < length lists.old }
     requires accepts { (i : ℕ) → i < count → F.pre f.now i }
     ensures { All (λ l. AreGiven F.Fn f.now count l.items) lists.new }
 {

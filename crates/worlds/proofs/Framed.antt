@@ -95,7 +95,7 @@ module _ (job : JobOf) (m : ℕ) (lanes : List Plain) (ss ds fs : List ℕ) (fra
 
     parts : AreParts p job.inputs n news lanes frame_window 0
     parts = record {
-      few = framed.bare.sized.few;
+      at_most = framed.bare.sized.at_most;
       count = framed.bare.count;
       sound = framed.bare.sound;
       fit = framed.bare.fit;
@@ -119,8 +119,8 @@ module _ (job : JobOf) (m : ℕ) (lanes : List Plain) (ss ds fs : List ℕ) (fra
     few_strays : AreStrays n news lanes 0 0
     few_strays = record {
       room = λ r h. (gated r).strays ∙ no_strays.room r h;
-      few = λ d h. subst (λ (x : Diary). count_by is_received_stray x.locals + sum_by (λ s. count_by is_stray (lane_at lanes (lane_place n s d Request)).messages) (from_to 0 n) + 0 ≤ 0)
-          (sym (gated d).diary) (no_strays.few d h);
+      at_most = λ d h. subst (λ (x : Diary). count_by is_received_stray x.locals + sum_by (λ s. count_by is_stray (lane_at lanes (lane_place n s d Request)).messages) (from_to 0 n) + 0 ≤ 0)
+          (sym (gated d).diary) (no_strays.at_most d h);
       received = λ r h. subst (λ (x : Diary). AreShort x.locals) (sym (gated r).diary) (no_strays.received r h);
       held = no_strays.held;
     }

@@ -108,7 +108,7 @@ module _ (p : Plan) (inputs : Inputs) (n : ℕ) (nodes : List NodeState) (lanes 
     joined_strays : ((r : ℕ) → r < n → (node_at nodes r).strays ≡ 0) → AreStrays n nodes lanes 0 0
     joined_strays none = record {
       room = none;
-      few = λ d hd.
+      at_most = λ d hd.
           let a = (none_came (w d) (got_clean d hd)).0 in
           let b = none-due 0 (λ s. count_by is_stray (lies s d Request)) n (λ s low high. none_count (lies s d Request) (λ m i. lies_clean s d Request m (omega (arith, high)) hd i)) in
           omega (arith, a, b);

@@ -10,7 +10,7 @@ use Rattle.cuts.specs.declared.orders.Step.{Step}
 use Rattle.cuts.specs.declared.orders.Step.TheVariants.{Deliver, Fire, Start}
 use Rattle.cuts.proofs.windows.Counted.{length-counts}
 use Rattle.cuts.proofs.windows.Found.{found_delivery, found_firing, found_start, length-possible}
-use Rattle.cuts.specs.windows.Places.{counts, delivery_at, fires_at, goal_at, kind_at, source_at}
+use Rattle.cuts.specs.windows.Places.{counts, delivery_at, fires_at, destination_at, kind_at, source_at}
 use Rattle.cuts.specs.windows.Possible.{possible_steps}
 
 module _ (ranks : System) (z : Scene) (window : ℕ) (starts deliveries firings : List ℕ) (starts_is : starts ≡ counts (start_at z) ranks.count)
@@ -43,11 +43,11 @@ module _ (ranks : System) (z : Scene) (window : ℕ) (starts deliveries firings 
 
   pub delivery_numbered : (j rest i : ℕ) → j < length deliveries → sum (take j deliveries) + rest ≡ i → rest < get_or deliveries j 0
       → i < sum deliveries
-      → slice_get steps (sum starts + i) ≡ Some (Deliver (source_at ranks.count j) (goal_at ranks.count j) (kind_at j))
+      → slice_get steps (sum starts + i) ≡ Some (Deliver (source_at ranks.count j) (destination_at ranks.count j) (kind_at j))
   delivery_numbered j rest i h before within small =
       let size = ap length deliveries_is ∙ length-counts (delivery_at ranks window z) (2 * (ranks.count * ranks.count)) in
       let t = total_of in
-      let x = Deliver (source_at ranks.count j) (goal_at ranks.count j) (kind_at j) in
+      let x = Deliver (source_at ranks.count j) (destination_at ranks.count j) (kind_at j) in
       stands_at (sum starts + i) x (omega (arith, t, small))
       (ap (λ k. get_or steps (k + i) x) (ap sum starts_is)
       ∙ found_delivery ranks window z j rest i x (omega (arith, h, size))

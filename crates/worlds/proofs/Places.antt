@@ -17,7 +17,7 @@ use Rattle.cuts.specs.orders.Chosen.{Scene, first_of, start_at}
 use Rattle.cuts.specs.declared.orders.Step.{Step}
 use Rattle.cuts.specs.declared.orders.Step.TheVariants.{Deliver, Fire, Start}
 use Rattle.cuts.proofs.windows.Counted.{counts_by}
-use Rattle.cuts.specs.windows.Places.{counts, delivery_at, delivery_on, fires_at, goal_at, kind_at, lane_place, source_at}
+use Rattle.cuts.specs.windows.Places.{counts, delivery_at, delivery_on, fires_at, destination_at, kind_at, lane_place, source_at}
 use Rattle.cuts.specs.windows.Possible.{is_possible}
 use Rattle.rank_node.specs.Gates.{open_numbers}
 use Rattle.rank_node.specs.Node.{NodeState}
@@ -113,11 +113,11 @@ module _ (p : Plan) (inputs : Inputs) (n : ℕ) (nodes : List NodeState) (lanes 
       ∙ ap length (sym (fires_are i h))
 
   deliveries_right : (i : ℕ) → i < 2 * (n * n) → get_or deliveries i 0 ≡ length
-      (delivery_on ranks window z (source_at n i) (goal_at n i) (kind_at i))
+      (delivery_on ranks window z (source_at n i) (destination_at n i) (kind_at i))
   deliveries_right i h =
       let q = ranks_told n i h in
       let s = source_at n i in
-      let d = goal_at n i in
+      let d = destination_at n i in
       let lane = kind_at i in
       ap (λ j. get_or deliveries j 0) (sym (place_told n i))
       ∙ world.counted.of_deliveries s d lane q.0 q.1
@@ -125,7 +125,7 @@ module _ (p : Plan) (inputs : Inputs) (n : ℕ) (nodes : List NodeState) (lanes 
       ∙ one_delivery (is_possible ranks window z) s d lane (held_in n lanes s d lane)
 
   abbrev by_place : ℕ → List Step
-  by_place i = delivery_on ranks window z (source_at n i) (goal_at n i) (kind_at i)
+  by_place i = delivery_on ranks window z (source_at n i) (destination_at n i) (kind_at i)
 
   -- the counts are those of the places
   pub starts_are : starts ≡ counts (start_at z) ranks.count
@@ -138,4 +138,4 @@ module _ (p : Plan) (inputs : Inputs) (n : ℕ) (nodes : List NodeState) (lanes 
   pub deliveries_are : deliveries ≡ counts (delivery_at ranks window z) (2 * (ranks.count * ranks.count))
   deliveries_are =
       counts_by by_place (2 * (n * n)) deliveries world.counted.wide_deliveries deliveries_right
-      ∙ ap (λ m. counts (λ i. delivery_on ranks window z (source_at m i) (goal_at m i) (kind_at i)) (2 * (m * m))) (sym world.parts.count)
+      ∙ ap (λ m. counts (λ i. delivery_on ranks window z (source_at m i) (destination_at m i) (kind_at i)) (2 * (m * m))) (sym world.parts.count)

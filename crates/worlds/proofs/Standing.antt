@@ -11,7 +11,7 @@ use Rattle.worlds.proofs.parts.Delivers.{rank-state}
 use Rattle.cuts.specs.orders.Chosen.{Scene, start_at}
 use Rattle.cuts.specs.declared.orders.Step.{Step}
 use Rattle.cuts.specs.declared.orders.Step.TheVariants.{Deliver, Fire, Start}
-use Rattle.cuts.specs.windows.Places.{counts, delivery_at, fires_at, goal_at, kind_at, source_at}
+use Rattle.cuts.specs.windows.Places.{counts, delivery_at, fires_at, destination_at, kind_at, source_at}
 use Rattle.cuts.specs.windows.Possible.{possible_steps}
 use Rattle.rank_node.specs.Gates.{open_numbers}
 use Rattle.rank_node.specs.Node.{NodeState}
@@ -57,10 +57,10 @@ module _ (p : Plan) (inputs : Inputs) (n : ℕ) (nodes : List NodeState) (lanes 
 
   pub delivery_found : (j rest i : ℕ) → j < length deliveries → sum (take j deliveries) + rest ≡ i → rest < get_or deliveries j 0
       → i < sum deliveries
-      → slice_get steps (sum starts + i) ≡ Some (Deliver (source_at n j) (goal_at n j) (kind_at j))
+      → slice_get steps (sum starts + i) ≡ Some (Deliver (source_at n j) (destination_at n j) (kind_at j))
   delivery_found j rest i h before within small =
       delivery_numbered ranks z window starts deliveries firings starts_is deliveries_is firings_is j rest i h before within small
-      ∙ ap (λ m. Some (Deliver (source_at m j) (goal_at m j) (kind_at j))) world.parts.count
+      ∙ ap (λ m. Some (Deliver (source_at m j) (destination_at m j) (kind_at j))) world.parts.count
 
   pub firing_found : (r rest i t : ℕ) → r < n → sum (take r firings) + rest ≡ i → rest < get_or firings r 0 → i < sum firings
       → slice_get (open_numbers (node_at nodes r).closed (node_at nodes r).nic) rest ≡ Some t
@@ -97,7 +97,7 @@ module _ (job : JobOf) (setting : Setting) (nodes : List NodeState) (lanes : Lis
         (rank_is (plan_of job.shape) job.inputs job.shape.ranks nodes lanes starts deliveries firings setting.window setting.strays
         setting.spare world_is slots agree r h);
     moment = world_is.parts.moment;
-    few = world_is.stray.few;
+    at_most = world_is.stray.at_most;
     spare = fields.spare;
   }
 
@@ -117,11 +117,11 @@ module _ (job : JobOf) (setting : Setting) (nodes : List NodeState) (lanes : Lis
       → sum (take j deliveries) + rest ≡ i
       → rest < get_or deliveries j 0 → i < sum deliveries
       → slice_get (steps_in (state_of job setting nodes lanes) slots) (sum starts + i) ≡ Some
-      (Deliver (source_at setting.ranks j) (goal_at setting.ranks j) (kind_at j))
+      (Deliver (source_at setting.ranks j) (destination_at setting.ranks j) (kind_at j))
   delivery_in slots agree j rest i h before within small =
       delivery_found (plan_of job.shape) job.inputs job.shape.ranks nodes lanes starts deliveries firings setting.window setting.strays
       setting.spare world_is slots agree j rest i h before within small
-      ∙ ap (λ n. Some (Deliver (source_at n j) (goal_at n j) (kind_at j))) (sym fields.ranks)
+      ∙ ap (λ n. Some (Deliver (source_at n j) (destination_at n j) (kind_at j))) (sym fields.ranks)
 
   pub firing_in : (slots : ℕ → Slots) → AreSlots (state_of job setting nodes lanes) slots → (r rest i t : ℕ) → r < length firings
       → sum (take r firings) + rest ≡ i

@@ -82,14 +82,14 @@ fallen w v x is stood on may made =
     let less = falls (plan_of w.shape) w.inputs (sound_for w.shape w.inputs is.formed is.accepted is.given)
     (inputs_fit w.shape w.inputs is.formed is.given)
     slots w.spare (scene_in w) w.window x (is.moment slots (on.slots slots agree)) (may slots (on.slots slots agree))
-    (λ r h. subst (λ (z : Scene). count_by is_received_stray (z.world r) ≤ w.spare) (made slots agree) (few r h)) in
+    (λ r h. subst (λ (z : Scene). count_by is_received_stray (z.world r) ≤ w.spare) (made slots agree) (at_most r h)) in
     omega (arith, same, less)
   where
-    few : (r : ℕ) → r < (plan_of w.shape).ranks → count_by is_received_stray (histories_in v r) ≤ w.spare
-    few r h =
+    at_most : (r : ℕ) → r < (plan_of w.shape).ranks → count_by is_received_stray (histories_in v r) ≤ w.spare
+    at_most r h =
         let a = (fine-shape w.shape is.formed).ranks in
         let b = ap (λ (o : Outline). o.ranks) on.shape in
-        let c = stood.few r (omega (arith, h, a, b)) in
+        let c = stood.at_most r (omega (arith, h, a, b)) in
         let d = on.spare in
         omega (arith, c, d)
 

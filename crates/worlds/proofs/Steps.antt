@@ -119,8 +119,8 @@ lane_small p inputs sound s d Request = links_small p inputs sound s d
 lane_small p inputs sound s d Answer = at p.remote (links_small p inputs sound d s)
   where
     at : (b : Bool) → length (lane_links p d s) < 2 ^ 32 → (if b then length (lane_links p d s) else 0) < 2 ^ 32
-    at true few = few
-    at false few = omega arith
+    at true at_most = at_most
+    at false at_most = omega arith
 
 -- ---- of a world
 module _ (w : WorldState) (slots : ℕ → Slots) (is : IsStanding w) (agree : AreSlots w slots) where
@@ -153,8 +153,8 @@ module _ (w : WorldState) (slots : ℕ → Slots) (is : IsStanding w) (agree : A
       let here = ap (count_by is_stray) (held_here w.shape.ranks w.lanes s d Request hs hd) in
       let part = part_le (λ q. count_by is_stray (lane_at w.lanes (lane_place w.shape.ranks q d Request)).messages) s 0 w.shape.ranks
       (omega arith) (omega (arith, hs)) in
-      let few = is.few d hd in
-      omega (arith, here, part, few)
+      let at_most = is.at_most d hd in
+      omega (arith, here, part, at_most)
 
   held_small : (s d : ℕ) (lane : Lane) → s < (plan_of w.shape).ranks → d < (plan_of w.shape).ranks
       → length ((scene_in w).held s d lane) < 2 ^ 33
@@ -163,12 +163,12 @@ module _ (w : WorldState) (slots : ℕ → Slots) (is : IsStanding w) (agree : A
       let a = owned_and_strays ((scene_in w).held s d lane) in
       let b = strays_on s d lane (omega (arith, hs, c)) (omega (arith, hd, c)) in
       let moment = is.moment slots agree in
-      let few = held_few (ranks_in w slots) (scene_in w) s d lane (lane_messages (plan_of w.shape) s d lane) moment hs hd
+      let at_most = held_few (ranks_in w slots) (scene_in w) s d lane (lane_messages (plan_of w.shape) s d lane) moment hs hd
       (lane_few combined-starts (plan_of w.shape) w.inputs sound (inputs_fit w.shape w.inputs is.formed is.given) slots
       (scene_in w).world moment.cut s d lane hs hd) in
       let small = lane_small (plan_of w.shape) (length w.inputs) sound s d lane in
       let spare = is.spare in
-      omega (arith, a, b, few, small, spare)
+      omega (arith, a, b, at_most, small, spare)
 
   pub widest : 2 ^ 33 ≤ w.window → steps_in w slots ≡ enabled_steps (ranks_in w slots) (scene_in w)
   widest wide = all_possible (plan_of w.shape) w.inputs sound slots w.window (scene_in w)

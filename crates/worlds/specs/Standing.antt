@@ -28,7 +28,7 @@ pub record IsStanding (w : WorldState) : Type 0 where
   pub nic : (slots : ℕ → Slots) → AreSlots w slots → (r : ℕ) → r < w.shape.ranks →
       nic_in w r ≡ state_at (ranks_in w slots) (histories_in w) r
   pub moment : (slots : ℕ → Slots) → AreSlots w slots → IsMoment (ranks_in w slots) (scene_in w).world (scene_in w).held
-  pub few : (r : ℕ) → r < w.shape.ranks → strays_for w.shape.ranks w.nodes w.lanes r + w.strays ≤ w.spare
+  pub at_most : (r : ℕ) → r < w.shape.ranks → strays_for w.shape.ranks w.nodes w.lanes r + w.strays ≤ w.spare
   pub spare : w.spare < 2 ^ 32
 
 -- what the fields of a world keep

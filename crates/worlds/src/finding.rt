@@ -3,7 +3,7 @@
 ghost use Rattle.std.specs.Prelude.{◌≡◌, ◌<◌, ◌≤◌, ◌*◌, ◌+◌, length};
 ghost use Rattle.ptl_types.specs.Elements.{part};
 ghost use Rattle.cuts.specs.declared.orders.Step.TheVariants.{Deliver};
-ghost use Rattle.cuts.specs.windows.Places.{goal_at, kind_at, source_at};
+ghost use Rattle.cuts.specs.windows.Places.{destination_at, kind_at, source_at};
 
 use cuts::orders::Step;
 use ptl_types::Lane;
@@ -11,9 +11,9 @@ use schedule_compiler::Place;
 
 /// The delivery of the lane at a place.
 pub fn delivery_at(ranks: u32, place: usize) -> Step
-    requires few { ranks ≤ 256 }
+    requires at_most { ranks ≤ 256 }
     requires within { place < 2 * (ranks * ranks) }
-    ensures { result ≡ Deliver (source_at ranks place) (goal_at ranks place) (kind_at place) }
+    ensures { result ≡ Deliver (source_at ranks place) (destination_at ranks place) (kind_at place) }
 {
     let pair = place / 2;
     let s = (pair / ranks as usize) as u32;

@@ -17,7 +17,7 @@ use crate::parts::lanes::may_deliver;
 
 /// Whether the parts allow a step.
 pub fn allows(nodes: &[Node], lanes: &[PlainLane], ranks: u32, window: u64, step: Step) -> bool
-    requires few { ranks ≤ 256 }
+    requires at_most { ranks ≤ 256 }
     requires nodes { length nodes.now ≡ ranks }
     requires lanes { length lanes.now ≡ 2 * (ranks * ranks) }
     ensures { IsTrue result ↔ Allows ranks nodes.now lanes.now window step }

@@ -150,7 +150,7 @@ impl World {
     /// Under a window, and with room for strays.
     fn opened(alloc: Global, job: &Job, window: u64, strays: u32) -> Result<World, NoMemory>
         requires window { 0 < window }
-        requires few { FitLanes (plan_of job.now.shape) strays }
+        requires at_most { FitLanes (plan_of job.now.shape) strays }
         ensures { IfOk result (λ world. IsOpened job.now window strays world) }
     {
         // What every job keeps is told here.

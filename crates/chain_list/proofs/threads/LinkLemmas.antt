@@ -31,5 +31,5 @@ place-before zero n = absurd (n refl)
 place-before (suc k) n = ap (λ i. Some i) (let e : suc k - 1 ≡ k = omega arith in e)
 
 pub code-fits : (o : Option ℕ) (n : ℕ) → n < 2 ^ 32 → IfSome o (λ p. p < n) → IfSome o (λ p. p < 2 ^ 32 - 1)
-code-fits None n few lt = tt
-code-fits (Some p) n few lt = omega (arith, few, lt)
+code-fits None n at_most lt = tt
+code-fits (Some p) n at_most lt = omega (arith, at_most, lt)

@@ -128,12 +128,12 @@ places-linked (suc n) cs b k (p ∷ ps) l le =
     ap (λ o. p ∷ places_from n cs (after_of o)) l.0 ∙ ap (λ r. p ∷ r) (places-linked n cs (Some p) k ps l.1 (omega arith))
 
 -- entries that lie apart are no more than the nodes
-few : {X : Type 0} (cs : List (Option (Node X))) (b : Option ℕ) (xs : List (Keyed X)) (a : Option ℕ) → Apart xs → Linked cs b xs a → length xs ≤ count_by is_some cs
-few cs b [] a n l = omega arith
-few cs b (x ∷ xs) a n l =
+at_most : {X : Type 0} (cs : List (Option (Node X))) (b : Option ℕ) (xs : List (Keyed X)) (a : Option ℕ) → Apart xs → Linked cs b xs a → length xs ≤ count_by is_some cs
+at_most cs b [] a n l = omega arith
+at_most cs b (x ∷ xs) a n l =
     let p = x.key.place in
     let live : is_some (get_or cs p None) ≡ true = ap is_some l.0 in
-    let rest = few (set cs p None) (Some p) xs a n.1 (ChainLemmas.Linked-set cs (Some p) xs a p None n.0 l.1) in
+    let rest = at_most (set cs p None) (Some p) xs a n.1 (ChainLemmas.Linked-set cs (Some p) xs a p None n.0 l.1) in
     omega (arith, rest, count-empty cs p (live_within cs p live) live)
 
 threads-same : (cs : List (Option (Node ℕ))) (es : List Ends) (xss : List (List ℕ)) → length es ≡ length xss
@@ -150,7 +150,7 @@ pub viewed : (cs : List (Option (Node ℕ))) (es : List Ends) (xss : List (List 
 viewed cs es xss t = threads-same cs es xss t.long (λ k lt.
     let c = t.each k lt in
     let ps = get_or xss k [] in
-    let short : length ps ≤ length cs = omega (arith, length-on k ps, few cs None (on k ps) None c.apart c.linked, count_by-le-length is_some cs) in
+    let short : length ps ≤ length cs = omega (arith, length-on k ps, at_most cs None (on k ps) None c.apart c.linked, count_by-le-length is_some cs) in
     ap (λ o. places_from (length cs) cs o) c.first_is ∙ places-linked (length cs) cs None k ps c.linked short)
 
 pub settled : (cs : List (Option (Node ℕ))) (es : List Ends) (xss : List (List ℕ)) → IsThreads cs es xss → IsThreads cs es (threads_of cs es)

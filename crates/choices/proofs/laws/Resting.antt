@@ -103,7 +103,7 @@ module _ (ranks : ℕ) (ks : List ChoiceKind) (slots : ℕ → Slots) (in_range 
       ∙ ap pattern (read_part ks s j (step_bytes ks r (seat_of ks now.m r)) 24 8 (λ t k. length-step ks r (seat_of ks now.m r) t)
       (omega arith)
       ∙ read_result ((seat_of ks now.m r).word s) (given_word (choice_at ks s) r) (old_of (now.m.phase r s)) (value_of (now.m.phase r s)))
-      ∙ pattern-little 8 (value_of (now.m.phase r s)) (let few = in_range.few_ranks in omega arith)
+      ∙ pattern-little 8 (value_of (now.m.phase r s)) (let at_most = in_range.few_ranks in omega arith)
 
   pub rest_decided : IsDecided ranks ks slots w
   rest_decided = record {

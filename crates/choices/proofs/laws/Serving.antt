@@ -46,8 +46,8 @@ got_lane s t l lane m e = ap (λ b. cond b (m ∷ []) []) (ap (λ v. (s == t) &&
 
 -- ---- the word of a step is a word
 pub word_small : (ranks : ℕ) (k : ChoiceKind) (f : ℕ → Phase) (w : ℕ) → ranks ≤ 256 → Holds k ranks f w → w < 2 ^ 64
-word_small ranks Elect f w few h = elim h.known [ inl e ↦ omega (arith, e) | inr i ↦ omega (arith, i, few) ]
-word_small ranks Tickets f w few h = let a = word_le ranks w f h in omega (arith, a, few)
+word_small ranks Elect f w at_most h = elim h.known [ inl e ↦ omega (arith, e) | inr i ↦ omega (arith, i, at_most) ]
+word_small ranks Tickets f w at_most h = let a = word_le ranks w f h in omega (arith, a, at_most)
 
 module _ (ranks : ℕ) (ks : List ChoiceKind) (slots : ℕ → Slots) (in_range : IsInRange ranks ks) (w : Histories) (held : Lanes)
     (now : Agrees ranks ks slots w held) (next : Histories) (later : Lanes)

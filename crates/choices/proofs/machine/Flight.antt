@@ -24,21 +24,21 @@ module _ {X : Type 0} (step : X → ℕ) (Fits : Phase → X → Type 0) (on : P
   known_grows : (xs : List X) (x : X) (phase : ℕ → Phase) (p : Phase) → step x < steps → Fits p x
       → ((a : X) → In a xs → step a ≡ step x → ⊥) → ((a : X) → In a xs → (step a < steps) × Fits (phase (step a)) a)
       → (a : X) → In a (xs ++ x ∷ []) → (step a < steps) × Fits (put (step x) p phase (step a)) a
-  known_grows xs x phase p few fit out known a i = elim (In-append_cases a xs (x ∷ []) i) [
+  known_grows xs x phase p at_most fit out known a i = elim (In-append_cases a xs (x ∷ []) i) [
     | inl j ↦ known_stays xs phase (step x) p out known a j
     | inr j ↦ elim j [ inl e ↦ here e | inr k ↦ absurd k ]
   ]
     where
       here : x ≡ a → (step a < steps) × Fits (put (step x) p phase (step a)) a
       here e = subst (λ v. (step v < steps) × Fits (put (step x) p phase (step v)) v) e
-          (few, subst (λ v. Fits v x) (sym (put-same (step x) p phase)) fit)
+          (at_most, subst (λ v. Fits v x) (sym (put-same (step x) p phase)) fit)
 
   -- the steps that are under way are all there
   all_stays : (xs : List ℕ) (phase : ℕ → Phase) (s : ℕ) (p : Phase) → on p ≡ false → ((t : ℕ) → t < steps → on (phase t) ≡ true → In t xs)
       → (t : ℕ) → t < steps → on (put s p phase t) ≡ true → In t xs
-  all_stays xs phase s p off all t few e = elim (cases_eq t s) [
+  all_stays xs phase s p off all t at_most e = elim (cases_eq t s) [
     | inl same ↦ none (sym (ap (λ v. on (put s p phase v)) same ∙ ap on (put-same s p phase) ∙ off) ∙ e)
-    | inr other ↦ all t few (ap on (sym (put-other s p phase t other)) ∙ e)
+    | inr other ↦ all t at_most (ap on (sym (put-other s p phase t other)) ∙ e)
   ]
     where
       none : false ≡ true → In t xs
@@ -46,16 +46,16 @@ module _ {X : Type 0} (step : X → ℕ) (Fits : Phase → X → Type 0) (on : P
 
   all_grows : (xs : List ℕ) (phase : ℕ → Phase) (s : ℕ) (p : Phase) → ((t : ℕ) → t < steps → on (phase t) ≡ true → In t xs) → (t : ℕ)
       → t < steps → on (put s p phase t) ≡ true → In t (xs ++ s ∷ [])
-  all_grows xs phase s p all t few e = elim (cases_eq t s) [
+  all_grows xs phase s p all t at_most e = elim (cases_eq t s) [
     | inl same ↦ In-append_right t xs (s ∷ []) (inl (sym same))
-    | inr other ↦ In-append_left t xs (s ∷ []) (all t few (ap on (sym (put-other s p phase t other)) ∙ e))
+    | inr other ↦ In-append_left t xs (s ∷ []) (all t at_most (ap on (sym (put-other s p phase t other)) ∙ e))
   ]
 
   all_shrinks : (xs : List ℕ) (phase : ℕ → Phase) (s : ℕ) (p : Phase) → on p ≡ false
       → ((t : ℕ) → t < steps → on (phase t) ≡ true → In t (s ∷ xs)) → (t : ℕ) → t < steps → on (put s p phase t) ≡ true → In t xs
-  all_shrinks xs phase s p off all t few e = elim (cases_eq t s) [
+  all_shrinks xs phase s p off all t at_most e = elim (cases_eq t s) [
     | inl same ↦ none (sym (ap (λ v. on (put s p phase v)) same ∙ ap on (put-same s p phase) ∙ off) ∙ e)
-    | inr other ↦ later (all t few (ap on (sym (put-other s p phase t other)) ∙ e)) other
+    | inr other ↦ later (all t at_most (ap on (sym (put-other s p phase t other)) ∙ e)) other
   ]
     where
       none : false ≡ true → In t xs
@@ -122,14 +122,14 @@ module _ (steps : ℕ) (phase : ℕ → Phase) (asks : List Ask) (answers : List
   -- a request is sent
   pub flight_asks : (s : ℕ) (reads : Bool) (p : Phase) → s < steps → on_request (phase s) ≡ false → on_answer (phase s) ≡ false
       → IsAsk p (ask s reads) → on_answer p ≡ false → InFlight steps (put s p phase) (asks ++ ask s reads ∷ []) answers
-  flight_asks s reads p few a b fit d = record {
-    asks_known = known_grows ask_step IsAsk on_request steps asks (ask s reads) phase p few fit (no_ask s a) now.asks_known;
+  flight_asks s reads p at_most a b fit d = record {
+    asks_known = known_grows ask_step IsAsk on_request steps asks (ask s reads) phase p at_most fit (no_ask s a) now.asks_known;
     answers_known = known_stays answer_step IsAnswer on_answer steps answers phase s p (no_answer s b) now.answers_known;
     asks_once = subst Distinct (sym (map-append ask_step asks (ask s reads ∷ [])))
         (once_grows (map ask_step asks) s now.asks_once (no_ask_step s a));
     answers_once = now.answers_once;
-    asks_all = λ t few e. subst (In t) (sym (map-append ask_step asks (ask s reads ∷ [])))
-        (all_grows ask_step IsAsk on_request steps (map ask_step asks) phase s p now.asks_all t few e);
+    asks_all = λ t at_most e. subst (In t) (sym (map-append ask_step asks (ask s reads ∷ [])))
+        (all_grows ask_step IsAsk on_request steps (map ask_step asks) phase s p now.asks_all t at_most e);
     answers_all = all_stays answer_step IsAnswer on_answer steps (map answer_step answers) phase s p d now.answers_all;
   }
 
@@ -147,8 +147,8 @@ flight_serves steps phase a asks answers v p now b c fit = record {
   answers_once = subst Distinct (sym (map-append answer_step answers (answer a.step a.reads v ∷ [])))
       (once_grows (map answer_step answers) a.step now.answers_once (no_answer_step steps phase (a ∷ asks) answers now a.step b));
   asks_all = all_shrinks ask_step IsAsk on_request steps (map ask_step asks) phase a.step p c now.asks_all;
-  answers_all = λ t few e. subst (In t) (sym (map-append answer_step answers (answer a.step a.reads v ∷ [])))
-      (all_grows answer_step IsAnswer on_answer steps (map answer_step answers) phase a.step p now.answers_all t few e);
+  answers_all = λ t at_most e. subst (In t) (sym (map-append answer_step answers (answer a.step a.reads v ∷ [])))
+      (all_grows answer_step IsAnswer on_answer steps (map answer_step answers) phase a.step p now.answers_all t at_most e);
 }
 
 -- an answer comes home
@@ -171,7 +171,7 @@ flight_returns steps phase asks a answers p now b c d = record {
 pub fired_flight : (steps : ℕ) (phase : ℕ → Phase) (asks : List Ask) (answers : List Answer) (s : ℕ) → s < steps
     → InFlight steps phase asks answers → on_request (phase s) ≡ false → on_answer (phase s) ≡ false
     → InFlight steps (put s (advanced (phase s)) phase) (asks ++ sent_at s (phase s)) answers
-fired_flight steps phase asks answers s few now a b = at (phase s) refl a b
+fired_flight steps phase asks answers s at_most now a b = at (phase s) refl a b
   where
     stays : (p q : Phase) → phase s ≡ p → on_request p ≡ false → on_answer p ≡ false → on_request q ≡ false → on_answer q ≡ false
         → InFlight steps (put s q phase) (asks ++ []) answers
@@ -180,8 +180,8 @@ fired_flight steps phase asks answers s few now a b = at (phase s) refl a b
 
     at : (p : Phase) → phase s ≡ p → on_request p ≡ false → on_answer p ≡ false
         → InFlight steps (put s (advanced p) phase) (asks ++ sent_at s p) answers
-    at Idle e a b = flight_asks steps phase asks answers now s false Asked few (ap on_request e) (ap on_answer e) refl refl
-    at (Answered old) e a b = flight_asks steps phase asks answers now s true (Reading old) few (ap on_request e) (ap on_answer e) refl refl
+    at Idle e a b = flight_asks steps phase asks answers now s false Asked at_most (ap on_request e) (ap on_answer e) refl refl
+    at (Answered old) e a b = flight_asks steps phase asks answers now s true (Reading old) at_most (ap on_request e) (ap on_answer e) refl refl
     at (Learned old value) e a b = stays (Learned old value) (Told old value) e a b refl refl
     at (Told old value) e a b = stays (Told old value) (Told old value) e a b refl refl
     at Asked e a b = cc

@@ -116,14 +116,14 @@ module _ (ranks : ℕ) (ks : List ChoiceKind) where
 
   pub taken_lawful : (m : Moment) (r : ℕ) (a : Ask) (rest : List Ask) → ranks ≤ 256 → r < ranks → m.asks r ≡ a ∷ rest → IsLawful ranks ks m
       → IsLawful ranks ks (taken ks r a rest m)
-  taken_lawful m r a rest few i e now =
+  taken_lawful m r a rest at_most i e now =
       let flight : InFlight (length ks) (m.phase r) (a ∷ rest) (m.answers r) =
       subst (λ v. InFlight (length ks) (m.phase r) v (m.answers r)) e (now.flight r i) in
       let known = flight.asks_known a (inl refl) in
       moved_lawful ranks ks m now r a.step (served (m.word a.step) (m.phase r a.step)) rest
       (m.answers r ++ answer a.step a.reads (m.word a.step) ∷ []) (word_after (choice_at ks a.step) a.reads r (m.word a.step))
       (taken_flight (length ks) (m.phase r) a rest (m.answers r) (m.word a.step) flight)
-      (taken_holds (choice_at ks a.step) ranks (m.word a.step) r (λ q. m.phase q a.step) a few i known.1 (now.holds a.step known.0))
+      (taken_holds (choice_at ks a.step) ranks (m.word a.step) r (λ q. m.phase q a.step) a at_most i known.1 (now.holds a.step known.0))
 
   pub returned_lawful : (m : Moment) (r : ℕ) (a : Answer) (rest : List Answer) → r < ranks → m.answers r ≡ a ∷ rest → IsLawful ranks ks m
       → IsLawful ranks ks (returned ks r a rest m)

@@ -152,7 +152,7 @@ returned_holds Tickets ranks w r f h = tickets_same ranks w f _ (λ q e. plain q
 -- the first request of an elect: the word is the rank, where it wasn't one before
 elect_takes : (ranks w r : ℕ) (f : ℕ → Phase) → ranks ≤ 256 → r < ranks → f r ≡ Asked → ElectHolds ranks f w
     → ElectHolds ranks (put r (Served w) f) (word_after Elect false r w)
-elect_takes ranks w r f few in_range e h = at (w == top) refl
+elect_takes ranks w r f at_most in_range e h = at (w == top) refl
   where
     same_read : (q : ℕ) → read_by (put r (Served w) f q) ≡ read_by (f q)
     same_read = put_as read_by r (Served w) f (ap read_by (sym e))
@@ -175,7 +175,7 @@ elect_takes ranks w r f few in_range e h = at (w == top) refl
         past (Told old value) v k = refl
 
         none : (q v : ℕ) → q < ranks → read_by (f q) ≡ Some v → ⊥
-        none q v j k = let a = h.settled q j (past (f q) v k) in let b : w ≡ top = eqb-true w top i in omega (arith, a, b, few)
+        none q v j k = let a = h.settled q j (past (f q) v k) in let b : w ≡ top = eqb-true w top i in omega (arith, a, b, at_most)
     at false i =
         let small : w < ranks = elim h.known [ inl k ↦ absurd (eqb-false w top i k) | inr k ↦ k ] in record {
           known = inr small;
@@ -214,7 +214,7 @@ word_le ranks w f h =
 -- the first request of tickets: the rank is given the word, which rises
 tickets_take : (ranks w r : ℕ) (f : ℕ → Phase) → ranks ≤ 256 → r < ranks → f r ≡ Asked → TicketsHold ranks f w
     → TicketsHold ranks (put r (Served w) f) (word_after Tickets false r w)
-tickets_take ranks w r f few in_range e h =
+tickets_take ranks w r f at_most in_range e h =
     subst (λ v. TicketsHold ranks (put r (Served w) f) v) rises
     record {
       plain = λ q j. put_as is_plain r (Served w) f (ap is_plain (sym e)) q ∙ h.plain q j;
@@ -227,7 +227,7 @@ tickets_take ranks w r f few in_range e h =
     }
   where
     rises : suc w ≡ (w + 1) % 2 ^ 64
-    rises = let a = word_le ranks w f h in omega (arith, a, few)
+    rises = let a = word_le ranks w f h in omega (arith, a, at_most)
 
     some_one : (a b : ℕ) → Some a ≡ Some b → a ≡ b
     some_one a b e = cc
@@ -251,12 +251,12 @@ tickets_take ranks w r f few in_range e h =
 
 pub taken_holds : (k : ChoiceKind) (ranks w r : ℕ) (f : ℕ → Phase) (a : Ask) → ranks ≤ 256 → r < ranks → IsAsk (f r) a → Holds k ranks f w
     → Holds k ranks (put r (served w (f r)) f) (word_after k a.reads r w)
-taken_holds k ranks w r f a few in_range fit h = at k (f r) refl a.reads fit h
+taken_holds k ranks w r f a at_most in_range fit h = at k (f r) refl a.reads fit h
   where
     at : (k : ChoiceKind) (p : Phase) → f r ≡ p → (reads : Bool) → IsAsk p (record { step = a.step; reads = reads }) → Holds k ranks f w
         → Holds k ranks (put r (served w p) f) (word_after k reads r w)
-    at Elect Asked e false i h = elect_takes ranks w r f few in_range e h
-    at Tickets Asked e false i h = tickets_take ranks w r f few in_range e h
+    at Elect Asked e false i h = elect_takes ranks w r f at_most in_range e h
+    at Tickets Asked e false i h = tickets_take ranks w r f at_most in_range e h
     at k Asked e true i h = cc
     at Elect (Reading old) e true i h = elect_reads ranks w r old f in_range e h
     at Tickets (Reading old) e true i h = let q = h.plain r in_range in absurd (no_plain (sym (ap is_plain e) ∙ q))

@@ -23,7 +23,7 @@ use Rattle.choices.proofs.laws.Ends.{history_le}
 use Rattle.choices.proofs.laws.Resting.{agrees_reached}
 
 module _ (k : System) (most : ℕ → ℕ)
-    (few : (w : Histories) (held : Lanes) → IsReached k w held → (r : ℕ) → r < k.count → length (w r) ≤ most r) where
+    (at_most : (w : Histories) (held : Lanes) → IsReached k w held → (r : ℕ) → r < k.count → length (w r) ≤ most r) where
   -- for each rank as many entries as it makes steps at most
   abbrev room : Lists
   room r = replicate (most r) Starts
@@ -42,7 +42,7 @@ module _ (k : System) (most : ℕ → ℕ)
 
       fits : length (w step.r) < length (replicate (most step.r) Starts)
       fits =
-          let a = few next later (Stepped reached step) step.r step.in_range in
+          let a = at_most next later (Stepped reached step) step.r step.in_range in
           let b = ap length step.rank in
           let c = length-append (w step.r) (step.e ∷ []) in
           let d = length-replicate (most step.r) Starts in

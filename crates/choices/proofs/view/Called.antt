@@ -162,7 +162,7 @@ module _ (k : Slots) (ranks : ℕ) (ks : List ChoiceKind) (r : ℕ) where
       ∙ ap (operations_all k ks (rank_ops ks)) worded_is
       ∙ made_so k ranks ks r
 
-  module _ (some : 0 < ranks) (few : 3 * length ks < 2 ^ 32 - 1) where
+  module _ (some : 0 < ranks) (at_most : 3 * length ks < 2 ^ 32 - 1) where
     -- the counting events and descriptors of step t
     steps_pass : (t : ℕ) → t < length ks → AllPass k ks (step_calls ks t) (made_all k ks (from_to 0 t) (fresh k ranks ks r))
     steps_pass t h =
@@ -170,12 +170,12 @@ module _ (k : Slots) (ranks : ℕ) (ks : List ChoiceKind) (r : ℕ) where
         let cs = counters_of (choice_at ks t) t in
         pass-append k ks (map CtAlloc cs) (map MdBind (parts_of (choice_at ks t) t)) s
         (pass-map k ks CtAlloc cs s (λ front c back e.
-        (tt, ap (λ (v : State). alloc_fault v.cts) (made-counters k ks front s) ∙ counter_made k ranks ks r few t h front c back e)))
+        (tt, ap (λ (v : State). alloc_fault v.cts) (made-counters k ks front s) ∙ counter_made k ranks ks r at_most t h front c back e)))
         (pass-map k ks MdBind (parts_of (choice_at ks t) t) (calls_made k ks (map CtAlloc cs) s) (λ front x back e. (
           tt,
           ap (λ (v : State). bind_fault (descriptor_of k ks x) (length v.memory) v.cts v.eqs v.mds)
               (made-parts k ks front (calls_made k ks (map CtAlloc cs) s) ∙ ap (parts_all k ks front) (made-counters k ks cs s))
-              ∙ part_made k ranks ks r few t h front x back e,
+              ∙ part_made k ranks ks r at_most t h front x back e,
         )))
 
     all_steps_pass : AllPass k ks (flat_map (step_calls ks) (steps ks)) (fresh k ranks ks r)
@@ -194,7 +194,7 @@ module _ (k : Slots) (ranks : ℕ) (ks : List ChoiceKind) (r : ℕ) where
           ap (λ s. append_fault 0 (word_entry t) (target_parts s))
               (made-words k ks front stepped
               ∙ ap₂ (entries_all k) h.0 (made-steps k ks (steps ks) (fresh k ranks ks r)))
-              ∙ entry_made k ranks ks r few t h.1,
+              ∙ entry_made k ranks ks r at_most t h.1,
         ))
 
     -- the operations
@@ -203,7 +203,7 @@ module _ (k : Slots) (ranks : ℕ) (ks : List ChoiceKind) (r : ℕ) where
         let here : calls_made k ks (map Trigger front) worded ≡ operations_all k ks front (entered k ranks ks r) =
         made-operations k ks front worded ∙ ap (operations_all k ks front) worded_is in
         subst (λ s. MayMake k ks (Trigger w) s × (call_fault k ks (Trigger w) s ≡ None)) (sym here)
-        (may front w back e, operation_made k ranks ks r few front w back e))
+        (may front w back e, operation_made k ranks ks r at_most front w back e))
       where
         may : (front : List RankOp) (w : RankOp) (back : List RankOp) → front ++ w ∷ back ≡ rank_ops ks
             → MayStart (deed_of k ks w) (operations_all k ks front (entered k ranks ks r)).ranks
@@ -212,7 +212,7 @@ module _ (k : Slots) (ranks : ℕ) (ks : List ChoiceKind) (r : ℕ) where
             subst (λ (s : State). MayStart (deed_of k ks w) s.ranks s.limits)
             (ap (operations_all k ks front) (sym (entered_is k ranks ks r)))
             (stays front (bare k ranks ks r (entries_of k ks r) (if r == 0 then length ks else 0))
-            ((may_post k ranks ks r few w (rank_ops-In ks w (subst (In w) e (In-split front w back)))).may some))
+            ((may_post k ranks ks r at_most w (rank_ops-In ks w (subst (In w) e (In-split front w back)))).may some))
           where
             stays : (ws : List RankOp) (s : State) → MayStart (deed_of k ks w) s.ranks s.limits
                 → MayStart (deed_of k ks w) (operations_all k ks ws s).ranks (operations_all k ks ws s).limits
@@ -225,10 +225,10 @@ module _ (k : Slots) (ranks : ℕ) (ks : List ChoiceKind) (r : ℕ) where
       refl,
       (
         tt,
-        go_made k ranks ks r few,
+        go_made k ranks ks r at_most,
         (
           tt,
-          done_made k ranks ks r few,
+          done_made k ranks ks r at_most,
           pass-append k ks (flat_map (step_calls ks) (steps ks)) (word_calls ks r ++ map Trigger (rank_ops ks))
               (fresh k ranks ks r) all_steps_pass
               (pass-append k ks (word_calls ks r) (map Trigger (rank_ops ks)) stepped (words_pass (r == 0)) operations_pass),

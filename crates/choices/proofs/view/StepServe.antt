@@ -45,7 +45,7 @@ swap_word w v h i j e f =
 sum_word : (w v : ℕ) → w < 2 ^ 64 → v < 2 ^ 64 → combined Sum U64 (word w) (word v) ≡ word ((w + v) % 2 ^ 64)
 sum_word w v i j = ap₂ (λ x y. word ((x + y) % 2 ^ 64)) (pattern_word w i) (pattern_word v j)
 
-module _ (k : Slots) (ranks : ℕ) (ks : List ChoiceKind) (seat : ChoiceRank) (s : ℕ) (h : s < length ks) (few : length ks ≤ 2 ^ 64) where
+module _ (k : Slots) (ranks : ℕ) (ks : List ChoiceKind) (seat : ChoiceRank) (s : ℕ) (h : s < length ks) (at_most : length ks ≤ 2 ^ 64) where
   -- the index of rank 0
   abbrev pub index_here : Index
   index_here = record { eq = None; priority = map (entry_of k) (steps ks); overflow = [] }

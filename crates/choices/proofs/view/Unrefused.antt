@@ -96,7 +96,7 @@ flat_long many ks g h a (suc n) =
     let e = ap (before many ks) q in
     omega (arith, l, m, rest, e)
 
-module _ (k : Slots) (ranks : ℕ) (ks : List ChoiceKind) (r : ℕ) (few : 3 * length ks < 2 ^ 32 - 1) where
+module _ (k : Slots) (ranks : ℕ) (ks : List ChoiceKind) (r : ℕ) (at_most : 3 * length ks < 2 ^ 32 - 1) where
   -- ---- the first calls
   pub index_made : pt_alloc_fault 0 None (side_of (opened r ranks (limits_of ks) (flat_map (step_bytes ks r (no_seat ks r)) (steps ks))))
       (opened r ranks (limits_of ks) (flat_map (step_bytes ks r (no_seat ks r)) (steps ks))).eqs ≡ None
@@ -285,7 +285,7 @@ module _ (k : Slots) (ranks : ℕ) (ks : List ChoiceKind) (r : ℕ) (few : 3 * l
         OutOfRegion refl refl
         (room (length ks) (linked (map (entry_of k) (from_to 0 t))) (0 + length (from_to 0 t))
         (let a = linked_is (map (entry_of k) (from_to 0 t)) in let b = length-map (from_to 0 t) (entry_of k) in let d =
-        length-from_to 0 t in omega (arith, a, b, d, h)) (let d = length-from_to 0 t in omega (arith, d, few, h)))
+        length-from_to 0 t in omega (arith, a, b, d, h)) (let d = length-from_to 0 t in omega (arith, d, at_most, h)))
         (le-leb _ _ (let size = inside_step ks t h (step_bytes ks r (no_seat ks r)) (λ d j. length-step ks r (no_seat ks r) d) in
         omega (arith, size)))
       where
@@ -341,7 +341,7 @@ module _ (k : Slots) (ranks : ℕ) (ks : List ChoiceKind) (r : ℕ) (few : 3 * l
         may =
             λ some. (
               record { target_known = some; short = lit≤ tt },
-              record { whole = refl; few = lit≤ tt },
+              record { whole = refl; at_most = lit≤ tt },
               record
                   { length = refl; target = refl; pt = refl; match_bits = refl; remote_offset = refl; no_ack = refl },
             );
@@ -367,7 +367,7 @@ module _ (k : Slots) (ranks : ℕ) (ks : List ChoiceKind) (r : ℕ) (few : 3 * l
       ∙ need4 _ _ _ _ Stale NoSpace OutOfRegion CountFull
       (ap₂ (λ x y. x && y) (live_ct (work_counter ks w) (In-work_counter ks w ours)) may.live)
       (numbers (3 * length ks) (length (map (operation k ks) front)) (0 + length front)
-      (let a = length-map front (operation k ks) in omega (arith, a, total)) (omega (arith, total, few)))
+      (let a = length-map front (operation k ks) in omega (arith, a, total)) (omega (arith, total, at_most)))
       may.fits
       may.small
     where

@@ -25,9 +25,9 @@ pub at_rest : (plan : Plan) (inputs : Inputs) (slots : ℕ → Slots) (world : H
 at_rest plan inputs slots world sound fit cut ended = record {
   started = λ r h. (ended r h).started;
   empty = λ s d lane hs hd.
-      let few = lane_few combined-starts plan inputs sound fit slots world cut s d lane hs hd in
+      let at_most = lane_few combined-starts plan inputs sound fit slots world cut s d lane hs hd in
       let got = (ended d hd).all s lane hs in
       whole-beginning (got_by world d s lane) (sent_by (system_of plan inputs slots) world s d lane) (cut.lanes s d lane hs hd)
-      (omega (arith, few, got));
+      (omega (arith, at_most, got));
   idle = λ r t h. (ended r h).idle t;
 }

@@ -44,7 +44,7 @@ needs_small p n sound c h = elim (cases_lt c p.ranks) [
       let f = length-filter (λ m. (link p m).target == c) (all_links p) in
       let g = count_by-le-length (λ m. (link p m).target == c) (all_links p) in
       let k = length-from_to 0 (length p.links) in
-      let few = sound.few_together in
+      let at_most = sound.few_together in
       omega arith)
 ]
 

@@ -23,12 +23,12 @@ sum_alike f g k (suc n) same =
 
 -- at most as much at each rank
 pub sum_within : (f g : ℕ → ℕ) (k n : ℕ) → ((i : ℕ) → k ≤ i → i < k + n → g i ≤ f i) → sum_by g (from_to k n) ≤ sum_by f (from_to k n)
-sum_within f g k zero few = omega arith
-sum_within f g k (suc n) few =
+sum_within f g k zero at_most = omega arith
+sum_within f g k (suc n) at_most =
     let a = sum_by-cons g k (from_to (suc k) n) in
     let b = sum_by-cons f k (from_to (suc k) n) in
-    let c = few k (omega arith) (omega arith) in
-    let d = sum_within f g (suc k) n (λ i low high. few i (omega arith) (omega arith)) in
+    let c = at_most k (omega arith) (omega arith) in
+    let d = sum_within f g (suc k) n (λ i low high. at_most i (omega arith) (omega arith)) in
     omega (arith, a, b, c, d)
 
 -- alike at each rank but one

@@ -75,9 +75,9 @@ module _ (starts : CombineStarts) (p : Plan) (inputs : Inputs) (sound : SoundPla
       next_stray p inputs slots w held (reached_moment steps strays w held x) next later step
 
   -- ---- what is said of steps by rank
-  pub few : (w : Histories) → IsCut (system_of p inputs slots) w → (r : ℕ) → r < p.ranks
+  pub at_most : (w : Histories) → IsCut (system_of p inputs slots) w → (r : ℕ) → r < p.ranks
       → length (w r) ≤ steps_of p 0 r + count_by is_received_stray (w r)
-  few w cut r h =
+  at_most w cut r h =
       let a = few_receipts starts p inputs sound fit slots w cut r h in
       let b = few_steps p (slots r) r (start_of p (slots r) r) (w r) (prepare p inputs (slots r) r)
       (prepared_of p inputs sound (slots r) r) (cut.legal r h) in
@@ -89,7 +89,7 @@ module _ (starts : CombineStarts) (p : Plan) (inputs : Inputs) (sound : SoundPla
       let m = reached_moment steps strays w held x in
       let a = all_steps (system_of p inputs slots) steps strays w held x in
       let b = sum_within (λ r. steps_of p 0 r + count_by is_received_stray (w r)) (λ r. length (w r)) 0 p.ranks
-      (λ r low high. few w m.cut r (omega (arith, high))) in
+      (λ r low high. at_most w m.cut r (omega (arith, high))) in
       let c = sum_both (steps_of p 0) (λ r. count_by is_received_stray (w r)) (from_to 0 p.ranks) in
       omega (arith, a, b, c)
 

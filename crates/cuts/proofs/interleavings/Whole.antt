@@ -41,7 +41,7 @@ use Rattle.cuts.specs.windows.Left.{steps_of}
 use Rattle.cuts.specs.histories.Moment.{Lanes}
 use Rattle.cuts.specs.interleavings.Interleaving.{IsReachedIn, IsStillButStrays, steps_due, strays_received}
 use Rattle.cuts.proofs.interleavings.Counted.{sum_alike, sum_both}
-use Rattle.cuts.proofs.interleavings.Interleavings.{all_steps, but_strays_rest, few, reached_moment}
+use Rattle.cuts.proofs.interleavings.Interleavings.{all_steps, but_strays_rest, at_most, reached_moment}
 
 -- ---- the parts of a history
 abbrev is_firing : Local → Bool
@@ -86,25 +86,25 @@ fired_by_work p g None = omega arith
 fired_by_work p g (Some (ForLink l)) = omega arith
 fired_by_work p g (Some (ForDone c)) = omega arith
 
-fired-few : (p : Plan) (r : ℕ) (es : List Local) (g : Seen)
+fired-at_most : (p : Plan) (r : ℕ) (es : List Local) (g : Seen)
     → length (seen p g (moves_of p r es)).fired ≤ length g.fired + count_by is_firing es
-fired-few p r [] g = omega arith
-fired-few p r (Start ∷ es) g =
-    let k = fired-few p r es (note p g Began) in
+fired-at_most p r [] g = omega arith
+fired-at_most p r (Start ∷ es) g =
+    let k = fired-at_most p r es (note p g Began) in
     let a = count-cons is_firing Start es in
     omega (arith, k, a)
-fired-few p r (Fire t ∷ es) g =
-    let k = fired-few p r es (note p g (did (work_numbered p r t))) in
+fired-at_most p r (Fire t ∷ es) g =
+    let k = fired-at_most p r es (note p g (did (work_numbered p r t))) in
     let a = count-cons is_firing (Fire t) es in
     let b = fired_by_work p g (work_numbered p r t) in
     omega (arith, k, a, b)
-fired-few p r (Receive s Answer m ∷ es) g =
-    let k = fired-few p r es (note p g (Heard m.header.ok)) in
+fired-at_most p r (Receive s Answer m ∷ es) g =
+    let k = fired-at_most p r es (note p g (Heard m.header.ok)) in
     let a = count-cons is_firing (Receive s Answer m) es in
     omega (arith, k, a)
-fired-few p r (Receive s Request m ∷ es) g =
+fired-at_most p r (Receive s Request m ∷ es) g =
     let a = count-cons is_firing (Receive s Request m) es in
-    let k = at (is_stray m) (fired-few p r es (note p g Strayed)) (fired-few p r es (note p g (Took m.header.hdr_data m.bytes))) in
+    let k = at (is_stray m) (fired-at_most p r es (note p g Strayed)) (fired-at_most p r es (note p g (Took m.header.hdr_data m.bytes))) in
     omega (arith, a, k)
   where
     at : (b : Bool) → length (seen p (note p g Strayed) (moves_of p r es)).fired ≤ length g.fired + count_by is_firing es
@@ -114,30 +114,30 @@ fired-few p r (Receive s Request m ∷ es) g =
     at true x y = x
     at false x y = y
 
-took-few : (p : Plan) (r : ℕ) (early : List Came) (es : List Local) (g : Seen)
+took-at_most : (p : Plan) (r : ℕ) (early : List Came) (es : List Local) (g : Seen)
     → length (seen p g (map tk early ++ moves_of p r es)).fired ≤ length g.fired + count_by is_firing es
-took-few p r [] es g = fired-few p r es g
-took-few p r (a ∷ early) es g = took-few p r early es (note p g (tk a))
+took-at_most p r [] es g = fired-at_most p r es g
+took-at_most p r (a ∷ early) es g = took-at_most p r early es (note p g (tk a))
 
-run-few : (p : Plan) (r : ℕ) (es : List Local) (early : List Came) (g : Seen)
+run-at_most : (p : Plan) (r : ℕ) (es : List Local) (early : List Came) (g : Seen)
     → length (seen p g (run_moves p r early es)).fired ≤ length g.fired + count_by is_firing es
-run-few p r [] early g = omega arith
-run-few p r (Start ∷ es) early g =
-    let k = took-few p r early es (note p g Began) in
+run-at_most p r [] early g = omega arith
+run-at_most p r (Start ∷ es) early g =
+    let k = took-at_most p r early es (note p g Began) in
     let a = count-cons is_firing Start es in
     omega (arith, k, a)
-run-few p r (Fire t ∷ es) early g =
-    let k = run-few p r es early (note p g (did (work_numbered p r t))) in
+run-at_most p r (Fire t ∷ es) early g =
+    let k = run-at_most p r es early (note p g (did (work_numbered p r t))) in
     let a = count-cons is_firing (Fire t) es in
     let b = fired_by_work p g (work_numbered p r t) in
     omega (arith, k, a, b)
-run-few p r (Receive s Answer m ∷ es) early g =
-    let k = run-few p r es early (note p g (Heard m.header.ok)) in
+run-at_most p r (Receive s Answer m ∷ es) early g =
+    let k = run-at_most p r es early (note p g (Heard m.header.ok)) in
     let a = count-cons is_firing (Receive s Answer m) es in
     omega (arith, k, a)
-run-few p r (Receive s Request m ∷ es) early g =
+run-at_most p r (Receive s Request m ∷ es) early g =
     let a = count-cons is_firing (Receive s Request m) es in
-    let k = at (is_stray m) (run-few p r es early (note p g Strayed)) (run-few p r es (early ++ to_came m ∷ []) g) in
+    let k = at (is_stray m) (run-at_most p r es early (note p g Strayed)) (run-at_most p r es (early ++ to_came m ∷ []) g) in
     omega (arith, a, k)
   where
     at : (b : Bool) → length (seen p (note p g Strayed) (run_moves p r early es)).fired ≤ length g.fired + count_by is_firing es
@@ -243,11 +243,11 @@ module _ (starts : CombineStarts) (p : Plan) (inputs : Inputs) (sound : SoundPla
   all_made r h =
       let parts = all_parts (w r) in
       let begun = rest.started r h in
-      let fired = run-few p r (w r) [] nothing_seen in
+      let fired = run-at_most p r (w r) [] nothing_seen in
       let each = length-Within (rank_ops p r) (all_seen p (moves_at p w) r).fired (Distinct-rank_ops p r) (all_fired r h) in
       let asks = many_requests r in
       let answers = many_answers r h in
-      let most = few starts p inputs sound fit swaps slots w cut r h in
+      let most = at_most starts p inputs sound fit swaps slots w cut r h in
       omega (arith, parts, begun, fired, each, asks, answers, most)
 
 -- so an interleaving that came to its end has just so many

@@ -127,9 +127,9 @@ module _ (starts : CombineStarts) (p : Plan) (inputs : Inputs) (sound : SoundPla
       given : Ended (system_of p inputs slots) words → (w : Histories) × IsChosen (system_of p inputs slots) words w
       given e = ((chosen (system_of p inputs slots) words e.0).world, record { steps = e.0; ended = e.1; world = λ r h. refl })
 
-      few : (n : ℕ) → steps_in (chosen (system_of p inputs slots) words n).world p.ranks ≤ sum_of most p.ranks
-      few n = steps-le (chosen (system_of p inputs slots) words n).world most p.ranks (λ r h. rank_most (chosen (system_of p inputs slots) words n).world (chosen (system_of p inputs slots) words n).held (chosen_reached (system_of p inputs slots) words n) r h)
+      at_most : (n : ℕ) → steps_in (chosen (system_of p inputs slots) words n).world p.ranks ≤ sum_of most p.ranks
+      at_most n = steps-le (chosen (system_of p inputs slots) words n).world most p.ranks (λ r h. rank_most (chosen (system_of p inputs slots) words n).world (chosen (system_of p inputs slots) words n).held (chosen_reached (system_of p inputs slots) words n) r h)
 
       at : Ended (system_of p inputs slots) words ⊎ (steps_in (chosen (system_of p inputs slots) words (suc (sum_of most p.ranks))).world p.ranks ≡ suc (sum_of most p.ranks)) → (w : Histories) × IsChosen (system_of p inputs slots) words w
       at (inl e) = given e
-      at (inr e) = absurd (let a = few (suc (sum_of most p.ranks)) in omega (arith, a, e))
+      at (inr e) = absurd (let a = at_most (suc (sum_of most p.ranks)) in omega (arith, a, e))

@@ -183,9 +183,9 @@ module _ (starts : CombineStarts) (p : Plan) (inputs : Inputs) (sound : SoundPla
       let y = length-map' number_in (own_received Answer (w r)) in
       let aw = awaits_seen p a.remote (moves_at p w r) nothing_seen 0 (omega arith) in
       let hd = run_heard p r (w r) [] ∙ heard_is p r (w r) clean ∙ ap (λ b. if b then length (own_received Answer (w r)) else 0) a.remote in
-      let few = few_answers r s m later h k e a in
+      let at_most = few_answers r s m later h k e a in
       let bound = sound.few_together in
-      omega (arith, size, f, q, y, aw, hd, few, bound)
+      omega (arith, size, f, q, y, aw, hd, at_most, bound)
     where
       clean : (x : Sent) → In x (answers_in (w r)) → is_stray x ≡ false
       clean x i = let j = answers_in-got (w r) x i in stray_request x (ap is_answer (answer_is starts p inputs sound fit slots w cut r j.0 x h j.1).kind)

@@ -240,8 +240,8 @@ module _ (starts : CombineStarts) (p : Plan) (inputs : Inputs) (sound : SoundPla
   threshold_small r = at p.remote
     where
       at : (b : Bool) → length (own p r) + (if b then count_by (λ l. not (is_bump (link p l).kind)) (out_links p r) else 0) ≤ top
-      at true = let a = length-own-le p r in let b = count-out-le p r in let few = sound.few_together in omega arith
-      at false = let a = length-own-le p r in let few = sound.few_together in omega arith
+      at true = let a = length-own-le p r in let b = count-out-le p r in let at_most = sound.few_together in omega arith
+      at false = let a = length-own-le p r in let at_most = sound.few_together in omega arith
 
   done_is : (r : ℕ) → r < p.ranks → (all_seen p (moves_at p w) r).done ≡ successes (done_threshold p r)
   done_is r h =

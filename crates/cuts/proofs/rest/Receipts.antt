@@ -12,7 +12,7 @@ use Rattle.op_laws.specs.Combining.{CombineStarts}
 use Rattle.plan_core.proofs.Lists.{In-map, In-filter, In-map_cases, count-cons, length-Within, length-map'}
 use Rattle.cuts.specs.machine.Machine.{link_of}
 use Rattle.cuts.specs.histories.Lanes.{bytes_in, received_bytes, is_receipt}
-use Rattle.cuts.proofs.start.Areas.{link-comes, sum-Within, few-early}
+use Rattle.cuts.proofs.start.Areas.{link-comes, sum-Within, at_most-early}
 use Rattle.plan_core.specs.Members.{In}
 use Rattle.plan_core.specs.Plan.{Plan, is_bump, link, out_links}
 use Rattle.plan_core.specs.Sound.{AreInputsOf, SoundPlan}
@@ -51,12 +51,12 @@ module _ (starts : CombineStarts) (p : Plan) (inputs : Inputs) (sound : SoundPla
   few_requests : length (own_received Request (w r)) ≤ length (links_to p r)
   few_requests =
       let size = length-map' to_came (own_received Request (w r)) in
-      let few = few-early p inputs sound r (map to_came (own_received Request (w r))) (record {
+      let at_most = at_most-early p inputs sound r (map to_came (own_received Request (w r))) (record {
         here = λ a i. (received_link starts p inputs sound fit slots w cut r h a i).0;
         size = λ a i. (received_link starts p inputs sound fit slots w cut r h a i).1;
         once = all_once starts p inputs sound fit slots w cut r h;
       }) in
-      omega (arith, size, few)
+      omega (arith, size, at_most)
 
   -- an answer is to a message of this rank
   answered_here : (m : Sent) → In m (own_received Answer (w r)) → (p.remote ≡ true) × In (number_in m) (filter (λ l. not (is_bump (link p l).kind)) (out_links p r))

@@ -217,8 +217,8 @@ module _ (p : Plan) (inputs : Inputs) (sound : SoundPlan p (length inputs)) (r :
       (sum-Within (λ l. (link p l).length) (filter (is_class p k) (map link_of cs)) (filter (is_class p k) (links_to p r)) (Distinct-filter (is_class p k) (map link_of cs) h.once)
       (λ l i. let q = In-filter_cases (is_class p k) l (map link_of cs) i in In-filter (is_class p k) l (links_to p r) (within-links cs h l q.0) q.1))
 
-  pub few-early : (cs : List Came) → MayLie p r cs → length cs ≤ length (links_to p r)
-  few-early cs h = subst (λ n. n ≤ length (links_to p r)) (length-map' link_of cs) (length-Within (map link_of cs) (links_to p r) h.once (within-links cs h))
+  pub at_most-early : (cs : List Came) → MayLie p r cs → length cs ≤ length (links_to p r)
+  at_most-early cs h = subst (λ n. n ≤ length (links_to p r)) (length-map' link_of cs) (length-Within (map link_of cs) (links_to p r) h.once (within-links cs h))
 
   pub filled-whole : (k : ℕ) (cs : List Came) → MayLie p r cs → IsWhole k (filled p k cs)
   filled-whole k cs h = sum-whole k (λ a. (link p a.link).length) (of_class p k cs) (λ a i. let q = In-filter_cases (came_class p k) a cs i in link-whole k a.link (h.here a q.0) (eqb-true _ _ q.1))

@@ -26,7 +26,7 @@ use Rattle.plan_core.specs.Places.{place_in, start_by}
 use Rattle.plan_core.specs.Plan.{Plan, cell, link, own}
 use Rattle.plan_core.specs.Sound.{SoundPlan}
 use Rattle.plan_core.specs.Values.{Inputs, initial}
-use Rattle.cuts.proofs.start.Areas.{Distinct-classes, MayLie, area-old, area-push, class-kept, class-small, class_op-of, class_type-of, classes-small, few-early, filled-fits, filled-push, length-area, length-stored, link-class}
+use Rattle.cuts.proofs.start.Areas.{Distinct-classes, MayLie, area-old, area-push, class-kept, class-small, class_op-of, class_type-of, classes-small, at_most-early, filled-fits, filled-push, length-area, length-stored, link-class}
 use Rattle.cuts.proofs.start.Starting.{flat-length}
 use Rattle.plan_calls.specs.Areas.{area_length, area_start, blank_area, blank_as, classes, link_class, links_to, region_length}
 use Rattle.cuts.specs.start.Waiting.{annex_of, area, area_linked, area_me, arrived_of, early_all, early_from, early_of, filled, waiting_view, stored, stored_as}
@@ -69,7 +69,7 @@ module _ (p : Plan) (inputs : Inputs) (sound : SoundPlan p (length inputs)) (s :
           let w = sound.links_sound l h.known in
           let up = w.rising in
           let t = w.cells in
-          let few = sound.few_cells in
+          let at_most = sound.few_cells in
           let a = sound.ranks_known (link p l).source (omega arith) in
           let b = sound.few_ranks in
           top-link (link_class p l) (link p l).target (cell p (link p l).source).rank small (omega arith) (omega arith)
@@ -234,7 +234,7 @@ module _ (p : Plan) (inputs : Inputs) (sound : SoundPlan p (length inputs)) (s :
     not_full senders =
         let a = length-map' (arrived_of p) (early_all p s r senders early) in
         let b = length-early_from senders [] early in
-        let c = few-early p inputs sound r (early ++ came l bs ∷ []) more in
+        let c = at_most-early p inputs sound r (early ++ came l bs ∷ []) more in
         let d = length-append early (came l bs ∷ []) in
         false_from_ne_true _ (λ e. let h = leb-true _ _ e in absurd (omega (arith, a, b, c, d, h)))
 

@@ -90,10 +90,10 @@ bits-cell : (p : Plan) (inputs : Inputs) → SoundPlan p (length inputs) → (k 
 bits-cell p inputs sound k r l h c i = at (cases_eq (link p l).target c)
   where
     t : (link p l).target < 2 ^ 24
-    t = let top = (sound.links_sound l h.known).cells in let few = sound.few_cells in omega arith
+    t = let top = (sound.links_sound l h.known).cells in let at_most = sound.few_cells in omega arith
 
     d : c < 2 ^ 24
-    d = let few = sound.few_cells in omega arith
+    d = let at_most = sound.few_cells in omega arith
 
     small : (cell p (link p l).source).rank < 2 ^ 16
     small =
@@ -384,10 +384,10 @@ module _ (starts : CombineStarts) (annex : Annex) (p : Plan) (inputs : Inputs) (
   -- the append isn't refused
   fault_at : (c : ℕ) → In c (own p r) → (g : Seen) (hs : List IndexedHeader) (es : List Linked) (n : ℕ) (m : List ℕ) → start_in p (own p r) c + (cell p c).length ≤ length m
       → length es < length (own p r) → n < top → append_fault 0 (appended_entry p s c) (parts_of (filled_by g hs es n m)) ≡ None
-  fault_at c own_c g hs es n m fits few stamps =
+  fault_at c own_c g hs es n m fits at_most stamps =
       need4 true (is_live (cell_ct p s c) (view annex p inputs s r g).cts) _ (is_within (start_in p (own p (cell p c).rank) c) (cell p c).length (length m)) Stale Stale NoSpace OutOfRegion
       refl (ap is_some (lookup_counter annex p inputs s r g c own_c))
-      (room (length annex.before + length (own p r)) (sum_by entries_in (Some (record { eq = None; priority = es; overflow = annex.before }) ∷ [])) n (let a = linked_is in omega (arith, a, few)) stamps)
+      (room (length annex.before + length (own p r)) (sum_by entries_in (Some (record { eq = None; priority = es; overflow = annex.before }) ∷ [])) n (let a = linked_is in omega (arith, a, at_most)) stamps)
       (ap (λ v. is_within (start_in p (own p v) c) (cell p c).length (length m)) (own-In p r c own_c).1 ∙ le-leb _ _ fits)
     where
       linked_is : sum_by entries_in (Some (record { eq = None; priority = es; overflow = annex.before }) ∷ []) ≡ length es + length annex.before
@@ -415,7 +415,7 @@ module _ (starts : CombineStarts) (annex : Annex) (p : Plan) (inputs : Inputs) (
   pub step_cell : (c : ℕ) → In c (own p r) → (xs : List Early) → ((x : Early) → In x xs → IsEarly annex p r x) → (g : Seen) → Sized p inputs g → (es : List Linked) (n : ℕ)
       → length es < length (own p r) → n < top → StepsCell c g xs es n
   unfolding cell_started append
-  step_cell c own_c xs facts g sized es n few stamps =
+  step_cell c own_c xs facts g sized es n at_most stamps =
       let i = (own-In p r c own_c).0 in
       let b = brings c (here_of c xs) (λ x j. facts x (of_here c xs x j).0) (λ x j. (of_here c xs x j).1) g sized in
       let hs = map (arrived_of p) xs in
@@ -424,7 +424,7 @@ module _ (starts : CombineStarts) (annex : Annex) (p : Plan) (inputs : Inputs) (
       let bytes : bring_all (longest_to p r) (own_cell p r c) (found_in 0 (appended_entry p s c) (map (arrived_of p) xs)) (view annex p inputs s r g).memory ≡ (view annex p inputs s r (took g (map early_came (here_of c xs)))).memory =
       ap (λ t. bring_all (longest_to p r) (own_cell p r c) t (view annex p inputs s r g).memory) found ∙ b.memory in
       let fits = in_region c own_c (took g (map early_came (here_of c xs))) b.sized in
-      let fault = fault_at c own_c g (map (arrived_of p) xs) es n (view annex p inputs s r (took g (map early_came (here_of c xs)))).memory fits few stamps in
+      let fault = fault_at c own_c g (map (arrived_of p) xs) es n (view annex p inputs s r (took g (map early_came (here_of c xs)))).memory fits at_most stamps in
       record {
         used = subst (λ a. AllUsed (longest_to p r) (own_cell p r c) (length (view annex p inputs s r g).memory) (found_in 0 a (map (arrived_of p) xs))) (sym e)
             (subst (λ t. AllUsed (longest_to p r) (own_cell p r c) (length (view annex p inputs s r g).memory) t) (sym found)
@@ -467,11 +467,11 @@ module _ (starts : CombineStarts) (annex : Annex) (p : Plan) (inputs : Inputs) (
 
   step_cells : (cs : List ℕ) → ((c : ℕ) → In c cs → In c (own p r)) → (xs : List Early) → ((x : Early) → In x xs → IsEarly annex p r x) → (g : Seen) → Sized p inputs g → (es : List Linked) (n : ℕ)
       → length es + length cs ≤ length (own p r) → n + length cs ≤ top → StepsCells cs g xs es n
-  step_cells [] ours xs facts g sized es n few stamps = record {
+  step_cells [] ours xs facts g sized es n at_most stamps = record {
     accepted = tt;
     next = λ d. partly annex p inputs s r (record g { came = sym (append-nil g.came) d }) xs (sym (append-nil es) d) (sym (add-zero n) d);
   }
-  step_cells (c ∷ cs) ours xs facts g sized es n few stamps =
+  step_cells (c ∷ cs) ours xs facts g sized es n at_most stamps =
       let one = step_cell c (ours c (inl refl)) xs facts g sized es n (omega arith) (omega arith) in
       let l = length-append es (cell_linked n c ∷ []) in
       let rest = step_cells cs (λ d i. ours d (inr i)) (left_of c xs) (λ x i. facts x (of_left c xs x i)) (took g (map early_came (here_of c xs))) one.sized (es ++ cell_linked n c ∷ []) (n + 1) (omega (arith, l)) (omega arith) in
@@ -566,7 +566,7 @@ module _ (starts : CombineStarts) (annex : Annex) (p : Plan) (inputs : Inputs) (
 
   pub cells_are : length annex.before ≤ 81 → (xs : List Early) → ((x : Early) → In x xs → IsEarly annex p r x) → (g : Seen) → Sized p inputs g → IsTaken xs g
   cells_are little xs facts g sized =
-      let few = few_own in
+      let at_most = few_own in
       let cells = sound.few_cells in
       let all = step_cells (own p r) (λ c i. i) xs facts g sized [] (length annex.before) (omega arith) (omega arith) in
       record {

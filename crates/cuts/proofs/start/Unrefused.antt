@@ -152,7 +152,7 @@ module _ (p : Plan) (inputs : Inputs) (sound : SoundPlan p (length inputs)) (fit
   area_made front a back e =
       let i : In a (classes p r) = subst (λ v. In a v) (sym e) (In-split front a back) in
       let less : length front < length (classes p r) = subst (λ v. length front < length v) (sym e) (length-split front a back) in
-      let few = few_classes p r in
+      let at_most = few_classes p r in
       let w = within_flat (area_length p r) (λ k. blank_area k (area_length p r k)) (classes p r) blank_sized a i in
       let whole = length-append (flat_map (initial p inputs) (own p r)) (blank_areas p r) in
       let cells = region_is in
@@ -177,7 +177,7 @@ module _ (p : Plan) (inputs : Inputs) (sound : SoundPlan p (length inputs)) (fit
 
   pub counter_made : (front : List ℕ) → length front < length (own p r) → alloc_fault (counted_for p inputs k r front).cts ≡ None
   counter_made front h =
-      let few = few_own p r in
+      let at_most = few_own p r in
       let cells = sound.few_cells in
       ap (λ s. alloc_fault (calls_made k (own p r) (map CtCell front) (with_counter (k.ct 0) s)).cts) (entered_is (classes p r))
       ∙ ap (λ (s : State). alloc_fault s.cts) (after_counters k (own p r) front (with_counter (k.ct 0) entered_all))
@@ -286,11 +286,11 @@ module _ (p : Plan) (inputs : Inputs) (sound : SoundPlan p (length inputs)) (fit
       let size = length-rank_ops p r in
       let a = few_own p r in
       let b = few_out p r in
-      let few = sound.few_together in
+      let at_most = sound.few_together in
       ap (λ (s : State). triggered_fault (deed_of p k w) (cell_ct p k (cell_of p w)) s.cts s.mds s.pending) (triggered_is front (λ v j. subst (λ vs. In v vs) (sym e) (In-append_left v front (w ∷ back) j)))
       ∙ need4 _ _ _ _ Stale NoSpace OutOfRegion CountFull
       (ap₂ (λ x y. x && y) (live_cell (cell_of p w) (cell_of-own p (length inputs) sound r w i)) may.live)
-      (numbers (length (out_links p r) + length (own p r)) (length (placed (new_op p k) 0 front)) (0 + length front) (let q = length-placed (new_op p k) 0 front in omega (arith, q, less, size)) (omega (arith, less, size, a, b, few)))
+      (numbers (length (out_links p r) + length (own p r)) (length (placed (new_op p k) 0 front)) (0 + length front) (let q = length-placed (new_op p k) 0 front in omega (arith, q, less, size)) (omega (arith, less, size, a, b, at_most)))
       may.fits
       may.small
     where
@@ -311,7 +311,7 @@ module _ (p : Plan) (inputs : Inputs) (sound : SoundPlan p (length inputs)) (fit
       let short = longest-le (out_links p r) l i in
       let same : (link p l).length ≡ (cell p (link p l).target).length = (s.atomic_whole (s.atomic_here o e)).1 in (
         record { target_known = omega arith; short = omega arith },
-        record { whole = ap (λ n. n % bytes_of (cell p (link p l).target).ty) same ∙ sound.whole (link p l).target s.cells; few = omega arith },
+        record { whole = ap (λ n. n % bytes_of (cell p (link p l).target).ty) same ∙ sound.whole (link p l).target s.cells; at_most = omega arith },
       )
 
   may-make : (w : RankOp) → In w (rank_ops p r) → MayStart (deed_of p k w) p.ranks (limits_for p r)

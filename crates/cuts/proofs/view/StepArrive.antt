@@ -213,7 +213,7 @@ bits-job p inputs sound r l h =
     let w = sound.links_sound l h.known in
     let up = w.rising in
     let t = w.cells in
-    let few = sound.few_cells in
+    let at_most = sound.few_cells in
     let a = sound.ranks_known (link p l).source (omega arith) in
     let b = sound.few_ranks in
     job (class_of (cell p (link p l).target).op (cell p (link p l).target).ty) (link p l).target (cell p (link p l).source).rank (class-lt (cell p (link p l).target).op (cell p (link p l).target).ty) (omega arith) (omega arith)
@@ -227,7 +227,7 @@ module _ (annex : Annex) (quiet : IsQuiet annex) where
       let w = sound.links_sound l h.known in
       let up = w.rising in
       let top = w.cells in
-      let few = sound.few_cells in
+      let at_most = sound.few_cells in
       let t : (link p l).target < 2 ^ 24 = omega arith in
       let rank_small : (cell p (link p l).source).rank < 2 ^ 16 = (let a = sound.ranks_known (link p l).source (omega arith) in let b = sound.few_ranks in omega arith) in
       let m : bits_match (2 ^ 16 - 1) (cell_bits p (link p l).target * 2 ^ 16 + (cell p (link p l).source).rank) (cell_bits p (link p l).target * 2 ^ 16) ≡ true =
@@ -240,7 +240,7 @@ module _ (annex : Annex) (quiet : IsQuiet annex) where
       let w = sound.links_sound l h.known in
       let up = w.rising in
       let top = w.cells in
-      let few = sound.few_cells in
+      let at_most = sound.few_cells in
       let t : (link p l).target < 2 ^ 24 = omega arith in
       let d : c < 2 ^ 24 = omega arith in
       let rank_small : (cell p (link p l).source).rank < 2 ^ 16 = (let a = sound.ranks_known (link p l).source (omega arith) in let b = sound.few_ranks in omega arith) in
@@ -324,7 +324,7 @@ module _ (annex : Annex) (quiet : IsQuiet annex) where
   -- ---- a stray
   no-match : (p : Plan) (inputs : Inputs) → SoundPlan p (length inputs) → (s : Slots) (m : Sent) → (m.header.match_bits / 2 ^ 48 % 2 ^ 16 == 1) ≡ false → (c : ℕ) → c < length p.cells → is_match (entry_of annex p s c).entry m.header ≡ false
   no-match p inputs sound s m e c h = false_from_ne_true _ (λ t.
-      let few = sound.few_cells in
+      let at_most = sound.few_cells in
       let d : c < 2 ^ 24 = omega arith in
       let q : high m.header.match_bits ≡ cell_bits p c = bits_match-true _ _ (and_parts _ _ t).0 ∙ entry-high p c d in
       let j : cell_bits p c / 2 ^ 32 ≡ 1 = above-job (class_of (cell p c).op (cell p c).ty) c (class-lt (cell p c).op (cell p c).ty) d in

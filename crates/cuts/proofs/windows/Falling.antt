@@ -52,8 +52,8 @@ sum-less f g j k (suc n) low high same less = elim (cases_eq k j) [
 
 -- ---- the steps of a rank
 module _ (p : Plan) (inputs : Inputs) (sound : SoundPlan p (length inputs)) (fit : AreInputsOf p inputs) (slots : ℕ → Slots) (strays : ℕ) where
-  few : (w : Histories) → IsCut (system_of p inputs slots) w → (r : ℕ) → r < p.ranks → count_by is_received_stray (w r) ≤ strays → length (w r) ≤ steps_of p strays r
-  few w cut r h most =
+  at_most : (w : Histories) → IsCut (system_of p inputs slots) w → (r : ℕ) → r < p.ranks → count_by is_received_stray (w r) ≤ strays → length (w r) ≤ steps_of p strays r
+  at_most w cut r h most =
       let a = few_receipts combined-starts p inputs sound fit slots w cut r h in
       let b = few_steps p (slots r) r (start_of p (slots r) r) (w r) (prepare p inputs (slots r) r) (prepared_of p inputs sound (slots r) r) (cut.legal r h) in
       omega (arith, a, b, most)
@@ -65,7 +65,7 @@ module _ (p : Plan) (inputs : Inputs) (sound : SoundPlan p (length inputs)) (fit
       let k = system_of p inputs slots in
       let s = listed_made k z x (In-filter_cases (is_possible k window z) x (enabled_steps k z) i).0 in
       let next : IsMoment k (step_made k x z).world (step_made k x z).held = next_local combined-starts p inputs sound fit (combined-swaps op_laws) slots z.world z.held moment (step_made k x z).world (step_made k x z).held s in
-      let wide = few (step_made k x z).world next.cut s.r s.in_range (most s.r s.in_range) in
+      let wide = at_most (step_made k x z).world next.cut s.r s.in_range (most s.r s.in_range) in
       let longer : length ((step_made k x z).world s.r) ≡ length (z.world s.r) + 1 = ap length s.rank ∙ length-append (z.world s.r) (s.e ∷ []) in
       sum-less (λ r. steps_of p strays r - length (z.world r)) (λ r. steps_of p strays r - length ((step_made k x z).world r)) s.r 0 p.ranks (omega arith) (let q = s.in_range in omega arith)
       (λ q apart. ap (λ h. steps_of p strays q - length h) (s.others q apart)) (omega (arith, wide, longer))

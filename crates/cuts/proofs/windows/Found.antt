@@ -9,7 +9,7 @@ use Rattle.cuts.specs.histories.System.{System}
 use Rattle.cuts.specs.orders.Chosen.{Scene, first_of, start_at}
 use Rattle.cuts.specs.declared.orders.Step.{Step}
 use Rattle.cuts.specs.declared.orders.Step.TheVariants.{Start, Deliver}
-use Rattle.cuts.specs.windows.Places.{counts, delivery_at, fires_at, goal_at, kind_at, source_at}
+use Rattle.cuts.specs.windows.Places.{counts, delivery_at, fires_at, destination_at, kind_at, source_at}
 use Rattle.cuts.specs.windows.Possible.{is_possible, possible_steps}
 use Rattle.cuts.proofs.windows.Counted.{count_at, length-all, listed}
 use Rattle.cuts.proofs.windows.Places.{by-places}
@@ -69,7 +69,7 @@ module _ (k : System) (window : ℕ) (z : Scene) where
       ∙ only_start (Start place) d (nat_lt 0 (count_by is_start (z.world place))) rest (omega arith)
 
   pub found_delivery : (place rest i : ℕ) (d : Step) → place < 2 * (k.count * k.count) → sum (take place deliveries) + rest ≡ i → rest < get_or deliveries place 0 → i < sum deliveries
-      → get_or (possible_steps k window z) (sum starts + i) d ≡ Deliver (source_at k.count place) (goal_at k.count place) (kind_at place)
+      → get_or (possible_steps k window z) (sum starts + i) d ≡ Deliver (source_at k.count place) (destination_at k.count place) (kind_at place)
   found_delivery place rest i d h before within small =
       let a = length-all (start_at z) k.count in
       let b = length-all (delivery_at k window z) (2 * (k.count * k.count)) in
@@ -80,7 +80,7 @@ module _ (k : System) (window : ℕ) (z : Scene) where
       ∙ ap (λ n. get_or (all_deliveries ++ all_firings) n d) off
       ∙ get_or_append_left all_deliveries all_firings d i (omega arith)
       ∙ listed (delivery_at k window z) (2 * (k.count * k.count)) place rest i d h before within
-      ∙ only_delivery (is_possible k window z) (source_at k.count place) (goal_at k.count place) (kind_at place) (z.held (source_at k.count place) (goal_at k.count place) (kind_at place)) d rest (omega arith)
+      ∙ only_delivery (is_possible k window z) (source_at k.count place) (destination_at k.count place) (kind_at place) (z.held (source_at k.count place) (destination_at k.count place) (kind_at place)) d rest (omega arith)
 
   pub found_firing : (place rest i : ℕ) (d : Step) → place < k.count → sum (take place firings) + rest ≡ i → rest < get_or firings place 0
       → get_or (possible_steps k window z) (sum starts + (sum deliveries + i)) d ≡ get_or (fires_at k window z place) rest d

@@ -15,10 +15,10 @@ use Rattle.cuts.specs.declared.orders.Step.TheVariants.{Start, Deliver, Fire}
 
 -- what is held without strays was sent
 pub held_few : (k : System) (z : Scene) (s d : ℕ) (lane : Lane) (most : ℕ) → IsMoment k z.world z.held → s < k.count → d < k.count → length (sent_by k z.world s d lane) ≤ most → length (owned (z.held s d lane)) ≤ most
-held_few k z s d lane most moment hs hd few =
+held_few k z s d lane most moment hs hd at_most =
     let a = ap length (sym (filter-append (λ (m : Sent). not (is_stray m)) (got (z.world d) s lane) (z.held s d lane)) ∙ moment.lanes s d lane hs hd) in
     let b = length-append (owned (got (z.world d) s lane)) (owned (z.held s d lane)) in
-    omega (arith, a, b, few)
+    omega (arith, a, b, at_most)
 
 -- one step more at rank r
 grows : (r : ℕ) (e : Local) (w : Histories) (q : ℕ) → IsPrefixOf (w q) (with_step r e w q)

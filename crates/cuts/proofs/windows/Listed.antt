@@ -83,14 +83,14 @@ module _ (k : System) (z : Scene) where
   filter-all p (x ∷ xs) e = ap₂ (λ b ys. if b then x ∷ ys else ys) (e x) (filter-all p xs e)
 
   pub wide : (window : ℕ) → ((s d : ℕ) (lane : Lane) → length (z.held s d lane) < window) → possible_steps k window z ≡ enabled_steps k z
-  wide window few = filter-all (is_possible k window z) (enabled_steps k z) at
+  wide window at_most = filter-all (is_possible k window z) (enabled_steps k z) at
     where
       room : (r : ℕ) (o : Option Sent) → finds_room window z r o ≡ true
       room r None = refl
-      room r (Some m) = lt-ltb _ _ (few r m.header.target Request)
+      room r (Some m) = lt-ltb _ _ (at_most r m.header.target Request)
 
       at : (x : Step) → is_possible k window z x ≡ true
       at (Start r) = refl
       at (Fire r t) = room r (fired (state_at k z.world r) t).message
       at (Deliver s d Answer) = refl
-      at (Deliver s d Request) = lt-ltb _ _ (few d s Answer)
+      at (Deliver s d Request) = lt-ltb _ _ (at_most d s Answer)

@@ -17,8 +17,8 @@ lane_place n s d Answer = 2 * (s * n + d) + 1
 abbrev pub source_at : ℕ → ℕ → ℕ
 source_at n i = i / 2 / n
 
-abbrev pub goal_at : ℕ → ℕ → ℕ
-goal_at n i = i / 2 % n
+abbrev pub destination_at : ℕ → ℕ → ℕ
+destination_at n i = i / 2 % n
 
 abbrev pub kind_at : ℕ → Lane
 kind_at i = if i % 2 == 0 then Request else Answer
@@ -29,7 +29,7 @@ delivery_on k window z s d lane = filter (is_possible k window z) (first_of s d 
 
 -- by its place
 abbrev pub delivery_at : System → ℕ → Scene → ℕ → List Step
-delivery_at k window z i = delivery_on k window z (source_at k.count i) (goal_at k.count i) (kind_at i)
+delivery_at k window z i = delivery_on k window z (source_at k.count i) (destination_at k.count i) (kind_at i)
 
 -- the possible firings at a rank
 abbrev pub fires_at : System → ℕ → Scene → ℕ → List Step

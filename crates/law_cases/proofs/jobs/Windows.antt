@@ -15,7 +15,7 @@ use Rattle.cuts.specs.orders.Chosen.{Scene}
 use Rattle.cuts.specs.declared.orders.Step.TheVariants.{Start, Deliver, Fire}
 use Rattle.cuts.specs.windows.Left.{steps_left, steps_of}
 use Rattle.cuts.specs.windows.Named.{named}
-use Rattle.cuts.specs.windows.Places.{goal_at, kind_at, lane_place, source_at}
+use Rattle.cuts.specs.windows.Places.{destination_at, kind_at, lane_place, source_at}
 use Rattle.cuts.specs.windows.Possible.{possible_steps}
 use Rattle.law_cases.proofs.plans.Acknowledged.{ack, each, says, system, three, whole}
 
@@ -76,5 +76,5 @@ names = (refl, refl, refl)
 places : (lane_place 3 0 0 Request ≡ 0) × (lane_place 3 0 0 Answer ≡ 1) × (lane_place 3 0 2 Request ≡ 4) × (lane_place 3 2 1 Answer ≡ 15)
 places = (refl, refl, refl, refl)
 
-back : (source_at 3 15 ≡ 2) × (goal_at 3 15 ≡ 1) × (kind_at 15 ≡ Answer) × (kind_at 14 ≡ Request)
+back : (source_at 3 15 ≡ 2) × (destination_at 3 15 ≡ 1) × (kind_at 15 ≡ Answer) × (kind_at 14 ≡ Request)
 back = (refl, refl, refl, refl)

@@ -86,12 +86,12 @@ names-at h (Some x) alone =
 
 -- ---- how much a row counts, and how long it is
 
-pub one-few : (o : Option Handle) (k : ℕ) → one_at o k ≤ 1
-one-few None k = omega arith
-one-few (Some h) k = elim (nat_eq h.slot k) as (λ b. one_if b ≤ 1) [ true ↦ omega arith | false ↦ omega arith ]
+pub one-at_most : (o : Option Handle) (k : ℕ) → one_at o k ≤ 1
+one-at_most None k = omega arith
+one-at_most (Some h) k = elim (nat_eq h.slot k) as (λ b. one_if b ≤ 1) [ true ↦ omega arith | false ↦ omega arith ]
 
-pub counts-few : (f : ℕ → ℕ) (n slot : ℕ) (row : List ℕ) → Counts f row → f slot ≤ n → count_at slot row ≤ n
-counts-few f n slot row c few =
+pub counts-at_most : (f : ℕ → ℕ) (n slot : ℕ) (row : List ℕ) → Counts f row → f slot ≤ n → count_at slot row ≤ n
+counts-at_most f n slot row c at_most =
     elim (nat_lt slot (length row)) as (λ b. nat_lt slot (length row) ≡ b → count_at slot row ≤ n) [
       | true ↦ λ e. let lt : slot < length row = grind (arith, nat_tests) in omega (arith, c slot lt)
       | false ↦ λ e. let past : length row ≤ slot = grind (arith, nat_tests) in omega (arith, get_or_past row slot 0 past)
@@ -107,8 +107,8 @@ fewer-long (Some h) row = length-set row h.slot (count_at h.slot row - 1)
 
 -- there is room for one user more, where f counts no more than n users of a slot
 pub add-room : (f : ℕ → ℕ) (n : ℕ) (row : List ℕ) (o : Option Handle) → Counts f row → ((k : ℕ) → f k ≤ n) → n < 2 ^ 64 - 1 → IfSome o (λ h. count_at h.slot row < 2 ^ 64 - 1)
-add-room f n row None c few small = tt
-add-room f n row (Some h) c few small = omega (arith, counts-few f n h.slot row c (few h.slot), small)
+add-room f n row None c at_most small = tt
+add-room f n row (Some h) c at_most small = omega (arith, counts-at_most f n h.slot row c (at_most h.slot), small)
 
 -- one of many names h, or a later one does
 or-count : (b r : Bool) (n : ℕ) → r ≡ nat_lt 0 n → (b || r) ≡ nat_lt 0 (one_if b + n)

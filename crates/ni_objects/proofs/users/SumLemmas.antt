@@ -144,9 +144,9 @@ module _ {A : Type 0} where
       let s = rw at at (sum-split me f t.live one) in
       omega (arith, s, sum-without me f t.live)
 
-  pub sum-few : (f : Handle → A → ℕ) (xs : List (Live A)) → ((h : Handle) (v : A) → f h v ≤ 1) → sum_of f xs ≤ length xs
-  sum-few f [] few = omega arith
-  sum-few f (x ∷ xs) few = omega (arith, few x.handle x.value, sum-few f xs few)
+  pub sum-at_most : (f : Handle → A → ℕ) (xs : List (Live A)) → ((h : Handle) (v : A) → f h v ≤ 1) → sum_of f xs ≤ length xs
+  sum-at_most f [] at_most = omega arith
+  sum-at_most f (x ∷ xs) at_most = omega (arith, at_most x.handle x.value, sum-at_most f xs at_most)
 
   -- ---- no two things have one handle
 

@@ -33,7 +33,7 @@ wide_on s t w e f = record {
 }
 
 -- ---- the counters and descriptors of step t after those of the steps before it
-module _ (ks : List ChoiceKind) (few : length ks ≤ 64) (s0 s : State) (a b : Handles) (t : ℕ) (two : length a.counters ≡ 2)
+module _ (ks : List ChoiceKind) (at_most : length ks ≤ 64) (s0 s : State) (a b : Handles) (t : ℕ) (two : length a.counters ≡ 2)
     (none : length a.descriptors ≡ 0) (room : HasRoom (flat_map (step_calls ks) (steps ks)) a)
     (made : AreMade ks (flat_map (step_calls ks) (from_to 0 t)) s0 s a b) where
   pub counters_now : length b.counters ≡ 2 + before counters_in ks t

@@ -61,7 +61,7 @@ fn word_at(start: u64, ct: Option<Handle>) -> Descriptor
 
 /// The two counting events and three descriptors of an elect. `counter` is the number of the first.
 fn make_elect(nic: &mut Nic, kept: &mut NodeHandles, step: u32, counter: usize) -> Result<(), NoMemory>
-    requires few { step < 64 }
+    requires at_most { step < 64 }
     requires next { counter ≡ length kept.old.counters }
     requires all { AreAllOf nic.old kept.old }
     requires small { counter ≤ 130 }
@@ -84,7 +84,7 @@ fn make_elect(nic: &mut Nic, kept: &mut NodeHandles, step: u32, counter: usize) 
 
 /// The counting event and two descriptors of tickets. `counter` is the number of the first.
 fn make_tickets(nic: &mut Nic, kept: &mut NodeHandles, step: u32, counter: usize) -> Result<(), NoMemory>
-    requires few { step < 64 }
+    requires at_most { step < 64 }
     requires next { counter ≡ length kept.old.counters }
     requires all { AreAllOf nic.old kept.old }
     requires counters { length kept.old.counters + 1 ≤ kept.old.room.counters }
@@ -104,7 +104,7 @@ fn make_tickets(nic: &mut Nic, kept: &mut NodeHandles, step: u32, counter: usize
 /// How many counting events a step has.
 fn counters_of(kind: ChoiceKind) -> usize
     ensures value { result ≡ counters_in kind }
-    ensures few { result ≤ 2 }
+    ensures at_most { result ≤ 2 }
 {
     match kind {
         ChoiceKind::Elect => 2,
@@ -115,7 +115,7 @@ fn counters_of(kind: ChoiceKind) -> usize
 /// How many descriptors and how many operations it has.
 fn things_of(kind: ChoiceKind) -> usize
     ensures value { result ≡ things_in kind }
-    ensures few { result ≤ 3 }
+    ensures at_most { result ≤ 3 }
 {
     match kind {
         ChoiceKind::Elect => 3,
@@ -131,7 +131,7 @@ fn make_step(
     step: u32,
     counter: usize,
 ) -> Result<(), NoMemory>
-    requires few { step < 64 }
+    requires at_most { step < 64 }
     requires next { counter ≡ length kept.old.counters }
     requires all { AreAllOf nic.old kept.old }
     requires small { counter ≤ 130 }
@@ -149,7 +149,7 @@ fn make_step(
 
 /// The counting events and descriptors of all steps, step by step.
 fn make_steps(nic: &mut Nic, kept: &mut NodeHandles, kinds: &[ChoiceKind]) -> Result<(), NoMemory>
-    requires few { length kinds.now ≤ 64 }
+    requires at_most { length kinds.now ≤ 64 }
     requires two { length kept.old.counters ≡ 2 }
     requires none { length kept.old.descriptors ≡ 0 }
     requires all { AreAllOf nic.old kept.old }
@@ -190,7 +190,7 @@ fn entry_of(step: u64) -> Entry
 
 /// The words of rank 0, to which all ranks send.
 fn make_words(nic: &mut Nic, kept: &mut NodeHandles, count: u32) -> Result<(), NoMemory>
-    requires few { count ≤ 64 }
+    requires at_most { count ≤ 64 }
     requires all { AreAllOf nic.old kept.old }
     requires room { length kept.old.entries + count ≤ kept.old.room.entries }
     ensures { OnOk result ((ks : List ChoiceKind) → AreMade ks (map MeAppend (from_to 0 count)) nic.old nic.new kept.old kept.new) }
@@ -242,7 +242,7 @@ fn post_elect(
     counter: usize,
     descriptor: usize,
 ) -> Result<(), NoMemory>
-    requires few { step < 64 }
+    requires at_most { step < 64 }
     requires wide { IsWide nic.old }
     requires all { AreAllOf nic.old kept.now }
     requires counters { counter + 1 < length kept.now.counters }
@@ -276,7 +276,7 @@ fn post_tickets(
     counter: usize,
     descriptor: usize,
 ) -> Result<(), NoMemory>
-    requires few { step < 64 }
+    requires at_most { step < 64 }
     requires wide { IsWide nic.old }
     requires all { AreAllOf nic.old kept.now }
     requires counters { counter < length kept.now.counters }
@@ -309,7 +309,7 @@ fn post_step(
     counter: usize,
     descriptor: usize,
 ) -> Result<(), NoMemory>
-    requires few { step < 64 }
+    requires at_most { step < 64 }
     requires wide { IsWide nic.old }
     requires all { AreAllOf nic.old kept.now }
     requires counters { counter + counters_in kind ≤ length kept.now.counters }
@@ -328,7 +328,7 @@ fn post_step(
 
 /// The operations of all steps, step by step.
 fn post_all(nic: &mut Nic, kept: &NodeHandles, kinds: &[ChoiceKind]) -> Result<(), NoMemory>
-    requires few { length kinds.now ≤ 64 }
+    requires at_most { length kinds.now ≤ 64 }
     requires wide { IsWide nic.old }
     requires all { AreAllOf nic.old kept.now }
     requires counters { length kept.now.counters ≡ 2 + before counters_in kinds.now (length kinds.now) }
@@ -349,7 +349,7 @@ fn post_all(nic: &mut Nic, kept: &NodeHandles, kinds: &[ChoiceKind]) -> Result<(
 /// How many local steps a rank makes for a step of the text: firings and answers.
 fn told(kind: ChoiceKind) -> u64
     ensures value { result ≡ told_steps kind }
-    ensures few { result ≤ 5 }
+    ensures at_most { result ≤ 5 }
 {
     match kind {
         ChoiceKind::Elect => 5,
@@ -360,7 +360,7 @@ fn told(kind: ChoiceKind) -> u64
 /// How many requests it makes.
 fn asked(kind: ChoiceKind) -> u64
     ensures value { result ≡ told_requests kind }
-    ensures few { result ≤ 2 }
+    ensures at_most { result ≤ 2 }
 {
     match kind {
         ChoiceKind::Elect => 2,
@@ -372,7 +372,7 @@ fn asked(kind: ChoiceKind) -> u64
 fn told_in(kinds: &[ChoiceKind]) -> u64
     requires { length kinds.now ≤ 64 }
     ensures sum { result ≡ sum_by (λ s. told_steps (choice_at kinds.now s)) (steps kinds.now) }
-    ensures few { result ≤ 320 }
+    ensures at_most { result ≤ 320 }
 {
     let mut sum = 0;
     for i in 0..kinds.len() {
@@ -385,7 +385,7 @@ fn told_in(kinds: &[ChoiceKind]) -> u64
 fn asked_in(kinds: &[ChoiceKind]) -> u64
     requires { length kinds.now ≤ 64 }
     ensures sum { result ≡ sum_by (λ s. told_requests (choice_at kinds.now s)) (steps kinds.now) }
-    ensures few { result ≤ 128 }
+    ensures at_most { result ≤ 128 }
 {
     let mut sum = 0;
     for i in 0..kinds.len() {
@@ -398,7 +398,7 @@ fn asked_in(kinds: &[ChoiceKind]) -> u64
 fn steps_of(rank: Rank, ranks: u32, kinds: &[ChoiceKind]) -> u64
     requires { length kinds.now ≤ 64 }
     ensures due { result ≡ steps_due ranks kinds.now rank }
-    ensures few { result ≤ 2 ^ 40 }
+    ensures at_most { result ≤ 2 ^ 40 }
 {
     let own = 1 + told_in(kinds);
     if rank == 0 {
@@ -415,7 +415,7 @@ fn make_own_words(
     rank: Rank,
     kinds: &[ChoiceKind],
 ) -> Result<(), NoMemory>
-    requires few { length kinds.now ≤ 64 }
+    requires at_most { length kinds.now ≤ 64 }
     requires all { AreAllOf nic.old kept.old }
     requires room { length kept.old.entries + length kinds.now ≤ kept.old.room.entries }
     ensures { OnOk result (AreMade kinds.now (word_calls kinds.now rank) nic.old nic.new kept.old kept.new) }
@@ -435,7 +435,7 @@ fn make_all(
     rank: Rank,
     kinds: &[ChoiceKind],
 ) -> Result<(), NoMemory>
-    requires few { length kinds.now ≤ 64 }
+    requires at_most { length kinds.now ≤ 64 }
     requires wide { IsWide nic.old }
     requires none { kept.old ≡ no_handles (room_under (limits_of kinds.now)) }
     requires all { AreAllOf nic.old kept.old }
@@ -461,7 +461,7 @@ pub fn install(
     ranks: u32,
     kinds: &[ChoiceKind],
 ) -> Result<ChoiceRank, NoMemory>
-    requires few { length kinds.now ≤ 64 }
+    requires at_most { length kinds.now ≤ 64 }
     requires rank { rank < ranks }
     ensures { IfOk result (λ s. IsInstalled ranks kinds.now rank s) }
 {

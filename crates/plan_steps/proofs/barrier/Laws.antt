@@ -10,7 +10,7 @@ use Rattle.plan_steps.proofs.Drawn.{Drawn, each_front, each_of_rows, each_rows}
 use Rattle.plan_steps.proofs.Entries.{Ground, IsCell, bare-sound, behind, both_parts, of_places}
 use Rattle.plan_steps.proofs.Folds.{Turned, turn}
 use Rattle.plan_steps.proofs.Folds.Turned.{Above, Below}
-use Rattle.plan_steps.proofs.RoundCounts.{rounds-few}
+use Rattle.plan_steps.proofs.RoundCounts.{rounds-at_most}
 use Rattle.plan_steps.specs.Barrier.{barrier_cells, round_links}
 use Rattle.plan_steps.specs.Rounds.{rounds}
 use Rattle.plan_steps.specs.StepContext.{StepContext, bare_entry, bump, count, entry, in_row, places, put, rank_at, rows, silent}
@@ -59,7 +59,7 @@ module _ (q : Plan) (inputs : Inputs) (s : StepContext) (pos : 0 < count s) (sma
 
   pub round-comes : (j m r : ℕ) → j < rounds (count s) → m < count s → r < count s → (m + 2 ^ j) % count s ≡ r → Comes q (in_row s j m) (in_row s (suc j) r)
   round-comes j m r t l h e =
-      subst (λ v. Comes q (in_row s j v) (in_row s (suc j) r)) (before (rounds-few (count s) j t) (turn m (2 ^ j) (count s) l (let f = rounds-few (count s) j t in omega (arith, f))) (turn r (count s - 2 ^ j) (count s) h (let p : 0 < 2 ^ j = pow_pos j in omega (arith, p))))
+      subst (λ v. Comes q (in_row s j v) (in_row s (suc j) r)) (before (rounds-at_most (count s) j t) (turn m (2 ^ j) (count s) l (let f = rounds-at_most (count s) j t in omega (arith, f))) (turn r (count s - 2 ^ j) (count s) h (let p : 0 < 2 ^ j = pow_pos j in omega (arith, p))))
       ((there j r t h).comes (put 0 (in_row s j ((r + (count s - 2 ^ j)) % count s)) 0 0) (inr (inl refl)))
     where
       before : 2 ^ j < count s → Turned m (2 ^ j) (count s) → Turned r (count s - 2 ^ j) (count s) → (r + (count s - 2 ^ j)) % count s ≡ m

@@ -7,7 +7,7 @@ ghost use Rattle.plan_steps.specs.Rounds.{rounds, rounds_from};
 fn rounds_from(fuel: u32, k: u32, m: u32) -> u32
     requires { fuel + k ≤ 8 }
     ensures value { result ≡ rounds_from fuel k m }
-    ensures few { result ≤ fuel + k }
+    ensures at_most { result ≤ fuel + k }
 {
     if fuel == 0 || m <= 2u32.pow(k) {
         k
@@ -20,7 +20,7 @@ fn rounds_from(fuel: u32, k: u32, m: u32) -> u32
 #[tactic(auto, unfolding(crate::specs::Rounds::rounds))]
 pub fn rounds(m: u32) -> u32
     ensures value { result ≡ rounds m }
-    ensures few { result ≤ 8 }
+    ensures at_most { result ≤ 8 }
 {
     rounds_from(8, 0, m)
 }

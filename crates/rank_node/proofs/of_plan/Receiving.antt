@@ -94,7 +94,7 @@ module _ (p : Plan) (inputs : Inputs) (sound : SoundPlan p (length inputs)) (fit
       let held_bytes = is.node.bytes in
       let more : count_by is_receipt (n.diary.locals ++ received ∷ []) ≡ count_by is_receipt n.diary.locals + 1 = receipts-push n.diary.locals received in
       let longer : bytes_received (n.diary.locals ++ received ∷ []) ≡ bytes_received n.diary.locals + (length m.bytes + 0) = bytes-push n.diary.locals received in
-      let few = room.few in
+      let at_most = room.at_most in
       let a = number in
       let b = own_bytes in
       let c = all_bytes (n.diary.locals ++ received ∷ []) room.short in

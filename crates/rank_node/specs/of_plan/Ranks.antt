@@ -32,7 +32,7 @@ AreShort (Fire t ∷ es) = AreShort es
 
 -- a history with one step more has no more strays than there is room for
 pub record HasStrayRoom (n : NodeState) (e : Local) : Type 0 where
-  pub few : count_by is_received_stray (n.diary.locals ++ e ∷ []) ≤ n.strays
+  pub at_most : count_by is_received_stray (n.diary.locals ++ e ∷ []) ≤ n.strays
   pub short : AreShort (n.diary.locals ++ e ∷ [])
 
 -- the message may be received by the node

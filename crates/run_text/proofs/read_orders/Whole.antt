@@ -29,9 +29,9 @@ whole_back bytes d steps is none short named =
     let orders = order_text ranks steps in
     let all = bytes ++ orders in
     let next = line_after 1 (lines all) in
-    let few = (comes bytes d is).readable.formed.shape.few_ranks in
+    let at_most = (comes bytes d is).readable.formed.shape.few_ranks in
     parted all (length bytes) next short (sym (whole_front bytes orders d is)) refl
     ∙ ap₂ (λ x y. with_orders (read x) next (lines y)) (take-append_seam bytes orders) (drop-append_seam bytes orders)
     ∙ ap (λ r. with_orders r next (lines orders)) is
     ∙ behind d next (lines orders) (map steps (from_to 0 ranks)) d.choices none
-    (orders_back ranks ranks 0 next steps (omega (arith, few)) (omega arith) named)
+    (orders_back ranks ranks 0 next steps (omega (arith, at_most)) (omega arith) named)

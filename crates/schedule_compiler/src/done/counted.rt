@@ -64,7 +64,7 @@ impl CountedPlan {
     pub fn plan(&self) -> &Plan
         ensures value { result.now ≡ self.now }
         // This holds of every such plan.
-        ensures few { length self.now.cells + length self.now.links < 2 ^ 32 }
+        ensures at_most { length self.now.cells + length self.now.links < 2 ^ 32 }
     {
         &self.plan
     }

@@ -297,7 +297,7 @@ length-counts words counts m = ap length m.counted ∙ length-map words (λ w. s
 pub counts-set : (words counts : List ℕ) (k w n : ℕ) → IsMarks words counts → n ≡ sum (bits 64 w) → IsMarks (set words k w) (set counts k n)
 counts-set words counts k w n m is = record {
   counted = (λ i. set (m.counted i) k (is i)) ∙ sym (map-set (λ v. sum (bits 64 v)) words k w);
-  few = omega (arith, m.few, length-set words k w);
+  at_most = omega (arith, m.at_most, length-set words k w);
 }
 
 -- ---- the word of a place

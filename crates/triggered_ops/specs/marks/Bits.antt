@@ -22,4 +22,4 @@ rounded places = 64 * ((places + 63) / 64)
 -- the layout: words of 64 marks, with a count for each
 pub record IsMarks (words counts : List ℕ) : Type 0 where
   pub counted : counts ≡ counts_of 64 words
-  pub few : length words ≤ 2 ^ 23
+  pub at_most : length words ≤ 2 ^ 23

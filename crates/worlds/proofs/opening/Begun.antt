@@ -61,7 +61,7 @@ module _ (n : ℕ) (nodes : List NodeState) (lanes : List Plain) (size : length 
   first-by = scene_by (λ r. (node_at nodes r).diary.locals) (λ r. []) (held_in n lanes) (λ s d lane. []) none-done (none-held n lanes empty)
 
 module _ (p : Plan) (inputs : Inputs) (n : ℕ) (nodes : List NodeState) (lanes : List Plain) (window strays : ℕ)
-    (few : n ≤ 256) (count : p.ranks ≡ n) (sound : SoundPlan p (length inputs)) (fit : AreInputsOf p inputs) (some : 0 < window)
+    (at_most : n ≤ 256) (count : p.ranks ≡ n) (sound : SoundPlan p (length inputs)) (fit : AreInputsOf p inputs) (some : 0 < window)
     (size : length nodes ≡ n) (wide : length lanes ≡ 2 * (n * n))
     (fresh : (r : ℕ) → r < n → IsFresh p inputs n strays r (node_at nodes r))
     (laid : (s d : ℕ) (lane : Lane) → s < n → d < n → lane_at lanes (lane_place n s d lane) ≡ fresh_lane p strays s d lane) where
@@ -80,7 +80,7 @@ module _ (p : Plan) (inputs : Inputs) (n : ℕ) (nodes : List NodeState) (lanes 
 
   are-parts : AreParts p inputs n nodes lanes window strays
   are-parts = record {
-    few = few;
+    at_most = at_most;
     count = count;
     sound = sound;
     fit = fit;
@@ -103,7 +103,7 @@ module _ (p : Plan) (inputs : Inputs) (n : ℕ) (nodes : List NodeState) (lanes 
   are-strays : AreStrays n nodes lanes strays strays
   are-strays = record {
     room = λ r h. (fresh r h).strays;
-    few = λ d h. let q = none-for d h in omega (arith, q);
+    at_most = λ d h. let q = none-for d h in omega (arith, q);
     received = λ r h. subst AreShort (sym (done-before r)) tt;
     held = λ s d lane m hs hd here stray. absurd (subst (In m) (empty s d lane hs hd) here);
   }

@@ -9,8 +9,8 @@ use Rattle.ptl_types.specs.declared.headers.Lane.TheVariants.{Request, Answer}
 use Rattle.cuts.specs.windows.Places.{lane_place}
 
 -- there are few pairs
-pub few-pairs : (n : ℕ) → n ≤ 256 → n * n ≤ 65536
-few-pairs n h = mul-le-mul h h
+pub at_most-pairs : (n : ℕ) → n ≤ 256 → n * n ≤ 65536
+at_most-pairs n h = mul-le-mul h h
 
 -- the two things of pair k
 pub record IsLaid {X : Type 0} (f : ℕ → ℕ → Lane → X) (n : ℕ) (xs : List X) (none : X) (k : ℕ) : Type 0 where

@@ -7,18 +7,18 @@ use Rattle.plan_core.specs.Plan.{Plan, all_links}
 use Rattle.plan_calls.specs.Lanes.{goes_along, lane_links, lane_messages}
 use Rattle.cuts.proofs.start.Starting.{length-from_to}
 
-few-links : (p : Plan) (s d : ℕ) → length (lane_links p s d) ≤ length p.links
-few-links p s d =
+at_most-links : (p : Plan) (s d : ℕ) → length (lane_links p s d) ≤ length p.links
+at_most-links p s d =
     let a = length-filter (goes_along p s d) (all_links p) in
     let b = count_by-le-length (goes_along p s d) (all_links p) in
     let c = length-from_to 0 (length p.links) in
     omega (arith, a, b, c)
 
 -- no more than the plan has links
-pub few-on_lane : (p : Plan) (s d : ℕ) (lane : Lane) → lane_messages p s d lane ≤ length p.links
-few-on_lane p s d Request = few-links p s d
-few-on_lane p s d Answer = at p.remote
+pub at_most-on_lane : (p : Plan) (s d : ℕ) (lane : Lane) → lane_messages p s d lane ≤ length p.links
+at_most-on_lane p s d Request = at_most-links p s d
+at_most-on_lane p s d Answer = at p.remote
   where
     at : (b : Bool) → (if b then length (lane_links p d s) else 0) ≤ length p.links
-    at true = few-links p d s
+    at true = at_most-links p d s
     at false = omega arith

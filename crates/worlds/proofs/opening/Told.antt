@@ -43,7 +43,7 @@ module _ (lanes : List Plain) (n window s d : ℕ) (nodes : List NodeState) (the
       gate_right lanes n window s d nodes r e (not (lane_has lanes n window r e Request)) there inside
       (λ q. ap₂ (λ x y. not (lane_has lanes n window x y Request)) (sym q.0) (sym q.1))
       (λ x. elim (cases_eq (r * n + e) (s * n + d)) [
-        | inl same ↦ (let o = lane_apart n r e Request s d Request he hd (ap (λ k. 2 * k) same) in absurd (x (o.source, o.goal)))
+        | inl same ↦ (let o = lane_apart n r e Request s d Request he hd (ap (λ k. 2 * k) same) in absurd (x (o.source, o.destination)))
         | inr other ↦ before r e hr he (omega (arith, h, other))
       ])
 
@@ -59,14 +59,14 @@ module _ (n window : ℕ) (lanes : List Plain) (old nodes : List NodeState) (i :
   pub source_in : i / n < n
   source_in = div_below i n n some h
 
-  pub goal_in : i % n < n
-  goal_in = mod_below i n some
+  pub destination_in : i % n < n
+  destination_in = mod_below i n some
 
   pub told_inside : i % n < length (node_at nodes (i / n)).closed
   told_inside =
       let a = (before.same (i / n)).wide in
       let b = wide (i / n) source_in in
-      let c = goal_in in
+      let c = destination_in in
       omega (arith, a, b, c)
 
   there_in : i / n < length nodes
@@ -79,6 +79,6 @@ module _ (n window : ℕ) (lanes : List Plain) (old nodes : List NodeState) (i :
         (gate_told lanes n window (i / n) (i % n) nodes there_in r);
     gates = λ r d hr hd k.
         let p = div-add-mod' i n in
-        gates_more lanes n window (i / n) (i % n) nodes there_in source_in goal_in told_inside
+        gates_more lanes n window (i / n) (i % n) nodes there_in source_in destination_in told_inside
         (λ q e hq he l. before.gates q e hq he (omega (arith, l, p))) r d hr hd (omega (arith, k, p));
   }

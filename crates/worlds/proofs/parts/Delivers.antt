@@ -59,7 +59,7 @@ pub record IsDelivered (n window s d : ℕ) (lane : Lane) (news : List NodeState
 
 -- an answer goes back to the source of the request
 goes_back : (p : Plan) (slots : Slots) (r : ℕ) (v : State) (s : ℕ) (lane : Lane) (m x : Sent) → IsOf p slots r v → May false v (Received s lane m) → (target v m).delivered.answer ≡ Some x → x.header.target ≡ s
-goes_back p slots r v s lane m x is may q = at ((s == x.header.target) && same_lane lane Request) refl few
+goes_back p slots r v s lane m x is may q = at ((s == x.header.target) && same_lane lane Request) refl at_most
   where
     kind : is_answer x.header.kind ≡ true
     kind = let a = (target_answers v m x q).1 in answer_kind a.ok a.length a.bytes m.header x a.is
@@ -69,8 +69,8 @@ goes_back p slots r v s lane m x is may q = at ((s == x.header.target) && same_l
         ap (λ o. length (filter (is_for x.header.target Answer) (and_then o []))) q
         ∙ ap (λ b. length (if b then x ∷ [] else [])) (ap₂ (λ a b. a && b) (eq-eqb x.header.target x.header.target refl) kind)
 
-    few : length (filter (is_for x.header.target Answer) (made (start_of p slots r) v (Received s lane m ∷ []))) ≤ length (got (Received s lane m ∷ []) x.header.target Request)
-    few = few_answers p slots r (start_of p slots r) (Received s lane m ∷ []) false v is (may, tt) x.header.target
+    at_most : length (filter (is_for x.header.target Answer) (made (start_of p slots r) v (Received s lane m ∷ []))) ≤ length (got (Received s lane m ∷ []) x.header.target Request)
+    at_most = few_answers p slots r (start_of p slots r) (Received s lane m ∷ []) false v is (may, tt) x.header.target
 
     at : (b : Bool) → ((s == x.header.target) && same_lane lane Request) ≡ b → length (filter (is_for x.header.target Answer) (made (start_of p slots r) v (Received s lane m ∷ []))) ≤ length (got (Received s lane m ∷ []) x.header.target Request) → x.header.target ≡ s
     at true e h = sym (eqb-true s x.header.target (and_parts (s == x.header.target) (same_lane lane Request) e).0)
@@ -187,9 +187,9 @@ module _ (p : Plan) (inputs : Inputs) (n : ℕ) (nodes : List NodeState) (lanes 
 
     stray_room : HasStrayRoom (node_at nodes d) e
     stray_room = record {
-      few =
+      at_most =
           let a = count-append is_received_stray (node_at nodes d).diary.locals (e ∷ []) in
-          let b = k.stray.few d hd in
+          let b = k.stray.at_most d hd in
           let c = k.stray.room d hd in
           let f = fewer in
           omega (arith, a, b, c, f);
@@ -271,18 +271,18 @@ module _ (p : Plan) (inputs : Inputs) (n : ℕ) (nodes : List NodeState) (lanes 
       deliver_apart None q a b l ha hb there back = set_other n lanes k.parts.wide s d lane hs hd rest a b l hb there
       deliver_apart (Some x) q a b l ha hb there back =
           set_other n mid mid_size d x.header.target (lane_of x.header.kind) hd (deliver_to x q) ((lane_at mid (lane_place n d x.header.target (lane_of x.header.kind))).messages ++ x ∷ []) a b l hb
-          (λ i. back (record { source = i.source; goal = i.goal ∙ back_to x q; kind = i.kind ∙ answers x q ∙ sym (ap lane_back (request x q)) }))
+          (λ i. back (record { source = i.source; goal = i.destination ∙ back_to x q; kind = i.kind ∙ answers x q ∙ sym (ap lane_back (request x q)) }))
           ∙ set_other n lanes k.parts.wide s d lane hs hd rest a b l hb there
 
       -- no other request lane
       deliver_rooms : (y : Option Sent) → o ≡ y → (a b : ℕ) → a < n → b < n → ((a ≡ s) × (b ≡ d) → ⊥) → lane_has (out_with n d y mid) n window a b Request ≡ lane_has lanes n window a b Request
       deliver_rooms None q a b ha hb there =
-          ap (λ (z : Plain). nat_lt (length z.messages) window) (set_other n lanes k.parts.wide s d lane hs hd rest a b Request hb (λ i. there (i.source, i.goal)))
+          ap (λ (z : Plain). nat_lt (length z.messages) window) (set_other n lanes k.parts.wide s d lane hs hd rest a b Request hb (λ i. there (i.source, i.destination)))
       deliver_rooms (Some x) q a b ha hb there =
           ap (λ (z : Plain). nat_lt (length z.messages) window)
           (set_other n mid mid_size d x.header.target (lane_of x.header.kind) hd (deliver_to x q) ((lane_at mid (lane_place n d x.header.target (lane_of x.header.kind))).messages ++ x ∷ []) a b Request hb
           (λ i. lanes_apart (sym (i.kind ∙ answers x q)))
-          ∙ set_other n lanes k.parts.wide s d lane hs hd rest a b Request hb (λ i. there (i.source, i.goal)))
+          ∙ set_other n lanes k.parts.wide s d lane hs hd rest a b Request hb (λ i. there (i.source, i.destination)))
 
       deliver_renewed : IsRenewed n window received answered (gated answered n window s d received) starts
           (delivery_mark answered n window d s (lane_back lane) (delivery_mark answered n window s d lane deliveries))

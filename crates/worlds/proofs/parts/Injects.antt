@@ -70,7 +70,7 @@ module _ (p : Plan) (inputs : Inputs) (n : ℕ) (nodes : List NodeState) (lanes 
   inject_room =
       let a = few_held p inputs n nodes lanes window strays spare k.parts k.stray (slots_now p inputs n nodes lanes window strays spare k.parts k.stray) (scene_of n nodes lanes) (k.parts.moment (slots_now p inputs n nodes lanes window strays spare k.parts k.stray) (agree_now p inputs n nodes lanes window strays spare k.parts k.stray)) s d Request hs hd in
       let b = ap (λ xs. length (owned xs)) (held_here n lanes s d Request hs hd) in
-      let e = k.stray.few d hd in
+      let e = k.stray.at_most d hd in
       let f = part_le (λ q. count_by is_stray (lane_at lanes (lane_place n q d Request)).messages) s 0 n (omega arith) (omega arith) in
       let g = k.parts.room s d Request hs hd in
       let w = k.parts.within s d Request hs hd in
@@ -85,7 +85,7 @@ module _ (p : Plan) (inputs : Inputs) (n : ℕ) (nodes : List NodeState) (lanes 
         | inl e ↦
             let o = one_lane s d Request q u l e in
             ap (λ t. if t then full else held_in n lanes q u l) e
-            ∙ ap (λ ms. ms ++ m ∷ []) (sym (ap₂ (λ x y. held_in n lanes x y l) o.source o.goal ∙ ap (held_in n lanes s d) o.kind ∙ held_here n lanes s d Request hs hd))
+            ∙ ap (λ ms. ms ++ m ∷ []) (sym (ap₂ (λ x y. held_in n lanes x y l) o.source o.destination ∙ ap (held_in n lanes s d) o.kind ∙ held_here n lanes s d Request hs hd))
             ∙ ap (λ t. held_in n lanes q u l ++ (if t then m ∷ [] else [])) (sym e)
         | inr e ↦
             ap (λ t. if t then full else held_in n lanes q u l) e ∙ sym (append-nil (held_in n lanes q u l))
@@ -112,7 +112,7 @@ module _ (p : Plan) (inputs : Inputs) (n : ℕ) (nodes : List NodeState) (lanes 
       subst (λ v. AreCounted n (gated later n window s d v) later starts marked (firing_mark (gated later n window s d v) s firings) window) (set-get_or nodes s no_node)
       (sent_counted n nodes lanes starts deliveries firings window k.counted k.parts.size s hs (node_at nodes s) refl refl
       (wide_gates p inputs n nodes lanes window spare k.parts) later s d hs hd
-      (λ a b ha hb x. ap (λ (z : Plain). nat_lt (length z.messages) window) (inject_apart a b Request ha hb (λ i. x (i.source, i.goal))))
+      (λ a b ha hb x. ap (λ (z : Plain). nat_lt (length z.messages) window) (inject_apart a b Request ha hb (λ i. x (i.source, i.destination))))
       marked (mark_size n later window s d Request deliveries ∙ k.counted.wide_deliveries)
       (request_marked n lanes deliveries window later s d hs hd k.counted.wide_deliveries k.counted.of_deliveries inject_apart)
       refl)
@@ -122,7 +122,7 @@ module _ (p : Plan) (inputs : Inputs) (n : ℕ) (nodes : List NodeState) (lanes 
 
   -- ---- strays
   more_there : (q u : ℕ) → u < n → ((q ≡ s) × (u ≡ d) → ⊥) → count_by is_stray (lane_at later (lane_place n q u Request)).messages ≤ count_by is_stray (lane_at lanes (lane_place n q u Request)).messages
-  more_there q u hu x = let a = ap (λ (l : Plain). count_by is_stray l.messages) (set_other n lanes k.parts.wide s d Request hs hd full q u Request hu (λ o. x (o.source, o.goal))) in omega (arith, a)
+  more_there q u hu x = let a = ap (λ (l : Plain). count_by is_stray l.messages) (set_other n lanes k.parts.wide s d Request hs hd full q u Request hu (λ o. x (o.source, o.destination))) in omega (arith, a)
 
   more_here : count_by is_stray (lane_at later (lane_place n s d Request)).messages ≤ count_by is_stray (lane_at lanes (lane_place n s d Request)).messages + 1
   more_here =
@@ -134,19 +134,19 @@ module _ (p : Plan) (inputs : Inputs) (n : ℕ) (nodes : List NodeState) (lanes 
   few_injected u hu = elim (cases_eq u d) [
     | inl i ↦
         let a = sum_moves (λ q. count_by is_stray (lane_at lanes (lane_place n q d Request)).messages) (λ q. count_by is_stray (lane_at later (lane_place n q d Request)).messages) s 0 1 0 n (omega arith) (omega arith) (λ q x low high. more_there q d hd (λ y. x y.0)) (let h = more_here in omega (arith, h)) in
-        let b = k.stray.few d hd in
+        let b = k.stray.at_most d hd in
         let c = ap (strays_for n nodes later) i in
         omega (arith, a, b, c)
     | inr x ↦
         let a = sum_le (λ q. count_by is_stray (lane_at lanes (lane_place n q u Request)).messages) (λ q. count_by is_stray (lane_at later (lane_place n q u Request)).messages) 0 n (λ q low high. more_there q u hu (λ y. x y.1)) in
-        let b = k.stray.few u hu in
+        let b = k.stray.at_most u hu in
         omega (arith, a, b)
   ]
 
   strays_injected : length m.bytes ≤ stray_bytes → AreStrays n nodes later (strays - 1) spare
   strays_injected short = record {
     room = k.stray.room;
-    few = few_injected;
+    at_most = few_injected;
     received = k.stray.received;
     held = λ q u lane x hq hu i e. at_set (λ (l : Plain). In x l.messages → length x.bytes ≤ stray_bytes) lanes (lane_place n s d Request) (lane_place n q u lane) (plain full (lane_at lanes (lane_place n s d Request)).capacity) (plain [] 0) (inside n lanes k.parts.wide s d Request hs hd)
         (λ j h. elim (In-append_cases x (lane_at lanes (lane_place n s d Request)).messages (m ∷ []) h) [
@@ -171,7 +171,7 @@ module _ (p : Plan) (inputs : Inputs) (n : ℕ) (nodes : List NodeState) (lanes 
     module _ (source : m.header.source ≡ s) (target : m.header.target ≡ d) (kept : IsKept m) (short : length m.bytes ≤ stray_bytes) (used : is_used_lane p s d Request ≡ true) where
       parts_injected : AreParts p inputs n nodes later window spare
       parts_injected = record {
-        few = k.parts.few;
+        at_most = k.parts.at_most;
         count = k.parts.count;
         sound = k.parts.sound;
         fit = k.parts.fit;

@@ -33,9 +33,9 @@ module _ (n : ℕ) (later : List Plain) (window : ℕ) where
       at_set (λ x. x ≡ delivery_count later n window q u l) xs (lane_place n a b lane) (lane_place n q u l)
       (delivery_count later n window a b lane) 0 (omega arith)
       (λ e. let o = lane_apart n q u l a b lane hu hb e in
-      ap₂ (λ x y. delivery_count later n window x y lane) (sym o.source) (sym o.goal)
+      ap₂ (λ x y. delivery_count later n window x y lane) (sym o.source) (sym o.destination)
       ∙ ap (delivery_count later n window q u) (sym o.kind))
-      (λ x. rest (λ o. x (ap₂ (λ i j. lane_place n i j l) o.source o.goal ∙ ap (lane_place n a b) o.kind)))
+      (λ x. rest (λ o. x (ap₂ (λ i j. lane_place n i j l) o.source o.destination ∙ ap (lane_place n a b) o.kind)))
 
 module _ (n : ℕ) (lanes : List Plain) (deliveries : List ℕ) (window : ℕ) (later : List Plain) (s d : ℕ) (hs : s < n) (hd : d < n)
     (wide : length deliveries ≡ 2 * (n * n))
@@ -104,5 +104,5 @@ module _ (n : ℕ) (lanes : List Plain) (deliveries : List ℕ) (window : ℕ) (
       same Request x y =
           ap₂ (λ (z w : Plain). nat_lt 0 (length z.messages) && nat_lt (length w.messages) window) (apart q u Request hq hu x y)
           (apart u q Answer hu hq
-          (λ o. y (record { source = o.goal; goal = o.source; kind = ap lane_back o.kind }))
-          (λ o. x (record { source = o.goal; goal = o.source; kind = ap lane_back o.kind ∙ back_back lane })))
+          (λ o. y (record { source = o.destination; goal = o.source; kind = ap lane_back o.kind }))
+          (λ o. x (record { source = o.destination; goal = o.source; kind = ap lane_back o.kind ∙ back_back lane })))

@@ -87,7 +87,7 @@ module _ (p : Plan) (inputs : Inputs) (n : ℕ) (nodes : List NodeState) (lanes 
   -- strays lie in request lanes alone, and are few
   pub few_on : (s d : ℕ) (lane : Lane) → s < n → d < n → count_by is_stray (lane_at lanes (lane_place n s d lane)).messages ≤ spare_on lane spare
   few_on s d Request hs hd =
-      let a = room.few d hd in
+      let a = room.at_most d hd in
       let b = part_le (λ q. count_by is_stray (lane_at lanes (lane_place n q d Request)).messages) s 0 n (omega arith) (omega arith) in
       omega (arith, a, b)
   few_on s d Answer hs hd =
@@ -166,7 +166,7 @@ module _ (p : Plan) (inputs : Inputs) (n : ℕ) (nodes : List NodeState) (lanes 
                 let hd : m.header.target < n = goes m q in
                 let i = lane_place n r m.header.target (lane_of m.header.kind) in
                 let full : (behind slots_now).held r m.header.target (lane_of m.header.kind) ≡ (lane_at mid (lane_place n r m.header.target (lane_of m.header.kind))).messages ++ m ∷ [] = holds m q hd in
-                let few = few_on r d lane hr hd in
+                let at_most = few_on r d lane hr hd in
                 let less = taken.strays i in
                 let more = clean_more (lane_at mid i).messages m (clean m q) in
                 let count = ap (count_by is_stray) full in
@@ -179,7 +179,7 @@ module _ (p : Plan) (inputs : Inputs) (n : ℕ) (nodes : List NodeState) (lanes 
                 let under = owned_more (lane_at mid i).messages m in
                 let own = ap (λ xs. length (owned xs)) full in
                 let wide = open_lane m q in
-                (hd, omega (arith, few, less, more, count, size, one, cap, most, enough, split, under, own, wide))
+                (hd, omega (arith, at_most, less, more, count, size, one, cap, most, enough, split, under, own, wide))
               where
                 holds : (m : Sent) → o ≡ Some m → m.header.target < n → (behind slots_now).held r m.header.target (lane_of m.header.kind) ≡ (lane_at mid (lane_place n r m.header.target (lane_of m.header.kind))).messages ++ m ∷ []
                 holds m q hd =
@@ -282,7 +282,7 @@ module _ (p : Plan) (inputs : Inputs) (n : ℕ) (nodes : List NodeState) (lanes 
 
           pub parts_news : AreParts p inputs n news later window spare
           parts_news = record {
-            few = parts.few;
+            at_most = parts.at_most;
             count = parts.count;
             sound = parts.sound;
             fit = parts.fit;
@@ -318,7 +318,7 @@ module _ (p : Plan) (inputs : Inputs) (n : ℕ) (nodes : List NodeState) (lanes 
             pub strays_news : AreStrays n news later strays spare
             strays_news = record {
               room = λ q h. at_set (λ (v : NodeState). v.strays ≡ spare) nodes r q new no_node inside_nodes (λ i. moved.strays ∙ room.room r hr) (λ x. room.room q h);
-              few = λ d h. let a = few_news d h in let b = room.few d h in omega (arith, a, b);
+              at_most = λ d h. let a = few_news d h in let b = room.at_most d h in omega (arith, a, b);
               received = λ q h. at_set (λ (v : NodeState). AreShort v.diary.locals) nodes r q new no_node inside_nodes
                   (λ i. subst AreShort (sym moved.locals) (short_more (node_at nodes r).diary.locals e (room.received r hr) short)) (λ x. room.received q h);
               held = λ s d lane m hs hd i stray. elim (later_members (lane_place n s d lane) m i) [

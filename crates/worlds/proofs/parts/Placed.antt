@@ -6,7 +6,7 @@ use Rattle.ptl_types.specs.declared.headers.Lane.{Lane}
 use Rattle.ptl_types.specs.declared.headers.Lane.TheVariants.{Request, Answer}
 use Rattle.cuts.specs.histories.History.{same_lane}
 use Rattle.cuts.proofs.rest.Longer.{same_lane-true}
-use Rattle.cuts.specs.windows.Places.{goal_at, kind_at, lane_place, source_at}
+use Rattle.cuts.specs.windows.Places.{destination_at, kind_at, lane_place, source_at}
 use Rattle.worlds.specs.parts.Marks.{lane_back}
 
 pair_apart : (n s d t e : ℕ) → d < n → e < n → s * n + d ≡ t * n + e → (s ≡ t) × (d ≡ e)
@@ -18,7 +18,7 @@ pair_apart n s d t e h k q = (
 -- one lane
 pub record OneLane (s d : ℕ) (lane : Lane) (t e : ℕ) (way : Lane) : Type 0 where
   pub source : s ≡ t
-  pub goal : d ≡ e
+  pub destination : d ≡ e
   pub kind : lane ≡ way
 
 pub lane_apart : (n s d : ℕ) (lane : Lane) (t e : ℕ) (way : Lane) → d < n → e < n → lane_place n s d lane ≡ lane_place n t e way → OneLane s d lane t e way
@@ -60,13 +60,13 @@ one_lane s d lane q u l e =
 
 pub is_one : (s d : ℕ) (lane : Lane) (q u : ℕ) (l : Lane) → OneLane q u l s d lane → is_lane_of s d lane q u l ≡ true
 is_one s d lane q u l o =
-    ap₂ (λ a b. a && b) (eq-eqb q s o.source) (ap₂ (λ a b. a && b) (eq-eqb u d o.goal) (ap (λ x. same_lane x lane) o.kind ∙ same_lane-true lane))
+    ap₂ (λ a b. a && b) (eq-eqb q s o.source) (ap₂ (λ a b. a && b) (eq-eqb u d o.destination) (ap (λ x. same_lane x lane) o.kind ∙ same_lane-true lane))
 
 pub not_one : (s d : ℕ) (lane : Lane) (q u : ℕ) (l : Lane) → is_lane_of s d lane q u l ≡ false → OneLane q u l s d lane → ⊥
 not_one s d lane q u l e o = both (is_one s d lane q u l o) e
 
 -- the lane of a place has this place
-pub place_told : (n i : ℕ) → lane_place n (source_at n i) (goal_at n i) (kind_at i) ≡ i
+pub place_told : (n i : ℕ) → lane_place n (source_at n i) (destination_at n i) (kind_at i) ≡ i
 place_told n i = elim (cases_Bool (i % 2 == 0)) [
   | inl e ↦ ap (λ b. lane_place n (i / 2 / n) (i / 2 % n) (if b then Request else Answer)) e ∙ (let z = eqb-true (i % 2) 0 e in let p = div-add-mod' (i / 2) n in omega (arith, z, p))
   | inr e ↦ ap (λ b. lane_place n (i / 2 / n) (i / 2 % n) (if b then Request else Answer)) e ∙ (let z : (i % 2 ≡ 0) → ⊥ = λ q. both (eq-eqb (i % 2) 0 q) e in let p = div-add-mod' (i / 2) n in odd z p)
@@ -76,7 +76,7 @@ place_told n i = elim (cases_Bool (i % 2 == 0)) [
     odd z p = omega (arith, z, p)
 
 -- and lies between two of the ranks
-pub ranks_told : (n i : ℕ) → i < 2 * (n * n) → (source_at n i < n) × (goal_at n i < n)
+pub ranks_told : (n i : ℕ) → i < 2 * (n * n) → (source_at n i < n) × (destination_at n i < n)
 ranks_told n i h = (div_below (i / 2) n n (some n i h) (omega arith), mod_below (i / 2) n (some n i h))
   where
     some : (n i : ℕ) → i < 2 * (n * n) → 0 < n

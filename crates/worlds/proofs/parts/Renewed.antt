@@ -61,7 +61,7 @@ module _ (n window : ℕ) (news : List NodeState) (later : List Plain) (nexts : 
       (room : AreStrays n news later strays spare) where
     parts_next : AreParts p inputs n nexts later window spare
     parts_next = record {
-      few = parts.few;
+      at_most = parts.at_most;
       count = parts.count;
       sound = parts.sound;
       fit = parts.fit;
@@ -79,9 +79,9 @@ module _ (n window : ℕ) (news : List NodeState) (later : List Plain) (nexts : 
     strays_next : AreStrays n nexts later strays spare
     strays_next = record {
       room = λ r h. (is.told r).strays ∙ room.room r h;
-      few = λ q h. subst (λ (x : Diary). count_by is_received_stray x.locals
+      at_most = λ q h. subst (λ (x : Diary). count_by is_received_stray x.locals
           + sum_by (λ s. count_by is_stray (lane_at later (lane_place n s q Request)).messages) (from_to 0 n) + strays ≤ spare)
-          (sym (is.told q).diary) (room.few q h);
+          (sym (is.told q).diary) (room.at_most q h);
       received = λ r h. subst (λ (x : Diary). AreShort x.locals) (sym (is.told r).diary) (room.received r h);
       held = room.held;
     }

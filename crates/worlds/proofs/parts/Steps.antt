@@ -164,7 +164,7 @@ module _ (p : Plan) (inputs : Inputs) (n : ℕ) (nodes : List NodeState) (lanes 
           → lane_at (sent_out n r m lanes) (lane_place n a b l) ≡ lane_at lanes (lane_place n a b l)
       fire_apart m q a b l ha hb x =
           set_other n lanes k.parts.wide r m.header.target (lane_of m.header.kind) hr (fire_to m q) ((lane_at lanes (lane_place n r m.header.target (lane_of m.header.kind))).messages ++ m ∷ []) a b l hb
-          (λ i. x (record { source = i.source; goal = i.goal; kind = i.kind ∙ fire_asks m q }))
+          (λ i. x (record { source = i.source; goal = i.destination; kind = i.kind ∙ fire_asks m q }))
 
       fire_renewed : (x : Option Sent) → o ≡ x → IsRenewed n window fire_news (out_with n r x lanes)
           (if is_some x then gated (out_with n r x lanes) n window r (receiver r x) fire_news else fire_news) starts
@@ -181,7 +181,7 @@ module _ (p : Plan) (inputs : Inputs) (n : ℕ) (nodes : List NodeState) (lanes 
           (firing_mark (gated (sent_out n r m lanes) n window r m.header.target fire_news) r firings)
           (sent_counted n nodes lanes starts deliveries firings window k.counted k.parts.size r hr (fired_node t (node_at nodes r)) refl fire_count
           (wide_gates p inputs n nodes lanes window spare k.parts) (sent_out n r m lanes) r m.header.target hr (fire_to m q)
-          (λ a b ha hb x. ap (λ (z : Plain). nat_lt (length z.messages) window) (fire_apart m q a b Request ha hb (λ i. x (i.source, i.goal))))
+          (λ a b ha hb x. ap (λ (z : Plain). nat_lt (length z.messages) window) (fire_apart m q a b Request ha hb (λ i. x (i.source, i.destination))))
           (delivery_mark (sent_out n r m lanes) n window r m.header.target Request deliveries)
           (mark_size n (sent_out n r m lanes) window r m.header.target Request deliveries ∙ k.counted.wide_deliveries)
           (request_marked n lanes deliveries window (sent_out n r m lanes) r m.header.target hr (fire_to m q) k.counted.wide_deliveries k.counted.of_deliveries (fire_apart m q))

@@ -20,7 +20,7 @@ frame_lane p s d lane = laid_lane p (Window frame_window) s d lane
 -- lanes and counts for n ranks
 pub record AreSized (n : ℕ) (lanes : List Plain) (starts deliveries firings : List ℕ) : Type 0 where
   pub some : 0 < n
-  pub few : n ≤ 256
+  pub at_most : n ≤ 256
   pub wide_lanes : length lanes ≡ 2 * (n * n)
   pub wide_starts : length starts ≡ n
   pub wide_deliveries : length deliveries ≡ 2 * (n * n)

@@ -33,7 +33,7 @@ spare_on Answer spare = 0
 
 -- the nodes are the ranks of a moment of the plan, and the lanes have room for what can come
 pub record AreParts (p : Plan) (inputs : Inputs) (n : ℕ) (nodes : List NodeState) (lanes : List Plain) (window spare : ℕ) : Type 0 where
-  pub few : n ≤ 256
+  pub at_most : n ≤ 256
   pub count : p.ranks ≡ n
   pub sound : SoundPlan p (length inputs)
   pub fit : AreInputsOf p inputs
@@ -60,7 +60,7 @@ strays_for n nodes lanes d =
 -- each node has room for the strays that came, that lie in lanes, and that may still be injected; each is short
 pub record AreStrays (n : ℕ) (nodes : List NodeState) (lanes : List Plain) (strays spare : ℕ) : Type 0 where
   pub room : (r : ℕ) → r < n → (node_at nodes r).strays ≡ spare
-  pub few : (d : ℕ) → d < n → strays_for n nodes lanes d + strays ≤ spare
+  pub at_most : (d : ℕ) → d < n → strays_for n nodes lanes d + strays ≤ spare
   pub received : (r : ℕ) → r < n → AreShort (node_at nodes r).diary.locals
   pub held : (s d : ℕ) (lane : Lane) (m : Sent) → s < n → d < n → In m (lane_at lanes (lane_place n s d lane)).messages →
       is_stray m ≡ true → length m.bytes ≤ stray_bytes

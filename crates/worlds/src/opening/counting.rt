@@ -12,7 +12,7 @@ use crate::parts::marks::{mark_firings, mark_start};
 
 /// Counts the starts that are possible, by rank.
 pub(crate) fn fill_starts(starts: &mut CountTree, nodes: &[Node])
-    requires few { length nodes.now ≤ 256 }
+    requires at_most { length nodes.now ≤ 256 }
     requires size { length starts.old ≡ length nodes.now }
     ensures size { length starts.new ≡ length nodes.now }
     ensures counts { (r : ℕ) → r < length nodes.now → slice_index_or starts.new r 0 ≡ start_count (node_at nodes.now r) }
@@ -25,7 +25,7 @@ pub(crate) fn fill_starts(starts: &mut CountTree, nodes: &[Node])
 
 /// Counts the firings that are possible, by rank.
 pub(crate) fn fill_firings(firings: &mut CountTree, nodes: &[Node])
-    requires few { length nodes.now ≤ 256 }
+    requires at_most { length nodes.now ≤ 256 }
     requires size { length firings.old ≡ length nodes.now }
     ensures size { length firings.new ≡ length nodes.now }
     ensures counts { (r : ℕ) → r < length nodes.now → slice_index_or firings.new r 0 ≡ firing_count (node_at nodes.now r) }

@@ -84,8 +84,8 @@ fn kept(nodes: &[Node])
 
 /// Tells each node which of its request lanes have room under the window.
 fn gate_all(nodes: &mut [Node], lanes: &[PlainLane], ranks: u32, window: u64)
-    requires some { 0 < ranks }
-    requires few { ranks ≤ 256 }
+    requires nonempty { 0 < ranks }
+    requires at_most { ranks ≤ 256 }
     requires nodes { length nodes.old ≡ ranks }
     requires lanes { length lanes.now ≡ 2 * (ranks * ranks) }
     requires wide { (r : ℕ) → r < ranks → length (node_at nodes.old r).closed ≡ ranks }
@@ -111,11 +111,11 @@ fn mark_pair(
     s: Rank,
     d: Rank,
 )
-    requires few { ranks ≤ 256 }
+    requires at_most { ranks ≤ 256 }
     requires counted { length deliveries.old ≡ 2 * (ranks * ranks) }
     requires size { length lanes.now ≡ 2 * (ranks * ranks) }
     requires source { s < ranks }
-    requires goal { d < ranks }
+    requires destination { d < ranks }
     ensures { deliveries.new ≡ delivery_mark lanes.now ranks window s d Answer (delivery_mark lanes.now ranks window s d Request deliveries.old) }
 {
     mark_delivery(deliveries, lanes, ranks, window, s, d, Lane::Request);
@@ -124,8 +124,8 @@ fn mark_pair(
 
 /// Counts the deliveries that are possible, by lane.
 fn fill_deliveries(deliveries: &mut CountTree, lanes: &[PlainLane], ranks: u32, window: u64)
-    requires some { 0 < ranks }
-    requires few { ranks ≤ 256 }
+    requires nonempty { 0 < ranks }
+    requires at_most { ranks ≤ 256 }
     requires counted { length deliveries.old ≡ 2 * (ranks * ranks) }
     requires lanes { length lanes.now ≡ 2 * (ranks * ranks) }
     ensures size { length deliveries.new ≡ 2 * (ranks * ranks) }

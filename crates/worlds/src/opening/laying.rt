@@ -32,7 +32,7 @@ fn capacity(room: Room, messages: u64, lane: Lane) -> u32
             Lane::Request => messages + strays,
             Lane::Answer => messages,
         },
-        Room::Window(few) => few.min(messages),
+        Room::Window(at_most) => at_most.min(messages),
     }
 }
 
@@ -47,7 +47,7 @@ fn open_lane(
 ) -> Result<PlainLane, NoMemory>
     requires source { s < schedule.now.ranks }
     requires target { d < schedule.now.ranks }
-    requires few { FitLanes (plan_of schedule.now) (strays_of room) }
+    requires at_most { FitLanes (plan_of schedule.now) (strays_of room) }
     ensures { IfOk result (λ l. l ≡ laid_lane (plan_of schedule.now) room s d lane) }
 {
     let many = capacity(room, schedule.lane(s, d, lane), lane);

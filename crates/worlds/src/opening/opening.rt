@@ -43,7 +43,7 @@ pub struct Parts {
 /// There was no memory for it. The job is as it was.
 pub fn opened(alloc: Global, job: &Job, window: u64, strays: u32) -> Result<Parts, NoMemory>
     requires window { 0 < window }
-    requires few { FitLanes (plan_of job.now.shape) strays }
+    requires at_most { FitLanes (plan_of job.now.shape) strays }
     ensures world { IfOk result (λ w. IsWorld (plan_of job.now.shape) job.now.inputs job.now.shape.ranks w.nodes.items w.lanes.items
         w.starts w.deliveries w.firings window strays strays) }
     ensures setting { IfOk result (λ w.

@@ -120,7 +120,7 @@ pub fn deliver(
 )
     requires world { IsSomeWorld setting.ranks nodes.old lanes.old starts.old deliveries.old firings.old setting.window setting.strays setting.spare }
     requires source { s < setting.ranks }
-    requires goal { d < setting.ranks }
+    requires destination { d < setting.ranks }
     requires may { lane_may lanes.old setting.ranks setting.window s d lane ≡ true }
     ensures step { (p : Plan) (inputs : Inputs) → IsWorld p inputs setting.ranks nodes.old lanes.old starts.old deliveries.old firings.old setting.window setting.strays setting.spare →
         IsStepped p inputs setting.ranks (Deliver s d lane) nodes.old lanes.old nodes.new lanes.new }
@@ -147,10 +147,10 @@ pub fn deliver(
 
 /// Puts a message at the end of a request lane. A call of its bytes tells what each message keeps.
 fn put_request(lanes: &mut [PlainLane], ranks: u32, s: Rank, d: Rank, message: Message)
-    requires few { ranks ≤ 256 }
+    requires at_most { ranks ≤ 256 }
     requires size { length lanes.old ≡ 2 * (ranks * ranks) }
     requires source { s < ranks }
-    requires goal { d < ranks }
+    requires destination { d < ranks }
     requires room { length (lane_at lanes.old (lane_place ranks s d Request)).messages < (lane_at lanes.old (lane_place ranks s d Request)).capacity }
     ensures put { lanes.new ≡ slice_set lanes.old (lane_place ranks s d Request) (plain ((lane_at lanes.old (lane_place ranks s d Request)).messages ++ message ∷ []) (lane_at lanes.old (lane_place ranks s d Request)).capacity) }
     ensures kept { IsKept message }
@@ -175,7 +175,7 @@ pub fn inject(
     requires world { IsSomeWorld setting.ranks nodes.old lanes.old starts.old deliveries.old firings.old setting.window setting.strays setting.spare }
     requires left { 0 < setting.strays }
     requires from { s < setting.ranks }
-    requires goal { d < setting.ranks }
+    requires destination { d < setting.ranks }
     requires stray { is_stray message ≡ true }
     requires source { message.header.source ≡ s }
     requires target { message.header.target ≡ d }

@@ -12,9 +12,9 @@ use ptl_types::{Lane, Message, Rank};
 
 /// The place of a lane.
 pub fn place(ranks: u32, s: Rank, d: Rank, lane: Lane) -> usize
-    requires few { ranks ≤ 256 }
+    requires at_most { ranks ≤ 256 }
     requires source { s < ranks }
-    requires goal { d < ranks }
+    requires destination { d < ranks }
     ensures value { result ≡ lane_place ranks s d lane }
     ensures inside { result < 2 * (ranks * ranks) }
 {
@@ -34,10 +34,10 @@ pub fn has_window(
     d: Rank,
     lane: Lane,
 ) -> bool
-    requires few { ranks ≤ 256 }
+    requires at_most { ranks ≤ 256 }
     requires size { length lanes.now ≡ 2 * (ranks * ranks) }
     requires source { s < ranks }
-    requires goal { d < ranks }
+    requires destination { d < ranks }
     ensures { result ≡ lane_has lanes.now ranks window s d lane }
 {
     u64::from(lanes[place(ranks, s, d, lane)].len()) < window
@@ -52,10 +52,10 @@ pub fn may_deliver(
     d: Rank,
     lane: Lane,
 ) -> bool
-    requires few { ranks ≤ 256 }
+    requires at_most { ranks ≤ 256 }
     requires size { length lanes.now ≡ 2 * (ranks * ranks) }
     requires source { s < ranks }
-    requires goal { d < ranks }
+    requires destination { d < ranks }
     ensures { result ≡ lane_may lanes.now ranks window s d lane }
 {
     let some = 0 < lanes[place(ranks, s, d, lane)].len();
@@ -67,10 +67,10 @@ pub fn may_deliver(
 
 /// Puts a message of rank r at the end of its lane.
 pub fn put(lanes: &mut [PlainLane], ranks: u32, r: Rank, d: Rank, lane: Lane, message: Message)
-    requires few { ranks ≤ 256 }
+    requires at_most { ranks ≤ 256 }
     requires size { length lanes.old ≡ 2 * (ranks * ranks) }
     requires source { r < ranks }
-    requires goal { d < ranks }
+    requires destination { d < ranks }
     requires room { length (lane_at lanes.old (lane_place ranks r d lane)).messages < (lane_at lanes.old (lane_place ranks r d lane)).capacity }
     ensures { lanes.new ≡ slice_set lanes.old (lane_place ranks r d lane) (plain ((lane_at lanes.old (lane_place ranks r d lane)).messages ++ message ∷ []) (lane_at lanes.old (lane_place ranks r d lane)).capacity) }
 {
@@ -79,11 +79,11 @@ pub fn put(lanes: &mut [PlainLane], ranks: u32, r: Rank, d: Rank, lane: Lane, me
 
 /// Takes the first message of a lane.
 pub fn take(lanes: &mut [PlainLane], ranks: u32, s: Rank, d: Rank, lane: Lane) -> Message
-    requires few { ranks ≤ 256 }
+    requires at_most { ranks ≤ 256 }
     requires size { length lanes.old ≡ 2 * (ranks * ranks) }
     requires source { s < ranks }
-    requires goal { d < ranks }
-    requires some { 0 < length (lane_at lanes.old (lane_place ranks s d lane)).messages }
+    requires destination { d < ranks }
+    requires nonempty { 0 < length (lane_at lanes.old (lane_place ranks s d lane)).messages }
     ensures front { (lane_at lanes.old (lane_place ranks s d lane)).messages ≡ result ∷ drop 1 (lane_at lanes.old (lane_place ranks s d lane)).messages }
     ensures rest { lanes.new ≡ popped ranks s d lane lanes.old }
 {
@@ -95,10 +95,10 @@ pub fn take(lanes: &mut [PlainLane], ranks: u32, s: Rank, d: Rank, lane: Lane) -
 
 /// Puts a message of rank r at the end of the lane that it names.
 pub fn send(lanes: &mut [PlainLane], ranks: u32, r: Rank, message: Message)
-    requires few { ranks ≤ 256 }
+    requires at_most { ranks ≤ 256 }
     requires size { length lanes.old ≡ 2 * (ranks * ranks) }
     requires source { r < ranks }
-    requires goal { message.header.target < ranks }
+    requires destination { message.header.target < ranks }
     requires room { length (lane_at lanes.old (lane_place ranks r message.header.target (lane_of message.header.kind))).messages < (lane_at lanes.old (lane_place ranks r message.header.target (lane_of message.header.kind))).capacity }
     ensures { lanes.new ≡ sent_out ranks r message lanes.old }
 {
@@ -109,13 +109,13 @@ pub fn send(lanes: &mut [PlainLane], ranks: u32, r: Rank, message: Message)
 
 /// Puts what rank r makes, if anything, at the end of its lane, and answers for whom it is: none is for r itself.
 pub fn send_out(lanes: &mut [PlainLane], ranks: u32, r: Rank, made: Option<Message>) -> Rank
-    requires few { ranks ≤ 256 }
+    requires at_most { ranks ≤ 256 }
     requires size { length lanes.old ≡ 2 * (ranks * ranks) }
     requires source { r < ranks }
     requires goes { HasPlace ranks r lanes.old made }
     ensures lanes { lanes.new ≡ out_with ranks r made lanes.old }
     ensures for_whom { result ≡ receiver r made }
-    ensures goal { result < ranks }
+    ensures destination { result < ranks }
 {
     match made {
         Some(message) => {

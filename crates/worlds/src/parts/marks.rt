@@ -40,11 +40,11 @@ pub fn mark_delivery(
     d: Rank,
     lane: Lane,
 )
-    requires few { ranks ≤ 256 }
+    requires at_most { ranks ≤ 256 }
     requires counted { length deliveries.old ≡ 2 * (ranks * ranks) }
     requires size { length lanes.now ≡ 2 * (ranks * ranks) }
     requires source { s < ranks }
-    requires goal { d < ranks }
+    requires destination { d < ranks }
     ensures { deliveries.new ≡ delivery_mark lanes.now ranks window s d lane deliveries.old }
 {
     let count = if may_deliver(lanes, ranks, window, s, d, lane) {
@@ -64,11 +64,11 @@ pub fn mark_lanes(
     s: Rank,
     d: Rank,
 )
-    requires few { ranks ≤ 256 }
+    requires at_most { ranks ≤ 256 }
     requires counted { length deliveries.old ≡ 2 * (ranks * ranks) }
     requires size { length lanes.now ≡ 2 * (ranks * ranks) }
     requires source { s < ranks }
-    requires goal { d < ranks }
+    requires destination { d < ranks }
     ensures { deliveries.new ≡ delivery_mark lanes.now ranks window d s Answer (delivery_mark lanes.now ranks window d s Request (delivery_mark lanes.now ranks window s d Answer (delivery_mark lanes.now ranks window s d Request deliveries.old))) }
 {
     mark_delivery(deliveries, lanes, ranks, window, s, d, Lane::Request);
@@ -79,10 +79,10 @@ pub fn mark_lanes(
 
 /// Tells node s whether its request lane to d has room.
 pub fn gate(nodes: &mut [Node], lanes: &[PlainLane], ranks: u32, window: u64, s: Rank, d: Rank)
-    requires few { ranks ≤ 256 }
+    requires at_most { ranks ≤ 256 }
     requires size { length lanes.now ≡ 2 * (ranks * ranks) }
     requires source { s < ranks }
-    requires goal { d < ranks }
+    requires destination { d < ranks }
     requires nodes { length nodes.old ≡ ranks }
     requires closed { length (node_at nodes.old s).closed ≡ ranks }
     ensures { nodes.new ≡ gated lanes.now ranks window s d nodes.old }
@@ -116,9 +116,9 @@ pub fn fired(
     d: Rank,
     sends: bool,
 )
-    requires few { ranks ≤ 256 }
+    requires at_most { ranks ≤ 256 }
     requires source { r < ranks }
-    requires goal { d < ranks }
+    requires destination { d < ranks }
     requires nodes { length nodes.old ≡ ranks }
     requires size { length lanes.now ≡ 2 * (ranks * ranks) }
     requires closed { length (node_at nodes.old r).closed ≡ ranks }
@@ -147,9 +147,9 @@ fn tell(
     d: Rank,
     had: bool,
 )
-    requires few { ranks ≤ 256 }
+    requires at_most { ranks ≤ 256 }
     requires source { s < ranks }
-    requires goal { d < ranks }
+    requires destination { d < ranks }
     requires nodes { length nodes.old ≡ ranks }
     requires size { length lanes.now ≡ 2 * (ranks * ranks) }
     requires closed { length (node_at nodes.old s).closed ≡ ranks }
@@ -190,9 +190,9 @@ pub fn delivered(
     lane: Lane,
     had: bool,
 )
-    requires few { ranks ≤ 256 }
+    requires at_most { ranks ≤ 256 }
     requires source { s < ranks }
-    requires goal { d < ranks }
+    requires destination { d < ranks }
     requires nodes { length nodes.old ≡ ranks }
     requires size { length lanes.now ≡ 2 * (ranks * ranks) }
     requires closed { length (node_at nodes.old s).closed ≡ ranks }
@@ -223,9 +223,9 @@ pub fn joined(
     d: Rank,
     had: bool,
 )
-    requires few { ranks ≤ 256 }
+    requires at_most { ranks ≤ 256 }
     requires source { s < ranks }
-    requires goal { d < ranks }
+    requires destination { d < ranks }
     requires nodes { length nodes.old ≡ ranks }
     requires size { length lanes.now ≡ 2 * (ranks * ranks) }
     requires closed { length (node_at nodes.old s).closed ≡ ranks }

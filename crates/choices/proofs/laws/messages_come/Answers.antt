@@ -4,8 +4,8 @@ use Rattle.choices.proofs.laws.Traffic.{comes, firing_makes, receipt_makes}
 use Rattle.choices.proofs.laws.Resting.{agrees_reached}
 use Rattle.choices.proofs.laws.messages_come.Goals as goal
 
-pub returns-clause-few : goal.returns-clause-few
-returns-clause-few c = λ ranks ks slots w held s d lane in_range reached i j. lane_few ranks ks slots in_range w held
+pub returns-clause-at_most : goal.returns-clause-at_most
+returns-clause-at_most c = λ ranks ks slots w held s d lane in_range reached i j. lane_few ranks ks slots in_range w held
     (agrees_reached ranks ks slots in_range w held reached) s d lane i j
 
 pub returns-clause-first : goal.returns-clause-first

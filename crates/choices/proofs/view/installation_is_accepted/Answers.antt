@@ -3,4 +3,4 @@ use Rattle.choices.proofs.view.Called.{all_pass}
 use Rattle.choices.proofs.view.installation_is_accepted.Goals as goal
 
 pub returns : goal.returns
-returns c = λ k ranks ks r some few. all_pass k ranks ks r some few
+returns c = λ k ranks ks r some at_most. all_pass k ranks ks r some at_most

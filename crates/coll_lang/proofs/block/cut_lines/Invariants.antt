@@ -5,7 +5,7 @@ use Rattle.coll_lang.proofs.block.cut_lines.Given as goal
 
 abbrev pub invariant-loop-rest : goal.invariant-loop-rest
 invariant-loop-rest l = record {
-  few : length l.found.items ≤ l.most;
+  at_most : length l.found.items ≤ l.most;
   short : length l.rest + length l.found.items ≤ length l.bytes;
   parts : lines l.bytes ≡ map (λ (x : Bor (List ℕ)). x.now) l.found.items ++ lines l.rest;
 }

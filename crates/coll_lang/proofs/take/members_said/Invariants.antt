@@ -7,6 +7,6 @@ use Rattle.coll_lang.proofs.take.members_said.Given as goal
 abbrev pub invariant-loop-word : goal.invariant-loop-word
 invariant-loop-word l = record {
   judged : members_said l.ranks l.fn.members ≡ left_over l.ranks l.is_broken l.list.items l.least l.members;
-  few : length l.list.items ≤ l.least;
+  at_most : length l.list.items ≤ l.least;
   below : l.least ≤ l.ranks;
 }

@@ -7,7 +7,7 @@ use Rattle.coll_lang.proofs.whole.read_lines.Given as goal
 abbrev pub invariant-loop-reader : goal.invariant-loop-reader
 invariant-loop-reader l = record {
   judged : read_from nothing 1 (lines l.bytes) ≡ read_from (past l.reader) l.number (lines l.rest);
-  few : l.number + length l.rest ≤ length l.bytes + 1;
+  at_most : l.number + length l.rest ≤ length l.bytes + 1;
 }
 
 abbrev pub decreases-loop-reader : goal.decreases-loop-reader

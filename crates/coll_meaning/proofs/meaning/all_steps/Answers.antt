@@ -11,7 +11,7 @@ take_step-requires c =
     let l : c.loop-k.k < length c.args.shape.now.steps = subst (λ v. c.loop-k.k < length v) c.steps-k-end.ensures.value c.loop-k-test.true in
     record {
       step = l;
-      few = few_there c.args.shape.now c.args.kept.now c.args.inputs.now c.loop-k.k c.loop-k.held c.keeps_form.ensures.shape l c.loop-k.invariant;
+      at_most = few_there c.args.shape.now c.args.kept.now c.args.inputs.now c.loop-k.k c.loop-k.held c.keeps_form.ensures.shape l c.loop-k.invariant;
       asked = asked_there c.args.shape.now c.args.kept.now c.args.inputs.now c.loop-k.k c.keeps_form.ensures.shape c.requires l c.loop-k.held c.loop-k.invariant;
     }
 

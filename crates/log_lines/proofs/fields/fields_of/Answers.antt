@@ -22,4 +22,4 @@ loop-word-preserved g c =
     let read =
     when_more g.T.HasFields.set (with_fields g.T.HasFields.set [] c.args.words.now.words c.args.words.now.past c.args.plain) (take n first)
     c.loop-word.words later w x c.in-Ok.of c.loop-word.invariant.reads c.in-Some.ensures.some c.in-Some.ensures.inside new said in
-    record { reads = rw all.0 read; left = all.1; few = c.loop-word.invariant.few; within = all.2 }
+    record { reads = rw all.0 read; left = all.1; at_most = c.loop-word.invariant.at_most; within = all.2 }

@@ -8,7 +8,7 @@ invariant-loop-word g l = record {
   reads : with_fields g.T.HasFields.set (take l.count l.first.words) l.words.words l.words.past l.of
       ≡ with_fields g.T.HasFields.set [] l.fn.words.words l.fn.words.past l.fn.plain;
   left : drop l.count l.first.words ≡ l.words.words;
-  few : length l.first.words ≤ 2 ^ 63;
+  at_most : length l.first.words ≤ 2 ^ 63;
   within : l.count ≤ length l.first.words;
 }
 

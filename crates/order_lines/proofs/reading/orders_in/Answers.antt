@@ -36,5 +36,5 @@ loop-r-preserved c =
       judged = c.loop-r.invariant.judged ∙ ap (left_over c.args.ranks c.loop-r.r c.loop-r.number lists) cut
           ∙ takes c.args.ranks c.loop-r.r c.loop-r.number lists line after c.in-Ok.order c.loop-r-test.true c.in-Ok.ensures
           ∙ ap (λ v. left_over c.args.ranks (c.loop-r.r + 1) (c.loop-r.number + 1) v (lines after)) (sym c.in_ok-push-in-Ok.ensures.items);
-      few = (let f = c.loop-r.invariant.few in omega (arith, f, shorter));
+      at_most = (let f = c.loop-r.invariant.at_most in omega (arith, f, shorter));
     }

@@ -8,5 +8,5 @@ use Rattle.order_lines.proofs.reading.orders_in.Given as goal
 abbrev pub invariant-loop-r : goal.invariant-loop-r
 invariant-loop-r l = record {
   judged : read_orders l.ranks l.ranks 0 l.first (lines l.bytes) ≡ left_over l.ranks l.r l.number l.lists.items (lines l.rest);
-  few : l.number + length l.rest ≤ l.first + length l.bytes;
+  at_most : l.number + length l.rest ≤ l.first + length l.bytes;
 }

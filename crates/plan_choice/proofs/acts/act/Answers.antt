@@ -20,13 +20,13 @@ deliver-requires-clause-source c =
     let m = subst (MayMake c.args.ranks c.args.seats.now c.args.lanes.now) c.in-Deliver.is c.requires.may in
     m.0
 
-pub deliver-requires-clause-goal : goal.deliver-requires-clause-goal
-deliver-requires-clause-goal c =
+pub deliver-requires-clause-destination : goal.deliver-requires-clause-destination
+deliver-requires-clause-destination c =
     let m = subst (MayMake c.args.ranks c.args.seats.now c.args.lanes.now) c.in-Deliver.is c.requires.may in
     m.1
 
-pub deliver-requires-clause-some : goal.deliver-requires-clause-some
-deliver-requires-clause-some c =
+pub deliver-requires-clause-nonempty : goal.deliver-requires-clause-nonempty
+deliver-requires-clause-nonempty c =
     let m = subst (MayMake c.args.ranks c.args.seats.now c.args.lanes.now) c.in-Deliver.is c.requires.may in
     m.2
 
@@ -70,5 +70,5 @@ returns-in-Fire c =
         goal = c.fire.ensures.for_whom;
       });
       source = m.0;
-      goal = c.fire.ensures.goal;
+      goal = c.fire.ensures.destination;
     }

@@ -4,7 +4,7 @@ use Rattle.plan_choice.proofs.acts.make.Goals as goal
 
 pub act-s-requires : goal.act-s-requires
 act-s-requires c = record {
-  few = c.requires.sized.few;
+  at_most = c.requires.sized.at_most;
   seats = c.requires.sized.seats;
   lanes = c.requires.sized.lanes;
   may = c.requires.may;
@@ -13,7 +13,7 @@ act-s-requires c = record {
 pub refresh-requires : goal.refresh-requires
 refresh-requires c = record {
   sized = record {
-    few = c.requires.sized.few;
+    at_most = c.requires.sized.at_most;
     seats = c.act-s.auto.seats ∙ c.requires.sized.seats;
     lanes = c.act-s.auto.lanes ∙ c.requires.sized.lanes;
     starts = c.requires.sized.starts;
@@ -21,7 +21,7 @@ refresh-requires c = record {
     firings = c.requires.sized.firings;
   };
   source = c.act-s.ensures.source;
-  goal = c.act-s.ensures.goal;
+  goal = c.act-s.ensures.destination;
 }
 
 pub returns : goal.returns
@@ -29,7 +29,7 @@ returns c = record {
   s = c.act-s.result.0;
   d = c.act-s.result.1;
   source = c.act-s.ensures.source;
-  goal = c.act-s.ensures.goal;
+  goal = c.act-s.ensures.destination;
   made = c.act-s.ensures.made;
   marked = c.refresh.ensures;
 }

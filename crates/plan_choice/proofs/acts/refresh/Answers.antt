@@ -13,12 +13,12 @@ mark_start-requires-clause-rank c = let e = c.requires.sized.seats in let h = c.
 pub mark_start-requires-2-clause-counted : goal.mark_start-requires-2-clause-counted
 mark_start-requires-2-clause-counted c =
     let e = c.requires.sized.starts in
-    let h = c.requires.goal in
+    let h = c.requires.destination in
     let l = ap length c.mark_start.ensures ∙ length-set c.args.starts.now c.args.s (start_count (seat_at c.args.seats.now c.args.s)) in
     omega (arith, e, h, l)
 
 pub mark_start-requires-2-clause-rank : goal.mark_start-requires-2-clause-rank
-mark_start-requires-2-clause-rank c = let e = c.requires.sized.seats in let h = c.requires.goal in omega (arith, e, h)
+mark_start-requires-2-clause-rank c = let e = c.requires.sized.seats in let h = c.requires.destination in omega (arith, e, h)
 
 pub mark_firings-requires-clause-counted : goal.mark_firings-requires-clause-counted
 mark_firings-requires-clause-counted c = let e = c.requires.sized.firings in let h = c.requires.source in omega (arith, e, h)
@@ -29,20 +29,20 @@ mark_firings-requires-clause-rank c = let e = c.requires.sized.seats in let h = 
 pub mark_firings-requires-2-clause-counted : goal.mark_firings-requires-2-clause-counted
 mark_firings-requires-2-clause-counted c =
     let e = c.requires.sized.firings in
-    let h = c.requires.goal in
+    let h = c.requires.destination in
     let l = ap length c.mark_firings.ensures ∙ length-set c.args.firings.now c.args.s (firing_count (seat_at c.args.seats.now c.args.s)) in
     omega (arith, e, h, l)
 
 pub mark_firings-requires-2-clause-rank : goal.mark_firings-requires-2-clause-rank
-mark_firings-requires-2-clause-rank c = let e = c.requires.sized.seats in let h = c.requires.goal in omega (arith, e, h)
+mark_firings-requires-2-clause-rank c = let e = c.requires.sized.seats in let h = c.requires.destination in omega (arith, e, h)
 
 pub mark_lanes-requires : goal.mark_lanes-requires
 mark_lanes-requires c = record {
-  few = c.requires.sized.few;
+  at_most = c.requires.sized.at_most;
   counted = c.requires.sized.deliveries;
   size = c.requires.sized.lanes;
   source = c.requires.source;
-  goal = c.requires.goal;
+  goal = c.requires.destination;
 }
 
 pub returns : goal.returns

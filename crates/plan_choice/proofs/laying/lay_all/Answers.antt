@@ -1,12 +1,12 @@
 -- Two lanes more in each turn.
 use Rattle.std.proofs.Common.{ℕ, ◌+◌, ◌*◌, ◌<◌, ◌≡◌, ◌∙◌, List, [], ◌∷◌, ◌++◌, ap, length, subst, sym, arith}
 use Rattle.pair_wires.specs.Lanes.{Plain, plain}
-use Rattle.worlds.proofs.Opened.{IsLaid, all-laid, few-pairs, one-pair, two-more}
+use Rattle.worlds.proofs.Opened.{IsLaid, all-laid, at_most-pairs, one-pair, two-more}
 use Rattle.plan_choice.specs.Laying.{laid_lane}
 use Rattle.plan_choice.proofs.laying.lay_all.Goals as goal
 
 pub overflow_mul-pairs : goal.overflow_mul-pairs
-overflow_mul-pairs c = let q = few-pairs c.args.ranks c.requires in omega (arith, q)
+overflow_mul-pairs c = let q = at_most-pairs c.args.ranks c.requires in omega (arith, q)
 
 pub loop-pair-preserved : goal.loop-pair-preserved
 loop-pair-preserved c =

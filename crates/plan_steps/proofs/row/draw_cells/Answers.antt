@@ -11,7 +11,7 @@ loop-place-init g c = sym (add_all-none c.args.plan.now)
 pub draw-requires-clause-place : goal.draw-requires-clause-place
 draw-requires-clause-place g c =
     let t = c.loop-place-test.true in
-    let f = c.requires.few in
+    let f = c.requires.at_most in
     omega (arith, t, f)
 
 pub draw-requires-clause-room : goal.draw-requires-clause-room

@@ -4,8 +4,8 @@ use Rattle.plan_core.specs.Plan.{from_to}
 use Rattle.plan_core.specs.Draw.{HasRoom, add_all}
 use Rattle.plan_steps.proofs.row.draw_row.Goals as goal
 
-pub draw_cells-requires-clause-few : goal.draw_cells-requires-clause-few
-draw_cells-requires-clause-few g c =
+pub draw_cells-requires-clause-at_most : goal.draw_cells-requires-clause-at_most
+draw_cells-requires-clause-at_most g c =
     let n = c.count.ensures.value in
     let a = c.requires.all in
     omega (arith, n, a)

@@ -5,8 +5,8 @@ use Rattle.plan_core.specs.declared.Link.{Link}
 use Rattle.plan_tables.specs.Rising.{nothing}
 use Rattle.plan_tables.specs.AreaTables.{message_key}
 use Rattle.plan_tables.specs.Tables.{link_length}
-use Rattle.plan_tables.proofs.Sums.{counted-few, counted-more, summed-few, summed-more}
-use Rattle.plan_tables.proofs.Room.{few-link_bytes}
+use Rattle.plan_tables.proofs.Sums.{counted-at_most, counted-more, summed-at_most, summed-more}
+use Rattle.plan_tables.proofs.Room.{at_most-link_bytes}
 use Rattle.plan_tables.proofs.all_areas.find_areas.Goals as goal
 
 pub loop-l-init : goal.loop-l-init
@@ -19,7 +19,7 @@ pub tally-requires : goal.tally-requires
 tally-requires c =
     let p = c.args.plan.now in
     let e = ap (λ k. get_or c.loop-l.counts k 0) c.area_of-key.ensures in
-    let f = counted-few (message_key p) c.loop-l.l (p.ranks * 81) (message_key p c.loop-l.l) c.loop-l.counts c.loop-l.invariant.counts in
+    let f = counted-at_most (message_key p) c.loop-l.l (p.ranks * 81) (message_key p c.loop-l.l) c.loop-l.counts c.loop-l.invariant.counts in
     let n = ap length c.links.ensures in
     let t = c.loop-l-test.true in
     let r = c.requires.few_together in
@@ -33,7 +33,7 @@ tally-requires-in-loop-l c =
     let inside : c.loop-l.l < length p.links = omega (arith, n, t) in
     let e = ap (λ k. get_or c.loop-l.bytes k 0) c.area_of-key.ensures in
     let f = ap (λ (k : Link). k.length) c.link_at.ensures in
-    let g = summed-few (message_key p) (link_length p) c.loop-l.l (p.ranks * 81) (length p.links) 18446744073709551616 c.loop-l.bytes c.loop-l.invariant.bytes inside (few-link_bytes p c.requires) in
+    let g = summed-at_most (message_key p) (link_length p) c.loop-l.l (p.ranks * 81) (length p.links) 18446744073709551616 c.loop-l.bytes c.loop-l.invariant.bytes inside (at_most-link_bytes p c.requires) in
     omega (arith, e, f, g)
 
 pub loop-l-preserved : goal.loop-l-preserved

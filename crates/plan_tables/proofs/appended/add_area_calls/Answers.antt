@@ -7,7 +7,7 @@ use Rattle.plan_tables.specs.AreaTables.{area_bytes, counted_start}
 use Rattle.plan_tables.proofs.ByClass.{calls-same, end-same}
 use Rattle.plan_tables.proofs.Passes.{length-table}
 use Rattle.plan_tables.proofs.PerClass.{bytes-at, classes-next, count-at, counted_call, key-in, present, start-most, start-next}
-use Rattle.plan_tables.proofs.Room.{few-region}
+use Rattle.plan_tables.proofs.Room.{at_most-region}
 use Rattle.plan_tables.proofs.appended.add_area_calls.Goals as goal
 
 pub at-count-requires : goal.at-count-requires
@@ -28,7 +28,7 @@ overflow_add-start c =
     let n = c.at-length.ensures ∙ ap (λ xs. get_or xs (c.args.r * 81 + c.loop-class.class) 0) c.requires.bytes ∙ bytes-at p c.args.r c.loop-class.class c.requires.rank c.loop-class-test.true in
     let s = c.loop-class.invariant.start in
     let m = start-most p c.args.r c.loop-class.class c.loop-class-test.true in
-    let f = few-region p c.args.r c.requires.tabled in
+    let f = at_most-region p c.args.r c.requires.tabled in
     omega (arith, n, s, m, f)
 
 pub loop-class-preserved : goal.loop-class-preserved

@@ -2,7 +2,7 @@
 use Rattle.std.proofs.Common.{arith, ap}
 use Rattle.plan_core.specs.declared.Link.{Link}
 use Rattle.plan_calls.specs.Calls.{cell_start}
-use Rattle.plan_tables.proofs.Room.{few-sent}
+use Rattle.plan_tables.proofs.Room.{at_most-sent}
 use Rattle.plan_tables.proofs.calls.send_act.Goals as goal
 
 pub overflow_add-result : goal.overflow_add-result
@@ -11,5 +11,5 @@ overflow_add-result c =
     let e = c.start_at.ensures in
     let s = ap (λ (k : Link). cell_start p k.source) c.link_at-link.ensures in
     let o = ap (λ (k : Link). k.source_offset) c.link_at-link.ensures in
-    let f = few-sent p c.args.l c.requires.tabled c.requires.link in
+    let f = at_most-sent p c.args.l c.requires.tabled c.requires.link in
     omega (arith, e, s, o, f)

@@ -7,8 +7,8 @@ use Rattle.plan_tables.specs.Rising.{nothing, of_key}
 use Rattle.plan_calls.specs.Calls.{cell_start}
 use Rattle.plan_tables.specs.Tables.{all_ranks, rank_of}
 use Rattle.plan_tables.proofs.Passes.{get-row, length-table}
-use Rattle.plan_tables.proofs.Sums.{start-own, few-bytes, bytes-more}
-use Rattle.plan_tables.proofs.Room.{few-cell_bytes}
+use Rattle.plan_tables.proofs.Sums.{start-own, at_most-bytes, bytes-more}
+use Rattle.plan_tables.proofs.Room.{at_most-cell_bytes}
 use Rattle.plan_tables.proofs.starts.cell_starts.Goals as goal
 
 pub loop-c-init : goal.loop-c-init
@@ -25,7 +25,7 @@ place-requires-clause-fits c =
     let inside : c.loop-c.c < length p.cells = omega (arith, n, t) in
     let P : ℕ → Type 0 = λ v. v + cell_length p c.loop-c.c < 2 ^ 64 in
     subst P (sym (ap (λ v. get_or v (rank_of p c.loop-c.c) 0) c.loop-c.invariant.lengths ∙ get-row (λ r. sum_by (cell_length p) (of_key (rank_of p) c.loop-c.c r)) p.ranks (rank_of p c.loop-c.c) 0 (c.requires.ranks_known c.loop-c.c inside)))
-    (few-bytes p c.loop-c.c (2 ^ 64) inside (few-cell_bytes p c.requires))
+    (at_most-bytes p c.loop-c.c (2 ^ 64) inside (at_most-cell_bytes p c.requires))
 
 pub loop-c-preserved : goal.loop-c-preserved
 loop-c-preserved c =

@@ -14,8 +14,8 @@ loop-i-preserved c =
     elim c.if-goes_to.branch [
       | then-goes_to w ↦
           let is : f c.ready_at.result ≡ true = sym c.goes_to.ensures ∙ w.if-goes_to.true in
-          record { few = omega (arith, old.few, w.count-is); same = omega (arith, old.same, w.count-is, rw is at on) }
+          record { at_most = omega (arith, old.at_most, w.count-is); same = omega (arith, old.same, w.count-is, rw is at on) }
       | else-goes_to w ↦
           let is : f c.ready_at.result ≡ false = sym c.goes_to.ensures ∙ w.if-goes_to.false in
-          record { few = omega (arith, old.few, w.count-is); same = omega (arith, old.same, w.count-is, rw is at on) }
+          record { at_most = omega (arith, old.at_most, w.count-is); same = omega (arith, old.same, w.count-is, rw is at on) }
     ]

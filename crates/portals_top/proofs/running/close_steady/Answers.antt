@@ -24,7 +24,7 @@ pub close_at_rest-requires-clause-noted : goal.close_at_rest-requires-clause-not
 close_at_rest-requires-clause-noted g c = λ _ _.
     let new = c.run_steady.new.hands in
     let is : take c.args.hands.len (new ++ drop (length new) c.args.hands.items) ≡ new = written c.args.hands.len new _ (sym (c.run_steady.auto.hands ∙ c.deref_mut.ensures.len)) in
-    let low : 0 < length new = (let a = c.run_steady.auto.hands in let b = ap (λ (l : List (HandState TurnRank)). length l) c.deref_mut.ensures.value in let h = c.requires.some in omega (arith, a, b, h)) in
+    let low : 0 < length new = (let a = c.run_steady.auto.hands in let b = ap (λ (l : List (HandState TurnRank)). length l) c.deref_mut.ensures.value in let h = c.requires.nonempty in omega (arith, a, b, h)) in
     let h = exists_at new 0 low in
     let fronts = c.run_steady.ensures.noted h.0 h.1 in
     (fronts.0, λ r x at. record { at = 0; hand = h.0; hand_is = ap (λ (l : List (HandState TurnRank)). get_elem? l 0) is ∙ h.1; says = fronts.1 r x at })

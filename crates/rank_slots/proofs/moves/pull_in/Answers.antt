@@ -10,7 +10,7 @@ use Rattle.rank_slots.proofs.moves.pull_in.Goals as goal
 
 pub take_in-requires : goal.take_in-requires
 take_in-requires c = let x = c.index-slots-rank.result in
-    subst (λ (z : TurnRank). 0 < length z.ins.items) c.index-slots-rank.is (c.requires.some x (at_index _ _ x c.requires.rank c.index-slots-rank.is))
+    subst (λ (z : TurnRank). 0 < length z.ins.items) c.index-slots-rank.is (c.requires.nonempty x (at_index _ _ x c.requires.rank c.index-slots-rank.is))
 
 pub returns-clause-port : goal.returns-clause-port
 returns-clause-port c = let x = c.index-slots-rank.result in λ y at.

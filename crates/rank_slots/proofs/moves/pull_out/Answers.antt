@@ -10,7 +10,7 @@ use Rattle.rank_slots.proofs.moves.pull_out.Goals as goal
 
 pub take_out-requires : goal.take_out-requires
 take_out-requires c = let x = c.index-slots-rank.result in
-    subst (λ (z : TurnRank). 0 < length z.outs.items) c.index-slots-rank.is (c.requires.some x (at_index _ _ x c.requires.rank c.index-slots-rank.is))
+    subst (λ (z : TurnRank). 0 < length z.outs.items) c.index-slots-rank.is (c.requires.nonempty x (at_index _ _ x c.requires.rank c.index-slots-rank.is))
 
 pub returns-clause-port : goal.returns-clause-port
 returns-clause-port c = let x = c.index-slots-rank.result in λ y at.

@@ -22,13 +22,13 @@ pub send_at-requires-clause-free : goal.send_at-requires-clause-free
 send_at-requires-clause-free g c =
     let f = found c.args.outs.now.items c.deref.result.now c.in-Some.at c.args.message (c.in-Some.ensures).some.0 c.index_mut.result.now c.header.result.now.target c.lane-lane.result c.deref.ensures.value (c.in-Some.ensures).some.1 (c.in-Some.ensures).some.2 (c.in-Some.ensures).some.3
     (ap (λ (h : Header). h.target) c.header.ensures) (c.lane-lane.ensures ∙ ap (λ (h : Header). lane_of h.kind) c.header-2.ensures) c.index_mut.ensures.value in
-    let p = c.index_mut.result.now in (c.requires.may c.in-Some.at p f.there (for-of p.target p.lane c.args.message (sym f.goal) (sym f.lane))).0
+    let p = c.index_mut.result.now in (c.requires.may c.in-Some.at p f.there (for-of p.target p.lane c.args.message (sym f.destination) (sym f.lane))).0
 
 pub send_at-requires-clause-bounds : goal.send_at-requires-clause-bounds
 send_at-requires-clause-bounds g c =
     let f = found c.args.outs.now.items c.deref.result.now c.in-Some.at c.args.message (c.in-Some.ensures).some.0 c.index_mut.result.now c.header.result.now.target c.lane-lane.result c.deref.ensures.value (c.in-Some.ensures).some.1 (c.in-Some.ensures).some.2 (c.in-Some.ensures).some.3
     (ap (λ (h : Header). h.target) c.header.ensures) (c.lane-lane.ensures ∙ ap (λ (h : Header). lane_of h.kind) c.header-2.ensures) c.index_mut.ensures.value in
-    let p = c.index_mut.result.now in (c.requires.may c.in-Some.at p f.there (for-of p.target p.lane c.args.message (sym f.goal) (sym f.lane))).1
+    let p = c.index_mut.result.now in (c.requires.may c.in-Some.at p f.there (for-of p.target p.lane c.args.message (sym f.destination) (sym f.lane))).1
 
 pub index-requires : goal.index-requires
 index-requires g c = subst (λ n. c.in-Some.at < n) c.deref.ensures.len (within c.deref.result.now c.in-Some.at (c.in-Some.ensures).some.0 (c.in-Some.ensures).some.1)
@@ -55,7 +55,7 @@ pub returns-in-Some-clause-posted : goal.returns-in-Some-clause-posted
 returns-in-Some-clause-posted g c =
     let f = found c.args.outs.now.items c.deref.result.now c.in-Some.at c.args.message (c.in-Some.ensures).some.0 c.index_mut.result.now c.header.result.now.target c.lane-lane.result c.deref.ensures.value (c.in-Some.ensures).some.1 (c.in-Some.ensures).some.2 (c.in-Some.ensures).some.3
     (ap (λ (h : Header). h.target) c.header.ensures) (c.lane-lane.ensures ∙ ap (λ (h : Header). lane_of h.kind) c.header-2.ensures) c.index_mut.ensures.value in
-    posted-set c.args.message c.args.outs.now.items c.in-Some.at c.index_mut.result.now c.send_at.new.port f.there f.goal f.lane c.send_at.ensures.same c.send_at.ensures.sent c.requires.ends.differ
+    posted-set c.args.message c.args.outs.now.items c.in-Some.at c.index_mut.result.now c.send_at.new.port f.there f.destination f.lane c.send_at.ensures.same c.send_at.ensures.sent c.requires.ends.differ
 
 pub returns-in_default-clause-posted : goal.returns-in_default-clause-posted
 returns-in_default-clause-posted g c = posted-none c.args.message c.args.outs.now.items (λ i x at goal lane. c.in_default.ensures.none i x

@@ -15,7 +15,7 @@ install-requires c =
     let same = c.schedule.ensures in
     can-install o c.args.job.now.inputs c.args.r (task_of c.in_ok-compiled.compiled)
     (subst (λ (s : Outline). SoundPlan (plan_of s) s.inputs) same c.plan.ensures.sound)
-    (subst (λ (s : Outline). length (plan_of s).links ≤ MOST_LINKS) same c.plan.ensures.few)
+    (subst (λ (s : Outline). length (plan_of s).links ≤ MOST_LINKS) same c.plan.ensures.at_most)
     (subst (λ (s : Outline). (plan_of s).ranks ≡ s.ranks) same c.plan.ensures.ranks)
     c.inputs.ensures.inputs c.requires c.in_ok-compiled.ensures
 

@@ -3,7 +3,7 @@ use Rattle.std.proofs.Common.{◌+◌, ◌≡◌, ap, ap₂, ◌∙◌, sym, ari
 use Rattle.plan_core.specs.Plan.{Plan}
 use Rattle.plan_calls.specs.Lanes.{lane_bytes}
 use Rattle.shape_plans.specs.Drawing.{plan_of}
-use Rattle.rank_tasks.proofs.Lanes.{all-bytes, bytes_below, few-bytes_below, more-bytes, no-bytes}
+use Rattle.rank_tasks.proofs.Lanes.{all-bytes, bytes_below, at_most-bytes_below, more-bytes, no-bytes}
 use Rattle.rank_tasks.proofs.receipts.bytes_to.Goals as goal
 
 pub loop-source-init : goal.loop-source-init
@@ -16,8 +16,8 @@ overflow_add-bytes c =
     let i : c.loop-source.bytes ≡ bytes_below p c.args.r k = c.loop-source.invariant in
     let e : c.lane_bytes-bytes.result ≡ lane_bytes p k c.args.r = c.lane_bytes-bytes.ensures in
     let m = more-bytes p c.args.r k in
-    let few = few-bytes_below p c.args.schedule.now.inputs c.args.r (k + 1) c.plan.ensures.sound in
-    omega (arith, i, e, m, few)
+    let at_most = at_most-bytes_below p c.args.schedule.now.inputs c.args.r (k + 1) c.plan.ensures.sound in
+    omega (arith, i, e, m, at_most)
 
 pub loop-source-preserved : goal.loop-source-preserved
 loop-source-preserved c = ap₂ (λ a b. a + b) c.loop-source.invariant c.lane_bytes-bytes.ensures ∙ more-bytes (plan_of c.args.schedule.now) c.args.r c.loop-source.source

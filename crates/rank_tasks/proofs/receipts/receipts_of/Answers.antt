@@ -5,7 +5,7 @@ use Rattle.plan_calls.specs.Areas.{links_to}
 use Rattle.plan_calls.specs.RankOps.{sends_of}
 use Rattle.plan_tables.specs.Installed.{Installed}
 use Rattle.shape_plans.specs.Drawing.{plan_of}
-use Rattle.rank_tasks.proofs.Lanes.{few-messages}
+use Rattle.rank_tasks.proofs.Lanes.{at_most-messages}
 use Rattle.rank_tasks.proofs.receipts.receipts_of.Goals as goal
 
 pub overflow_add-result : goal.overflow_add-result
@@ -15,5 +15,5 @@ overflow_add-result c =
     let b = c.from-requests.ensures in
     let d : c.done.result ≡ length (own p c.args.r) + cond p.remote (sends_of p c.args.r) 0 = c.done.ensures ∙ ap (λ (t : Installed). t.done) c.requires.table in
     let e : length c.cells.result.now ≡ length (own p c.args.r) = ap length (c.cells.ensures ∙ ap (λ (t : Installed). t.cells) c.requires.table) in
-    let few = few-messages p c.args.schedule.now.inputs c.args.r c.plan.ensures.sound in
-    omega (arith, a, b, d, e, few)
+    let at_most = at_most-messages p c.args.schedule.now.inputs c.args.r c.plan.ensures.sound in
+    omega (arith, a, b, d, e, at_most)

@@ -20,8 +20,8 @@ use Rattle.rank_threads.proofs.close.lift_wire.Goals as goal
 pub pull_out-out-requires-clause-rank : goal.pull_out-out-requires-clause-rank
 pull_out-out-requires-clause-rank g c = subst (λ (z : Bounds). z.source < length c.args.slots.now) (sym c.bounds-bounds.ensures) c.requires.between.source
 
-pub pull_out-out-requires-clause-some : goal.pull_out-out-requires-clause-some
-pull_out-out-requires-clause-some g c = let b = c.bounds-bounds.ensures in λ x at.
+pub pull_out-out-requires-clause-nonempty : goal.pull_out-out-requires-clause-nonempty
+pull_out-out-requires-clause-nonempty g c = let b = c.bounds-bounds.ensures in λ x at.
     let there = ap (λ (z : Bounds). get_elem? c.args.slots.now z.source) (sym b) ∙ at in
     last_out c.requires.laid.0 c.args.wire.now x (c.requires.laid.1 c.args.wire.now.bounds.source x there)
 
@@ -29,8 +29,8 @@ pub pull_in-into-requires-clause-rank : goal.pull_in-into-requires-clause-rank
 pull_in-into-requires-clause-rank g c = let n = c.pull_out-out.ensures.count in let h = c.requires.between.target in
     subst (λ (z : Bounds). z.target < length c.pull_out-out.new.slots) (sym c.bounds-bounds.ensures) (omega (arith, n, h))
 
-pub pull_in-into-requires-clause-some : goal.pull_in-into-requires-clause-some
-pull_in-into-requires-clause-some g c = let b = c.bounds-bounds.ensures in λ x at.
+pub pull_in-into-requires-clause-nonempty : goal.pull_in-into-requires-clause-nonempty
+pull_in-into-requires-clause-nonempty g c = let b = c.bounds-bounds.ensures in λ x at.
     let there = ap (λ (z : Bounds). get_elem? c.pull_out-out.new.slots z.target) (sym b) ∙ at in
     let y = c.pull_out-out.ensures.pulled c.args.wire.now.bounds.target x there in
     subst (λ (l : List InPort). 0 < length l) y.2.ins_are
@@ -103,7 +103,7 @@ returns-clause-lifted g c = let b = c.bounds-bounds.ensures in let o = c.pull_ou
             (subst (λ (z : JobOf × NodeState). InOk (plan_of z.0.shape) z.1 i.result) (λ k. (u.2.job_is k, u.2.node k))
             (i.ensures.port u.0 (ap (λ (z : Bounds). get_elem? o.new.slots z.target) b ∙ u.1)))
             w.0.1 w.1.1 h.2 (h.1 ∙ ap (λ (z : Plain). z.messages ++ h.0) is));
-        few = (let k = c.drain.ensures.few in omega (arith, k, capacity));
+        at_most = (let k = c.drain.ensures.at_most in omega (arith, k, capacity));
         room = capacity;
       },
     )

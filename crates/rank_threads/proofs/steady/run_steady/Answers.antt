@@ -21,8 +21,8 @@ run_all-requires-clause-others g c =
     let h : All free c.in-Some.others.now = all-rest free c.in-Some.leader.now c.in-Some.others.now (subst (λ (l : List (HandState TurnRank)). All free l) whole c.requires.hands) in
     search (rules, h)
 
-pub run_all-requires-clause-few : goal.run_all-requires-clause-few
-run_all-requires-clause-few g c = let e = c.in-Some.ensures.cases.1 in let few = c.requires.few in omega (arith, e, few)
+pub run_all-requires-clause-at_most : goal.run_all-requires-clause-at_most
+run_all-requires-clause-at_most g c = let e = c.in-Some.ensures.cases.1 in let at_most = c.requires.at_most in omega (arith, e, at_most)
 
 pub returns-clause-hands : goal.returns-clause-hands
 returns-clause-hands g c = let e = c.run_all.ensures in

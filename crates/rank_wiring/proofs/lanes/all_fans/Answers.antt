@@ -7,7 +7,7 @@ use Rattle.shape_plans.specs.Drawing.{plan_of}
 use Rattle.rank_wiring.specs.declared.lanes.OutLanes.{OutLanes}
 use Rattle.rank_wiring.specs.Fans.{AreFans, IsFan}
 use Rattle.rank_slots.specs.Lanes.{lanes_before, lanes_from}
-use Rattle.rank_wiring.proofs.Fans.{fans-more, next-few}
+use Rattle.rank_wiring.proofs.Fans.{fans-more, next-at_most}
 use Rattle.rank_wiring.proofs.lanes.all_fans.Goals as goal
 
 pub loop-s-init : goal.loop-s-init
@@ -24,9 +24,9 @@ overflow_cast-many c =
     let t = c.loop-s-test.true in
     let n : c.ranks-ranks.result ≡ p.ranks = c.ranks-ranks.ensures.value
     ∙ (ap (λ (o : Outline). o.ranks) c.shape.ensures.value ∙ sym c.plan.ensures.ranks) in
-    let few = next-few p o.inputs c.plan.ensures.sound c.loop-s.s (omega (arith, t, n)) in
+    let at_most = next-at_most p o.inputs c.plan.ensures.sound c.loop-s.s (omega (arith, t, n)) in
     let many = ap (λ (l : List Bounds). length l) c.in_ok-lanes.ensures in
-    let len = c.len-many.ensures in record { fits = omega (arith, few, many, len) }
+    let len = c.len-many.ensures in record { fits = omega (arith, at_most, many, len) }
 
 pub overflow_add-first : goal.overflow_add-first
 overflow_add-first c =
@@ -34,9 +34,9 @@ overflow_add-first c =
     let t = c.loop-s-test.true in
     let n : c.ranks-ranks.result ≡ p.ranks = c.ranks-ranks.ensures.value
     ∙ (ap (λ (o : Outline). o.ranks) c.shape.ensures.value ∙ sym c.plan.ensures.ranks) in
-    let few = next-few p o.inputs c.plan.ensures.sound c.loop-s.s (omega (arith, t, n)) in
+    let at_most = next-at_most p o.inputs c.plan.ensures.sound c.loop-s.s (omega (arith, t, n)) in
     let many = ap (λ (l : List Bounds). length l) c.in_ok-lanes.ensures in let first = c.loop-s.invariant.first in
-    let len = c.len-many.ensures in omega (arith, few, many, len, first)
+    let len = c.len-many.ensures in omega (arith, at_most, many, len, first)
 
 pub loop-s-preserved : goal.loop-s-preserved
 loop-s-preserved c =

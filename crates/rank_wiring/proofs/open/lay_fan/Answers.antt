@@ -8,7 +8,7 @@ use Rattle.rank_slots.specs.Joints.{Joint, joint, out_joint}
 use Rattle.rank_slots.specs.Lanes.{IsLane, lanes_before, lanes_from}
 use Rattle.rank_wiring.specs.Opening.{AreLines, HasNoOut, IsFresh, IsLine, wires_in}
 use Rattle.rank_wiring.specs.Wiring.{bounds_of, joints_from}
-use Rattle.rank_wiring.proofs.Fans.{from-rank, is-lane, next-few}
+use Rattle.rank_wiring.proofs.Fans.{from-rank, is-lane, next-at_most}
 use Rattle.rank_wiring.proofs.Handing.{no-out}
 use Rattle.rank_wiring.proofs.Lines.{joints-snoc, lines-snoc}
 use Rattle.rank_slots.proofs.Pairs.{exists_at}
@@ -69,17 +69,17 @@ pub overflow_cast-k : goal.overflow_cast-k
 overflow_cast-k c =
     let job = c.args.job.now in let p = plan_of job.shape in
     let low : c.args.rank < p.ranks = (let r = c.requires.rank in let n = c.requires.sound.ranks in omega (arith, r, n)) in
-    let few = next-few p (length job.inputs) c.requires.sound.plan c.args.rank low in
+    let at_most = next-at_most p (length job.inputs) c.requires.sound.plan c.args.rank low in
     let many = ap (λ (l : List Bounds). length l) c.requires.fan.lanes in
-    record { fits = omega (arith, few, many) }
+    record { fits = omega (arith, at_most, many) }
 
 pub overflow_add-fan : goal.overflow_add-fan
 overflow_add-fan c =
     let job = c.args.job.now in let p = plan_of job.shape in
     let low : c.args.rank < p.ranks = (let r = c.requires.rank in let n = c.requires.sound.ranks in omega (arith, r, n)) in
-    let few = next-few p (length job.inputs) c.requires.sound.plan c.args.rank low in
+    let at_most = next-at_most p (length job.inputs) c.requires.sound.plan c.args.rank low in
     let many = ap (λ (l : List Bounds). length l) c.requires.fan.lanes in let first = c.requires.fan.first in
-    omega (arith, few, many, first)
+    omega (arith, at_most, many, first)
 
 pub loop-k-preserved : goal.loop-k-preserved
 loop-k-preserved c =

@@ -13,8 +13,8 @@ loop-s-preserved c = let f : ℕ → List LaneCount = (λ s. pair_lanes (plan_of
 
 pub of-requires : goal.of-requires
 of-requires c = let n = c.loop-s.s in let e = ap (λ (v : List LaneCount). length v) c.loop-s.invariant in let h = to-short (plan_of c.args.schedule.now) c.args.r n in
-    let told = c.ranks-ranks.ensures.value ∙ ap (λ (o : Outline). o.ranks) c.shape.ensures.value in let same = c.plan.ensures.ranks in let few = c.plan.ensures.sound.few_ranks in
-    let end = c.loop-s.auto.s-end in omega (arith, e, h, told, same, few, end)
+    let told = c.ranks-ranks.ensures.value ∙ ap (λ (o : Outline). o.ranks) c.shape.ensures.value in let same = c.plan.ensures.ranks in let at_most = c.plan.ensures.sound.few_ranks in
+    let end = c.loop-s.auto.s-end in omega (arith, e, h, told, same, at_most, end)
 
 pub returns : goal.returns
 returns c = let told = c.ranks-ranks.ensures.value ∙ ap (λ (o : Outline). o.ranks) c.shape.ensures.value in let same = c.plan.ensures.ranks in

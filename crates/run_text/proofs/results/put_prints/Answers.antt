@@ -44,11 +44,11 @@ loop-buffer-preserved g c =
     let same : c.prints-buffer-items.result.now ≡ prints = c.prints-buffer-items.ensures.value in
     let in_range : n < length prints = subst (λ xs. n < length xs) same c.loop-buffer-test.true in
     let ranks : c.ranks-ranks.result ≡ c.args.shape.now.ranks = c.ranks-ranks.ensures.value in
-    let few : c.args.shape.now.ranks ≤ 256 = c.keeps_form.ensures.shape.shape.few_ranks in
+    let at_most : c.args.shape.now.ranks ≤ 256 = c.keeps_form.ensures.shape.shape.few_ranks in
     record {
       taken = Takes-next old before new text c.loop-buffer.out c.put_buffer.new.out (lines (get_or prints n 0)) (flat_map lines (drop (n + 1) prints))
           (subst (λ rest. Takes old before text (c.loop-buffer.out ++ rest)) (flat_map-drop lines prints n 0 in_range) c.loop-buffer.invariant.taken)
           (subst (λ xs. Takes before new (c.loop-buffer.out ++ lines (get_or xs n 0)) c.put_buffer.new.out) same c.in_ok-put_buffer.ensures);
       place = omega (arith, c.loop-buffer.invariant.place, ranks);
-      few = omega (arith, ranks, few, c.loop-buffer.invariant.few);
+      at_most = omega (arith, ranks, at_most, c.loop-buffer.invariant.at_most);
     }

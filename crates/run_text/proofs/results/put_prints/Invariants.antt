@@ -10,5 +10,5 @@ invariant-loop-buffer g l =
     record {
       taken : Takes (g.K.Sink.outflow l.fn.sink) (g.K.Sink.outflow l.sink) (l.fn.out ++ lines l.shape.prints) (l.out ++ lines (drop l.buffer-index l.shape.prints));
       place : l.first ≡ l.buffer-index * l.shape.ranks;
-      few : l.first ≤ l.buffer-index * 256;
+      at_most : l.first ≤ l.buffer-index * 256;
     }

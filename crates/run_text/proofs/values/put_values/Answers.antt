@@ -6,8 +6,8 @@ use Rattle.run_text.proofs.Spaced.{spaced, spaced-append, spaced-none}
 use Rattle.run_text.proofs.Taking.{Fails-next, Puts-stops, Takes-next}
 use Rattle.run_text.proofs.values.put_values.Goals as goal
 
-pub share-requires-clause-some : goal.share-requires-clause-some
-share-requires-clause-some g c = let s = c.loop-rest.invariant.is_size in let p = bytes-pos c.args.ty in omega (arith, s, p)
+pub share-requires-clause-nonempty : goal.share-requires-clause-nonempty
+share-requires-clause-nonempty g c = let s = c.loop-rest.invariant.is_size in let p = bytes-pos c.args.ty in omega (arith, s, p)
 
 pub put_many-requires : goal.put_many-requires
 put_many-requires g c =

@@ -8,8 +8,8 @@ use Rattle.shape_plans.proofs.compiling.drawn_shape.Goals as goal
 pub returns-in-Err : goal.returns-in-Err
 returns-in-Err c = judged-fault c.args.shape.now (are-steps c.args.shape.now c.keeps_form.ensures.shape) _ c.in-Err.ensures
 
-pub draw-requires-clause-few : goal.draw-requires-clause-few
-draw-requires-clause-few c = not-refused c.args.shape.now c.keeps_form.ensures.shape.shape c.in-Ok.ensures.0
+pub draw-requires-clause-at_most : goal.draw-requires-clause-at_most
+draw-requires-clause-at_most c = not-refused c.args.shape.now c.keeps_form.ensures.shape.shape c.in-Ok.ensures.0
 
 pub draw-requires-clause-most : goal.draw-requires-clause-most
 draw-requires-clause-most c =

@@ -6,7 +6,7 @@ use Rattle.coll_shape.specs.declared.types.Buffer.{Buffer}
 use Rattle.coll_shape.specs.Outline.{buffer_at}
 use Rattle.plan_steps.proofs.Drawings.{same-drawing}
 use Rattle.shape_plans.specs.Drawing.{Drawing, drawn_input, drawn_inputs, hold_row, input_cell}
-use Rattle.shape_plans.proofs.Upto.{few-inputs, inputs-next, inputs-none, room-input, tables-inputs, the-buffer}
+use Rattle.shape_plans.proofs.Upto.{at_most-inputs, inputs-next, inputs-none, room-input, tables-inputs, the-buffer}
 use Rattle.shape_plans.proofs.drawing.add_inputs.Goals as goal
 
 pub loop-b-init : goal.loop-b-init
@@ -17,7 +17,7 @@ overflow_cast-first c =
     let o = c.args.shape.now in
     let n = c.input_count-b-end.ensures.value in
     let t = c.loop-b-test.true in
-    let f = (few-inputs o c.keeps_form.ensures.shape.shape c.loop-b.b (let z : c.loop-b.b ≤ o.inputs = omega (arith, n, t) in z)).1 in
+    let f = (at_most-inputs o c.keeps_form.ensures.shape.shape c.loop-b.b (let z : c.loop-b.b ≤ o.inputs = omega (arith, n, t) in z)).1 in
     let e = ap length c.cells.ensures ∙ ap (λ (d : Drawing). length d.plan.cells) c.loop-b.invariant in
     omega (arith, f, e)
 
@@ -51,12 +51,12 @@ hold_inputs-requires-clause-buffer c =
     let i = c.keeps_form.ensures.shape.shape.few_inputs in
     omega (arith, e, t, n, l, i)
 
-pub hold_inputs-requires-clause-few : goal.hold_inputs-requires-clause-few
-hold_inputs-requires-clause-few c =
+pub hold_inputs-requires-clause-at_most : goal.hold_inputs-requires-clause-at_most
+hold_inputs-requires-clause-at_most c =
     let o = c.args.shape.now in
     let n = c.input_count-b-end.ensures.value in
     let t = c.loop-b-test.true in
-    let f = (few-inputs o c.keeps_form.ensures.shape.shape c.loop-b.b (let z : c.loop-b.b ≤ o.inputs = omega (arith, n, t) in z)).1 in
+    let f = (at_most-inputs o c.keeps_form.ensures.shape.shape c.loop-b.b (let z : c.loop-b.b ≤ o.inputs = omega (arith, n, t) in z)).1 in
     let e = ap length c.cells.ensures ∙ ap (λ (d : Drawing). length d.plan.cells) c.loop-b.invariant in
     let r = c.ranks-ranks.ensures.value in
     let q = c.keeps_form.ensures.shape.shape.few_ranks in

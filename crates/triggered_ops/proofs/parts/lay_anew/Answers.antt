@@ -7,7 +7,7 @@ use Rattle.triggered_ops.proofs.parts.lay_anew.Goals as goal
 
 pub loop-place-init : goal.loop-place-init
 loop-place-init g c = record {
-  packs = packing-begin c.args.spots.now c.args.threads.now c.args.stamps.now c.requires.hung c.requires.few c.requires.within;
+  packs = packing-begin c.args.spots.now c.args.threads.now c.args.stamps.now c.requires.hung c.requires.at_most c.requires.within;
   value = refl;
   numbers = thin-same (numbers_of c.args.spots.now.spots) (numbers_of c.args.spots.now.spots) refl;
   long = sym c.len-place-end.ensures.len;

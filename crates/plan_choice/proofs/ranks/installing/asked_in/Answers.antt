@@ -10,12 +10,12 @@ use Rattle.plan_choice.proofs.ranks.installing.asked_in.Goals as goal
 pub loop-i-preserved : goal.loop-i-preserved
 loop-i-preserved c =
     let ks = c.args.kinds.now in
-    let few = c.loop-i.invariant.few in
-    let more = c.asked-sum.ensures.few in
+    let at_most = c.loop-i.invariant.at_most in
+    let more = c.asked-sum.ensures.at_most in
     record {
       sum =
           ap₂ (λ x y. x + y) c.loop-i.invariant.sum
           (c.asked-sum.ensures.value ∙ ap told_requests (get_or_default ks c.loop-i.i _ Elect c.loop-i-test.true))
           ∙ sym (sum-more (λ s. told_requests (choice_at ks s)) c.loop-i.i);
-      few = omega (arith, few, more);
+      at_most = omega (arith, at_most, more);
     }

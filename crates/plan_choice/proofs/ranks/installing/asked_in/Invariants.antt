@@ -8,5 +8,5 @@ use Rattle.plan_choice.proofs.ranks.installing.asked_in.Given as goal
 abbrev pub invariant-loop-i : goal.invariant-loop-i
 invariant-loop-i l = record {
   sum : l.sum ≡ sum_by (λ s. told_requests (choice_at l.kinds s)) (from_to 0 l.i);
-  few : l.sum ≤ 2 * l.i;
+  at_most : l.sum ≤ 2 * l.i;
 }

@@ -17,7 +17,7 @@ loop-step-init c = record { made = made-none c.args.kinds.now c.args.nic.now c.a
 pub make_step-requires-clause-next : goal.make_step-requires-clause-next
 make_step-requires-clause-next c =
     c.loop-step.invariant.counter
-    ∙ sym (counters_now c.args.kinds.now c.requires.few c.args.nic.now c.loop-step.nic c.args.kept.now c.loop-step.kept c.loop-step.step
+    ∙ sym (counters_now c.args.kinds.now c.requires.at_most c.args.nic.now c.loop-step.nic c.args.kept.now c.loop-step.kept c.loop-step.step
     c.requires.two c.requires.none c.requires.room c.loop-step.invariant.made)
 
 pub make_step-requires-clause-all : goal.make_step-requires-clause-all
@@ -27,7 +27,7 @@ pub make_step-requires-clause-small : goal.make_step-requires-clause-small
 make_step-requires-clause-small c =
     let i = c.loop-step.invariant.counter in
     let t = c.loop-step-test.true in
-    let f = c.requires.few in
+    let f = c.requires.at_most in
     let s = counters_small c.args.kinds.now c.loop-step.step (omega (arith, t, f)) in
     omega (arith, i, s)
 
@@ -35,23 +35,23 @@ pub make_step-requires-clause-counters : goal.make_step-requires-clause-counters
 make_step-requires-clause-counters c =
     subst (λ k. length c.loop-step.kept.counters + counters_in k ≤ c.loop-step.kept.room.counters)
     (sym (get_or_default c.args.kinds.now c.loop-step.step _ Elect c.loop-step-test.true))
-    (room_counters c.args.kinds.now c.requires.few c.args.nic.now c.loop-step.nic c.args.kept.now c.loop-step.kept c.loop-step.step
+    (room_counters c.args.kinds.now c.requires.at_most c.args.nic.now c.loop-step.nic c.args.kept.now c.loop-step.kept c.loop-step.step
     c.requires.two c.requires.none c.requires.room c.loop-step.invariant.made c.loop-step-test.true)
 
 pub make_step-requires-clause-descriptors : goal.make_step-requires-clause-descriptors
 make_step-requires-clause-descriptors c =
     subst (λ k. length c.loop-step.kept.descriptors + things_in k ≤ c.loop-step.kept.room.descriptors)
     (sym (get_or_default c.args.kinds.now c.loop-step.step _ Elect c.loop-step-test.true))
-    (room_descriptors c.args.kinds.now c.requires.few c.args.nic.now c.loop-step.nic c.args.kept.now c.loop-step.kept c.loop-step.step
+    (room_descriptors c.args.kinds.now c.requires.at_most c.args.nic.now c.loop-step.nic c.args.kept.now c.loop-step.kept c.loop-step.step
     c.requires.two c.requires.none c.requires.room c.loop-step.invariant.made c.loop-step-test.true)
 
 pub overflow_add-counter : goal.overflow_add-counter
 overflow_add-counter c =
     let i = c.loop-step.invariant.counter in
     let t = c.loop-step-test.true in
-    let f = c.requires.few in
+    let f = c.requires.at_most in
     let s = counters_small c.args.kinds.now c.loop-step.step (omega (arith, t, f)) in
-    let m = c.counters_of-counter.ensures.few in
+    let m = c.counters_of-counter.ensures.at_most in
     omega (arith, i, s, m)
 
 pub loop-step-preserved : goal.loop-step-preserved
@@ -61,7 +61,7 @@ loop-step-preserved c =
     let is = get_or_default ks t _ Elect c.loop-step-test.true in
     record {
       made =
-          made_more ks c.requires.few c.args.nic.now c.loop-step.nic c.args.kept.now c.loop-step.kept t c.requires.two c.requires.none
+          made_more ks c.requires.at_most c.args.nic.now c.loop-step.nic c.args.kept.now c.loop-step.kept t c.requires.two c.requires.none
           c.requires.room c.loop-step.invariant.made c.make_step.new.nic c.make_step.new.kept
           (c.in_ok-make_step.ensures ks (sym is) c.loop-step.invariant.counter);
       counter =

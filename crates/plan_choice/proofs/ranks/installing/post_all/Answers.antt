@@ -51,7 +51,7 @@ post_step-requires-clause-small c =
     let i = c.loop-step.invariant.counter in
     let j = c.loop-step.invariant.descriptor in
     let t = c.loop-step-test.true in
-    let f = c.requires.few in
+    let f = c.requires.at_most in
     let s = counters_small c.args.kinds.now c.loop-step.step (omega (arith, t, f)) in
     let u = descriptors_small c.args.kinds.now c.loop-step.step (omega (arith, t, f)) in
     (omega (arith, i, s), omega (arith, j, u))
@@ -60,18 +60,18 @@ pub overflow_add-counter : goal.overflow_add-counter
 overflow_add-counter c =
     let i = c.loop-step.invariant.counter in
     let t = c.loop-step-test.true in
-    let f = c.requires.few in
+    let f = c.requires.at_most in
     let s = counters_small c.args.kinds.now c.loop-step.step (omega (arith, t, f)) in
-    let m = c.counters_of-counter.ensures.few in
+    let m = c.counters_of-counter.ensures.at_most in
     omega (arith, i, s, m)
 
 pub overflow_add-descriptor : goal.overflow_add-descriptor
 overflow_add-descriptor c =
     let i = c.loop-step.invariant.descriptor in
     let t = c.loop-step-test.true in
-    let f = c.requires.few in
+    let f = c.requires.at_most in
     let s = descriptors_small c.args.kinds.now c.loop-step.step (omega (arith, t, f)) in
-    let m = c.things_of-descriptor.ensures.few in
+    let m = c.things_of-descriptor.ensures.at_most in
     omega (arith, i, s, m)
 
 pub loop-step-preserved : goal.loop-step-preserved

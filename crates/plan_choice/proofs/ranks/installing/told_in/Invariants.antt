@@ -8,5 +8,5 @@ use Rattle.plan_choice.proofs.ranks.installing.told_in.Given as goal
 abbrev pub invariant-loop-i : goal.invariant-loop-i
 invariant-loop-i l = record {
   sum : l.sum ≡ sum_by (λ s. told_steps (choice_at l.kinds s)) (from_to 0 l.i);
-  few : l.sum ≤ 5 * l.i;
+  at_most : l.sum ≤ 5 * l.i;
 }

@@ -19,8 +19,8 @@ returns-then-i-starts c =
     ∙ start_in _ s.starts s.deliveries s.firings c.self.invariant c.find-r.result.0 c.find-r.result.1 c.args.i
     c.find-r.ensures.place c.find-r.ensures.before c.find-r.ensures.within (omega (arith, e, t))
 
-pub delivery_at-requires-clause-few : goal.delivery_at-requires-clause-few
-delivery_at-requires-clause-few c = c.self.invariant.standing.in_range.few_ranks
+pub delivery_at-requires-clause-at_most : goal.delivery_at-requires-clause-at_most
+delivery_at-requires-clause-at_most c = c.self.invariant.standing.in_range.few_ranks
 
 pub delivery_at-requires-clause-within : goal.delivery_at-requires-clause-within
 delivery_at-requires-clause-within c = let a = c.find-place.ensures.place in let b = c.self.invariant.counted.wide_deliveries in

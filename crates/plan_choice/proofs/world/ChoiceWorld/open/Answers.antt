@@ -6,7 +6,7 @@ use Rattle.coll_lang.specs.declared.choices.ChoiceStep.{ChoiceStep}
 use Rattle.ptl_types.specs.declared.headers.Lane.{Lane}
 use Rattle.cuts.specs.windows.Places.{lane_place}
 use Rattle.worlds.specs.parts.Layout.{lane_at}
-use Rattle.worlds.proofs.Opened.{few-pairs}
+use Rattle.worlds.proofs.Opened.{at_most-pairs}
 use Rattle.plan_choice.specs.ranks.Seats.{IsInstalled, ChoiceRankState, kind_of, kinds_of}
 use Rattle.plan_choice.specs.Acts.{firing_count, seat_at, start_count}
 use Rattle.plan_choice.specs.Laying.{laid_lane}
@@ -15,41 +15,41 @@ use Rattle.plan_choice.proofs.world.ChoiceWorld.open.Goals as goal
 
 -- an accepted text has few steps
 few_kinds : (ks : List ChoiceKind) (xs ys : List ChoiceStep) → ks ≡ kinds_of xs → xs ≡ ys → length ys ≤ 64 → length ks ≤ 64
-few_kinds ks xs ys e same few =
+few_kinds ks xs ys e same at_most =
     let a = ap length e in
     let b = length-map xs kind_of in
     let d = ap length same in
-    omega (arith, a, b, d, few)
+    omega (arith, a, b, d, at_most)
 
 pub seat_all-requires : goal.seat_all-requires
 seat_all-requires c =
-    let few = few_kinds c.in_ok-kinds.kinds.items c.steps.result.now c.args.choices.now.steps c.in_ok-kinds.ensures c.steps.ensures.value
-    c.steps.ensures.are.few in
+    let at_most = few_kinds c.in_ok-kinds.kinds.items c.steps.result.now c.args.choices.now.steps c.in_ok-kinds.ensures c.steps.ensures.value
+    c.steps.ensures.are.at_most in
     let here = ap length c.deref.ensures.value in
-    omega (arith, few, here)
+    omega (arith, at_most, here)
 
 pub count_starts-requires : goal.count_starts-requires
 count_starts-requires c =
     let here = ap length c.deref-2.ensures.value in
     let size = c.in_ok-seats.ensures.size in
-    let few = c.requires.few in
-    omega (arith, here, size, few)
+    let at_most = c.requires.at_most in
+    omega (arith, here, size, at_most)
 
 pub overflow_mul-places : goal.overflow_mul-places
-overflow_mul-places c = let q = few-pairs c.args.ranks c.requires.few in omega (arith, q)
+overflow_mul-places c = let q = at_most-pairs c.args.ranks c.requires.at_most in omega (arith, q)
 
 pub count_firings-requires : goal.count_firings-requires
 count_firings-requires c =
     let here = ap length c.deref-3.ensures.value in
     let size = c.in_ok-seats.ensures.size in
-    let few = c.requires.few in
-    omega (arith, here, size, few)
+    let at_most = c.requires.at_most in
+    omega (arith, here, size, at_most)
 
 pub invariant_of-result : goal.invariant_of-result
 invariant_of-result c =
     let seats = c.in_ok-seats.seats.items in
     let ks = c.in_ok-kinds.kinds.items in
-    let few_steps = few_kinds ks c.steps.result.now c.args.choices.now.steps c.in_ok-kinds.ensures c.steps.ensures.value c.steps.ensures.are.few in
+    let few_steps = few_kinds ks c.steps.result.now c.args.choices.now.steps c.in_ok-kinds.ensures c.steps.ensures.value c.steps.ensures.are.at_most in
     let installed = subst (λ (k : List ChoiceKind). (r : ℕ) → r < c.args.ranks → IsInstalled c.args.ranks k r (seat_at seats r))
     c.deref.ensures.value c.in_ok-seats.ensures.seats in
     let of_starts = subst (λ (v : List ChoiceRankState). (r : ℕ) → r < length v → get_or c.in_ok-starts.starts r 0 ≡ start_count (seat_at v r))
@@ -59,7 +59,7 @@ invariant_of-result c =
     let count : c.len.result ≡ length ks = (let n = c.len.ensures in let o = c.in_ok-kinds.kinds.ok.0 in omega (arith, n, o)) in
     let laid = subst (λ m. (s d : ℕ) (lane : Lane) → s < c.args.ranks → d < c.args.ranks →
     lane_at c.in_ok-lanes.lanes.items (lane_place c.args.ranks s d lane) ≡ laid_lane m s d lane) count c.in_ok-lanes.ensures.laid in
-    opened_fields c.args.ranks ks c.requires.some c.requires.few few_steps seats c.in_ok-seats.ensures.size installed c.in_ok-lanes.lanes.items
+    opened_fields c.args.ranks ks c.requires.nonempty c.requires.at_most few_steps seats c.in_ok-seats.ensures.size installed c.in_ok-lanes.lanes.items
     c.in_ok-lanes.ensures.size laid c.in_ok-starts.starts c.in_ok-deliveries.deliveries c.in_ok-firings.firings
     (c.in_ok-starts.ensures.size ∙ ap length c.deref-2.ensures.value) of_starts c.in_ok-deliveries.ensures
     (c.in_ok-firings.ensures.size ∙ ap length c.deref-3.ensures.value) of_firings
@@ -68,24 +68,24 @@ pub returns-clause-first : goal.returns-clause-first
 returns-clause-first c =
     let seats = c.in_ok-seats.seats.items in
     let ks = c.in_ok-kinds.kinds.items in
-    let few_steps = few_kinds ks c.steps.result.now c.args.choices.now.steps c.in_ok-kinds.ensures c.steps.ensures.value c.steps.ensures.are.few in
+    let few_steps = few_kinds ks c.steps.result.now c.args.choices.now.steps c.in_ok-kinds.ensures c.steps.ensures.value c.steps.ensures.are.at_most in
     let installed = subst (λ (k : List ChoiceKind). (r : ℕ) → r < c.args.ranks → IsInstalled c.args.ranks k r (seat_at seats r))
     c.deref.ensures.value c.in_ok-seats.ensures.seats in
     let count : c.len.result ≡ length ks = (let n = c.len.ensures in let o = c.in_ok-kinds.kinds.ok.0 in omega (arith, n, o)) in
     let laid = subst (λ m. (s d : ℕ) (lane : Lane) → s < c.args.ranks → d < c.args.ranks →
     lane_at c.in_ok-lanes.lanes.items (lane_place c.args.ranks s d lane) ≡ laid_lane m s d lane) count c.in_ok-lanes.ensures.laid in
-    is_first c.args.ranks ks c.requires.some c.requires.few few_steps seats c.in_ok-seats.ensures.size installed c.in_ok-lanes.lanes.items
+    is_first c.args.ranks ks c.requires.nonempty c.requires.at_most few_steps seats c.in_ok-seats.ensures.size installed c.in_ok-lanes.lanes.items
     c.in_ok-lanes.ensures.size laid
 
 pub returns-clause-kept : goal.returns-clause-kept
 returns-clause-kept c =
     let seats = c.in_ok-seats.seats.items in
     let ks = c.in_ok-kinds.kinds.items in
-    let few_steps = few_kinds ks c.steps.result.now c.args.choices.now.steps c.in_ok-kinds.ensures c.steps.ensures.value c.steps.ensures.are.few in
+    let few_steps = few_kinds ks c.steps.result.now c.args.choices.now.steps c.in_ok-kinds.ensures c.steps.ensures.value c.steps.ensures.are.at_most in
     let installed = subst (λ (k : List ChoiceKind). (r : ℕ) → r < c.args.ranks → IsInstalled c.args.ranks k r (seat_at seats r))
     c.deref.ensures.value c.in_ok-seats.ensures.seats in
     let count : c.len.result ≡ length ks = (let n = c.len.ensures in let o = c.in_ok-kinds.kinds.ok.0 in omega (arith, n, o)) in
     let laid = subst (λ m. (s d : ℕ) (lane : Lane) → s < c.args.ranks → d < c.args.ranks →
     lane_at c.in_ok-lanes.lanes.items (lane_place c.args.ranks s d lane) ≡ laid_lane m s d lane) count c.in_ok-lanes.ensures.laid in
-    standing c.args.ranks ks c.requires.some c.requires.few few_steps seats c.in_ok-seats.ensures.size installed c.in_ok-lanes.lanes.items
+    standing c.args.ranks ks c.requires.nonempty c.requires.at_most few_steps seats c.in_ok-seats.ensures.size installed c.in_ok-lanes.lanes.items
     c.in_ok-lanes.ensures.size laid

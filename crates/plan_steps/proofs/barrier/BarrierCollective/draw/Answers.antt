@@ -8,7 +8,7 @@ use Rattle.plan_steps.proofs.Rows.{drawn-same, room-same}
 use Rattle.plan_steps.proofs.barrier.BarrierCollective.draw.Goals as goal
 
 pub draw_rows-requires-clause-fits : goal.draw_rows-requires-clause-fits
-draw_rows-requires-clause-fits c = λ k l. let f = c.rounds-last.ensures.few in omega (arith, l, f)
+draw_rows-requires-clause-fits c = λ k l. let f = c.rounds-last.ensures.at_most in omega (arith, l, f)
 
 pub draw_rows-requires-clause-room : goal.draw_rows-requires-clause-room
 draw_rows-requires-clause-room c =

@@ -11,10 +11,10 @@ use Rattle.plan_steps.proofs.Rows.{drawn-same, room-same}
 use Rattle.plan_steps.proofs.exscan.ExscanCollective.draw.Goals as goal
 
 pub draw_rows-requires-clause-fits : goal.draw_rows-requires-clause-fits
-draw_rows-requires-clause-fits c = λ k l. let f = c.rounds-last.ensures.few in omega (arith, l, f)
+draw_rows-requires-clause-fits c = λ k l. let f = c.rounds-last.ensures.at_most in omega (arith, l, f)
 
-pub draw_cells-requires-clause-few : goal.draw_cells-requires-clause-few
-draw_cells-requires-clause-few c = let n = c.count-count.ensures.value in omega (arith, n)
+pub draw_cells-requires-clause-at_most : goal.draw_cells-requires-clause-at_most
+draw_cells-requires-clause-at_most c = let n = c.count-count.ensures.value in omega (arith, n)
 
 pub draw_rows-requires-clause-room : goal.draw_rows-requires-clause-room
 draw_rows-requires-clause-room c =

@@ -2,7 +2,7 @@
 use Rattle.std.proofs.Common.{◌∙◌, ap, arith, get_or, length, []}
 use Rattle.plan_calls.specs.Areas.{comes_to, links_to}
 use Rattle.plan_tables.proofs.Passes.{get-row, length-table}
-use Rattle.plan_tables.proofs.Indexed.{all-below, few-listed}
+use Rattle.plan_tables.proofs.Indexed.{all-below, at_most-listed}
 use Rattle.plan_tables.proofs.index.Index.into_at.Goals as goal
 
 pub at-requires : goal.at-requires
@@ -14,5 +14,5 @@ returns-clause-value c = c.at.ensures ∙ ap (λ t. get_or t c.args.r []) c.requ
 pub returns-clause-links : goal.returns-clause-links
 returns-clause-links c = λ i h. all-below (comes_to c.args.plan.now c.args.r) (length c.args.plan.now.links) c.at.result.now (returns-clause-value c) i h
 
-pub returns-clause-few : goal.returns-clause-few
-returns-clause-few c = few-listed (comes_to c.args.plan.now c.args.r) (length c.args.plan.now.links) c.at.result.now (returns-clause-value c)
+pub returns-clause-at_most : goal.returns-clause-at_most
+returns-clause-at_most c = at_most-listed (comes_to c.args.plan.now c.args.r) (length c.args.plan.now.links) c.at.result.now (returns-clause-value c)

@@ -2,7 +2,7 @@
 use Rattle.std.proofs.Common.{◌==◌, ◌∙◌, ap, arith, eqb-true, get_or, length, []}
 use Rattle.plan_core.specs.Plan.{cell, own}
 use Rattle.plan_tables.proofs.Passes.{get-row, length-table}
-use Rattle.plan_tables.proofs.Indexed.{all-below, all-pass, few-listed}
+use Rattle.plan_tables.proofs.Indexed.{all-below, all-pass, at_most-listed}
 use Rattle.plan_tables.proofs.index.Index.own_at.Goals as goal
 
 pub at-requires : goal.at-requires
@@ -14,8 +14,8 @@ returns-clause-value c = c.at.ensures ∙ ap (λ t. get_or t c.args.r []) c.requ
 pub returns-clause-cells : goal.returns-clause-cells
 returns-clause-cells c = λ i h. all-below (λ k. (cell c.args.plan.now k).rank == c.args.r) (length c.args.plan.now.cells) c.at.result.now (returns-clause-value c) i h
 
-pub returns-clause-few : goal.returns-clause-few
-returns-clause-few c = few-listed (λ k. (cell c.args.plan.now k).rank == c.args.r) (length c.args.plan.now.cells) c.at.result.now (returns-clause-value c)
+pub returns-clause-at_most : goal.returns-clause-at_most
+returns-clause-at_most c = at_most-listed (λ k. (cell c.args.plan.now k).rank == c.args.r) (length c.args.plan.now.cells) c.at.result.now (returns-clause-value c)
 
 pub returns-clause-ranks : goal.returns-clause-ranks
 returns-clause-ranks c = λ i h. eqb-true _ _ (all-pass (λ k. (cell c.args.plan.now k).rank == c.args.r) (length c.args.plan.now.cells) c.at.result.now (returns-clause-value c) i h)

@@ -2,7 +2,7 @@
 use Rattle.std.proofs.Common.{◌+◌, arith, cond, get_or, set, nat_lt, length, map, ap, ◌∙◌}
 use Rattle.plan_core.specs.Plan.{from_to}
 use Rattle.plan_tables.specs.Rising.{nothing}
-use Rattle.plan_tables.proofs.Sums.{counted-few, counted-more}
+use Rattle.plan_tables.proofs.Sums.{counted-at_most, counted-more}
 use Rattle.schedule_compiler.specs.done.Counts.{sent_key}
 use Rattle.schedule_compiler.proofs.done.counting.count_messages.Goals as goal
 
@@ -12,7 +12,7 @@ loop-l-init c = c.in_ok-counts.ensures ∙ ap (λ n. map nothing (from_to 0 n)) 
 pub count-requires : goal.count-requires
 count-requires c =
     let p = c.args.plan.now in
-    let f = counted-few (sent_key p) c.loop-l.l p.ranks c.sender_of-key.result c.loop-l.counts c.loop-l.invariant in
+    let f = counted-at_most (sent_key p) c.loop-l.l p.ranks c.sender_of-key.result c.loop-l.counts c.loop-l.invariant in
     let n = ap length c.links.ensures in
     let t = c.loop-l-test.true in
     let r = c.requires.few_together in

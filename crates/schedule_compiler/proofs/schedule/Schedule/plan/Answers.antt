@@ -14,6 +14,6 @@ returns-clause-sound c = subst (λ (o : Outline). SoundPlan (plan_of o) o.inputs
 pub returns-clause-ranks : goal.returns-clause-ranks
 returns-clause-ranks c = subst (λ (o : Outline). (plan_of o).ranks ≡ o.ranks) c.self.view_is (ranks-are c.self.inside.shape c.keeps_form.ensures.shape)
 
-pub returns-clause-few : goal.returns-clause-few
-returns-clause-few c = subst (λ (o : Outline). length (plan_of o).links ≤ MOST_LINKS) c.self.view_is
+pub returns-clause-at_most : goal.returns-clause-at_most
+returns-clause-at_most c = subst (λ (o : Outline). length (plan_of o).links ≤ MOST_LINKS) c.self.view_is
     (few_links c.self.inside.shape c.keeps_form.ensures.shape c.self.invariant.accepted)

@@ -2,11 +2,11 @@ use Rattle.std.proofs.Common.{length, ap, sym, subst, ◌∙◌}
 use Rattle.ni_model.specs.Conditions.{HasRoom}
 use Rattle.target_engine.specs.declared.entry_records.Records.{Records}
 use Rattle.target_engine.proofs.Counted.{counted-unexpected, counted-index, long-unexpected}
-use Rattle.target_engine.proofs.Kept.{kept-few, kept-unexpected}
+use Rattle.target_engine.proofs.Kept.{kept-at_most, kept-unexpected}
 use Rattle.target_engine.proofs.target.Target.note.Goals as goal
 
-pub note_header-requires-clause-few : goal.note_header-requires-clause-few
-note_header-requires-clause-few c = kept-few c.self.inside.limit c.self.inside.linked c.self.inside.indices.items c.self.inside.records.by_entry c.self.inside.headers c.args.found.now.linked.handle c.self.invariant.kept
+pub note_header-requires-clause-at_most : goal.note_header-requires-clause-at_most
+note_header-requires-clause-at_most c = kept-at_most c.self.inside.limit c.self.inside.linked c.self.inside.indices.items c.self.inside.records.by_entry c.self.inside.headers c.args.found.now.linked.handle c.self.invariant.kept
 
 pub note_header-requires-clause-index : goal.note_header-requires-clause-index
 note_header-requires-clause-index c =

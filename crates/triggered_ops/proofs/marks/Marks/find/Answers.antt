@@ -26,12 +26,12 @@ bit_at-requires c =
 pub overflow_mul-result : goal.overflow_mul-result
 overflow_mul-result c =
     let w = within c.self.inside.words.items c.self.inside.counts c.find-word.result.0 (length-counts _ _ c.self.invariant) c.find-word.ensures.place in
-    omega (arith, w, c.self.invariant.few)
+    omega (arith, w, c.self.invariant.at_most)
 
 pub overflow_add-result : goal.overflow_add-result
 overflow_add-result c =
     let w = within c.self.inside.words.items c.self.inside.counts c.find-word.result.0 (length-counts _ _ c.self.invariant) c.find-word.ensures.place in
-    omega (arith, w, c.self.invariant.few, c.bit_at.ensures.within)
+    omega (arith, w, c.self.invariant.at_most, c.bit_at.ensures.within)
 
 all : (c : goal.After-bit_at) → (c.find-word.result.0 * 64 + c.bit_at.result < length c.args.self.now) × (sum (take (c.find-word.result.0 * 64 + c.bit_at.result) c.args.self.now) ≡ c.args.i) × (get_or c.args.self.now (c.find-word.result.0 * 64 + c.bit_at.result) 0 ≡ 1)
 all c =

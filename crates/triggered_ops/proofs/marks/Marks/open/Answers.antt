@@ -10,7 +10,7 @@ invariant_of-result c =
     let long = ap length words ∙ length-replicate ((c.args.places + 63) / 64) 0 in
     record {
       counted = c.in_ok-counts.ensures ∙ sym (ap (λ ws. counts_of 64 ws) words ∙ counts-zero 64 ((c.args.places + 63) / 64));
-      few = omega (arith, long, c.requires);
+      at_most = omega (arith, long, c.requires);
     }
 
 pub returns-in-Ok : goal.returns-in-Ok

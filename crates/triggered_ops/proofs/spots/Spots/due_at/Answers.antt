@@ -12,7 +12,7 @@ find-place-requires g c =
 pub overflow_cast-place : goal.overflow_cast-place
 overflow_cast-place g c =
     let d = due-place c.self.inside.spots.items c.self.inside.marks c.self.inside.waiting c.self.inside.room (vec_capacity c.self.inside.spots) c.self.invariant c.find-place.result c.args.i c.find-place.ensures.within c.find-place.ensures.before c.find-place.ensures.here in
-    omega (arith, d.0, c.self.invariant.fits, c.self.invariant.few)
+    omega (arith, d.0, c.self.invariant.fits, c.self.invariant.at_most)
 
 pub number_at-requires : goal.number_at-requires
 number_at-requires g c =

@@ -10,7 +10,7 @@ pub overflow_add-self : goal.overflow_add-self
 overflow_add-self g c =
     let room = subst (λ (s : Spotted _). length s.spots < s.room) (sym c.self.view_is) c.requires in
     let short = ops-short c.self.inside.spots.items in
-    omega (arith, room, short, c.self.invariant.counted, c.self.invariant.few)
+    omega (arith, room, short, c.self.invariant.counted, c.self.invariant.at_most)
 
 pub invariant_of-self : goal.invariant_of-self
 invariant_of-self g c =

@@ -3,11 +3,11 @@ use Rattle.std.proofs.Common.{ℕ, ◌+◌, ◌*◌, ◌<◌, List, subst, sym, 
 use Rattle.std.proofs.lemmas.Nat.{div_below, mod_below}
 use Rattle.worlds.specs.parts.Marks.{delivery_count}
 use Rattle.worlds.proofs.opening.Counted.{AreFilled, filled_more}
-use Rattle.worlds.proofs.opening.Laid.{all-laid, few-pairs}
+use Rattle.worlds.proofs.opening.Laid.{all-laid, at_most-pairs}
 use Rattle.worlds.proofs.opening.framing.fill_deliveries.Goals as goal
 
 pub overflow_mul-pairs : goal.overflow_mul-pairs
-overflow_mul-pairs c = let q = few-pairs c.args.ranks c.requires.few in omega (arith, q)
+overflow_mul-pairs c = let q = at_most-pairs c.args.ranks c.requires.at_most in omega (arith, q)
 
 pub loop-pair-init : goal.loop-pair-init
 loop-pair-init c = record { size = c.requires.counted; laid = λ k h. absurd (omega (arith, h)) }
@@ -17,11 +17,11 @@ mark_pair-requires c =
     let n = c.args.ranks in
     let h : c.loop-pair.pair < n * n = c.loop-pair-test.true in
     record {
-      few = c.requires.few;
+      at_most = c.requires.at_most;
       counted = c.loop-pair.invariant.size;
       size = c.requires.lanes;
-      source = div_below c.loop-pair.pair n n c.requires.some h;
-      goal = mod_below c.loop-pair.pair n c.requires.some;
+      source = div_below c.loop-pair.pair n n c.requires.nonempty h;
+      goal = mod_below c.loop-pair.pair n c.requires.nonempty;
     }
 
 pub loop-pair-preserved : goal.loop-pair-preserved

@@ -3,12 +3,12 @@ use Rattle.std.proofs.Common.{◌+◌, ◌*◌, ◌/◌, ◌<◌, ◌∙◌, Lis
 use Rattle.std.proofs.lemmas.Nat.{mul-add-lt}
 use Rattle.rank_node.specs.Node.{NodeState}
 use Rattle.worlds.specs.parts.Layout.{node_at}
-use Rattle.worlds.proofs.opening.Laid.{few-pairs}
-use Rattle.worlds.proofs.opening.Told.{AreGatedTo, goal_in, source_in, told_more, untold}
+use Rattle.worlds.proofs.opening.Laid.{at_most-pairs}
+use Rattle.worlds.proofs.opening.Told.{AreGatedTo, destination_in, source_in, told_more, untold}
 use Rattle.worlds.proofs.opening.framing.gate_all.Goals as goal
 
 pub overflow_mul-pairs : goal.overflow_mul-pairs
-overflow_mul-pairs c = let q = few-pairs c.args.ranks c.requires.few in omega (arith, q)
+overflow_mul-pairs c = let q = at_most-pairs c.args.ranks c.requires.at_most in omega (arith, q)
 
 pub loop-pair-init : goal.loop-pair-init
 loop-pair-init c = record {
@@ -24,12 +24,12 @@ gate-requires c =
     let i = c.loop-pair.pair in
     let v = c.loop-pair.invariant in
     record {
-      few = c.requires.few;
+      at_most = c.requires.at_most;
       size = c.requires.lanes;
-      source = source_in n c.args.window c.args.lanes.now c.args.nodes.now c.loop-pair.nodes i c.requires.some h c.requires.wide v;
-      goal = goal_in n c.args.window c.args.lanes.now c.args.nodes.now c.loop-pair.nodes i c.requires.some h c.requires.wide v;
+      source = source_in n c.args.window c.args.lanes.now c.args.nodes.now c.loop-pair.nodes i c.requires.nonempty h c.requires.wide v;
+      goal = destination_in n c.args.window c.args.lanes.now c.args.nodes.now c.loop-pair.nodes i c.requires.nonempty h c.requires.wide v;
       nodes = v.size;
-      closed = (v.same (i / n)).wide ∙ c.requires.wide (i / n) (source_in n c.args.window c.args.lanes.now c.args.nodes.now c.loop-pair.nodes i c.requires.some h c.requires.wide v);
+      closed = (v.same (i / n)).wide ∙ c.requires.wide (i / n) (source_in n c.args.window c.args.lanes.now c.args.nodes.now c.loop-pair.nodes i c.requires.nonempty h c.requires.wide v);
     }
 
 pub loop-pair-preserved : goal.loop-pair-preserved
@@ -37,7 +37,7 @@ loop-pair-preserved c =
     let n = c.args.ranks in
     let h : c.loop-pair.pair < n * n = c.loop-pair-test.true in
     subst (λ (v : List NodeState). AreGatedTo n c.args.window c.args.lanes.now c.args.nodes.now v (c.loop-pair.pair + 1)) (sym c.gate.ensures)
-    (told_more n c.args.window c.args.lanes.now c.args.nodes.now c.loop-pair.nodes c.loop-pair.pair c.requires.some h c.requires.wide
+    (told_more n c.args.window c.args.lanes.now c.args.nodes.now c.loop-pair.nodes c.loop-pair.pair c.requires.nonempty h c.requires.wide
     c.loop-pair.invariant)
 
 pub returns : goal.returns

@@ -5,7 +5,7 @@ use Rattle.worlds.proofs.opening.framing.mark_all.Goals as goal
 pub gate_all-requires : goal.gate_all-requires
 gate_all-requires c = record {
   some = c.requires.sized.some;
-  few = c.requires.sized.few;
+  at_most = c.requires.sized.at_most;
   nodes = c.requires.nodes;
   lanes = c.requires.sized.wide_lanes;
   wide = λ r h. (c.kept.ensures r (subst (λ n. r < n) (sym c.requires.nodes) h)).gates ∙ c.requires.tasks r h;

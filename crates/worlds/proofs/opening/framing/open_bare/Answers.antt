@@ -10,7 +10,7 @@ use Rattle.shape_plans.proofs.Final.{inputs_fit}
 use Rattle.shape_plans.specs.Drawing.{plan_of}
 use Rattle.worlds.specs.parts.Layout.{lane_at}
 use Rattle.worlds.specs.opening.Frames.{frame_lane}
-use Rattle.worlds.proofs.opening.Laid.{few-pairs}
+use Rattle.worlds.proofs.opening.Laid.{at_most-pairs}
 use Rattle.worlds.proofs.opening.framing.open_bare.Goals as goal
 
 pub overflow_mul-places : goal.overflow_mul-places
@@ -18,8 +18,8 @@ overflow_mul-places c =
     let n = c.ranks-ranks.result in
     let e : n ≡ c.schedule-schedule.result.now.ranks = c.ranks-ranks.ensures.value ∙ ap (λ (o : Outline). o.ranks) c.shape-shape.ensures.value in
     let same = c.plan.ensures.ranks in
-    let few : n ≤ 256 = let q = c.plan.ensures.sound.few_ranks in omega (arith, e, same, q) in
-    let q = few-pairs n few in
+    let at_most : n ≤ 256 = let q = c.plan.ensures.sound.few_ranks in omega (arith, e, same, q) in
+    let q = at_most-pairs n at_most in
     omega (arith, q)
 
 pub lay_all-requires : goal.lay_all-requires
@@ -39,7 +39,7 @@ returns c =
     let ranks : c.ranks-ranks.result ≡ n = c.ranks-ranks.ensures.value ∙ ap (λ (s : Outline). s.ranks) told in
     let sound : SoundPlan p (length inputs) = subst (SoundPlan p) (sym ins.many) (subst (λ (s : Outline). SoundPlan (plan_of s) s.inputs) same c.plan.ensures.sound) in
     let count : p.ranks ≡ n = subst (λ (s : Outline). (plan_of s).ranks ≡ s.ranks) same c.plan.ensures.ranks in
-    let few : n ≤ 256 = let q = sound.few_ranks in omega (arith, q, count) in
+    let at_most : n ≤ 256 = let q = sound.few_ranks in omega (arith, q, count) in
     let some : 0 < n = let q = sound.some_rank in omega (arith, q, count) in
     let fit : AreInputsOf p inputs = inputs_fit o inputs well ins in
     let wide : length lanes ≡ 2 * (n * n) = c.in_ok-lanes.ensures.size ∙ ap (λ (s : Outline). 2 * (s.ranks * s.ranks)) same in
@@ -51,7 +51,7 @@ returns c =
         fit = fit;
         sized = record {
           some = some;
-          few = few;
+          at_most = at_most;
           wide_lanes = wide;
           wide_starts = ap length c.in_ok-starts.ensures ∙ length-replicate c.ranks-ranks.result 0 ∙ ranks;
           wide_deliveries = ap length (c.in_ok-deliveries.ensures ∙ ap (λ m. replicate (2 * (m * m)) 0) ranks) ∙ length-replicate (2 * (n * n)) 0;

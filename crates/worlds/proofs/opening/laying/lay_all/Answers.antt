@@ -6,7 +6,7 @@ use Rattle.ptl_types.specs.declared.headers.Lane.TheVariants.{Request, Answer}
 use Rattle.pair_wires.specs.Lanes.{Plain, plain}
 use Rattle.shape_plans.specs.Drawing.{plan_of}
 use Rattle.worlds.specs.opening.Laying.{laid_lane}
-use Rattle.worlds.proofs.opening.Laid.{IsLaid, all-laid, few-pairs, one-pair, two-more}
+use Rattle.worlds.proofs.opening.Laid.{IsLaid, all-laid, at_most-pairs, one-pair, two-more}
 use Rattle.worlds.proofs.opening.laying.lay_all.Goals as goal
 
 pub overflow_mul-pairs : goal.overflow_mul-pairs
@@ -15,8 +15,8 @@ overflow_mul-pairs c =
     let n = c.ranks-ranks.result in
     let e : n ≡ c.args.schedule.now.ranks = c.ranks-ranks.ensures.value ∙ ap (λ (o : Outline). o.ranks) c.shape.ensures.value in
     let same = c.plan.ensures.ranks in
-    let few : n ≤ 256 = let q = sound.few_ranks in omega (arith, e, same, q) in
-    let q = few-pairs n few in
+    let at_most : n ≤ 256 = let q = sound.few_ranks in omega (arith, e, same, q) in
+    let q = at_most-pairs n at_most in
     omega (arith, q)
 
 -- both ranks of a pair are ranks
@@ -33,13 +33,13 @@ pub open_lane-requires : goal.open_lane-requires
 open_lane-requires c =
     let e = c.ranks-ranks.ensures.value ∙ ap (λ (o : Outline). o.ranks) c.shape.ensures.value in
     let q = ranks_of c.ranks-ranks.result c.args.schedule.now.ranks c.loop-pair.pair e c.loop-pair-test.true in
-    record { source = q.0; target = q.1; few = c.requires }
+    record { source = q.0; target = q.1; at_most = c.requires }
 
 pub open_lane-requires-in-loop-pair : goal.open_lane-requires-in-loop-pair
 open_lane-requires-in-loop-pair c =
     let e = c.ranks-ranks.ensures.value ∙ ap (λ (o : Outline). o.ranks) c.shape.ensures.value in
     let q = ranks_of c.ranks-ranks.result c.args.schedule.now.ranks c.loop-pair.pair e c.loop-pair-test.true in
-    record { source = q.0; target = q.1; few = c.requires }
+    record { source = q.0; target = q.1; at_most = c.requires }
 
 pub loop-pair-preserved : goal.loop-pair-preserved
 loop-pair-preserved c =

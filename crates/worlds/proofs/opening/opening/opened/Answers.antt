@@ -14,7 +14,7 @@ use Rattle.worlds.specs.parts.Marks.{firing_count, start_count}
 use Rattle.worlds.specs.opening.Fresh.{fresh_lane}
 use Rattle.worlds.specs.opening.Laying.{FitLanes}
 use Rattle.worlds.proofs.opening.Begun.{is-first, is-world}
-use Rattle.worlds.proofs.opening.Laid.{few-pairs}
+use Rattle.worlds.proofs.opening.Laid.{at_most-pairs}
 use Rattle.worlds.proofs.opening.opening.opened.Goals as goal
 
 pub overflow_mul-places : goal.overflow_mul-places
@@ -22,13 +22,13 @@ overflow_mul-places c =
     let n = c.ranks-ranks.result in
     let e : n ≡ c.schedule-schedule.result.now.ranks = c.ranks-ranks.ensures.value ∙ ap (λ (o : Outline). o.ranks) c.shape-shape.ensures.value in
     let same = c.plan.ensures.ranks in
-    let few : n ≤ 256 = let q = c.plan.ensures.sound.few_ranks in omega (arith, e, same, q) in
-    let q = few-pairs n few in
+    let at_most : n ≤ 256 = let q = c.plan.ensures.sound.few_ranks in omega (arith, e, same, q) in
+    let q = at_most-pairs n at_most in
     omega (arith, q)
 
 pub lay_all-requires : goal.lay_all-requires
 lay_all-requires c =
-    subst (λ (s : Outline). FitLanes (plan_of s) c.args.strays) (sym c.schedule-schedule.ensures) c.requires.few
+    subst (λ (s : Outline). FitLanes (plan_of s) c.args.strays) (sym c.schedule-schedule.ensures) c.requires.at_most
 
 pub returns : goal.returns
 returns c =
@@ -46,7 +46,7 @@ returns c =
     let ranks : c.ranks-ranks.result ≡ n = c.ranks-ranks.ensures.value ∙ ap (λ (s : Outline). s.ranks) told in
     let sound : SoundPlan p (length inputs) = subst (SoundPlan p) (sym ins.many) (subst (λ (s : Outline). SoundPlan (plan_of s) s.inputs) same c.plan.ensures.sound) in
     let count : p.ranks ≡ n = subst (λ (s : Outline). (plan_of s).ranks ≡ s.ranks) same c.plan.ensures.ranks in
-    let few : n ≤ 256 = let q = sound.few_ranks in omega (arith, q, count) in
+    let at_most : n ≤ 256 = let q = sound.few_ranks in omega (arith, q, count) in
     let fit : AreInputsOf p inputs = inputs_fit o inputs well ins in
     let size : length nodes ≡ n = c.in_ok-nodes.ensures.size in
     let fresh = c.in_ok-nodes.ensures.fresh in
@@ -57,7 +57,7 @@ returns c =
     let of_starts = subst (λ (v : List NodeState). (r : ℕ) → r < length v → get_or c.in_ok-starts.starts r 0 ≡ start_count (node_at v r)) c.deref.ensures.value starts.counts in
     let of_firings = subst (λ (v : List NodeState). (r : ℕ) → r < length v → get_or c.in_ok-firings.firings r 0 ≡ firing_count (node_at v r)) c.deref-2.ensures.value firings.counts in
     record {
-      world = is-world p inputs n nodes lanes c.args.window strays few count sound fit c.requires.window size wide fresh laid
+      world = is-world p inputs n nodes lanes c.args.window strays at_most count sound fit c.requires.window size wide fresh laid
           c.in_ok-starts.starts c.in_ok-deliveries.deliveries c.in_ok-firings.firings
           (starts.size ∙ ap length c.deref.ensures.value ∙ size)
           (λ r h. of_starts r (subst (λ m. r < m) (sym size) h))
@@ -65,6 +65,6 @@ returns c =
           (firings.size ∙ ap length c.deref-2.ensures.value ∙ size)
           (λ r h. of_firings r (subst (λ m. r < m) (sym size) h));
       setting = ap (λ m. let w : Setting = record { ranks = m; window = c.args.window; strays = strays; spare = strays } in w) ranks;
-      first = is-first p inputs n nodes lanes c.args.window strays few count sound fit c.requires.window size wide fresh laid;
+      first = is-first p inputs n nodes lanes c.args.window strays at_most count sound fit c.requires.window size wide fresh laid;
       steps = λ r h. (fresh r h).steps;
     }

@@ -4,7 +4,7 @@ use Rattle.plan_core.specs.Plan.{Plan, own}
 use Rattle.plan_tables.specs.Rising.{of_key}
 use Rattle.plan_tables.specs.Tables.{rank_of}
 use Rattle.plan_tables.proofs.Passes.{length-table}
-use Rattle.plan_tables.proofs.Sums.{counted-few}
+use Rattle.plan_tables.proofs.Sums.{counted-at_most}
 use Rattle.schedule_compiler.specs.done.Counts.{sent_key}
 use Rattle.schedule_compiler.proofs.done.Sent.{cells-at, done-local, done-remote, sent-at}
 use Rattle.schedule_compiler.proofs.done.counted.CountedPlan.done.Goals as goal
@@ -28,8 +28,8 @@ at-requires c =
 pub overflow_add-result : goal.overflow_add-result
 overflow_add-result c =
     let p = c.self.inside.plan in
-    let a = counted-few (rank_of p) (length p.cells) p.ranks c.args.r c.self.inside.cells c.self.invariant.own in
-    let b = counted-few (sent_key p) (length p.links) p.ranks c.args.r c.self.inside.sent (c.self.invariant.messages (sym c.if-remote.ensures)) in
+    let a = counted-at_most (rank_of p) (length p.cells) p.ranks c.args.r c.self.inside.cells c.self.invariant.own in
+    let b = counted-at_most (sent_key p) (length p.links) p.ranks c.args.r c.self.inside.sent (c.self.invariant.messages (sym c.if-remote.ensures)) in
     let x = c.at-cells.ensures in
     let y = c.at.ensures in
     let f = c.self.invariant.tabled.few_together in
