@@ -1,5 +1,6 @@
 -- Lists of linked nodes: what a node in the middle sees, and what joining and cutting the links keeps.
-use Rattle.std.proofs.Common.{◌≡◌, ◌≢◌, ℕ, zero, suc, ◌<◌, Bool, true, false, cond, nat_eq, List, [], ◌∷◌, ◌++◌, length, get_or, set, Option, Some, None, refl, sym, ap, subst, ◌∙◌, inl, inr, arith}
+use Rattle.std.proofs.Common.{◌≡◌, ◌≢◌, ℕ, zero, suc, ◌<◌, Bool, true, false, cond, nat_eq, List, [], ◌∷◌, ◌++◌, length, get_or, set,
+    Option, Some, None, refl, sym, ap, subst, ◌∙◌, inl, inr, arith}
 use Rattle.std.proofs.lemmas.List.{get_or-set_same, get_or-set_other, length-set, set_past, append-nil}
 use Rattle.std.proofs.lemmas.Bool.{cases_lt, ne_eqb, eq-eqb}
 use Rattle.std.proofs.lemmas.List.Sums.{sum_by-set}
@@ -67,10 +68,12 @@ module _ {X : Type 0} where
   Apart-cut (x ∷ xs) ys a = let rest = Apart-cut xs ys a.1 in (((NotAt-cut x.key.place xs ys a.0).0, rest.0), rest.1)
 
   -- what stands after the last entry lies elsewhere
-  pub Apart-last : (b : Option ℕ) (xs ys : List (Keyed X)) (q : ℕ) → Apart (xs ++ ys) → (b ≡ Some q → NotAt q ys) → last_or b xs ≡ Some q → NotAt q ys
+  pub Apart-last : (b : Option ℕ) (xs ys : List (Keyed X)) (q : ℕ) → Apart (xs ++ ys) → (b ≡ Some q → NotAt q ys) →
+      last_or b xs ≡ Some q → NotAt q ys
   Apart-last b [] ys q a h e = h e
   Apart-last b (x ∷ xs) ys q a h e =
-      Apart-last (Some x.key.place) xs ys q a.1 (λ i. let at : x.key.place ≡ q = cc in subst (λ p. NotAt p ys) at (NotAt-cut x.key.place xs ys a.0).1) e
+      Apart-last (Some x.key.place) xs ys q a.1 (λ i. let at : x.key.place ≡ q = cc in
+          subst (λ p. NotAt p ys) at (NotAt-cut x.key.place xs ys a.0).1) e
 
   -- an entry lies apart from those before it
   pub Apart-before : (xs : List (Keyed X)) (y : Keyed X) (ys : List (Keyed X)) → Apart (xs ++ y ∷ ys) → NotAt y.key.place xs
@@ -79,13 +82,17 @@ module _ {X : Type 0} where
 
   -- ---- a link is changed
   -- what a write through an option of a place leaves elsewhere
-  pub places_after-other : (cs : List (Option (Node X))) (o to : Option ℕ) (p : ℕ) → o ≢ Some p → get_or (places_after o to cs) p None ≡ get_or cs p None
+  pub places_after-other : (cs : List (Option (Node X))) (o to : Option ℕ) (p : ℕ) → o ≢ Some p →
+      get_or (places_after o to cs) p None ≡ get_or cs p None
   places_after-other cs None to p n = refl
-  places_after-other cs (Some q) to p n = let apart : p ≢ q = λ e. n (ap (λ i. Some i) (sym e)) in get_or-set_other cs q p (with_after to (get_or cs q None)) None apart
+  places_after-other cs (Some q) to p n = let apart : p ≢ q = λ e. n (ap (λ i. Some i) (sym e)) in
+      get_or-set_other cs q p (with_after to (get_or cs q None)) None apart
 
-  pub places_before-other : (cs : List (Option (Node X))) (o to : Option ℕ) (p : ℕ) → o ≢ Some p → get_or (places_before o to cs) p None ≡ get_or cs p None
+  pub places_before-other : (cs : List (Option (Node X))) (o to : Option ℕ) (p : ℕ) → o ≢ Some p →
+      get_or (places_before o to cs) p None ≡ get_or cs p None
   places_before-other cs None to p n = refl
-  places_before-other cs (Some q) to p n = let apart : p ≢ q = λ e. n (ap (λ i. Some i) (sym e)) in get_or-set_other cs q p (with_before to (get_or cs q None)) None apart
+  places_before-other cs (Some q) to p n = let apart : p ≢ q = λ e. n (ap (λ i. Some i) (sym e)) in
+      get_or-set_other cs q p (with_before to (get_or cs q None)) None apart
 
   pub Linked-after_elsewhere : (cs : List (Option (Node X))) (b : Option ℕ) (xs : List (Keyed X)) (a o to : Option ℕ)
       → ((q : ℕ) → o ≡ Some q → NotAt q xs) → Linked cs b xs a → Linked (places_after o to cs) b xs a
@@ -97,7 +104,8 @@ module _ {X : Type 0} where
   Linked-before_elsewhere cs b xs a None to n l = l
   Linked-before_elsewhere cs b xs a (Some q) to n l = Linked-set cs b xs a q (with_before to (get_or cs q None)) (n q refl) l
 
-  here : (cs : List (Option (Node X))) (p : ℕ) (n : Node X) (v : Option (Node X)) → get_or cs p None ≡ Some n → get_or (set cs p v) p None ≡ v
+  here : (cs : List (Option (Node X))) (p : ℕ) (n : Node X) (v : Option (Node X)) → get_or cs p None ≡ Some n →
+      get_or (set cs p v) p None ≡ v
   here cs p n v e = get_or-set_same cs p v None (live_within cs p (ap is_some e))
 
   -- the after-link of the last
@@ -106,8 +114,10 @@ module _ {X : Type 0} where
   Linked-after cs b [] a to ap_ l = tt
   Linked-after cs b (x ∷ []) a to ap_ l = (here cs x.key.place _ _ l.0 ∙ ap (with_after to) l.0, tt)
   Linked-after cs b (x ∷ y ∷ ys) a to ap_ l =
-      let apart : last_or (Some y.key.place) ys ≢ Some x.key.place = NotAt-last x.key.place (Some y.key.place) ys ap_.0.1 (λ e. let at : y.key.place ≡ x.key.place = cc in ap_.0.0 at) in
-      (places_after-other cs (last_or (Some y.key.place) ys) to x.key.place apart ∙ l.0, Linked-after cs (Some x.key.place) (y ∷ ys) a to ap_.1 l.1)
+      let apart : last_or (Some y.key.place) ys ≢ Some x.key.place = NotAt-last x.key.place (Some y.key.place) ys ap_.0.1
+            (λ e. let at : y.key.place ≡ x.key.place = cc in ap_.0.0 at) in
+      (places_after-other cs (last_or (Some y.key.place) ys) to x.key.place apart ∙ l.0, Linked-after cs (Some x.key.place) (y ∷ ys) a to
+          ap_.1 l.1)
 
   -- the before-link of the first
   pub Linked-before : (cs : List (Option (Node X))) (b : Option ℕ) (xs : List (Keyed X)) (a to : Option ℕ)
@@ -124,7 +134,8 @@ module _ {X : Type 0} where
 
   pub Apart-without : (xs : List (Keyed X)) (x : Keyed X) (ys : List (Keyed X)) → Apart (xs ++ x ∷ ys) → Apart (xs ++ ys)
   Apart-without [] x ys a = a.1
-  Apart-without (y ∷ xs) x ys a = let n = NotAt-cut y.key.place xs (x ∷ ys) a.0 in (NotAt-append y.key.place xs ys n.0 n.1.1, Apart-without xs x ys a.1)
+  Apart-without (y ∷ xs) x ys a = let n = NotAt-cut y.key.place xs (x ∷ ys) a.0 in
+      (NotAt-append y.key.place xs ys n.0 n.1.1, Apart-without xs x ys a.1)
 
   -- what an entry in the middle sees
   pub Linked-middle : (cs : List (Option (Node X))) (xs : List (Keyed X)) (x : Keyed X) (ys : List (Keyed X))
@@ -134,7 +145,8 @@ module _ {X : Type 0} where
   -- the neighbours of an entry are joined
   pub Linked-joined : (cs : List (Option (Node X))) (xs : List (Keyed X)) (x : Keyed X) (ys : List (Keyed X))
       → Apart (xs ++ x ∷ ys) → Linked cs None (xs ++ x ∷ ys) None
-      → Linked (places_before (first_or ys None) (last_or None xs) (places_after (last_or None xs) (first_or ys None) cs)) None (xs ++ ys) None
+      → Linked (places_before (first_or ys None) (last_or None xs) (places_after (last_or None xs) (first_or ys None) cs)) None (xs ++ ys)
+          None
   Linked-joined cs xs x ys a l =
       let before = last_or None xs in
       let next = first_or ys None in
@@ -143,7 +155,8 @@ module _ {X : Type 0} where
       let parts = Apart-cut xs (x ∷ ys) a in
       let both = Apart-without xs x ys a in
       let left1 = Linked-after cs None xs (Some x.key.place) next parts.0 cut.0 in
-      let right1 = Linked-after_elsewhere cs (Some x.key.place) ys None before next (λ q e. Apart-last None xs ys q both (λ i. cc) e) cut.1.1 in
+      let right1 = Linked-after_elsewhere cs (Some x.key.place) ys None before next (λ q e. Apart-last None xs ys q both (λ i. cc) e)
+            cut.1.1 in
       Linked-join (places_before next before c1) None xs ys None
       (Linked-before_elsewhere c1 None xs next next before (λ q e. NotAt-first ys q xs both e) left1)
       (Linked-before c1 (Some x.key.place) ys None before parts.1.1 right1)
@@ -151,15 +164,19 @@ module _ {X : Type 0} where
   -- and its place is emptied
   pub Linked-unlink : (cs : List (Option (Node X))) (xs : List (Keyed X)) (x : Keyed X) (ys : List (Keyed X))
       → Apart (xs ++ x ∷ ys) → Linked cs None (xs ++ x ∷ ys) None
-      → Linked (set (places_before (first_or ys None) (last_or None xs) (places_after (last_or None xs) (first_or ys None) cs)) x.key.place None) None (xs ++ ys) None
+      → Linked (set (places_before (first_or ys None) (last_or None xs) (places_after (last_or None xs) (first_or ys None) cs))
+          x.key.place None) None (xs ++ ys) None
   Linked-unlink cs xs x ys a l =
-      Linked-set (places_before (first_or ys None) (last_or None xs) (places_after (last_or None xs) (first_or ys None) cs)) None (xs ++ ys) None x.key.place None
+      Linked-set (places_before (first_or ys None) (last_or None xs) (places_after (last_or None xs) (first_or ys None) cs)) None
+          (xs ++ ys) None x.key.place None
       (NotAt-append x.key.place xs ys (Apart-before xs x ys a) (Apart-cut xs (x ∷ ys) a).1.0) (Linked-joined cs xs x ys a l)
 
   -- ---- an entry is put after the last
-  pub NotAt-free : (cs : List (Option (Node X))) (b : Option ℕ) (xs : List (Keyed X)) (a : Option ℕ) (p : ℕ) → Linked cs b xs a → get_or cs p None ≡ None → NotAt p xs
+  pub NotAt-free : (cs : List (Option (Node X))) (b : Option ℕ) (xs : List (Keyed X)) (a : Option ℕ) (p : ℕ) → Linked cs b xs a →
+      get_or cs p None ≡ None → NotAt p xs
   NotAt-free cs b [] a p l e = tt
-  NotAt-free cs b (x ∷ xs) a p l e = (λ at. let full = l.0 in let none = subst (λ q. get_or cs q None ≡ None) (sym at) e in cc, NotAt-free cs (Some x.key.place) xs a p l.1 e)
+  NotAt-free cs b (x ∷ xs) a p l e = (λ at. let full = l.0 in let none = subst (λ q. get_or cs q None ≡ None) (sym at) e in cc,
+      NotAt-free cs (Some x.key.place) xs a p l.1 e)
 
   pub Apart-push : (xs : List (Keyed X)) (x : Keyed X) → Apart xs → NotAt x.key.place xs → Apart (xs ++ x ∷ [])
   Apart-push [] x a n = (tt, tt)
@@ -168,7 +185,8 @@ module _ {X : Type 0} where
   -- its place holds another node, with neither neighbour, before it is linked
   pub Linked-push : (cs : List (Option (Node X))) (xs : List (Keyed X)) (x : Keyed X) → Apart xs → Linked cs None xs None
       → x.key.place < length cs → NotAt x.key.place xs
-      → Linked (places_before (Some x.key.place) (last_or None xs) (places_after (last_or None xs) (Some x.key.place) (set cs x.key.place (Some (node x.value None None))))) None (xs ++ x ∷ []) None
+      → Linked (places_before (Some x.key.place) (last_or None xs)
+          (places_after (last_or None xs) (Some x.key.place) (set cs x.key.place (Some (node x.value None None))))) None (xs ++ x ∷ []) None
   Linked-push cs xs x a l lt away =
       let p = x.key.place in
       let last = last_or None xs in
@@ -187,18 +205,21 @@ module _ {X : Type 0} where
   last-some b [] e = e
   last-some b (x ∷ xs) e = last-some (Some x.key.place) xs refl
 
-  pub first-push : (xs : List (Keyed X)) (x : Keyed X) → cond (is_some (last_or None xs)) (first_or xs None) (Some x.key.place) ≡ first_or (xs ++ x ∷ []) None
+  pub first-push : (xs : List (Keyed X)) (x : Keyed X) → cond (is_some (last_or None xs)) (first_or xs None) (Some x.key.place) ≡ first_or
+      (xs ++ x ∷ []) None
   first-push [] x = refl
   first-push (y ∷ xs) x = rw (last-some (Some y.key.place) xs refl)
 
   pub last-push : (xs : List (Keyed X)) (x : Keyed X) → Some x.key.place ≡ last_or None (xs ++ x ∷ [])
   last-push xs x = sym (last_or-append None xs (x ∷ []))
 
-  pub first-unlink : (xs : List (Keyed X)) (x : Keyed X) (ys : List (Keyed X)) → cond (is_some (last_or None xs)) (first_or (xs ++ x ∷ ys) None) (first_or ys None) ≡ first_or (xs ++ ys) None
+  pub first-unlink : (xs : List (Keyed X)) (x : Keyed X) (ys : List (Keyed X)) →
+      cond (is_some (last_or None xs)) (first_or (xs ++ x ∷ ys) None) (first_or ys None) ≡ first_or (xs ++ ys) None
   first-unlink [] x ys = refl
   first-unlink (y ∷ xs) x ys = rw (last-some (Some y.key.place) xs refl)
 
-  pub last-unlink : (xs : List (Keyed X)) (x : Keyed X) (ys : List (Keyed X)) → cond (is_some (first_or ys None)) (last_or None (xs ++ x ∷ ys)) (last_or None xs) ≡ last_or None (xs ++ ys)
+  pub last-unlink : (xs : List (Keyed X)) (x : Keyed X) (ys : List (Keyed X)) →
+      cond (is_some (first_or ys None)) (last_or None (xs ++ x ∷ ys)) (last_or None xs) ≡ last_or None (xs ++ ys)
   last-unlink xs x [] = ap (λ zs. last_or None zs) (sym (append-nil xs))
   last-unlink xs x (y ∷ ys) = last_or-append None xs (x ∷ y ∷ ys) ∙ sym (last_or-append None xs (y ∷ ys))
 
@@ -219,7 +240,8 @@ module _ {X : Type 0} where
   live-before to None = refl
   live-before to (Some n) = refl
 
-  pub same_count : (cs : List (Option (Node X))) (p : ℕ) (v : Option (Node X)) → is_some v ≡ is_some (get_or cs p None) → count_by is_some (set cs p v) ≡ count_by is_some cs
+  pub same_count : (cs : List (Option (Node X))) (p : ℕ) (v : Option (Node X)) → is_some v ≡ is_some (get_or cs p None) →
+      count_by is_some (set cs p v) ≡ count_by is_some cs
   same_count cs p v e = elim (cases_lt p (length cs)) [
     | inl lt ↦
         let s = sum_by-set (λ (x : Option (Node X)). cond (is_some x) 1 0) cs p v None lt in
@@ -249,23 +271,27 @@ module _ {X : Type 0} where
   stamp-here x xs = let same : nat_eq x.key.place x.key.place ≡ true = eq-eqb x.key.place x.key.place refl in rw same
 
   -- an entry at another place changes no other stamp
-  pub stamp-insert : (p : ℕ) (xs : List (Keyed X)) (x : Keyed X) (ys : List (Keyed X)) → x.key.place ≢ p → stamp_at p (xs ++ x ∷ ys) ≡ stamp_at p (xs ++ ys)
+  pub stamp-insert : (p : ℕ) (xs : List (Keyed X)) (x : Keyed X) (ys : List (Keyed X)) → x.key.place ≢ p →
+      stamp_at p (xs ++ x ∷ ys) ≡ stamp_at p (xs ++ ys)
   stamp-insert p [] x ys n = let apart : nat_eq x.key.place p ≡ false = ne_eqb x.key.place p n in rw apart
   stamp-insert p (y ∷ xs) x ys n = ap (λ r. cond (nat_eq y.key.place p) (Some y.key.stamp) r) (stamp-insert p xs x ys n)
 
   -- ---- what a changed link leaves live
-  same_live : (cs : List (Option (Node X))) (q p : ℕ) (v : Option (Node X)) → is_some v ≡ is_some (get_or cs q None) → is_some (get_or (set cs q v) p None) ≡ is_some (get_or cs p None)
+  same_live : (cs : List (Option (Node X))) (q p : ℕ) (v : Option (Node X)) → is_some v ≡ is_some (get_or cs q None) →
+      is_some (get_or (set cs q v) p None) ≡ is_some (get_or cs p None)
   same_live [] q p v e = refl
   same_live (c ∷ cs) zero zero v e = e
   same_live (c ∷ cs) zero (suc p) v e = refl
   same_live (c ∷ cs) (suc q) zero v e = refl
   same_live (c ∷ cs) (suc q) (suc p) v e = same_live cs q p v e
 
-  pub live-places_after : (o to : Option ℕ) (cs : List (Option (Node X))) (p : ℕ) → is_some (get_or (places_after o to cs) p None) ≡ is_some (get_or cs p None)
+  pub live-places_after : (o to : Option ℕ) (cs : List (Option (Node X))) (p : ℕ) →
+      is_some (get_or (places_after o to cs) p None) ≡ is_some (get_or cs p None)
   live-places_after None to cs p = refl
   live-places_after (Some q) to cs p = same_live cs q p (with_after to (get_or cs q None)) (live-after to (get_or cs q None))
 
-  pub live-places_before : (o to : Option ℕ) (cs : List (Option (Node X))) (p : ℕ) → is_some (get_or (places_before o to cs) p None) ≡ is_some (get_or cs p None)
+  pub live-places_before : (o to : Option ℕ) (cs : List (Option (Node X))) (p : ℕ) →
+      is_some (get_or (places_before o to cs) p None) ≡ is_some (get_or cs p None)
   live-places_before None to cs p = refl
   live-places_before (Some q) to cs p = same_live cs q p (with_before to (get_or cs q None)) (live-before to (get_or cs q None))
 
@@ -274,24 +300,28 @@ module _ {X : Type 0} where
   live-valued w (Some n) = refl
 
   -- ---- the ends of a list are live
-  pub live-last : (cs : List (Option (Node X))) (b : Option ℕ) (xs : List (Keyed X)) (a : Option ℕ) → IfSome b (λ p. is_some (get_or cs p None) ≡ true) → Linked cs b xs a
+  pub live-last : (cs : List (Option (Node X))) (b : Option ℕ) (xs : List (Keyed X)) (a : Option ℕ) →
+      IfSome b (λ p. is_some (get_or cs p None) ≡ true) → Linked cs b xs a
       → IfSome (last_or b xs) (λ p. is_some (get_or cs p None) ≡ true)
   live-last cs b [] a h l = h
   live-last cs b (x ∷ xs) a h l = live-last cs (Some x.key.place) xs a (ap is_some l.0) l.1
 
-  live-set : (cs : List (Option (Node X))) (p q : ℕ) (n : Node X) → is_some (get_or cs q None) ≡ true → is_some (get_or (set cs p (Some n)) q None) ≡ true
+  live-set : (cs : List (Option (Node X))) (p q : ℕ) (n : Node X) → is_some (get_or cs q None) ≡ true →
+      is_some (get_or (set cs p (Some n)) q None) ≡ true
   live-set [] p q n e = e
   live-set (c ∷ cs) zero zero n e = refl
   live-set (c ∷ cs) zero (suc q) n e = e
   live-set (c ∷ cs) (suc p) zero n e = e
   live-set (c ∷ cs) (suc p) (suc q) n e = live-set cs p q n e
 
-  live-set_option : (cs : List (Option (Node X))) (p : ℕ) (n : Node X) (o : Option ℕ) → IfSome o (λ q. is_some (get_or cs q None) ≡ true) → IfSome o (λ q. is_some (get_or (set cs p (Some n)) q None) ≡ true)
+  live-set_option : (cs : List (Option (Node X))) (p : ℕ) (n : Node X) (o : Option ℕ) → IfSome o (λ q. is_some (get_or cs q None) ≡ true)
+      → IfSome o (λ q. is_some (get_or (set cs p (Some n)) q None) ≡ true)
   live-set_option cs p n None h = h
   live-set_option cs p n (Some q) h = live-set cs p q n h
 
   pub live-last_set : (cs : List (Option (Node X))) (b : Option ℕ) (xs : List (Keyed X)) (a : Option ℕ) (p : ℕ) (n : Node X) → p < length cs
-      → IfSome b (λ q. is_some (get_or cs q None) ≡ true) → Linked cs b xs a → IfSome (last_or b xs) (λ q. is_some (get_or (set cs p (Some n)) q None) ≡ true)
+      → IfSome b (λ q. is_some (get_or cs q None) ≡ true) → Linked cs b xs a →
+          IfSome (last_or b xs) (λ q. is_some (get_or (set cs p (Some n)) q None) ≡ true)
   live-last_set cs b xs a p n lt h l = live-set_option cs p n (last_or b xs) (live-last cs b xs a h l)
 
   pub live-first : (cs : List (Option (Node X))) (o to b : Option ℕ) (xs : List (Keyed X)) → Linked cs b xs None
@@ -304,15 +334,18 @@ module _ {X : Type 0} where
   first-apart p (x ∷ xs) n = λ e. let at : x.key.place ≡ p = cc in n.0 at
 
   -- ---- an entry is replaced by one of its key
-  pub first-swap : (xs : List (Keyed X)) (x y : Keyed X) (ys : List (Keyed X)) → x.key ≡ y.key → first_or (xs ++ x ∷ ys) None ≡ first_or (xs ++ y ∷ ys) None
+  pub first-swap : (xs : List (Keyed X)) (x y : Keyed X) (ys : List (Keyed X)) → x.key ≡ y.key →
+      first_or (xs ++ x ∷ ys) None ≡ first_or (xs ++ y ∷ ys) None
   first-swap [] x y ys e = ap (λ (k : ChainKey). Some k.place) e
   first-swap (z ∷ xs) x y ys e = refl
 
-  pub last-swap : (b : Option ℕ) (xs : List (Keyed X)) (x y : Keyed X) (ys : List (Keyed X)) → x.key ≡ y.key → last_or b (xs ++ x ∷ ys) ≡ last_or b (xs ++ y ∷ ys)
+  pub last-swap : (b : Option ℕ) (xs : List (Keyed X)) (x y : Keyed X) (ys : List (Keyed X)) → x.key ≡ y.key →
+      last_or b (xs ++ x ∷ ys) ≡ last_or b (xs ++ y ∷ ys)
   last-swap b [] x y ys e = ap (λ (k : ChainKey). last_or (Some k.place) ys) e
   last-swap b (z ∷ xs) x y ys e = last-swap (Some z.key.place) xs x y ys e
 
-  NotAt-swap : (p : ℕ) (xs : List (Keyed X)) (x y : Keyed X) (ys : List (Keyed X)) → x.key ≡ y.key → NotAt p (xs ++ x ∷ ys) → NotAt p (xs ++ y ∷ ys)
+  NotAt-swap : (p : ℕ) (xs : List (Keyed X)) (x y : Keyed X) (ys : List (Keyed X)) → x.key ≡ y.key → NotAt p (xs ++ x ∷ ys) →
+      NotAt p (xs ++ y ∷ ys)
   NotAt-swap p [] x y ys e n = ((λ q. n.0 (ap (λ (k : ChainKey). k.place) e ∙ q)), n.1)
   NotAt-swap p (z ∷ xs) x y ys e n = (n.0, NotAt-swap p xs x y ys e n.1)
 
@@ -320,7 +353,8 @@ module _ {X : Type 0} where
   Apart-swap [] x y ys e a = (subst (λ (k : ChainKey). NotAt k.place ys) e a.0, a.1)
   Apart-swap (z ∷ xs) x y ys e a = (NotAt-swap z.key.place xs x y ys e a.0, Apart-swap xs x y ys e a.1)
 
-  pub stamp-swap : (p : ℕ) (xs : List (Keyed X)) (x y : Keyed X) (ys : List (Keyed X)) → x.key ≡ y.key → stamp_at p (xs ++ x ∷ ys) ≡ stamp_at p (xs ++ y ∷ ys)
+  pub stamp-swap : (p : ℕ) (xs : List (Keyed X)) (x y : Keyed X) (ys : List (Keyed X)) → x.key ≡ y.key →
+      stamp_at p (xs ++ x ∷ ys) ≡ stamp_at p (xs ++ y ∷ ys)
   stamp-swap p [] x y ys e = ap (λ (k : ChainKey). cond (nat_eq k.place p) (Some k.stamp) (stamp_at p ys)) e
   stamp-swap p (z ∷ xs) x y ys e = ap (λ r. cond (nat_eq z.key.place p) (Some z.key.stamp) r) (stamp-swap p xs x y ys e)
 

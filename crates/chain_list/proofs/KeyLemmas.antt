@@ -1,5 +1,6 @@
 -- What a key finds in a list whose entries lie apart, and that the list is what the links give.
-use Rattle.std.proofs.Common.{◌≡◌, ℕ, zero, suc, ◌≤◌, Bool, true, false, cond, nat_eq, List, [], ◌∷◌, ◌++◌, length, get_or, Option, Some, None, refl, sym, ap, subst, ◌∙◌, inl, inr, arith}
+use Rattle.std.proofs.Common.{◌≡◌, ℕ, zero, suc, ◌≤◌, Bool, true, false, cond, nat_eq, List, [], ◌∷◌, ◌++◌, length, get_or, Option, Some,
+    None, refl, sym, ap, subst, ◌∙◌, inl, inr, arith}
 use Rattle.std.proofs.lemmas.Bool.{ne_eqb, eq-eqb}
 use Rattle.std.proofs.lemmas.Bool.Decides.{eqb_tells}
 use Rattle.std.specs.Option.{is_some}
@@ -14,7 +15,8 @@ pub same_key-apart : (a b : ChainKey) → (a.place ≡ b.place → ⊥) → same
 same_key-apart a b n = let apart : nat_eq a.place b.place ≡ false = ne_eqb a.place b.place n in rw apart
 
 pub same_key-refl : (a : ChainKey) → same_key a a ≡ true
-same_key-refl a = let p : nat_eq a.place a.place ≡ true = eq-eqb a.place a.place refl in let s : nat_eq a.stamp a.stamp ≡ true = eq-eqb a.stamp a.stamp refl in rw (p, s)
+same_key-refl a = let p : nat_eq a.place a.place ≡ true = eq-eqb a.place a.place refl in let s : nat_eq a.stamp a.stamp ≡ true =
+                                                                                               eq-eqb a.stamp a.stamp refl in rw (p, s)
 
 pub same_key-stamps : (a b : ChainKey) → (a.stamp ≡ b.stamp → ⊥) → same_key a b ≡ false
 same_key-stamps a b n =
@@ -57,7 +59,8 @@ module _ {X : Type 0} where
   changed-not_at key w [] n = refl
   changed-not_at key w (x ∷ xs) n = let e = same_key-apart x.key key n.0 in rw e (ap (λ r. x ∷ r) (changed-not_at key w xs n.1))
 
-  pub changed-append : (key : ChainKey) (w : X) (xs ys : List (Keyed X)) → NotAt key.place xs → changed key w (xs ++ ys) ≡ xs ++ changed key w ys
+  pub changed-append : (key : ChainKey) (w : X) (xs ys : List (Keyed X)) → NotAt key.place xs →
+      changed key w (xs ++ ys) ≡ xs ++ changed key w ys
   changed-append key w [] ys n = refl
   changed-append key w (x ∷ xs) ys n = let e = same_key-apart x.key key n.0 in rw e (ap (λ r. x ∷ r) (changed-append key w xs ys n.1))
 
@@ -99,7 +102,8 @@ module _ {X : Type 0} where
     | inr f ↦ split-more key x xs (split-stamp key xs (rw f.0 at e))
   ]
 
-  pub value-absent : (key : ChainKey) (xs : List (Keyed X)) → Apart xs → (stamp_at key.place xs ≡ Some key.stamp → ⊥) → value_at key xs ≡ None
+  pub value-absent : (key : ChainKey) (xs : List (Keyed X)) → Apart xs → (stamp_at key.place xs ≡ Some key.stamp → ⊥) →
+      value_at key xs ≡ None
   value-absent key [] a n = refl
   value-absent key (x ∷ xs) a n = elim (eqb_tells x.key.place key.place) [
     | inl t ↦
@@ -113,7 +117,8 @@ module _ {X : Type 0} where
   Stamped ss [] = Unit {0}
   Stamped ss (x ∷ xs) = (get_or ss x.key.place None ≡ Some x.key.stamp) × Stamped ss xs
 
-  pub Stamped-of : (ss : List (Option ℕ)) (xs : List (Keyed X)) → Apart xs → ((p s : ℕ) → stamp_at p xs ≡ Some s → get_or ss p None ≡ Some s) → Stamped ss xs
+  pub Stamped-of : (ss : List (Option ℕ)) (xs : List (Keyed X)) → Apart xs →
+      ((p s : ℕ) → stamp_at p xs ≡ Some s → get_or ss p None ≡ Some s) → Stamped ss xs
   Stamped-of ss [] a h = tt
   Stamped-of ss (x ∷ xs) a h = (
     h x.key.place x.key.stamp (stamp-here x xs),
@@ -142,7 +147,8 @@ module _ {X : Type 0} where
 
   -- ---- a live key stands in the list
   split-test : (key : ChainKey) (x : Keyed X) (xs : List (Keyed X)) (t : Bool) → same_key x.key key ≡ t
-      → is_some (cond t (Some x.value) (value_at key xs)) ≡ true → (is_some (value_at key xs) ≡ true → IsSplit key xs) → IsSplit key (x ∷ xs)
+      → is_some (cond t (Some x.value) (value_at key xs)) ≡ true → (is_some (value_at key xs) ≡ true → IsSplit key xs) →
+          IsSplit key (x ∷ xs)
   split-test key x xs true e live more = record { before = []; entry = x; behind = xs; is = refl; key_is = same_key-is x.key key e }
   split-test key x xs false e live more = split-more key x xs (more live)
 
@@ -151,7 +157,8 @@ module _ {X : Type 0} where
   split-live key (x ∷ xs) e = split-test key x xs (same_key x.key key) refl e (split-live key xs)
 
   -- what is kept at the place tells whether the key is live
-  pub stamp-tells : (key : ChainKey) (xs : List (Keyed X)) → Apart xs → is_stamp (stamp_at key.place xs) key.stamp ≡ is_some (value_at key xs)
+  pub stamp-tells : (key : ChainKey) (xs : List (Keyed X)) → Apart xs → is_stamp (stamp_at key.place xs) key.stamp ≡ is_some
+      (value_at key xs)
   stamp-tells key [] a = refl
   stamp-tells key (x ∷ xs) a = elim (eqb_tells x.key.place key.place) [
     | inl t ↦ rw t.0 (stamp-tells-here key x xs (subst (λ p. NotAt p xs) t.1 a.0))
@@ -160,7 +167,8 @@ module _ {X : Type 0} where
     where
       stamp-tells-here : (key : ChainKey) (x : Keyed X) (xs : List (Keyed X)) → NotAt key.place xs
           → nat_eq x.key.stamp key.stamp ≡ is_some (cond (nat_eq x.key.stamp key.stamp) (Some x.value) (value_at key xs))
-      stamp-tells-here key x xs n = elim (eqb_tells x.key.stamp key.stamp) [ inl t ↦ rw t.0 refl | inr f ↦ rw f.0 (sym (ap is_some (value-not_at key xs n))) ]
+      stamp-tells-here key x xs n = elim (eqb_tells x.key.stamp key.stamp)
+          [ inl t ↦ rw t.0 refl | inr f ↦ rw f.0 (sym (ap is_some (value-not_at key xs n))) ]
 
   pub Stamped-cut : (ss : List (Option ℕ)) (xs ys : List (Keyed X)) → Stamped ss (xs ++ ys) → Stamped ss ys
   Stamped-cut ss [] ys s = s

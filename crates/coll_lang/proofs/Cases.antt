@@ -8,9 +8,11 @@ use Rattle.coll_shape.specs.declared.types.Version.TheVariants.{Two}
 use Rattle.coll_shape.specs.declared.types.CollStep.TheVariants.{Allreduce, Broadcast}
 use Rattle.coll_lang.specs.Program.{Program}
 use Rattle.coll_lang.specs.Forms.{root_in, op_in, names_in, step_in, on_in, group_in, input_in, name_in, complete_in, form_of}
-use Rattle.coll_lang.specs.Language.{read, read_from, judge, line_at, later_line, values_line, form_line, print_line, choice_line, step_line, rooted_line, step_on, source_named, input_line, group_line, buffer_named, ranks_in, described}
+use Rattle.coll_lang.specs.Language.{read, read_from, judge, line_at, later_line, values_line, form_line, print_line, choice_line,
+    step_line, rooted_line, step_on, source_named, input_line, group_line, buffer_named, ranks_in, described}
 use Rattle.coll_lang.specs.declared.fault.Refusal.{Refusal}
-use Rattle.coll_lang.specs.declared.fault.Refusal.TheVariants.{BadLine, BadRoot, BadGroup, WrongShape, NameTaken, BadNumber, BadRanks, UnknownBuffer}
+use Rattle.coll_lang.specs.declared.fault.Refusal.TheVariants.{BadLine, BadRoot, BadGroup, WrongShape, NameTaken, BadNumber, BadRanks,
+    UnknownBuffer}
 
 text_of : List (List ℕ) → List ℕ
 text_of ls = flat_map (λ l. l ++ 10 ∷ []) ls
@@ -27,19 +29,27 @@ head ls = codes "coll 2" ∷ codes "ranks 4" ∷ codes "group odd 1 3" ∷ codes
 groups_read : answer (read
     (text_of (head (codes "on odd allreduce sum a b" ∷ codes "on odd broadcast 1 a c" ∷ codes "print b" ∷ codes "print c" ∷ codes "end"
     ∷ [])))) ≡ Ok tt
-unfolding answer text_of head read read_from judge line_at later_line values_line form_line print_line step_line rooted_line step_on source_named input_line group_line buffer_named ranks_in form_of root_in op_in names_in step_in on_in group_in input_in name_in data_line value_of
+unfolding answer text_of head read read_from judge line_at later_line values_line form_line print_line step_line rooted_line step_on
+    source_named input_line group_line buffer_named ranks_in form_of root_in op_in names_in step_in on_in group_in input_in name_in
+    data_line value_of
 groups_read = refl
 
 root_is_a_place : answer (read (text_of (head (codes "on odd broadcast 2 a b" ∷ [])))) ≡ Err (9, BadRoot)
-unfolding answer text_of head read read_from judge line_at later_line values_line form_line print_line step_line rooted_line step_on source_named input_line group_line buffer_named ranks_in form_of root_in op_in names_in step_in on_in group_in input_in name_in data_line value_of
+unfolding answer text_of head read read_from judge line_at later_line values_line form_line print_line step_line rooted_line step_on
+    source_named input_line group_line buffer_named ranks_in form_of root_in op_in names_in step_in on_in group_in input_in name_in
+    data_line value_of
 root_is_a_place = refl
 
 no_such_group : answer (read (text_of (head (codes "on even barrier" ∷ [])))) ≡ Err (9, BadGroup)
-unfolding answer text_of head read read_from judge line_at later_line values_line form_line print_line step_line rooted_line step_on source_named input_line group_line buffer_named ranks_in form_of root_in op_in names_in step_in on_in group_in input_in name_in data_line value_of
+unfolding answer text_of head read read_from judge line_at later_line values_line form_line print_line step_line rooted_line step_on
+    source_named input_line group_line buffer_named ranks_in form_of root_in op_in names_in step_in on_in group_in input_in name_in
+    data_line value_of
 no_such_group = refl
 
 not_all_hold : answer (read (text_of (head (codes "on odd allreduce sum a b" ∷ codes "allgather b c" ∷ [])))) ≡ Err (10, WrongShape)
-unfolding answer text_of head read read_from judge line_at later_line values_line form_line print_line step_line rooted_line step_on source_named input_line group_line buffer_named ranks_in form_of root_in op_in names_in step_in on_in group_in input_in name_in data_line value_of
+unfolding answer text_of head read read_from judge line_at later_line values_line form_line print_line step_line rooted_line step_on
+    source_named input_line group_line buffer_named ranks_in form_of root_in op_in names_in step_in on_in group_in input_in name_in
+    data_line value_of
 not_all_hold = refl
 
 falling_members : answer (read (text_of (codes "coll 2" ∷ codes "ranks 4" ∷ codes "group odd 3 1" ∷ []))) ≡ Err (3, BadGroup)
@@ -56,17 +66,20 @@ ranks_of_version_1 = refl
 
 choice_read : answer (read
     (text_of (codes "coll 2" ∷ codes "ranks 3" ∷ codes "elect b" ∷ codes "tickets c" ∷ codes "print c" ∷ codes "end" ∷ []))) ≡ Ok tt
-unfolding answer text_of read read_from judge line_at later_line form_line print_line choice_line buffer_named ranks_in form_of name_in described
+unfolding answer text_of read read_from judge line_at later_line form_line print_line choice_line buffer_named ranks_in form_of name_in
+    described
 choice_read = refl
 
 no_step_behind_a_choice : answer (read (text_of (codes "coll 2" ∷ codes "ranks 3" ∷ codes "elect b" ∷ codes "barrier" ∷ [])))
     ≡ Err (4, BadLine)
-unfolding answer text_of read read_from judge line_at later_line form_line print_line choice_line buffer_named ranks_in form_of name_in step_in root_in op_in names_in
+unfolding answer text_of read read_from judge line_at later_line form_line print_line choice_line buffer_named ranks_in form_of name_in
+    step_in root_in op_in names_in
 no_step_behind_a_choice = refl
 
 no_choice_behind_remote : answer (read (text_of (codes "coll 2" ∷ codes "ranks 3" ∷ codes "complete remote" ∷ codes "elect b" ∷ [])))
     ≡ Err (4, BadLine)
-unfolding answer text_of read read_from judge line_at later_line form_line print_line choice_line buffer_named ranks_in form_of name_in complete_in
+unfolding answer text_of read read_from judge line_at later_line form_line print_line choice_line buffer_named ranks_in form_of name_in
+    complete_in
 no_choice_behind_remote = refl
 
 -- two members, two elements each
@@ -76,13 +89,16 @@ pair ls = codes "coll 2" ∷ codes "ranks 2" ∷ codes "input a u8 2" ∷ codes 
 later_steps_read : answer (read
     (text_of (pair (codes "scatter 1 a b" ∷ codes "reducescatter sum a c" ∷ codes "exscan sum a d" ∷ codes "gatherv 0 d e" ∷ codes "print b"
     ∷ codes "end" ∷ [])))) ≡ Ok tt
-unfolding answer text_of pair read read_from judge line_at later_line values_line form_line print_line step_line rooted_line step_on source_named input_line buffer_named ranks_in form_of root_in op_in names_in step_in input_in name_in data_line value_of
+unfolding answer text_of pair read read_from judge line_at later_line values_line form_line print_line step_line rooted_line step_on
+    source_named input_line buffer_named ranks_in form_of root_in op_in names_in step_in input_in name_in data_line value_of
 later_steps_read = refl
 
 no_block_each : answer (read
     (text_of (codes "coll 2" ∷ codes "ranks 3" ∷ codes "group g 0 2" ∷ codes "input a u8 1" ∷ codes "1" ∷ codes "2" ∷ codes "3"
     ∷ codes "on g allreduce sum a b" ∷ codes "on g scatter 0 b c" ∷ []))) ≡ Err (9, WrongShape)
-unfolding answer text_of read read_from judge line_at later_line values_line form_line print_line step_line rooted_line step_on source_named input_line group_line buffer_named ranks_in form_of root_in op_in names_in step_in on_in group_in input_in name_in data_line value_of
+unfolding answer text_of read read_from judge line_at later_line values_line form_line print_line step_line rooted_line step_on
+    source_named input_line group_line buffer_named ranks_in form_of root_in op_in names_in step_in on_in group_in input_in name_in
+    data_line value_of
 no_block_each = refl
 
 -- what the first of these texts describes, whole
@@ -106,7 +122,9 @@ groups_described : read (text_of
       inputs = ((1 ∷ []) ∷ (2 ∷ []) ∷ (3 ∷ []) ∷ (4 ∷ []) ∷ []) ∷ [];
       choices = None;
     })
-unfolding text_of head read read_from judge line_at later_line values_line form_line print_line step_line rooted_line step_on source_named input_line group_line buffer_named ranks_in form_of root_in op_in names_in step_in on_in group_in input_in name_in data_line value_of described
+unfolding text_of head read read_from judge line_at later_line values_line form_line print_line step_line rooted_line step_on source_named
+    input_line group_line buffer_named ranks_in form_of root_in op_in names_in step_in on_in group_in input_in name_in data_line value_of
+    described
 groups_described = refl
 
 -- one line more after the input, and what is refused first on it
@@ -118,14 +136,18 @@ unknown_group : map last_line
     (codes "on even broadcast 9 a b" ∷ codes "on even gather 0 z b" ∷ codes "on even broadcast x a b" ∷ codes "on even allreduce sum a odd"
     ∷ [])
     ≡ Err (9, BadGroup) ∷ Err (9, UnknownBuffer) ∷ Err (9, BadNumber) ∷ Err (9, NameTaken) ∷ []
-unfolding last_line answer text_of head read read_from judge line_at later_line values_line form_line step_line rooted_line step_on source_named input_line group_line buffer_named ranks_in form_of root_in op_in names_in step_in on_in group_in input_in name_in data_line value_of
+unfolding last_line answer text_of head read read_from judge line_at later_line values_line form_line step_line rooted_line step_on
+    source_named input_line group_line buffer_named ranks_in form_of root_in op_in names_in step_in on_in group_in input_in name_in
+    data_line value_of
 unknown_group = refl
 
 -- a buffer is no group, a group is no buffer, a choice stands in no group, and a root may be any number
 other_names : map last_line
     (codes "on a barrier" ∷ codes "print odd" ∷ codes "on odd elect b" ∷ codes "broadcast 99999999999999999999 a b" ∷ [])
     ≡ Err (9, BadGroup) ∷ Err (9, UnknownBuffer) ∷ Err (9, BadLine) ∷ Err (9, BadRoot) ∷ []
-unfolding last_line answer text_of head read read_from judge line_at later_line values_line form_line print_line step_line rooted_line step_on source_named input_line group_line buffer_named ranks_in form_of root_in op_in names_in step_in on_in group_in input_in name_in data_line value_of
+unfolding last_line answer text_of head read read_from judge line_at later_line values_line form_line print_line step_line rooted_line
+    step_on source_named input_line group_line buffer_named ranks_in form_of root_in op_in names_in step_in on_in group_in input_in
+    name_in data_line value_of
 other_names = refl
 
 -- a second group
@@ -140,5 +162,6 @@ group_lines = refl
 -- as many words as are due, none of them empty: no malformed line
 words_for_values : answer (read (text_of (codes "coll 2" ∷ codes "ranks 2" ∷ codes "input a u8 2" ∷ codes "complete remote" ∷ [])))
     ≡ Err (4, BadNumber)
-unfolding answer text_of read read_from judge line_at later_line values_line form_line input_line ranks_in form_of input_in data_line value_of
+unfolding answer text_of read read_from judge line_at later_line values_line form_line input_line ranks_in form_of input_in data_line
+    value_of
 words_for_values = refl

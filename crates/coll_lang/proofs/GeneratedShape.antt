@@ -1,5 +1,6 @@
 -- The generated shape is well formed.
-use Rattle.std.proofs.Common.{◌≡◌, ℕ, zero, suc, ◌+◌, ◌<◌, ◌≤◌, List, [], ◌∷◌, length, map, get_or, Option, Some, None, true, refl, sym, ap, ◌∙◌, arith, subst, codes}
+use Rattle.std.proofs.Common.{◌≡◌, ℕ, zero, suc, ◌+◌, ◌<◌, ◌≤◌, List, [], ◌∷◌, length, map, get_or, Option, Some, None, true, refl, sym, ap,
+    ◌∙◌, arith, subst, codes}
 use Rattle.ptl_types.specs.declared.elements.ElemType.TheVariants.{U32}
 use Rattle.std.specs.Prelude.{All}
 use Rattle.std.specs.List.{AllByRecursion}
@@ -13,7 +14,8 @@ use Rattle.coll_shape.specs.declared.types.CollStep.{CollStep}
 use Rattle.coll_shape.specs.declared.types.CollStep.TheVariants.{Allreduce, Allgather, Alltoall, Scan}
 use Rattle.coll_shape.specs.Outline.{Outline, buffer_at, group_at, members_of, read_buffer, step_at}
 use Rattle.coll_shape.specs.Collectives.{AllHold, IsRoot, Reads, buffer_after, named, result_of, since, source_of}
-use Rattle.coll_shape.specs.WellFormed.{AreMembers, FitsVersion, IsGroup, IsNumber, IsShape, IsWellFormed, StandsIn, StepFits, made_upto, names, printed_elements}
+use Rattle.coll_shape.specs.WellFormed.{AreMembers, FitsVersion, IsGroup, IsNumber, IsShape, IsWellFormed, StandsIn, StepFits, made_upto,
+    names, printed_elements}
 use Rattle.coll_shape.specs.declared.limits.TheConstants.{MOST_RANKS, MOST_GIVEN, MOST_ELEMENTS}
 use Rattle.coll_lang.specs.Generated.{even_words, everyone, generated_shape}
 use Rattle.coll_lang.specs.Held.{IsSmall}
@@ -236,7 +238,8 @@ words_of ws = map (λ w. even_words w.0 w.1) ws
 
 all_small : (ws : List (List ℕ × ℕ)) → words_are_small ws → All IsSmall (words_of ws)
 all_small [] h = All-nil IsSmall
-all_small (w ∷ ws) h = All-cons IsSmall (even_words w.0 w.1) (words_of ws) (record { short = h.0; at_most = everyone_few }) (all_small ws h.1)
+all_small (w ∷ ws) h = All-cons IsSmall (even_words w.0 w.1) (words_of ws) (record { short = h.0; at_most = everyone_few })
+    (all_small ws h.1)
 
 pub buffers_small : All IsSmall o.buffers
 buffers_small = all_small ((codes "a", 64) ∷ (codes "b", 64) ∷ (codes "c", 64) ∷ (codes "d", 4096) ∷ (codes "e", 64) ∷ [])

@@ -1,5 +1,6 @@
 -- Which members hold what a step makes.
-use Rattle.std.proofs.Common.{◌≡◌, ℕ, zero, suc, ◌<◌, Bool, true, false, cond, List, [], ◌∷◌, length, get_or, refl, ap, sym, ◌∙◌, arith, inl, inr}
+use Rattle.std.proofs.Common.{◌≡◌, ℕ, zero, suc, ◌<◌, Bool, true, false, cond, List, [], ◌∷◌, length, get_or, refl, ap, sym, ◌∙◌, arith,
+    inl, inr}
 use Rattle.std.specs.Prelude.{◌==◌, ◌||◌}
 use Rattle.std.proofs.lemmas.Bool.{cases_order}
 use Rattle.coll_shape.specs.Collectives.{is_in, alone, all_but_first, only_at}
@@ -32,19 +33,23 @@ alone_at g root i rising l k =
     ∙ elim (cases_order i root) [
       | inl e ↦ agrees (get_or g root 0) (get_or g i 0) (ap (λ v. get_or g v 0) (sym e)) ∙ sym (agrees i root e)
       | inr o ↦ elim o [
-        | inl s ↦ let b = rising i root s l in differs (get_or g root 0) (get_or g i 0) (λ e. omega (arith, b, e)) ∙ sym (differs i root (λ e. omega (arith, s, e)))
-        | inr s ↦ let b = rising root i s k in differs (get_or g root 0) (get_or g i 0) (λ e. omega (arith, b, e)) ∙ sym (differs i root (λ e. omega (arith, s, e)))
+        | inl s ↦ let b = rising i root s l in differs (get_or g root 0) (get_or g i 0) (λ e. omega (arith, b, e))
+            ∙ sym (differs i root (λ e. omega (arith, s, e)))
+        | inr s ↦ let b = rising root i s k in differs (get_or g root 0) (get_or g i 0) (λ e. omega (arith, b, e))
+            ∙ sym (differs i root (λ e. omega (arith, s, e)))
       ]
     ]
 
-pub alone_long : (g : List ℕ) (root i long : ℕ) (list : List ℕ) → Rises g → root < length g → i < length g → length list ≡ long → length (only_at root i list) ≡ cond (is_in (get_or g i 0) (alone root g)) long 0
+pub alone_long : (g : List ℕ) (root i long : ℕ) (list : List ℕ) → Rises g → root < length g → i < length g → length list ≡ long →
+    length (only_at root i list) ≡ cond (is_in (get_or g i 0) (alone root g)) long 0
 alone_long g root i long list rising l k h = of (i == root) ∙ ap (λ b. cond b long 0) (sym (alone_at g root i rising l k))
   where
     of : (b : Bool) → length (cond b list []) ≡ cond b long 0
     of true = h
     of false = refl
 
-pub alone_outside : (g : List ℕ) (root r : ℕ) → root < length g → ((i : ℕ) → i < length g → get_or g i 0 ≡ r → ⊥) → is_in r (alone root g) ≡ false
+pub alone_outside : (g : List ℕ) (root r : ℕ) → root < length g → ((i : ℕ) → i < length g → get_or g i 0 ≡ r → ⊥) →
+    is_in r (alone root g) ≡ false
 alone_outside g root r l h = ap (λ b. b || false) (differs (get_or g root 0) r (h root l))
 
 -- all but the first

@@ -1,5 +1,6 @@
 -- What each collective makes is as long as its row says, and stands at the members that its row says.
-use Rattle.std.proofs.Common.{◌≡◌, ℕ, zero, suc, ◌+◌, ◌*◌, ◌/◌, ◌%◌, ◌<◌, ◌≤◌, false, cond, List, Option, Some, None, length, get_or, ap, sym, ◌∙◌, arith}
+use Rattle.std.proofs.Common.{◌≡◌, ℕ, zero, suc, ◌+◌, ◌*◌, ◌/◌, ◌%◌, ◌<◌, ◌≤◌, false, cond, List, Option, Some, None, length, get_or, ap,
+    sym, ◌∙◌, arith}
 use Rattle.std.specs.Prelude.{filter}
 use Rattle.number_lists.specs.Members.{In}
 use Rattle.number_lists.specs.Numbers.{from_to}
@@ -10,16 +11,19 @@ use Rattle.op_laws.proofs.Bytes.{length-part}
 use Rattle.coll_shape.proofs.Asking.{In-is_in}
 use Rattle.coll_shape.specs.declared.types.Buffer.{Buffer}
 use Rattle.coll_shape.specs.declared.types.CollStep.{CollStep}
-use Rattle.coll_shape.specs.declared.types.CollStep.TheVariants.{Barrier, Broadcast, Reduce, Allreduce, Gather, Allgather, Alltoall, Scan, Scatter, Reducescatter, Exscan, Gatherv}
+use Rattle.coll_shape.specs.declared.types.CollStep.TheVariants.{Barrier, Broadcast, Reduce, Allreduce, Gather, Allgather, Alltoall, Scan,
+    Scatter, Reducescatter, Exscan, Gatherv}
 use Rattle.coll_shape.specs.Outline.{list_bytes}
 use Rattle.coll_shape.specs.Folding.{at, block, exchanged, joined_lists, reduced}
-use Rattle.coll_shape.specs.Collectives.{AllHold, Asked, Nothing, HeldAt, HeldAtInBlocks, HeldByAll, HeldByAllInBlocks, HeldBySome, HasAsked, HasBlocks, IsRoot, Reads, buffer_after, holding_places, is_in, list_after, result_of, source_of}
+use Rattle.coll_shape.specs.Collectives.{AllHold, Asked, Nothing, HeldAt, HeldAtInBlocks, HeldByAll, HeldByAllInBlocks, HeldBySome,
+    HasAsked, HasBlocks, IsRoot, Reads, buffer_after, holding_places, is_in, list_after, result_of, source_of}
 use Rattle.coll_meaning.specs.Lengths.{AreAsked, AreEven, bytes_at}
 use Rattle.coll_meaning.proofs.Folds.{length_reduced}
 use Rattle.coll_meaning.proofs.Rowed.{block_bytes, blocks_bytes, block_fits, flat_even, flat_long, whole_mod}
 use Rattle.coll_meaning.proofs.Holding.{Rises, alone_long, alone_outside, first_out, member_in, not_in, others_in, others_outside}
 
-module _ (g : List ℕ) (x : Buffer) (xs : List (List ℕ)) (some : 0 < length g) (rising : Rises g) (many : length xs ≡ length g) (long : (i : ℕ) → i < length g → length (at xs i) ≡ bytes_at x (get_or g i 0)) where
+module _ (g : List ℕ) (x : Buffer) (xs : List (List ℕ)) (some : 0 < length g) (rising : Rises g) (many : length xs ≡ length g)
+    (long : (i : ℕ) → i < length g → length (at xs i) ≡ bytes_at x (get_or g i 0)) where
   all_whole : AllHold g x → (i : ℕ) → i < length g → length (at xs i) ≡ list_bytes x
   all_whole h i l = long i l ∙ ap (λ b. cond b (list_bytes x) 0) (In-is_in (get_or g i 0) x.spread.holders (h i l))
 
@@ -34,23 +38,27 @@ module _ (g : List ℕ) (x : Buffer) (xs : List (List ℕ)) (some : 0 < length g
 
   -- all lists in a row
   row_long : AllHold g x → length (joined_lists xs) ≡ length g * list_bytes x
-  row_long h = flat_even (at xs) (list_bytes x) 0 (length xs) (λ i l. all_whole h i (omega (arith, l, many))) ∙ ap (λ v. v * list_bytes x) many
+  row_long h = flat_even (at xs) (list_bytes x) 0 (length xs) (λ i l. all_whole h i (omega (arith, l, many)))
+      ∙ ap (λ v. v * list_bytes x) many
 
   held_long : length (joined_lists xs) ≡ length (holding_places g x.spread.holders) * list_bytes x
   held_long =
       flat_long (at xs) (λ i. is_in (get_or g i 0) x.spread.holders) (list_bytes x) 0 (length xs) (λ i l. long i (omega (arith, l, many)))
       ∙ ap (λ v. length (filter (λ i. is_in (get_or g i 0) x.spread.holders) (from_to 0 v)) * list_bytes x) many
 
-  block_long : (i : ℕ) (list : List ℕ) → i < length g → HasBlocks g x → length list ≡ list_bytes x → length (block (length xs) i list) ≡ x.spread.length / length g * bytes_of x.ty
+  block_long : (i : ℕ) (list : List ℕ) → i < length g → HasBlocks g x → length list ≡ list_bytes x →
+      length (block (length xs) i list) ≡ x.spread.length / length g * bytes_of x.ty
   block_long i list l h e =
-      length-part (i * (length list / length xs)) (length list / length xs) list (block_fits (length list) (length xs) i (omega (arith, l, many)))
+      length-part (i * (length list / length xs)) (length list / length xs) list
+          (block_fits (length list) (length xs) i (omega (arith, l, many)))
       ∙ ap (λ v. v / length xs) e ∙ ap (λ v. list_bytes x / v) many ∙ block_bytes x.spread.length (length g) (bytes_of x.ty) some h
 
   exchange_long : (i : ℕ) → i < length g → AllHold g x → HasBlocks g x → length (exchanged xs i) ≡ list_bytes x
   exchange_long i l h b =
       flat_even _ (list_bytes x / length g) 0 (length xs) (λ q k.
       let same : length (at xs q) ≡ length (at xs i) = all_whole h q (omega (arith, k, many)) ∙ sym (all_whole h i l) in
-      let fits : i * (length (at xs i) / length xs) + length (at xs i) / length xs ≤ length (at xs i) = block_fits (length (at xs i)) (length xs) i (omega (arith, l, many)) in
+      let fits : i * (length (at xs i) / length xs) + length (at xs i) / length xs ≤ length (at xs i) =
+            block_fits (length (at xs i)) (length xs) i (omega (arith, l, many)) in
       length-part (i * (length (at xs i) / length xs)) (length (at xs i) / length xs) (at xs q) (omega (arith, same, fits))
       ∙ ap (λ v. v / length xs) (all_whole h i l) ∙ ap (λ v. list_bytes x / v) many)
       ∙ ap (λ v. v * (list_bytes x / length g)) many ∙ blocks_bytes x.spread.length (length g) (bytes_of x.ty) some b
@@ -79,18 +87,23 @@ module _ (g : List ℕ) (x : Buffer) (xs : List (List ℕ)) (some : 0 < length g
       → length (list_after x.ty step xs i) ≡ bytes_at (buffer_after g step x) (get_or g i 0)
   made_long Barrier b e r h i l = cc
   made_long (Broadcast root a' b') b e r h i l = at_everyone i (list_bytes x) (at xs root) l (root_long root r h)
-  made_long (Reduce root o a' b') b e r h i l = alone_long g root i (list_bytes x) (reduced o x.ty (length xs) xs) rising r l (fold_long o (length xs) h)
+  made_long (Reduce root o a' b') b e r h i l = alone_long g root i (list_bytes x) (reduced o x.ty (length xs) xs) rising r l
+      (fold_long o (length xs) h)
   made_long (Allreduce o a' b') b e r h i l = at_everyone i (list_bytes x) (reduced o x.ty (length xs) xs) l (fold_long o (length xs) h)
   made_long (Gather root a' b') b e r h i l =
-      alone_long g root i (length g * x.spread.length * bytes_of x.ty) (joined_lists xs) rising r l (of_lists (length g) x.spread.length (bytes_of x.ty) (joined_lists xs) (row_long h))
+      alone_long g root i (length g * x.spread.length * bytes_of x.ty) (joined_lists xs) rising r l
+          (of_lists (length g) x.spread.length (bytes_of x.ty) (joined_lists xs) (row_long h))
   made_long (Allgather a' b') b e r h i l =
-      at_everyone i (length g * x.spread.length * bytes_of x.ty) (joined_lists xs) l (of_lists (length g) x.spread.length (bytes_of x.ty) (joined_lists xs) (row_long h))
+      at_everyone i (length g * x.spread.length * bytes_of x.ty) (joined_lists xs) l
+          (of_lists (length g) x.spread.length (bytes_of x.ty) (joined_lists xs) (row_long h))
   made_long (Alltoall a' b') b e r h i l = at_everyone i (list_bytes x) (exchanged xs i) l (exchange_long i l h.0 h.1)
   made_long (Scan o a' b') b e r h i l = at_everyone i (list_bytes x) (reduced o x.ty (suc i) xs) l (fold_long o (suc i) h)
   made_long (Scatter root a' b') b e r h i l =
-      at_everyone i (x.spread.length / length g * bytes_of x.ty) (block (length xs) i (at xs root)) l (block_long i (at xs root) l h.1 (root_long root r h.0))
+      at_everyone i (x.spread.length / length g * bytes_of x.ty) (block (length xs) i (at xs root)) l
+          (block_long i (at xs root) l h.1 (root_long root r h.0))
   made_long (Reducescatter o a' b') b e r h i l =
-      at_everyone i (x.spread.length / length g * bytes_of x.ty) (block (length xs) i (reduced o x.ty (length xs) xs)) l (block_long i (reduced o x.ty (length xs) xs) l h.1 (fold_long o (length xs) h.0))
+      at_everyone i (x.spread.length / length g * bytes_of x.ty) (block (length xs) i (reduced o x.ty (length xs) xs)) l
+          (block_long i (reduced o x.ty (length xs) xs) l h.1 (fold_long o (length xs) h.0))
   made_long (Exscan o a' b') b e r h zero l = sym (ap (λ b. cond b (list_bytes x) 0) (first_out g rising))
   made_long (Exscan o a' b') b e r h (suc i) l = fold_long o (suc i) h ∙ ap (λ b. cond b (list_bytes x) 0) (sym (others_in g i l))
   made_long (Gatherv root a' b') b e r h i l =
@@ -98,7 +111,8 @@ module _ (g : List ℕ) (x : Buffer) (xs : List (List ℕ)) (some : 0 < length g
       (of_lists (length (holding_places g x.spread.holders)) x.spread.length (bytes_of x.ty) (joined_lists xs) held_long)
 
 -- and nowhere else
-pub made_outside : (g : List ℕ) (x : Buffer) (step : CollStep) (b : ℕ) → result_of step ≡ Some b → IsRoot step (length g) → (r : ℕ) → ((i : ℕ) → i < length g → get_or g i 0 ≡ r → ⊥)
+pub made_outside : (g : List ℕ) (x : Buffer) (step : CollStep) (b : ℕ) → result_of step ≡ Some b → IsRoot step (length g) → (r : ℕ) →
+    ((i : ℕ) → i < length g → get_or g i 0 ≡ r → ⊥)
     → is_in r (buffer_after g step x).spread.holders ≡ false
 made_outside g x Barrier b e r q h = cc
 made_outside g x (Broadcast root a' b') b e r q h = not_in q g h

@@ -1,5 +1,6 @@
 -- The place of a rank among members that rise.
-use Rattle.std.proofs.Common.{◌≡◌, ℕ, zero, suc, ◌+◌, ◌<◌, ◌≤◌, Bool, true, false, cond, List, [], ◌∷◌, Option, Some, None, length, get_or, refl, ap, sym, subst, ◌∙◌, arith, inl, inr}
+use Rattle.std.proofs.Common.{◌≡◌, ℕ, zero, suc, ◌+◌, ◌<◌, ◌≤◌, Bool, true, false, cond, List, [], ◌∷◌, Option, Some, None, length, get_or,
+    refl, ap, sym, subst, ◌∙◌, arith, inl, inr}
 use Rattle.std.specs.Prelude.{◌==◌, is_some, MatchOption}
 use Rattle.std.proofs.lemmas.Bool.{cases_order, cases_lt}
 use Rattle.std.proofs.lemmas.Bool.Decides.{nat_tests}
@@ -12,9 +13,11 @@ pub agrees : (x y : ℕ) → x ≡ y → (x == y) ≡ true
 agrees x y h = grind (arith, nat_tests)
 
 -- it is the place of the first member that is the rank
-pub place_some : (k : ℕ) (g : List ℕ) (n r : ℕ) → n < length g → ((i : ℕ) → i < n → get_or g i 0 ≡ r → ⊥) → get_or g n 0 ≡ r → place_from k g r ≡ Some (k + n)
+pub place_some : (k : ℕ) (g : List ℕ) (n r : ℕ) → n < length g → ((i : ℕ) → i < n → get_or g i 0 ≡ r → ⊥) → get_or g n 0 ≡ r →
+    place_from k g r ≡ Some (k + n)
 place_some k [] n r l before h = absurd (omega arith)
-place_some k (m ∷ ms) zero r l before h = ap (λ b. cond b (Some k) (place_from (suc k) ms r)) (agrees m r h) ∙ ap Some (let e : k ≡ k + 0 = omega arith in e)
+place_some k (m ∷ ms) zero r l before h = ap (λ b. cond b (Some k) (place_from (suc k) ms r)) (agrees m r h)
+    ∙ ap Some (let e : k ≡ k + 0 = omega arith in e)
 place_some k (m ∷ ms) (suc n) r l before h =
     ap (λ b. cond b (Some k) (place_from (suc k) ms r)) (differs m r (before 0 (omega arith)))
     ∙ place_some (suc k) ms n r (omega arith) (λ i j. before (suc i) (omega arith)) h
@@ -31,7 +34,8 @@ place_next g n r l before h =
     place_some 0 g n r l (λ i j e. let b = before i j in omega (arith, b, e)) h ∙ ap Some (let e : 0 + n ≡ n = omega arith in e)
 
 -- it is no member where those before are smaller, and the next one is greater
-pub place_beyond : (g : List ℕ) (n r : ℕ) → n < length g → ((i : ℕ) → i < n → get_or g i 0 < r) → ((i j : ℕ) → i < j → j < length g → get_or g i 0 < get_or g j 0) → r < get_or g n 0 → place_from 0 g r ≡ None
+pub place_beyond : (g : List ℕ) (n r : ℕ) → n < length g → ((i : ℕ) → i < n → get_or g i 0 < r) →
+    ((i j : ℕ) → i < j → j < length g → get_or g i 0 < get_or g j 0) → r < get_or g n 0 → place_from 0 g r ≡ None
 place_beyond g n r l before rising h =
     place_none 0 g r
     (λ i j e. elim (cases_order i n) [
@@ -48,7 +52,8 @@ pub record Stands (g : List ℕ) (next r : ℕ) : Type 0 where
   pub below : (i : ℕ) → i < next → get_or g i 0 < r
   pub above : (i : ℕ) → next ≤ i → i < length g → r ≤ get_or g i 0
 
-pub stands_next : (g : List ℕ) (next next' r : ℕ) (o : Option ℕ) → Stands g next r → ((i j : ℕ) → i < j → j < length g → get_or g i 0 < get_or g j 0)
+pub stands_next : (g : List ℕ) (next next' r : ℕ) (o : Option ℕ) → Stands g next r →
+    ((i j : ℕ) → i < j → j < length g → get_or g i 0 < get_or g j 0)
     → MatchOption o ((i : ℕ) → next ≤ i → i < length g → r < get_or g i 0) (λ i. (i ≡ next) × (next < length g) × (get_or g next 0 ≡ r))
     → (is_some o ≡ true → next' ≡ next + 1) → (is_some o ≡ false → next' ≡ next) → Stands g next' (r + 1)
 stands_next g next next' r None s rising m some none =

@@ -1,5 +1,6 @@
 -- How long blocks and lists in a row are.
-use Rattle.std.proofs.Common.{◌≡◌, ℕ, zero, suc, ◌+◌, ◌*◌, ◌/◌, ◌%◌, ◌<◌, ◌≤◌, Bool, true, false, cond, List, ◌∷◌, length, ap, sym, ◌∙◌, arith, div-add-mod'}
+use Rattle.std.proofs.Common.{◌≡◌, ℕ, zero, suc, ◌+◌, ◌*◌, ◌/◌, ◌%◌, ◌<◌, ◌≤◌, Bool, true, false, cond, List, ◌∷◌, length, ap, sym, ◌∙◌,
+    arith, div-add-mod'}
 use Rattle.std.specs.Prelude.{filter}
 use Rattle.std.specs.List.{flat_map}
 use Rattle.std.proofs.lemmas.List.{length-append}
@@ -19,7 +20,8 @@ parts n m e = let d = div-add-mod' n m in omega (arith, d, e)
 -- a block of n elements of w bytes in m blocks
 pub block_bytes : (n m w : ℕ) → 0 < m → n % m ≡ 0 → (n * w) / m ≡ (n / m) * w
 block_bytes n m w l e =
-    ap (λ v. v / m) (ap (λ v. v * w) (sym (parts n m e)) ∙ mul_assoc (n / m) m w ∙ ap (λ v. n / m * v) (mul_comm m w) ∙ sym (mul_assoc (n / m) w m))
+    ap (λ v. v / m) (ap (λ v. v * w) (sym (parts n m e)) ∙ mul_assoc (n / m) m w ∙ ap (λ v. n / m * v) (mul_comm m w)
+        ∙ sym (mul_assoc (n / m) w m))
     ∙ mul-div_cancel (n / m * w) l
 
 -- all of them
@@ -38,7 +40,8 @@ block_fits all m i l =
     omega (arith, most, within, swap, one)
 
 -- lists that are so long where a test passes, and empty elsewhere
-pub flat_long : (f : ℕ → List ℕ) (p : ℕ → Bool) (long k n : ℕ) → ((i : ℕ) → i < k + n → length (f i) ≡ cond (p i) long 0) → length (flat_map f (from_to k n)) ≡ length (filter p (from_to k n)) * long
+pub flat_long : (f : ℕ → List ℕ) (p : ℕ → Bool) (long k n : ℕ) → ((i : ℕ) → i < k + n → length (f i) ≡ cond (p i) long 0) →
+    length (flat_map f (from_to k n)) ≡ length (filter p (from_to k n)) * long
 flat_long f p long k zero h = omega arith
 flat_long f p long k (suc n) h =
     length-append (f k) (flat_map f (from_to (suc k) n))

@@ -1,5 +1,6 @@
 -- What is asked of A holds exactly where its test passes.
-use Rattle.std.proofs.Common.{◌≡◌, ℕ, zero, suc, ◌<◌, ◌%◌, Bool, true, false, List, [], ◌∷◌, length, get_or, refl, ◌∙◌, ap, cond, filter, arith, inl, inr}
+use Rattle.std.proofs.Common.{◌≡◌, ℕ, zero, suc, ◌<◌, ◌%◌, Bool, true, false, List, [], ◌∷◌, length, get_or, refl, ◌∙◌, ap, cond, filter,
+    arith, inl, inr}
 use Rattle.std.specs.Prelude.{◌&&◌, ◌||◌, ◌==◌, ◌⊎◌, count_by}
 use Rattle.std.specs.List.{list_all, list_any}
 use Rattle.std.proofs.lemmas.Bool.Decides.{nat_tests}
@@ -8,7 +9,8 @@ use Rattle.number_lists.specs.Members.{In}
 use Rattle.number_lists.specs.Numbers.{from_to}
 use Rattle.coll_shape.specs.declared.types.Buffer.{Buffer}
 use Rattle.coll_shape.specs.declared.types.CollStep.{CollStep}
-use Rattle.coll_shape.specs.Collectives.{Asked, Nothing, HeldAt, HeldAtInBlocks, HeldByAll, HeldByAllInBlocks, HeldBySome, is_in, has_blocks, has_what_is_asked, HasAsked, HasBlocks, AllHold, holding_places, asks_of, can_read, Reads}
+use Rattle.coll_shape.specs.Collectives.{Asked, Nothing, HeldAt, HeldAtInBlocks, HeldByAll, HeldByAllInBlocks, HeldBySome, is_in,
+    has_blocks, has_what_is_asked, HasAsked, HasBlocks, AllHold, holding_places, asks_of, can_read, Reads}
 
 either : (b c : Bool) → (b || c) ≡ true → (b ≡ true) ⊎ (c ≡ true)
 either true c e = inl refl
@@ -58,7 +60,8 @@ any_at : (p : ℕ → Bool) (g : List ℕ) → list_any p g ≡ true → (i : �
 any_at p [] e = cc
 any_at p (r ∷ rs) e = of (either (p r) (list_any p rs) e) (λ f. any_at p rs f)
   where
-    of : (p r ≡ true) ⊎ (list_any p rs ≡ true) → (list_any p rs ≡ true → (i : ℕ) × (i < length rs) × (p (get_or rs i 0) ≡ true)) → (i : ℕ) × (i < length (r ∷ rs)) × (p (get_or (r ∷ rs) i 0) ≡ true)
+    of : (p r ≡ true) ⊎ (list_any p rs ≡ true) → (list_any p rs ≡ true → (i : ℕ) × (i < length rs) × (p (get_or rs i 0) ≡ true)) →
+        (i : ℕ) × (i < length (r ∷ rs)) × (p (get_or (r ∷ rs) i 0) ≡ true)
     of (inl f) rest = (0, omega arith, f)
     of (inr f) rest = let h = rest f in let l = h.1 in (suc h.0, omega (arith, l), h.2)
 
@@ -96,9 +99,11 @@ has-asked g x HeldBySome e =
 pub asked-test : (g : List ℕ) (x : Buffer) (a : Asked) → HasAsked g x a → has_what_is_asked g x a ≡ true
 asked-test g x Nothing h = refl
 asked-test g x (HeldAt root) h = In-is_in (get_or g root 0) x.spread.holders h
-asked-test g x (HeldAtInBlocks root) h = and_true (is_in (get_or g root 0) x.spread.holders) (has_blocks g x) (In-is_in (get_or g root 0) x.spread.holders h.0) (blocks_test g x h.1)
+asked-test g x (HeldAtInBlocks root) h = and_true (is_in (get_or g root 0) x.spread.holders) (has_blocks g x)
+    (In-is_in (get_or g root 0) x.spread.holders h.0) (blocks_test g x h.1)
 asked-test g x HeldByAll h = all_test g x h
-asked-test g x HeldByAllInBlocks h = and_true (list_all (λ r. is_in r x.spread.holders) g) (has_blocks g x) (all_test g x h.0) (blocks_test g x h.1)
+asked-test g x HeldByAllInBlocks h = and_true (list_all (λ r. is_in r x.spread.holders) g) (has_blocks g x) (all_test g x h.0)
+    (blocks_test g x h.1)
 asked-test g x HeldBySome h = any_from (λ r. is_in r x.spread.holders) g h.0 h.1 (In-is_in (get_or g h.0 0) x.spread.holders h.2)
 
 -- a step can read A exactly where A is as it asks
@@ -112,7 +117,8 @@ can-reads g step x h = asked-test g x (asks_of step) h
 
 shifted : (f : ℕ → Bool) (k n : ℕ) → length (filter f (from_to (suc k) n)) ≡ length (filter (λ i. f (suc i)) (from_to k n))
 shifted f k zero = refl
-shifted f k (suc n) = one (f (suc k)) (filter f (from_to (suc (suc k)) n)) (filter (λ i. f (suc i)) (from_to (suc k) n)) (shifted f (suc k) n)
+shifted f k (suc n) = one (f (suc k)) (filter f (from_to (suc (suc k)) n)) (filter (λ i. f (suc i)) (from_to (suc k) n))
+    (shifted f (suc k) n)
   where
     one : (b : Bool) (xs ys : List ℕ) → length xs ≡ length ys → length (cond b (suc k ∷ xs) xs) ≡ length (cond b (k ∷ ys) ys)
     one true xs ys e = ap (λ v. suc v) e
@@ -121,7 +127,8 @@ shifted f k (suc n) = one (f (suc k)) (filter f (from_to (suc (suc k)) n)) (filt
 places_passed : (t : ℕ → Bool) (g : List ℕ) → length (filter (λ i. t (get_or g i 0)) (from_to 0 (length g))) ≡ length (filter t g)
 places_passed t [] = refl
 places_passed t (r ∷ rs) =
-    one (t r) (filter (λ i. t (get_or (r ∷ rs) i 0)) (from_to 1 (length rs))) (filter t rs) (shifted (λ i. t (get_or (r ∷ rs) i 0)) 0 (length rs) ∙ places_passed t rs)
+    one (t r) (filter (λ i. t (get_or (r ∷ rs) i 0)) (from_to 1 (length rs))) (filter t rs)
+        (shifted (λ i. t (get_or (r ∷ rs) i 0)) 0 (length rs) ∙ places_passed t rs)
   where
     one : (b : Bool) (xs ys : List ℕ) → length xs ≡ length ys → length (cond b (0 ∷ xs) xs) ≡ length (cond b (r ∷ ys) ys)
     one true xs ys e = ap (λ v. suc v) e

@@ -41,7 +41,8 @@ type_code U64 = 6
 type_code I64 = 7
 
 type_from : ℕ → ElemType
-type_from n = cond (n == 0) U8 (cond (n == 1) I8 (cond (n == 2) U16 (cond (n == 3) I16 (cond (n == 4) U32 (cond (n == 5) I32 (cond (n == 6) U64 I64))))))
+type_from n = cond (n == 0) U8 (cond (n == 1) I8 (cond (n == 2) U16
+    (cond (n == 3) I16 (cond (n == 4) U32 (cond (n == 5) I32 (cond (n == 6) U64 I64))))))
 
 type_back : (t : ElemType) → type_from (type_code t) ≡ t
 unfolding type_code type_from
@@ -92,7 +93,8 @@ step_whole o m g step h = record {
   members = ∥∥₁_elim h (members_prop o.ranks g) (λ f. f.members);
   root = ∥∥₁_elim h (place_prop (length g) (root_of step)) (λ f. f.root);
   source = ∥∥₁_elim h (hlevel lt_prop) (λ f. f.source);
-  reads = reads-can g step (read_buffer o (source_of step)) (∥∥₁_elim h (Bool-set _ _) (λ f. can-reads g step (read_buffer o (source_of step)) f.reads));
+  reads = reads-can g step (read_buffer o (source_of step)) (∥∥₁_elim h (Bool-set _ _)
+      (λ f. can-reads g step (read_buffer o (source_of step)) f.reads));
   next = ∥∥₁_elim h (hlevel number_set) (λ f. f.next);
   result = ∥∥₁_elim h (hlevel lt_prop) (λ f. f.result);
   makes = ∥∥₁_elim h (hlevel buffer_set) (λ f. f.makes);
@@ -120,12 +122,16 @@ kept p e h = whole (said p) (∥∥₁_map h (λ w. w.0))
 everyone_is : (p : Parts) (e : List ℕ) → ∥ IsWellFormed (said p) × (e ≡ from_to 0 p.ranks) ∥₁ → e ≡ from_to 0 p.ranks
 everyone_is p e h = ∥∥₁_elim h (numbers_set _ _) (λ w. w.1)
 
-pub same_members : (e e' : List ℕ) (gs gs' : List Group) (on on' : Option ℕ) → e ≡ e' → gs ≡ gs' → on ≡ on' → members_of e gs on ≡ members_of e' gs' on'
+pub same_members : (e e' : List ℕ) (gs gs' : List Group) (on on' : Option ℕ) → e ≡ e' → gs ≡ gs' → on ≡ on' →
+    members_of e gs on ≡ members_of e' gs' on'
 same_members e e' gs gs' on on' p q r = ap (λ v. members_of v gs on) p ∙ (ap (λ v. members_of e' v on) q ∙ ap (λ v. members_of e' gs' v) r)
 
-pub members-told : (p : Parts) (e : List ℕ) (o : Outline) (k : ℕ) → ∥ IsWellFormed (said p) × (e ≡ from_to 0 p.ranks) ∥₁ → said p ≡ o → members_of e p.groups.items (get_or p.on.items k None) ≡ group_at o k
-members-told p e o k h v = ap (λ w. members_of w p.groups.items (get_or p.on.items k None)) (everyone_is p e h) ∙ ap (λ (w : Outline). group_at w k) v
+pub members-told : (p : Parts) (e : List ℕ) (o : Outline) (k : ℕ) → ∥ IsWellFormed (said p) × (e ≡ from_to 0 p.ranks) ∥₁ → said p ≡ o →
+    members_of e p.groups.items (get_or p.on.items k None) ≡ group_at o k
+members-told p e o k h v = ap (λ w. members_of w p.groups.items (get_or p.on.items k None)) (everyone_is p e h)
+    ∙ ap (λ (w : Outline). group_at w k) v
 
 -- copies keep it too
-pub copy-keeps : (p q : Parts) (e f : List ℕ) → said q ≡ said p → f ≡ e → ∥ IsWellFormed (said p) × (e ≡ from_to 0 p.ranks) ∥₁ → ∥ IsWellFormed (said q) × (f ≡ from_to 0 q.ranks) ∥₁
+pub copy-keeps : (p q : Parts) (e f : List ℕ) → said q ≡ said p → f ≡ e → ∥ IsWellFormed (said p) × (e ≡ from_to 0 p.ranks) ∥₁ →
+    ∥ IsWellFormed (said q) × (f ≡ from_to 0 q.ranks) ∥₁
 copy-keeps p q e f s t h = ∥∥₁_map h (λ w. (subst IsWellFormed (sym s) w.0, t ∙ (w.1 ∙ ap (λ (o : Outline). from_to 0 o.ranks) (sym s))))

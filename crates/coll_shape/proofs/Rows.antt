@@ -1,5 +1,6 @@
 -- What stands in which row.
-use Rattle.std.proofs.Common.{◌≡◌, ℕ, zero, suc, ◌+◌, ◌-◌, ◌*◌, ◌<◌, ◌≤◌, List, [], ◌∷◌, ◌++◌, length, take, drop, get_or, refl, sym, ap, ◌∙◌, arith, length-drop}
+use Rattle.std.proofs.Common.{◌≡◌, ℕ, zero, suc, ◌+◌, ◌-◌, ◌*◌, ◌<◌, ◌≤◌, List, [], ◌∷◌, ◌++◌, length, take, drop, get_or, refl, sym, ap,
+    ◌∙◌, arith, length-drop}
 use Rattle.std.proofs.lemmas.List.{get_or-drop, get_or-take, take-append-drop, length-take-le}
 use Rattle.std.proofs.Math.Nat.{mul-le-mul_right}
 use Rattle.coll_shape.specs.Rows.{in_rows, joined}
@@ -23,17 +24,20 @@ row-long n zero i xs e l = absurd (omega arith)
 row-long n (suc m) zero xs e l = length-take-le n xs (more m n (length xs) e).0
 row-long n (suc m) (suc i) xs e l = row-long n m i (drop n xs) (length-drop n xs ∙ (more m n (length xs) e).1) (omega arith)
 
-pub row-at : {X : Type 0} (n m i r : ℕ) (xs : List X) (d : X) → i < m → r < n → get_or (get_or (in_rows n m xs) i []) r d ≡ get_or xs (i * n + r) d
+pub row-at : {X : Type 0} (n m i r : ℕ) (xs : List X) (d : X) → i < m → r < n → get_or (get_or (in_rows n m xs) i []) r d ≡ get_or xs
+    (i * n + r) d
 row-at n zero i r xs d l k = absurd (omega arith)
 row-at n (suc m) zero r xs d l k = get_or-take n xs r d k ∙ ap (λ v. get_or xs v d) (let z : r ≡ 0 * n + r = grind arith in z)
-row-at n (suc m) (suc i) r xs d l k = row-at n m i r (drop n xs) d (omega arith) k ∙ get_or-drop n xs (i * n + r) d ∙ ap (λ v. get_or xs v d) (let z : n + (i * n + r) ≡ suc i * n + r = grind arith in z)
+row-at n (suc m) (suc i) r xs d l k = row-at n m i r (drop n xs) d (omega arith) k ∙ get_or-drop n xs (i * n + r) d
+    ∙ ap (λ v. get_or xs v d) (let z : n + (i * n + r) ≡ suc i * n + r = grind arith in z)
 
 -- a place in the rows, as what the rows are says it
 pub record IsPlaceIn (n m i r : ℕ) : Type 0 where
   pub row : i < m
   pub place : r < n
 
-pub place-in : {X : Type 0} (n m i r : ℕ) (xs : List X) (v : List (List X)) → length xs ≡ m * n → in_rows n m xs ≡ v → i < length v → r < length (get_or v i []) → IsPlaceIn n m i r
+pub place-in : {X : Type 0} (n m i r : ℕ) (xs : List X) (v : List (List X)) → length xs ≡ m * n → in_rows n m xs ≡ v → i < length v →
+    r < length (get_or v i []) → IsPlaceIn n m i r
 place-in n m i r xs v e is l k =
     let a = ap length (sym is) ∙ rows-many n m xs in
     let row : i < m = omega (arith, a, l) in

@@ -1,5 +1,6 @@
 -- A data line, word by word.
-use Rattle.std.proofs.Common.{◌≡◌, ℕ, suc, ◌-◌, ◌<◌, List, [], ◌∷◌, ◌++◌, length, Option, Some, None, Result, Ok, Err, Bool, true, false, cond, eqb, ◌≢◌, ◌&&◌, not, refl, sym, ap, arith, append_assoc}
+use Rattle.std.proofs.Common.{◌≡◌, ℕ, suc, ◌-◌, ◌<◌, List, [], ◌∷◌, ◌++◌, length, Option, Some, None, Result, Ok, Err, Bool, true, false,
+    cond, eqb, ◌≢◌, ◌&&◌, not, refl, sym, ap, arith, append_assoc}
 use Rattle.std.proofs.lemmas.List.{append-nil}
 use Rattle.std.proofs.lemmas.Bool.Decides.{nat_tests}
 use Rattle.std.specs.Prelude.{option_map, ◌==◌, if◌then◌else◌}
@@ -27,34 +28,41 @@ pub begins : (ty : ElemType) (count : ℕ) (ws : List (List ℕ)) → data_line 
 unfolding data_line left_over
 begins ty count ws = ap (λ r. cond (length ws == count && not (list_any is_empty ws)) r (Err Malformed)) (none_before (all_values ty ws))
 
-joined : (out b : List ℕ) (o : Option (List ℕ)) → or_no_value (option_map (λ more. out ++ more) (option_map (λ more. b ++ more) o)) ≡ or_no_value (option_map (λ more. (out ++ b) ++ more) o)
+joined : (out b : List ℕ) (o : Option (List ℕ)) → or_no_value (option_map (λ more. out ++ more) (option_map (λ more. b ++ more) o))
+    ≡ or_no_value (option_map (λ more. (out ++ b) ++ more) o)
 joined out b None = refl
 joined out b (Some bytes) = ap (λ (l : List ℕ). Ok l) (sym (append_assoc out b bytes))
 
 one_less : (a left : ℕ) → 0 < left → eqb (suc a) left ≡ eqb a (left - 1)
 one_less a left lt = grind (arith, nat_tests)
 
-pub takes : (ty : ElemType) (left : ℕ) (bad : Bool) (out w : List ℕ) (ws : List (List ℕ)) (n : ℕ) → 0 < left → is_empty w ≡ false → value_of ty w ≡ Some n
+pub takes : (ty : ElemType) (left : ℕ) (bad : Bool) (out w : List ℕ) (ws : List (List ℕ)) (n : ℕ) → 0 < left → is_empty w ≡ false →
+    value_of ty w ≡ Some n
     → left_over ty left bad out (w ∷ ws) ≡ left_over ty (left - 1) bad (out ++ little_endian (bytes_of ty) n) ws
 unfolding left_over
 takes ty left bad out w ws n lt full value =
     rw (one_less (length ws) left lt, full, value)
-    (ap (λ r. cond (eqb (length ws) (left - 1) && not (list_any is_empty ws)) (cond bad (Err NoValue) r) (Err Malformed)) (joined out (little_endian (bytes_of ty) n) (all_values ty ws)))
+    (ap (λ r. cond (eqb (length ws) (left - 1) && not (list_any is_empty ws)) (cond bad (Err NoValue) r) (Err Malformed))
+        (joined out (little_endian (bytes_of ty) n) (all_values ty ws)))
 
 spoilt : (bad : Bool) (r : Result (List ℕ) Flaw) → cond bad r r ≡ r
 spoilt true r = refl
 spoilt false r = refl
 
-pub spoils : (ty : ElemType) (left : ℕ) (bad : Bool) (out w : List ℕ) (ws : List (List ℕ)) → 0 < left → is_empty w ≡ false → value_of ty w ≡ None
+pub spoils : (ty : ElemType) (left : ℕ) (bad : Bool) (out w : List ℕ) (ws : List (List ℕ)) → 0 < left → is_empty w ≡ false →
+    value_of ty w ≡ None
     → left_over ty left bad out (w ∷ ws) ≡ left_over ty (left - 1) true out ws
 unfolding left_over
 spoils ty left bad out w ws lt full none =
     rw (one_less (length ws) left lt, full, none)
     (ap (λ r. cond (eqb (length ws) (left - 1) && not (list_any is_empty ws)) r (Err Malformed)) (spoilt bad (Err NoValue)))
 
-pub stops_at_empty : (ty : ElemType) (left : ℕ) (bad : Bool) (out w : List ℕ) (ws : List (List ℕ)) → is_empty w ≡ true → left_over ty left bad out (w ∷ ws) ≡ Err Malformed
+pub stops_at_empty : (ty : ElemType) (left : ℕ) (bad : Bool) (out w : List ℕ) (ws : List (List ℕ)) → is_empty w ≡ true →
+    left_over ty left bad out (w ∷ ws) ≡ Err Malformed
 unfolding left_over
-stops_at_empty ty left bad out w ws empty = rw empty (elim (eqb (suc (length ws)) left) as (λ b. cond (b && false) (cond bad (Err NoValue) (or_no_value (option_map (λ more. out ++ more) (all_values ty (w ∷ ws))))) (Err Malformed) ≡ Err Malformed) [ true ↦ refl | false ↦ refl ])
+stops_at_empty ty left bad out w ws empty = rw empty (elim (eqb (suc (length ws)) left) as
+    (λ b. cond (b && false) (cond bad (Err NoValue) (or_no_value (option_map (λ more. out ++ more) (all_values ty (w ∷ ws)))))
+    (Err Malformed) ≡ Err Malformed) [ true ↦ refl | false ↦ refl ])
 
 pub stops_past_count : (ty : ElemType) (bad : Bool) (out w : List ℕ) (ws : List (List ℕ)) → left_over ty 0 bad out (w ∷ ws) ≡ Err Malformed
 unfolding left_over

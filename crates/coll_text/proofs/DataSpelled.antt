@@ -1,5 +1,6 @@
 -- A value and a data line have one spelling.
-use Rattle.std.proofs.Common.{◌≡◌, ℕ, zero, suc, ◌+◌, ◌-◌, ◌*◌, ◌/◌, ◌%◌, ◌<◌, ◌≤◌, ◌^◌, List, [], ◌∷◌, ◌++◌, length, take, drop, Option, Some, None, Ok, Err, Bool, true, false, cond, ◌&&◌, not, refl, sym, ap, ◌∙◌, arith, map, subst, length-append}
+use Rattle.std.proofs.Common.{◌≡◌, ℕ, zero, suc, ◌+◌, ◌-◌, ◌*◌, ◌/◌, ◌%◌, ◌<◌, ◌≤◌, ◌^◌, List, [], ◌∷◌, ◌++◌, length, take, drop, Option,
+    Some, None, Ok, Err, Bool, true, false, cond, ◌&&◌, not, refl, sym, ap, ◌∙◌, arith, map, subst, length-append}
 use Rattle.std.specs.Prelude.{option_map, nat_lt, nat_le, ◌==◌, All}
 use Rattle.std.specs.List.{list_any}
 use Rattle.std.specs.Fmt.{decimal}
@@ -66,7 +67,8 @@ negative_spelled ty w v signed h =
     let spelled : w ≡ decimal a.0 = number_spelled a.0 w (omega (arith, most, fits)) a.1.is in
     let test : nat_le (half ty) (span ty - a.0) ≡ true = is_le (half ty) (span ty - a.0) (omega (arith, most)) in
     ap (λ x. 45 ∷ x) (spelled ∙ ap decimal (sym (twice a.0 (span ty) most)))
-    ∙ sym (ap (λ t. cond t (45 ∷ decimal (span ty - (span ty - a.0))) (decimal (span ty - a.0))) (ap (λ s. s && nat_le (half ty) (span ty - a.0)) signed ∙ test))
+    ∙ sym (ap (λ t. cond t (45 ∷ decimal (span ty - (span ty - a.0))) (decimal (span ty - a.0)))
+        (ap (λ s. s && nat_le (half ty) (span ty - a.0)) signed ∙ test))
     ∙ ap (value_word ty) a.1.pattern_is
   where
     twice : (n s : ℕ) → n ≤ s / 2 → s - (s - n) ≡ n
@@ -80,19 +82,22 @@ unsigned_spelled ty w v h =
     let lt : a.0 < too_large ty = strictly a.0 (too_large ty) c.0 in
     go (is_signed ty) a.0 (span ty) (spans ty) lt (λ small. number_spelled a.0 w small a.1) ∙ ap (value_word ty) e
   where
-    go : (s : Bool) (n h : ℕ) → h ≤ 2 ^ 64 → n < cond s (h / 2) h → (n < 2 ^ 64 → w ≡ decimal n) → w ≡ cond (s && nat_le (h / 2) n) (45 ∷ decimal (h - n)) (decimal n)
+    go : (s : Bool) (n h : ℕ) → h ≤ 2 ^ 64 → n < cond s (h / 2) h → (n < 2 ^ 64 → w ≡ decimal n) →
+        w ≡ cond (s && nat_le (h / 2) n) (45 ∷ decimal (h - n)) (decimal n)
     go true n h fits lt f = f (omega (arith, fits, lt)) ∙ sym (ap (λ t. cond t (45 ∷ decimal (h - n)) (decimal n)) (not_le (h / 2) n lt))
     go false n h fits lt f = f (omega (arith, fits, lt))
 
 pub value_spelled : (ty : ElemType) (w : List ℕ) (v : ℕ) → value_of ty w ≡ Some v → w ≡ value_word ty v
 unfolding value_of
 value_spelled ty [] v h = cc
-value_spelled ty (b ∷ bs) v h = go (is_signed ty) (b == 45) (λ s. negative_spelled ty bs v s) (unsigned_spelled ty (b ∷ bs) v) (λ e. is_eq b e) refl h
+value_spelled ty (b ∷ bs) v h = go (is_signed ty) (b == 45) (λ s. negative_spelled ty bs v s) (unsigned_spelled ty (b ∷ bs) v)
+    (λ e. is_eq b e) refl h
   where
     is_eq : (b : ℕ) → b == 45 ≡ true → b ≡ 45
     is_eq b e = grind (arith, nat_tests)
 
-    go : (s t : Bool) → (is_signed ty ≡ true → negative_of ty bs ≡ Some v → 45 ∷ bs ≡ value_word ty v) → (unsigned_of ty (b ∷ bs) ≡ Some v → b ∷ bs ≡ value_word ty v) → (t ≡ true → b ≡ 45) → is_signed ty ≡ s
+    go : (s t : Bool) → (is_signed ty ≡ true → negative_of ty bs ≡ Some v → 45 ∷ bs ≡ value_word ty v) →
+        (unsigned_of ty (b ∷ bs) ≡ Some v → b ∷ bs ≡ value_word ty v) → (t ≡ true → b ≡ 45) → is_signed ty ≡ s
         → cond (s && t) (negative_of ty bs) (unsigned_of ty (b ∷ bs)) ≡ Some v → b ∷ bs ≡ value_word ty v
     go true true neg pos eq signed h = ap (λ c. c ∷ bs) (eq refl) ∙ neg signed h
     go true false neg pos eq signed h = pos h
@@ -146,7 +151,8 @@ pub record WordsSaid (ty : ElemType) (ws : List (List ℕ)) (bytes : List ℕ) :
 
 words_said : (ty : ElemType) (ws : List (List ℕ)) (bytes : List ℕ) → all_values ty ws ≡ Some bytes → WordsSaid ty ws bytes
 words_said ty [] bytes h =
-    subst (λ (b : List ℕ). WordsSaid ty [] b) (some_is [] bytes h) (record { spelled = refl; each = omega arith; small = All-nil (λ b. b < 256) })
+    subst (λ (b : List ℕ). WordsSaid ty [] b) (some_is [] bytes h)
+        (record { spelled = refl; each = omega arith; small = All-nil (λ b. b < 256) })
 words_said ty (w ∷ ws) bytes h =
     let size = bytes_of ty in
     let a = then (λ n. option_map (λ more. little_endian size n ++ more) (all_values ty ws)) (value_of ty w) bytes h in
@@ -154,12 +160,14 @@ words_said ty (w ∷ ws) bytes h =
     let tail = words_said ty ws m.0 m.1 in
     let len = length-little_endian size a.0 in
     let first : pattern (take size (little_endian size a.0 ++ m.0)) ≡ a.0 =
-    ap pattern (take_front size (little_endian size a.0) m.0 len) ∙ pattern-little size a.0 (subst (λ s. a.0 < s) (span-is ty) (value_small ty w a.0 a.1)) in
+    ap pattern (take_front size (little_endian size a.0) m.0 len)
+        ∙ pattern-little size a.0 (subst (λ s. a.0 < s) (span-is ty) (value_small ty w a.0 a.1)) in
     subst (λ (b : List ℕ). WordsSaid ty (w ∷ ws) b) m.2
     (record {
       spelled = ap (λ (x : List ℕ). x ∷ ws) (value_spelled ty w a.0 a.1 ∙ ap (value_word ty) (sym first))
           ∙ ap (λ (x : List (List ℕ)). value_word ty (pattern (take size (little_endian size a.0 ++ m.0))) ∷ x)
-          (tail.spelled ∙ ap (λ (b : List ℕ). map (value_word ty) (first_elements size (length ws) b)) (sym (drop_front size (little_endian size a.0) m.0 len)));
+          (tail.spelled ∙ ap (λ (b : List ℕ). map (value_word ty) (first_elements size (length ws) b))
+              (sym (drop_front size (little_endian size a.0) m.0 len)));
       each = longer (little_endian size a.0) m.0 size (length ws) len tail.each;
       small = All-append (λ b. b < 256) (little_endian size a.0) m.0 (bytes_small size a.0) tail.small;
     })
@@ -176,7 +184,8 @@ pub record DataSaid (ty : ElemType) (count : ℕ) (ws : List (List ℕ)) (bytes 
   pub each : length bytes ≡ count * bytes_of ty
   pub small : All (λ b. b < 256) bytes
 
-pub data_said : (ty : ElemType) (count : ℕ) (ws : List (List ℕ)) (bytes : List ℕ) → data_line ty count ws ≡ Ok bytes → DataSaid ty count ws bytes
+pub data_said : (ty : ElemType) (count : ℕ) (ws : List (List ℕ)) (bytes : List ℕ) → data_line ty count ws ≡ Ok bytes →
+    DataSaid ty count ws bytes
 unfolding data_line elements
 data_said ty count ws bytes h =
     let p = picked (length ws == count && not (list_any is_empty ws)) (all_values ty ws) bytes h in
@@ -184,7 +193,8 @@ data_said ty count ws bytes h =
     let n : length ws ≡ count = is_eq (length ws) count q.0 in
     let s = words_said ty ws bytes p.1 in
     record {
-      spelled = s.spelled ∙ ap (λ n. map (value_word ty) (first_elements (bytes_of ty) n bytes)) (sym (whole_elements ty (length ws) (length bytes) s.each));
+      spelled = s.spelled ∙ ap (λ n. map (value_word ty) (first_elements (bytes_of ty) n bytes))
+          (sym (whole_elements ty (length ws) (length bytes) s.each));
       each = s.each ∙ ap (λ n. n * bytes_of ty) n;
       small = s.small;
     }
@@ -192,7 +202,8 @@ data_said ty count ws bytes h =
     is_eq : (a b : ℕ) → a == b ≡ true → a ≡ b
     is_eq a b e = grind (arith, nat_tests)
 
-    picked : (b : Bool) (o : Option (List ℕ)) (bytes : List ℕ) → cond b (or_no_value o) (Err Malformed) ≡ Ok bytes → (b ≡ true) × (o ≡ Some bytes)
+    picked : (b : Bool) (o : Option (List ℕ)) (bytes : List ℕ) → cond b (or_no_value o) (Err Malformed) ≡ Ok bytes → (b ≡ true) ×
+        (o ≡ Some bytes)
     picked true None bytes h = cc
     picked true (Some x) bytes h = (refl, ap (λ (x : List ℕ). Some x) (ok_is x bytes h))
       where

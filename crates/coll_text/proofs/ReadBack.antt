@@ -1,5 +1,6 @@
 -- What is written is read back: numbers, words parted by spaces, and lines of values.
-use Rattle.std.proofs.Common.{◌≡◌, ℕ, zero, suc, ◌<◌, ◌≤◌, ◌^◌, ◌/◌, List, [], ◌∷◌, ◌++◌, length, get_or, Some, None, Ok, Err, Bool, true, false, cond, ◌&&◌, not, refl, ap, ◌∙◌, arith, map}
+use Rattle.std.proofs.Common.{◌≡◌, ℕ, zero, suc, ◌<◌, ◌≤◌, ◌^◌, ◌/◌, List, [], ◌∷◌, ◌++◌, length, get_or, Some, None, Ok, Err, Bool, true,
+    false, cond, ◌&&◌, not, refl, ap, ◌∙◌, arith, map}
 use Rattle.std.specs.Prelude.{nat_lt, ◌==◌, All, option_and_then}
 use Rattle.std.specs.List.{list_all, list_any, join_with_byte, AllByRecursion}
 use Rattle.std.specs.Fmt.{decimal}
@@ -22,7 +23,8 @@ pub passes_too : (p q : ℕ → Bool) (w : List ℕ) → ((b : ℕ) → p b ≡ 
 passes_too p q w f h = let all = AllPass-from_list_all p w h in list_all-from_AllPass q w (λ k d lt. f _ (all k d lt))
 
 -- where the bytes pass, none of them is the separator
-pub none_is : (p : ℕ → Bool) (c : ℕ) (w : List ℕ) → ((b : ℕ) → p b ≡ true → b == c ≡ false) → list_all p w ≡ true → All (λ b. b == c ≡ false) w
+pub none_is : (p : ℕ → Bool) (c : ℕ) (w : List ℕ) → ((b : ℕ) → p b ≡ true → b == c ≡ false) → list_all p w ≡ true →
+    All (λ b. b == c ≡ false) w
 none_is p c w f h = let all = AllPass-from_list_all p w h in λ k d lt. f _ (all k d lt)
 
 pub digits_are : (n : ℕ) → n < 2 ^ 64 → list_all is_digit (decimal n) ≡ true
@@ -47,24 +49,29 @@ no_zero_first (suc n) small more = first_decimal (suc n) (omega arith) small
 -- a number's decimal digits are read as it
 pub number_read : (n : ℕ) → n < 2 ^ 64 → number_of (decimal n) ≡ Some n
 number_read n small =
-    let number : is_number (decimal n) ≡ true = is_one (decimal n) (digits_are n small) (decimal_nonempty n small) (no_zero_first n small) in
+    let number : is_number (decimal n) ≡ true = is_one (decimal n) (digits_are n small) (decimal_nonempty n small) (no_zero_first n small)
+          in
     let value : with_digits 0 (decimal n) ≡ n = digits_value-decimal numerals n small in
     rw (number, value) refl
 
 -- words parted by one space are cut into them
-pub words_of_joined : (w : List ℕ) (ws : List (List ℕ)) → AllByRecursion (λ w. All (λ b. b == 32 ≡ false) w) (w ∷ ws) → words (join_with_byte 32 (w ∷ ws)) ≡ w ∷ ws
+pub words_of_joined : (w : List ℕ) (ws : List (List ℕ)) → AllByRecursion (λ w. All (λ b. b == 32 ≡ false) w) (w ∷ ws) →
+    words (join_with_byte 32 (w ∷ ws)) ≡ w ∷ ws
 words_of_joined w [] h = slice_split_none (λ b. b == 32) w h.0
-words_of_joined w (v ∷ ws) h = slice_split_at (λ b. b == 32) w 32 (join_with_byte 32 (v ∷ ws)) h.0 refl ∙ ap (λ (x : List (List ℕ)). w ∷ x) (words_of_joined v ws h.1)
+words_of_joined w (v ∷ ws) h = slice_split_at (λ b. b == 32) w 32 (join_with_byte 32 (v ∷ ws)) h.0 refl
+    ∙ ap (λ (x : List (List ℕ)). w ∷ x) (words_of_joined v ws h.1)
 
 -- a line and LF are cut off
 pub line_of : (l rest : List ℕ) → All (λ b. b == 10 ≡ false) l → lines (l ++ 10 ∷ rest) ≡ l ∷ lines rest
 line_of l rest h = slice_split_at (λ b. b == 10) l 10 rest h refl
 
 -- what passes in each word, and at the separator, passes in all bytes
-pub joined_passes : (p : ℕ → Bool) (c : ℕ) (ws : List (List ℕ)) → p c ≡ true → AllByRecursion (λ w. list_all p w ≡ true) ws → list_all p (join_with_byte c ws) ≡ true
+pub joined_passes : (p : ℕ → Bool) (c : ℕ) (ws : List (List ℕ)) → p c ≡ true → AllByRecursion (λ w. list_all p w ≡ true) ws →
+    list_all p (join_with_byte c ws) ≡ true
 joined_passes p c [] at h = refl
 joined_passes p c (w ∷ []) at h = h.0
-joined_passes p c (w ∷ v ∷ ws) at h = list_all-append p w (c ∷ join_with_byte c (v ∷ ws)) ∙ rw (h.0, at, joined_passes p c (v ∷ ws) at h.1) refl
+joined_passes p c (w ∷ v ∷ ws) at h = list_all-append p w (c ∷ join_with_byte c (v ∷ ws))
+    ∙ rw (h.0, at, joined_passes p c (v ∷ ws) at h.1) refl
 
 -- a value without a sign
 small_enough : (ty : ElemType) (n : ℕ) → n < too_large ty → n < 2 ^ 64
@@ -81,13 +88,15 @@ no_sign true b h = not_minus b h
     not_minus b h = grind (arith, nat_tests)
 no_sign false b h = refl
 
-pub unsigned_read : (ty : ElemType) (w : List ℕ) (n : ℕ) → list_all is_digit w ≡ true → number_of w ≡ Some n → n < too_large ty → value_of ty w ≡ Some n
+pub unsigned_read : (ty : ElemType) (w : List ℕ) (n : ℕ) → list_all is_digit w ≡ true → number_of w ≡ Some n → n < too_large ty →
+    value_of ty w ≡ Some n
 unfolding value_of
 unsigned_read ty [] n digits is lt = cc
 unsigned_read ty (b ∷ bs) n digits is lt =
     let p = both (is_digit b) (list_all is_digit bs) digits in
     let below : nat_lt n (too_large ty) ≡ true = test n (too_large ty) lt in
-    rw (no_sign (is_signed ty) b p.0) (ap (option_and_then (λ n. cond (nat_lt n (too_large ty)) (Some n) None)) is ∙ ap (λ t. cond t (Some n) None) below)
+    rw (no_sign (is_signed ty) b p.0) (ap (option_and_then (λ n. cond (nat_lt n (too_large ty)) (Some n) None)) is
+        ∙ ap (λ t. cond t (Some n) None) below)
   where
     test : (a b : ℕ) → a < b → nat_lt a b ≡ true
     test a b lt = grind (arith, nat_tests)
@@ -95,7 +104,8 @@ unsigned_read ty (b ∷ bs) n digits is lt =
 pub value_read : (ty : ElemType) (n : ℕ) → n < too_large ty → value_of ty (decimal n) ≡ Some n
 value_read ty n lt = let small = small_enough ty n lt in unsigned_read ty (decimal n) n (digits_are n small) (number_read n small) lt
 
-values_read : (ty : ElemType) (vs : List ℕ) → AllByRecursion (λ v. v < too_large ty) vs → all_values ty (map decimal vs) ≡ Some (bytes_of_list ty vs)
+values_read : (ty : ElemType) (vs : List ℕ) → AllByRecursion (λ v. v < too_large ty) vs →
+    all_values ty (map decimal vs) ≡ Some (bytes_of_list ty vs)
 values_read ty [] h = refl
 values_read ty (v ∷ vs) h = rw (value_read ty v h.0, values_read ty vs h.1) refl
 
@@ -130,10 +140,12 @@ unfolding data_line
 values_line_read ty v vs h =
     let small = all_small ty (v ∷ vs) h in
     ap (data_line ty (length (v ∷ vs))) (words_of_joined (decimal v) (map decimal vs) (spaceless (v ∷ vs) small))
-    ∙ picked (length (map decimal (v ∷ vs)) == length (v ∷ vs)) (list_any is_empty (map decimal (v ∷ vs))) (same (length (map decimal (v ∷ vs))) (length (v ∷ vs)) (as_many (v ∷ vs))) (none_empty (v ∷ vs) small)
+    ∙ picked (length (map decimal (v ∷ vs)) == length (v ∷ vs)) (list_any is_empty (map decimal (v ∷ vs)))
+        (same (length (map decimal (v ∷ vs))) (length (v ∷ vs)) (as_many (v ∷ vs))) (none_empty (v ∷ vs) small)
   where
     same : (a b : ℕ) → a ≡ b → a == b ≡ true
     same a b e = grind (arith, nat_tests)
 
-    picked : (b c : Bool) → b ≡ true → c ≡ false → cond (b && not c) (or_no_value (all_values ty (map decimal (v ∷ vs)))) (Err Malformed) ≡ Ok (bytes_of_list ty (v ∷ vs))
+    picked : (b c : Bool) → b ≡ true → c ≡ false → cond (b && not c) (or_no_value (all_values ty (map decimal (v ∷ vs)))) (Err Malformed)
+        ≡ Ok (bytes_of_list ty (v ∷ vs))
     picked b c eb ec = rw (eb, ec) (ap or_no_value (values_read ty (v ∷ vs) h))

@@ -14,7 +14,8 @@ use Rattle.ni_model.specs.Tables.{Live, Table, lookup}
 use Rattle.ni_model.specs.Answers.{bound_at}
 use Rattle.ni_model.specs.declared.Bound.{Bound}
 
-pub lookup_has : {A : Type 0} (P : A → Type 0) (h : Handle) (xs : List (Live A)) (v : A) → All (λ x. P x.value) xs → lookup h xs ≡ Some v → P v
+pub lookup_has : {A : Type 0} (P : A → Type 0) (h : Handle) (xs : List (Live A)) (v : A) → All (λ x. P x.value) xs →
+    lookup h xs ≡ Some v → P v
 lookup_has P h [] v all e = cc
 lookup_has P h (x ∷ xs) v all e =
     elim (same_handle x.handle h) as (λ b. (if b then Some x.value else lookup h xs) ≡ Some v → P v) [
@@ -22,12 +23,14 @@ lookup_has P h (x ∷ xs) v all e =
       | false ↦ λ is. lookup_has P h xs v (All-tail (λ x. P x.value) x xs all) is
     ] e
 
-pub bound_has : (P : Bound → Type 0) (h : Option Handle) (mds : Table Bound) (v : Bound) → All (λ x. P x.value) mds.live → bound_at h mds ≡ Some v → P v
+pub bound_has : (P : Bound → Type 0) (h : Option Handle) (mds : Table Bound) (v : Bound) → All (λ x. P x.value) mds.live →
+    bound_at h mds ≡ Some v → P v
 bound_has P None mds v all e = cc
 bound_has P (Some h) mds v all e = lookup_has P h mds.live v all e
 
 -- the part that put arguments name lies in the region
-pub part-fits : (n : ℕ) (a : PutArgs) (mds : Table Bound) (b : Bound) → AreBoundIn n mds → put_fits a mds ≡ true → lookup a.md mds.live ≡ Some b → b.md.start + a.local_offset + a.length ≤ n
+pub part-fits : (n : ℕ) (a : PutArgs) (mds : Table Bound) (b : Bound) → AreBoundIn n mds → put_fits a mds ≡ true →
+    lookup a.md mds.live ≡ Some b → b.md.start + a.local_offset + a.length ≤ n
 part-fits n a mds b all fits e =
     let P : Option Bound → Type 0 = λ o. holds_part o a.local_offset a.length ≡ true in
     let fit : nat_le (a.local_offset + a.length) b.md.length ≡ true = subst P e fits in

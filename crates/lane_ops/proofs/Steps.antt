@@ -25,7 +25,8 @@ drop-written at n bs xs le e =
     ∙ drop_at (take at xs ++ bs) (drop (at + length bs) xs) n (omega (arith, e, length-append (take at xs) bs, length-take-le at xs le))
     ∙ ap (λ m. drop m xs) (sym e)
 
-pub fills : (w x i n : ℕ) (xs : List ℕ) → i < n → n * w ≤ length xs → take (i * w) xs ++ repeated w (n - i) x ≡ take ((i + 1) * w) (written (i * w) (little_endian w x) xs) ++ repeated w (n - (i + 1)) x
+pub fills : (w x i n : ℕ) (xs : List ℕ) → i < n → n * w ≤ length xs → take (i * w) xs ++ repeated w (n - i) x ≡ take ((i + 1) * w)
+    (written (i * w) (little_endian w x) xs) ++ repeated w (n - (i + 1)) x
 fills w x i n xs lt fits =
     let more : n - i ≡ suc (n - (i + 1)) = omega (arith, lt) in
     let in_range : i * w ≤ length xs = omega (arith, within i n w lt, fits) in
@@ -33,12 +34,16 @@ fills w x i n xs lt fits =
     rw (more, take-written (i * w) ((i + 1) * w) (little_endian w x) xs in_range end)
     (sym (append_assoc (take (i * w) xs) (little_endian w x) (repeated w (n - (i + 1)) x)))
 
-pub combines : (f : ℕ → ℕ → ℕ) (w i n : ℕ) (xs ys : List ℕ) → i < n → n * w ≤ length xs → take (i * w) xs ++ by_element f w (n - i) (drop (i * w) xs) (drop (i * w) ys) ≡ take ((i + 1) * w) (combined_at f w i xs ys) ++ by_element f w (n - (i + 1)) (drop ((i + 1) * w) (combined_at f w i xs ys)) (drop ((i + 1) * w) ys)
+pub combines : (f : ℕ → ℕ → ℕ) (w i n : ℕ) (xs ys : List ℕ) → i < n → n * w ≤ length xs →
+    take (i * w) xs ++ by_element f w (n - i) (drop (i * w) xs) (drop (i * w) ys) ≡ take ((i + 1) * w) (combined_at f w i xs ys) ++
+    by_element f w (n - (i + 1)) (drop ((i + 1) * w) (combined_at f w i xs ys)) (drop ((i + 1) * w) ys)
 combines f w i n xs ys lt fits =
     let bs : List ℕ = little_endian w (f (pattern (part (i * w) w xs)) (pattern (part (i * w) w ys))) in
     let more : n - i ≡ suc (n - (i + 1)) = omega (arith, lt) in
     let in_range : i * w ≤ length xs = omega (arith, within i n w lt, fits) in
-    let end : (i + 1) * w ≡ i * w + length bs = omega (arith, next i w, length-little_endian w (f (pattern (part (i * w) w xs)) (pattern (part (i * w) w ys)))) in
-    let on : (zs : List ℕ) → drop w (drop (i * w) zs) ≡ drop ((i + 1) * w) zs = λ zs. drop-drop w (i * w) zs ∙ ap (λ m. drop m zs) (sym (next i w)) in
+    let end : (i + 1) * w ≡ i * w + length bs = omega (arith, next i w,
+          length-little_endian w (f (pattern (part (i * w) w xs)) (pattern (part (i * w) w ys)))) in
+    let on : (zs : List ℕ) → drop w (drop (i * w) zs) ≡ drop ((i + 1) * w) zs = λ zs. drop-drop w (i * w) zs
+          ∙ ap (λ m. drop m zs) (sym (next i w)) in
     rw (more, take-written (i * w) ((i + 1) * w) bs xs in_range end, drop-written (i * w) ((i + 1) * w) bs xs in_range end, on xs, on ys)
     (sym (append_assoc (take (i * w) xs) bs (by_element f w (n - (i + 1)) (drop ((i + 1) * w) xs) (drop ((i + 1) * w) ys))))

@@ -1,5 +1,6 @@
 -- Buckets lie below their number, and an entry that takes a message is on one of the threads of its match bits.
-use Rattle.std.proofs.Common.{◌≡◌, ℕ, zero, suc, ◌+◌, ◌-◌, ◌*◌, ◌/◌, ◌%◌, ◌^◌, ◌<◌, ◌≤◌, Bool, true, false, cond, nat_eq, nat_lt, ◌||◌, bit_and, bit_xor, refl, sym, ap, subst, ◌∙◌, inl, inr, ◌⊎◌, arith}
+use Rattle.std.proofs.Common.{◌≡◌, ℕ, zero, suc, ◌+◌, ◌-◌, ◌*◌, ◌/◌, ◌%◌, ◌^◌, ◌<◌, ◌≤◌, Bool, true, false, cond, nat_eq, nat_lt, ◌||◌,
+    bit_and, bit_xor, refl, sym, ap, subst, ◌∙◌, inl, inr, ◌⊎◌, arith}
 use Rattle.std.proofs.lemmas.Bool.{eq-eqb, ne_eqb, eqb-true, and_parts, lt-ltb, le-ltb}
 use Rattle.std.proofs.lemmas.Bool.Decides.{eqb_tells, leb_tells}
 use Rattle.std.proofs.lemmas.Nat.{and_mask, xor_mod, mul-mod_first, div_below, mul-le, and_assoc, and_xor_apart}
@@ -9,7 +10,8 @@ use Rattle.ptl_types.specs.declared.headers.Header.{Header}
 use Rattle.ptl_types.specs.Matching.{bits_match, is_match}
 use Rattle.ni_model.specs.declared.Linked.{Linked}
 use Rattle.ni_model.specs.Lists.{fits}
-use Rattle.match_lists.specs.Buckets.{bucket_of, buckets_of, thread_of, whole_thread, upper_48, upper_24, upper_48_thread, upper_24_thread, last_thread, is_one, may_take}
+use Rattle.match_lists.specs.Buckets.{bucket_of, buckets_of, thread_of, whole_thread, upper_48, upper_24, upper_48_thread, upper_24_thread,
+    last_thread, is_one, may_take}
 
 -- the upper half of a product of 64 bits
 pub half_below : (n : ℕ) → n % 2 ^ 64 / 2 ^ 32 < 2 ^ 32
@@ -30,7 +32,8 @@ bucket-le (suc n) bits = let lt = bucket-lt (suc n) bits (omega arith) in omega 
 
 -- bits that match are the same, as far as 64 bits go
 xor-same : (a b : ℕ) → bit_xor a b ≡ 0 → a ≡ b
-xor-same a b e = sym (xor_zero_r a) ∙ ap (λ n. bit_xor a n) (sym e) ∙ sym (xor_assoc a a b) ∙ ap (λ n. bit_xor n b) (xor_self a) ∙ xor_zero_l b
+xor-same a b e = sym (xor_zero_r a) ∙ ap (λ n. bit_xor a n) (sym e) ∙ sym (xor_assoc a a b) ∙ ap (λ n. bit_xor n b) (xor_self a)
+    ∙ xor_zero_l b
 
 match-same : (a b : ℕ) → bits_match 0 a b ≡ true → a % 2 ^ 64 ≡ b % 2 ^ 64
 match-same a b e =
@@ -40,14 +43,17 @@ match-same a b e =
 bucket-same : (buckets a b : ℕ) → a % 2 ^ 64 ≡ b % 2 ^ 64 → bucket_of buckets a ≡ bucket_of buckets b
 unfolding bucket_of
 bucket-same buckets a b e =
-    ap (λ n. n / 2 ^ 32 * buckets / 2 ^ 32) (sym (mul-mod_first a 0x9E3779B97F4A7C15 (2 ^ 64)) ∙ ap (λ n. (n * 0x9E3779B97F4A7C15) % 2 ^ 64) e ∙ mul-mod_first b 0x9E3779B97F4A7C15 (2 ^ 64))
+    ap (λ n. n / 2 ^ 32 * buckets / 2 ^ 32) (sym (mul-mod_first a 0x9E3779B97F4A7C15 (2 ^ 64))
+        ∙ ap (λ n. (n * 0x9E3779B97F4A7C15) % 2 ^ 64) e ∙ mul-mod_first b 0x9E3779B97F4A7C15 (2 ^ 64))
 
 -- bits that match are the same under a mask of bits that aren't ignored
-masked-same : (mask ignored a b : ℕ) → bit_and (2 ^ 64 - 1 - ignored) mask ≡ mask → bits_match ignored a b ≡ true → bit_and a mask ≡ bit_and b mask
+masked-same : (mask ignored a b : ℕ) → bit_and (2 ^ 64 - 1 - ignored) mask ≡ mask → bits_match ignored a b ≡ true →
+    bit_and a mask ≡ bit_and b mask
 masked-same mask ignored a b seen e =
     let none : bit_and (bit_xor a b) (2 ^ 64 - 1 - ignored) ≡ 0 = eqb-true (bit_and (bit_xor a b) (2 ^ 64 - 1 - ignored)) 0 e in
     let off : bit_and (bit_xor a b) mask ≡ 0 =
-    ap (λ m. bit_and (bit_xor a b) m) (sym seen) ∙ sym (and_assoc mask (bit_xor a b) (2 ^ 64 - 1 - ignored)) ∙ ap (λ n. bit_and n mask) none in
+    ap (λ m. bit_and (bit_xor a b) m) (sym seen) ∙ sym (and_assoc mask (bit_xor a b) (2 ^ 64 - 1 - ignored))
+        ∙ ap (λ n. bit_and n mask) none in
     let other : bit_xor a (bit_xor a b) ≡ b = sym (xor_assoc a a b) ∙ ap (λ n. bit_xor n b) (xor_self a) ∙ xor_zero_l b in
     sym (and_xor_apart mask a (bit_xor a b) off) ∙ ap (λ n. bit_and n mask) other
 
@@ -80,7 +86,8 @@ is-first : (t a b c d : ℕ) → t ≡ a → is_one t a b c d ≡ true
 is-first t a b c d e = let q = eq-eqb t a e in rw q refl
 
 is-second : (t a b c d : ℕ) → t ≡ b → is_one t a b c d ≡ true
-is-second t a b c d e = let q = eq-eqb t b e in rw q (elim (nat_eq t a) as (λ z. ((z || true) || (nat_eq t c || nat_eq t d)) ≡ true) [ true ↦ refl | false ↦ refl ])
+is-second t a b c d e = let q = eq-eqb t b e in rw q (elim (nat_eq t a) as (λ z. ((z || true) || (nat_eq t c || nat_eq t d)) ≡ true)
+    [ true ↦ refl | false ↦ refl ])
 
 or-true : (z : Bool) → (z || true) ≡ true
 or-true true = refl
@@ -90,7 +97,8 @@ is-third : (t a b c d : ℕ) → t ≡ c → is_one t a b c d ≡ true
 is-third t a b c d e = let q = eq-eqb t c e in rw q (or-true (nat_eq t a || nat_eq t b))
 
 is-fourth : (t a b c d : ℕ) → t ≡ d → is_one t a b c d ≡ true
-is-fourth t a b c d e = let q = eq-eqb t d e in rw q (ap (λ z. (nat_eq t a || nat_eq t b) || z) (or-true (nat_eq t c)) ∙ or-true (nat_eq t a || nat_eq t b))
+is-fourth t a b c d e = let q = eq-eqb t d e in rw q (ap (λ z. (nat_eq t a || nat_eq t b) || z) (or-true (nat_eq t c))
+    ∙ or-true (nat_eq t a || nat_eq t b))
 
 -- an entry that takes a message is on one of the threads of its match bits
 pub thread-takes : (limit : ℕ) (h : Header) (x : Linked) → fits h x ≡ true → may_take limit h.match_bits x ≡ true
@@ -108,7 +116,9 @@ thread-takes limit h x f =
     elim (eqb_tells ignored 0) [
       | inl z ↦
           let same = match-same h.match_bits m (subst (λ i. bits_match i h.match_bits m ≡ true) z.1 bits) in
-          let at : t ≡ whole = ap (λ b. cond b (whole_thread limit m) (cond (nat_lt ignored (2 ^ 16)) (upper_48_thread limit m) (cond (nat_lt ignored (2 ^ 40)) (upper_24_thread limit m) last))) z.0
+          let at : t ≡ whole = ap (λ b. cond b (whole_thread limit m)
+                (cond (nat_lt ignored (2 ^ 16)) (upper_48_thread limit m)
+                (cond (nat_lt ignored (2 ^ 40)) (upper_24_thread limit m) last))) z.0
           ∙ sym (bucket-same n h.match_bits m same) in
           is-first t whole by_48 by_24 last at
       | inr p ↦ elim (lt_tells ignored (2 ^ 16)) [
@@ -132,7 +142,8 @@ abbrev pub num : Bool → ℕ
 num b = cond b 1 0
 
 -- of four that differ it is at most one
-one-of-four : (t a b c d : ℕ) → a < b → b < c → c < d → num (nat_eq t a) + num (nat_eq t b) + (num (nat_eq t c) + num (nat_eq t d)) ≤ num (is_one t a b c d)
+one-of-four : (t a b c d : ℕ) → a < b → b < c → c < d → num (nat_eq t a) + num (nat_eq t b) + (num (nat_eq t c) + num (nat_eq t d)) ≤ num
+    (is_one t a b c d)
 one-of-four t a b c d ab bc cd = elim (eqb_tells t a) [
   | inl e ↦
       let nb = ne_eqb t b (λ s. omega (arith, e.1)) in
@@ -151,7 +162,8 @@ one-of-four t a b c d ab bc cd = elim (eqb_tells t a) [
 
 pub thread-counts : (limit bits : ℕ) (x : Linked)
     → num (nat_eq (thread_of limit x) (whole_thread limit bits)) + num (nat_eq (thread_of limit x) (upper_48_thread limit bits))
-    + (num (nat_eq (thread_of limit x) (upper_24_thread limit bits)) + num (nat_eq (thread_of limit x) (last_thread limit))) ≤ num (may_take limit bits x)
+    + (num (nat_eq (thread_of limit x) (upper_24_thread limit bits)) + num (nat_eq (thread_of limit x) (last_thread limit))) ≤ num
+        (may_take limit bits x)
 thread-counts limit bits x =
     let n = buckets_of limit in
     let some : 0 < n = omega arith in

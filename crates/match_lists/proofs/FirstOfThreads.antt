@@ -1,5 +1,6 @@
 -- The first entry of a list that takes a message is the earliest one of the firsts of its threads.
-use Rattle.std.proofs.Common.{◌≡◌, ℕ, ◌+◌, ◌<◌, ◌≤◌, Bool, true, false, ◌||◌, nat_eq, nat_lt, List, [], ◌∷◌, filter, find, count_by, length, Option, Some, None, refl, sym, ap, ◌∙◌, inl, inr, arith}
+use Rattle.std.proofs.Common.{◌≡◌, ℕ, ◌+◌, ◌<◌, ◌≤◌, Bool, true, false, ◌||◌, nat_eq, nat_lt, List, [], ◌∷◌, filter, find, count_by, length,
+    Option, Some, None, refl, sym, ap, ◌∙◌, inl, inr, arith}
 use Rattle.std.proofs.lemmas.Bool.{cases_Bool, lt-ltb, le-ltb}
 use Rattle.std.proofs.lemmas.List.Sums.{length-filter, sum_by-cons}
 use Rattle.ptl_types.specs.declared.headers.Header.{Header}
@@ -9,7 +10,8 @@ use Rattle.chain_list.proofs.KeyLemmas.{same_key-apart, value-here}
 use Rattle.ni_model.specs.declared.Linked.{Linked}
 use Rattle.ni_model.specs.Lists.{fits}
 use Rattle.match_lists.specs.Lists.{values}
-use Rattle.match_lists.specs.Buckets.{thread_of, on_thread, whole_thread, upper_48_thread, upper_24_thread, last_thread, may_take, candidates_in}
+use Rattle.match_lists.specs.Buckets.{thread_of, on_thread, whole_thread, upper_48_thread, upper_24_thread, last_thread, may_take,
+    candidates_in}
 use Rattle.match_lists.specs.Indexed.{takes, Later, Rising, key_of, earlier_of, first_on, first_of_threads, on_threads}
 use Rattle.match_lists.proofs.BucketLemmas.{num, thread-takes, thread-counts}
 
@@ -22,7 +24,8 @@ find-pass p x xs e = rw e
 -- ---- later entries have later keys
 Later-filter : (q : Keyed Linked → Bool) (s : ℕ) (xs : List (Keyed Linked)) → Later s xs → Later s (filter q xs)
 Later-filter q s [] l = tt
-Later-filter q s (x ∷ xs) l = elim (cases_Bool (q x)) [ inl e ↦ rw e (l.0, Later-filter q s xs l.1) | inr e ↦ rw e (Later-filter q s xs l.1) ]
+Later-filter q s (x ∷ xs) l = elim (cases_Bool (q x)) [ inl e ↦ rw e (l.0, Later-filter q s xs l.1) | inr e ↦ rw e
+    (Later-filter q s xs l.1) ]
 
 -- the key of the first that passes, where it is after a stamp
 abbrev IsAfter : ℕ → Option ChainKey → Type 0
@@ -45,7 +48,8 @@ earlier-same : (k : ChainKey) → Some k ≡ earlier_of (Some k) (Some k)
 earlier-same k = let e : nat_lt k.stamp k.stamp ≡ false = le-ltb k.stamp k.stamp (omega arith) in rw e
 
 -- ---- the first of the list is that of the part in which all that pass lie
-find-covered : (p c : Keyed Linked → Bool) → ((x : Keyed Linked) → p x ≡ true → c x ≡ true) → (xs : List (Keyed Linked)) → find p xs ≡ find p (filter c xs)
+find-covered : (p c : Keyed Linked → Bool) → ((x : Keyed Linked) → p x ≡ true → c x ≡ true) → (xs : List (Keyed Linked)) →
+    find p xs ≡ find p (filter c xs)
 find-covered p c covers [] = refl
 find-covered p c covers (x ∷ xs) = elim (cases_Bool (p x)) [
   | inl e ↦ let f = covers x e in find-hit p x xs e ∙ rw (f, e) refl
@@ -65,10 +69,12 @@ earlier-either p q r (x ∷ xs) given rise =
     elim (cases_Bool (q x)) [
       | inl f ↦ elim (cases_Bool (r x)) [
         | inl g ↦ elim (cases_Bool (p x)) [ inl e ↦ rw (f, g, e) (earlier-same x.key) | inr e ↦ rw (f, g, e) rest ]
-        | inr g ↦ elim (cases_Bool (p x)) [ inl e ↦ rw (f, g, e) (earlier-left x.key (key_of (find p rs)) after-r) | inr e ↦ rw (f, g, e) rest ]
+        | inr g ↦ elim (cases_Bool (p x)) [ inl e ↦ rw (f, g, e) (earlier-left x.key (key_of (find p rs)) after-r) | inr e ↦ rw (f, g, e)
+            rest ]
       ]
       | inr f ↦ elim (cases_Bool (r x)) [
-        | inl g ↦ elim (cases_Bool (p x)) [ inl e ↦ rw (f, g, e) (earlier-right x.key (key_of (find p qs)) after-q) | inr e ↦ rw (f, g, e) rest ]
+        | inl g ↦ elim (cases_Bool (p x)) [ inl e ↦ rw (f, g, e) (earlier-right x.key (key_of (find p qs)) after-q) | inr e ↦ rw (f, g, e)
+            rest ]
         | inr g ↦ rw (f, g) rest
       ]
     ]
@@ -87,20 +93,24 @@ found-apart : (t : Keyed Linked → Bool) (p : ℕ) (xs : List (Keyed Linked)) �
 found-apart t p [] n = tt
 found-apart t p (x ∷ xs) n = elim (cases_Bool (t x)) [ inl e ↦ rw e n.0 | inr e ↦ rw e (found-apart t p xs n.1) ]
 
-value-passed : (x : Keyed Linked) (xs : List (Keyed Linked)) (o : Option (Keyed Linked)) → IsApart x.key.place o → value_of xs (key_of o) ≡ value_of (x ∷ xs) (key_of o)
+value-passed : (x : Keyed Linked) (xs : List (Keyed Linked)) (o : Option (Keyed Linked)) → IsApart x.key.place o →
+    value_of xs (key_of o) ≡ value_of (x ∷ xs) (key_of o)
 value-passed x xs None a = refl
 value-passed x xs (Some y) a = let e = same_key-apart x.key y.key (λ s. a (sym s)) in rw e
 
 pub found-value : (h : Header) (xs : List (Keyed Linked)) → Apart xs → find (fits h) (values xs) ≡ value_of xs (key_of (find (takes h) xs))
 found-value h [] a = refl
 found-value h (x ∷ xs) a = elim (cases_Bool (fits h x.value)) [
-  | inl e ↦ find-hit (fits h) x.value (values xs) e ∙ sym (value-here x xs) ∙ ap (λ o. value_of (x ∷ xs) (key_of o)) (sym (find-hit (takes h) x xs e))
-  | inr e ↦ find-pass (fits h) x.value (values xs) e ∙ found-value h xs a.1 ∙ value-passed x xs (find (takes h) xs) (found-apart (takes h) x.key.place xs a.0)
+  | inl e ↦ find-hit (fits h) x.value (values xs) e ∙ sym (value-here x xs)
+      ∙ ap (λ o. value_of (x ∷ xs) (key_of o)) (sym (find-hit (takes h) x xs e))
+  | inr e ↦ find-pass (fits h) x.value (values xs) e ∙ found-value h xs a.1
+      ∙ value-passed x xs (find (takes h) xs) (found-apart (takes h) x.key.place xs a.0)
       ∙ ap (λ o. value_of (x ∷ xs) (key_of o)) (sym (find-pass (takes h) x xs e))
 ]
 
 -- ---- the threads of a message
-pub first-of-threads : (h : Header) (limit given : ℕ) (xs : List (Keyed Linked)) → Apart xs → Rising xs given → find (fits h) (values xs) ≡ value_of xs (first_of_threads h limit xs)
+pub first-of-threads : (h : Header) (limit given : ℕ) (xs : List (Keyed Linked)) → Apart xs → Rising xs given →
+    find (fits h) (values xs) ≡ value_of xs (first_of_threads h limit xs)
 first-of-threads h limit given xs a r =
     let on : ℕ → Keyed Linked → Bool = λ k x. nat_eq (thread_of limit x.value) k in
     let whole = on (whole_thread limit h.match_bits) in
@@ -114,7 +124,8 @@ first-of-threads h limit given xs a r =
     ∙ (λ i. earlier_of (earlier-either (takes h) whole by_48 xs given r i) (earlier-either (takes h) by_24 last xs given r i)))
 
 -- ---- how many entries these threads have
-counted : (q r s t : Keyed Linked → Bool) (m : Linked → Bool) → ((x : Keyed Linked) → num (q x) + num (r x) + (num (s x) + num (t x)) ≤ num (m x.value))
+counted : (q r s t : Keyed Linked → Bool) (m : Linked → Bool) →
+    ((x : Keyed Linked) → num (q x) + num (r x) + (num (s x) + num (t x)) ≤ num (m x.value))
     → (xs : List (Keyed Linked)) → count_by q xs + count_by r xs + (count_by s xs + count_by t xs) ≤ count_by m (values xs)
 counted q r s t m h [] = omega arith
 counted q r s t m h (x ∷ xs) =
@@ -145,18 +156,23 @@ found-some : (t : Keyed Linked → Bool) (xs : List (Keyed Linked)) (k : ChainKe
 found-some t [] k e = cc
 found-some t (x ∷ xs) k e = omega arith
 
-some-earlier : (a b : Option ChainKey) (m n : ℕ) → ((k : ChainKey) → a ≡ Some k → 0 < m) → ((k : ChainKey) → b ≡ Some k → 0 < n) → (k : ChainKey) → earlier_of a b ≡ Some k → 0 < m + n
+some-earlier : (a b : Option ChainKey) (m n : ℕ) → ((k : ChainKey) → a ≡ Some k → 0 < m) → ((k : ChainKey) → b ≡ Some k → 0 < n) →
+    (k : ChainKey) → earlier_of a b ≡ Some k → 0 < m + n
 some-earlier None b m n f g k e = let some = g k e in omega arith
 some-earlier (Some j) b m n f g k e = let some = f j refl in omega arith
 
-pub some-on-threads : (h : Header) (limit : ℕ) (xs : List (Keyed Linked)) (k : ChainKey) → first_of_threads h limit xs ≡ Some k → 0 < on_threads limit h.match_bits xs
+pub some-on-threads : (h : Header) (limit : ℕ) (xs : List (Keyed Linked)) (k : ChainKey) → first_of_threads h limit xs ≡ Some k →
+    0 < on_threads limit h.match_bits xs
 some-on-threads h limit xs k e =
-    let some : (j : ℕ) (k : ChainKey) → first_on h limit xs j ≡ Some k → 0 < length (on_thread limit j xs) = λ j. found-some (takes h) (on_thread limit j xs) in
+    let some : (j : ℕ) (k : ChainKey) → first_on h limit xs j ≡ Some k → 0 < length (on_thread limit j xs) =
+          λ j. found-some (takes h) (on_thread limit j xs) in
     let a = whole_thread limit h.match_bits in
     let b = upper_48_thread limit h.match_bits in
     let c = upper_24_thread limit h.match_bits in
     let d = last_thread limit in
     some-earlier (earlier_of (first_on h limit xs a) (first_on h limit xs b)) (earlier_of (first_on h limit xs c) (first_on h limit xs d))
     (length (on_thread limit a xs) + length (on_thread limit b xs)) (length (on_thread limit c xs) + length (on_thread limit d xs))
-    (some-earlier (first_on h limit xs a) (first_on h limit xs b) (length (on_thread limit a xs)) (length (on_thread limit b xs)) (some a) (some b))
-    (some-earlier (first_on h limit xs c) (first_on h limit xs d) (length (on_thread limit c xs)) (length (on_thread limit d xs)) (some c) (some d)) k e
+    (some-earlier (first_on h limit xs a) (first_on h limit xs b) (length (on_thread limit a xs)) (length (on_thread limit b xs)) (some a)
+        (some b))
+    (some-earlier (first_on h limit xs c) (first_on h limit xs d) (length (on_thread limit c xs)) (length (on_thread limit d xs)) (some c)
+        (some d)) k e

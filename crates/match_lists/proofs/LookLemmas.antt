@@ -13,22 +13,27 @@ use Rattle.match_lists.specs.Looks.{look_of, IsSeen}
 use Rattle.match_lists.specs.Indexed.{IsIndexed, IsMatchList}
 use Rattle.match_lists.proofs.IndexLemmas.{IsLive, changed-live}
 
-seen-parts : (looks : List Look) (before : List (Keyed Linked)) (x : Keyed Linked) (behind : List (Keyed Linked)) → All (IsSeen looks) (before ++ x ∷ behind)
+seen-parts : (looks : List Look) (before : List (Keyed Linked)) (x : Keyed Linked) (behind : List (Keyed Linked)) →
+    All (IsSeen looks) (before ++ x ∷ behind)
     → All (IsSeen looks) before × IsSeen looks x × All (IsSeen looks) behind
 seen-parts looks before x behind s =
     let P = IsSeen looks in
     let n = length before in
     let rest : All P (x ∷ behind) = subst (All P) (drop_at before (x ∷ behind) n refl) (All-drop P n (before ++ x ∷ behind) s) in
-    (subst (All P) (take_at before (x ∷ behind) n refl) (All-take P n (before ++ x ∷ behind) s), All-head P x behind rest, All-tail P x behind rest)
+    (subst (All P) (take_at before (x ∷ behind) n refl) (All-take P n (before ++ x ∷ behind) s), All-head P x behind rest,
+        All-tail P x behind rest)
 
-pub seen-without : (looks : List Look) (key : ChainKey) (xs : List (Keyed Linked)) → All (IsSeen looks) xs → All (IsSeen looks) (without key xs)
+pub seen-without : (looks : List Look) (key : ChainKey) (xs : List (Keyed Linked)) → All (IsSeen looks) xs →
+    All (IsSeen looks) (without key xs)
 seen-without looks key [] s = All-nil (IsSeen looks)
 seen-without looks key (x ∷ xs) s =
     let rest = seen-without looks key xs (All-tail (IsSeen looks) x xs s) in
-    elim (cases_Bool (same_key x.key key)) [ inl e ↦ rw e rest | inr e ↦ rw e (All-cons (IsSeen looks) x (without key xs) (All-head (IsSeen looks) x xs s) rest) ]
+    elim (cases_Bool (same_key x.key key)) [ inl e ↦ rw e rest | inr e ↦ rw e
+        (All-cons (IsSeen looks) x (without key xs) (All-head (IsSeen looks) x xs s) rest) ]
 
 -- a look is put where none of these entries lies
-seen-set : (looks : List Look) (place : ℕ) (look : Look) (xs : List (Keyed Linked)) → NotAt place xs → All (IsSeen looks) xs → All (IsSeen (set looks place look)) xs
+seen-set : (looks : List Look) (place : ℕ) (look : Look) (xs : List (Keyed Linked)) → NotAt place xs → All (IsSeen looks) xs →
+    All (IsSeen (set looks place look)) xs
 seen-set looks place look [] n s = All-nil (IsSeen (set looks place look))
 seen-set looks place look (x ∷ xs) n s =
     let here = All-head (IsSeen looks) x xs s in
@@ -39,29 +44,37 @@ seen-set looks place look (x ∷ xs) n s =
 -- and where this one lies
 seen-here : (looks : List Look) (x : Keyed Linked) → x.key.place < length looks → IsSeen (set looks x.key.place (look_of x.value)) x
 seen-here looks x lt =
-    (omega (arith, length-set looks x.key.place (look_of x.value), lt), get_or-set_same looks x.key.place (look_of x.value) (look_of x.value) lt)
+    (omega (arith, length-set looks x.key.place (look_of x.value), lt), get_or-set_same looks x.key.place (look_of x.value)
+        (look_of x.value) lt)
 
 -- the entry of a part at whose place a walk stands
-pub seen-part : (looks : List Look) (q : Keyed Linked → Bool) (xs front : List (Keyed Linked)) (x : Keyed Linked) (behind : List (Keyed Linked)) → All (IsSeen looks) xs
+pub seen-part : (looks : List Look) (q : Keyed Linked → Bool) (xs front : List (Keyed Linked)) (x : Keyed Linked)
+    (behind : List (Keyed Linked)) → All (IsSeen looks) xs
     → filter q xs ≡ front ++ x ∷ behind → IsSeen looks x
-seen-part looks q xs front x behind s e = (seen-parts looks front x behind (subst (All (IsSeen looks)) e (All-filter q (IsSeen looks) xs s))).1
+seen-part looks q xs front x behind s e = (seen-parts looks front x behind
+    (subst (All (IsSeen looks)) e (All-filter q (IsSeen looks) xs s))).1
 
-pub seen-look : (looks : List Look) (x : Keyed Linked) (place : ℕ) (d : Look) → IsSeen looks x → x.key.place ≡ place → get_or looks place d ≡ look_of x.value
+pub seen-look : (looks : List Look) (x : Keyed Linked) (place : ℕ) (d : Look) → IsSeen looks x → x.key.place ≡ place →
+    get_or looks place d ≡ look_of x.value
 seen-look looks x place d s e =
     subst (λ p. get_or looks p d ≡ look_of x.value) e (get_or_default looks x.key.place d (look_of x.value) s.0 ∙ s.1)
 
-pub IsMatchList-none : (chain : ChainList Linked) (threads : Woven) (looks : List Look) (limit : ℕ) → IsIndexed chain threads limit → chain ≡ chain_list [] limit 0
+pub IsMatchList-none : (chain : ChainList Linked) (threads : Woven) (looks : List Look) (limit : ℕ) → IsIndexed chain threads limit →
+    chain ≡ chain_list [] limit 0
     → length looks ≡ limit → IsMatchList chain threads looks limit
 IsMatchList-none chain threads looks limit i e long =
-    record { indexed = i; room_of_looks = long; seen = subst (λ (c : ChainList Linked). All (IsSeen looks) c.entries) (sym e) (All-nil (IsSeen looks)) }
+    record { indexed = i; room_of_looks = long; seen = subst (λ (c : ChainList Linked). All (IsSeen looks) c.entries) (sym e)
+        (All-nil (IsSeen looks)) }
 
-pub seen-push : (looks : List Look) (xs : List (Keyed Linked)) (x : Keyed Linked) → All (IsSeen looks) xs → NotAt x.key.place xs → x.key.place < length looks
+pub seen-push : (looks : List Look) (xs : List (Keyed Linked)) (x : Keyed Linked) → All (IsSeen looks) xs → NotAt x.key.place xs →
+    x.key.place < length looks
     → All (IsSeen (set looks x.key.place (look_of x.value))) (xs ++ x ∷ [])
 seen-push looks xs x s n lt =
     let look = look_of x.value in
     All-push (IsSeen (set looks x.key.place look)) xs x (seen-set looks x.key.place look xs n s) (seen-here looks x lt)
 
-pub seen-advance : (looks : List Look) (chain : ChainList Linked) (key : ChainKey) (l : IsLive chain key) (v : Linked) → All (IsSeen looks) chain.entries
+pub seen-advance : (looks : List Look) (chain : ChainList Linked) (key : ChainKey) (l : IsLive chain key) (v : Linked) →
+    All (IsSeen looks) chain.entries
     → All (IsSeen (set looks key.place (look_of v))) (changed key v chain.entries)
 seen-advance looks chain key l v s =
     let y = keyed key v in
@@ -71,5 +84,6 @@ seen-advance looks chain key l v s =
     (All-append P l.before (y ∷ l.behind) (seen-set looks key.place (look_of v) l.before l.away parts.0)
     (All-cons P y l.behind (seen-here looks y parts.1.0) (seen-set looks key.place (look_of v) l.behind l.away_behind parts.2)))
 
-pub seen-live : (looks : List Look) (chain : ChainList Linked) (key : ChainKey) (l : IsLive chain key) → All (IsSeen looks) chain.entries → key.place < length looks
+pub seen-live : (looks : List Look) (chain : ChainList Linked) (key : ChainKey) (l : IsLive chain key) →
+    All (IsSeen looks) chain.entries → key.place < length looks
 seen-live looks chain key l s = (seen-parts looks l.before (keyed key l.value) l.behind (subst (All (IsSeen looks)) l.is s)).1.0

@@ -1,5 +1,6 @@
 -- The walk along a chain by its keys.
-use Rattle.std.proofs.Common.{◌≡◌, ℕ, Bool, true, false, cond, nat_eq, get_or, inl, inr, List, [], ◌∷◌, ◌++◌, Option, Some, None, refl, sym, ap, subst, ◌∙◌, append_assoc}
+use Rattle.std.proofs.Common.{◌≡◌, ℕ, Bool, true, false, cond, nat_eq, get_or, inl, inr, List, [], ◌∷◌, ◌++◌, Option, Some, None, refl, sym,
+    ap, subst, ◌∙◌, append_assoc}
 use Rattle.std.proofs.Common.{Bor}
 use Rattle.std.proofs.lemmas.Bool.{ne_eqb, eq-eqb}
 use Rattle.std.proofs.lemmas.Bool.Decides.{eqb_tells}
@@ -28,7 +29,8 @@ module _ {X : Type 0} where
   from-first [] = refl
   from-first (x ∷ xs) = let e = same_key-refl x.key in rw e
 
-  from-split : (xs : List (Keyed X)) (x : Keyed X) (ys : List (Keyed X)) → Apart (xs ++ x ∷ ys) → from_key (Some x.key) (xs ++ x ∷ ys) ≡ x ∷ ys
+  from-split : (xs : List (Keyed X)) (x : Keyed X) (ys : List (Keyed X)) → Apart (xs ++ x ∷ ys) →
+      from_key (Some x.key) (xs ++ x ∷ ys) ≡ x ∷ ys
   from-split [] x ys a = let e = same_key-refl x.key in rw e
   from-split (z ∷ xs) x ys a =
       let apart = (NotAt-cut z.key.place xs (x ∷ ys) a.0).1.0 in
@@ -53,36 +55,45 @@ module _ {X : Type 0} where
   ahead key xs a live =
       let s = split-live key xs live in
       let parts : Apart (s.before ++ s.entry ∷ s.behind) = subst (λ l. Apart l) s.is a in
-      let away : NotAt key.place s.before = subst (λ (k : ChainKey). NotAt k.place s.before) s.key_is (Apart-before s.before s.entry s.behind parts) in
-      let here : (k : ChainKey) → s.entry.key ≡ k → (value_at k (s.entry ∷ s.behind) ≡ Some s.entry.value) × (key_after k (s.entry ∷ s.behind) ≡ first_key s.behind) =
-      λ k e. (ap (λ j. value_at j (s.entry ∷ s.behind)) (sym e) ∙ value-here s.entry s.behind, ap (λ j. key_after j (s.entry ∷ s.behind)) (sym e) ∙ after-here s.entry s.behind) in
+      let away : NotAt key.place s.before = subst (λ (k : ChainKey). NotAt k.place s.before) s.key_is
+            (Apart-before s.before s.entry s.behind parts) in
+      let here : (k : ChainKey) → s.entry.key ≡ k → (value_at k (s.entry ∷ s.behind) ≡ Some s.entry.value) ×
+            (key_after k (s.entry ∷ s.behind) ≡ first_key s.behind) =
+      λ k e. (ap (λ j. value_at j (s.entry ∷ s.behind)) (sym e) ∙ value-here s.entry s.behind,
+          ap (λ j. key_after j (s.entry ∷ s.behind)) (sym e) ∙ after-here s.entry s.behind) in
       let next = ap (λ l. key_after key l) s.is ∙ after-append key s.before (s.entry ∷ s.behind) away ∙ (here key s.key_is).1 in
       record {
         value = s.entry.value;
         behind = s.behind;
         entry = s.entry;
         entry_is = refl;
-        rest_is = ap (λ l. from_key (Some key) l) s.is ∙ ap (λ k. from_key (Some k) (s.before ++ s.entry ∷ s.behind)) (sym s.key_is) ∙ from-split s.before s.entry s.behind parts;
+        rest_is = ap (λ l. from_key (Some key) l) s.is ∙ ap (λ k. from_key (Some k) (s.before ++ s.entry ∷ s.behind)) (sym s.key_is)
+            ∙ from-split s.before s.entry s.behind parts;
         value_is = ap (λ l. value_at key l) s.is ∙ value-append key s.before (s.entry ∷ s.behind) away ∙ (here key s.key_is).0;
-        after_is = ap (λ k. from_key k xs) next ∙ from-next (s.before ++ s.entry ∷ []) s.behind xs a (s.is ∙ sym (append_assoc s.before (s.entry ∷ []) s.behind));
+        after_is = ap (λ k. from_key k xs) next ∙ from-next (s.before ++ s.entry ∷ []) s.behind xs a
+            (s.is ∙ sym (append_assoc s.before (s.entry ∷ []) s.behind));
         next_is = next;
       }
 
   -- the first key is live, where there is one
   pub live-first : (xs : List (Keyed X)) (key : ChainKey) → first_key xs ≡ Some key → is_some (value_at key xs) ≡ true
   live-first [] key e = cc
-  live-first (x ∷ xs) key e = let at : x.key ≡ key = cc in subst (λ k. is_some (value_at k (x ∷ xs)) ≡ true) at (ap is_some (value-here x xs))
+  live-first (x ∷ xs) key e = let at : x.key ≡ key = cc in subst (λ k. is_some (value_at k (x ∷ xs)) ≡ true) at
+      (ap is_some (value-here x xs))
 
   -- a key that comes next is live
-  pub live-next : (xs : List (Keyed X)) (next : Option ChainKey) (key : ChainKey) (ys : List (Keyed X)) → next ≡ Some key → from_key next xs ≡ ys → next ≡ first_key ys → is_some (value_at key xs) ≡ true
+  pub live-next : (xs : List (Keyed X)) (next : Option ChainKey) (key : ChainKey) (ys : List (Keyed X)) → next ≡ Some key →
+      from_key next xs ≡ ys → next ≡ first_key ys → is_some (value_at key xs) ≡ true
   live-next xs next key ys e f n = live-from xs key (subst (λ o. from_key o xs ≡ ys) e f) (sym e ∙ n)
     where
-      live-test : (x : Keyed X) (xs : List (Keyed X)) (key : ChainKey) (ys : List (Keyed X)) (t : Bool) → cond t (x ∷ xs) (from_key (Some key) xs) ≡ ys
+      live-test : (x : Keyed X) (xs : List (Keyed X)) (key : ChainKey) (ys : List (Keyed X)) (t : Bool) →
+          cond t (x ∷ xs) (from_key (Some key) xs) ≡ ys
           → (from_key (Some key) xs ≡ ys → is_some (value_at key xs) ≡ true) → is_some (cond t (Some x.value) (value_at key xs)) ≡ true
       live-test x xs key ys true e h = refl
       live-test x xs key ys false e h = h e
 
-      live-from : (xs : List (Keyed X)) (key : ChainKey) → from_key (Some key) xs ≡ ys → Some key ≡ first_key ys → is_some (value_at key xs) ≡ true
+      live-from : (xs : List (Keyed X)) (key : ChainKey) → from_key (Some key) xs ≡ ys → Some key ≡ first_key ys →
+          is_some (value_at key xs) ≡ true
       live-from [] key e f = let none : first_key ys ≡ None = ap first_key (sym e) in cc
       live-from (x ∷ xs) key e f = live-test x xs key ys (same_key x.key key) e (λ h. live-from xs key h f)
 
@@ -101,11 +112,13 @@ module _ {X : Type 0} where
   place-first [] = refl
   place-first (x ∷ xs) = let e : nat_eq x.key.place x.key.place ≡ true = eq-eqb x.key.place x.key.place refl in rw e
 
-  place-split : (xs : List (Keyed X)) (x : Keyed X) (ys : List (Keyed X)) → Apart (xs ++ x ∷ ys) → from_place (Some x.key.place) (xs ++ x ∷ ys) ≡ x ∷ ys
+  place-split : (xs : List (Keyed X)) (x : Keyed X) (ys : List (Keyed X)) → Apart (xs ++ x ∷ ys) →
+      from_place (Some x.key.place) (xs ++ x ∷ ys) ≡ x ∷ ys
   place-split [] x ys a = let e : nat_eq x.key.place x.key.place ≡ true = eq-eqb x.key.place x.key.place refl in rw e
   place-split (z ∷ xs) x ys a =
       let apart = (NotAt-cut z.key.place xs (x ∷ ys) a.0).1.0 in
-      let other : nat_eq z.key.place x.key.place ≡ false = ne_eqb z.key.place x.key.place (λ e. apart (sym e)) in rw other (place-split xs x ys a.1)
+      let other : nat_eq z.key.place x.key.place ≡ false = ne_eqb z.key.place x.key.place (λ e. apart (sym e)) in
+          rw other (place-split xs x ys a.1)
 
   place-next : (xs ys zs : List (Keyed X)) → Apart zs → zs ≡ xs ++ ys → from_place (first_or ys None) zs ≡ ys
   place-next xs [] zs a e = refl
@@ -138,7 +151,8 @@ module _ {X : Type 0} where
         record { front = x ∷ r.front; entry = r.entry; behind = r.behind; is = ap (λ l. x ∷ l) r.is; at = r.at }
   ]
 
-  pub there : (place : ℕ) (next : Option ℕ) (xs : List (Keyed X)) → Apart xs → next ≡ Some place → next ≡ first_or (from_place next xs) None → IsThere place xs
+  pub there : (place : ℕ) (next : Option ℕ) (xs : List (Keyed X)) → Apart xs → next ≡ Some place →
+      next ≡ first_or (from_place next xs) None → IsThere place xs
   there place next xs a e live =
       let r = cut_at place xs (sym e ∙ live ∙ ap (λ o. first_or (from_place o xs) None) e) in
       let parts : Apart (r.front ++ r.entry ∷ r.behind) = subst (λ m. Apart m) r.is a in
@@ -162,7 +176,8 @@ module _ {X : Type 0} where
     pub node_is : get_or cs place None ≡ Some (node entry.value before (first_or behind None))
     pub then : from_place (first_or behind None) xs ≡ behind
 
-  pub here : (place : ℕ) (next : Option ℕ) (xs : List (Keyed X)) (cs : List (Option (Node X))) → Apart xs → Linked cs None xs None → next ≡ Some place
+  pub here : (place : ℕ) (next : Option ℕ) (xs : List (Keyed X)) (cs : List (Option (Node X))) → Apart xs → Linked cs None xs None →
+      next ≡ Some place
       → next ≡ first_or (from_place next xs) None → IsHere place xs cs
   here place next xs cs a l e live =
       let r = there place next xs a e live in
@@ -171,7 +186,8 @@ module _ {X : Type 0} where
         behind = r.behind;
         before = last_or None r.front;
         rest_is = r.rest_is;
-        node_is = ap (λ p. get_or cs p None) (sym r.at) ∙ Linked-middle cs r.front r.entry r.behind (subst (λ m. Linked cs None m None) r.is l);
+        node_is = ap (λ p. get_or cs p None) (sym r.at) ∙ Linked-middle cs r.front r.entry r.behind
+            (subst (λ m. Linked cs None m None) r.is l);
         then = r.then;
       }
 
@@ -181,6 +197,7 @@ module _ {X : Type 0} where
   first_place (x ∷ xs) = refl
 
 -- a reference that was found is there
-pub copied-some : {X : Type 0} (o : Option (Bor X)) (v : X) {p : Option X} → option_copied o ≡ p → p ≡ Some v → ((x : Bor X) → o ≡ Some x → ⊥) → ⊥
+pub copied-some : {X : Type 0} (o : Option (Bor X)) (v : X) {p : Option X} → option_copied o ≡ p → p ≡ Some v →
+    ((x : Bor X) → o ≡ Some x → ⊥) → ⊥
 copied-some None v e f h = cc
 copied-some (Some x) v e f h = h x refl

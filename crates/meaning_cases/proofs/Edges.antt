@@ -28,7 +28,8 @@ signed_edges = record {
       ∷ record { name = codes "bxor"; ty = I8; spread = record { length = 8; holders = 0 ∷ 1 ∷ [] } }
       ∷ [];
   inputs = 1;
-  steps = (Allreduce Min 0 1) ∷ (Allreduce Max 0 2) ∷ (Allreduce Sum 0 3) ∷ (Allreduce Prod 0 4) ∷ (Allreduce Lor 0 5) ∷ (Allreduce Land 0 6) ∷ (Allreduce Bor 0 7) ∷ (Allreduce Band 0 8) ∷ (Allreduce Lxor 0 9) ∷ (Allreduce Bxor 0 10) ∷ [];
+  steps = (Allreduce Min 0 1) ∷ (Allreduce Max 0 2) ∷ (Allreduce Sum 0 3) ∷ (Allreduce Prod 0 4) ∷ (Allreduce Lor 0 5)
+      ∷ (Allreduce Land 0 6) ∷ (Allreduce Bor 0 7) ∷ (Allreduce Band 0 8) ∷ (Allreduce Lxor 0 9) ∷ (Allreduce Bxor 0 10) ∷ [];
   on = None ∷ None ∷ None ∷ None ∷ None ∷ None ∷ None ∷ None ∷ None ∷ None ∷ [];
   prints = [];
 }
@@ -96,7 +97,8 @@ unsigned_edges = record {
       ∷ record { name = codes "bxor"; ty = U16; spread = record { length = 6; holders = 0 ∷ 1 ∷ [] } }
       ∷ [];
   inputs = 1;
-  steps = (Allreduce Min 0 1) ∷ (Allreduce Max 0 2) ∷ (Allreduce Sum 0 3) ∷ (Allreduce Prod 0 4) ∷ (Allreduce Lor 0 5) ∷ (Allreduce Land 0 6) ∷ (Allreduce Bor 0 7) ∷ (Allreduce Band 0 8) ∷ (Allreduce Lxor 0 9) ∷ (Allreduce Bxor 0 10) ∷ [];
+  steps = (Allreduce Min 0 1) ∷ (Allreduce Max 0 2) ∷ (Allreduce Sum 0 3) ∷ (Allreduce Prod 0 4) ∷ (Allreduce Lor 0 5)
+      ∷ (Allreduce Land 0 6) ∷ (Allreduce Bor 0 7) ∷ (Allreduce Band 0 8) ∷ (Allreduce Lxor 0 9) ∷ (Allreduce Bxor 0 10) ∷ [];
   on = None ∷ None ∷ None ∷ None ∷ None ∷ None ∷ None ∷ None ∷ None ∷ None ∷ [];
   prints = [];
 }
@@ -164,7 +166,8 @@ wide_edges = record {
       ∷ record { name = codes "bxor"; ty = I64; spread = record { length = 3; holders = 0 ∷ 1 ∷ [] } }
       ∷ [];
   inputs = 1;
-  steps = (Allreduce Min 0 1) ∷ (Allreduce Max 0 2) ∷ (Allreduce Sum 0 3) ∷ (Allreduce Prod 0 4) ∷ (Allreduce Lor 0 5) ∷ (Allreduce Land 0 6) ∷ (Allreduce Bor 0 7) ∷ (Allreduce Band 0 8) ∷ (Allreduce Lxor 0 9) ∷ (Allreduce Bxor 0 10) ∷ [];
+  steps = (Allreduce Min 0 1) ∷ (Allreduce Max 0 2) ∷ (Allreduce Sum 0 3) ∷ (Allreduce Prod 0 4) ∷ (Allreduce Lor 0 5)
+      ∷ (Allreduce Land 0 6) ∷ (Allreduce Bor 0 7) ∷ (Allreduce Band 0 8) ∷ (Allreduce Lxor 0 9) ∷ (Allreduce Bxor 0 10) ∷ [];
   on = None ∷ None ∷ None ∷ None ∷ None ∷ None ∷ None ∷ None ∷ None ∷ None ∷ [];
   prints = [];
 }
@@ -180,8 +183,10 @@ wide_edges_is : meaning_of wide_edges (
     ∷ ((0 ∷ 0 ∷ 0 ∷ 0 ∷ 0 ∷ 0 ∷ 0 ∷ 128 ∷ 1 ∷ 0 ∷ 0 ∷ 0 ∷ 0 ∷ 0 ∷ 0 ∷ 0 ∷ 255 ∷ 255 ∷ 255 ∷ 255 ∷ 255 ∷ 255 ∷ 255 ∷ 255 ∷ [])
     ∷ (0 ∷ 0 ∷ 0 ∷ 0 ∷ 0 ∷ 0 ∷ 0 ∷ 128 ∷ 1 ∷ 0 ∷ 0 ∷ 0 ∷ 0 ∷ 0 ∷ 0 ∷ 0 ∷ 255 ∷ 255 ∷ 255 ∷ 255 ∷ 255 ∷ 255 ∷ 255 ∷ 255 ∷ [])
     ∷ [])
-    ∷ ((255 ∷ 255 ∷ 255 ∷ 255 ∷ 255 ∷ 255 ∷ 255 ∷ 255 ∷ 255 ∷ 255 ∷ 255 ∷ 255 ∷ 255 ∷ 255 ∷ 255 ∷ 127 ∷ 52 ∷ 243 ∷ 4 ∷ 181 ∷ 0 ∷ 0 ∷ 0 ∷ 0 ∷ [])
-    ∷ (255 ∷ 255 ∷ 255 ∷ 255 ∷ 255 ∷ 255 ∷ 255 ∷ 255 ∷ 255 ∷ 255 ∷ 255 ∷ 255 ∷ 255 ∷ 255 ∷ 255 ∷ 127 ∷ 52 ∷ 243 ∷ 4 ∷ 181 ∷ 0 ∷ 0 ∷ 0 ∷ 0 ∷ [])
+    ∷ ((255 ∷ 255 ∷ 255 ∷ 255 ∷ 255 ∷ 255 ∷ 255 ∷ 255 ∷ 255 ∷ 255 ∷ 255 ∷ 255 ∷ 255 ∷ 255 ∷ 255 ∷ 127 ∷ 52 ∷ 243 ∷ 4 ∷ 181 ∷ 0 ∷ 0 ∷ 0 ∷ 0
+        ∷ [])
+    ∷ (255 ∷ 255 ∷ 255 ∷ 255 ∷ 255 ∷ 255 ∷ 255 ∷ 255 ∷ 255 ∷ 255 ∷ 255 ∷ 255 ∷ 255 ∷ 255 ∷ 255 ∷ 127 ∷ 52 ∷ 243 ∷ 4 ∷ 181 ∷ 0 ∷ 0 ∷ 0 ∷ 0
+        ∷ [])
     ∷ [])
     ∷ ((255 ∷ 255 ∷ 255 ∷ 255 ∷ 255 ∷ 255 ∷ 255 ∷ 127 ∷ 0 ∷ 0 ∷ 0 ∷ 0 ∷ 0 ∷ 0 ∷ 0 ∷ 128 ∷ 51 ∷ 243 ∷ 4 ∷ 181 ∷ 0 ∷ 0 ∷ 0 ∷ 0 ∷ [])
     ∷ (255 ∷ 255 ∷ 255 ∷ 255 ∷ 255 ∷ 255 ∷ 255 ∷ 127 ∷ 0 ∷ 0 ∷ 0 ∷ 0 ∷ 0 ∷ 0 ∷ 0 ∷ 128 ∷ 51 ∷ 243 ∷ 4 ∷ 181 ∷ 0 ∷ 0 ∷ 0 ∷ 0 ∷ [])
@@ -195,8 +200,10 @@ wide_edges_is : meaning_of wide_edges (
     ∷ ((1 ∷ 0 ∷ 0 ∷ 0 ∷ 0 ∷ 0 ∷ 0 ∷ 0 ∷ 1 ∷ 0 ∷ 0 ∷ 0 ∷ 0 ∷ 0 ∷ 0 ∷ 0 ∷ 1 ∷ 0 ∷ 0 ∷ 0 ∷ 0 ∷ 0 ∷ 0 ∷ 0 ∷ [])
     ∷ (1 ∷ 0 ∷ 0 ∷ 0 ∷ 0 ∷ 0 ∷ 0 ∷ 0 ∷ 1 ∷ 0 ∷ 0 ∷ 0 ∷ 0 ∷ 0 ∷ 0 ∷ 0 ∷ 1 ∷ 0 ∷ 0 ∷ 0 ∷ 0 ∷ 0 ∷ 0 ∷ 0 ∷ [])
     ∷ [])
-    ∷ ((255 ∷ 255 ∷ 255 ∷ 255 ∷ 255 ∷ 255 ∷ 255 ∷ 255 ∷ 255 ∷ 255 ∷ 255 ∷ 255 ∷ 255 ∷ 255 ∷ 255 ∷ 127 ∷ 255 ∷ 255 ∷ 255 ∷ 255 ∷ 255 ∷ 255 ∷ 255 ∷ 255 ∷ [])
-    ∷ (255 ∷ 255 ∷ 255 ∷ 255 ∷ 255 ∷ 255 ∷ 255 ∷ 255 ∷ 255 ∷ 255 ∷ 255 ∷ 255 ∷ 255 ∷ 255 ∷ 255 ∷ 127 ∷ 255 ∷ 255 ∷ 255 ∷ 255 ∷ 255 ∷ 255 ∷ 255 ∷ 255 ∷ [])
+    ∷ ((255 ∷ 255 ∷ 255 ∷ 255 ∷ 255 ∷ 255 ∷ 255 ∷ 255 ∷ 255 ∷ 255 ∷ 255 ∷ 255 ∷ 255 ∷ 255 ∷ 255 ∷ 127 ∷ 255 ∷ 255 ∷ 255 ∷ 255 ∷ 255 ∷ 255
+        ∷ 255 ∷ 255 ∷ [])
+    ∷ (255 ∷ 255 ∷ 255 ∷ 255 ∷ 255 ∷ 255 ∷ 255 ∷ 255 ∷ 255 ∷ 255 ∷ 255 ∷ 255 ∷ 255 ∷ 255 ∷ 255 ∷ 127 ∷ 255 ∷ 255 ∷ 255 ∷ 255 ∷ 255 ∷ 255
+        ∷ 255 ∷ 255 ∷ [])
     ∷ [])
     ∷ ((0 ∷ 0 ∷ 0 ∷ 0 ∷ 0 ∷ 0 ∷ 0 ∷ 128 ∷ 1 ∷ 0 ∷ 0 ∷ 0 ∷ 0 ∷ 0 ∷ 0 ∷ 0 ∷ 52 ∷ 243 ∷ 4 ∷ 181 ∷ 0 ∷ 0 ∷ 0 ∷ 0 ∷ [])
     ∷ (0 ∷ 0 ∷ 0 ∷ 0 ∷ 0 ∷ 0 ∷ 0 ∷ 128 ∷ 1 ∷ 0 ∷ 0 ∷ 0 ∷ 0 ∷ 0 ∷ 0 ∷ 0 ∷ 52 ∷ 243 ∷ 4 ∷ 181 ∷ 0 ∷ 0 ∷ 0 ∷ 0 ∷ [])
@@ -204,8 +211,10 @@ wide_edges_is : meaning_of wide_edges (
     ∷ ((0 ∷ 0 ∷ 0 ∷ 0 ∷ 0 ∷ 0 ∷ 0 ∷ 0 ∷ 0 ∷ 0 ∷ 0 ∷ 0 ∷ 0 ∷ 0 ∷ 0 ∷ 0 ∷ 0 ∷ 0 ∷ 0 ∷ 0 ∷ 0 ∷ 0 ∷ 0 ∷ 0 ∷ [])
     ∷ (0 ∷ 0 ∷ 0 ∷ 0 ∷ 0 ∷ 0 ∷ 0 ∷ 0 ∷ 0 ∷ 0 ∷ 0 ∷ 0 ∷ 0 ∷ 0 ∷ 0 ∷ 0 ∷ 0 ∷ 0 ∷ 0 ∷ 0 ∷ 0 ∷ 0 ∷ 0 ∷ 0 ∷ [])
     ∷ [])
-    ∷ ((255 ∷ 255 ∷ 255 ∷ 255 ∷ 255 ∷ 255 ∷ 255 ∷ 127 ∷ 254 ∷ 255 ∷ 255 ∷ 255 ∷ 255 ∷ 255 ∷ 255 ∷ 127 ∷ 203 ∷ 12 ∷ 251 ∷ 74 ∷ 255 ∷ 255 ∷ 255 ∷ 255 ∷ [])
-    ∷ (255 ∷ 255 ∷ 255 ∷ 255 ∷ 255 ∷ 255 ∷ 255 ∷ 127 ∷ 254 ∷ 255 ∷ 255 ∷ 255 ∷ 255 ∷ 255 ∷ 255 ∷ 127 ∷ 203 ∷ 12 ∷ 251 ∷ 74 ∷ 255 ∷ 255 ∷ 255 ∷ 255 ∷ [])
+    ∷ ((255 ∷ 255 ∷ 255 ∷ 255 ∷ 255 ∷ 255 ∷ 255 ∷ 127 ∷ 254 ∷ 255 ∷ 255 ∷ 255 ∷ 255 ∷ 255 ∷ 255 ∷ 127 ∷ 203 ∷ 12 ∷ 251 ∷ 74 ∷ 255 ∷ 255
+        ∷ 255 ∷ 255 ∷ [])
+    ∷ (255 ∷ 255 ∷ 255 ∷ 255 ∷ 255 ∷ 255 ∷ 255 ∷ 127 ∷ 254 ∷ 255 ∷ 255 ∷ 255 ∷ 255 ∷ 255 ∷ 255 ∷ 127 ∷ 203 ∷ 12 ∷ 251 ∷ 74 ∷ 255 ∷ 255
+        ∷ 255 ∷ 255 ∷ [])
     ∷ [])
     ∷ []
 unfolding meaning_of meant_upto

@@ -3,7 +3,8 @@ use Rattle.std.specs.Prelude.{◌≡◌, [], ◌∷◌, Some, None, refl, false,
 use Rattle.ptl_types.specs.declared.elements.AtomicOp.TheVariants.{Max, Min, Prod, Sum}
 use Rattle.ptl_types.specs.declared.elements.ElemType.TheVariants.{I16, U16}
 use Rattle.coll_shape.specs.declared.types.Version.TheVariants.{Two}
-use Rattle.coll_shape.specs.declared.types.CollStep.TheVariants.{Allgather, Allreduce, Alltoall, Barrier, Broadcast, Exscan, Gather, Gatherv, Reduce, Reducescatter, Scan, Scatter}
+use Rattle.coll_shape.specs.declared.types.CollStep.TheVariants.{Allgather, Allreduce, Alltoall, Barrier, Broadcast, Exscan, Gather,
+    Gatherv, Reduce, Reducescatter, Scan, Scatter}
 use Rattle.coll_shape.specs.Outline.{Outline}
 use Rattle.coll_shape.specs.Meaning.{meaning_of, meant_upto}
 
@@ -25,7 +26,8 @@ each_once = record {
       ∷ record { name = codes "i"; ty = U16; spread = record { length = 3; holders = 1 ∷ 2 ∷ 4 ∷ [] } }
       ∷ [];
   inputs = 1;
-  steps = Barrier ∷ (Broadcast 2 0 1) ∷ (Reduce 1 Sum 0 2) ∷ (Allreduce Max 0 3) ∷ (Gather 2 0 4) ∷ (Allgather 0 5) ∷ (Alltoall 0 6) ∷ (Scan Sum 0 7) ∷ [];
+  steps = Barrier ∷ (Broadcast 2 0 1) ∷ (Reduce 1 Sum 0 2) ∷ (Allreduce Max 0 3) ∷ (Gather 2 0 4) ∷ (Allgather 0 5) ∷ (Alltoall 0 6)
+      ∷ (Scan Sum 0 7) ∷ [];
   on = Some 0 ∷ Some 0 ∷ Some 0 ∷ Some 0 ∷ Some 0 ∷ Some 0 ∷ Some 0 ∷ Some 0 ∷ [];
   prints = [];
 }

@@ -84,10 +84,12 @@ set_by_firing = refl
 abbrev top : ℕ
 top = 2 ^ 64 - 1
 
-stops_at_the_end : bump (record { success = 3; failure = 4 }) (record { success = top - 6; failure = 2 }) ≡ record { success = top - 3; failure = 3 }
+stops_at_the_end : bump (record { success = 3; failure = 4 }) (record { success = top - 6; failure = 2 })
+    ≡ record { success = top - 3; failure = 3 }
 stops_at_the_end = refl
 
-success_goes_first : bump (record { success = 3; failure = 4 }) (record { success = top - 4; failure = 2 }) ≡ record { success = top - 2; failure = 2 }
+success_goes_first : bump (record { success = 3; failure = 4 }) (record { success = top - 4; failure = 2 })
+    ≡ record { success = top - 2; failure = 2 }
 success_goes_first = refl
 
 abbrev full : State

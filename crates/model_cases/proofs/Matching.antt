@@ -12,12 +12,14 @@ use Rattle.ni_model.specs.Append.{append}
 use Rattle.ni_model.specs.Counts.{successes}
 use Rattle.ni_model.specs.State.{State, target}
 use Rattle.ni_model.specs.Calls.{ct_alloc, ct_get, me_append, me_unlink}
-use Rattle.model_cases.proofs.Setting.{new, first, entry, once, local, counting, put, put_at, get, asking, is_ok_answer, length_of_answer, bytes_of_answer}
+use Rattle.model_cases.proofs.Setting.{new, first, entry, once, local, counting, put, put_at, get, asking, is_ok_answer, length_of_answer,
+    bytes_of_answer}
 
 -- ---- two use-once entries that count
 two_entries : State → State
 unfolding append
-two_entries s = (me_append 1 0 Priority (once (counting first (entry 4 4))) (me_append 0 0 Priority (once (counting first (entry 0 4))) (ct_alloc 0 s).state).state).state
+two_entries s = (me_append 1 0 Priority (once (counting first (entry 4 4)))
+    (me_append 0 0 Priority (once (counting first (entry 0 4))) (ct_alloc 0 s).state).state).state
 
 abbrev use_up : State → State
 use_up s = (target (target (target (two_entries s) (put (1 ∷ []))).state (put (2 ∷ []))).state (put (3 ∷ []))).state
@@ -26,7 +28,8 @@ first_is_matched : (target (two_entries new) (put (1 ∷ []))).delivered.outcome
 unfolding target request append two_entries
 first_is_matched = refl
 
-third_is_dropped : (target (target (target (two_entries new) (put (1 ∷ []))).state (put (2 ∷ []))).state (put (3 ∷ []))).delivered.outcome ≡ Dropped
+third_is_dropped : (target (target (target (two_entries new) (put (1 ∷ []))).state (put (2 ∷ []))).state (put (3 ∷ []))).delivered.outcome
+    ≡ Dropped
 unfolding target request append two_entries
 third_is_dropped = refl
 
@@ -70,7 +73,8 @@ unfolding target request append
 no_truncation = refl
 
 -- ---- the offset of a locally managed entry is its own; it goes where less than `min_free` is left
-managed_offset : (target (target (persistent (local 1 (entry 2 8))) (put_at 0 5 (1 ∷ 2 ∷ []))).state (put_at 0 7 (3 ∷ []))).state.memory ≡ 0 ∷ 0 ∷ 1 ∷ 2 ∷ 3 ∷ replicate 11 0
+managed_offset : (target (target (persistent (local 1 (entry 2 8))) (put_at 0 5 (1 ∷ 2 ∷ []))).state (put_at 0 7 (3 ∷ []))).state.memory
+    ≡ 0 ∷ 0 ∷ 1 ∷ 2 ∷ 3 ∷ replicate 11 0
 unfolding target request append
 managed_offset = refl
 
@@ -86,7 +90,8 @@ unfolding target request append
 too_little_is_left = refl
 
 -- use-once and locally managed: its first message takes it away, however much is left
-once_and_managed : (target (target (persistent (once (local 0 (entry 0 4)))) (put (1 ∷ []))).state (put (2 ∷ []))).delivered.outcome ≡ Dropped
+once_and_managed : (target (target (persistent (once (local 0 (entry 0 4)))) (put (1 ∷ []))).state (put (2 ∷ []))).delivered.outcome
+    ≡ Dropped
 unfolding target request append
 once_and_managed = refl
 
@@ -177,14 +182,17 @@ third_is_not_written = refl
 abbrev full : State → State
 full s = (target (target s (put (1 ∷ []))).state (put (2 ∷ []))).state
 
-full_and_forbidden : (target (full (me_append 1 0 InOverflow (record (entry 8 4) { match_bits = 4; ignore_bits = 1; allow_put = false }) (me_append 0 0 InOverflow (local 7 (entry 0 8)) new).state).state) (put (3 ∷ []))).delivered.outcome ≡ Violation
+full_and_forbidden : (target (full (me_append 1 0 InOverflow (record (entry 8 4) { match_bits = 4; ignore_bits = 1; allow_put = false })
+    (me_append 0 0 InOverflow (local 7 (entry 0 8)) new).state).state) (put (3 ∷ []))).delivered.outcome ≡ Violation
 unfolding target request append
 full_and_forbidden = refl
 
 abbrev with_bits : ℕ → Sent → Sent
 with_bits bits m = record m { header = record m.header { match_bits = bits } }
 
-full_and_prior : (target (full (me_append 1 0 InOverflow (local 0 (entry 0 8)) (me_append 0 0 Priority (record (entry 8 4) { match_bits = 4 }) new).state).state) (with_bits 4 (put (3 ∷ [])))).delivered.outcome ≡ Matched
+full_and_prior : (target (full (me_append 1 0 InOverflow (local 0 (entry 0 8))
+    (me_append 0 0 Priority (record (entry 8 4) { match_bits = 4 }) new).state).state) (with_bits 4 (put (3 ∷ [])))).delivered.outcome
+    ≡ Matched
 unfolding target request append
 full_and_prior = refl
 

@@ -35,7 +35,8 @@ events s = events_in first s
 
 -- ---- an overflow entry that is unlinked as it fills up, and three appends of a use-once entry
 abbrev filled : State
-filled = (target (target (target (me_append 0 1 InOverflow (local 4 (entry 0 8)) (told 8)).state (put_at 1 0 (1 ∷ 2 ∷ 3 ∷ []))).state (put_at 1 0 (4 ∷ 5 ∷ []))).state (put_at 1 0 (6 ∷ []))).state
+filled = (target (target (target (me_append 0 1 InOverflow (local 4 (entry 0 8)) (told 8)).state (put_at 1 0 (1 ∷ 2 ∷ 3 ∷ []))).state
+    (put_at 1 0 (4 ∷ 5 ∷ []))).state (put_at 1 0 (6 ∷ []))).state
 
 abbrev append_once : State → Done (Result Appended NiFault)
 append_once s = me_append 0 1 Priority (once (entry 8 4)) s
@@ -44,7 +45,8 @@ abbrev place_of : Result Appended NiFault → List ℕ
 place_of (Ok (Consumed h)) = h.delivered ∷ h.place ∷ h.header.length ∷ []
 place_of _ = []
 
-unlinked_when_full : (target (target (me_append 0 1 InOverflow (local 4 (entry 0 8)) (told 8)).state (put_at 1 0 (1 ∷ 2 ∷ 3 ∷ []))).state (put_at 1 0 (4 ∷ 5 ∷ []))).delivered.outcome ≡ Overflow
+unlinked_when_full : (target (target (me_append 0 1 InOverflow (local 4 (entry 0 8)) (told 8)).state (put_at 1 0 (1 ∷ 2 ∷ 3 ∷ []))).state
+    (put_at 1 0 (4 ∷ 5 ∷ []))).delivered.outcome ≡ Overflow
 unfolding target request append
 unlinked_when_full = refl
 
@@ -64,12 +66,16 @@ third_links : (append_once (append_once (append_once filled).state).state).answe
 unfolding target request append
 third_links = refl
 
-order_of_events : kinds (append_once (append_once (append_once filled).state).state).state ≡ Link ∷ AutoUnlink ∷ PutOverflow ∷ PutOverflow ∷ AutoFree ∷ Link ∷ []
+order_of_events : kinds (append_once (append_once (append_once filled).state).state).state ≡ Link ∷ AutoUnlink ∷ PutOverflow ∷ PutOverflow
+    ∷ AutoFree ∷ Link ∷ []
 unfolding target request append
 order_of_events = refl
 
 -- a taken header's event says where its bytes lie
-taken_says : events (append_once filled).state ≡ record { kind = Link; source = 0; pt = 1; match_bits = 5; hdr_data = 0; requested = 0; delivered = 0; place = 0; ok = true } ∷ record { kind = AutoUnlink; source = 0; pt = 1; match_bits = 5; hdr_data = 0; requested = 0; delivered = 0; place = 0; ok = true } ∷ record { kind = PutOverflow; source = 1; pt = 1; match_bits = 5; hdr_data = 77; requested = 3; delivered = 3; place = 0; ok = true } ∷ []
+taken_says : events (append_once filled).state ≡ record { kind = Link; source = 0; pt = 1; match_bits = 5; hdr_data = 0; requested =
+    0; delivered = 0; place = 0; ok = true } ∷ record { kind = AutoUnlink; source = 0; pt = 1; match_bits = 5; hdr_data = 0; requested =
+    0; delivered = 0; place = 0; ok = true } ∷ record { kind = PutOverflow; source = 1; pt = 1; match_bits = 5; hdr_data = 77; requested =
+    3; delivered = 3; place = 0; ok = true } ∷ []
 unfolding target request append
 taken_says = refl
 
@@ -94,7 +100,8 @@ two_taken : ct_get first (me_append 0 1 Priority (counting_overflow first (entry
 unfolding target request append
 two_taken = refl
 
-one_taken : ct_get first (me_append 0 1 Priority (once (counting_overflow first (entry 8 4))) (ct_alloc 0 filled).state).state ≡ Ok (successes 1)
+one_taken : ct_get first (me_append 0 1 Priority (once (counting_overflow first (entry 8 4))) (ct_alloc 0 filled).state).state ≡ Ok
+    (successes 1)
 unfolding target request append
 one_taken = refl
 
@@ -131,7 +138,8 @@ index_in_use = refl
 
 -- an atomic that is taken is told as one
 abbrev two_kinds : State
-two_kinds = (target (target (me_append 0 0 InOverflow (local 0 (entry 0 8)) new).state (atomic 0 Sum U8 (1 ∷ []))).state (put (2 ∷ []))).state
+two_kinds = (target (target (me_append 0 0 InOverflow (local 0 (entry 0 8)) new).state (atomic 0 Sum U8 (1 ∷ []))).state
+    (put (2 ∷ []))).state
 
 atomic_first : place_of (me_append 0 0 Priority (once (entry 8 4)) two_kinds).answer ≡ 1 ∷ 0 ∷ 1 ∷ []
 unfolding target request append
@@ -139,17 +147,22 @@ atomic_first = refl
 
 -- ---- a message delivered to a priority entry is told with all that it says, and the unlinking after it
 abbrev put_event : Event
-put_event = record { kind = PutEvent; source = 1; pt = 1; match_bits = 5; hdr_data = 77; requested = 3; delivered = 2; place = 5; ok = true }
+put_event = record { kind = PutEvent; source = 1; pt = 1; match_bits = 5; hdr_data = 77; requested = 3; delivered = 2; place = 5; ok =
+    true }
 
-delivery_is_told : kinds (target (me_append 0 1 Priority (once (entry 4 3)) (told 8)).state (put_at 1 1 (1 ∷ 2 ∷ 3 ∷ []))).state ≡ Link ∷ PutEvent ∷ AutoUnlink ∷ []
+delivery_is_told : kinds (target (me_append 0 1 Priority (once (entry 4 3)) (told 8)).state (put_at 1 1 (1 ∷ 2 ∷ 3 ∷ []))).state ≡ Link
+    ∷ PutEvent ∷ AutoUnlink ∷ []
 unfolding target request append
 delivery_is_told = refl
 
-told_whole : (target (me_append 0 1 Priority (entry 4 3) (told 8)).state (put_at 1 1 (1 ∷ 2 ∷ 3 ∷ []))).state.memory ≡ 0 ∷ 0 ∷ 0 ∷ 0 ∷ 0 ∷ 1 ∷ 2 ∷ replicate 9 0
+told_whole : (target (me_append 0 1 Priority (entry 4 3) (told 8)).state (put_at 1 1 (1 ∷ 2 ∷ 3 ∷ []))).state.memory ≡ 0 ∷ 0 ∷ 0 ∷ 0 ∷ 0
+    ∷ 1 ∷ 2 ∷ replicate 9 0
 unfolding target request append
 told_whole = refl
 
-event_says : events (target (me_append 0 1 Priority (entry 4 3) (told 8)).state (put_at 1 1 (1 ∷ 2 ∷ 3 ∷ []))).state ≡ record { kind = Link; source = 0; pt = 1; match_bits = 5; hdr_data = 0; requested = 0; delivered = 0; place = 0; ok = true } ∷ put_event ∷ []
+event_says : events (target (me_append 0 1 Priority (entry 4 3) (told 8)).state (put_at 1 1 (1 ∷ 2 ∷ 3 ∷ []))).state
+    ≡ record { kind = Link; source = 0; pt = 1; match_bits = 5; hdr_data = 0; requested = 0; delivered = 0; place = 0; ok = true }
+    ∷ put_event ∷ []
 unfolding target request append
 event_says = refl
 
@@ -181,7 +194,8 @@ finds_nothing : (me_search 1 (entry 0 4) false (told 1)).answer ≡ Ok None
 unfolding search
 finds_nothing = refl
 
-missed : events (me_search 1 (entry 0 4) false (told 1)).state ≡ record { kind = Search; source = 0; pt = 1; match_bits = 5; hdr_data = 0; requested = 0; delivered = 0; place = 0; ok = false } ∷ []
+missed : events (me_search 1 (entry 0 4) false (told 1)).state ≡ record { kind = Search; source = 0; pt = 1; match_bits = 5; hdr_data =
+    0; requested = 0; delivered = 0; place = 0; ok = false } ∷ []
 unfolding search
 missed = refl
 
@@ -201,6 +215,7 @@ deleted_goes : found_length (me_search 1 (entry 0 4) true (me_search 1 (entry 0 
 unfolding target request append search
 deleted_goes = refl
 
-deleting_is_told : kinds (me_search 1 (entry 0 4) true (me_search 1 (entry 0 4) true filled).state).state ≡ Link ∷ AutoUnlink ∷ Search ∷ Search ∷ AutoFree ∷ []
+deleting_is_told : kinds (me_search 1 (entry 0 4) true (me_search 1 (entry 0 4) true filled).state).state ≡ Link ∷ AutoUnlink ∷ Search
+    ∷ Search ∷ AutoFree ∷ []
 unfolding target request append search
 deleting_is_told = refl

@@ -25,7 +25,8 @@ use Rattle.ni_model.specs.Counts.{successes}
 use Rattle.ni_model.specs.Starts.{started}
 use Rattle.ni_model.specs.Tables.{handle}
 use Rattle.ni_model.specs.State.{State, opened, target}
-use Rattle.ni_model.specs.Calls.{awaits, ct_alloc, ct_cancel, ct_free, ct_get, ct_inc, ct_set, eq_alloc, eq_free, eq_get, md_bind, md_release, me_append, me_unlink, pt_alloc, pt_free, start, triggered}
+use Rattle.ni_model.specs.Calls.{awaits, ct_alloc, ct_cancel, ct_free, ct_get, ct_inc, ct_set, eq_alloc, eq_free, eq_get, md_bind,
+    md_release, me_append, me_unlink, pt_alloc, pt_free, start, triggered}
 use Rattle.model_cases.proofs.Setting.{counting, entry, first, once, part_of, second}
 use Rattle.model_cases.proofs.Wide.{asks, base, bound_both, fault_of, fetching, goal, many, region, sending, source, unknown}
 
@@ -122,7 +123,8 @@ unfolding append
 overflow_entry_counts = refl
 
 -- the younger of two entries, and of two operations
-younger_entry_counts : (ct_free second (me_append 1 2 Priority (counting second (entry 4 4)) (entry_at 2 Priority)).state).answer ≡ Err InUse
+younger_entry_counts : (ct_free second (me_append 1 2 Priority (counting second (entry 4 4)) (entry_at 2 Priority)).state).answer ≡ Err
+    InUse
 unfolding append
 younger_entry_counts = refl
 
@@ -269,7 +271,8 @@ swap_names_source = refl
 swap_names_goal : released second (Swap fetching put Cswap U16 1) ≡ Err InUse
 swap_names_goal = refl
 
-younger_deed_names : (md_release second (triggered (Get fetching) first 1 (triggered (Put put) first 1 bound).state).state).answer ≡ Err InUse
+younger_deed_names : (md_release second (triggered (Get fetching) first 1 (triggered (Put put) first 1 bound).state).state).answer ≡ Err
+    InUse
 younger_deed_names = refl
 
 increment_names_none : released first (Inc second (successes 1)) ≡ Ok tt

@@ -1,5 +1,7 @@
 -- The ten operations on bit patterns: partial results may be combined in any order, and the starting value changes none of them.
-use Rattle.std.proofs.Common.{◌/◌, ◌-◌, mod-eq_of_lt, add_comm, mul_comm, ℕ, Bool, true, false, cond, not, ◌&&◌, ◌||◌, ◌+◌, ◌*◌, ◌%◌, ◌≡◌, ◌<◌, refl, ap, ◌∙◌, sym, arith, mod-lt, pow_pos, bit_and, bit_or, bit_xor, min, max, nat_le, lit<, if◌then◌else◌, le-leb, leb-false, leb-true, mul_right_comm, lt_of_le_of_lt}
+use Rattle.std.proofs.Common.{◌/◌, ◌-◌, mod-eq_of_lt, add_comm, mul_comm, ℕ, Bool, true, false, cond, not, ◌&&◌, ◌||◌, ◌+◌, ◌*◌, ◌%◌, ◌≡◌,
+    ◌<◌, refl, ap, ◌∙◌, sym, arith, mod-lt, pow_pos, bit_and, bit_or, bit_xor, min, max, nat_le, lit<, if◌then◌else◌, le-leb, leb-false,
+    leb-true, mul_right_comm, lt_of_le_of_lt}
 use Rattle.std.specs.Int.{bit_at}
 use Rattle.std.proofs.lemmas.Bool.{false_from_ne_true}
 use Rattle.std.proofs.lemmas.Nat.Bits.{bit_at-zero, bit_at_xor, bit_at_and, bit_at_or, same_from_bits}
@@ -15,26 +17,31 @@ use Rattle.op_laws.specs.Laws.{Swaps, Commutes, Associates, Starts, Stays, Absor
 
 -- sums and products
 add_swaps : (x a b m : ℕ) → ((x + a) % m + b) % m ≡ ((x + b) % m + a) % m
-add_swaps x a b m = mod-add-mod (x + a) m b ∙ ap (λ v. v % m) (let q : x + a + b ≡ x + b + a = omega arith in q) ∙ sym (mod-add-mod (x + b) m a)
+add_swaps x a b m = mod-add-mod (x + a) m b ∙ ap (λ v. v % m) (let q : x + a + b ≡ x + b + a = omega arith in q)
+    ∙ sym (mod-add-mod (x + b) m a)
 
 mul_swaps : (x a b m : ℕ) → (x * a % m * b) % m ≡ (x * b % m * a) % m
 mul_swaps x a b m = mul-mod_first (x * a) b m ∙ ap (λ v. v % m) (mul_right_comm x a b) ∙ sym (mul-mod_first (x * b) a m)
 
 -- bits
 and_swaps : (x a b : ℕ) → bit_and (bit_and x a) b ≡ bit_and (bit_and x b) a
-and_swaps x a b = same_from_bits _ _ (λ i. bit_at_and (bit_and x a) b i ∙ ap (λ v. min v (bit_at b i)) (bit_at_and x a i) ∙ min3 (bit_at x i) (bit_at a i) (bit_at b i) ∙ sym (bit_at_and (bit_and x b) a i ∙ ap (λ v. min v (bit_at a i)) (bit_at_and x b i)))
+and_swaps x a b = same_from_bits _ _ (λ i. bit_at_and (bit_and x a) b i ∙ ap (λ v. min v (bit_at b i)) (bit_at_and x a i)
+    ∙ min3 (bit_at x i) (bit_at a i) (bit_at b i) ∙ sym (bit_at_and (bit_and x b) a i ∙ ap (λ v. min v (bit_at a i)) (bit_at_and x b i)))
   where
     min3 : (p q r : ℕ) → min (min p q) r ≡ min (min p r) q
     min3 p q r = omega arith
 
 or_swaps : (x a b : ℕ) → bit_or (bit_or x a) b ≡ bit_or (bit_or x b) a
-or_swaps x a b = same_from_bits _ _ (λ i. bit_at_or (bit_or x a) b i ∙ ap (λ v. max v (bit_at b i)) (bit_at_or x a i) ∙ max3 (bit_at x i) (bit_at a i) (bit_at b i) ∙ sym (bit_at_or (bit_or x b) a i ∙ ap (λ v. max v (bit_at a i)) (bit_at_or x b i)))
+or_swaps x a b = same_from_bits _ _ (λ i. bit_at_or (bit_or x a) b i ∙ ap (λ v. max v (bit_at b i)) (bit_at_or x a i)
+    ∙ max3 (bit_at x i) (bit_at a i) (bit_at b i) ∙ sym (bit_at_or (bit_or x b) a i ∙ ap (λ v. max v (bit_at a i)) (bit_at_or x b i)))
   where
     max3 : (p q r : ℕ) → max (max p q) r ≡ max (max p r) q
     max3 p q r = omega arith
 
 xor_swaps : (x a b : ℕ) → bit_xor (bit_xor x a) b ≡ bit_xor (bit_xor x b) a
-xor_swaps x a b = same_from_bits _ _ (λ i. bit_at_xor (bit_xor x a) b i ∙ ap (λ v. (v + bit_at b i) % 2) (bit_at_xor x a i) ∙ add_swaps (bit_at x i) (bit_at a i) (bit_at b i) 2 ∙ sym (bit_at_xor (bit_xor x b) a i ∙ ap (λ v. (v + bit_at a i) % 2) (bit_at_xor x b i)))
+xor_swaps x a b = same_from_bits _ _ (λ i. bit_at_xor (bit_xor x a) b i ∙ ap (λ v. (v + bit_at b i) % 2) (bit_at_xor x a i)
+    ∙ add_swaps (bit_at x i) (bit_at a i) (bit_at b i) 2 ∙ sym (bit_at_xor (bit_xor x b) a i
+    ∙ ap (λ v. (v + bit_at a i) % 2) (bit_at_xor x b i)))
 
 -- truth values
 pub isnt_zero-one_if : (b : Bool) → isnt_zero (one_if b) ≡ b
@@ -74,9 +81,13 @@ lxor3 false true false = refl
 lxor3 false false true = refl
 lxor3 false false false = refl
 
-logic_swaps : (f : Bool → Bool → Bool) → ((p q r : Bool) → f (f p q) r ≡ f (f p r) q) → (x a b : ℕ) → one_if (f (isnt_zero (one_if (f (isnt_zero x) (isnt_zero a)))) (isnt_zero b)) ≡ one_if (f (isnt_zero (one_if (f (isnt_zero x) (isnt_zero b)))) (isnt_zero a))
+logic_swaps : (f : Bool → Bool → Bool) → ((p q r : Bool) → f (f p q) r ≡ f (f p r) q) → (x a b : ℕ) →
+    one_if (f (isnt_zero (one_if (f (isnt_zero x) (isnt_zero a)))) (isnt_zero b)) ≡ one_if
+    (f (isnt_zero (one_if (f (isnt_zero x) (isnt_zero b)))) (isnt_zero a))
 logic_swaps f h x a b =
-    ap (λ v. one_if (f v (isnt_zero b))) (isnt_zero-one_if (f (isnt_zero x) (isnt_zero a))) ∙ ap one_if (h (isnt_zero x) (isnt_zero a) (isnt_zero b)) ∙ sym (ap (λ v. one_if (f v (isnt_zero a))) (isnt_zero-one_if (f (isnt_zero x) (isnt_zero b))))
+    ap (λ v. one_if (f v (isnt_zero b))) (isnt_zero-one_if (f (isnt_zero x) (isnt_zero a)))
+        ∙ ap one_if (h (isnt_zero x) (isnt_zero a) (isnt_zero b))
+        ∙ sym (ap (λ v. one_if (f v (isnt_zero a))) (isnt_zero-one_if (f (isnt_zero x) (isnt_zero b))))
 
 -- the lesser and the greater by a key that tells values apart
 abbrev lesser : (ℕ → ℕ) → ℕ → ℕ → ℕ
@@ -85,13 +96,16 @@ lesser k x y = if nat_le (k x) (k y) then x else y
 abbrev greater : (ℕ → ℕ) → ℕ → ℕ → ℕ
 greater k x y = if nat_le (k x) (k y) then y else x
 
-lesser_swaps : (k : ℕ → ℕ) (x a b : ℕ) → (k x ≡ k a → x ≡ a) → (k x ≡ k b → x ≡ b) → (k a ≡ k b → a ≡ b) → lesser k (lesser k x a) b ≡ lesser k (lesser k x b) a
+lesser_swaps : (k : ℕ → ℕ) (x a b : ℕ) → (k x ≡ k a → x ≡ a) → (k x ≡ k b → x ≡ b) → (k a ≡ k b → a ≡ b) →
+    lesser k (lesser k x a) b ≡ lesser k (lesser k x b) a
 lesser_swaps k x a b p q r = at (nat_le (k x) (k a)) (nat_le (k x) (k b)) refl refl
   where
     at : (s t : Bool) → nat_le (k x) (k a) ≡ s → nat_le (k x) (k b) ≡ t → lesser k (cond s x a) b ≡ lesser k (cond t x b) a
     at true true e f = rw (e, f) refl
-    at true false e f = let g : nat_le (k b) (k a) ≡ true = le-leb _ _ (let i = leb-true _ _ e in let j = leb-false _ _ f in omega arith) in rw (f, g) refl
-    at false true e f = let g : nat_le (k a) (k b) ≡ true = le-leb _ _ (let i = leb-false _ _ e in let j = leb-true _ _ f in omega arith) in rw (e, g) refl
+    at true false e f = let g : nat_le (k b) (k a) ≡ true = le-leb _ _ (let i = leb-true _ _ e in let j = leb-false _ _ f in omega arith)
+                              in rw (f, g) refl
+    at false true e f = let g : nat_le (k a) (k b) ≡ true = le-leb _ _ (let i = leb-false _ _ e in let j = leb-true _ _ f in omega arith)
+                              in rw (e, g) refl
     at false false e f = both (nat_le (k a) (k b)) (nat_le (k b) (k a)) refl refl
       where
         both : (s t : Bool) → nat_le (k a) (k b) ≡ s → nat_le (k b) (k a) ≡ t → cond s a b ≡ cond t b a
@@ -103,13 +117,16 @@ lesser_swaps k x a b p q r = at (nat_le (k x) (k a)) (nat_le (k x) (k b)) refl r
 false_le : {s : Bool} → (s ≡ true → ⊥) → s ≡ false
 false_le {s} h = false_from_ne_true s h
 
-greater_swaps : (k : ℕ → ℕ) (x a b : ℕ) → (k x ≡ k a → x ≡ a) → (k x ≡ k b → x ≡ b) → (k a ≡ k b → a ≡ b) → greater k (greater k x a) b ≡ greater k (greater k x b) a
+greater_swaps : (k : ℕ → ℕ) (x a b : ℕ) → (k x ≡ k a → x ≡ a) → (k x ≡ k b → x ≡ b) → (k a ≡ k b → a ≡ b) →
+    greater k (greater k x a) b ≡ greater k (greater k x b) a
 greater_swaps k x a b p q r = at (nat_le (k x) (k a)) (nat_le (k x) (k b)) refl refl
   where
     at : (s t : Bool) → nat_le (k x) (k a) ≡ s → nat_le (k x) (k b) ≡ t → greater k (cond s a x) b ≡ greater k (cond t b x) a
     at false false e f = rw (e, f) refl
-    at true false e f = let g : nat_le (k a) (k b) ≡ false = false_le (λ i. let n = leb-true _ _ i in let j = leb-false _ _ f in let l = leb-true _ _ e in absurd (omega arith)) in rw (e, g) refl
-    at false true e f = let g : nat_le (k b) (k a) ≡ false = false_le (λ i. let n = leb-true _ _ i in let j = leb-true _ _ f in let l = leb-false _ _ e in absurd (omega arith)) in rw (f, g) refl
+    at true false e f = let g : nat_le (k a) (k b) ≡ false = false_le (λ i. let n = leb-true _ _ i in let j = leb-false _ _ f in let l =
+                                                                                                                                       leb-true _ _ e in absurd (omega arith)) in rw (e, g) refl
+    at false true e f = let g : nat_le (k b) (k a) ≡ false = false_le (λ i. let n = leb-true _ _ i in let j = leb-true _ _ f in let l =
+                                                                                                                                      leb-false _ _ e in absurd (omega arith)) in rw (f, g) refl
     at true true e f = both (nat_le (k a) (k b)) (nat_le (k b) (k a)) refl refl
       where
         both : (s t : Bool) → nat_le (k a) (k b) ≡ s → nat_le (k b) (k a) ≡ t → cond s b a ≡ cond t a b
@@ -321,7 +338,8 @@ or-zero : (y : ℕ) → bit_or y 0 ≡ y
 or-zero y = same_from_bits _ _ (λ i. bit_at_or y 0 i ∙ (let z = bit_at-zero i in omega (arith, z)))
 
 xor-zero : (y : ℕ) → bit_xor y 0 ≡ y
-xor-zero y = same_from_bits _ _ (λ i. bit_at_xor y 0 i ∙ (let z = bit_at-zero i in let l : bit_at y i < 2 = mod-lt _ (lit< tt) in omega (arith, z, l)))
+xor-zero y = same_from_bits _ _ (λ i. bit_at_xor y 0 i ∙ (let z = bit_at-zero i in let l : bit_at y i < 2 = mod-lt _ (lit< tt) in
+    omega (arith, z, l)))
 
 lor-false : (b : Bool) → (isnt_zero (one_if b) || false) ≡ b
 lor-false true = refl

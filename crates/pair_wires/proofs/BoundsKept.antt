@@ -34,6 +34,9 @@ length-followed_by ms None = omega arith
 length-followed_by ms (Some m) = omega (arith, length-append ms (m ∷ []))
 
 -- where as many were moved as were held, nothing is left
-pub all-moved : (received held moved left sent : List Sent) → sent ≡ received ++ held → sent ≡ (received ++ moved) ++ left → length held ≤ length moved → sent ≡ received ++ moved
+pub all-moved : (received held moved left sent : List Sent) → sent ≡ received ++ held → sent ≡ (received ++ moved) ++ left →
+    length held ≤ length moved → sent ≡ received ++ moved
 all-moved received held moved [] sent whole parts enough = parts ∙ append-nil (received ++ moved)
-all-moved received held moved (x ∷ left) sent whole parts enough = absurd (omega (arith, ap (λ (l : List Sent). length l) whole, ap (λ (l : List Sent). length l) parts, length-append received held, length-append (received ++ moved) (x ∷ left), length-append received moved, enough))
+all-moved received held moved (x ∷ left) sent whole parts enough =
+    absurd (omega (arith, ap (λ (l : List Sent). length l) whole, ap (λ (l : List Sent). length l) parts, length-append received held,
+    length-append (received ++ moved) (x ∷ left), length-append received moved, enough))

@@ -12,7 +12,8 @@ use Rattle.plan_choice.specs.ranks.Seats.{ChoiceRankState}
 use Rattle.plan_choice.specs.Acts.{AreMarked, firing_count, firing_mark, seat_at, start_count, start_mark}
 use Rattle.plan_choice.specs.World.{AreCounted, ChoiceState}
 
-module _ (w : ChoiceState) (starts deliveries firings : List ℕ) (counted : AreCounted w starts deliveries firings) (news : List ChoiceRankState)
+module _ (w : ChoiceState) (starts deliveries firings : List ℕ) (counted : AreCounted w starts deliveries firings)
+    (news : List ChoiceRankState)
     (later : List Plain) (s d : ℕ) (hs : s < w.ranks) (hd : d < w.ranks)
     (others : (q : ℕ) → (q ≡ s → ⊥) → (q ≡ d → ⊥) → seat_at news q ≡ seat_at w.seats q)
     (apart : (a b : ℕ) (lane : Lane) → a < w.ranks → b < w.ranks → ((a ≡ s) × (b ≡ d) → ⊥) → ((a ≡ d) × (b ≡ s) → ⊥)
@@ -39,5 +40,6 @@ module _ (w : ChoiceState) (starts deliveries firings : List ℕ) (counted : Are
         (λ x y. counted.of_firings r h ∙ ap firing_count (sym (others r x y)));
     of_deliveries = λ q u lane hq hu.
         ap (λ xs. get_or xs (lane_place w.ranks q u lane) 0) m.deliveries
-        ∙ deliveries_marked w.ranks w.lanes deliveries top later s d hs hd counted.wide_deliveries counted.of_deliveries apart q u lane hq hu;
+        ∙ deliveries_marked w.ranks w.lanes deliveries top later s d hs hd counted.wide_deliveries counted.of_deliveries apart q u lane hq
+            hu;
   }

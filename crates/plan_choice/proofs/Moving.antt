@@ -1,5 +1,6 @@
 -- A choice world after a local step of one rank: its seat has a step more, and what that makes goes to the end of a lane.
-use Rattle.std.proofs.Common.{ℕ, ◌+◌, ◌*◌, ◌<◌, ◌≤◌, ◌≡◌, ◌==◌, ◌∙◌, List, [], ◌∷◌, ◌++◌, Option, Some, None, cond, get_or, length, filter, if◌then◌else◌, refl, sym, ap, ap₂, subst, inl, inr, arith, eq-eqb, length-append}
+use Rattle.std.proofs.Common.{ℕ, ◌+◌, ◌*◌, ◌<◌, ◌≤◌, ◌≡◌, ◌==◌, ◌∙◌, List, [], ◌∷◌, ◌++◌, Option, Some, None, cond, get_or, length, filter,
+    if◌then◌else◌, refl, sym, ap, ap₂, subst, inl, inr, arith, eq-eqb, length-append}
 use Rattle.std.proofs.Math.ListN.{set, length-set}
 use Rattle.std.proofs.Math.Path.{fun_ext}
 use Rattle.std.proofs.lemmas.Bool.{cases_eq, ne_eqb}
@@ -256,23 +257,28 @@ module _ (w : ChoiceState) (is : IsStanding w) (enough : HasRoom w) (gone : HasG
 
       pub room_news : HasRoom next
       room_news = record {
-        steps = λ q h. at_set (λ (s : ChoiceRankState). steps_due n w.kinds q ≤ length s.diary.locals + s.diary.room) w.seats r q new no_seated inside
+        steps = λ q h. at_set (λ (s : ChoiceRankState). steps_due n w.kinds q ≤ length s.diary.locals + s.diary.room) w.seats r q new
+            no_seated inside
             (λ i. let a = enough.steps r hr in let b = ap (steps_due n w.kinds) i in let c = longer in let d = moved.room in
             omega (arith, a, b, c, d)) (λ x. enough.steps q h);
-        receipts = λ q h. at_set (λ (s : ChoiceRankState). steps_due n w.kinds q ≤ length s.diary.locals + s.diary.receipts) w.seats r q new no_seated
+        receipts = λ q h. at_set (λ (s : ChoiceRankState). steps_due n w.kinds q ≤ length s.diary.locals + s.diary.receipts) w.seats r q
+            new no_seated
             inside
             (λ i. let a = enough.receipts r hr in let b = ap (steps_due n w.kinds) i in let c = longer in let d = moved.receipts in
             omega (arith, a, b, c, d)) (λ x. enough.receipts q h);
-        bytes = λ q h. at_set (λ (s : ChoiceRankState). 8 * steps_due n w.kinds q ≤ 8 * length s.diary.locals + s.diary.bytes) w.seats r q new no_seated
+        bytes = λ q h. at_set (λ (s : ChoiceRankState). 8 * steps_due n w.kinds q ≤ 8 * length s.diary.locals + s.diary.bytes) w.seats r q
+            new no_seated
             inside
             (λ i. let a = enough.bytes r hr in let b = ap (steps_due n w.kinds) i in let c = longer in let d = moved.bytes in
             omega (arith, a, b, c, d)) (λ x. enough.bytes q h);
         wide = later_size;
-        lanes = λ s d lane hs hd. let a = enough.lanes s d lane hs hd in let b = later_capacity (lane_place n s d lane) in omega (arith, a, b);
+        lanes = λ s d lane hs hd. let a = enough.lanes s d lane hs hd in let b = later_capacity (lane_place n s d lane) in
+            omega (arith, a, b);
       }
 
       pub go_news : HasGo next
       go_news = record {
         some = λ q h. subst (λ (x : Handles). 0 < length x.counters) (sym (kept_same q)) (gone.some q h);
-        go = λ q h. subst (λ (x : Handles). get_or x.counters 0 (handle 0 0) ≡ ct_of (slots_by x) w.kinds Go) (sym (kept_same q)) (gone.go q h);
+        go = λ q h. subst (λ (x : Handles). get_or x.counters 0 (handle 0 0) ≡ ct_of (slots_by x) w.kinds Go) (sym (kept_same q))
+            (gone.go q h);
       }

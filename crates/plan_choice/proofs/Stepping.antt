@@ -1,5 +1,6 @@
 -- The kinds of step of a choice world: what each finds, and what it leaves.
-use Rattle.std.proofs.Common.{ℕ, true, ◌+◌, ◌<◌, ◌≤◌, ◌≡◌, ◌⊎◌, ◌∙◌, List, [], ◌∷◌, ◌++◌, Option, Some, None, drop, length, refl, sym, ap, subst, inl, inr, arith}
+use Rattle.std.proofs.Common.{ℕ, true, ◌+◌, ◌<◌, ◌≤◌, ◌≡◌, ◌⊎◌, ◌∙◌, List, [], ◌∷◌, ◌++◌, Option, Some, None, drop, length, refl, sym, ap,
+    subst, inl, inr, arith}
 use Rattle.ptl_types.specs.declared.headers.Lane.{Lane}
 use Rattle.ptl_types.specs.Kinds.{lane_of}
 use Rattle.ptl_types.specs.Messages.{Sent}
@@ -30,7 +31,8 @@ use Rattle.plan_choice.specs.ranks.Seats.{ChoiceRankState, fired_seat, received_
 use Rattle.plan_choice.specs.Acts.{AreMarked, AreSized, IsFirst, IsStepped, MayMake, made_at, seat_at}
 use Rattle.plan_choice.specs.World.{AreFields, ChoiceState, IsLater, histories_in, ranks_in, scene_in, steps_in}
 use Rattle.plan_choice.proofs.Counting.{counted_news}
-use Rattle.plan_choice.proofs.Moving.{Moved, SameRoom, behind, go_in, go_news, later_news, made_news, may_go_out, moment_in, news_other, next, one_due, room_news, same_lanes, slots_at, standing_news}
+use Rattle.plan_choice.proofs.Moving.{Moved, SameRoom, behind, go_in, go_news, later_news, made_news, may_go_out, moment_in, news_other,
+    next, one_due, room_news, same_lanes, slots_at, standing_news}
 
 -- the world with other seats and lanes
 abbrev pub with_parts : ChoiceState → List ChoiceRankState → List Plain → ChoiceState
@@ -101,7 +103,8 @@ module _ (w : ChoiceState) (starts deliveries firings : List ℕ) (fields : AreF
       }
 
       -- as the code has it
-      pub finish : (nexts : List ChoiceRankState) (out : List Plain) (a b c : List ℕ) (t u : ℕ) → nexts ≡ after_it.seats → out ≡ after_it.lanes
+      pub finish : (nexts : List ChoiceRankState) (out : List Plain) (a b c : List ℕ) (t u : ℕ) → nexts ≡ after_it.seats →
+          out ≡ after_it.lanes
           → t ≡ s → u ≡ d → AreMarked w.ranks nexts out t u starts deliveries firings a b c → IsDone w (named r e) nexts out a b c
       finish nexts out a b c t u es el et eu marked =
           subst (λ ns. IsDone w (named r e) ns out a b c) (sym es)
@@ -160,7 +163,8 @@ module _ (w : ChoiceState) (starts deliveries firings : List ℕ) (fields : AreF
 
     fire_goes : (m : Sent) → made_at w.seats r (Fired t) ≡ Some m → IsSent w.ranks r m
     fire_goes m q =
-        firing_makes w.ranks w.kinds (slots_at w) fields.standing.in_range (histories_in w) (scene_in w).held (moment_in w fields.standing) r t m
+        firing_makes w.ranks w.kinds (slots_at w) fields.standing.in_range (histories_in w) (scene_in w).held
+            (moment_in w fields.standing) r t m
         (ready_is (state_at k z.world r) t (offered k z (Fire r t) listed).1)
         (ap (λ v. (fired v t).message) (sym (fields.standing.nic r fire_rank)) ∙ q)
 
@@ -254,12 +258,14 @@ module _ (w : ChoiceState) (starts deliveries firings : List ℕ) (fields : AreF
 
       short : length m.bytes ≤ 8
       short =
-          (comes w.ranks w.kinds (slots_at w) fields.standing.in_range (histories_in w) (scene_in w).held (moment_in w fields.standing) s d lane
+          (comes w.ranks w.kinds (slots_at w) fields.standing.in_range (histories_in w) (scene_in w).held (moment_in w fields.standing) s
+              d lane
           m (drop 1 ms) source_rank destination_rank front_held).short
 
       for_rank : m.header.target ≡ (seat_at w.seats d).nic.rank
       for_rank =
-          (comes w.ranks w.kinds (slots_at w) fields.standing.in_range (histories_in w) (scene_in w).held (moment_in w fields.standing) s d lane
+          (comes w.ranks w.kinds (slots_at w) fields.standing.in_range (histories_in w) (scene_in w).held (moment_in w fields.standing) s
+              d lane
           m (drop 1 ms) source_rank destination_rank front_held).target
           ∙ sym (ap (λ (v : State). v.rank) (fields.standing.nic d destination_rank ∙ (moment_in w fields.standing).states d))
 
@@ -278,7 +284,8 @@ module _ (w : ChoiceState) (starts deliveries firings : List ℕ) (fields : AreF
           → IsDone w (Deliver s d lane) nexts out a b c
       deliver_done nexts out a b c is =
           let made = is.made m rest first in
-          finish d destination_rank (Received s lane m) mid mid_same listed deliver_so deliver_goes (received_seat s lane m (seat_at w.seats d))
+          finish d destination_rank (Received s lane m) mid mid_same listed deliver_so deliver_goes
+              (received_seat s lane m (seat_at w.seats d))
           deliver_moved s d source_rank destination_rank (inr refl)
           (λ x y l hx hy p q. set_other w.ranks w.lanes fields.room.wide s d lane source_rank destination_rank (drop 1 ms) x y l hy
           (λ one. p (one.source, one.destination)))
@@ -293,7 +300,8 @@ module _ (w : ChoiceState) (starts deliveries firings : List ℕ) (fields : AreF
       λ m rest first. record {
         room = let a = deliver_due m rest first in let b = fields.room.steps d destination_rank in omega (arith, a, b);
         receipts = let a = deliver_due m rest first in let b = fields.room.receipts d destination_rank in omega (arith, a, b);
-        bytes = let a = deliver_due m rest first in let b = fields.room.bytes d destination_rank in let c = short m rest first in omega (arith, a, b, c);
+        bytes = let a = deliver_due m rest first in let b = fields.room.bytes d destination_rank in let c = short m rest first in
+            omega (arith, a, b, c);
         target = for_rank m rest first;
         goes =
             may_go_out w fields.standing fields.room fields.go d destination_rank (Received s lane m) (popped w.ranks s d lane w.lanes)
@@ -339,7 +347,8 @@ module _ (w : ChoiceState) (starts deliveries firings : List ℕ) (fields : AreF
         subst (λ ss. MayMake w.ranks ss lanes x) (sym same_seats)
         (subst (λ ls. MayMake w.ranks w.seats ls x) (sym same) (allowed x i))
 
-    pub lent_done : (x : Step) → In x (steps_in w) → (new nexts : List ChoiceRankState) (last out : List Plain) (a b c : List ℕ) → nexts ≡ new → out ≡ last
+    pub lent_done : (x : Step) → In x (steps_in w) → (new nexts : List ChoiceRankState) (last out : List Plain) (a b c : List ℕ) →
+        nexts ≡ new → out ≡ last
         → IsStepped w.ranks seats lanes starts deliveries firings x new last a b c → IsDone w x nexts out a b c
     lent_done x i new nexts last out a b c en el is =
         done_by x i nexts out a b c

@@ -8,7 +8,8 @@ use Rattle.plan_steps.specs.Sounding.{with_cell, with_cells}
 with-links : (p : Plan) (c : ℕ) (is : List Incoming) → add_links p c is ≡ record p { links = p.links ++ map (link_to c) is }
 unfolding add_links add_link
 with-links p c [] = ap (λ ls. record p { links = ls }) (sym (append-nil p.links))
-with-links p c (i ∷ is) = with-links (add_link p (link_to c i)) c is ∙ ap (λ ls. record p { links = ls }) (append_assoc p.links (link_to c i ∷ []) (map (link_to c) is))
+with-links p c (i ∷ is) = with-links (add_link p (link_to c i)) c is
+    ∙ ap (λ ls. record p { links = ls }) (append_assoc p.links (link_to c i ∷ []) (map (link_to c) is))
 
 pub add-with : (p : Plan) (n : NewCell) → add p n ≡ with_cell p n
 unfolding add add_cell

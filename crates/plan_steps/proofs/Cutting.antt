@@ -1,5 +1,6 @@
 -- Cells that take a part of another one, and lists of cells cut where the first part ends.
-use Rattle.std.proofs.Common.{ℕ, suc, ◌+◌, ◌*◌, ◌/◌, ◌%◌, ◌≡◌, ◌≤◌, ◌<◌, List, [], ◌∷◌, ◌++◌, refl, length, replicate, None, ◌∙◌, sym, subst, inl, inr, arith}
+use Rattle.std.proofs.Common.{ℕ, suc, ◌+◌, ◌*◌, ◌/◌, ◌%◌, ◌≡◌, ◌≤◌, ◌<◌, List, [], ◌∷◌, ◌++◌, refl, length, replicate, None, ◌∙◌, sym,
+    subst, inl, inr, arith}
 use Rattle.op_laws.proofs.Bytes.{length-part, written_all}
 use Rattle.plan_core.specs.Draw.{NewCell}
 use Rattle.plan_core.specs.declared.Cell.{Cell}
@@ -21,37 +22,44 @@ cutting ty n r t from = record { rank = r; ty = ty; op = None; length = n; into 
 abbrev pub cutting_after : ElemType → ℕ → ℕ → ℕ → ℕ → ℕ → NewCell
 cutting_after ty n r a t from = record { rank = r; ty = ty; op = None; length = n; into = bump a ∷ put n t from 0 ∷ [] }
 
-pub cutting-sound : (ranks : ℕ) (k : ℕ → Cell) (c : ℕ) (ty : ElemType) (n r t from : ℕ) → r < ranks → n % bytes_of ty ≡ 0 → t < c → from + n ≤ (k t).length → SoundNewCell ranks k c (cutting ty n r t from)
+pub cutting-sound : (ranks : ℕ) (k : ℕ → Cell) (c : ℕ) (ty : ElemType) (n r t from : ℕ) → r < ranks → n % bytes_of ty ≡ 0 → t < c →
+    from + n ≤ (k t).length → SoundNewCell ranks k c (cutting ty n r t from)
 cutting-sound ranks k c ty n r t from known whole lt fits = record {
   rank_known = known;
   whole = whole;
   some_link = omega arith;
-  each_into = λ i j. elim j [ inl e ↦ subst (SoundIncoming k c (cutting ty n r t from)) e (put-sound k c (cutting ty n r t from) n t from 0 refl lt fits (omega arith)) | inr z ↦ absurd z ];
+  each_into = λ i j. elim j [ inl e ↦ subst (SoundIncoming k c (cutting ty n r t from)) e
+      (put-sound k c (cutting ty n r t from) n t from 0 refl lt fits (omega arith)) | inr z ↦ absurd z ];
   apart = (tt, tt);
   covered = λ e. (let q = sum_by-cons put_length (put n t from 0) [] in omega (arith, q));
 }
 
-pub cutting_after-sound : (ranks : ℕ) (k : ℕ → Cell) (c : ℕ) (ty : ElemType) (n r a t from : ℕ) → r < ranks → n % bytes_of ty ≡ 0 → a < c → (k a).rank ≡ r → t < c → from + n ≤ (k t).length → SoundNewCell ranks k c (cutting_after ty n r a t from)
+pub cutting_after-sound : (ranks : ℕ) (k : ℕ → Cell) (c : ℕ) (ty : ElemType) (n r a t from : ℕ) → r < ranks → n % bytes_of ty ≡ 0 →
+    a < c → (k a).rank ≡ r → t < c → from + n ≤ (k t).length → SoundNewCell ranks k c (cutting_after ty n r a t from)
 cutting_after-sound ranks k c ty n r a t from known whole lta stays lt fits = record {
   rank_known = known;
   whole = whole;
   some_link = omega arith;
   each_into = λ i j. elim j [
     | inl e ↦ subst (SoundIncoming k c (cutting_after ty n r a t from)) e (bump-sound k c (cutting_after ty n r a t from) a refl lta stays)
-    | inr (inl e) ↦ subst (SoundIncoming k c (cutting_after ty n r a t from)) e (put-sound k c (cutting_after ty n r a t from) n t from 0 refl lt fits (omega arith))
+    | inr (inl e) ↦ subst (SoundIncoming k c (cutting_after ty n r a t from)) e
+        (put-sound k c (cutting_after ty n r a t from) n t from 0 refl lt fits (omega arith))
     | inr (inr z) ↦ absurd z
   ];
   apart = (((λ e f. cc), tt), (tt, tt));
-  covered = λ e. (let q = sum_by-cons put_length (bump a) (put n t from 0 ∷ []) in let q' = sum_by-cons put_length (put n t from 0) [] in omega (arith, q, q'));
+  covered = λ e. (let q = sum_by-cons put_length (bump a) (put n t from 0 ∷ []) in let q' = sum_by-cons put_length (put n t from 0) [] in
+      omega (arith, q, q'));
 }
 
 land_part : (n from : ℕ) (x : List ℕ) → from + n ≤ length x → written 0 (part from n x) (replicate n 0) ≡ part from n x
 land_part n from x h = written_all (part from n x) (replicate n 0) (length-part from n x h ∙ sym (length-replicate n 0))
 
-pub cutting-value : (ty : ElemType) (n r t from : ℕ) (v : ℕ → List ℕ) → from + n ≤ length (v t) → new_value (cutting ty n r t from) v ≡ part from n (v t)
+pub cutting-value : (ty : ElemType) (n r t from : ℕ) (v : ℕ → List ℕ) → from + n ≤ length (v t) →
+    new_value (cutting ty n r t from) v ≡ part from n (v t)
 cutting-value ty n r t from v h = land_part n from (v t) h
 
-pub cutting_after-value : (ty : ElemType) (n r a t from : ℕ) (v : ℕ → List ℕ) → from + n ≤ length (v t) → new_value (cutting_after ty n r a t from) v ≡ part from n (v t)
+pub cutting_after-value : (ty : ElemType) (n r a t from : ℕ) (v : ℕ → List ℕ) → from + n ≤ length (v t) →
+    new_value (cutting_after ty n r a t from) v ≡ part from n (v t)
 cutting_after-value ty n r a t from v h = land_part n from (v t) h
 
 -- block r of m blocks lies within them

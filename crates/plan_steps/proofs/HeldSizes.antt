@@ -1,5 +1,6 @@
 -- Members of a list of rising numbers that pass a test.
-use Rattle.std.proofs.Common.{ℕ, zero, suc, Bool, true, false, cond, ◌||◌, ◌+◌, ◌≡◌, ◌<◌, ◌≤◌, ◌==◌, ◌∷◌, refl, filter, ap, ◌∙◌, sym, arith, eq-eqb, eqb-true}
+use Rattle.std.proofs.Common.{ℕ, zero, suc, Bool, true, false, cond, ◌||◌, ◌+◌, ◌≡◌, ◌<◌, ◌≤◌, ◌==◌, ◌∷◌, refl, filter, ap, ◌∙◌, sym, arith,
+    eq-eqb, eqb-true}
 use Rattle.coll_shape.specs.Collectives.{is_in}
 use Rattle.plan_core.specs.Plan.{from_to}
 use Rattle.std.proofs.lemmas.Bool.{ne_eqb}
@@ -8,7 +9,8 @@ not-in : (t : ℕ → Bool) (k n i : ℕ) → i < k → is_in i (filter t (from_
 not-in t k zero i h = refl
 not-in t k (suc n) i h = at (t k) (not-in t (suc k) n i (omega arith))
   where
-    at : (b : Bool) → is_in i (filter t (from_to (suc k) n)) ≡ false → is_in i (cond b (k ∷ filter t (from_to (suc k) n)) (filter t (from_to (suc k) n))) ≡ false
+    at : (b : Bool) → is_in i (filter t (from_to (suc k) n)) ≡ false →
+        is_in i (cond b (k ∷ filter t (from_to (suc k) n)) (filter t (from_to (suc k) n))) ≡ false
     at true e = ap (λ b. b || is_in i (filter t (from_to (suc k) n))) (ne_eqb k i (λ z. absurd (omega arith))) ∙ e
     at false e = e
 
@@ -25,7 +27,8 @@ is_in-filter t k (suc n) i h l = at (t k) refl (k == i) refl (λ g. is_in-filter
     above : (k ≡ i → ⊥) → suc k ≤ i
     above w = omega (arith, w, h)
 
-    at : (b : Bool) → t k ≡ b → (q : Bool) → (k == i) ≡ q → (suc k ≤ i → is_in i (filter t (from_to (suc k) n)) ≡ t i) → is_in i (cond (t k) (k ∷ filter t (from_to (suc k) n)) (filter t (from_to (suc k) n))) ≡ t i
+    at : (b : Bool) → t k ≡ b → (q : Bool) → (k == i) ≡ q → (suc k ≤ i → is_in i (filter t (from_to (suc k) n)) ≡ t i) →
+        is_in i (cond (t k) (k ∷ filter t (from_to (suc k) n)) (filter t (from_to (suc k) n))) ≡ t i
     at true e true f rest =
         ap (λ b. is_in i (cond b (k ∷ filter t (from_to (suc k) n)) (filter t (from_to (suc k) n)))) e
         ∙ ap (λ b. b || is_in i (filter t (from_to (suc k) n))) f

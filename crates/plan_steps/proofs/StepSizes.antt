@@ -1,5 +1,6 @@
 -- How many links and bytes cells have, in a row and in rows, in closed form.
-use Rattle.std.proofs.Common.{ℕ, zero, suc, Bool, true, false, cond, ◌+◌, ◌-◌, ◌*◌, ◌≡◌, ◌<◌, ◌≤◌, ◌==◌, List, ◌∷◌, ◌++◌, refl, length, map, ap, ap₂, ◌∙◌, sym, arith, eq-eqb, eqb-true}
+use Rattle.std.proofs.Common.{ℕ, zero, suc, Bool, true, false, cond, ◌+◌, ◌-◌, ◌*◌, ◌≡◌, ◌<◌, ◌≤◌, ◌==◌, List, ◌∷◌, ◌++◌, refl, length, map,
+    ap, ap₂, ◌∙◌, sym, arith, eq-eqb, eqb-true}
 use Rattle.plan_core.specs.Draw.{NewCell, links_of, bytes_in}
 use Rattle.plan_core.specs.Plan.{from_to}
 use Rattle.plan_steps.specs.Broadcast.{first_cell}
@@ -25,12 +26,14 @@ bytes-append xs ys = sum_by-append (λ (k : NewCell). k.length) xs ys
 pub links-row : (f : ℕ → NewCell) (k n m : ℕ) → ((i : ℕ) → length (f i).into ≡ m) → links_of (map f (from_to k n)) ≡ n * m
 links-row f k zero m h = let e : 0 ≡ 0 * m = omega arith in e
 links-row f k (suc n) m h =
-    links-cons (f k) (map f (from_to (suc k) n)) ∙ ap₂ (λ a b. a + b) (h k) (links-row f (suc k) n m h) ∙ (let e : m + n * m ≡ suc n * m = omega arith in e)
+    links-cons (f k) (map f (from_to (suc k) n)) ∙ ap₂ (λ a b. a + b) (h k) (links-row f (suc k) n m h)
+        ∙ (let e : m + n * m ≡ suc n * m = omega arith in e)
 
 pub bytes-row : (f : ℕ → NewCell) (k n m : ℕ) → ((i : ℕ) → (f i).length ≡ m) → bytes_in (map f (from_to k n)) ≡ n * m
 bytes-row f k zero m h = let e : 0 ≡ 0 * m = omega arith in e
 bytes-row f k (suc n) m h =
-    bytes-cons (f k) (map f (from_to (suc k) n)) ∙ ap₂ (λ a b. a + b) (h k) (bytes-row f (suc k) n m h) ∙ (let e : m + n * m ≡ suc n * m = omega arith in e)
+    bytes-cons (f k) (map f (from_to (suc k) n)) ∙ ap₂ (λ a b. a + b) (h k) (bytes-row f (suc k) n m h)
+        ∙ (let e : m + n * m ≡ suc n * m = omega arith in e)
 
 pub links-rows : (s : StepContext) (f : ℕ → ℕ → NewCell) (a n m : ℕ) → ((k i : ℕ) → length (f k i).into ≡ m)
     → links_of (rows s f a n) ≡ n * (count s * m)
@@ -40,7 +43,8 @@ links-rows s f a (suc n) m h =
     ∙ ap₂ (λ x y. x + y) (links-row (f a) 0 (count s) m (h a)) (links-rows s f (suc a) n m h)
     ∙ (let e : count s * m + n * (count s * m) ≡ suc n * (count s * m) = omega arith in e)
 
-pub bytes-rows : (s : StepContext) (f : ℕ → ℕ → NewCell) (a n m : ℕ) → ((k i : ℕ) → (f k i).length ≡ m) → bytes_in (rows s f a n) ≡ n * (count s * m)
+pub bytes-rows : (s : StepContext) (f : ℕ → ℕ → NewCell) (a n m : ℕ) → ((k i : ℕ) → (f k i).length ≡ m) →
+    bytes_in (rows s f a n) ≡ n * (count s * m)
 bytes-rows s f a zero m h = let e : 0 ≡ 0 * (count s * m) = omega arith in e
 bytes-rows s f a (suc n) m h =
     bytes-append (row s f a) (rows s f (suc a) n)
@@ -48,17 +52,21 @@ bytes-rows s f a (suc n) m h =
     ∙ (let e : count s * m + n * (count s * m) ≡ suc n * (count s * m) = omega arith in e)
 
 -- ---- one cell of another size
-pub links-one : (f : ℕ → NewCell) (k n root a b : ℕ) → k ≤ root → root < k + n → length (f root).into ≡ a → ((i : ℕ) → (i ≡ root → ⊥) → length (f i).into ≡ b)
+pub links-one : (f : ℕ → NewCell) (k n root a b : ℕ) → k ≤ root → root < k + n → length (f root).into ≡ a →
+    ((i : ℕ) → (i ≡ root → ⊥) → length (f i).into ≡ b)
     → links_of (map f (from_to k n)) + b ≡ a + n * b
 links-one f k zero root a b h l x y = absurd (omega arith)
-links-one f k (suc n) root a b h l x y = at (k == root) refl (λ g. links-one f (suc k) n root a b g (let z : root < suc k + n = omega arith in z) x y)
+links-one f k (suc n) root a b h l x y = at (k == root) refl
+    (λ g. links-one f (suc k) n root a b g (let z : root < suc k + n = omega arith in z) x y)
   where
     later : (j m : ℕ) → root < j → links_of (map f (from_to j m)) ≡ m * b
     later j zero g = let e : 0 ≡ 0 * b = omega arith in e
     later j (suc m) g =
-        links-cons (f j) (map f (from_to (suc j) m)) ∙ ap₂ (λ u v. u + v) (y j (λ z. absurd (omega arith))) (later (suc j) m (omega arith)) ∙ (let e : b + m * b ≡ suc m * b = omega arith in e)
+        links-cons (f j) (map f (from_to (suc j) m)) ∙ ap₂ (λ u v. u + v) (y j (λ z. absurd (omega arith)))
+            (later (suc j) m (omega arith)) ∙ (let e : b + m * b ≡ suc m * b = omega arith in e)
 
-    at : (t : Bool) → (k == root) ≡ t → (suc k ≤ root → links_of (map f (from_to (suc k) n)) + b ≡ a + n * b) → links_of (map f (from_to k (suc n))) + b ≡ a + suc n * b
+    at : (t : Bool) → (k == root) ≡ t → (suc k ≤ root → links_of (map f (from_to (suc k) n)) + b ≡ a + n * b) →
+        links_of (map f (from_to k (suc n))) + b ≡ a + suc n * b
     at true e rest =
         let z : k ≡ root = eqb-true _ _ e in
         let c = links-cons (f k) (map f (from_to (suc k) n)) in
@@ -107,12 +115,15 @@ up-bytes s root o = bytes-row (up_at s root o) 0 (count s) s.length (λ i. refl)
 
 rest-none : (f : ℕ → NewCell) (root j m : ℕ) → root < j → ((i : ℕ) → (i ≡ root → ⊥) → (f i).length ≡ 0) → bytes_in (map f (from_to j m)) ≡ 0
 rest-none f root j zero g y = refl
-rest-none f root j (suc m) g y = bytes-cons (f j) (map f (from_to (suc j) m)) ∙ ap₂ (λ u v. u + v) (y j (λ z. absurd (omega arith))) (rest-none f root (suc j) m (omega arith) y)
+rest-none f root j (suc m) g y = bytes-cons (f j) (map f (from_to (suc j) m)) ∙ ap₂ (λ u v. u + v) (y j (λ z. absurd (omega arith)))
+    (rest-none f root (suc j) m (omega arith) y)
 
 -- one cell of a row has data
-bytes-one : (f : ℕ → NewCell) (k n root a : ℕ) → k ≤ root → root < k + n → (f root).length ≡ a → ((i : ℕ) → (i ≡ root → ⊥) → (f i).length ≡ 0) → bytes_in (map f (from_to k n)) ≡ a
+bytes-one : (f : ℕ → NewCell) (k n root a : ℕ) → k ≤ root → root < k + n → (f root).length ≡ a →
+    ((i : ℕ) → (i ≡ root → ⊥) → (f i).length ≡ 0) → bytes_in (map f (from_to k n)) ≡ a
 bytes-one f k zero root a h l x y = absurd (omega arith)
-bytes-one f k (suc n) root a h l x y = at (k == root) refl (λ g. bytes-one f (suc k) n root a g (let z : root < suc k + n = omega arith in z) x y)
+bytes-one f k (suc n) root a h l x y = at (k == root) refl (λ g. bytes-one f (suc k) n root a g (let z : root < suc k + n = omega arith in
+    z) x y)
   where
     differ : k ≡ root → (k == root) ≡ false → ⊥
     differ w e = let t = eq-eqb k root w in clash (sym t ∙ e)
@@ -139,6 +150,7 @@ bytes-one f k (suc n) root a h l x y = at (k == root) refl (λ g. bytes-one f (s
 
 pub first-bytes : (s : StepContext) (root : ℕ) → root < count s → bytes_in (map (first_cell s root) (places s)) ≡ s.length
 first-bytes s root h =
-    bytes-one (first_cell s root) 0 (count s) root s.length (let z : 0 ≤ root = omega arith in z) (let z : root < 0 + count s = omega arith in z)
+    bytes-one (first_cell s root) 0 (count s) root s.length (let z : 0 ≤ root = omega arith in z) (let z : root < 0 + count s =
+                                                                                                         omega arith in z)
     (ap (λ t. (cond t (full_entry s root) (bare_entry s root)).length) (eq-eqb root root refl))
     (λ i n. ap (λ t. (cond t (full_entry s i) (bare_entry s i)).length) (ne_eqb _ _ n))

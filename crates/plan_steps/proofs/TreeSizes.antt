@@ -1,5 +1,6 @@
 -- A tree has one link less than places: each place but the root is the child of one place.
-use Rattle.std.proofs.Common.{ℕ, zero, suc, Bool, true, false, cond, ◌+◌, ◌-◌, ◌≡◌, ◌<◌, ◌≤◌, ◌==◌, [], ◌∷◌, refl, length, map, filter, ap, ap₂, ◌∙◌, sym, arith, eq-eqb, length-append}
+use Rattle.std.proofs.Common.{ℕ, zero, suc, Bool, true, false, cond, ◌+◌, ◌-◌, ◌≡◌, ◌<◌, ◌≤◌, ◌==◌, [], ◌∷◌, refl, length, map, filter, ap,
+    ap₂, ◌∙◌, sym, arith, eq-eqb, length-append}
 use Rattle.std.proofs.lemmas.Bool.{ne_eqb}
 use Rattle.std.proofs.lemmas.List.Elements.{filter-append}
 use Rattle.std.proofs.lemmas.List.Sums.{sum_by-cons, sum_by-append}
@@ -27,7 +28,8 @@ upto-plus f g (suc n) = let e = upto-plus f g n in omega (arith, e)
 
 upto-front : (f : ℕ → ℕ) (n : ℕ) → upto f (suc n) ≡ f 0 + upto (λ i. f (suc i)) n
 upto-front f zero = let e : 0 + f 0 ≡ f 0 + 0 = omega arith in e
-upto-front f (suc n) = ap (λ v. v + f (suc n)) (upto-front f n) ∙ (let e : f 0 + upto (λ i. f (suc i)) n + f (suc n) ≡ f 0 + (upto (λ i. f (suc i)) n + f (suc n)) = omega arith in e)
+upto-front f (suc n) = ap (λ v. v + f (suc n)) (upto-front f n)
+    ∙ (let e : f 0 + upto (λ i. f (suc i)) n + f (suc n) ≡ f 0 + (upto (λ i. f (suc i)) n + f (suc n)) = omega arith in e)
 
 upto-turned : (f : ℕ → ℕ) (n : ℕ) → upto (λ j. f (n - 1 - j)) n ≡ upto f n
 upto-turned f zero = refl
@@ -35,7 +37,8 @@ upto-turned f (suc n) =
     upto-front (λ j. f (suc n - 1 - j)) n
     ∙ ap₂ (λ a b. a + b)
     (ap f (let e : suc n - 1 - 0 ≡ n = omega arith in e))
-    (upto-same (λ i. f (suc n - 1 - suc i)) (λ j. f (n - 1 - j)) n (λ i l. ap f (let e : suc n - 1 - suc i ≡ n - 1 - i = omega arith in e)) ∙ upto-turned f n)
+    (upto-same (λ i. f (suc n - 1 - suc i)) (λ j. f (n - 1 - j)) n
+        (λ i l. ap f (let e : suc n - 1 - suc i ≡ n - 1 - i = omega arith in e)) ∙ upto-turned f n)
     ∙ (let e : f n + upto f n ≡ upto f n + f n = omega arith in e)
 
 -- one of the numbers below n is p
@@ -79,7 +82,8 @@ child-more n v h =
     ap (λ k. length (filter (λ w. parent w == v) (from_to (suc v) k))) (let e : suc n - suc v ≡ suc (n - suc v) = omega arith in e)
     ∙ ap (λ xs. length (filter (λ w. parent w == v) xs)) (from_to-more (suc v) (n - suc v))
     ∙ ap length (filter-append (λ w. parent w == v) (from_to (suc v) (n - suc v)) ((suc v + (n - suc v)) ∷ []))
-    ∙ length-append (filter (λ w. parent w == v) (from_to (suc v) (n - suc v))) (cond (parent (suc v + (n - suc v)) == v) ((suc v + (n - suc v)) ∷ []) [])
+    ∙ length-append (filter (λ w. parent w == v) (from_to (suc v) (n - suc v)))
+        (cond (parent (suc v + (n - suc v)) == v) ((suc v + (n - suc v)) ∷ []) [])
     ∙ ap (λ k. child_count n v + length (cond (parent k == v) (k ∷ []) [])) (let e : suc v + (n - suc v) ≡ n = omega arith in e)
     ∙ ap (λ k. child_count n v + k) (at (parent n == v))
   where
@@ -107,7 +111,9 @@ links-upto g (suc n) =
     ap (λ v. links_of (map g v)) (from_to-more 0 n)
     ∙ ap links_of (Rattle.std.proofs.lemmas.List.map-append g (from_to 0 n) ((0 + n) ∷ []))
     ∙ sum_by-append (λ (k : NewCell). length k.into) (map g (from_to 0 n)) (g (0 + n) ∷ [])
-    ∙ ap₂ (λ a b. a + b) (links-upto g n) (sum_by-cons (λ (k : NewCell). length k.into) (g (0 + n)) [] ∙ ap (λ v. length (g v).into + 0) (let e : 0 + n ≡ n = omega arith in e) ∙ (let e : length (g n).into + 0 ≡ length (g n).into = omega arith in e))
+    ∙ ap₂ (λ a b. a + b) (links-upto g n) (sum_by-cons (λ (k : NewCell). length k.into) (g (0 + n)) []
+        ∙ ap (λ v. length (g v).into + 0) (let e : 0 + n ≡ n = omega arith in e)
+        ∙ (let e : length (g n).into + 0 ≡ length (g n).into = omega arith in e))
 
 ones : (n : ℕ) → upto (λ i. 1) n ≡ n
 ones zero = refl
@@ -118,7 +124,9 @@ pub up-links : (s : StepContext) (root : ℕ) (o : AtomicOp) → 0 < count s →
 up-links s root o pos =
     links-upto (up_at s root o) (count s)
     ∙ upto-same (λ j. length (up_at s root o j).into) (λ j. 1 + child_count (count s) (count s - 1 - j)) (count s)
-    (λ j h. length-map' (atomic s.length) (up_sources s root (count s - 1 - j)) ∙ ap suc (length-map' (up_number s) (children (count s - 1 - j) (suc (count s - 1 - j)) (count s - suc (count s - 1 - j)))) ∙ (let e : suc (child_count (count s) (count s - 1 - j)) ≡ 1 + child_count (count s) (count s - 1 - j) = omega arith in e))
+    (λ j h. length-map' (atomic s.length) (up_sources s root (count s - 1 - j))
+        ∙ ap suc (length-map' (up_number s) (children (count s - 1 - j) (suc (count s - 1 - j)) (count s - suc (count s - 1 - j))))
+        ∙ (let e : suc (child_count (count s) (count s - 1 - j)) ≡ 1 + child_count (count s) (count s - 1 - j) = omega arith in e))
     ∙ upto-turned (λ v. 1 + child_count (count s) v) (count s)
     ∙ upto-plus (λ v. 1) (child_count (count s)) (count s)
     ∙ ap₂ (λ a b. a + b) (ones (count s))

@@ -1,5 +1,6 @@
 -- The calls of a rank, joined from their parts.
-use Rattle.std.proofs.Common.{ℕ, ◌+◌, ◌*◌, ◌≡◌, ◌≤◌, List, [], ◌∷◌, ◌++◌, refl, length, map, max, ap, ap₂, ◌∙◌, sym, arith, length-append, append_assoc}
+use Rattle.std.proofs.Common.{ℕ, ◌+◌, ◌*◌, ◌≡◌, ◌≤◌, List, [], ◌∷◌, ◌++◌, refl, length, map, max, ap, ap₂, ◌∙◌, sym, arith, length-append,
+    append_assoc}
 use Rattle.std.proofs.lemmas.List.{length-map, map-append}
 use Rattle.ptl_types.specs.declared.steps.Call.{Call}
 use Rattle.ptl_types.specs.declared.steps.Call.TheVariants.{PtAlloc, CtDone, CtCell, MdBind}
@@ -15,11 +16,14 @@ map-twice g f [] = refl
 map-twice g f (x ∷ xs) = ap (λ v. g (f x) ∷ v) (map-twice g f xs)
 
 -- the operations of a rank are those of its links, then those of its cells
-pub rank_ops-apart : (p : Plan) (r : ℕ) → map (trigger p) (rank_ops p r) ≡ map (λ l. trigger p (ForLink l)) (out_links p r) ++ map (λ c. trigger p (ForDone c)) (own p r)
-rank_ops-apart p r = map-append (trigger p) (map ForLink (out_links p r)) (map ForDone (own p r)) ∙ ap₂ (λ a b. a ++ b) (map-twice (trigger p) ForLink (out_links p r)) (map-twice (trigger p) ForDone (own p r))
+pub rank_ops-apart : (p : Plan) (r : ℕ) → map (trigger p) (rank_ops p r) ≡ map (λ l. trigger p (ForLink l)) (out_links p r) ++ map
+    (λ c. trigger p (ForDone c)) (own p r)
+rank_ops-apart p r = map-append (trigger p) (map ForLink (out_links p r)) (map ForDone (own p r))
+    ∙ ap₂ (λ a b. a ++ b) (map-twice (trigger p) ForLink (out_links p r)) (map-twice (trigger p) ForDone (own p r))
 
 -- seven parts, appended one after the other
-pub joined : (x y z : Call) (a b c d : List Call) → ((((((([] ++ x ∷ []) ++ a) ++ y ∷ []) ++ b) ++ z ∷ []) ++ c) ++ d) ≡ x ∷ (a ++ (y ∷ (b ++ (z ∷ (c ++ d)))))
+pub joined : (x y z : Call) (a b c d : List Call) → ((((((([] ++ x ∷ []) ++ a) ++ y ∷ []) ++ b) ++ z ∷ []) ++ c) ++ d) ≡ x
+    ∷ (a ++ (y ∷ (b ++ (z ∷ (c ++ d)))))
 joined x y z a b c d =
     append_assoc (((((x ∷ []) ++ a) ++ y ∷ []) ++ b) ++ z ∷ []) c d
     ∙ append_assoc ((((x ∷ []) ++ a) ++ y ∷ []) ++ b) (z ∷ []) (c ++ d)
@@ -27,10 +31,14 @@ joined x y z a b c d =
     ∙ append_assoc ((x ∷ []) ++ a) (y ∷ []) (b ++ (z ∷ (c ++ d)))
     ∙ append_assoc (x ∷ []) a (y ∷ (b ++ (z ∷ (c ++ d))))
 
-pub prepared : (p : Plan) (r : ℕ) → ((((((([] ++ PtAlloc ∷ []) ++ map (area_call p r) (classes p r)) ++ CtDone ∷ []) ++ map CtCell (own p r)) ++ MdBind (region_length p r + areas_length p r) p.remote ∷ []) ++ map (λ l. trigger p (ForLink l)) (out_links p r)) ++ map (λ c. trigger p (ForDone c)) (own p r)) ≡ prepare_calls p r
+pub prepared : (p : Plan) (r : ℕ) → ((((((([] ++ PtAlloc ∷ []) ++ map (area_call p r) (classes p r)) ++ CtDone ∷ []) ++ map CtCell
+    (own p r)) ++ MdBind (region_length p r + areas_length p r) p.remote ∷ []) ++ map (λ l. trigger p (ForLink l)) (out_links p r)) ++ map
+    (λ c. trigger p (ForDone c)) (own p r)) ≡ prepare_calls p r
 prepared p r =
-    joined PtAlloc CtDone (MdBind (region_length p r + areas_length p r) p.remote) (map (area_call p r) (classes p r)) (map CtCell (own p r)) (map (λ l. trigger p (ForLink l)) (out_links p r)) (map (λ c. trigger p (ForDone c)) (own p r))
-    ∙ ap (λ v. PtAlloc ∷ (map (area_call p r) (classes p r) ++ (CtDone ∷ (map CtCell (own p r) ++ (MdBind (region_length p r + areas_length p r) p.remote ∷ v))))) (sym (rank_ops-apart p r))
+    joined PtAlloc CtDone (MdBind (region_length p r + areas_length p r) p.remote) (map (area_call p r) (classes p r))
+        (map CtCell (own p r)) (map (λ l. trigger p (ForLink l)) (out_links p r)) (map (λ c. trigger p (ForDone c)) (own p r))
+    ∙ ap (λ v. PtAlloc ∷ (map (area_call p r) (classes p r) ++
+        (CtDone ∷ (map CtCell (own p r) ++ (MdBind (region_length p r + areas_length p r) p.remote ∷ v))))) (sym (rank_ops-apart p r))
 
 -- how many calls there are
 pub calls-count : (p : Plan) (r : ℕ) → length (prepare_calls p r) ≡ 3 + length (classes p r) + 2 * length (own p r) + length (out_links p r)

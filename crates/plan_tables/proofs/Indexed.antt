@@ -1,5 +1,6 @@
 -- What stands in the lists of the tables.
-use Rattle.std.proofs.Common.{ℕ, zero, suc, Bool, true, false, cond, ◌+◌, ◌≡◌, ◌≤◌, ◌<◌, List, [], ◌∷◌, refl, length, filter, get_or, ap, ◌∙◌, subst, arith, le_of_suc-le-suc}
+use Rattle.std.proofs.Common.{ℕ, zero, suc, Bool, true, false, cond, ◌+◌, ◌≡◌, ◌≤◌, ◌<◌, List, [], ◌∷◌, refl, length, filter, get_or, ap,
+    ◌∙◌, subst, arith, le_of_suc-le-suc}
 use Rattle.plan_core.specs.Plan.{from_to}
 
 -- at place i of the numbers from a on, n of them, that pass a test
@@ -38,7 +39,8 @@ pub at_most-filtered : (t : ℕ → Bool) (n : ℕ) → length (filter t (from_t
 at_most-filtered t n = let a = filter-shorter t (from_to 0 n) in let b = length-numbers 0 n in omega (arith, a, b)
 
 pub all-below : (t : ℕ → Bool) (n : ℕ) (xs : List ℕ) → xs ≡ filter t (from_to 0 n) → (i : ℕ) → i < length xs → get_or xs i 0 < n
-all-below t n xs e i h = let m = (filter-at t 0 n i (subst (λ v. i < length v) e h)).most in let g = ap (λ v. get_or v i 0) e in omega (arith, m, g)
+all-below t n xs e i h = let m = (filter-at t 0 n i (subst (λ v. i < length v) e h)).most in let g = ap (λ v. get_or v i 0) e in
+    omega (arith, m, g)
 
 pub all-pass : (t : ℕ → Bool) (n : ℕ) (xs : List ℕ) → xs ≡ filter t (from_to 0 n) → (i : ℕ) → i < length xs → t (get_or xs i 0) ≡ true
 all-pass t n xs e i h = ap (λ v. t (get_or v i 0)) e ∙ (filter-at t 0 n i (subst (λ v. i < length v) e h)).passes

@@ -1,5 +1,6 @@
 -- Tables that one pass makes: a thing more changes the place of its key alone.
-use Rattle.std.proofs.Common.{ℕ, zero, suc, Bool, true, false, cond, ◌+◌, ◌≡◌, ◌<◌, ◌≤◌, ◌==◌, List, [], ◌∷◌, ◌++◌, refl, length, map, set, get_or, filter, ap, ap₂, ◌∙◌, sym, arith, append-nil, le_of_suc-le-suc, eq-eqb}
+use Rattle.std.proofs.Common.{ℕ, zero, suc, Bool, true, false, cond, ◌+◌, ◌≡◌, ◌<◌, ◌≤◌, ◌==◌, List, [], ◌∷◌, ◌++◌, refl, length, map, set,
+    get_or, filter, ap, ap₂, ◌∙◌, sym, arith, append-nil, le_of_suc-le-suc, eq-eqb}
 use Rattle.std.proofs.lemmas.List.Elements.{filter-append}
 use Rattle.std.proofs.lemmas.Bool.{ne_eqb}
 use Rattle.plan_core.specs.Plan.{from_to}
@@ -10,7 +11,8 @@ use Rattle.plan_tables.proofs.Indexed.{at_most-filtered}
 set-from : {X : Type 0} (f g : ℕ → X) (k n r : ℕ) (x : X) → r < n → ((q : ℕ) → q < n → (q ≡ r → ⊥) → f (k + q) ≡ g (k + q)) → x ≡ g (k + r)
     → set (map f (from_to k n)) r x ≡ map g (from_to k n)
 set-from f g k zero r x h o e = absurd (omega arith)
-set-from f g k (suc n) zero x h o e = ap₂ (λ a b. a ∷ b) (e ∙ ap g (let z : k + 0 ≡ k = omega arith in z)) (rest n k (λ q i. o (suc q) (omega arith) (λ z. absurd (omega arith))))
+set-from f g k (suc n) zero x h o e = ap₂ (λ a b. a ∷ b) (e ∙ ap g (let z : k + 0 ≡ k = omega arith in z))
+    (rest n k (λ q i. o (suc q) (omega arith) (λ z. absurd (omega arith))))
   where
     rest : (n k : ℕ) → ((q : ℕ) → q < n → f (k + suc q) ≡ g (k + suc q)) → map f (from_to (suc k) n) ≡ map g (from_to (suc k) n)
     rest zero k o = refl
@@ -26,7 +28,8 @@ set-from f g k (suc n) (suc r) x h o e =
     (e ∙ ap g (let z : k + suc r ≡ suc k + r = omega arith in z)))
 
 -- a row in which one thing changes
-pub set-row : {X : Type 0} (f g : ℕ → X) (n r : ℕ) (x : X) → r < n → ((q : ℕ) → q < n → (q ≡ r → ⊥) → f q ≡ g q) → x ≡ g r → set (map f (from_to 0 n)) r x ≡ map g (from_to 0 n)
+pub set-row : {X : Type 0} (f g : ℕ → X) (n r : ℕ) (x : X) → r < n → ((q : ℕ) → q < n → (q ≡ r → ⊥) → f q ≡ g q) → x ≡ g r →
+    set (map f (from_to 0 n)) r x ≡ map g (from_to 0 n)
 set-row f g n r x h o e =
     set-from f g 0 n r x h
     (λ q i w. let z : 0 + q ≡ q = omega arith in ap f z ∙ o q i w ∙ ap g (sym z))
@@ -64,10 +67,12 @@ keyed-more key g k n x h e =
     (λ q i w. ap g (sym (upto-out (λ j. key j == q) k (ne_eqb _ _ (λ z. w (sym z))))))
     (e ∙ ap g (sym (upto-in (λ j. key j == key k) k (eq-eqb _ _ refl))))
 
-pub listed-more : (key : ℕ → ℕ) (k n : ℕ) (own : List (List ℕ)) → key k < n → own ≡ map (of_key key k) (from_to 0 n) → set own (key k) (get_or own (key k) [] ++ k ∷ []) ≡ map (of_key key (k + 1)) (from_to 0 n)
+pub listed-more : (key : ℕ → ℕ) (k n : ℕ) (own : List (List ℕ)) → key k < n → own ≡ map (of_key key k) (from_to 0 n) →
+    set own (key k) (get_or own (key k) [] ++ k ∷ []) ≡ map (of_key key (k + 1)) (from_to 0 n)
 listed-more key k n own h e =
     ap (λ v. set v (key k) (get_or v (key k) [] ++ k ∷ [])) e
-    ∙ keyed-more key (λ v. v) k n (get_or (map (of_key key k) (from_to 0 n)) (key k) [] ++ k ∷ []) h (ap (λ v. v ++ k ∷ []) (get-row (of_key key k) n (key k) [] h))
+    ∙ keyed-more key (λ v. v) k n (get_or (map (of_key key k) (from_to 0 n)) (key k) [] ++ k ∷ []) h
+        (ap (λ v. v ++ k ∷ []) (get-row (of_key key k) n (key k) [] h))
 
 pub length-table : {X : Type 0} (f : ℕ → X) (n : ℕ) (own : List X) → own ≡ map f (from_to 0 n) → length own ≡ n
 length-table f n own e = ap length e ∙ length-row f 0 n
@@ -78,8 +83,10 @@ get_or-any [] i d e h = absurd (omega arith)
 get_or-any (x ∷ xs) zero d e h = refl
 get_or-any (x ∷ xs) (suc i) d e h = get_or-any xs i d e (le_of_suc-le-suc h)
 
-pub keyed-out : {X : Type 0} (key : ℕ → ℕ) (g : List ℕ → X) (k n : ℕ) → n ≤ key k → map (λ i. g (of_key key k i)) (from_to 0 n) ≡ map (λ i. g (of_key key (k + 1) i)) (from_to 0 n)
-keyed-out key g k n h = row-same (λ i. g (of_key key k i)) (λ i. g (of_key key (k + 1) i)) 0 n (λ i l. ap g (sym (upto-out (λ j. key j == i) k (ne_eqb _ _ (λ z. absurd (omega arith))))))
+pub keyed-out : {X : Type 0} (key : ℕ → ℕ) (g : List ℕ → X) (k n : ℕ) → n ≤ key k → map (λ i. g (of_key key k i)) (from_to 0 n) ≡ map
+    (λ i. g (of_key key (k + 1) i)) (from_to 0 n)
+keyed-out key g k n h = row-same (λ i. g (of_key key k i)) (λ i. g (of_key key (k + 1) i)) 0 n
+    (λ i l. ap g (sym (upto-out (λ j. key j == i) k (ne_eqb _ _ (λ z. absurd (omega arith))))))
 
 pub at_most-of_key : (key : ℕ → ℕ) (k i : ℕ) → length (of_key key k i) ≤ k
 at_most-of_key key k i = at_most-filtered (λ j. key j == i) k

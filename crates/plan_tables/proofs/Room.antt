@@ -1,5 +1,6 @@
 -- What a rank needs is small: starts of cells and areas, and the bytes of the messages that come to it.
-use Rattle.std.proofs.Common.{ℕ, zero, suc, Bool, true, false, cond, ◌==◌, ◌+◌, ◌*◌, ◌^◌, ◌≡◌, ◌<◌, ◌≤◌, List, [], ◌∷◌, refl, length, filter, get_or, sum_by, ap, ap₂, ◌∙◌, sym, arith, eqb-true}
+use Rattle.std.proofs.Common.{ℕ, zero, suc, Bool, true, false, cond, ◌==◌, ◌+◌, ◌*◌, ◌^◌, ◌≡◌, ◌<◌, ◌≤◌, List, [], ◌∷◌, refl, length,
+    filter, get_or, sum_by, ap, ap₂, ◌∙◌, sym, arith, eqb-true}
 use Rattle.std.proofs.lemmas.Bool.{ne_eqb}
 use Rattle.std.proofs.lemmas.List.Sums.{sum_by-cons}
 use Rattle.plan_core.specs.declared.Link.{Link}
@@ -11,7 +12,8 @@ use Rattle.plan_tables.specs.Tables.{IsTabled, rank_of, link_length}
 use Rattle.plan_tables.specs.AreaTables.{counted_start, message_key}
 use Rattle.plan_tables.proofs.Sums.{at_most-bytes, numbered, start-own, sum-filter_le}
 
-numbered-links : (xs ys : List Link) (k : ℕ) → ((i : ℕ) → get_or ys (k + i) no_link ≡ get_or xs i no_link) → sum_by (λ l. (get_or ys l no_link).length) (from_to k (length xs)) ≡ sum_by (λ (x : Link). x.length) xs
+numbered-links : (xs ys : List Link) (k : ℕ) → ((i : ℕ) → get_or ys (k + i) no_link ≡ get_or xs i no_link) →
+    sum_by (λ l. (get_or ys l no_link).length) (from_to k (length xs)) ≡ sum_by (λ (x : Link). x.length) xs
 numbered-links [] ys k h = refl
 numbered-links (x ∷ xs) ys k h =
     sum_by-cons (λ l. (get_or ys l no_link).length) k (from_to (suc k) (length xs))
@@ -47,20 +49,24 @@ sums-same f g a (suc n) same =
     omega (arith, x, y, u, v)
 
 -- one of the sums has x more
-one-more : (base k x : ℕ) (g : ℕ → ℕ) (a n : ℕ) → sum_by (λ i. cond (k == base + i) (x + g i) (g i)) (from_to a n) ≤ x + sum_by g (from_to a n)
+one-more : (base k x : ℕ) (g : ℕ → ℕ) (a n : ℕ) → sum_by (λ i. cond (k == base + i) (x + g i) (g i)) (from_to a n) ≤ x + sum_by g
+    (from_to a n)
 one-more base k x g a zero = omega arith
 one-more base k x g a (suc n) = at (k == base + a) refl (one-more base k x g (suc a) n)
   where
     h : ℕ → ℕ
     h i = cond (k == base + i) (x + g i) (g i)
 
-    at : (b : Bool) → (k == base + a) ≡ b → sum_by (λ i. cond (k == base + i) (x + g i) (g i)) (from_to (suc a) n) ≤ x + sum_by g (from_to (suc a) n) → sum_by (λ i. cond (k == base + i) (x + g i) (g i)) (a ∷ from_to (suc a) n) ≤ x + sum_by g (a ∷ from_to (suc a) n)
+    at : (b : Bool) → (k == base + a) ≡ b → sum_by (λ i. cond (k == base + i) (x + g i) (g i)) (from_to (suc a) n) ≤ x + sum_by g
+        (from_to (suc a) n) → sum_by (λ i. cond (k == base + i) (x + g i) (g i)) (a ∷ from_to (suc a) n) ≤ x + sum_by g
+        (a ∷ from_to (suc a) n)
     at true e rest =
         let u = sum_by-cons (λ i. cond (k == base + i) (x + g i) (g i)) a (from_to (suc a) n) in
         let v = sum_by-cons g a (from_to (suc a) n) in
         let w = ap (λ b. cond b (x + g a) (g a)) e in
         let q = eqb-true _ _ e in
-        let s = sums-same (λ i. cond (k == base + i) (x + g i) (g i)) g (suc a) n (λ i l. ap (λ b. cond b (x + g i) (g i)) (ne_eqb k (base + i) (λ z. absurd (omega (arith, q, z, l))))) in
+        let s = sums-same (λ i. cond (k == base + i) (x + g i) (g i)) g (suc a) n
+              (λ i l. ap (λ b. cond b (x + g i) (g i)) (ne_eqb k (base + i) (λ z. absurd (omega (arith, q, z, l))))) in
         omega (arith, u, v, w, s)
     at false e rest =
         let u = sum_by-cons (λ i. cond (k == base + i) (x + g i) (g i)) a (from_to (suc a) n) in
@@ -72,10 +78,13 @@ no-sums : (f : ℕ → ℕ) (a n : ℕ) → sum_by (λ i. sum_by f []) (from_to 
 no-sums f a zero = refl
 no-sums f a (suc n) = let x = sum_by-cons (λ i. sum_by f []) a (from_to (suc a) n) in let y = no-sums f (suc a) n in omega (arith, x, y)
 
-by-key : (key f : ℕ → ℕ) (base : ℕ) (ls : List ℕ) (a n : ℕ) → sum_by (λ i. sum_by f (filter (λ l. key l == base + i) ls)) (from_to a n) ≤ sum_by f ls
+by-key : (key f : ℕ → ℕ) (base : ℕ) (ls : List ℕ) (a n : ℕ) → sum_by (λ i. sum_by f (filter (λ l. key l == base + i) ls)) (from_to a n)
+    ≤ sum_by f ls
 by-key key f base [] a n = let e = no-sums f a n in omega (arith, e)
 by-key key f base (l ∷ ls) a n =
-    let s = sums-same (λ i. sum_by f (cond (key l == base + i) (l ∷ filter (λ l. key l == base + i) ls) (filter (λ l. key l == base + i) ls))) (λ i. cond (key l == base + i) (f l + sum_by f (filter (λ l. key l == base + i) ls)) (sum_by f (filter (λ l. key l == base + i) ls))) a n (λ i h. split (key l == base + i) (filter (λ l. key l == base + i) ls)) in
+    let s = sums-same (λ i. sum_by f (cond (key l == base + i) (l ∷ filter (λ l. key l == base + i) ls)
+          (filter (λ l. key l == base + i) ls))) (λ i. cond (key l == base + i) (f l + sum_by f (filter (λ l. key l == base + i) ls))
+          (sum_by f (filter (λ l. key l == base + i) ls))) a n (λ i h. split (key l == base + i) (filter (λ l. key l == base + i) ls)) in
     let m = one-more base (key l) (f l) (λ i. sum_by f (filter (λ l. key l == base + i) ls)) a n in
     let r = by-key key f base ls a n in
     let c = sum_by-cons f l ls in

@@ -1,5 +1,6 @@
 -- Sums and counts by key, and where a cell begins in its rank's memory.
-use Rattle.std.proofs.Common.{ℕ, zero, suc, Bool, true, false, cond, ◌+◌, ◌-◌, ◌≡◌, ◌<◌, ◌≤◌, ◌==◌, List, [], ◌∷◌, ◌++◌, refl, length, map, set, get_or, filter, replicate, sum_by, ap, ap₂, ◌∙◌, sym, arith, inl, inr, eq-eqb, length-append, nat_lt}
+use Rattle.std.proofs.Common.{ℕ, zero, suc, Bool, true, false, cond, ◌+◌, ◌-◌, ◌≡◌, ◌<◌, ◌≤◌, ◌==◌, List, [], ◌∷◌, ◌++◌, refl, length, map,
+    set, get_or, filter, replicate, sum_by, ap, ap₂, ◌∙◌, sym, arith, inl, inr, eq-eqb, length-append, nat_lt}
 use Rattle.std.proofs.lemmas.List.Elements.{filter-append}
 use Rattle.std.proofs.lemmas.List.Sums.{sum_by-cons, sum_by-append}
 use Rattle.std.proofs.lemmas.Bool.{ne_eqb, ltb-true, ltb-false}
@@ -67,7 +68,8 @@ counted-at_most key k n i xs e = at (nat_lt i n) refl
         omega (arith, g)
 
 -- ---- where a cell begins
-start_by-behind : (len : ℕ → ℕ) (xs : List ℕ) (c : ℕ) (ys : List ℕ) → ((x : ℕ) → In x xs → x ≡ c → ⊥) → start_by len (xs ++ c ∷ ys) c ≡ sum_by len xs
+start_by-behind : (len : ℕ → ℕ) (xs : List ℕ) (c : ℕ) (ys : List ℕ) → ((x : ℕ) → In x xs → x ≡ c → ⊥) →
+    start_by len (xs ++ c ∷ ys) c ≡ sum_by len xs
 start_by-behind len [] c ys h = ap (λ b. cond b 0 (len c + start_by len ys c)) (eq-eqb c c refl)
 start_by-behind len (x ∷ xs) c ys h =
     ap (λ b. cond b 0 (len x + start_by len (xs ++ c ∷ ys) c)) (ne_eqb _ _ (h x (inl refl)))
@@ -101,10 +103,12 @@ sum-filter_le t f (x ∷ xs) = at (t x) (sum-filter_le t f xs)
 
 pub sum-prefix : (f : ℕ → ℕ) (k n : ℕ) → k ≤ n → sum_by f (from_to 0 k) ≤ sum_by f (from_to 0 n)
 sum-prefix f k n h =
-    let e = ap (λ v. sum_by f (from_to 0 v)) (let z : n ≡ k + (n - k) = omega arith in z) ∙ ap (sum_by f) (from_to-append 0 k (n - k)) ∙ sum_by-append f (from_to 0 k) (from_to (0 + k) (n - k)) in
+    let e = ap (λ v. sum_by f (from_to 0 v)) (let z : n ≡ k + (n - k) = omega arith in z) ∙ ap (sum_by f) (from_to-append 0 k (n - k))
+          ∙ sum_by-append f (from_to 0 k) (from_to (0 + k) (n - k)) in
     omega (arith, e)
 
-pub numbered : (xs ys : List Cell) (k : ℕ) → ((i : ℕ) → get_or ys (k + i) no_cell ≡ get_or xs i no_cell) → sum_by (λ c. (get_or ys c no_cell).length) (from_to k (length xs)) ≡ sum_by (λ (c : Cell). c.length) xs
+pub numbered : (xs ys : List Cell) (k : ℕ) → ((i : ℕ) → get_or ys (k + i) no_cell ≡ get_or xs i no_cell) →
+    sum_by (λ c. (get_or ys c no_cell).length) (from_to k (length xs)) ≡ sum_by (λ (c : Cell). c.length) xs
 numbered [] ys k h = refl
 numbered (x ∷ xs) ys k h =
     sum_by-cons (λ c. (get_or ys c no_cell).length) k (from_to (suc k) (length xs))
@@ -113,7 +117,8 @@ numbered (x ∷ xs) ys k h =
     ∙ sym (sum_by-cons (λ (c : Cell). c.length) x xs)
 
 -- the bytes of a rank's cells up to cell c are few
-pub at_most-bytes : (p : Plan) (c m : ℕ) → c < length p.cells → sum_by (λ k. k.length) p.cells < m → sum_by (cell_length p) (of_key (rank_of p) c (rank_of p c)) + cell_length p c < m
+pub at_most-bytes : (p : Plan) (c m : ℕ) → c < length p.cells → sum_by (λ k. k.length) p.cells < m →
+    sum_by (cell_length p) (of_key (rank_of p) c (rank_of p c)) + cell_length p c < m
 at_most-bytes p c m h l =
     let t : ℕ → Bool = λ k. rank_of p k == rank_of p c in
     let a = ap (sum_by (cell_length p)) (upto-in t c (eq-eqb _ _ refl)) ∙ sum_by-append (cell_length p) (filter t (from_to 0 c)) (c ∷ []) in
@@ -123,11 +128,15 @@ at_most-bytes p c m h l =
     let f = numbered p.cells p.cells 0 (λ i. ap (λ v. get_or p.cells v no_cell) (let z : 0 + i ≡ i = omega arith in z)) in
     omega (arith, a, b, d, e, f, l)
 
-pub bytes-more : (p : Plan) (c n x : ℕ) → rank_of p c < n → x ≡ sum_by (cell_length p) (of_key (rank_of p) c (rank_of p c)) + cell_length p c
-    → set (map (λ r. sum_by (cell_length p) (of_key (rank_of p) c r)) (from_to 0 n)) (rank_of p c) x ≡ map (λ r. sum_by (cell_length p) (of_key (rank_of p) (c + 1) r)) (from_to 0 n)
+pub bytes-more : (p : Plan) (c n x : ℕ) → rank_of p c < n → x ≡ sum_by (cell_length p) (of_key (rank_of p) c (rank_of p c)) + cell_length
+    p c
+    → set (map (λ r. sum_by (cell_length p) (of_key (rank_of p) c r)) (from_to 0 n)) (rank_of p c) x ≡ map
+        (λ r. sum_by (cell_length p) (of_key (rank_of p) (c + 1) r)) (from_to 0 n)
 bytes-more p c n x h e =
     keyed-more (rank_of p) (sum_by (cell_length p)) c n x h
-    (e ∙ sym (sum_by-append (cell_length p) (of_key (rank_of p) c (rank_of p c)) (c ∷ []) ∙ ap (λ v. sum_by (cell_length p) (of_key (rank_of p) c (rank_of p c)) + v) (sum_by-cons (cell_length p) c [] ∙ (let z : cell_length p c + 0 ≡ cell_length p c = omega arith in z))))
+    (e ∙ sym (sum_by-append (cell_length p) (of_key (rank_of p) c (rank_of p c)) (c ∷ [])
+        ∙ ap (λ v. sum_by (cell_length p) (of_key (rank_of p) c (rank_of p c)) + v) (sum_by-cons (cell_length p) c []
+        ∙ (let z : cell_length p c + 0 ≡ cell_length p c = omega arith in z))))
 
 -- ---- sums by any key
 abbrev pub sums : (ℕ → ℕ) → (ℕ → ℕ) → ℕ → ℕ → List ℕ
@@ -164,7 +173,8 @@ at_most-sum key f k n m h l =
     omega (arith, a, d, e, l)
 
 -- a sum that is kept stays small, and one that isn't kept is that of a single thing
-pub summed-at_most : (key f : ℕ → ℕ) (k n len m : ℕ) (xs : List ℕ) → xs ≡ sums key f k n → k < len → sum_by f (from_to 0 len) < m → get_or xs (key k) 0 + f k < m
+pub summed-at_most : (key f : ℕ → ℕ) (k n len m : ℕ) (xs : List ℕ) → xs ≡ sums key f k n → k < len → sum_by f (from_to 0 len) < m →
+    get_or xs (key k) 0 + f k < m
 summed-at_most key f k n len m xs e h l = at (nat_lt (key k) n) refl
   where
     at : (b : Bool) → nat_lt (key k) n ≡ b → get_or xs (key k) 0 + f k < m

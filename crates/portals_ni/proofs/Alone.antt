@@ -24,23 +24,32 @@ use Rattle.portals_ni.specs.Pendings.{deed_in}
 use Rattle.portals_ni.specs.Sound.{IsArmed}
 use Rattle.portals_ni.specs.Uses.{put_md, get_md, CtsAlone, MdsAlone}
 
-entries-alone : (ct : Handle) (cts : Table Count) → HasOwnSlot ct cts → (o : Option Index) → HasEntries (EntryIsLive cts) o → EntriesAlone ct o
+entries-alone : (ct : Handle) (cts : Table Count) → HasOwnSlot ct cts → (o : Option Index) → HasEntries (EntryIsLive cts) o →
+    EntriesAlone ct o
 entries-alone ct cts own None live = tt
 entries-alone ct cts own (Some i) live =
     let each = λ (x : Linked) (is : EntryIsLive cts x). named-alone ct x.entry.ct cts own is in
-    (All-weaker (EntryIsLive cts) (λ (x : Linked). IsAlone ct x.entry.ct) each i.priority live.0, All-weaker (EntryIsLive cts) (λ (x : Linked). IsAlone ct x.entry.ct) each i.overflow live.1)
+    (All-weaker (EntryIsLive cts) (λ (x : Linked). IsAlone ct x.entry.ct) each i.priority live.0,
+        All-weaker (EntryIsLive cts) (λ (x : Linked). IsAlone ct x.entry.ct) each i.overflow live.1)
 
-pub indices-alone : (ct : Handle) (cts : Table Count) (is : List (Option Index)) → HasOwnSlot ct cts → All (HasEntries (EntryIsLive cts)) is → All (EntriesAlone ct) is
+pub indices-alone : (ct : Handle) (cts : Table Count) (is : List (Option Index)) → HasOwnSlot ct cts →
+    All (HasEntries (EntryIsLive cts)) is → All (EntriesAlone ct) is
 indices-alone ct cts is own live = All-weaker (HasEntries (EntryIsLive cts)) (EntriesAlone ct) (entries-alone ct cts own) is live
 
-pub queues-alone : (eq : Handle) (eqs : Table Waiting) (is : List (Option Index)) → HasOwnSlot eq eqs → All (QueueIsLive eqs) is → All (λ (o : Option Index). IsAlone eq (queue_of o)) is
-queues-alone eq eqs is own live = All-weaker (QueueIsLive eqs) (λ (o : Option Index). IsAlone eq (queue_of o)) (λ o e. named-alone eq (queue_of o) eqs own e) is live
+pub queues-alone : (eq : Handle) (eqs : Table Waiting) (is : List (Option Index)) → HasOwnSlot eq eqs → All (QueueIsLive eqs) is →
+    All (λ (o : Option Index). IsAlone eq (queue_of o)) is
+queues-alone eq eqs is own live = All-weaker (QueueIsLive eqs) (λ (o : Option Index). IsAlone eq (queue_of o))
+    (λ o e. named-alone eq (queue_of o) eqs own e) is live
 
-pub bound-cts-alone : (ct : Handle) (cts : Table Count) (eqs : Table Waiting) (xs : List (Live Bound)) → HasOwnSlot ct cts → All (BoundIsLive cts eqs) xs → All (λ (x : Live Bound). IsAlone ct x.value.md.ct) xs
-bound-cts-alone ct cts eqs xs own live = All-weaker (BoundIsLive cts eqs) (λ (x : Live Bound). IsAlone ct x.value.md.ct) (λ x e. named-alone ct x.value.md.ct cts own e.0) xs live
+pub bound-cts-alone : (ct : Handle) (cts : Table Count) (eqs : Table Waiting) (xs : List (Live Bound)) → HasOwnSlot ct cts →
+    All (BoundIsLive cts eqs) xs → All (λ (x : Live Bound). IsAlone ct x.value.md.ct) xs
+bound-cts-alone ct cts eqs xs own live = All-weaker (BoundIsLive cts eqs) (λ (x : Live Bound). IsAlone ct x.value.md.ct)
+    (λ x e. named-alone ct x.value.md.ct cts own e.0) xs live
 
-pub bound-eqs-alone : (eq : Handle) (cts : Table Count) (eqs : Table Waiting) (xs : List (Live Bound)) → HasOwnSlot eq eqs → All (BoundIsLive cts eqs) xs → All (λ (x : Live Bound). IsAlone eq x.value.md.eq) xs
-bound-eqs-alone eq cts eqs xs own live = All-weaker (BoundIsLive cts eqs) (λ (x : Live Bound). IsAlone eq x.value.md.eq) (λ x e. named-alone eq x.value.md.eq eqs own e.1) xs live
+pub bound-eqs-alone : (eq : Handle) (cts : Table Count) (eqs : Table Waiting) (xs : List (Live Bound)) → HasOwnSlot eq eqs →
+    All (BoundIsLive cts eqs) xs → All (λ (x : Live Bound). IsAlone eq x.value.md.eq) xs
+bound-eqs-alone eq cts eqs xs own live = All-weaker (BoundIsLive cts eqs) (λ (x : Live Bound). IsAlone eq x.value.md.eq)
+    (λ x e. named-alone eq x.value.md.eq eqs own e.1) xs live
 
 -- ---- pending operations
 
@@ -53,7 +62,8 @@ counter-live (Swap g a op ty operand) cts e = refl
 counter-live (Inc h by) cts e = e
 counter-live (Set h to) cts e = e
 
-pub operation-cts-alone : (ct : Handle) (cts : Table Count) (ws : List (Operation PostedOp)) → HasOwnSlot ct cts → All (OperationIsLive cts) (map (posted deed_in) ws) → All (CtsAlone ct) ws
+pub operation-cts-alone : (ct : Handle) (cts : Table Count) (ws : List (Operation PostedOp)) → HasOwnSlot ct cts →
+    All (OperationIsLive cts) (map (posted deed_in) ws) → All (CtsAlone ct) ws
 operation-cts-alone ct cts [] own all = All-nil (CtsAlone ct)
 operation-cts-alone ct cts (w ∷ ws) own all =
     let live = All-head (OperationIsLive cts) (posted deed_in w) (map (posted deed_in) ws) all in
@@ -73,8 +83,10 @@ put-live : (d : TriggeredOp) (mds : Table Bound) → deed_fits d mds ≡ true �
 put-live (Put a) mds e = holds-live (lookup a.md mds.live) a.local_offset a.length e
 put-live (Get g) mds e = refl
 put-live (Atomic a op ty) mds e = holds-live (lookup a.md mds.live) a.local_offset a.length e
-put-live (FetchAtomic g a op ty) mds e = holds-live (lookup a.md mds.live) a.local_offset a.length (both-true (get_fits g mds) (put_fits a mds) e).1
-put-live (Swap g a op ty operand) mds e = holds-live (lookup a.md mds.live) a.local_offset a.length (both-true (get_fits g mds) (put_fits a mds) e).1
+put-live (FetchAtomic g a op ty) mds e = holds-live (lookup a.md mds.live) a.local_offset a.length
+    (both-true (get_fits g mds) (put_fits a mds) e).1
+put-live (Swap g a op ty operand) mds e = holds-live (lookup a.md mds.live) a.local_offset a.length
+    (both-true (get_fits g mds) (put_fits a mds) e).1
 put-live (Inc h by) mds e = refl
 put-live (Set h to) mds e = refl
 
@@ -82,12 +94,16 @@ get-live : (d : TriggeredOp) (mds : Table Bound) → deed_fits d mds ≡ true �
 get-live (Put a) mds e = refl
 get-live (Get g) mds e = holds-live (lookup g.md mds.live) g.local_offset g.length e
 get-live (Atomic a op ty) mds e = refl
-get-live (FetchAtomic g a op ty) mds e = holds-live (lookup g.md mds.live) g.local_offset g.length (both-true (get_fits g mds) (put_fits a mds) e).0
-get-live (Swap g a op ty operand) mds e = holds-live (lookup g.md mds.live) g.local_offset g.length (both-true (get_fits g mds) (put_fits a mds) e).0
+get-live (FetchAtomic g a op ty) mds e = holds-live (lookup g.md mds.live) g.local_offset g.length
+    (both-true (get_fits g mds) (put_fits a mds) e).0
+get-live (Swap g a op ty operand) mds e = holds-live (lookup g.md mds.live) g.local_offset g.length
+    (both-true (get_fits g mds) (put_fits a mds) e).0
 get-live (Inc h by) mds e = refl
 get-live (Set h to) mds e = refl
 
-pub operation-mds-alone : (md : Handle) (mds : Table Bound) (ranks : ℕ) (limits : Limits) (ws : List (Operation PostedOp)) → HasOwnSlot md mds → All (λ (w : Operation PostedOp). IsArmed mds ranks limits w.deed) ws → All (MdsAlone md) ws
+pub operation-mds-alone : (md : Handle) (mds : Table Bound) (ranks : ℕ) (limits : Limits) (ws : List (Operation PostedOp)) →
+    HasOwnSlot md mds → All (λ (w : Operation PostedOp). IsArmed mds ranks limits w.deed) ws → All (MdsAlone md) ws
 operation-mds-alone md mds ranks limits ws own all =
     All-weaker (λ (w : Operation PostedOp). IsArmed mds ranks limits w.deed) (MdsAlone md)
-    (λ w armed. (named-alone md (get_md w.deed.deed) mds own (get-live w.deed.deed mds armed.fits), named-alone md (put_md w.deed.deed) mds own (put-live w.deed.deed mds armed.fits))) ws all
+    (λ w armed. (named-alone md (get_md w.deed.deed) mds own (get-live w.deed.deed mds armed.fits),
+        named-alone md (put_md w.deed.deed) mds own (put-live w.deed.deed mds armed.fits))) ws all

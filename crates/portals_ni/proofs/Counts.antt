@@ -1,5 +1,6 @@
 -- Which counting events a change leaves as they are.
-use Rattle.std.proofs.Common.{◌≡◌, ℕ, true, false, List, [], ◌∷◌, ◌++◌, Option, Some, None, Result, Ok, Err, is_some, not, filter, if◌then◌else◌, refl, ◌∙◌, arith}
+use Rattle.std.proofs.Common.{◌≡◌, ℕ, true, false, List, [], ◌∷◌, ◌++◌, Option, Some, None, Result, Ok, Err, is_some, not, filter,
+    if◌then◌else◌, refl, ◌∙◌, arith}
 use Rattle.std.specs.Prelude.{OnOk, OnErr, option_map}
 use Rattle.std.proofs.lemmas.Bool.Decides.{nat_tests}
 use Rattle.ptl_types.specs.declared.handles.Handle.{Handle}
@@ -31,7 +32,8 @@ module _ {A : Type 0} where
   pub live-change : (k h : Handle) (f : A → A) (xs : List (Live A)) → is_some (lookup k (change h f xs)) ≡ is_some (lookup k xs)
   live-change k h f [] = refl
   live-change k h f (x ∷ xs) =
-      elim (same_handle x.handle k) as (λ b. is_some (if b then Some (if same_handle x.handle h then f x.value else x.value) else lookup k (change h f xs)) ≡ is_some (if b then Some x.value else lookup k xs)) [
+      elim (same_handle x.handle k) as (λ b. is_some (if b then Some (if same_handle x.handle h then f x.value else x.value) else lookup k
+          (change h f xs)) ≡ is_some (if b then Some x.value else lookup k xs)) [
         | true ↦ refl
         | false ↦ live-change k h f xs
       ]
@@ -43,7 +45,8 @@ module _ {A : Type 0} where
   pub lookup-changed : (h : Handle) (f : A → A) (xs : List (Live A)) → lookup h (change h f xs) ≡ option_map f (lookup h xs)
   lookup-changed h f [] = refl
   lookup-changed h f (x ∷ xs) =
-      elim (same_handle x.handle h) as (λ b. (if b then Some (if b then f x.value else x.value) else lookup h (change h f xs)) ≡ option_map f (if b then Some x.value else lookup h xs)) [
+      elim (same_handle x.handle h) as (λ b. (if b then Some (if b then f x.value else x.value) else lookup h (change h f xs))
+          ≡ option_map f (if b then Some x.value else lookup h xs)) [
         | true ↦ refl
         | false ↦ lookup-changed h f xs
       ]
@@ -51,16 +54,19 @@ module _ {A : Type 0} where
   pub lookup-push : (k : Handle) (x : Live A) (xs : List (Live A)) → is_some (lookup k xs) ≡ true → lookup k (xs ++ x ∷ []) ≡ lookup k xs
   lookup-push k x [] live = cc
   lookup-push k x (y ∷ ys) live =
-      elim (same_handle y.handle k) as (λ b. is_some (if b then Some y.value else lookup k ys) ≡ true → (if b then Some y.value else lookup k (ys ++ x ∷ [])) ≡ (if b then Some y.value else lookup k ys)) [
+      elim (same_handle y.handle k) as (λ b. is_some (if b then Some y.value else lookup k ys) ≡ true →
+          (if b then Some y.value else lookup k (ys ++ x ∷ [])) ≡ (if b then Some y.value else lookup k ys)) [
         | true ↦ λ is. refl
         | false ↦ λ is. lookup-push k x ys is
       ] live
 
-  pub lookup-without : (k h : Handle) (xs : List (Live A)) → same_handle k h ≡ false → lookup k (filter (λ (x : Live A). not (same_handle x.handle h)) xs) ≡ lookup k xs
+  pub lookup-without : (k h : Handle) (xs : List (Live A)) → same_handle k h ≡ false →
+      lookup k (filter (λ (x : Live A). not (same_handle x.handle h)) xs) ≡ lookup k xs
   lookup-without k h [] apart = refl
   lookup-without k h (x ∷ xs) apart = grind (arith, same-apart x.handle k h, lookup-without k h xs apart)
 
-  pub lookup-gone : (k h : Handle) (xs : List (Live A)) → same_handle k h ≡ true → lookup k (filter (λ (x : Live A). not (same_handle x.handle h)) xs) ≡ None
+  pub lookup-gone : (k h : Handle) (xs : List (Live A)) → same_handle k h ≡ true →
+      lookup k (filter (λ (x : Live A). not (same_handle x.handle h)) xs) ≡ None
   lookup-gone k h [] same = refl
   lookup-gone k h (x ∷ xs) same = grind (arith, same-too x.handle k h, lookup-gone k h xs same)
 
@@ -72,14 +78,17 @@ module _ {A : Type 0} where
   change-same h [] = refl
   change-same h (x ∷ xs) =
       rw (change-same h xs)
-      (elim (same_handle x.handle h) as (λ b. (record { handle = x.handle; value = if b then x.value else x.value }) ∷ xs ≡ x ∷ xs) [ true ↦ refl | false ↦ refl ])
+      (elim (same_handle x.handle h) as (λ b. (record { handle = x.handle; value = if b then x.value else x.value }) ∷ xs ≡ x ∷ xs)
+          [ true ↦ refl | false ↦ refl ])
 
 -- a counting event holds what it is set to, where the sum fits
 dead : (o : Option Count) (fault : NiFault) → Err fault ≡ by_fault (need (is_some o) Stale (need true CountFull None)) → o ≡ None
 dead None fault e = refl
 dead (Some c) fault e = cc
 
-pub set-whole : (res : Result (Unit {0}) NiFault) (ct : Handle) (to : Count) (cts new : Table Count) → res ≡ by_fault (ct_set_fault ct to cts) → passes_end to ≡ false → OnOk res (new ≡ changed ct (λ (c : Count). to) cts) → OnErr res (new ≡ cts) → new ≡ changed ct (λ (c : Count). to) cts
+pub set-whole : (res : Result (Unit {0}) NiFault) (ct : Handle) (to : Count) (cts new : Table Count) →
+    res ≡ by_fault (ct_set_fault ct to cts) → passes_end to ≡ false → OnOk res (new ≡ changed ct (λ (c : Count). to) cts) →
+    OnErr res (new ≡ cts) → new ≡ changed ct (λ (c : Count). to) cts
 set-whole (Ok x) ct to cts new is fits ok err = ok
 set-whole (Err fault) ct to cts new is fits ok err =
     let none : lookup ct cts.live ≡ None = dead (lookup ct cts.live) fault (is ∙ rw fits refl) in
@@ -108,7 +117,8 @@ changes-twice ct a b c p q = record {
 
 pub changes-each : (ct : Option Handle) (found : List IndexedHeader) (cts : Table Count) → ChangesAt ct cts (each_counted ct found cts)
 changes-each ct [] cts = changes-none ct cts
-changes-each ct (a ∷ found) cts = changes-twice ct cts (counted ct (successes 1) cts) _ (changes-counted ct (successes 1) cts) (changes-each ct found (counted ct (successes 1) cts))
+changes-each ct (a ∷ found) cts = changes-twice ct cts (counted ct (successes 1) cts) _ (changes-counted ct (successes 1) cts)
+    (changes-each ct found (counted ct (successes 1) cts))
 
 pub changes-new : (ct : Option Handle) (slot : ℕ) (w : Count) (cts : Table Count) → ChangesAt ct cts (with_new slot w cts)
 changes-new ct slot w cts = record {

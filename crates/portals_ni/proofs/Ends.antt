@@ -10,7 +10,8 @@ use Rattle.ni_model.specs.State.{State}
 use Rattle.ni_model.specs.Calls.{ends, ends_by, MayLackMemory, enough, lacking, slot_in, entry_slot}
 use Rattle.initiator_engine.specs.Initiators.{by_fault}
 
-pub ends-refused : {A : Type 0} (o : Option NiFault) (fault : NiFault) (old new : State) (x : A) → o ≡ Some fault → ends old (Err fault) ≡ ends_by o old new x
+pub ends-refused : {A : Type 0} (o : Option NiFault) (fault : NiFault) (old new : State) (x : A) → o ≡ Some fault →
+    ends old (Err fault) ≡ ends_by o old new x
 ends-refused o fault old new x e = rw e refl
 
 pub ends-done : {A : Type 0} (o : Option NiFault) (old new : State) (x : A) → o ≡ None → ends new (Ok x) ≡ ends_by o old new x
@@ -28,13 +29,16 @@ no-fault (Some f) e = cc
 
 -- ---- running out of memory
 
-pub enough-done : {A : Type 0} (o : Option NiFault) (old new : State) (x : A) → o ≡ None → MayLackMemory (ends_by o old new x) old (ends new (Ok x))
+pub enough-done : {A : Type 0} (o : Option NiFault) (old new : State) (x : A) → o ≡ None →
+    MayLackMemory (ends_by o old new x) old (ends new (Ok x))
 enough-done o old new x e = rw e enough
 
-pub enough-refused : {A : Type 0} (o : Option NiFault) (fault : NiFault) (old new : State) (x : A) → o ≡ Some fault → MayLackMemory (ends_by o old new x) old (ends old (Err fault))
+pub enough-refused : {A : Type 0} (o : Option NiFault) (fault : NiFault) (old new : State) (x : A) → o ≡ Some fault →
+    MayLackMemory (ends_by o old new x) old (ends old (Err fault))
 enough-refused o fault old new x e = rw e enough
 
-pub lacks : {A : Type 0} (o : Option NiFault) (old new : State) (x : A) → o ≡ None → MayLackMemory (ends_by o old new x) old (ends old (Err NoMemory))
+pub lacks : {A : Type 0} (o : Option NiFault) (old new : State) (x : A) → o ≡ None →
+    MayLackMemory (ends_by o old new x) old (ends old (Err NoMemory))
 lacks o old new x e = rw e (lacking refl)
 
 -- ---- some slot is free, also where a call is refused

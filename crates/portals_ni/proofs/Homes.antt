@@ -1,5 +1,6 @@
 -- What a start, an answer, a binding and a release leave of what an interface keeps.
-use Rattle.std.proofs.Common.{◌≡◌, ℕ, ◌+◌, ◌≤◌, Bool, true, false, not, ◌&&◌, ◌||◌, List, [], ◌∷◌, Option, Some, None, nat_le, nat_lt, length, is_some, if◌then◌else◌, refl, subst, ◌∙◌, arith}
+use Rattle.std.proofs.Common.{◌≡◌, ℕ, ◌+◌, ◌≤◌, Bool, true, false, not, ◌&&◌, ◌||◌, List, [], ◌∷◌, Option, Some, None, nat_le, nat_lt,
+    length, is_some, if◌then◌else◌, refl, subst, ◌∙◌, arith}
 use Rattle.std.specs.Prelude.{All}
 use Rattle.std.proofs.lemmas.Bool.Decides.{nat_tests}
 use Rattle.std.proofs.lemmas.List.Elements.{All-head, All-tail, All-cons, All-push, All-filter}
@@ -19,7 +20,8 @@ use Rattle.ni_model.specs.declared.Bound.{Bound}
 use Rattle.ni_model.specs.Tables.{Live, Table, lookup, change, change_one, changed, is_live, with_new, without}
 use Rattle.ni_model.specs.Counts.{successes}
 use Rattle.ni_model.specs.Events.{is_reply}
-use Rattle.ni_model.specs.Answers.{Home, bound_at, is_due, memory_home, one_answer, counter_home, one_less, awaits_less, came_home, lost_answer, answered_at, answered}
+use Rattle.ni_model.specs.Answers.{Home, bound_at, is_due, memory_home, one_answer, counter_home, one_less, awaits_less, came_home,
+    lost_answer, answered_at, answered}
 use Rattle.ni_model.specs.Starts.{header_of, one_awaited, awaits_more, send_counter, counted_on, started_by, started}
 use Rattle.ni_model.specs.Conditions.{IsBoundIn, IsKept}
 use Rattle.ni_model.specs.Refusals.{holds_part, deed_is_live, put_fits, get_fits, deed_fits, deed_fault, deed_names_md}
@@ -33,29 +35,35 @@ pub bound-push : (n slot : ℕ) (w : Bound) (mds : Table Bound) → AreBoundIn n
 bound-push n slot w mds all is = All-push (λ (x : Live Bound). IsBoundIn n x.value) mds.live _ all is
 
 pub bound-without : (n : ℕ) (h : Handle) (mds : Table Bound) → AreBoundIn n mds → AreBoundIn n (without h mds)
-bound-without n h mds all = All-filter (λ (x : Live Bound). not (same_handle x.handle h)) (λ (x : Live Bound). IsBoundIn n x.value) mds.live all
+bound-without n h mds all = All-filter (λ (x : Live Bound). not (same_handle x.handle h)) (λ (x : Live Bound). IsBoundIn n x.value)
+    mds.live all
 
 -- a change that leaves the descriptors as they are
 abbrev pub KeepsMd : (Bound → Bound) → Type 0
 KeepsMd f = (b : Bound) → (f b).md ≡ b.md
 
-one-bound : (n : ℕ) (h : Handle) (f : Bound → Bound) (x : Live Bound) → KeepsMd f → IsBoundIn n x.value → IsBoundIn n (change_one h f x).value
+one-bound : (n : ℕ) (h : Handle) (f : Bound → Bound) (x : Live Bound) → KeepsMd f → IsBoundIn n x.value →
+    IsBoundIn n (change_one h f x).value
 one-bound n h f x keeps is =
     elim (same_handle x.handle h) as (λ b. IsBoundIn n (if b then f x.value else x.value)) [
       | true ↦ rw (keeps x.value) is
       | false ↦ is
     ]
 
-all-bound : (n : ℕ) (h : Handle) (f : Bound → Bound) (xs : List (Live Bound)) → KeepsMd f → All (λ (x : Live Bound). IsBoundIn n x.value) xs → All (λ (x : Live Bound). IsBoundIn n x.value) (change h f xs)
+all-bound : (n : ℕ) (h : Handle) (f : Bound → Bound) (xs : List (Live Bound)) → KeepsMd f →
+    All (λ (x : Live Bound). IsBoundIn n x.value) xs → All (λ (x : Live Bound). IsBoundIn n x.value) (change h f xs)
 all-bound n h f [] keeps all = all
 all-bound n h f (x ∷ xs) keeps all =
-    All-cons (λ (y : Live Bound). IsBoundIn n y.value) (change_one h f x) (change h f xs) (one-bound n h f x keeps (All-head (λ (y : Live Bound). IsBoundIn n y.value) x xs all)) (all-bound n h f xs keeps (All-tail (λ (y : Live Bound). IsBoundIn n y.value) x xs all))
+    All-cons (λ (y : Live Bound). IsBoundIn n y.value) (change_one h f x) (change h f xs)
+        (one-bound n h f x keeps (All-head (λ (y : Live Bound). IsBoundIn n y.value) x xs all))
+        (all-bound n h f xs keeps (All-tail (λ (y : Live Bound). IsBoundIn n y.value) x xs all))
 
 -- ---- what a descriptor holds
 
 -- each handle but those that are skipped names a descriptor that holds what it held
 abbrev pub HoldsOn : (Handle → Bool) → Table Bound → Table Bound → Type 0
-HoldsOn skips old new = (k : Handle) (at n : ℕ) → skips k ≡ false → holds_part (lookup k old.live) at n ≡ true → holds_part (lookup k new.live) at n ≡ true
+HoldsOn skips old new = (k : Handle) (at n : ℕ) → skips k ≡ false → holds_part (lookup k old.live) at n ≡ true →
+    holds_part (lookup k new.live) at n ≡ true
 
 abbrev pub skips_none : Handle → Bool
 skips_none k = false
@@ -67,10 +75,12 @@ held-some (Some b) at n e = refl
 pub holds-push : (slot : ℕ) (w : Bound) (mds : Table Bound) → HoldsOn skips_none mds (with_new slot w mds)
 holds-push slot w mds = λ k at n apart holds. rw (lookup-push k _ mds.live (held-some (lookup k mds.live) at n holds)) holds
 
-holds-change : (k h : Handle) (f : Bound → Bound) (at n : ℕ) (xs : List (Live Bound)) → KeepsMd f → holds_part (lookup k xs) at n ≡ true → holds_part (lookup k (change h f xs)) at n ≡ true
+holds-change : (k h : Handle) (f : Bound → Bound) (at n : ℕ) (xs : List (Live Bound)) → KeepsMd f → holds_part (lookup k xs) at n ≡ true →
+    holds_part (lookup k (change h f xs)) at n ≡ true
 holds-change k h f at n [] keeps holds = holds
 holds-change k h f at n (x ∷ xs) keeps holds =
-    elim (same_handle x.handle k) as (λ b. holds_part (if b then Some x.value else lookup k xs) at n ≡ true → holds_part (if b then Some (change_one h f x).value else lookup k (change h f xs)) at n ≡ true) [
+    elim (same_handle x.handle k) as (λ b. holds_part (if b then Some x.value else lookup k xs) at n ≡ true →
+        holds_part (if b then Some (change_one h f x).value else lookup k (change h f xs)) at n ≡ true) [
       | true ↦ λ is. elim (same_handle x.handle h) as (λ b. holds_part (Some (if b then f x.value else x.value)) at n ≡ true) [
         | true ↦ rw (keeps x.value) is
         | false ↦ is
@@ -125,13 +135,16 @@ both false b e = cc
 and-both : (a b : Bool) → a ≡ true → b ≡ true → a && b ≡ true
 and-both a b p q = rw (p, q) refl
 
-fetch-on : (skips : Handle → Bool) (old new : Table Bound) (g : GetArgs) (a : PutArgs) → HoldsOn skips old new → skips g.md || skips a.md ≡ false → get_fits g old && put_fits a old ≡ true → get_fits g new && put_fits a new ≡ true
+fetch-on : (skips : Handle → Bool) (old new : Table Bound) (g : GetArgs) (a : PutArgs) → HoldsOn skips old new →
+    skips g.md || skips a.md ≡ false → get_fits g old && put_fits a old ≡ true → get_fits g new && put_fits a new ≡ true
 fetch-on skips old new g a holds apart fits =
     let apart_of = neither (skips g.md) (skips a.md) apart in
     let fits_of = both (get_fits g old) (put_fits a old) fits in
-    and-both (get_fits g new) (put_fits a new) (holds g.md g.local_offset g.length apart_of.0 fits_of.0) (holds a.md a.local_offset a.length apart_of.1 fits_of.1)
+    and-both (get_fits g new) (put_fits a new) (holds g.md g.local_offset g.length apart_of.0 fits_of.0)
+        (holds a.md a.local_offset a.length apart_of.1 fits_of.1)
 
-pub fits-on : (skips : Handle → Bool) (old new : Table Bound) (d : TriggeredOp) → HoldsOn skips old new → deed_skips skips d ≡ false → deed_fits d old ≡ true → deed_fits d new ≡ true
+pub fits-on : (skips : Handle → Bool) (old new : Table Bound) (d : TriggeredOp) → HoldsOn skips old new → deed_skips skips d ≡ false →
+    deed_fits d old ≡ true → deed_fits d new ≡ true
 fits-on skips old new (Put a) holds apart fits = holds a.md a.local_offset a.length apart fits
 fits-on skips old new (Get g) holds apart fits = holds g.md g.local_offset g.length apart fits
 fits-on skips old new (Atomic a op ty) holds apart fits = holds a.md a.local_offset a.length apart fits
@@ -147,8 +160,10 @@ put-live a mds fits = held-some (lookup a.md mds.live) a.local_offset a.length f
 get-live : (g : GetArgs) (mds : Table Bound) → get_fits g mds ≡ true → is_live g.md mds ≡ true
 get-live g mds fits = held-some (lookup g.md mds.live) g.local_offset g.length fits
 
-fetch-live : (g : GetArgs) (a : PutArgs) (mds : Table Bound) → get_fits g mds && put_fits a mds ≡ true → is_live g.md mds && is_live a.md mds ≡ true
-fetch-live g a mds fits = let f = both (get_fits g mds) (put_fits a mds) fits in and-both (is_live g.md mds) (is_live a.md mds) (get-live g mds f.0) (put-live a mds f.1)
+fetch-live : (g : GetArgs) (a : PutArgs) (mds : Table Bound) → get_fits g mds && put_fits a mds ≡ true →
+    is_live g.md mds && is_live a.md mds ≡ true
+fetch-live g a mds fits = let f = both (get_fits g mds) (put_fits a mds) fits in
+    and-both (is_live g.md mds) (is_live a.md mds) (get-live g mds f.0) (put-live a mds f.1)
 
 fits-live : (d : TriggeredOp) (mds : Table Bound) → deed_fits d mds ≡ true → deed_is_live d mds ≡ true
 fits-live (Put a) mds fits = put-live a mds fits
@@ -197,7 +212,8 @@ less-holds : (h : Option Handle) (mds : Table Bound) → HoldsOn skips_none mds 
 less-holds None mds = λ k at n apart holds. holds
 less-holds (Some h) mds = holds-changed h one_less mds keeps-less
 
-by-keeps : (p : Home) (d : TriggeredOp) (o : Option Header) → AreBoundIn (length p.region) p.mds → KeepsHome p (started_by p d o).home (started_by p d o).counted
+by-keeps : (p : Home) (d : TriggeredOp) (o : Option Header) → AreBoundIn (length p.region) p.mds →
+    KeepsHome p (started_by p d o).home (started_by p d o).counted
 by-keeps p d None all = same-home p None all
 by-keeps p d (Some h) all = record {
   size = refl;
@@ -206,7 +222,8 @@ by-keeps p d (Some h) all = record {
   counts = changes-counted (send_counter (bound_at (counted_on d) p.mds)) (successes 1) p.cts;
 }
 
-pub started-keeps : (rank : ℕ) (p : Home) (d : TriggeredOp) → AreBoundIn (length p.region) p.mds → KeepsHome p (started rank p d).home (started rank p d).counted
+pub started-keeps : (rank : ℕ) (p : Home) (d : TriggeredOp) → AreBoundIn (length p.region) p.mds →
+    KeepsHome p (started rank p d).home (started rank p d).counted
 unfolding started
 started-keeps rank p d all = by-keeps p d (header_of rank d) all
 
@@ -222,23 +239,28 @@ fits-home h b due is =
     let fit : nat_le (h.home_offset + h.length) b.md.length ≡ true = both_of.1 in
     grind (arith, nat_tests)
 
-home-written : (n : ℕ) (b : Bound) (m : Sent) (r : List ℕ) → length r ≡ n → IsKept m → IsBoundIn n b → is_due m.header b ≡ true → (is_reply m.header.kind && m.header.ok) ≡ true → length (written (b.md.start + m.header.home_offset) m.bytes r) ≡ length r
+home-written : (n : ℕ) (b : Bound) (m : Sent) (r : List ℕ) → length r ≡ n → IsKept m → IsBoundIn n b → is_due m.header b ≡ true →
+    (is_reply m.header.kind && m.header.ok) ≡ true → length (written (b.md.start + m.header.home_offset) m.bytes r) ≡ length r
 home-written n b m r size kept part due is =
     let len : length m.bytes ≡ m.header.length = kept ∙ due-reply m.header.kind m.header.ok m.header.length is in
     let fit : m.header.home_offset + m.header.length ≤ b.md.length = fits-home m.header b due is in
     length-written (b.md.start + m.header.home_offset) m.bytes r (omega arith)
 
-length-home : (b : Bound) (m : Sent) (r : List ℕ) → IsKept m → IsBoundIn (length r) b → is_due m.header b ≡ true → length (memory_home b m r) ≡ length r
+length-home : (b : Bound) (m : Sent) (r : List ℕ) → IsKept m → IsBoundIn (length r) b → is_due m.header b ≡ true →
+    length (memory_home b m r) ≡ length r
 length-home b m r kept part due =
-    elim (is_reply m.header.kind && m.header.ok) as (λ t. (is_reply m.header.kind && m.header.ok) ≡ t → length (if t then written (b.md.start + m.header.home_offset) m.bytes r else r) ≡ length r) [
+    elim (is_reply m.header.kind && m.header.ok) as (λ t. (is_reply m.header.kind && m.header.ok) ≡ t →
+        length (if t then written (b.md.start + m.header.home_offset) m.bytes r else r) ≡ length r) [
       | true ↦ λ is. home-written (length r) b m r refl kept part due is
       | false ↦ λ is. refl
     ] refl
 
-at-keeps : (p : Home) (m : Sent) (o : Option Bound) → AreBoundIn (length p.region) p.mds → IsKept m → bound_at m.header.home p.mds ≡ o → KeepsHome p (answered_at p m o).home (answered_at p m o).counted
+at-keeps : (p : Home) (m : Sent) (o : Option Bound) → AreBoundIn (length p.region) p.mds → IsKept m → bound_at m.header.home p.mds ≡ o →
+    KeepsHome p (answered_at p m o).home (answered_at p m o).counted
 at-keeps p m None all kept found = same-home p None all
 at-keeps p m (Some b) all kept found =
-    elim (is_due m.header b) as (λ t. is_due m.header b ≡ t → KeepsHome p (if t then came_home p m b else lost_answer p).home (if t then came_home p m b else lost_answer p).counted) [
+    elim (is_due m.header b) as (λ t. is_due m.header b ≡ t → KeepsHome p (if t then came_home p m b else lost_answer p).home
+        (if t then came_home p m b else lost_answer p).counted) [
       | true ↦ λ due. record {
         size = length-home b m p.region kept (bound_has (IsBoundIn (length p.region)) m.header.home p.mds b all found) due;
         bound = less-bound (length p.region) m.header.home p.mds all;
@@ -248,6 +270,7 @@ at-keeps p m (Some b) all kept found =
       | false ↦ λ due. same-home p None all
     ] refl
 
-pub answered-keeps : (p : Home) (m : Sent) → AreBoundIn (length p.region) p.mds → IsKept m → KeepsHome p (answered p m).home (answered p m).counted
+pub answered-keeps : (p : Home) (m : Sent) → AreBoundIn (length p.region) p.mds → IsKept m →
+    KeepsHome p (answered p m).home (answered p m).counted
 unfolding answered
 answered-keeps p m all kept = at-keeps p m (bound_at m.header.home p.mds) all kept refl

@@ -21,7 +21,8 @@ use Rattle.portals_ni.proofs.Firing.{Op, Ops, length-posted}
 may-start : (d : TriggeredOp) (ranks n : ℕ) (l : Limits) → l.entries ≡ n → MayStart d ranks l → MayStart d ranks (record l { entries = n })
 may-start d ranks n l e may = let P : ℕ → Type 0 = λ x. MayStart d ranks (record l { entries = x }) in subst P e may
 
-pub lasts : (t : Side) (r : List ℕ) (c : Table Count) (e : Table Waiting) (i : Initiating) (ops : Ops) (d v : ℕ) → IsWhole t r c e i ops d v → IsKept ops → Lasts (state_of t r c e i ops d v)
+pub lasts : (t : Side) (r : List ℕ) (c : Table Count) (e : Table Waiting) (i : Initiating) (ops : Ops) (d v : ℕ) →
+    IsWhole t r c e i ops d v → IsKept ops → Lasts (state_of t r c e i ops d v)
 lasts t r c e i ops d v is kept =
     let s : State = state_of t r c e i ops d v in
     record {
@@ -30,7 +31,9 @@ lasts t r c e i ops d v is kept =
       numbers = kept.numbers;
       at_most = rw (length-posted ops.waiting) kept.limited;
       firing = All-map (CanFire s) (posted deed_in) ops.waiting
-          (All-weaker (λ (w : Op). IsArmed i.mds i.ranks i.limits w.deed) (λ (w : Op). CanFire s (posted deed_in w)) (λ w armed. record { may_start = may-start w.deed.deed i.ranks t.limit i.limits is.sound.limit armed.may; fits = armed.fits; counts = armed.counts }) ops.waiting is.sound.armed);
+          (All-weaker (λ (w : Op). IsArmed i.mds i.ranks i.limits w.deed) (λ (w : Op). CanFire s (posted deed_in w))
+              (λ w armed. record { may_start = may-start w.deed.deed i.ranks t.limit i.limits is.sound.limit armed.may; fits =
+              armed.fits; counts = armed.counts }) ops.waiting is.sound.armed);
       bound = is.sound.bound;
       linked = is.sound.parts;
       sums = is.stands.sums;

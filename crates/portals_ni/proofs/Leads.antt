@@ -1,5 +1,6 @@
 -- What one state leads to another by: limits stay, what is live stays live, sums fit, and what is named anew is live.
-use Rattle.std.proofs.Common.{◌≡◌, ℕ, ◌&&◌, ◌||◌, Bool, true, false, List, [], Option, Some, None, length, if◌then◌else◌, refl, sym, ap, ◌∙◌}
+use Rattle.std.proofs.Common.{◌≡◌, ℕ, ◌&&◌, ◌||◌, Bool, true, false, List, [], Option, Some, None, length, if◌then◌else◌, refl, sym, ap,
+    ◌∙◌}
 use Rattle.std.specs.Prelude.{All, slice_set}
 use Rattle.std.proofs.lemmas.List.{length-set}
 use Rattle.std.proofs.lemmas.List.Elements.{All-map, All-set, All-weaker}
@@ -24,18 +25,23 @@ use Rattle.ni_model.specs.Counts.{successes}
 use Rattle.ni_model.specs.Queues.{Waiting, raised}
 use Rattle.ni_model.specs.Lists.{Index, index_at, queue_of}
 use Rattle.ni_model.specs.Headers.{UnexpectedList, allows, no_room, oldest, found_in, left_in, without_oldest}
-use Rattle.ni_model.specs.Events.{message_event, unlink_event, kind_delivered, link_event, header_event, kind_taken, missed_event, is_reply, asks_event, answer_event, send_event}
-use Rattle.ni_model.specs.Arrive.{Parts, Received, received, refused, request, judged, accepted, chosen, is_overflow, is_over, counter_of, delivered, place, settled_at, settled, headers_after, delivery_raised, events_after}
-use Rattle.ni_model.specs.Answers.{Home, Returned, answered, answered_at, bound_at, came_home, lost_answer, is_due, counter_home, one_answer, awaits_less, one_less, events_home}
+use Rattle.ni_model.specs.Events.{message_event, unlink_event, kind_delivered, link_event, header_event, kind_taken, missed_event, is_reply,
+    asks_event, answer_event, send_event}
+use Rattle.ni_model.specs.Arrive.{Parts, Received, received, refused, request, judged, accepted, chosen, is_overflow, is_over, counter_of,
+    delivered, place, settled_at, settled, headers_after, delivery_raised, events_after}
+use Rattle.ni_model.specs.Answers.{Home, Returned, answered, answered_at, bound_at, came_home, lost_answer, is_due, counter_home,
+    one_answer, awaits_less, one_less, events_home}
 use Rattle.ni_model.specs.Starts.{started, started_by, header_of, awaits_more, one_awaited, send_counter, send_queue, counted_on}
-use Rattle.ni_model.specs.Append.{Appends, append, append_once, linked_as, linked_at, fresh, next_handle, queue_at, take_all, overflow_counter, search, searched_at, found_header}
+use Rattle.ni_model.specs.Append.{Appends, append, append_once, linked_as, linked_at, fresh, next_handle, queue_at, take_all,
+    overflow_counter, search, searched_at, found_header}
 use Rattle.ni_model.specs.State.{State, parts_of, with_parts, home_of, with_home}
 use Rattle.target_engine.proofs.Within.{at_has}
 use Rattle.portals_ni.specs.Lasting.{HasEntries, EntryIsLive, QueueIsLive, BoundIsLive, OperationIsLive}
 use Rattle.portals_ni.specs.Sound.{Stands}
 use Rattle.portals_ni.proofs.Parts.{indices-entries, append-entries}
 use Rattle.portals_ni.proofs.Homes.{KeepsMd, keeps-awaited, keeps-less}
-use Rattle.portals_ni.proofs.Steady.{Grows, grows-same, grows-twice, grows-or-none, grows-raised, grows-gone, grows-each_gone, CountsOn, counts-same, counts-counted, counts-each, entries-on, queues-on, bounds-on, operations-on}
+use Rattle.portals_ni.proofs.Steady.{Grows, grows-same, grows-twice, grows-or-none, grows-raised, grows-gone, grows-each_gone, CountsOn,
+    counts-same, counts-counted, counts-each, entries-on, queues-on, bounds-on, operations-on}
 
 pub record Leads (s q : State) : Type 0 where
   pub limits : q.limits ≡ s.limits
@@ -95,20 +101,25 @@ parts-lead s q is = record {
 }
 
 same-parts : (p : Parts) → PartsLead p p
-same-parts p = record { indices = refl; headers = refl; counts = counts-same p.cts; queues = grows-same p.eqs; entries_live = λ all. all; indices_live = λ all. all }
+same-parts p = record { indices = refl; headers = refl; counts = counts-same p.cts; queues = grows-same p.eqs; entries_live =
+    λ all. all; indices_live = λ all. all }
 
 -- an index that changed and has its queue still
-queue-set : (eqs : Table Waiting) (is : List (Option Index)) (pt : ℕ) (o : Option Index) → queue_of o ≡ queue_of (index_at pt is) → All (QueueIsLive eqs) is → All (QueueIsLive eqs) (slice_set is pt o)
-queue-set eqs is pt o same all = All-set (QueueIsLive eqs) is pt o (ap (λ h. is_live_or_none h eqs) same ∙ at_has (QueueIsLive eqs) is pt None all refl) all
+queue-set : (eqs : Table Waiting) (is : List (Option Index)) (pt : ℕ) (o : Option Index) → queue_of o ≡ queue_of (index_at pt is) →
+    All (QueueIsLive eqs) is → All (QueueIsLive eqs) (slice_set is pt o)
+queue-set eqs is pt o same all = All-set (QueueIsLive eqs) is pt o (ap (λ h. is_live_or_none h eqs) same
+    ∙ at_has (QueueIsLive eqs) is pt None all refl) all
 
 -- ---- a request
 
 settled-queue : (f : Found) (h : Header) (o : Option Index) → queue_of (settled_at f h o) ≡ queue_of o
 settled-queue f h None = refl
-settled-queue f h (Some i) = elim f.list as (λ l. queue_of (Some (settled (record f { list = l }) h i)) ≡ i.eq) [ Priority ↦ refl | Overflow ↦ refl ]
+settled-queue f h (Some i) = elim f.list as (λ l. queue_of (Some (settled (record f { list = l }) h i)) ≡ i.eq)
+    [ Priority ↦ refl | Overflow ↦ refl ]
 
 headers-limit : (f : Found) (h : Header) (hs : UnexpectedList) → (headers_after f h hs).limit ≡ hs.limit
-headers-limit f h hs = elim f.list as (λ l. (headers_after (record f { list = l }) h hs).limit ≡ hs.limit) [ Priority ↦ refl | Overflow ↦ refl ]
+headers-limit f h hs = elim f.list as (λ l. (headers_after (record f { list = l }) h hs).limit ≡ hs.limit)
+    [ Priority ↦ refl | Overflow ↦ refl ]
 
 delivery-grows : (f : Found) (h : Header) (eq : Option Handle) (eqs : Table Waiting) → Grows eqs (delivery_raised f h eq eqs)
 delivery-grows f h eq eqs =
@@ -121,7 +132,8 @@ events-grow : (f : Found) (h : Header) (eq : Option Handle) (eqs : Table Waiting
 events-grow f h eq eqs =
     let told : Table Waiting = delivery_raised f h eq eqs in
     elim (is_over f.linked h) as (λ b. Grows eqs (if b then raised eq (unlink_event h.pt f.linked.entry.match_bits) told else told)) [
-      | true ↦ grows-twice eqs told (raised eq (unlink_event h.pt f.linked.entry.match_bits) told) (delivery-grows f h eq eqs) (grows-raised eq (unlink_event h.pt f.linked.entry.match_bits) told)
+      | true ↦ grows-twice eqs told (raised eq (unlink_event h.pt f.linked.entry.match_bits) told) (delivery-grows f h eq eqs)
+          (grows-raised eq (unlink_event h.pt f.linked.entry.match_bits) told)
       | false ↦ delivery-grows f h eq eqs
     ]
 
@@ -132,7 +144,8 @@ accepted-lead p m f = record {
   counts = counts-counted (counter_of f.linked) (successes 1) p.cts;
   queues = events-grow f m.header (queue_of (index_at m.header.pt p.side.indices)) p.eqs;
   entries_live = indices-entries (EntryIsLive (accepted p m f).parts.cts) (λ x to is. is) f m.header p.side.indices;
-  indices_live = queue-set (accepted p m f).parts.eqs p.side.indices m.header.pt (settled_at f m.header (index_at m.header.pt p.side.indices)) (settled-queue f m.header (index_at m.header.pt p.side.indices));
+  indices_live = queue-set (accepted p m f).parts.eqs p.side.indices m.header.pt
+      (settled_at f m.header (index_at m.header.pt p.side.indices)) (settled-queue f m.header (index_at m.header.pt p.side.indices));
 }
 
 either : {D : Type 0} (P : D → Type 0) (b : Bool) (x y : D) → P x → P y → P (if b then x else y)
@@ -148,7 +161,8 @@ judged-lead p m (Some f) =
     either (ReceivedLead p) (allows f.linked.entry m.header.kind)
     (if is_overflow f.list && no_room p.side.headers then received p (refused Dropped m.header) else accepted p m f)
     (received p (refused Violation m.header))
-    (either (ReceivedLead p) (is_overflow f.list && no_room p.side.headers) (received p (refused Dropped m.header)) (accepted p m f) (same-parts p) (accepted-lead p m f))
+    (either (ReceivedLead p) (is_overflow f.list && no_room p.side.headers) (received p (refused Dropped m.header)) (accepted p m f)
+        (same-parts p) (accepted-lead p m f))
     (same-parts p)
 
 pub request-lead : (p : Parts) (m : Sent) → PartsLead p (request p m).parts
@@ -162,22 +176,28 @@ linked-queue list x None = refl
 linked-queue Priority x (Some i) = refl
 linked-queue Overflow x (Some i) = refl
 
-linked-lead : (slot pt : ℕ) (list : EntryList) (e : Entry) (p : Parts) (found : List IndexedHeader) → is_live_or_none e.ct p.cts ≡ true → PartsLead p (linked_as slot pt list e found p).parts
+linked-lead : (slot pt : ℕ) (list : EntryList) (e : Entry) (p : Parts) (found : List IndexedHeader) → is_live_or_none e.ct p.cts ≡ true →
+    PartsLead p (linked_as slot pt list e found p).parts
 linked-lead slot pt list e p found live = record {
   indices = length-set p.side.indices pt (linked_at list (fresh (next_handle slot p.side) e) (index_at pt p.side.indices));
   headers = refl;
   counts = counts-same p.cts;
   queues = grows-raised (queue_at pt p.side) (link_event pt e.match_bits) p.eqs;
   entries_live = append-entries (EntryIsLive p.cts) pt list (fresh (next_handle slot p.side) e) p.side.indices live;
-  indices_live = queue-set (linked_as slot pt list e found p).parts.eqs p.side.indices pt (linked_at list (fresh (next_handle slot p.side) e) (index_at pt p.side.indices)) (linked-queue list (fresh (next_handle slot p.side) e) (index_at pt p.side.indices));
+  indices_live = queue-set (linked_as slot pt list e found p).parts.eqs p.side.indices pt
+      (linked_at list (fresh (next_handle slot p.side) e) (index_at pt p.side.indices))
+      (linked-queue list (fresh (next_handle slot p.side) e) (index_at pt p.side.indices));
 }
 
-taken-lead : (slot pt : ℕ) (e : Entry) (p : Parts) (found : List IndexedHeader) → is_live_or_none e.ct p.cts ≡ true → PartsLead p (linked_as slot pt Priority e found (take_all pt e p)).parts
+taken-lead : (slot pt : ℕ) (e : Entry) (p : Parts) (found : List IndexedHeader) → is_live_or_none e.ct p.cts ≡ true →
+    PartsLead p (linked_as slot pt Priority e found (take_all pt e p)).parts
 taken-lead slot pt e p found live =
     let q : Parts = take_all pt e p in
     let counts : CountsOn p.cts q.cts = counts-each (overflow_counter e) (found_in pt e p.side.headers.unexpected) p.cts in
-    let gone : Grows p.eqs q.eqs = grows-each_gone p.side (left_in pt e p.side.headers.unexpected) (found_in pt e p.side.headers.unexpected) p.eqs in
-    let linked : PartsLead q (linked_as slot pt Priority e found q).parts = linked-lead slot pt Priority e q found (grows-or-none e.ct p.cts q.cts counts.grows live) in
+    let gone : Grows p.eqs q.eqs = grows-each_gone p.side (left_in pt e p.side.headers.unexpected)
+          (found_in pt e p.side.headers.unexpected) p.eqs in
+    let linked : PartsLead q (linked_as slot pt Priority e found q).parts =
+          linked-lead slot pt Priority e q found (grows-or-none e.ct p.cts q.cts counts.grows live) in
     record {
       indices = linked.indices;
       headers = refl;
@@ -187,7 +207,8 @@ taken-lead slot pt e p found live =
       indices_live = linked.indices_live;
     }
 
-once-lead : (slot pt : ℕ) (e : Entry) (p : Parts) (o : Option IndexedHeader) → is_live_or_none e.ct p.cts ≡ true → PartsLead p (append_once slot pt e p o).parts
+once-lead : (slot pt : ℕ) (e : Entry) (p : Parts) (o : Option IndexedHeader) → is_live_or_none e.ct p.cts ≡ true →
+    PartsLead p (append_once slot pt e p o).parts
 once-lead slot pt e p None live = linked-lead slot pt Priority e p [] live
 once-lead slot pt e p (Some a) live = record {
   indices = refl;
@@ -201,7 +222,8 @@ once-lead slot pt e p (Some a) live = record {
 abbrev AppendLead : Parts → Appends → Type 0
 AppendLead p a = PartsLead p a.parts
 
-pub append-lead : (slot pt : ℕ) (list : EntryList) (e : Entry) (p : Parts) → is_live_or_none e.ct p.cts ≡ true → PartsLead p (append slot pt list e p).parts
+pub append-lead : (slot pt : ℕ) (list : EntryList) (e : Entry) (p : Parts) → is_live_or_none e.ct p.cts ≡ true →
+    PartsLead p (append slot pt list e p).parts
 unfolding append
 append-lead slot pt Priority e p live =
     either (AppendLead p) e.use_once
@@ -231,7 +253,8 @@ found-lead pt e false a p = record {
   indices_live = λ all. all;
 }
 
-searched-lead : (pt : ℕ) (e : Entry) (delete : Bool) (p : Parts) (o : Option IndexedHeader) → PartsLead p (searched_at pt e delete p o).parts
+searched-lead : (pt : ℕ) (e : Entry) (delete : Bool) (p : Parts) (o : Option IndexedHeader) →
+    PartsLead p (searched_at pt e delete p o).parts
 searched-lead pt e delete p None = record {
   indices = refl;
   headers = refl;
@@ -272,22 +295,27 @@ home-lead s q is = record {
 same-home : (p : Home) → HomeLead p p
 same-home p = record { descriptors = refl; counts = counts-same p.cts; queues = grows-same p.eqs; bounds_live = λ all. all }
 
-one-bound : (cts : Table Count) (eqs : Table Waiting) (h : Handle) (f : Bound → Bound) (x : Live Bound) → KeepsMd f → BoundIsLive cts eqs x → BoundIsLive cts eqs (change_one h f x)
+one-bound : (cts : Table Count) (eqs : Table Waiting) (h : Handle) (f : Bound → Bound) (x : Live Bound) → KeepsMd f →
+    BoundIsLive cts eqs x → BoundIsLive cts eqs (change_one h f x)
 one-bound cts eqs h f x keeps live =
     elim (same_handle x.handle h) as (λ b. BoundIsLive cts eqs (record { handle = x.handle; value = if b then f x.value else x.value })) [
       | true ↦ rw (keeps x.value) live
       | false ↦ live
     ]
 
-changed-bounds : (cts : Table Count) (eqs : Table Waiting) (h : Handle) (f : Bound → Bound) (mds : Table Bound) → KeepsMd f → All (BoundIsLive cts eqs) mds.live → All (BoundIsLive cts eqs) (changed h f mds).live
+changed-bounds : (cts : Table Count) (eqs : Table Waiting) (h : Handle) (f : Bound → Bound) (mds : Table Bound) → KeepsMd f →
+    All (BoundIsLive cts eqs) mds.live → All (BoundIsLive cts eqs) (changed h f mds).live
 changed-bounds cts eqs h f mds keeps all =
-    All-map (BoundIsLive cts eqs) (change_one h f) mds.live (All-weaker (BoundIsLive cts eqs) (λ x. BoundIsLive cts eqs (change_one h f x)) (λ x live. one-bound cts eqs h f x keeps live) mds.live all)
+    All-map (BoundIsLive cts eqs) (change_one h f) mds.live (All-weaker (BoundIsLive cts eqs)
+        (λ x. BoundIsLive cts eqs (change_one h f x)) (λ x live. one-bound cts eqs h f x keeps live) mds.live all)
 
-more-bounds : (cts : Table Count) (eqs : Table Waiting) (h : Option Handle) (mds : Table Bound) → All (BoundIsLive cts eqs) mds.live → All (BoundIsLive cts eqs) (awaits_more h mds).live
+more-bounds : (cts : Table Count) (eqs : Table Waiting) (h : Option Handle) (mds : Table Bound) → All (BoundIsLive cts eqs) mds.live →
+    All (BoundIsLive cts eqs) (awaits_more h mds).live
 more-bounds cts eqs None mds all = all
 more-bounds cts eqs (Some h) mds all = changed-bounds cts eqs h one_awaited mds keeps-awaited all
 
-less-bounds : (cts : Table Count) (eqs : Table Waiting) (h : Option Handle) (mds : Table Bound) → All (BoundIsLive cts eqs) mds.live → All (BoundIsLive cts eqs) (awaits_less h mds).live
+less-bounds : (cts : Table Count) (eqs : Table Waiting) (h : Option Handle) (mds : Table Bound) → All (BoundIsLive cts eqs) mds.live →
+    All (BoundIsLive cts eqs) (awaits_less h mds).live
 less-bounds cts eqs None mds all = all
 less-bounds cts eqs (Some h) mds all = changed-bounds cts eqs h one_less mds keeps-less all
 

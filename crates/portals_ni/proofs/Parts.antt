@@ -1,5 +1,6 @@
 -- What holds of each linked entry through each change of the entries, as that its part lies in the region; the region keeps its length.
-use Rattle.std.proofs.Common.{◌≡◌, ℕ, ◌+◌, ◌/◌, ◌≤◌, true, false, not, List, Option, Some, None, take, length, if◌then◌else◌, refl, arith, div-add-mod'}
+use Rattle.std.proofs.Common.{◌≡◌, ℕ, ◌+◌, ◌/◌, ◌≤◌, true, false, not, List, Option, Some, None, take, length, if◌then◌else◌, refl, arith,
+    div-add-mod'}
 use Rattle.std.specs.Prelude.{All, map, slice_set}
 use Rattle.std.proofs.lemmas.List.{length-take}
 use Rattle.std.proofs.lemmas.List.Elements.{All-push, All-nil, All-filter, All-map, All-set, All-weaker}
@@ -20,7 +21,8 @@ use Rattle.ptl_types.specs.Messages.{Sent}
 use Rattle.ni_model.specs.declared.Linked.{Linked}
 use Rattle.ni_model.specs.declared.Found.{Found}
 use Rattle.ni_model.specs.Lists.{Index, index_at, unlinked, advanced, advance_one}
-use Rattle.ni_model.specs.Arrive.{writes, combined_by, swapped_by, new_bytes, old_bytes, memory_after, delivered, place, entries_after, is_over, running_after, settled, settled_at, indices_after}
+use Rattle.ni_model.specs.Arrive.{writes, combined_by, swapped_by, new_bytes, old_bytes, memory_after, delivered, place, entries_after,
+    is_over, running_after, settled, settled_at, indices_after}
 use Rattle.ni_model.specs.Append.{linked_at}
 use Rattle.ni_model.specs.Calls.{new_index, unlinked_in}
 use Rattle.ni_model.specs.Conditions.{IsPartIn, HasPartsIn}
@@ -44,7 +46,8 @@ swapped-le : (o : Option SwapOp) (h : Header) (d : ℕ) (old new : List ℕ) →
 swapped-le None h d old new le = le
 swapped-le (Some s) h d old new le = elements-le (swapped s h.ty h.operand) (bytes_of h.ty) d old new le
 
-new-le : (kind : MessageKind) (h : Header) (d : ℕ) (old new : List ℕ) → length old ≤ d → length new ≤ d → length (new_bytes kind h old new) ≤ d
+new-le : (kind : MessageKind) (h : Header) (d : ℕ) (old new : List ℕ) → length old ≤ d → length new ≤ d →
+    length (new_bytes kind h old new) ≤ d
 new-le Atomic h d old new lo ln = combined-le h.op h.ty d old new lo
 new-le FetchAtomic h d old new lo ln = combined-le h.op h.ty d old new lo
 new-le Swap h d old new lo ln = swapped-le h.swap h d old new lo
@@ -53,15 +56,20 @@ new-le _ h d old new lo ln = ln
 first-le : (n : ℕ) (xs : List ℕ) → length (take n xs) ≤ n
 first-le n xs = rw length-take (omega arith)
 
-written-within : (x : Linked) (m : Sent) (r : List ℕ) → IsPartIn (length r) x → length (written (place x m.header) (new_bytes m.header.kind m.header (old_bytes x m.header r) (take (delivered x m.header) m.bytes)) r) ≡ length r
+written-within : (x : Linked) (m : Sent) (r : List ℕ) → IsPartIn (length r) x →
+    length (written (place x m.header) (new_bytes m.header.kind m.header (old_bytes x m.header r) (take (delivered x m.header) m.bytes))
+    r) ≡ length r
 written-within x m r part =
     let within : place x m.header + delivered x m.header ≤ length r = place-within (length r) x m.header part in
-    let at_most : length (new_bytes m.header.kind m.header (old_bytes x m.header r) (take (delivered x m.header) m.bytes)) ≤ delivered x m.header = new-le m.header.kind m.header (delivered x m.header) (old_bytes x m.header r) (take (delivered x m.header) m.bytes) (part-le (place x m.header) (delivered x m.header) r) (first-le (delivered x m.header) m.bytes) in
+    let at_most : length (new_bytes m.header.kind m.header (old_bytes x m.header r) (take (delivered x m.header) m.bytes)) ≤ delivered x
+          m.header = new-le m.header.kind m.header (delivered x m.header) (old_bytes x m.header r) (take (delivered x m.header) m.bytes)
+          (part-le (place x m.header) (delivered x m.header) r) (first-le (delivered x m.header) m.bytes) in
     length-written (place x m.header) _ r (omega arith)
 
 pub length-memory : (x : Linked) (m : Sent) (r : List ℕ) → IsPartIn (length r) x → length (memory_after x m r) ≡ length r
 length-memory x m r part =
-    elim (writes m.header.kind) as (λ b. length (if b then written (place x m.header) (new_bytes m.header.kind m.header (old_bytes x m.header r) (take (delivered x m.header) m.bytes)) r else r) ≡ length r) [
+    elim (writes m.header.kind) as (λ b. length (if b then written (place x m.header)
+        (new_bytes m.header.kind m.header (old_bytes x m.header r) (take (delivered x m.header) m.bytes)) r else r) ≡ length r) [
       | true ↦ written-within x m r part
       | false ↦ refl
     ]
@@ -73,14 +81,17 @@ abbrev pub StaysAt : (Linked → Type 0) → Type 0
 StaysAt P = (x : Linked) (to : ℕ) → P x → P (record x { running = to })
 
 advanced-one : (P : Linked → Type 0) → StaysAt P → (me : Handle) (to : ℕ) (x : Linked) → P x → P (advance_one me to x)
-advanced-one P stays me to x is = elim (same_handle x.handle me) as (λ b. P (if b then record x { running = to } else x)) [ true ↦ stays x to is | false ↦ is ]
+advanced-one P stays me to x is = elim (same_handle x.handle me) as (λ b. P (if b then record x { running = to } else x))
+    [ true ↦ stays x to is | false ↦ is ]
 
 advanced-all : (P : Linked → Type 0) → StaysAt P → (me : Handle) (to : ℕ) (xs : List Linked) → All P xs → All P (advanced me to xs)
-advanced-all P stays me to xs all = All-map P (advance_one me to) xs (All-weaker P (λ x. P (advance_one me to x)) (λ x is. advanced-one P stays me to x is) xs all)
+advanced-all P stays me to xs all = All-map P (advance_one me to) xs
+    (All-weaker P (λ x. P (advance_one me to x)) (λ x is. advanced-one P stays me to x is) xs all)
 
 entries-all : (P : Linked → Type 0) → StaysAt P → (x : Linked) (h : Header) (xs : List Linked) → All P xs → All P (entries_after x h xs)
 entries-all P stays x h xs all =
-    elim (is_over x h) as (λ b. All P (if b then unlinked x.handle xs else (if x.entry.manage_local then advanced x.handle (running_after x h) xs else xs))) [
+    elim (is_over x h) as (λ b. All P (if b then unlinked x.handle xs else
+        (if x.entry.manage_local then advanced x.handle (running_after x h) xs else xs))) [
       | true ↦ All-filter (λ y. not (same_handle y.handle x.handle)) P xs all
       | false ↦ elim x.entry.manage_local as (λ b. All P (if b then advanced x.handle (running_after x h) xs else xs)) [
         | true ↦ advanced-all P stays x.handle (running_after x h) xs all
@@ -90,7 +101,8 @@ entries-all P stays x h xs all =
 
 -- ---- those of an index
 
-settled-entries : (P : Linked → Type 0) → StaysAt P → (f : Found) (h : Header) (o : Option Index) → HasEntries P o → HasEntries P (settled_at f h o)
+settled-entries : (P : Linked → Type 0) → StaysAt P → (f : Found) (h : Header) (o : Option Index) → HasEntries P o →
+    HasEntries P (settled_at f h o)
 settled-entries P stays f h None has = tt
 settled-entries P stays f h (Some i) has =
     elim f.list as (λ l. HasEntries P (Some (settled (record f { list = l }) h i))) [
@@ -98,14 +110,16 @@ settled-entries P stays f h (Some i) has =
       | Overflow ↦ (has.0, entries-all P stays f.linked h i.overflow has.1)
     ]
 
-linked-entries : (P : Linked → Type 0) (list : EntryList) (x : Linked) (o : Option Index) → P x → HasEntries P o → HasEntries P (linked_at list x o)
+linked-entries : (P : Linked → Type 0) (list : EntryList) (x : Linked) (o : Option Index) → P x → HasEntries P o →
+    HasEntries P (linked_at list x o)
 linked-entries P list x None is has = tt
 linked-entries P Priority x (Some i) is has = (All-push P i.priority x has.0 is, has.1)
 linked-entries P Overflow x (Some i) is has = (has.0, All-push P i.overflow x has.1 is)
 
 unlinked-entries : (P : Linked → Type 0) (me : Handle) (o : Option Index) → HasEntries P o → HasEntries P (unlinked_in me o)
 unlinked-entries P me None has = tt
-unlinked-entries P me (Some i) has = (All-filter (λ y. not (same_handle y.handle me)) P i.priority has.0, All-filter (λ y. not (same_handle y.handle me)) P i.overflow has.1)
+unlinked-entries P me (Some i) has = (All-filter (λ y. not (same_handle y.handle me)) P i.priority has.0,
+    All-filter (λ y. not (same_handle y.handle me)) P i.overflow has.1)
 
 -- ---- those of all indices
 
@@ -113,21 +127,29 @@ at-entries : (P : Linked → Type 0) (pt : ℕ) (is : List (Option Index)) → A
 at-entries P pt is all = at_has (HasEntries P) is pt None all tt
 
 -- after a request
-pub indices-entries : (P : Linked → Type 0) → StaysAt P → (f : Found) (h : Header) (is : List (Option Index)) → All (HasEntries P) is → All (HasEntries P) (indices_after f h is)
-indices-entries P stays f h is all = All-set (HasEntries P) is h.pt (settled_at f h (index_at h.pt is)) (settled-entries P stays f h (index_at h.pt is) (at-entries P h.pt is all)) all
+pub indices-entries : (P : Linked → Type 0) → StaysAt P → (f : Found) (h : Header) (is : List (Option Index)) → All (HasEntries P) is →
+    All (HasEntries P) (indices_after f h is)
+indices-entries P stays f h is all = All-set (HasEntries P) is h.pt (settled_at f h (index_at h.pt is))
+    (settled-entries P stays f h (index_at h.pt is) (at-entries P h.pt is all)) all
 
 -- one entry more, and one fewer
-pub append-entries : (P : Linked → Type 0) (pt : ℕ) (list : EntryList) (x : Linked) (is : List (Option Index)) → P x → All (HasEntries P) is → All (HasEntries P) (slice_set is pt (linked_at list x (index_at pt is)))
-append-entries P pt list x is new all = All-set (HasEntries P) is pt (linked_at list x (index_at pt is)) (linked-entries P list x (index_at pt is) new (at-entries P pt is all)) all
+pub append-entries : (P : Linked → Type 0) (pt : ℕ) (list : EntryList) (x : Linked) (is : List (Option Index)) → P x →
+    All (HasEntries P) is → All (HasEntries P) (slice_set is pt (linked_at list x (index_at pt is)))
+append-entries P pt list x is new all = All-set (HasEntries P) is pt (linked_at list x (index_at pt is))
+    (linked-entries P list x (index_at pt is) new (at-entries P pt is all)) all
 
-pub unlink-entries : (P : Linked → Type 0) (me : Handle) (is : List (Option Index)) → All (HasEntries P) is → All (HasEntries P) (map (unlinked_in me) is)
-unlink-entries P me is all = All-map (HasEntries P) (unlinked_in me) is (All-weaker (HasEntries P) (λ o. HasEntries P (unlinked_in me o)) (λ o has. unlinked-entries P me o has) is all)
+pub unlink-entries : (P : Linked → Type 0) (me : Handle) (is : List (Option Index)) → All (HasEntries P) is →
+    All (HasEntries P) (map (unlinked_in me) is)
+unlink-entries P me is all = All-map (HasEntries P) (unlinked_in me) is
+    (All-weaker (HasEntries P) (λ o. HasEntries P (unlinked_in me o)) (λ o has. unlinked-entries P me o has) is all)
 
 -- one index more, and one fewer
-pub new-entries : (P : Linked → Type 0) (pt : ℕ) (eq : Option Handle) (is : List (Option Index)) → All (HasEntries P) is → All (HasEntries P) (slice_set is pt (Some (new_index eq)))
+pub new-entries : (P : Linked → Type 0) (pt : ℕ) (eq : Option Handle) (is : List (Option Index)) → All (HasEntries P) is →
+    All (HasEntries P) (slice_set is pt (Some (new_index eq)))
 new-entries P pt eq is all = All-set (HasEntries P) is pt (Some (new_index eq)) (All-nil P, All-nil P) all
 
-pub freed-entries : (P : Linked → Type 0) (pt : ℕ) (is : List (Option Index)) → All (HasEntries P) is → All (HasEntries P) (slice_set is pt None)
+pub freed-entries : (P : Linked → Type 0) (pt : ℕ) (is : List (Option Index)) → All (HasEntries P) is →
+    All (HasEntries P) (slice_set is pt None)
 freed-entries P pt is all = All-set (HasEntries P) is pt None tt all
 
 -- what follows for each entry
@@ -151,11 +173,14 @@ from n is all = All-weaker (HasPartsIn n) (HasEntries (IsPartIn n)) (one-from n)
 to : (n : ℕ) (is : List (Option Index)) → All (HasEntries (IsPartIn n)) is → All (HasPartsIn n) is
 to n is all = All-weaker (HasEntries (IsPartIn n)) (HasPartsIn n) (one-to n) is all
 
-pub indices-parts : (n : ℕ) (f : Found) (h : Header) (is : List (Option Index)) → All (HasPartsIn n) is → All (HasPartsIn n) (indices_after f h is)
+pub indices-parts : (n : ℕ) (f : Found) (h : Header) (is : List (Option Index)) → All (HasPartsIn n) is →
+    All (HasPartsIn n) (indices_after f h is)
 indices-parts n f h is all = to n (indices_after f h is) (indices-entries (IsPartIn n) (λ x at is. is) f h is (from n is all))
 
-pub append-parts : (n pt : ℕ) (list : EntryList) (x : Linked) (is : List (Option Index)) → IsPartIn n x → All (HasPartsIn n) is → All (HasPartsIn n) (slice_set is pt (linked_at list x (index_at pt is)))
-append-parts n pt list x is part all = to n (slice_set is pt (linked_at list x (index_at pt is))) (append-entries (IsPartIn n) pt list x is part (from n is all))
+pub append-parts : (n pt : ℕ) (list : EntryList) (x : Linked) (is : List (Option Index)) → IsPartIn n x → All (HasPartsIn n) is →
+    All (HasPartsIn n) (slice_set is pt (linked_at list x (index_at pt is)))
+append-parts n pt list x is part all = to n (slice_set is pt (linked_at list x (index_at pt is)))
+    (append-entries (IsPartIn n) pt list x is part (from n is all))
 
 pub unlink-parts : (n : ℕ) (me : Handle) (is : List (Option Index)) → All (HasPartsIn n) is → All (HasPartsIn n) (map (unlinked_in me) is)
 unlink-parts n me is all = to n (map (unlinked_in me) is) (unlink-entries (IsPartIn n) me is (from n is all))

@@ -1,5 +1,6 @@
 -- What a change of the counting events and of the event queues leaves: the limit, what is live, and sums within the range.
-use Rattle.std.proofs.Common.{◌≡◌, ℕ, ◌+◌, ◌-◌, ◌≤◌, true, false, List, [], ◌∷◌, ◌++◌, Option, Some, None, min, if◌then◌else◌, refl, sym, subst, arith, ◌∙◌}
+use Rattle.std.proofs.Common.{◌≡◌, ℕ, ◌+◌, ◌-◌, ◌≤◌, true, false, List, [], ◌∷◌, ◌++◌, Option, Some, None, min, if◌then◌else◌, refl, sym,
+    subst, arith, ◌∙◌}
 use Rattle.std.specs.Prelude.{All, option_map}
 use Rattle.std.proofs.Math.Nat.{min-le_right}
 use Rattle.std.proofs.lemmas.List.Elements.{All-weaker}
@@ -54,11 +55,13 @@ pub grows-raised : (eq : Option Handle) (e : Event) (t : Table Waiting) → Grow
 grows-raised None e t = grows-same t
 grows-raised (Some h) e t = grows-changed h (add_event e) t
 
-pub grows-gone : (kind : EventKind) (s : Side) (left : List IndexedHeader) (a : IndexedHeader) (t : Table Waiting) → Grows t (gone_raised kind s left a t)
+pub grows-gone : (kind : EventKind) (s : Side) (left : List IndexedHeader) (a : IndexedHeader) (t : Table Waiting) →
+    Grows t (gone_raised kind s left a t)
 grows-gone kind s left a t =
     let told : Table Waiting = raised (queue_at a.pt s) (header_event kind a) t in
     elim (frees s left a) as (λ b. Grows t (if b then raised (queue_at a.pt s) (free_event a.pt) told else told)) [
-      | true ↦ grows-twice t told (raised (queue_at a.pt s) (free_event a.pt) told) (grows-raised (queue_at a.pt s) (header_event kind a) t) (grows-raised (queue_at a.pt s) (free_event a.pt) told)
+      | true ↦ grows-twice t told (raised (queue_at a.pt s) (free_event a.pt) told)
+          (grows-raised (queue_at a.pt s) (header_event kind a) t) (grows-raised (queue_at a.pt s) (free_event a.pt) told)
       | false ↦ grows-raised (queue_at a.pt s) (header_event kind a) t
     ]
 
@@ -66,7 +69,8 @@ pub grows-each_gone : (s : Side) (stay found : List IndexedHeader) (t : Table Wa
 grows-each_gone s stay [] t = grows-same t
 grows-each_gone s stay (a ∷ found) t =
     let next : Table Waiting = gone_raised (kind_taken a.header.header.kind) s (stay ++ found) a t in
-    grows-twice t next (each_gone s stay found next) (grows-gone (kind_taken a.header.header.kind) s (stay ++ found) a t) (grows-each_gone s stay found next)
+    grows-twice t next (each_gone s stay found next) (grows-gone (kind_taken a.header.header.kind) s (stay ++ found) a t)
+        (grows-each_gone s stay found next)
 
 -- ---- counting events
 
@@ -85,21 +89,25 @@ counts-twice a b c p q = record { grows = grows-twice a b c p.grows q.grows; sum
 abbrev pub FitsAt : Handle → List (Live Count) → Type 0
 FitsAt k xs = (c : Count) → lookup k xs ≡ Some c → total c ≤ top
 
-sum-mapped : (f : Count → Count) (o : Option Count) (c : Count) → ((b : Count) → o ≡ Some b → total (f b) ≤ top) → option_map f o ≡ Some c → total c ≤ top
+sum-mapped : (f : Count → Count) (o : Option Count) (c : Count) → ((b : Count) → o ≡ Some b → total (f b) ≤ top) →
+    option_map f o ≡ Some c → total c ≤ top
 sum-mapped f None c fits e = cc
 sum-mapped f (Some b) c fits e = let same : f b ≡ c = cc in subst (λ (x : Count). total x ≤ top) same (fits b refl)
 
-sum-changed : (h k : Handle) (f : Count → Count) (xs : List (Live Count)) → ((c : Count) → lookup h xs ≡ Some c → total c ≤ top → total (f c) ≤ top) → FitsAt k xs → FitsAt k (change h f xs)
+sum-changed : (h k : Handle) (f : Count → Count) (xs : List (Live Count)) →
+    ((c : Count) → lookup h xs ≡ Some c → total c ≤ top → total (f c) ≤ top) → FitsAt k xs → FitsAt k (change h f xs)
 sum-changed h k f xs fits all = λ c e.
     elim (same_handle h k) as (λ b. same_handle h k ≡ b → total c ≤ top) [
       | true ↦ λ same.
           let is : h ≡ k = same-is h k same in
           let here : lookup h (change h f xs) ≡ Some c = subst (λ (x : Handle). lookup x (change h f xs) ≡ Some c) (sym is) e in
-          sum-mapped f (lookup h xs) c (λ b found. fits b found (all b (subst (λ (x : Handle). lookup x xs ≡ Some b) is found))) (sym (lookup-changed h f xs) ∙ here)
+          sum-mapped f (lookup h xs) c (λ b found. fits b found (all b (subst (λ (x : Handle). lookup x xs ≡ Some b) is found)))
+              (sym (lookup-changed h f xs) ∙ here)
       | false ↦ λ apart. all c (sym (lookup-change k h f xs apart) ∙ e)
     ] refl
 
-pub counts-changed : (h : Handle) (f : Count → Count) (t : Table Count) → ((c : Count) → lookup h t.live ≡ Some c → total c ≤ top → total (f c) ≤ top) → CountsOn t (changed h f t)
+pub counts-changed : (h : Handle) (f : Count → Count) (t : Table Count) →
+    ((c : Count) → lookup h t.live ≡ Some c → total c ≤ top → total (f c) ≤ top) → CountsOn t (changed h f t)
 counts-changed h f t fits = record { grows = grows-changed h f t; sums = λ all k. sum-changed h k f t.live fits (all k) }
 
 sum-pushed : (k : Handle) (x : Live Count) (xs : List (Live Count)) → total x.value ≤ top → FitsAt k xs → FitsAt k (xs ++ x ∷ [])
@@ -109,7 +117,8 @@ sum-pushed k x [] new old = λ c e.
       | false ↦ λ is. cc
     ] e
 sum-pushed k x (y ∷ ys) new old = λ c e.
-    elim (same_handle y.handle k) as (λ b. ((d : Count) → (if b then Some y.value else lookup k ys) ≡ Some d → total d ≤ top) → (if b then Some y.value else lookup k (ys ++ x ∷ [])) ≡ Some c → total c ≤ top) [
+    elim (same_handle y.handle k) as (λ b. ((d : Count) → (if b then Some y.value else lookup k ys) ≡ Some d → total d ≤ top) →
+        (if b then Some y.value else lookup k (ys ++ x ∷ [])) ≡ Some c → total c ≤ top) [
       | true ↦ λ all is. all c is
       | false ↦ λ all is. sum-pushed k x ys new all c is
     ] old e
@@ -125,7 +134,8 @@ bump-fits : (by c : Count) → total c ≤ top → total (bump by c) ≤ top
 bump-fits by c fits =
     let s : ℕ = min by.success (top - (c.success + c.failure)) in
     let first : s ≤ top - (c.success + c.failure) = min-le_right by.success (top - (c.success + c.failure)) in
-    let second : min by.failure (top - (c.success + s + c.failure)) ≤ top - (c.success + s + c.failure) = min-le_right by.failure (top - (c.success + s + c.failure)) in
+    let second : min by.failure (top - (c.success + s + c.failure)) ≤ top - (c.success + s + c.failure) =
+          min-le_right by.failure (top - (c.success + s + c.failure)) in
     omega (arith, first, second, fits)
 
 pub counts-counted : (ct : Option Handle) (by : Count) (t : Table Count) → CountsOn t (counted ct by t)
@@ -134,22 +144,28 @@ counts-counted (Some h) by t = counts-changed h (bump by) t (λ c found fits. bu
 
 pub counts-each : (ct : Option Handle) (found : List IndexedHeader) (t : Table Count) → CountsOn t (each_counted ct found t)
 counts-each ct [] t = counts-same t
-counts-each ct (a ∷ found) t = counts-twice t (counted ct (successes 1) t) (each_counted ct found (counted ct (successes 1) t)) (counts-counted ct (successes 1) t) (counts-each ct found (counted ct (successes 1) t))
+counts-each ct (a ∷ found) t = counts-twice t (counted ct (successes 1) t) (each_counted ct found (counted ct (successes 1) t))
+    (counts-counted ct (successes 1) t) (counts-each ct found (counted ct (successes 1) t))
 
 pub counts-new : (slot : ℕ) (t : Table Count) → CountsOn t (with_new slot (successes 0) t)
 counts-new slot t = record { grows = grows-new slot (successes 0) t; sums = λ all k. sum-pushed k _ t.live (omega arith) (all k) }
 
 -- ---- what is named stays live
 
-pub entries-on : (old new : Table Count) (is : List (Option Index)) → Grows old new → All (HasEntries (EntryIsLive old)) is → All (HasEntries (EntryIsLive new)) is
+pub entries-on : (old new : Table Count) (is : List (Option Index)) → Grows old new → All (HasEntries (EntryIsLive old)) is →
+    All (HasEntries (EntryIsLive new)) is
 entries-on old new is grows all =
-    All-weaker (HasEntries (EntryIsLive old)) (HasEntries (EntryIsLive new)) (weaker-entries (EntryIsLive old) (EntryIsLive new) (λ x live. grows-or-none x.entry.ct old new grows live)) is all
+    All-weaker (HasEntries (EntryIsLive old)) (HasEntries (EntryIsLive new))
+        (weaker-entries (EntryIsLive old) (EntryIsLive new) (λ x live. grows-or-none x.entry.ct old new grows live)) is all
 
 pub queues-on : (old new : Table Waiting) (is : List (Option Index)) → Grows old new → All (QueueIsLive old) is → All (QueueIsLive new) is
-queues-on old new is grows all = All-weaker (QueueIsLive old) (QueueIsLive new) (λ o live. grows-or-none (queue_of o) old new grows live) is all
+queues-on old new is grows all = All-weaker (QueueIsLive old) (QueueIsLive new) (λ o live. grows-or-none (queue_of o) old new grows live)
+    is all
 
-pub bounds-on : (c d : Table Count) (e f : Table Waiting) (xs : List (Live Bound)) → Grows c d → Grows e f → All (BoundIsLive c e) xs → All (BoundIsLive d f) xs
-bounds-on c d e f xs cts eqs all = All-weaker (BoundIsLive c e) (BoundIsLive d f) (λ x live. (grows-or-none x.value.md.ct c d cts live.0, grows-or-none x.value.md.eq e f eqs live.1)) xs all
+pub bounds-on : (c d : Table Count) (e f : Table Waiting) (xs : List (Live Bound)) → Grows c d → Grows e f → All (BoundIsLive c e) xs →
+    All (BoundIsLive d f) xs
+bounds-on c d e f xs cts eqs all = All-weaker (BoundIsLive c e) (BoundIsLive d f)
+    (λ x live. (grows-or-none x.value.md.ct c d cts live.0, grows-or-none x.value.md.eq e f eqs live.1)) xs all
 
 deed-on : (d : TriggeredOp) (old new : Table Count) → Grows old new → counts_on_live d old ≡ true → counts_on_live d new ≡ true
 deed-on (Put a) old new grows is = refl
@@ -161,4 +177,5 @@ deed-on (Inc ct by) old new grows is = grows.live ct is
 deed-on (Set ct to) old new grows is = grows.live ct is
 
 pub operations-on : (old new : Table Count) (ps : List Posted) → Grows old new → All (OperationIsLive old) ps → All (OperationIsLive new) ps
-operations-on old new ps grows all = All-weaker (OperationIsLive old) (OperationIsLive new) (λ p live. (grows.live p.ct live.0, deed-on p.deed old new grows live.1)) ps all
+operations-on old new ps grows all = All-weaker (OperationIsLive old) (OperationIsLive new)
+    (λ p live. (grows.live p.ct live.0, deed-on p.deed old new grows live.1)) ps all

@@ -1,5 +1,6 @@
 -- The pending operations are due by how far their counting events are.
-use Rattle.std.proofs.Common.{◌≡◌, ℕ, nat_le, Bool, true, false, List, [], ◌∷◌, Option, Some, None, is_some, if◌then◌else◌, refl, sym, ap, ◌∙◌, arith}
+use Rattle.std.proofs.Common.{◌≡◌, ℕ, nat_le, Bool, true, false, List, [], ◌∷◌, Option, Some, None, is_some, if◌then◌else◌, refl, sym, ap,
+    ◌∙◌, arith}
 use Rattle.std.specs.Prelude.{All, map, option_map}
 use Rattle.std.proofs.lemmas.Bool.Decides.{nat_tests}
 use Rattle.std.proofs.lemmas.List.Elements.{All-head, All-tail, All-cons, All-nil}
@@ -27,18 +28,24 @@ some-there f None v e = cc
 some-there f (Some x) v e = refl
 
 -- what was told of a counter that did not change
-stays : (ct : Option Handle) (old new : Table Count) (w : Operation PostedOp) → ChangesAt ct old new → IsTold old w → names ct w.ct ≡ false → IsTold new w
-stays ct old new w changes is apart = ap (option_map (reaches w)) (changes.others w.ct apart (some-there (reaches w) (lookup w.ct old.live) w.due is)) ∙ is
+stays : (ct : Option Handle) (old new : Table Count) (w : Operation PostedOp) → ChangesAt ct old new → IsTold old w →
+    names ct w.ct ≡ false → IsTold new w
+stays ct old new w changes is apart = ap (option_map (reaches w))
+    (changes.others w.ct apart (some-there (reaches w) (lookup w.ct old.live) w.due is)) ∙ is
 
 -- what is told of the one that did
-anew : (h : Handle) (c : Count) (old new : Table Count) (w : Operation PostedOp) → ChangesAt (Some h) old new → lookup h new.live ≡ Some c → IsTold old w → IsTold new (told_if (waits_on h) (total c) w)
+anew : (h : Handle) (c : Count) (old new : Table Count) (w : Operation PostedOp) → ChangesAt (Some h) old new →
+    lookup h new.live ≡ Some c → IsTold old w → IsTold new (told_if (waits_on h) (total c) w)
 anew h c old new w changes now is =
-    elim (same_handle w.ct h) as (λ b. same_handle w.ct h ≡ b → IsTold new (record w { due = if b then nat_le w.threshold (total c) else w.due })) [
-      | true ↦ λ same. let e : w.ct ≡ h = same-is w.ct h same in ap (λ k. option_map (reaches w) (lookup k new.live)) e ∙ ap (option_map (reaches w)) now
+    elim (same_handle w.ct h) as (λ b. same_handle w.ct h ≡ b →
+        IsTold new (record w { due = if b then nat_le w.threshold (total c) else w.due })) [
+      | true ↦ λ same. let e : w.ct ≡ h = same-is w.ct h same in ap (λ k. option_map (reaches w) (lookup k new.live)) e
+          ∙ ap (option_map (reaches w)) now
       | false ↦ λ apart. stays (Some h) old new w changes is (same-sym h w.ct ∙ apart)
     ] refl
 
-gone : (h : Handle) (old new : Table Count) (w : Operation PostedOp) → ChangesAt (Some h) old new → lookup h new.live ≡ None → IsTold old w → IsTold new w
+gone : (h : Handle) (old new : Table Count) (w : Operation PostedOp) → ChangesAt (Some h) old new → lookup h new.live ≡ None →
+    IsTold old w → IsTold new w
 gone h old new w changes now is =
     elim (same_handle h w.ct) as (λ b. same_handle h w.ct ≡ b → IsTold new w) [
       | true ↦ λ same.
@@ -51,59 +58,74 @@ gone h old new w changes now is =
 
 each-none : (old new : Table Count) (ws : List (Operation PostedOp)) → ChangesAt None old new → All (IsTold old) ws → All (IsTold new) ws
 each-none old new [] changes all = All-nil (IsTold new)
-each-none old new (w ∷ ws) changes all = All-cons (IsTold new) w ws (stays None old new w changes (All-head (IsTold old) w ws all) refl) (each-none old new ws changes (All-tail (IsTold old) w ws all))
+each-none old new (w ∷ ws) changes all = All-cons (IsTold new) w ws (stays None old new w changes (All-head (IsTold old) w ws all) refl)
+    (each-none old new ws changes (All-tail (IsTold old) w ws all))
 
-each-gone : (h : Handle) (old new : Table Count) (ws : List (Operation PostedOp)) → ChangesAt (Some h) old new → lookup h new.live ≡ None → All (IsTold old) ws → All (IsTold new) ws
+each-gone : (h : Handle) (old new : Table Count) (ws : List (Operation PostedOp)) → ChangesAt (Some h) old new →
+    lookup h new.live ≡ None → All (IsTold old) ws → All (IsTold new) ws
 each-gone h old new [] changes now all = All-nil (IsTold new)
-each-gone h old new (w ∷ ws) changes now all = All-cons (IsTold new) w ws (gone h old new w changes now (All-head (IsTold old) w ws all)) (each-gone h old new ws changes now (All-tail (IsTold old) w ws all))
+each-gone h old new (w ∷ ws) changes now all = All-cons (IsTold new) w ws (gone h old new w changes now (All-head (IsTold old) w ws all))
+    (each-gone h old new ws changes now (All-tail (IsTold old) w ws all))
 
-each-anew : (h : Handle) (c : Count) (old new : Table Count) (ws : List (Operation PostedOp)) → ChangesAt (Some h) old new → lookup h new.live ≡ Some c → All (IsTold old) ws → All (IsTold new) (map (told_if (waits_on h) (total c)) ws)
+each-anew : (h : Handle) (c : Count) (old new : Table Count) (ws : List (Operation PostedOp)) → ChangesAt (Some h) old new →
+    lookup h new.live ≡ Some c → All (IsTold old) ws → All (IsTold new) (map (told_if (waits_on h) (total c)) ws)
 each-anew h c old new [] changes now all = All-nil (IsTold new)
 each-anew h c old new (w ∷ ws) changes now all =
-    All-cons (IsTold new) (told_if (waits_on h) (total c) w) (map (told_if (waits_on h) (total c)) ws) (anew h c old new w changes now (All-head (IsTold old) w ws all)) (each-anew h c old new ws changes now (All-tail (IsTold old) w ws all))
+    All-cons (IsTold new) (told_if (waits_on h) (total c) w) (map (told_if (waits_on h) (total c)) ws)
+        (anew h c old new w changes now (All-head (IsTold old) w ws all))
+        (each-anew h c old new ws changes now (All-tail (IsTold old) w ws all))
 
-at-told : (h : Handle) (o : Option Count) (old new : Table Count) (ops : Operations PostedOp) → ChangesAt (Some h) old new → lookup h new.live ≡ o → All (IsTold old) ops.waiting → All (IsTold new) (tell_at h o ops).waiting
+at-told : (h : Handle) (o : Option Count) (old new : Table Count) (ops : Operations PostedOp) → ChangesAt (Some h) old new →
+    lookup h new.live ≡ o → All (IsTold old) ops.waiting → All (IsTold new) (tell_at h o ops).waiting
 at-told h None old new ops changes now all = each-gone h old new ops.waiting changes now all
 at-told h (Some c) old new ops changes now all = each-anew h c old new ops.waiting changes now all
 
 -- a counter's change, told to those that wait on it
-pub all-told : (ct : Option Handle) (old new : Table Count) (ops : Operations PostedOp) → ChangesAt ct old new → All (IsTold old) ops.waiting → All (IsTold new) (told_by ct new ops).waiting
+pub all-told : (ct : Option Handle) (old new : Table Count) (ops : Operations PostedOp) → ChangesAt ct old new →
+    All (IsTold old) ops.waiting → All (IsTold new) (told_by ct new ops).waiting
 all-told None old new ops changes all = each-none old new ops.waiting changes all
 all-told (Some h) old new ops changes all = at-told h (lookup h new.live) old new ops changes refl all
 
 -- what stands already is told again
-pub told-again : (h : Handle) (c : Count) (cts : Table Count) (ops : Operations PostedOp) → lookup h cts.live ≡ Some c → All (IsTold cts) ops.waiting → All (IsTold cts) (told h (total c) ops).waiting
+pub told-again : (h : Handle) (c : Count) (cts : Table Count) (ops : Operations PostedOp) → lookup h cts.live ≡ Some c →
+    All (IsTold cts) ops.waiting → All (IsTold cts) (told h (total c) ops).waiting
 told-again h c cts ops now all = each-anew h c cts cts ops.waiting (changes-none (Some h) cts) now all
 
 -- ---- telling changes nothing else
 
-pub posted-told : (test : Operation PostedOp → Bool) (sum : ℕ) (ws : List (Operation PostedOp)) → map (posted deed_in) (map (told_if test sum) ws) ≡ map (posted deed_in) ws
+pub posted-told : (test : Operation PostedOp → Bool) (sum : ℕ) (ws : List (Operation PostedOp)) →
+    map (posted deed_in) (map (told_if test sum) ws) ≡ map (posted deed_in) ws
 posted-told test sum [] = refl
 posted-told test sum (w ∷ ws) = rw (posted-told test sum ws) refl
 
 pub posted-tells : (ct : Handle) (sum : ℕ) (ops : Operations PostedOp) → posted_all deed_in (told ct sum ops) ≡ posted_all deed_in ops
 posted-tells ct sum ops = rw (posted-told (waits_on ct) sum ops.waiting) refl
 
-pub posted-tell_at : (h : Handle) (o : Option Count) (ops : Operations PostedOp) → posted_all deed_in (tell_at h o ops) ≡ posted_all deed_in ops
+pub posted-tell_at : (h : Handle) (o : Option Count) (ops : Operations PostedOp) → posted_all deed_in (tell_at h o ops) ≡ posted_all
+    deed_in ops
 posted-tell_at h None ops = refl
 posted-tell_at h (Some c) ops = posted-tells h (total c) ops
 
-pub posted-told_by : (ct : Option Handle) (cts : Table Count) (ops : Operations PostedOp) → posted_all deed_in (told_by ct cts ops) ≡ posted_all deed_in ops
+pub posted-told_by : (ct : Option Handle) (cts : Table Count) (ops : Operations PostedOp) →
+    posted_all deed_in (told_by ct cts ops) ≡ posted_all deed_in ops
 posted-told_by None cts ops = refl
 posted-told_by (Some h) cts ops = posted-tell_at h (lookup h cts.live) ops
 
 -- the deeds stay, and what holds of each
-pub deeds-told : (P : PostedOp → Type 0) (test : Operation PostedOp → Bool) (sum : ℕ) (ws : List (Operation PostedOp)) → All (λ w. P w.deed) ws → All (λ w. P w.deed) (map (told_if test sum) ws)
+pub deeds-told : (P : PostedOp → Type 0) (test : Operation PostedOp → Bool) (sum : ℕ) (ws : List (Operation PostedOp)) →
+    All (λ w. P w.deed) ws → All (λ w. P w.deed) (map (told_if test sum) ws)
 deeds-told P test sum [] all = all
 deeds-told P test sum (w ∷ ws) all =
     All-cons (λ (x : Operation PostedOp). P x.deed) (told_if test sum w) (map (told_if test sum) ws)
     (All-head (λ (x : Operation PostedOp). P x.deed) w ws all)
     (deeds-told P test sum ws (All-tail (λ (x : Operation PostedOp). P x.deed) w ws all))
 
-deeds-tell_at : (P : PostedOp → Type 0) (h : Handle) (o : Option Count) (ops : Operations PostedOp) → All (λ w. P w.deed) ops.waiting → All (λ w. P w.deed) (tell_at h o ops).waiting
+deeds-tell_at : (P : PostedOp → Type 0) (h : Handle) (o : Option Count) (ops : Operations PostedOp) → All (λ w. P w.deed) ops.waiting →
+    All (λ w. P w.deed) (tell_at h o ops).waiting
 deeds-tell_at P h None ops all = all
 deeds-tell_at P h (Some c) ops all = deeds-told P (waits_on h) (total c) ops.waiting all
 
-pub deeds-told_by : (P : PostedOp → Type 0) (ct : Option Handle) (cts : Table Count) (ops : Operations PostedOp) → All (λ w. P w.deed) ops.waiting → All (λ w. P w.deed) (told_by ct cts ops).waiting
+pub deeds-told_by : (P : PostedOp → Type 0) (ct : Option Handle) (cts : Table Count) (ops : Operations PostedOp) →
+    All (λ w. P w.deed) ops.waiting → All (λ w. P w.deed) (told_by ct cts ops).waiting
 deeds-told_by P None cts ops all = all
 deeds-told_by P (Some h) cts ops all = deeds-tell_at P h (lookup h cts.live) ops all

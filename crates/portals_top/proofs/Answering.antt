@@ -28,13 +28,16 @@ use Rattle.portals_top.specs.Answered.{IsTold, MayAnswer, Stands, Leaves, Leaves
 use Rattle.portals_top.specs.Written.{Written}
 use Rattle.portals_top.proofs.Told.{Told, read-long, same-read, short-text, told-any}
 
-done-short : (task : Task) (ran : Ran) (text : List ℕ) → (due_of task.command ran (read_as task.format text)).status ≡ Done → length text ≤ LONGEST_TEXT
+done-short : (task : Task) (ran : Ran) (text : List ℕ) → (due_of task.command ran (read_as task.format text)).status ≡ Done →
+    length text ≤ LONGEST_TEXT
 done-short task ran text done =
     short-text LONGEST_TEXT text (λ long.
-    let refused : Refused ≡ Done = subst (λ r. (due_of task.command ran r).status ≡ Done) (read-long task.format text long) done in absurd (cc))
+    let refused : Refused ≡ Done = subst (λ r. (due_of task.command ran r).status ≡ Done) (read-long task.format text long) done in
+        absurd (cc))
 
 -- what stays in the source
-pub leaves : (longest : ℕ) (owed status : Status) (text : List ℕ) (source source' : Inflow) (told : Told longest source.left source'.left text)
+pub leaves : (longest : ℕ) (owed status : Status) (text : List ℕ) (source source' : Inflow)
+    (told : Told longest source.left source'.left text)
     → (owed ≡ Done → length text ≤ longest) → MayAnswer status owed → Leaves status source' (drop (longest + 1) told.bytes)
 leaves longest owed Done text source source' told short allowed = (told.rest, told.nothing (short allowed))
 leaves longest owed Usage text source source' told short allowed = told.rest
@@ -44,20 +47,26 @@ leaves longest owed WriteFault text source source' told short allowed = told.res
 leaves longest owed NoMemory text source source' told short allowed = tt
 
 -- after a text was read, and answered
-pub answered-read : (task : Task) (text : List ℕ) (source source' : Inflow) (sink sink' : Outflow) (ran : Ran) (status : Status) (told : Told LONGEST_TEXT source.left source'.left text)
-    → Written (due_of task.command ran (read_as task.format text)) sink sink' status → HandsBack status (due_of task.command ran (read_as task.format text)).status (LeavesOf task.command (read_as task.format text)) ran
+pub answered-read : (task : Task) (text : List ℕ) (source source' : Inflow) (sink sink' : Outflow) (ran : Ran) (status : Status)
+    (told : Told LONGEST_TEXT source.left source'.left text)
+    → Written (due_of task.command ran (read_as task.format text)) sink sink' status →
+        HandsBack status (due_of task.command ran (read_as task.format text)).status (LeavesOf task.command (read_as task.format text)) ran
     → Answered (Some task) told.bytes source source' sink sink' ran status
-answered-read task text source source' sink sink' ran status told written handed = let same = sym (same-read task.format told.bytes text told.alike) in record {
+answered-read task text source source' sink sink' ran status told written handed = let same =
+                                                                                         sym (same-read task.format told.bytes text
+                                                                                         told.alike) in record {
   allowed = subst (λ r. MayAnswer status (due_of task.command ran r).status) same written.allowed;
   read_fault = λ is. absurd (written.no_read is);
   write_fault = λ is. (subst (λ s. Stands s sink sink' (due_of task.command ran (read_as task.format text)).text) is written.text).rose;
   text = subst (λ r. Stands status sink sink' (due_of task.command ran r).text) same written.text;
-  rest = leaves LONGEST_TEXT (due_of task.command ran (read_as task.format text)).status status text source source' told (done-short task ran text) written.allowed;
+  rest = leaves LONGEST_TEXT (due_of task.command ran (read_as task.format text)).status status text source source' told
+      (done-short task ran text) written.allowed;
   untouched = λ is. absurd (cc);
   world = subst (λ r. HandsBack status (due_of task.command ran r).status (LeavesOf task.command r) ran) same handed;
 }
 
-compiled-owed : (command : Command) (o : Outline) (inputs : Lists) (ran : Option WorldState) (r : Option Excessive) → (due_compiled command o inputs ran r).status ≢ Usage
+compiled-owed : (command : Command) (o : Outline) (inputs : Lists) (ran : Option WorldState) (r : Option Excessive) →
+    (due_compiled command o inputs ran r).status ≢ Usage
 compiled-owed command o inputs ran None = λ is. absurd (cc)
 compiled-owed command o inputs ran (Some r) = λ is. absurd (cc)
 
@@ -72,7 +81,8 @@ chosen-owed : (command : Command) (c : Chosen) (ran : Option ChoiceState) → (d
 chosen-owed (Execute mode) c ran = mode-owed mode c ran
 chosen-owed Plan c ran = λ is. absurd (cc)
 
-described-owed : (command : Command) (d : Program) (ran : Ran) (choices : Option Chosen) → (due_described command d ran choices).status ≢ Usage
+described-owed : (command : Command) (d : Program) (ran : Ran) (choices : Option Chosen) →
+    (due_described command d ran choices).status ≢ Usage
 described-owed command d ran None = compiled-owed command d.shape d.inputs ran.world (refusal d.shape)
 described-owed command d ran (Some choices) = chosen-owed command choices ran.choice
 
@@ -117,7 +127,8 @@ answered-no_memory task source source' sink =
       },
     )
 
-stays : (status : Status) (source : Inflow) (bytes : List ℕ) → IsTold source.left bytes → MayAnswer status Usage → Leaves status source bytes
+stays : (status : Status) (source : Inflow) (bytes : List ℕ) → IsTold source.left bytes → MayAnswer status Usage →
+    Leaves status source bytes
 stays Done source bytes told allowed = absurd (cc)
 stays Usage source bytes told allowed = told
 stays Refused source bytes told allowed = told
@@ -157,17 +168,24 @@ no-world leaves WriteFault NoMemory none = refl
 no-world leaves NoMemory owed none = refl
 
 -- nor where the plan is too large, or there was no memory
-pub no-world-excess : (leaves : Ran → Type 0) (command : Command) (o : Outline) (inputs : Lists) (ran : Option WorldState) (r : Option Excessive) (status : Status)
-    → MayAnswer status (due_compiled command o inputs ran r).status → (r ≡ None → status ≡ NoMemory) → HandsBack status (due_compiled command o inputs ran r).status leaves nothing_ran
-no-world-excess leaves command o inputs ran None status allowed memory = subst (λ s. HandsBack s Done leaves nothing_ran) (sym (memory refl)) refl
+pub no-world-excess : (leaves : Ran → Type 0) (command : Command) (o : Outline) (inputs : Lists) (ran : Option WorldState)
+    (r : Option Excessive) (status : Status)
+    → MayAnswer status (due_compiled command o inputs ran r).status → (r ≡ None → status ≡ NoMemory) →
+        HandsBack status (due_compiled command o inputs ran r).status leaves nothing_ran
+no-world-excess leaves command o inputs ran None status allowed memory = subst (λ s. HandsBack s Done leaves nothing_ran)
+    (sym (memory refl)) refl
 no-world-excess leaves command o inputs ran (Some r) status allowed memory = no-world-refused leaves status allowed
 
 -- what is owed where the plan is too large, where there was no memory, and where it was written
-pub excess-owed : (o : Outline) (k : ℕ) (name : Excess) (r : Option Excessive) → r ≡ Some (record { step = k; name = name }) → (command : Command) (inputs : Lists) (ran : Option WorldState)
-    (sink sink' : Outflow) (status : Status) → Written (refused (step_line o k) (excess_name name)) sink sink' status → Written (due_compiled command o inputs ran r) sink sink' status
-excess-owed o k name r is command inputs ran sink sink' status written = subst (λ x. Written (due_compiled command o inputs ran x) sink sink' status) (sym is) written
+pub excess-owed : (o : Outline) (k : ℕ) (name : Excess) (r : Option Excessive) → r ≡ Some (record { step = k; name = name }) →
+    (command : Command) (inputs : Lists) (ran : Option WorldState)
+    (sink sink' : Outflow) (status : Status) → Written (refused (step_line o k) (excess_name name)) sink sink' status →
+        Written (due_compiled command o inputs ran r) sink sink' status
+excess-owed o k name r is command inputs ran sink sink' status written =
+    subst (λ x. Written (due_compiled command o inputs ran x) sink sink' status) (sym is) written
 
-pub memory-owed : (o : Outline) (r : Option Excessive) → r ≡ None → (command : Command) (inputs : Lists) (ran : Option WorldState) (sink : Outflow)
+pub memory-owed : (o : Outline) (r : Option Excessive) → r ≡ None → (command : Command) (inputs : Lists) (ran : Option WorldState)
+    (sink : Outflow)
     → Written (due_compiled command o inputs ran r) sink sink NoMemory
 memory-owed o r is command inputs ran sink = record {
   allowed = compiled-owed command o inputs ran r;
@@ -175,8 +193,10 @@ memory-owed o r is command inputs ran sink = record {
   text = refl;
 }
 
-pub plan-owed : (o : Outline) (r : Option Excessive) (plan : Drawn) → r ≡ None → plan ≡ plan_of o → (inputs : Lists) (ran : Option WorldState)
-    (sink sink' : Outflow) (status : Status) → Written (done (plan_text plan)) sink sink' status → Written (due_compiled Plan o inputs ran r) sink sink' status
+pub plan-owed : (o : Outline) (r : Option Excessive) (plan : Drawn) → r ≡ None → plan ≡ plan_of o →
+    (inputs : Lists) (ran : Option WorldState)
+    (sink sink' : Outflow) (status : Status) → Written (done (plan_text plan)) sink sink' status →
+        Written (due_compiled Plan o inputs ran r) sink sink' status
 plan-owed o r plan is same inputs ran sink sink' status written =
     subst (λ x. Written (due_compiled Plan o inputs ran x) sink sink' status) (sym is)
     (subst (λ p. Written (done (plan_text p)) sink sink' status) same written)

@@ -64,13 +64,17 @@ module _ (crew : Crew) (job : JobOf) (ran : Ran) (sink sink' : Outflow) (status 
     (written : Written (done (mode_text (mode_of crew) job.shape job.inputs ran.world)) sink sink' status)
     (handed : HandsBack status Done (LeavesWorld (Execute (mode_of crew)) job.shape job.inputs) ran) where
   -- for the job of this shape and these inputs, in the crew's mode
-  of-job : (mode : Mode) (o : Outline) (inputs : Lists) (j : JobOf) → mode ≡ mode_of crew → job ≡ j → j ≡ record { shape = o; inputs = inputs }
-      → Written (done (mode_text mode o inputs ran.world)) sink sink' status × HandsBack status Done (LeavesWorld (Execute mode) o inputs) ran
+  of-job : (mode : Mode) (o : Outline) (inputs : Lists) (j : JobOf) → mode ≡ mode_of crew → job ≡ j →
+      j ≡ record { shape = o; inputs = inputs }
+      → Written (done (mode_text mode o inputs ran.world)) sink sink' status × HandsBack status Done (LeavesWorld (Execute mode) o inputs)
+          ran
   of-job mode o inputs j same is parts =
-      subst (λ m. Written (done (mode_text m o inputs ran.world)) sink sink' status × HandsBack status Done (LeavesWorld (Execute m) o inputs) ran)
+      subst (λ m. Written (done (mode_text m o inputs ran.world)) sink sink' status ×
+          HandsBack status Done (LeavesWorld (Execute m) o inputs) ran)
       (sym same)
       (subst (λ (x : JobOf). Written (done (mode_text (mode_of crew) x.shape x.inputs ran.world)) sink sink' status
-      × HandsBack status Done (LeavesWorld (Execute (mode_of crew)) x.shape x.inputs) ran) (subst (λ x. job ≡ x) parts is) (written, handed))
+      × HandsBack status Done (LeavesWorld (Execute (mode_of crew)) x.shape x.inputs) ran) (subst (λ x. job ≡ x) parts is)
+          (written, handed))
 
   of-compiled : (c : Command) (o : Outline) (inputs : Lists) (r : Option Excessive) → IsLeft c o inputs r crew job
       → Written (due_compiled c o inputs ran.world r) sink sink' status
@@ -100,7 +104,8 @@ stays-read WriteFault source' rest read = read.0
 stays-read NoMemory source' rest read = tt
 
 -- the answer of a run that was left to workers
-pub answered-left : (r : Option Request) (bytes : List ℕ) (source source' : Inflow) (sink between sink' : Outflow) (ran : Ran) (status : Status)
+pub answered-left : (r : Option Request) (bytes : List ℕ) (source source' : Inflow) (sink between sink' : Outflow) (ran : Ran)
+    (status : Status)
     (crew : Crew) (job : JobOf) → IsLeftRun r bytes source' crew job → between ≡ sink
     → Written (done (mode_text (mode_of crew) job.shape job.inputs ran.world)) between sink' status
     → HandsBack status Done (LeavesWorld (Execute (mode_of crew)) job.shape job.inputs) ran
@@ -122,7 +127,8 @@ answered-left r bytes source source' sink between sink' ran status crew job left
     subst (λ x. AnswersTo x bytes source source' sink sink' ran status) (sym left.asked) answered
 
 -- the answer of a run of the generated description
-pub answered-large : (r : Option Request) (bytes : List ℕ) (source source' : Inflow) (sink between sink' : Outflow) (ran : Ran) (status : Status)
+pub answered-large : (r : Option Request) (bytes : List ℕ) (source source' : Inflow) (sink between sink' : Outflow) (ran : Ran)
+    (status : Status)
     (number workers : ℕ) (job : JobOf) → IsLeftLarge r source source' number workers job → between ≡ sink
     → Written (done (summary_text number)) between sink' status
     → HandsBack status Done (LeavesWorld (Execute (Run workers)) (generated number).shape (generated number).inputs) ran

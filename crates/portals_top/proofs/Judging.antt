@@ -29,7 +29,8 @@ use Rattle.portals_top.proofs.Told.{Told, check-long, same-check, short-text, to
 written-verdict : (v : Verdict) (status : Status) (sink sink' : Outflow) → status ≡ (due_verdict (Some v)).status
     → Ends sink sink' (due_verdict (Some v)).text → Written (due_verdict (Some v)) sink sink' status
 written-verdict Holds status sink sink' is ends =
-    subst (λ s. Written (due_verdict (Some Holds)) sink sink' s) (sym is) (record { allowed = refl; no_read = λ e. absurd (cc); text = ends })
+    subst (λ s. Written (due_verdict (Some Holds)) sink sink' s) (sym is)
+        (record { allowed = refl; no_read = λ e. absurd (cc); text = ends })
 written-verdict (Fails r place cause) status sink sink' is ends =
     subst (λ s. Written (due_verdict (Some (Fails r place cause))) sink sink' s) (sym is)
     (record { allowed = refl; no_read = λ e. absurd (cc); text = ends })
@@ -72,7 +73,8 @@ judged-compiled o s inputs orders r sink sink' status none same j =
     subst (λ x. Judges (λ found. due_judged o found x) (λ found. FindsFor o inputs orders x found) sink sink' status) (sym none)
     (subst (λ x. Judges (λ found. due_verdict found) (λ found. FindsFor x inputs orders None found) sink sink' status) same j)
 
-pub judged-refused : (o : Outline) (inputs : Lists) (orders : List (List LocalStep)) (r : Option Excessive) (command : Command) (given : Lists)
+pub judged-refused : (o : Outline) (inputs : Lists) (orders : List (List LocalStep)) (r : Option Excessive) (command : Command)
+    (given : Lists)
     (ran : Option WorldState) (sink sink' : Outflow) (status : Status) → Written (due_compiled command o given ran r) sink sink' status
     → (r ≡ None → status ≡ NoMemory)
     → Judges (λ found. due_judged o found r) (λ found. FindsFor o inputs orders r found) sink sink' status
@@ -87,7 +89,8 @@ judged-refused o inputs orders (Some r) command given ran sink sink' status writ
 -- ---- a text
 pub judged-text : (text : List ℕ) (d : Program) (orders : List (List LocalStep)) (sink sink' : Outflow) (status : Status)
     → read_check text ≡ Ok (d, orders)
-    → Judges (λ found. due_judged d.shape found (refusal d.shape)) (λ found. FindsFor d.shape d.inputs orders (refusal d.shape) found) sink sink' status
+    → Judges (λ found. due_judged d.shape found (refusal d.shape)) (λ found. FindsFor d.shape d.inputs orders (refusal d.shape) found)
+        sink sink' status
     → Judges (λ found. due_checked found (read_check text)) (λ found. FindsIn (read_check text) found) sink sink' status
 judged-text text d orders sink sink' status is j =
     subst (λ r. Judges (λ found. due_checked found r) (λ found. FindsIn r found) sink sink' status) (sym is) j
@@ -121,7 +124,8 @@ text-no_memory text sink =
 -- ---- the bytes of the source
 check-short : (found : Option Verdict) (text : List ℕ) → (due_checked found (read_check text)).status ≡ Done → length text ≤ LONGEST_CHECK
 check-short found text done =
-    short-text LONGEST_CHECK text (λ long. let refused : Refused ≡ Done = subst (λ r. (due_checked found r).status ≡ Done) (check-long text long) done in absurd (cc))
+    short-text LONGEST_CHECK text (λ long. let refused : Refused ≡ Done = subst (λ r. (due_checked found r).status ≡ Done)
+                                                 (check-long text long) done in absurd (cc))
 
 pub checked-read : (text : List ℕ) (source source' : Inflow) (sink sink' : Outflow) (status : Status)
     (told : Told LONGEST_CHECK source.left source'.left text)
@@ -136,7 +140,8 @@ checked-read text source source' sink sink' status told j =
       read_fault = λ is. absurd (j.1.no_read is);
       write_fault = λ is. (subst (λ s. Stands s sink sink' (due_checked j.0 (read_check text)).text) is j.1.text).rose;
       text = subst (λ r. Stands status sink sink' (due_checked j.0 r).text) same j.1.text;
-      rest = leaves LONGEST_CHECK (due_checked j.0 (read_check text)).status status text source source' told (check-short j.0 text) j.1.allowed;
+      rest = leaves LONGEST_CHECK (due_checked j.0 (read_check text)).status status text source source' told (check-short j.0 text)
+          j.1.allowed;
       world = refl;
     }
 

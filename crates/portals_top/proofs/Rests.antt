@@ -25,7 +25,8 @@ use Rattle.portals_top.specs.Due.{done, mode_text}
 use Rattle.portals_top.specs.Runs.{IsRun, chosen_number, generator, words_left}
 use Rattle.portals_top.specs.Written.{Written, status_of}
 
-pub written-of : (sink sink' : Outflow) (text : List ℕ) (r : Result (Unit {0}) Failed) → EndsWith sink sink' text r → Written (done text) sink sink' (status_of r)
+pub written-of : (sink sink' : Outflow) (text : List ℕ) (r : Result (Unit {0}) Failed) → EndsWith sink sink' text r →
+    Written (done text) sink sink' (status_of r)
 written-of sink sink' text (Ok x) ends = record { allowed = refl; no_read = λ is. absurd (cc); text = ends }
 written-of sink sink' text (Err failed) fails = record { allowed = tt; no_read = λ is. absurd (cc); text = fails }
 
@@ -36,13 +37,15 @@ handed-of leaves (Err failed) w left = left
 pub run-of : (w : WorldState) (o : Outline) (inputs : Lists) → w.shape ≡ o → w.inputs ≡ inputs → IsStanding w
     → w.spare ≡ 0 → ((slots : ℕ → Slots) → AreSlots w slots → steps_in w slots ≡ [])
     → ((slots : ℕ → Slots) → AreSlots w slots → IsAtRest (ranks_in w slots) (histories_in w))
-    → ((slots : ℕ → Slots) → AreSlots w slots → (r : ℕ) → r < w.shape.ranks → IsComplete (plan_of w.shape) w.inputs slots (histories_in w) r)
+    → ((slots : ℕ → Slots) → AreSlots w slots → (r : ℕ) → r < w.shape.ranks → IsComplete (plan_of w.shape) w.inputs slots (histories_in w)
+        r)
     → AreMeant w.shape w.inputs (memory_in w) → IsRun o inputs w
 run-of w o inputs shape given standing own none rest complete meant =
     record { shape = shape; inputs = given; standing = standing; own = own; none = none; rest = rest; complete = complete; meant = meant }
 
 -- the text of a world is that of its shape and inputs
-pub same-mode : (mode : Mode) (sink sink' : Outflow) (r : Result (Unit {0}) Failed) (o p : Outline) (inputs given : Lists) (ran : Option WorldState)
+pub same-mode : (mode : Mode) (sink sink' : Outflow) (r : Result (Unit {0}) Failed) (o p : Outline) (inputs given : Lists)
+    (ran : Option WorldState)
     → o ≡ p → inputs ≡ given → EndsWith sink sink' (mode_text mode o inputs ran) r → EndsWith sink sink' (mode_text mode p given ran) r
 same-mode mode sink sink' r o p inputs given ran shape same ends =
     subst (λ (i : Lists). EndsWith sink sink' (mode_text mode p i ran) r) same
@@ -67,9 +70,12 @@ seeded seed k window n z g r first same run =
     ap (λ (y : Scene). after k window n y (generator seed)) (sym first) ∙ (ap (λ (x : Lcg). after k window n z x) (sym same) ∙ run)
 
 -- the run of a world from its opening on, with what the world then is
-pub moved : (seed : ℕ) (w v : WorldState) (g h : Lcg) (slots : ℕ → Slots) (n : ℕ) → IsLater w v → scene_in w ≡ first_scene → g ≡ generator seed
-    → chosen_run (ranks_in w slots) w.window chosen_number words_left n (record { scene = scene_in w; chooser = g }) ≡ record { scene = scene_in v; chooser = h }
-    → chosen_run (ranks_in v slots) v.window chosen_number words_left n (record { scene = first_scene; chooser = generator seed }) ≡ record { scene = scene_in v; chooser = h }
+pub moved : (seed : ℕ) (w v : WorldState) (g h : Lcg) (slots : ℕ → Slots) (n : ℕ) → IsLater w v → scene_in w ≡ first_scene →
+    g ≡ generator seed
+    → chosen_run (ranks_in w slots) w.window chosen_number words_left n (record { scene = scene_in w; chooser = g })
+        ≡ record { scene = scene_in v; chooser = h }
+    → chosen_run (ranks_in v slots) v.window chosen_number words_left n (record { scene = first_scene; chooser = generator seed })
+        ≡ record { scene = scene_in v; chooser = h }
 unfolding after
 moved seed w v g h slots n later first same run =
     ap (λ (o : Outline). after (system_of (plan_of o) v.inputs slots) v.window n first_scene (generator seed)) later.shape

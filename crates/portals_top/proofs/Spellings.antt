@@ -13,13 +13,15 @@ refusal-is BadForm line name is = let e : (0, _) ≡ (line, name) = cc in e
 refusal-is (Refused l n) line name is = let e : (l, n) ≡ (line, name) = cc in e
 refusal-is NoMemory line name is = absurd (cc)
 
-fails-read : (fault : JsonRefusal) (read : Result Program JsonRefusal) (line : ℕ) (name : Refusal) → Fails fault read → refusal_of fault ≡ Some (line, name) → read ≡ Err fault
+fails-read : (fault : JsonRefusal) (read : Result Program JsonRefusal) (line : ℕ) (name : Refusal) → Fails fault read →
+    refusal_of fault ≡ Some (line, name) → read ≡ Err fault
 fails-read BadJson read line name fails is = fails
 fails-read BadForm read line name fails is = fails
 fails-read (Refused l n) read line name fails is = fails
 fails-read NoMemory read line name fails is = absurd (cc)
 
-pub refused-fails : (fault : JsonRefusal) (read : Result Program JsonRefusal) (line : ℕ) (name : Refusal) → Fails fault read → refusal_of fault ≡ Some (line, name)
+pub refused-fails : (fault : JsonRefusal) (read : Result Program JsonRefusal) (line : ℕ) (name : Refusal) → Fails fault read →
+    refusal_of fault ≡ Some (line, name)
     → with_line read ≡ Err (line, name)
 refused-fails fault read line name fails is =
     ap with_line (fails-read fault read line name fails is) ∙ ap (λ (e : ℕ × Refusal). Err e) (refusal-is fault line name is)

@@ -10,7 +10,8 @@ within : (o : Outline) (n k : ℕ) (r : Refused) → refusal_from o k n ≡ Some
 within o zero k r is = absurd (cc)
 within o (suc n) k r is = at (judged (footprint o k)) (within o n (suc k) r) is
   where
-    at : (x : Option Excess) → (refusal_from o (suc k) n ≡ Some r → r.step < suc k + n) → refused_at k x (refusal_from o (suc k) n) ≡ Some r → r.step < k + suc n
+    at : (x : Option Excess) → (refusal_from o (suc k) n ≡ Some r → r.step < suc k + n) → refused_at k x (refusal_from o (suc k) n) ≡ Some
+        r → r.step < k + suc n
     at None rest later = let less : r.step < suc k + n = rest later in omega arith
     at (Some name) rest here = let same : r.step ≡ k = same-step k name r here in omega arith
 

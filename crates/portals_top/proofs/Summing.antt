@@ -23,7 +23,8 @@ accepted d o k is same formed =
     ap refusal (same ∙ ap (λ (x : Program). x.shape) is) ∙ fits (subst (λ (x : Program). IsWellFormed x.shape) is formed)
 
 -- so a compiler that answers it with a fault had no memory
-pub no-excess : (o : Outline) (r : Result Outline CompileFault) (f : CompileFault) → refusal o ≡ None → Compiles o r → r ≡ Err f → f ≡ NoMemory
+pub no-excess : (o : Outline) (r : Result Outline CompileFault) (f : CompileFault) → refusal o ≡ None → Compiles o r → r ≡ Err f →
+    f ≡ NoMemory
 no-excess o r (TooMany k) none compiles is =
     let over : refusal o ≡ Some (record { step = k; name = Links }) = subst (λ x. Compiles o x) is compiles in absurd (cc)
 no-excess o r (TooLarge k) none compiles is =

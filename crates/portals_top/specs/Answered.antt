@@ -56,8 +56,8 @@ Leaves ReadFault source' rest = Unit {0}
 Leaves WriteFault source' rest = IsTold source'.left rest
 Leaves NoMemory source' rest = Unit {0}
 
--- Whether a world ran as a mode asks for: on one thread it is one to which steps led, and `sim` chooses their order. Of workers it is as many
--- as are asked for, and what they left is made to its end.
+-- Whether a world ran as a mode asks for: on one thread it is one to which steps led, and `sim` chooses their order. Of workers it is as
+-- many as are asked for, and what they left is made to its end.
 abbrev pub IsInMode : Mode → WorldState → Type 0
 IsInMode Once w = IsReachedWorld w
 IsInMode (Sim seed) w = IsReachedWorld w × IsInOrder seed w

@@ -73,8 +73,8 @@ pub record IsLeftLarge (r : Option Request) (source source' : Inflow) (number wo
   pub inputs : job.inputs ≡ (generated number).inputs
   pub untouched : source' ≡ source
 
--- All that holds after the beginning of a call with these words, the source having these bytes: it is answered; or a run is left to workers, the
--- sink took nothing, and no world is handed back.
+-- All that holds after the beginning of a call with these words, the source having these bytes: it is answered; or a run is left to
+-- workers, the sink took nothing, and no world is handed back.
 abbrev pub BeginsCall : Option Request → List ℕ → Inflow → Inflow → Outflow → Outflow → Ran → Begun → Type 0
 BeginsCall r bytes source source' sink sink' ran (begun.Answered status) = AnswersTo r bytes source source' sink sink' ran status
 BeginsCall r bytes source source' sink sink' ran (begun.Run crew job) =

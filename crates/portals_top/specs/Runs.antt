@@ -41,8 +41,8 @@ pub record IsRun (o : Outline) (given : Lists) (w : WorldState) : Type 0 where
 abbrev pub IsReachedWorld : WorldState → Type 0
 IsReachedWorld w = (slots : ℕ → Slots) → AreSlots w slots → IsReached (ranks_in w slots) (histories_in w) (scene_in w).held
 
--- So many workers left a world, each of whom saw every rank idle at its last turn there, and this one is later: they were all the hands of a
--- fabric of the job in which nothing had been done.
+-- So many workers left a world, each of whom saw every rank idle at its last turn there, and this one is later: they were all the hands
+-- of a fabric of the job in which nothing had been done.
 pub record IsOfWorkers (workers : ℕ) (w : WorldState) : Type 0 where
   pub fabric : FabricState
   pub fresh : AllFresh fabric.job fabric.turns.start
@@ -58,7 +58,8 @@ pub record IsRested (f : FabricState) (workers : ℕ) (w : WorldState) : Type 0 
   pub world : IsWorldOf f hands w
   pub rest : (slots : ℕ → Slots) → AreSlots w slots → IsAtRest (ranks_in w slots) (histories_in w)
 
--- So many workers left a world at rest, and this one is later: they were all the hands of a fabric of the job in which nothing had been done.
+-- So many workers left a world at rest, and this one is later: they were all the hands of a fabric of the job in which nothing had been
+-- done.
 pub record IsOfSteady (workers : ℕ) (w : WorldState) : Type 0 where
   pub fabric : FabricState
   pub fresh : AllFresh fabric.job fabric.turns.start

@@ -27,13 +27,15 @@ went {A} (Some fault) old new q x a e =
     absurd cc
 
 -- nor did it lack memory
-had_memory : {A : Type 0} (call end : Done (Result A NiFault)) (old q : State) (a : A) → MayLackMemory call old end → end ≡ ends q (Ok a) → ends q (Ok a) ≡ call
+had_memory : {A : Type 0} (call end : Done (Result A NiFault)) (old q : State) (a : A) → MayLackMemory call old end →
+    end ≡ ends q (Ok a) → ends q (Ok a) ≡ call
 had_memory call end old q a enough e = sym e
 had_memory {A} call end old q a (lacking ok) e =
     let answers : Err NoMemory ≡ Ok a = ap (λ (d : Done (Result A NiFault)). d.answer) e in
     absurd cc
 
-pub went_with : {A : Type 0} (o : Option NiFault) (old new q : State) (x a : A) → MayLackMemory (ends_by o old new x) old (ends q (Ok a)) → Went q new a x
+pub went_with : {A : Type 0} (o : Option NiFault) (old new q : State) (x a : A) → MayLackMemory (ends_by o old new x) old (ends q (Ok a))
+    → Went q new a x
 went_with o old new q x a may = went o old new q x a (had_memory (ends_by o old new x) (ends q (Ok a)) old q a may refl)
 
 -- a thing that was made has some slot
@@ -41,30 +43,37 @@ pub record Got (q : State) (h : Handle) (given : ℕ) (new : ℕ → State) : Ty
   pub state : q ≡ new h.slot
   pub stamp : h.stamp ≡ given
 
-pub got : (taken : ℕ → Bool) (o : Option NiFault) (old q : State) (given : ℕ) (new : ℕ → State) (h : Handle) → Makes taken (λ slot. ends_by o old (new slot) (handle slot given)) (ends q (Ok h)) → Got q h given new
+pub got : (taken : ℕ → Bool) (o : Option NiFault) (old q : State) (given : ℕ) (new : ℕ → State) (h : Handle) →
+    Makes taken (λ slot. ends_by o old (new slot) (handle slot given)) (ends q (Ok h)) → Got q h given new
 got taken o old q given new h makes =
     let w = went o old (new makes.slot) q (handle makes.slot given) h makes.ended in
     record { state = w.state ∙ ap new (sym (ap (λ (k : Handle). k.slot) w.answer)); stamp = ap (λ (k : Handle). k.stamp) w.answer }
 
 -- a persistent entry is linked, in either list
-pub linked-persistent : (slot pt : ℕ) (list : EntryList) (e : Entry) (s : State) → e.use_once ≡ false → (append slot pt list e (parts_of s)).appended ≡ Linked (handle slot s.entries_given)
+pub linked-persistent : (slot pt : ℕ) (list : EntryList) (e : Entry) (s : State) → e.use_once ≡ false →
+    (append slot pt list e (parts_of s)).appended ≡ Linked (handle slot s.entries_given)
 unfolding append
 linked-persistent slot pt Priority e s persistent = rw persistent refl
 linked-persistent slot pt Overflow e s persistent = refl
 
-pub linked : (taken : ℕ → Bool) (pt : ℕ) (list : EntryList) (e : Entry) (old q : State) (h : Handle) → e.use_once ≡ false → Makes taken (λ slot. me_append slot pt list e old) (ends q (Ok (Linked h))) → Got q h old.entries_given (λ slot. with_parts (append slot pt list e (parts_of old)).parts old)
+pub linked : (taken : ℕ → Bool) (pt : ℕ) (list : EntryList) (e : Entry) (old q : State) (h : Handle) → e.use_once ≡ false →
+    Makes taken (λ slot. me_append slot pt list e old) (ends q (Ok (Linked h))) →
+    Got q h old.entries_given (λ slot. with_parts (append slot pt list e (parts_of old)).parts old)
 linked taken pt list e old q h persistent makes =
-    let w = went (append_fault pt e (parts_of old)) old (with_parts (append makes.slot pt list e (parts_of old)).parts old) q (append makes.slot pt list e (parts_of old)).appended (Linked h) makes.ended in
+    let w = went (append_fault pt e (parts_of old)) old (with_parts (append makes.slot pt list e (parts_of old)).parts old) q
+          (append makes.slot pt list e (parts_of old)).appended (Linked h) makes.ended in
     let same : Linked h ≡ Linked (handle makes.slot old.entries_given) = w.answer ∙ linked-persistent makes.slot pt list e old persistent in
     let is : h ≡ handle makes.slot old.entries_given = cc in
-    record { state = w.state ∙ ap (λ (k : Handle). with_parts (append k.slot pt list e (parts_of old)).parts old) (sym is); stamp = ap (λ (k : Handle). k.stamp) is }
+    record { state = w.state ∙ ap (λ (k : Handle). with_parts (append k.slot pt list e (parts_of old)).parts old) (sym is); stamp =
+        ap (λ (k : Handle). k.stamp) is }
 
 -- a call that answers a fault changed nothing
 pub record Refused (o : Option NiFault) (q old : State) (fault : NiFault) : Type 0 where
   pub is : o ≡ Some fault
   pub state : q ≡ old
 
-pub refused : {A : Type 0} (o : Option NiFault) (old new q : State) (x : A) (fault : NiFault) → ends q (Err fault) ≡ ends_by o old new x → Refused o q old fault
+pub refused : {A : Type 0} (o : Option NiFault) (old new q : State) (x : A) (fault : NiFault) → ends q (Err fault) ≡ ends_by o old new x →
+    Refused o q old fault
 refused {A} None old new q x fault e =
     let answers : Err fault ≡ Ok x = ap (λ (d : Done (Result A NiFault)). d.answer) e in
     absurd cc

@@ -1,5 +1,6 @@
 -- Lists of handles that grow by one.
-use Rattle.std.proofs.Common.{◌≡◌, ◌<◌, ℕ, ◌+◌, List, [], ◌∷◌, ◌++◌, length, refl, ap, ap₂, ◌⊎◌, ◌∙◌, sym, inl, inr, arith, get_or, length-append, nat_lt, true, false}
+use Rattle.std.proofs.Common.{◌≡◌, ◌<◌, ℕ, ◌+◌, List, [], ◌∷◌, ◌++◌, length, refl, ap, ap₂, ◌⊎◌, ◌∙◌, sym, inl, inr, arith, get_or,
+    length-append, nat_lt, true, false}
 use Rattle.std.proofs.lemmas.Bool.Decides.{nat_tests}
 use Rattle.std.proofs.Math.ListN.{get_or-append}
 use Rattle.std.proofs.Math.Seq.{get_or-append_seam}
@@ -20,7 +21,8 @@ length-push xs x = length-append xs (x ∷ [])
 -- the slots of the front are told too, and so is that of the last
 pub tells-front : (f : ℕ → ℕ) (hs : List Handle) (h : Handle) → Tells f (hs ++ h ∷ []) → Tells f hs
 tells-front f hs h t = record {
-  slots = λ n lt. let more : n < length (hs ++ h ∷ []) = omega (arith, length-push hs h) in t.slots n more ∙ ap (λ (x : Handle). x.slot) (get-front hs h n (handle 0 0) lt);
+  slots = λ n lt. let more : n < length (hs ++ h ∷ []) = omega (arith, length-push hs h) in t.slots n more
+      ∙ ap (λ (x : Handle). x.slot) (get-front hs h n (handle 0 0) lt);
 }
 
 pub tells-last : (f : ℕ → ℕ) (hs : List Handle) (h : Handle) → Tells f (hs ++ h ∷ []) → f (length hs) ≡ h.slot
@@ -42,10 +44,12 @@ in_order-push hs h all next = record { stamps = λ n lt. at n (split n (omega (a
 
     at : (n : ℕ) → (n < length hs) ⊎ (n ≡ length hs) → (get_or (hs ++ h ∷ []) n (handle 0 0)).stamp ≡ n
     at n (inl lt) = ap (λ (x : Handle). x.stamp) (get-front hs h n (handle 0 0) lt) ∙ all.stamps n lt
-    at n (inr e) = ap (λ m. (get_or (hs ++ h ∷ []) m (handle 0 0)).stamp) e ∙ ap (λ (x : Handle). x.stamp) (get-last hs h (handle 0 0)) ∙ next ∙ sym e
+    at n (inr e) = ap (λ m. (get_or (hs ++ h ∷ []) m (handle 0 0)).stamp) e ∙ ap (λ (x : Handle). x.stamp) (get-last hs h (handle 0 0))
+        ∙ next ∙ sym e
 
 -- a handle whose stamp is its number, and whose slot is told
-pub handle-told : (f : ℕ → ℕ) (hs : List Handle) (n : ℕ) (d : Handle) → AreInOrder hs → Tells f hs → n < length hs → get_or hs n d ≡ handle (f n) n
+pub handle-told : (f : ℕ → ℕ) (hs : List Handle) (n : ℕ) (d : Handle) → AreInOrder hs → Tells f hs → n < length hs →
+    get_or hs n d ≡ handle (f n) n
 handle-told f hs n d all t lt =
     let zero : get_or hs n d ≡ get_or hs n (handle 0 0) = get_or_default hs n d (handle 0 0) lt in
     zero ∙ ap₂ handle (sym (t.slots n lt)) (all.stamps n lt)

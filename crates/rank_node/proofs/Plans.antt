@@ -1,5 +1,6 @@
 -- What is compiled for a rank of a sound plan can be installed, gives the prepared interface of the plan, and starts it.
-use Rattle.std.proofs.Common.{◌≡◌, ◌<◌, ◌≤◌, ℕ, zero, suc, ◌+◌, ◌%◌, ◌^◌, ◌==◌, Bool, true, false, List, [], ◌∷◌, ◌++◌, Option, Some, None, length, map, filter, get_or, if◌then◌else◌, refl, ap, ap₂, ◌∙◌, sym, subst, arith, inl, inr}
+use Rattle.std.proofs.Common.{◌≡◌, ◌<◌, ◌≤◌, ℕ, zero, suc, ◌+◌, ◌%◌, ◌^◌, ◌==◌, Bool, true, false, List, [], ◌∷◌, ◌++◌, Option, Some, None,
+    length, map, filter, get_or, if◌then◌else◌, refl, ap, ap₂, ◌∙◌, sym, subst, arith, inl, inr}
 use Rattle.std.specs.Prelude.{All}
 use Rattle.std.proofs.Math.Nat.{le-max_left, le-max_right}
 use Rattle.std.proofs.lemmas.List.Elements.{All-nil, All-cons}
@@ -64,7 +65,8 @@ rising-filter t k (suc n) = at (t k) (rising-filter t (suc k) n)
     above : (x : ℕ) → In x (filter t (from_to (suc k) n)) → k < x
     above x i = let q = from_to-In (suc k) n x (In-filter_cases t x (from_to (suc k) n) i).0 in let low = q.0 in omega arith
 
-    at : (b : Bool) → IsRising (filter t (from_to (suc k) n)) → IsRising (if b then k ∷ filter t (from_to (suc k) n) else filter t (from_to (suc k) n))
+    at : (b : Bool) → IsRising (filter t (from_to (suc k) n)) →
+        IsRising (if b then k ∷ filter t (from_to (suc k) n) else filter t (from_to (suc k) n))
     at true rest = rising-cons k (filter t (from_to (suc k) n)) above rest
     at false rest = rest
 
@@ -77,7 +79,8 @@ at_most-numbered t n =
     omega arith
 
 -- ---- lists of calls, one after the other
-may-append : (cells : List ℕ) (ranks : ℕ) (limits : Limits) (n : Counted) (xs ys : List Call) → MayCallAll cells ranks limits n xs → MayCallAll cells ranks limits (count_calls xs n) ys → MayCallAll cells ranks limits n (xs ++ ys)
+may-append : (cells : List ℕ) (ranks : ℕ) (limits : Limits) (n : Counted) (xs ys : List Call) → MayCallAll cells ranks limits n xs →
+    MayCallAll cells ranks limits (count_calls xs n) ys → MayCallAll cells ranks limits n (xs ++ ys)
 may-append cells ranks limits n [] ys a b = b
 may-append cells ranks limits n (x ∷ xs) ys a b = (a.0, may-append cells ranks limits (count_call x n) xs ys a.1 b)
 
@@ -89,9 +92,11 @@ counts-append (x ∷ xs) ys n = counts-append xs ys (count_call x n)
 abbrev counted : ℕ → ℕ → ℕ → Counted
 counted counters entries descriptors = record { counters = counters; entries = entries; descriptors = descriptors }
 
-counts-areas : (p : Plan) (r : ℕ) (xs : List ℕ) (n m d : ℕ) → count_calls (map (area_call p r) xs) (counted n m d) ≡ counted n (m + length xs) d
+counts-areas : (p : Plan) (r : ℕ) (xs : List ℕ) (n m d : ℕ) → count_calls (map (area_call p r) xs) (counted n m d) ≡ counted n
+    (m + length xs) d
 counts-areas p r [] n m d = ap (λ k. counted n k d) (let q : m ≡ m + 0 = omega arith in q)
-counts-areas p r (x ∷ xs) n m d = counts-areas p r xs n (suc m) d ∙ ap (λ k. counted n k d) (let q : suc m + length xs ≡ m + suc (length xs) = omega arith in q)
+counts-areas p r (x ∷ xs) n m d = counts-areas p r xs n (suc m) d
+    ∙ ap (λ k. counted n k d) (let q : suc m + length xs ≡ m + suc (length xs) = omega arith in q)
 
 counts-triggers : (p : Plan) (ws : List RankOp) (n : Counted) → count_calls (map (trigger p) ws) n ≡ n
 counts-triggers p [] n = refl
@@ -99,9 +104,11 @@ counts-triggers p (w ∷ ws) n = counts-triggers p ws n
 
 counts-cells : (cs : List ℕ) (n m d : ℕ) → count_calls (map CtCell cs) (counted n m d) ≡ counted (n + length cs) m d
 counts-cells [] n m d = ap (λ k. counted k m d) (let q : n ≡ n + 0 = omega arith in q)
-counts-cells (c ∷ cs) n m d = counts-cells cs (suc n) m d ∙ ap (λ k. counted k m d) (let q : suc n + length cs ≡ n + suc (length cs) = omega arith in q)
+counts-cells (c ∷ cs) n m d = counts-cells cs (suc n) m d ∙ ap (λ k. counted k m d) (let q : suc n + length cs ≡ n + suc (length cs) =
+                                                                                           omega arith in q)
 
-may-areas : (p : Plan) (r : ℕ) (cells : List ℕ) (ranks : ℕ) (limits : Limits) (xs : List ℕ) (n : Counted) → MayCallAll cells ranks limits n (map (area_call p r) xs)
+may-areas : (p : Plan) (r : ℕ) (cells : List ℕ) (ranks : ℕ) (limits : Limits) (xs : List ℕ) (n : Counted) →
+    MayCallAll cells ranks limits n (map (area_call p r) xs)
 may-areas p r cells ranks limits [] n = tt
 may-areas p r cells ranks limits (x ∷ xs) n = (tt, may-areas p r cells ranks limits xs (count_call (area_call p r x) n))
 
@@ -112,7 +119,8 @@ may-cells cells ranks limits (c ∷ cs) n = (tt, may-cells cells ranks limits cs
 -- ---- the operations
 longest-le : (p : Plan) (ls : List ℕ) (l : ℕ) → In l ls → (link p l).length ≤ longest p ls
 longest-le p [] l i = absurd i
-longest-le p (m ∷ ls) l (inl e) = let q = ap (λ n. (link p n).length) e in let top = le-max_left (link p m).length (longest p ls) in omega arith
+longest-le p (m ∷ ls) l (inl e) = let q = ap (λ n. (link p n).length) e in let top = le-max_left (link p m).length (longest p ls) in
+    omega arith
 longest-le p (m ∷ ls) l (inr i) = let q = longest-le p ls l i in let top = le-max_right (link p m).length (longest p ls) in omega arith
 
 bump_kind : (k : LinkKind) → is_bump k ≡ true → k ≡ Bump
@@ -129,7 +137,8 @@ module _ (p : Plan) (inputs : Inputs) (sound : SoundPlan p (length inputs)) (r :
   has_counter : (c : ℕ) → In c (own p r) → HasCounter (own p r) (1 + length (own p r)) c
   has_counter c i = let q = place_in-lt (own p r) c i in (q, omega arith)
 
-  may-start : (l : ℕ) → In l (out_links p r) → (o : Option AtomicOp) → (cell p (link p l).target).op ≡ o → (a : PutArgs) → a.target ≡ (cell p (link p l).target).rank → a.length ≡ (link p l).length
+  may-start : (l : ℕ) → In l (out_links p r) → (o : Option AtomicOp) → (cell p (link p l).target).op ≡ o → (a : PutArgs) →
+      a.target ≡ (cell p (link p l).target).rank → a.length ≡ (link p l).length
       → MayStart (sending_deed a o (cell p (link p l).target).ty) p.ranks (limits_for p r)
   may-start l i None e a target size =
       let q = out_links-In p r l i in
@@ -143,7 +152,8 @@ module _ (p : Plan) (inputs : Inputs) (sound : SoundPlan p (length inputs)) (r :
       let short = longest-le p (out_links p r) l i in
       let same : a.length ≡ (cell p (link p l).target).length = size ∙ (s.atomic_whole (s.atomic_here o e)).1 in (
         record { target_known = omega arith; short = omega arith },
-        record { whole = ap (λ n. n % bytes_of (cell p (link p l).target).ty) same ∙ sound.whole (link p l).target s.cells; at_most = omega arith },
+        record { whole = ap (λ n. n % bytes_of (cell p (link p l).target).ty) same ∙ sound.whole (link p l).target s.cells; at_most =
+            omega arith },
       )
 
   wired-send : (w : RankOp) → In w (rank_ops p r) → IsWired (own p r) all_made (act_of p w) × MaySend p.ranks (limits_for p r) (act_of p w)
@@ -153,17 +163,23 @@ module _ (p : Plan) (inputs : Inputs) (sound : SoundPlan p (length inputs)) (r :
       out : In l (out_links p r)
       out = rank_ops-along p r l i
 
-      at : (b : Bool) → is_bump (link p l).kind ≡ b → IsWired (own p r) all_made (act_of p (ForLink l)) × MaySend p.ranks (limits_for p r) (act_of p (ForLink l))
+      at : (b : Bool) → is_bump (link p l).kind ≡ b → IsWired (own p r) all_made (act_of p (ForLink l)) ×
+          MaySend p.ranks (limits_for p r) (act_of p (ForLink l))
       at true e =
           let q = out_links-In p r l out in
           let s = sound.links_sound l q.0 in
-          let t : In (link p l).target (own p r) = In-own p r (link p l).target s.cells (sym (s.bump_stays (bump_kind (link p l).kind e)) ∙ q.1) in
-          subst (λ b. IsWired (own p r) all_made (if b then BumpCell (link p l).target else send_act p l) × MaySend p.ranks (limits_for p r) (if b then BumpCell (link p l).target else send_act p l)) (sym e) (has_counter (link p l).target t, tt)
+          let t : In (link p l).target (own p r) = In-own p r (link p l).target s.cells (sym (s.bump_stays (bump_kind (link p l).kind e))
+                ∙ q.1) in
+          subst (λ b. IsWired (own p r) all_made (if b then BumpCell (link p l).target else send_act p l) ×
+              MaySend p.ranks (limits_for p r) (if b then BumpCell (link p l).target else send_act p l)) (sym e)
+              (has_counter (link p l).target t, tt)
       at false e =
-          subst (λ b. IsWired (own p r) all_made (if b then BumpCell (link p l).target else send_act p l) × MaySend p.ranks (limits_for p r) (if b then BumpCell (link p l).target else send_act p l)) (sym e)
+          subst (λ b. IsWired (own p r) all_made (if b then BumpCell (link p l).target else send_act p l) ×
+              MaySend p.ranks (limits_for p r) (if b then BumpCell (link p l).target else send_act p l)) (sym e)
           (refl, may-start l out (cell p (link p l).target).op refl _ refl refl)
 
-  may-triggers : (ws : List RankOp) → ((w : RankOp) → In w ws → In w (rank_ops p r)) → MayCallAll (own p r) p.ranks (limits_for p r) all_made (map (trigger p) ws)
+  may-triggers : (ws : List RankOp) → ((w : RankOp) → In w ws → In w (rank_ops p r)) →
+      MayCallAll (own p r) p.ranks (limits_for p r) all_made (map (trigger p) ws)
   may-triggers [] sub = tt
   may-triggers (w ∷ ws) sub =
       let i = sub w (inl refl) in
@@ -176,7 +192,8 @@ module _ (p : Plan) (inputs : Inputs) (sound : SoundPlan p (length inputs)) (r :
 
   own_have : (cs : List ℕ) → ((c : ℕ) → In c cs → In c (own p r)) → All IsPlaced (map (own_cell p r) cs)
   own_have [] sub = All-nil IsPlaced
-  own_have (c ∷ cs) sub = All-cons IsPlaced (own_cell p r c) (map (own_cell p r) cs) (place_in-lt (own p r) c (sub c (inl refl))) (own_have cs (λ d i. sub d (inr i)))
+  own_have (c ∷ cs) sub = All-cons IsPlaced (own_cell p r c) (map (own_cell p r) cs) (place_in-lt (own p r) c (sub c (inl refl)))
+      (own_have cs (λ d i. sub d (inr i)))
 
   -- the calls after those of the areas, and after those of the counters
   abbrev operations : List Call
@@ -190,12 +207,14 @@ module _ (p : Plan) (inputs : Inputs) (sound : SoundPlan p (length inputs)) (r :
 
   may-calls : MayCallAll (own p r) p.ranks (limits_for p r) none_made (prepare_calls p r)
   may-calls =
-      let last : MayCallAll (own p r) p.ranks (limits_for p r) (counted (1 + length (own p r)) (0 + length (classes p r)) 0) bound_and_operations = ((refl, omega arith), may-triggers (rank_ops p r) (λ w i. i)) in
+      let last : MayCallAll (own p r) p.ranks (limits_for p r) (counted (1 + length (own p r)) (0 + length (classes p r)) 0)
+            bound_and_operations = ((refl, omega arith), may-triggers (rank_ops p r) (λ w i. i)) in
       let middle : MayCallAll (own p r) p.ranks (limits_for p r) (counted 0 (0 + length (classes p r)) 0) behind_areas = (
         refl,
         may-append (own p r) p.ranks (limits_for p r) (counted 1 (0 + length (classes p r)) 0) (map CtCell (own p r)) bound_and_operations
             (may-cells (own p r) p.ranks (limits_for p r) (own p r) (counted 1 (0 + length (classes p r)) 0))
-            (subst (λ n. MayCallAll (own p r) p.ranks (limits_for p r) n bound_and_operations) (sym (counts-cells (own p r) 1 (0 + length (classes p r)) 0)) last),
+            (subst (λ n. MayCallAll (own p r) p.ranks (limits_for p r) n bound_and_operations)
+                (sym (counts-cells (own p r) 1 (0 + length (classes p r)) 0)) last),
       ) in (
         tt,
         may-append (own p r) p.ranks (limits_for p r) none_made (map (area_call p r) (classes p r)) behind_areas
@@ -243,10 +262,12 @@ module _ (p : Plan) (inputs : Inputs) (sound : SoundPlan p (length inputs)) (r :
         rank = subst (λ n. n < t.ranks) (sym f.rank) (subst (λ n. r < n) (sym f.ranks) known);
         rising = subst IsRising (sym f.cells) (rising-filter (λ d. (cell p d).rank == r) 0 (length p.cells));
         may = rw (f.cells, f.ranks, f.limits, f.calls) may-calls;
-        counters = ap (λ (n : Counted). n.counters) made ∙ rw f.cells (let q : 1 + length (own p r) ≡ suc (length (own p r)) = omega arith in q);
+        counters = ap (λ (n : Counted). n.counters) made ∙ rw f.cells (let q : 1 + length (own p r) ≡ suc (length (own p r)) =
+                                                                             omega arith in q);
         descriptors = ap (λ (n : Counted). n.descriptors) made;
         enough = subst (λ (n : Counted). Fits (record n { entries = n.entries + length t.own }) (room_under t.limits)) (sym made)
-            (subst (λ l. Fits (record all_made { entries = all_made.entries + length t.own }) (room_under l)) (sym f.limits) (record { counters = omega arith; entries = omega arith; descriptors = omega arith }));
+            (subst (λ l. Fits (record all_made { entries = all_made.entries + length t.own }) (room_under l)) (sym f.limits)
+                (record { counters = omega arith; entries = omega arith; descriptors = omega arith }));
         fit = subst FitLimits (sym f.limits) (few_limits at_most);
         go = rw (f.cells, f.go) (place_in-lt (own p r) r here);
         own = rw (f.cells, f.own) (own_have (own p r) (λ d i. i));
@@ -254,20 +275,25 @@ module _ (p : Plan) (inputs : Inputs) (sound : SoundPlan p (length inputs)) (r :
       }
 
 -- ---- it gives the prepared interface, and starts it
-pub prepared-is : (p : Plan) (inputs : Inputs) (r : ℕ) (k : Slots) (t : Task) → IsCompiledFor p inputs r t → prepared t k ≡ prepare p inputs k r
+pub prepared-is : (p : Plan) (inputs : Inputs) (r : ℕ) (k : Slots) (t : Task) → IsCompiledFor p inputs r t →
+    prepared t k ≡ prepare p inputs k r
 prepared-is p inputs r k t f = rw (f.cells, f.calls, f.rank, f.ranks, f.limits, f.region) refl
 
 pub begin-is : (p : Plan) (inputs : Inputs) (r : ℕ) (k : Slots) (t : Task) → IsCompiledFor p inputs r t → start_of t k ≡ begins p k r
-begin-is p inputs r k t f = ap₂ (λ m cells. beginning m k cells t.go t.own) f.longest f.cells ∙ ap₂ (λ g own_list. beginning (longest_to p r) k (own p r) g own_list) f.go f.own
+begin-is p inputs r k t f = ap₂ (λ m cells. beginning m k cells t.go t.own) f.longest f.cells
+    ∙ ap₂ (λ g own_list. beginning (longest_to p r) k (own p r) g own_list) f.go f.own
 
 -- ---- a node of this rank has a history of the plan's system
-pub run-state : (p : Plan) (inputs : Inputs) (slots : ℕ → Slots) (w : Histories) (r : ℕ) (n : NodeState) → IsCompiledFor p inputs r n.task → IsNode n → Agrees (slots r) n.kept → w r ≡ n.diary.locals → n.nic ≡ state_at (system_of p inputs slots) w r
+pub run-state : (p : Plan) (inputs : Inputs) (slots : ℕ → Slots) (w : Histories) (r : ℕ) (n : NodeState) →
+    IsCompiledFor p inputs r n.task → IsNode n → Agrees (slots r) n.kept → w r ≡ n.diary.locals →
+    n.nic ≡ state_at (system_of p inputs slots) w r
 run-state p inputs slots w r n f is agrees same =
     is.state (slots r) agrees
     ∙ ap₂ (λ b v. state b v n.diary.locals) (begin-is p inputs r (slots r) n.task f) (prepared-is p inputs r (slots r) n.task f)
     ∙ ap (state (begins p (slots r) r) (prepare p inputs (slots r) r)) (sym same)
 
-pub run-legal : (p : Plan) (inputs : Inputs) (k : Slots) (r : ℕ) (n : NodeState) → IsCompiledFor p inputs r n.task → IsNode n → Agrees k n.kept → Legal (begins p k r) false (prepare p inputs k r) n.diary.locals
+pub run-legal : (p : Plan) (inputs : Inputs) (k : Slots) (r : ℕ) (n : NodeState) → IsCompiledFor p inputs r n.task → IsNode n →
+    Agrees k n.kept → Legal (begins p k r) false (prepare p inputs k r) n.diary.locals
 run-legal p inputs k r n f is agrees =
     let a = subst (λ b. Legal b false (prepared n.task k) n.diary.locals) (begin-is p inputs r k n.task f) (is.legal k agrees) in
     subst (λ v. Legal (begins p k r) false v n.diary.locals) (prepared-is p inputs r k n.task f) a

@@ -9,7 +9,8 @@ abbrev pub shut_in : List Bool → ℕ
 shut_in closed = count_by (λ b. b) closed
 
 -- one that changes
-pub shut-set : (closed : List Bool) (d : ℕ) (b : Bool) → d < length closed → shut_in (set closed d b) + cond (get_or closed d false) 1 0 ≡ shut_in closed + cond b 1 0
+pub shut-set : (closed : List Bool) (d : ℕ) (b : Bool) → d < length closed → shut_in (set closed d b) + cond (get_or closed d false) 1 0
+    ≡ shut_in closed + cond b 1 0
 shut-set closed d b lt = sum_by-set (λ v. cond v 1 0) closed d b false lt
 
 -- where none is closed, none of them is

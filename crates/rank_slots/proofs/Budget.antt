@@ -71,7 +71,8 @@ sum-same f g (x ∷ xs) same = sum_by-cons f x xs ∙ (ap₂ (λ a b. a + b) (sa
 
 sum-le : {X : Type 0} (f g : X → ℕ) (xs : List X) → ((x : X) → f x ≤ g x) → sum_by f xs ≤ sum_by g xs
 sum-le f g [] le = omega arith
-sum-le f g (x ∷ xs) le = let a = sum_by-cons f x xs in let b = sum_by-cons g x xs in let c = le x in let d = sum-le f g xs le in omega (arith, a, b, c, d)
+sum-le f g (x ∷ xs) le = let a = sum_by-cons f x xs in let b = sum_by-cons g x xs in let c = le x in let d = sum-le f g xs le in
+    omega (arith, a, b, c, d)
 
 -- one rank is one of those below n, or none of them
 abbrev pick : ℕ → Bool → ℕ → ℕ → ℕ
@@ -85,12 +86,14 @@ pick-here q b m = ap (λ a. cond (a && b) m 0) (eq-eqb q q refl)
 
 picked-none : (q : ℕ) (b : Bool) (m n : ℕ) → n ≤ q → total (pick q b m) n ≡ 0
 picked-none q b m zero h = refl
-picked-none q b m (suc n) h = let a = picked-none q b m n (omega (arith, h)) in let c = pick-other q b m n (λ e. omega (arith, e, h)) in omega (arith, a, c)
+picked-none q b m (suc n) h = let a = picked-none q b m n (omega (arith, h)) in let c = pick-other q b m n (λ e. omega (arith, e, h)) in
+    omega (arith, a, c)
 
 picked-one : (q : ℕ) (b : Bool) (m n : ℕ) → q < n → total (pick q b m) n ≡ cond b m 0
 picked-one q b m zero h = absurd (omega (arith, h))
 picked-one q b m (suc n) h = elim (cases_eq q n) [
-  | inl e ↦ let a = picked-none q b m n (omega (arith, e)) in let c = subst (λ s. pick q b m s ≡ cond b m 0) e (pick-here q b m) in omega (arith, a, c)
+  | inl e ↦ let a = picked-none q b m n (omega (arith, e)) in let c = subst (λ s. pick q b m s ≡ cond b m 0) e (pick-here q b m) in
+      omega (arith, a, c)
   | inr apart ↦ let a = picked-one q b m n (omega (arith, h, apart)) in let c = pick-other q b m n apart in omega (arith, a, c)
 ]
 
@@ -115,9 +118,11 @@ got-sum : (l : Lane) (w : Sent → ℕ) (s : ℕ) (h : List Local) → sum_by w 
 got-sum l w s [] = refl
 got-sum l w s (Start ∷ h) = let a = got-sum l w s h in let b = sum_by-cons (part l w s) Start h in omega (arith, a, b)
 got-sum l w s (Fire t ∷ h) = let a = got-sum l w s h in let b = sum_by-cons (part l w s) (Fire t) h in omega (arith, a, b)
-got-sum l w s (Receive q k m ∷ h) = let a = got-sum l w s h in let b = sum_by-cons (part l w s) (Receive q k m) h in at ((q == s) && same_lane k l) a b
+got-sum l w s (Receive q k m ∷ h) = let a = got-sum l w s h in let b = sum_by-cons (part l w s) (Receive q k m) h in
+    at ((q == s) && same_lane k l) a b
   where
-    at : (c : Bool) → sum_by w (got h s l) ≡ sum_by (part l w s) h → sum_by (part l w s) (Receive q k m ∷ h) ≡ cond c (w m) 0 + sum_by (part l w s) h
+    at : (c : Bool) → sum_by w (got h s l) ≡ sum_by (part l w s) h → sum_by (part l w s) (Receive q k m ∷ h) ≡ cond c (w m) 0 + sum_by
+        (part l w s) h
         → sum_by w (cond c (m ∷ got h s l) (got h s l)) ≡ sum_by (part l w s) (Receive q k m ∷ h)
     at true a b = let c = sum_by-cons w m (got h s l) in omega (arith, a, b, c)
     at false a b = omega (arith, a, b)
@@ -129,16 +134,21 @@ above (Start ∷ h) = above h
 above (Fire t ∷ h) = above h
 above (Receive q k m ∷ h) = suc q + above h
 
-parts-whole : (l : Lane) (w : Sent → ℕ) (h : List Local) (n : ℕ) → above h ≤ n → sum_by (λ e. total (λ s. part l w s e) n) h ≡ sum_by (whole l w) h
+parts-whole : (l : Lane) (w : Sent → ℕ) (h : List Local) (n : ℕ) → above h ≤ n → sum_by (λ e. total (λ s. part l w s e) n) h ≡ sum_by
+    (whole l w) h
 parts-whole l w [] n le = refl
-parts-whole l w (Start ∷ h) n le = sum_by-cons (λ e. total (λ s. part l w s e) n) Start h ∙ (ap₂ (λ a b. a + b) (total-none n) (parts-whole l w h n le) ∙ sym (sum_by-cons (whole l w) Start h))
-parts-whole l w (Fire t ∷ h) n le = sum_by-cons (λ e. total (λ s. part l w s e) n) (Fire t) h ∙ (ap₂ (λ a b. a + b) (total-none n) (parts-whole l w h n le) ∙ sym (sum_by-cons (whole l w) (Fire t) h))
+parts-whole l w (Start ∷ h) n le = sum_by-cons (λ e. total (λ s. part l w s e) n) Start h
+    ∙ (ap₂ (λ a b. a + b) (total-none n) (parts-whole l w h n le) ∙ sym (sum_by-cons (whole l w) Start h))
+parts-whole l w (Fire t ∷ h) n le = sum_by-cons (λ e. total (λ s. part l w s e) n) (Fire t) h
+    ∙ (ap₂ (λ a b. a + b) (total-none n) (parts-whole l w h n le) ∙ sym (sum_by-cons (whole l w) (Fire t) h))
 parts-whole l w (Receive q k m ∷ h) n le =
     sum_by-cons (λ e. total (λ s. part l w s e) n) (Receive q k m) h
-    ∙ (ap₂ (λ a b. a + b) (picked-one q (same_lane k l) (w m) n (omega (arith, le))) (parts-whole l w h n (omega (arith, le))) ∙ sym (sum_by-cons (whole l w) (Receive q k m) h))
+    ∙ (ap₂ (λ a b. a + b) (picked-one q (same_lane k l) (w m) n (omega (arith, le))) (parts-whole l w h n (omega (arith, le)))
+        ∙ sym (sum_by-cons (whole l w) (Receive q k m) h))
 
 -- so all that came on a lane is no more than what the ranks may send there
-came : (l : Lane) (w : Sent → ℕ) (h : List Local) (g : ℕ → ℕ) → ((s : ℕ) → sum_by w (got h s l) ≤ g s) → sum_by (whole l w) h ≤ total g (above h)
+came : (l : Lane) (w : Sent → ℕ) (h : List Local) (g : ℕ → ℕ) → ((s : ℕ) → sum_by w (got h s l) ≤ g s) →
+    sum_by (whole l w) h ≤ total g (above h)
 came l w h g le =
     let a = parts-whole l w h (above h) (omega arith) in
     let b = total-swap (part l w) h (above h) in
@@ -150,7 +160,8 @@ guarded : (t : ℕ → Bool) (f : ℕ → ℕ) (xs : List ℕ) → sum_by f (fil
 guarded t f [] = refl
 guarded t f (x ∷ xs) = let a = guarded t f xs in let b = sum_by-cons (λ x. cond (t x) (f x) 0) x xs in at (t x) a b
   where
-    at : (c : Bool) → sum_by f (filter t xs) ≡ sum_by (λ x. cond (t x) (f x) 0) xs → sum_by (λ x. cond (t x) (f x) 0) (x ∷ xs) ≡ cond c (f x) 0 + sum_by (λ x. cond (t x) (f x) 0) xs
+    at : (c : Bool) → sum_by f (filter t xs) ≡ sum_by (λ x. cond (t x) (f x) 0) xs → sum_by (λ x. cond (t x) (f x) 0) (x ∷ xs) ≡ cond c
+        (f x) 0 + sum_by (λ x. cond (t x) (f x) 0) xs
         → sum_by f (cond c (x ∷ filter t xs) (filter t xs)) ≡ sum_by (λ x. cond (t x) (f x) 0) (x ∷ xs)
     at true a b = let c = sum_by-cons f x (filter t xs) in omega (arith, a, b, c)
     at false a b = omega (arith, a, b)
@@ -173,31 +184,38 @@ module _ (p : Plan) (r : ℕ) (f : ℕ → ℕ) where
 
   -- and a link from r is to one rank at most
   back : (m t : Bool) (q n v : ℕ) → total (λ s. cond (m && (t && (q == s))) v 0) n ≤ cond (t && m) v 0
-  back true true q n v = let a = picked-le q true v n in let b = total-same (λ s. cond (q == s) v 0) (pick q true v) n (λ s. ap (λ c. cond c v 0) (sym (and-true (q == s)))) in omega (arith, a, b)
+  back true true q n v = let a = picked-le q true v n in let b = total-same (λ s. cond (q == s) v 0) (pick q true v) n
+                                                               (λ s. ap (λ c. cond c v 0) (sym (and-true (q == s)))) in omega (arith, a, b)
   back true false q n v = let a = total-none n in omega (arith, a)
   back false true q n v = let a = total-none n in omega (arith, a)
   back false false q n v = let a = total-none n in omega (arith, a)
 
   links-in : (n : ℕ) → total (λ s. sum_by f (lane_links p s r)) n ≤ sum_by f (links_to p r)
   links-in n =
-      let a = total-same (λ s. sum_by f (lane_links p s r)) (λ s. sum_by (λ l. cond (goes_along p s r l) (f l) 0) (all_links p)) n (λ s. guarded (goes_along p s r) f (all_links p)) in
+      let a = total-same (λ s. sum_by f (lane_links p s r)) (λ s. sum_by (λ l. cond (goes_along p s r l) (f l) 0) (all_links p)) n
+            (λ s. guarded (goes_along p s r) f (all_links p)) in
       let b = total-swap (λ s l. cond (goes_along p s r l) (f l) 0) (all_links p) n in
-      let c = sum-le (λ l. total (λ s. cond (goes_along p s r l) (f l) 0) n) (λ l. cond (comes_to p r l) (f l) 0) (all_links p) (λ l. along (is_message p l) (to l == r) (from l) n (f l)) in
+      let c = sum-le (λ l. total (λ s. cond (goes_along p s r l) (f l) 0) n) (λ l. cond (comes_to p r l) (f l) 0) (all_links p)
+            (λ l. along (is_message p l) (to l == r) (from l) n (f l)) in
       let d = guarded (comes_to p r) f (all_links p) in
       omega (arith, a, b, c, d)
 
-  links-out : (n : ℕ) → total (λ s. sum_by f (lane_links p r s)) n ≤ sum_by (λ l. cond ((from l == r) && is_message p l) (f l) 0) (all_links p)
+  links-out : (n : ℕ) → total (λ s. sum_by f (lane_links p r s)) n ≤ sum_by (λ l. cond ((from l == r) && is_message p l) (f l) 0)
+      (all_links p)
   links-out n =
-      let a = total-same (λ s. sum_by f (lane_links p r s)) (λ s. sum_by (λ l. cond (goes_along p r s l) (f l) 0) (all_links p)) n (λ s. guarded (goes_along p r s) f (all_links p)) in
+      let a = total-same (λ s. sum_by f (lane_links p r s)) (λ s. sum_by (λ l. cond (goes_along p r s l) (f l) 0) (all_links p)) n
+            (λ s. guarded (goes_along p r s) f (all_links p)) in
       let b = total-swap (λ s l. cond (goes_along p r s l) (f l) 0) (all_links p) n in
-      let c = sum-le (λ l. total (λ s. cond (goes_along p r s l) (f l) 0) n) (λ l. cond ((from l == r) && is_message p l) (f l) 0) (all_links p) (λ l. back (is_message p l) (from l == r) (to l) n (f l)) in
+      let c = sum-le (λ l. total (λ s. cond (goes_along p r s l) (f l) 0) n) (λ l. cond ((from l == r) && is_message p l) (f l) 0)
+            (all_links p) (λ l. back (is_message p l) (from l == r) (to l) n (f l)) in
       omega (arith, a, b, c)
 
 -- ---- what came in all
 receipts-are : (h : List Local) → count_by is_receipt h ≡ sum_by (whole Request (λ m. 1)) h + sum_by (whole Answer (λ m. 1)) h
 receipts-are [] = refl
 receipts-are (e ∷ h) =
-    let a = receipts-are h in let b = count-cons is_receipt e h in let c = sum_by-cons (whole Request (λ m. 1)) e h in let d = sum_by-cons (whole Answer (λ m. 1)) e h in
+    let a = receipts-are h in let b = count-cons is_receipt e h in let c = sum_by-cons (whole Request (λ m. 1)) e h in let d =
+                                                                                                                             sum_by-cons (whole Answer (λ m. 1)) e h in
     let x = each e in omega (arith, a, b, c, d, x)
   where
     each : (e : Local) → cond (is_receipt e) 1 0 ≡ whole Request (λ m. 1) e + whole Answer (λ m. 1) e
@@ -206,32 +224,43 @@ receipts-are (e ∷ h) =
     each (Receive q Request m) = refl
     each (Receive q Answer m) = refl
 
-bytes-are : (h : List Local) → bytes_received h ≡ sum_by (whole Request (λ m. length m.bytes)) h + sum_by (whole Answer (λ m. length m.bytes)) h
+bytes-are : (h : List Local) → bytes_received h ≡ sum_by (whole Request (λ m. length m.bytes)) h + sum_by
+    (whole Answer (λ m. length m.bytes)) h
 bytes-are [] = refl
 bytes-are (e ∷ h) =
-    let a = bytes-are h in let c = sum_by-cons (whole Request (λ m. length m.bytes)) e h in let d = sum_by-cons (whole Answer (λ m. length m.bytes)) e h in
+    let a = bytes-are h in let c = sum_by-cons (whole Request (λ m. length m.bytes)) e h in let d =
+                                                                                                  sum_by-cons (whole Answer
+                                                                                                  (λ m. length m.bytes)) e h in
     let x = each e in omega (arith, a, c, d, x)
   where
-    each : (e : Local) → bytes_received (e ∷ h) ≡ whole Request (λ m. length m.bytes) e + whole Answer (λ m. length m.bytes) e + bytes_received h
+    each : (e : Local) → bytes_received (e ∷ h) ≡ whole Request (λ m. length m.bytes) e + whole Answer (λ m. length m.bytes) e
+        + bytes_received h
     each Start = omega arith
     each (Fire t) = omega arith
     each (Receive q Request m) = omega arith
     each (Receive q Answer m) = omega arith
 
-sends-are : (p : Plan) (r : ℕ) (xs : List ℕ) → count_by (is_message p) (filter (λ l. (cell p (link p l).source).rank == r) xs) ≡ sum_by (λ l. cond (((cell p (link p l).source).rank == r) && is_message p l) 1 0) xs
+sends-are : (p : Plan) (r : ℕ) (xs : List ℕ) → count_by (is_message p) (filter (λ l. (cell p (link p l).source).rank == r) xs) ≡ sum_by
+    (λ l. cond (((cell p (link p l).source).rank == r) && is_message p l) 1 0) xs
 sends-are p r [] = refl
-sends-are p r (l ∷ xs) = at ((cell p (link p l).source).rank == r) (sends-are p r xs) (sum_by-cons (λ l. cond (((cell p (link p l).source).rank == r) && is_message p l) 1 0) l xs)
+sends-are p r (l ∷ xs) = at ((cell p (link p l).source).rank == r) (sends-are p r xs)
+    (sum_by-cons (λ l. cond (((cell p (link p l).source).rank == r) && is_message p l) 1 0) l xs)
   where
-    at : (b : Bool) → count_by (is_message p) (filter (λ l. (cell p (link p l).source).rank == r) xs) ≡ sum_by (λ l. cond (((cell p (link p l).source).rank == r) && is_message p l) 1 0) xs
-        → sum_by (λ l. cond (((cell p (link p l).source).rank == r) && is_message p l) 1 0) (l ∷ xs) ≡ cond (b && is_message p l) 1 0 + sum_by (λ l. cond (((cell p (link p l).source).rank == r) && is_message p l) 1 0) xs
-        → count_by (is_message p) (cond b (l ∷ filter (λ l. (cell p (link p l).source).rank == r) xs) (filter (λ l. (cell p (link p l).source).rank == r) xs)) ≡ sum_by (λ l. cond (((cell p (link p l).source).rank == r) && is_message p l) 1 0) (l ∷ xs)
+    at : (b : Bool) → count_by (is_message p) (filter (λ l. (cell p (link p l).source).rank == r) xs) ≡ sum_by
+        (λ l. cond (((cell p (link p l).source).rank == r) && is_message p l) 1 0) xs
+        → sum_by (λ l. cond (((cell p (link p l).source).rank == r) && is_message p l) 1 0) (l ∷ xs) ≡ cond (b && is_message p l) 1 0
+            + sum_by (λ l. cond (((cell p (link p l).source).rank == r) && is_message p l) 1 0) xs
+        → count_by (is_message p) (cond b (l ∷ filter (λ l. (cell p (link p l).source).rank == r) xs)
+            (filter (λ l. (cell p (link p l).source).rank == r) xs)) ≡ sum_by
+            (λ l. cond (((cell p (link p l).source).rank == r) && is_message p l) 1 0) (l ∷ xs)
     at true a b = let c = count-cons (is_message p) l (filter (λ l. (cell p (link p l).source).rank == r) xs) in omega (arith, a, b, c)
     at false a b = omega (arith, a, b)
 
 module _ (p : Plan) (r : ℕ) (h : List Local) (heard : (s : ℕ) (lane : Lane) → KeepsBounds (bounds_on p s r lane) (got h s lane)) where
   requests : sum_by (whole Request (λ m. 1)) h ≤ length (links_to p r)
   requests =
-      let a = came Request (λ m. 1) h (λ s. sum_by (λ l. 1) (lane_links p s r)) (λ s. let x = ones (got h s Request) in let y = ones (lane_links p s r) in let z = (heard s Request).at_most in omega (arith, x, y, z)) in
+      let a = came Request (λ m. 1) h (λ s. sum_by (λ l. 1) (lane_links p s r)) (λ s. let x = ones (got h s Request) in let y =
+                                                                                                                              ones (lane_links p s r) in let z = (heard s Request).at_most in omega (arith, x, y, z)) in
       let b = links-in p r (λ l. 1) (above h) in
       let c = ones (links_to p r) in
       omega (arith, a, b, c)
@@ -239,9 +268,11 @@ module _ (p : Plan) (r : ℕ) (h : List Local) (heard : (s : ℕ) (lane : Lane) 
   answers : sum_by (whole Answer (λ m. 1)) h ≤ cond p.remote (sends_of p r) 0
   answers = at p.remote (λ s. (heard s Answer).at_most)
     where
-      at : (b : Bool) → ((s : ℕ) → length (got h s Answer) ≤ cond b (length (lane_links p r s)) 0) → sum_by (whole Answer (λ m. 1)) h ≤ cond b (sends_of p r) 0
+      at : (b : Bool) → ((s : ℕ) → length (got h s Answer) ≤ cond b (length (lane_links p r s)) 0) →
+          sum_by (whole Answer (λ m. 1)) h ≤ cond b (sends_of p r) 0
       at true at_most =
-          let a = came Answer (λ m. 1) h (λ s. sum_by (λ l. 1) (lane_links p r s)) (λ s. let x = ones (got h s Answer) in let y = ones (lane_links p r s) in let z = at_most s in omega (arith, x, y, z)) in
+          let a = came Answer (λ m. 1) h (λ s. sum_by (λ l. 1) (lane_links p r s)) (λ s. let x = ones (got h s Answer) in let y =
+                                                                                                                                ones (lane_links p r s) in let z = at_most s in omega (arith, x, y, z)) in
           let b = links-out p r (λ l. 1) (above h) in
           let c = sends-are p r (all_links p) in
           omega (arith, a, b, c)
@@ -257,7 +288,8 @@ module _ (p : Plan) (r : ℕ) (h : List Local) (heard : (s : ℕ) (lane : Lane) 
   -- and no more bytes
   pub at_most-bytes : bytes_received h ≤ sum_by (λ l. (link p l).length) (links_to p r)
   at_most-bytes =
-      let a = came Request (λ m. length m.bytes) h (λ s. sum_by (λ l. (link p l).length) (lane_links p s r)) (λ s. (heard s Request).short) in
+      let a = came Request (λ m. length m.bytes) h (λ s. sum_by (λ l. (link p l).length) (lane_links p s r))
+            (λ s. (heard s Request).short) in
       let b = links-in p r (λ l. (link p l).length) (above h) in
       let c = came Answer (λ m. length m.bytes) h (λ s. 0) (λ s. (heard s Answer).short) in
       let d = total-none (above h) in
@@ -269,7 +301,8 @@ pub record HasRoom (n : NodeState) (m : Sent) : Type 0 where
   pub receipts : 0 < n.diary.receipts
   pub bytes : length m.bytes ≤ n.diary.bytes
 
-pub has-room : (p : Plan) (inputs : Inputs) (n : NodeState) (s : ℕ) (lane : Lane) (m : Sent) → IsCompiledFor p inputs n.task.rank n.task → IsNode n → n.strays ≡ 0
+pub has-room : (p : Plan) (inputs : Inputs) (n : NodeState) (s : ℕ) (lane : Lane) (m : Sent) → IsCompiledFor p inputs n.task.rank n.task →
+    IsNode n → n.strays ≡ 0
     → ((q : ℕ) (l : Lane) → KeepsBounds (bounds_on p q n.task.rank l) (got (n.diary.locals ++ Receive s lane m ∷ []) q l)) → HasRoom n m
 has-room p inputs n s lane m compiled is strays heard =
     let r = n.task.rank in let later = n.diary.locals ++ Receive s lane m ∷ [] in
@@ -293,10 +326,12 @@ at_most-out p r =
     let c = length-from_to 0 (length p.links) in
     omega (arith, a, b, c)
 
-pub short-history : (p : Plan) (inputs : Inputs) → SoundPlan p (length inputs) → (n : NodeState) → IsCompiledFor p inputs n.task.rank n.task → IsNode n → n.strays ≡ 0 → length n.diary.locals < 2 ^ 62
+pub short-history : (p : Plan) (inputs : Inputs) → SoundPlan p (length inputs) → (n : NodeState) →
+    IsCompiledFor p inputs n.task.rank n.task → IsNode n → n.strays ≡ 0 → length n.diary.locals < 2 ^ 62
 short-history p inputs sound n compiled is strays =
     let r = n.task.rank in let k = slots_of n.kept in
-    let a = few_steps p k r (start_of p k r) n.diary.locals (prepare p inputs k r) (prepared_of p inputs sound k r) (run-legal p inputs k r n compiled is (agrees n.kept is.descriptors)) in
+    let a = few_steps p k r (start_of p k r) n.diary.locals (prepare p inputs k r) (prepared_of p inputs sound k r)
+          (run-legal p inputs k r n compiled is (agrees n.kept is.descriptors)) in
     let b = length-rank_ops p r in
     let c = at_most-out p r in
     let d = length-own-le p r in

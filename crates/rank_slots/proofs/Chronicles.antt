@@ -40,10 +40,13 @@ begins-history x y p = (
 unstarted : (hs ks : Handles) (es : List Local) → has_start es ≡ false → map (entry hs) es ≡ map (entry ks) es
 unstarted hs ks [] none = refl
 unstarted hs ks (Start ∷ es) none = absurd (true≢false (started-front false Start es ∙ none))
-unstarted hs ks (Receive s lane m ∷ es) none = ap (λ (l : List Entry). (Receive s lane m, None) ∷ l) (unstarted hs ks es (started-front false (Receive s lane m) es ∙ none))
-unstarted hs ks (Fire t ∷ es) none = ap (λ (l : List Entry). (Fire t, None) ∷ l) (unstarted hs ks es (started-front false (Fire t) es ∙ none))
+unstarted hs ks (Receive s lane m ∷ es) none = ap (λ (l : List Entry). (Receive s lane m, None) ∷ l)
+    (unstarted hs ks es (started-front false (Receive s lane m) es ∙ none))
+unstarted hs ks (Fire t ∷ es) none = ap (λ (l : List Entry). (Fire t, None) ∷ l)
+    (unstarted hs ks es (started-front false (Fire t) es ∙ none))
 
-same-dates : (hs ks : Handles) (es : List Local) (b : Bool) → has_start es ≡ b → (has_start es ≡ true → ks ≡ hs) → map (entry hs) es ≡ map (entry ks) es
+same-dates : (hs ks : Handles) (es : List Local) (b : Bool) → has_start es ≡ b → (has_start es ≡ true → ks ≡ hs) →
+    map (entry hs) es ≡ map (entry ks) es
 same-dates hs ks es true e same = ap (λ k. map (entry k) es) (sym (same e))
 same-dates hs ks es false e same = unstarted hs ks es e
 
@@ -51,7 +54,8 @@ same-dates hs ks es false e same = unstarted hs ks es e
 pub begins-chronicle : (x y : TurnRank) → IsPrefix (history x) (history y) → KeepsHandles x y → IsPrefix (chronicle x) (chronicle y)
 begins-chronicle x y p same = (
   map (entry y.node.value.kept) p.0,
-  ap (λ (l : List Entry). l ++ map (entry y.node.value.kept) p.0) (same-dates x.node.value.kept y.node.value.kept (history x) (has_start (history x)) refl same)
+  ap (λ (l : List Entry). l ++ map (entry y.node.value.kept) p.0)
+      (same-dates x.node.value.kept y.node.value.kept (history x) (has_start (history x)) refl same)
       ∙ (sym (map-append (entry y.node.value.kept) (history x) p.0) ∙ ap (map (entry y.node.value.kept)) p.1),
 )
 
@@ -59,8 +63,10 @@ begins-chronicle x y p same = (
 pub started-longer : (es fs : List Local) → has_start es ≡ true → has_start (es ++ fs) ≡ true
 started-longer [] fs e = absurd (true≢false (sym e))
 started-longer (Start ∷ es) fs e = sym (started-front false Start (es ++ fs))
-started-longer (Receive s lane m ∷ es) fs e = sym (started-front false (Receive s lane m) (es ++ fs)) ∙ started-longer es fs (started-front false (Receive s lane m) es ∙ e)
-started-longer (Fire t ∷ es) fs e = sym (started-front false (Fire t) (es ++ fs)) ∙ started-longer es fs (started-front false (Fire t) es ∙ e)
+started-longer (Receive s lane m ∷ es) fs e = sym (started-front false (Receive s lane m) (es ++ fs))
+    ∙ started-longer es fs (started-front false (Receive s lane m) es ∙ e)
+started-longer (Fire t ∷ es) fs e = sym (started-front false (Fire t) (es ++ fs))
+    ∙ started-longer es fs (started-front false (Fire t) es ∙ e)
 
 pub started-prefix : (es fs : List Local) → IsPrefix es fs → has_start es ≡ true → has_start fs ≡ true
 started-prefix es fs p e = subst (λ (l : List Local). has_start l ≡ true) p.1 (started-longer es p.0 e)
@@ -69,7 +75,8 @@ pub handles-after : (x y z : TurnRank) → IsPrefix (history x) (history y) → 
 handles-after x y z p f g = λ started. g (started-prefix (history x) (history y) p started) ∙ f started
 
 pub handles-flushed : (x z y : TurnRank) → HasFlushed x z → KeepsHandles z y → KeepsHandles x y
-handles-flushed x z y f keeps = λ started. keeps (ap (λ (n : NodeState). has_start n.diary.locals) f.node.same ∙ started) ∙ ap (λ (n : NodeState). n.kept) f.node.same
+handles-flushed x z y f keeps = λ started. keeps (ap (λ (n : NodeState). has_start n.diary.locals) f.node.same ∙ started)
+    ∙ ap (λ (n : NodeState). n.kept) f.node.same
 
 pub handles-first : (x y : TurnRank) → has_start (history x) ≡ false → KeepsHandles x y
 handles-first x y first = λ started. absurd (true≢false (sym started ∙ first))
@@ -96,5 +103,7 @@ pub same-handles : (hs ks : Handles) (es fs : List Local) → has_start es ≡ t
 same-handles hs ks [] fs started p = absurd (true≢false (sym started))
 same-handles hs ks (e ∷ es) [] started p = absurd (let q = p.1 in cc)
 same-handles hs ks (Start ∷ es) (f ∷ fs) started p = other-start hs ks f (same-first _ _ _ _ p.1)
-same-handles hs ks (Receive s lane m ∷ es) (f ∷ fs) started p = same-handles hs ks es fs (started-front false (Receive s lane m) es ∙ started) (p.0, same-rest _ _ _ _ p.1)
-same-handles hs ks (Fire t ∷ es) (f ∷ fs) started p = same-handles hs ks es fs (started-front false (Fire t) es ∙ started) (p.0, same-rest _ _ _ _ p.1)
+same-handles hs ks (Receive s lane m ∷ es) (f ∷ fs) started p =
+    same-handles hs ks es fs (started-front false (Receive s lane m) es ∙ started) (p.0, same-rest _ _ _ _ p.1)
+same-handles hs ks (Fire t ∷ es) (f ∷ fs) started p = same-handles hs ks es fs (started-front false (Fire t) es ∙ started)
+    (p.0, same-rest _ _ _ _ p.1)

@@ -50,11 +50,13 @@ pub of-for : (d : ℕ) (l : Lane) (m : Sent) → is_for d l m ≡ true → (m.he
 of-for d l m e = let b = both-true (m.header.target == d) (is_lane l m.header.kind) e in (eqb-true _ _ b.0, is-lane l m.header.kind b.1)
 
 -- ---- gates
-gate-here : (l : Lane) (d : ℕ) (waits : Bool) (closed : List Bool) → d < length closed → l ≡ Request → get_or (gate_after l d waits closed) d false ≡ waits
+gate-here : (l : Lane) (d : ℕ) (waits : Bool) (closed : List Bool) → d < length closed → l ≡ Request →
+    get_or (gate_after l d waits closed) d false ≡ waits
 gate-here Request d waits closed h e = get_or-set_same closed d waits false h
 gate-here Answer d waits closed h e = cc
 
-gate-other : (l : Lane) (d : ℕ) (waits : Bool) (closed : List Bool) (x : ℕ) → (l ≡ Request → x ≢ d) → get_or (gate_after l d waits closed) x false ≡ get_or closed x false
+gate-other : (l : Lane) (d : ℕ) (waits : Bool) (closed : List Bool) (x : ℕ) → (l ≡ Request → x ≢ d) →
+    get_or (gate_after l d waits closed) x false ≡ get_or closed x false
 gate-other Request d waits closed x n = get_or-set_other closed d x waits false (n refl)
 gate-other Answer d waits closed x n = refl
 
@@ -63,11 +65,15 @@ gate-wide Request d waits closed = length-set closed d waits
 gate-wide Answer d waits closed = refl
 
 -- one end changed, and its gate was noted
-pub gated-set : (outs : List OutPort) (closed : List Bool) (at : ℕ) (p q : OutPort) → get_elem? outs at ≡ some p → SameOut p q → p.target < length closed → OutsDiffer outs → Gated closed outs
+pub gated-set : (outs : List OutPort) (closed : List Bool) (at : ℕ) (p q : OutPort) → get_elem? outs at ≡ some p → SameOut p q →
+    p.target < length closed → OutsDiffer outs → Gated closed outs
     → Gated (gate_after q.lane q.target q.end.waits closed) (set outs at q)
-gated-set outs closed at p q there same inside differ gated = each_set (λ (z : OutPort). z.lane ≡ Request → get_or (gate_after q.lane q.target q.end.waits closed) z.target false ≡ z.end.waits) outs at q
+gated-set outs closed at p q there same inside differ gated =
+    each_set (λ (z : OutPort). z.lane ≡ Request → get_or (gate_after q.lane q.target q.end.waits closed) z.target false ≡ z.end.waits)
+    outs at q
     (gate-here q.lane q.target q.end.waits closed (subst (λ d. d < length closed) (sym same.target) inside))
-    (λ j z apart e f. gate-other q.lane q.target q.end.waits closed z.target (λ g h. apart (differ j at z p e there (h ∙ same.target) (f ∙ sym g ∙ same.lane))) ∙ gated j z e f)
+    (λ j z apart e f. gate-other q.lane q.target q.end.waits closed z.target
+        (λ g h. apart (differ j at z p e there (h ∙ same.target) (f ∙ sym g ∙ same.lane))) ∙ gated j z e f)
 
 -- ---- a message goes to the end of its lane
 pub sent-here : (d : ℕ) (l : Lane) (m : Sent) → is_for d l m ≡ true → m ∷ [] ≡ filter (is_for d l) (m ∷ [])
@@ -89,10 +95,12 @@ posted-else m p none = record { same = same-out p; sent = at (is_for p.target p.
     at true e = let f = of-for p.target p.lane m e in absurd (none (sym f.0) (sym f.1))
     at false e = sent-else p.target p.lane m p.end.sent e
 
-pub posted-set : (m : Sent) (outs : List OutPort) (at : ℕ) (p q : OutPort) → get_elem? outs at ≡ some p → p.target ≡ m.header.target → p.lane ≡ lane_of m.header.kind → SameOut p q → q.end.sent ≡ p.end.sent ++ m ∷ [] → OutsDiffer outs
+pub posted-set : (m : Sent) (outs : List OutPort) (at : ℕ) (p q : OutPort) → get_elem? outs at ≡ some p → p.target ≡ m.header.target →
+    p.lane ≡ lane_of m.header.kind → SameOut p q → q.end.sent ≡ p.end.sent ++ m ∷ [] → OutsDiffer outs
     → Pairwise (Posted (Some m)) outs (set outs at q)
 posted-set m outs at p q there goal lane same sent differ = pairs_set (Posted (Some m)) outs at p q there
-    (record { same = same; sent = sent ∙ ap (λ (ms : List Sent). p.end.sent ++ ms) (sent-here p.target p.lane m (for-of p.target p.lane m (sym goal) (sym lane))) })
+    (record { same = same; sent = sent ∙ ap (λ (ms : List Sent). p.end.sent ++ ms)
+        (sent-here p.target p.lane m (for-of p.target p.lane m (sym goal) (sym lane))) })
     (λ j z apart e. posted-else m z (λ f g. apart (differ j at z p e there (f ∙ sym goal) (g ∙ sym lane))))
 
 pub posted-none : (m : Sent) (outs : List OutPort) → Each (NoEnd m) outs → Pairwise (Posted (Some m)) outs outs
@@ -109,18 +117,23 @@ pub same-joint : (p q : OutPort) → SameOut p q → out_joint p ≡ out_joint q
 same-joint p q same = λ i. record { number = sym same.number i; wire = sym same.wire i; bounds = sym same.bounds i }
 
 -- two ends of one lane are one, also when one of them changed
-differ-set : (outs : List OutPort) (at : ℕ) (p q : OutPort) → get_elem? outs at ≡ some p → SameOut p q → OutsDiffer outs → OutsDiffer (set outs at q)
+differ-set : (outs : List OutPort) (at : ℕ) (p q : OutPort) → get_elem? outs at ≡ some p → SameOut p q → OutsDiffer outs →
+    OutsDiffer (set outs at q)
 differ-set outs at p q there same differ i j x y e f goal lane =
     let a = was i x e in let b = was j y f in
     differ i j a.0 b.0 a.1 b.1 (sym a.2.target ∙ goal ∙ b.2.target) (sym a.2.lane ∙ lane ∙ b.2.lane)
   where
     was : (k : ℕ) (z : OutPort) → get_elem? (set outs at q) k ≡ some z → (o : OutPort) × (get_elem? outs k ≡ some o) × SameOut o z
-    was k z e = ⊎_elim (λ (is : (k ≡ at) × (q ≡ z)). (p, ap (get_elem? outs) is.0 ∙ there, subst (SameOut p) is.1 same)) (λ (is : (k ≢ at) × (get_elem? outs k ≡ some z)). (z, is.1, same-out z)) (at_set outs at k q z e)
+    was k z e = ⊎_elim (λ (is : (k ≡ at) × (q ≡ z)). (p, ap (get_elem? outs) is.0 ∙ there, subst (SameOut p) is.1 same))
+        (λ (is : (k ≢ at) × (get_elem? outs k ≡ some z)). (z, is.1, same-out z)) (at_set outs at k q z e)
 
 -- one end changed, and its gate was noted
-pub ends-set : (wires : List WireState) (closed : List Bool) (outs : List OutPort) (at : ℕ) (p q : OutPort) → get_elem? outs at ≡ some p → SameOut p q → AreEnds wires closed outs → AreEnds wires (gate_after q.lane q.target q.end.waits closed) (set outs at q)
-ends-set wires closed outs at p q there same ends = let new = gate_after q.lane q.target q.end.waits closed in let wide = gate-wide q.lane q.target q.end.waits closed in record {
-  wired = each_set (λ (z : OutPort). Fits wires (out_joint z)) outs at q (subst (Fits wires) (same-joint p q same) (ends.wired at p there)) (λ j z apart e. ends.wired j z e);
+pub ends-set : (wires : List WireState) (closed : List Bool) (outs : List OutPort) (at : ℕ) (p q : OutPort) → get_elem? outs at ≡ some p →
+    SameOut p q → AreEnds wires closed outs → AreEnds wires (gate_after q.lane q.target q.end.waits closed) (set outs at q)
+ends-set wires closed outs at p q there same ends = let new = gate_after q.lane q.target q.end.waits closed in let wide =
+                                                                                                                     gate-wide q.lane q.target q.end.waits closed in record {
+  wired = each_set (λ (z : OutPort). Fits wires (out_joint z)) outs at q
+      (subst (Fits wires) (same-joint p q same) (ends.wired at p there)) (λ j z apart e. ends.wired j z e);
   inside = each_set (λ (z : OutPort). z.target < length new) outs at q
       (let k = ends.inside at p there in let e = same.target in subst (λ d. d < length new) (sym e) (omega (arith, k, wide)))
       (λ j z apart e. let k = ends.inside j z e in omega (arith, k, wide));
@@ -130,19 +143,24 @@ ends-set wires closed outs at p q there same ends = let new = gate_after q.lane 
 
 -- ---- all ends, one after the other
 pub regated-after : (a b c : NodeState) → Regated a b → Regated b c → Regated a c
-regated-after a b c f g = record { same = g.same ∙ ap (λ (n : NodeState). let o : NodeState = record n { closed = c.closed } in o) f.same; wide = g.wide ∙ f.wide }
+regated-after a b c f g = record { same = g.same ∙ ap (λ (n : NodeState). let o : NodeState = record n { closed = c.closed } in o) f.same;
+    wide = g.wide ∙ f.wide }
 
 pub regated-same : (a : NodeState) → Regated a a
 regated-same a = record { same = refl; wide = refl }
 
-pub tried-more : (first outs : List OutPort) (at : ℕ) (p q : OutPort) → get_elem? outs at ≡ some p → get_elem? outs at ≡ get_elem? first at → Flushed p q
+pub tried-more : (first outs : List OutPort) (at : ℕ) (p q : OutPort) → get_elem? outs at ≡ some p →
+    get_elem? outs at ≡ get_elem? first at → Flushed p q
     → ((i : ℕ) (x y : OutPort) → i < at → get_elem? first i ≡ some x → get_elem? outs i ≡ some y → Flushed x y)
     → (i : ℕ) (x y : OutPort) → i < at + 1 → get_elem? first i ≡ some x → get_elem? (set outs at q) i ≡ some y → Flushed x y
 tried-more first outs at p q there same now before i x y below a b = ⊎_elim
-    (λ (is : (i ≡ at) × (q ≡ y)). subst (Flushed x) is.1 (subst (λ (z : OutPort). Flushed z q) (same_at first at p x (sym same ∙ there) (ap (get_elem? first) (sym is.0) ∙ a)) now))
-    (λ (is : (i ≢ at) × (get_elem? outs i ≡ some y)). before i x y (let n = is.0 in omega (arith, n, below)) a is.1) (at_set outs at i q y b)
+    (λ (is : (i ≡ at) × (q ≡ y)). subst (Flushed x) is.1 (subst (λ (z : OutPort). Flushed z q)
+        (same_at first at p x (sym same ∙ there) (ap (get_elem? first) (sym is.0) ∙ a)) now))
+    (λ (is : (i ≢ at) × (get_elem? outs i ≡ some y)). before i x y (let n = is.0 in omega (arith, n, below)) a is.1)
+        (at_set outs at i q y b)
 
-pub free-more : (outs : List OutPort) (at : ℕ) (q : OutPort) → q.end.waits ≡ false → ((i : ℕ) (y : OutPort) → i < at → get_elem? outs i ≡ some y → y.end.waits ≡ false)
+pub free-more : (outs : List OutPort) (at : ℕ) (q : OutPort) → q.end.waits ≡ false →
+    ((i : ℕ) (y : OutPort) → i < at → get_elem? outs i ≡ some y → y.end.waits ≡ false)
     → (i : ℕ) (y : OutPort) → i < at + 1 → get_elem? (set outs at q) i ≡ some y → y.end.waits ≡ false
 free-more outs at q now before i y below b = ⊎_elim
     (λ (is : (i ≡ at) × (q ≡ y)). subst (λ (z : OutPort). z.end.waits ≡ false) is.1 now)
@@ -155,11 +173,13 @@ pub record Found (outs : List OutPort) (at : ℕ) (m : Sent) (p : OutPort) : Typ
   pub destination : p.target ≡ m.header.target
   pub lane : p.lane ≡ lane_of m.header.kind
 
-pub found : (outs seen : List OutPort) (at : ℕ) (m : Sent) (o p : OutPort) (d : ℕ) (l : Lane) → seen ≡ outs → get_elem? seen at ≡ some o → o.target ≡ d → o.lane ≡ l → d ≡ m.header.target → l ≡ lane_of m.header.kind
+pub found : (outs seen : List OutPort) (at : ℕ) (m : Sent) (o p : OutPort) (d : ℕ) (l : Lane) → seen ≡ outs → get_elem? seen at ≡ some o →
+    o.target ≡ d → o.lane ≡ l → d ≡ m.header.target → l ≡ lane_of m.header.kind
     → p ≡ get_or outs at p → Found outs at m p
 found outs seen at m o p d l same is goal lane to kind read =
     let here = ap (λ (x : List OutPort). get_elem? x at) (sym same) ∙ is in
     let low = within outs at o here in
     let there = at_index outs at p low read in
     let one = same_at outs at p o there here in
-    record { within = low; there = there; goal = ap (λ (z : OutPort). z.target) one ∙ goal ∙ to; lane = ap (λ (z : OutPort). z.lane) one ∙ lane ∙ kind }
+    record { within = low; there = there; goal = ap (λ (z : OutPort). z.target) one ∙ goal ∙ to; lane = ap (λ (z : OutPort). z.lane) one
+        ∙ lane ∙ kind }

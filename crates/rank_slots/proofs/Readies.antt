@@ -10,22 +10,28 @@ use Rattle.rank_node.specs.Gates.{goes_out, open_numbers}
 
 -- an operation that is ready stands among those
 ready-in : (s : State) (t : ℕ) → is_ready s t ≡ true → In t (ready_numbers s)
-ready-in s t ready = In-filter (is_ready s) t (map (λ (p : Posted). p.number) s.pending.waiting) (at (posted_at t s.pending) refl ready) ready
+ready-in s t ready = In-filter (is_ready s) t (map (λ (p : Posted). p.number) s.pending.waiting) (at (posted_at t s.pending) refl ready)
+    ready
   where
-    at : (o : Option Posted) → posted_at t s.pending ≡ o → is_ready_op s.cts o ≡ true → In t (map (λ (p : Posted). p.number) s.pending.waiting)
+    at : (o : Option Posted) → posted_at t s.pending ≡ o → is_ready_op s.cts o ≡ true →
+        In t (map (λ (p : Posted). p.number) s.pending.waiting)
     at None e r = cc
-    at (Some x) e r = let i = find-In (is_number t) s.pending.waiting x e in subst (λ n. In n (map (λ (p : Posted). p.number) s.pending.waiting)) (eqb-true _ _ i.1) (In-map (λ (p : Posted). p.number) x s.pending.waiting i.0)
+    at (Some x) e r = let i = find-In (is_number t) s.pending.waiting x e in
+        subst (λ n. In n (map (λ (p : Posted). p.number) s.pending.waiting)) (eqb-true _ _ i.1)
+        (In-map (λ (p : Posted). p.number) x s.pending.waiting i.0)
 
 none-in : (xs : List ℕ) (t : ℕ) → length xs ≡ 0 → In t xs → ⊥
 none-in [] t e i = i
 none-in (x ∷ xs) t e i = omega (arith, e)
 
 -- where none finds its lane open, each finds it closed
-pub none-open : (closed : List Bool) (s : State) → length (open_numbers closed s) ≡ 0 → (t : ℕ) → is_ready s t ≡ true → goes_out closed (target_at s t) ≡ false
+pub none-open : (closed : List Bool) (s : State) → length (open_numbers closed s) ≡ 0 → (t : ℕ) → is_ready s t ≡ true →
+    goes_out closed (target_at s t) ≡ false
 none-open closed s none t ready = at (goes_out closed (target_at s t)) refl
   where
     at : (b : Bool) → goes_out closed (target_at s t) ≡ b → b ≡ false
-    at true e = absurd (none-in (open_numbers closed s) t none (In-filter (λ u. goes_out closed (target_at s u)) t (ready_numbers s) (ready-in s t ready) e))
+    at true e = absurd (none-in (open_numbers closed s) t none
+        (In-filter (λ u. goes_out closed (target_at s u)) t (ready_numbers s) (ready-in s t ready) e))
     at false e = refl
 
 first-in : (xs : List ℕ) (t : ℕ) → slice_get xs 0 ≡ Some t → In t xs

@@ -66,7 +66,8 @@ state-of : (p : Plan) (k : Slots) (r : ℕ) (go : Beginning) (es : List Local) (
 state-of p k r go [] v h = h
 state-of p k r go (e ∷ es) v h = state-of p k r go es (after go v e) (after_of p k r go v e h)
 
-module _ (p : Plan) (inputs : Inputs) (sound : SoundPlan p (length inputs)) (n : NodeState) (compiled : IsCompiledFor p inputs n.task.rank n.task) (is : IsNode n) where
+module _ (p : Plan) (inputs : Inputs) (sound : SoundPlan p (length inputs)) (n : NodeState)
+    (compiled : IsCompiledFor p inputs n.task.rank n.task) (is : IsNode n) where
   abbrev r : ℕ
   r = n.task.rank
 
@@ -89,7 +90,8 @@ module _ (p : Plan) (inputs : Inputs) (sound : SoundPlan p (length inputs)) (n :
   of = prepared_of p inputs sound k r
 
   pub node-of : IsOf p k r n.nic
-  node-of = subst (IsOf p k r) (sym (run-state p inputs (λ q. k) (λ q. n.diary.locals) r n compiled is agreed refl)) (state-of p k r go n.diary.locals first of)
+  node-of = subst (IsOf p k r) (sym (run-state p inputs (λ q. k) (λ q. n.diary.locals) r n compiled is agreed refl))
+      (state-of p k r go n.diary.locals first of)
 
   pub node-rank : n.nic.rank ≡ r
   node-rank = node-of.rank
@@ -97,26 +99,34 @@ module _ (p : Plan) (inputs : Inputs) (sound : SoundPlan p (length inputs)) (n :
   source-is : (m : Sent) → In m (made go first n.diary.locals) → m.header.source ≡ r
   source-is m i = elim (made_from p k r go n.diary.locals first m of i) [
     | inl f ↦ ap (λ (h : Header). h.source) f.header ∙ (out_links-In p r f.l f.out).1
-    | inr x ↦ answer_source x.answers.ok x.answers.length x.answers.bytes x.to.header m x.answers.is ∙ (legal_got p k r go n.diary.locals false first of legal x.source x.lane x.to x.came).target
+    | inr x ↦ answer_source x.answers.ok x.answers.length x.answers.bytes x.to.header m x.answers.is
+        ∙ (legal_got p k r go n.diary.locals false first of legal x.source x.lane x.to x.came).target
   ]
 
   travels : (d : ℕ) (lane : Lane) → All (Travels (bounds_on p r d lane)) (sent go first n.diary.locals d lane)
   travels d lane = all-in (Travels (bounds_on p r d lane)) (sent go first n.diary.locals d lane)
-      (λ m i. let q = In-filter_cases (is_for d lane) m (made go first n.diary.locals) i in let f = of-for d lane m q.1 in (source-is m q.0, f.0, f.1))
+      (λ m i. let q = In-filter_cases (is_for d lane) m (made go first n.diary.locals) i in let f = of-for d lane m q.1 in
+          (source-is m q.0, f.0, f.1))
 
-  at_most : (d : ℕ) (lane : Lane) → HasHeard p n → is_used_lane p r d lane ≡ true → length (sent go first n.diary.locals d lane) ≤ lane_messages p r d lane
+  at_most : (d : ℕ) (lane : Lane) → HasHeard p n → is_used_lane p r d lane ≡ true →
+      length (sent go first n.diary.locals d lane) ≤ lane_messages p r d lane
   at_most d Request heard used = few_messages p k r go n.diary.locals false first of legal d
   at_most d Answer heard used = at p.remote used
     where
-      at : (b : Bool) → nat_lt 0 (cond b (length (lane_links p d r)) 0) ≡ true → length (sent go first n.diary.locals d Answer) ≤ cond b (length (lane_links p d r)) 0
-      at true e = let a = few_answers p k r go n.diary.locals false first of legal d in let h = (heard d Request).at_most in omega (arith, a, h)
+      at : (b : Bool) → nat_lt 0 (cond b (length (lane_links p d r)) 0) ≡ true → length (sent go first n.diary.locals d Answer) ≤ cond b
+          (length (lane_links p d r)) 0
+      at true e = let a = few_answers p k r go n.diary.locals false first of legal d in let h = (heard d Request).at_most in
+          omega (arith, a, h)
       at false e = cc
 
   short : (d : ℕ) (lane : Lane) → bytes_in (sent go first n.diary.locals d lane) ≤ bytes_on p r d lane
   short d Request = few_bytes p k r go n.diary.locals false first of legal d
   short d Answer = none-in (sent go first n.diary.locals d Answer)
-      (λ m i. let q = In-filter_cases (is_for d Answer) m (made go first n.diary.locals) i in answers-empty p inputs sound k r n.diary.locals m of q.0 (is-answer m (of-for d Answer m q.1).1))
+      (λ m i. let q = In-filter_cases (is_for d Answer) m (made go first n.diary.locals) i in
+          answers-empty p inputs sound k r n.diary.locals m of q.0 (is-answer m (of-for d Answer m q.1).1))
 
   -- what was sent on a lane that is used
-  pub keeps-sent : (d : ℕ) (lane : Lane) (ms : List Sent) → HasHeard p n → is_used_lane p r d lane ≡ true → HasSent p inputs n d lane ms → KeepsBounds (bounds_on p r d lane) ms
-  keeps-sent d lane ms heard used has = subst (KeepsBounds (bounds_on p r d lane)) (sym (has k agreed)) (record { travel = travels d lane; at_most = at_most d lane heard used; short = short d lane })
+  pub keeps-sent : (d : ℕ) (lane : Lane) (ms : List Sent) → HasHeard p n → is_used_lane p r d lane ≡ true → HasSent p inputs n d lane ms →
+      KeepsBounds (bounds_on p r d lane) ms
+  keeps-sent d lane ms heard used has = subst (KeepsBounds (bounds_on p r d lane)) (sym (has k agreed))
+      (record { travel = travels d lane; at_most = at_most d lane heard used; short = short d lane })

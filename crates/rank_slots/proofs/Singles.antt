@@ -48,7 +48,8 @@ longer-fired None x y did none = ([], append-nil (history x) ∙ sym (still x y 
 longer-fired (Some t) x y did none = (Fire t ∷ [], sym did.1)
 
 -- ---- a receipt
-pub came-from : (x z y : TurnRank) (at s : ℕ) (lane : Lane) (p : InPort) → HasFlushed x z → get_elem? z.ins.items at ≡ some p → p.source ≡ s → p.lane ≡ lane
+pub came-from : (x z y : TurnRank) (at s : ℕ) (lane : Lane) (p : InPort) → HasFlushed x z → get_elem? z.ins.items at ≡ some p →
+    p.source ≡ s → p.lane ≡ lane
     → ReceivedAt at z y → (m : Sent) × Grew (Receive s lane m) (mark x) (mark y)
 came-from x z y at s lane p f there source kind h =
     let one = same_at z.ins.items at h.port p h.there there in
@@ -56,7 +57,8 @@ came-from x z y at s lane p f there source kind h =
     let on : h.port.lane ≡ lane = ap (λ (o : InPort). o.lane) one ∙ kind in
     (h.message, h.grew ∙ (λ i. still x z f i ++ Receive (from i) (on i) h.message ∷ []))
 
-pub passed-from : (x z y : TurnRank) (at s : ℕ) (lane : Lane) (p : InPort) → HasFlushed x z → get_elem? z.ins.items at ≡ some p → p.source ≡ s → p.lane ≡ lane
+pub passed-from : (x z y : TurnRank) (at s : ℕ) (lane : Lane) (p : InPort) → HasFlushed x z → get_elem? z.ins.items at ≡ some p →
+    p.source ≡ s → p.lane ≡ lane
     → MissedAt at z y → PassedAt s lane x y
 passed-from x z y at s lane p f there source kind h = record {
   at = at;

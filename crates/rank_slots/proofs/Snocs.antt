@@ -21,7 +21,8 @@ pub front_some : {A : Type 0} (ys m : List A) (k : ℕ) (a : A) → get_elem? ys
 front_some ys m k a e = front_at ys m k (within ys k a e) ∙ e
 
 -- an element of a longer list is one of the list, or the new one
-pub snoc_at : {A : Type 0} (ys : List A) (b : A) (k : ℕ) (a : A) → get_elem? (ys ++ b ∷ []) k ≡ some a → (get_elem? ys k ≡ some a) ⊎ ((k ≡ length ys) × (b ≡ a))
+pub snoc_at : {A : Type 0} (ys : List A) (b : A) (k : ℕ) (a : A) → get_elem? (ys ++ b ∷ []) k ≡ some a →
+    (get_elem? ys k ≡ some a) ⊎ ((k ≡ length ys) × (b ≡ a))
 snoc_at [] b zero a e = inr (refl, some-injective b a e)
 snoc_at [] b (suc k) a e = absurd (some-ne-none a (sym e))
 snoc_at (y ∷ ys) b zero a e = inl e
@@ -31,7 +32,8 @@ pub snoc_injective : {A : Type 0} (xs ys : List A) (x y : A) → xs ++ x ∷ [] 
 snoc_injective [] [] x y e = (refl, some-injective x y (ap (λ l. get_elem? l 0) e))
 snoc_injective [] (b ∷ ys) x y e = let q = length-append ys (y ∷ []) in absurd (omega (arith, q, ap (λ (l : List _). length l) e))
 snoc_injective (a ∷ xs) [] x y e = let q = length-append xs (x ∷ []) in absurd (omega (arith, q, ap (λ (l : List _). length l) e))
-snoc_injective (a ∷ xs) (b ∷ ys) x y e = let r = snoc_injective xs ys x y (ap tail_of e) in (ap₂ (λ u l. u ∷ l) (some-injective a b (ap (λ l. get_elem? l 0) e)) r.0, r.1)
+snoc_injective (a ∷ xs) (b ∷ ys) x y e = let r = snoc_injective xs ys x y (ap tail_of e) in
+    (ap₂ (λ u l. u ∷ l) (some-injective a b (ap (λ l. get_elem? l 0) e)) r.0, r.1)
   where
     tail_of : {A : Type 0} → List A → List A
     tail_of [] = []
@@ -41,7 +43,8 @@ pub map_snoc : {A B : Type 0} (f : A → B) (xs : List A) (x : A) → map f (xs 
 map_snoc f [] x = refl
 map_snoc f (y ∷ ys) x = ap (λ l. f y ∷ l) (map_snoc f ys x)
 
-pub map_if : {A B : Type 0} (f : A → B) (xs : List A) (x : A) (c : Bool) → map f (xs ++ (if c then x ∷ [] else [])) ≡ map f xs ++ (if c then f x ∷ [] else [])
+pub map_if : {A B : Type 0} (f : A → B) (xs : List A) (x : A) (c : Bool) → map f (xs ++ (if c then x ∷ [] else [])) ≡ map f xs ++
+    (if c then f x ∷ [] else [])
 map_if f xs x true = map_snoc f xs x
 map_if f xs x false = ap (map f) (append-nil xs) ∙ sym (append-nil (map f xs))
 

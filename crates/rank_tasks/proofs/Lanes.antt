@@ -1,5 +1,6 @@
 -- The bytes of the messages to a rank, summed up rank by rank that they come from.
-use Rattle.std.proofs.Common.{ℕ, Bool, true, false, cond, ◌+◌, ◌^◌, ◌≡◌, ◌<◌, ◌==◌, ◌&&◌, List, [], ◌∷◌, refl, length, filter, sum_by, ap, ◌∙◌, arith, nat_lt, eqb-true}
+use Rattle.std.proofs.Common.{ℕ, Bool, true, false, cond, ◌+◌, ◌^◌, ◌≡◌, ◌<◌, ◌==◌, ◌&&◌, List, [], ◌∷◌, refl, length, filter, sum_by, ap,
+    ◌∙◌, arith, nat_lt, eqb-true}
 use Rattle.std.proofs.Math.Bool.{and-true, and-false}
 use Rattle.std.proofs.lemmas.Bool.{le-ltb, lt-ltb, ltb-true, ltb-false, eqb-false, ne_eqb}
 use Rattle.std.proofs.lemmas.List.Sums.{count_by-le-length, length-filter, sum_by-cons}
@@ -31,7 +32,8 @@ counted t f x xs = at (t x)
     at true = sum_by-cons f x (filter t xs)
     at false = omega arith
 
-sum-parted : (t u v : ℕ → Bool) (f : ℕ → ℕ) → ((i : ℕ) → cond (t i) (f i) 0 + cond (u i) (f i) 0 ≡ cond (v i) (f i) 0) → (xs : List ℕ) → sum_by f (filter t xs) + sum_by f (filter u xs) ≡ sum_by f (filter v xs)
+sum-parted : (t u v : ℕ → Bool) (f : ℕ → ℕ) → ((i : ℕ) → cond (t i) (f i) 0 + cond (u i) (f i) 0 ≡ cond (v i) (f i) 0) → (xs : List ℕ) →
+    sum_by f (filter t xs) + sum_by f (filter u xs) ≡ sum_by f (filter v xs)
 sum-parted t u v f parted [] = refl
 sum-parted t u v f parted (x ∷ xs) =
     let a = counted t f x xs in
@@ -68,7 +70,8 @@ once s k n = at (nat_lt s k) refl (s == k) refl
         omega (arith, x, y, w)
 
 -- and so does a link that carries a message to r; others count nowhere
-once-to : (m t : Bool) (s k n : ℕ) → cond ((m && t) && nat_lt s k) n 0 + cond (m && ((s == k) && t)) n 0 ≡ cond ((m && t) && nat_lt s (k + 1)) n 0
+once-to : (m t : Bool) (s k n : ℕ) → cond ((m && t) && nat_lt s k) n 0 + cond (m && ((s == k) && t)) n 0 ≡ cond
+    ((m && t) && nat_lt s (k + 1)) n 0
 once-to false t s k n = refl
 once-to true true s k n = ap (λ b. cond (nat_lt s k) n 0 + cond b n 0) (and-true (s == k)) ∙ once s k n
 once-to true false s k n = ap (λ b. 0 + cond b n 0) (and-false (s == k))
@@ -86,7 +89,8 @@ no-bytes p r = none (all_links p)
     none [] = refl
     none (x ∷ xs) =
         let a = counted (from_below p r 0) (link_length p) x xs in
-        let b = ap (λ v. cond v (link_length p x) 0) (ap (λ v. comes_to p r x && v) (le-ltb (from_rank p x) 0 (omega arith)) ∙ and-false (comes_to p r x)) in
+        let b = ap (λ v. cond v (link_length p x) 0) (ap (λ v. comes_to p r x && v) (le-ltb (from_rank p x) 0 (omega arith))
+              ∙ and-false (comes_to p r x)) in
         let rest = none xs in
         omega (arith, a, b, rest)
 
@@ -109,5 +113,7 @@ pub at_most-messages : (p : Plan) (inputs r : ℕ) → SoundPlan p inputs → le
 at_most-messages p inputs r sound = at p.remote
   where
     at : (b : Bool) → length (links_to p r) + cond b (sends_of p r) 0 < 2 ^ 33
-    at true = let f = length-filter (comes_to p r) (all_links p) in let g = count_by-le-length (comes_to p r) (all_links p) in let k = length-from_to 0 (length p.links) in let s = count-out-le p r in let at_most = sound.few_together in omega (arith, f, g, k, s, at_most)
-    at false = let f = length-filter (comes_to p r) (all_links p) in let g = count_by-le-length (comes_to p r) (all_links p) in let k = length-from_to 0 (length p.links) in let at_most = sound.few_together in omega (arith, f, g, k, at_most)
+    at true = let f = length-filter (comes_to p r) (all_links p) in let g = count_by-le-length (comes_to p r) (all_links p) in let k =
+                                                                                                                                     length-from_to 0 (length p.links) in let s = count-out-le p r in let at_most = sound.few_together in omega (arith, f, g, k, s, at_most)
+    at false = let f = length-filter (comes_to p r) (all_links p) in let g = count_by-le-length (comes_to p r) (all_links p) in let k =
+                                                                                                                                      length-from_to 0 (length p.links) in let at_most = sound.few_together in omega (arith, f, g, k, at_most)

@@ -75,7 +75,8 @@ module _ (job : JobOf) (sound : IsSound job) (slots : List TurnRank) (wires : Li
     (node : (r : ℕ) → r < job.shape.ranks → IsNodeOf slots nodes r)
     (named : (r : ℕ) (x : TurnRank) → get_elem? slots r ≡ some x → IsNamed job wires r (plate x))
     (lanes : AreLanes (plan_of job.shape) (bounds_of wires))
-    (lifted : (k : ℕ) (w : WireState) → get_elem? wires k ≡ some w → IsLifted w.bounds slots (lane_at ls (lane_place job.shape.ranks w.bounds.source w.bounds.target w.bounds.lane)))
+    (lifted : (k : ℕ) (w : WireState) → get_elem? wires k ≡ some w →
+        IsLifted w.bounds slots (lane_at ls (lane_place job.shape.ranks w.bounds.source w.bounds.target w.bounds.lane)))
     (unused : (s d : ℕ) (lane : Lane) → s < job.shape.ranks → d < job.shape.ranks → is_used_lane (plan_of job.shape) s d lane ≡ false
     → lane_at ls (lane_place job.shape.ranks s d lane) ≡ frame_lane (plan_of job.shape) s d lane) where
   abbrev p : Plan
@@ -118,7 +119,8 @@ module _ (job : JobOf) (sound : IsSound job) (slots : List TurnRank) (wires : Li
   past-unused s r lane past = at (is_used_lane p s r lane) refl
     where
       at : (b : Bool) → is_used_lane p s r lane ≡ b → b ≡ false
-      at true e = absurd (let h = (used-within p (length job.inputs) sound.plan s r lane e).0 in let m = sound.ranks in omega (arith, h, m, past))
+      at true e = absurd (let h = (used-within p (length job.inputs) sound.plan s r lane e).0 in let m = sound.ranks in
+          omega (arith, h, m, past))
       at false e = refl
 
   sources : (r s : ℕ) (lane : Lane) → r < n → n ≤ s → got (w r) s lane ≡ []
@@ -145,8 +147,10 @@ module _ (job : JobOf) (sound : IsSound job) (slots : List TurnRank) (wires : Li
       ap (λ (b : Bounds). b.messages) (v.2 ∙ (lanes.each h.at h.bounds h.there).bounds)
       ∙ (λ i. lane_messages p (h.source i) (h.target i) (h.lane_is i)) in
       let held = l.held x.slot y.slot (ap (get_elem? slots) es ∙ x.there) (ap (get_elem? slots) ed ∙ y.there) in record {
-        has = subst (λ (z : (JobOf × NodeState) × ((ℕ × Lane) × List Sent)). HasSent (plan_of z.0.0.shape) z.0.0.inputs z.0.1 z.1.0.0 z.1.0.1 z.1.1)
-            (λ i. ((q.job_is i, sym x.node_is i), ((ed i, el i), got (sym y.node_is i).diary.locals (es i) (el i) ++ (here i).messages))) held;
+        has = subst (λ (z : (JobOf × NodeState) × ((ℕ × Lane) × List Sent)). HasSent (plan_of z.0.0.shape) z.0.0.inputs z.0.1 z.1.0.0
+            z.1.0.1 z.1.1)
+            (λ i. ((q.job_is i, sym x.node_is i), ((ed i, el i), got (sym y.node_is i).diary.locals (es i) (el i) ++ (here i).messages)))
+                held;
         at_most = subst (λ (z : Plain). length z.messages ≤ 4) here l.at_most;
         room = ap (λ (z : Plain). z.capacity) (sym here) ∙ (l.room ∙ ap (min 4) all);
       }
@@ -158,7 +162,8 @@ module _ (job : JobOf) (sound : IsSound job) (slots : List TurnRank) (wires : Li
         (used-at s d lane hs hd used).has (k s) (agree s hs)
         ∙ ap (λ q. sent (start_of p (k s) q) (prepare p job.inputs (k s) q) (w s) d lane) (tied-at s hs).rank
 
-    clean : (s d : ℕ) (lane : Lane) → s < n → d < n → is_used_lane p s d lane ≡ true → (m : Sent) → In m (got (w d) s lane) → is_stray m ≡ false
+    clean : (s d : ℕ) (lane : Lane) → s < n → d < n → is_used_lane p s d lane ≡ true → (m : Sent) → In m (got (w d) s lane) →
+        is_stray m ≡ false
     clean s d lane hs hd used m i =
         made-clean p job.inputs sound.plan (k s) s (w s) m
         (In-filter_cases (is_for d lane) m (made (start_of p (k s) s) (prepare p job.inputs (k s) s) (w s))
@@ -180,7 +185,8 @@ module _ (job : JobOf) (sound : IsSound job) (slots : List TurnRank) (wires : Li
 
     cut : IsCut (system_of p job.inputs k) w
     cut = record {
-      legal = λ r h. run-legal p job.inputs (k r) r (node_at nodes r) (compiled r (at_rank r h)) (kept r (at_rank r h)) (agree r (at_rank r h));
+      legal = λ r h. run-legal p job.inputs (k r) r (node_at nodes r) (compiled r (at_rank r h)) (kept r (at_rank r h))
+          (agree r (at_rank r h));
       known = λ r s lane h past. sources r s lane (at_rank r h) (subst (λ q. q ≤ s) sound.ranks past);
       lanes = λ s d lane hs hd. prefix s d lane (at_rank s hs) (at_rank d hd) (is_used_lane p s d lane) refl;
     }
@@ -190,10 +196,12 @@ module _ (job : JobOf) (sound : IsSound job) (slots : List TurnRank) (wires : Li
     all-sent s d lane hs hd true e = used-sent s d lane hs hd e
     all-sent s d lane hs hd false e =
         ap₂ (λ a b. a ++ b) (got-none s d lane hd e) (ap (λ (z : Plain). z.messages) (unused s d lane hs hd e))
-        ∙ sym (unused_sent combined-starts p job.inputs sound.plan sound.inputs k w cut s d lane (subst (λ q. s < q) (sym sound.ranks) hs) (subst (λ q. d < q) (sym sound.ranks) hd) e)
+        ∙ sym (unused_sent combined-starts p job.inputs sound.plan sound.inputs k w cut s d lane (subst (λ q. s < q) (sym sound.ranks) hs)
+            (subst (λ q. d < q) (sym sound.ranks) hd) e)
 
   -- ---- room
-  has-room : (s d : ℕ) (lane : Lane) → s < n → d < n → (b : Bool) → is_used_lane p s d lane ≡ b → min 4 (lane_messages p s d lane) ≤ (lane_at ls (lane_place n s d lane)).capacity
+  has-room : (s d : ℕ) (lane : Lane) → s < n → d < n → (b : Bool) → is_used_lane p s d lane ≡ b →
+      min 4 (lane_messages p s d lane) ≤ (lane_at ls (lane_place n s d lane)).capacity
   has-room s d lane hs hd true e = let r = (used-at s d lane hs hd e).room in omega (arith, r)
   has-room s d lane hs hd false e = let z = unused-none (lane_messages p s d lane) e in omega (arith, z)
 

@@ -34,33 +34,39 @@ named-left job wires start slots n named same r x at =
     let y = exists_at start r (let k = within slots r x at in omega (arith, n, k)) in
     subst (IsNamed job wires r) (sym (same r x y.0 at y.1)) (named r y.0 y.1)
 
-pub laid-left : (job : JobOf) (wires : List WireState) (slots : List TurnRank) → ((r : ℕ) (x : TurnRank) → get_elem? slots r ≡ some x → IsNamed job wires r (plate x)) → AllLaid wires slots
+pub laid-left : (job : JobOf) (wires : List WireState) (slots : List TurnRank) →
+    ((r : ℕ) (x : TurnRank) → get_elem? slots r ≡ some x → IsNamed job wires r (plate x)) → AllLaid wires slots
 laid-left job wires slots named r x at = (named r x at).laid
 
 -- the nodes are those of the slots, before their ends left
-pub node-of-slot : (slots last : List TurnRank) (nodes : List NodeState) → Slotwise SameNode slots last → length last ≡ length slots → nodes ≡ map (λ (x : TurnRank). x.node.value) last
+pub node-of-slot : (slots last : List TurnRank) (nodes : List NodeState) → Slotwise SameNode slots last → length last ≡ length slots →
+    nodes ≡ map (λ (x : TurnRank). x.node.value) last
     → (r : ℕ) → r < length slots → IsNodeOf slots nodes r
 node-of-slot slots last nodes same n is r low =
     let x = exists_at last r (omega (arith, n, low)) in
     let y = same r x.0 x.1 in record {
       slot = y.0;
       there = y.1;
-      node_is = read nodes r x.0.node.value no_node (ap (λ (l : List NodeState). get_elem? l r) is ∙ at_map (λ (x : TurnRank). x.node.value) last r x.0 x.1) ∙ y.2.node;
+      node_is = read nodes r x.0.node.value no_node (ap (λ (l : List NodeState). get_elem? l r) is
+          ∙ at_map (λ (x : TurnRank). x.node.value) last r x.0 x.1) ∙ y.2.node;
     }
 
 pub kept-at : (nodes : List NodeState) → Each IsNode nodes → (r : ℕ) → r < length nodes → IsNode (node_at nodes r)
 kept-at nodes kept r low = let x = exists_at nodes r low in subst IsNode (sym (read nodes r x.0 no_node x.1)) (kept r x.0 x.1)
 
-pub as-many : (last : List TurnRank) (nodes : List NodeState) → nodes ≡ map (λ (x : TurnRank). x.node.value) last → length nodes ≡ length last
+pub as-many : (last : List TurnRank) (nodes : List NodeState) → nodes ≡ map (λ (x : TurnRank). x.node.value) last →
+    length nodes ≡ length last
 as-many last nodes is = ap (λ (l : List NodeState). length l) is ∙ length_map (λ (x : TurnRank). x.node.value) last
 
 -- a frame of this job with these lanes
 pub may-frame : (job : JobOf) (f : FrameState) (nodes : List NodeState) → f.shape ≡ job.shape → f.inputs ≡ job.inputs
     → MayClose (record { shape = job.shape; inputs = job.inputs; lanes = f.lanes }) nodes → MayClose f nodes
-may-frame job f nodes shape inputs may = subst (λ (z : FrameState). MayClose z nodes) (λ i. record { shape = sym shape i; inputs = sym inputs i; lanes = f.lanes }) may
+may-frame job f nodes shape inputs may = subst (λ (z : FrameState). MayClose z nodes)
+    (λ i. record { shape = sym shape i; inputs = sym inputs i; lanes = f.lanes }) may
 
 -- ---- what is left, told by the history alone
-pub left-history : (start : List TurnRank) (hs : List (HandState TurnRank)) (r : ℕ) (x : TurnRank) → Left chronicle plate start hs r x → Left history plate start hs r x
+pub left-history : (start : List TurnRank) (hs : List (HandState TurnRank)) (r : ℕ) (x : TurnRank) → Left chronicle plate start hs r x →
+    Left history plate start hs r x
 left-history start hs r x l = record {
   named = l.named;
   begun = λ k d low s i t a b. begins-history t.given x (l.begun k d low s i t a b);

@@ -21,9 +21,11 @@ use Rattle.rank_threads.specs.Turns.{Turned}
 use Rattle.rank_slots.proofs.Pairs.{at_map_back}
 
 -- the turn in which the note was made
-pub seen-here : (job : JobOf) (v w : HandView TurnRank) (r : ℕ) (a : Mark) (n : ProbeNote) → Turned v w r a a → Says job r a.0 a.1.kept n → SaysSeen job w r a.0 n
+pub seen-here : (job : JobOf) (v w : HandView TurnRank) (r : ℕ) (a : Mark) (n : ProbeNote) → Turned v w r a a →
+    Says job r a.0 a.1.kept n → SaysSeen job w r a.0 n
 seen-here job v w r a n t says =
-    let z = at_map_back (marks history note) t.last.slot.seen 0 (a, a) (ap (λ (l : List (Mark × Mark)). get_elem? l 0) t.last.turn_is) in record {
+    let z = at_map_back (marks history note) t.last.slot.seen 0 (a, a) (ap (λ (l : List (Mark × Mark)). get_elem? l 0) t.last.turn_is) in
+        record {
       slot = t.last.slot;
       slot_is = t.last.slot_is;
       at = 0;
@@ -34,9 +36,11 @@ seen-here job v w r a n t says =
     }
 
 -- a turn at another rank
-pub seen-else : (job : JobOf) (v w : HandView TurnRank) (r q : ℕ) (a b : Mark) (front : List Local) (n : ProbeNote) → Turned v w r a b → q ≢ r → SaysSeen job v q front n → SaysSeen job w q front n
+pub seen-else : (job : JobOf) (v w : HandView TurnRank) (r q : ℕ) (a b : Mark) (front : List Local) (n : ProbeNote) → Turned v w r a b →
+    q ≢ r → SaysSeen job v q front n → SaysSeen job w q front n
 seen-else job v w r q a b front n t apart h =
-    let x = at_map_back without_busy_slot w.slots q (without_busy_slot h.slot) (t.others q apart ∙ at_map without_busy_slot v.slots q h.slot h.slot_is) in record {
+    let x = at_map_back without_busy_slot w.slots q (without_busy_slot h.slot)
+          (t.others q apart ∙ at_map without_busy_slot v.slots q h.slot h.slot_is) in record {
       slot = x.0;
       slot_is = x.1;
       at = h.at;
@@ -54,7 +58,8 @@ pub none-noted : (job : JobOf) (v : HandView TurnRank) (w : List RankNote) → A
 none-noted job v w = ((λ _. []), λ r x low at. absurd (omega (arith, low)))
 
 -- one note more
-pub more-noted : (job : JobOf) (v u : HandView TurnRank) (n : ℕ) (a : Mark) (w z : List RankNote) → Turned v u n a a → HasNote job n a.0 a.1.kept z
+pub more-noted : (job : JobOf) (v u : HandView TurnRank) (n : ℕ) (a : Mark) (w z : List RankNote) → Turned v u n a a →
+    HasNote job n a.0 a.1.kept z
     → ((r : ℕ) → r ≢ n → get_elem? z r ≡ get_elem? w r) → AreNoted job v n w → AreNoted job u (n + 1) z
 more-noted job v u n a w z t note others h = (
   (λ r. cond (eqb r n) a.0 (h.0 r)),

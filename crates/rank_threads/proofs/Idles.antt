@@ -62,18 +62,22 @@ some-link (y ∷ xs) x i = lt-ltb 0 (length (y ∷ xs)) (omega arith)
 some-one : {X : Type 0} {a b : X} → Some a ≡ Some b → a ≡ b
 some-one e = cc
 
-sends-to : (p : Plan) (k : Slots) (l d : ℕ) (o : Option AtomicOp) → message_target (send_deed p k l o) ≡ Some d → (cell p (link p l).target).rank ≡ d
+sends-to : (p : Plan) (k : Slots) (l d : ℕ) (o : Option AtomicOp) → message_target (send_deed p k l o) ≡ Some d →
+    (cell p (link p l).target).rank ≡ d
 sends-to p k l d None e = some-one e
 sends-to p k l d (Some o) e = some-one e
 
-work-lane : (p : Plan) (k : Slots) (r d : ℕ) (w : RankOp) → In w (rank_ops p r) → message_target (deed_of p k w) ≡ Some d → is_used_lane p r d Request ≡ true
+work-lane : (p : Plan) (k : Slots) (r d : ℕ) (w : RankOp) → In w (rank_ops p r) → message_target (deed_of p k w) ≡ Some d →
+    is_used_lane p r d Request ≡ true
 work-lane p k r d (ForDone c) i e = cc
 work-lane p k r d (ForLink l) i e = at (is_bump (link p l).kind) refl e
   where
     out : In l (out_links p r)
     out = rank_ops-along p r l i
 
-    at : (b : Bool) → is_bump (link p l).kind ≡ b → message_target (cond b (IncDeed (cell_ct p k (link p l).target) (successes 1)) (send_deed p k l (cell p (link p l).target).op)) ≡ Some d → is_used_lane p r d Request ≡ true
+    at : (b : Bool) → is_bump (link p l).kind ≡ b → message_target
+        (cond b (IncDeed (cell_ct p k (link p l).target) (successes 1)) (send_deed p k l (cell p (link p l).target).op)) ≡ Some d →
+        is_used_lane p r d Request ≡ true
     at true q e = cc
     at false q e =
         let known = out_links-In p r l out in
@@ -82,10 +86,12 @@ work-lane p k r d (ForLink l) i e = at (is_bump (link p l).kind) refl e
         (In-filter (goes_along p r d) l (all_links p) (In-from_to 0 (length p.links) l zero-le (let h = known.0 in omega arith))
         (and_from _ _ (ap not q) (and_from _ _ (eq-eqb _ _ known.1) (eq-eqb _ _ to))))
 
-pub ready-lane : (p : Plan) (k : Slots) (r : ℕ) (s : State) (t d : ℕ) → IsOf p k r s → is_ready s t ≡ true → target_at s t ≡ Some d → is_used_lane p r d Request ≡ true
+pub ready-lane : (p : Plan) (k : Slots) (r : ℕ) (s : State) (t d : ℕ) → IsOf p k r s → is_ready s t ≡ true → target_at s t ≡ Some d →
+    is_used_lane p r d Request ≡ true
 ready-lane p k r s t d of ready goes = at (posted_at t s.pending) refl ready goes
   where
-    at : (o : Option Posted) → posted_at t s.pending ≡ o → is_ready_op s.cts o ≡ true → target_of o ≡ Some d → is_used_lane p r d Request ≡ true
+    at : (o : Option Posted) → posted_at t s.pending ≡ o → is_ready_op s.cts o ≡ true → target_of o ≡ Some d →
+        is_used_lane p r d Request ≡ true
     at None e f g = cc
     at (Some x) e f g =
         let i = of.pending x (find-In (is_number t) s.pending.waiting x e).0 in
@@ -93,7 +99,8 @@ ready-lane p k r s t d of ready goes = at (posted_at t s.pending) refl ready goe
         work-lane p k r d w.0 w.1 (subst (λ (y : Posted). message_target y.deed ≡ Some d) (sym w.2) g)
 
 -- ---- why a lane was passed over
-passed-over : (s : ℕ) (lane : Lane) (old new : Note) → IsEmpty s lane old new ⊎ (((lane ≡ Answer) × (is_awaited old.nic.mds.live ≡ false)) ⊎ ((lane ≡ Request) × IsFull s Answer old new)) → PassedOver s lane old new
+passed-over : (s : ℕ) (lane : Lane) (old new : Note) → IsEmpty s lane old new ⊎
+    (((lane ≡ Answer) × (is_awaited old.nic.mds.live ≡ false)) ⊎ ((lane ≡ Request) × IsFull s Answer old new)) → PassedOver s lane old new
 passed-over s Request old new (inl e) = inl e
 passed-over s Request old new (inr (inl e)) = absurd (let f = e.0 in cc)
 passed-over s Request old new (inr (inr e)) = inr e.1

@@ -52,7 +52,8 @@ in-lanes ls i roomy = ⊎_elim (λ (h : i < length ls). h)
 
 -- ---- what a wire held
 -- what a slot's ends say, and what the wire held between them
-pub held-between : (b : Bounds) (x y : TurnRank) (out : OutPort) (into : InPort) (held : List Sent) (l : Plain) → OutOk (plan_of x.job.shape) x.job.inputs x.node.value out → InOk (plan_of y.job.shape) y.node.value into
+pub held-between : (b : Bounds) (x y : TurnRank) (out : OutPort) (into : InPort) (held : List Sent) (l : Plain) →
+    OutOk (plan_of x.job.shape) x.job.inputs x.node.value out → InOk (plan_of y.job.shape) y.node.value into
     → out.end.bounds ≡ b → into.end.bounds ≡ b → out.end.sent ≡ into.end.received ++ held → l.messages ≡ held
     → HasSent (plan_of x.job.shape) x.job.inputs x.node.value b.target b.lane (got (history y) b.source b.lane ++ l.messages)
 held-between b x y out into held l o i eo ei e is =
@@ -62,16 +63,20 @@ held-between b x y out into held l o i eo ei e is =
     let by : into.lane ≡ b.lane = sym (ap (λ (z : Bounds). z.lane) i.bounds) ∙ ap (λ (z : Bounds). z.lane) ei in
     let received : into.end.received ≡ got (history y) b.source b.lane = i.got_is ∙ (λ j. got (history y) (from j) (by j)) in
     let all : out.end.sent ≡ got (history y) b.source b.lane ++ l.messages = e ∙ ap₂ (λ u v. u ++ v) received (sym is) in
-    subst (λ (z : (ℕ × Lane) × List Sent). HasSent (plan_of x.job.shape) x.job.inputs x.node.value z.0.0 z.0.1 z.1) (λ j. ((to j, on j), all j)) o.sent_is
+    subst (λ (z : (ℕ × Lane) × List Sent). HasSent (plan_of x.job.shape) x.job.inputs x.node.value z.0.0 z.0.1 z.1)
+        (λ j. ((to j, on j), all j)) o.sent_is
 
 -- ends that left slots tell as much of the slots before
-pub held-before : (b : Bounds) (old new : List TurnRank) (l : Plain) → Slotwise SameNode old new → length new ≡ length old → IsHeldOn b new l → IsHeldOn b old l
+pub held-before : (b : Bounds) (old new : List TurnRank) (l : Plain) → Slotwise SameNode old new → length new ≡ length old →
+    IsHeldOn b new l → IsHeldOn b old l
 held-before b old new l s n h x y ex ey =
     let u = node_before old new s n b.source x ex in let v = node_before old new s n b.target y ey in
-    subst (λ (z : (JobOf × NodeState) × NodeState). HasSent (plan_of z.0.0.shape) z.0.0.inputs z.0.1 b.target b.lane (got z.1.diary.locals b.source b.lane ++ l.messages))
+    subst (λ (z : (JobOf × NodeState) × NodeState). HasSent (plan_of z.0.0.shape) z.0.0.inputs z.0.1 b.target b.lane
+        (got z.1.diary.locals b.source b.lane ++ l.messages))
     (λ j. ((u.2.job_is j, u.2.node j), v.2.node j)) (h u.0 v.0 u.1 v.1)
 
-pub lifted-before : (b : Bounds) (old new : List TurnRank) (l : Plain) → Slotwise SameNode old new → length new ≡ length old → IsLifted b new l → IsLifted b old l
+pub lifted-before : (b : Bounds) (old new : List TurnRank) (l : Plain) → Slotwise SameNode old new → length new ≡ length old →
+    IsLifted b new l → IsLifted b old l
 lifted-before b old new l s n h = record { held = held-before b old new l s n h.held; at_most = h.at_most; room = h.room }
 
 -- ---- one after the other
@@ -88,10 +93,13 @@ NotYet all m s d lane = (k : ℕ) (w : WireState) → m ≤ k → get_elem? all 
 
 -- m wires are left
 pub record AreLifted (n : ℕ) (all : List WireState) (slots : List TurnRank) (first : List Plain) (m : ℕ) (ls : List Plain) : Type 0 where
-  pub left : (s d : ℕ) (lane : Lane) → s < n → d < n → NotYet all m s d lane → lane_at ls (lane_place n s d lane) ≡ lane_at first (lane_place n s d lane)
-  pub done : (k : ℕ) (w : WireState) → m ≤ k → get_elem? all k ≡ some w → IsLifted w.bounds slots (lane_at ls (lane_place n w.bounds.source w.bounds.target w.bounds.lane))
+  pub left : (s d : ℕ) (lane : Lane) → s < n → d < n → NotYet all m s d lane → lane_at ls (lane_place n s d lane) ≡ lane_at first
+      (lane_place n s d lane)
+  pub done : (k : ℕ) (w : WireState) → m ≤ k → get_elem? all k ≡ some w →
+      IsLifted w.bounds slots (lane_at ls (lane_place n w.bounds.source w.bounds.target w.bounds.lane))
 
-module _ (p : Plan) (n : ℕ) (ranks : p.ranks ≡ n) (all : List WireState) (are : AreLanes p (bounds_of all)) (slots : List TurnRank) (first : List Plain) where
+module _ (p : Plan) (n : ℕ) (ranks : p.ranks ≡ n) (all : List WireState) (are : AreLanes p (bounds_of all)) (slots : List TurnRank)
+    (first : List Plain) where
   bounds-at : (k : ℕ) (w : WireState) → get_elem? all k ≡ some w → get_elem? (bounds_of all) k ≡ some w.bounds
   bounds-at k w e = at_map (λ (w : WireState). w.bounds) all k w e
 
@@ -102,7 +110,8 @@ module _ (p : Plan) (n : ℕ) (ranks : p.ranks ≡ n) (all : List WireState) (ar
   between k w e = let h = is-lane k w e in
       (subst (λ m. w.bounds.source < m) ranks h.source, subst (λ m. w.bounds.target < m) ranks h.target)
 
-  one-wire : (i k : ℕ) (v w : WireState) → get_elem? all i ≡ some v → get_elem? all k ≡ some w → OnLane v w.bounds.source w.bounds.target w.bounds.lane → i ≡ k
+  one-wire : (i k : ℕ) (v w : WireState) → get_elem? all i ≡ some v → get_elem? all k ≡ some w →
+      OnLane v w.bounds.source w.bounds.target w.bounds.lane → i ≡ k
   one-wire i k v w ei ek o = are.once i k v.bounds w.bounds (bounds-at i v ei) (bounds-at k w ek) o.source o.destination o.kind
 
   pub none-lifted : AreLifted n all slots first (length all) first
@@ -115,7 +124,8 @@ module _ (p : Plan) (n : ℕ) (ranks : p.ranks ≡ n) (all : List WireState) (ar
 
   module _ (m : ℕ) (ls : List Plain) (h : AreLifted n all slots first (suc m) ls) (w : WireState) (there : get_elem? all m ≡ some w) where
     -- nothing was put into its lane yet
-    pub lane-first : at_place n ls w.bounds.source w.bounds.target w.bounds.lane ≡ at_place n first w.bounds.source w.bounds.target w.bounds.lane
+    pub lane-first : at_place n ls w.bounds.source w.bounds.target w.bounds.lane ≡ at_place n first w.bounds.source w.bounds.target
+        w.bounds.lane
     lane-first = h.left w.bounds.source w.bounds.target w.bounds.lane (between m w there).0 (between m w there).1
         (λ k v low e o. let same = one-wire k m v w e there o in omega (arith, same, low))
 
@@ -123,7 +133,8 @@ module _ (p : Plan) (n : ℕ) (ranks : p.ranks ≡ n) (all : List WireState) (ar
         → AreLifted n all slots first m (set ls (lane_place n w.bounds.source w.bounds.target w.bounds.lane) l)
     lifted-more l is low = record {
       left = λ s d lane hs hd not.
-          (let apart : lane_place n s d lane ≡ here → ⊥ = (λ same. not m w (omega arith) there (lane_apart n w.bounds.source w.bounds.target w.bounds.lane s d lane (between m w there).1 hd (sym same))) in
+          (let apart : lane_place n s d lane ≡ here → ⊥ = (λ same. not m w (omega arith) there
+                 (lane_apart n w.bounds.source w.bounds.target w.bounds.lane s d lane (between m w there).1 hd (sym same))) in
           get_or-set_other ls here (lane_place n s d lane) l (plain [] 0) apart
           ∙ h.left s d lane hs hd (λ k v k-low e o. not k v (omega (arith, k-low)) e o));
       done = λ k v k-low e. ⊎_elim
@@ -133,8 +144,11 @@ module _ (p : Plan) (n : ℕ) (ranks : p.ranks ≡ n) (all : List WireState) (ar
           (subst (IsLifted w.bounds slots) (sym (get_or-set_same ls here l (plain [] 0) low)) is))
           (λ (other : k ≡ m → ⊥).
           let place = lane_place n v.bounds.source v.bounds.target v.bounds.lane in
-          let apart : place ≡ here → ⊥ = (λ same. other (one-wire k m v w e there (lane_apart n v.bounds.source v.bounds.target v.bounds.lane w.bounds.source w.bounds.target w.bounds.lane (between k v e).1 (between m w there).1 same))) in
-          subst (IsLifted v.bounds slots) (sym (get_or-set_other ls here place l (plain [] 0) apart)) (h.done k v (omega (arith, k-low, other)) e))
+          let apart : place ≡ here → ⊥ = (λ same. other (one-wire k m v w e there
+                (lane_apart n v.bounds.source v.bounds.target v.bounds.lane w.bounds.source w.bounds.target w.bounds.lane
+                (between k v e).1 (between m w there).1 same))) in
+          subst (IsLifted v.bounds slots) (sym (get_or-set_other ls here place l (plain [] 0) apart))
+              (h.done k v (omega (arith, k-low, other)) e))
           (cases_eq k m);
     }
       where
@@ -145,6 +159,7 @@ module _ (p : Plan) (n : ℕ) (ranks : p.ranks ≡ n) (all : List WireState) (ar
         same_some l i a b e f = some-injective a b (sym e ∙ f)
 
   -- no wire is left
-  pub unused-left : (ls : List Plain) → AreLifted n all slots first 0 ls → (s d : ℕ) (lane : Lane) → s < n → d < n → is_used_lane p s d lane ≡ false → at_place n ls s d lane ≡ at_place n first s d lane
+  pub unused-left : (ls : List Plain) → AreLifted n all slots first 0 ls → (s d : ℕ) (lane : Lane) → s < n → d < n →
+      is_used_lane p s d lane ≡ false → at_place n ls s d lane ≡ at_place n first s d lane
   unused-left ls h s d lane hs hd none = h.left s d lane hs hd
       (λ k w low e o. two (sym (λ j. is_used_lane p (o.source j) (o.destination j) (o.kind j)) ∙ (is-lane k w e).used) none)

@@ -32,19 +32,23 @@ module _ (job : JobOf) (sound : IsSound job) (wires : List WireState) (lanes : A
 
   pub has-out : (y : RankNote) (i : ℕ) (c : LaneCount) → get_elem? w r ≡ some y → get_elem? y.note.sent i ≡ some c → HasOut x c.rank c.lane
   has-out y i c at there =
-      let u = from-used p r i (counted c 0) (ap (λ (l : List LaneCount). get_elem? l i) (sym (for.sent r y at)) ∙ at_map (λ (z : LaneCount). counted z 0) y.note.sent i c there) in
+      let u = from-used p r i (counted c 0) (ap (λ (l : List LaneCount). get_elem? l i) (sym (for.sent r y at))
+            ∙ at_map (λ (z : LaneCount). counted z 0) y.note.sent i c there) in
       let o = out-at job sound wires lanes r x named c.rank c.lane u.used in (o.at, o.port, o.there, o.target, o.lane_is)
 
   pub has-in : (y : RankNote) (i : ℕ) (c : LaneCount) → get_elem? w r ≡ some y → get_elem? y.note.got i ≡ some c → HasIn x c.rank c.lane
   has-in y i c at there =
-      let u = to-used p r i (counted c 0) (ap (λ (l : List LaneCount). get_elem? l i) (sym (for.got r y at)) ∙ at_map (λ (z : LaneCount). counted z 0) y.note.got i c there) in
+      let u = to-used p r i (counted c 0) (ap (λ (l : List LaneCount). get_elem? l i) (sym (for.got r y at))
+            ∙ at_map (λ (z : LaneCount). counted z 0) y.note.got i c there) in
       in-at job sound wires lanes r x named c.rank c.lane u.used
 
   -- the note of the slot says what its history says
   pub says : (y z : RankNote) → IsNode x.node.value → IsNoted x y z → Says job r (history x) x.node.value.kept z.note
   says y z is noted = record {
     started = noted.started;
-    ready = λ k agree. subst (λ (s : State). AnswersReady s z.note.ready) (of-history job sound wires lanes r x named is (λ _. k) agree) noted.ready;
-    sent = λ i c at. subst (λ (j : JobOf × ℕ). CountsSent j.0 j.1 (history x) x.node.value.kept c) (λ m. (named.job_is m, named.rank m)) (noted.sent i c at);
+    ready = λ k agree. subst (λ (s : State). AnswersReady s z.note.ready) (of-history job sound wires lanes r x named is (λ _. k) agree)
+        noted.ready;
+    sent = λ i c at. subst (λ (j : JobOf × ℕ). CountsSent j.0 j.1 (history x) x.node.value.kept c) (λ m. (named.job_is m, named.rank m))
+        (noted.sent i c at);
     got = noted.got;
   }

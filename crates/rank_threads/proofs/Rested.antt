@@ -56,16 +56,20 @@ record AtRank (job : JobOf) (w : WorldState) (k : Slots) (r : ℕ) (front : List
   got_is : (i : ℕ) (c : LaneCount) → get_elem? x.note.got i ≡ some c → c.number ≡ length (got front c.rank c.lane)
 
 at-rank : (f : FabricState) (hands : List (HandState TurnRank)) (w : WorldState) (k : ℕ → Slots) (r : ℕ) (fronts : Histories) (x : RankNote)
-    → IsLeft f.turns.start hands r w → SeenBy f.job hands r fronts x.note → x.note.started ≡ true → AreSlots w k → AtRank f.job w (k r) r (fronts r) x
+    → IsLeft f.turns.start hands r w → SeenBy f.job hands r fronts x.note → x.note.started ≡ true → AreSlots w k →
+        AtRank f.job w (k r) r (fronts r) x
 at-rank f hands w k r fronts x l s started agree =
     let says = s.says in let n = says.says in
-    let dated = subst (λ (h : HandState TurnRank). IsPrefix (chronicle says.turn.given) (chronicle l.slot)) (read hands s.at s.hand s.hand s.hand_is)
+    let dated = subst (λ (h : HandState TurnRank). IsPrefix (chronicle says.turn.given) (chronicle l.slot))
+          (read hands s.at s.hand s.hand s.hand_is)
     (l.dated s.at s.hand (within hands s.at s.hand s.hand_is) says.slot says.at says.turn
     (ap (λ (h : HandState TurnRank). get_elem? h.knows.slots r) (read hands s.at s.hand s.hand s.hand_is) ∙ says.slot_is) says.turn_is) in
     let first : has_start (fronts r) ≡ true = sym n.started ∙ started in
-    let same = same-handles says.turn.given.node.value.kept l.slot.node.value.kept (history says.turn.given) (history l.slot) (started-prefix (fronts r) (history says.turn.given) says.begins first) dated in
+    let same = same-handles says.turn.given.node.value.kept l.slot.node.value.kept (history says.turn.given) (history l.slot)
+          (started-prefix (fronts r) (history says.turn.given) says.begins first) dated in
     let a = subst (λ hs. Agrees (k r) hs) same (l.slots k agree) in record {
-      begins = subst (IsPrefix (fronts r)) (sym l.history_is) (prefix_trans (fronts r) (history says.turn.given) (history l.slot) says.begins (begins-history says.turn.given l.slot dated));
+      begins = subst (IsPrefix (fronts r)) (sym l.history_is)
+          (prefix_trans (fronts r) (history says.turn.given) (history l.slot) says.begins (begins-history says.turn.given l.slot dated));
       started = first;
       ready = n.ready (k r) a;
       sent = λ i c at. n.sent i c at (k r) a;
@@ -77,7 +81,8 @@ none-ready s None e a = a
 none-ready s (Some t) e a = absurd (let h = e in cc)
 
 module _ (f : FabricState) (sound : IsSound f.job) (hands : List (HandState TurnRank)) (w : WorldState) (is : IsWorldOf f hands w)
-    (v : List RankNote) (for : IsFor (plan_of f.job.shape) v) (answer : Answered v Rest) (fronts : Histories) (seen : AreFrontsOf f.job hands fronts v)
+    (v : List RankNote) (for : IsFor (plan_of f.job.shape) v) (answer : Answered v Rest) (fronts : Histories)
+        (seen : AreFrontsOf f.job hands fronts v)
     (k : ℕ → Slots) (agree : AreSlots w k) where
   abbrev p : Plan
   p = plan_of f.job.shape
@@ -86,22 +91,27 @@ module _ (f : FabricState) (sound : IsSound f.job) (hands : List (HandState Turn
   note-at r low = exists_at v r (let e = for.count in omega (arith, low, e))
 
   told : (r : ℕ) (low : r < p.ranks) (x : RankNote) → get_elem? v r ≡ some x → AtRank f.job w (k r) r (fronts r) x
-  told r low x at = at-rank f hands w k r fronts x (is.ranks r (let e = sound.ranks in omega (arith, low, e))) (seen r x at) (answer.0 (suc r) r x (omega arith) at) agree
+  told r low x at = at-rank f hands w k r fronts x (is.ranks r (let e = sound.ranks in omega (arith, low, e))) (seen r x at)
+      (answer.0 (suc r) r x (omega arith) at) agree
 
   -- as much was received on a used lane as was sent
-  even : (s d : ℕ) (lane : Lane) → s < p.ranks → d < p.ranks → is_used_lane p s d lane ≡ true → length (got (fronts d) s lane) ≡ sent_on f.job s (k s) (fronts s) d lane
+  even : (s d : ℕ) (lane : Lane) → s < p.ranks → d < p.ranks → is_used_lane p s d lane ≡ true →
+      length (got (fronts d) s lane) ≡ sent_on f.job s (k s) (fronts s) d lane
   even s d lane hs hd used =
       let x = note-at s hs in let y = note-at d hd in let a = told s hs x.0 x.1 in let b = told d hd y.0 y.1 in
       let i = used-from p s d lane hd used in
-      let c = at_map_back (λ (z : LaneCount). counted z 0) x.0.note.sent i.0 _ (ap (λ (l : List LaneCount). get_elem? l i.0) (for.sent s x.0 x.1) ∙ i.1) in
+      let c = at_map_back (λ (z : LaneCount). counted z 0) x.0.note.sent i.0 _
+            (ap (λ (l : List LaneCount). get_elem? l i.0) (for.sent s x.0 x.1) ∙ i.1) in
       let rank : c.0.rank ≡ d = ap (λ (z : LaneCount). z.rank) c.2 in
       let kind : c.0.lane ≡ lane = ap (λ (z : LaneCount). z.lane) c.2 in
-      let sent : c.0.number ≡ sent_on f.job s (k s) (fronts s) d lane = a.sent i.0 c.0 c.1 ∙ (λ m. sent_on f.job s (k s) (fronts s) (rank m) (kind m)) in ⊎_elim
+      let sent : c.0.number ≡ sent_on f.job s (k s) (fronts s) d lane = a.sent i.0 c.0 c.1
+            ∙ (λ m. sent_on f.job s (k s) (fronts s) (rank m) (kind m)) in ⊎_elim
       (λ (t : Tells y.0.note.got s c.0.lane c.0.number).
       ap (λ (l : Lane). length (got (fronts d) s l)) (sym kind) ∙ (sym (b.got_is t.at _ t.there) ∙ sent))
       (λ (none : TellsNone y.0.note.got s c.0.lane).
       let j = used-to p d s lane hs used in
-      let e = at_map_back (λ (z : LaneCount). counted z 0) y.0.note.got j.0 _ (ap (λ (l : List LaneCount). get_elem? l j.0) (for.got d y.0 y.1) ∙ j.1) in
+      let e = at_map_back (λ (z : LaneCount). counted z 0) y.0.note.got j.0 _
+            (ap (λ (l : List LaneCount). get_elem? l j.0) (for.got d y.0 y.1) ∙ j.1) in
       absurd (none j.0 e.0 e.1 (ap (λ (z : LaneCount). z.rank) e.2) (ap (λ (z : LaneCount). z.lane) e.2 ∙ sym kind)))
       (answer.2 s i.0 x.0 y.0 c.0 x.1 c.1 (ap (get_elem? v) rank ∙ y.1))
 
@@ -109,7 +119,8 @@ module _ (f : FabricState) (sound : IsSound f.job) (hands : List (HandState Turn
   is-wave = record {
     front = λ r low. (let x = note-at r low in (told r low x.0 x.1).begins);
     started = λ r low. (let x = note-at r low in ltb-true 0 (count_by is_start (fronts r)) (told r low x.0 x.1).started);
-    idle = λ r t low. (let x = note-at r low in none-ready (state_after f.job r (k r) (fronts r)) x.0.note.ready (answer.1 (suc r) r x.0 (omega arith) x.1) (told r low x.0 x.1).ready t);
+    idle = λ r t low. (let x = note-at r low in none-ready (state_after f.job r (k r) (fronts r)) x.0.note.ready
+        (answer.1 (suc r) r x.0 (omega arith) x.1) (told r low x.0 x.1).ready t);
     balanced = even;
   }
 
@@ -123,12 +134,14 @@ no-stray w slots s spare ranks r q lane m low low' i =
 pub rest-same : (s : System) (v w : Histories) → ((r : ℕ) → r < s.count → v r ≡ w r) → IsAtRest s v → IsAtRest s w
 rest-same s v w same rest = record {
   started = λ r h. subst (λ es. 0 < count_by is_start es) (same r h) (rest.started r h);
-  empty = λ q d lane hq hd. ap (λ es. owned (got es q lane)) (sym (same d hd)) ∙ (rest.empty q d lane hq hd ∙ ap (λ es. sent (s.go q) (s.first q) es d lane) (same q hq));
+  empty = λ q d lane hq hd. ap (λ es. owned (got es q lane)) (sym (same d hd))
+      ∙ (rest.empty q d lane hq hd ∙ ap (λ es. sent (s.go q) (s.first q) es d lane) (same q hq));
   idle = λ r t h. subst (λ es. is_ready (state (s.go r) (s.first r) es) t ≡ false) (same r h) (rest.idle r t h);
 }
 
 -- the job of the world is the fabric's
-pub job-of : (f : FabricState) (hands : List (HandState TurnRank)) (w : WorldState) → IsWorldOf f hands w → f.job ≡ record { shape = w.shape; inputs = w.inputs }
+pub job-of : (f : FabricState) (hands : List (HandState TurnRank)) (w : WorldState) → IsWorldOf f hands w →
+    f.job ≡ record { shape = w.shape; inputs = w.inputs }
 job-of f hands w is = λ k. record { shape = sym is.shape k; inputs = sym is.inputs k }
 
 -- slots that agree with a world's handles

@@ -21,10 +21,13 @@ first-or-rest : (b : Bool) (x m : Sent) (xs : List Sent) → In m (if b then x �
 first-or-rest true x m xs i = i
 first-or-rest false x m xs i = inr i
 
-pub none-stray : (es : List Local) (s : ℕ) (lane : Lane) (m : Sent) → count_by is_received_stray es ≡ 0 → In m (got es s lane) → is_stray m ≡ false
+pub none-stray : (es : List Local) (s : ℕ) (lane : Lane) (m : Sent) → count_by is_received_stray es ≡ 0 → In m (got es s lane) →
+    is_stray m ≡ false
 none-stray [] s lane m e i = absurd i
-none-stray (Start ∷ es) s lane m e i = none-stray es s lane m (no-more false (count_by is_received_stray es) (sym (count-cons is_received_stray Start es) ∙ e)) i
-none-stray (Fire t ∷ es) s lane m e i = none-stray es s lane m (no-more false (count_by is_received_stray es) (sym (count-cons is_received_stray (Fire t) es) ∙ e)) i
+none-stray (Start ∷ es) s lane m e i = none-stray es s lane m
+    (no-more false (count_by is_received_stray es) (sym (count-cons is_received_stray Start es) ∙ e)) i
+none-stray (Fire t ∷ es) s lane m e i = none-stray es s lane m
+    (no-more false (count_by is_received_stray es) (sym (count-cons is_received_stray (Fire t) es) ∙ e)) i
 none-stray (Receive source l x ∷ es) s lane m e i =
     let k = sym (count-cons is_received_stray (Receive source l x) es) ∙ e in ⊎_elim
     (λ (is : x ≡ m). ap is_stray (sym is) ∙ no-one (is_stray x) (count_by is_received_stray es) k)

@@ -29,14 +29,17 @@ use Rattle.rank_slots.proofs.Chronicles.{as-long, bare-history, begins-chronicle
 use Rattle.rank_slots.proofs.Pairs.{at_map_back, within}
 
 -- ---- the views without the counts of busy tries
-adjusted-else : (l : List (TurnRankView TurnRank)) (k q : ℕ) (f : TurnRankView TurnRank → TurnRankView TurnRank) → q ≢ k → get_elem? (map without_busy_slot (adjusted l k f)) q ≡ get_elem? (map without_busy_slot l) q
+adjusted-else : (l : List (TurnRankView TurnRank)) (k q : ℕ) (f : TurnRankView TurnRank → TurnRankView TurnRank) → q ≢ k →
+    get_elem? (map without_busy_slot (adjusted l k f)) q ≡ get_elem? (map without_busy_slot l) q
 adjusted-else [] k q f apart = refl
 adjusted-else (x ∷ xs) zero zero f apart = absurd (apart refl)
 adjusted-else (x ∷ xs) zero (suc q) f apart = refl
 adjusted-else (x ∷ xs) (suc k) zero f apart = refl
 adjusted-else (x ∷ xs) (suc k) (suc q) f apart = adjusted-else xs k q f (λ e. apart (ap suc e))
 
-places-here : (l : List (TurnRankView TurnRank)) (k : ℕ) (x y : TurnRank) → k < length l → places_in (adjusted l k (after_turn chronicle x y)) k ≡ places_in l k ++ numbers_from (length (history x)) (length (history y) - length (history x))
+places-here : (l : List (TurnRankView TurnRank)) (k : ℕ) (x y : TurnRank) → k < length l →
+    places_in (adjusted l k (after_turn chronicle x y)) k ≡ places_in l k ++ numbers_from (length (history x))
+    (length (history y) - length (history x))
 places-here [] k x y h = absurd (omega (arith, h))
 places-here (s ∷ l) zero x y h = λ k. s.places ++ numbers_from (as-long x k) (as-long y k - as-long x k)
 places-here (s ∷ l) (suc k) x y h = places-here l k x y (omega (arith, h))
@@ -63,7 +66,8 @@ all-marks : (ts : List (EndedTurn TurnRank)) → map bare-marks (map (marks chro
 all-marks [] = refl
 all-marks (t ∷ ts) = λ k. are-marks t k ∷ all-marks ts k
 
-pub last-history : (w : HandView TurnRank) (r : ℕ) (x y : TurnRank) → LastTurn chronicle note w r (chronicle x, note x) (chronicle y, note y) → LastTurn history note w r (mark x) (mark y)
+pub last-history : (w : HandView TurnRank) (r : ℕ) (x y : TurnRank) → LastTurn chronicle note w r (chronicle x, note x)
+    (chronicle y, note y) → LastTurn history note w r (mark x) (mark y)
 last-history w r x y last = record {
   slot = last.slot;
   slot_is = last.slot_is;
@@ -71,29 +75,47 @@ last-history w r x y last = record {
 }
 
 -- ---- one turn
-pub turned : (v u w : HandView TurnRank) (r : ℕ) (x y : TurnRank) → Took chronicle plate v r x u → w ≡ after_give chronicle u r x y → LastTurn chronicle note w r (chronicle x, note x) (chronicle y, note y) → Turned v w r (mark x) (mark y)
+pub turned : (v u w : HandView TurnRank) (r : ℕ) (x y : TurnRank) → Took chronicle plate v r x u → w ≡ after_give chronicle u r x y →
+    LastTurn chronicle note w r (chronicle x, note x) (chronicle y, note y) → Turned v w r (mark x) (mark y)
 turned v u w r x y took given last =
-    let alike : map without_busy_slot took.tried.slots ≡ map without_busy_slot v.slots = ap (λ (z : HandView TurnRank). z.slots) took.alike in
-    let slots : w.slots ≡ adjusted took.tried.slots r (after_turn chronicle x y) = ap (λ (z : HandView TurnRank). z.slots) given ∙ ap (λ (z : HandView TurnRank). adjusted z.slots r (after_turn chronicle x y)) took.taken in
-    let low : r < length took.tried.slots = (let k = within w.slots r last.slot last.slot_is in let a = ap (λ (l : List (TurnRankView TurnRank)). length l) slots in let b = adjusted_length took.tried.slots r (after_turn chronicle x y) in omega (arith, k, a, b)) in
+    let alike : map without_busy_slot took.tried.slots ≡ map without_busy_slot v.slots =
+          ap (λ (z : HandView TurnRank). z.slots) took.alike in
+    let slots : w.slots ≡ adjusted took.tried.slots r (after_turn chronicle x y) = ap (λ (z : HandView TurnRank). z.slots) given
+          ∙ ap (λ (z : HandView TurnRank). adjusted z.slots r (after_turn chronicle x y)) took.taken in
+    let low : r < length took.tried.slots = (let k = within w.slots r last.slot last.slot_is in let a =
+                                                                                                      ap (λ (l : List (TurnRankView
+                                                                                                      TurnRank)). length l) slots in
+                                                                                                      let b = adjusted_length
+                                                                                                            took.tried.slots r (after_turn
+                                                                                                            chronicle x y) in omega
+                                                                                                            (arith, k, a, b)) in
     record {
-      parts = ap (λ (z : HandView TurnRank). z.parts) given ∙ (ap (λ (z : HandView TurnRank). z.parts) took.taken ∙ ap (λ (z : HandView TurnRank). z.parts) took.alike);
-      begins = λ s i t a b. (let z = at_map_back without_busy_slot took.tried.slots r (without_busy_slot s) (ap (λ (l : List (TurnRankView TurnRank)). get_elem? l r) alike ∙ at_map without_busy_slot v.slots r s a) in
+      parts = ap (λ (z : HandView TurnRank). z.parts) given ∙ (ap (λ (z : HandView TurnRank). z.parts) took.taken
+          ∙ ap (λ (z : HandView TurnRank). z.parts) took.alike);
+      begins = λ s i t a b. (let z = at_map_back without_busy_slot took.tried.slots r (without_busy_slot s)
+                                   (ap (λ (l : List (TurnRankView TurnRank)). get_elem? l r) alike
+                                   ∙ at_map without_busy_slot v.slots r s a) in
           begins-history t.given x (took.found.follows z.0 i t z.1 (ap (λ (s : TurnRankView TurnRank). get_elem? s.seen i) z.2 ∙ b)));
       last = last-history w r x y last;
       mine = ap (λ (l : List (TurnRankView TurnRank)). places_in l r) slots
           ∙ (places-here took.tried.slots r x y low
-          ∙ ap (λ ps. ps ++ numbers_from (length (history x)) (length (history y) - length (history x))) (sym (places-still took.tried.slots r) ∙ (ap (λ (l : List (TurnRankView TurnRank)). places_in l r) alike ∙ places-still v.slots r)));
-      others = λ q apart. ap (λ (l : List (TurnRankView TurnRank)). get_elem? (map without_busy_slot l) q) slots ∙ (adjusted-else took.tried.slots r q (after_turn chronicle x y) apart ∙ ap (λ (l : List (TurnRankView TurnRank)). get_elem? l q) alike);
+          ∙ ap (λ ps. ps ++ numbers_from (length (history x)) (length (history y) - length (history x)))
+              (sym (places-still took.tried.slots r) ∙ (ap (λ (l : List (TurnRankView TurnRank)). places_in l r) alike
+              ∙ places-still v.slots r)));
+      others = λ q apart. ap (λ (l : List (TurnRankView TurnRank)). get_elem? (map without_busy_slot l) q) slots
+          ∙ (adjusted-else took.tried.slots r q (after_turn chronicle x y) apart
+          ∙ ap (λ (l : List (TurnRankView TurnRank)). get_elem? l q) alike);
     }
 
 -- ---- the last turns of a hand
-last-same : (v w : HandView TurnRank) (q : ℕ) (a b : Mark) → get_elem? (map without_busy_slot w.slots) q ≡ get_elem? (map without_busy_slot v.slots) q → LastTurn history note v q a b → LastTurn history note w q a b
+last-same : (v w : HandView TurnRank) (q : ℕ) (a b : Mark) → get_elem? (map without_busy_slot w.slots) q ≡ get_elem?
+    (map without_busy_slot v.slots) q → LastTurn history note v q a b → LastTurn history note w q a b
 last-same v w q a b e h =
     let x = at_map_back without_busy_slot w.slots q (without_busy_slot h.slot) (e ∙ at_map without_busy_slot v.slots q h.slot h.slot_is) in
     record { slot = x.0; slot_is = x.1; turn_is = ap (λ (s : TurnRankView TurnRank). map (marks history note) s.seen) x.2 ∙ h.turn_is }
 
-turned-else : (job : JobOf) (v w : HandView TurnRank) (r q : ℕ) (a b : Mark) → Turned v w r a b → q ≢ r → FoundIdle job v q → FoundIdle job w q
+turned-else : (job : JobOf) (v w : HandView TurnRank) (r q : ℕ) (a b : Mark) → Turned v w r a b → q ≢ r → FoundIdle job v q →
+    FoundIdle job w q
 turned-else job v w r q a b t apart h = (h.0, h.1, last-same v w q h.0 h.1 (t.others q apart) h.2, h.3)
 
 abbrev MadeIt : HandView TurnRank → HandView TurnRank → ℕ → LocalStep → Type 0
@@ -103,25 +125,32 @@ abbrev FoundIt : JobOf → HandView TurnRank → HandView TurnRank → ℕ → T
 FoundIt job v w r = (a : Mark) × (b : Mark) × Turned v w r a b × IsIdle job r a b
 
 -- a step leaves what is known of other ranks
-pub made-else : (job : JobOf) (v w : HandView TurnRank) (r q : ℕ) (e : Option LocalStep) → IfSome e (MadeIt v w r) → IfNone e (FoundIt job v w r) → q ≢ r → FoundIdle job v q → FoundIdle job w q
+pub made-else : (job : JobOf) (v w : HandView TurnRank) (r q : ℕ) (e : Option LocalStep) → IfSome e (MadeIt v w r) →
+    IfNone e (FoundIt job v w r) → q ≢ r → FoundIdle job v q → FoundIdle job w q
 made-else job v w r q None made found apart h = turned-else job v w r q found.0 found.1 found.2 apart h
 made-else job v w r q (Some step) made found apart h = turned-else job v w r q made.0 made.1 made.2 apart h
 
 -- and the hand's parts
-pub same-parts : (job : JobOf) (v w : HandView TurnRank) (r : ℕ) (e : Option LocalStep) → IfSome e (MadeIt v w r) → IfNone e (FoundIt job v w r) → w.parts ≡ v.parts
+pub same-parts : (job : JobOf) (v w : HandView TurnRank) (r : ℕ) (e : Option LocalStep) → IfSome e (MadeIt v w r) →
+    IfNone e (FoundIt job v w r) → w.parts ≡ v.parts
 same-parts job v w r None made found = found.2.parts
 same-parts job v w r (Some step) made found = made.2.parts
 
 -- and where none was made, the rank was found idle
-pub none-idle : (job : JobOf) (v w : HandView TurnRank) (r : ℕ) (e : Option LocalStep) → e ≡ None → IfNone e (FoundIt job v w r) → FoundIdle job w r
-none-idle job v w r e is found = let f : FoundIt job v w r = subst (λ (o : Option LocalStep). IfNone o (FoundIt job v w r)) is found in (f.0, f.1, f.2.last, f.3)
+pub none-idle : (job : JobOf) (v w : HandView TurnRank) (r : ℕ) (e : Option LocalStep) → e ≡ None → IfNone e (FoundIt job v w r) →
+    FoundIdle job w r
+none-idle job v w r e is found = let f : FoundIt job v w r = subst (λ (o : Option LocalStep). IfNone o (FoundIt job v w r)) is found in
+    (f.0, f.1, f.2.last, f.3)
 
 -- ---- a turn in which a step was made, or none
-pub longer-step : (x y : TurnRank) (e : Option LocalStep) → IfSome e (λ step. Made step (mark x) (mark y)) → IfNone e (Idled x y) → IsPrefix (history x) (history y)
-longer-step x y None made idled = ([], append-nil (history x) ∙ sym (ap (λ (m : NodeState). m.diary.locals) idled.missed.node ∙ ap (λ (m : NodeState). m.diary.locals) idled.flushed.node.same))
+pub longer-step : (x y : TurnRank) (e : Option LocalStep) → IfSome e (λ step. Made step (mark x) (mark y)) → IfNone e (Idled x y) →
+    IsPrefix (history x) (history y)
+longer-step x y None made idled = ([], append-nil (history x)
+    ∙ sym (ap (λ (m : NodeState). m.diary.locals) idled.missed.node ∙ ap (λ (m : NodeState). m.diary.locals) idled.flushed.node.same))
 longer-step x y (Some step) made idled = (made.0 ∷ [], sym made.2)
 
-pub may-end : (k r : ℕ) (v w : HandView TurnRank) (x y : TurnRank) → k ≡ r → Took chronicle plate v r x w → plate y ≡ plate x → IsPrefix (history x) (history y) → KeepsHandles x y → MayEnd k y w
+pub may-end : (k r : ℕ) (v w : HandView TurnRank) (x y : TurnRank) → k ≡ r → Took chronicle plate v r x w → plate y ≡ plate x →
+    IsPrefix (history x) (history y) → KeepsHandles x y → MayEnd k y w
 may-end k r v w x y is took named grows keeps = record {
   before = v;
   taken = x;
@@ -176,7 +205,8 @@ pub followed-busy : (v w : HandView TurnRank) (r : ℕ) → w ≡ after_busy v r
 followed-busy v w r is = λ q. ap (λ (z : HandView TurnRank). places z q) is ∙ places-busier v.slots r q
 
 -- ---- turns in which none was made
-pub none-made : (job : JobOf) (v w : HandView TurnRank) (r : ℕ) (e : Option LocalStep) → e ≡ None → IfNone e (FoundIt job v w r) → MadeNone v w
+pub none-made : (job : JobOf) (v w : HandView TurnRank) (r : ℕ) (e : Option LocalStep) → e ≡ None → IfNone e (FoundIt job v w r) →
+    MadeNone v w
 none-made job v w r e is found =
     let f : FoundIt job v w r = subst (λ (o : Option LocalStep). IfNone o (FoundIt job v w r)) is found in stood v w r f.0 f.1 f.2 f.3.same
 

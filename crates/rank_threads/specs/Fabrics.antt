@@ -41,7 +41,8 @@ pub record IsFabric (job : JobOf) (start : List TurnRank) (wires : List WireStat
   pub named : (r : ℕ) (x : TurnRank) → get_elem? start r ≡ some x → IsNamed job wires r (plate x)
 
 -- beside it: how many ranks there are, a frame for the world that it ends as, and room for its nodes
-pub record FabricKeeps (job : JobOf) (start : List TurnRank) (wires : List WireState) (ranks : ℕ) (frame : FrameState) (room : List NodeState)
+pub record FabricKeeps (job : JobOf) (start : List TurnRank) (wires : List WireState) (ranks : ℕ) (frame : FrameState)
+    (room : List NodeState)
     (capacity : ℕ) : Type 0 where
   pub fabric : IsFabric job start wires
   pub ranks_are : ranks ≡ job.shape.ranks

@@ -61,7 +61,8 @@ module _ (p : Plan) where
       let k = subst (λ m. length (lanes_before p s) ≤ length (lanes_before p m)) e h in
       omega (arith, all, q, k)
 
-  pub next-at_most : (inputs : ℕ) → SoundPlan p inputs → (s : ℕ) → s < p.ranks → length (lanes_before p s) + length (lanes_from p s) ≤ 131072
+  pub next-at_most : (inputs : ℕ) → SoundPlan p inputs → (s : ℕ) → s < p.ranks → length (lanes_before p s) + length (lanes_from p s)
+      ≤ 131072
   next-at_most inputs sound s low =
       let a = length-append (lanes_before p s) (lanes_from p s) in let b = at_most-before inputs sound (suc s) (omega (arith, low)) in
       omega (arith, a, b)

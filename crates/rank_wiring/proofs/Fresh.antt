@@ -48,29 +48,34 @@ module _ (job : JobOf) (r : ℕ) (x : TurnRank) (fresh : IsFresh job r x) where
   abbrev n : NodeState
   n = x.node.value
 
-  pub fresh_out : (b : Bounds) (o : OutPort) → IsLane p b → b.source ≡ r → p.ranks ≡ job.shape.ranks → o.target ≡ b.target → o.lane ≡ b.lane → o.end.bounds ≡ b → o.end.sent ≡ [] → o.end.waits ≡ false
+  pub fresh_out : (b : Bounds) (o : OutPort) → IsLane p b → b.source ≡ r → p.ranks ≡ job.shape.ranks → o.target ≡ b.target →
+      o.lane ≡ b.lane → o.end.bounds ≡ b → o.end.sent ≡ [] → o.end.waits ≡ false
       → Each (λ (q : OutPort). q.target ≡ b.target → q.lane ≡ b.lane → ⊥) x.outs.items → MayGainOut x o
   fresh_out b o lane source ranks goes kind bounds none free apart =
       let rank : n.task.rank ≡ r = fresh.compiled.rank in
       let from : b.source ≡ n.task.rank = source ∙ sym rank in
       let used : is_used_lane p n.task.rank o.target o.lane ≡ true = (λ i. is_used_lane p (sym from i) (goes i) (kind i)) ∙ lane.used in
-      let is : o.end.bounds ≡ bounds_on p n.task.rank o.target o.lane = bounds ∙ (lane.bounds ∙ (λ i. bounds_on p (from i) (sym goes i) (sym kind i))) in record {
+      let is : o.end.bounds ≡ bounds_on p n.task.rank o.target o.lane = bounds
+            ∙ (lane.bounds ∙ (λ i. bounds_on p (from i) (sym goes i) (sym kind i))) in record {
         ok = record {
           used = subst (λ (j : JobOf). is_used_lane (plan_of j.shape) n.task.rank o.target o.lane ≡ true) (sym fresh.job_is) used;
           inside = subst (λ m. o.target < m) (sym fresh.compiled.ranks) (subst (λ d. d < p.ranks) (sym goes) lane.target);
           bounds = subst (λ (j : JobOf). o.end.bounds ≡ bounds_on (plan_of j.shape) n.task.rank o.target o.lane) (sym fresh.job_is) is;
-          sent_is = λ k agrees. none ∙ sym (ap (λ (h : List Local). sent (start_of (plan_of x.job.shape) k n.task.rank) (prepare (plan_of x.job.shape) x.job.inputs k n.task.rank) h o.target o.lane) fresh.history_is);
+          sent_is = λ k agrees. none ∙ sym (ap (λ (h : List Local). sent (start_of (plan_of x.job.shape) k n.task.rank)
+              (prepare (plan_of x.job.shape) x.job.inputs k n.task.rank) h o.target o.lane) fresh.history_is);
         };
         apart = λ i q at e f. apart i q at (e ∙ goes) (f ∙ kind);
         gated = λ e. ap (λ l. get_or l o.target false) fresh.closed ∙ (get_or_replicate job.shape.ranks false o.target ∙ sym free);
       }
 
-  pub fresh_in : (b : Bounds) (o : InPort) → IsLane p b → b.target ≡ r → o.source ≡ b.source → o.lane ≡ b.lane → o.end.bounds ≡ b → o.end.received ≡ []
+  pub fresh_in : (b : Bounds) (o : InPort) → IsLane p b → b.target ≡ r → o.source ≡ b.source → o.lane ≡ b.lane → o.end.bounds ≡ b →
+      o.end.received ≡ []
       → Each (λ (q : InPort). q.source ≡ b.source → q.lane ≡ b.lane → ⊥) x.ins.items → MayGainIn x o
   fresh_in b o lane goal from kind bounds none apart =
       let rank : n.task.rank ≡ r = fresh.compiled.rank in
       let to : b.target ≡ n.task.rank = goal ∙ sym rank in
-      let is : o.end.bounds ≡ bounds_on p o.source n.task.rank o.lane = bounds ∙ (lane.bounds ∙ (λ i. bounds_on p (sym from i) (to i) (sym kind i))) in record {
+      let is : o.end.bounds ≡ bounds_on p o.source n.task.rank o.lane = bounds
+            ∙ (lane.bounds ∙ (λ i. bounds_on p (sym from i) (to i) (sym kind i))) in record {
         ok = record {
           bounds = subst (λ (j : JobOf). o.end.bounds ≡ bounds_on (plan_of j.shape) o.source n.task.rank o.lane) (sym fresh.job_is) is;
           got_is = none ∙ sym (ap (λ (h : List Local). got h o.source o.lane) fresh.history_is);
@@ -79,11 +84,13 @@ module _ (job : JobOf) (r : ℕ) (x : TurnRank) (fresh : IsFresh job r x) where
       }
 
 -- a slot with no ends, of a rank that made no step
-pub bare-tied : (p : Plan) (inputs : Inputs) (r : ℕ) (m : NodeState) → IsCompiledFor p inputs r m.task → m.diary.locals ≡ [] → m.strays ≡ 0 → Tied p inputs m [] []
+pub bare-tied : (p : Plan) (inputs : Inputs) (r : ℕ) (m : NodeState) → IsCompiledFor p inputs r m.task → m.diary.locals ≡ [] →
+    m.strays ≡ 0 → Tied p inputs m [] []
 bare-tied p inputs r m compiled none strays = record {
   compiled = subst (λ q. IsCompiledFor p inputs q m.task) (sym compiled.rank) compiled;
   strays = strays;
-  heard = λ s lane. subst (λ (h : List Local). KeepsBounds (bounds_on p s m.task.rank lane) (got h s lane)) (sym none) (none-kept (bounds_on p s m.task.rank lane));
+  heard = λ s lane. subst (λ (h : List Local). KeepsBounds (bounds_on p s m.task.rank lane) (got h s lane)) (sym none)
+      (none-kept (bounds_on p s m.task.rank lane));
   out = each_nil (OutOk p inputs m);
   into = each_nil (InOk p m);
   outs_differ = λ i j o q e. absurd (some-ne-none o (sym e));

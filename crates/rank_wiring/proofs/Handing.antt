@@ -24,7 +24,8 @@ use Rattle.rank_slots.specs.declared.ports.OutPort.{OutPort}
 use Rattle.rank_slots.specs.declared.slot.TurnRank.{TurnRank}
 use Rattle.rank_slots.specs.Joints.{Fits, Joint, in_joint, out_joint}
 use Rattle.rank_slots.specs.Lanes.{AreLanes, IsLane, lanes_before, lanes_from}
-use Rattle.rank_wiring.specs.Opening.{AllFanned, AllFresh, AllIn, AreBerths, AreFirst, AreLines, HasNoIn, HasNoOut, IsFanned, IsFresh, IsHanded}
+use Rattle.rank_wiring.specs.Opening.{AllFanned, AllFresh, AllIn, AreBerths, AreFirst, AreLines, HasNoIn, HasNoOut, IsFanned, IsFresh,
+    IsHanded}
 use Rattle.rank_wiring.specs.Opening.{HasWireRoom, IsLine, SameOuts, wires_in}
 use Rattle.rank_slots.specs.Moves.{GainsIn, MayGainIn, SameNode, Slotwise}
 use Rattle.rank_slots.specs.Sound.{IsSound}
@@ -73,7 +74,8 @@ module _ (p : Plan) (all : List Bounds) (are : AreLanes p all) (wires : List Wir
       (ap (λ (c : Bounds). c.target) (sym is) ∙ ed) (ap (λ (c : Bounds). c.lane) (sym is) ∙ el) in
       omega (arith, low, same)
 
-  pub no-in : (job : JobOf) (slots : List TurnRank) → AllFresh job slots → AllIn wires slots → (x : TurnRank) → get_elem? slots b.target ≡ some x
+  pub no-in : (job : JobOf) (slots : List TurnRank) → AllFresh job slots → AllIn wires slots → (x : TurnRank) →
+      get_elem? slots b.target ≡ some x
       → HasNoIn b x.ins.items
   no-in job slots fresh ins x there i q e from lane =
       let ok = x.tied.into i q e in
@@ -118,19 +120,23 @@ pub berths-head : (job : JobOf) (k : ℕ) (x : Option BuiltRank) (rest : List (O
     → IfSome x (λ (b : BuiltRank). IsFanned job k b.slot b.load)
 berths-head job k x rest all = subst (λ n. IfSome x (λ (b : BuiltRank). IsFanned job n b.slot b.load)) (add-zero k) (all 0 x (omega arith))
 
-pub berths-tail : (job : JobOf) (k : ℕ) (x : Option BuiltRank) (rest : List (Option BuiltRank)) → AreBerths job k (x ∷ rest) → AreBerths job (suc k) rest
-berths-tail job k x rest all i d low = subst (λ n. IfSome (slice_index_or rest i d) (λ (b : BuiltRank). IsFanned job n b.slot b.load)) (omega arith)
+pub berths-tail : (job : JobOf) (k : ℕ) (x : Option BuiltRank) (rest : List (Option BuiltRank)) → AreBerths job k (x ∷ rest) →
+    AreBerths job (suc k) rest
+berths-tail job k x rest all i d low = subst (λ n. IfSome (slice_index_or rest i d) (λ (b : BuiltRank). IsFanned job n b.slot b.load))
+    (omega arith)
     (all (suc i) d (omega (arith, low)))
 
 -- ---- in ends come
-pub in-more : (wires : List WireState) (w : WireState) (into : InPort) (old new : List TurnRank) → into.wire ≡ length wires → IsInOf w into.end
+pub in-more : (wires : List WireState) (w : WireState) (into : InPort) (old new : List TurnRank) → into.wire ≡ length wires →
+    IsInOf w into.end
     → Slotwise (GainsIn w.bounds.target into) old new → AllIn wires old → AllIn (wires ++ w ∷ []) new
 in-more wires w into old new n is s h r x e =
     let y = s r x e in let c = w.bounds.target == r in
     subst (IsRow (wires ++ w ∷ []) (to_rank r)) (sym (ap (map in_joint) y.2.ins_are ∙ map_if in_joint y.0.ins.items into c))
     (row_grows wires w (to_rank r) (map in_joint y.0.ins.items) (in_joint into) c refl (h r y.0 y.1) n is.0 is.1)
 
-module _ (job : JobOf) (sound : IsSound job) (wires : List WireState) (slots : List TurnRank) (handed : IsHanded job wires slots) (l : WireEnd)
+module _ (job : JobOf) (sound : IsSound job) (wires : List WireState) (slots : List TurnRank) (handed : IsHanded job wires slots)
+    (l : WireEnd)
     (line : IsLine (length wires) l) where
   abbrev plan : Plan
   plan = plan_of job.shape
@@ -214,7 +220,8 @@ module _ (p : Plan) (m : ℕ) (before ws : List WireState) (first : bounds_of be
 
 -- ---- rank after rank
 -- before the first wire comes
-pub start-handed : (job : JobOf) (slots : List TurnRank) (loads : List OutWires) → length slots ≡ job.shape.ranks → length loads ≡ job.shape.ranks
+pub start-handed : (job : JobOf) (slots : List TurnRank) (loads : List OutWires) → length slots ≡ job.shape.ranks →
+    length loads ≡ job.shape.ranks
     → AllFanned job slots loads → IsHanded job [] slots
 start-handed job slots loads n m fanned = record {
   count = n;
@@ -228,7 +235,8 @@ start-handed job slots loads n m fanned = record {
     of r x at = let load = exists_at loads r (let k = within slots r x at in omega (arith, k, n, m)) in fanned r x load.0 at load.1
 
 abbrev pub LaidBelow : ℕ → List WireState → List TurnRank → Type 0
-LaidBelow m wires slots = (r : ℕ) (x : TurnRank) → get_elem? slots r ≡ some x → r < m → IsRow wires (from_rank r) (map out_joint x.outs.items)
+LaidBelow m wires slots = (r : ℕ) (x : TurnRank) → get_elem? slots r ≡ some x → r < m →
+    IsRow wires (from_rank r) (map out_joint x.outs.items)
 
 module _ (job : JobOf) (sound : IsSound job) (first : List TurnRank) (loads : List OutWires) (fanned : AllFanned job first loads)
     (many : length first ≡ job.shape.ranks) (m : ℕ) (load : OutWires)

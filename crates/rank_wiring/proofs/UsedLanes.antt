@@ -38,7 +38,8 @@ along-within p n sound s d l i =
     let c = sound.ranks_known (link p l).target a.cells in
     (subst (λ r. r < p.ranks) (eqb-true _ _ h.0) b, subst (λ r. r < p.ranks) (eqb-true _ _ h.1) c)
 
-pub used-within : (p : Plan) (n : ℕ) → SoundPlan p n → (s d : ℕ) (lane : Lane) → is_used_lane p s d lane ≡ true → (s < p.ranks) × (d < p.ranks)
+pub used-within : (p : Plan) (n : ℕ) → SoundPlan p n → (s d : ℕ) (lane : Lane) → is_used_lane p s d lane ≡ true → (s < p.ranks) ×
+    (d < p.ranks)
 used-within p n sound s d Request e = let x = some_of (lane_links p s d) e in along-within p n sound s d x.0 x.1
 used-within p n sound s d Answer e = at p.remote e
   where
@@ -61,8 +62,10 @@ pub record AreBelow (p : Plan) (n : ℕ) (lanes : List Bounds) : Type 0 where
   pub each : Each (IsLane p) lanes
   pub at_most : length lanes ≤ n
   pub below : Each (λ (b : Bounds). lane_place p.ranks b.source b.target b.lane < n) lanes
-  pub once : (i k : ℕ) (b c : Bounds) → get_elem? lanes i ≡ some b → get_elem? lanes k ≡ some c → b.source ≡ c.source → b.target ≡ c.target → b.lane ≡ c.lane → i ≡ k
-  pub all : (s d : ℕ) (lane : Lane) → s < p.ranks → d < p.ranks → lane_place p.ranks s d lane < n → is_used_lane p s d lane ≡ true → HasLane lanes s d lane
+  pub once : (i k : ℕ) (b c : Bounds) → get_elem? lanes i ≡ some b → get_elem? lanes k ≡ some c → b.source ≡ c.source →
+      b.target ≡ c.target → b.lane ≡ c.lane → i ≡ k
+  pub all : (s d : ℕ) (lane : Lane) → s < p.ranks → d < p.ranks → lane_place p.ranks s d lane < n → is_used_lane p s d lane ≡ true →
+      HasLane lanes s d lane
 
 pub none-below : (p : Plan) → AreBelow p 0 []
 none-below p = record {
@@ -76,7 +79,8 @@ none-below p = record {
 two : {b : Bool} → b ≡ true → b ≡ false → ⊥
 two e f = cc
 
-module _ (p : Plan) (n : ℕ) (lanes : List Bounds) (h : AreBelow p n lanes) (s d : ℕ) (lane : Lane) (hs : s < p.ranks) (hd : d < p.ranks) (place : lane_place p.ranks s d lane ≡ n) where
+module _ (p : Plan) (n : ℕ) (lanes : List Bounds) (h : AreBelow p n lanes) (s d : ℕ) (lane : Lane) (hs : s < p.ranks) (hd : d < p.ranks)
+    (place : lane_place p.ranks s d lane ≡ n) where
   abbrev b : Bounds
   b = bounds_on p s d lane
 
@@ -84,24 +88,29 @@ module _ (p : Plan) (n : ℕ) (lanes : List Bounds) (h : AreBelow p n lanes) (s 
   apart : (i : ℕ) (c : Bounds) → get_elem? lanes i ≡ some c → c.source ≡ s → c.target ≡ d → c.lane ≡ lane → ⊥
   apart i c at es ed el =
       let low = h.below i c at in
-      let same : lane_place p.ranks c.source c.target c.lane ≡ lane_place p.ranks s d lane = (λ j. lane_place p.ranks (es j) (ed j) (el j)) in
+      let same : lane_place p.ranks c.source c.target c.lane ≡ lane_place p.ranks s d lane =
+            (λ j. lane_place p.ranks (es j) (ed j) (el j)) in
       omega (arith, low, same, place)
 
   has-more : (m : List Bounds) (t e : ℕ) (way : Lane) → HasLane lanes t e way → HasLane (lanes ++ m) t e way
-  has-more m t e way x = record { at = x.at; bounds = x.bounds; there = front_some lanes m x.at x.bounds x.there; source = x.source; target = x.target; lane_is = x.lane_is }
+  has-more m t e way x = record { at = x.at; bounds = x.bounds; there = front_some lanes m x.at x.bounds x.there; source =
+      x.source; target = x.target; lane_is = x.lane_is }
 
   more-used : is_used_lane p s d lane ≡ true → AreBelow p (n + 1) (lanes ++ b ∷ [])
   more-used used = record {
     each = each_snoc (IsLane p) lanes b h.each (record { source = hs; target = hd; used = used; bounds = refl });
     at_most = (let k = length-append lanes (b ∷ []) in let m = h.at_most in omega (arith, k, m));
-    below = each_snoc (λ (c : Bounds). lane_place p.ranks c.source c.target c.lane < n + 1) lanes b (λ i c at. let k = h.below i c at in omega (arith, k)) (omega (arith, place));
+    below = each_snoc (λ (c : Bounds). lane_place p.ranks c.source c.target c.lane < n + 1) lanes b (λ i c at. let k = h.below i c at in
+        omega (arith, k)) (omega (arith, place));
     once = λ i k x y ax ay es ed el. ⊎_elim
         (λ (ox : get_elem? lanes i ≡ some x). ⊎_elim
         (λ (oy : get_elem? lanes k ≡ some y). h.once i k x y ox oy es ed el)
-        (λ (ny : (k ≡ length lanes) × (b ≡ y)). absurd (apart i x ox (es ∙ sym (ap (λ (c : Bounds). c.source) ny.1)) (ed ∙ sym (ap (λ (c : Bounds). c.target) ny.1)) (el ∙ sym (ap (λ (c : Bounds). c.lane) ny.1))))
+        (λ (ny : (k ≡ length lanes) × (b ≡ y)). absurd (apart i x ox (es ∙ sym (ap (λ (c : Bounds). c.source) ny.1))
+            (ed ∙ sym (ap (λ (c : Bounds). c.target) ny.1)) (el ∙ sym (ap (λ (c : Bounds). c.lane) ny.1))))
         (snoc_at lanes b k y ay))
         (λ (nx : (i ≡ length lanes) × (b ≡ x)). ⊎_elim
-        (λ (oy : get_elem? lanes k ≡ some y). absurd (apart k y oy (sym (ap (λ (c : Bounds). c.source) nx.1 ∙ es)) (sym (ap (λ (c : Bounds). c.target) nx.1 ∙ ed)) (sym (ap (λ (c : Bounds). c.lane) nx.1 ∙ el))))
+        (λ (oy : get_elem? lanes k ≡ some y). absurd (apart k y oy (sym (ap (λ (c : Bounds). c.source) nx.1 ∙ es))
+            (sym (ap (λ (c : Bounds). c.target) nx.1 ∙ ed)) (sym (ap (λ (c : Bounds). c.lane) nx.1 ∙ el))))
         (λ (ny : (k ≡ length lanes) × (b ≡ y)). nx.0 ∙ sym ny.0)
         (snoc_at lanes b k y ay))
         (snoc_at lanes b i x ax);
@@ -117,8 +126,10 @@ module _ (p : Plan) (n : ℕ) (lanes : List Bounds) (h : AreBelow p n lanes) (s 
   more-unused unused = record {
     each = subst (Each (IsLane p)) (sym (append-nil lanes)) h.each;
     at_most = (let k = ap (λ (l : List Bounds). length l) (append-nil lanes) in let m = h.at_most in omega (arith, k, m));
-    below = subst (Each (λ (c : Bounds). lane_place p.ranks c.source c.target c.lane < n + 1)) (sym (append-nil lanes)) (λ i c at. let k = h.below i c at in omega (arith, k));
-    once = λ i k x y ax ay. h.once i k x y (ap (λ (l : List Bounds). get_elem? l i) (sym (append-nil lanes)) ∙ ax) (ap (λ (l : List Bounds). get_elem? l k) (sym (append-nil lanes)) ∙ ay);
+    below = subst (Each (λ (c : Bounds). lane_place p.ranks c.source c.target c.lane < n + 1)) (sym (append-nil lanes))
+        (λ i c at. let k = h.below i c at in omega (arith, k));
+    once = λ i k x y ax ay. h.once i k x y (ap (λ (l : List Bounds). get_elem? l i) (sym (append-nil lanes)) ∙ ax)
+        (ap (λ (l : List Bounds). get_elem? l k) (sym (append-nil lanes)) ∙ ay);
     all = λ t e way ht he low u. ⊎_elim
         (λ (is : lane_place p.ranks t e way ≡ n).
         let o = lane_apart p.ranks t e way s d lane he hd (is ∙ sym place) in
@@ -135,7 +146,8 @@ module _ (p : Plan) (n : ℕ) (lanes : List Bounds) (h : AreBelow p n lanes) (s 
       at false e = more-unused e
 
 -- both lanes of a pair
-pub pair-below : (p : Plan) (n : ℕ) (lanes : List Bounds) → AreBelow p (2 * n) lanes → (s d : ℕ) → s < p.ranks → d < p.ranks → s * p.ranks + d ≡ n
+pub pair-below : (p : Plan) (n : ℕ) (lanes : List Bounds) → AreBelow p (2 * n) lanes → (s d : ℕ) → s < p.ranks → d < p.ranks →
+    s * p.ranks + d ≡ n
     → AreBelow p (2 * (n + 1)) ((lanes ++ bounds_if_used p s d Request) ++ bounds_if_used p s d Answer)
 pair-below p n lanes h s d hs hd is =
     let first = more-below p (2 * n) lanes h s d Request hs hd (omega (arith, is)) in
@@ -143,10 +155,12 @@ pair-below p n lanes h s d hs hd is =
     subst (λ m. AreBelow p m ((lanes ++ bounds_if_used p s d Request) ++ bounds_if_used p s d Answer)) (omega arith) second
 
 -- all of them
-pub all-lanes : (p : Plan) (inputs n : ℕ) (lanes : List Bounds) → SoundPlan p inputs → n ≡ p.ranks * p.ranks → AreBelow p (2 * n) lanes → AreLanes p lanes
+pub all-lanes : (p : Plan) (inputs n : ℕ) (lanes : List Bounds) → SoundPlan p inputs → n ≡ p.ranks * p.ranks → AreBelow p (2 * n) lanes →
+    AreLanes p lanes
 all-lanes p inputs n lanes sound is h = record {
   each = h.each;
   once = h.once;
   all = λ s d lane used. let w = used-within p inputs sound s d lane used in
-      h.all s d lane w.0 w.1 (let low = lane_in p.ranks s d lane w.0 w.1 in subst (λ m. lane_place p.ranks s d lane < 2 * m) (sym is) low) used;
+      h.all s d lane w.0 w.1 (let low = lane_in p.ranks s d lane w.0 w.1 in subst (λ m. lane_place p.ranks s d lane < 2 * m) (sym is) low)
+          used;
 }

@@ -11,7 +11,8 @@ ready-answered w (NotStarted r) started h = absurd h
 ready-answered w (Ready r t) started h = (started, h)
 ready-answered w (Between s d lane sent got) started h = absurd h
 
-pub uneven-answered : (w : List RankNote) (a : WaveAnswer) (s at : ℕ) → ((n : ℕ) → AllStarted w n) → ((n : ℕ) → NoneReady w n) → IsUneven w s at a → EvenBelow w s at → Answered w a
+pub uneven-answered : (w : List RankNote) (a : WaveAnswer) (s at : ℕ) → ((n : ℕ) → AllStarted w n) → ((n : ℕ) → NoneReady w n) →
+    IsUneven w s at a → EvenBelow w s at → Answered w a
 uneven-answered w Rest s at started idle h even = absurd h
 uneven-answered w (NotStarted r) s at started idle h even = absurd h
 uneven-answered w (Ready r t) s at started idle h even = absurd h
@@ -20,4 +21,5 @@ uneven-answered w (Between q d lane sent got) s at started idle h even =
 
 -- all lanes of the ranks below, and those of rank s before this place
 pub even-below : (w : List RankNote) (s at : ℕ) → ((r i : ℕ) → r < s → IsEven w r i) → ((i : ℕ) → i < at → IsEven w s i) → EvenBelow w s at
-even-below w s at ranks lanes r i h = ⊎_elim (λ (low : r < s). ranks r i low) (λ (is : (r ≡ s) × (i < at)). subst (λ q. IsEven w q i) (sym is.0) (lanes i is.1)) h
+even-below w s at ranks lanes r i h = ⊎_elim (λ (low : r < s). ranks r i low)
+    (λ (is : (r ≡ s) × (i < at)). subst (λ q. IsEven w q i) (sym is.0) (lanes i is.1)) h

@@ -13,18 +13,22 @@ use Rattle.coll_shape.specs.declared.types.Buffer.{Buffer}
 use Rattle.coll_shape.specs.Outline.{Outline, buffer_at, no_buffer}
 
 -- a value more, of a sum modulo 2 ^ 64
-pub added : (total x more all step : ℕ) → step ≡ (total + x) % 2 ^ 64 → (total + (x + more)) % 2 ^ 64 ≡ all % 2 ^ 64 → (step + more) % 2 ^ 64 ≡ all % 2 ^ 64
+pub added : (total x more all step : ℕ) → step ≡ (total + x) % 2 ^ 64 → (total + (x + more)) % 2 ^ 64 ≡ all % 2 ^ 64 →
+    (step + more) % 2 ^ 64 ≡ all % 2 ^ 64
 added total x more all step is before = omega (arith, is, before)
 
-pub added-part : (total x part more all step : ℕ) → part ≡ x % 2 ^ 64 → step ≡ (total + part) % 2 ^ 64 → (total + (x + more)) % 2 ^ 64 ≡ all % 2 ^ 64
+pub added-part : (total x part more all step : ℕ) → part ≡ x % 2 ^ 64 → step ≡ (total + part) % 2 ^ 64 →
+    (total + (x + more)) % 2 ^ 64 ≡ all % 2 ^ 64
     → (step + more) % 2 ^ 64 ≡ all % 2 ^ 64
 added-part total x part more all step partly is before = omega (arith, partly, is, before)
 
-pub sum-next : (ty : ElemType) (rest element behind : List ℕ) (size n : ℕ) → size ≡ bytes_of ty → size ≤ length rest → element ≡ take size rest → behind ≡ drop size rest → n ≡ pattern (take (bytes_of ty) element)
+pub sum-next : (ty : ElemType) (rest element behind : List ℕ) (size n : ℕ) → size ≡ bytes_of ty → size ≤ length rest →
+    element ≡ take size rest → behind ≡ drop size rest → n ≡ pattern (take (bytes_of ty) element)
     → sum (elements ty rest) ≡ n + sum (elements ty behind)
 sum-next ty rest element behind size n e le front back is =
     let fits : bytes_of ty ≤ length rest = omega (arith, e, le) in
-    let own : n ≡ pattern (take (bytes_of ty) rest) = is ∙ ap (λ v. pattern (take (bytes_of ty) v)) (front ∙ ap (λ v. take v rest) e) ∙ ap pattern (take-take (bytes_of ty) (bytes_of ty) rest (omega arith)) in
+    let own : n ≡ pattern (take (bytes_of ty) rest) = is ∙ ap (λ v. pattern (take (bytes_of ty) v)) (front ∙ ap (λ v. take v rest) e)
+          ∙ ap pattern (take-take (bytes_of ty) (bytes_of ty) rest (omega arith)) in
     ap sum (first_of ty rest fits)
     ∙ sum_by-cons (λ x. x) (pattern (take (bytes_of ty) rest)) (elements ty (drop (bytes_of ty) rest))
     ∙ ap (λ v. v + sum (elements ty (drop (bytes_of ty) rest))) (sym own)
@@ -47,5 +51,6 @@ pub sum_from-none : (f : ℕ → ℕ) (r n : ℕ) → n ≤ r → sum_from f r (
 sum_from-none f r n past = ap (sum_from f r) (let none : n - r ≡ 0 = omega arith in none)
 
 -- what a buffer is, as it is looked up
-pub buffer-is : (o : Outline) (b : ℕ) (x : Buffer) (bs : List Buffer) → b < length o.buffers → bs ≡ o.buffers → x ≡ get_or bs b x → x ≡ buffer_at o b
+pub buffer-is : (o : Outline) (b : ℕ) (x : Buffer) (bs : List Buffer) → b < length o.buffers → bs ≡ o.buffers → x ≡ get_or bs b x →
+    x ≡ buffer_at o b
 buffer-is o b x bs l told is = is ∙ ap (λ v. get_or v b x) told ∙ get_or_default o.buffers b x no_buffer l

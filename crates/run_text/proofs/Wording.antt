@@ -10,13 +10,15 @@ use Rattle.coll_text.specs.Text.{line}
 use Rattle.coll_text.proofs.Writes.{join_spaced}
 use Rattle.run_text.specs.Orders.{order_line, step_word}
 
-pub worded : {W : Type 0} (first : List ℕ) (f : W → List ℕ) (ws : List W) → line (first ∷ map f ws) ≡ first ++ (flat_map (λ w. 32 ∷ f w) ws ++ (10 ∷ []))
+pub worded : {W : Type 0} (first : List ℕ) (f : W → List ℕ) (ws : List W) →
+    line (first ∷ map f ws) ≡ first ++ (flat_map (λ w. 32 ∷ f w) ws ++ (10 ∷ []))
 worded first f ws =
     ap (λ xs. xs ++ 10 ∷ []) (join_spaced first (map f ws))
     ∙ ap (λ xs. (first ++ xs) ++ 10 ∷ []) (flat_map-map (λ w. 32 ∷ w) f ws)
     ∙ append_assoc first (flat_map (λ w. 32 ∷ f w) ws) (10 ∷ [])
 
-pub order_line-puts : (r : ℕ) (steps : List LocalStep) → order_line r steps ≡ (codes "order " ++ decimal r) ++ (flat_map (λ s. 32 ∷ step_word s) steps ++ (10 ∷ []))
+pub order_line-puts : (r : ℕ) (steps : List LocalStep) → order_line r steps ≡ (codes "order " ++ decimal r) ++
+    (flat_map (λ s. 32 ∷ step_word s) steps ++ (10 ∷ []))
 order_line-puts r steps =
     ap (λ xs. xs ++ 10 ∷ []) (join_spaced (codes "order") (decimal r ∷ map step_word steps))
     ∙ ap (λ xs. (codes "order" ++ ((32 ∷ decimal r) ++ xs)) ++ 10 ∷ []) (flat_map-map (λ w. 32 ∷ w) step_word steps)

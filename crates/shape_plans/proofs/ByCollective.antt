@@ -1,13 +1,16 @@
 -- What each collective gives to the laws of all plans, a line for each: its sizes, that each of its cells has a link, and who holds
 -- what it makes.
-use Rattle.std.proofs.Common.{ℕ, zero, suc, Bool, ◌+◌, ◌-◌, ◌*◌, ◌≡◌, ◌<◌, ◌≤◌, List, [], ◌∷◌, refl, length, map, filter, get_or, ap, ap₂, ◌∙◌, arith, true, false, cond, ◌==◌, ◌++◌, length-append, ◌/◌, ◌%◌, div-add-mod', sym, inl, inr, Some, None, eq-eqb, eqb-true, le_of_suc-le-suc}
+use Rattle.std.proofs.Common.{ℕ, zero, suc, Bool, ◌+◌, ◌-◌, ◌*◌, ◌≡◌, ◌<◌, ◌≤◌, List, [], ◌∷◌, refl, length, map, filter, get_or, ap, ap₂,
+    ◌∙◌, arith, true, false, cond, ◌==◌, ◌++◌, length-append, ◌/◌, ◌%◌, div-add-mod', sym, inl, inr, Some, None, eq-eqb, eqb-true,
+    le_of_suc-le-suc}
 use Rattle.coll_shape.proofs.Asking.{In-is_in}
 use Rattle.coll_shape.specs.Collectives.{source_of, IsRoot, is_in, Reads, buffer_after, holding_places, result_of, all_but_first}
 use Rattle.coll_shape.specs.Outline.{list_bytes}
 use Rattle.coll_shape.specs.declared.limits.TheConstants.{MOST_RANKS}
 use Rattle.coll_shape.specs.declared.types.Buffer.{Buffer}
 use Rattle.coll_shape.specs.declared.types.CollStep.{CollStep}
-use Rattle.coll_shape.specs.declared.types.CollStep.TheVariants.{Barrier, Broadcast, Reduce, Allreduce, Gather, Allgather, Alltoall, Scan, Scatter, Reducescatter, Exscan, Gatherv}
+use Rattle.coll_shape.specs.declared.types.CollStep.TheVariants.{Barrier, Broadcast, Reduce, Allreduce, Gather, Allgather, Alltoall, Scan,
+    Scatter, Reducescatter, Exscan, Gatherv}
 use Rattle.plan_core.proofs.Drawing.{links-in_all, length-row, many-cells}
 use Rattle.plan_core.specs.Draw.{NewCell, add_all, bytes_in, links_of, HasRoom}
 use Rattle.plan_core.specs.Members.{In}
@@ -38,7 +41,8 @@ use Rattle.plan_steps.specs.Reducescatter.{result_block}
 use Rattle.plan_steps.specs.Rounds.{rounds}
 use Rattle.plan_steps.specs.Scan.{scan_cell, scan_rows}
 use Rattle.plan_steps.specs.Scatter.{scattered}
-use Rattle.plan_steps.specs.StepContext.{StepContext, count, bare_entries, bare_entry, entries, full_entry, places, row, rows, entry, further}
+use Rattle.plan_steps.specs.StepContext.{StepContext, count, bare_entries, bare_entry, entries, full_entry, places, row, rows, entry,
+    further}
 use Rattle.plan_steps.specs.Steps.{giving, passing}
 use Rattle.plan_steps.specs.Trees.{up, up_at, unturned, up_number}
 use Rattle.ptl_types.specs.Operations.{bytes_of}
@@ -66,7 +70,8 @@ module _ (s : StepContext) (t : ℕ → Bool) (held : s.holding ≡ filter t (fr
   links-of_step (Exscan o a b) h = exscan-links s o
   links-of_step (Gatherv root a b) h = gatherv-links s t held root
 
-  pub bytes-of_step : (step : CollStep) → IsRoot step (count s) → bytes_in (cells_of s step) ≡ step_bytes step (count s) (length s.holding) s.length
+  pub bytes-of_step : (step : CollStep) → IsRoot step (count s) → bytes_in (cells_of s step) ≡ step_bytes step (count s)
+      (length s.holding) s.length
   bytes-of_step Barrier h = barrier-bytes s
   bytes-of_step (Broadcast root a b) h = broadcast-bytes s root h
   bytes-of_step (Reduce root o a b) h = reduce-bytes s root o
@@ -91,7 +96,8 @@ one n h = let a = links-cons n [] in omega (arith, a, h)
 
 in_row : (f : ℕ → NewCell) (k n : ℕ) → ((i : ℕ) → 1 ≤ length (f i).into) → Linked (map f (from_to k n))
 in_row f k zero h = omega arith
-in_row f k (suc n) h = let a = links-cons (f k) (map f (from_to (suc k) n)) in let b = in_row f (suc k) n h in let c = h k in omega (arith, a, b, c)
+in_row f k (suc n) h = let a = links-cons (f k) (map f (from_to (suc k) n)) in let b = in_row f (suc k) n h in let c = h k in
+    omega (arith, a, b, c)
 
 in_rows : (s : StepContext) (f : ℕ → ℕ → NewCell) (a n : ℕ) → ((k i : ℕ) → 1 ≤ length (f k i).into) → Linked (rows s f a n)
 in_rows s f a zero h = omega arith
@@ -133,37 +139,53 @@ scatters : (s : StepContext) (root i : ℕ) → 1 ≤ length (scattered s root i
 scatters s root i = at (i == root)
   where
     at : (b : Bool) → 1 ≤ length (cond b (Rattle.plan_steps.specs.Scatter.scatter_put s root i ∷ [])
-        (Rattle.plan_steps.specs.StepContext.bump (Rattle.plan_steps.specs.StepContext.entry s i) ∷ Rattle.plan_steps.specs.Scatter.scatter_put s root i ∷ []))
+        (Rattle.plan_steps.specs.StepContext.bump (Rattle.plan_steps.specs.StepContext.entry s i)
+            ∷ Rattle.plan_steps.specs.Scatter.scatter_put s root i ∷ []))
     at true = some 0
     at false = some 1
 
 pub step-linked : (s : StepContext) (step : CollStep) → 0 < count s → Linked (cells_of s step)
-step-linked s Barrier p = both (bare_entries s) (round_rows s) (in_row (bare_entry s) 0 (count s) (λ i. some 0)) (in_rows s (round_cell s) 0 (rounds (count s)) (λ k i. some 1))
-step-linked s (Broadcast root a b) p = both (map (first_cell s root) (places s)) (map (copy_cell s root) (places s)) (firsts s root) (in_row (copy_cell s root) 0 (count s) (copies s root))
+step-linked s Barrier p = both (bare_entries s) (round_rows s) (in_row (bare_entry s) 0 (count s) (λ i. some 0))
+    (in_rows s (round_cell s) 0 (rounds (count s)) (λ k i. some 1))
+step-linked s (Broadcast root a b) p = both (map (first_cell s root) (places s)) (map (copy_cell s root) (places s)) (firsts s root)
+    (in_row (copy_cell s root) 0 (count s) (copies s root))
 step-linked s (Reduce root o a b) p = both (entries s) (up s root o) (all s) (up-linked s root o)
-step-linked s (Allreduce o a b) p = both (entries s) (up s 0 o ++ map (result_cell s) (places s)) (all s) (both (up s 0 o) (map (result_cell s) (places s)) (up-linked s 0 o) (in_row (result_cell s) 0 (count s) (results s)))
-step-linked s (Gather root a b) p = both (entries s) (gathered s root ∷ []) (all s) (one (gathered s root) (let e = length-row (gather_link s) 0 (count s) in omega (arith, e, p)))
+step-linked s (Allreduce o a b) p = both (entries s) (up s 0 o ++ map (result_cell s) (places s)) (all s)
+    (both (up s 0 o) (map (result_cell s) (places s)) (up-linked s 0 o) (in_row (result_cell s) 0 (count s) (results s)))
+step-linked s (Gather root a b) p = both (entries s) (gathered s root ∷ []) (all s)
+    (one (gathered s root) (let e = length-row (gather_link s) 0 (count s) in omega (arith, e, p)))
 step-linked s (Allgather a b) p =
     both (entries s) (rows s (ring_node s) 0 (count s) ++ map (collected s) (places s)) (all s)
-    (both (rows s (ring_node s) 0 (count s)) (map (collected s) (places s)) (in_rows s (ring_node s) 0 (count s) (λ k i. some 0)) (in_row (collected s) 0 (count s) (λ i. let e = length-row (collect_link s i) 0 (count s) in omega (arith, e, p))))
-step-linked s (Alltoall a b) p = both (entries s) (map (exchanged s) (places s)) (all s) (in_row (exchanged s) 0 (count s) (λ i. let e = length-row (exchange_link s i) 0 (count s) in omega (arith, e, p)))
+    (both (rows s (ring_node s) 0 (count s)) (map (collected s) (places s)) (in_rows s (ring_node s) 0 (count s) (λ k i. some 0))
+        (in_row (collected s) 0 (count s) (λ i. let e = length-row (collect_link s i) 0 (count s) in omega (arith, e, p))))
+step-linked s (Alltoall a b) p = both (entries s) (map (exchanged s) (places s)) (all s)
+    (in_row (exchanged s) 0 (count s) (λ i. let e = length-row (exchange_link s i) 0 (count s) in omega (arith, e, p)))
 step-linked s (Scan o a b) p = both (entries s) (scan_rows s o) (all s) (in_rows s (scan_cell s o) 0 (suc (rounds (count s))) (scans s o))
-step-linked s (Scatter root a b) p = both (map (first_cell s root) (places s)) (map (scattered s root) (places s)) (firsts s root) (in_row (scattered s root) 0 (count s) (scatters s root))
-step-linked s (Reducescatter o a b) p = both (entries s) (up s 0 o ++ map (result_block s) (places s)) (all s) (both (up s 0 o) (map (result_block s) (places s)) (up-linked s 0 o) (in_row (result_block s) 0 (count s) (result-blocks s)))
+step-linked s (Scatter root a b) p = both (map (first_cell s root) (places s)) (map (scattered s root) (places s)) (firsts s root)
+    (in_row (scattered s root) 0 (count s) (scatters s root))
+step-linked s (Reducescatter o a b) p = both (entries s) (up s 0 o ++ map (result_block s) (places s)) (all s)
+    (both (up s 0 o) (map (result_block s) (places s)) (up-linked s 0 o) (in_row (result_block s) 0 (count s) (result-blocks s)))
 step-linked s (Exscan o a b) p =
     both (entries s) (scan_rows s o ++ map (shifted s) (from_to 0 (count s - 1))) (all s)
-    (both (scan_rows s o) (map (shifted s) (from_to 0 (count s - 1))) (in_rows s (scan_cell s o) 0 (suc (rounds (count s))) (scans s o)) (in_row (shifted s) 0 (count s - 1) (λ i. some 1)))
+    (both (scan_rows s o) (map (shifted s) (from_to 0 (count s - 1))) (in_rows s (scan_cell s o) 0 (suc (rounds (count s))) (scans s o))
+        (in_row (shifted s) 0 (count s - 1) (λ i. some 1)))
 step-linked s (Gatherv root a b) p =
     both (map (held_entry s) (places s)) (concatenated s root ∷ [])
-    (in_row (held_entry s) 0 (count s) (λ i. either (is_in i s.holding) (full_entry s i) (bare_entry s i) (some 1) (some 0))) (one (concatenated s root) (some _))
+    (in_row (held_entry s) 0 (count s) (λ i. either (is_in i s.holding) (full_entry s i) (bare_entry s i) (some 1) (some 0)))
+        (one (concatenated s root) (some _))
 
 -- with few links in the end there is room for the step
-pub room-for : (p : Plan) (s : StepContext) (step : CollStep) → 0 < count s → length p.cells ≤ MOST_RANKS + length p.links → length p.links + links_of (cells_of s step) ≤ MOST_LINKS → HasRoom p (cells_of s step)
+pub room-for : (p : Plan) (s : StepContext) (step : CollStep) → 0 < count s → length p.cells ≤ MOST_RANKS + length p.links →
+    length p.links + links_of (cells_of s step) ≤ MOST_LINKS → HasRoom p (cells_of s step)
 room-for p s step pos h l = let a = step-linked s step pos in record { cells = omega (arith, a, h, l); links = omega (arith, l) }
 
 -- and there are still few cells
-pub at_most-after : (p : Plan) (s : StepContext) (step : CollStep) → 0 < count s → length p.cells ≤ MOST_RANKS + length p.links → length (add_all p (cells_of s step)).cells ≤ MOST_RANKS + length (add_all p (cells_of s step)).links
-at_most-after p s step pos h = let a = step-linked s step pos in let b = many-cells p (cells_of s step) in let c = links-in_all p (cells_of s step) in omega (arith, a, b, c, h)
+pub at_most-after : (p : Plan) (s : StepContext) (step : CollStep) → 0 < count s → length p.cells ≤ MOST_RANKS + length p.links →
+    length (add_all p (cells_of s step)).cells ≤ MOST_RANKS + length (add_all p (cells_of s step)).links
+at_most-after p s step pos h = let a = step-linked s step pos in let b = many-cells p (cells_of s step) in let c =
+                                                                                                                 links-in_all p (cells_of
+                                                                                                                 s step) in omega (arith,
+                                                                                                                 a, b, c, h)
 
 -- ---- a buffer that is held has an element
 
@@ -184,17 +206,22 @@ some-filter t a (suc n) zero h e = at (t a) (ap t (let z : a ≡ a + 0 = omega a
     at : (b : Bool) → b ≡ true → 1 ≤ length (cond b (a ∷ filter t (from_to (suc a) n)) (filter t (from_to (suc a) n)))
     at true f = omega arith
     at false f = cc
-some-filter t a (suc n) (suc i) h e = at (t a) (some-filter t (suc a) n i (omega arith) (ap t (let z : suc a + i ≡ a + suc i = omega arith in z) ∙ e))
+some-filter t a (suc n) (suc i) h e = at (t a) (some-filter t (suc a) n i (omega arith)
+    (ap t (let z : suc a + i ≡ a + suc i = omega arith in z) ∙ e))
   where
-    at : (b : Bool) → 1 ≤ length (filter t (from_to (suc a) n)) → 1 ≤ length (cond b (a ∷ filter t (from_to (suc a) n)) (filter t (from_to (suc a) n)))
+    at : (b : Bool) → 1 ≤ length (filter t (from_to (suc a) n)) →
+        1 ≤ length (cond b (a ∷ filter t (from_to (suc a) n)) (filter t (from_to (suc a) n)))
     at true f = omega arith
     at false f = f
 
-some-holds : (g : List ℕ) (x : Buffer) (i : ℕ) → i < length g → In (get_or g i 0) x.spread.holders → 1 ≤ length (holding_places g x.spread.holders)
-some-holds g x i l m = some-filter (λ i. is_in (get_or g i 0) x.spread.holders) 0 (length g) i l (ap (λ v. is_in (get_or g v 0) x.spread.holders) (let z : 0 + i ≡ i = omega arith in z) ∙ In-is_in (get_or g i 0) x.spread.holders m)
+some-holds : (g : List ℕ) (x : Buffer) (i : ℕ) → i < length g → In (get_or g i 0) x.spread.holders →
+    1 ≤ length (holding_places g x.spread.holders)
+some-holds g x i l m = some-filter (λ i. is_in (get_or g i 0) x.spread.holders) 0 (length g) i l
+    (ap (λ v. is_in (get_or g v 0) x.spread.holders) (let z : 0 + i ≡ i = omega arith in z) ∙ In-is_in (get_or g i 0) x.spread.holders m)
 
 -- where a member that is read has one
-pub after-long : (g : List ℕ) (step : CollStep) (x : Buffer) → 0 < length g → Reads g step x → ((r : ℕ) → In r x.spread.holders → 1 ≤ x.spread.length)
+pub after-long : (g : List ℕ) (step : CollStep) (x : Buffer) → 0 < length g → Reads g step x →
+    ((r : ℕ) → In r x.spread.holders → 1 ≤ x.spread.length)
     → (r : ℕ) → In r (buffer_after g step x).spread.holders → 1 ≤ (buffer_after g step x).spread.length
 after-long g Barrier x pos reads has r i = has r i
 after-long g (Broadcast root a b) x pos reads has r i = has (get_or g root 0) reads
@@ -207,7 +234,8 @@ after-long g (Scan o a b) x pos reads has r i = has (get_or g 0 0) (reads 0 pos)
 after-long g (Scatter root a b) x pos reads has r i = one-block x.spread.length (length g) reads.1 (has (get_or g root 0) reads.0)
 after-long g (Reducescatter o a b) x pos reads has r i = one-block x.spread.length (length g) reads.1 (has (get_or g 0 0) (reads.0 0 pos))
 after-long g (Exscan o a b) x pos reads has r i = has (get_or g 0 0) (reads 0 pos)
-after-long g (Gatherv root a b) x pos reads has r i = one-times (length (holding_places g x.spread.holders)) x.spread.length (some-holds g x reads.0 reads.1 reads.2) (has (get_or g reads.0 0) reads.2)
+after-long g (Gatherv root a b) x pos reads has r i = one-times (length (holding_places g x.spread.holders)) x.spread.length
+    (some-holds g x reads.0 reads.1 reads.2) (has (get_or g reads.0 0) reads.2)
 
 -- ---- who holds B, by the site and by the shape
 -- the cell at the member place of rank r that holds B
@@ -217,7 +245,8 @@ pub record Here (g : List ℕ) (r : ℕ) (s : StepContext) (step : CollStep) : T
   pub cell : ℕ
   pub holder : (end_of s step place).holder ≡ Some cell
 
-here_of : {g : List ℕ} {r : ℕ} {s : StepContext} {step : CollStep} → (f : ℕ → ℕ) → ((i : ℕ) → (end_of s step i).holder ≡ Some (f i)) → IsMember g r → Here g r s step
+here_of : {g : List ℕ} {r : ℕ} {s : StepContext} {step : CollStep} → (f : ℕ → ℕ) → ((i : ℕ) → (end_of s step i).holder ≡ Some (f i)) →
+    IsMember g r → Here g r s step
 here_of f h m = record { place = m.place; is = m.is; cell = f m.place; holder = h m.place }
 
 behind-at : (g : List ℕ) (r : ℕ) → In r (all_but_first g) → (j : ℕ) × PlaceOf g r (suc j)
@@ -231,23 +260,35 @@ in-behind (x ∷ xs) j h = In-get_or xs j 0 (le_of_suc-le-suc h)
 pub held_here : (g : List ℕ) (r : ℕ) (s : StepContext) (step : CollStep) (a : ℕ) → source_of step ≡ Some a → IsRoot step (length g)
     → (x : Buffer) → In r (buffer_after g step x).spread.holders → Here g r s step
 held_here g r s Barrier a e f x h = cc
-held_here g r s (Broadcast root a' b) a e f x h = here_of {step = Broadcast root a' b} (λ i. further s (unturned s root i)) (λ i. refl) (member g r h)
-held_here g r s (Allreduce o a' b) a e f x h = here_of {step = Allreduce o a' b} (λ i. (end_of s (Allreduce o a' b) i).exit) (λ i. refl) (member g r h)
-held_here g r s (Allgather a' b) a e f x h = here_of {step = Allgather a' b} (λ i. (end_of s (Allgather a' b) i).exit) (λ i. refl) (member g r h)
-held_here g r s (Alltoall a' b) a e f x h = here_of {step = Alltoall a' b} (λ i. (end_of s (Alltoall a' b) i).exit) (λ i. refl) (member g r h)
+held_here g r s (Broadcast root a' b) a e f x h = here_of {step = Broadcast root a' b} (λ i. further s (unturned s root i)) (λ i. refl)
+    (member g r h)
+held_here g r s (Allreduce o a' b) a e f x h = here_of {step = Allreduce o a' b} (λ i. (end_of s (Allreduce o a' b) i).exit) (λ i. refl)
+    (member g r h)
+held_here g r s (Allgather a' b) a e f x h = here_of {step = Allgather a' b} (λ i. (end_of s (Allgather a' b) i).exit) (λ i. refl)
+    (member g r h)
+held_here g r s (Alltoall a' b) a e f x h = here_of {step = Alltoall a' b} (λ i. (end_of s (Alltoall a' b) i).exit) (λ i. refl)
+    (member g r h)
 held_here g r s (Scan o a' b) a e f x h = here_of {step = Scan o a' b} (λ i. (end_of s (Scan o a' b) i).exit) (λ i. refl) (member g r h)
-held_here g r s (Scatter root a' b) a e f x h = here_of {step = Scatter root a' b} (λ i. (end_of s (Scatter root a' b) i).exit) (λ i. refl) (member g r h)
-held_here g r s (Reducescatter o a' b) a e f x h = here_of {step = Reducescatter o a' b} (λ i. (end_of s (Reducescatter o a' b) i).exit) (λ i. refl) (member g r h)
-held_here g r s (Exscan o a' b) a e f x h = let m = behind-at g r h in record { place = suc m.0; is = m.1; cell = (end_of s (Exscan o a' b) (suc m.0)).exit; holder = refl }
-held_here g r s (Reduce root o a' b) a e f x (inl h) = record { place = root; is = record { below = f; there = h }; cell = up_number s 0; holder = ap (λ t. (cond t (giving (up_number s 0)) (passing (up_number s (unturned s root root)))).holder) (eq-eqb root root refl) }
+held_here g r s (Scatter root a' b) a e f x h = here_of {step = Scatter root a' b} (λ i. (end_of s (Scatter root a' b) i).exit)
+    (λ i. refl) (member g r h)
+held_here g r s (Reducescatter o a' b) a e f x h = here_of {step = Reducescatter o a' b} (λ i. (end_of s (Reducescatter o a' b) i).exit)
+    (λ i. refl) (member g r h)
+held_here g r s (Exscan o a' b) a e f x h = let m = behind-at g r h in
+    record { place = suc m.0; is = m.1; cell = (end_of s (Exscan o a' b) (suc m.0)).exit; holder = refl }
+held_here g r s (Reduce root o a' b) a e f x (inl h) = record { place = root; is = record { below = f; there = h }; cell =
+    up_number s 0; holder = ap (λ t. (cond t (giving (up_number s 0)) (passing (up_number s (unturned s root root)))).holder)
+    (eq-eqb root root refl) }
 held_here g r s (Reduce root o a' b) a e f x (inr h) = absurd h
-held_here g r s (Gather root a' b) a e f x (inl h) = record { place = root; is = record { below = f; there = h }; cell = further s 0; holder = ap (λ t. (cond t (giving (further s 0)) (passing (entry s root))).holder) (eq-eqb root root refl) }
+held_here g r s (Gather root a' b) a e f x (inl h) = record { place = root; is = record { below = f; there = h }; cell =
+    further s 0; holder = ap (λ t. (cond t (giving (further s 0)) (passing (entry s root))).holder) (eq-eqb root root refl) }
 held_here g r s (Gather root a' b) a e f x (inr h) = absurd h
-held_here g r s (Gatherv root a' b) a e f x (inl h) = record { place = root; is = record { below = f; there = h }; cell = further s 0; holder = ap (λ t. (cond t (giving (further s 0)) (passing (entry s root))).holder) (eq-eqb root root refl) }
+held_here g r s (Gatherv root a' b) a e f x (inl h) = record { place = root; is = record { below = f; there = h }; cell =
+    further s 0; holder = ap (λ t. (cond t (giving (further s 0)) (passing (entry s root))).holder) (eq-eqb root root refl) }
 held_here g r s (Gatherv root a' b) a e f x (inr h) = absurd h
 
 -- and back
-at_root_only : (g : List ℕ) (i root c d u : ℕ) → (cond (i == root) (giving d) (passing u)).holder ≡ Some c → In (get_or g i 0) (get_or g root 0 ∷ [])
+at_root_only : (g : List ℕ) (i root c d u : ℕ) → (cond (i == root) (giving d) (passing u)).holder ≡ Some c →
+    In (get_or g i 0) (get_or g root 0 ∷ [])
 at_root_only g i root c d u e = at (i == root) refl e
   where
     at : (t : Bool) → (i == root) ≡ t → (cond t (giving d) (passing u)).holder ≡ Some c → In (get_or g i 0) (get_or g root 0 ∷ [])
@@ -288,7 +329,8 @@ times : (m n w : ℕ) → m * (n * w) ≡ m * n * w
 times m n w = omega arith
 
 -- B's length is what the shape says
-pub after_bytes : (g : List ℕ) (s : StepContext) (step : CollStep) (x : Buffer) → s.members ≡ g → s.holding ≡ holding_places g x.spread.holders
+pub after_bytes : (g : List ℕ) (s : StepContext) (step : CollStep) (x : Buffer) → s.members ≡ g →
+    s.holding ≡ holding_places g x.spread.holders
     → s.length ≡ list_bytes x → 0 < length g → Reads g step x → bytes_after s step ≡ list_bytes (buffer_after g step x)
 after_bytes g s Barrier x m w e pos r = e
 after_bytes g s (Broadcast root a b) x m w e pos r = e
@@ -298,10 +340,13 @@ after_bytes g s (Gather root a b) x m w e pos r = ap₂ (λ u v. u * v) (ap leng
 after_bytes g s (Allgather a b) x m w e pos r = ap₂ (λ u v. u * v) (ap length m) e ∙ times (length g) x.spread.length (bytes_of x.ty)
 after_bytes g s (Alltoall a b) x m w e pos r = e
 after_bytes g s (Scan o a b) x m w e pos r = e
-after_bytes g s (Scatter root a b) x m w e pos r = ap₂ (λ u v. u / v) e (ap length m) ∙ blocks_long x.spread.length (length g) (bytes_of x.ty) pos r.1
-after_bytes g s (Reducescatter o a b) x m w e pos r = ap₂ (λ u v. u / v) e (ap length m) ∙ blocks_long x.spread.length (length g) (bytes_of x.ty) pos r.1
+after_bytes g s (Scatter root a b) x m w e pos r = ap₂ (λ u v. u / v) e (ap length m)
+    ∙ blocks_long x.spread.length (length g) (bytes_of x.ty) pos r.1
+after_bytes g s (Reducescatter o a b) x m w e pos r = ap₂ (λ u v. u / v) e (ap length m)
+    ∙ blocks_long x.spread.length (length g) (bytes_of x.ty) pos r.1
 after_bytes g s (Exscan o a b) x m w e pos r = e
-after_bytes g s (Gatherv root a b) x m w e pos r = ap₂ (λ u v. u * v) (ap length w) e ∙ times (length (holding_places g x.spread.holders)) x.spread.length (bytes_of x.ty)
+after_bytes g s (Gatherv root a b) x m w e pos r = ap₂ (λ u v. u * v) (ap length w) e ∙ times (length (holding_places g x.spread.holders))
+    x.spread.length (bytes_of x.ty)
 
 -- a step makes a buffer from one that it reads, or it does neither
 pub data Kind (step : CollStep) : Type 0 where

@@ -1,5 +1,6 @@
 -- All twelve steps together: sound, their exits and holders are among their cells, and what the holders hold.
-use Rattle.std.proofs.Common.{ℕ, zero, suc, Bool, true, false, cond, ◌+◌, ◌-◌, ◌*◌, ◌/◌, ◌%◌, ◌≡◌, ◌≤◌, ◌<◌, ◌==◌, List, [], ◌∷◌, ◌++◌, refl, length, map, filter, flat_map, ap, ap₂, ◌∙◌, sym, subst, arith, Some, eqb-true, le_refl, div-add-mod'}
+use Rattle.std.proofs.Common.{ℕ, zero, suc, Bool, true, false, cond, ◌+◌, ◌-◌, ◌*◌, ◌/◌, ◌%◌, ◌≡◌, ◌≤◌, ◌<◌, ◌==◌, List, [], ◌∷◌, ◌++◌,
+    refl, length, map, filter, flat_map, ap, ap₂, ◌∙◌, sym, subst, arith, Some, eqb-true, le_refl, div-add-mod'}
 use Rattle.std.proofs.Math.Nat.{mod-eq_of_lt, add-mul-mod_self_left}
 use Rattle.ptl_types.specs.declared.elements.AtomicOp.{AtomicOp}
 use Rattle.ptl_types.specs.declared.elements.ElemType.{ElemType}
@@ -10,8 +11,10 @@ use Rattle.plan_core.specs.declared.Cell.{Cell}
 use Rattle.plan_core.specs.Draw.{NewCell}
 use Rattle.plan_core.specs.Plan.{from_to, no_cell}
 use Rattle.coll_shape.specs.declared.types.CollStep.{CollStep}
-use Rattle.coll_shape.specs.declared.types.CollStep.TheVariants.{Barrier, Broadcast, Reduce, Allreduce, Gather, Allgather, Alltoall, Scan, Scatter, Reducescatter, Exscan, Gatherv}
-use Rattle.plan_steps.specs.StepContext.{StepContext, bare_entry, count, entries, entry, full_entry, further, in_row, places, rank_at, source_at, block_length}
+use Rattle.coll_shape.specs.declared.types.CollStep.TheVariants.{Barrier, Broadcast, Reduce, Allreduce, Gather, Allgather, Alltoall, Scan,
+    Scatter, Reducescatter, Exscan, Gatherv}
+use Rattle.plan_steps.specs.StepContext.{StepContext, bare_entry, count, entries, entry, full_entry, further, in_row, places, rank_at,
+    source_at, block_length}
 use Rattle.plan_steps.specs.Steps.{giving, passing}
 use Rattle.coll_shape.specs.Collectives.{IsRoot, is_in, list_after}
 use Rattle.plan_steps.specs.Trees.{turned, unturned, up, up_cell, up_number}
@@ -88,7 +91,8 @@ module _ (ranks : ℕ) (k : ℕ → Cell) (s : StepContext) (ground : Ground ran
   times : (m : ℕ) → (m * s.length) % bytes_of s.ty ≡ 0
   times m = whole_times m s.length (bytes_of s.ty) (bytes-pos s.ty) whole
 
-  pub step-sound : (step : CollStep) → IsRoot step (count s) → Asks k s step → EachAt (IsCell k) s.first (cells_of s step) → EachAt (SoundNewCell ranks k) s.first (cells_of s step)
+  pub step-sound : (step : CollStep) → IsRoot step (count s) → Asks k s step → EachAt (IsCell k) s.first (cells_of s step) →
+      EachAt (SoundNewCell ranks k) s.first (cells_of s step)
   step-sound Barrier root_in has cells = barrier-sound k s ranks ground cells
   step-sound (Broadcast root a b) root_in has cells = broadcast-sound k s root root_in ranks ground whole has cells
   step-sound (Reduce root o a b) root_in has cells = reduce-sound ranks k s root o ground whole has cells
@@ -100,7 +104,8 @@ module _ (ranks : ℕ) (k : ℕ → Cell) (s : StepContext) (ground : Ground ran
   step-sound (Scatter root a b) root_in has cells = scatter-sound k s root root_in ranks ground whole has.1.whole has.1.all has.0 cells
   step-sound (Reducescatter o a b) root_in has cells = reducescatter-sound k s o ranks ground whole has.1.whole has.1.all has.0 cells
   step-sound (Exscan o a b) root_in has cells = exscan-sound k s o ranks ground whole has cells
-  step-sound (Gatherv root a b) root_in has cells = gatherv-sound k s root has.0.test has.0.is ranks ground root_in whole (times (length s.holding)) has.1 cells
+  step-sound (Gatherv root a b) root_in has cells = gatherv-sound k s root has.0.test has.0.is ranks ground root_in whole
+      (times (length s.holding)) has.1 cells
 
 -- B's length in bytes
 abbrev pub bytes_after : StepContext → CollStep → ℕ
@@ -144,15 +149,18 @@ module _ (P : ℕ → NewCell → Type 0) (s : StepContext) (pos : 0 < count s) 
 
   -- after the row of entries
   second : (f g : ℕ → NewCell) → EachAt P s.first (map f (places s) ++ map g (places s)) → (i : ℕ) → i < count s → P (further s i) (g i)
-  second f g h i l = moved (s.first + count s + i) (further s i) (g i) (omega arith) (of_places P s (s.first + count s) g (behind P s s.first f (map g (places s)) h) i l)
+  second f g h i l = moved (s.first + count s + i) (further s i) (g i) (omega arith)
+      (of_places P s (s.first + count s) g (behind P s s.first f (map g (places s)) h) i l)
 
   alone : (f : ℕ → NewCell) (n : NewCell) → EachAt P s.first (map f (places s) ++ n ∷ []) → P (further s 0) n
   alone f n h = moved (s.first + count s) (further s 0) n (omega arith) (behind P s s.first f (n ∷ []) h).0
 
-  third : (o : AtomicOp) (root : ℕ) (g : ℕ → NewCell) → EachAt P s.first (entries s ++ (up s root o ++ map g (places s))) → (i : ℕ) → i < count s → P (further s (count s + i)) (g i)
+  third : (o : AtomicOp) (root : ℕ) (g : ℕ → NewCell) → EachAt P s.first (entries s ++ (up s root o ++ map g (places s))) → (i : ℕ) →
+      i < count s → P (further s (count s + i)) (g i)
   third o root g h i l =
       moved (s.first + count s + count s + i) (further s (count s + i)) (g i) (omega arith)
-      (of_places P s (s.first + count s + count s) g (behind P s (s.first + count s) _ (map g (places s)) (behind P s s.first (full_entry s) _ h)) i l)
+      (of_places P s (s.first + count s + count s) g (behind P s (s.first + count s) _ (map g (places s))
+          (behind P s s.first (full_entry s) _ h)) i l)
 
   any : ℕ → Cell
   any c = no_cell
@@ -160,38 +168,52 @@ module _ (P : ℕ → NewCell → Type 0) (s : StepContext) (pos : 0 < count s) 
   round_at : EachAt P s.first (barrier_cells s) → (j i : ℕ) → j ≤ rounds (count s) → i < count s → Among P (in_row s j i) (rank_at s i)
   round_at h zero i t l = record {
     node = bare_entry s i;
-    holds = moved (s.first + i) (in_row s 0 i) (bare_entry s i) (omega arith) (of_places P s s.first (bare_entry s) (each_front P s.first (map (bare_entry s) (places s)) (round_rows s) h) i l);
+    holds = moved (s.first + i) (in_row s 0 i) (bare_entry s i) (omega arith)
+        (of_places P s s.first (bare_entry s) (each_front P s.first (map (bare_entry s) (places s)) (round_rows s) h) i l);
     on_rank = refl;
   }
-  round_at h (suc j) i t l = record { node = _; holds = round-at any s P (behind P s s.first (bare_entry s) (round_rows s) h) j i t l; on_rank = refl }
+  round_at h (suc j) i t l = record { node = _; holds = round-at any s P (behind P s s.first (bare_entry s) (round_rows s) h) j i t l;
+      on_rank = refl }
 
   first_at : (f : ℕ → NewCell) (ns : List NewCell) → EachAt P s.first (map f (places s) ++ ns) → (i : ℕ) → i < count s → P (entry s i) (f i)
   first_at f ns h i l = of_places P s s.first f (each_front P s.first (map f (places s)) ns h) i l
 
   collected_at : EachAt P s.first (allgather_cells s) → (i : ℕ) → i < count s → P (further s (count s * count s + i)) (collected s i)
-  collected_at h i l = moved (s.first + count s + count s * count s + i) (further s (count s * count s + i)) (collected s i) (omega arith) (of_places P s (s.first + count s + count s * count s) (collected s) (end_part any s P h) i l)
+  collected_at h i l = moved (s.first + count s + count s * count s + i) (further s (count s * count s + i)) (collected s i) (omega arith)
+      (of_places P s (s.first + count s + count s * count s) (collected s) (end_part any s P h) i l)
 
-  up_is : (root : ℕ) (o : AtomicOp) → EachAt P s.first (reduce_cells s root o) → (v : ℕ) → v < count s → P (up_number s v) (up_cell s root o v)
+  up_is : (root : ℕ) (o : AtomicOp) → EachAt P s.first (reduce_cells s root o) → (v : ℕ) → v < count s →
+      P (up_number s v) (up_cell s root o v)
   up_is root o h v l = up-at any s root o P (behind P s s.first (full_entry s) (up s root o) h) v l
 
-  last_scan : (o : AtomicOp) (ns : List NewCell) → EachAt P s.first (entries s ++ (scan_rows s o ++ ns)) → (i : ℕ) → i < count s → P (scan_number s (rounds (count s)) i) (scan_cell s o (rounds (count s)) i)
-  last_scan o ns h i l = scan-at any s o P (each_front P (s.first + count s) (scan_rows s o) ns (behind P s s.first (full_entry s) (scan_rows s o ++ ns) h)) (rounds (count s)) i (le_refl (rounds (count s))) l
+  last_scan : (o : AtomicOp) (ns : List NewCell) → EachAt P s.first (entries s ++ (scan_rows s o ++ ns)) → (i : ℕ) → i < count s →
+      P (scan_number s (rounds (count s)) i) (scan_cell s o (rounds (count s)) i)
+  last_scan o ns h i l = scan-at any s o P (each_front P (s.first + count s) (scan_rows s o) ns
+      (behind P s s.first (full_entry s) (scan_rows s o ++ ns) h)) (rounds (count s)) i (le_refl (rounds (count s))) l
 
-  only_scan : (o : AtomicOp) → EachAt P s.first (scan_cells s o) → (i : ℕ) → i < count s → P (scan_number s (rounds (count s)) i) (scan_cell s o (rounds (count s)) i)
-  only_scan o h i l = scan-at any s o P (behind P s s.first (full_entry s) (scan_rows s o) h) (rounds (count s)) i (le_refl (rounds (count s))) l
+  only_scan : (o : AtomicOp) → EachAt P s.first (scan_cells s o) → (i : ℕ) → i < count s →
+      P (scan_number s (rounds (count s)) i) (scan_cell s o (rounds (count s)) i)
+  only_scan o h i l = scan-at any s o P (behind P s s.first (full_entry s) (scan_rows s o) h) (rounds (count s)) i
+      (le_refl (rounds (count s))) l
 
-  shifted_at : (o : AtomicOp) → EachAt P s.first (exscan_cells s o) → (j : ℕ) → suc j < count s → P (further s (suc (rounds (count s)) * count s + j)) (shifted s j)
+  shifted_at : (o : AtomicOp) → EachAt P s.first (exscan_cells s o) → (j : ℕ) → suc j < count s →
+      P (further s (suc (rounds (count s)) * count s + j)) (shifted s j)
   shifted_at o h j l =
       let c = length-rows (scan_cell s o) (count s) 0 (suc (rounds (count s))) in
-      let m = each_of_map P (s.first + count s + length (scan_rows s o)) (shifted s) 0 (count s - 1) (each_back P (s.first + count s) (scan_rows s o) (map (shifted s) (from_to 0 (count s - 1))) (behind P s s.first (full_entry s) (scan_rows s o ++ map (shifted s) (from_to 0 (count s - 1))) h)) j (omega arith) in
-      moved (s.first + count s + length (scan_rows s o) + j) (further s (suc (rounds (count s)) * count s + j)) (shifted s j) (omega (arith, c))
+      let m = each_of_map P (s.first + count s + length (scan_rows s o)) (shifted s) 0 (count s - 1)
+            (each_back P (s.first + count s) (scan_rows s o) (map (shifted s) (from_to 0 (count s - 1)))
+            (behind P s s.first (full_entry s) (scan_rows s o ++ map (shifted s) (from_to 0 (count s - 1))) h)) j (omega arith) in
+      moved (s.first + count s + length (scan_rows s o) + j) (further s (suc (rounds (count s)) * count s + j)) (shifted s j)
+          (omega (arith, c))
       (subst (λ v. P (s.first + count s + length (scan_rows s o) + j) (shifted s v)) (let z : 0 + j ≡ j = omega arith in z) m)
 
   turned_0 : (i : ℕ) → i < count s → rank_at s (turned s 0 i) ≡ rank_at s i
-  turned_0 i l = ap (rank_at s) (mod-eq_of_lt {n = 0 + i} (let e : 0 + i < count s = omega arith in e) ∙ (let e : 0 + i ≡ i = omega arith in e))
+  turned_0 i l = ap (rank_at s) (mod-eq_of_lt {n = 0 + i} (let e : 0 + i < count s = omega arith in e)
+      ∙ (let e : 0 + i ≡ i = omega arith in e))
 
   turned_root : (root : ℕ) → root < count s → rank_at s (turned s root 0) ≡ rank_at s root
-  turned_root root r = ap (rank_at s) (mod-eq_of_lt {n = root + 0} (let w : root + 0 < count s = omega arith in w) ∙ (let w : root + 0 ≡ root = omega arith in w))
+  turned_root root r = ap (rank_at s) (mod-eq_of_lt {n = root + 0} (let w : root + 0 < count s = omega arith in w)
+      ∙ (let w : root + 0 ≡ root = omega arith in w))
 
   result_rank : (i : ℕ) → (result_block s i).rank ≡ rank_at s i
   result_rank i = refl
@@ -203,65 +225,93 @@ module _ (P : ℕ → NewCell → Type 0) (s : StepContext) (pos : 0 < count s) 
   scan_rank : (o : AtomicOp) (q i : ℕ) → (scan_cell s o q i).rank ≡ rank_at s i
   scan_rank o q i = refl
 
-  pub exit_node : (step : CollStep) → IsRoot step (count s) → EachAt P s.first (cells_of s step) → (i : ℕ) → i < count s → Among P (end_of s step i).exit (rank_at s i)
+  pub exit_node : (step : CollStep) → IsRoot step (count s) → EachAt P s.first (cells_of s step) → (i : ℕ) → i < count s →
+      Among P (end_of s step i).exit (rank_at s i)
   exit_node Barrier r h i l = round_at h (rounds (count s)) i (le_refl (rounds (count s))) l
-  exit_node (Broadcast root a b) r h i l = record { node = _; holds = second (first_cell s root) (copy_cell s root) h (unturned s root i) (unturned-lt s root i pos); on_rank = ap (rank_at s) (turned-back s root r i l) }
+  exit_node (Broadcast root a b) r h i l = record { node = _; holds = second (first_cell s root) (copy_cell s root) h (unturned s root i)
+      (unturned-lt s root i pos); on_rank = ap (rank_at s) (turned-back s root r i l) }
   exit_node (Reduce root o a b) r h i l = at_root (i == root) refl
     where
-      at_root : (t : Bool) → (i == root) ≡ t → Among P (cond t (giving (up_number s 0)) (passing (up_number s (unturned s root i)))).exit (rank_at s i)
-      at_root true e = record { node = _; holds = up_is root o h 0 pos; on_rank = turned_root root r ∙ sym (ap (rank_at s) (eqb-true _ _ e)) }
-      at_root false e = record { node = _; holds = up_is root o h (unturned s root i) (unturned-lt s root i pos); on_rank = ap (rank_at s) (turned-back s root r i l) }
+      at_root : (t : Bool) → (i == root) ≡ t → Among P (cond t (giving (up_number s 0)) (passing (up_number s (unturned s root i)))).exit
+          (rank_at s i)
+      at_root true e = record { node = _; holds = up_is root o h 0 pos; on_rank = turned_root root r
+          ∙ sym (ap (rank_at s) (eqb-true _ _ e)) }
+      at_root false e = record { node = _; holds = up_is root o h (unturned s root i) (unturned-lt s root i pos); on_rank =
+          ap (rank_at s) (turned-back s root r i l) }
   exit_node (Allreduce o a b) r h i l = record { node = _; holds = third o 0 (result_cell s) h i l; on_rank = turned_0 i l }
   exit_node (Gather root a b) r h i l = at_root (i == root) refl
     where
       at_root : (t : Bool) → (i == root) ≡ t → Among P (cond t (giving (further s 0)) (passing (entry s i))).exit (rank_at s i)
-      at_root true e = record { node = _; holds = alone (full_entry s) (gathered s root) h; on_rank = ap (rank_at s) (sym (eqb-true _ _ e)) }
+      at_root true e = record { node = _; holds = alone (full_entry s) (gathered s root) h; on_rank =
+          ap (rank_at s) (sym (eqb-true _ _ e)) }
       at_root false e = record { node = _; holds = first_at (full_entry s) (gathered s root ∷ []) h i l; on_rank = refl }
   exit_node (Allgather a b) r h i l = record { node = _; holds = collected_at h i l; on_rank = refl }
   exit_node (Alltoall a b) r h i l = record { node = _; holds = second (full_entry s) (exchanged s) h i l; on_rank = refl }
   exit_node (Scan o a b) r h i l = record { node = _; holds = only_scan o h i l; on_rank = scan_rank o (rounds (count s)) i }
   exit_node (Scatter root a b) r h i l = record { node = _; holds = second (first_cell s root) (scattered s root) h i l; on_rank = refl }
   exit_node (Reducescatter o a b) r h i l = record { node = _; holds = third o 0 (result_block s) h i l; on_rank = result_rank i }
-  exit_node (Exscan o a b) r h zero l = record { node = _; holds = last_scan o (map (shifted s) (from_to 0 (count s - 1))) h 0 l; on_rank = scan_rank o (rounds (count s)) 0 }
+  exit_node (Exscan o a b) r h zero l = record { node = _; holds = last_scan o (map (shifted s) (from_to 0 (count s - 1))) h 0 l;
+      on_rank = scan_rank o (rounds (count s)) 0 }
   exit_node (Exscan o a b) r h (suc j) l = record { node = _; holds = shifted_at o h j l; on_rank = refl }
   exit_node (Gatherv root a b) r h i l = at_root (i == root) refl
     where
       at_root : (t : Bool) → (i == root) ≡ t → Among P (cond t (giving (further s 0)) (passing (entry s i))).exit (rank_at s i)
-      at_root true e = record { node = _; holds = alone (held_entry s) (concatenated s root) h; on_rank = ap (rank_at s) (sym (eqb-true _ _ e)) }
-      at_root false e = record { node = _; holds = first_at (held_entry s) (concatenated s root ∷ []) h i l; on_rank = entry_rank (is_in i s.holding) i }
+      at_root true e = record { node = _; holds = alone (held_entry s) (concatenated s root) h; on_rank =
+          ap (rank_at s) (sym (eqb-true _ _ e)) }
+      at_root false e = record { node = _; holds = first_at (held_entry s) (concatenated s root ∷ []) h i l; on_rank =
+          entry_rank (is_in i s.holding) i }
 
   found : (c d rank n : ℕ) → Some d ≡ Some c → Holder P s.ty d rank n → Holder P s.ty c rank n
   found c d rank n e h = subst (λ v. Holder P s.ty v rank n) (some_one e) h
 
-  pub holder_node : (step : CollStep) → IsRoot step (count s) → EachAt P s.first (cells_of s step) → (i c : ℕ) → i < count s → (end_of s step i).holder ≡ Some c → Holder P s.ty c (rank_at s i) (bytes_after s step)
+  pub holder_node : (step : CollStep) → IsRoot step (count s) → EachAt P s.first (cells_of s step) → (i c : ℕ) → i < count s →
+      (end_of s step i).holder ≡ Some c → Holder P s.ty c (rank_at s i) (bytes_after s step)
   holder_node Barrier r h i c l e = cc
-  holder_node (Broadcast root a b) r h i c l e = found c _ (rank_at s i) s.length e (record { node = _; holds = second (first_cell s root) (copy_cell s root) h (unturned s root i) (unturned-lt s root i pos); on_rank = ap (rank_at s) (turned-back s root r i l); ty = refl; long = refl })
+  holder_node (Broadcast root a b) r h i c l e = found c _ (rank_at s i) s.length e
+      (record { node = _; holds = second (first_cell s root) (copy_cell s root) h (unturned s root i) (unturned-lt s root i pos);
+      on_rank = ap (rank_at s) (turned-back s root r i l); ty = refl; long = refl })
   holder_node (Reduce root o a b) r h i c l e = at_root (i == root) refl e
     where
-      at_root : (t : Bool) → (i == root) ≡ t → (cond t (giving (up_number s 0)) (passing (up_number s (unturned s root i)))).holder ≡ Some c → Holder P s.ty c (rank_at s i) s.length
-      at_root true q e = found c _ (rank_at s i) s.length e (record { node = _; holds = up_is root o h 0 pos; on_rank = turned_root root r ∙ sym (ap (rank_at s) (eqb-true _ _ q)); ty = refl; long = refl })
+      at_root : (t : Bool) → (i == root) ≡ t → (cond t (giving (up_number s 0)) (passing (up_number s (unturned s root i)))).holder ≡ Some
+          c → Holder P s.ty c (rank_at s i) s.length
+      at_root true q e = found c _ (rank_at s i) s.length e (record { node = _; holds = up_is root o h 0 pos; on_rank = turned_root root r
+          ∙ sym (ap (rank_at s) (eqb-true _ _ q)); ty = refl; long = refl })
       at_root false q e = cc
-  holder_node (Allreduce o a b) r h i c l e = found c _ (rank_at s i) s.length e (record { node = _; holds = third o 0 (result_cell s) h i l; on_rank = turned_0 i l; ty = refl; long = refl })
+  holder_node (Allreduce o a b) r h i c l e = found c _ (rank_at s i) s.length e
+      (record { node = _; holds = third o 0 (result_cell s) h i l; on_rank = turned_0 i l; ty = refl; long = refl })
   holder_node (Gather root a b) r h i c l e = at_root (i == root) refl e
     where
-      at_root : (t : Bool) → (i == root) ≡ t → (cond t (giving (further s 0)) (passing (entry s i))).holder ≡ Some c → Holder P s.ty c (rank_at s i) (count s * s.length)
-      at_root true q e = found c _ (rank_at s i) (count s * s.length) e (record { node = _; holds = alone (full_entry s) (gathered s root) h; on_rank = ap (rank_at s) (sym (eqb-true _ _ q)); ty = refl; long = refl })
+      at_root : (t : Bool) → (i == root) ≡ t → (cond t (giving (further s 0)) (passing (entry s i))).holder ≡ Some c →
+          Holder P s.ty c (rank_at s i) (count s * s.length)
+      at_root true q e = found c _ (rank_at s i) (count s * s.length) e
+          (record { node = _; holds = alone (full_entry s) (gathered s root) h; on_rank = ap (rank_at s) (sym (eqb-true _ _ q)); ty =
+          refl; long = refl })
       at_root false q e = cc
-  holder_node (Allgather a b) r h i c l e = found c _ (rank_at s i) (count s * s.length) e (record { node = _; holds = collected_at h i l; on_rank = refl; ty = refl; long = refl })
-  holder_node (Alltoall a b) r h i c l e = found c _ (rank_at s i) s.length e (record { node = _; holds = second (full_entry s) (exchanged s) h i l; on_rank = refl; ty = refl; long = refl })
-  holder_node (Scan o a b) r h i c l e = found c _ (rank_at s i) s.length e (record { node = _; holds = only_scan o h i l; on_rank = scan_rank o (rounds (count s)) i; ty = refl; long = refl })
-  holder_node (Scatter root a b) r h i c l e = found c _ (rank_at s i) (block_length s) e (record { node = _; holds = second (first_cell s root) (scattered s root) h i l; on_rank = refl; ty = refl; long = refl })
-  holder_node (Reducescatter o a b) r h i c l e = found c _ (rank_at s i) (block_length s) e (record { node = _; holds = third o 0 (result_block s) h i l; on_rank = result_rank i; ty = refl; long = refl })
+  holder_node (Allgather a b) r h i c l e = found c _ (rank_at s i) (count s * s.length) e
+      (record { node = _; holds = collected_at h i l; on_rank = refl; ty = refl; long = refl })
+  holder_node (Alltoall a b) r h i c l e = found c _ (rank_at s i) s.length e
+      (record { node = _; holds = second (full_entry s) (exchanged s) h i l; on_rank = refl; ty = refl; long = refl })
+  holder_node (Scan o a b) r h i c l e = found c _ (rank_at s i) s.length e
+      (record { node = _; holds = only_scan o h i l; on_rank = scan_rank o (rounds (count s)) i; ty = refl; long = refl })
+  holder_node (Scatter root a b) r h i c l e = found c _ (rank_at s i) (block_length s) e
+      (record { node = _; holds = second (first_cell s root) (scattered s root) h i l; on_rank = refl; ty = refl; long = refl })
+  holder_node (Reducescatter o a b) r h i c l e = found c _ (rank_at s i) (block_length s) e
+      (record { node = _; holds = third o 0 (result_block s) h i l; on_rank = result_rank i; ty = refl; long = refl })
   holder_node (Exscan o a b) r h zero c l e = cc
-  holder_node (Exscan o a b) r h (suc j) c l e = found c _ (rank_at s (suc j)) s.length e (record { node = _; holds = shifted_at o h j l; on_rank = refl; ty = refl; long = refl })
+  holder_node (Exscan o a b) r h (suc j) c l e = found c _ (rank_at s (suc j)) s.length e
+      (record { node = _; holds = shifted_at o h j l; on_rank = refl; ty = refl; long = refl })
   holder_node (Gatherv root a b) r h i c l e = at_root (i == root) refl e
     where
-      at_root : (t : Bool) → (i == root) ≡ t → (cond t (giving (further s 0)) (passing (entry s i))).holder ≡ Some c → Holder P s.ty c (rank_at s i) (length s.holding * s.length)
-      at_root true q e = found c _ (rank_at s i) (length s.holding * s.length) e (record { node = _; holds = alone (held_entry s) (concatenated s root) h; on_rank = ap (rank_at s) (sym (eqb-true _ _ q)); ty = refl; long = refl })
+      at_root : (t : Bool) → (i == root) ≡ t → (cond t (giving (further s 0)) (passing (entry s i))).holder ≡ Some c →
+          Holder P s.ty c (rank_at s i) (length s.holding * s.length)
+      at_root true q e = found c _ (rank_at s i) (length s.holding * s.length) e
+          (record { node = _; holds = alone (held_entry s) (concatenated s root) h; on_rank = ap (rank_at s) (sym (eqb-true _ _ q)); ty =
+          refl; long = refl })
       at_root false q e = cc
 
 -- ---- what the holders hold
-module _ (k : ℕ → Cell) (val : ℕ → List ℕ) (s : StepContext) (xs : List (List ℕ)) (pos : 0 < count s) (small : count s ≤ 256) (many : length xs ≡ count s) (whole : s.length % bytes_of s.ty ≡ 0) where
+module _ (k : ℕ → Cell) (val : ℕ → List ℕ) (s : StepContext) (xs : List (List ℕ)) (pos : 0 < count s) (small : count s ≤ 256)
+    (many : length xs ≡ count s) (whole : s.length % bytes_of s.ty ≡ 0) where
   abbrev pub HasValue : ℕ → Type 0
   HasValue i = (val (source_at s i) ≡ at xs i) × (length (val (source_at s i)) ≡ s.length)
 
@@ -280,19 +330,23 @@ module _ (k : ℕ → Cell) (val : ℕ → List ℕ) (s : StepContext) (xs : Lis
   AsksValues (Scatter root a b) = HasValue root × Blocks s
   AsksValues (Reducescatter o a b) = AllValues × Blocks s
   AsksValues (Exscan o a b) = AllValues
-  AsksValues (Gatherv root a b) = Holding s × ((i : ℕ) → i < count s → is_in i s.holding ≡ true → HasValue i) × ((i : ℕ) → i < count s → is_in i s.holding ≡ false → at xs i ≡ [])
+  AsksValues (Gatherv root a b) = Holding s × ((i : ℕ) → i < count s → is_in i s.holding ≡ true → HasValue i) ×
+      ((i : ℕ) → i < count s → is_in i s.holding ≡ false → at xs i ≡ [])
 
   -- the fold of the first m
-  fold_is : (o : AtomicOp) (m : ℕ) → length (at xs 0) ≡ s.length → folded o s.ty (map (at xs) (from_to 0 m)) (starting o s.ty s.length) ≡ reduced o s.ty m xs
+  fold_is : (o : AtomicOp) (m : ℕ) → length (at xs 0) ≡ s.length → folded o s.ty (map (at xs) (from_to 0 m)) (starting o s.ty s.length)
+      ≡ reduced o s.ty m xs
   fold_is o m e = ap (λ n. folded o s.ty (map (at xs) (from_to 0 m)) (starting o s.ty n)) (sym e)
 
-  fold_all : (o : AtomicOp) → length (at xs 0) ≡ s.length → folded o s.ty (map (at xs) (from_to 0 (count s))) (starting o s.ty s.length) ≡ reduced o s.ty (length xs) xs
+  fold_all : (o : AtomicOp) → length (at xs 0) ≡ s.length → folded o s.ty (map (at xs) (from_to 0 (count s))) (starting o s.ty s.length)
+      ≡ reduced o s.ty (length xs) xs
   fold_all o e = fold_is o (count s) e ∙ ap (λ m. reduced o s.ty m xs) (sym many)
 
   fold_long : (o : AtomicOp) → length (at xs 0) ≡ s.length → length (reduced o s.ty (length xs) xs) ≡ s.length
   fold_long o e =
       ap length (sym (fold_all o e))
-      ∙ length-folded o s.ty (map (at xs) (from_to 0 (count s))) (starting o s.ty s.length) (ap (λ n. n % bytes_of s.ty) (length-repeated o s.ty s.length whole) ∙ whole)
+      ∙ length-folded o s.ty (map (at xs) (from_to 0 (count s))) (starting o s.ty s.length)
+          (ap (λ n. n % bytes_of s.ty) (length-repeated o s.ty s.length whole) ∙ whole)
       ∙ length-repeated o s.ty s.length whole
 
   len_at : (i : ℕ) → HasValue i → length (at xs i) ≡ s.length
@@ -309,23 +363,32 @@ module _ (k : ℕ → Cell) (val : ℕ → List ℕ) (s : StepContext) (xs : Lis
   rooted true c e x h = Holds c h
   rooted false c e x h = IsEmpty refl
 
-  pub step-value : (step : CollStep) → IsRoot step (count s) → AsksValues step → EachAt (Known k val) s.first (cells_of s step) → (i : ℕ) → i < count s → IsResult val (list_after s.ty step xs i) (end_of s step i).holder
+  pub step-value : (step : CollStep) → IsRoot step (count s) → AsksValues step → EachAt (Known k val) s.first (cells_of s step) →
+      (i : ℕ) → i < count s → IsResult val (list_after s.ty step xs i) (end_of s step i).holder
   step-value Barrier root_in asks known i l = absurd asks
   step-value (Broadcast root a b) root_in asks known i l = Holds _ (broadcast-value k s root root_in val pos asks.1 known i l ∙ asks.0)
   step-value (Reduce root o a b) root_in asks known i l =
-      rooted (i == root) (up_number s 0) (up_number s (unturned s root i)) (reduced o s.ty (length xs) xs) (reduce-value k val (at xs) s root o root_in whole asks known ∙ fold_all o (len_at 0 (asks 0 pos)))
-  step-value (Allreduce o a b) root_in asks known i l = Holds _ (allreduce-value k s o val (at xs) pos whole asks known i l ∙ fold_all o (len_at 0 (asks 0 pos)))
-  step-value (Gather root a b) root_in asks known i l = rooted (i == root) (further s 0) (entry s i) (joined_lists xs) (gather-value k s root val (at xs) asks known ∙ joined)
+      rooted (i == root) (up_number s 0) (up_number s (unturned s root i)) (reduced o s.ty (length xs) xs)
+          (reduce-value k val (at xs) s root o root_in whole asks known ∙ fold_all o (len_at 0 (asks 0 pos)))
+  step-value (Allreduce o a b) root_in asks known i l = Holds _ (allreduce-value k s o val (at xs) pos whole asks known i l
+      ∙ fold_all o (len_at 0 (asks 0 pos)))
+  step-value (Gather root a b) root_in asks known i l = rooted (i == root) (further s 0) (entry s i) (joined_lists xs)
+      (gather-value k s root val (at xs) asks known ∙ joined)
   step-value (Allgather a b) root_in asks known i l = Holds _ (allgather-value k s val (at xs) pos asks known i l ∙ joined)
   step-value (Alltoall a b) root_in asks known i l =
       Holds _ (alltoall-value k s (s.length / count s) val (at xs) refl asks.1.all asks.0 known i l
       ∙ ap₂ (λ n m. flat_map (λ q. part (i * (n / m)) (n / m) (at xs q)) (from_to 0 m)) (sym (len_at i (asks.0 i l))) (sym many))
-  step-value (Scan o a b) root_in asks known i l = Holds _ (scan-value k s o val (at xs) small whole asks known i l ∙ fold_is o (suc i) (len_at 0 (asks 0 pos)))
-  step-value (Scatter root a b) root_in asks known i l = Holds _ (scatter-value k s root root_in val asks.1.all asks.0.1 known i l ∙ ap (part (i * block_length s) (block_length s)) asks.0.0 ∙ block_is i (at xs root) (len_at root asks.0))
+  step-value (Scan o a b) root_in asks known i l = Holds _ (scan-value k s o val (at xs) small whole asks known i l
+      ∙ fold_is o (suc i) (len_at 0 (asks 0 pos)))
+  step-value (Scatter root a b) root_in asks known i l = Holds _ (scatter-value k s root root_in val asks.1.all asks.0.1 known i l
+      ∙ ap (part (i * block_length s) (block_length s)) asks.0.0 ∙ block_is i (at xs root) (len_at root asks.0))
   step-value (Reducescatter o a b) root_in asks known i l =
-      Holds _ (reducescatter-value k s o val (at xs) pos whole asks.1.all asks.0 known i l ∙ ap (part (i * block_length s) (block_length s)) (fold_all o (len_at 0 (asks.0 0 pos)))
+      Holds _ (reducescatter-value k s o val (at xs) pos whole asks.1.all asks.0 known i l
+          ∙ ap (part (i * block_length s) (block_length s)) (fold_all o (len_at 0 (asks.0 0 pos)))
       ∙ block_is i (reduced o s.ty (length xs) xs) (fold_long o (len_at 0 (asks.0 0 pos))))
   step-value (Exscan o a b) root_in asks known zero l = IsEmpty refl
-  step-value (Exscan o a b) root_in asks known (suc j) l = Holds _ (exscan-value k s o val (at xs) small whole asks known j l ∙ fold_is o (suc j) (len_at 0 (asks 0 pos)))
+  step-value (Exscan o a b) root_in asks known (suc j) l = Holds _ (exscan-value k s o val (at xs) small whole asks known j l
+      ∙ fold_is o (suc j) (len_at 0 (asks 0 pos)))
   step-value (Gatherv root a b) root_in asks known i l =
-      rooted (i == root) (further s 0) (entry s i) (joined_lists xs) (gatherv-value k s root asks.0.test asks.0.is val (at xs) asks.1 asks.2 known ∙ joined)
+      rooted (i == root) (further s 0) (entry s i) (joined_lists xs)
+          (gatherv-value k s root asks.0.test asks.0.is val (at xs) asks.1 asks.2 known ∙ joined)

@@ -1,5 +1,7 @@
 -- The plan of a shape is sound, and the cells that hold its buffers hold what they mean.
-use Rattle.std.proofs.Common.{ℕ, zero, suc, Bool, true, false, cond, ◌+◌, ◌-◌, ◌*◌, ◌/◌, ◌%◌, ◌^◌, div-add-mod', mod-lt, ◌≡◌, ◌≤◌, ◌<◌, ◌⊎◌, inl, inr, eq-or-lt_of_le, List, [], ◌∷◌, refl, length, get_or, ap, ap₂, ◌∙◌, sym, subst, arith, Option, Some, None, nat_lt, sum_by, le_of_suc-le-suc}
+use Rattle.std.proofs.Common.{ℕ, zero, suc, Bool, true, false, cond, ◌+◌, ◌-◌, ◌*◌, ◌/◌, ◌%◌, ◌^◌, div-add-mod', mod-lt, ◌≡◌, ◌≤◌, ◌<◌, ◌⊎◌,
+    inl, inr, eq-or-lt_of_le, List, [], ◌∷◌, refl, length, get_or, ap, ap₂, ◌∙◌, sym, subst, arith, Option, Some, None, nat_lt, sum_by,
+    le_of_suc-le-suc}
 use Rattle.std.proofs.Math.Nat.{mul-le-mul_right, mul-le-mul_left, lt_of_mul-lt-mul_right}
 use Rattle.std.proofs.lemmas.Bool.{ltb-false}
 use Rattle.std.proofs.lemmas.List.Sums.{sum_by-cons}
@@ -49,12 +51,15 @@ use Rattle.shape_plans.specs.declared.judging.TheConstants.{MOST_LINKS, MOST_BYT
 abbrev IsFine : Outline → ℕ → Drawing → Type 0
 IsFine o m d = Fine o m d.plan d.held d.exits
 
-begins : (o : Outline) → IsWellFormed o → Begun o o.inputs (drawn_inputs o o.inputs).plan (drawn_inputs o o.inputs).held (drawn_inputs o o.inputs).exits
+begins : (o : Outline) → IsWellFormed o → Begun o o.inputs (drawn_inputs o o.inputs).plan (drawn_inputs o o.inputs).held
+    (drawn_inputs o o.inputs).exits
 begins o a = begun o a.shape.some_rank a.shape.few_ranks o.inputs a.shape.few_inputs
 
-fine_upto : (o : Outline) → IsWellFormed o → (k : ℕ) → k ≤ length o.steps → Fine o (made_upto o k) (drawn_upto o k).plan (drawn_upto o k).held (drawn_upto o k).exits
+fine_upto : (o : Outline) → IsWellFormed o → (k : ℕ) → k ≤ length o.steps →
+    Fine o (made_upto o k) (drawn_upto o k).plan (drawn_upto o k).held (drawn_upto o k).exits
 unfolding drawn_upto
-fine_upto o a zero h = fine-begun o (drawn_inputs o o.inputs).plan (drawn_inputs o o.inputs).held (drawn_inputs o o.inputs).exits a.held (begins o a)
+fine_upto o a zero h = fine-begun o (drawn_inputs o o.inputs).plan (drawn_inputs o o.inputs).held (drawn_inputs o o.inputs).exits a.held
+    (begins o a)
 fine_upto o a (suc k) h =
     let d = drawn_upto o k in
     let g = group_at o k in
@@ -65,7 +70,8 @@ fine_upto o a (suc k) h =
 
 pub fine-shape : (o : Outline) → IsWellFormed o → Fine o (length o.buffers) (drawing_of o).plan (drawing_of o).held (drawing_of o).exits
 unfolding drawing_of
-fine-shape o a = let d = drawn_upto o (length o.steps) in subst (λ v. Fine o v d.plan d.held d.exits) a.all (fine_upto o a (length o.steps) (omega arith))
+fine-shape o a = let d = drawn_upto o (length o.steps) in subst (λ v. Fine o v d.plan d.held d.exits) a.all
+    (fine_upto o a (length o.steps) (omega arith))
 
 -- ---- values
 -- the lists have the lengths of the input cells
@@ -87,9 +93,11 @@ record Meant (o : Outline) (inputs : Inputs) (m : ℕ) (d : Drawing) (lists : Li
   fit : AreInputsOf d.plan inputs
   means : Means o inputs m d.plan d.held lists
 
-meant_all : (o : Outline) (inputs : Inputs) → IsWellFormed o → AreInputs o inputs → (k : ℕ) → k ≤ length o.steps → Meant o inputs (made_upto o k) (drawn_upto o k) (meant_upto o inputs k)
+meant_all : (o : Outline) (inputs : Inputs) → IsWellFormed o → AreInputs o inputs → (k : ℕ) → k ≤ length o.steps →
+    Meant o inputs (made_upto o k) (drawn_upto o k) (meant_upto o inputs k)
 unfolding drawn_upto meant_upto
-meant_all o inputs a ins zero h = record { fit = fit_begin o inputs a ins; means = means-begun o inputs (drawn_inputs o o.inputs).plan (drawn_inputs o o.inputs).held (drawn_inputs o o.inputs).exits ins.many (begins o a) }
+meant_all o inputs a ins zero h = record { fit = fit_begin o inputs a ins; means = means-begun o inputs (drawn_inputs o o.inputs).plan
+    (drawn_inputs o o.inputs).held (drawn_inputs o o.inputs).exits ins.many (begins o a) }
 meant_all o inputs a ins (suc k) h =
     let d = drawn_upto o k in
     let g = group_at o k in
@@ -99,8 +107,10 @@ meant_all o inputs a ins (suc k) h =
     let f = fine_upto o a k (omega arith) in
     let s = a.fits k (omega arith) in
     let w = sym (add_all-with d.plan (cells_of (site o d t g) t)) in record {
-      fit = subst (λ v. AreInputsOf v inputs) w (fit_after o inputs ins.many (made_upto o k) d.plan d.held d.exits (meant_upto o inputs k) g t f m.fit m.means s);
-      means = subst (λ v. Means o inputs (made_upto o (suc k)) v e.held (meant_upto o inputs (suc k))) w (means_after o inputs ins.many (made_upto o k) d.plan d.held d.exits (meant_upto o inputs k) g f m.fit m.means t s);
+      fit = subst (λ v. AreInputsOf v inputs) w (fit_after o inputs ins.many (made_upto o k) d.plan d.held d.exits (meant_upto o inputs k)
+          g t f m.fit m.means s);
+      means = subst (λ v. Means o inputs (made_upto o (suc k)) v e.held (meant_upto o inputs (suc k))) w
+          (means_after o inputs ins.many (made_upto o k) d.plan d.held d.exits (meant_upto o inputs k) g f m.fit m.means t s);
     }
 
 pub inputs_fit : (o : Outline) (inputs : Inputs) → IsWellFormed o → AreInputs o inputs → AreInputsOf (plan_of o) inputs
@@ -108,9 +118,11 @@ unfolding drawing_of
 inputs_fit o inputs a ins = (meant_all o inputs a ins (length o.steps) (omega arith)).fit
 
 pub meaning : (o : Outline) (inputs : Inputs) → IsWellFormed o → AreInputs o inputs
-    → (b r : ℕ) → b < length o.buffers → r < o.ranks → IsResult (value (plan_of o) inputs) (at (lists_of (meaning_of o inputs) b) r) (held_cell (drawing_of o).held b r)
+    → (b r : ℕ) → b < length o.buffers → r < o.ranks → IsResult (value (plan_of o) inputs) (at (lists_of (meaning_of o inputs) b) r)
+        (held_cell (drawing_of o).held b r)
 unfolding drawing_of meaning_of
-meaning o inputs a ins b r k l = (meant_all o inputs a ins (length o.steps) (omega arith)).means.lists b r (let w = a.all in omega (arith, w, k)) l
+meaning o inputs a ins b r k l = (meant_all o inputs a ins (length o.steps) (omega arith)).means.lists b r
+    (let w = a.all in omega (arith, w, k)) l
 
 -- ---- sizes
 member_le : (f : Cell → ℕ) (xs : List Cell) (c : ℕ) → c < length xs → f (get_or xs c no_cell) ≤ sum_by f xs
@@ -127,7 +139,8 @@ sum_le (x ∷ xs) m h =
     let q : suc (length xs) * m ≡ m + length xs * m = omega arith in
     omega (arith, e, a, b, q)
 
-small_enough : (p : Plan) (inputs : ℕ) → WellBuilt p (inputs * p.ranks) → length p.links ≤ MOST_LINKS → sum_by (λ k. k.length) p.cells ≤ 1073741824 → SoundPlan p inputs
+small_enough : (p : Plan) (inputs : ℕ) → WellBuilt p (inputs * p.ranks) → length p.links ≤ MOST_LINKS →
+    sum_by (λ k. k.length) p.cells ≤ 1073741824 → SoundPlan p inputs
 small_enough p inputs b at_most small = record {
   some_rank = b.some_rank;
   few_ranks = b.few_ranks;
@@ -143,7 +156,8 @@ small_enough p inputs b at_most small = record {
   all_go = b.all_go;
   few_cells = (let m = b.many_links in let n = b.few_ranks in omega arith);
   few_together = (let m = b.many_links in let n = b.few_ranks in omega arith);
-  few_bytes = (let s = sum_le p.links 1073741824 (λ l h. let k = b.links_sound l h in let w = k.within_source in let up = k.rising in let top = k.cells in let i = member_le (λ k. k.length) p.cells (link p l).source (omega arith) in omega arith) in
+  few_bytes = (let s = sum_le p.links 1073741824 (λ l h. let k = b.links_sound l h in let w = k.within_source in let up = k.rising in
+                     let top = k.cells in let i = member_le (λ k. k.length) p.cells (link p l).source (omega arith) in omega arith) in
       let t : length p.links * 1073741824 ≤ MOST_LINKS * 1073741824 = mul-le-mul_right 1073741824 at_most in omega arith);
 }
 
@@ -161,7 +175,8 @@ no_refusal e = cc
 judged_within : (p : Plan) → judged (size_of p) ≡ None → Within p
 judged_within p e = at_links (nat_lt MOST_LINKS (length p.links)) refl e
   where
-    at_links : (b : Bool) → nat_lt MOST_LINKS (length p.links) ≡ b → cond b (Some Excess.Links) (cond (nat_lt MOST_BYTES (sum_by (λ k. k.length) p.cells)) (Some Excess.Bytes) None) ≡ None → Within p
+    at_links : (b : Bool) → nat_lt MOST_LINKS (length p.links) ≡ b →
+        cond b (Some Excess.Links) (cond (nat_lt MOST_BYTES (sum_by (λ k. k.length) p.cells)) (Some Excess.Bytes) None) ≡ None → Within p
     at_links true f e = absurd (no_name e)
     at_links false f e = at_bytes (nat_lt MOST_BYTES (sum_by (λ k. k.length) p.cells)) refl e
       where
@@ -174,8 +189,10 @@ none_refused o zero k w e = subst (λ v. Within (drawn_upto o v).plan) (let z : 
 none_refused o (suc n) k w e = by (judged (footprint o k)) refl e (λ v f. none_refused o n (suc k) v f)
   where
     by : (x : Option Excess) → judged (footprint o k) ≡ x → refused_at k x (refusal_from o (suc k) n) ≡ None
-        → (Within (drawn_upto o (suc k)).plan → refusal_from o (suc k) n ≡ None → Within (drawn_upto o (suc k + n)).plan) → Within (drawn_upto o (k + suc n)).plan
-    by None j f later = subst (λ v. Within (drawn_upto o v).plan) (let z : suc k + n ≡ k + suc n = omega arith in z) (later (judged_within (drawn_upto o (suc k)).plan j) f)
+        → (Within (drawn_upto o (suc k)).plan → refusal_from o (suc k) n ≡ None → Within (drawn_upto o (suc k + n)).plan) →
+            Within (drawn_upto o (k + suc n)).plan
+    by None j f later = subst (λ v. Within (drawn_upto o v).plan) (let z : suc k + n ≡ k + suc n = omega arith in z)
+        (later (judged_within (drawn_upto o (suc k)).plan j) f)
     by (Some name) j f later = absurd (no_refusal f)
 
 eight : (ty : ElemType) → bytes_of ty ≤ 8
@@ -239,19 +256,22 @@ unfolding drawing_of
 sound o a none =
     let f = fine_upto o a (length o.steps) (omega arith) in
     let w = within o a none in
-    small_enough (drawn_upto o (length o.steps)).plan o.inputs (subst (λ v. WellBuilt (drawn_upto o (length o.steps)).plan (o.inputs * v)) (sym f.ranks) f.built) w.links w.bytes
+    small_enough (drawn_upto o (length o.steps)).plan o.inputs (subst (λ v. WellBuilt (drawn_upto o (length o.steps)).plan (o.inputs * v))
+        (sym f.ranks) f.built) w.links w.bytes
 
 -- ---- barriers
 extends_steps : (o : Outline) (inputs : Inputs) (n k : ℕ) → Extends (drawn_upto o k).plan (drawn_upto o (k + n)).plan inputs
 unfolding drawn_upto
-extends_steps o inputs zero k = subst (λ v. Extends (drawn_upto o k).plan (drawn_upto o v).plan inputs) (let z : k ≡ k + 0 = omega arith in z) (extends-refl (drawn_upto o k).plan inputs)
+extends_steps o inputs zero k = subst (λ v. Extends (drawn_upto o k).plan (drawn_upto o v).plan inputs)
+    (let z : k ≡ k + 0 = omega arith in z) (extends-refl (drawn_upto o k).plan inputs)
 extends_steps o inputs (suc n) k =
     let d = drawn_upto o k in
     let t = step_at o k in
     let g = group_at o k in
     subst (λ v. Extends d.plan (drawn_upto o v).plan inputs) (let z : suc k + n ≡ k + suc n = omega arith in z)
     (extends-trans d.plan (drawn_upto o (suc k)).plan (drawn_upto o (suc k + n)).plan inputs
-    (subst (λ v. Extends d.plan v inputs) (sym (add_all-with d.plan (cells_of (site o d t g) t))) (extends-all d.plan (cells_of (site o d t g) t) inputs))
+    (subst (λ v. Extends d.plan v inputs) (sym (add_all-with d.plan (cells_of (site o d t g) t)))
+        (extends-all d.plan (cells_of (site o d t g) t) inputs))
     (extends_steps o inputs n (suc k)))
 
 dummies : ℕ → Inputs
@@ -266,25 +286,31 @@ length-dummies (suc n) = ap suc (length-dummies n)
 -- the rounds of a barrier right after it
 record AreRounds (q : Plan) (s : StepContext) : Type 0 where
   stays : (j r : ℕ) → j < rounds (count s) → r < count s → Comes q (in_row s j r) (in_row s (suc j) r)
-  comes : (j m r : ℕ) → j < rounds (count s) → m < count s → r < count s → (m + 2 ^ j) % count s ≡ r → Comes q (in_row s j m) (in_row s (suc j) r)
+  comes : (j m r : ℕ) → j < rounds (count s) → m < count s → r < count s → (m + 2 ^ j) % count s ≡ r →
+      Comes q (in_row s j m) (in_row s (suc j) r)
   inside : (j r : ℕ) → j ≤ rounds (count s) → r < count s → in_row s j r < length q.cells
 
-barrier_now : (o : Outline) (m : ℕ) (p : Plan) (h : HeldCells) (e : List ℕ) (g : List ℕ) → (fine : Fine o m p h e) → (fits : StepFits o m g Barrier)
-    → AreRounds (with_cells p (cells_of (Rattle.plan_steps.specs.Beginning.site_of o p h e None g) Barrier)) (Rattle.plan_steps.specs.Beginning.site_of o p h e None g)
+barrier_now : (o : Outline) (m : ℕ) (p : Plan) (h : HeldCells) (e : List ℕ) (g : List ℕ) → (fine : Fine o m p h e) →
+    (fits : StepFits o m g Barrier)
+    → AreRounds (with_cells p (cells_of (Rattle.plan_steps.specs.Beginning.site_of o p h e None g) Barrier))
+        (Rattle.plan_steps.specs.Beginning.site_of o p h e None g)
 barrier_now o m p h e g fine fits =
     let s = Rattle.plan_steps.specs.Beginning.site_of o p h e None g in
     let q = with_cells p (cells_of s Barrier) in
     let ins = dummies o.inputs in
     let c : length (dummies o.inputs) * p.ranks ≡ o.inputs * o.ranks = ap₂ (λ u v. u * v) (length-dummies o.inputs) fine.ranks in
-    let dr = drawn_all p (cells_of s Barrier) ins (subst (WellBuilt p) (sym c) fine.built) (let b = fine.behind in let r = fine.ranks in omega (arith, b, r, c)) (sound_cells o m p h e g fine Barrier fits) in record {
+    let dr = drawn_all p (cells_of s Barrier) ins (subst (WellBuilt p) (sym c) fine.built) (let b = fine.behind in let r = fine.ranks in
+          omega (arith, b, r, c)) (sound_cells o m p h e g fine Barrier fits) in record {
       stays = λ j r t l. round-stays q ins s fits.members.some fits.members.at_most dr j r t l;
       comes = λ j m r t k l z. round-comes q ins s fits.members.some fits.members.at_most dr j m r t k l z;
       inside = λ j r t l. round-inside q ins s fits.members.some fits.members.at_most dr j r t l;
     }
 
-plan_next : (o : Outline) (k : ℕ) → step_at o k ≡ Barrier → (drawn_upto o (suc k)).plan ≡ with_cells (drawn_upto o k).plan (cells_of (site o (drawn_upto o k) Barrier (group_at o k)) Barrier)
+plan_next : (o : Outline) (k : ℕ) → step_at o k ≡ Barrier → (drawn_upto o (suc k)).plan ≡ with_cells (drawn_upto o k).plan
+    (cells_of (site o (drawn_upto o k) Barrier (group_at o k)) Barrier)
 unfolding drawn_upto
-plan_next o k e = add_all-with (drawn_upto o k).plan (cells_of (site o (drawn_upto o k) (step_at o k) (group_at o k)) (step_at o k)) ∙ ap (λ t. with_cells (drawn_upto o k).plan (cells_of (site o (drawn_upto o k) t (group_at o k)) t)) e
+plan_next o k e = add_all-with (drawn_upto o k).plan (cells_of (site o (drawn_upto o k) (step_at o k) (group_at o k)) (step_at o k))
+    ∙ ap (λ t. with_cells (drawn_upto o k).plan (cells_of (site o (drawn_upto o k) t (group_at o k)) t)) e
 
 -- in the whole plan
 record BarrierOf (o : Outline) (k : ℕ) : Type 0 where
@@ -298,13 +324,18 @@ barrier_of o a k h is =
     let s = site o d Barrier g in
     let f = fine_upto o a k (omega arith) in
     let fits : StepFits o (made_upto o k) g Barrier = subst (StepFits o (made_upto o k) g) is (a.fits k h) in
-    let now : AreRounds (drawn_upto o (suc k)).plan s = subst (λ v. AreRounds v s) (sym (plan_next o k is)) (barrier_now o (made_upto o k) d.plan d.held d.exits g f fits) in
+    let now : AreRounds (drawn_upto o (suc k)).plan s = subst (λ v. AreRounds v s) (sym (plan_next o k is))
+          (barrier_now o (made_upto o k) d.plan d.held d.exits g f fits) in
     let ins = dummies 0 in
-    let more : Extends (drawn_upto o (suc k)).plan (drawn_upto o (length o.steps)).plan ins = subst (λ w. Extends (drawn_upto o (suc k)).plan (drawn_upto o w).plan ins) (left k (length o.steps) h) (extends_steps o ins (steps_left k (length o.steps)) (suc k)) in
+    let more : Extends (drawn_upto o (suc k)).plan (drawn_upto o (length o.steps)).plan ins =
+          subst (λ w. Extends (drawn_upto o (suc k)).plan (drawn_upto o w).plan ins) (left k (length o.steps) h)
+          (extends_steps o ins (steps_left k (length o.steps)) (suc k)) in
     record {
       rounds_are = record {
-        stays = λ j r t l. comes-extends (drawn_upto o (suc k)).plan (drawn_upto o (length o.steps)).plan ins more (in_row s j r) (in_row s (suc j) r) (now.inside (suc j) r t l) (now.stays j r t l);
-        comes = λ j m r t u l z. comes-extends (drawn_upto o (suc k)).plan (drawn_upto o (length o.steps)).plan ins more (in_row s j m) (in_row s (suc j) r) (now.inside (suc j) r t l) (now.comes j m r t u l z);
+        stays = λ j r t l. comes-extends (drawn_upto o (suc k)).plan (drawn_upto o (length o.steps)).plan ins more (in_row s j r)
+            (in_row s (suc j) r) (now.inside (suc j) r t l) (now.stays j r t l);
+        comes = λ j m r t u l z. comes-extends (drawn_upto o (suc k)).plan (drawn_upto o (length o.steps)).plan ins more (in_row s j m)
+            (in_row s (suc j) r) (now.inside (suc j) r t l) (now.comes j m r t u l z);
         inside = λ j r t l. let x = now.inside j r t l in let y = more.longer in omega (arith, x, y);
       };
     }
@@ -316,17 +347,21 @@ barrier_of o a k h is =
     left k n h = omega arith
 
 pub barrier-rounds : (o : Outline) → IsWellFormed o → (k : ℕ) → k < length o.steps → step_at o k ≡ Barrier
-    → IsRounds (plan_of o) (length (group_at o k)) (rounds (length (group_at o k))) (in_row (site o (drawn_upto o k) Barrier (group_at o k)))
+    → IsRounds (plan_of o) (length (group_at o k)) (rounds (length (group_at o k)))
+        (in_row (site o (drawn_upto o k) Barrier (group_at o k)))
 barrier-rounds o a k h is =
     let b = (barrier_of o a k h is).rounds_are in
-    record { stays = λ j r t l. b.stays j r t l; comes = λ j m r t u l z. b.comes j m r t u l z; enough = rounds-enough (length (group_at o k)) (a.shape.members k h).at_most }
+    record { stays = λ j r t l. b.stays j r t l; comes = λ j m r t u l z. b.comes j m r t u l z; enough =
+        rounds-enough (length (group_at o k)) (a.shape.members k h).at_most }
 
 pub barrier-cells : (o : Outline) → IsWellFormed o → (k : ℕ) → k < length o.steps → step_at o k ≡ Barrier
-    → (j r : ℕ) → j ≤ rounds (length (group_at o k)) → r < length (group_at o k) → in_row (site o (drawn_upto o k) Barrier (group_at o k)) j r < length (plan_of o).cells
+    → (j r : ℕ) → j ≤ rounds (length (group_at o k)) → r < length (group_at o k) → in_row (site o (drawn_upto o k) Barrier (group_at o k))
+        j r < length (plan_of o).cells
 barrier-cells o a k h is j r t l = (barrier_of o a k h is).rounds_are.inside j r t l
 
 -- ---- the cells that hold buffers
-pub result-cell : (o : Outline) → IsWellFormed o → (b r c : ℕ) → b < length o.buffers → r < o.ranks → held_cell (drawing_of o).held b r ≡ Some c → IsResultCell (plan_of o) (buffer_at o b) r c
+pub result-cell : (o : Outline) → IsWellFormed o → (b r c : ℕ) → b < length o.buffers → r < o.ranks →
+    held_cell (drawing_of o).held b r ≡ Some c → IsResultCell (plan_of o) (buffer_at o b) r c
 result-cell o a b r c k l z =
     let f = fine-shape o a in
     let w = f.holders b r k l (f.held_in b r c k l z).1 in
@@ -337,11 +372,13 @@ result-cell o a b r c k l z =
     one f = cc
 
 -- a cell holds a buffer exactly at its holders
-pub held-holder : (o : Outline) → IsWellFormed o → (b r c : ℕ) → b < length o.buffers → r < o.ranks → held_cell (drawing_of o).held b r ≡ Some c → In r (buffer_at o b).spread.holders
+pub held-holder : (o : Outline) → IsWellFormed o → (b r c : ℕ) → b < length o.buffers → r < o.ranks →
+    held_cell (drawing_of o).held b r ≡ Some c → In r (buffer_at o b).spread.holders
 held-holder o a b r c k l z = ((fine-shape o a).held_in b r c k l z).1
 
 -- a buffer that some rank holds has an element there
-long_upto : (o : Outline) → IsWellFormed o → (k : ℕ) → k ≤ length o.steps → (b r : ℕ) → b < made_upto o k → In r (buffer_at o b).spread.holders → 1 ≤ (buffer_at o b).spread.length
+long_upto : (o : Outline) → IsWellFormed o → (k : ℕ) → k ≤ length o.steps → (b r : ℕ) → b < made_upto o k →
+    In r (buffer_at o b).spread.holders → 1 ≤ (buffer_at o b).spread.length
 long_upto o a zero h b r l i = a.some b l
 long_upto o a (suc k) h b r l i = by (kind_of (step_at o k)) (λ b r l i. long_upto o a k (omega arith) b r l i)
   where
@@ -351,7 +388,8 @@ long_upto o a (suc k) h b r l i = by (kind_of (step_at o k)) (λ b r l i. long_u
     Longs : ℕ → Type 0
     Longs m = (b r : ℕ) → b < m → In r (buffer_at o b).spread.holders → 1 ≤ (buffer_at o b).spread.length
 
-    by : Kind (step_at o k) → ((b r : ℕ) → b < made_upto o k → In r (buffer_at o b).spread.holders → 1 ≤ (buffer_at o b).spread.length) → 1 ≤ (buffer_at o b).spread.length
+    by : Kind (step_at o k) → ((b r : ℕ) → b < made_upto o k → In r (buffer_at o b).spread.holders → 1 ≤ (buffer_at o b).spread.length) →
+        1 ≤ (buffer_at o b).spread.length
     by (Plain src res) before = before b r (subst (λ v. b < and_one v (made_upto o k)) res l) i
     by (Makes x y src res) before = at (eq-or-lt_of_le (le_of_suc-le-suc (subst (λ v. b < and_one v (made_upto o k)) res l)))
       where
@@ -360,23 +398,30 @@ long_upto o a (suc k) h b r l i = by (kind_of (step_at o k)) (λ b r l i. long_u
         at (inl e) =
             let n = fits.next y res in
             let e' : b ≡ y = omega (arith, e, n) in
-            let makes : buffer_at o b ≡ named (buffer_at o y).name (buffer_after (group_at o k) (step_at o k) (read_buffer o (source_of (step_at o k)))) = ap (buffer_at o) e' ∙ fits.makes y res in
-            let long = after-long (group_at o k) (step_at o k) (read_buffer o (source_of (step_at o k))) fits.members.some fits.reads (λ q j. subst (λ v. In q (read_buffer o v).spread.holders → 1 ≤ (read_buffer o v).spread.length) (sym src) (before x q (fits.source x src)) j) r (subst (λ (v : Buffer). In r v.spread.holders) makes i) in
+            let makes : buffer_at o b ≡ named (buffer_at o y).name
+                  (buffer_after (group_at o k) (step_at o k) (read_buffer o (source_of (step_at o k)))) = ap (buffer_at o) e'
+                  ∙ fits.makes y res in
+            let long = after-long (group_at o k) (step_at o k) (read_buffer o (source_of (step_at o k))) fits.members.some fits.reads
+                  (λ q j. subst (λ v. In q (read_buffer o v).spread.holders → 1 ≤ (read_buffer o v).spread.length) (sym src)
+                  (before x q (fits.source x src)) j) r (subst (λ (v : Buffer). In r v.spread.holders) makes i) in
             subst (λ (v : Buffer). 1 ≤ v.spread.length) (sym makes) long
 
-pub held-long : (o : Outline) → IsWellFormed o → (b r : ℕ) → b < length o.buffers → In r (buffer_at o b).spread.holders → 1 ≤ (buffer_at o b).spread.length
+pub held-long : (o : Outline) → IsWellFormed o → (b r : ℕ) → b < length o.buffers → In r (buffer_at o b).spread.holders →
+    1 ≤ (buffer_at o b).spread.length
 held-long o a b r k i = long_upto o a (length o.steps) (omega arith) b r (let w = a.all in omega (arith, w, k)) i
 
 -- no cell holds it exactly where the list is empty
 pub value-held : (o : Outline) (inputs : Inputs) → IsWellFormed o → AreInputs o inputs → (b r c : ℕ) → b < length o.buffers → r < o.ranks
     → held_cell (drawing_of o).held b r ≡ Some c → value (plan_of o) inputs c ≡ at (lists_of (meaning_of o inputs) b) r
-value-held o inputs a ins b r c k l z = result-at (value (plan_of o) inputs) (at (lists_of (meaning_of o inputs) b) r) (held_cell (drawing_of o).held b r) c (meaning o inputs a ins b r k l) z
+value-held o inputs a ins b r c k l z = result-at (value (plan_of o) inputs) (at (lists_of (meaning_of o inputs) b) r)
+    (held_cell (drawing_of o).held b r) c (meaning o inputs a ins b r k l) z
 
 pub unheld-empty : (o : Outline) (inputs : Inputs) → IsWellFormed o → AreInputs o inputs → (b r : ℕ) → b < length o.buffers → r < o.ranks
     → held_cell (drawing_of o).held b r ≡ None → at (lists_of (meaning_of o inputs) b) r ≡ []
 unheld-empty o inputs a ins b r k l z = by (held_cell (drawing_of o).held b r) z (meaning o inputs a ins b r k l)
   where
-    by : (v : Option ℕ) → v ≡ None → IsResult (value (plan_of o) inputs) (at (lists_of (meaning_of o inputs) b) r) v → at (lists_of (meaning_of o inputs) b) r ≡ []
+    by : (v : Option ℕ) → v ≡ None → IsResult (value (plan_of o) inputs) (at (lists_of (meaning_of o inputs) b) r) v →
+        at (lists_of (meaning_of o inputs) b) r ≡ []
     by None e (IsEmpty h) = h
     by (Some c) e h = cc
 

@@ -1,5 +1,6 @@
 -- What the held cells hold is what the buffers mean, and a step keeps that.
-use Rattle.std.proofs.Common.{ℕ, suc, true, false, ◌+◌, ◌*◌, ◌/◌, ◌%◌, ◌≡◌, ◌<◌, List, [], ◌∷◌, refl, length, get_or, ap, ◌∙◌, sym, subst, inl, inr, arith, Option, Some, None}
+use Rattle.std.proofs.Common.{ℕ, suc, true, false, ◌+◌, ◌*◌, ◌/◌, ◌%◌, ◌≡◌, ◌<◌, List, [], ◌∷◌, refl, length, get_or, ap, ◌∙◌, sym, subst,
+    inl, inr, arith, Option, Some, None}
 use Rattle.std.proofs.lemmas.List.{get_or_append_left, get_or_at, length_push}
 use Rattle.plan_core.specs.declared.Cell.{Cell}
 use Rattle.plan_core.specs.Draw.{HeldCells, held_cell}
@@ -9,7 +10,8 @@ use Rattle.plan_core.specs.Values.{Inputs, value}
 use Rattle.plan_core.specs.Sound.{AreInputsOf}
 use Rattle.plan_core.proofs.Lists.{length-map'}
 use Rattle.coll_shape.specs.declared.types.CollStep.{CollStep}
-use Rattle.coll_shape.specs.declared.types.CollStep.TheVariants.{Barrier, Broadcast, Reduce, Allreduce, Gather, Allgather, Alltoall, Scan, Scatter, Reducescatter, Exscan, Gatherv}
+use Rattle.coll_shape.specs.declared.types.CollStep.TheVariants.{Barrier, Broadcast, Reduce, Allreduce, Gather, Allgather, Alltoall, Scan,
+    Scatter, Reducescatter, Exscan, Gatherv}
 use Rattle.coll_shape.specs.Outline.{Outline, buffer_at, read_buffer}
 use Rattle.coll_shape.specs.Collectives.{result_of, source_of, is_in, AllHold, list_after}
 use Rattle.plan_steps.specs.StepContext.{StepContext, source_at}
@@ -53,7 +55,8 @@ result-none : (val : ℕ → List ℕ) (list : List ℕ) (o : Option ℕ) → ((
 result-none val list (Some d) none r = absurd (none d refl)
 result-none val list None none (IsEmpty e) = e
 
-module _ (o : Outline) (inputs : Inputs) (all : length inputs ≡ o.inputs) (m : ℕ) (p : Plan) (h : HeldCells) (e : List ℕ) (means : List (List (List ℕ))) (g : List ℕ) (step : CollStep)
+module _ (o : Outline) (inputs : Inputs) (all : length inputs ≡ o.inputs) (m : ℕ) (p : Plan) (h : HeldCells) (e : List ℕ)
+    (means : List (List (List ℕ))) (g : List ℕ) (step : CollStep)
     (fine : Fine o m p h e) (fit : AreInputsOf p inputs) (meant : Means o inputs m p h means) (fits : StepFits o m g step) where
   abbrev s : StepContext
   s = Rattle.shape_plans.proofs.Whole.s o m p h e g step fine fits
@@ -69,8 +72,12 @@ module _ (o : Outline) (inputs : Inputs) (all : length inputs ≡ o.inputs) (m :
 
   pub fit_after : AreInputsOf q inputs
   fit_after i l =
-      let c = fine.built.input_cells i (let w = input_count in let z : i < length inputs * p.ranks = subst (λ v. i < length inputs * v) grown.ranks l in omega (arith, w, z)) in
-      ap (λ v. length (get_or (get_or inputs (i / v) []) (i % v) [])) grown.ranks ∙ fit i (subst (λ v. i < length inputs * v) grown.ranks l) ∙ sym (ap (λ v. (cell q (v + i)).length) grown.ranks ∙ ap (λ (k : Cell). k.length) (grown.same_cell (p.ranks + i) c.0))
+      let c = fine.built.input_cells i (let w = input_count in let z : i < length inputs * p.ranks =
+                                                                     subst (λ v. i < length inputs * v) grown.ranks l in
+                                                                     omega (arith, w, z)) in
+      ap (λ v. length (get_or (get_or inputs (i / v) []) (i % v) [])) grown.ranks
+          ∙ fit i (subst (λ v. i < length inputs * v) grown.ranks l)
+          ∙ sym (ap (λ v. (cell q (v + i)).length) grown.ranks ∙ ap (λ (k : Cell). k.length) (grown.same_cell (p.ranks + i) c.0))
 
   lens : (c : ℕ) → c < length q.cells → length (value q inputs c) ≡ (cell q c).length
   lens c l = length-value q inputs (o.inputs * o.ranks) (fine_after o m p h e g step fine fits).built fit_after c l
@@ -94,8 +101,11 @@ module _ (o : Outline) (inputs : Inputs) (all : length inputs ≡ o.inputs) (m :
       let same = held_is o m p h e g step fine fits a i f l c in
       let below = c.in_plan in
       let more = grown.longer in (
-        ap (value q inputs) same ∙ grown.same_value c.number below ∙ result-at (value p inputs) (at (lists_of means a) (get_or g i 0)) (held_cell h a (get_or g i 0)) c.number (meant.lists a (get_or g i 0) (fits.source a f) (fits.members.ranks i l)) c.is ∙ sym (taken-at a i l),
-        ap (λ x. length (value q inputs x)) same ∙ lens c.number (omega (arith, below, more)) ∙ ap (λ (k : Cell). k.length) (grown.same_cell c.number below) ∙ c.long ∙ sym (length_is o m p h e g step fine fits a f),
+        ap (value q inputs) same ∙ grown.same_value c.number below ∙ result-at (value p inputs) (at (lists_of means a) (get_or g i 0))
+            (held_cell h a (get_or g i 0)) c.number (meant.lists a (get_or g i 0) (fits.source a f) (fits.members.ranks i l)) c.is
+            ∙ sym (taken-at a i l),
+        ap (λ x. length (value q inputs x)) same ∙ lens c.number (omega (arith, below, more))
+            ∙ ap (λ (k : Cell). k.length) (grown.same_cell c.number below) ∙ c.long ∙ sym (length_is o m p h e g step fine fits a f),
       )
 
   pub all_a : (a : ℕ) → source_of step ≡ Some a → AllHold g (buffer_at o a) → (i : ℕ) → i < length g
@@ -106,7 +116,8 @@ module _ (o : Outline) (inputs : Inputs) (all : length inputs ≡ o.inputs) (m :
   pub none_a : (a i : ℕ) → source_of step ≡ Some a → i < length g → is_in i s.holding ≡ false → at (taken g (lists_of means a)) i ≡ []
   none_a a i f l w =
       taken-at a i l
-      ∙ result-none (value p inputs) (at (lists_of means a) (get_or g i 0)) (held_cell h a (get_or g i 0)) no_cell (meant.lists a (get_or g i 0) (fits.source a f) (fits.members.ranks i l))
+      ∙ result-none (value p inputs) (at (lists_of means a) (get_or g i 0)) (held_cell h a (get_or g i 0)) no_cell
+          (meant.lists a (get_or g i 0) (fits.source a f) (fits.members.ranks i l))
     where
       clash : false ≡ true → ⊥
       clash z = cc
@@ -114,17 +125,20 @@ module _ (o : Outline) (inputs : Inputs) (all : length inputs ≡ o.inputs) (m :
       no_cell : (c : ℕ) → held_cell h a (get_or g i 0) ≡ Some c → ⊥
       no_cell c z =
           let x = fine.held_in a (get_or g i 0) c (fits.source a f) (fits.members.ranks i l) z in
-          clash (sym w ∙ test_is o m p h e g step fine fits i l ∙ In-is_in (get_or g i 0) (read_buffer o (source_of step)).spread.holders (subst (λ v. In (get_or g i 0) (read_buffer o v).spread.holders) (sym f) x.1))
+          clash (sym w ∙ test_is o m p h e g step fine fits i l ∙ In-is_in (get_or g i 0) (read_buffer o (source_of step)).spread.holders
+              (subst (λ v. In (get_or g i 0) (read_buffer o v).spread.holders) (sym f) x.1))
 
   -- ---- buffers that were there
   old_lists : (b r : ℕ) → b < m → r < o.ranks → IsResult (value q inputs) (at (lists_of means b) r) (held_cell h b r)
-  old_lists b r k l = result-same (value p inputs) (value q inputs) (at (lists_of means b) r) (held_cell h b r) (λ c z. grown.same_value c (fine.held_in b r c k l z).0) (meant.lists b r k l)
+  old_lists b r k l = result-same (value p inputs) (value q inputs) (at (lists_of means b) r) (held_cell h b r)
+      (λ c z. grown.same_value c (fine.held_in b r c k l z).0) (meant.lists b r k l)
 
   pub means_plain : Means o inputs m q h means
   means_plain = record { many = meant.many; lists = old_lists }
 
 -- the step's values
-module _ (o : Outline) (inputs : Inputs) (all : length inputs ≡ o.inputs) (m : ℕ) (p : Plan) (h : HeldCells) (e : List ℕ) (means : List (List (List ℕ))) (g : List ℕ)
+module _ (o : Outline) (inputs : Inputs) (all : length inputs ≡ o.inputs) (m : ℕ) (p : Plan) (h : HeldCells) (e : List ℕ)
+    (means : List (List (List ℕ))) (g : List ℕ)
     (fine : Fine o m p h e) (fit : AreInputsOf p inputs) (meant : Means o inputs m p h means) where
   abbrev site : (step : CollStep) → StepFits o m g step → StepContext
   site step fits = Rattle.shape_plans.proofs.Whole.s o m p h e g step fine fits
@@ -134,55 +148,70 @@ module _ (o : Outline) (inputs : Inputs) (all : length inputs ≡ o.inputs) (m :
 
   abbrev Asked : (step : CollStep) → StepFits o m g step → ℕ → Type 0
   Asked step fits a =
-      AsksValues (cell (after step fits)) (value (after step fits) inputs) (site step fits) (taken g (lists_of means a)) fits.members.some fits.members.at_most
+      AsksValues (cell (after step fits)) (value (after step fits) inputs) (site step fits) (taken g (lists_of means a)) fits.members.some
+          fits.members.at_most
       (taken-many o inputs all m p h e means g step fine fit meant fits a) (whole_site o m p h e g step fine fits) step
 
   asks_values : (step : CollStep) (fits : StepFits o m g step) (a : ℕ) → source_of step ≡ Some a → Asked step fits a
   asks_values Barrier fits a f = cc
-  asks_values (Broadcast root a' b) fits a f = subst (λ v. Asked (Broadcast root a' b) fits v) (one f) (value_a o inputs all m p h e means g (Broadcast root a' b) fine fit meant fits a' root refl fits.root fits.reads)
+  asks_values (Broadcast root a' b) fits a f = subst (λ v. Asked (Broadcast root a' b) fits v) (one f)
+      (value_a o inputs all m p h e means g (Broadcast root a' b) fine fit meant fits a' root refl fits.root fits.reads)
     where
       one : {a b : ℕ} → Some a ≡ Some b → a ≡ b
       one h = cc
-  asks_values (Reduce root op a' b) fits a f = subst (λ v. Asked (Reduce root op a' b) fits v) (one f) (all_a o inputs all m p h e means g (Reduce root op a' b) fine fit meant fits a' refl fits.reads)
+  asks_values (Reduce root op a' b) fits a f = subst (λ v. Asked (Reduce root op a' b) fits v) (one f)
+      (all_a o inputs all m p h e means g (Reduce root op a' b) fine fit meant fits a' refl fits.reads)
     where
       one : {a b : ℕ} → Some a ≡ Some b → a ≡ b
       one h = cc
-  asks_values (Allreduce op a' b) fits a f = subst (λ v. Asked (Allreduce op a' b) fits v) (one f) (all_a o inputs all m p h e means g (Allreduce op a' b) fine fit meant fits a' refl fits.reads)
+  asks_values (Allreduce op a' b) fits a f = subst (λ v. Asked (Allreduce op a' b) fits v) (one f)
+      (all_a o inputs all m p h e means g (Allreduce op a' b) fine fit meant fits a' refl fits.reads)
     where
       one : {a b : ℕ} → Some a ≡ Some b → a ≡ b
       one h = cc
-  asks_values (Gather root a' b) fits a f = subst (λ v. Asked (Gather root a' b) fits v) (one f) (all_a o inputs all m p h e means g (Gather root a' b) fine fit meant fits a' refl fits.reads)
+  asks_values (Gather root a' b) fits a f = subst (λ v. Asked (Gather root a' b) fits v) (one f)
+      (all_a o inputs all m p h e means g (Gather root a' b) fine fit meant fits a' refl fits.reads)
     where
       one : {a b : ℕ} → Some a ≡ Some b → a ≡ b
       one h = cc
-  asks_values (Allgather a' b) fits a f = subst (λ v. Asked (Allgather a' b) fits v) (one f) (all_a o inputs all m p h e means g (Allgather a' b) fine fit meant fits a' refl fits.reads)
+  asks_values (Allgather a' b) fits a f = subst (λ v. Asked (Allgather a' b) fits v) (one f)
+      (all_a o inputs all m p h e means g (Allgather a' b) fine fit meant fits a' refl fits.reads)
     where
       one : {a b : ℕ} → Some a ≡ Some b → a ≡ b
       one h = cc
-  asks_values (Alltoall a' b) fits a f = subst (λ v. Asked (Alltoall a' b) fits v) (one f) (all_a o inputs all m p h e means g (Alltoall a' b) fine fit meant fits a' refl fits.reads.0, blocks o m p h e g (Alltoall a' b) fine fits fits.reads.1)
+  asks_values (Alltoall a' b) fits a f = subst (λ v. Asked (Alltoall a' b) fits v) (one f)
+      (all_a o inputs all m p h e means g (Alltoall a' b) fine fit meant fits a' refl fits.reads.0,
+      blocks o m p h e g (Alltoall a' b) fine fits fits.reads.1)
     where
       one : {a b : ℕ} → Some a ≡ Some b → a ≡ b
       one h = cc
-  asks_values (Scan op a' b) fits a f = subst (λ v. Asked (Scan op a' b) fits v) (one f) (all_a o inputs all m p h e means g (Scan op a' b) fine fit meant fits a' refl fits.reads)
+  asks_values (Scan op a' b) fits a f = subst (λ v. Asked (Scan op a' b) fits v) (one f)
+      (all_a o inputs all m p h e means g (Scan op a' b) fine fit meant fits a' refl fits.reads)
     where
       one : {a b : ℕ} → Some a ≡ Some b → a ≡ b
       one h = cc
-  asks_values (Scatter root a' b) fits a f = subst (λ v. Asked (Scatter root a' b) fits v) (one f) (value_a o inputs all m p h e means g (Scatter root a' b) fine fit meant fits a' root refl fits.root fits.reads.0, blocks o m p h e g (Scatter root a' b) fine fits fits.reads.1)
+  asks_values (Scatter root a' b) fits a f = subst (λ v. Asked (Scatter root a' b) fits v) (one f)
+      (value_a o inputs all m p h e means g (Scatter root a' b) fine fit meant fits a' root refl fits.root fits.reads.0,
+      blocks o m p h e g (Scatter root a' b) fine fits fits.reads.1)
     where
       one : {a b : ℕ} → Some a ≡ Some b → a ≡ b
       one h = cc
-  asks_values (Reducescatter op a' b) fits a f = subst (λ v. Asked (Reducescatter op a' b) fits v) (one f) (all_a o inputs all m p h e means g (Reducescatter op a' b) fine fit meant fits a' refl fits.reads.0, blocks o m p h e g (Reducescatter op a' b) fine fits fits.reads.1)
+  asks_values (Reducescatter op a' b) fits a f = subst (λ v. Asked (Reducescatter op a' b) fits v) (one f)
+      (all_a o inputs all m p h e means g (Reducescatter op a' b) fine fit meant fits a' refl fits.reads.0,
+      blocks o m p h e g (Reducescatter op a' b) fine fits fits.reads.1)
     where
       one : {a b : ℕ} → Some a ≡ Some b → a ≡ b
       one h = cc
-  asks_values (Exscan op a' b) fits a f = subst (λ v. Asked (Exscan op a' b) fits v) (one f) (all_a o inputs all m p h e means g (Exscan op a' b) fine fit meant fits a' refl fits.reads)
+  asks_values (Exscan op a' b) fits a f = subst (λ v. Asked (Exscan op a' b) fits v) (one f)
+      (all_a o inputs all m p h e means g (Exscan op a' b) fine fit meant fits a' refl fits.reads)
     where
       one : {a b : ℕ} → Some a ≡ Some b → a ≡ b
       one h = cc
   asks_values (Gatherv root a' b) fits a f =
       subst (λ v. Asked (Gatherv root a' b) fits v) (one f) (
         holding o m p h e g (Gatherv root a' b) fine fits,
-        λ i l w. value_a o inputs all m p h e means g (Gatherv root a' b) fine fit meant fits a' i refl l (does_hold o m p h e g (Gatherv root a' b) fine fits a' i refl l w),
+        λ i l w. value_a o inputs all m p h e means g (Gatherv root a' b) fine fit meant fits a' i refl l
+            (does_hold o m p h e g (Gatherv root a' b) fine fits a' i refl l w),
         λ i l w. none_a o inputs all m p h e means g (Gatherv root a' b) fine fit meant fits a' i refl l w,
       )
     where
@@ -191,49 +220,74 @@ module _ (o : Outline) (inputs : Inputs) (all : length inputs ≡ o.inputs) (m :
 
   module _ (step : CollStep) (fits : StepFits o m g step) where
     means_old : (a b : ℕ) → b < m → lists_of (with_step o.ranks g (type_read o step) step means (Some a)) b ≡ lists_of means b
-    means_old a b k = get_or_append_left means (made_lists o.ranks g (type_read o step) step (lists_of means a) ∷ []) [] b (let w = meant.many in omega (arith, w, k))
+    means_old a b k = get_or_append_left means (made_lists o.ranks g (type_read o step) step (lists_of means a) ∷ []) [] b
+        (let w = meant.many in omega (arith, w, k))
 
-    means_new : (a : ℕ) → lists_of (with_step o.ranks g (type_read o step) step means (Some a)) m ≡ made_lists o.ranks g (type_read o step) step (lists_of means a)
+    means_new : (a : ℕ) → lists_of (with_step o.ranks g (type_read o step) step means (Some a)) m ≡ made_lists o.ranks g
+        (type_read o step) step (lists_of means a)
     means_new a = get_or_at means (made_lists o.ranks g (type_read o step) step (lists_of means a)) [] [] m meant.many
 
     abbrev h' : HeldCells
     h' = Rattle.plan_steps.specs.Steps.held_by h g (ends_of (site step fits) step) m (length g)
 
     module _ (a : ℕ) (src : source_of step ≡ Some a) (res : result_of step ≡ Some m) where
-      new_lists : (r : ℕ) → r < o.ranks → IsResult (value (after step fits) inputs) (at (made_lists o.ranks g (type_read o step) step (lists_of means a)) r) (held_cell h' m r)
+      new_lists : (r : ℕ) → r < o.ranks → IsResult (value (after step fits) inputs)
+          (at (made_lists o.ranks g (type_read o step) step (lists_of means a)) r) (held_cell h' m r)
       new_lists r l =
-          subst (IsResult (value (after step fits) inputs) (at (made_lists o.ranks g (type_read o step) step (lists_of means a)) r)) (sym (held_new o m p h e g step fine fits a src res r l))
-          (subst (λ x. IsResult (value (after step fits) inputs) x (at_place (λ i. (end_of (site step fits) step i).holder) None (place_from 0 g r)))
-          (sym (get_or-each (λ r. at_place (list_after (type_read o step) step (taken g (lists_of means a))) [] (place_from 0 g r)) [] 0 o.ranks r l
-          ∙ ap (λ r. at_place (list_after (type_read o step) step (taken g (lists_of means a))) [] (place_from 0 g r)) (let z : 0 + r ≡ r = omega arith in z)))
+          subst (IsResult (value (after step fits) inputs) (at (made_lists o.ranks g (type_read o step) step (lists_of means a)) r))
+              (sym (held_new o m p h e g step fine fits a src res r l))
+          (subst (λ x. IsResult (value (after step fits) inputs) x
+              (at_place (λ i. (end_of (site step fits) step i).holder) None (place_from 0 g r)))
+          (sym (get_or-each (λ r. at_place (list_after (type_read o step) step (taken g (lists_of means a))) [] (place_from 0 g r)) [] 0
+              o.ranks r l
+          ∙ ap (λ r. at_place (list_after (type_read o step) step (taken g (lists_of means a))) [] (place_from 0 g r))
+              (let z : 0 + r ≡ r = omega arith in z)))
           (by (place_from 0 g r) refl))
         where
-          by : (v : Option ℕ) → place_from 0 g r ≡ v → IsResult (value (after step fits) inputs) (at_place (list_after (type_read o step) step (taken g (lists_of means a))) [] v) (at_place (λ i. (end_of (site step fits) step i).holder) None v)
+          by : (v : Option ℕ) → place_from 0 g r ≡ v → IsResult (value (after step fits) inputs)
+              (at_place (list_after (type_read o step) step (taken g (lists_of means a))) [] v)
+              (at_place (λ i. (end_of (site step fits) step i).holder) None v)
           by None f = IsEmpty refl
           by (Some i) f =
-              step-value (cell (after step fits)) (value (after step fits) inputs) (site step fits) (taken g (lists_of means a)) fits.members.some fits.members.at_most
-              (taken-many o inputs all m p h e means g step fine fit meant fits a) (whole_site o m p h e g step fine fits) step fits.root (asks_values step fits a src)
+              step-value (cell (after step fits)) (value (after step fits) inputs) (site step fits) (taken g (lists_of means a))
+                  fits.members.some fits.members.at_most
+              (taken-many o inputs all m p h e means g step fine fit meant fits a) (whole_site o m p h e g step fine fits) step fits.root
+                  (asks_values step fits a src)
               (known o inputs all m p h e means g step fine fit meant fits) i (place-of g r i f).below
 
       means_makes : Means o inputs (suc m) (after step fits) h' (with_step o.ranks g (type_read o step) step means (Some a))
       means_makes = record {
-        many = length_push means (made_lists o.ranks g (type_read o step) step (lists_of means a)) ∙ (let w = meant.many in omega (arith, w));
+        many = length_push means (made_lists o.ranks g (type_read o step) step (lists_of means a))
+            ∙ (let w = meant.many in omega (arith, w));
         lists = λ b r k l. elim (Rattle.shape_plans.proofs.Kept.last_or o m p h e g step fine fits a src res b k) [
-          | inl z ↦ subst (λ v. IsResult (value (after step fits) inputs) (at (lists_of (with_step o.ranks g (type_read o step) step means (Some a)) v) r) (held_cell h' v r)) (sym z)
+          | inl z ↦ subst (λ v. IsResult (value (after step fits) inputs)
+              (at (lists_of (with_step o.ranks g (type_read o step) step means (Some a)) v) r) (held_cell h' v r)) (sym z)
               (subst (λ v. IsResult (value (after step fits) inputs) (at v r) (held_cell h' m r)) (sym (means_new a)) (new_lists r l))
           | inr w ↦ subst (λ v. IsResult (value (after step fits) inputs) (at v r) (held_cell h' b r)) (sym (means_old a b w))
-              (subst (IsResult (value (after step fits) inputs) (at (lists_of means b) r)) (sym (held_old o m p h e g step fine fits b r w l)) (old_lists o inputs all m p h e means g step fine fit meant fits b r w l))
+              (subst (IsResult (value (after step fits) inputs) (at (lists_of means b) r))
+                  (sym (held_old o m p h e g step fine fits b r w l))
+                  (old_lists o inputs all m p h e means g step fine fit meant fits b r w l))
         ];
       }
 
-    pub means_after : Means o inputs (and_one (result_of step) m) (after step fits) (held_after (result_of step) h g (ends_of (site step fits) step)) (with_step o.ranks g (type_read o step) step means (source_of step))
+    pub means_after : Means o inputs (and_one (result_of step) m) (after step fits)
+        (held_after (result_of step) h g (ends_of (site step fits) step))
+        (with_step o.ranks g (type_read o step) step means (source_of step))
     means_after = by (kind_of step)
       where
-        by : Kind step → Means o inputs (and_one (result_of step) m) (after step fits) (held_after (result_of step) h g (ends_of (site step fits) step)) (with_step o.ranks g (type_read o step) step means (source_of step))
+        by : Kind step → Means o inputs (and_one (result_of step) m) (after step fits)
+            (held_after (result_of step) h g (ends_of (site step fits) step))
+            (with_step o.ranks g (type_read o step) step means (source_of step))
         by (Plain src res) =
-            subst (λ v. Means o inputs (and_one (result_of step) m) (after step fits) (held_after (result_of step) h g (ends_of (site step fits) step)) (with_step o.ranks g (type_read o step) step means v)) (sym src)
-            (subst (λ v. Means o inputs (and_one v m) (after step fits) (held_after v h g (ends_of (site step fits) step)) means) (sym res) (means_plain o inputs all m p h e means g step fine fit meant fits))
+            subst (λ v. Means o inputs (and_one (result_of step) m) (after step fits)
+                (held_after (result_of step) h g (ends_of (site step fits) step)) (with_step o.ranks g (type_read o step) step means v))
+                (sym src)
+            (subst (λ v. Means o inputs (and_one v m) (after step fits) (held_after v h g (ends_of (site step fits) step)) means)
+                (sym res) (means_plain o inputs all m p h e means g step fine fit meant fits))
         by (Makes a b src res) =
             let is_m : Some b ≡ Some m = ap (λ v. Some v) (fits.next b res) in
-            subst (λ v. Means o inputs (and_one (result_of step) m) (after step fits) (held_after (result_of step) h g (ends_of (site step fits) step)) (with_step o.ranks g (type_read o step) step means v)) (sym src)
-            (subst (λ v. Means o inputs (and_one v m) (after step fits) (held_after v h g (ends_of (site step fits) step)) (with_step o.ranks g (type_read o step) step means (Some a))) (sym (res ∙ is_m)) (means_makes a src (res ∙ is_m)))
+            subst (λ v. Means o inputs (and_one (result_of step) m) (after step fits)
+                (held_after (result_of step) h g (ends_of (site step fits) step)) (with_step o.ranks g (type_read o step) step means v))
+                (sym src)
+            (subst (λ v. Means o inputs (and_one v m) (after step fits) (held_after v h g (ends_of (site step fits) step))
+                (with_step o.ranks g (type_read o step) step means (Some a))) (sym (res ∙ is_m)) (means_makes a src (res ∙ is_m)))

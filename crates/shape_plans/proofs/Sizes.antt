@@ -16,7 +16,8 @@ use Rattle.shape_plans.specs.Steps.{cells_of}
 use Rattle.std.proofs.lemmas.List.Sums.{sum_by-cons, sum_by-append}
 
 -- ---- a plan and what is drawn after it
-bytes-in_all : (p : Plan) (ns : List NewCell) → sum_by (λ (k : Cell). k.length) (add_all p ns).cells ≡ sum_by (λ (k : Cell). k.length) p.cells + bytes_in ns
+bytes-in_all : (p : Plan) (ns : List NewCell) → sum_by (λ (k : Cell). k.length) (add_all p ns).cells ≡ sum_by (λ (k : Cell). k.length)
+    p.cells + bytes_in ns
 unfolding add_all
 bytes-in_all p [] = let e : sum_by (λ (k : Cell). k.length) p.cells ≡ sum_by (λ (k : Cell). k.length) p.cells + 0 = omega arith in e
 bytes-in_all p (n ∷ ns) =
@@ -26,12 +27,14 @@ bytes-in_all p (n ∷ ns) =
     let d = bytes-cons n ns in
     omega (arith, a, b, c, d)
 
-size-add_all : (p : Plan) (ns : List NewCell) → size_of (add_all p ns) ≡ add_sizes (size_of p) (record { links = links_of ns; bytes = bytes_in ns })
+size-add_all : (p : Plan) (ns : List NewCell) → size_of (add_all p ns) ≡ add_sizes (size_of p)
+    (record { links = links_of ns; bytes = bytes_in ns })
 size-add_all p ns = ap₂ (λ l b. record { links = l; bytes = b }) (links-in_all p ns) (bytes-in_all p ns)
 
 go-bytes : (k n : ℕ) → sum_by (λ (k : Cell). k.length) (map go_cell_of (from_to k n)) ≡ 0
 go-bytes k zero = refl
-go-bytes k (suc n) = sum_by-cons (λ (k : Cell). k.length) (go_cell_of k) (map go_cell_of (from_to (suc k) n)) ∙ ap (λ v. 0 + v) (go-bytes (suc k) n)
+go-bytes k (suc n) = sum_by-cons (λ (k : Cell). k.length) (go_cell_of k) (map go_cell_of (from_to (suc k) n))
+    ∙ ap (λ v. 0 + v) (go-bytes (suc k) n)
 
 size-go : (n : ℕ) (remote : Bool) → size_of (go_plan n remote) ≡ record { links = 0; bytes = 0 }
 unfolding go_plan

@@ -1,5 +1,6 @@
 -- The drawing after some inputs, and after some steps: its tables, and room for the next step.
-use Rattle.std.proofs.Common.{ℕ, zero, suc, Bool, true, false, cond, nat_lt, Err, ◌+◌, ◌-◌, ◌*◌, ◌≡◌, ◌<◌, ◌≤◌, List, Option, Some, None, refl, length, map, get_or, ap, ◌∙◌, sym, subst, arith}
+use Rattle.std.proofs.Common.{ℕ, zero, suc, Bool, true, false, cond, nat_lt, Err, ◌+◌, ◌-◌, ◌*◌, ◌≡◌, ◌<◌, ◌≤◌, List, Option, Some, None,
+    refl, length, map, get_or, ap, ◌∙◌, sym, subst, arith}
 use Rattle.std.proofs.Math.Nat.{mul-le-mul_right}
 use Rattle.std.proofs.lemmas.Bool.{ltb-false}
 use Rattle.std.proofs.lemmas.List.{get_or_read_under}
@@ -18,7 +19,8 @@ use Rattle.plan_steps.proofs.Settled.{buffers-held_by, length-exits_by, ranks-he
 use Rattle.plan_steps.proofs.StepSizes.{links-row}
 use Rattle.shape_plans.specs.declared.footprints.Size.{Size}
 use Rattle.shape_plans.specs.Steps.{cells_of, ends_of}
-use Rattle.shape_plans.specs.Drawing.{Drawing, drawing_of, drawn_input, drawn_inputs, drawn_step, drawn_upto, hold_row, input_cell, opened, site}
+use Rattle.shape_plans.specs.Drawing.{Drawing, drawing_of, drawn_input, drawn_inputs, drawn_step, drawn_upto, hold_row, input_cell, opened,
+    site}
 use Rattle.shape_plans.specs.declared.faults.CompileFault.{CompileFault}
 use Rattle.shape_plans.specs.declared.faults.CompileFault.TheVariants.{TooMany, TooLarge, NoMemory}
 use Rattle.shape_plans.specs.Footprint.{judged}
@@ -137,7 +139,8 @@ tables-step o d t g pos w = record {
 
 pub tables-upto : (o : Outline) → o.ranks ≤ MOST_RANKS → AreSteps o → (k : ℕ) → k ≤ length o.steps → Tables o (drawn_upto o k)
 tables-upto o h are zero l = subst (Tables o) (sym (upto-none o)) (tables-inputs o h o.inputs)
-tables-upto o h are (suc k) l = subst (Tables o) (sym (upto-suc o k)) (tables-step o (drawn_upto o k) (step_at o k) (group_at o k) (are.some k (omega arith)) (tables-upto o h are k (omega arith)))
+tables-upto o h are (suc k) l = subst (Tables o) (sym (upto-suc o k))
+    (tables-step o (drawn_upto o k) (step_at o k) (group_at o k) (are.some k (omega arith)) (tables-upto o h are k (omega arith)))
 
 -- ---- room for an input
 links-inputs : (o : Outline) (b : ℕ) → (inputs_size o b).links ≡ b * o.ranks
@@ -145,7 +148,8 @@ links-inputs o zero = omega arith
 links-inputs o (suc b) = let e = links-inputs o b in let r : suc b * o.ranks ≡ b * o.ranks + o.ranks = omega arith in omega (arith, e, r)
 
 -- few cells and links after b inputs
-pub at_most-inputs : (o : Outline) → IsShape o → (b : ℕ) → b ≤ o.inputs → (length (drawn_inputs o b).plan.links ≤ 32768) × (length (drawn_inputs o b).plan.cells ≤ 33024)
+pub at_most-inputs : (o : Outline) → IsShape o → (b : ℕ) → b ≤ o.inputs → (length (drawn_inputs o b).plan.links ≤ 32768) ×
+    (length (drawn_inputs o b).plan.cells ≤ 33024)
 at_most-inputs o shape b h =
     let l = ap (λ (z : Size). z.links) (size-inputs o b) ∙ links-inputs o b in
     let t = (tables-inputs o shape.few_ranks b).at_most in
@@ -154,7 +158,8 @@ at_most-inputs o shape b h =
     let r = shape.few_ranks in
     (omega (arith, l, m, r), omega (arith, l, m, r, t))
 
-pub room-input : (o : Outline) → IsShape o → (b : ℕ) → b ≤ o.inputs → HasRoom (drawn_inputs o b).plan (map (input_cell (buffer_at o b)) (from_to 0 o.ranks))
+pub room-input : (o : Outline) → IsShape o → (b : ℕ) → b ≤ o.inputs →
+    HasRoom (drawn_inputs o b).plan (map (input_cell (buffer_at o b)) (from_to 0 o.ranks))
 room-input o shape b h =
     let f = at_most-inputs o shape b h in
     let l = f.0 in
@@ -173,7 +178,8 @@ size-grows o (suc n) k =
     omega (arith, a, e)
 
 pub size-most : (o : Outline) (k : ℕ) → k ≤ length o.steps → (size_upto o k).links ≤ (size_upto o (length o.steps)).links
-size-most o k h = let a = size-grows o (left k (length o.steps)) k in let e = ap (λ v. (size_upto o v).links) (there k (length o.steps) h) in omega (arith, a, e)
+size-most o k h = let a = size-grows o (left k (length o.steps)) k in let e = ap (λ v. (size_upto o v).links) (there k (length o.steps) h)
+                                                                            in omega (arith, a, e)
   where
     left : ℕ → ℕ → ℕ
     left k n = n - k
@@ -181,7 +187,8 @@ size-most o k h = let a = size-grows o (left k (length o.steps)) k in let e = ap
     there : (k n : ℕ) → k ≤ n → k + left k n ≡ n
     there k n h = omega arith
 
-module _ (o : Outline) (shape : IsShape o) (are : AreSteps o) (at_most : (size_upto o (length o.steps)).links ≤ MOST_LINKS) (k : ℕ) (h : k < length o.steps) where
+module _ (o : Outline) (shape : IsShape o) (are : AreSteps o) (at_most : (size_upto o (length o.steps)).links ≤ MOST_LINKS) (k : ℕ)
+    (h : k < length o.steps) where
   abbrev d : Drawing
   d = drawn_upto o k
 
@@ -225,26 +232,34 @@ no-name e = cc
 judged-at_most : (f : Size) → judged f ≡ None → f.links ≤ MOST_LINKS
 judged-at_most f e = at (nat_lt MOST_LINKS f.links) refl e
   where
-    at : (b : Bool) → nat_lt MOST_LINKS f.links ≡ b → cond b (Some Rattle.shape_plans.specs.Footprint.Excess.Links) (cond (nat_lt MOST_BYTES f.bytes) (Some Rattle.shape_plans.specs.Footprint.Excess.Bytes) None) ≡ None → f.links ≤ MOST_LINKS
+    at : (b : Bool) → nat_lt MOST_LINKS f.links ≡ b → cond b (Some Rattle.shape_plans.specs.Footprint.Excess.Links)
+        (cond (nat_lt MOST_BYTES f.bytes) (Some Rattle.shape_plans.specs.Footprint.Excess.Bytes) None) ≡ None → f.links ≤ MOST_LINKS
     at true g e = absurd (no-name e)
     at false g e = ltb-false _ _ g
 
-found-at_most : (o : Outline) (n k : ℕ) → (size_upto o k).links ≤ MOST_LINKS → found_from o k n ≡ None → (size_upto o (k + n)).links ≤ MOST_LINKS
+found-at_most : (o : Outline) (n k : ℕ) → (size_upto o k).links ≤ MOST_LINKS → found_from o k n ≡ None →
+    (size_upto o (k + n)).links ≤ MOST_LINKS
 found-at_most o zero k w e = subst (λ v. (size_upto o v).links ≤ MOST_LINKS) (let z : k ≡ k + 0 = omega arith in z) w
 found-at_most o (suc n) k w e = by (judged (size_upto o (suc k))) refl e (λ v f. found-at_most o n (suc k) v f)
   where
     no-refusal : {r : Rattle.shape_plans.specs.Footprint.Refused} → Some r ≡ None → ⊥
     no-refusal f = cc
 
-    by : (x : Option Rattle.shape_plans.specs.Footprint.Excess) → judged (size_upto o (suc k)) ≡ x → Rattle.shape_plans.specs.Footprint.refused_at k x (found_from o (suc k) n) ≡ None
-        → ((size_upto o (suc k)).links ≤ MOST_LINKS → found_from o (suc k) n ≡ None → (size_upto o (suc k + n)).links ≤ MOST_LINKS) → (size_upto o (k + suc n)).links ≤ MOST_LINKS
-    by None j f later = subst (λ v. (size_upto o v).links ≤ MOST_LINKS) (let z : suc k + n ≡ k + suc n = omega arith in z) (later (judged-at_most (size_upto o (suc k)) j) f)
+    by : (x : Option Rattle.shape_plans.specs.Footprint.Excess) → judged (size_upto o (suc k)) ≡ x →
+        Rattle.shape_plans.specs.Footprint.refused_at k x (found_from o (suc k) n) ≡ None
+        → ((size_upto o (suc k)).links ≤ MOST_LINKS → found_from o (suc k) n ≡ None → (size_upto o (suc k + n)).links ≤ MOST_LINKS) →
+            (size_upto o (k + suc n)).links ≤ MOST_LINKS
+    by None j f later = subst (λ v. (size_upto o v).links ≤ MOST_LINKS) (let z : suc k + n ≡ k + suc n = omega arith in z)
+        (later (judged-at_most (size_upto o (suc k)) j) f)
     by (Some name) j f later = absurd (no-refusal f)
 
 pub not-refused : (o : Outline) → IsShape o → found_from o 0 (length o.steps) ≡ None → (size_upto o (length o.steps)).links ≤ MOST_LINKS
 not-refused o shape e =
     subst (λ v. (size_upto o v).links ≤ MOST_LINKS) (let z : 0 + length o.steps ≡ length o.steps = omega arith in z)
-    (found-at_most o (length o.steps) 0 (let l = (at_most-inputs o shape o.inputs (omega arith)).0 in let s = ap (λ (z : Size). z.links) (size-inputs o o.inputs) in omega (arith, l, s)) e)
+    (found-at_most o (length o.steps) 0 (let l = (at_most-inputs o shape o.inputs (omega arith)).0 in let s =
+                                                                                                            ap (λ (z : Size). z.links)
+                                                                                                            (size-inputs o o.inputs) in
+                                                                                                            omega (arith, l, s)) e)
 
 -- what is judged is answered
 pub judged-fault : (o : Outline) → AreSteps o → (f : CompileFault) → Judges o (Err f) → Draws o (Err f)
@@ -272,5 +287,6 @@ step-after o {d} {e} {s} {t} {g} {k} a b u =
     ap (λ v. drawn_step o v s g) a ∙ ap (λ v. drawn_step o e v g) b ∙ ap (λ v. drawn_step o e t v) u
 
 -- a buffer of the shape, whatever stands past the last
-pub the-buffer : (o : Outline) (b : ℕ) (xs : List Buffer) (x : Buffer) → xs ≡ o.buffers → b < length o.buffers → x ≡ get_or xs b x → buffer_at o b ≡ x
+pub the-buffer : (o : Outline) (b : ℕ) (xs : List Buffer) (x : Buffer) → xs ≡ o.buffers → b < length o.buffers → x ≡ get_or xs b x →
+    buffer_at o b ≡ x
 the-buffer o b xs x e l f = sym (get_or_read_under o.buffers b (length o.buffers) x no_buffer (f ∙ ap (λ ys. get_or ys b x) e) l refl)

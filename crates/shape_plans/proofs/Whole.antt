@@ -1,5 +1,6 @@
 -- What is kept from step to step, and why each step's cells are sound.
-use Rattle.std.proofs.Common.{ℕ, Bool, true, ◌+◌, ◌-◌, ◌*◌, ◌/◌, ◌%◌, ◌≡◌, ◌≤◌, ◌<◌, List, [], ◌∷◌, refl, length, get_or, ap, ◌∙◌, sym, subst, arith, Some, None, div-add-mod'}
+use Rattle.std.proofs.Common.{ℕ, Bool, true, ◌+◌, ◌-◌, ◌*◌, ◌/◌, ◌%◌, ◌≡◌, ◌≤◌, ◌<◌, List, [], ◌∷◌, refl, length, get_or, ap, ◌∙◌, sym,
+    subst, arith, Some, None, div-add-mod'}
 use Rattle.std.proofs.Math.Nat.{mod-eq_of_lt, add-mul-mod_self_right, mul-div_right}
 use Rattle.op_laws.proofs.Bytes.{bytes-pos}
 use Rattle.ptl_types.specs.Operations.{bytes_of}
@@ -9,7 +10,8 @@ use Rattle.plan_core.specs.Members.{In}
 use Rattle.plan_core.specs.Plan.{Plan, cell}
 use Rattle.coll_shape.specs.declared.types.Buffer.{Buffer}
 use Rattle.coll_shape.specs.declared.types.CollStep.{CollStep}
-use Rattle.coll_shape.specs.declared.types.CollStep.TheVariants.{Barrier, Broadcast, Reduce, Allreduce, Gather, Allgather, Alltoall, Scan, Scatter, Reducescatter, Exscan, Gatherv}
+use Rattle.coll_shape.specs.declared.types.CollStep.TheVariants.{Barrier, Broadcast, Reduce, Allreduce, Gather, Allgather, Alltoall, Scan,
+    Scatter, Reducescatter, Exscan, Gatherv}
 use Rattle.coll_shape.specs.Outline.{Outline, buffer_at, list_bytes, read_buffer}
 use Rattle.coll_shape.specs.Collectives.{source_of, is_in, AllHold, HasBlocks}
 use Rattle.plan_steps.specs.StepContext.{StepContext, exit_at, source_at}
@@ -80,7 +82,8 @@ blocks_all n m w pos e =
 
 -- ---- members of lists
 -- ---- a step
-module _ (o : Outline) (m : ℕ) (p : Plan) (h : HeldCells) (e : List ℕ) (g : List ℕ) (step : CollStep) (fine : Fine o m p h e) (fits : StepFits o m g step) where
+module _ (o : Outline) (m : ℕ) (p : Plan) (h : HeldCells) (e : List ℕ) (g : List ℕ) (step : CollStep) (fine : Fine o m p h e)
+    (fits : StepFits o m g step) where
   abbrev pub s : StepContext
   s = site_of o p h e (source_of step) g
 
@@ -102,11 +105,14 @@ module _ (o : Outline) (m : ℕ) (p : Plan) (h : HeldCells) (e : List ℕ) (g : 
     at_most = fits.members.at_most;
     members = λ i l. let r = fits.members.ranks i l in let f = fine.ranks in omega (arith, r, f);
     exit_low = λ i l. subst (λ v. v < length p.cells) (sym (exit_is i l)) (fine.exit_in (get_or g i 0) (fits.members.ranks i l));
-    exit_rank = λ i l. ap (λ v. (cell q v).rank) (exit_is i l) ∙ ap (λ (c : Cell). c.rank) (grown.same_cell (get_or e (get_or g i 0) 0) (fine.exit_in (get_or g i 0) (fits.members.ranks i l))) ∙ fine.exit_rank (get_or g i 0) (fits.members.ranks i l);
+    exit_rank = λ i l. ap (λ v. (cell q v).rank) (exit_is i l)
+        ∙ ap (λ (c : Cell). c.rank) (grown.same_cell (get_or e (get_or g i 0) 0) (fine.exit_in (get_or g i 0) (fits.members.ranks i l)))
+        ∙ fine.exit_rank (get_or g i 0) (fits.members.ranks i l);
   }
 
   -- A's cell at place i
-  pub held_is : (a i : ℕ) → source_of step ≡ Some a → i < length g → (c : HeldCell p h a (get_or g i 0) (buffer_at o a)) → source_at s i ≡ c.number
+  pub held_is : (a i : ℕ) → source_of step ≡ Some a → i < length g → (c : HeldCell p h a (get_or g i 0) (buffer_at o a)) →
+      source_at s i ≡ c.number
   held_is a i f l c = source_is a i f l ∙ ap or_0 c.is
 
   pub length_is : (a : ℕ) → source_of step ≡ Some a → s.length ≡ list_bytes (buffer_at o a)
@@ -115,10 +121,12 @@ module _ (o : Outline) (m : ℕ) (p : Plan) (h : HeldCells) (e : List ℕ) (g : 
   has_a : (a i : ℕ) → source_of step ≡ Some a → i < length g → HeldCell p h a (get_or g i 0) (buffer_at o a) → HasA (cell q) s i
   has_a a i f l c = record {
     low = subst (λ v. v < length p.cells) (sym (held_is a i f l c)) c.in_plan;
-    long = ap (λ v. (cell q v).length) (held_is a i f l c) ∙ ap (λ (k : Cell). k.length) (grown.same_cell c.number c.in_plan) ∙ c.long ∙ sym (length_is a f);
+    long = ap (λ v. (cell q v).length) (held_is a i f l c) ∙ ap (λ (k : Cell). k.length) (grown.same_cell c.number c.in_plan) ∙ c.long
+        ∙ sym (length_is a f);
   }
 
-  pub holder_of : (a i : ℕ) → source_of step ≡ Some a → i < length g → In (get_or g i 0) (buffer_at o a).spread.holders → HeldCell p h a (get_or g i 0) (buffer_at o a)
+  pub holder_of : (a i : ℕ) → source_of step ≡ Some a → i < length g → In (get_or g i 0) (buffer_at o a).spread.holders →
+      HeldCell p h a (get_or g i 0) (buffer_at o a)
   holder_of a i f l w = fine.holders a (get_or g i 0) (fits.source a f) (fits.members.ranks i l) w
 
   pub has : (a i : ℕ) → source_of step ≡ Some a → i < length g → In (get_or g i 0) (buffer_at o a).spread.holders → HasA (cell q) s i
@@ -128,13 +136,15 @@ module _ (o : Outline) (m : ℕ) (p : Plan) (h : HeldCells) (e : List ℕ) (g : 
   all_have a f w i l = has a i f l (w i l)
 
   pub whole_site : s.length % bytes_of s.ty ≡ 0
-  whole_site = whole_list (read_buffer o (source_of step)).spread.length (bytes_of (read_buffer o (source_of step)).ty) (bytes-pos (read_buffer o (source_of step)).ty)
+  whole_site = whole_list (read_buffer o (source_of step)).spread.length (bytes_of (read_buffer o (source_of step)).ty)
+      (bytes-pos (read_buffer o (source_of step)).ty)
 
   pub blocks : HasBlocks g (read_buffer o (source_of step)) → Blocks s
   blocks w =
       let x = read_buffer o (source_of step) in record {
         all = blocks_all x.spread.length (length g) (bytes_of x.ty) fits.members.some w;
-        whole = ap (λ v. v % bytes_of x.ty) (blocks_long x.spread.length (length g) (bytes_of x.ty) fits.members.some w) ∙ whole_list (x.spread.length / length g) (bytes_of x.ty) (bytes-pos x.ty);
+        whole = ap (λ v. v % bytes_of x.ty) (blocks_long x.spread.length (length g) (bytes_of x.ty) fits.members.some w)
+            ∙ whole_list (x.spread.length / length g) (bytes_of x.ty) (bytes-pos x.ty);
       }
 
   -- the members that hold A
@@ -147,25 +157,34 @@ module _ (o : Outline) (m : ℕ) (p : Plan) (h : HeldCells) (e : List ℕ) (g : 
   pub test_is : (i : ℕ) → i < length g → is_in i s.holding ≡ test i
   test_is i l = is_in-filter test 0 (length g) i (omega arith) (omega arith)
 
-  pub does_hold : (a i : ℕ) → source_of step ≡ Some a → i < length g → is_in i s.holding ≡ true → In (get_or g i 0) (buffer_at o a).spread.holders
-  does_hold a i f l w = subst (λ v. In (get_or g i 0) (read_buffer o v).spread.holders) f (is_in-In (get_or g i 0) (read_buffer o (source_of step)).spread.holders (sym (test_is i l) ∙ w))
+  pub does_hold : (a i : ℕ) → source_of step ≡ Some a → i < length g → is_in i s.holding ≡ true →
+      In (get_or g i 0) (buffer_at o a).spread.holders
+  does_hold a i f l w = subst (λ v. In (get_or g i 0) (read_buffer o v).spread.holders) f
+      (is_in-In (get_or g i 0) (read_buffer o (source_of step)).spread.holders (sym (test_is i l) ∙ w))
 
 module _ (o : Outline) (m : ℕ) (p : Plan) (h : HeldCells) (e : List ℕ) (g : List ℕ) (fine : Fine o m p h e) where
-  pub asks : (step : CollStep) → (fits : StepFits o m g step) → Asks (cell (q o m p h e g step fine fits)) (s o m p h e g step fine fits) step
+  pub asks : (step : CollStep) → (fits : StepFits o m g step) → Asks (cell (q o m p h e g step fine fits)) (s o m p h e g step fine fits)
+      step
   asks Barrier fits = tt
   asks (Broadcast root a b) fits = has o m p h e g (Broadcast root a b) fine fits a root refl fits.root fits.reads
   asks (Reduce root op a b) fits = all_have o m p h e g (Reduce root op a b) fine fits a refl fits.reads
   asks (Allreduce op a b) fits = all_have o m p h e g (Allreduce op a b) fine fits a refl fits.reads
   asks (Gather root a b) fits = all_have o m p h e g (Gather root a b) fine fits a refl fits.reads
   asks (Allgather a b) fits = all_have o m p h e g (Allgather a b) fine fits a refl fits.reads
-  asks (Alltoall a b) fits = (all_have o m p h e g (Alltoall a b) fine fits a refl fits.reads.0, blocks o m p h e g (Alltoall a b) fine fits fits.reads.1)
+  asks (Alltoall a b) fits = (all_have o m p h e g (Alltoall a b) fine fits a refl fits.reads.0,
+      blocks o m p h e g (Alltoall a b) fine fits fits.reads.1)
   asks (Scan op a b) fits = all_have o m p h e g (Scan op a b) fine fits a refl fits.reads
-  asks (Scatter root a b) fits = (has o m p h e g (Scatter root a b) fine fits a root refl fits.root fits.reads.0, blocks o m p h e g (Scatter root a b) fine fits fits.reads.1)
-  asks (Reducescatter op a b) fits = (all_have o m p h e g (Reducescatter op a b) fine fits a refl fits.reads.0, blocks o m p h e g (Reducescatter op a b) fine fits fits.reads.1)
+  asks (Scatter root a b) fits = (has o m p h e g (Scatter root a b) fine fits a root refl fits.root fits.reads.0,
+      blocks o m p h e g (Scatter root a b) fine fits fits.reads.1)
+  asks (Reducescatter op a b) fits = (all_have o m p h e g (Reducescatter op a b) fine fits a refl fits.reads.0,
+      blocks o m p h e g (Reducescatter op a b) fine fits fits.reads.1)
   asks (Exscan op a b) fits = all_have o m p h e g (Exscan op a b) fine fits a refl fits.reads
-  asks (Gatherv root a b) fits = (holding o m p h e g (Gatherv root a b) fine fits, λ i l w. has o m p h e g (Gatherv root a b) fine fits a i refl l (does_hold o m p h e g (Gatherv root a b) fine fits a i refl l w))
+  asks (Gatherv root a b) fits = (holding o m p h e g (Gatherv root a b) fine fits, λ i l w. has o m p h e g (Gatherv root a b) fine fits
+      a i refl l (does_hold o m p h e g (Gatherv root a b) fine fits a i refl l w))
 
-  pub sound_cells : (step : CollStep) → (fits : StepFits o m g step) → EachAt (SoundNewCell p.ranks (cell (q o m p h e g step fine fits))) (length p.cells) (cells_of (s o m p h e g step fine fits) step)
+  pub sound_cells : (step : CollStep) → (fits : StepFits o m g step) → EachAt (SoundNewCell p.ranks (cell (q o m p h e g step fine fits)))
+      (length p.cells) (cells_of (s o m p h e g step fine fits) step)
   sound_cells step fits =
-      step-sound p.ranks (cell (q o m p h e g step fine fits)) (s o m p h e g step fine fits) (ground o m p h e g step fine fits) (whole_site o m p h e g step fine fits) step fits.root (asks step fits)
+      step-sound p.ranks (cell (q o m p h e g step fine fits)) (s o m p h e g step fine fits) (ground o m p h e g step fine fits)
+          (whole_site o m p h e g step fine fits) step fits.root (asks step fits)
       (cells_all p (cells_of (s o m p h e g step fine fits) step))

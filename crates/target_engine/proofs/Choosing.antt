@@ -1,5 +1,6 @@
 -- The entry that takes a message is the one that its handle names.
-use Rattle.std.proofs.Common.{◌≡◌, ℕ, ◌+◌, ◌<◌, ◌≤◌, Bool, true, false, List, [], ◌∷◌, Option, Some, None, find, if◌then◌else◌, refl, ap, arith}
+use Rattle.std.proofs.Common.{◌≡◌, ℕ, ◌+◌, ◌<◌, ◌≤◌, Bool, true, false, List, [], ◌∷◌, Option, Some, None, find, if◌then◌else◌, refl, ap,
+    arith}
 use Rattle.ptl_types.specs.declared.handles.Handle.{Handle}
 use Rattle.ptl_types.specs.declared.headers.Header.{Header}
 use Rattle.ptl_types.specs.Handles.{same_handle}
@@ -23,21 +24,26 @@ other-one true n le lt = absurd (omega arith)
 other-one false n le lt = refl
 
 -- of entries with different handles
-find-named : (p : Linked → Bool) (k : ℕ) (xs : List Linked) (x : Linked) → find p xs ≡ Some x → entries_by (is_handle x.handle) k xs ≤ 1 → find (is_named x.handle) xs ≡ Some x
+find-named : (p : Linked → Bool) (k : ℕ) (xs : List Linked) (x : Linked) → find p xs ≡ Some x → entries_by (is_handle x.handle) k xs ≤ 1 →
+    find (is_named x.handle) xs ≡ Some x
 find-named p k [] x e one = cc
 find-named p k (y ∷ ys) x e one =
     elim (p y) as (λ b. (if b then Some y else find p ys) ≡ Some x → find (is_named x.handle) (y ∷ ys) ≡ Some x) [
-      | true ↦ λ is. let g : y ≡ x = cc in let s : same_handle y.handle x.handle ≡ true = rw g (same-self x.handle) in rw s (ap (λ (z : Linked). Some z) g)
+      | true ↦ λ is. let g : y ≡ x = cc in let s : same_handle y.handle x.handle ≡ true = rw g (same-self x.handle) in
+          rw s (ap (λ (z : Linked). Some z) g)
       | false ↦ λ is.
           let there = is_linked-some x.handle k ys (find-linked p ys x is) in
-          let s : same_handle y.handle x.handle ≡ false = other-one (same_handle y.handle x.handle) (entries_by (is_handle x.handle) k ys) one there in
+          let s : same_handle y.handle x.handle ≡ false = other-one (same_handle y.handle x.handle) (entries_by (is_handle x.handle) k ys)
+                one there in
           rw s (find-named p k ys x is (omega (arith, one)))
     ] e
 
-chosen_at-named : (h : Header) (k : ℕ) (o : Option Index) (f : Found) → ((me : Handle) → index_by (is_handle me) k o ≤ 1) → chosen_at h o ≡ Some f → linked_in f.linked.handle o ≡ Some f.linked
+chosen_at-named : (h : Header) (k : ℕ) (o : Option Index) (f : Found) → ((me : Handle) → index_by (is_handle me) k o ≤ 1) →
+    chosen_at h o ≡ Some f → linked_in f.linked.handle o ≡ Some f.linked
 chosen_at-named h k None f at_most e = cc
 chosen_at-named h k (Some i) f at_most e =
-    cases_has (λ (x : Linked). linked_in x.handle (Some i) ≡ Some x) (is_put_or_atomic h.kind) (find (fits h) i.priority) (find (fits h) i.overflow) f
+    cases_has (λ (x : Linked). linked_in x.handle (Some i) ≡ Some x) (is_put_or_atomic h.kind) (find (fits h) i.priority)
+        (find (fits h) i.overflow) f
     (λ x is.
     let one = at_most x.handle in
     let named = find-named (fits h) k i.priority x is (omega arith) in
@@ -50,5 +56,6 @@ chosen_at-named h k (Some i) f at_most e =
     rw (none, named) refl)
     e
 
-pub chosen-named : (h : Header) (is : List (Option Index)) (f : Found) (hs : List IndexedHeader) (t : Table EntryRecord) → AreRecorded is hs t → chosen h is ≡ Some f → linked_in f.linked.handle (index_at h.pt is) ≡ Some f.linked
+pub chosen-named : (h : Header) (is : List (Option Index)) (f : Found) (hs : List IndexedHeader) (t : Table EntryRecord) →
+    AreRecorded is hs t → chosen h is ≡ Some f → linked_in f.linked.handle (index_at h.pt is) ≡ Some f.linked
 chosen-named h is f hs t a e = chosen_at-named h h.pt (index_at h.pt is) f (λ me. at_most-here me h.pt is hs t a) e

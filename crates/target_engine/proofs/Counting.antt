@@ -1,5 +1,6 @@
 -- Counting the linked entries by a test of handle and index.
-use Rattle.std.proofs.Common.{◌≡◌, ℕ, zero, suc, ◌+◌, ◌<◌, Bool, true, false, not, ◌||◌, ◌&&◌, List, [], ◌∷◌, ◌++◌, Option, Some, None, map, find, length, get_or, set, if◌then◌else◌, nat_lt, nat_eq, refl, ap, arith, zero-add}
+use Rattle.std.proofs.Common.{◌≡◌, ℕ, zero, suc, ◌+◌, ◌<◌, Bool, true, false, not, ◌||◌, ◌&&◌, List, [], ◌∷◌, ◌++◌, Option, Some, None, map,
+    find, length, get_or, set, if◌then◌else◌, nat_lt, nat_eq, refl, ap, arith, zero-add}
 use Rattle.std.specs.Prelude.{sum_by}
 use Rattle.std.proofs.lemmas.List.Sums.{sum_by-cons}
 use Rattle.std.proofs.lemmas.Bool.Decides.{nat_tests}
@@ -52,7 +53,8 @@ pub is_linked_in-count : (h : Handle) (k : ℕ) (o : Option Index) → is_linked
 is_linked_in-count h k None = refl
 is_linked_in-count h k (Some i) = or-sum _ _ _ _ (is_linked-count h k i.priority) (is_linked-count h k i.overflow)
 
-pub is_linked_anywhere-count : (h : Handle) (k : ℕ) (is : List (Option Index)) → is_linked_anywhere h is ≡ nat_lt 0 (linked_by (is_handle h) k is)
+pub is_linked_anywhere-count : (h : Handle) (k : ℕ) (is : List (Option Index)) →
+    is_linked_anywhere h is ≡ nat_lt 0 (linked_by (is_handle h) k is)
 is_linked_anywhere-count h k [] = refl
 is_linked_anywhere-count h k (o ∷ is) = or-sum _ _ _ _ (is_linked_in-count h k o) (is_linked_anywhere-count h (k + 1) is)
 
@@ -63,7 +65,8 @@ slot_in-count s k (x ∷ xs) = or-one (nat_eq x.handle.slot s) _ _ (slot_in-coun
 pub entry_slot-count : (s k : ℕ) (is : List (Option Index)) → entry_slot is s ≡ nat_lt 0 (linked_by (is_slot s) k is)
 entry_slot-count s k [] = refl
 entry_slot-count s k (None ∷ is) = rw zero-add (entry_slot-count s (k + 1) is)
-entry_slot-count s k (Some i ∷ is) = or-sum _ _ _ _ (or-sum _ _ _ _ (slot_in-count s k i.priority) (slot_in-count s k i.overflow)) (entry_slot-count s (k + 1) is)
+entry_slot-count s k (Some i ∷ is) = or-sum _ _ _ _ (or-sum _ _ _ _ (slot_in-count s k i.priority) (slot_in-count s k i.overflow))
+    (entry_slot-count s (k + 1) is)
 
 -- ---- how many there are
 
@@ -87,43 +90,52 @@ one-but true false m n e = omega arith
 one-but false true m n e = omega arith
 one-but false false m n e = omega arith
 
-entries-unlinked : (me : Handle) (p : Handle → Option Handle → ℕ → Bool) (k : ℕ) (xs : List Linked) → entries_by p k (unlinked me xs) ≡ entries_by (but me p) k xs
+entries-unlinked : (me : Handle) (p : Handle → Option Handle → ℕ → Bool) (k : ℕ) (xs : List Linked) →
+    entries_by p k (unlinked me xs) ≡ entries_by (but me p) k xs
 entries-unlinked me p k [] = refl
 entries-unlinked me p k (x ∷ xs) =
-    elim (same_handle x.handle me) as (λ s. entries_by p k (if not s then x ∷ unlinked me xs else unlinked me xs) ≡ (if p x.handle x.entry.ct k && not s then 1 else 0) + entries_by (but me p) k xs) [
+    elim (same_handle x.handle me) as (λ s. entries_by p k (if not s then x ∷ unlinked me xs else unlinked me xs)
+        ≡ (if p x.handle x.entry.ct k && not s then 1 else 0) + entries_by (but me p) k xs) [
       | true ↦ one-but (p x.handle x.entry.ct k) true _ _ (entries-unlinked me p k xs)
       | false ↦ one-but (p x.handle x.entry.ct k) false _ _ (entries-unlinked me p k xs)
     ]
 
-index-unlinked : (me : Handle) (p : Handle → Option Handle → ℕ → Bool) (k : ℕ) (o : Option Index) → index_by p k (unlinked_in me o) ≡ index_by (but me p) k o
+index-unlinked : (me : Handle) (p : Handle → Option Handle → ℕ → Bool) (k : ℕ) (o : Option Index) →
+    index_by p k (unlinked_in me o) ≡ index_by (but me p) k o
 index-unlinked me p k None = refl
 index-unlinked me p k (Some i) = rw (entries-unlinked me p k i.priority, entries-unlinked me p k i.overflow) refl
 
-pub linked-unlinked : (me : Handle) (p : Handle → Option Handle → ℕ → Bool) (k : ℕ) (is : List (Option Index)) → linked_by p k (map (unlinked_in me) is) ≡ linked_by (but me p) k is
+pub linked-unlinked : (me : Handle) (p : Handle → Option Handle → ℕ → Bool) (k : ℕ) (is : List (Option Index)) →
+    linked_by p k (map (unlinked_in me) is) ≡ linked_by (but me p) k is
 linked-unlinked me p k [] = refl
 linked-unlinked me p k (o ∷ is) = rw (index-unlinked me p k o, linked-unlinked me p (k + 1) is) refl
 
 -- ---- lists with one more
 
-pub entries-push : (p : Handle → Option Handle → ℕ → Bool) (k : ℕ) (xs : List Linked) (x : Linked) → entries_by p k (xs ++ x ∷ []) ≡ entries_by p k xs + (if p x.handle x.entry.ct k then 1 else 0)
+pub entries-push : (p : Handle → Option Handle → ℕ → Bool) (k : ℕ) (xs : List Linked) (x : Linked) →
+    entries_by p k (xs ++ x ∷ []) ≡ entries_by p k xs + (if p x.handle x.entry.ct k then 1 else 0)
 entries-push p k [] x = omega arith
 entries-push p k (y ∷ ys) x = omega (arith, entries-push p k ys x)
 
 -- ---- a running offset moves
 
 kept-handle : (me : Handle) (to : ℕ) (x : Linked) → (advance_one me to x).handle ≡ x.handle
-kept-handle me to x = elim (same_handle x.handle me) as (λ b. (if b then record x { running = to } else x).handle ≡ x.handle) [ true ↦ refl | false ↦ refl ]
+kept-handle me to x = elim (same_handle x.handle me) as (λ b. (if b then record x { running = to } else x).handle ≡ x.handle)
+    [ true ↦ refl | false ↦ refl ]
 
 kept-ct : (me : Handle) (to : ℕ) (x : Linked) → (advance_one me to x).entry.ct ≡ x.entry.ct
-kept-ct me to x = elim (same_handle x.handle me) as (λ b. (if b then record x { running = to } else x).entry.ct ≡ x.entry.ct) [ true ↦ refl | false ↦ refl ]
+kept-ct me to x = elim (same_handle x.handle me) as (λ b. (if b then record x { running = to } else x).entry.ct ≡ x.entry.ct)
+    [ true ↦ refl | false ↦ refl ]
 
-pub entries-advanced : (me : Handle) (to : ℕ) (p : Handle → Option Handle → ℕ → Bool) (k : ℕ) (xs : List Linked) → entries_by p k (advanced me to xs) ≡ entries_by p k xs
+pub entries-advanced : (me : Handle) (to : ℕ) (p : Handle → Option Handle → ℕ → Bool) (k : ℕ) (xs : List Linked) →
+    entries_by p k (advanced me to xs) ≡ entries_by p k xs
 entries-advanced me to p k [] = refl
 entries-advanced me to p k (x ∷ xs) = rw (kept-handle me to x, kept-ct me to x, entries-advanced me to p k xs) refl
 
 -- ---- one portal table entry changes
 
-pub linked-set : (p : Handle → Option Handle → ℕ → Bool) (k d : ℕ) (is : List (Option Index)) (o : Option Index) → d < length is → linked_by p k (set is d o) + index_by p (k + d) (get_or is d None) ≡ linked_by p k is + index_by p (k + d) o
+pub linked-set : (p : Handle → Option Handle → ℕ → Bool) (k d : ℕ) (is : List (Option Index)) (o : Option Index) → d < length is →
+    linked_by p k (set is d o) + index_by p (k + d) (get_or is d None) ≡ linked_by p k is + index_by p (k + d) o
 linked-set p k d [] o lt = absurd (omega arith)
 linked-set p k zero (x ∷ is) o lt = let z : k + 0 ≡ k = omega arith in rw z (omega arith)
 linked-set p k (suc d) (x ∷ is) o lt =
@@ -131,7 +143,8 @@ linked-set p k (suc d) (x ∷ is) o lt =
     let r = linked-set p (k + 1) d is o (omega arith) in
     rw z (omega (arith, r))
 
-pub linked-same : (p : Handle → Option Handle → ℕ → Bool) (k d : ℕ) (is : List (Option Index)) (o : Option Index) → index_by p (k + d) o ≡ index_by p (k + d) (get_or is d None) → linked_by p k (set is d o) ≡ linked_by p k is
+pub linked-same : (p : Handle → Option Handle → ℕ → Bool) (k d : ℕ) (is : List (Option Index)) (o : Option Index) →
+    index_by p (k + d) o ≡ index_by p (k + d) (get_or is d None) → linked_by p k (set is d o) ≡ linked_by p k is
 linked-same p k d [] o e = refl
 linked-same p k zero (x ∷ is) o e = let z : k + 0 ≡ k = omega arith in let f = rw z at e in omega (arith, f)
 linked-same p k (suc d) (x ∷ is) o e =
@@ -141,19 +154,23 @@ linked-same p k (suc d) (x ∷ is) o e =
 
 -- ---- an entry at one index alone
 
-entries-elsewhere : (me : Handle) (pt k : ℕ) (xs : List Linked) → nat_eq k pt ≡ false → entries_by (elsewhere me pt) k xs ≡ entries_by (is_handle me) k xs
+entries-elsewhere : (me : Handle) (pt k : ℕ) (xs : List Linked) → nat_eq k pt ≡ false →
+    entries_by (elsewhere me pt) k xs ≡ entries_by (is_handle me) k xs
 entries-elsewhere me pt k [] e = refl
 entries-elsewhere me pt k (x ∷ xs) e =
-    elim (same_handle x.handle me) as (λ s. (if s && not (nat_eq k pt) then 1 else 0) + entries_by (elsewhere me pt) k xs ≡ (if s then 1 else 0) + entries_by (is_handle me) k xs) [
+    elim (same_handle x.handle me) as (λ s. (if s && not (nat_eq k pt) then 1 else 0) + entries_by (elsewhere me pt) k xs
+        ≡ (if s then 1 else 0) + entries_by (is_handle me) k xs) [
       | true ↦ rw (e, entries-elsewhere me pt k xs e) refl
       | false ↦ rw (entries-elsewhere me pt k xs e) refl
     ]
 
-index-elsewhere : (me : Handle) (pt k : ℕ) (o : Option Index) → nat_eq k pt ≡ false → index_by (elsewhere me pt) k o ≡ index_by (is_handle me) k o
+index-elsewhere : (me : Handle) (pt k : ℕ) (o : Option Index) → nat_eq k pt ≡ false →
+    index_by (elsewhere me pt) k o ≡ index_by (is_handle me) k o
 index-elsewhere me pt k None e = refl
 index-elsewhere me pt k (Some i) e = rw (entries-elsewhere me pt k i.priority e, entries-elsewhere me pt k i.overflow e) refl
 
-linked-elsewhere : (me : Handle) (pt k : ℕ) (is : List (Option Index)) → pt < k → linked_by (elsewhere me pt) k is ≡ linked_by (is_handle me) k is
+linked-elsewhere : (me : Handle) (pt k : ℕ) (is : List (Option Index)) → pt < k →
+    linked_by (elsewhere me pt) k is ≡ linked_by (is_handle me) k is
 linked-elsewhere me pt k [] lt = refl
 linked-elsewhere me pt k (o ∷ is) lt =
     let e : nat_eq k pt ≡ false = grind (arith, nat_tests) in
@@ -171,7 +188,8 @@ index-here : (me : Handle) (pt k : ℕ) (o : Option Index) → nat_eq k pt ≡ t
 index-here me pt k None e = refl
 index-here me pt k (Some i) e = rw (entries-here me pt k i.priority e, entries-here me pt k i.overflow e) refl
 
-pub linked-split : (me : Handle) (pt k d : ℕ) (is : List (Option Index)) → pt ≡ k + d → linked_by (is_handle me) k is ≡ index_by (is_handle me) pt (get_or is d None) + linked_by (elsewhere me pt) k is
+pub linked-split : (me : Handle) (pt k d : ℕ) (is : List (Option Index)) → pt ≡ k + d →
+    linked_by (is_handle me) k is ≡ index_by (is_handle me) pt (get_or is d None) + linked_by (elsewhere me pt) k is
 linked-split me pt k d [] e = refl
 linked-split me pt k zero (o ∷ is) e =
     let z : pt ≡ k = omega arith in
@@ -213,7 +231,8 @@ map-none : (me : Handle) (k : ℕ) (is : List (Option Index)) → linked_by (is_
 map-none me k [] e = refl
 map-none me k (o ∷ is) e = rw (unlinked_in-none me k o (omega arith), map-none me (k + 1) is (omega arith)) refl
 
-pub map-at : (me : Handle) (pt k d : ℕ) (is : List (Option Index)) → pt ≡ k + d → linked_by (elsewhere me pt) k is ≡ 0 → map (unlinked_in me) is ≡ set is d (unlinked_in me (get_or is d None))
+pub map-at : (me : Handle) (pt k d : ℕ) (is : List (Option Index)) → pt ≡ k + d → linked_by (elsewhere me pt) k is ≡ 0 →
+    map (unlinked_in me) is ≡ set is d (unlinked_in me (get_or is d None))
 map-at me pt k d [] e none = refl
 map-at me pt k zero (o ∷ is) e none =
     let r : linked_by (is_handle me) (k + 1) is ≡ 0 = omega (arith, linked-elsewhere me pt (k + 1) is (omega arith)) in

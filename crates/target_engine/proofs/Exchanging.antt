@@ -1,5 +1,6 @@
 -- What is delivered lies in the entry's part, and comes in whole elements.
-use Rattle.std.proofs.Common.{◌≡◌, ℕ, zero, ◌+◌, ◌-◌, ◌*◌, ◌/◌, ◌%◌, ◌<◌, ◌≤◌, ◌^◌, nat_eq, nat_lt, ◌⊎◌, Bool, true, false, List, length, refl, ap, sym, ◌∙◌, arith, inl, inr, if◌then◌else◌, min, subst}
+use Rattle.std.proofs.Common.{◌≡◌, ℕ, zero, ◌+◌, ◌-◌, ◌*◌, ◌/◌, ◌%◌, ◌<◌, ◌≤◌, ◌^◌, nat_eq, nat_lt, ◌⊎◌, Bool, true, false, List, length,
+    refl, ap, sym, ◌∙◌, arith, inl, inr, if◌then◌else◌, min, subst}
 use Rattle.std.proofs.Math.Nat.{div-add-mod', mul-mod_left, mod-eq_of_lt, div_self, zero-div}
 use Rattle.std.proofs.Math.Seq.{take-append_seam}
 use Rattle.std.proofs.lemmas.List.{append-nil, take_all, length-take}
@@ -28,7 +29,8 @@ cut-whole : (n w : ℕ) → (n - n % w) % w ≡ 0
 cut-whole n w = let e : n - n % w ≡ n / w * w = omega (arith, div-add-mod' n w) in ap (λ k. k % w) e ∙ mul-mod_left (n / w) w
 
 whole-le : (kind : MessageKind) (ty : ElemType) (n : ℕ) → whole kind ty n ≤ n
-whole-le kind ty n = elim (has_elements kind) as (λ b. (if b then n - n % bytes_of ty else n) ≤ n) [ true ↦ omega arith | false ↦ omega arith ]
+whole-le kind ty n = elim (has_elements kind) as (λ b. (if b then n - n % bytes_of ty else n) ≤ n)
+    [ true ↦ omega arith | false ↦ omega arith ]
 
 pub delivered-le : (x : Linked) (h : Header) → delivered x h ≤ h.length
 delivered-le x h = omega (arith, whole-le h.kind h.ty (min h.length (space_in x h)))
@@ -44,7 +46,8 @@ place-within n x h part = place-cases (delivered x h) (offset_in x h) x.entry.st
 
 pub delivered-whole : (x : Linked) (h : Header) → has_elements h.kind ≡ true → delivered x h % bytes_of h.ty ≡ 0
 delivered-whole x h is =
-    let P : Bool → Type 0 = λ b. (if b then min h.length (space_in x h) - min h.length (space_in x h) % bytes_of h.ty else min h.length (space_in x h)) % bytes_of h.ty ≡ 0 in
+    let P : Bool → Type 0 = λ b. (if b then min h.length (space_in x h) - min h.length (space_in x h) % bytes_of h.ty else min h.length
+          (space_in x h)) % bytes_of h.ty ≡ 0 in
     subst P (sym is) (cut-whole (min h.length (space_in x h)) (bytes_of h.ty))
 
 one-or-none : (d w : ℕ) → d ≤ w → d % w ≡ 0 → (d ≡ 0) ⊎ (d ≡ w)
@@ -54,23 +57,28 @@ one-or-none d w le e =
       | false ↦ λ t. let ge : w ≤ d = grind (arith, nat_tests) in inr (omega arith)
     ] refl
 
-pub delivered-one : (x : Linked) (h : Header) → has_elements h.kind ≡ true → h.length ≡ bytes_of h.ty → (delivered x h ≡ 0) ⊎ (delivered x h ≡ bytes_of h.ty)
+pub delivered-one : (x : Linked) (h : Header) → has_elements h.kind ≡ true → h.length ≡ bytes_of h.ty →
+    (delivered x h ≡ 0) ⊎ (delivered x h ≡ bytes_of h.ty)
 delivered-one x h is e = one-or-none (delivered x h) (bytes_of h.ty) (omega (arith, delivered-le x h)) (delivered-whole x h is)
 
 -- the operands may change places
-by_element-comm : (f : ℕ → ℕ → ℕ) (w n : ℕ) (xs ys : List ℕ) → ((x y : ℕ) → x < 256 ^ w → y < 256 ^ w → f x y ≡ f y x) → by_element f w n xs ys ≡ by_element f w n ys xs
+by_element-comm : (f : ℕ → ℕ → ℕ) (w n : ℕ) (xs ys : List ℕ) → ((x y : ℕ) → x < 256 ^ w → y < 256 ^ w → f x y ≡ f y x) →
+    by_element f w n xs ys ≡ by_element f w n ys xs
 by_element-comm f w zero xs ys c = refl
 by_element-comm f w (suc n) xs ys c =
-    rw (c (pattern (take w xs)) (pattern (take w ys)) (pattern-lt w xs) (pattern-lt w ys), by_element-comm f w n (drop w xs) (drop w ys) c) refl
+    rw (c (pattern (take w xs)) (pattern (take w ys)) (pattern-lt w xs) (pattern-lt w ys),
+        by_element-comm f w n (drop w xs) (drop w ys) c) refl
 
 pub combined-comm : (o : AtomicOp) (ty : ElemType) (xs ys : List ℕ) → length xs ≡ length ys → combined o ty xs ys ≡ combined o ty ys xs
 combined-comm o ty xs ys e =
     rw e
     (by_element-comm (op o ty) (bytes_of ty) (length ys / bytes_of ty) xs ys
-    (λ x y lx ly. commutes o ty x y (let P : ℕ → Type 0 = λ n. x < n in subst P (sym (span-is ty)) lx) (let P : ℕ → Type 0 = λ n. y < n in subst P (sym (span-is ty)) ly)))
+    (λ x y lx ly. commutes o ty x y (let P : ℕ → Type 0 = λ n. x < n in subst P (sym (span-is ty)) lx) (let P : ℕ → Type 0 = λ n. y < n in
+        subst P (sym (span-is ty)) ly)))
 
 -- one element
-pub one-element : (f : ℕ → ℕ → ℕ) (ty : ElemType) (xs ys : List ℕ) → length xs ≡ bytes_of ty → length ys ≡ bytes_of ty → by_element f (bytes_of ty) (length xs / bytes_of ty) xs ys ≡ little_endian (bytes_of ty) (f (pattern xs) (pattern ys))
+pub one-element : (f : ℕ → ℕ → ℕ) (ty : ElemType) (xs ys : List ℕ) → length xs ≡ bytes_of ty → length ys ≡ bytes_of ty →
+    by_element f (bytes_of ty) (length xs / bytes_of ty) xs ys ≡ little_endian (bytes_of ty) (f (pattern xs) (pattern ys))
 one-element f ty xs ys ex ey =
     let d : length xs / bytes_of ty ≡ 1 = rw ex (div_self (bytes-pos ty)) in
     let tx : take (bytes_of ty) xs ≡ xs = take_all (bytes_of ty) xs (omega arith) in
@@ -83,20 +91,24 @@ no-element f w (x ∷ xs) ys l ex ey = absurd (omega arith)
 no-element f w xs (y ∷ ys) l ex ey = absurd (omega arith)
 
 -- the new bytes, by the kind of the operation
-pub new-op : (kind : MessageKind) (h : Header) (o : AtomicOp) (old new : List ℕ) → h.op ≡ Some o → has_op kind ≡ true → length new ≡ length old → combined o h.ty new old ≡ new_bytes kind h old new
+pub new-op : (kind : MessageKind) (h : Header) (o : AtomicOp) (old new : List ℕ) → h.op ≡ Some o → has_op kind ≡ true →
+    length new ≡ length old → combined o h.ty new old ≡ new_bytes kind h old new
 new-op Atomic h o old new e is same = rw e (combined-comm o h.ty new old same)
 new-op FetchAtomic h o old new e is same = rw e (combined-comm o h.ty new old same)
 new-op _ h o old new e is same = cc
 
-pub new-swap : (kind : MessageKind) (h : Header) (s : SwapOp) (old new : List ℕ) → h.swap ≡ Some s → is_swap kind ≡ true → by_element (swapped s h.ty h.operand) (bytes_of h.ty) (length old / bytes_of h.ty) old new ≡ new_bytes kind h old new
+pub new-swap : (kind : MessageKind) (h : Header) (s : SwapOp) (old new : List ℕ) → h.swap ≡ Some s → is_swap kind ≡ true →
+    by_element (swapped s h.ty h.operand) (bytes_of h.ty) (length old / bytes_of h.ty) old new ≡ new_bytes kind h old new
 new-swap Swap h s old new e is = rw e refl
 new-swap _ h s old new e is = cc
 
-pub new-no_element : (kind : MessageKind) (h : Header) (s : SwapOp) (old new : List ℕ) → h.swap ≡ Some s → is_swap kind ≡ true → length old ≡ 0 → length new ≡ length old → new ≡ new_bytes kind h old new
+pub new-no_element : (kind : MessageKind) (h : Header) (s : SwapOp) (old new : List ℕ) → h.swap ≡ Some s → is_swap kind ≡ true →
+    length old ≡ 0 → length new ≡ length old → new ≡ new_bytes kind h old new
 new-no_element kind h s old new e is none same =
     sym (no-element (swapped s h.ty h.operand) (bytes_of h.ty) old new (bytes-pos h.ty) none (omega arith)) ∙ new-swap kind h s old new e is
 
-pub new-plain : (kind : MessageKind) (h : Header) (old new : List ℕ) → has_op kind ≡ false → is_swap kind ≡ false → new ≡ new_bytes kind h old new
+pub new-plain : (kind : MessageKind) (h : Header) (old new : List ℕ) → has_op kind ≡ false → is_swap kind ≡ false →
+    new ≡ new_bytes kind h old new
 new-plain Atomic h old new a b = cc
 new-plain FetchAtomic h old new a b = cc
 new-plain Swap h old new a b = cc
@@ -109,8 +121,10 @@ due-elements FetchAtomic ok n is = refl
 due-elements Swap ok n is = refl
 due-elements _ ok n is = cc
 
-pub delivered-bytes : (x : Linked) (h : Header) (b : Filled) → has_elements h.kind ≡ true → FillsHeader h b → length (take (delivered x h) b.list) ≡ delivered x h
-delivered-bytes x h b is fills = let e : length b.list ≡ h.length = fills.bytes ∙ due-elements h.kind h.ok h.length is in rw length-take (omega (arith, delivered-le x h))
+pub delivered-bytes : (x : Linked) (h : Header) (b : Filled) → has_elements h.kind ≡ true → FillsHeader h b →
+    length (take (delivered x h) b.list) ≡ delivered x h
+delivered-bytes x h b is fills = let e : length b.list ≡ h.length = fills.bytes ∙ due-elements h.kind h.ok h.length is in
+    rw length-take (omega (arith, delivered-le x h))
 
 -- a list written over another of its length
 pub over : (n : ℕ) (xs ys : List ℕ) → n ≡ length xs → take n (xs ++ ys) ≡ xs

@@ -9,21 +9,26 @@ use Rattle.target_engine.specs.PortalTable.{idle_as, is_idle, recorded_anew, cha
 
 -- ---- a record is put in the place of the old one, and goes where nothing needs it
 
-pub sum-anew : (me : Handle) (f : Handle → EntryRecord → ℕ) (t : Table EntryRecord) (w v : EntryRecord) → sum_of (named_as me) t.live ≤ 1 → lookup me t.live ≡ Some w → (is_idle v ≡ true → f me v ≡ 0) → sum_of f (recorded_anew me v t).live ≡ sum_of (but_of me f) t.live + f me v
+pub sum-anew : (me : Handle) (f : Handle → EntryRecord → ℕ) (t : Table EntryRecord) (w v : EntryRecord) →
+    sum_of (named_as me) t.live ≤ 1 → lookup me t.live ≡ Some w → (is_idle v ≡ true → f me v ≡ 0) →
+    sum_of f (recorded_anew me v t).live ≡ sum_of (but_of me f) t.live + f me v
 sum-anew me f t w v one at zero =
-    elim (is_idle v) as (λ b. is_idle v ≡ b → sum_of f (if b then without me t else changed me (λ _. v) t).live ≡ sum_of (but_of me f) t.live + f me v) [
+    elim (is_idle v) as (λ b. is_idle v ≡ b → sum_of f (if b then without me t else changed me (λ _. v) t).live ≡ sum_of (but_of me f)
+        t.live + f me v) [
       | true ↦ λ e. omega (arith, sum-without me f t.live, zero e)
       | false ↦ λ e. sum-changed me f (λ _. v) t.live w one at
     ] refl
 
-pub named-anew : (h me : Handle) (v : EntryRecord) (t : Table EntryRecord) → sum_of (named_as h) (recorded_anew me v t).live ≤ sum_of (named_as h) t.live
+pub named-anew : (h me : Handle) (v : EntryRecord) (t : Table EntryRecord) → sum_of (named_as h) (recorded_anew me v t).live ≤ sum_of
+    (named_as h) t.live
 named-anew h me v t =
     elim (is_idle v) as (λ b. sum_of (named_as h) (if b then without me t else changed me (λ _. v) t).live ≤ sum_of (named_as h) t.live) [
       | true ↦ omega (arith, sum-without me (named_as h) t.live, but-le me (named_as h) t.live)
       | false ↦ omega (arith, named-changed h me (λ _. v) t.live)
     ]
 
-pub busy-anew : (me : Handle) (t : Table EntryRecord) (w v : EntryRecord) → sum_of (named_as me) t.live ≤ 1 → lookup me t.live ≡ Some w → sum_of idle_as t.live ≡ 0 → sum_of idle_as (recorded_anew me v t).live ≡ 0
+pub busy-anew : (me : Handle) (t : Table EntryRecord) (w v : EntryRecord) → sum_of (named_as me) t.live ≤ 1 → lookup me t.live ≡ Some w →
+    sum_of idle_as t.live ≡ 0 → sum_of idle_as (recorded_anew me v t).live ≡ 0
 busy-anew me t w v one at busy =
     elim (is_idle v) as (λ b. is_idle v ≡ b → sum_of idle_as (if b then without me t else changed me (λ _. v) t).live ≡ 0) [
       | true ↦ λ e. omega (arith, sum-without me idle_as t.live, but-le me idle_as t.live)
@@ -33,16 +38,20 @@ busy-anew me t w v one at busy =
     ] refl
 
 given-anew : (me : Handle) (v : EntryRecord) (t : Table EntryRecord) → (recorded_anew me v t).given ≡ t.given
-given-anew me v t = elim (is_idle v) as (λ b. (if b then without me t else changed me (λ _. v) t).given ≡ t.given) [ true ↦ refl | false ↦ refl ]
+given-anew me v t = elim (is_idle v) as (λ b. (if b then without me t else changed me (λ _. v) t).given ≡ t.given)
+    [ true ↦ refl | false ↦ refl ]
 
 limit-anew : (me : Handle) (v : EntryRecord) (t : Table EntryRecord) → (recorded_anew me v t).limit ≡ t.limit
-limit-anew me v t = elim (is_idle v) as (λ b. (if b then without me t else changed me (λ _. v) t).limit ≡ t.limit) [ true ↦ refl | false ↦ refl ]
+limit-anew me v t = elim (is_idle v) as (λ b. (if b then without me t else changed me (λ _. v) t).limit ≡ t.limit)
+    [ true ↦ refl | false ↦ refl ]
 
-given-changed : (me : Handle) (f : EntryRecord → EntryRecord) (o : Option EntryRecord) (t : Table EntryRecord) → (changed_by me f o t).given ≡ t.given
+given-changed : (me : Handle) (f : EntryRecord → EntryRecord) (o : Option EntryRecord) (t : Table EntryRecord) →
+    (changed_by me f o t).given ≡ t.given
 given-changed me f None t = refl
 given-changed me f (Some v) t = given-anew me (f v) t
 
-limit-changed : (me : Handle) (f : EntryRecord → EntryRecord) (o : Option EntryRecord) (t : Table EntryRecord) → (changed_by me f o t).limit ≡ t.limit
+limit-changed : (me : Handle) (f : EntryRecord → EntryRecord) (o : Option EntryRecord) (t : Table EntryRecord) →
+    (changed_by me f o t).limit ≡ t.limit
 limit-changed me f None t = refl
 limit-changed me f (Some v) t = limit-anew me (f v) t
 

@@ -1,5 +1,6 @@
 -- One header that an entry takes, with its record.
-use Rattle.std.proofs.Common.{◌≡◌, ℕ, ◌+◌, ◌<◌, Bool, true, false, not, List, Option, [], ◌∷◌, ◌++◌, length, take, drop, get_or, set, if◌then◌else◌, refl, ap, sym, ◌∙◌, arith, add-one, drop-cons, append-nil}
+use Rattle.std.proofs.Common.{◌≡◌, ℕ, ◌+◌, ◌<◌, Bool, true, false, not, List, Option, [], ◌∷◌, ◌++◌, length, take, drop, get_or, set,
+    if◌then◌else◌, refl, ap, sym, ◌∙◌, arith, add-one, drop-cons, append-nil}
 use Rattle.std.proofs.lemmas.List.{get_or-drop, get_or_default}
 use Rattle.std.proofs.lemmas.List.Elements.{filter_more}
 use Rattle.std.proofs.lemmas.List.Filters.{FiltersInPlace, FiltersInPlace-more_no, FiltersInPlace-more_set}
@@ -20,22 +21,31 @@ use Rattle.target_engine.proofs.Recorded.{HasOneOf, recorded-fewer, recorded-fre
 pub one-between : (left found : List IndexedHeader) (x : IndexedHeader) → HasOneOf x (left ++ x ∷ found) (left ++ found)
 one-between left found x = λ p. omega (arith, unexpected-append p left (x ∷ found), unexpected-append p left found)
 
-pub taken-told : (is : List (Option Index)) (left found : List IndexedHeader) (x : IndexedHeader) (t : Table EntryRecord) (eqs : Table Waiting) → AreRecorded is (left ++ x ∷ found) t → each_gone (side 0 0 is 0 (unexpected_list [] 0)) left found (gone_events (kind_taken x.header.header.kind) is (frees_at is t x) x eqs) ≡ each_gone (side 0 0 is 0 (unexpected_list [] 0)) left (x ∷ found) eqs
+pub taken-told : (is : List (Option Index)) (left found : List IndexedHeader) (x : IndexedHeader) (t : Table EntryRecord)
+    (eqs : Table Waiting) → AreRecorded is (left ++ x ∷ found) t → each_gone (side 0 0 is 0 (unexpected_list [] 0)) left found
+    (gone_events (kind_taken x.header.header.kind) is (frees_at is t x) x eqs) ≡ each_gone (side 0 0 is 0 (unexpected_list [] 0)) left
+    (x ∷ found) eqs
 taken-told is left found x t eqs a =
-    ap (λ b. each_gone (side 0 0 is 0 (unexpected_list [] 0)) left found (gone_events (kind_taken x.header.header.kind) is b x eqs)) (recorded-frees x is (left ++ x ∷ found) (left ++ found) t a (one-between left found x))
+    ap (λ b. each_gone (side 0 0 is 0 (unexpected_list [] 0)) left found (gone_events (kind_taken x.header.header.kind) is b x eqs))
+        (recorded-frees x is (left ++ x ∷ found) (left ++ found) t a (one-between left found x))
 
-pub taken-recorded : (is : List (Option Index)) (left found : List IndexedHeader) (x : IndexedHeader) (t : Table EntryRecord) → AreRecorded is (left ++ x ∷ found) t → AreRecorded is (left ++ found) (recorded_by x.header.entry one_fewer t)
+pub taken-recorded : (is : List (Option Index)) (left found : List IndexedHeader) (x : IndexedHeader) (t : Table EntryRecord) →
+    AreRecorded is (left ++ x ∷ found) t → AreRecorded is (left ++ found) (recorded_by x.header.entry one_fewer t)
 taken-recorded is left found x t a = recorded-fewer x is (left ++ x ∷ found) (left ++ found) t a (one-between left found x)
 
 -- ---- the headers from one on, where the entry finds it and where it doesn't
 
-found-drop : (pt : ℕ) (e : Entry) (hs : List IndexedHeader) (i : ℕ) (d : IndexedHeader) → i < length hs → found_in pt e (drop i hs) ≡ (if finds pt e (get_or hs i d) then get_or hs i d ∷ found_in pt e (drop (i + 1) hs) else found_in pt e (drop (i + 1) hs))
+found-drop : (pt : ℕ) (e : Entry) (hs : List IndexedHeader) (i : ℕ) (d : IndexedHeader) → i < length hs →
+    found_in pt e (drop i hs) ≡ (if finds pt e (get_or hs i d) then get_or hs i d ∷ found_in pt e (drop (i + 1) hs) else found_in pt e
+    (drop (i + 1) hs))
 found-drop pt e hs i d lt = rw (add-one, drop-cons hs i d) refl
 
-found-here : (pt : ℕ) (e : Entry) (hs : List IndexedHeader) (i : ℕ) (d : IndexedHeader) → i < length hs → finds pt e (get_or hs i d) ≡ true → found_in pt e (drop i hs) ≡ get_or hs i d ∷ found_in pt e (drop (i + 1) hs)
+found-here : (pt : ℕ) (e : Entry) (hs : List IndexedHeader) (i : ℕ) (d : IndexedHeader) → i < length hs →
+    finds pt e (get_or hs i d) ≡ true → found_in pt e (drop i hs) ≡ get_or hs i d ∷ found_in pt e (drop (i + 1) hs)
 found-here pt e hs i d lt f = let s = found-drop pt e hs i d lt in rw f at s
 
-found-later : (pt : ℕ) (e : Entry) (hs : List IndexedHeader) (i : ℕ) (d : IndexedHeader) → i < length hs → finds pt e (get_or hs i d) ≡ false → found_in pt e (drop i hs) ≡ found_in pt e (drop (i + 1) hs)
+found-later : (pt : ℕ) (e : Entry) (hs : List IndexedHeader) (i : ℕ) (d : IndexedHeader) → i < length hs →
+    finds pt e (get_or hs i d) ≡ false → found_in pt e (drop i hs) ≡ found_in pt e (drop (i + 1) hs)
 found-later pt e hs i d lt f = let s = found-drop pt e hs i d lt in rw f at s
 
 -- ---- the counting event that rises
@@ -49,7 +59,8 @@ counted-more e (y ∷ found) x = refl
 abbrev pub stays : ℕ → Entry → IndexedHeader → Bool
 stays pt e a = not (finds pt e a)
 
-same-there : (p : IndexedHeader → Bool) (xs ys : List IndexedHeader) (k i : ℕ) (d : IndexedHeader) → FiltersInPlace p xs ys k i → get_or ys i d ≡ get_or xs i d
+same-there : (p : IndexedHeader → Bool) (xs ys : List IndexedHeader) (k i : ℕ) (d : IndexedHeader) → FiltersInPlace p xs ys k i →
+    get_or ys i d ≡ get_or xs i d
 same-there p xs ys k i d s =
     let z : i + 0 ≡ i = omega arith in
     let a = rw z at (get_or-drop i ys 0 d) in
@@ -57,7 +68,8 @@ same-there p xs ys k i d s =
     sym a ∙ ap (λ (zs : List IndexedHeader). get_or zs 0 d) s.rest ∙ b
 
 -- what was looked at, through the slice zs
-module _ (pt : ℕ) (e : Entry) (xs ys zs : List IndexedHeader) (k i : ℕ) (d : IndexedHeader) (r : Bool) (is : r ≡ finds pt e (get_or zs i d)) (lent : zs ≡ ys) (s : FiltersInPlace (stays pt e) xs ys k i) (lt : i < length xs) where
+module _ (pt : ℕ) (e : Entry) (xs ys zs : List IndexedHeader) (k i : ℕ) (d : IndexedHeader) (r : Bool)
+    (is : r ≡ finds pt e (get_or zs i d)) (lent : zs ≡ ys) (s : FiltersInPlace (stays pt e) xs ys k i) (lt : i < length xs) where
   one : get_or zs i d ≡ get_or xs i d
   one = ap (λ (l : List IndexedHeader). get_or l i d) lent ∙ same-there (stays pt e) xs ys k i d s
 

@@ -1,12 +1,14 @@
 -- Lists of places in the order of their thresholds, and what hangs on them.
-use Rattle.std.proofs.Common.{◌≡◌, ◌≢◌, ℕ, zero, suc, ◌+◌, ◌*◌, ◌<◌, ◌≤◌, Bool, true, false, cond, nat_eq, ◌||◌, List, [], ◌∷◌, ◌++◌, length, get_or, set, Option, Some, None, refl, sym, ap, subst, ◌∙◌, inl, inr, arith, length-set}
+use Rattle.std.proofs.Common.{◌≡◌, ◌≢◌, ℕ, zero, suc, ◌+◌, ◌*◌, ◌<◌, ◌≤◌, Bool, true, false, cond, nat_eq, ◌||◌, List, [], ◌∷◌, ◌++◌,
+    length, get_or, set, Option, Some, None, refl, sym, ap, subst, ◌∙◌, inl, inr, arith, length-set}
 use Rattle.std.specs.Prelude.{◌⊎◌, slice_get, IfSome}
 use Rattle.std.proofs.lemmas.Bool.{ne_eqb, eq-eqb}
 use Rattle.std.proofs.lemmas.Bool.Decides.{eqb_tells}
 use Rattle.std.proofs.lemmas.List.{append_assoc, get_or-set_same, get_or-set_other, length-map, append-nil}
 use Rattle.ptl_types.specs.declared.handles.Handle.{Handle}
 use Rattle.ptl_types.specs.Handles.{same_handle}
-use Rattle.chain_list.specs.threads.Threads.{Woven, thread, is_on, first_place, place_after, last_after, last_place, without, without_place, placed_after, AreApart}
+use Rattle.chain_list.specs.threads.Threads.{Woven, thread, is_on, first_place, place_after, last_after, last_place, without, without_place,
+    placed_after, AreApart}
 use Rattle.chain_list.proofs.threads.ThreadLemmas.{get-map}
 use Rattle.triggered_ops.specs.declared.spots.Wait.{Wait}
 use Rattle.triggered_ops.specs.Hung.{is_stamp, belongs, home, is_home, threshold_of, Ascending, IsHung, rest_after, next_in, IsGap}
@@ -77,7 +79,8 @@ left-on q p xs on =
 pub without-append : (p : ℕ) (xs ys : List ℕ) → without p (xs ++ ys) ≡ without p xs ++ without p ys
 without-append p [] ys = refl
 without-append p (x ∷ xs) ys =
-    elim (nat_eq x p) as (λ b. cond b (without p (xs ++ ys)) (x ∷ without p (xs ++ ys)) ≡ cond b (without p xs) (x ∷ without p xs) ++ without p ys) [
+    elim (nat_eq x p) as (λ b. cond b (without p (xs ++ ys)) (x ∷ without p (xs ++ ys)) ≡ cond b (without p xs) (x ∷ without p xs) ++
+        without p ys) [
       | true ↦ without-append p xs ys
       | false ↦ ap (λ r. x ∷ r) (without-append p xs ys)
     ]
@@ -156,17 +159,20 @@ module _ (at : ℕ → Option Wait) where
     | inr other ↦ asc-below xs p ys a.1 q (rw other.0 at on)
   ]
 
-  pub asc-insert : (p : ℕ) (xs ys : List ℕ) → Ascending at (xs ++ ys) → ((q : ℕ) → is_on q xs ≡ true → thr q ≤ thr p) → ((q : ℕ) → is_on q ys ≡ true → thr p ≤ thr q) → Ascending at (xs ++ p ∷ ys)
+  pub asc-insert : (p : ℕ) (xs ys : List ℕ) → Ascending at (xs ++ ys) → ((q : ℕ) → is_on q xs ≡ true → thr q ≤ thr p) →
+      ((q : ℕ) → is_on q ys ≡ true → thr p ≤ thr q) → Ascending at (xs ++ p ∷ ys)
   asc-insert p [] ys a low high = (high, a)
   asc-insert p (x ∷ xs) ys a low high = (
     λ q on. elim (eqb_tells p q) [
       | inl same ↦ subst (λ i. thr x ≤ thr i) same.1 (low x (ap (λ b. b || is_on x xs) (eq-eqb x x refl)))
-      | inr other ↦ a.0 q (let e : is_on q (xs ++ p ∷ ys) ≡ is_on q (xs ++ ys) = on-insert q p xs ys ∙ ap (λ b. b || is_on q (xs ++ ys)) other.0 in sym e ∙ on)
+      | inr other ↦ a.0 q (let e : is_on q (xs ++ p ∷ ys) ≡ is_on q (xs ++ ys) = on-insert q p xs ys
+                                 ∙ ap (λ b. b || is_on q (xs ++ ys)) other.0 in sym e ∙ on)
     ],
     asc-insert p xs ys a.1 (λ q on. low q (or_right (nat_eq x q) (is_on q xs) on)) high,
   )
 
-pub asc-same : (at new : ℕ → Option Wait) (zs : List ℕ) → ((q : ℕ) → is_on q zs ≡ true → threshold_of (new q) ≡ threshold_of (at q)) → Ascending at zs → Ascending new zs
+pub asc-same : (at new : ℕ → Option Wait) (zs : List ℕ) → ((q : ℕ) → is_on q zs ≡ true → threshold_of (new q) ≡ threshold_of (at q)) →
+    Ascending at zs → Ascending new zs
 asc-same at new [] e a = tt
 asc-same at new (z ∷ zs) e a =
     let here : threshold_of (new z) ≡ threshold_of (at z) = e z (ap (λ b. b || is_on z zs) (eq-eqb z z refl)) in
@@ -231,9 +237,11 @@ stamp-same (Some s) a b e f = elim (eqb_tells s a) [
   | inr n ↦ let no : true ≡ false = sym e ∙ n.0 in cc
 ]
 
-pub belongs-same : (stamps : List ℕ) (a b : Handle) → belongs stamps a ≡ true → belongs stamps b ≡ true → a.slot ≡ b.slot → same_handle a b ≡ true
+pub belongs-same : (stamps : List ℕ) (a b : Handle) → belongs stamps a ≡ true → belongs stamps b ≡ true → a.slot ≡ b.slot →
+    same_handle a b ≡ true
 belongs-same stamps a b e f s =
-    let stamp : a.stamp ≡ b.stamp = stamp-same (slice_get stamps b.slot) a.stamp b.stamp (subst (λ i. is_stamp (slice_get stamps i) a.stamp ≡ true) s e) f in
+    let stamp : a.stamp ≡ b.stamp = stamp-same (slice_get stamps b.slot) a.stamp b.stamp
+          (subst (λ i. is_stamp (slice_get stamps i) a.stamp ≡ true) s e) f in
     rw (eq-eqb a.stamp b.stamp stamp, eq-eqb a.slot b.slot s) refl
 
 at_most : (due : Bool) → cond due 0 1 ≤ 1
@@ -242,7 +250,8 @@ at_most false = omega arith
 
 pub home-within : (stamps : List ℕ) (ct : Handle) (due : Bool) → home stamps ct due < 2 * length stamps + 1
 home-within stamps ct due =
-    elim (belongs stamps ct) as (λ b. belongs stamps ct ≡ b → cond b (2 * ct.slot + cond due 0 1) (2 * length stamps) < 2 * length stamps + 1) [
+    elim (belongs stamps ct) as (λ b. belongs stamps ct ≡ b → cond b (2 * ct.slot + cond due 0 1) (2 * length stamps) < 2 * length stamps
+        + 1) [
       | true ↦ λ e. let w = belongs-within stamps ct e in omega (arith, w, at_most due)
       | false ↦ λ e. omega arith
     ] refl
@@ -273,27 +282,33 @@ module _ (at : ℕ → Option Wait) (w : Woven) (stamps : List ℕ) (h : IsHung 
   pub unhung : (p : ℕ) → IsHung (λ q. cond (nat_eq q p) None (at q)) (without_place p w) stamps
   unhung p = record {
     many = length-map w.threads (without p) ∙ h.many;
-    hung = λ k q. ap (is_on q) (thread-without k p w) ∙ on-without q p (thread k w) ∙ elim (nat_eq q p) as (λ b. cond b false (is_on q (thread k w)) ≡ is_home stamps k (cond b None (at q))) [
+    hung = λ k q. ap (is_on q) (thread-without k p w) ∙ on-without q p (thread k w)
+        ∙ elim (nat_eq q p) as (λ b. cond b false (is_on q (thread k w)) ≡ is_home stamps k (cond b None (at q))) [
       | true ↦ refl
       | false ↦ h.hung k q
     ];
     ordered = λ j lt.
         let zs = thread (2 * j) w ++ thread (2 * j + 1) w in
         let is : thread (2 * j) (without_place p w) ++ thread (2 * j + 1) (without_place p w) ≡ without p zs =
-        (λ i. thread-without (2 * j) p w i ++ thread-without (2 * j + 1) p w i) ∙ sym (without-append p (thread (2 * j) w) (thread (2 * j + 1) w)) in
+        (λ i. thread-without (2 * j) p w i ++ thread-without (2 * j + 1) p w i)
+            ∙ sym (without-append p (thread (2 * j) w) (thread (2 * j + 1) w)) in
         subst (Ascending (λ q. cond (nat_eq q p) None (at q))) (sym is)
-        (asc-same at (λ q. cond (nat_eq q p) None (at q)) (without p zs) (λ q on. ap (λ b. threshold_of (cond b None (at q))) (left-on q p zs on).0) (asc-without at p zs (h.ordered j lt)));
+        (asc-same at (λ q. cond (nat_eq q p) None (at q)) (without p zs)
+            (λ q on. ap (λ b. threshold_of (cond b None (at q))) (left-on q p zs on).0) (asc-without at p zs (h.ordered j lt)));
   }
 
   -- where it stands among those of its slot
   pub record IsFit (x : Wait) (k : ℕ) (before behind : List ℕ) : Type 0 where
     pub due_below : (j : ℕ) → k ≡ 2 * j → j < length stamps → (q : ℕ) → is_on q before ≡ true → threshold_of (at q) ≤ x.threshold
-    pub due_above : (j : ℕ) → k ≡ 2 * j → j < length stamps → (q : ℕ) → is_on q (behind ++ thread (2 * j + 1) w) ≡ true → x.threshold ≤ threshold_of (at q)
-    pub waiting_below : (j : ℕ) → k ≡ 2 * j + 1 → j < length stamps → (q : ℕ) → is_on q (thread (2 * j) w ++ before) ≡ true → threshold_of (at q) ≤ x.threshold
+    pub due_above : (j : ℕ) → k ≡ 2 * j → j < length stamps → (q : ℕ) → is_on q (behind ++ thread (2 * j + 1) w) ≡ true →
+        x.threshold ≤ threshold_of (at q)
+    pub waiting_below : (j : ℕ) → k ≡ 2 * j + 1 → j < length stamps → (q : ℕ) → is_on q (thread (2 * j) w ++ before) ≡ true →
+        threshold_of (at q) ≤ x.threshold
     pub waiting_above : (j : ℕ) → k ≡ 2 * j + 1 → j < length stamps → (q : ℕ) → is_on q behind ≡ true → x.threshold ≤ threshold_of (at q)
 
   module _ (k p : ℕ) (x : Wait) (before behind : List ℕ) (new : Woven) (home_is : k ≡ home stamps x.ct x.due) (empty : at p ≡ None)
-      (set_is : new.threads ≡ set w.threads k (before ++ p ∷ behind)) (is : thread k w ≡ before ++ behind) (fit : IsFit x k before behind) where
+      (set_is : new.threads ≡ set w.threads k (before ++ p ∷ behind)) (is : thread k w ≡ before ++ behind) (fit : IsFit x k before behind)
+          where
     abbrev with_it : ℕ → Option Wait
     with_it q = cond (nat_eq q p) (Some x) (at q)
 
@@ -322,16 +337,22 @@ module _ (at : ℕ → Option Wait) (w : Woven) (stamps : List ℕ) (h : IsHung 
     rehung-on : (j q : ℕ) → is_on q (thread j new) ≡ is_home stamps j (with_it q)
     rehung-on j q = elim (eqb_tells j k) [
       | inl at_k ↦
-          ap (λ i. is_on q (thread i new)) at_k.1 ∙ ap (is_on q) here ∙ on-insert q p before behind ∙ ap (λ l. nat_eq p q || is_on q l) (sym is) ∙ ap (λ b. nat_eq p q || b) (h.hung k q)
+          ap (λ i. is_on q (thread i new)) at_k.1 ∙ ap (is_on q) here ∙ on-insert q p before behind
+              ∙ ap (λ l. nat_eq p q || is_on q l) (sym is) ∙ ap (λ b. nat_eq p q || b) (h.hung k q)
           ∙ elim (eqb_tells q p) [
-            | inl same ↦ let turned : nat_eq p q ≡ true = eq-eqb p q (sym same.1) in let yes : nat_eq (home stamps x.ct x.due) j ≡ true = eq-eqb (home stamps x.ct x.due) j (sym home_is ∙ sym at_k.1) in rw (turned, same.0, yes) refl
-            | inr differ ↦ let turned : nat_eq p q ≡ false = ne_eqb p q (λ e. differ.1 (sym e)) in rw (turned, differ.0) (ap (λ i. is_home stamps i (at q)) (sym at_k.1))
+            | inl same ↦ let turned : nat_eq p q ≡ true = eq-eqb p q (sym same.1) in let yes : nat_eq (home stamps x.ct x.due) j ≡ true =
+                                                                                           eq-eqb (home stamps x.ct x.due) j
+                                                                                           (sym home_is ∙ sym at_k.1) in
+                                                                                           rw (turned, same.0, yes) refl
+            | inr differ ↦ let turned : nat_eq p q ≡ false = ne_eqb p q (λ e. differ.1 (sym e)) in
+                rw (turned, differ.0) (ap (λ i. is_home stamps i (at q)) (sym at_k.1))
           ]
       | inr not_k ↦
           ap (is_on q) (other j not_k.1) ∙ h.hung j q ∙ elim (eqb_tells q p) [
             | inl same ↦
                 let none : at q ≡ None = ap at same.1 ∙ empty in
-                let no : nat_eq (home stamps x.ct x.due) j ≡ false = ne_eqb (home stamps x.ct x.due) j (λ e. not_k.1 (sym e ∙ sym home_is)) in
+                let no : nat_eq (home stamps x.ct x.due) j ≡ false =
+                      ne_eqb (home stamps x.ct x.due) j (λ e. not_k.1 (sym e ∙ sym home_is)) in
                 rw (none, same.0, no) refl
             | inr differ ↦ rw differ.0 refl
           ]
@@ -351,15 +372,21 @@ module _ (at : ℕ → Option Wait) (w : Woven) (stamps : List ℕ) (h : IsHung 
     rehung-ordered j lt = elim (eqb_tells (2 * j) k) [
       | inl due ↦
           let first : thread (2 * j) new ≡ before ++ p ∷ behind = ap (λ i. thread i new) due.1 ∙ here in
-          let second : thread (2 * j + 1) new ≡ thread (2 * j + 1) w = other (2 * j + 1) (λ e. let eq : 2 * j + 1 ≡ 2 * j = e ∙ sym due.1 in omega (arith, eq)) in
+          let second : thread (2 * j + 1) new ≡ thread (2 * j + 1) w =
+                other (2 * j + 1) (λ e. let eq : 2 * j + 1 ≡ 2 * j = e ∙ sym due.1 in omega (arith, eq)) in
           let old : thread (2 * j) w ++ thread (2 * j + 1) w ≡ before ++ (behind ++ thread (2 * j + 1) w) =
           ap (λ l. l ++ thread (2 * j + 1) w) (ap (λ i. thread i w) due.1 ∙ is) ∙ append_assoc before behind (thread (2 * j + 1) w) in
-          let now : thread (2 * j) new ++ thread (2 * j + 1) new ≡ before ++ p ∷ (behind ++ thread (2 * j + 1) w) = (λ i. first i ++ second i) ∙ append_assoc before (p ∷ behind) (thread (2 * j + 1) w) in
+          let now : thread (2 * j) new ++ thread (2 * j + 1) new ≡ before ++ p ∷ (behind ++ thread (2 * j + 1) w) =
+                (λ i. first i ++ second i) ∙ append_assoc before (p ∷ behind) (thread (2 * j + 1) w) in
           let away = λ (q : ℕ) (on : is_on q (before ++ (behind ++ thread (2 * j + 1) w)) ≡ true). two-apart j q (ap (is_on q) old ∙ on) in
           subst (Ascending with_it) (sym now) (asc-insert with_it p before (behind ++ thread (2 * j + 1) w)
           (kept_order (before ++ (behind ++ thread (2 * j + 1) w)) away (subst (Ascending at) old (h.ordered j lt)))
-          (λ q on. let le = fit.due_below j (sym due.1) lt q on in let s = same_at q (away q (on-left q before (behind ++ thread (2 * j + 1) w) on)) in omega (arith, le, s, it))
-          (λ q on. let le = fit.due_above j (sym due.1) lt q on in let s = same_at q (away q (on-right q before (behind ++ thread (2 * j + 1) w) on)) in omega (arith, le, s, it)))
+          (λ q on. let le = fit.due_below j (sym due.1) lt q on in let s =
+                                                                         same_at q (away q (on-left q before
+                                                                         (behind ++ thread (2 * j + 1) w) on)) in omega (arith, le, s, it))
+          (λ q on. let le = fit.due_above j (sym due.1) lt q on in let s =
+                                                                         same_at q (away q (on-right q before
+                                                                         (behind ++ thread (2 * j + 1) w) on)) in omega (arith, le, s, it)))
       | inr not_due ↦ elim (eqb_tells (2 * j + 1) k) [
         | inl waiting ↦
             let first : thread (2 * j) new ≡ thread (2 * j) w = other (2 * j) not_due.1 in
@@ -367,12 +394,15 @@ module _ (at : ℕ → Option Wait) (w : Woven) (stamps : List ℕ) (h : IsHung 
             let front = thread (2 * j) w ++ before in
             let old : thread (2 * j) w ++ thread (2 * j + 1) w ≡ front ++ behind =
             ap (λ l. thread (2 * j) w ++ l) (ap (λ i. thread i w) waiting.1 ∙ is) ∙ sym (append_assoc (thread (2 * j) w) before behind) in
-            let now : thread (2 * j) new ++ thread (2 * j + 1) new ≡ front ++ p ∷ behind = (λ i. first i ++ second i) ∙ sym (append_assoc (thread (2 * j) w) before (p ∷ behind)) in
+            let now : thread (2 * j) new ++ thread (2 * j + 1) new ≡ front ++ p ∷ behind = (λ i. first i ++ second i)
+                  ∙ sym (append_assoc (thread (2 * j) w) before (p ∷ behind)) in
             let away = λ (q : ℕ) (on : is_on q (front ++ behind) ≡ true). two-apart j q (ap (is_on q) old ∙ on) in
             subst (Ascending with_it) (sym now) (asc-insert with_it p front behind
             (kept_order (front ++ behind) away (subst (Ascending at) old (h.ordered j lt)))
-            (λ q on. let le = fit.waiting_below j (sym waiting.1) lt q on in let s = same_at q (away q (on-left q front behind on)) in omega (arith, le, s, it))
-            (λ q on. let le = fit.waiting_above j (sym waiting.1) lt q on in let s = same_at q (away q (on-right q front behind on)) in omega (arith, le, s, it)))
+            (λ q on. let le = fit.waiting_below j (sym waiting.1) lt q on in let s = same_at q (away q (on-left q front behind on)) in
+                omega (arith, le, s, it))
+            (λ q on. let le = fit.waiting_above j (sym waiting.1) lt q on in let s = same_at q (away q (on-right q front behind on)) in
+                omega (arith, le, s, it)))
         | inr neither ↦
             subst (Ascending with_it) (λ i. sym (other (2 * j) not_due.1) i ++ sym (other (2 * j + 1) neither.1) i)
             (kept_order (thread (2 * j) w ++ thread (2 * j + 1) w) (two-apart j) (h.ordered j lt))
@@ -387,14 +417,16 @@ module _ (at : ℕ → Option Wait) (w : Woven) (stamps : List ℕ) (h : IsHung 
     }
 
 -- what says the same of each place
-pub hung-same : (at new : ℕ → Option Wait) (w : Woven) (stamps : List ℕ) → ((q : ℕ) → new q ≡ at q) → IsHung at w stamps → IsHung new w stamps
+pub hung-same : (at new : ℕ → Option Wait) (w : Woven) (stamps : List ℕ) → ((q : ℕ) → new q ≡ at q) → IsHung at w stamps →
+    IsHung new w stamps
 hung-same at new w stamps e h = subst (λ f. IsHung f w stamps) (λ i q. sym (e q) i) h
 
 -- ---- where a threshold belongs
 pub next-rest : (b : Option ℕ) (ps : List ℕ) → next_in b ps ≡ first_place (rest_after b ps)
 next-rest None ps = refl
 next-rest (Some q) [] = refl
-next-rest (Some q) (p ∷ ps) = elim (nat_eq p q) as (λ b. cond b (first_place ps) (place_after q ps) ≡ first_place (cond b ps (rest_after (Some q) ps))) [
+next-rest (Some q) (p ∷ ps) = elim (nat_eq p q) as (λ b. cond b (first_place ps) (place_after q ps) ≡ first_place
+    (cond b ps (rest_after (Some q) ps))) [
   | true ↦ refl
   | false ↦ next-rest (Some q) ps
 ]
@@ -406,7 +438,8 @@ or_false false b e = (refl, e)
 off-before : (xs : List ℕ) (q : ℕ) (ys : List ℕ) → AreApart (xs ++ q ∷ ys) → is_on q xs ≡ false
 off-before [] q ys a = refl
 off-before (x ∷ xs) q ys a = elim (eqb_tells x q) [
-  | inl same ↦ let on : is_on x (xs ++ q ∷ ys) ≡ true = ap (λ i. is_on i (xs ++ q ∷ ys)) same.1 ∙ on-here q xs ys in let no : false ≡ true = sym a.0 ∙ on in cc
+  | inl same ↦ let on : is_on x (xs ++ q ∷ ys) ≡ true = ap (λ i. is_on i (xs ++ q ∷ ys)) same.1 ∙ on-here q xs ys in
+      let no : false ≡ true = sym a.0 ∙ on in cc
   | inr other ↦ rw other.0 (off-before xs q ys a.1)
 ]
 
@@ -436,7 +469,8 @@ module _ (P : ℕ → Type 0) where
   pub walk-begin : (ps : List ℕ) → IsWalk None ps
   walk-begin ps = record { before = []; is = refl; put = λ p. refl; there = tt; passed = λ q on. cc }
 
-  pub walk-step : (b : Option ℕ) (ps : List ℕ) (q : ℕ) → IsWalk b ps → AreApart ps → next_in b ps ≡ Some q → P q → IsWalk (Some q) ps × (length (rest_after (Some q) ps) < length (rest_after b ps))
+  pub walk-step : (b : Option ℕ) (ps : List ℕ) (q : ℕ) → IsWalk b ps → AreApart ps → next_in b ps ≡ Some q → P q → IsWalk (Some q) ps ×
+      (length (rest_after (Some q) ps) < length (rest_after b ps))
   walk-step b ps q w a e here =
       let f = first-cons (rest_after b ps) q (sym (next-rest b ps) ∙ e) in
       let ys = f.0 in
@@ -448,7 +482,8 @@ module _ (P : ℕ → Type 0) where
         record {
           before = more;
           is = split ∙ sym (append_assoc front (q ∷ []) ys) ∙ ap (λ l. more ++ l) (sym rest);
-          put = λ p. ap (placed_after (Some q) p) split ∙ put-middle front q p ys off ∙ sym (append_assoc front (q ∷ []) (p ∷ ys)) ∙ ap (λ l. more ++ p ∷ l) (sym rest);
+          put = λ p. ap (placed_after (Some q) p) split ∙ put-middle front q p ys off ∙ sym (append_assoc front (q ∷ []) (p ∷ ys))
+              ∙ ap (λ l. more ++ p ∷ l) (sym rest);
           there = ap (is_on q) split ∙ on-here q front ys;
           passed = λ r on. elim (on-either r front (q ∷ []) on) [
             | inl there ↦ w.passed r there
@@ -466,7 +501,8 @@ module _ (P : ℕ → Type 0) where
       w.passed q (subst (λ l. is_on q l ≡ true) whole on)
 
 module _ (at : ℕ → Option Wait) (threshold : ℕ) where
-  pub walk-end : (b : Option ℕ) (ps : List ℕ) → IsWalk (λ q. threshold_of (at q) ≤ threshold) b ps → Ascending at ps → ((q : ℕ) → next_in b ps ≡ Some q → threshold < threshold_of (at q)) → IsGap at threshold b ps
+  pub walk-end : (b : Option ℕ) (ps : List ℕ) → IsWalk (λ q. threshold_of (at q) ≤ threshold) b ps → Ascending at ps →
+      ((q : ℕ) → next_in b ps ≡ Some q → threshold < threshold_of (at q)) → IsGap at threshold b ps
   walk-end b ps w a h = record {
     before = w.before;
     behind = rest_after b ps;
@@ -487,7 +523,8 @@ module _ (at : ℕ → Option Wait) (threshold : ℕ) where
             | inr later ↦ let le = asc.0 r later in omega (arith, lt, le)
           ]
 
-  pub gap-last : (ps : List ℕ) (q : ℕ) → AreApart ps → Ascending at ps → last_place ps ≡ Some q → threshold_of (at q) ≤ threshold → IsGap at threshold (Some q) ps
+  pub gap-last : (ps : List ℕ) (q : ℕ) → AreApart ps → Ascending at ps → last_place ps ≡ Some q → threshold_of (at q) ≤ threshold →
+      IsGap at threshold (Some q) ps
   gap-last ps q a asc e le =
       let f = last-snoc ps q e in
       let front = f.0 in
@@ -497,7 +534,8 @@ module _ (at : ℕ → Option Wait) (threshold : ℕ) where
         before = ps;
         behind = [];
         is = sym (append-nil ps);
-        put = λ p. ap (placed_after (Some q) p) f.1 ∙ put-middle front q p [] off ∙ sym (append_assoc front (q ∷ []) (p ∷ [])) ∙ ap (λ l. l ++ p ∷ []) (sym f.1);
+        put = λ p. ap (placed_after (Some q) p) f.1 ∙ put-middle front q p [] off ∙ sym (append_assoc front (q ∷ []) (p ∷ []))
+            ∙ ap (λ l. l ++ p ∷ []) (sym f.1);
         there = ap (is_on q) f.1 ∙ on-here q front [];
         below = λ r on. elim (on-either r front (q ∷ []) (ap (is_on r) (sym f.1) ∙ on)) [
           | inl there ↦ let b = asc-below at front q [] sorted r there in omega (arith, b, le)
@@ -522,7 +560,8 @@ next-on None [] q e = cc
 next-on None (p ∷ ps) q e = let same : p ≡ q = cc in ap (λ b. b || is_on q ps) (eq-eqb p q same)
 next-on (Some r) [] q e = cc
 next-on (Some r) (p ∷ ps) q e =
-    or_right (nat_eq p q) (is_on q ps) (elim (nat_eq p r) as (λ b. cond b (first_place ps) (place_after r ps) ≡ Some q → is_on q ps ≡ true) [
+    or_right (nat_eq p q) (is_on q ps) (elim (nat_eq p r) as (λ b. cond b (first_place ps) (place_after r ps) ≡ Some q →
+        is_on q ps ≡ true) [
       | true ↦ λ f. next-on None ps q f
       | false ↦ λ f. next-on (Some r) ps q f
     ] e)

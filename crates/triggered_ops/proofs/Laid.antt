@@ -1,5 +1,6 @@
 -- What always holds of the pending operations, after each call.
-use Rattle.std.proofs.Common.{◌≡◌, ℕ, suc, ◌+◌, ◌*◌, ◌/◌, ◌^◌, ◌<◌, ◌≤◌, true, false, cond, List, [], ◌∷◌, ◌++◌, map, filter, find, length, get_or, replicate, Option, Some, None, refl, sym, ap, subst, ◌∙◌, inl, inr, arith, length-append}
+use Rattle.std.proofs.Common.{◌≡◌, ℕ, suc, ◌+◌, ◌*◌, ◌/◌, ◌^◌, ◌<◌, ◌≤◌, true, false, cond, List, [], ◌∷◌, ◌++◌, map, filter, find, length,
+    get_or, replicate, Option, Some, None, refl, sym, ap, subst, ◌∙◌, inl, inr, arith, length-append}
 use Rattle.std.specs.Prelude.{All, AllPairs, is_some, option_map, slice_get}
 use Rattle.std.proofs.lemmas.List.{length-map}
 use Rattle.std.proofs.lemmas.List.Elements.{All-nil, All-head, All-tail, All-push, All-weaker}
@@ -11,7 +12,8 @@ use Rattle.chain_list.specs.threads.Threads.{Woven, woven}
 use Rattle.triggered_ops.specs.declared.spots.Spot.{Spot}
 use Rattle.triggered_ops.specs.Operations.{Operation, Operations, IsKept, operation_at, is_number, is_due, is_due_op, waits_on, told_if}
 use Rattle.triggered_ops.specs.Hung.{WaitsOn, IsHung, IsLaid, IsSame, IsThinner}
-use Rattle.triggered_ops.specs.Layout.{Spotted, no_spots, numbers_of, operations_in, operations_of, operation, op_with, before_all, op_at, wait_with, wait_at}
+use Rattle.triggered_ops.specs.Layout.{Spotted, no_spots, numbers_of, operations_in, operations_of, operation, op_with, before_all, op_at,
+    wait_with, wait_at}
 use Rattle.triggered_ops.proofs.Found.{all-operations, rising-operations, find-behind, found-here}
 use Rattle.triggered_ops.proofs.Entering.{none-hung}
 use Rattle.triggered_ops.proofs.Places.{same-length, wait-within, waits-is, wait_for, op-wait}
@@ -19,7 +21,8 @@ use Rattle.triggered_ops.proofs.Rising.{Rises, length-filter_le, pairs-head, pai
 
 module _ {D : Type 0} where
   -- the value keeps what a caller is told
-  pub laid-kept : (s : Spotted D) (w : Woven) (stamps : List ℕ) (given limit : ℕ) → IsLaid s w stamps given limit → given < 2 ^ 32 → IsKept (operations_of s given limit)
+  pub laid-kept : (s : Spotted D) (w : Woven) (stamps : List ℕ) (given limit : ℕ) → IsLaid s w stamps given limit → given < 2 ^ 32 →
+      IsKept (operations_of s given limit)
   laid-kept s w stamps given limit l numbers = record {
     rising = rising-operations s.spots l.rising;
     were_given = all-operations (λ n. n < given) s.spots l.below;
@@ -28,15 +31,18 @@ module _ {D : Type 0} where
   }
 
   -- what hangs lies within the threads
-  pub laid-within : (s : Spotted D) (w : Woven) (stamps : List ℕ) (given limit : ℕ) → IsLaid s w stamps given limit → length s.spots ≤ w.places
+  pub laid-within : (s : Spotted D) (w : Woven) (stamps : List ℕ) (given limit : ℕ) → IsLaid s w stamps given limit →
+      length s.spots ≤ w.places
   laid-within s w stamps given limit l = omega (arith, l.places, l.fits)
 
   -- and there is room for more, where fewer wait than may
-  pub laid-room : (s : Spotted D) (w : Woven) (stamps : List ℕ) (given limit : ℕ) → IsLaid s w stamps given limit → length (operations_in s.spots) < limit → length (operations_in s.spots) < s.room
+  pub laid-room : (s : Spotted D) (w : Woven) (stamps : List ℕ) (given limit : ℕ) → IsLaid s w stamps given limit →
+      length (operations_in s.spots) < limit → length (operations_in s.spots) < s.room
   laid-room s w stamps given limit l lt = omega (arith, l.room, lt)
 
   -- places that keep their numbers
-  pub laid-same : (s t : Spotted D) (w v : Woven) (stamps : List ℕ) (given limit : ℕ) → IsLaid s w stamps given limit → IsSame s t → IsHung (wait_at t.spots) v stamps → v.places ≡ w.places → length (operations_in t.spots) ≤ length (operations_in s.spots)
+  pub laid-same : (s t : Spotted D) (w v : Woven) (stamps : List ℕ) (given limit : ℕ) → IsLaid s w stamps given limit → IsSame s t →
+      IsHung (wait_at t.spots) v stamps → v.places ≡ w.places → length (operations_in t.spots) ≤ length (operations_in s.spots)
       → IsLaid t v stamps given limit
   laid-same s t w v stamps given limit l same hung places fewer = record {
     rising = subst (AllPairs (λ a b. a < b)) (sym same.numbers) l.rising;
@@ -51,15 +57,20 @@ module _ {D : Type 0} where
   }
 
   -- one more is posted
-  pub laid-posted : (s t u : Spotted D) (w v : Woven) (stamps stamps2 : List ℕ) (given limit : ℕ) → IsLaid s w stamps given limit → length (operations_in s.spots) < limit → IsThinner (numbers_of s.spots) (numbers_of t.spots)
-      → numbers_of u.spots ≡ numbers_of t.spots ++ given ∷ [] → length t.spots < s.room → u.room ≡ s.room → length (operations_in u.spots) ≡ length (operations_in s.spots) + 1 → IsHung (wait_at u.spots) v stamps2 → v.places ≡ w.places → length stamps2 ≡ length stamps
+  pub laid-posted : (s t u : Spotted D) (w v : Woven) (stamps stamps2 : List ℕ) (given limit : ℕ) → IsLaid s w stamps given limit →
+      length (operations_in s.spots) < limit → IsThinner (numbers_of s.spots) (numbers_of t.spots)
+      → numbers_of u.spots ≡ numbers_of t.spots ++ given ∷ [] → length t.spots < s.room → u.room ≡ s.room →
+          length (operations_in u.spots) ≡ length (operations_in s.spots) + 1 → IsHung (wait_at u.spots) v stamps2 → v.places ≡ w.places →
+          length stamps2 ≡ length stamps
       → IsLaid u v stamps2 (given + 1) limit
   laid-posted s t u w v stamps stamps2 given limit l less thin numbers short room more hung places long =
       let rising = thin.rising l.rising in
       let below = thin.below given l.below in
       record {
         rising = subst (AllPairs (λ a b. a < b)) (sym numbers) (all_pairs_push (λ a b. a < b) (numbers_of t.spots) given rising below);
-        below = subst (All (λ n. n < given + 1)) (sym numbers) (All-push (λ n. n < given + 1) (numbers_of t.spots) given (All-weaker (λ n. n < given) (λ n. n < given + 1) (λ n lt. omega arith) (numbers_of t.spots) below) (omega arith));
+        below = subst (All (λ n. n < given + 1)) (sym numbers)
+            (All-push (λ n. n < given + 1) (numbers_of t.spots) given
+            (All-weaker (λ n. n < given) (λ n. n < given + 1) (λ n lt. omega arith) (numbers_of t.spots) below) (omega arith));
         limited = omega (arith, more, less);
         fits =
             let a = length-map u.spots (λ (x : Spot D). x.number) in
@@ -74,7 +85,8 @@ module _ {D : Type 0} where
         at_most = omega (arith, long, l.at_most);
       }
 
-  pub told-length : (s t : Spotted D) (ct : Handle) (sum : ℕ) → operations_in t.spots ≡ map (told_if (waits_on ct) sum) (operations_in s.spots) → length (operations_in t.spots) ≡ length (operations_in s.spots)
+  pub told-length : (s t : Spotted D) (ct : Handle) (sum : ℕ) → operations_in t.spots ≡ map (told_if (waits_on ct) sum)
+      (operations_in s.spots) → length (operations_in t.spots) ≡ length (operations_in s.spots)
   told-length s t ct sum e = ap length e ∙ length-map (operations_in s.spots) (told_if (waits_on ct) sum)
 
   -- what wasn't given isn't found
@@ -92,14 +104,17 @@ module _ {D : Type 0} where
   pub length-due : (ss : List (Spot D)) → length (filter is_due (operations_in ss)) ≤ length (operations_in ss)
   length-due ss = length-filter_le is_due (operations_in ss)
 
-  pub due-numbers_long : (ss : List (Spot D)) → length (map (λ (p : Operation D). p.number) (filter is_due (operations_in ss))) ≡ length (filter is_due (operations_in ss))
+  pub due-numbers_long : (ss : List (Spot D)) → length (map (λ (p : Operation D). p.number) (filter is_due (operations_in ss))) ≡ length
+      (filter is_due (operations_in ss))
   due-numbers_long ss = length-map (filter is_due (operations_in ss)) (λ (p : Operation D). p.number)
 
   -- the first of them is ready
-  pub first-due : (os : List (Operation D)) (t : ℕ) → AllPairs Rises os → slice_get (map (λ (p : Operation D). p.number) (filter is_due os)) 0 ≡ Some t → is_due_op (find (is_number t) os) ≡ true
+  pub first-due : (os : List (Operation D)) (t : ℕ) → AllPairs Rises os →
+      slice_get (map (λ (p : Operation D). p.number) (filter is_due os)) 0 ≡ Some t → is_due_op (find (is_number t) os) ≡ true
   first-due [] t all e = cc
   first-due (o ∷ os) t all e =
-      elim o.due as (λ b. o.due ≡ b → slice_get (map (λ (p : Operation D). p.number) (cond b (o ∷ filter is_due os) (filter is_due os))) 0 ≡ Some t → is_due_op (find (is_number t) (o ∷ os)) ≡ true) [
+      elim o.due as (λ b. o.due ≡ b → slice_get (map (λ (p : Operation D). p.number) (cond b (o ∷ filter is_due os) (filter is_due os))) 0
+          ≡ Some t → is_due_op (find (is_number t) (o ∷ os)) ≡ true) [
         | true ↦ λ d f.
             let number : o.number ≡ t = cc in
             let here : is_number t o ≡ true = eq-eqb o.number t number in
@@ -119,7 +134,8 @@ module _ {D : Type 0} where
   pub none-due : (os : List (Operation D)) → length (filter is_due os) ≡ 0 → (t : ℕ) → is_due_op (find (is_number t) os) ≡ false
   none-due [] e t = refl
   none-due (o ∷ os) e t =
-      elim o.due as (λ b. o.due ≡ b → length (cond b (o ∷ filter is_due os) (filter is_due os)) ≡ 0 → is_due_op (find (is_number t) (o ∷ os)) ≡ false) [
+      elim o.due as (λ b. o.due ≡ b → length (cond b (o ∷ filter is_due os) (filter is_due os)) ≡ 0 →
+          is_due_op (find (is_number t) (o ∷ os)) ≡ false) [
         | true ↦ λ d f. absurd (omega (arith, f))
         | false ↦ λ d f. elim (is_number t o) as (λ b. is_due_op (cond b (Some o) (find (is_number t) os)) ≡ false) [
           | true ↦ d
@@ -128,7 +144,8 @@ module _ {D : Type 0} where
       ] refl e
 
   -- ---- none at first
-  pub laid-none : (s : Spotted D) (w : Woven) (stamps : List ℕ) (events limit : ℕ) → s ≡ no_spots (limit + limit / 4) → w ≡ woven (replicate (2 * events + 1) []) (limit + limit / 4) → length stamps ≡ events → limit ≤ 2 ^ 27 → events ≤ 2 ^ 27
+  pub laid-none : (s : Spotted D) (w : Woven) (stamps : List ℕ) (events limit : ℕ) → s ≡ no_spots (limit + limit / 4) →
+      w ≡ woven (replicate (2 * events + 1) []) (limit + limit / 4) → length stamps ≡ events → limit ≤ 2 ^ 27 → events ≤ 2 ^ 27
       → IsLaid s w stamps 0 limit
   laid-none s w stamps events limit es ew long small at_most =
       let hung = none-hung w stamps (2 * events + 1) (limit + limit / 4) ew (omega (arith, long)) in
@@ -146,28 +163,34 @@ module _ {D : Type 0} where
       })
 
   -- ---- one by its number, of those that wait
-  pub find-view : (s : Spotted D) (given limit t : ℕ) (ops : Operations D) → operations_of s given limit ≡ ops → find (is_number t) (operations_in s.spots) ≡ operation_at t ops
+  pub find-view : (s : Spotted D) (given limit t : ℕ) (ops : Operations D) → operations_of s given limit ≡ ops →
+      find (is_number t) (operations_in s.spots) ≡ operation_at t ops
   find-view s given limit t ops e = ap (operation_at t) e
 
   -- ---- those that wait on a counting event
   pub waiting-found : (s : Spotted D) (p : ℕ) (ct : Handle) → AllPairs (λ a b. a < b) (numbers_of s.spots) → WaitsOn ct (wait_at s.spots p)
-      → (p < length s.spots) × (option_map (waits_on ct) (find (is_number (get_or (numbers_of s.spots) p 0)) (operations_in s.spots)) ≡ Some true)
+      → (p < length s.spots) × (option_map (waits_on ct) (find (is_number (get_or (numbers_of s.spots) p 0)) (operations_in s.spots))
+          ≡ Some true)
   waiting-found s p ct rising on =
       let x = waits-is ct (wait_at s.spots p) on in
       let lt = wait-within s.spots p (ap is_some x.1) in
-      (lt, ap (option_map (waits_on ct)) (found-here s.spots (get_or (numbers_of s.spots) p 0) p rising (lt, refl)) ∙ go (op_at s.spots p) (subst (WaitsOn ct) (op-wait s.spots p) on))
+      (lt, ap (option_map (waits_on ct)) (found-here s.spots (get_or (numbers_of s.spots) p 0) p rising (lt, refl))
+          ∙ go (op_at s.spots p) (subst (WaitsOn ct) (op-wait s.spots p) on))
     where
       go : (o : Option (Operation D)) → WaitsOn ct (option_map wait_for o) → option_map (waits_on ct) o ≡ Some true
       go None w = absurd w
       go (Some o) w = ap (λ b. Some b) w
 
-  pub waiting-none : (ss : List (Spot D)) (ct : Handle) → ((p : ℕ) → WaitsOn ct (wait_at ss p) → ⊥) → filter (waits_on ct) (operations_in ss) ≡ []
+  pub waiting-none : (ss : List (Spot D)) (ct : Handle) → ((p : ℕ) → WaitsOn ct (wait_at ss p) → ⊥) →
+      filter (waits_on ct) (operations_in ss) ≡ []
   waiting-none [] ct h = refl
   waiting-none (s ∷ ss) ct h = go s.deed (h 0) (waiting-none ss ct (λ p. h (suc p)))
     where
-      go : (o : Option D) → (WaitsOn ct (wait_with s o) → ⊥) → filter (waits_on ct) (operations_in ss) ≡ [] → filter (waits_on ct) (before_all (op_with s o) (operations_in ss)) ≡ []
+      go : (o : Option D) → (WaitsOn ct (wait_with s o) → ⊥) → filter (waits_on ct) (operations_in ss) ≡ [] →
+          filter (waits_on ct) (before_all (op_with s o) (operations_in ss)) ≡ []
       go None n rest = rest
-      go (Some d) n rest = elim (waits_on ct (operation s d)) as (λ b. waits_on ct (operation s d) ≡ b → cond b (operation s d ∷ filter (waits_on ct) (operations_in ss)) (filter (waits_on ct) (operations_in ss)) ≡ []) [
+      go (Some d) n rest = elim (waits_on ct (operation s d)) as (λ b. waits_on ct (operation s d) ≡ b →
+          cond b (operation s d ∷ filter (waits_on ct) (operations_in ss)) (filter (waits_on ct) (operations_in ss)) ≡ []) [
         | true ↦ λ is. absurd (n is)
         | false ↦ λ is. rest
       ] refl

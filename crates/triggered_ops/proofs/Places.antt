@@ -1,5 +1,6 @@
 -- Places: what one change of them makes of what waits, of the operations, the numbers and the marks.
-use Rattle.std.proofs.Common.{◌≡◌, ◌≢◌, ℕ, zero, suc, ◌+◌, ◌-◌, ◌<◌, ◌≤◌, Bool, true, false, cond, nat_eq, List, [], ◌∷◌, ◌++◌, map, filter, length, take, get_or, set, replicate, sum, Option, Some, None, refl, sym, ap, subst, ◌∙◌, inl, inr, arith, length-set}
+use Rattle.std.proofs.Common.{◌≡◌, ◌≢◌, ℕ, zero, suc, ◌+◌, ◌-◌, ◌<◌, ◌≤◌, Bool, true, false, cond, nat_eq, List, [], ◌∷◌, ◌++◌, map, filter,
+    length, take, get_or, set, replicate, sum, Option, Some, None, refl, sym, ap, subst, ◌∙◌, inl, inr, arith, length-set}
 use Rattle.std.specs.Prelude.{is_some, option_map, slice_get}
 use Rattle.std.proofs.lemmas.Bool.Decides.{eqb_tells}
 use Rattle.std.proofs.lemmas.List.{length-map, set-append_left}
@@ -10,7 +11,8 @@ use Rattle.triggered_ops.specs.declared.spots.Spot.{Spot}
 use Rattle.triggered_ops.specs.declared.spots.Wait.{Wait}
 use Rattle.triggered_ops.specs.Operations.{Operation, is_due, deed_of}
 use Rattle.triggered_ops.specs.Hung.{threshold_of, IsSame, WaitsOn}
-use Rattle.triggered_ops.specs.Layout.{Spotted, numbers_of, operation, op_with, op_of, before_all, operations_in, op_at, wait_with, wait_of, wait_at, changed, settled, emptied, mark_with, dues_of}
+use Rattle.triggered_ops.specs.Layout.{Spotted, numbers_of, operation, op_with, op_of, before_all, operations_in, op_at, wait_with, wait_of,
+    wait_at, changed, settled, emptied, mark_with, dues_of}
 
 abbrev pub with_due : Bool → Wait → Wait
 with_due due x = record x { due = due }
@@ -18,7 +20,8 @@ with_due due x = record x { due = due }
 module _ {D : Type 0} where
   -- ---- one place is changed
   module _ (f : Spot D → Spot D) where
-    pub changed-here : (g : Option Wait → Option Wait) → ((s : Spot D) → wait_of (f s) ≡ g (wait_of s)) → g None ≡ None → (p : ℕ) (ss : List (Spot D)) → wait_at (changed f p ss) p ≡ g (wait_at ss p)
+    pub changed-here : (g : Option Wait → Option Wait) → ((s : Spot D) → wait_of (f s) ≡ g (wait_of s)) → g None ≡ None →
+        (p : ℕ) (ss : List (Spot D)) → wait_at (changed f p ss) p ≡ g (wait_at ss p)
     changed-here g h n p [] = sym n
     changed-here g h n zero (s ∷ ss) = h s
     changed-here g h n (suc p) (s ∷ ss) = changed-here g h n p ss
@@ -30,7 +33,8 @@ module _ {D : Type 0} where
     changed-other (suc p) zero (s ∷ ss) n = refl
     changed-other (suc p) (suc q) (s ∷ ss) n = changed-other p q ss (λ e. n (ap (λ i. suc i) e))
 
-    pub changed-numbers : ((s : Spot D) → (f s).number ≡ s.number) → (p : ℕ) (ss : List (Spot D)) → numbers_of (changed f p ss) ≡ numbers_of ss
+    pub changed-numbers : ((s : Spot D) → (f s).number ≡ s.number) → (p : ℕ) (ss : List (Spot D)) →
+        numbers_of (changed f p ss) ≡ numbers_of ss
     changed-numbers h p [] = refl
     changed-numbers h zero (s ∷ ss) = ap (λ n. n ∷ numbers_of ss) (h s)
     changed-numbers h (suc p) (s ∷ ss) = ap (λ r. s.number ∷ r) (changed-numbers h p ss)
@@ -46,7 +50,8 @@ module _ {D : Type 0} where
     changed-set zero (s ∷ ss) d lt = refl
     changed-set (suc p) (s ∷ ss) d lt = ap (λ r. s ∷ r) (changed-set p ss d (omega (arith, lt)))
 
-    pub changed-dues : (p v : ℕ) (ss : List (Spot D)) → ((s : Spot D) → wait_of s ≡ wait_at ss p → mark_with (f s).due (f s).deed ≡ v) → dues_of (changed f p ss) ≡ set (dues_of ss) p v
+    pub changed-dues : (p v : ℕ) (ss : List (Spot D)) → ((s : Spot D) → wait_of s ≡ wait_at ss p → mark_with (f s).due (f s).deed ≡ v) →
+        dues_of (changed f p ss) ≡ set (dues_of ss) p v
     changed-dues p v [] h = refl
     changed-dues zero v (s ∷ ss) h = ap (λ n. n ∷ dues_of ss) (h s refl)
     changed-dues (suc p) v (s ∷ ss) h = ap (λ r. mark_with s.due s.deed ∷ r) (changed-dues p v ss h)
@@ -56,9 +61,11 @@ module _ {D : Type 0} where
   due_with v s None = refl
   due_with v s (Some d) = refl
 
-  pub settled-at : (p : ℕ) (v : Bool) (ss : List (Spot D)) (q : ℕ) → wait_at (settled p v ss) q ≡ cond (nat_eq q p) (option_map (with_due v) (wait_at ss q)) (wait_at ss q)
+  pub settled-at : (p : ℕ) (v : Bool) (ss : List (Spot D)) (q : ℕ) →
+      wait_at (settled p v ss) q ≡ cond (nat_eq q p) (option_map (with_due v) (wait_at ss q)) (wait_at ss q)
   settled-at p v ss q = elim (eqb_tells q p) [
-    | inl same ↦ rw same.0 (ap (wait_at (settled p v ss)) same.1 ∙ changed-here (λ s. record s { due = v }) (option_map (with_due v)) (λ s. due_with v s s.deed) refl p ss ∙ ap (λ i. option_map (with_due v) (wait_at ss i)) (sym same.1))
+    | inl same ↦ rw same.0 (ap (wait_at (settled p v ss)) same.1 ∙ changed-here (λ s. record s { due = v }) (option_map (with_due v))
+        (λ s. due_with v s s.deed) refl p ss ∙ ap (λ i. option_map (with_due v) (wait_at ss i)) (sym same.1))
     | inr other ↦ rw other.0 (changed-other (λ s. record s { due = v }) p q ss other.1)
   ]
 
@@ -68,7 +75,8 @@ module _ {D : Type 0} where
   -- it is emptied
   pub emptied-at : (p : ℕ) (ss : List (Spot D)) (q : ℕ) → wait_at (emptied p ss) q ≡ cond (nat_eq q p) None (wait_at ss q)
   emptied-at p ss q = elim (eqb_tells q p) [
-    | inl same ↦ rw same.0 (ap (wait_at (emptied p ss)) same.1 ∙ changed-here (λ s. record s { deed = None }) (λ o. None) (λ s. refl) refl p ss)
+    | inl same ↦ rw same.0 (ap (wait_at (emptied p ss)) same.1 ∙ changed-here (λ s. record s { deed = None }) (λ o. None) (λ s. refl) refl
+        p ss)
     | inr other ↦ rw other.0 (changed-other (λ s. record s { deed = None }) p q ss other.1)
   ]
 
@@ -126,12 +134,14 @@ module _ {D : Type 0} where
   length-dues ss = length-map ss (λ (s : Spot D). mark_with s.due s.deed)
 
   -- a mark of a place that is one
-  pub marked-set : (marks : List ℕ) (ss new : List (Spot D)) (p v : ℕ) → marks ≡ dues_of ss ++ replicate (length marks - length ss) 0 → p < length ss → length new ≡ length ss → dues_of new ≡ set (dues_of ss) p v
+  pub marked-set : (marks : List ℕ) (ss new : List (Spot D)) (p v : ℕ) → marks ≡ dues_of ss ++ replicate (length marks - length ss) 0 →
+      p < length ss → length new ≡ length ss → dues_of new ≡ set (dues_of ss) p v
       → set marks p v ≡ dues_of new ++ replicate (length (set marks p v) - length new) 0
   marked-set marks ss new p v is lt long e =
       let l = length-dues ss in
       let pad : length marks - length ss ≡ length (set marks p v) - length new = omega (arith, long, length-set marks p v) in
-      ap (λ m. set m p v) is ∙ set-append_left (dues_of ss) (replicate (length marks - length ss) 0) p v (omega (arith, l, lt)) ∙ (λ i. sym e i ++ replicate (pad i) 0)
+      ap (λ m. set m p v) is ∙ set-append_left (dues_of ss) (replicate (length marks - length ss) 0) p v (omega (arith, l, lt))
+          ∙ (λ i. sym e i ++ replicate (pad i) 0)
 
   -- ---- how many wait
   abbrev pub count_with : Option D → ℕ
@@ -156,25 +166,31 @@ module _ {D : Type 0} where
 
   pub settled-count : (p : ℕ) (v : Bool) (ss : List (Spot D)) → length (operations_in (settled p v ss)) ≡ length (operations_in ss)
   settled-count p v [] = refl
-  settled-count zero v (s ∷ ss) = count-first (record s { due = v }) s.deed (operations_in ss) ∙ sym (count-first s s.deed (operations_in ss))
-  settled-count (suc p) v (s ∷ ss) = count-first s s.deed (operations_in (settled p v ss)) ∙ ap (λ n. count_with s.deed + n) (settled-count p v ss) ∙ sym (count-first s s.deed (operations_in ss))
+  settled-count zero v (s ∷ ss) = count-first (record s { due = v }) s.deed (operations_in ss)
+      ∙ sym (count-first s s.deed (operations_in ss))
+  settled-count (suc p) v (s ∷ ss) = count-first s s.deed (operations_in (settled p v ss))
+      ∙ ap (λ n. count_with s.deed + n) (settled-count p v ss) ∙ sym (count-first s s.deed (operations_in ss))
 
   some_count : (s : Spot D) (o : Option D) → is_some (wait_with s o) ≡ true → count_with o ≡ 1
   some_count s None e = cc
   some_count s (Some d) e = refl
 
-  pub emptied-count : (p : ℕ) (ss : List (Spot D)) → is_some (wait_at ss p) ≡ true → length (operations_in (emptied p ss)) + 1 ≡ length (operations_in ss)
+  pub emptied-count : (p : ℕ) (ss : List (Spot D)) → is_some (wait_at ss p) ≡ true → length (operations_in (emptied p ss)) + 1 ≡ length
+      (operations_in ss)
   emptied-count p [] e = cc
-  emptied-count zero (s ∷ ss) e = let c = count-first s s.deed (operations_in ss) in let one = some_count s s.deed e in omega (arith, c, one)
+  emptied-count zero (s ∷ ss) e = let c = count-first s s.deed (operations_in ss) in let one = some_count s s.deed e in
+      omega (arith, c, one)
   emptied-count (suc p) (s ∷ ss) e =
       let r = emptied-count p ss e in
       let a = count-first s s.deed (operations_in (emptied p ss)) in
       let b = count-first s s.deed (operations_in ss) in
       omega (arith, r, a, b)
 
-  pub set-count : (ss : List (Spot D)) (p : ℕ) (s d : Spot D) → p < length ss → length (operations_in (set ss p s)) + count_with (get_or ss p d).deed ≡ length (operations_in ss) + count_with s.deed
+  pub set-count : (ss : List (Spot D)) (p : ℕ) (s d : Spot D) → p < length ss → length (operations_in (set ss p s)) + count_with
+      (get_or ss p d).deed ≡ length (operations_in ss) + count_with s.deed
   set-count [] p s d lt = absurd (omega (arith, lt))
-  set-count (t ∷ ss) zero s d lt = let a = count-first s s.deed (operations_in ss) in let b = count-first t t.deed (operations_in ss) in omega (arith, a, b)
+  set-count (t ∷ ss) zero s d lt = let a = count-first s s.deed (operations_in ss) in let b = count-first t t.deed (operations_in ss) in
+      omega (arith, a, b)
   set-count (t ∷ ss) (suc p) s d lt =
       let r = set-count ss p s d (omega (arith, lt)) in
       let a = count-first t t.deed (operations_in (set ss p s)) in
@@ -185,14 +201,17 @@ module _ {D : Type 0} where
   append-operations [] ys = refl
   append-operations (x ∷ xs) ys = ap (before_all (op_of x)) (append-operations xs ys) ∙ go (op_of x)
     where
-      go : (o : Option (Operation D)) → before_all o (operations_in xs ++ operations_in ys) ≡ before_all o (operations_in xs) ++ operations_in ys
+      go : (o : Option (Operation D)) → before_all o (operations_in xs ++ operations_in ys) ≡ before_all o (operations_in xs) ++
+          operations_in ys
       go None = refl
       go (Some o) = refl
 
   -- ---- the due ones
-  due-first : (s : Spot D) (o : Option D) (os : List (Operation D)) → length (filter is_due (before_all (op_with s o) os)) ≡ mark_with s.due o + length (filter is_due os)
+  due-first : (s : Spot D) (o : Option D) (os : List (Operation D)) → length (filter is_due (before_all (op_with s o) os)) ≡ mark_with
+      s.due o + length (filter is_due os)
   due-first s None os = omega arith
-  due-first s (Some d) os = elim s.due as (λ b. length (cond b (operation s d ∷ filter is_due os) (filter is_due os)) ≡ cond b 1 0 + length (filter is_due os)) [
+  due-first s (Some d) os = elim s.due as (λ b. length (cond b (operation s d ∷ filter is_due os) (filter is_due os)) ≡ cond b 1 0
+      + length (filter is_due os)) [
     | true ↦ omega arith
     | false ↦ omega arith
   ]
@@ -200,17 +219,20 @@ module _ {D : Type 0} where
   pub sum-dues : (ss : List (Spot D)) → sum (dues_of ss) ≡ length (filter is_due (operations_in ss))
   sum-dues [] = refl
   sum-dues (s ∷ ss) =
-      sum_by-cons (λ (n : ℕ). n) (mark_with s.due s.deed) (dues_of ss) ∙ ap (λ n. mark_with s.due s.deed + n) (sum-dues ss) ∙ sym (due-first s s.deed (operations_in ss))
+      sum_by-cons (λ (n : ℕ). n) (mark_with s.due s.deed) (dues_of ss) ∙ ap (λ n. mark_with s.due s.deed + n) (sum-dues ss)
+          ∙ sym (due-first s s.deed (operations_in ss))
 
   abbrev dues_in : List (Operation D) → List ℕ
   dues_in os = map (λ (p : Operation D). p.number) (filter is_due os)
 
-  first_of : (b : Bool) (d : D) (o : Operation D) (os : List (Operation D)) → mark_with b (Some d) ≡ 1 → slice_get (map (λ (p : Operation D). p.number) (cond b (o ∷ os) os)) 0 ≡ Some o.number
+  first_of : (b : Bool) (d : D) (o : Operation D) (os : List (Operation D)) → mark_with b (Some d) ≡ 1 →
+      slice_get (map (λ (p : Operation D). p.number) (cond b (o ∷ os) os)) 0 ≡ Some o.number
   first_of true d o os e = refl
   first_of false d o os e = absurd (omega (arith, e))
 
   -- the i-th of them
-  pub due-found : (ss : List (Spot D)) (rest : List ℕ) (p i : ℕ) → sum (take p (dues_of ss ++ rest)) ≡ i → get_or (dues_of ss ++ rest) p 0 ≡ 1 → p < length ss
+  pub due-found : (ss : List (Spot D)) (rest : List ℕ) (p i : ℕ) → sum (take p (dues_of ss ++ rest)) ≡ i →
+      get_or (dues_of ss ++ rest) p 0 ≡ 1 → p < length ss
       → slice_get (dues_in (operations_in ss)) i ≡ Some (get_or (numbers_of ss) p 0)
   due-found [] rest p i before one lt = absurd (omega (arith, lt))
   due-found (s ∷ ss) rest zero i before one lt = let none : i ≡ 0 = sym before in rw none (go s.deed one)
@@ -225,11 +247,17 @@ module _ {D : Type 0} where
       subst (λ n. slice_get (dues_in (before_all (op_of s) (operations_in ss))) n ≡ Some (get_or (numbers_of ss) p 0)) is (go s.deed r)
     where
       go : (o : Option D) → slice_get (dues_in (operations_in ss)) (sum (take p (dues_of ss ++ rest))) ≡ Some (get_or (numbers_of ss) p 0)
-          → slice_get (dues_in (before_all (op_with s o) (operations_in ss))) (mark_with s.due o + sum (take p (dues_of ss ++ rest))) ≡ Some (get_or (numbers_of ss) p 0)
-      go None r = let z : 0 + sum (take p (dues_of ss ++ rest)) ≡ sum (take p (dues_of ss ++ rest)) = omega arith in ap (slice_get (dues_in (operations_in ss))) z ∙ r
-      go (Some d) r = elim s.due as (λ b. slice_get (map (λ (p : Operation D). p.number) (cond b (operation s d ∷ filter is_due (operations_in ss)) (filter is_due (operations_in ss)))) (cond b 1 0 + sum (take p (dues_of ss ++ rest))) ≡ Some (get_or (numbers_of ss) p 0)) [
-        | true ↦ let z : 1 + sum (take p (dues_of ss ++ rest)) ≡ suc (sum (take p (dues_of ss ++ rest))) = omega arith in ap (slice_get ((operation s d).number ∷ dues_in (operations_in ss))) z ∙ r
-        | false ↦ let z : 0 + sum (take p (dues_of ss ++ rest)) ≡ sum (take p (dues_of ss ++ rest)) = omega arith in ap (slice_get (dues_in (operations_in ss))) z ∙ r
+          → slice_get (dues_in (before_all (op_with s o) (operations_in ss))) (mark_with s.due o + sum (take p (dues_of ss ++ rest)))
+              ≡ Some (get_or (numbers_of ss) p 0)
+      go None r = let z : 0 + sum (take p (dues_of ss ++ rest)) ≡ sum (take p (dues_of ss ++ rest)) = omega arith in
+          ap (slice_get (dues_in (operations_in ss))) z ∙ r
+      go (Some d) r = elim s.due as (λ b. slice_get (map (λ (p : Operation D). p.number)
+          (cond b (operation s d ∷ filter is_due (operations_in ss)) (filter is_due (operations_in ss))))
+          (cond b 1 0 + sum (take p (dues_of ss ++ rest))) ≡ Some (get_or (numbers_of ss) p 0)) [
+        | true ↦ let z : 1 + sum (take p (dues_of ss ++ rest)) ≡ suc (sum (take p (dues_of ss ++ rest))) = omega arith in
+            ap (slice_get ((operation s d).number ∷ dues_in (operations_in ss))) z ∙ r
+        | false ↦ let z : 0 + sum (take p (dues_of ss ++ rest)) ≡ sum (take p (dues_of ss ++ rest)) = omega arith in
+            ap (slice_get (dues_in (operations_in ss))) z ∙ r
       ]
 
   -- ---- one that is settled
@@ -255,7 +283,8 @@ module _ {D : Type 0} where
       go (Some y) = refl
 
   -- ---- one place more
-  pub wait-pushed : (ss : List (Spot D)) (s : Spot D) (p q : ℕ) → p ≡ length ss → wait_at (ss ++ s ∷ []) q ≡ cond (nat_eq q p) (wait_of s) (wait_at ss q)
+  pub wait-pushed : (ss : List (Spot D)) (s : Spot D) (p q : ℕ) → p ≡ length ss → wait_at (ss ++ s ∷ []) q ≡ cond (nat_eq q p) (wait_of s)
+      (wait_at ss q)
   wait-pushed ss s p q e = elim (eqb_tells q p) [
     | inl same ↦ rw same.0 (last ss q (same.1 ∙ e))
     | inr other ↦ rw other.0 (before ss q (λ f. other.1 (f ∙ sym e)))
@@ -275,7 +304,8 @@ module _ {D : Type 0} where
 
   -- ---- places that keep their numbers
   pub same-length : (old new : Spotted D) → IsSame old new → length new.spots ≡ length old.spots
-  same-length old new s = sym (length-map new.spots (λ (x : Spot D). x.number)) ∙ ap length s.numbers ∙ length-map old.spots (λ (x : Spot D). x.number)
+  same-length old new s = sym (length-map new.spots (λ (x : Spot D). x.number)) ∙ ap length s.numbers
+      ∙ length-map old.spots (λ (x : Spot D). x.number)
 
   pub same-both : (a b c : Spotted D) → IsSame a b → IsSame b c → IsSame a c
   same-both a b c f g = record { numbers = g.numbers ∙ f.numbers; room = g.room ∙ f.room }

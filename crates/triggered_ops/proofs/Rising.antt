@@ -1,5 +1,6 @@
 -- Operations whose numbers rise: what keeps it, and finding one by its number.
-use Rattle.std.proofs.Common.{◌≡◌, ℕ, suc, ◌+◌, ◌-◌, ◌^◌, ◌<◌, ◌≤◌, Bool, true, false, not, nat_le, List, [], ◌∷◌, Option, Some, None, find, filter, length, map, if◌then◌else◌, refl, ap, subst, arith}
+use Rattle.std.proofs.Common.{◌≡◌, ℕ, suc, ◌+◌, ◌-◌, ◌^◌, ◌<◌, ◌≤◌, Bool, true, false, not, nat_le, List, [], ◌∷◌, Option, Some, None, find,
+    filter, length, map, if◌then◌else◌, refl, ap, subst, arith}
 use Rattle.std.specs.Prelude.{All, AllPairs, IfSome, IfNone, option_map}
 use Rattle.std.proofs.lemmas.Bool.Decides.{nat_tests}
 use Rattle.std.proofs.lemmas.List.{length-map, length_push}
@@ -9,7 +10,8 @@ use Rattle.std.proofs.lemmas.List.Quantifiers.{all_pairs_push}
 use Rattle.std.proofs.lemmas.List.Kept.{AllPairs-cons, AllPairs-filter}
 use Rattle.ptl_types.specs.declared.handles.Handle.{Handle}
 use Rattle.triggered_ops.specs.Layout.{is_from, number_of}
-use Rattle.triggered_ops.specs.Operations.{Operation, Operations, IsKept, is_number, is_due, is_due_op, operation_at, numbered, told_if, told_where, with_posted, without_number}
+use Rattle.triggered_ops.specs.Operations.{Operation, Operations, IsKept, is_number, is_due, is_due_op, operation_at, numbered, told_if,
+    told_where, with_posted, without_number}
 
 -- ---- lists
 module _ {X : Type 0} where
@@ -19,10 +21,12 @@ module _ {X : Type 0} where
   pub pairs-tail : (R : X → X → Type 0) (x : X) (xs : List X) → AllPairs R (x ∷ xs) → AllPairs R xs
   pairs-tail R x xs all = λ i j d lt within. all (suc i) (suc j) d (omega arith) (omega arith)
 
-  pub AllPairs-map : {Y : Type 0} (R : Y → Y → Type 0) (f : X → Y) (xs : List X) → AllPairs (λ x y. R (f x) (f y)) xs → AllPairs R (map f xs)
+  pub AllPairs-map : {Y : Type 0} (R : Y → Y → Type 0) (f : X → Y) (xs : List X) → AllPairs (λ x y. R (f x) (f y)) xs →
+      AllPairs R (map f xs)
   AllPairs-map R f [] all = λ i j d lt within. absurd (omega arith)
   AllPairs-map R f (x ∷ xs) all =
-      AllPairs-cons R (f x) (map f xs) (All-map (R (f x)) f xs (pairs-head (λ x y. R (f x) (f y)) x xs all)) (AllPairs-map R f xs (pairs-tail (λ x y. R (f x) (f y)) x xs all))
+      AllPairs-cons R (f x) (map f xs) (All-map (R (f x)) f xs (pairs-head (λ x y. R (f x) (f y)) x xs all))
+          (AllPairs-map R f xs (pairs-tail (λ x y. R (f x) (f y)) x xs all))
 
   pub length-filter_le : (p : X → Bool) (xs : List X) → length (filter p xs) ≤ length xs
   length-filter_le p xs = let e = length-filter_both p (λ x. not (p x)) (λ _. refl) xs in omega (arith, e)
@@ -57,11 +61,15 @@ module _ {D : Type 0} where
   Rises p q = p.number < q.number
 
   -- ---- what the calls keep
-  pub IsKept-posted : (ops : Operations D) (deed : D) (ct : Handle) (threshold sum : ℕ) → IsKept ops → length ops.waiting < ops.limit → ops.given < 2 ^ 32 - 1 → IsKept (with_posted deed ct threshold sum ops)
+  pub IsKept-posted : (ops : Operations D) (deed : D) (ct : Handle) (threshold sum : ℕ) → IsKept ops → length ops.waiting < ops.limit →
+      ops.given < 2 ^ 32 - 1 → IsKept (with_posted deed ct threshold sum ops)
   IsKept-posted ops deed ct threshold sum kept room numbers = record {
     rising = all_pairs_push Rises ops.waiting _ kept.rising kept.were_given;
-    were_given = All-push (λ p. p.number < ops.given + 1) ops.waiting _ (All-weaker (λ p. p.number < ops.given) (λ p. p.number < ops.given + 1) (λ p lt. omega arith) ops.waiting kept.were_given) (omega arith);
-    limited = omega (arith, length_push ops.waiting (record { number = ops.given; deed = deed; ct = ct; threshold = threshold; due = nat_le threshold sum }));
+    were_given = All-push (λ p. p.number < ops.given + 1) ops.waiting _
+        (All-weaker (λ p. p.number < ops.given) (λ p. p.number < ops.given + 1) (λ p lt. omega arith) ops.waiting kept.were_given)
+        (omega arith);
+    limited = omega (arith, length_push ops.waiting (record { number = ops.given; deed = deed; ct = ct; threshold = threshold; due =
+        nat_le threshold sum }));
     numbers = omega arith;
   }
 
@@ -84,7 +92,8 @@ module _ {D : Type 0} where
   pub filter-absent : (f : Operation D → Bool) (ps : List (Operation D)) → find f ps ≡ None → filter (λ p. not (f p)) ps ≡ ps
   filter-absent f [] e = refl
   filter-absent f (p ∷ ps) e =
-      elim (f p) as (λ b. (if b then Some p else find f ps) ≡ None → (if not b then p ∷ filter (λ q. not (f q)) ps else filter (λ q. not (f q)) ps) ≡ p ∷ ps) [
+      elim (f p) as (λ b. (if b then Some p else find f ps) ≡ None →
+          (if not b then p ∷ filter (λ q. not (f q)) ps else filter (λ q. not (f q)) ps) ≡ p ∷ ps) [
         | true ↦ λ is. cc
         | false ↦ λ is. ap (λ r. p ∷ r) (filter-absent f ps is)
       ] e
@@ -106,7 +115,8 @@ module _ {D : Type 0} where
   found_number t ps p e = let passes : is_number t p ≡ true = find_passes (is_number t) ps p e in grind (arith, nat_tests)
 
   -- what any search finds is found by its number
-  pub found-by_number : (f : Operation D → Bool) (ps : List (Operation D)) (p : Operation D) → AllPairs Rises ps → find f ps ≡ Some p → find (is_number p.number) ps ≡ Some p
+  pub found-by_number : (f : Operation D → Bool) (ps : List (Operation D)) (p : Operation D) → AllPairs Rises ps → find f ps ≡ Some p →
+      find (is_number p.number) ps ≡ Some p
   found-by_number f [] p all e = cc
   found-by_number f (q ∷ qs) p all e =
       elim (f q) as (λ b. (if b then Some q else find f qs) ≡ Some p → find (is_number p.number) (q ∷ qs) ≡ Some p) [
@@ -129,34 +139,41 @@ module _ {D : Type 0} where
         | false ↦ none_due ps t (All-tail (λ p. is_due p ≡ false) p ps all)
       ]
 
-  pub due-found : (ps : List (Operation D)) (p : Operation D) → AllPairs Rises ps → find is_due ps ≡ Some p → is_due_op (find (is_number p.number) ps) ≡ true
+  pub due-found : (ps : List (Operation D)) (p : Operation D) → AllPairs Rises ps → find is_due ps ≡ Some p →
+      is_due_op (find (is_number p.number) ps) ≡ true
   due-found ps p all e = rw (found-by_number is_due ps p all e) (find_passes is_due ps p e)
 
-  pub ready-some : (ps : List (Operation D)) (o : Option (Operation D)) → AllPairs Rises ps → find is_due ps ≡ o → IfSome (option_map number_of o) (λ t. is_due_op (find (is_number t) ps) ≡ true)
+  pub ready-some : (ps : List (Operation D)) (o : Option (Operation D)) → AllPairs Rises ps → find is_due ps ≡ o →
+      IfSome (option_map number_of o) (λ t. is_due_op (find (is_number t) ps) ≡ true)
   ready-some ps None all e = tt
   ready-some ps (Some p) all e = due-found ps p all e
 
-  pub ready-none : (ps : List (Operation D)) (o : Option (Operation D)) → find is_due ps ≡ o → IfNone (option_map number_of o) ((t : ℕ) → is_due_op (find (is_number t) ps) ≡ false)
+  pub ready-none : (ps : List (Operation D)) (o : Option (Operation D)) → find is_due ps ≡ o →
+      IfNone (option_map number_of o) ((t : ℕ) → is_due_op (find (is_number t) ps) ≡ false)
   ready-none ps None e = λ t. none_due ps t (find_none is_due ps e)
   ready-none ps (Some p) e = tt
 
   -- ---- the first from a number on
   pub from-none : (n : ℕ) (ps : List (Operation D)) → find (is_from n) ps ≡ None → All (λ p. p.number < n) ps
-  from-none n ps e = All-weaker (λ p. is_from n p ≡ false) (λ p. p.number < n) (λ p fails. grind (arith, nat_tests)) ps (find_none (is_from n) ps e)
+  from-none n ps e = All-weaker (λ p. is_from n p ≡ false) (λ p. p.number < n) (λ p fails. grind (arith, nat_tests)) ps
+      (find_none (is_from n) ps e)
 
   pub from-least : (n : ℕ) (ps : List (Operation D)) (p : Operation D) → find (is_from n) ps ≡ Some p → n ≤ p.number
   from-least n ps p e = let passes : is_from n p ≡ true = find_passes (is_from n) ps p e in grind (arith, nat_tests)
 
-  pub from-alone : (n : ℕ) (ps : List (Operation D)) (p : Operation D) → AllPairs Rises ps → find (is_from n) ps ≡ Some p → All (λ q. n ≤ q.number → q.number ≤ p.number → numbered q ≡ numbered p) ps
+  pub from-alone : (n : ℕ) (ps : List (Operation D)) (p : Operation D) → AllPairs Rises ps → find (is_from n) ps ≡ Some p →
+      All (λ q. n ≤ q.number → q.number ≤ p.number → numbered q ≡ numbered p) ps
   from-alone n [] p all e = cc
   from-alone n (q ∷ qs) p all e =
-      elim (is_from n q) as (λ b. is_from n q ≡ b → (if b then Some q else find (is_from n) qs) ≡ Some p → All (λ q. n ≤ q.number → q.number ≤ p.number → numbered q ≡ numbered p) (q ∷ qs)) [
+      elim (is_from n q) as (λ b. is_from n q ≡ b → (if b then Some q else find (is_from n) qs) ≡ Some p →
+          All (λ q. n ≤ q.number → q.number ≤ p.number → numbered q ≡ numbered p) (q ∷ qs)) [
         | true ↦ λ passes is.
             let same : q ≡ p = cc in
             let number : q.number ≡ p.number = ap (λ (x : Operation D). x.number) same in
             All-cons (λ q. n ≤ q.number → q.number ≤ p.number → numbered q ≡ numbered p) q qs
             (λ low high. ap numbered same)
-            (All-weaker (Rises q) (λ q. n ≤ q.number → q.number ≤ p.number → numbered q ≡ numbered p) (λ r later low high. absurd (omega arith)) qs (pairs-head Rises q qs all))
+            (All-weaker (Rises q) (λ q. n ≤ q.number → q.number ≤ p.number → numbered q ≡ numbered p)
+                (λ r later low high. absurd (omega arith)) qs (pairs-head Rises q qs all))
         | false ↦ λ fails is.
             let below : q.number < n = grind (arith, nat_tests) in
             All-cons (λ q. n ≤ q.number → q.number ≤ p.number → numbered q ≡ numbered p) q qs

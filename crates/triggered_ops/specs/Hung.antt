@@ -1,5 +1,6 @@
 -- On which list of places an operation hangs. No public clause cites this module.
-use Rattle.std.specs.Prelude.{◌≡◌, ℕ, ⊤, Bool, true, false, nat_eq, ◌+◌, ◌*◌, ◌/◌, ◌^◌, ◌<◌, ◌≤◌, AllPairs, All, List, [], ◌∷◌, ◌++◌, length, map}
+use Rattle.std.specs.Prelude.{◌≡◌, ℕ, ⊤, Bool, true, false, nat_eq, ◌+◌, ◌*◌, ◌/◌, ◌^◌, ◌<◌, ◌≤◌, AllPairs, All, List, [], ◌∷◌, ◌++◌,
+    length, map}
 use Rattle.std.specs.Prelude.{Option, Some, None, IsSome, IfSome, if◌then◌else◌, slice_get}
 use Rattle.ptl_types.specs.declared.handles.Handle.{Handle}
 use Rattle.ptl_types.specs.Handles.{same_handle}
@@ -57,7 +58,8 @@ IsHigh it at = EachOn it.ct (λ x. it.due ≡ false → x.due ≡ true → x.thr
 
 -- told this sum of a counting event, these operations become what those become
 abbrev pub AreToldAlike : {D : Type 0} → Handle → ℕ → Spotted D → Spotted D → Type 0
-AreToldAlike ct sum old new = map (told_if (waits_on ct) sum) (operations_in new.spots) ≡ map (told_if (waits_on ct) sum) (operations_in old.spots)
+AreToldAlike ct sum old new = map (told_if (waits_on ct) sum) (operations_in new.spots) ≡ map (told_if (waits_on ct) sum)
+    (operations_in old.spots)
 
 -- the places after one of a list, or all
 abbrev pub rest_after : Option ℕ → List ℕ → List ℕ

@@ -1,5 +1,6 @@
 -- What stays of the rule when one slot and one seat move.
-use Rattle.std.proofs.Common.{◌≡◌, ◌≢◌, ℕ, ◌+◌, ◌<◌, List, length, get_or, set, sym, ap, ◌∙◌, subst, ⊎_elim, arith, length-set, get_or-set_other}
+use Rattle.std.proofs.Common.{◌≡◌, ◌≢◌, ℕ, ◌+◌, ◌<◌, List, length, get_or, set, sym, ap, ◌∙◌, subst, ⊎_elim, arith, length-set,
+    get_or-set_other}
 use mathlib.Core.Option.{some, some-injective}
 use mathlib.Core.Option as maybe
 use mathlib.Core.List.{IsPrefix}
@@ -24,7 +25,8 @@ module _ {A : Type 0} where
   put cells i c j = pick (ℕ_discrete j i) c (cells j)
 
   -- what holds of the new cell at i, and of each other cell, holds after
-  pub at_put : (cells : ℕ → A) (i : ℕ) (c : A) (F : ℕ → A → Type 0) (j : ℕ) → (j ≡ i → F j c) → (j ≢ i → F j (cells j)) → F j (put cells i c j)
+  pub at_put : (cells : ℕ → A) (i : ℕ) (c : A) (F : ℕ → A → Type 0) (j : ℕ) → (j ≡ i → F j c) → (j ≢ i → F j (cells j)) →
+      F j (put cells i c j)
   unfolding put
   at_put cells i c F j here other = go (ℕ_discrete j i)
     where
@@ -39,21 +41,28 @@ module _ {T N I : Type 0} (past : T → List I) (name : T → N) (start : List T
   abbrev Rule : S → Type 0
   Rule s = KeepsTurns past name start s
 
-  same_shows : (ws ws' : List ℕ) (hs hs' : List (maybe.Option (Option T))) (k : ℕ) (c : Where T) → get_or ws' k 0 ≡ get_or ws k 0 → get_elem? hs' k ≡ get_elem? hs k → Shows past name ws hs k c → Shows past name ws' hs' k c
+  same_shows : (ws ws' : List ℕ) (hs hs' : List (maybe.Option (Option T))) (k : ℕ) (c : Where T) → get_or ws' k 0 ≡ get_or ws k 0 →
+      get_elem? hs' k ≡ get_elem? hs k → Shows past name ws hs k c → Shows past name ws' hs' k c
   same_shows ws ws' hs hs' k (home x) a b h = (a ∙ h.0, b ∙ h.1)
   same_shows ws ws' hs hs' k (out j x) a b h = (a ∙ h.0, b ∙ h.1)
 
   -- what was seen is still a beginning where one past grows
-  pub begun_put : (cells : ℕ → Where T) (k : ℕ) (c : Where T) (slots : List (SlotView T)) → IsPrefix (past (value_of (cells k))) (past (value_of c)) → Begun past name cells slots → Begun past name (put cells k c) slots
-  begun_put cells k c slots longer begun k' p n b q l = at_put cells k c (λ (i : ℕ) (d : Where T). IsPrefix (past b.given) (past (value_of (cells i))) → IsPrefix (past b.given) (past (value_of d))) k'
-      (λ e g. prefix_trans (past b.given) (past (value_of (cells k))) (past (value_of c)) (subst (λ (i : ℕ). IsPrefix (past b.given) (past (value_of (cells i)))) e g) longer) (λ _ g. g) (begun k' p n b q l)
+  pub begun_put : (cells : ℕ → Where T) (k : ℕ) (c : Where T) (slots : List (SlotView T)) →
+      IsPrefix (past (value_of (cells k))) (past (value_of c)) → Begun past name cells slots → Begun past name (put cells k c) slots
+  begun_put cells k c slots longer begun k' p n b q l = at_put cells k c
+      (λ (i : ℕ) (d : Where T). IsPrefix (past b.given) (past (value_of (cells i))) → IsPrefix (past b.given) (past (value_of d))) k'
+      (λ e g. prefix_trans (past b.given) (past (value_of (cells k))) (past (value_of c))
+          (subst (λ (i : ℕ). IsPrefix (past b.given) (past (value_of (cells i)))) e g) longer) (λ _ g. g) (begun k' p n b q l)
 
   -- the seat i still has its turn
-  pub stays : (views : List (HandView T)) (id j i : ℕ) (x : T) (v w u : HandView T) → get_elem? views id ≡ some v → get_elem? views i ≡ some u → u.turn ≡ Some (record { slot = j; value = x }) → ((y : T) → v.turn ≡ Some (record { slot = j; value = y }) → w.turn ≡ Some (record { slot = j; value = y }))
+  pub stays : (views : List (HandView T)) (id j i : ℕ) (x : T) (v w u : HandView T) → get_elem? views id ≡ some v →
+      get_elem? views i ≡ some u → u.turn ≡ Some (record { slot = j; value = x }) →
+      ((y : T) → v.turn ≡ Some (record { slot = j; value = y }) → w.turn ≡ Some (record { slot = j; value = y }))
       → Dec (i ≡ id) → (u' : HandView T) × (get_elem? (set views id w) i ≡ some u') × (u'.turn ≡ Some (record { slot = j; value = x }))
   stays views id j i x v w u at e is keeps (yes same) =
       let was : some v ≡ some u = sym at ∙ (ap (λ k. get_elem? views k) (sym same) ∙ e) in
-      (w, ap (λ k. get_elem? (set views id w) k) same ∙ set_there views id v w at, keeps x (ap (λ (y : HandView T). y.turn) (some-injective v u was) ∙ is))
+      (w, ap (λ k. get_elem? (set views id w) k) same ∙ set_there views id v w at,
+          keeps x (ap (λ (y : HandView T). y.turn) (some-injective v u was) ∙ is))
   stays views id j i x v w u at e is keeps (no apart) = (u, set_else views id i w apart ∙ e, is)
 
   pub moved : (s : S) (r : Rule s) (id k n : ℕ) (v w : HandView T) (c : Where T) (homes' : List (maybe.Option (Option T)))
@@ -65,7 +74,8 @@ module _ {T N I : Type 0} (past : T → List I) (name : T → N) (start : List T
       → IsPrefix (past (value_of (r.cells k))) (past (value_of c))
       → ChoiceRankOk past name start (put r.cells k c) id w
       → w.parts ≡ v.parts
-      → ((p : ℕ) → times p (places w k) + once_below p (length (past (value_of (r.cells k)))) ≡ times p (places v k) + once_below p (length (past (value_of c))))
+      → ((p : ℕ) → times p (places w k) + once_below p (length (past (value_of (r.cells k)))) ≡ times p (places v k) + once_below p
+          (length (past (value_of c))))
       → length (places w k) + length (past (value_of (r.cells k))) ≡ length (places v k) + length (past (value_of c))
       → ((k' : ℕ) → k' ≢ k → places w k' ≡ places v k')
       → Rule record { words = set s.words k n; homes = homes'; views = set s.views id w }
@@ -75,27 +85,40 @@ module _ {T N I : Type 0} (past : T → List I) (name : T → N) (start : List T
         worded = length-set s.words k n ∙ r.worded;
         homed = long ∙ r.homed;
         parts = (let t = sum_set (λ (u : HandView T). u.parts) s.views id v w at in let p = r.parts in omega arith);
-        slot_ok = λ j in_range. at_put r.cells k c (λ (j : ℕ) (d : Where T). SlotOk past name start (set s.words k n) homes' (set s.views id w) j d) j
+        slot_ok = λ j in_range. at_put r.cells k c (λ (j : ℕ) (d : Where T). SlotOk past name start (set s.words k n) homes'
+            (set s.views id w) j d) j
             (λ e. subst (λ (j : ℕ). SlotOk past name start (set s.words k n) homes' (set s.views id w) j c) (sym e) slot)
             (λ apart. let ok = r.slot_ok j in_range in record {
-              shows = same_shows s.words (set s.words k n) s.homes homes' j (r.cells j) (get_or-set_other s.words k j n 0 apart) (elsewhere j apart) ok.shows;
+              shows = same_shows s.words (set s.words k n) s.homes homes' j (r.cells j) (get_or-set_other s.words k j n 0 apart)
+                  (elsewhere j apart) ok.shows;
               short = ok.short;
               named = ok.named;
-              holder = λ i x is. (let h = ok.holder i x is in stays s.views id j i x v w h.0 at h.1 h.2 (λ y. keeps j y apart) (ℕ_discrete i id));
+              holder = λ i x is. (let h = ok.holder i x is in stays s.views id j i x v w h.0 at h.1 h.2 (λ y. keeps j y apart)
+                  (ℕ_discrete i id));
             });
-        seat_ok = λ j u e. ⊎_elim (λ (t : (j ≡ id) × (w ≡ u)). subst (λ (y : ℕ × HandView T). ChoiceRankOk past name start Cs y.0 y.1) (λ i. (sym t.0 i, t.1 i)) mine)
+        seat_ok = λ j u e. ⊎_elim (λ (t : (j ≡ id) × (w ≡ u)). subst (λ (y : ℕ × HandView T). ChoiceRankOk past name start Cs y.0 y.1)
+            (λ i. (sym t.0 i, t.1 i)) mine)
             (λ (t : (j ≢ id) × (get_elem? s.views j ≡ some u)). let ok = r.seat_ok j u t.1 in record {
               alive = ok.alive;
               idle = ok.idle;
-              turn = λ k' x is. (let h = ok.turn k' x is in (h.0, at_put r.cells k c (λ (i : ℕ) (d : Where T). r.cells i ≡ out j x → d ≡ out j x) k' (λ e q. others j x t.0 (ap r.cells (sym e) ∙ q)) (λ _ q. q) h.1));
+              turn = λ k' x is. (let h = ok.turn k' x is in (h.0,
+                  at_put r.cells k c (λ (i : ℕ) (d : Where T). r.cells i ≡ out j x → d ≡ out j x) k'
+                  (λ e q. others j x t.0 (ap r.cells (sym e) ∙ q)) (λ _ q. q) h.1));
               begun = begun_put r.cells k c u.slots longer ok.begun;
             }) (at_set s.views id j w u e);
-        placed = λ j p in_range. at_put r.cells k c (λ (i : ℕ) (d : Where T). sum_by (λ (u : HandView T). times p (places u i)) (set s.views id w) ≡ once_below p (length (past (value_of d)))) j
-            (λ e. subst (λ (i : ℕ). sum_by (λ (u : HandView T). times p (places u i)) (set s.views id w) ≡ once_below p (length (past (value_of c)))) (sym e)
-            (let t = sum_set (λ (u : HandView T). times p (places u k)) s.views id v w at in let a = r.placed k p near in let d = drawn p in omega arith))
-            (λ apart. let t = sum_set (λ (u : HandView T). times p (places u j)) s.views id v w at in let a = r.placed j p in_range in let d : times p (places w j) ≡ times p (places v j) = ap (λ l. times p l) (undrawn j apart) in omega arith);
-        long = λ j in_range. at_put r.cells k c (λ (i : ℕ) (d : Where T). sum_by (λ (u : HandView T). length (places u i)) (set s.views id w) ≡ length (past (value_of d))) j
-            (λ e. subst (λ (i : ℕ). sum_by (λ (u : HandView T). length (places u i)) (set s.views id w) ≡ length (past (value_of c))) (sym e)
+        placed = λ j p in_range. at_put r.cells k c (λ (i : ℕ) (d : Where T). sum_by (λ (u : HandView T). times p (places u i))
+            (set s.views id w) ≡ once_below p (length (past (value_of d)))) j
+            (λ e. subst (λ (i : ℕ). sum_by (λ (u : HandView T). times p (places u i)) (set s.views id w) ≡ once_below p
+                (length (past (value_of c)))) (sym e)
+            (let t = sum_set (λ (u : HandView T). times p (places u k)) s.views id v w at in let a = r.placed k p near in let d =
+                                                                                                                                drawn p in omega arith))
+            (λ apart. let t = sum_set (λ (u : HandView T). times p (places u j)) s.views id v w at in let a = r.placed j p in_range in
+                let d : times p (places w j) ≡ times p (places v j) = ap (λ l. times p l) (undrawn j apart) in omega arith);
+        long = λ j in_range. at_put r.cells k c (λ (i : ℕ) (d : Where T). sum_by (λ (u : HandView T). length (places u i))
+            (set s.views id w) ≡ length (past (value_of d))) j
+            (λ e. subst (λ (i : ℕ). sum_by (λ (u : HandView T). length (places u i)) (set s.views id w) ≡ length (past (value_of c)))
+                (sym e)
             (let t = sum_set (λ (u : HandView T). length (places u k)) s.views id v w at in let a = r.long k near in omega arith))
-            (λ apart. let t = sum_set (λ (u : HandView T). length (places u j)) s.views id v w at in let a = r.long j in_range in let d : length (places w j) ≡ length (places v j) = ap (λ (l : List ℕ). length l) (undrawn j apart) in omega arith);
+            (λ apart. let t = sum_set (λ (u : HandView T). length (places u j)) s.views id v w at in let a = r.long j in_range in
+                let d : length (places w j) ≡ length (places v j) = ap (λ (l : List ℕ). length l) (undrawn j apart) in omega arith);
       }

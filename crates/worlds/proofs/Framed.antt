@@ -87,11 +87,13 @@ module _ (job : JobOf) (m : ℕ) (lanes : List Plain) (ss ds fs : List ℕ) (fra
     same_scene : scene_of n news lanes ≡ scene_of n nodes lanes
     same_scene = scene_gated n nodes news lanes gated
 
-    moment : (k : ℕ → Slots) → AgreeAll n k nodes → IsMoment (system_of p job.inputs k) (scene_of n nodes lanes).world (scene_of n nodes lanes).held
+    moment : (k : ℕ → Slots) → AgreeAll n k nodes → IsMoment (system_of p job.inputs k) (scene_of n nodes lanes).world
+        (scene_of n nodes lanes).held
     moment = joined_moment p job.inputs n nodes lanes framed.bare.count framed.bare.sound may.of_job.compiled kept_here may.sources may.sent
 
     no_strays : AreStrays n nodes lanes 0 0
-    no_strays = joined_room p job.inputs n nodes lanes framed.bare.count framed.bare.sound may.of_job.compiled kept_here may.sources may.sent may.of_job.strays
+    no_strays = joined_room p job.inputs n nodes lanes framed.bare.count framed.bare.sound may.of_job.compiled kept_here may.sources
+        may.sent may.of_job.strays
 
     parts : AreParts p job.inputs n news lanes frame_window 0
     parts = record {
@@ -104,7 +106,8 @@ module _ (job : JobOf) (m : ℕ) (lanes : List Plain) (ss ds fs : List ℕ) (fra
       wide = framed.bare.sized.wide_lanes;
       compiled = λ r h. subst (IsCompiledFor p job.inputs r) (sym (gated r).task) (may.of_job.compiled r h);
       node = λ r h. (gated r).node (kept_here r h);
-      moment = λ k a. subst (λ (z : Scene). IsMoment (system_of p job.inputs k) z.world z.held) (sym same_scene) (moment k (agree_before k a));
+      moment = λ k a. subst (λ (z : Scene). IsMoment (system_of p job.inputs k) z.world z.held) (sym same_scene)
+          (moment k (agree_before k a));
       room = λ s d lane hs hd. nothing_more lane (may.room s d lane hs hd);
       within = λ s d lane hs hd.
           let a = may.within s d lane hs hd in
@@ -119,7 +122,8 @@ module _ (job : JobOf) (m : ℕ) (lanes : List Plain) (ss ds fs : List ℕ) (fra
     few_strays : AreStrays n news lanes 0 0
     few_strays = record {
       room = λ r h. (gated r).strays ∙ no_strays.room r h;
-      at_most = λ d h. subst (λ (x : Diary). count_by is_received_stray x.locals + sum_by (λ s. count_by is_stray (lane_at lanes (lane_place n s d Request)).messages) (from_to 0 n) + 0 ≤ 0)
+      at_most = λ d h. subst (λ (x : Diary). count_by is_received_stray x.locals + sum_by
+          (λ s. count_by is_stray (lane_at lanes (lane_place n s d Request)).messages) (from_to 0 n) + 0 ≤ 0)
           (sym (gated d).diary) (no_strays.at_most d h);
       received = λ r h. subst (λ (x : Diary). AreShort x.locals) (sym (gated r).diary) (no_strays.received r h);
       held = no_strays.held;

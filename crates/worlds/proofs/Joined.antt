@@ -1,5 +1,6 @@
 -- Nodes that received what was sent to them, but for what lies in lanes, are the ranks of a moment, and there are no strays.
-use Rattle.std.proofs.Common.{ℕ, Bool, true, false, ◌<◌, ◌≤◌, ◌≡◌, ◌∙◌, List, [], ◌∷◌, ◌++◌, length, count_by, cond, refl, ap, subst, inl, inr, arith}
+use Rattle.std.proofs.Common.{ℕ, Bool, true, false, ◌<◌, ◌≤◌, ◌≡◌, ◌∙◌, List, [], ◌∷◌, ◌++◌, length, count_by, cond, refl, ap, subst, inl,
+    inr, arith}
 use Rattle.std.proofs.lemmas.Bool.{cases_lt}
 use Rattle.ptl_types.specs.declared.headers.Lane.{Lane}
 use Rattle.ptl_types.specs.declared.headers.Lane.TheVariants.{Request}
@@ -37,7 +38,8 @@ both : {b : Bool} → b ≡ true → b ≡ false → ⊥
 both e i = cc
 
 -- receipts among which there is no stray
-none_came : (es : List Local) → ((s : ℕ) (lane : Lane) (m : Sent) → In m (got es s lane) → is_stray m ≡ false) → (count_by is_received_stray es ≡ 0) × AreShort es
+none_came : (es : List Local) → ((s : ℕ) (lane : Lane) (m : Sent) → In m (got es s lane) → is_stray m ≡ false) →
+    (count_by is_received_stray es ≡ 0) × AreShort es
 none_came [] h = (refl, tt)
 none_came (Start ∷ es) h =
     let k = none_came es (λ s l m i. h s l m (got_later Start es s l m i)) in
@@ -57,11 +59,13 @@ none_came (Receive q lane x ∷ es) h =
     let c = ap (λ t. cond {A = ℕ} t 1 0) clean in
     (omega (arith, a, b, c), ((λ e. absurd (both e clean)), k.1))
 
-module _ (p : Plan) (inputs : Inputs) (n : ℕ) (nodes : List NodeState) (lanes : List Plain) (count : p.ranks ≡ n) (sound : SoundPlan p (length inputs))
+module _ (p : Plan) (inputs : Inputs) (n : ℕ) (nodes : List NodeState) (lanes : List Plain) (count : p.ranks ≡ n)
+    (sound : SoundPlan p (length inputs))
     (compiled : (r : ℕ) → r < n → IsCompiledFor p inputs r (node_at nodes r).task) (kept : (r : ℕ) → r < n → IsNode (node_at nodes r))
     (sources : (r s : ℕ) (lane : Lane) → r < n → n ≤ s → got (node_at nodes r).diary.locals s lane ≡ [])
     (sent : (k : ℕ → Slots) → AgreeAll n k nodes → (s d : ℕ) (lane : Lane) → s < n → d < n →
-    got (node_at nodes d).diary.locals s lane ++ (lane_at lanes (lane_place n s d lane)).messages ≡ sent_by (system_of p inputs k) (scene_of n nodes lanes).world s d lane) where
+    got (node_at nodes d).diary.locals s lane ++ (lane_at lanes (lane_place n s d lane)).messages ≡ sent_by (system_of p inputs k)
+        (scene_of n nodes lanes).world s d lane) where
   abbrev w : Histories
   w = (scene_of n nodes lanes).world
 
@@ -73,7 +77,8 @@ module _ (p : Plan) (inputs : Inputs) (n : ℕ) (nodes : List NodeState) (lanes 
     clean : (s d : ℕ) (lane : Lane) (m : Sent) → s < n → d < n → In m (got (w d) s lane ++ lies s d lane) → is_stray m ≡ false
     clean s d lane m hs hd i =
         made-clean p inputs sound (k s) s (w s) m
-        (In-filter_cases (is_for d lane) m (made (start_of p (k s) s) (prepare p inputs (k s) s) (w s)) (subst (λ v. In m v) (sent k agree s d lane hs hd) i)).0
+        (In-filter_cases (is_for d lane) m (made (start_of p (k s) s) (prepare p inputs (k s) s) (w s))
+            (subst (λ v. In m v) (sent k agree s d lane hs hd) i)).0
 
     got_clean : (d : ℕ) → d < n → (s : ℕ) (lane : Lane) (m : Sent) → In m (got (w d) s lane) → is_stray m ≡ false
     got_clean d hd s lane m i = elim (cases_lt s n) [
@@ -90,11 +95,13 @@ module _ (p : Plan) (inputs : Inputs) (n : ℕ) (nodes : List NodeState) (lanes 
     pub joined_moment : IsMoment (system_of p inputs k) w (held_in n lanes)
     joined_moment = record {
       cut = record {
-        legal = λ r h. run-legal p inputs (k r) r (node_at nodes r) (compiled r (at_rank r h)) (kept r (at_rank r h)) (agree r (at_rank r h));
+        legal = λ r h. run-legal p inputs (k r) r (node_at nodes r) (compiled r (at_rank r h)) (kept r (at_rank r h))
+            (agree r (at_rank r h));
         known = λ r s lane h past. sources r s lane (at_rank r h) (subst (λ q. q ≤ s) count past);
         lanes = λ s d lane hs hd. (
           lies s d lane,
-          ap (λ ms. ms ++ lies s d lane) (owned-all (got (w d) s lane) (got_clean d (at_rank d hd) s lane)) ∙ sent k agree s d lane (at_rank s hs) (at_rank d hd),
+          ap (λ ms. ms ++ lies s d lane) (owned-all (got (w d) s lane) (got_clean d (at_rank d hd) s lane))
+              ∙ sent k agree s d lane (at_rank s hs) (at_rank d hd),
         );
       };
       lanes = λ s d lane hs hd.
@@ -102,7 +109,8 @@ module _ (p : Plan) (inputs : Inputs) (n : ℕ) (nodes : List NodeState) (lanes 
           ∙ owned-all (got (w d) s lane ++ lies s d lane) (λ m i. clean s d lane m (at_rank s hs) (at_rank d hd) i)
           ∙ sent k agree s d lane (at_rank s hs) (at_rank d hd);
       strays = λ s d lane m hs hd i e.
-          absurd (both e (lies_clean s d lane m (at_rank s hs) (at_rank d hd) (subst (λ v. In m v) (held_here n lanes s d lane (at_rank s hs) (at_rank d hd)) i)));
+          absurd (both e (lies_clean s d lane m (at_rank s hs) (at_rank d hd)
+              (subst (λ v. In m v) (held_here n lanes s d lane (at_rank s hs) (at_rank d hd)) i)));
     }
 
     joined_strays : ((r : ℕ) → r < n → (node_at nodes r).strays ≡ 0) → AreStrays n nodes lanes 0 0
@@ -110,7 +118,8 @@ module _ (p : Plan) (inputs : Inputs) (n : ℕ) (nodes : List NodeState) (lanes 
       room = none;
       at_most = λ d hd.
           let a = (none_came (w d) (got_clean d hd)).0 in
-          let b = none-due 0 (λ s. count_by is_stray (lies s d Request)) n (λ s low high. none_count (lies s d Request) (λ m i. lies_clean s d Request m (omega (arith, high)) hd i)) in
+          let b = none-due 0 (λ s. count_by is_stray (lies s d Request)) n
+                (λ s low high. none_count (lies s d Request) (λ m i. lies_clean s d Request m (omega (arith, high)) hd i)) in
           omega (arith, a, b);
       received = λ d hd. (none_came (w d) (got_clean d hd)).1;
       held = λ s d lane m hs hd i e. absurd (both e (lies_clean s d lane m hs hd i));

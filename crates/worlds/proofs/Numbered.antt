@@ -13,7 +13,8 @@ use Rattle.cuts.proofs.windows.Found.{found_delivery, found_firing, found_start,
 use Rattle.cuts.specs.windows.Places.{counts, delivery_at, fires_at, destination_at, kind_at, source_at}
 use Rattle.cuts.specs.windows.Possible.{possible_steps}
 
-module _ (ranks : System) (z : Scene) (window : ℕ) (starts deliveries firings : List ℕ) (starts_is : starts ≡ counts (start_at z) ranks.count)
+module _ (ranks : System) (z : Scene) (window : ℕ) (starts deliveries firings : List ℕ)
+    (starts_is : starts ≡ counts (start_at z) ranks.count)
     (deliveries_is : deliveries ≡ counts (delivery_at ranks window z) (2 * (ranks.count * ranks.count)))
     (firings_is : firings ≡ counts (fires_at ranks window z) ranks.count) where
   abbrev steps : List Step

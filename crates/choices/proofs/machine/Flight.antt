@@ -181,7 +181,8 @@ fired_flight steps phase asks answers s at_most now a b = at (phase s) refl a b
     at : (p : Phase) → phase s ≡ p → on_request p ≡ false → on_answer p ≡ false
         → InFlight steps (put s (advanced p) phase) (asks ++ sent_at s p) answers
     at Idle e a b = flight_asks steps phase asks answers now s false Asked at_most (ap on_request e) (ap on_answer e) refl refl
-    at (Answered old) e a b = flight_asks steps phase asks answers now s true (Reading old) at_most (ap on_request e) (ap on_answer e) refl refl
+    at (Answered old) e a b = flight_asks steps phase asks answers now s true (Reading old) at_most (ap on_request e) (ap on_answer e)
+        refl refl
     at (Learned old value) e a b = stays (Learned old value) (Told old value) e a b refl refl
     at (Told old value) e a b = stays (Told old value) (Told old value) e a b refl refl
     at Asked e a b = cc

@@ -130,7 +130,8 @@ module _ (starts : CombineStarts) (p : Plan) (inputs : Inputs) (sound : SoundPla
       threshold_small = at p.remote
         where
           at : (b : Bool) → length (own p r) + cond b (sends_of p r) 0 ≤ top
-          at true = let a = length-own-le p r in let b = count-out-le p r in let at_most = sound.few_together in omega (arith, a, b, at_most)
+          at true = let a = length-own-le p r in let b = count-out-le p r in let at_most = sound.few_together in
+              omega (arith, a, b, at_most)
           at false = let a = length-own-le p r in let at_most = sound.few_together in omega (arith, a, at_most)
 
   pub counted : lookup (done_ct (slots r)) (state_at (system_of p inputs slots) w r).cts.live

@@ -16,7 +16,8 @@ use Rattle.cuts.proofs.histories.FromCut.{prepared_of}
 use Rattle.cuts.proofs.histories.Origin.{FromLink, made_from, reply-answer}
 use Rattle.cuts.proofs.histories.Simulate.{link-no_stray}
 
-pub made-clean : (p : Plan) (inputs : Inputs) → SoundPlan p (length inputs) → (s : Slots) (r : ℕ) (es : List Local) (m : Sent) → In m (made (start_of p s r) (prepare p inputs s r) es) → is_stray m ≡ false
+pub made-clean : (p : Plan) (inputs : Inputs) → SoundPlan p (length inputs) → (s : Slots) (r : ℕ) (es : List Local) (m : Sent) →
+    In m (made (start_of p s r) (prepare p inputs s r) es) → is_stray m ≡ false
 made-clean p inputs sound s r es m i =
     elim (made_from p s r (start_of p s r) es (prepare p inputs s r) m (prepared_of p inputs sound s r) i) [
       | inl f ↦ linked f
@@ -26,4 +27,5 @@ made-clean p inputs sound s r es m i =
     linked : FromLink p s r m → is_stray m ≡ false
     linked f =
         let q = out_links-In p r f.l f.out in
-        link-no_stray p inputs sound s (cell p (link p f.l).target).rank f.l (record { known = q.0; sends = f.sends; here = refl }) m f.header
+        link-no_stray p inputs sound s (cell p (link p f.l).target).rank f.l (record { known = q.0; sends = f.sends; here = refl }) m
+            f.header

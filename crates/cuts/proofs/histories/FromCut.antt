@@ -3,7 +3,8 @@ use Rattle.cuts.specs.histories.System.{Histories, sent_by}
 use Rattle.cuts.specs.histories.Plans.{start_of, system_of}
 use Rattle.cuts.specs.histories.Cut.{IsCut, got_by, is_stray, owned}
 use Rattle.cuts.specs.view.Slots.{Slots, the_md}
-use Rattle.std.proofs.Common.{ℕ, Bool, true, false, ◌≡◌, ◌<◌, List, [], ◌∷◌, refl, length, ap, ◌∙◌, sym, subst, inl, inr, map, filter, Option, Some, None, if◌then◌else◌, cond}
+use Rattle.std.proofs.Common.{ℕ, Bool, true, false, ◌≡◌, ◌<◌, List, [], ◌∷◌, refl, length, ap, ◌∙◌, sym, subst, inl, inr, map, filter,
+    Option, Some, None, if◌then◌else◌, cond}
 use Rattle.std.proofs.lemmas.Bool.{cases_Bool, cases_lt, not-true}
 use Rattle.std.proofs.lemmas.List.{map-append}
 use Rattle.cuts.proofs.histories.Origin.{Received, FromLink, IsOf, Reply, from_link-request, legal_got, made_from, reply-answer}
@@ -16,10 +17,12 @@ use Rattle.plan_core.specs.Members.{Distinct, In}
 use Rattle.plan_core.specs.Plan.{Plan, cell, link}
 use Rattle.plan_core.specs.Sound.{AreInputsOf, SoundPlan}
 use Rattle.plan_core.specs.Values.{Inputs}
-use Rattle.cuts.proofs.histories.Conform.{build_conform, home-remote, pending_of, link-is_put, prefix-In, reply-to_link, stray-no_answer, stray_request}
+use Rattle.cuts.proofs.histories.Conform.{build_conform, home-remote, pending_of, link-is_put, prefix-In, reply-to_link, stray-no_answer,
+    stray_request}
 use Rattle.cuts.proofs.histories.SentOnce.{sent_once}
 use Rattle.cuts.proofs.histories.Simulate.{AllConform, IsLink}
-use Rattle.cuts.proofs.histories.Traffic.{In-owned, ack, all_distinct, as_message, came_from, goes_to, number_in, own_received, own_received-got, to_came}
+use Rattle.cuts.proofs.histories.Traffic.{In-owned, ack, all_distinct, as_message, came_from, goes_to, number_in, own_received,
+    own_received-got, to_came}
 use Rattle.cuts.specs.histories.History.{Legal, got, is_for, made}
 use Rattle.cuts.proofs.start.Areas.{MayLie}
 use Rattle.cuts.proofs.histories.Runs.{nothing_raised, SimulatesRun, before_start, run_moves, simulates_run}
@@ -41,28 +44,35 @@ abbrev pub moves_at : Plan → Histories → ℕ → List Move
 moves_at p w r = run_moves p r [] (w r)
 
 pub prepared_of : (p : Plan) (inputs : Inputs) → SoundPlan p (length inputs) → (s : Slots) (r : ℕ) → IsOf p s r (prepare p inputs s r)
-prepared_of p inputs sound s r = subst (IsOf p s r) (sym (prepared p inputs s r (λ n. s) (length inputs) sound)) (record { rank = refl; pending = pending_of p s r })
+prepared_of p inputs sound s r = subst (IsOf p s r) (sym (prepared p inputs s r (λ n. s) (length inputs) sound))
+    (record { rank = refl; pending = pending_of p s r })
 
-module _ (starts : CombineStarts) (p : Plan) (inputs : Inputs) (sound : SoundPlan p (length inputs)) (fit : AreInputsOf p inputs) (slots : ℕ → Slots) (w : Histories) (cut : IsCut (system_of p inputs slots) w) where
+module _ (starts : CombineStarts) (p : Plan) (inputs : Inputs) (sound : SoundPlan p (length inputs)) (fit : AreInputsOf p inputs)
+    (slots : ℕ → Slots) (w : Histories) (cut : IsCut (system_of p inputs slots) w) where
   -- the sender of what was received is a rank
   pub sender : (r s : ℕ) (lane : Lane) (m : Sent) → r < p.ranks → In m (got (w r) s lane) → s < p.ranks
   sender r s lane m h i = elim (cases_lt s p.ranks) [ inl l ↦ l | inr l ↦ absurd (subst (λ v. In m v) (cut.known r s lane h l) i) ]
 
   received : (r s : ℕ) (lane : Lane) (m : Sent) → r < p.ranks → In m (got (w r) s lane) → Received r s lane m
-  received r s lane m h i = legal_got p (slots r) r (start_of p (slots r) r) (w r) false (prepare p inputs (slots r) r) (prepared_of p inputs sound (slots r) r) (cut.legal r h) s lane m i
+  received r s lane m h i = legal_got p (slots r) r (start_of p (slots r) r) (w r) false (prepare p inputs (slots r) r)
+      (prepared_of p inputs sound (slots r) r) (cut.legal r h) s lane m i
 
-  was_sent : (r s : ℕ) (lane : Lane) (m : Sent) → r < p.ranks → s < p.ranks → In m (got (w r) s lane) → is_stray m ≡ false → In m (made (start_of p (slots s) s) (prepare p inputs (slots s) s) (w s)) × (is_for r lane m ≡ true)
+  was_sent : (r s : ℕ) (lane : Lane) (m : Sent) → r < p.ranks → s < p.ranks → In m (got (w r) s lane) → is_stray m ≡ false →
+      In m (made (start_of p (slots s) s) (prepare p inputs (slots s) s) (w s)) × (is_for r lane m ≡ true)
   was_sent r s lane m h k i e =
       In-filter_cases (is_for r lane) m (made (start_of p (slots s) s) (prepare p inputs (slots s) s) (w s))
-      (prefix-In m (got_by w r s lane) (sent_by (system_of p inputs slots) w s r lane) (cut.lanes s r lane k h) (In-owned m (got (w r) s lane) i e))
+      (prefix-In m (got_by w r s lane) (sent_by (system_of p inputs slots) w s r lane) (cut.lanes s r lane k h)
+          (In-owned m (got (w r) s lane) i e))
 
   -- a request that is received is a stray or a link's message
-  pub request_is : (r s : ℕ) (m : Sent) → r < p.ranks → In m (got (w r) s Request) → is_stray m ≡ false → (k : IsLink p slots r m) × (source_rank p k.l ≡ s)
+  pub request_is : (r s : ℕ) (m : Sent) → r < p.ranks → In m (got (w r) s Request) → is_stray m ≡ false → (k : IsLink p slots r m) ×
+      (source_rank p k.l ≡ s)
   request_is r s m h i e =
       let k = sender r s Request m h i in
       let x = received r s Request m h i in
       let o = was_sent r s Request m h k i e in
-      elim (made_from p (slots s) s (start_of p (slots s) s) (w s) (prepare p inputs (slots s) s) m (prepared_of p inputs sound (slots s) s) o.0) [
+      elim (made_from p (slots s) s (start_of p (slots s) s) (w s) (prepare p inputs (slots s) s) m
+          (prepared_of p inputs sound (slots s) s) o.0) [
         | inl f ↦ here f x k
         | inr a ↦ absurd (both (reply-answer (w s) m a) (not-true _ x.kind))
       ]
@@ -81,7 +91,8 @@ module _ (starts : CombineStarts) (p : Plan) (inputs : Inputs) (sound : SoundPla
               l = f.l;
               here = record { known = q.0; sends = f.sends; here = sym (ap (λ (y : Header). y.target) f.header) ∙ x.target };
               header = subst (λ v. m.header ≡ link_header p (slots v) f.l) (sym q.1) f.header;
-              size = x.kept ∙ sized (cell p (link p f.l).target).op m.header (ap (λ (y : Header). y.kind) f.header) ∙ ap (λ (y : Header). y.length) f.header;
+              size = x.kept ∙ sized (cell p (link p f.l).target).op m.header (ap (λ (y : Header). y.kind) f.header)
+                  ∙ ap (λ (y : Header). y.length) f.header;
             },
             q.1,
           )
@@ -92,7 +103,8 @@ module _ (starts : CombineStarts) (p : Plan) (inputs : Inputs) (sound : SoundPla
       let k = sender r s Answer m h i in
       let x = received r s Answer m h i in
       let o = was_sent r s Answer m h k i (stray_request m x.kind) in
-      elim (made_from p (slots s) s (start_of p (slots s) s) (w s) (prepare p inputs (slots s) s) m (prepared_of p inputs sound (slots s) s) o.0) [
+      elim (made_from p (slots s) s (start_of p (slots s) s) (w s) (prepare p inputs (slots s) s) m
+          (prepared_of p inputs sound (slots s) s) o.0) [
         | inl f ↦ absurd (both x.kind (from_link-request p (slots s) s m f))
         | inr a ↦ reply a x k
       ]
@@ -101,13 +113,15 @@ module _ (starts : CombineStarts) (p : Plan) (inputs : Inputs) (sound : SoundPla
       both e i = cc
 
       reply : Reply (w s) m → Received r s Answer m → s < p.ranks → IsAckHere (slots r) m
-      reply a x k = request a.lane a.came (legal_got p (slots s) s (start_of p (slots s) s) (w s) false (prepare p inputs (slots s) s) (prepared_of p inputs sound (slots s) s) (cut.legal s k) a.source a.lane a.to a.came)
+      reply a x k = request a.lane a.came (legal_got p (slots s) s (start_of p (slots s) s) (w s) false (prepare p inputs (slots s) s)
+          (prepared_of p inputs sound (slots s) s) (cut.legal s k) a.source a.lane a.to a.came)
         where
           at_link : (q : IsLink p slots s a.to) → IsAckHere (slots r) m
           at_link q =
               let l = q.l in
               let f = a.answers in
-              let y = reply-to_link p.remote f.ok f.length f.bytes (link_header p (slots (source_rank p q.l)) q.l) m (link-is_put p (slots (source_rank p q.l)) q.l) refl (ap (answer f.ok f.length f.bytes) (sym q.header) ∙ f.is) in
+              let y = reply-to_link p.remote f.ok f.length f.bytes (link_header p (slots (source_rank p q.l)) q.l) m
+                    (link-is_put p (slots (source_rank p q.l)) q.l) refl (ap (answer f.ok f.length f.bytes) (sym q.header) ∙ f.is) in
               let z : source_rank p q.l ≡ r = sym (ap (λ (v : Header). v.target) y.1) ∙ x.target in
               record {
                 kind = ap (λ (v : Header). v.kind) y.1;
@@ -137,7 +151,8 @@ module _ (starts : CombineStarts) (p : Plan) (inputs : Inputs) (sound : SoundPla
         Distinct_left (map number_in (got_by w r s Request)) (map number_in x.0)
         (subst Distinct (map-append number_in (got_by w r s Request) x.0)
         (subst (λ v. Distinct (map number_in v)) (sym x.1)
-        (sent_once p (slots s) s (start_of p (slots s) s) (w s) false (prepare p inputs (slots s) s) (prepared_of p inputs sound (slots s) s) (cut.legal s k) r))))
+        (sent_once p (slots s) s (start_of p (slots s) s) (w s) false (prepare p inputs (slots s) s)
+            (prepared_of p inputs sound (slots s) s) (cut.legal s k) r))))
     | inr k ↦ subst (λ v. Distinct (map number_in (owned v))) (sym (cut.known r s Request h k)) tt
   ]
 
@@ -154,7 +169,8 @@ module _ (starts : CombineStarts) (p : Plan) (inputs : Inputs) (sound : SoundPla
   pub all_once : (r : ℕ) → r < p.ranks → Distinct (map link_of (map to_came (own_received Request (w r))))
   all_once r h = subst Distinct (sym (links_of (own_received Request (w r)))) (received_once r h)
 
-  pub received_link : (r : ℕ) → r < p.ranks → (a : Came) → In a (map to_came (own_received Request (w r))) → IsLinkHere p r a.link × (length a.bytes ≡ (link p a.link).length)
+  pub received_link : (r : ℕ) → r < p.ranks → (a : Came) → In a (map to_came (own_received Request (w r))) → IsLinkHere p r a.link ×
+      (length a.bytes ≡ (link p a.link).length)
   received_link r h a i =
       let q = In-map_cases to_came a (own_received Request (w r)) i in
       let g = own_received-got Request (w r) q.0 q.1 in
@@ -166,26 +182,36 @@ module _ (starts : CombineStarts) (p : Plan) (inputs : Inputs) (sound : SoundPla
   early_lie : (r : ℕ) → r < p.ranks → MayLie p r (before_start (w r))
   early_lie r h =
       let f = before-front (w r) in
-      let inside : (a : Came) → In a (before_start (w r)) → In a (map to_came (own_received Request (w r))) = (λ a i. prefix-In a (before_start (w r)) (map to_came (own_received Request (w r))) f i) in
+      let inside : (a : Came) → In a (before_start (w r)) → In a (map to_came (own_received Request (w r))) =
+            (λ a i. prefix-In a (before_start (w r)) (map to_came (own_received Request (w r))) f i) in
       record {
         here = λ a i. (received_link r h a (inside a i)).0;
         size = λ a i. (received_link r h a (inside a i)).1;
-        once = Distinct_left (map link_of (before_start (w r))) (map link_of f.0) (subst Distinct (map-append link_of (before_start (w r)) f.0) (subst (λ v. Distinct (map link_of v)) (sym f.1) (all_once r h)));
+        once = Distinct_left (map link_of (before_start (w r))) (map link_of f.0)
+            (subst Distinct (map-append link_of (before_start (w r)) f.0) (subst (λ v. Distinct (map link_of v)) (sym f.1) (all_once r h)));
       }
 
   pub simulation : (r : ℕ) → r < p.ranks → SimulatesRun p inputs slots r [] nothing_seen (w r)
   simulation r h =
-      simulates_run p inputs sound starts slots r h (w r) [] nothing_seen (λ d i. length-initial p inputs sound fit d i) refl (nothing_raised p r r) (early_lie r h)
-      (subst (λ v. Legal (start_of p (slots r) r) false v (w r)) (prepared p inputs (slots r) r slots (length inputs) sound) (cut.legal r h)) (conforms r h)
+      simulates_run p inputs sound starts slots r h (w r) [] nothing_seen (λ d i. length-initial p inputs sound fit d i) refl
+          (nothing_raised p r r) (early_lie r h)
+      (subst (λ v. Legal (start_of p (slots r) r) false v (w r)) (prepared p inputs (slots r) r slots (length inputs) sound)
+          (cut.legal r h)) (conforms r h)
 
-  pub sent_requests : (s d : ℕ) → s < p.ranks → sent_by (system_of p inputs slots) w s d Request ≡ map (as_message p (slots s)) (filter (goes_to p d) (outs p inputs nothing_seen (moves_at p w s)))
-  sent_requests s d h = ap (λ v. filter (is_for d Request) (made (start_of p (slots s) s) v (w s))) (prepared p inputs (slots s) s slots (length inputs) sound) ∙ ap (filter (is_for d Request)) (simulation s h).makes_them ∙ run_requests p inputs (slots s) s d (w s) [] nothing_seen
+  pub sent_requests : (s d : ℕ) → s < p.ranks → sent_by (system_of p inputs slots) w s d Request ≡ map (as_message p (slots s))
+      (filter (goes_to p d) (outs p inputs nothing_seen (moves_at p w s)))
+  sent_requests s d h = ap (λ v. filter (is_for d Request) (made (start_of p (slots s) s) v (w s)))
+      (prepared p inputs (slots s) s slots (length inputs) sound) ∙ ap (filter (is_for d Request)) (simulation s h).makes_them
+      ∙ run_requests p inputs (slots s) s d (w s) [] nothing_seen
 
-  got_own : (r s : ℕ) (m : Sent) → r < p.ranks → In m (got (w r) s Request) → is_stray m ≡ false → In m (sent_by (system_of p inputs slots) w s r Request)
-  got_own r s m h i e = prefix-In m (got_by w r s Request) (sent_by (system_of p inputs slots) w s r Request) (cut.lanes s r Request (sender r s Request m h i) h) (In-owned m (got (w r) s Request) i e)
+  got_own : (r s : ℕ) (m : Sent) → r < p.ranks → In m (got (w r) s Request) → is_stray m ≡ false →
+      In m (sent_by (system_of p inputs slots) w s r Request)
+  got_own r s m h i e = prefix-In m (got_by w r s Request) (sent_by (system_of p inputs slots) w s r Request)
+      (cut.lanes s r Request (sender r s Request m h i) h) (In-owned m (got (w r) s Request) i e)
 
   -- what came was sent, with its bytes
-  pub came_out : (r s : ℕ) (m : Sent) → r < p.ranks → In m (got (w r) s Request) → is_stray m ≡ false → In (to_came m) (outs p inputs nothing_seen (moves_at p w s))
+  pub came_out : (r s : ℕ) (m : Sent) → r < p.ranks → In m (got (w r) s Request) → is_stray m ≡ false →
+      In (to_came m) (outs p inputs nothing_seen (moves_at p w s))
   came_out r s m h i e =
       let k = sender r s Request m h i in
       let o = subst (λ v. In m v) (sent_requests s r k) (got_own r s m h i e) in
@@ -220,16 +246,19 @@ module _ (starts : CombineStarts) (p : Plan) (inputs : Inputs) (sound : SoundPla
     made = λ r a h i. out_facts r h a (came_in r a i);
   }
     where
-      out_facts : (r : ℕ) → r < p.ranks → (a : Came) → In a (map to_came (own_received Request (w r))) → In a (outs p inputs nothing_seen (moves_at p w (source_rank p a.link)))
+      out_facts : (r : ℕ) → r < p.ranks → (a : Came) → In a (map to_came (own_received Request (w r))) →
+          In a (outs p inputs nothing_seen (moves_at p w (source_rank p a.link)))
       out_facts r h a i =
           let q = In-map_cases to_came a (own_received Request (w r)) i in
           let g = own_received-got Request (w r) q.0 q.1 in
           let o = came_out r g.from q.0 h g.got_it g.clean in
           let n : source_rank p a.link ≡ g.from = ap (source_rank p) (sym (ap link_of q.2)) ∙ source_of r g.from q.0 h g.got_it g.clean in
-          subst (λ v. In a (outs p inputs nothing_seen (moves_at p w v))) (sym n) (subst (λ v. In v (outs p inputs nothing_seen (moves_at p w g.from))) q.2 o)
+          subst (λ v. In a (outs p inputs nothing_seen (moves_at p w v))) (sym n)
+              (subst (λ v. In v (outs p inputs nothing_seen (moves_at p w g.from))) q.2 o)
 
   -- what answers were sent
-  pub answers_rem : p.remote ≡ true → (s d : ℕ) → s < p.ranks → sent_by (system_of p inputs slots) w s d Answer ≡ map ack (filter (came_from d) (own_received Request (w s)))
+  pub answers_rem : p.remote ≡ true → (s d : ℕ) → s < p.ranks → sent_by (system_of p inputs slots) w s d Answer ≡ map ack
+      (filter (came_from d) (own_received Request (w s)))
   answers_rem rem s d h =
       ap (λ v. filter (is_for d Answer) (made (start_of p (slots s) s) v (w s))) (prepared p inputs (slots s) s slots (length inputs) sound)
       ∙ ap (filter (is_for d Answer)) (simulation s h).makes_them

@@ -1,5 +1,6 @@
 -- Histories in two parts, and what can follow where no operation is pending.
-use Rattle.std.proofs.Common.{ℕ, Bool, true, false, cond, not, ◌&&◌, ◌||◌, ◌≡◌, ◌<◌, ◌==◌, List, [], ◌∷◌, ◌++◌, refl, length, ap, ap₂, ◌∙◌, subst, inl, inr, find, Option, Some, None, arith, count_by, length-append}
+use Rattle.std.proofs.Common.{ℕ, Bool, true, false, cond, not, ◌&&◌, ◌||◌, ◌≡◌, ◌<◌, ◌==◌, List, [], ◌∷◌, ◌++◌, refl, length, ap, ap₂, ◌∙◌,
+    subst, inl, inr, find, Option, Some, None, arith, count_by, length-append}
 use Rattle.std.proofs.lemmas.Bool.{not_from_false}
 use Rattle.std.proofs.lemmas.List.{nil_from_length}
 use Rattle.ptl_types.specs.Messages.{Sent}
@@ -9,7 +10,8 @@ use Rattle.ptl_types.specs.declared.headers.Lane.TheVariants.{Answer, Request}
 use Rattle.plan_core.specs.Members.{In}
 use Rattle.ni_model.specs.State.{Posted, State, target, Operations}
 use Rattle.ni_model.specs.Ready.{is_ready, is_number, is_ready_op}
-use Rattle.cuts.specs.histories.History.{Beginning, Legal, Local, after, and_then, got, is_for, is_start, made, made_by, same_lane, sent, state}
+use Rattle.cuts.specs.histories.History.{Beginning, Legal, Local, after, and_then, got, is_for, is_start, made, made_by, same_lane, sent,
+    state}
 use Rattle.cuts.specs.histories.History.Local.{Fire, Receive, Start}
 use Rattle.cuts.specs.histories.Cut.{is_stray, owned}
 use Rattle.plan_core.proofs.Lists.{count-cons}
@@ -25,7 +27,8 @@ pub made-append : (go : Beginning) (s : State) (h k : List Local) → made go s 
 made-append go s [] k = refl
 made-append go s (e ∷ h) k = at (made_by s e) (made-append go (after go s e) h k)
   where
-    at : (o : Option Sent) → made go (after go s e) (h ++ k) ≡ made go (after go s e) h ++ made go (state go (after go s e) h) k → and_then o (made go (after go s e) (h ++ k)) ≡ and_then o (made go (after go s e) h) ++ made go (state go (after go s e) h) k
+    at : (o : Option Sent) → made go (after go s e) (h ++ k) ≡ made go (after go s e) h ++ made go (state go (after go s e) h) k →
+        and_then o (made go (after go s e) (h ++ k)) ≡ and_then o (made go (after go s e) h) ++ made go (state go (after go s e) h) k
     at None q = q
     at (Some m) q = ap (λ v. m ∷ v) q
 
@@ -35,7 +38,8 @@ got-append (Start ∷ h) k s lane = got-append h k s lane
 got-append (Fire t ∷ h) k s lane = got-append h k s lane
 got-append (Receive source l m ∷ h) k s lane = at ((source == s) && same_lane l lane) (got-append h k s lane)
   where
-    at : (b : Bool) → got (h ++ k) s lane ≡ got h s lane ++ got k s lane → cond b (m ∷ got (h ++ k) s lane) (got (h ++ k) s lane) ≡ cond b (m ∷ got h s lane) (got h s lane) ++ got k s lane
+    at : (b : Bool) → got (h ++ k) s lane ≡ got h s lane ++ got k s lane → cond b (m ∷ got (h ++ k) s lane) (got (h ++ k) s lane) ≡ cond b
+        (m ∷ got h s lane) (got h s lane) ++ got k s lane
     at true q = ap (λ v. m ∷ v) q
     at false q = q
 
@@ -75,23 +79,29 @@ OnlyReceipts (_ ∷ es) = ⊥
 pub only_receipts : (go : Beginning) (v : State) (es : List Local) → v.pending.waiting ≡ [] → Legal go true v es → OnlyReceipts es
 only_receipts go v [] e l = tt
 only_receipts go v (Start ∷ es) e l = let q = l.0 in cc
-only_receipts go v (Fire t ∷ es) e l = let q = l.0 in let n : is_ready v t ≡ false = ap (λ (qs : List Posted). is_ready_op v.cts (find (is_number t) qs)) e in cc
-only_receipts go v (Receive s lane m ∷ es) e l = only_receipts go (target v m).state es (ap (λ (ps : Operations). ps.waiting) (target_stays v m).pending ∙ e) l.1
+only_receipts go v (Fire t ∷ es) e l = let q = l.0 in let n : is_ready v t ≡ false =
+                                                            ap (λ (qs : List Posted). is_ready_op v.cts (find (is_number t) qs)) e in cc
+only_receipts go v (Receive s lane m ∷ es) e l = only_receipts go (target v m).state es
+    (ap (λ (ps : Operations). ps.waiting) (target_stays v m).pending ∙ e) l.1
 
 -- receipts make answers alone, and only to requests
-pub made-answers : (go : Beginning) (v : State) (es : List Local) → OnlyReceipts es → (m : Sent) → In m (made go v es) → is_answer m.header.kind ≡ true
+pub made-answers : (go : Beginning) (v : State) (es : List Local) → OnlyReceipts es → (m : Sent) → In m (made go v es) →
+    is_answer m.header.kind ≡ true
 made-answers go v [] o m i = absurd i
 made-answers go v (Start ∷ es) o m i = absurd o
 made-answers go v (Fire t ∷ es) o m i = absurd o
 made-answers go v (Receive s lane x ∷ es) o m i = at ((target v x).delivered.answer) refl i (made-answers go (target v x).state es o m)
   where
-    at : (q : Option Sent) → (target v x).delivered.answer ≡ q → In m (and_then q (made go (target v x).state es)) → (In m (made go (target v x).state es) → is_answer m.header.kind ≡ true) → is_answer m.header.kind ≡ true
+    at : (q : Option Sent) → (target v x).delivered.answer ≡ q → In m (and_then q (made go (target v x).state es)) →
+        (In m (made go (target v x).state es) → is_answer m.header.kind ≡ true) → is_answer m.header.kind ≡ true
     at None e i rest = rest i
     at (Some y) e (inr i) rest = rest i
-    at (Some y) e (inl f) rest = let a = (target_answers v x y e).1 in subst (λ (u : Sent). is_answer u.header.kind ≡ true) f (answer_kind a.ok a.length a.bytes x.header y a.is)
+    at (Some y) e (inl f) rest = let a = (target_answers v x y e).1 in subst (λ (u : Sent). is_answer u.header.kind ≡ true) f
+        (answer_kind a.ok a.length a.bytes x.header y a.is)
 
 pub no-requests : (go : Beginning) (v : State) (es : List Local) (d : ℕ) → OnlyReceipts es → sent go v es d Request ≡ []
-no-requests go v es d o = filter-none (is_for d Request) (made go v es) (λ m i. at (m.header.target == d) (is_answer m.header.kind) (made-answers go v es o m i))
+no-requests go v es d o = filter-none (is_for d Request) (made go v es)
+    (λ m i. at (m.header.target == d) (is_answer m.header.kind) (made-answers go v es o m i))
   where
     at : (b c : Bool) → c ≡ true → (b && not c) ≡ false
     at true true e = refl
@@ -99,12 +109,14 @@ no-requests go v es d o = filter-none (is_for d Request) (made go v es) (λ m i.
     at false c e = refl
 
 -- without a request there is no answer
-pub no-answers : (go : Beginning) (v : State) (es : List Local) (b : Bool) → OnlyReceipts es → Legal go b v es → ((s : ℕ) → got es s Request ≡ []) → made go v es ≡ []
+pub no-answers : (go : Beginning) (v : State) (es : List Local) (b : Bool) → OnlyReceipts es → Legal go b v es →
+    ((s : ℕ) → got es s Request ≡ []) → made go v es ≡ []
 no-answers go v [] b o l n = refl
 no-answers go v (Start ∷ es) b o l n = absurd o
 no-answers go v (Fire t ∷ es) b o l n = absurd o
 no-answers go v (Receive s Request x ∷ es) b o l n = absurd (subst (λ xs. In x xs) (n s) (got_first s Request x es))
-no-answers go v (Receive s Answer x ∷ es) b o l n = at ((target v x).delivered.answer) refl (no-answers go (target v x).state es (b || false) o l.1 (λ u. later u (n u)))
+no-answers go v (Receive s Answer x ∷ es) b o l n = at ((target v x).delivered.answer) refl
+    (no-answers go (target v x).state es (b || false) o l.1 (λ u. later u (n u)))
   where
     later : (u : ℕ) → got (Receive s Answer x ∷ es) u Request ≡ [] → got es u Request ≡ []
     later u e = pick (s == u) e
@@ -113,7 +125,8 @@ no-answers go v (Receive s Answer x ∷ es) b o l n = at ((target v x).delivered
         pick true e = e
         pick false e = e
 
-    at : (q : Option Sent) → (target v x).delivered.answer ≡ q → made go (target v x).state es ≡ [] → and_then q (made go (target v x).state es) ≡ []
+    at : (q : Option Sent) → (target v x).delivered.answer ≡ q → made go (target v x).state es ≡ [] →
+        and_then q (made go (target v x).state es) ≡ []
     at None e rest = rest
     at (Some y) e rest = absurd (both l.0.2 (target_answers v x y e).0)
       where
@@ -145,7 +158,9 @@ same-front {X} (x ∷ xs) us (y ∷ ys) vs e l = ap₂ (λ a b. a ∷ b) (head_o
 
 -- a front with nothing after it
 pub nothing-behind : {X : Type 0} (xs ys zs : List X) → (xs ++ ys) ++ zs ≡ xs → ys ≡ []
-nothing-behind xs ys zs e = nil_from_length ys (let l = ap length e in let a = length-append (xs ++ ys) zs in let b = length-append xs ys in omega arith)
+nothing-behind xs ys zs e = nil_from_length ys (let l = ap length e in let a = length-append (xs ++ ys) zs in let b =
+                                                                                                                    length-append xs ys in
+                                                                                                                    omega arith)
 
 pub nil-left : {X : Type 0} (xs ys : List X) → xs ++ ys ≡ [] → xs ≡ []
 nil-left xs ys e = nil_from_length xs (let l = ap length e in let a = length-append xs ys in omega arith)

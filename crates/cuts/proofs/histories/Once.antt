@@ -1,5 +1,6 @@
 -- In a legal history each number is fired at most once.
-use Rattle.std.proofs.Common.{◌++◌, IsTrue, ℕ, Bool, true, false, cond, not, ◌||◌, ◌==◌, ◌≡◌, ◌≤◌, List, [], ◌∷◌, refl, ap, subst, arith, Option, Some, None, count_by, eqb-true}
+use Rattle.std.proofs.Common.{◌++◌, IsTrue, ℕ, Bool, true, false, cond, not, ◌||◌, ◌==◌, ◌≡◌, ◌≤◌, List, [], ◌∷◌, refl, ap, subst, arith,
+    Option, Some, None, count_by, eqb-true}
 use Rattle.std.proofs.lemmas.Bool.{not-true, false_from_ne_true}
 use Rattle.plan_core.specs.Members.{In}
 use Rattle.ni_model.specs.State.{Posted, State, Operations}
@@ -20,7 +21,8 @@ gone_fired t u v h = at (posted_at u v.pending)
   where
     at : (o : Option Posted) → Gone t (fired_op v o).state
     at None = h
-    at (Some q) = λ x i. h x (In-filter_cases (λ y. not (is_number q.number y)) x v.pending.waiting (subst (λ (ps : Operations). In x ps.waiting) (done_stays (without q.number v) q.deed).pending i)).0
+    at (Some q) = λ x i. h x (In-filter_cases (λ y. not (is_number q.number y)) x v.pending.waiting
+        (subst (λ (ps : Operations). In x ps.waiting) (done_stays (without q.number v) q.deed).pending i)).0
 
 pub gone_after : (t : ℕ) (go : Beginning) (v : State) (e : Local) → Gone t v → Gone t (after go v e)
 gone_after t go v Start h = λ x i. h x (subst (λ (ps : Operations). In x ps.waiting) (go.pending v) i)
@@ -42,8 +44,13 @@ other t u v h r = false_from_ne_true (u == t) (λ e. both (subst (λ n. is_ready
 
 never_again : (t : ℕ) (go : Beginning) (es : List Local) (b : Bool) (v : State) → Gone t v → Legal go b v es → count_by (is_fire t) es ≡ 0
 never_again t go [] b v h l = refl
-never_again t go (Start ∷ es) b v h l = let k = never_again t go es (b || true) (after go v Start) (gone_after t go v Start h) l.1 in let c = count-cons (is_fire t) Start es in omega (arith, k, c)
-never_again t go (Receive s lane m ∷ es) b v h l = let k = never_again t go es (b || false) (after go v (Receive s lane m)) (gone_after t go v (Receive s lane m) h) l.1 in let c = count-cons (is_fire t) (Receive s lane m) es in omega (arith, k, c)
+never_again t go (Start ∷ es) b v h l = let k = never_again t go es (b || true) (after go v Start) (gone_after t go v Start h) l.1 in
+    let c = count-cons (is_fire t) Start es in omega (arith, k, c)
+never_again t go (Receive s lane m ∷ es) b v h l = let k = never_again t go es (b || false) (after go v (Receive s lane m))
+                                                         (gone_after t go v (Receive s lane m) h) l.1 in let c =
+                                                                                                               count-cons (is_fire t)
+                                                                                                               (Receive s lane m) es in
+                                                                                                               omega (arith, k, c)
 never_again t go (Fire u ∷ es) b v h l =
     let k = never_again t go es (b || false) (after go v (Fire u)) (gone_after t go v (Fire u) h) l.1 in
     let c = count-cons (is_fire t) (Fire u) es in
@@ -58,13 +65,17 @@ gone_now t v r = at (posted_at t v.pending) refl r
     at None e r = cc
     at (Some q) e r = λ x i.
         let n : q.number ≡ t = eqb-true _ _ (find-In (is_number t) v.pending.waiting q e).1 in
-        let j = In-filter_cases (λ y. not (is_number q.number y)) x v.pending.waiting (subst (λ (ps : Operations). In x ps.waiting) (done_stays (without q.number v) q.deed).pending i) in
+        let j = In-filter_cases (λ y. not (is_number q.number y)) x v.pending.waiting
+              (subst (λ (ps : Operations). In x ps.waiting) (done_stays (without q.number v) q.deed).pending i) in
         subst (λ m. is_number m x ≡ false) n (not-true _ j.1)
 
 pub fired_once : (t : ℕ) (go : Beginning) (es : List Local) (b : Bool) (v : State) → Legal go b v es → count_by (is_fire t) es ≤ 1
 fired_once t go [] b v l = omega arith
-fired_once t go (Start ∷ es) b v l = let k = fired_once t go es (b || true) (after go v Start) l.1 in let c = count-cons (is_fire t) Start es in omega (arith, k, c)
-fired_once t go (Receive s lane m ∷ es) b v l = let k = fired_once t go es (b || false) (after go v (Receive s lane m)) l.1 in let c = count-cons (is_fire t) (Receive s lane m) es in omega (arith, k, c)
+fired_once t go (Start ∷ es) b v l = let k = fired_once t go es (b || true) (after go v Start) l.1 in let c =
+                                                                                                            count-cons (is_fire t) Start
+                                                                                                            es in omega (arith, k, c)
+fired_once t go (Receive s lane m ∷ es) b v l = let k = fired_once t go es (b || false) (after go v (Receive s lane m)) l.1 in let c =
+                                                                                                                                     count-cons (is_fire t) (Receive s lane m) es in omega (arith, k, c)
 fired_once t go (Fire u ∷ es) b v l = at (u == t) refl (fired_once t go es (b || false) (after go v (Fire u)) l.1)
   where
     at : (x : Bool) → (u == t) ≡ x → count_by (is_fire t) es ≤ 1 → count_by (is_fire t) (Fire u ∷ es) ≤ 1
@@ -81,6 +92,7 @@ fired_once t go (Fire u ∷ es) b v l = at (u == t) refl (fired_once t go es (b 
     at false e k = let c = count-cons (is_fire t) (Fire u) es in let z = none_if (u == t) e in omega (arith, k, c, z)
 
 -- what a legal history fires was ready
-pub ready_before : (t : ℕ) (go : Beginning) (front later : List Local) (b : Bool) (v : State) → Legal go b v (front ++ Fire t ∷ later) → IsTrue (is_ready (state go v front) t)
+pub ready_before : (t : ℕ) (go : Beginning) (front later : List Local) (b : Bool) (v : State) → Legal go b v (front ++ Fire t ∷ later) →
+    IsTrue (is_ready (state go v front) t)
 ready_before t go [] later b v l = l.0
 ready_before t go (e ∷ front) later b v l = ready_before t go front later (b || is_start e) (after go v e) l.1

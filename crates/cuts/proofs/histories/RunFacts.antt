@@ -1,5 +1,6 @@
 -- What the moves of a rank's history count.
-use Rattle.std.proofs.Common.{if◌then◌else◌, ℕ, suc, Bool, true, false, cond, ◌+◌, ◌≡◌, ◌<◌, List, [], ◌∷◌, ◌++◌, refl, ap, ◌∙◌, sym, inl, inr, arith, map, Option, Some, None, count_by}
+use Rattle.std.proofs.Common.{if◌then◌else◌, ℕ, suc, Bool, true, false, cond, ◌+◌, ◌≡◌, ◌<◌, List, [], ◌∷◌, ◌++◌, refl, ap, ◌∙◌, sym, inl,
+    inr, arith, map, Option, Some, None, count_by}
 use Rattle.ni_model.specs.State.{State}
 use Rattle.plan_core.proofs.Lists.{count-cons}
 use Rattle.plan_core.specs.Members.{In}
@@ -38,18 +39,22 @@ run_heard p r [] early = refl
 run_heard p r (Start ∷ es) early = heard-took p early (moves_of p r es)
 run_heard p r (Fire t ∷ es) early = at (work_numbered p r t) (run_heard p r es early)
   where
-    at : (o : Option RankOp) → heard p (run_moves p r early es) ≡ heard p (moves_of p r es) → heard p (did o ∷ run_moves p r early es) ≡ heard p (did o ∷ moves_of p r es)
+    at : (o : Option RankOp) → heard p (run_moves p r early es) ≡ heard p (moves_of p r es) →
+        heard p (did o ∷ run_moves p r early es) ≡ heard p (did o ∷ moves_of p r es)
     at None e = e
     at (Some w) e = e
 run_heard p r (Receive s Answer m ∷ es) early = ap (λ v. (if p.remote then 1 else 0) + v) (run_heard p r es early)
 run_heard p r (Receive s Request m ∷ es) early = at (is_stray m) (run_heard p r es early) (run_heard p r es (early ++ to_came m ∷ []))
   where
-    at : (b : Bool) → heard p (run_moves p r early es) ≡ heard p (moves_of p r es) → heard p (run_moves p r (early ++ to_came m ∷ []) es) ≡ heard p (moves_of p r es)
-        → heard p (cond b (Strayed ∷ run_moves p r early es) (run_moves p r (early ++ to_came m ∷ []) es)) ≡ heard p (cond b Strayed (Took m.header.hdr_data m.bytes) ∷ moves_of p r es)
+    at : (b : Bool) → heard p (run_moves p r early es) ≡ heard p (moves_of p r es) → heard p (run_moves p r (early ++ to_came m ∷ []) es)
+        ≡ heard p (moves_of p r es)
+        → heard p (cond b (Strayed ∷ run_moves p r early es) (run_moves p r (early ++ to_came m ∷ []) es)) ≡ heard p
+            (cond b Strayed (Took m.header.hdr_data m.bytes) ∷ moves_of p r es)
     at true x y = x
     at false x y = y
 
-pub run_ok : (p : Plan) (r : ℕ) (es : List Local) (early : List Came) → ((m : Sent) → In m (answers_in es) → m.header.ok ≡ true) → AllOk (run_moves p r early es)
+pub run_ok : (p : Plan) (r : ℕ) (es : List Local) (early : List Came) → ((m : Sent) → In m (answers_in es) → m.header.ok ≡ true) →
+    AllOk (run_moves p r early es)
 run_ok p r [] early h = tt
 run_ok p r (Start ∷ es) early h = ok-took early (moves_of p r es) (all_ok p r es h)
 run_ok p r (Fire t ∷ es) early h = at (work_numbered p r t) (run_ok p r es early h)
@@ -60,19 +65,26 @@ run_ok p r (Fire t ∷ es) early h = at (work_numbered p r t) (run_ok p r es ear
 run_ok p r (Receive s Answer m ∷ es) early h = (h m (inl refl), run_ok p r es early (λ x i. h x (inr i)))
 run_ok p r (Receive s Request m ∷ es) early h = at (is_stray m) (run_ok p r es early h) (run_ok p r es (early ++ to_came m ∷ []) h)
   where
-    at : (b : Bool) → AllOk (run_moves p r early es) → AllOk (run_moves p r (early ++ to_came m ∷ []) es) → AllOk (cond b (Strayed ∷ run_moves p r early es) (run_moves p r (early ++ to_came m ∷ []) es))
+    at : (b : Bool) → AllOk (run_moves p r early es) → AllOk (run_moves p r (early ++ to_came m ∷ []) es) →
+        AllOk (cond b (Strayed ∷ run_moves p r early es) (run_moves p r (early ++ to_came m ∷ []) es))
     at true x y = x
     at false x y = y
 
-pub run_strays : (p : Plan) (r : ℕ) (es : List Local) (early : List Came) (g : Seen) → ((m : Sent) → In m (answers_in es) → is_stray m ≡ false) → (seen p g (run_moves p r early es)).strays ≡ g.strays + count_by is_received_stray es
+pub run_strays : (p : Plan) (r : ℕ) (es : List Local) (early : List Came) (g : Seen) →
+    ((m : Sent) → In m (answers_in es) → is_stray m ≡ false) → (seen p g (run_moves p r early es)).strays ≡ g.strays + count_by
+    is_received_stray es
 run_strays p r [] early g h = strays_are p r [] g h
 run_strays p r (Start ∷ es) early g h =
     let e = count-cons is_received_stray Start es in
     let k = strays_are p r es (took (note p g Began) early) h in
-    ap (λ (v : Seen). v.strays) (seen-took-append p early (note p g Began) (moves_of p r es)) ∙ (let q : (seen p (took (note p g Began) early) (moves_of p r es)).strays ≡ g.strays + count_by is_received_stray (Start ∷ es) = omega (arith, e, k) in q)
+    ap (λ (v : Seen). v.strays) (seen-took-append p early (note p g Began) (moves_of p r es))
+        ∙ (let q : (seen p (took (note p g Began) early) (moves_of p r es)).strays ≡ g.strays + count_by is_received_stray (Start ∷ es) =
+                 omega (arith, e, k) in q)
 run_strays p r (Fire t ∷ es) early g h = at (work_numbered p r t) (λ o. run_strays p r es early (note p g (did o)) h)
   where
-    at : (o : Option RankOp) → ((o : Option RankOp) → (seen p (note p g (did o)) (run_moves p r early es)).strays ≡ (note p g (did o)).strays + count_by is_received_stray es) → (seen p (note p g (did o)) (run_moves p r early es)).strays ≡ g.strays + count_by is_received_stray (Fire t ∷ es)
+    at : (o : Option RankOp) → ((o : Option RankOp) → (seen p (note p g (did o)) (run_moves p r early es)).strays
+        ≡ (note p g (did o)).strays + count_by is_received_stray es) → (seen p (note p g (did o)) (run_moves p r early es)).strays
+        ≡ g.strays + count_by is_received_stray (Fire t ∷ es)
     at None rest = let e = count-cons is_received_stray (Fire t) es in let k = rest None in omega (arith, e, k)
     at (Some (ForLink l)) rest = let e = count-cons is_received_stray (Fire t) es in let k = rest (Some (ForLink l)) in omega (arith, e, k)
     at (Some (ForDone c)) rest = let e = count-cons is_received_stray (Fire t) es in let k = rest (Some (ForDone c)) in omega (arith, e, k)
@@ -80,12 +92,16 @@ run_strays p r (Receive s Answer m ∷ es) early g h =
     let e = count-cons is_received_stray (Receive s Answer m) es in
     let z = none_if (is_stray m) (h m (inl refl)) in
     let k = run_strays p r es early (note p g (Heard m.header.ok)) (λ x i. h x (inr i)) in omega (arith, e, k, z)
-run_strays p r (Receive s Request m ∷ es) early g h = at (is_stray m) refl (run_strays p r es early (note p g Strayed) h) (run_strays p r es (early ++ to_came m ∷ []) g h)
+run_strays p r (Receive s Request m ∷ es) early g h = at (is_stray m) refl (run_strays p r es early (note p g Strayed) h)
+    (run_strays p r es (early ++ to_came m ∷ []) g h)
   where
-    at : (b : Bool) → is_stray m ≡ b → (seen p (note p g Strayed) (run_moves p r early es)).strays ≡ suc g.strays + count_by is_received_stray es → (seen p g (run_moves p r (early ++ to_came m ∷ []) es)).strays ≡ g.strays + count_by is_received_stray es
-        → (seen p g (cond b (Strayed ∷ run_moves p r early es) (run_moves p r (early ++ to_came m ∷ []) es))).strays ≡ g.strays + count_by is_received_stray (Receive s Request m ∷ es)
+    at : (b : Bool) → is_stray m ≡ b → (seen p (note p g Strayed) (run_moves p r early es)).strays ≡ suc g.strays + count_by
+        is_received_stray es → (seen p g (run_moves p r (early ++ to_came m ∷ []) es)).strays ≡ g.strays + count_by is_received_stray es
+        → (seen p g (cond b (Strayed ∷ run_moves p r early es) (run_moves p r (early ++ to_came m ∷ []) es))).strays ≡ g.strays + count_by
+            is_received_stray (Receive s Request m ∷ es)
     at true q x y = let e = count-cons is_received_stray (Receive s Request m) es in let z = one_if (is_stray m) q in omega (arith, e, x, z)
-    at false q x y = let e = count-cons is_received_stray (Receive s Request m) es in let z = none_if (is_stray m) q in omega (arith, e, y, z)
+    at false q x y = let e = count-cons is_received_stray (Receive s Request m) es in let z = none_if (is_stray m) q in
+        omega (arith, e, y, z)
 
 pub has_start-of : (es : List Local) → 0 < count_by is_start es → has_start es ≡ true
 has_start-of [] h = absurd (omega arith)
@@ -93,14 +109,18 @@ has_start-of (Start ∷ es) h = refl
 has_start-of (Fire t ∷ es) h = has_start-of es (let e = count-cons is_start (Fire t) es in omega arith)
 has_start-of (Receive s l m ∷ es) h = has_start-of es (let e = count-cons is_start (Receive s l m) es in omega arith)
 
-pub run_started : (p : Plan) (r : ℕ) (es : List Local) (early : List Came) (g : Seen) → has_start es ≡ true → (seen p g (run_moves p r early es)).started ≡ true
+pub run_started : (p : Plan) (r : ℕ) (es : List Local) (early : List Came) (g : Seen) → has_start es ≡ true →
+    (seen p g (run_moves p r early es)).started ≡ true
 run_started p r [] early g h = cc
 run_started p r (Start ∷ es) early g h = started_on p (map tk early ++ moves_of p r es) (note p g Began) refl
 run_started p r (Fire t ∷ es) early g h = run_started p r es early (note p g (did (work_numbered p r t))) h
 run_started p r (Receive s Answer m ∷ es) early g h = run_started p r es early (note p g (Heard m.header.ok)) h
-run_started p r (Receive s Request m ∷ es) early g h = at (is_stray m) (run_started p r es early (note p g Strayed) h) (run_started p r es (early ++ to_came m ∷ []) g h)
+run_started p r (Receive s Request m ∷ es) early g h = at (is_stray m) (run_started p r es early (note p g Strayed) h)
+    (run_started p r es (early ++ to_came m ∷ []) g h)
   where
-    at : (b : Bool) → (seen p (note p g Strayed) (run_moves p r early es)).started ≡ true → (seen p g (run_moves p r (early ++ to_came m ∷ []) es)).started ≡ true → (seen p g (cond b (Strayed ∷ run_moves p r early es) (run_moves p r (early ++ to_came m ∷ []) es))).started ≡ true
+    at : (b : Bool) → (seen p (note p g Strayed) (run_moves p r early es)).started ≡ true →
+        (seen p g (run_moves p r (early ++ to_came m ∷ []) es)).started ≡ true →
+        (seen p g (cond b (Strayed ∷ run_moves p r early es) (run_moves p r (early ++ to_came m ∷ []) es))).started ≡ true
     at true x y = x
     at false x y = y
 
@@ -109,14 +129,21 @@ pub record Ended (p : Plan) (inputs : Inputs) (k : ℕ → Slots) (r : ℕ) (v :
   pub early : List Came
   pub is : v ≡ view (annex_of p (k r) r early) p inputs (k r) r g
 
-pub run_ended : (p : Plan) (inputs : Inputs) (k : ℕ → Slots) (r : ℕ) (es : List Local) (early : List Came) (g : Seen) → has_start es ≡ true → Ended p inputs k r (run_state p inputs k r early g es) (seen p g (run_moves p r early es))
+pub run_ended : (p : Plan) (inputs : Inputs) (k : ℕ → Slots) (r : ℕ) (es : List Local) (early : List Came) (g : Seen) →
+    has_start es ≡ true → Ended p inputs k r (run_state p inputs k r early g es) (seen p g (run_moves p r early es))
 run_ended p inputs k r [] early g h = cc
-run_ended p inputs k r (Start ∷ es) early g h = record { early = early; is = ap (view (annex_of p (k r) r early) p inputs (k r) r) (sym (seen-took-append p early (note p g Began) (moves_of p r es))) }
+run_ended p inputs k r (Start ∷ es) early g h = record { early = early; is = ap (view (annex_of p (k r) r early) p inputs (k r) r)
+    (sym (seen-took-append p early (note p g Began) (moves_of p r es))) }
 run_ended p inputs k r (Fire t ∷ es) early g h = run_ended p inputs k r es early (note p g (did (work_numbered p r t))) h
 run_ended p inputs k r (Receive s Answer m ∷ es) early g h = run_ended p inputs k r es early (note p g (Heard m.header.ok)) h
-run_ended p inputs k r (Receive s Request m ∷ es) early g h = at (is_stray m) (run_ended p inputs k r es early (note p g Strayed) h) (run_ended p inputs k r es (early ++ to_came m ∷ []) g h)
+run_ended p inputs k r (Receive s Request m ∷ es) early g h = at (is_stray m) (run_ended p inputs k r es early (note p g Strayed) h)
+    (run_ended p inputs k r es (early ++ to_came m ∷ []) g h)
   where
-    at : (b : Bool) → Ended p inputs k r (run_state p inputs k r early (note p g Strayed) es) (seen p (note p g Strayed) (run_moves p r early es)) → Ended p inputs k r (run_state p inputs k r (early ++ to_came m ∷ []) g es) (seen p g (run_moves p r (early ++ to_came m ∷ []) es))
-        → Ended p inputs k r (cond b (run_state p inputs k r early (note p g Strayed) es) (run_state p inputs k r (early ++ to_came m ∷ []) g es)) (seen p g (cond b (Strayed ∷ run_moves p r early es) (run_moves p r (early ++ to_came m ∷ []) es)))
+    at : (b : Bool) → Ended p inputs k r (run_state p inputs k r early (note p g Strayed) es)
+        (seen p (note p g Strayed) (run_moves p r early es)) → Ended p inputs k r (run_state p inputs k r (early ++ to_came m ∷ []) g es)
+        (seen p g (run_moves p r (early ++ to_came m ∷ []) es))
+        → Ended p inputs k r (cond b (run_state p inputs k r early (note p g Strayed) es)
+            (run_state p inputs k r (early ++ to_came m ∷ []) g es))
+            (seen p g (cond b (Strayed ∷ run_moves p r early es) (run_moves p r (early ++ to_came m ∷ []) es)))
     at true x y = x
     at false x y = y

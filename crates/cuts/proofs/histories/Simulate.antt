@@ -1,5 +1,6 @@
 -- The history of an installed interface is the history of its plan's machine, whatever its slots and the order of its steps.
-use Rattle.std.proofs.Common.{ℕ, Bool, true, false, cond, not, ◌||◌, ◌/◌, ◌^◌, ◌%◌, ◌≡◌, ◌<◌, ◌⊎◌, ◌==◌, List, [], ◌∷◌, refl, length, ap, ap₂, ◌∙◌, sym, subst, inl, inr, map, find, Option, Some, None, eqb-true, eq-eqb, if◌then◌else◌}
+use Rattle.std.proofs.Common.{ℕ, Bool, true, false, cond, not, ◌||◌, ◌/◌, ◌^◌, ◌%◌, ◌≡◌, ◌<◌, ◌⊎◌, ◌==◌, List, [], ◌∷◌, refl, length, ap,
+    ap₂, ◌∙◌, sym, subst, inl, inr, map, find, Option, Some, None, eqb-true, eq-eqb, if◌then◌else◌}
 use Rattle.std.proofs.lemmas.Bool.{and_right, and_parts, not-true}
 use Rattle.ptl_types.specs.declared.headers.Header.{Header}
 use Rattle.ptl_types.specs.Messages.{Sent}
@@ -88,10 +89,12 @@ all_made p inputs s r g [] = []
 all_made p inputs s r g (e ∷ es) = and_then (makes p inputs s r g e) (all_made p inputs s r (note p g (move_of p r e)) es)
 
 -- ---- small facts
-pub stray-parts : (m : Sent) → is_stray m ≡ true → (is_put_or_atomic m.header.kind ≡ true) × (is_no_ack m.header.ack ≡ true) × ((m.header.match_bits / 2 ^ 48 % 2 ^ 16 == 1) ≡ false)
+pub stray-parts : (m : Sent) → is_stray m ≡ true → (is_put_or_atomic m.header.kind ≡ true) × (is_no_ack m.header.ack ≡ true) ×
+    ((m.header.match_bits / 2 ^ 48 % 2 ^ 16 == 1) ≡ false)
 stray-parts m e = let a = and_parts _ _ e in let b = and_parts _ _ a.1 in (a.0, b.0, not-true _ b.1)
 
-pub find-only : {X : Type 0} (t : X → Bool) (xs : List X) (x : X) → In x xs → t x ≡ true → ((y : X) → In y xs → t y ≡ true → y ≡ x) → find t xs ≡ Some x
+pub find-only : {X : Type 0} (t : X → Bool) (xs : List X) (x : X) → In x xs → t x ≡ true → ((y : X) → In y xs → t y ≡ true → y ≡ x) →
+    find t xs ≡ Some x
 find-only t [] x h e only = absurd h
 find-only t (y ∷ ys) x h e only = at (t y) refl h (λ i. find-only t ys x i e (λ z j. only z (inr j)))
   where
@@ -101,11 +104,14 @@ find-only t (y ∷ ys) x h e only = at (t y) refl h (λ i. find-only t ys x i e 
     at false q (inr i) rest = rest i
 
 pub numbered : (p : Plan) (r t : ℕ) (w : RankOp) → In w (rank_ops p r) → number_of p r w ≡ t → work_numbered p r t ≡ Some w
-numbered p r t w h e = find-only (λ v. number_of p r v == t) (rank_ops p r) w h (eq-eqb _ _ e) (λ v i q. number_of-one p r v w i h (eqb-true _ _ q ∙ sym e))
+numbered p r t w h e = find-only (λ v. number_of p r v == t) (rank_ops p r) w h (eq-eqb _ _ e)
+    (λ v i q. number_of-one p r v w i h (eqb-true _ _ q ∙ sym e))
 
-pub link-no_stray : (p : Plan) (inputs : Inputs) → SoundPlan p (length inputs) → (k : Slots) (r l : ℕ) → IsLinkHere p r l → (m : Sent) → m.header ≡ link_header p k l → is_stray m ≡ false
+pub link-no_stray : (p : Plan) (inputs : Inputs) → SoundPlan p (length inputs) → (k : Slots) (r l : ℕ) → IsLinkHere p r l → (m : Sent) →
+    m.header ≡ link_header p k l → is_stray m ≡ false
 link-no_stray p inputs sound k r l h m e =
-    and_right _ _ (and_right _ _ (ap (λ b. not b) (eq-eqb _ _ (ap (λ (x : Header). x.match_bits / 2 ^ 48 % 2 ^ 16) e ∙ bits-job p inputs sound r l h))))
+    and_right _ _ (and_right _ _ (ap (λ b. not b) (eq-eqb _ _ (ap (λ (x : Header). x.match_bits / 2 ^ 48 % 2 ^ 16) e
+        ∙ bits-job p inputs sound r l h))))
 
 pub or_false : (b : Bool) → (b || false) ≡ b
 or_false true = refl
@@ -132,7 +138,8 @@ module _ (annex : Annex) (quiet : IsQuiet annex) where
     pub makes_it : made_by (view annex p inputs s r g) e ≡ makes p inputs s r g e
     pub flag : (g.started || is_start e) ≡ (note p g (move_of p r e)).started
 
-  simulates : (p : Plan) (inputs : Inputs) → SoundPlan p (length inputs) → (k : ℕ → Slots) (r : ℕ) → r < p.ranks → (g : Seen) → Sized p inputs g → (e : Local)
+  simulates : (p : Plan) (inputs : Inputs) → SoundPlan p (length inputs) → (k : ℕ → Slots) (r : ℕ) → r < p.ranks → (g : Seen) →
+      Sized p inputs g → (e : Local)
       → May g.started (view annex p inputs (k r) r g) e → Conforms p k r e → Simulates p inputs (k r) r g e
   simulates p inputs sound k r in_range g sized Start may fine = record {
     next = step_start annex p inputs sound (k r) r in_range g may;
@@ -158,7 +165,8 @@ module _ (annex : Annex) (quiet : IsQuiet annex) where
       let q = stray-parts m stray in
       let f = step_stray annex quiet p inputs sound (k r) r g m q.0 q.1 q.2 in
       record {
-        next = ap (λ (x : Delivers). x.state) f ∙ ap (λ b. view annex p inputs (k r) r (note p g (cond b Strayed (Took m.header.hdr_data m.bytes)))) (sym stray);
+        next = ap (λ (x : Delivers). x.state) f ∙ ap (λ b. view annex p inputs (k r) r
+            (note p g (cond b Strayed (Took m.header.hdr_data m.bytes)))) (sym stray);
         may = subst (λ b. MayMove p r g (cond b Strayed (Took m.header.hdr_data m.bytes))) (sym stray) tt;
         sized = subst (λ b. Sized p inputs (note p g (cond b Strayed (Took m.header.hdr_data m.bytes)))) (sym stray) sized;
         makes_it = ap (λ (x : Delivers). x.delivered.answer) f ∙ ap (λ b. cond b None (ack_to p m)) (sym stray);
@@ -166,17 +174,22 @@ module _ (annex : Annex) (quiet : IsQuiet annex) where
       }
   simulates p inputs sound k r in_range g sized (Receive source Request m) may (inr link_m) =
       let s = k (source_rank p link_m.l) in
-      let whole : m ≡ link_message p (k (source_rank p link_m.l)) link_m.l m.bytes = ap (λ (h : Header). record { header = h; bytes = m.bytes }) link_m.header in
-      let f = ap (target (view annex p inputs (k r) r g)) whole ∙ step_link annex quiet p inputs sound (k r) (k (source_rank p link_m.l)) r link_m.l g link_m.here sized m.bytes link_m.size in
+      let whole : m ≡ link_message p (k (source_rank p link_m.l)) link_m.l m.bytes =
+            ap (λ (h : Header). record { header = h; bytes = m.bytes }) link_m.header in
+      let f = ap (target (view annex p inputs (k r) r g)) whole ∙ step_link annex quiet p inputs sound (k r) (k (source_rank p link_m.l))
+            r link_m.l g link_m.here sized m.bytes link_m.size in
       let clean = link-no_stray p inputs sound (k (source_rank p link_m.l)) r link_m.l link_m.here m link_m.header in
       let number : link_m.l ≡ m.header.hdr_data = sym (ap (λ (h : Header). h.hdr_data) link_m.header) in
       record {
-        next = ap (λ (x : Delivers). x.state) f ∙ ap₂ (λ b n. view annex p inputs (k r) r (note p g (cond b Strayed (Took n m.bytes)))) (sym clean) number;
+        next = ap (λ (x : Delivers). x.state) f ∙ ap₂ (λ b n. view annex p inputs (k r) r (note p g (cond b Strayed (Took n m.bytes))))
+            (sym clean) number;
         may = subst (λ b. MayMove p r g (cond b Strayed (Took m.header.hdr_data m.bytes))) (sym clean) tt;
         sized = subst (λ b. Sized p inputs (note p g (cond b Strayed (Took m.header.hdr_data m.bytes)))) (sym clean)
-            (subst (λ n. Sized p inputs (note p g (Took n m.bytes))) number (sized_took p inputs sound r link_m.l g link_m.here sized m.bytes link_m.size));
+            (subst (λ n. Sized p inputs (note p g (Took n m.bytes))) number
+                (sized_took p inputs sound r link_m.l g link_m.here sized m.bytes link_m.size));
         makes_it = ap (λ (x : Delivers). x.delivered.answer) f
-            ∙ ap (λ (h : Header). if p.remote then Some (record { header = ack_with CtAck true h.length h; bytes = [] }) else None) (sym link_m.header)
+            ∙ ap (λ (h : Header). if p.remote then Some (record { header = ack_with CtAck true h.length h; bytes = [] }) else None)
+                (sym link_m.header)
             ∙ ap (λ b. cond b None (ack_to p m)) (sym clean);
         flag = or_false g.started ∙ ap (λ b. (note p g (cond b Strayed (Took m.header.hdr_data m.bytes))).started) (sym clean);
       }
@@ -197,8 +210,10 @@ module _ (annex : Annex) (quiet : IsQuiet annex) where
     pub sized : Sized p inputs (seen p g (moves_of p r es))
     pub makes_them : made (go_up (cell_ct p s r)) (view annex p inputs s r g) es ≡ all_made p inputs s r g es
 
-  pub simulates_all : (p : Plan) (inputs : Inputs) → SoundPlan p (length inputs) → (k : ℕ → Slots) (r : ℕ) → r < p.ranks → (es : List Local) (g : Seen) → Sized p inputs g
-      → Legal (go_up (cell_ct p (k r) r)) g.started (view annex p inputs (k r) r g) es → AllConform p k r es → SimulatesAll p inputs (k r) r g es
+  pub simulates_all : (p : Plan) (inputs : Inputs) → SoundPlan p (length inputs) → (k : ℕ → Slots) (r : ℕ) → r < p.ranks →
+      (es : List Local) (g : Seen) → Sized p inputs g
+      → Legal (go_up (cell_ct p (k r) r)) g.started (view annex p inputs (k r) r g) es → AllConform p k r es →
+          SimulatesAll p inputs (k r) r g es
   simulates_all p inputs sound k r in_range [] g sized legal fine = record { ends = refl; moves = tt; sized = sized; makes_them = refl }
   simulates_all p inputs sound k r in_range (e ∷ es) g sized legal fine =
       let one = simulates p inputs sound k r in_range g sized e legal.0 fine.0 in
@@ -211,5 +226,6 @@ module _ (annex : Annex) (quiet : IsQuiet annex) where
         ends = ap (λ v. state (go_up (cell_ct p (k r) r)) v es) one.next ∙ rest.ends;
         moves = (one.may, rest.moves);
         sized = rest.sized;
-        makes_them = ap₂ (λ o v. and_then o (made (go_up (cell_ct p (k r) r)) v es)) one.makes_it one.next ∙ ap (and_then (makes p inputs (k r) r g e)) rest.makes_them;
+        makes_them = ap₂ (λ o v. and_then o (made (go_up (cell_ct p (k r) r)) v es)) one.makes_it one.next
+            ∙ ap (and_then (makes p inputs (k r) r g e)) rest.makes_them;
       }

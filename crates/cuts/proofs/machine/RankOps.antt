@@ -9,7 +9,8 @@ use Rattle.plan_calls.specs.RankOps.RankOp.{ForLink, ForDone}
 
 -- ---- rank_ops
 pub In-works_along : (p : Plan) (r l : ℕ) → In l (out_links p r) → In (ForLink l) (rank_ops p r)
-In-works_along p r l h = In-append_left (ForLink l) (map ForLink (out_links p r)) (map ForDone (own p r)) (In-map ForLink l (out_links p r) h)
+In-works_along p r l h = In-append_left (ForLink l) (map ForLink (out_links p r)) (map ForDone (own p r))
+    (In-map ForLink l (out_links p r) h)
 
 pub In-works_tell : (p : Plan) (r c : ℕ) → In c (own p r) → In (ForDone c) (rank_ops p r)
 In-works_tell p r c h = In-append_right (ForDone c) (map ForLink (out_links p r)) (map ForDone (own p r)) (In-map ForDone c (own p r) h)

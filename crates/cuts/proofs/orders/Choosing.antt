@@ -1,5 +1,6 @@
 -- The chosen run: each listed step is one that a rank may make, and a run of which none is left ends at rest.
-use Rattle.std.proofs.Common.{eqb-true, ℕ, zero, suc, Bool, true, false, cond, ◌&&◌, ◌==◌, ◌%◌, ◌≡◌, ◌<◌, ◌⊎◌, nat_lt, List, [], ◌∷◌, ◌++◌, Option, Some, None, refl, length, map, flat_map, get_or, count_by, ap, ap₂, ◌∙◌, sym, subst, inl, inr, arith, eq-eqb, lt-ltb, zero-le}
+use Rattle.std.proofs.Common.{eqb-true, ℕ, zero, suc, Bool, true, false, cond, ◌&&◌, ◌==◌, ◌%◌, ◌≡◌, ◌<◌, ◌⊎◌, nat_lt, List, [], ◌∷◌, ◌++◌,
+    Option, Some, None, refl, length, map, flat_map, get_or, count_by, ap, ap₂, ◌∙◌, sym, subst, inl, inr, arith, eq-eqb, lt-ltb, zero-le}
 use Rattle.std.proofs.lemmas.Bool.{cases_Bool, cases_eq, ltb-true, ne_eqb}
 use Rattle.std.proofs.Math.Nat.{mod-lt}
 use Rattle.ptl_types.specs.Messages.{Sent}
@@ -20,7 +21,8 @@ use Rattle.cuts.proofs.rest.Longer.{same_lane-true}
 use Rattle.cuts.specs.declared.orders.Step.{Step}
 use Rattle.cuts.specs.declared.orders.Step.TheVariants.{Start, Deliver, Fire}
 use Rattle.cuts.specs.declared.orders.Verdict.TheVariants.{Holds}
-use Rattle.cuts.specs.orders.Chosen.{IsChosen, Scene, choose, chosen, deliveries_between, delivered, enabled_steps, firings_at, first_of, start_at, step_made, with_lane}
+use Rattle.cuts.specs.orders.Chosen.{IsChosen, Scene, choose, chosen, deliveries_between, delivered, enabled_steps, firings_at, first_of,
+    start_at, step_made, with_lane}
 use Rattle.cuts.specs.orders.Reached.{IsReached}
 use Rattle.cuts.specs.orders.Reached.IsReached.{Begun, Stepped}
 use Rattle.cuts.specs.orders.Taking.{listed, with_step}
@@ -124,21 +126,27 @@ module _ (k : System) (z : Scene) where
   }
     where
       -- what is taken and what is left on the lane from q to u, by which of the three agree
-      at : (q u : ℕ) (l : Lane) (a b c e f : Bool) → (q == s) ≡ a → (u == d) ≡ b → same_lane l lane ≡ c → (s == q) ≡ e → same_lane lane l ≡ f
+      at : (q u : ℕ) (l : Lane) (a b c e f : Bool) → (q == s) ≡ a → (u == d) ≡ b → same_lane l lane ≡ c → (s == q) ≡ e →
+          same_lane lane l ≡ f
           → z.held q u l ≡ cond b (cond (e && f) (m ∷ []) []) [] ++ cond (a && (b && c)) later (z.held q u l)
           → z.held q u l ≡ cond (u == d) (got (Received s lane m ∷ []) q l) [] ++ (with_lane s d lane later z).held q u l
       at q u l a b c e f ea eb ec ee ef h =
-          h ∙ sym (ap₂ (λ (x : Bool × Bool × Bool) (y : Bool × Bool). cond x.1 (cond (y.0 && y.1) (m ∷ []) []) [] ++ cond (x.0 && (x.1 && x.2)) later (z.held q u l))
-          (ap₂ (λ v (w : Bool × Bool). (v, w.0, w.1)) ea (ap₂ {C = Bool × Bool} (λ v w. (v, w)) eb ec)) (ap₂ {C = Bool × Bool} (λ v w. (v, w)) ee ef))
+          h ∙ sym (ap₂ (λ (x : Bool × Bool × Bool) (y : Bool × Bool). cond x.1 (cond (y.0 && y.1) (m ∷ []) []) [] ++ cond
+              (x.0 && (x.1 && x.2)) later (z.held q u l))
+          (ap₂ (λ v (w : Bool × Bool). (v, w.0, w.1)) ea (ap₂ {C = Bool × Bool} (λ v w. (v, w)) eb ec))
+              (ap₂ {C = Bool × Bool} (λ v w. (v, w)) ee ef))
 
-      taken : (q u : ℕ) (l : Lane) → z.held q u l ≡ cond (u == d) (got (Received s lane m ∷ []) q l) [] ++ (with_lane s d lane later z).held q u l
+      taken : (q u : ℕ) (l : Lane) → z.held q u l ≡ cond (u == d) (got (Received s lane m ∷ []) q l) [] ++
+          (with_lane s d lane later z).held q u l
       taken q u l = elim (cases_eq u d) [
         | inr n ↦ at q u l (q == s) false (same_lane l lane) (s == q) (same_lane lane l) refl (ne_eqb u d n) refl refl refl (away (q == s))
         | inl e ↦ elim (cases_eq q s) [
-          | inr n ↦ at q u l false true (same_lane l lane) false (same_lane lane l) (ne_eqb q s n) (eq-eqb u d e) refl (ne_eqb s q (λ h. n (sym h))) refl refl
+          | inr n ↦ at q u l false true (same_lane l lane) false (same_lane lane l) (ne_eqb q s n) (eq-eqb u d e) refl
+              (ne_eqb s q (λ h. n (sym h))) refl refl
           | inl i ↦ elim (lanes_apart l lane) [
             | inr x ↦ at q u l true true false true false (eq-eqb q s i) (eq-eqb u d e) x.0 (eq-eqb s q (sym i)) x.1 refl
-            | inl y ↦ at q u l true true true true true (eq-eqb q s i) (eq-eqb u d e) (ap (λ v. same_lane v lane) y ∙ same_lane-true lane) (eq-eqb s q (sym i)) (ap (same_lane lane) y ∙ same_lane-true lane)
+            | inl y ↦ at q u l true true true true true (eq-eqb q s i) (eq-eqb u d e) (ap (λ v. same_lane v lane) y ∙ same_lane-true lane)
+                (eq-eqb s q (sym i)) (ap (same_lane lane) y ∙ same_lane-true lane)
                 (ap₂ (λ v w. z.held v w l) i e ∙ ap (z.held s d) y ∙ front)
           ]
         ]
@@ -148,11 +156,13 @@ module _ (k : System) (z : Scene) where
           away true = refl
           away false = refl
 
-  delivery_listed : (s d : ℕ) (lane : Lane) → s < k.count → d < k.count → (x : Step) → (ms : List Sent) → z.held s d lane ≡ ms → In x (first_of s d lane ms) → IsMade x
+  delivery_listed : (s d : ℕ) (lane : Lane) → s < k.count → d < k.count → (x : Step) → (ms : List Sent) → z.held s d lane ≡ ms →
+      In x (first_of s d lane ms) → IsMade x
   delivery_listed s d lane hs hd x [] e i = absurd i
   delivery_listed s d lane hs hd x (m ∷ later) e (inr i) = absurd i
   delivery_listed s d lane hs hd x (m ∷ later) e (inl f) =
-      subst IsMade f (subst (λ ms. IsLocalStep k z.world z.held (delivered k s d lane ms z).world (delivered k s d lane ms z).held) (sym e) (deliver_made s d lane hs hd m later e))
+      subst IsMade f (subst (λ ms. IsLocalStep k z.world z.held (delivered k s d lane ms z).world (delivered k s d lane ms z).held)
+          (sym e) (deliver_made s d lane hs hd m later e))
 
   start_listed : (r : ℕ) → r < k.count → (x : Step) → In x (start_at z r) → IsMade x
   start_listed r h x i = at (nat_lt 0 (count_by is_start (z.world r))) refl i
@@ -165,17 +175,20 @@ module _ (k : System) (z : Scene) where
   pub listed_made : (x : Step) → In x (enabled_steps k z) → IsMade x
   listed_made x i = elim (In-append_cases x (flat_map (start_at z) (from_to 0 k.count)) _ i) [
     | inl j ↦ (let q = In-flat_cases (start_at z) (from_to 0 k.count) x j in start_listed q.0 (below k.count q.0 q.1) x q.2)
-    | inr j ↦ elim (In-append_cases x (flat_map (λ s. flat_map (deliveries_between z s) (from_to 0 k.count)) (from_to 0 k.count)) (flat_map (firings_at k z) (from_to 0 k.count)) j) [
+    | inr j ↦ elim (In-append_cases x (flat_map (λ s. flat_map (deliveries_between z s) (from_to 0 k.count)) (from_to 0 k.count))
+        (flat_map (firings_at k z) (from_to 0 k.count)) j) [
       | inl l ↦ (let q = In-flat_cases (λ s. flat_map (deliveries_between z s) (from_to 0 k.count)) (from_to 0 k.count) x l in
           let u = In-flat_cases (deliveries_between z q.0) (from_to 0 k.count) x q.2 in
-          elim (In-append_cases x (first_of q.0 u.0 Request (z.held q.0 u.0 Request)) (first_of q.0 u.0 Answer (z.held q.0 u.0 Answer)) u.2) [
+          elim (In-append_cases x (first_of q.0 u.0 Request (z.held q.0 u.0 Request)) (first_of q.0 u.0 Answer (z.held q.0 u.0 Answer))
+              u.2) [
             | inl y ↦ delivery_listed q.0 u.0 Request (below k.count q.0 q.1) (below k.count u.0 u.1) x (z.held q.0 u.0 Request) refl y
             | inr y ↦ delivery_listed q.0 u.0 Answer (below k.count q.0 q.1) (below k.count u.0 u.1) x (z.held q.0 u.0 Answer) refl y
           ])
       | inr l ↦ (let q = In-flat_cases (firings_at k z) (from_to 0 k.count) x l in
           let u = In-map_cases (Fire q.0) x (ready_numbers (state_at k z.world q.0)) q.2 in
           subst IsMade u.2 (fire_made q.0 u.0 (below k.count q.0 q.1)
-          (In-filter_cases (is_ready (state_at k z.world q.0)) u.0 (map (λ (p : Posted). p.number) (state_at k z.world q.0).pending.waiting) u.1).1))
+          (In-filter_cases (is_ready (state_at k z.world q.0)) u.0
+              (map (λ (p : Posted). p.number) (state_at k z.world q.0).pending.waiting) u.1).1))
     ]
   ]
 
@@ -191,7 +204,9 @@ module _ (k : System) (z : Scene) where
       at (Some x) q f =
           let g = find-In (is_number t) s.pending.waiting x q in
           let n : x.number ≡ t = eqb-true _ _ g.1 in
-          In-filter (is_ready s) t (map (λ (p : Posted). p.number) s.pending.waiting) (subst (λ v. In v (map (λ (p : Posted). p.number) s.pending.waiting)) n (In-map (λ (p : Posted). p.number) x s.pending.waiting g.0)) e
+          In-filter (is_ready s) t (map (λ (p : Posted). p.number) s.pending.waiting)
+              (subst (λ v. In v (map (λ (p : Posted). p.number) s.pending.waiting)) n
+              (In-map (λ (p : Posted). p.number) x s.pending.waiting g.0)) e
 
   pub none_listed_still : enabled_steps k z ≡ [] → IsStill k z.world z.held
   none_listed_still e = record {
@@ -199,8 +214,11 @@ module _ (k : System) (z : Scene) where
     empty = λ s d lane hs hd. nothing s d lane hs hd (z.held s d lane) refl;
     idle = λ r t h. elim (cases_Bool (is_ready (state_at k z.world r) t)) [
       | inr i ↦ i
-      | inl i ↦ absurd (no (Fire r t) (In-append_right (Fire r t) (flat_map (start_at z) (from_to 0 k.count)) _ (In-append_right (Fire r t) (flat_map (λ s. flat_map (deliveries_between z s) (from_to 0 k.count)) (from_to 0 k.count)) (flat_map (firings_at k z) (from_to 0 k.count))
-          (In-flat (firings_at k z) (from_to 0 k.count) r (Fire r t) (above k.count r h) (In-map (Fire r) t (ready_numbers (state_at k z.world r)) (ready_listed (state_at k z.world r) t i))))))
+      | inl i ↦ absurd (no (Fire r t) (In-append_right (Fire r t) (flat_map (start_at z) (from_to 0 k.count)) _
+          (In-append_right (Fire r t) (flat_map (λ s. flat_map (deliveries_between z s) (from_to 0 k.count)) (from_to 0 k.count))
+          (flat_map (firings_at k z) (from_to 0 k.count))
+          (In-flat (firings_at k z) (from_to 0 k.count) r (Fire r t) (above k.count r h)
+              (In-map (Fire r) t (ready_numbers (state_at k z.world r)) (ready_listed (state_at k z.world r) t i))))))
     ];
   }
     where
@@ -209,30 +227,42 @@ module _ (k : System) (z : Scene) where
 
       begun : (r : ℕ) → r < k.count → (b : Bool) → nat_lt 0 (count_by is_start (z.world r)) ≡ b → 0 < count_by is_start (z.world r)
       begun r h true q = ltb-true 0 (count_by is_start (z.world r)) q
-      begun r h false q = absurd (no (Start r) (In-append_left (Start r) (flat_map (start_at z) (from_to 0 k.count)) _ (In-flat (start_at z) (from_to 0 k.count) r (Start r) (above k.count r h) (subst (λ b. In (Start r) (cond b [] (Start r ∷ []))) (sym q) (inl refl)))))
+      begun r h false q = absurd (no (Start r) (In-append_left (Start r) (flat_map (start_at z) (from_to 0 k.count)) _
+          (In-flat (start_at z) (from_to 0 k.count) r (Start r) (above k.count r h)
+          (subst (λ b. In (Start r) (cond b [] (Start r ∷ []))) (sym q) (inl refl)))))
 
-      on_lane : (s d : ℕ) (lane : Lane) → In (Deliver s d lane) (first_of s d lane (z.held s d lane)) → In (Deliver s d lane) (deliveries_between z s d)
-      on_lane s d Request i = In-append_left (Deliver s d Request) (first_of s d Request (z.held s d Request)) (first_of s d Answer (z.held s d Answer)) i
-      on_lane s d Answer i = In-append_right (Deliver s d Answer) (first_of s d Request (z.held s d Request)) (first_of s d Answer (z.held s d Answer)) i
+      on_lane : (s d : ℕ) (lane : Lane) → In (Deliver s d lane) (first_of s d lane (z.held s d lane)) →
+          In (Deliver s d lane) (deliveries_between z s d)
+      on_lane s d Request i = In-append_left (Deliver s d Request) (first_of s d Request (z.held s d Request))
+          (first_of s d Answer (z.held s d Answer)) i
+      on_lane s d Answer i = In-append_right (Deliver s d Answer) (first_of s d Request (z.held s d Request))
+          (first_of s d Answer (z.held s d Answer)) i
 
       nothing : (s d : ℕ) (lane : Lane) → s < k.count → d < k.count → (ms : List Sent) → z.held s d lane ≡ ms → ms ≡ []
       nothing s d lane hs hd [] q = refl
       nothing s d lane hs hd (m ∷ later) q =
-          absurd (no (Deliver s d lane) (In-append_right (Deliver s d lane) (flat_map (start_at z) (from_to 0 k.count)) _ (In-append_left (Deliver s d lane) (flat_map (λ s. flat_map (deliveries_between z s) (from_to 0 k.count)) (from_to 0 k.count)) _
-          (In-flat (λ s. flat_map (deliveries_between z s) (from_to 0 k.count)) (from_to 0 k.count) s (Deliver s d lane) (above k.count s hs)
-          (In-flat (deliveries_between z s) (from_to 0 k.count) d (Deliver s d lane) (above k.count d hd) (on_lane s d lane (subst (λ ms. In (Deliver s d lane) (first_of s d lane ms)) (sym q) (inl refl))))))))
+          absurd (no (Deliver s d lane) (In-append_right (Deliver s d lane) (flat_map (start_at z) (from_to 0 k.count)) _
+              (In-append_left (Deliver s d lane) (flat_map (λ s. flat_map (deliveries_between z s) (from_to 0 k.count))
+              (from_to 0 k.count)) _
+          (In-flat (λ s. flat_map (deliveries_between z s) (from_to 0 k.count)) (from_to 0 k.count) s (Deliver s d lane)
+              (above k.count s hs)
+          (In-flat (deliveries_between z s) (from_to 0 k.count) d (Deliver s d lane) (above k.count d hd)
+              (on_lane s d lane (subst (λ ms. In (Deliver s d lane) (first_of s d lane ms)) (sym q) (inl refl))))))))
 
 -- ---- the run
 pub chosen_reached : (k : System) (words : ℕ → ℕ) (n : ℕ) → IsReached k (chosen k words n).world (chosen k words n).held
 chosen_reached k words zero = Begun
-chosen_reached k words (suc n) = at (enabled_steps k (chosen k words n)) (λ x i. listed_made k (chosen k words n) x i) (chosen_reached k words n)
+chosen_reached k words (suc n) = at (enabled_steps k (chosen k words n)) (λ x i. listed_made k (chosen k words n) x i)
+    (chosen_reached k words n)
   where
-    at : (xs : List Step) → ((x : Step) → In x xs → IsLocalStep k (chosen k words n).world (chosen k words n).held (step_made k x (chosen k words n)).world (step_made k x (chosen k words n)).held)
+    at : (xs : List Step) → ((x : Step) → In x xs → IsLocalStep k (chosen k words n).world (chosen k words n).held
+        (step_made k x (chosen k words n)).world (step_made k x (chosen k words n)).held)
         → IsReached k (chosen k words n).world (chosen k words n).held
         → IsReached k (choose k xs (words n) (chosen k words n)).world (choose k xs (words n) (chosen k words n)).held
     at [] made so = so
     at (x ∷ xs) made so =
-        Stepped so (made (get_or (x ∷ xs) (words n % length (x ∷ xs)) x) (In-get (x ∷ xs) (words n % length (x ∷ xs)) x (mod-lt (words n) (let q : 0 < length (x ∷ xs) = omega arith in q))))
+        Stepped so (made (get_or (x ∷ xs) (words n % length (x ∷ xs)) x)
+            (In-get (x ∷ xs) (words n % length (x ∷ xs)) x (mod-lt (words n) (let q : 0 < length (x ∷ xs) = omega arith in q))))
 
 -- the lists of a chosen run hold
 pub chosen_holds : (k : System) (words : ℕ → ℕ) (w : Histories) → IsChosen k words w → IsVerdict k (λ r. map listed (w r)) Holds

@@ -10,7 +10,8 @@ use Rattle.cuts.proofs.orders.Parts.{longer, longer-here, prefix-trans}
 use Rattle.cuts.proofs.orders.Verdicts.{not_whole}
 
 -- moves whose steps are beginnings of the lists are listed, one after the other
-pub are_listed : (k : System) (lists : Lists) (es : List Move) → IsInterleaving k es → ((r : ℕ) → r < k.count → IsPrefixOf (map listed (histories es r)) (lists r)) → AreListed lists es
+pub are_listed : (k : System) (lists : Lists) (es : List Move) → IsInterleaving k es →
+    ((r : ℕ) → r < k.count → IsPrefixOf (map listed (histories es r)) (lists r)) → AreListed lists es
 are_listed k lists [] made front = tt
 are_listed k lists (e ∷ es) made front = (are_listed k lists es made.0 (λ r h. before r (front r h)), next (front e.rank made.1))
   where
@@ -24,11 +25,13 @@ are_listed k lists (e ∷ es) made front = (are_listed k lists es made.0 (λ r h
     next p = (
       p.0,
       sym (append_assoc (map listed (histories es e.rank)) (listed e.step ∷ []) p.0)
-          ∙ ap (λ q. q ++ p.0) (sym (map-append listed (histories es e.rank) (e.step ∷ [])) ∙ ap (map listed) (sym (longer-here e es e.rank refl)))
+          ∙ ap (λ q. q ++ p.0) (sym (map-append listed (histories es e.rank) (e.step ∷ []))
+              ∙ ap (map listed) (sym (longer-here e es e.rank refl)))
           ∙ p.1,
     )
 
-pub holds_from : (k : System) (lists : Lists) (es : List Move) → IsInterleaving k es → ((r : ℕ) → r < k.count → IsWhole lists (histories es) r × Rests k (histories es) r) → IsVerdict k lists Holds
+pub holds_from : (k : System) (lists : Lists) (es : List Move) → IsInterleaving k es →
+    ((r : ℕ) → r < k.count → IsWhole lists (histories es) r × Rests k (histories es) r) → IsVerdict k lists Holds
 holds_from k lists es made whole = record {
   moves = es;
   taken = record {

@@ -1,5 +1,6 @@
 -- Whatever slots the tables gave out, the same words choose the same steps.
-use Rattle.std.proofs.Common.{ℕ, zero, suc, cond, ◌%◌, ◌+◌, ◌≡◌, ◌<◌, ◌≤◌, List, [], ◌∷◌, ◌++◌, refl, length, map, flat_map, get_or, count_by, ap, ap₂, ◌∙◌, sym, inl, inr, arith, append-nil, length-append, nat_lt, eq-eqb}
+use Rattle.std.proofs.Common.{ℕ, zero, suc, cond, ◌%◌, ◌+◌, ◌≡◌, ◌<◌, ◌≤◌, List, [], ◌∷◌, ◌++◌, refl, length, map, flat_map, get_or,
+    count_by, ap, ap₂, ◌∙◌, sym, inl, inr, arith, append-nil, length-append, nat_lt, eq-eqb}
 use Rattle.std.proofs.lemmas.Bool.{cases_eq, cases_lt, ne_eqb}
 use Rattle.std.proofs.lemmas.List.{map-append}
 use Rattle.ptl_types.specs.Messages.{Sent}
@@ -21,7 +22,8 @@ use Rattle.cuts.specs.histories.Moment.{Lanes}
 use Rattle.cuts.specs.histories.Plans.{system_of}
 use Rattle.cuts.specs.histories.System.{Histories, System, sent_by, state_at}
 use Rattle.cuts.proofs.histories.Traffic.{to_came}
-use Rattle.cuts.specs.orders.Chosen.{IsChosen, Scene, choose, chosen, deliveries_between, delivered, enabled_steps, firings_at, first_of, start_at, step_made}
+use Rattle.cuts.specs.orders.Chosen.{IsChosen, Scene, choose, chosen, deliveries_between, delivered, enabled_steps, firings_at, first_of,
+    start_at, step_made}
 use Rattle.cuts.specs.orders.Rising.{Rises}
 use Rattle.cuts.specs.orders.Taking.{IsInterleaving, IsTaken, Lists, Move, histories, listed, with_step}
 use Rattle.cuts.specs.declared.orders.Step.{Step}
@@ -29,7 +31,8 @@ use Rattle.cuts.specs.declared.orders.Step.TheVariants.{Start, Deliver, Fire}
 use Rattle.cuts.proofs.orders.Choosing.{below, chosen_reached, ready_listed}
 use Rattle.cuts.proofs.orders.Holding.{are_listed}
 use Rattle.cuts.proofs.orders.Rising.{ready_rise}
-use Rattle.cuts.proofs.orders.Slotless.{Alike, Made, bares, cut_of, is_begin, same_answers, same_asks, same_listed, same_ready, same_requests, same_told, starts-bare, Translated, translated}
+use Rattle.cuts.proofs.orders.Slotless.{Alike, Made, bares, cut_of, is_begin, same_answers, same_asks, same_listed, same_ready,
+    same_requests, same_told, starts-bare, Translated, translated}
 use Rattle.cuts.proofs.orders.Steps.{AreMoves, IsBalanced, beyond, reached_moves}
 use Rattle.cuts.proofs.orders.Taken.{same_taken}
 use Rattle.cuts.proofs.orders.Verdicts.{not_whole}
@@ -75,7 +78,8 @@ first-same s d lane [] (n ∷ ns) e = absurd (omega (arith, e))
 first-same s d lane (m ∷ ms) [] e = absurd (omega (arith, e))
 
 -- ---- an interleaving is told by its lists
-taken_whole : (k : System) (lists : Lists) (es : List Move) → IsInterleaving k es → ((r : ℕ) → map listed (histories es r) ≡ lists r) → IsTaken k lists es
+taken_whole : (k : System) (lists : Lists) (es : List Move) → IsInterleaving k es → ((r : ℕ) → map listed (histories es r) ≡ lists r) →
+    IsTaken k lists es
 taken_whole k lists es made whole = record {
   made = made;
   listed = are_listed k lists es made (λ r h. ([], append-nil (map listed (histories es r)) ∙ whole r));
@@ -90,7 +94,8 @@ told_by_lists k es fs made other same r =
     (taken_whole k (λ q. map listed (histories fs q)) fs other (λ q. refl)) r
 
 -- ---- where no step is left the run stands still
-still : (k : System) (words : ℕ → ℕ) (m : ℕ) → enabled_steps k (chosen k words m) ≡ [] → (n : ℕ) → m ≤ n → chosen k words n ≡ chosen k words m
+still : (k : System) (words : ℕ → ℕ) (m : ℕ) → enabled_steps k (chosen k words m) ≡ [] → (n : ℕ) → m ≤ n →
+    chosen k words n ≡ chosen k words m
 still k words m e zero h = let q : zero ≡ m = omega (arith, h) in ap (chosen k words) q
 still k words m e (suc n) h = elim (cases_lt n m) [
   | inl l ↦ (let q : suc n ≡ m = omega (arith, h, l) in ap (chosen k words) q)
@@ -99,11 +104,13 @@ still k words m e (suc n) h = elim (cases_lt n m) [
 ]
 
 -- ---- two moments whose steps are alike
-module _ (starts : CombineStarts) (p : Plan) (inputs : Inputs) (sound : SoundPlan p (length inputs)) (fit : AreInputsOf p inputs) (swaps : CombineSwaps) where
+module _ (starts : CombineStarts) (p : Plan) (inputs : Inputs) (sound : SoundPlan p (length inputs)) (fit : AreInputsOf p inputs)
+    (swaps : CombineSwaps) where
   abbrev scene_of : List Move → Lanes → Scene
   scene_of es held = record { world = histories es; held = held }
 
-  module _ (k l : ℕ → Slots) (es fs : List Move) (made : Made starts p inputs sound fit swaps k es) (other : Made starts p inputs sound fit swaps l fs)
+  module _ (k l : ℕ → Slots) (es fs : List Move) (made : Made starts p inputs sound fit swaps k es)
+      (other : Made starts p inputs sound fit swaps l fs)
       (same : Alike starts p inputs sound fit swaps es fs) (held left : Lanes)
       (here : IsBalanced (system_of p inputs k) es held) (there : IsBalanced (system_of p inputs l) fs left) where
     back : Alike starts p inputs sound fit swaps fs es
@@ -128,7 +135,8 @@ module _ (starts : CombineStarts) (p : Plan) (inputs : Inputs) (sound : SoundPla
     none_sent : (q : ℕ → Slots) (gs : List Move) → Made starts p inputs sound fit swaps q gs → (s d : ℕ) (lane : Lane) → p.ranks ≤ s
         → length (sent_by (system_of p inputs q) (histories gs) s d lane) ≡ 0
     none_sent q gs g s d lane h =
-        ap (λ es. length (sent ((system_of p inputs q).go s) ((system_of p inputs q).first s) es d lane)) (beyond (system_of p inputs q) gs g s h)
+        ap (λ es. length (sent ((system_of p inputs q).go s) ((system_of p inputs q).first s) es d lane))
+            (beyond (system_of p inputs q) gs g s h)
 
     as_many_held : (s d : ℕ) (lane : Lane) → length (held s d lane) ≡ length (left s d lane)
     as_many_held s d lane = elim (cases_lt s p.ranks) [
@@ -163,7 +171,8 @@ module _ (starts : CombineStarts) (p : Plan) (inputs : Inputs) (sound : SoundPla
         (first-same s d Answer (held s d Answer) (left s d Answer) (as_many_held s d Answer))
 
     same_numbers : (r : ℕ) → r < p.ranks
-        → ready_numbers (state_at (system_of p inputs k) (histories es) r) ≡ ready_numbers (state_at (system_of p inputs l) (histories fs) r)
+        → ready_numbers (state_at (system_of p inputs k) (histories es) r) ≡ ready_numbers
+            (state_at (system_of p inputs l) (histories fs) r)
     same_numbers r h =
         rising-same _ _
         (ready_rise starts p inputs sound fit k (histories es) (cut_of starts p inputs sound fit swaps k es made) r h)
@@ -182,9 +191,12 @@ module _ (starts : CombineStarts) (p : Plan) (inputs : Inputs) (sound : SoundPla
         ap₂ (λ u v. u ++ v)
         (flat-same (start_at (scene_of es held)) (start_at (scene_of fs left)) (from_to 0 p.ranks) (λ r i. same_starts r))
         (ap₂ (λ u v. u ++ v)
-        (flat-same (λ s. flat_map (deliveries_between (scene_of es held) s) (from_to 0 p.ranks)) (λ s. flat_map (deliveries_between (scene_of fs left) s) (from_to 0 p.ranks)) (from_to 0 p.ranks)
-        (λ s i. flat-same (deliveries_between (scene_of es held) s) (deliveries_between (scene_of fs left) s) (from_to 0 p.ranks) (λ d j. same_deliveries s d)))
-        (flat-same (firings_at (system_of p inputs k) (scene_of es held)) (firings_at (system_of p inputs l) (scene_of fs left)) (from_to 0 p.ranks)
+        (flat-same (λ s. flat_map (deliveries_between (scene_of es held) s) (from_to 0 p.ranks))
+            (λ s. flat_map (deliveries_between (scene_of fs left) s) (from_to 0 p.ranks)) (from_to 0 p.ranks)
+        (λ s i. flat-same (deliveries_between (scene_of es held) s) (deliveries_between (scene_of fs left) s) (from_to 0 p.ranks)
+            (λ d j. same_deliveries s d)))
+        (flat-same (firings_at (system_of p inputs k) (scene_of es held)) (firings_at (system_of p inputs l) (scene_of fs left))
+            (from_to 0 p.ranks)
         (λ r i. ap (map (Fire r)) (same_numbers r (below p.ranks r i)))))
 
     abbrev words_of : Histories → ℕ → List LocalStep
@@ -206,13 +218,15 @@ module _ (starts : CombineStarts) (p : Plan) (inputs : Inputs) (sound : SoundPla
     before : (r : ℕ) → words_of (histories es) r ≡ words_of (histories fs) r
     before r = same_listed starts p inputs sound fit swaps k l es fs made other same r
 
-    same_growth : (x : Step) (r : ℕ) → words_of (step_made (system_of p inputs k) x (scene_of es held)).world r ≡ words_of (step_made (system_of p inputs l) x (scene_of fs left)).world r
+    same_growth : (x : Step) (r : ℕ) → words_of (step_made (system_of p inputs k) x (scene_of es held)).world r ≡ words_of
+        (step_made (system_of p inputs l) x (scene_of fs left)).world r
     same_growth (Start q) r = longer q Started Started refl before r
     same_growth (Fire q t) r = longer q (Fired t) (Fired t) refl before r
     same_growth (Deliver s d lane) r = at (held s d lane) (left s d lane) (as_many_held s d lane)
       where
         at : (ms ns : List Sent) → length ms ≡ length ns
-            → words_of (delivered (system_of p inputs k) s d lane ms (scene_of es held)).world r ≡ words_of (delivered (system_of p inputs l) s d lane ns (scene_of fs left)).world r
+            → words_of (delivered (system_of p inputs k) s d lane ms (scene_of es held)).world r ≡ words_of
+                (delivered (system_of p inputs l) s d lane ns (scene_of fs left)).world r
         at [] [] e = before r
         at (m ∷ ms) (n ∷ ns) e = longer d (Received s lane m) (Received s lane n) refl before r
         at [] (n ∷ ns) e = absurd (omega (arith, e))
@@ -225,7 +239,8 @@ module _ (starts : CombineStarts) (p : Plan) (inputs : Inputs) (sound : SoundPla
         at (enabled_steps (system_of p inputs k) (scene_of es held))
         ∙ ap (λ xs. words_of (choose (system_of p inputs l) xs word (scene_of fs left)).world r) same_enabled
       where
-        at : (xs : List Step) → words_of (choose (system_of p inputs k) xs word (scene_of es held)).world r ≡ words_of (choose (system_of p inputs l) xs word (scene_of fs left)).world r
+        at : (xs : List Step) → words_of (choose (system_of p inputs k) xs word (scene_of es held)).world r ≡ words_of
+            (choose (system_of p inputs l) xs word (scene_of fs left)).world r
         at [] = before r
         at (x ∷ xs) = same_growth (get_or (x ∷ xs) (word % length (x ∷ xs)) x) r
 
@@ -239,9 +254,14 @@ module _ (starts : CombineStarts) (p : Plan) (inputs : Inputs) (sound : SoundPla
 
     next_chosen : (n : ℕ) → Same n → Same (suc n)
     next_chosen n before r =
-        ap (λ (w : Histories). map listed ((choose (system_of p inputs k) (enabled_steps (system_of p inputs k) (record { world = w; held = (run_of k n).held })) (words n) (record { world = w; held = (run_of k n).held })).world r)) one.same
-        ∙ same_choice k l one.moves two.moves one.made two.made alike (run_of k n).held (run_of l n).held one.balanced two.balanced (words n) r
-        ∙ sym (ap (λ (w : Histories). map listed ((choose (system_of p inputs l) (enabled_steps (system_of p inputs l) (record { world = w; held = (run_of l n).held })) (words n) (record { world = w; held = (run_of l n).held })).world r)) two.same)
+        ap (λ (w : Histories). map listed ((choose (system_of p inputs k)
+            (enabled_steps (system_of p inputs k) (record { world = w; held = (run_of k n).held })) (words n)
+            (record { world = w; held = (run_of k n).held })).world r)) one.same
+        ∙ same_choice k l one.moves two.moves one.made two.made alike (run_of k n).held (run_of l n).held one.balanced two.balanced
+            (words n) r
+        ∙ sym (ap (λ (w : Histories). map listed ((choose (system_of p inputs l)
+            (enabled_steps (system_of p inputs l) (record { world = w; held = (run_of l n).held })) (words n)
+            (record { world = w; held = (run_of l n).held })).world r)) two.same)
       where
         one : AreMoves (system_of p inputs k) (run_of k n).world (run_of k n).held
         one = reached_moves (system_of p inputs k) (run_of k n).world (run_of k n).held (chosen_reached (system_of p inputs k) words n)
@@ -251,9 +271,11 @@ module _ (starts : CombineStarts) (p : Plan) (inputs : Inputs) (sound : SoundPla
 
         alike : Alike starts p inputs sound fit swaps one.moves two.moves
         alike q = at (translated starts p inputs sound fit swaps k l (λ s. map listed (histories one.moves s)) one.moves one.made
-            (are_listed (system_of p inputs k) (λ s. map listed (histories one.moves s)) one.moves one.made (λ s h. ([], append-nil (map listed (histories one.moves s))))))
+            (are_listed (system_of p inputs k) (λ s. map listed (histories one.moves s)) one.moves one.made
+                (λ s h. ([], append-nil (map listed (histories one.moves s))))))
           where
-            at : Translated starts p inputs sound fit swaps k l (λ s. map listed (histories one.moves s)) one.moves → bares (histories one.moves q) ≡ bares (histories two.moves q)
+            at : Translated starts p inputs sound fit swaps k l (λ s. map listed (histories one.moves s)) one.moves →
+                bares (histories one.moves q) ≡ bares (histories two.moves q)
             at t =
                 t.alike q
                 ∙ ap bares (told_by_lists (system_of p inputs l) t.moves two.moves t.made two.made

@@ -1,5 +1,6 @@
 -- Beginnings of lists, and histories one move longer.
-use Rattle.std.proofs.Common.{ℕ, Bool, true, false, cond, ◌&&◌, ◌≡◌, ◌==◌, List, [], ◌∷◌, ◌++◌, refl, length, ap, ◌∙◌, sym, subst, inl, inr, filter, arith, append-nil, append_assoc, length-append, eq-eqb}
+use Rattle.std.proofs.Common.{ℕ, Bool, true, false, cond, ◌&&◌, ◌≡◌, ◌==◌, List, [], ◌∷◌, ◌++◌, refl, length, ap, ◌∙◌, sym, subst, inl, inr,
+    filter, arith, append-nil, append_assoc, length-append, eq-eqb}
 use Rattle.std.proofs.lemmas.Bool.{cases_eq, ne_eqb}
 use Rattle.std.proofs.lemmas.List.{nil_from_length}
 use Rattle.std.proofs.lemmas.List.Elements.{filter-append}
@@ -36,14 +37,18 @@ prefix-both xs ys a b =
     sym (append-nil xs) ∙ ap (λ v. xs ++ v) (sym e) ∙ a.1
 
 -- ---- what was sent grows with the history
-pub sent-append : (go : Beginning) (s : State) (h more : List Local) (d : ℕ) (lane : Lane) → IsPrefixOf (sent go s h d lane) (sent go s (h ++ more) d lane)
+pub sent-append : (go : Beginning) (s : State) (h more : List Local) (d : ℕ) (lane : Lane) →
+    IsPrefixOf (sent go s h d lane) (sent go s (h ++ more) d lane)
 sent-append go s h more d lane = (
   filter (is_for d lane) (made go (state go s h) more),
-  sym (filter-append (is_for d lane) (made go s h) (made go (state go s h) more)) ∙ ap (filter (is_for d lane)) (sym (made-append go s h more)),
+  sym (filter-append (is_for d lane) (made go s h) (made go (state go s h) more))
+      ∙ ap (filter (is_for d lane)) (sym (made-append go s h more)),
 )
 
-pub sent-grows : (k : System) (w v : Histories) (s d : ℕ) (lane : Lane) → IsPrefixOf (w s) (v s) → IsPrefixOf (sent_by k w s d lane) (sent_by k v s d lane)
-sent-grows k w v s d lane p = subst (λ h. IsPrefixOf (sent_by k w s d lane) (sent (k.go s) (k.first s) h d lane)) p.1 (sent-append (k.go s) (k.first s) (w s) p.0 d lane)
+pub sent-grows : (k : System) (w v : Histories) (s d : ℕ) (lane : Lane) → IsPrefixOf (w s) (v s) →
+    IsPrefixOf (sent_by k w s d lane) (sent_by k v s d lane)
+sent-grows k w v s d lane p = subst (λ h. IsPrefixOf (sent_by k w s d lane) (sent (k.go s) (k.first s) h d lane)) p.1
+    (sent-append (k.go s) (k.first s) (w s) p.0 d lane)
 
 -- ---- one move more
 pub longer-here : (e : Move) (es : List Move) (r : ℕ) → e.rank ≡ r → histories (e ∷ es) r ≡ histories es r ++ e.step ∷ []
@@ -59,7 +64,8 @@ longer e es r = elim (cases_eq e.rank r) [
 ]
 
 -- ---- what one step receives on a lane: nothing, or its message
-pub got_only : (x : Local) (s : ℕ) (lane : Lane) (P : List Sent → Type 0) → P [] → ((m : Sent) → x ≡ Receive s lane m → P (m ∷ [])) → P (got (x ∷ []) s lane)
+pub got_only : (x : Local) (s : ℕ) (lane : Lane) (P : List Sent → Type 0) → P [] → ((m : Sent) → x ≡ Receive s lane m → P (m ∷ [])) →
+    P (got (x ∷ []) s lane)
 got_only Start s lane P none one = none
 got_only (Fire t) s lane P none one = none
 got_only (Receive t l m) s lane P none one = elim (cases_eq t s) [

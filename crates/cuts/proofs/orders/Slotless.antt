@@ -1,5 +1,6 @@
 -- What can be taken of lists doesn't depend on the slots that tables gave out.
-use Rattle.std.proofs.Common.{ℕ, suc, Bool, true, false, cond, not, ◌&&◌, ◌==◌, ◌+◌, ◌≡◌, ◌<◌, List, [], ◌∷◌, ◌++◌, refl, length, map, filter, count_by, ap, ap₂, ◌∙◌, sym, subst, inl, inr, arith, append-nil, length-append, if◌then◌else◌}
+use Rattle.std.proofs.Common.{ℕ, suc, Bool, true, false, cond, not, ◌&&◌, ◌==◌, ◌+◌, ◌≡◌, ◌<◌, List, [], ◌∷◌, ◌++◌, refl, length, map,
+    filter, count_by, ap, ap₂, ◌∙◌, sym, subst, inl, inr, arith, append-nil, length-append, if◌then◌else◌}
 use Rattle.std.proofs.lemmas.Bool.{cases_Bool}
 use Rattle.std.proofs.lemmas.List.{map-append}
 use Rattle.ptl_types.specs.Messages.{Sent}
@@ -110,10 +111,14 @@ got-asks : (s : ℕ) (es : List Local) → map to_came (got es s Request) ≡ as
 got-asks s [] = refl
 got-asks s (Start ∷ es) = got-asks s es
 got-asks s (Fire t ∷ es) = got-asks s es
-got-asks s (Receive q Answer m ∷ es) = ap (λ b. map to_came (cond b (m ∷ got es s Request) (got es s Request))) (and-false (q == s)) ∙ got-asks s es
-got-asks s (Receive q Request m ∷ es) = ap (λ b. map to_came (cond b (m ∷ got es s Request) (got es s Request))) (and-true (q == s)) ∙ at (q == s) (got-asks s es)
+got-asks s (Receive q Answer m ∷ es) = ap (λ b. map to_came (cond b (m ∷ got es s Request) (got es s Request))) (and-false (q == s))
+    ∙ got-asks s es
+got-asks s (Receive q Request m ∷ es) = ap (λ b. map to_came (cond b (m ∷ got es s Request) (got es s Request))) (and-true (q == s))
+    ∙ at (q == s) (got-asks s es)
   where
-    at : (b : Bool) → map to_came (got es s Request) ≡ asks_from s (bares es) → map to_came (cond b (m ∷ got es s Request) (got es s Request)) ≡ cond b (to_came m ∷ asks_from s (bares es)) (asks_from s (bares es))
+    at : (b : Bool) → map to_came (got es s Request) ≡ asks_from s (bares es) →
+        map to_came (cond b (m ∷ got es s Request) (got es s Request)) ≡ cond b (to_came m ∷ asks_from s (bares es))
+        (asks_from s (bares es))
     at true e = ap (λ v. to_came m ∷ v) e
     at false e = e
 
@@ -126,10 +131,13 @@ got-told : (s : ℕ) (es : List Local) → length (got es s Answer) ≡ told_by 
 got-told s [] = refl
 got-told s (Start ∷ es) = got-told s es
 got-told s (Fire t ∷ es) = got-told s es
-got-told s (Receive q Request m ∷ es) = ap (λ b. length (cond b (m ∷ got es s Answer) (got es s Answer))) (and-false (q == s)) ∙ got-told s es
-got-told s (Receive q Answer m ∷ es) = ap (λ b. length (cond b (m ∷ got es s Answer) (got es s Answer))) (and-true (q == s)) ∙ at (q == s) (got-told s es)
+got-told s (Receive q Request m ∷ es) = ap (λ b. length (cond b (m ∷ got es s Answer) (got es s Answer))) (and-false (q == s))
+    ∙ got-told s es
+got-told s (Receive q Answer m ∷ es) = ap (λ b. length (cond b (m ∷ got es s Answer) (got es s Answer))) (and-true (q == s))
+    ∙ at (q == s) (got-told s es)
   where
-    at : (b : Bool) → length (got es s Answer) ≡ told_by s (bares es) → length (cond b (m ∷ got es s Answer) (got es s Answer)) ≡ cond b 1 0 + told_by s (bares es)
+    at : (b : Bool) → length (got es s Answer) ≡ told_by s (bares es) → length (cond b (m ∷ got es s Answer) (got es s Answer)) ≡ cond b 1
+        0 + told_by s (bares es)
     at true e = omega (arith, e)
     at false e = omega (arith, e)
 
@@ -144,21 +152,25 @@ build_fine [] h = tt
 build_fine (Start ∷ es) h = build_fine es (λ s m i. h s m (got_later Start es s Request m i))
 build_fine (Fire t ∷ es) h = build_fine es (λ s m i. h s m (got_later (Fire t) es s Request m i))
 build_fine (Receive q Answer x ∷ es) h = build_fine es (λ s m i. h s m (got_later (Receive q Answer x) es s Request m i))
-build_fine (Receive q Request x ∷ es) h = let z = h q x (got_first q Request x es) in (z.0, z.1, build_fine es (λ s m i. h s m (got_later (Receive q Request x) es s Request m i)))
+build_fine (Receive q Request x ∷ es) h = let z = h q x (got_first q Request x es) in
+    (z.0, z.1, build_fine es (λ s m i. h s m (got_later (Receive q Request x) es s Request m i)))
 
 from-got : (d : ℕ) (es : List Local) → Fine es → length (filter (came_from d) (own_received Request es)) ≡ length (got es d Request)
 from-got d [] f = refl
 from-got d (Start ∷ es) f = from-got d es f
 from-got d (Fire t ∷ es) f = from-got d es f
-from-got d (Receive q Answer m ∷ es) f = from-got d es f ∙ ap (λ b. length (cond b (m ∷ got es d Request) (got es d Request))) (sym (and-false (q == d)))
+from-got d (Receive q Answer m ∷ es) f = from-got d es f ∙ ap (λ b. length (cond b (m ∷ got es d Request) (got es d Request)))
+    (sym (and-false (q == d)))
 from-got d (Receive q Request m ∷ es) f =
     ap (λ b. length (filter (came_from d) (cond (not b) (m ∷ own_received Request es) (own_received Request es)))) f.0
-    ∙ ap (λ n. length (cond (n == d) (m ∷ filter (came_from d) (own_received Request es)) (filter (came_from d) (own_received Request es)))) f.1
+    ∙ ap (λ n. length (cond (n == d) (m ∷ filter (came_from d) (own_received Request es))
+        (filter (came_from d) (own_received Request es)))) f.1
     ∙ at (q == d) (from-got d es f.2)
     ∙ ap (λ b. length (cond b (m ∷ got es d Request) (got es d Request))) (sym (and-true (q == d)))
   where
     at : (b : Bool) → length (filter (came_from d) (own_received Request es)) ≡ length (got es d Request)
-        → length (cond b (m ∷ filter (came_from d) (own_received Request es)) (filter (came_from d) (own_received Request es))) ≡ length (cond b (m ∷ got es d Request) (got es d Request))
+        → length (cond b (m ∷ filter (came_from d) (own_received Request es)) (filter (came_from d) (own_received Request es))) ≡ length
+            (cond b (m ∷ got es d Request) (got es d Request))
     at true e = ap suc e
     at false e = e
 
@@ -189,23 +201,28 @@ run-bare p r (Start ∷ es) early f = ap (λ v. Began ∷ (map tk early ++ v)) (
 run-bare p r (Fire t ∷ es) early f = ap (λ v. did (work_numbered p r t) ∷ v) (run-bare p r es early f)
 run-bare p r (Receive s Answer m ∷ es) early f = ap (λ v. Heard m.header.ok ∷ v) (run-bare p r es early f)
 run-bare p r (Receive s Request m ∷ es) early f =
-    ap (λ b. cond b (Strayed ∷ run_moves p r early es) (run_moves p r (early ++ to_came m ∷ []) es)) f.0 ∙ run-bare p r es (early ++ to_came m ∷ []) f.2
+    ap (λ b. cond b (Strayed ∷ run_moves p r early es) (run_moves p r (early ++ to_came m ∷ []) es)) f.0
+        ∙ run-bare p r es (early ++ to_came m ∷ []) f.2
 
 sent-came : (p : Plan) (s : Slots) (xs : List Came) → map to_came (map (as_message p s) xs) ≡ xs
 sent-came p s [] = refl
 sent-came p s (x ∷ xs) = ap (λ v. x ∷ v) (sent-came p s xs)
 
-module _ (starts : CombineStarts) (p : Plan) (inputs : Inputs) (sound : SoundPlan p (length inputs)) (fit : AreInputsOf p inputs) (swaps : CombineSwaps) where
+module _ (starts : CombineStarts) (p : Plan) (inputs : Inputs) (sound : SoundPlan p (length inputs)) (fit : AreInputsOf p inputs)
+    (swaps : CombineSwaps) where
   abbrev pub Made : (ℕ → Slots) → List Move → Type 0
   Made k es = IsInterleaving (system_of p inputs k) es
 
-  pub moment_of : (k : ℕ → Slots) (es : List Move) (made : Made k es) → IsMoment (system_of p inputs k) (histories es) (moves_reach (system_of p inputs k) es made).0
-  moment_of k es made = let x = moves_reach (system_of p inputs k) es made in reached_moment starts p inputs k sound fit swaps (histories es) x.0 x.1
+  pub moment_of : (k : ℕ → Slots) (es : List Move) (made : Made k es) →
+      IsMoment (system_of p inputs k) (histories es) (moves_reach (system_of p inputs k) es made).0
+  moment_of k es made = let x = moves_reach (system_of p inputs k) es made in reached_moment starts p inputs k sound fit swaps
+      (histories es) x.0 x.1
 
   pub cut_of : (k : ℕ → Slots) (es : List Move) → Made k es → IsCut (system_of p inputs k) (histories es)
   cut_of k es made = (moment_of k es made).cut
 
-  front_of : (k : ℕ → Slots) (es : List Move) → Made k es → (s d : ℕ) (lane : Lane) → IsPrefixOf (got (histories es d) s lane) (sent_by (system_of p inputs k) (histories es) s d lane)
+  front_of : (k : ℕ → Slots) (es : List Move) → Made k es → (s d : ℕ) (lane : Lane) →
+      IsPrefixOf (got (histories es d) s lane) (sent_by (system_of p inputs k) (histories es) s d lane)
   front_of k es made s d lane = let x = moves_reach (system_of p inputs k) es made in (x.0 s d lane, x.2 s d lane)
 
   fine_of : (k : ℕ → Slots) (es : List Move) → Made k es → (r : ℕ) → r < p.ranks → Fine (histories es r)
@@ -214,13 +231,16 @@ module _ (starts : CombineStarts) (p : Plan) (inputs : Inputs) (sound : SoundPla
       one : (s : ℕ) (m : Sent) → In m (got (histories es r) s Request) → (is_stray m ≡ false) × (m.header.source ≡ s)
       one s m i =
           let cut = cut_of k es given in
-          let source = (legal_got p (k r) r (start_of p (k r) r) (histories es r) false (prepare p inputs (k r) r) (prepared_of p inputs sound (k r) r) (cut.legal r h) s Request m i).source in
+          let source = (legal_got p (k r) r (start_of p (k r) r) (histories es r) false (prepare p inputs (k r) r)
+                (prepared_of p inputs sound (k r) r) (cut.legal r h) s Request m i).source in
           let f = front_of k es given s r Request in
-          let j : In m (sent_by (system_of p inputs k) (histories es) s r Request) = subst (λ v. In m v) f.1 (In-append_left m (got (histories es r) s Request) f.0 i) in
+          let j : In m (sent_by (system_of p inputs k) (histories es) s r Request) =
+                subst (λ v. In m v) f.1 (In-append_left m (got (histories es r) s Request) f.0 i) in
           (clean_sent s m j, source)
         where
           clean_sent : (s : ℕ) (m : Sent) → In m (sent_by (system_of p inputs k) (histories es) s r Request) → is_stray m ≡ false
-          clean_sent s m j = made-clean p inputs sound (k s) s (histories es s) m (In-filter_cases (is_for r Request) m (made (start_of p (k s) s) (prepare p inputs (k s) s) (histories es s)) j).0
+          clean_sent s m j = made-clean p inputs sound (k s) s (histories es s) m
+              (In-filter_cases (is_for r Request) m (made (start_of p (k s) s) (prepare p inputs (k s) s) (histories es s)) j).0
 
   -- the same steps under other slots
   abbrev pub Alike : List Move → List Move → Type 0
@@ -228,12 +248,14 @@ module _ (starts : CombineStarts) (p : Plan) (inputs : Inputs) (sound : SoundPla
 
   module _ (k l : ℕ → Slots) (es fs : List Move) (made : Made k es) (other : Made l fs) (same : Alike es fs) where
     same_moves : (r : ℕ) → r < p.ranks → moves_at p (histories es) r ≡ moves_at p (histories fs) r
-    same_moves r h = run-bare p r (histories es r) [] (fine_of k es made r h) ∙ ap (bare_moves p r []) (same r) ∙ sym (run-bare p r (histories fs r) [] (fine_of l fs other r h))
+    same_moves r h = run-bare p r (histories es r) [] (fine_of k es made r h) ∙ ap (bare_moves p r []) (same r)
+        ∙ sym (run-bare p r (histories fs r) [] (fine_of l fs other r h))
 
     same_seen : (r : ℕ) → r < p.ranks → all_seen p (moves_at p (histories es)) r ≡ all_seen p (moves_at p (histories fs)) r
     same_seen r h = ap (seen p nothing_seen) (same_moves r h)
 
-    pub same_ready : (r t : ℕ) → r < p.ranks → is_ready (state_at (system_of p inputs k) (histories es) r) t ≡ true → is_ready (state_at (system_of p inputs l) (histories fs) r) t ≡ true
+    pub same_ready : (r t : ℕ) → r < p.ranks → is_ready (state_at (system_of p inputs k) (histories es) r) t ≡ true →
+        is_ready (state_at (system_of p inputs l) (histories fs) r) t ≡ true
     same_ready r t h e =
         let a = shape starts p inputs sound fit k (histories es) (cut_of k es made) r h in
         let b = shape starts p inputs sound fit l (histories fs) (cut_of l fs other) r h in
@@ -244,7 +266,8 @@ module _ (starts : CombineStarts) (p : Plan) (inputs : Inputs) (sound : SoundPla
         ∙ ap (λ v. is_ready (view b.annex p inputs (l r) r v) t) (sym (same_seen r h))
         ∙ subst (λ n. is_ready (view b.annex p inputs (l r) r g) n ≡ true) w.1.number z
 
-    pub same_requests : (s d : ℕ) → s < p.ranks → map to_came (sent_by (system_of p inputs k) (histories es) s d Request) ≡ map to_came (sent_by (system_of p inputs l) (histories fs) s d Request)
+    pub same_requests : (s d : ℕ) → s < p.ranks → map to_came (sent_by (system_of p inputs k) (histories es) s d Request) ≡ map to_came
+        (sent_by (system_of p inputs l) (histories fs) s d Request)
     same_requests s d h =
         ap (map to_came) (sent_requests starts p inputs sound fit k (histories es) (cut_of k es made) s d h)
         ∙ sent-came p (k s) _
@@ -258,10 +281,12 @@ module _ (starts : CombineStarts) (p : Plan) (inputs : Inputs) (sound : SoundPla
     pub same_told : (s r : ℕ) → length (got (histories es r) s Answer) ≡ length (got (histories fs r) s Answer)
     same_told s r = got-told s (histories es r) ∙ ap (told_by s) (same r) ∙ sym (got-told s (histories fs r))
 
-    pub same_answers : (s d : ℕ) → s < p.ranks → length (sent_by (system_of p inputs k) (histories es) s d Answer) ≡ length (sent_by (system_of p inputs l) (histories fs) s d Answer)
+    pub same_answers : (s d : ℕ) → s < p.ranks → length (sent_by (system_of p inputs k) (histories es) s d Answer) ≡ length
+        (sent_by (system_of p inputs l) (histories fs) s d Answer)
     same_answers s d h = at p.remote refl
       where
-        at : (b : Bool) → p.remote ≡ b → length (sent_by (system_of p inputs k) (histories es) s d Answer) ≡ length (sent_by (system_of p inputs l) (histories fs) s d Answer)
+        at : (b : Bool) → p.remote ≡ b → length (sent_by (system_of p inputs k) (histories es) s d Answer) ≡ length
+            (sent_by (system_of p inputs l) (histories fs) s d Answer)
         at false rem =
             ap length (answers_loc starts p inputs sound fit k (histories es) (cut_of k es made) rem s d h)
             ∙ sym (ap length (answers_loc starts p inputs sound fit l (histories fs) (cut_of l fs other) rem s d h))
@@ -282,14 +307,18 @@ module _ (starts : CombineStarts) (p : Plan) (inputs : Inputs) (sound : SoundPla
       pub may : MayTake (system_of p inputs l) (histories fs) r step
       pub alike : bare e ≡ bare step
 
-    ok_sent : (s r : ℕ) (m : Sent) → s < p.ranks → (q : ℕ → Slots) (gs : List Move) → Made q gs → In m (sent_by (system_of p inputs q) (histories gs) s r Answer) → m.header.ok ≡ true
-    ok_sent s r m h q gs g i = let a = sent_ack starts p inputs sound fit q (histories gs) (cut_of q gs g) r s m h i in sym (ap (λ (x : Sent). x.header.ok) a.is)
+    ok_sent : (s r : ℕ) (m : Sent) → s < p.ranks → (q : ℕ → Slots) (gs : List Move) → Made q gs →
+        In m (sent_by (system_of p inputs q) (histories gs) s r Answer) → m.header.ok ≡ true
+    ok_sent s r m h q gs g i = let a = sent_ack starts p inputs sound fit q (histories gs) (cut_of q gs g) r s m h i in
+        sym (ap (λ (x : Sent). x.header.ok) a.is)
 
     known : (r s : ℕ) (lane : Lane) (m : Sent) → MayTake (system_of p inputs k) (histories es) r (Receive s lane m) → s < p.ranks
-    known r s lane m t = let x = moves_reach (system_of p inputs k) es made in (may (system_of p inputs k) es r (Receive s lane m) x.0 x.2 t (beyond (system_of p inputs k) es made)).0
+    known r s lane m t = let x = moves_reach (system_of p inputs k) es made in
+        (may (system_of p inputs k) es r (Receive s lane m) x.0 x.2 t (beyond (system_of p inputs k) es made)).0
 
     -- the first of what is left to come, and what it brings
-    ask : (r s : ℕ) (m : Sent) → s < p.ranks → MayTake (system_of p inputs k) (histories es) r (Receive s Request m) → Likewise r (Receive s Request m)
+    ask : (r s : ℕ) (m : Sent) → s < p.ranks → MayTake (system_of p inputs k) (histories es) r (Receive s Request m) →
+        Likewise r (Receive s Request m)
     ask r s m hs t = at f.0 f.1 left
       where
         f : IsPrefixOf (got (histories fs r) s Request) (sent_by (system_of p inputs l) (histories fs) s r Request)
@@ -305,14 +334,16 @@ module _ (starts : CombineStarts) (p : Plan) (inputs : Inputs) (sound : SoundPla
             ∙ sym (ap (map to_came) f.1)
             ∙ map-append to_came (got (histories fs r) s Request) f.0)
 
-        at : (ms : List Sent) → got (histories fs r) s Request ++ ms ≡ sent_by (system_of p inputs l) (histories fs) s r Request → to_came m ∷ map to_came t.0 ≡ map to_came ms → Likewise r (Receive s Request m)
+        at : (ms : List Sent) → got (histories fs r) s Request ++ ms ≡ sent_by (system_of p inputs l) (histories fs) s r Request →
+            to_came m ∷ map to_came t.0 ≡ map to_came ms → Likewise r (Receive s Request m)
         at [] q e = absurd (let z = ap length e in omega (arith, z))
         at (n ∷ ms) q e = record { step = Receive s Request n; may = (ms, q); alike = ap (BAsk s) (head_one e) }
           where
             head_one : {x y : Came} {xs ys : List Came} → x ∷ xs ≡ y ∷ ys → x ≡ y
             head_one e = cc
 
-    tell : (r s : ℕ) (m : Sent) → s < p.ranks → MayTake (system_of p inputs k) (histories es) r (Receive s Answer m) → Likewise r (Receive s Answer m)
+    tell : (r s : ℕ) (m : Sent) → s < p.ranks → MayTake (system_of p inputs k) (histories es) r (Receive s Answer m) →
+        Likewise r (Receive s Answer m)
     tell r s m hs t = at f.0 f.1 more
       where
         f : IsPrefixOf (got (histories fs r) s Answer) (sent_by (system_of p inputs l) (histories fs) s r Answer)
@@ -328,18 +359,21 @@ module _ (starts : CombineStarts) (p : Plan) (inputs : Inputs) (sound : SoundPla
             let g = length-append (got (histories fs r) s Answer) f.0 in
             omega (arith, a, b, c, d, e, g)
 
-        at : (ms : List Sent) → got (histories fs r) s Answer ++ ms ≡ sent_by (system_of p inputs l) (histories fs) s r Answer → 0 < length ms → Likewise r (Receive s Answer m)
+        at : (ms : List Sent) → got (histories fs r) s Answer ++ ms ≡ sent_by (system_of p inputs l) (histories fs) s r Answer →
+            0 < length ms → Likewise r (Receive s Answer m)
         at [] q n = absurd (omega (arith, n))
         at (x ∷ ms) q n = record {
           step = Receive s Answer x;
           may = (ms, q);
           alike = ap (BTold s)
               (ok_sent s r m hs k es made (subst (λ v. In m v) t.1 (In-append_right m (got (histories es r) s Answer) (m ∷ t.0) (inl refl)))
-              ∙ sym (ok_sent s r x hs l fs other (subst (λ v. In x v) q (In-append_right x (got (histories fs r) s Answer) (x ∷ ms) (inl refl)))));
+              ∙ sym (ok_sent s r x hs l fs other (subst (λ v. In x v) q
+                  (In-append_right x (got (histories fs r) s Answer) (x ∷ ms) (inl refl)))));
         }
 
     pub likewise : (r : ℕ) (e : Local) → r < p.ranks → MayTake (system_of p inputs k) (histories es) r e → Likewise r e
-    likewise r Start h t = record { step = Start; may = starts-bare (histories fs r) ∙ ap (count_by is_begin) (sym (same r)) ∙ sym (starts-bare (histories es r)) ∙ t; alike = refl }
+    likewise r Start h t = record { step = Start; may = starts-bare (histories fs r) ∙ ap (count_by is_begin) (sym (same r))
+        ∙ sym (starts-bare (histories es r)) ∙ t; alike = refl }
     likewise r (Fire t) h m = record { step = Fire t; may = same_ready r t h m; alike = refl }
     likewise r (Receive s Request m) h t = ask r s m (known r s Request m t) t
     likewise r (Receive s Answer m) h t = tell r s m (known r s Answer m t) t
@@ -348,20 +382,25 @@ module _ (starts : CombineStarts) (p : Plan) (inputs : Inputs) (sound : SoundPla
     same_listed r = all_listed (histories es r) ∙ ap (map listed_of) (same r) ∙ sym (all_listed (histories fs r))
 
     -- a rank that rests there rests here
-    pub rests_too : (r : ℕ) → r < p.ranks → (Alike fs es) → ((t : ℕ) → is_ready (state_at (system_of p inputs l) (histories fs) r) t ≡ true → is_ready (state_at (system_of p inputs k) (histories es) r) t ≡ true)
+    pub rests_too : (r : ℕ) → r < p.ranks → (Alike fs es) → ((t : ℕ) → is_ready (state_at (system_of p inputs l) (histories fs) r) t
+        ≡ true → is_ready (state_at (system_of p inputs k) (histories es) r) t ≡ true)
         → Rests (system_of p inputs k) (histories es) r → Rests (system_of p inputs l) (histories fs) r
     rests_too r h back ready rests = record {
-      started = let z = starts-bare (histories fs r) ∙ ap (count_by is_begin) (sym (same r)) ∙ sym (starts-bare (histories es r)) in let y = rests.started in omega (arith, z, y);
-      idle = λ t. elim (cases_Bool (is_ready (state_at (system_of p inputs l) (histories fs) r) t)) [ inr e ↦ e | inl e ↦ absurd (both (ready t e) (rests.idle t)) ];
+      started = let z = starts-bare (histories fs r) ∙ ap (count_by is_begin) (sym (same r)) ∙ sym (starts-bare (histories es r)) in
+          let y = rests.started in omega (arith, z, y);
+      idle = λ t. elim (cases_Bool (is_ready (state_at (system_of p inputs l) (histories fs) r) t))
+          [ inr e ↦ e | inl e ↦ absurd (both (ready t e) (rests.idle t)) ];
       empty = λ s lane hs. nothing s lane hs;
     }
       where
         both : {b : Bool} → b ≡ true → b ≡ false → ⊥
         both e i = cc
 
-        sizes : (s : ℕ) (lane : Lane) → s < p.ranks → length (got (histories fs r) s lane) ≡ length (sent_by (system_of p inputs l) (histories fs) s r lane)
+        sizes : (s : ℕ) (lane : Lane) → s < p.ranks → length (got (histories fs r) s lane) ≡ length
+            (sent_by (system_of p inputs l) (histories fs) s r lane)
         sizes s Request hs =
-            sym (length-map' to_came (got (histories fs r) s Request)) ∙ sym (ap length (same_asks s r)) ∙ ap (λ (ms : List Sent). length (map to_came ms)) (rests.empty s Request hs)
+            sym (length-map' to_came (got (histories fs r) s Request)) ∙ sym (ap length (same_asks s r))
+                ∙ ap (λ (ms : List Sent). length (map to_came ms)) (rests.empty s Request hs)
             ∙ ap length (same_requests s r hs) ∙ length-map' to_came (sent_by (system_of p inputs l) (histories fs) s r Request)
         sizes s Answer hs = sym (same_told s r) ∙ ap length (rests.empty s Answer hs) ∙ same_answers s r hs
 
@@ -371,7 +410,8 @@ module _ (starts : CombineStarts) (p : Plan) (inputs : Inputs) (sound : SoundPla
             let a = sizes s lane hs in
             let b = ap length f.1 in
             let c = length-append (got (histories fs r) s lane) f.0 in
-            sym (append-nil (got (histories fs r) s lane)) ∙ ap (λ v. got (histories fs r) s lane ++ v) (sym (nil_from_length f.0 (omega (arith, a, b, c)))) ∙ f.1
+            sym (append-nil (got (histories fs r) s lane)) ∙ ap (λ v. got (histories fs r) s lane ++ v)
+                (sym (nil_from_length f.0 (omega (arith, a, b, c)))) ∙ f.1
 
   -- ---- the same moves under other slots
   pub record Translated (k l : ℕ → Slots) (lists : Lists) (es : List Move) : Type 0 where
@@ -380,7 +420,8 @@ module _ (starts : CombineStarts) (p : Plan) (inputs : Inputs) (sound : SoundPla
     pub alike : Alike es moves
     pub listed : AreListed lists moves
 
-  next-alike : (lists : Lists) (es fs : List Move) → Alike es fs → (r : ℕ) (e f : Local) → bare e ≡ bare f → IsNext lists (histories es) r (listed e) → IsNext lists (histories fs) r (listed f)
+  next-alike : (lists : Lists) (es fs : List Move) → Alike es fs → (r : ℕ) (e f : Local) → bare e ≡ bare f →
+      IsNext lists (histories es) r (listed e) → IsNext lists (histories fs) r (listed f)
   next-alike lists es fs same r e f q n = (
     n.0,
     ap₂ (λ v x. v ++ x ∷ n.0)
@@ -404,12 +445,15 @@ module _ (starts : CombineStarts) (p : Plan) (inputs : Inputs) (sound : SoundPla
           }
         where
           grown : (r : ℕ) (b : Bool) (x : Local) → bare e.step ≡ bare x → bares (histories es r) ≡ bares (histories t.moves r)
-              → bares (cond b (histories es r ++ e.step ∷ []) (histories es r)) ≡ bares (cond b (histories t.moves r ++ x ∷ []) (histories t.moves r))
-          grown r true x q h = map-append bare (histories es r) (e.step ∷ []) ∙ ap₂ (λ v y. v ++ y ∷ []) h q ∙ sym (map-append bare (histories t.moves r) (x ∷ []))
+              → bares (cond b (histories es r ++ e.step ∷ []) (histories es r)) ≡ bares
+                  (cond b (histories t.moves r ++ x ∷ []) (histories t.moves r))
+          grown r true x q h = map-append bare (histories es r) (e.step ∷ []) ∙ ap₂ (λ v y. v ++ y ∷ []) h q
+              ∙ sym (map-append bare (histories t.moves r) (x ∷ []))
           grown r false x q h = h
 
   -- ---- so the verdict is the same
-  pub slotless : (k l : ℕ → Slots) (lists : Lists) (v : Verdict) → IsVerdict (system_of p inputs k) lists v → IsVerdict (system_of p inputs l) lists v
+  pub slotless : (k l : ℕ → Slots) (lists : Lists) (v : Verdict) → IsVerdict (system_of p inputs k) lists v →
+      IsVerdict (system_of p inputs l) lists v
   slotless k l lists v x = record {
     moves = t.moves;
     taken = record { made = t.made; listed = t.listed; stuck = stuck };
@@ -430,22 +474,27 @@ module _ (starts : CombineStarts) (p : Plan) (inputs : Inputs) (sound : SoundPla
       words : (r : ℕ) → map listed (histories t.moves r) ≡ map listed (histories x.moves r)
       words r = same_listed l k t.moves x.moves t.made x.taken.made back r
 
-      there : (r : ℕ) → r < p.ranks → Rests (system_of p inputs k) (histories x.moves) r → Rests (system_of p inputs l) (histories t.moves) r
-      there r h rests = rests_too k l x.moves t.moves x.taken.made t.made t.alike r h back (λ n e. same_ready l k t.moves x.moves t.made x.taken.made back r n h e) rests
+      there : (r : ℕ) → r < p.ranks → Rests (system_of p inputs k) (histories x.moves) r →
+          Rests (system_of p inputs l) (histories t.moves) r
+      there r h rests = rests_too k l x.moves t.moves x.taken.made t.made t.alike r h back
+          (λ n e. same_ready l k t.moves x.moves t.made x.taken.made back r n h e) rests
 
       here : (r : ℕ) → r < p.ranks → Rests (system_of p inputs l) (histories t.moves) r → Rests (system_of p inputs k) (histories x.moves) r
-      here r h rests = rests_too l k t.moves x.moves t.made x.taken.made back r h t.alike (λ n e. same_ready k l x.moves t.moves x.taken.made t.made t.alike r n h e) rests
+      here r h rests = rests_too l k t.moves x.moves t.made x.taken.made back r h t.alike
+          (λ n e. same_ready k l x.moves t.moves x.taken.made t.made t.alike r n h e) rests
 
       size : (r : ℕ) → length (histories x.moves r) ≡ length (histories t.moves r)
       size r = sym (length-map' listed (histories x.moves r)) ∙ sym (ap length (words r)) ∙ length-map' listed (histories t.moves r)
 
-      says : (v : Verdict) → Says (system_of p inputs k) lists (histories x.moves) v → Says (system_of p inputs l) lists (histories t.moves) v
+      says : (v : Verdict) → Says (system_of p inputs k) lists (histories x.moves) v →
+          Says (system_of p inputs l) lists (histories t.moves) v
       says Holds a = λ r h. (words r ∙ (a r h).0, there r h (a r h).1)
       says (Fails r place cause) a = (
         a.0,
         a.1 ∙ ap (λ n. n + 1) (size r),
         elim a.2 [
-          | inl s ↦ inl (s.0, record { lower = λ q h. words q ∙ s.1.lower q h; next = (s.1.next.0, ap (λ v. v ++ s.0 ∷ s.1.next.0) (words r) ∙ s.1.next.1) }, s.2)
+          | inl s ↦ inl (s.0, record { lower = λ q h. words q ∙ s.1.lower q h; next =
+              (s.1.next.0, ap (λ v. v ++ s.0 ∷ s.1.next.0) (words r) ∙ s.1.next.1) }, s.2)
           | inr s ↦ inr (
             record {
               whole = λ q h. words q ∙ s.0.whole q h;

@@ -1,5 +1,6 @@
 -- Moves of an interleaving are steps from moment to moment, and the other way round.
-use Rattle.std.proofs.Common.{ℕ, cond, ◌≡◌, ◌<◌, ◌≤◌, ◌==◌, List, [], ◌∷◌, ◌++◌, refl, length, ap, ap₂, ◌∙◌, sym, subst, inl, inr, filter, map, arith, if◌then◌else◌, append-nil, append_assoc, length-append, eq-eqb}
+use Rattle.std.proofs.Common.{ℕ, cond, ◌≡◌, ◌<◌, ◌≤◌, ◌==◌, List, [], ◌∷◌, ◌++◌, refl, length, ap, ap₂, ◌∙◌, sym, subst, inl, inr, filter,
+    map, arith, if◌then◌else◌, append-nil, append_assoc, length-append, eq-eqb}
 use Rattle.std.proofs.lemmas.Bool.{cases_eq, cases_lt, ne_eqb}
 use Rattle.std.proofs.lemmas.List.Elements.{filter-append}
 use Rattle.ptl_types.specs.Messages.{Sent}
@@ -39,7 +40,8 @@ module _ (k : System) where
   abbrev puts : List Move → ℕ → Local → Lanes
   puts es r e s d lane = if s == r then filter (is_for d lane) (and_then (made_by (state_at k (histories es) r) e) []) else []
 
-  got-step : (es : List Move) (r : ℕ) (e : Local) (s d : ℕ) (lane : Lane) → got (with_step r e (histories es) d) s lane ≡ got (histories es d) s lane ++ takes r e s d lane
+  got-step : (es : List Move) (r : ℕ) (e : Local) (s d : ℕ) (lane : Lane) → got (with_step r e (histories es) d) s lane ≡ got
+      (histories es d) s lane ++ takes r e s d lane
   got-step es r e s d lane = elim (cases_eq r d) [
     | inl h ↦ (ap (λ b. got (cond b (histories es d ++ e ∷ []) (histories es d)) s lane) (eq-eqb r d h)
         ∙ got-append (histories es d) (e ∷ []) s lane
@@ -49,7 +51,8 @@ module _ (k : System) where
         ∙ ap (λ b. got (histories es d) s lane ++ cond b (got (e ∷ []) s lane) []) (sym (ne_eqb d r (λ h. n (sym h)))))
   ]
 
-  sent-step : (es : List Move) (r : ℕ) (e : Local) (s d : ℕ) (lane : Lane) → sent_by k (with_step r e (histories es)) s d lane ≡ sent_by k (histories es) s d lane ++ puts es r e s d lane
+  sent-step : (es : List Move) (r : ℕ) (e : Local) (s d : ℕ) (lane : Lane) → sent_by k (with_step r e (histories es)) s d lane ≡ sent_by k
+      (histories es) s d lane ++ puts es r e s d lane
   sent-step es r e s d lane =
       let before = sent_by k (histories es) s d lane in
       let new = λ (q : ℕ). filter (is_for d lane) (and_then (made_by (state_at k (histories es) q) e) []) in
@@ -82,7 +85,8 @@ module _ (k : System) where
       regroup a b c d = sym (append_assoc (a ++ b) c d) ∙ ap (λ v. v ++ d) (append_assoc a b c)
 
   -- ---- a move is a step
-  taken-front : (es : List Move) (r : ℕ) (e : Local) (held : Lanes) → IsBalanced es held → MayTake k (histories es) r e → (s d : ℕ) (lane : Lane) → IsPrefixOf (takes r e s d lane) (held s d lane)
+  taken-front : (es : List Move) (r : ℕ) (e : Local) (held : Lanes) → IsBalanced es held → MayTake k (histories es) r e →
+      (s d : ℕ) (lane : Lane) → IsPrefixOf (takes r e s d lane) (held s d lane)
   taken-front es r e held balanced enabled s d lane = elim (cases_eq d r) [
     | inr n ↦ subst (λ b. IsPrefixOf (cond b (got (e ∷ []) s lane) []) (held s d lane)) (sym (ne_eqb d r n)) (held s d lane, refl)
     | inl h ↦ subst (λ b. IsPrefixOf (cond b (got (e ∷ []) s lane) []) (held s d lane)) (sym (eq-eqb d r h))
@@ -92,7 +96,8 @@ module _ (k : System) where
         (x.0, same-front (got (histories es r) s lane) (m ∷ x.0) (held s r lane) (x.1 ∙ sym (balanced s r lane))))))
   ]
 
-  pub may : (es : List Move) (r : ℕ) (e : Local) (held : Lanes) → IsBalanced es held → MayTake k (histories es) r e → ((s : ℕ) → k.count ≤ s → histories es s ≡ []) → MayStep k (histories es) held r e
+  pub may : (es : List Move) (r : ℕ) (e : Local) (held : Lanes) → IsBalanced es held → MayTake k (histories es) r e →
+      ((s : ℕ) → k.count ≤ s → histories es s ≡ []) → MayStep k (histories es) held r e
   may es r Start held balanced h beyond = h
   may es r (Fire t) held balanced h beyond = h
   may es r (Receive s lane m) held balanced h beyond = elim (cases_lt s k.count) [
@@ -118,12 +123,14 @@ module _ (k : System) where
   moves_reach [] made = ((λ s d lane. []), Begun, (λ s d lane. refl))
   moves_reach (e ∷ es) made = more (moves_reach es made.0)
     where
-      more : (held : Lanes) × IsReached k (histories es) held × IsBalanced es held → (held : Lanes) × IsReached k (histories (e ∷ es)) held × IsBalanced (e ∷ es) held
+      more : (held : Lanes) × IsReached k (histories es) held × IsBalanced es held → (held : Lanes) ×
+          IsReached k (histories (e ∷ es)) held × IsBalanced (e ∷ es) held
       more x =
           let front = taken-front es e.rank e.step x.0 x.2 made.2 in
           let rest : Lanes = λ s d lane. (front s d lane).0 in
           let later : Lanes = λ s d lane. rest s d lane ++ puts es e.rank e.step s d lane in
-          let taken : (s d : ℕ) (lane : Lane) → x.0 s d lane ≡ takes e.rank e.step s d lane ++ rest s d lane = λ s d lane. sym (front s d lane).1 in (
+          let taken : (s d : ℕ) (lane : Lane) → x.0 s d lane ≡ takes e.rank e.step s d lane ++ rest s d lane =
+                λ s d lane. sym (front s d lane).1 in (
             later,
             Stepped x.1 (record {
               r = e.rank;
@@ -140,7 +147,8 @@ module _ (k : System) where
           )
 
   -- ---- a step is a move
-  step-enabled : (es : List Move) (r : ℕ) (e : Local) (held : Lanes) → IsBalanced es held → MayStep k (histories es) held r e → MayTake k (histories es) r e
+  step-enabled : (es : List Move) (r : ℕ) (e : Local) (held : Lanes) → IsBalanced es held → MayStep k (histories es) held r e →
+      MayTake k (histories es) r e
   step-enabled es r Start held balanced h = h
   step-enabled es r (Fire t) held balanced h = h
   step-enabled es r (Receive s lane m) held balanced h = (h.1.0, ap (λ v. got (histories es r) s lane ++ v) (sym h.1.1) ∙ balanced s r lane)
@@ -177,17 +185,21 @@ module _ (k : System) where
   reached_moves next later (Stepped {w = w} {held = held} x step) = step-move w next held later (reached_moves w held x) step
 
   -- ---- rest
-  still-rests : (es : List Move) (held : Lanes) → IsBalanced es held → IsStill k (histories es) held → (r : ℕ) → r < k.count → Rests k (histories es) r
+  still-rests : (es : List Move) (held : Lanes) → IsBalanced es held → IsStill k (histories es) held → (r : ℕ) → r < k.count →
+      Rests k (histories es) r
   still-rests es held balanced still r h = record {
     started = still.started r h;
     idle = λ t. still.idle r t h;
-    empty = λ s lane l. sym (append-nil (got (histories es r) s lane)) ∙ ap (λ v. got (histories es r) s lane ++ v) (sym (still.empty s r lane l h)) ∙ balanced s r lane;
+    empty = λ s lane l. sym (append-nil (got (histories es r) s lane))
+        ∙ ap (λ v. got (histories es r) s lane ++ v) (sym (still.empty s r lane l h)) ∙ balanced s r lane;
   }
 
-  rests-still : (es : List Move) (held : Lanes) → IsBalanced es held → ((r : ℕ) → r < k.count → Rests k (histories es) r) → IsStill k (histories es) held
+  rests-still : (es : List Move) (held : Lanes) → IsBalanced es held → ((r : ℕ) → r < k.count → Rests k (histories es) r) →
+      IsStill k (histories es) held
   rests-still es held balanced rests = record {
     started = λ r h. (rests r h).started;
-    empty = λ s d lane l h. same-front (got (histories es d) s lane) (held s d lane) [] (balanced s d lane ∙ sym ((rests d h).empty s lane l) ∙ sym (append-nil (got (histories es d) s lane)));
+    empty = λ s d lane l h. same-front (got (histories es d) s lane) (held s d lane) []
+        (balanced s d lane ∙ sym ((rests d h).empty s lane l) ∙ sym (append-nil (got (histories es d) s lane)));
     idle = λ r t h. (rests r h).idle t;
   }
 
@@ -212,14 +224,18 @@ module _ (k : System) where
       ))
 
 -- what steps reach is a moment
-pub reached_moment : CombineStarts → (p : Plan) (inputs : Inputs) (slots : ℕ → Slots) → SoundPlan p (length inputs) → AreInputsOf p inputs → CombineSwaps → (w : Histories) (held : Lanes) → IsReached (system_of p inputs slots) w held → IsMoment (system_of p inputs slots) w held
+pub reached_moment : CombineStarts → (p : Plan) (inputs : Inputs) (slots : ℕ → Slots) → SoundPlan p (length inputs) →
+    AreInputsOf p inputs → CombineSwaps → (w : Histories) (held : Lanes) → IsReached (system_of p inputs slots) w held →
+    IsMoment (system_of p inputs slots) w held
 reached_moment starts p inputs slots sound fit swaps w held Begun = first_moment p inputs slots
 reached_moment starts p inputs slots sound fit swaps next later (Stepped {w = w} {held = held} x step) =
     next_local starts p inputs sound fit swaps slots w held (reached_moment starts p inputs slots sound fit swaps w held x) next later step
 
 -- so orders that hold are those of a cut at rest
-pub holds_complete : CombineStarts → (p : Plan) (inputs : Inputs) (slots : ℕ → Slots) (lists : Lists) → SoundPlan p (length inputs) → AreInputsOf p inputs → CombineSwaps → IsVerdict (system_of p inputs slots) lists Holds
-    → (w : Histories) × IsCut (system_of p inputs slots) w × IsAtRest (system_of p inputs slots) w × ((r : ℕ) → r < p.ranks → map listed (w r) ≡ lists r)
+pub holds_complete : CombineStarts → (p : Plan) (inputs : Inputs) (slots : ℕ → Slots) (lists : Lists) → SoundPlan p (length inputs) →
+    AreInputsOf p inputs → CombineSwaps → IsVerdict (system_of p inputs slots) lists Holds
+    → (w : Histories) × IsCut (system_of p inputs slots) w × IsAtRest (system_of p inputs slots) w ×
+        ((r : ℕ) → r < p.ranks → map listed (w r) ≡ lists r)
 holds_complete starts p inputs slots lists sound fit swaps v =
     let x = holds_ends (system_of p inputs slots) lists v in
     let m = reached_moment starts p inputs slots sound fit swaps x.world x.held x.reached in

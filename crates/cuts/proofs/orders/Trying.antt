@@ -1,5 +1,6 @@
 -- Taking, computed: a rank is tried, and takes its next listed step where it is enabled.
-use Rattle.std.proofs.Common.{ℕ, Bool, true, false, cond, ◌≡◌, ◌<◌, ◌==◌, List, [], ◌∷◌, ◌++◌, Option, Some, None, refl, length, drop, ap, ◌∙◌, sym, subst, map, count_by, if◌then◌else◌, eqb-true, eq-eqb}
+use Rattle.std.proofs.Common.{ℕ, Bool, true, false, cond, ◌≡◌, ◌<◌, ◌==◌, List, [], ◌∷◌, ◌++◌, Option, Some, None, refl, length, drop, ap,
+    ◌∙◌, sym, subst, map, count_by, if◌then◌else◌, eqb-true, eq-eqb}
 use Rattle.std.proofs.lemmas.List.{length-map}
 use Rattle.std.proofs.Math.Seq.{drop-append_seam}
 use Rattle.ptl_types.specs.Messages.{Sent}
@@ -51,7 +52,8 @@ pub rest-behind : {A : Type 0} (xs rest ys : List A) → xs ++ rest ≡ ys → d
 rest-behind xs rest ys e = ap (drop (length xs)) (sym e) ∙ drop-append_seam xs rest
 
 -- an enabled step is the one that is named, and is enabled
-enabled_by : (k : System) (w : Histories) (r : ℕ) (e : LocalStep) (x : Local) → ((s : ℕ) (lane : Lane) → IsPrefixOf (got (w r) s lane) (sent_by k w s r lane))
+enabled_by : (k : System) (w : Histories) (r : ℕ) (e : LocalStep) (x : Local) →
+    ((s : ℕ) (lane : Lane) → IsPrefixOf (got (w r) s lane) (sent_by k w s r lane))
     → enabled_step k w r e ≡ Some x → (listed x ≡ e) × MayTake k w r x
 enabled_by k w r Starts x fair h = at (count_by is_start (w r) == 0) refl h
   where
@@ -63,14 +65,18 @@ enabled_by k w r (Fires t) x fair h = at (is_ready (state_at k w r) t) refl h
     at : (b : Bool) → is_ready (state_at k w r) t ≡ b → cond b (Some (Fire t)) None ≡ Some x → (listed x ≡ Fires t) × MayTake k w r x
     at true q h = let e : Fire t ≡ x = cc in subst (λ y. (listed y ≡ Fires t) × MayTake k w r y) e (refl, q)
     at false q h = cc
-enabled_by k w r (Receives s lane) x fair h = at (fair s lane).0 (fair s lane).1 (ap (first_receipt s lane) (sym (rest-behind (got (w r) s lane) (fair s lane).0 (sent_by k w s r lane) (fair s lane).1)) ∙ h)
+enabled_by k w r (Receives s lane) x fair h = at (fair s lane).0 (fair s lane).1
+    (ap (first_receipt s lane) (sym (rest-behind (got (w r) s lane) (fair s lane).0 (sent_by k w s r lane) (fair s lane).1)) ∙ h)
   where
-    at : (rest : List Sent) → got (w r) s lane ++ rest ≡ sent_by k w s r lane → first_receipt s lane rest ≡ Some x → (listed x ≡ Receives s lane) × MayTake k w r x
+    at : (rest : List Sent) → got (w r) s lane ++ rest ≡ sent_by k w s r lane → first_receipt s lane rest ≡ Some x →
+        (listed x ≡ Receives s lane) × MayTake k w r x
     at [] q h = cc
-    at (m ∷ later) q h = let e : Receive s lane m ≡ x = cc in subst (λ y. (listed y ≡ Receives s lane) × MayTake k w r y) e (refl, (later, q))
+    at (m ∷ later) q h = let e : Receive s lane m ≡ x = cc in subst (λ y. (listed y ≡ Receives s lane) × MayTake k w r y) e
+        (refl, (later, q))
 
 -- where none is enabled, the rank is stuck
-none_enabled : (k : System) (w : Histories) (r : ℕ) (e : LocalStep) (x : Local) → enabled_step k w r e ≡ None → listed x ≡ e → MayTake k w r x → ⊥
+none_enabled : (k : System) (w : Histories) (r : ℕ) (e : LocalStep) (x : Local) → enabled_step k w r e ≡ None → listed x ≡ e →
+    MayTake k w r x → ⊥
 none_enabled k w r e Start none named h =
     let z : Starts ≡ e = named in
     let q = ap (enabled_step k w r) z ∙ none in
@@ -91,17 +97,20 @@ module _ (k : System) (lists : Lists) where
     pub made : IsInterleaving k es
     pub listed : AreListed lists es
 
-  next_listed : (w : Histories) (r : ℕ) → IsFair k lists w → (e : LocalStep) (later : List LocalStep) → drop (length (w r)) (lists r) ≡ e ∷ later → IsNext lists w r e
+  next_listed : (w : Histories) (r : ℕ) → IsFair k lists w → (e : LocalStep) (later : List LocalStep) →
+      drop (length (w r)) (lists r) ≡ e ∷ later → IsNext lists w r e
   next_listed w r fair e later h =
       let p = fair.spelled r in
       let q = rest-behind (map listed (w r)) p.0 (lists r) p.1 in
       let n : drop (length (map listed (w r))) (lists r) ≡ e ∷ later = ap (λ n. drop n (lists r)) (length-map (w r) listed) ∙ h in
       (later, ap (λ v. map listed (w r) ++ v) (sym n ∙ q) ∙ p.1)
 
-  pub next_by : (w : Histories) (r : ℕ) (x : Local) → IsFair k lists w → next_step k lists w r ≡ Some x → IsNext lists w r (listed x) × MayTake k w r x
+  pub next_by : (w : Histories) (r : ℕ) (x : Local) → IsFair k lists w → next_step k lists w r ≡ Some x → IsNext lists w r (listed x) ×
+      MayTake k w r x
   next_by w r x fair h = at (drop (length (w r)) (lists r)) refl h
     where
-      at : (rest : List LocalStep) → drop (length (w r)) (lists r) ≡ rest → first_enabled k w r rest ≡ Some x → IsNext lists w r (listed x) × MayTake k w r x
+      at : (rest : List LocalStep) → drop (length (w r)) (lists r) ≡ rest → first_enabled k w r rest ≡ Some x →
+          IsNext lists w r (listed x) × MayTake k w r x
       at [] q h = cc
       at (e ∷ later) q h =
           let b = enabled_by k w r e x (λ s lane. fair.lanes s r lane) h in
@@ -131,7 +140,8 @@ module _ (k : System) (lists : Lists) where
   tried_all-under_way (r ∷ rs) es h so = tried_all-under_way rs (tried k lists r es) h.1 (tried-under_way r es h.0 so)
 
   -- what is tried until no rank has a step is what is taken
-  pub taken_by : (rs : List ℕ) → AllBelow rs → ((r : ℕ) → r < k.count → next_step k lists (histories (tried_all k lists rs [])) r ≡ None) → IsTaken k lists (tried_all k lists rs [])
+  pub taken_by : (rs : List ℕ) → AllBelow rs → ((r : ℕ) → r < k.count → next_step k lists (histories (tried_all k lists rs [])) r ≡ None)
+      → IsTaken k lists (tried_all k lists rs [])
   taken_by rs h none =
       let so = tried_all-under_way rs [] h (record { made = tt; listed = tt }) in
       record { made = so.made; listed = so.listed; stuck = λ r l. none_stuck (histories (tried_all k lists rs [])) r (none r l) }

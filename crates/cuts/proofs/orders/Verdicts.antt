@@ -1,5 +1,6 @@
 -- At most one verdict: of one taking one thing is said, and all takings are one.
-use Rattle.std.proofs.Common.{ℕ, ◌+◌, ◌≡◌, ◌<◌, List, ◌∷◌, ◌++◌, refl, length, ap, ◌∙◌, sym, subst, inl, inr, ◌⊎◌, map, arith, length-append}
+use Rattle.std.proofs.Common.{ℕ, ◌+◌, ◌≡◌, ◌<◌, List, ◌∷◌, ◌++◌, refl, length, ap, ◌∙◌, sym, subst, inl, inr, ◌⊎◌, map, arith,
+    length-append}
 use Rattle.std.proofs.lemmas.Bool.{cases_lt, cases_eq}
 use Rattle.cuts.specs.histories.System.{Histories, System}
 use Rattle.cuts.specs.orders.Taking.{IsTaken, Lists, Move, histories, listed}
@@ -76,7 +77,8 @@ module _ (k : System) (lists : Lists) (w : Histories) where
   ]
 
 -- all takings make the same histories
-pub same_histories : (k : System) (lists : Lists) (es fs : List Move) → IsTaken k lists es → IsTaken k lists fs → histories es ≡ histories fs
+pub same_histories : (k : System) (lists : Lists) (es fs : List Move) → IsTaken k lists es → IsTaken k lists fs →
+    histories es ≡ histories fs
 same_histories k lists es fs a b = λ i r. same_taken k lists es fs a b r i
 
 pub one_verdict : (k : System) (lists : Lists) (x y : Verdict) → IsVerdict k lists x → IsVerdict k lists y → x ≡ y

@@ -1,5 +1,6 @@
 -- How many messages a lane carries in a cut.
-use Rattle.std.proofs.Common.{ℕ, zero, suc, Bool, true, false, cond, not, ◌≡◌, ◌≤◌, ◌<◌, nat_lt, List, [], ◌∷◌, refl, length, ap, ◌∙◌, subst, arith, map, filter, lt-ltb, eq-eqb, eqb-true, zero-le}
+use Rattle.std.proofs.Common.{ℕ, zero, suc, Bool, true, false, cond, not, ◌≡◌, ◌≤◌, ◌<◌, nat_lt, List, [], ◌∷◌, refl, length, ap, ◌∙◌,
+    subst, arith, map, filter, lt-ltb, eq-eqb, eqb-true, zero-le}
 use Rattle.std.proofs.lemmas.Bool.{and_from}
 use Rattle.std.proofs.lemmas.List.{length-append}
 use Rattle.ptl_types.specs.Messages.{Sent}
@@ -24,9 +25,11 @@ use Rattle.cuts.proofs.histories.LaneRequests.{few_messages}
 use Rattle.cuts.proofs.histories.Traffic.{ack, came_from, number_in, own_received}
 use Rattle.cuts.proofs.rest.Due.{link_to}
 
-module _ (starts : CombineStarts) (p : Plan) (inputs : Inputs) (sound : SoundPlan p (length inputs)) (fit : AreInputsOf p inputs) (slots : ℕ → Slots) (w : Histories) (cut : IsCut (system_of p inputs slots) w) where
+module _ (starts : CombineStarts) (p : Plan) (inputs : Inputs) (sound : SoundPlan p (length inputs)) (fit : AreInputsOf p inputs)
+    (slots : ℕ → Slots) (w : Histories) (cut : IsCut (system_of p inputs slots) w) where
   -- no more of the job is received than was sent
-  pub got_few : (s d : ℕ) (lane : Lane) → s < p.ranks → d < p.ranks → length (got_by w d s lane) ≤ length (sent_by (system_of p inputs slots) w s d lane)
+  pub got_few : (s d : ℕ) (lane : Lane) → s < p.ranks → d < p.ranks →
+      length (got_by w d s lane) ≤ length (sent_by (system_of p inputs slots) w s d lane)
   got_few s d lane hs hd =
       let x = cut.lanes s d lane hs hd in
       let f = ap (λ (ms : List Sent). length ms) x.1 in
@@ -34,7 +37,8 @@ module _ (starts : CombineStarts) (p : Plan) (inputs : Inputs) (sound : SoundPla
       omega (arith, f, g)
 
   -- the requests from d that s received go along links from d to s
-  along : (s d : ℕ) → s < p.ranks → (n : ℕ) → In n (map number_in (filter (came_from d) (own_received Request (w s)))) → In n (lane_links p d s)
+  along : (s d : ℕ) → s < p.ranks → (n : ℕ) → In n (map number_in (filter (came_from d) (own_received Request (w s)))) →
+      In n (lane_links p d s)
   along s d hs n i =
       let q = In-map_cases number_in n (filter (came_from d) (own_received Request (w s))) i in
       let f = In-filter_cases (came_from d) q.0 (own_received Request (w s)) q.1 in
@@ -45,18 +49,22 @@ module _ (starts : CombineStarts) (p : Plan) (inputs : Inputs) (sound : SoundPla
       (and_from _ _ (ap not k.kind) (and_from _ _ (eq-eqb _ _ (k.source ∙ eqb-true _ _ f.1)) (eq-eqb _ _ k.target))))
 
   -- on a lane no more is sent than the plan has messages there
-  pub lane_few : (s d : ℕ) (lane : Lane) → s < p.ranks → d < p.ranks → length (sent_by (system_of p inputs slots) w s d lane) ≤ lane_messages p s d lane
-  lane_few s d Request hs hd = few_messages p (slots s) s (start_of p (slots s) s) (w s) false (prepare p inputs (slots s) s) (prepared_of p inputs sound (slots s) s) (cut.legal s hs) d
+  pub lane_few : (s d : ℕ) (lane : Lane) → s < p.ranks → d < p.ranks → length (sent_by (system_of p inputs slots) w s d lane)
+      ≤ lane_messages p s d lane
+  lane_few s d Request hs hd = few_messages p (slots s) s (start_of p (slots s) s) (w s) false (prepare p inputs (slots s) s)
+      (prepared_of p inputs sound (slots s) s) (cut.legal s hs) d
   lane_few s d Answer hs hd = at p.remote refl
     where
       at : (b : Bool) → p.remote ≡ b → length (sent_by (system_of p inputs slots) w s d Answer) ≤ cond b (length (lane_links p d s)) 0
-      at false rem = let e = ap (λ (ms : List Sent). length ms) (answers_loc starts p inputs sound fit slots w cut rem s d hs) in omega (arith, e)
+      at false rem = let e = ap (λ (ms : List Sent). length ms) (answers_loc starts p inputs sound fit slots w cut rem s d hs) in
+          omega (arith, e)
       at true rem =
           let a = ap (λ (ms : List Sent). length ms) (answers_rem starts p inputs sound fit slots w cut rem s d hs) in
           let b = length-map' ack (filter (came_from d) (own_received Request (w s))) in
           let c = length-map' number_in (filter (came_from d) (own_received Request (w s))) in
           let z = length-Within (map number_in (filter (came_from d) (own_received Request (w s)))) (lane_links p d s)
-          (Distinct-map_filter number_in (came_from d) (own_received Request (w s)) (received_once starts p inputs sound fit slots w cut s hs)) (along s d hs) in
+          (Distinct-map_filter number_in (came_from d) (own_received Request (w s))
+              (received_once starts p inputs sound fit slots w cut s hs)) (along s d hs) in
           omega (arith, a, b, c, z)
 
   unused : (n : ℕ) → nat_lt 0 n ≡ false → n ≡ 0
@@ -71,7 +79,8 @@ module _ (starts : CombineStarts) (p : Plan) (inputs : Inputs) (sound : SoundPla
   none (x ∷ xs) n h e = absurd (omega arith)
 
   -- nothing is sent on an unused lane, and nothing of the job comes there
-  pub unused_sent : (s d : ℕ) (lane : Lane) → s < p.ranks → d < p.ranks → is_used_lane p s d lane ≡ false → sent_by (system_of p inputs slots) w s d lane ≡ []
+  pub unused_sent : (s d : ℕ) (lane : Lane) → s < p.ranks → d < p.ranks → is_used_lane p s d lane ≡ false →
+      sent_by (system_of p inputs slots) w s d lane ≡ []
   unused_sent s d lane hs hd e = none _ (lane_messages p s d lane) (lane_few s d lane hs hd) (unused (lane_messages p s d lane) e)
 
   pub unused_got : (s d : ℕ) (lane : Lane) → s < p.ranks → d < p.ranks → is_used_lane p s d lane ≡ false → got_by w d s lane ≡ []

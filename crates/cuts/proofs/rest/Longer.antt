@@ -1,5 +1,6 @@
 -- Histories that are longer by one step, and what a step's message tells.
-use Rattle.std.proofs.Common.{ℕ, Bool, true, false, cond, ◌&&◌, ◌||◌, ◌≡◌, List, [], ◌∷◌, ◌++◌, refl, ap, ap₂, sym, Option, Some, None, if◌then◌else◌, arith, count_by, eq-eqb}
+use Rattle.std.proofs.Common.{ℕ, Bool, true, false, cond, ◌&&◌, ◌||◌, ◌≡◌, List, [], ◌∷◌, ◌++◌, refl, ap, ap₂, sym, Option, Some, None,
+    if◌then◌else◌, arith, count_by, eq-eqb}
 use Rattle.std.proofs.lemmas.Bool.{ne_eqb}
 use Rattle.ptl_types.specs.declared.headers.Header.{Header}
 use Rattle.ptl_types.specs.Messages.{Sent, bytes_due}
@@ -16,7 +17,8 @@ use Rattle.plan_core.proofs.Lists.{count-cons}
 use Rattle.cuts.proofs.histories.Origin.{ack_with}
 use Rattle.cuts.proofs.histories.Fronts.{flag}
 
-pub legal_longer : (go : Beginning) (b : Bool) (s : State) (h : List Local) (e : Local) → Legal go b s h → May (flag b h) (state go s h) e → Legal go b s (h ++ e ∷ [])
+pub legal_longer : (go : Beginning) (b : Bool) (s : State) (h : List Local) (e : Local) → Legal go b s h →
+    May (flag b h) (state go s h) e → Legal go b s (h ++ e ∷ [])
 legal_longer go b s [] e l m = (m, tt)
 legal_longer go b s (x ∷ h) e l m = (l.0, legal_longer go (b || is_start x) (after go s x) h e l.1 m)
 
@@ -33,7 +35,8 @@ answer_source ok n bs h m e = at (is_put_or_atomic h.kind) (is_no_ack h.ack) e
     one : {a b : Sent} → Some a ≡ Some b → a ≡ b
     one e = cc
 
-    at : (a b : Bool) → (if a then (if b then None else Some (record { header = ack_with h.ack ok n h; bytes = [] })) else Some (record { header = reply_header ok n h; bytes = if ok then bs else [] })) ≡ Some m → m.header.source ≡ h.target
+    at : (a b : Bool) → (if a then (if b then None else Some (record { header = ack_with h.ack ok n h; bytes = [] })) else Some
+        (record { header = reply_header ok n h; bytes = if ok then bs else [] })) ≡ Some m → m.header.source ≡ h.target
     at true true e = cc
     at true false e = sym (ap (λ (x : Sent). x.header.source) (one e))
     at false b e = sym (ap (λ (x : Sent). x.header.source) (one e))

@@ -1,5 +1,6 @@
 -- The region of a rank depends on that rank's inputs alone.
-use Rattle.std.proofs.Common.{ℕ, Bool, true, false, cond, ◌≡◌, ◌+◌, ◌-◌, ◌*◌, ◌/◌, ◌%◌, ◌&&◌, nat_le, nat_lt, List, [], ◌∷◌, ◌++◌, length, get_or, ap, ap₂, ◌∙◌, sym, inl, inr, arith, flat_map, refl}
+use Rattle.std.proofs.Common.{ℕ, Bool, true, false, cond, ◌≡◌, ◌+◌, ◌-◌, ◌*◌, ◌/◌, ◌%◌, ◌&&◌, nat_le, nat_lt, List, [], ◌∷◌, ◌++◌, length,
+    get_or, ap, ap₂, ◌∙◌, sym, inl, inr, arith, flat_map, refl}
 use Rattle.std.proofs.lemmas.Bool.{and_parts, leb-true, ltb-true}
 use Rattle.plan_core.specs.Members.{In}
 use Rattle.plan_core.specs.Plan.{Plan, cell, own}
@@ -8,18 +9,22 @@ use Rattle.plan_core.specs.Values.{Inputs, blank, initial, input_bytes, is_input
 use Rattle.plan_core.proofs.Links.{own-In}
 use Rattle.plan_calls.specs.Areas.{blank_areas, initial_region}
 
-module _ (p : Plan) (inputs others : Inputs) (r : ℕ) (sound : SoundPlan p (length inputs)) (size : length others ≡ length inputs) (same : (b : ℕ) → get_or (get_or others b []) r [] ≡ get_or (get_or inputs b []) r []) where
+module _ (p : Plan) (inputs others : Inputs) (r : ℕ) (sound : SoundPlan p (length inputs)) (size : length others ≡ length inputs)
+    (same : (b : ℕ) → get_or (get_or others b []) r [] ≡ get_or (get_or inputs b []) r []) where
   at_input : (i : ℕ) → i % p.ranks ≡ r → input_bytes p others i ≡ input_bytes p inputs i
   at_input i e =
-      ap (λ q. get_or (get_or others (i / p.ranks) []) q []) e ∙ same (i / p.ranks) ∙ ap (λ q. get_or (get_or inputs (i / p.ranks) []) q []) (sym e)
+      ap (λ q. get_or (get_or others (i / p.ranks) []) q []) e ∙ same (i / p.ranks)
+          ∙ ap (λ q. get_or (get_or inputs (i / p.ranks) []) q []) (sym e)
 
   initial-same : (c : ℕ) → In c (own p r) → initial p others c ≡ initial p inputs c
   initial-same c i =
       ap (λ n. cond (nat_le p.ranks c && nat_lt c (p.ranks + n * p.ranks)) (input_bytes p others (c - p.ranks)) (blank (cell p c))) size
       ∙ at (is_input p inputs c) refl
     where
-      at : (b : Bool) → is_input p inputs c ≡ b → cond (is_input p inputs c) (input_bytes p others (c - p.ranks)) (blank (cell p c)) ≡ cond (is_input p inputs c) (input_bytes p inputs (c - p.ranks)) (blank (cell p c))
-      at false e = ap (λ b. cond b (input_bytes p others (c - p.ranks)) (blank (cell p c))) e ∙ sym (ap (λ b. cond b (input_bytes p inputs (c - p.ranks)) (blank (cell p c))) e)
+      at : (b : Bool) → is_input p inputs c ≡ b → cond (is_input p inputs c) (input_bytes p others (c - p.ranks)) (blank (cell p c))
+          ≡ cond (is_input p inputs c) (input_bytes p inputs (c - p.ranks)) (blank (cell p c))
+      at false e = ap (λ b. cond b (input_bytes p others (c - p.ranks)) (blank (cell p c))) e
+          ∙ sym (ap (λ b. cond b (input_bytes p inputs (c - p.ranks)) (blank (cell p c))) e)
       at true e =
           let q = and_parts (nat_le p.ranks c) (nat_lt c (p.ranks + length inputs * p.ranks)) e in
           let low = leb-true p.ranks c q.0 in

@@ -1,5 +1,6 @@
 -- How much a lane holds, and how histories go on.
-use Rattle.std.proofs.Common.{ℕ, true, false, not, ◌<◌, ◌≤◌, ◌==◌, ◌∙◌, List, [], ◌∷◌, ◌++◌, Bool, refl, ap, sym, arith, length, length-append, append-nil, if◌then◌else◌}
+use Rattle.std.proofs.Common.{ℕ, true, false, not, ◌<◌, ◌≤◌, ◌==◌, ◌∙◌, List, [], ◌∷◌, ◌++◌, Bool, refl, ap, sym, arith, length,
+    length-append, append-nil, if◌then◌else◌}
 use Rattle.std.proofs.lemmas.List.Elements.{filter-append}
 use Rattle.ptl_types.specs.Messages.{Sent}
 use Rattle.ptl_types.specs.declared.headers.Lane.{Lane}
@@ -14,9 +15,11 @@ use Rattle.cuts.specs.declared.orders.Step.{Step}
 use Rattle.cuts.specs.declared.orders.Step.TheVariants.{Start, Deliver, Fire}
 
 -- what is held without strays was sent
-pub held_few : (k : System) (z : Scene) (s d : ℕ) (lane : Lane) (most : ℕ) → IsMoment k z.world z.held → s < k.count → d < k.count → length (sent_by k z.world s d lane) ≤ most → length (owned (z.held s d lane)) ≤ most
+pub held_few : (k : System) (z : Scene) (s d : ℕ) (lane : Lane) (most : ℕ) → IsMoment k z.world z.held → s < k.count → d < k.count →
+    length (sent_by k z.world s d lane) ≤ most → length (owned (z.held s d lane)) ≤ most
 held_few k z s d lane most moment hs hd at_most =
-    let a = ap length (sym (filter-append (λ (m : Sent). not (is_stray m)) (got (z.world d) s lane) (z.held s d lane)) ∙ moment.lanes s d lane hs hd) in
+    let a = ap length (sym (filter-append (λ (m : Sent). not (is_stray m)) (got (z.world d) s lane) (z.held s d lane))
+          ∙ moment.lanes s d lane hs hd) in
     let b = length-append (owned (got (z.world d) s lane)) (owned (z.held s d lane)) in
     omega (arith, a, b, at_most)
 
@@ -28,7 +31,8 @@ grows r e w q = at (r == q)
     at true = (e ∷ [], refl)
     at false = ([], append-nil (w q))
 
-delivery_grows : (k : System) (s d : ℕ) (lane : Lane) (ms : List Sent) (z : Scene) (q : ℕ) → IsPrefixOf (z.world q) ((delivered k s d lane ms z).world q)
+delivery_grows : (k : System) (s d : ℕ) (lane : Lane) (ms : List Sent) (z : Scene) (q : ℕ) →
+    IsPrefixOf (z.world q) ((delivered k s d lane ms z).world q)
 delivery_grows k s d lane [] z q = ([], append-nil (z.world q))
 delivery_grows k s d lane (m ∷ later) z q = grows d (Received s lane m) z.world q
 

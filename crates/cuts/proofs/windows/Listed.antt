@@ -1,5 +1,6 @@
 -- Each step that a rank may make is listed, among the enabled ones and under a window.
-use Rattle.std.proofs.Common.{eqb-true, ℕ, Bool, true, ◌≡◌, ◌<◌, nat_lt, List, [], ◌∷◌, ◌++◌, Option, Some, None, refl, length, map, filter, flat_map, if◌then◌else◌, ap₂, sym, subst, inl, arith, lt-ltb, zero-le}
+use Rattle.std.proofs.Common.{eqb-true, ℕ, Bool, true, ◌≡◌, ◌<◌, nat_lt, List, [], ◌∷◌, ◌++◌, Option, Some, None, refl, length, map, filter,
+    flat_map, if◌then◌else◌, ap₂, sym, subst, inl, arith, lt-ltb, zero-le}
 use Rattle.ptl_types.specs.Messages.{Sent}
 use Rattle.ptl_types.specs.declared.headers.Lane.{Lane}
 use Rattle.ptl_types.specs.declared.headers.Lane.TheVariants.{Request, Answer}
@@ -34,7 +35,9 @@ ready_listed s t e = at (posted_at t s.pending) refl e
     at (Some x) q f =
         let g = find-In (is_number t) s.pending.waiting x q in
         let n : x.number ≡ t = eqb-true _ _ g.1 in
-        In-filter (is_ready s) t (map (λ (p : Posted). p.number) s.pending.waiting) (subst (λ v. In v (map (λ (p : Posted). p.number) s.pending.waiting)) n (In-map (λ (p : Posted). p.number) x s.pending.waiting g.0)) e
+        In-filter (is_ready s) t (map (λ (p : Posted). p.number) s.pending.waiting)
+            (subst (λ v. In v (map (λ (p : Posted). p.number) s.pending.waiting)) n
+            (In-map (λ (p : Posted). p.number) x s.pending.waiting g.0)) e
 
 module _ (k : System) (z : Scene) where
   abbrev starts : List Step
@@ -46,9 +49,12 @@ module _ (k : System) (z : Scene) where
   abbrev firings : List Step
   firings = flat_map (firings_at k z) (from_to 0 k.count)
 
-  on_lane : (s d : ℕ) (lane : Lane) → In (Deliver s d lane) (first_of s d lane (z.held s d lane)) → In (Deliver s d lane) (deliveries_between z s d)
-  on_lane s d Request i = In-append_left (Deliver s d Request) (first_of s d Request (z.held s d Request)) (first_of s d Answer (z.held s d Answer)) i
-  on_lane s d Answer i = In-append_right (Deliver s d Answer) (first_of s d Request (z.held s d Request)) (first_of s d Answer (z.held s d Answer)) i
+  on_lane : (s d : ℕ) (lane : Lane) → In (Deliver s d lane) (first_of s d lane (z.held s d lane)) →
+      In (Deliver s d lane) (deliveries_between z s d)
+  on_lane s d Request i = In-append_left (Deliver s d Request) (first_of s d Request (z.held s d Request))
+      (first_of s d Answer (z.held s d Answer)) i
+  on_lane s d Answer i = In-append_right (Deliver s d Answer) (first_of s d Request (z.held s d Request))
+      (first_of s d Answer (z.held s d Answer)) i
 
   pub enabled_listed : (r : ℕ) (e : Local) → r < k.count → IsEnabled k z.world z.held r e → In (named r e) (enabled_steps k z)
   enabled_listed r Started h e =
@@ -61,7 +67,8 @@ module _ (k : System) (z : Scene) where
       (on_lane s r lane (subst (λ ms. In (Deliver s r lane) (first_of s r lane ms)) (sym e.1.1) (inl refl))))))
   enabled_listed r (Fired t) h e =
       In-append_right (Fire r t) starts (deliveries ++ firings) (In-append_right (Fire r t) deliveries firings
-      (In-flat (firings_at k z) (from_to 0 k.count) r (Fire r t) (above k.count r h) (In-map (Fire r) t (ready_numbers (state_at k z.world r)) (ready_listed (state_at k z.world r) t e))))
+      (In-flat (firings_at k z) (from_to 0 k.count) r (Fire r t) (above k.count r h)
+          (In-map (Fire r) t (ready_numbers (state_at k z.world r)) (ready_listed (state_at k z.world r) t e))))
 
   -- ---- under a window
   fits : (window r : ℕ) (o : Option Sent) → HasWindow z.held window r o → finds_room window z r o ≡ true
@@ -74,8 +81,10 @@ module _ (k : System) (z : Scene) where
   is_named window r (Received s Answer m) h = refl
   is_named window r (Received s Request m) h = lt-ltb _ _ h
 
-  pub possible_listed : (window r : ℕ) (e : Local) → r < k.count → IsEnabled k z.world z.held r e → IsPossible k z.world z.held window r e → In (named r e) (possible_steps k window z)
-  possible_listed window r e h on may = In-filter (is_possible k window z) (named r e) (enabled_steps k z) (enabled_listed r e h on) (is_named window r e may)
+  pub possible_listed : (window r : ℕ) (e : Local) → r < k.count → IsEnabled k z.world z.held r e →
+      IsPossible k z.world z.held window r e → In (named r e) (possible_steps k window z)
+  possible_listed window r e h on may = In-filter (is_possible k window z) (named r e) (enabled_steps k z) (enabled_listed r e h on)
+      (is_named window r e may)
 
   -- ---- under a wide one all of them
   filter-all : (p : Step → Bool) (xs : List Step) → ((x : Step) → p x ≡ true) → filter p xs ≡ xs

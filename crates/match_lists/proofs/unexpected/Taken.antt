@@ -8,7 +8,8 @@ module _ {A : Type 0} where
   one [] zs ws some = absurd (omega (arith, some))
   one (y ∷ ys) zs ws some = refl
 
-  pub rotated : (xs s : List A) (at : ℕ) → at < length xs → s ≡ drop (length (take (at + 1) xs) - 1) (take (at + 1) xs) ++ take (length (take (at + 1) xs) - 1) (take (at + 1) xs) → drop 1 (s ++ drop (at + 1) xs) ≡ remove xs at
+  pub rotated : (xs s : List A) (at : ℕ) → at < length xs → s ≡ drop (length (take (at + 1) xs) - 1) (take (at + 1) xs) ++ take
+      (length (take (at + 1) xs) - 1) (take (at + 1) xs) → drop 1 (s ++ drop (at + 1) xs) ≡ remove xs at
   rotated xs s at within is =
       let n : length (take (at + 1) xs) ≡ at + 1 = length-take-le (at + 1) xs (omega (arith, within)) in
       let m : length (take (at + 1) xs) - 1 ≡ at = omega (arith, n) in
@@ -19,7 +20,9 @@ module _ {A : Type 0} where
       rw (s-is, next) (one (drop at xs) (take at xs) (drop (suc at) xs) (omega (arith, within, length-drop at xs)))
 
   -- after the first `gone`
-  pub mid : (xs s : List A) (gone at n : ℕ) → gone + at < length xs → n ≡ at + 1 → s ≡ drop (length (take n (drop gone xs)) - 1) (take n (drop gone xs)) ++ take (length (take n (drop gone xs)) - 1) (take n (drop gone xs)) → drop (gone + 1) (take gone xs ++ (s ++ drop n (drop gone xs))) ≡ remove (drop gone xs) at
+  pub mid : (xs s : List A) (gone at n : ℕ) → gone + at < length xs → n ≡ at + 1 →
+      s ≡ drop (length (take n (drop gone xs)) - 1) (take n (drop gone xs)) ++ take (length (take n (drop gone xs)) - 1)
+      (take n (drop gone xs)) → drop (gone + 1) (take gone xs ++ (s ++ drop n (drop gone xs))) ≡ remove (drop gone xs) at
   mid xs s gone at n within next is =
       let whole : List A = take gone xs ++ (s ++ drop n (drop gone xs)) in
       let front : length (take gone xs) ≡ gone = length-take-le gone xs (omega (arith, within)) in

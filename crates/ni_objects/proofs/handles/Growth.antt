@@ -1,5 +1,6 @@
 -- The list of live things as a thing is put in or taken out, and how long it is.
-use Rattle.std.proofs.Common.{◌≡◌, ℕ, zero, suc, ◌+◌, ◌<◌, true, false, List, [], ◌∷◌, ◌++◌, Option, Some, None, is_some, count_by, length, get_or, cond, if◌then◌else◌, nat_lt, refl, arith, sym, ◌∙◌}
+use Rattle.std.proofs.Common.{◌≡◌, ℕ, zero, suc, ◌+◌, ◌<◌, true, false, List, [], ◌∷◌, ◌++◌, Option, Some, None, is_some, count_by, length,
+    get_or, cond, if◌then◌else◌, nat_lt, refl, arith, sym, ◌∙◌}
 use Rattle.std.proofs.lemmas.List.Sums.{sum_by-cons}
 use Rattle.std.proofs.lemmas.Bool.Decides.{nat_tests}
 use Rattle.slab.specs.Slab.{Slab, get, slab_len, Updates}
@@ -20,7 +21,8 @@ module _ {A : Type 0} where
   pub length-live_from : (k : ℕ) (xs : List (Option (Stamped A))) → length (live_from k xs) ≡ count_by is_some xs
   length-live_from k [] = refl
   length-live_from k (None ∷ xs) = length-live_from (k + 1) xs
-  length-live_from k (Some x ∷ xs) = omega (arith, length-live_from (k + 1) xs, sum_by-cons (λ (o : Option (Stamped A)). cond (is_some o) 1 0) (Some x) xs)
+  length-live_from k (Some x ∷ xs) = omega (arith, length-live_from (k + 1) xs,
+      sum_by-cons (λ (o : Option (Stamped A)). cond (is_some o) 1 0) (Some x) xs)
 
   pub length-table_of : (s : Slab (Stamped A)) (n m : ℕ) (t : Table A) → table_of s n m ≡ t → length t.live ≡ slab_len s
   length-table_of s n m t is = rw (← is) (length-by_stamp (live_from 0 s.slots) ∙ length-live_from 0 s.slots)
@@ -29,7 +31,8 @@ module _ {A : Type 0} where
   abbrev pub IsOlder : ℕ → Live A → Type 0
   IsOlder n x = x.handle.stamp < n
 
-  pub put_in-append : (x z : Live A) (ys : List (Live A)) → x.handle.stamp < z.handle.stamp → put_in x (ys ++ z ∷ []) ≡ put_in x ys ++ z ∷ []
+  pub put_in-append : (x z : Live A) (ys : List (Live A)) → x.handle.stamp < z.handle.stamp →
+      put_in x (ys ++ z ∷ []) ≡ put_in x ys ++ z ∷ []
   put_in-append x z [] lt = grind (arith, nat_tests)
   put_in-append x z (y ∷ ys) lt = grind (arith, put_in-append x z ys lt)
 
@@ -44,7 +47,8 @@ module _ {A : Type 0} where
   live_from-none k (None ∷ xs) none = live_from-none (k + 1) xs (λ e. none (suc e))
   live_from-none k (Some x ∷ xs) none = let e : Some x ≡ None = none 0 in cc
 
-  pub live_from-same : (k : ℕ) (xs ys : List (Option (Stamped A))) → ((e : ℕ) → get_or ys e None ≡ get_or xs e None) → live_from k ys ≡ live_from k xs
+  pub live_from-same : (k : ℕ) (xs ys : List (Option (Stamped A))) → ((e : ℕ) → get_or ys e None ≡ get_or xs e None) →
+      live_from k ys ≡ live_from k xs
   live_from-same k [] ys same = live_from-none k ys same
   live_from-same k (x ∷ xs) [] same = sym (live_from-none k (x ∷ xs) (λ e. sym (same e)))
   live_from-same k (None ∷ xs) (None ∷ ys) same = live_from-same (k + 1) xs ys (λ e. same (suc e))
@@ -86,10 +90,12 @@ module _ {A : Type 0} where
   abbrev pub live_at : ℕ → Stamped A → Live A
   live_at k w = record { handle = record { slot = k; stamp = w.stamp }; value = w.value }
 
-  pub Puts-tail : (d : ℕ) (w : Stamped A) (x y : Option (Stamped A)) (xs ys : List (Option (Stamped A))) → Puts (suc d) w (x ∷ xs) (y ∷ ys) → Puts d w xs ys
+  pub Puts-tail : (d : ℕ) (w : Stamped A) (x y : Option (Stamped A)) (xs ys : List (Option (Stamped A))) →
+      Puts (suc d) w (x ∷ xs) (y ∷ ys) → Puts d w xs ys
   Puts-tail d w x y xs ys p = record { before = p.before; after = p.after; others = λ e ne. p.others (suc e) (λ same. ne (omega arith)) }
 
-  pub live_from-put : (k d : ℕ) (w : Stamped A) (xs ys : List (Option (Stamped A))) → StampsBelow w.stamp xs → Puts d w xs ys → by_stamp (live_from k ys) ≡ by_stamp (live_from k xs) ++ live_at (k + d) w ∷ []
+  pub live_from-put : (k d : ℕ) (w : Stamped A) (xs ys : List (Option (Stamped A))) → StampsBelow w.stamp xs → Puts d w xs ys →
+      by_stamp (live_from k ys) ≡ by_stamp (live_from k xs) ++ live_at (k + d) w ∷ []
   live_from-put k d w xs [] below p = let e : None ≡ Some w = p.after in cc
   live_from-put k zero w [] (y ∷ ys) below p =
       let e : y ≡ Some w = p.after in
@@ -99,11 +105,14 @@ module _ {A : Type 0} where
   live_from-put k zero w (Some x ∷ xs) (y ∷ ys) below p = let e : Some x ≡ None = p.before in cc
   live_from-put k zero w (None ∷ xs) (y ∷ ys) below p =
       let e : y ≡ Some w = p.after in
-      let r : live_from (k + 1) ys ≡ live_from (k + 1) xs = live_from-same (k + 1) xs ys (λ e. p.others (suc e) (λ same. omega (arith, same))) in
+      let r : live_from (k + 1) ys ≡ live_from (k + 1) xs = live_from-same (k + 1) xs ys
+            (λ e. p.others (suc e) (λ same. omega (arith, same))) in
       let z : live_at (k + 0) w ≡ live_at k w = grind arith in
-      rw (e, r, z) (put_in-last (live_at k w) (by_stamp (live_from (k + 1) xs)) (AllOlder-by_stamp w.stamp _ (AllOlder-live_from w.stamp (k + 1) xs (λ e. below (suc e)))))
+      rw (e, r, z) (put_in-last (live_at k w) (by_stamp (live_from (k + 1) xs))
+          (AllOlder-by_stamp w.stamp _ (AllOlder-live_from w.stamp (k + 1) xs (λ e. below (suc e)))))
   live_from-put k (suc d) w [] (None ∷ ys) below p =
-      let r = live_from-put (k + 1) d w [] ys (λ e x is. below (suc e) x is) (record { before = refl; after = p.after; others = λ e ne. p.others (suc e) (λ same. ne (omega arith)) }) in
+      let r = live_from-put (k + 1) d w [] ys (λ e x is. below (suc e) x is)
+            (record { before = refl; after = p.after; others = λ e ne. p.others (suc e) (λ same. ne (omega arith)) }) in
       let z : (k + 1) + d ≡ k + suc d = omega arith in
       rw (← z) r
   live_from-put k (suc d) w [] (Some y ∷ ys) below p = let e : Some y ≡ None = p.others 0 (λ same. omega (arith, same)) in cc
@@ -121,8 +130,10 @@ module _ {A : Type 0} where
       rw (g, r, z) (put_in-append (live_at k x) (live_at (k + suc d) w) (by_stamp (live_from (k + 1) xs)) lt)
 
   -- ---- for the answers
-  pub table-put : (d : ℕ) (w : Stamped A) (s r : Slab (Stamped A)) (m : ℕ) (t : Table A) → table_of s w.stamp m ≡ t → StampsBelow w.stamp s.slots → get s d ≡ None → Updates s r d (Some w) → table_of r (w.stamp + 1) m ≡ with_new d w.value t
+  pub table-put : (d : ℕ) (w : Stamped A) (s r : Slab (Stamped A)) (m : ℕ) (t : Table A) → table_of s w.stamp m ≡ t →
+      StampsBelow w.stamp s.slots → get s d ≡ None → Updates s r d (Some w) → table_of r (w.stamp + 1) m ≡ with_new d w.value t
   table-put d w s r m t is below vacant u =
-      let e : by_stamp (live_from 0 r.slots) ≡ by_stamp (live_from 0 s.slots) ++ live_at (0 + d) w ∷ [] = live_from-put 0 d w s.slots r.slots below (record { before = vacant; after = u.changed; others = u.others }) in
+      let e : by_stamp (live_from 0 r.slots) ≡ by_stamp (live_from 0 s.slots) ++ live_at (0 + d) w ∷ [] =
+            live_from-put 0 d w s.slots r.slots below (record { before = vacant; after = u.changed; others = u.others }) in
       let z : 0 + d ≡ d = omega arith in
       rw (← is, e, z) refl

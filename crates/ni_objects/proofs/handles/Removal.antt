@@ -1,5 +1,6 @@
 -- The list of live things as one is taken out.
-use Rattle.std.proofs.Common.{◌≡◌, ℕ, zero, suc, ◌+◌, ◌<◌, ◌≤◌, Bool, true, false, not, List, [], ◌∷◌, Option, Some, None, filter, get_or, set, if◌then◌else◌, nat_lt, refl, arith}
+use Rattle.std.proofs.Common.{◌≡◌, ℕ, zero, suc, ◌+◌, ◌<◌, ◌≤◌, Bool, true, false, not, List, [], ◌∷◌, Option, Some, None, filter, get_or,
+    set, if◌then◌else◌, nat_lt, refl, arith}
 use Rattle.std.proofs.lemmas.Bool.Decides.{nat_tests}
 use Rattle.slab.specs.Slab.{Slab, get}
 use Rattle.ni_objects.specs.declared.handles.Stamped.{Stamped}
@@ -41,7 +42,8 @@ module _ {A : Type 0} where
   pub Rising-put_in : (x : Live A) (xs : List (Live A)) → Rising xs → Rising (put_in x xs)
   Rising-put_in x [] r = (tt, tt)
   Rising-put_in x (y ∷ ys) r =
-      elim (nat_lt y.handle.stamp x.handle.stamp) as (λ b. nat_lt y.handle.stamp x.handle.stamp ≡ b → Rising (if b then y ∷ put_in x ys else x ∷ y ∷ ys)) [
+      elim (nat_lt y.handle.stamp x.handle.stamp) as (λ b. nat_lt y.handle.stamp x.handle.stamp ≡ b →
+          Rising (if b then y ∷ put_in x ys else x ∷ y ∷ ys)) [
         | true ↦ λ e. (NoneOlder-put_in y.handle.stamp x ys (is_below _ _ e) r.0, Rising-put_in x ys r.1)
         | false ↦ λ e. ((is_above _ _ e, NoneOlder-weaker x.handle.stamp y.handle.stamp ys (is_above _ _ e) r.0), r)
       ] refl
@@ -62,12 +64,17 @@ module _ {A : Type 0} where
   put_in-first x [] all = refl
   put_in-first x (y ∷ ys) all = grind (arith, nat_tests, all.0)
 
-  pub filter-put_in : (p : Live A → Bool) (x : Live A) (xs : List (Live A)) → Rising xs → filter p (put_in x xs) ≡ (if p x then put_in x (filter p xs) else filter p xs)
+  pub filter-put_in : (p : Live A → Bool) (x : Live A) (xs : List (Live A)) → Rising xs →
+      filter p (put_in x xs) ≡ (if p x then put_in x (filter p xs) else filter p xs)
   filter-put_in p x [] r = refl
   filter-put_in p x (y ∷ ys) r =
-      elim (nat_lt y.handle.stamp x.handle.stamp) as (λ b. nat_lt y.handle.stamp x.handle.stamp ≡ b → filter p (if b then y ∷ put_in x ys else x ∷ y ∷ ys) ≡ (if p x then put_in x (filter p (y ∷ ys)) else filter p (y ∷ ys))) [
+      elim (nat_lt y.handle.stamp x.handle.stamp) as (λ b. nat_lt y.handle.stamp x.handle.stamp ≡ b →
+          filter p (if b then y ∷ put_in x ys else x ∷ y ∷ ys) ≡ (if p x then put_in x (filter p (y ∷ ys)) else filter p (y ∷ ys))) [
         | true ↦ λ e. grind (arith, filter-put_in p x ys r.1, e)
-        | false ↦ λ e. let f : put_in x (filter p (y ∷ ys)) ≡ x ∷ filter p (y ∷ ys) = put_in-first x (filter p (y ∷ ys)) (NoneOlder-filter x.handle.stamp p (y ∷ ys) (is_above _ _ e, NoneOlder-weaker x.handle.stamp y.handle.stamp ys (is_above _ _ e) r.0)) in rw f refl
+        | false ↦ λ e. let f : put_in x (filter p (y ∷ ys)) ≡ x ∷ filter p (y ∷ ys) =
+                             put_in-first x (filter p (y ∷ ys))
+                             (NoneOlder-filter x.handle.stamp p (y ∷ ys)
+                             (is_above _ _ e, NoneOlder-weaker x.handle.stamp y.handle.stamp ys (is_above _ _ e) r.0)) in rw f refl
       ] refl
 
   pub filter-by_stamp : (p : Live A → Bool) (xs : List (Live A)) → filter p (by_stamp xs) ≡ by_stamp (filter p xs)
@@ -79,7 +86,8 @@ module _ {A : Type 0} where
   filter-past h k (None ∷ xs) lt = filter-past h (k + 1) xs (omega arith)
   filter-past h k (Some x ∷ xs) lt = grind (arith, nat_tests, filter-past h (k + 1) xs (omega arith))
 
-  pub live_from-drop : (h : Handle) (k d : ℕ) (xs : List (Option (Stamped A))) (v : A) → h.slot ≡ k + d → get_or xs d None ≡ Some (record { stamp = h.stamp; value = v }) → live_from k (set xs d None) ≡ filter (keep h) (live_from k xs)
+  pub live_from-drop : (h : Handle) (k d : ℕ) (xs : List (Option (Stamped A))) (v : A) → h.slot ≡ k + d →
+      get_or xs d None ≡ Some (record { stamp = h.stamp; value = v }) → live_from k (set xs d None) ≡ filter (keep h) (live_from k xs)
   live_from-drop h k d [] v e is = cc
   live_from-drop h k zero (None ∷ xs) v e is = cc
   live_from-drop h k (suc d) (None ∷ xs) v e is = live_from-drop h (k + 1) d xs v (omega arith) is
@@ -90,8 +98,10 @@ module _ {A : Type 0} where
   filter-absent h [] e = refl
   filter-absent h (x ∷ xs) e = grind (arith, filter-absent h xs)
 
-  pub table-without : (h : Handle) (s r : Slab (Stamped A)) (n m : ℕ) (t : Table A) (x : Stamped A) → table_of s n m ≡ t → get s h.slot ≡ Some x → x.stamp ≡ h.stamp → r.slots ≡ set s.slots h.slot None → table_of r n m ≡ without h t
+  pub table-without : (h : Handle) (s r : Slab (Stamped A)) (n m : ℕ) (t : Table A) (x : Stamped A) → table_of s n m ≡ t →
+      get s h.slot ≡ Some x → x.stamp ≡ h.stamp → r.slots ≡ set s.slots h.slot None → table_of r n m ≡ without h t
   table-without h s r n m t x is at same slots =
       let e : get s h.slot ≡ Some (record { stamp = h.stamp; value = x.value }) = grind arith in
-      let a : live_from 0 (set s.slots h.slot None) ≡ filter (keep h) (live_from 0 s.slots) = live_from-drop h 0 h.slot s.slots x.value (omega arith) e in
+      let a : live_from 0 (set s.slots h.slot None) ≡ filter (keep h) (live_from 0 s.slots) =
+            live_from-drop h 0 h.slot s.slots x.value (omega arith) e in
       rw (← is, slots, a, ← filter-by_stamp (keep h) (live_from 0 s.slots)) refl

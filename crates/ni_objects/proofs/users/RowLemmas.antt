@@ -1,6 +1,7 @@
 -- A row still counts after one of its slots was counted up or down.
 use Rattle.std.specs.Prelude.{IfSome}
-use Rattle.std.proofs.Common.{◌||◌, ◌^◌, zero-add, ap, ◌≡◌, ◌≢◌, ◌<◌, ◌≤◌, ◌+◌, ◌-◌, ℕ, nat_eq, nat_lt, Bool, true, false, List, length, set, get_or, Option, Some, None, if◌then◌else◌, refl, sym, subst, ◌∙◌, arith, zero, suc, replicate}
+use Rattle.std.proofs.Common.{◌||◌, ◌^◌, zero-add, ap, ◌≡◌, ◌≢◌, ◌<◌, ◌≤◌, ◌+◌, ◌-◌, ℕ, nat_eq, nat_lt, Bool, true, false, List, length,
+    set, get_or, Option, Some, None, if◌then◌else◌, refl, sym, subst, ◌∙◌, arith, zero, suc, replicate}
 use Rattle.std.proofs.lemmas.List.{get_or-set_same, get_or-set_other, get_or_past, length-set}
 use Rattle.std.proofs.lemmas.Bool.Decides.{nat_tests}
 use Rattle.ptl_types.specs.declared.handles.Handle.{Handle}
@@ -25,8 +26,13 @@ module _ (f g : ℕ → ℕ) (row : List ℕ) (c : Counts f row) where
             let s = same-slot slot k e in
             let u : g k ≡ f k + (if true then 1 else 0) = rw e at (up k) in
             let h : count_at slot row ≡ f k = let P : ℕ → Type 0 = λ n. count_at n row ≡ f k in subst P (sym s) (c k within) in
-            let at : get_or (set row slot (count_at slot row + 1)) slot 0 ≡ count_at slot row + 1 = get_or-set_same row slot (count_at slot row + 1) 0 (omega (arith, within, s)) in
-            let there : get_or (set row slot (count_at slot row + 1)) k 0 ≡ count_at slot row + 1 = let P : ℕ → Type 0 = λ n. get_or (set row slot (count_at slot row + 1)) n 0 ≡ count_at slot row + 1 in subst P s at in
+            let at : get_or (set row slot (count_at slot row + 1)) slot 0 ≡ count_at slot row + 1 =
+                  get_or-set_same row slot (count_at slot row + 1) 0 (omega (arith, within, s)) in
+            let there : get_or (set row slot (count_at slot row + 1)) k 0 ≡ count_at slot row + 1 = let P : ℕ → Type 0 =
+                                                                                                          λ n. get_or (set row slot
+                                                                                                          (count_at slot row + 1)) n 0
+                                                                                                          ≡ count_at slot row + 1 in
+                                                                                                          subst P s at in
             omega (arith, there, u, h)
         | false ↦ λ e.
             let u : g k ≡ f k + (if false then 1 else 0) = rw e at (up k) in
@@ -41,8 +47,13 @@ module _ (f g : ℕ → ℕ) (row : List ℕ) (c : Counts f row) where
             let s = same-slot slot k e in
             let u : f k ≡ g k + (if true then 1 else 0) = rw e at (down k) in
             let h : count_at slot row ≡ f k = let P : ℕ → Type 0 = λ n. count_at n row ≡ f k in subst P (sym s) (c k within) in
-            let at : get_or (set row slot (count_at slot row - 1)) slot 0 ≡ count_at slot row - 1 = get_or-set_same row slot (count_at slot row - 1) 0 (omega (arith, within, s)) in
-            let there : get_or (set row slot (count_at slot row - 1)) k 0 ≡ count_at slot row - 1 = let P : ℕ → Type 0 = λ n. get_or (set row slot (count_at slot row - 1)) n 0 ≡ count_at slot row - 1 in subst P s at in
+            let at : get_or (set row slot (count_at slot row - 1)) slot 0 ≡ count_at slot row - 1 =
+                  get_or-set_same row slot (count_at slot row - 1) 0 (omega (arith, within, s)) in
+            let there : get_or (set row slot (count_at slot row - 1)) k 0 ≡ count_at slot row - 1 = let P : ℕ → Type 0 =
+                                                                                                          λ n. get_or (set row slot
+                                                                                                          (count_at slot row - 1)) n 0
+                                                                                                          ≡ count_at slot row - 1 in
+                                                                                                          subst P s at in
             omega (arith, there, u, h)
         | false ↦ λ e.
             let u : f k ≡ g k + (if false then 1 else 0) = rw e at (down k) in
@@ -52,11 +63,13 @@ module _ (f g : ℕ → ℕ) (row : List ℕ) (c : Counts f row) where
   pub counts-same : ((k : ℕ) → g k ≡ f k) → Counts g row
   counts-same same = λ k lt. c k lt ∙ sym (same k)
 
-pub counts-more : (f g : ℕ → ℕ) (row : List ℕ) → Counts f row → (named : Option Handle) → ((k : ℕ) → g k ≡ f k + one_at named k) → Counts g (more named row)
+pub counts-more : (f g : ℕ → ℕ) (row : List ℕ) → Counts f row → (named : Option Handle) → ((k : ℕ) → g k ≡ f k + one_at named k) →
+    Counts g (more named row)
 counts-more f g row c None up = counts-same f g row c (λ k. omega (arith, up k))
 counts-more f g row c (Some h) up = counts-incremented f g row c h.slot up
 
-pub counts-fewer : (f g : ℕ → ℕ) (row : List ℕ) → Counts f row → (named : Option Handle) → ((k : ℕ) → f k ≡ g k + one_at named k) → Counts g (fewer named row)
+pub counts-fewer : (f g : ℕ → ℕ) (row : List ℕ) → Counts f row → (named : Option Handle) → ((k : ℕ) → f k ≡ g k + one_at named k) →
+    Counts g (fewer named row)
 counts-fewer f g row c None down = counts-same f g row c (λ k. omega (arith, down k))
 counts-fewer f g row c (Some h) down = counts-decremented f g row c h.slot down
 
@@ -106,7 +119,8 @@ fewer-long None row = refl
 fewer-long (Some h) row = length-set row h.slot (count_at h.slot row - 1)
 
 -- there is room for one user more, where f counts no more than n users of a slot
-pub add-room : (f : ℕ → ℕ) (n : ℕ) (row : List ℕ) (o : Option Handle) → Counts f row → ((k : ℕ) → f k ≤ n) → n < 2 ^ 64 - 1 → IfSome o (λ h. count_at h.slot row < 2 ^ 64 - 1)
+pub add-room : (f : ℕ → ℕ) (n : ℕ) (row : List ℕ) (o : Option Handle) → Counts f row → ((k : ℕ) → f k ≤ n) → n < 2 ^ 64 - 1 →
+    IfSome o (λ h. count_at h.slot row < 2 ^ 64 - 1)
 add-room f n row None c at_most small = tt
 add-room f n row (Some h) c at_most small = omega (arith, counts-at_most f n h.slot row c (at_most h.slot), small)
 
@@ -115,5 +129,6 @@ or-count : (b r : Bool) (n : ℕ) → r ≡ nat_lt 0 n → (b || r) ≡ nat_lt 0
 or-count true r n e = grind (arith, nat_tests)
 or-count false r n e = rw zero-add e
 
-pub names-step : (h : Handle) (o : Option Handle) (r : Bool) (n : ℕ) → IsAlone h o → r ≡ nat_lt 0 n → (names o h || r) ≡ nat_lt 0 (one_at o h.slot + n)
+pub names-step : (h : Handle) (o : Option Handle) (r : Bool) (n : ℕ) → IsAlone h o → r ≡ nat_lt 0 n →
+    (names o h || r) ≡ nat_lt 0 (one_at o h.slot + n)
 names-step h o r n alone e = or-count (names o h) r n e ∙ ap (λ k. nat_lt 0 (k + n)) (names-at h o alone)

@@ -1,5 +1,6 @@
 -- No two live things share a slot: so what is live and named with the slot of a live thing is that thing.
-use Rattle.std.proofs.Common.{◌≡◌, Bool, true, false, ◌||◌, nat_eq, List, [], ◌∷◌, Option, Some, None, is_some, if◌then◌else◌, refl, sym, ◌∙◌, arith}
+use Rattle.std.proofs.Common.{◌≡◌, Bool, true, false, ◌||◌, nat_eq, List, [], ◌∷◌, Option, Some, None, is_some, if◌then◌else◌, refl, sym,
+    ◌∙◌, arith}
 use Rattle.std.specs.Prelude.{IsSome, IfSome, IfNone}
 use Rattle.std.proofs.lemmas.Bool.Decides.{nat_tests}
 use Rattle.ptl_types.specs.declared.handles.Handle.{Handle}
@@ -27,7 +28,8 @@ module _ {A : Type 0} where
   slot-here : (h : Handle) (xs : List (Live A)) → is_some (lookup h xs) ≡ true → has_slot h.slot xs ≡ true
   slot-here h [] e = cc
   slot-here h (x ∷ xs) e =
-      elim (same_handle x.handle h) as (λ b. same_handle x.handle h ≡ b → is_some (if b then Some x.value else lookup h xs) ≡ true → (nat_eq x.handle.slot h.slot || has_slot h.slot xs) ≡ true) [
+      elim (same_handle x.handle h) as (λ b. same_handle x.handle h ≡ b → is_some (if b then Some x.value else lookup h xs) ≡ true →
+          (nat_eq x.handle.slot h.slot || has_slot h.slot xs) ≡ true) [
         | true ↦ λ s f. rw (same-slots x.handle h s) refl
         | false ↦ λ s f. rw (slot-here h xs f) (or-true (nat_eq x.handle.slot h.slot))
       ] refl e
@@ -37,12 +39,15 @@ module _ {A : Type 0} where
   some-is (Some x) e = refl
 
   -- by what a look-up of the slot tells
-  pub slot-found : {X : Type 0} (r : Option X) (h : Handle) (t : Table A) → is_live h t ≡ true → IfNone r (has_slot h.slot t.live ≡ false) → IsSome r
+  pub slot-found : {X : Type 0} (r : Option X) (h : Handle) (t : Table A) → is_live h t ≡ true →
+      IfNone r (has_slot h.slot t.live ≡ false) → IsSome r
   slot-found r h t live none = some-at r (has_slot h.slot t.live) none (slot-here h t.live live)
 
-  pub own-slot : {X : Type 0} (r : Option X) (f : X → Handle) (h : Handle) (t : Table A) → is_live h t ≡ true → IfNone r (has_slot h.slot t.live ≡ false)
+  pub own-slot : {X : Type 0} (r : Option X) (f : X → Handle) (h : Handle) (t : Table A) → is_live h t ≡ true →
+      IfNone r (has_slot h.slot t.live ≡ false)
       → ((k : Handle) → k.slot ≡ h.slot → IsSome (lookup k t.live) → IfSome r (λ x. f x ≡ k)) → HasOwnSlot h t
-  own-slot r f h t live none alone = λ k same is. one-at r f h k (slot-found r h t live none) (alone h refl (some-is (lookup h t.live) live)) (alone k same (some-is (lookup k t.live) is))
+  own-slot r f h t live none alone = λ k same is. one-at r f h k (slot-found r h t live none)
+      (alone h refl (some-is (lookup h t.live) live)) (alone k same (some-is (lookup k t.live) is))
 
   pub named-alone : (h : Handle) (o : Option Handle) (t : Table A) → HasOwnSlot h t → is_live_or_none o t ≡ true → IsAlone h o
   named-alone h None t own e = tt

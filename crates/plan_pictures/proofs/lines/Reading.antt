@@ -21,7 +21,8 @@ first_line bytes l rest e =
     whole ∙ sym (append_assoc l (10 ∷ []) rest) ∙ ap (λ (x : List ℕ). x ++ rest) (rejoined l (words l) refl)
 
 -- one more line
-pub numbered_more : {A : Type 0} (f : ℕ → A → List ℕ) (n : ℕ) (xs : List A) (x : A) → numbered f n (xs ++ x ∷ []) ≡ numbered f n xs ++ f (n + length xs) x
+pub numbered_more : {A : Type 0} (f : ℕ → A → List ℕ) (n : ℕ) (xs : List A) (x : A) → numbered f n (xs ++ x ∷ []) ≡ numbered f n xs ++ f
+    (n + length xs) x
 numbered_more f n [] x = (let e : n ≡ n + 0 = omega arith in append-nil (f n x) ∙ ap (λ k. f k x) e)
 numbered_more f n (y ∷ ys) x =
     let e : suc n + length ys ≡ n + suc (length ys) = omega arith in
@@ -29,7 +30,8 @@ numbered_more f n (y ∷ ys) x =
     ∙ sym (append_assoc (f n y) (numbered f (suc n) ys) (f (n + suc (length ys)) x))
 
 -- what was read, with one more line read after it
-pub one_more : {A : Type 0} (f : ℕ → A → List ℕ) (text before rest : List ℕ) (xs : List A) (x : A) (n : ℕ) → text ≡ numbered f 0 xs ++ before
+pub one_more : {A : Type 0} (f : ℕ → A → List ℕ) (text before rest : List ℕ) (xs : List A) (x : A) (n : ℕ) →
+    text ≡ numbered f 0 xs ++ before
     → before ≡ f n x ++ rest → length xs ≡ n → text ≡ numbered f 0 (xs ++ x ∷ []) ++ rest
 one_more f text before rest xs x n e split count =
     let last : 0 + length xs ≡ length xs = omega arith in

@@ -1,5 +1,6 @@
 -- An allgather is sound, and each place has all lists: they go round a ring.
-use Rattle.std.proofs.Common.{ℕ, zero, suc, ◌+◌, ◌-◌, ◌*◌, ◌%◌, ◌≡◌, ◌<◌, List, ◌++◌, refl, length, map, flat_map, ap, ◌∙◌, sym, subst, arith, mod-lt}
+use Rattle.std.proofs.Common.{ℕ, zero, suc, ◌+◌, ◌-◌, ◌*◌, ◌%◌, ◌≡◌, ◌<◌, List, ◌++◌, refl, length, map, flat_map, ap, ◌∙◌, sym, subst,
+    arith, mod-lt}
 use Rattle.op_laws.proofs.Bytes.{part_all}
 use Rattle.plan_core.specs.Draw.{NewCell}
 use Rattle.plan_core.specs.Plan.{from_to}
@@ -26,15 +27,19 @@ module _ (k : ℕ → Cell) (s : StepContext) where
   ring_part : (P : ℕ → NewCell → Type 0) → EachAt P s.first (allgather_cells s) → EachAt P (s.first + count s) (ring_rows ++ ends)
   ring_part P h = behind P s s.first (full_entry s) (ring_rows ++ ends) h
 
-  ring-at : (P : ℕ → NewCell → Type 0) → EachAt P s.first (allgather_cells s) → (d r : ℕ) → d < count s → r < count s → P (ring_cell s d r) (ring_node s d r)
+  ring-at : (P : ℕ → NewCell → Type 0) → EachAt P s.first (allgather_cells s) → (d r : ℕ) → d < count s → r < count s →
+      P (ring_cell s d r) (ring_node s d r)
   ring-at P h d r i j =
       let z : 0 + d ≡ d = omega arith in
-      subst (λ c. P c (ring_node s d r)) (let e : s.first + count s + (d * count s + r) ≡ s.first + (count s + (d * count s + r)) = omega arith in e)
+      subst (λ c. P c (ring_node s d r)) (let e : s.first + count s + (d * count s + r) ≡ s.first + (count s + (d * count s + r)) =
+                                                omega arith in e)
       (subst (λ e. P (s.first + count s + (d * count s + r)) (ring_node s e r)) z
-      (each_of_rows P (s.first + count s) (ring_node s) (count s) 0 (count s) (each_front P (s.first + count s) ring_rows ends (ring_part P h)) d r i j))
+      (each_of_rows P (s.first + count s) (ring_node s) (count s) 0 (count s)
+          (each_front P (s.first + count s) ring_rows ends (ring_part P h)) d r i j))
 
   pub end_part : (P : ℕ → NewCell → Type 0) → EachAt P s.first (allgather_cells s) → EachAt P (s.first + count s + count s * count s) ends
-  end_part P h = subst (λ v. EachAt P (s.first + count s + v) ends) (length-rows (ring_node s) (count s) 0 (count s)) (each_back P (s.first + count s) ring_rows ends (ring_part P h))
+  end_part P h = subst (λ v. EachAt P (s.first + count s + v) ends) (length-rows (ring_node s) (count s) 0 (count s))
+      (each_back P (s.first + count s) ring_rows ends (ring_part P h))
 
   origin-lt : (d r : ℕ) → 0 < count s → origin s d r < count s
   origin-lt d r pos = mod-lt (r + (count s - d)) pos
@@ -50,9 +55,12 @@ module _ (k : ℕ → Cell) (s : StepContext) where
 
   -- one turn earlier the neighbour had it
   origin-next : (d r : ℕ) → suc d < count s → r < count s → origin s d ((r + (count s - 1)) % count s) ≡ origin s (suc d) r
-  origin-next d r h i = at (turn r (count s - 1) (count s) i (omega arith)) (turn r (count s - suc d) (count s) i (omega arith)) (turn ((r + (count s - 1)) % count s) (count s - d) (count s) (mod-lt (r + (count s - 1)) (let pos : 0 < count s = omega arith in pos)) (omega arith))
+  origin-next d r h i = at (turn r (count s - 1) (count s) i (omega arith)) (turn r (count s - suc d) (count s) i (omega arith))
+      (turn ((r + (count s - 1)) % count s) (count s - d) (count s)
+      (mod-lt (r + (count s - 1)) (let pos : 0 < count s = omega arith in pos)) (omega arith))
     where
-      at : Turned r (count s - 1) (count s) → Turned r (count s - suc d) (count s) → Turned ((r + (count s - 1)) % count s) (count s - d) (count s) → origin s d ((r + (count s - 1)) % count s) ≡ origin s (suc d) r
+      at : Turned r (count s - 1) (count s) → Turned r (count s - suc d) (count s) → Turned ((r + (count s - 1)) % count s) (count s - d)
+          (count s) → origin s d ((r + (count s - 1)) % count s) ≡ origin s (suc d) r
       at (Below a x) (Below b y) (Below c z) = omega (arith, x, y, z)
       at (Below a x) (Below b y) (Above c z) = omega (arith, x, y, z)
       at (Below a x) (Above b y) (Below c z) = omega (arith, x, y, z)
@@ -63,37 +71,47 @@ module _ (k : ℕ → Cell) (s : StepContext) where
       at (Above a x) (Above b y) (Above c z) = omega (arith, x, y, z)
 
   row_before : (d r : ℕ) → d < count s → r < count s → d * count s + r < count s * count s
-  row_before d r h i = let e : suc d * count s ≡ d * count s + count s = omega arith in let l = mul-le-mul_right (count s) h in omega (arith, e, l)
+  row_before d r h i = let e : suc d * count s ≡ d * count s + count s = omega arith in let l = mul-le-mul_right (count s) h in
+      omega (arith, e, l)
 
-  pub allgather-sound : (ranks : ℕ) → Ground ranks k s → s.length % bytes_of s.ty ≡ 0 → (count s * s.length) % bytes_of s.ty ≡ 0 → ((i : ℕ) → i < count s → HasA k s i)
+  pub allgather-sound : (ranks : ℕ) → Ground ranks k s → s.length % bytes_of s.ty ≡ 0 → (count s * s.length) % bytes_of s.ty ≡ 0 →
+      ((i : ℕ) → i < count s → HasA k s i)
       → EachAt (IsCell k) s.first (allgather_cells s) → EachAt (SoundNewCell ranks k) s.first (allgather_cells s)
   allgather-sound ranks ground whole whole' has cells =
       both_parts (SoundNewCell ranks k) s s.first (full_entry s) (ring_rows ++ ends)
       (entries-sound ranks k s ground whole has)
       (each_append (SoundNewCell ranks k) (s.first + count s) ring_rows ends
       (each_rows (SoundNewCell ranks k) (s.first + count s) (ring_node s) (count s) 0 (count s)
-      (λ d r h i. let z : d ≡ 0 + d = omega arith in subst (λ e. SoundNewCell ranks k (s.first + count s + (d * count s + r)) (ring_node s e r)) z (one d r h i)))
+      (λ d r h i. let z : d ≡ 0 + d = omega arith in subst (λ e. SoundNewCell ranks k (s.first + count s + (d * count s + r))
+          (ring_node s e r)) z (one d r h i)))
       (subst (λ v. EachAt (SoundNewCell ranks k) (s.first + count s + v) ends) (sym (length-rows (ring_node s) (count s) 0 (count s)))
       (each_places (SoundNewCell ranks k) s (s.first + count s + count s * count s) (collected s)
-      (λ r h. gathering-sound ranks k (s.first + count s + count s * count s + r) s.ty (count s * s.length) s.length (count s) (rank_at s r) (λ d. ring_cell s d r) (λ d. 0) (λ d. origin s d r) (ground.members r h) whole' refl ground.some
-      (λ d i. ((let l = row_before d r i h in omega (arith, l)), (let l = ap (λ (c : Cell). c.length) (ring-at (IsCell k) cells d r i h).is_cell in omega (arith, l)), origin-lt d r ground.some))
+      (λ r h. gathering-sound ranks k (s.first + count s + count s * count s + r) s.ty (count s * s.length) s.length (count s)
+          (rank_at s r) (λ d. ring_cell s d r) (λ d. 0) (λ d. origin s d r) (ground.members r h) whole' refl ground.some
+      (λ d i. ((let l = row_before d r i h in omega (arith, l)),
+          (let l = ap (λ (c : Cell). c.length) (ring-at (IsCell k) cells d r i h).is_cell in omega (arith, l)), origin-lt d r ground.some))
       (origin-one r h)))))
     where
       one : (d r : ℕ) → d < count s → r < count s → SoundNewCell ranks k (s.first + count s + (d * count s + r)) (ring_node s d r)
-      one zero r h i = taking-sound ranks k (s.first + count s + (0 * count s + r)) s.ty s.length (rank_at s r) (entry s r) (ground.members r i) whole (omega arith) (ap (λ (c : Cell). c.length) (entry-cells k s (ring_rows ++ ends) cells r i))
+      one zero r h i = taking-sound ranks k (s.first + count s + (0 * count s + r)) s.ty s.length (rank_at s r) (entry s r)
+          (ground.members r i) whole (omega arith) (ap (λ (c : Cell). c.length) (entry-cells k s (ring_rows ++ ends) cells r i))
       one (suc d) r h i =
           let n = mod-lt (r + (count s - 1)) ground.some in
-          taking-sound ranks k (s.first + count s + (suc d * count s + r)) s.ty s.length (rank_at s r) (ring_cell s d ((r + (count s - 1)) % count s)) (ground.members r i) whole
+          taking-sound ranks k (s.first + count s + (suc d * count s + r)) s.ty s.length (rank_at s r)
+              (ring_cell s d ((r + (count s - 1)) % count s)) (ground.members r i) whole
           (let e : suc d * count s ≡ d * count s + count s = omega arith in omega (arith, e, n))
           (ap (λ (c : Cell). c.length) (ring-at (IsCell k) cells d ((r + (count s - 1)) % count s) (omega arith) n).is_cell)
 
-  pub allgather-value : (val x : ℕ → List ℕ) → 0 < count s → ((i : ℕ) → i < count s → (val (source_at s i) ≡ x i) × (length (val (source_at s i)) ≡ s.length)) → EachAt (Known k val) s.first (allgather_cells s)
+  pub allgather-value : (val x : ℕ → List ℕ) → 0 < count s →
+      ((i : ℕ) → i < count s → (val (source_at s i) ≡ x i) × (length (val (source_at s i)) ≡ s.length)) →
+      EachAt (Known k val) s.first (allgather_cells s)
       → (r : ℕ) → r < count s → val (further s (count s * count s + r)) ≡ flat_map x (from_to 0 (count s))
   allgather-value val x pos has known r h =
       let last = of_places (Known k val) s (s.first + count s + count s * count s) (collected s) (end_part (Known k val) known) r h in
       ap val (let e : s.first + (count s + (count s * count s + r)) ≡ s.first + count s + count s * count s + r = omega arith in e)
       ∙ last.is_value
-      ∙ gathering-value s.ty (count s * s.length) s.length (count s) (rank_at s r) (λ d. ring_cell s d r) (λ d. 0) (λ d. origin s d r) val x refl
+      ∙ gathering-value s.ty (count s * s.length) s.length (count s) (rank_at s r) (λ d. ring_cell s d r) (λ d. 0) (λ d. origin s d r) val
+          x refl
       (λ q i. ap length (sym (ent q i).0) ∙ (ent q i).1)
       (λ d i. (origin-lt d r pos, part_all s.length (val (ring_cell s d r)) (ring-at (Known k val) known d r i h).is_long ∙ ring d r i h))
       (origin-one r h)
@@ -115,6 +133,7 @@ module _ (k : ℕ → Cell) (s : StepContext) where
       ring (suc d) r h i =
           let n = mod-lt (r + (count s - 1)) pos in
           (ring-at (Known k val) known (suc d) r h i).is_value
-          ∙ taking-value s.ty s.length (rank_at s r) (ring_cell s d ((r + (count s - 1)) % count s)) val (ring-at (Known k val) known d ((r + (count s - 1)) % count s) (omega arith) n).is_long
+          ∙ taking-value s.ty s.length (rank_at s r) (ring_cell s d ((r + (count s - 1)) % count s)) val
+              (ring-at (Known k val) known d ((r + (count s - 1)) % count s) (omega arith) n).is_long
           ∙ ring d ((r + (count s - 1)) % count s) (omega arith) n
           ∙ ap x (origin-next d r h i)

@@ -8,7 +8,8 @@ use Rattle.plan_steps.specs.StepContext.{StepContext, count, places, entries}
 use Rattle.plan_steps.specs.Trees.{up}
 use Rattle.ptl_types.specs.declared.elements.AtomicOp.{AtomicOp}
 
-pub allreduce-links : (s : StepContext) (o : AtomicOp) → 0 < count s → links_of (allreduce_cells s o) ≡ 2 * count s + (count s + (count s - 1)) + (1 + 2 * (count s - 1))
+pub allreduce-links : (s : StepContext) (o : AtomicOp) → 0 < count s →
+    links_of (allreduce_cells s o) ≡ 2 * count s + (count s + (count s - 1)) + (1 + 2 * (count s - 1))
 allreduce-links s o pos =
     let a = links-append (entries s) (up s 0 o ++ map (result_cell s) (places s)) in
     let b = links-append (up s 0 o) (map (result_cell s) (places s)) in

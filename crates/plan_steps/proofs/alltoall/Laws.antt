@@ -14,14 +14,18 @@ use Rattle.ptl_types.specs.Operations.{bytes_of}
 use Rattle.std.proofs.Math.Nat.{mul-le-mul_right}
 
 module _ (k : ℕ → Cell) (s : StepContext) where
-  pub alltoall-sound : (ranks m : ℕ) → Ground ranks k s → s.length % bytes_of s.ty ≡ 0 → s.length / count s ≡ m → s.length ≡ count s * m → ((i : ℕ) → i < count s → HasA k s i)
+  pub alltoall-sound : (ranks m : ℕ) → Ground ranks k s → s.length % bytes_of s.ty ≡ 0 → s.length / count s ≡ m → s.length ≡ count s * m →
+      ((i : ℕ) → i < count s → HasA k s i)
       → EachAt (IsCell k) s.first (alltoall_cells s) → EachAt (SoundNewCell ranks k) s.first (alltoall_cells s)
   alltoall-sound ranks m ground whole is_m all has cells =
       both_parts (SoundNewCell ranks k) s s.first (full_entry s) _
       (entries-sound ranks k s ground whole has)
-      (each_places (SoundNewCell ranks k) s (s.first + count s) (λ r. gathering s.ty s.length (s.length / count s) (count s) (rank_at s r) (entry s) (λ q. r * (s.length / count s)) (λ q. q))
-      (λ r h. gathering-sound ranks k (s.first + count s + r) s.ty s.length (s.length / count s) (count s) (rank_at s r) (entry s) (λ q. r * (s.length / count s)) (λ q. q) (ground.members r h) whole (all ∙ ap (λ v. count s * v) (sym is_m)) ground.some
-      (λ d i. (omega arith, (let l = ap (λ (c : Cell). c.length) (entry-cells k s _ cells d i) in let w = before r h in omega (arith, l, w, all, is_m)), i)) (λ d e i j q. q)))
+      (each_places (SoundNewCell ranks k) s (s.first + count s) (λ r. gathering s.ty s.length (s.length / count s) (count s) (rank_at s r)
+          (entry s) (λ q. r * (s.length / count s)) (λ q. q))
+      (λ r h. gathering-sound ranks k (s.first + count s + r) s.ty s.length (s.length / count s) (count s) (rank_at s r) (entry s)
+          (λ q. r * (s.length / count s)) (λ q. q) (ground.members r h) whole (all ∙ ap (λ v. count s * v) (sym is_m)) ground.some
+      (λ d i. (omega arith, (let l = ap (λ (c : Cell). c.length) (entry-cells k s _ cells d i) in let w = before r h in
+          omega (arith, l, w, all, is_m)), i)) (λ d e i j q. q)))
     where
       before : (r : ℕ) → r < count s → r * (s.length / count s) + s.length / count s ≤ s.length
       before r h =
@@ -30,7 +34,9 @@ module _ (k : ℕ → Cell) (s : StepContext) where
           let q : count s * (s.length / count s) ≡ s.length = ap (λ v. count s * v) is_m ∙ sym all in
           omega (arith, e, l, q)
 
-  pub alltoall-value : (m : ℕ) (val x : ℕ → List ℕ) → s.length / count s ≡ m → s.length ≡ count s * m → ((i : ℕ) → i < count s → (val (source_at s i) ≡ x i) × (length (val (source_at s i)) ≡ s.length)) → EachAt (Known k val) s.first (alltoall_cells s)
+  pub alltoall-value : (m : ℕ) (val x : ℕ → List ℕ) → s.length / count s ≡ m → s.length ≡ count s * m →
+      ((i : ℕ) → i < count s → (val (source_at s i) ≡ x i) × (length (val (source_at s i)) ≡ s.length)) →
+      EachAt (Known k val) s.first (alltoall_cells s)
       → (r : ℕ) → r < count s → val (further s r) ≡ flat_map (λ q. part (r * m) m (x q)) (from_to 0 (count s))
   alltoall-value m val x is_m all has known r h =
       let ent = entry-known k val x s _ known has in
@@ -38,8 +44,10 @@ module _ (k : ℕ → Cell) (s : StepContext) where
       let full : s.length ≡ count s * (s.length / count s) = all ∙ ap (λ v. count s * v) (sym is_m) in
       ap val (let e : s.first + (count s + r) ≡ s.first + count s + r = omega arith in e)
       ∙ last.is_value
-      ∙ gathering-value s.ty s.length (s.length / count s) (count s) (rank_at s r) (entry s) (λ q. r * (s.length / count s)) (λ q. q) val (λ q. part (r * (s.length / count s)) (s.length / count s) (x q)) full
-      (λ q i. let l = ap length (sym (ent q i).0) ∙ (ent q i).1 in length-part (r * (s.length / count s)) (s.length / count s) (x q) (let w = before r h in omega (arith, l, w)))
+      ∙ gathering-value s.ty s.length (s.length / count s) (count s) (rank_at s r) (entry s) (λ q. r * (s.length / count s)) (λ q. q) val
+          (λ q. part (r * (s.length / count s)) (s.length / count s) (x q)) full
+      (λ q i. let l = ap length (sym (ent q i).0) ∙ (ent q i).1 in length-part (r * (s.length / count s)) (s.length / count s) (x q)
+          (let w = before r h in omega (arith, l, w)))
       (λ d i. (i, ap (part (r * (s.length / count s)) (s.length / count s)) (ent d i).0)) (λ d e i j q. q)
       ∙ ap (λ v. flat_map (λ q. part (r * v) v (x q)) (from_to 0 (count s))) is_m
     where

@@ -1,5 +1,6 @@
 -- A barrier is sound, and its exit at a place comes after every entry.
-use Rattle.std.proofs.Common.{ℕ, zero, suc, ◌+◌, ◌-◌, ◌*◌, ◌%◌, ◌^◌, ◌≡◌, ◌≤◌, ◌<◌, List, refl, length, map, ap, ◌∙◌, sym, subst, inl, inr, arith, mod-lt, pow_pos}
+use Rattle.std.proofs.Common.{ℕ, zero, suc, ◌+◌, ◌-◌, ◌*◌, ◌%◌, ◌^◌, ◌≡◌, ◌≤◌, ◌<◌, List, refl, length, map, ap, ◌∙◌, sym, subst, inl, inr,
+    arith, mod-lt, pow_pos}
 use Rattle.plan_core.specs.Draw.{NewCell}
 use Rattle.plan_core.specs.Plan.{Plan, cell}
 use Rattle.plan_core.specs.Rounds.{Comes}
@@ -23,33 +24,45 @@ module _ (k : ℕ → Cell) (s : StepContext) where
   abbrev round_rows : List NewCell
   round_rows = rows s round_node 0 (rounds (count s))
 
-  pub round-at : (P : ℕ → NewCell → Type 0) → EachAt P (s.first + count s) round_rows → (j r : ℕ) → j < rounds (count s) → r < count s → P (in_row s (suc j) r) (round_node j r)
+  pub round-at : (P : ℕ → NewCell → Type 0) → EachAt P (s.first + count s) round_rows → (j r : ℕ) → j < rounds (count s) → r < count s →
+      P (in_row s (suc j) r) (round_node j r)
   round-at P h j r i l =
       let z : 0 + j ≡ j = omega arith in
-      subst (λ c. P c (round_node j r)) (let q : suc j * count s ≡ j * count s + count s = omega arith in let e : s.first + count s + (j * count s + r) ≡ s.first + (suc j * count s + r) = omega (arith, q) in e)
+      subst (λ c. P c (round_node j r)) (let q : suc j * count s ≡ j * count s + count s = omega arith in
+          let e : s.first + count s + (j * count s + r) ≡ s.first + (suc j * count s + r) = omega (arith, q) in e)
       (subst (λ v. P (s.first + count s + (j * count s + r)) (round_node v r)) z
       (each_of_rows P (s.first + count s) round_node (count s) 0 (rounds (count s)) h j r i l))
 
   pub first_round : (r : ℕ) → in_row s 0 r ≡ entry s r
   first_round r = omega arith
 
-  round_rank : EachAt (IsCell k) s.first (barrier_cells s) → (j r : ℕ) → j ≤ rounds (count s) → r < count s → (k (in_row s j r)).rank ≡ rank_at s r
-  round_rank cells zero r h i = ap (λ c. (k c).rank) (first_round r) ∙ ap (λ (x : Cell). x.rank) (of_places (IsCell k) s s.first (bare_entry s) (each_front (IsCell k) s.first (map (bare_entry s) (places s)) round_rows cells) r i).is_cell
-  round_rank cells (suc j) r h i = ap (λ (x : Cell). x.rank) (round-at (IsCell k) (behind (IsCell k) s s.first (bare_entry s) round_rows cells) j r h i).is_cell
+  round_rank : EachAt (IsCell k) s.first (barrier_cells s) → (j r : ℕ) → j ≤ rounds (count s) → r < count s →
+      (k (in_row s j r)).rank ≡ rank_at s r
+  round_rank cells zero r h i = ap (λ c. (k c).rank) (first_round r)
+      ∙ ap (λ (x : Cell). x.rank) (of_places (IsCell k) s s.first (bare_entry s)
+      (each_front (IsCell k) s.first (map (bare_entry s) (places s)) round_rows cells) r i).is_cell
+  round_rank cells (suc j) r h i = ap (λ (x : Cell). x.rank)
+      (round-at (IsCell k) (behind (IsCell k) s s.first (bare_entry s) round_rows cells) j r h i).is_cell
 
-  pub barrier-sound : (ranks : ℕ) → Ground ranks k s → EachAt (IsCell k) s.first (barrier_cells s) → EachAt (SoundNewCell ranks k) s.first (barrier_cells s)
+  pub barrier-sound : (ranks : ℕ) → Ground ranks k s → EachAt (IsCell k) s.first (barrier_cells s) →
+      EachAt (SoundNewCell ranks k) s.first (barrier_cells s)
   barrier-sound ranks ground cells =
       both_parts (SoundNewCell ranks k) s s.first (bare_entry s) round_rows
       (bare-sound ranks k s ground)
       (each_rows (SoundNewCell ranks k) (s.first + count s) round_node (count s) 0 (rounds (count s))
-      (λ j r h i. let z : j ≡ 0 + j = omega arith in subst (λ v. SoundNewCell ranks k (s.first + count s + (j * count s + r)) (round_node v r)) z
+      (λ j r h i. let z : j ≡ 0 + j = omega arith in subst (λ v. SoundNewCell ranks k (s.first + count s + (j * count s + r))
+          (round_node v r)) z
       (let n = mod-lt (r + (count s - 2 ^ j)) ground.some in
-      told-sound ranks k (s.first + count s + (j * count s + r)) (rank_at s r) (in_row s j r) (in_row s j ((r + (count s - 2 ^ j)) % count s)) (ground.members r i) (omega arith) (round_rank cells j r (omega arith) i) (omega (arith, n)))))
+      told-sound ranks k (s.first + count s + (j * count s + r)) (rank_at s r) (in_row s j r)
+          (in_row s j ((r + (count s - 2 ^ j)) % count s)) (ground.members r i) (omega arith) (round_rank cells j r (omega arith) i)
+          (omega (arith, n)))))
 
 -- ---- a barrier that is drawn: round j + 1 at place r comes after round j there and at the place 2 ^ j before it
-module _ (q : Plan) (inputs : Inputs) (s : StepContext) (pos : 0 < count s) (small : count s ≤ 256) (drawn : EachAt (Drawn q inputs) s.first (barrier_cells s)) where
+module _ (q : Plan) (inputs : Inputs) (s : StepContext) (pos : 0 < count s) (small : count s ≤ 256)
+    (drawn : EachAt (Drawn q inputs) s.first (barrier_cells s)) where
   row_drawn : EachAt (Drawn q inputs) (s.first + count s) (rows s (λ j r. silent (rank_at s r) (round_links s j r)) 0 (rounds (count s)))
-  row_drawn = behind (Drawn q inputs) s s.first (bare_entry s) (rows s (λ j r. silent (rank_at s r) (round_links s j r)) 0 (rounds (count s))) drawn
+  row_drawn = behind (Drawn q inputs) s s.first (bare_entry s)
+      (rows s (λ j r. silent (rank_at s r) (round_links s j r)) 0 (rounds (count s))) drawn
 
   there : (j r : ℕ) → j < rounds (count s) → r < count s → Drawn q inputs (in_row s (suc j) r) (silent (rank_at s r) (round_links s j r))
   there j r t h = round-at (cell q) s (Drawn q inputs) row_drawn j r t h
@@ -57,9 +70,12 @@ module _ (q : Plan) (inputs : Inputs) (s : StepContext) (pos : 0 < count s) (sma
   pub round-stays : (j r : ℕ) → j < rounds (count s) → r < count s → Comes q (in_row s j r) (in_row s (suc j) r)
   round-stays j r t h = (there j r t h).comes (bump (in_row s j r)) (inl refl)
 
-  pub round-comes : (j m r : ℕ) → j < rounds (count s) → m < count s → r < count s → (m + 2 ^ j) % count s ≡ r → Comes q (in_row s j m) (in_row s (suc j) r)
+  pub round-comes : (j m r : ℕ) → j < rounds (count s) → m < count s → r < count s → (m + 2 ^ j) % count s ≡ r →
+      Comes q (in_row s j m) (in_row s (suc j) r)
   round-comes j m r t l h e =
-      subst (λ v. Comes q (in_row s j v) (in_row s (suc j) r)) (before (rounds-at_most (count s) j t) (turn m (2 ^ j) (count s) l (let f = rounds-at_most (count s) j t in omega (arith, f))) (turn r (count s - 2 ^ j) (count s) h (let p : 0 < 2 ^ j = pow_pos j in omega (arith, p))))
+      subst (λ v. Comes q (in_row s j v) (in_row s (suc j) r))
+          (before (rounds-at_most (count s) j t) (turn m (2 ^ j) (count s) l (let f = rounds-at_most (count s) j t in omega (arith, f)))
+          (turn r (count s - 2 ^ j) (count s) h (let p : 0 < 2 ^ j = pow_pos j in omega (arith, p))))
       ((there j r t h).comes (put 0 (in_row s j ((r + (count s - 2 ^ j)) % count s)) 0 0) (inr (inl refl)))
     where
       before : 2 ^ j < count s → Turned m (2 ^ j) (count s) → Turned r (count s - 2 ^ j) (count s) → (r + (count s - 2 ^ j)) % count s ≡ m
@@ -70,5 +86,7 @@ module _ (q : Plan) (inputs : Inputs) (s : StepContext) (pos : 0 < count s) (sma
 
   -- each round's cells are the plan's
   pub round-inside : (j r : ℕ) → j ≤ rounds (count s) → r < count s → in_row s j r < length q.cells
-  round-inside zero r t h = subst (λ c. c < length q.cells) (sym (first_round (cell q) s r)) ((of_places (Drawn q inputs) s s.first (bare_entry s) (each_front (Drawn q inputs) s.first (map (bare_entry s) (places s)) (rows s (λ j r. silent (rank_at s r) (round_links s j r)) 0 (rounds (count s))) drawn) r h).in_plan)
+  round-inside zero r t h = subst (λ c. c < length q.cells) (sym (first_round (cell q) s r))
+      ((of_places (Drawn q inputs) s s.first (bare_entry s) (each_front (Drawn q inputs) s.first (map (bare_entry s) (places s))
+      (rows s (λ j r. silent (rank_at s r) (round_links s j r)) 0 (rounds (count s))) drawn) r h).in_plan)
   round-inside (suc j) r t h = (there j r t h).in_plan

@@ -20,5 +20,6 @@ barrier-bytes s =
     let b = bytes-row (bare_entry s) 0 (count s) 0 (λ i. refl) in
     let c = bytes-rows s (round_cell s) 0 (rounds (count s)) 0 (λ k i. refl) in
     let d : count s * 0 ≡ 0 = omega arith in
-    let e : rounds (count s) * (count s * 0) ≡ 0 = ap (λ v. rounds (count s) * v) d ∙ (let z : rounds (count s) * 0 ≡ 0 = omega arith in z) in
+    let e : rounds (count s) * (count s * 0) ≡ 0 = ap (λ v. rounds (count s) * v) d
+          ∙ (let z : rounds (count s) * 0 ≡ 0 = omega arith in z) in
     omega (arith, a, b, c, d, e)

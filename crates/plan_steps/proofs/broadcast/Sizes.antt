@@ -6,14 +6,16 @@ use Rattle.plan_steps.specs.Broadcast.{broadcast_cells, copy_cell, first_cell}
 use Rattle.plan_steps.specs.StepContext.{StepContext, count, places, full_entry, bare_entry}
 use Rattle.std.proofs.lemmas.Bool.{ne_eqb}
 
-pub broadcast-links : (s : StepContext) (root : ℕ) → root < count s → links_of (broadcast_cells s root) ≡ count s + 1 + (1 + 2 * (count s - 1))
+pub broadcast-links : (s : StepContext) (root : ℕ) → root < count s →
+    links_of (broadcast_cells s root) ≡ count s + 1 + (1 + 2 * (count s - 1))
 broadcast-links s root h =
     let m = count s in
     let a = links-append (map (first_cell s root) (places s)) (map (copy_cell s root) (places s)) in
     let b = links-one (first_cell s root) 0 m root 2 1 (let z : 0 ≤ root = omega arith in z) (let z : root < 0 + m = omega arith in z)
     (ap (λ t. length (cond t (full_entry s root) (bare_entry s root)).into) (eq-eqb root root refl))
     (λ i n. ap (λ t. length (cond t (full_entry s i) (bare_entry s i)).into) (ne_eqb _ _ n)) in
-    let c = links-one (copy_cell s root) 0 m 0 1 2 (let z : 0 ≤ 0 = omega arith in z) (let z : 0 < 0 + m = omega arith in z) refl (λ i n. further-two i n) in
+    let c = links-one (copy_cell s root) 0 m 0 1 2 (let z : 0 ≤ 0 = omega arith in z) (let z : 0 < 0 + m = omega arith in z) refl
+          (λ i n. further-two i n) in
     let q : m * 1 ≡ m = omega arith in
     let r : m * 2 ≡ m + m = omega arith in
     omega (arith, a, b, c, q, r)

@@ -12,17 +12,21 @@ use Rattle.plan_steps.specs.Sounding.{EachAt, SoundNewCell}
 use Rattle.ptl_types.specs.Operations.{bytes_of}
 
 module _ (k : ℕ → Cell) (s : StepContext) where
-  pub gather-sound : (ranks root : ℕ) → Ground ranks k s → root < count s → s.length % bytes_of s.ty ≡ 0 → (count s * s.length) % bytes_of s.ty ≡ 0 → ((i : ℕ) → i < count s → HasA k s i)
+  pub gather-sound : (ranks root : ℕ) → Ground ranks k s → root < count s → s.length % bytes_of s.ty ≡ 0 →
+      (count s * s.length) % bytes_of s.ty ≡ 0 → ((i : ℕ) → i < count s → HasA k s i)
       → EachAt (IsCell k) s.first (gather_cells s root) → EachAt (SoundNewCell ranks k) s.first (gather_cells s root)
   gather-sound ranks root ground root_in whole whole' has cells =
       both_parts (SoundNewCell ranks k) s s.first (full_entry s) _
       (entries-sound ranks k s ground whole has) (
-        gathering-sound ranks k (s.first + count s) s.ty (count s * s.length) s.length (count s) (rank_at s root) (entry s) (λ q. 0) (λ q. q) (ground.members root root_in) whole' refl ground.some
-            (λ d h. (omega arith, (let l = ap (λ (c : Cell). c.length) (entry-cells k s _ cells d h) in omega (arith, l)), h)) (λ d e h i q. q),
+        gathering-sound ranks k (s.first + count s) s.ty (count s * s.length) s.length (count s) (rank_at s root) (entry s) (λ q. 0)
+            (λ q. q) (ground.members root root_in) whole' refl ground.some
+            (λ d h. (omega arith, (let l = ap (λ (c : Cell). c.length) (entry-cells k s _ cells d h) in omega (arith, l)), h))
+                (λ d e h i q. q),
         tt,
       )
 
-  pub gather-value : (root : ℕ) (val x : ℕ → List ℕ) → ((i : ℕ) → i < count s → (val (source_at s i) ≡ x i) × (length (val (source_at s i)) ≡ s.length)) → EachAt (Known k val) s.first (gather_cells s root)
+  pub gather-value : (root : ℕ) (val x : ℕ → List ℕ) → ((i : ℕ) → i < count s → (val (source_at s i) ≡ x i) ×
+      (length (val (source_at s i)) ≡ s.length)) → EachAt (Known k val) s.first (gather_cells s root)
       → val (further s 0) ≡ flat_map x (from_to 0 (count s))
   gather-value root val x has known =
       let ent = entry-known k val x s _ known has in

@@ -1,5 +1,6 @@
 -- A gather of what is held is sound, and the root has the lists of those that hold one.
-use Rattle.std.proofs.Common.{ℕ, zero, suc, Bool, true, false, cond, ◌+◌, ◌*◌, ◌%◌, ◌≡◌, ◌<◌, List, [], ◌∷◌, ◌++◌, refl, length, map, filter, flat_map, get_or, ap, ap₂, ◌∙◌, sym, subst, arith, le_of_suc-le-suc}
+use Rattle.std.proofs.Common.{ℕ, zero, suc, Bool, true, false, cond, ◌+◌, ◌*◌, ◌%◌, ◌≡◌, ◌<◌, List, [], ◌∷◌, ◌++◌, refl, length, map,
+    filter, flat_map, get_or, ap, ap₂, ◌∙◌, sym, subst, arith, le_of_suc-le-suc}
 use Rattle.coll_shape.specs.Collectives.{is_in}
 use Rattle.op_laws.proofs.Bytes.{part_all}
 use Rattle.plan_core.specs.Draw.{cell_of}
@@ -15,30 +16,36 @@ use Rattle.plan_steps.specs.Sounding.{EachAt, Ground, HasA, IsCell, Known, Sound
 use Rattle.ptl_types.specs.Operations.{bytes_of}
 
 -- a member of a filtered row is within the row, and has passed the test
-pub filtered-at : (t : ℕ → Bool) (k n j : ℕ) → j < length (filter t (from_to k n)) → (get_or (filter t (from_to k n)) j 0 < k + n) × (t (get_or (filter t (from_to k n)) j 0) ≡ true)
+pub filtered-at : (t : ℕ → Bool) (k n j : ℕ) → j < length (filter t (from_to k n)) → (get_or (filter t (from_to k n)) j 0 < k + n) ×
+    (t (get_or (filter t (from_to k n)) j 0) ≡ true)
 filtered-at t k zero j h = absurd (omega arith)
 filtered-at t k (suc n) j h = at (t k) refl j h (λ i l. let r = filtered-at t (suc k) n i l in (let a = r.0 in omega (arith, a), r.1))
   where
     at : (b : Bool) → t k ≡ b → (j : ℕ) → j < length (cond b (k ∷ filter t (from_to (suc k) n)) (filter t (from_to (suc k) n)))
-        → ((i : ℕ) → i < length (filter t (from_to (suc k) n)) → (get_or (filter t (from_to (suc k) n)) i 0 < k + suc n) × (t (get_or (filter t (from_to (suc k) n)) i 0) ≡ true))
-        → (get_or (cond b (k ∷ filter t (from_to (suc k) n)) (filter t (from_to (suc k) n))) j 0 < k + suc n) × (t (get_or (cond b (k ∷ filter t (from_to (suc k) n)) (filter t (from_to (suc k) n))) j 0) ≡ true)
+        → ((i : ℕ) → i < length (filter t (from_to (suc k) n)) → (get_or (filter t (from_to (suc k) n)) i 0 < k + suc n) ×
+            (t (get_or (filter t (from_to (suc k) n)) i 0) ≡ true))
+        → (get_or (cond b (k ∷ filter t (from_to (suc k) n)) (filter t (from_to (suc k) n))) j 0 < k + suc n) ×
+            (t (get_or (cond b (k ∷ filter t (from_to (suc k) n)) (filter t (from_to (suc k) n))) j 0) ≡ true)
     at true e zero l later = (omega arith, e)
     at true e (suc j) l later = later j (le_of_suc-le-suc l)
     at false e j l later = later j l
 
 -- lists by their place in the row, one after the other
-by-place : (x : ℕ → List ℕ) (hs gs : List ℕ) (k : ℕ) → ((i : ℕ) → get_or gs (k + i) 0 ≡ get_or hs i 0) → flat_map (λ j. x (get_or gs j 0)) (from_to k (length hs)) ≡ flat_map x hs
+by-place : (x : ℕ → List ℕ) (hs gs : List ℕ) (k : ℕ) → ((i : ℕ) → get_or gs (k + i) 0 ≡ get_or hs i 0) →
+    flat_map (λ j. x (get_or gs j 0)) (from_to k (length hs)) ≡ flat_map x hs
 by-place x [] gs k same = refl
 by-place x (h ∷ hs) gs k same =
     ap₂ (λ a b. a ++ b) (ap x (ap (λ v. get_or gs v 0) (let z : k ≡ k + 0 = omega arith in z) ∙ same 0))
     (by-place x hs gs (suc k) (λ i. ap (λ v. get_or gs v 0) (let z : suc k + i ≡ k + suc i = omega arith in z) ∙ same (suc i)))
 
 -- those that fail the test are empty
-without-empty : (x : ℕ → List ℕ) (t : ℕ → Bool) (k n : ℕ) → ((i : ℕ) → i < k + n → t i ≡ false → x i ≡ []) → flat_map x (filter t (from_to k n)) ≡ flat_map x (from_to k n)
+without-empty : (x : ℕ → List ℕ) (t : ℕ → Bool) (k n : ℕ) → ((i : ℕ) → i < k + n → t i ≡ false → x i ≡ []) →
+    flat_map x (filter t (from_to k n)) ≡ flat_map x (from_to k n)
 without-empty x t k zero none = refl
 without-empty x t k (suc n) none = at (t k) refl (without-empty x t (suc k) n (λ i h e. none i (omega (arith, h)) e))
   where
-    at : (b : Bool) → t k ≡ b → flat_map x (filter t (from_to (suc k) n)) ≡ flat_map x (from_to (suc k) n) → flat_map x (cond b (k ∷ filter t (from_to (suc k) n)) (filter t (from_to (suc k) n))) ≡ x k ++ flat_map x (from_to (suc k) n)
+    at : (b : Bool) → t k ≡ b → flat_map x (filter t (from_to (suc k) n)) ≡ flat_map x (from_to (suc k) n) →
+        flat_map x (cond b (k ∷ filter t (from_to (suc k) n)) (filter t (from_to (suc k) n))) ≡ x k ++ flat_map x (from_to (suc k) n)
     at true e rest = ap (λ v. x k ++ v) rest
     at false e rest = rest ∙ ap (λ v. v ++ flat_map x (from_to (suc k) n)) (sym (none k (omega arith) e))
 
@@ -57,14 +64,17 @@ module _ (k : ℕ → Cell) (s : StepContext) (root : ℕ) (t : ℕ → Bool) (h
   held-full : (i : ℕ) → is_in i s.holding ≡ true → held_entry s i ≡ full_entry s i
   held-full i e = ap (λ b. cond b (full_entry s i) (bare_entry s i)) e
 
-  pub gatherv-sound : (ranks : ℕ) → Ground ranks k s → root < count s → s.length % bytes_of s.ty ≡ 0 → (length s.holding * s.length) % bytes_of s.ty ≡ 0 → ((i : ℕ) → i < count s → is_in i s.holding ≡ true → HasA k s i)
+  pub gatherv-sound : (ranks : ℕ) → Ground ranks k s → root < count s → s.length % bytes_of s.ty ≡ 0 →
+      (length s.holding * s.length) % bytes_of s.ty ≡ 0 → ((i : ℕ) → i < count s → is_in i s.holding ≡ true → HasA k s i)
       → EachAt (IsCell k) s.first (gatherv_cells s root) → EachAt (SoundNewCell ranks k) s.first (gatherv_cells s root)
   gatherv-sound ranks ground root_in whole whole' has cells =
       both_parts (SoundNewCell ranks k) s s.first (held_entry s) (concatenated s root ∷ [])
       (each_places (SoundNewCell ranks k) s s.first (held_entry s) (λ i h. one i h (is_in i s.holding) refl)) (
-        gathering_after-sound ranks k (s.first + count s) s.ty (length s.holding * s.length) s.length (length s.holding) (rank_at s root) (entry s root) (λ i. entry s (get_or s.holding i 0)) (λ q. 0) (λ q. q)
+        gathering_after-sound ranks k (s.first + count s) s.ty (length s.holding * s.length) s.length (length s.holding) (rank_at s root)
+            (entry s root) (λ i. entry s (get_or s.holding i 0)) (λ q. 0) (λ q. q)
             (ground.members root root_in) whole' refl (omega arith) (rank_of root root_in)
-            (λ d h. let r = holder d h in (let a = r.0 in omega (arith, a), (let l = long (get_or s.holding d 0) r.0 r.1 in omega (arith, l)), h)) (λ d e h i q. q),
+            (λ d h. let r = holder d h in (let a = r.0 in omega (arith, a),
+                (let l = long (get_or s.holding d 0) r.0 r.1 in omega (arith, l)), h)) (λ d e h i q. q),
         tt,
       )
     where
@@ -84,24 +94,31 @@ module _ (k : ℕ → Cell) (s : StepContext) (root : ℕ) (t : ℕ → Bool) (h
       long : (i : ℕ) → i < count s → is_in i s.holding ≡ true → (k (entry s i)).length ≡ s.length
       long i h e = ap (λ (c : Cell). c.length) (at_place i h ∙ ap cell_of (held-full i e))
 
-      one : (i : ℕ) → i < count s → (b : Bool) → is_in i s.holding ≡ b → SoundNewCell ranks k (s.first + i) (cond b (full_entry s i) (bare_entry s i))
+      one : (i : ℕ) → i < count s → (b : Bool) → is_in i s.holding ≡ b →
+          SoundNewCell ranks k (s.first + i) (cond b (full_entry s i) (bare_entry s i))
       one i h true e =
           let a : HasA k s i = has i h e in
           let l = a.low in let x = ground.exit_low i h in
-          copying-sound ranks k (s.first + i) s.ty s.length (rank_at s i) (exit_at s i) (source_at s i) (ground.members i h) whole (omega arith) (ground.exit_rank i h) (omega arith) a.long
-      one i h false e = let x = ground.exit_low i h in bumped-sound ranks k (s.first + i) (rank_at s i) (exit_at s i) (ground.members i h) (omega arith) (ground.exit_rank i h)
+          copying-sound ranks k (s.first + i) s.ty s.length (rank_at s i) (exit_at s i) (source_at s i) (ground.members i h) whole
+              (omega arith) (ground.exit_rank i h) (omega arith) a.long
+      one i h false e = let x = ground.exit_low i h in bumped-sound ranks k (s.first + i) (rank_at s i) (exit_at s i) (ground.members i h)
+          (omega arith) (ground.exit_rank i h)
 
   -- the lists of all places, where those that do not hold have none
-  pub gatherv-value : (val x : ℕ → List ℕ) → ((i : ℕ) → i < count s → is_in i s.holding ≡ true → (val (source_at s i) ≡ x i) × (length (val (source_at s i)) ≡ s.length))
+  pub gatherv-value : (val x : ℕ → List ℕ) → ((i : ℕ) → i < count s → is_in i s.holding ≡ true → (val (source_at s i) ≡ x i) ×
+      (length (val (source_at s i)) ≡ s.length))
       → ((i : ℕ) → i < count s → is_in i s.holding ≡ false → x i ≡ []) → EachAt (Known k val) s.first (gatherv_cells s root)
       → val (further s 0) ≡ flat_map x (from_to 0 (count s))
   gatherv-value val x has none known =
       let last = behind (Known k val) s s.first (held_entry s) (concatenated s root ∷ []) known in
       ap val (let e : s.first + (count s + 0) ≡ s.first + count s = omega arith in e)
       ∙ last.0.is_value
-      ∙ gathering_after-value s.ty (length s.holding * s.length) s.length (length s.holding) (rank_at s root) (entry s root) (λ i. entry s (get_or s.holding i 0)) (λ q. 0) (λ q. q) val (λ j. x (get_or s.holding j 0)) refl
+      ∙ gathering_after-value s.ty (length s.holding * s.length) s.length (length s.holding) (rank_at s root) (entry s root)
+          (λ i. entry s (get_or s.holding i 0)) (λ q. 0) (λ q. q) val (λ j. x (get_or s.holding j 0)) refl
       (λ q h. let r = holder q h in ap length (sym (has (get_or s.holding q 0) r.0 r.1).0) ∙ (has (get_or s.holding q 0) r.0 r.1).1)
-      (λ d h. let r = holder d h in (h, part_all s.length (val (entry s (get_or s.holding d 0))) (ap length (ent (get_or s.holding d 0) r.0 r.1) ∙ (has (get_or s.holding d 0) r.0 r.1).1) ∙ ent (get_or s.holding d 0) r.0 r.1 ∙ (has (get_or s.holding d 0) r.0 r.1).0))
+      (λ d h. let r = holder d h in (h, part_all s.length (val (entry s (get_or s.holding d 0)))
+          (ap length (ent (get_or s.holding d 0) r.0 r.1) ∙ (has (get_or s.holding d 0) r.0 r.1).1) ∙ ent (get_or s.holding d 0) r.0 r.1
+          ∙ (has (get_or s.holding d 0) r.0 r.1).0))
       (λ d e h i q. q)
       ∙ by-place x s.holding s.holding 0 (λ i. ap (λ v. get_or s.holding v 0) (let z : 0 + i ≡ i = omega arith in z))
       ∙ ap (λ hs. flat_map x hs) held
@@ -110,5 +127,6 @@ module _ (k : ℕ → Cell) (s : StepContext) (root : ℕ) (t : ℕ → Bool) (h
       ent : (i : ℕ) → i < count s → is_in i s.holding ≡ true → val (entry s i) ≡ val (source_at s i)
       ent i h e =
           entry-value k val s i
-          (subst (Known k val (entry s i)) (held-full i e) (of_places (Known k val) s s.first (held_entry s) (each_front (Known k val) s.first (map (held_entry s) (places s)) (concatenated s root ∷ []) known) i h))
+          (subst (Known k val (entry s i)) (held-full i e) (of_places (Known k val) s s.first (held_entry s)
+              (each_front (Known k val) s.first (map (held_entry s) (places s)) (concatenated s root ∷ []) known) i h))
           (has i h e).1

@@ -8,7 +8,8 @@ use Rattle.plan_steps.specs.StepContext.{StepContext, count, entries}
 use Rattle.plan_steps.specs.Trees.{up}
 use Rattle.ptl_types.specs.declared.elements.AtomicOp.{AtomicOp}
 
-pub reduce-links : (s : StepContext) (root : ℕ) (o : AtomicOp) → 0 < count s → links_of (reduce_cells s root o) ≡ 2 * count s + (count s + (count s - 1))
+pub reduce-links : (s : StepContext) (root : ℕ) (o : AtomicOp) → 0 < count s →
+    links_of (reduce_cells s root o) ≡ 2 * count s + (count s + (count s - 1))
 reduce-links s root o pos = links-append (entries s) (up s root o) ∙ ap₂ (λ x y. x + y) (entry-links s) (up-links s root o pos)
 
 pub reduce-bytes : (s : StepContext) (root : ℕ) (o : AtomicOp) → bytes_in (reduce_cells s root o) ≡ 2 * (count s * s.length)

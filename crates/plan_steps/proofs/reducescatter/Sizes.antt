@@ -8,7 +8,8 @@ use Rattle.plan_steps.specs.StepContext.{StepContext, count, places, entries, bl
 use Rattle.plan_steps.specs.Trees.{up}
 use Rattle.ptl_types.specs.declared.elements.AtomicOp.{AtomicOp}
 
-pub reducescatter-links : (s : StepContext) (o : AtomicOp) → 0 < count s → links_of (reducescatter_cells s o) ≡ 2 * count s + (count s + (count s - 1)) + (count s + (count s - 1))
+pub reducescatter-links : (s : StepContext) (o : AtomicOp) → 0 < count s → links_of (reducescatter_cells s o) ≡ 2 * count s
+    + (count s + (count s - 1)) + (count s + (count s - 1))
 reducescatter-links s o pos =
     let a = links-append (entries s) (up s 0 o ++ map (result_block s) (places s)) in
     let b = links-append (up s 0 o) (map (result_block s) (places s)) in
@@ -17,7 +18,8 @@ reducescatter-links s o pos =
     let e = first-shorter (result_block s) (count s) pos refl (λ i. refl) in
     omega (arith, a, b, c, d, e)
 
-pub reducescatter-bytes : (s : StepContext) (o : AtomicOp) → bytes_in (reducescatter_cells s o) ≡ 2 * (count s * s.length) + count s * (s.length / count s)
+pub reducescatter-bytes : (s : StepContext) (o : AtomicOp) → bytes_in (reducescatter_cells s o) ≡ 2 * (count s * s.length) + count s *
+    (s.length / count s)
 reducescatter-bytes s o =
     let a = bytes-append (entries s) (up s 0 o ++ map (result_block s) (places s)) in
     let b = bytes-append (up s 0 o) (map (result_block s) (places s)) in

@@ -1,5 +1,6 @@
 -- A scan is sound, and each place has the fold of the places up to it.
-use Rattle.std.proofs.Common.{ℕ, zero, suc, Bool, true, false, cond, ◌+◌, ◌-◌, ◌*◌, ◌%◌, ◌^◌, ◌≡◌, ◌≤◌, ◌<◌, List, [], ◌∷◌, refl, length, map, ap, ◌∙◌, subst, inl, inr, arith, nat_le, le_refl}
+use Rattle.std.proofs.Common.{ℕ, zero, suc, Bool, true, false, cond, ◌+◌, ◌-◌, ◌*◌, ◌%◌, ◌^◌, ◌≡◌, ◌≤◌, ◌<◌, List, [], ◌∷◌, refl, length,
+    map, ap, ◌∙◌, subst, inl, inr, arith, nat_le, le_refl}
 use Rattle.coll_shape.specs.Folding.{folded}
 use Rattle.plan_core.specs.Draw.{NewCell}
 use Rattle.plan_core.specs.Members.{In}
@@ -23,10 +24,12 @@ module _ (k : ℕ → Cell) (s : StepContext) (o : AtomicOp) where
   abbrev scan_rows : List NewCell
   scan_rows = rows s (scan_cell s o) 0 (suc (rounds (count s)))
 
-  pub scan-at : (P : ℕ → NewCell → Type 0) → EachAt P (s.first + count s) scan_rows → (j r : ℕ) → j ≤ rounds (count s) → r < count s → P (scan_number s j r) (scan_cell s o j r)
+  pub scan-at : (P : ℕ → NewCell → Type 0) → EachAt P (s.first + count s) scan_rows → (j r : ℕ) → j ≤ rounds (count s) → r < count s →
+      P (scan_number s j r) (scan_cell s o j r)
   scan-at P h j r i l =
       let z : 0 + j ≡ j = omega arith in
-      subst (λ c. P c (scan_cell s o j r)) (let e : s.first + count s + (j * count s + r) ≡ s.first + (count s + (j * count s + r)) = omega arith in e)
+      subst (λ c. P c (scan_cell s o j r)) (let e : s.first + count s + (j * count s + r) ≡ s.first + (count s + (j * count s + r)) =
+                                                  omega arith in e)
       (subst (λ v. P (s.first + count s + (j * count s + r)) (scan_cell s o v r)) z
       (each_of_rows P (s.first + count s) (scan_cell s o) (count s) 0 (suc (rounds (count s))) h j r (omega arith) l))
 
@@ -36,7 +39,8 @@ module _ (k : ℕ → Cell) (s : StepContext) (o : AtomicOp) where
       both_parts (SoundNewCell ranks k) s s.first (full_entry s) scan_rows
       (entries-sound ranks k s ground whole has)
       (each_rows (SoundNewCell ranks k) (s.first + count s) (scan_cell s o) (count s) 0 (suc (rounds (count s)))
-      (λ j r h i. let z : j ≡ 0 + j = omega arith in subst (λ v. SoundNewCell ranks k (s.first + count s + (j * count s + r)) (scan_cell s o v r)) z (one j r h i)))
+      (λ j r h i. let z : j ≡ 0 + j = omega arith in subst (λ v. SoundNewCell ranks k (s.first + count s + (j * count s + r))
+          (scan_cell s o v r)) z (one j r h i)))
     where
       row_cells : EachAt (IsCell k) (s.first + count s) scan_rows
       row_cells = behind (IsCell k) s s.first (full_entry s) scan_rows cells
@@ -44,29 +48,45 @@ module _ (k : ℕ → Cell) (s : StepContext) (o : AtomicOp) where
       Ok : ℕ → ℕ → Type 0
       Ok c d = (d < c) × ((k d).ty ≡ s.ty) × ((k d).length ≡ s.length)
 
-      earlier : (c j r : ℕ) → j ≤ rounds (count s) → r < count s → scan_number s j r < c → (scan_number s j r < c) × ((k (scan_number s j r)).ty ≡ s.ty) × ((k (scan_number s j r)).length ≡ s.length)
-      earlier c j r h i l = let q = (scan-at (IsCell k) row_cells j r h i).is_cell in (l, ap (λ (x : Cell). x.ty) q, ap (λ (x : Cell). x.length) q)
+      earlier : (c j r : ℕ) → j ≤ rounds (count s) → r < count s → scan_number s j r < c → (scan_number s j r < c) ×
+          ((k (scan_number s j r)).ty ≡ s.ty) × ((k (scan_number s j r)).length ≡ s.length)
+      earlier c j r h i l = let q = (scan-at (IsCell k) row_cells j r h i).is_cell in
+          (l, ap (λ (x : Cell). x.ty) q, ap (λ (x : Cell). x.length) q)
 
-      one : (j r : ℕ) → j < suc (rounds (count s)) → r < count s → SoundNewCell ranks k (s.first + count s + (j * count s + r)) (scan_cell s o j r)
+      one : (j r : ℕ) → j < suc (rounds (count s)) → r < count s → SoundNewCell ranks k (s.first + count s + (j * count s + r))
+          (scan_cell s o j r)
       one zero r h i =
-          combining-sound ranks k (s.first + count s + (0 * count s + r)) o s.ty s.length (rank_at s r) (entry s r) [] (ground.members r i) whole
-          (λ c m. elim m [ inl e ↦ subst (λ c. (c < s.first + count s + (0 * count s + r)) × ((k c).ty ≡ s.ty) × ((k c).length ≡ s.length)) e (let q = entry-cells k s scan_rows cells r i in (omega arith, ap (λ (x : Cell). x.ty) q, ap (λ (x : Cell). x.length) q)) | inr z ↦ absurd z ])
+          combining-sound ranks k (s.first + count s + (0 * count s + r)) o s.ty s.length (rank_at s r) (entry s r) []
+              (ground.members r i) whole
+          (λ c m. elim m [ inl e ↦ subst (λ c. (c < s.first + count s + (0 * count s + r)) × ((k c).ty ≡ s.ty) ×
+              ((k c).length ≡ s.length)) e (let q = entry-cells k s scan_rows cells r i in
+              (omega arith, ap (λ (x : Cell). x.ty) q, ap (λ (x : Cell). x.length) q)) | inr z ↦ absurd z ])
       one (suc j) r h i =
-          combining-sound ranks k (s.first + count s + (suc j * count s + r)) o s.ty s.length (rank_at s r) (scan_number s j r) (cond (nat_le (2 ^ j) r) (scan_number s j (r - 2 ^ j) ∷ []) []) (ground.members r i) whole
+          combining-sound ranks k (s.first + count s + (suc j * count s + r)) o s.ty s.length (rank_at s r) (scan_number s j r)
+              (cond (nat_le (2 ^ j) r) (scan_number s j (r - 2 ^ j) ∷ []) []) (ground.members r i) whole
           (λ c m. elim m [
-            | inl e ↦ subst (λ c. (c < s.first + count s + (suc j * count s + r)) × ((k c).ty ≡ s.ty) × ((k c).length ≡ s.length)) e (earlier (s.first + count s + (suc j * count s + r)) j r (omega arith) i (let q : suc j * count s ≡ j * count s + count s = omega arith in omega (arith, q)))
+            | inl e ↦ subst (λ c. (c < s.first + count s + (suc j * count s + r)) × ((k c).ty ≡ s.ty) × ((k c).length ≡ s.length)) e
+                (earlier (s.first + count s + (suc j * count s + r)) j r (omega arith) i
+                (let q : suc j * count s ≡ j * count s + count s = omega arith in omega (arith, q)))
             | inr n ↦ second (nat_le (2 ^ j) r) c n
           ])
         where
-          second : (b : Bool) (c : ℕ) → In c (cond b (scan_number s j (r - 2 ^ j) ∷ []) []) → (c < s.first + count s + (suc j * count s + r)) × ((k c).ty ≡ s.ty) × ((k c).length ≡ s.length)
-          second true c (inl e) = subst (λ c. (c < s.first + count s + (suc j * count s + r)) × ((k c).ty ≡ s.ty) × ((k c).length ≡ s.length)) e (earlier (s.first + count s + (suc j * count s + r)) j (r - 2 ^ j) (omega arith) (omega arith) (let q : suc j * count s ≡ j * count s + count s = omega arith in omega (arith, q)))
+          second : (b : Bool) (c : ℕ) → In c (cond b (scan_number s j (r - 2 ^ j) ∷ []) []) →
+              (c < s.first + count s + (suc j * count s + r)) × ((k c).ty ≡ s.ty) × ((k c).length ≡ s.length)
+          second true c (inl e) = subst (λ c. (c < s.first + count s + (suc j * count s + r)) × ((k c).ty ≡ s.ty) ×
+              ((k c).length ≡ s.length)) e (earlier (s.first + count s + (suc j * count s + r)) j (r - 2 ^ j) (omega arith) (omega arith)
+              (let q : suc j * count s ≡ j * count s + count s = omega arith in omega (arith, q)))
           second true c (inr z) = absurd z
           second false c z = absurd z
 
-  pub scan-value : (val x : ℕ → List ℕ) → count s ≤ 256 → s.length % bytes_of s.ty ≡ 0 → ((i : ℕ) → i < count s → (val (source_at s i) ≡ x i) × (length (val (source_at s i)) ≡ s.length)) → EachAt (Known k val) s.first (scan_cells s o)
-      → (r : ℕ) → r < count s → val (scan_number s (rounds (count s)) r) ≡ folded o s.ty (map x (from_to 0 (suc r))) (starting o s.ty s.length)
+  pub scan-value : (val x : ℕ → List ℕ) → count s ≤ 256 → s.length % bytes_of s.ty ≡ 0 →
+      ((i : ℕ) → i < count s → (val (source_at s i) ≡ x i) × (length (val (source_at s i)) ≡ s.length)) →
+      EachAt (Known k val) s.first (scan_cells s o)
+      → (r : ℕ) → r < count s → val (scan_number s (rounds (count s)) r) ≡ folded o s.ty (map x (from_to 0 (suc r)))
+          (starting o s.ty s.length)
   scan-value val x small whole has known r h =
-      scanned o s.ty s.length (count s) whole x (λ j r. val (scan_number s j r)) (rounds (count s)) first next (rounds (count s)) r (le_refl (rounds (count s))) (rounds-enough (count s) small) h
+      scanned o s.ty s.length (count s) whole x (λ j r. val (scan_number s j r)) (rounds (count s)) first next (rounds (count s)) r
+          (le_refl (rounds (count s))) (rounds-enough (count s) small) h
     where
       row_known : EachAt (Known k val) (s.first + count s) scan_rows
       row_known = behind (Known k val) s s.first (full_entry s) scan_rows known
@@ -75,16 +95,21 @@ module _ (k : ℕ → Cell) (s : StepContext) (o : AtomicOp) where
       first r i =
           let e = entry-known k val x s scan_rows known has r i in
           (scan-at (Known k val) row_known 0 r (omega arith) i).is_value
-          ∙ combining-value o s.ty s.length (rank_at s r) (entry s r ∷ []) val whole (λ c m. elim m [ inl q ↦ subst (λ c. length (val c) ≡ s.length) q e.1 | inr z ↦ absurd z ])
+          ∙ combining-value o s.ty s.length (rank_at s r) (entry s r ∷ []) val whole
+              (λ c m. elim m [ inl q ↦ subst (λ c. length (val c) ≡ s.length) q e.1 | inr z ↦ absurd z ])
           ∙ ap (combined o s.ty (starting o s.ty s.length)) e.0
 
       long : (j r : ℕ) → j ≤ rounds (count s) → r < count s → length (val (scan_number s j r)) ≡ s.length
       long j r i l = (scan-at (Known k val) row_known j r i l).is_long
 
-      next : (j r : ℕ) → j < rounds (count s) → r < count s → val (scan_number s (suc j) r) ≡ cond (nat_le (2 ^ j) r) (combined o s.ty (combined o s.ty (starting o s.ty s.length) (val (scan_number s j r))) (val (scan_number s j (r - 2 ^ j)))) (combined o s.ty (starting o s.ty s.length) (val (scan_number s j r)))
+      next : (j r : ℕ) → j < rounds (count s) → r < count s → val (scan_number s (suc j) r) ≡ cond (nat_le (2 ^ j) r)
+          (combined o s.ty (combined o s.ty (starting o s.ty s.length) (val (scan_number s j r))) (val (scan_number s j (r - 2 ^ j))))
+          (combined o s.ty (starting o s.ty s.length) (val (scan_number s j r)))
       next j r t i =
           (scan-at (Known k val) row_known (suc j) r t i).is_value
-          ∙ combining-value o s.ty s.length (rank_at s r) (scan_number s j r ∷ cond (nat_le (2 ^ j) r) (scan_number s j (r - 2 ^ j) ∷ []) []) val whole (λ c m. elim m [ inl q ↦ subst (λ c. length (val c) ≡ s.length) q (long j r (omega arith) i) | inr n ↦ second (nat_le (2 ^ j) r) c n ])
+          ∙ combining-value o s.ty s.length (rank_at s r) (scan_number s j r ∷ cond (nat_le (2 ^ j) r) (scan_number s j (r - 2 ^ j) ∷ [])
+              []) val whole (λ c m. elim m [ inl q ↦ subst (λ c. length (val c) ≡ s.length) q (long j r (omega arith) i) | inr n ↦ second
+              (nat_le (2 ^ j) r) c n ])
           ∙ both (nat_le (2 ^ j) r)
         where
           second : (b : Bool) (c : ℕ) → In c (cond b (scan_number s j (r - 2 ^ j) ∷ []) []) → length (val c) ≡ s.length
@@ -92,6 +117,8 @@ module _ (k : ℕ → Cell) (s : StepContext) (o : AtomicOp) where
           second true c (inr z) = absurd z
           second false c z = absurd z
 
-          both : (b : Bool) → folded o s.ty (map val (scan_number s j r ∷ cond b (scan_number s j (r - 2 ^ j) ∷ []) [])) (starting o s.ty s.length) ≡ cond b (combined o s.ty (combined o s.ty (starting o s.ty s.length) (val (scan_number s j r))) (val (scan_number s j (r - 2 ^ j)))) (combined o s.ty (starting o s.ty s.length) (val (scan_number s j r)))
+          both : (b : Bool) → folded o s.ty (map val (scan_number s j r ∷ cond b (scan_number s j (r - 2 ^ j) ∷ []) []))
+              (starting o s.ty s.length) ≡ cond b (combined o s.ty (combined o s.ty (starting o s.ty s.length) (val (scan_number s j r)))
+              (val (scan_number s j (r - 2 ^ j)))) (combined o s.ty (starting o s.ty s.length) (val (scan_number s j r)))
           both true = refl
           both false = refl

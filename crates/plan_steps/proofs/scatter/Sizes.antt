@@ -1,5 +1,6 @@
 -- A scatter's links and bytes, in closed form.
-use Rattle.std.proofs.Common.{ℕ, Bool, true, false, cond, ◌+◌, ◌-◌, ◌*◌, ◌≡◌, ◌<◌, ◌≤◌, ◌==◌, [], ◌∷◌, refl, length, map, ap, ap₂, ◌∙◌, arith, eq-eqb, ◌/◌}
+use Rattle.std.proofs.Common.{ℕ, Bool, true, false, cond, ◌+◌, ◌-◌, ◌*◌, ◌≡◌, ◌<◌, ◌≤◌, ◌==◌, [], ◌∷◌, refl, length, map, ap, ap₂, ◌∙◌,
+    arith, eq-eqb, ◌/◌}
 use Rattle.plan_core.specs.Draw.{links_of, bytes_in}
 use Rattle.plan_steps.proofs.StepSizes.{links-append, bytes-append, bytes-row, links-one, first-bytes}
 use Rattle.plan_steps.specs.Broadcast.{first_cell}
@@ -7,7 +8,8 @@ use Rattle.plan_steps.specs.Scatter.{scatter_cells, scattered}
 use Rattle.plan_steps.specs.StepContext.{StepContext, count, places, full_entry, bare_entry, block_length}
 use Rattle.std.proofs.lemmas.Bool.{ne_eqb}
 
-pub scatter-links : (s : StepContext) (root : ℕ) → root < count s → links_of (scatter_cells s root) ≡ count s + 1 + (count s + (count s - 1))
+pub scatter-links : (s : StepContext) (root : ℕ) → root < count s →
+    links_of (scatter_cells s root) ≡ count s + 1 + (count s + (count s - 1))
 scatter-links s root h =
     let m = count s in
     let a = links-append (map (first_cell s root) (places s)) (map (scattered s root) (places s)) in
@@ -33,7 +35,8 @@ scatter-links s root h =
         at true = refl
         at false = refl
 
-pub scatter-bytes : (s : StepContext) (root : ℕ) → root < count s → bytes_in (scatter_cells s root) ≡ s.length + count s * (s.length / count s)
+pub scatter-bytes : (s : StepContext) (root : ℕ) → root < count s → bytes_in (scatter_cells s root) ≡ s.length + count s *
+    (s.length / count s)
 scatter-bytes s root h =
     bytes-append (map (first_cell s root) (places s)) (map (scattered s root) (places s))
     ∙ ap₂ (λ x y. x + y) (first-bytes s root h) (bytes-row (scattered s root) 0 (count s) (block_length s) (λ i. refl))

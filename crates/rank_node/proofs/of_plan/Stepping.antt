@@ -20,19 +20,24 @@ use Rattle.rank_node.specs.Node.{IsNode, IsStarted, NodeState, fired_node, recei
 use Rattle.rank_node.specs.Plans.{IsCompiledFor}
 
 module _ (p : Plan) (inputs : Inputs) (slots : ℕ → Slots) (z : Scene) (r : ℕ) where
-  pub fired-rank : (t : ℕ) (n : NodeState) → IsRank p inputs slots z r n → IsNode (fired_node t n) → IsRank p inputs slots (step_made (system_of p inputs slots) (Fire r t) z) r (fired_node t n)
-  fired-rank t n is keeps = record { compiled = is.compiled; node = keeps; agrees = is.agrees; history = here r (Fired t) z.world ∙ ap (λ h. h ++ Fired t ∷ []) is.history }
+  pub fired-rank : (t : ℕ) (n : NodeState) → IsRank p inputs slots z r n → IsNode (fired_node t n) →
+      IsRank p inputs slots (step_made (system_of p inputs slots) (Fire r t) z) r (fired_node t n)
+  fired-rank t n is keeps = record { compiled = is.compiled; node = keeps; agrees = is.agrees; history = here r (Fired t) z.world
+      ∙ ap (λ h. h ++ Fired t ∷ []) is.history }
 
-  pub received-rank : (s : ℕ) (lane : Lane) (m : Sent) (later : List Sent) (n : NodeState) → z.held s r lane ≡ m ∷ later → IsRank p inputs slots z r n → IsNode (received_node s lane m n)
+  pub received-rank : (s : ℕ) (lane : Lane) (m : Sent) (later : List Sent) (n : NodeState) → z.held s r lane ≡ m ∷ later →
+      IsRank p inputs slots z r n → IsNode (received_node s lane m n)
       → IsRank p inputs slots (step_made (system_of p inputs slots) (Deliver s r lane) z) r (received_node s lane m n)
   received-rank s lane m later n front is keeps = record {
     compiled = is.compiled;
     node = keeps;
     agrees = is.agrees;
-    history = ap (λ ms. (delivered (system_of p inputs slots) s r lane ms z).world r) front ∙ here r (Received s lane m) z.world ∙ ap (λ h. h ++ Received s lane m ∷ []) is.history;
+    history = ap (λ ms. (delivered (system_of p inputs slots) s r lane ms z).world r) front ∙ here r (Received s lane m) z.world
+        ∙ ap (λ h. h ++ Received s lane m ∷ []) is.history;
   }
 
-  pub started-rank : (n v : NodeState) → IsRank p inputs slots z r n → IsStarted n v → IsNode v → Agrees (slots r) v.kept → IsRank p inputs slots (step_made (system_of p inputs slots) (Start r) z) r v
+  pub started-rank : (n v : NodeState) → IsRank p inputs slots z r n → IsStarted n v → IsNode v → Agrees (slots r) v.kept →
+      IsRank p inputs slots (step_made (system_of p inputs slots) (Start r) z) r v
   started-rank n v is st keeps agrees = record {
     compiled = subst (IsCompiledFor p inputs r) (sym st.task) is.compiled;
     node = keeps;
@@ -50,5 +55,7 @@ module _ (k : System) (z : Scene) (q : ℕ) where
   other-world (Fire r t) n = elsewhere r (Fired t) z.world q n
   other-world (Deliver s d lane) n = received-other s d lane (z.held s d lane) n
 
-pub other-rank : (p : Plan) (inputs : Inputs) (slots : ℕ → Slots) (z : Scene) (q : ℕ) (x : Step) (n : NodeState) → (q ≡ mover x → ⊥) → IsRank p inputs slots z q n → IsRank p inputs slots (step_made (system_of p inputs slots) x z) q n
-other-rank p inputs slots z q x n apart is = record { compiled = is.compiled; node = is.node; agrees = is.agrees; history = other-world (system_of p inputs slots) z q x apart ∙ is.history }
+pub other-rank : (p : Plan) (inputs : Inputs) (slots : ℕ → Slots) (z : Scene) (q : ℕ) (x : Step) (n : NodeState) → (q ≡ mover x → ⊥) →
+    IsRank p inputs slots z q n → IsRank p inputs slots (step_made (system_of p inputs slots) x z) q n
+other-rank p inputs slots z q x n apart is = record { compiled = is.compiled; node = is.node; agrees = is.agrees; history =
+    other-world (system_of p inputs slots) z q x apart ∙ is.history }

@@ -1,5 +1,6 @@
 -- What is counted for a rank is what it sends.
-use Rattle.std.proofs.Common.{ℕ, Bool, true, false, cond, not, ◌&&◌, ◌+◌, ◌≡◌, ◌<◌, ◌==◌, List, [], ◌∷◌, refl, length, filter, count_by, get_or, ap, ap₂, ◌∙◌, sym, arith, zero-add}
+use Rattle.std.proofs.Common.{ℕ, Bool, true, false, cond, not, ◌&&◌, ◌+◌, ◌≡◌, ◌<◌, ◌==◌, List, [], ◌∷◌, refl, length, filter, count_by,
+    get_or, ap, ap₂, ◌∙◌, sym, arith, zero-add}
 use Rattle.std.proofs.lemmas.Bool.{ne_eqb}
 use Rattle.std.proofs.lemmas.List.Sums.{length-filter}
 use Rattle.plan_core.specs.declared.LinkKind.{LinkKind}
@@ -59,4 +60,5 @@ pub cells-at : (p : Plan) (r : ℕ) (cells : List ℕ) → cells ≡ own_counts 
 cells-at p r cells e h = ap (λ v. get_or v r 0) e ∙ get-row (λ i. length (own p i)) p.ranks r 0 h
 
 pub sent-at : (p : Plan) (r : ℕ) (sent : List ℕ) → sent ≡ sent_counts p → r < p.ranks → get_or sent r 0 ≡ sends_of p r
-sent-at p r sent e h = ap (λ v. get_or v r 0) e ∙ get-row (λ i. length (of_key (sent_key p) (length p.links) i)) p.ranks r 0 h ∙ sent-all p r h
+sent-at p r sent e h = ap (λ v. get_or v r 0) e ∙ get-row (λ i. length (of_key (sent_key p) (length p.links) i)) p.ranks r 0 h
+    ∙ sent-all p r h

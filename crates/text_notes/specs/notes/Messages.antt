@@ -88,14 +88,17 @@ limit_message (limits.Links most) = says_with (codes "up to and with this step t
 -- what is too large
 abbrev pub excess_message : Excess → Said
 excess_message excesss.Buffer = says_with (codes "would have more elements at a rank than the most, ") (Number MOST_ELEMENTS) []
-excess_message excesss.Prints = says_with (codes "with the prints before it has more elements over all ranks than the most, ") (Number MOST_ELEMENTS) []
-excess_message (excesss.Cells most) = says_with (codes "up to and with this step the plan's cells have more than ") (Number most) (codes " bytes")
+excess_message excesss.Prints = says_with (codes "with the prints before it has more elements over all ranks than the most, ")
+    (Number MOST_ELEMENTS) []
+excess_message (excesss.Cells most) = says_with (codes "up to and with this step the plan's cells have more than ") (Number most)
+    (codes " bytes")
 
 -- what is wrong with an order line
 abbrev pub order_message : OrderFlaw → Said
 order_message order_flaws.NoOrder = says (codes "stands where the word order is due")
 order_message (order_flaws.NoRank rank) = says_with (codes "stands where this rank is due: ") (Number rank) []
-order_message (order_flaws.NoStep ranks) = says_with (codes "is no local step: s, rS, aS or fT, with a number T and a rank S below ") (Number ranks) []
+order_message (order_flaws.NoStep ranks) = says_with (codes "is no local step: s, rS, aS or fT, with a number T and a rank S below ")
+    (Number ranks) []
 
 -- what is wrong with a group
 abbrev pub group_message : GroupFlaw → Said

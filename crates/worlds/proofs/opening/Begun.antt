@@ -1,5 +1,6 @@
 -- Parts of which nothing was done are a world.
-use Rattle.std.proofs.Common.{ℕ, zero, suc, true, false, not, ◌&&◌, ◌+◌, ◌*◌, ◌<◌, ◌≤◌, ◌≡◌, ◌∙◌, List, [], get_or, length, count_by, sum_by, nat_lt, replicate, if◌then◌else◌, refl, ap, sym, subst, inl, inr, arith, lt-ltb, ltb-true}
+use Rattle.std.proofs.Common.{ℕ, zero, suc, true, false, not, ◌&&◌, ◌+◌, ◌*◌, ◌<◌, ◌≤◌, ◌≡◌, ◌∙◌, List, [], get_or, length, count_by,
+    sum_by, nat_lt, replicate, if◌then◌else◌, refl, ap, sym, subst, inl, inr, arith, lt-ltb, ltb-true}
 use Rattle.std.proofs.lemmas.Bool.{and_parts, cases_Bool, cases_lt}
 use Rattle.std.proofs.lemmas.List.{get_or-replicate, get_or_past, length-replicate}
 use Rattle.std.proofs.lemmas.List.Sums.{sum_by-cons}
@@ -43,12 +44,15 @@ pub none-held : (n : ℕ) (lanes : List Plain)
     → ((s d : ℕ) (lane : Lane) → s < n → d < n → (lane_at lanes (lane_place n s d lane)).messages ≡ [])
     → (s d : ℕ) (lane : Lane) → held_in n lanes s d lane ≡ []
 none-held n lanes empty s d lane = elim (cases_Bool (nat_lt s n && nat_lt d n)) [
-  | inl e ↦ (let both = and_parts (nat_lt s n) (nat_lt d n) e in ap (λ b. if b then (lane_at lanes (lane_place n s d lane)).messages else []) e ∙ empty s d lane (ltb-true s n both.0) (ltb-true d n both.1))
+  | inl e ↦ (let both = and_parts (nat_lt s n) (nat_lt d n) e in
+      ap (λ b. if b then (lane_at lanes (lane_place n s d lane)).messages else []) e
+      ∙ empty s d lane (ltb-true s n both.0) (ltb-true d n both.1))
   | inr e ↦ ap (λ b. if b then (lane_at lanes (lane_place n s d lane)).messages else []) e
 ]
 
 -- nodes without a step, and lanes without a message, are the first scene
-module _ (n : ℕ) (nodes : List NodeState) (lanes : List Plain) (size : length nodes ≡ n) (bare : (r : ℕ) → r < n → (node_at nodes r).diary.locals ≡ [])
+module _ (n : ℕ) (nodes : List NodeState) (lanes : List Plain) (size : length nodes ≡ n) (bare : (r : ℕ) → r < n →
+    (node_at nodes r).diary.locals ≡ [])
     (empty : (s d : ℕ) (lane : Lane) → s < n → d < n → (lane_at lanes (lane_place n s d lane)).messages ≡ []) where
   -- at any rank, and on any lane
   pub none-done : (r : ℕ) → (node_at nodes r).diary.locals ≡ []
@@ -97,7 +101,8 @@ module _ (p : Plan) (inputs : Inputs) (n : ℕ) (nodes : List NodeState) (lanes 
   none-for : (d : ℕ) → d < n → strays_for n nodes lanes d ≡ 0
   none-for d hd =
       let a = ap (count_by is_received_stray) (done-before d) in
-      let b = none-due 0 (λ s. count_by is_stray (lane_at lanes (lane_place n s d Request)).messages) n (λ s low high. ap (count_by is_stray) (empty s d Request (omega (arith, high)) hd)) in
+      let b = none-due 0 (λ s. count_by is_stray (lane_at lanes (lane_place n s d Request)).messages) n
+            (λ s low high. ap (count_by is_stray) (empty s d Request (omega (arith, high)) hd)) in
       omega (arith, a, b)
 
   are-strays : AreStrays n nodes lanes strays strays
@@ -109,7 +114,8 @@ module _ (p : Plan) (inputs : Inputs) (n : ℕ) (nodes : List NodeState) (lanes 
   }
 
   none-may : (s d : ℕ) (lane : Lane) → s < n → d < n → delivery_count lanes n window s d lane ≡ 0
-  none-may s d Request hs hd = ap (λ (ms : List Sent). if nat_lt 0 (length ms) && lane_has lanes n window d s Answer then 1 else 0) (empty s d Request hs hd)
+  none-may s d Request hs hd = ap (λ (ms : List Sent). if nat_lt 0 (length ms) && lane_has lanes n window d s Answer then 1 else 0)
+      (empty s d Request hs hd)
   none-may s d Answer hs hd = ap (λ (ms : List Sent). if nat_lt 0 (length ms) then 1 else 0) (empty s d Answer hs hd)
 
   -- with the counts of starts and firings

@@ -1,5 +1,6 @@
 -- What is laid out pair by pair of ranks: for each pair one thing for its requests and one for its answers.
-use Rattle.std.proofs.Common.{ℕ, ◌+◌, ◌*◌, ◌/◌, ◌%◌, ◌≡◌, ◌≢◌, ◌<◌, ◌≤◌, ◌∙◌, List, [], ◌∷◌, ◌++◌, get_or, length, ap, ap₂, sym, arith, below_more}
+use Rattle.std.proofs.Common.{ℕ, ◌+◌, ◌*◌, ◌/◌, ◌%◌, ◌≡◌, ◌≢◌, ◌<◌, ◌≤◌, ◌∙◌, List, [], ◌∷◌, ◌++◌, get_or, length, ap, ap₂, sym, arith,
+    below_more}
 use Rattle.std.proofs.Math.ListN.{set, length-set}
 use Rattle.std.proofs.Math.Nat.{mul-le-mul}
 use Rattle.std.proofs.lemmas.List.{get_or-set_other, get_or-set_same, get_or_append_left, get_or_push, length_push}
@@ -34,7 +35,8 @@ module _ {X : Type 0} where
         answer = under (2 * k + 1) (omega (arith, size, h)) ∙ (before k h).answer;
       })
       (record {
-        request = get_or_append_left (xs ++ a ∷ []) (b ∷ []) none (2 * i) (omega (arith, size, more)) ∙ get_or_push xs a none (2 * i) size ∙ ea;
+        request = get_or_append_left (xs ++ a ∷ []) (b ∷ []) none (2 * i) (omega (arith, size, more)) ∙ get_or_push xs a none (2 * i) size
+            ∙ ea;
         answer = get_or_push (xs ++ a ∷ []) b none (2 * i + 1) (omega (arith, size, more)) ∙ eb;
       })
     where

@@ -1,5 +1,6 @@
 -- Nodes that are told, rank by rank, which of their lanes have room.
-use Rattle.std.proofs.Common.{ℕ, Bool, false, not, ◌+◌, ◌*◌, ◌/◌, ◌%◌, ◌<◌, ◌≡◌, ◌∙◌, List, get_or, length, refl, sym, ap, ap₂, subst, inl, inr, arith}
+use Rattle.std.proofs.Common.{ℕ, Bool, false, not, ◌+◌, ◌*◌, ◌/◌, ◌%◌, ◌<◌, ◌≡◌, ◌∙◌, List, get_or, length, refl, sym, ap, ap₂, subst, inl,
+    inr, arith}
 use Rattle.std.proofs.Math.ListN.{length-set}
 use Rattle.std.proofs.lemmas.Bool.{cases_eq}
 use Rattle.std.proofs.lemmas.Nat.{div-add-mod', div_below, mod_below}
@@ -36,7 +37,8 @@ module _ (lanes : List Plain) (n window s d : ℕ) (nodes : List NodeState) (the
 
   -- the gates of the pairs before, and this one
   pub gates_more : s < n → d < n → d < length (node_at nodes s).closed
-      → ((r e : ℕ) → r < n → e < n → r * n + e < s * n + d → get_or (node_at nodes r).closed e false ≡ not (lane_has lanes n window r e Request))
+      → ((r e : ℕ) → r < n → e < n → r * n + e < s * n + d →
+          get_or (node_at nodes r).closed e false ≡ not (lane_has lanes n window r e Request))
       → (r e : ℕ) → r < n → e < n → r * n + e < s * n + d + 1
       → get_or (node_at (gated lanes n window s d nodes) r).closed e false ≡ not (lane_has lanes n window r e Request)
   gates_more hs hd inside before r e hr he h =
@@ -51,7 +53,8 @@ module _ (lanes : List Plain) (n window s d : ℕ) (nodes : List NodeState) (the
 pub record AreGatedTo (n window : ℕ) (lanes : List Plain) (old nodes : List NodeState) (i : ℕ) : Type 0 where
   pub size : length nodes ≡ n
   pub same : (r : ℕ) → IsSameButGates (node_at old r) (node_at nodes r)
-  pub gates : (r d : ℕ) → r < n → d < n → r * n + d < i → get_or (node_at nodes r).closed d false ≡ not (lane_has lanes n window r d Request)
+  pub gates : (r d : ℕ) → r < n → d < n → r * n + d < i → get_or (node_at nodes r).closed d false ≡ not
+      (lane_has lanes n window r d Request)
 
 module _ (n window : ℕ) (lanes : List Plain) (old nodes : List NodeState) (i : ℕ) (some : 0 < n) (h : i < n * n)
     (wide : (r : ℕ) → r < n → length (node_at old r).closed ≡ n) (before : AreGatedTo n window lanes old nodes i) where

@@ -1,5 +1,6 @@
 -- The counts and gates after a step, of which those that it changed were made right.
-use Rattle.std.proofs.Common.{ℕ, false, not, ◌*◌, ◌<◌, ◌≡◌, ◌∙◌, List, get_or, length, count_by, nat_lt, if◌then◌else◌, refl, sym, ap, ap₂, arith}
+use Rattle.std.proofs.Common.{ℕ, false, not, ◌*◌, ◌<◌, ◌≡◌, ◌∙◌, List, get_or, length, count_by, nat_lt, if◌then◌else◌, refl, sym, ap, ap₂,
+    arith}
 use Rattle.std.proofs.Math.ListN.{set, length-set}
 use Rattle.std.proofs.lemmas.List.{get_or-set_other}
 use Rattle.ptl_types.specs.declared.headers.Lane.{Lane}
@@ -66,7 +67,8 @@ module _ (n : ℕ) (nodes : List NodeState) (lanes : List Plain) (starts deliver
   -- it has started as before
   module _ (count : start_count new ≡ start_count (node_at nodes r)) where
     starts_same : (q : ℕ) → q < n → get_or starts q 0 ≡ start_count (node_at news q)
-    starts_same q h = k.of_starts q h ∙ sym (at_set (λ (v : NodeState). start_count v ≡ start_count (node_at nodes q)) nodes r q new no_node inside_nodes
+    starts_same q h = k.of_starts q h ∙ sym (at_set (λ (v : NodeState). start_count v ≡ start_count (node_at nodes q)) nodes r q new
+        no_node inside_nodes
         (λ e. count ∙ ap (λ t. start_count (node_at nodes t)) (sym e)) (λ x. refl))
 
     -- and no lane changed
@@ -83,7 +85,8 @@ module _ (n : ℕ) (nodes : List NodeState) (lanes : List Plain) (starts deliver
 
     -- or no other request lane came to have room or to have none, and node s was told of that one
     module _ (wide : (q : ℕ) → q < n → length (node_at nodes q).closed ≡ n) (later : List Plain) (s d : ℕ) (hs : s < n) (hd : d < n)
-        (rooms : (q e : ℕ) → q < n → e < n → ((q ≡ s) × (e ≡ d) → ⊥) → lane_has later n window q e Request ≡ lane_has lanes n window q e Request) where
+        (rooms : (q e : ℕ) → q < n → e < n → ((q ≡ s) × (e ≡ d) → ⊥) → lane_has later n window q e Request ≡ lane_has lanes n window q e
+            Request) where
       abbrev nexts : List NodeState
       nexts = gated later n window s d news
 
@@ -93,7 +96,8 @@ module _ (n : ℕ) (nodes : List NodeState) (lanes : List Plain) (starts deliver
       starts_gated : (q : ℕ) → q < n → get_or starts q 0 ≡ start_count (node_at nexts q)
       starts_gated q h =
           starts_same q h
-          ∙ ap (λ (x : Diary). if nat_lt 0 (count_by is_start x.locals) then 0 else 1) (sym (is_gated later n window s d news q inside_news).diary)
+          ∙ ap (λ (x : Diary). if nat_lt 0 (count_by is_start x.locals) then 0 else 1)
+              (sym (is_gated later n window s d news q inside_news).diary)
 
       gates_gated : (q e : ℕ) → q < n → e < n → get_or (node_at nexts q).closed e false ≡ not (lane_has later n window q e Request)
       gates_gated q e hq he =

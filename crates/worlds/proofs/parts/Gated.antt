@@ -41,7 +41,8 @@ gates_after x y z a b = record {
 }
 
 one_gate : (x : NodeState) (d : ℕ) (b : Bool) → IsGated x (gated_node d b x)
-one_gate x d b = record { task = refl; kept = refl; diary = refl; nic = refl; strays = refl; wide = length-set x.closed d b; node = gated-is x d b }
+one_gate x d b = record { task = refl; kept = refl; diary = refl; nic = refl; strays = refl; wide = length-set x.closed d b; node =
+    gated-is x d b }
 
 module _ (lanes : List Plain) (n window s d : ℕ) (nodes : List NodeState) where
   abbrev shut : Bool
@@ -64,10 +65,12 @@ module _ (lanes : List Plain) (n window s d : ℕ) (nodes : List NodeState) wher
 
   -- whether a lane is closed
   pub gate_right : (r e : ℕ) (v : Bool) → s < length nodes → d < length (node_at nodes s).closed
-      → ((r ≡ s) × (e ≡ d) → not (lane_has lanes n window s d Request) ≡ v) → (((r ≡ s) × (e ≡ d) → ⊥) → get_or (node_at nodes r).closed e false ≡ v)
+      → ((r ≡ s) × (e ≡ d) → not (lane_has lanes n window s d Request) ≡ v) →
+          (((r ≡ s) × (e ≡ d) → ⊥) → get_or (node_at nodes r).closed e false ≡ v)
       → get_or (node_at (gated lanes n window s d nodes) r).closed e false ≡ v
   gate_right r e v h i right rest = at_set (λ (k : NodeState). get_or k.closed e false ≡ v) nodes s r gate no_node h
-      (λ a. at_set (λ c. c ≡ v) (node_at nodes s).closed d e (not (lane_has lanes n window s d Request)) false i (λ b. right (a, b)) (λ y. subst (λ q. get_or (node_at nodes q).closed e false ≡ v) a (rest (λ z. y z.1))))
+      (λ a. at_set (λ c. c ≡ v) (node_at nodes s).closed d e (not (lane_has lanes n window s d Request)) false i (λ b. right (a, b))
+          (λ y. subst (λ q. get_or (node_at nodes q).closed e false ≡ v) a (rest (λ z. y z.1))))
       (λ x. rest (λ y. x y.0))
 
 -- a node that is told what it was told last is as it was
@@ -86,9 +89,13 @@ pub right_same : (nodes : List NodeState) (r : ℕ) (firings : List ℕ) → get
 right_same nodes r firings right = ap (set firings r) (sym right) ∙ set-get_or firings r 0
 
 -- histories and lanes are a scene
-pub scene_by : (w v : Histories) (a b : Lanes) → ((r : ℕ) → w r ≡ v r) → ((s d : ℕ) (lane : Lane) → a s d lane ≡ b s d lane) → (let x : Scene = record { world = w; held = a } in x) ≡ (let y : Scene = record { world = v; held = b } in y)
-scene_by w v a b f g = ap₂ (λ x y. let z : Scene = record { world = x; held = y } in z) (fun_ext f) (fun_ext (λ s. fun_ext (λ d. fun_ext (g s d))))
+pub scene_by : (w v : Histories) (a b : Lanes) → ((r : ℕ) → w r ≡ v r) → ((s d : ℕ) (lane : Lane) → a s d lane ≡ b s d lane) →
+    (let x : Scene = record { world = w; held = a } in x) ≡ (let y : Scene = record { world = v; held = b } in y)
+scene_by w v a b f g = ap₂ (λ x y. let z : Scene = record { world = x; held = y } in z) (fun_ext f)
+    (fun_ext (λ s. fun_ext (λ d. fun_ext (g s d))))
 
 -- gates are no part of it
-pub scene_gated : (n : ℕ) (nodes news : List NodeState) (lanes : List Plain) → ((r : ℕ) → IsGated (node_at nodes r) (node_at news r)) → scene_of n news lanes ≡ scene_of n nodes lanes
-scene_gated n nodes news lanes h = scene_by (λ r. (node_at news r).diary.locals) (λ r. (node_at nodes r).diary.locals) (held_in n lanes) (held_in n lanes) (λ r. ap (λ (d : Diary). d.locals) (h r).diary) (λ s d lane. refl)
+pub scene_gated : (n : ℕ) (nodes news : List NodeState) (lanes : List Plain) → ((r : ℕ) → IsGated (node_at nodes r) (node_at news r)) →
+    scene_of n news lanes ≡ scene_of n nodes lanes
+scene_gated n nodes news lanes h = scene_by (λ r. (node_at news r).diary.locals) (λ r. (node_at nodes r).diary.locals) (held_in n lanes)
+    (held_in n lanes) (λ r. ap (λ (d : Diary). d.locals) (h r).diary) (λ s d lane. refl)

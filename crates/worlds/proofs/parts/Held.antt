@@ -1,5 +1,6 @@
 -- What lies in the lanes of which one is changed.
-use Rattle.std.proofs.Common.{ℕ, Bool, true, false, not, cond, ◌&&◌, ◌*◌, ◌<◌, ◌≤◌, ◌≡◌, ◌∙◌, List, [], ◌∷◌, ◌++◌, Option, Some, None, length, filter, nat_lt, if◌then◌else◌, ◌==◌, refl, sym, ap, ap₂, inl, inr, arith, append-nil, eq-eqb, eqb-true, lt-ltb}
+use Rattle.std.proofs.Common.{ℕ, Bool, true, false, not, cond, ◌&&◌, ◌*◌, ◌<◌, ◌≤◌, ◌≡◌, ◌∙◌, List, [], ◌∷◌, ◌++◌, Option, Some, None,
+    length, filter, nat_lt, if◌then◌else◌, ◌==◌, refl, sym, ap, ap₂, inl, inr, arith, append-nil, eq-eqb, eqb-true, lt-ltb}
 use Rattle.std.proofs.Math.ListN.{set, length-set}
 use Rattle.std.proofs.lemmas.Bool.{and_parts, cases_Bool, cases_lt}
 use Rattle.std.proofs.lemmas.List.{get_or-set_same, get_or-set_other}
@@ -24,12 +25,15 @@ and_false true = refl
 and_false false = refl
 
 -- a lane of two of the ranks
-pub held_here : (n : ℕ) (lanes : List Plain) (s d : ℕ) (lane : Lane) → s < n → d < n → held_in n lanes s d lane ≡ (lane_at lanes (lane_place n s d lane)).messages
-held_here n lanes s d lane hs hd = ap₂ (λ a b. if a && b then (lane_at lanes (lane_place n s d lane)).messages else []) (lt-ltb s n hs) (lt-ltb d n hd)
+pub held_here : (n : ℕ) (lanes : List Plain) (s d : ℕ) (lane : Lane) → s < n → d < n →
+    held_in n lanes s d lane ≡ (lane_at lanes (lane_place n s d lane)).messages
+held_here n lanes s d lane hs hd = ap₂ (λ a b. if a && b then (lane_at lanes (lane_place n s d lane)).messages else []) (lt-ltb s n hs)
+    (lt-ltb d n hd)
 
 -- of others there is none
 held_past_source : (n : ℕ) (lanes : List Plain) (s d : ℕ) (lane : Lane) → n ≤ s → held_in n lanes s d lane ≡ []
-held_past_source n lanes s d lane h = ap (λ a. if a && nat_lt d n then (lane_at lanes (lane_place n s d lane)).messages else []) (test_not_lt s n h)
+held_past_source n lanes s d lane h = ap (λ a. if a && nat_lt d n then (lane_at lanes (lane_place n s d lane)).messages else [])
+    (test_not_lt s n h)
 
 held_past_goal : (n : ℕ) (lanes : List Plain) (s d : ℕ) (lane : Lane) → n ≤ d → held_in n lanes s d lane ≡ []
 held_past_goal n lanes s d lane h =
@@ -37,7 +41,9 @@ held_past_goal n lanes s d lane h =
     ∙ ap (λ b. if b then (lane_at lanes (lane_place n s d lane)).messages else []) (and_false (nat_lt s n))
 
 -- lanes that are the same at a place hold the same
-held_same : (n : ℕ) (lanes later : List Plain) (s d : ℕ) (lane : Lane) → (s < n → d < n → lane_at later (lane_place n s d lane) ≡ lane_at lanes (lane_place n s d lane)) → held_in n later s d lane ≡ held_in n lanes s d lane
+held_same : (n : ℕ) (lanes later : List Plain) (s d : ℕ) (lane : Lane) →
+    (s < n → d < n → lane_at later (lane_place n s d lane) ≡ lane_at lanes (lane_place n s d lane)) →
+    held_in n later s d lane ≡ held_in n lanes s d lane
 held_same n lanes later s d lane same = elim (cases_lt s n) [
   | inr hs ↦ held_past_source n later s d lane hs ∙ sym (held_past_source n lanes s d lane hs)
   | inl hs ↦ elim (cases_lt d n) [
@@ -47,11 +53,13 @@ held_same n lanes later s d lane same = elim (cases_lt s n) [
 ]
 
 -- the place of a lane is inside
-pub inside : (n : ℕ) (lanes : List Plain) → length lanes ≡ 2 * (n * n) → (a b : ℕ) (way : Lane) → a < n → b < n → lane_place n a b way < length lanes
+pub inside : (n : ℕ) (lanes : List Plain) → length lanes ≡ 2 * (n * n) → (a b : ℕ) (way : Lane) → a < n → b < n →
+    lane_place n a b way < length lanes
 inside n lanes size a b way ha hb = let i = lane_in n a b way ha hb in omega arith
 
 -- one lane has other messages
-module _ (n : ℕ) (lanes : List Plain) (size : length lanes ≡ 2 * (n * n)) (a b : ℕ) (way : Lane) (ha : a < n) (hb : b < n) (ms : List Sent) where
+module _ (n : ℕ) (lanes : List Plain) (size : length lanes ≡ 2 * (n * n)) (a b : ℕ) (way : Lane) (ha : a < n) (hb : b < n)
+    (ms : List Sent) where
   abbrev pub set_lane : List Plain
   set_lane = set lanes (lane_place n a b way) (plain ms (lane_at lanes (lane_place n a b way)).capacity)
 
@@ -62,21 +70,28 @@ module _ (n : ℕ) (lanes : List Plain) (size : length lanes ≡ 2 * (n * n)) (a
   set_size = length-set lanes (lane_place n a b way) (plain ms (lane_at lanes (lane_place n a b way)).capacity) ∙ size
 
   -- the others are as they were
-  pub set_other : (s d : ℕ) (lane : Lane) → d < n → (OneLane s d lane a b way → ⊥) → lane_at set_lane (lane_place n s d lane) ≡ lane_at lanes (lane_place n s d lane)
-  set_other s d lane hd apart = get_or-set_other lanes (lane_place n a b way) (lane_place n s d lane) (plain ms (lane_at lanes (lane_place n a b way)).capacity) (plain [] 0) (λ q. apart (lane_apart n s d lane a b way hd hb q))
+  pub set_other : (s d : ℕ) (lane : Lane) → d < n → (OneLane s d lane a b way → ⊥) → lane_at set_lane (lane_place n s d lane) ≡ lane_at
+      lanes (lane_place n s d lane)
+  set_other s d lane hd apart = get_or-set_other lanes (lane_place n a b way) (lane_place n s d lane)
+      (plain ms (lane_at lanes (lane_place n a b way)).capacity) (plain [] 0) (λ q. apart (lane_apart n s d lane a b way hd hb q))
 
   pub set_here : (lane_at set_lane (lane_place n a b way)).messages ≡ ms
-  set_here = ap (λ (x : Plain). x.messages) (get_or-set_same lanes (lane_place n a b way) (plain ms (lane_at lanes (lane_place n a b way)).capacity) (plain [] 0) here)
+  set_here = ap (λ (x : Plain). x.messages) (get_or-set_same lanes (lane_place n a b way)
+      (plain ms (lane_at lanes (lane_place n a b way)).capacity) (plain [] 0) here)
 
   -- each keeps its room
   pub set_capacity : (i : ℕ) → (lane_at set_lane i).capacity ≡ (lane_at lanes i).capacity
-  set_capacity i = at_set (λ x. x.capacity ≡ (lane_at lanes i).capacity) lanes (lane_place n a b way) i (plain ms (lane_at lanes (lane_place n a b way)).capacity) (plain [] 0) here (λ e. ap (λ j. (lane_at lanes j).capacity) (sym e)) (λ x. refl)
+  set_capacity i = at_set (λ x. x.capacity ≡ (lane_at lanes i).capacity) lanes (lane_place n a b way) i
+      (plain ms (lane_at lanes (lane_place n a b way)).capacity) (plain [] 0) here (λ e. ap (λ j. (lane_at lanes j).capacity) (sym e))
+      (λ x. refl)
 
-  pub held_set : (s d : ℕ) (lane : Lane) → held_in n set_lane s d lane ≡ (if is_lane_of a b way s d lane then ms else held_in n lanes s d lane)
+  pub held_set : (s d : ℕ) (lane : Lane) → held_in n set_lane s d lane
+      ≡ (if is_lane_of a b way s d lane then ms else held_in n lanes s d lane)
   held_set s d lane = elim (cases_Bool (is_lane_of a b way s d lane)) [
     | inl e ↦
         let o = one_lane a b way s d lane e in
-        ap₂ (λ x y. held_in n set_lane x y lane) o.source o.destination ∙ ap (held_in n set_lane a b) o.kind ∙ held_here n set_lane a b way ha hb ∙ set_here
+        ap₂ (λ x y. held_in n set_lane x y lane) o.source o.destination ∙ ap (held_in n set_lane a b) o.kind
+            ∙ held_here n set_lane a b way ha hb ∙ set_here
         ∙ sym (ap (λ t. if t then ms else held_in n lanes s d lane) e)
     | inr e ↦
         held_same n lanes set_lane s d lane (λ hs hd. set_other s d lane hd (not_one a b way s d lane e))
@@ -100,17 +115,20 @@ known_lane k = at (is_answer k) refl
     at false e = ap not e
 
 -- what rank r sends by it, lane by lane
-sent_there : (r s d : ℕ) (lane : Lane) (m : Sent) → (if s == r then filter (is_for d lane) (m ∷ []) else []) ≡ (if is_lane_of r m.header.target (lane_of m.header.kind) s d lane then m ∷ [] else [])
+sent_there : (r s d : ℕ) (lane : Lane) (m : Sent) → (if s == r then filter (is_for d lane) (m ∷ []) else [])
+    ≡ (if is_lane_of r m.header.target (lane_of m.header.kind) s d lane then m ∷ [] else [])
 sent_there r s d lane m = elim (cases_Bool (is_lane_of r m.header.target (lane_of m.header.kind) s d lane)) [
   | inl e ↦
       let o = one_lane r m.header.target (lane_of m.header.kind) s d lane e in
       ap (λ b. if b then filter (is_for d lane) (m ∷ []) else []) (eq-eqb s r o.source)
-      ∙ ap (λ b. if b then m ∷ [] else []) (ap₂ (λ x y. x && y) (eq-eqb m.header.target d (sym o.destination)) (ap (λ l. is_lane l m.header.kind) o.kind ∙ known_lane m.header.kind))
+      ∙ ap (λ b. if b then m ∷ [] else []) (ap₂ (λ x y. x && y) (eq-eqb m.header.target d (sym o.destination))
+          (ap (λ l. is_lane l m.header.kind) o.kind ∙ known_lane m.header.kind))
       ∙ sym (ap (λ b. if b then m ∷ [] else []) e)
   | inr e ↦ elsewhere e ∙ sym (ap (λ b. if b then m ∷ [] else []) e)
 ]
   where
-    elsewhere : is_lane_of r m.header.target (lane_of m.header.kind) s d lane ≡ false → (if s == r then filter (is_for d lane) (m ∷ []) else []) ≡ []
+    elsewhere : is_lane_of r m.header.target (lane_of m.header.kind) s d lane ≡ false →
+        (if s == r then filter (is_for d lane) (m ∷ []) else []) ≡ []
     elsewhere e = elim (cases_Bool (s == r)) [
       | inr n ↦ ap (λ b. if b then filter (is_for d lane) (m ∷ []) else []) n
       | inl y ↦ elim (cases_Bool (is_for d lane m)) [
@@ -123,26 +141,35 @@ sent_there r s d lane m = elim (cases_Bool (is_lane_of r m.header.target (lane_o
     ]
 
 module _ (n : ℕ) (lanes : List Plain) (size : length lanes ≡ 2 * (n * n)) (r : ℕ) (hr : r < n) where
-  pub held_sent : (m : Sent) → m.header.target < n → (s d : ℕ) (lane : Lane) → held_in n (sent_out n r m lanes) s d lane ≡ held_in n lanes s d lane ++ (if s == r then filter (is_for d lane) (m ∷ []) else [])
+  pub held_sent : (m : Sent) → m.header.target < n → (s d : ℕ) (lane : Lane) → held_in n (sent_out n r m lanes) s d lane ≡ held_in n lanes
+      s d lane ++ (if s == r then filter (is_for d lane) (m ∷ []) else [])
   held_sent m hm s d lane =
-      held_set n lanes size r m.header.target (lane_of m.header.kind) hr hm ((lane_at lanes (lane_place n r m.header.target (lane_of m.header.kind))).messages ++ m ∷ []) s d lane
+      held_set n lanes size r m.header.target (lane_of m.header.kind) hr hm
+          ((lane_at lanes (lane_place n r m.header.target (lane_of m.header.kind))).messages ++ m ∷ []) s d lane
       ∙ by_lane
       ∙ ap (λ ms. held_in n lanes s d lane ++ ms) (sym (sent_there r s d lane m))
     where
-      by_lane : (if is_lane_of r m.header.target (lane_of m.header.kind) s d lane then (lane_at lanes (lane_place n r m.header.target (lane_of m.header.kind))).messages ++ m ∷ [] else held_in n lanes s d lane) ≡ held_in n lanes s d lane ++ (if is_lane_of r m.header.target (lane_of m.header.kind) s d lane then m ∷ [] else [])
+      by_lane : (if is_lane_of r m.header.target (lane_of m.header.kind) s d lane then
+          (lane_at lanes (lane_place n r m.header.target (lane_of m.header.kind))).messages ++ m ∷ [] else held_in n lanes s d lane)
+          ≡ held_in n lanes s d lane ++ (if is_lane_of r m.header.target (lane_of m.header.kind) s d lane then m ∷ [] else [])
       by_lane = elim (cases_Bool (is_lane_of r m.header.target (lane_of m.header.kind) s d lane)) [
         | inl e ↦
             let o = one_lane r m.header.target (lane_of m.header.kind) s d lane e in
-            ap (λ t. if t then (lane_at lanes (lane_place n r m.header.target (lane_of m.header.kind))).messages ++ m ∷ [] else held_in n lanes s d lane) e
-            ∙ ap (λ ms. ms ++ m ∷ []) (sym (ap₂ (λ x y. held_in n lanes x y lane) o.source o.destination ∙ ap (held_in n lanes r m.header.target) o.kind ∙ held_here n lanes r m.header.target (lane_of m.header.kind) hr hm))
+            ap (λ t. if t then (lane_at lanes (lane_place n r m.header.target (lane_of m.header.kind))).messages ++ m ∷ [] else held_in n
+                lanes s d lane) e
+            ∙ ap (λ ms. ms ++ m ∷ []) (sym (ap₂ (λ x y. held_in n lanes x y lane) o.source o.destination
+                ∙ ap (held_in n lanes r m.header.target) o.kind ∙ held_here n lanes r m.header.target (lane_of m.header.kind) hr hm))
             ∙ ap (λ t. held_in n lanes s d lane ++ (if t then m ∷ [] else [])) (sym e)
         | inr e ↦
-            ap (λ t. if t then (lane_at lanes (lane_place n r m.header.target (lane_of m.header.kind))).messages ++ m ∷ [] else held_in n lanes s d lane) e ∙ sym (append-nil (held_in n lanes s d lane))
+            ap (λ t. if t then (lane_at lanes (lane_place n r m.header.target (lane_of m.header.kind))).messages ++ m ∷ [] else held_in n
+                lanes s d lane) e ∙ sym (append-nil (held_in n lanes s d lane))
             ∙ ap (λ t. held_in n lanes s d lane ++ (if t then m ∷ [] else [])) (sym e)
       ]
 
   -- what the rank makes, if anything
-  pub held_out : (o : Option Sent) → ((m : Sent) → o ≡ Some m → m.header.target < n) → (s d : ℕ) (lane : Lane) → held_in n (out_with n r o lanes) s d lane ≡ held_in n lanes s d lane ++ (if s == r then filter (is_for d lane) (and_then o []) else [])
+  pub held_out : (o : Option Sent) → ((m : Sent) → o ≡ Some m → m.header.target < n) → (s d : ℕ) (lane : Lane) →
+      held_in n (out_with n r o lanes) s d lane ≡ held_in n lanes s d lane ++
+      (if s == r then filter (is_for d lane) (and_then o []) else [])
   held_out None goes s d lane = sym (ap (λ ms. held_in n lanes s d lane ++ ms) (none (s == r)) ∙ append-nil (held_in n lanes s d lane))
     where
       none : (b : Bool) → cond {A = List Sent} b [] [] ≡ []

@@ -1,5 +1,6 @@
 -- A stray goes into its lane, over the parts of a world.
-use Rattle.std.proofs.Common.{ℕ, true, ◌+◌, ◌-◌, ◌<◌, ◌≤◌, ◌≡◌, ◌∙◌, List, [], ◌∷◌, ◌++◌, length, count_by, nat_lt, if◌then◌else◌, refl, sym, ap, ap₂, subst, inl, inr, arith, append-nil}
+use Rattle.std.proofs.Common.{ℕ, true, ◌+◌, ◌-◌, ◌<◌, ◌≤◌, ◌≡◌, ◌∙◌, List, [], ◌∷◌, ◌++◌, length, count_by, nat_lt, if◌then◌else◌, refl,
+    sym, ap, ap₂, subst, inl, inr, arith, append-nil}
 use Rattle.std.proofs.lemmas.Bool.{cases_Bool, cases_eq}
 use Rattle.std.proofs.lemmas.List.{set-get_or}
 use Rattle.ptl_types.specs.Messages.{Sent}
@@ -44,7 +45,8 @@ pub record IsJoined (n window s d : ℕ) (news : List NodeState) (later : List P
 
 -- the injection of a stray on a used lane is a step of the plan's ranks and strays
 pub stray_step : (ranks : System) (z : Scene) (s d : ℕ) (m : Sent) → s < ranks.count → d < ranks.count → ranks.used s d Request ≡ true
-    → is_stray m ≡ true → m.header.source ≡ s → m.header.target ≡ d → IsKept m → IsStrayStep ranks z.world z.held (injected s d m z).world (injected s d m z).held
+    → is_stray m ≡ true → m.header.source ≡ s → m.header.target ≡ d → IsKept m → IsStrayStep ranks z.world z.held (injected s d m z).world
+        (injected s d m z).held
 stray_step ranks z s d m hs hd used stray source target kept = record {
   s = s;
   d = d;
@@ -57,7 +59,8 @@ stray_step ranks z s d m hs hd used stray source target kept = record {
   put = λ q u lane. refl;
 }
 
-module _ (p : Plan) (inputs : Inputs) (n : ℕ) (nodes : List NodeState) (lanes : List Plain) (starts deliveries firings : List ℕ) (window strays spare : ℕ) (k : IsWorld p inputs n nodes lanes starts deliveries firings window strays spare)
+module _ (p : Plan) (inputs : Inputs) (n : ℕ) (nodes : List NodeState) (lanes : List Plain) (starts deliveries firings : List ℕ)
+    (window strays spare : ℕ) (k : IsWorld p inputs n nodes lanes starts deliveries firings window strays spare)
     (s d : ℕ) (m : Sent) (some : 0 < strays) (hs : s < n) (hd : d < n) (stray : is_stray m ≡ true) where
   abbrev full : List Sent
   full = (lane_at lanes (lane_place n s d Request)).messages ++ m ∷ []
@@ -68,7 +71,10 @@ module _ (p : Plan) (inputs : Inputs) (n : ℕ) (nodes : List NodeState) (lanes 
   -- there is room for it
   pub inject_room : length (lane_at lanes (lane_place n s d Request)).messages < (lane_at lanes (lane_place n s d Request)).capacity
   inject_room =
-      let a = few_held p inputs n nodes lanes window strays spare k.parts k.stray (slots_now p inputs n nodes lanes window strays spare k.parts k.stray) (scene_of n nodes lanes) (k.parts.moment (slots_now p inputs n nodes lanes window strays spare k.parts k.stray) (agree_now p inputs n nodes lanes window strays spare k.parts k.stray)) s d Request hs hd in
+      let a = few_held p inputs n nodes lanes window strays spare k.parts k.stray
+            (slots_now p inputs n nodes lanes window strays spare k.parts k.stray) (scene_of n nodes lanes)
+            (k.parts.moment (slots_now p inputs n nodes lanes window strays spare k.parts k.stray)
+            (agree_now p inputs n nodes lanes window strays spare k.parts k.stray)) s d Request hs hd in
       let b = ap (λ xs. length (owned xs)) (held_here n lanes s d Request hs hd) in
       let e = k.stray.at_most d hd in
       let f = part_le (λ q. count_by is_stray (lane_at lanes (lane_place n q d Request)).messages) s 0 n (omega arith) (omega arith) in
@@ -78,14 +84,17 @@ module _ (p : Plan) (inputs : Inputs) (n : ℕ) (nodes : List NodeState) (lanes 
       omega (arith, a, b, e, f, g, w, o, some)
 
   is_injected : scene_of n nodes later ≡ injected s d m (scene_of n nodes lanes)
-  is_injected = scene_by (scene_of n nodes lanes).world (scene_of n nodes lanes).world (held_in n later) (λ q u l. held_in n lanes q u l ++ (if is_request_lane s d q u l then m ∷ [] else [])) (λ q. refl) held
+  is_injected = scene_by (scene_of n nodes lanes).world (scene_of n nodes lanes).world (held_in n later)
+      (λ q u l. held_in n lanes q u l ++ (if is_request_lane s d q u l then m ∷ [] else [])) (λ q. refl) held
     where
-      by_lane : (q u : ℕ) (l : Lane) → (if is_lane_of s d Request q u l then full else held_in n lanes q u l) ≡ held_in n lanes q u l ++ (if is_lane_of s d Request q u l then m ∷ [] else [])
+      by_lane : (q u : ℕ) (l : Lane) → (if is_lane_of s d Request q u l then full else held_in n lanes q u l) ≡ held_in n lanes q u l ++
+          (if is_lane_of s d Request q u l then m ∷ [] else [])
       by_lane q u l = elim (cases_Bool (is_lane_of s d Request q u l)) [
         | inl e ↦
             let o = one_lane s d Request q u l e in
             ap (λ t. if t then full else held_in n lanes q u l) e
-            ∙ ap (λ ms. ms ++ m ∷ []) (sym (ap₂ (λ x y. held_in n lanes x y l) o.source o.destination ∙ ap (held_in n lanes s d) o.kind ∙ held_here n lanes s d Request hs hd))
+            ∙ ap (λ ms. ms ++ m ∷ []) (sym (ap₂ (λ x y. held_in n lanes x y l) o.source o.destination ∙ ap (held_in n lanes s d) o.kind
+                ∙ held_here n lanes s d Request hs hd))
             ∙ ap (λ t. held_in n lanes q u l ++ (if t then m ∷ [] else [])) (sym e)
         | inr e ↦
             ap (λ t. if t then full else held_in n lanes q u l) e ∙ sym (append-nil (held_in n lanes q u l))
@@ -98,7 +107,8 @@ module _ (p : Plan) (inputs : Inputs) (n : ℕ) (nodes : List NodeState) (lanes 
           ∙ by_lane q u l
 
   -- no other lane changed
-  inject_apart : (a b : ℕ) (l : Lane) → a < n → b < n → (OneLane a b l s d Request → ⊥) → lane_at later (lane_place n a b l) ≡ lane_at lanes (lane_place n a b l)
+  inject_apart : (a b : ℕ) (l : Lane) → a < n → b < n → (OneLane a b l s d Request → ⊥) →
+      lane_at later (lane_place n a b l) ≡ lane_at lanes (lane_place n a b l)
   inject_apart a b l ha hb x = set_other n lanes k.parts.wide s d Request hs hd full a b l hb x
 
   abbrev told : List NodeState
@@ -109,22 +119,29 @@ module _ (p : Plan) (inputs : Inputs) (n : ℕ) (nodes : List NodeState) (lanes 
 
   inject_counted : AreCounted n told later starts marked (firing_mark told s firings) window
   inject_counted =
-      subst (λ v. AreCounted n (gated later n window s d v) later starts marked (firing_mark (gated later n window s d v) s firings) window) (set-get_or nodes s no_node)
+      subst (λ v. AreCounted n (gated later n window s d v) later starts marked (firing_mark (gated later n window s d v) s firings)
+          window) (set-get_or nodes s no_node)
       (sent_counted n nodes lanes starts deliveries firings window k.counted k.parts.size s hs (node_at nodes s) refl refl
       (wide_gates p inputs n nodes lanes window spare k.parts) later s d hs hd
-      (λ a b ha hb x. ap (λ (z : Plain). nat_lt (length z.messages) window) (inject_apart a b Request ha hb (λ i. x (i.source, i.destination))))
+      (λ a b ha hb x. ap (λ (z : Plain). nat_lt (length z.messages) window)
+          (inject_apart a b Request ha hb (λ i. x (i.source, i.destination))))
       marked (mark_size n later window s d Request deliveries ∙ k.counted.wide_deliveries)
       (request_marked n lanes deliveries window later s d hs hd k.counted.wide_deliveries k.counted.of_deliveries inject_apart)
       refl)
 
   inject_renewed : IsRenewed n window nodes later told starts marked (firing_mark told s firings)
-  inject_renewed = let size = k.parts.size in as_told n window nodes later s d (omega (arith, size, hs)) starts marked (firing_mark told s firings) inject_counted
+  inject_renewed = let size = k.parts.size in as_told n window nodes later s d (omega (arith, size, hs)) starts marked
+      (firing_mark told s firings) inject_counted
 
   -- ---- strays
-  more_there : (q u : ℕ) → u < n → ((q ≡ s) × (u ≡ d) → ⊥) → count_by is_stray (lane_at later (lane_place n q u Request)).messages ≤ count_by is_stray (lane_at lanes (lane_place n q u Request)).messages
-  more_there q u hu x = let a = ap (λ (l : Plain). count_by is_stray l.messages) (set_other n lanes k.parts.wide s d Request hs hd full q u Request hu (λ o. x (o.source, o.destination))) in omega (arith, a)
+  more_there : (q u : ℕ) → u < n → ((q ≡ s) × (u ≡ d) → ⊥) → count_by is_stray (lane_at later (lane_place n q u Request)).messages
+      ≤ count_by is_stray (lane_at lanes (lane_place n q u Request)).messages
+  more_there q u hu x = let a = ap (λ (l : Plain). count_by is_stray l.messages)
+                              (set_other n lanes k.parts.wide s d Request hs hd full q u Request hu (λ o. x (o.source, o.destination))) in
+                              omega (arith, a)
 
-  more_here : count_by is_stray (lane_at later (lane_place n s d Request)).messages ≤ count_by is_stray (lane_at lanes (lane_place n s d Request)).messages + 1
+  more_here : count_by is_stray (lane_at later (lane_place n s d Request)).messages ≤ count_by is_stray
+      (lane_at lanes (lane_place n s d Request)).messages + 1
   more_here =
       let a = ap (count_by is_stray) (set_here n lanes k.parts.wide s d Request hs hd full) in
       let b = stray_more (lane_at lanes (lane_place n s d Request)).messages m stray in
@@ -133,12 +150,16 @@ module _ (p : Plan) (inputs : Inputs) (n : ℕ) (nodes : List NodeState) (lanes 
   few_injected : (u : ℕ) → u < n → strays_for n nodes later u + (strays - 1) ≤ spare
   few_injected u hu = elim (cases_eq u d) [
     | inl i ↦
-        let a = sum_moves (λ q. count_by is_stray (lane_at lanes (lane_place n q d Request)).messages) (λ q. count_by is_stray (lane_at later (lane_place n q d Request)).messages) s 0 1 0 n (omega arith) (omega arith) (λ q x low high. more_there q d hd (λ y. x y.0)) (let h = more_here in omega (arith, h)) in
+        let a = sum_moves (λ q. count_by is_stray (lane_at lanes (lane_place n q d Request)).messages)
+              (λ q. count_by is_stray (lane_at later (lane_place n q d Request)).messages) s 0 1 0 n (omega arith) (omega arith)
+              (λ q x low high. more_there q d hd (λ y. x y.0)) (let h = more_here in omega (arith, h)) in
         let b = k.stray.at_most d hd in
         let c = ap (strays_for n nodes later) i in
         omega (arith, a, b, c)
     | inr x ↦
-        let a = sum_le (λ q. count_by is_stray (lane_at lanes (lane_place n q u Request)).messages) (λ q. count_by is_stray (lane_at later (lane_place n q u Request)).messages) 0 n (λ q low high. more_there q u hu (λ y. x y.1)) in
+        let a = sum_le (λ q. count_by is_stray (lane_at lanes (lane_place n q u Request)).messages)
+              (λ q. count_by is_stray (lane_at later (lane_place n q u Request)).messages) 0 n
+              (λ q low high. more_there q u hu (λ y. x y.1)) in
         let b = k.stray.at_most u hu in
         omega (arith, a, b)
   ]
@@ -148,7 +169,9 @@ module _ (p : Plan) (inputs : Inputs) (n : ℕ) (nodes : List NodeState) (lanes 
     room = k.stray.room;
     at_most = few_injected;
     received = k.stray.received;
-    held = λ q u lane x hq hu i e. at_set (λ (l : Plain). In x l.messages → length x.bytes ≤ stray_bytes) lanes (lane_place n s d Request) (lane_place n q u lane) (plain full (lane_at lanes (lane_place n s d Request)).capacity) (plain [] 0) (inside n lanes k.parts.wide s d Request hs hd)
+    held = λ q u lane x hq hu i e. at_set (λ (l : Plain). In x l.messages → length x.bytes ≤ stray_bytes) lanes (lane_place n s d Request)
+        (lane_place n q u lane) (plain full (lane_at lanes (lane_place n s d Request)).capacity) (plain [] 0)
+        (inside n lanes k.parts.wide s d Request hs hd)
         (λ j h. elim (In-append_cases x (lane_at lanes (lane_place n s d Request)).messages (m ∷ []) h) [
           | inl y ↦ k.stray.held s d Request x hs hd y e
           | inr (inl f) ↦ subst (λ (y : Sent). length y.bytes ≤ stray_bytes) f short
@@ -159,7 +182,8 @@ module _ (p : Plan) (inputs : Inputs) (n : ℕ) (nodes : List NodeState) (lanes 
 
   module _ (nexts : List NodeState) (b c : List ℕ) (is : IsJoined n window s d nodes later deliveries firings nexts b c) where
     next : IsRenewed n window nodes later nexts starts b c
-    next = renewed_by n window nodes later told starts marked (λ v. firing_mark v s firings) inject_renewed nexts b c is.gates is.of_deliveries is.of_firings
+    next = renewed_by n window nodes later told starts marked (λ v. firing_mark v s firings) inject_renewed nexts b c is.gates
+        is.of_deliveries is.of_firings
 
     pub inject_step : IsInjected n s d m nodes lanes nexts later
     inject_step = record {
@@ -168,7 +192,8 @@ module _ (p : Plan) (inputs : Inputs) (n : ℕ) (nodes : List NodeState) (lanes 
     }
 
     -- on a used lane a world is left
-    module _ (source : m.header.source ≡ s) (target : m.header.target ≡ d) (kept : IsKept m) (short : length m.bytes ≤ stray_bytes) (used : is_used_lane p s d Request ≡ true) where
+    module _ (source : m.header.source ≡ s) (target : m.header.target ≡ d) (kept : IsKept m) (short : length m.bytes ≤ stray_bytes)
+        (used : is_used_lane p s d Request ≡ true) where
       parts_injected : AreParts p inputs n nodes later window spare
       parts_injected = record {
         at_most = k.parts.at_most;
@@ -186,21 +211,31 @@ module _ (p : Plan) (inputs : Inputs) (n : ℕ) (nodes : List NodeState) (lanes 
             subst (λ (v : Scene). IsMoment (system_of p inputs slots) v.world v.held) (sym is_injected)
             (next_stray p inputs slots z.world z.held (k.parts.moment slots g) (injected s d m z).world (injected s d m z).held
             (stray_step (system_of p inputs slots) z s d m (omega (arith, count)) (omega (arith, count)) used stray source target kept));
-        room = λ q u lane hq hu. let e = k.parts.room q u lane hq hu in let f = set_capacity n lanes k.parts.wide s d Request hs hd full (lane_place n q u lane) in omega (arith, e, f);
-        within = λ q u lane hq hu. at_set (λ (l : Plain). length (owned l.messages) ≤ window) lanes (lane_place n s d Request) (lane_place n q u lane) (plain full (lane_at lanes (lane_place n s d Request)).capacity) (plain [] 0) (inside n lanes k.parts.wide s d Request hs hd)
-            (λ j. let e = owned_same (lane_at lanes (lane_place n s d Request)).messages m stray in let f = k.parts.within s d Request hs hd in omega (arith, e, f)) (λ j. k.parts.within q u lane hq hu);
+        room = λ q u lane hq hu. let e = k.parts.room q u lane hq hu in let f = set_capacity n lanes k.parts.wide s d Request hs hd full
+                                                                              (lane_place n q u lane) in omega (arith, e, f);
+        within = λ q u lane hq hu. at_set (λ (l : Plain). length (owned l.messages) ≤ window) lanes (lane_place n s d Request)
+            (lane_place n q u lane) (plain full (lane_at lanes (lane_place n s d Request)).capacity) (plain [] 0)
+            (inside n lanes k.parts.wide s d Request hs hd)
+            (λ j. let e = owned_same (lane_at lanes (lane_place n s d Request)).messages m stray in let f =
+                                                                                                          k.parts.within s d Request hs hd
+                                                                                                          in omega (arith, e, f))
+                                                                                                          (λ j. k.parts.within q u lane hq
+                                                                                                          hu);
       }
 
       pub inject_world : IsWorld p inputs n nexts later starts b c window (strays - 1) spare
       inject_world = renewed n window nodes later nexts starts b c next p inputs (strays - 1) spare parts_injected (strays_injected short)
 
   -- ---- as the code has it
-  module _ (left : List Plain) (put : left ≡ later) (nexts : List NodeState) (b c : List ℕ) (is : IsJoined n window s d nodes left deliveries firings nexts b c) where
+  module _ (left : List Plain) (put : left ≡ later) (nexts : List NodeState) (b c : List ℕ)
+      (is : IsJoined n window s d nodes left deliveries firings nexts b c) where
     joined : IsJoined n window s d nodes later deliveries firings nexts b c
     joined = subst (λ l. IsJoined n window s d nodes l deliveries firings nexts b c) put is
 
     pub inject_step_as : IsInjected n s d m nodes lanes nexts left
     inject_step_as = subst (λ l. IsInjected n s d m nodes lanes nexts l) (sym put) (inject_step nexts b c joined)
 
-    pub inject_world_as : m.header.source ≡ s → m.header.target ≡ d → IsKept m → length m.bytes ≤ stray_bytes → is_used_lane p s d Request ≡ true → IsWorld p inputs n nexts left starts b c window (strays - 1) spare
-    inject_world_as source target kept short used = subst (λ l. IsWorld p inputs n nexts l starts b c window (strays - 1) spare) (sym put) (inject_world nexts b c joined source target kept short used)
+    pub inject_world_as : m.header.source ≡ s → m.header.target ≡ d → IsKept m → length m.bytes ≤ stray_bytes →
+        is_used_lane p s d Request ≡ true → IsWorld p inputs n nexts left starts b c window (strays - 1) spare
+    inject_world_as source target kept short used = subst (λ l. IsWorld p inputs n nexts l starts b c window (strays - 1) spare) (sym put)
+        (inject_world nexts b c joined source target kept short used)

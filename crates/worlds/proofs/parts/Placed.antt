@@ -1,5 +1,6 @@
 -- The places of lanes.
-use Rattle.std.proofs.Common.{ℕ, zero, suc, Bool, true, false, ◌&&◌, ◌+◌, ◌*◌, ◌/◌, ◌%◌, ◌<◌, ◌≡◌, ◌==◌, ◌∙◌, refl, sym, ap, ap₂, inl, inr, arith, if◌then◌else◌, eq-eqb, eqb-true}
+use Rattle.std.proofs.Common.{ℕ, zero, suc, Bool, true, false, ◌&&◌, ◌+◌, ◌*◌, ◌/◌, ◌%◌, ◌<◌, ◌≡◌, ◌==◌, ◌∙◌, refl, sym, ap, ap₂, inl, inr,
+    arith, if◌then◌else◌, eq-eqb, eqb-true}
 use Rattle.std.proofs.lemmas.Bool.{cases_Bool, and_parts}
 use Rattle.std.proofs.lemmas.Nat.{div-add-mod', div_below, div-mul-add, mod-mul-add, mul-add-lt}
 use Rattle.ptl_types.specs.declared.headers.Lane.{Lane}
@@ -21,9 +22,12 @@ pub record OneLane (s d : ℕ) (lane : Lane) (t e : ℕ) (way : Lane) : Type 0 w
   pub destination : d ≡ e
   pub kind : lane ≡ way
 
-pub lane_apart : (n s d : ℕ) (lane : Lane) (t e : ℕ) (way : Lane) → d < n → e < n → lane_place n s d lane ≡ lane_place n t e way → OneLane s d lane t e way
-lane_apart n s d Request t e Request h k q = let a = pair_apart n s d t e h k (omega arith) in record { source = a.0; goal = a.1; kind = refl }
-lane_apart n s d Answer t e Answer h k q = let a = pair_apart n s d t e h k (omega arith) in record { source = a.0; goal = a.1; kind = refl }
+pub lane_apart : (n s d : ℕ) (lane : Lane) (t e : ℕ) (way : Lane) → d < n → e < n → lane_place n s d lane ≡ lane_place n t e way →
+    OneLane s d lane t e way
+lane_apart n s d Request t e Request h k q = let a = pair_apart n s d t e h k (omega arith) in
+    record { source = a.0; goal = a.1; kind = refl }
+lane_apart n s d Answer t e Answer h k q = let a = pair_apart n s d t e h k (omega arith) in
+    record { source = a.0; goal = a.1; kind = refl }
 lane_apart n s d Request t e Answer h k q = absurd (omega arith)
 lane_apart n s d Answer t e Request h k q = absurd (omega arith)
 
@@ -60,7 +64,8 @@ one_lane s d lane q u l e =
 
 pub is_one : (s d : ℕ) (lane : Lane) (q u : ℕ) (l : Lane) → OneLane q u l s d lane → is_lane_of s d lane q u l ≡ true
 is_one s d lane q u l o =
-    ap₂ (λ a b. a && b) (eq-eqb q s o.source) (ap₂ (λ a b. a && b) (eq-eqb u d o.destination) (ap (λ x. same_lane x lane) o.kind ∙ same_lane-true lane))
+    ap₂ (λ a b. a && b) (eq-eqb q s o.source) (ap₂ (λ a b. a && b) (eq-eqb u d o.destination) (ap (λ x. same_lane x lane) o.kind
+        ∙ same_lane-true lane))
 
 pub not_one : (s d : ℕ) (lane : Lane) (q u : ℕ) (l : Lane) → is_lane_of s d lane q u l ≡ false → OneLane q u l s d lane → ⊥
 not_one s d lane q u l e o = both (is_one s d lane q u l o) e
@@ -68,8 +73,10 @@ not_one s d lane q u l e o = both (is_one s d lane q u l o) e
 -- the lane of a place has this place
 pub place_told : (n i : ℕ) → lane_place n (source_at n i) (destination_at n i) (kind_at i) ≡ i
 place_told n i = elim (cases_Bool (i % 2 == 0)) [
-  | inl e ↦ ap (λ b. lane_place n (i / 2 / n) (i / 2 % n) (if b then Request else Answer)) e ∙ (let z = eqb-true (i % 2) 0 e in let p = div-add-mod' (i / 2) n in omega (arith, z, p))
-  | inr e ↦ ap (λ b. lane_place n (i / 2 / n) (i / 2 % n) (if b then Request else Answer)) e ∙ (let z : (i % 2 ≡ 0) → ⊥ = λ q. both (eq-eqb (i % 2) 0 q) e in let p = div-add-mod' (i / 2) n in odd z p)
+  | inl e ↦ ap (λ b. lane_place n (i / 2 / n) (i / 2 % n) (if b then Request else Answer)) e
+      ∙ (let z = eqb-true (i % 2) 0 e in let p = div-add-mod' (i / 2) n in omega (arith, z, p))
+  | inr e ↦ ap (λ b. lane_place n (i / 2 / n) (i / 2 % n) (if b then Request else Answer)) e
+      ∙ (let z : (i % 2 ≡ 0) → ⊥ = λ q. both (eq-eqb (i % 2) 0 q) e in let p = div-add-mod' (i / 2) n in odd z p)
 ]
   where
     odd : ((i % 2 ≡ 0) → ⊥) → i / 2 / n * n + i / 2 % n ≡ i / 2 → 2 * (i / 2 / n * n + i / 2 % n) + 1 ≡ i

@@ -7,14 +7,16 @@ use Rattle.std.proofs.lemmas.List.Sums.{sum_by-cons}
 use Rattle.plan_core.specs.Plan.{from_to}
 
 -- what holds of the new member where it stands, and of the others where they stand
-pub at_set : {A : Type 0} (P : A → Type 0) (xs : List A) (a i : ℕ) (v d : A) → a < length xs → (i ≡ a → P v) → ((i ≡ a → ⊥) → P (get_or xs i d)) → P (get_or (set xs a v) i d)
+pub at_set : {A : Type 0} (P : A → Type 0) (xs : List A) (a i : ℕ) (v d : A) → a < length xs → (i ≡ a → P v) →
+    ((i ≡ a → ⊥) → P (get_or xs i d)) → P (get_or (set xs a v) i d)
 at_set P xs a i v d h here there = elim (cases_eq i a) [
   | inl e ↦ subst P (sym (ap (λ j. get_or (set xs a v) j d) e ∙ get_or-set_same xs a v d h)) (here e)
   | inr n ↦ subst P (sym (get_or-set_other xs a i v d n)) (there n)
 ]
 
 -- two counts set anew
-pub two_marks : (f : ℕ → ℕ) (xs : List ℕ) (a b i : ℕ) → a < length xs → b < length xs → ((i ≡ a → ⊥) → (i ≡ b → ⊥) → get_or xs i 0 ≡ f i) → get_or (set (set xs a (f a)) b (f b)) i 0 ≡ f i
+pub two_marks : (f : ℕ → ℕ) (xs : List ℕ) (a b i : ℕ) → a < length xs → b < length xs → ((i ≡ a → ⊥) → (i ≡ b → ⊥) → get_or xs i 0 ≡ f i)
+    → get_or (set (set xs a (f a)) b (f b)) i 0 ≡ f i
 two_marks f xs a b i ha hb rest =
     let l = length-set xs a (f a) in
     at_set (λ x. x ≡ f i) (set xs a (f a)) b i (f b) 0 (omega arith) (λ e. ap f (sym e))
@@ -31,7 +33,8 @@ sum_le f g k (suc n) le =
     omega (arith, a, b, c, e)
 
 -- part j changes by so much at most, and no other grows
-pub sum_moves : (f g : ℕ → ℕ) (j a b k n : ℕ) → k ≤ j → j < k + n → ((i : ℕ) → (i ≡ j → ⊥) → k ≤ i → i < k + n → g i ≤ f i) → g j + a ≤ f j + b → sum_by g (from_to k n) + a ≤ sum_by f (from_to k n) + b
+pub sum_moves : (f g : ℕ → ℕ) (j a b k n : ℕ) → k ≤ j → j < k + n → ((i : ℕ) → (i ≡ j → ⊥) → k ≤ i → i < k + n → g i ≤ f i) →
+    g j + a ≤ f j + b → sum_by g (from_to k n) + a ≤ sum_by f (from_to k n) + b
 sum_moves f g j a b k zero low high le here = absurd (omega arith)
 sum_moves f g j a b k (suc n) low high le here = elim (cases_eq k j) [
   | inl e ↦

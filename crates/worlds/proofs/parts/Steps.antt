@@ -1,5 +1,6 @@
 -- The kinds of step over the parts of a world.
-use Rattle.std.proofs.Common.{ℕ, Bool, true, false, not, cond, ◌<◌, ◌≡◌, ◌∙◌, List, [], ◌∷◌, ◌++◌, Option, Some, None, is_some, length, count_by, nat_lt, if◌then◌else◌, refl, sym, ap, subst, arith}
+use Rattle.std.proofs.Common.{ℕ, Bool, true, false, not, cond, ◌<◌, ◌≡◌, ◌∙◌, List, [], ◌∷◌, ◌++◌, Option, Some, None, is_some, length,
+    count_by, nat_lt, if◌then◌else◌, refl, sym, ap, subst, arith}
 use Rattle.std.proofs.Math.ListN.{set, length-set}
 use Rattle.std.proofs.lemmas.Bool.{and_parts, ltb-true}
 use Rattle.ptl_types.specs.Kinds.{lane_of}
@@ -34,12 +35,14 @@ use Rattle.rank_node.specs.Gates.{may_go, goes_out}
 use Rattle.rank_node.specs.Node.{IsNode, IsStarted, NodeState, fired_node}
 use Rattle.worlds.specs.parts.Keeps.{AgreeAll, AreCounted, AreParts, AreStrays, IsWorld}
 use Rattle.worlds.specs.parts.Layout.{held_in, lane_at, no_node, node_at, scene_of}
-use Rattle.worlds.specs.parts.Marks.{HasPlace, delivery_mark, firing_mark, gated, lane_has, out_with, receiver, sent_out, start_count, start_mark}
+use Rattle.worlds.specs.parts.Marks.{HasPlace, delivery_mark, firing_mark, gated, lane_has, out_with, receiver, sent_out, start_count,
+    start_mark}
 use Rattle.worlds.specs.parts.Steps.{IsStepped}
 use Rattle.worlds.proofs.parts.Counted.{sent_counted, silent_counted, start_counted}
 use Rattle.worlds.proofs.parts.Held.{set_other}
 use Rattle.worlds.proofs.parts.Marked.{mark_size, request_marked}
-use Rattle.worlds.proofs.parts.Moving.{Moved, agree_back, agree_now, may_go_out, nic_is, none_taken, parts_news, scene_news, slots_now, strays_news}
+use Rattle.worlds.proofs.parts.Moving.{Moved, agree_back, agree_now, may_go_out, nic_is, none_taken, parts_news, scene_news, slots_now,
+    strays_news}
 use Rattle.worlds.proofs.parts.Placed.{OneLane}
 use Rattle.worlds.proofs.parts.Renewed.{IsRenewed, agree_next, as_is, as_told, renewed, renewed_by, scene_next}
 use Rattle.worlds.proofs.parts.Sets.{at_set}
@@ -52,24 +55,31 @@ pub record IsFired (n window r d : ℕ) (sends : Bool) (news : List NodeState) (
   pub of_firings : c ≡ firing_mark nexts r firings
 
 -- a step was made
-pub record IsDone (p : Plan) (inputs : Inputs) (n : ℕ) (x : Step) (nodes : List NodeState) (lanes : List Plain) (nexts : List NodeState) (later : List Plain) (a b c : List ℕ) (window strays spare : ℕ) : Type 0 where
+pub record IsDone (p : Plan) (inputs : Inputs) (n : ℕ) (x : Step) (nodes : List NodeState) (lanes : List Plain) (nexts : List NodeState)
+    (later : List Plain) (a b c : List ℕ) (window strays spare : ℕ) : Type 0 where
   pub step : IsStepped p inputs n x nodes lanes nexts later
   pub world : IsWorld p inputs n nexts later a b c window strays spare
 
 -- the interface of a rank of the plan stays that
-pub stays_of : (p : Plan) (slots : Slots) (r : ℕ) (go : Beginning) (es : List Local) (v : State) → IsOf p slots r v → IsOf p slots r (state go v es)
+pub stays_of : (p : Plan) (slots : Slots) (r : ℕ) (go : Beginning) (es : List Local) (v : State) → IsOf p slots r v →
+    IsOf p slots r (state go v es)
 stays_of p slots r go [] v h = h
 stays_of p slots r go (x ∷ es) v h = stays_of p slots r go es (after go v x) (after_of p slots r go v x h)
 
 -- the nodes know how many ranks there are
-pub wide_gates : (p : Plan) (inputs : Inputs) (n : ℕ) (nodes : List NodeState) (lanes : List Plain) (window spare : ℕ) → AreParts p inputs n nodes lanes window spare → (r : ℕ) → r < n → length (node_at nodes r).closed ≡ n
+pub wide_gates : (p : Plan) (inputs : Inputs) (n : ℕ) (nodes : List NodeState) (lanes : List Plain) (window spare : ℕ) →
+    AreParts p inputs n nodes lanes window spare → (r : ℕ) → r < n → length (node_at nodes r).closed ≡ n
 wide_gates p inputs n nodes lanes window spare parts r h = (parts.node r h).gates ∙ (parts.compiled r h).ranks ∙ parts.count
 
 -- one that has as many as before changes nothing of that
-pub wide_news : (p : Plan) (inputs : Inputs) (n : ℕ) (nodes : List NodeState) (lanes : List Plain) (window spare : ℕ) → AreParts p inputs n nodes lanes window spare → (r : ℕ) → r < n → (new : NodeState) → new.closed ≡ (node_at nodes r).closed → (q : ℕ) → q < n → length (node_at (set nodes r new) q).closed ≡ n
+pub wide_news : (p : Plan) (inputs : Inputs) (n : ℕ) (nodes : List NodeState) (lanes : List Plain) (window spare : ℕ) →
+    AreParts p inputs n nodes lanes window spare → (r : ℕ) → r < n → (new : NodeState) → new.closed ≡ (node_at nodes r).closed → (q : ℕ) →
+    q < n → length (node_at (set nodes r new) q).closed ≡ n
 wide_news p inputs n nodes lanes window spare parts r hr new same q hq =
     let size = parts.size in
-    at_set (λ (v : NodeState). length v.closed ≡ n) nodes r q new no_node (omega (arith, size)) (λ i. ap length same ∙ wide_gates p inputs n nodes lanes window spare parts r hr) (λ x. wide_gates p inputs n nodes lanes window spare parts q hq)
+    at_set (λ (v : NodeState). length v.closed ≡ n) nodes r q new no_node (omega (arith, size))
+        (λ i. ap length same ∙ wide_gates p inputs n nodes lanes window spare parts r hr)
+        (λ x. wide_gates p inputs n nodes lanes window spare parts q hq)
 
 -- a step that is no start leaves how often a rank started
 pub no_start : (locals : List Local) (e : Local) → is_start e ≡ false
@@ -85,16 +95,20 @@ not-not : (b : Bool) → not (not b) ≡ b
 not-not true = refl
 not-not false = refl
 
-module _ (p : Plan) (inputs : Inputs) (n : ℕ) (nodes : List NodeState) (lanes : List Plain) (starts deliveries firings : List ℕ) (window strays spare : ℕ) (k : IsWorld p inputs n nodes lanes starts deliveries firings window strays spare) where
+module _ (p : Plan) (inputs : Inputs) (n : ℕ) (nodes : List NodeState) (lanes : List Plain) (starts deliveries firings : List ℕ)
+    (window strays spare : ℕ) (k : IsWorld p inputs n nodes lanes starts deliveries firings window strays spare) where
   -- whatever the step is
-  pub finish : (x : Step) (news : List NodeState) (later : List Plain) → AreParts p inputs n news later window spare → AreStrays n news later strays spare
-      → ((slots : ℕ → Slots) → AgreeAll n slots news → scene_of n news later ≡ step_made (system_of p inputs slots) x (scene_of n nodes lanes))
+  pub finish : (x : Step) (news : List NodeState) (later : List Plain) → AreParts p inputs n news later window spare →
+      AreStrays n news later strays spare
+      → ((slots : ℕ → Slots) → AgreeAll n slots news → scene_of n news later ≡ step_made (system_of p inputs slots) x
+          (scene_of n nodes lanes))
       → ((slots : ℕ → Slots) → AgreeAll n slots news → AgreeAll n slots nodes)
       → (nexts : List NodeState) (a b c : List ℕ) → IsRenewed n window news later nexts a b c
       → IsDone p inputs n x nodes lanes nexts later a b c window strays spare
   finish x news later parts room scene back nexts a b c is = record {
     step = record {
-      scene = λ slots g. scene_next n window news later nexts a b c is ∙ scene slots (agree_next n window news later nexts a b c is slots g);
+      scene = λ slots g. scene_next n window news later nexts a b c is
+          ∙ scene slots (agree_next n window news later nexts a b c is slots g);
       slots = λ slots g. back slots (agree_next n window news later nexts a b c is slots g);
     };
     world = renewed n window news later nexts a b c is p inputs strays spare parts room;
@@ -105,39 +119,56 @@ module _ (p : Plan) (inputs : Inputs) (n : ℕ) (nodes : List NodeState) (lanes 
     pub fire_ready : is_ready (node_at nodes r).nic t ≡ true
     fire_ready = (and_parts _ _ may).0
 
-    fire_enabled : (slots : ℕ → Slots) → AgreeAll n slots nodes → IsEnabled (system_of p inputs slots) (scene_of n nodes lanes).world (scene_of n nodes lanes).held r (Fired t)
-    fire_enabled slots a = subst (λ v. is_ready v t ≡ true) (nic_is p inputs n nodes lanes window strays spare k.parts k.stray slots a r hr) fire_ready
+    fire_enabled : (slots : ℕ → Slots) → AgreeAll n slots nodes → IsEnabled (system_of p inputs slots) (scene_of n nodes lanes).world
+        (scene_of n nodes lanes).held r (Fired t)
+    fire_enabled slots a = subst (λ v. is_ready v t ≡ true) (nic_is p inputs n nodes lanes window strays spare k.parts k.stray slots a r
+        hr) fire_ready
 
-    fire_is : (slots : ℕ → Slots) → AgreeAll n slots nodes → step_made (system_of p inputs slots) (Fire r t) (scene_of n nodes lanes) ≡ (let z : Scene = record { world = with_step r (Fired t) (scene_of n nodes lanes).world; held = λ q u l. held_in n lanes q u l ++ sent_more (system_of p inputs slots) (scene_of n nodes lanes).world r (Fired t) q u l } in z)
+    fire_is : (slots : ℕ → Slots) → AgreeAll n slots nodes → step_made (system_of p inputs slots) (Fire r t) (scene_of n nodes lanes)
+        ≡ (let z : Scene = record { world = with_step r (Fired t) (scene_of n nodes lanes).world; held =
+                 λ q u l. held_in n lanes q u l ++ sent_more (system_of p inputs slots) (scene_of n nodes lanes).world r (Fired t) q u l }
+                 in z)
     fire_is slots a = refl
 
     fire_moved : Moved (node_at nodes r) (fired_node t (node_at nodes r)) (Fired t)
-    fire_moved = record { task = refl; strays = refl; locals = refl; slots = λ q a. a; node = fire-node (node_at nodes r) t fire_ready (k.parts.node r hr) }
+    fire_moved = record { task = refl; strays = refl; locals = refl; slots = λ q a. a; node =
+        fire-node (node_at nodes r) t fire_ready (k.parts.node r hr) }
 
     module _ (o : Option Sent) (makes : o ≡ (fired (node_at nodes r).nic t).message) where
       fire_to : (m : Sent) → o ≡ Some m → m.header.target < n
       fire_to m q =
           let c = k.parts.count in
-          let e : (fired (state_at (system_of p inputs (slots_now p inputs n nodes lanes window strays spare k.parts k.stray)) (scene_of n nodes lanes).world r) t).message ≡ Some m =
-          ap (λ v. (fired v t).message) (sym (nic_is p inputs n nodes lanes window strays spare k.parts k.stray (slots_now p inputs n nodes lanes window strays spare k.parts k.stray) (agree_now p inputs n nodes lanes window strays spare k.parts k.stray) r hr)) ∙ sym makes ∙ q in
-          let a = target_known p inputs k.parts.sound (slots_now p inputs n nodes lanes window strays spare k.parts k.stray) (scene_of n nodes lanes).world r t m e in
+          let e : (fired (state_at (system_of p inputs (slots_now p inputs n nodes lanes window strays spare k.parts k.stray))
+                (scene_of n nodes lanes).world r) t).message ≡ Some m =
+          ap (λ v. (fired v t).message) (sym (nic_is p inputs n nodes lanes window strays spare k.parts k.stray
+              (slots_now p inputs n nodes lanes window strays spare k.parts k.stray)
+              (agree_now p inputs n nodes lanes window strays spare k.parts k.stray) r hr)) ∙ sym makes ∙ q in
+          let a = target_known p inputs k.parts.sound (slots_now p inputs n nodes lanes window strays spare k.parts k.stray)
+                (scene_of n nodes lanes).world r t m e in
           omega (arith, c, a)
 
       -- it is a request
       fire_asks : (m : Sent) → o ≡ Some m → lane_of m.header.kind ≡ Request
       fire_asks m q =
           let f = slots_now p inputs n nodes lanes window strays spare k.parts k.stray in
-          ap (λ b. if b then Answer else Request) (from_link-request p (f r) r m (fired_link p (f r) r t (node_at nodes r).nic m (subst (IsOf p (f r) r) (sym here) (of f)) (sym makes ∙ q)))
+          ap (λ b. if b then Answer else Request) (from_link-request p (f r) r m
+              (fired_link p (f r) r t (node_at nodes r).nic m (subst (IsOf p (f r) r) (sym here) (of f)) (sym makes ∙ q)))
         where
-          here : (node_at nodes r).nic ≡ state_at (system_of p inputs (slots_now p inputs n nodes lanes window strays spare k.parts k.stray)) (scene_of n nodes lanes).world r
-          here = nic_is p inputs n nodes lanes window strays spare k.parts k.stray (slots_now p inputs n nodes lanes window strays spare k.parts k.stray) (agree_now p inputs n nodes lanes window strays spare k.parts k.stray) r hr
+          here : (node_at nodes r).nic ≡ state_at (system_of p inputs
+              (slots_now p inputs n nodes lanes window strays spare k.parts k.stray)) (scene_of n nodes lanes).world r
+          here = nic_is p inputs n nodes lanes window strays spare k.parts k.stray
+              (slots_now p inputs n nodes lanes window strays spare k.parts k.stray)
+              (agree_now p inputs n nodes lanes window strays spare k.parts k.stray) r hr
 
           of : (f : ℕ → Slots) → IsOf p (f r) r (state_at (system_of p inputs f) (scene_of n nodes lanes).world r)
-          of f = stays_of p (f r) r (start_of p (f r) r) ((scene_of n nodes lanes).world r) (prepare p inputs (f r) r) (prepared_of p inputs k.parts.sound (f r) r)
+          of f = stays_of p (f r) r (start_of p (f r) r) ((scene_of n nodes lanes).world r) (prepare p inputs (f r) r)
+              (prepared_of p inputs k.parts.sound (f r) r)
 
       -- whose lane is open
-      fire_open : (m : Sent) → o ≡ Some m → length (lane_at lanes (lane_place n r m.header.target (lane_of m.header.kind))).messages < window
-      fire_open m q = subst (λ l. length (lane_at lanes (lane_place n r m.header.target l)).messages < window) (sym (fire_asks m q)) (ltb-true (length (lane_at lanes (lane_place n r m.header.target Request)).messages) window opened)
+      fire_open : (m : Sent) → o ≡ Some m → length (lane_at lanes (lane_place n r m.header.target (lane_of m.header.kind))).messages
+          < window
+      fire_open m q = subst (λ l. length (lane_at lanes (lane_place n r m.header.target l)).messages < window) (sym (fire_asks m q))
+          (ltb-true (length (lane_at lanes (lane_place n r m.header.target Request)).messages) window opened)
         where
           goal : target_at (node_at nodes r).nic t ≡ Some m.header.target
           goal = sym (fired-target (node_at nodes r).nic t) ∙ ap rank_of (sym makes ∙ q)
@@ -150,7 +181,8 @@ module _ (p : Plan) (inputs : Inputs) (n : ℕ) (nodes : List NodeState) (lanes 
               ∙ (and_parts (is_ready (node_at nodes r).nic t) (goes_out (node_at nodes r).closed (target_at (node_at nodes r).nic t)) may).1
 
       pub fire_goes : HasPlace n r lanes o
-      fire_goes = may_go_out p inputs n nodes lanes window strays spare k.parts k.stray r hr (Fired t) lanes (none_taken lanes) fire_enabled fire_is o makes fire_to fire_open
+      fire_goes = may_go_out p inputs n nodes lanes window strays spare k.parts k.stray r hr (Fired t) lanes (none_taken lanes)
+          fire_enabled fire_is o makes fire_to fire_open
 
       abbrev fire_news : List NodeState
       fire_news = set nodes r (fired_node t (node_at nodes r))
@@ -163,7 +195,8 @@ module _ (p : Plan) (inputs : Inputs) (n : ℕ) (nodes : List NodeState) (lanes 
       fire_apart : (m : Sent) → o ≡ Some m → (a b : ℕ) (l : Lane) → a < n → b < n → (OneLane a b l r m.header.target Request → ⊥)
           → lane_at (sent_out n r m lanes) (lane_place n a b l) ≡ lane_at lanes (lane_place n a b l)
       fire_apart m q a b l ha hb x =
-          set_other n lanes k.parts.wide r m.header.target (lane_of m.header.kind) hr (fire_to m q) ((lane_at lanes (lane_place n r m.header.target (lane_of m.header.kind))).messages ++ m ∷ []) a b l hb
+          set_other n lanes k.parts.wide r m.header.target (lane_of m.header.kind) hr (fire_to m q)
+              ((lane_at lanes (lane_place n r m.header.target (lane_of m.header.kind))).messages ++ m ∷ []) a b l hb
           (λ i. x (record { source = i.source; goal = i.destination; kind = i.kind ∙ fire_asks m q }))
 
       fire_renewed : (x : Option Sent) → o ≡ x → IsRenewed n window fire_news (out_with n r x lanes)
@@ -172,28 +205,37 @@ module _ (p : Plan) (inputs : Inputs) (n : ℕ) (nodes : List NodeState) (lanes 
           (firing_mark (if is_some x then gated (out_with n r x lanes) n window r (receiver r x) fire_news else fire_news) r firings)
       fire_renewed None q =
           as_is n window fire_news lanes starts deliveries (firing_mark fire_news r firings)
-          (silent_counted n nodes lanes starts deliveries firings window k.counted k.parts.size r hr (fired_node t (node_at nodes r)) refl fire_count)
+          (silent_counted n nodes lanes starts deliveries firings window k.counted k.parts.size r hr (fired_node t (node_at nodes r)) refl
+              fire_count)
       fire_renewed (Some m) q =
           let size = k.parts.size in
           let length_news = length-set nodes r (fired_node t (node_at nodes r)) in
           as_told n window fire_news (sent_out n r m lanes) r m.header.target (omega (arith, size, length_news, hr)) starts
           (delivery_mark (sent_out n r m lanes) n window r m.header.target Request deliveries)
           (firing_mark (gated (sent_out n r m lanes) n window r m.header.target fire_news) r firings)
-          (sent_counted n nodes lanes starts deliveries firings window k.counted k.parts.size r hr (fired_node t (node_at nodes r)) refl fire_count
+          (sent_counted n nodes lanes starts deliveries firings window k.counted k.parts.size r hr (fired_node t (node_at nodes r)) refl
+              fire_count
           (wide_gates p inputs n nodes lanes window spare k.parts) (sent_out n r m lanes) r m.header.target hr (fire_to m q)
-          (λ a b ha hb x. ap (λ (z : Plain). nat_lt (length z.messages) window) (fire_apart m q a b Request ha hb (λ i. x (i.source, i.destination))))
+          (λ a b ha hb x. ap (λ (z : Plain). nat_lt (length z.messages) window)
+              (fire_apart m q a b Request ha hb (λ i. x (i.source, i.destination))))
           (delivery_mark (sent_out n r m lanes) n window r m.header.target Request deliveries)
           (mark_size n (sent_out n r m lanes) window r m.header.target Request deliveries ∙ k.counted.wide_deliveries)
-          (request_marked n lanes deliveries window (sent_out n r m lanes) r m.header.target hr (fire_to m q) k.counted.wide_deliveries k.counted.of_deliveries (fire_apart m q))
+          (request_marked n lanes deliveries window (sent_out n r m lanes) r m.header.target hr (fire_to m q) k.counted.wide_deliveries
+              k.counted.of_deliveries (fire_apart m q))
           refl)
 
-      pub fire_done : (nexts : List NodeState) (b c : List ℕ) → IsFired n window r (receiver r o) (is_some o) fire_news (out_with n r o lanes) deliveries firings nexts b c
+      pub fire_done : (nexts : List NodeState) (b c : List ℕ) → IsFired n window r (receiver r o) (is_some o) fire_news
+          (out_with n r o lanes) deliveries firings nexts b c
           → IsDone p inputs n (Fire r t) nodes lanes nexts (out_with n r o lanes) starts b c window strays spare
       fire_done nexts b c is = finish (Fire r t) fire_news (out_with n r o lanes)
-          (parts_news p inputs n nodes lanes window strays spare k.parts k.stray r hr (Fired t) lanes (none_taken lanes) fire_enabled fire_is o makes fire_to fire_open (fired_node t (node_at nodes r)) fire_moved)
-          (strays_news p inputs n nodes lanes window strays spare k.parts k.stray r hr (Fired t) lanes (none_taken lanes) fire_enabled fire_is o makes fire_to fire_open (fired_node t (node_at nodes r)) fire_moved tt (omega arith))
-          (scene_news p inputs n nodes lanes window strays spare k.parts k.stray r hr (Fired t) lanes (none_taken lanes) fire_enabled fire_is o makes fire_to fire_open (fired_node t (node_at nodes r)) fire_moved)
-          (agree_back p inputs n nodes lanes window strays spare k.parts k.stray r hr (Fired t) lanes (none_taken lanes) fire_enabled fire_is o makes fire_to fire_open (fired_node t (node_at nodes r)) fire_moved)
+          (parts_news p inputs n nodes lanes window strays spare k.parts k.stray r hr (Fired t) lanes (none_taken lanes) fire_enabled
+              fire_is o makes fire_to fire_open (fired_node t (node_at nodes r)) fire_moved)
+          (strays_news p inputs n nodes lanes window strays spare k.parts k.stray r hr (Fired t) lanes (none_taken lanes) fire_enabled
+              fire_is o makes fire_to fire_open (fired_node t (node_at nodes r)) fire_moved tt (omega arith))
+          (scene_news p inputs n nodes lanes window strays spare k.parts k.stray r hr (Fired t) lanes (none_taken lanes) fire_enabled
+              fire_is o makes fire_to fire_open (fired_node t (node_at nodes r)) fire_moved)
+          (agree_back p inputs n nodes lanes window strays spare k.parts k.stray r hr (Fired t) lanes (none_taken lanes) fire_enabled
+              fire_is o makes fire_to fire_open (fired_node t (node_at nodes r)) fire_moved)
           nexts starts b c
           (renewed_by n window fire_news (out_with n r o lanes)
           (if is_some o then gated (out_with n r o lanes) n window r (receiver r o) fire_news else fire_news) starts
@@ -201,8 +243,10 @@ module _ (p : Plan) (inputs : Inputs) (n : ℕ) (nodes : List NodeState) (lanes 
           (λ v. firing_mark v r firings) (fire_renewed o refl) nexts b c is.gates is.of_deliveries is.of_firings)
 
       -- as the code has it
-      pub fire_as : (sends : Bool) → sends ≡ is_some o → (d : ℕ) → d ≡ receiver r o → (later : List Plain) → later ≡ out_with n r o lanes → (news : List NodeState) → news ≡ set nodes r (fired_node t (node_at nodes r))
-          → (nexts : List NodeState) (b c : List ℕ) → IsFired n window r d sends news later deliveries firings nexts b c → IsDone p inputs n (Fire r t) nodes lanes nexts later starts b c window strays spare
+      pub fire_as : (sends : Bool) → sends ≡ is_some o → (d : ℕ) → d ≡ receiver r o → (later : List Plain) →
+          later ≡ out_with n r o lanes → (news : List NodeState) → news ≡ set nodes r (fired_node t (node_at nodes r))
+          → (nexts : List NodeState) (b c : List ℕ) → IsFired n window r d sends news later deliveries firings nexts b c →
+              IsDone p inputs n (Fire r t) nodes lanes nexts later starts b c window strays spare
       fire_as sends some d whom later out news made nexts b c is =
           subst (λ l. IsDone p inputs n (Fire r t) nodes lanes nexts l starts b c window strays spare) (sym out)
           (fire_done nexts b c
@@ -212,29 +256,40 @@ module _ (p : Plan) (inputs : Inputs) (n : ℕ) (nodes : List NodeState) (lanes 
           (subst (λ u. IsFired n window r u sends news later deliveries firings nexts b c) whom is)))))
 
   -- ---- a start
-  module _ (r : ℕ) (hr : r < n) (waits : count_by is_start (node_at nodes r).diary.locals ≡ 0) (new : NodeState) (st : IsStarted (node_at nodes r) new) (keeps : IsNode new) where
+  module _ (r : ℕ) (hr : r < n) (waits : count_by is_start (node_at nodes r).diary.locals ≡ 0) (new : NodeState)
+      (st : IsStarted (node_at nodes r) new) (keeps : IsNode new) where
     start_moved : Moved (node_at nodes r) new Started
-    start_moved = record { task = st.task; strays = st.strays; locals = ap (λ (d : Diary). d.locals) st.diary; slots = st.slots; node = keeps }
+    start_moved = record { task = st.task; strays = st.strays; locals = ap (λ (d : Diary). d.locals) st.diary; slots = st.slots; node =
+        keeps }
 
-    start_enabled : (slots : ℕ → Slots) → AgreeAll n slots nodes → IsEnabled (system_of p inputs slots) (scene_of n nodes lanes).world (scene_of n nodes lanes).held r Started
+    start_enabled : (slots : ℕ → Slots) → AgreeAll n slots nodes → IsEnabled (system_of p inputs slots) (scene_of n nodes lanes).world
+        (scene_of n nodes lanes).held r Started
     start_enabled slots a = waits
 
-    start_is : (slots : ℕ → Slots) → AgreeAll n slots nodes → step_made (system_of p inputs slots) (Start r) (scene_of n nodes lanes) ≡ (let z : Scene = record { world = with_step r Started (scene_of n nodes lanes).world; held = λ q u l. held_in n lanes q u l ++ sent_more (system_of p inputs slots) (scene_of n nodes lanes).world r Started q u l } in z)
+    start_is : (slots : ℕ → Slots) → AgreeAll n slots nodes → step_made (system_of p inputs slots) (Start r) (scene_of n nodes lanes)
+        ≡ (let z : Scene = record { world = with_step r Started (scene_of n nodes lanes).world; held =
+                 λ q u l. held_in n lanes q u l ++ sent_more (system_of p inputs slots) (scene_of n nodes lanes).world r Started q u l }
+                 in z)
     start_is slots a = refl
 
     none_to : (m : Sent) → None ≡ Some m → m.header.target < n
     none_to m q = absurd cc
 
-    none_open : (m : Sent) → None ≡ Some m → length (lane_at lanes (lane_place n r m.header.target (lane_of m.header.kind))).messages < window
+    none_open : (m : Sent) → None ≡ Some m → length (lane_at lanes (lane_place n r m.header.target (lane_of m.header.kind))).messages
+        < window
     none_open m q = absurd cc
 
     pub start_done : (a c : List ℕ) → a ≡ start_mark (set nodes r new) r starts → c ≡ firing_mark (set nodes r new) r firings
         → IsDone p inputs n (Start r) nodes lanes (set nodes r new) lanes a deliveries c window strays spare
     start_done a c of_starts of_firings = finish (Start r) (set nodes r new) lanes
-        (parts_news p inputs n nodes lanes window strays spare k.parts k.stray r hr Started lanes (none_taken lanes) start_enabled start_is None refl none_to none_open new start_moved)
-        (strays_news p inputs n nodes lanes window strays spare k.parts k.stray r hr Started lanes (none_taken lanes) start_enabled start_is None refl none_to none_open new start_moved tt (omega arith))
-        (scene_news p inputs n nodes lanes window strays spare k.parts k.stray r hr Started lanes (none_taken lanes) start_enabled start_is None refl none_to none_open new start_moved)
-        (agree_back p inputs n nodes lanes window strays spare k.parts k.stray r hr Started lanes (none_taken lanes) start_enabled start_is None refl none_to none_open new start_moved)
+        (parts_news p inputs n nodes lanes window strays spare k.parts k.stray r hr Started lanes (none_taken lanes) start_enabled
+            start_is None refl none_to none_open new start_moved)
+        (strays_news p inputs n nodes lanes window strays spare k.parts k.stray r hr Started lanes (none_taken lanes) start_enabled
+            start_is None refl none_to none_open new start_moved tt (omega arith))
+        (scene_news p inputs n nodes lanes window strays spare k.parts k.stray r hr Started lanes (none_taken lanes) start_enabled
+            start_is None refl none_to none_open new start_moved)
+        (agree_back p inputs n nodes lanes window strays spare k.parts k.stray r hr Started lanes (none_taken lanes) start_enabled
+            start_is None refl none_to none_open new start_moved)
         (set nodes r new) a deliveries c
         (as_is n window (set nodes r new) lanes a deliveries c
         (subst (λ u. AreCounted n (set nodes r new) lanes u deliveries c window) (sym of_starts)

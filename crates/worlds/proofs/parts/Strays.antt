@@ -1,5 +1,6 @@
 -- Strays in lists of messages and in histories.
-use Rattle.std.proofs.Common.{ℕ, suc, Bool, true, false, cond, not, ◌+◌, ◌≤◌, ◌≡◌, List, [], ◌∷◌, ◌++◌, length, count_by, refl, ap, inl, inr, arith, length-append}
+use Rattle.std.proofs.Common.{ℕ, suc, Bool, true, false, cond, not, ◌+◌, ◌≤◌, ◌≡◌, List, [], ◌∷◌, ◌++◌, length, count_by, refl, ap, inl,
+    inr, arith, length-append}
 use Rattle.ptl_types.specs.Messages.{Sent}
 use Rattle.plan_core.specs.Members.{In}
 use Rattle.plan_core.proofs.Lists.{count-append, count-cons}
@@ -13,7 +14,8 @@ pub owned_and_strays : (ms : List Sent) → length ms ≡ length (owned ms) + co
 owned_and_strays [] = refl
 owned_and_strays (m ∷ ms) = at (is_stray m) refl (owned_and_strays ms)
   where
-    at : (b : Bool) → is_stray m ≡ b → length ms ≡ length (owned ms) + count_by is_stray ms → suc (length ms) ≡ length (cond (not b) (m ∷ owned ms) (owned ms)) + count_by is_stray (m ∷ ms)
+    at : (b : Bool) → is_stray m ≡ b → length ms ≡ length (owned ms) + count_by is_stray ms →
+        suc (length ms) ≡ length (cond (not b) (m ∷ owned ms) (owned ms)) + count_by is_stray (m ∷ ms)
     at true e h = let c = count-cons is_stray m ms in let one = ap (λ x. cond {A = ℕ} x 1 0) e in omega arith
     at false e h = let c = count-cons is_stray m ms in let none = ap (λ x. cond {A = ℕ} x 1 0) e in omega arith
 

@@ -9,9 +9,11 @@ use Rattle.coll_meaning.proofs.folding.exchanged.Goals as goal
 same_part : (i m : ℕ) (a b : ℕ) (x : List ℕ) → a ≡ b → part (i * (a / m)) (a / m) x ≡ part (i * (b / m)) (b / m) x
 same_part i m a b x e = ap (λ v. part (i * (v / m)) (v / m) x) e
 
-of_blocks : (xs : List (List ℕ)) (i : ℕ) → i < length xs → ((q : ℕ) → q < length xs → length (at xs q) ≡ length (at xs 0)) → flat_map (λ q. block (length xs) i (at xs q)) (from_to 0 (length xs)) ≡ exchanged xs i
+of_blocks : (xs : List (List ℕ)) (i : ℕ) → i < length xs → ((q : ℕ) → q < length xs → length (at xs q) ≡ length (at xs 0)) →
+    flat_map (λ q. block (length xs) i (at xs q)) (from_to 0 (length xs)) ≡ exchanged xs i
 of_blocks xs i l even =
-    flat_same (λ q. block (length xs) i (at xs q)) (λ q. part (i * (length (at xs i) / length xs)) (length (at xs i) / length xs) (at xs q)) 0 (length xs)
+    flat_same (λ q. block (length xs) i (at xs q)) (λ q. part (i * (length (at xs i) / length xs)) (length (at xs i) / length xs)
+        (at xs q)) 0 (length xs)
     (λ q j. same_part i (length xs) (length (at xs q)) (length (at xs i)) (at xs q) (even q (omega arith) ∙ sym (even i l)))
 
 pub returns : goal.returns

@@ -12,5 +12,6 @@ returns c =
     (c.as_slice.ensures.value ∙ c.in_ok-kept.ensures ∙ ap (λ v. from_to 0 (length v)) c.buffers.ensures.value) c.in_ok-held.ensures) in
     record {
       value = value;
-      shaped = subst (AreLong c.args.shape.now (length c.args.shape.now.buffers)) (sym value) (all_long c.args.shape.now c.args.inputs.now c.keeps_form.ensures.shape c.requires);
+      shaped = subst (AreLong c.args.shape.now (length c.args.shape.now.buffers)) (sym value)
+          (all_long c.args.shape.now c.args.inputs.now c.keeps_form.ensures.shape c.requires);
     }

@@ -6,4 +6,5 @@ use Rattle.cuts.proofs.histories.StepBounds.{few_steps}
 use Rattle.cuts.proofs.histories.steps_of_one_history.Goals as goal
 
 pub returns : goal.returns
-returns c = λ plan inputs slots r history sound legal. few_steps plan slots r (start_of plan slots r) history (prepare plan inputs slots r) (prepared_of plan inputs sound slots r) legal
+returns c = λ plan inputs slots r history sound legal. few_steps plan slots r (start_of plan slots r) history
+    (prepare plan inputs slots r) (prepared_of plan inputs sound slots r) legal

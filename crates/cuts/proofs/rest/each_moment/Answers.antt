@@ -20,10 +20,12 @@ returns-clause-next c = λ plan inputs slots world next held later sound fit mom
 ]
 
 pub returns-clause-rest : goal.returns-clause-rest
-returns-clause-rest c = λ plan inputs slots world held m none. still_rest plan inputs slots world held m (none_still (system_of plan inputs slots) world held (λ r e h k. no_truth (none r e h k)))
+returns-clause-rest c = λ plan inputs slots world held m none. still_rest plan inputs slots world held m
+    (none_still (system_of plan inputs slots) world held (λ r e h k. no_truth (none r e h k)))
 
 pub returns-clause-converse : goal.returns-clause-converse
-returns-clause-converse c = λ plan inputs slots world held m none rest r e h k. absurd (still_none (system_of plan inputs slots) world held (rest_still plan inputs slots world held m none rest) r e h k)
+returns-clause-converse c = λ plan inputs slots world held m none rest r e h k. absurd
+    (still_none (system_of plan inputs slots) world held (rest_still plan inputs slots world held m none rest) r e h k)
 
 pub returns-clause-still : goal.returns-clause-still
 returns-clause-still c = λ plan inputs slots world held. (

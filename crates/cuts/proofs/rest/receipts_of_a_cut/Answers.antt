@@ -9,13 +9,16 @@ use Rattle.cuts.proofs.histories.StepBounds.{few_steps}
 use Rattle.cuts.proofs.rest.receipts_of_a_cut.Goals as goal
 
 pub returns-clause-number : goal.returns-clause-number
-returns-clause-number c = λ plan inputs slots world sound fit cut r h. few_receipts combined-starts plan inputs sound fit slots world cut r h
+returns-clause-number c = λ plan inputs slots world sound fit cut r h. few_receipts combined-starts plan inputs sound fit slots world cut
+    r h
 
 pub returns-clause-bytes : goal.returns-clause-bytes
-returns-clause-bytes c = λ plan inputs slots world sound fit cut r h. few_received_bytes combined-starts plan inputs sound fit slots world cut r h
+returns-clause-bytes c = λ plan inputs slots world sound fit cut r h. few_received_bytes combined-starts plan inputs sound fit slots world
+    cut r h
 
 pub returns-clause-steps : goal.returns-clause-steps
 returns-clause-steps c = λ plan inputs slots world sound fit cut r h.
     let a = few_receipts combined-starts plan inputs sound fit slots world cut r h in
-    let b = few_steps plan (slots r) r (start_of plan (slots r) r) (world r) (prepare plan inputs (slots r) r) (prepared_of plan inputs sound (slots r) r) (cut.legal r h) in
+    let b = few_steps plan (slots r) r (start_of plan (slots r) r) (world r) (prepare plan inputs (slots r) r)
+          (prepared_of plan inputs sound (slots r) r) (cut.legal r h) in
     omega (arith, a, b)

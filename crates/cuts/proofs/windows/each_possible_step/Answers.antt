@@ -11,9 +11,11 @@ use Rattle.cuts.proofs.windows.each_possible_step.Goals as goal
 
 pub returns : goal.returns
 returns c = record {
-  made = λ ranks window scene step i. listed_made ranks scene step (In-filter_cases (is_possible ranks window scene) step (enabled_steps ranks scene) i).0;
+  made = λ ranks window scene step i. listed_made ranks scene step
+      (In-filter_cases (is_possible ranks window scene) step (enabled_steps ranks scene) i).0;
   keeps = λ plan inputs slots window scene step sound fit moment i.
       let k = system_of plan inputs slots in
       let s = listed_made k scene step (In-filter_cases (is_possible k window scene) step (enabled_steps k scene) i).0 in
-      next_local combined-starts plan inputs sound fit (combined-swaps op_laws) slots scene.world scene.held moment (step_made k step scene).world (step_made k step scene).held s;
+      next_local combined-starts plan inputs sound fit (combined-swaps op_laws) slots scene.world scene.held moment
+          (step_made k step scene).world (step_made k step scene).held s;
 }

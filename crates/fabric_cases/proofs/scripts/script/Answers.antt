@@ -3,10 +3,12 @@ use Rattle.rank_slots.specs.declared.slot.TurnRank.{TurnRank}
 use Rattle.fabric_cases.proofs.scripts.script.Goals as goal
 
 pub made-requires : goal.made-requires
-made-requires g c = let e = ap (λ (l : List TurnRank). length l) c.fire-fired.ensures.hand.0.1 in let n = c.requires.slots in omega (arith, e, n)
+made-requires g c = let e = ap (λ (l : List TurnRank). length l) c.fire-fired.ensures.hand.0.1 in let n = c.requires.slots in
+    omega (arith, e, n)
 
 pub made-requires-2 : goal.made-requires-2
-made-requires-2 g c = let e = ap (λ (l : List TurnRank). length l) c.fire-fired_early.ensures.hand.0.1 in let n = c.requires.slots in omega (arith, e, n)
+made-requires-2 g c = let e = ap (λ (l : List TurnRank). length l) c.fire-fired_early.ensures.hand.0.1 in let n = c.requires.slots in
+    omega (arith, e, n)
 
 pub returns-clause-one : goal.returns-clause-one
 returns-clause-one g c = (

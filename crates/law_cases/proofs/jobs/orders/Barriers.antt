@@ -35,7 +35,8 @@ sync_link a b = record { source = a; source_offset = 0; length = 0; target = b; 
 
 -- go cells, entries, and one round
 abbrev two : Plan
-two = record { ranks = 2; remote = false; cells = on 0 1 ∷ on 1 1 ∷ on 0 1 ∷ on 1 1 ∷ on 0 2 ∷ on 1 2 ∷ []; links = bump_link 0 2 ∷ bump_link 1 3 ∷ bump_link 2 4 ∷ sync_link 3 4 ∷ bump_link 3 5 ∷ sync_link 2 5 ∷ [] }
+two = record { ranks = 2; remote = false; cells = on 0 1 ∷ on 1 1 ∷ on 0 1 ∷ on 1 1 ∷ on 0 2 ∷ on 1 2 ∷ []; links =
+    bump_link 0 2 ∷ bump_link 1 3 ∷ bump_link 2 4 ∷ sync_link 3 4 ∷ bump_link 3 5 ∷ sync_link 2 5 ∷ [] }
 
 -- the go cell and the entry
 abbrev one : Plan
@@ -146,9 +147,11 @@ abbrev ran : List LocalStep → List ℕ → List Move
 ran list turns = tried_all (of_plan one) (alone list) turns []
 
 -- one operation is left
-one_stuck : (r : ℕ) → r < 1 → next_step (of_plan one) (alone (Start ∷ Fire 0 ∷ Fire 1 ∷ [])) (histories (ran (Start ∷ Fire 0 ∷ Fire 1 ∷ []) (0 ∷ 0 ∷ 0 ∷ []))) r ≡ None
+one_stuck : (r : ℕ) → r < 1 → next_step (of_plan one) (alone (Start ∷ Fire 0 ∷ Fire 1 ∷ []))
+    (histories (ran (Start ∷ Fire 0 ∷ Fire 1 ∷ []) (0 ∷ 0 ∷ 0 ∷ []))) r ≡ None
 unfolding target request answered started fired append call_made cell_started bring
-one_stuck = below1 (λ r. next_step (of_plan one) (alone (Start ∷ Fire 0 ∷ Fire 1 ∷ [])) (histories (ran (Start ∷ Fire 0 ∷ Fire 1 ∷ []) (0 ∷ 0 ∷ 0 ∷ []))) r ≡ None) refl
+one_stuck = below1 (λ r. next_step (of_plan one) (alone (Start ∷ Fire 0 ∷ Fire 1 ∷ []))
+    (histories (ran (Start ∷ Fire 0 ∷ Fire 1 ∷ []) (0 ∷ 0 ∷ 0 ∷ []))) r ≡ None) refl
 
 one_is_left : is_ready (state_at (of_plan one) (histories (ran (Start ∷ Fire 0 ∷ Fire 1 ∷ []) (0 ∷ 0 ∷ 0 ∷ []))) 0) 2 ≡ true
 unfolding target request answered started fired append call_made cell_started bring
@@ -166,7 +169,8 @@ ends_too_soon =
         refl,
         inr (
           record {
-            whole = below1 (λ r. IsWhole (alone (Start ∷ Fire 0 ∷ Fire 1 ∷ [])) (histories (ran (Start ∷ Fire 0 ∷ Fire 1 ∷ []) (0 ∷ 0 ∷ 0 ∷ []))) r) refl;
+            whole = below1 (λ r. IsWhole (alone (Start ∷ Fire 0 ∷ Fire 1 ∷ []))
+                (histories (ran (Start ∷ Fire 0 ∷ Fire 1 ∷ []) (0 ∷ 0 ∷ 0 ∷ []))) r) refl;
             lower = λ q h. absurd (omega arith);
             restless = λ rests. (let q : true ≡ false = rests.idle 2 in cc);
           },
@@ -183,7 +187,8 @@ other_stuck : (r : ℕ) → r < 1 → next_step (of_plan one) (alone other) (his
 unfolding target request answered started fired append call_made cell_started bring
 other_stuck = below1 (λ r. next_step (of_plan one) (alone other) (histories (ran other (0 ∷ 0 ∷ 0 ∷ 0 ∷ []))) r ≡ None) refl
 
-other_empty : (lane : Lane) → got (histories (ran other (0 ∷ 0 ∷ 0 ∷ 0 ∷ [])) 0) 0 lane ≡ sent_by (of_plan one) (histories (ran other (0 ∷ 0 ∷ 0 ∷ 0 ∷ []))) 0 0 lane
+other_empty : (lane : Lane) → got (histories (ran other (0 ∷ 0 ∷ 0 ∷ 0 ∷ [])) 0) 0 lane ≡ sent_by (of_plan one)
+    (histories (ran other (0 ∷ 0 ∷ 0 ∷ 0 ∷ []))) 0 0 lane
 unfolding target request answered started fired append call_made cell_started bring
 other_empty Request = refl
 other_empty Answer = refl
@@ -197,7 +202,8 @@ other_order_holds =
       moves = ran other (0 ∷ 0 ∷ 0 ∷ 0 ∷ []);
       taken = taken_by (of_plan one) (alone other) (0 ∷ 0 ∷ 0 ∷ 0 ∷ []) (z, (z, (z, (z, tt)))) other_stuck;
       says = below1 (λ r. IsWhole (alone other) w r × Rests (of_plan one) w r)
-          (refl, record { started = lit< tt; idle = λ t. refl; empty = λ s lane l. below1 (λ s. got (w 0) s lane ≡ sent_by (of_plan one) w s 0 lane) (other_empty lane) s l });
+          (refl, record { started = lit< tt; idle = λ t. refl; empty =
+              λ s lane l. below1 (λ s. got (w 0) s lane ≡ sent_by (of_plan one) w s 0 lane) (other_empty lane) s l });
     }
 
 -- a second start

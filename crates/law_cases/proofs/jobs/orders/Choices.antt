@@ -40,7 +40,8 @@ unfolding target request answered started fired append call_made cell_started br
 entered = refl
 
 -- what was sent may be delivered, though its target hasn't started
-sent : enabled_steps system (after (Start 0 ∷ Fire 0 0 ∷ Fire 0 2 ∷ []) first_scene) ≡ Start 1 ∷ Deliver 0 1 Request ∷ Fire 0 1 ∷ Fire 0 3 ∷ Fire 0 4 ∷ []
+sent : enabled_steps system (after (Start 0 ∷ Fire 0 0 ∷ Fire 0 2 ∷ []) first_scene) ≡ Start 1 ∷ Deliver 0 1 Request ∷ Fire 0 1 ∷ Fire 0 3
+    ∷ Fire 0 4 ∷ []
 unfolding target request answered started fired append call_made cell_started bring
 sent = refl
 

@@ -43,7 +43,8 @@ put_link a b = record { source = a; source_offset = 0; length = 1; target = b; t
 
 -- the go cell, the input, the entry, the result
 abbrev pub plan : Plan
-plan = record { ranks = 1; remote = true; cells = plain 0 1 ∷ plain 1 1 ∷ plain 1 2 ∷ plain 1 1 ∷ []; links = bump_link 0 1 ∷ bump_link 0 2 ∷ put_link 1 2 ∷ put_link 2 3 ∷ [] }
+plan = record { ranks = 1; remote = true; cells = plain 0 1 ∷ plain 1 1 ∷ plain 1 2 ∷ plain 1 1 ∷ []; links =
+    bump_link 0 1 ∷ bump_link 0 2 ∷ put_link 1 2 ∷ put_link 2 3 ∷ [] }
 
 abbrev pub inputs : Inputs
 inputs = ((7 ∷ []) ∷ []) ∷ []
@@ -92,7 +93,8 @@ a3 = ack_message plan slots 3
 
 -- ---- in an order that has a time
 abbrev pub good : List Local
-good = Start ∷ Fire 0 ∷ Fire 1 ∷ Fire 2 ∷ Receive 0 Request m2 ∷ Receive 0 Answer a2 ∷ Fire 3 ∷ Receive 0 Request m3 ∷ Receive 0 Answer a3 ∷ Fire 4 ∷ Fire 5 ∷ Fire 6 ∷ Fire 7 ∷ []
+good = Start ∷ Fire 0 ∷ Fire 1 ∷ Fire 2 ∷ Receive 0 Request m2 ∷ Receive 0 Answer a2 ∷ Fire 3 ∷ Receive 0 Request m3 ∷ Receive 0 Answer a3
+    ∷ Fire 4 ∷ Fire 5 ∷ Fire 6 ∷ Fire 7 ∷ []
 
 good_done : lookup (done_ct slots) (state go begin good).cts.live ≡ Some (successes 6)
 unfolding target request answered started fired call_made append cell_started bring
@@ -109,7 +111,8 @@ good_memory = refl
 
 -- ---- the acknowledgement of the first message is received before the message is fired
 abbrev pub early : List Local
-early = Start ∷ Fire 0 ∷ Fire 1 ∷ Receive 0 Answer a2 ∷ Fire 2 ∷ Receive 0 Request m2 ∷ Fire 3 ∷ Receive 0 Request m3 ∷ Receive 0 Answer a3 ∷ Fire 4 ∷ Fire 5 ∷ Fire 6 ∷ Fire 7 ∷ []
+early = Start ∷ Fire 0 ∷ Fire 1 ∷ Receive 0 Answer a2 ∷ Fire 2 ∷ Receive 0 Request m2 ∷ Fire 3 ∷ Receive 0 Request m3 ∷ Receive 0 Answer
+    a3 ∷ Fire 4 ∷ Fire 5 ∷ Fire 6 ∷ Fire 7 ∷ []
 
 -- what was received is what was sent, on both lanes
 requests_agree : got early 0 Request ≡ sent go begin early 0 Request

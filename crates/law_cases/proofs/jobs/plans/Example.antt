@@ -40,17 +40,25 @@ below1 P a (suc l) h = absurd (omega arith)
 
 sound_link : (l : ℕ) → l < 4 → SoundLink plan l
 sound_link = below4 (SoundLink plan)
-    (record { rising = lit< tt; cells = lit< tt; within_source = lit≤ tt; within_target = lit≤ tt; bump_stays = λ e. refl; bump_empty = λ e. refl; atomic_here = λ o e. cc; atomic_whole = λ e. cc; no_atomic = λ e f. cc })
-    (record { rising = lit< tt; cells = lit< tt; within_source = lit≤ tt; within_target = lit≤ tt; bump_stays = λ e. refl; bump_empty = λ e. refl; atomic_here = λ o e. cc; atomic_whole = λ e. cc; no_atomic = λ e f. cc })
-    (record { rising = lit< tt; cells = lit< tt; within_source = lit≤ tt; within_target = lit≤ tt; bump_stays = λ e. refl; bump_empty = λ e. cc; atomic_here = λ o e. cc; atomic_whole = λ e. cc; no_atomic = λ e f. cc })
-    (record { rising = lit< tt; cells = lit< tt; within_source = lit≤ tt; within_target = lit≤ tt; bump_stays = λ e. refl; bump_empty = λ e. cc; atomic_here = λ o e. cc; atomic_whole = λ e. cc; no_atomic = λ e f. cc })
+    (record { rising = lit< tt; cells = lit< tt; within_source = lit≤ tt; within_target = lit≤ tt; bump_stays = λ e. refl; bump_empty =
+        λ e. refl; atomic_here = λ o e. cc; atomic_whole = λ e. cc; no_atomic = λ e f. cc })
+    (record { rising = lit< tt; cells = lit< tt; within_source = lit≤ tt; within_target = lit≤ tt; bump_stays = λ e. refl; bump_empty =
+        λ e. refl; atomic_here = λ o e. cc; atomic_whole = λ e. cc; no_atomic = λ e f. cc })
+    (record { rising = lit< tt; cells = lit< tt; within_source = lit≤ tt; within_target = lit≤ tt; bump_stays = λ e. refl; bump_empty =
+        λ e. cc; atomic_here = λ o e. cc; atomic_whole = λ e. cc; no_atomic = λ e f. cc })
+    (record { rising = lit< tt; cells = lit< tt; within_source = lit≤ tt; within_target = lit≤ tt; bump_stays = λ e. refl; bump_empty =
+        λ e. cc; atomic_here = λ o e. cc; atomic_whole = λ e. cc; no_atomic = λ e f. cc })
 
-apart1 : (l m : ℕ) → l < 4 → m < 4 → (l ≡ m → ⊥) → (link plan l).target ≡ (link plan m).target → (link plan l).kind ≡ Put → (link plan m).kind ≡ Put → AreApart plan l m
-apart1 l m h i = below4 (λ l. (l ≡ m → ⊥) → (link plan l).target ≡ (link plan m).target → (link plan l).kind ≡ Put → (link plan m).kind ≡ Put → AreApart plan l m)
+apart1 : (l m : ℕ) → l < 4 → m < 4 → (l ≡ m → ⊥) → (link plan l).target ≡ (link plan m).target → (link plan l).kind ≡ Put →
+    (link plan m).kind ≡ Put → AreApart plan l m
+apart1 l m h i = below4 (λ l. (l ≡ m → ⊥) → (link plan l).target ≡ (link plan m).target → (link plan l).kind ≡ Put →
+    (link plan m).kind ≡ Put → AreApart plan l m)
     (λ ne e f g. cc) (λ ne e f g. cc)
-    (below4 (λ m. (2 ≡ m → ⊥) → (link plan 2).target ≡ (link plan m).target → (link plan 2).kind ≡ Put → (link plan m).kind ≡ Put → AreApart plan 2 m)
+    (below4 (λ m. (2 ≡ m → ⊥) → (link plan 2).target ≡ (link plan m).target → (link plan 2).kind ≡ Put → (link plan m).kind ≡ Put →
+        AreApart plan 2 m)
     (λ ne e f g. cc) (λ ne e f g. cc) (λ ne e f g. absurd (ne refl)) (λ ne e f g. absurd (omega arith)) m i)
-    (below4 (λ m. (3 ≡ m → ⊥) → (link plan 3).target ≡ (link plan m).target → (link plan 3).kind ≡ Put → (link plan m).kind ≡ Put → AreApart plan 3 m)
+    (below4 (λ m. (3 ≡ m → ⊥) → (link plan 3).target ≡ (link plan m).target → (link plan 3).kind ≡ Put → (link plan m).kind ≡ Put →
+        AreApart plan 3 m)
     (λ ne e f g. cc) (λ ne e f g. cc) (λ ne e f g. absurd (omega arith)) (λ ne e f g. absurd (ne refl)) m i)
     l h
 
@@ -59,12 +67,16 @@ sound1 = record {
   some_rank = lit≤ tt;
   few_ranks = lit≤ tt;
   links_sound = sound_link;
-  needs = below4 (λ c. 1 ≤ c → (cell plan c).needs ≡ length (in_links plan c)) (λ h. absurd (omega arith)) (λ h. refl) (λ h. refl) (λ h. refl);
-  go_needs = below1 (λ r. ((cell plan r).needs ≡ 1) × (in_links plan r ≡ []) × ((cell plan r).rank ≡ r) × ((cell plan r).length ≡ 0)) (refl, refl, refl, refl);
+  needs = below4 (λ c. 1 ≤ c → (cell plan c).needs ≡ length (in_links plan c)) (λ h. absurd (omega arith)) (λ h. refl) (λ h. refl)
+      (λ h. refl);
+  go_needs = below1 (λ r. ((cell plan r).needs ≡ 1) × (in_links plan r ≡ []) × ((cell plan r).rank ≡ r) × ((cell plan r).length ≡ 0))
+      (refl, refl, refl, refl);
   apart = apart1;
-  covered = below4 (λ c. 2 ≤ c → (cell plan c).op ≡ None → put_bytes plan c ≡ (cell plan c).length) (λ h e. absurd (omega arith)) (λ h e. absurd (omega arith)) (λ h e. refl) (λ h e. refl);
+  covered = below4 (λ c. 2 ≤ c → (cell plan c).op ≡ None → put_bytes plan c ≡ (cell plan c).length) (λ h e. absurd (omega arith))
+      (λ h e. absurd (omega arith)) (λ h e. refl) (λ h e. refl);
   input_cells = below1 (λ i. (1 + i < 4) × ((cell plan (1 + i)).op ≡ None) × ((cell plan (1 + i)).rank ≡ i % 1)) (lit< tt, refl, refl);
-  input_links = below4 (λ l. (link plan l).target < 2 → (link plan l).kind ≡ Bump) (λ h. refl) (λ h. refl) (λ h. absurd (omega arith)) (λ h. absurd (omega arith));
+  input_links = below4 (λ l. (link plan l).target < 2 → (link plan l).kind ≡ Bump) (λ h. refl) (λ h. refl) (λ h. absurd (omega arith))
+      (λ h. absurd (omega arith));
   ranks_known = below4 (λ c. (cell plan c).rank < 1) (lit< tt) (lit< tt) (lit< tt) (lit< tt);
   whole = below4 (λ c. (cell plan c).length % bytes_of (cell plan c).ty ≡ 0) refl refl refl refl;
   all_go = lit≤ tt;
@@ -85,7 +97,9 @@ system1 = system_of plan inputs all_slots
 legal1 : (r : ℕ) → r < 1 → Legal (start_of plan slots r) false (prepare plan inputs slots r) (world1 r)
 unfolding target request answered started fired call_made append cell_started bring
 legal1 = below1 (λ r. Legal (start_of plan slots r) false (prepare plan inputs slots r) (world1 r))
-    (refl, (refl, (refl, (refl, ((refl, refl, refl, refl, tt), ((refl, refl, refl, refl, refl), (refl, ((refl, refl, refl, refl, tt), ((refl, refl, refl, refl, refl), (refl, (refl, (refl, (refl, tt)))))))))))))
+    (refl, (refl, (refl, (refl, ((refl, refl, refl, refl, tt),
+        ((refl, refl, refl, refl, refl), (refl, ((refl, refl, refl, refl, tt),
+        ((refl, refl, refl, refl, refl), (refl, (refl, (refl, (refl, tt)))))))))))))
 
 known1 : (s : ℕ) (lane : Lane) → 1 ≤ s → got good s lane ≡ []
 known1 zero lane h = absurd (omega arith)
@@ -101,7 +115,8 @@ unfolding target request answered started fired call_made append cell_started br
 cut1 = record {
   legal = legal1;
   known = λ r s lane h k. known1 s lane k;
-  lanes = λ s d lane h k. below1 (λ s. IsPrefixOf (got_by world1 d s lane) (sent_by system1 world1 s d lane)) (below1 (λ d. IsPrefixOf (got_by world1 d 0 lane) (sent_by system1 world1 0 d lane)) (lanes1 lane) d k) s h;
+  lanes = λ s d lane h k. below1 (λ s. IsPrefixOf (got_by world1 d s lane) (sent_by system1 world1 s d lane))
+      (below1 (λ d. IsPrefixOf (got_by world1 d 0 lane) (sent_by system1 world1 0 d lane)) (lanes1 lane) d k) s h;
 }
 
 empty1 : (lane : Lane) → got_by world1 0 0 lane ≡ sent_by system1 world1 0 0 lane
@@ -113,10 +128,13 @@ pub rest1 : IsAtRest system1 world1
 unfolding target request answered started fired call_made append cell_started bring
 rest1 = record {
   started = λ r h. lit< tt;
-  empty = λ s d lane h k. below1 (λ s. got_by world1 d s lane ≡ sent_by system1 world1 s d lane) (below1 (λ d. got_by world1 d 0 lane ≡ sent_by system1 world1 0 d lane) (empty1 lane) d k) s h;
+  empty = λ s d lane h k. below1 (λ s. got_by world1 d s lane ≡ sent_by system1 world1 s d lane)
+      (below1 (λ d. got_by world1 d 0 lane ≡ sent_by system1 world1 0 d lane) (empty1 lane) d k) s h;
   idle = λ r t h. below1 (λ r. is_ready (state_at system1 world1 r) t ≡ false) refl r h;
 }
 
 -- so the theorem says something of this world
 pub complete1 : IsComplete plan inputs all_slots world1 0
-complete1 = completes combined-starts plan inputs sound1 (λ i h. below1 (λ i. length (input_bytes plan inputs i) ≡ (cell plan (1 + i)).length) refl i h) (combined-swaps op_laws) all_slots world1 cut1 rest1 0 (lit< tt)
+complete1 = completes combined-starts plan inputs sound1 (λ i h. below1
+    (λ i. length (input_bytes plan inputs i) ≡ (cell plan (1 + i)).length) refl i h) (combined-swaps op_laws) all_slots world1 cut1 rest1
+    0 (lit< tt)

@@ -1,5 +1,6 @@
 -- Moments of the barrier of two ranks: one at rest in which a stray still waits, what is no moment, a wave of probes, and windows.
-use Rattle.std.proofs.Common.{ℕ, zero, suc, Bool, true, false, cond, ◌&&◌, ◌==◌, ◌≡◌, ◌<◌, ◌≤◌, ◌*◌, ◌^◌, List, Some, [], ◌∷◌, ◌++◌, refl, length, inl, inr, arith, lit<, append-nil, subst, ◌∙◌, if◌then◌else◌}
+use Rattle.std.proofs.Common.{ℕ, zero, suc, Bool, true, false, cond, ◌&&◌, ◌==◌, ◌≡◌, ◌<◌, ◌≤◌, ◌*◌, ◌^◌, List, Some, [], ◌∷◌, ◌++◌, refl,
+    length, inl, inr, arith, lit<, append-nil, subst, ◌∙◌, if◌then◌else◌}
 use Rattle.std.proofs.lemmas.Bool.{ne_eqb}
 use Rattle.ptl_types.specs.Messages.{Sent}
 use Rattle.ptl_types.specs.declared.headers.Lane.{Lane}
@@ -66,8 +67,10 @@ Agrees lane s d = got_by world d s lane ≡ sent_by system world s d lane
 
 agree : (lane : Lane) (s d : ℕ) → s < 2 → d < 2 → Agrees lane s d
 unfolding target request answered started fired append call_made cell_started bring
-agree Request s d h k = below2 (λ s. Agrees Request s d) (below2 (λ d. Agrees Request 0 d) refl refl d k) (below2 (λ d. Agrees Request 1 d) refl refl d k) s h
-agree Answer s d h k = below2 (λ s. Agrees Answer s d) (below2 (λ d. Agrees Answer 0 d) refl refl d k) (below2 (λ d. Agrees Answer 1 d) refl refl d k) s h
+agree Request s d h k = below2 (λ s. Agrees Request s d) (below2 (λ d. Agrees Request 0 d) refl refl d k)
+    (below2 (λ d. Agrees Request 1 d) refl refl d k) s h
+agree Answer s d h k = below2 (λ s. Agrees Answer s d) (below2 (λ d. Agrees Answer 0 d) refl refl d k)
+    (below2 (λ d. Agrees Answer 1 d) refl refl d k) s h
 
 cut : IsCut system world
 cut = record {
@@ -90,8 +93,10 @@ Balanced ms lane s d = owned (got (world d) s lane ++ waits ms s d lane) ≡ sen
 
 balanced : (lane : Lane) (s d : ℕ) → s < 2 → d < 2 → Balanced (stray ∷ []) lane s d
 unfolding target request answered started fired append call_made cell_started bring
-balanced Request s d h k = below2 (λ s. Balanced (stray ∷ []) Request s d) (below2 (λ d. Balanced (stray ∷ []) Request 0 d) refl refl d k) (below2 (λ d. Balanced (stray ∷ []) Request 1 d) refl refl d k) s h
-balanced Answer s d h k = below2 (λ s. Balanced (stray ∷ []) Answer s d) (below2 (λ d. Balanced (stray ∷ []) Answer 0 d) refl refl d k) (below2 (λ d. Balanced (stray ∷ []) Answer 1 d) refl refl d k) s h
+balanced Request s d h k = below2 (λ s. Balanced (stray ∷ []) Request s d) (below2 (λ d. Balanced (stray ∷ []) Request 0 d) refl refl d k)
+    (below2 (λ d. Balanced (stray ∷ []) Request 1 d) refl refl d k) s h
+balanced Answer s d h k = below2 (λ s. Balanced (stray ∷ []) Answer s d) (below2 (λ d. Balanced (stray ∷ []) Answer 0 d) refl refl d k)
+    (below2 (λ d. Balanced (stray ∷ []) Answer 1 d) refl refl d k) s h
 
 one_stray : (m : Sent) → In m (stray ∷ []) → IsStrayOf 0 1 Request m
 one_stray m (inr i) = absurd i
@@ -129,7 +134,8 @@ abbrev foreign : Sent
 foreign = record { header = record stray.header { source = 1 }; bytes = 1 ∷ [] }
 
 no_moment_of_another_source : IsMoment system world (waits (foreign ∷ [])) → ⊥
-no_moment_of_another_source m = let q : 1 ≡ 0 = (m.strays 0 1 Request foreign (lit< tt) (lit< tt) (inl refl) refl).source in absurd (omega (arith, q))
+no_moment_of_another_source m = let q : 1 ≡ 0 = (m.strays 0 1 Request foreign (lit< tt) (lit< tt) (inl refl) refl).source in
+    absurd (omega (arith, q))
 
 -- ---- windows: at rest with empty lanes nothing is possible; a stray that waits may be received
 empty_still : IsStill system world (waits [])
@@ -192,8 +198,10 @@ wave = record {
     Counted lane s d = length (got (world d) s lane) ≡ length (sent_by system world s d lane)
 
     counts : (lane : Lane) (s d : ℕ) → s < 2 → d < 2 → Counted lane s d
-    counts Request s d h k = below2 (λ s. Counted Request s d) (below2 (λ d. Counted Request 0 d) refl refl d k) (below2 (λ d. Counted Request 1 d) refl refl d k) s h
-    counts Answer s d h k = below2 (λ s. Counted Answer s d) (below2 (λ d. Counted Answer 0 d) refl refl d k) (below2 (λ d. Counted Answer 1 d) refl refl d k) s h
+    counts Request s d h k = below2 (λ s. Counted Request s d) (below2 (λ d. Counted Request 0 d) refl refl d k)
+        (below2 (λ d. Counted Request 1 d) refl refl d k) s h
+    counts Answer s d h k = below2 (λ s. Counted Answer s d) (below2 (λ d. Counted Answer 0 d) refl refl d k)
+        (below2 (λ d. Counted Answer 1 d) refl refl d k) s h
 
 abbrev short : Histories
 short r = if r == 0 then Start ∷ Fire 0 ∷ Fire 1 ∷ Fire 2 ∷ Fire 3 ∷ Fire 4 ∷ [] else order1

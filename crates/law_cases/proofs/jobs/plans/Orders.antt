@@ -41,7 +41,8 @@ sync_link a b = record { source = a; source_offset = 0; length = 0; target = b; 
 
 -- ---- two ranks: go cells, entries, and one round
 abbrev pub two : Plan
-two = record { ranks = 2; remote = false; cells = on 0 1 ∷ on 1 1 ∷ on 0 1 ∷ on 1 1 ∷ on 0 2 ∷ on 1 2 ∷ []; links = bump_link 0 2 ∷ bump_link 1 3 ∷ bump_link 2 4 ∷ sync_link 3 4 ∷ bump_link 3 5 ∷ sync_link 2 5 ∷ [] }
+two = record { ranks = 2; remote = false; cells = on 0 1 ∷ on 1 1 ∷ on 0 1 ∷ on 1 1 ∷ on 0 2 ∷ on 1 2 ∷ []; links =
+    bump_link 0 2 ∷ bump_link 1 3 ∷ bump_link 2 4 ∷ sync_link 3 4 ∷ bump_link 3 5 ∷ sync_link 2 5 ∷ [] }
 
 abbrev begin : ℕ → State
 begin r = prepare two [] slots r
@@ -95,7 +96,8 @@ not_before_the_message : is_ready (state (go 0) (begin 0) front) 5 ≡ false
 unfolding target request answered started fired call_made append cell_started bring
 not_before_the_message = refl
 
-behind_the_message : is_ready (state (go 0) (begin 0) (Start ∷ Fire 0 ∷ Fire 1 ∷ Fire 2 ∷ Fire 3 ∷ Fire 4 ∷ Receive 1 Request (sync 3) ∷ [])) 5 ≡ true
+behind_the_message : is_ready (state (go 0) (begin 0) (Start ∷ Fire 0 ∷ Fire 1 ∷ Fire 2 ∷ Fire 3 ∷ Fire 4 ∷ Receive 1 Request (sync 3)
+    ∷ [])) 5 ≡ true
 unfolding target request answered started fired call_made append cell_started bring
 behind_the_message = refl
 

@@ -43,8 +43,10 @@ abbrev plan : AtomicOp → Plan
 plan op = record {
   ranks = 2;
   remote = false;
-  cells = byte_cell 0 0 None 1 ∷ byte_cell 1 0 None 1 ∷ byte_cell 0 1 None 1 ∷ byte_cell 1 1 None 1 ∷ byte_cell 0 1 None 2 ∷ byte_cell 1 1 None 2 ∷ byte_cell 1 1 (Some op) 1 ∷ byte_cell 0 1 (Some op) 2 ∷ [];
-  links = bump_link 0 2 ∷ bump_link 1 3 ∷ bump_link 0 4 ∷ byte_link Put 2 4 ∷ bump_link 1 5 ∷ byte_link Put 3 5 ∷ byte_link Atomic 5 6 ∷ byte_link Atomic 4 7 ∷ byte_link Atomic 6 7 ∷ [];
+  cells = byte_cell 0 0 None 1 ∷ byte_cell 1 0 None 1 ∷ byte_cell 0 1 None 1 ∷ byte_cell 1 1 None 1 ∷ byte_cell 0 1 None 2 ∷ byte_cell 1 1
+      None 2 ∷ byte_cell 1 1 (Some op) 1 ∷ byte_cell 0 1 (Some op) 2 ∷ [];
+  links = bump_link 0 2 ∷ bump_link 1 3 ∷ bump_link 0 4 ∷ byte_link Put 2 4 ∷ bump_link 1 5 ∷ byte_link Put 3 5 ∷ byte_link Atomic 5 6
+      ∷ byte_link Atomic 4 7 ∷ byte_link Atomic 6 7 ∷ [];
 }
 
 abbrev inputs : Inputs

@@ -1,5 +1,6 @@
 -- A sum to rank 0 over three ranks: a cut at rest in which a part came before the start, and in which two strays were received.
-use Rattle.std.proofs.Common.{ℕ, zero, suc, false, ◌==◌, ◌≡◌, ◌<◌, ◌≤◌, ◌*◌, ◌^◌, List, [], ◌∷◌, Option, Some, None, refl, arith, lit<, append-nil, ◌∙◌, if◌then◌else◌}
+use Rattle.std.proofs.Common.{ℕ, zero, suc, false, ◌==◌, ◌≡◌, ◌<◌, ◌≤◌, ◌*◌, ◌^◌, List, [], ◌∷◌, Option, Some, None, refl, arith, lit<,
+    append-nil, ◌∙◌, if◌then◌else◌}
 use Rattle.std.proofs.lemmas.Bool.{ne_eqb}
 use Rattle.ptl_types.specs.Messages.{Sent}
 use Rattle.ptl_types.specs.declared.elements.AtomicOp.{AtomicOp}
@@ -44,8 +45,10 @@ plan = record {
   ranks = 3;
   remote = false;
   cells = of_byte 0 0 None 1 ∷ of_byte 1 0 None 1 ∷ of_byte 2 0 None 1 ∷ of_byte 0 1 None 1 ∷ of_byte 1 1 None 1 ∷ of_byte 2 1 None 1
-      ∷ of_byte 0 1 None 2 ∷ of_byte 1 1 None 2 ∷ of_byte 2 1 None 2 ∷ of_byte 2 1 (Some Sum) 1 ∷ of_byte 1 1 (Some Sum) 1 ∷ of_byte 0 1 (Some Sum) 3 ∷ [];
-  links = bump_link 0 3 ∷ bump_link 1 4 ∷ bump_link 2 5 ∷ bump_link 0 6 ∷ along Put 3 6 ∷ bump_link 1 7 ∷ along Put 4 7 ∷ bump_link 2 8 ∷ along Put 5 8
+      ∷ of_byte 0 1 None 2 ∷ of_byte 1 1 None 2 ∷ of_byte 2 1 None 2 ∷ of_byte 2 1 (Some Sum) 1 ∷ of_byte 1 1 (Some Sum) 1 ∷ of_byte 0 1
+          (Some Sum) 3 ∷ [];
+  links = bump_link 0 3 ∷ bump_link 1 4 ∷ bump_link 2 5 ∷ bump_link 0 6 ∷ along Put 3 6 ∷ bump_link 1 7 ∷ along Put 4 7 ∷ bump_link 2 8
+      ∷ along Put 5 8
       ∷ along Atomic 8 9 ∷ along Atomic 7 10 ∷ along Atomic 6 11 ∷ along Atomic 10 11 ∷ along Atomic 9 11 ∷ [];
 }
 
@@ -66,8 +69,10 @@ stray = record { header = record (link_header plan slots 13) { match_bits = 2 * 
 -- rank 1's part comes before rank 0 has started, and a stray before the start and one at the end
 abbrev order0 : List Local
 order0 =
-    Receive 1 Request (carries 12 100) ∷ Receive 2 Request stray ∷ Start ∷ Fire 0 ∷ Fire 1 ∷ Fire 2 ∷ Receive 0 Request (carries 4 200) ∷ Fire 3
-    ∷ Receive 0 Request (carries 11 200) ∷ Receive 2 Request (carries 13 50) ∷ Fire 4 ∷ Fire 5 ∷ Fire 6 ∷ Fire 7 ∷ Receive 2 Request stray ∷ []
+    Receive 1 Request (carries 12 100) ∷ Receive 2 Request stray ∷ Start ∷ Fire 0 ∷ Fire 1 ∷ Fire 2 ∷ Receive 0 Request (carries 4 200)
+        ∷ Fire 3
+    ∷ Receive 0 Request (carries 11 200) ∷ Receive 2 Request (carries 13 50) ∷ Fire 4 ∷ Fire 5 ∷ Fire 6 ∷ Fire 7 ∷ Receive 2 Request stray
+        ∷ []
 
 abbrev order1 : List Local
 order1 =
@@ -94,9 +99,14 @@ below3 P a b c (suc (suc (suc r))) h = absurd (omega arith)
 legal : (r : ℕ) → r < 3 → Legal (system.go r) false (system.first r) (world r)
 unfolding target request answered started fired append call_made cell_started bring
 legal = below3 (λ r. Legal (system.go r) false (system.first r) (world r))
-    ((refl, refl, refl, refl, tt), ((refl, refl, refl, refl, tt), (refl, (refl, (refl, (refl, ((refl, refl, refl, refl, tt), (refl, ((refl, refl, refl, refl, tt), ((refl, refl, refl, refl, tt), (refl, (refl, (refl, (refl, ((refl, refl, refl, refl, tt), tt)))))))))))))))
-    (refl, (refl, (refl, (refl, ((refl, refl, refl, refl, tt), (refl, ((refl, refl, refl, refl, tt), (refl, (refl, (refl, (refl, (refl, tt))))))))))))
-    (refl, (refl, (refl, (refl, ((refl, refl, refl, refl, tt), (refl, ((refl, refl, refl, refl, tt), (refl, (refl, (refl, (refl, (refl, tt))))))))))))
+    ((refl, refl, refl, refl, tt), ((refl, refl, refl, refl, tt),
+        (refl, (refl, (refl, (refl, ((refl, refl, refl, refl, tt),
+        (refl, ((refl, refl, refl, refl, tt), ((refl, refl, refl, refl, tt),
+        (refl, (refl, (refl, (refl, ((refl, refl, refl, refl, tt), tt)))))))))))))))
+    (refl, (refl, (refl, (refl, ((refl, refl, refl, refl, tt),
+        (refl, ((refl, refl, refl, refl, tt), (refl, (refl, (refl, (refl, (refl, tt))))))))))))
+    (refl, (refl, (refl, (refl, ((refl, refl, refl, refl, tt),
+        (refl, ((refl, refl, refl, refl, tt), (refl, (refl, (refl, (refl, (refl, tt))))))))))))
 
 known : (r s : ℕ) (lane : Lane) → r < 3 → 3 ≤ s → got (world r) s lane ≡ []
 known r zero lane h k = absurd (omega arith)
@@ -113,8 +123,10 @@ Agrees lane s d = got_by world d s lane ≡ sent_by system world s d lane
 
 agree : (lane : Lane) (s d : ℕ) → s < 3 → d < 3 → Agrees lane s d
 unfolding target request answered started fired append call_made cell_started bring
-agree Request s d h k = below3 (λ s. Agrees Request s d) (below3 (λ d. Agrees Request 0 d) refl refl refl d k) (below3 (λ d. Agrees Request 1 d) refl refl refl d k) (below3 (λ d. Agrees Request 2 d) refl refl refl d k) s h
-agree Answer s d h k = below3 (λ s. Agrees Answer s d) (below3 (λ d. Agrees Answer 0 d) refl refl refl d k) (below3 (λ d. Agrees Answer 1 d) refl refl refl d k) (below3 (λ d. Agrees Answer 2 d) refl refl refl d k) s h
+agree Request s d h k = below3 (λ s. Agrees Request s d) (below3 (λ d. Agrees Request 0 d) refl refl refl d k)
+    (below3 (λ d. Agrees Request 1 d) refl refl refl d k) (below3 (λ d. Agrees Request 2 d) refl refl refl d k) s h
+agree Answer s d h k = below3 (λ s. Agrees Answer s d) (below3 (λ d. Agrees Answer 0 d) refl refl refl d k)
+    (below3 (λ d. Agrees Answer 1 d) refl refl refl d k) (below3 (λ d. Agrees Answer 2 d) refl refl refl d k) s h
 
 cut : IsCut system world
 cut = record {

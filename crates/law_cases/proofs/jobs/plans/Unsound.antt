@@ -41,12 +41,15 @@ go_cell_with_a_byte : SoundPlan (with_cells (plain 1 1 ∷ plain 1 1 ∷ plain 1
 go_cell_with_a_byte s = let q : 1 ≡ 0 = (s.go_needs 0 (lit< tt)).3 in absurd (omega (arith, q))
 
 two_puts_on_one_byte : SoundPlan (with_links (bump_link 0 1 ∷ put_link 1 2 ∷ put_link 1 2 ∷ put_link 2 3 ∷ [])) 1 → ⊥
-two_puts_on_one_byte s = elim (s.apart 1 2 (lit< tt) (lit< tt) (λ e. absurd (omega (arith, e))) refl refl refl) [ inl q ↦ absurd (omega (arith, q)) | inr q ↦ absurd (omega (arith, q)) ]
+two_puts_on_one_byte s = elim (s.apart 1 2 (lit< tt) (lit< tt) (λ e. absurd (omega (arith, e))) refl refl refl)
+    [ inl q ↦ absurd (omega (arith, q)) | inr q ↦ absurd (omega (arith, q)) ]
 
-put_past_its_target : SoundPlan (with_links (bump_link 0 1 ∷ bump_link 0 2 ∷ put_link 1 2 ∷ record (put_link 2 3) { target_offset = 1 } ∷ [])) 1 → ⊥
+put_past_its_target : SoundPlan (with_links (bump_link 0 1 ∷ bump_link 0 2 ∷ put_link 1 2 ∷ record (put_link 2 3) { target_offset = 1 }
+    ∷ [])) 1 → ⊥
 put_past_its_target s = let q : 1 + 1 ≤ 1 = (s.links_sound 3 (lit< tt)).within_target in absurd (omega (arith, q))
 
-atomic_without_an_operation : SoundPlan (with_links (bump_link 0 1 ∷ bump_link 0 2 ∷ put_link 1 2 ∷ record (put_link 2 3) { kind = Atomic } ∷ [])) 1 → ⊥
+atomic_without_an_operation : SoundPlan (with_links (bump_link 0 1 ∷ bump_link 0 2 ∷ put_link 1 2 ∷ record (put_link 2 3)
+    { kind = Atomic } ∷ [])) 1 → ⊥
 atomic_without_an_operation s = (s.links_sound 3 (lit< tt)).no_atomic refl refl
 
 put_to_an_operation : SoundPlan (with_cells (plain 0 1 ∷ plain 1 1 ∷ plain 1 2 ∷ record (plain 1 1) { op = Some Sum } ∷ [])) 1 → ⊥

@@ -20,37 +20,43 @@ loop-next-init g c =
     let xs = c.args.chain.now.entries in
     let at = c.first_place-next.ensures in
     let all = ap (λ o. from_place o xs) at ∙ place-first xs in
-    record { live = at ∙ ap (λ l. first_or l None) (sym all); first = ap (λ l. entry_names_ct c.args.ct (values l)) (sym all); steps = omega (arith, ap length all) }
+    record { live = at ∙ ap (λ l. first_or l None) (sym all); first = ap (λ l. entry_names_ct c.args.ct (values l)) (sym all); steps =
+        omega (arith, ap length all) }
 
 pub value-requires : goal.value-requires
 value-requires g c =
     let xs = c.args.chain.now.entries in
     let inv = c.loop-next.invariant in
-    let a = here c.in-Some.place c.loop-next.next xs c.nodes-nodes.result.now.places c.nodes-nodes.ensures.apart c.nodes-nodes.ensures.linked c.in-Some.is inv.live in
+    let a = here c.in-Some.place c.loop-next.next xs c.nodes-nodes.result.now.places c.nodes-nodes.ensures.apart
+          c.nodes-nodes.ensures.linked c.in-Some.is inv.live in
     ap is_some a.node_is
 
 pub links-after-requires : goal.links-after-requires
 links-after-requires g c =
     let xs = c.args.chain.now.entries in
     let inv = c.loop-next.invariant in
-    let a = here c.in-Some.place c.loop-next.next xs c.nodes-nodes.result.now.places c.nodes-nodes.ensures.apart c.nodes-nodes.ensures.linked c.in-Some.is inv.live in
+    let a = here c.in-Some.place c.loop-next.next xs c.nodes-nodes.result.now.places c.nodes-nodes.ensures.apart
+          c.nodes-nodes.ensures.linked c.in-Some.is inv.live in
     ap is_some a.node_is
 
 pub returns-then-names-clause-value : goal.returns-then-names-clause-value
 returns-then-names-clause-value g c =
     let xs = c.args.chain.now.entries in
     let inv = c.loop-next.invariant in
-    let a = here c.in-Some.place c.loop-next.next xs c.nodes-nodes.result.now.places c.nodes-nodes.ensures.apart c.nodes-nodes.ensures.linked c.in-Some.is inv.live in
+    let a = here c.in-Some.place c.loop-next.next xs c.nodes-nodes.result.now.places c.nodes-nodes.ensures.apart
+          c.nodes-nodes.ensures.linked c.in-Some.is inv.live in
     let rest : from_place c.loop-next.next xs ≡ a.entry ∷ a.behind = ap (λ o. from_place o xs) c.in-Some.is ∙ a.rest_is in
     let value = subst (λ o. IfSome o (λ n. c.value.result.now ≡ n.value)) a.node_is c.value.ensures.value in
     let same : a.entry.value ≡ c.value.result.now = sym value in
-    sym (inv.first ∙ ap (λ l. entry_names_ct c.args.ct (values l)) rest ∙ hits a.entry.value (values a.behind) c.args.ct (ap (λ (x : Linked). names x.entry.ct c.args.ct) same ∙ sym c.names.ensures ∙ c.if-names.true))
+    sym (inv.first ∙ ap (λ l. entry_names_ct c.args.ct (values l)) rest ∙ hits a.entry.value (values a.behind) c.args.ct
+        (ap (λ (x : Linked). names x.entry.ct c.args.ct) same ∙ sym c.names.ensures ∙ c.if-names.true))
 
 pub loop-next-preserved : goal.loop-next-preserved
 loop-next-preserved g c =
     let xs = c.args.chain.now.entries in
     let inv = c.loop-next.invariant in
-    let a = here c.in-Some.place c.loop-next.next xs c.nodes-nodes.result.now.places c.nodes-nodes.ensures.apart c.nodes-nodes.ensures.linked c.in-Some.is inv.live in
+    let a = here c.in-Some.place c.loop-next.next xs c.nodes-nodes.result.now.places c.nodes-nodes.ensures.apart
+          c.nodes-nodes.ensures.linked c.in-Some.is inv.live in
     let rest : from_place c.loop-next.next xs ≡ a.entry ∷ a.behind = ap (λ o. from_place o xs) c.in-Some.is ∙ a.rest_is in
     let value = subst (λ o. IfSome o (λ n. c.value.result.now ≡ n.value)) a.node_is c.value.ensures.value in
     let same : a.entry.value ≡ c.value.result.now = sym value in
@@ -59,7 +65,9 @@ loop-next-preserved g c =
     let then = ap (λ o. from_place o xs) next ∙ a.then in
     record {
       live = next ∙ ap (λ l. first_or l None) (sym then);
-      first = inv.first ∙ ap (λ l. entry_names_ct c.args.ct (values l)) rest ∙ passes a.entry.value (values a.behind) c.args.ct (ap (λ (x : Linked). names x.entry.ct c.args.ct) same ∙ sym c.names.ensures ∙ c.if-names.false) ∙ ap (λ l. entry_names_ct c.args.ct (values l)) (sym then);
+      first = inv.first ∙ ap (λ l. entry_names_ct c.args.ct (values l)) rest ∙ passes a.entry.value (values a.behind) c.args.ct
+          (ap (λ (x : Linked). names x.entry.ct c.args.ct) same ∙ sym c.names.ensures ∙ c.if-names.false)
+          ∙ ap (λ l. entry_names_ct c.args.ct (values l)) (sym then);
       steps = omega (arith, inv.steps, ap length then, ap length rest, c.value.ensures.steps, c.links-after.ensures.steps);
     }
 
@@ -67,7 +75,8 @@ pub loop-next-smaller : goal.loop-next-smaller
 loop-next-smaller g c =
     let xs = c.args.chain.now.entries in
     let inv = c.loop-next.invariant in
-    let a = here c.in-Some.place c.loop-next.next xs c.nodes-nodes.result.now.places c.nodes-nodes.ensures.apart c.nodes-nodes.ensures.linked c.in-Some.is inv.live in
+    let a = here c.in-Some.place c.loop-next.next xs c.nodes-nodes.result.now.places c.nodes-nodes.ensures.apart
+          c.nodes-nodes.ensures.linked c.in-Some.is inv.live in
     let rest : from_place c.loop-next.next xs ≡ a.entry ∷ a.behind = ap (λ o. from_place o xs) c.in-Some.is ∙ a.rest_is in
     let value = subst (λ o. IfSome o (λ n. c.value.result.now ≡ n.value)) a.node_is c.value.ensures.value in
     let same : a.entry.value ≡ c.value.result.now = sym value in
@@ -80,6 +89,7 @@ pub returns-then-names-clause-steps : goal.returns-then-names-clause-steps
 returns-then-names-clause-steps g c =
     let xs = c.args.chain.now.entries in
     let inv = c.loop-next.invariant in
-    let a = here c.in-Some.place c.loop-next.next xs c.nodes-nodes.result.now.places c.nodes-nodes.ensures.apart c.nodes-nodes.ensures.linked c.in-Some.is inv.live in
+    let a = here c.in-Some.place c.loop-next.next xs c.nodes-nodes.result.now.places c.nodes-nodes.ensures.apart
+          c.nodes-nodes.ensures.linked c.in-Some.is inv.live in
     let rest : from_place c.loop-next.next xs ≡ a.entry ∷ a.behind = ap (λ o. from_place o xs) c.in-Some.is ∙ a.rest_is in
     omega (arith, inv.steps, ap length rest, c.value.ensures.steps)

@@ -14,5 +14,6 @@ returns-in_err-description-clause-exact c =
     let fault = c.in_err-description.field-0.0 in
     let p = err_from_is_err_and c.from_residual.result c.from_residual.ensures.1 in
     rw (p.1, p.2)
-    (subst (Fails fault) (sym (parted bytes at next c.if-bytes-gt-LONGEST_CHECK.false c.first_end-at.ensures.bytes c.first_end-at.ensures.line))
+    (subst (Fails fault) (sym (parted bytes at next c.if-bytes-gt-LONGEST_CHECK.false c.first_end-at.ensures.bytes
+        c.first_end-at.ensures.line))
     (fails_at fault (read (take at bytes)) next (lines (drop at bytes)) c.in_err-description.ensures.exact))

@@ -17,7 +17,8 @@ first_same x y xs ys e = cc
 
 pub receive-made-requires-clause-room : goal.receive-made-requires-clause-room
 receive-made-requires-clause-room c =
-    let inside : c.args.d < length c.args.seats.now = let size = c.requires.seats in let h = c.requires.destination in omega (arith, size, h) in
+    let inside : c.args.d < length c.args.seats.now = let size = c.requires.seats in let h = c.requires.destination in
+          omega (arith, size, h) in
     let same = get_or_default c.args.seats.now c.args.d c.index-seats-d.result no_seated inside in
     let may = c.requires.may c.take-message.result
     (drop 1 (lane_at c.args.lanes.now (lane_place c.args.ranks c.args.s c.args.d c.args.lane)).messages) c.take-message.ensures.front in
@@ -25,7 +26,8 @@ receive-made-requires-clause-room c =
 
 pub receive-made-requires-clause-receipts : goal.receive-made-requires-clause-receipts
 receive-made-requires-clause-receipts c =
-    let inside : c.args.d < length c.args.seats.now = let size = c.requires.seats in let h = c.requires.destination in omega (arith, size, h) in
+    let inside : c.args.d < length c.args.seats.now = let size = c.requires.seats in let h = c.requires.destination in
+          omega (arith, size, h) in
     let same = get_or_default c.args.seats.now c.args.d c.index-seats-d.result no_seated inside in
     let may = c.requires.may c.take-message.result
     (drop 1 (lane_at c.args.lanes.now (lane_place c.args.ranks c.args.s c.args.d c.args.lane)).messages) c.take-message.ensures.front in
@@ -33,7 +35,8 @@ receive-made-requires-clause-receipts c =
 
 pub receive-made-requires-clause-bytes : goal.receive-made-requires-clause-bytes
 receive-made-requires-clause-bytes c =
-    let inside : c.args.d < length c.args.seats.now = let size = c.requires.seats in let h = c.requires.destination in omega (arith, size, h) in
+    let inside : c.args.d < length c.args.seats.now = let size = c.requires.seats in let h = c.requires.destination in
+          omega (arith, size, h) in
     let same = get_or_default c.args.seats.now c.args.d c.index-seats-d.result no_seated inside in
     let may = c.requires.may c.take-message.result
     (drop 1 (lane_at c.args.lanes.now (lane_place c.args.ranks c.args.s c.args.d c.args.lane)).messages) c.take-message.ensures.front in
@@ -41,7 +44,8 @@ receive-made-requires-clause-bytes c =
 
 pub receive-made-requires-clause-target : goal.receive-made-requires-clause-target
 receive-made-requires-clause-target c =
-    let inside : c.args.d < length c.args.seats.now = let size = c.requires.seats in let h = c.requires.destination in omega (arith, size, h) in
+    let inside : c.args.d < length c.args.seats.now = let size = c.requires.seats in let h = c.requires.destination in
+          omega (arith, size, h) in
     let same = get_or_default c.args.seats.now c.args.d c.index-seats-d.result no_seated inside in
     let may = c.requires.may c.take-message.result
     (drop 1 (lane_at c.args.lanes.now (lane_place c.args.ranks c.args.s c.args.d c.args.lane)).messages) c.take-message.ensures.front in
@@ -49,7 +53,8 @@ receive-made-requires-clause-target c =
 
 pub send_out-requires-clause-goes : goal.send_out-requires-clause-goes
 send_out-requires-clause-goes c =
-    let inside : c.args.d < length c.args.seats.now = let size = c.requires.seats in let h = c.requires.destination in omega (arith, size, h) in
+    let inside : c.args.d < length c.args.seats.now = let size = c.requires.seats in let h = c.requires.destination in
+          omega (arith, size, h) in
     let same = get_or_default c.args.seats.now c.args.d c.index-seats-d.result no_seated inside in
     let may = c.requires.may c.take-message.result
     (drop 1 (lane_at c.args.lanes.now (lane_place c.args.ranks c.args.s c.args.d c.args.lane)).messages) c.take-message.ensures.front in
@@ -60,7 +65,8 @@ send_out-requires-clause-goes c =
 
 pub returns : goal.returns
 returns c = λ m rest first.
-    let inside : c.args.d < length c.args.seats.now = let size = c.requires.seats in let h = c.requires.destination in omega (arith, size, h) in
+    let inside : c.args.d < length c.args.seats.now = let size = c.requires.seats in let h = c.requires.destination in
+          omega (arith, size, h) in
     let same = get_or_default c.args.seats.now c.args.d c.index-seats-d.result no_seated inside in
     let answer = c.receive-made.ensures.answer
     ∙ ap (λ (s : ChoiceRankState). made_by s.nic (Received c.args.s c.args.lane c.take-message.result)) same in

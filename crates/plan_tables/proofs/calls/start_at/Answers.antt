@@ -12,4 +12,5 @@ bounds-starts-c c =
     omega (arith, e, h)
 
 pub returns : goal.returns
-returns c = ap (λ v. get_or v c.args.c 0) c.requires.starts ∙ get-row (cell_start c.args.plan.now) (length c.args.plan.now.cells) c.args.c 0 c.requires.cell
+returns c = ap (λ v. get_or v c.args.c 0) c.requires.starts ∙ get-row (cell_start c.args.plan.now) (length c.args.plan.now.cells) c.args.c
+    0 c.requires.cell

@@ -14,7 +14,8 @@ pub loop-l-init : goal.loop-l-init
 loop-l-init c = c.in_ok-into.ensures ∙ ap (λ n. map no_numbers (from_to 0 n)) c.ranks.ensures
 
 pub add_message-requires-clause-ranks : goal.add_message-requires-clause-ranks
-add_message-requires-clause-ranks c = length-table (of_key (arrival_key c.args.plan.now) c.loop-l.l) c.args.plan.now.ranks c.loop-l.into c.loop-l.invariant
+add_message-requires-clause-ranks c = length-table (of_key (arrival_key c.args.plan.now) c.loop-l.l) c.args.plan.now.ranks c.loop-l.into
+    c.loop-l.invariant
 
 pub loop-l-preserved : goal.loop-l-preserved
 loop-l-preserved c =
@@ -27,7 +28,8 @@ loop-l-preserved c =
     key : ℕ
     key = arrival_key c.args.plan.now c.loop-l.l
 
-    at : (b : Bool) → nat_lt key p.ranks ≡ b → cond b (set c.loop-l.into key (get_or c.loop-l.into key [] ++ c.loop-l.l ∷ [])) c.loop-l.into ≡ map (of_key (arrival_key p) (c.loop-l.l + 1)) (from_to 0 p.ranks)
+    at : (b : Bool) → nat_lt key p.ranks ≡ b → cond b (set c.loop-l.into key (get_or c.loop-l.into key [] ++ c.loop-l.l ∷ []))
+        c.loop-l.into ≡ map (of_key (arrival_key p) (c.loop-l.l + 1)) (from_to 0 p.ranks)
     at true t = listed-more (arrival_key p) c.loop-l.l p.ranks c.loop-l.into (ltb-true _ _ t) c.loop-l.invariant
     at false t = c.loop-l.invariant ∙ keyed-out (arrival_key p) (λ v. v) c.loop-l.l p.ranks (ltb-false _ _ t)
 

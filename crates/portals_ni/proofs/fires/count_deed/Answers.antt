@@ -6,4 +6,5 @@ use Rattle.portals_ni.proofs.fires.count_deed.Goals as goal
 pub returns-in-Set-clause-counts : goal.returns-in-Set-clause-counts
 returns-in-Set-clause-counts c =
     let fits : passes_end c.in-Set.to ≡ false = rw c.in-Set.is at c.requires in
-    rw c.in-Set.is (set-whole c.set_counter.result c.in-Set.ct c.in-Set.to c.args.cts.now c.set_counter.new.cts c.set_counter.ensures.answer fits c.set_counter.ensures.ok c.set_counter.ensures.err)
+    rw c.in-Set.is (set-whole c.set_counter.result c.in-Set.ct c.in-Set.to c.args.cts.now c.set_counter.new.cts
+        c.set_counter.ensures.answer fits c.set_counter.ensures.ok c.set_counter.ensures.err)

@@ -7,5 +7,6 @@ use Rattle.portals_ni.proofs.fires.count_to.Given as goal
 abbrev pub invariant-loop-i : goal.invariant-loop-i
 invariant-loop-i l = record {
   at_most : l.count ≤ l.i;
-  same : l.count + length (filter (λ t. is_rank l.target (target_of (posted_at t (posted_all deed_in l.pending)))) (drop l.i (due_numbers l.pending))) ≡ length (due_numbers_to l.target l.pending);
+  same : l.count + length (filter (λ t. is_rank l.target (target_of (posted_at t (posted_all deed_in l.pending))))
+      (drop l.i (due_numbers l.pending))) ≡ length (due_numbers_to l.target l.pending);
 }

@@ -16,7 +16,8 @@ loop-number-preserved-in-Some c =
     }
 
 pub loop-number-smaller-in-Some : goal.loop-number-smaller-in-Some
-loop-number-smaller-in-Some c = rw c.take_out.ensures.rest (fewer-wait c.args.ct c.in-Some.number c.loop-number.pending c.in-Some.ensures.found)
+loop-number-smaller-in-Some c = rw c.take_out.ensures.rest (fewer-wait c.args.ct c.in-Some.number c.loop-number.pending
+    c.in-Some.ensures.found)
 
 pub returns-clause-rest : goal.returns-clause-rest
 returns-clause-rest c = sym (none-cancelled c.args.ct c.loop-number.pending c.in_default.ensures.none) ∙ c.loop-number.invariant.rest

@@ -6,13 +6,16 @@ use Rattle.portals_top.proofs.checking.compiled.Goals as goal
 pub returns-in-Ok : goal.returns-in-Ok
 returns-in-Ok g c =
     record {
-      judged = rw (← c.into_parts-shape.ensures.shape, ← c.into_parts-shape.ensures.inputs) (judged-compiled _ _ _ c.args.orders.now _ _ _ _ c.in-Ok.ensures.0 c.in-Ok.ensures.1 c.judge.ensures.judged);
+      judged = rw (← c.into_parts-shape.ensures.shape, ← c.into_parts-shape.ensures.inputs)
+          (judged-compiled _ _ _ c.args.orders.now _ _ _ _ c.in-Ok.ensures.0 c.in-Ok.ensures.1 c.judge.ensures.judged);
       told = c.judge.ensures.told;
     }
 
 pub returns : goal.returns
 returns g c =
     record {
-      judged = rw (← c.into_parts-shape.ensures.shape, ← c.into_parts-shape.ensures.inputs) (judged-refused _ _ c.args.orders.now _ Plan c.args.d.inputs None _ _ _ (c.refuse_plan.ensures.written Plan c.args.d.inputs None) c.refuse_plan.ensures.memory);
+      judged = rw (← c.into_parts-shape.ensures.shape, ← c.into_parts-shape.ensures.inputs)
+          (judged-refused _ _ c.args.orders.now _ Plan c.args.d.inputs None _ _ _
+          (c.refuse_plan.ensures.written Plan c.args.d.inputs None) c.refuse_plan.ensures.memory);
       told = c.refuse_plan.ensures.told;
     }

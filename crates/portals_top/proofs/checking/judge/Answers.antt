@@ -4,14 +4,16 @@ use Rattle.portals_top.proofs.checking.judge.Goals as goal
 
 pub returns-in-Ok-write_verdict : goal.returns-in-Ok-write_verdict
 returns-in-Ok-write_verdict g c = record {
-  judged = judged-written c.args.schedule c.args.inputs c.args.orders.now c.in-Ok-verdict_on.verdict _ _ _ c.in-Ok-verdict_on.ensures c.status_of.ensures
+  judged = judged-written c.args.schedule c.args.inputs c.args.orders.now c.in-Ok-verdict_on.verdict _ _ _ c.in-Ok-verdict_on.ensures
+      c.status_of.ensures
       c.in-Ok-write_verdict.ensures;
   told = verdict_tells c.in-Ok-verdict_on.verdict _ _ _ _ c.status_of.ensures c.in-Ok-write_verdict.ensures c.note_of.ensures;
 }
 
 pub returns : goal.returns
 returns g c = record {
-  judged = judged-failed c.args.schedule c.args.inputs c.args.orders.now c.in-Ok-verdict_on.verdict _ _ c.in-Ok-verdict_on.ensures c.in-Err.ensures;
+  judged = judged-failed c.args.schedule c.args.inputs c.args.orders.now c.in-Ok-verdict_on.verdict _ _ c.in-Ok-verdict_on.ensures
+      c.in-Err.ensures;
   told = tt;
 }
 

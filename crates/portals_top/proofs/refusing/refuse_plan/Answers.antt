@@ -16,7 +16,8 @@ pub returns-in-TooMany : goal.returns-in-TooMany
 returns-in-TooMany g c =
     let is = rw c.in-TooMany.is at c.requires in
     record {
-      written = λ k inputs ran. excess-owed c.args.shape.now c.in-TooMany.step Links (refusal c.args.shape.now) is k inputs ran _ _ _ (rw c.many_links.ensures at c.refuse_step.ensures.written);
+      written = λ k inputs ran. excess-owed c.args.shape.now c.in-TooMany.step Links (refusal c.args.shape.now) is k inputs ran _ _ _
+          (rw c.many_links.ensures at c.refuse_step.ensures.written);
       memory = λ none. let e = sym none ∙ is in absurd (cc);
       told = c.refuse_step.ensures.told;
     }
@@ -25,7 +26,8 @@ pub returns-in-TooLarge : goal.returns-in-TooLarge
 returns-in-TooLarge g c =
     let is = rw c.in-TooLarge.is at c.requires in
     record {
-      written = λ k inputs ran. excess-owed c.args.shape.now c.in-TooLarge.step Bytes (refusal c.args.shape.now) is k inputs ran _ _ _ (rw c.large_cells.ensures at c.refuse_step-in-TooLarge.ensures.written);
+      written = λ k inputs ran. excess-owed c.args.shape.now c.in-TooLarge.step Bytes (refusal c.args.shape.now) is k inputs ran _ _ _
+          (rw c.large_cells.ensures at c.refuse_step-in-TooLarge.ensures.written);
       memory = λ none. let e = sym none ∙ is in absurd (cc);
       told = c.refuse_step-in-TooLarge.ensures.told;
     }

@@ -13,7 +13,8 @@ pub returns : goal.returns
 returns g c =
     let left = c.in-Ok-run_chosen.ensures in
     rw c.status_of.ensures (record {
-      written = written-of _ _ _ _ (same-mode (Sim c.args.seed) _ _ _ _ _ _ _ (Some c.in-Ok-run_chosen.world) left.0.shape left.0.inputs c.write_ordered-written.ensures);
+      written = written-of _ _ _ _ (same-mode (Sim c.args.seed) _ _ _ _ _ _ _ (Some c.in-Ok-run_chosen.world) left.0.shape left.0.inputs
+          c.write_ordered-written.ensures);
       world = handed-of (LeavesWorld (Execute (Sim c.args.seed)) c.args.job.now.shape c.args.job.now.inputs) _ _
           (left, ap (λ (r : Ran). r.choice) c.requires.none);
     })

@@ -6,7 +6,8 @@ use Rattle.portals_top.proofs.top.planned.Goals as goal
 
 pub returns-in-Ok : goal.returns-in-Ok
 returns-in-Ok g c = record {
-  written = λ inputs ran. plan-owed c.args.shape.now (refusal c.args.shape.now) _ c.in-Ok.ensures.0 c.in-Ok.ensures.1 inputs ran _ _ _ c.plan.ensures;
+  written = λ inputs ran. plan-owed c.args.shape.now (refusal c.args.shape.now) _ c.in-Ok.ensures.0 c.in-Ok.ensures.1 inputs ran _ _ _
+      c.plan.ensures;
   told = done_tells _ _ _ _ _ c.plan.ensures;
 }
 

@@ -4,10 +4,13 @@ use Rattle.rank_node.proofs.Opened.{is-none, none-closed, start-all, turn-lane}
 use Rattle.rank_node.proofs.choice.open_count.Goals as goal
 
 pub returns-then-not-any : goal.returns-then-not-any
-returns-then-not-any c = c.ready_count-count.ensures.value ∙ sym (ap length (none-closed c.args.gates.now (target_at c.args.nic.now) (ready_numbers c.args.nic.now) (is-none c.any.result _ c.if-not-any.true c.any.ensures)))
+returns-then-not-any c = c.ready_count-count.ensures.value ∙ sym
+    (ap length (none-closed c.args.gates.now (target_at c.args.nic.now) (ready_numbers c.args.nic.now)
+    (is-none c.any.result _ c.if-not-any.true c.any.ensures)))
 
 pub loop-d-init : goal.loop-d-init
-loop-d-init c = c.ready_count-count.ensures.value ∙ sym (ap length (start-all c.args.gates.now (target_at c.args.nic.now) (ready_numbers c.args.nic.now)))
+loop-d-init c = c.ready_count-count.ensures.value ∙ sym (ap length
+    (start-all c.args.gates.now (target_at c.args.nic.now) (ready_numbers c.args.nic.now)))
 
 pub overflow_sub-count : goal.overflow_sub-count
 overflow_sub-count c =

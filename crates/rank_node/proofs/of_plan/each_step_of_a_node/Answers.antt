@@ -8,7 +8,8 @@ no_truth h = cc
 pub returns : goal.returns
 returns c = record {
   fired = λ plan inputs slots scene r t node is keeps. fired-rank plan inputs slots scene r t node is keeps;
-  received = λ plan inputs slots scene r s lane m later node front is keeps. received-rank plan inputs slots scene r s lane m later node front is keeps;
+  received = λ plan inputs slots scene r s lane m later node front is keeps. received-rank plan inputs slots scene r s lane m later node
+      front is keeps;
   started = λ plan inputs slots scene r old new is st keeps agrees. started-rank plan inputs slots scene r old new is st keeps agrees;
   others = λ plan inputs slots scene q step node apart is. other-rank plan inputs slots scene q step node (λ e. no_truth (apart e)) is;
 }

@@ -7,7 +7,8 @@ use Rattle.rank_slots.proofs.Pairs.{same_at, within}
 use Rattle.rank_slots.proofs.posts.search_ins.Goals as goal
 
 pub returns-then-is_from-clause-some : goal.returns-then-is_from-clause-some
-returns-then-is_from-clause-some c = let p = c.index-ins-at.result in let e = c.if-is_from.ensures in let is = e.0 refl in (p, at_index c.args.ins.now c.loop-at.at p c.loop-at-test.true c.index-ins-at.is, is.0, is.1)
+returns-then-is_from-clause-some c = let p = c.index-ins-at.result in let e = c.if-is_from.ensures in let is = e.0 refl in
+    (p, at_index c.args.ins.now c.loop-at.at p c.loop-at-test.true c.index-ins-at.is, is.0, is.1)
 
 pub loop-at-preserved : goal.loop-at-preserved
 loop-at-preserved c = let p = c.index-ins-at.result in let e = c.if-is_from.ensures in let at = c.loop-at.at in
@@ -18,4 +19,7 @@ loop-at-preserved c = let p = c.index-ins-at.result in let e = c.if-is_from.ensu
     (λ (apart : i ≡ at → ⊥). c.loop-at.invariant i x (omega (arith, below, apart)) is goes lane) (cases_eq i at)
 
 pub returns-clause-none : goal.returns-clause-none
-returns-clause-none c = λ i p at goes lane. c.loop-at.invariant i p (let k = within c.args.ins.now i p at in let f = c.loop-at-test.false in omega (arith, k, f)) at goes lane
+returns-clause-none c = λ i p at goes lane. c.loop-at.invariant i p (let k = within c.args.ins.now i p at in let f =
+                                                                                                                   c.loop-at-test.false in
+                                                                                                                   omega (arith, k, f)) at
+                                                                                                                   goes lane

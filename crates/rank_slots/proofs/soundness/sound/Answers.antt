@@ -14,7 +14,8 @@ returns c =
     let ins = c.inputs.ensures.inputs in
     let told : c.shape.result.now ≡ o = c.shape.ensures.value ∙ same in
     let well : IsWellFormed o = subst IsWellFormed told c.keeps_form.ensures.shape in record {
-      plan = subst (SoundPlan (plan_of o)) (sym ins.many) (subst (λ (s : Outline). SoundPlan (plan_of s) s.inputs) same c.plan.ensures.sound);
+      plan = subst (SoundPlan (plan_of o)) (sym ins.many) (subst (λ (s : Outline). SoundPlan (plan_of s) s.inputs) same
+          c.plan.ensures.sound);
       inputs = inputs_fit o inputs well ins;
       ranks = subst (λ (s : Outline). (plan_of s).ranks ≡ s.ranks) same c.plan.ensures.ranks;
     }

@@ -20,7 +20,8 @@ overflow_add-bytes c =
     omega (arith, i, e, m, at_most)
 
 pub loop-source-preserved : goal.loop-source-preserved
-loop-source-preserved c = ap₂ (λ a b. a + b) c.loop-source.invariant c.lane_bytes-bytes.ensures ∙ more-bytes (plan_of c.args.schedule.now) c.args.r c.loop-source.source
+loop-source-preserved c = ap₂ (λ a b. a + b) c.loop-source.invariant c.lane_bytes-bytes.ensures
+    ∙ more-bytes (plan_of c.args.schedule.now) c.args.r c.loop-source.source
 
 pub returns : goal.returns
 returns c =

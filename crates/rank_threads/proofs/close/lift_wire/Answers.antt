@@ -18,7 +18,8 @@ use Rattle.rank_threads.proofs.Leaving.{laid_less, last_in, last_out, less_in, l
 use Rattle.rank_threads.proofs.close.lift_wire.Goals as goal
 
 pub pull_out-out-requires-clause-rank : goal.pull_out-out-requires-clause-rank
-pull_out-out-requires-clause-rank g c = subst (λ (z : Bounds). z.source < length c.args.slots.now) (sym c.bounds-bounds.ensures) c.requires.between.source
+pull_out-out-requires-clause-rank g c = subst (λ (z : Bounds). z.source < length c.args.slots.now) (sym c.bounds-bounds.ensures)
+    c.requires.between.source
 
 pub pull_out-out-requires-clause-nonempty : goal.pull_out-out-requires-clause-nonempty
 pull_out-out-requires-clause-nonempty g c = let b = c.bounds-bounds.ensures in λ x at.
@@ -71,7 +72,8 @@ drain-requires-clause-room g c =
 
 pub returns-clause-nodes : goal.returns-clause-nodes
 returns-clause-nodes g c = let o = c.pull_out-out in let i = c.pull_in-into in
-    chain c.args.slots.now o.new.slots i.new.slots (less_out c.bounds-bounds.result.source o.result c.args.slots.now o.new.slots o.ensures.pulled)
+    chain c.args.slots.now o.new.slots i.new.slots (less_out c.bounds-bounds.result.source o.result c.args.slots.now o.new.slots
+        o.ensures.pulled)
     (less_in c.bounds-bounds.result.target i.result o.new.slots i.new.slots i.ensures.pulled)
 
 pub returns-clause-laid : goal.returns-clause-laid
@@ -81,7 +83,8 @@ returns-clause-laid g c = let b = c.bounds-bounds.ensures in let o = c.pull_out-
     (lost_in c.bounds-bounds.result c.args.wire.now.bounds i.result o.new.slots i.new.slots b i.ensures.pulled) h
 
 pub returns-clause-lifted : goal.returns-clause-lifted
-returns-clause-lifted g c = let b = c.bounds-bounds.ensures in let o = c.pull_out-out in let i = c.pull_in-into in let f = c.args.frame.now in
+returns-clause-lifted g c = let b = c.bounds-bounds.ensures in let o = c.pull_out-out in let i = c.pull_in-into in let f =
+                                                                                                                         c.args.frame.now in
     let is = c.lane-lane.ensures.value ∙ (ap (λ (z : Bounds). lane_in f z.source z.target z.lane) b ∙ c.requires.empty) in
     let w = wire_ends c.requires.laid.0 c.args.wire.now o.result i.result c.args.slots.now o.new.slots i.new.slots c.requires.laid.1
     c.requires.between o.ensures.count i.ensures.count

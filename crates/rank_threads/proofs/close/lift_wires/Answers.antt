@@ -23,8 +23,10 @@ one_more : {A : Type 0} (xs ys : List A) (a : A) → xs ≡ ys ++ a ∷ [] → l
 one_more xs ys a e = let q = length-append ys (a ∷ []) in omega (arith, q, ap (λ (l : List _). length l) e)
 
 -- the wire that was popped stands at its place among all
-wire_at : (all wires new : List WireState) (w : WireState) → ((rest : List WireState) × (all ≡ wires ++ rest)) → wires ≡ new ++ w ∷ [] → get_elem? all (length new) ≡ some w
-wire_at all wires new w f e = ap (λ l. get_elem? l (length new)) f.1 ∙ front_some wires f.0 (length new) w (ap (λ l. get_elem? l (length new)) e ∙ last_at new w)
+wire_at : (all wires new : List WireState) (w : WireState) → ((rest : List WireState) × (all ≡ wires ++ rest)) → wires ≡ new ++ w ∷ [] →
+    get_elem? all (length new) ≡ some w
+wire_at all wires new w f e = ap (λ l. get_elem? l (length new)) f.1
+    ∙ front_some wires f.0 (length new) w (ap (λ l. get_elem? l (length new)) e ∙ last_at new w)
 
 pub loop-wire-init : goal.loop-wire-init
 loop-wire-init g c = let f = c.args.frame.now in record {
@@ -51,7 +53,8 @@ lift_wire-requires-clause-between g c = let i = c.loop-wire.invariant in let f =
     record { source = (let h = b.0 in omega (arith, h, n, m)); target = (let h = b.1 in omega (arith, h, n, m)) }
 
 pub lift_wire-requires-clause-ranks : goal.lift_wire-requires-clause-ranks
-lift_wire-requires-clause-ranks g c = let i = c.loop-wire.invariant in i.count ∙ (c.requires.ranks ∙ sym (ap (λ (o : Outline). o.ranks) i.shape))
+lift_wire-requires-clause-ranks g c = let i = c.loop-wire.invariant in i.count
+    ∙ (c.requires.ranks ∙ sym (ap (λ (o : Outline). o.ranks) i.shape))
 
 pub lift_wire-requires-clause-lane : goal.lift_wire-requires-clause-lane
 lift_wire-requires-clause-lane g c = let i = c.loop-wire.invariant in let f = c.args.frame.now in let v = c.in-Some.wire.now in
@@ -111,7 +114,8 @@ loop-wire-preserved g c = let i = c.loop-wire.invariant in let f = c.args.frame.
 pub returns-clause-lifted : goal.returns-clause-lifted
 returns-clause-lifted g c = λ k w at. let i = c.loop-wire.invariant in let f = c.args.frame.now in
     let none : length c.loop-wire.wires.now ≤ k = search (rules, arith, c.split_last.ensures, c.in_default.ensures) in
-    subst (λ (o : Outline). IsLifted w.bounds c.args.slots.now (lane_at c.loop-wire.frame.lanes (lane_place o.ranks w.bounds.source w.bounds.target w.bounds.lane))) (sym i.shape)
+    subst (λ (o : Outline). IsLifted w.bounds c.args.slots.now
+        (lane_at c.loop-wire.frame.lanes (lane_place o.ranks w.bounds.source w.bounds.target w.bounds.lane))) (sym i.shape)
     (i.lifted.done k w none at)
 
 pub returns-clause-unused : goal.returns-clause-unused

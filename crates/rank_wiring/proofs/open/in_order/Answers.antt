@@ -11,7 +11,8 @@ use Rattle.rank_wiring.proofs.open.in_order.Goals as goal
 pub made_or_make-requires-clause-rank : goal.made_or_make-requires-clause-rank
 made_or_make-requires-clause-rank c =
     let short = ap (λ m. length m) c.in-Some.ensures.steps.0 in let all = c.loop-place.invariant.slots in
-    let many = c.requires.count in let ranks = c.requires.ranks in let here = c.len-rank.ensures in omega (arith, short, all, many, ranks, here)
+    let many = c.requires.count in let ranks = c.requires.ranks in let here = c.len-rank.ensures in
+        omega (arith, short, all, many, ranks, here)
 
 pub made_or_make-requires-clause-place : goal.made_or_make-requires-clause-place
 made_or_make-requires-clause-place c =
@@ -33,8 +34,10 @@ loop-place-preserved c =
     subst (λ n. IsFanned job n slot load) (c.len-rank.ensures ∙ here) c.in_ok-berth.ensures in
     let more : length (slots ++ slot ∷ []) ≡ length slots + 1 = length-append slots (slot ∷ []) in
     let long = length-append loads (load ∷ []) in record {
-      len = (let gone = c.in-Some.ensures.steps.1 in let was = i.len in let short = ap (λ m. length m) step in omega (arith, gone, was, short));
-      slots = (let a = ap (λ (l : List TurnRank). length l) p in let short = ap (λ m. length m) step in let k = i.slots in omega (arith, a, more, short, k));
+      len = (let gone = c.in-Some.ensures.steps.1 in let was = i.len in let short = ap (λ m. length m) step in
+          omega (arith, gone, was, short));
+      slots = (let a = ap (λ (l : List TurnRank). length l) p in let short = ap (λ m. length m) step in let k = i.slots in
+          omega (arith, a, more, short, k));
       loads = (let a = ap (λ (l : List TurnRank). length l) p in let b = ap (λ (l : List OutWires). length l) q in let k = i.loads in
           omega (arith, a, b, more, long, k));
       fanned = subst (λ (l : List TurnRank). AllFanned job l c.push-in-loop-place.new.self.items) (sym p)

@@ -22,7 +22,8 @@ returns-in_err-cell_line g c =
     Puts-stops old new c.args.out.now c.cell_line.new.out (rows 0 (length p.cells)) _ c.from_residual.ensures.0
     (Fails-next old before new text c.loop-number.out (cell_line_of p n) (rows (n + 1) (length p.cells - (n + 1)))
     (subst (λ rest. Takes old before text (c.loop-number.out ++ rest)) next c.loop-number.invariant)
-    (subst (λ xs. FailsWithin before new (c.loop-number.out ++ xs)) (ap (λ v. plan_line (CellLine n (get_or v n no_cell))) told) c.in_err-cell_line.ensures))
+    (subst (λ xs. FailsWithin before new (c.loop-number.out ++ xs)) (ap (λ v. plan_line (CellLine n (get_or v n no_cell))) told)
+        c.in_err-cell_line.ensures))
 
 pub loop-number-preserved : goal.loop-number-preserved
 loop-number-preserved g c =
@@ -38,4 +39,5 @@ loop-number-preserved g c =
     let next = rows_from-next (cell_line_of p) n (length p.cells) lt in
     Takes-next old before new text c.loop-number.out c.cell_line.new.out (cell_line_of p n) (rows (n + 1) (length p.cells - (n + 1)))
     (subst (λ rest. Takes old before text (c.loop-number.out ++ rest)) next c.loop-number.invariant)
-    (subst (λ xs. Takes before new (c.loop-number.out ++ xs) c.cell_line.new.out) (ap (λ v. plan_line (CellLine n (get_or v n no_cell))) told) c.in_ok-cell_line.ensures)
+    (subst (λ xs. Takes before new (c.loop-number.out ++ xs) c.cell_line.new.out)
+        (ap (λ v. plan_line (CellLine n (get_or v n no_cell))) told) c.in_ok-cell_line.ensures)

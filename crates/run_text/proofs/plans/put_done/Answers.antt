@@ -22,7 +22,8 @@ returns-in_err-plan_line g c =
     Puts-stops old new c.args.out.now c.plan_line.new.out (rows 0 (p.ranks)) _ c.from_residual.ensures.0
     (Fails-next old before new text c.loop-rank.out (done_line_of p n) (rows (n + 1) (p.ranks - (n + 1)))
     (subst (λ rest. Takes old before text (c.loop-rank.out ++ rest)) next c.loop-rank.invariant)
-    (subst (λ xs. FailsWithin before new (c.loop-rank.out ++ xs)) (ap (λ v. plan_line (DoneLine n v)) c.done-threshold.ensures) c.in_err-plan_line.ensures))
+    (subst (λ xs. FailsWithin before new (c.loop-rank.out ++ xs)) (ap (λ v. plan_line (DoneLine n v)) c.done-threshold.ensures)
+        c.in_err-plan_line.ensures))
 
 pub loop-rank-preserved : goal.loop-rank-preserved
 loop-rank-preserved g c =
@@ -38,4 +39,5 @@ loop-rank-preserved g c =
     let next = rows_from-next (done_line_of p) n (p.ranks) lt in
     Takes-next old before new text c.loop-rank.out c.plan_line.new.out (done_line_of p n) (rows (n + 1) (p.ranks - (n + 1)))
     (subst (λ rest. Takes old before text (c.loop-rank.out ++ rest)) next c.loop-rank.invariant)
-    (subst (λ xs. Takes before new (c.loop-rank.out ++ xs) c.plan_line.new.out) (ap (λ v. plan_line (DoneLine n v)) c.done-threshold.ensures) c.in_ok-plan_line.ensures)
+    (subst (λ xs. Takes before new (c.loop-rank.out ++ xs) c.plan_line.new.out)
+        (ap (λ v. plan_line (DoneLine n v)) c.done-threshold.ensures) c.in_ok-plan_line.ensures)

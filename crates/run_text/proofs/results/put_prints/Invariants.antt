@@ -8,7 +8,8 @@ abbrev pub invariant-loop-buffer : goal.invariant-loop-buffer
 invariant-loop-buffer g l =
     let lines = flat_map (buffer_lines l.shape (g.H.ResultLists.lists l.held)) in
     record {
-      taken : Takes (g.K.Sink.outflow l.fn.sink) (g.K.Sink.outflow l.sink) (l.fn.out ++ lines l.shape.prints) (l.out ++ lines (drop l.buffer-index l.shape.prints));
+      taken : Takes (g.K.Sink.outflow l.fn.sink) (g.K.Sink.outflow l.sink) (l.fn.out ++ lines l.shape.prints)
+          (l.out ++ lines (drop l.buffer-index l.shape.prints));
       place : l.first ≡ l.buffer-index * l.shape.ranks;
       at_most : l.first ≤ l.buffer-index * 256;
     }

@@ -15,7 +15,8 @@ returns-in_err-put_one g c =
     let text = c.args.out.now ++ flat_map f c.args.words.now in
     let split = flat_map-drop f c.args.words.now c.loop-word.word-index (Number 0) (omega arith) in
     Puts-stops _ _ c.args.out.now c.put_one.new.out (flat_map f c.args.words.now) _ c.from_residual.ensures.0
-    (Fails-next old before _ text c.loop-word.out _ _ (subst (λ rest. Takes old before text (c.loop-word.out ++ rest)) split c.loop-word.invariant) c.in_err-put_one.ensures)
+    (Fails-next old before _ text c.loop-word.out _ _ (subst (λ rest. Takes old before text (c.loop-word.out ++ rest)) split
+        c.loop-word.invariant) c.in_err-put_one.ensures)
 
 pub loop-word-preserved : goal.loop-word-preserved
 loop-word-preserved g c =
@@ -24,4 +25,5 @@ loop-word-preserved g c =
     let f = λ (w : Word). 32 ∷ word_bytes w in
     let text = c.args.out.now ++ flat_map f c.args.words.now in
     let split = flat_map-drop f c.args.words.now c.loop-word.word-index (Number 0) (omega arith) in
-    Takes-next old before _ text c.loop-word.out _ _ _ (subst (λ rest. Takes old before text (c.loop-word.out ++ rest)) split c.loop-word.invariant) c.in_ok-put_one.ensures
+    Takes-next old before _ text c.loop-word.out _ _ _ (subst (λ rest. Takes old before text (c.loop-word.out ++ rest)) split
+        c.loop-word.invariant) c.in_ok-put_one.ensures

@@ -13,6 +13,8 @@ loop-r-preserved c = record {
       c.set.ensures
       ∙ ap (λ h. hold h c.args.b c.loop-r.r (c.args.first + c.loop-r.r)) c.loop-r.invariant.value
       ∙ sym (row-next c.args.held.now c.args.b c.args.first c.loop-r.r);
-  ranks = ap (λ (h : HeldCells). h.ranks) c.set.ensures ∙ Rattle.shape_plans.proofs.Upto.ranks-one c.loop-r.held c.args.b c.loop-r.r (c.args.first + c.loop-r.r) ∙ c.loop-r.invariant.ranks;
-  buffers = ap (λ (h : HeldCells). h.buffers) c.set.ensures ∙ Rattle.shape_plans.proofs.Upto.buffers-one c.loop-r.held c.args.b c.loop-r.r (c.args.first + c.loop-r.r) ∙ c.loop-r.invariant.buffers;
+  ranks = ap (λ (h : HeldCells). h.ranks) c.set.ensures ∙ Rattle.shape_plans.proofs.Upto.ranks-one c.loop-r.held c.args.b c.loop-r.r
+      (c.args.first + c.loop-r.r) ∙ c.loop-r.invariant.ranks;
+  buffers = ap (λ (h : HeldCells). h.buffers) c.set.ensures ∙ Rattle.shape_plans.proofs.Upto.buffers-one c.loop-r.held c.args.b c.loop-r.r
+      (c.args.first + c.loop-r.r) ∙ c.loop-r.invariant.buffers;
 }

@@ -11,4 +11,5 @@ returns-then-at-indices-clause-after c = set-seen c.args.indices.now c.args.pt c
 pub returns-then-at-indices-clause-kept : goal.returns-then-at-indices-clause-kept
 returns-then-at-indices-clause-kept c =
     λ most records given all.
-    set-portal_entry c.args.indices.now c.args.pt c.index-indices-at.result c.free.new.self most records given given (omega arith) c.if-at-indices.true (c.free.ensures.kept most records given) all
+    set-portal_entry c.args.indices.now c.args.pt c.index-indices-at.result c.free.new.self most records given given (omega arith)
+        c.if-at-indices.true (c.free.ensures.kept most records given) all

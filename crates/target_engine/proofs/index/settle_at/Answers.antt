@@ -4,9 +4,11 @@ use Rattle.target_engine.proofs.Views.{set-seen_by, set-portal_entry}
 use Rattle.target_engine.proofs.index.settle_at.Goals as goal
 
 pub returns-then-at-indices-clause-after : goal.returns-then-at-indices-clause-after
-returns-then-at-indices-clause-after c = set-seen_by c.args.indices.now c.args.header.now.pt c.index-indices-at.result c.settle.new.self (settled_in c.args.found.now c.args.header.now) c.if-at-indices.true c.settle.ensures.after
+returns-then-at-indices-clause-after c = set-seen_by c.args.indices.now c.args.header.now.pt c.index-indices-at.result c.settle.new.self
+    (settled_in c.args.found.now c.args.header.now) c.if-at-indices.true c.settle.ensures.after
 
 pub returns-then-at-indices-clause-kept : goal.returns-then-at-indices-clause-kept
 returns-then-at-indices-clause-kept c =
     λ most records given all.
-    set-portal_entry c.args.indices.now c.args.header.now.pt c.index-indices-at.result c.settle.new.self most records given given (omega arith) c.if-at-indices.true (c.settle.ensures.kept most records given) all
+    set-portal_entry c.args.indices.now c.args.header.now.pt c.index-indices-at.result c.settle.new.self most records given given
+        (omega arith) c.if-at-indices.true (c.settle.ensures.kept most records given) all

@@ -5,7 +5,8 @@ use Rattle.target_engine.proofs.Counted.{counted-same, counted-gone, long-taken}
 use Rattle.target_engine.proofs.Headers.{unexpected-parts}
 use Rattle.target_engine.proofs.Recorded.{recorded-unexpected}
 use Rattle.target_engine.proofs.Records.{given-by, limit-by}
-use Rattle.target_engine.proofs.Taking.{one-between, taken-told, taken-recorded, step-found, step-later, step-rose, step-same, step-gone, step-kept}
+use Rattle.target_engine.proofs.Taking.{one-between, taken-told, taken-recorded, step-found, step-later, step-rose, step-same, step-gone,
+    step-kept}
 use Rattle.target_engine.proofs.takes.take_found.Goals as goal
 use Rattle.target_engine.proofs.takes.take_found.Goals.{then-finds, else-finds}
 
@@ -18,8 +19,11 @@ loop-at-init c =
       events = refl;
       counts = refl;
       rose = refl;
-      recorded = recorded-unexpected (seen_in c.args.indices.now) xs (left_in c.args.pt c.args.entry.now xs ++ found_in c.args.pt c.args.entry.now xs) c.args.records.now.by_entry c.requires.recorded (λ p. unexpected-parts (lies_in p) c.args.pt c.args.entry.now xs);
-      users = counted-same xs (left_in c.args.pt c.args.entry.now xs ++ found_in c.args.pt c.args.entry.now xs) c.args.records.now c.requires.counted (λ p. unexpected-parts p c.args.pt c.args.entry.now xs);
+      recorded = recorded-unexpected (seen_in c.args.indices.now) xs
+          (left_in c.args.pt c.args.entry.now xs ++ found_in c.args.pt c.args.entry.now xs) c.args.records.now.by_entry
+          c.requires.recorded (λ p. unexpected-parts (lies_in p) c.args.pt c.args.entry.now xs);
+      users = counted-same xs (left_in c.args.pt c.args.entry.now xs ++ found_in c.args.pt c.args.entry.now xs) c.args.records.now
+          c.requires.counted (λ p. unexpected-parts p c.args.pt c.args.entry.now xs);
       long = refl;
       given = refl;
       limit = refl;
@@ -44,11 +48,13 @@ loop-at-preserved c =
           let users = rw step at h.users in
           let gone = w.take_header.ensures.gone in
           record {
-            sifted = rw (w.headers-is, w.kept-is) (step-gone pt e xs ys zs k i _ _ c.finds.ensures c.as_slice.ensures h.sifted lt w.if-finds.true);
+            sifted = rw (w.headers-is, w.kept-is) (step-gone pt e xs ys zs k i _ _ c.finds.ensures c.as_slice.ensures h.sifted lt
+                w.if-finds.true);
             room = rw w.headers-is h.room;
             events = rw (w.eqs-is, w.take_header.ensures.events) (taken-told _ _ _ _ _ _ was ∙ told);
             counts = rw (w.cts-is, w.take_header.ensures.counts) (rw step at h.counts);
-            rose = rw (w.counted-is, w.overflow_counter-counted.ensures) (sym (step-rose pt e xs ys zs k i _ _ c.finds.ensures c.as_slice.ensures h.sifted lt w.if-finds.true));
+            rose = rw (w.counted-is, w.overflow_counter-counted.ensures)
+                (sym (step-rose pt e xs ys zs k i _ _ c.finds.ensures c.as_slice.ensures h.sifted lt w.if-finds.true));
             recorded = rw (w.records-is, gone) (taken-recorded _ _ _ _ _ was);
             users = rw (w.records-is, gone) (counted-gone _ _ _ _ users was.once (one-between _ _ _));
             long = rw w.records-is (long-taken _ _ _ _ _ users gone ∙ h.long);
@@ -58,11 +64,13 @@ loop-at-preserved c =
       | else-finds w ↦
           let step = step-later pt e xs ys zs k i _ _ c.finds.ensures c.as_slice.ensures h.sifted lt w.if-finds.false in
           record {
-            sifted = rw (w.headers-is, w.kept-is, w.put_at.ensures) (step-kept pt e xs ys zs k i _ _ c.finds.ensures c.as_slice.ensures h.sifted lt w.if-finds.false);
+            sifted = rw (w.headers-is, w.kept-is, w.put_at.ensures)
+                (step-kept pt e xs ys zs k i _ _ c.finds.ensures c.as_slice.ensures h.sifted lt w.if-finds.false);
             room = rw (w.headers-is, w.put_at.ensures) h.room;
             events = rw w.eqs-is (rw step at h.events);
             counts = rw w.cts-is (rw step at h.counts);
-            rose = rw (w.counted-is, step-same pt e xs ys zs k i _ _ c.finds.ensures c.as_slice.ensures h.sifted lt w.if-finds.false) h.rose;
+            rose = rw (w.counted-is, step-same pt e xs ys zs k i _ _ c.finds.ensures c.as_slice.ensures h.sifted lt w.if-finds.false)
+                h.rose;
             recorded = rw w.records-is (rw step at h.recorded);
             users = rw w.records-is (rw step at h.users);
             long = rw w.records-is h.long;

@@ -9,7 +9,8 @@ loop-i-preserved c =
     let P = IsUnused c.args.limits.now.entries c.args.records in
     let one = All-cons P c.in_ok-new.field-0 [] c.in_ok-new.ensures (All-nil P) in
     record {
-      unused = subst (All P) (sym c.push_reserved.ensures.items) (All-append P c.loop-i.indices.items (c.in_ok-new.field-0 ∷ []) c.loop-i.invariant.unused one);
+      unused = subst (All P) (sym c.push_reserved.ensures.items)
+          (All-append P c.loop-i.indices.items (c.in_ok-new.field-0 ∷ []) c.loop-i.invariant.unused one);
       so_many = grind (arith, c.push_reserved.ensures.len, c.loop-i.invariant.so_many);
       room = omega (arith, c.push_reserved.ensures.capacity, c.loop-i.invariant.room);
     }

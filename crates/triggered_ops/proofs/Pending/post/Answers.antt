@@ -5,7 +5,8 @@ use Rattle.triggered_ops.proofs.Telling.{low-cross, high-cross}
 use Rattle.triggered_ops.proofs.Pending.post.Goals as goal
 
 pub make_room-requires-clause-within : goal.make_room-requires-clause-within
-make_room-requires-clause-within g c = laid-within c.self.inside.spots c.self.inside.threads c.self.inside.stamps.items c.self.inside.given c.self.inside.limit c.self.invariant
+make_room-requires-clause-within g c = laid-within c.self.inside.spots c.self.inside.threads c.self.inside.stamps.items
+    c.self.inside.given c.self.inside.limit c.self.invariant
 
 pub make_room-requires-clause-room : goal.make_room-requires-clause-room
 make_room-requires-clause-room g c =
@@ -20,7 +21,8 @@ put_in-requires-clause-high g c = high-cross c.args.threshold c.args.sum _ c.arg
 
 pub returns-clause-fresh : goal.returns-clause-fresh
 returns-clause-fresh g c =
-    rw (← c.self.view_is) (not-given _ (laid-kept c.self.inside.spots c.self.inside.threads c.self.inside.stamps.items c.self.inside.given c.self.inside.limit c.self.invariant (omega arith)))
+    rw (← c.self.view_is) (not-given _ (laid-kept c.self.inside.spots c.self.inside.threads c.self.inside.stamps.items c.self.inside.given
+        c.self.inside.limit c.self.invariant (omega arith)))
 
 pub returns-clause-ok : goal.returns-clause-ok
 returns-clause-ok g c = rw (← c.self.view_is, c.put_in.ensures.value, c.tell.ensures.told, c.make_room.ensures.value) refl

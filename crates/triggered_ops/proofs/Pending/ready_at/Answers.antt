@@ -12,4 +12,5 @@ pub returns-clause-value : goal.returns-clause-value
 returns-clause-value g c = rw (← c.self.view_is) (rw c.from.ensures at c.due_at.ensures)
 
 pub returns-clause-kept : goal.returns-clause-kept
-returns-clause-kept g c = rw (← c.self.view_is) (laid-kept c.self.inside.spots c.self.inside.threads c.self.inside.stamps.items c.self.inside.given c.self.inside.limit c.self.invariant (omega arith))
+returns-clause-kept g c = rw (← c.self.view_is) (laid-kept c.self.inside.spots c.self.inside.threads c.self.inside.stamps.items
+    c.self.inside.given c.self.inside.limit c.self.invariant (omega arith))

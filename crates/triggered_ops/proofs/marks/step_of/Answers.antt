@@ -9,4 +9,5 @@ pub returns-else-word-eq1-clause-more : goal.returns-else-word-eq1-clause-more
 returns-else-word-eq1-clause-more c = some-zeros 63 c.args.word (omega (arith, c.if-word-eq1.false))
 
 pub returns-else-word-eq1-clause-passed : goal.returns-else-word-eq1-clause-passed
-returns-else-word-eq1-clause-passed c = let even : 0 ≡ c.args.word % 2 = omega (arith, c.if-word-eq1.false) in passed-zeros 64 c.args.word ∙ even
+returns-else-word-eq1-clause-passed c = let even : 0 ≡ c.args.word % 2 = omega (arith, c.if-word-eq1.false) in passed-zeros 64 c.args.word
+    ∙ even

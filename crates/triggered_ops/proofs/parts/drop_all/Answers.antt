@@ -10,7 +10,8 @@ use Rattle.triggered_ops.proofs.Telling.{emptied-cancelled, none-cancelled}
 use Rattle.triggered_ops.proofs.parts.drop_all.Goals as goal
 
 -- one that waits on the counting event is taken out
-module _ {D : Type 0} (old new : Spotted D) (p : ℕ) (ct : Handle) (found : WaitsOn ct (wait_at old.spots p)) (is : new ≡ spotted (emptied p old.spots) old.room) where
+module _ {D : Type 0} (old new : Spotted D) (p : ℕ) (ct : Handle) (found : WaitsOn ct (wait_at old.spots p))
+    (is : new ≡ spotted (emptied p old.spots) old.room) where
   fewer : length (operations_in new.spots) < length (operations_in old.spots)
   fewer =
       let w = waits-is ct (wait_at old.spots p) found in
@@ -37,10 +38,12 @@ pub take_out-requires-clause-waits : goal.take_out-requires-clause-waits
 take_out-requires-clause-waits g c = let w = waits-is c.args.ct _ c.in-Some.ensures.found in ap is_some w.1
 
 pub loop-place-smaller : goal.loop-place-smaller
-loop-place-smaller g c = fewer c.loop-place.spots c.take_out.new.spots c.in-Some.place c.args.ct c.in-Some.ensures.found c.take_out.ensures.rest
+loop-place-smaller g c = fewer c.loop-place.spots c.take_out.new.spots c.in-Some.place c.args.ct c.in-Some.ensures.found
+    c.take_out.ensures.rest
 
 pub loop-place-smaller-in-Some : goal.loop-place-smaller-in-Some
-loop-place-smaller-in-Some g c = fewer c.loop-place.spots c.take_out.new.spots c.in-Some.place c.args.ct c.in-Some.ensures.found c.take_out.ensures.rest
+loop-place-smaller-in-Some g c = fewer c.loop-place.spots c.take_out.new.spots c.in-Some.place c.args.ct c.in-Some.ensures.found
+    c.take_out.ensures.rest
 
 pub loop-place-preserved : goal.loop-place-preserved
 loop-place-preserved g c =
@@ -48,8 +51,10 @@ loop-place-preserved g c =
     record {
       hung = c.take_out.ensures.hung c.args.stamps.now i.hung;
       places = c.take_out.ensures.places ∙ i.places;
-      same = still-same c.loop-place.spots c.take_out.new.spots c.in-Some.place c.args.ct c.in-Some.ensures.found c.take_out.ensures.rest _ i.same;
-      rest = still-rest c.loop-place.spots c.take_out.new.spots c.in-Some.place c.args.ct c.in-Some.ensures.found c.take_out.ensures.rest ∙ i.rest;
+      same = still-same c.loop-place.spots c.take_out.new.spots c.in-Some.place c.args.ct c.in-Some.ensures.found c.take_out.ensures.rest
+          _ i.same;
+      rest = still-rest c.loop-place.spots c.take_out.new.spots c.in-Some.place c.args.ct c.in-Some.ensures.found c.take_out.ensures.rest
+          ∙ i.rest;
     }
 
 pub loop-place-preserved-in-Some : goal.loop-place-preserved-in-Some
@@ -58,8 +63,10 @@ loop-place-preserved-in-Some g c =
     record {
       hung = c.take_out.ensures.hung c.args.stamps.now i.hung;
       places = c.take_out.ensures.places ∙ i.places;
-      same = still-same c.loop-place.spots c.take_out.new.spots c.in-Some.place c.args.ct c.in-Some.ensures.found c.take_out.ensures.rest _ i.same;
-      rest = still-rest c.loop-place.spots c.take_out.new.spots c.in-Some.place c.args.ct c.in-Some.ensures.found c.take_out.ensures.rest ∙ i.rest;
+      same = still-same c.loop-place.spots c.take_out.new.spots c.in-Some.place c.args.ct c.in-Some.ensures.found c.take_out.ensures.rest
+          _ i.same;
+      rest = still-rest c.loop-place.spots c.take_out.new.spots c.in-Some.place c.args.ct c.in-Some.ensures.found c.take_out.ensures.rest
+          ∙ i.rest;
     }
 
 pub returns-clause-rest : goal.returns-clause-rest

@@ -10,7 +10,8 @@ invariant-loop-place g l = record {
   hung : IsHung (wait_at l.spots.spots) l.threads l.stamps;
   places : l.threads.places ≡ l.fn.threads.places;
   same : IsSame l.fn.spots l.spots;
-  rest : filter (λ p. not (waits_on l.ct p)) (operations_in l.spots.spots) ≡ filter (λ p. not (waits_on l.ct p)) (operations_in l.fn.spots.spots);
+  rest : filter (λ p. not (waits_on l.ct p)) (operations_in l.spots.spots) ≡ filter (λ p. not (waits_on l.ct p))
+      (operations_in l.fn.spots.spots);
 }
 
 abbrev pub decreases-loop-place : goal.decreases-loop-place

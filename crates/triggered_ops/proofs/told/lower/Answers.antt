@@ -21,10 +21,13 @@ loop-place-preserved g c =
         numbers = ap (λ (s : Spotted _). numbers_of s.spots) is ∙ settled-numbers p false ss ∙ i.same.numbers;
         room = ap (λ (s : Spotted _). s.room) is ∙ i.same.room;
       };
-      told = ap (λ (s : Spotted _). map (told_if (waits_on c.args.ct) c.args.sum) (operations_in s.spots)) is ∙ settled-told ss p false c.args.ct c.args.sum x.0 x.1 x.2 ∙ i.told;
+      told = ap (λ (s : Spotted _). map (told_if (waits_on c.args.ct) c.args.sum) (operations_in s.spots)) is
+          ∙ settled-told ss p false c.args.ct c.args.sum x.0 x.1 x.2 ∙ i.told;
       within = omega (arith, long, i.within, c.make_undue.ensures.places);
-      above = λ q y e s d. still-above ss p c.args.ct c.args.sum c.in-Some.ensures.some i.above q y (ap (λ (s : Spotted _). wait_at s.spots q) (sym is) ∙ e) s d;
+      above = λ q y e s d. still-above ss p c.args.ct c.args.sum c.in-Some.ensures.some i.above q y
+          (ap (λ (s : Spotted _). wait_at s.spots q) (sym is) ∙ e) s d;
     }
 
 pub returns-clause-due : goal.returns-clause-due
-returns-clause-due g c = λ p x e s. due-is c.args.sum x (λ d. c.in_default.ensures.none p x e s d) (λ d. c.loop-place.invariant.above p x e s d)
+returns-clause-due g c = λ p x e s. due-is c.args.sum x (λ d. c.in_default.ensures.none p x e s d)
+    (λ d. c.loop-place.invariant.above p x e s d)

@@ -13,7 +13,8 @@ invariant-loop-place g l = record {
   hung : IsHung (wait_at l.spots.spots) l.threads l.stamps;
   places : l.threads.places ≡ l.fn.threads.places;
   same : IsSame l.fn.spots l.spots;
-  told : map (told_if (waits_on l.ct) l.sum) (operations_in l.spots.spots) ≡ map (told_if (waits_on l.ct) l.sum) (operations_in l.fn.spots.spots);
+  told : map (told_if (waits_on l.ct) l.sum) (operations_in l.spots.spots) ≡ map (told_if (waits_on l.ct) l.sum)
+      (operations_in l.fn.spots.spots);
   within : length l.spots.spots ≤ l.threads.places;
   above : (p : ℕ) (x : Wait) → wait_at l.spots.spots p ≡ Some x → same_handle x.ct l.ct ≡ true → x.due ≡ false → l.sum < x.threshold;
 }

@@ -21,6 +21,7 @@ loop-place-preserved g c =
         numbers = ap (λ (s : Spotted _). numbers_of s.spots) is ∙ settled-numbers p true ss ∙ i.same.numbers;
         room = ap (λ (s : Spotted _). s.room) is ∙ i.same.room;
       };
-      told = ap (λ (s : Spotted _). map (told_if (waits_on c.args.ct) c.args.sum) (operations_in s.spots)) is ∙ settled-told ss p true c.args.ct c.args.sum x.0 x.1 x.2 ∙ i.told;
+      told = ap (λ (s : Spotted _). map (told_if (waits_on c.args.ct) c.args.sum) (operations_in s.spots)) is
+          ∙ settled-told ss p true c.args.ct c.args.sum x.0 x.1 x.2 ∙ i.told;
       within = omega (arith, long, i.within, c.make_due.ensures.places);
     }

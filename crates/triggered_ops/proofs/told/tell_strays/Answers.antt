@@ -23,7 +23,8 @@ loop-place-preserved g c =
     }
 
 pub returns-then-is_none-clause-due : goal.returns-then-is_none-clause-due
-returns-then-is_none-clause-due g c = λ p x e is. absurd (no-stray (wait_at c.args.spots.now.spots) c.args.threads.now c.args.stamps.now c.requires.hung c.args.ct c.requires.belongs (let none : c.first.result ≡ None = search rules in sym c.first.ensures ∙ none) p x e is)
+returns-then-is_none-clause-due g c = λ p x e is. absurd (no-stray (wait_at c.args.spots.now.spots) c.args.threads.now c.args.stamps.now
+    c.requires.hung c.args.ct c.requires.belongs (let none : c.first.result ≡ None = search rules in sym c.first.ensures ∙ none) p x e is)
 
 pub returns-clause-due : goal.returns-clause-due
 returns-clause-due g c = λ p x e is. elim (cases_lt p c.loop-place.place) [

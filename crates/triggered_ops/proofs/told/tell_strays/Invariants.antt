@@ -11,7 +11,9 @@ abbrev pub invariant-loop-place : goal.invariant-loop-place
 invariant-loop-place g l = record {
   hung : IsHung (wait_at l.spots.spots) l.threads l.stamps;
   same : IsSame l.fn.spots l.spots;
-  told : map (told_if (waits_on l.ct) l.sum) (operations_in l.spots.spots) ≡ map (told_if (waits_on l.ct) l.sum) (operations_in l.fn.spots.spots);
-  due : (p : ℕ) (x : Wait) → p < l.place → wait_at l.spots.spots p ≡ Some x → same_handle x.ct l.ct ≡ true → x.due ≡ nat_le x.threshold l.sum;
+  told : map (told_if (waits_on l.ct) l.sum) (operations_in l.spots.spots) ≡ map (told_if (waits_on l.ct) l.sum)
+      (operations_in l.fn.spots.spots);
+  due : (p : ℕ) (x : Wait) → p < l.place → wait_at l.spots.spots p ≡ Some x → same_handle x.ct l.ct ≡ true →
+      x.due ≡ nat_le x.threshold l.sum;
   long : length l.spots.spots ≤ l.place-end;
 }

@@ -6,4 +6,5 @@ use Rattle.worlds.specs.opening.Laying.{FitLanes}
 use Rattle.worlds.proofs.world.few_links.Goals as goal
 
 pub returns : goal.returns
-returns c = subst (λ (o : Outline). FitLanes (plan_of o) 0) c.schedule.ensures (let q = c.plan.ensures.sound.few_together in omega (arith, q))
+returns c = subst (λ (o : Outline). FitLanes (plan_of o) 0) c.schedule.ensures (let q = c.plan.ensures.sound.few_together in
+    omega (arith, q))

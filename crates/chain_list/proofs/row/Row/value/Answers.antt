@@ -8,7 +8,8 @@ get-requires g c =
     let values = c.self.inside.values in
     let links = c.self.inside.links in
     let place = c.args.place in
-    let held = held_at values links.items place c.self.invariant (subst (λ v. is_some (get_or v place None) ≡ true) (sym c.self.view_is) c.requires) in
+    let held = held_at values links.items place c.self.invariant
+          (subst (λ v. is_some (get_or v place None) ≡ true) (sym c.self.view_is) c.requires) in
     ap is_some held.value_is
 
 pub returns : goal.returns
@@ -16,7 +17,8 @@ returns g c =
     let values = c.self.inside.values in
     let links = c.self.inside.links in
     let place = c.args.place in
-    let held = held_at values links.items place c.self.invariant (subst (λ v. is_some (get_or v place None) ≡ true) (sym c.self.view_is) c.requires) in
+    let held = held_at values links.items place c.self.invariant
+          (subst (λ v. is_some (get_or v place None) ≡ true) (sym c.self.view_is) c.requires) in
     let found : Some c.get.result.now ≡ Some held.value = sym c.get.ensures ∙ held.value_is in
     let same : c.get.result.now ≡ held.value = cc in
     rw (← c.self.view_is) (subst (λ o. IfSome o (λ n. c.get.result.now ≡ n.value)) (sym held.node_is) same)

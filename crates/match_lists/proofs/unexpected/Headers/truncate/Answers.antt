@@ -8,4 +8,5 @@ pub returns : goal.returns
 returns c =
     let s = c.self.inside in
     rw (← c.self.view_is)
-    (ap (λ (xs : List IndexedHeader). unexpected_list xs s.limit) (ap (drop s.gone) c.truncate.ensures.items ∙ drop-take s.gone c.args.len s.unexpected.items))
+    (ap (λ (xs : List IndexedHeader). unexpected_list xs s.limit) (ap (drop s.gone) c.truncate.ensures.items
+        ∙ drop-take s.gone c.args.len s.unexpected.items))

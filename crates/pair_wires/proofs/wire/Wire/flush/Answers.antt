@@ -10,5 +10,7 @@ invariant_of-end-2 g c = record {
   idle = c.end.invariant.idle;
   pushes = c.end.invariant.pushes;
   counted = c.end.invariant.counted;
-  bounded = subst (λ (w : Option Sent). KeepsBounds c.end.inside.pass.me.0.client.bounds (followed_by c.end.inside.pass.me.0.client.sent w)) (sym c.take.ensures.after) (pushed-keeps _ _ c.end.inside.waiting c.end.invariant.bounded);
+  bounded = subst (λ (w : Option Sent). KeepsBounds c.end.inside.pass.me.0.client.bounds
+      (followed_by c.end.inside.pass.me.0.client.sent w)) (sym c.take.ensures.after)
+      (pushed-keeps _ _ c.end.inside.waiting c.end.invariant.bounded);
 }

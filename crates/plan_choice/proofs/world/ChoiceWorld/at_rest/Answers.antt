@@ -7,7 +7,8 @@ use Rattle.plan_choice.proofs.world.ChoiceWorld.at_rest.Goals as goal
 
 pub returns-clause-exact : goal.returns-clause-exact
 returns-clause-exact c = (
-  λ e. (let z = eqb-true c.enabled.result 0 e in let n = c.enabled.ensures.number in none_in (steps_in c.args.self.now) (omega (arith, z, n))),
+  λ e. (let z = eqb-true c.enabled.result 0 e in let n = c.enabled.ensures.number in
+      none_in (steps_in c.args.self.now) (omega (arith, z, n))),
   λ e. (let n = c.enabled.ensures.number in let l = ap length e in eq-eqb c.enabled.result 0 (omega (arith, n, l))),
 )
 

@@ -10,6 +10,7 @@ loop-number-preserved c =
     let said = rw c.in_ok-link.ensures.ok_part at c.link_in.ensures.said in
     let grew = c.in_ok-push.ensures.items in
     rw grew record {
-      said = one_more link_line _ _ _ _ _ _ c.loop-number.invariant.said (taken ∙ ap (λ (l : List ℕ). l ++ c.take.new.self) said) c.loop-number.invariant.count;
+      said = one_more link_line _ _ _ _ _ _ c.loop-number.invariant.said (taken ∙ ap (λ (l : List ℕ). l ++ c.take.new.self) said)
+          c.loop-number.invariant.count;
       count = grind (arith, common_steps);
     }

@@ -6,13 +6,17 @@ use Rattle.plan_tables.proofs.Indexed.{all-below, few-listed}
 use Rattle.plan_tables.proofs.index.Index.out_at.Goals as goal
 
 pub at-requires : goal.at-requires
-at-requires c = let e = length-table (out_links c.args.plan.now) c.args.plan.now.ranks c.args.self.now.out c.requires.index.out in let h = c.requires.rank in omega (arith, e, h)
+at-requires c = let e = length-table (out_links c.args.plan.now) c.args.plan.now.ranks c.args.self.now.out c.requires.index.out in let h =
+                                                                                                                                         c.requires.rank in omega (arith, e, h)
 
 pub returns-clause-value : goal.returns-clause-value
-returns-clause-value c = c.at.ensures ∙ ap (λ t. get_or t c.args.r []) c.requires.index.out ∙ get-row (out_links c.args.plan.now) c.args.plan.now.ranks c.args.r [] c.requires.rank
+returns-clause-value c = c.at.ensures ∙ ap (λ t. get_or t c.args.r []) c.requires.index.out
+    ∙ get-row (out_links c.args.plan.now) c.args.plan.now.ranks c.args.r [] c.requires.rank
 
 pub returns-clause-links : goal.returns-clause-links
-returns-clause-links c = λ i h. all-below (λ l. (cell c.args.plan.now (link c.args.plan.now l).source).rank == c.args.r) (length c.args.plan.now.links) c.at.result.now (returns-clause-value c) i h
+returns-clause-links c = λ i h. all-below (λ l. (cell c.args.plan.now (link c.args.plan.now l).source).rank == c.args.r)
+    (length c.args.plan.now.links) c.at.result.now (returns-clause-value c) i h
 
 pub returns-clause-few : goal.returns-clause-few
-returns-clause-few c = few-listed (λ l. (cell c.args.plan.now (link c.args.plan.now l).source).rank == c.args.r) (length c.args.plan.now.links) c.at.result.now (returns-clause-value c)
+returns-clause-few c = few-listed (λ l. (cell c.args.plan.now (link c.args.plan.now l).source).rank == c.args.r)
+    (length c.args.plan.now.links) c.at.result.now (returns-clause-value c)

@@ -6,16 +6,21 @@ use Rattle.plan_tables.proofs.Indexed.{all-below, all-pass, at_most-listed}
 use Rattle.plan_tables.proofs.index.Index.own_at.Goals as goal
 
 pub at-requires : goal.at-requires
-at-requires c = let e = length-table (own c.args.plan.now) c.args.plan.now.ranks c.args.self.now.own c.requires.index.own in let h = c.requires.rank in omega (arith, e, h)
+at-requires c = let e = length-table (own c.args.plan.now) c.args.plan.now.ranks c.args.self.now.own c.requires.index.own in let h =
+                                                                                                                                   c.requires.rank in omega (arith, e, h)
 
 pub returns-clause-value : goal.returns-clause-value
-returns-clause-value c = c.at.ensures ∙ ap (λ t. get_or t c.args.r []) c.requires.index.own ∙ get-row (own c.args.plan.now) c.args.plan.now.ranks c.args.r [] c.requires.rank
+returns-clause-value c = c.at.ensures ∙ ap (λ t. get_or t c.args.r []) c.requires.index.own
+    ∙ get-row (own c.args.plan.now) c.args.plan.now.ranks c.args.r [] c.requires.rank
 
 pub returns-clause-cells : goal.returns-clause-cells
-returns-clause-cells c = λ i h. all-below (λ k. (cell c.args.plan.now k).rank == c.args.r) (length c.args.plan.now.cells) c.at.result.now (returns-clause-value c) i h
+returns-clause-cells c = λ i h. all-below (λ k. (cell c.args.plan.now k).rank == c.args.r) (length c.args.plan.now.cells) c.at.result.now
+    (returns-clause-value c) i h
 
 pub returns-clause-at_most : goal.returns-clause-at_most
-returns-clause-at_most c = at_most-listed (λ k. (cell c.args.plan.now k).rank == c.args.r) (length c.args.plan.now.cells) c.at.result.now (returns-clause-value c)
+returns-clause-at_most c = at_most-listed (λ k. (cell c.args.plan.now k).rank == c.args.r) (length c.args.plan.now.cells) c.at.result.now
+    (returns-clause-value c)
 
 pub returns-clause-ranks : goal.returns-clause-ranks
-returns-clause-ranks c = λ i h. eqb-true _ _ (all-pass (λ k. (cell c.args.plan.now k).rank == c.args.r) (length c.args.plan.now.cells) c.at.result.now (returns-clause-value c) i h)
+returns-clause-ranks c = λ i h. eqb-true _ _ (all-pass (λ k. (cell c.args.plan.now k).rank == c.args.r) (length c.args.plan.now.cells)
+    c.at.result.now (returns-clause-value c) i h)

@@ -41,11 +41,18 @@ pub invariant_of-self : goal.invariant_of-self
 invariant_of-self c =
     let n = c.self.inside in
     record {
-      sound = rw c.remove.ensures.rest (freed-sound n.target n.region n.cts n.initiator n.pending c.args.ct c.self.invariant.sound (sym c.names_ct-else-names_ct-2.ensures.value ∙ c.if-names_ct-3.false));
-      stands = ended-stands _ _ _ (free-ends n.target n.region n.cts n.eqs n.initiator n.pending n.drops n.violations c.args.ct c.remove.new.self c.is_live.result c.is_live.ensures c.if-not-is_live.false (sym c.names_ct.ensures.value ∙ c.if-names_ct.false) (sym c.names_ct-else-names_ct.ensures.value ∙ c.if-names_ct-2.false) (sym c.names_ct-else-names_ct-2.ensures.value ∙ c.if-names_ct-3.false) c.remove.ensures.rest) (ct_free-stands c.args.ct _ c.self.invariant.stands);
+      sound = rw c.remove.ensures.rest (freed-sound n.target n.region n.cts n.initiator n.pending c.args.ct c.self.invariant.sound
+          (sym c.names_ct-else-names_ct-2.ensures.value ∙ c.if-names_ct-3.false));
+      stands = ended-stands _ _ _ (free-ends n.target n.region n.cts n.eqs n.initiator n.pending n.drops n.violations c.args.ct
+          c.remove.new.self c.is_live.result c.is_live.ensures c.if-not-is_live.false (sym c.names_ct.ensures.value ∙ c.if-names_ct.false)
+          (sym c.names_ct-else-names_ct.ensures.value ∙ c.if-names_ct-2.false) (sym c.names_ct-else-names_ct-2.ensures.value
+          ∙ c.if-names_ct-3.false) c.remove.ensures.rest) (ct_free-stands c.args.ct _ c.self.invariant.stands);
     }
 
 pub returns : goal.returns
 returns c =
     let n = c.self.inside in
-    record { does = rw (← c.self.view_is) (free-ends n.target n.region n.cts n.eqs n.initiator n.pending n.drops n.violations c.args.ct c.remove.new.self c.is_live.result c.is_live.ensures c.if-not-is_live.false (sym c.names_ct.ensures.value ∙ c.if-names_ct.false) (sym c.names_ct-else-names_ct.ensures.value ∙ c.if-names_ct-2.false) (sym c.names_ct-else-names_ct-2.ensures.value ∙ c.if-names_ct-3.false) c.remove.ensures.rest) }
+    record { does = rw (← c.self.view_is) (free-ends n.target n.region n.cts n.eqs n.initiator n.pending n.drops n.violations c.args.ct
+        c.remove.new.self c.is_live.result c.is_live.ensures c.if-not-is_live.false (sym c.names_ct.ensures.value ∙ c.if-names_ct.false)
+        (sym c.names_ct-else-names_ct.ensures.value ∙ c.if-names_ct-2.false) (sym c.names_ct-else-names_ct-2.ensures.value
+        ∙ c.if-names_ct-3.false) c.remove.ensures.rest) }

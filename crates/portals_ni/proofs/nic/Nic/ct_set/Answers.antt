@@ -10,15 +10,20 @@ use Rattle.portals_ni.proofs.nic.Nic.ct_set.Goals as goal
 pub invariant_of-self-2 : goal.invariant_of-self-2
 invariant_of-self-2 c =
     let n = c.self.inside in
-    let changes : ChangesAt (Some c.args.ct) n.cts c.set_counter.new.cts = rw c.in_ok-set_counter.ensures.ok (changes-one c.args.ct _ n.cts) in
+    let changes : ChangesAt (Some c.args.ct) n.cts c.set_counter.new.cts =
+          rw c.in_ok-set_counter.ensures.ok (changes-one c.args.ct _ n.cts) in
     let none : ct_set_fault c.args.ct c.args.to n.cts ≡ None = no-fault _ (sym c.set_counter.ensures.answer ∙ c.in_ok-set_counter.was) in
     record {
-      sound = rw c.tell.ensures (count-sound n.target n.region n.cts c.set_counter.new.cts n.initiator n.pending (Some c.args.ct) c.self.invariant.sound changes);
-      stands = ended-stands _ _ _ (set-ends n.target n.region n.cts n.eqs n.initiator n.pending n.drops n.violations c.args.ct c.args.to c.set_counter.new.cts c.tell.new.pending none c.in_ok-set_counter.ensures.ok c.tell.ensures) (ct_set-stands c.args.ct c.args.to _ c.self.invariant.stands);
+      sound = rw c.tell.ensures (count-sound n.target n.region n.cts c.set_counter.new.cts n.initiator n.pending (Some c.args.ct)
+          c.self.invariant.sound changes);
+      stands = ended-stands _ _ _ (set-ends n.target n.region n.cts n.eqs n.initiator n.pending n.drops n.violations c.args.ct c.args.to
+          c.set_counter.new.cts c.tell.new.pending none c.in_ok-set_counter.ensures.ok c.tell.ensures)
+          (ct_set-stands c.args.ct c.args.to _ c.self.invariant.stands);
     }
 
 pub returns : goal.returns
 returns c =
     let n = c.self.inside in
     let none : ct_set_fault c.args.ct c.args.to n.cts ≡ None = no-fault _ (sym c.set_counter.ensures.answer ∙ c.in_ok-set_counter.was) in
-    record { does = rw (← c.self.view_is) (set-ends n.target n.region n.cts n.eqs n.initiator n.pending n.drops n.violations c.args.ct c.args.to c.set_counter.new.cts c.tell.new.pending none c.in_ok-set_counter.ensures.ok c.tell.ensures) }
+    record { does = rw (← c.self.view_is) (set-ends n.target n.region n.cts n.eqs n.initiator n.pending n.drops n.violations c.args.ct
+        c.args.to c.set_counter.new.cts c.tell.new.pending none c.in_ok-set_counter.ensures.ok c.tell.ensures) }

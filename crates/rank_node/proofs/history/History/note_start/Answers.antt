@@ -7,7 +7,8 @@ use Rattle.rank_node.proofs.history.History.note_start.Goals as goal
 pub invariant_of-self : goal.invariant_of-self
 invariant_of-self c =
     let room : c.self.inside.room ≡ c.args.self.now.room = ap (λ (d : Diary). d.room) c.self.view_is in (
-      rw (c.started-self-inside.ensures, c.push_reserved.ensures.items) (listed-push c.self.inside.past.locals Start c.self.inside.steps.items c.self.invariant.0),
+      rw (c.started-self-inside.ensures, c.push_reserved.ensures.items)
+          (listed-push c.self.inside.past.locals Start c.self.inside.steps.items c.self.invariant.0),
       rw c.started-self-inside.ensures (sym (started-push c.self.inside.past.locals Start ∙ or-true _)),
       omega arith,
     )

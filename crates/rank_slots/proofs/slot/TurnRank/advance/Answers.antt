@@ -3,10 +3,12 @@ use Rattle.rank_slots.proofs.Onwards.{onward-after, onward-sound, onward-wired}
 use Rattle.rank_slots.proofs.slot.TurnRank.advance.Goals as goal
 
 pub start_or_fire-requires-clause-sound : goal.start_or_fire-requires-clause-sound
-start_or_fire-requires-clause-sound g c = λ _ _. onward-sound c.args.self.now c.flush_waiting.new.self c.flush_waiting.ensures c.requires.sound
+start_or_fire-requires-clause-sound g c = λ _ _. onward-sound c.args.self.now c.flush_waiting.new.self c.flush_waiting.ensures
+    c.requires.sound
 
 pub start_or_fire-requires-clause-wired : goal.start_or_fire-requires-clause-wired
-start_or_fire-requires-clause-wired g c = λ _ _. onward-wired c.args.wires.now c.args.self.now c.flush_waiting.new.self c.flush_waiting.ensures c.requires.wired
+start_or_fire-requires-clause-wired g c = λ _ _. onward-wired c.args.wires.now c.args.self.now c.flush_waiting.new.self
+    c.flush_waiting.ensures c.requires.wired
 
 pub returns-in-Some : goal.returns-in-Some
 returns-in-Some g c =

@@ -37,4 +37,5 @@ pub returns-clause-name : goal.returns-clause-name
 returns-clause-name g c = c.pull.ensures.name ∙ c.flush-free.ensures.name
 
 pub returns-clause-handles : goal.returns-clause-handles
-returns-clause-handles g c = handles-flushed c.args.self.now c.flush-free.new.self c.pull.new.self c.flush-free.ensures.flushed c.pull.ensures.handles
+returns-clause-handles g c = handles-flushed c.args.self.now c.flush-free.new.self c.pull.new.self c.flush-free.ensures.flushed
+    c.pull.ensures.handles

@@ -12,13 +12,16 @@ pub fire_any-requires-clause-wired : goal.fire_any-requires-clause-wired
 fire_any-requires-clause-wired g c = λ _ _. subst (IsWired c.args.wires.now) (sym c.flush.ensures.name) c.requires.wired
 
 pub returns-clause-some : goal.returns-clause-some
-returns-clause-some g c = fired-from c.fire_any.result c.args.self.now c.flush.new.self c.fire_any.new.self c.flush.ensures.flushed c.fire_any.ensures.some
+returns-clause-some g c = fired-from c.fire_any.result c.args.self.now c.flush.new.self c.fire_any.new.self c.flush.ensures.flushed
+    c.fire_any.ensures.some
 
 pub returns-clause-none : goal.returns-clause-none
-returns-clause-none g c = shut-from c.fire_any.result c.args.self.now c.flush.new.self c.fire_any.new.self c.flush.ensures.flushed c.fire_any.ensures.none
+returns-clause-none g c = shut-from c.fire_any.result c.args.self.now c.flush.new.self c.fire_any.new.self c.flush.ensures.flushed
+    c.fire_any.ensures.none
 
 pub returns-clause-name : goal.returns-clause-name
 returns-clause-name g c = c.fire_any.ensures.name ∙ c.flush.ensures.name
 
 pub returns-clause-handles : goal.returns-clause-handles
-returns-clause-handles g c = handles-flushed c.args.self.now c.flush.new.self c.fire_any.new.self c.flush.ensures.flushed c.fire_any.ensures.handles
+returns-clause-handles g c = handles-flushed c.args.self.now c.flush.new.self c.fire_any.new.self c.flush.ensures.flushed
+    c.fire_any.ensures.handles

@@ -9,7 +9,8 @@ use Rattle.rank_slots.proofs.Pairs.{same_at, within}
 use Rattle.rank_slots.proofs.slot.TurnRank.got_on.Goals as goal
 
 pub index-requires : goal.index-requires
-index-requires c = subst (λ n. c.in-Some.at < n) c.deref.ensures.len (within c.deref.result.now c.in-Some.at (c.in-Some.ensures).some.0 (c.in-Some.ensures).some.1)
+index-requires c = subst (λ n. c.in-Some.at < n) c.deref.ensures.len
+    (within c.deref.result.now c.in-Some.at (c.in-Some.ensures).some.0 (c.in-Some.ensures).some.1)
 
 pub unreachable-requires : goal.unreachable-requires
 unreachable-requires c = let e = c.requires in

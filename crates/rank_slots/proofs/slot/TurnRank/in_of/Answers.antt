@@ -8,9 +8,11 @@ use Rattle.rank_slots.proofs.slot.TurnRank.in_of.Goals as goal
 
 pub returns-clause-some : goal.returns-clause-some
 returns-clause-some c =
-    subst (λ (l : List InPort). IfSome c.find_in.result (λ i. (p : InPort) × (get_elem? l i ≡ some p) × (p.source ≡ c.args.source) × (p.lane ≡ c.args.lane)))
+    subst (λ (l : List InPort). IfSome c.find_in.result (λ i. (p : InPort) × (get_elem? l i ≡ some p) × (p.source ≡ c.args.source) ×
+        (p.lane ≡ c.args.lane)))
     c.deref.ensures.value c.find_in.ensures.some
 
 pub returns-clause-none : goal.returns-clause-none
-returns-clause-none c = subst (λ (l : List InPort). IfNone c.find_in.result (Each (λ (p : InPort). p.source ≡ c.args.source → p.lane ≡ c.args.lane → ⊥) l))
+returns-clause-none c = subst (λ (l : List InPort). IfNone c.find_in.result
+    (Each (λ (p : InPort). p.source ≡ c.args.source → p.lane ≡ c.args.lane → ⊥) l))
     c.deref.ensures.value c.find_in.ensures.none

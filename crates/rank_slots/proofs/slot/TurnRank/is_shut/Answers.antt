@@ -6,7 +6,8 @@ use Rattle.rank_slots.proofs.Pairs.{same_at, within}
 use Rattle.rank_slots.proofs.slot.TurnRank.is_shut.Goals as goal
 
 pub index-requires : goal.index-requires
-index-requires c = subst (λ n. c.in-Some.at < n) c.deref.ensures.len (within c.deref.result.now c.in-Some.at (c.in-Some.ensures).some.0 (c.in-Some.ensures).some.1)
+index-requires c = subst (λ n. c.in-Some.at < n) c.deref.ensures.len
+    (within c.deref.result.now c.in-Some.at (c.in-Some.ensures).some.0 (c.in-Some.ensures).some.1)
 
 pub returns-in-Some-clause-shut : goal.returns-in-Some-clause-shut
 returns-in-Some-clause-shut c = λ t. let s = c.args.self.now in let f = (c.in-Some.ensures).some in let p = c.index.result.now in
@@ -22,7 +23,8 @@ returns-in-Some-clause-shut c = λ t. let s = c.args.self.now in let f = (c.in-S
     }
 
 pub returns-in-Some-clause-open : goal.returns-in-Some-clause-open
-returns-in-Some-clause-open c = λ t i o a goes lane. let s = c.args.self.now in let f = (c.in-Some.ensures).some in let p = c.index.result.now in
+returns-in-Some-clause-open c = λ t i o a goes lane. let s = c.args.self.now in let f = (c.in-Some.ensures).some in let p =
+                                                                                                                          c.index.result.now in
     let was = ap (λ (l : List OutPort). get_elem? l c.in-Some.at) (sym c.deref.ensures.value) ∙ f.1 in
     let there = at_index s.outs.items c.in-Some.at p (within s.outs.items c.in-Some.at f.0 was) c.index.ensures in
     let here = s.tied.outs_differ i c.in-Some.at o f.0 a was (goes ∙ sym f.2) (lane ∙ sym f.3) in
@@ -30,4 +32,5 @@ returns-in-Some-clause-open c = λ t i o a goes lane. let s = c.args.self.now in
     ap (λ (z : OutPort). z.end.waits) (sym one) ∙ (sym c.waits.ensures ∙ t)
 
 pub returns-in-None-clause-open : goal.returns-in-None-clause-open
-returns-in-None-clause-open c = λ t i o a goes lane. absurd ((c.in-None.ensures).none i o (ap (λ (l : List OutPort). get_elem? l i) c.deref.ensures.value ∙ a) goes lane)
+returns-in-None-clause-open c = λ t i o a goes lane. absurd ((c.in-None.ensures).none i o
+    (ap (λ (l : List OutPort). get_elem? l i) c.deref.ensures.value ∙ a) goes lane)

@@ -9,4 +9,5 @@ use Rattle.rank_slots.proofs.Counting.{Sofar}
 use Rattle.rank_slots.proofs.slot.TurnRank.note_got.Given as goal
 
 abbrev pub invariant-loop-i : goal.invariant-loop-i
-invariant-loop-i l = (x : RankNote) → get_elem? l.initial.wave l.rank ≡ some x → Sofar with_got (CountsGot (history l.self)) x.note.got l.i l.rank x l.initial.wave l.wave
+invariant-loop-i l = (x : RankNote) → get_elem? l.initial.wave l.rank ≡ some x → Sofar with_got (CountsGot (history l.self)) x.note.got
+    l.i l.rank x l.initial.wave l.wave

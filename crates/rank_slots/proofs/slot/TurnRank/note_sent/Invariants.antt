@@ -8,4 +8,5 @@ use Rattle.rank_slots.proofs.Counting.{Sofar}
 use Rattle.rank_slots.proofs.slot.TurnRank.note_sent.Given as goal
 
 abbrev pub invariant-loop-i : goal.invariant-loop-i
-invariant-loop-i l = (x : RankNote) → get_elem? l.initial.wave l.rank ≡ some x → Sofar with_sent (HasSentOn l.self) x.note.sent l.i l.rank x l.initial.wave l.wave
+invariant-loop-i l = (x : RankNote) → get_elem? l.initial.wave l.rank ≡ some x → Sofar with_sent (HasSentOn l.self) x.note.sent l.i l.rank
+    x l.initial.wave l.wave

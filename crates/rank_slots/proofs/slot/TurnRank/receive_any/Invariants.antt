@@ -14,6 +14,7 @@ invariant-loop-at g l = record {
   outs : l.self.outs.items ≡ l.initial.self.outs.items;
   name : plate l.self ≡ plate l.initial.self;
   many : length l.self.ins.items ≡ length l.initial.self.ins.items;
-  passed : (i : ℕ) (p q : InPort) → i < l.at → get_elem? l.initial.self.ins.items i ≡ some p → get_elem? l.self.ins.items i ≡ some q → Missed l.initial.self.node.value l.initial.self.outs.items p q;
+  passed : (i : ℕ) (p q : InPort) → i < l.at → get_elem? l.initial.self.ins.items i ≡ some p → get_elem? l.self.ins.items i ≡ some q →
+      Missed l.initial.self.node.value l.initial.self.outs.items p q;
   later : (i : ℕ) → l.at ≤ i → get_elem? l.self.ins.items i ≡ get_elem? l.initial.self.ins.items i;
 }

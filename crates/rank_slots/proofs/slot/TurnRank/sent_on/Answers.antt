@@ -9,7 +9,8 @@ use Rattle.rank_slots.proofs.Pairs.{same_at, within}
 use Rattle.rank_slots.proofs.slot.TurnRank.sent_on.Goals as goal
 
 pub index-requires : goal.index-requires
-index-requires c = subst (λ n. c.in-Some.at < n) c.deref.ensures.len (within c.deref.result.now c.in-Some.at (c.in-Some.ensures).some.0 (c.in-Some.ensures).some.1)
+index-requires c = subst (λ n. c.in-Some.at < n) c.deref.ensures.len
+    (within c.deref.result.now c.in-Some.at (c.in-Some.ensures).some.0 (c.in-Some.ensures).some.1)
 
 pub unreachable-requires : goal.unreachable-requires
 unreachable-requires c = let e = c.requires in
@@ -21,4 +22,5 @@ returns c = λ k agree. let s = c.args.self.now in let f = (c.in-Some.ensures).s
     let there = at_index s.outs.items c.in-Some.at p (within s.outs.items c.in-Some.at f.0 was) c.index.ensures in
     let one = same_at s.outs.items c.in-Some.at p f.0 there was in
     c.sent.ensures ∙ (ap (λ (ms : List Sent). length ms) ((s.tied.out c.in-Some.at p there).sent_is k agree)
-    ∙ (λ m. sent_on s.job s.node.value.task.rank k (history s) ((ap (λ (z : OutPort). z.target) one ∙ f.2) m) ((ap (λ (z : OutPort). z.lane) one ∙ f.3) m)))
+    ∙ (λ m. sent_on s.job s.node.value.task.rank k (history s) ((ap (λ (z : OutPort). z.target) one ∙ f.2) m)
+        ((ap (λ (z : OutPort). z.lane) one ∙ f.3) m)))

@@ -13,7 +13,8 @@ use Rattle.rank_threads.proofs.Rested.{is-wave, job-of, no-stray, rest-same, som
 use Rattle.rank_threads.proofs.fabric.Fabric.close_at_rest.Goals as goal
 
 pub returns-clause-rest : goal.returns-clause-rest
-returns-clause-rest g c = λ k agree. let f = c.args.self in let w = c.close_keeping.result.0 in let e = c.close_keeping.ensures in let fronts = c.requires.noted in
+returns-clause-rest g c = λ k agree. let f = c.args.self in let w = c.close_keeping.result.0 in let e = c.close_keeping.ensures in
+    let fronts = c.requires.noted in
     let sound : IsSound f.job = subst (λ (f : FabricState). IsSound f.job) c.self.view_is c.sound.ensures in
     let job = job-of f c.args.hands.items w e.world in
     let fit = subst IsSound job sound in
@@ -26,7 +27,8 @@ returns-clause-rest g c = λ k agree. let f = c.args.self in let w = c.close_kee
     (c.one_wave.ensures.rest (plan_of w.shape) w.inputs k fronts.0 (histories_in w) fit.plan fit.inputs cut clean wave)
 
 pub returns-clause-whole : goal.returns-clause-whole
-returns-clause-whole g c = λ fronts seen r low. let f = c.args.self in let w = c.close_keeping.result.0 in let e = c.close_keeping.ensures in
+returns-clause-whole g c = λ fronts seen r low. let f = c.args.self in let w = c.close_keeping.result.0 in let e =
+                                                                                                                 c.close_keeping.ensures in
     let k : ℕ → Slots = λ r. slots_of (node_at w.nodes r).kept in let agree = some-slots w e.kept in
     let sound : IsSound f.job = subst (λ (f : FabricState). IsSound f.job) c.self.view_is c.sound.ensures in
     let job = job-of f c.args.hands.items w e.world in

@@ -14,9 +14,11 @@ give-requires-clause-turn g c = let t = c.requires.taken in let s = c.args.turn.
   turn = ap (λ (v : HandView TurnRank). v.turn) t.took.taken;
   grows = t.grows;
   named = t.named;
-  short = subst (λ n. n < 2 ^ 62) (sym (as-long s)) (short-history (plan_of s.job.shape) s.job.inputs c.requires.sound.plan s.node.value s.tied.compiled (subst IsNode c.deref.ensures c.history.ensures.kept) s.tied.strays);
+  short = subst (λ n. n < 2 ^ 62) (sym (as-long s)) (short-history (plan_of s.job.shape) s.job.inputs c.requires.sound.plan s.node.value
+      s.tied.compiled (subst IsNode c.deref.ensures c.history.ensures.kept) s.tied.strays);
 }
 
 pub returns-clause-turned : goal.returns-clause-turned
 returns-clause-turned g c = λ v x took. let turn = ap (λ (v : HandView TurnRank). v.turn) took.taken in
-    turned v c.args.hand.now.knows c.give.new.hand.knows c.args.turn.slot x c.args.turn.value took (c.give.ensures.given x turn) (c.give.ensures.last x turn)
+    turned v c.args.hand.now.knows c.give.new.hand.knows c.args.turn.slot x c.args.turn.value took (c.give.ensures.given x turn)
+        (c.give.ensures.last x turn)

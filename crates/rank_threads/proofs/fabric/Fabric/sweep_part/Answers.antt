@@ -7,7 +7,8 @@ use Rattle.rank_threads.proofs.fabric.Fabric.sweep_part.Goals.{then-work, else-w
 
 -- one rank more
 more : (P Q : ℕ → Type 0) (n r : ℕ) → (r < n → P r) → (r ≢ n → P r → Q r) → Q n → r < n + 1 → Q r
-more P Q n r below keep here h = ⊎_elim (λ (e : r ≡ n). subst Q (sym e) here) (λ (apart : r ≢ n). keep apart (below (omega (arith, apart, h)))) (cases_eq r n)
+more P Q n r below keep here h = ⊎_elim (λ (e : r ≡ n). subst Q (sym e) here)
+    (λ (apart : r ≢ n). keep apart (below (omega (arith, apart, h)))) (cases_eq r n)
 
 -- one that isn't between is another
 other : (first n end r : ℕ) → first ≤ n → n < end → (r < first ⊎ end ≤ r) → r ≢ n
@@ -20,7 +21,8 @@ pub loop-rank-preserved : goal.loop-rank-preserved
 loop-rank-preserved g c = let i = c.loop-rank.invariant in let w = c.work.ensures in record {
   hand = w.hand;
   parts = w.parts ∙ i.parts;
-  idle = λ r low h. more (FoundIdle c.args.self.now.job c.loop-rank.hand.knows) (FoundIdle c.args.self.now.job c.work.new.hand.knows) c.loop-rank.rank r (λ k. i.idle r low k) (w.others r) w.idle (omega (arith, h));
+  idle = λ r low h. more (FoundIdle c.args.self.now.job c.loop-rank.hand.knows) (FoundIdle c.args.self.now.job c.work.new.hand.knows)
+      c.loop-rank.rank r (λ k. i.idle r low k) (w.others r) w.idle (omega (arith, h));
   others = λ r o h. w.others r (other c.args.first c.loop-rank.rank c.args.end r (omega arith) (omega arith) o) (i.others r o h);
   none = elim c.if-work.branch [
     | then-work b ↦ λ no. absurd (true≢false (sym b.worked-is ∙ no))

@@ -10,15 +10,18 @@ none-is (Some step) e = cc
 
 pub returns-then-is_none-clause-parts : goal.returns-then-is_none-clause-parts
 returns-then-is_none-clause-parts g c =
-    same-parts c.args.self.now.job c.loop.hand.knows c.step.new.hand.knows c.args.rank c.step.result c.step.ensures.some c.step.ensures.none ∙ c.loop.invariant.parts
+    same-parts c.args.self.now.job c.loop.hand.knows c.step.new.hand.knows c.args.rank c.step.result c.step.ensures.some
+        c.step.ensures.none ∙ c.loop.invariant.parts
 
 pub returns-then-is_none-clause-idle : goal.returns-then-is_none-clause-idle
 returns-then-is_none-clause-idle g c =
-    none-idle c.args.self.now.job c.loop.hand.knows c.step.new.hand.knows c.args.rank c.step.result (none-is c.step.result c.if-is_none.ensures) c.step.ensures.none
+    none-idle c.args.self.now.job c.loop.hand.knows c.step.new.hand.knows c.args.rank c.step.result
+        (none-is c.step.result c.if-is_none.ensures) c.step.ensures.none
 
 pub returns-then-is_none-clause-others : goal.returns-then-is_none-clause-others
 returns-then-is_none-clause-others g c = λ r apart h.
-    made-else c.args.self.now.job c.loop.hand.knows c.step.new.hand.knows c.args.rank r c.step.result c.step.ensures.some c.step.ensures.none apart
+    made-else c.args.self.now.job c.loop.hand.knows c.step.new.hand.knows c.args.rank r c.step.result c.step.ensures.some
+        c.step.ensures.none apart
     (c.loop.invariant.others r apart h)
 
 pub returns-then-is_none-clause-none : goal.returns-then-is_none-clause-none
@@ -30,10 +33,12 @@ returns-then-is_none-clause-none g c = λ no.
 pub loop-preserved : goal.loop-preserved
 loop-preserved g c = record {
   hand = c.step.ensures.hand;
-  parts = same-parts c.args.self.now.job c.loop.hand.knows c.step.new.hand.knows c.args.rank c.step.result c.step.ensures.some c.step.ensures.none
+  parts = same-parts c.args.self.now.job c.loop.hand.knows c.step.new.hand.knows c.args.rank c.step.result c.step.ensures.some
+      c.step.ensures.none
       ∙ c.loop.invariant.parts;
   others = λ r apart h.
-      made-else c.args.self.now.job c.loop.hand.knows c.step.new.hand.knows c.args.rank r c.step.result c.step.ensures.some c.step.ensures.none apart
+      made-else c.args.self.now.job c.loop.hand.knows c.step.new.hand.knows c.args.rank r c.step.result c.step.ensures.some
+          c.step.ensures.none apart
       (c.loop.invariant.others r apart h);
   none = λ no. absurd (true≢false no);
 }

@@ -9,6 +9,7 @@ use Rattle.rest_probe.proofs.notes.Counts.clear.Given as goal
 abbrev pub invariant-loop-at : goal.invariant-loop-at
 invariant-loop-at l = record {
   many : length l.self-inside.items.items ≡ length l.initial.self-inside.items.items;
-  before : (i : ℕ) (x y : LaneCount) → i < l.at → get_elem? l.initial.self-inside.items.items i ≡ some x → get_elem? l.self-inside.items.items i ≡ some y → y ≡ counted x 0;
+  before : (i : ℕ) (x y : LaneCount) → i < l.at → get_elem? l.initial.self-inside.items.items i ≡ some x →
+      get_elem? l.self-inside.items.items i ≡ some y → y ≡ counted x 0;
   later : (i : ℕ) → l.at ≤ i → get_elem? l.self-inside.items.items i ≡ get_elem? l.initial.self-inside.items.items i;
 }

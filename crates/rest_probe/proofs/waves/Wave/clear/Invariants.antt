@@ -8,6 +8,7 @@ use Rattle.rest_probe.proofs.waves.Wave.clear.Given as goal
 abbrev pub invariant-loop-r : goal.invariant-loop-r
 invariant-loop-r l = record {
   many : length l.self-inside.ranks.items ≡ length l.initial.self-inside.ranks.items;
-  before : (i : ℕ) (x y : RankNote) → i < l.r → get_elem? l.initial.self-inside.ranks.items i ≡ some x → get_elem? l.self-inside.ranks.items i ≡ some y → y ≡ record x { there = false };
+  before : (i : ℕ) (x y : RankNote) → i < l.r → get_elem? l.initial.self-inside.ranks.items i ≡ some x →
+      get_elem? l.self-inside.ranks.items i ≡ some y → y ≡ record x { there = false };
   later : (i : ℕ) → l.r ≤ i → get_elem? l.self-inside.ranks.items i ≡ get_elem? l.initial.self-inside.ranks.items i;
 }

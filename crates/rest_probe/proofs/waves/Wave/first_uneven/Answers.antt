@@ -7,7 +7,8 @@ use Rattle.rest_probe.proofs.Elements.{within}
 use Rattle.rest_probe.proofs.waves.Wave.first_uneven.Goals as goal
 
 pub uneven_from-requires : goal.uneven_from-requires
-uneven_from-requires c = let t = c.loop-s-test.true in let e = ap (λ (l : List RankNote). length l) c.self.view_is in let k = c.len-s-end.ensures in omega (arith, t, e, k)
+uneven_from-requires c = let t = c.loop-s-test.true in let e = ap (λ (l : List RankNote). length l) c.self.view_is in let k =
+                                                                                                                            c.len-s-end.ensures in omega (arith, t, e, k)
 
 pub returns-in-Some-clause-some : goal.returns-in-Some-clause-some
 returns-in-Some-clause-some c = let e = (c.in-Some.ensures).some in
@@ -19,5 +20,7 @@ loop-s-preserved c = λ r i low. ⊎_elim
     (λ (apart : r ≡ c.loop-s.s → ⊥). c.loop-s.invariant r i (omega (arith, low, apart))) (cases_eq r c.loop-s.s)
 
 pub returns-clause-none : goal.returns-clause-none
-returns-clause-none c = λ s i x y k there at other. c.loop-s.invariant s i (let w = within c.args.self.now s x there in let t = c.loop-s-test.false in
-    let e = ap (λ (l : List RankNote). length l) c.self.view_is in let n = c.len-s-end.ensures in omega (arith, w, t, e, n)) x y k there at other
+returns-clause-none c = λ s i x y k there at other. c.loop-s.invariant s i (let w = within c.args.self.now s x there in let t =
+                                                                                                                              c.loop-s-test.false in
+    let e = ap (λ (l : List RankNote). length l) c.self.view_is in let n = c.len-s-end.ensures in omega (arith, w, t, e, n)) x y k there
+        at other

@@ -9,10 +9,12 @@ use Rattle.schedule_compiler.proofs.Kept.{ranks-are}
 use Rattle.schedule_compiler.proofs.schedule.Schedule.plan.Goals as goal
 
 pub returns-clause-sound : goal.returns-clause-sound
-returns-clause-sound c = subst (λ (o : Outline). SoundPlan (plan_of o) o.inputs) c.self.view_is (sound c.self.inside.shape c.keeps_form.ensures.shape c.self.invariant.accepted)
+returns-clause-sound c = subst (λ (o : Outline). SoundPlan (plan_of o) o.inputs) c.self.view_is
+    (sound c.self.inside.shape c.keeps_form.ensures.shape c.self.invariant.accepted)
 
 pub returns-clause-ranks : goal.returns-clause-ranks
-returns-clause-ranks c = subst (λ (o : Outline). (plan_of o).ranks ≡ o.ranks) c.self.view_is (ranks-are c.self.inside.shape c.keeps_form.ensures.shape)
+returns-clause-ranks c = subst (λ (o : Outline). (plan_of o).ranks ≡ o.ranks) c.self.view_is
+    (ranks-are c.self.inside.shape c.keeps_form.ensures.shape)
 
 pub returns-clause-at_most : goal.returns-clause-at_most
 returns-clause-at_most c = subst (λ (o : Outline). length (plan_of o).links ≤ MOST_LINKS) c.self.view_is

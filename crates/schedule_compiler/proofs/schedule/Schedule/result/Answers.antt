@@ -8,20 +8,23 @@ use Rattle.schedule_compiler.proofs.schedule.Schedule.result.Goals as goal
 
 pub cell-requires-clause-buffer : goal.cell-requires-clause-buffer
 cell-requires-clause-buffer c =
-    let e = kept-buffers c.self.inside.shape c.self.inside.plan c.self.inside.held c.self.inside.tables c.self.invariant c.keeps_form.ensures.shape in
+    let e = kept-buffers c.self.inside.shape c.self.inside.plan c.self.inside.held c.self.inside.tables c.self.invariant
+          c.keeps_form.ensures.shape in
     let v = ap (λ (o : Outline). length o.buffers) c.self.view_is in
     let h = c.requires.buffer in
     omega (arith, e, v, h)
 
 pub cell-requires-clause-rank : goal.cell-requires-clause-rank
 cell-requires-clause-rank c =
-    let e = kept-held c.self.inside.shape c.self.inside.plan c.self.inside.held c.self.inside.tables c.self.invariant c.keeps_form.ensures.shape in
+    let e = kept-held c.self.inside.shape c.self.inside.plan c.self.inside.held c.self.inside.tables c.self.invariant
+          c.keeps_form.ensures.shape in
     let v = ap (λ (o : Outline). o.ranks) c.self.view_is in
     let h = c.requires.rank in
     omega (arith, e, v, h)
 
 pub returns-clause-cell : goal.returns-clause-cell
-returns-clause-cell c = λ d z. result-cell c.args.self.now (subst IsWellFormed c.self.view_is c.keeps_form.ensures.shape) c.args.buffer c.args.r d c.requires.buffer c.requires.rank z
+returns-clause-cell c = λ d z. result-cell c.args.self.now (subst IsWellFormed c.self.view_is c.keeps_form.ensures.shape) c.args.buffer
+    c.args.r d c.requires.buffer c.requires.rank z
 
 pub returns-clause-none : goal.returns-clause-none
 returns-clause-none c = λ inputs ins.

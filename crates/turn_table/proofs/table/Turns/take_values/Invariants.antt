@@ -16,7 +16,8 @@ invariant-loop-i g l = record {
   within : l.i ≤ l.count;
   moved : length l.room.items ≡ l.i;
   roomy : l.count ≤ vec_capacity l.room;
-  ended : (k : ℕ) (x : g.row.T.Denot) → get_elem? l.room.items k ≡ some x → Ends g.T.Past.past g.T.Past.name l.fn.self.start l.fn.seat.me.0 k x;
+  ended : (k : ℕ) (x : g.row.T.Denot) → get_elem? l.room.items k ≡ some x → Ends g.T.Past.past g.T.Past.name l.fn.self.start
+      l.fn.seat.me.0 k x;
 }
 
 abbrev pub decreases-loop-i : goal.decreases-loop-i

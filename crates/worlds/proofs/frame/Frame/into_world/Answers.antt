@@ -15,9 +15,12 @@ mark_all-requires c =
     let a = c.deref_mut.ensures.value in
     let b = c.deref.ensures.value in
     record {
-      sized = lent_sized s.job s.ranks s.lanes.items s.starts s.deliveries s.firings c.self.invariant c.args.nodes.items may c.deref_mut.result.now c.deref.result.now a b;
-      nodes = lent_many s.job s.ranks s.lanes.items s.starts s.deliveries s.firings c.self.invariant c.args.nodes.items may c.deref_mut.result.now c.deref.result.now a b;
-      tasks = lent_tasks s.job s.ranks s.lanes.items s.starts s.deliveries s.firings c.self.invariant c.args.nodes.items may c.deref_mut.result.now c.deref.result.now a b;
+      sized = lent_sized s.job s.ranks s.lanes.items s.starts s.deliveries s.firings c.self.invariant c.args.nodes.items may
+          c.deref_mut.result.now c.deref.result.now a b;
+      nodes = lent_many s.job s.ranks s.lanes.items s.starts s.deliveries s.firings c.self.invariant c.args.nodes.items may
+          c.deref_mut.result.now c.deref.result.now a b;
+      tasks = lent_tasks s.job s.ranks s.lanes.items s.starts s.deliveries s.firings c.self.invariant c.args.nodes.items may
+          c.deref_mut.result.now c.deref.result.now a b;
     }
 
 pub around-requires : goal.around-requires
@@ -30,8 +33,10 @@ around-requires c =
     let x = ap length a in
     let n = c.args.nodes.ok.0 in
     let v = c.mark_all.ensures in
-    let same = with_items_is c.args.nodes c.mark_all.new.nodes (let h : length c.mark_all.new.nodes ≡ c.args.nodes.len = omega (arith, l, x, n) in h) in
-    left_fields s.job s.ranks s.lanes.items s.starts s.deliveries s.firings c.self.invariant c.args.nodes.items may c.deref_mut.result.now c.deref.result.now a b
+    let same = with_items_is c.args.nodes c.mark_all.new.nodes (let h : length c.mark_all.new.nodes ≡ c.args.nodes.len =
+                                                                      omega (arith, l, x, n) in h) in
+    left_fields s.job s.ranks s.lanes.items s.starts s.deliveries s.firings c.self.invariant c.args.nodes.items may c.deref_mut.result.now
+        c.deref.result.now a b
     c.mark_all.new.nodes (with_items c.args.nodes c.mark_all.new.nodes).items same v.size v.same v.kept
     c.mark_all.new.starts c.mark_all.new.deliveries c.mark_all.new.firings c.from-window.result c.from-window.ensures v.counted
 
@@ -45,9 +50,13 @@ returns c =
     let x = ap length a in
     let n = c.args.nodes.ok.0 in
     let v = c.mark_all.ensures in
-    let same = with_items_is c.args.nodes c.mark_all.new.nodes (let h : length c.mark_all.new.nodes ≡ c.args.nodes.len = omega (arith, l, x, n) in h) in
+    let same = with_items_is c.args.nodes c.mark_all.new.nodes (let h : length c.mark_all.new.nodes ≡ c.args.nodes.len =
+                                                                      omega (arith, l, x, n) in h) in
     subst (λ (f : FrameState). IsClosed f c.args.nodes.items c.around.result) c.self.view_is
-    (subst (λ (w : WorldState). IsClosed (let f : FrameState = record { shape = s.job.shape; inputs = s.job.inputs; lanes = s.lanes.items } in f) c.args.nodes.items w) (sym c.around.ensures)
-    (left_closed s.job s.ranks s.lanes.items s.starts s.deliveries s.firings c.self.invariant c.args.nodes.items may c.deref_mut.result.now c.deref.result.now a b
+    (subst (λ (w : WorldState). IsClosed (let f : FrameState =
+                                                record { shape = s.job.shape; inputs = s.job.inputs; lanes = s.lanes.items } in f)
+                                                c.args.nodes.items w) (sym c.around.ensures)
+    (left_closed s.job s.ranks s.lanes.items s.starts s.deliveries s.firings c.self.invariant c.args.nodes.items may
+        c.deref_mut.result.now c.deref.result.now a b
     c.mark_all.new.nodes (with_items c.args.nodes c.mark_all.new.nodes).items same v.size v.same v.kept
     c.mark_all.new.starts c.mark_all.new.deliveries c.mark_all.new.firings c.from-window.result c.from-window.ensures v.counted))

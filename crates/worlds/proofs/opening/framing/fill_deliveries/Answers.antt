@@ -40,5 +40,6 @@ returns c =
     let v = c.loop-pair.invariant in
     record {
       size = v.size;
-      counts = all-laid (delivery_count c.args.lanes.now n c.args.window) n c.loop-pair.deliveries 0 (λ k h. v.laid k (omega (arith, h, t)));
+      counts = all-laid (delivery_count c.args.lanes.now n c.args.window) n c.loop-pair.deliveries 0
+          (λ k h. v.laid k (omega (arith, h, t)));
     }

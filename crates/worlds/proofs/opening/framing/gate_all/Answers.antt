@@ -29,14 +29,16 @@ gate-requires c =
       source = source_in n c.args.window c.args.lanes.now c.args.nodes.now c.loop-pair.nodes i c.requires.nonempty h c.requires.wide v;
       goal = destination_in n c.args.window c.args.lanes.now c.args.nodes.now c.loop-pair.nodes i c.requires.nonempty h c.requires.wide v;
       nodes = v.size;
-      closed = (v.same (i / n)).wide ∙ c.requires.wide (i / n) (source_in n c.args.window c.args.lanes.now c.args.nodes.now c.loop-pair.nodes i c.requires.nonempty h c.requires.wide v);
+      closed = (v.same (i / n)).wide ∙ c.requires.wide (i / n)
+          (source_in n c.args.window c.args.lanes.now c.args.nodes.now c.loop-pair.nodes i c.requires.nonempty h c.requires.wide v);
     }
 
 pub loop-pair-preserved : goal.loop-pair-preserved
 loop-pair-preserved c =
     let n = c.args.ranks in
     let h : c.loop-pair.pair < n * n = c.loop-pair-test.true in
-    subst (λ (v : List NodeState). AreGatedTo n c.args.window c.args.lanes.now c.args.nodes.now v (c.loop-pair.pair + 1)) (sym c.gate.ensures)
+    subst (λ (v : List NodeState). AreGatedTo n c.args.window c.args.lanes.now c.args.nodes.now v (c.loop-pair.pair + 1))
+        (sym c.gate.ensures)
     (told_more n c.args.window c.args.lanes.now c.args.nodes.now c.loop-pair.nodes c.loop-pair.pair c.requires.nonempty h c.requires.wide
     c.loop-pair.invariant)
 

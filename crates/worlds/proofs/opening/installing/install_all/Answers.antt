@@ -20,8 +20,10 @@ loop-r-preserved c =
     let news = c.in_ok-push.ensures.items in
     record {
       size = ap length news ∙ length_push nodes node ∙ ap (λ n. n + 1) before.size;
-      fresh = subst (λ (v : List NodeState). (k : ℕ) → k < r + 1 → IsFresh (plan_of job.shape) job.inputs job.shape.ranks strays k (node_at v k)) (sym news)
-          (pushed (λ k x. IsFresh (plan_of job.shape) job.inputs job.shape.ranks strays k x) nodes node no_node r before.size before.fresh (record {
+      fresh = subst (λ (v : List NodeState). (k : ℕ) → k < r + 1 → IsFresh (plan_of job.shape) job.inputs job.shape.ranks strays k
+          (node_at v k)) (sym news)
+          (pushed (λ k x. IsFresh (plan_of job.shape) job.inputs job.shape.ranks strays k x) nodes node no_node r before.size before.fresh
+              (record {
             compiled = made.compiled;
             kept = made.node;
             locals = made.history;

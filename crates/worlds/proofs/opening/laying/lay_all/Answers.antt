@@ -54,11 +54,14 @@ loop-pair-preserved c =
     let a = c.in_ok-request.request in
     let b = c.in_ok-answer.answer in
     let news = c.in_ok-push-2.ensures.items ∙ ap (λ v. v ++ b ∷ []) c.in_ok-push.ensures.items in
-    let ea : a ≡ laid_lane p c.args.room (i / o.ranks) (i % o.ranks) Request = c.in_ok-request.ensures ∙ ap (λ m. laid_lane p c.args.room (i / m) (i % m) Request) e in
-    let eb : b ≡ laid_lane p c.args.room (i / o.ranks) (i % o.ranks) Answer = c.in_ok-answer.ensures ∙ ap (λ m. laid_lane p c.args.room (i / m) (i % m) Answer) e in
+    let ea : a ≡ laid_lane p c.args.room (i / o.ranks) (i % o.ranks) Request = c.in_ok-request.ensures
+          ∙ ap (λ m. laid_lane p c.args.room (i / m) (i % m) Request) e in
+    let eb : b ≡ laid_lane p c.args.room (i / o.ranks) (i % o.ranks) Answer = c.in_ok-answer.ensures
+          ∙ ap (λ m. laid_lane p c.args.room (i / m) (i % m) Answer) e in
     record {
       size = ap length news ∙ two-more lanes a b i before.size;
-      laid = subst (λ (v : List Plain). (k : ℕ) → k < i + 1 → IsLaid f o.ranks v (plain [] 0) k) (sym news) (one-pair f o.ranks lanes (plain [] 0) a b i before.size before.laid ea eb);
+      laid = subst (λ (v : List Plain). (k : ℕ) → k < i + 1 → IsLaid f o.ranks v (plain [] 0) k) (sym news)
+          (one-pair f o.ranks lanes (plain [] 0) a b i before.size before.laid ea eb);
     }
 
 pub returns : goal.returns
@@ -73,5 +76,6 @@ returns c =
     let last : i ≡ o.ranks * o.ranks = all ∙ ap (λ m. m * m) e in
     record {
       size = c.loop-pair.invariant.size ∙ ap (λ m. 2 * m) last;
-      laid = all-laid (laid_lane (plan_of o) c.args.room) o.ranks c.loop-pair.lanes.items (plain [] 0) (λ k h. c.loop-pair.invariant.laid k (subst (λ m. k < m) (sym last) h));
+      laid = all-laid (laid_lane (plan_of o) c.args.room) o.ranks c.loop-pair.lanes.items (plain [] 0)
+          (λ k h. c.loop-pair.invariant.laid k (subst (λ m. k < m) (sym last) h));
     }

@@ -5,23 +5,35 @@ use Rattle.worlds.proofs.parts.Steps.{wide_gates}
 use Rattle.worlds.proofs.parts.acts.inject.Goals as goal
 
 pub put_request-requires-clause-room : goal.put_request-requires-clause-room
-put_request-requires-clause-room c = inject_room c.requires.world.plan c.requires.world.inputs c.args.setting.ranks c.args.nodes.now c.args.lanes.now c.args.starts.now c.args.deliveries.now c.args.firings.now c.args.setting.window c.args.setting.strays c.args.setting.spare c.requires.world.world c.args.s c.args.d c.args.message c.requires.left c.requires.from c.requires.destination c.requires.stray
+put_request-requires-clause-room c = inject_room c.requires.world.plan c.requires.world.inputs c.args.setting.ranks c.args.nodes.now
+    c.args.lanes.now c.args.starts.now c.args.deliveries.now c.args.firings.now c.args.setting.window c.args.setting.strays
+    c.args.setting.spare c.requires.world.world c.args.s c.args.d c.args.message c.requires.left c.requires.from c.requires.destination
+    c.requires.stray
 
 pub joined-requires-clause-closed : goal.joined-requires-clause-closed
-joined-requires-clause-closed c = wide_gates c.requires.world.plan c.requires.world.inputs c.args.setting.ranks c.args.nodes.now c.args.lanes.now c.args.setting.window c.args.setting.spare c.requires.world.world.parts c.args.s c.requires.from
+joined-requires-clause-closed c = wide_gates c.requires.world.plan c.requires.world.inputs c.args.setting.ranks c.args.nodes.now
+    c.args.lanes.now c.args.setting.window c.args.setting.spare c.requires.world.world.parts c.args.s c.requires.from
 
 pub joined-requires-clause-told : goal.joined-requires-clause-told
-joined-requires-clause-told c = c.requires.world.world.counted.gates c.args.s c.args.d c.requires.from c.requires.destination ∙ ap not (sym c.has_window-had.ensures)
+joined-requires-clause-told c = c.requires.world.world.counted.gates c.args.s c.args.d c.requires.from c.requires.destination
+    ∙ ap not (sym c.has_window-had.ensures)
 
 pub joined-requires-clause-right : goal.joined-requires-clause-right
 joined-requires-clause-right c = c.requires.world.world.counted.of_firings c.args.s c.requires.from
 
 pub returns-clause-step : goal.returns-clause-step
 returns-clause-step c =
-    inject_step_as c.requires.world.plan c.requires.world.inputs c.args.setting.ranks c.args.nodes.now c.args.lanes.now c.args.starts.now c.args.deliveries.now c.args.firings.now c.args.setting.window c.args.setting.strays c.args.setting.spare c.requires.world.world c.args.s c.args.d c.args.message c.requires.left c.requires.from c.requires.destination c.requires.stray c.put_request.new.lanes c.put_request.ensures.put c.joined.new.nodes c.joined.new.deliveries c.joined.new.firings
+    inject_step_as c.requires.world.plan c.requires.world.inputs c.args.setting.ranks c.args.nodes.now c.args.lanes.now c.args.starts.now
+        c.args.deliveries.now c.args.firings.now c.args.setting.window c.args.setting.strays c.args.setting.spare c.requires.world.world
+        c.args.s c.args.d c.args.message c.requires.left c.requires.from c.requires.destination c.requires.stray c.put_request.new.lanes
+        c.put_request.ensures.put c.joined.new.nodes c.joined.new.deliveries c.joined.new.firings
     (record { gates = c.joined.ensures.gates; of_deliveries = c.joined.ensures.deliveries; of_firings = c.joined.ensures.firings })
 
 pub returns-clause-world : goal.returns-clause-world
 returns-clause-world c = λ p inputs k used.
-    inject_world_as p inputs c.args.setting.ranks c.args.nodes.now c.args.lanes.now c.args.starts.now c.args.deliveries.now c.args.firings.now c.args.setting.window c.args.setting.strays c.args.setting.spare k c.args.s c.args.d c.args.message c.requires.left c.requires.from c.requires.destination c.requires.stray c.put_request.new.lanes c.put_request.ensures.put c.joined.new.nodes c.joined.new.deliveries c.joined.new.firings
-    (record { gates = c.joined.ensures.gates; of_deliveries = c.joined.ensures.deliveries; of_firings = c.joined.ensures.firings }) c.requires.source c.requires.target c.put_request.ensures.kept c.requires.short used
+    inject_world_as p inputs c.args.setting.ranks c.args.nodes.now c.args.lanes.now c.args.starts.now c.args.deliveries.now
+        c.args.firings.now c.args.setting.window c.args.setting.strays c.args.setting.spare k c.args.s c.args.d c.args.message
+        c.requires.left c.requires.from c.requires.destination c.requires.stray c.put_request.new.lanes c.put_request.ensures.put
+        c.joined.new.nodes c.joined.new.deliveries c.joined.new.firings
+    (record { gates = c.joined.ensures.gates; of_deliveries = c.joined.ensures.deliveries; of_firings = c.joined.ensures.firings })
+        c.requires.source c.requires.target c.put_request.ensures.kept c.requires.short used
